@@ -1,0 +1,14 @@
+// Files and consoles, told or not, with counts of faults.
+#![tactic(auto)]
+
+pub mod memory;
+pub mod outside;
+pub mod sign;
+pub mod span;
+pub mod whole;
+
+pub use memory::{MemConsole, MemFiles};
+pub use outside::{Console, Failed, Files, NoMemory, Port};
+pub use sign::Sign;
+pub use span::Span;
+pub use whole::{ReadStop, put_all, read_whole};
