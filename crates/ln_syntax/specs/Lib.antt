@@ -1,0 +1,4 @@
+pub mod Raw
+pub mod Expression
+pub mod File
+pub mod Place

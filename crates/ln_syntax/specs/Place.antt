@@ -1,0 +1,43 @@
+-- Where tokens stop being the front of a file, and where parentheses are nested too deep.
+use Rattle.std.specs.Prelude.{◌≡◌, ℕ, suc, ◌-◌, ◌<◌, ◌≤◌, ◌++◌, List, [], ◌∷◌, length, take}
+use Rattle.ln_lex.specs.declared.token.Token.{Token}
+use Rattle.ln_lex.specs.declared.token.Kind.{Kind}
+use Rattle.ln_lex.specs.declared.token.Kind.TheVariants.{ParL, ParR}
+use Rattle.ln_syntax.specs.Raw.{Item, Is}
+use Rattle.ln_syntax.specs.File.{Spelt}
+
+-- the tokens are a file of the grammar
+abbrev pub IsText : List Token → Type 0
+IsText ts = (xs : List Item) × Spelt ts xs
+
+-- the tokens are the front of a file
+abbrev pub IsFront : List Token → Type 0
+IsFront ts = (us : List Token) × IsText (ts ++ us)
+
+-- the first token such that the tokens up to it and with it are no front of a file; the end, where all are a front and no file
+pub record IsSyntaxFault (ts : List Token) (at : ℕ) : Type 0 where
+  pub within : at ≤ length ts
+  pub front : IsFront (take at ts)
+  pub refused : at < length ts → IsFront (take (suc at) ts) → ⊥
+  pub unfinished : at ≡ length ts → IsText ts → ⊥
+
+-- ( adds one to the depth and ) takes one off, never below 0
+abbrev pub depth_behind : ℕ → Kind → ℕ
+depth_behind d ParL = suc d
+depth_behind d ParR = d - 1
+depth_behind d k = d
+
+-- how many parentheses are open behind the tokens
+abbrev pub depth_after : ℕ → List Token → ℕ
+depth_after d [] = d
+depth_after d (t ∷ ts) = depth_after (depth_behind d t.kind) ts
+
+-- no parenthesis makes the depth 65
+abbrev pub IsShallow : List Token → Type 0
+IsShallow ts = (j : ℕ) → Is ts j ParL → depth_after 0 (take j ts) < 64
+
+-- the first parenthesis that makes the depth 65
+pub record IsNestingFault (ts : List Token) (at : ℕ) : Type 0 where
+  pub opens : Is ts at ParL
+  pub deep : depth_after 0 (take at ts) ≡ 64
+  pub first : (j : ℕ) → j < at → Is ts j ParL → depth_after 0 (take j ts) < 64
