@@ -1,0 +1,22 @@
+// Predicates.
+ghost use Rattle.std.specs.Prelude.{◌≡◌, true, length};
+ghost use Rattle.ln_tree.specs.Kept.{is_pred};
+
+use crate::expr::Expr;
+use crate::items::Arg;
+use crate::name::Name;
+use crate::shape::Shape;
+use ln_base::{Seq, Span};
+
+/// A predicate. `at` is where its name stands; `shape` has its variables by number; `root` is the expression of its sign.
+#[derive(Drop)]
+pub struct Pred {
+    pub name: Name,
+    pub at: Span,
+    pub args: Seq<Arg>,
+    pub shape: Shape,
+    pub lets: Seq<Expr>,
+    pub let_names: Seq<Name>,
+    pub root: Expr,
+    ghost kept: { is_pred args shape.vars lets (length let_names) root ≡ true },
+}

@@ -1,0 +1,16 @@
+// Tables: the site types, params and predicates of a source.
+ghost use Rattle.std.specs.Prelude.{◌≡◌, true};
+ghost use Rattle.ln_tree.specs.Table.{is_table};
+
+use crate::items::{Param, Site};
+use crate::pred::Pred;
+use ln_base::Seq;
+
+/// The table of a source: its site types, params and predicates, each kind in order of the text.
+#[derive(Drop)]
+pub struct Table {
+    pub sites: Seq<Site>,
+    pub params: Seq<Param>,
+    pub preds: Seq<Pred>,
+    ghost kept: { is_table sites params preds ≡ true },
+}
