@@ -1,11 +1,12 @@
 // The scanner.
 ghost use Rattle.std.specs.Prelude.{◌≡◌, ℕ, ◌+◌, ◌<◌, ◌≤◌, ◌^◌, false, List, All, IfErr, IfNone, IfOk, IfSome, drop, length};
 ghost use Rattle.ln_lex.specs.Tokens.{BeginsNone, IsFirst, IsLexFault, IsLexLimit, IsSlice, Lexed, RiseFrom, Skips, StopsLexing, begins_blank, begins_comment, comment_len, word_kind};
+ghost use Rattle.ln_lex.specs.declared.scan.LexStop.TheVariants.{NoMemory as OutOfMemory};
 ghost use Rattle.ln_lex.specs.declared.token.Token.{Token as Tok};
 
 use crate::byte::{after, blank_at, comment_bytes, digit, digits, letter, names, sign, twice_at};
 use crate::token::{Kind, Token};
-use ln_base::Span;
+use ln_base::{NoMemory, Seq, Span};
 use std::alloc::Global;
 
 /// Why a source has no list of tokens: at this byte begins neither blank, comment nor token; at this byte begins one
@@ -17,19 +18,27 @@ pub enum LexStop {
     NoMemory,
 }
 
+impl From<NoMemory> for LexStop {
+    ghost from_gives = { λ _ e. e ≡ OutOfMemory };
+
+    fn from(_e: NoMemory) -> Self {
+        LexStop::NoMemory
+    }
+}
+
 /// The most tokens that a source may have.
 pub const MOST_TOKENS: usize = 65_536;
 
 /// The tokens of a source, in one pass. The first fault in order of the text decides.
-pub fn tokens(alloc: Global, bytes: &[u8]) -> Result<Vec<Token>, LexStop>
+pub fn tokens(alloc: Global, bytes: &[u8]) -> Result<Seq<Token>, LexStop>
     requires { length bytes.now ≤ 1048576 }
-    ensures ok { IfOk result (λ ts. Lexed bytes.now ts.items) }
-    ensures few { IfOk result (λ ts. length ts.items ≤ 65536) }
-    ensures slices { IfOk result (λ ts. All (IsSlice bytes.now) ts.items) }
-    ensures rising { IfOk result (λ ts. RiseFrom 0 ts.items) }
+    ensures ok { IfOk result (λ ts. Lexed bytes.now ts) }
+    ensures few { IfOk result (λ ts. length ts ≤ 65536) }
+    ensures slices { IfOk result (λ ts. All (IsSlice bytes.now) ts) }
+    ensures rising { IfOk result (λ ts. RiseFrom 0 ts) }
     ensures err { IfErr result (λ e. StopsLexing bytes.now e) }
 {
-    let mut tokens = Vec::new(alloc);
+    let mut tokens = Seq::new(alloc);
     let mut at = 0usize;
     'tokens: loop {
         let start = at + gap(after(bytes, at));
@@ -46,9 +55,7 @@ pub fn tokens(alloc: Global, bytes: &[u8]) -> Result<Vec<Token>, LexStop>
             start: start as u32,
             end: (start + n) as u32,
         };
-        if tokens.push(Token { kind, span }).is_err() {
-            return Err(LexStop::NoMemory);
-        }
+        tokens.push(Token { kind, span })?;
         at = start + n;
     }
 }
