@@ -5,6 +5,10 @@
 // no file goes on with.
 #![tactic(auto)]
 
+pub mod nesting;
+pub mod place;
 pub mod raw;
 
+pub use nesting::{nesting_fault, one_depth};
+pub use place::{one_place, syntax_fault};
 pub use raw::{Places, RawArg, RawCoord, RawEnd, RawItem, RawLet, RawRange};
