@@ -1,6 +1,7 @@
 -- Where no node is too heavy, all values fit.
 use Rattle.std.proofs.Common.{◌≡◌, ◌⊎◌, inl, inr, ℕ, ℤ, ◌+◌, ◌*◌, ◌^◌, ◌≤◌, ◌<◌, List, [], ◌∷◌, ◌++◌, length, map, refl, zero, suc, ap, arith, pos, ◌*ℤ◌, ◌+ℤ◌, ◌-ℤ◌, neg_ℤ, unsigned_abs, ◌∙◌, sym}
 use Rattle.std.specs.Prelude.{All, slice_index_or}
+use Rattle.std.proofs.lemmas.Bool.{cases_lt}
 use Rattle.std.proofs.lemmas.Int.{ints, unsigned_abs-mul}
 use Rattle.std.proofs.lemmas.Nat.{mul-le}
 use Rattle.std.proofs.Math.Nat.{pow-suc, pow-zero, pow-le-pow_right}
@@ -17,13 +18,14 @@ light_parts [] ys h = (tt, h)
 light_parts (x ∷ xs) ys h = let r = light_parts xs ys h.1 in ((h.0, r.0), r.1)
 
 -- a lower power is at most the largest of 1 and the power
-lower : (b k n : ℕ) → k ≤ n → b ^ n ≤ most → b ^ k ≤ most
+pub lower : (b k n : ℕ) → k ≤ n → b ^ n ≤ most → b ^ k ≤ most
 lower zero zero n h l = rw pow-zero (omega arith)
 lower zero (suc k) n h l = rw pow-suc (omega arith)
 lower (suc b) k n h l = let m = pow-le-pow_right {n = suc b} (omega arith) {i = k} {j = n} h in omega (arith, l, m)
 
-own : (s : Span) (w : ℕ) → AreLight ((s, w) ∷ []) → w ≤ most
-own s w h = h.0
+-- a power is too large where a lower one is
+pub heavier : (b k n p : ℕ) → k < n → p ≡ b ^ k → most < p * b → most < b ^ n
+heavier b k n p h e l = elim (cases_lt most (b ^ n)) [ inl m ↦ m | inr m ↦ absurd (let f = lower b (suc k) n (omega arith) m in let g : b ^ suc k ≡ b ^ k * b = pow-suc b k in let t : p * b ≡ b ^ k * b = ap (λ z. z * b) e in omega (arith, l, f, g, t)) ]
 
 within : (n b : ℕ) → n ≤ b → b ≤ most → n ≤ most
 within n b h k = omega (arith, h, k)

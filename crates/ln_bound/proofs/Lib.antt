@@ -1,3 +1,4 @@
 pub mod Values
 pub mod Fitting
+pub mod Weighing
 pub mod Plain

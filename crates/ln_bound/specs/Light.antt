@@ -44,6 +44,10 @@ abbrev pub AreLight : List (Span × ℕ) → Type 0
 AreLight [] = Unit {0}
 AreLight (n ∷ ns) = (n.1 ≤ most) × AreLight ns
 
+-- the weights of nodes
+abbrev pub node_weights : List (Span × ℕ) → List ℕ
+node_weights nodes = map (λ n. n.1) nodes
+
 -- the first node that is too heavy, in order of evaluation
 pub record IsBoundFault (nodes : List (Span × ℕ)) (at : Span) : Type 0 where
   pub before : List (Span × ℕ)
