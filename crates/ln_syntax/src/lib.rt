@@ -8,6 +8,8 @@
 pub mod nesting;
 pub mod place;
 pub mod raw;
+#[cfg(test)]
+mod tests;
 
 pub use nesting::{nesting_fault, one_depth};
 pub use place::{one_place, syntax_fault};
