@@ -6,5 +6,7 @@
 #![tactic(auto)]
 
 pub mod raw;
+pub mod unique;
 
 pub use raw::{Places, RawArg, RawCoord, RawEnd, RawItem, RawLet, RawRange};
+pub use unique::{one_spelling, one_tree};
