@@ -4,3 +4,4 @@ pub mod File
 pub mod Place
 pub mod Reading
 pub mod Within
+pub mod Automaton

@@ -1,0 +1,4 @@
+// Sources to tables.
+//
+// `parse` answers the table of a source.
+#![tactic(auto)]

@@ -1,0 +1,27 @@
+// The variables of a predicate.
+ghost use Rattle.std.specs.Prelude.{◌≡◌, true};
+ghost use Rattle.ln_tree.specs.Variables.{is_laid_out};
+
+use crate::name::Name;
+use ln_base::Seq;
+
+/// A variable of a predicate: the place of its argument among all arguments, that of its site among the site
+/// arguments (none for a param), that of its coordinate in the site (0 for a param), and its range, ends included.
+#[derive(Clone, Copy, Debug)]
+pub struct VarInfo {
+    pub arg: u8,
+    pub site: Option<u8>,
+    pub coord: u8,
+    pub lo: i64,
+    pub hi: i64,
+}
+
+/// The name of a predicate, the number of its sites, and its variables by number: in order of the arguments, for a site
+/// its coordinates in declared order, for a param the param itself.
+#[derive(Drop)]
+pub struct Shape {
+    pub name: Name,
+    pub sites: u8,
+    pub vars: Seq<VarInfo>,
+    ghost kept: { is_laid_out sites vars ≡ true },
+}
