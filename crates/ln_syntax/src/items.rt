@@ -259,3 +259,54 @@ fn span_of(ts: &[Token], i: usize) -> Span
         None => Span { start: 0, end: 0 },
     }
 }
+
+#[cfg(test)]
+mod tests {
+    use super::*;
+    use crate::place::syntax_fault;
+    use ln_lex::tokens;
+    use std::test::Fail;
+
+    fn span(start: u32, end: u32) -> Span {
+        Span { start, end }
+    }
+
+    #[test]
+    fn items_of_a_source(rt: HostRuntime) -> Result<(), Fail> {
+        let alloc = rt.alloc();
+        let source =
+            b"site a { x: -1 .. 2; } param p: 0 .. 3; predicate f(q: a, r: param) { let z = q.x + r; sign -z; }".as_slice();
+        let ts = tokens(alloc, source)?;
+        if syntax_fault(ts.as_slice()).is_some() {
+            assert!(rt; false);
+            return Ok(());
+        }
+        let read = read_items(alloc, ts.as_slice())?;
+        assert_eq!(rt; read.len(), 3);
+        for item in &read {
+            match item {
+                RawItem::Site(name, coords) => {
+                    assert_eq!(rt; *name, span(5, 6));
+                    assert_eq!(rt; coords.len(), 1);
+                    assert_eq!(rt; coords[0].name, span(9, 10));
+                    assert!(rt; coords[0].range.low.negative);
+                    assert!(rt; !coords[0].range.high.negative);
+                }
+                RawItem::Param(name, range) => {
+                    assert_eq!(rt; *name, span(29, 30));
+                    assert_eq!(rt; range.low.at, span(32, 33));
+                    assert_eq!(rt; range.high.at, span(37, 38));
+                }
+                RawItem::Pred(name, args, lets, root) => {
+                    assert_eq!(rt; *name, span(50, 51));
+                    assert_eq!(rt; args.len(), 2);
+                    assert!(rt; !args[0].is_param && args[1].is_param);
+                    assert_eq!(rt; lets.len(), 1);
+                    assert_eq!(rt; (lets[0].value.from, lets[0].value.to), (33, 38));
+                    assert_eq!(rt; (root.from, root.to), (40, 42));
+                }
+            }
+        }
+        Ok(())
+    }
+}
