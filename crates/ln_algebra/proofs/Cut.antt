@@ -10,14 +10,15 @@ use Rattle.ln_algebra.proofs.Shift.{coefficient_is}
 use Rattle.ln_algebra.proofs.Normal.{normal_is, total, total-none, total-one, same_vector-is, same_vector-refl, zero_cases}
 use Rattle.ln_algebra.proofs.Derived.{tau-uncovered, tau-covered, factor_at-length}
 use Rattle.ln_algebra.proofs.Degree.{coefficient-above}
-use Rattle.ln_algebra.proofs.Order.{IndicesDiffer, earlier-transitive}
-use Rattle.ln_algebra.specs.Vector.{degree}
+use Rattle.ln_algebra.proofs.Order.{earlier-transitive}
+use Rattle.ln_algebra.specs.Vector.{total_degree}
 use Rattle.ln_algebra.specs.Coefficient.{normal_coefficient}
 use Rattle.ln_algebra.specs.Law.{Within}
 use Rattle.ln_algebra.specs.Terms.{Over, Term, factor_at, same_vector, covers, minus, binomial, binomials, monomial}
 use Rattle.ln_algebra.specs.Tree.{Tree, InputsBelow, degree_of}
-use Rattle.ln_algebra.specs.Earlier.{Sites, Earlier}
-use Rattle.ln_algebra.specs.Stage.{IsOver, Covered, IsLast, IsStage, IsFirst, perturbed}
+use Rattle.ln_algebra.specs.Earlier.{Sites, Earlier, IndicesDiffer, IsOver}
+use Rattle.ln_algebra.specs.Stage.{IsMonomial, Covered, IsLast, IsStage}
+use Rattle.ln_algebra.specs.Sign.{IsFirst, perturbed}
 
 within_from : (p : ℕ → Bool) (a : List ℕ) → ((v : ℕ) → p v ≡ false → get_or a v 0 ≡ 0) → Within p a
 within_from p [] h = tt
@@ -87,7 +88,7 @@ module _ (n : ℕ) (sites : Sites) (x : ℕ → ℤ) (e : Tree) (below : InputsB
   perturbed-uncovered a o h =
       perturbed_is a o ∙ total-none (λ m. tau (of_sites sites) x m a) (length (expanded n e)) (expanded n e) (omega arith) (λ k. product_zero a k o (λ z l. by_case k z l (covers k a) refl)) where
         by_case : (k : List ℕ) → normal_coefficient e k ≢ pos 0 → length k ≡ n → (b : Bool) → covers k a ≡ b → covers k a ≡ false
-        by_case k z l true c = absurd (h (k, l, z, c))
+        by_case k z l true c = absurd (h (k, record { size = l; nonzero = z }, c))
         by_case k z l false c = c
 
   -- at the last vector the coefficient is the monomial's own, on every row
@@ -99,16 +100,16 @@ module _ (n : ℕ) (sites : Sites) (x : ℕ → ℤ) (e : Tree) (below : InputsB
       ∙ mul_one (factor_at (expanded n e) a)
       ∙ sym (normal_is n e below a o.size) where
         by_case : (k : List ℕ) → same_vector a k ≡ false → normal_coefficient e k ≢ pos 0 → length k ≡ n → (b : Bool) → covers k a ≡ b → covers k a ≡ false
-        by_case k d z l true c = absurd (let s : k ≡ a = last.only k l z c in let y : same_vector a k ≡ true = rw s (same_vector-refl a) in cc)
+        by_case k d z l true c = absurd (let s : k ≡ a = last.only k (record { size = l; nonzero = z }) c in let y : same_vector a k ≡ true = rw s (same_vector-refl a) in cc)
         by_case k d z l false c = c
 
         one : tau (of_sites sites) x a a ≡ pos 1
         one = tau-covered (of_sites sites) x a a refl (within a o) (covers-refl a) ∙ ap (λ u. pos u *ℤ monomial x (minus a a)) (binomials-same a) ∙ one_mul (monomial x (minus a a)) ∙ minus-same x a
 
   -- a vector with a coefficient that isn't 0 is covered, and not above the degree
-  degree-small : (a : List ℕ) → perturbed sites x e a ≢ pos 0 → degree a ≤ degree_of e
-  degree-small a z = by_case (cases_lt (degree_of e) (degree a)) where
-    by_case : (degree_of e < degree a) ⊎ (degree a ≤ degree_of e) → degree a ≤ degree_of e
+  degree-small : (a : List ℕ) → perturbed sites x e a ≢ pos 0 → total_degree a ≤ degree_of e
+  degree-small a z = by_case (cases_lt (degree_of e) (total_degree a)) where
+    by_case : (degree_of e < total_degree a) ⊎ (total_degree a ≤ degree_of e) → total_degree a ≤ degree_of e
     by_case (inl l) = absurd (z (coefficient-above (of_sites sites) x e a l))
     by_case (inr l) = l
 
@@ -122,7 +123,7 @@ module _ (n : ℕ) (sites : Sites) (x : ℕ → ℤ) (e : Tree) (below : InputsB
 
     step : Covered n e a ⊎ ((k : List ℕ) → normal_coefficient e k ≢ pos 0 → covers k a ≡ true → factor_at g k ≡ pos 0) → (normal_coefficient e t.exponents ≡ pos 0) ⊎ (normal_coefficient e t.exponents ≡ pos 0 → ⊥) → (b : Bool) → covers t.exponents a ≡ b → Covered n e a ⊎ ((k : List ℕ) → normal_coefficient e k ≢ pos 0 → covers k a ≡ true → factor_at (t ∷ g) k ≡ pos 0)
     step (inl c) y b d = inl c
-    step (inr ih) (inr z) true d = inl (t.exponents, o.0, z, d)
+    step (inr ih) (inr z) true d = inl (t.exponents, record { size = o.0; nonzero = z }, d)
     step (inr ih) (inl z) b d = inr (λ k q c. other ih (λ y w. y z) k q c (same_vector t.exponents k) refl)
     step (inr ih) (inr z) false d = inr (λ k q c. other ih (λ y w. let f : true ≡ false = sym w ∙ d in cc) k q c (same_vector t.exponents k) refl)
 
@@ -131,14 +132,14 @@ module _ (n : ℕ) (sites : Sites) (x : ℕ → ℤ) (e : Tree) (below : InputsB
   nonzero-covered a o z = by_case (covered_in a (expanded n e) (Over-expanded n e)) where
     by_case : Covered n e a ⊎ ((k : List ℕ) → normal_coefficient e k ≢ pos 0 → covers k a ≡ true → factor_at (expanded n e) k ≡ pos 0) → Covered n e a
     by_case (inl c) = c
-    by_case (inr h) = absurd (z (perturbed-uncovered a o (λ c. c.2 (normal_is n e below c.0 c.1 ∙ h c.0 c.2 c.3))))
+    by_case (inr h) = absurd (z (perturbed-uncovered a o (λ c. c.1.nonzero (normal_is n e below c.0 c.1.size ∙ h c.0 c.1.nonzero c.2))))
 
   -- the cut loses nothing: the first vector is a stage
   pub first-stage : (a : List ℕ) → IsFirst n sites x e a → IsStage n sites e a
   first-stage a f = record { over = f.over; covered = nonzero-covered a f.over f.nonzero; before_cut = cut } where
     cut : (b : List ℕ) → IsOver n sites b → IsLast n e b → Earlier sites b a → ⊥
     cut b o last l =
-        let z : perturbed sites x e b ≢ pos 0 = λ q. last.monomial (sym (perturbed-last b o last) ∙ q) in
+        let z : perturbed sites x e b ≢ pos 0 = λ q. last.monomial.nonzero (sym (perturbed-last b o last) ∙ q) in
         z (f.zero_before b o (degree-small b z) l)
 
   -- the first stage whose coefficient isn't 0 is the first vector

@@ -1,4 +1,4 @@
--- The coefficients above the degree are 0; what the splits are.
+-- The coefficients above the total_degree are 0; what the splits are.
 use Rattle.std.proofs.Common.{◌≡◌, ℕ, ◌+◌, ◌*◌, ◌<◌, ◌≤◌, zero, suc, refl, sym, ◌∙◌, ap, arith, List, [], ◌∷◌, length, Bool, true, false, ◌&&◌, ◌⊎◌, inl, inr, if◌then◌else◌}
 use Rattle.std.proofs.Math.Nat.{zero-add}
 use Rattle.std.proofs.lemmas.Int.{ints}
@@ -7,15 +7,9 @@ use Rattle.std.proofs.Math.IntN.{ℤ, pos, ◌*ℤ◌, neg_ℤ}
 use Rattle.ln_algebra.proofs.Sums.{sum_parts, sum_splits}
 use Rattle.ln_algebra.proofs.Taylor.{sum_splits-zero}
 use Rattle.ln_algebra.proofs.Shift.{product_is}
-use Rattle.ln_algebra.specs.Vector.{plus, is_zero, is_unit, degree}
+use Rattle.ln_algebra.specs.Vector.{IsSplit, plus, is_zero, is_unit, total_degree}
 use Rattle.ln_algebra.specs.Coefficient.{constant, variable, product, power, coefficient, Series}
 use Rattle.ln_algebra.specs.Tree.{Tree, Num, Input, Name, Neg, Add, Sub, Mul, Pow, degree_of}
-
--- b and c are two vectors whose sum is a
-pub record IsSplit (a b c : List ℕ) : Type 0 where
-  pub left : length b ≡ length a
-  pub right : length c ≡ length a
-  pub sum : plus b c ≡ a
 
 sum_parts-on : (n : ℕ) (f g : ℕ → ℕ → ℤ) → ((i j : ℕ) → i + j ≡ n → f i j ≡ g i j) → sum_parts n f ≡ sum_parts n g
 sum_parts-on zero f g h = h 0 0 refl
@@ -27,26 +21,26 @@ sum_splits-on (n ∷ a) f g h =
     sum_parts-on n (λ i j. sum_splits a (λ b c. f (i ∷ b) (j ∷ c))) (λ i j. sum_splits a (λ b c. g (i ∷ b) (j ∷ c)))
     (λ i j e. sum_splits-on a (λ b c. f (i ∷ b) (j ∷ c)) (λ b c. g (i ∷ b) (j ∷ c)) (λ b c s. h (i ∷ b) (j ∷ c) (record { left = ap suc s.left; right = ap suc s.right; sum = ap (λ z. z ∷ plus b c) e ∙ ap (λ z. n ∷ z) s.sum })))
 
-degree-plus : (b c : List ℕ) → length b ≡ length c → degree (plus b c) ≡ degree b + degree c
+degree-plus : (b c : List ℕ) → length b ≡ length c → total_degree (plus b c) ≡ total_degree b + total_degree c
 degree-plus [] [] h = refl
 degree-plus [] (k ∷ c) h = absurd (omega arith)
 degree-plus (n ∷ b) [] h = absurd (omega arith)
 degree-plus (n ∷ b) (k ∷ c) h = omega (arith, degree-plus b c (omega arith))
 
-degree_split : (a b c : List ℕ) → IsSplit a b c → degree a ≡ degree b + degree c
-degree_split a b c s = ap degree (sym s.sum) ∙ degree-plus b c (s.left ∙ sym s.right)
+degree_split : (a b c : List ℕ) → IsSplit a b c → total_degree a ≡ total_degree b + total_degree c
+degree_split a b c s = ap total_degree (sym s.sum) ∙ degree-plus b c (s.left ∙ sym s.right)
 
-is_zero-degree : (a : List ℕ) → 0 < degree a → is_zero a ≡ false
+is_zero-degree : (a : List ℕ) → 0 < total_degree a → is_zero a ≡ false
 is_zero-degree [] h = absurd (omega arith)
 is_zero-degree (zero ∷ a) h = is_zero-degree a (omega arith)
 is_zero-degree (suc n ∷ a) h = refl
 
-degree-is_zero : (a : List ℕ) → is_zero a ≡ true → degree a ≡ 0
+degree-is_zero : (a : List ℕ) → is_zero a ≡ true → total_degree a ≡ 0
 degree-is_zero [] h = refl
 degree-is_zero (zero ∷ a) h = omega (arith, degree-is_zero a h)
 degree-is_zero (suc n ∷ a) h = cc
 
-is_unit-degree : (v : ℕ) (a : List ℕ) → 1 < degree a → is_unit v a ≡ false
+is_unit-degree : (v : ℕ) (a : List ℕ) → 1 < total_degree a → is_unit v a ≡ false
 is_unit-degree v [] h = absurd (omega arith)
 is_unit-degree zero (zero ∷ a) h = refl
 is_unit-degree zero (suc zero ∷ a) h = is_zero-degree a (omega arith)
@@ -54,19 +48,19 @@ is_unit-degree zero (suc (suc n) ∷ a) h = refl
 is_unit-degree (suc v) (zero ∷ a) h = is_unit-degree v a (omega arith)
 is_unit-degree (suc v) (suc n ∷ a) h = refl
 
-constant-above : (c : ℤ) (a : List ℕ) → 0 < degree a → constant c a ≡ pos 0
+constant-above : (c : ℤ) (a : List ℕ) → 0 < total_degree a → constant c a ≡ pos 0
 constant-above c a h = rw is_zero-degree refl
 
 -- zero above d
 abbrev pub Above : ℕ → Series → Type 0
-Above d f = (a : List ℕ) → d < degree a → f a ≡ pos 0
+Above d f = (a : List ℕ) → d < total_degree a → f a ≡ pos 0
 
 product-above : (d e : ℕ) (f g : Series) → Above d f → Above e g → Above (d + e) (product f g)
 product-above d e f g h k a l =
     product_is f g a
-    ∙ sum_splits-on a (λ b c. f b *ℤ g c) (λ b c. pos 0) (λ b c s. by_case b c (cases_lt d (degree b)) (degree_split a b c s))
+    ∙ sum_splits-on a (λ b c. f b *ℤ g c) (λ b c. pos 0) (λ b c s. by_case b c (cases_lt d (total_degree b)) (degree_split a b c s))
     ∙ sum_splits-zero a where
-      by_case : (b c : List ℕ) → (d < degree b) ⊎ (degree b ≤ d) → degree a ≡ degree b + degree c → f b *ℤ g c ≡ pos 0
+      by_case : (b c : List ℕ) → (d < total_degree b) ⊎ (total_degree b ≤ d) → total_degree a ≡ total_degree b + total_degree c → f b *ℤ g c ≡ pos 0
       by_case b c (inl u) q = ap (λ z. z *ℤ g c) (h b u) ∙ (let z : pos 0 *ℤ g c ≡ pos 0 = omega (arith, ints) in z)
       by_case b c (inr u) q = ap (λ z. f b *ℤ z) (k c (omega arith)) ∙ (let z : f b *ℤ pos 0 ≡ pos 0 = omega (arith, ints) in z)
 

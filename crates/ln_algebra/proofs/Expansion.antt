@@ -6,6 +6,7 @@ use Rattle.ln_algebra.proofs.Ring.{mul_add, mul_comm, mul_neg, four, one_mul}
 use Rattle.ln_algebra.proofs.Sums.{sum_parts, sum_splits, sum_over-append}
 use Rattle.ln_algebra.proofs.Taylor.{taylor, vandermonde, sum_parts-same, sum_parts-zero, sum_parts-scale, sum_splits-same, sum_splits-scale, sum_splits-add, sum_splits-zero}
 use Rattle.ln_algebra.specs.Vector.{sum_over, plus, is_zero, is_zero_number, is_one_number}
+pub use Rattle.ln_algebra.specs.Vector.{zeros, unit_vector}
 use Rattle.ln_algebra.specs.Coefficient.{variable}
 use Rattle.ln_algebra.specs.Terms.{Over, Term}
 use Rattle.ln_algebra.specs.Tree.{Tree, Num, Input, Name, Neg, Add, Sub, Mul, Pow}
@@ -51,15 +52,6 @@ tau_plus p x (n ∷ m) (j ∷ k) (c ∷ a) e f =
     ∙ sum_splits-same a (λ b d. (part (p 0) (x 0) n i *ℤ part (p 0) (x 0) j l) *ℤ (tau q y m b *ℤ tau q y k d)) (λ b d. (part (p 0) (x 0) n i *ℤ tau q y m b) *ℤ (part (p 0) (x 0) j l *ℤ tau q y k d)) (λ b d. four (part (p 0) (x 0) n i) (part (p 0) (x 0) j l) (tau q y m b) (tau q y k d)))
 
 -- ---- the leaves
-abbrev pub zeros : ℕ → List ℕ
-zeros zero = []
-zeros (suc n) = 0 ∷ zeros n
-
-abbrev pub unit_vector : ℕ → ℕ → List ℕ
-unit_vector zero v = []
-unit_vector (suc n) zero = 1 ∷ zeros n
-unit_vector (suc n) (suc v) = 0 ∷ unit_vector n v
-
 pub length-zeros : (n : ℕ) → length (zeros n) ≡ n
 length-zeros zero = refl
 length-zeros (suc n) = ap suc (length-zeros n)

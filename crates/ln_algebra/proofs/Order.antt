@@ -3,12 +3,7 @@ use Rattle.std.proofs.Common.{◌≡◌, ◌≢◌, ℕ, ◌<◌, ◌≤◌, zer
 use Rattle.std.proofs.lemmas.Bool.{cases_order, cases_eq, cases_lt}
 use Rattle.std.proofs.lemmas.Grind.{same_number_lists}
 use Rattle.std.proofs.lemmas.List.{get_or_past}
-use Rattle.ln_algebra.specs.Earlier.{Sites, Of, RanksBefore, Earlier}
-use Rattle.ln_algebra.specs.Stage.{IsOver}
-
--- the sites that have variables differ in their indices
-pub record IndicesDiffer (sites : Sites) : Type 0 where
-  pub differ : (v w s t : ℕ) → Of sites v s → Of sites w t → sites.index s ≡ sites.index t → s ≡ t
+use Rattle.ln_algebra.specs.Earlier.{Sites, Of, IndicesDiffer, IsOver, RanksBefore, Earlier}
 
 same_site : (sites : Sites) (v s t : ℕ) → Of sites v s → Of sites v t → s ≡ t
 same_site sites v s t a b = let e : Some s ≡ Some t = sym a ∙ b in cc

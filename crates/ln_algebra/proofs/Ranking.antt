@@ -4,19 +4,11 @@ use Rattle.std.proofs.lemmas.Bool.{cases_eq}
 use Rattle.ln_algebra.proofs.Order.{before-irreflexive, before-transitive}
 use Rattle.ln_algebra.proofs.Walk.{Lex}
 use Rattle.ln_algebra.specs.Earlier.{Earlier, Of, RanksBefore, Sites}
-
-abbrev pub Member : List ℕ → ℕ → Type 0
-Member [] w = ⊥
-Member (v ∷ vs) w = (w ≡ v) ⊎ Member vs w
+use Rattle.ln_algebra.specs.Walk.{Member, IsRanked}
 
 member : (vs : List ℕ) (w : ℕ) → Member vs w ⊎ (Member vs w → ⊥)
 member [] w = inr (λ h. h)
 member (v ∷ vs) w = elim (cases_eq w v) [ inl e ↦ inl (inl e) | inr d ↦ elim (member vs w) [ inl k ↦ inl (inr k) | inr k ↦ inr (λ h. elim h [ inl e ↦ d e | inr i ↦ k i ]) ] ]
-
--- each variable of the list ranks after the ones behind it
-abbrev pub IsRanked : Sites → List ℕ → Type 0
-IsRanked sites [] = Unit {0}
-IsRanked sites (v ∷ vs) = (s : ℕ) × Of sites v s × ((w : ℕ) → Member vs w → RanksBefore sites w v) × IsRanked sites vs
 
 -- a and b agree on the variables of sites outside vs
 abbrev SameOff : Sites → List ℕ → List ℕ → List ℕ → Type 0

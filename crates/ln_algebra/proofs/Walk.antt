@@ -5,11 +5,8 @@ use Rattle.std.proofs.lemmas.Grind.{same_number_lists}
 use Rattle.std.proofs.lemmas.List.{get_or-set_same, get_or-set_other}
 use Rattle.std.proofs.Math.ListN.{length-set}
 use Rattle.ln_algebra.proofs.Normal.{same_vector-is, same_vector-refl}
-use Rattle.ln_algebra.specs.Terms.{same_vector}
-
-abbrev pub In : List (List ℕ) → List ℕ → Type 0
-In [] m = ⊥
-In (x ∷ xs) m = (m ≡ x) ⊎ In xs m
+use Rattle.ln_algebra.specs.Vector.{In, same_vector}
+use Rattle.ln_algebra.specs.Walk.{AllBelow, Found, all_same, at_least, before, steps, unless_none, walk}
 
 In-append_left : (xs ys : List (List ℕ)) (m : List ℕ) → In xs m → In (xs ++ ys) m
 In-append_left [] ys m h = absurd h
@@ -24,11 +21,6 @@ In-append : (xs ys : List (List ℕ)) (m : List ℕ) → In (xs ++ ys) m → In 
 In-append [] ys m h = inr h
 In-append (x ∷ xs) ys m (inl e) = inl (inl e)
 In-append (x ∷ xs) ys m (inr h) = elim (In-append xs ys m h) [ inl k ↦ inl (inr k) | inr k ↦ inr k ]
-
--- the vectors whose exponent of v is at least e
-abbrev pub at_least : ℕ → ℕ → List (List ℕ) → List (List ℕ)
-at_least v e [] = []
-at_least v e (m ∷ ms) = if leb e (get_or m v 0) then (m ∷ at_least v e ms) else at_least v e ms
 
 at_least-in : (v e : ℕ) (ms : List (List ℕ)) (m : List ℕ) → In (at_least v e ms) m → In ms m × (e ≤ get_or m v 0)
 at_least-in v e [] m h = absurd h
@@ -212,33 +204,6 @@ module _ (v : ℕ) (vs : List ℕ) (fresh : Fresh v vs) (p : List ℕ) (inside_p
     open_end q b h l (inr (inr more)) = y.open_end q b (h.0, more) l
 
 -- ---- the walk
-abbrev pub all_same : List (List ℕ) → List ℕ → Bool
-all_same [] a = true
-all_same (m ∷ ms) a = same_vector m a && all_same ms a
-
-abbrev pub Found : Type 0
-Found = List (List ℕ) × Bool
-
-abbrev pub joined : Found → Found → Found
-joined r s = if r.1 then r else (r.0 ++ s.0, s.1)
-
-abbrev pub unless_none : List (List ℕ) → Found → Found
-unless_none [] r = ([], false)
-unless_none (m ∷ ms) r = r
-
--- the exponents e, e + 1, .. of v, k of them at most
-abbrev pub steps : (List (List ℕ) → List ℕ → Found) → ℕ → List (List ℕ) → List ℕ → ℕ → ℕ → Found
-steps go v ms p zero e = ([], false)
-steps go v ms p (suc k) e = unless_none (at_least v e ms) (joined (go (at_least v e ms) (set p v e)) (steps go v ms p k (suc e)))
-
--- the vectors that ms cover and that are p but for the variables vs, in order, up to the cut
-abbrev pub walk : ℕ → List ℕ → List (List ℕ) → List ℕ → Found
-walk bound [] ms p = (p ∷ [], all_same ms p)
-walk bound (v ∷ vs) ms p = steps (walk bound vs) v ms p bound 0
-
-abbrev AllBelow : ℕ → List (List ℕ) → Type 0
-AllBelow n ms = (m : List ℕ) (v : ℕ) → In ms m → get_or m v 0 < n
-
 all_same-is : (ms : List (List ℕ)) (a m : List ℕ) → all_same ms a ≡ true → In ms m → m ≡ a
 all_same-is [] a m h i = absurd i
 all_same-is (x ∷ ms) a m h (inl q) = q ∙ same_vector-is x a (and_parts (same_vector x a) (all_same ms a) h).0
@@ -288,16 +253,16 @@ module _ (v : ℕ) (vs : List ℕ) (fresh : Fresh v vs) (p : List ℕ) (inside_p
   listing-steps : ((e : ℕ) (m : List ℕ) → In (at_least v e ms) m → Listing (Region vs (set p v e)) vs (at_least v e ms) (go (at_least v e ms) (set p v e)).0 (go (at_least v e ms) (set p v e)).1) → (k e : ℕ) → k + e ≡ bound → Listing (From v vs p e) (v ∷ vs) ms (steps go v ms p k e).0 (steps go v ms p k e).1
   listing-steps each zero e q = listing-none v vs p ms e (λ m i. (let k = at_least-in v e ms m i in omega (arith, k.1, small m v k.0)))
   listing-steps each (suc k) e q = by_list (at_least v e ms) refl (listing-steps each k (suc e) (omega arith)) where
-    by_stop : (b : Bool) → (go (at_least v e ms) (set p v e)).1 ≡ b → Listing (Region vs (set p v e)) vs (at_least v e ms) (go (at_least v e ms) (set p v e)).0 (go (at_least v e ms) (set p v e)).1 → Listing (From v vs p (suc e)) (v ∷ vs) ms (steps go v ms p k (suc e)).0 (steps go v ms p k (suc e)).1 → Listing (From v vs p e) (v ∷ vs) ms (joined (go (at_least v e ms) (set p v e)) (steps go v ms p k (suc e))).0 (joined (go (at_least v e ms) (set p v e)) (steps go v ms p k (suc e))).1
+    by_stop : (b : Bool) → (go (at_least v e ms) (set p v e)).1 ≡ b → Listing (Region vs (set p v e)) vs (at_least v e ms) (go (at_least v e ms) (set p v e)).0 (go (at_least v e ms) (set p v e)).1 → Listing (From v vs p (suc e)) (v ∷ vs) ms (steps go v ms p k (suc e)).0 (steps go v ms p k (suc e)).1 → Listing (From v vs p e) (v ∷ vs) ms (before (go (at_least v e ms) (set p v e)) (steps go v ms p k (suc e))).0 (before (go (at_least v e ms) (set p v e)) (steps go v ms p k (suc e))).1
     by_stop true d x y = rw d (listing-cut v vs fresh p inside_p ms e (go (at_least v e ms) (set p v e)).0 (rw d at x))
     by_stop false d x y = rw d (listing-join v vs fresh p inside_p ms e (go (at_least v e ms) (set p v e)).0 (steps go v ms p k (suc e)).0 (steps go v ms p k (suc e)).1 (rw d at x) y)
 
     by_list : (l : List (List ℕ)) → at_least v e ms ≡ l → Listing (From v vs p (suc e)) (v ∷ vs) ms (steps go v ms p k (suc e)).0 (steps go v ms p k (suc e)).1 → Listing (From v vs p e) (v ∷ vs) ms (steps go v ms p (suc k) e).0 (steps go v ms p (suc k) e).1
     by_list [] d y =
-        let z : unless_none (at_least v e ms) (joined (go (at_least v e ms) (set p v e)) (steps go v ms p k (suc e))) ≡ ([], false) = unless_none-nil (at_least v e ms) _ d in
+        let z : unless_none (at_least v e ms) (before (go (at_least v e ms) (set p v e)) (steps go v ms p k (suc e))) ≡ ([], false) = unless_none-nil (at_least v e ms) _ d in
         rw z (listing-none v vs p ms e (λ m i. no_member (at_least v e ms) m d i))
     by_list (m ∷ l) d y =
-        let z : unless_none (at_least v e ms) (joined (go (at_least v e ms) (set p v e)) (steps go v ms p k (suc e))) ≡ joined (go (at_least v e ms) (set p v e)) (steps go v ms p k (suc e)) = unless_none-cons (at_least v e ms) m l _ d in
+        let z : unless_none (at_least v e ms) (before (go (at_least v e ms) (set p v e)) (steps go v ms p k (suc e))) ≡ before (go (at_least v e ms) (set p v e)) (steps go v ms p k (suc e)) = unless_none-cons (at_least v e ms) m l _ d in
         rw z (by_stop (go (at_least v e ms) (set p v e)).1 refl (each e m (first_member (at_least v e ms) m l d)) y)
 
 -- some vector of the list, if there is one

@@ -14,6 +14,7 @@ use Rattle.ln_algebra.proofs.Normal.{everywhere}
 use Rattle.ln_algebra.proofs.Derived.{value-derived}
 use Rattle.ln_algebra.specs.Law.{Within}
 use Rattle.ln_algebra.specs.Terms.{Over, Term, covers, derived, binomials, monomial, power_of, value}
+use Rattle.ln_algebra.specs.WeightLaw.{CoversEach}
 use Rattle.ln_algebra.specs.Weights.{monomial_weight, weighted_sum}
 
 taylor-sum : (x : ℤ) (n b : ℕ) → n ≤ b → sum_parts b (λ k l. taylor x n k) ≡ power_of (x +ℤ pos 1) n
@@ -45,12 +46,7 @@ tau-sum x (n ∷ m) (b ∷ bound) e h =
     ∙ ap (λ z. M *ℤ z) (taylor-sum (x 0) n b l)
     ∙ mul_comm M (power_of (x 0 +ℤ pos 1) n)
 
--- each term's vector is at most the bound
-abbrev pub Below : List ℕ → List Term → Type 0
-Below bound [] = Unit {0}
-Below bound (t ∷ f) = (covers bound t.exponents ≡ true) × Below bound f
-
-shifted-sum : (x : ℕ → ℤ) (bound : List ℕ) (f : List Term) → Over (length bound) f → Below bound f → sum_splits bound (λ a c. shifted everywhere x a f) ≡ value (λ v. x v +ℤ pos 1) f
+shifted-sum : (x : ℕ → ℤ) (bound : List ℕ) (f : List Term) → Over (length bound) f → CoversEach bound f → sum_splits bound (λ a c. shifted everywhere x a f) ≡ value (λ v. x v +ℤ pos 1) f
 shifted-sum x bound [] o h = sum_splits-zero bound
 shifted-sum x bound (t ∷ f) o h =
     sum_splits-add bound (λ a c. t.factor *ℤ tau everywhere x t.exponents a) (λ a c. shifted everywhere x a f)
@@ -63,7 +59,7 @@ within_all (zero ∷ a) = within_all a
 within_all (suc k ∷ a) = (refl, within_all a)
 
 -- the values of all derivatives at x add up to the value at x + 1
-pub derived-sum : (x : ℕ → ℤ) (bound : List ℕ) (f : List Term) → Over (length bound) f → Below bound f → sum_splits bound (λ a c. value x (derived a f)) ≡ value (λ v. x v +ℤ pos 1) f
+pub derived-sum : (x : ℕ → ℤ) (bound : List ℕ) (f : List Term) → Over (length bound) f → CoversEach bound f → sum_splits bound (λ a c. value x (derived a f)) ≡ value (λ v. x v +ℤ pos 1) f
 derived-sum x bound f o h =
     sum_splits-within bound (λ a c. value x (derived a f)) (λ a c. shifted everywhere x a f) (λ a c i j. value-derived everywhere x a f (rw i o) (within_all a))
     ∙ shifted-sum x bound f o h
@@ -89,7 +85,7 @@ over_absolute : (n : ℕ) (f : List Term) → Over n f → Over n (absolute f)
 over_absolute n [] o = tt
 over_absolute n (t ∷ f) o = (o.0, over_absolute n f o.1)
 
-below_absolute : (bound : List ℕ) (f : List Term) → Below bound f → Below bound (absolute f)
+below_absolute : (bound : List ℕ) (f : List Term) → CoversEach bound f → CoversEach bound (absolute f)
 below_absolute bound [] o = tt
 below_absolute bound (t ∷ f) o = (o.0, below_absolute bound f o.1)
 
@@ -104,7 +100,7 @@ derived_absolute a (t ∷ f) = by_case (covers t.exponents a) refl (derived_abso
   by_case false c ih = rw c ih
 
 -- the weighted sums of all derivatives, with the weights w, add up to the weighted sum with the weights w + 1
-pub weighted-whole : (w : ℕ → ℕ) (bound : List ℕ) (f : List Term) → Over (length bound) f → Below bound f → sum_splits bound (λ a c. pos (weighted_sum w (derived a f))) ≡ pos (weighted_sum (λ v. w v + 1) f)
+pub weighted-whole : (w : ℕ → ℕ) (bound : List ℕ) (f : List Term) → Over (length bound) f → CoversEach bound f → sum_splits bound (λ a c. pos (weighted_sum w (derived a f))) ≡ pos (weighted_sum (λ v. w v + 1) f)
 weighted-whole w bound f o h =
     sum_splits-same bound (λ a c. pos (weighted_sum w (derived a f))) (λ a c. value (λ v. pos (w v)) (derived a (absolute f))) (λ a c. sym (value_absolute w (derived a f)) ∙ ap (value (λ v. pos (w v))) (sym (derived_absolute a f)))
     ∙ derived-sum (λ v. pos (w v)) bound (absolute f) (over_absolute (length bound) f o) (below_absolute bound f h)

@@ -1,0 +1,23 @@
+-- The laws of weights.
+use Rattle.std.specs.Prelude.{◌≡◌, ℕ, ◌+◌, ◌≤◌, true, pos, List, [], ◌∷◌, length}
+use Rattle.ln_algebra.specs.Vector.{covered_by, covers, sum_over}
+use Rattle.ln_algebra.specs.Terms.{IsCollected, IsNormalOf, Over, Term, derived}
+use Rattle.ln_algebra.specs.Tree.{InputsBelow, Tree}
+use Rattle.ln_algebra.specs.Weights.{weight, weighted_sum}
+
+-- The vector covers the exponents of each term.
+abbrev pub CoversEach : List ℕ → List Term → Type 0
+CoversEach bound [] = Unit {0}
+CoversEach bound (t ∷ f) = (covers bound t.exponents ≡ true) × CoversEach bound f
+
+-- With w above M by 1 at each variable, the w-weighted sum of a list of terms is the sum, over all a, of the M-weighted sums of its scaled derivatives by a. A vector that covers the exponents of each term covers every a whose derivative isn't empty.
+abbrev pub DerivativesWeighTheWhole : Type 0
+DerivativesWeighTheWhole =
+    (m : ℕ → ℕ) (bound : List ℕ) (f : List Term) → Over (length bound) f → CoversEach bound f →
+    sum_over (λ a. pos (weighted_sum m (derived a f))) (covered_by bound) ≡ pos (weighted_sum (λ v. m v + 1) f)
+
+-- The weighted sum of the normal polynomial, with like monomials collected, is at most the weight of the tree.
+abbrev pub NormalWeighsAtMostTheTree : Type 0
+NormalWeighsAtMostTheTree =
+    (n : ℕ) (e : Tree) (f : List Term) (w : ℕ → ℕ) → InputsBelow n e → IsNormalOf n e f → IsCollected f →
+    weighted_sum w f ≤ weight w e
