@@ -1,18 +1,20 @@
 -- `splits a` has each pair of vectors whose sum is a, once, and no other.
-use Rattle.std.proofs.Common.{◌≡◌, ℕ, ◌+◌, zero, suc, refl, sym, ◌∙◌, ap, arith, List, [], ◌∷◌, length, Bool, true, false, ◌&&◌, if◌then◌else◌, eqb}
+use Rattle.std.proofs.Common.{◌≡◌, ℕ, ◌+◌, zero, suc, refl, sym, ◌∙◌, ap, arith, List, [], ◌∷◌, length, Bool, true, false, ◌&&◌, if◌then◌else◌, eqb, ◌⊎◌, inl, inr}
 use Rattle.std.proofs.lemmas.Int.{ints}
+use Rattle.std.proofs.lemmas.Bool.{cases_eq}
 use Rattle.std.proofs.lemmas.Bool.Decides.{nat_tests}
 use Rattle.std.proofs.Math.IntN.{ℤ, pos, ◌*ℤ◌}
 use Rattle.ln_algebra.proofs.Ring.{mul_comm}
 use Rattle.ln_algebra.proofs.Sums.{sum_parts, sum_splits, sum_splits_is}
-use Rattle.ln_algebra.proofs.Taylor.{sum_parts-same, sum_parts-scale, sum_parts-zero, sum_splits-same, sum_splits-scale}
-use Rattle.ln_algebra.specs.Vector.{plus, splits, sum_over}
-use Rattle.ln_algebra.specs.Terms.{same_vector}
+use Rattle.ln_algebra.proofs.Taylor.{sum_parts-same, sum_parts-scale, sum_parts-zero, sum_splits-same, sum_splits-scale, sum_splits-zero}
+use Rattle.ln_algebra.proofs.Shift.{sum_splits-within}
+use Rattle.ln_algebra.proofs.Normal.{same_vector-is, same_vector-refl}
+use Rattle.ln_algebra.specs.Vector.{IsSplit, how_many, is_pair, plus, same_vector, splits, sum_over}
 
 abbrev pub one_if : Bool → ℤ
 one_if b = if b then pos 1 else pos 0
 
-one_if-and : (a b : Bool) → one_if (a && b) ≡ one_if a *ℤ one_if b
+pub one_if-and : (a b : Bool) → one_if (a && b) ≡ one_if a *ℤ one_if b
 one_if-and true true = refl
 one_if-and true false = refl
 one_if-and false true = refl
@@ -75,3 +77,37 @@ splits_count a b c h k = sum_splits_is a (λ u v. one_if (same_vector u b && sam
       ∙ ap (λ z. R *ℤ z) (parts_count n j l)
       ∙ mul_comm R (one_if (eqb (j + l) n))
       ∙ sym (one_if-and (eqb (j + l) n) (same_vector (plus b c) a))
+
+-- ---- each pair is there once, where it is a split, and else not at all
+same_vector-not : (a b : List ℕ) → (a ≡ b → ⊥) → (t : Bool) → same_vector a b ≡ t → t ≡ false
+same_vector-not a b h true e = absurd (h (same_vector-is a b e))
+same_vector-not a b h false e = refl
+
+-- vectors that differ aren't the same vector
+pub same_vector-differ : (a b : List ℕ) → (a ≡ b → ⊥) → same_vector a b ≡ false
+same_vector-differ a b h = same_vector-not a b h (same_vector a b) refl
+
+pub splits-once : (a b c : List ℕ) → IsSplit a b c → how_many (is_pair b c) (splits a) ≡ pos 1
+splits-once a b c s = splits_count a b c s.left s.right ∙ ap one_if (ap (λ z. same_vector z a) s.sum ∙ same_vector-refl a)
+
+-- vectors of other lengths aren't among the splits
+pub splits-unsized : (a b c : List ℕ) → ((u v : List ℕ) → length u ≡ length a → length v ≡ length a → (same_vector u b && same_vector v c) ≡ false) → how_many (is_pair b c) (splits a) ≡ pos 0
+splits-unsized a b c h =
+    sum_splits_is a (λ u v. one_if (same_vector u b && same_vector v c))
+    ∙ sum_splits-within a (λ u v. one_if (same_vector u b && same_vector v c)) (λ u v. pos 0) (λ u v i j. ap one_if (h u v i j))
+    ∙ sum_splits-zero a
+
+and_false : (b : Bool) → (b && false) ≡ false
+and_false true = refl
+and_false false = refl
+
+pub splits-none : (a b c : List ℕ) → (IsSplit a b c → ⊥) → how_many (is_pair b c) (splits a) ≡ pos 0
+splits-none a b c h = by_size (cases_eq (length b) (length a)) (cases_eq (length c) (length a)) where
+  by_size : (length b ≡ length a) ⊎ (length b ≡ length a → ⊥) → (length c ≡ length a) ⊎ (length c ≡ length a → ⊥) → how_many (is_pair b c) (splits a) ≡ pos 0
+  by_size (inl l) (inl r) = splits_count a b c l r ∙ ap one_if (same_vector-differ (plus b c) a (λ q. h (record { left = l; right = r; sum = q })))
+  by_size (inr l) r = splits-unsized a b c (λ u v i j. ap (λ z. z && same_vector v c) (same_vector-differ u b (λ q. l (ap length (sym q) ∙ i))))
+  by_size (inl l) (inr r) = splits-unsized a b c (λ u v i j. ap (λ z. same_vector u b && z) (same_vector-differ v c (λ q. r (ap length (sym q) ∙ j))) ∙ and_false (same_vector u b))
+
+-- the splits of a are the pairs whose sum is a
+pub splits-all : (a b c : List ℕ) → (IsSplit a b c → how_many (is_pair b c) (splits a) ≡ pos 1) × ((IsSplit a b c → ⊥) → how_many (is_pair b c) (splits a) ≡ pos 0)
+splits-all a b c = (splits-once a b c, splits-none a b c)

@@ -13,5 +13,5 @@ SplitsAreAllSums =
 abbrev pub WaysAreAllSums : Type 0
 WaysAreAllSums =
     (k : ℕ) (a : List ℕ) (bs : List (List ℕ)) →
-    (IsWay k a bs → how_many (same_vectors bs) (ways k a) ≡ pos 1)
-    × ((IsWay k a bs → ⊥) → how_many (same_vectors bs) (ways k a) ≡ pos 0)
+    (IsWay k a bs → how_many (λ cs. same_vectors cs bs) (ways k a) ≡ pos 1)
+    × ((IsWay k a bs → ⊥) → how_many (λ cs. same_vectors cs bs) (ways k a) ≡ pos 0)
