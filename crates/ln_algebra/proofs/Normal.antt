@@ -9,7 +9,7 @@ use Rattle.ln_algebra.proofs.Sums.{sum_over-append}
 use Rattle.ln_algebra.proofs.Taylor.{taylor}
 use Rattle.ln_algebra.proofs.Expansion.{tau, expanded, negated, Over-expanded, shifted}
 use Rattle.ln_algebra.proofs.Shift.{coefficient_is}
-use Rattle.ln_algebra.specs.Vector.{sum_over}
+use Rattle.ln_algebra.specs.Vector.{Within, sum_over}
 use Rattle.ln_algebra.specs.Coefficient.{normal_coefficient}
 use Rattle.ln_algebra.specs.Terms.{Over, Term, factor_at, same_vector}
 use Rattle.ln_algebra.specs.Tree.{Tree, InputsBelow}
@@ -38,6 +38,12 @@ both false false = refl
 
 abbrev pub everywhere : ℕ → Bool
 everywhere v = true
+
+-- every vector is over all variables
+pub within_all : (a : List ℕ) → Within everywhere a
+within_all [] = tt
+within_all (zero ∷ a) = within_all a
+within_all (suc k ∷ a) = (refl, within_all a)
 
 abbrev pub origin : ℕ → ℤ
 origin v = pos 0

@@ -1,13 +1,15 @@
 -- The weighted sum of the normal polynomial is at most the weight of the expression.
-use Rattle.std.proofs.Common.{◌≡◌, ℕ, ◌+◌, ◌*◌, ◌^◌, ◌<◌, ◌≤◌, zero, suc, refl, sym, ◌∙◌, ap, arith, List, [], ◌∷◌, ◌++◌, length, Bool, true, false, if◌then◌else◌, unsigned_abs}
+use Rattle.std.proofs.Common.{◌≡◌, ℕ, ◌+◌, ◌*◌, ◌^◌, ◌<◌, ◌≤◌, zero, suc, refl, sym, ◌∙◌, ap, arith, List, [], ◌∷◌, ◌++◌, length, Bool, true, false, if◌then◌else◌, unsigned_abs, ◌⊎◌, inl, inr}
 use Rattle.std.proofs.Math.Nat.{pow-zero, pow-suc, mul-le-mul_left}
 use Rattle.std.proofs.lemmas.Nat.{pow-add}
+use Rattle.std.proofs.lemmas.Bool.{cases_eq}
 use Rattle.std.proofs.lemmas.Int.{ints, unsigned_abs-mul}
 use Rattle.std.proofs.Math.IntN.{ℤ, pos, ◌+ℤ◌, ◌*ℤ◌, neg_ℤ}
 use Rattle.ln_algebra.proofs.Expansion.{zeros, unit_vector, expanded, times, times_term, negated, power_terms, Over-expanded, Over-power_terms}
-use Rattle.ln_algebra.proofs.Normal.{without, without-same, without-other, same_vector-is, same_vector-refl}
+use Rattle.ln_algebra.proofs.Derived.{factor_at-length}
+use Rattle.ln_algebra.proofs.Normal.{normal_is, without, without-same, without-other, same_vector-is, same_vector-refl}
 use Rattle.ln_algebra.specs.Vector.{plus}
-use Rattle.ln_algebra.specs.Terms.{Over, Term, factor_at, same_vector}
+use Rattle.ln_algebra.specs.Terms.{IsCollected, IsNormalOf, Lacks, Over, Term, factor_at, same_vector}
 use Rattle.ln_algebra.specs.Tree.{Tree, Num, Input, Name, Neg, Add, Sub, Mul, Pow, InputsBelow}
 use Rattle.ln_algebra.specs.Weights.{weight, monomial_weight, weighted_sum}
 
@@ -99,3 +101,21 @@ weighted-least w (t ∷ f) g o h =
       by_case : (k : List ℕ) (b : Bool) → same_vector t.exponents k ≡ b → factor_at f k ≡ factor_at (without t.exponents g) k
       by_case k true e = o.1 k e ∙ sym (without-same t.exponents g) ∙ ap (factor_at (without t.exponents g)) (same_vector-is t.exponents k e)
       by_case k false e = let q : (if same_vector t.exponents k then t.factor else pos 0) +ℤ factor_at f k ≡ factor_at g k = h k in (let z : factor_at f k ≡ pos 0 +ℤ factor_at f k = omega (arith, ints) in z) ∙ (rw e at q) ∙ sym (without-other t.exponents k g e)
+
+-- ---- the normal polynomial weighs at most the tree
+Lacks-factor_at : (f : List Term) (m : List ℕ) → Lacks f m → factor_at f m ≡ pos 0
+Lacks-factor_at [] m l = refl
+Lacks-factor_at (t ∷ f) m l = rw l.0 (omega (arith, ints, Lacks-factor_at f m l.1))
+
+IsCollected-Once : (f : List Term) → IsCollected f → Once f
+IsCollected-Once [] c = tt
+IsCollected-Once (t ∷ f) c =
+    (Lacks-factor_at f t.exponents c.0, λ k e. ap (factor_at f) (sym (same_vector-is t.exponents k e)) ∙ Lacks-factor_at f t.exponents c.0, IsCollected-Once f c.1)
+
+pub weighted-normal : (n : ℕ) (e : Tree) (f : List Term) (w : ℕ → ℕ) → InputsBelow n e → IsNormalOf n e f → IsCollected f → weighted_sum w f ≤ weight w e
+weighted-normal n e f w i h c =
+    let l : weighted_sum w f ≤ weighted_sum w (expanded n e) = weighted-least w f (expanded n e) (IsCollected-Once f c) (λ k. by_length k (cases_eq (length k) n)) in
+    omega (arith, l, weighted-expanded w n e i) where
+      by_length : (k : List ℕ) → (length k ≡ n) ⊎ (length k ≡ n → ⊥) → factor_at f k ≡ factor_at (expanded n e) k
+      by_length k (inl q) = h.coefficients k q ∙ normal_is n e i k q
+      by_length k (inr d) = factor_at-length n f k h.over d ∙ sym (factor_at-length n (expanded n e) k (Over-expanded n e) d)

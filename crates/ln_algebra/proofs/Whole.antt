@@ -6,15 +6,15 @@ use Rattle.std.proofs.lemmas.Bool.Decides.{nat_tests}
 use Rattle.std.proofs.lemmas.Grind.{common_steps}
 use Rattle.std.proofs.Math.IntN.{ℤ, pos, ◌+ℤ◌, ◌*ℤ◌}
 use Rattle.ln_algebra.proofs.Ring.{mul_add, mul_comm, mul_one}
-use Rattle.ln_algebra.proofs.Sums.{sum_parts, sum_splits}
+use Rattle.ln_algebra.proofs.Sums.{sum_over-map, sum_parts, sum_splits, sum_splits_is}
 use Rattle.ln_algebra.proofs.Taylor.{taylor, sum_parts-same, sum_parts-add, sum_parts-scale, sum_parts-zero, sum_splits-same, sum_splits-add, sum_splits-scale, sum_splits-zero}
 use Rattle.ln_algebra.proofs.Expansion.{tau, shifted}
 use Rattle.ln_algebra.proofs.Shift.{sum_splits-within}
-use Rattle.ln_algebra.proofs.Normal.{everywhere}
+use Rattle.ln_algebra.proofs.Normal.{everywhere, within_all}
 use Rattle.ln_algebra.proofs.Derived.{value-derived}
-use Rattle.ln_algebra.specs.Law.{Within}
 use Rattle.ln_algebra.specs.Terms.{Over, Term, covers, derived, binomials, monomial, power_of, value}
 use Rattle.ln_algebra.specs.WeightLaw.{CoversEach}
+use Rattle.ln_algebra.specs.Vector.{covered_by, splits, sum_over}
 use Rattle.ln_algebra.specs.Weights.{monomial_weight, weighted_sum}
 
 taylor-sum : (x : ℤ) (n b : ℕ) → n ≤ b → sum_parts b (λ k l. taylor x n k) ≡ power_of (x +ℤ pos 1) n
@@ -52,11 +52,6 @@ shifted-sum x bound (t ∷ f) o h =
     sum_splits-add bound (λ a c. t.factor *ℤ tau everywhere x t.exponents a) (λ a c. shifted everywhere x a f)
     ∙ ap (λ z. z +ℤ sum_splits bound (λ a c. shifted everywhere x a f)) (sum_splits-scale bound t.factor (λ a c. tau everywhere x t.exponents a) ∙ ap (λ z. t.factor *ℤ z) (tau-sum x t.exponents bound o.0 h.0))
     ∙ ap (λ z. t.factor *ℤ monomial (λ v. x v +ℤ pos 1) t.exponents +ℤ z) (shifted-sum x bound f o.1 h.1)
-
-within_all : (a : List ℕ) → Within everywhere a
-within_all [] = tt
-within_all (zero ∷ a) = within_all a
-within_all (suc k ∷ a) = (refl, within_all a)
 
 -- the values of all derivatives at x add up to the value at x + 1
 pub derived-sum : (x : ℕ → ℤ) (bound : List ℕ) (f : List Term) → Over (length bound) f → CoversEach bound f → sum_splits bound (λ a c. value x (derived a f)) ≡ value (λ v. x v +ℤ pos 1) f
@@ -105,3 +100,10 @@ weighted-whole w bound f o h =
     sum_splits-same bound (λ a c. pos (weighted_sum w (derived a f))) (λ a c. value (λ v. pos (w v)) (derived a (absolute f))) (λ a c. sym (value_absolute w (derived a f)) ∙ ap (value (λ v. pos (w v))) (sym (derived_absolute a f)))
     ∙ derived-sum (λ v. pos (w v)) bound (absolute f) (over_absolute (length bound) f o) (below_absolute bound f h)
     ∙ value_absolute (λ v. w v + 1) f
+
+-- the same over the vectors that the bound covers
+pub weighted-covered : (m : ℕ → ℕ) (bound : List ℕ) (f : List Term) → Over (length bound) f → CoversEach bound f → sum_over (λ a. pos (weighted_sum m (derived a f))) (covered_by bound) ≡ pos (weighted_sum (λ v. m v + 1) f)
+weighted-covered m bound f o h =
+    sum_over-map (λ a. pos (weighted_sum m (derived a f))) (λ s. s.0) (splits bound)
+    ∙ sum_splits_is bound (λ a c. pos (weighted_sum m (derived a f)))
+    ∙ weighted-whole m bound f o h
