@@ -20,7 +20,8 @@ use Rattle.ln_algebra.specs.Earlier.{Sites, Earlier, IndicesDiffer, IsOver}
 use Rattle.ln_algebra.specs.Stage.{IsMonomial, Covered, IsLast, IsStage}
 use Rattle.ln_algebra.specs.Sign.{IsFirst, perturbed}
 
-within_from : (p : ℕ → Bool) (a : List ℕ) → ((v : ℕ) → p v ≡ false → get_or a v 0 ≡ 0) → Within p a
+-- a vector is over a set of variables where each exponent outside is 0
+pub within_from : (p : ℕ → Bool) (a : List ℕ) → ((v : ℕ) → p v ≡ false → get_or a v 0 ≡ 0) → Within p a
 within_from p [] h = tt
 within_from p (zero ∷ a) h = within_from (λ v. p (suc v)) a (λ v e. h (suc v) e)
 within_from p (suc k ∷ a) h = (by_case (p 0) refl, within_from (λ v. p (suc v)) a (λ v e. h (suc v) e)) where
@@ -28,7 +29,7 @@ within_from p (suc k ∷ a) h = (by_case (p 0) refl, within_from (λ v. p (suc v
   by_case true e = e
   by_case false e = absurd (let z : suc k ≡ 0 = h 0 e in omega arith)
 
-not_some : {A : Type 0} (o : Option A) → is_some o ≡ false → o ≡ None
+pub not_some : {A : Type 0} (o : Option A) → is_some o ≡ false → o ≡ None
 not_some None e = refl
 not_some (Some x) e = cc
 
@@ -55,7 +56,22 @@ binomials-same : (a : List ℕ) → binomials a a ≡ 1
 binomials-same [] = refl
 binomials-same (k ∷ a) = let ih : binomials a a ≡ 1 = binomials-same a in rw (binomial-same, ih) refl
 
-abbrev of_sites : Sites → ℕ → Bool
+-- some monomial passes the test, or no term has a monomial that does
+pub monomial_in : (n : ℕ) (e : Tree) (test : List ℕ → Bool) (g : List Term) → Over n g → ((k : List ℕ) × IsMonomial n e k × (test k ≡ true)) ⊎ ((k : List ℕ) → normal_coefficient e k ≢ pos 0 → test k ≡ true → factor_at g k ≡ pos 0)
+monomial_in n e test [] o = inr (λ k z c. refl)
+monomial_in n e test (t ∷ g) o = step (monomial_in n e test g o.1) (zero_cases (normal_coefficient e t.exponents)) (test t.exponents) refl where
+  other : ((k : List ℕ) → normal_coefficient e k ≢ pos 0 → test k ≡ true → factor_at g k ≡ pos 0) → (normal_coefficient e t.exponents ≢ pos 0 → test t.exponents ≡ true → ⊥) → (k : List ℕ) → normal_coefficient e k ≢ pos 0 → test k ≡ true → (b : Bool) → same_vector t.exponents k ≡ b → factor_at (t ∷ g) k ≡ pos 0
+  other ih hidden k z c true s = absurd (let q : t.exponents ≡ k = same_vector-is t.exponents k s in hidden (rw q z) (rw q c))
+  other ih hidden k z c false s = rw s (omega (arith, ints, ih k z c))
+
+  step : ((k : List ℕ) × IsMonomial n e k × (test k ≡ true)) ⊎ ((k : List ℕ) → normal_coefficient e k ≢ pos 0 → test k ≡ true → factor_at g k ≡ pos 0) → (normal_coefficient e t.exponents ≡ pos 0) ⊎ (normal_coefficient e t.exponents ≡ pos 0 → ⊥) → (b : Bool) → test t.exponents ≡ b → ((k : List ℕ) × IsMonomial n e k × (test k ≡ true)) ⊎ ((k : List ℕ) → normal_coefficient e k ≢ pos 0 → test k ≡ true → factor_at (t ∷ g) k ≡ pos 0)
+  step (inl c) y b d = inl c
+  step (inr ih) (inr z) true d = inl (t.exponents, record { size = o.0; nonzero = z }, d)
+  step (inr ih) (inl z) b d = inr (λ k q c. other ih (λ y w. y z) k q c (same_vector t.exponents k) refl)
+  step (inr ih) (inr z) false d = inr (λ k q c. other ih (λ y w. let f : true ≡ false = sym w ∙ d in cc) k q c (same_vector t.exponents k) refl)
+
+-- the variables of sites
+abbrev pub of_sites : Sites → ℕ → Bool
 of_sites sites v = is_some (sites.site v)
 
 module _ (n : ℕ) (sites : Sites) (x : ℕ → ℤ) (e : Tree) (below : InputsBelow n e) where
@@ -113,23 +129,9 @@ module _ (n : ℕ) (sites : Sites) (x : ℕ → ℤ) (e : Tree) (below : InputsB
     by_case (inl l) = absurd (z (coefficient-above (of_sites sites) x e a l))
     by_case (inr l) = l
 
-  -- a vector is covered, or each monomial fails to cover it
-  covered_in : (a : List ℕ) (g : List Term) → Over n g → Covered n e a ⊎ ((k : List ℕ) → normal_coefficient e k ≢ pos 0 → covers k a ≡ true → factor_at g k ≡ pos 0)
-  covered_in a [] o = inr (λ k z c. refl)
-  covered_in a (t ∷ g) o = step (covered_in a g o.1) (zero_cases (normal_coefficient e t.exponents)) (covers t.exponents a) refl where
-    other : ((k : List ℕ) → normal_coefficient e k ≢ pos 0 → covers k a ≡ true → factor_at g k ≡ pos 0) → (normal_coefficient e t.exponents ≢ pos 0 → covers t.exponents a ≡ true → ⊥) → (k : List ℕ) → normal_coefficient e k ≢ pos 0 → covers k a ≡ true → (b : Bool) → same_vector t.exponents k ≡ b → factor_at (t ∷ g) k ≡ pos 0
-    other ih hidden k z c true s = absurd (let q : t.exponents ≡ k = same_vector-is t.exponents k s in hidden (rw q z) (rw q c))
-    other ih hidden k z c false s = rw s (omega (arith, ints, ih k z c))
-
-    step : Covered n e a ⊎ ((k : List ℕ) → normal_coefficient e k ≢ pos 0 → covers k a ≡ true → factor_at g k ≡ pos 0) → (normal_coefficient e t.exponents ≡ pos 0) ⊎ (normal_coefficient e t.exponents ≡ pos 0 → ⊥) → (b : Bool) → covers t.exponents a ≡ b → Covered n e a ⊎ ((k : List ℕ) → normal_coefficient e k ≢ pos 0 → covers k a ≡ true → factor_at (t ∷ g) k ≡ pos 0)
-    step (inl c) y b d = inl c
-    step (inr ih) (inr z) true d = inl (t.exponents, record { size = o.0; nonzero = z }, d)
-    step (inr ih) (inl z) b d = inr (λ k q c. other ih (λ y w. y z) k q c (same_vector t.exponents k) refl)
-    step (inr ih) (inr z) false d = inr (λ k q c. other ih (λ y w. let f : true ≡ false = sym w ∙ d in cc) k q c (same_vector t.exponents k) refl)
-
   -- a vector whose coefficient isn't 0 is covered
   pub nonzero-covered : (a : List ℕ) → IsOver n sites a → perturbed sites x e a ≢ pos 0 → Covered n e a
-  nonzero-covered a o z = by_case (covered_in a (expanded n e) (Over-expanded n e)) where
+  nonzero-covered a o z = by_case (monomial_in n e (λ k. covers k a) (expanded n e) (Over-expanded n e)) where
     by_case : Covered n e a ⊎ ((k : List ℕ) → normal_coefficient e k ≢ pos 0 → covers k a ≡ true → factor_at (expanded n e) k ≡ pos 0) → Covered n e a
     by_case (inl c) = c
     by_case (inr h) = absurd (z (perturbed-uncovered a o (λ c. c.1.nonzero (normal_is n e below c.0 c.1.size ∙ h c.0 c.1.nonzero c.2))))

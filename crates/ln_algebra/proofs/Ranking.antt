@@ -6,7 +6,8 @@ use Rattle.ln_algebra.proofs.Walk.{Lex}
 use Rattle.ln_algebra.specs.Earlier.{Earlier, Of, RanksBefore, Sites}
 use Rattle.ln_algebra.specs.Walk.{Member, IsRanked}
 
-member : (vs : List ℕ) (w : ℕ) → Member vs w ⊎ (Member vs w → ⊥)
+-- a variable is in the list or not
+pub member : (vs : List ℕ) (w : ℕ) → Member vs w ⊎ (Member vs w → ⊥)
 member [] w = inr (λ h. h)
 member (v ∷ vs) w = elim (cases_eq w v) [ inl e ↦ inl (inl e) | inr d ↦ elim (member vs w) [ inl k ↦ inl (inr k) | inr k ↦ inr (λ h. elim h [ inl e ↦ d e | inr i ↦ k i ]) ] ]
 

@@ -8,12 +8,12 @@ use Rattle.ln_algebra.proofs.Normal.{same_vector-is, same_vector-refl}
 use Rattle.ln_algebra.specs.Vector.{In, same_vector}
 use Rattle.ln_algebra.specs.Walk.{AllBelow, Found, all_same, at_least, before, steps, unless_none, walk}
 
-In-append_left : (xs ys : List (List ℕ)) (m : List ℕ) → In xs m → In (xs ++ ys) m
+pub In-append_left : (xs ys : List (List ℕ)) (m : List ℕ) → In xs m → In (xs ++ ys) m
 In-append_left [] ys m h = absurd h
 In-append_left (x ∷ xs) ys m (inl e) = inl e
 In-append_left (x ∷ xs) ys m (inr h) = inr (In-append_left xs ys m h)
 
-In-append_right : (xs ys : List (List ℕ)) (m : List ℕ) → In ys m → In (xs ++ ys) m
+pub In-append_right : (xs ys : List (List ℕ)) (m : List ℕ) → In ys m → In (xs ++ ys) m
 In-append_right [] ys m h = h
 In-append_right (x ∷ xs) ys m h = inr (In-append_right xs ys m h)
 
@@ -230,7 +230,8 @@ listing-end m ms p = record {
   inside a (inl q) = record { size = ap length q; off = λ u f. ap (λ z. get_or z u 0) q }
   inside a (inr i) = absurd i
 
-abbrev Inside : List ℕ → ℕ → Type 0
+-- each variable of the list is below n
+abbrev pub Inside : List ℕ → ℕ → Type 0
 Inside [] n = Unit {0}
 Inside (v ∷ vs) n = (v < n) × Inside vs n
 
@@ -265,11 +266,6 @@ module _ (v : ℕ) (vs : List ℕ) (fresh : Fresh v vs) (p : List ℕ) (inside_p
         let z : unless_none (at_least v e ms) (before (go (at_least v e ms) (set p v e)) (steps go v ms p k (suc e))) ≡ before (go (at_least v e ms) (set p v e)) (steps go v ms p k (suc e)) = unless_none-cons (at_least v e ms) m l _ d in
         rw z (by_stop (go (at_least v e ms) (set p v e)).1 refl (each e m (first_member (at_least v e ms) m l d)) y)
 
--- some vector of the list, if there is one
-some_member : (ms : List (List ℕ)) (m : List ℕ) → In ms m → (x : List ℕ) × (xs : List (List ℕ)) × (ms ≡ x ∷ xs)
-some_member [] m i = absurd i
-some_member (x ∷ xs) m i = (x, xs, refl)
-
 below_at_least : (bound v e : ℕ) (ms : List (List ℕ)) → AllBelow bound ms → AllBelow bound (at_least v e ms)
 below_at_least bound v e ms h m u i = h m u (at_least-in v e ms m i).0
 
@@ -287,13 +283,24 @@ region_from v vs p ms found stop x = record {
   sorted = x.sorted;
 }
 
+-- nothing is covered where there are no monomials
+listing-empty : (p : List ℕ) → Listing (Region [] p) [] [] [] false
+listing-empty p = record {
+  inside = λ a i. absurd i;
+  covered = λ a i. absurd i;
+  uncut = λ a i. absurd i;
+  complete = λ a h c u. c.1;
+  cut = λ q. cc;
+  open_end = λ q b h l. l.here;
+  sorted = tt;
+}
+
 -- the walk gives the list of its region
-pub listing-walk : (bound : ℕ) (vs : List ℕ) (ms : List (List ℕ)) (p m : List ℕ) → Distinct vs → Inside vs (length p) → AllBelow bound ms → In ms m → Listing (Region vs p) vs ms (walk bound vs ms p).0 (walk bound vs ms p).1
-listing-walk bound [] ms p m d i h k =
-    let s = some_member ms m k in
-    rw s.2 (listing-end s.0 s.1 p)
-listing-walk bound (v ∷ vs) ms p m d i h k =
+pub listing-walk : (bound : ℕ) (vs : List ℕ) (ms : List (List ℕ)) (p : List ℕ) → Distinct vs → Inside vs (length p) → AllBelow bound ms → Listing (Region vs p) vs ms (walk bound vs ms p).0 (walk bound vs ms p).1
+listing-walk bound [] [] p d i h = listing-empty p
+listing-walk bound [] (m ∷ ms) p d i h = listing-end m ms p
+listing-walk bound (v ∷ vs) ms p d i h =
     region_from v vs p ms (walk bound (v ∷ vs) ms p).0 (walk bound (v ∷ vs) ms p).1
     (listing-steps v vs d.0 p i.0 ms bound h (walk bound vs)
-    (λ e n j. listing-walk bound vs (at_least v e ms) (set p v e) n d.1 (inside_set vs p v e i.1) (below_at_least bound v e ms h) j)
+    (λ e n j. listing-walk bound vs (at_least v e ms) (set p v e) d.1 (inside_set vs p v e i.1) (below_at_least bound v e ms h))
     bound 0 (omega arith))
