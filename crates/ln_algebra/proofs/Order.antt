@@ -50,6 +50,10 @@ earlier-transitive sites d a b c (v, s, o, l, h) (w, t, q, m, k) = by_rank (befo
   by_rank (inr (inl r)) = (w, t, q, (omega (arith, h w r)), λ u z. h u (before-transitive sites v w u r z) ∙ k u z)
   by_rank (inr (inr r)) = (v, s, o, (omega (arith, k v r)), λ u z. h u z ∙ k u (before-transitive sites w v u r z))
 
+-- of two vectors only one is earlier
+pub earlier-asymmetric : (sites : Sites) → IndicesDiffer sites → (a b : List ℕ) → Earlier sites a b → Earlier sites b a → ⊥
+earlier-asymmetric sites d a b l r = earlier-irreflexive sites a (earlier-transitive sites d a b a l r)
+
 -- ---- any two vectors compare
 abbrev AllSame : List ℕ → List ℕ → ℕ → Type 0
 AllSame a b k = (v : ℕ) → v < k → get_or a v 0 ≡ get_or b v 0

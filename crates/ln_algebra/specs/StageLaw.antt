@@ -3,7 +3,7 @@ use Rattle.std.specs.Prelude.{◌≡◌, ◌≢◌, ℕ, ◌<◌, ℤ, pos, IsTr
 use Rattle.ln_algebra.specs.Vector.{zeros}
 use Rattle.ln_algebra.specs.Coefficient.{normal_coefficient}
 use Rattle.ln_algebra.specs.Earlier.{Earlier, IndicesDiffer, IsOver, Of, Sites}
-use Rattle.ln_algebra.specs.Sign.{IsFirst, perturbed}
+use Rattle.ln_algebra.specs.Sign.{IsFirst, IsPerturbedSign, perturbed, sign_along}
 use Rattle.ln_algebra.specs.Stage.{Covered, IsLast, IsMonomial, IsStage, IsStageList}
 use Rattle.ln_algebra.specs.Tree.{InputsBelow, Tree}
 use Rattle.ln_algebra.specs.Walk.{AllBelow, AreMonomials, IsRanking, walk}
@@ -40,6 +40,12 @@ ZeroStagesHaveNoFirst =
     (n : ℕ) (sites : Sites) (e : Tree) (x : ℕ → ℤ) → InputsBelow n e →
     ((a : List ℕ) → IsStage n sites e a → perturbed sites x e a ≡ pos 0) →
     (a : List ℕ) → IsFirst n sites x e a → ⊥
+
+-- The sign found along the stage list is the perturbed sign.
+abbrev pub SignAlongTheStages : Type 0
+SignAlongTheStages =
+    (n : ℕ) (sites : Sites) (e : Tree) (x : ℕ → ℤ) (list : List (List ℕ)) → InputsBelow n e → IndicesDiffer sites →
+    IsStageList n sites e list → IsPerturbedSign n sites x e (sign_along sites x e list)
 
 -- Where any coefficient isn't 0, of those over the variables of sites, there is a first vector.
 abbrev pub NonzeroHasFirst : Type 0

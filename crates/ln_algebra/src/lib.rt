@@ -17,6 +17,7 @@ mod infinitesimals;
 mod splitting;
 mod staging;
 mod weighing;
+mod worked;
 
 pub use coefficients::{coefficients_vanish_above_degree, products_are_sums_over_ways};
 pub use derivatives::{derivatives_are_coefficients, product_rule};
@@ -24,3 +25,4 @@ pub use infinitesimals::{earlier_is_an_order, first_is_unique, stage_list_is_uni
 pub use splitting::{splits_are_all_sums, ways_are_all_sums};
 pub use staging::{cut_loses_nothing, there_is_a_first, walk_lists_the_stages};
 pub use weighing::{derivatives_weigh_the_whole, normal_weighs_at_most_the_tree};
+pub use worked::{worked_coefficients, worked_derivatives, worked_orders, worked_signs, worked_stages};

@@ -1,6 +1,6 @@
 // Laws of stages and of the cut.
 
-ghost use Rattle.ln_algebra.specs.StageLaw.{FirstIsStage, FirstNonzeroStageIsFirst, LastIsConstant, NonzeroHasFirst, UncoveredIsZero, WalkListsTheStages, WithoutParamsThereIsFirst, ZeroStagesHaveNoFirst};
+ghost use Rattle.ln_algebra.specs.StageLaw.{FirstIsStage, FirstNonzeroStageIsFirst, LastIsConstant, NonzeroHasFirst, SignAlongTheStages, UncoveredIsZero, WalkListsTheStages, WithoutParamsThereIsFirst, ZeroStagesHaveNoFirst};
 
 /// The stages of an order are all that has to be looked at, on every row.
 ///
@@ -12,6 +12,7 @@ pub fn cut_loses_nothing()
     ensures first { FirstIsStage }
     ensures found { FirstNonzeroStageIsFirst }
     ensures nothing { ZeroStagesHaveNoFirst }
+    ensures sign { SignAlongTheStages }
 {}
 
 /// There is a first vector where any coefficient isn't 0, and so on every row

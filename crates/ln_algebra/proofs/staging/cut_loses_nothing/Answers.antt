@@ -1,4 +1,5 @@
 use Rattle.ln_algebra.proofs.Cut.{first-stage, perturbed-last, perturbed-uncovered, stage-first}
+use Rattle.ln_algebra.proofs.Along.{sign-along}
 use Rattle.std.proofs.Common.{sym, ◌∙◌}
 use Rattle.ln_algebra.proofs.staging.cut_loses_nothing.Goals as goal
 
@@ -16,3 +17,6 @@ returns-clause-found c = λ n sites e x a below differ. stage-first n sites x e 
 
 pub returns-clause-nothing : goal.returns-clause-nothing
 returns-clause-nothing c = λ n sites e x below zeros a first. first.nonzero (zeros a (first-stage n sites x e below a first))
+
+pub returns-clause-sign : goal.returns-clause-sign
+returns-clause-sign c = sign-along
