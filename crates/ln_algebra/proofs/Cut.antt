@@ -43,7 +43,7 @@ minus-same x (k ∷ a) =
     let z : k - k ≡ 0 = omega arith in
     rw z (one_mul (monomial (λ v. x (suc v)) (minus a a)) ∙ minus-same (λ v. x (suc v)) a)
 
-binomial-above : (n k : ℕ) → n < k → binomial n k ≡ 0
+pub binomial-above : (n k : ℕ) → n < k → binomial n k ≡ 0
 binomial-above n zero h = absurd (omega arith)
 binomial-above zero (suc k) h = refl
 binomial-above (suc n) (suc k) h = omega (arith, binomial-above n (suc k) (omega arith), binomial-above n k (omega arith))
@@ -75,7 +75,8 @@ abbrev pub of_sites : Sites → ℕ → Bool
 of_sites sites v = is_some (sites.site v)
 
 module _ (n : ℕ) (sites : Sites) (x : ℕ → ℤ) (e : Tree) (below : InputsBelow n e) where
-  within : (a : List ℕ) → IsOver n sites a → Within (of_sites sites) a
+  -- a vector over the variables of sites, as one over a set
+  pub within : (a : List ℕ) → IsOver n sites a → Within (of_sites sites) a
   within a o = within_from (of_sites sites) a (λ v h. o.of_sites v (not_some (sites.site v) h))
 
   perturbed_is : (a : List ℕ) → IsOver n sites a → perturbed sites x e a ≡ total (λ m. tau (of_sites sites) x m a) (expanded n e)

@@ -1,12 +1,14 @@
 -- The order is kept by sums; the first vector, the perturbed sign and the stage list are unique.
-use Rattle.std.proofs.Common.{◌≡◌, ℕ, ◌+◌, ◌<◌, zero, suc, refl, sym, ◌∙◌, ap, arith, List, [], ◌∷◌, length, get_or, ◌⊎◌, inl, inr}
-use Rattle.std.proofs.Math.IntN.{ℤ, pos}
+use Rattle.std.proofs.Common.{◌≡◌, ℕ, ◌+◌, ◌<◌, zero, suc, refl, sym, ◌∙◌, ap, arith, List, [], ◌∷◌, length, get_or, Bool, true, false, if◌then◌else◌, ◌⊎◌, inl, inr}
+use Rattle.std.proofs.lemmas.Int.{ints}
+use Rattle.std.proofs.Math.IntN.{ℤ, pos, ◌+ℤ◌}
+use Rattle.ln_algebra.proofs.Normal.{same_vector-is, same_vector-refl}
 use Rattle.ln_algebra.proofs.Order.{earlier-irreflexive, earlier-total, earlier-transitive}
 use Rattle.ln_algebra.specs.Earlier.{Earlier, IndicesDiffer, IsInOrder, Sites}
 use Rattle.ln_algebra.specs.Sign.{IsFirst, IsPerturbedSign, perturbed, sign_of}
 use Rattle.ln_algebra.specs.Stage.{IsStageList}
 use Rattle.ln_algebra.specs.Tree.{Tree}
-use Rattle.ln_algebra.specs.Vector.{In, plus}
+use Rattle.ln_algebra.specs.Vector.{In, how_many, plus, same_vector}
 
 -- ---- sums
 get_or-plus : (a c : List ℕ) (v : ℕ) → length a ≡ length c → get_or (plus a c) v 0 ≡ get_or a v 0 + get_or c v 0
@@ -61,3 +63,22 @@ lists-same sites d (x ∷ xs) (y ∷ ys) s t h k =
 
 pub stage_list-unique : (n : ℕ) (sites : Sites) (e : Tree) (xs ys : List (List ℕ)) → IndicesDiffer sites → IsStageList n sites e xs → IsStageList n sites e ys → xs ≡ ys
 stage_list-unique n sites e xs ys d s t = lists-same sites d xs ys s.in_order t.in_order (λ a i. t.all a (s.stages a i)) (λ a i. s.all a (t.stages a i))
+
+-- a list in order has each of its members once
+none_of : (sites : Sites) (a : List ℕ) (xs : List (List ℕ)) → ((b : List ℕ) → In xs b → Earlier sites a b) → how_many (λ b. same_vector b a) xs ≡ pos 0
+none_of sites a [] h = refl
+none_of sites a (x ∷ xs) h = by_case (same_vector x a) refl (none_of sites a xs (λ b i. h b (inr i))) where
+  by_case : (t : Bool) → same_vector x a ≡ t → how_many (λ b. same_vector b a) xs ≡ pos 0 → (if t then pos 1 else pos 0) +ℤ how_many (λ b. same_vector b a) xs ≡ pos 0
+  by_case true e ih = absurd (earlier-irreflexive sites a (let q : x ≡ a = same_vector-is x a e in let l : Earlier sites a x = h x (inl refl) in rw q at l))
+  by_case false e ih = omega (arith, ints, ih)
+
+pub in_order-once : (sites : Sites) (xs : List (List ℕ)) (a : List ℕ) → IsInOrder sites xs → In xs a → how_many (λ b. same_vector b a) xs ≡ pos 1
+in_order-once sites [] a s i = absurd i
+in_order-once sites (x ∷ xs) a s (inl q) =
+    let t : same_vector x a ≡ true = rw q (same_vector-refl x) in
+    let n : how_many (λ b. same_vector b a) xs ≡ pos 0 = rw q (none_of sites x xs s.0) in
+    rw t (omega (arith, ints, n))
+in_order-once sites (x ∷ xs) a s (inr i) = by_case (same_vector x a) refl (in_order-once sites xs a s.1 i) where
+  by_case : (t : Bool) → same_vector x a ≡ t → how_many (λ b. same_vector b a) xs ≡ pos 1 → (if t then pos 1 else pos 0) +ℤ how_many (λ b. same_vector b a) xs ≡ pos 1
+  by_case true e ih = absurd (earlier-irreflexive sites x (let q : x ≡ a = same_vector-is x a e in let l : Earlier sites x a = s.0 a i in rw (sym q) at l))
+  by_case false e ih = omega (arith, ints, ih)

@@ -1,9 +1,11 @@
 -- The laws of coefficients and of scaled derivatives.
 use Rattle.std.specs.Prelude.{◌≡◌, ℕ, ◌<◌, Bool, ℤ, pos, ◌*ℤ◌, List, ◌∷◌, length, map}
 use Rattle.std.proofs.Common.{suc}
-use Rattle.ln_algebra.specs.Vector.{sum_over, splits, total_degree, ways}
+use Rattle.ln_algebra.specs.Vector.{plus, sum_over, splits, total_degree, ways}
 use Rattle.ln_algebra.specs.Coefficient.{coefficient, product_at}
-use Rattle.ln_algebra.specs.Terms.{IsProductOf, Term, derived, value}
+use Rattle.ln_algebra.specs.Earlier.{IsOver, Sites}
+use Rattle.ln_algebra.specs.Sign.{perturbed}
+use Rattle.ln_algebra.specs.Terms.{IsProductOf, Over, Term, binomials, derived, factor_at, value}
 use Rattle.ln_algebra.specs.Tree.{InputsBelow, Tree, degree_of, multiplied}
 pub use Rattle.ln_algebra.specs.Vector.{Within}
 pub use Rattle.ln_algebra.specs.Terms.{IsNormalOf}
@@ -21,6 +23,12 @@ CoefficientsVanishAboveDegree =
     (p : ℕ → Bool) (x : ℕ → ℤ) (e : Tree) (a : List ℕ) →
     degree_of e < total_degree a → coefficient p x e a ≡ pos 0
 
+-- The coefficient at m of the scaled derivative by a is the polynomial's at m + a, times the binomials of m + a and a.
+abbrev pub DerivedCoefficients : Type 0
+DerivedCoefficients =
+    (a : List ℕ) (f : List Term) (m : List ℕ) → Over (length a) f → length m ≡ length a →
+    factor_at (derived a f) m ≡ factor_at f (plus m a) *ℤ pos (binomials (plus m a) a)
+
 -- The product rule: the scaled derivative of a product by a is the sum, over all a = b + c, of the derivative of one factor by b times that of the other by c.
 abbrev pub ProductRule : Type 0
 ProductRule =
@@ -34,3 +42,10 @@ DerivativesAreCoefficients =
     (n : ℕ) (e : Tree) (f : List Term) (p : ℕ → Bool) (x : ℕ → ℤ) (a : List ℕ) →
     InputsBelow n e → IsNormalOf n e f → length a ≡ n → Within p a →
     value x (derived a f) ≡ coefficient p x e a
+
+-- The same for a row: with the infinitesimals of the sites, at every vector over their variables.
+abbrev pub DerivativesOnRows : Type 0
+DerivativesOnRows =
+    (n : ℕ) (sites : Sites) (e : Tree) (f : List Term) (x : ℕ → ℤ) (a : List ℕ) →
+    InputsBelow n e → IsNormalOf n e f → IsOver n sites a →
+    value x (derived a f) ≡ perturbed sites x e a

@@ -1,7 +1,7 @@
 -- The laws of the order.
-use Rattle.std.specs.Prelude.{◌≡◌, ℕ, ◌⊎◌, ℤ, List, length}
-use Rattle.ln_algebra.specs.Vector.{plus}
-use Rattle.ln_algebra.specs.Earlier.{Earlier, IndicesDiffer, IsOver, Sites}
+use Rattle.std.specs.Prelude.{◌≡◌, ℕ, ◌⊎◌, ℤ, pos, List, length}
+use Rattle.ln_algebra.specs.Vector.{In, how_many, plus, same_vector}
+use Rattle.ln_algebra.specs.Earlier.{Earlier, IndicesDiffer, IsInOrder, IsOver, Sites}
 use Rattle.ln_algebra.specs.Sign.{IsFirst, IsPerturbedSign}
 use Rattle.ln_algebra.specs.Stage.{IsStageList}
 use Rattle.ln_algebra.specs.Tree.{Tree}
@@ -45,3 +45,9 @@ abbrev pub StageListIsUnique : Type 0
 StageListIsUnique =
     (n : ℕ) (sites : Sites) (e : Tree) (xs ys : List (List ℕ)) → IndicesDiffer sites →
     IsStageList n sites e xs → IsStageList n sites e ys → xs ≡ ys
+
+-- A list in order has each of its members once.
+abbrev pub InOrderIsOnce : Type 0
+InOrderIsOnce =
+    (sites : Sites) (xs : List (List ℕ)) (a : List ℕ) → IsInOrder sites xs → In xs a →
+    how_many (λ b. same_vector b a) xs ≡ pos 1

@@ -1,7 +1,7 @@
 -- The laws of weights.
-use Rattle.std.specs.Prelude.{◌≡◌, ℕ, ◌+◌, ◌≤◌, true, pos, List, [], ◌∷◌, length}
+use Rattle.std.specs.Prelude.{◌≡◌, ℕ, ◌+◌, ◌≤◌, true, ℤ, pos, unsigned_abs, List, [], ◌∷◌, length}
 use Rattle.ln_algebra.specs.Vector.{covered_by, covers, sum_over}
-use Rattle.ln_algebra.specs.Terms.{IsCollected, IsNormalOf, Over, Term, derived}
+use Rattle.ln_algebra.specs.Terms.{IsCollected, IsNormalOf, Over, Term, derived, value}
 use Rattle.ln_algebra.specs.Tree.{InputsBelow, Tree}
 use Rattle.ln_algebra.specs.Weights.{weight, weighted_sum}
 
@@ -21,3 +21,14 @@ abbrev pub NormalWeighsAtMostTheTree : Type 0
 NormalWeighsAtMostTheTree =
     (n : ℕ) (e : Tree) (f : List Term) (w : ℕ → ℕ) → InputsBelow n e → IsNormalOf n e f → IsCollected f →
     weighted_sum w f ≤ weight w e
+
+-- Where no variable's absolute value is above its weight, no value of a list of terms is above its weighted sum.
+abbrev pub ValuesAreWithinWeights : Type 0
+ValuesAreWithinWeights =
+    (x : ℕ → ℤ) (w : ℕ → ℕ) (f : List Term) → ((v : ℕ) → unsigned_abs (x v) ≤ w v) →
+    unsigned_abs (value x f) ≤ weighted_sum w f
+
+-- The M-weighted sum of each scaled derivative is at most the w-weighted sum of the whole, with w above M by 1.
+abbrev pub EachDerivativeWeighsLess : Type 0
+EachDerivativeWeighsLess =
+    (m : ℕ → ℕ) (a : List ℕ) (f : List Term) → weighted_sum m (derived a f) ≤ weighted_sum (λ v. m v + 1) f

@@ -1,6 +1,6 @@
 // Laws of the order of infinitesimals.
 
-ghost use Rattle.ln_algebra.specs.OrderLaw.{EarlierIsIrreflexive, EarlierIsKeptBySums, EarlierIsTotal, EarlierIsTransitive, FirstIsUnique, PerturbedSignIsUnique, StageListIsUnique};
+ghost use Rattle.ln_algebra.specs.OrderLaw.{EarlierIsIrreflexive, EarlierIsKeptBySums, EarlierIsTotal, EarlierIsTransitive, FirstIsUnique, InOrderIsOnce, PerturbedSignIsUnique, StageListIsUnique};
 
 /// `Earlier` is a total order on the vectors over the variables of sites, and
 /// is kept where one vector is added to both sides.
@@ -22,10 +22,12 @@ pub fn first_is_unique()
     ensures sign { PerturbedSignIsUnique }
 {}
 
-/// An order of sites has at most one stage list.
+/// An order of sites has at most one stage list, and each stage stands in it
+/// once.
 ///
 /// On it rests that counts of stages, and the place at which a row is decided,
 /// are those of any list that has the stages in order.
 pub fn stage_list_is_unique()
-    ensures { StageListIsUnique }
+    ensures unique { StageListIsUnique }
+    ensures once { InOrderIsOnce }
 {}

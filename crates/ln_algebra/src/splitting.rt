@@ -1,6 +1,6 @@
 // All ways to write a vector as a sum.
 
-ghost use Rattle.ln_algebra.specs.VectorLaw.{SplitsAreAllSums, WaysAreAllSums};
+ghost use Rattle.ln_algebra.specs.VectorLaw.{CoveredByIsAll, SplitsAreAllSums, WaysAreAllSums};
 
 /// `splits` has each pair of vectors with a given sum exactly once.
 ///
@@ -16,4 +16,11 @@ pub fn splits_are_all_sums()
 /// of a product of several predicates.
 pub fn ways_are_all_sums()
     ensures { WaysAreAllSums }
+{}
+
+/// `covered_by` has each vector that a given one covers exactly once.
+///
+/// On it rests the law of weights, which sums over `covered_by`.
+pub fn covered_by_is_all()
+    ensures { CoveredByIsAll }
 {}

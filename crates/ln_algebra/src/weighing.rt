@@ -1,6 +1,14 @@
 // Laws of weights.
 
-ghost use Rattle.ln_algebra.specs.WeightLaw.{DerivativesWeighTheWhole, NormalWeighsAtMostTheTree};
+ghost use Rattle.ln_algebra.specs.WeightLaw.{DerivativesWeighTheWhole, EachDerivativeWeighsLess, NormalWeighsAtMostTheTree, ValuesAreWithinWeights};
+
+/// Weighted sums bound values.
+///
+/// On it rests that the values of each stage on a row in range fit the widths
+/// of a compiled predicate.
+pub fn values_are_within_weights()
+    ensures { ValuesAreWithinWeights }
+{}
 
 /// The weighted sums of all scaled derivatives add up to the weighted sum of
 /// the polynomial where each weight is larger by 1.
@@ -8,7 +16,8 @@ ghost use Rattle.ln_algebra.specs.WeightLaw.{DerivativesWeighTheWhole, NormalWei
 /// On it rests that one test of a predicate's weight bounds the values of
 /// every stage.
 pub fn derivatives_weigh_the_whole()
-    ensures { DerivativesWeighTheWhole }
+    ensures sum { DerivativesWeighTheWhole }
+    ensures each { EachDerivativeWeighsLess }
 {}
 
 /// The weighted sum of the normal polynomial is at most the expression's
