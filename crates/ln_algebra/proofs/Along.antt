@@ -10,11 +10,13 @@ use Rattle.ln_algebra.specs.Stage.{IsStage, IsStageList}
 use Rattle.ln_algebra.specs.Tree.{InputsBelow, Tree}
 use Rattle.ln_algebra.specs.Vector.{In}
 
+-- the sign of a number that isn't 0 decides
 or_else-nonzero : (z t : ℤ) → z ≢ pos 0 → or_else (sign_of z) t ≡ sign_of z
 or_else-nonzero (pos zero) t h = absurd (h refl)
 or_else-nonzero (pos (suc n)) t h = refl
 or_else-nonzero (negsuc n) t h = refl
 
+-- the sign of 0 doesn't
 or_else-zero : (z t : ℤ) → z ≡ pos 0 → or_else (sign_of z) t ≡ t
 or_else-zero z t e = ap (λ y. or_else (sign_of y) t) e
 
@@ -37,5 +39,6 @@ module _ (n : ℕ) (sites : Sites) (e : Tree) (x : ℕ → ℤ) (below : InputsB
     by_case (inl z) ih = let t : sign_along sites x e (a ∷ list) ≡ sign_along sites x e list = or_else-zero (perturbed sites x e a) (sign_along sites x e list) z in rw t (ih z)
     by_case (inr z) ih = inl (a, stage-first n sites x e below differ a (h a (inl refl)) z (λ b t l. earlier_zero b l (k b t)), or_else-nonzero (perturbed sites x e a) (sign_along sites x e list) z)
 
+-- along the whole stage list it is the perturbed sign
 pub sign-along : (n : ℕ) (sites : Sites) (e : Tree) (x : ℕ → ℤ) (list : List (List ℕ)) → InputsBelow n e → IndicesDiffer sites → IsStageList n sites e list → IsPerturbedSign n sites x e (sign_along sites x e list)
 sign-along n sites e x list below differ s = along n sites e x below differ list s.in_order s.stages (λ a t. inl (s.all a t))

@@ -4,17 +4,20 @@ use Rattle.std.proofs.Math.Nat.{mul-le-mul, mul-le-mul_left, mul-le-mul_right, p
 use Rattle.std.proofs.lemmas.Bool.{and_parts, cases_lt, leb-true}
 use Rattle.std.proofs.lemmas.Int.{ints, unsigned_abs-mul}
 use Rattle.std.proofs.Math.IntN.{ℤ, pos, ◌+ℤ◌, ◌*ℤ◌}
-use Rattle.ln_algebra.proofs.Cut.{binomial-above}
+use Rattle.ln_algebra.proofs.Derived.{binomial-above}
+use Rattle.ln_algebra.proofs.Weights.{four_ℕ}
 use Rattle.ln_algebra.specs.Terms.{Term, binomial, binomials, covers, derived, minus, monomial, power_of, value}
 use Rattle.ln_algebra.specs.Weights.{monomial_weight, weighted_sum}
 
 -- ---- values
+-- a power is at most the power of the bound
 power_of-abs : (x : ℤ) (w n : ℕ) → unsigned_abs x ≤ w → unsigned_abs (power_of x n) ≤ w ^ n
 power_of-abs x w zero h = rw pow-zero (omega arith)
 power_of-abs x w (suc n) h =
     let l : unsigned_abs x * unsigned_abs (power_of x n) ≤ w * w ^ n = mul-le-mul h (power_of-abs x w n h) in
     omega (arith, l, unsigned_abs-mul x (power_of x n), pow-suc w n)
 
+-- a monomial is at most its weight
 monomial-abs : (x : ℕ → ℤ) (w : ℕ → ℕ) (m : List ℕ) → ((v : ℕ) → unsigned_abs (x v) ≤ w v) → unsigned_abs (monomial x m) ≤ monomial_weight w m
 monomial-abs x w [] h = omega arith
 monomial-abs x w (n ∷ m) h =
@@ -32,8 +35,9 @@ value-abs x w (t ∷ f) h =
     omega (arith, s, l, unsigned_abs-mul t.factor (monomial x t.exponents), value-abs x w f h)
 
 -- ---- derivatives
+-- one term of (m + 1)^n is at most the whole
 binomial-power : (m n k : ℕ) → k ≤ n → binomial n k * m ^ (n - k) ≤ (m + 1) ^ n
-binomial-power m zero zero h = rw pow-zero (rw pow-zero (omega arith))
+binomial-power m zero zero h = omega (arith, pow-zero m, pow-zero (m + 1))
 binomial-power m zero (suc k) h = absurd (omega arith)
 binomial-power m (suc n) zero h =
     let e : n - 0 ≡ n = omega arith in
@@ -58,9 +62,7 @@ binomial-power m (suc n) (suc k) h = by_case (cases_lt k n) (binomial-power m n 
       let r : (m + 1) ^ n * 1 ≤ (m + 1) ^ n * (m + 1) = mul-le-mul_left ((m + 1) ^ n) (let i : 1 ≤ m + 1 = omega arith in i) in
       rw e (omega (arith, a, q, r, pow-suc (m + 1) n))
 
-four_products : (a b c d : ℕ) → (a * b) * (c * d) ≡ (a * c) * (b * d)
-four_products a b c d = omega arith
-
+-- the same over all variables
 binomials-weight : (m : ℕ → ℕ) (k a : List ℕ) → covers k a ≡ true → binomials k a * monomial_weight m (minus k a) ≤ monomial_weight (λ v. m v + 1) k
 binomials-weight m [] [] c = omega arith
 binomials-weight m [] (j ∷ a) c = cc
@@ -69,7 +71,7 @@ binomials-weight m (n ∷ k) (j ∷ a) c =
     let p = and_parts (leb j n) (covers k a) c in
     let u : ℕ → ℕ = λ v. m (suc v) in
     let l : (binomial n j * m 0 ^ (n - j)) * (binomials k a * monomial_weight u (minus k a)) ≤ (m 0 + 1) ^ n * monomial_weight (λ v. u v + 1) k = mul-le-mul (binomial-power (m 0) n j (leb-true j n p.0)) (binomials-weight u k a p.1) in
-    omega (arith, l, four_products (binomial n j) (binomials k a) (m 0 ^ (n - j)) (monomial_weight u (minus k a)))
+    omega (arith, l, four_ℕ (binomial n j) (binomials k a) (m 0 ^ (n - j)) (monomial_weight u (minus k a)) (binomial n j * binomials k a) (m 0 ^ (n - j) * monomial_weight u (minus k a)) refl refl)
 
 -- the weighted sum of each scaled derivative is at most that of the whole, with weights larger by 1
 pub weighted-derived : (m : ℕ → ℕ) (a : List ℕ) (f : List Term) → weighted_sum m (derived a f) ≤ weighted_sum (λ v. m v + 1) f

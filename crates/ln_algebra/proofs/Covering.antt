@@ -13,26 +13,31 @@ use Rattle.ln_algebra.specs.Terms.{Over, Term, binomials, derived, factor_at}
 use Rattle.ln_algebra.specs.Vector.{IsSplit, covered_by, covers, how_many, minus, plus, same_vector, splits}
 
 -- ---- sums and differences
+-- a sum covers its second vector
 covers-plus : (m a : List ℕ) → length m ≡ length a → covers (plus m a) a ≡ true
 covers-plus [] [] e = refl
 covers-plus [] (k ∷ a) e = absurd (omega arith)
 covers-plus (n ∷ m) [] e = absurd (omega arith)
 covers-plus (n ∷ m) (k ∷ a) e = let t : leb k (n + k) ≡ true = grind (arith, nat_tests) in rw t (covers-plus m a (omega arith))
 
+-- taking the first vector from a sum leaves the second
 minus-plus : (u v : List ℕ) → length u ≡ length v → minus (plus u v) u ≡ v
 minus-plus [] [] e = refl
 minus-plus [] (k ∷ v) e = absurd (omega arith)
 minus-plus (n ∷ u) [] e = absurd (omega arith)
 minus-plus (n ∷ u) (k ∷ v) e = let d : (n + k) - n ≡ k = omega arith in ap (λ z. z ∷ minus (plus u v) u) d ∙ ap (λ z. k ∷ z) (minus-plus u v (omega arith))
 
+-- a difference has as many exponents
 length-minus : (m a : List ℕ) → length m ≡ length a → length (minus m a) ≡ length m
 length-minus [] a e = refl
 length-minus (n ∷ m) [] e = absurd (omega arith)
 length-minus (n ∷ m) (k ∷ a) e = ap suc (length-minus m a (omega arith))
 
+-- adding the difference of two numbers gives the larger back
 eqb-add : (n k : ℕ) → eqb (k + (n - k)) n ≡ leb k n
 eqb-add n k = grind (arith, nat_tests)
 
+-- a difference is i exactly where the number is a sum with i
 eqb-minus : (n k i : ℕ) → leb k n ≡ true → eqb (n - k) i ≡ eqb n (i + k)
 eqb-minus n k i l = grind (arith, nat_tests)
 
@@ -77,6 +82,7 @@ covered_by-once bound a e =
 
 -- ---- the coefficients of a scaled derivative
 
+-- one term more
 derived_step : (t : Term) (f : List Term) (m a : List ℕ) → length t.exponents ≡ length a → length m ≡ length a → factor_at (derived a f) m ≡ factor_at f (plus m a) *ℤ pos (binomials (plus m a) a) → (c : Bool) → covers t.exponents a ≡ c → (b : Bool) → same_vector t.exponents (plus m a) ≡ b → factor_at (derived a (t ∷ f)) m ≡ factor_at (t ∷ f) (plus m a) *ℤ pos (binomials (plus m a) a)
 derived_step t f m a e h ih true c true b =
     let q : t.exponents ≡ plus m a = same_vector-is t.exponents (plus m a) b in

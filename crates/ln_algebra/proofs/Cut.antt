@@ -8,7 +8,7 @@ use Rattle.ln_algebra.proofs.Ring.{one_mul, mul_one}
 use Rattle.ln_algebra.proofs.Expansion.{tau, expanded, Over-expanded}
 use Rattle.ln_algebra.proofs.Shift.{coefficient_is}
 use Rattle.ln_algebra.proofs.Normal.{normal_is, total, total-none, total-one, same_vector-is, same_vector-refl, zero_cases}
-use Rattle.ln_algebra.proofs.Derived.{tau-uncovered, tau-covered, factor_at-length}
+use Rattle.ln_algebra.proofs.Derived.{binomial-above, tau-uncovered, tau-covered, factor_at-length}
 use Rattle.ln_algebra.proofs.Degree.{coefficient-above}
 use Rattle.ln_algebra.proofs.Order.{earlier-transitive}
 use Rattle.ln_algebra.specs.Vector.{total_degree}
@@ -29,29 +29,29 @@ within_from p (suc k ∷ a) h = (by_case (p 0) refl, within_from (λ v. p (suc v
   by_case true e = e
   by_case false e = absurd (let z : suc k ≡ 0 = h 0 e in omega arith)
 
+-- what isn't some is none
 pub not_some : {A : Type 0} (o : Option A) → is_some o ≡ false → o ≡ None
 not_some None e = refl
 not_some (Some x) e = cc
 
+-- each vector covers itself
 covers-refl : (a : List ℕ) → covers a a ≡ true
 covers-refl [] = refl
 covers-refl (k ∷ a) = grind (arith, nat_tests, covers-refl a)
 
+-- the difference of a vector and itself is the monomial 1
 minus-same : (x : ℕ → ℤ) (a : List ℕ) → monomial x (minus a a) ≡ pos 1
 minus-same x [] = refl
 minus-same x (k ∷ a) =
     let z : k - k ≡ 0 = omega arith in
     rw z (one_mul (monomial (λ v. x (suc v)) (minus a a)) ∙ minus-same (λ v. x (suc v)) a)
 
-pub binomial-above : (n k : ℕ) → n < k → binomial n k ≡ 0
-binomial-above n zero h = absurd (omega arith)
-binomial-above zero (suc k) h = refl
-binomial-above (suc n) (suc k) h = omega (arith, binomial-above n (suc k) (omega arith), binomial-above n k (omega arith))
-
+-- there is one way to choose all
 binomial-same : (n : ℕ) → binomial n n ≡ 1
 binomial-same zero = refl
 binomial-same (suc n) = omega (arith, binomial-same n, binomial-above n (suc n) (omega arith))
 
+-- the same over all variables
 binomials-same : (a : List ℕ) → binomials a a ≡ 1
 binomials-same [] = refl
 binomials-same (k ∷ a) = let ih : binomials a a ≡ 1 = binomials-same a in rw (binomial-same, ih) refl
@@ -74,14 +74,20 @@ monomial_in n e test (t ∷ g) o = step (monomial_in n e test g o.1) (zero_cases
 abbrev pub of_sites : Sites → ℕ → Bool
 of_sites sites v = is_some (sites.site v)
 
+-- a vector whose coefficient isn't 0 is not above the degree
+pub degree-small : (sites : Sites) (x : ℕ → ℤ) (e : Tree) (a : List ℕ) → perturbed sites x e a ≢ pos 0 → total_degree a ≤ degree_of e
+degree-small sites x e a z = elim (cases_lt (degree_of e) (total_degree a)) [ inl l ↦ absurd (z (coefficient-above (of_sites sites) x e a l)) | inr l ↦ l ]
+
 module _ (n : ℕ) (sites : Sites) (x : ℕ → ℤ) (e : Tree) (below : InputsBelow n e) where
   -- a vector over the variables of sites, as one over a set
   pub within : (a : List ℕ) → IsOver n sites a → Within (of_sites sites) a
   within a o = within_from (of_sites sites) a (λ v h. o.of_sites v (not_some (sites.site v) h))
 
+  -- the perturbed coefficient is a sum over the terms of the expansion
   perturbed_is : (a : List ℕ) → IsOver n sites a → perturbed sites x e a ≡ total (λ m. tau (of_sites sites) x m a) (expanded n e)
   perturbed_is a o = coefficient_is (of_sites sites) x n e below a o.size
 
+  -- a term that covers nothing of a adds nothing
   product_zero : (a k : List ℕ) → IsOver n sites a → (normal_coefficient e k ≢ pos 0 → length k ≡ n → covers k a ≡ false) → factor_at (expanded n e) k *ℤ tau (of_sites sites) x k a ≡ pos 0
   product_zero a k o h = by_length (cases_eq (length k) n) where
     T : ℤ
@@ -123,13 +129,6 @@ module _ (n : ℕ) (sites : Sites) (x : ℕ → ℤ) (e : Tree) (below : InputsB
         one : tau (of_sites sites) x a a ≡ pos 1
         one = tau-covered (of_sites sites) x a a refl (within a o) (covers-refl a) ∙ ap (λ u. pos u *ℤ monomial x (minus a a)) (binomials-same a) ∙ one_mul (monomial x (minus a a)) ∙ minus-same x a
 
-  -- a vector with a coefficient that isn't 0 is covered, and not above the degree
-  degree-small : (a : List ℕ) → perturbed sites x e a ≢ pos 0 → total_degree a ≤ degree_of e
-  degree-small a z = by_case (cases_lt (degree_of e) (total_degree a)) where
-    by_case : (degree_of e < total_degree a) ⊎ (total_degree a ≤ degree_of e) → total_degree a ≤ degree_of e
-    by_case (inl l) = absurd (z (coefficient-above (of_sites sites) x e a l))
-    by_case (inr l) = l
-
   -- a vector whose coefficient isn't 0 is covered
   pub nonzero-covered : (a : List ℕ) → IsOver n sites a → perturbed sites x e a ≢ pos 0 → Covered n e a
   nonzero-covered a o z = by_case (monomial_in n e (λ k. covers k a) (expanded n e) (Over-expanded n e)) where
@@ -143,11 +142,11 @@ module _ (n : ℕ) (sites : Sites) (x : ℕ → ℤ) (e : Tree) (below : InputsB
     cut : (b : List ℕ) → IsOver n sites b → IsLast n e b → Earlier sites b a → ⊥
     cut b o last l =
         let z : perturbed sites x e b ≢ pos 0 = λ q. last.monomial.nonzero (sym (perturbed-last b o last) ∙ q) in
-        z (f.zero_before b o (degree-small b z) l)
+        z (f.zero_before b o (degree-small sites x e b z) l)
 
   -- the first stage whose coefficient isn't 0 is the first vector
   pub stage-first : IndicesDiffer sites → (a : List ℕ) → IsStage n sites e a → perturbed sites x e a ≢ pos 0 → ((b : List ℕ) → IsStage n sites e b → Earlier sites b a → perturbed sites x e b ≡ pos 0) → IsFirst n sites x e a
-  stage-first d a s z h = record { over = s.over; small = degree-small a z; nonzero = z; zero_before = λ b o l r. by_case b o r (zero_cases (perturbed sites x e b)) } where
+  stage-first d a s z h = record { over = s.over; small = degree-small sites x e a z; nonzero = z; zero_before = λ b o l r. by_case b o r (zero_cases (perturbed sites x e b)) } where
     by_case : (b : List ℕ) → IsOver n sites b → Earlier sites b a → (perturbed sites x e b ≡ pos 0) ⊎ (perturbed sites x e b ≡ pos 0 → ⊥) → perturbed sites x e b ≡ pos 0
     by_case b o r (inl q) = q
     by_case b o r (inr q) = h b (record { over = o; covered = nonzero-covered b o q; before_cut = λ c oc last l. s.before_cut c oc last (earlier-transitive sites d c b a l r) }) r

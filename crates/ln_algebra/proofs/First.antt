@@ -3,11 +3,11 @@ use Rattle.std.proofs.Common.{◌≡◌, ◌≢◌, ℕ, ◌+◌, ◌<◌, ◌�
 use Rattle.std.proofs.lemmas.Bool.{and_parts, cases_eq, cases_lt, leb-true}
 use Rattle.std.proofs.lemmas.List.{get_or_past}
 use Rattle.std.proofs.Math.IntN.{ℤ, pos}
-use Rattle.ln_algebra.proofs.Cut.{monomial_in, not_some, of_sites, perturbed-last, within_from}
+use Rattle.ln_algebra.proofs.Cut.{degree-small, monomial_in, not_some, of_sites, perturbed-last, within_from}
 use Rattle.ln_algebra.proofs.Degree.{coefficient-above}
 use Rattle.ln_algebra.proofs.Expansion.{Over-expanded, expanded}
 use Rattle.ln_algebra.proofs.Normal.{everywhere, normal_is, origin, same_vector-is, same_vector-refl, zero_cases}
-use Rattle.ln_algebra.proofs.Order.{earlier-irreflexive, earlier-total, earlier-transitive}
+use Rattle.ln_algebra.proofs.Order.{below_suc, earlier-irreflexive, earlier-total, earlier-transitive}
 use Rattle.ln_algebra.proofs.Walk.{In-append_left, In-append_right}
 use Rattle.ln_algebra.specs.Coefficient.{normal_coefficient}
 use Rattle.ln_algebra.specs.Earlier.{Earlier, IndicesDiffer, IsOver, Sites}
@@ -18,6 +18,7 @@ use Rattle.ln_algebra.specs.Tree.{InputsBelow, Tree, degree_of}
 use Rattle.ln_algebra.specs.Vector.{In, Within, covers, same_vector, total_degree}
 
 -- ---- is a vector over the variables of sites?
+-- a vector is over a set of variables or not
 within_cases : (p : ℕ → Bool) (a : List ℕ) → Within p a ⊎ (Within p a → ⊥)
 within_cases p [] = inl tt
 within_cases p (zero ∷ a) = within_cases (λ v. p (suc v)) a
@@ -35,6 +36,7 @@ within-none p (suc k ∷ a) w zero e = (let f : true ≡ false = sym w.0 ∙ e i
 within-none p (zero ∷ a) w (suc v) e = within-none (λ v. p (suc v)) a w v e
 within-none p (suc k ∷ a) w (suc v) e = within-none (λ v. p (suc v)) a w.1 v e
 
+-- a vector is over the variables of sites or not
 pub over_cases : (n : ℕ) (sites : Sites) (a : List ℕ) → IsOver n sites a ⊎ (IsOver n sites a → ⊥)
 over_cases n sites a = by_case (cases_eq (length a) n) (within_cases (of_sites sites) a) where
   by_case : (length a ≡ n) ⊎ (length a ≡ n → ⊥) → Within (of_sites sites) a ⊎ (Within (of_sites sites) a → ⊥) → IsOver n sites a ⊎ (IsOver n sites a → ⊥)
@@ -43,6 +45,7 @@ over_cases n sites a = by_case (cases_eq (length a) n) (within_cases (of_sites s
   by_case (inl e) (inr d) = inr (λ o. d (within_from (of_sites sites) a (λ v h. o.of_sites v (not_some (sites.site v) h))))
 
 -- ---- all vectors up to a total degree
+-- each number below c before each vector
 abbrev firsts : ℕ → List (List ℕ) → List (List ℕ)
 firsts zero rest = []
 firsts (suc k) rest = map (λ a. k ∷ a) rest ++ firsts k rest
@@ -52,21 +55,21 @@ abbrev vectors_up_to : ℕ → ℕ → List (List ℕ)
 vectors_up_to zero d = [] ∷ []
 vectors_up_to (suc n) d = firsts (suc d) (vectors_up_to n d)
 
+-- a number before a member is a member
 In-map : (k : ℕ) (xs : List (List ℕ)) (a : List ℕ) → In xs a → In (map (λ b. k ∷ b) xs) (k ∷ a)
 In-map k [] a i = absurd i
 In-map k (x ∷ xs) a (inl e) = inl (ap (λ z. k ∷ z) e)
 In-map k (x ∷ xs) a (inr i) = inr (In-map k xs a i)
 
-below_suc : (k w : ℕ) → w < suc k → (w ≡ k) ⊎ (w < k)
-below_suc k w l = elim (cases_lt w k) [ inl m ↦ inr m | inr m ↦ inl (omega arith) ]
-
+-- so is each number below c
 In-firsts : (c k : ℕ) (rest : List (List ℕ)) (a : List ℕ) → k < c → In rest a → In (firsts c rest) (k ∷ a)
 In-firsts zero k rest a l i = absurd (omega arith)
 In-firsts (suc c) k rest a l i = by_case (below_suc c k l) (λ m. In-firsts c k rest a m i) where
-  by_case : (k ≡ c) ⊎ (k < c) → (k < c → In (firsts c rest) (k ∷ a)) → In (firsts (suc c) rest) (k ∷ a)
-  by_case (inl e) ih = In-append_left (map (λ b. c ∷ b) rest) (firsts c rest) (k ∷ a) (let j : In (map (λ b. c ∷ b) rest) (c ∷ a) = In-map c rest a i in rw e j)
-  by_case (inr m) ih = In-append_right (map (λ b. c ∷ b) rest) (firsts c rest) (k ∷ a) (ih m)
+  by_case : (k < c) ⊎ (k ≡ c) → (k < c → In (firsts c rest) (k ∷ a)) → In (firsts (suc c) rest) (k ∷ a)
+  by_case (inr e) ih = In-append_left (map (λ b. c ∷ b) rest) (firsts c rest) (k ∷ a) (let j : In (map (λ b. c ∷ b) rest) (c ∷ a) = In-map c rest a i in rw e j)
+  by_case (inl m) ih = In-append_right (map (λ b. c ∷ b) rest) (firsts c rest) (k ∷ a) (ih m)
 
+-- each vector of n exponents whose total degree is at most d is there
 In-vectors : (n d : ℕ) (a : List ℕ) → length a ≡ n → total_degree a ≤ d → In (vectors_up_to n d) a
 In-vectors zero d [] e l = inl refl
 In-vectors zero d (k ∷ a) e l = absurd (omega arith)
@@ -118,6 +121,7 @@ module _ (n : ℕ) (sites : Sites) (x : ℕ → ℤ) (e : Tree) (differ : Indice
     by_order (inr (inl m)) = record { vector = a; over = o; nonzero = z; before = here (inr m) }
     by_order (inr (inr m)) = record { vector = best.vector; over = best.over; nonzero = best.nonzero; before = there m }
 
+  -- of a list, all are 0 or one is the first that isn't
   best_of : (xs : List (List ℕ)) → AllZero n sites x e xs ⊎ Best n sites x e xs
   best_of [] = inl (λ b i o. absurd i)
   best_of (a ∷ xs) = by_case (over_cases n sites a) (zero_cases (perturbed sites x e a)) (best_of xs) where
@@ -126,17 +130,15 @@ module _ (n : ℕ) (sites : Sites) (x : ℕ → ℤ) (e : Tree) (differ : Indice
     by_case (inr d) z r = best_pass a xs (λ p. absurd (d p)) r
     by_case (inl o) (inr z) r = inr (best_take a xs o z r)
 
-  degree_small : (a : List ℕ) → perturbed sites x e a ≢ pos 0 → total_degree a ≤ degree_of e
-  degree_small a z = elim (cases_lt (degree_of e) (total_degree a)) [ inl l ↦ absurd (z (coefficient-above (of_sites sites) x e a l)) | inr l ↦ l ]
-
   -- where any coefficient isn't 0 there is a first vector
   pub nonzero-first : (b : List ℕ) → IsOver n sites b → perturbed sites x e b ≢ pos 0 → (a : List ℕ) × IsFirst n sites x e a
   nonzero-first b o z = by_case (best_of (vectors_up_to n (degree_of e))) where
     by_case : AllZero n sites x e (vectors_up_to n (degree_of e)) ⊎ Best n sites x e (vectors_up_to n (degree_of e)) → (a : List ℕ) × IsFirst n sites x e a
-    by_case (inl all) = absurd (z (all b (In-vectors n (degree_of e) b o.size (degree_small b z)) o))
-    by_case (inr best) = (best.vector, record { over = best.over; small = degree_small best.vector best.nonzero; nonzero = best.nonzero; zero_before = λ c p s l. best.before c (In-vectors n (degree_of e) c p.size s) p l })
+    by_case (inl all) = absurd (z (all b (In-vectors n (degree_of e) b o.size (degree-small sites x e b z)) o))
+    by_case (inr best) = (best.vector, record { over = best.over; small = degree-small sites x e best.vector best.nonzero; nonzero = best.nonzero; zero_before = λ c p s l. best.before c (In-vectors n (degree_of e) c p.size s) p l })
 
 -- ---- a monomial that no other covers
+-- a vector that covers another is the same or of larger total degree
 covers-degree : (k m : List ℕ) → covers k m ≡ true → (k ≡ m) ⊎ (total_degree m < total_degree k)
 covers-degree [] [] c = inl refl
 covers-degree [] (j ∷ m) c = cc
@@ -148,6 +150,7 @@ covers-degree (n ∷ k) (j ∷ m) c = by_case (leb-true j n (and_parts (leb j n)
   by_case l e (inr s) = inr (omega arith)
 
 module _ (n : ℕ) (e : Tree) (below : InputsBelow n e) where
+  -- no monomial is above the syntactic degree
   monomial-small : (m : List ℕ) → IsMonomial n e m → total_degree m ≤ degree_of e
   monomial-small m mono = elim (cases_lt (degree_of e) (total_degree m)) [ inl l ↦ absurd (mono.nonzero (coefficient-above everywhere origin e m l)) | inr l ↦ l ]
 
@@ -176,6 +179,7 @@ module _ (n : ℕ) (e : Tree) (below : InputsBelow n e) where
   last_from zero m mono l = last_or m mono (λ k mk s. absurd (let t : total_degree k ≤ degree_of e = monomial-small k mk in omega arith))
   last_from (suc left) m mono l = last_or m mono (λ k mk s. last_from left k mk (omega arith))
 
+  -- where there is a monomial, there is one that no other covers
   pub monomial-last : (m : List ℕ) → IsMonomial n e m → (a : List ℕ) × IsLast n e a
   monomial-last m mono = last_from (degree_of e) m mono (omega arith)
 

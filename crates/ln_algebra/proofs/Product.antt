@@ -10,6 +10,7 @@ use Rattle.ln_algebra.specs.Coefficient.{product}
 use Rattle.ln_algebra.specs.Terms.{IsProductOf, Over, Term, derived, factor_at, value}
 use Rattle.ln_algebra.specs.Vector.{splits, sum_over}
 
+-- the coefficients of a product of lists of terms are those of the product of series
 pub factor_at-times : (n : ℕ) (f g : List Term) → Over n f → Over n g → (a : List ℕ) → length a ≡ n → factor_at (times f g) a ≡ product (factor_at f) (factor_at g) a
 factor_at-times n f g o p a h =
     sym (shifted-origin a (times f g) (rw h (Over-times n f g o p)))

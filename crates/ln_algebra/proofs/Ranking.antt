@@ -15,6 +15,7 @@ member (v ∷ vs) w = elim (cases_eq w v) [ inl e ↦ inl (inl e) | inr d ↦ el
 abbrev SameOff : Sites → List ℕ → List ℕ → List ℕ → Type 0
 SameOff sites vs a b = (w s : ℕ) → Of sites w s → (Member vs w → ⊥) → get_or a w 0 ≡ get_or b w 0
 
+-- the first difference along the ranking is the one of the smallest infinitesimal
 lex-earlier : (sites : Sites) (vs a b : List ℕ) → IsRanked sites vs → SameOff sites vs a b → Lex vs a b → Earlier sites a b
 lex-earlier sites [] a b r h l = absurd l
 lex-earlier sites (v ∷ vs) a b r h (inl less) = (v, r.0, r.1, less, λ w k. same w k (cases_eq w v) (member vs w)) where
@@ -27,6 +28,7 @@ lex-earlier sites (v ∷ vs) a b r h (inr l) = lex-earlier sites vs a b r.3 (λ 
   off w s o n (inl e) = rw e l.0
   off w s o n (inr d) = h w s o (λ m. elim m [ inl e ↦ d e | inr i ↦ n i ])
 
+-- and the other way
 earlier-lex : (sites : Sites) (vs a b : List ℕ) → IsRanked sites vs → (v s : ℕ) → Of sites v s → Member vs v → get_or a v 0 < get_or b v 0 → ((w : ℕ) → RanksBefore sites v w → get_or a w 0 ≡ get_or b w 0) → Lex vs a b
 earlier-lex sites [] a b r v s o i less h = absurd i
 earlier-lex sites (u ∷ vs) a b r v s o (inl e) less h = inl (rw e at less)

@@ -11,6 +11,7 @@ use Rattle.ln_algebra.specs.Tree.{Tree}
 use Rattle.ln_algebra.specs.Vector.{In, how_many, plus, same_vector}
 
 -- ---- sums
+-- the exponent of a sum is the sum of the exponents
 get_or-plus : (a c : List ℕ) (v : ℕ) → length a ≡ length c → get_or (plus a c) v 0 ≡ get_or a v 0 + get_or c v 0
 get_or-plus [] [] v e = refl
 get_or-plus [] (k ∷ c) v e = absurd (omega arith)
@@ -24,6 +25,7 @@ earlier-plus sites a b c i j (v, s, o, l, h) =
     (v, s, o, omega (arith, l, get_or-plus a c v i, get_or-plus b c v j), λ w r. get_or-plus a c w i ∙ ap (λ z. z + get_or c w 0) (h w r) ∙ sym (get_or-plus b c w j))
 
 -- ---- one first vector, and one sign
+-- two first vectors are one
 pub first-unique : (n : ℕ) (sites : Sites) (x : ℕ → ℤ) (e : Tree) (a b : List ℕ) → IndicesDiffer sites → IsFirst n sites x e a → IsFirst n sites x e b → a ≡ b
 first-unique n sites x e a b d f g = by_case (earlier-total sites d n a b f.over g.over) where
   by_case : (a ≡ b) ⊎ (Earlier sites a b ⊎ Earlier sites b a) → a ≡ b
@@ -31,6 +33,7 @@ first-unique n sites x e a b d f g = by_case (earlier-total sites d n a b f.over
   by_case (inr (inl l)) = absurd (f.nonzero (g.zero_before a f.over f.small l))
   by_case (inr (inr l)) = absurd (g.nonzero (f.zero_before b g.over g.small l))
 
+-- two perturbed signs are one
 pub sign-unique : (n : ℕ) (sites : Sites) (x : ℕ → ℤ) (e : Tree) (s t : ℤ) → IndicesDiffer sites → IsPerturbedSign n sites x e s → IsPerturbedSign n sites x e t → s ≡ t
 sign-unique n sites x e s t d (inl (a, f, p)) (inl (b, g, q)) = p ∙ ap (λ z. sign_of (perturbed sites x e z)) (first-unique n sites x e a b d f g) ∙ sym q
 sign-unique n sites x e s t d (inl (a, f, p)) (inr (none, q)) = absurd (none a f)
@@ -38,6 +41,7 @@ sign-unique n sites x e s t d (inr (none, p)) (inl (b, g, q)) = absurd (none b g
 sign-unique n sites x e s t d (inr (none, p)) (inr (other, q)) = p ∙ sym q
 
 -- ---- one list in order has given members
+-- two lists in order with the same members are one
 lists-same : (sites : Sites) → IndicesDiffer sites → (xs ys : List (List ℕ)) → IsInOrder sites xs → IsInOrder sites ys → ((a : List ℕ) → In xs a → In ys a) → ((a : List ℕ) → In ys a → In xs a) → xs ≡ ys
 lists-same sites d [] [] s t h k = refl
 lists-same sites d [] (y ∷ ys) s t h k = absurd (k y (inl refl))
@@ -61,6 +65,7 @@ lists-same sites d (x ∷ xs) (y ∷ ys) s t h k =
       up a i (inl q) = absurd (earlier-irreflexive sites y (let l : Earlier sites y a = t.0 a i in let z : a ≡ y = q ∙ heads in rw z at l))
       up a i (inr j) = j
 
+-- two stage lists are one
 pub stage_list-unique : (n : ℕ) (sites : Sites) (e : Tree) (xs ys : List (List ℕ)) → IndicesDiffer sites → IsStageList n sites e xs → IsStageList n sites e ys → xs ≡ ys
 stage_list-unique n sites e xs ys d s t = lists-same sites d xs ys s.in_order t.in_order (λ a i. t.all a (s.stages a i)) (λ a i. s.all a (t.stages a i))
 
@@ -72,6 +77,7 @@ none_of sites a (x ∷ xs) h = by_case (same_vector x a) refl (none_of sites a x
   by_case true e ih = absurd (earlier-irreflexive sites a (let q : x ≡ a = same_vector-is x a e in let l : Earlier sites a x = h x (inl refl) in rw q at l))
   by_case false e ih = omega (arith, ints, ih)
 
+-- a member of a list in order is there once
 pub in_order-once : (sites : Sites) (xs : List (List ℕ)) (a : List ℕ) → IsInOrder sites xs → In xs a → how_many (λ b. same_vector b a) xs ≡ pos 1
 in_order-once sites [] a s i = absurd i
 in_order-once sites (x ∷ xs) a s (inl q) =

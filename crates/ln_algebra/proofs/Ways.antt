@@ -8,7 +8,7 @@ use Rattle.ln_algebra.proofs.Expansion.{length-plus, length-zeros}
 use Rattle.ln_algebra.proofs.Normal.{same_vector-refl}
 use Rattle.ln_algebra.proofs.Shift.{sum_splits-within}
 use Rattle.ln_algebra.proofs.Splits.{one_if, one_if-and, same_vector-differ, splits_count}
-use Rattle.ln_algebra.proofs.Sums.{sum_over-append, sum_over-map, sum_over-same, sum_over-scale, sum_splits, sum_splits_is}
+use Rattle.ln_algebra.proofs.Sums.{sum_over-append, sum_over-map, sum_over-same, sum_over-scale, sum_over-zero, sum_splits, sum_splits_is}
 use Rattle.ln_algebra.proofs.Taylor.{sum_splits-zero}
 use Rattle.ln_algebra.specs.Vector.{IsWay, OfSize, how_many, is_zero, plus, same_vector, same_vectors, splits, spread, sum_of, sum_over, ways, zeros}
 
@@ -26,20 +26,24 @@ pub sum_ways : (h : List (List ℕ) → ℤ) (k : ℕ) (a : List ℕ) → sum_ov
 sum_ways h k a = sum_spread h (ways k) (splits a) ∙ sum_splits_is a (λ b r. sum_over (λ bs. h (b ∷ bs)) (ways k r))
 
 -- ---- how often a list of vectors is there
+-- the test of numbers goes both ways
 eqb-sym : (n k : ℕ) → eqb n k ≡ eqb k n
 eqb-sym n k = grind (arith, nat_tests)
 
+-- so does that of vectors
 same_vector-sym : (a b : List ℕ) → same_vector a b ≡ same_vector b a
 same_vector-sym [] [] = refl
 same_vector-sym [] (k ∷ b) = refl
 same_vector-sym (n ∷ a) [] = refl
 same_vector-sym (n ∷ a) (k ∷ b) = ap (λ z. z && same_vector a b) (eqb-sym n k) ∙ ap (λ z. eqb k n && z) (same_vector-sym a b)
 
+-- a vector is the vector of zeros or it isn't
 zeros-is_zero : (a : List ℕ) → is_zero a ≡ same_vector (zeros (length a)) a
 zeros-is_zero [] = refl
 zeros-is_zero (zero ∷ a) = zeros-is_zero a
 zeros-is_zero (suc n ∷ a) = let e : eqb 0 (suc n) ≡ false = grind (arith, nat_tests) in rw e refl
 
+-- a sum has n exponents
 length-sum_of : (n : ℕ) (bs : List (List ℕ)) → OfSize n bs → length (sum_of n bs) ≡ n
 length-sum_of n [] o = length-zeros n
 length-sum_of n (b ∷ bs) o = let ih : length (sum_of n bs) ≡ n = length-sum_of n bs o.1 in length-plus b (sum_of n bs) (o.0 ∙ sym ih) ∙ ih
@@ -52,6 +56,7 @@ count-first b bs k a =
     (λ u r i j. sum_over-same (λ cs. one_if (same_vector u b && same_vectors cs bs)) (λ cs. one_if (same_vector u b) *ℤ one_if (same_vectors cs bs)) (ways k r) (λ cs. one_if-and (same_vector u b) (same_vectors cs bs))
     ∙ sum_over-scale (one_if (same_vector u b)) (λ cs. one_if (same_vectors cs bs)) (ways k r))
 
+-- of k vectors of the right size: once where the sum is a, else not at all
 ways_count : (k : ℕ) (a : List ℕ) (bs : List (List ℕ)) → length bs ≡ k → OfSize (length a) bs → how_many (λ cs. same_vectors cs bs) (ways k a) ≡ one_if (same_vector (sum_of (length a) bs) a)
 ways_count zero a [] e o = by_case (is_zero a) ∙ ap one_if (zeros-is_zero a) where
   by_case : (z : Bool) → how_many (λ cs. same_vectors cs []) (if z then ([] ∷ []) else []) ≡ one_if z
@@ -79,11 +84,8 @@ ways-bad n zero a (b ∷ bs) e h = by_case (is_zero a) where
   by_case false = refl
 ways-bad n (suc k) a [] e h =
     sum_ways (λ cs. one_if (same_vectors cs [])) k a
-    ∙ sum_splits-within a (λ u r. sum_over (λ cs. pos 0) (ways k r)) (λ u r. pos 0) (λ u r i j. none (ways k r))
-    ∙ sum_splits-zero a where
-      none : (xs : List (List (List ℕ))) → sum_over (λ cs. pos 0) xs ≡ pos 0
-      none [] = refl
-      none (x ∷ xs) = omega (arith, ints, none xs)
+    ∙ sum_splits-within a (λ u r. sum_over (λ cs. pos 0) (ways k r)) (λ u r. pos 0) (λ u r i j. sum_over-zero (ways k r))
+    ∙ sum_splits-zero a
 ways-bad n (suc k) a (b ∷ bs) e h =
     count-first b bs k a
     ∙ sum_splits-within a (λ u r. one_if (same_vector u b) *ℤ how_many (λ cs. same_vectors cs bs) (ways k r)) (λ u r. pos 0) (λ u r i j. by_size u r (i ∙ e) (cases_eq (length b) n) (λ q. ways-bad n k r bs (j ∙ e) (λ l o. h (ap suc l) (q, o))))
@@ -95,6 +97,7 @@ ways-bad n (suc k) a (b ∷ bs) e h =
           let z : pos 0 *ℤ H ≡ pos 0 = omega (arith, ints) in
           ap (λ y. one_if y *ℤ H) (same_vector-differ u b (λ q. d (ap length (sym q) ∙ i))) ∙ z
 
+-- vectors have the right size or not
 of_size_cases : (n : ℕ) (bs : List (List ℕ)) → OfSize n bs ⊎ (OfSize n bs → ⊥)
 of_size_cases n [] = inl tt
 of_size_cases n (b ∷ bs) = by_case (cases_eq (length b) n) (of_size_cases n bs) where
@@ -103,9 +106,11 @@ of_size_cases n (b ∷ bs) = by_case (cases_eq (length b) n) (of_size_cases n bs
   by_case (inr d) o = inr (λ h. d h.0)
   by_case (inl e) (inr d) = inr (λ h. d h.1)
 
+-- a way is there once
 ways-once : (k : ℕ) (a : List ℕ) (bs : List (List ℕ)) → IsWay k a bs → how_many (λ cs. same_vectors cs bs) (ways k a) ≡ pos 1
 ways-once k a bs w = ways_count k a bs w.count w.sizes ∙ ap one_if (ap (λ z. same_vector z a) w.sum ∙ same_vector-refl a)
 
+-- what is no way isn't there
 ways-none : (k : ℕ) (a : List ℕ) (bs : List (List ℕ)) → (IsWay k a bs → ⊥) → how_many (λ cs. same_vectors cs bs) (ways k a) ≡ pos 0
 ways-none k a bs h = by_case (cases_eq (length bs) k) (of_size_cases (length a) bs) where
   by_case : (length bs ≡ k) ⊎ (length bs ≡ k → ⊥) → OfSize (length a) bs ⊎ (OfSize (length a) bs → ⊥) → how_many (λ cs. same_vectors cs bs) (ways k a) ≡ pos 0

@@ -17,6 +17,7 @@ use Rattle.ln_algebra.specs.WeightLaw.{CoversEach}
 use Rattle.ln_algebra.specs.Vector.{covered_by, splits, sum_over}
 use Rattle.ln_algebra.specs.Weights.{monomial_weight, weighted_sum}
 
+-- all powers of e together are the value at e = 1
 taylor-sum : (x : ℤ) (n b : ℕ) → n ≤ b → sum_parts b (λ k l. taylor x n k) ≡ power_of (x +ℤ pos 1) n
 taylor-sum x zero zero h = refl
 taylor-sum x zero (suc b) h = omega (arith, ints, sum_parts-zero b)
@@ -31,6 +32,7 @@ taylor-sum x (suc n) (suc b) h =
     let spread : (x +ℤ pos 1) *ℤ P ≡ x *ℤ P +ℤ P = omega (arith, ints, mul_comm (x +ℤ pos 1) P, mul_add P x (pos 1), mul_comm P x, mul_one P) in
     omega (arith, ints, split, spread, mul_add x (taylor x n 0) upper, ap (λ z. x *ℤ z) whole)
 
+-- the same for a monomial
 tau-sum : (x : ℕ → ℤ) (m bound : List ℕ) → length m ≡ length bound → covers bound m ≡ true → sum_splits bound (λ a c. tau everywhere x m a) ≡ monomial (λ v. x v +ℤ pos 1) m
 tau-sum x [] [] e h = refl
 tau-sum x [] (b ∷ bound) e h = absurd (omega arith)
@@ -46,6 +48,7 @@ tau-sum x (n ∷ m) (b ∷ bound) e h =
     ∙ ap (λ z. M *ℤ z) (taylor-sum (x 0) n b l)
     ∙ mul_comm M (power_of (x 0 +ℤ pos 1) n)
 
+-- and for a list of terms
 shifted-sum : (x : ℕ → ℤ) (bound : List ℕ) (f : List Term) → Over (length bound) f → CoversEach bound f → sum_splits bound (λ a c. shifted everywhere x a f) ≡ value (λ v. x v +ℤ pos 1) f
 shifted-sum x bound [] o h = sum_splits-zero bound
 shifted-sum x bound (t ∷ f) o h =
@@ -60,30 +63,37 @@ derived-sum x bound f o h =
     ∙ shifted-sum x bound f o h
 
 -- ---- the same for absolute coefficients
+-- each factor without its sign
 abbrev pub absolute : List Term → List Term
 absolute [] = []
 absolute (t ∷ f) = record { exponents = t.exponents; factor = pos (unsigned_abs t.factor) } ∷ absolute f
 
+-- powers of numbers that aren't negative
 power_pos : (w n : ℕ) → power_of (pos w) n ≡ pos (w ^ n)
 power_pos w zero = rw pow-zero refl
 power_pos w (suc n) = ap (λ z. pos w *ℤ z) (power_pos w n) ∙ ap pos (let e : w * w ^ n ≡ w ^ n * w = omega arith in e ∙ sym (pow-suc w n))
 
+-- and monomials
 monomial_pos : (w : ℕ → ℕ) (m : List ℕ) → monomial (λ v. pos (w v)) m ≡ pos (monomial_weight w m)
 monomial_pos w [] = refl
 monomial_pos w (n ∷ m) = rw (power_pos (w 0) n, monomial_pos (λ v. w (suc v)) m) refl
 
+-- the weighted sum is the value at the weights
 value_absolute : (w : ℕ → ℕ) (f : List Term) → value (λ v. pos (w v)) (absolute f) ≡ pos (weighted_sum w f)
 value_absolute w [] = refl
 value_absolute w (t ∷ f) = rw (monomial_pos w t.exponents, value_absolute w f) refl
 
+-- the exponents stay
 over_absolute : (n : ℕ) (f : List Term) → Over n f → Over n (absolute f)
 over_absolute n [] o = tt
 over_absolute n (t ∷ f) o = (o.0, over_absolute n f o.1)
 
+-- the exponents stay covered
 below_absolute : (bound : List ℕ) (f : List Term) → CoversEach bound f → CoversEach bound (absolute f)
 below_absolute bound [] o = tt
 below_absolute bound (t ∷ f) o = (o.0, below_absolute bound f o.1)
 
+-- the derivative without signs is the derivative without signs
 derived_absolute : (a : List ℕ) (f : List Term) → derived a (absolute f) ≡ absolute (derived a f)
 derived_absolute a [] = refl
 derived_absolute a (t ∷ f) = by_case (covers t.exponents a) refl (derived_absolute a f) where

@@ -10,7 +10,8 @@ use Rattle.ln_algebra.specs.Tree.{InputsBelow, Tree, degree_of, multiplied}
 pub use Rattle.ln_algebra.specs.Vector.{Within}
 pub use Rattle.ln_algebra.specs.Terms.{IsNormalOf}
 
--- The coefficient of a product of any number of factors is the sum, over all ways to write the vector as a sum of one vector for each factor, of the product of the factors' coefficients at these vectors.
+-- The coefficient of a product of any number of factors is the sum, over all ways to write the vector as a sum of one vector for each factor,
+-- of the product of the factors' coefficients at these vectors.
 abbrev pub ProductsAreSumsOverWays : Type 0
 ProductsAreSumsOverWays =
     (p : ℕ → Bool) (x : ℕ → ℤ) (e : Tree) (es : List Tree) (a : List ℕ) →

@@ -40,16 +40,17 @@ of_points px py qx qy = px ∷ py ∷ qx ∷ qy ∷ 0 ∷ 0 ∷ []
 abbrev pub CoefficientOfPy : Type 0
 CoefficientOfPy = (x : ℕ → ℤ) → perturbed (three_points 1 2 3) x orientation (of_points 0 1 0 0) ≡ x 4 -ℤ x 2
 
--- On the collinear points (0, 0), (1, 1), (2, 2) the value is 0 and the coefficient of p.y is 1.
+-- The row of the collinear points (0, 0), (1, 1), (2, 2).
 abbrev pub collinear : ℕ → ℤ
 collinear = values (pos 0 ∷ pos 0 ∷ pos 1 ∷ pos 1 ∷ pos 2 ∷ pos 2 ∷ [])
 
+-- There the value is 0 and the coefficient of p.y is 1.
 abbrev pub CollinearCoefficients : Type 0
 CollinearCoefficients =
     (perturbed (three_points 1 2 3) collinear orientation (of_points 0 0 0 0) ≡ pos 0)
     × (perturbed (three_points 1 2 3) collinear orientation (of_points 0 1 0 0) ≡ pos 1)
 
--- The normal polynomial of the orientation has six terms; the products of r.x and r.y cancel.
+-- p.x*q.y - p.x*r.y - q.y*r.x - p.y*q.x + p.y*r.x + q.x*r.y
 abbrev pub six_terms : List Term
 six_terms =
     record { exponents = of_points 1 0 0 1; factor = pos 1 }
@@ -60,6 +61,7 @@ six_terms =
     ∷ record { exponents = 0 ∷ 0 ∷ 1 ∷ 0 ∷ 0 ∷ 1 ∷ []; factor = pos 1 }
     ∷ []
 
+-- These are the normal polynomial of the orientation: the products of r.x and r.y cancel.
 abbrev pub SixTermsAreNormal : Type 0
 SixTermsAreNormal = IsNormalOf 6 orientation six_terms × IsCollected six_terms
 
@@ -79,7 +81,8 @@ DerivativeOfOrientation =
     ≡ record { exponents = of_points 0 0 1 0; factor = negsuc 0 } ∷ record { exponents = 0 ∷ 0 ∷ 0 ∷ 0 ∷ 1 ∷ 0 ∷ []; factor = pos 1 } ∷ []
 
 -- ---- the order
--- p has the smaller index, and p.y is declared after p.x: so p.y has the largest infinitesimal of all, and its vector comes before those of the other variables. Where the first coordinate were the largest, p.x would come first.
+-- p has the smallest index, and p.y is declared last: so p.y has the largest infinitesimal, and its vector is the earliest but 0.
+-- Were the first coordinate the largest, p.x would come first.
 abbrev pub LastCoordinateIsLargest : Type 0
 LastCoordinateIsLargest =
     Earlier (three_points 1 2 3) (of_points 0 1 0 0) (of_points 1 0 0 0)
@@ -90,17 +93,21 @@ LastCoordinateIsLargest =
 abbrev pub IndicesDecide : Type 0
 IndicesDecide = Earlier (three_points 2 1 3) (of_points 0 0 0 1) (of_points 0 1 0 0)
 
--- One site with the coordinates x, y in that order: x has the smallest infinitesimal, in which x*y has the smaller exponent; so x*y is earlier than x^2. Compared from the largest, y, it would be the other way round.
+-- One site with the coordinates x, y in that order.
 abbrev pub one_point : Sites
 one_point = sites_of (Some 0 ∷ Some 0 ∷ []) (1 ∷ [])
 
+-- x has the smaller infinitesimal, and x*y has the smaller exponent in it: so x*y is earlier than x^2.
+-- Compared from the largest infinitesimal, that of y, it would be the other way round.
 abbrev pub SmallestInfinitesimalDecides : Type 0
 SmallestInfinitesimalDecides = Earlier one_point (1 ∷ 1 ∷ []) (2 ∷ 0 ∷ []) × (Earlier one_point (2 ∷ 0 ∷ []) (1 ∷ 1 ∷ []) → ⊥)
 
--- ---- a^2 - b^2 of two numbers a, b
+-- ---- two numbers a, b
+-- a^2 - b^2
 abbrev pub squares : Tree
 squares = Sub (Pow (Input 0) 2) (Pow (Input 1) 2)
 
+-- Two numbers with these indices.
 abbrev pub two_numbers : ℕ → ℕ → Sites
 two_numbers a b = sites_of (Some 0 ∷ Some 1 ∷ []) (a ∷ b ∷ [])
 
@@ -118,10 +125,12 @@ SignsOfSquares =
     × IsPerturbedSign 2 (two_numbers 1 2) (values (pos 0 ∷ pos 0 ∷ [])) squares (pos 1)
     × IsPerturbedSign 2 (two_numbers 2 1) (values (pos 0 ∷ pos 0 ∷ [])) squares (negsuc 0)
 
--- ---- c*a + b of two numbers a, b and a param c; the variables are a, b, c
+-- ---- two numbers a, b and a param c
+-- c*a + b; the variables are a, b, c.
 abbrev pub scaled_sum : Tree
 scaled_sum = Add (Mul (Input 2) (Input 0)) (Input 1)
 
+-- Two numbers and a param; a has the smaller index.
 abbrev pub two_and_param : Sites
 two_and_param = sites_of (Some 0 ∷ Some 1 ∷ None ∷ []) (1 ∷ 2 ∷ [])
 
@@ -133,10 +142,12 @@ StagesPastAParam = IsStageList 3 two_and_param scaled_sum ((0 ∷ 0 ∷ 0 ∷ []
 abbrev pub SignPastAParam : Type 0
 SignPastAParam = IsPerturbedSign 3 two_and_param (values (pos 7 ∷ pos 0 ∷ pos 0 ∷ [])) scaled_sum (pos 1)
 
--- ---- c*a of a number a and a param c
+-- ---- a number a and a param c
+-- c*a; the variables are a, c.
 abbrev pub with_param : Tree
 with_param = Mul (Input 1) (Input 0)
 
+-- A number and a param.
 abbrev pub one_and_param : Sites
 one_and_param = sites_of (Some 0 ∷ None ∷ []) (1 ∷ [])
 
