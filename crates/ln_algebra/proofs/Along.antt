@@ -1,5 +1,5 @@
 -- The sign found along the stage list is the perturbed sign.
-use Rattle.std.proofs.Common.{◌≡◌, ◌≢◌, ℕ, zero, suc, refl, sym, ◌∙◌, ap, List, [], ◌∷◌, ◌⊎◌, inl, inr}
+use Rattle.std.proofs.Common.{◌≡◌, ◌≢◌, ℕ, zero, suc, refl, ◌∙◌, ap, List, [], ◌∷◌, ◌⊎◌, inl, inr}
 use Rattle.std.proofs.Math.IntN.{ℤ, pos, negsuc}
 use Rattle.ln_algebra.proofs.Cut.{first-stage, stage-first}
 use Rattle.ln_algebra.proofs.Normal.{zero_cases}

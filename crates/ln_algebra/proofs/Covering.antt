@@ -1,5 +1,5 @@
 -- Vectors that one vector covers, and the coefficients of scaled derivatives.
-use Rattle.std.proofs.Common.{◌≡◌, ℕ, ◌+◌, ◌-◌, zero, suc, refl, sym, ◌∙◌, ap, arith, List, [], ◌∷◌, length, Bool, true, false, ◌&&◌, if◌then◌else◌, eqb, leb}
+use Rattle.std.proofs.Common.{◌≡◌, ℕ, ◌+◌, ◌-◌, suc, refl, sym, ◌∙◌, ap, arith, List, [], ◌∷◌, length, Bool, true, false, ◌&&◌, if◌then◌else◌, eqb, leb}
 use Rattle.std.proofs.lemmas.Bool.{and_parts}
 use Rattle.std.proofs.lemmas.Bool.Decides.{nat_tests}
 use Rattle.std.proofs.lemmas.Int.{ints}
@@ -8,7 +8,7 @@ use Rattle.ln_algebra.proofs.Degree.{sum_splits-on}
 use Rattle.ln_algebra.proofs.Normal.{same_vector-is, same_vector-refl}
 use Rattle.ln_algebra.proofs.Ring.{mul_add, mul_comm}
 use Rattle.ln_algebra.proofs.Splits.{one_if, splits_count}
-use Rattle.ln_algebra.proofs.Sums.{sum_over-map, sum_splits, sum_splits_is}
+use Rattle.ln_algebra.proofs.Sums.{sum_over-map, sum_splits_is}
 use Rattle.ln_algebra.specs.Terms.{Over, Term, binomials, derived, factor_at}
 use Rattle.ln_algebra.specs.Vector.{IsSplit, covered_by, covers, how_many, minus, plus, same_vector, splits}
 

@@ -1,8 +1,8 @@
 -- Tests by which the premises of worked values are computed: rankings, monomials, indices that differ.
-use Rattle.std.proofs.Common.{◌≡◌, ◌≢◌, ℕ, ◌<◌, ◌≤◌, zero, suc, refl, sym, ◌∙◌, ap, arith, List, [], ◌∷◌, length, get_or, Bool, true, false, not, ◌&&◌, ◌||◌, eqb, ltb, Option, Some, None, is_some, is_none, if◌then◌else◌, ◌⊎◌, inl, inr}
+use Rattle.std.proofs.Common.{◌≡◌, ◌≢◌, ℕ, ◌<◌, ◌≤◌, zero, suc, refl, sym, ◌∙◌, ap, arith, List, [], ◌∷◌, length, get_or, Bool, true, false, not, ◌&&◌, ◌||◌, eqb, ltb, Option, Some, None, is_some, is_none, ◌⊎◌, inl, inr}
 use Rattle.std.proofs.lemmas.Int.{ints}
 use Rattle.std.proofs.lemmas.Bool.{and_parts, cases_lt, or_cases, eq-eqb, eqb-true, ltb-true}
-use Rattle.std.proofs.Math.IntN.{ℤ, pos, negsuc, ◌+ℤ◌}
+use Rattle.std.proofs.Math.IntN.{ℤ, pos, negsuc}
 use Rattle.ln_algebra.proofs.Expansion.{expanded}
 use Rattle.ln_algebra.proofs.Normal.{normal_is, same_vector-is}
 use Rattle.ln_algebra.proofs.Ranking.{lex-is}

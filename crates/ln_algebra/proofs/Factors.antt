@@ -5,8 +5,8 @@ use Rattle.std.proofs.lemmas.List.{length-map}
 use Rattle.std.proofs.Math.IntN.{ℤ, pos, ◌+ℤ◌, ◌*ℤ◌}
 use Rattle.ln_algebra.proofs.Ring.{choose_times, mul_assoc, mul_comm}
 use Rattle.ln_algebra.proofs.Shift.{product_is}
-use Rattle.ln_algebra.proofs.Sums.{sum_over-same, sum_over-scale, sum_parts, sum_splits, sum_splits_is}
-use Rattle.ln_algebra.proofs.Taylor.{sum_parts-add, sum_parts-same, sum_parts-zero, sum_splits-add, sum_splits-same, sum_splits-scale, sum_splits-zero}
+use Rattle.ln_algebra.proofs.Sums.{sum_over-scale, sum_parts, sum_splits}
+use Rattle.ln_algebra.proofs.Taylor.{sum_parts-add, sum_parts-same, sum_splits-add, sum_splits-same, sum_splits-scale, sum_splits-zero}
 use Rattle.ln_algebra.proofs.Ways.{sum_ways}
 use Rattle.ln_algebra.specs.Coefficient.{Series, coefficient, constant, product, product_at}
 use Rattle.ln_algebra.specs.Tree.{Mul, Tree, multiplied}
@@ -17,9 +17,12 @@ use Rattle.ln_algebra.specs.Vector.{is_zero, is_zero_number, sum_over, ways}
 sum_parts-assoc : (n : ℕ) (f : ℕ → ℕ → ℕ → ℤ) → sum_parts n (λ i j. sum_parts i (λ u v. f u v j)) ≡ sum_parts n (λ u r. sum_parts r (λ v j. f u v j))
 sum_parts-assoc zero f = refl
 sum_parts-assoc (suc n) f =
-    omega (arith, ints,
-    sum_parts-add n (λ i j. f 0 (suc i) j) (λ i j. sum_parts i (λ u v. f (suc u) v j)),
-    sum_parts-assoc n (λ u v j. f (suc u) v j))
+    omega (
+      arith,
+      ints,
+      sum_parts-add n (λ i j. f 0 (suc i) j) (λ i j. sum_parts i (λ u v. f (suc u) v j)),
+      sum_parts-assoc n (λ u v j. f (suc u) v j),
+    )
 
 -- the two sums change places
 sum_splits-parts : (a : List ℕ) (n : ℕ) (f : ℕ → ℕ → List ℕ → List ℕ → ℤ) → sum_splits a (λ b c. sum_parts n (λ i j. f i j b c)) ≡ sum_parts n (λ i j. sum_splits a (f i j))

@@ -1,15 +1,15 @@
 -- The walk over the variables of sites, by rising infinitesimal, gives the stage list.
-use Rattle.std.proofs.Common.{◌≡◌, ◌≢◌, ℕ, ◌<◌, ◌≤◌, zero, suc, refl, sym, ◌∙◌, ap, arith, List, [], ◌∷◌, length, get_or, Bool, true, false, leb, Option, Some, None, ◌⊎◌, inl, inr}
-use Rattle.std.proofs.lemmas.Bool.{and_parts, cases_eq, le-leb, leb-true}
+use Rattle.std.proofs.Common.{◌≡◌, ℕ, ◌<◌, ◌≤◌, zero, suc, refl, sym, ◌∙◌, arith, List, [], ◌∷◌, length, get_or, Bool, true, leb, Option, Some, None, ◌⊎◌, inl, inr}
+use Rattle.std.proofs.lemmas.Bool.{and_parts, le-leb, leb-true}
 use Rattle.ln_algebra.proofs.Expansion.{length-zeros}
 use Rattle.ln_algebra.proofs.Order.{before-irreflexive}
 use Rattle.ln_algebra.proofs.Ranking.{lex-is, member}
 use Rattle.ln_algebra.proofs.Walk.{CoversOn, Distinct, Fresh, Inside, Last, Lex, Listing, Region, Sorted, listing-walk}
 use Rattle.ln_algebra.proofs.Walk as walk_of
-use Rattle.ln_algebra.specs.Earlier.{Earlier, IsInOrder, IsOver, Of, RanksBefore, Sites}
-use Rattle.ln_algebra.specs.Stage.{Covered, IsLast, IsMonomial, IsStage, IsStageList}
+use Rattle.ln_algebra.specs.Earlier.{Earlier, IsInOrder, IsOver, Of, Sites}
+use Rattle.ln_algebra.specs.Stage.{Covered, IsLast, IsMonomial, IsStageList}
 use Rattle.ln_algebra.specs.Tree.{Tree}
-use Rattle.ln_algebra.specs.Vector.{In, covers, zeros}
+use Rattle.ln_algebra.specs.Vector.{covers, zeros}
 use Rattle.ln_algebra.specs.Walk.{AllBelow, AreMonomials, IsRanked, IsRanking, Member, walk}
 
 -- ---- covers, variable by variable

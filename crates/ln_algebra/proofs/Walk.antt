@@ -1,5 +1,5 @@
 -- The depth-first walk over the exponents gives the stage list.
-use Rattle.std.proofs.Common.{◌≡◌, ◌≢◌, ℕ, ◌+◌, ◌<◌, ◌≤◌, zero, suc, refl, sym, ◌∙◌, ap, arith, List, [], ◌∷◌, ◌++◌, length, get_or, set, Bool, true, false, ◌&&◌, if◌then◌else◌, leb, ◌⊎◌, inl, inr}
+use Rattle.std.proofs.Common.{◌≡◌, ◌≢◌, ℕ, ◌+◌, ◌<◌, ◌≤◌, zero, suc, refl, sym, ◌∙◌, ap, arith, List, [], ◌∷◌, ◌++◌, length, get_or, set, Bool, true, false, leb, ◌⊎◌, inl, inr}
 use Rattle.std.proofs.lemmas.Bool.{cases_order, cases_eq, leb-true, le-leb, and_parts}
 use Rattle.std.proofs.lemmas.Grind.{same_number_lists}
 use Rattle.std.proofs.lemmas.List.{get_or-set_same, get_or-set_other}

@@ -10,7 +10,7 @@ use Rattle.ln_algebra.proofs.Shift.{sum_splits-within}
 use Rattle.ln_algebra.proofs.Splits.{one_if, one_if-and, same_vector-differ, splits_count}
 use Rattle.ln_algebra.proofs.Sums.{sum_over-append, sum_over-map, sum_over-same, sum_over-scale, sum_over-zero, sum_splits, sum_splits_is}
 use Rattle.ln_algebra.proofs.Taylor.{sum_splits-zero}
-use Rattle.ln_algebra.specs.Vector.{IsWay, OfSize, how_many, is_zero, plus, same_vector, same_vectors, splits, spread, sum_of, sum_over, ways, zeros}
+use Rattle.ln_algebra.specs.Vector.{IsWay, OfSize, how_many, is_zero, same_vector, same_vectors, splits, spread, sum_of, sum_over, ways, zeros}
 
 -- ---- sums over all ways
 -- the sum over the ways behind each split

@@ -1,5 +1,5 @@
 -- The worked values, computed by the definitions.
-use Rattle.std.proofs.Common.{◌≡◌, ℕ, refl, sym, ◌∙◌, ap, arith, List, [], ◌∷◌, length, Bool, true, false, Option, Some, None, if◌then◌else◌, inl, inr}
+use Rattle.std.proofs.Common.{◌≡◌, ℕ, refl, sym, ◌∙◌, arith, List, [], ◌∷◌, Bool, true, false, Some, None, if◌then◌else◌, inl, inr}
 use Rattle.std.proofs.lemmas.Int.{ints}
 use Rattle.std.proofs.Math.IntN.{ℤ, pos, negsuc, ◌+ℤ◌}
 use Rattle.ln_algebra.proofs.Along.{sign-along}
@@ -8,7 +8,6 @@ use Rattle.ln_algebra.proofs.Expansion.{expanded}
 use Rattle.ln_algebra.proofs.Normal.{normal_is}
 use Rattle.ln_algebra.proofs.Order.{earlier-asymmetric}
 use Rattle.ln_algebra.specs.Earlier.{Earlier, IndicesDiffer}
-use Rattle.ln_algebra.specs.Sign.{IsPerturbedSign, perturbed, sign_along}
 use Rattle.ln_algebra.specs.Stage.{IsStageList}
 use Rattle.ln_algebra.specs.Terms.{factor_at}
 use Rattle.ln_algebra.specs.Tree.{InputsBelow}
@@ -84,11 +83,12 @@ points_differ_qpr = differ-by (Some 0 ∷ Some 0 ∷ Some 1 ∷ Some 1 ∷ Some 
 
 -- the signs of four rows
 pub signs_of_squares : SignsOfSquares
-signs_of_squares =
-    (sign-along 2 (two_numbers 1 2) squares (values (pos 3 ∷ pos 3 ∷ [])) _ squares_below numbers_differ_a squares_a,
-    sign-along 2 (two_numbers 1 2) squares (values (negsuc 2 ∷ negsuc 2 ∷ [])) _ squares_below numbers_differ_a squares_a,
-    sign-along 2 (two_numbers 1 2) squares (values (pos 0 ∷ pos 0 ∷ [])) _ squares_below numbers_differ_a squares_a,
-    sign-along 2 (two_numbers 2 1) squares (values (pos 0 ∷ pos 0 ∷ [])) _ squares_below numbers_differ_b squares_b)
+signs_of_squares = (
+  sign-along 2 (two_numbers 1 2) squares (values (pos 3 ∷ pos 3 ∷ [])) _ squares_below numbers_differ_a squares_a,
+  sign-along 2 (two_numbers 1 2) squares (values (negsuc 2 ∷ negsuc 2 ∷ [])) _ squares_below numbers_differ_a squares_a,
+  sign-along 2 (two_numbers 1 2) squares (values (pos 0 ∷ pos 0 ∷ [])) _ squares_below numbers_differ_a squares_a,
+  sign-along 2 (two_numbers 2 1) squares (values (pos 0 ∷ pos 0 ∷ [])) _ squares_below numbers_differ_b squares_b,
+)
 
 -- the sign where c and b are 0
 pub sign_past_a_param : SignPastAParam
@@ -100,18 +100,20 @@ one_differs = differ-by (Some 0 ∷ None ∷ []) (1 ∷ []) refl
 
 -- the signs of two rows
 pub signs_with_a_param : SignsWithAParam
-signs_with_a_param =
-    (sign-along 2 one_and_param with_param (values (pos 7 ∷ pos 0 ∷ [])) _ (omega arith, omega arith) one_differs with_param_stages,
-    sign-along 2 one_and_param with_param (values (pos 0 ∷ pos 2 ∷ [])) _ (omega arith, omega arith) one_differs with_param_stages)
+signs_with_a_param = (
+  sign-along 2 one_and_param with_param (values (pos 7 ∷ pos 0 ∷ [])) _ (omega arith, omega arith) one_differs with_param_stages,
+  sign-along 2 one_and_param with_param (values (pos 0 ∷ pos 2 ∷ [])) _ (omega arith, omega arith) one_differs with_param_stages,
+)
 
 -- the signs of five rows
 pub signs_of_orientation : SignsOfOrientation
-signs_of_orientation =
-    (sign-along 6 (three_points 1 2 3) orientation collinear _ orientation_below points_differ_pqr orientation_pqr,
-    sign-along 6 (three_points 1 2 3) orientation (values (pos 0 ∷ pos 0 ∷ pos 0 ∷ pos 1 ∷ pos 0 ∷ pos 2 ∷ [])) _ orientation_below points_differ_pqr orientation_pqr,
-    sign-along 6 (three_points 1 2 3) orientation (values (pos 1 ∷ pos 0 ∷ pos 0 ∷ pos 0 ∷ pos 0 ∷ pos 0 ∷ [])) _ orientation_below points_differ_pqr orientation_pqr,
-    sign-along 6 (three_points 1 2 3) orientation (λ v. pos 5) _ orientation_below points_differ_pqr orientation_pqr,
-    sign-along 6 (three_points 2 1 3) orientation (λ v. pos 5) _ orientation_below points_differ_qpr orientation_qpr)
+signs_of_orientation = (
+  sign-along 6 (three_points 1 2 3) orientation collinear _ orientation_below points_differ_pqr orientation_pqr,
+  sign-along 6 (three_points 1 2 3) orientation (values (pos 0 ∷ pos 0 ∷ pos 0 ∷ pos 1 ∷ pos 0 ∷ pos 2 ∷ [])) _ orientation_below points_differ_pqr orientation_pqr,
+  sign-along 6 (three_points 1 2 3) orientation (values (pos 1 ∷ pos 0 ∷ pos 0 ∷ pos 0 ∷ pos 0 ∷ pos 0 ∷ [])) _ orientation_below points_differ_pqr orientation_pqr,
+  sign-along 6 (three_points 1 2 3) orientation (λ v. pos 5) _ orientation_below points_differ_pqr orientation_pqr,
+  sign-along 6 (three_points 2 1 3) orientation (λ v. pos 5) _ orientation_below points_differ_qpr orientation_qpr,
+)
 
 -- ---- the order
 -- the variables by rising infinitesimal, p first, then q
@@ -158,6 +160,7 @@ six_terms-at m = cancelled _ _ _ _ _ _ (same_vector (0 ∷ 0 ∷ 0 ∷ 0 ∷ 1 �
 
 -- the six are the normal polynomial
 pub six_terms_are_normal : SixTermsAreNormal
-six_terms_are_normal =
-    (record { over = (refl, (refl, (refl, (refl, (refl, (refl, tt)))))); coefficients = λ m e. sym (normal_is 6 orientation orientation_below m e ∙ six_terms-at m) },
-    ((refl, (refl, (refl, (refl, (refl, tt))))), ((refl, (refl, (refl, (refl, tt)))), ((refl, (refl, (refl, tt))), ((refl, (refl, tt)), ((refl, tt), (tt, tt)))))))
+six_terms_are_normal = (
+  record { over = (refl, (refl, (refl, (refl, (refl, (refl, tt)))))); coefficients = λ m e. sym (normal_is 6 orientation orientation_below m e ∙ six_terms-at m) },
+  ((refl, (refl, (refl, (refl, (refl, tt))))), ((refl, (refl, (refl, (refl, tt)))), ((refl, (refl, (refl, tt))), ((refl, (refl, tt)), ((refl, tt), (tt, tt)))))),
+)

@@ -1,6 +1,6 @@
 -- The coefficients of an expression at a perturbed point: it is evaluated at x + e, and read off one coefficient at a time.
 -- Source: the perturbed determinant of Simulation of Simplicity (Edelsbrunner and Mücke 1990), here for any expression.
-use Rattle.std.specs.Prelude.{ℕ, Bool, true, ◌&&◌, ℤ, pos, ◌+ℤ◌, ◌-ℤ◌, ◌*ℤ◌, neg_ℤ, List, [], ◌∷◌, map, if◌then◌else◌}
+use Rattle.std.specs.Prelude.{ℕ, Bool, true, ◌&&◌, ℤ, pos, ◌+ℤ◌, ◌-ℤ◌, ◌*ℤ◌, neg_ℤ, List, [], ◌∷◌, if◌then◌else◌}
 use Rattle.std.proofs.Common.{zero, suc}
 use Rattle.ln_algebra.specs.Vector.{sum_over, splits, is_zero, is_unit}
 use Rattle.ln_algebra.specs.Tree.{Tree, Num, Input, Name, Neg, Add, Sub, Mul, Pow}

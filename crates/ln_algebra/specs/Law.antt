@@ -1,6 +1,5 @@
 -- The laws of coefficients and of scaled derivatives.
 use Rattle.std.specs.Prelude.{◌≡◌, ℕ, ◌<◌, Bool, ℤ, pos, ◌*ℤ◌, List, ◌∷◌, length, map}
-use Rattle.std.proofs.Common.{suc}
 use Rattle.ln_algebra.specs.Vector.{plus, sum_over, splits, total_degree, ways}
 use Rattle.ln_algebra.specs.Coefficient.{coefficient, product_at}
 use Rattle.ln_algebra.specs.Earlier.{IsOver, Sites}

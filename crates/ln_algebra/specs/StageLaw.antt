@@ -2,7 +2,7 @@
 use Rattle.std.specs.Prelude.{◌≡◌, ◌≢◌, ℕ, ◌<◌, ℤ, pos, IsTrue, List, is_some}
 use Rattle.ln_algebra.specs.Vector.{zeros}
 use Rattle.ln_algebra.specs.Coefficient.{normal_coefficient}
-use Rattle.ln_algebra.specs.Earlier.{Earlier, IndicesDiffer, IsOver, Of, Sites}
+use Rattle.ln_algebra.specs.Earlier.{Earlier, IndicesDiffer, IsOver, Sites}
 use Rattle.ln_algebra.specs.Sign.{IsFirst, IsPerturbedSign, perturbed, sign_along}
 use Rattle.ln_algebra.specs.Stage.{Covered, IsLast, IsMonomial, IsStage, IsStageList}
 use Rattle.ln_algebra.specs.Tree.{InputsBelow, Tree}

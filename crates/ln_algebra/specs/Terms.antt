@@ -1,5 +1,5 @@
 -- Polynomials as lists of terms, and their scaled derivatives.
-use Rattle.std.specs.Prelude.{◌≡◌, ℕ, ◌+◌, ◌*◌, Bool, false, ℤ, pos, ◌*ℤ◌, List, length, [], ◌∷◌, if◌then◌else◌}
+use Rattle.std.specs.Prelude.{◌≡◌, ℕ, ◌+◌, ◌*◌, false, ℤ, pos, ◌*ℤ◌, List, length, [], ◌∷◌, if◌then◌else◌}
 use Rattle.std.proofs.Common.{zero, suc}
 use Rattle.ln_algebra.specs.Vector.{sum_over}
 pub use Rattle.ln_algebra.specs.Vector.{same_vector, covers, minus}

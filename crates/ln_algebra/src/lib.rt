@@ -20,9 +20,15 @@ mod weighing;
 mod worked;
 
 pub use coefficients::{coefficients_vanish_above_degree, products_are_sums_over_ways};
-pub use derivatives::{derivatives_are_coefficients, derivatives_on_rows, derived_coefficients, product_rule};
+pub use derivatives::{
+    derivatives_are_coefficients, derivatives_on_rows, derived_coefficients, product_rule,
+};
 pub use infinitesimals::{earlier_is_an_order, first_is_unique, stage_list_is_unique};
 pub use splitting::{covered_by_is_all, splits_are_all_sums, ways_are_all_sums};
 pub use staging::{cut_loses_nothing, there_is_a_first, walk_lists_the_stages};
-pub use weighing::{derivatives_weigh_the_whole, normal_weighs_at_most_the_tree, values_are_within_weights};
-pub use worked::{worked_coefficients, worked_derivatives, worked_orders, worked_signs, worked_stages};
+pub use weighing::{
+    derivatives_weigh_the_whole, normal_weighs_at_most_the_tree, values_are_within_weights,
+};
+pub use worked::{
+    worked_coefficients, worked_derivatives, worked_orders, worked_signs, worked_stages,
+};
