@@ -1,7 +1,7 @@
 -- The records that a reader of bytes in memory has left.
-use Rattle.std.specs.Prelude.{◌≡◌, ℕ, ◌+◌, ◌∷◌, Bool, true, false, ◌||◌, ◌&&◌, not, is_none, List, [], length, Option, Some, None}
+use Rattle.std.specs.Prelude.{◌≡◌, ◌⊎◌, ℕ, ◌+◌, ◌∷◌, Bool, true, false, ◌||◌, ◌&&◌, not, is_none, List, [], length, Option, Some, None}
 use denote.Ref.{Bor}
-use Rattle.csv.specs.Reading.{records, records_from, default_config, source_of, strip_bom}
+use Rattle.csv.specs.Reading.{records, records_from, default_config, source_of, has_failed, strip_bom}
 use Rattle.csv.specs.declared.parser.State.{State}
 use Rattle.csv.specs.declared.reader.Reader.{Reader}
 use Rattle.csv.specs.declared.reader.Trim.TheVariants as trim
@@ -33,6 +33,10 @@ pub record IsPlain (r : Reader (Bor (List ℕ))) : Type 0 where
   pub trim : r.trim ≡ trim.None
   pub ready : is_ready r ≡ true
   pub flexible : r.flexible ≡ true
+
+-- a reader with these settings, or one that found no memory and gives no more records
+abbrev pub IsReader : Reader (Bor (List ℕ)) → Type 0
+IsReader r = (has_failed r ≡ true) ⊎ IsPlain r
 
 -- a read takes the next record, or there is none
 abbrev pub Takes : Bool → Records → Records → List (List ℕ) → Type 0

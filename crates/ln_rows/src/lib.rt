@@ -5,6 +5,8 @@
 
 pub mod number;
 pub mod record;
+pub mod rows;
 
 pub use number::NumberStop;
 pub use record::RowStop;
+pub use rows::Rows;
