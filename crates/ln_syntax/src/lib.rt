@@ -9,12 +9,9 @@ pub mod items;
 pub mod nesting;
 pub mod place;
 pub mod raw;
-<<<<<<< HEAD
 #[cfg(test)]
 mod tests;
-=======
 pub mod unique;
->>>>>>> 340996c4edb364995db8057a1d35593cf3345739
 
 pub use items::read_items;
 pub use nesting::{nesting_fault, one_depth};
