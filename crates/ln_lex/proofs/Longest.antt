@@ -3,7 +3,8 @@ use Rattle.std.proofs.Common.{◌≡◌, ℕ, zero, suc, ◌+◌, ◌<◌, ◌�
 use Rattle.std.proofs.lemmas.Bool.Decides.{nat_tests}
 use Rattle.ln_lex.specs.declared.token.Kind.{Kind}
 use Rattle.ln_lex.specs.declared.token.Kind.TheVariants.{Number, Dots}
-use Rattle.ln_lex.specs.Tokens.{is_digit, is_letter, is_name_byte, run_len, word_kind, sign_of, begins_twice, kind_of, IsFirst, BeginsNone}
+use Rattle.ln_base.specs.Words.{is_digit, is_letter, is_name_byte}
+use Rattle.ln_lex.specs.Tokens.{run_len, word_kind, sign_of, begins_twice, kind_of, IsFirst, BeginsNone}
 use Rattle.ln_lex.proofs.Runs.{every_front, every_more, run_within}
 
 -- more bytes than a word are no token
