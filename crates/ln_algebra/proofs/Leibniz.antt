@@ -1,5 +1,5 @@
 -- The product rule of scaled derivatives, coefficient by coefficient.
-use Rattle.std.proofs.Common.{◌≡◌, ℕ, ◌+◌, ◌*◌, ◌<◌, zero, suc, refl, sym, ◌∙◌, ap, arith, List, [], ◌∷◌, length, Bool, true, false, ◌&&◌, leb, ◌⊎◌, inl, inr}
+use Rattle.std.proofs.Common.{◌≡◌, ℕ, ◌+◌, ◌*◌, ◌<◌, zero, suc, refl, sym, ◌∙◌, ap, arith, List, [], ◌∷◌, length, Bool, true, false, leb, ◌⊎◌, inl, inr}
 use Rattle.std.proofs.lemmas.Bool.{and_cases, and_left, and_right}
 use Rattle.std.proofs.lemmas.Bool.Decides.{nat_tests}
 use Rattle.std.proofs.lemmas.Int.{ints}
@@ -10,7 +10,7 @@ use Rattle.ln_algebra.proofs.Derived.{binomial-above, tau-covered, tau-uncovered
 use Rattle.ln_algebra.proofs.Expansion.{length-plus, tau, tau_plus}
 use Rattle.ln_algebra.proofs.Factors.{sum_splits-parts}
 use Rattle.ln_algebra.proofs.Normal.{everywhere, within_all}
-use Rattle.ln_algebra.proofs.Ring.{four, mul_comm, mul_one, one_mul}
+use Rattle.ln_algebra.proofs.Ring.{four, mul_comm, mul_one}
 use Rattle.ln_algebra.proofs.Shift.{product_is, sum_splits-within}
 use Rattle.ln_algebra.proofs.Sums.{sum_parts, sum_splits, sum_splits_is}
 use Rattle.ln_algebra.proofs.Taylor.{sum_parts-same, sum_parts-zero, sum_splits-same, sum_splits-scale, sum_splits-zero}
