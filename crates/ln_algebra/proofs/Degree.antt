@@ -12,7 +12,7 @@ use Rattle.ln_algebra.specs.Coefficient.{constant, variable, product, power, coe
 use Rattle.ln_algebra.specs.Tree.{Tree, Num, Input, Name, Neg, Add, Sub, Mul, Pow, degree_of}
 
 -- two sums over the parts of n agree where they agree on the parts
-sum_parts-on : (n : ℕ) (f g : ℕ → ℕ → ℤ) → ((i j : ℕ) → i + j ≡ n → f i j ≡ g i j) → sum_parts n f ≡ sum_parts n g
+pub sum_parts-on : (n : ℕ) (f g : ℕ → ℕ → ℤ) → ((i j : ℕ) → i + j ≡ n → f i j ≡ g i j) → sum_parts n f ≡ sum_parts n g
 sum_parts-on zero f g h = h 0 0 refl
 sum_parts-on (suc n) f g h = omega (arith, ints, h 0 (suc n) (zero-add (suc n)), sum_parts-on n (λ i j. f (suc i) j) (λ i j. g (suc i) j) (λ i j e. h (suc i) j (omega arith)))
 

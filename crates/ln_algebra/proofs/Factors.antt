@@ -25,7 +25,7 @@ sum_parts-assoc (suc n) f =
     )
 
 -- the two sums change places
-sum_splits-parts : (a : List ℕ) (n : ℕ) (f : ℕ → ℕ → List ℕ → List ℕ → ℤ) → sum_splits a (λ b c. sum_parts n (λ i j. f i j b c)) ≡ sum_parts n (λ i j. sum_splits a (f i j))
+pub sum_splits-parts : (a : List ℕ) (n : ℕ) (f : ℕ → ℕ → List ℕ → List ℕ → ℤ) → sum_splits a (λ b c. sum_parts n (λ i j. f i j b c)) ≡ sum_parts n (λ i j. sum_splits a (f i j))
 sum_splits-parts a zero f = refl
 sum_splits-parts a (suc n) f =
     sum_splits-add a (f 0 (suc n)) (λ b c. sum_parts n (λ i j. f (suc i) j b c))

@@ -41,7 +41,7 @@ CoversOn-from (v ∷ vs) m a h = (h v, CoversOn-from vs m a h)
 
 -- ---- rankings
 -- each exponent is 0
-zeros-get : (n v : ℕ) → get_or (zeros n) v 0 ≡ 0
+pub zeros-get : (n v : ℕ) → get_or (zeros n) v 0 ≡ 0
 zeros-get zero v = refl
 zeros-get (suc n) zero = refl
 zeros-get (suc n) (suc v) = zeros-get n v

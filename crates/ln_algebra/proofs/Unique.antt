@@ -2,13 +2,15 @@
 use Rattle.std.proofs.Common.{◌≡◌, ℕ, ◌+◌, zero, suc, refl, sym, ◌∙◌, ap, arith, List, [], ◌∷◌, length, get_or, Bool, true, false, if◌then◌else◌, ◌⊎◌, inl, inr}
 use Rattle.std.proofs.lemmas.Int.{ints}
 use Rattle.std.proofs.Math.IntN.{ℤ, pos, ◌+ℤ◌}
+use Rattle.ln_algebra.proofs.Expansion.{length-zeros}
 use Rattle.ln_algebra.proofs.Normal.{same_vector-is, same_vector-refl}
 use Rattle.ln_algebra.proofs.Order.{earlier-irreflexive, earlier-total, earlier-transitive}
-use Rattle.ln_algebra.specs.Earlier.{Earlier, IndicesDiffer, IsInOrder, Sites}
+use Rattle.ln_algebra.proofs.Stages.{zeros-get}
+use Rattle.ln_algebra.specs.Earlier.{Earlier, IndicesDiffer, IsInOrder, IsOver, Sites}
 use Rattle.ln_algebra.specs.Sign.{IsFirst, IsPerturbedSign, perturbed, sign_of}
 use Rattle.ln_algebra.specs.Stage.{IsStageList}
 use Rattle.ln_algebra.specs.Tree.{Tree}
-use Rattle.ln_algebra.specs.Vector.{In, how_many, plus, same_vector}
+use Rattle.ln_algebra.specs.Vector.{In, how_many, plus, same_vector, zeros}
 
 -- ---- sums
 -- the exponent of a sum is the sum of the exponents
@@ -23,6 +25,14 @@ get_or-plus (n ∷ a) (k ∷ c) (suc v) e = get_or-plus a c v (omega arith)
 pub earlier-plus : (sites : Sites) (a b c : List ℕ) → length a ≡ length c → length b ≡ length c → Earlier sites a b → Earlier sites (plus a c) (plus b c)
 earlier-plus sites a b c i j (v, s, o, l, h) =
     (v, s, o, omega (arith, l, get_or-plus a c v i, get_or-plus b c v j), λ w r. get_or-plus a c w i ∙ ap (λ z. z + get_or c w 0) (h w r) ∙ sym (get_or-plus b c w j))
+
+-- the vector of zeros is the earliest
+pub zeros-earliest : (n : ℕ) (sites : Sites) → IndicesDiffer sites → (a : List ℕ) → IsOver n sites a → (a ≡ zeros n) ⊎ Earlier sites (zeros n) a
+zeros-earliest n sites d a o = by_case (earlier-total sites d n a (zeros n) o (record { size = length-zeros n; of_sites = λ v h. zeros-get n v })) where
+  by_case : (a ≡ zeros n) ⊎ (Earlier sites a (zeros n) ⊎ Earlier sites (zeros n) a) → (a ≡ zeros n) ⊎ Earlier sites (zeros n) a
+  by_case (inl e) = inl e
+  by_case (inr (inl l)) = absurd (omega (arith, l.3, zeros-get n l.0))
+  by_case (inr (inr l)) = inr l
 
 -- ---- one first vector, and one sign
 -- two first vectors are one

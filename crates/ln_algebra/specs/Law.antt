@@ -1,7 +1,7 @@
 -- The laws of coefficients and of scaled derivatives.
 use Rattle.std.specs.Prelude.{◌≡◌, ℕ, ◌<◌, Bool, ℤ, pos, ◌*ℤ◌, List, ◌∷◌, length, map}
 use Rattle.ln_algebra.specs.Vector.{plus, sum_over, splits, total_degree, ways}
-use Rattle.ln_algebra.specs.Coefficient.{coefficient, product_at}
+use Rattle.ln_algebra.specs.Coefficient.{coefficient, product, product_at}
 use Rattle.ln_algebra.specs.Earlier.{IsOver, Sites}
 use Rattle.ln_algebra.specs.Sign.{perturbed}
 use Rattle.ln_algebra.specs.Terms.{IsProductOf, Over, Term, binomials, derived, factor_at, value}
@@ -29,9 +29,16 @@ DerivedCoefficients =
     (a : List ℕ) (f : List Term) (m : List ℕ) → Over (length a) f → length m ≡ length a →
     factor_at (derived a f) m ≡ factor_at f (plus m a) *ℤ pos (binomials (plus m a) a)
 
--- The product rule: the scaled derivative of a product by a is the sum, over all a = b + c, of the derivative of one factor by b times that of the other by c.
+-- The product rule: the scaled derivative of a product by a is the sum, over all a = b + c, of the derivative of one factor by b times that of the other by c; here at each coefficient.
 abbrev pub ProductRule : Type 0
 ProductRule =
+    (n : ℕ) (f g h : List Term) (a m : List ℕ) → IsProductOf n f g h → length a ≡ n → length m ≡ n →
+    factor_at (derived a h) m
+    ≡ sum_over (λ s. product (factor_at (derived s.0 f)) (factor_at (derived s.1 g)) m) (splits a)
+
+-- The same for the values at any point.
+abbrev pub ProductRuleOfValues : Type 0
+ProductRuleOfValues =
     (n : ℕ) (f g h : List Term) (x : ℕ → ℤ) (a : List ℕ) →
     IsProductOf n f g h → length a ≡ n →
     value x (derived a h) ≡ sum_over (λ s. value x (derived s.0 f) *ℤ value x (derived s.1 g)) (splits a)

@@ -1,6 +1,6 @@
 -- The laws of the order.
 use Rattle.std.specs.Prelude.{◌≡◌, ℕ, ◌⊎◌, ℤ, pos, List, length}
-use Rattle.ln_algebra.specs.Vector.{In, how_many, plus, same_vector}
+use Rattle.ln_algebra.specs.Vector.{In, how_many, plus, same_vector, zeros}
 use Rattle.ln_algebra.specs.Earlier.{Earlier, IndicesDiffer, IsInOrder, IsOver, Sites}
 use Rattle.ln_algebra.specs.Sign.{IsFirst, IsPerturbedSign}
 use Rattle.ln_algebra.specs.Stage.{IsStageList}
@@ -27,6 +27,12 @@ abbrev pub EarlierIsKeptBySums : Type 0
 EarlierIsKeptBySums =
     (sites : Sites) (a b c : List ℕ) → length a ≡ length c → length b ≡ length c →
     Earlier sites a b → Earlier sites (plus a c) (plus b c)
+
+-- The vector of zeros is the earliest.
+abbrev pub ZeroIsEarliest : Type 0
+ZeroIsEarliest =
+    (n : ℕ) (sites : Sites) (a : List ℕ) → IndicesDiffer sites → IsOver n sites a →
+    (a ≡ zeros n) ⊎ Earlier sites (zeros n) a
 
 -- There is at most one first vector.
 abbrev pub FirstIsUnique : Type 0

@@ -1,6 +1,6 @@
 // Laws of scaled derivatives.
 
-ghost use Rattle.ln_algebra.specs.Law.{DerivativesAreCoefficients, DerivativesOnRows, DerivedCoefficients, ProductRule};
+ghost use Rattle.ln_algebra.specs.Law.{DerivativesAreCoefficients, DerivativesOnRows, DerivedCoefficients, ProductRule, ProductRuleOfValues};
 
 /// The coefficients of a scaled derivative.
 ///
@@ -16,7 +16,8 @@ pub fn derived_coefficients()
 /// It is why a scaled derivative agrees with the coefficients of a product,
 /// case by case, and why a derivative without the scaling doesn't.
 pub fn product_rule()
-    ensures { ProductRule }
+    ensures coefficients { ProductRule }
+    ensures values { ProductRuleOfValues }
 {}
 
 /// The value on a row of the scaled derivative of the normal polynomial is the

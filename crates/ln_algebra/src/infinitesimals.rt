@@ -1,9 +1,10 @@
 // Laws of the order of infinitesimals.
 
-ghost use Rattle.ln_algebra.specs.OrderLaw.{EarlierIsIrreflexive, EarlierIsKeptBySums, EarlierIsTotal, EarlierIsTransitive, FirstIsUnique, InOrderIsOnce, PerturbedSignIsUnique, StageListIsUnique};
+ghost use Rattle.ln_algebra.specs.OrderLaw.{EarlierIsIrreflexive, EarlierIsKeptBySums, EarlierIsTotal, EarlierIsTransitive, FirstIsUnique, InOrderIsOnce, PerturbedSignIsUnique, StageListIsUnique, ZeroIsEarliest};
 
-/// `Earlier` is a total order on the vectors over the variables of sites, and
-/// is kept where one vector is added to both sides.
+/// `Earlier` is a total order on the vectors over the variables of sites, has
+/// the vector of zeros first, and is kept where one vector is added to both
+/// sides: it is admissible.
 ///
 /// On it rest the order of stage lists, and, by `sums`, that the first vector
 /// of a product is the sum of the factors' first vectors.
@@ -12,6 +13,7 @@ pub fn earlier_is_an_order()
     ensures transitive { EarlierIsTransitive }
     ensures total { EarlierIsTotal }
     ensures sums { EarlierIsKeptBySums }
+    ensures zero { ZeroIsEarliest }
 {}
 
 /// A row has at most one first vector, and at most one perturbed sign.

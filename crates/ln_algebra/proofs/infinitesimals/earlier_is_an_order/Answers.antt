@@ -1,5 +1,5 @@
 use Rattle.ln_algebra.proofs.Order.{earlier-total, earlier-transitive}
-use Rattle.ln_algebra.proofs.Unique.{earlier-plus}
+use Rattle.ln_algebra.proofs.Unique.{earlier-plus, zeros-earliest}
 use Rattle.ln_algebra.proofs.infinitesimals.earlier_is_an_order.Goals as goal
 
 pub returns-clause-transitive : goal.returns-clause-transitive
@@ -10,3 +10,6 @@ returns-clause-total c = λ n sites a b differ. earlier-total sites differ n a b
 
 pub returns-clause-sums : goal.returns-clause-sums
 returns-clause-sums c = earlier-plus
+
+pub returns-clause-zero : goal.returns-clause-zero
+returns-clause-zero c = λ n sites a differ. zeros-earliest n sites differ a
