@@ -1,3 +1,5 @@
 pub mod Lists
 pub mod Walking
 pub mod FirstFault
+pub mod Within
+pub mod Order

@@ -3,3 +3,4 @@ pub mod Rules
 pub mod Visits
 pub mod First
 pub mod Resolve
+pub mod Along

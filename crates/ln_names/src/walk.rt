@@ -3,6 +3,7 @@ ghost use Rattle.std.specs.Prelude.{◌≡◌, ◌+◌, ◌<◌, ◌≤◌, ◌^
 ghost use Rattle.ln_lex.specs.declared.token.Token.{Token as Tok};
 ghost use Rattle.ln_syntax.specs.Raw.{Item, items, item, kind_at, span_at};
 ghost use Rattle.ln_names.specs.declared.faults.Found.{Found as Fnd};
+ghost use Rattle.ln_names.specs.Along.{JudgesInOrder};
 ghost use Rattle.ln_names.specs.First.{FirstFault, NoFault};
 ghost use Rattle.ln_names.specs.Rules.{fault_at, scope};
 ghost use Rattle.ln_names.specs.Resolve.{visible};
@@ -31,6 +32,11 @@ pub fn check_names(bytes: &[u8], ts: &[Token], its: &[RawItem]) -> Result<(), Fo
 pub fn one_fault()
     ensures one { (bytes : List ℕ) (ts : List Tok) (is : List Item) (f g : Fnd) → FirstFault bytes ts is f → FirstFault bytes ts is g → f ≡ g }
     ensures none { (bytes : List ℕ) (ts : List Tok) (is : List Item) (f : Fnd) → FirstFault bytes ts is f → NoFault bytes ts is → ⊥ }
+{}
+
+/// The tokens that are judged stand in order of the text, and no NAME and no NUMBER is left out.
+pub fn judges_in_order()
+    ensures { JudgesInOrder }
 {}
 
 /// The first fault of names and limits.
