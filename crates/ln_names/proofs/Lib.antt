@@ -3,3 +3,4 @@ pub mod Walking
 pub mod FirstFault
 pub mod Within
 pub mod Order
+pub mod Faultless

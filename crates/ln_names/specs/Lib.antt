@@ -4,3 +4,4 @@ pub mod Visits
 pub mod First
 pub mod Resolve
 pub mod Along
+pub mod Limits

@@ -13,4 +13,4 @@ mod tokens;
 pub mod walk;
 
 pub use faults::{Fault, Found, LimitWhat, NameWhat};
-pub use walk::{check_names, judges_in_order, one_fault};
+pub use walk::{check_names, faultless_is_within, judges_in_order, one_fault};

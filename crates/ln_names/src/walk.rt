@@ -5,6 +5,7 @@ ghost use Rattle.ln_syntax.specs.Raw.{Item, items, item, kind_at, span_at};
 ghost use Rattle.ln_names.specs.declared.faults.Found.{Found as Fnd};
 ghost use Rattle.ln_names.specs.Along.{JudgesInOrder};
 ghost use Rattle.ln_names.specs.First.{FirstFault, NoFault};
+ghost use Rattle.ln_names.specs.Limits.{FaultlessIsWithin};
 ghost use Rattle.ln_names.specs.Rules.{fault_at, scope};
 ghost use Rattle.ln_names.specs.Resolve.{visible};
 ghost use Rattle.ln_names.specs.Visits.{first_fault, visits_by, range_visits, coord_visits, arg_visits, is_dot, is_caret, role_at, is_node, role_use, kind_use, token_visits, is_node_at, pred_visits, or_later, value_visits, value_nodes, nodes_before, let_visits, item_visits, file_visits};
@@ -37,6 +38,11 @@ pub fn one_fault()
 /// The tokens that are judged stand in order of the text, and no NAME and no NUMBER is left out.
 pub fn judges_in_order()
     ensures { JudgesInOrder }
+{}
+
+/// A file without a fault is within the limits, and its names are known and each its own.
+pub fn faultless_is_within()
+    ensures { FaultlessIsWithin }
 {}
 
 /// The first fault of names and limits.
