@@ -1,5 +1,5 @@
 -- A file without a fault is within the limits: the table's tests, turned round.
-use Rattle.std.proofs.Common.{◌≡◌, ℕ, zero, suc, ◌+◌, ◌-◌, ◌<◌, ◌≤◌, ◌^◌, ◌==◌, Bool, true, false, cond, not, ◌||◌, nat_lt, List, [], ◌∷◌, ◌++◌, length, Option, Some, None, refl, sym, subst, arith, add-one, add-zero}
+use Rattle.std.proofs.Common.{◌≡◌, ℕ, zero, suc, ◌+◌, ◌-◌, ◌<◌, ◌≤◌, ◌==◌, Bool, true, false, cond, not, ◌||◌, nat_lt, List, [], ◌∷◌, ◌++◌, length, Option, Some, None, refl, subst, arith}
 use Rattle.std.specs.Prelude.{count_by, int_lt, ℤ, pos, negsuc, ◌≤ℤ◌}
 use Rattle.std.specs.List.{list_any}
 use Rattle.std.proofs.lemmas.List.{length-append, append_assoc, append-nil}
@@ -7,22 +7,21 @@ use Rattle.std.proofs.lemmas.List.Sums.{sum_by-append}
 use Rattle.std.proofs.lemmas.Bool.{ltb-false}
 use Rattle.std.proofs.lemmas.Bool.Decides.{nat_tests}
 use Rattle.std.proofs.lemmas.Int.{ints}
-use Rattle.ln_base.specs.declared.span.Span.{Span}
 use Rattle.ln_lex.specs.declared.token.Token.{Token}
 use Rattle.ln_syntax.specs.declared.raw.RawRange.{RawRange}
 use Rattle.ln_syntax.specs.declared.raw.RawCoord.{RawCoord}
 use Rattle.ln_syntax.specs.declared.raw.RawArg.{RawArg}
 use Rattle.ln_syntax.specs.declared.raw.RawLet.{RawLet}
 use Rattle.ln_syntax.specs.declared.raw.Places.{Places}
-use Rattle.ln_syntax.specs.Raw.{Item, SiteItem, ParamItem, PredItem, item_name, is_site, is_param, is_pred, text, same, span_at}
+use Rattle.ln_syntax.specs.Raw.{Item, SiteItem, ParamItem, PredItem, is_site, is_param, is_pred, text, same, span_at}
 use Rattle.ln_names.specs.declared.faults.Fault.{Fault}
 use Rattle.ln_names.specs.declared.roles.Role.{Role}
 use Rattle.ln_names.specs.declared.roles.Role.TheVariants.{Value, AfterCaret, Bare, Input, AfterDot, Operator}
 use Rattle.ln_names.specs.Numbers.{number, end_value, most_literal, most_end}
-use Rattle.ln_names.specs.Rules.{Scope, scope, Use, SiteName, ParamName, PredName, CoordName, ArgName, ArgSite, ArgParam, LetName, LowEnd, HighEnd, is_site_arg, is_param_arg, has_site, has_param, has_site_arg, has_param_arg, has_let, coords_at, fault_at}
-use Rattle.ln_names.specs.Visits.{Visit, visit, visits_by, range_visits, coord_visits, kind_use, arg_visits, role_at, is_node_at, token_visits, expr_visits, nodes, value_visits, value_nodes, nodes_before, let_visits, pred_visits, item_visits, file_visits}
+use Rattle.ln_names.specs.Rules.{Scope, scope, ArgSite, ArgParam, is_site_arg, is_param_arg, has_site, has_param, has_site_arg, has_param_arg, has_let, coords_at, fault_at}
+use Rattle.ln_names.specs.Visits.{Visit, visits_by, range_visits, coord_visits, arg_visits, role_at, is_node_at, token_visits, expr_visits, nodes, value_visits, value_nodes, nodes_before, let_visits, pred_visits, item_visits}
 use Rattle.ln_names.specs.First.{Clean, NoFault}
-use Rattle.ln_names.specs.Limits.{Each, IsShort, RangeWithin, CoordWithin, IsKnown, ArgWithin, TokenWithin, ValueWithin, LetWithin, PredWithin, PartsWithin, ItemWithin, FileWithin}
+use Rattle.ln_names.specs.Limits.{Each, RangeWithin, CoordWithin, IsKnown, ArgWithin, TokenWithin, ValueWithin, LetWithin, PredWithin, ItemWithin, FileWithin}
 
 -- where no row's test holds, the first one's doesn't, and none behind it
 no_row : (a : Bool) (f : Fault) (o : Option Fault) → cond a (Some f) o ≡ None → (a ≡ false) × (o ≡ None)
@@ -103,11 +102,13 @@ rows_three a b c f g i h = let p = no_row a f _ h in let q = rows_two b c g i p.
 
 range_within : (bytes : List ℕ) (r : RawRange) → Clean bytes (range_visits r) → RangeWithin bytes r
 range_within bytes r c =
-    let l = rows_two _ _ _ _ c.0 in
-    let h = rows_two _ _ _ _ c.1.0 in
-    let l1 = neither _ _ l.1 in
-    let h1 = neither _ _ h.1 in
-    let a = not_above most_end (number bytes r.low.at) l1.0 in
+    let low_over = nat_lt most_end (number bytes r.low.at) in
+    let high_over = nat_lt most_end (number bytes r.high.at) in
+    let under = int_lt (end_value bytes r.high) (end_value bytes r.low) in
+    let l = rows_two (nat_lt most_literal (number bytes r.low.at)) (low_over || false) _ _ c.0 in
+    let h = rows_two (nat_lt most_literal (number bytes r.high.at)) (high_over || under) _ _ c.1.0 in
+    let h1 = neither high_over under h.1 in
+    let a = not_above most_end (number bytes r.low.at) (neither low_over false l.1).0 in
     let b = not_above most_end (number bytes r.high.at) h1.0 in
     record { low = omega (arith, a); high = omega (arith, b); order = in_order (end_value bytes r.low) (end_value bytes r.high) h1.1 }
 

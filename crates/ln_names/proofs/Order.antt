@@ -1,5 +1,5 @@
 -- Each NAME and each NUMBER of a file is judged, in order of the text: rule by rule of the grammar.
-use Rattle.std.proofs.Common.{◌≡◌, ℕ, zero, suc, ◌+◌, ◌-◌, ◌≤◌, Bool, true, false, if◌then◌else◌, List, [], ◌∷◌, ◌++◌, length, Option, Some, None, refl, subst, arith, add-one}
+use Rattle.std.proofs.Common.{◌≡◌, ℕ, zero, suc, ◌+◌, ◌-◌, Bool, true, false, if◌then◌else◌, List, [], ◌∷◌, ◌++◌, length, Option, Some, None, refl, subst, arith, add-one}
 use Rattle.ln_lex.specs.declared.token.Token.{Token}
 use Rattle.ln_lex.specs.declared.token.Kind.{Kind}
 use Rattle.ln_lex.specs.declared.token.Kind.TheVariants.{Name, Number, Plus, Minus, Star, Caret}
@@ -8,10 +8,10 @@ use Rattle.ln_syntax.specs.declared.raw.RawRange.{RawRange}
 use Rattle.ln_syntax.specs.declared.raw.RawCoord.{RawCoord}
 use Rattle.ln_syntax.specs.declared.raw.RawArg.{RawArg}
 use Rattle.ln_syntax.specs.declared.raw.RawLet.{RawLet}
-use Rattle.ln_syntax.specs.Raw.{Item, Is, kind_at, span_at}
+use Rattle.ln_syntax.specs.Raw.{Item, Is, kind_at}
 use Rattle.ln_syntax.specs.Expression.{IsExpr}
 use Rattle.ln_syntax.specs.File.{End, plain, minus, Range, range, Coords, no_coord, coord, Arg, site_arg, param_arg, Args, last_arg, more_args, Lets, no_let, a_let, IsItem, site, param, predicate, Items, no_item, an_item, Spelt}
-use Rattle.ln_names.specs.declared.roles.Role.TheVariants.{Value, AfterCaret, Bare, Input, AfterDot, Operator}
+use Rattle.ln_names.specs.declared.roles.Role.TheVariants.{Value, AfterCaret, Bare, Input, AfterDot}
 use Rattle.ln_names.specs.Rules.{Scope, scope, Use, LowEnd, HighEnd, is_number}
 use Rattle.ln_names.specs.Visits.{Visit, visit, visits_by, range_visits, coord_visits, arg_visits, role_of, role_at, is_node_at, token_visits, expr_visits, value_visits, let_visits, item_visits, nodes_before}
 use Rattle.ln_names.specs.Along.{is_other, Along, done, passed, judged}
@@ -89,14 +89,14 @@ lets_along {ts = ts} is args before (a_let l n e x s rest) =
 item_along : {ts : List Token} {i j : ℕ} {x : Item} (before : List Item) → IsItem ts i j x → Along ts i j (item_visits ts before x)
 item_along before (site s n b cs e) = passed (rw s refl) (judged (rw n refl) (passed (rw b refl) (extended (coords_along [] cs) (rw e refl))))
   where
-  extended : {ts : List Token} {i j : ℕ} {vs : List Visit} → Along ts i j vs → is_other (kind_at ts j) ≡ true → Along ts i (suc j) vs
-  extended done q = passed q done
-  extended (passed p a) q = passed p (extended a q)
-  extended (judged p a) q = judged p (extended a q)
+    extended : {ts : List Token} {i j : ℕ} {vs : List Visit} → Along ts i j vs → is_other (kind_at ts j) ≡ true → Along ts i (suc j) vs
+    extended done q = passed q done
+    extended (passed p a) q = passed p (extended a q)
+    extended (judged p a) q = judged p (extended a q)
 item_along before (param p n c r s) = passed (rw p refl) (judged (rw n refl) (passed (rw c refl) (range_along r (passed (rw s refl) done))))
 item_along {ts = ts} before (predicate {args = args} {ls = ls} p n l as' r b lets s x e c) =
     passed (rw p refl) (judged (rw n refl) (passed (rw l refl) (join (args_along before [] as') (passed (rw r refl) (passed (rw b refl)
-        (join (lets_along before args [] lets) (passed (rw s refl) (value_along (scope before args ls) (nodes_before ts ls) x (passed (rw e refl) (passed (rw c refl) done))))))))))
+    (join (lets_along before args [] lets) (passed (rw s refl) (value_along (scope before args ls) (nodes_before ts ls) x (passed (rw e refl) (passed (rw c refl) done))))))))))
 
 items_along : {ts : List Token} {i j : ℕ} {xs : List Item} (before : List Item) → Items ts i j xs → Along ts i j (visits_by (item_visits ts) before xs)
 items_along before no_item = done

@@ -1,5 +1,5 @@
 -- An expression doesn't end before it begins.
-use Rattle.std.proofs.Common.{ℕ, suc, ◌≤◌, List, arith}
+use Rattle.std.proofs.Common.{ℕ, ◌≤◌, List, arith}
 use Rattle.ln_lex.specs.declared.token.Token.{Token}
 use Rattle.ln_syntax.specs.Expression.{Tree, Sort, Derives, number, name, input, parens, plain, power, base, minus, term, no_factor, times, sum, no_term, plus, less}
 

@@ -1,5 +1,5 @@
 -- What holds of a file without a fault of names and limits: the limits of the language and the rules on its names, item by item.
-use Rattle.std.specs.Prelude.{◌≡◌, ℕ, ◌+◌, ◌-◌, ◌<◌, ◌≤◌, ◌^◌, ◌≤ℤ◌, Bool, true, false, ◌||◌, List, [], ◌∷◌, ◌++◌, length, count_by, Option, Some, None}
+use Rattle.std.specs.Prelude.{◌≡◌, ℕ, ◌+◌, ◌-◌, ◌<◌, ◌≤◌, ◌^◌, ◌≤ℤ◌, Bool, true, false, ◌||◌, List, [], ◌∷◌, ◌++◌, length, count_by, Option, Some}
 use Rattle.std.specs.List.{list_any}
 use Rattle.ln_base.specs.declared.span.Span.{Span}
 use Rattle.ln_lex.specs.declared.token.Token.{Token}
@@ -10,7 +10,7 @@ use Rattle.ln_syntax.specs.declared.raw.RawLet.{RawLet}
 use Rattle.ln_syntax.specs.declared.raw.Places.{Places}
 use Rattle.ln_syntax.specs.Raw.{Item, SiteItem, ParamItem, PredItem, item_name, is_site, is_param, is_pred, text, same, span_at}
 use Rattle.ln_names.specs.declared.roles.Role.{Role}
-use Rattle.ln_names.specs.declared.roles.Role.TheVariants.{Value, AfterCaret, Bare, Input, AfterDot, Operator}
+use Rattle.ln_names.specs.declared.roles.Role.TheVariants.{Value, AfterCaret, Bare, Input, AfterDot}
 use Rattle.ln_names.specs.Numbers.{number, end_value}
 use Rattle.ln_names.specs.Rules.{Scope, scope, is_site_arg, is_param_arg, has_site, has_param, has_site_arg, has_param_arg, has_let, coords_at}
 use Rattle.ln_names.specs.Visits.{role_at, nodes_before, value_nodes}
