@@ -1,4 +1,5 @@
 // The top call: the words, the files and the ports that are handed in, and the status.
 #![tactic(auto)]
 
+mod plain;
 mod value;

@@ -46,3 +46,31 @@ fn powered(a: i128, n: u8) -> i128
     }
     p
 }
+
+/// The value of an expression, where the variables have these values by number and the lets before it these.
+pub fn value_of(e: &Expr, vars: &[VarInfo], row: &[i64], lets: &[i128]) -> i128
+    requires fit { is_fit (length vars.now) (length lets.now) (tree_of vars.now e.now) ≡ true }
+    requires long { length vars.now ≤ length row.now }
+    requires small { ValuesFit (values row.now) lets.now (tree_of vars.now e.now) }
+    ensures { result ≡ value (values row.now) lets.now (tree_of vars.now e.now) }
+{
+    match &e.node {
+        Node::Num(c) => *c,
+        Node::Input(v) => i128::from(row[number_in(vars, *v)]),
+        Node::Name(j) => lets[usize::from(*j)],
+        Node::Neg(x) => negated(value_of(x, vars, row, lets)),
+        Node::Add(x, y) => sum(
+            value_of(x, vars, row, lets),
+            value_of(y, vars, row, lets),
+        ),
+        Node::Sub(x, y) => difference(
+            value_of(x, vars, row, lets),
+            value_of(y, vars, row, lets),
+        ),
+        Node::Mul(x, y) => product(
+            value_of(x, vars, row, lets),
+            value_of(y, vars, row, lets),
+        ),
+        Node::Pow(x, n) => powered(value_of(x, vars, row, lets), *n),
+    }
+}
