@@ -1,2 +1,4 @@
 pub mod NextLemmas
 pub mod RowLemmas
+pub mod RangeLemmas
+pub mod ExactLemmas

@@ -11,8 +11,8 @@ use Rattle.ln_code.specs.declared.row.Row.{Row}
 use Rattle.ln_code.specs.RowOf.{IsZeroPast}
 use Rattle.ln_rows.specs.Number.{within, number_in}
 use Rattle.ln_rows.specs.Record.{Column, SiteIndex, Variable, columns, number_of, in_column, fault_or, first_fault, said, indices, values, IsRead}
-use Rattle.ln_rows.specs.declared.number.NumberStop.{NumberStop}
-use Rattle.ln_rows.specs.declared.number.NumberStop.TheVariants as stop
+use Rattle.ln_rows.specs.declared.numbers.NumberStop.{NumberStop}
+use Rattle.ln_rows.specs.declared.numbers.NumberStop.TheVariants as stop
 use Rattle.ln_rows.specs.declared.record.RowStop.{RowStop}
 
 -- what has been read of the columns cs, where the field at `at` is next, and what is left

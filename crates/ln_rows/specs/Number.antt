@@ -1,8 +1,8 @@
 -- The number that a field says.
 use Rattle.std.specs.Prelude.{ℕ, ◌==◌, ◌&&◌, ◌^◌, Bool, false, int_le, if◌then◌else◌, ℤ, List, [], ◌∷◌, Option, Some, None, Result, Ok, Err}
 use Rattle.ln_base.specs.Decimal.{integer_value, decimal_value}
-use Rattle.ln_rows.specs.declared.number.NumberStop.{NumberStop}
-use Rattle.ln_rows.specs.declared.number.NumberStop.TheVariants.{Number, Range}
+use Rattle.ln_rows.specs.declared.numbers.NumberStop.{NumberStop}
+use Rattle.ln_rows.specs.declared.numbers.NumberStop.TheVariants.{Number, Range}
 
 -- a number that has to be from lo to hi
 abbrev pub within : ℤ → ℤ → Option ℤ → Result ℤ NumberStop

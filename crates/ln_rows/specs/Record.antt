@@ -8,8 +8,8 @@ use Rattle.ln_code.specs.declared.row.Row as code
 use Rattle.ln_code.specs.RowOf.{IsZeroPast}
 use Rattle.ln_order.specs.Order.{first_equal}
 use Rattle.ln_rows.specs.Number.{number_in}
-use Rattle.ln_rows.specs.declared.number.NumberStop.{NumberStop}
-use Rattle.ln_rows.specs.declared.number.NumberStop.TheVariants as stop
+use Rattle.ln_rows.specs.declared.numbers.NumberStop.{NumberStop}
+use Rattle.ln_rows.specs.declared.numbers.NumberStop.TheVariants as stop
 use Rattle.ln_rows.specs.declared.record.RowStop.{RowStop}
 use Rattle.ln_rows.specs.declared.record.RowStop.TheVariants.{Fields, Number, Range, Index}
 

@@ -1,13 +1,16 @@
 // Records as rows.
-ghost use Rattle.std.specs.Prelude.{◌≡◌, ◌+◌, ◌<◌, ◌≤◌, ℕ, pos, [], length, drop, count_by, slice_index_or, Some, None, IfOk, IfErr};
+ghost use Rattle.std.specs.Prelude.{◌≡◌, ◌+◌, ◌<◌, ◌≤◌, ℕ, pos, [], true, length, drop, count_by, slice_index_or, Some, None, Ok, Err, IfOk, IfErr};
 ghost use Rattle.csv.specs.Records.{fields_of};
-ghost use Rattle.ln_tree.specs.Variables.{starts_site};
+ghost use Rattle.ln_tree.specs.Row.{InRange};
+ghost use Rattle.ln_code.specs.RowOf.{row_of, IsZeroPast};
+ghost use Rattle.ln_tree.specs.Variables.{starts_site, is_laid_out};
 ghost use Rattle.ln_rows.specs.Number.{number_in};
 ghost use Rattle.ln_rows.specs.Record.{SiteIndex, Variable, columns, number_of, in_column, first_fault, indices, values, index_column, read_row, IsRead};
 
-use crate::number::{NumberStop, number};
+use crate::numbers::{NumberStop, number};
 use csv::ByteRecord;
 use ln_code::Row;
+use ln_order::first_equal;
 use ln_tree::{Pred, VarInfo};
 
 /// Why a record isn't a row: the first of these that it has. A column is named by its number, from 0.
@@ -95,4 +98,62 @@ fn read_columns(vars: &[VarInfo], fields: &ByteRecord) -> Result<Row, RowStop>
         }
     }
     Ok(row)
+}
+
+// How many columns there are.
+fn column_count(vars: &[VarInfo], sites: u8) -> usize
+    requires { is_laid_out sites vars.now ≡ true }
+    ensures { result ≡ length (columns vars.now) }
+{
+    vars.len() + usize::from(sites)
+}
+
+// The column with the index of site `place`.
+fn index_column(vars: &[VarInfo], place: u8) -> u8
+    requires { length (columns vars.now) < 256 }
+    ensures { result ≡ index_column 0 place (columns vars.now) }
+{
+    let mut at = 0u8;
+    let mut left = place;
+    'vars: for i in vars {
+        if starts_site(i) {
+            if left == 0 {
+                return at;
+            }
+            left -= 1;
+            at += 2;
+        } else {
+            at += 1;
+        }
+    }
+    at
+}
+
+// The row of a predicate with these variables and so many sites, or the first fault.
+fn row_over(vars: &[VarInfo], sites: u8, fields: &ByteRecord) -> Result<Row, RowStop>
+    requires { is_laid_out sites vars.now ≡ true }
+    ensures ok { IfOk result (λ r. read_row sites vars.now (fields_of fields.now) ≡ Ok (row_of sites vars.now r)) }
+    ensures err { IfErr result (λ e. read_row sites vars.now (fields_of fields.now) ≡ Err e) }
+    ensures past { IfOk result (λ r. IsZeroPast sites (length vars.now) r) }
+    ensures in_range { IfOk result (λ r. InRange sites vars.now (row_of sites vars.now r)) }
+{
+    if fields.len() != column_count(vars, sites) {
+        return Err(RowStop::Fields);
+    }
+    let row = read_columns(vars, fields)?;
+    match first_equal(&row.index[..usize::from(sites)]) {
+        None => Ok(row),
+        Some(place) => Err(RowStop::Index(index_column(vars, place))),
+    }
+}
+
+/// The row that a record says, or the first fault that it has. An index is from 0 to `2^63 - 1`, a variable in its declared
+/// range, and the indices differ. Places past those of the predicate are 0.
+pub fn row(p: &Pred, fields: &ByteRecord) -> Result<Row, RowStop>
+    ensures ok { IfOk result (λ r. read_row p.now.shape.sites p.now.shape.vars (fields_of fields.now) ≡ Ok (row_of p.now.shape.sites p.now.shape.vars r)) }
+    ensures err { IfErr result (λ e. read_row p.now.shape.sites p.now.shape.vars (fields_of fields.now) ≡ Err e) }
+    ensures past { IfOk result (λ r. IsZeroPast p.now.shape.sites (length p.now.shape.vars) r) }
+    ensures in_range { IfOk result (λ r. InRange p.now.shape.sites p.now.shape.vars (row_of p.now.shape.sites p.now.shape.vars r)) }
+{
+    row_over(p.shape.vars.as_slice(), p.shape.sites, fields)
 }

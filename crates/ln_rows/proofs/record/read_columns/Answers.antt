@@ -31,7 +31,7 @@ vars-preserved c =
         let fit2 : SFits w64 w.in_ok-row-2.field-0 = search rules in
         let a = sym w.in_ok-row.ensures in
         let b = sym w.in_ok-row-2.ensures in
-        rw (w.row-is, w.at-is, w.site-is, to_z-of_z, to_z-of_z) (filled_site _ _ c.vars.invariant c.vars-test.true (sym w.if-starts_site.ensures) c.requires.size c.requires.few_vars c.requires.few_sites a b)
+        rw (w.row-is, w.at-is, w.site-is, to_z-of_z fit, to_z-of_z fit2) (filled_site _ _ c.vars.invariant c.vars-test.true (sym w.if-starts_site.ensures) c.requires.size c.requires.few_vars c.requires.few_sites a b)
     | else-starts_site+in_ok-row-3 w ↦
         let fit : SFits w64 w.in_ok-row-3.field-0 = search rules in
         rw (w.row-is, w.at-is, w.site-is, to_z-of_z) (filled_other _ c.vars.invariant c.vars-test.true (sym w.if-starts_site.ensures) c.requires.size c.requires.few_vars (sym w.in_ok-row-3.ensures))
