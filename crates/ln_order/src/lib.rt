@@ -17,7 +17,8 @@ fn is_among(before: &[i64], z: &i64) -> bool
 /// The first place whose index an earlier place has, if any.
 pub fn first_equal(indices: &[i64]) -> Option<u8>
     requires { length indices.now ≤ 5 }
-    ensures { result ≡ first_equal indices.now }
+    ensures value { result ≡ first_equal indices.now }
+    ensures first { MatchOption result (AllPairs (λ y z. y ≢ z) indices.now) (λ k. IsFirstEqual indices.now k) }
 {
     'places: for (k, z) in indices.iter().enumerate() {
         if is_among(&indices[..k], z) {

@@ -1,1 +1,4 @@
 pub mod NextLemmas
+pub mod RowLemmas
+pub mod RangeLemmas
+pub mod ExactLemmas

@@ -1,5 +1,5 @@
 -- The names of the columns.
-use Rattle.std.specs.Prelude.{ℕ, List, [], ◌∷◌, ◌++◌, map, flat_map, Option, Some, None, slice_get}
+use Rattle.std.specs.Prelude.{◌≡◌, ◌≢◌, ℕ, ◌≤◌, length, drop, List, [], ◌∷◌, ◌++◌, map, flat_map, Option, Some, None, slice_get}
 use Rattle.ln_tree.specs.Names.{name_bytes}
 use Rattle.ln_tree.specs.declared.name.Name.{Name}
 use Rattle.ln_tree.specs.declared.items.Arg.{Arg}
@@ -29,3 +29,12 @@ arg_columns sites params (ParamArg p) = param_columns (slice_get params p)
 -- the names of the columns of a predicate with these arguments, in order
 abbrev pub column_names : List Site → List Param → List Arg → List (List ℕ)
 column_names sites params args = flat_map (arg_columns sites params) args
+
+-- these names stand among the fields from place `at` on, and `to` is the place behind them
+abbrev pub StandAt : List (List ℕ) → List (List ℕ) → ℕ → ℕ → Type 0
+StandAt names fields at to = (drop at fields ≡ names ++ drop to fields) × (at ≤ length fields → to ≤ length fields)
+
+-- the place behind these names, where they stand from place `at` on
+abbrev pub Passes : List (List ℕ) → List (List ℕ) → ℕ → Option ℕ → Type 0
+Passes names fields at None = (rest : List (List ℕ)) → drop at fields ≢ names ++ rest
+Passes names fields at (Some to) = StandAt names fields at to

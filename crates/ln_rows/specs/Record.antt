@@ -1,13 +1,15 @@
 -- What a record says: a row of a predicate, or the fault that it has.
-use Rattle.std.specs.Prelude.{ℕ, zero, suc, ◌-◌, ◌^◌, ◌==◌, if◌then◌else◌, ℤ, pos, List, [], ◌∷◌, length, take, Option, Some, None, unwrap_or, Result, Ok, Err}
+use Rattle.std.specs.Prelude.{◌≡◌, ℕ, zero, suc, ◌-◌, ◌^◌, ◌==◌, if◌then◌else◌, ℤ, pos, List, [], ◌∷◌, length, take, Option, Some, None, unwrap_or, Result, Ok, Err}
 use Rattle.ln_base.specs.Decimal.{integer_value}
 use Rattle.ln_tree.specs.declared.shape.VarInfo.{VarInfo}
 use Rattle.ln_tree.specs.Variables.{starts_site}
 use Rattle.ln_tree.specs.Row.{Row}
+use Rattle.ln_code.specs.declared.row.Row as code
+use Rattle.ln_code.specs.RowOf.{IsZeroPast}
 use Rattle.ln_order.specs.Order.{first_equal}
 use Rattle.ln_rows.specs.Number.{number_in}
-use Rattle.ln_rows.specs.declared.number.NumberStop.{NumberStop}
-use Rattle.ln_rows.specs.declared.number.NumberStop.TheVariants as stop
+use Rattle.ln_rows.specs.declared.numbers.NumberStop.{NumberStop}
+use Rattle.ln_rows.specs.declared.numbers.NumberStop.TheVariants as stop
 use Rattle.ln_rows.specs.declared.record.RowStop.{RowStop}
 use Rattle.ln_rows.specs.declared.record.RowStop.TheVariants.{Fields, Number, Range, Index}
 
@@ -26,17 +28,22 @@ abbrev pub number_of : Column → List ℕ → Result ℤ NumberStop
 number_of SiteIndex field = number_in (pos 0) (pos (2 ^ 63 - 1)) field
 number_of (Variable i) field = number_in i.lo i.hi field
 
--- the fault of a field in column k, or what the columns behind it have
-abbrev pub fault_or : ℕ → Result ℤ NumberStop → Option RowStop → Option RowStop
-fault_or k (Ok z) behind = behind
-fault_or k (Err stop.Number) behind = Some (Number k)
-fault_or k (Err stop.Range) behind = Some (Range k)
+-- the same with the fault named by the column's number
+abbrev pub in_column : ℕ → Result ℤ NumberStop → Result ℤ RowStop
+in_column k (Ok z) = Ok z
+in_column k (Err stop.Number) = Err (Number k)
+in_column k (Err stop.Range) = Err (Range k)
+
+-- the fault of a column, or what the columns behind it have
+abbrev pub fault_or : Result ℤ RowStop → Option RowStop → Option RowStop
+fault_or (Ok z) behind = behind
+fault_or (Err e) behind = Some e
 
 -- the fault of the first column from the left that has one, of the columns from number k on
 abbrev pub first_fault : ℕ → List Column → List (List ℕ) → Option RowStop
 first_fault k [] fields = None
 first_fault k (c ∷ cs) [] = None
-first_fault k (c ∷ cs) (f ∷ fs) = fault_or k (number_of c f) (first_fault (suc k) cs fs)
+first_fault k (c ∷ cs) (f ∷ fs) = fault_or (in_column k (number_of c f)) (first_fault (suc k) cs fs)
 
 -- the number that a field says, where it says one
 abbrev pub said : List ℕ → ℤ
@@ -79,3 +86,10 @@ read_row sites vars fields =
     if length fields == length (columns vars)
     then unless_fault (columns vars) (record { index = take sites (indices (columns vars) fields); values = values (columns vars) fields }) (first_fault 0 (columns vars) fields)
     else Err Fields
+
+-- the columns have no fault, and the row of the program is what they say, with 0 in the places past them
+pub record IsRead (vars : List VarInfo) (fields : List (List ℕ)) (r : code.Row) : Type 0 where
+  pub fault : first_fault 0 (columns vars) fields ≡ None
+  pub index : take (length (columns vars) - length vars) r.index ≡ indices (columns vars) fields
+  pub values : take (length vars) r.values ≡ values (columns vars) fields
+  pub zeros : IsZeroPast (length (columns vars) - length vars) (length vars) r

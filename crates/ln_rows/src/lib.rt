@@ -3,10 +3,11 @@
 //! the first fault that it has.
 #![tactic(auto)]
 
-pub mod number;
+pub mod names;
+pub mod numbers;
 pub mod record;
 pub mod rows;
 
-pub use number::NumberStop;
-pub use record::RowStop;
+pub use numbers::{NumberStop, number};
+pub use record::{RowStop, row};
 pub use rows::Rows;

@@ -1,4 +1,17 @@
 // Records as rows.
+ghost use Rattle.std.specs.Prelude.{◌≡◌, ◌+◌, ◌<◌, ◌≤◌, ℕ, pos, [], true, length, drop, count_by, slice_index_or, Some, None, Ok, Err, IfOk, IfErr};
+ghost use Rattle.csv.specs.Records.{fields_of};
+ghost use Rattle.ln_tree.specs.Row.{InRange};
+ghost use Rattle.ln_code.specs.RowOf.{row_of, IsZeroPast};
+ghost use Rattle.ln_tree.specs.Variables.{starts_site, is_laid_out};
+ghost use Rattle.ln_rows.specs.Number.{number_in};
+ghost use Rattle.ln_rows.specs.Record.{SiteIndex, Variable, columns, number_of, in_column, first_fault, indices, values, index_column, read_row, IsRead};
+
+use crate::numbers::{NumberStop, number};
+use csv::ByteRecord;
+use ln_code::Row;
+use ln_order::first_equal;
+use ln_tree::{Pred, VarInfo};
 
 /// Why a record isn't a row: the first of these that it has. A column is named by its number, from 0.
 #[derive(Clone, Copy, Debug, PartialEq, Eq)]
@@ -11,4 +24,136 @@ pub enum RowStop {
     Range(u8),
     /// The site with this column, the first such, has the index of an earlier site.
     Index(u8),
+}
+
+fn starts_site(i: &VarInfo) -> bool
+    ensures { result ≡ starts_site i.now }
+{
+    i.site.is_some() && i.coord == 0
+}
+
+// The field at a place, empty past the last one.
+fn field(fields: &ByteRecord, at: usize) -> &[u8]
+    ensures { result.now ≡ slice_index_or (fields_of fields.now) at [] }
+{
+    match fields.get(at) {
+        Some(bytes) => bytes,
+        None => &[],
+    }
+}
+
+// The number of the field of column `at`, from lo to hi.
+fn read(fields: &ByteRecord, at: usize, lo: i64, hi: i64) -> Result<i64, RowStop>
+    requires { at < 256 }
+    ensures { result ≡ in_column at (number_in lo hi (slice_index_or (fields_of fields.now) at [])) }
+{
+    match number(field(fields, at), lo, hi) {
+        Ok(z) => Ok(z),
+        Err(NumberStop::Number) => Err(RowStop::Number(at as u8)),
+        Err(NumberStop::Range) => Err(RowStop::Range(at as u8)),
+    }
+}
+
+// The index in column `at`.
+fn read_index(fields: &ByteRecord, at: usize) -> Result<i64, RowStop>
+    requires { at < 256 }
+    ensures { result ≡ in_column at (number_of SiteIndex (slice_index_or (fields_of fields.now) at [])) }
+{
+    read(fields, at, 0, i64::MAX)
+}
+
+// The value of a variable in column `at`.
+fn read_value(fields: &ByteRecord, at: usize, i: &VarInfo) -> Result<i64, RowStop>
+    requires { at < 256 }
+    ensures { result ≡ in_column at (number_of (Variable i.now) (slice_index_or (fields_of fields.now) at [])) }
+{
+    let lo = i.lo;
+    let hi = i.hi;
+    read(fields, at, lo, hi)
+}
+
+// The row that the fields say, or the first fault of a column.
+fn read_columns(vars: &[VarInfo], fields: &ByteRecord) -> Result<Row, RowStop>
+    requires few_vars { length vars.now ≤ 168 }
+    requires few_sites { length (columns vars.now) ≤ length vars.now + 5 }
+    requires size { length (fields_of fields.now) ≡ length (columns vars.now) }
+    ensures ok { IfOk result (λ r. IsRead vars.now (fields_of fields.now) r) }
+    ensures err { IfErr result (λ e. first_fault 0 (columns vars.now) (fields_of fields.now) ≡ Some e) }
+{
+    let mut row = Row {
+        index: [0; 5],
+        values: [0; 168],
+    };
+    let mut at = 0usize;
+    let mut site = 0usize;
+    'vars: for (v, i) in vars.iter().enumerate() {
+        if starts_site(i) {
+            row.index[site] = read_index(fields, at)?;
+            row.values[v] = read_value(fields, at + 1, i)?;
+            site += 1;
+            at += 2;
+        } else {
+            row.values[v] = read_value(fields, at, i)?;
+            at += 1;
+        }
+    }
+    Ok(row)
+}
+
+// How many columns there are.
+fn column_count(vars: &[VarInfo], sites: u8) -> usize
+    requires { is_laid_out sites vars.now ≡ true }
+    ensures { result ≡ length (columns vars.now) }
+{
+    vars.len() + usize::from(sites)
+}
+
+// The column with the index of site `place`.
+fn index_column(vars: &[VarInfo], place: u8) -> u8
+    requires { length (columns vars.now) < 256 }
+    ensures { result ≡ index_column 0 place (columns vars.now) }
+{
+    let mut at = 0u8;
+    let mut left = place;
+    'vars: for i in vars {
+        if starts_site(i) {
+            if left == 0 {
+                return at;
+            }
+            left -= 1;
+            at += 2;
+        } else {
+            at += 1;
+        }
+    }
+    at
+}
+
+// The row of a predicate with these variables and so many sites, or the first fault.
+fn row_over(vars: &[VarInfo], sites: u8, fields: &ByteRecord) -> Result<Row, RowStop>
+    requires { is_laid_out sites vars.now ≡ true }
+    ensures ok { IfOk result (λ r. read_row sites vars.now (fields_of fields.now) ≡ Ok (row_of sites vars.now r)) }
+    ensures err { IfErr result (λ e. read_row sites vars.now (fields_of fields.now) ≡ Err e) }
+    ensures past { IfOk result (λ r. IsZeroPast sites (length vars.now) r) }
+    ensures in_range { IfOk result (λ r. InRange sites vars.now (row_of sites vars.now r)) }
+{
+    if fields.len() != column_count(vars, sites) {
+        return Err(RowStop::Fields);
+    }
+    let row = read_columns(vars, fields)?;
+    match first_equal(&row.index[..usize::from(sites)]) {
+        None => Ok(row),
+        Some(place) => Err(RowStop::Index(index_column(vars, place))),
+    }
+}
+
+/// The row that a record says, or the first fault that it has. An index is from 0 to `2^63 - 1`, a variable in its declared
+/// range, and the indices differ. Places past those of the predicate are 0.
+pub fn row(p: &Pred, fields: &ByteRecord) -> Result<Row, RowStop>
+    ensures ok { IfOk result (λ r. read_row p.now.shape.sites p.now.shape.vars (fields_of fields.now) ≡ Ok (row_of p.now.shape.sites p.now.shape.vars r)) }
+    ensures err { IfErr result (λ e. read_row p.now.shape.sites p.now.shape.vars (fields_of fields.now) ≡ Err e) }
+    ensures past { IfOk result (λ r. IsZeroPast p.now.shape.sites (length p.now.shape.vars) r) }
+    ensures in_range { IfOk result (λ r. InRange p.now.shape.sites p.now.shape.vars (row_of p.now.shape.sites p.now.shape.vars r)) }
+{
+    row_over(p.shape.vars.as_slice(), p.shape.sites, fields)
 }

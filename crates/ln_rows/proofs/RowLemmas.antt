@@ -1,0 +1,218 @@
+-- Reading the columns from the left.
+use Rattle.std.proofs.Common.{◌≡◌, ◌≢◌, ℕ, zero, suc, ◌+◌, ◌-◌, ◌^◌, ◌<◌, ◌≤◌, Bool, true, false, ◌&&◌, cond, List, [], ◌∷◌, ◌++◌, length, get_or, take, drop, set, ℤ, pos, ◌≤ℤ◌, Option, Some, None, Result, Ok, Err, refl, ap, sym, ◌∙◌, subst, arith, add-one, drop-cons, append_assoc, get_or-set_other, replicate}
+use Rattle.std.specs.Prelude.{unwrap_or, int_le, count_by, if◌then◌else◌}
+use Rattle.std.proofs.lemmas.List.{take_more_set, append-nil, length-set, length-drop, drop_all}
+use Rattle.std.proofs.lemmas.List.Recursion.{is_count_by}
+use Rattle.csv.specs.Records.{field_at}
+use Rattle.ln_base.specs.Decimal.{integer_value}
+use Rattle.ln_tree.specs.declared.shape.VarInfo.{VarInfo}
+use Rattle.ln_tree.specs.Variables.{starts_site, no_var}
+use Rattle.ln_code.specs.declared.row.Row.{Row}
+use Rattle.ln_code.specs.RowOf.{IsZeroPast}
+use Rattle.ln_rows.specs.Number.{within, number_in}
+use Rattle.ln_rows.specs.Record.{Column, SiteIndex, Variable, columns, number_of, in_column, fault_or, first_fault, said, indices, values, IsRead}
+use Rattle.ln_rows.specs.declared.numbers.NumberStop.{NumberStop}
+use Rattle.ln_rows.specs.declared.numbers.NumberStop.TheVariants as stop
+use Rattle.ln_rows.specs.declared.record.RowStop.{RowStop}
+
+-- what has been read of the columns cs, where the field at `at` is next, and what is left
+pub record Front (cs : List Column) (fields : List (List ℕ)) (at : ℕ) (left : List Column) (index value : List ℤ) : Type 0 where
+  pub fault : first_fault at left (drop at fields) ≡ first_fault 0 cs fields
+  pub indices : index ++ indices left (drop at fields) ≡ indices cs fields
+  pub values : value ++ values left (drop at fields) ≡ values cs fields
+
+-- before any column
+pub front_none : (cs : List Column) (fields : List (List ℕ)) → Front cs fields 0 cs [] []
+front_none cs fields = record { fault = refl; indices = refl; values = refl }
+
+-- a number within a range is what the field says
+said_by : (lo hi z : ℤ) (o : Option ℤ) (k : ℕ) (b : ℤ → Bool) → ((y : ℤ) → b y ≡ (int_le lo y && int_le y hi)) → in_column k (within lo hi o) ≡ Ok z → unwrap_or o (pos 0) ≡ z
+said_by lo hi z None k b same h = absurd (cc)
+said_by lo hi z (Some y) k b same h = go (int_le lo y && int_le y hi) h where
+  go : (t : Bool) → in_column k (if t then Ok y else Err stop.Range) ≡ Ok z → y ≡ z
+  go true e = cc
+  go false e = absurd (cc)
+
+pub said_is : (lo hi z : ℤ) (field : List ℕ) (k : ℕ) → in_column k (number_in lo hi field) ≡ Ok z → said field ≡ z
+said_is lo hi z field k h = said_by lo hi z (integer_value field) k (λ y. int_le lo y && int_le y hi) (λ y. refl) h
+
+-- one more index
+pub front_index : (cs : List Column) (fields : List (List ℕ)) (at : ℕ) (left : List Column) (index value : List ℤ) (z : ℤ) → Front cs fields at (SiteIndex ∷ left) index value → at < length fields
+    → in_column at (number_in (pos 0) (pos (2 ^ 63 - 1)) (get_or fields at [])) ≡ Ok z → Front cs fields (suc at) left (index ++ z ∷ []) value
+front_index cs fields at left index value z f h e =
+    let says : said (get_or fields at []) ≡ z = said_is (pos 0) (pos (2 ^ 63 - 1)) z (get_or fields at []) at e in
+    record {
+      fault = rw (drop-cons fields at [], e) at f.fault;
+      indices = rw append_assoc (rw (drop-cons fields at [], says) at f.indices);
+      values = rw (drop-cons fields at []) at f.values;
+    }
+
+-- one more value
+pub front_value : (cs : List Column) (fields : List (List ℕ)) (at : ℕ) (i : VarInfo) (left : List Column) (index value : List ℤ) (z : ℤ) → Front cs fields at (Variable i ∷ left) index value → at < length fields
+    → in_column at (number_in i.lo i.hi (get_or fields at [])) ≡ Ok z → Front cs fields (suc at) left index (value ++ z ∷ [])
+front_value cs fields at i left index value z f h e =
+    let says : said (get_or fields at []) ≡ z = said_is i.lo i.hi z (get_or fields at []) at e in
+    record {
+      fault = rw (drop-cons fields at [], e) at f.fault;
+      indices = rw (drop-cons fields at []) at f.indices;
+      values = rw append_assoc (rw (drop-cons fields at [], says) at f.values);
+    }
+
+-- a column with a fault
+pub front_fault : (cs : List Column) (fields : List (List ℕ)) (at : ℕ) (c : Column) (left : List Column) (index value : List ℤ) (e : RowStop) → Front cs fields at (c ∷ left) index value → at < length fields
+    → in_column at (number_of c (get_or fields at [])) ≡ Err e → first_fault 0 cs fields ≡ Some e
+front_fault cs fields at c left index value e f h k = sym f.fault ∙ rw (drop-cons fields at [], k) refl
+
+-- the field at a place by the word of csv
+pub field_or : (fields : List (List ℕ)) (i : ℕ) → get_or fields i [] ≡ unwrap_or (field_at fields i) []
+unfolding field_at
+field_or [] i = refl
+field_or (f ∷ fs) zero = refl
+field_or (f ∷ fs) (suc i) = field_or fs i
+
+-- how far the variables have been read into the arrays of a row
+pub record Filled (vars : List VarInfo) (fields : List (List ℕ)) (v site at : ℕ) (index value : List ℤ) : Type 0 where
+  pub front : Front (columns vars) fields at (columns (drop v vars)) (take site index) (take v value)
+  pub size : at + length (columns (drop v vars)) ≡ length (columns vars)
+  pub places : at ≡ v + site
+  pub within : v ≤ length vars
+  pub index_zero : (k : ℕ) → site ≤ k → get_or index k (pos 0) ≡ pos 0
+  pub value_zero : (k : ℕ) → v ≤ k → get_or value k (pos 0) ≡ pos 0
+  pub index_size : length index ≡ 5
+  pub value_size : length value ≡ 168
+
+-- zeros alone
+zeros : (n k : ℕ) → get_or (replicate n (pos 0)) k (pos 0) ≡ pos 0
+zeros zero k = refl
+zeros (suc n) zero = refl
+zeros (suc n) (suc k) = zeros n k
+
+-- before any variable
+pub filled_none : (vars : List VarInfo) (fields : List (List ℕ)) → Filled vars fields 0 0 0 (replicate 5 (pos 0)) (replicate 168 (pos 0))
+filled_none vars fields = record {
+  front = front_none (columns vars) fields;
+  size = omega arith;
+  places = refl;
+  within = omega arith;
+  index_zero = λ k h. zeros 5 k;
+  value_zero = λ k h. zeros 168 k;
+  index_size = refl;
+  value_size = refl;
+}
+
+-- each variable has a column
+pub columns_at_least : (vars : List VarInfo) → length vars ≤ length (columns vars)
+columns_at_least [] = omega arith
+columns_at_least (i ∷ is) = go (starts_site i) (columns_at_least is) where
+  go : (b : Bool) → length is ≤ length (columns is) → suc (length is) ≤ length (if b then SiteIndex ∷ Variable i ∷ columns is else Variable i ∷ columns is)
+  go true h = omega (arith, h)
+  go false h = omega (arith, h)
+
+-- the variable of this number
+abbrev var_at : List VarInfo → ℕ → VarInfo
+var_at vars v = get_or vars v no_var
+
+-- the columns from a site on
+at_site : (vars : List VarInfo) (v : ℕ) → v < length vars → starts_site (var_at vars v) ≡ true → columns (drop v vars) ≡ SiteIndex ∷ Variable (var_at vars v) ∷ columns (drop (suc v) vars)
+at_site vars v h e = rw (drop-cons vars v no_var, e) refl
+
+-- the columns from another variable on
+at_other : (vars : List VarInfo) (v : ℕ) → v < length vars → starts_site (var_at vars v) ≡ false → columns (drop v vars) ≡ Variable (var_at vars v) ∷ columns (drop (suc v) vars)
+at_other vars v h e = rw (drop-cons vars v no_var, e) refl
+
+behind_at_least : (vars : List VarInfo) (v : ℕ) → length vars ≤ v + length (columns (drop v vars))
+behind_at_least vars v = omega (arith, columns_at_least (drop v vars), length-drop v vars)
+
+-- there is a place for the index of a site
+pub site_fits : {vars : List VarInfo} {fields : List (List ℕ)} {v site at : ℕ} {index value : List ℤ} → Filled vars fields v site at index value → v < length vars → starts_site (var_at vars v) ≡ true
+    → length (columns vars) ≤ length vars + 5 → site < 5
+site_fits {vars = vars} {v = v} f h e few =
+    let here = ap length (at_site vars v h e) in
+    omega (arith, f.size, f.places, here, behind_at_least vars (suc v), few)
+
+two_more : (n : ℕ) → n + 2 ≡ suc (suc n)
+two_more n = omega arith
+
+-- one more site
+pub filled_site : {vars : List VarInfo} {fields : List (List ℕ)} {v site at : ℕ} {index value : List ℤ} (z y : ℤ) → Filled vars fields v site at index value → v < length vars → starts_site (var_at vars v) ≡ true
+    → length fields ≡ length (columns vars) → length vars ≤ 168 → length (columns vars) ≤ length vars + 5
+    → in_column at (number_in (pos 0) (pos (2 ^ 63 - 1)) (get_or fields at [])) ≡ Ok z → in_column (at + 1) (number_in (var_at vars v).lo (var_at vars v).hi (get_or fields (at + 1) [])) ≡ Ok y
+    → Filled vars fields (v + 1) (site + 1) (at + 2) (set index site z) (set value v y)
+filled_site {vars = vars} {fields = fields} {v = v} {site = site} {at = at} {index = index} {value = value} z y f h e size few five p q =
+    let cols = at_site vars v h e in
+    let here = ap length cols in
+    let fits : site < 5 = site_fits f h e five in
+    let in_index : site < length index = omega (arith, f.index_size, fits) in
+    let in_value : v < length value = omega (arith, f.value_size, few, h) in
+    let one : Front (columns vars) fields at (SiteIndex ∷ Variable (var_at vars v) ∷ columns (drop (suc v) vars)) (take site index) (take v value) = rw cols at f.front in
+    let two = front_index (columns vars) fields at _ _ _ z one (omega (arith, f.size, here, size)) p in
+    let q2 : in_column (suc at) (number_in (var_at vars v).lo (var_at vars v).hi (get_or fields (suc at) [])) ≡ Ok y = rw (add-one at) at q in
+    let three = front_value (columns vars) fields (suc at) _ _ _ _ y two (omega (arith, f.size, here, size)) q2 in
+    record {
+      front = rw (take_more_set index site z in_index, take_more_set value v y in_value, two_more at, add-one v) three;
+      size = rw (add-one v) (omega (arith, f.size, here));
+      places = omega (arith, f.places);
+      within = omega (arith, h);
+      index_zero = λ k l. let ne : k ≢ site = omega arith in rw get_or-set_other (f.index_zero k (omega arith));
+      value_zero = λ k l. let ne : k ≢ v = omega arith in rw get_or-set_other (f.value_zero k (omega arith));
+      index_size = length-set index site z ∙ f.index_size;
+      value_size = length-set value v y ∙ f.value_size;
+    }
+
+-- one more variable that begins no site
+pub filled_other : {vars : List VarInfo} {fields : List (List ℕ)} {v site at : ℕ} {index value : List ℤ} (y : ℤ) → Filled vars fields v site at index value → v < length vars → starts_site (var_at vars v) ≡ false
+    → length fields ≡ length (columns vars) → length vars ≤ 168 → in_column at (number_in (var_at vars v).lo (var_at vars v).hi (get_or fields at [])) ≡ Ok y
+    → Filled vars fields (v + 1) site (at + 1) index (set value v y)
+filled_other {vars = vars} {fields = fields} {v = v} {site = site} {at = at} {index = index} {value = value} y f h e size few p =
+    let cols = at_other vars v h e in
+    let here = ap length cols in
+    let in_value : v < length value = omega (arith, f.value_size, few, h) in
+    let one : Front (columns vars) fields at (Variable (var_at vars v) ∷ columns (drop (suc v) vars)) (take site index) (take v value) = rw cols at f.front in
+    let two = front_value (columns vars) fields at _ _ _ _ y one (omega (arith, f.size, here, size)) p in
+    record {
+      front = rw (take_more_set value v y in_value, add-one at, add-one v) two;
+      size = rw (add-one v) (omega (arith, f.size, here));
+      places = omega (arith, f.places);
+      within = omega (arith, h);
+      index_zero = λ k l. f.index_zero k l;
+      value_zero = λ k l. let ne : k ≢ v = omega arith in rw get_or-set_other (f.value_zero k (omega arith));
+      index_size = f.index_size;
+      value_size = length-set value v y ∙ f.value_size;
+    }
+
+-- the fault of the value behind a site's index
+pub value_fault : {vars : List VarInfo} {fields : List (List ℕ)} {v site at : ℕ} {index value : List ℤ} (z : ℤ) (s : RowStop) → Filled vars fields v site at index value → v < length vars → starts_site (var_at vars v) ≡ true
+    → length fields ≡ length (columns vars)
+    → in_column at (number_in (pos 0) (pos (2 ^ 63 - 1)) (get_or fields at [])) ≡ Ok z → in_column (at + 1) (number_in (var_at vars v).lo (var_at vars v).hi (get_or fields (at + 1) [])) ≡ Err s
+    → first_fault 0 (columns vars) fields ≡ Some s
+value_fault {vars = vars} {fields = fields} {v = v} {site = site} {at = at} {index = index} {value = value} z s f h e size p q =
+    let cols = at_site vars v h e in
+    let here = ap length cols in
+    let one : Front (columns vars) fields at (SiteIndex ∷ Variable (var_at vars v) ∷ columns (drop (suc v) vars)) (take site index) (take v value) = rw cols at f.front in
+    let two = front_index (columns vars) fields at _ _ _ z one (omega (arith, f.size, here, size)) p in
+    let q2 : in_column (suc at) (number_in (var_at vars v).lo (var_at vars v).hi (get_or fields (suc at) [])) ≡ Err s = rw (add-one at) at q in
+    front_fault (columns vars) fields (suc at) _ _ _ _ s two (omega (arith, f.size, here, size)) q2
+
+-- the fault of another variable
+pub other_fault : {vars : List VarInfo} {fields : List (List ℕ)} {v site at : ℕ} {index value : List ℤ} (s : RowStop) → Filled vars fields v site at index value → v < length vars → starts_site (var_at vars v) ≡ false
+    → length fields ≡ length (columns vars) → in_column at (number_in (var_at vars v).lo (var_at vars v).hi (get_or fields at [])) ≡ Err s
+    → first_fault 0 (columns vars) fields ≡ Some s
+other_fault {vars = vars} {fields = fields} {v = v} {site = site} {at = at} {index = index} {value = value} s f h e size q =
+    let cols = at_other vars v h e in
+    let here = ap length cols in
+    let one : Front (columns vars) fields at (Variable (var_at vars v) ∷ columns (drop (suc v) vars)) (take site index) (take v value) = rw cols at f.front in
+    front_fault (columns vars) fields at _ _ _ _ s one (omega (arith, f.size, here, size)) q
+
+-- behind the last variable
+pub filled_all : {vars : List VarInfo} {fields : List (List ℕ)} {v site at : ℕ} {r : Row} → Filled vars fields v site at r.index r.values → length vars ≤ v → IsRead vars fields r
+filled_all {vars = vars} {fields = fields} {v = v} {site = site} {at = at} {r = r} f h =
+    let all : v ≡ length vars = omega (arith, f.within, h) in
+    let none : drop v vars ≡ [] = rw (all, drop_all (length vars) vars (omega arith)) refl in
+    let size : at ≡ length (columns vars) = omega (arith, ap (λ l. length (columns l)) none, f.size) in
+    let sites : length (columns vars) - length vars ≡ site = omega (arith, size, all, f.places) in
+    record {
+      fault = sym (rw none at f.front.fault);
+      index = rw sites (sym (append-nil (take site r.index)) ∙ rw none at f.front.indices);
+      values = rw (← all) (sym (append-nil (take v r.values)) ∙ rw none at f.front.values);
+      zeros = record { index = rw sites f.index_zero; values = rw (← all) f.value_zero };
+    }
