@@ -2,4 +2,6 @@
 #![tactic(auto)]
 
 mod plain;
+mod record;
+pub mod status;
 mod value;
