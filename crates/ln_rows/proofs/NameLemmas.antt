@@ -1,6 +1,6 @@
 -- Names among fields, place by place.
-use Rattle.std.proofs.Common.{◌≡◌, ◌≢◌, ℕ, zero, suc, ◌+◌, ◌<◌, ◌≤◌, List, [], ◌∷◌, ◌++◌, length, get_or, take, drop, map, Option, Some, None, refl, ap, sym, ◌∙◌, subst, arith, add-one, drop-cons, append_assoc, length-append, length-drop}
-use Rattle.std.specs.Prelude.{flat_map}
+use Rattle.std.proofs.Common.{◌≡◌, ◌≢◌, ℕ, zero, suc, ◌+◌, ◌-◌, ◌<◌, ◌≤◌, List, [], ◌∷◌, ◌++◌, length, get_or, take, drop, map, Option, Some, None, refl, ap, sym, ◌∙◌, subst, arith, add-one, drop-cons, append_assoc, length-append, length-drop}
+use Rattle.std.specs.Prelude.{flat_map, slice_get}
 use Rattle.std.proofs.lemmas.List.{append_cancel_left, append-nil, take_more, take-append-drop, map-append, drop_all}
 use Rattle.std.proofs.lemmas.List.Concat.{flat_map-append}
 use Rattle.csv.specs.Records.{field_at}
@@ -91,3 +91,13 @@ pub all_read : (names fields : List (List ℕ)) (to : ℕ) → StandAt names fie
 all_read names fields to p e =
     let rest : drop to fields ≡ [] = append_cancel_left names (drop to fields) [] (sym p.0 ∙ e ∙ sym (append-nil names)) in
     omega (arith, p.1 (omega arith), ap length rest, length-drop to fields)
+
+map_none : {X : Type 0} (f : X → List ℕ) (xs : List X) (i : ℕ) → None ≡ slice_get xs i → get_or (map f xs) i [] ≡ []
+map_none f [] i h = refl
+map_none f (x ∷ xs) zero h = absurd (cc)
+map_none f (x ∷ xs) (suc i) h = map_none f xs i h
+
+-- past the last coordinate there is no column
+pub none_past : {X : Type 0} (f : X → List ℕ) (x : List ℕ) (xs : List X) (i : ℕ) → i ≢ 0 → None ≡ slice_get xs (i - 1) → get_or (x ∷ map f xs) i [] ≡ []
+none_past f x xs zero ne h = absurd (ne refl)
+none_past f x xs (suc i) ne h = let e : suc i - 1 ≡ i = omega arith in map_none f xs i (rw e at h)
