@@ -2,3 +2,4 @@ pub mod NextLemmas
 pub mod RowLemmas
 pub mod RangeLemmas
 pub mod ExactLemmas
+pub mod NameLemmas

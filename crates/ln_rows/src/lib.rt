@@ -8,6 +8,7 @@ pub mod numbers;
 pub mod record;
 pub mod rows;
 
+pub use names::{column, header};
 pub use numbers::{NumberStop, number};
 pub use record::{RowStop, row};
 pub use rows::Rows;

@@ -1,11 +1,14 @@
 // The names of the columns.
-ghost use Rattle.std.specs.Prelude.{◌≡◌, ◌↔◌, ◌+◌, ◌<◌, ◌^◌, ◌++◌, [], ◌∷◌, map, length, IsTrue, Some, slice_get};
+ghost use Rattle.std.specs.Prelude.{◌≡◌, ◌↔◌, ◌+◌, ◌<◌, ◌^◌, ◌++◌, [], ◌∷◌, map, length, IsTrue, Some, slice_get, slice_index_or, IfOk};
 ghost use Rattle.csv.specs.Records.{fields_of, field_at};
+ghost use Rattle.std.specs.Option.{option_copied};
 ghost use Rattle.ln_tree.specs.Names.{name_bytes};
-ghost use Rattle.ln_rows.specs.Columns.{coord_column, arg_columns, column_names, Passes};
+ghost use Rattle.ln_rows.specs.Columns.{coord_column, site_columns, param_columns, arg_columns, column_names, Passes};
 
 use csv::ByteRecord;
-use ln_tree::{Arg, Coord, Name, Pred, Table};
+use ln_base::NoMemory;
+use ln_tree::{Arg, Coord, Name, Param, Pred, Site, Table};
+use std::alloc::Global;
 
 fn same(a: &[u8], b: &[u8]) -> bool
     ensures { IsTrue result ↔ (a.now ≡ b.now) }
@@ -26,7 +29,8 @@ fn is_dotted(field: &[u8], site: &[u8], coord: &[u8]) -> bool
 
 // Is the field at a place this name?
 fn is_name(fields: &ByteRecord, at: usize, name: &Name) -> bool
-    ensures { IsTrue result ↔ (field_at (fields_of fields.now) at ≡ Some (name_bytes name.now)) }
+    ensures value { IsTrue result ↔ (field_at (fields_of fields.now) at ≡ Some (name_bytes name.now)) }
+    ensures small { IsTrue result → at + 1 < 2 ^ 64 }
 {
     match fields.get(at) {
         Some(field) => same(field, name.bytes()),
@@ -36,10 +40,161 @@ fn is_name(fields: &ByteRecord, at: usize, name: &Name) -> bool
 
 // Is the field at a place the name of this coordinate of the site?
 fn is_coord(fields: &ByteRecord, at: usize, site: &Name, coord: &Coord) -> bool
-    ensures { IsTrue result ↔ (field_at (fields_of fields.now) at ≡ Some (coord_column site.now coord.now)) }
+    ensures value { IsTrue result ↔ (field_at (fields_of fields.now) at ≡ Some (coord_column site.now coord.now)) }
+    ensures small { IsTrue result → at + 1 < 2 ^ 64 }
 {
     match fields.get(at) {
         Some(field) => is_dotted(field, site.bytes(), coord.name.bytes()),
         None => false,
     }
+}
+
+// The place behind a name, where it is the field at `at`.
+fn past_name(fields: &ByteRecord, at: usize, name: &Name) -> Option<usize>
+    ensures { Passes (name_bytes name.now ∷ []) (fields_of fields.now) at result }
+{
+    if is_name(fields, at, name) {
+        Some(at + 1)
+    } else {
+        None
+    }
+}
+
+// The place behind the names of these coordinates of a site, where they stand from `at` on.
+fn past_coords(fields: &ByteRecord, at: usize, site: &Name, coords: &[Coord]) -> Option<usize>
+    ensures { Passes (map (coord_column site.now) coords.now) (fields_of fields.now) at result }
+{
+    let mut to = at;
+    'coords: for coord in coords {
+        if !is_coord(fields, to, site, coord) {
+            return None;
+        }
+        to += 1;
+    }
+    Some(to)
+}
+
+// The place behind the columns of a site of this type, where they stand from `at` on.
+fn past_site(fields: &ByteRecord, at: usize, name: &Name, site: Option<&Site>) -> Option<usize>
+    ensures { Passes (site_columns name.now (option_copied site.entry)) (fields_of fields.now) at result }
+{
+    let behind = past_name(fields, at, name)?;
+    match site {
+        Some(site) => past_coords(fields, behind, name, site.coords.as_slice()),
+        None => Some(behind),
+    }
+}
+
+// The place behind the column of a param, where it is the field at `at`.
+fn past_param(fields: &ByteRecord, at: usize, param: Option<&Param>) -> Option<usize>
+    ensures { Passes (param_columns (option_copied param.entry)) (fields_of fields.now) at result }
+{
+    match param {
+        Some(param) => past_name(fields, at, &param.name),
+        None => Some(at),
+    }
+}
+
+// The place behind the columns of an argument, where they stand from `at` on.
+fn past_arg(fields: &ByteRecord, at: usize, t: &Table, arg: &Arg) -> Option<usize>
+    ensures { Passes (arg_columns t.now.sites t.now.params arg.now) (fields_of fields.now) at result }
+{
+    match arg {
+        Arg::Site(name, k) => past_site(fields, at, name, t.sites.get(usize::from(*k))),
+        Arg::Param(k) => past_param(fields, at, t.params.get(usize::from(*k))),
+    }
+}
+
+/// Are these fields the names of the columns, in order? The columns of a site argument are its index, named as the site, and
+/// its coordinates, each named as the site, a dot and the coordinate; a param's column is named as the param.
+pub fn header(t: &Table, p: &Pred, fields: &ByteRecord) -> bool
+    ensures { IsTrue result ↔ (fields_of fields.now ≡ column_names t.now.sites t.now.params p.now.args) }
+{
+    let mut at = 0;
+    'each: for arg in p.args.as_slice() {
+        match past_arg(fields, at, t, arg) {
+            Some(to) => at = to,
+            None => return false,
+        }
+    }
+    at == fields.len()
+}
+
+fn plain(alloc: Global, name: &Name) -> Result<Vec<u8>, NoMemory>
+    ensures { IfOk result (λ v. v.items ≡ name_bytes name.now) }
+{
+    let mut text = Vec::new(alloc);
+    text.extend_from_slice(name.bytes())?;
+    Ok(text)
+}
+
+fn dotted(alloc: Global, site: &Name, coord: &Coord) -> Result<Vec<u8>, NoMemory>
+    ensures { IfOk result (λ v. v.items ≡ coord_column site.now coord.now) }
+{
+    let mut text = Vec::new(alloc);
+    text.extend_from_slice(site.bytes())?;
+    text.push(b'.')?;
+    text.extend_from_slice(coord.name.bytes())?;
+    Ok(text)
+}
+
+// The name of column `i` of a site of this type, empty where it has no such column.
+fn site_column(alloc: Global, name: &Name, site: Option<&Site>, i: usize) -> Result<Vec<u8>, NoMemory>
+    ensures { IfOk result (λ v. v.items ≡ slice_index_or (site_columns name.now (option_copied site.entry)) i []) }
+{
+    if i == 0 {
+        return plain(alloc, name);
+    }
+    let Some(site) = site else {
+        return Ok(Vec::new(alloc));
+    };
+    match site.coords.get(i - 1) {
+        Some(coord) => dotted(alloc, name, coord),
+        None => Ok(Vec::new(alloc)),
+    }
+}
+
+// The name of column `i` of an argument, empty where it has no such column.
+fn arg_column(alloc: Global, t: &Table, arg: &Arg, i: usize) -> Result<Vec<u8>, NoMemory>
+    ensures { IfOk result (λ v. v.items ≡ slice_index_or (arg_columns t.now.sites t.now.params arg.now) i []) }
+{
+    match arg {
+        Arg::Site(name, k) => site_column(alloc, name, t.sites.get(usize::from(*k)), i),
+        Arg::Param(k) => match t.params.get(usize::from(*k)) {
+            Some(param) if i == 0 => plain(alloc, &param.name),
+            _ => Ok(Vec::new(alloc)),
+        },
+    }
+}
+
+// How many columns an argument has.
+fn arg_width(t: &Table, arg: &Arg) -> usize
+    ensures { result ≡ length (arg_columns t.now.sites t.now.params arg.now) }
+{
+    match arg {
+        Arg::Site(_, k) => match t.sites.get(usize::from(*k)) {
+            Some(site) => site.coords.as_slice().len() + 1,
+            None => 1,
+        },
+        Arg::Param(k) => match t.params.get(usize::from(*k)) {
+            Some(_) => 1,
+            None => 0,
+        },
+    }
+}
+
+/// The name of column `i` of a predicate, from 0.
+pub fn column(alloc: Global, t: &Table, p: &Pred, i: usize) -> Result<Vec<u8>, NoMemory>
+    requires { i < length (column_names t.now.sites t.now.params p.now.args) }
+    ensures { IfOk result (λ v. v.items ≡ slice_index_or (column_names t.now.sites t.now.params p.now.args) i []) }
+{
+    let mut left = i;
+    'each: for arg in p.args.as_slice() {
+        let width = arg_width(t, arg);
+        if left < width {
+            return arg_column(alloc, t, arg, left);
+        }
+        left -= width;
+    }
+    Ok(Vec::new(alloc))
 }
