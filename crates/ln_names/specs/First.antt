@@ -1,0 +1,29 @@
+-- The first fault of a file: a token that has one, behind tokens that have none.
+use Rattle.std.specs.Prelude.{◌≡◌, ℕ, List, [], ◌∷◌, ◌++◌, Some, None}
+use Rattle.ln_lex.specs.declared.token.Token.{Token}
+use Rattle.ln_syntax.specs.Raw.{Item}
+use Rattle.ln_names.specs.declared.faults.Found.{Found}
+use Rattle.ln_names.specs.Rules.{Use, fault_at}
+use Rattle.ln_names.specs.Visits.{Visit, visit, file_visits}
+
+-- no token has a fault
+abbrev pub Clean : List ℕ → List Visit → Type 0
+Clean bytes [] = Unit {0}
+Clean bytes (v ∷ vs) = (fault_at bytes v.use_of v.at ≡ None) × Clean bytes vs
+
+-- a token that has this fault, and no token before it has one
+pub record IsFirst (bytes : List ℕ) (vs : List Visit) (f : Found) : Type 0 where
+  pub before : List Visit
+  pub use_of : Use
+  pub after : List Visit
+  pub stands : vs ≡ before ++ (visit use_of f.at ∷ after)
+  pub clean : Clean bytes before
+  pub fault : fault_at bytes use_of f.at ≡ Some f.fault
+
+-- the first fault of names and limits of a file with these tokens and items
+abbrev pub FirstFault : List ℕ → List Token → List Item → Found → Type 0
+FirstFault bytes ts is f = IsFirst bytes (file_visits ts is) f
+
+-- a file with these tokens and items has no fault of names and limits
+abbrev pub NoFault : List ℕ → List Token → List Item → Type 0
+NoFault bytes ts is = Clean bytes (file_visits ts is)

@@ -1,0 +1,5 @@
+pub mod Numbers
+pub mod Rules
+pub mod Visits
+pub mod First
+pub mod Resolve

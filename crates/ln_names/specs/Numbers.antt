@@ -1,0 +1,31 @@
+-- The value of a NUMBER, and of an end of a range.
+use Rattle.std.specs.Prelude.{ℕ, ℤ, pos, neg_ℤ, ◌+◌, ◌-◌, ◌*◌, List, [], ◌∷◌, Bool, true, false}
+use Rattle.ln_base.specs.declared.span.Span.{Span}
+use Rattle.ln_syntax.specs.declared.raw.RawEnd.{RawEnd}
+use Rattle.ln_syntax.specs.Raw.{text}
+
+-- the number whose decimal digits are those of n, then these; leading zeros count for nothing
+abbrev pub decimal : ℕ → List ℕ → ℕ
+decimal n [] = n
+decimal n (d ∷ ds) = decimal (10 * n + (d - 48)) ds
+
+-- the number that the bytes of a NUMBER are
+abbrev pub number : List ℕ → Span → ℕ
+number bytes s = decimal 0 (text bytes s)
+
+-- a number, or minus it
+abbrev pub signed : Bool → ℕ → ℤ
+signed false n = pos n
+signed true n = neg_ℤ (pos n)
+
+-- the whole number that an end of a range is
+abbrev pub end_value : List ℕ → RawEnd → ℤ
+end_value bytes e = signed e.negative (number bytes e.at)
+
+-- the largest literal, 2^127 - 1
+abbrev pub most_literal : ℕ
+most_literal = 170141183460469231731687303715884105727
+
+-- the largest end of a range, 2^63 - 1
+abbrev pub most_end : ℕ
+most_end = 9223372036854775807

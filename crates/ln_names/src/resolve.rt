@@ -1,0 +1,103 @@
+// What names stand for, as places in lists, and what numbers are.
+ghost use Rattle.std.specs.Prelude.{◌≡◌, ◌^◌, ◌<◌, ◌&&◌, pos, length, find, option_map, IfSome};
+ghost use Rattle.ln_syntax.specs.Raw.{same, item, items, item_name, is_site, coords_in};
+ghost use Rattle.ln_names.specs.Numbers.{number, end_value, signed};
+ghost use Rattle.ln_names.specs.Rules.{is_site_arg, coords_of};
+ghost use Rattle.ln_names.specs.Resolve.{let_place, param_place, site_place, coord_place};
+
+use crate::spans::{number, same};
+use ln_base::Span;
+use ln_syntax::{RawArg, RawCoord, RawEnd, RawItem, RawLet};
+
+/// The number of the let of this name, among the lets of a predicate.
+pub fn let_place(bytes: &[u8], lets: &[RawLet], at: Span) -> Option<usize>
+    ensures place { result ≡ let_place bytes.now lets.now at }
+    ensures below { IfSome result (λ i. i < length lets.now) }
+{
+    lets.iter().position(|l| same(bytes, l.name, at))
+}
+
+/// The place of the param argument of this name, among all arguments.
+pub fn param_at(bytes: &[u8], args: &[RawArg], at: Span) -> Option<usize>
+    ensures place { result ≡ param_place bytes.now args.now at }
+    ensures below { IfSome result (λ i. i < length args.now) }
+{
+    args.iter()
+        .position(|a| a.is_param && same(bytes, a.name, at))
+}
+
+/// The place of the site argument of this name, among all arguments.
+pub fn site_at(bytes: &[u8], args: &[RawArg], at: Span) -> Option<usize>
+    ensures place { result ≡ site_place bytes.now args.now at }
+    ensures below { IfSome result (λ i. i < length args.now) }
+{
+    args.iter()
+        .position(|a| !a.is_param && same(bytes, a.name, at))
+}
+
+/// The place of the coordinate of this name, among the coordinates of a site type.
+pub fn coord_at(bytes: &[u8], coords: &[RawCoord], at: Span) -> Option<usize>
+    ensures place { result ≡ coord_place bytes.now coords.now at }
+    ensures below { IfSome result (λ i. i < length coords.now) }
+{
+    coords.iter().position(|c| same(bytes, c.name, at))
+}
+
+fn coords_in_items<'a>(bytes: &[u8], its: &'a [RawItem], kind: Span) -> &'a [RawCoord]
+    ensures { result.now ≡ coords_in (option_map item (find (λ i. is_site (item i) && same bytes.now (item_name (item i)) kind) its.now)) }
+{
+    for i in its {
+        if i.is_site() && same(bytes, i.name(), kind) {
+            return i.coords();
+        }
+    }
+    &[]
+}
+
+fn site_coords<'a>(bytes: &[u8], its: &'a [RawItem], kind: Span) -> &'a [RawCoord]
+    ensures { result.now ≡ coords_in (find (λ i. is_site i && same bytes.now (item_name i) kind) (items its.now)) }
+{
+    coords_in_items(bytes, its, kind)
+}
+
+/// The coordinates of the site argument of this name; none, where there is no such argument.
+pub fn arg_coords<'a>(bytes: &[u8], its: &'a [RawItem], args: &[RawArg], at: Span) -> &'a [RawCoord]
+    ensures { result.now ≡ coords_of bytes.now (items its.now) (find (λ a. is_site_arg a && same bytes.now a.name at) args.now) }
+{
+    for a in args {
+        if !a.is_param && same(bytes, a.name, at) {
+            return site_coords(bytes, its, a.kind);
+        }
+    }
+    &[]
+}
+
+fn signed_literal(n: u128) -> i128
+    requires { n < 2 ^ 127 }
+    ensures { result ≡ pos n }
+{
+    n as i128
+}
+
+fn signed_end(negative: bool, n: u128) -> i64
+    requires { n < 2 ^ 63 }
+    ensures { result ≡ signed negative n }
+{
+    if negative { -(n as i64) } else { n as i64 }
+}
+
+/// The value of a literal within its limit.
+pub fn literal(bytes: &[u8], at: Span) -> i128
+    requires { number bytes.now at < 2 ^ 127 }
+    ensures { result ≡ pos (number bytes.now at) }
+{
+    signed_literal(number(bytes, at))
+}
+
+/// The value of an end of a range within its limit.
+pub fn end_of(bytes: &[u8], e: RawEnd) -> i64
+    requires { number bytes.now e.at < 2 ^ 63 }
+    ensures { result ≡ end_value bytes.now e }
+{
+    signed_end(e.negative, number(bytes, e.at))
+}

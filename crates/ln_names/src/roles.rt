@@ -1,0 +1,91 @@
+// What the tokens of an expression are, by their kinds and their neighbours'.
+ghost use Rattle.std.specs.Prelude.{◌≡◌, ◌<◌};
+ghost use Rattle.ln_syntax.specs.Raw.{kind_at, span_at};
+ghost use Rattle.ln_names.specs.Visits.{is_dot, is_caret, role_at, is_node};
+
+use ln_base::Span;
+use ln_lex::{Kind, Token};
+
+/// What a token of an expression is; parentheses and the dot are nothing.
+#[derive(Clone, Copy, Debug, PartialEq, Eq)]
+pub enum Role {
+    /// A NUMBER that is a node.
+    Value,
+    /// A NUMBER after `^`.
+    AfterCaret,
+    /// A NAME that is a let's or a param argument's.
+    Bare,
+    /// The first NAME of an input.
+    Input,
+    /// The second NAME of an input.
+    AfterDot,
+    /// `+`, `-`, `*` or `^`.
+    Operator,
+}
+
+pub fn role_at(ts: &[Token], k: usize) -> Option<Role>
+    ensures { result ≡ role_at ts.now k }
+{
+    match kind_at(ts, k) {
+        Some(Kind::Number) => {
+            if caret_at(ts, k.saturating_sub(1)) {
+                Some(Role::AfterCaret)
+            } else {
+                Some(Role::Value)
+            }
+        }
+        Some(Kind::Name) => {
+            if dot_at(ts, k.saturating_sub(1)) {
+                Some(Role::AfterDot)
+            } else if dot_at(ts, k + 1) {
+                Some(Role::Input)
+            } else {
+                Some(Role::Bare)
+            }
+        }
+        Some(Kind::Plus) | Some(Kind::Minus) | Some(Kind::Star) | Some(Kind::Caret) => {
+            Some(Role::Operator)
+        }
+        _ => None,
+    }
+}
+
+pub fn node_of(role: Role) -> usize
+    ensures { result ≡ is_node role }
+{
+    match role {
+        Role::AfterCaret => 0,
+        Role::AfterDot => 0,
+        _ => 1,
+    }
+}
+
+fn kind_at(ts: &[Token], i: usize) -> Option<Kind>
+    ensures { result ≡ kind_at ts.now i }
+{
+    match ts.get(i) {
+        Some(t) => Some(t.kind),
+        None => None,
+    }
+}
+
+pub fn span_at(ts: &[Token], i: usize) -> Span
+    ensures { result ≡ span_at ts.now i }
+{
+    match ts.get(i) {
+        Some(t) => t.span,
+        None => Span { start: 0, end: 0 },
+    }
+}
+
+fn dot_at(ts: &[Token], i: usize) -> bool
+    ensures { result ≡ is_dot (kind_at ts.now i) }
+{
+    matches!(kind_at(ts, i), Some(Kind::Dot))
+}
+
+fn caret_at(ts: &[Token], i: usize) -> bool
+    ensures { result ≡ is_caret (kind_at ts.now i) }
+{
+    matches!(kind_at(ts, i), Some(Kind::Caret))
+}

@@ -1,0 +1,396 @@
+// The fault at one token, by what the token is.
+ghost use Rattle.std.specs.Prelude.{◌≡◌, ◌^◌, ◌<◌, ◌&&◌, length, count_by, nat_lt, int_lt, IfNone};
+ghost use Rattle.std.specs.List.{list_any};
+ghost use Rattle.ln_syntax.specs.Raw.{text, same, item, items, item_name, is_site, is_param, is_pred};
+ghost use Rattle.ln_names.specs.Numbers.{number, end_value, signed, most_literal, most_end};
+ghost use Rattle.ln_names.specs.Rules.{fault_at, SiteName, ParamName, PredName, CoordName, is_site_arg, is_param_arg, has_site, has_param, has_site_arg, has_param_arg, has_let, LowEnd, HighEnd, ArgName, ArgSite, ArgParam, LetName, NumberNode, NameNode, InputNode, InputCoord, OperatorNode, ExponentOf, scope};
+
+use crate::faults::{Fault, LimitWhat, NameWhat};
+use crate::resolve::arg_coords;
+use crate::spans::{number, same, text};
+use ln_base::Span;
+use ln_syntax::{RawArg, RawCoord, RawItem, RawLet, RawRange};
+
+fn long_name(bytes: &[u8], at: Span) -> bool
+    ensures { result ≡ nat_lt 32 (length (text bytes.now at)) }
+{
+    text(bytes, at).len() > 32
+}
+
+fn any_named(bytes: &[u8], before: &[RawItem], at: Span) -> bool
+    ensures { result ≡ list_any (λ i. same bytes.now (item_name (item i)) at) before.now }
+{
+    before.iter().any(|i| same(bytes, i.name(), at))
+}
+
+fn item_twice(bytes: &[u8], before: &[RawItem], at: Span) -> bool
+    ensures { result ≡ list_any (λ i. same bytes.now (item_name i) at) (items before.now) }
+{
+    any_named(bytes, before, at)
+}
+
+fn any_site(bytes: &[u8], before: &[RawItem], at: Span) -> bool
+    ensures { result ≡ list_any (λ i. is_site (item i) && same bytes.now (item_name (item i)) at) before.now }
+{
+    before
+        .iter()
+        .any(|i| i.is_site() && same(bytes, i.name(), at))
+}
+
+fn any_param(bytes: &[u8], before: &[RawItem], at: Span) -> bool
+    ensures { result ≡ list_any (λ i. is_param (item i) && same bytes.now (item_name (item i)) at) before.now }
+{
+    before
+        .iter()
+        .any(|i| i.is_param() && same(bytes, i.name(), at))
+}
+
+fn sites(before: &[RawItem]) -> usize
+    ensures { result ≡ count_by is_site (items before.now) }
+{
+    before.iter().filter(|i| i.is_site()).count()
+}
+
+fn params(before: &[RawItem]) -> usize
+    ensures { result ≡ count_by is_param (items before.now) }
+{
+    before.iter().filter(|i| i.is_param()).count()
+}
+
+fn preds(before: &[RawItem]) -> usize
+    ensures { result ≡ count_by is_pred (items before.now) }
+{
+    before.iter().filter(|i| i.is_pred()).count()
+}
+
+fn known_site(bytes: &[u8], before: &[RawItem], at: Span) -> bool
+    ensures { result ≡ has_site bytes.now (items before.now) at }
+{
+    any_site(bytes, before, at)
+}
+
+fn known_param(bytes: &[u8], before: &[RawItem], at: Span) -> bool
+    ensures { result ≡ has_param bytes.now (items before.now) at }
+{
+    any_param(bytes, before, at)
+}
+
+fn coord_twice(bytes: &[u8], before: &[RawCoord], at: Span) -> bool
+    ensures { result ≡ list_any (λ c. same bytes.now c.name at) before.now }
+{
+    before.iter().any(|c| same(bytes, c.name, at))
+}
+
+pub fn site_name(bytes: &[u8], before: &[RawItem], at: Span) -> Option<Fault>
+    ensures { result ≡ fault_at bytes.now (SiteName (items before.now)) at }
+{
+    if long_name(bytes, at) {
+        Some(Fault::Limit(LimitWhat::NameLength))
+    } else if sites(before) == 16 {
+        Some(Fault::Limit(LimitWhat::Sites))
+    } else if item_twice(bytes, before, at) {
+        Some(Fault::Named(NameWhat::Twice))
+    } else {
+        None
+    }
+}
+
+pub fn coord_name(bytes: &[u8], before: &[RawCoord], at: Span) -> Option<Fault>
+    ensures { result ≡ fault_at bytes.now (CoordName before.now) at }
+{
+    if long_name(bytes, at) {
+        Some(Fault::Limit(LimitWhat::NameLength))
+    } else if before.len() == 32 {
+        Some(Fault::Limit(LimitWhat::Coords))
+    } else if coord_twice(bytes, before, at) {
+        Some(Fault::Named(NameWhat::Twice))
+    } else {
+        None
+    }
+}
+
+pub fn param_name(bytes: &[u8], before: &[RawItem], at: Span) -> Option<Fault>
+    ensures { result ≡ fault_at bytes.now (ParamName (items before.now)) at }
+{
+    if long_name(bytes, at) {
+        Some(Fault::Limit(LimitWhat::NameLength))
+    } else if params(before) == 16 {
+        Some(Fault::Limit(LimitWhat::Params))
+    } else if item_twice(bytes, before, at) {
+        Some(Fault::Named(NameWhat::Twice))
+    } else {
+        None
+    }
+}
+
+pub fn pred_name(bytes: &[u8], before: &[RawItem], at: Span) -> Option<Fault>
+    ensures { result ≡ fault_at bytes.now (PredName (items before.now)) at }
+{
+    if long_name(bytes, at) {
+        Some(Fault::Limit(LimitWhat::NameLength))
+    } else if preds(before) == 16 {
+        Some(Fault::Limit(LimitWhat::Predicates))
+    } else if item_twice(bytes, before, at) {
+        Some(Fault::Named(NameWhat::Twice))
+    } else {
+        None
+    }
+}
+
+const MOST_LITERAL: u128 = 170_141_183_460_469_231_731_687_303_715_884_105_727;
+
+const MOST_END: u128 = 9_223_372_036_854_775_807;
+
+fn over_literal(bytes: &[u8], at: Span) -> bool
+    ensures { result ≡ nat_lt most_literal (number bytes.now at) }
+{
+    number(bytes, at) > MOST_LITERAL
+}
+
+fn over_end(bytes: &[u8], at: Span) -> bool
+    ensures { result ≡ nat_lt most_end (number bytes.now at) }
+{
+    number(bytes, at) > MOST_END
+}
+
+pub fn low_end(bytes: &[u8], at: Span) -> Option<Fault>
+    ensures fault { result ≡ fault_at bytes.now LowEnd at }
+    ensures fine { IfNone result (number bytes.now at < 2 ^ 63) }
+{
+    if over_literal(bytes, at) {
+        Some(Fault::Limit(LimitWhat::Literal))
+    } else if over_end(bytes, at) {
+        Some(Fault::Limit(LimitWhat::RangeEnd))
+    } else {
+        None
+    }
+}
+
+fn above(low_negative: bool, low: u128, high_negative: bool, high: u128) -> bool
+    requires { high < 2 ^ 63 }
+    ensures { result ≡ int_lt (signed high_negative high) (signed low_negative (low)) }
+{
+    match (low_negative, high_negative) {
+        (false, false) => high < low,
+        (false, true) => 0 < low || 0 < high,
+        (true, false) => false,
+        (true, true) => low < high,
+    }
+}
+
+fn under_low(bytes: &[u8], range: RawRange) -> bool
+    requires low { number bytes.now range.low.at < 2 ^ 63 }
+    requires high { number bytes.now range.high.at < 2 ^ 63 }
+    ensures { result ≡ int_lt (end_value bytes.now range.high) (end_value bytes.now range.low) }
+{
+    above(
+        range.low.negative,
+        number(bytes, range.low.at),
+        range.high.negative,
+        number(bytes, range.high.at),
+    )
+}
+
+pub fn high_end(bytes: &[u8], range: RawRange) -> Option<Fault>
+    requires { number bytes.now range.low.at < 2 ^ 63 }
+    ensures { result ≡ fault_at bytes.now (HighEnd range) range.high.at }
+{
+    if over_literal(bytes, range.high.at) {
+        Some(Fault::Limit(LimitWhat::Literal))
+    } else if over_end(bytes, range.high.at) {
+        Some(Fault::Limit(LimitWhat::RangeEnd))
+    } else if under_low(bytes, range) {
+        Some(Fault::Limit(LimitWhat::RangeEnd))
+    } else {
+        None
+    }
+}
+
+fn arg_twice(bytes: &[u8], before: &[RawArg], at: Span) -> bool
+    ensures { result ≡ list_any (λ a. same bytes.now a.name at) before.now }
+{
+    before.iter().any(|a| same(bytes, a.name, at))
+}
+
+fn site_args(before: &[RawArg]) -> usize
+    ensures { result ≡ count_by is_site_arg before.now }
+{
+    before.iter().filter(|a| !a.is_param).count()
+}
+
+fn param_args(before: &[RawArg]) -> usize
+    ensures { result ≡ count_by is_param_arg before.now }
+{
+    before.iter().filter(|a| a.is_param).count()
+}
+
+pub fn arg_name(bytes: &[u8], before: &[RawArg], at: Span) -> Option<Fault>
+    ensures { result ≡ fault_at bytes.now (ArgName before.now) at }
+{
+    if long_name(bytes, at) {
+        Some(Fault::Limit(LimitWhat::NameLength))
+    } else if arg_twice(bytes, before, at) {
+        Some(Fault::Named(NameWhat::Twice))
+    } else {
+        None
+    }
+}
+
+pub fn arg_site(bytes: &[u8], its: &[RawItem], before: &[RawArg], at: Span) -> Option<Fault>
+    ensures { result ≡ fault_at bytes.now (ArgSite (items its.now) before.now) at }
+{
+    if long_name(bytes, at) {
+        Some(Fault::Limit(LimitWhat::NameLength))
+    } else if site_args(before) == 5 {
+        Some(Fault::Limit(LimitWhat::SiteArgs))
+    } else if known_site(bytes, its, at) {
+        None
+    } else {
+        Some(Fault::Named(NameWhat::Unknown))
+    }
+}
+
+pub fn arg_param(
+    bytes: &[u8],
+    its: &[RawItem],
+    before: &[RawArg],
+    name: Span,
+    at: Span,
+) -> Option<Fault>
+    ensures { result ≡ fault_at bytes.now (ArgParam (items its.now) before.now name) at }
+{
+    if param_args(before) == 8 {
+        Some(Fault::Limit(LimitWhat::ParamArgs))
+    } else if known_param(bytes, its, name) {
+        None
+    } else {
+        Some(Fault::Named(NameWhat::Unknown))
+    }
+}
+
+fn known_let(bytes: &[u8], before: &[RawLet], at: Span) -> bool
+    ensures { result ≡ has_let bytes.now before.now at }
+{
+    before.iter().any(|l| same(bytes, l.name, at))
+}
+
+pub fn let_name(bytes: &[u8], args: &[RawArg], before: &[RawLet], at: Span) -> Option<Fault>
+    ensures { result ≡ fault_at bytes.now (LetName args.now before.now) at }
+{
+    if long_name(bytes, at) {
+        Some(Fault::Limit(LimitWhat::NameLength))
+    } else if before.len() == 64 {
+        Some(Fault::Limit(LimitWhat::Lets))
+    } else if arg_twice(bytes, args, at) || known_let(bytes, before, at) {
+        Some(Fault::Named(NameWhat::Twice))
+    } else {
+        None
+    }
+}
+
+fn known_site_arg(bytes: &[u8], args: &[RawArg], at: Span) -> bool
+    ensures { result ≡ has_site_arg bytes.now args.now at }
+{
+    args.iter().any(|a| !a.is_param && same(bytes, a.name, at))
+}
+
+fn known_param_arg(bytes: &[u8], args: &[RawArg], at: Span) -> bool
+    ensures { result ≡ has_param_arg bytes.now args.now at }
+{
+    args.iter().any(|a| a.is_param && same(bytes, a.name, at))
+}
+
+pub fn number_node(bytes: &[u8], before: usize, at: Span) -> Option<Fault>
+    ensures { result ≡ fault_at bytes.now (NumberNode before) at }
+{
+    if over_literal(bytes, at) {
+        Some(Fault::Limit(LimitWhat::Literal))
+    } else if before == 2048 {
+        Some(Fault::Limit(LimitWhat::Nodes))
+    } else {
+        None
+    }
+}
+
+pub fn operator_node(bytes: &[u8], before: usize, at: Span) -> Option<Fault>
+    ensures { result ≡ fault_at bytes.now (OperatorNode before) at }
+{
+    if before == 2048 {
+        Some(Fault::Limit(LimitWhat::Nodes))
+    } else {
+        None
+    }
+}
+
+pub fn exponent(bytes: &[u8], at: Span) -> Option<Fault>
+    ensures { result ≡ fault_at bytes.now ExponentOf at }
+{
+    if over_literal(bytes, at) {
+        Some(Fault::Limit(LimitWhat::Literal))
+    } else if number(bytes, at) > 16 {
+        Some(Fault::Limit(LimitWhat::Exponent))
+    } else {
+        None
+    }
+}
+
+pub fn name_node(
+    bytes: &[u8],
+    its: &[RawItem],
+    args: &[RawArg],
+    lets: &[RawLet],
+    before: usize,
+    at: Span,
+) -> Option<Fault>
+    ensures { result ≡ fault_at bytes.now (NameNode before (scope (items its.now) args.now lets.now)) at }
+{
+    if long_name(bytes, at) {
+        Some(Fault::Limit(LimitWhat::NameLength))
+    } else if before == 2048 {
+        Some(Fault::Limit(LimitWhat::Nodes))
+    } else if known_let(bytes, lets, at) || known_param_arg(bytes, args, at) {
+        None
+    } else {
+        Some(Fault::Named(NameWhat::Unknown))
+    }
+}
+
+pub fn input_node(
+    bytes: &[u8],
+    its: &[RawItem],
+    args: &[RawArg],
+    lets: &[RawLet],
+    before: usize,
+    at: Span,
+) -> Option<Fault>
+    ensures { result ≡ fault_at bytes.now (InputNode before (scope (items its.now) args.now lets.now)) at }
+{
+    if long_name(bytes, at) {
+        Some(Fault::Limit(LimitWhat::NameLength))
+    } else if before == 2048 {
+        Some(Fault::Limit(LimitWhat::Nodes))
+    } else if known_site_arg(bytes, args, at) {
+        None
+    } else {
+        Some(Fault::Named(NameWhat::Unknown))
+    }
+}
+
+pub fn input_coord(
+    bytes: &[u8],
+    its: &[RawItem],
+    args: &[RawArg],
+    lets: &[RawLet],
+    arg: Span,
+    at: Span,
+) -> Option<Fault>
+    ensures { result ≡ fault_at bytes.now (InputCoord (scope (items its.now) args.now lets.now) arg) at }
+{
+    if long_name(bytes, at) {
+        Some(Fault::Limit(LimitWhat::NameLength))
+    } else if coord_twice(bytes, arg_coords(bytes, its, args, arg), at) {
+        None
+    } else {
+        Some(Fault::Named(NameWhat::Unknown))
+    }
+}
