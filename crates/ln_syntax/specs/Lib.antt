@@ -2,3 +2,4 @@ pub mod Raw
 pub mod Expression
 pub mod File
 pub mod Place
+pub mod Automaton

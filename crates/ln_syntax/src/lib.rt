@@ -5,6 +5,8 @@
 // no file goes on with.
 #![tactic(auto)]
 
+pub mod place;
 pub mod raw;
 
+pub use place::{one_place, syntax_fault};
 pub use raw::{Places, RawArg, RawCoord, RawEnd, RawItem, RawLet, RawRange};

@@ -1,0 +1,8 @@
+use Rattle.ln_syntax.proofs.Fault.{one_place, no_text}
+use Rattle.ln_syntax.proofs.place.one_place.Goals as goal
+
+pub returns-clause-place : goal.returns-clause-place
+returns-clause-place c = one_place
+
+pub returns-clause-none : goal.returns-clause-none
+returns-clause-none c = no_text
