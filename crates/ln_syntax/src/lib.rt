@@ -7,6 +7,8 @@
 
 pub mod place;
 pub mod raw;
+pub mod unique;
 
 pub use place::{one_place, syntax_fault};
 pub use raw::{Places, RawArg, RawCoord, RawEnd, RawItem, RawLet, RawRange};
+pub use unique::{one_spelling, one_tree};

@@ -1,0 +1,5 @@
+use Rattle.ln_syntax.proofs.OneSpelling.{one_spelling}
+use Rattle.ln_syntax.proofs.unique.one_spelling.Goals as goal
+
+pub returns : goal.returns
+returns c = one_spelling
