@@ -1,6 +1,7 @@
 // Files and consoles, told or not, with counts of faults.
 #![tactic(auto)]
 
+pub mod decimal;
 pub mod memory;
 pub mod outside;
 pub mod seq;
@@ -8,6 +9,7 @@ pub mod sign;
 pub mod span;
 pub mod whole;
 
+pub use decimal::Reading;
 pub use memory::{MemConsole, MemFiles};
 pub use outside::{Console, Failed, Files, NoMemory, Port};
 pub use seq::Seq;
