@@ -1,4 +1,9 @@
-// Files and consoles, told or not, with counts of faults.
+//! What every crate of the product stands on: files and ports with their counts of faults (`outside`), in memory
+//! (`memory`), whole files and whole texts (`whole`), lists that contracts see as lists (`seq`), decimal numbers
+//! (`decimal`), places in a source (`span`) and signs (`sign`).
+//!
+//! What the crates above use: `read_whole` answers the told bytes of a file, `put_all` appends all bytes to a port, and a
+//! refusal has its cause, a count of faults that rose or a name that isn't there.
 #![tactic(auto)]
 
 pub mod decimal;

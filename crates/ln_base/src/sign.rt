@@ -1,4 +1,4 @@
-// Signs.
+//! Signs.
 
 /// The sign of a number.
 #[derive(Clone, Copy, Debug, PartialEq, Eq)]

@@ -1,4 +1,4 @@
-// Places in a source.
+//! Places in a source.
 
 /// A stretch of a source's bytes: from byte `start` up to byte `end`, counted from 0; `end` is past the last.
 #[derive(Clone, Copy, Debug, PartialEq, Eq)]

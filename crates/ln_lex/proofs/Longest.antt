@@ -1,9 +1,9 @@
 -- The longest token at the front.
-use Rattle.std.proofs.Common.{◌≡◌, ℕ, zero, suc, ◌+◌, ◌<◌, ◌≤◌, ◌==◌, ◌&&◌, Bool, true, false, List, [], ◌∷◌, length, take, drop, Option, Some, None, refl, sym, ◌∙◌, arith, get_or}
+use Rattle.std.proofs.Common.{◌≡◌, ℕ, zero, suc, ◌+◌, ◌<◌, ◌≤◌, ◌==◌, true, false, List, [], ◌∷◌, length, take, drop, Some, None, refl, ◌∙◌, arith, get_or}
 use Rattle.std.proofs.lemmas.Bool.Decides.{nat_tests}
 use Rattle.ln_lex.specs.declared.token.Kind.{Kind}
 use Rattle.ln_lex.specs.declared.token.Kind.TheVariants.{Number, Dots}
-use Rattle.ln_lex.specs.Tokens.{is_digit, is_letter, is_name_byte, every, run_len, word_kind, sign_of, begins_twice, kind_of, IsFirst, BeginsNone}
+use Rattle.ln_lex.specs.Tokens.{is_digit, is_letter, is_name_byte, run_len, word_kind, sign_of, begins_twice, kind_of, IsFirst, BeginsNone}
 use Rattle.ln_lex.proofs.Runs.{every_front, every_more, run_within}
 
 name_longest : (b : ℕ) (bs : List ℕ) (m : ℕ) → is_letter b ≡ true → suc (run_len is_name_byte bs) < m → m ≤ length (b ∷ bs) → kind_of (take m (b ∷ bs)) ≡ None

@@ -3,10 +3,9 @@ use Rattle.std.proofs.Common.{◌≡◌, ℕ, suc, ◌+◌, ◌-◌, ◌<◌, �
 use Rattle.std.proofs.lemmas.Bool.{cases_order}
 use Rattle.std.proofs.lemmas.Bool.Decides.{nat_tests}
 use Rattle.std.proofs.lemmas.List.{drop-drop}
-use Rattle.ln_base.specs.declared.span.Span.{Span}
 use Rattle.ln_lex.specs.declared.token.Kind.{Kind}
 use Rattle.ln_lex.specs.declared.token.Token.{Token}
-use Rattle.ln_lex.specs.Tokens.{is_blank, kind_of, sign_of, comment_len, begins_comment, begins_blank, IsFirst, BeginsNone, Skips, nothing, blank, comment, Stand, Lexed, Behind, IsLexFault, IsLexLimit}
+use Rattle.ln_lex.specs.Tokens.{is_blank, kind_of, comment_len, begins_comment, begins_blank, IsFirst, BeginsNone, Skips, nothing, blank, comment, Stand, Lexed, Behind, IsLexFault, IsLexLimit}
 use Rattle.ln_lex.proofs.Longest.{no_sign}
 
 -- neither blank nor comment begins here
@@ -189,6 +188,7 @@ fault_or_limit bytes i j f g =
     let b = behind_leads bytes g.before j g.behind in
     let few = f.few in
     let m = g.many in
-    elim (cases_order (length f.before) (length g.before))
-    [ inl e ↦ (let r = (same_tokens bytes 0 f.before g.before i j a b e).1 in let t : Begins (drop i bytes) = record { n = g.n; kind = g.kind; token = subst (λ (v : ℕ). IsFirst (drop v bytes) g.n g.kind) (sym r) g.token } in none_at_fault _ f.no_token t)
-    | inr d ↦ elim d [ inl h ↦ none_at_fault _ f.no_token (one_more bytes 0 f.before g.before i j a b h) | inr h ↦ omega arith ] ]
+    elim (cases_order (length f.before) (length g.before)) [
+      | inl e ↦ (let r = (same_tokens bytes 0 f.before g.before i j a b e).1 in let t : Begins (drop i bytes) = record { n = g.n; kind = g.kind; token = subst (λ (v : ℕ). IsFirst (drop v bytes) g.n g.kind) (sym r) g.token } in none_at_fault _ f.no_token t)
+      | inr d ↦ elim d [ inl h ↦ none_at_fault _ f.no_token (one_more bytes 0 f.before g.before i j a b h) | inr h ↦ omega arith ]
+    ]

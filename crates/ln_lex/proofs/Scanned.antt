@@ -1,6 +1,5 @@
 -- What stands while the scanner goes from token to token.
-use Rattle.std.proofs.Common.{◌≡◌, ℕ, ◌+◌, ◌-◌, ◌≤◌, List, [], ◌∷◌, ◌++◌, length, drop, refl, sym, arith, subst, length-drop}
-use Rattle.ln_base.specs.declared.span.Span.{Span}
+use Rattle.std.proofs.Common.{◌≡◌, ℕ, ◌+◌, ◌-◌, ◌<◌, ◌≤◌, List, [], ◌∷◌, ◌++◌, length, drop, refl, sym, arith, subst, length-drop, length-append}
 use Rattle.ln_lex.specs.declared.token.Kind.{Kind}
 use Rattle.ln_lex.specs.declared.token.Token.{Token}
 use Rattle.ln_lex.specs.Tokens.{IsFirst, Skips, Stand}
@@ -20,7 +19,7 @@ stand_more bytes at [] to t s a g b f =
 stand_more bytes at (u ∷ us) to t s a g b f = (s.0, s.1, s.2, s.3, stand_more bytes u.span.end us to t s.4 a g b f)
 
 -- a gap and a token more are scanned
-pub scanned_more : {bytes gap_bytes rest : List ℕ} {ts : List Token} {at g n : ℕ} {k : Kind} {t : Token} → Scanned bytes ts at → length (ts ++ t ∷ []) ≤ 65536 → gap_bytes ≡ drop at bytes → Skips gap_bytes g → rest ≡ drop (at + g) bytes → IsFirst rest n k → t ≡ record { kind = k; span = record { start = at + g; end = at + g + n } } → Scanned bytes (ts ++ t ∷ []) (at + g + n)
+pub scanned_more : {bytes gap_bytes rest : List ℕ} {ts : List Token} {at g n : ℕ} {k : Kind} {t : Token} → Scanned bytes ts at → length ts < 65536 → gap_bytes ≡ drop at bytes → Skips gap_bytes g → rest ≡ drop (at + g) bytes → IsFirst rest n k → t ≡ record { kind = k; span = record { start = at + g; end = at + g + n } } → Scanned bytes (ts ++ t ∷ []) (at + g + n)
 scanned_more {bytes = bytes} {ts = ts} {at = at} {g = g} {n = n} {k = k} {t = t} s w e d r f q =
     let f2 : IsFirst (drop (at + g) bytes) n k = rw (← r) f in
     let d2 : Skips (drop at bytes) g = rw (← e) d in
@@ -30,4 +29,4 @@ scanned_more {bytes = bytes} {ts = ts} {at = at} {g = g} {n = n} {k = k} {t = t}
     let f3 : IsFirst (drop (at + g) bytes) ((at + g + n) - (at + g)) k = subst (λ (v : ℕ). IsFirst (drop (at + g) bytes) v k) (sym dn) f2 in
     let u : Token = record { kind = k; span = record { start = at + g; end = at + g + n } } in
     let more : Stand bytes 0 (ts ++ u ∷ []) (at + g + n) = stand_more bytes 0 ts at u s.tokens (omega arith) d3 (omega arith) f3 in
-    record { within = omega (arith, f2.within, f2.some, length-drop (at + g) bytes); few = w; tokens = rw q more }
+    record { within = omega (arith, f2.within, f2.some, length-drop (at + g) bytes); few = omega (arith, w, length-append ts (t ∷ [])); tokens = rw q more }

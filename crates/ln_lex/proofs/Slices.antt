@@ -1,7 +1,6 @@
 -- Spans rise, and each is the slice of its token.
-use Rattle.std.proofs.Common.{◌≡◌, ℕ, ◌-◌, ◌<◌, ◌≤◌, List, [], ◌∷◌, length, drop, arith, length-drop, All}
+use Rattle.std.proofs.Common.{ℕ, ◌-◌, List, [], ◌∷◌, drop, arith, length-drop, All}
 use Rattle.std.proofs.lemmas.List.Elements.{All-nil, All-cons}
-use Rattle.ln_lex.specs.declared.token.Kind.{Kind}
 use Rattle.ln_lex.specs.declared.token.Token.{Token}
 use Rattle.ln_lex.specs.Tokens.{IsFirst, Stand, IsSlice, RiseFrom}
 

@@ -1,5 +1,7 @@
 -- Which bytes are which tokens.
 use Rattle.std.specs.Prelude.{◌≡◌, ℕ, suc, ◌+◌, ◌-◌, ◌<◌, ◌≤◌, ◌==◌, ◌&&◌, ◌||◌, not, Bool, true, false, if◌then◌else◌, nat_le, nat_lt, List, [], ◌∷◌, length, take, drop, Option, Some, None, codes, bytes_eq}
+use Rattle.ln_lex.specs.declared.byte.Class.{Class}
+use Rattle.ln_lex.specs.declared.byte.Class.TheVariants.{InName, Digits, InComment}
 use Rattle.ln_lex.specs.declared.token.Kind.{Kind}
 use Rattle.ln_lex.specs.declared.token.Kind.TheVariants.{Name, Number, Site, Param, Predicate, Let, Sign, BraceL, BraceR, ParL, ParR, Colon, Semi, Comma, Dot, Dots, Plus, Minus, Star, Caret, Equals}
 use Rattle.ln_lex.specs.declared.token.Token.{Token}
@@ -98,6 +100,12 @@ abbrev pub begins_twice : ℕ → List ℕ → Bool
 begins_twice b [] = false
 begins_twice b (c ∷ []) = false
 begins_twice b (c ∷ d ∷ bs) = (c == b) && (d == b)
+
+-- the bytes of a class that runs on
+abbrev pub in_class : Class → ℕ → Bool
+in_class InName = is_name_byte
+in_class Digits = is_digit
+in_class InComment = in_comment
 
 -- two slashes stand at the front
 abbrev pub begins_comment : List ℕ → Bool

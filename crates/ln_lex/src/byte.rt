@@ -1,8 +1,16 @@
 // Classes of bytes, and how far they run.
 ghost use Rattle.std.specs.Prelude.{◌≡◌, ◌≤◌, drop, length};
-ghost use Rattle.ln_lex.specs.Tokens.{begins_blank, begins_twice, in_comment, is_digit, is_letter, is_name_byte, run_len, sign_of};
+ghost use Rattle.ln_lex.specs.Tokens.{begins_blank, begins_twice, in_class, is_digit, is_letter, run_len, sign_of};
 
 use crate::token::Kind;
+
+/// A class of bytes that run on: what goes on with a name, digits, and what a comment may hold behind its slashes.
+#[derive(Clone, Copy)]
+pub enum Class {
+    InName,
+    Digits,
+    InComment,
+}
 
 /// Whether the byte is a decimal digit.
 pub fn digit(b: u8) -> bool
@@ -18,18 +26,15 @@ pub fn letter(b: u8) -> bool
     (b'a' <= b && b <= b'z') || (b'A' <= b && b <= b'Z') || b == b'_'
 }
 
-/// Whether the byte goes on with a name: a letter, a digit or the underscore.
-pub fn name_byte(b: u8) -> bool
-    ensures { result ≡ is_name_byte b }
+// Whether the byte is of the class.
+fn holds(class: Class, b: u8) -> bool
+    ensures { result ≡ in_class class b }
 {
-    letter(b) || digit(b)
-}
-
-/// Whether a comment may hold the byte: all of ASCII but the line feed.
-pub fn comment_byte(b: u8) -> bool
-    ensures { result ≡ in_comment b }
-{
-    b < 128 && b != b'\n'
+    match class {
+        Class::InName => letter(b) || digit(b),
+        Class::Digits => digit(b),
+        Class::InComment => b < 128 && b != b'\n',
+    }
 }
 
 /// The sign of one byte.
@@ -82,39 +87,13 @@ pub fn after(bytes: &[u8], at: usize) -> &[u8]
     &bytes[at..]
 }
 
-/// How many bytes at the front go on with a name.
-pub fn names(bytes: &[u8]) -> usize
-    ensures len { result ≡ run_len is_name_byte bytes.now }
+/// How many bytes at the front are of the class.
+pub fn run(bytes: &[u8], class: Class) -> usize
+    ensures len { result ≡ run_len (in_class class) bytes.now }
     ensures within { result ≤ length bytes.now }
 {
     for (i, b) in bytes.iter().enumerate() {
-        if !name_byte(*b) {
-            return i;
-        }
-    }
-    bytes.len()
-}
-
-/// How many bytes at the front are digits.
-pub fn digits(bytes: &[u8]) -> usize
-    ensures len { result ≡ run_len is_digit bytes.now }
-    ensures within { result ≤ length bytes.now }
-{
-    for (i, b) in bytes.iter().enumerate() {
-        if !digit(*b) {
-            return i;
-        }
-    }
-    bytes.len()
-}
-
-/// How many bytes at the front may stand in a comment.
-pub fn comment_bytes(bytes: &[u8]) -> usize
-    ensures len { result ≡ run_len in_comment bytes.now }
-    ensures within { result ≤ length bytes.now }
-{
-    for (i, b) in bytes.iter().enumerate() {
-        if !comment_byte(*b) {
+        if !holds(class, *b) {
             return i;
         }
     }

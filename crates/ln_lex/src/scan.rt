@@ -1,35 +1,44 @@
 // The scanner.
 ghost use Rattle.std.specs.Prelude.{◌≡◌, ℕ, ◌+◌, ◌<◌, ◌≤◌, ◌^◌, false, List, All, IfErr, IfNone, IfOk, IfSome, drop, length};
 ghost use Rattle.ln_lex.specs.Tokens.{BeginsNone, IsFirst, IsLexFault, IsLexLimit, IsSlice, Lexed, RiseFrom, Skips, StopsLexing, begins_blank, begins_comment, comment_len, word_kind};
+ghost use Rattle.ln_lex.specs.declared.scan.LexStop.TheVariants.{NoMemory as OutOfMemory};
 ghost use Rattle.ln_lex.specs.declared.token.Token.{Token as Tok};
 
-use crate::byte::{after, blank_at, comment_bytes, digit, digits, letter, names, sign, twice_at};
+use crate::byte::{Class, after, blank_at, digit, letter, run, sign, twice_at};
 use crate::token::{Kind, Token};
-use ln_base::Span;
+use ln_base::{NoMemory, Seq, Span};
 use std::alloc::Global;
 
 /// Why a source has no list of tokens: at this byte begins neither blank, comment nor token; at this byte begins one
 /// token too many; or memory ran out.
-#[derive(Debug, Drop)]
+#[derive(Clone, Copy, Debug, PartialEq, Eq)]
 pub enum LexStop {
     Lexical(u32),
     Limit(u32),
     NoMemory,
 }
 
+impl From<NoMemory> for LexStop {
+    ghost from_gives = { λ _ e. e ≡ OutOfMemory };
+
+    fn from(_e: NoMemory) -> Self {
+        LexStop::NoMemory
+    }
+}
+
 /// The most tokens that a source may have.
 pub const MOST_TOKENS: usize = 65_536;
 
 /// The tokens of a source, in one pass. The first fault in order of the text decides.
-pub fn tokens(alloc: Global, bytes: &[u8]) -> Result<Vec<Token>, LexStop>
+pub fn tokens(alloc: Global, bytes: &[u8]) -> Result<Seq<Token>, LexStop>
     requires { length bytes.now ≤ 1048576 }
-    ensures ok { IfOk result (λ ts. Lexed bytes.now ts.items) }
-    ensures few { IfOk result (λ ts. length ts.items ≤ 65536) }
-    ensures slices { IfOk result (λ ts. All (IsSlice bytes.now) ts.items) }
-    ensures rising { IfOk result (λ ts. RiseFrom 0 ts.items) }
+    ensures ok { IfOk result (λ ts. Lexed bytes.now ts) }
+    ensures few { IfOk result (λ ts. length ts ≤ 65536) }
+    ensures slices { IfOk result (λ ts. All (IsSlice bytes.now) ts) }
+    ensures rising { IfOk result (λ ts. RiseFrom 0 ts) }
     ensures err { IfErr result (λ e. StopsLexing bytes.now e) }
 {
-    let mut tokens = Vec::new(alloc);
+    let mut tokens = Seq::new(alloc);
     let mut at = 0usize;
     'tokens: loop {
         let start = at + gap(after(bytes, at));
@@ -46,9 +55,7 @@ pub fn tokens(alloc: Global, bytes: &[u8]) -> Result<Vec<Token>, LexStop>
             start: start as u32,
             end: (start + n) as u32,
         };
-        if tokens.push(Token { kind, span }).is_err() {
-            return Err(LexStop::NoMemory);
-        }
+        tokens.push(Token { kind, span })?;
         at = start + n;
     }
 }
@@ -81,7 +88,7 @@ fn comment(bytes: &[u8]) -> usize
     ensures len { result ≡ comment_len bytes.now }
     ensures within { result ≤ length bytes.now }
 {
-    2 + comment_bytes(after(bytes, 2))
+    2 + run(after(bytes, 2), Class::InComment)
 }
 
 // The token at the front and its length; none where no token begins there.
@@ -96,10 +103,10 @@ fn first(bytes: &[u8]) -> Option<(Kind, usize)>
     let b = bytes[0];
     let rest = after(bytes, 1);
     if letter(b) {
-        let n = 1 + names(rest);
+        let n = 1 + run(rest, Class::InName);
         Some((word(&bytes[..n]), n))
     } else if digit(b) {
-        Some((Kind::Number, 1 + digits(rest)))
+        Some((Kind::Number, 1 + run(rest, Class::Digits)))
     } else if twice_at(bytes, b'.') {
         Some((Kind::Dots, 2))
     } else {
@@ -139,3 +146,99 @@ pub fn one_answer()
     ensures list_or_limit { (bytes : List ℕ) (ts : List Tok) (i : ℕ) → Lexed bytes ts → length ts ≤ 65536 → IsLexLimit bytes i → ⊥ }
     ensures fault_or_limit { (bytes : List ℕ) (i j : ℕ) → IsLexFault bytes i → IsLexLimit bytes j → ⊥ }
 {}
+
+#[cfg(test)]
+mod tests {
+    use super::*;
+    use std::test::Fail;
+
+    #[test]
+    fn tokens_of_a_source(rt: HostRuntime) {
+        let source = b"p.x..2 // end".as_slice();
+        let want = [
+            (Kind::Name, 0, 1),
+            (Kind::Dot, 1, 2),
+            (Kind::Name, 2, 3),
+            (Kind::Dots, 3, 5),
+            (Kind::Number, 5, 6),
+        ];
+        match tokens(rt.alloc(), source) {
+            Ok(found) => {
+                assert_eq!(rt; found.len(), want.len());
+                for (token, (kind, start, end)) in found.as_slice().iter().zip(want) {
+                    assert_eq!(rt; token.kind, kind);
+                    assert_eq!(rt; token.span, Span { start, end });
+                }
+            }
+            Err(stop) => assert!(rt; false, "{stop:?}"),
+        }
+    }
+
+    #[test]
+    fn kinds_of_tokens(rt: HostRuntime) {
+        for (source, want) in [
+            (b"site".as_slice(), Kind::Site),
+            (b"param", Kind::Param),
+            (b"predicate", Kind::Predicate),
+            (b"let", Kind::Let),
+            (b"sign", Kind::Sign),
+            (b"Sign", Kind::Name),
+            (b"sites", Kind::Name),
+            (b"_a9", Kind::Name),
+            (b"007", Kind::Number),
+            (b"{", Kind::BraceL),
+            (b"}", Kind::BraceR),
+            (b"(", Kind::ParL),
+            (b")", Kind::ParR),
+            (b":", Kind::Colon),
+            (b";", Kind::Semi),
+            (b",", Kind::Comma),
+            (b".", Kind::Dot),
+            (b"..", Kind::Dots),
+            (b"+", Kind::Plus),
+            (b"-", Kind::Minus),
+            (b"*", Kind::Star),
+            (b"^", Kind::Caret),
+            (b"=", Kind::Equals),
+            (b"// a\rb\n\t\r x", Kind::Name),
+        ] {
+            let found = tokens(rt.alloc(), source).ok();
+            let kind = found.and_then(|ts| ts.get(0).map(|t| t.kind));
+            assert_eq!(rt; kind, Some(want));
+        }
+    }
+
+    #[test]
+    fn faults_and_their_places(rt: HostRuntime) {
+        for (source, at) in [
+            (b"a / b".as_slice(), 2),
+            (b"/", 0),
+            (b"a // \xC3\xA9", 5),
+            (b"x\n#", 2),
+            (b"\xFF", 0),
+        ] {
+            let stop = tokens(rt.alloc(), source).err();
+            assert_eq!(rt; stop, Some(LexStop::Lexical(at)));
+        }
+    }
+
+    #[test]
+    fn large_sources(rt: HostRuntime) -> Result<(), Fail> {
+        let alloc = rt.alloc();
+        let blanks = vec![in alloc; b' '; 1_048_576]?;
+        assert_eq!(rt; tokens(alloc, blanks.as_slice()).map(|ts| ts.len()), Ok(0));
+        let comment = vec![in alloc; b'/'; 1_048_576]?;
+        assert_eq!(rt; tokens(alloc, comment.as_slice()).map(|ts| ts.len()), Ok(0));
+        let many = vec![in alloc; b';'; 65_536]?;
+        assert_eq!(rt;
+            tokens(alloc, many.as_slice()).map(|ts| ts.len()),
+            Ok(65_536)
+        );
+        let more = vec![in alloc; b';'; 65_537]?;
+        assert_eq!(rt;
+            tokens(alloc, more.as_slice()).err(),
+            Some(LexStop::Limit(65_536))
+        );
+        Ok(())
+    }
+}

@@ -5,10 +5,12 @@
 // no file goes on with.
 #![tactic(auto)]
 
+pub mod nesting;
 pub mod place;
 pub mod raw;
 pub mod unique;
 
+pub use nesting::{nesting_fault, one_depth};
 pub use place::{one_place, syntax_fault};
 pub use raw::{Places, RawArg, RawCoord, RawEnd, RawItem, RawLet, RawRange};
 pub use unique::{one_spelling, one_tree};

@@ -13,17 +13,6 @@ is_fit n j (Sub e f) = is_fit n j e && is_fit n j f
 is_fit n j (Mul e f) = is_fit n j e && is_fit n j f
 is_fit n j (Pow e k) = is_fit n j e && nat_le k 16
 
--- how many nodes it has
-abbrev pub node_count : Tree → ℕ
-node_count (Num c) = 1
-node_count (Input v) = 1
-node_count (Name k) = 1
-node_count (Neg e) = node_count e + 1
-node_count (Add e f) = node_count e + node_count f + 1
-node_count (Sub e f) = node_count e + node_count f + 1
-node_count (Mul e f) = node_count e + node_count f + 1
-node_count (Pow e k) = node_count e + 1
-
 -- each let is fit behind the lets before it, of which there are j before the first
 abbrev pub lets_fit : ℕ → ℕ → List Tree → Bool
 lets_fit n j [] = true

@@ -1,5 +1,5 @@
 -- Resolved expressions without where they lie in memory.
-use Rattle.std.specs.Prelude.{ℕ, ℤ, List}
+use Rattle.std.specs.Prelude.{ℕ, ◌+◌, ℤ, List, [], ◌∷◌}
 use Rattle.ln_base.specs.declared.span.Span.{Span}
 use Rattle.ln_algebra.specs.Tree as algebra
 use Rattle.ln_algebra.specs.Tree.{Tree}
@@ -33,6 +33,22 @@ node_formula at (Pow' p a x n) = FPow at (node_formula a x) n
 -- the formula of an expression
 abbrev pub formula : Expr → Formula
 formula e = node_formula e.at e.node
+
+-- how many nodes it has
+abbrev pub node_count : Formula → ℕ
+node_count (FNum at c) = 1
+node_count (FInput at a c) = 1
+node_count (FName at j) = 1
+node_count (FNeg at e) = node_count e + 1
+node_count (FAdd at e f) = node_count e + node_count f + 1
+node_count (FSub at e f) = node_count e + node_count f + 1
+node_count (FMul at e f) = node_count e + node_count f + 1
+node_count (FPow at e n) = node_count e + 1
+
+-- how many nodes several have together
+abbrev pub node_counts : List Formula → ℕ
+node_counts [] = 0
+node_counts (e ∷ es) = node_count e + node_counts es
 
 -- the tree of a formula, whose inputs are the numbers of its variables
 abbrev pub tree : List VarInfo → Formula → Tree

@@ -6,15 +6,19 @@
 #![tactic(auto)]
 
 pub mod expr;
+pub mod fits;
 pub mod items;
+pub mod layout;
 pub mod name;
 pub mod pred;
 pub mod shape;
 pub mod table;
 
 pub use expr::{Expr, Node, Var};
+pub use fits::is_pred;
 pub use items::{Arg, Coord, Param, Site};
+pub use layout::is_shape;
 pub use name::Name;
 pub use pred::Pred;
 pub use shape::{Shape, VarInfo};
-pub use table::Table;
+pub use table::{Table, is_table};

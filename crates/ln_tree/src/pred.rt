@@ -2,8 +2,9 @@
 ghost use Rattle.std.specs.Prelude.{◌≡◌, true, length};
 ghost use Rattle.ln_tree.specs.Kept.{is_pred};
 
-use crate::expr::Expr;
+use crate::expr::{Expr, Var};
 use crate::items::Arg;
+use crate::layout::number_in;
 use crate::name::Name;
 use crate::shape::Shape;
 use ln_base::{Seq, Span};
@@ -19,4 +20,17 @@ pub struct Pred {
     pub let_names: Seq<Name>,
     pub root: Expr,
     ghost kept: { is_pred args shape.vars lets (length let_names) root ≡ true },
+}
+
+impl Pred {
+    ghost use Rattle.std.specs.Prelude.{◌≡◌, ◌<◌, length};
+    ghost use Rattle.ln_tree.specs.Variables.{number_or_end};
+
+    /// The number of a variable of the predicate, from 0 in order of its arguments.
+    pub fn number(&self, v: Var) -> u8
+        requires { number_or_end self.now.shape.vars v.arg v.coord < length self.now.shape.vars }
+        ensures { result ≡ number_or_end self.now.shape.vars v.arg v.coord }
+    {
+        number_in(self.shape.vars.as_slice(), v) as u8
+    }
 }

@@ -1,0 +1,45 @@
+-- What files and ports in memory hold, and when their calls fail.
+use Rattle.std.specs.Prelude.{◌≡◌, ◌⊎◌, ℕ, ◌+◌, ◌-◌, ◌^◌, ◌<◌, ◌≤◌, min, List, length, Contains}
+use Rattle.ln_base.specs.Outside.{Shelf, bytes_of, port_bytes}
+use Rattle.ln_base.specs.declared.outside.Port.{Port}
+
+-- files in memory: names with their bytes, the numbers of the calls that fail, and how many calls and faults there were
+pub record FilesHeld : Type 0 where
+  pub shelf : Shelf
+  pub fails : List ℕ
+  pub calls : ℕ
+  pub faults : ℕ
+
+-- two ports in memory: their bytes, the room of each, the most that one put takes, the numbers of the calls that fail, and how many calls and faults there were
+pub record PortsHeld : Type 0 where
+  pub out : List ℕ
+  pub err : List ℕ
+  pub room : ℕ
+  pub most : ℕ
+  pub fails : List ℕ
+  pub calls : ℕ
+  pub faults : ℕ
+
+-- one more, up to the end of 64 bits, where a count stands still
+abbrev pub counted : ℕ → ℕ
+counted n = min (n + 1) (2 ^ 64 - 1)
+
+-- what stands on a port
+abbrev pub held : Port → PortsHeld → List ℕ
+held port ports = port_bytes port ports.out ports.err
+
+-- what is left of a port's room
+abbrev pub room_left : Port → PortsHeld → ℕ
+room_left port ports = ports.room - length (held port ports)
+
+-- there are bytes, and no room for any
+abbrev pub IsFull : Port → PortsHeld → List ℕ → Type 0
+IsFull port ports bytes = (0 < length bytes) × (room_left port ports ≡ 0)
+
+-- how many of these bytes one put takes
+abbrev pub taken : Port → PortsHeld → List ℕ → ℕ
+taken port ports bytes = min (min (length bytes) ports.most) (room_left port ports)
+
+-- room, most and the list of failing calls stay
+abbrev pub SameLimits : PortsHeld → PortsHeld → Type 0
+SameLimits was now = (now.room ≡ was.room) × (now.most ≡ was.most) × (now.fails ≡ was.fails)

@@ -1,0 +1,4 @@
+// Bounds on the values of predicates, known before any row is seen.
+#![tactic(auto)]
+
+pub mod laws;

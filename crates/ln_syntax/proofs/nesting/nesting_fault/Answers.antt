@@ -1,0 +1,25 @@
+use Rattle.std.proofs.Common.{◌≡◌, length, Some, sym, ap, ◌∙◌, arith}
+use Rattle.ln_syntax.proofs.Fault.{is_at}
+use Rattle.ln_syntax.proofs.Depth.{depth_more, shallow_more, shallow_all}
+use Rattle.ln_syntax.proofs.nesting.nesting_fault.Goals as goal
+
+pub returns-in_default-clause-some : goal.returns-in_default-clause-some
+returns-in_default-clause-some c = record {
+  opens = is_at c.args.ts.now c.tokens.i _ c.tokens-test.true ∙ ap (λ k. Some k) c.in_default.ensures.opens;
+  deep = sym c.tokens.invariant.at ∙ c.in_default.ensures.full;
+  first = c.tokens.invariant.shallow;
+}
+
+pub tokens-preserved : goal.tokens-preserved
+tokens-preserved c =
+    let is = is_at c.args.ts.now c.tokens.i _ c.tokens-test.true in
+    record {
+      at = depth_more c.args.ts.now c.tokens.i _ c.tokens.depth c.in-Some.behind c.tokens.invariant.at is c.in-Some.ensures.step;
+      within = c.in-Some.ensures.within;
+      shallow = shallow_more c.args.ts.now c.tokens.i _ c.tokens.depth c.tokens.invariant.shallow c.tokens.invariant.at is c.in-Some.ensures.shallow;
+    }
+
+pub returns-clause-none : goal.returns-clause-none
+returns-clause-none c =
+    let e : c.tokens.i ≡ length c.args.ts.now = omega arith in
+    shallow_all c.args.ts.now (rw (← e) c.tokens.invariant.shallow)
