@@ -2,3 +2,5 @@ pub mod Raw
 pub mod Expression
 pub mod File
 pub mod Place
+pub mod Reading
+pub mod Within

@@ -5,8 +5,10 @@
 // no file goes on with.
 #![tactic(auto)]
 
+pub mod items;
 pub mod raw;
 pub mod unique;
 
+pub use items::read_items;
 pub use raw::{Places, RawArg, RawCoord, RawEnd, RawItem, RawLet, RawRange};
 pub use unique::{one_spelling, one_tree};
