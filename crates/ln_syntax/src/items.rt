@@ -130,7 +130,7 @@ fn args_at(alloc: Global, ts: &[Token], at: usize) -> Result<Read<Vec<RawArg>>, 
 {
     let mut args = Vec::new(alloc);
     let mut place = at;
-    'args: loop {
+    'arguments: loop {
         args.push(arg_at(ts, place))?;
         if !is(ts, place + 3, Kind::Comma) {
             return Ok(Read {
