@@ -1,22 +1,17 @@
 -- Which tokens have to follow in a text that is whole: no expression has a semicolon in it, so the next one ends it.
-use Rattle.std.proofs.Common.{◌≡◌, ℕ, suc, ◌<◌, ◌≤◌, ◌⊎◌, inl, inr, List, refl, ap, sym, subst, arith}
+use Rattle.std.proofs.Common.{◌≡◌, ℕ, suc, ◌<◌, ◌≤◌, ◌⊎◌, inl, inr, List, subst, arith}
 use Rattle.ln_lex.specs.declared.token.Token.{Token}
-use Rattle.ln_lex.specs.declared.token.Kind.{Kind}
-use Rattle.ln_lex.specs.declared.token.Kind.TheVariants.{Name, Number, Dot, ParL, ParR, Plus, Minus, Star, Caret, Semi}
-use Rattle.ln_syntax.specs.Raw.{kind_at, Is}
-use Rattle.ln_syntax.specs.Expression.{Tree, Sort, Sum, Derives, number, name, input, parens, plain, power, base, minus, term, no_factor, times, sum, no_term, plus, less, IsExpr}
+use Rattle.ln_lex.specs.declared.token.Kind.TheVariants.{Semi}
+use Rattle.ln_syntax.specs.Raw.{Is}
+use Rattle.ln_syntax.specs.Expression.{Tree, Sort, Derives, number, name, input, parens, plain, power, base, minus, term, no_factor, times, sum, no_term, plus, less, IsExpr}
 
 -- from place i up to place j no token is a semicolon
 pub record NoSemi (ts : List Token) (i j : ℕ) : Type 0 where
   pub rises : i ≤ j
   pub none : (m : ℕ) → i ≤ m → m < j → Is ts m Semi → ⊥
 
--- a place at or behind i is i or behind it
-from_here : (i m : ℕ) → i ≤ m → (m ≡ i) ⊎ (suc i ≤ m)
-from_here i m h = grind arith
-
 -- a place is before j or not
-before : (m j : ℕ) → (m < j) ⊎ (j ≤ m)
+pub before : (m j : ℕ) → (m < j) ⊎ (j ≤ m)
 before m j = grind arith
 
 nothing : {ts : List Token} (i : ℕ) → NoSemi ts i i
@@ -62,8 +57,8 @@ next_semi {j = j} {k = k} e s r n t =
     let a = no_semi e.1 in
     let p = a.rises in
     elim (before k j) [
-      inl l ↦ absurd (a.none k r l t)
-    | inr h ↦ elim (before j k) [ inl l ↦ absurd (n j p l s) | inr g ↦ omega arith ]
+      | inl l ↦ absurd (a.none k r l t)
+      | inr h ↦ elim (before j k) [ inl l ↦ absurd (n j p l s) | inr g ↦ omega arith ]
     ]
 
 -- an expression before a semicolon has one end

@@ -3,3 +3,5 @@ pub mod Expression
 pub mod File
 pub mod Place
 pub mod Automaton
+pub mod Reading
+pub mod Within

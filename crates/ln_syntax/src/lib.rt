@@ -5,11 +5,13 @@
 // no file goes on with.
 #![tactic(auto)]
 
+pub mod items;
 pub mod nesting;
 pub mod place;
 pub mod raw;
 pub mod unique;
 
+pub use items::read_items;
 pub use nesting::{nesting_fault, one_depth};
 pub use place::{one_place, syntax_fault};
 pub use raw::{Places, RawArg, RawCoord, RawEnd, RawItem, RawLet, RawRange};

@@ -1,0 +1,8 @@
+use Rattle.ln_syntax.proofs.Parts.{high_there, range_read}
+use Rattle.ln_syntax.proofs.items.range_at.Goals as goal
+
+pub end_at-high-requires-clause-there : goal.end_at-high-requires-clause-there
+end_at-high-requires-clause-there c = high_there c.requires.there c.end_at-low.ensures
+
+pub returns : goal.returns
+returns c = range_read c.requires.there c.end_at-low.ensures c.end_at-high.ensures
