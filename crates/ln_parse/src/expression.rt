@@ -40,9 +40,11 @@ struct Read {
 /// The expression of the tokens at these places, before a semicolon.
 pub fn expression(alloc: Global, s: &Scene, at: Places) -> Result<Expr, BuildStop>
     requires small { length s.now.ts.now < 2 ^ 32 }
-    requires within { at.from ≤ length s.now.ts.now }
     ensures { IfOk result (λ x. Says s.now.bytes.now s.now.ts.now (scope (items s.now.items.now) s.now.args.now s.now.lets.now) at (formula x)) }
 {
+    if at.from > s.ts.len() {
+        return Err(BuildStop::Form);
+    }
     let read = sum(alloc, s, at.from)?;
     if read.end != at.to || !is(s.ts, at.to, Kind::Semi) {
         return Err(BuildStop::Form);
@@ -297,7 +299,7 @@ fn raised(alloc: Global, at: Span, of: Expr, by: u8) -> Result<Expr, BuildStop>
 }
 
 /// The place, or 0 where there is none.
-fn or_zero(place: Option<usize>) -> usize
+pub fn or_zero(place: Option<usize>) -> usize
     ensures { result ≡ unwrap_or place 0 }
 {
     match place {
