@@ -84,7 +84,12 @@ fn param_number(bytes: &[u8], before: &[RawItem], at: Span) -> Option<usize>
 }
 
 /// The variables of arguments, in order of the arguments, for a site its coordinates in declared order.
-pub fn laid_out(alloc: Global, sites: &[Site], params: &[Param], args: &[Arg]) -> Result<Layout, BuildStop>
+pub fn laid_out(
+    alloc: Global,
+    sites: &[Site],
+    params: &[Param],
+    args: &[Arg],
+) -> Result<Layout, BuildStop>
     ensures vars { IfOk result (λ l. l.vars ≡ vars_behind (map site_of sites.now) (map param_of params.now) 0 0 (map arg_of args.now)) }
     ensures sites { IfOk result (λ l. l.sites ≡ count_by is_site_said (map arg_of args.now)) }
 {
@@ -97,7 +102,14 @@ pub fn laid_out(alloc: Global, sites: &[Site], params: &[Param], args: &[Arg]) -
 }
 
 // Puts the variables of one argument, and answers how many sites there are behind it.
-fn arg_vars(vars: &mut Seq<VarInfo>, sites: &[Site], params: &[Param], k: u8, s: u8, a: &Arg) -> Result<u8, BuildStop>
+fn arg_vars(
+    vars: &mut Seq<VarInfo>,
+    sites: &[Site],
+    params: &[Param],
+    k: u8,
+    s: u8,
+    a: &Arg,
+) -> Result<u8, BuildStop>
     ensures vars { IfOk result (λ n. (rest : List ArgOf) → vars.new ++ vars_behind (map site_of sites.now) (map param_of params.now) (suc k) n rest ≡ vars.old ++ vars_behind (map site_of sites.now) (map param_of params.now) k s (arg_of a.now ∷ rest)) }
     ensures sites { IfOk result (λ n. (rest : List ArgOf) → n + count_by is_site_said rest ≡ s + count_by is_site_said (arg_of a.now ∷ rest)) }
 {

@@ -19,9 +19,9 @@ items-preserved c =
     let i = c.items.i in
     let done = map pred_of c.items.preds in
     elim c.match-it.branch [
-    | in-Site w ↦ rw w.preds-is (preds_site bytes ts t its i c.index-its-i.result w.in-Site.field-0 w.in-Site.field-1.items done (omega arith) c.index-its-i.is (ap item w.in-Site.is) (c.items.invariant t s p))
-    | in-Param w ↦ rw w.preds-is (preds_param bytes ts t its i c.index-its-i.result w.in-Param.field-0 w.in-Param.field-1 done (omega arith) c.index-its-i.is (ap item w.in-Param.is) (c.items.invariant t s p))
-    | in-Pred+in_ok-predicate-in-Pred+in_ok-push-in-Pred w ↦
-        preds_pred bytes ts t its i c.index-its-i.result w.in-Pred.name w.deref.result.now w.deref-in-Pred.result.now w.in-Pred.root done (map pred_of c.match-it.preds) (pred_of w.in_ok-predicate-in-Pred.field-0)
-            (omega arith) c.index-its-i.is (rw (w.deref.ensures.value, w.deref-in-Pred.ensures.value) (ap item w.in-Pred.is)) (w.in_ok-predicate-in-Pred.ensures t s p) (ap (λ (w : List Pred). map pred_of w) (w.preds-is ∙ w.in_ok-push-in-Pred.ensures.ok) ∙ map_push pred_of c.items.preds w.in_ok-predicate-in-Pred.field-0) (c.items.invariant t s p)
+      | in-Site w ↦ rw w.preds-is (preds_site bytes ts t its i c.index-its-i.result w.in-Site.field-0 w.in-Site.field-1.items done (omega arith) c.index-its-i.is (ap item w.in-Site.is) (c.items.invariant t s p))
+      | in-Param w ↦ rw w.preds-is (preds_param bytes ts t its i c.index-its-i.result w.in-Param.field-0 w.in-Param.field-1 done (omega arith) c.index-its-i.is (ap item w.in-Param.is) (c.items.invariant t s p))
+      | in-Pred+in_ok-predicate-in-Pred+in_ok-push-in-Pred w ↦
+          preds_pred bytes ts t its i c.index-its-i.result w.in-Pred.name w.deref.result.now w.deref-in-Pred.result.now w.in-Pred.root done (map pred_of c.match-it.preds) (pred_of w.in_ok-predicate-in-Pred.field-0)
+          (omega arith) c.index-its-i.is (rw (w.deref.ensures.value, w.deref-in-Pred.ensures.value) (ap item w.in-Pred.is)) (w.in_ok-predicate-in-Pred.ensures t s p) (ap (λ (w : List Pred). map pred_of w) (w.preds-is ∙ w.in_ok-push-in-Pred.ensures.ok) ∙ map_push pred_of c.items.preds w.in_ok-predicate-in-Pred.field-0) (c.items.invariant t s p)
     ]

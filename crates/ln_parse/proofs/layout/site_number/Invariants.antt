@@ -7,5 +7,5 @@ use Rattle.ln_parse.proofs.layout.site_number.Given as goal
 abbrev pub invariant-items : goal.invariant-items
 invariant-items l = record {
   few : l.n ≤ l.it-index;
-  on : position_from (λ n. same l.bytes n l.at) l.n (site_names (items (drop l.it-index l.before))) ≡ position_from (λ n. same l.bytes n l.at) 0 (site_names (items l.before))
+  on : position_from (λ n. same l.bytes n l.at) l.n (site_names (items (drop l.it-index l.before))) ≡ position_from (λ n. same l.bytes n l.at) 0 (site_names (items l.before));
 }

@@ -1,7 +1,7 @@
 use Rattle.std.proofs.Common.{map, arith}
 use Rattle.ln_syntax.specs.Raw.{items}
 use Rattle.ln_tree.specs.Formula.{formula}
-use Rattle.ln_parse.proofs.Said.{lets_end, lets_more}
+use Rattle.ln_parse.proofs.Said.{lets_end}
 use Rattle.ln_parse.proofs.predicate.lets.Goals as goal
 
 pub returns : goal.returns
