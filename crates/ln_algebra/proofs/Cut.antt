@@ -1,5 +1,5 @@
 -- The stage list loses nothing.
-use Rattle.std.proofs.Common.{◌≡◌, ◌≢◌, ℕ, ◌-◌, ◌<◌, ◌≤◌, zero, suc, refl, sym, ◌∙◌, ap, arith, List, [], ◌∷◌, length, get_or, Bool, true, false, Option, Some, None, is_some, ◌⊎◌, inl, inr}
+use Rattle.std.proofs.Common.{◌≡◌, ◌≢◌, ℕ, ◌-◌, ◌≤◌, zero, suc, refl, sym, ◌∙◌, ap, arith, List, [], ◌∷◌, length, get_or, Bool, true, false, Option, Some, None, is_some, ◌⊎◌, inl, inr}
 use Rattle.std.proofs.lemmas.Int.{ints}
 use Rattle.std.proofs.lemmas.Bool.{cases_eq, cases_lt}
 use Rattle.std.proofs.lemmas.Bool.Decides.{nat_tests}
@@ -8,18 +8,20 @@ use Rattle.ln_algebra.proofs.Ring.{one_mul, mul_one}
 use Rattle.ln_algebra.proofs.Expansion.{tau, expanded, Over-expanded}
 use Rattle.ln_algebra.proofs.Shift.{coefficient_is}
 use Rattle.ln_algebra.proofs.Normal.{normal_is, total, total-none, total-one, same_vector-is, same_vector-refl, zero_cases}
-use Rattle.ln_algebra.proofs.Derived.{tau-uncovered, tau-covered, factor_at-length}
+use Rattle.ln_algebra.proofs.Derived.{binomial-above, tau-uncovered, tau-covered, factor_at-length}
 use Rattle.ln_algebra.proofs.Degree.{coefficient-above}
-use Rattle.ln_algebra.proofs.Order.{IndicesDiffer, earlier-transitive}
-use Rattle.ln_algebra.specs.Vector.{degree}
+use Rattle.ln_algebra.proofs.Order.{earlier-transitive}
+use Rattle.ln_algebra.specs.Vector.{total_degree}
 use Rattle.ln_algebra.specs.Coefficient.{normal_coefficient}
 use Rattle.ln_algebra.specs.Law.{Within}
 use Rattle.ln_algebra.specs.Terms.{Over, Term, factor_at, same_vector, covers, minus, binomial, binomials, monomial}
 use Rattle.ln_algebra.specs.Tree.{Tree, InputsBelow, degree_of}
-use Rattle.ln_algebra.specs.Earlier.{Sites, Earlier}
-use Rattle.ln_algebra.specs.Stage.{IsOver, Covered, IsLast, IsStage, IsFirst, perturbed}
+use Rattle.ln_algebra.specs.Earlier.{Sites, Earlier, IndicesDiffer, IsOver}
+use Rattle.ln_algebra.specs.Stage.{IsMonomial, Covered, IsLast, IsStage}
+use Rattle.ln_algebra.specs.Sign.{IsFirst, perturbed}
 
-within_from : (p : ℕ → Bool) (a : List ℕ) → ((v : ℕ) → p v ≡ false → get_or a v 0 ≡ 0) → Within p a
+-- a vector is over a set of variables where each exponent outside is 0
+pub within_from : (p : ℕ → Bool) (a : List ℕ) → ((v : ℕ) → p v ≡ false → get_or a v 0 ≡ 0) → Within p a
 within_from p [] h = tt
 within_from p (zero ∷ a) h = within_from (λ v. p (suc v)) a (λ v e. h (suc v) e)
 within_from p (suc k ∷ a) h = (by_case (p 0) refl, within_from (λ v. p (suc v)) a (λ v e. h (suc v) e)) where
@@ -27,43 +29,65 @@ within_from p (suc k ∷ a) h = (by_case (p 0) refl, within_from (λ v. p (suc v
   by_case true e = e
   by_case false e = absurd (let z : suc k ≡ 0 = h 0 e in omega arith)
 
-not_some : {A : Type 0} (o : Option A) → is_some o ≡ false → o ≡ None
+-- what isn't some is none
+pub not_some : {A : Type 0} (o : Option A) → is_some o ≡ false → o ≡ None
 not_some None e = refl
 not_some (Some x) e = cc
 
+-- each vector covers itself
 covers-refl : (a : List ℕ) → covers a a ≡ true
 covers-refl [] = refl
 covers-refl (k ∷ a) = grind (arith, nat_tests, covers-refl a)
 
+-- the difference of a vector and itself is the monomial 1
 minus-same : (x : ℕ → ℤ) (a : List ℕ) → monomial x (minus a a) ≡ pos 1
 minus-same x [] = refl
 minus-same x (k ∷ a) =
     let z : k - k ≡ 0 = omega arith in
     rw z (one_mul (monomial (λ v. x (suc v)) (minus a a)) ∙ minus-same (λ v. x (suc v)) a)
 
-binomial-above : (n k : ℕ) → n < k → binomial n k ≡ 0
-binomial-above n zero h = absurd (omega arith)
-binomial-above zero (suc k) h = refl
-binomial-above (suc n) (suc k) h = omega (arith, binomial-above n (suc k) (omega arith), binomial-above n k (omega arith))
-
+-- there is one way to choose all
 binomial-same : (n : ℕ) → binomial n n ≡ 1
 binomial-same zero = refl
 binomial-same (suc n) = omega (arith, binomial-same n, binomial-above n (suc n) (omega arith))
 
+-- the same over all variables
 binomials-same : (a : List ℕ) → binomials a a ≡ 1
 binomials-same [] = refl
 binomials-same (k ∷ a) = let ih : binomials a a ≡ 1 = binomials-same a in rw (binomial-same, ih) refl
 
-abbrev of_sites : Sites → ℕ → Bool
+-- some monomial passes the test, or no term has a monomial that does
+pub monomial_in : (n : ℕ) (e : Tree) (test : List ℕ → Bool) (g : List Term) → Over n g → ((k : List ℕ) × IsMonomial n e k × (test k ≡ true)) ⊎ ((k : List ℕ) → normal_coefficient e k ≢ pos 0 → test k ≡ true → factor_at g k ≡ pos 0)
+monomial_in n e test [] o = inr (λ k z c. refl)
+monomial_in n e test (t ∷ g) o = step (monomial_in n e test g o.1) (zero_cases (normal_coefficient e t.exponents)) (test t.exponents) refl where
+  other : ((k : List ℕ) → normal_coefficient e k ≢ pos 0 → test k ≡ true → factor_at g k ≡ pos 0) → (normal_coefficient e t.exponents ≢ pos 0 → test t.exponents ≡ true → ⊥) → (k : List ℕ) → normal_coefficient e k ≢ pos 0 → test k ≡ true → (b : Bool) → same_vector t.exponents k ≡ b → factor_at (t ∷ g) k ≡ pos 0
+  other ih hidden k z c true s = absurd (let q : t.exponents ≡ k = same_vector-is t.exponents k s in hidden (rw q z) (rw q c))
+  other ih hidden k z c false s = rw s (omega (arith, ints, ih k z c))
+
+  step : ((k : List ℕ) × IsMonomial n e k × (test k ≡ true)) ⊎ ((k : List ℕ) → normal_coefficient e k ≢ pos 0 → test k ≡ true → factor_at g k ≡ pos 0) → (normal_coefficient e t.exponents ≡ pos 0) ⊎ (normal_coefficient e t.exponents ≡ pos 0 → ⊥) → (b : Bool) → test t.exponents ≡ b → ((k : List ℕ) × IsMonomial n e k × (test k ≡ true)) ⊎ ((k : List ℕ) → normal_coefficient e k ≢ pos 0 → test k ≡ true → factor_at (t ∷ g) k ≡ pos 0)
+  step (inl c) y b d = inl c
+  step (inr ih) (inr z) true d = inl (t.exponents, record { size = o.0; nonzero = z }, d)
+  step (inr ih) (inl z) b d = inr (λ k q c. other ih (λ y w. y z) k q c (same_vector t.exponents k) refl)
+  step (inr ih) (inr z) false d = inr (λ k q c. other ih (λ y w. let f : true ≡ false = sym w ∙ d in cc) k q c (same_vector t.exponents k) refl)
+
+-- the variables of sites
+abbrev pub of_sites : Sites → ℕ → Bool
 of_sites sites v = is_some (sites.site v)
 
+-- a vector whose coefficient isn't 0 is not above the degree
+pub degree-small : (sites : Sites) (x : ℕ → ℤ) (e : Tree) (a : List ℕ) → perturbed sites x e a ≢ pos 0 → total_degree a ≤ degree_of e
+degree-small sites x e a z = elim (cases_lt (degree_of e) (total_degree a)) [ inl l ↦ absurd (z (coefficient-above (of_sites sites) x e a l)) | inr l ↦ l ]
+
 module _ (n : ℕ) (sites : Sites) (x : ℕ → ℤ) (e : Tree) (below : InputsBelow n e) where
-  within : (a : List ℕ) → IsOver n sites a → Within (of_sites sites) a
+  -- a vector over the variables of sites, as one over a set
+  pub within : (a : List ℕ) → IsOver n sites a → Within (of_sites sites) a
   within a o = within_from (of_sites sites) a (λ v h. o.of_sites v (not_some (sites.site v) h))
 
+  -- the perturbed coefficient is a sum over the terms of the expansion
   perturbed_is : (a : List ℕ) → IsOver n sites a → perturbed sites x e a ≡ total (λ m. tau (of_sites sites) x m a) (expanded n e)
   perturbed_is a o = coefficient_is (of_sites sites) x n e below a o.size
 
+  -- a term that covers nothing of a adds nothing
   product_zero : (a k : List ℕ) → IsOver n sites a → (normal_coefficient e k ≢ pos 0 → length k ≡ n → covers k a ≡ false) → factor_at (expanded n e) k *ℤ tau (of_sites sites) x k a ≡ pos 0
   product_zero a k o h = by_length (cases_eq (length k) n) where
     T : ℤ
@@ -87,7 +111,7 @@ module _ (n : ℕ) (sites : Sites) (x : ℕ → ℤ) (e : Tree) (below : InputsB
   perturbed-uncovered a o h =
       perturbed_is a o ∙ total-none (λ m. tau (of_sites sites) x m a) (length (expanded n e)) (expanded n e) (omega arith) (λ k. product_zero a k o (λ z l. by_case k z l (covers k a) refl)) where
         by_case : (k : List ℕ) → normal_coefficient e k ≢ pos 0 → length k ≡ n → (b : Bool) → covers k a ≡ b → covers k a ≡ false
-        by_case k z l true c = absurd (h (k, l, z, c))
+        by_case k z l true c = absurd (h (k, record { size = l; nonzero = z }, c))
         by_case k z l false c = c
 
   -- at the last vector the coefficient is the monomial's own, on every row
@@ -99,51 +123,30 @@ module _ (n : ℕ) (sites : Sites) (x : ℕ → ℤ) (e : Tree) (below : InputsB
       ∙ mul_one (factor_at (expanded n e) a)
       ∙ sym (normal_is n e below a o.size) where
         by_case : (k : List ℕ) → same_vector a k ≡ false → normal_coefficient e k ≢ pos 0 → length k ≡ n → (b : Bool) → covers k a ≡ b → covers k a ≡ false
-        by_case k d z l true c = absurd (let s : k ≡ a = last.only k l z c in let y : same_vector a k ≡ true = rw s (same_vector-refl a) in cc)
+        by_case k d z l true c = absurd (let s : k ≡ a = last.only k (record { size = l; nonzero = z }) c in let y : same_vector a k ≡ true = rw s (same_vector-refl a) in cc)
         by_case k d z l false c = c
 
         one : tau (of_sites sites) x a a ≡ pos 1
         one = tau-covered (of_sites sites) x a a refl (within a o) (covers-refl a) ∙ ap (λ u. pos u *ℤ monomial x (minus a a)) (binomials-same a) ∙ one_mul (monomial x (minus a a)) ∙ minus-same x a
 
-  -- a vector with a coefficient that isn't 0 is covered, and not above the degree
-  degree-small : (a : List ℕ) → perturbed sites x e a ≢ pos 0 → degree a ≤ degree_of e
-  degree-small a z = by_case (cases_lt (degree_of e) (degree a)) where
-    by_case : (degree_of e < degree a) ⊎ (degree a ≤ degree_of e) → degree a ≤ degree_of e
-    by_case (inl l) = absurd (z (coefficient-above (of_sites sites) x e a l))
-    by_case (inr l) = l
-
-  -- a vector is covered, or each monomial fails to cover it
-  covered_in : (a : List ℕ) (g : List Term) → Over n g → Covered n e a ⊎ ((k : List ℕ) → normal_coefficient e k ≢ pos 0 → covers k a ≡ true → factor_at g k ≡ pos 0)
-  covered_in a [] o = inr (λ k z c. refl)
-  covered_in a (t ∷ g) o = step (covered_in a g o.1) (zero_cases (normal_coefficient e t.exponents)) (covers t.exponents a) refl where
-    other : ((k : List ℕ) → normal_coefficient e k ≢ pos 0 → covers k a ≡ true → factor_at g k ≡ pos 0) → (normal_coefficient e t.exponents ≢ pos 0 → covers t.exponents a ≡ true → ⊥) → (k : List ℕ) → normal_coefficient e k ≢ pos 0 → covers k a ≡ true → (b : Bool) → same_vector t.exponents k ≡ b → factor_at (t ∷ g) k ≡ pos 0
-    other ih hidden k z c true s = absurd (let q : t.exponents ≡ k = same_vector-is t.exponents k s in hidden (rw q z) (rw q c))
-    other ih hidden k z c false s = rw s (omega (arith, ints, ih k z c))
-
-    step : Covered n e a ⊎ ((k : List ℕ) → normal_coefficient e k ≢ pos 0 → covers k a ≡ true → factor_at g k ≡ pos 0) → (normal_coefficient e t.exponents ≡ pos 0) ⊎ (normal_coefficient e t.exponents ≡ pos 0 → ⊥) → (b : Bool) → covers t.exponents a ≡ b → Covered n e a ⊎ ((k : List ℕ) → normal_coefficient e k ≢ pos 0 → covers k a ≡ true → factor_at (t ∷ g) k ≡ pos 0)
-    step (inl c) y b d = inl c
-    step (inr ih) (inr z) true d = inl (t.exponents, o.0, z, d)
-    step (inr ih) (inl z) b d = inr (λ k q c. other ih (λ y w. y z) k q c (same_vector t.exponents k) refl)
-    step (inr ih) (inr z) false d = inr (λ k q c. other ih (λ y w. let f : true ≡ false = sym w ∙ d in cc) k q c (same_vector t.exponents k) refl)
-
   -- a vector whose coefficient isn't 0 is covered
   pub nonzero-covered : (a : List ℕ) → IsOver n sites a → perturbed sites x e a ≢ pos 0 → Covered n e a
-  nonzero-covered a o z = by_case (covered_in a (expanded n e) (Over-expanded n e)) where
+  nonzero-covered a o z = by_case (monomial_in n e (λ k. covers k a) (expanded n e) (Over-expanded n e)) where
     by_case : Covered n e a ⊎ ((k : List ℕ) → normal_coefficient e k ≢ pos 0 → covers k a ≡ true → factor_at (expanded n e) k ≡ pos 0) → Covered n e a
     by_case (inl c) = c
-    by_case (inr h) = absurd (z (perturbed-uncovered a o (λ c. c.2 (normal_is n e below c.0 c.1 ∙ h c.0 c.2 c.3))))
+    by_case (inr h) = absurd (z (perturbed-uncovered a o (λ c. c.1.nonzero (normal_is n e below c.0 c.1.size ∙ h c.0 c.1.nonzero c.2))))
 
   -- the cut loses nothing: the first vector is a stage
   pub first-stage : (a : List ℕ) → IsFirst n sites x e a → IsStage n sites e a
   first-stage a f = record { over = f.over; covered = nonzero-covered a f.over f.nonzero; before_cut = cut } where
     cut : (b : List ℕ) → IsOver n sites b → IsLast n e b → Earlier sites b a → ⊥
     cut b o last l =
-        let z : perturbed sites x e b ≢ pos 0 = λ q. last.monomial (sym (perturbed-last b o last) ∙ q) in
-        z (f.zero_before b o (degree-small b z) l)
+        let z : perturbed sites x e b ≢ pos 0 = λ q. last.monomial.nonzero (sym (perturbed-last b o last) ∙ q) in
+        z (f.zero_before b o (degree-small sites x e b z) l)
 
   -- the first stage whose coefficient isn't 0 is the first vector
   pub stage-first : IndicesDiffer sites → (a : List ℕ) → IsStage n sites e a → perturbed sites x e a ≢ pos 0 → ((b : List ℕ) → IsStage n sites e b → Earlier sites b a → perturbed sites x e b ≡ pos 0) → IsFirst n sites x e a
-  stage-first d a s z h = record { over = s.over; small = degree-small a z; nonzero = z; zero_before = λ b o l r. by_case b o r (zero_cases (perturbed sites x e b)) } where
+  stage-first d a s z h = record { over = s.over; small = degree-small sites x e a z; nonzero = z; zero_before = λ b o l r. by_case b o r (zero_cases (perturbed sites x e b)) } where
     by_case : (b : List ℕ) → IsOver n sites b → Earlier sites b a → (perturbed sites x e b ≡ pos 0) ⊎ (perturbed sites x e b ≡ pos 0 → ⊥) → perturbed sites x e b ≡ pos 0
     by_case b o r (inl q) = q
     by_case b o r (inr q) = h b (record { over = o; covered = nonzero-covered b o q; before_cut = λ c oc last l. s.before_cut c oc last (earlier-transitive sites d c b a l r) }) r

@@ -16,6 +16,7 @@ use Rattle.ln_algebra.specs.Terms.{Over, Term, factor_at, same_vector, binomial,
 use Rattle.ln_algebra.specs.Tree.{Tree, InputsBelow}
 
 -- ---- lists over n variables
+-- at vectors of other lengths the coefficient is 0
 pub factor_at-length : (n : ℕ) (f : List Term) (k : List ℕ) → Over n f → (length k ≡ n → ⊥) → factor_at f k ≡ pos 0
 factor_at-length n [] k o h = refl
 factor_at-length n (t ∷ f) k o h = by_case (same_vector t.exponents k) refl (factor_at-length n f k o.1 h) where
@@ -23,6 +24,7 @@ factor_at-length n (t ∷ f) k o h = by_case (same_vector t.exponents k) refl (f
   by_case true e ih = absurd (h (ap length (sym (same_vector-is t.exponents k e)) ∙ o.0))
   by_case false e ih = rw e (omega (arith, ints, ih))
 
+-- lists over n variables with the same coefficients at vectors of n exponents have the same sums
 pub total-same-over : (n : ℕ) (h : List ℕ → ℤ) (f g : List Term) → Over n f → Over n g → ((k : List ℕ) → length k ≡ n → factor_at f k ≡ factor_at g k) → total h f ≡ total h g
 total-same-over n h f g o p e = total-same h f g (λ k. by_case k (eqb (length k) n) refl) where
   by_case : (k : List ℕ) (b : Bool) → eqb (length k) n ≡ b → factor_at f k ≡ factor_at g k
@@ -32,6 +34,7 @@ total-same-over n h f g o p e = total-same h f g (λ k. by_case k (eqb (length k
       factor_at-length n f k o ne ∙ sym (factor_at-length n g k p ne)
 
 -- ---- one variable
+-- there is no power of e above the n-th
 taylor-above : (x : ℤ) (n k : ℕ) → n < k → taylor x n k ≡ pos 0
 taylor-above x n zero h = absurd (omega arith)
 taylor-above x zero (suc k) h = refl
@@ -39,15 +42,18 @@ taylor-above x (suc n) (suc k) h =
     let z : x *ℤ pos 0 ≡ pos 0 = omega (arith, ints) in
     omega (arith, ints, ap (λ t. x *ℤ t) (taylor-above x n (suc k) (omega arith)), z, taylor-above x n k (omega arith))
 
+-- at e = 0 it is the power
 taylor-none : (x : ℤ) (n : ℕ) → taylor x n 0 ≡ power_of x n
 taylor-none x zero = refl
 taylor-none x (suc n) = ap (λ t. x *ℤ t) (taylor-none x n)
 
-binomial-above : (n k : ℕ) → n < k → binomial n k ≡ 0
+-- there is no way to choose more than all
+pub binomial-above : (n k : ℕ) → n < k → binomial n k ≡ 0
 binomial-above n zero h = absurd (omega arith)
 binomial-above zero (suc k) h = refl
 binomial-above (suc n) (suc k) h = omega (arith, binomial-above n (suc k) (omega arith), binomial-above n k (omega arith))
 
+-- one power of x and one of e more, by Pascal's rule
 taylor-step : (x : ℤ) (k j : ℕ) → taylor x (suc k + j) (suc k) ≡ pos (binomial (suc k + j) (suc k)) *ℤ power_of x j → taylor x (k + suc j) k ≡ pos (binomial (k + suc j) k) *ℤ power_of x (suc j) → taylor x (suc (k + suc j)) (suc k) ≡ pos (binomial (suc (k + suc j)) (suc k)) *ℤ power_of x (suc j)
 taylor-step x k j a b =
     let n : ℕ = k + suc j in
@@ -70,14 +76,17 @@ taylor-at x (suc k) zero = rw suc-add (
 taylor-at x (suc k) (suc j) = rw suc-add (taylor-step x k j (taylor-at x (suc k) j) (taylor-at x k (suc j)))
 
 -- ---- all variables
+-- a variable of the set, or an exponent of 0, is expanded
 part-within : (p : ℕ → Bool) (x : ℤ) (n k : ℕ) (a : List ℕ) → Within p (k ∷ a) → part (p 0) x n k ≡ taylor x n k
 part-within p x n zero a w = elim (p 0) as (λ b. part b x n 0 ≡ taylor x n 0) [ true ↦ refl | false ↦ refl ]
 part-within p x n (suc k) a w = rw w.0 refl
 
+-- the other variables
 Within-tail : (p : ℕ → Bool) (k : ℕ) (a : List ℕ) → Within p (k ∷ a) → Within (λ v. p (suc v)) a
 Within-tail p zero a w = w
 Within-tail p (suc k) a w = w.1
 
+-- a monomial that doesn't cover a has coefficient 0 at a
 pub tau-uncovered : (p : ℕ → Bool) (x : ℕ → ℤ) (m a : List ℕ) → length m ≡ length a → Within p a → covers m a ≡ false → tau p x m a ≡ pos 0
 tau-uncovered p x [] [] e w c = cc
 tau-uncovered p x [] (k ∷ a) e w c = absurd (omega arith)
@@ -100,12 +109,14 @@ tau-uncovered p x (n ∷ m) (k ∷ a) e w c = by_case (leb k n) refl (λ d. tau-
       let z : pos 0 *ℤ T ≡ pos 0 = omega (arith, ints) in
       ap (λ t. t *ℤ T) (part-within p (x 0) n k a w ∙ taylor-above (x 0) n k l) ∙ z
 
+-- at n it is the binomial times the power of n - k
 taylor-covered : (x : ℤ) (n k : ℕ) → k ≤ n → taylor x n k ≡ pos (binomial n k) *ℤ power_of x (n - k)
 taylor-covered x n k h =
     let e : k + (n - k) ≡ n = omega arith in
     let P : ℕ → Type 0 = λ m. taylor x m k ≡ pos (binomial m k) *ℤ power_of x (n - k) in
     subst P e (taylor-at x k (n - k))
 
+-- a monomial that covers a has the binomials times the rest's value
 pub tau-covered : (p : ℕ → Bool) (x : ℕ → ℤ) (m a : List ℕ) → length m ≡ length a → Within p a → covers m a ≡ true → tau p x m a ≡ pos (binomials m a) *ℤ monomial x (minus m a)
 tau-covered p x [] a e w c = refl
 tau-covered p x (n ∷ m) [] e w c = absurd (omega arith)

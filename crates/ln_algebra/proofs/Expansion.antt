@@ -6,6 +6,7 @@ use Rattle.ln_algebra.proofs.Ring.{mul_add, mul_comm, mul_neg, four, one_mul}
 use Rattle.ln_algebra.proofs.Sums.{sum_parts, sum_splits, sum_over-append}
 use Rattle.ln_algebra.proofs.Taylor.{taylor, vandermonde, sum_parts-same, sum_parts-zero, sum_parts-scale, sum_splits-same, sum_splits-scale, sum_splits-add, sum_splits-zero}
 use Rattle.ln_algebra.specs.Vector.{sum_over, plus, is_zero, is_zero_number, is_one_number}
+pub use Rattle.ln_algebra.specs.Vector.{zeros, unit_vector}
 use Rattle.ln_algebra.specs.Coefficient.{variable}
 use Rattle.ln_algebra.specs.Terms.{Over, Term}
 use Rattle.ln_algebra.specs.Tree.{Tree, Num, Input, Name, Neg, Add, Sub, Mul, Pow}
@@ -22,6 +23,7 @@ tau p x [] a = pos 1
 tau p x (n ∷ m) [] = pos 1
 tau p x (n ∷ m) (k ∷ a) = part (p 0) (x 0) n k *ℤ tau (λ v. p (suc v)) (λ v. x (suc v)) m a
 
+-- the product rule of powers
 part_plus : (p : Bool) (x : ℤ) (n k a : ℕ) → part p x (n + k) a ≡ sum_parts a (λ b c. part p x n b *ℤ part p x k c)
 part_plus true x n k a = vandermonde x n k a
 part_plus false x n k zero = vandermonde x n k 0
@@ -51,35 +53,31 @@ tau_plus p x (n ∷ m) (j ∷ k) (c ∷ a) e f =
     ∙ sum_splits-same a (λ b d. (part (p 0) (x 0) n i *ℤ part (p 0) (x 0) j l) *ℤ (tau q y m b *ℤ tau q y k d)) (λ b d. (part (p 0) (x 0) n i *ℤ tau q y m b) *ℤ (part (p 0) (x 0) j l *ℤ tau q y k d)) (λ b d. four (part (p 0) (x 0) n i) (part (p 0) (x 0) j l) (tau q y m b) (tau q y k d)))
 
 -- ---- the leaves
-abbrev pub zeros : ℕ → List ℕ
-zeros zero = []
-zeros (suc n) = 0 ∷ zeros n
-
-abbrev pub unit_vector : ℕ → ℕ → List ℕ
-unit_vector zero v = []
-unit_vector (suc n) zero = 1 ∷ zeros n
-unit_vector (suc n) (suc v) = 0 ∷ unit_vector n v
-
+-- it has n exponents
 pub length-zeros : (n : ℕ) → length (zeros n) ≡ n
 length-zeros zero = refl
 length-zeros (suc n) = ap suc (length-zeros n)
 
+-- so has a unit vector
 pub length-unit_vector : (n v : ℕ) → length (unit_vector n v) ≡ n
 length-unit_vector zero v = refl
 length-unit_vector (suc n) zero = ap suc (length-zeros n)
 length-unit_vector (suc n) (suc v) = ap suc (length-unit_vector n v)
 
+-- a sum has as many exponents
 pub length-plus : (a b : List ℕ) → length a ≡ length b → length (plus a b) ≡ length b
 length-plus [] b h = h
 length-plus (n ∷ a) [] h = refl
 length-plus (n ∷ a) (k ∷ b) h = ap suc (length-plus a b (omega arith))
 
+-- the power 0 is 1
 pub part_zero : (p : Bool) (x : ℤ) (k : ℕ) → part p x 0 k ≡ if is_zero_number k then pos 1 else pos 0
 part_zero true x zero = refl
 part_zero true x (suc k) = refl
 part_zero false x zero = refl
 part_zero false x (suc k) = refl
 
+-- the monomial 1 is 1
 pub tau-zeros : (p : ℕ → Bool) (x : ℕ → ℤ) (n : ℕ) (a : List ℕ) → length a ≡ n → tau p x (zeros n) a ≡ if is_zero a then pos 1 else pos 0
 tau-zeros p x zero [] h = refl
 tau-zeros p x zero (k ∷ a) h = absurd (omega arith)
@@ -89,6 +87,7 @@ tau-zeros p x (suc n) (suc k ∷ a) h =
     let T : ℤ = tau (λ v. p (suc v)) (λ v. x (suc v)) (zeros n) a in
     ap (λ t. t *ℤ T) (part_zero (p 0) (x 0) (suc k)) ∙ (let z : pos 0 *ℤ T ≡ pos 0 = omega (arith, ints) in z)
 
+-- the first power of a variable, beside other exponents
 one_variable : (q : Bool) (x : ℤ) (k : ℕ) (z : Bool) → part q x 1 k *ℤ (if z then pos 1 else pos 0) ≡ if is_zero_number k && z then x else (if q && (is_one_number k && z) then pos 1 else pos 0)
 one_variable true x zero true = omega (arith, ints)
 one_variable true x zero false = omega (arith, ints)
@@ -101,10 +100,12 @@ one_variable false x zero false = omega (arith, ints)
 one_variable false x (suc k) true = omega (arith, ints)
 one_variable false x (suc k) false = omega (arith, ints)
 
+-- no coefficient where another exponent isn't 0
 not_here : (q : Bool) → pos 0 ≡ if q && false then pos 1 else pos 0
 not_here true = refl
 not_here false = refl
 
+-- the monomial of a variable is the variable
 pub tau-unit_vector : (p : ℕ → Bool) (x : ℕ → ℤ) (n v : ℕ) (a : List ℕ) → v < n → length a ≡ n → tau p x (unit_vector n v) a ≡ variable (p v) v (x v) a
 tau-unit_vector p x zero v a h e = absurd (omega arith)
 tau-unit_vector p x (suc n) v [] h e = absurd (omega arith)
@@ -118,22 +119,27 @@ tau-unit_vector p x (suc n) (suc v) (suc k ∷ a) h e =
     ap (λ t. t *ℤ T) (part_zero (p 0) (x 0) (suc k)) ∙ (let z : pos 0 *ℤ T ≡ pos 0 = omega (arith, ints) in z) ∙ not_here (p (suc v))
 
 -- ---- the expansion
+-- a term times each of a list
 abbrev pub times_term : Term → List Term → List Term
 times_term t [] = []
 times_term t (s ∷ g) = record { exponents = plus t.exponents s.exponents; factor = t.factor *ℤ s.factor } ∷ times_term t g
 
+-- the product of two lists of terms, not collected
 abbrev pub times : List Term → List Term → List Term
 times [] g = []
 times (t ∷ f) g = times_term t g ++ times f g
 
+-- each factor with the other sign
 abbrev pub negated : List Term → List Term
 negated [] = []
 negated (t ∷ f) = record { exponents = t.exponents; factor = neg_ℤ t.factor } ∷ negated f
 
+-- the k-th power of a list of terms
 abbrev pub power_terms : ℕ → List Term → ℕ → List Term
 power_terms n f zero = record { exponents = zeros n; factor = pos 1 } ∷ []
 power_terms n f (suc k) = times (power_terms n f k) f
 
+-- an expression multiplied out, with like terms not collected
 abbrev pub expanded : ℕ → Tree → List Term
 expanded n (Num c) = record { exponents = zeros n; factor = c } ∷ []
 expanded n (Input v) = record { exponents = unit_vector n v; factor = pos 1 } ∷ []
@@ -144,26 +150,32 @@ expanded n (Sub e f) = expanded n e ++ negated (expanded n f)
 expanded n (Mul e f) = times (expanded n e) (expanded n f)
 expanded n (Pow e k) = power_terms n (expanded n e) k
 
+-- each term of the expansion is over n variables: of lists one after the other
 pub Over-append : (n : ℕ) (f g : List Term) → Over n f → Over n g → Over n (f ++ g)
 Over-append n [] g h k = k
 Over-append n (t ∷ f) g h k = (h.0, Over-append n f g h.1 k)
 
+-- of a product with a term
 pub Over-times_term : (n : ℕ) (t : Term) (g : List Term) → length t.exponents ≡ n → Over n g → Over n (times_term t g)
 Over-times_term n t [] e h = tt
 Over-times_term n t (s ∷ g) e h = (length-plus t.exponents s.exponents (e ∙ sym h.0) ∙ h.0, Over-times_term n t g e h.1)
 
+-- of a product
 pub Over-times : (n : ℕ) (f g : List Term) → Over n f → Over n g → Over n (times f g)
 Over-times n [] g h k = tt
 Over-times n (t ∷ f) g h k = Over-append n (times_term t g) (times f g) (Over-times_term n t g h.0 k) (Over-times n f g h.1 k)
 
+-- of the other sign
 pub Over-negated : (n : ℕ) (f : List Term) → Over n f → Over n (negated f)
 Over-negated n [] h = tt
 Over-negated n (t ∷ f) h = (h.0, Over-negated n f h.1)
 
+-- of a power
 pub Over-power_terms : (n : ℕ) (f : List Term) (k : ℕ) → Over n f → Over n (power_terms n f k)
 Over-power_terms n f zero h = (length-zeros n, tt)
 Over-power_terms n f (suc k) h = Over-times n (power_terms n f k) f (Over-power_terms n f k h) h
 
+-- of the whole
 pub Over-expanded : (n : ℕ) (e : Tree) → Over n (expanded n e)
 Over-expanded n (Num c) = (length-zeros n, tt)
 Over-expanded n (Input v) = (length-unit_vector n v, tt)
@@ -178,11 +190,13 @@ Over-expanded n (Pow e k) = Over-power_terms n (expanded n e) k (Over-expanded n
 abbrev pub shifted : (ℕ → Bool) → (ℕ → ℤ) → List ℕ → List Term → ℤ
 shifted p x a f = sum_over (λ t. t.factor *ℤ tau p x t.exponents a) f
 
+-- the coefficient of the other sign
 pub shifted-negated : (p : ℕ → Bool) (x : ℕ → ℤ) (a : List ℕ) (f : List Term) → shifted p x a (negated f) ≡ neg_ℤ (shifted p x a f)
 shifted-negated p x a [] = refl
 shifted-negated p x a (t ∷ f) = omega (arith, ints, shifted-negated p x a f, mul_comm (neg_ℤ t.factor) (tau p x t.exponents a), mul_neg (tau p x t.exponents a) t.factor, mul_comm (tau p x t.exponents a) t.factor)
 
 module _ (p : ℕ → Bool) (x : ℕ → ℤ) where
+  -- the coefficient of a product with a term
   shifted-times_term : (a : List ℕ) (t : Term) (g : List Term) → length t.exponents ≡ length a → Over (length a) g → shifted p x a (times_term t g) ≡ sum_splits a (λ b c. (t.factor *ℤ tau p x t.exponents b) *ℤ shifted p x c g)
   shifted-times_term a t [] e h = sym (sum_splits-zero a) ∙ sum_splits-same a (λ b c. pos 0) (λ b c. (t.factor *ℤ tau p x t.exponents b) *ℤ pos 0) (λ b c. omega (arith, ints))
   shifted-times_term a t (s ∷ g) e h =
@@ -196,6 +210,7 @@ module _ (p : ℕ → Bool) (x : ℕ → ℤ) where
       ∙ sym (sum_splits-add a (λ b c. w b *ℤ (s.factor *ℤ tau p x s.exponents c)) (λ b c. w b *ℤ shifted p x c g))
       ∙ sum_splits-same a (λ b c. w b *ℤ (s.factor *ℤ tau p x s.exponents c) +ℤ w b *ℤ shifted p x c g) (λ b c. w b *ℤ shifted p x c (s ∷ g)) (λ b c. sym (mul_add (w b) (s.factor *ℤ tau p x s.exponents c) (shifted p x c g)))
 
+  -- the coefficient of a product is the sum over all splits
   pub shifted-times : (a : List ℕ) (f g : List Term) → Over (length a) f → Over (length a) g → shifted p x a (times f g) ≡ sum_splits a (λ b c. shifted p x b f *ℤ shifted p x c g)
   shifted-times a [] g h k = sym (sum_splits-zero a) ∙ sum_splits-same a (λ b c. pos 0) (λ b c. pos 0 *ℤ shifted p x c g) (λ b c. omega (arith, ints))
   shifted-times a (t ∷ f) g h k =

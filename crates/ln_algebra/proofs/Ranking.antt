@@ -4,24 +4,18 @@ use Rattle.std.proofs.lemmas.Bool.{cases_eq}
 use Rattle.ln_algebra.proofs.Order.{before-irreflexive, before-transitive}
 use Rattle.ln_algebra.proofs.Walk.{Lex}
 use Rattle.ln_algebra.specs.Earlier.{Earlier, Of, RanksBefore, Sites}
+use Rattle.ln_algebra.specs.Walk.{Member, IsRanked}
 
-abbrev pub Member : List ℕ → ℕ → Type 0
-Member [] w = ⊥
-Member (v ∷ vs) w = (w ≡ v) ⊎ Member vs w
-
-member : (vs : List ℕ) (w : ℕ) → Member vs w ⊎ (Member vs w → ⊥)
+-- a variable is in the list or not
+pub member : (vs : List ℕ) (w : ℕ) → Member vs w ⊎ (Member vs w → ⊥)
 member [] w = inr (λ h. h)
 member (v ∷ vs) w = elim (cases_eq w v) [ inl e ↦ inl (inl e) | inr d ↦ elim (member vs w) [ inl k ↦ inl (inr k) | inr k ↦ inr (λ h. elim h [ inl e ↦ d e | inr i ↦ k i ]) ] ]
-
--- each variable of the list ranks after the ones behind it
-abbrev pub IsRanked : Sites → List ℕ → Type 0
-IsRanked sites [] = Unit {0}
-IsRanked sites (v ∷ vs) = (s : ℕ) × Of sites v s × ((w : ℕ) → Member vs w → RanksBefore sites w v) × IsRanked sites vs
 
 -- a and b agree on the variables of sites outside vs
 abbrev SameOff : Sites → List ℕ → List ℕ → List ℕ → Type 0
 SameOff sites vs a b = (w s : ℕ) → Of sites w s → (Member vs w → ⊥) → get_or a w 0 ≡ get_or b w 0
 
+-- the first difference along the ranking is the one of the smallest infinitesimal
 lex-earlier : (sites : Sites) (vs a b : List ℕ) → IsRanked sites vs → SameOff sites vs a b → Lex vs a b → Earlier sites a b
 lex-earlier sites [] a b r h l = absurd l
 lex-earlier sites (v ∷ vs) a b r h (inl less) = (v, r.0, r.1, less, λ w k. same w k (cases_eq w v) (member vs w)) where
@@ -34,6 +28,7 @@ lex-earlier sites (v ∷ vs) a b r h (inr l) = lex-earlier sites vs a b r.3 (λ 
   off w s o n (inl e) = rw e l.0
   off w s o n (inr d) = h w s o (λ m. elim m [ inl e ↦ d e | inr i ↦ n i ])
 
+-- and the other way
 earlier-lex : (sites : Sites) (vs a b : List ℕ) → IsRanked sites vs → (v s : ℕ) → Of sites v s → Member vs v → get_or a v 0 < get_or b v 0 → ((w : ℕ) → RanksBefore sites v w → get_or a w 0 ≡ get_or b w 0) → Lex vs a b
 earlier-lex sites [] a b r v s o i less h = absurd i
 earlier-lex sites (u ∷ vs) a b r v s o (inl e) less h = inl (rw e at less)

@@ -2,7 +2,7 @@
 use Rattle.std.proofs.Common.{◌≡◌, ℕ, zero, suc, refl, sym, ◌∙◌, ap, arith, List, [], ◌∷◌, length, Bool, true, false, if◌then◌else◌}
 use Rattle.std.proofs.lemmas.Int.{ints}
 use Rattle.std.proofs.Math.IntN.{ℤ, pos, ◌*ℤ◌, neg_ℤ}
-use Rattle.ln_algebra.proofs.Ring.{one_mul}
+use Rattle.ln_algebra.proofs.Ring.{choose_times, one_mul}
 use Rattle.ln_algebra.proofs.Sums.{sum_splits, sum_splits_is, sum_over-append}
 use Rattle.ln_algebra.proofs.Taylor.{sum_parts-same}
 use Rattle.ln_algebra.proofs.Expansion.{tau, tau-zeros, tau-unit_vector, zeros, unit_vector, expanded, negated, power_terms, Over-expanded, Over-power_terms, shifted, shifted-negated, shifted-times}
@@ -18,22 +18,22 @@ sum_splits-within (n ∷ a) f g h =
     sum_parts-same n (λ i j. sum_splits a (λ b c. f (i ∷ b) (j ∷ c))) (λ i j. sum_splits a (λ b c. g (i ∷ b) (j ∷ c)))
     (λ i j. sum_splits-within a (λ b c. f (i ∷ b) (j ∷ c)) (λ b c. g (i ∷ b) (j ∷ c)) (λ b c u v. h (i ∷ b) (j ∷ c) (ap suc u) (ap suc v)))
 
+-- a product as a sum variable by variable
 pub product_is : (f g : Series) (a : List ℕ) → product f g a ≡ sum_splits a (λ b c. f b *ℤ g c)
 product_is f g a = sum_splits_is a (λ b c. f b *ℤ g c)
 
+-- products of series that agree at vectors of n exponents
 pub product-same : (f g u v : Series) (n : ℕ) → ((a : List ℕ) → length a ≡ n → f a ≡ u a) → ((a : List ℕ) → length a ≡ n → g a ≡ v a) → (a : List ℕ) → length a ≡ n → product f g a ≡ sum_splits a (λ b c. u b *ℤ v c)
 product-same f g u v n h k a e = product_is f g a ∙ sum_splits-within a (λ b c. f b *ℤ g c) (λ b c. u b *ℤ v c) (λ b c i j. ap (λ t. t *ℤ g c) (h b (i ∙ e)) ∙ ap (λ t. u b *ℤ t) (k c (j ∙ e)))
 
-choose_times : (c : ℤ) (b : Bool) → (if b then c else pos 0) ≡ c *ℤ (if b then pos 1 else pos 0)
-choose_times c true = omega (arith, ints)
-choose_times c false = omega (arith, ints)
-
 module _ (p : ℕ → Bool) (x : ℕ → ℤ) (n : ℕ) where
+  -- a number has the coefficients of its one term
   shifted-constant : (c : ℤ) (a : List ℕ) → length a ≡ n → constant c a ≡ shifted p x a (record { exponents = zeros n; factor = c } ∷ [])
   shifted-constant c a h =
       let e : c *ℤ tau p x (zeros n) a ≡ c *ℤ (if is_zero a then pos 1 else pos 0) = ap (λ t. c *ℤ t) (tau-zeros p x n a h) in
       omega (arith, ints, e, choose_times c (is_zero a))
 
+  -- a power those of the power of the terms
   power_is : (f : Series) (terms : List Term) → Over n terms → ((a : List ℕ) → length a ≡ n → f a ≡ shifted p x a terms) → (k : ℕ) (a : List ℕ) → length a ≡ n → power f k a ≡ shifted p x a (power_terms n terms k)
   power_is f terms o h zero a e = shifted-constant (pos 1) a e
   power_is f terms o h (suc k) a e =

@@ -1,38 +1,33 @@
--- The stage list of a row's order, and the perturbed sign.
-use Rattle.std.specs.Prelude.{◌≡◌, ◌≢◌, ℕ, ◌≤◌, true, ℤ, pos, List, None, length, slice_index, is_some}
-use Rattle.ln_algebra.specs.Vector.{degree}
-use Rattle.ln_algebra.specs.Coefficient.{coefficient, normal_coefficient}
-use Rattle.ln_algebra.specs.Terms.{covers}
-use Rattle.ln_algebra.specs.Earlier.{Sites, Earlier}
-use Rattle.ln_algebra.specs.Tree.{Tree, degree_of}
+-- Stages: the vectors at which a coefficient has to be looked at, one after the other, and where that may end.
+-- Source: the staged evaluation of Simulation of Simplicity (Edelsbrunner and Mücke 1990), which ends at the first coefficient that is a constant.
+use Rattle.std.specs.Prelude.{◌≡◌, ◌≢◌, ℕ, true, pos, List, length}
+use Rattle.ln_algebra.specs.Vector.{In, covers}
+use Rattle.ln_algebra.specs.Coefficient.{normal_coefficient}
+use Rattle.ln_algebra.specs.Earlier.{Sites, Earlier, IsOver, IsInOrder}
+use Rattle.ln_algebra.specs.Tree.{Tree}
 
--- a is a vector of n exponents, all of variables of sites
-pub record IsOver (n : ℕ) (sites : Sites) (a : List ℕ) : Type 0 where
-  pub size : length a ≡ n
-  pub of_sites : (v : ℕ) → sites.site v ≡ None → slice_index a v ≡ 0
+-- m is a monomial of the normal polynomial of e, over n variables.
+pub record IsMonomial (n : ℕ) (e : Tree) (m : List ℕ) : Type 0 where
+  pub size : length m ≡ n
+  pub nonzero : normal_coefficient e m ≢ pos 0
 
--- some monomial of the normal polynomial covers a
+-- Some monomial of the normal polynomial covers a: the scaled derivative by a isn't 0.
 abbrev pub Covered : ℕ → Tree → List ℕ → Type 0
-Covered n e a = (m : List ℕ) × (length m ≡ n) × (normal_coefficient e m ≢ pos 0) × (covers m a ≡ true)
+Covered n e a = (m : List ℕ) × IsMonomial n e m × (covers m a ≡ true)
 
--- a is a monomial, and no other covers it
+-- The cut: a is a monomial, and no other covers it. The scaled derivative by a is a constant that isn't 0.
 pub record IsLast (n : ℕ) (e : Tree) (a : List ℕ) : Type 0 where
-  pub monomial : normal_coefficient e a ≢ pos 0
-  pub only : (m : List ℕ) → length m ≡ n → normal_coefficient e m ≢ pos 0 → covers m a ≡ true → m ≡ a
+  pub monomial : IsMonomial n e a
+  pub only : (m : List ℕ) → IsMonomial n e m → covers m a ≡ true → m ≡ a
 
--- a is in the list: it is covered, and nothing earlier ends the list
+-- a is a stage: a vector over the variables of sites that some monomial covers, with no cut earlier than a.
 pub record IsStage (n : ℕ) (sites : Sites) (e : Tree) (a : List ℕ) : Type 0 where
   pub over : IsOver n sites a
   pub covered : Covered n e a
   pub before_cut : (b : List ℕ) → IsOver n sites b → IsLast n e b → Earlier sites b a → ⊥
 
--- the coefficient at x plus the infinitesimals of the sites
-abbrev pub perturbed : Sites → (ℕ → ℤ) → Tree → List ℕ → ℤ
-perturbed sites x e a = coefficient (λ v. is_some (sites.site v)) x e a
-
--- a is the first vector whose coefficient isn't 0
-pub record IsFirst (n : ℕ) (sites : Sites) (x : ℕ → ℤ) (e : Tree) (a : List ℕ) : Type 0 where
-  pub over : IsOver n sites a
-  pub small : degree a ≤ degree_of e
-  pub nonzero : perturbed sites x e a ≢ pos 0
-  pub zero_before : (b : List ℕ) → IsOver n sites b → degree b ≤ degree_of e → Earlier sites b a → perturbed sites x e b ≡ pos 0
+-- The stage list: all stages, each earlier than the ones behind it, and so each once.
+pub record IsStageList (n : ℕ) (sites : Sites) (e : Tree) (list : List (List ℕ)) : Type 0 where
+  pub stages : (a : List ℕ) → In list a → IsStage n sites e a
+  pub all : (a : List ℕ) → IsStage n sites e a → In list a
+  pub in_order : IsInOrder sites list

@@ -1,6 +1,6 @@
 -- What files and ports in memory hold, and when their calls fail.
-use Rattle.std.specs.Prelude.{◌≡◌, ◌⊎◌, ℕ, ◌+◌, ◌-◌, ◌^◌, ◌<◌, ◌≤◌, min, List, length, Contains}
-use Rattle.ln_base.specs.Outside.{Shelf, bytes_of, port_bytes}
+use Rattle.std.specs.Prelude.{◌≡◌, ℕ, ◌+◌, ◌-◌, ◌^◌, ◌<◌, min, List, length}
+use Rattle.ln_base.specs.Outside.{Shelf, port_bytes}
 use Rattle.ln_base.specs.declared.outside.Port.{Port}
 
 -- files in memory: names with their bytes, the numbers of the calls that fail, and how many calls and faults there were

@@ -1,6 +1,6 @@
 //! What every crate of the product stands on: files and ports with their counts of faults (`outside`), in memory
 //! (`memory`), whole files and whole texts (`whole`), lists that contracts see as lists (`seq`), decimal numbers
-//! (`decimal`), places in a source (`span`) and signs (`sign`).
+//! (`decimal`), places in a source (`span`, `place`) and signs (`sign`).
 //!
 //! What the crates above use: `read_whole` answers the told bytes of a file, `put_all` appends all bytes to a port, and a
 //! refusal has its cause, a count of faults that rose or a name that isn't there.
@@ -9,6 +9,7 @@
 pub mod decimal;
 pub mod memory;
 pub mod outside;
+pub mod place;
 pub mod seq;
 pub mod sign;
 pub mod span;
@@ -17,6 +18,7 @@ pub mod whole;
 pub use decimal::Reading;
 pub use memory::{MemConsole, MemFiles};
 pub use outside::{Console, Failed, Files, NoMemory, Port};
+pub use place::line_col;
 pub use seq::Seq;
 pub use sign::Sign;
 pub use span::Span;

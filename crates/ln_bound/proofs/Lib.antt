@@ -1,2 +1,4 @@
 pub mod Values
+pub mod Fitting
+pub mod Weighing
 pub mod Plain

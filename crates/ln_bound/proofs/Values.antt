@@ -13,7 +13,8 @@ use Rattle.ln_tree.specs.Row.{AreWithin}
 pub AreBounded : List ℤ → List ℕ → Type 0
 AreBounded zs ws = (j : ℕ) → unsigned_abs (slice_index_or zs j (pos 0)) ≤ slice_index_or ws j 0
 
-power_bound : (z : ℤ) (b n : ℕ) → unsigned_abs z ≤ b → unsigned_abs (power z n) ≤ b ^ n
+-- a power of a number within b is within the power of b
+pub power_bound : (z : ℤ) (b n : ℕ) → unsigned_abs z ≤ b → unsigned_abs (power z n) ≤ b ^ n
 power_bound z b zero h = rw pow-zero (omega arith)
 power_bound z b (suc n) h =
     let ih : unsigned_abs (power z n) ≤ b ^ n = power_bound z b n h in

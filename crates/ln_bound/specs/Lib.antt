@@ -1,1 +1,3 @@
 pub mod Value
+pub mod Light
+pub mod Stop

@@ -8,6 +8,7 @@ pub record Skipped (bytes : List ℕ) (at : ℕ) : Type 0 where
   pub within : at ≤ length bytes
   pub on : (m : ℕ) → Skips (drop at bytes) m → Skips bytes (at + m)
 
+-- a blank at the place reached is passed
 skipped_blank : {bytes : List ℕ} {at : ℕ} → Skipped bytes at → at < length bytes → begins_blank (drop at bytes) ≡ true → Skipped bytes (at + 1)
 skipped_blank {bytes = bytes} {at = at} s w b = record {
   within = omega arith;
@@ -18,6 +19,7 @@ skipped_blank {bytes = bytes} {at = at} s w b = record {
       subst (λ (q : ℕ). Skips bytes q) k (s.on (suc m) (blank b d2));
 }
 
+-- a comment at the place reached is passed
 skipped_comment : {bytes : List ℕ} {at n : ℕ} → Skipped bytes at → n ≡ comment_len (drop at bytes) → n ≤ length (drop at bytes) → begins_comment (drop at bytes) ≡ true → Skipped bytes (at + n)
 skipped_comment {bytes = bytes} {at = at} {n = n} s q w b = record {
   within = omega (arith, length-drop at bytes, s.within);
@@ -34,6 +36,7 @@ skipped_comment {bytes = bytes} {at = at} {n = n} s q w b = record {
 pub skipped_all : {bytes : List ℕ} {at : ℕ} → Skipped bytes at → Skips bytes at
 skipped_all {bytes = bytes} {at = at} s = let e : at + 0 ≡ at = omega arith in subst (λ (q : ℕ). Skips bytes q) e (s.on 0 nothing)
 
+-- where a blank stands there is a byte
 blank_some : (xs : List ℕ) → begins_blank xs ≡ true → 0 < length xs
 blank_some [] h = absurd (cc)
 blank_some (x ∷ xs) h = omega arith

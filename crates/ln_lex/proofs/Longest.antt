@@ -3,9 +3,11 @@ use Rattle.std.proofs.Common.{◌≡◌, ℕ, zero, suc, ◌+◌, ◌<◌, ◌�
 use Rattle.std.proofs.lemmas.Bool.Decides.{nat_tests}
 use Rattle.ln_lex.specs.declared.token.Kind.{Kind}
 use Rattle.ln_lex.specs.declared.token.Kind.TheVariants.{Number, Dots}
-use Rattle.ln_lex.specs.Tokens.{is_digit, is_letter, is_name_byte, run_len, word_kind, sign_of, begins_twice, kind_of, IsFirst, BeginsNone}
+use Rattle.ln_base.specs.Words.{is_digit, is_letter, is_name_byte}
+use Rattle.ln_lex.specs.Tokens.{run_len, word_kind, sign_of, begins_twice, kind_of, IsFirst, BeginsNone}
 use Rattle.ln_lex.proofs.Runs.{every_front, every_more, run_within}
 
+-- more bytes than a word are no token
 name_longest : (b : ℕ) (bs : List ℕ) (m : ℕ) → is_letter b ≡ true → suc (run_len is_name_byte bs) < m → m ≤ length (b ∷ bs) → kind_of (take m (b ∷ bs)) ≡ None
 name_longest b bs zero l h w = refl
 name_longest b bs (suc m) l h w = rw (l, every_more is_name_byte bs m (omega arith) (omega arith)) refl
@@ -17,6 +19,7 @@ name_first b bs n k l e q =
     record { some = omega arith; within = omega (arith, run_within is_name_byte bs); spelt = rw (l, every_front is_name_byte bs) refl; longest = λ m h w. name_longest b bs m l h w } in
     rw (q, e) go
 
+-- more bytes than a number are no token
 number_longest : (b : ℕ) (bs : List ℕ) (m : ℕ) → is_letter b ≡ false → is_digit b ≡ true → suc (run_len is_digit bs) < m → m ≤ length (b ∷ bs) → kind_of (take m (b ∷ bs)) ≡ None
 number_longest b bs zero l d h w = refl
 number_longest b bs (suc m) l d h w = rw (l, d, every_more is_digit bs m (omega arith) (omega arith)) refl
@@ -38,6 +41,7 @@ no_sign b (c ∷ []) l d s e (suc (suc (suc m))) = rw (l, d, e) refl
 no_sign b (c ∷ x ∷ xs) l d s e (suc (suc zero)) = rw (l, d, e) refl
 no_sign b (c ∷ x ∷ xs) l d s e (suc (suc (suc m))) = rw (l, d) refl
 
+-- more bytes than a sign of one byte are no token, where two dots don't stand
 one_longest : (b : ℕ) (bs : List ℕ) → is_letter b ≡ false → is_digit b ≡ false → begins_twice 46 (b ∷ bs) ≡ false → (m : ℕ) → 1 < m → m ≤ length (b ∷ bs) → kind_of (take m (b ∷ bs)) ≡ None
 one_longest b bs l d e zero h w = absurd (omega arith)
 one_longest b bs l d e (suc zero) h w = absurd (omega arith)
@@ -51,6 +55,7 @@ one_longest b (c ∷ x ∷ xs) l d e (suc (suc (suc m))) h w = rw (l, d) refl
 one_first : (b : ℕ) (bs : List ℕ) (k : Kind) → is_letter b ≡ false → is_digit b ≡ false → sign_of b ≡ Some k → begins_twice 46 (b ∷ bs) ≡ false → IsFirst (b ∷ bs) 1 k
 one_first b bs k l d s e = record { some = omega arith; within = omega arith; spelt = rw (l, d) s; longest = one_longest b bs l d e }
 
+-- more bytes than two dots are no token
 two_longest : (b c : ℕ) (cs : List ℕ) → is_letter b ≡ false → is_digit b ≡ false → (m : ℕ) → 2 < m → m ≤ length (b ∷ c ∷ cs) → kind_of (take m (b ∷ c ∷ cs)) ≡ None
 two_longest b c cs l d zero h w = absurd (omega arith)
 two_longest b c cs l d (suc zero) h w = absurd (omega arith)
@@ -71,18 +76,22 @@ two_first (b ∷ c ∷ cs) t =
 no_dot : (b : ℕ) → sign_of b ≡ None → (b == 46) ≡ false
 no_dot b s = grind (arith, nat_tests)
 
+-- a word at the front, by its first byte and the rest
 pub name_at : (bytes rest : List ℕ) (b n : ℕ) (k : Kind) → 0 < length bytes → b ≡ get_or bytes 0 0 → rest ≡ drop 1 bytes → is_letter b ≡ true → n ≡ 1 + run_len is_name_byte rest → k ≡ word_kind (take n bytes) → IsFirst bytes n k
 name_at [] rest b n k h e r l q w = absurd (omega arith)
 name_at (x ∷ xs) rest b n k h e r l q w = name_first x xs n k (rw (← e) l) (q ∙ rw r (omega arith)) w
 
+-- a number at the front, by its first byte and the rest
 pub number_at : (bytes rest : List ℕ) (b n : ℕ) → 0 < length bytes → b ≡ get_or bytes 0 0 → rest ≡ drop 1 bytes → is_letter b ≡ false → is_digit b ≡ true → n ≡ 1 + run_len is_digit rest → IsFirst bytes n Number
 number_at [] rest b n h e r l d q = absurd (omega arith)
 number_at (x ∷ xs) rest b n h e r l d q = number_first x xs n (rw (← e) l) (rw (← e) d) (q ∙ rw r (omega arith))
 
+-- a sign of one byte at the front, by that byte
 pub sign_at : (bytes : List ℕ) (b : ℕ) (k : Kind) → 0 < length bytes → b ≡ get_or bytes 0 0 → is_letter b ≡ false → is_digit b ≡ false → begins_twice 46 bytes ≡ false → sign_of b ≡ Some k → IsFirst bytes 1 k
 sign_at [] b k h e l d q w = absurd (omega arith)
 sign_at (x ∷ xs) b k h e l d q w = one_first x xs k (rw (← e) l) (rw (← e) d) (rw (← e) w) q
 
+-- no token at the front, by the first byte
 pub none_at : (bytes : List ℕ) (b : ℕ) → 0 < length bytes → b ≡ get_or bytes 0 0 → is_letter b ≡ false → is_digit b ≡ false → sign_of b ≡ None → BeginsNone bytes
 none_at [] b h e l d s = absurd (omega arith)
 none_at (x ∷ xs) b h e l d s = λ m w. no_sign x xs (rw (← e) l) (rw (← e) d) (rw (← e) s) (rw (← e) (no_dot b s)) m

@@ -13,11 +13,13 @@ record Ends (xs : List ℕ) : Type 0 where
   pub no_blank : begins_blank xs ≡ false
   pub no_comment : begins_comment xs ≡ false
 
+-- a blank is no comment
 either : (xs : List ℕ) → begins_blank xs ≡ true → begins_comment xs ≡ true → ⊥
 either [] a b = cc
 either (x ∷ []) a b = cc
 either (x ∷ y ∷ ys) a b = grind (arith, nat_tests)
 
+-- where neither begins, seen from an earlier place
 later : (xs : List ℕ) (k n t : ℕ) → t ≡ k + n → Ends (drop t xs) → Ends (drop n (drop k xs))
 later xs k n t e h = rw drop-drop (rw (← e) h)
 
@@ -44,11 +46,13 @@ blank_none b bs n h = no_sign b bs (grind (arith, nat_tests)) (grind (arith, nat
 slash_none : (b : ℕ) (bs : List ℕ) (n : ℕ) → (b == 47) ≡ true → kind_of (take n (b ∷ bs)) ≡ None
 slash_none b bs n h = no_sign b bs (grind (arith, nat_tests)) (grind (arith, nat_tests)) (grind (arith, nat_tests)) (grind (arith, nat_tests)) n
 
+-- what begins with a token begins with no blank
 blank_by : (xs : List ℕ) (n : ℕ) (k : Kind) (v : Bool) → begins_blank xs ≡ v → kind_of (take n xs) ≡ Some k → begins_blank xs ≡ false
 blank_by xs n k false e h = e
 blank_by [] n k true e h = refl
 blank_by (x ∷ xs) n k true e h = absurd (let g = blank_none x xs n e in cc)
 
+-- what begins with a token begins with no comment
 comment_by : (xs : List ℕ) (n : ℕ) (k : Kind) (v : Bool) → begins_comment xs ≡ v → kind_of (take n xs) ≡ Some k → begins_comment xs ≡ false
 comment_by xs n k false e h = e
 comment_by [] n k true e h = refl
@@ -59,6 +63,7 @@ comment_by (x ∷ y ∷ ys) n k true e h = absurd (let q : (x == 47) ≡ true = 
 first_ends : (xs : List ℕ) (n : ℕ) (k : Kind) → IsFirst xs n k → Ends xs
 first_ends xs n k f = record { no_blank = blank_by xs n k (begins_blank xs) refl f.spelt; no_comment = comment_by xs n k (begins_comment xs) refl f.spelt }
 
+-- a token at the front is no longer than another
 not_below : (xs : List ℕ) (n m : ℕ) (k l : Kind) → IsFirst xs n k → IsFirst xs m l → n < m → ⊥
 not_below xs n m k l f g h = let e = f.longest m h g.within in let q = g.spelt in cc
 
@@ -66,10 +71,12 @@ not_below xs n m k l f g h = let e = f.longest m h g.within in let q = g.spelt i
 first_same : (xs : List ℕ) (n m : ℕ) (k l : Kind) → IsFirst xs n k → IsFirst xs m l → n ≡ m
 first_same xs n m k l f g = elim (cases_order n m) [ inl e ↦ e | inr d ↦ elim d [ inl h ↦ absurd (not_below xs n m k l f g h) | inr h ↦ absurd (not_below xs m n l k g f h) ] ]
 
+-- at the end neither begins
 at_end : (bytes : List ℕ) → Ends (drop (length bytes) bytes)
 at_end [] = record { no_blank = refl; no_comment = refl }
 at_end (x ∷ xs) = at_end xs
 
+-- where neither begins, seen from where the gap begins
 ends_at : (bytes : List ℕ) (a s : ℕ) → a ≤ s → Ends (drop s bytes) → Ends (drop (s - a) (drop a bytes))
 ends_at bytes a s h e = later bytes a (s - a) s (omega arith) e
 
@@ -77,6 +84,7 @@ ends_at bytes a s h e = later bytes a (s - a) s (omega arith) e
 gap_same : (bytes : List ℕ) (a s t : ℕ) → a ≤ s → a ≤ t → Skips (drop a bytes) (s - a) → Skips (drop a bytes) (t - a) → Ends (drop s bytes) → Ends (drop t bytes) → s ≡ t
 gap_same bytes a s t h i d e p q = let r = skips_same d e (ends_at bytes a s h p) (ends_at bytes a t i q) in omega arith
 
+-- tokens with the same kind and span are one
 same_token : (t u : Token) → t.kind ≡ u.kind → t.span.start ≡ u.span.start → t.span.end ≡ u.span.end → t ≡ u
 same_token t u a b c =
     let f : Kind → ℕ → ℕ → Token = λ k s e. record { kind = k; span = record { start = s; end = e } } in
@@ -99,6 +107,7 @@ Leads bytes at (t ∷ ts) i =
     (at ≤ t.span.start) × Skips (drop at bytes) (t.span.start - at) × (t.span.start ≤ t.span.end)
     × IsFirst (drop t.span.start bytes) (t.span.end - t.span.start) t.kind × Leads bytes t.span.end ts i
 
+-- tokens that stand, with a gap behind them, lead to its end
 leads_by : (bytes : List ℕ) (at : ℕ) (ts : List Token) (to i : ℕ) → Stand bytes at ts to → to ≤ i → Skips (drop to bytes) (i - to) → Ends (drop i bytes) → Leads bytes at ts i
 leads_by bytes at [] to i s h d e =
     let d2 : Skips (drop at bytes) (i - at) = subst (λ (w : ℕ). Skips (drop w bytes) (i - w)) (sym s) d in
@@ -152,21 +161,25 @@ none_at_end bytes b = let f = b.token in omega (arith, f.some, f.within, length-
 none_at_fault : (xs : List ℕ) → BeginsNone xs → Begins xs → ⊥
 none_at_fault xs none b = let f = b.token in let no = none b.n f.within in let yes = f.spelt in cc
 
+-- two lists of tokens of the same bytes are one
 pub one_list : (bytes : List ℕ) (ts us : List Token) → Lexed bytes ts → Lexed bytes us → ts ≡ us
 one_list bytes ts us l m =
     let a = list_leads bytes ts l in
     let b = list_leads bytes us m in
     elim (cases_order (length ts) (length us)) [ inl e ↦ (same_tokens bytes 0 ts us _ _ a b e).0 | inr d ↦ elim d [ inl h ↦ absurd (none_at_end bytes (one_more bytes 0 ts us _ _ a b h)) | inr h ↦ absurd (none_at_end bytes (one_more bytes 0 us ts _ _ b a h)) ] ]
 
+-- two faults of the same bytes are at one place
 pub one_fault : (bytes : List ℕ) (i j : ℕ) → IsLexFault bytes i → IsLexFault bytes j → i ≡ j
 one_fault bytes i j f g =
     let a = behind_leads bytes f.before i f.behind in
     let b = behind_leads bytes g.before j g.behind in
     elim (cases_order (length f.before) (length g.before)) [ inl e ↦ (same_tokens bytes 0 f.before g.before i j a b e).1 | inr d ↦ elim d [ inl h ↦ absurd (none_at_fault _ f.no_token (one_more bytes 0 f.before g.before i j a b h)) | inr h ↦ absurd (none_at_fault _ g.no_token (one_more bytes 0 g.before f.before j i b a h)) ] ]
 
+-- a token too many begins at one place
 pub one_limit : (bytes : List ℕ) (i j : ℕ) → IsLexLimit bytes i → IsLexLimit bytes j → i ≡ j
 one_limit bytes i j f g = (same_tokens bytes 0 f.before g.before i j (behind_leads bytes f.before i f.behind) (behind_leads bytes g.before j g.behind) (f.many ∙ sym g.many)).1
 
+-- bytes with a list of tokens have no fault
 pub list_or_fault : (bytes : List ℕ) (ts : List Token) (i : ℕ) → Lexed bytes ts → IsLexFault bytes i → ⊥
 list_or_fault bytes ts i l f =
     let a = list_leads bytes ts l in
@@ -174,6 +187,7 @@ list_or_fault bytes ts i l f =
     let w = f.behind.within in
     elim (cases_order (length ts) (length f.before)) [ inl e ↦ (let r = (same_tokens bytes 0 ts f.before _ i a b e).1 in omega arith) | inr d ↦ elim d [ inl h ↦ none_at_end bytes (one_more bytes 0 ts f.before _ i a b h) | inr h ↦ none_at_fault _ f.no_token (one_more bytes 0 f.before ts i _ b a h) ] ]
 
+-- bytes with a list of at most 65,536 tokens have no token too many
 pub list_or_limit : (bytes : List ℕ) (ts : List Token) (i : ℕ) → Lexed bytes ts → length ts ≤ 65536 → IsLexLimit bytes i → ⊥
 list_or_limit bytes ts i l few f =
     let a = list_leads bytes ts l in
@@ -182,6 +196,7 @@ list_or_limit bytes ts i l few f =
     let m = f.many in
     elim (cases_order (length ts) (length f.before)) [ inl e ↦ (let r = (same_tokens bytes 0 ts f.before _ i a b e).1 in omega arith) | inr d ↦ elim d [ inl h ↦ none_at_end bytes (one_more bytes 0 ts f.before _ i a b h) | inr h ↦ omega arith ] ]
 
+-- bytes have no fault where they have a token too many
 pub fault_or_limit : (bytes : List ℕ) (i j : ℕ) → IsLexFault bytes i → IsLexLimit bytes j → ⊥
 fault_or_limit bytes i j f g =
     let a = behind_leads bytes f.before i f.behind in

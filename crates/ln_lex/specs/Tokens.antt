@@ -1,5 +1,6 @@
 -- Which bytes are which tokens.
 use Rattle.std.specs.Prelude.{◌≡◌, ℕ, suc, ◌+◌, ◌-◌, ◌<◌, ◌≤◌, ◌==◌, ◌&&◌, ◌||◌, not, Bool, true, false, if◌then◌else◌, nat_le, nat_lt, List, [], ◌∷◌, length, take, drop, Option, Some, None, codes, bytes_eq}
+use Rattle.ln_base.specs.Words.{is_digit, is_letter, is_name_byte, every}
 use Rattle.ln_lex.specs.declared.byte.Class.{Class}
 use Rattle.ln_lex.specs.declared.byte.Class.TheVariants.{InName, Digits, InComment}
 use Rattle.ln_lex.specs.declared.token.Kind.{Kind}
@@ -8,26 +9,9 @@ use Rattle.ln_lex.specs.declared.token.Token.{Token}
 use Rattle.ln_lex.specs.declared.scan.LexStop.{LexStop}
 use Rattle.ln_lex.specs.declared.scan.LexStop.TheVariants.{Lexical, Limit, NoMemory}
 
--- 0 to 9
-abbrev pub is_digit : ℕ → Bool
-is_digit b = nat_le 48 b && nat_le b 57
-
--- a to z, A to Z and the underscore, which begin a name
-abbrev pub is_letter : ℕ → Bool
-is_letter b = (nat_le 97 b && nat_le b 122) || (nat_le 65 b && nat_le b 90) || (b == 95)
-
--- what goes on with a name
-abbrev pub is_name_byte : ℕ → Bool
-is_name_byte b = is_letter b || is_digit b
-
 -- space, tab, line feed and carriage return
 abbrev pub is_blank : ℕ → Bool
 is_blank b = (b == 32) || (b == 9) || (b == 10) || (b == 13)
-
--- each byte passes the test
-abbrev pub every : (ℕ → Bool) → List ℕ → Bool
-every p [] = true
-every p (b ∷ bs) = p b && every p bs
 
 -- how many bytes at the front pass the test
 abbrev pub run_len : (ℕ → Bool) → List ℕ → ℕ

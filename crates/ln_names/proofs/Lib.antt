@@ -1,3 +1,6 @@
 pub mod Lists
 pub mod Walking
 pub mod FirstFault
+pub mod Within
+pub mod Order
+pub mod Faultless

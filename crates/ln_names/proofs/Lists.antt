@@ -1,5 +1,5 @@
 -- Lists of items, and digits.
-use Rattle.std.proofs.Common.{◌≡◌, ℕ, suc, ◌+◌, ◌-◌, ◌*◌, ◌<◌, ◌≤◌, min, Bool, true, false, cond, ◌||◌, ◌⊎◌, inl, inr, List, [], ◌∷◌, length, get_or, drop, Option, Some, None, refl, ap, arith, drop-cons, add-one}
+use Rattle.std.proofs.Common.{◌≡◌, ℕ, suc, ◌+◌, ◌-◌, ◌*◌, ◌<◌, ◌≤◌, min, Bool, true, false, cond, ◌||◌, ◌⊎◌, inl, inr, List, [], ◌∷◌, length, get_or, drop, Some, refl, ap, arith, drop-cons, add-one}
 use Rattle.std.specs.Prelude.{option_map}
 use Rattle.std.specs.List.{list_any, find, position_from}
 use Rattle.ln_syntax.specs.declared.raw.RawItem.{RawItem}

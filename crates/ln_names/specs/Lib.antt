@@ -3,3 +3,5 @@ pub mod Rules
 pub mod Visits
 pub mod First
 pub mod Resolve
+pub mod Along
+pub mod Limits

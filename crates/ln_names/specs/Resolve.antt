@@ -5,8 +5,13 @@ use Rattle.ln_base.specs.declared.span.Span.{Span}
 use Rattle.ln_syntax.specs.declared.raw.RawCoord.{RawCoord}
 use Rattle.ln_syntax.specs.declared.raw.RawArg.{RawArg}
 use Rattle.ln_syntax.specs.declared.raw.RawLet.{RawLet}
-use Rattle.ln_syntax.specs.Raw.{same}
-use Rattle.ln_names.specs.Rules.{is_site_arg, is_param_arg}
+use Rattle.ln_syntax.specs.Raw.{items, same}
+use Rattle.ln_names.specs.declared.resolve.Visible.{Visible}
+use Rattle.ln_names.specs.Rules.{Scope, scope, is_site_arg, is_param_arg}
+
+-- what an expression can speak of
+abbrev pub visible : Visible → Scope
+visible v = scope (items v.before.now) v.args.now v.lets.now
 
 -- the number of the let of this name
 abbrev pub let_place : List ℕ → List RawLet → Span → Option ℕ

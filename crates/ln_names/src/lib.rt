@@ -9,8 +9,8 @@ pub mod faults;
 pub mod resolve;
 pub mod roles;
 pub mod spans;
-pub mod tokens;
+mod tokens;
 pub mod walk;
 
 pub use faults::{Fault, Found, LimitWhat, NameWhat};
-pub use walk::check_names;
+pub use walk::{check_names, faultless_is_within, judges_in_order, one_fault};

@@ -9,6 +9,14 @@ use crate::spans::{number, same};
 use ln_base::Span;
 use ln_syntax::{RawArg, RawCoord, RawEnd, RawItem, RawLet};
 
+/// What an expression can speak of: the items before its predicate, the arguments, the lets before it.
+#[derive(Clone, Copy)]
+pub struct Visible<'a> {
+    pub before: &'a [RawItem],
+    pub args: &'a [RawArg],
+    pub lets: &'a [RawLet],
+}
+
 /// The number of the let of this name, among the lets of a predicate.
 pub fn let_place(bytes: &[u8], lets: &[RawLet], at: Span) -> Option<usize>
     ensures place { result ≡ let_place bytes.now lets.now at }
@@ -100,4 +108,39 @@ pub fn end_of(bytes: &[u8], e: RawEnd) -> i64
     ensures { result ≡ end_value bytes.now e }
 {
     signed_end(e.negative, number(bytes, e.at))
+}
+
+#[cfg(test)]
+mod tests {
+    use super::*;
+
+    const fn span(start: u32, end: u32) -> Span
+        ensures { result ≡ record { start = start; end = end } }
+    {
+        Span { start, end }
+    }
+
+    #[test]
+    fn a_name_may_be_a_site_and_a_param(rt: HostRuntime) {
+        let bytes = b"p: param, p: num";
+        let param = RawArg {
+            name: span(0, 1),
+            kind: span(3, 8),
+            is_param: true,
+        };
+        let site = RawArg {
+            name: span(10, 11),
+            kind: span(13, 16),
+            is_param: false,
+        };
+        assert_eq!(rt; site_at(bytes, &[param, site], span(0, 1)), Some(1));
+        assert_eq!(rt; param_at(bytes, &[param, site], span(0, 1)), Some(0));
+    }
+
+    #[test]
+    fn numbers_have_leading_zeros(rt: HostRuntime) {
+        let at = span(0, 3);
+        assert_eq!(rt; literal(b"012", at), 12);
+        assert_eq!(rt; end_of(b"012", RawEnd { negative: true, at }), -12);
+    }
 }

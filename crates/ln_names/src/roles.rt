@@ -23,6 +23,7 @@ pub enum Role {
     Operator,
 }
 
+/// What token `k` of the file is in its expression, by its kind and the kinds beside it.
 pub fn role_at(ts: &[Token], k: usize) -> Option<Role>
     ensures { result ≡ role_at ts.now k }
 {
@@ -50,6 +51,7 @@ pub fn role_at(ts: &[Token], k: usize) -> Option<Role>
     }
 }
 
+/// How many nodes the token is: 1, or 0 for an exponent and for the second NAME of an input.
 pub fn node_of(role: Role) -> usize
     ensures { result ≡ is_node role }
 {
@@ -69,6 +71,7 @@ fn kind_at(ts: &[Token], i: usize) -> Option<Kind>
     }
 }
 
+/// Where token `i` of the file stands; the empty span at 0, where there is none.
 pub fn span_at(ts: &[Token], i: usize) -> Span
     ensures { result ≡ span_at ts.now i }
 {

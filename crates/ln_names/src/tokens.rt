@@ -3,10 +3,11 @@ ghost use Rattle.std.specs.Prelude.{◌≡◌, ◌^◌, ◌<◌, ◌&&◌, lengt
 ghost use Rattle.std.specs.List.{list_any};
 ghost use Rattle.ln_syntax.specs.Raw.{text, same, item, items, item_name, is_site, is_param, is_pred};
 ghost use Rattle.ln_names.specs.Numbers.{number, end_value, signed, most_literal, most_end};
-ghost use Rattle.ln_names.specs.Rules.{fault_at, SiteName, ParamName, PredName, CoordName, is_site_arg, is_param_arg, has_site, has_param, has_site_arg, has_param_arg, has_let, LowEnd, HighEnd, ArgName, ArgSite, ArgParam, LetName, NumberNode, NameNode, InputNode, InputCoord, OperatorNode, ExponentOf, scope};
+ghost use Rattle.ln_names.specs.Rules.{fault_at, SiteName, ParamName, PredName, CoordName, is_site_arg, is_param_arg, has_site, has_param, has_site_arg, has_param_arg, has_let, LowEnd, HighEnd, ArgName, ArgSite, ArgParam, LetName, NumberNode, NameNode, InputNode, InputCoord, OperatorNode, ExponentOf};
+ghost use Rattle.ln_names.specs.Resolve.{visible};
 
 use crate::faults::{Fault, LimitWhat, NameWhat};
-use crate::resolve::arg_coords;
+use crate::resolve::{Visible, arg_coords};
 use crate::spans::{number, same, text};
 use ln_base::Span;
 use ln_syntax::{RawArg, RawCoord, RawItem, RawLet, RawRange};
@@ -334,61 +335,40 @@ pub fn exponent(bytes: &[u8], at: Span) -> Option<Fault>
     }
 }
 
-pub fn name_node(
-    bytes: &[u8],
-    its: &[RawItem],
-    args: &[RawArg],
-    lets: &[RawLet],
-    before: usize,
-    at: Span,
-) -> Option<Fault>
-    ensures { result ≡ fault_at bytes.now (NameNode before (scope (items its.now) args.now lets.now)) at }
+pub fn name_node(bytes: &[u8], seen: Visible, before: usize, at: Span) -> Option<Fault>
+    ensures { result ≡ fault_at bytes.now (NameNode before (visible seen.entry)) at }
 {
     if long_name(bytes, at) {
         Some(Fault::Limit(LimitWhat::NameLength))
     } else if before == 2048 {
         Some(Fault::Limit(LimitWhat::Nodes))
-    } else if known_let(bytes, lets, at) || known_param_arg(bytes, args, at) {
+    } else if known_let(bytes, seen.lets, at) || known_param_arg(bytes, seen.args, at) {
         None
     } else {
         Some(Fault::Named(NameWhat::Unknown))
     }
 }
 
-pub fn input_node(
-    bytes: &[u8],
-    its: &[RawItem],
-    args: &[RawArg],
-    lets: &[RawLet],
-    before: usize,
-    at: Span,
-) -> Option<Fault>
-    ensures { result ≡ fault_at bytes.now (InputNode before (scope (items its.now) args.now lets.now)) at }
+pub fn input_node(bytes: &[u8], seen: Visible, before: usize, at: Span) -> Option<Fault>
+    ensures { result ≡ fault_at bytes.now (InputNode before (visible seen.entry)) at }
 {
     if long_name(bytes, at) {
         Some(Fault::Limit(LimitWhat::NameLength))
     } else if before == 2048 {
         Some(Fault::Limit(LimitWhat::Nodes))
-    } else if known_site_arg(bytes, args, at) {
+    } else if known_site_arg(bytes, seen.args, at) {
         None
     } else {
         Some(Fault::Named(NameWhat::Unknown))
     }
 }
 
-pub fn input_coord(
-    bytes: &[u8],
-    its: &[RawItem],
-    args: &[RawArg],
-    lets: &[RawLet],
-    arg: Span,
-    at: Span,
-) -> Option<Fault>
-    ensures { result ≡ fault_at bytes.now (InputCoord (scope (items its.now) args.now lets.now) arg) at }
+pub fn input_coord(bytes: &[u8], seen: Visible, arg: Span, at: Span) -> Option<Fault>
+    ensures { result ≡ fault_at bytes.now (InputCoord (visible seen.entry) arg) at }
 {
     if long_name(bytes, at) {
         Some(Fault::Limit(LimitWhat::NameLength))
-    } else if coord_twice(bytes, arg_coords(bytes, its, args, arg), at) {
+    } else if coord_twice(bytes, arg_coords(bytes, seen.before, seen.args, arg), at) {
         None
     } else {
         Some(Fault::Named(NameWhat::Unknown))

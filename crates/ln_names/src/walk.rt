@@ -3,11 +3,15 @@ ghost use Rattle.std.specs.Prelude.{◌≡◌, ◌+◌, ◌<◌, ◌≤◌, ◌^
 ghost use Rattle.ln_lex.specs.declared.token.Token.{Token as Tok};
 ghost use Rattle.ln_syntax.specs.Raw.{Item, items, item, kind_at, span_at};
 ghost use Rattle.ln_names.specs.declared.faults.Found.{Found as Fnd};
+ghost use Rattle.ln_names.specs.Along.{JudgesInOrder};
 ghost use Rattle.ln_names.specs.First.{FirstFault, NoFault};
+ghost use Rattle.ln_names.specs.Limits.{FaultlessIsWithin};
 ghost use Rattle.ln_names.specs.Rules.{fault_at, scope};
+ghost use Rattle.ln_names.specs.Resolve.{visible};
 ghost use Rattle.ln_names.specs.Visits.{first_fault, visits_by, range_visits, coord_visits, arg_visits, is_dot, is_caret, role_at, is_node, role_use, kind_use, token_visits, is_node_at, pred_visits, or_later, value_visits, value_nodes, nodes_before, let_visits, item_visits, file_visits};
 
 use crate::faults::{Fault, Found};
+use crate::resolve::Visible;
 use crate::roles::{Role, node_of, role_at, span_at};
 use crate::tokens;
 use ln_base::Span;
@@ -31,8 +35,18 @@ pub fn one_fault()
     ensures none { (bytes : List ℕ) (ts : List Tok) (is : List Item) (f : Fnd) → FirstFault bytes ts is f → NoFault bytes ts is → ⊥ }
 {}
 
+/// The tokens that are judged stand in order of the text, and no NAME and no NUMBER is left out.
+pub fn judges_in_order()
+    ensures { JudgesInOrder }
+{}
+
+/// A file without a fault is within the limits, and its names are known and each its own.
+pub fn faultless_is_within()
+    ensures { FaultlessIsWithin }
+{}
+
 /// The first fault of names and limits.
-pub fn names_fault(bytes: &[u8], ts: &[Token], its: &[RawItem]) -> Option<Found>
+fn names_fault(bytes: &[u8], ts: &[Token], its: &[RawItem]) -> Option<Found>
     ensures { result ≡ first_fault bytes.now (file_visits ts.now (items its.now)) }
 {
     for (i, it) in its.iter().enumerate() {
@@ -85,7 +99,12 @@ fn pred_fault(
         Ok(n) => n,
         Err(found) => return Some(found),
     };
-    match value_fault(bytes, ts, its, args, lets, n, root) {
+    let seen = Visible {
+        before: its,
+        args,
+        lets,
+    };
+    match value_fault(bytes, ts, seen, n, root) {
         Ok(_) => None,
         Err(found) => Some(found),
     }
@@ -138,60 +157,47 @@ fn lets_fault(
 {
     let mut n = 0;
     for (i, l) in lets.iter().enumerate() {
-        let next = match let_fault(bytes, ts, its, args, &lets[..i], n, *l) {
-            Ok(next) => next,
-            Err(found) => return Err(found),
+        let seen = Visible {
+            before: its,
+            args,
+            lets: &lets[..i],
         };
-        n = next;
+        n = let_fault(bytes, ts, seen, n, *l)?;
     }
     Ok(n)
 }
 
-fn let_fault(
-    bytes: &[u8],
-    ts: &[Token],
-    its: &[RawItem],
-    args: &[RawArg],
-    before: &[RawLet],
-    n: usize,
-    l: RawLet,
-) -> Result<usize, Found>
+fn let_fault(bytes: &[u8], ts: &[Token], seen: Visible, n: usize, l: RawLet) -> Result<usize, Found>
     requires few { n ≤ 2048 }
-    requires nodes { n ≡ nodes_before ts.now before.now }
-    ensures fine { OnOk result (first_fault bytes.now (let_visits ts.now (items its.now) args.now before.now l) ≡ None) }
+    requires nodes { n ≡ nodes_before ts.now seen.lets.now }
+    ensures fine { OnOk result (first_fault bytes.now (let_visits ts.now (items seen.entry.before.now) seen.entry.args.now seen.entry.lets.now l) ≡ None) }
     ensures nodes { IfOk result (λ m. m ≡ n + value_nodes ts.now l.value) }
     ensures few { IfOk result (λ m. m ≤ 2048) }
-    ensures err { IfErr result (λ f. first_fault bytes.now (let_visits ts.now (items its.now) args.now before.now l) ≡ Some f) }
+    ensures err { IfErr result (λ f. first_fault bytes.now (let_visits ts.now (items seen.entry.before.now) seen.entry.args.now seen.entry.lets.now l) ≡ Some f) }
 {
-    if let Some(fault) = tokens::let_name(bytes, args, before, l.name) {
+    if let Some(fault) = tokens::let_name(bytes, seen.args, seen.lets, l.name) {
         return Err(Found { fault, at: l.name });
     }
-    value_fault(bytes, ts, its, args, before, n, l.value)
+    value_fault(bytes, ts, seen, n, l.value)
 }
 
 // How many nodes stand before the end, or the first fault.
 fn value_fault(
     bytes: &[u8],
     ts: &[Token],
-    its: &[RawItem],
-    args: &[RawArg],
-    lets: &[RawLet],
+    seen: Visible,
     n: usize,
     p: Places,
 ) -> Result<usize, Found>
     requires few { n ≤ 2048 }
-    ensures fine { OnOk result (first_fault bytes.now (value_visits ts.now (scope (items its.now) args.now lets.now) n p) ≡ None) }
+    ensures fine { OnOk result (first_fault bytes.now (value_visits ts.now (visible seen.entry) n p) ≡ None) }
     ensures nodes { IfOk result (λ m. m ≡ n + value_nodes ts.now p) }
     ensures few { IfOk result (λ m. m ≤ 2048) }
-    ensures err { IfErr result (λ f. first_fault bytes.now (value_visits ts.now (scope (items its.now) args.now lets.now) n p) ≡ Some f) }
+    ensures err { IfErr result (λ f. first_fault bytes.now (value_visits ts.now (visible seen.entry) n p) ≡ Some f) }
 {
     let mut m = n;
     for k in p.from..p.to {
-        let next = match token_fault(bytes, ts, its, args, lets, m, k) {
-            Ok(next) => next,
-            Err(found) => return Err(found),
-        };
-        m = next;
+        m = token_fault(bytes, ts, seen, m, k)?;
     }
     Ok(m)
 }
@@ -200,23 +206,21 @@ fn value_fault(
 fn token_fault(
     bytes: &[u8],
     ts: &[Token],
-    its: &[RawItem],
-    args: &[RawArg],
-    lets: &[RawLet],
+    seen: Visible,
     n: usize,
     k: usize,
 ) -> Result<usize, Found>
     requires few { n ≤ 2048 }
     requires place { k < usize.MAX }
-    ensures fine { OnOk result (first_fault bytes.now (token_visits ts.now (scope (items its.now) args.now lets.now) n k (role_at ts.now k)) ≡ None) }
+    ensures fine { OnOk result (first_fault bytes.now (token_visits ts.now (visible seen.entry) n k (role_at ts.now k)) ≡ None) }
     ensures nodes { IfOk result (λ m. m ≡ n + is_node_at (role_at ts.now k)) }
     ensures few { IfOk result (λ m. m ≤ 2048) }
-    ensures err { IfErr result (λ f. first_fault bytes.now (token_visits ts.now (scope (items its.now) args.now lets.now) n k (role_at ts.now k)) ≡ Some f) }
+    ensures err { IfErr result (λ f. first_fault bytes.now (token_visits ts.now (visible seen.entry) n k (role_at ts.now k)) ≡ Some f) }
 {
     let Some(role) = role_at(ts, k) else {
         return Ok(n);
     };
-    match role_fault(bytes, ts, its, args, lets, n, k, role) {
+    match role_fault(bytes, ts, seen, n, k, role) {
         Some(fault) => Err(Found {
             fault,
             at: span_at(ts, k),
@@ -228,26 +232,22 @@ fn token_fault(
 fn role_fault(
     bytes: &[u8],
     ts: &[Token],
-    its: &[RawItem],
-    args: &[RawArg],
-    lets: &[RawLet],
+    seen: Visible,
     n: usize,
     k: usize,
     role: Role,
 ) -> Option<Fault>
     requires { n ≤ 2048 }
-    ensures fault { result ≡ fault_at bytes.now (role_use ts.now (scope (items its.now) args.now lets.now) n k role) (span_at ts.now k) }
+    ensures fault { result ≡ fault_at bytes.now (role_use ts.now (visible seen.entry) n k role) (span_at ts.now k) }
     ensures fine { IfNone result (n + is_node role ≤ 2048) }
 {
     let at = span_at(ts, k);
     match role {
         Role::Value => tokens::number_node(bytes, n, at),
         Role::AfterCaret => tokens::exponent(bytes, at),
-        Role::Bare => tokens::name_node(bytes, its, args, lets, n, at),
-        Role::Input => tokens::input_node(bytes, its, args, lets, n, at),
-        Role::AfterDot => {
-            tokens::input_coord(bytes, its, args, lets, span_at(ts, k.saturating_sub(2)), at)
-        }
+        Role::Bare => tokens::name_node(bytes, seen, n, at),
+        Role::Input => tokens::input_node(bytes, seen, n, at),
+        Role::AfterDot => { tokens::input_coord(bytes, seen, span_at(ts, k.saturating_sub(2)), at) }
         Role::Operator => tokens::operator_node(bytes, n, at),
     }
 }
@@ -296,5 +296,51 @@ fn named_fault(fault: Option<Fault>, at: Span) -> Option<Found>
     match fault {
         Some(fault) => Some(Found { fault, at }),
         None => None,
+    }
+}
+
+#[cfg(test)]
+mod tests {
+    use super::*;
+    use crate::faults::LimitWhat;
+    use ln_syntax::RawEnd;
+
+    fn span(start: u32, end: u32) -> Span {
+        Span { start, end }
+    }
+
+    fn param(name: Span, low: Span, high: Span) -> RawItem {
+        let low = RawEnd {
+            negative: false,
+            at: low,
+        };
+        let high = RawEnd {
+            negative: false,
+            at: high,
+        };
+        RawItem::Param(name, RawRange { low, high })
+    }
+
+    #[test]
+    fn refuses_a_name_of_33_letters(rt: HostRuntime) {
+        let bytes = b"param abcdefghijklmnopqrstuvwxyzabcdefg: 0 .. 1;";
+        let name = span(6, 39);
+        let its = [param(name, span(41, 42), span(46, 47))];
+        let found = Found {
+            fault: Fault::Limit(LimitWhat::NameLength),
+            at: name,
+        };
+        assert_eq!(rt; check_names(bytes, &[], &its), Err(found));
+    }
+
+    #[test]
+    fn takes_a_range_in_order_alone(rt: HostRuntime) {
+        let its = [param(span(6, 7), span(9, 10), span(14, 15))];
+        let found = Found {
+            fault: Fault::Limit(LimitWhat::RangeEnd),
+            at: span(14, 15),
+        };
+        assert_eq!(rt; check_names(b"param a: 2 .. 1;", &[], &its), Err(found));
+        assert_eq!(rt; check_names(b"param a: 1 .. 2;", &[], &its), Ok(()));
     }
 }

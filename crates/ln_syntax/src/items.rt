@@ -20,7 +20,8 @@ struct Read<T> {
     to: usize,
 }
 
-/// The items of tokens that are a file, in their order. Each expression is the places of its tokens.
+/// The items of tokens that are a file, in their order: the spans of their names and numbers, and the places
+/// of the tokens of each expression. One pass, without recursion.
 pub fn read_items(alloc: Global, ts: &[Token]) -> Result<Vec<RawItem>, NoMemory>
     requires small { length ts.now < 2 ^ 32 }
     requires text { IsText ts.now }
@@ -37,6 +38,7 @@ pub fn read_items(alloc: Global, ts: &[Token]) -> Result<Vec<RawItem>, NoMemory>
     Ok(read)
 }
 
+/// The item that begins at a place.
 fn item_at(alloc: Global, ts: &[Token], at: usize) -> Result<Read<RawItem>, NoMemory>
     requires small { length ts.now < 2 ^ 32 }
     requires there { HasItem ts.now at }
@@ -51,6 +53,7 @@ fn item_at(alloc: Global, ts: &[Token], at: usize) -> Result<Read<RawItem>, NoMe
     pred_at(alloc, ts, at)
 }
 
+/// The site type that begins at a place: its name, then its coordinates in braces.
 fn site_at(alloc: Global, ts: &[Token], at: usize) -> Result<Read<RawItem>, NoMemory>
     requires small { length ts.now < 2 ^ 32 }
     requires there { HasItem ts.now at }
@@ -65,6 +68,7 @@ fn site_at(alloc: Global, ts: &[Token], at: usize) -> Result<Read<RawItem>, NoMe
     })
 }
 
+/// The param that begins at a place: its name, then its range.
 fn param_at(ts: &[Token], at: usize) -> Read<RawItem>
     requires small { length ts.now < 2 ^ 32 }
     requires there { HasItem ts.now at }
@@ -79,6 +83,7 @@ fn param_at(ts: &[Token], at: usize) -> Read<RawItem>
     }
 }
 
+/// The predicate that begins at a place: its name, its arguments, its lets and its sign expression.
 fn pred_at(alloc: Global, ts: &[Token], at: usize) -> Result<Read<RawItem>, NoMemory>
     requires small { length ts.now < 2 ^ 32 }
     requires there { HasItem ts.now at }
@@ -181,6 +186,7 @@ fn expression_end(ts: &[Token], from: usize) -> usize
     to
 }
 
+/// The argument that begins at a place: a name, and the name of a site type or `param`.
 fn arg_at(ts: &[Token], at: usize) -> RawArg
     requires small { length ts.now < 2 ^ 32 }
     requires there { HasArg ts.now at }
@@ -193,6 +199,7 @@ fn arg_at(ts: &[Token], at: usize) -> RawArg
     }
 }
 
+/// The range that begins at a place, both ends included.
 fn range_at(ts: &[Token], at: usize) -> Read<RawRange>
     requires small { length ts.now < 2 ^ 32 }
     requires there { HasRange ts.now at }
@@ -209,6 +216,7 @@ fn range_at(ts: &[Token], at: usize) -> Read<RawRange>
     }
 }
 
+/// The end of a range that begins at a place: a number, with a minus sign before it or without.
 fn end_at(ts: &[Token], at: usize) -> Read<RawEnd>
     requires small { length ts.now < 2 ^ 32 }
     requires there { HasEnd ts.now at }
@@ -249,5 +257,56 @@ fn span_of(ts: &[Token], i: usize) -> Span
     match ts.get(i) {
         Some(t) => t.span,
         None => Span { start: 0, end: 0 },
+    }
+}
+
+#[cfg(test)]
+mod tests {
+    use super::*;
+    use crate::place::syntax_fault;
+    use ln_lex::tokens;
+    use std::test::Fail;
+
+    fn span(start: u32, end: u32) -> Span {
+        Span { start, end }
+    }
+
+    #[test]
+    fn items_of_a_source(rt: HostRuntime) -> Result<(), Fail> {
+        let alloc = rt.alloc();
+        let source =
+            b"site a { x: -1 .. 2; } param p: 0 .. 3; predicate f(q: a, r: param) { let z = q.x + r; sign -z; }".as_slice();
+        let ts = tokens(alloc, source)?;
+        if syntax_fault(ts.as_slice()).is_some() {
+            assert!(rt; false);
+            return Ok(());
+        }
+        let read = read_items(alloc, ts.as_slice())?;
+        assert_eq!(rt; read.len(), 3);
+        for item in &read {
+            match item {
+                RawItem::Site(name, coords) => {
+                    assert_eq!(rt; *name, span(5, 6));
+                    assert_eq!(rt; coords.len(), 1);
+                    assert_eq!(rt; coords[0].name, span(9, 10));
+                    assert!(rt; coords[0].range.low.negative);
+                    assert!(rt; !coords[0].range.high.negative);
+                }
+                RawItem::Param(name, range) => {
+                    assert_eq!(rt; *name, span(29, 30));
+                    assert_eq!(rt; range.low.at, span(32, 33));
+                    assert_eq!(rt; range.high.at, span(37, 38));
+                }
+                RawItem::Pred(name, args, lets, root) => {
+                    assert_eq!(rt; *name, span(50, 51));
+                    assert_eq!(rt; args.len(), 2);
+                    assert!(rt; !args[0].is_param && args[1].is_param);
+                    assert_eq!(rt; lets.len(), 1);
+                    assert_eq!(rt; (lets[0].value.from, lets[0].value.to), (33, 38));
+                    assert_eq!(rt; (root.from, root.to), (40, 42));
+                }
+            }
+        }
+        Ok(())
     }
 }

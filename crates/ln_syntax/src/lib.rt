@@ -9,6 +9,8 @@ pub mod items;
 pub mod nesting;
 pub mod place;
 pub mod raw;
+#[cfg(test)]
+mod tests;
 pub mod unique;
 
 pub use items::read_items;

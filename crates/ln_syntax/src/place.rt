@@ -114,7 +114,8 @@ fn past_operand(part: Part, last: Last, depth: usize, kind: Kind) -> Option<(Sta
     }
 }
 
-/// The state behind a token, and how many parentheses of an expression are open there; none, where no file goes on so.
+/// The state behind a token, and how many parentheses of an expression are open there; none behind a token with
+/// which no file goes on.
 fn next(state: State, depth: usize, kind: Kind) -> Option<(State, usize)>
     requires { depth < 2 ^ 32 }
     ensures step { result ≡ next_of state depth kind }

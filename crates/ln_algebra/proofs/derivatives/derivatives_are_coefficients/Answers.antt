@@ -1,5 +1,5 @@
 use Rattle.ln_algebra.proofs.Derived.{derivative-coefficient}
-use Rattle.ln_algebra.proofs.derivatives_are_coefficients.Goals as goal
+use Rattle.ln_algebra.proofs.derivatives.derivatives_are_coefficients.Goals as goal
 
 pub returns : goal.returns
 returns c = derivative-coefficient

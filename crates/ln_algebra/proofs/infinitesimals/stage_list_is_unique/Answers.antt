@@ -1,0 +1,8 @@
+use Rattle.ln_algebra.proofs.Unique.{in_order-once, stage_list-unique}
+use Rattle.ln_algebra.proofs.infinitesimals.stage_list_is_unique.Goals as goal
+
+pub returns-clause-unique : goal.returns-clause-unique
+returns-clause-unique c = stage_list-unique
+
+pub returns-clause-once : goal.returns-clause-once
+returns-clause-once c = in_order-once

@@ -1,0 +1,48 @@
+//! Lines and columns.
+ghost use Rattle.std.specs.Prelude.{◌≡◌, ◌==◌, ◌+◌, ◌-◌, ◌<◌, ◌≤◌, ◌^◌, length, take, count_by};
+ghost use Rattle.ln_base.specs.Place.{line_of, column_of, behind_line_feed};
+
+fn line_feeds(bytes: &[u8]) -> usize
+    ensures count { result ≡ count_by (λ b. b == 10) bytes.now }
+    ensures within { result ≤ length bytes.now }
+{
+    bytes.iter().filter(|b| **b == 10).count()
+}
+
+fn since_line_feed(bytes: &[u8]) -> u32
+    requires { length bytes.now < 2 ^ 32 - 1 }
+    ensures count { result ≡ behind_line_feed 0 bytes.now }
+    ensures within { result ≤ length bytes.now }
+{
+    let mut n = 0u32;
+    'each: for b in bytes {
+        n = if *b == 10 { 0 } else { n + 1 };
+    }
+    n
+}
+
+/// The line and the column of a byte's place, from 1: the line is 1 plus the line feeds before it, the column 1 plus the
+/// bytes since the last of them.
+pub fn line_col(bytes: &[u8], at: u32) -> (u32, u32)
+    requires within { at ≤ length bytes.now }
+    requires small { at < 2 ^ 32 - 1 }
+    ensures line { result.0 ≡ line_of bytes.now at }
+    ensures column { result.1 ≡ column_of bytes.now at }
+{
+    let before = &bytes[..at as usize];
+    (line_feeds(before) as u32 + 1, since_line_feed(before) + 1)
+}
+
+#[cfg(test)]
+mod tests {
+    use super::*;
+
+    #[test]
+    fn places_count_from_one(rt: HostRuntime) {
+        let text = b"site a { }\nsite b\n\n";
+        assert_eq!(rt; line_col(text, 0), (1, 1));
+        assert_eq!(rt; line_col(text, 9), (1, 10));
+        assert_eq!(rt; line_col(text, 11), (2, 1));
+        assert_eq!(rt; line_col(text, 19), (4, 1));
+    }
+}

@@ -1,0 +1,65 @@
+-- Nodes with their weights, one after the other.
+use Rattle.std.proofs.Common.{map, drop, length, ◌≡◌, ℕ, ◌≤◌, ◌<◌, List, [], ◌∷◌, ◌++◌, Option, Some, None, refl, ap, ◌∙◌, sym, append_assoc}
+use Rattle.ln_base.specs.declared.span.Span.{Span}
+use Rattle.ln_bound.specs.declared.weigh.BoundStop.{BoundStop}
+use Rattle.ln_bound.specs.declared.weigh.BoundStop.TheVariants.{Bound, NoMemory}
+use Rattle.std.proofs.lemmas.List.{map-append}
+use Rattle.ln_tree.specs.declared.shape.VarInfo.{VarInfo}
+use Rattle.ln_tree.specs.Formula.{Formula}
+use Rattle.ln_bound.specs.Light.{most, AreLight, IsBoundFault, node_weights, weighed, weight_of, weighed_lets, let_weights}
+use Rattle.ln_bound.specs.Stop.{StopsWeighing, IsHeavyOrNoMemory, IsHeavy}
+
+abbrev pub Nodes : Type 0
+Nodes = List (Span × ℕ)
+
+-- both are light
+pub light_both : (xs ys : Nodes) → AreLight xs → AreLight ys → AreLight (xs ++ ys)
+light_both [] ys h g = g
+light_both (x ∷ xs) ys h g = (h.0, light_both xs ys h.1 g)
+
+-- one more node is light
+pub light_behind : (xs : Nodes) (at : Span) (w : ℕ) → AreLight xs → w ≤ most → AreLight (xs ++ (at, w) ∷ [])
+light_behind xs at w h l = light_both xs ((at, w) ∷ []) h (l, tt)
+
+-- the first that is too heavy stays the first where more stand behind
+pub stop_before : (xs ys : Nodes) (s : BoundStop) → StopsWeighing xs s → StopsWeighing (xs ++ ys) s
+stop_before xs ys (Bound at) f = record { before = f.before; weight = f.weight; after = f.after ++ ys; stands = ap (λ (zs : Nodes). zs ++ ys) f.stands ∙ append_assoc f.before ((at, f.weight) ∷ f.after) ys; light = f.light; heavy = f.heavy }
+stop_before xs ys NoMemory f = tt
+
+-- it is the first behind light ones
+pub stop_behind : (xs ys : Nodes) (s : BoundStop) → AreLight xs → StopsWeighing ys s → StopsWeighing (xs ++ ys) s
+stop_behind xs ys (Bound at) l f = record { before = xs ++ f.before; weight = f.weight; after = f.after; stands = ap (λ (zs : Nodes). xs ++ zs) f.stands ∙ sym (append_assoc xs f.before ((at, f.weight) ∷ f.after)); light = light_both xs f.before l f.light; heavy = f.heavy }
+stop_behind xs ys NoMemory l f = tt
+
+-- a node that is too heavy behind light ones
+pub stop_here : (xs : Nodes) (at : Span) (w : ℕ) (o : Option ℕ) (s : BoundStop) → AreLight xs → (IsHeavy o → most < w) → IsHeavyOrNoMemory at o s → StopsWeighing (xs ++ (at, w) ∷ []) s
+stop_here xs at w o (Bound t) l h e = record { before = xs; weight = w; after = []; stands = ap (λ (u : Span). xs ++ (u, w) ∷ []) (sym e.0); light = l; heavy = h e.1 }
+stop_here xs at w o NoMemory l h e = tt
+
+-- a node alone that is too heavy
+pub stop_alone : (at : Span) (w : ℕ) (o : Option ℕ) (s : BoundStop) → (IsHeavy o → most < w) → IsHeavyOrNoMemory at o s → StopsWeighing ((at, w) ∷ []) s
+stop_alone at w o s h e = stop_here [] at w o s tt h e
+
+-- some lets are weighed, with these weights; the rest stand behind
+pub record LetsWeighed (vars : List VarInfo) (whole rest : List Formula) (done all : List ℕ) : Type 0 where
+  pub front : Nodes
+  pub stands : weighed_lets vars [] whole ≡ front ++ weighed_lets vars done rest
+  pub light : AreLight front
+  pub nodes : all ≡ node_weights front
+  pub weights : let_weights vars done rest ≡ let_weights vars [] whole
+
+pub lets_begin : (vars : List VarInfo) (whole : List Formula) (all : List ℕ) → all ≡ [] → LetsWeighed vars whole whole [] all
+lets_begin vars whole all e = record { front = []; stands = refl; light = tt; nodes = e; weights = refl }
+
+pub lets_more : (vars : List VarInfo) (whole rest : List Formula) (f : Formula) (done all more after : List ℕ) → LetsWeighed vars whole (f ∷ rest) done all → AreLight (weighed vars done f) → more ≡ all ++ node_weights (weighed vars done f) → after ≡ done ++ weight_of vars done f ∷ []
+    → LetsWeighed vars whole rest after more
+lets_more vars whole rest f done all more after h l m a = record {
+  front = h.front ++ weighed vars done f;
+  stands = h.stands ∙ rw (a, append_assoc) refl;
+  light = light_both h.front (weighed vars done f) h.light l;
+  nodes = m ∙ rw (h.nodes, map-append) refl;
+  weights = rw a h.weights;
+}
+
+pub lets_stop : (vars : List VarInfo) (whole rest : List Formula) (f : Formula) (done all : List ℕ) (s : BoundStop) → LetsWeighed vars whole (f ∷ rest) done all → StopsWeighing (weighed vars done f) s → StopsWeighing (weighed_lets vars [] whole) s
+lets_stop vars whole rest f done all s h e = rw h.stands (stop_behind h.front (weighed vars done f ++ _) s h.light (stop_before (weighed vars done f) _ s e))

@@ -1,0 +1,101 @@
+-- What holds of a file without a fault of names and limits: the limits of the language and the rules on its names, item by item.
+use Rattle.std.specs.Prelude.{◌≡◌, ℕ, ◌+◌, ◌-◌, ◌<◌, ◌≤◌, ◌^◌, ◌≤ℤ◌, Bool, true, false, ◌||◌, List, [], ◌∷◌, ◌++◌, length, count_by, Option, Some}
+use Rattle.std.specs.List.{list_any}
+use Rattle.ln_base.specs.declared.span.Span.{Span}
+use Rattle.ln_lex.specs.declared.token.Token.{Token}
+use Rattle.ln_syntax.specs.declared.raw.RawRange.{RawRange}
+use Rattle.ln_syntax.specs.declared.raw.RawCoord.{RawCoord}
+use Rattle.ln_syntax.specs.declared.raw.RawArg.{RawArg}
+use Rattle.ln_syntax.specs.declared.raw.RawLet.{RawLet}
+use Rattle.ln_syntax.specs.declared.raw.Places.{Places}
+use Rattle.ln_syntax.specs.Raw.{Item, SiteItem, ParamItem, PredItem, item_name, is_site, is_param, is_pred, text, same, span_at}
+use Rattle.ln_names.specs.declared.roles.Role.{Role}
+use Rattle.ln_names.specs.declared.roles.Role.TheVariants.{Value, AfterCaret, Bare, Input, AfterDot}
+use Rattle.ln_names.specs.Numbers.{number, end_value}
+use Rattle.ln_names.specs.Rules.{Scope, scope, is_site_arg, is_param_arg, has_site, has_param, has_site_arg, has_param_arg, has_let, coords_at}
+use Rattle.ln_names.specs.Visits.{role_at, nodes_before, value_nodes}
+use Rattle.ln_names.specs.First.{NoFault}
+
+-- each element of a list, with those before it
+abbrev pub Each : {A : Type 0} → (List A → A → Type 0) → List A → List A → Type 0
+Each P before [] = Unit {0}
+Each P before (x ∷ xs) = P before x × Each P (before ++ (x ∷ [])) xs
+
+-- a name of at most 32 bytes
+abbrev pub IsShort : List ℕ → Span → Type 0
+IsShort bytes at = length (text bytes at) ≤ 32
+
+-- both ends within 2^63 - 1, and the low one at most the high one
+pub record RangeWithin (bytes : List ℕ) (r : RawRange) : Type 0 where
+  pub low : number bytes r.low.at < 2 ^ 63
+  pub high : number bytes r.high.at < 2 ^ 63
+  pub order : end_value bytes r.low ≤ℤ end_value bytes r.high
+
+-- a coordinate with a name of its own within its site type
+pub record CoordWithin (bytes : List ℕ) (before : List RawCoord) (c : RawCoord) : Type 0 where
+  pub short : IsShort bytes c.name
+  pub new : list_any (λ d. same bytes d.name c.name) before ≡ false
+  pub range : RangeWithin bytes c.range
+
+-- what stands behind an argument's colon was declared before
+abbrev pub IsKnown : List ℕ → List Item → RawArg → Bool → Type 0
+IsKnown bytes is a true = has_param bytes is a.name ≡ true
+IsKnown bytes is a false = has_site bytes is a.kind ≡ true
+
+-- an argument with a name of its own within its predicate
+pub record ArgWithin (bytes : List ℕ) (is : List Item) (before : List RawArg) (a : RawArg) : Type 0 where
+  pub short : IsShort bytes a.name
+  pub new : list_any (λ b. same bytes b.name a.name) before ≡ false
+  pub known : IsKnown bytes is a a.is_param
+
+-- a token of an expression: a literal is at most 2^127 - 1, an exponent at most 16, and a name stands for something in scope
+abbrev pub TokenWithin : List ℕ → List Token → Scope → ℕ → Option Role → Type 0
+TokenWithin bytes ts s k (Some Value) = number bytes (span_at ts k) < 2 ^ 127
+TokenWithin bytes ts s k (Some AfterCaret) = number bytes (span_at ts k) ≤ 16
+TokenWithin bytes ts s k (Some Bare) = (has_let bytes s.lets (span_at ts k) || has_param_arg bytes s.args (span_at ts k)) ≡ true
+TokenWithin bytes ts s k (Some Input) = has_site_arg bytes s.args (span_at ts k) ≡ true
+TokenWithin bytes ts s k (Some AfterDot) = list_any (λ c. same bytes c.name (span_at ts k)) (coords_at bytes s (span_at ts (k - 2))) ≡ true
+TokenWithin bytes ts s k o = Unit {0}
+
+-- each token of an expression
+abbrev pub ValueWithin : List ℕ → List Token → Scope → Places → Type 0
+ValueWithin bytes ts s p = (k : ℕ) → p.from ≤ k → k < p.to → TokenWithin bytes ts s k (role_at ts k)
+
+-- a let with a name of its own within its predicate
+pub record LetWithin (bytes : List ℕ) (ts : List Token) (is : List Item) (args : List RawArg) (before : List RawLet) (l : RawLet) : Type 0 where
+  pub short : IsShort bytes l.name
+  pub new : (list_any (λ a. same bytes a.name l.name) args || list_any (λ m. same bytes m.name l.name) before) ≡ false
+  pub value : ValueWithin bytes ts (scope is args before) l.value
+
+-- the arguments, lets and sign expression of a predicate
+pub record PredWithin (bytes : List ℕ) (ts : List Token) (is : List Item) (args : List RawArg) (ls : List RawLet) (root : Places) : Type 0 where
+  pub site_args : count_by is_site_arg args ≤ 5
+  pub param_args : count_by is_param_arg args ≤ 8
+  pub args_each : Each (ArgWithin bytes is) [] args
+  pub let_count : length ls ≤ 64
+  pub lets_each : Each (LetWithin bytes ts is args) [] ls
+  pub root_value : ValueWithin bytes ts (scope is args ls) root
+  pub node_count : nodes_before ts ls + value_nodes ts root ≤ 2048
+
+-- the parts of an item
+abbrev pub PartsWithin : List ℕ → List Token → List Item → Item → Type 0
+PartsWithin bytes ts before (SiteItem name cs) = (length cs ≤ 32) × Each (CoordWithin bytes) [] cs
+PartsWithin bytes ts before (ParamItem name r) = RangeWithin bytes r
+PartsWithin bytes ts before (PredItem name args ls root) = PredWithin bytes ts before args ls root
+
+-- an item with a name of its own within its file
+pub record ItemWithin (bytes : List ℕ) (ts : List Token) (before : List Item) (i : Item) : Type 0 where
+  pub short : IsShort bytes (item_name i)
+  pub new : list_any (λ j. same bytes (item_name j) (item_name i)) before ≡ false
+  pub parts : PartsWithin bytes ts before i
+
+-- the items of a file
+pub record FileWithin (bytes : List ℕ) (ts : List Token) (is : List Item) : Type 0 where
+  pub sites : count_by is_site is ≤ 16
+  pub params : count_by is_param is ≤ 16
+  pub preds : count_by is_pred is ≤ 16
+  pub each : Each (ItemWithin bytes ts) [] is
+
+-- a file without a fault is within the limits, and its names are known and its own
+abbrev pub FaultlessIsWithin : Type 0
+FaultlessIsWithin = (bytes : List ℕ) (ts : List Token) (is : List Item) → NoFault bytes ts is → FileWithin bytes ts is

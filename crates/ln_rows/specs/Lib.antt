@@ -1,0 +1,4 @@
+pub mod Number
+pub mod Record
+pub mod Left
+pub mod Columns
