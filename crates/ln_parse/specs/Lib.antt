@@ -1,2 +1,4 @@
 pub mod Says
 pub mod Text
+pub mod Reading
+pub mod Small
