@@ -185,7 +185,6 @@ fn arg_width(t: &Table, arg: &Arg) -> usize
 
 /// The name of column `i` of a predicate, from 0.
 pub fn column(alloc: Global, t: &Table, p: &Pred, i: usize) -> Result<Vec<u8>, NoMemory>
-    requires { i < length (column_names t.now.sites t.now.params p.now.args) }
     ensures { IfOk result (λ v. v.items ≡ slice_index_or (column_names t.now.sites t.now.params p.now.args) i []) }
 {
     let mut left = i;

@@ -1,0 +1,70 @@
+-- What the program says: a status, and the bytes on both ports.
+use Rattle.std.specs.Prelude.{◌≡◌, ◌⊎◌, ℕ, List, [], ◌∷◌, ◌++◌, Option, Some, None, if◌then◌else◌, codes}
+use Rattle.ln_base.specs.Outside.{Rose, Shown, appended}
+use Rattle.ln_base.specs.declared.outside.Port.TheVariants.{Out, Err as ErrPort}
+use Rattle.ln_tree.specs.declared.pred.Pred.{Pred}
+use Rattle.ln_rows.specs.Left.{Records}
+use Rattle.ln_top.specs.declared.status.Status.{Status}
+use Rattle.ln_top.specs.declared.status.Status.TheVariants.{Done, Refused, Usage, Rows, NoPredicate, Invalid, Read, Write, TooLong, Memory}
+use Rattle.ln_top.specs.Line.{line, lines_of, all_signs}
+
+-- a status, and what stands on each port
+pub record Said : Type 0 where
+  pub status : Status
+  pub out : List ℕ
+  pub err : List ℕ
+
+-- an error line alone
+abbrev pub error_line : Status → List ℕ → Said
+error_line status text = record { status = status; out = []; err = line text }
+
+-- a status that says what was owed: any but those of faults of the outside and of want of memory
+abbrev pub IsSettled : Status → Type 0
+IsSettled Done = Unit {0}
+IsSettled Refused = Unit {0}
+IsSettled Usage = Unit {0}
+IsSettled Rows = Unit {0}
+IsSettled NoPredicate = Unit {0}
+IsSettled Invalid = Unit {0}
+IsSettled Read = ⊥
+IsSettled Write = ⊥
+IsSettled TooLong = Unit {0}
+IsSettled Memory = ⊥
+
+-- these bytes came to both ports
+abbrev pub put_both : List ℕ → List ℕ → Option Shown → Option Shown
+put_both out err was = appended ErrPort err (appended Out out was)
+
+-- the first record isn't the columns' names, or there is none
+abbrev pub IsWrongHeader : List (List ℕ) → Records → Type 0
+IsWrongHeader names [] = Unit {0}
+IsWrongHeader names (first ∷ rest) = first ≡ names → ⊥
+
+-- what a predicate with these columns says of a rows file with these records: behind the header a line for each record, in order
+pub data WorkSaid (p : Pred) (names : List (List ℕ)) : Records → Said → Type 0 where
+  wrong_header : {records : Records} → IsWrongHeader names records → WorkSaid p names records (error_line Rows (codes "error header"))
+  ran : {rest : Records} → WorkSaid p names (names ∷ rest) (record { status = if all_signs p rest then Done else Rows; out = lines_of p names rest; err = [] })
+
+-- the status and what came to the ports are as said
+pub record AsSaid (said : Said) (result : Status) (was now : Option Shown) : Type 0 where
+  pub status : result ≡ said.status
+  pub shown : now ≡ put_both said.out said.err was
+
+-- the work on a rows file says what is owed
+pub record WorkOwed (p : Pred) (names : List (List ℕ)) (records : Records) (result : Status) (was now : Option Shown) : Type 0 where
+  pub said : Said
+  pub owed : WorkSaid p names records said
+  pub as_said : AsSaid said result was now
+
+-- a status that ends the work early: a fault of writing, or no memory
+abbrev pub StopsWork : Status → ℕ → ℕ → Type 0
+StopsWork Write before after = Rose before after
+StopsWork Memory before after = Unit {0}
+StopsWork Done before after = ⊥
+StopsWork Refused before after = ⊥
+StopsWork Usage before after = ⊥
+StopsWork Rows before after = ⊥
+StopsWork NoPredicate before after = ⊥
+StopsWork Invalid before after = ⊥
+StopsWork Read before after = ⊥
+StopsWork TooLong before after = ⊥
