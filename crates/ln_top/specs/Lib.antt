@@ -1,3 +1,5 @@
 pub mod Plain
 pub mod Line
 pub mod Said
+pub mod Words
+pub mod Stop

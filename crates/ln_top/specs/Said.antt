@@ -1,5 +1,5 @@
 -- What the program says: a status, and the bytes on both ports.
-use Rattle.std.specs.Prelude.{◌≡◌, ◌⊎◌, ℕ, List, [], ◌∷◌, ◌++◌, Option, Some, None, if◌then◌else◌, codes}
+use Rattle.std.specs.Prelude.{◌≡◌, ◌⊎◌, ℕ, Bool, true, false, List, [], ◌∷◌, ◌++◌, Option, Some, None, if◌then◌else◌, codes}
 use Rattle.ln_base.specs.Outside.{Rose, Shown, appended}
 use Rattle.ln_base.specs.declared.outside.Port.TheVariants.{Out, Err as ErrPort}
 use Rattle.ln_tree.specs.declared.pred.Pred.{Pred}
@@ -68,3 +68,12 @@ StopsWork NoPredicate before after = ⊥
 StopsWork Invalid before after = ⊥
 StopsWork Read before after = ⊥
 StopsWork TooLong before after = ⊥
+
+-- the first record was taken: it is the columns' names, or the header is wrong
+abbrev pub HeaderIs : List (List ℕ) → Records → Records → Bool → Type 0
+HeaderIs names old new true = old ≡ names ∷ new
+HeaderIs names old new false = IsWrongHeader names old
+
+-- an error line was put and the status is this one, or the console failed
+abbrev pub SaysError : Status → List ℕ → Status → Option Shown → Option Shown → ℕ → ℕ → Type 0
+SaysError status text result was now before after = ((result ≡ status) × (now ≡ appended ErrPort text was)) ⊎ ((result ≡ Write) × Rose before after)

@@ -4,4 +4,7 @@
 mod plain;
 mod record;
 pub mod status;
+pub mod stop;
+pub mod words;
+mod work;
 mod value;
