@@ -63,7 +63,7 @@ told before k [] size differ = rw append-nil differ
 told before k (z ∷ zs) size differ =
     told_more before k z zs (list_any (λ y. int_eq y z) before) size differ refl
     (λ e. let long : length (before ++ z ∷ []) ≡ suc k = omega (arith, length-append before (z ∷ [])) in
-      rw append_assoc at (told (before ++ z ∷ []) (suc k) zs long (all_pairs_push (λ x y. x ≢ y) before z differ (λ j d l. differs before z e j d l))))
+    rw append_assoc at (told (before ++ z ∷ []) (suc k) zs long (all_pairs_push (λ x y. x ≢ y) before z differ (λ j d l. differs before z e j d l))))
 
 -- the first place whose index an earlier place has is exactly that, and where there is none the indices differ
 pub first_equal_is : (zs : List ℤ) → MatchOption (first_equal zs) (AllPairs (λ y z. y ≢ z) zs) (λ k. IsFirstEqual zs k)

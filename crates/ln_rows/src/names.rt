@@ -21,10 +21,7 @@ fn is_dotted(field: &[u8], site: &[u8], coord: &[u8]) -> bool
     ensures { IsTrue result ↔ (field.now ≡ site.now ++ 46 ∷ coord.now) }
 {
     let n = site.len();
-    field.len() > n
-        && same(&field[..n], site)
-        && field[n] == b'.'
-        && same(&field[n + 1..], coord)
+    field.len() > n && same(&field[..n], site) && field[n] == b'.' && same(&field[n + 1..], coord)
 }
 
 // Is the field at a place this name?
@@ -139,7 +136,12 @@ fn dotted(alloc: Global, site: &Name, coord: &Coord) -> Result<Vec<u8>, NoMemory
 }
 
 // The name of column `i` of a site of this type, empty where it has no such column.
-fn site_column(alloc: Global, name: &Name, site: Option<&Site>, i: usize) -> Result<Vec<u8>, NoMemory>
+fn site_column(
+    alloc: Global,
+    name: &Name,
+    site: Option<&Site>,
+    i: usize,
+) -> Result<Vec<u8>, NoMemory>
     ensures { IfOk result (λ v. v.items ≡ slice_index_or (site_columns name.now (option_copied site.entry)) i []) }
 {
     if i == 0 {

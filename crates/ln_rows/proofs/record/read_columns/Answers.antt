@@ -26,13 +26,13 @@ returns-in_err-row-3-clause-err c =
 pub vars-preserved : goal.vars-preserved
 vars-preserved c =
     elim c.if-starts_site.branch [
-      then-starts_site+in_ok-row+in_ok-row-2 w ↦
-        let fit : SFits w64 w.in_ok-row.field-0 = search rules in
-        let fit2 : SFits w64 w.in_ok-row-2.field-0 = search rules in
-        let a = sym w.in_ok-row.ensures in
-        let b = sym w.in_ok-row-2.ensures in
-        rw (w.row-is, w.at-is, w.site-is, to_z-of_z fit, to_z-of_z fit2) (filled_site _ _ c.vars.invariant c.vars-test.true (sym w.if-starts_site.ensures) c.requires.size c.requires.few_vars c.requires.few_sites a b)
-    | else-starts_site+in_ok-row-3 w ↦
-        let fit : SFits w64 w.in_ok-row-3.field-0 = search rules in
-        rw (w.row-is, w.at-is, w.site-is, to_z-of_z) (filled_other _ c.vars.invariant c.vars-test.true (sym w.if-starts_site.ensures) c.requires.size c.requires.few_vars (sym w.in_ok-row-3.ensures))
+      | then-starts_site+in_ok-row+in_ok-row-2 w ↦
+          let fit : SFits w64 w.in_ok-row.field-0 = search rules in
+          let fit2 : SFits w64 w.in_ok-row-2.field-0 = search rules in
+          let a = sym w.in_ok-row.ensures in
+          let b = sym w.in_ok-row-2.ensures in
+          rw (w.row-is, w.at-is, w.site-is, to_z-of_z fit, to_z-of_z fit2) (filled_site _ _ c.vars.invariant c.vars-test.true (sym w.if-starts_site.ensures) c.requires.size c.requires.few_vars c.requires.few_sites a b)
+      | else-starts_site+in_ok-row-3 w ↦
+          let fit : SFits w64 w.in_ok-row-3.field-0 = search rules in
+          rw (w.row-is, w.at-is, w.site-is, to_z-of_z) (filled_other _ c.vars.invariant c.vars-test.true (sym w.if-starts_site.ensures) c.requires.size c.requires.few_vars (sym w.in_ok-row-3.ensures))
     ]
