@@ -19,7 +19,7 @@ use std::alloc::Global;
 
 /// Why a source has no table, and where: a byte that begins no token, a limit that it breaks, a token with which no
 /// file goes on, a name; or memory ran out.
-#[derive(Clone, Copy, Debug)]
+#[derive(Clone, Copy, Debug, PartialEq, Eq)]
 pub enum ParseStop {
     Lexical(Span),
     Limit(LimitWhat, Span),
