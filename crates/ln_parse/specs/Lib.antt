@@ -3,3 +3,4 @@ pub mod Text
 pub mod Reading
 pub mod Small
 pub mod Fault
+pub mod Ready
