@@ -13,6 +13,8 @@ pub mod predicate;
 pub mod small;
 pub mod source;
 pub mod stop;
+#[cfg(test)]
+mod tests;
 
 pub use ln_names::{LimitWhat, NameWhat};
 pub use source::{ParseStop, parse};

@@ -1,22 +1,25 @@
 // Sources to tables.
-ghost use Rattle.std.specs.Prelude.{◌≡◌, ◌≤◌, length, IfOk, IfErr};
+ghost use Rattle.std.specs.Prelude.{◌≡◌, ◌≤◌, ◌<◌, ◌^◌, length, IfOk, IfErr};
+ghost use Rattle.ln_lex.specs.Tokens.{Lexed};
+ghost use Rattle.ln_syntax.specs.Raw.{items};
 ghost use Rattle.ln_tree.specs.Table.{table_of};
 ghost use Rattle.ln_parse.specs.Text.{TextOf};
+ghost use Rattle.ln_parse.specs.Fault.{one_byte, place_of, stop_of, IsFaultless, IsRefusal};
 
 use crate::build::build;
 use crate::place::span_of;
 use crate::small::is_small;
 use crate::stop::BuildStop;
-use ln_base::{NoMemory, Span};
+use ln_base::{NoMemory, Seq, Span};
 use ln_lex::{LexStop, Token, tokens};
 use ln_names::{Fault, Found, LimitWhat, NameWhat, check_names};
-use ln_syntax::{nesting_fault, read_items, syntax_fault};
+use ln_syntax::{RawItem, nesting_fault, read_items, syntax_fault};
 use ln_tree::Table;
 use std::alloc::Global;
 
 /// Why a source has no table, and where: a byte that begins no token, a limit that it breaks, a token with which no
 /// file goes on, a name; or memory ran out.
-#[derive(Clone, Copy, Debug)]
+#[derive(Clone, Copy, Debug, PartialEq, Eq)]
 pub enum ParseStop {
     Lexical(Span),
     Limit(LimitWhat, Span),
@@ -25,79 +28,99 @@ pub enum ParseStop {
     NoMemory,
 }
 
-impl From<NoMemory> for ParseStop {
-    fn from(_e: NoMemory) -> Self {
-        ParseStop::NoMemory
-    }
-}
-
-impl From<LexStop> for ParseStop {
-    fn from(e: LexStop) -> Self {
-        match e {
-            LexStop::Lexical(at) => ParseStop::Lexical(byte_at(at)),
-            LexStop::Limit(at) => ParseStop::Limit(LimitWhat::Tokens, byte_at(at)),
-            LexStop::NoMemory => ParseStop::NoMemory,
-        }
-    }
-}
-
-impl From<Found> for ParseStop {
-    fn from(e: Found) -> Self {
-        match e.fault {
-            Fault::Limit(what) => ParseStop::Limit(what, e.at),
-            Fault::Named(what) => ParseStop::Name(what, e.at),
-        }
-    }
-}
-
-impl From<BuildStop> for ParseStop {
-    fn from(e: BuildStop) -> Self {
-        match e {
-            BuildStop::Form => ParseStop::Limit(LimitWhat::Form, Span { start: 0, end: 0 }),
-            BuildStop::NoMemory => ParseStop::NoMemory,
-        }
-    }
-}
-
-/// The table of a source.
+/// The table of a source, where it has one in the form that is built today.
 pub fn parse(alloc: Global, bytes: &[u8]) -> Result<Table, ParseStop>
     requires { length bytes.now ≤ 1048576 }
     ensures ok { IfOk result (λ t. TextOf bytes.now (table_of t.sites t.params t.preds)) }
+    ensures err { IfErr result (λ e. IsRefusal bytes.now e) }
 {
-    let list = tokens(alloc, bytes)?;
+    let list = scanned(alloc, bytes)?;
     let ts = list.as_slice();
+    let its = checked(alloc, bytes, ts)?;
+    match build(alloc, bytes, ts, &its) {
+        Ok(table) => {
+            if is_small(&table) {
+                Ok(table)
+            } else {
+                Err(UNBUILT)
+            }
+        }
+        Err(BuildStop::Form) => Err(UNBUILT),
+        Err(BuildStop::NoMemory) => Err(ParseStop::NoMemory),
+    }
+}
+
+// A form that isn't built yet has no place.
+const UNBUILT: ParseStop = ParseStop::Limit(LimitWhat::Form, Span { start: 0, end: 0 });
+
+// The tokens of a source.
+fn scanned(alloc: Global, bytes: &[u8]) -> Result<Seq<Token>, ParseStop>
+    requires { length bytes.now ≤ 1048576 }
+    ensures lexed { IfOk result (λ ts. Lexed bytes.now ts) }
+    ensures few { IfOk result (λ ts. length ts ≤ 65536) }
+    ensures err { IfErr result (λ e. IsRefusal bytes.now e) }
+{
+    match tokens(alloc, bytes) {
+        Ok(ts) => Ok(ts),
+        Err(LexStop::Lexical(at)) => Err(ParseStop::Lexical(byte_at(at))),
+        Err(LexStop::Limit(at)) => Err(ParseStop::Limit(LimitWhat::Tokens, byte_at(at))),
+        Err(LexStop::NoMemory) => Err(ParseStop::NoMemory),
+    }
+}
+
+// The items of tokens without a fault.
+fn checked(alloc: Global, bytes: &[u8], ts: &[Token]) -> Result<Vec<RawItem>, ParseStop>
+    requires lexed { Lexed bytes.now ts.now }
+    requires few { length ts.now ≤ 65536 }
+    requires short { length bytes.now ≤ 1048576 }
+    ensures ok { IfOk result (λ its. IsFaultless bytes.now ts.now (items its.items)) }
+    ensures err { IfErr result (λ e. IsRefusal bytes.now e) }
+{
     if let Some(at) = nesting_fault(ts) {
         return Err(ParseStop::Limit(LimitWhat::Nesting, span_of(ts, at)));
     }
     if let Some(at) = syntax_fault(ts) {
-        return Err(ParseStop::Syntax(fault_place(ts, at, bytes.len())));
+        return Err(ParseStop::Syntax(fault_place(bytes, ts, at)));
     }
-    let its = read_items(alloc, ts)?;
-    check_names(bytes, ts, &its)?;
-    let table = build(alloc, bytes, ts, &its)?;
-    if !is_small(&table) {
-        return Err(ParseStop::from(BuildStop::Form));
+    let its = match read_items(alloc, ts) {
+        Ok(its) => its,
+        Err(NoMemory) => return Err(ParseStop::NoMemory),
+    };
+    match check_names(bytes, ts, &its) {
+        Ok(()) => Ok(its),
+        Err(found) => Err(stop_of(found)),
     }
-    Ok(table)
+}
+
+// The answer to a fault of names and limits.
+fn stop_of(found: Found) -> ParseStop
+    ensures { result ≡ stop_of found.fault found.at }
+{
+    match found.fault {
+        Fault::Limit(what) => ParseStop::Limit(what, found.at),
+        Fault::Named(what) => ParseStop::Name(what, found.at),
+    }
 }
 
 // The span of the token at a place, or the empty span at the end of the source.
-fn fault_place(ts: &[Token], at: usize, end: usize) -> Span
-    requires { end ≤ 1048576 }
+fn fault_place(bytes: &[u8], ts: &[Token], at: usize) -> Span
+    requires { length bytes.now ≤ 1048576 }
+    ensures { result ≡ place_of bytes.now ts.now at }
 {
     if at < ts.len() {
         return span_of(ts, at);
     }
-    Span {
-        start: end as u32,
-        end: end as u32,
-    }
+    let end = bytes.len() as u32;
+    Span { start: end, end }
 }
 
 // The span of one byte.
-fn byte_at(at: u32) -> Span {
+fn byte_at(at: u32) -> Span
+    requires { at < 2 ^ 20 }
+    ensures { result ≡ one_byte at }
+{
     Span {
         start: at,
-        end: at.saturating_add(1),
+        end: at + 1,
     }
 }

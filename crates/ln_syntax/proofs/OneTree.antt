@@ -1,9 +1,10 @@
 -- An expression before a semicolon has one end and one tree: two derivations of a sort from one place are the same, if neither goes on behind its end.
-use Rattle.std.proofs.Common.{◌≡◌, ℕ, suc, ◌<◌, List, Option, Some, None, refl, ap, sym, subst, arith}
+use Rattle.std.proofs.Common.{◌≡◌, ℕ, suc, ◌<◌, List, refl, ap, sym, subst, arith}
 use Rattle.ln_lex.specs.declared.token.Token.{Token}
 use Rattle.ln_lex.specs.declared.token.Kind.{Kind}
 use Rattle.ln_lex.specs.declared.token.Kind.TheVariants.{ParR, Dot, Plus, Minus, Star, Caret, Semi}
 use Rattle.ln_syntax.specs.Raw.{Is, kind_at, span_at}
+use Rattle.ln_syntax.specs.Stops.{strength, strength_of, bar, Stops}
 use Rattle.ln_syntax.specs.Expression.{Tree, TNeg, TAdd, TSub, TMul, Sort, Atom, Power, Unary, Term, Sum, Factors, Terms, Derives, number, name, input, parens, plain, power, base, minus, term, no_factor, times, sum, no_term, plus, less}
 
 -- the same end and the same tree
@@ -11,55 +12,28 @@ pub record SameTree (i j : ℕ) (e f : Tree) : Type 0 where
   pub place : i ≡ j
   pub tree : e ≡ f
 
--- how tightly a token of this kind binds to what stands before it: a dot most, then ^, then *, then + and -
-abbrev strength : Kind → ℕ
-strength Dot = 4
-strength Caret = 3
-strength Star = 2
-strength Plus = 1
-strength Minus = 1
-strength k = 0
-
-abbrev strength_of : Option Kind → ℕ
-strength_of None = 0
-strength_of (Some k) = strength k
-
--- a sort goes on with the tokens whose strength is at least this
-abbrev bar : Sort → ℕ
-bar Atom = 4
-bar Power = 3
-bar Unary = 3
-bar Term = 2
-bar (Factors f) = 2
-bar Sum = 1
-bar (Terms f) = 1
-
--- the token at place j doesn't go on with the sort
-record Stops (ts : List Token) (s : Sort) (j : ℕ) : Type 0 where
-  weak : strength_of (kind_at ts j) < bar s
-
 strength_is : (ts : List Token) (j : ℕ) (k : Kind) → Is ts j k → strength_of (kind_at ts j) ≡ strength k
 strength_is ts j k is = ap strength_of is
 
 -- a token of this kind stops the sort
-stops : {ts : List Token} {j : ℕ} (s : Sort) (k : Kind) → Is ts j k → strength k < bar s → Stops ts s j
+pub stops : {ts : List Token} {j : ℕ} (s : Sort) (k : Kind) → Is ts j k → strength k < bar s → Stops ts s j
 stops {ts = ts} {j = j} s k is h = let e = strength_is ts j k is in record { weak = omega arith }
 
 -- a token of this kind goes on with the sort
-never : {ts : List Token} {s : Sort} {j : ℕ} (k : Kind) → Is ts j k → Stops ts s j → (strength k < bar s → ⊥) → ⊥
+pub never : {ts : List Token} {s : Sort} {j : ℕ} (k : Kind) → Is ts j k → Stops ts s j → (strength k < bar s → ⊥) → ⊥
 never {ts = ts} {j = j} k is st n = let e = strength_is ts j k is in let h = st.weak in n (omega arith)
 
 -- what stops a sort stops each that binds as tightly or more
-tighter : {ts : List Token} {s : Sort} {j : ℕ} (r : Sort) → Stops ts s j → (bar r < bar s → ⊥) → Stops ts r j
+pub tighter : {ts : List Token} {s : Sort} {j : ℕ} (r : Sort) → Stops ts s j → (bar r < bar s → ⊥) → Stops ts r j
 tighter r st n = let h = st.weak in record { weak = omega arith }
 
 -- a factor stops before more factors and at the end of them
-factors_stop : {ts : List Token} {f : Tree} {i j : ℕ} {e : Tree} → Derives ts (Factors f) i j e → Stops ts Term j → Stops ts Unary i
+pub factors_stop : {ts : List Token} {f : Tree} {i j : ℕ} {e : Tree} → Derives ts (Factors f) i j e → Stops ts Term j → Stops ts Unary i
 factors_stop no_factor st = tighter Unary st (λ h. omega arith)
 factors_stop (times is d r) st = stops Unary Star is (omega arith)
 
 -- a term stops before more terms and at the end of them
-terms_stop : {ts : List Token} {f : Tree} {i j : ℕ} {e : Tree} → Derives ts (Terms f) i j e → Stops ts Sum j → Stops ts Term i
+pub terms_stop : {ts : List Token} {f : Tree} {i j : ℕ} {e : Tree} → Derives ts (Terms f) i j e → Stops ts Sum j → Stops ts Term i
 terms_stop no_term st = tighter Term st (λ h. omega arith)
 terms_stop (plus is d r) st = stops Term Plus is (omega arith)
 terms_stop (less is d r) st = stops Term Minus is (omega arith)

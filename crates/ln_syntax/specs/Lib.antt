@@ -5,3 +5,4 @@ pub mod Place
 pub mod Reading
 pub mod Within
 pub mod Automaton
+pub mod Stops
