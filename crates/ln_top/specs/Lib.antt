@@ -3,3 +3,4 @@ pub mod Line
 pub mod Said
 pub mod Words
 pub mod Stop
+pub mod Source

@@ -3,6 +3,7 @@
 
 mod plain;
 mod record;
+mod source;
 pub mod status;
 pub mod stop;
 pub mod words;
