@@ -46,9 +46,12 @@ fits_here a b v w e l s = both_true _ _ (test_le a b (omega (arith, e))) (rw s (
 small : (a b : ℕ) → b ≡ a → a ≤ most → b ≤ most
 small a b e l = omega (arith, e, l)
 
+at_least : (a b : ℕ) → b ≡ a → nat_le a b ≡ true
+at_least a b e = test_le a b (omega (arith, e))
+
 covers_let : (o : Option Typed) (b : ℕ) (w : Width) → IsOfLet o b w → b ≤ most → (covers o b w && nat_le b (limit w)) ≡ true
 covers_let None b w h l = absurd h
-covers_let (Some u) b w h l = both_true _ _ (both_true _ _ (test_le _ _ (omega (arith, h.0))) (rw h.1 (left_no_wider (width u) (least b)))) (rw h.1 (test_le b _ (wider_fits (width u) b l)))
+covers_let (Some u) b w h l = both_true _ _ (both_true _ _ (at_least (bound u) b h.0) (rw h.1 (left_no_wider (width u) (least b)))) (rw h.1 (test_le b _ (wider_fits (width u) b l)))
 
 -- a node over one operand
 one_sound : (p : Bool) (a b : ℕ) (v w : Width) → p ≡ true → b ≡ a → b ≤ most → w ≡ wider v (least b) → (p && nat_le a b && nat_le b (limit w) && no_wider v w) ≡ true
@@ -61,8 +64,8 @@ two_sound p q a b u v w h g e l s =
 
 -- exact nodes are sound where their bounds fit 128 bits
 pub exact_nodes : (vars : List VarInfo) (lets : List Typed) (t : Typed) → is_fit (length vars) (length lets) (untyped t) ≡ true → IsExact vars lets t → HasRoom (sizes vars) (map bound lets) (untyped t) → sound_nodes vars lets t ≡ true
-exact_nodes vars lets (TNum c b w) f h r = both_true _ _ (test_le _ _ (omega (arith, h.0))) (rw h.1 (test_le b _ (least_fits b (small _ b h.0 r))))
-exact_nodes vars lets (TInput v b w) f h r = both_true _ _ (both_true _ _ f (test_le _ _ (omega (arith, h.0)))) (rw h.1 (test_le b _ (least_fits b (small _ b h.0 r))))
+exact_nodes vars lets (TNum c b w) f h r = both_true _ _ (at_least (unsigned_abs c) b h.0) (rw h.1 (test_le b _ (least_fits b (small _ b h.0 r))))
+exact_nodes vars lets (TInput v b w) f h r = both_true _ _ (both_true _ _ f (at_least (sizes vars v) b h.0)) (rw h.1 (test_le b _ (least_fits b (small _ b h.0 r))))
 exact_nodes vars lets (TLet j b w) f h r = covers_let (slice_get lets j) b w h (small _ b (exact_bound vars lets (TLet j b w) h) r)
 exact_nodes vars lets (TNeg t b w) f h r = one_sound _ _ b (width t) w (exact_nodes vars lets t f h.0 r.0) h.1 (small _ b (exact_bound vars lets (TNeg t b w) h) r.1) h.2
 exact_nodes vars lets (TTwo Plus s t b w) f h r =
@@ -82,7 +85,7 @@ exact_nodes vars lets (TPow t n b w) f h r =
 pub bounds_more : (vars : List VarInfo) (done : List Typed) (t : Typed) → IsExact vars done t → map bound (done ++ t ∷ []) ≡ map bound done ++ weight_over (sizes vars) (map bound done) (untyped t) ∷ []
 bounds_more vars done t h = map-append bound done (t ∷ []) ∙ ap (λ (b : ℕ). map bound done ++ b ∷ []) (exact_bound vars done t h)
 
-length_more : (done : List Typed) (t : Typed) → length (done ++ t ∷ []) ≡ suc (length done)
+pub length_more : (done : List Typed) (t : Typed) → length (done ++ t ∷ []) ≡ suc (length done)
 length_more [] t = refl
 length_more (u ∷ us) t = ap suc (length_more us t)
 
@@ -125,3 +128,19 @@ lets_end vars whole done s =
     append_nil : (us : List Typed) → us ++ [] ≡ us
     append_nil [] = refl
     append_nil (u ∷ us) = ap (λ (vs : List Typed). u ∷ vs) (append_nil us)
+
+-- the next let may stand there, and its bounds fit 128 bits
+pub next_fit : (vars : List VarInfo) (whole rest : List Tree) (e : Tree) (done : List Typed) → LetsSoFar vars whole (e ∷ rest) done → is_fit (length vars) (length done) e ≡ true
+next_fit vars whole rest e done s = (and_parts (is_fit (length vars) (length done) e) _ s.fit).0
+
+pub next_room : (vars : List VarInfo) (whole rest : List Tree) (e : Tree) (done : List Typed) → LetsSoFar vars whole (e ∷ rest) done → HasRoom (sizes vars) (map bound done) e
+next_room vars whole rest e done s = s.room.0
+
+-- the bound of a sum, difference, product or power of exact trees fits 128 bits where there is room
+pub two_room : (vars : List VarInfo) (lets : List Typed) (k : Two) (e f : Tree) (s t : Typed) → HasRoom (sizes vars) (map bound lets) (two_of k e f) → untyped s ≡ e → untyped t ≡ f → IsExact vars lets s → IsExact vars lets t → bound_of k (bound s) (bound t) ≤ most
+two_room vars lets Plus e f s t r p q h g = let a = exact_bound vars lets s h in let b = exact_bound vars lets t g in rw (a, b, p, q) r.2
+two_room vars lets Minus e f s t r p q h g = let a = exact_bound vars lets s h in let b = exact_bound vars lets t g in rw (a, b, p, q) r.2
+two_room vars lets Times e f s t r p q h g = let a = exact_bound vars lets s h in let b = exact_bound vars lets t g in rw (a, b, p, q) r.2
+
+pub power_room : (vars : List VarInfo) (lets : List Typed) (e : Tree) (n : ℕ) (t : Typed) → HasRoom (sizes vars) (map bound lets) (Pow e n) → untyped t ≡ e → IsExact vars lets t → bound t ^ n ≤ most
+power_room vars lets e n t r p h = let a = exact_bound vars lets t h in rw (a, p) r.1

@@ -13,7 +13,7 @@ use Rattle.ln_bound.specs.Value.{power, value, weight_over, weights}
 use Rattle.ln_bound.specs.Light.{most, weight_of, weighed, weighed_lets, weighed_pred, let_weights, AreLight, ValuesFit, let_values, LetsFit}
 use Rattle.ln_bound.proofs.Values.{value_bound, power_bound}
 
-light_parts : (xs ys : List (Span × ℕ)) → AreLight (xs ++ ys) → AreLight xs × AreLight ys
+pub light_parts : (xs ys : List (Span × ℕ)) → AreLight (xs ++ ys) → AreLight xs × AreLight ys
 light_parts [] ys h = (tt, h)
 light_parts (x ∷ xs) ys h = let r = light_parts xs ys h.1 in ((h.0, r.0), r.1)
 

@@ -12,12 +12,16 @@ use Rattle.ln_tree.specs.Formula.{Formula, FNum, FInput, FName, FNeg, FAdd, FSub
 use Rattle.ln_tree.specs.Kept.{is_pred}
 use Rattle.ln_bound.specs.declared.fitted.Two.TheVariants.{Plus, Minus, Times}
 use Rattle.ln_bound.specs.Value.{sizes}
-use Rattle.ln_bound.specs.Typed.{Typed, TNum, TInput, TLet, TNeg, TTwo, TPow, bound, untyped, need, cost, costs}
+use Rattle.ln_bound.specs.declared.fitted.Fitted.{Fitted}
+use Rattle.ln_bound.specs.View.{typed}
+use Rattle.ln_bound.specs.Light.{weighed_pred, node_weights, AreLight}
+use Rattle.ln_bound.specs.Typed.{Typed, TNum, TInput, TLet, TNeg, TTwo, TPow, bound, untyped, bounds, all_bounds, need, cost, costs}
 use Rattle.ln_bound.specs.Sound.{sound_nodes, is_sound, are_sound}
-use Rattle.ln_bound.specs.Exact.{IsExact, AreExact}
+use Rattle.ln_bound.specs.Exact.{IsExact, AreExact, AreAtMost}
 use Rattle.ln_bound.specs.Room.{HasRoom, HaveRoom, let_bounds}
 use Rattle.ln_bound.proofs.WidthLaws.{test_le, le_test, both_true}
 use Rattle.ln_bound.proofs.ExactLaws.{exact_nodes, exact_lets, bounds_more, length_more}
+use Rattle.ln_bound.proofs.RoomLaws.{light_pred_room, pred_at_most}
 
 -- how many nodes an expression has
 abbrev pub nodes_of : Tree → ℕ
@@ -94,8 +98,9 @@ exact_lets_sound : (vars : List VarInfo) (done ts : List Typed) → lets_fit (le
 exact_lets_sound vars done [] f h r n = refl
 exact_lets_sound vars done (t ∷ ts) f h r n =
     let g = and_parts (is_fit (length vars) (length done) (untyped t)) _ f in
-    let rest = rw (bounds_more vars done t h.0) r.1 in
-    both_true _ _ (exact_sound vars done t g.0 h.0 r.0 (omega (arith, n))) (exact_lets_sound vars (done ++ t ∷ []) ts (rw (length_more done t) g.1) h.1 rest (omega (arith, n)))
+    let few : lets_fit (length vars) (length (done ++ t ∷ [])) (map untyped ts) ≡ true = rw (length_more done t) g.1 in
+    let room : HaveRoom (sizes vars) (map bound (done ++ t ∷ [])) (map untyped ts) = rw (bounds_more vars done t h.0) r.1 in
+    both_true _ _ (exact_sound vars done t g.0 h.0 r.0 (omega (arith, n))) (exact_lets_sound vars (done ++ t ∷ []) ts few h.1 room (omega (arith, n)))
 
 -- the facts that a predicate's fitted trees keep
 pub record Kept (vars : List VarInfo) (lets : List Typed) (root : Typed) : Type 0 where
@@ -152,3 +157,46 @@ exact_kept args vars es root ts t k p q h g r s =
       sound_root = exact_sound vars ts t u g y (omega (arith, b, z));
       cheap = omega (arith, a, b, c, d, z);
     }
+
+trees_of_formulas : (vars : List VarInfo) (es : List Expr) → map (tree vars) (map formula es) ≡ map (tree_of vars) es
+trees_of_formulas vars [] = refl
+trees_of_formulas vars (e ∷ es) = ap (λ (ts : List Tree). tree_of vars e ∷ ts) (trees_of_formulas vars es)
+
+-- the bounds of the lets of a predicate that is not too heavy fit 128 bits
+pub lets_room : (vars : List VarInfo) (es : List Expr) (root : Expr) → AreLight (weighed_pred vars (map formula es) (formula root)) → HaveRoom (sizes vars) [] (map (tree_of vars) es)
+lets_room vars es root a = rw (← trees_of_formulas vars es) (light_pred_room vars (map formula es) (formula root) a).0
+
+-- so do those of its root behind the exact lets
+pub root_room : (vars : List VarInfo) (es : List Expr) (root : Expr) (ts : List Typed) → AreLight (weighed_pred vars (map formula es) (formula root)) → map untyped ts ≡ map (tree_of vars) es → AreExact vars [] ts → HasRoom (sizes vars) (map bound ts) (tree_of vars root)
+root_room vars es root ts a p h =
+    let m : map bound ts ≡ let_bounds (sizes vars) [] (map untyped ts) = exact_lets vars [] ts h in
+    let q : map untyped ts ≡ map (tree vars) (map formula es) = p ∙ sym (trees_of_formulas vars es) in
+    rw (m, q) (light_pred_room vars (map formula es) (formula root) a).1
+
+-- the exact trees of a predicate that is not too heavy keep what they are to keep
+pub light_kept : (args : List Arg) (vars : List VarInfo) (es : List Expr) (names : ℕ) (root : Expr) (ts : List Typed) (t : Typed) → is_pred args vars es names root ≡ true → AreLight (weighed_pred vars (map formula es) (formula root)) → map untyped ts ≡ map (tree_of vars) es → untyped t ≡ tree_of vars root → AreExact vars [] ts → IsExact vars ts t → Kept vars ts t
+light_kept args vars es names root ts t k a p q h g =
+    let r = lets_room vars es root a in
+    let s = root_room vars es root ts a p h in
+    let m : map bound ts ≡ let_bounds (sizes vars) [] (map untyped ts) = exact_lets vars [] ts h in
+    let s2 : HasRoom (sizes vars) (let_bounds (sizes vars) [] (map (tree_of vars) es)) (tree_of vars root) = rw (← p, ← m) s in
+    exact_kept args vars es root ts t (parts_of args vars es names root k) p q h g r s2
+
+-- their bounds are at most the predicate's weights
+pub kept_at_most : (vars : List VarInfo) (es : List Expr) (root : Expr) (ts : List Typed) (t : Typed) → map untyped ts ≡ map (tree_of vars) es → untyped t ≡ tree_of vars root → AreExact vars [] ts → IsExact vars ts t → AreAtMost (all_bounds ts ++ bounds t) (node_weights (weighed_pred vars (map formula es) (formula root)))
+kept_at_most vars es root ts t p q h g = pred_at_most vars (map formula es) (formula root) ts t (p ∙ sym (trees_of_formulas vars es)) q h g
+
+-- the length of a list of trees
+pub length_typed : (ts : List Fitted) → length (map typed ts) ≡ length ts
+length_typed [] = refl
+length_typed (t ∷ ts) = ap suc (length_typed ts)
+
+-- the root may stand behind the fitted lets
+pub root_fit : (args : List Arg) (vars : List VarInfo) (es : List Expr) (names : ℕ) (root : Expr) (ts : List Fitted) → is_pred args vars es names root ≡ true → map untyped (map typed ts) ≡ map (tree_of vars) es → is_fit (length vars) (length ts) (tree_of vars root) ≡ true
+root_fit args vars es names root ts k p =
+    let n : length ts ≡ length es = sym (length_typed ts) ∙ same_length vars (map typed ts) es p in
+    rw n (parts_of args vars es names root k).fit_root
+
+-- what is kept of equal variables, with the length of the program's list
+pub kept_of : (vars v : List VarInfo) (ts : List Fitted) (t : Typed) → v ≡ vars → Kept vars (map typed ts) t → (length ts ≤ 64) × Kept v (map typed ts) t
+kept_of vars v ts t e k = (rw (← length_typed ts) k.few, rw e k)

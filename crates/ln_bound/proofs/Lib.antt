@@ -8,3 +8,4 @@ pub mod RoomLaws
 pub mod KeptLaws
 pub mod SoundLaws
 pub mod Views
+pub mod LetSteps

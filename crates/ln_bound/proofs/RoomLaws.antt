@@ -18,8 +18,11 @@ use Rattle.ln_bound.proofs.Fitting.{light_parts, within}
 use Rattle.ln_bound.proofs.ExactLaws.{exact_bound, bounds_more}
 
 power_le : (a b n : ℕ) → a ≤ b → a ^ n ≤ b ^ n
-power_le a b zero h = rw pow-zero (omega arith)
-power_le a b (suc n) h = let ih : a ^ n ≤ b ^ n = power_le a b n h in rw pow-suc (mul-le _ _ _ _ ih h)
+power_le a b zero h = omega (arith, pow-zero a, pow-zero b)
+power_le a b (suc n) h =
+    let ih : a ^ n ≤ b ^ n = power_le a b n h in
+    let m : a ^ n * a ≤ b ^ n * b = mul-le _ _ _ _ ih h in
+    omega (arith, pow-suc a n, pow-suc b n, m)
 
 -- each number of the first list is at most that of the second at its place
 abbrev pub Below : List ℕ → List ℕ → Type 0

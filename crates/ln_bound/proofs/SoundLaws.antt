@@ -11,7 +11,7 @@ use Rattle.ln_tree.specs.Row.{AreWithin}
 use Rattle.ln_bound.specs.declared.fitted.Width.{Width}
 use Rattle.ln_bound.specs.declared.fitted.Two.{Two}
 use Rattle.ln_bound.specs.declared.fitted.Two.TheVariants.{Plus, Minus, Times}
-use Rattle.ln_bound.specs.Value.{value, values, sizes, size_of}
+use Rattle.ln_bound.specs.Value.{power, value, values, sizes, size_of}
 use Rattle.ln_bound.specs.Light.{let_values}
 use Rattle.ln_bound.specs.Widths.{limit, no_wider}
 use Rattle.ln_bound.specs.Typed.{Typed, TNum, TInput, TLet, TNeg, TTwo, TPow, bound, width, untyped, two_of, bound_of, need}
@@ -93,7 +93,7 @@ root_within x zs (TPow t n b w) h = h.1.0
 pub nodes_bounded : (vars : List VarInfo) (lets : List Typed) (x : ℕ → ℤ) (zs : List ℤ) → ((v : ℕ) → unsigned_abs (x v) ≤ sizes vars v) → ((j : ℕ) → unsigned_abs (slice_index_or zs j (pos 0)) ≤ slice_index_or (map bound lets) j 0) → (t : Typed) → SoundNodes vars lets t → IsBounded x zs t
 nodes_bounded vars lets x zs h l (TNum c b w) s = (s.0, omega (arith, s.0, s.1))
 nodes_bounded vars lets x zs h l (TInput v b w) s = fits_in (x v) (sizes vars v) b w (h v) s.1 s.2
-nodes_bounded vars lets x zs h l (TLet j b w) s = fits_in _ (slice_index_or (map bound lets) j 0) b w (l j) (let_within lets j (slice_get lets j) b w refl s.0) s.1
+nodes_bounded vars lets x zs h l (TLet j b w) s = fits_in (slice_index_or zs j (pos 0)) (slice_index_or (map bound lets) j 0) b w (l j) (let_within lets j (slice_get lets j) b w refl s.0) s.1
 nodes_bounded vars lets x zs h l (TNeg t b w) s =
     let ih = nodes_bounded vars lets x zs h l t s.0 in
     let r = root_within x zs t ih in
@@ -104,10 +104,10 @@ nodes_bounded vars lets x zs h l (TNeg t b w) s =
 nodes_bounded vars lets x zs h l (TTwo k u t b w) s =
     let p = nodes_bounded vars lets x zs h l u s.0 in
     let q = nodes_bounded vars lets x zs h l t s.1 in
-    (p, q, fits_in _ _ b w (two_bound k x zs (untyped u) (untyped t) (bound u) (bound t) (root_within x zs u p) (root_within x zs t q)) s.2 s.3)
+    (p, q, fits_in (value x zs (two_of k (untyped u) (untyped t))) (bound_of k (bound u) (bound t)) b w (two_bound k x zs (untyped u) (untyped t) (bound u) (bound t) (root_within x zs u p) (root_within x zs t q)) s.2 s.3)
 nodes_bounded vars lets x zs h l (TPow t n b w) s =
     let ih = nodes_bounded vars lets x zs h l t s.0 in
-    (ih, fits_in _ _ b w (power_bound (value x zs (untyped t)) (bound t) n (root_within x zs t ih)) s.1 s.2)
+    (ih, fits_in (power (value x zs (untyped t)) n) (bound t ^ n) b w (power_bound (value x zs (untyped t)) (bound t) n (root_within x zs t ih)) s.1 s.2)
 
 -- ---- rows
 

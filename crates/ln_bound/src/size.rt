@@ -181,6 +181,7 @@ fn fit(
 }
 
 // The trees of the lets, each behind those before it.
+#[tactic(auto, using(crate::proofs::ExactLaws::lets_start, crate::proofs::ExactLaws::next_fit, crate::proofs::ExactLaws::next_room))]
 fn fit_lets(alloc: Global, lets: &[Expr], vars: &[VarInfo]) -> Result<Seq<Fitted>, NoMemory>
     requires few { length vars.now ≤ 168 }
     requires fit { lets_fit (length vars.now) 0 (map (tree_of vars.now) lets.now) ≡ true }
