@@ -52,9 +52,10 @@ formula_fits vars x zs ws h l (FMul at e f) a =
     let q = light_parts (weighed vars ws e) (weighed vars ws f) p.0 in
     (formula_fits vars x zs ws h l e q.0, formula_fits vars x zs ws h l f q.1, within _ _ (value_bound x (weights vars) zs ws h l (tree vars (FMul at e f))) p.1.0)
 formula_fits vars x zs ws h l (FPow at e n) a =
-    let p = light_parts (weighed vars ws e) _ a in
-    (formula_fits vars x zs ws h l e p.0,
-    λ k m. within _ _ (power_bound (value x zs (tree vars e)) (weight_of vars ws e) k (value_bound x (weights vars) zs ws h l (tree vars e))) (lower (weight_of vars ws e) k n m p.1.0))
+    let p = light_parts (weighed vars ws e) _ a in (
+      formula_fits vars x zs ws h l e p.0,
+      λ k m. within _ _ (power_bound (value x zs (tree vars e)) (weight_of vars ws e) k (value_bound x (weights vars) zs ws h l (tree vars e))) (lower (weight_of vars ws e) k n m p.1.0),
+    )
 
 -- numbers within, and one more
 pub more : (zs : List ℤ) (ws : List ℕ) (z : ℤ) (w : ℕ) → length zs ≡ length ws → unsigned_abs z ≤ w → ((j : ℕ) → unsigned_abs (slice_index_or zs j (pos 0)) ≤ slice_index_or ws j 0)

@@ -9,3 +9,4 @@ pub mod KeptLaws
 pub mod SoundLaws
 pub mod Views
 pub mod LetSteps
+pub mod RootWeight

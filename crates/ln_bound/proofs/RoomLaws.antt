@@ -24,10 +24,6 @@ power_le a b (suc n) h =
     let m : a ^ n * a ≤ b ^ n * b = mul-le _ _ _ _ ih h in
     omega (arith, pow-suc a n, pow-suc b n, m)
 
--- each number of the first list is at most that of the second at its place
-abbrev pub Below : List ℕ → List ℕ → Type 0
-Below ms ws = (j : ℕ) → slice_index_or ms j 0 ≤ slice_index_or ws j 0
-
 -- a weight grows with those of the variables and lets
 pub weight_grows : (m w : ℕ → ℕ) (ms ws : List ℕ) → ((v : ℕ) → m v ≤ w v) → ((j : ℕ) → slice_index_or ms j 0 ≤ slice_index_or ws j 0) → (e : Tree) → weight_over m ms e ≤ weight_over w ws e
 weight_grows m w ms ws h l (Num c) = omega arith

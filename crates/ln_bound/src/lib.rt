@@ -15,3 +15,6 @@ pub mod weigh;
 pub use fitted::{FitOp, Fitted, Two, Width};
 pub use fitted_pred::FittedPred;
 pub use weigh::{BoundStop, Weights};
+
+#[cfg(test)]
+mod tests;

@@ -138,12 +138,7 @@ fn raised(alloc: Global, x: Fitted, n: u8) -> Result<Fitted, NoMemory>
 }
 
 // The tree of an expression behind lets of these trees.
-fn fit(
-    alloc: Global,
-    e: &Expr,
-    vars: &[VarInfo],
-    lets: &[Fitted],
-) -> Result<Fitted, NoMemory>
+fn fit(alloc: Global, e: &Expr, vars: &[VarInfo], lets: &[Fitted]) -> Result<Fitted, NoMemory>
     requires few { length vars.now ≤ 168 }
     requires fit { is_fit (length vars.now) (length lets.now) (tree_of vars.now e.now) ≡ true }
     requires room { HasRoom (sizes vars.now) (map bound (map typed lets.now)) (tree_of vars.now e.now) }
