@@ -13,7 +13,7 @@ use Rattle.ln_bound.specs.Value.{power, value, weight_over, weights}
 use Rattle.ln_bound.specs.Light.{most, weight_of, weighed, weighed_lets, weighed_pred, let_weights, AreLight, ValuesFit, let_values, LetsFit}
 use Rattle.ln_bound.proofs.Values.{value_bound, power_bound}
 
-light_parts : (xs ys : List (Span × ℕ)) → AreLight (xs ++ ys) → AreLight xs × AreLight ys
+pub light_parts : (xs ys : List (Span × ℕ)) → AreLight (xs ++ ys) → AreLight xs × AreLight ys
 light_parts [] ys h = (tt, h)
 light_parts (x ∷ xs) ys h = let r = light_parts xs ys h.1 in ((h.0, r.0), r.1)
 
@@ -27,7 +27,7 @@ lower (suc b) k n h l = let m = pow-le-pow_right {n = suc b} (omega arith) {i = 
 pub heavier : (b k n p : ℕ) → k < n → p ≡ b ^ k → most < p * b → most < b ^ n
 heavier b k n p h e l = elim (cases_lt most (b ^ n)) [ inl m ↦ m | inr m ↦ absurd (let f = lower b (suc k) n (omega arith) m in let g : b ^ suc k ≡ b ^ k * b = pow-suc b k in let t : p * b ≡ b ^ k * b = ap (λ z. z * b) e in omega (arith, l, f, g, t)) ]
 
-within : (n b : ℕ) → n ≤ b → b ≤ most → n ≤ most
+pub within : (n b : ℕ) → n ≤ b → b ≤ most → n ≤ most
 within n b h k = omega (arith, h, k)
 
 -- the value of each node of a formula fits
@@ -58,7 +58,7 @@ formula_fits vars x zs ws h l (FPow at e n) a =
     )
 
 -- numbers within, and one more
-more : (zs : List ℤ) (ws : List ℕ) (z : ℤ) (w : ℕ) → length zs ≡ length ws → unsigned_abs z ≤ w → ((j : ℕ) → unsigned_abs (slice_index_or zs j (pos 0)) ≤ slice_index_or ws j 0)
+pub more : (zs : List ℤ) (ws : List ℕ) (z : ℤ) (w : ℕ) → length zs ≡ length ws → unsigned_abs z ≤ w → ((j : ℕ) → unsigned_abs (slice_index_or zs j (pos 0)) ≤ slice_index_or ws j 0)
     → (j : ℕ) → unsigned_abs (slice_index_or (zs ++ z ∷ []) j (pos 0)) ≤ slice_index_or (ws ++ w ∷ []) j 0
 more [] [] z w e h l zero = h
 more [] [] z w e h l (suc j) = omega arith
@@ -67,7 +67,7 @@ more (y ∷ zs) [] z w e h l j = absurd (omega arith)
 more (y ∷ zs) (v ∷ ws) z w e h l zero = l 0
 more (y ∷ zs) (v ∷ ws) z w e h l (suc j) = more zs ws z w (omega arith) h (λ i. l (suc i)) j
 
-longer : (zs : List ℤ) (ws : List ℕ) (z : ℤ) (w : ℕ) → length zs ≡ length ws → length (zs ++ z ∷ []) ≡ length (ws ++ w ∷ [])
+pub longer : (zs : List ℤ) (ws : List ℕ) (z : ℤ) (w : ℕ) → length zs ≡ length ws → length (zs ++ z ∷ []) ≡ length (ws ++ w ∷ [])
 longer [] [] z w e = refl
 longer [] (v ∷ ws) z w e = absurd (omega arith)
 longer (y ∷ zs) [] z w e = absurd (omega arith)

@@ -2,3 +2,11 @@ pub mod Values
 pub mod Fitting
 pub mod Weighing
 pub mod Plain
+pub mod WidthLaws
+pub mod ExactLaws
+pub mod RoomLaws
+pub mod KeptLaws
+pub mod SoundLaws
+pub mod Views
+pub mod LetSteps
+pub mod RootWeight

@@ -1,3 +1,9 @@
 pub mod Value
 pub mod Light
 pub mod Stop
+pub mod Widths
+pub mod Typed
+pub mod View
+pub mod Sound
+pub mod Exact
+pub mod Room

@@ -1,0 +1,189 @@
+// Predicates made by hand, weighed and sized.
+use crate::fitted::{Two, Width};
+use crate::fitted_pred::FittedPred;
+use crate::size::size;
+use crate::weigh::{BoundStop, weigh};
+use ln_base::{NoMemory, Seq, Span};
+use ln_tree::{Arg, Expr, Name, Node, Pred, Shape, Var, VarInfo, is_pred, is_shape};
+use std::alloc::Global;
+use std::process::Abort;
+use std::test::Fail;
+
+fn leaf(node: Node, at: u32) -> Expr {
+    let at = Span { start: at, end: at };
+    Expr { at, node }
+}
+
+fn coord(arg: u8, coord: u8) -> Expr {
+    leaf(Node::Input(Var { arg, coord }), 0)
+}
+
+fn two(alloc: Global, kind: Two, x: Expr, y: Expr, at: u32) -> Result<Expr, NoMemory> {
+    let x = Box::new(alloc, x)?;
+    let y = Box::new(alloc, y)?;
+    let node = match kind {
+        Two::Plus => Node::Add(x, y),
+        Two::Minus => Node::Sub(x, y),
+        Two::Times => Node::Mul(x, y),
+    };
+    Ok(leaf(node, at))
+}
+
+fn power(alloc: Global, x: Expr, n: u8) -> Result<Expr, NoMemory> {
+    Ok(leaf(Node::Pow(Box::new(alloc, x)?, n), 0))
+}
+
+/// The variables of sites with equal coordinates.
+fn vars(alloc: Global, sites: u8, coords: u8, lo: i64, hi: i64) -> Result<Vec<VarInfo>, NoMemory> {
+    let mut vars = Vec::new(alloc);
+    for arg in 0..sites {
+        for coord in 0..coords {
+            let site = Some(arg);
+            vars.push(VarInfo {
+                arg,
+                site,
+                coord,
+                lo,
+                hi,
+            })?;
+        }
+    }
+    Ok(vars)
+}
+
+/// The predicate of these lets and this root over sites with these variables, which has to be one.
+fn pred(
+    rt: &impl Abort,
+    alloc: Global,
+    sites: u8,
+    vars: Vec<VarInfo>,
+    lets: Seq<Expr>,
+    root: Expr,
+) -> Result<Pred, NoMemory> {
+    let name = Name::of(b"n".as_slice());
+    let at = Span { start: 0, end: 0 };
+    let mut args = Seq::new(alloc);
+    for _k in 0..sites {
+        args.push(Arg::Site(name, 0))?;
+    }
+    let mut let_names = Seq::new(alloc);
+    for _k in 0..lets.len() {
+        let_names.push(name)?;
+    }
+    assert!(rt; vars.len() < 200);
+    assert!(rt; is_shape(sites, vars.as_slice()));
+    assert!(rt;
+        is_pred(
+            args.as_slice(),
+            vars.as_slice(),
+            lets.as_slice(),
+            let_names.len(),
+            &root
+        )
+    );
+    let vars = Seq::from_vec(vars);
+    let shape = Shape { name, sites, vars };
+    Ok(Pred {
+        name,
+        at,
+        args,
+        shape,
+        lets,
+        let_names,
+        root,
+    })
+}
+
+/// (p.x - r.x)*(q.y - r.y) - (p.y - r.y)*(q.x - r.x)
+fn orientation(rt: &impl Abort, alloc: Global) -> Result<Pred, NoMemory> {
+    let px = two(alloc, Two::Minus, coord(0, 0), coord(2, 0), 1)?;
+    let qy = two(alloc, Two::Minus, coord(1, 1), coord(2, 1), 2)?;
+    let py = two(alloc, Two::Minus, coord(0, 1), coord(2, 1), 3)?;
+    let qx = two(alloc, Two::Minus, coord(1, 0), coord(2, 0), 4)?;
+    let left = two(alloc, Two::Times, px, qy, 5)?;
+    let right = two(alloc, Two::Times, py, qx, 6)?;
+    let root = two(alloc, Two::Minus, left, right, 7)?;
+    pred(
+        rt,
+        alloc,
+        3,
+        vars(alloc, 3, 2, -1000, 1000)?,
+        Seq::new(alloc),
+        root,
+    )
+}
+
+/// a.t*b.t + c.t*d.t with each t from -most to most; its root stands at 62
+fn two_products(rt: &impl Abort, alloc: Global, most: i64) -> Result<Pred, NoMemory> {
+    assert!(rt; most >= 0);
+    let left = two(alloc, Two::Times, coord(0, 0), coord(1, 0), 55)?;
+    let right = two(alloc, Two::Times, coord(2, 0), coord(3, 0), 69)?;
+    let root = two(alloc, Two::Plus, left, right, 62)?;
+    pred(
+        rt,
+        alloc,
+        4,
+        vars(alloc, 4, 1, -most, most)?,
+        Seq::new(alloc),
+        root,
+    )
+}
+
+/// let d = t - 1; let e = d^3; sign -e*2^58*0 + d^0, with t from -2 to 3
+fn with_lets(rt: &impl Abort, alloc: Global) -> Result<Pred, NoMemory> {
+    let mut lets = Seq::new(alloc);
+    let one = leaf(Node::Num(1), 0);
+    lets.push(two(alloc, Two::Minus, coord(0, 0), one, 0)?)?;
+    lets.push(power(alloc, leaf(Node::Name(0), 0), 3)?)?;
+    let cube = Box::new(alloc, leaf(Node::Name(1), 0))?;
+    let number = leaf(Node::Num(288230376151711744), 0);
+    let large = two(alloc, Two::Times, leaf(Node::Neg(cube), 0), number, 0)?;
+    let nothing = two(alloc, Two::Times, large, leaf(Node::Num(0), 0), 0)?;
+    let unit = power(alloc, leaf(Node::Name(0), 0), 0)?;
+    let root = two(alloc, Two::Plus, nothing, unit, 0)?;
+    pred(rt, alloc, 1, vars(alloc, 1, 1, -2, 3)?, lets, root)
+}
+
+/// The weight of the root, and the trees.
+fn sized(alloc: Global, p: &Pred) -> Result<(u128, FittedPred), BoundStop> {
+    let w = weigh(alloc, p)?;
+    let trees = size(alloc, p, &w)?;
+    Ok((w.root(), trees))
+}
+
+#[test]
+fn the_orientation_weighs_more_than_its_bound(rt: HostRuntime) -> Result<(), Fail> {
+    let p = orientation(&rt, rt.alloc())?;
+    let (weight, trees) = sized(rt.alloc(), &p)?;
+    assert_eq!(rt; weight, 8016008);
+    assert_eq!(rt; trees.root.bound, 8000000);
+    assert_eq!(rt; trees.root.width, Width::W64);
+    Ok(())
+}
+
+#[test]
+fn a_weight_past_128_bits_is_refused_at_its_node(rt: HostRuntime) -> Result<(), Fail> {
+    let heavy = two_products(&rt, rt.alloc(), 9223372036854775807)?;
+    let at = Span { start: 62, end: 62 };
+    assert_eq!(rt; weigh(rt.alloc(), &heavy).err(), Some(BoundStop::Bound(at)));
+    let light = two_products(&rt, rt.alloc(), 9223372036854775806)?;
+    let (weight, trees) = sized(rt.alloc(), &light)?;
+    assert_eq!(rt; weight, 170141183460469231694793815568465002498);
+    assert_eq!(rt; trees.root.width, Width::W128);
+    Ok(())
+}
+
+#[test]
+fn lets_and_powers_carry_bounds_and_widths(rt: HostRuntime) -> Result<(), Fail> {
+    let p = with_lets(&rt, rt.alloc())?;
+    let (weight, trees) = sized(rt.alloc(), &p)?;
+    assert_eq!(rt; weight, 1);
+    let bounds = [4, 64];
+    for (t, bound) in trees.lets.as_slice().iter().zip(&bounds) {
+        assert_eq!(rt; t.bound, *bound);
+        assert_eq!(rt; t.width, Width::W64);
+    }
+    assert_eq!(rt; trees.root.bound, 1);
+    assert_eq!(rt; trees.root.width, Width::W128);
+    Ok(())
+}
