@@ -1,3 +1,4 @@
 pub mod Products
 pub mod PlainLemmas
 pub mod WorkLemmas
+pub mod SourceLemmas

@@ -58,7 +58,7 @@ stop_for bytes parse.NoMemory = Memory
 -- the source is refused: by the first fault of its text, or for a form that isn't built yet; else for a node that is too heavy
 pub data IsRefusedFor (bytes : List ℕ) : Refusal → Type 0 where
   of_text : {e : ParseStop} {r : Refusal} → TextFault bytes e ⊎ IsUnbuilt bytes e → stop_for bytes e ≡ Refused r → IsRefusedFor bytes r
-  of_bound : {t : Table} {at : Span} → TextOf bytes (table_of t.sites t.params t.preds) → IsFirstHeavy t.preds at → IsRefusedFor bytes (refusal_at bytes Bound at)
+  of_bound : (t : Table) {at : Span} → TextOf bytes (table_of t.sites t.params t.preds) → IsFirstHeavy t.preds at → IsRefusedFor bytes (refusal_at bytes Bound at)
 
 -- a source stops a command where it is refused, or memory ran out
 abbrev pub StopsSource : List ℕ → Stop → Type 0

@@ -6,7 +6,7 @@ ghost use Rattle.ln_top.specs.Source.{AllLight, IsAccepted, StopsSource, HeavySt
 
 use crate::stop::{Kind, Refusal, Stop};
 use ln_base::{Span, line_col};
-use ln_bound::{BoundStop, weigh};
+use ln_bound::weigh::{BoundStop, weigh};
 use ln_parse::{ParseStop, parse};
 use ln_tree::{Pred, Table};
 use std::alloc::Global;

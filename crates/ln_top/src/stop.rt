@@ -4,6 +4,7 @@ ghost use Rattle.ln_top.specs.Line.{line};
 ghost use Rattle.ln_top.specs.Stop.{kind_text, refusal_text, stop_text, stop_status};
 
 use crate::status::Status;
+use ln_base::NoMemory;
 use std::alloc::{AllocError, Global};
 
 /// What a source is refused for.
@@ -57,21 +58,37 @@ impl Stop {
     }
 }
 
-fn kind_text(kind: Kind) -> &'static str
+fn kind_text(kind: Kind) -> &'static [u8]
     ensures { result.now ≡ kind_text kind }
 {
     match kind {
-        Kind::Lexical => "lexical",
-        Kind::Limit => "limit",
-        Kind::Syntax => "syntax",
-        Kind::Name => "name",
-        Kind::Bound => "bound",
+        Kind::Lexical => b"lexical",
+        Kind::Limit => b"limit",
+        Kind::Syntax => b"syntax",
+        Kind::Name => b"name",
+        Kind::Bound => b"bound",
     }
 }
 
-/// The line of a refused source.
-pub fn refusal_line(alloc: Global, r: Refusal) -> Result<String, AllocError>
-    ensures { IfOk result (λ s. string_bytes s ≡ line (refusal_text r)) }
+fn number(alloc: Global, n: u32) -> Result<String, AllocError>
+    ensures { IfOk result (λ s. string_bytes s ≡ decimal n) }
 {
-    format!(in alloc; "error {} {}:{}\n", kind_text(r.kind), r.line, r.col)
+    format!(in alloc; "{n}")
+}
+
+/// The line of a refused source.
+pub fn refusal_line(alloc: Global, r: Refusal) -> Result<Vec<u8>, NoMemory>
+    ensures { IfOk result (λ v. v.items ≡ line (refusal_text r)) }
+{
+    let row = number(alloc, r.line)?;
+    let col = number(alloc, r.col)?;
+    let mut text = Vec::new(alloc);
+    text.extend_from_slice(b"error ")?;
+    text.extend_from_slice(kind_text(r.kind))?;
+    text.extend_from_slice(b" ")?;
+    text.extend_from_slice(row.as_bytes())?;
+    text.extend_from_slice(b":")?;
+    text.extend_from_slice(col.as_bytes())?;
+    text.push(b'\n')?;
+    Ok(text)
 }
