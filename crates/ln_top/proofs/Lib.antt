@@ -2,3 +2,4 @@ pub mod Products
 pub mod PlainLemmas
 pub mod WorkLemmas
 pub mod SourceLemmas
+pub mod TopLemmas

@@ -4,3 +4,4 @@ pub mod Said
 pub mod Words
 pub mod Stop
 pub mod Source
+pub mod Answer

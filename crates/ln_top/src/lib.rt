@@ -6,6 +6,7 @@ mod record;
 mod source;
 pub mod status;
 pub mod stop;
+pub mod top;
 pub mod words;
 mod work;
 mod value;

@@ -84,6 +84,7 @@ pub fn work<C: Console>(alloc: Global, con: &mut C, t: &Table, p: &Pred, bytes: 
     ensures settled { IsSettled result → WorkOwed p.now (column_names t.now.sites t.now.params p.now.args) (records_in bytes.now) result (C.shown con.old) (C.shown con.new) }
     ensures write { result ≡ Status.Write → Rose (C.faults con.old) (C.faults con.new) }
     ensures read { result ≡ Status.Read → ⊥ }
+    ensures usage { result ≡ Status.Usage → ⊥ }
 {
     let mut rows = Rows::new(alloc, bytes);
     let mut record = ByteRecord::new(alloc);
