@@ -1,5 +1,5 @@
 -- The places of sites, sorted by index.
-use Rattle.std.proofs.Common.{◌≡◌, ◌≢◌, ◌⊎◌, inl, inr, ℕ, zero, suc, ◌+◌, ◌<◌, ◌≤◌, Bool, false, List, [], ◌∷◌, ◌++◌, length, get_or, take, drop, ℤ, pos, ◌<ℤ◌, refl, ap, sym, ◌∙◌, subst, arith, get_or-take, eqb}
+use Rattle.std.proofs.Common.{◌≡◌, ◌≢◌, ◌⊎◌, inl, inr, ℕ, zero, suc, ◌<◌, ◌≤◌, false, List, [], ◌∷◌, ◌++◌, length, get_or, take, ℤ, pos, ◌<ℤ◌, refl, sym, ◌∙◌, arith, get_or-take, eqb}
 use Rattle.std.specs.Prelude.{All, AllPairs, IsPermutation, IsSortedByKey}
 use Rattle.std.specs.Ordering.{int_cmp, is_lt}
 use Rattle.std.proofs.Math.Seq.{take-append_seam}
@@ -39,13 +39,15 @@ pub are_places : (n : ℕ) (places : List ℕ) → n ≤ 5 → IsPermutation (ta
 are_places n places few p =
     let size : length places ≡ n = length_permutation (take n five) places p ∙ first_length n few in
     let within : All (λ k. k < n) places =
-        All-permutation (λ k. k < n) (take n five) places p (λ k d h. let l : k < n = omega (arith, h, first_length n few) in rw (first_at n k d few l) l) in
+    All-permutation (λ k. k < n) (take n five) places p (λ k d h. let l : k < n = omega (arith, h, first_length n few) in rw (first_at n k d few l) l) in
     let differ : AllPairs (λ j k. j ≢ k) (take n five) =
-        λ i j d l h e. let m : j < n = omega (arith, h, first_length n few) in omega (arith, l, sym (first_at n i d few (omega (arith, l, m))) ∙ e ∙ first_at n j d few m) in
-    (size, record {
-      within = λ k d h. omega (arith, within k d h, size);
-      differ = AllPairs-from_IsDistinct Decides-eqb places (IsDistinct-IsPermutation eqb eqb_flips (take n five) places p (IsDistinct-from_AllPairs Decides-eqb (take n five) differ));
-    })
+    λ i j d l h e. let m : j < n = omega (arith, h, first_length n few) in omega (arith, l, sym (first_at n i d few (omega (arith, l, m))) ∙ e ∙ first_at n j d few m) in (
+      size,
+      record {
+        within = λ k d h. omega (arith, within k d h, size);
+        differ = AllPairs-from_IsDistinct Decides-eqb places (IsDistinct-IsPermutation eqb eqb_flips (take n five) places p (IsDistinct-from_AllPairs Decides-eqb (take n five) differ));
+      },
+    )
 
 -- of two indices that differ, the one that isn't larger is the smaller
 below : (x y : ℤ) → is_lt (int_cmp y x) ≡ false → x ≢ y → x <ℤ y
@@ -67,9 +69,9 @@ sorted_is_order indices places few p sorted differ =
       size = q.0;
       each = rw (← q.0) q.1.within;
       rising = λ i j d l h.
-        below (index_at indices (get_or places i d)) (index_at indices (get_or places j d))
-        (sorted_far (λ x y. is_lt (int_cmp (index_at indices x) (index_at indices y))) (ranks_by int_cmp_total (index_at indices)) places sorted i j d (omega (arith, l)) h)
-        (apart indices (get_or places i d) (get_or places j d) differ (omega (arith, q.1.within i d (omega (arith, l, h)), q.0)) (omega (arith, q.1.within j d h, q.0)) (q.1.differ i j d l h));
+          below (index_at indices (get_or places i d)) (index_at indices (get_or places j d))
+          (sorted_far (λ x y. is_lt (int_cmp (index_at indices x) (index_at indices y))) (ranks_by int_cmp_total (index_at indices)) places sorted i j d (omega (arith, l)) h)
+          (apart indices (get_or places i d) (get_or places j d) differ (omega (arith, q.1.within i d (omega (arith, l, h)), q.0)) (omega (arith, q.1.within j d h, q.0)) (q.1.differ i j d l h));
     }
 
 -- the front of an array that holds the places

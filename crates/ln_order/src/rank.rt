@@ -39,3 +39,20 @@ pub fn order_of(indices: &[i64]) -> Result<Order, Equal>
     sort_by_index(&mut places[..len], indices);
     Ok(Order::of(places, len as u8))
 }
+
+#[cfg(test)]
+mod tests {
+    use super::*;
+
+    #[test]
+    fn places_stand_by_rising_index(rt: HostRuntime) {
+        match order_of(&[2, 1, 3]) {
+            Ok(order) => assert_eq!(rt; order.places(), [1u8, 0, 2].as_slice()),
+            Err(_) => assert!(rt; false),
+        }
+        match order_of(&[4, 4]) {
+            Ok(_) => assert!(rt; false),
+            Err(equal) => assert_eq!(rt; equal, Equal(1)),
+        }
+    }
+}

@@ -1,4 +1,4 @@
-use Rattle.std.proofs.Common.{◌∙◌, sym, ◌≡◌, arith, pos, Some, None, Option, ℕ, ap, length, drop}
+use Rattle.std.proofs.Common.{◌∙◌, sym, arith, pos, Some, None}
 use Rattle.ln_order.proofs.OrderLemmas.{found_here, passed_by, none_behind, first_equal_says}
 use Rattle.ln_order.proofs.equal.first_equal.Goals as goal
 

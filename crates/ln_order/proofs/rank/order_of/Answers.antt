@@ -1,4 +1,3 @@
-use Rattle.std.proofs.Common.{◌≡◌, ◌∙◌, sym}
 use Rattle.ln_order.proofs.RankLemmas.{are_places, sorted_is_order, front_places}
 use Rattle.ln_order.proofs.rank.order_of.Goals as goal
 
