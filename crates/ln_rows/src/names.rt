@@ -185,7 +185,7 @@ fn arg_width(t: &Table, arg: &Arg) -> usize
     }
 }
 
-/// The name of column `i` of a predicate, from 0.
+/// The name of column `i` of a predicate, from 0; empty where it has no such column.
 pub fn column(alloc: Global, t: &Table, p: &Pred, i: usize) -> Result<Vec<u8>, NoMemory>
     ensures { IfOk result (λ v. v.items ≡ slice_index_or (column_names t.now.sites t.now.params p.now.args) i []) }
 {
