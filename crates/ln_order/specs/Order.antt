@@ -1,5 +1,5 @@
 -- The order of sites by their indices.
-use Rattle.std.specs.Prelude.{◌≡◌, ◌≢◌, ℕ, suc, ◌+◌, ◌<◌, ◌<ℤ◌, Bool, ℤ, pos, List, [], ◌∷◌, ◌++◌, length, take, slice_index_or, All, AllPairs, Contains, Option, Some, None, if◌then◌else◌}
+use Rattle.std.specs.Prelude.{◌≡◌, ◌≢◌, ℕ, suc, ◌<◌, ◌<ℤ◌, ℤ, pos, List, [], ◌∷◌, ◌++◌, length, take, slice_index_or, All, AllPairs, Contains, Option, Some, None, if◌then◌else◌}
 use Rattle.std.specs.List.{list_any}
 use Rattle.std.specs.Ordering.{int_eq}
 
@@ -27,3 +27,8 @@ pub record IsOrder (indices : List ℤ) (places : List ℕ) : Type 0 where
   pub size : length places ≡ length indices
   pub each : All (λ k. k < length indices) places
   pub rising : AllPairs (λ j k. index_at indices j <ℤ index_at indices k) places
+
+-- these are places of as many sites, each once
+pub record ArePlaces (places : List ℕ) : Type 0 where
+  pub within : All (λ k. k < length places) places
+  pub differ : AllPairs (λ j k. j ≢ k) places

@@ -1,13 +1,12 @@
 -- The answer of `row` is that of the definition.
-use Rattle.std.proofs.Common.{◌≡◌, ◌≢◌, ℕ, ◌+◌, ◌-◌, ◌≤◌, true, List, length, get_or, take, ℤ, pos, Option, Some, None, Result, Ok, Err, refl, ap, sym, ◌∙◌, subst, arith, eq-eqb, ne_eqb, take-take}
+use Rattle.std.proofs.Common.{◌≡◌, ◌≢◌, ℕ, ◌-◌, true, List, length, take, Some, None, Ok, Err, refl, ◌∙◌, subst, arith, eq-eqb, ne_eqb}
 use Rattle.std.proofs.lemmas.List.{take_all, length-take}
 use Rattle.ln_tree.specs.declared.shape.VarInfo.{VarInfo}
 use Rattle.ln_tree.specs.Variables.{is_laid_out}
-use Rattle.ln_tree.specs.Row as tree
 use Rattle.ln_code.specs.declared.row.Row.{Row}
 use Rattle.ln_code.specs.RowOf.{row_of, IsZeroPast}
 use Rattle.ln_order.specs.Order.{first_equal}
-use Rattle.ln_rows.specs.Record.{columns, first_fault, indices, values, index_column, unless_fault, read_row, IsRead}
+use Rattle.ln_rows.specs.Record.{columns, first_fault, indices, index_column, unless_fault, read_row, IsRead}
 use Rattle.ln_rows.specs.declared.record.RowStop.{RowStop}
 use Rattle.ln_rows.specs.declared.record.RowStop.TheVariants.{Fields, Index}
 use Rattle.ln_rows.proofs.RangeLemmas.{shape_columns}

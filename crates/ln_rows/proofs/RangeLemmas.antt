@@ -1,5 +1,5 @@
 -- A row that is read is in range.
-use Rattle.std.proofs.Common.{◌≡◌, ◌≢◌, ℕ, zero, suc, ◌+◌, ◌-◌, ◌^◌, ◌<◌, ◌≤◌, Bool, true, false, ◌&&◌, cond, List, [], ◌∷◌, ◌++◌, length, get_or, take, drop, ℤ, pos, ◌≤ℤ◌, Option, Some, None, Result, Ok, Err, refl, ap, sym, ◌∙◌, subst, arith}
+use Rattle.std.proofs.Common.{◌≡◌, ◌≢◌, ℕ, suc, ◌+◌, ◌-◌, ◌^◌, ◌≤◌, Bool, true, false, ◌&&◌, cond, List, [], ◌∷◌, length, take, ℤ, pos, ◌≤ℤ◌, Option, Some, None, Result, Ok, Err, refl, ap, ◌∙◌, subst, arith}
 use Rattle.std.specs.Prelude.{unwrap_or, int_le, count_by, if◌then◌else◌, All, AllPairs, MatchOption, nat_le, ◌==◌}
 use Rattle.std.specs.List.{list_all}
 use Rattle.std.proofs.lemmas.Bool.{and_parts, eqb-true}
@@ -14,9 +14,8 @@ use Rattle.ln_tree.specs.Variables.{starts_site, no_var, in_order, has_range, is
 use Rattle.ln_tree.specs.Row.{Row, AreWithin, InRange}
 use Rattle.ln_order.specs.Order.{first_equal, IsFirstEqual}
 use Rattle.ln_order.proofs.OrderLemmas.{first_equal_is}
-use Rattle.ln_rows.specs.Number.{within, number_in}
+use Rattle.ln_rows.specs.Number.{within}
 use Rattle.ln_rows.specs.Record.{Column, SiteIndex, Variable, columns, number_of, in_column, fault_or, first_fault, said, indices, values, differing, unless_fault, read_row}
-use Rattle.ln_rows.specs.declared.numbers.NumberStop.{NumberStop}
 use Rattle.ln_rows.specs.declared.numbers.NumberStop.TheVariants as stop
 use Rattle.ln_rows.specs.declared.record.RowStop.{RowStop}
 use Rattle.ln_rows.specs.declared.record.RowStop.TheVariants.{Fields}

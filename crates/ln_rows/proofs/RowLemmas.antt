@@ -1,17 +1,14 @@
 -- Reading the columns from the left.
-use Rattle.std.proofs.Common.{◌≡◌, ◌≢◌, ℕ, zero, suc, ◌+◌, ◌-◌, ◌^◌, ◌<◌, ◌≤◌, Bool, true, false, ◌&&◌, cond, List, [], ◌∷◌, ◌++◌, length, get_or, take, drop, set, ℤ, pos, ◌≤ℤ◌, Option, Some, None, Result, Ok, Err, refl, ap, sym, ◌∙◌, subst, arith, add-one, drop-cons, append_assoc, get_or-set_other, replicate}
-use Rattle.std.specs.Prelude.{unwrap_or, int_le, count_by, if◌then◌else◌}
+use Rattle.std.proofs.Common.{◌≡◌, ◌≢◌, ℕ, zero, suc, ◌+◌, ◌-◌, ◌^◌, ◌<◌, ◌≤◌, Bool, true, false, ◌&&◌, List, [], ◌∷◌, ◌++◌, length, get_or, take, drop, set, ℤ, pos, Option, Some, None, Ok, Err, refl, ap, sym, ◌∙◌, arith, add-one, drop-cons, append_assoc, get_or-set_other, replicate}
+use Rattle.std.specs.Prelude.{unwrap_or, int_le, if◌then◌else◌}
 use Rattle.std.proofs.lemmas.List.{take_more_set, append-nil, length-set, length-drop, drop_all}
-use Rattle.std.proofs.lemmas.List.Recursion.{is_count_by}
 use Rattle.csv.specs.Records.{field_at}
 use Rattle.ln_base.specs.Decimal.{integer_value}
 use Rattle.ln_tree.specs.declared.shape.VarInfo.{VarInfo}
 use Rattle.ln_tree.specs.Variables.{starts_site, no_var}
 use Rattle.ln_code.specs.declared.row.Row.{Row}
-use Rattle.ln_code.specs.RowOf.{IsZeroPast}
 use Rattle.ln_rows.specs.Number.{within, number_in}
-use Rattle.ln_rows.specs.Record.{Column, SiteIndex, Variable, columns, number_of, in_column, fault_or, first_fault, said, indices, values, IsRead}
-use Rattle.ln_rows.specs.declared.numbers.NumberStop.{NumberStop}
+use Rattle.ln_rows.specs.Record.{Column, SiteIndex, Variable, columns, number_of, in_column, first_fault, said, indices, values, IsRead}
 use Rattle.ln_rows.specs.declared.numbers.NumberStop.TheVariants as stop
 use Rattle.ln_rows.specs.declared.record.RowStop.{RowStop}
 

@@ -185,7 +185,7 @@ fn arg_width(t: &Table, arg: &Arg) -> usize
     }
 }
 
-/// The name of column `i` of a predicate, from 0.
+/// The name of column `i` of a predicate, from 0; empty where it has no such column.
 pub fn column(alloc: Global, t: &Table, p: &Pred, i: usize) -> Result<Vec<u8>, NoMemory>
     ensures { IfOk result (λ v. v.items ≡ slice_index_or (column_names t.now.sites t.now.params p.now.args) i []) }
 {
@@ -198,4 +198,43 @@ pub fn column(alloc: Global, t: &Table, p: &Pred, i: usize) -> Result<Vec<u8>, N
         left -= width;
     }
     Ok(Vec::new(alloc))
+}
+
+#[cfg(test)]
+mod tests {
+    use super::*;
+    use ln_base::Seq;
+    use ln_tree::is_table;
+    use std::test::Fail;
+
+    #[test]
+    fn columns_of_a_site_have_its_name(rt: HostRuntime) -> Result<(), Fail> {
+        let alloc = rt.alloc();
+        let mut coords = Seq::new(alloc);
+        coords.push(Coord {
+            name: Name::of(b"x"),
+            lo: 0,
+            hi: 9,
+        })?;
+        let mut sites = Seq::new(alloc);
+        sites.push(Site {
+            name: Name::of(b"point"),
+            coords,
+        })?;
+        let params = Seq::new(alloc);
+        let preds = Seq::new(alloc);
+        assert!(rt; is_table(sites.as_slice(), params.as_slice(), preds.as_slice()));
+        let t = Table {
+            sites,
+            params,
+            preds,
+        };
+        let q = Arg::Site(Name::of(b"q"), 0);
+        assert_eq!(rt; arg_column(alloc, &t, &q, 1)?.as_slice(), b"q.x".as_slice());
+        let mut fields = ByteRecord::new(alloc);
+        fields.push_field(b"q")?;
+        fields.push_field(b"q.x")?;
+        assert_eq!(rt; past_arg(&fields, 0, &t, &q), Some(2));
+        Ok(())
+    }
 }

@@ -51,3 +51,25 @@ pub fn number(field: &[u8], lo: i64, hi: i64) -> Result<i64, NumberStop>
         }
     }
 }
+
+#[cfg(test)]
+mod tests {
+    use super::*;
+
+    #[test]
+    fn numbers_stand_within_their_ranges(rt: HostRuntime) {
+        for (field, lo, hi, want) in [
+            (b"-7".as_slice(), -9, 9, Ok(-7)),
+            (b"007", 7, 7, Ok(7)),
+            (b"10", -9, 9, Err(NumberStop::Range)),
+            (b"-10", -9, 9, Err(NumberStop::Range)),
+            (b"-9223372036854775808", i64::MIN, 0, Ok(i64::MIN)),
+            (b"-9223372036854775809", i64::MIN, 0, Err(NumberStop::Range)),
+            (b"1e3", -9, 9, Err(NumberStop::Number)),
+            (b"+5", -9, 9, Err(NumberStop::Number)),
+            (b"", -9, 9, Err(NumberStop::Number)),
+        ] {
+            assert_eq!(rt; number(field, lo, hi), want);
+        }
+    }
+}

@@ -157,3 +157,51 @@ pub fn row(p: &Pred, fields: &ByteRecord) -> Result<Row, RowStop>
 {
     row_over(p.shape.vars.as_slice(), p.shape.sites, fields)
 }
+
+#[cfg(test)]
+mod tests {
+    use super::*;
+    use crate::rows::Rows;
+    use ln_tree::is_shape;
+    use std::test::Fail;
+
+    fn coord(arg: u8, coord: u8) -> VarInfo {
+        VarInfo {
+            arg,
+            site: Some(arg),
+            coord,
+            lo: -1000,
+            hi: 1000,
+        }
+    }
+
+    #[test]
+    fn records_say_rows_or_their_first_fault(rt: HostRuntime) -> Result<(), Fail> {
+        let alloc = rt.alloc();
+        let vars = [
+            coord(0, 0),
+            coord(0, 1),
+            coord(1, 0),
+            coord(1, 1),
+            coord(2, 0),
+            coord(2, 1),
+        ];
+        assert!(rt; is_shape(3, &vars));
+        let text =
+            b"1,0,0,1,1,0,3,0,1\n1,1001,0,2,1,0,3,0,1\n1,1e3,0,2,1,0,3,0,1\n1,0,0,2,1,0,3,0\n\"1\",-0,007,2,1,0,3,0,1\n-1,0,0,2,1,0,3,0,x\n";
+        let mut rows = Rows::new(alloc, text);
+        let mut record = ByteRecord::new(alloc);
+        for want in [
+            Err(RowStop::Index(3)),
+            Err(RowStop::Range(1)),
+            Err(RowStop::Number(1)),
+            Err(RowStop::Fields),
+            Ok(7),
+            Err(RowStop::Range(0)),
+        ] {
+            assert!(rt; rows.next(&mut record)?);
+            assert_eq!(rt; row_over(&vars, 3, &record).map(|r| r.values[1]), want);
+        }
+        Ok(())
+    }
+}

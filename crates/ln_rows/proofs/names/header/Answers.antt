@@ -1,4 +1,3 @@
-use Rattle.std.proofs.Common.{◌≡◌, ◌<◌, length, get_or}
 use Rattle.std.proofs.lemmas.Bool.{false≢true}
 use Rattle.ln_rows.specs.Columns.{arg_columns}
 use Rattle.ln_rows.proofs.NameLemmas.{arg_stop}

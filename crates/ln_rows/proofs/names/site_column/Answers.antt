@@ -1,4 +1,4 @@
-use Rattle.std.proofs.Common.{◌≡◌, ◌∙◌, sym, refl}
+use Rattle.std.proofs.Common.{◌∙◌, sym}
 use Rattle.ln_tree.specs.Names.{name_bytes}
 use Rattle.ln_rows.specs.Columns.{coord_column}
 use Rattle.ln_rows.proofs.NameLemmas.{none_past}

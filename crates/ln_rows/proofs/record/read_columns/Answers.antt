@@ -1,9 +1,7 @@
-use Rattle.std.proofs.Common.{◌≡◌, ◌+◌, Ok, Err, List, ℤ, ℕ, arith, sym, refl, ◌∙◌, rules, to_z-of_z, w64, subst}
+use Rattle.std.proofs.Common.{sym, rules, to_z-of_z, w64}
 use mir.Val.{SFits}
 use Rattle.std.proofs.lemmas.Result.{err_from_is_err_and}
-use Rattle.csv.specs.Records.{fields_of}
-use Rattle.ln_rows.specs.Record.{in_column}
-use Rattle.ln_rows.proofs.RowLemmas.{Filled, filled_none, filled_site, filled_other, filled_all, value_fault, other_fault, site_fits}
+use Rattle.ln_rows.proofs.RowLemmas.{filled_none, filled_site, filled_other, value_fault, other_fault, site_fits}
 use Rattle.ln_rows.proofs.record.read_columns.Goals as goal
 use Rattle.ln_rows.proofs.record.read_columns.Goals.{then-starts_site+in_ok-row+in_ok-row-2, else-starts_site+in_ok-row-3}
 

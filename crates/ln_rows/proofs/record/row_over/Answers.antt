@@ -1,6 +1,5 @@
-use Rattle.std.proofs.Common.{◌≡◌, ◌≤◌, ◌+◌, ◌<◌, length, arith, sym, ◌∙◌}
+use Rattle.std.proofs.Common.{arith, sym, ◌∙◌}
 use Rattle.csv.specs.Records.{fields_of}
-use Rattle.ln_rows.specs.Record.{columns}
 use Rattle.ln_rows.proofs.RangeLemmas.{shape_columns, sizes, row_in_range}
 use Rattle.ln_rows.proofs.ExactLemmas.{is_said, has_equal, zero_past}
 use Rattle.ln_rows.proofs.record.row_over.Goals as goal

@@ -1,4 +1,4 @@
-use Rattle.std.proofs.Common.{◌≡◌, ◌⊎◌, inl, inr, true, false, Ok, refl, sym, ◌∙◌}
+use Rattle.std.proofs.Common.{inl, inr}
 use Rattle.ln_rows.proofs.NextLemmas.{ready_of, takes_read, takes_none, takes_named}
 use Rattle.ln_rows.proofs.rows.Rows.next.Goals as goal
 

@@ -1,6 +1,6 @@
-use Rattle.std.proofs.Common.{◌∙◌, sym, ◌≡◌, arith, pos, Some, None, Option, ℕ, ap, length, drop}
+use Rattle.std.proofs.Common.{◌∙◌, sym, arith, pos, Some, None}
 use Rattle.ln_order.proofs.OrderLemmas.{found_here, passed_by, none_behind, first_equal_says}
-use Rattle.ln_order.proofs.first_equal.Goals as goal
+use Rattle.ln_order.proofs.equal.first_equal.Goals as goal
 
 pub returns-then-is_among-clause-value : goal.returns-then-is_among-clause-value
 returns-then-is_among-clause-value c = sym (found_here c.args.indices.now c.places.k (pos 0) (omega arith) (sym c.if-is_among.ensures)) ∙ c.places.invariant

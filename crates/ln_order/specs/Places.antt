@@ -1,0 +1,7 @@
+-- Orders of the program.
+use Rattle.std.specs.Prelude.{ℕ, List, take}
+use Rattle.ln_order.specs.declared.order.Order.{Order}
+
+-- the places of the sites of an order, the largest infinitesimals first
+abbrev pub order_places : Order → List ℕ
+order_places o = take o.len o.places
