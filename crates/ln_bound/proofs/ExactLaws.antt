@@ -1,9 +1,9 @@
 -- Exact bounds are sound where they fit 128 bits, and are the weights with M in place of w.
-use Rattle.std.proofs.Common.{◌≡◌, ℕ, ℤ, ◌+◌, ◌*◌, ◌^◌, ◌≤◌, ◌<◌, Bool, true, false, List, [], ◌∷◌, ◌++◌, length, map, refl, zero, suc, ap, arith, unsigned_abs, ◌∙◌, sym, append_assoc, add-one}
-use Rattle.std.specs.Prelude.{Option, Some, None, slice_get, slice_index_or, nat_le, nat_lt, ◌&&◌}
+use Rattle.std.proofs.Common.{◌≡◌, ℕ, ◌^◌, ◌≤◌, Bool, true, List, [], ◌∷◌, ◌++◌, length, map, refl, zero, suc, ap, arith, unsigned_abs, ◌∙◌, sym, append_assoc, append-nil}
+use Rattle.std.specs.Prelude.{Option, Some, None, slice_get, slice_index_or, nat_le, ◌&&◌}
 use Rattle.std.proofs.lemmas.Bool.{and_parts}
 use Rattle.std.proofs.lemmas.List.{map-append}
-use Rattle.ln_algebra.specs.Tree.{Tree, Num, Input, Name, Neg, Add, Sub, Mul, Pow}
+use Rattle.ln_algebra.specs.Tree.{Tree, Pow}
 use Rattle.ln_tree.specs.declared.shape.VarInfo.{VarInfo}
 use Rattle.ln_tree.specs.Fits.{is_fit, lets_fit}
 use Rattle.ln_bound.specs.declared.fitted.Width.{Width}
@@ -13,10 +13,10 @@ use Rattle.ln_bound.specs.Value.{weight_over, sizes}
 use Rattle.ln_bound.specs.Light.{most}
 use Rattle.ln_bound.specs.Widths.{limit, least, wider, no_wider}
 use Rattle.ln_bound.specs.Typed.{Typed, TNum, TInput, TLet, TNeg, TTwo, TPow, bound, width, untyped, two_of, bound_of}
-use Rattle.ln_bound.specs.Sound.{covers, sound_nodes, is_sound, are_sound}
+use Rattle.ln_bound.specs.Sound.{covers, sound_nodes}
 use Rattle.ln_bound.specs.Exact.{IsOfLet, IsExact, AreExact}
 use Rattle.ln_bound.specs.Room.{HasRoom, HaveRoom, let_bounds}
-use Rattle.ln_bound.proofs.WidthLaws.{test_le, test_lt, le_test, lt_test, both_true, least_fits, wider_fits, left_no_wider, right_no_wider, first_no_wider, second_no_wider}
+use Rattle.ln_bound.proofs.WidthLaws.{test_le, both_true, least_fits, wider_fits, left_no_wider, first_no_wider, second_no_wider}
 
 -- the bound of a let in the list of bounds
 let_bound : (lets : List Typed) (j : ℕ) (u : Typed) → slice_get lets j ≡ Some u → slice_index_or (map bound lets) j 0 ≡ bound u
@@ -91,11 +91,7 @@ length_more (u ∷ us) t = ap suc (length_more us t)
 
 -- the bounds of exact lets
 pub exact_lets : (vars : List VarInfo) (done ts : List Typed) → AreExact vars done ts → map bound (done ++ ts) ≡ let_bounds (sizes vars) (map bound done) (map untyped ts)
-exact_lets vars done [] h = ap (λ (us : List Typed). map bound us) (append_nil done)
-  where
-    append_nil : (us : List Typed) → us ++ [] ≡ us
-    append_nil [] = refl
-    append_nil (u ∷ us) = ap (λ (vs : List Typed). u ∷ vs) (append_nil us)
+exact_lets vars done [] h = ap (λ (us : List Typed). map bound us) (append-nil done)
 exact_lets vars done (t ∷ ts) h =
     let ih = exact_lets vars (done ++ t ∷ []) ts h.1 in
     ap (λ (us : List Typed). map bound us) (sym (append_assoc done (t ∷ []) ts)) ∙ ih ∙ ap (λ (bs : List ℕ). let_bounds (sizes vars) bs (map untyped ts)) (bounds_more vars done t h.0)
@@ -122,12 +118,8 @@ lets_next vars whole rest e done t s q h = record {
 pub lets_end : (vars : List VarInfo) (whole : List Tree) (done : List Typed) → LetsSoFar vars whole [] done → (map untyped done ≡ whole) × AreExact vars [] done
 lets_end vars whole done s =
     let r = s.goes_on [] refl tt in
-    let e : done ++ [] ≡ done = append_nil done in
+    let e : done ++ [] ≡ done = append-nil done in
     rw e at r
-  where
-    append_nil : (us : List Typed) → us ++ [] ≡ us
-    append_nil [] = refl
-    append_nil (u ∷ us) = ap (λ (vs : List Typed). u ∷ vs) (append_nil us)
 
 -- the next let may stand there, and its bounds fit 128 bits
 pub next_fit : (vars : List VarInfo) (whole rest : List Tree) (e : Tree) (done : List Typed) → LetsSoFar vars whole (e ∷ rest) done → is_fit (length vars) (length done) e ≡ true

@@ -1,5 +1,5 @@
 -- What the exact trees of a predicate keep.
-use Rattle.std.proofs.Common.{◌≡◌, ℕ, ◌+◌, ◌*◌, ◌≤◌, ◌<◌, max, Bool, true, List, [], ◌∷◌, ◌++◌, length, map, refl, zero, suc, ap, arith, ◌∙◌, sym}
+use Rattle.std.proofs.Common.{◌≡◌, ℕ, ◌+◌, ◌*◌, ◌≤◌, true, List, [], ◌∷◌, ◌++◌, length, map, refl, suc, ap, arith, ◌∙◌, sym}
 use Rattle.std.specs.Prelude.{nat_le, ◌&&◌, ◌==◌}
 use Rattle.std.proofs.lemmas.Bool.{and_parts}
 use Rattle.ln_algebra.specs.Tree.{Tree, Num, Input, Name, Neg, Add, Sub, Mul, Pow}
@@ -16,7 +16,7 @@ use Rattle.ln_bound.specs.declared.fitted.Fitted.{Fitted}
 use Rattle.ln_bound.specs.View.{typed}
 use Rattle.ln_bound.specs.Light.{weighed_pred, node_weights, AreLight}
 use Rattle.ln_bound.specs.Typed.{Typed, TNum, TInput, TLet, TNeg, TTwo, TPow, bound, untyped, bounds, all_bounds, need, cost, costs}
-use Rattle.ln_bound.specs.Sound.{sound_nodes, is_sound, are_sound}
+use Rattle.ln_bound.specs.Sound.{is_sound, are_sound}
 use Rattle.ln_bound.specs.Exact.{IsExact, AreExact, AreAtMost}
 use Rattle.ln_bound.specs.Room.{HasRoom, HaveRoom, let_bounds}
 use Rattle.ln_bound.proofs.WidthLaws.{test_le, le_test, both_true}

@@ -1,12 +1,11 @@
 -- The lets of a predicate, fitted one after the other.
-use Rattle.std.proofs.Common.{◌≡◌, ℕ, ◌+◌, ◌≤◌, ◌<◌, true, List, [], ◌∷◌, ◌++◌, length, map, drop, get_or, refl, ap, ◌∙◌, sym}
+use Rattle.std.proofs.Common.{◌≡◌, ℕ, ◌+◌, ◌≤◌, ◌<◌, List, [], ◌∷◌, ◌++◌, length, map, drop, get_or, ap, ◌∙◌, sym}
 use Rattle.std.proofs.lemmas.List.{map-append, drop_more, drop_all}
-use Rattle.ln_algebra.specs.Tree.{Tree}
 use Rattle.ln_tree.specs.declared.expr.Expr.{Expr}
 use Rattle.ln_tree.specs.declared.shape.VarInfo.{VarInfo}
 use Rattle.ln_tree.specs.Formula.{tree_of}
 use Rattle.ln_bound.specs.declared.fitted.Fitted.{Fitted}
-use Rattle.ln_bound.specs.Typed.{Typed, untyped}
+use Rattle.ln_bound.specs.Typed.{untyped}
 use Rattle.ln_bound.specs.View.{typed}
 use Rattle.ln_bound.specs.Exact.{IsExact, AreExact}
 use Rattle.ln_bound.proofs.ExactLaws.{LetsSoFar, lets_next, lets_end}

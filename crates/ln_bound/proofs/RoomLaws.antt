@@ -1,16 +1,15 @@
 -- Bounds are at most weights, node by node.
-use Rattle.std.proofs.Common.{◌≡◌, ℕ, ℤ, ◌+◌, ◌*◌, ◌^◌, ◌≤◌, ◌<◌, List, [], ◌∷◌, ◌++◌, length, map, refl, zero, suc, ap, arith, unsigned_abs, ◌∙◌, sym, append_assoc}
+use Rattle.std.proofs.Common.{◌≡◌, ℕ, ◌*◌, ◌^◌, ◌≤◌, List, [], ◌∷◌, ◌++◌, length, map, refl, zero, suc, ap, arith, sym, append_assoc, append-nil}
 use Rattle.std.specs.Prelude.{Option, Some, None, slice_get, slice_index_or}
 use Rattle.std.proofs.lemmas.Nat.{mul-le}
 use Rattle.std.proofs.Math.Nat.{pow-suc, pow-zero}
 use Rattle.std.proofs.lemmas.List.{map-append}
-use Rattle.ln_base.specs.declared.span.Span.{Span}
 use Rattle.ln_algebra.specs.Tree.{Tree, Num, Input, Name, Neg, Add, Sub, Mul, Pow}
 use Rattle.ln_tree.specs.declared.shape.VarInfo.{VarInfo}
 use Rattle.ln_tree.specs.Formula.{Formula, FNum, FInput, FName, FNeg, FAdd, FSub, FMul, FPow, tree}
 use Rattle.ln_bound.specs.declared.fitted.Two.TheVariants.{Plus, Minus, Times}
-use Rattle.ln_bound.specs.Value.{weight_over, sizes, weights, size_or, weight_or, size_of}
-use Rattle.ln_bound.specs.Light.{most, weight_of, weighed, weighed_lets, weighed_pred, let_weights, AreLight, node_weights}
+use Rattle.ln_bound.specs.Value.{weight_over, sizes, weights, size_or, weight_or}
+use Rattle.ln_bound.specs.Light.{weight_of, weighed, weighed_lets, weighed_pred, let_weights, AreLight, node_weights}
 use Rattle.ln_bound.specs.Typed.{Typed, TNum, TInput, TLet, TNeg, TTwo, TPow, bound, untyped, bounds, all_bounds}
 use Rattle.ln_bound.specs.Exact.{IsExact, AreExact, AreAtMost}
 use Rattle.ln_bound.specs.Room.{HasRoom, HaveRoom, let_bounds}
@@ -168,11 +167,7 @@ pub record LetsAtMost (vars : List VarInfo) (done ts : List Typed) (ws : List �
   pub below : (j : ℕ) → slice_index_or (map bound (done ++ ts)) j 0 ≤ slice_index_or (let_weights vars ws fs) j 0
 
 lets_at_most : (vars : List VarInfo) (done ts : List Typed) (ws : List ℕ) (fs : List Formula) → length (map bound done) ≡ length ws → ((j : ℕ) → slice_index_or (map bound done) j 0 ≤ slice_index_or ws j 0) → map untyped ts ≡ map (tree vars) fs → AreExact vars done ts → LetsAtMost vars done ts ws fs
-lets_at_most vars done [] ws [] n l e h = record { nodes = tt; below = let a : done ++ [] ≡ done = append_nil done in rw a l }
-  where
-    append_nil : (us : List Typed) → us ++ [] ≡ us
-    append_nil [] = refl
-    append_nil (u ∷ us) = ap (λ (vs : List Typed). u ∷ vs) (append_nil us)
+lets_at_most vars done [] ws [] n l e h = record { nodes = tt; below = let a : done ++ [] ≡ done = append-nil done in rw a l }
 lets_at_most vars done [] ws (f ∷ fs) n l e h = cc
 lets_at_most vars done (t ∷ ts) ws [] n l e h = cc
 lets_at_most vars done (t ∷ ts) ws (f ∷ fs) n l e h =

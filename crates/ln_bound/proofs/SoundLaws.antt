@@ -1,5 +1,5 @@
 -- A sound tree bounds its values.
-use Rattle.std.proofs.Common.{◌≡◌, ℕ, ℤ, ◌+◌, ◌*◌, ◌^◌, ◌≤◌, ◌<◌, Bool, true, false, List, [], ◌∷◌, ◌++◌, length, map, refl, zero, suc, ap, arith, pos, ◌+ℤ◌, ◌-ℤ◌, ◌*ℤ◌, neg_ℤ, unsigned_abs, ◌∙◌, sym, append_assoc}
+use Rattle.std.proofs.Common.{◌≡◌, ℕ, ℤ, ◌^◌, ◌≤◌, Bool, true, List, [], ◌∷◌, ◌++◌, length, map, refl, zero, suc, ap, arith, pos, neg_ℤ, unsigned_abs, sym, append_assoc, append-nil}
 use Rattle.std.specs.Prelude.{Option, Some, None, slice_get, slice_index_or, nat_le, nat_lt, ◌&&◌, ◌≤ℤ◌}
 use Rattle.std.proofs.lemmas.Bool.{and_parts}
 use Rattle.std.proofs.lemmas.Int.{ints, unsigned_abs-mul}
@@ -14,7 +14,7 @@ use Rattle.ln_bound.specs.declared.fitted.Two.TheVariants.{Plus, Minus, Times}
 use Rattle.ln_bound.specs.Value.{power, value, values, sizes, size_of}
 use Rattle.ln_bound.specs.Light.{let_values}
 use Rattle.ln_bound.specs.Widths.{limit, no_wider}
-use Rattle.ln_bound.specs.Typed.{Typed, TNum, TInput, TLet, TNeg, TTwo, TPow, bound, width, untyped, two_of, bound_of, need}
+use Rattle.ln_bound.specs.Typed.{Typed, TNum, TInput, TLet, TNeg, TTwo, TPow, bound, width, untyped, two_of, bound_of}
 use Rattle.ln_bound.specs.Sound.{Covers, SoundNodes, Sound, AreSound, covers, sound_nodes, is_sound, are_sound, Fits, IsBounded, AreBounded}
 use Rattle.ln_bound.proofs.Values.{power_bound}
 use Rattle.ln_bound.proofs.Fitting.{more, longer}
@@ -131,11 +131,7 @@ bound_more : (done : List Typed) (t : Typed) → map bound (done ++ t ∷ []) �
 bound_more done t = map-append bound done (t ∷ [])
 
 pub lets_bounded : (vars : List VarInfo) (x : ℕ → ℤ) (zs : List ℤ) (done ts : List Typed) → ((v : ℕ) → unsigned_abs (x v) ≤ sizes vars v) → length zs ≡ length (map bound done) → ((j : ℕ) → unsigned_abs (slice_index_or zs j (pos 0)) ≤ slice_index_or (map bound done) j 0) → AreSound vars done ts → LetsWithin x zs done ts
-lets_bounded vars x zs done [] h n l s = record { bounded = tt; within = let a : done ++ [] ≡ done = append_nil done in rw a l }
-  where
-    append_nil : (us : List Typed) → us ++ [] ≡ us
-    append_nil [] = refl
-    append_nil (u ∷ us) = ap (λ (vs : List Typed). u ∷ vs) (append_nil us)
+lets_bounded vars x zs done [] h n l s = record { bounded = tt; within = let a : done ++ [] ≡ done = append-nil done in rw a l }
 lets_bounded vars x zs done (t ∷ ts) h n l s =
     let b = nodes_bounded vars done x zs h l t s.0.nodes in
     let z = value x zs (untyped t) in

@@ -1,5 +1,5 @@
 -- Expressions whose bounds fit 128 bits.
-use Rattle.std.specs.Prelude.{ℕ, ◌≤◌, ◌^◌, unsigned_abs, List, [], ◌∷◌, ◌++◌}
+use Rattle.std.specs.Prelude.{ℕ, ◌≤◌, List, [], ◌∷◌, ◌++◌}
 use Rattle.ln_algebra.specs.Tree.{Tree, Num, Input, Name, Neg, Add, Sub, Mul, Pow}
 use Rattle.ln_bound.specs.Value.{weight_over}
 use Rattle.ln_bound.specs.Light.{most}

@@ -1,5 +1,5 @@
 -- Trees whose nodes carry bounds and widths, without where they lie in memory.
-use Rattle.std.specs.Prelude.{ℕ, ◌+◌, ◌*◌, ◌^◌, max, ℤ, List, [], ◌∷◌, ◌++◌, map}
+use Rattle.std.specs.Prelude.{ℕ, ◌+◌, ◌*◌, max, ℤ, List, [], ◌∷◌, ◌++◌, map}
 use Rattle.ln_algebra.specs.Tree.{Tree, Num, Input, Name, Neg, Add, Sub, Mul, Pow, inlined, inlined_after}
 use Rattle.ln_algebra.specs.Coefficient.{Series, normal_coefficient}
 use Rattle.ln_bound.specs.declared.fitted.Width.{Width}

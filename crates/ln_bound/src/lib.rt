@@ -1,8 +1,8 @@
 // Bounds on the values of predicates, known before any row is seen.
 //
-// `weigh` answers the weights of a predicate's nodes, or the first node that is too heavy; `fit_pred` answers the predicate's
-// trees with a bound and a width at each node. On every row in range each node's value is within its bound and fits its
-// width: that is the law `sound_trees_bound_their_values`.
+// `weigh` answers the weights of a predicate's nodes, or the first node that is too heavy; `size` answers the predicate's
+// trees with a bound and a width at each node, exactly. On every row in range each node's value is within its bound and
+// fits its width: that is the law `sound_trees_bound_their_values`.
 #![tactic(auto)]
 
 pub mod fitted;

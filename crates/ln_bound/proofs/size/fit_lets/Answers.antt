@@ -1,4 +1,4 @@
-use Rattle.std.proofs.Common.{arith, length, ◌≤◌}
+use Rattle.std.proofs.Common.{arith}
 use Rattle.ln_bound.proofs.LetSteps.{lets_step, lets_finish}
 use Rattle.ln_bound.proofs.size.fit_lets.Goals as goal
 
