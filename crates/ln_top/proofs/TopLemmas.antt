@@ -38,7 +38,7 @@ unsettled stop result was now before after (inr (inr none)) n s = absurd (subst 
 -- the words are no command
 pub usage_owed : (told : Option Shelf) (words : Words) (result : Status) (was now : Option Shown) (before after : ℕ) → command_of words ≡ None → SaysStop Usage result was now before after → IsSettled result → IfSome told (λ shelf. Owed words shelf result was now)
 usage_owed None words result was now before after e says s = tt
-usage_owed (Some shelf) words result was now before after e says s = record { said = error_line status.Usage _; owed = usage e; as_said = stop_as_said Usage result was now before after says s }
+usage_owed (Some shelf) words result was now before after e says s = record { said = error_line status.Usage (stop_text Usage); owed = usage e; as_said = stop_as_said Usage result was now before after says s }
 
 source_stop : (shelf : Shelf) (words : Words) (c : Command) (o : Option (List ℕ)) (stop : Stop) (result : Status) (was now : Option Shown) (before after : ℕ) → command_of words ≡ Some c → bytes_of c.file shelf ≡ o → SourceStops o stop
     → SaysStop stop result was now before after → IsSettled result → Owed words shelf result was now
@@ -48,8 +48,8 @@ source_stop shelf words c None Usage result was now before after f e h says s = 
 source_stop shelf words c None TooLong result was now before after f e h says s = absurd h
 source_stop shelf words c None (Refused r) result was now before after f e h says s = absurd h
 source_stop shelf words c None NoPredicate result was now before after f e h says s = absurd h
-source_stop shelf words c (Some b) (Refused r) result was now before after f e h says s = record { said = error_line status.Refused _; owed = refused c b r (record { form = f; told = e }) h.0 h.1; as_said = stop_as_said (Refused r) result was now before after says s }
-source_stop shelf words c (Some b) TooLong result was now before after f e h says s = record { said = error_line status.TooLong _; owed = long_source c b (record { form = f; told = e }) h; as_said = stop_as_said TooLong result was now before after says s }
+source_stop shelf words c (Some b) (Refused r) result was now before after f e h says s = record { said = error_line status.Refused (stop_text (Refused r)); owed = refused c b r (record { form = f; told = e }) h.0 h.1; as_said = stop_as_said (Refused r) result was now before after says s }
+source_stop shelf words c (Some b) TooLong result was now before after f e h says s = record { said = error_line status.TooLong (stop_text TooLong); owed = long_source c b (record { form = f; told = e }) h; as_said = stop_as_said TooLong result was now before after says s }
 source_stop shelf words c (Some b) Read result was now before after f e h says s = unsettled Read result was now before after says (λ n. n) s
 source_stop shelf words c (Some b) Memory result was now before after f e h says s = unsettled Memory result was now before after says (λ n. n) s
 source_stop shelf words c (Some b) Usage result was now before after f e h says s = absurd h
@@ -64,7 +64,7 @@ source_owed (Some shelf) words c stop result was now before after f h says s = s
 no_pred : (shelf : Shelf) (words : Words) (c : Command) (t : Table) (o : Option (List ℕ)) (result : Status) (was now : Option Shown) (before after : ℕ) → command_of words ≡ Some c → bytes_of c.file shelf ≡ o → IsSourceOf o t → named c.name t.preds ≡ None
     → SaysStop NoPredicate result was now before after → IsSettled result → Owed words shelf result was now
 no_pred shelf words c t None result was now before after f e h n says s = absurd h
-no_pred shelf words c t (Some b) result was now before after f e h n says s = record { said = error_line status.NoPredicate _; owed = no_predicate c b t (record { form = f; told = e }) h.0 h.1 n; as_said = stop_as_said NoPredicate result was now before after says s }
+no_pred shelf words c t (Some b) result was now before after f e h n says s = record { said = error_line status.NoPredicate (stop_text NoPredicate); owed = no_predicate c b t (record { form = f; told = e }) h.0 h.1 n; as_said = stop_as_said NoPredicate result was now before after says s }
 
 -- the source has no predicate of the name
 pub no_predicate_owed : (told : Option Shelf) (words : Words) (c : Command) (t : Table) (result : Status) (was now : Option Shown) (before after : ℕ) → command_of words ≡ Some c → IfSome told (λ shelf. IsSourceOf (bytes_of c.file shelf) t) → named c.name t.preds ≡ None
@@ -80,7 +80,7 @@ has_predicate shelf words c t p (Some b) f e h n = record { bytes = b; source = 
 rows_stop : (shelf : Shelf) (words : Words) (c : Command) (t : Table) (p : Pred) (o : Option (List ℕ)) (stop : Stop) (result : Status) (was now : Option Shown) (before after : ℕ) → HasPredicate words shelf c t p → bytes_of c.rows shelf ≡ o → FileStop most_rows o stop
     → SaysStop stop result was now before after → IsSettled result → Owed words shelf result was now
 rows_stop shelf words c t p None TooLong result was now before after f e h says s = absurd h
-rows_stop shelf words c t p (Some b) TooLong result was now before after f e h says s = record { said = error_line status.TooLong _; owed = long_rows c t p b f e h; as_said = stop_as_said TooLong result was now before after says s }
+rows_stop shelf words c t p (Some b) TooLong result was now before after f e h says s = record { said = error_line status.TooLong (stop_text TooLong); owed = long_rows c t p b f e h; as_said = stop_as_said TooLong result was now before after says s }
 rows_stop shelf words c t p o Read result was now before after f e h says s = unsettled Read result was now before after says (λ n. n) s
 rows_stop shelf words c t p o Memory result was now before after f e h says s = unsettled Memory result was now before after says (λ n. n) s
 rows_stop shelf words c t p o Usage result was now before after f e h says s = absurd h

@@ -7,6 +7,6 @@ mod source;
 pub mod status;
 pub mod stop;
 pub mod top;
+mod value;
 pub mod words;
 mod work;
-mod value;

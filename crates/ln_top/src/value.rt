@@ -59,18 +59,9 @@ pub fn value_of(e: &Expr, vars: &[VarInfo], row: &[i64], lets: &[i128]) -> i128
         Node::Input(v) => i128::from(row[number_in(vars, *v)]),
         Node::Name(j) => lets[usize::from(*j)],
         Node::Neg(x) => negated(value_of(x, vars, row, lets)),
-        Node::Add(x, y) => sum(
-            value_of(x, vars, row, lets),
-            value_of(y, vars, row, lets),
-        ),
-        Node::Sub(x, y) => difference(
-            value_of(x, vars, row, lets),
-            value_of(y, vars, row, lets),
-        ),
-        Node::Mul(x, y) => product(
-            value_of(x, vars, row, lets),
-            value_of(y, vars, row, lets),
-        ),
+        Node::Add(x, y) => sum(value_of(x, vars, row, lets), value_of(y, vars, row, lets)),
+        Node::Sub(x, y) => difference(value_of(x, vars, row, lets), value_of(y, vars, row, lets)),
+        Node::Mul(x, y) => product(value_of(x, vars, row, lets), value_of(y, vars, row, lets)),
         Node::Pow(x, n) => powered(value_of(x, vars, row, lets), *n),
     }
 }
