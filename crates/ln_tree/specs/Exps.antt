@@ -1,9 +1,13 @@
 -- Exponents of a monomial, as pairs of a variable's number and its exponent.
-use Rattle.std.specs.Prelude.{◌≡◌, ℕ, zero, suc, ◌+◌, ◌<◌, ◌==◌, eqb, Bool, true, refl, List, [], ◌∷◌, if◌then◌else◌}
+use Rattle.std.specs.Prelude.{◌≡◌, ℕ, zero, suc, ◌+◌, ◌<◌, ◌==◌, ◌&&◌, eqb, Bool, true, refl, List, [], ◌∷◌, if◌then◌else◌}
 use Rattle.std.proofs.lemmas.Bool.{and_parts, eqb-true}
 use Rattle.std.specs.Cmp.Lexicographic.{slice_cmp}
+use Rattle.std.proofs.Common.{arith}
+use Rattle.std.proofs.lemmas.Bool.Decides.{nat_tests}
+use Rattle.std.proofs.lemmas.Cmp.{by_ranked, ranked}
 use Rattle.std.specs.declared.cmp.Ordering.{Ordering}
-use Rattle.std.specs.Ordering.{eq_of_both, nat_cmp, on, ordering_then}
+use Rattle.std.specs.declared.cmp.Ordering.TheVariants.{Less, Equal, Greater}
+use Rattle.std.specs.Ordering.{eq_of_both, is_eq, nat_cmp, on, ordering_then, then_cmp}
 use lib.Pointwise.{pointwise}
 
 -- the pairs of a monomial
@@ -45,7 +49,23 @@ same_pairs-is (x ∷ xs) (y ∷ ys) h =
 
 -- the order of lists of pairs, by the first pair that differs: by its variable, then by its exponent
 abbrev pub pairs_cmp : Pairs → Pairs → Ordering
-pairs_cmp = slice_cmp (λ p q. ordering_then (nat_cmp p.0 q.0) (nat_cmp p.1 q.1))
+pairs_cmp = slice_cmp (then_cmp (on (λ p. p.0) nat_cmp) (on (λ p. p.1) nat_cmp))
+
+-- the order of a pair of numbers finds the same pair alone
+is_eq-then : (a b : Ordering) → is_eq (ordering_then a b) ≡ (is_eq a && is_eq b)
+is_eq-then Less b = refl
+is_eq-then Equal b = refl
+is_eq-then Greater b = refl
+
+eqb-cmp : (x y : ℕ) → (x == y) ≡ is_eq (nat_cmp x y)
+eqb-cmp x y = by_ranked (x < y) (x ≡ y) (y < x) (nat_cmp x y) (ranked x y (nat_cmp x y) refl) (λ e h. rw e (grind (arith, nat_tests))) (λ e h. rw e (grind (arith, nat_tests))) (λ e h. rw e (grind (arith, nat_tests)))
+
+-- the order has no other ties than equal lists
+pub same_pairs-ties : (xs ys : Pairs) → same_pairs xs ys ≡ is_eq (pairs_cmp xs ys)
+same_pairs-ties [] [] = refl
+same_pairs-ties [] (y ∷ ys) = refl
+same_pairs-ties (x ∷ xs) [] = refl
+same_pairs-ties (x ∷ xs) (y ∷ ys) = rw (is_eq-then (ordering_then (nat_cmp x.0 y.0) (nat_cmp x.1 y.1)) (pairs_cmp xs ys), is_eq-then (nat_cmp x.0 y.0) (nat_cmp x.1 y.1), ← eqb-cmp x.0 y.0, ← eqb-cmp x.1 y.1, ← same_pairs-ties xs ys) refl
 
 -- the exponent of variable v; as variables rise, at most one pair adds to it
 abbrev pub exponent : ℕ → Pairs → ℕ

@@ -92,7 +92,7 @@ impl Eq for Exps {
 impl Ord for Exps {
     ghost use Rattle.std.proofs.Common.{rules};
     ghost use Rattle.std.specs.Cmp.Rules.{comparing};
-    ghost use Rattle.ln_tree.specs.Exps.{pairs_cmp};
+    ghost use Rattle.ln_tree.specs.Exps.{pairs_cmp, same_pairs-ties};
 
     ghost cmp = { pairs_cmp };
 
@@ -100,7 +100,7 @@ impl Ord for Exps {
 
     ghost matches_partial_cmp = { Prim.search (comparing, rules) };
 
-    ghost matches_eq = { Prim.search (comparing, rules) };
+    ghost matches_eq = { same_pairs-ties };
 
     fn cmp(&self, other: &Exps) -> Ordering {
         self.pairs.as_slice().cmp(other.pairs.as_slice())
@@ -112,12 +112,12 @@ impl PartialOrd for Exps {
     ghost use Rattle.std.specs.Cmp.{partial_order_from_own_ties};
     ghost use Rattle.std.specs.Cmp.Rules.{comparing};
     ghost use Rattle.std.specs.Ordering.{as_partial_cmp};
-    ghost use Rattle.ln_tree.specs.Exps.{pairs_cmp};
+    ghost use Rattle.ln_tree.specs.Exps.{pairs_cmp, same_pairs-ties};
 
     ghost partial_cmp = { as_partial_cmp pairs_cmp };
 
     ghost laws = { partial_order_from_own_ties (Prim.search (comparing, rules))
-        (Prim.search (comparing, rules)) };
+        same_pairs-ties };
 
     fn partial_cmp(&self, other: &Exps) -> Option<Ordering> {
         Some(self.cmp(other))
