@@ -1,0 +1,5 @@
+pub mod Coefficients
+pub mod Gathering
+pub mod Equality
+pub mod Merging
+pub mod Products

@@ -1,0 +1,4 @@
+pub mod Sparse
+pub mod Gather
+pub mod Times
+pub mod Rows

@@ -1,0 +1,13 @@
+//! Polynomials with whole coefficients: terms sorted, distinct and without zeros.
+//!
+//! What the crates above use: `add` and `mul` have the coefficients of the sum and of the product, `derive` those of the
+//! scaled derivative, `weight` is the weighted sum of a polynomial.
+#![tactic(auto)]
+
+pub mod arithmetic;
+pub mod gather;
+pub mod poly;
+pub mod times;
+
+pub use arithmetic::{add, mul};
+pub use poly::Poly;
