@@ -2,3 +2,4 @@ pub mod Sparse
 pub mod Gather
 pub mod Times
 pub mod Rows
+pub mod Weight

@@ -8,6 +8,8 @@ pub mod arithmetic;
 pub mod gather;
 pub mod poly;
 pub mod times;
+pub mod weights;
 
 pub use arithmetic::{add, mul};
 pub use poly::Poly;
+pub use weights::weight;

@@ -1,5 +1,5 @@
 // Polynomials.
-ghost use Rattle.std.specs.Prelude.{◌≡◌, ◌↔◌, [], IsTrue};
+ghost use Rattle.std.specs.Prelude.{◌≡◌, ◌↔◌, All, [], IsTrue};
 ghost use Rattle.ln_poly.specs.Sparse.{IsPoly};
 
 use ln_base::Seq;
@@ -53,5 +53,18 @@ impl Poly {
         ensures { IsTrue result ↔ (self.now ≡ []) }
     {
         self.terms.is_empty()
+    }
+
+    /// Is it a number, with no term but that of no variable?
+    pub fn is_constant(&self) -> bool
+        ensures { IsTrue result ↔ All (λ t. t.0 ≡ []) self.now }
+    {
+        let f = self.terms();
+        'terms: for t in f {
+            if !t.0.pairs().is_empty() {
+                return false;
+            }
+        }
+        true
     }
 }
