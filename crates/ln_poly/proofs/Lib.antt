@@ -4,3 +4,5 @@ pub mod Equality
 pub mod Merging
 pub mod Products
 pub mod Weighing
+pub mod Lowering
+pub mod Deriving

@@ -116,7 +116,7 @@ low-push : (out la la' : Pairs) (v e : ℕ) → ((w : ℕ) → AllAbove w la →
 low-push [] la la' v e k a h = (h, tt)
 low-push (q ∷ out) la la' v e k a h = (k q.0 a.0, low-push out la la' v e k a.1 h)
 
-exponent-push : (w : ℕ) (xs : Pairs) (p : ℕ × ℕ) → exponent w (xs ++ (p ∷ [])) ≡ exponent w xs + power_at w p
+pub exponent-push : (w : ℕ) (xs : Pairs) (p : ℕ × ℕ) → exponent w (xs ++ (p ∷ [])) ≡ exponent w xs + power_at w p
 exponent-push w [] p = omega arith
 exponent-push w (x ∷ xs) p = omega (arith, exponent-push w xs p)
 

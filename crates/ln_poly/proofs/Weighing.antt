@@ -89,7 +89,7 @@ pub total-heavy : (w : ℕ → ℕ) (f : Sparse) (i : ℕ) (t : Pairs × ℤ) (s
 total-heavy w f i t s h e p q = omega (arith, total-more w f i t h e, total-take w f (i + 1))
 
 -- ---- powers
-pow-some : (m k : ℕ) → 0 < m → 0 < m ^ k
+pub pow-some : (m k : ℕ) → 0 < m → 0 < m ^ k
 pow-some m zero h = rw pow-zero (omega arith)
 pow-some m (suc k) h = rw pow-suc (product-some (m ^ k) m (pow-some m k h) h) where
   product-some : (a b : ℕ) → 0 < a → 0 < b → 0 < a * b
@@ -101,7 +101,7 @@ times-le : (a b : ℕ) → 0 < b → a ≤ a * b
 times-le a zero h = absurd (omega arith)
 times-le a (suc b) h = omega arith
 
-pow-le : (m a d : ℕ) → 0 < m → m ^ a ≤ m ^ (a + d)
+pub pow-le : (m a d : ℕ) → 0 < m → m ^ a ≤ m ^ (a + d)
 pow-le m a d h = rw pow-add (times-le (m ^ a) (m ^ d) (pow-some m d h))
 
 -- a lower power that is too heavy
@@ -118,7 +118,7 @@ scaled-heavy w m k e p h l q r =
       times-assoc a b c = omega arith
 
 -- ---- pairs
-size-some : (vars : List VarInfo) (v : ℕ) → v < length vars → 0 < sizes vars v
+pub size-some : (vars : List VarInfo) (v : ℕ) → v < length vars → 0 < sizes vars v
 size-some [] v h = absurd (omega arith)
 size-some (i ∷ vars) zero h = omega arith
 size-some (i ∷ vars) (suc v) h = size-some vars v (omega arith)
@@ -128,7 +128,7 @@ size-at vars [] i h a = absurd (omega arith)
 size-at vars (p ∷ ps) zero h a = size-some vars p.0 a.0
 size-at vars (p ∷ ps) (suc i) h a = size-at vars ps i (omega arith) a.1
 
-weight-some : (vars : List VarInfo) (ps : Pairs) → IsAbove ps (length vars) → 0 < pairs_weight (sizes vars) ps
+pub weight-some : (vars : List VarInfo) (ps : Pairs) → IsAbove ps (length vars) → 0 < pairs_weight (sizes vars) ps
 weight-some vars [] a = omega arith
 weight-some vars (p ∷ ps) a = product-some (sizes vars p.0 ^ p.1) (pairs_weight (sizes vars) ps) (pow-some (sizes vars p.0) p.1 (size-some vars p.0 a.0)) (weight-some vars ps a.1) where
   product-some : (a b : ℕ) → 0 < a → 0 < b → 0 < a * b

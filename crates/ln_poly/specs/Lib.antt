@@ -3,3 +3,4 @@ pub mod Gather
 pub mod Times
 pub mod Rows
 pub mod Weight
+pub mod Derivative

@@ -5,11 +5,13 @@
 #![tactic(auto)]
 
 pub mod arithmetic;
+pub mod derivatives;
 pub mod gather;
 pub mod poly;
 pub mod times;
 pub mod weights;
 
 pub use arithmetic::{add, mul};
+pub use derivatives::derive;
 pub use poly::Poly;
 pub use weights::weight;
