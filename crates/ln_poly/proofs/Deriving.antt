@@ -1,23 +1,22 @@
 -- The terms of a scaled derivative.
-use Rattle.std.proofs.Common.{◌≡◌, ℕ, ◌+◌, ◌-◌, ◌*◌, ◌<◌, ◌≤◌, ◌^◌, zero, suc, refl, sym, ◌∙◌, ap, subst, arith, List, [], ◌∷◌, ◌++◌, length, map, take, get_or, Bool, true, false, if◌then◌else◌, eqb, eq-eqb, leb, unsigned_abs, add-one, ◌&&◌}
-use Rattle.std.proofs.lemmas.Bool.{cases_eq, cases_lt}
+use Rattle.std.proofs.Common.{◌≡◌, ℕ, ◌+◌, ◌-◌, ◌*◌, ◌<◌, ◌≤◌, ◌^◌, zero, suc, refl, sym, ◌∙◌, ap, subst, arith, List, [], ◌∷◌, length, take, get_or, Bool, true, false, leb, unsigned_abs, ◌&&◌}
+use Rattle.std.proofs.lemmas.Bool.{cases_lt}
 use Rattle.std.proofs.lemmas.Bool.Decides.{nat_tests}
 use Rattle.std.proofs.lemmas.Int.{ints}
 use Rattle.std.proofs.lemmas.List.Elements.{All-nil, All-push}
-use Rattle.std.proofs.lemmas.List.Sums.{get_or-le-sum_by, sum_by-cons, sum_by_more, sum_by-take-le}
-use Rattle.std.specs.List.{All, sum_by}
+use Rattle.std.proofs.lemmas.List.Sums.{get_or-le-sum_by, sum_by-cons, sum_by_more}
+use Rattle.std.specs.List.{sum_by}
 use mathlib.Core.Logic.{◌⊎◌, inl, inr}
 use Rattle.std.proofs.Math.IntN.{ℤ, pos, ◌+ℤ◌, ◌*ℤ◌}
-use Rattle.std.proofs.Math.Nat.{mul-le-mul_left}
-use Rattle.ln_algebra.specs.Vector.{same_vector, sum_over}
-use Rattle.ln_algebra.specs.Terms.{binomial, binomials, covers, derived, factor_at, minus}
+use Rattle.ln_algebra.specs.Vector.{sum_over}
+use Rattle.ln_algebra.specs.Terms.{binomial, binomials, covers, factor_at, minus}
 use Rattle.ln_algebra.specs.Weights.{monomial_weight, weighted_sum}
 use Rattle.ln_bound.specs.Light.{most}
 use Rattle.ln_bound.specs.Value.{sizes}
 use Rattle.ln_tree.specs.declared.shape.VarInfo.{VarInfo}
 use Rattle.ln_tree.specs.Exps.{IsAbove, IsRising, Pairs, exponent, exponents_from, vector}
 use Rattle.ln_poly.specs.Times.{power_at}
-use Rattle.ln_poly.specs.Sparse.{AreBelow, AreRising, Sparse, coefficient_at, part_at, size_of, term_of, terms_of}
+use Rattle.ln_poly.specs.Sparse.{AreBelow, AreRising, Sparse, coefficient_at, part_at, size_of}
 use Rattle.ln_poly.specs.Derivative.{IsDerivedPut, IsDeriving, IsLowered, derivative}
 use Rattle.ln_poly.proofs.Coefficients.{coefficient_at-nil, coefficient_at-push, size-nil, size-push}
 use Rattle.ln_poly.proofs.Lowering.{power-apart, power-here}

@@ -6,3 +6,4 @@ pub mod Products
 pub mod Weighing
 pub mod Lowering
 pub mod Deriving
+pub mod Leaves

@@ -1,5 +1,5 @@
 -- Weights, pair by pair and term by term.
-use Rattle.std.proofs.Common.{◌≡◌, ℕ, ◌+◌, ◌*◌, ◌<◌, ◌≤◌, ◌^◌, zero, suc, refl, sym, ◌∙◌, ap, subst, arith, List, [], ◌∷◌, length, ◌-◌, map, take, get_or, Bool, true, false, if◌then◌else◌, eqb, eq-eqb, unsigned_abs, add-one, Option, Some, None, slice_get}
+use Rattle.std.proofs.Common.{◌≡◌, ℕ, ◌+◌, ◌*◌, ◌<◌, ◌≤◌, ◌^◌, zero, suc, refl, sym, ◌∙◌, ap, subst, arith, List, [], ◌∷◌, length, ◌-◌, take, get_or, true, false, eqb, eq-eqb, unsigned_abs, add-one}
 use Rattle.std.proofs.Math.IntN.{ℤ}
 use Rattle.std.proofs.Math.Nat.{pow-zero, pow-suc, mul-le-mul_left}
 use Rattle.std.proofs.lemmas.Nat.{pow-add}
@@ -7,14 +7,13 @@ use Rattle.std.proofs.lemmas.List.{take_all}
 use Rattle.std.proofs.lemmas.Bool.Decides.{nat_tests}
 use Rattle.std.proofs.lemmas.List.Sums.{sum_by-cons, sum_by_more, sum_by-take-le}
 use Rattle.std.proofs.lemmas.List.Elements.{All-head, All-tail}
-use Rattle.std.specs.List.{All}
 use Rattle.ln_algebra.proofs.Weights.{four_ℕ}
 use Rattle.ln_algebra.specs.Vector.{plus}
 use Rattle.ln_algebra.specs.Weights.{monomial_weight, weighted_sum}
 use Rattle.ln_bound.specs.Light.{most}
-use Rattle.ln_bound.specs.Value.{size_of, size_or, sizes}
+use Rattle.ln_bound.specs.Value.{sizes}
 use Rattle.ln_tree.specs.declared.shape.VarInfo.{VarInfo}
-use Rattle.ln_tree.specs.Exps.{IsAbove, Pairs, exponent, exponents_from, vector}
+use Rattle.ln_tree.specs.Exps.{IsAbove, Pairs, exponents_from, vector}
 use Rattle.ln_poly.specs.Sparse.{AreBelow, Sparse, terms_of}
 use Rattle.ln_poly.specs.Weight.{IsWeighed, pairs_weight, term_weight, total_weight}
 use Rattle.ln_poly.proofs.Products.{length-vector, vector-plus}

@@ -1,5 +1,5 @@
 -- The weight of a polynomial, pair by pair.
-use Rattle.std.specs.Prelude.{◌≡◌, ℕ, ◌*◌, ◌≤◌, ◌^◌, ℤ, unsigned_abs, List, [], ◌∷◌, take}
+use Rattle.std.specs.Prelude.{◌≡◌, ℕ, ◌*◌, ◌≤◌, ◌^◌, ℤ, unsigned_abs, [], ◌∷◌, take}
 use Rattle.std.specs.List.{sum_by}
 use Rattle.ln_bound.specs.Light.{most}
 use Rattle.ln_tree.specs.Exps.{Pairs}

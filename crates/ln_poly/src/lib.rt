@@ -7,11 +7,16 @@
 pub mod arithmetic;
 pub mod derivatives;
 pub mod gather;
+pub mod leaf;
 pub mod poly;
 pub mod times;
 pub mod weights;
 
 pub use arithmetic::{add, mul};
 pub use derivatives::derive;
+pub use leaf::{number, power};
 pub use poly::Poly;
 pub use weights::weight;
+
+#[cfg(test)]
+mod tests;

@@ -1,4 +1,4 @@
-use Rattle.std.proofs.Common.{◌≡◌, arith, sym, get_or}
+use Rattle.std.proofs.Common.{arith, sym, get_or}
 use Rattle.ln_poly.proofs.Lowering.{exponent-more, found, power-apart, small-at}
 use Rattle.ln_poly.proofs.derivatives.exponent_of.Goals as goal
 

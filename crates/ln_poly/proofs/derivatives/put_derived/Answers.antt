@@ -1,4 +1,4 @@
-use Rattle.std.proofs.Common.{◌≡◌, ◌<◌, arith, get_or, ℕ}
+use Rattle.std.proofs.Common.{◌≡◌, ◌<◌, arith, get_or}
 use Rattle.ln_algebra.specs.Terms.{binomial}
 use Rattle.ln_poly.proofs.Lowering.{binomial-small}
 use Rattle.ln_poly.proofs.derivatives.put_derived.Goals as goal

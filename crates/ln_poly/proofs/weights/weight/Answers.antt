@@ -1,4 +1,4 @@
-use Rattle.std.proofs.Common.{◌≡◌, ◌∙◌, ap, arith, sym}
+use Rattle.std.proofs.Common.{arith, sym}
 use Rattle.ln_bound.specs.Value.{sizes}
 use Rattle.ln_poly.proofs.Weighing.{heavy-end, sum-end, total-more, total-nil}
 use Rattle.ln_poly.proofs.weights.weight.Goals as goal

@@ -1,4 +1,4 @@
-use Rattle.std.proofs.Common.{◌≡◌, ◌<◌, ap, arith, length}
+use Rattle.std.proofs.Common.{◌<◌, ap, arith, length}
 use Rattle.ln_poly.proofs.Weighing.{size-at, weighed-heavy, weighed-step}
 use Rattle.ln_poly.proofs.weights.weight_of_term.Goals as goal
 
