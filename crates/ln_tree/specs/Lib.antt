@@ -6,3 +6,4 @@ pub mod Arguments
 pub mod Kept
 pub mod Row
 pub mod Table
+pub mod Exps

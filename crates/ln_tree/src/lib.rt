@@ -6,6 +6,7 @@
 #![tactic(auto)]
 
 pub mod expr;
+pub mod exps;
 pub mod fits;
 pub mod items;
 pub mod layout;
@@ -15,6 +16,7 @@ pub mod shape;
 pub mod table;
 
 pub use expr::{Expr, Node, Var};
+pub use exps::Exps;
 pub use fits::is_pred;
 pub use items::{Arg, Coord, Param, Site};
 pub use layout::is_shape;

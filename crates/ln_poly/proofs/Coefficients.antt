@@ -1,0 +1,135 @@
+-- Coefficients and sizes of lists of terms.
+use Rattle.std.proofs.Common.{◌≡◌, ℕ, ◌+◌, ◌<◌, ◌≤◌, zero, suc, refl, ◌∙◌, ap, arith, List, [], ◌∷◌, ◌++◌, length, take, set, get_or, Bool, true, false, if◌then◌else◌, unsigned_abs, add-one}
+use Rattle.std.proofs.lemmas.Int.{ints}
+use Rattle.std.proofs.Math.IntN.{ℤ, pos, ◌+ℤ◌}
+use Rattle.std.proofs.lemmas.List.{get_or_default, length-set, get_or-set_same, get_or-set_other}
+use Rattle.std.proofs.lemmas.List.Sums.{get_or-le-sum_by, sum_by-set, sum_by_push, sum_by_more, sum_by-take-le, sum_by-append, sum_by-cons}
+use Rattle.std.specs.List.Sorted.{IsPermutation}
+use Rattle.std.proofs.lemmas.List.Sorted.{IsPermutation-keeps, sum_by-IsPermutation}
+use Rattle.std.proofs.lemmas.Bool.{cases_eq}
+use Rattle.std.specs.List.{swap}
+use mathlib.Core.Logic.{⊎_elim}
+use Rattle.ln_algebra.specs.Vector.{same_vector}
+use Rattle.ln_tree.specs.Exps.{Pairs, vector}
+use Rattle.ln_poly.specs.Sparse.{Sparse, coefficient_at, part_at, size_of}
+
+-- ---- coefficients
+pub coefficient_at-nil : (n : ℕ) (m : List ℕ) → coefficient_at n [] m ≡ pos 0
+unfolding coefficient_at
+coefficient_at-nil n m = refl
+
+pub coefficient_at-cons : (n : ℕ) (m : List ℕ) (t : Pairs × ℤ) (xs : Sparse) → coefficient_at n (t ∷ xs) m ≡ part_at n t m +ℤ coefficient_at n xs m
+unfolding coefficient_at part_at
+coefficient_at-cons n m t xs = refl
+
+pub coefficient_at-append : (n : ℕ) (m : List ℕ) (xs ys : Sparse) → coefficient_at n (xs ++ ys) m ≡ coefficient_at n xs m +ℤ coefficient_at n ys m
+coefficient_at-append n m [] ys = omega (arith, ints, coefficient_at-nil n m)
+coefficient_at-append n m (x ∷ xs) ys = omega (arith, ints, coefficient_at-append n m xs ys, coefficient_at-cons n m x xs, coefficient_at-cons n m x (xs ++ ys))
+
+pub coefficient_at-push : (n : ℕ) (m : List ℕ) (xs : Sparse) (t : Pairs × ℤ) → coefficient_at n (xs ++ (t ∷ [])) m ≡ coefficient_at n xs m +ℤ part_at n t m
+coefficient_at-push n m xs t = omega (arith, ints, coefficient_at-append n m xs (t ∷ []), coefficient_at-cons n m t [], coefficient_at-nil n m)
+
+pub coefficient_at-more : (n : ℕ) (m : List ℕ) (xs : Sparse) (i : ℕ) (d : Pairs × ℤ) → i < length xs → coefficient_at n (take (i + 1) xs) m ≡ coefficient_at n (take i xs) m +ℤ part_at n (get_or xs i d) m
+coefficient_at-more n m [] i d h = absurd (omega arith)
+coefficient_at-more n m (x ∷ xs) zero d h = omega (arith, ints, coefficient_at-cons n m x [], coefficient_at-nil n m)
+coefficient_at-more n m (x ∷ xs) (suc i) d h =
+    let ih : coefficient_at n (take (suc i) xs) m ≡ coefficient_at n (take i xs) m +ℤ part_at n (get_or xs i d) m = rw add-one at (coefficient_at-more n m xs i d (omega arith)) in
+    rw add-one (omega (arith, ints, ih, coefficient_at-cons n m x (take (suc i) xs), coefficient_at-cons n m x (take i xs)))
+
+pub coefficient_at-set : (n : ℕ) (m : List ℕ) (xs : Sparse) (i : ℕ) (t d : Pairs × ℤ) → i < length xs → coefficient_at n (set xs i t) m +ℤ part_at n (get_or xs i d) m ≡ coefficient_at n xs m +ℤ part_at n t m
+coefficient_at-set n m [] i t d h = absurd (omega arith)
+coefficient_at-set n m (x ∷ xs) zero t d h = omega (arith, ints, coefficient_at-cons n m x xs, coefficient_at-cons n m t xs)
+coefficient_at-set n m (x ∷ xs) (suc i) t d h = omega (arith, ints, coefficient_at-set n m xs i t d (omega arith), coefficient_at-cons n m x xs, coefficient_at-cons n m x (set xs i t))
+
+-- two terms with the same exponents add up to one
+part-sum : (n : ℕ) (m : List ℕ) (e : Pairs) (a b : ℤ) → part_at n (e, a +ℤ b) m ≡ part_at n (e, a) m +ℤ part_at n (e, b) m
+unfolding part_at
+part-sum n m e a b = by_case (same_vector (vector n e) m) where
+  by_case : (z : Bool) → (if z then a +ℤ b else pos 0) ≡ (if z then a else pos 0) +ℤ (if z then b else pos 0)
+  by_case true = refl
+  by_case false = refl
+
+-- a term with the factor 0 adds nothing
+pub part-zero : (n : ℕ) (m : List ℕ) (e : Pairs) → part_at n (e, pos 0) m ≡ pos 0
+unfolding part_at
+part-zero n m e = by_case (same_vector (vector n e) m) where
+  by_case : (z : Bool) → (if z then pos 0 else pos 0) ≡ pos 0
+  by_case true = refl
+  by_case false = refl
+
+-- the term t added at a place where a term with its exponents stands
+pub set-adds : (n : ℕ) (m : List ℕ) (xs : Sparse) (i : ℕ) (e : Pairs) (a b c : ℤ) → i < length xs → (e, a) ≡ get_or xs i (e, a) → c ≡ a +ℤ b → coefficient_at n (set xs i (e, c)) m ≡ coefficient_at n xs m +ℤ part_at n (e, b) m
+set-adds n m xs i e a b c h at' s = omega (arith, ints, coefficient_at-set n m xs i (e, c) (e, a) h, ap (λ z. part_at n z m) at', ap (λ z. part_at n (e, z) m) s, part-sum n m e a b)
+
+-- ---- sizes
+pub size-nil : size_of [] ≡ 0
+unfolding size_of
+size-nil = refl
+
+pub size-cons : (t : Pairs × ℤ) (xs : Sparse) → size_of (t ∷ xs) ≡ unsigned_abs t.1 + size_of xs
+unfolding size_of
+size-cons t xs = sum_by-cons (λ z. unsigned_abs z.1) t xs
+
+pub size-append : (xs ys : Sparse) → size_of (xs ++ ys) ≡ size_of xs + size_of ys
+unfolding size_of
+size-append xs ys = sum_by-append (λ z. unsigned_abs z.1) xs ys
+
+pub size-push : (xs : Sparse) (t : Pairs × ℤ) → size_of (xs ++ (t ∷ [])) ≡ size_of xs + unsigned_abs t.1
+unfolding size_of
+size-push xs t = sum_by_push (λ z. unsigned_abs z.1) xs t
+
+pub size-more : (xs : Sparse) (i : ℕ) (d : Pairs × ℤ) → i < length xs → size_of (take (i + 1) xs) ≡ size_of (take i xs) + unsigned_abs (get_or xs i d).1
+unfolding size_of
+size-more xs i d h = sum_by_more (λ t. unsigned_abs t.1) xs i d h
+
+pub size-take : (xs : Sparse) (i : ℕ) → size_of (take i xs) ≤ size_of xs
+unfolding size_of
+size-take xs i = sum_by-take-le (λ t. unsigned_abs t.1) xs i
+
+pub factor-small : (xs : Sparse) (i : ℕ) (d : Pairs × ℤ) → i < length xs → unsigned_abs (get_or xs i d).1 ≤ size_of xs
+unfolding size_of
+factor-small xs i d h = get_or-le-sum_by (λ t. unsigned_abs t.1) xs i d h
+
+pub item-small : (xs : Sparse) (i : ℕ) (x : Pairs × ℤ) → i < length xs → x ≡ get_or xs i x → unsigned_abs x.1 ≤ size_of xs
+item-small xs i x h e = let f : unsigned_abs x.1 ≡ unsigned_abs (get_or xs i x).1 = ap (λ z. unsigned_abs z.1) e in omega (arith, f, factor-small xs i x h)
+
+abs_add : (x y : ℤ) → unsigned_abs (x +ℤ y) ≤ unsigned_abs x + unsigned_abs y
+abs_add x y = omega (arith, ints)
+
+pub size-set : (xs : Sparse) (i : ℕ) (e : Pairs) (a b c : ℤ) → i < length xs → (e, a) ≡ get_or xs i (e, a) → c ≡ a +ℤ b → size_of (set xs i (e, c)) ≤ size_of xs + unsigned_abs b
+unfolding size_of
+size-set xs i e a b c h at' s =
+    let f : unsigned_abs a ≡ unsigned_abs (get_or xs i (e, a)).1 = ap (λ z. unsigned_abs z.1) at' in
+    let g : unsigned_abs c ≡ unsigned_abs (a +ℤ b) = ap unsigned_abs s in
+    omega (arith, sum_by-set (λ z. unsigned_abs z.1) xs i (e, c) (e, a) h, f, g, abs_add a b)
+
+-- the first n terms weigh no more with the next than the whole
+pub size-next : (xs : Sparse) (i : ℕ) (x : Pairs × ℤ) → i < length xs → x ≡ get_or xs i x → size_of (take i xs) + unsigned_abs x.1 ≤ size_of xs
+size-next xs i x h e = let f : unsigned_abs x.1 ≡ unsigned_abs (get_or xs i x).1 = ap (λ z. unsigned_abs z.1) e in omega (arith, f, size-more xs i x h, size-take xs (i + 1))
+
+-- ---- the order of the terms doesn't count
+swapped-coefficient : (n : ℕ) (m : List ℕ) (l : Sparse) (i j : ℕ) → i < length l → j < length l → coefficient_at n (swap l i j) m ≡ coefficient_at n l m
+swapped-coefficient n m [] i j p q = absurd (omega arith)
+swapped-coefficient n m (d ∷ xs) i j p q =
+    let l : Sparse = d ∷ xs in
+    let w : Sparse = set l i (get_or l j d) in
+    let long = length-set l i (get_or l j d) in
+    let there : get_or w j d ≡ get_or l j d = ⊎_elim (λ e. ap (λ k. get_or w k d) e ∙ get_or-set_same l i (get_or l j d) d p) (λ k. get_or-set_other l i j (get_or l j d) d k) (cases_eq j i) in
+    let read = ap (λ z. part_at n z m) there in
+    let first = coefficient_at-set n m l i (get_or l j d) d p in
+    let second = coefficient_at-set n m w j (get_or l i d) d (omega arith) in
+    omega (arith, ints, read, first, second)
+
+pub permuted-coefficient : (n : ℕ) (m : List ℕ) (xs ys : Sparse) → IsPermutation xs ys → coefficient_at n ys m ≡ coefficient_at n xs m
+permuted-coefficient n m xs ys = IsPermutation-keeps xs (λ l. coefficient_at n l m ≡ coefficient_at n xs m) refl (λ l i j p q h. swapped-coefficient n m l i j p q ∙ h) ys
+
+pub permuted-size : (xs ys : Sparse) → IsPermutation xs ys → size_of ys ≡ size_of xs
+unfolding size_of
+permuted-size xs ys h = sum_by-IsPermutation (λ t. unsigned_abs t.1) xs ys h
+
+-- ---- a term added where one with its exponents stands
+alike : (xs : Sparse) (i : ℕ) (x t : Pairs × ℤ) → i < length xs → x ≡ get_or xs i x → (get_or xs i t).0 ≡ t.0 → x.0 ≡ t.0
+alike xs i x t h e s = ap (λ (z : Pairs × ℤ). z.0) (e ∙ get_or_default xs i x t h) ∙ s
+
+pub adds-term : (n : ℕ) (m : List ℕ) (xs : Sparse) (i : ℕ) (x t : Pairs × ℤ) (c : ℤ) → i < length xs → x ≡ get_or xs i x → (get_or xs i t).0 ≡ t.0 → c ≡ x.1 +ℤ t.1 → coefficient_at n (set xs i (x.0, c)) m ≡ coefficient_at n xs m +ℤ part_at n t m
+adds-term n m xs i x t c h e s f = set-adds n m xs i x.0 x.1 t.1 c h e f ∙ ap (λ z. coefficient_at n xs m +ℤ part_at n (z, t.1) m) (alike xs i x t h e s)

@@ -1,0 +1,38 @@
+-- Scaled derivatives by one variable.
+use Rattle.std.specs.Prelude.{◌≡◌, ℕ, ◌+◌, ◌-◌, ◌<◌, ◌≤◌, ◌*ℤ◌, ℤ, pos, List, [], ◌∷◌, ◌++◌, slice_index, take}
+use Rattle.ln_algebra.specs.Terms.{Term, binomial, derived, factor_at}
+use Rattle.ln_algebra.specs.Weights.{weighted_sum}
+use Rattle.ln_tree.specs.Exps.{IsRising, Pairs, exponent, vector}
+use Rattle.ln_poly.specs.Sparse.{AreBelow, AreRising, Sparse, coefficient_at, size_of, terms_of}
+use Rattle.ln_poly.specs.Times.{power_at}
+
+-- the scaled derivative by variable v, n times, over k variables
+abbrev pub derivative : ℕ → ℕ → ℕ → Sparse → List Term
+derivative k v n f = derived (vector k ((v, n) ∷ [])) (terms_of k f)
+
+-- the exponents of e, with that of v lowered by n
+pub record IsLowered (exps e : Pairs) (v n : ℕ) : Type 0 where
+  pub exponents : (u : ℕ) → exponent u exps + power_at u (v, n) ≡ exponent u e
+  pub rising : IsRising exps
+
+-- out has the first i pairs, with the exponent of v lowered by n
+pub record IsLowering (out ps : Pairs) (v n i : ℕ) : Type 0 where
+  pub exponents : (u : ℕ) → exponent u out ≡ exponent u (take i ps) - power_at u (v, n)
+  pub rising : IsRising out
+
+-- the binomials of each number below 128 and k
+abbrev pub IsColumn : List ℕ → ℕ → Type 0
+IsColumn c k = (j : ℕ) → j < 128 → slice_index c j ≡ binomial j k
+
+-- out is old with the derivative of the term t behind it
+pub record IsDerivedPut (out old : Sparse) (t : Pairs × ℤ) (v n : ℕ) : Type 0 where
+  pub exps : Pairs
+  pub put : out ≡ old ++ ((exps, t.1 *ℤ pos (binomial (exponent v t.0) n)) ∷ [])
+  pub lowered : IsLowered exps t.0 v n
+
+-- out has the derivatives of the first i terms
+pub record IsDeriving (out f : Sparse) (k v n i : ℕ) (w : ℕ → ℕ) : Type 0 where
+  pub coefficients : (m : List ℕ) → coefficient_at k out m ≡ factor_at (derivative k v n (take i f)) m
+  pub size : size_of out ≤ weighted_sum w (derivative k v n (take i f))
+  pub rising : AreRising out
+  pub below : AreBelow k out

@@ -1,0 +1,138 @@
+// Scaled derivatives.
+ghost use Rattle.std.specs.Prelude.{◌≡◌, ℕ, List, [], ◌∷◌, ◌++◌, ◌+◌, ◌<◌, ◌≤◌, ◌^◌, ◌*ℤ◌, pos, IfOk, OnOk, length, unsigned_abs};
+ghost use Rattle.ln_algebra.specs.Terms.{binomial, factor_at};
+ghost use Rattle.ln_algebra.specs.Weights.{weighted_sum};
+ghost use Rattle.ln_bound.specs.Light.{most};
+ghost use Rattle.ln_bound.specs.Value.{sizes};
+ghost use Rattle.ln_tree.specs.Exps.{IsRising, exponent, vector};
+ghost use Rattle.ln_poly.specs.Sparse.{AreBelow, IsPoly, coefficient_at};
+ghost use Rattle.ln_poly.specs.Derivative.{IsColumn, IsDerivedPut, IsLowered, derivative};
+
+use crate::gather::gather;
+use crate::poly::Poly;
+use ln_base::NoMemory;
+use ln_tree::{Exps, Shape};
+use std::alloc::Global;
+
+// The exponent of variable v.
+fn exponent_of(pairs: &[(u8, u8)], v: u8) -> u8
+    requires { IsRising pairs.now }
+    ensures value { result ≡ exponent v pairs.now }
+    ensures small { result < 128 }
+{
+    'pairs: for p in pairs {
+        if p.0 == v {
+            return p.1;
+        }
+    }
+    0
+}
+
+// The pair with its exponent lowered where it is that of v.
+fn lowered_pair(p: (u8, u8), v: u8, n: u8) -> u8
+    requires { p.0 ≡ v → n ≤ p.1 }
+    ensures same { p.0 ≡ v → result + n ≡ p.1 }
+    ensures other { (p.0 ≡ v → ⊥) → result ≡ p.1 }
+{
+    if p.0 == v { p.1 - n } else { p.1 }
+}
+
+// The exponents with that of variable v lowered by n.
+fn lowered(alloc: Global, e: &Exps, v: u8, n: u8) -> Result<Exps, NoMemory>
+    requires { n ≤ exponent v e.now }
+    ensures { IfOk result (λ r. IsLowered r e.now v n) }
+{
+    let pairs = e.pairs();
+    let mut out = Exps::new(alloc);
+    'pairs: for p in pairs {
+        let k = lowered_pair(*p, v, n);
+        if k > 0 {
+            out.push(p.0, k)?;
+        }
+    }
+    Ok(out)
+}
+
+// From the binomials of each number and k to those of each number and k + 1, by Pascal's rule.
+fn raise(c: &mut [u128], k: u8)
+    requires len { length c.old ≡ 128 }
+    requires column { IsColumn c.old k }
+    ensures { IsColumn c.new (k + 1) }
+{
+    let mut sum = 0u128;
+    'column: for x in c.iter_mut() {
+        let old = *x;
+        *x = sum;
+        sum += old;
+    }
+}
+
+// The binomials of each number below 128 and n.
+fn column(n: u8) -> [u128; 128]
+    ensures { IsColumn result n }
+{
+    let mut c = [1u128; 128];
+    'raises: for k in 0..n {
+        raise(&mut c, k);
+    }
+    c
+}
+
+// Puts the term with these exponents and this product as its factor at the end.
+fn push_times(
+    out: &mut Vec<(Exps, i128)>,
+    exps: Exps,
+    factor: i128,
+    times: u128,
+) -> Result<(), NoMemory>
+    requires times { times < 2 ^ 127 }
+    requires room { unsigned_abs (factor *ℤ pos times) < 2 ^ 127 }
+    ensures { OnOk result (out.new.items ≡ out.old.items ++ (exps, factor *ℤ pos times) ∷ []) }
+{
+    let times = times as i128;
+    out.push((exps, factor * times))?;
+    Ok(())
+}
+
+// Puts the derivative of a term at the end, where it has one.
+fn put_derived(
+    alloc: Global,
+    out: &mut Vec<(Exps, i128)>,
+    t: &(Exps, i128),
+    v: u8,
+    n: u8,
+    column: &[u128],
+) -> Result<(), NoMemory>
+    requires len { length column.now ≡ 128 }
+    requires column { IsColumn column.now n }
+    requires room { n ≤ exponent v t.now.0 → unsigned_abs (t.now.1 *ℤ pos (binomial (exponent v t.now.0) n)) < 2 ^ 127 }
+    ensures none { OnOk result (exponent v t.now.0 < n → out.new.items ≡ out.old.items) }
+    ensures some { OnOk result (n ≤ exponent v t.now.0 → IsDerivedPut out.new.items out.old.items t.now v n) }
+{
+    let e = exponent_of(t.0.pairs(), v);
+    if e < n {
+        return Ok(());
+    }
+    let exps = lowered(alloc, &t.0, v, n)?;
+    push_times(out, exps, t.1, column[usize::from(e)])?;
+    Ok(())
+}
+
+/// The scaled derivative by variable v, n times: the partial derivative divided by the factorial of n.
+pub fn derive(alloc: Global, f: &Poly, s: &Shape, v: u8, n: u8) -> Result<Poly, NoMemory>
+    requires variable { v < length s.now.vars }
+    requires below { AreBelow (length s.now.vars) f.now }
+    requires small { weighted_sum (sizes s.now.vars) (derivative (length s.now.vars) v n f.now) ≤ most }
+    ensures coefficients { IfOk result (λ h. (m : List ℕ) → coefficient_at (length s.now.vars) h m ≡ factor_at (derivative (length s.now.vars) v n f.now) m) }
+    ensures form { IfOk result IsPoly }
+    ensures below { IfOk result (AreBelow (length s.now.vars)) }
+{
+    let f = f.terms();
+    let column = column(n);
+    let mut out = Vec::new(alloc);
+    'terms: for t in f {
+        put_derived(alloc, &mut out, t, v, n, &column)?;
+    }
+    let h = gather(alloc, out)?;
+    Ok(h)
+}

@@ -1,0 +1,70 @@
+// Polynomials.
+ghost use Rattle.std.specs.Prelude.{◌≡◌, ◌↔◌, All, [], IsTrue};
+ghost use Rattle.ln_poly.specs.Sparse.{IsPoly};
+
+use ln_base::Seq;
+use ln_tree::Exps;
+use std::marker::Model;
+
+/// A polynomial: its terms, sorted by their exponents as lists of pairs, distinct, with factors that aren't 0 and are
+/// within `2^127 - 1` in absolute value. Contracts see the list of terms, each its pairs and its factor.
+#[derive(Drop)]
+pub struct Poly {
+    terms: Seq<(Exps, i128)>,
+}
+
+impl Model for Poly {
+    ghost use Rattle.std.specs.Prelude.{ℕ, ℤ, List};
+    ghost use Rattle.ln_poly.specs.Sparse.{IsPoly};
+
+    ghost Value = { List (List (ℕ × ℕ) × ℤ) };
+
+    ghost view = { λ f. f.terms };
+
+    ghost invariant = { λ f. IsPoly f.terms };
+}
+
+impl Poly {
+    /// The polynomial of these terms. It takes no memory.
+    pub fn seal(terms: Seq<(Exps, i128)>) -> Poly
+        requires { IsPoly terms }
+        ensures { result ≡ terms }
+    {
+        Poly { terms }
+    }
+
+    /// The terms, lent.
+    pub fn terms(&self) -> &[(Exps, i128)]
+        ensures value { result.now ≡ self.now }
+        ensures form { IsPoly self.now }
+    {
+        self.terms.as_slice()
+    }
+
+    /// The same polynomial?
+    pub fn same(&self, other: &Poly) -> bool
+        ensures { IsTrue result ↔ (self.now ≡ other.now) }
+    {
+        self.terms.as_slice() == other.terms.as_slice()
+    }
+
+    /// Is it 0, without any term?
+    pub fn is_zero(&self) -> bool
+        ensures { IsTrue result ↔ (self.now ≡ []) }
+    {
+        self.terms.is_empty()
+    }
+
+    /// Is it a number, with no term but that of no variable?
+    pub fn is_constant(&self) -> bool
+        ensures { IsTrue result ↔ All (λ t. t.0 ≡ []) self.now }
+    {
+        let f = self.terms();
+        'terms: for t in f {
+            if !t.0.pairs().is_empty() {
+                return false;
+            }
+        }
+        true
+    }
+}

@@ -1,0 +1,72 @@
+// Worked values.
+ghost use Rattle.std.specs.Prelude.{◌≡◌, [], ◌∷◌, pos, neg_ℤ, Some, IfOk};
+
+use crate::{Poly, add, derive, mul, number, power, weight};
+use ln_base::{NoMemory, Seq};
+use ln_tree::{Name, Shape, VarInfo};
+use std::alloc::Global;
+use std::test::Fail;
+
+// Has it the one term c times the e-th power of variable 0?
+fn is_power(f: &Poly, e: u8, c: i128) -> bool {
+    match f.terms() {
+        [t] => t.1 == c && t.0.pairs() == [(0u8, e)].as_slice(),
+        _ => false,
+    }
+}
+
+// x + x, and x * x, of variable 0.
+fn twice(alloc: Global) -> Result<(Poly, Poly), NoMemory> {
+    let x = power(alloc, 0, 1, 1)?;
+    let sum = add(alloc, &x, &x)?;
+    let square = mul(alloc, &x, &x)?;
+    Ok((sum, square))
+}
+
+// A shape with one site, of one variable from -1000 to 1000.
+fn line(alloc: Global) -> Result<Shape, NoMemory>
+    ensures { IfOk result (λ s. s.vars ≡ record { arg = 0; site = Some 0; coord = 0; lo = neg_ℤ (pos 1000); hi = pos 1000 } ∷ []) }
+{
+    let mut vars = Seq::new(alloc);
+    vars.push(VarInfo {
+        arg: 0,
+        site: Some(0),
+        coord: 0,
+        lo: -1000,
+        hi: 1000,
+    })?;
+    Ok(Shape {
+        name: Name::of(b"line"),
+        sites: 1,
+        vars,
+    })
+}
+
+#[test]
+fn sums_and_products_have_their_coefficients(rt: HostRuntime) -> Result<(), Fail> {
+    let (sum, square) = twice(rt.alloc())?;
+    assert!(rt; is_power(&sum, 1, 2));
+    assert!(rt; is_power(&square, 2, 1));
+    assert!(rt; !sum.same(&square));
+    assert!(rt; !sum.is_zero());
+    assert!(rt; !sum.is_constant());
+    assert!(rt; number(rt.alloc(), 0)?.is_zero());
+    assert!(rt; number(rt.alloc(), -3)?.is_constant());
+    Ok(())
+}
+
+// The derivative of the cube of variable 0, twice, and its weight.
+fn of_cube(alloc: Global) -> Result<(Poly, Option<u128>), NoMemory> {
+    let s = line(alloc)?;
+    let cube = power(alloc, 0, 3, 1)?;
+    let w = weight(&cube, &s);
+    Ok((derive(alloc, &cube, &s, 0, 2)?, w))
+}
+
+#[test]
+fn derivatives_are_scaled(rt: HostRuntime) -> Result<(), Fail> {
+    let (second, w) = of_cube(rt.alloc())?;
+    assert!(rt; is_power(&second, 1, 3));
+    assert_eq!(rt; w, Some(1_000_000_000));
+    Ok(())
+}

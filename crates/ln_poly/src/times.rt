@@ -1,0 +1,88 @@
+// Products of monomials.
+ghost use Rattle.std.specs.Prelude.{◌≡◌, ℕ, ◌+◌, ◌<◌, ◌≤◌, IfOk, length, drop, slice_index_or};
+ghost use Rattle.ln_tree.specs.Exps.{IsRising, exponent};
+ghost use Rattle.ln_poly.specs.Times.{Picks};
+
+use ln_base::NoMemory;
+use ln_tree::Exps;
+use std::alloc::Global;
+
+// The pair of the lowest variable, and the places behind it in two lists.
+#[derive(Clone, Copy)]
+struct Pick {
+    v: u8,
+    e: u8,
+    i: usize,
+    j: usize,
+}
+
+// The pair at place i of the first list.
+fn first(a: &[(u8, u8)], i: usize, j: usize) -> Pick
+    requires { i < length a.now }
+    ensures { result ≡ record { v = (slice_index_or a.now i (0, 0)).0; e = (slice_index_or a.now i (0, 0)).1; i = i + 1; j = j } }
+{
+    let (v, e) = a[i];
+    Pick { v, e, i: i + 1, j }
+}
+
+// The pair at place j of the second list.
+fn second(b: &[(u8, u8)], i: usize, j: usize) -> Pick
+    requires { j < length b.now }
+    ensures { result ≡ record { v = (slice_index_or b.now j (0, 0)).0; e = (slice_index_or b.now j (0, 0)).1; i = i; j = j + 1 } }
+{
+    let (v, e) = b[j];
+    Pick { v, e, i, j: j + 1 }
+}
+
+// The pair of the lowest variable from two places on; where both lists have it, with the sum of its exponents.
+fn lowest(a: &[(u8, u8)], b: &[(u8, u8)], i: usize, j: usize) -> Pick
+    requires left { i ≤ length a.now }
+    requires right { j ≤ length b.now }
+    requires some { i + j < length a.now + length b.now }
+    requires rising_left { IsRising (drop i a.now) }
+    requires rising_right { IsRising (drop j b.now) }
+    requires small { (v : ℕ) → exponent v (drop i a.now) + exponent v (drop j b.now) < 128 }
+    ensures picks { Picks (drop i a.now) (drop j b.now) (drop result.i a.now) (drop result.j b.now) result.v result.e }
+    ensures left { result.i ≤ length a.now }
+    ensures right { result.j ≤ length b.now }
+    ensures further { i + j < result.i + result.j }
+{
+    if j == b.len() {
+        return first(a, i, j);
+    }
+    if i == a.len() {
+        return second(b, i, j);
+    }
+    if a[i].0 < b[j].0 {
+        return first(a, i, j);
+    }
+    if b[j].0 < a[i].0 {
+        return second(b, i, j);
+    }
+    Pick {
+        v: a[i].0,
+        e: a[i].1 + b[j].1,
+        i: i + 1,
+        j: j + 1,
+    }
+}
+
+/// The exponents of the product of two monomials.
+pub fn times(alloc: Global, a: &Exps, b: &Exps) -> Result<Exps, NoMemory>
+    requires { (v : ℕ) → exponent v a.now + exponent v b.now < 128 }
+    ensures exponents { IfOk result (λ e. (v : ℕ) → exponent v e ≡ exponent v a.now + exponent v b.now) }
+    ensures rising { IfOk result IsRising }
+{
+    let a = a.pairs();
+    let b = b.pairs();
+    let mut out = Exps::new(alloc);
+    let mut i = 0;
+    let mut j = 0;
+    'pairs: while i < a.len() || j < b.len() {
+        let p = lowest(a, b, i, j);
+        out.push(p.v, p.e)?;
+        i = p.i;
+        j = p.j;
+    }
+    Ok(out)
+}

@@ -1,0 +1,82 @@
+-- Exponents of a monomial, as pairs of a variable's number and its exponent.
+use Rattle.std.specs.Prelude.{◌≡◌, ℕ, zero, suc, ◌+◌, ◌<◌, ◌==◌, ◌&&◌, eqb, Bool, true, refl, List, [], ◌∷◌, if◌then◌else◌}
+use Rattle.std.proofs.lemmas.Bool.{and_parts, eqb-true}
+use Rattle.std.specs.Cmp.Lexicographic.{slice_cmp}
+use Rattle.std.proofs.Common.{arith}
+use Rattle.std.proofs.lemmas.Bool.Decides.{nat_tests}
+use Rattle.std.proofs.lemmas.Cmp.{by_ranked, ranked}
+use Rattle.std.specs.declared.cmp.Ordering.{Ordering}
+use Rattle.std.specs.declared.cmp.Ordering.TheVariants.{Less, Equal, Greater}
+use Rattle.std.specs.Ordering.{eq_of_both, is_eq, nat_cmp, on, ordering_then, then_cmp}
+use lib.Pointwise.{pointwise}
+
+-- the pairs of a monomial
+abbrev pub Pairs : Type 0
+Pairs = List (ℕ × ℕ)
+
+-- each variable of the pairs is below v
+abbrev pub IsAbove : Pairs → ℕ → Type 0
+IsAbove [] v = Unit {0}
+IsAbove (p ∷ ps) v = (p.0 < v) × IsAbove ps v
+
+-- each variable of the pairs is above v
+abbrev pub AllAbove : ℕ → Pairs → Type 0
+AllAbove v [] = Unit {0}
+AllAbove v (p ∷ ps) = (v < p.0) × AllAbove v ps
+
+-- the variables rise, and each exponent is from 1 to 127
+abbrev pub IsRising : Pairs → Type 0
+IsRising [] = Unit {0}
+IsRising (p ∷ ps) = (0 < p.1) × (p.1 < 128) × AllAbove p.0 ps × IsRising ps
+
+-- are the two the same list of pairs?
+abbrev pub same_pairs : Pairs → Pairs → Bool
+same_pairs = pointwise (eq_of_both (on (λ p. p.0) ◌==◌) (on (λ p. p.1) ◌==◌))
+
+-- the test of equality finds equal lists alone
+pub same_pairs-is : (xs ys : Pairs) → same_pairs xs ys ≡ true → xs ≡ ys
+same_pairs-is [] [] h = refl
+same_pairs-is [] (y ∷ ys) h = cc
+same_pairs-is (x ∷ xs) [] h = cc
+same_pairs-is (x ∷ xs) (y ∷ ys) h =
+    let both = and_parts (eq_of_both (on (λ p. p.0) ◌==◌) (on (λ p. p.1) ◌==◌) x y) (same_pairs xs ys) h in
+    let parts = and_parts (x.0 == y.0) (x.1 == y.1) both.0 in
+    let p : x.0 ≡ y.0 = eqb-true x.0 y.0 parts.0 in
+    let q : x.1 ≡ y.1 = eqb-true x.1 y.1 parts.1 in
+    let r : xs ≡ ys = same_pairs-is xs ys both.1 in
+    let e : (x.0, x.1) ∷ xs ≡ (y.0, y.1) ∷ ys = rw (p, q, r) refl in
+    e
+
+-- the order of lists of pairs, by the first pair that differs: by its variable, then by its exponent
+abbrev pub pairs_cmp : Pairs → Pairs → Ordering
+pairs_cmp = slice_cmp (then_cmp (on (λ p. p.0) nat_cmp) (on (λ p. p.1) nat_cmp))
+
+-- the order of a pair of numbers finds the same pair alone
+is_eq-then : (a b : Ordering) → is_eq (ordering_then a b) ≡ (is_eq a && is_eq b)
+is_eq-then Less b = refl
+is_eq-then Equal b = refl
+is_eq-then Greater b = refl
+
+eqb-cmp : (x y : ℕ) → (x == y) ≡ is_eq (nat_cmp x y)
+eqb-cmp x y = by_ranked (x < y) (x ≡ y) (y < x) (nat_cmp x y) (ranked x y (nat_cmp x y) refl) (λ e h. rw e (grind (arith, nat_tests))) (λ e h. rw e (grind (arith, nat_tests))) (λ e h. rw e (grind (arith, nat_tests)))
+
+-- the order has no other ties than equal lists
+pub same_pairs-ties : (xs ys : Pairs) → same_pairs xs ys ≡ is_eq (pairs_cmp xs ys)
+same_pairs-ties [] [] = refl
+same_pairs-ties [] (y ∷ ys) = refl
+same_pairs-ties (x ∷ xs) [] = refl
+same_pairs-ties (x ∷ xs) (y ∷ ys) = rw (is_eq-then (ordering_then (nat_cmp x.0 y.0) (nat_cmp x.1 y.1)) (pairs_cmp xs ys), is_eq-then (nat_cmp x.0 y.0) (nat_cmp x.1 y.1), ← eqb-cmp x.0 y.0, ← eqb-cmp x.1 y.1, ← same_pairs-ties xs ys) refl
+
+-- the exponent of variable v; as variables rise, at most one pair adds to it
+abbrev pub exponent : ℕ → Pairs → ℕ
+exponent v [] = 0
+exponent v (p ∷ ps) = (if eqb p.0 v then p.1 else 0) + exponent v ps
+
+-- the exponents of n variables from number v on
+abbrev pub exponents_from : ℕ → ℕ → Pairs → List ℕ
+exponents_from v zero ps = []
+exponents_from v (suc n) ps = exponent v ps ∷ exponents_from (suc v) n ps
+
+-- the exponent vector over n variables
+abbrev pub vector : ℕ → Pairs → List ℕ
+vector n ps = exponents_from 0 n ps

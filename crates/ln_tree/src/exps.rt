@@ -1,0 +1,141 @@
+// Exponents of a monomial.
+ghost use Rattle.std.specs.Prelude.{◌≡◌, ◌<◌, ◌++◌, [], ◌∷◌, IfOk, OnOk, OnErr};
+
+use ln_base::NoMemory;
+use smallvec::SmallVec;
+use std::alloc::Global;
+use std::cmp::Ordering;
+use std::hash::{Hash, Hasher};
+use std::marker::Model;
+
+/// The exponents of a monomial: pairs of a variable's number and its exponent, variables rising, exponents from 1 to 127.
+/// Contracts see the list of pairs. Equality, order and hash are the list's.
+#[derive(Drop)]
+pub struct Exps {
+    pairs: SmallVec<(u8, u8), 6>,
+}
+
+impl Model for Exps {
+    ghost use Rattle.std.specs.Prelude.{ℕ, List};
+    ghost use Rattle.ln_tree.specs.Exps.{IsRising};
+
+    ghost Value = { List (ℕ × ℕ) };
+
+    ghost view = { λ e. e.pairs.items };
+
+    ghost invariant = { λ e. IsRising e.pairs.items };
+}
+
+impl Exps {
+    ghost use Rattle.ln_tree.specs.Exps.{IsAbove, IsRising};
+
+    /// No pair: the exponents of the monomial 1. It takes no memory.
+    pub fn new(alloc: Global) -> Exps
+        ensures { result ≡ [] }
+    {
+        Exps {
+            pairs: SmallVec::new(alloc),
+        }
+    }
+
+    /// Puts the pair of a further variable, above those that are there, at the end. A refusal changes nothing.
+    pub fn push(&mut self, v: u8, e: u8) -> Result<(), NoMemory>
+        requires above { IsAbove self.old v }
+        requires positive { 0 < e }
+        requires small { e < 128 }
+        ensures ok { OnOk result (self.new ≡ self.old ++ (v, e) ∷ []) }
+        ensures err { OnErr result (self.new ≡ self.old) }
+    {
+        self.pairs.push((v, e))?;
+        Ok(())
+    }
+
+    /// The same pairs once more.
+    pub fn copy(&self) -> Result<Exps, NoMemory>
+        ensures { IfOk result (λ e. e ≡ self.now) }
+    {
+        Ok(Exps {
+            pairs: SmallVec::from_slice(*self.pairs.allocator(), self.pairs.as_slice())?,
+        })
+    }
+
+    /// The pairs, lent.
+    pub fn pairs(&self) -> &[(u8, u8)]
+        ensures value { result.now ≡ self.now }
+        ensures rising { IsRising self.now }
+    {
+        self.pairs.as_slice()
+    }
+}
+
+impl PartialEq for Exps {
+    ghost use Rattle.std.proofs.Common.{rules};
+    ghost use Rattle.std.specs.Cmp.Rules.{comparing};
+    ghost use Rattle.ln_tree.specs.Exps.{same_pairs};
+
+    ghost eq = { same_pairs };
+
+    ghost laws = { Prim.search (comparing, rules) };
+
+    fn eq(&self, other: &Exps) -> bool {
+        self.pairs.as_slice() == other.pairs.as_slice()
+    }
+}
+
+impl Eq for Exps {
+    ghost use Rattle.std.proofs.Common.{rules};
+    ghost use Rattle.std.specs.Cmp.Rules.{comparing};
+
+    ghost laws = { Prim.search (comparing, rules) };
+}
+
+impl Ord for Exps {
+    ghost use Rattle.std.proofs.Common.{rules};
+    ghost use Rattle.std.specs.Cmp.Rules.{comparing};
+    ghost use Rattle.ln_tree.specs.Exps.{pairs_cmp, same_pairs-ties};
+
+    ghost cmp = { pairs_cmp };
+
+    ghost total = { Prim.search (comparing, rules) };
+
+    ghost matches_partial_cmp = { Prim.search (comparing, rules) };
+
+    ghost matches_eq = { same_pairs-ties };
+
+    fn cmp(&self, other: &Exps) -> Ordering {
+        self.pairs.as_slice().cmp(other.pairs.as_slice())
+    }
+}
+
+impl PartialOrd for Exps {
+    ghost use Rattle.std.proofs.Common.{rules};
+    ghost use Rattle.std.specs.Cmp.{partial_order_from_own_ties};
+    ghost use Rattle.std.specs.Cmp.Rules.{comparing};
+    ghost use Rattle.std.specs.Ordering.{as_partial_cmp};
+    ghost use Rattle.ln_tree.specs.Exps.{pairs_cmp, same_pairs-ties};
+
+    ghost partial_cmp = { as_partial_cmp pairs_cmp };
+
+    ghost laws = { partial_order_from_own_ties (Prim.search (comparing, rules))
+        same_pairs-ties };
+
+    fn partial_cmp(&self, other: &Exps) -> Option<Ordering> {
+        Some(self.cmp(other))
+    }
+}
+
+impl Hash for Exps {
+    ghost use Rattle.std.proofs.Common.{ap, rules};
+    ghost use Rattle.std.specs.Hash as fed;
+    ghost use Rattle.std.specs.Cmp.Rules.{comparing};
+    ghost use Rattle.std.specs.Prelude.{ℕ, ◌++◌};
+    ghost use Rattle.ln_tree.specs.Exps.{same_pairs-is};
+
+    ghost hash_input = { fed.slice (λ p. fed.u8 p.0 ++ fed.u8 p.1) };
+
+    ghost respects_eq = { λ x y h. ap (fed.slice (λ (p : ℕ × ℕ). fed.u8 p.0 ++ fed.u8 p.1)) (same_pairs-is x y h) };
+
+    fn hash<H: Hasher>(&self, state: &mut H) {
+        self.pairs.as_slice().hash(state);
+    }
+}
