@@ -66,7 +66,7 @@ counts bytes s {ts = ts} (input {i = i} n d x) st f =
     record {
       n = 1;
       tokens = join (join (one ts i (Some Input) (name_role true n f q)) (one ts (suc i) None (ap (role_of ts (suc i)) d))) (one ts (suc (suc i)) (Some AfterDot) (coord_role ts (suc i) d x));
-      total = refl
+      total = refl;
     }
 counts bytes s {ts = ts} (parens {i = i} {j = j} n d c) st f =
     let a = counts bytes s d (stops Sum ParR c (omega arith)) (fresh_behind ParL n refl refl) in

@@ -22,7 +22,7 @@ pick false k o p q = q
 no_sign : (b : ℕ) → is_named (sign_of b) ≡ false
 no_sign b =
     pick (b == 123) BraceL _ refl (pick (b == 125) BraceR _ refl (pick (b == 40) ParL _ refl (pick (b == 41) ParR _ refl (pick (b == 58) Colon _ refl (pick (b == 59) Semi _ refl (pick (b == 44) Comma _ refl
-        (pick (b == 46) Dot _ refl (pick (b == 43) Plus _ refl (pick (b == 45) Minus _ refl (pick (b == 42) Star _ refl (pick (b == 94) Caret _ refl (pick (b == 61) Equals None refl refl))))))))))))
+    (pick (b == 46) Dot _ refl (pick (b == 43) Plus _ refl (pick (b == 45) Minus _ refl (pick (b == 42) Star _ refl (pick (b == 94) Caret _ refl (pick (b == 61) Equals None refl refl))))))))))))
 
 no_signs : (b : ℕ) (bs : List ℕ) → is_named (sign_kind b bs) ≡ false
 no_signs b [] = no_sign b
@@ -57,7 +57,7 @@ name_of_kind : (w : List ℕ) → kind_of w ≡ Some Name → is_name w ≡ true
 name_of_kind [] h = absurd (cc)
 name_of_kind (b ∷ bs) h =
     name_by (is_letter b) (every is_name_byte bs) b bs refl refl (cond (is_digit b) (cond (every is_digit bs) (Some Number) None) (sign_kind b bs))
-        (digits_or_sign (is_digit b) (every is_digit bs) (sign_kind b bs) (no_signs b bs)) (ap is_named h)
+    (digits_or_sign (is_digit b) (every is_digit bs) (sign_kind b bs) (no_signs b bs)) (ap is_named h)
 
 -- each token's text has its kind
 abbrev pub Sliced : List ℕ → List Token → Type 0

@@ -91,9 +91,10 @@ fit_by {bytes = bytes} {ts = ts} {s = s} {lo = lo} {hi = hi} w (input {i = i} n 
     let e : suc i ≡ i + 1 = omega arith in
     let q : is_dot (kind_at ts (i + 1)) ≡ true = subst (λ (y : ℕ). is_dot (kind_at ts y) ≡ true) e (ap is_dot d) in
     let c = at_role bytes ts s lo hi (suc (suc i)) (Some AfterDot) w (omega arith) (omega arith) (coord_role ts (suc i) d x) in
-    let g : suc (suc i) - 2 ≡ i = omega arith in
-    (at_role bytes ts s lo hi i (Some Input) w l (omega arith) (name_role true n f q),
-     subst (λ (y : ℕ). list_any (λ k. same bytes k.name (span_at ts (suc (suc i)))) (coords_at bytes s (span_at ts y)) ≡ true) g c)
+    let g : suc (suc i) - 2 ≡ i = omega arith in (
+      at_role bytes ts s lo hi i (Some Input) w l (omega arith) (name_role true n f q),
+      subst (λ (y : ℕ). list_any (λ k. same bytes k.name (span_at ts (suc (suc i)))) (coords_at bytes s (span_at ts y)) ≡ true) g c,
+    )
 fit_by w (parens {j = j} n d c) st f l h b = fit_by w d (stops Sum ParR c (omega arith)) (fresh_behind ParL n refl refl) (omega arith) (omega arith) tt
 fit_by w (plain d) st f l h b = fit_by w d (tighter Atom st (λ x. omega arith)) f l h tt
 fit_by {bytes = bytes} {ts = ts} {s = s} {lo = lo} {hi = hi} w (power {j = j} d c n) st f l h b =
