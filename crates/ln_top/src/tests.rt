@@ -9,26 +9,37 @@ const ORIENT: &str = "site point { x: -1000 .. 1000; y: -1000 .. 1000; }
 predicate orient(p: point, q: point, r: point) { sign (p.x - r.x)*(q.y - r.y) - (p.y - r.y)*(q.x - r.x); }
 ";
 
-const HEAD: &str = "p,p.x,p.y,q,q.x,q.y,r,r.x,r.y";
+const HEAD: &str = "p,p.x,p.y,q,q.x,q.y,r,r.x,r.y\n";
+
+const LEFT: &str = "p,p.x,p.y,q,q.x,q.y,r,r.x,r.y\n1,0,0,2,1,0,3,0,1\n";
+
+const RIGHT: &str = "p,p.x,p.y,q,q.x,q.y,r,r.x,r.y\n2,0,0,1,0,1,3,1,0\n";
+
+const ALONG: &str = "p,p.x,p.y,q,q.x,q.y,r,r.x,r.y\n1,0,0,2,1,1,3,2,2\n";
+
+const MIXED: &str = "p,p.x,p.y,q,q.x,q.y,r,r.x,r.y
+1,0,0,1,1,0,3,0,1
+1,1001,0,2,1,0,3,0,1
+1,1e3,0,2,1,0,3,0,1
+1,0,0,2,1,0,3,0
+1,0,0,2,1,0,3,0,1
+";
+
+const WRITTEN: &str = "p,p.x,p.y,q,q.x,q.y,r,r.x,r.y\r
+\"1\",0,0,2,1,0,3,0,1\r
+-1,0,0,2,1,0,3,0,1\r
+1,99999999999999999999,0,2,1,0,3,0,1\r
+1,-0,007,2,1,0,3,0,1\r
+";
 
 const RUN: &[&str] = &["run", "s.ln", "orient", "r.csv"];
 
-/// The file `s.ln` with these bytes and the file `r.csv` with these lines; the calls in `fails` fail.
-fn shelf(
-    alloc: Global,
-    source: &str,
-    lines: &[&str],
-    end: &str,
-    fails: &[u64],
-) -> Result<MemFiles, NoMemory> {
-    let mut rows = Vec::new(alloc);
-    for line in lines {
-        rows.extend_from_slice(line.as_bytes())?;
-        rows.extend_from_slice(end.as_bytes())?;
-    }
+/// The files `s.ln` and `r.csv` with these bytes; the calls in `fails` fail.
+fn shelf(alloc: Global, source: &str, rows: &str, fails: &[u64]) -> Result<MemFiles, NoMemory> {
     let mut files = Vec::new(alloc);
     let source = Vec::from_slice(alloc, source.as_bytes())?;
     files.push((String::from_str(alloc, "s.ln")?, source))?;
+    let rows = Vec::from_slice(alloc, rows.as_bytes())?;
     files.push((String::from_str(alloc, "r.csv")?, rows))?;
     Ok(MemFiles::new(files, Vec::from_slice(alloc, fails)?))
 }
@@ -52,73 +63,29 @@ fn said(
 #[test]
 fn each_record_has_its_line(rt: HostRuntime) -> Result<(), Fail> {
     let alloc = rt.alloc();
-    let mixed = [
-        HEAD,
-        "1,0,0,1,1,0,3,0,1",
-        "1,1001,0,2,1,0,3,0,1",
-        "1,1e3,0,2,1,0,3,0,1",
-        "1,0,0,2,1,0,3,0",
-        "1,0,0,2,1,0,3,0,1",
-    ];
-    let written = [
-        HEAD,
-        "\"1\",0,0,2,1,0,3,0,1",
-        "-1,0,0,2,1,0,3,0,1",
-        "1,99999999999999999999,0,2,1,0,3,0,1",
-        "1,-0,007,2,1,0,3,0,1",
-    ];
-    let rows: [(&[&str], &str, &str, &str, Status); 8] = [
+    let exchanged = "p,p.x,p.y,q,q.x,q.y,r,r.y,r.x\n1,0,0,2,1,0,3,0,1\n";
+    let mixed_lines = "! index q\n! range p.x\n! number p.x\n! fields\n+ 0\n";
+    let rows = [
+        (LEFT, "+ 0\n", "", Status::Done),
+        (RIGHT, "- 0\n", "", Status::Done),
+        (ALONG, "! degenerate\n", "", Status::Rows),
+        (MIXED, mixed_lines, "", Status::Rows),
         (
-            &[HEAD, "1,0,0,2,1,0,3,0,1"],
-            "\n",
-            "+ 0\n",
-            "",
-            Status::Done,
-        ),
-        (
-            &[HEAD, "2,0,0,1,0,1,3,1,0"],
-            "\n",
-            "- 0\n",
-            "",
-            Status::Done,
-        ),
-        (
-            &[HEAD, "1,0,0,2,1,1,3,2,2"],
-            "\n",
-            "! degenerate\n",
-            "",
-            Status::Rows,
-        ),
-        (
-            &mixed,
-            "\n",
-            "! index q\n! range p.x\n! number p.x\n! fields\n+ 0\n",
-            "",
-            Status::Rows,
-        ),
-        (
-            &written,
-            "\r\n",
+            WRITTEN,
             "+ 0\n! range p\n! range p.x\n- 0\n",
             "",
             Status::Rows,
         ),
-        (&[HEAD], "\n", "", "", Status::Done),
-        (&[], "\n", "", "error header\n", Status::Rows),
-        (
-            &["p,p.x,p.y,q,q.x,q.y,r,r.y,r.x", "1,0,0,2,1,0,3,0,1"],
-            "\n",
-            "",
-            "error header\n",
-            Status::Rows,
-        ),
+        (HEAD, "", "", Status::Done),
+        ("", "", "error header\n", Status::Rows),
+        (exchanged, "", "error header\n", Status::Rows),
     ];
-    for (lines, end, out, err, status) in rows {
-        let mut files = shelf(alloc, ORIENT, lines, end, &[])?;
+    for (lines, out, err, status) in rows {
+        let mut files = shelf(alloc, ORIENT, lines, &[])?;
         let (was, con) = said(alloc, RUN, &mut files, &[])?;
-        assert_eq!(rt; con.bytes(Port::Out), out.as_bytes(), "{out}{err}");
-        assert_eq!(rt; con.bytes(Port::Err), err.as_bytes(), "{out}{err}");
-        assert_eq!(rt; was, status, "{out}{err}");
+        assert_eq!(rt; con.bytes(Port::Out), out.as_bytes(), "{lines}");
+        assert_eq!(rt; con.bytes(Port::Err), err.as_bytes(), "{lines}");
+        assert_eq!(rt; was, status, "{lines}");
     }
     Ok(())
 }
@@ -131,8 +98,7 @@ fn refused_sources_are_told_with_their_place(rt: HostRuntime) -> Result<(), Fail
 predicate big(a: num, b: num, c: num, d: num) { sign a.t*b.t + c.t*d.t; }
 ";
     // Powers are not built yet.
-    let power =
-        "site num { t: -10 .. 10; }\npredicate s(a: num, b: num) { sign a.t^2 - b.t^2; }\n";
+    let power = "site num { t: -10 .. 10; }\npredicate s(a: num, b: num) { sign a.t^2 - b.t^2; }\n";
     let rows = [
         ("site a { x: 0 .. 1; } #", "error lexical 1:23\n"),
         ("site a { }", "error syntax 1:10\n"),
@@ -143,7 +109,7 @@ predicate big(a: num, b: num, c: num, d: num) { sign a.t*b.t + c.t*d.t; }
         (power, "error limit 1:1\n"),
     ];
     for (source, err) in rows {
-        let mut files = shelf(alloc, source, &[HEAD], "\n", &[])?;
+        let mut files = shelf(alloc, source, HEAD, &[])?;
         let (status, con) = said(alloc, RUN, &mut files, &[])?;
         assert_eq!(rt; con.bytes(Port::Err), err.as_bytes(), "{source}");
         assert_eq!(rt; con.bytes(Port::Out), b"".as_slice(), "{source}");
@@ -184,7 +150,7 @@ fn a_command_that_stops_says_why(rt: HostRuntime) -> Result<(), Fail> {
         (RUN, &[], &[1], "", Status::Write),
     ];
     for (words, reads, puts, err, status) in rows {
-        let mut files = shelf(alloc, ORIENT, &[HEAD, "1,0,0,2,1,0,3,0,1"], "\n", reads)?;
+        let mut files = shelf(alloc, ORIENT, LEFT, reads)?;
         let (was, con) = said(alloc, words, &mut files, puts)?;
         assert_eq!(rt; con.bytes(Port::Err), err.as_bytes(), "{err}");
         assert_eq!(rt; con.bytes(Port::Out), b"".as_slice(), "{err}");
@@ -201,7 +167,7 @@ fn a_source_over_its_limit_is_too_long(rt: HostRuntime) -> Result<(), Fail> {
         (1, "error long\n", Status::TooLong),
     ] {
         let spaces = " ".repeat(alloc, SOURCE_LIMIT + more)?;
-        let mut files = shelf(alloc, &spaces, &[HEAD], "\n", &[])?;
+        let mut files = shelf(alloc, &spaces, HEAD, &[])?;
         let (was, con) = said(alloc, RUN, &mut files, &[])?;
         assert_eq!(rt; con.bytes(Port::Err), err.as_bytes(), "{err}");
         assert_eq!(rt; con.bytes(Port::Out), b"".as_slice(), "{err}");
