@@ -10,6 +10,8 @@ mod record;
 mod source;
 pub mod status;
 pub mod stop;
+#[cfg(test)]
+mod tests;
 pub mod top;
 mod value;
 pub mod words;

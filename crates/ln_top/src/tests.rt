@@ -1,0 +1,177 @@
+// What the program says, over files and ports in memory.
+use crate::status::Status;
+use crate::top::{SOURCE_LIMIT, lnc};
+use ln_base::{MemConsole, MemFiles, NoMemory, Port};
+use std::alloc::Global;
+use std::test::Fail;
+
+const ORIENT: &str = "site point { x: -1000 .. 1000; y: -1000 .. 1000; }
+predicate orient(p: point, q: point, r: point) { sign (p.x - r.x)*(q.y - r.y) - (p.y - r.y)*(q.x - r.x); }
+";
+
+const HEAD: &str = "p,p.x,p.y,q,q.x,q.y,r,r.x,r.y\n";
+
+const LEFT: &str = "p,p.x,p.y,q,q.x,q.y,r,r.x,r.y\n1,0,0,2,1,0,3,0,1\n";
+
+const RIGHT: &str = "p,p.x,p.y,q,q.x,q.y,r,r.x,r.y\n2,0,0,1,0,1,3,1,0\n";
+
+const ALONG: &str = "p,p.x,p.y,q,q.x,q.y,r,r.x,r.y\n1,0,0,2,1,1,3,2,2\n";
+
+const MIXED: &str = "p,p.x,p.y,q,q.x,q.y,r,r.x,r.y
+1,0,0,1,1,0,3,0,1
+1,1001,0,2,1,0,3,0,1
+1,1e3,0,2,1,0,3,0,1
+1,0,0,2,1,0,3,0
+1,0,0,2,1,0,3,0,1
+";
+
+const WRITTEN: &str = "p,p.x,p.y,q,q.x,q.y,r,r.x,r.y\r
+\"1\",0,0,2,1,0,3,0,1\r
+-1,0,0,2,1,0,3,0,1\r
+1,99999999999999999999,0,2,1,0,3,0,1\r
+1,-0,007,2,1,0,3,0,1\r
+";
+
+const RUN: &[&str] = &["run", "s.ln", "orient", "r.csv"];
+
+/// The files `s.ln` and `r.csv` with these bytes; the calls in `fails` fail.
+fn shelf(alloc: Global, source: &str, rows: &str, fails: &[u64]) -> Result<MemFiles, NoMemory> {
+    let mut files = Vec::new(alloc);
+    let source = Vec::from_slice(alloc, source.as_bytes())?;
+    files.push((String::from_str(alloc, "s.ln")?, source))?;
+    let rows = Vec::from_slice(alloc, rows.as_bytes())?;
+    files.push((String::from_str(alloc, "r.csv")?, rows))?;
+    Ok(MemFiles::new(files, Vec::from_slice(alloc, fails)?))
+}
+
+/// The status, and the console with what was put, seven bytes at a time; the calls in `fails` fail.
+fn said(
+    alloc: Global,
+    words: &[&str],
+    files: &mut MemFiles,
+    fails: &[u64],
+) -> Result<(Status, MemConsole), NoMemory> {
+    let mut all = Vec::new(alloc);
+    for word in words {
+        all.push(String::from_str(alloc, word)?)?;
+    }
+    let mut con = MemConsole::new(alloc, 4096, 7, Vec::from_slice(alloc, fails)?)?;
+    let status = lnc(alloc, &all, files, &mut con);
+    Ok((status, con))
+}
+
+#[test]
+fn each_record_has_its_line(rt: HostRuntime) -> Result<(), Fail> {
+    let alloc = rt.alloc();
+    let exchanged = "p,p.x,p.y,q,q.x,q.y,r,r.y,r.x\n1,0,0,2,1,0,3,0,1\n";
+    let mixed_lines = "! index q\n! range p.x\n! number p.x\n! fields\n+ 0\n";
+    let rows = [
+        (LEFT, "+ 0\n", "", Status::Done),
+        (RIGHT, "- 0\n", "", Status::Done),
+        (ALONG, "! degenerate\n", "", Status::Rows),
+        (MIXED, mixed_lines, "", Status::Rows),
+        (
+            WRITTEN,
+            "+ 0\n! range p\n! range p.x\n- 0\n",
+            "",
+            Status::Rows,
+        ),
+        (HEAD, "", "", Status::Done),
+        ("", "", "error header\n", Status::Rows),
+        (exchanged, "", "error header\n", Status::Rows),
+    ];
+    for (lines, out, err, status) in rows {
+        let mut files = shelf(alloc, ORIENT, lines, &[])?;
+        let (was, con) = said(alloc, RUN, &mut files, &[])?;
+        assert_eq!(rt; con.bytes(Port::Out), out.as_bytes(), "{lines}");
+        assert_eq!(rt; con.bytes(Port::Err), err.as_bytes(), "{lines}");
+        assert_eq!(rt; was, status, "{lines}");
+    }
+    Ok(())
+}
+
+#[test]
+fn refused_sources_are_told_with_their_place(rt: HostRuntime) -> Result<(), Fail> {
+    let alloc = rt.alloc();
+    let unknown = "site a { x: 0 .. 1; }\npredicate f(p: b) { sign p.x; }";
+    let heavy = "site num { t: -9223372036854775807 .. 9223372036854775807; }
+predicate big(a: num, b: num, c: num, d: num) { sign a.t*b.t + c.t*d.t; }
+";
+    // Powers are not built yet.
+    let power = "site num { t: -10 .. 10; }\npredicate s(a: num, b: num) { sign a.t^2 - b.t^2; }\n";
+    let rows = [
+        ("site a { x: 0 .. 1; } #", "error lexical 1:23\n"),
+        ("site a { }", "error syntax 1:10\n"),
+        ("site a", "error syntax 1:7\n"),
+        (unknown, "error name 2:16\n"),
+        ("param c: 5 .. 4;", "error limit 1:15\n"),
+        (heavy, "error bound 2:62\n"),
+        (power, "error limit 1:1\n"),
+    ];
+    for (source, err) in rows {
+        let mut files = shelf(alloc, source, HEAD, &[])?;
+        let (status, con) = said(alloc, RUN, &mut files, &[])?;
+        assert_eq!(rt; con.bytes(Port::Err), err.as_bytes(), "{source}");
+        assert_eq!(rt; con.bytes(Port::Out), b"".as_slice(), "{source}");
+        assert_eq!(rt; status, Status::Refused, "{source}");
+    }
+    Ok(())
+}
+
+#[test]
+fn a_command_that_stops_says_why(rt: HostRuntime) -> Result<(), Fail> {
+    let alloc = rt.alloc();
+    let rows: [(&[&str], &[u64], &[u64], &str, Status); 8] = [
+        (&[], &[], &[], "error usage\n", Status::Usage),
+        (&["run"], &[], &[], "error usage\n", Status::Usage),
+        (&["check", "f"], &[], &[], "error usage\n", Status::Usage),
+        (
+            &["run", "s.ln", "nosuch", "r.csv"],
+            &[],
+            &[],
+            "error predicate\n",
+            Status::NoPredicate,
+        ),
+        (RUN, &[1], &[], "error read\n", Status::Read),
+        (
+            &["run", "t.ln", "orient", "r.csv"],
+            &[],
+            &[],
+            "error read\n",
+            Status::Read,
+        ),
+        (
+            &["run", "s.ln", "orient", "t.csv"],
+            &[],
+            &[],
+            "error read\n",
+            Status::Read,
+        ),
+        (RUN, &[], &[1], "", Status::Write),
+    ];
+    for (words, reads, puts, err, status) in rows {
+        let mut files = shelf(alloc, ORIENT, LEFT, reads)?;
+        let (was, con) = said(alloc, words, &mut files, puts)?;
+        assert_eq!(rt; con.bytes(Port::Err), err.as_bytes(), "{err}");
+        assert_eq!(rt; con.bytes(Port::Out), b"".as_slice(), "{err}");
+        assert_eq!(rt; was, status, "{err}");
+    }
+    Ok(())
+}
+
+#[test]
+fn a_source_over_its_limit_is_too_long(rt: HostRuntime) -> Result<(), Fail> {
+    let alloc = rt.alloc();
+    for (more, err, status) in [
+        (0, "error predicate\n", Status::NoPredicate),
+        (1, "error long\n", Status::TooLong),
+    ] {
+        let spaces = " ".repeat(alloc, SOURCE_LIMIT + more)?;
+        let mut files = shelf(alloc, &spaces, HEAD, &[])?;
+        let (was, con) = said(alloc, RUN, &mut files, &[])?;
+        assert_eq!(rt; con.bytes(Port::Err), err.as_bytes(), "{err}");
+        assert_eq!(rt; con.bytes(Port::Out), b"".as_slice(), "{err}");
+        assert_eq!(rt; was, status, "{err}");
+    }
+    Ok(())
+}
