@@ -1,15 +1,15 @@
 // Sources to tables.
-ghost use Rattle.std.specs.Prelude.{◌≡◌, ◌≤◌, ◌<◌, ◌^◌, length, IfOk, IfErr};
-ghost use Rattle.ln_lex.specs.Tokens.{Lexed};
+ghost use Rattle.std.specs.Prelude.{◌≡◌, ◌≤◌, ◌<◌, ◌^◌, ℕ, List, All, length, IfOk, IfErr};
+ghost use Rattle.ln_lex.specs.Tokens.{IsSlice, Lexed};
 ghost use Rattle.ln_syntax.specs.Raw.{items};
-ghost use Rattle.ln_tree.specs.Table.{table_of};
+ghost use Rattle.ln_tree.specs.Table.{TableOf, table_of};
+ghost use Rattle.ln_parse.specs.declared.source.ParseStop.{ParseStop as Stop};
 ghost use Rattle.ln_parse.specs.Text.{TextOf};
-ghost use Rattle.ln_parse.specs.Fault.{one_byte, place_of, stop_of, IsFaultless, IsRefusal};
+ghost use Rattle.ln_parse.specs.Fault.{one_byte, place_of, stop_of, TextFault, IsFaultless, IsRefusal};
 
 use crate::build::build;
 use crate::place::span_of;
 use crate::small::is_small;
-use crate::stop::BuildStop;
 use ln_base::{NoMemory, Seq, Span};
 use ln_lex::{LexStop, Token, tokens};
 use ln_names::{Fault, Found, LimitWhat, NameWhat, check_names};
@@ -45,8 +45,7 @@ pub fn parse(alloc: Global, bytes: &[u8]) -> Result<Table, ParseStop>
                 Err(UNBUILT)
             }
         }
-        Err(BuildStop::Form) => Err(UNBUILT),
-        Err(BuildStop::NoMemory) => Err(ParseStop::NoMemory),
+        Err(NoMemory) => Err(ParseStop::NoMemory),
     }
 }
 
@@ -58,6 +57,7 @@ fn scanned(alloc: Global, bytes: &[u8]) -> Result<Seq<Token>, ParseStop>
     requires { length bytes.now ≤ 1048576 }
     ensures lexed { IfOk result (λ ts. Lexed bytes.now ts) }
     ensures few { IfOk result (λ ts. length ts ≤ 65536) }
+    ensures slices { IfOk result (λ ts. All (IsSlice bytes.now) ts) }
     ensures err { IfErr result (λ e. IsRefusal bytes.now e) }
 {
     match tokens(alloc, bytes) {
@@ -124,3 +124,10 @@ fn byte_at(at: u32) -> Span
         end: at + 1,
     }
 }
+
+/// A law: a text has one table or one fault, and not both.
+pub fn one_answer()
+    ensures table { (bytes : List ℕ) (t u : TableOf) → TextOf bytes t → TextOf bytes u → t ≡ u }
+    ensures fault { (bytes : List ℕ) (e f : Stop) → TextFault bytes e → TextFault bytes f → e ≡ f }
+    ensures not_both { (bytes : List ℕ) (t : TableOf) (e : Stop) → TextOf bytes t → TextFault bytes e → ⊥ }
+{}
