@@ -1,20 +1,9 @@
-// Sources to tables.
+// Sources to tables, and tables to their canonical text.
 //
 // `parse` answers the table of a source: its bytes are tokens, the tokens are a file of the grammar, no rule of names
-// and limits has a fault, and the table is what the items say. `print` gives the canonical text of a table.
-#![tactic(auto)]
-
-pub mod build;
-pub mod expression;
-pub mod layout;
-pub mod name;
-pub mod place;
-pub mod predicate;
-pub mod printer;
-pub mod small;
 // and limits has a fault, and the table is what the items say. A refusal is the fault of the first pass that finds
 // one, with its place; until the whole language is built, also a table whose form isn't built yet. By `one_answer` no
-// text has two tables, two faults, or a table and a fault.
+// text has two tables, two faults, or a table and a fault. `print` gives the canonical text of a table.
 //
 // The passes stand below (`tokens`, `nesting_fault`, `syntax_fault`, `read_items`, `check_names`). The table is built
 // last, from the places of the items' tokens, where nothing is left to refuse but want of memory.
@@ -26,6 +15,7 @@ mod layout;
 mod name;
 mod place;
 mod predicate;
+pub mod printer;
 mod small;
 pub mod source;
 #[cfg(test)]
@@ -33,5 +23,4 @@ mod tests;
 
 pub use ln_names::{LimitWhat, NameWhat};
 pub use printer::print;
-pub use source::{ParseStop, parse};
 pub use source::{ParseStop, one_answer, parse};
