@@ -1,6 +1,6 @@
 // The order of exponents, and the variables of sites by rising infinitesimal.
 ghost use Rattle.std.specs.Ordering.{nat_cmp};
-ghost use Rattle.std.specs.Prelude.{◌≡◌, ◌↔◌, ◌<◌, ◌≤◌, ◌+◌, ◌++◌, length, IsTrue, IfOk, OnOk};
+ghost use Rattle.std.specs.Prelude.{neg_ℤ, pos, Some, ◌≡◌, ◌↔◌, ◌<◌, ◌≤◌, ◌+◌, ◌++◌, length, IsTrue, IfOk, OnOk};
 ghost use Rattle.ln_algebra.specs.Earlier.{Earlier};
 ghost use Rattle.ln_algebra.specs.Walk.{IsRanking};
 ghost use Rattle.ln_tree.specs.Exps.{IsRising, exponent, vector};
@@ -90,7 +90,8 @@ fn put_vars(out: &mut Vec<u8>, vars: &[VarInfo], site: u8) -> Result<(), NoMemor
 /// All variables of sites, by rising infinitesimal in this order of the sites.
 pub fn ranking(alloc: Global, o: &Order, s: &Shape) -> Result<Seq<u8>, NoMemory>
     requires { length (order_places o.now) ≡ s.now.sites }
-    ensures { IfOk result (λ vs. IsRanking (length s.now.vars) (sites_of s.now.vars (order_places o.now)) vs) }
+    ensures ranked { IfOk result (λ vs. IsRanking (length s.now.vars) (sites_of s.now.vars (order_places o.now)) vs) }
+    ensures value { IfOk result (λ vs. vs ≡ ranking_of s.now.vars (order_places o.now)) }
 {
     let vars = s.vars.as_slice();
     let places = o.places();
@@ -111,8 +112,6 @@ pub fn orders_are_those_of_rows()
 
 #[cfg(test)]
 mod tests {
-    ghost use Rattle.std.specs.Prelude.{[], ◌∷◌, neg_ℤ, pos, Some};
-
     use super::*;
     use crate::rank::order_of;
     use ln_tree::Name;
