@@ -6,3 +6,4 @@ pub mod Leans
 pub mod Vectors
 pub mod Steps
 pub mod Whole
+pub mod Doubled

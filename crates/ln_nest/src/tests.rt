@@ -9,7 +9,7 @@ use ln_tree::{Name, Shape, VarInfo};
 use std::alloc::Global;
 use std::test::Fail;
 
-// A number from -10 to 10 for each of two sites.
+// A number from -10 to 10.
 fn number_of(site: u8) -> VarInfo
     ensures { result ≡ record { arg = site; site = Some site; coord = 0; lo = neg_ℤ (pos 10); hi = pos 10 } }
 {
@@ -22,7 +22,10 @@ fn number_of(site: u8) -> VarInfo
     }
 }
 
-fn two_numbers(alloc: Global) -> Result<Shape, NoMemory> {
+// Two sites with a number each.
+fn two_numbers(alloc: Global) -> Result<Shape, NoMemory>
+    ensures { IfOk result (λ s. s.vars ≡ record { arg = 0; site = Some 0; coord = 0; lo = neg_ℤ (pos 10); hi = pos 10 } ∷ record { arg = 1; site = Some 1; coord = 0; lo = neg_ℤ (pos 10); hi = pos 10 } ∷ []) }
+{
     let mut vars = Seq::new(alloc);
     vars.push(number_of(0))?;
     vars.push(number_of(1))?;
