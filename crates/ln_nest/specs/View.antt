@@ -1,0 +1,32 @@
+-- The working terms of the code, seen as terms, and what is kept on the way.
+use Rattle.std.specs.Prelude.{◌≡◌, ℕ, ◌+◌, ◌≤◌, max, List, [], ◌∷◌, unsigned_abs, map}
+use Rattle.ln_algebra.specs.Terms.{Term}
+use Rattle.ln_algebra.specs.Tree.{Tree}
+use Rattle.ln_tree.specs.declared.shape.VarInfo.{VarInfo}
+use Rattle.ln_bound.specs.Exact.{IsExact}
+use Rattle.ln_bound.specs.Sound.{SoundNodes}
+use Rattle.ln_bound.specs.Typed.{Typed, bound, untyped}
+use Rattle.ln_bound.specs.Value.{sizes}
+use Rattle.ln_nest.specs.declared.work.Work.{Work}
+
+abbrev pub term_in : Work → Term
+term_in w = record { exponents = w.exponents.items; factor = w.factor }
+
+abbrev pub terms_in : List Work → List Term
+terms_in ws = map term_in ws
+
+-- M of variable v, and 1 past the last variable
+abbrev pub scale : List VarInfo → ℕ → ℕ
+scale vars v = max 1 (sizes vars v)
+
+-- the sum of the absolute factors
+abbrev pub abs_total : List Term → ℕ
+abs_total [] = 0
+abs_total (t ∷ f) = unsigned_abs t.factor + abs_total f
+
+-- the typed tree is this tree, sound and with exact bounds, and its bound is at most b
+pub record Has (vars : List VarInfo) (t : Typed) (e : Tree) (b : ℕ) : Type 0 where
+  pub same : untyped t ≡ e
+  pub exact : IsExact vars [] t
+  pub sound : SoundNodes vars [] t
+  pub small : bound t ≤ b
