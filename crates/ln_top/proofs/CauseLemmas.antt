@@ -23,7 +23,7 @@ use Rattle.ln_top.specs.Stop.{stop_text, stop_status}
 use Rattle.ln_top.specs.Words.{Command, command_of}
 use Rattle.ln_top.specs.Said.{Said, put_both, OfWork, IsSettled, WorkSaid, wrong_header, ran}
 use Rattle.ln_top.specs.Answer.{most_rows, HasPredicate, Answer, usage, long_source, refused, no_predicate, long_rows, worked, Owed, IsMissing, SaysStop}
-use Rattle.ln_top.specs.Causes.{HasNoSign, no_row, degenerate, HasSign, HasRecords, IsValid, IsRefused, LacksPredicate, RefusesRows, header, record_, HasRefusedRows, IsTooLong, source, rows, ExactlyWhere, WhereTold, Yields, SaysLine}
+use Rattle.ln_top.specs.Causes.{HasNoSign, no_row, degenerate, HasSign, HasRecords, IsValid, IsRefused, LacksPredicate, RefusesRows, header, record_, HasRefusedRows, IsTooLong, source, rows, IsInvalid, ExactlyWhere, WhereTold, Yields, SaysLine}
 use Rattle.ln_top.proofs.WorkLemmas.{error_alone}
 use Rattle.ln_top.proofs.OneAnswer.{one_answer, none_missing}
 
@@ -112,7 +112,7 @@ CauseOf words shelf Usage = command_of words ≡ None
 CauseOf words shelf Rows = HasRefusedRows words shelf
 CauseOf words shelf NoPredicate = LacksPredicate words shelf
 CauseOf words shelf TooLong = IsTooLong words shelf
-CauseOf words shelf Invalid = ⊥
+CauseOf words shelf Invalid = IsInvalid words shelf
 CauseOf words shelf Read = ⊥
 CauseOf words shelf Write = ⊥
 CauseOf words shelf Memory = ⊥

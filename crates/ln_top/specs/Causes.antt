@@ -83,6 +83,10 @@ pub data IsTooLong (words : List (List ℕ)) (shelf : Shelf) : Type 0 where
   source : (c : Command) (bytes : List ℕ) → HasSource words shelf c bytes → most_source < length bytes → IsTooLong words shelf
   rows : (c : Command) (t : Table) (p : Pred) (bytes : List ℕ) → HasPredicate words shelf c t p → bytes_of c.rows shelf ≡ Some bytes → most_rows < length bytes → IsTooLong words shelf
 
+-- invalid: no command judges a listing yet
+abbrev pub IsInvalid : List (List ℕ) → Shelf → Type 0
+IsInvalid words shelf = ⊥
+
 -- memory ran out, or a count of faults of reading or of writing rose
 abbrev pub Yields : Status → Type 0 → Type 0 → Type 0
 Yields result reads puts = (result ≡ status.Memory) ⊎ ((result ≡ status.Read) × reads) ⊎ ((result ≡ status.Write) × puts)

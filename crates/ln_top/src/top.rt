@@ -4,7 +4,7 @@ ghost use Rattle.ln_base.specs.Outside.{Rose, IsAbsent, bytes_of};
 ghost use Rattle.ln_top.specs.Source.{AllLight, IsAccepted, StopsSource};
 ghost use Rattle.ln_top.specs.Said.{IsSettled, SaysError};
 ghost use Rattle.ln_top.specs.Answer.{most_source, most_rows, FileStop, OfFiles, SourceStops, IsSourceOf, IsMissing, Owed, SaysStop};
-ghost use Rattle.ln_top.specs.Causes.{IsValid, IsRefused, HasRefusedRows, LacksPredicate, IsTooLong, ExactlyWhere, WhereTold, Yields, SaysLine};
+ghost use Rattle.ln_top.specs.Causes.{IsValid, IsRefused, HasRefusedRows, LacksPredicate, IsTooLong, IsInvalid, ExactlyWhere, WhereTold, Yields, SaysLine};
 ghost use Rattle.ln_top.specs.Words.{command_of};
 
 use crate::source::{accepted, find};
@@ -131,6 +131,7 @@ pub fn lnc<F: Files, C: Console>(
     ensures usage { ExactlyWhere Status.Usage (command_of (map string_bytes words.now) ≡ None) result (Rose (F.faults files.old) (F.faults files.new)) (Rose (C.faults con.old) (C.faults con.new)) }
     ensures rows { WhereTold Status.Rows (F.told files.old) (HasRefusedRows (map string_bytes words.now)) result (Rose (F.faults files.old) (F.faults files.new)) (Rose (C.faults con.old) (C.faults con.new)) }
     ensures no_predicate { WhereTold Status.NoPredicate (F.told files.old) (LacksPredicate (map string_bytes words.now)) result (Rose (F.faults files.old) (F.faults files.new)) (Rose (C.faults con.old) (C.faults con.new)) }
+    ensures invalid { WhereTold Status.Invalid (F.told files.old) (IsInvalid (map string_bytes words.now)) result (Rose (F.faults files.old) (F.faults files.new)) (Rose (C.faults con.old) (C.faults con.new)) }
     ensures too_long { WhereTold Status.TooLong (F.told files.old) (IsTooLong (map string_bytes words.now)) result (Rose (F.faults files.old) (F.faults files.new)) (Rose (C.faults con.old) (C.faults con.new)) }
     ensures read { result ≡ Status.Read → Rose (F.faults files.old) (F.faults files.new) ⊎ IsMissing (map string_bytes words.now) (F.told files.old) }
     ensures write { result ≡ Status.Write → Rose (C.faults con.old) (C.faults con.new) }

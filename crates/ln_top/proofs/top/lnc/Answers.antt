@@ -1,4 +1,4 @@
-use Rattle.ln_top.specs.declared.status.Status.TheVariants.{Done, Refused, Rows, NoPredicate, TooLong}
+use Rattle.ln_top.specs.declared.status.Status.TheVariants.{Done, Refused, Rows, NoPredicate, Invalid, TooLong}
 use Rattle.ln_top.proofs.CauseLemmas.{exactly_where, is_complete}
 use Rattle.ln_top.proofs.top.lnc.Goals as goal
 
@@ -16,6 +16,9 @@ returns-clause-no_predicate g c = exactly_where (g.F.Files.told c.args.files.now
 
 pub returns-clause-too_long : goal.returns-clause-too_long
 returns-clause-too_long g c = exactly_where (g.F.Files.told c.args.files.now) _ TooLong _ _ _ _ _ tt c.carry_out.ensures.exact c.carry_out.ensures.read c.carry_out.ensures.write
+
+pub returns-clause-invalid : goal.returns-clause-invalid
+returns-clause-invalid g c = exactly_where (g.F.Files.told c.args.files.now) _ Invalid _ _ _ _ _ tt c.carry_out.ensures.exact c.carry_out.ensures.read c.carry_out.ensures.write
 
 pub returns-clause-complete : goal.returns-clause-complete
 returns-clause-complete g c = is_complete (g.F.Files.told c.args.files.now) _ _ _ _ (exactly_where (g.F.Files.told c.args.files.now) _ Done _ _ _ _ _ tt c.carry_out.ensures.exact c.carry_out.ensures.read c.carry_out.ensures.write)
