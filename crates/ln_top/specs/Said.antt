@@ -69,6 +69,19 @@ StopsWork Invalid before after = ⊥
 StopsWork Read before after = ⊥
 StopsWork TooLong before after = ⊥
 
+-- a status that the work on rows ends with
+abbrev pub OfWork : Status → Type 0
+OfWork Done = Unit {0}
+OfWork Rows = Unit {0}
+OfWork Write = Unit {0}
+OfWork Memory = Unit {0}
+OfWork Refused = ⊥
+OfWork Usage = ⊥
+OfWork NoPredicate = ⊥
+OfWork Invalid = ⊥
+OfWork Read = ⊥
+OfWork TooLong = ⊥
+
 -- the first record was taken: it is the columns' names, or the header is wrong
 abbrev pub HeaderIs : List (List ℕ) → Records → Records → Bool → Type 0
 HeaderIs names old new true = old ≡ names ∷ new

@@ -5,6 +5,7 @@
 // header a line for each record, which is the sign of the predicate's plain value on that record's row, or why there is none.
 #![tactic(auto)]
 
+pub mod laws;
 mod plain;
 mod record;
 mod source;
@@ -17,5 +18,6 @@ mod value;
 pub mod words;
 mod work;
 
+pub use laws::one_answer;
 pub use status::Status;
 pub use top::lnc;
