@@ -6,6 +6,7 @@
 
 pub mod arithmetic;
 pub mod derivatives;
+pub mod expansion;
 pub mod gather;
 pub mod leaf;
 pub mod poly;
@@ -14,6 +15,7 @@ pub mod weights;
 
 pub use arithmetic::{add, mul};
 pub use derivatives::derive;
+pub use expansion::PolyStop;
 pub use leaf::{number, power};
 pub use poly::Poly;
 pub use weights::weight;
