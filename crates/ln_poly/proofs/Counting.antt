@@ -12,7 +12,8 @@ use Rattle.ln_algebra.specs.Tree.{Tree}
 use Rattle.ln_algebra.specs.Vector.{In, same_vector}
 use Rattle.ln_tree.specs.Exps.{Pairs}
 use Rattle.ln_poly.specs.Sparse.{AreBelow, IsFactor, IsPoly, Sparse, terms_of}
-use Rattle.ln_poly.specs.Expansion.{AreDistinct, HasTooManyTerms, HaveFewTerms, IsNormal, IsTermsFault}
+use Rattle.ln_poly.specs.Expansion.{AreDistinct, HasTooManyTerms, IsNormal, IsTermsFault}
+use Rattle.ln_poly.specs.Ready.{Expands}
 use Rattle.ln_poly.proofs.Collected.{collected}
 
 -- the exponents of the terms
@@ -125,8 +126,8 @@ many-terms n e f p l = record {
 }
 
 -- the answers of the count
-pub counted-few : (n : ℕ) (at : Span) (e : Tree) (f : Sparse) → length f ≤ 1024 → IsNormal n e f → HaveFewTerms n ((at, e) ∷ [])
-counted-few n at e f l p = (few-terms n e f p l, tt)
+pub counted-few : (n : ℕ) (at : Span) (e : Tree) (f : Sparse) → length f ≤ 1024 → IsNormal n e f → Expands n ((at, e) ∷ []) e f
+counted-few n at e f l p = record { normal = p; few = (few-terms n e f p l, tt) }
 
 pub counted-many : (n : ℕ) (at : Span) (e : Tree) (f : Sparse) → 1024 < length f → IsNormal n e f → IsTermsFault n ((at, e) ∷ []) at
 counted-many n at e f l p = record { before = []; node = e; after = []; stands = refl; few = tt; many = many-terms n e f p l }

@@ -50,28 +50,30 @@ module _ (n : ℕ) where
   unfolding coefficient_at
   coefficients-of e f p m h = p.normal.coefficients m h
 
+  none-coefficient : (m : List ℕ) → coefficient_at n [] m ≡ factor_at (record { exponents = zeros n; factor = pos 0 } ∷ []) m
+  unfolding coefficient_at
+  none-coefficient m = by_case (same_vector (zeros n) m) where
+    by_case : (b : Bool) → pos 0 ≡ (if b then pos 0 else pos 0) +ℤ pos 0
+    by_case true = refl
+    by_case false = refl
+
+  some-coefficient : (ps : Pairs) (v : List ℕ) (c : ℤ) (m : List ℕ) → vector n ps ≡ v → coefficient_at n ((ps, c) ∷ []) m ≡ factor_at (record { exponents = v; factor = c } ∷ []) m
+  unfolding coefficient_at
+  some-coefficient ps v c m h = ap (λ u. factor_at (record { exponents = u; factor = c } ∷ []) m) h
+
+  one-below : (ps : Pairs) (c : ℤ) → IsAbove ps n → AreBelow n ((ps, c) ∷ [])
+  one-below ps c a = All-cons (λ t. IsAbove t.0 n) (ps, c) [] a (All-nil (λ t. IsAbove t.0 n))
+
   -- a number
   pub number-none : IsNormal n (Num (pos 0)) []
-  number-none = normal-of (Num (pos 0)) [] no-terms (All-nil (λ t. IsAbove t.0 n)) (λ m h. none m h ∙ sym (normal_is n (Num (pos 0)) tt m h)) where
-    none : (m : List ℕ) → length m ≡ n → coefficient_at n [] m ≡ factor_at (record { exponents = zeros n; factor = pos 0 } ∷ []) m
-    unfolding coefficient_at
-    none m h = by_case (same_vector (zeros n) m) where
-      by_case : (b : Bool) → pos 0 ≡ (if b then pos 0 else pos 0) +ℤ pos 0
-      by_case true = refl
-      by_case false = refl
+  number-none = normal-of (Num (pos 0)) [] no-terms (All-nil (λ t. IsAbove t.0 n)) (λ m h. none-coefficient m ∙ sym (normal_is n (Num (pos 0)) tt m h))
 
   pub number-some : (c : ℤ) → IsPoly (([], c) ∷ []) → IsNormal n (Num c) (([], c) ∷ [])
-  number-some c p = normal-of (Num c) (([], c) ∷ []) p (All-cons (λ t. IsAbove t.0 n) ([], c) [] tt (All-nil (λ t. IsAbove t.0 n))) (λ m h. some m ∙ sym (normal_is n (Num c) tt m h)) where
-    some : (m : List ℕ) → coefficient_at n (([], c) ∷ []) m ≡ factor_at (record { exponents = zeros n; factor = c } ∷ []) m
-    unfolding coefficient_at
-    some m = ap (λ v. factor_at (record { exponents = v; factor = c } ∷ []) m) (vector-none 0 n)
+  number-some c p = normal-of (Num c) (([], c) ∷ []) p (one-below [] c tt) (λ m h. some-coefficient [] (zeros n) c m (vector-none 0 n) ∙ sym (normal_is n (Num c) tt m h))
 
   -- a variable
   pub input-normal : (v : ℕ) → v < n → IsPoly (((v, 1) ∷ [], pos 1) ∷ []) → IsNormal n (Input v) (((v, 1) ∷ [], pos 1) ∷ [])
-  input-normal v l p = normal-of (Input v) (((v, 1) ∷ [], pos 1) ∷ []) p (All-cons (λ t. IsAbove t.0 n) ((v, 1) ∷ [], pos 1) [] (l, tt) (All-nil (λ t. IsAbove t.0 n))) (λ m h. some m ∙ sym (normal_is n (Input v) l m h)) where
-    some : (m : List ℕ) → coefficient_at n (((v, 1) ∷ [], pos 1) ∷ []) m ≡ factor_at (record { exponents = unit_vector n v; factor = pos 1 } ∷ []) m
-    unfolding coefficient_at
-    some m = ap (λ u. factor_at (record { exponents = u; factor = pos 1 } ∷ []) m) (vector-unit 0 n v v (omega arith))
+  input-normal v l p = normal-of (Input v) (((v, 1) ∷ [], pos 1) ∷ []) p (one-below ((v, 1) ∷ []) (pos 1) (l, tt)) (λ m h. some-coefficient ((v, 1) ∷ []) (unit_vector n v) (pos 1) m (vector-unit 0 n v v (omega arith)) ∙ sym (normal_is n (Input v) l m h))
 
   -- ---- operations
   pub neg-normal : (e : Tree) (f z h : Sparse) → IsNormal n e f → IsNormal n (Num (pos 0)) z → IsPoly h → AreBelow n h → ((m : List ℕ) → coefficient_at n h m ≡ coefficient_at n z m -ℤ coefficient_at n f m) → IsNormal n (Neg e) h

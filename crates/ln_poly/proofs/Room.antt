@@ -62,7 +62,7 @@ exponent-weight n w v [] t a = omega (arith, pow-zero 2)
 exponent-weight n w v (p ∷ ps) t a = by_case (eqb p.0 v) (exponent-weight n w v ps t a.1) where
   by_case : (b : Bool) → 2 ^ exponent v ps ≤ pairs_weight w ps → 2 ^ ((if b then p.1 else 0) + exponent v ps) ≤ w p.0 ^ p.1 * pairs_weight w ps
   by_case true ih = rw pow-add (mul-le _ _ _ _ (power_le 2 (w p.0) p.1 (t p.0 a.0)) ih)
-  by_case false ih = omega (arith, ih, times-le-left (pairs_weight w ps) (w p.0 ^ p.1) (pow-some (w p.0) p.1 (omega (arith, t p.0 a.0))))
+  by_case false ih = let z : 0 + exponent v ps ≡ exponent v ps = omega arith in rw z (omega (arith, ih, times-le-left (pairs_weight w ps) (w p.0 ^ p.1) (pow-some (w p.0) p.1 (omega (arith, t p.0 a.0)))))
 
 -- ---- weights of polynomials
 total-cons : (w : ℕ → ℕ) (t : Pairs × ℤ) (f : Sparse) → total_weight w (t ∷ f) ≡ term_weight w t + total_weight w f

@@ -38,8 +38,7 @@ impl From<NoMemory> for PolyStop {
 
 // The polynomial of the node at this place, where it hasn't too many terms.
 fn counted(at: Span, f: Poly) -> Result<Poly, PolyStop>
-    ensures ok { IfOk result (λ h. h ≡ f) }
-    ensures few { OnOk result ((n : ℕ) (e : Tree) → IsNormal n e f → HaveFewTerms n ((at, e) ∷ [])) }
+    ensures ok { IfOk result (λ h. (n : ℕ) (e : Tree) → IsNormal n e f → Expands n ((at, e) ∷ []) e h) }
     ensures err { IfErr result (λ s. (n : ℕ) (e : Tree) → IsNormal n e f → StopsExpanding n ((at, e) ∷ []) s) }
 {
     if f.terms().len() > 1024 {
