@@ -1,5 +1,5 @@
 -- Polynomials of nodes from those of their operands.
-use Rattle.std.proofs.Common.{◌≡◌, ℕ, ◌+◌, ◌<◌, ◌≤◌, zero, suc, refl, sym, ◌∙◌, ap, arith, subst, List, [], ◌∷◌, length, get_or, map, eqb, eq-eqb, false, true, All, Bool, if◌then◌else◌, ◌++◌}
+use Rattle.std.proofs.Common.{◌≡◌, ℕ, ◌+◌, ◌<◌, ◌≤◌, zero, suc, refl, sym, ◌∙◌, ap, arith, subst, List, [], ◌∷◌, length, get_or, map, eqb, eq-eqb, false, true, All, Bool, if◌then◌else◌, ◌++◌, ◌≢◌, ◌^◌, unsigned_abs, ◌⊎◌, inl, inr}
 use Rattle.std.specs.Prelude.{slice_index_or}
 use Rattle.std.proofs.Math.IntN.{ℤ, pos, ◌+ℤ◌, ◌-ℤ◌, ◌*ℤ◌, neg_ℤ}
 use Rattle.std.proofs.lemmas.Bool.Decides.{nat_tests}
@@ -7,7 +7,7 @@ use Rattle.std.proofs.lemmas.Int.{ints}
 use Rattle.std.proofs.lemmas.List.Elements.{All-cons, All-nil}
 use Rattle.ln_base.specs.declared.span.Span.{Span}
 use Rattle.ln_algebra.proofs.Expansion.{zeros, unit_vector}
-use Rattle.ln_algebra.proofs.Normal.{normal_is}
+use Rattle.ln_algebra.proofs.Normal.{normal_is, zero_cases}
 use Rattle.ln_algebra.proofs.Shift.{product-same, product_is}
 use Rattle.ln_algebra.specs.Coefficient.{normal_coefficient, product}
 use Rattle.ln_algebra.specs.Stage.{IsMonomial}
@@ -127,3 +127,15 @@ module _ (n : ℕ) where
   lets-more [] (g ∷ fs) e f a p = absurd a
   lets-more (d ∷ es) [] e f a p = absurd a
   lets-more (d ∷ es) (g ∷ fs) e f a p = (a.0, lets-more es fs e f a.1 p)
+
+  pub number-normal : (c : ℤ) (f : Sparse) → unsigned_abs c < 2 ^ 127 → (c ≡ pos 0 → f ≡ []) → (c ≢ pos 0 → f ≡ ([], c) ∷ []) → IsNormal n (Num c) f
+  number-normal c f l h k = by_case (zero_cases c) where
+    by_case : (c ≡ pos 0) ⊎ (c ≡ pos 0 → ⊥) → IsNormal n (Num c) f
+    by_case (inl e) = subst (λ z. IsNormal n (Num z) f) (sym e) (subst (IsNormal n (Num (pos 0))) (sym (h e)) number-none)
+    by_case (inr d) = subst (IsNormal n (Num c)) (sym (k d)) (number-some c (one-term [] c tt d l))
+
+  pub input-at : (v : ℕ) (f : Sparse) → v < n → f ≡ ((v, 1) ∷ [], pos 1) ∷ [] → IsNormal n (Input v) f
+  input-at v f l h = subst (IsNormal n (Input v)) (sym h) (input-normal v l (one-term ((v, 1) ∷ []) (pos 1) (omega arith, omega arith, tt, tt) (λ e. cc) (omega arith)))
+
+  pub let-at : (es : List Tree) (fs : List Sparse) (j : ℕ) (d f : Sparse) → AreNormal n es fs → j < length fs → f ≡ get_or fs j d → IsNormal n (slice_index_or es j (Num (pos 0))) f
+  let-at es fs j d f a l h = subst (IsNormal n (slice_index_or es j (Num (pos 0)))) (sym h) (let-normal es fs j d a l)

@@ -1,7 +1,8 @@
 // Normal polynomials of predicates.
-ghost use Rattle.std.specs.Prelude.{◌≡◌, ℕ, ◌+◌, ◌*◌, ◌<◌, ◌≤◌, ◌^◌, ◌++◌, [], ◌∷◌, true, All, IfOk, IfErr, OnOk, length, map};
-ghost use Rattle.ln_algebra.specs.Tree.{Tree, Neg, Add, Sub, Mul, Pow, inlined};
+ghost use Rattle.std.specs.Prelude.{◌≡◌, ℕ, ◌+◌, ◌*◌, ◌<◌, ◌≤◌, ◌^◌, ◌++◌, [], ◌∷◌, true, pos, unsigned_abs, All, List, IfOk, IfErr, OnOk, length, map, slice_index_or};
+ghost use Rattle.ln_algebra.specs.Tree.{Tree, Num, Input, Neg, Add, Sub, Mul, Pow};
 ghost use Rattle.ln_algebra.specs.Weights.{weighted_sum};
+ghost use Rattle.ln_tree.specs.Variables.{number_or_end};
 ghost use Rattle.ln_tree.specs.Fits.{is_fit, lets_fit};
 ghost use Rattle.ln_tree.specs.Formula.{formula, tree, tree_of};
 ghost use Rattle.ln_bound.specs.Value.{weights};
@@ -15,7 +16,10 @@ ghost use Rattle.ln_poly.specs.Stop.{StopsExpanding};
 use crate::arithmetic::{add, mul, sub};
 use crate::leaf::{number, power};
 use crate::poly::Poly;
-use ln_base::{NoMemory, Span};
+use ln_base::{NoMemory, Seq, Span};
+use ln_bound::Weights;
+use ln_tree::layout::number_in;
+use ln_tree::{Expr, Node, Pred, Var, VarInfo};
 use std::alloc::Global;
 
 /// Why a predicate has no normal polynomial.
@@ -45,6 +49,37 @@ fn counted(at: Span, f: Poly) -> Result<Poly, PolyStop>
         return Err(PolyStop::Terms(at));
     }
     Ok(f)
+}
+
+// The polynomial of a number.
+fn literal(alloc: Global, at: Span, c: i128) -> Result<Poly, PolyStop>
+    requires { unsigned_abs c < 2 ^ 127 }
+    ensures ok { IfOk result (λ h. (n : ℕ) → Expands n ((at, Num c) ∷ []) (Num c) h) }
+    ensures err { IfErr result (λ s. (n : ℕ) → StopsExpanding n ((at, Num c) ∷ []) s) }
+{
+    let f = number(alloc, c)?;
+    counted(at, f)
+}
+
+// The polynomial of a variable.
+fn variable(alloc: Global, at: Span, vars: &[VarInfo], v: Var) -> Result<Poly, PolyStop>
+    requires few { length vars.now ≤ 168 }
+    requires within { number_or_end vars.now v.arg v.coord < length vars.now }
+    ensures ok { IfOk result (λ h. Expands (length vars.now) ((at, Input (number_or_end vars.now v.arg v.coord)) ∷ []) (Input (number_or_end vars.now v.arg v.coord)) h) }
+    ensures err { IfErr result (λ s. StopsExpanding (length vars.now) ((at, Input (number_or_end vars.now v.arg v.coord)) ∷ []) s) }
+{
+    let f = power(alloc, number_in(vars, v) as u8, 1, 1)?;
+    counted(at, f)
+}
+
+// The polynomial of a let.
+fn let_named(alloc: Global, at: Span, polys: &[Poly], j: u8) -> Result<Poly, PolyStop>
+    requires { j < length polys.now }
+    ensures ok { IfOk result (λ h. (n : ℕ) (es : List Tree) → AreNormal n es polys.now → Expands n ((at, slice_index_or es j (Num (pos 0))) ∷ []) (slice_index_or es j (Num (pos 0))) h) }
+    ensures err { IfErr result (λ s. (n : ℕ) (es : List Tree) → AreNormal n es polys.now → StopsExpanding n ((at, slice_index_or es j (Num (pos 0))) ∷ []) s) }
+{
+    let f = polys[usize::from(j)].copy(alloc)?;
+    counted(at, f)
 }
 
 // The sum of two polynomials, at the place of its node.
@@ -100,4 +135,49 @@ fn raised(alloc: Global, at: Span, f: &Poly, k: u8) -> Result<Poly, PolyStop>
         p = product(alloc, at, &p, f)?;
     }
     Ok(p)
+}
+
+// The polynomial of an expression behind lets of these polynomials.
+fn expand(
+    alloc: Global,
+    e: &Expr,
+    vars: &[VarInfo],
+    lets: &[Expr],
+    polys: &[Poly],
+) -> Result<Poly, PolyStop>
+    requires few { length vars.now ≤ 168 }
+    requires fit { is_fit (length vars.now) (length polys.now) (tree_of vars.now e.now) ≡ true }
+    requires light { AreLight (length vars.now) (weights vars.now) (closed_lets vars.now (map formula lets.now)) (tree_of vars.now e.now) }
+    requires polys { AreNormal (length vars.now) (closed_lets vars.now (map formula lets.now)) polys.now }
+    ensures ok { IfOk result (λ f. Expands (length vars.now) (expanded vars.now (closed_lets vars.now (map formula lets.now)) (formula e.now)) (closed_root vars.now (map formula lets.now) (formula e.now)) f) }
+    ensures err { IfErr result (λ s. StopsExpanding (length vars.now) (expanded vars.now (closed_lets vars.now (map formula lets.now)) (formula e.now)) s) }
+{
+    match &e.node {
+        Node::Num(c) => literal(alloc, e.at, *c),
+        Node::Input(v) => variable(alloc, e.at, vars, *v),
+        Node::Name(j) => let_named(alloc, e.at, polys, *j),
+        Node::Neg(x) => {
+            let f = expand(alloc, x, vars, lets, polys)?;
+            negation(alloc, e.at, &f)
+        }
+        Node::Add(x, y) => {
+            let f = expand(alloc, x, vars, lets, polys)?;
+            let g = expand(alloc, y, vars, lets, polys)?;
+            sum(alloc, e.at, &f, &g)
+        }
+        Node::Sub(x, y) => {
+            let f = expand(alloc, x, vars, lets, polys)?;
+            let g = expand(alloc, y, vars, lets, polys)?;
+            difference(alloc, e.at, &f, &g)
+        }
+        Node::Mul(x, y) => {
+            let f = expand(alloc, x, vars, lets, polys)?;
+            let g = expand(alloc, y, vars, lets, polys)?;
+            product(alloc, e.at, &f, &g)
+        }
+        Node::Pow(x, n) => {
+            let f = expand(alloc, x, vars, lets, polys)?;
+            raised(alloc, e.at, &f, *n)
+        }
+    }
 }
