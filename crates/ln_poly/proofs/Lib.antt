@@ -13,3 +13,4 @@ pub mod Negating
 pub mod Room
 pub mod Normals
 pub mod Expanding
+pub mod Nodes
