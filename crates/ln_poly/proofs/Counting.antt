@@ -4,15 +4,17 @@ use Rattle.std.proofs.Math.IntN.{ℤ, pos, ◌+ℤ◌}
 use Rattle.std.proofs.lemmas.Int.{ints}
 use Rattle.std.proofs.lemmas.List.Elements.{All-head, All-tail}
 use Rattle.ln_base.specs.declared.span.Span.{Span}
+use Rattle.std.proofs.lemmas.Bool.{cases_lt}
+use Rattle.ln_algebra.proofs.Degree.{coefficient-above}
 use Rattle.ln_algebra.proofs.Normal.{same_vector-is, same_vector-refl}
 use Rattle.ln_algebra.specs.Coefficient.{normal_coefficient}
 use Rattle.ln_algebra.specs.Stage.{IsMonomial}
 use Rattle.ln_algebra.specs.Terms.{IsCollected, IsNormalOf, Lacks, Over, Term, factor_at}
-use Rattle.ln_algebra.specs.Tree.{Tree}
-use Rattle.ln_algebra.specs.Vector.{In, same_vector}
-use Rattle.ln_tree.specs.Exps.{Pairs}
+use Rattle.ln_algebra.specs.Tree.{Tree, degree_of}
+use Rattle.ln_algebra.specs.Vector.{In, same_vector, total_degree}
+use Rattle.ln_tree.specs.Exps.{Pairs, vector}
 use Rattle.ln_poly.specs.Sparse.{AreBelow, IsFactor, IsPoly, Sparse, terms_of}
-use Rattle.ln_poly.specs.Expansion.{AreDistinct, HasTooManyTerms, IsNormal, IsTermsFault}
+use Rattle.ln_poly.specs.Expansion.{AreDistinct, HasTooManyTerms, IsNormal, IsTermsFault, IsZeroFault}
 use Rattle.ln_poly.specs.Ready.{Expands}
 use Rattle.ln_poly.proofs.Collected.{collected}
 
@@ -125,9 +127,23 @@ many-terms n e f p l = record {
   many = omega (arith, l, length-vectors n f);
 }
 
+-- a root without a coefficient up to its degree has no term, and the other way round
+pub no-terms-zero : (n : ℕ) (e : Tree) (f : Sparse) → IsNormal n e f → f ≡ [] → IsZeroFault n e
+no-terms-zero n e f p h m l d = sym (p.normal.coefficients m l) ∙ ap (λ (g : Sparse). factor_at (terms_of n g) m) h
+
+pub zero-no-terms : (n : ℕ) (e : Tree) (f : Sparse) → IsNormal n e f → IsZeroFault n e → f ≡ []
+zero-no-terms n e [] p z = refl
+zero-no-terms n e (t ∷ f) p z =
+    let m : List ℕ = vector n t.0 in
+    let l : length m ≡ n = over-length n (terms_of n (t ∷ f)) m p.normal.over (inl refl) in
+    absurd (in-nonzero (terms_of n (t ∷ f)) m (collected n (t ∷ f) p.form p.below) (nonzero-terms n (t ∷ f) p.form) (inl refl) (p.normal.coefficients m l ∙ by_degree l (cases_lt (degree_of e) (total_degree m)))) where
+      by_degree : length (vector n t.0) ≡ n → (degree_of e < total_degree (vector n t.0)) ⊎ (total_degree (vector n t.0) ≤ degree_of e) → normal_coefficient e (vector n t.0) ≡ pos 0
+      by_degree l (inl h) = coefficient-above (λ _. true) (λ _. pos 0) e (vector n t.0) h
+      by_degree l (inr h) = z (vector n t.0) l h
+
 -- the answers of the count
 pub counted-few : (n : ℕ) (at : Span) (e : Tree) (f : Sparse) → length f ≤ 1024 → IsNormal n e f → Expands n ((at, e) ∷ []) e f
-counted-few n at e f l p = record { normal = p; few = (few-terms n e f p l, tt) }
+counted-few n at e f l p = record { normal = p; terms = l; few = (few-terms n e f p l, tt) }
 
 pub counted-many : (n : ℕ) (at : Span) (e : Tree) (f : Sparse) → 1024 < length f → IsNormal n e f → IsTermsFault n ((at, e) ∷ []) at
 counted-many n at e f l p = record { before = []; node = e; after = []; stands = refl; few = tt; many = many-terms n e f p l }

@@ -40,15 +40,15 @@ stop-behind n xs ys NoMemory l f = tt
 -- ---- nodes
 -- behind one operand
 pub one-expands : (n : ℕ) (xs ys : Nodes) (d c : Tree) (f h : Sparse) → Expands n xs d f → Expands n ys c h → Expands n (xs ++ ys) c h
-one-expands n xs ys d c f h p q = record { normal = q.normal; few = few-both n xs ys p.few q.few }
+one-expands n xs ys d c f h p q = record { normal = q.normal; terms = q.terms; few = few-both n xs ys p.few q.few }
 
 -- behind two
 pub two-expand : (n : ℕ) (xs ys zs : Nodes) (d e c : Tree) (f g h : Sparse) → Expands n xs d f → Expands n ys e g → Expands n zs c h → Expands n (xs ++ ys ++ zs) c h
-two-expand n xs ys zs d e c f g h p q r = record { normal = r.normal; few = few-both n (xs ++ ys) zs (few-both n xs ys p.few q.few) r.few }
+two-expand n xs ys zs d e c f g h p q r = record { normal = r.normal; terms = r.terms; few = few-both n (xs ++ ys) zs (few-both n xs ys p.few q.few) r.few }
 
 -- ---- powers
 pub powers-more : (n : ℕ) (at : Span) (e : Tree) (k : ℕ) (p h : Sparse) → Expands n (powers at e k) (Pow e k) p → Expands n ((at, Mul (Pow e k) e) ∷ []) (Mul (Pow e k) e) h → Expands n (powers at e (suc k)) (Pow e (suc k)) h
-powers-more n at e k p h a b = record { normal = power-more n e k h b.normal; few = few-both n (powers at e k) ((at, Pow e (suc k)) ∷ []) a.few (λ m. b.few.0 (power-many-back n e k m), tt) }
+powers-more n at e k p h a b = record { normal = power-more n e k h b.normal; terms = b.terms; few = few-both n (powers at e k) ((at, Pow e (suc k)) ∷ []) a.few (λ m. b.few.0 (power-many-back n e k m), tt) }
 
 -- the stop at a product that is the next power
 stop-power : (n : ℕ) (at : Span) (e : Tree) (k : ℕ) (s : PolyStop) → StopsExpanding n ((at, Mul (Pow e k) e) ∷ []) s → StopsExpanding n ((at, Pow e (suc k)) ∷ []) s
@@ -84,7 +84,7 @@ powers-stop n at e j k p s l a f =
 pub power-begin : (n : ℕ) (e : Tree) (f : Sparse) → f ≡ ([], pos 1) ∷ [] → Expands n [] (Pow e 0) f
 power-begin n e f h =
     let q : IsNormal n (Pow e 0) (([], pos 1) ∷ []) = power-none n e (([], pos 1) ∷ []) (number-some n (pos 1) (one-term [] (pos 1) tt (λ z. cc) (omega arith))) in
-    record { normal = subst (IsNormal n (Pow e 0)) (sym h) q; few = tt }
+    record { normal = subst (IsNormal n (Pow e 0)) (sym h) q; terms = rw h (omega arith); few = tt }
 
 next-light : (b j k : ℕ) → j < k → b ^ k ≤ most → b ^ j * b ≤ most
 next-light b j k l h = omega (arith, pow-suc b j, lower b (suc j) k l h)

@@ -14,3 +14,5 @@ pub mod Room
 pub mod Normals
 pub mod Expanding
 pub mod Nodes
+pub mod Lightness
+pub mod Lets

@@ -45,14 +45,14 @@ times-le : (a b : ℕ) → 0 < b → a ≤ a * b
 times-le a zero h = absurd (omega arith)
 times-le a (suc b) h = omega arith
 
-times-le-left : (a b : ℕ) → 0 < b → a ≤ b * a
+pub times-le-left : (a b : ℕ) → 0 < b → a ≤ b * a
 times-le-left a b h = omega (arith, times-le a b h)
 
 pub pairs-some : (n : ℕ) (w : ℕ → ℕ) (ps : Pairs) → AreTwo n w → IsAbove ps n → 0 < pairs_weight w ps
 pairs-some n w [] t a = omega arith
 pairs-some n w (p ∷ ps) t a = product-some (w p.0 ^ p.1) (pairs_weight w ps) (pow-some (w p.0) p.1 (omega (arith, t p.0 a.0))) (pairs-some n w ps t a.1)
 
-power_le : (a b n : ℕ) → a ≤ b → a ^ n ≤ b ^ n
+pub power_le : (a b n : ℕ) → a ≤ b → a ^ n ≤ b ^ n
 power_le a b zero h = omega (arith, pow-zero a, pow-zero b)
 power_le a b (suc n) h = omega (arith, pow-suc a n, pow-suc b n, mul-le _ _ _ _ (power_le a b n h) h)
 
@@ -65,7 +65,7 @@ exponent-weight n w v (p ∷ ps) t a = by_case (eqb p.0 v) (exponent-weight n w 
   by_case false ih = let z : 0 + exponent v ps ≡ exponent v ps = omega arith in rw z (omega (arith, ih, times-le-left (pairs_weight w ps) (w p.0 ^ p.1) (pow-some (w p.0) p.1 (omega (arith, t p.0 a.0)))))
 
 -- ---- weights of polynomials
-total-cons : (w : ℕ → ℕ) (t : Pairs × ℤ) (f : Sparse) → total_weight w (t ∷ f) ≡ term_weight w t + total_weight w f
+pub total-cons : (w : ℕ → ℕ) (t : Pairs × ℤ) (f : Sparse) → total_weight w (t ∷ f) ≡ term_weight w t + total_weight w f
 unfolding total_weight
 total-cons w t f = sum_by-cons (term_weight w) t f
 
@@ -81,7 +81,7 @@ size-weight n w (x ∷ f) t b =
       times-le (unsigned_abs x.1) (pairs_weight w x.0) (pairs-some n w x.0 t (All-head (λ z. IsAbove z.0 n) x f b)),
     )
 
-factor-some : (z : ℤ) → IsFactor z → 0 < unsigned_abs z
+pub factor-some : (z : ℤ) → IsFactor z → 0 < unsigned_abs z
 factor-some z f = by_case (cases_lt 0 (unsigned_abs z)) where
   by_case : (0 < unsigned_abs z) ⊎ (unsigned_abs z ≤ 0) → 0 < unsigned_abs z
   by_case (inl l) = l
@@ -110,7 +110,7 @@ normal-size n w e f t i p = omega (arith, size-weight n w f t p.below, normal-we
 pub sum-room : (n : ℕ) (w : ℕ → ℕ) (d e : Tree) (f g : Sparse) → AreTwo n w → IsLight n w (Add d e) → IsNormal n d f → IsNormal n e g → size_of f + size_of g < 2 ^ 127
 sum-room n w d e f g t l p q = omega (arith, l.light, normal-size n w d f t l.inputs.0 p, normal-size n w e g t l.inputs.1 q)
 
-two-power : (a b : ℕ) → 2 ^ a ≤ b → b < 2 ^ 127 → a < 127
+pub two-power : (a b : ℕ) → 2 ^ a ≤ b → b < 2 ^ 127 → a < 127
 two-power a b h l = by_case (cases_lt a 127) where
   by_case : (a < 127) ⊎ (127 ≤ a) → a < 127
   by_case (inl k) = k

@@ -1,5 +1,5 @@
 -- When an expression may be expanded in 128 bits.
-use Rattle.std.specs.Prelude.{ℕ, ◌<◌, ◌≤◌, ◌^◌, List, [], ◌∷◌, ◌++◌}
+use Rattle.std.specs.Prelude.{ℕ, ◌<◌, ◌≤◌, ◌^◌, List, [], ◌∷◌, ◌++◌, length}
 use Rattle.ln_base.specs.declared.span.Span.{Span}
 use Rattle.ln_algebra.specs.Tree.{InputsBelow, Tree, Num, Input, Name, Neg, Add, Sub, Mul, Pow, inlined}
 use Rattle.ln_algebra.specs.Weights.{weight}
@@ -35,9 +35,10 @@ AreNormal n [] (f ∷ fs) = ⊥
 AreNormal n (e ∷ es) [] = ⊥
 AreNormal n (e ∷ es) (f ∷ fs) = IsNormal n e f × AreNormal n es fs
 
--- f is the normal polynomial of e, and none of the nodes that were expanded for it has too many terms
+-- f is the normal polynomial of e and has at most 1,024 terms, and none of the nodes that were expanded for it has too many
 pub record Expands (n : ℕ) (nodes : List (Span × Tree)) (e : Tree) (f : Sparse) : Type 0 where
   pub normal : IsNormal n e f
+  pub terms : length f ≤ 1024
   pub few : HaveFewTerms n nodes
 
 -- the k-th power of the tree whose normal polynomial f is weighs at most 2^127 - 1; each variable weighs at least 2

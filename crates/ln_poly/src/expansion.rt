@@ -1,7 +1,9 @@
 // Normal polynomials of predicates.
-ghost use Rattle.std.specs.Prelude.{◌≡◌, ℕ, ◌+◌, ◌*◌, ◌<◌, ◌≤◌, ◌^◌, ◌++◌, [], ◌∷◌, true, pos, unsigned_abs, All, List, IfOk, IfErr, OnOk, length, map, slice_index_or};
+ghost use Rattle.std.specs.Prelude.{◌≡◌, ℕ, ◌+◌, ◌*◌, ◌<◌, ◌≤◌, ◌^◌, ◌++◌, [], ◌∷◌, true, pos, unsigned_abs, All, List, IfOk, IfErr, OnOk, length, map, slice_index_or, ◌↔◌};
 ghost use Rattle.ln_algebra.specs.Tree.{Tree, Num, Input, Neg, Add, Sub, Mul, Pow};
 ghost use Rattle.ln_algebra.specs.Weights.{weighted_sum};
+ghost use Rattle.ln_algebra.specs.Vector.{total_degree};
+ghost use Rattle.ln_tree.specs.Exps.{vector};
 ghost use Rattle.ln_tree.specs.Variables.{number_or_end};
 ghost use Rattle.ln_tree.specs.Fits.{is_fit, lets_fit};
 ghost use Rattle.ln_tree.specs.Formula.{formula, tree, tree_of};
@@ -9,7 +11,7 @@ ghost use Rattle.ln_bound.specs.Value.{weights};
 ghost use Rattle.ln_bound.specs.Light.{most, weighed_pred, node_weights, AreLight as HaveWeights};
 ghost use Rattle.ln_poly.specs.Sparse.{terms_of, size_of};
 ghost use Rattle.ln_poly.specs.Rows.{PowersFit};
-ghost use Rattle.ln_poly.specs.Expansion.{IsNormal, HasTooManyTerms, HaveFewTerms, closed_lets, closed_root, expanded, expanded_lets, expanded_pred, powers};
+ghost use Rattle.ln_poly.specs.Expansion.{IsNormal, HasTooManyTerms, HaveFewTerms, IsZeroFault, closed_lets, closed_root, expanded, expanded_lets, expanded_pred, powers};
 ghost use Rattle.ln_poly.specs.Ready.{AreLight, AreNormal, Expands, HasPower, LetsAreLight};
 ghost use Rattle.ln_poly.specs.Stop.{StopsExpanding};
 
@@ -180,4 +182,41 @@ fn expand(
             raised(alloc, e.at, &f, *n)
         }
     }
+}
+
+// The polynomials of the lets, each behind those before it.
+fn expand_lets(alloc: Global, lets: &[Expr], vars: &[VarInfo]) -> Result<Seq<Poly>, PolyStop>
+    requires few { length vars.now ≤ 168 }
+    requires fit { lets_fit (length vars.now) 0 (map (tree vars.now) (map formula lets.now)) ≡ true }
+    requires light { LetsAreLight (length vars.now) (weights vars.now) [] (map (tree vars.now) (map formula lets.now)) }
+    ensures polys { IfOk result (λ fs. AreNormal (length vars.now) (closed_lets vars.now (map formula lets.now)) fs) }
+    ensures few { OnOk result (HaveFewTerms (length vars.now) (expanded_lets vars.now [] (map formula lets.now))) }
+    ensures err { IfErr result (λ s. StopsExpanding (length vars.now) (expanded_lets vars.now [] (map formula lets.now)) s) }
+{
+    let mut done = Seq::new(alloc);
+    'each: for (j, e) in lets.iter().enumerate() {
+        let f = expand(alloc, e, vars, &lets[..j], done.as_slice())?;
+        done.push(f)?;
+    }
+    Ok(done)
+}
+
+/// The normal polynomial of a predicate's root, with its lets put in; or the first node in order of evaluation that has
+/// more than 1,024 terms, where for a power each of its lower powers counts too. It may have no term. The weights are
+/// those of the predicate: so no coefficient passes `2^127 - 1` on the way.
+pub fn normal(alloc: Global, p: &Pred, w: &Weights) -> Result<Poly, PolyStop>
+    requires weights { w.now ≡ node_weights (weighed_pred p.now.shape.vars (map formula p.now.lets) (formula p.now.root)) }
+    requires light { HaveWeights (weighed_pred p.now.shape.vars (map formula p.now.lets) (formula p.now.root)) }
+    ensures normal { IfOk result (λ f. IsNormal (length p.now.shape.vars) (closed_root p.now.shape.vars (map formula p.now.lets) (formula p.now.root)) f) }
+    ensures few { OnOk result (HaveFewTerms (length p.now.shape.vars) (expanded_pred p.now.shape.vars (map formula p.now.lets) (formula p.now.root))) }
+    ensures terms { IfOk result (λ f. length f ≤ 1024) }
+    ensures weight { IfOk result (λ f. weighted_sum (weights p.now.shape.vars) (terms_of (length p.now.shape.vars) f) ≤ most) }
+    ensures degrees { IfOk result (λ f. All (λ t. total_degree (vector (length p.now.shape.vars) t.0) ≤ 126) f) }
+    ensures zero { IfOk result (λ f. (f ≡ []) ↔ IsZeroFault (length p.now.shape.vars) (closed_root p.now.shape.vars (map formula p.now.lets) (formula p.now.root))) }
+    ensures err { IfErr result (λ s. StopsExpanding (length p.now.shape.vars) (expanded_pred p.now.shape.vars (map formula p.now.lets) (formula p.now.root)) s) }
+{
+    let vars = p.shape.vars.as_slice();
+    let lets = p.lets.as_slice();
+    let polys = expand_lets(alloc, lets, vars)?;
+    expand(alloc, &p.root, vars, lets, polys.as_slice())
 }
