@@ -1,0 +1,4 @@
+pub mod Follow
+pub mod Cells
+pub mod Steps
+pub mod Ends

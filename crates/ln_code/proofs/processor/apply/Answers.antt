@@ -1,0 +1,63 @@
+use Rattle.std.proofs.Common.{arith, ◌≡◌, ◌<◌, length}
+use Rattle.ln_bound.specs.declared.fitted.Two.TheVariants.{Plus, Minus, Times}
+use Rattle.ln_code.specs.Memory.{at, seen, leads}
+use Rattle.ln_code.proofs.Steps.{leads_push, push_leads, leads_input, input_leads, leads_get, get_leads, leads_two, two_leads, leads_neg, neg_leads, leads_cut, cut_leads, leads_set, set_leads}
+use Rattle.ln_code.proofs.processor.apply.Goals as goal
+
+pub push-requires : goal.push-requires
+push-requires c = (leads_push c.args.values.now c.args.stack.now c.args.locals.now c.args.top c.args.op c.args.k c.in-Push.c c.in-Push.is c.requires.answers).room
+
+pub bounds-values-from : goal.bounds-values-from
+bounds-values-from c = (leads_input c.args.values.now c.args.stack.now c.args.locals.now c.args.top c.args.op c.args.k c.in-Input.v c.in-Input.is c.requires.answers).there
+
+pub push-requires-in-Input : goal.push-requires-in-Input
+push-requires-in-Input c = (leads_input c.args.values.now c.args.stack.now c.args.locals.now c.args.top c.args.op c.args.k c.in-Input.v c.in-Input.is c.requires.answers).room
+
+pub push-requires-in-Get : goal.push-requires-in-Get
+push-requires-in-Get c = leads_get c.args.values.now c.args.stack.now c.args.locals.now c.args.top c.args.op c.args.k c.in-Get.j c.in-Get.is c.requires.answers
+
+pub binary-requires : goal.binary-requires
+binary-requires c = leads_two c.args.values.now c.args.stack.now c.args.locals.now c.args.top c.args.op c.args.k Plus c.in-Add.w c.in-Add.is c.requires.room c.requires.answers
+
+pub binary-requires-in-Sub : goal.binary-requires-in-Sub
+binary-requires-in-Sub c = leads_two c.args.values.now c.args.stack.now c.args.locals.now c.args.top c.args.op c.args.k Minus c.in-Sub.w c.in-Sub.is c.requires.room c.requires.answers
+
+pub binary-requires-in-Mul : goal.binary-requires-in-Mul
+binary-requires-in-Mul c = leads_two c.args.values.now c.args.stack.now c.args.locals.now c.args.top c.args.op c.args.k Times c.in-Mul.w c.in-Mul.is c.requires.room c.requires.answers
+
+pub shorten-requires-clause-operand : goal.shorten-requires-clause-operand
+shorten-requires-clause-operand c = (leads_cut c.args.values.now c.args.stack.now c.args.locals.now c.args.top c.args.op c.args.k c.in-Cut.n c.in-Cut.is c.requires.answers).fits
+
+pub returns-in-Push-clause-room : goal.returns-in-Push-clause-room
+returns-in-Push-clause-room c =
+    let h : c.args.top < length c.args.stack.now = (leads_push c.args.values.now c.args.stack.now c.args.locals.now c.args.top c.args.op c.args.k c.in-Push.c c.in-Push.is c.requires.answers).room in
+    omega arith
+
+pub returns-in-Input-clause-room : goal.returns-in-Input-clause-room
+returns-in-Input-clause-room c =
+    let h : c.args.top < length c.args.stack.now = (leads_input c.args.values.now c.args.stack.now c.args.locals.now c.args.top c.args.op c.args.k c.in-Input.v c.in-Input.is c.requires.answers).room in
+    omega arith
+
+pub returns-in-Get-clause-room : goal.returns-in-Get-clause-room
+returns-in-Get-clause-room c =
+    let h : c.args.top < length c.args.stack.now = leads_get c.args.values.now c.args.stack.now c.args.locals.now c.args.top c.args.op c.args.k c.in-Get.j c.in-Get.is c.requires.answers in
+    omega arith
+
+pub returns-in-Input-clause-state : goal.returns-in-Input-clause-state
+returns-in-Input-clause-state c = ?
+
+pub returns-in-Set-clause-state : goal.returns-in-Set-clause-state
+returns-in-Set-clause-state c =
+    rw c.store.ensures.top (set_leads c.args.values.now c.args.stack.now c.args.locals.now c.args.top c.args.op c.args.k c.in-Set.j (at c.store.new.locals) c.in-Set.is c.requires.answers c.store.ensures.locals)
+
+pub returns-in-Add-clause-state : goal.returns-in-Add-clause-state
+returns-in-Add-clause-state c = two_leads c.args.values.now c.args.stack.now c.args.locals.now c.args.top c.args.op c.args.k Plus c.in-Add.w _ c.in-Add.is c.requires.room c.requires.answers c.binary.ensures.stack
+
+pub returns-in-Sub-clause-state : goal.returns-in-Sub-clause-state
+returns-in-Sub-clause-state c = two_leads c.args.values.now c.args.stack.now c.args.locals.now c.args.top c.args.op c.args.k Minus c.in-Sub.w _ c.in-Sub.is c.requires.room c.requires.answers c.binary-in-Sub.ensures.stack
+
+pub returns-in-Mul-clause-state : goal.returns-in-Mul-clause-state
+returns-in-Mul-clause-state c = two_leads c.args.values.now c.args.stack.now c.args.locals.now c.args.top c.args.op c.args.k Times c.in-Mul.w _ c.in-Mul.is c.requires.room c.requires.answers c.binary-in-Mul.ensures.stack
+
+pub returns-in-Cut-clause-state : goal.returns-in-Cut-clause-state
+returns-in-Cut-clause-state c = cut_leads c.args.values.now c.args.stack.now c.args.locals.now c.args.top c.args.op c.args.k c.in-Cut.n _ c.in-Cut.is c.requires.room c.requires.answers c.shorten.ensures.stack
