@@ -140,11 +140,11 @@ leads_input values buf locals top op k v e h =
     let g : is_some (next (slice_get values v) (pushed (bare values (length buf)) (at locals) (seen buf top))) ≡ true = rw e at h in
     record { there = got_there values v (next_is_some _ _ g); room = pushed_room values (length buf) (at locals) (slice_get values v) buf top g }
 
-pub input_leads : (values buf locals : List ℤ) (top : ℕ) (op : Op) (k v : ℕ) (z : ℤ) (s : List ℤ) → op ≡ Input v → IsSome (leads op k values buf top locals) → z ≡ slice_index_or values v z → s ≡ z ∷ seen buf top →
+pub input_leads : (values buf locals : List ℤ) (top : ℕ) (op : Op) (k v : ℕ) (z : ℤ) (s : List ℤ) → op ≡ Input v → IsSome (leads op k values buf top locals) → z ≡ slice_index_or values v (pos 0) → s ≡ z ∷ seen buf top →
     leads op k values buf top locals ≡ Some (record { stack = s; locals = at locals })
 input_leads values buf locals top op k v z s e h f q =
     let r = leads_input values buf locals top op k v e h in
-    let g : slice_get values v ≡ Some z = got_is values v z r.there ∙ ap Some (sym f) in
+    let g : slice_get values v ≡ Some z = got_is values v (pos 0) r.there ∙ ap Some (sym f) in
     rw (e, q, g) (pushed_is values (length buf) (at locals) z buf top r.room)
 
 pub leads_get : (values buf locals : List ℤ) (top : ℕ) (op : Op) (k j : ℕ) → op ≡ Get j → IsSome (leads op k values buf top locals) → top < length buf

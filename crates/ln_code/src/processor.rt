@@ -1,10 +1,18 @@
 //! Blocks and filters, run with no check.
-ghost use Rattle.std.specs.Prelude.{◌≡◌, ◌≤◌, Some, IsSome, length};
+ghost use Rattle.std.specs.Prelude.{◌≡◌, ◌≤◌, ◌<◌, pos, slice_index_or, Some, IsSome, length};
 ghost use Rattle.ln_code.specs.Memory.{at, seen, leads, plain, shifted, bare_value};
 
 use crate::arithmetic::{binary, cut, push, shorten, store, unary};
 use crate::op::{Op, Triple};
 use ln_bound::Two;
+
+// The value of a variable.
+fn value_of(values: &[i64], v: u8) -> i128
+    requires { v < length values.now }
+    ensures { result ≡ slice_index_or values.now v (pos 0) }
+{
+    i128::from(values[usize::from(v)])
+}
 
 // One operation. What it needs is there, and what it makes fits. A number is pushed divided by 2^k.
 fn apply(op: Op, k: u8, values: &[i64], stack: &mut [i128], locals: &mut [i128], top: usize) -> usize
@@ -18,7 +26,7 @@ fn apply(op: Op, k: u8, values: &[i64], stack: &mut [i128], locals: &mut [i128],
 {
     match op {
         Op::Push(c) => push(stack, top, cut(c, k)),
-        Op::Input(v) => push(stack, top, i128::from(values[usize::from(v)])),
+        Op::Input(v) => push(stack, top, value_of(values, v)),
         Op::Get(j) => push(stack, top, locals[usize::from(j)]),
         Op::Set(j) => store(j, stack, locals, top),
         Op::Add(w) => binary(Two::Plus, w, stack, top),

@@ -34,14 +34,22 @@ fn filter_depth(p: &Program) -> u32
     }
 }
 
+// So many zeros.
+fn zeros(alloc: Global, n: usize) -> Result<Vec<i128>, NoMemory>
+    ensures { IfOk result (λ v. length v.items ≡ n) }
+{
+    let v = vec![in alloc; 0i128; n]?;
+    Ok(v)
+}
+
 impl Scratch {
     /// A scratch made for the program.
     pub fn new(alloc: Global, p: &Program) -> Result<Scratch, NoMemory>
         ensures { IfOk result (λ s. MadeFor p.now s) }
     {
         let places = deepest(p.blocks()).max(filter_depth(p));
-        let stack = vec![in alloc; 0i128; places as usize]?;
-        let locals = vec![in alloc; 0i128; 256]?;
+        let stack = zeros(alloc, places as usize)?;
+        let locals = zeros(alloc, 256)?;
         Ok(Scratch { stack, locals })
     }
 }

@@ -1,4 +1,7 @@
-use Rattle.std.proofs.Common.{arith, ◌≡◌, ◌<◌, length}
+use Rattle.std.proofs.Common.{arith, ◌≡◌, ◌<◌, length, rules, pos, FitsSigned}
+use Rattle.std.specs.Prelude.{slice_index_or}
+use mir.Syntax.{w128}
+use Rattle.std.proofs.lemmas.Int.{to_z-of_z}
 use Rattle.ln_bound.specs.declared.fitted.Two.TheVariants.{Plus, Minus, Times}
 use Rattle.ln_code.specs.Memory.{at, seen, leads}
 use Rattle.ln_code.proofs.Steps.{leads_push, push_leads, leads_input, input_leads, leads_get, get_leads, leads_two, two_leads, leads_neg, neg_leads, leads_cut, cut_leads, leads_set, set_leads}
@@ -7,8 +10,8 @@ use Rattle.ln_code.proofs.processor.apply.Goals as goal
 pub push-requires : goal.push-requires
 push-requires c = (leads_push c.args.values.now c.args.stack.now c.args.locals.now c.args.top c.args.op c.args.k c.in-Push.c c.in-Push.is c.requires.answers).room
 
-pub bounds-values-from : goal.bounds-values-from
-bounds-values-from c = (leads_input c.args.values.now c.args.stack.now c.args.locals.now c.args.top c.args.op c.args.k c.in-Input.v c.in-Input.is c.requires.answers).there
+pub value_of-requires : goal.value_of-requires
+value_of-requires c = (leads_input c.args.values.now c.args.stack.now c.args.locals.now c.args.top c.args.op c.args.k c.in-Input.v c.in-Input.is c.requires.answers).there
 
 pub push-requires-in-Input : goal.push-requires-in-Input
 push-requires-in-Input c = (leads_input c.args.values.now c.args.stack.now c.args.locals.now c.args.top c.args.op c.args.k c.in-Input.v c.in-Input.is c.requires.answers).room
@@ -44,7 +47,9 @@ returns-in-Get-clause-room c =
     omega arith
 
 pub returns-in-Input-clause-state : goal.returns-in-Input-clause-state
-returns-in-Input-clause-state c = ?
+returns-in-Input-clause-state c =
+    let f : FitsSigned w128 c.value_of.result = search rules in
+    input_leads c.args.values.now c.args.stack.now c.args.locals.now c.args.top c.args.op c.args.k c.in-Input.v c.value_of.result _ c.in-Input.is c.requires.answers c.value_of.ensures (rw (to_z-of_z w128 c.value_of.result f) at c.push-in-Input.ensures.stack)
 
 pub returns-in-Set-clause-state : goal.returns-in-Set-clause-state
 returns-in-Set-clause-state c =
