@@ -162,13 +162,10 @@ exact_follows vars depth zs h = record {
 
 -- ---- the processor
 
-bare_push : (zs : List ℤ) (c : ℤ) (b : ℕ) (k : Known) → known (unsigned_abs c) b (least b) (tree.Num c) ≡ Some k → Reaches (Fits zs) k (when (fits W128 c) (cut_by 0 c))
+bare_push : (zs : List ℤ) (c : ℤ) (b : ℕ) (k : Known) → known (unsigned_abs c) b (least b) (tree.Num c) ≡ Some k → Fits zs k (cut_by 0 c)
 bare_push zs c b k q =
-    let r = known_some (unsigned_abs c) b (least b) (tree.Num c) k q in
-    let w = limit_wide (least b) in
-    let e : fits W128 c ≡ true = le-leb _ _ (omega (arith, r.0, r.1, w)) in
     let f : cut_by 0 c ≡ c = cut_none c in
-    rw (e, f) (kept zs (unsigned_abs c) b (least b) (tree.Num c) k c refl (omega arith) q)
+    rw f (kept zs (unsigned_abs c) b (least b) (tree.Num c) k c refl (omega arith) q)
 
 bare_input : (vars : List VarInfo) (zs : List ℤ) → AreWithin vars zs → (v b : ℕ) (k : Known) → next (slice_get vars v) (λ i. known (size_of i) b (least b) (tree.Input v)) ≡ Some k → Reaches (Fits zs) k (slice_get zs v)
 bare_input vars zs h v b k q =

@@ -5,3 +5,11 @@ pub mod Steps
 pub mod Ends
 pub mod Depths
 pub mod Known
+pub mod Near
+pub mod FilterKnown
+pub mod Laws
+pub mod ErrorLaws
+pub mod Calls
+pub mod Sums
+pub mod Stages
+pub mod Differ

@@ -3,7 +3,6 @@ use Rattle.std.proofs.Common.{◌≡◌, ◌≢◌, ℕ, ℤ, ◌+◌, ◌-◌, 
 use Rattle.std.specs.Prelude.{slice_index_or, slice_get, Option, Some, None, is_some, IsSome, ◌==◌, if◌then◌else◌}
 use Rattle.std.proofs.lemmas.Bool.{leb-true, le-leb, and_parts}
 use Rattle.ln_bound.specs.declared.fitted.Width.{Width}
-use Rattle.ln_bound.specs.declared.fitted.Width.TheVariants.{W128}
 use Rattle.ln_bound.specs.declared.fitted.Two.{Two}
 use Rattle.ln_bound.specs.declared.fitted.Two.TheVariants.{Plus, Minus, Times}
 use Rattle.ln_code.specs.declared.op.Op.{Op}
@@ -104,21 +103,16 @@ set_is zs l m j buf (suc k) h q =
 
 -- ---- where each operation leads
 
--- a number that is pushed fits 128 bits, and there is room
-pub record PushReady (c : ℤ) (buf : List ℤ) (top : ℕ) : Type 0 where
-  pub fits : fits W128 c ≡ true
-  pub room : top < length buf
-
-pub leads_push : (values buf locals : List ℤ) (top : ℕ) (op : Op) (k : ℕ) (c : ℤ) → op ≡ Push c → IsSome (leads op k values buf top locals) → PushReady c buf top
+pub leads_push : (values buf locals : List ℤ) (top : ℕ) (op : Op) (k : ℕ) (c : ℤ) → op ≡ Push c → IsSome (leads op k values buf top locals) → top < length buf
 leads_push values buf locals top op k c e h =
-    let g : is_some (next (when (fits W128 c) (cut_by k c)) (pushed (bare values (length buf)) (at locals) (seen buf top))) ≡ true = rw e at h in
-    record { fits = when_is_some _ _ (next_is_some _ _ g); room = pushed_room values (length buf) (at locals) (when (fits W128 c) (cut_by k c)) buf top g }
+    let g : is_some (next (Some (cut_by k c)) (pushed (bare values (length buf)) (at locals) (seen buf top))) ≡ true = rw e at h in
+    pushed_room values (length buf) (at locals) (Some (cut_by k c)) buf top g
 
 pub push_leads : (values buf locals : List ℤ) (top : ℕ) (op : Op) (k : ℕ) (c : ℤ) (s : List ℤ) → op ≡ Push c → IsSome (leads op k values buf top locals) → s ≡ cut_by k c ∷ seen buf top →
     leads op k values buf top locals ≡ Some (record { stack = s; locals = at locals })
 push_leads values buf locals top op k c s e h q =
     let r = leads_push values buf locals top op k c e h in
-    rw (e, q, r.fits) (pushed_is values (length buf) (at locals) (cut_by k c) buf top r.room)
+    rw (e, q) (pushed_is values (length buf) (at locals) (cut_by k c) buf top r)
 
 got_there : (zs : List ℤ) (v : ℕ) → is_some (slice_get zs v) ≡ true → v < length zs
 got_there [] v h = cc
@@ -193,16 +187,20 @@ neg_leads values buf locals top op k w s e r h q =
     let g = leads_neg values buf locals top op k w e h in
     rw (e, q) (one_is values (at locals) (fits w) neg_ℤ buf top r g)
 
-pub leads_cut : (values buf locals : List ℤ) (top : ℕ) (op : Op) (k n : ℕ) → op ≡ Cut n → IsSome (leads op k values buf top locals) → OneReady (fits W128) buf top
+-- any value may be divided
+abbrev pub any : ℤ → Bool
+any z = true
+
+pub leads_cut : (values buf locals : List ℤ) (top : ℕ) (op : Op) (k n : ℕ) → op ≡ Cut n → IsSome (leads op k values buf top locals) → OneReady any buf top
 leads_cut values buf locals top op k n e h =
     let g : IsSome (leads (Cut n) k values buf top locals) = rw e at h in
-    one_ready values (at locals) (fits W128) (cut_by n) buf top g
+    one_ready values (at locals) any (cut_by n) buf top g
 
 pub cut_leads : (values buf locals : List ℤ) (top : ℕ) (op : Op) (k n : ℕ) (s : List ℤ) → op ≡ Cut n → top ≤ length buf → IsSome (leads op k values buf top locals) → s ≡ cut_by n (at buf (top - 1)) ∷ seen buf (top - 1) →
     leads op k values buf top locals ≡ Some (record { stack = s; locals = at locals })
 cut_leads values buf locals top op k n s e r h q =
     let g = leads_cut values buf locals top op k n e h in
-    rw (e, q) (one_is values (at locals) (fits W128) (cut_by n) buf top r g)
+    rw (e, q) (one_is values (at locals) any (cut_by n) buf top r g)
 
 pub leads_set : (values buf locals : List ℤ) (top : ℕ) (op : Op) (k j : ℕ) → op ≡ Set j → IsSome (leads op k values buf top locals) → 0 < top
 leads_set values buf locals top op k j e h =

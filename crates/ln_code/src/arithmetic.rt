@@ -1,6 +1,5 @@
 //! The operations of the processor, which check nothing.
 ghost use Rattle.std.specs.Prelude.{◌≡◌, ◌+◌, ◌-◌, ◌<◌, ◌≤◌, ◌∷◌, ◌==◌, if◌then◌else◌, ◌+ℤ◌, ◌-ℤ◌, ◌*ℤ◌, neg_ℤ, true, length};
-ghost use Rattle.ln_bound.specs.declared.fitted.Width.TheVariants.{W128};
 ghost use Rattle.ln_code.specs.Numbers.{result_of, cut_by, fits};
 ghost use Rattle.ln_code.specs.Memory.{at, seen, TwoReady};
 
@@ -78,10 +77,16 @@ fn combine(kind: Two, width: Width, x: i128, y: i128) -> i128
 
 // z divided by 2^n, towards 0.
 pub(crate) fn cut(z: i128, n: u8) -> i128
-    requires { fits W128 z ≡ true }
     ensures { result ≡ cut_by n z }
 {
-    if n < 127 { z / (1i128 << n) } else { 0 }
+    if n == 0 {
+        return z;
+    }
+    if n >= 128 {
+        return 0;
+    }
+    let size = (z.unsigned_abs() >> n) as i128;
+    if z < 0 { -size } else { size }
 }
 
 // Takes two numbers off the stack and puts their sum, difference or product there.
@@ -115,7 +120,6 @@ pub(crate) fn unary(width: Width, stack: &mut [i128], top: usize) -> usize
 pub(crate) fn shorten(n: u8, stack: &mut [i128], top: usize) -> usize
     requires deep { 0 < top }
     requires room { top ≤ length stack.old }
-    requires operand { fits W128 (at stack.old (top - 1)) ≡ true }
     ensures top { result ≡ top }
     ensures size { length stack.new ≡ length stack.old }
     ensures stack { seen stack.new result ≡ cut_by n (at stack.old (top - 1)) ∷ seen stack.old (top - 1) }

@@ -12,6 +12,7 @@ pub mod op;
 pub(crate) mod processor;
 pub mod program;
 pub mod row;
+pub mod run;
 pub mod scratch;
 pub mod verdict;
 
@@ -20,5 +21,6 @@ pub use filter_block::FilterBlock;
 pub use op::{Op, Triple};
 pub use program::Program;
 pub use row::Row;
+pub use run::run_row;
 pub use scratch::Scratch;
 pub use verdict::{By, Verdict};

@@ -2,7 +2,7 @@
 ghost use Rattle.std.specs.Prelude.{◌≡◌, length, MatchOption};
 ghost use Rattle.ln_order.specs.Places.{order_places};
 ghost use Rattle.ln_code.specs.Part.{Part};
-ghost use Rattle.ln_code.specs.Kept.{IsProgram};
+ghost use Rattle.ln_code.specs.Kept.{IsProgram, IsList};
 ghost use Rattle.ln_code.specs.Lists.{IsListOf};
 
 use crate::block::Block;
@@ -63,7 +63,8 @@ impl Program {
 
     /// Its filter, if it has one.
     pub fn filter(&self) -> Option<&FilterBlock>
-        ensures { MatchOption result (self.now.filter ≡ None) (λ f. self.now.filter ≡ Some f.now) }
+        ensures value { MatchOption result (self.now.filter ≡ None) (λ f. self.now.filter ≡ Some f.now) }
+        ensures kept { IsProgram self.now }
     {
         self.filter.as_ref()
     }
@@ -74,5 +75,14 @@ impl Program {
         ensures kept { IsProgram self.now }
     {
         self.blocks.as_slice()
+    }
+
+    /// The numbers of the blocks that a row with this order of the sites runs.
+    pub fn list(&self, o: &Order) -> &[u32]
+        requires { length (order_places o.now) ≡ self.now.shape.sites }
+        ensures value { IsListOf self.now (order_places o.now) result.now }
+        ensures kept { IsList (length self.now.blocks) result.now }
+    {
+        self.lists.as_slice()[o.number()].as_slice()
     }
 }

@@ -8,7 +8,7 @@ use Rattle.ln_code.proofs.Steps.{leads_push, push_leads, leads_input, input_lead
 use Rattle.ln_code.proofs.processor.apply.Goals as goal
 
 pub push-requires : goal.push-requires
-push-requires c = (leads_push c.args.values.now c.args.stack.now c.args.locals.now c.args.top c.args.op c.args.k c.in-Push.c c.in-Push.is c.requires.answers).room
+push-requires c = (leads_push c.args.values.now c.args.stack.now c.args.locals.now c.args.top c.args.op c.args.k c.in-Push.c c.in-Push.is c.requires.answers)
 
 pub value_of-requires : goal.value_of-requires
 value_of-requires c = (leads_input c.args.values.now c.args.stack.now c.args.locals.now c.args.top c.args.op c.args.k c.in-Input.v c.in-Input.is c.requires.answers).there
@@ -28,12 +28,9 @@ binary-requires-in-Sub c = leads_two c.args.values.now c.args.stack.now c.args.l
 pub binary-requires-in-Mul : goal.binary-requires-in-Mul
 binary-requires-in-Mul c = leads_two c.args.values.now c.args.stack.now c.args.locals.now c.args.top c.args.op c.args.k Times c.in-Mul.w c.in-Mul.is c.requires.room c.requires.answers
 
-pub shorten-requires-clause-operand : goal.shorten-requires-clause-operand
-shorten-requires-clause-operand c = (leads_cut c.args.values.now c.args.stack.now c.args.locals.now c.args.top c.args.op c.args.k c.in-Cut.n c.in-Cut.is c.requires.answers).fits
-
 pub returns-in-Push-clause-room : goal.returns-in-Push-clause-room
 returns-in-Push-clause-room c =
-    let h : c.args.top < length c.args.stack.now = (leads_push c.args.values.now c.args.stack.now c.args.locals.now c.args.top c.args.op c.args.k c.in-Push.c c.in-Push.is c.requires.answers).room in
+    let h : c.args.top < length c.args.stack.now = (leads_push c.args.values.now c.args.stack.now c.args.locals.now c.args.top c.args.op c.args.k c.in-Push.c c.in-Push.is c.requires.answers) in
     omega arith
 
 pub returns-in-Input-clause-room : goal.returns-in-Input-clause-room
