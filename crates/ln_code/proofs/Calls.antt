@@ -12,7 +12,7 @@ use Rattle.ln_code.specs.Part.{Code, FilterCode, Part, block_value, filter_value
 use Rattle.ln_code.specs.Errors.{left_error}
 use Rattle.ln_code.specs.Kept.{FollowsRules, FollowsFilterRules, IsProgram}
 use Rattle.ln_code.specs.Memory.{MadeFor, at, plain, shifted, bare_value}
-use Rattle.ln_code.proofs.Laws.{Runs, block_runs, FilterRuns, filter_runs}
+use Rattle.ln_code.proofs.Runs.{Runs, block_runs, FilterRuns, filter_runs}
 
 -- the block with this number
 pub there : {X : Type 0} (xs : List X) (k : ℕ) (d : X) → k < length xs → slice_get xs k ≡ Some (get_or xs k d)

@@ -7,9 +7,10 @@ pub mod Depths
 pub mod Known
 pub mod Near
 pub mod FilterKnown
-pub mod Laws
+pub mod Runs
 pub mod ErrorLaws
 pub mod Calls
 pub mod Sums
 pub mod Stages
 pub mod Differ
+pub mod Means

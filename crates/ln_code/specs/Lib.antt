@@ -10,5 +10,6 @@ pub mod Verdict
 pub mod Kept
 pub mod Pushes
 pub mod Errors
+pub mod Law
 pub mod Memory
 pub mod RowOf
