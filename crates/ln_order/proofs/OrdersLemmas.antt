@@ -88,27 +88,27 @@ member-is (suc k) y c =
 
 -- ---- each order is there
 -- the place of a site among those other than x
-abbrev back : ℕ → ℕ → ℕ
+abbrev pub back : ℕ → ℕ → ℕ
 back x j = if nat_lt j x then j else j - 1
 
-back-past : (x j : ℕ) → j ≢ x → past x (back x j) ≡ j
+pub back-past : (x j : ℕ) → j ≢ x → past x (back x j) ≡ j
 back-past x j ne = grind (arith, nat_tests)
 
-back-below : (x j k : ℕ) → j ≢ x → x < suc k → j < suc k → back x j < k
+pub back-below : (x j k : ℕ) → j ≢ x → x < suc k → j < suc k → back x j < k
 back-below x j k ne h l = grind (arith, nat_tests)
 
 back-apart : (x i j : ℕ) → i ≢ x → j ≢ x → i ≢ j → back x i ≢ back x j
 back-apart x i j ni nj ne e = ne (sym (back-past x i ni) ∙ ap (past x) e ∙ back-past x j nj)
 
-at_back : (x : ℕ) (o : List ℕ) (k d : ℕ) → k < length o → get_or (map (back x) o) k d ≡ back x (get_or o k d)
+pub at_back : (x : ℕ) (o : List ℕ) (k d : ℕ) → k < length o → get_or (map (back x) o) k d ≡ back x (get_or o k d)
 at_back x o k d h = get_or-map (back x) o k d d h
 
 module _ (x : ℕ) (o : List ℕ) (p : ArePlaces (x ∷ o)) where
-  other : (k d : ℕ) → k < length o → get_or o k d ≢ x
+  pub other : (k d : ℕ) → k < length o → get_or o k d ≢ x
   other k d h e = p.differ 0 (suc k) d (omega arith) (omega (arith, h)) (sym e)
 
   -- the others among themselves
-  others-places : ArePlaces (map (back x) o)
+  pub others-places : ArePlaces (map (back x) o)
   others-places = record {
     within = λ k d h.
         let l : k < length o = omega (arith, h, length-map o (back x)) in
