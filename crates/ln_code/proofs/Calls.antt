@@ -1,13 +1,10 @@
 -- A block and the filter of a program, on a row in range.
 use Rattle.std.proofs.Common.{◌≡◌, ℕ, ℤ, ◌≤◌, ◌<◌, List, [], ◌∷◌, length, refl, zero, suc, ap, arith, get_or, ◌∙◌, sym, subst}
-use Rattle.std.specs.Prelude.{Option, Some, None, IsSome, slice_get, slice_index_or, All, IfSome}
-use Rattle.ln_tree.specs.declared.shape.VarInfo.{VarInfo}
+use Rattle.std.specs.Prelude.{Option, Some, None, IsSome, slice_get, IfSome}
 use Rattle.ln_tree.specs.Row.{AreWithin}
-use Rattle.ln_bound.specs.Value.{value, values}
 use Rattle.ln_code.specs.declared.op.Op.{Op}
 use Rattle.ln_code.specs.declared.op.Triple.{Triple}
 use Rattle.ln_code.specs.declared.scratch.Scratch.{Scratch}
-use Rattle.ln_code.specs.Exact.{Held}
 use Rattle.ln_code.specs.Part.{Code, FilterCode, Part, block_value, filter_value}
 use Rattle.ln_code.specs.Errors.{left_error}
 use Rattle.ln_code.specs.Kept.{FollowsRules, FollowsFilterRules, IsProgram}

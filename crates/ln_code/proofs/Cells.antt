@@ -1,11 +1,11 @@
 -- Facts on the memory, and on numbers that fit a width.
-use Rattle.std.proofs.Common.{◌≡◌, ◌≢◌, ℕ, ℤ, ◌+◌, ◌-◌, ◌≤◌, ◌<◌, Bool, true, false, List, [], ◌∷◌, length, refl, zero, suc, ap, arith, pos, unsigned_abs, get_or-set_same, get_or-set_other, ◌∙◌, sym}
-use Rattle.std.specs.Prelude.{slice_set, slice_index_or}
+use Rattle.std.proofs.Common.{◌≡◌, ◌≢◌, ℕ, ℤ, ◌≤◌, ◌<◌, true, List, ◌∷◌, length, refl, zero, suc, ap, arith, pos, unsigned_abs, get_or-set_same, get_or-set_other}
+use Rattle.std.specs.Prelude.{slice_set}
 use Rattle.std.proofs.lemmas.Bool.{leb-true}
 use Rattle.ln_bound.specs.declared.fitted.Width.{Width}
-use Rattle.ln_bound.specs.declared.fitted.Width.TheVariants.{W64, W128}
+use Rattle.ln_bound.specs.declared.fitted.Width.TheVariants.{W64}
 use Rattle.ln_code.specs.Numbers.{fits}
-use Rattle.ln_code.specs.Memory.{seen, at}
+use Rattle.ln_code.specs.Memory.{seen}
 
 pub fits_64 : (w : Width) (z : ℤ) → w ≡ W64 → fits w z ≡ true → unsigned_abs z ≤ 9223372036854775807
 fits_64 w z e h = leb-true _ _ (rw e at h)

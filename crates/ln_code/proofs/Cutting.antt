@@ -1,5 +1,5 @@
 -- The processor's division by a power of 2.
-use Rattle.std.proofs.Common.{◌≡◌, ◌≢◌, ℕ, ℤ, ◌*◌, ◌%◌, ◌/◌, ◌^◌, ◌≤◌, ◌<◌, refl, zero, suc, ap, arith, pos, negsuc, ◌<ℤ◌, ◌≤ℤ◌, ◌-ℤ◌, neg_ℤ, unsigned_abs, FitsSigned, to_z, of_z, rules, ◌∙◌, sym}
+use Rattle.std.proofs.Common.{◌≡◌, ◌≢◌, ℕ, ℤ, ◌*◌, ◌/◌, ◌^◌, ◌≤◌, ◌<◌, refl, zero, suc, ap, arith, pos, negsuc, ◌-ℤ◌, neg_ℤ, unsigned_abs, FitsSigned, ◌∙◌}
 use Rattle.std.proofs.lemmas.Int.{ints}
 use Rattle.std.proofs.Math.Nat.{div-eq_of_lt, pow-zero, div-one, mul-le-mul_left, div-mul-le_self}
 use Rattle.std.proofs.Math.Pow.{pow_mono}

@@ -1,10 +1,8 @@
 -- How deep the stacks of blocks are.
-use Rattle.std.proofs.Common.{◌≡◌, ℕ, ◌+◌, ◌≤◌, ◌<◌, List, [], ◌∷◌, ◌++◌, length, take, refl, zero, suc, arith, get_or, max, length-append, sym, subst}
+use Rattle.std.proofs.Common.{◌≡◌, ℕ, ◌+◌, ◌≤◌, ◌<◌, List, [], ◌∷◌, ◌++◌, length, take, zero, suc, arith, get_or, max}
 use Rattle.std.specs.Prelude.{All, Option, Some, None, IfSome}
-use Rattle.std.proofs.lemmas.List.{take_more, take_all}
-use Rattle.std.proofs.lemmas.List.Elements.{All-append}
+use Rattle.std.proofs.lemmas.List.{take_more}
 use Rattle.ln_code.specs.Part.{Code, FilterCode, Part}
-use Rattle.ln_code.specs.declared.block.Block.{Block}
 use Rattle.ln_code.specs.declared.scratch.Scratch.{Scratch}
 use Rattle.ln_code.specs.Memory.{MadeFor}
 

@@ -1,6 +1,6 @@
 -- The indices of a row in range differ, and so it has an order; its variables are few.
-use Rattle.std.proofs.Common.{◌≡◌, ◌≢◌, ℕ, ℤ, ◌+◌, ◌≤◌, ◌<◌, ◌&&◌, Bool, true, List, [], ◌∷◌, length, take, refl, zero, suc, ap, arith, pos, get_or, ◌∙◌, sym, subst}
-use Rattle.std.specs.Prelude.{AllPairs, Contains, slice_index_or, nat_le, count_by, ◌==◌}
+use Rattle.std.proofs.Common.{◌≡◌, ◌≢◌, ℕ, ℤ, ◌≤◌, ◌<◌, ◌&&◌, true, List, [], ◌∷◌, length, take, refl, zero, suc, arith, pos, ◌∙◌, sym}
+use Rattle.std.specs.Prelude.{AllPairs, slice_index_or, nat_le, count_by, ◌==◌}
 use Rattle.std.specs.List.{list_all}
 use Rattle.std.proofs.lemmas.Bool.{and_parts, leb-true}
 use Rattle.ln_tree.specs.declared.shape.VarInfo.{VarInfo}

@@ -1,10 +1,10 @@
 -- Where a run of the processor ends.
-use Rattle.std.proofs.Common.{◌≡◌, ℕ, ℤ, ◌+◌, ◌-◌, ◌≤◌, ◌<◌, Bool, true, false, List, [], ◌∷◌, length, drop, refl, zero, suc, ap, arith, pos, ◌∙◌, sym}
+use Rattle.std.proofs.Common.{◌≡◌, ℕ, ℤ, ◌≤◌, true, List, [], length, drop, refl, zero, suc, ap}
 use Rattle.std.proofs.lemmas.List.{drop_all}
-use Rattle.std.specs.Prelude.{Option, Some, None, is_some, IsSome}
+use Rattle.std.specs.Prelude.{Some, is_some, IsSome}
 use Rattle.ln_code.specs.declared.op.Op.{Op}
 use Rattle.ln_code.specs.declared.op.Triple.{Triple}
-use Rattle.ln_code.specs.Engine.{Engine, State, Line, next, run, only, answer}
+use Rattle.ln_code.specs.Engine.{Engine, Line, run, only, answer}
 use Rattle.ln_code.specs.Memory.{seen, at, plain, shifted}
 
 only_seen : (buf : List ℤ) (top : ℕ) → is_some (only (seen buf top)) ≡ true → only (seen buf top) ≡ Some (at buf 0)

@@ -1,5 +1,5 @@
 -- The error of what a filter leaves is that of the operation that pushed it.
-use Rattle.std.proofs.Common.{◌≡◌, ℕ, ℤ, ◌+◌, ◌-◌, ◌≤◌, ◌<◌, Bool, true, false, List, [], ◌∷◌, length, refl, zero, suc, ap, arith, neg_ℤ, ◌∙◌, sym}
+use Rattle.std.proofs.Common.{◌≡◌, ℕ, ℤ, ◌-◌, false, List, [], ◌∷◌, length, refl, suc, ap, arith, neg_ℤ, sym}
 use Rattle.std.specs.Prelude.{Option, Some, None, ◌==◌, if◌then◌else◌, slice_get}
 use Rattle.std.proofs.lemmas.Bool.Decides.{nat_tests}
 use Rattle.ln_bound.specs.declared.fitted.Width.{Width}
@@ -8,7 +8,7 @@ use Rattle.ln_bound.specs.declared.fitted.Two.TheVariants.{Plus, Minus, Times}
 use Rattle.ln_code.specs.declared.op.Op.{Op}
 use Rattle.ln_code.specs.declared.op.Op.TheVariants.{Push, Input, Get, Set, Add, Sub, Mul, Neg, Cut}
 use Rattle.ln_code.specs.declared.op.Triple.{Triple}
-use Rattle.ln_code.specs.Engine.{Engine, State, Line, when, next, pushed, with_one, with_two, stored, step, run, only, answer}
+use Rattle.ln_code.specs.Engine.{State, next, pushed, with_one, with_two, stored, step, run, only, answer}
 use Rattle.ln_code.specs.Numbers.{cut_by, result_of, no_locals}
 use Rattle.ln_code.specs.Exact.{Held, held, held_at, exact_filter}
 use Rattle.ln_code.specs.Errors.{size_after, error_behind, left_error}

@@ -1,6 +1,6 @@
 -- A block that follows the rules: the machine over whole numbers and the processor follow them too.
-use Rattle.std.proofs.Common.{◌≡◌, ℕ, ℤ, ◌+◌, ◌*◌, ◌≤◌, ◌<◌, Bool, true, false, List, [], ◌∷◌, length, refl, zero, suc, ap, arith, pos, ◌+ℤ◌, ◌-ℤ◌, ◌*ℤ◌, neg_ℤ, unsigned_abs, ◌&&◌, ◌∙◌, sym}
-use Rattle.std.specs.Prelude.{Option, Some, None, if◌then◌else◌, ◌==◌, nat_le, slice_get, slice_index_or, ◌≤ℤ◌}
+use Rattle.std.proofs.Common.{◌≡◌, ℕ, ℤ, ◌≤◌, Bool, true, false, List, [], ◌∷◌, refl, zero, suc, ap, arith, neg_ℤ, unsigned_abs, ◌&&◌}
+use Rattle.std.specs.Prelude.{Option, Some, None, if◌then◌else◌, ◌==◌, slice_get, ◌≤ℤ◌}
 use Rattle.std.proofs.lemmas.Int.{ints, unsigned_abs-mul}
 use Rattle.std.proofs.lemmas.Bool.{leb-true, le-leb, and_parts}
 use Rattle.std.proofs.Math.Nat.{mul-le-mul}
@@ -15,8 +15,8 @@ use Rattle.ln_bound.specs.declared.fitted.Two.TheVariants.{Plus, Minus, Times}
 use Rattle.ln_bound.specs.Value.{value, values, size_of}
 use Rattle.ln_bound.specs.Widths.{limit, least, wider, no_wider}
 use Rattle.ln_bound.specs.Typed.{bound_of, two_of}
-use Rattle.ln_code.specs.Engine.{Engine, State, Line, when, next}
-use Rattle.ln_code.specs.Numbers.{result_of, cut_by, fits, with_local, no_locals}
+use Rattle.ln_code.specs.Engine.{when, next}
+use Rattle.ln_code.specs.Numbers.{result_of, cut_by, fits, with_local}
 use Rattle.ln_code.specs.Exact.{exact, within}
 use Rattle.ln_code.specs.Rules.{Known, known, rules}
 use Rattle.ln_code.specs.Bare.{bare}

@@ -14,3 +14,4 @@ pub mod Sums
 pub mod Stages
 pub mod Differ
 pub mod Means
+pub mod Together

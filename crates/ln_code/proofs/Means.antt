@@ -1,11 +1,7 @@
 -- What the rules promise of every row in range.
-use Rattle.std.proofs.Common.{◌≡◌, ℕ, ℤ, ◌<◌, ◌≤◌, List, [], ap, arith, sym, subst, unsigned_abs}
-use Rattle.ln_tree.specs.declared.shape.VarInfo.{VarInfo}
-use Rattle.ln_tree.specs.Row.{AreWithin}
+use Rattle.std.proofs.Common.{[], arith}
 use Rattle.ln_bound.specs.Value.{value, values}
-use Rattle.ln_code.specs.Part.{Code, FilterCode}
-use Rattle.ln_code.specs.Kept.{FollowsRules, FollowsFilterRules}
-use Rattle.ln_code.specs.Law.{BlocksMean, BlockMeans, FiltersMean, FilterMeans}
+use Rattle.ln_code.specs.Law.{BlocksMean, FiltersMean}
 use Rattle.ln_code.proofs.Runs.{block_runs, filter_runs}
 use Rattle.ln_code.proofs.Near.{decides_positive, decides_negative}
 use Rattle.std.specs.Prelude.{pos}

@@ -1,6 +1,6 @@
 -- What follows of one engine's answer for another's, and what the lines of code are.
-use Rattle.std.proofs.Common.{◌≡◌, ℕ, ℤ, ◌+◌, ◌-◌, ◌≤◌, ◌<◌, Bool, true, false, List, [], ◌∷◌, length, refl, zero, suc, ap, arith, pos, ◌∙◌, sym}
-use Rattle.std.specs.Prelude.{Option, Some, None, is_some, IsSome}
+use Rattle.std.proofs.Common.{◌≡◌, ℕ, ℤ, ◌≤◌, List, [], ◌∷◌, length, refl, ap, arith, sym}
+use Rattle.std.specs.Prelude.{Option, Some, None, IsSome}
 use Rattle.ln_tree.specs.declared.shape.VarInfo.{VarInfo}
 use Rattle.ln_tree.specs.Row.{AreWithin}
 use Rattle.ln_bound.specs.Value.{value, values}
@@ -14,7 +14,7 @@ use Rattle.ln_code.specs.FilterRules.{FilterKnown, filter_rules}
 use Rattle.ln_code.specs.Bare.{bare}
 use Rattle.ln_code.specs.Part.{Code, FilterCode, lines_of, block_value, filter_value, known_of, filter_known_of}
 use Rattle.ln_code.specs.Kept.{FollowsRules, FollowsFilterRules}
-use Rattle.ln_code.specs.Memory.{at, plain, shifted}
+use Rattle.ln_code.specs.Memory.{plain, shifted}
 use Rattle.ln_code.proofs.Follow.{Reaches, Stacked, Agree, Follows, relined, run_follows}
 use Rattle.ln_code.proofs.Known.{Fits, Locals, Slots, exact_follows, bare_follows}
 use Rattle.ln_code.proofs.FilterKnown.{HoldsHeld, HeldLocals, HeldSlots, IsNumber, roomy, roomy_follows, exact_follows_roomy, bare_follows_roomy}

@@ -1,15 +1,14 @@
 -- One stage after the other.
-use Rattle.std.proofs.Common.{◌≡◌, ◌≢◌, ℕ, ℤ, ◌+◌, ◌≤◌, ◌<◌, ◌^◌, List, [], ◌∷◌, length, drop, drop-cons, add-one, refl, zero, suc, ap, arith, pos, negsuc, get_or, ◌∙◌, sym}
-use Rattle.std.specs.Prelude.{Option, Some, None, slice_get, All}
+use Rattle.std.proofs.Common.{◌≡◌, ◌≢◌, ℕ, ℤ, ◌+◌, ◌<◌, ◌^◌, List, ◌∷◌, length, drop, drop-cons, add-one, refl, zero, suc, ap, arith, pos, negsuc, get_or, ◌∙◌, sym}
+use Rattle.std.specs.Prelude.{Option, Some, slice_get, All}
 use Rattle.ln_tree.specs.declared.shape.VarInfo.{VarInfo}
 use Rattle.ln_code.specs.declared.verdict.Verdict.{Verdict}
 use Rattle.ln_code.specs.declared.verdict.By.TheVariants.{Stage}
-use Rattle.ln_code.specs.Engine.{next}
 use Rattle.ln_code.specs.Part.{Code, block_value, wide_in, ops_in_blocks}
 use Rattle.ln_code.specs.Kept.{FollowsRules, IsList}
 use Rattle.ln_code.specs.Verdict.{sign_of, settled, along}
 use Rattle.ln_code.proofs.Calls.{there}
-use Rattle.ln_code.proofs.Sums.{sum_of, wide_at, Few, list_few}
+use Rattle.ln_code.proofs.Sums.{sum_of, wide_at, list_few}
 
 settled_other : (z : ℤ) (place wide calls : ℕ) (rest : Option Verdict) → z ≢ pos 0 → settled z place wide calls rest ≡ Some (record { sign = sign_of z; by = Stage place; wide = wide; calls = calls })
 settled_other (pos zero) place wide calls rest h = absurd (h refl)

@@ -1,5 +1,5 @@
 -- What an operation finds on the stack of the processor, and what it leaves there.
-use Rattle.std.proofs.Common.{◌≡◌, ◌≢◌, ℕ, ℤ, ◌+◌, ◌-◌, ◌≤◌, ◌<◌, Bool, true, false, List, [], ◌∷◌, length, refl, zero, suc, ap, arith, pos, neg_ℤ, unsigned_abs, ◌&&◌, ◌∙◌, sym}
+use Rattle.std.proofs.Common.{◌≡◌, ℕ, ℤ, ◌-◌, ◌≤◌, ◌<◌, Bool, true, false, List, [], ◌∷◌, length, refl, zero, suc, ap, arith, pos, neg_ℤ, ◌∙◌, sym}
 use Rattle.std.specs.Prelude.{slice_index_or, slice_get, Option, Some, None, is_some, IsSome, ◌==◌, if◌then◌else◌}
 use Rattle.std.proofs.lemmas.Bool.{leb-true, le-leb, and_parts}
 use Rattle.ln_bound.specs.declared.fitted.Width.{Width}
@@ -7,7 +7,7 @@ use Rattle.ln_bound.specs.declared.fitted.Two.{Two}
 use Rattle.ln_bound.specs.declared.fitted.Two.TheVariants.{Plus, Minus, Times}
 use Rattle.ln_code.specs.declared.op.Op.{Op}
 use Rattle.ln_code.specs.declared.op.Op.TheVariants.{Push, Input, Get, Set, Add, Sub, Mul, Neg, Cut}
-use Rattle.ln_code.specs.Engine.{Engine, State, when, next, pushed, with_one, with_two, stored}
+use Rattle.ln_code.specs.Engine.{when, next, pushed, with_one, with_two, stored}
 use Rattle.ln_code.specs.Numbers.{fits, result_of, cut_by}
 use Rattle.ln_code.specs.Bare.{bare}
 use Rattle.ln_code.specs.Memory.{seen, at, TwoReady, leads}

@@ -1,11 +1,11 @@
 -- Sums over the blocks that a list names.
-use Rattle.std.proofs.Common.{◌≡◌, ◌≢◌, ℕ, ◌+◌, ◌≤◌, ◌<◌, Bool, true, false, List, [], ◌∷◌, length, refl, zero, suc, ap, arith, get_or, ◌∙◌, sym}
-use Rattle.std.specs.Prelude.{Option, Some, None, IsSome, is_some, slice_get, All, AllPairs, if◌then◌else◌, ◌==◌}
+use Rattle.std.proofs.Common.{◌≡◌, ◌≢◌, ℕ, ◌+◌, ◌≤◌, ◌<◌, Bool, true, false, List, [], ◌∷◌, length, refl, zero, suc, ap, arith, get_or}
+use Rattle.std.specs.Prelude.{Option, Some, None, IsSome, slice_get, All, AllPairs, if◌then◌else◌, ◌==◌}
 use Rattle.std.proofs.lemmas.Bool.Decides.{nat_tests}
 use Rattle.std.proofs.lemmas.List.Sums.{count_by-le-length}
 use Rattle.ln_tree.specs.declared.shape.VarInfo.{VarInfo}
 use Rattle.ln_code.specs.declared.op.Op.{Op}
-use Rattle.ln_code.specs.Part.{Code, is_wide, wide_in, ops_in_blocks, known_of, lines_of}
+use Rattle.ln_code.specs.Part.{Code, is_wide, wide_in, ops_in_blocks, known_of}
 use Rattle.ln_code.specs.Kept.{FollowsRules, IsList}
 
 -- the sum of f over a list

@@ -1,5 +1,5 @@
 -- What a block and a filter mean: the machine over whole numbers that have no greatest value. It has no answer where a value is above its operation's bound or leaves its width.
-use Rattle.std.specs.Prelude.{ℕ, ◌&&◌, nat_le, true, ℤ, neg_ℤ, unsigned_abs, List, Option, Some, None, slice_get}
+use Rattle.std.specs.Prelude.{ℕ, ◌&&◌, nat_le, true, ℤ, neg_ℤ, unsigned_abs, List, Option, None, slice_get}
 use Rattle.ln_bound.specs.declared.fitted.Width.{Width}
 use Rattle.ln_bound.specs.declared.fitted.Width.TheVariants.{W64, W128}
 use Rattle.ln_code.specs.declared.op.Triple.{Triple}

@@ -1,5 +1,5 @@
 -- What the memory of the processor holds.
-use Rattle.std.specs.Prelude.{◌≡◌, ℕ, zero, suc, ◌-◌, ◌≤◌, true, ℤ, pos, List, [], ◌∷◌, length, slice_index_or, All, Option, IsSome, IfSome}
+use Rattle.std.specs.Prelude.{◌≡◌, ℕ, zero, suc, ◌-◌, ◌≤◌, true, ℤ, pos, List, [], ◌∷◌, length, slice_index_or, All, Option, IfSome}
 use Rattle.ln_bound.specs.declared.fitted.Width.{Width}
 use Rattle.ln_bound.specs.declared.fitted.Two.{Two}
 use Rattle.ln_code.specs.declared.op.Op.{Op}

@@ -1,5 +1,5 @@
 -- The rules on a block, before any row is seen: each bound covers its operation over its operands' bounds and fits its width, no operand is wider, and each value carries the expression that it is the value of.
-use Rattle.std.specs.Prelude.{ℕ, ◌&&◌, nat_le, ℤ, unsigned_abs, List, Option, Some, None, slice_get, if◌then◌else◌}
+use Rattle.std.specs.Prelude.{ℕ, ◌&&◌, nat_le, unsigned_abs, List, Option, None, slice_get, if◌then◌else◌}
 use Rattle.ln_algebra.specs.Tree as tree
 use Rattle.ln_algebra.specs.Tree.{Tree}
 use Rattle.ln_tree.specs.declared.shape.VarInfo.{VarInfo}

@@ -58,13 +58,7 @@ fn error_behind(op: Op, n: u32, e: u64, d: u64) -> u64
         | Op::Sub(_)
         | Op::Mul(_)
         | Op::Neg(_)
-        | Op::Cut(_) => {
-            if n == 1 {
-                e
-            } else {
-                d
-            }
-        }
+        | Op::Cut(_) => { if n == 1 { e } else { d } }
     }
 }
 

@@ -15,7 +15,14 @@ fn value_of(values: &[i64], v: u8) -> i128
 }
 
 // One operation. What it needs is there, and what it makes fits. A number is pushed divided by 2^k.
-fn apply(op: Op, k: u8, values: &[i64], stack: &mut [i128], locals: &mut [i128], top: usize) -> usize
+fn apply(
+    op: Op,
+    k: u8,
+    values: &[i64],
+    stack: &mut [i128],
+    locals: &mut [i128],
+    top: usize,
+) -> usize
     requires room { top ≤ length stack.old }
     requires locals { 256 ≤ length locals.old }
     requires answers { IsSome (leads op k values.now stack.old top locals.old) }

@@ -115,7 +115,13 @@ fn run_list(p: &Program, list: &[u32], entered: u32, values: &[i64], s: &mut Scr
 }
 
 // Runs the filter, and where it doesn't decide, the blocks of a list.
-fn run_filtered(p: &Program, f: &FilterBlock, list: &[u32], values: &[i64], s: &mut Scratch) -> Verdict
+fn run_filtered(
+    p: &Program,
+    f: &FilterBlock,
+    list: &[u32],
+    values: &[i64],
+    s: &mut Scratch,
+) -> Verdict
     requires program { IsProgram p.now }
     requires filter { p.now.filter ≡ Some f.now }
     requires list { IsList (length p.now.blocks) list.now }

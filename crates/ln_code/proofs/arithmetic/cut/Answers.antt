@@ -1,4 +1,4 @@
-use Rattle.std.proofs.Common.{arith, ◌≡◌, ◌≤◌, ◌<◌, ◌^◌, ◌/◌, unsigned_abs}
+use Rattle.std.proofs.Common.{arith, ◌≤◌, ◌^◌, ◌/◌, unsigned_abs}
 use Rattle.std.proofs.lemmas.Int.{ints, to_z_pos}
 use mir.Syntax.{w128}
 use Rattle.ln_code.proofs.Cutting.{cut_far, halved, negated_fits}

@@ -1,4 +1,4 @@
-use Rattle.std.proofs.Common.{arith, ◌≡◌, FitsSigned, rules, to_z, of_z, add-one}
+use Rattle.std.proofs.Common.{FitsSigned, rules, add-one}
 use Rattle.std.proofs.lemmas.Int.{to_z-of_z}
 use mir.Syntax.{w128}
 use Rattle.ln_code.proofs.Cells.{seen-push}

@@ -1,10 +1,9 @@
-use Rattle.std.proofs.Common.{arith, ◌≡◌, ◌<◌, length, rules, pos, FitsSigned}
-use Rattle.std.specs.Prelude.{slice_index_or}
+use Rattle.std.proofs.Common.{arith, ◌<◌, length, rules, FitsSigned}
 use mir.Syntax.{w128}
 use Rattle.std.proofs.lemmas.Int.{to_z-of_z}
 use Rattle.ln_bound.specs.declared.fitted.Two.TheVariants.{Plus, Minus, Times}
-use Rattle.ln_code.specs.Memory.{at, seen, leads}
-use Rattle.ln_code.proofs.Steps.{leads_push, push_leads, leads_input, input_leads, leads_get, get_leads, leads_two, two_leads, leads_neg, neg_leads, leads_cut, cut_leads, leads_set, set_leads}
+use Rattle.ln_code.specs.Memory.{at}
+use Rattle.ln_code.proofs.Steps.{leads_push, leads_input, input_leads, leads_get, leads_two, two_leads, cut_leads, set_leads}
 use Rattle.ln_code.proofs.processor.apply.Goals as goal
 
 pub push-requires : goal.push-requires

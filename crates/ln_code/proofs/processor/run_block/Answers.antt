@@ -1,4 +1,4 @@
-use Rattle.std.proofs.Common.{◌≡◌, FitsSigned, rules, slice_index_or, pos, length}
+use Rattle.std.proofs.Common.{FitsSigned, rules, slice_index_or, pos, length}
 use Rattle.std.proofs.lemmas.Int.{to_z-of_z}
 use mir.Syntax.{w128}
 use Rattle.ln_code.specs.Bare.{bare}

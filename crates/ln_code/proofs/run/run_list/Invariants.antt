@@ -1,4 +1,4 @@
-use Rattle.std.proofs.Common.{◌≡◌, ◌+◌, drop, length}
+use Rattle.std.proofs.Common.{◌≡◌, ◌+◌, drop}
 use Rattle.ln_code.specs.Verdict.{along}
 use Rattle.ln_code.specs.Memory.{MadeFor}
 use Rattle.ln_code.proofs.Sums.{sum_of, wide_at}

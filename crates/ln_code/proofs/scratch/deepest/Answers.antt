@@ -1,4 +1,3 @@
-use Rattle.std.proofs.Common.{◌≡◌, take, subst, length}
 use Rattle.std.proofs.lemmas.List.{take_all}
 use Rattle.ln_code.proofs.Depths.{deeper}
 use Rattle.ln_code.proofs.scratch.deepest.Goals as goal

@@ -1,4 +1,4 @@
-use Rattle.std.proofs.Common.{◌≡◌, ◌≤◌, length, arith}
+use Rattle.std.proofs.Common.{◌≡◌, length, arith}
 use Rattle.ln_code.proofs.Depths.{made_for}
 use Rattle.ln_code.proofs.scratch.Scratch.new.Goals as goal
 
