@@ -1,4 +1,5 @@
 pub mod Parts
+pub mod Scaled
 pub mod Same
 pub mod Bounds
 pub mod Costs
