@@ -8,3 +8,4 @@ pub mod Vectors
 pub mod Steps
 pub mod Whole
 pub mod Doubled
+pub mod Shortest
