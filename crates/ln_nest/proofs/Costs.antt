@@ -1,11 +1,12 @@
 -- The cost of a nested tree, and how deep a stack it needs.
-use Rattle.std.proofs.Common.{◌≡◌, ℕ, ◌+◌, ◌-◌, ◌*◌, ◌≤◌, ◌<◌, max, Bool, true, false, List, [], ◌∷◌, length, refl, zero, suc, arith, if◌then◌else◌}
+use Rattle.std.proofs.Common.{◌≡◌, ℕ, ◌+◌, ◌*◌, ◌≤◌, max, Bool, true, false, List, [], ◌∷◌, length, refl, zero, suc, arith, if◌then◌else◌}
 use Rattle.ln_algebra.specs.Terms.{Term}
 use Rattle.ln_algebra.specs.Tree.{Tree, Num, Input, Name, Neg, Add, Sub, Mul, Pow}
 use Rattle.ln_algebra.specs.Vector.{degree}
 use Rattle.ln_bound.specs.declared.fitted.Two.TheVariants.{Plus, Minus, Times}
 use Rattle.ln_bound.specs.Typed.{Typed, TNum, TInput, TLet, TNeg, TTwo, TPow, cost, need, untyped}
-use Rattle.ln_nest.specs.Nested.{exponent_of, is_positive, one_less, divided, free_of, joined, horner, nested}
+use Rattle.ln_nest.specs.Nested.{exponent_of, is_positive, one_less, divided, free_of, joined, horner, nested, scaled}
+use Rattle.ln_nest.proofs.Scaled.{scaled_cases}
 
 -- the cost of a tree without bounds
 abbrev pub cost_of : Tree → ℕ
@@ -74,10 +75,13 @@ parts_allowance v (t ∷ f) = by_case (is_positive (exponent_of v t.exponents)) 
 abbrev pub Cheap : Tree → List Term → Type 0
 Cheap e f = cost_of e + 1 ≤ max 2 (allowance f)
 
+cost_scaled : (v : ℕ) (h : Tree) → cost_of (scaled v h) ≤ cost_of h + 2
+cost_scaled v h = scaled_cases v h (λ t. cost_of t ≤ cost_of h + 2) (λ e. omega arith) (λ e. omega arith) (omega arith)
+
 joined_cheap : (v : ℕ) (h i : Tree) (p q : List Term) (n : ℕ) → Cheap h p → Cheap i q → allowance p + 2 * length p + allowance q ≡ n → cost_of (joined v h i p q) + 1 ≤ max 2 n
 joined_cheap v h i [] q n a b e = omega (arith, b, e)
-joined_cheap v h i (x ∷ p) [] n a b e = omega (arith, a, e)
-joined_cheap v h i (x ∷ p) (y ∷ q) n a b e = omega (arith, a, b, e)
+joined_cheap v h i (x ∷ p) [] n a b e = let s = cost_scaled v h in omega (arith, a, e, s)
+joined_cheap v h i (x ∷ p) (y ∷ q) n a b e = let s = cost_scaled v h in omega (arith, a, b, e, s)
 
 pub parts_length : (v : ℕ) (f : List Term) → length (divided v f) + length (free_of v f) ≡ length f
 parts_length v [] = refl
@@ -129,10 +133,13 @@ none_divided v (t ∷ f) a = by_case (is_positive (exponent_of v t.exponents)) r
     by_case true e ih = let q = one_less_degree v t.exponents e in absurd (omega (arith, q, a.0))
     by_case false e ih = ih
 
+need_scaled : (v : ℕ) (h : Tree) → need_of (scaled v h) ≤ need_of h + 1
+need_scaled v h = scaled_cases v h (λ t. need_of t ≤ need_of h + 1) (λ e. omega arith) (λ e. omega arith) (omega arith)
+
 joined_need : (v : ℕ) (h i : Tree) (p q : List Term) (n : ℕ) → need_of h + 1 ≤ n → need_of i + 1 ≤ n → need_of (joined v h i p q) ≤ n
 joined_need v h i [] q n a b = omega (arith, b)
-joined_need v h i (x ∷ p) [] n a b = omega (arith, a)
-joined_need v h i (x ∷ p) (y ∷ q) n a b = omega (arith, a, b)
+joined_need v h i (x ∷ p) [] n a b = let s = need_scaled v h in omega (arith, a, s)
+joined_need v h i (x ∷ p) (y ∷ q) n a b = let s = need_scaled v h in omega (arith, a, b, s)
 
 -- the stack of a nested tree is as deep as a term's degree, and k more
 abbrev pub IsShallow : ℕ → (List Term → Tree) → Type 0

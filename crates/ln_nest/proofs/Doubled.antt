@@ -1,10 +1,10 @@
 -- Twice the first of two numbers from -10 to 10, as a polynomial.
-use Rattle.std.proofs.Common.{◌≡◌, ℕ, ℤ, ◌≤◌, ◌<◌, All, List, [], ◌∷◌, arith, pos, zero, suc}
+use Rattle.std.proofs.Common.{◌≤◌, All, List, [], ◌∷◌, arith, pos, zero, suc}
 use Rattle.std.specs.Prelude.{Some, neg_ℤ}
 use Rattle.ln_algebra.specs.Vector.{degree}
 use Rattle.ln_algebra.specs.Weights.{weighted_sum}
 use Rattle.ln_tree.specs.declared.shape.VarInfo.{VarInfo}
-use Rattle.ln_tree.specs.Exps.{IsAbove, Pairs, vector}
+use Rattle.ln_tree.specs.Exps.{vector}
 use Rattle.ln_bound.specs.Light.{most}
 use Rattle.ln_bound.specs.Value.{sizes}
 use Rattle.ln_poly.specs.Sparse.{AreBelow, Sparse, terms_of}

@@ -1,22 +1,23 @@
 -- No node of a nested tree has more terms than the list, or larger exponents.
-use Rattle.std.proofs.Common.{◌≡◌, ℕ, ℤ, ◌+◌, ◌-◌, ◌*◌, ◌≤◌, ◌<◌, max, Bool, true, false, eqb, List, [], ◌∷◌, ◌++◌, length, refl, zero, suc, ap, arith, pos, ◌+ℤ◌, ◌*ℤ◌, ◌∙◌, sym, ◌⊎◌, inl, inr, if◌then◌else◌, length-append}
+use Rattle.std.proofs.Common.{◌≡◌, ℕ, ◌+◌, ◌-◌, ◌≤◌, ◌<◌, max, Bool, true, false, eqb, List, [], ◌∷◌, ◌++◌, length, refl, zero, suc, ap, arith, pos, sym, ◌⊎◌, inl, inr, if◌then◌else◌, length-append}
 use Rattle.std.proofs.lemmas.Bool.{cases_eq}
 use Rattle.std.proofs.lemmas.Bool.Decides.{nat_tests}
-use Rattle.ln_algebra.specs.Terms.{IsNormalOf, Term}
-use Rattle.ln_algebra.specs.Tree.{InputsBelow, Tree, Num, Input, Add, Mul}
+use Rattle.ln_algebra.specs.Terms.{Term}
+use Rattle.ln_algebra.specs.Tree.{InputsBelow, Tree, Num, Input, Neg, Add, Mul}
 use Rattle.ln_algebra.specs.Vector.{plus, unit_vector, zeros}
 use Rattle.ln_algebra.proofs.Expansion.{Over-expanded, expanded, times, times_term}
 use Rattle.ln_algebra.proofs.Normal.{normal_is}
 use Rattle.ln_nest.specs.Lean.{AreLean, AreUnder, IsLean}
-use Rattle.ln_nest.specs.Nested.{exponent_of, is_positive, one_less, divided, free_of, total, joined, horner, nested}
+use Rattle.ln_nest.specs.Nested.{exponent_of, is_positive, one_less, divided, free_of, total, joined, horner, nested, scaled}
+use Rattle.ln_nest.proofs.Scaled.{expanded_scaled, inputs_scaled, scaled_cases}
 use Rattle.ln_nest.proofs.Parts.{exponent-here, exponent-less}
 use Rattle.ln_nest.proofs.Costs.{parts_length}
 
 -- ---- the variables of a nested tree
 joined_inputs : (n v : ℕ) (h i : Tree) (p q : List Term) → v < n → InputsBelow n h → InputsBelow n i → InputsBelow n (joined v h i p q)
 joined_inputs n v h i [] q l a b = b
-joined_inputs n v h i (x ∷ p) [] l a b = (l, a)
-joined_inputs n v h i (x ∷ p) (y ∷ q) l a b = ((l, a), b)
+joined_inputs n v h i (x ∷ p) [] l a b = inputs_scaled n v h l a
+joined_inputs n v h i (x ∷ p) (y ∷ q) l a b = (inputs_scaled n v h l a, b)
 
 horner_inputs : (n v : ℕ) (inner : List Term → Tree) → v < n → ((g : List Term) → InputsBelow n (inner g)) → (d : ℕ) (f : List Term) → InputsBelow n (horner inner v d f)
 horner_inputs n v inner l is zero f = is f
@@ -178,14 +179,20 @@ pub record Slim (n count : ℕ) (top big : ℕ → ℕ) (e : Tree) (f : List Ter
   pub nodes : AreLean n count big e
 
 -- v times a tree
-times_slim : (n v count : ℕ) (top big : ℕ → ℕ) (h : Tree) (x : Term) (p : List Term) → v < n → length (x ∷ p) ≤ count → ((w : ℕ) → top w ≤ big w) → 1 ≤ top v → InputsBelow n h → Slim n count (less_at v top) big h (x ∷ p) → Slim n count top big (Mul (Input v) h) (x ∷ p)
-times_slim n v count top big h x p i c l s b a =
+scaled_slim : (n v count : ℕ) (top big : ℕ → ℕ) (h : Tree) (x : Term) (p : List Term) → v < n → length (x ∷ p) ≤ count → ((w : ℕ) → top w ≤ big w) → 1 ≤ top v → InputsBelow n h → Slim n count (less_at v top) big h (x ∷ p) → Slim n count top big (scaled v h) (x ∷ p)
+scaled_slim n v count top big h x p i c l s b a =
+    let product = times (unit_term n v ∷ []) (expanded n h) in
     let e = length_times_one (unit_term n v) (expanded n h) in
-    let few : length (expanded n (Mul (Input v) h)) ≤ max 1 (length (x ∷ p)) = let k = a.few in omega (arith, e, k) in
-    let under : AreUnder top (expanded n (Mul (Input v) h)) = under_both top (times_term (unit_term n v) (expanded n h)) [] (times_under n v top (expanded n h) s a.under) tt in
-    let here : IsLean n count big (Mul (Input v) h) = lean_below n count top big (Mul (Input v) h) l (i, b) (omega (arith, few, c)) under in
+    let k : length product ≤ max 1 (length (x ∷ p)) = let k = a.few in omega (arith, e, k) in
+    let u : AreUnder top product = under_both top (times_term (unit_term n v) (expanded n h)) [] (times_under n v top (expanded n h) s a.under) tt in
+    let few : length (expanded n (scaled v h)) ≤ max 1 (length (x ∷ p)) = rw (expanded_scaled n v h) k in
+    let under : AreUnder top (expanded n (scaled v h)) = rw (expanded_scaled n v h) u in
     let input : IsLean n count big (Input v) = lean_below n count top big (Input v) l i (omega (arith, c)) (unit_under n v top s, tt) in
-    record { few = few; under = under; nodes = (input, a.nodes, here) }
+    let nodes = scaled_cases v h (λ t. length (expanded n t) ≤ count → AreUnder top (expanded n t) → AreLean n count big t)
+    (λ q f w. input)
+    (λ q f w. (input, lean_below n count top big (Neg (Input v)) l i f w))
+    (λ f w. (input, a.nodes, lean_below n count top big (Mul (Input v) h) l (i, b) f w)) in
+    record { few = few; under = under; nodes = nodes (omega (arith, few, c)) under }
 
 -- a sum of two trees
 sum_slim : (n count : ℕ) (top big : ℕ → ℕ) (e g : Tree) (x y : Term) (p q : List Term) → length (x ∷ p) + length (y ∷ q) ≤ count → ((w : ℕ) → top w ≤ big w) → InputsBelow n e → InputsBelow n g → Slim n count top big e (x ∷ p) → Slim n count top big g (y ∷ q) → (f : List Term) → length f ≡ length (x ∷ p) + length (y ∷ q) → Slim n count top big (Add e g) f
@@ -200,10 +207,10 @@ slim_for n count top big e f g z a = record { few = let k = a.few in omega (arit
 
 joined_slim : (n v count : ℕ) (top big : ℕ → ℕ) (h i : Tree) (p q f : List Term) → v < n → length p + length q ≡ length f → length f ≤ count → ((w : ℕ) → top w ≤ big w) → (0 < length p → 1 ≤ top v) → InputsBelow n h → InputsBelow n i → Slim n count (less_at v top) big h p → Slim n count top big i q → Slim n count top big (joined v h i p q) f
 joined_slim n v count top big h i [] q f u z c l s j k a b = slim_for n count top big i q f (omega (arith, z)) b
-joined_slim n v count top big h i (x ∷ p) [] f u z c l s j k a b = slim_for n count top big (Mul (Input v) h) (x ∷ p) f (omega (arith, z)) (times_slim n v count top big h x p u (omega (arith, z, c)) l (s (omega arith)) j a)
+joined_slim n v count top big h i (x ∷ p) [] f u z c l s j k a b = slim_for n count top big (scaled v h) (x ∷ p) f (omega (arith, z)) (scaled_slim n v count top big h x p u (omega (arith, z, c)) l (s (omega arith)) j a)
 joined_slim n v count top big h i (x ∷ p) (y ∷ q) f u z c l s j k a b =
-    let m : Slim n count top big (Mul (Input v) h) (x ∷ p) = times_slim n v count top big h x p u (omega (arith, z, c)) l (s (omega arith)) j a in
-    sum_slim n count top big (Mul (Input v) h) i x y p q (omega (arith, z, c)) l (u, j) k m b f (omega (arith, z))
+    let m : Slim n count top big (scaled v h) (x ∷ p) = scaled_slim n v count top big h x p u (omega (arith, z, c)) l (s (omega arith)) j a in
+    sum_slim n count top big (scaled v h) i x y p q (omega (arith, z, c)) l (inputs_scaled n v h u j) k m b f (omega (arith, z))
 
 -- so is the tree of each list with few terms
 abbrev pub IsSlim : ℕ → ℕ → (ℕ → ℕ) → (List Term → Tree) → Type 0

@@ -1,10 +1,10 @@
 -- A list of terms divided by a variable, and what is free of it.
-use Rattle.std.proofs.Common.{◌≡◌, ℕ, ℤ, ◌+◌, ◌-◌, ◌*◌, ◌≤◌, ◌<◌, ◌^◌, Bool, true, false, List, [], ◌∷◌, ◌++◌, length, refl, zero, suc, ap, arith, pos, ◌+ℤ◌, ◌*ℤ◌, ◌∙◌, sym, ◌⊎◌, inl, inr, if◌then◌else◌, unsigned_abs}
+use Rattle.std.proofs.Common.{◌≡◌, ℕ, ℤ, ◌+◌, ◌-◌, ◌≤◌, ◌<◌, Bool, true, false, List, [], ◌∷◌, length, refl, zero, suc, ap, arith, pos, ◌+ℤ◌, ◌∙◌, ◌⊎◌, inl, inr, if◌then◌else◌}
 use Rattle.std.proofs.lemmas.Int.{ints}
-use Rattle.std.proofs.lemmas.Bool.{cases_eq, cases_lt}
-use Rattle.ln_algebra.specs.Vector.{plus, sum_over}
+use Rattle.std.proofs.lemmas.Bool.{cases_eq}
+use Rattle.ln_algebra.specs.Vector.{plus}
 use Rattle.ln_algebra.specs.Terms.{Term, Over, factor_at, same_vector}
-use Rattle.ln_algebra.proofs.Expansion.{zeros, unit_vector, times_term, length-zeros}
+use Rattle.ln_algebra.proofs.Expansion.{zeros, unit_vector, times_term}
 use Rattle.ln_algebra.proofs.Ring.{one_mul}
 use Rattle.ln_nest.specs.Nested.{exponent_of, is_positive, one_less, divided, free_of, total}
 

@@ -1,16 +1,14 @@
 -- The nested form has the coefficients of the list.
-use Rattle.std.proofs.Common.{◌≡◌, ℕ, ℤ, ◌+◌, ◌≤◌, ◌<◌, Bool, true, false, List, [], ◌∷◌, ◌++◌, length, refl, zero, suc, ap, arith, pos, ◌+ℤ◌, ◌*ℤ◌, ◌∙◌, sym}
+use Rattle.std.proofs.Common.{◌≡◌, ℕ, ℤ, ◌+◌, List, [], ◌∷◌, ◌++◌, length, refl, zero, suc, ap, arith, pos, ◌+ℤ◌, ◌*ℤ◌, ◌∙◌, sym}
 use Rattle.std.proofs.lemmas.Int.{ints}
-use Rattle.ln_algebra.specs.Vector.{sum_over}
-use Rattle.ln_algebra.specs.Coefficient.{product, normal_coefficient}
-use Rattle.ln_algebra.specs.Terms.{Term, Over, factor_at, same_vector}
-use Rattle.ln_algebra.specs.Tree.{Tree, Num, Input, Name, Neg, Add, Sub, Mul, Pow, InputsBelow}
+use Rattle.ln_algebra.specs.Terms.{Term, Over, factor_at}
+use Rattle.ln_algebra.specs.Tree.{Tree}
 use Rattle.ln_algebra.proofs.Sums.{sum_over-append}
 use Rattle.ln_algebra.proofs.Shift.{sum_splits-within, product_is}
 use Rattle.ln_algebra.proofs.Product.{factor_at-times}
 use Rattle.ln_algebra.proofs.Expansion.{expanded, times, times_term, unit_vector, length-unit_vector, Over-expanded}
-use Rattle.ln_algebra.proofs.Normal.{normal_is}
 use Rattle.ln_nest.specs.Nested.{divided, free_of, joined, horner, nested}
+use Rattle.ln_nest.proofs.Scaled.{expanded_scaled}
 use Rattle.ln_nest.proofs.Parts.{AllFit, AllAt, parts_sum, free_fit, divided_fit, divided_at, none_fit, fit_at, fit_over, constants_sum}
 
 factor_at-append : (f g : List Term) (m : List ℕ) → factor_at (f ++ g) m ≡ factor_at f m +ℤ factor_at g m
@@ -46,7 +44,7 @@ joined_is n v d h i f (x ∷ p) [] e g a s t m l =
     let w = parts_sum n v d m f a in
     let o = fit_over n v d (divided v f) (divided_fit n v d f a) in
     let r : Same n (expanded n h) (divided v f) = rw (← e) s in
-    times_same n (unit_terms n v) (expanded n h) (divided v f) (length-unit_vector n v, tt) (Over-expanded n h) o r m l ∙ times_unit n v (divided v f) m ∙ no_rest (free_of v f) g w
+    ap (λ z. factor_at z m) (expanded_scaled n v h) ∙ times_same n (unit_terms n v) (expanded n h) (divided v f) (length-unit_vector n v, tt) (Over-expanded n h) o r m l ∙ times_unit n v (divided v f) m ∙ no_rest (free_of v f) g w
   where
     no_rest : (fs : List Term) → [] ≡ fs → factor_at (times_term (record { exponents = unit_vector n v; factor = pos 1 }) (divided v f)) m +ℤ factor_at fs m ≡ factor_at f m → factor_at (times_term (record { exponents = unit_vector n v; factor = pos 1 }) (divided v f)) m ≡ factor_at f m
     no_rest [] r w = omega (arith, ints, w)
@@ -57,7 +55,7 @@ joined_is n v d h i f (x ∷ p) (y ∷ q) e g a s t m l =
     let r : Same n (expanded n h) (divided v f) = rw (← e) s in
     let one = times_same n (unit_terms n v) (expanded n h) (divided v f) (length-unit_vector n v, tt) (Over-expanded n h) o r m l ∙ times_unit n v (divided v f) m in
     let two : factor_at (expanded n i) m ≡ factor_at (free_of v f) m = t m l ∙ ap (λ z. factor_at z m) g in
-    factor_at-append (times (unit_terms n v) (expanded n h)) (expanded n i) m ∙ rw (one, two) w
+    ap (λ z. factor_at (z ++ expanded n i) m) (expanded_scaled n v h) ∙ factor_at-append (times (unit_terms n v) (expanded n h)) (expanded n i) m ∙ rw (one, two) w
 
 horner_is : (n v d : ℕ) (inner : List Term → Tree) → ((g : List Term) → AllFit n (suc v) d g → Same n (expanded n (inner g)) g) → (b : ℕ) (f : List Term) → AllFit n v d f → AllAt v b f → Same n (expanded n (horner inner v b f)) f
 horner_is n v d inner is zero f a u = is f (none_fit n v d f a u)

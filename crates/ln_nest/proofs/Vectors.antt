@@ -1,13 +1,9 @@
 -- Vectors and lists of terms as the code has them.
-use Rattle.std.proofs.Common.{◌≡◌, ℕ, ℤ, ◌+◌, ◌-◌, ◌*◌, ◌≤◌, ◌<◌, Bool, true, false, List, [], ◌∷◌, ◌++◌, length, refl, zero, suc, ap, arith, pos, ◌+ℤ◌, ◌∙◌, sym, map, if◌then◌else◌, nat_lt, slice_set, slice_index_or, unsigned_abs, take}
-use Rattle.std.proofs.lemmas.Int.{ints}
+use Rattle.std.proofs.Common.{◌≡◌, ℕ, ◌+◌, ◌-◌, ◌≤◌, ◌<◌, Bool, true, false, List, [], ◌∷◌, ◌++◌, length, refl, zero, suc, ap, arith, ◌∙◌, sym, if◌then◌else◌, nat_lt, slice_set, slice_index_or}
 use Rattle.std.proofs.lemmas.Bool.Decides.{nat_tests}
-use Rattle.ln_algebra.specs.Terms.{Term}
-use Rattle.ln_algebra.specs.Weights.{weighted_sum}
 use Rattle.ln_nest.specs.declared.work.Work.{Work}
-use Rattle.ln_nest.specs.Nested.{exponent_of, is_positive, one_less, divided, free_of, total}
+use Rattle.ln_nest.specs.Nested.{exponent_of, is_positive, one_less, divided, free_of}
 use Rattle.ln_tree.specs.Exps.{Pairs, exponent, exponents_from, vector}
-use Rattle.ln_poly.specs.Sparse.{Sparse, term_of, terms_of}
 use Rattle.ln_nest.specs.View.{term_in, terms_in}
 
 pub exponent_is : (v : ℕ) (m : List ℕ) → exponent_of v m ≡ slice_index_or m v 0

@@ -1,19 +1,18 @@
 -- From a polynomial to its nested tree.
-use Rattle.std.proofs.Common.{◌≡◌, ℕ, ℤ, ◌+◌, ◌-◌, ◌*◌, ◌^◌, ◌≤◌, ◌<◌, max, true, eqb, All, List, [], ◌∷◌, length, map, refl, zero, suc, ap, arith, ◌∙◌, sym, unsigned_abs}
+use Rattle.std.proofs.Common.{◌≡◌, ℕ, ◌+◌, ◌-◌, ◌*◌, ◌≤◌, ◌<◌, max, All, List, [], ◌∷◌, length, refl, zero, suc, ap, arith, ◌∙◌, sym}
 use Rattle.std.proofs.lemmas.List.{length-map}
 use Rattle.std.proofs.lemmas.List.Elements.{All-head, All-tail}
 use Rattle.ln_algebra.specs.Coefficient.{normal_coefficient}
 use Rattle.ln_algebra.specs.Terms.{Over, Term, factor_at}
-use Rattle.ln_algebra.specs.Tree.{Tree, Num, Input, Add, Mul, inlined}
+use Rattle.ln_algebra.specs.Tree.{Tree, inlined}
 use Rattle.ln_algebra.specs.Vector.{degree}
 use Rattle.ln_algebra.specs.Weights.{monomial_weight, weighted_sum}
 use Rattle.ln_algebra.proofs.Normal.{normal_is}
 use Rattle.ln_tree.specs.declared.shape.VarInfo.{VarInfo}
 use Rattle.ln_tree.specs.Exps.{Pairs, exponent, exponents_from, vector}
 use Rattle.ln_bound.specs.Light.{most}
-use Rattle.ln_bound.specs.Exact.{IsExact}
 use Rattle.ln_bound.specs.Sound.{Sound}
-use Rattle.ln_bound.specs.Typed.{Typed, bound, cost, need, polynomial, untyped}
+use Rattle.ln_bound.specs.Typed.{Typed, cost, need, polynomial, untyped}
 use Rattle.ln_bound.specs.Value.{sizes}
 use Rattle.ln_poly.specs.Sparse.{Sparse, coefficient_at, term_of, terms_of}
 use Rattle.ln_poly.proofs.Products.{over-terms}
@@ -21,7 +20,8 @@ use Rattle.ln_nest.specs.Lean.{AreLean, AreUnder, largest}
 use Rattle.ln_nest.specs.Nested.{exponent_of, divided, free_of, joined, horner, nested}
 use Rattle.ln_nest.specs.declared.work.Work.{Work}
 use Rattle.ln_nest.specs.View.{Has, scale, terms_in}
-use Rattle.ln_nest.proofs.Parts.{AllFit, Fit, fit_over}
+use Rattle.ln_nest.proofs.Parts.{AllFit}
+use Rattle.ln_nest.proofs.Scaled.{closed_scaled}
 use Rattle.ln_nest.proofs.Same.{nested_is}
 use Rattle.ln_nest.proofs.Costs.{AllDegrees, allowance, cost_of, cost_same, need_of, need_same, nested_cheap, nested_need}
 use Rattle.ln_nest.proofs.Leans.{nested_inputs, nested_slim}
@@ -73,8 +73,8 @@ scaled_sum vars f = sum_same (scale vars) (sizes vars) (length vars) (terms_of (
 -- ---- a nested tree has no lets
 joined_closed : (v : ℕ) (h i : Tree) (p q : List Term) → inlined [] h ≡ h → inlined [] i ≡ i → inlined [] (joined v h i p q) ≡ joined v h i p q
 joined_closed v h i [] q a b = b
-joined_closed v h i (x ∷ p) [] a b = rw a refl
-joined_closed v h i (x ∷ p) (y ∷ q) a b = rw (a, b) refl
+joined_closed v h i (x ∷ p) [] a b = closed_scaled v h a
+joined_closed v h i (x ∷ p) (y ∷ q) a b = rw (closed_scaled v h a, b) refl
 
 horner_closed : (v : ℕ) (inner : List Term → Tree) → ((g : List Term) → inlined [] (inner g) ≡ inner g) → (d : ℕ) (f : List Term) → inlined [] (horner inner v d f) ≡ horner inner v d f
 horner_closed v inner is zero f = is f

@@ -1,5 +1,5 @@
 -- Trees no node of which has many terms or large exponents.
-use Rattle.std.specs.Prelude.{ℕ, ◌≤◌, max, List, [], ◌∷◌, length}
+use Rattle.std.specs.Prelude.{◌≢◌, ℕ, ◌≤◌, max, pos, List, [], ◌∷◌, length}
 use Rattle.ln_algebra.specs.Terms.{IsNormalOf, Term}
 use Rattle.ln_algebra.specs.Tree.{Tree, Num, Input, Name, Neg, Add, Sub, Mul, Pow}
 use Rattle.ln_tree.specs.Exps.{exponent}
@@ -22,6 +22,11 @@ pub record IsLean (n count : ℕ) (top : ℕ → ℕ) (e : Tree) : Type 0 where
   pub normal : IsNormalOf n e terms
   pub few : length terms ≤ count
   pub under : AreUnder top terms
+
+-- no factor is 0
+abbrev pub HasNoZero : List Term → Type 0
+HasNoZero [] = Unit {0}
+HasNoZero (t ∷ f) = (t.factor ≢ pos 0) × HasNoZero f
 
 -- so is that of each node, and of each lower power on the way to a power
 abbrev pub AreLean : ℕ → ℕ → (ℕ → ℕ) → Tree → Type 0
