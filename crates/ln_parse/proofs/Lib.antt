@@ -21,3 +21,6 @@ pub mod Readiness
 pub mod Kept
 pub mod Loops
 pub mod OneAnswer
+pub mod Nested
+pub mod CleanValue
+pub mod HasTable

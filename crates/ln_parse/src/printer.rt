@@ -1,5 +1,5 @@
 // The canonical text of tables.
-ghost use Rattle.std.specs.Prelude.{◌≡◌, ◌++◌, ◌∷◌, [], List, map, length, slice_get, unwrap_or, codes, decimal, IfOk};
+ghost use Rattle.std.specs.Prelude.{◌≡◌, ◌≤◌, ◌++◌, ◌∷◌, [], List, map, length, slice_get, unwrap_or, codes, decimal, IfOk};
 ghost use Rattle.ln_tree.specs.Names.{name_bytes};
 ghost use Rattle.ln_tree.specs.Formula.{formula};
 ghost use Rattle.ln_tree.specs.Table.{TableOf, table_of, site_of, coord_of, param_of, arg_of, pred_of};
@@ -7,6 +7,8 @@ ghost use Rattle.ln_parse.specs.Lexemes.{Puts, opening, closing, signed, each};
 ghost use Rattle.ln_parse.specs.Written.{Naming, naming, written, input, range_name, site_name, coord_name};
 ghost use Rattle.ln_parse.specs.Canonical.{fits, wrap, inside, whole, ranged, coord, site, param, arg, further, args, let_of, lets, root, pred, canonical};
 ghost use Rattle.ln_parse.specs.ReadsBack.{TableNamed, ReadsBack};
+ghost use Rattle.ln_parse.specs.Spanless.{IsTextUpToSpans};
+ghost use Rattle.ln_parse.specs.WholeTable.{IsWhole};
 
 use itoa::Buffer;
 use ln_base::NoMemory;
@@ -38,6 +40,12 @@ pub fn print(alloc: Global, t: &Table) -> Result<Vec<u8>, NoMemory>
 /// site types, params and predicates, each written with its names.
 pub fn canonical_text_reads_back()
     ensures { (t : TableOf) → TableNamed t → ReadsBack (canonical t) t }
+{}
+
+/// A law: the canonical text of a table within the limits of the language, whose names are names of their own, is a text
+/// of this table up to spans, where it has at most 1,048,576 bytes.
+pub fn canonical_text_has_its_table()
+    ensures { (t : TableOf) → IsWhole t → length (canonical t) ≤ 1048576 → IsTextUpToSpans (canonical t) t }
 {}
 
 fn put(out: &mut Vec<u8>, text: &[u8]) -> Result<(), NoMemory>
