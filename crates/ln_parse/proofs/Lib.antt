@@ -21,6 +21,9 @@ pub mod Readiness
 pub mod Kept
 pub mod Loops
 pub mod OneAnswer
+pub mod WholeParts
+pub mod InputsThere
 pub mod Nested
+pub mod TextTokens
 pub mod CleanValue
 pub mod HasTable

@@ -29,13 +29,13 @@ abbrev pub is_one_of : ℕ → ℕ → ArgOf → Bool
 is_one_of sites params (SiteArg n t) = nat_lt t sites
 is_one_of sites params (ParamArg p) = nat_lt p params
 
-abbrev pub is_site_of : ArgOf → Bool
-is_site_of (SiteArg n t) = true
-is_site_of (ParamArg p) = false
+abbrev pub is_site_said : ArgOf → Bool
+is_site_said (SiteArg n t) = true
+is_site_said (ParamArg p) = false
 
-abbrev pub is_param_of : ArgOf → Bool
-is_param_of (SiteArg n t) = false
-is_param_of (ParamArg p) = true
+abbrev pub is_param_said : ArgOf → Bool
+is_param_said (SiteArg n t) = false
+is_param_said (ParamArg p) = true
 
 -- the name of a coordinate or param that there is
 abbrev pub range_name : Option CoordOf → List ℕ
@@ -48,23 +48,23 @@ arg_name params (SiteArg n t) = n
 arg_name params (ParamArg p) = range_name (slice_get params p)
 
 -- the variables of the coordinates of site number s, which is argument k, from coordinate c on
-abbrev pub vars_of_site : ℕ → ℕ → ℕ → List CoordOf → List VarInfo
-vars_of_site k s c [] = []
-vars_of_site k s c (x ∷ xs) = record { arg = k; site = Some s; coord = c; lo = x.lo; hi = x.hi } ∷ vars_of_site k s (suc c) xs
+abbrev pub site_vars : ℕ → ℕ → ℕ → List CoordOf → List VarInfo
+site_vars k s c [] = []
+site_vars k s c (x ∷ xs) = record { arg = k; site = Some s; coord = c; lo = x.lo; hi = x.hi } ∷ site_vars k s (suc c) xs
 
-abbrev pub coords_in : Option SiteOf → List CoordOf
-coords_in None = []
-coords_in (Some s) = s.coords
+abbrev pub coords_or : Option SiteOf → List CoordOf
+coords_or None = []
+coords_or (Some s) = s.coords
 
-abbrev pub vars_of_param : ℕ → Option CoordOf → List VarInfo
-vars_of_param k None = []
-vars_of_param k (Some p) = record { arg = k; site = None; coord = 0; lo = p.lo; hi = p.hi } ∷ []
+abbrev pub param_vars : ℕ → Option CoordOf → List VarInfo
+param_vars k None = []
+param_vars k (Some p) = record { arg = k; site = None; coord = 0; lo = p.lo; hi = p.hi } ∷ []
 
 -- the variables of the arguments from number k on, behind s sites: in order of the arguments, for a site its coordinates in declared order
-abbrev pub vars_of_args : List SiteOf → List CoordOf → ℕ → ℕ → List ArgOf → List VarInfo
-vars_of_args sites params k s [] = []
-vars_of_args sites params k s (SiteArg n t ∷ args) = vars_of_site k s 0 (coords_in (slice_get sites t)) ++ vars_of_args sites params (suc k) (suc s) args
-vars_of_args sites params k s (ParamArg p ∷ args) = vars_of_param k (slice_get params p) ++ vars_of_args sites params (suc k) s args
+abbrev pub vars_behind : List SiteOf → List CoordOf → ℕ → ℕ → List ArgOf → List VarInfo
+vars_behind sites params k s [] = []
+vars_behind sites params k s (SiteArg n t ∷ args) = site_vars k s 0 (coords_or (slice_get sites t)) ++ vars_behind sites params (suc k) (suc s) args
+vars_behind sites params k s (ParamArg p ∷ args) = param_vars k (slice_get params p) ++ vars_behind sites params (suc k) s args
 
 abbrev pub same_var : VarInfo → VarInfo → Bool
 same_var i j = (i.arg == j.arg) && same_site i.site j.site && (i.coord == j.coord) && int_eq i.lo j.lo && int_eq i.hi j.hi
@@ -153,8 +153,8 @@ text_tokens t = total site_tokens t.sites + (total param_tokens t.params + total
 abbrev pub pred_whole : List SiteOf → List CoordOf → PredOf → Bool
 pred_whole sites params p =
     bytes_eq p.shape_name p.name && nat_lt 0 (length p.args) && list_all (is_one_of (length sites) (length params)) p.args
-    && nat_le (count_by is_site_of p.args) 5 && nat_le (count_by is_param_of p.args) 8 && (p.sites == count_by is_site_of p.args)
-    && same_vars p.vars (vars_of_args sites params 0 0 p.args) && differ (map (arg_name params) p.args ++ p.let_names)
+    && nat_le (count_by is_site_said p.args) 5 && nat_le (count_by is_param_said p.args) 8 && (p.sites == count_by is_site_said p.args)
+    && same_vars p.vars (vars_behind sites params 0 0 p.args) && differ (map (arg_name params) p.args ++ p.let_names)
     && list_all (λ e. nat_le (nesting 0 e) 64) p.lets && nat_le (nesting 0 p.root) 64
 
 -- the names of the site types, params and predicates
