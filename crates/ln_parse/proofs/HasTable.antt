@@ -8,6 +8,7 @@ use Rattle.ln_parse.proofs.Nested.{whole_words, whole_shallow}
 use Rattle.ln_parse.proofs.WholeParts.{table_parts}
 use Rattle.ln_parse.proofs.TextTokens.{table_words, table_shallow}
 use Rattle.ln_parse.proofs.InputsThere.{named}
+use Rattle.ln_parse.proofs.ScopeNames.{means}
 use Rattle.ln_parse.proofs.CleanValue.{value_clean}
 
 pub has_table : (t : TableOf) → IsWhole t → length (canonical t) ≤ 1048576 → IsTextUpToSpans (canonical t) t

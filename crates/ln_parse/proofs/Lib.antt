@@ -23,6 +23,7 @@ pub mod Loops
 pub mod OneAnswer
 pub mod WholeParts
 pub mod InputsThere
+pub mod ScopeNames
 pub mod Nested
 pub mod TextTokens
 pub mod CleanValue
