@@ -9,6 +9,8 @@ use Rattle.ln_parse.proofs.WholeParts.{table_parts}
 use Rattle.ln_parse.proofs.TextTokens.{table_words, table_shallow}
 use Rattle.ln_parse.proofs.InputsThere.{named}
 use Rattle.ln_parse.proofs.ScopeNames.{means}
+use Rattle.ln_parse.proofs.ValueBack.{lets_back}
+use Rattle.ln_parse.proofs.ItemsBack.{SitesLike}
 use Rattle.ln_parse.proofs.CleanValue.{value_clean}
 
 pub has_table : (t : TableOf) → IsWhole t → length (canonical t) ≤ 1048576 → IsTextUpToSpans (canonical t) t

@@ -24,6 +24,7 @@ pub mod OneAnswer
 pub mod WholeParts
 pub mod InputsThere
 pub mod ScopeNames
+pub mod ValueBack
 pub mod Nested
 pub mod TextTokens
 pub mod CleanValue
