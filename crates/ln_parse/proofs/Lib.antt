@@ -25,6 +25,9 @@ pub mod WholeParts
 pub mod InputsThere
 pub mod ScopeNames
 pub mod ValueBack
+pub mod ArgsBack
+pub mod PredBack
+pub mod FileClean
 pub mod Nested
 pub mod TextTokens
 pub mod CleanValue

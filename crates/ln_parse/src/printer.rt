@@ -1,5 +1,5 @@
 // The canonical text of tables.
-ghost use Rattle.std.specs.Prelude.{◌≡◌, ◌≤◌, ◌++◌, ◌∷◌, [], List, map, length, slice_get, unwrap_or, codes, decimal, IfOk};
+ghost use Rattle.std.specs.Prelude.{◌≡◌, ◌++◌, ◌∷◌, [], List, map, length, slice_get, unwrap_or, codes, decimal, IfOk};
 ghost use Rattle.ln_tree.specs.Names.{name_bytes};
 ghost use Rattle.ln_tree.specs.Formula.{formula};
 ghost use Rattle.ln_tree.specs.Table.{TableOf, table_of, site_of, coord_of, param_of, arg_of, pred_of};
@@ -43,9 +43,9 @@ pub fn canonical_text_reads_back()
 {}
 
 /// A law: the canonical text of a table within the limits of the language, whose names are names of their own, is a text
-/// of this table up to spans, where it has at most 1,048,576 bytes.
+/// of this table up to spans.
 pub fn canonical_text_has_its_table()
-    ensures { (t : TableOf) → IsWhole t → length (canonical t) ≤ 1048576 → IsTextUpToSpans (canonical t) t }
+    ensures { (t : TableOf) → IsWhole t → IsTextUpToSpans (canonical t) t }
 {}
 
 fn put(out: &mut Vec<u8>, text: &[u8]) -> Result<(), NoMemory>
