@@ -1,5 +1,5 @@
 -- A text has one answer: one table, or one fault, and not both.
-use Rattle.std.proofs.Common.{◌≡◌, ℕ, List, [], ◌∷◌, ◌++◌, refl, ap, sym, ◌∙◌, subst}
+use Rattle.std.proofs.Common.{◌≡◌, inl, inr, ℕ, List, [], ◌∷◌, ◌++◌, refl, ap, sym, ◌∙◌, subst}
 use Rattle.std.specs.Prelude.{count_by}
 use Rattle.ln_base.specs.declared.span.Span.{Span}
 use Rattle.ln_lex.specs.declared.token.Token.{Token}
@@ -27,7 +27,7 @@ use Rattle.ln_parse.specs.declared.source.ParseStop.{ParseStop}
 use Rattle.ln_parse.specs.declared.source.ParseStop.TheVariants.{Lexical, Limit, Syntax}
 use Rattle.ln_parse.specs.Says.{Says, LetsSay, PredSays, PredsSay, ItemsSay, resolved, vars_behind, is_site_said}
 use Rattle.ln_parse.specs.Text.{TextOf}
-use Rattle.ln_parse.specs.Fault.{TextFault, lexical, tokens, nesting, syntax, names, one_byte, place_of, stop_of}
+use Rattle.ln_parse.specs.Fault.{TextFault, IsRefusal, IsWithoutTable, lexical, tokens, nesting, syntax, names, one_byte, place_of, stop_of}
 
 made_pred : (n n2 : List ℕ) (w w2 : Span) (a a2 : List ArgOf) (h h2 : List ℕ) (s s2 : ℕ) (v v2 : List VarInfo) (m m2 : List (List ℕ)) (l l2 : List Formula) (r r2 : Formula) → n ≡ n2 → w ≡ w2 → a ≡ a2 → h ≡ h2 → s ≡ s2 → v ≡ v2 → m ≡ m2 → l ≡ l2 → r ≡ r2
     → ◌≡◌ {A = PredOf} (record { name = n; at = w; args = a; shape_name = h; sites = s; vars = v; let_names = m; lets = l; root = r }) (record { name = n2; at = w2; args = a2; shape_name = h2; sites = s2; vars = v2; let_names = m2; lets = l2; root = r2 })
@@ -160,3 +160,8 @@ no_fault bytes t a (tokens {at = j} b) = list_or_limit bytes a.tokens j a.lexed 
 no_fault bytes t a (nesting {ts = us} {k = j} l m e) = deep_or_shallow us a.tokens j (one_list bytes us a.tokens l a.lexed) e a.shallow
 no_fault bytes t a (syntax {ts = us} {k = j} l m s e) = fault_or_spelt us a.tokens j a.items (one_list bytes us a.tokens l a.lexed) e a.spelt
 no_fault bytes t a (names {ts = us} {is = js} {f = g} l m s p e) = fault_or_clean bytes us a.tokens js a.items g (one_list bytes us a.tokens l a.lexed) p a.spelt e a.clean
+
+-- a text with a table is refused for want of memory alone
+pub memory_alone : (bytes : List ℕ) (e : ParseStop) → IsRefusal bytes e → IsWithoutTable bytes e
+memory_alone bytes e (inl f) t a = absurd (no_fault bytes t a f)
+memory_alone bytes e (inr m) t a = m

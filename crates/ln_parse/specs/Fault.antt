@@ -1,5 +1,5 @@
 -- Why a text has no table.
-use Rattle.std.specs.Prelude.{◌≡◌, ℕ, suc, ◌≤◌, ◌⊎◌, false, nat_lt, if◌then◌else◌, List, length}
+use Rattle.std.specs.Prelude.{◌≡◌, ℕ, suc, ◌≤◌, ◌⊎◌, nat_lt, if◌then◌else◌, List, length}
 use Rattle.ln_base.specs.declared.span.Span.{Span}
 use Rattle.ln_lex.specs.declared.token.Token.{Token}
 use Rattle.ln_lex.specs.Tokens.{Lexed, IsLexFault, IsLexLimit}
@@ -8,12 +8,11 @@ use Rattle.ln_syntax.specs.File.{Spelt}
 use Rattle.ln_syntax.specs.Place.{IsShallow, IsSyntaxFault, IsNestingFault}
 use Rattle.ln_names.specs.declared.faults.Fault.{Fault}
 use Rattle.ln_names.specs.declared.faults.Fault.TheVariants.{Limit as OfLimit, Named as OfName}
-use Rattle.ln_names.specs.declared.faults.LimitWhat.TheVariants.{Tokens, Nesting, Form}
+use Rattle.ln_names.specs.declared.faults.LimitWhat.TheVariants.{Tokens, Nesting}
 use Rattle.ln_names.specs.declared.faults.Found.{Found}
 use Rattle.ln_names.specs.First.{FirstFault, NoFault}
 use Rattle.ln_tree.specs.Table.{TableOf}
 use Rattle.ln_parse.specs.Text.{TextOf}
-use Rattle.ln_parse.specs.Small.{is_small}
 use Rattle.ln_parse.specs.declared.source.ParseStop.{ParseStop}
 use Rattle.ln_parse.specs.declared.source.ParseStop.TheVariants.{Lexical, Limit, Syntax, Name, NoMemory}
 
@@ -51,13 +50,10 @@ pub record IsFaultless (bytes : List ℕ) (ts : List Token) (is : List Item) : T
   pub spelt : Spelt ts is
   pub clean : NoFault bytes ts is
 
--- the text has a table, in a form that isn't built yet
-pub record IsUnbuilt (bytes : List ℕ) (e : ParseStop) : Type 0 where
-  pub table : TableOf
-  pub text : TextOf bytes table
-  pub large : is_small table ≡ false
-  pub form : e ≡ Limit Form (record { start = 0; end = 0 })
-
--- a refusal is the fault of the text, or a form that isn't built yet, or want of memory
+-- a refusal is the fault of the text, or want of memory
 abbrev pub IsRefusal : List ℕ → ParseStop → Type 0
-IsRefusal bytes e = TextFault bytes e ⊎ IsUnbuilt bytes e ⊎ (e ≡ NoMemory)
+IsRefusal bytes e = TextFault bytes e ⊎ (e ≡ NoMemory)
+
+-- a text with a table is refused for want of memory alone
+abbrev pub IsWithoutTable : List ℕ → ParseStop → Type 0
+IsWithoutTable bytes e = (t : TableOf) → TextOf bytes t → e ≡ NoMemory

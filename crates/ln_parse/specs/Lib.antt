@@ -1,7 +1,6 @@
 pub mod Says
 pub mod Text
 pub mod Reading
-pub mod Small
 pub mod Lexemes
 pub mod Written
 pub mod Canonical

@@ -5,11 +5,10 @@ ghost use Rattle.ln_syntax.specs.Raw.{items};
 ghost use Rattle.ln_tree.specs.Table.{TableOf, table_of};
 ghost use Rattle.ln_parse.specs.declared.source.ParseStop.{ParseStop as Stop};
 ghost use Rattle.ln_parse.specs.Text.{TextOf};
-ghost use Rattle.ln_parse.specs.Fault.{one_byte, place_of, stop_of, TextFault, IsFaultless, IsRefusal};
+ghost use Rattle.ln_parse.specs.Fault.{one_byte, place_of, stop_of, TextFault, IsFaultless, IsRefusal, IsWithoutTable};
 
 use crate::build::build;
 use crate::place::span_of;
-use crate::small::is_small;
 use ln_base::{NoMemory, Seq, Span};
 use ln_lex::{LexStop, Token, tokens};
 use ln_names::{Fault, Found, LimitWhat, NameWhat, check_names};
@@ -28,29 +27,22 @@ pub enum ParseStop {
     NoMemory,
 }
 
-/// The table of a source, where it has one in the form that is built today.
+/// The table of a source, or the first fault of its text; without want of memory, the one or the other.
+#[tactic(auto, using(crate::proofs::OneAnswer::memory_alone))]
 pub fn parse(alloc: Global, bytes: &[u8]) -> Result<Table, ParseStop>
     requires { length bytes.now ≤ 1048576 }
     ensures ok { IfOk result (λ t. TextOf bytes.now (table_of t.sites t.params t.preds)) }
     ensures err { IfErr result (λ e. IsRefusal bytes.now e) }
+    ensures no_table { IfErr result (λ e. IsWithoutTable bytes.now e) }
 {
     let list = scanned(alloc, bytes)?;
     let ts = list.as_slice();
     let its = checked(alloc, bytes, ts)?;
     match build(alloc, bytes, ts, &its) {
-        Ok(table) => {
-            if is_small(&table) {
-                Ok(table)
-            } else {
-                Err(UNBUILT)
-            }
-        }
+        Ok(table) => Ok(table),
         Err(NoMemory) => Err(ParseStop::NoMemory),
     }
 }
-
-// A form that isn't built yet has no place.
-const UNBUILT: ParseStop = ParseStop::Limit(LimitWhat::Form, Span { start: 0, end: 0 });
 
 // The tokens of a source.
 fn scanned(alloc: Global, bytes: &[u8]) -> Result<Seq<Token>, ParseStop>
