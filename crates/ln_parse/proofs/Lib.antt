@@ -28,6 +28,7 @@ pub mod ValueBack
 pub mod ArgsBack
 pub mod PredBack
 pub mod FileClean
+pub mod FromTokens
 pub mod Nested
 pub mod TextTokens
 pub mod CleanValue
