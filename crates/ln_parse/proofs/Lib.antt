@@ -29,6 +29,7 @@ pub mod ArgsBack
 pub mod PredBack
 pub mod FileClean
 pub mod FromTokens
+pub mod WholeFrom
 pub mod Nested
 pub mod TextTokens
 pub mod CleanValue
