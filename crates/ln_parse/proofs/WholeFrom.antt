@@ -19,20 +19,21 @@ use Rattle.ln_syntax.specs.declared.raw.RawEnd.{RawEnd}
 use Rattle.ln_syntax.specs.declared.raw.RawArg.{RawArg}
 use Rattle.ln_syntax.specs.declared.raw.RawLet.{RawLet}
 use Rattle.ln_syntax.specs.declared.raw.Places.{Places}
-use Rattle.ln_syntax.specs.Raw.{Item, SiteItem, ParamItem, PredItem, item_name, is_param, Is, text, same}
+use Rattle.ln_syntax.specs.Raw.{Item, SiteItem, ParamItem, PredItem, item_name, is_param, span_at, text, same}
 use Rattle.ln_syntax.specs.Place.{depth_after, IsShallow}
 use Rattle.ln_syntax.specs.File as file
+use Rattle.ln_syntax.specs.File.{Spelt}
 use Rattle.ln_syntax.proofs.OneTree.{one_tree}
 use Rattle.ln_names.specs.Numbers.{number, signed, end_value}
 use Rattle.ln_names.specs.Rules.{Scope, scope, is_site_arg, is_param_arg}
-use Rattle.ln_names.specs.Limits.{Each, RangeWithin, CoordWithin, IsKnown, ArgWithin, LetWithin, ItemWithin}
+use Rattle.ln_names.specs.Limits.{Each, RangeWithin, CoordWithin, IsKnown, ArgWithin, LetWithin, ItemWithin, FileWithin}
 use Rattle.ln_tree.specs.declared.shape.VarInfo.{VarInfo}
 use Rattle.ln_tree.specs.Variables.{same_site}
 use Rattle.ln_tree.specs.Formula.{Formula}
 use Rattle.ln_tree.specs.Table.{CoordOf, SiteOf, ArgOf, SiteArg, ParamArg, PredOf, TableOf}
-use Rattle.ln_tree.specs.Whole.{is_new, differ, is_range, site_whole, is_one_of, is_param_said, arg_name, range_name, same_var, same_vars, nesting, tokens_of, total, end_tokens, range_tokens, site_tokens, param_tokens, pred_tokens, pred_whole}
-use Rattle.ln_parse.specs.Says.{place, ranged, resolved, Says, LetsSay, PredSays, PredsSay, arg_said, param_names, sites_said, params_said, is_site_said}
-use Rattle.ln_parse.specs.Ready.{Fit, ReadyValue, ReadyLet, ReadyPred, ReadyItem, ReadySite, Declares, is_known}
+use Rattle.ln_tree.specs.Whole.{is_new, differ, is_range, site_whole, is_one_of, is_param_said, arg_name, range_name, same_var, same_vars, nesting, tokens_of, total, end_tokens, range_tokens, site_tokens, param_tokens, pred_tokens, text_tokens, item_names, pred_whole, vars_behind, is_whole}
+use Rattle.ln_parse.specs.Says.{place, ranged, resolved, Says, LetsSay, PredSays, PredsSay, ItemsSay, arg_said, param_names, sites_said, params_said, is_site_said}
+use Rattle.ln_parse.specs.Ready.{Fit, ReadyValue, ReadyLet, ReadyPred, ReadyItem, ReadySite, ReadyFile, Declares, is_known}
 use Rattle.ln_parse.proofs.Fitting.{Sees, said, all_known, value_found, said_site, said_param}
 use Rattle.ln_parse.proofs.Found.{found_at, param_found, get_longer, each_get}
 use Rattle.ln_parse.proofs.FromTokens.{depth_step, expression_nests, expression_tokens}
@@ -271,18 +272,196 @@ end_by z true h = rw h (omega arith)
 end_by z false h = rw h (omega arith)
 
 end_count : (bytes : List ℕ) {ts : List Token} {i j : ℕ} {v : RawEnd} → file.End ts i j v → i + end_tokens (end_value bytes v) ≤ j
-end_count bytes (file.plain {i = i} n) = let q : end_tokens (pos (number bytes _)) ≡ 1 = rw (plain_end (number bytes _)) refl in omega arith
-end_count bytes (file.minus {i = i} m n) = let q = end_by (end_value bytes _) (int_lt (end_value bytes _) (pos 0)) refl in omega arith
+end_count bytes {ts = ts} (file.plain {i = i} n) = let q : end_tokens (pos (number bytes (span_at ts i))) ≡ 1 = rw (plain_end (number bytes (span_at ts i))) refl in omega arith
+end_count bytes {ts = ts} (file.minus {i = i} m n) = let z = signed true (number bytes (span_at ts (suc i))) in let q = end_by z (int_lt z (pos 0)) refl in omega arith
 
-range_count : (bytes : List ℕ) (name : Span) {ts : List Token} {i j : ℕ} {r : RawRange} → file.Range ts i j r → i + (end_tokens (end_value bytes r.low) + end_tokens (end_value bytes r.high)) + 1 ≤ j
-range_count bytes name (file.range a m b) = let x = end_count bytes a in let y = end_count bytes b in omega arith
+range_count : (bytes : List ℕ) {ts : List Token} {i j : ℕ} {r : RawRange} → file.Range ts i j r → i + (end_tokens (end_value bytes r.low) + end_tokens (end_value bytes r.high)) + 1 ≤ j
+range_count bytes (file.range a m b) = let x = end_count bytes a in let y = end_count bytes b in omega arith
 
 coords_count : (bytes : List ℕ) {ts : List Token} {i k : ℕ} {cs : List RawCoord} → file.Coords ts i k cs → i + total range_tokens (map (λ (c : RawCoord). ranged bytes c.name c.range) cs) ≤ k
 coords_count bytes file.no_coord = omega arith
-coords_count bytes {ts = ts} (file.coord {i = i} n c r s m) = let x = range_count bytes _ r in let y = coords_count bytes m in omega arith
+coords_count bytes {ts = ts} (file.coord {i = i} n c r s m) = let x = range_count bytes r in let y = coords_count bytes m in omega arith
 
 -- a predicate
 record PredWhole (S : List SiteOf) (P : List CoordOf) (ts : List Token) (i k : ℕ) (p : PredOf) : Type 0 where
   whole : pred_whole S P p ≡ true
   back : depth_after 0 (take k ts) ≡ 0
   tokens : i + pred_tokens p ≤ k
+
+abbrev pred_tests : List SiteOf → List CoordOf → List ℕ → List ℕ → List ArgOf → ℕ → List VarInfo → List (List ℕ) → List Formula → Formula → Bool
+pred_tests S P shape name args sites vars names lets root =
+    bytes_eq shape name && nat_lt 0 (length args) && list_all (is_one_of (length S) (length P)) args && nat_le (count_by is_site_said args) 5 && nat_le (count_by is_param_said args) 8
+    && (sites == count_by is_site_said args) && same_vars vars (vars_behind S P 0 0 args) && differ (map (arg_name P) args ++ names) && list_all (λ e. nat_le (nesting 0 e) 64) lets && nat_le (nesting 0 root) 64
+
+pred_from : (bytes : List ℕ) (ts : List Token) (is : List Item) (t : TableOf) → IsShallow ts → Declares bytes is t.sites t.params → (p : PredOf) {i j : ℕ} {name : Span} {raws : List RawArg} {ls : List RawLet} {root : Places} → file.IsItem ts i j (PredItem name raws ls root)
+    → PredSays bytes ts is t name raws ls root p → ReadyPred bytes ts is name raws ls root → Each (ArgWithin bytes is) [] raws → Each (LetWithin bytes ts is raws) [] ls → depth_after 0 (take i ts) ≡ 0 → PredWhole t.sites t.params ts i j p
+pred_from bytes ts is t h d p (file.predicate {i = i} {j = j} {k = k} {l = l} {args = raws} {ls = ls} a1 a2 a3 a4 a5 a6 a7 a8 a9 b1 b2) s r aw lw e =
+    let S = t.sites in
+    let P = t.params in
+    let xs = said bytes is raws in
+    let g = sees bytes is raws S P d r.args in
+    let e1 = depth_step ts (suc (suc i)) ParL 0 a3 (depth_step ts (suc i) Name 0 a2 (depth_step ts i Predicate 0 a1 e)) in
+    let e2 = args_depth 1 a4 e1 in
+    let e3 = depth_step ts (suc j) BraceL 0 a6 (depth_step ts j ParR 1 a5 e2) in
+    let y = lets_whole bytes ts is raws h a7 [] p.lets s.lets_are r.lets e3 in
+    let v = value_whole bytes ts is raws ls (record { from = suc k; to = l }) p.root h s.root_is r.root (depth_step ts k Sign 0 a8 y.back) in
+    let e4 = depth_step ts (suc l) BraceR 0 b2 (depth_step ts l Semi 0 b1 v.back) in
+    let c = args_some a4 in
+    let c0 = c.0 in let c1 = c.1 in
+    let n = length-map raws (λ (a : RawArg). arg_said bytes is a a.is_param) in
+    let q : p.args ≡ xs = s.args_are in
+    let f1 = r.site_args in let f2 = r.param_args in
+    let f3 = sites_are bytes is raws in let f4 = params_are bytes is raws in
+    let names : map (arg_name P) xs ≡ map (λ (a : RawArg). text bytes a.name) raws = args_named bytes is S P [] raws d aw in
+    let df1 : Differ (map (λ (a : RawArg). text bytes a.name) raws) = each_differ (λ (a : RawArg). text bytes a.name) [] raws tt (args_new bytes is [] raws aw) in
+    let df2 = lets_differ bytes ts is raws [] ls (subst (λ (w : List (List ℕ)). Differ w) (sym (append-nil (map (λ (a : RawArg). text bytes a.name) raws))) df1) lw in
+    let df3 : Differ (map (arg_name P) xs ++ p.let_names) = rw (names, s.names_are) df2 in
+    let t0 = y.tokens in let t1 = v.tokens in let t2 = v.deep in
+    let tests : pred_tests S P p.shape_name p.name p.args p.sites p.vars p.let_names p.lets p.root ≡ true =
+        subst (λ (w : List ArgOf). pred_tests S P p.shape_name p.name w p.sites p.vars p.let_names p.lets p.root ≡ true) (sym q)
+        (and_from _ _ (and_from _ _ (and_from _ _ (and_from _ _ (and_from _ _ (and_from _ _ (and_from _ _ (and_from _ _ (and_from _ _ (name_same p.shape_name p.name (s.shape_is ∙ sym s.name_is)) (lt-ltb 0 (length xs) (omega arith)))
+            (known_of (length S) (length P) xs (all_known bytes is raws S P g))) (le-leb (count_by is_site_said xs) 5 (omega arith))) (le-leb (count_by is_param_said xs) 8 (omega arith)))
+            (eq-eqb p.sites (count_by is_site_said xs) (s.sites_are ∙ ap (count_by is_site_said) q))) (vars_same p.vars (vars_behind S P 0 0 xs) (s.vars_are ∙ ap (vars_behind S P 0 0) q)))
+            (differ_test (map (arg_name P) xs ++ p.let_names) df3)) y.deep) (le-leb (nesting 0 p.root) 64 t2)) in
+    let len : length p.args ≡ length xs = ap (λ (w : List ArgOf). length w) q in
+    let k1 : total (λ z. 4 + tokens_of p.args 0 z) p.lets ≡ total (λ z. 4 + tokens_of xs 0 z) p.lets = ap (λ (w : List ArgOf). total (λ z. 4 + tokens_of w 0 z) p.lets) q in
+    let k2 : tokens_of p.args 0 p.root ≡ tokens_of xs 0 p.root = ap (λ (w : List ArgOf). tokens_of w 0 p.root) q in
+    record { whole = tests; back = e4; tokens = omega arith }
+  where
+    name_same : (a b : List ℕ) → a ≡ b → bytes_eq a b ≡ true
+    name_same a b h = (bytes_eq-Decides a b).1 h
+
+    vars_same : (a b : List VarInfo) → a ≡ b → same_vars a b ≡ true
+    vars_same a b h = rw h (vars_self b)
+
+-- a site type or param
+ranged_count : (c : CoordOf) → range_tokens c ≡ 4 + (end_tokens c.lo + end_tokens c.hi)
+ranged_count c = refl
+
+-- what is whole from place i on
+record ItemsWhole (bytes : List ℕ) (t : TableOf) (i k : ℕ) (is : List Item) (ps : List PredOf) : Type 0 where
+  sites : list_all site_whole (sites_said bytes is) ≡ true
+  params : list_all is_range (params_said bytes is) ≡ true
+  preds : list_all (pred_whole t.sites t.params) ps ≡ true
+  tokens : i + (total site_tokens (sites_said bytes is) + (total param_tokens (params_said bytes is) + total pred_tokens ps)) ≤ k
+
+items_whole : (bytes : List ℕ) (ts : List Token) (t : TableOf) (all : List Item) → IsShallow ts → t.sites ≡ sites_said bytes all → t.params ≡ params_said bytes all → Each (ReadyItem bytes ts) [] all → (before : List Item) {i k : ℕ} {is : List Item} → file.Items ts i k is
+    → before ++ is ≡ all → (ps : List PredOf) → PredsSay bytes ts before t is ps → Each (ReadyItem bytes ts) before is → Each (ItemWithin bytes ts) before is → depth_after 0 (take i ts) ≡ 0 → ItemsWhole bytes t i k is ps
+items_whole bytes ts t all h es ep ra before file.no_item q [] s r w e = record { sites = refl; params = refl; preds = refl; tokens = omega arith }
+items_whole bytes ts t all h es ep ra before file.no_item q (p ∷ ps) s r w e = absurd s
+items_whole bytes ts t all h es ep ra before (file.an_item {x = x} {xs = xs} (file.site {i = i} {j = j} {c = rc} {cs = rcs} a1 a2 a3 a4 a5) y) q ps s r w e =
+    let e1 = depth_step ts j BraceR 0 a5 (coords_depth 0 a4 (depth_step ts (suc (suc i)) BraceL 0 a3 (depth_step ts (suc i) Name 0 a2 (depth_step ts i Site 0 a1 e)))) in
+    let m = items_whole bytes ts t all h es ep ra (before ++ (x ∷ [])) y (append_assoc before (x ∷ []) xs ∙ q) ps s r.1 w.1 e1 in
+    let c = coords_count bytes a4 in
+    let g = m.tokens in
+    let f = site_from bytes (span_at ts (suc i)) (rc ∷ rcs) r.0 w.0.parts.1 in
+    record { sites = and_from _ _ f m.sites; params = m.params; preds = m.preds; tokens = omega arith }
+items_whole bytes ts t all h es ep ra before (file.an_item {x = x} {xs = xs} (file.param {i = i} {j = j} {r = rr} a1 a2 a3 a4 a5) y) q ps s r w e =
+    let e1 = depth_step ts j Semi 0 a5 (range_depth 0 a4 (depth_step ts (suc (suc i)) Colon 0 a3 (depth_step ts (suc i) Name 0 a2 (depth_step ts i Param 0 a1 e)))) in
+    let m = items_whole bytes ts t all h es ep ra (before ++ (x ∷ [])) y (append_assoc before (x ∷ []) xs ∙ q) ps s r.1 w.1 e1 in
+    let c = range_count bytes a4 in
+    let g = m.tokens in
+    record { sites = m.sites; params = and_from _ _ (range_whole bytes (span_at ts (suc i)) rr w.0.parts) m.params; preds = m.preds; tokens = omega arith }
+items_whole bytes ts t all h es ep ra before (file.an_item (file.predicate a1 a2 a3 a4 a5 a6 a7 a8 a9 b1 b2) y) q [] s r w e = absurd s
+items_whole bytes ts t all h es ep ra before (file.an_item {x = x} {xs = xs} (file.predicate a1 a2 a3 a4 a5 a6 a7 a8 a9 b1 b2) y) q (p ∷ ps) s r w e =
+    let d = declared bytes ts before (x ∷ xs) all t.sites t.params q es ep ra in
+    let v = pred_from bytes ts before t h d p (file.predicate a1 a2 a3 a4 a5 a6 a7 a8 a9 b1 b2) s.0 r.0 w.0.parts.args_each w.0.parts.lets_each e in
+    let m = items_whole bytes ts t all h es ep ra (before ++ (x ∷ [])) y (append_assoc before (x ∷ []) xs ∙ q) ps s.1 r.1 w.1 v.back in
+    let a = v.tokens in let g = m.tokens in
+    record { sites = m.sites; params = m.params; preds = and_from _ _ v.whole m.preds; tokens = omega arith }
+
+-- the names of items by kind
+abbrev pred_texts : List ℕ → List Item → List (List ℕ)
+pred_texts bytes [] = []
+pred_texts bytes (SiteItem n cs ∷ is) = pred_texts bytes is
+pred_texts bytes (ParamItem n r ∷ is) = pred_texts bytes is
+pred_texts bytes (PredItem n as' ls r ∷ is) = text bytes n ∷ pred_texts bytes is
+
+abbrev site_texts : List ℕ → List Item → List (List ℕ)
+site_texts bytes is = map (λ (s : SiteOf). s.name) (sites_said bytes is)
+
+abbrev param_texts : List ℕ → List Item → List (List ℕ)
+param_texts bytes is = map (λ (c : CoordOf). c.name) (params_said bytes is)
+
+-- a name that no item has is none of those of any kind
+record Spread (bytes : List ℕ) (t : List ℕ) (is : List Item) : Type 0 where
+  sites : list_any (λ u. bytes_eq u t) (site_texts bytes is) ≡ false
+  params : list_any (λ u. bytes_eq u t) (param_texts bytes is) ≡ false
+  preds : list_any (λ u. bytes_eq u t) (pred_texts bytes is) ≡ false
+
+or_false : (a b : Bool) → a ≡ false → b ≡ false → (a || b) ≡ false
+or_false a b h g = rw (h, g) refl
+
+spread : (bytes : List ℕ) (t : List ℕ) (is : List Item) → list_any (λ i. bytes_eq (text bytes (item_name i)) t) is ≡ false → Spread bytes t is
+spread bytes t [] h = record { sites = refl; params = refl; preds = refl }
+spread bytes t (SiteItem n cs ∷ is) h = let q = neither (bytes_eq (text bytes n) t) _ h in let r = spread bytes t is q.1 in record { sites = or_false _ _ q.0 r.sites; params = r.params; preds = r.preds }
+spread bytes t (ParamItem n rr ∷ is) h = let q = neither (bytes_eq (text bytes n) t) _ h in let r = spread bytes t is q.1 in record { sites = r.sites; params = or_false _ _ q.0 r.params; preds = r.preds }
+spread bytes t (PredItem n as' ls rr ∷ is) h = let q = neither (bytes_eq (text bytes n) t) _ h in let r = spread bytes t is q.1 in record { sites = r.sites; params = r.params; preds = or_false _ _ q.0 r.preds }
+
+abbrev all_texts : List ℕ → List Item → List (List ℕ)
+all_texts bytes is = site_texts bytes is ++ (param_texts bytes is ++ pred_texts bytes is)
+
+-- the names of one more item
+record More (bytes : List ℕ) (before : List Item) (x : Item) : Type 0 where
+  sites : site_texts bytes (before ++ (x ∷ [])) ≡ site_texts bytes before ++ site_texts bytes (x ∷ [])
+  params : param_texts bytes (before ++ (x ∷ [])) ≡ param_texts bytes before ++ param_texts bytes (x ∷ [])
+  preds : pred_texts bytes (before ++ (x ∷ [])) ≡ pred_texts bytes before ++ pred_texts bytes (x ∷ [])
+
+more : (bytes : List ℕ) (before : List Item) (x : Item) → More bytes before x
+more bytes [] x = record { sites = refl; params = refl; preds = refl }
+more bytes (SiteItem m ds ∷ before) x = let r = more bytes before x in record { sites = ap (λ (w : List (List ℕ)). text bytes m ∷ w) r.sites; params = r.params; preds = r.preds }
+more bytes (ParamItem m rr ∷ before) x = let r = more bytes before x in record { sites = r.sites; params = ap (λ (w : List (List ℕ)). text bytes m ∷ w) r.params; preds = r.preds }
+more bytes (PredItem m as' ls rr ∷ before) x = let r = more bytes before x in record { sites = r.sites; params = r.params; preds = ap (λ (w : List (List ℕ)). text bytes m ∷ w) r.preds }
+
+any_false : (t : List ℕ) (us vs : List (List ℕ)) → list_any (λ u. bytes_eq u t) us ≡ false → list_any (λ u. bytes_eq u t) vs ≡ false → list_any (λ u. bytes_eq u t) (us ++ vs) ≡ false
+any_false t us vs h g = list_any-append (λ u. bytes_eq u t) us vs ∙ or_false _ _ h g
+
+-- an item with a name of its own keeps the names apart
+item_push : (bytes : List ℕ) (before : List Item) (x : Item) → Differ (all_texts bytes before) → list_any (λ i. bytes_eq (text bytes (item_name i)) (text bytes (item_name x))) before ≡ false → Differ (all_texts bytes (before ++ (x ∷ [])))
+item_push bytes before (SiteItem n cs) d h =
+    let S = site_texts bytes before in let P = param_texts bytes before in let Q = pred_texts bytes before in
+    let t = text bytes n in
+    let m = more bytes before (SiteItem n cs) in let sp = spread bytes t before h in
+    let a : Differ (S ++ (t ∷ (P ++ Q))) = insert S (P ++ Q) t d sp.sites (any_false t P Q sp.params sp.preds) in
+    let e : all_texts bytes (before ++ (SiteItem n cs ∷ [])) ≡ S ++ (t ∷ (P ++ Q)) = let x = m.sites in let y = m.params ∙ append-nil P in let z = m.preds ∙ append-nil Q in rw (x, y, z) (append_assoc S (t ∷ []) (P ++ Q)) in
+    subst (λ (w : List (List ℕ)). Differ w) (sym e) a
+item_push bytes before (ParamItem n rr) d h =
+    let S = site_texts bytes before in let P = param_texts bytes before in let Q = pred_texts bytes before in
+    let t = text bytes n in
+    let m = more bytes before (ParamItem n rr) in let sp = spread bytes t before h in
+    let d2 : Differ ((S ++ P) ++ Q) = subst (λ (w : List (List ℕ)). Differ w) (sym (append_assoc S P Q)) d in
+    let a : Differ ((S ++ P) ++ (t ∷ Q)) = insert (S ++ P) Q t d2 (any_false t S P sp.sites sp.params) sp.preds in
+    let e : all_texts bytes (before ++ (ParamItem n rr ∷ [])) ≡ (S ++ P) ++ (t ∷ Q) = let x = m.sites ∙ append-nil S in let y = m.params in let z = m.preds ∙ append-nil Q in let g = append_assoc P (t ∷ []) Q in rw (x, y, z, g) (sym (append_assoc S P (t ∷ Q))) in
+    subst (λ (w : List (List ℕ)). Differ w) (sym e) a
+item_push bytes before (PredItem n as' ls rr) d h =
+    let S = site_texts bytes before in let P = param_texts bytes before in let Q = pred_texts bytes before in
+    let t = text bytes n in
+    let m = more bytes before (PredItem n as' ls rr) in let sp = spread bytes t before h in
+    let a : Differ ((S ++ (P ++ Q)) ++ (t ∷ [])) = push (S ++ (P ++ Q)) t d (any_false t S (P ++ Q) sp.sites (any_false t P Q sp.params sp.preds)) in
+    let e : all_texts bytes (before ++ (PredItem n as' ls rr ∷ [])) ≡ (S ++ (P ++ Q)) ++ (t ∷ []) = let x = m.sites ∙ append-nil S in let y = m.params ∙ append-nil P in let z = m.preds in let g = append_assoc P Q (t ∷ []) in rw (x, y, z) (ap (λ (w : List (List ℕ)). S ++ w) (sym g) ∙ sym (append_assoc S (P ++ Q) (t ∷ []))) in
+    subst (λ (w : List (List ℕ)). Differ w) (sym e) a
+
+items_differ : (bytes : List ℕ) (ts : List Token) (before is : List Item) → Differ (all_texts bytes before) → Each (ItemWithin bytes ts) before is → Differ (all_texts bytes (before ++ is))
+items_differ bytes ts before [] d e = subst (λ (w : List Item). Differ (all_texts bytes w)) (sym (append-nil before)) d
+items_differ bytes ts before (x ∷ is) d e = subst (λ (w : List Item). Differ (all_texts bytes w)) (append_assoc before (x ∷ []) is) (items_differ bytes ts (before ++ (x ∷ [])) is (item_push bytes before x d e.0.new) e.1)
+
+preds_named : (bytes : List ℕ) (ts : List Token) (t : TableOf) (before is : List Item) (ps : List PredOf) → PredsSay bytes ts before t is ps → map (λ (p : PredOf). p.name) ps ≡ pred_texts bytes is
+preds_named bytes ts t before [] [] s = refl
+preds_named bytes ts t before [] (p ∷ ps) s = absurd s
+preds_named bytes ts t before (SiteItem n cs ∷ is) ps s = preds_named bytes ts t (before ++ (SiteItem n cs ∷ [])) is ps s
+preds_named bytes ts t before (ParamItem n r ∷ is) ps s = preds_named bytes ts t (before ++ (ParamItem n r ∷ [])) is ps s
+preds_named bytes ts t before (PredItem n as' ls r ∷ is) [] s = absurd s
+preds_named bytes ts t before (PredItem n as' ls r ∷ is) (p ∷ ps) s = let a = s.0.name_is in let b = preds_named bytes ts t (before ++ (PredItem n as' ls r ∷ [])) is ps s.1 in rw (a, b) refl
+
+-- the table that the items of a file without a fault say is whole
+pub whole_from : (bytes : List ℕ) (ts : List Token) (is : List Item) → length ts ≤ 65536 → IsShallow ts → Spelt ts is → ReadyFile bytes ts is → FileWithin bytes ts is → (t : TableOf) → ItemsSay bytes ts is t → is_whole t ≡ true
+whole_from bytes ts is l h d r w t s =
+    let m = items_whole bytes ts t is h s.sites_are s.params_are r.each [] d refl t.preds s.preds_are r.each w.each refl in
+    let a : list_all site_whole t.sites ≡ true = ap (list_all site_whole) s.sites_are ∙ m.sites in
+    let b : list_all is_range t.params ≡ true = ap (list_all is_range) s.params_are ∙ m.params in
+    let n : item_names t ≡ all_texts bytes is = let x = s.sites_are in let y = s.params_are in let z = preds_named bytes ts t [] is t.preds s.preds_are in rw (x, y, z) refl in
+    let c : differ (item_names t) ≡ true = ap differ n ∙ differ_test (all_texts bytes is) (items_differ bytes ts [] is tt w.each) in
+    let k1 = ap (λ (v : List SiteOf). total site_tokens v) s.sites_are in
+    let k2 = ap (λ (v : List CoordOf). total param_tokens v) s.params_are in
+    let k3 = m.tokens in
+    and_from _ _ (and_from _ _ (and_from _ _ (and_from _ _ a b) m.preds) c) (le-leb (text_tokens t) 65536 (omega arith))
