@@ -14,8 +14,6 @@ use Rattle.ln_parse.specs.ReadsBack.{Every, CoordNamed, SiteNamed, ArgNamed, Let
 use Rattle.ln_parse.specs.Spanless.{pred_spanless, IsTextUpToSpans}
 use Rattle.ln_parse.specs.WholeTable.{IsShortName, SiteNames, ArgNames, PredKept, IsWhole}
 use Rattle.ln_parse.specs.Written.{Naming, naming, range_name, site_name}
-use Rattle.ln_parse.proofs.FromTokens.{expression_nests, expression_tokens}
-use Rattle.ln_parse.proofs.WholeFrom.{differ_test}
 use Rattle.ln_parse.proofs.ClearText.{table_clear, table_back}
 use Rattle.ln_parse.proofs.FileClean.{Facts, file_done}
 use Rattle.ln_parse.proofs.InputsThere.{NamesGood, named, at_place, every_at}

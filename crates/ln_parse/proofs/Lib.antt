@@ -30,6 +30,7 @@ pub mod PredBack
 pub mod FileClean
 pub mod FromTokens
 pub mod WholeFrom
+pub mod TableWhole
 pub mod Nested
 pub mod TextTokens
 pub mod CleanValue
