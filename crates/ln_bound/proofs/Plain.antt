@@ -1,5 +1,5 @@
 -- The value of a tree is its coefficient at the vector of zeros, whatever is perturbed.
-use Rattle.std.proofs.Common.{◌≡◌, ℕ, ℤ, Bool, true, List, [], ◌∷◌, ◌++◌, refl, zero, suc, ap, arith, pos, ◌+ℤ◌, ◌-ℤ◌, ◌*ℤ◌, neg_ℤ, ◌∙◌, sym}
+use Rattle.std.proofs.Common.{◌≡◌, ℕ, ℤ, Bool, true, List, [], ◌∷◌, refl, zero, suc, ap, arith, pos, ◌+ℤ◌, ◌*ℤ◌, neg_ℤ, ◌∙◌}
 use Rattle.std.proofs.lemmas.Int.{ints}
 use Rattle.ln_algebra.specs.Tree.{Tree, Num, Input, Name, Neg, Add, Sub, Mul, Pow}
 use Rattle.ln_algebra.specs.Vector.{splits, is_zero}

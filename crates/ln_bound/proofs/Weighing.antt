@@ -1,12 +1,12 @@
 -- Nodes with their weights, one after the other.
-use Rattle.std.proofs.Common.{map, drop, length, ◌≡◌, ℕ, ◌≤◌, ◌<◌, List, [], ◌∷◌, ◌++◌, Option, Some, None, refl, ap, ◌∙◌, sym, append_assoc}
+use Rattle.std.proofs.Common.{◌≡◌, ℕ, ◌≤◌, ◌<◌, List, [], ◌∷◌, ◌++◌, Option, refl, ap, ◌∙◌, sym, append_assoc}
 use Rattle.ln_base.specs.declared.span.Span.{Span}
 use Rattle.ln_bound.specs.declared.weigh.BoundStop.{BoundStop}
 use Rattle.ln_bound.specs.declared.weigh.BoundStop.TheVariants.{Bound, NoMemory}
 use Rattle.std.proofs.lemmas.List.{map-append}
 use Rattle.ln_tree.specs.declared.shape.VarInfo.{VarInfo}
 use Rattle.ln_tree.specs.Formula.{Formula}
-use Rattle.ln_bound.specs.Light.{most, AreLight, IsBoundFault, node_weights, weighed, weight_of, weighed_lets, let_weights}
+use Rattle.ln_bound.specs.Light.{most, AreLight, node_weights, weighed, weight_of, weighed_lets, let_weights}
 use Rattle.ln_bound.specs.Stop.{StopsWeighing, IsHeavyOrNoMemory, IsHeavy}
 
 abbrev pub Nodes : Type 0

@@ -1,5 +1,5 @@
 -- The weights of all nodes, and the values that fit.
-use Rattle.std.specs.Prelude.{◌≡◌, ℕ, ◌≤◌, ◌<◌, ◌^◌, ◌-◌, ◌++◌, ℤ, unsigned_abs, List, [], ◌∷◌, length, map}
+use Rattle.std.specs.Prelude.{◌≡◌, ℕ, ◌≤◌, ◌<◌, ◌++◌, ℤ, unsigned_abs, List, [], ◌∷◌, map}
 use Rattle.ln_base.specs.declared.span.Span.{Span}
 use Rattle.ln_algebra.specs.Tree.{Tree, Num, Input, Name, Neg, Add, Sub, Mul, Pow}
 use Rattle.ln_tree.specs.declared.shape.VarInfo.{VarInfo}

@@ -21,12 +21,14 @@ use std::alloc::Global;
 
 // M of a variable: the largest absolute value of its range, and at least 1.
 fn size_of_var(i: &VarInfo) -> u128
-    ensures { result ≡ size_of i.now }
+    ensures value { result ≡ size_of i.now }
+    ensures small { result < 2 ^ 64 }
 {
     u128::from(i.lo.unsigned_abs().max(i.hi.unsigned_abs()).max(1))
 }
 
-fn number(c: i128) -> Fitted
+/// The tree of the number c: its bound is the absolute value, its width the least that fits it.
+pub fn number(c: i128) -> Fitted
     ensures { typed result ≡ TNum c (unsigned_abs c) (least (unsigned_abs c)) }
 {
     let bound = c.unsigned_abs();
@@ -37,10 +39,13 @@ fn number(c: i128) -> Fitted
     }
 }
 
-fn input(vars: &[VarInfo], v: usize) -> Fitted
+/// The tree of variable number v: its bound is the largest absolute value of the range, and at least 1, its width the least
+/// that fits it.
+pub fn input(vars: &[VarInfo], v: usize) -> Fitted
     requires few { length vars.now ≤ 168 }
     requires within { v < length vars.now }
-    ensures { typed result ≡ TInput v (sizes vars.now v) (least (sizes vars.now v)) }
+    ensures tree { typed result ≡ TInput v (sizes vars.now v) (least (sizes vars.now v)) }
+    ensures small { sizes vars.now v < 2 ^ 64 }
 {
     let bound = size_of_var(&vars[v]);
     Fitted {
@@ -86,7 +91,9 @@ fn bound_of(kind: Two, a: u128, b: u128) -> u128
     }
 }
 
-fn two(alloc: Global, kind: Two, x: Fitted, y: Fitted) -> Result<Fitted, NoMemory>
+/// The sum, difference or product of two trees. Its bound is the operation over the operands' bounds, which has to be at
+/// most `2^127 - 1`; its width is the least that fits the bound and is no narrower than an operand.
+pub fn two(alloc: Global, kind: Two, x: Fitted, y: Fitted) -> Result<Fitted, NoMemory>
     requires { bound_of kind (bound (typed x)) (bound (typed y)) ≤ most }
     ensures { IfOk result (λ t. typed t ≡ TTwo kind (typed x) (typed y) (bound_of kind (bound (typed x)) (bound (typed y))) (wider (wider (width (typed x)) (width (typed y))) (least (bound_of kind (bound (typed x)) (bound (typed y)))))) }
 {

@@ -199,6 +199,7 @@ fn weigh_lets(
 pub fn weigh(alloc: Global, p: &Pred) -> Result<Weights, BoundStop>
     ensures ok { IfOk result (λ w. w ≡ node_weights (weighed_pred p.now.shape.vars (map formula p.now.lets) (formula p.now.root))) }
     ensures light { OnOk result (AreLight (weighed_pred p.now.shape.vars (map formula p.now.lets) (formula p.now.root))) }
+    ensures some { IfOk result (λ w. 0 < length w) }
     ensures err { IfErr result (λ s. StopsWeighing (weighed_pred p.now.shape.vars (map formula p.now.lets) (formula p.now.root)) s) }
 {
     let mut all = Seq::new(alloc);

@@ -32,8 +32,6 @@ pub enum LimitWhat {
     Nodes,
     /// An exponent of 16.
     Exponent,
-    /// A form of the language that isn't built yet.
-    Form,
 }
 
 /// What is wrong with a name.

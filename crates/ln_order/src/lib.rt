@@ -1,11 +1,16 @@
 //! The order of the sites of a row by their indices: `order_of` lists the places of the sites by rising index, the largest
-//! infinitesimals first, or says which site has the index of an earlier one.
+//! infinitesimals first, or says which site has the index of an earlier one. `all_orders` lists all orders of so many
+//! sites, and `earlier` compares exponents in one.
 #![tactic(auto)]
 
 pub mod equal;
+pub mod infinitesimals;
 pub mod order;
+pub mod orders;
 pub mod rank;
 
 pub use equal::{Equal, first_equal};
+pub use infinitesimals::{earlier, exponent_of, orders_are_those_of_rows, ranking};
 pub use order::Order;
+pub use orders::{all_orders, orders_are_all};
 pub use rank::order_of;

@@ -12,7 +12,7 @@ pub struct Order {
 }
 
 impl Order {
-    ghost use Rattle.std.specs.Prelude.{◌≡◌, ◌≤◌, take};
+    ghost use Rattle.std.specs.Prelude.{◌≡◌, ◌≤◌, length, take};
     ghost use Rattle.ln_order.specs.Order.{ArePlaces};
     ghost use Rattle.ln_order.specs.Places.{order_places};
 
@@ -28,6 +28,7 @@ impl Order {
     /// The places of the sites, the largest infinitesimals first.
     pub fn places(&self) -> &[u8]
         ensures value { result.now ≡ order_places self.now }
+        ensures few { length (order_places self.now) ≤ 5 }
         ensures each { ArePlaces (order_places self.now) }
     {
         &self.places[..usize::from(self.len)]

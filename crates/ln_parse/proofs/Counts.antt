@@ -1,17 +1,17 @@
 -- How many nodes an expression has, by its tokens.
-use Rattle.std.proofs.Common.{◌≡◌, ℕ, zero, suc, ◌+◌, ◌-◌, ◌<◌, ◌≤◌, Bool, true, false, List, Option, Some, None, refl, ap, sym, ◌∙◌, subst, arith}
+use Rattle.std.proofs.Common.{◌≡◌, ℕ, zero, suc, ◌+◌, ◌-◌, true, false, List, Option, Some, None, refl, ap, sym, subst, arith}
 use Rattle.ln_base.specs.declared.span.Span.{Span}
 use Rattle.ln_lex.specs.declared.token.Token.{Token}
-use Rattle.ln_lex.specs.declared.token.Kind.TheVariants.{Name, Number, ParL, ParR, Dot, Plus, Minus, Star, Caret, Semi}
+use Rattle.ln_lex.specs.declared.token.Kind.TheVariants.{ParL, ParR, Plus, Minus, Star, Caret, Semi}
 use Rattle.ln_syntax.specs.Raw.{Is, kind_at}
-use Rattle.ln_syntax.specs.Expression.{Tree, TAdd, TSub, TMul, Sort, Atom, Power, Unary, Term, Sum, Factors, Terms, Derives, number, name, input, parens, plain, power, base, minus, term, no_factor, times, sum, no_term, plus, less}
+use Rattle.ln_syntax.specs.Expression.{Tree, TAdd, TSub, TMul, Sort, Atom, Power, Term, Sum, Factors, Terms, Derives, number, name, input, parens, plain, power, base, minus, term, no_factor, times, sum, no_term, plus, less}
 use Rattle.ln_syntax.specs.Stops.{Stops}
 use Rattle.ln_syntax.proofs.OneTree.{stops, tighter, factors_stop, terms_stop}
 use Rattle.ln_names.specs.declared.roles.Role.{Role}
 use Rattle.ln_names.specs.declared.roles.Role.TheVariants.{Value, AfterCaret, Bare, Input, AfterDot, Operator}
 use Rattle.ln_names.specs.Rules.{Scope}
 use Rattle.ln_names.specs.Visits.{is_dot, role_of, role_at, is_node_at, nodes}
-use Rattle.ln_tree.specs.Formula.{Formula, node_count}
+use Rattle.ln_tree.specs.Formula.{node_count}
 use Rattle.ln_parse.specs.Says.{resolved, name_of}
 use Rattle.ln_parse.proofs.Roles.{Fresh, FreshAt, fresh_behind, number_role, exponent_role, name_role, coord_role, no_dot_at}
 

@@ -1,14 +1,17 @@
 -- Places in lists, as the calls that look for them have them.
-use Rattle.std.proofs.Common.{◌≡◌, ℕ, ◌&&◌, Bool, List, Option, Some, None, refl, ap, sym, ◌∙◌}
+use Rattle.std.proofs.Common.{◌≡◌, ℕ, ◌&&◌, Bool, List, [], ◌∷◌, Option, Some, None, refl, ap, sym, ◌∙◌}
 use Rattle.ln_base.specs.declared.span.Span.{Span}
-use Rattle.ln_syntax.specs.Raw.{same}
+use Rattle.ln_syntax.specs.declared.raw.RawItem.{RawItem}
+use Rattle.ln_syntax.specs.declared.raw.RawItem.TheVariants.{Site, Param, Pred}
+use Rattle.ln_syntax.specs.Raw.{item, items, same}
 use Rattle.ln_syntax.specs.Expression.{TName}
 use Rattle.ln_names.specs.Rules.{Scope, is_param_arg}
 use Rattle.ln_tree.specs.Formula.{FName, FInput}
 use Rattle.std.specs.Prelude.{position, unwrap_or}
-use Rattle.std.specs.List.{position_from}
+use Rattle.std.specs.List.{filter_map, position_from}
 use Rattle.std.proofs.lemmas.Iterator.Adapters.{position_from-zero}
-use Rattle.ln_parse.specs.Says.{place, resolved}
+use Rattle.ln_parse.specs.Says.{place, resolved, site_names, param_names}
+use Rattle.ln_parse.specs.Reading.{site_name, param_name}
 
 -- the first place, looked for from the front on
 pub position_is : {A : Type 0} (p : A → Bool) (xs : List A) (o : Option ℕ) → o ≡ position_from p 0 xs → position p xs ≡ o
@@ -30,3 +33,17 @@ name_is_param bytes s at o p n h is g q =
     let e = position_is (λ l. same bytes l.name at) s.lets o h in
     let f = place_is (λ a. is_param_arg a && same bytes a.name at) s.args p g in
     rw (e, is, q, f) refl
+
+-- the names of the site types among the items of the program
+pub sites_named : (its : List RawItem) → filter_map (λ i. site_name (item i)) its ≡ site_names (items its)
+sites_named [] = refl
+sites_named (Site name cs ∷ its) = ap (λ (w : List Span). name ∷ w) (sites_named its)
+sites_named (Param name r ∷ its) = sites_named its
+sites_named (Pred name as' ls p ∷ its) = sites_named its
+
+-- the names of the params among the items of the program
+pub params_named : (its : List RawItem) → filter_map (λ i. param_name (item i)) its ≡ param_names (items its)
+params_named [] = refl
+params_named (Site name cs ∷ its) = params_named its
+params_named (Param name r ∷ its) = ap (λ (w : List Span). name ∷ w) (params_named its)
+params_named (Pred name as' ls p ∷ its) = params_named its

@@ -1,22 +1,19 @@
 -- What each token of an expression is, by its derivation.
-use Rattle.std.proofs.Common.{◌≡◌, ℕ, zero, suc, ◌+◌, ◌-◌, ◌<◌, ◌≤◌, ◌||◌, Bool, true, false, cond, List, [], ◌∷◌, length, Option, Some, None, refl, ap, sym, ◌∙◌, subst, arith}
+use Rattle.std.proofs.Common.{◌≡◌, ℕ, suc, ◌+◌, ◌-◌, ◌<◌, ◌≤◌, Bool, true, false, cond, List, Option, Some, None, refl, ap, ◌∙◌, subst, arith}
 use Rattle.std.specs.List.{list_any}
 use Rattle.ln_lex.specs.declared.token.Token.{Token}
 use Rattle.ln_lex.specs.declared.token.Kind.{Kind}
 use Rattle.ln_lex.specs.declared.token.Kind.TheVariants.{Name, Number, ParL, ParR, Dot, Plus, Minus, Star, Caret, Semi}
 use Rattle.ln_syntax.specs.Raw.{Is, kind_at, span_at, same}
-use Rattle.ln_syntax.specs.Expression.{Tree, TNum, TName, TInput, TNeg, TAdd, TSub, TMul, TPow, Sort, Atom, Power, Unary, Term, Sum, Factors, Terms, Derives, number, name, input, parens, plain, power, base, minus, term, no_factor, times, sum, no_term, plus, less}
-use Rattle.ln_syntax.specs.Stops.{strength, strength_of, bar, Stops}
-use Rattle.ln_syntax.proofs.OneTree.{stops, never, tighter, factors_stop, terms_stop}
+use Rattle.ln_syntax.specs.Expression.{Tree, TAdd, TSub, TMul, Sort, Atom, Power, Term, Sum, Factors, Terms, Derives, number, name, input, parens, plain, power, base, minus, term, no_factor, times, sum, no_term, plus, less}
+use Rattle.ln_syntax.specs.Stops.{strength_of, Stops}
+use Rattle.ln_syntax.proofs.OneTree.{stops, tighter, factors_stop, terms_stop}
 use Rattle.ln_names.specs.declared.roles.Role.{Role}
-use Rattle.ln_names.specs.declared.roles.Role.TheVariants.{Value, AfterCaret, Bare, Input, AfterDot, Operator}
-use Rattle.ln_names.specs.Rules.{Scope, has_let, has_param_arg, has_site_arg, coords_at}
-use Rattle.ln_names.specs.Numbers as numbers
-use Rattle.ln_names.specs.Visits.{is_dot, is_caret, role_of, role_at, is_node, is_node_at, nodes}
+use Rattle.ln_names.specs.declared.roles.Role.TheVariants.{Value, AfterCaret, Bare, Input, AfterDot}
+use Rattle.ln_names.specs.Rules.{Scope, coords_at}
+use Rattle.ln_names.specs.Visits.{is_dot, is_caret, role_of, role_at}
 use Rattle.ln_names.specs.Limits.{TokenWithin}
 use Rattle.ln_names.proofs.Within.{within}
-use Rattle.ln_tree.specs.Formula.{node_count}
-use Rattle.ln_parse.specs.Says.{resolved}
 use Rattle.ln_parse.specs.Ready.{Fit}
 
 -- what stands before the place is neither a caret nor a dot
@@ -68,7 +65,7 @@ at_role : (bytes : List ℕ) (ts : List Token) (s : Scope) (lo hi k : ℕ) (o : 
 at_role bytes ts s lo hi k o w l h e = subst (λ (x : Option Role). TokenWithin bytes ts s k x) e (w.each k l h)
 
 -- what a sort that goes on begins with
-abbrev FitBefore : List ℕ → Scope → Sort → Type 0
+abbrev pub FitBefore : List ℕ → Scope → Sort → Type 0
 FitBefore bytes s (Factors f) = Fit bytes s f
 FitBefore bytes s (Terms f) = Fit bytes s f
 FitBefore bytes s o = Unit {0}

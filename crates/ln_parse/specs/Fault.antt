@@ -8,9 +8,11 @@ use Rattle.ln_syntax.specs.File.{Spelt}
 use Rattle.ln_syntax.specs.Place.{IsShallow, IsSyntaxFault, IsNestingFault}
 use Rattle.ln_names.specs.declared.faults.Fault.{Fault}
 use Rattle.ln_names.specs.declared.faults.Fault.TheVariants.{Limit as OfLimit, Named as OfName}
-use Rattle.ln_names.specs.declared.faults.LimitWhat.TheVariants.{Tokens, Nesting, Form}
+use Rattle.ln_names.specs.declared.faults.LimitWhat.TheVariants.{Tokens, Nesting}
 use Rattle.ln_names.specs.declared.faults.Found.{Found}
 use Rattle.ln_names.specs.First.{FirstFault, NoFault}
+use Rattle.ln_tree.specs.Table.{TableOf}
+use Rattle.ln_parse.specs.Text.{TextOf}
 use Rattle.ln_parse.specs.declared.source.ParseStop.{ParseStop}
 use Rattle.ln_parse.specs.declared.source.ParseStop.TheVariants.{Lexical, Limit, Syntax, Name, NoMemory}
 
@@ -48,13 +50,10 @@ pub record IsFaultless (bytes : List ℕ) (ts : List Token) (is : List Item) : T
   pub spelt : Spelt ts is
   pub clean : NoFault bytes ts is
 
--- the text has no fault, and a form of the language that isn't built yet
-pub record IsUnbuilt (bytes : List ℕ) (e : ParseStop) : Type 0 where
-  pub tokens : List Token
-  pub items : List Item
-  pub faultless : IsFaultless bytes tokens items
-  pub form : e ≡ Limit Form (record { start = 0; end = 0 })
-
--- a refusal is the fault of the text, or a form that isn't built yet, or want of memory
+-- a refusal is the fault of the text, or want of memory
 abbrev pub IsRefusal : List ℕ → ParseStop → Type 0
-IsRefusal bytes e = TextFault bytes e ⊎ IsUnbuilt bytes e ⊎ (e ≡ NoMemory)
+IsRefusal bytes e = TextFault bytes e ⊎ (e ≡ NoMemory)
+
+-- a text with a table is refused for want of memory alone
+abbrev pub IsWithoutTable : List ℕ → ParseStop → Type 0
+IsWithoutTable bytes e = (t : TableOf) → TextOf bytes t → e ≡ NoMemory

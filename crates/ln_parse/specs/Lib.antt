@@ -1,6 +1,10 @@
 pub mod Says
 pub mod Text
 pub mod Reading
-pub mod Small
+pub mod Lexemes
+pub mod Written
+pub mod Canonical
+pub mod ReadsBack
+pub mod Spanless
 pub mod Fault
 pub mod Ready

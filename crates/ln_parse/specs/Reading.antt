@@ -1,15 +1,26 @@
 -- What the reader of an expression answers.
-use Rattle.std.specs.Prelude.{◌≡◌, ℕ, ◌≤◌, List, length}
+use Rattle.std.specs.Prelude.{◌≡◌, ℕ, ◌≤◌, List, length, Option, Some, None}
+use Rattle.ln_base.specs.declared.span.Span.{Span}
 use Rattle.ln_lex.specs.declared.token.Token.{Token}
+use Rattle.ln_syntax.specs.Raw.{Item, SiteItem, ParamItem}
 use Rattle.ln_syntax.specs.Expression.{Tree, Sort, Derives}
+use Rattle.ln_syntax.specs.Stops.{Stops}
 use Rattle.ln_names.specs.Rules.{Scope}
 use Rattle.ln_tree.specs.Formula.{Formula}
 use Rattle.ln_parse.specs.Says.{resolved}
 
--- the tokens from place i up to place j are of this sort and say this formula
-pub record Reads (bytes : List ℕ) (ts : List Token) (s : Scope) (sort : Sort) (i j : ℕ) (x : Formula) : Type 0 where
-  pub tree : Tree
-  pub derives : Derives ts sort i j tree
-  pub means : resolved bytes s tree ≡ x
+-- each expression of this sort that begins at place i and stops ends at place j and says this formula
+pub record Reads (bytes : List ℕ) (ts : List Token) (s : Scope) (o : Sort) (i j : ℕ) (x : Formula) : Type 0 where
+  pub same : (to : ℕ) (e : Tree) → Derives ts o i to e → Stops ts o to → (j ≡ to) × (resolved bytes s e ≡ x)
   pub within : j ≤ length ts
   pub later : i ≤ j
+
+-- the name of a site type; of another item none
+abbrev pub site_name : Item → Option Span
+site_name (SiteItem name cs) = Some name
+site_name i = None
+
+-- the name of a param; of another item none
+abbrev pub param_name : Item → Option Span
+param_name (ParamItem name r) = Some name
+param_name i = None

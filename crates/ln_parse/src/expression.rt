@@ -1,5 +1,5 @@
 // The expressions of tokens, with their names resolved on the way.
-ghost use Rattle.std.specs.Prelude.{◌≡◌, ◌+◌, ◌^◌, ◌<◌, ◌≤◌, ◌∷◌, pos, length, IfOk, Some, None, unwrap_or};
+ghost use Rattle.std.specs.Prelude.{◌≡◌, ◌+◌, ◌^◌, ◌<◌, ◌≤◌, ◌∷◌, pos, length, IfOk, IfSome, Some, None, unwrap_or};
 ghost use Rattle.ln_lex.specs.declared.token.Kind.TheVariants.{Semi};
 ghost use Rattle.ln_syntax.specs.Raw.{items, Is};
 ghost use Rattle.ln_syntax.specs.Expression.{Atom, Power, Unary, Term, Sum, TName, TInput};
@@ -7,11 +7,11 @@ ghost use Rattle.ln_names.specs.Numbers.{number};
 ghost use Rattle.ln_names.specs.Rules.{scope};
 ghost use Rattle.ln_tree.specs.Formula.{formula, FNum, FNeg, FAdd, FSub, FMul, FPow};
 ghost use Rattle.ln_parse.specs.Says.{resolved, Says};
+ghost use Rattle.ln_parse.specs.Ready.{HasTree, ReadyValue, IsNarrow};
 ghost use Rattle.ln_parse.specs.Reading.{Reads};
 
 use crate::place::{is, span_of};
-use crate::stop::BuildStop;
-use ln_base::Span;
+use ln_base::{NoMemory, Span};
 use ln_lex::{Kind, Token};
 use ln_names::resolve::{arg_coords, coord_at, let_place, literal, param_at, site_at};
 use ln_names::spans::number;
@@ -38,24 +38,22 @@ struct Read {
 }
 
 /// The expression of the tokens at these places, before a semicolon.
-pub fn expression(alloc: Global, s: &Scene, at: Places) -> Result<Expr, BuildStop>
+pub fn expression(alloc: Global, s: &Scene, at: Places) -> Result<Expr, NoMemory>
     requires small { length s.now.ts.now < 2 ^ 32 }
+    requires narrow { IsNarrow s.now.bytes.now (scope (items s.now.items.now) s.now.args.now s.now.lets.now) }
+    requires ready { ReadyValue s.now.bytes.now s.now.ts.now (scope (items s.now.items.now) s.now.args.now s.now.lets.now) at }
     ensures { IfOk result (λ x. Says s.now.bytes.now s.now.ts.now (scope (items s.now.items.now) s.now.args.now s.now.lets.now) at (formula x)) }
 {
-    if at.from > s.ts.len() {
-        return Err(BuildStop::Form);
-    }
     let read = sum(alloc, s, at.from)?;
-    if read.end != at.to || !is(s.ts, at.to, Kind::Semi) {
-        return Err(BuildStop::Form);
-    }
     Ok(read.expr)
 }
 
 #[cycle(expression)]
-fn sum(alloc: Global, s: &Scene, at: usize) -> Result<Read, BuildStop>
+fn sum(alloc: Global, s: &Scene, at: usize) -> Result<Read, NoMemory>
     requires within { at ≤ length s.now.ts.now }
     requires small { length s.now.ts.now < 2 ^ 32 }
+    requires narrow { IsNarrow s.now.bytes.now (scope (items s.now.items.now) s.now.args.now s.now.lets.now) }
+    requires there { HasTree s.now.bytes.now s.now.ts.now (scope (items s.now.items.now) s.now.args.now s.now.lets.now) Sum at }
     ensures { IfOk result (λ x. Reads s.now.bytes.now s.now.ts.now (scope (items s.now.items.now) s.now.args.now s.now.lets.now) Sum at x.end (formula x.expr)) }
 {
     let first = term(alloc, s, at)?;
@@ -80,9 +78,11 @@ fn sum(alloc: Global, s: &Scene, at: usize) -> Result<Read, BuildStop>
 }
 
 #[cycle(expression)]
-fn term(alloc: Global, s: &Scene, at: usize) -> Result<Read, BuildStop>
+fn term(alloc: Global, s: &Scene, at: usize) -> Result<Read, NoMemory>
     requires within { at ≤ length s.now.ts.now }
     requires small { length s.now.ts.now < 2 ^ 32 }
+    requires narrow { IsNarrow s.now.bytes.now (scope (items s.now.items.now) s.now.args.now s.now.lets.now) }
+    requires there { HasTree s.now.bytes.now s.now.ts.now (scope (items s.now.items.now) s.now.args.now s.now.lets.now) Term at }
     ensures { IfOk result (λ x. Reads s.now.bytes.now s.now.ts.now (scope (items s.now.items.now) s.now.args.now s.now.lets.now) Term at x.end (formula x.expr)) }
 {
     let first = unary(alloc, s, at)?;
@@ -100,9 +100,11 @@ fn term(alloc: Global, s: &Scene, at: usize) -> Result<Read, BuildStop>
 }
 
 #[cycle(expression)]
-fn unary(alloc: Global, s: &Scene, at: usize) -> Result<Read, BuildStop>
+fn unary(alloc: Global, s: &Scene, at: usize) -> Result<Read, NoMemory>
     requires within { at ≤ length s.now.ts.now }
     requires small { length s.now.ts.now < 2 ^ 32 }
+    requires narrow { IsNarrow s.now.bytes.now (scope (items s.now.items.now) s.now.args.now s.now.lets.now) }
+    requires there { HasTree s.now.bytes.now s.now.ts.now (scope (items s.now.items.now) s.now.args.now s.now.lets.now) Unary at }
     ensures { IfOk result (λ x. Reads s.now.bytes.now s.now.ts.now (scope (items s.now.items.now) s.now.args.now s.now.lets.now) Unary at x.end (formula x.expr)) }
 {
     if !is(s.ts, at, Kind::Minus) {
@@ -116,9 +118,11 @@ fn unary(alloc: Global, s: &Scene, at: usize) -> Result<Read, BuildStop>
 }
 
 #[cycle(expression)]
-fn power(alloc: Global, s: &Scene, at: usize) -> Result<Read, BuildStop>
+fn power(alloc: Global, s: &Scene, at: usize) -> Result<Read, NoMemory>
     requires within { at ≤ length s.now.ts.now }
     requires small { length s.now.ts.now < 2 ^ 32 }
+    requires narrow { IsNarrow s.now.bytes.now (scope (items s.now.items.now) s.now.args.now s.now.lets.now) }
+    requires there { HasTree s.now.bytes.now s.now.ts.now (scope (items s.now.items.now) s.now.args.now s.now.lets.now) Power at }
     ensures { IfOk result (λ x. Reads s.now.bytes.now s.now.ts.now (scope (items s.now.items.now) s.now.args.now s.now.lets.now) Power at x.end (formula x.expr)) }
 {
     let base = atom(alloc, s, at)?;
@@ -126,10 +130,7 @@ fn power(alloc: Global, s: &Scene, at: usize) -> Result<Read, BuildStop>
     if !is(s.ts, place, Kind::Caret) {
         return Ok(base);
     }
-    if !is(s.ts, place + 1, Kind::Number) {
-        return Err(BuildStop::Form);
-    }
-    let by = exponent(s.bytes, span_of(s.ts, place + 1))?;
+    let by = exponent(s.bytes, span_of(s.ts, place + 1));
     Ok(Read {
         expr: raised(alloc, span_of(s.ts, place), base.expr, by)?,
         end: place + 2,
@@ -137,24 +138,20 @@ fn power(alloc: Global, s: &Scene, at: usize) -> Result<Read, BuildStop>
 }
 
 #[cycle(expression)]
-fn atom(alloc: Global, s: &Scene, at: usize) -> Result<Read, BuildStop>
+fn atom(alloc: Global, s: &Scene, at: usize) -> Result<Read, NoMemory>
     requires within { at ≤ length s.now.ts.now }
     requires small { length s.now.ts.now < 2 ^ 32 }
+    requires narrow { IsNarrow s.now.bytes.now (scope (items s.now.items.now) s.now.args.now s.now.lets.now) }
+    requires there { HasTree s.now.bytes.now s.now.ts.now (scope (items s.now.items.now) s.now.args.now s.now.lets.now) Atom at }
     ensures { IfOk result (λ x. Reads s.now.bytes.now s.now.ts.now (scope (items s.now.items.now) s.now.args.now s.now.lets.now) Atom at x.end (formula x.expr)) }
 {
     if is(s.ts, at, Kind::Number) {
-        return number_atom(s, at);
+        return Ok(number_atom(s, at));
     }
     if is(s.ts, at, Kind::Name) {
-        return name_atom(s, at);
-    }
-    if !is(s.ts, at, Kind::ParL) {
-        return Err(BuildStop::Form);
+        return Ok(name_atom(s, at));
     }
     let inner = sum(alloc, s, at + 1)?;
-    if !is(s.ts, inner.end, Kind::ParR) {
-        return Err(BuildStop::Form);
-    }
     Ok(Read {
         expr: inner.expr,
         end: inner.end + 1,
@@ -162,98 +159,107 @@ fn atom(alloc: Global, s: &Scene, at: usize) -> Result<Read, BuildStop>
 }
 
 // A literal.
-fn number_atom(s: &Scene, at: usize) -> Result<Read, BuildStop>
+fn number_atom(s: &Scene, at: usize) -> Read
     requires small { length s.now.ts.now < 2 ^ 32 }
     requires within { at ≤ length s.now.ts.now }
     requires kind { Is s.now.ts.now at Kind.Number }
-    ensures { IfOk result (λ x. Reads s.now.bytes.now s.now.ts.now (scope (items s.now.items.now) s.now.args.now s.now.lets.now) Atom at x.end (formula x.expr)) }
+    requires there { HasTree s.now.bytes.now s.now.ts.now (scope (items s.now.items.now) s.now.args.now s.now.lets.now) Atom at }
+    ensures { Reads s.now.bytes.now s.now.ts.now (scope (items s.now.items.now) s.now.args.now s.now.lets.now) Atom at result.end (formula result.expr) }
 {
-    Ok(Read {
-        expr: number_leaf(s.bytes, span_of(s.ts, at))?,
+    Read {
+        expr: number_leaf(s.bytes, span_of(s.ts, at)),
         end: at + 1,
-    })
+    }
 }
 
 // An input or a bare name.
-fn name_atom(s: &Scene, at: usize) -> Result<Read, BuildStop>
+fn name_atom(s: &Scene, at: usize) -> Read
     requires small { length s.now.ts.now < 2 ^ 32 }
     requires within { at ≤ length s.now.ts.now }
+    requires narrow { IsNarrow s.now.bytes.now (scope (items s.now.items.now) s.now.args.now s.now.lets.now) }
     requires kind { Is s.now.ts.now at Kind.Name }
-    ensures { IfOk result (λ x. Reads s.now.bytes.now s.now.ts.now (scope (items s.now.items.now) s.now.args.now s.now.lets.now) Atom at x.end (formula x.expr)) }
+    requires there { HasTree s.now.bytes.now s.now.ts.now (scope (items s.now.items.now) s.now.args.now s.now.lets.now) Atom at }
+    ensures { Reads s.now.bytes.now s.now.ts.now (scope (items s.now.items.now) s.now.args.now s.now.lets.now) Atom at result.end (formula result.expr) }
 {
     let name = span_of(s.ts, at);
     if !is(s.ts, at + 1, Kind::Dot) {
-        return Ok(Read {
-            expr: name_leaf(s, name)?,
+        return Read {
+            expr: name_leaf(s, name),
             end: at + 1,
-        });
+        };
     }
-    if !is(s.ts, at + 2, Kind::Name) {
-        return Err(BuildStop::Form);
-    }
-    Ok(Read {
-        expr: input_leaf(s, name, span_of(s.ts, at + 2))?,
+    Read {
+        expr: input_leaf(s, name, span_of(s.ts, at + 2)),
         end: at + 3,
-    })
+    }
 }
 
-/// The expression of a NUMBER.
-fn number_leaf(bytes: &[u8], at: Span) -> Result<Expr, BuildStop>
-    ensures { IfOk result (λ x. formula x ≡ FNum at (pos (number bytes.now at))) }
+// The expression of a NUMBER.
+fn number_leaf(bytes: &[u8], at: Span) -> Expr
+    requires { number bytes.now at < 2 ^ 127 }
+    ensures { formula result ≡ FNum at (pos (number bytes.now at)) }
 {
-    if number(bytes, at) > MOST_LITERAL {
-        return Err(BuildStop::Form);
-    }
-    Ok(Expr {
+    Expr {
         at,
         node: Node::Num(literal(bytes, at)),
-    })
+    }
 }
 
-/// The expression of a bare name.
-fn name_leaf(s: &Scene, at: Span) -> Result<Expr, BuildStop>
-    ensures { IfOk result (λ x. formula x ≡ resolved s.now.bytes.now (scope (items s.now.items.now) s.now.args.now s.now.lets.now) (TName at)) }
+// The expression of a bare name.
+fn name_leaf(s: &Scene, at: Span) -> Expr
+    requires { IsNarrow s.now.bytes.now (scope (items s.now.items.now) s.now.args.now s.now.lets.now) }
+    ensures { formula result ≡ resolved s.now.bytes.now (scope (items s.now.items.now) s.now.args.now s.now.lets.now) (TName at) }
 {
     match let_place(s.bytes, s.lets, at) {
-        Some(j) => Ok(Expr {
+        Some(j) => Expr {
             at,
-            node: Node::Name(narrow(j)?),
-        }),
-        None => Ok(Expr {
+            node: Node::Name(j as u8),
+        },
+        None => Expr {
             at,
             node: Node::Input(Var {
-                arg: narrow(or_zero(param_at(s.bytes, s.args, at)))?,
+                arg: or_zero(param_at(s.bytes, s.args, at)),
                 coord: 0,
             }),
+        },
+    }
+}
+
+// The expression of an input.
+fn input_leaf(s: &Scene, at: Span, coord: Span) -> Expr
+    requires { IsNarrow s.now.bytes.now (scope (items s.now.items.now) s.now.args.now s.now.lets.now) }
+    ensures { formula result ≡ resolved s.now.bytes.now (scope (items s.now.items.now) s.now.args.now s.now.lets.now) (TInput at coord) }
+{
+    let coords = arg_coords(s.bytes, s.items, s.args, at);
+    Expr {
+        at,
+        node: Node::Input(Var {
+            arg: or_zero(site_at(s.bytes, s.args, at)),
+            coord: or_zero(coord_at(s.bytes, coords, coord)),
         }),
     }
 }
 
-/// The expression of an input.
-fn input_leaf(s: &Scene, at: Span, coord: Span) -> Result<Expr, BuildStop>
-    ensures { IfOk result (λ x. formula x ≡ resolved s.now.bytes.now (scope (items s.now.items.now) s.now.args.now s.now.lets.now) (TInput at coord)) }
+// The number behind a caret.
+fn exponent(bytes: &[u8], at: Span) -> u8
+    requires { number bytes.now at ≤ 16 }
+    ensures { result ≡ number bytes.now at }
 {
-    let arg = narrow(or_zero(site_at(s.bytes, s.args, at)))?;
-    let coords = arg_coords(s.bytes, s.items, s.args, at);
-    let coord = narrow(or_zero(coord_at(s.bytes, coords, coord)))?;
-    Ok(Expr {
-        at,
-        node: Node::Input(Var { arg, coord }),
-    })
+    number(bytes, at) as u8
 }
 
-/// The number behind a caret.
-fn exponent(bytes: &[u8], at: Span) -> Result<u8, BuildStop>
-    ensures { IfOk result (λ n. n ≡ number bytes.now at) }
+/// The place, or 0 where there is none.
+pub fn or_zero(place: Option<usize>) -> u8
+    requires { IfSome place (λ i. i < 256) }
+    ensures { result ≡ unwrap_or place 0 }
 {
-    let n = number(bytes, at);
-    if n > 255 {
-        return Err(BuildStop::Form);
+    match place {
+        Some(i) => i as u8,
+        None => 0,
     }
-    Ok(n as u8)
 }
 
-fn negated(alloc: Global, at: Span, of: Expr) -> Result<Expr, BuildStop>
+fn negated(alloc: Global, at: Span, of: Expr) -> Result<Expr, NoMemory>
     ensures { IfOk result (λ e. formula e ≡ FNeg at (formula of)) }
 {
     Ok(Expr {
@@ -262,7 +268,7 @@ fn negated(alloc: Global, at: Span, of: Expr) -> Result<Expr, BuildStop>
     })
 }
 
-fn added(alloc: Global, at: Span, left: Expr, right: Expr) -> Result<Expr, BuildStop>
+fn added(alloc: Global, at: Span, left: Expr, right: Expr) -> Result<Expr, NoMemory>
     ensures { IfOk result (λ e. formula e ≡ FAdd at (formula left) (formula right)) }
 {
     Ok(Expr {
@@ -271,7 +277,7 @@ fn added(alloc: Global, at: Span, left: Expr, right: Expr) -> Result<Expr, Build
     })
 }
 
-fn taken_off(alloc: Global, at: Span, left: Expr, right: Expr) -> Result<Expr, BuildStop>
+fn taken_off(alloc: Global, at: Span, left: Expr, right: Expr) -> Result<Expr, NoMemory>
     ensures { IfOk result (λ e. formula e ≡ FSub at (formula left) (formula right)) }
 {
     Ok(Expr {
@@ -280,7 +286,7 @@ fn taken_off(alloc: Global, at: Span, left: Expr, right: Expr) -> Result<Expr, B
     })
 }
 
-fn multiplied(alloc: Global, at: Span, left: Expr, right: Expr) -> Result<Expr, BuildStop>
+fn multiplied(alloc: Global, at: Span, left: Expr, right: Expr) -> Result<Expr, NoMemory>
     ensures { IfOk result (λ e. formula e ≡ FMul at (formula left) (formula right)) }
 {
     Ok(Expr {
@@ -289,7 +295,7 @@ fn multiplied(alloc: Global, at: Span, left: Expr, right: Expr) -> Result<Expr, 
     })
 }
 
-fn raised(alloc: Global, at: Span, of: Expr, by: u8) -> Result<Expr, BuildStop>
+fn raised(alloc: Global, at: Span, of: Expr, by: u8) -> Result<Expr, NoMemory>
     ensures { IfOk result (λ e. formula e ≡ FPow at (formula of) by) }
 {
     Ok(Expr {
@@ -297,26 +303,3 @@ fn raised(alloc: Global, at: Span, of: Expr, by: u8) -> Result<Expr, BuildStop>
         node: Node::Pow(Box::new(alloc, of)?, by),
     })
 }
-
-/// The place, or 0 where there is none.
-pub fn or_zero(place: Option<usize>) -> usize
-    ensures { result ≡ unwrap_or place 0 }
-{
-    match place {
-        Some(i) => i,
-        None => 0,
-    }
-}
-
-/// A place that fits a byte.
-pub fn narrow(n: usize) -> Result<u8, BuildStop>
-    ensures { IfOk result (λ x. x ≡ n) }
-{
-    if n > 255 {
-        return Err(BuildStop::Form);
-    }
-    Ok(n as u8)
-}
-
-/// The largest literal, 2^127 - 1.
-const MOST_LITERAL: u128 = 170_141_183_460_469_231_731_687_303_715_884_105_727;

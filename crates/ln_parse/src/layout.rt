@@ -1,14 +1,16 @@
 // The arguments of a predicate and their variables.
-ghost use Rattle.std.specs.Prelude.{◌≡◌, [], Some, ◌+◌, ◌∷◌, ◌++◌, suc, option_map, List, length, map, count_by, slice_get, IfOk, OnOk};
-ghost use Rattle.std.specs.List.{position_from};
-ghost use Rattle.ln_syntax.specs.Raw.{items, same};
+ghost use Rattle.std.specs.Prelude.{◌≡◌, ◌≤◌, ◌<◌, true, [], Some, ◌+◌, ◌∷◌, ◌++◌, suc, option_map, List, length, map, count_by, slice_get, IfOk, OnOk};
+ghost use Rattle.std.specs.List.{filter_map, position_from, list_all};
+ghost use Rattle.ln_syntax.specs.Raw.{item, items, same};
 ghost use Rattle.ln_tree.specs.Table.{ArgOf, arg_of, coord_of, site_of, param_of};
+ghost use Rattle.ln_names.specs.Limits.{Each};
+ghost use Rattle.ln_parse.specs.Reading.{site_name, param_name};
+ghost use Rattle.ln_parse.specs.Ready.{ReadyArg, is_good_site};
 ghost use Rattle.ln_parse.specs.Says.{arg_said, site_names, param_names, site_vars, param_vars, coords_or, vars_behind, is_site_said};
 
-use crate::expression::{Scene, narrow, or_zero};
+use crate::expression::{Scene, or_zero};
 use crate::name::name_at;
-use crate::stop::BuildStop;
-use ln_base::{Seq, Span};
+use ln_base::{NoMemory, Seq, Span};
 use ln_names::spans::same;
 use ln_syntax::{RawArg, RawItem};
 use ln_tree::{Arg, Coord, Param, Site, VarInfo};
@@ -22,65 +24,71 @@ pub struct Layout {
 }
 
 /// The arguments of a predicate, resolved among the items before it.
-pub fn args(alloc: Global, s: &Scene) -> Result<Seq<Arg>, BuildStop>
+pub fn args(alloc: Global, s: &Scene) -> Result<Seq<Arg>, NoMemory>
+    requires ready { Each (λ before a. ReadyArg s.now.bytes.now (items s.now.items.now) a) [] s.now.args.now }
+    requires sites { length (site_names (items s.now.items.now)) ≤ 16 }
+    requires params { length (param_names (items s.now.items.now)) ≤ 16 }
     ensures { IfOk result (λ xs. map arg_of xs ≡ map (λ a. arg_said s.now.bytes.now (items s.now.items.now) a a.is_param) s.now.args.now) }
 {
     let raw = s.args;
     let mut args = Seq::new(alloc);
     'args: for a in raw {
-        args.push(arg(s.bytes, s.items, *a)?)?;
+        args.push(arg(s.bytes, s.items, *a))?;
     }
     Ok(args)
 }
 
-fn arg(bytes: &[u8], before: &[RawItem], a: RawArg) -> Result<Arg, BuildStop>
-    ensures { IfOk result (λ x. arg_of x ≡ arg_said bytes.now (items before.now) a a.is_param) }
+fn arg(bytes: &[u8], before: &[RawItem], a: RawArg) -> Arg
+    requires ready { ReadyArg bytes.now (items before.now) a }
+    requires sites { length (site_names (items before.now)) ≤ 16 }
+    requires params { length (param_names (items before.now)) ≤ 16 }
+    ensures { arg_of result ≡ arg_said bytes.now (items before.now) a a.is_param }
 {
     if a.is_param {
-        return Ok(Arg::Param(narrow(or_zero(param_number(bytes, before, a.name)))?));
+        return Arg::Param(or_zero(param_number(bytes, before, a.name)));
     }
-    let kind = narrow(or_zero(site_number(bytes, before, a.kind)))?;
-    Ok(Arg::Site(name_at(bytes, a.name)?, kind))
+    Arg::Site(
+        name_at(bytes, a.name),
+        or_zero(site_number(bytes, before, a.kind)),
+    )
 }
 
 // The number of the site type of this name.
 fn site_number(bytes: &[u8], before: &[RawItem], at: Span) -> Option<usize>
-    ensures { result ≡ position_from (λ n. same bytes.now n at) 0 (site_names (items before.now)) }
+    ensures { result ≡ position_from (λ n. same bytes.now n at) 0 (filter_map (λ i. site_name (item i)) before.now) }
 {
-    let mut n = 0usize;
-    'items: for it in before {
-        match it {
-            RawItem::Site(name, _) => {
-                if same(bytes, *name, at) {
-                    return Some(n);
-                }
-                n += 1;
-            }
-            RawItem::Param(_, _) => {}
-            RawItem::Pred(_, _, _, _) => {}
-        }
+    before
+        .iter()
+        .filter_map(|it| site_name(it))
+        .position(|n| same(bytes, n, at))
+}
+
+fn site_name(it: &RawItem) -> Option<Span>
+    ensures { result ≡ site_name (item it.now) }
+{
+    match it {
+        RawItem::Site(name, _) => Some(*name),
+        _ => None,
     }
-    None
 }
 
 // The number of the param of this name.
 fn param_number(bytes: &[u8], before: &[RawItem], at: Span) -> Option<usize>
-    ensures { result ≡ position_from (λ n. same bytes.now n at) 0 (param_names (items before.now)) }
+    ensures { result ≡ position_from (λ n. same bytes.now n at) 0 (filter_map (λ i. param_name (item i)) before.now) }
 {
-    let mut n = 0usize;
-    'items: for it in before {
-        match it {
-            RawItem::Site(_, _) => {}
-            RawItem::Param(name, _) => {
-                if same(bytes, *name, at) {
-                    return Some(n);
-                }
-                n += 1;
-            }
-            RawItem::Pred(_, _, _, _) => {}
-        }
+    before
+        .iter()
+        .filter_map(|it| param_name(it))
+        .position(|n| same(bytes, n, at))
+}
+
+fn param_name(it: &RawItem) -> Option<Span>
+    ensures { result ≡ param_name (item it.now) }
+{
+    match it {
+        RawItem::Param(name, _) => Some(*name),
+        _ => None,
     }
-    None
 }
 
 /// The variables of arguments, in order of the arguments, for a site its coordinates in declared order.
@@ -89,14 +97,17 @@ pub fn laid_out(
     sites: &[Site],
     params: &[Param],
     args: &[Arg],
-) -> Result<Layout, BuildStop>
+) -> Result<Layout, NoMemory>
+    requires good { list_all is_good_site (map site_of sites.now) ≡ true }
+    requires few { length args.now ≤ 13 }
+    requires site_args { count_by is_site_said (map arg_of args.now) ≤ 5 }
     ensures vars { IfOk result (λ l. l.vars ≡ vars_behind (map site_of sites.now) (map param_of params.now) 0 0 (map arg_of args.now)) }
     ensures sites { IfOk result (λ l. l.sites ≡ count_by is_site_said (map arg_of args.now)) }
 {
     let mut vars = Seq::new(alloc);
     let mut seen = 0u8;
     'args: for (k, a) in args.iter().enumerate() {
-        seen = arg_vars(&mut vars, sites, params, narrow(k)?, seen, a)?;
+        seen = arg_vars(&mut vars, sites, params, k as u8, seen, a)?;
     }
     Ok(Layout { vars, sites: seen })
 }
@@ -109,14 +120,16 @@ fn arg_vars(
     k: u8,
     s: u8,
     a: &Arg,
-) -> Result<u8, BuildStop>
+) -> Result<u8, NoMemory>
+    requires good { list_all is_good_site (map site_of sites.now) ≡ true }
+    requires room { s < 255 }
     ensures vars { IfOk result (λ n. (rest : List ArgOf) → vars.new ++ vars_behind (map site_of sites.now) (map param_of params.now) (suc k) n rest ≡ vars.old ++ vars_behind (map site_of sites.now) (map param_of params.now) k s (arg_of a.now ∷ rest)) }
     ensures sites { IfOk result (λ n. (rest : List ArgOf) → n + count_by is_site_said rest ≡ s + count_by is_site_said (arg_of a.now ∷ rest)) }
 {
     match a {
         Arg::Site(_, t) => {
             coords_vars(vars, k, s, coords_of(sites, *t))?;
-            narrow(s as usize + 1)
+            Ok(s + 1)
         }
         Arg::Param(p) => {
             param_var(vars, k, params, *p)?;
@@ -127,7 +140,9 @@ fn arg_vars(
 
 // The coordinates of the site type of this number.
 fn coords_of(sites: &[Site], t: u8) -> &[Coord]
-    ensures { map coord_of result.now ≡ coords_or (slice_get (map site_of sites.now) t) }
+    requires good { list_all is_good_site (map site_of sites.now) ≡ true }
+    ensures few { length result.now ≤ 32 }
+    ensures coords { map coord_of result.now ≡ coords_or (slice_get (map site_of sites.now) t) }
 {
     match sites.get(t as usize) {
         Some(site) => site.coords.as_slice(),
@@ -135,14 +150,15 @@ fn coords_of(sites: &[Site], t: u8) -> &[Coord]
     }
 }
 
-fn coords_vars(vars: &mut Seq<VarInfo>, k: u8, s: u8, coords: &[Coord]) -> Result<(), BuildStop>
+fn coords_vars(vars: &mut Seq<VarInfo>, k: u8, s: u8, coords: &[Coord]) -> Result<(), NoMemory>
+    requires { length coords.now ≤ 32 }
     ensures { OnOk result (vars.new ≡ vars.old ++ site_vars k s 0 (map coord_of coords.now)) }
 {
     'coords: for (c, x) in coords.iter().enumerate() {
         vars.push(VarInfo {
             arg: k,
             site: Some(s),
-            coord: narrow(c)?,
+            coord: c as u8,
             lo: x.lo,
             hi: x.hi,
         })?;
@@ -150,7 +166,7 @@ fn coords_vars(vars: &mut Seq<VarInfo>, k: u8, s: u8, coords: &[Coord]) -> Resul
     Ok(())
 }
 
-fn param_var(vars: &mut Seq<VarInfo>, k: u8, params: &[Param], p: u8) -> Result<(), BuildStop>
+fn param_var(vars: &mut Seq<VarInfo>, k: u8, params: &[Param], p: u8) -> Result<(), NoMemory>
     ensures { OnOk result (vars.new ≡ vars.old ++ param_vars k (slice_get (map param_of params.now) p)) }
 {
     match params.get(p as usize) {

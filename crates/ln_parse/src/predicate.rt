@@ -1,18 +1,21 @@
 // Predicates from items.
-ghost use Rattle.std.specs.Prelude.{◌≡◌, ◌≤◌, ◌^◌, ◌<◌, [], length, map, take, IfOk};
+ghost use Rattle.std.specs.Prelude.{◌≡◌, ◌≤◌, ◌^◌, ◌<◌, true, [], length, map, take, IfOk};
+ghost use Rattle.std.specs.List.{list_all};
 ghost use Rattle.ln_syntax.specs.Raw.{items, text};
+ghost use Rattle.ln_names.specs.Limits.{Each};
 ghost use Rattle.ln_tree.specs.Names.{name_bytes};
 ghost use Rattle.ln_tree.specs.Formula.{formula};
-ghost use Rattle.ln_tree.specs.Table.{TableOf, site_of, param_of, pred_of};
+ghost use Rattle.ln_tree.specs.Variables.{is_laid_out};
+ghost use Rattle.ln_tree.specs.Table.{TableOf, site_of, param_of, pred_of, pred_fits};
 ghost use Rattle.ln_parse.specs.Says.{LetsSay, PredSays};
+ghost use Rattle.ln_parse.specs.Ready.{IsNamed, ReadyLet, ReadyPred, Declares, is_few};
 
 use crate::expression::{Scene, expression};
 use crate::layout::{Layout, args, laid_out};
 use crate::name::name_at;
-use crate::stop::BuildStop;
-use ln_base::{Seq, Span};
+use ln_base::{NoMemory, Seq, Span};
 use ln_syntax::{Places, RawLet};
-use ln_tree::{Expr, Name, Param, Pred, Shape, Site, is_pred, is_shape};
+use ln_tree::{Expr, Name, Param, Pred, Shape, Site};
 use std::alloc::Global;
 
 /// The predicate of this name, with the arguments and lets of the scene and this sign expression, in a table with these
@@ -24,26 +27,20 @@ pub fn predicate(
     params: &[Param],
     name: Span,
     root: Places,
-) -> Result<Pred, BuildStop>
+) -> Result<Pred, NoMemory>
     requires small { length s.now.ts.now < 2 ^ 32 }
-    ensures { IfOk result (λ p. (t : TableOf) → t.sites ≡ map site_of sites.now → t.params ≡ map param_of params.now → PredSays s.now.bytes.now s.now.ts.now (items s.now.items.now) t name s.now.args.now s.now.lets.now root (pred_of p)) }
+    requires ready { ReadyPred s.now.bytes.now s.now.ts.now (items s.now.items.now) name s.now.args.now s.now.lets.now root }
+    requires declared { Declares s.now.bytes.now (items s.now.items.now) (map site_of sites.now) (map param_of params.now) }
+    ensures says { IfOk result (λ p. (t : TableOf) → t.sites ≡ map site_of sites.now → t.params ≡ map param_of params.now → PredSays s.now.bytes.now s.now.ts.now (items s.now.items.now) t name s.now.args.now s.now.lets.now root (pred_of p)) }
+    ensures fits { IfOk result (λ p. pred_fits sites.now params.now p ≡ true) }
 {
     let args = args(alloc, s)?;
     let layout = laid_out(alloc, sites, params, args.as_slice())?;
     let lets = lets(alloc, s)?;
-    let let_names = let_names(alloc, s.bytes, s.lets)?;
+    let let_names = let_names(alloc, s, s.lets)?;
     let root = expression(alloc, s, root)?;
-    let named = name_at(s.bytes, name)?;
-    let shape = shape(named, layout)?;
-    if !is_pred(
-        args.as_slice(),
-        shape.vars.as_slice(),
-        lets.as_slice(),
-        let_names.len(),
-        &root,
-    ) {
-        return Err(BuildStop::Form);
-    }
+    let named = name_at(s.bytes, name);
+    let shape = shape(named, layout);
     Ok(Pred {
         name: named,
         at: name,
@@ -55,23 +52,24 @@ pub fn predicate(
     })
 }
 
-fn shape(name: Name, layout: Layout) -> Result<Shape, BuildStop>
-    ensures name { IfOk result (λ s. name_bytes s.name ≡ name_bytes name) }
-    ensures same { IfOk result (λ s. (s.sites ≡ layout.sites) × (s.vars ≡ layout.vars)) }
-    ensures few { IfOk result (λ s. length s.vars < 200) }
+fn shape(name: Name, layout: Layout) -> Shape
+    requires { is_laid_out layout.sites layout.vars ≡ true }
+    ensures name { name_bytes result.name ≡ name_bytes name }
+    ensures same { (result.sites ≡ layout.sites) × (result.vars ≡ layout.vars) }
 {
-    if layout.vars.len() >= 200 || !is_shape(layout.sites, layout.vars.as_slice()) {
-        return Err(BuildStop::Form);
-    }
-    Ok(Shape {
+    Shape {
         name,
         sites: layout.sites,
         vars: layout.vars,
-    })
+    }
 }
 
-fn lets(alloc: Global, s: &Scene) -> Result<Seq<Expr>, BuildStop>
+fn lets(alloc: Global, s: &Scene) -> Result<Seq<Expr>, NoMemory>
     requires small { length s.now.ts.now < 2 ^ 32 }
+    requires ready { Each (ReadyLet s.now.bytes.now s.now.ts.now (items s.now.items.now) s.now.args.now) [] s.now.lets.now }
+    requires args { length s.now.args.now < 256 }
+    requires lets { length s.now.lets.now < 256 }
+    requires few { list_all is_few (items s.now.items.now) ≡ true }
     ensures { IfOk result (λ xs. LetsSay s.now.bytes.now s.now.ts.now (items s.now.items.now) s.now.args.now [] s.now.lets.now (map formula xs)) }
 {
     let lets = s.lets;
@@ -89,12 +87,13 @@ fn lets(alloc: Global, s: &Scene) -> Result<Seq<Expr>, BuildStop>
     Ok(values)
 }
 
-fn let_names(alloc: Global, bytes: &[u8], lets: &[RawLet]) -> Result<Seq<Name>, BuildStop>
-    ensures { IfOk result (λ xs. map name_bytes xs ≡ map (λ l. text bytes.now l.name) lets.now) }
+fn let_names(alloc: Global, s: &Scene, lets: &[RawLet]) -> Result<Seq<Name>, NoMemory>
+    requires { Each (ReadyLet s.now.bytes.now s.now.ts.now (items s.now.items.now) s.now.args.now) [] lets.now }
+    ensures { IfOk result (λ xs. map name_bytes xs ≡ map (λ l. text s.now.bytes.now l.name) lets.now) }
 {
     let mut names = Seq::new(alloc);
     'lets: for l in lets {
-        names.push(name_at(bytes, l.name)?)?;
+        names.push(name_at(s.bytes, l.name))?;
     }
     Ok(names)
 }

@@ -1,15 +1,14 @@
 // Sources to tables.
-ghost use Rattle.std.specs.Prelude.{◌≡◌, ◌≤◌, ◌<◌, ◌^◌, length, IfOk, IfErr};
-ghost use Rattle.ln_lex.specs.Tokens.{Lexed};
+ghost use Rattle.std.specs.Prelude.{◌≡◌, ◌≤◌, ◌<◌, ◌^◌, ℕ, List, All, length, IfOk, IfErr};
+ghost use Rattle.ln_lex.specs.Tokens.{IsSlice, Lexed};
 ghost use Rattle.ln_syntax.specs.Raw.{items};
-ghost use Rattle.ln_tree.specs.Table.{table_of};
+ghost use Rattle.ln_tree.specs.Table.{TableOf, table_of};
+ghost use Rattle.ln_parse.specs.declared.source.ParseStop.{ParseStop as Stop};
 ghost use Rattle.ln_parse.specs.Text.{TextOf};
-ghost use Rattle.ln_parse.specs.Fault.{one_byte, place_of, stop_of, IsFaultless, IsRefusal};
+ghost use Rattle.ln_parse.specs.Fault.{one_byte, place_of, stop_of, TextFault, IsFaultless, IsRefusal, IsWithoutTable};
 
 use crate::build::build;
 use crate::place::span_of;
-use crate::small::is_small;
-use crate::stop::BuildStop;
 use ln_base::{NoMemory, Seq, Span};
 use ln_lex::{LexStop, Token, tokens};
 use ln_names::{Fault, Found, LimitWhat, NameWhat, check_names};
@@ -28,36 +27,29 @@ pub enum ParseStop {
     NoMemory,
 }
 
-/// The table of a source, where it has one in the form that is built today.
+/// The table of a source, or the first fault of its text; without want of memory, the one or the other.
+#[tactic(auto, using(crate::proofs::OneAnswer::memory_alone))]
 pub fn parse(alloc: Global, bytes: &[u8]) -> Result<Table, ParseStop>
     requires { length bytes.now ≤ 1048576 }
     ensures ok { IfOk result (λ t. TextOf bytes.now (table_of t.sites t.params t.preds)) }
     ensures err { IfErr result (λ e. IsRefusal bytes.now e) }
+    ensures no_table { IfErr result (λ e. IsWithoutTable bytes.now e) }
 {
     let list = scanned(alloc, bytes)?;
     let ts = list.as_slice();
     let its = checked(alloc, bytes, ts)?;
     match build(alloc, bytes, ts, &its) {
-        Ok(table) => {
-            if is_small(&table) {
-                Ok(table)
-            } else {
-                Err(UNBUILT)
-            }
-        }
-        Err(BuildStop::Form) => Err(UNBUILT),
-        Err(BuildStop::NoMemory) => Err(ParseStop::NoMemory),
+        Ok(table) => Ok(table),
+        Err(NoMemory) => Err(ParseStop::NoMemory),
     }
 }
-
-// A form that isn't built yet has no place.
-const UNBUILT: ParseStop = ParseStop::Limit(LimitWhat::Form, Span { start: 0, end: 0 });
 
 // The tokens of a source.
 fn scanned(alloc: Global, bytes: &[u8]) -> Result<Seq<Token>, ParseStop>
     requires { length bytes.now ≤ 1048576 }
     ensures lexed { IfOk result (λ ts. Lexed bytes.now ts) }
     ensures few { IfOk result (λ ts. length ts ≤ 65536) }
+    ensures slices { IfOk result (λ ts. All (IsSlice bytes.now) ts) }
     ensures err { IfErr result (λ e. IsRefusal bytes.now e) }
 {
     match tokens(alloc, bytes) {
@@ -124,3 +116,10 @@ fn byte_at(at: u32) -> Span
         end: at + 1,
     }
 }
+
+/// A law: a text has one table or one fault, and not both.
+pub fn one_answer()
+    ensures table { (bytes : List ℕ) (t u : TableOf) → TextOf bytes t → TextOf bytes u → t ≡ u }
+    ensures fault { (bytes : List ℕ) (e f : Stop) → TextFault bytes e → TextFault bytes f → e ≡ f }
+    ensures not_both { (bytes : List ℕ) (t : TableOf) (e : Stop) → TextOf bytes t → TextFault bytes e → ⊥ }
+{}

@@ -1,6 +1,5 @@
-// Sources and their tables or faults.
-use crate::{LimitWhat, NameWhat, ParseStop, parse};
-use ln_base::Span;
+// Sources and their tables.
+use crate::parse;
 use ln_tree::{Arg, Expr, Node, Table};
 use std::alloc::Global;
 use std::process::Abort;
@@ -10,15 +9,58 @@ const ORIENT: &str = "site point { x: -1000 .. 1000; y: -1000 .. 1000; }
 predicate orient(p: point, q: point, r: point) { sign (p.x - r.x)*(q.y - r.y) - (p.y - r.y)*(q.x - r.x); }
 ";
 
-fn parsed(rt: &impl Abort, alloc: Global, source: &str) -> Result<Table, ParseStop> {
+const SQUARES: &str = "site num { t: -10 .. 10; }
+predicate s(a: num, b: num) { sign a.t^2 - b.t^2; }
+";
+
+const SCALED: &str = "param c: 0 .. 5; // a factor
+site num { t: -10 .. 10; }
+predicate z(c: param, a: num) { let d = ((-a.t^02)); sign (c * d); }";
+
+fn parsed(rt: &impl Abort, alloc: Global, source: &str) -> Result<Table, Fail> {
     assert!(rt; source.len() <= 1 << 20);
-    parse(alloc, source.as_bytes())
+    Ok(parse(alloc, source.as_bytes())?)
 }
 
 /// The argument and coordinate of an input.
 fn input(e: &Expr) -> Option<(u8, u8)> {
     match &e.node {
         Node::Input(v) => Some((v.arg, v.coord)),
+        _ => None,
+    }
+}
+
+/// The base and the exponent of a power of an input.
+fn power(e: &Expr) -> Option<((u8, u8), u8)> {
+    match &e.node {
+        Node::Pow(base, n) => Some((input(base)?, *n)),
+        _ => None,
+    }
+}
+
+/// The powers whose difference this is.
+fn powers(e: &Expr) -> Option<(((u8, u8), u8), ((u8, u8), u8))> {
+    match &e.node {
+        Node::Sub(a, b) => Some((power(a)?, power(b)?)),
+        _ => None,
+    }
+}
+
+/// The power behind a minus sign.
+fn negated_power(e: &Expr) -> Option<((u8, u8), u8)> {
+    match &e.node {
+        Node::Neg(of) => power(of),
+        _ => None,
+    }
+}
+
+/// The factors of a product of an input and a let.
+fn times_let(e: &Expr) -> Option<((u8, u8), u8)> {
+    let Node::Mul(a, b) = &e.node else {
+        return None;
+    };
+    match &b.node {
+        Node::Name(j) => Some((input(a)?, *j)),
         _ => None,
     }
 }
@@ -72,31 +114,16 @@ fn a_source_has_its_table(rt: HostRuntime) -> Result<(), Fail> {
 }
 
 #[test]
-fn a_source_without_a_table_has_its_fault(rt: HostRuntime) -> Result<(), Fail> {
-    let form = "site num { t: -10 .. 10; } predicate s(a: num, b: num) { sign a.t^2 - b.t^2; }";
-    let rows = [
-        (
-            form,
-            ParseStop::Limit(LimitWhat::Form, Span { start: 0, end: 0 }),
-        ),
-        ("site # {", ParseStop::Lexical(Span { start: 5, end: 6 })),
-        ("site a b", ParseStop::Syntax(Span { start: 7, end: 8 })),
-        ("site a \n", ParseStop::Syntax(Span { start: 8, end: 8 })),
-        (
-            "site a { x: 2 .. 1; }",
-            ParseStop::Limit(LimitWhat::RangeEnd, Span { start: 17, end: 18 }),
-        ),
-        (
-            "param c: 0 .. 1; param c: 0 .. 1;",
-            ParseStop::Name(NameWhat::Twice, Span { start: 23, end: 24 }),
-        ),
-    ];
-    for (source, stop) in rows {
-        assert_eq!(rt;
-            parsed(&rt, rt.alloc(), source).err(),
-            Some(stop),
-            "{source}"
-        );
-    }
+fn powers_lets_minus_and_params_are_in_the_table(rt: HostRuntime) -> Result<(), Fail> {
+    let table = parsed(&rt, rt.alloc(), SQUARES)?;
+    assert_eq!(rt; table.preds.len(), 1);
+    let root = &table.preds.as_slice()[0].root;
+    assert_eq!(rt; powers(root), Some((((0, 0), 2), ((1, 0), 2))));
+    let table = parsed(&rt, rt.alloc(), SCALED)?;
+    assert_eq!(rt; table.preds.len(), 1);
+    let pred = &table.preds.as_slice()[0];
+    assert_eq!(rt; pred.lets.len(), 1);
+    assert_eq!(rt; negated_power(&pred.lets.as_slice()[0]), Some(((1, 0), 2)));
+    assert_eq!(rt; times_let(&pred.root), Some(((0, 0), 0)));
     Ok(())
 }

@@ -1,5 +1,5 @@
 -- Predicates weighed one after the other; what a refused text stops with.
-use Rattle.std.proofs.Common.{◌≡◌, ◌⊎◌, inl, inr, ℕ, ◌+◌, ◌<◌, List, [], ◌∷◌, ◌++◌, length, take, drop, get_or, refl, ap, sym, subst, ◌∙◌}
+use Rattle.std.proofs.Common.{◌≡◌, inl, inr, ℕ, ◌+◌, ◌<◌, List, [], ◌∷◌, ◌++◌, length, take, drop, get_or, refl, ap, sym, subst, ◌∙◌}
 use Rattle.std.proofs.lemmas.List.{drop_more, take-append-drop, take_more}
 use Rattle.ln_base.specs.declared.span.Span.{Span}
 use Rattle.ln_tree.specs.declared.pred.Pred.{Pred}
@@ -9,7 +9,7 @@ use Rattle.ln_bound.specs.Light.{AreLight}
 use Rattle.ln_bound.specs.Stop.{StopsWeighing}
 use Rattle.ln_parse.specs.declared.source.ParseStop.{ParseStop}
 use Rattle.ln_parse.specs.declared.source.ParseStop.TheVariants as parse
-use Rattle.ln_parse.specs.Fault.{TextFault, IsUnbuilt, IsRefusal}
+use Rattle.ln_parse.specs.Fault.{TextFault, IsRefusal}
 use Rattle.ln_top.specs.Source.{AllLight, IsFirstHeavy, HeavyStop, nodes_of, stop_for, StopsSource, IsRefusedFor, of_text}
 
 -- one more predicate
@@ -30,10 +30,9 @@ heavy_stop preds i p (Bound at) h e s f =
 heavy_stop preds i p NoMemory h e s f = tt
 
 -- a refusal that is no want of memory has its cause in the text
-settled : (bytes : List ℕ) (e : ParseStop) → IsRefusal bytes e → (e ≡ parse.NoMemory → ⊥) → TextFault bytes e ⊎ IsUnbuilt bytes e
-settled bytes e (inl f) n = inl f
-settled bytes e (inr (inl u)) n = inr u
-settled bytes e (inr (inr h)) n = absurd (n h)
+settled : (bytes : List ℕ) (e : ParseStop) → IsRefusal bytes e → (e ≡ parse.NoMemory → ⊥) → TextFault bytes e
+settled bytes e (inl f) n = f
+settled bytes e (inr h) n = absurd (n h)
 
 -- a refused text stops a command
 pub refused_stop : (bytes : List ℕ) (e : ParseStop) → IsRefusal bytes e → StopsSource bytes (stop_for bytes e)

@@ -1,5 +1,5 @@
 -- What a source is: accepted, or refused for a reason at a place.
-use Rattle.std.specs.Prelude.{◌≡◌, ◌⊎◌, ℕ, List, [], ◌∷◌, ◌++◌, map, find, bytes_eq, Option, Some, None}
+use Rattle.std.specs.Prelude.{◌≡◌, ℕ, List, [], ◌∷◌, ◌++◌, map, find, bytes_eq, Option, Some, None}
 use Rattle.ln_base.specs.declared.span.Span.{Span}
 use Rattle.ln_base.specs.Place.{line_of, column_of}
 use Rattle.ln_tree.specs.declared.table.Table.{Table}
@@ -10,7 +10,7 @@ use Rattle.ln_tree.specs.Table.{table_of}
 use Rattle.ln_parse.specs.declared.source.ParseStop.{ParseStop}
 use Rattle.ln_parse.specs.declared.source.ParseStop.TheVariants as parse
 use Rattle.ln_parse.specs.Text.{TextOf}
-use Rattle.ln_parse.specs.Fault.{TextFault, IsUnbuilt}
+use Rattle.ln_parse.specs.Fault.{TextFault}
 use Rattle.ln_bound.specs.declared.weigh.BoundStop.{BoundStop}
 use Rattle.ln_bound.specs.declared.weigh.BoundStop.TheVariants as bound
 use Rattle.ln_bound.specs.Light.{AreLight, IsBoundFault, weighed_pred}
@@ -55,9 +55,9 @@ stop_for bytes (parse.Syntax at) = Refused (refusal_at bytes Syntax at)
 stop_for bytes (parse.Name what at) = Refused (refusal_at bytes Name at)
 stop_for bytes parse.NoMemory = Memory
 
--- the source is refused: by the first fault of its text, or for a form that isn't built yet; else for a node that is too heavy
+-- the source is refused: for the first fault of its text; where it has a table, for a node that is too heavy
 pub data IsRefusedFor (bytes : List ℕ) : Refusal → Type 0 where
-  of_text : {e : ParseStop} {r : Refusal} → TextFault bytes e ⊎ IsUnbuilt bytes e → stop_for bytes e ≡ Refused r → IsRefusedFor bytes r
+  of_text : {e : ParseStop} {r : Refusal} → TextFault bytes e → stop_for bytes e ≡ Refused r → IsRefusedFor bytes r
   of_bound : (t : Table) {at : Span} → TextOf bytes (table_of t.sites t.params t.preds) → IsFirstHeavy t.preds at → IsRefusedFor bytes (refusal_at bytes Bound at)
 
 -- a source stops a command where it is refused, or memory ran out

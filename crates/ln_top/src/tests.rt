@@ -32,6 +32,35 @@ const WRITTEN: &str = "p,p.x,p.y,q,q.x,q.y,r,r.x,r.y\r
 1,-0,007,2,1,0,3,0,1\r
 ";
 
+const SQUARES: &str = "site num { t: -10 .. 10; }
+predicate s(a: num, b: num) { sign a.t^2 - b.t^2; }
+";
+
+const SCALED: &str = "param c: 0 .. 5;
+site num { t: -10 .. 10; }
+predicate other(a: num) { sign -a.t; }
+predicate z(a: num, c: param) { sign c * a.t; }
+";
+
+const NOTHING_ADDED: &str = "site num { t: -10 .. 10; }
+predicate nf(a: num) { let z = 0*170141183460469231731687303715884105727; let y = z*z*z; sign a.t + y; }
+";
+
+const CIRCLE: &str = "site point { x: -1048576 .. 1048576; y: -1048576 .. 1048576; }
+predicate incircle(a: point, b: point, c: point, d: point) {
+  let ax = a.x - d.x; let ay = a.y - d.y;
+  let bx = b.x - d.x; let by = b.y - d.y;
+  let cx = c.x - d.x; let cy = c.y - d.y;
+  let aw = ax^2 + ay^2; let bw = bx^2 + by^2; let cw = cx^2 + cy^2;
+  sign ax*(by*cw - bw*cy) - ay*(bx*cw - bw*cx) + aw*(bx*cy - by*cx);
+}
+";
+
+// With d = a.t - b.t the sign is that of -d^3 - 2*(3 - d).
+const CUBIC: &str = "site num { t: -10 .. 10; }
+predicate m(a: num, b: num) { let d = a.t - b.t; let e = -d^2 * d; sign e - 2*(3 - d); }
+";
+
 const RUN: &[&str] = &["run", "s.ln", "orient", "r.csv"];
 
 /// The files `s.ln` and `r.csv` with these bytes; the calls in `fails` fail.
@@ -91,14 +120,69 @@ fn each_record_has_its_line(rt: HostRuntime) -> Result<(), Fail> {
 }
 
 #[test]
+fn powers_lets_minus_and_params_are_evaluated(rt: HostRuntime) -> Result<(), Fail> {
+    let alloc = rt.alloc();
+    let squares = "a,a.t,b,b.t\n1,3,2,3\n1,-3,2,3\n1,0,2,0\n2,0,1,0\n1,4,2,3\n1,-2,2,3\n";
+    let same = "! degenerate\n! degenerate\n! degenerate\n! degenerate\n+ 0\n- 0\n";
+    let scaled = "a,a.t,c\n1,7,0\n1,0,2\n1,3,2\n1,-3,2\n1,3,6\n";
+    let times = "! degenerate\n! degenerate\n+ 0\n- 0\n! range c\n";
+    let circle = "a,a.x,a.y,b,b.x,b.y,c,c.x,c.y,d,d.x,d.y
+1,0,0,2,1,0,3,1,1,4,0,1
+1,0,0,2,4,0,3,0,4,4,1,1
+1,0,0,2,4,0,3,0,4,4,5,5
+";
+    let rows = [
+        (SQUARES, "s", squares, same, Status::Rows),
+        (SCALED, "z", scaled, times, Status::Rows),
+        (
+            SCALED,
+            "other",
+            "a,a.t\n1,3\n1,-3\n",
+            "- 0\n+ 0\n",
+            Status::Done,
+        ),
+        (
+            NOTHING_ADDED,
+            "nf",
+            "a,a.t\n1,3\n1,-3\n1,0\n",
+            "+ 0\n- 0\n! degenerate\n",
+            Status::Rows,
+        ),
+        (
+            CIRCLE,
+            "incircle",
+            circle,
+            "! degenerate\n+ 0\n- 0\n",
+            Status::Rows,
+        ),
+        (
+            CUBIC,
+            "m",
+            "a,a.t,b,b.t\n1,3,2,1\n1,0,2,5\n",
+            "- 0\n+ 0\n",
+            Status::Done,
+        ),
+    ];
+    for (source, name, lines, out, status) in rows {
+        let mut files = shelf(alloc, source, lines, &[])?;
+        let (was, con) = said(alloc, &["run", "s.ln", name, "r.csv"], &mut files, &[])?;
+        assert_eq!(rt; con.bytes(Port::Out), out.as_bytes(), "{source}");
+        assert_eq!(rt; con.bytes(Port::Err), b"".as_slice(), "{source}");
+        assert_eq!(rt; was, status, "{source}");
+    }
+    Ok(())
+}
+
+#[test]
 fn refused_sources_are_told_with_their_place(rt: HostRuntime) -> Result<(), Fail> {
     let alloc = rt.alloc();
     let unknown = "site a { x: 0 .. 1; }\npredicate f(p: b) { sign p.x; }";
     let heavy = "site num { t: -9223372036854775807 .. 9223372036854775807; }
 predicate big(a: num, b: num, c: num, d: num) { sign a.t*b.t + c.t*d.t; }
 ";
-    // Powers are not built yet.
-    let power = "site num { t: -10 .. 10; }\npredicate s(a: num, b: num) { sign a.t^2 - b.t^2; }\n";
+    let heavy_let = "param c: 0 .. 9223372036854775807;
+predicate one(c: param) { sign c; } predicate f(c: param) { let d = c^3; sign c; }
+";
     let rows = [
         ("site a { x: 0 .. 1; } #", "error lexical 1:23\n"),
         ("site a { }", "error syntax 1:10\n"),
@@ -106,7 +190,7 @@ predicate big(a: num, b: num, c: num, d: num) { sign a.t*b.t + c.t*d.t; }
         (unknown, "error name 2:16\n"),
         ("param c: 5 .. 4;", "error limit 1:15\n"),
         (heavy, "error bound 2:62\n"),
-        (power, "error limit 1:1\n"),
+        (heavy_let, "error bound 2:70\n"),
     ];
     for (source, err) in rows {
         let mut files = shelf(alloc, source, HEAD, &[])?;

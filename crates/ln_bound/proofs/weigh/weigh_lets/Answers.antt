@@ -1,7 +1,7 @@
-use Rattle.std.proofs.Common.{◌≡◌, ◌+◌, ◌∷◌, List, map, drop, ap, ◌∙◌, refl, sym}
+use Rattle.std.proofs.Common.{◌≡◌, ◌+◌, ◌∷◌, map, drop, ap, ◌∙◌, refl, sym}
 use Rattle.std.proofs.lemmas.List.{drop_more}
 use Rattle.std.proofs.lemmas.Result.{err_from_is_err_and}
-use Rattle.ln_tree.specs.Formula.{Formula, formula}
+use Rattle.ln_tree.specs.Formula.{formula}
 use Rattle.ln_bound.proofs.Weighing.{lets_more, lets_stop}
 use Rattle.ln_bound.proofs.weigh.weigh_lets.Goals as goal
 

@@ -1,27 +1,64 @@
-use Rattle.std.proofs.Common.{List, map, ◌∙◌, ap, arith}
-use Rattle.std.proofs.lemmas.List.{map_push}
+use Rattle.std.proofs.Common.{List, take, drop, map, ◌∙◌, ap, sym, subst, refl, arith, take-append-drop}
+use Rattle.std.specs.List.{list_all}
+use Rattle.std.proofs.lemmas.Bool.{and_from}
+use Rattle.std.proofs.lemmas.List.{map_push, map-append}
+use Rattle.std.proofs.lemmas.List.Folds.{list_all-append}
+use Rattle.ln_syntax.specs.declared.raw.RawArg.{RawArg}
+use Rattle.ln_syntax.specs.declared.raw.RawLet.{RawLet}
+use Rattle.ln_syntax.specs.Raw.{Item, item, items}
 use Rattle.ln_tree.specs.declared.pred.Pred.{Pred}
-use Rattle.ln_syntax.specs.Raw.{item}
-use Rattle.ln_tree.specs.Table.{pred_of}
+use Rattle.ln_tree.specs.Table.{site_of, param_of, pred_of, pred_fits}
+use Rattle.ln_parse.specs.Ready.{ReadyItem, ReadyPred}
 use Rattle.ln_parse.proofs.Said.{preds_end, preds_site, preds_param, preds_pred}
+use Rattle.ln_parse.proofs.Kept.{declared}
+use Rattle.ln_parse.proofs.Loops.{item_index}
 use Rattle.ln_parse.proofs.build.preds.Goals as goal
 use Rattle.ln_parse.proofs.build.preds.Goals.{in-Site, in-Param, in-Pred+in_ok-predicate-in-Pred+in_ok-push-in-Pred}
 
-pub returns : goal.returns
-returns c t s p = preds_end c.args.bytes.now c.args.ts.now t c.args.its.now c.items.i (map pred_of c.items.preds) (omega arith) (c.items.invariant t s p)
+pub predicate-requires-clause-ready : goal.predicate-requires-clause-ready
+predicate-requires-clause-ready c =
+    let its = c.args.its.now in
+    let bytes = c.args.bytes.now in
+    let ts = c.args.ts.now in
+    let is = items (take c.items.i its) in
+    let e = item_index (ReadyItem bytes ts) its c.items.i c.index-its-i.result c.requires.ready (omega arith) c.index-its-i.is in
+    let f = subst (λ (w : Item). ReadyItem bytes ts is w) (ap item c.in-Pred.is) e in
+    subst (λ (w : List RawArg). ReadyPred bytes ts is c.in-Pred.name w c.deref-in-Pred.result.now c.in-Pred.root) (sym c.deref.ensures.value)
+    (subst (λ (w : List RawLet). ReadyPred bytes ts is c.in-Pred.name c.in-Pred.args.items w c.in-Pred.root) (sym c.deref-in-Pred.ensures.value) f)
+
+pub predicate-requires-clause-declared : goal.predicate-requires-clause-declared
+predicate-requires-clause-declared c =
+    let its = c.args.its.now in
+    let i = c.items.i in
+    let q = sym (map-append item (take i its) (drop i its)) ∙ ap items (take-append-drop i its) in
+    declared c.args.bytes.now c.args.ts.now (items (take i its)) (items (drop i its)) (items its) (map site_of c.args.sites.now) (map param_of c.args.params.now) q c.requires.sites c.requires.params c.requires.ready
+
+pub returns-clause-says : goal.returns-clause-says
+returns-clause-says c t s p = preds_end c.args.bytes.now c.args.ts.now t c.args.its.now c.items.i (map pred_of c.items.preds) (omega arith) (c.items.invariant.says t s p)
 
 pub items-preserved : goal.items-preserved
 items-preserved c =
-    λ t s p.
     let its = c.args.its.now in
     let bytes = c.args.bytes.now in
     let ts = c.args.ts.now in
     let i = c.items.i in
     let done = map pred_of c.items.preds in
+    let fit = pred_fits c.args.sites.now c.args.params.now in
     elim c.match-it.branch [
-      | in-Site w ↦ rw w.preds-is (preds_site bytes ts t its i c.index-its-i.result w.in-Site.field-0 w.in-Site.field-1.items done (omega arith) c.index-its-i.is (ap item w.in-Site.is) (c.items.invariant t s p))
-      | in-Param w ↦ rw w.preds-is (preds_param bytes ts t its i c.index-its-i.result w.in-Param.field-0 w.in-Param.field-1 done (omega arith) c.index-its-i.is (ap item w.in-Param.is) (c.items.invariant t s p))
+      | in-Site w ↦ record {
+        says = λ t s p. rw w.preds-is (preds_site bytes ts t its i c.index-its-i.result w.in-Site.field-0 w.in-Site.field-1.items done (omega arith) c.index-its-i.is (ap item w.in-Site.is) (c.items.invariant.says t s p));
+        fits = rw w.preds-is c.items.invariant.fits;
+      }
+      | in-Param w ↦ record {
+        says = λ t s p. rw w.preds-is (preds_param bytes ts t its i c.index-its-i.result w.in-Param.field-0 w.in-Param.field-1 done (omega arith) c.index-its-i.is (ap item w.in-Param.is) (c.items.invariant.says t s p));
+        fits = rw w.preds-is c.items.invariant.fits;
+      }
       | in-Pred+in_ok-predicate-in-Pred+in_ok-push-in-Pred w ↦
-          preds_pred bytes ts t its i c.index-its-i.result w.in-Pred.name w.deref.result.now w.deref-in-Pred.result.now w.in-Pred.root done (map pred_of c.match-it.preds) (pred_of w.in_ok-predicate-in-Pred.field-0)
-          (omega arith) c.index-its-i.is (rw (w.deref.ensures.value, w.deref-in-Pred.ensures.value) (ap item w.in-Pred.is)) (w.in_ok-predicate-in-Pred.ensures t s p) (ap (λ (w : List Pred). map pred_of w) (w.preds-is ∙ w.in_ok-push-in-Pred.ensures.ok) ∙ map_push pred_of c.items.preds w.in_ok-predicate-in-Pred.field-0) (c.items.invariant t s p)
+          let x = w.in_ok-predicate-in-Pred.field-0 in
+          record {
+            says = λ t s p. preds_pred bytes ts t its i c.index-its-i.result w.in-Pred.name w.deref.result.now w.deref-in-Pred.result.now w.in-Pred.root done (map pred_of c.match-it.preds) (pred_of x)
+                (omega arith) c.index-its-i.is (rw (w.deref.ensures.value, w.deref-in-Pred.ensures.value) (ap item w.in-Pred.is)) (w.in_ok-predicate-in-Pred.ensures.says t s p)
+                (ap (λ (w : List Pred). map pred_of w) (w.preds-is ∙ w.in_ok-push-in-Pred.ensures.ok) ∙ map_push pred_of c.items.preds x) (c.items.invariant.says t s p);
+            fits = ap (list_all fit) (w.preds-is ∙ w.in_ok-push-in-Pred.ensures.ok) ∙ list_all-append fit c.items.preds _ ∙ and_from _ _ c.items.invariant.fits (and_from _ _ w.in_ok-predicate-in-Pred.ensures.fits refl);
+          }
     ]

@@ -1,10 +1,19 @@
-use Rattle.std.proofs.Common.{List, ◌∙◌, ap, sym, arith}
+use Rattle.std.proofs.Common.{List, take, ◌∙◌, ap, sym, subst, arith}
 use Rattle.ln_syntax.specs.declared.raw.RawCoord.{RawCoord}
-use Rattle.ln_syntax.specs.Raw.{SiteItem, item, items, is_site}
+use Rattle.ln_syntax.specs.Raw.{Item, SiteItem, item, items, is_site}
 use Rattle.ln_parse.specs.Says.{sites_said}
+use Rattle.ln_parse.specs.Ready.{ReadyItem, ReadySite}
+use Rattle.ln_parse.proofs.Loops.{item_index}
 use Rattle.ln_parse.proofs.Said.{sites_more, sites_skip}
 use Rattle.ln_parse.proofs.build.sites.Goals as goal
 use Rattle.ln_parse.proofs.build.sites.Goals.{in-Site+in_ok-site-in-Site+in_ok-push-in-Site, in-Param, in-Pred}
+
+pub site-requires : goal.site-requires
+site-requires c =
+    let its = c.args.its.now in
+    let e = item_index (ReadyItem c.args.bytes.now c.requires.tokens) its c.items.it-index c.it-item.result c.requires.each (omega arith) c.it-item.is in
+    let f = subst (λ (w : Item). ReadyItem c.args.bytes.now c.requires.tokens (items (take c.items.it-index its)) w) (ap item c.in-Site.is) e in
+    subst (λ (w : List RawCoord). ReadySite c.args.bytes.now c.in-Site.name w) (sym c.deref.ensures.value) f
 
 pub items-preserved : goal.items-preserved
 items-preserved c =

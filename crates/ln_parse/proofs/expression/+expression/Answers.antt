@@ -1,31 +1,37 @@
-use Rattle.std.proofs.Common.{arith}
+use Rattle.std.proofs.Common.{◌≤◌, subst, sym, arith}
+use Rattle.ln_base.specs.declared.span.Span.{Span}
+use Rattle.ln_names.specs.Numbers.{number}
 use Rattle.std.proofs.lemmas.Result.{IfOk-weaker}
 use Rattle.ln_lex.specs.declared.token.Kind.TheVariants.{ParL, Plus, Minus, Star}
-use Rattle.ln_parse.proofs.Steps.{is_within, parens_read, power_plain, power_read, unary_plain, unary_minus, sums_begin, sums_plus, sums_less, sums_end, products_begin, products_times, products_end}
+use Rattle.ln_parse.proofs.Steps.{is_within, par_here, par_tree, parens_read, atom_tree, power_plain, exponent_fit, power_read, power_tree, unary_tree, unary_plain, unary_minus, unary_first, factor_tree, term_first, plus_tree, less_tree, sums_begin, sums_plus, sums_less, sums_end, products_begin, products_times, products_end}
 use Rattle.ln_parse.proofs.expression.+expression.Goals as goal
 
 pub atom-sum-requires : goal.atom-sum-requires
 atom-sum-requires t c =
-    let w = is_within c.args.s.now.ts.now c.args.at ParL (c.is-3.ensures.0 c.if-not-is.false) in
-    (omega arith, (omega arith, c.requires.small))
+    let p = par_here c.requires.there (λ h. let y = c.is.ensures.1 h in let n = c.if-is.false in cc) (λ h. let y = c.is-2.ensures.1 h in let n = c.if-is-2.false in cc) in
+    let w = is_within c.args.s.now.ts.now c.args.at ParL p in
+    (omega arith, (omega arith, (c.requires.small, (c.requires.narrow, par_tree c.requires.there p))))
 
 pub atom-returns : goal.atom-returns
-atom-returns t c = parens_read (c.is-3.ensures.0 c.if-not-is.false) c.in_ok-inner.ensures (c.is-4.ensures.0 c.if-not-is-2.false)
+atom-returns t c =
+    let p = par_here c.requires.there (λ h. let y = c.is.ensures.1 h in let n = c.if-is.false in cc) (λ h. let y = c.is-2.ensures.1 h in let n = c.if-is-2.false in cc) in
+    parens_read c.requires.there p c.in_ok-inner.ensures
 
 pub power-returns-then-not-is : goal.power-returns-then-not-is
-power-returns-then-not-is t c = power_plain c.in_ok-base.ensures
+power-returns-then-not-is t c = power_plain c.in_ok-base.ensures (λ h. let y = c.is.ensures.1 h in let n = c.if-not-is.true in cc)
 
 pub power-returns : goal.power-returns
 power-returns t c =
-    power_read c.in_ok-base.ensures (c.is.ensures.0 c.if-not-is.false) (c.is-2.ensures.0 c.if-not-is-2.false) c.span_of-2.ensures c.span_of.ensures c.in_ok-by.ensures c.in_ok-raised.ensures
+    power_read c.requires.there c.in_ok-base.ensures (c.is.ensures.0 c.if-not-is.false) c.span_of-2.ensures c.span_of.ensures c.exponent-by.ensures c.in_ok-raised.ensures
 
 pub sum-terms-init : goal.sum-terms-init
 sum-terms-init t c = sums_begin c.in_ok-first.ensures
 
 pub sum-term-requires-then-is : goal.sum-term-requires-then-is
 sum-term-requires-then-is t c =
-    let w = is_within c.args.s.now.ts.now c.terms.place Plus (c.is.ensures.0 c.if-is.true) in
-    (omega (arith, c.terms.invariant.later), (omega arith, c.requires.small))
+    let h = c.is.ensures.0 c.if-is.true in
+    let w = is_within c.args.s.now.ts.now c.terms.place Plus h in
+    (omega (arith, c.terms.invariant.later), (omega arith, (c.requires.small, (c.requires.narrow, plus_tree c.requires.there c.terms.invariant h))))
 
 pub sum-terms-preserved-then-is : goal.sum-terms-preserved-then-is
 sum-terms-preserved-then-is t c =
@@ -33,38 +39,60 @@ sum-terms-preserved-then-is t c =
 
 pub sum-term-requires-then-is-2 : goal.sum-term-requires-then-is-2
 sum-term-requires-then-is-2 t c =
-    let w = is_within c.args.s.now.ts.now c.terms.place Minus (c.is-else-is.ensures.0 c.if-is-2.true) in
-    (omega (arith, c.terms.invariant.later), (omega arith, c.requires.small))
+    let h = c.is-else-is.ensures.0 c.if-is-2.true in
+    let w = is_within c.args.s.now.ts.now c.terms.place Minus h in
+    (omega (arith, c.terms.invariant.later), (omega arith, (c.requires.small, (c.requires.narrow, less_tree c.requires.there c.terms.invariant h))))
 
 pub sum-terms-preserved : goal.sum-terms-preserved
 sum-terms-preserved t c =
     sums_less c.terms.invariant (c.is-else-is.ensures.0 c.if-is-2.true) c.in_ok-right-2.ensures c.span_of-then-is-2.ensures c.in_ok-left-2.ensures
 
 pub sum-returns-else-is-2 : goal.sum-returns-else-is-2
-sum-returns-else-is-2 t c = sums_end c.terms.invariant
+sum-returns-else-is-2 t c =
+    sums_end c.terms.invariant (λ h. let y = c.is.ensures.1 h in let n = c.if-is.false in cc) (λ h. let y = c.is-else-is.ensures.1 h in let n = c.if-is-2.false in cc)
 
 pub term-factors-init : goal.term-factors-init
 term-factors-init t c = products_begin c.in_ok-first.ensures
 
 pub term-unary-requires-in-factors : goal.term-unary-requires-in-factors
 term-unary-requires-in-factors t c =
-    let w = is_within c.args.s.now.ts.now c.factors.place Star (c.is.ensures.0 c.factors-test.true) in
-    (omega (arith, c.factors.invariant.later), (omega arith, c.requires.small))
+    let h = c.is.ensures.0 c.factors-test.true in
+    let w = is_within c.args.s.now.ts.now c.factors.place Star h in
+    (omega (arith, c.factors.invariant.later), (omega arith, (c.requires.small, (c.requires.narrow, factor_tree c.requires.there c.factors.invariant h))))
 
 pub term-factors-preserved : goal.term-factors-preserved
 term-factors-preserved t c =
     products_times c.factors.invariant (c.is.ensures.0 c.factors-test.true) c.in_ok-right.ensures c.span_of.ensures c.in_ok-left.ensures
 
 pub term-returns : goal.term-returns
-term-returns t c = products_end c.factors.invariant
+term-returns t c = products_end c.factors.invariant (λ h. let y = c.is.ensures.1 h in let n = c.factors-test.false in cc)
 
 pub unary-returns-then-not-is : goal.unary-returns-then-not-is
-unary-returns-then-not-is t c = IfOk-weaker c.power.result _ _ (λ x h. unary_plain h) c.power.ensures
+unary-returns-then-not-is t c =
+    IfOk-weaker c.power.result _ _ (λ x h. unary_plain h (λ m. let y = c.is.ensures.1 m in let n = c.if-not-is.true in cc)) c.power.ensures
 
 pub unary-unary-requires : goal.unary-unary-requires
 unary-unary-requires t c =
-    let w = is_within c.args.s.now.ts.now c.args.at Minus (c.is.ensures.0 c.if-not-is.false) in
-    (omega arith, (omega arith, c.requires.small))
+    let h = c.is.ensures.0 c.if-not-is.false in
+    let w = is_within c.args.s.now.ts.now c.args.at Minus h in
+    (omega arith, (omega arith, (c.requires.small, (c.requires.narrow, unary_tree c.requires.there h))))
 
 pub unary-returns : goal.unary-returns
 unary-returns t c = unary_minus (c.is.ensures.0 c.if-not-is.false) c.in_ok-of.ensures c.span_of.ensures c.in_ok-negated.ensures
+
+pub power-atom-requires : goal.power-atom-requires
+power-atom-requires t c = (omega arith, (c.requires.within, (c.requires.small, (c.requires.narrow, atom_tree c.requires.there))))
+
+pub power-exponent-by-requires : goal.power-exponent-by-requires
+power-exponent-by-requires t c =
+    subst (λ (w : Span). number c.args.s.now.bytes.now w ≤ 16) (sym c.span_of.ensures) (exponent_fit c.requires.there c.in_ok-base.ensures (c.is.ensures.0 c.if-not-is.false))
+
+pub sum-term-requires : goal.sum-term-requires
+sum-term-requires t c = (omega arith, (c.requires.within, (c.requires.small, (c.requires.narrow, term_first c.requires.there))))
+
+pub term-unary-requires : goal.term-unary-requires
+term-unary-requires t c = (omega arith, (c.requires.within, (c.requires.small, (c.requires.narrow, unary_first c.requires.there))))
+
+pub unary-power-requires : goal.unary-power-requires
+unary-power-requires t c =
+    (omega arith, (c.requires.within, (c.requires.small, (c.requires.narrow, power_tree c.requires.there (λ m. let y = c.is.ensures.1 m in let n = c.if-not-is.true in cc)))))

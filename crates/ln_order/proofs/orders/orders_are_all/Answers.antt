@@ -1,0 +1,5 @@
+use Rattle.ln_order.proofs.OrdersLemmas.{orders-are-all}
+use Rattle.ln_order.proofs.orders.orders_are_all.Goals as goal
+
+pub returns : goal.returns
+returns c = orders-are-all

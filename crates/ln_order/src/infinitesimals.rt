@@ -1,0 +1,172 @@
+// The order of exponents, and the variables of sites by rising infinitesimal.
+ghost use Rattle.std.specs.Ordering.{nat_cmp};
+ghost use Rattle.std.specs.Prelude.{neg_ℤ, pos, Some, ◌≡◌, ◌↔◌, ◌<◌, ◌≤◌, ◌+◌, ◌++◌, length, IsTrue, IfOk, OnOk};
+ghost use Rattle.ln_algebra.specs.Earlier.{Earlier};
+ghost use Rattle.ln_algebra.specs.Walk.{IsRanking};
+ghost use Rattle.ln_tree.specs.Exps.{IsRising, exponent, vector};
+ghost use Rattle.ln_order.specs.Places.{order_places};
+ghost use Rattle.ln_order.specs.Sites.{OrdersAreThoseOfRows, along, ranking_of, sites_of, vars_of};
+
+use crate::order::Order;
+use ln_base::{NoMemory, Seq};
+use ln_tree::layout::same_site;
+use ln_tree::{Exps, Shape, VarInfo};
+use std::alloc::Global;
+use std::cmp::Ordering;
+
+/// The exponent of variable v, 0 where no pair has it.
+pub fn exponent_of(pairs: &[(u8, u8)], v: u8) -> u8
+    requires { IsRising pairs.now }
+    ensures value { result ≡ exponent v pairs.now }
+    ensures small { result < 128 }
+{
+    'pairs: for p in pairs {
+        if p.0 == v {
+            return p.1;
+        }
+    }
+    0
+}
+
+// The order of the exponents of one variable.
+fn at_var(a: &[(u8, u8)], b: &[(u8, u8)], v: u8) -> Ordering
+    requires left { IsRising a.now }
+    requires right { IsRising b.now }
+    ensures { result ≡ nat_cmp (exponent v a.now) (exponent v b.now) }
+{
+    exponent_of(a, v).cmp(&exponent_of(b, v))
+}
+
+// The order of two exponents at the first variable of a site where they differ.
+fn at_site(vars: &[VarInfo], site: u8, a: &[(u8, u8)], b: &[(u8, u8)]) -> Ordering
+    requires few { length vars.now ≤ 168 }
+    requires left { IsRising a.now }
+    requires right { IsRising b.now }
+    ensures { result ≡ along (vars_of site vars.now 0) a.now b.now }
+{
+    'vars: for (v, i) in vars.iter().enumerate() {
+        if same_site(i.site, Some(site)) {
+            match at_var(a, b, v as u8) {
+                Ordering::Equal => {}
+                order => return order,
+            }
+        }
+    }
+    Ordering::Equal
+}
+
+/// Is a earlier than b in this order of the sites? It is where a has the smaller exponent at the smallest infinitesimal
+/// in which the two differ. It takes no memory.
+pub fn earlier(o: &Order, s: &Shape, a: &Exps, b: &Exps) -> bool
+    requires { length (order_places o.now) ≡ s.now.sites }
+    ensures { IsTrue result
+        ↔ Earlier (sites_of s.now.vars (order_places o.now)) (vector (length s.now.vars) a.now) (vector (length s.now.vars) b.now) }
+{
+    let vars = s.vars.as_slice();
+    let places = o.places();
+    let n = places.len();
+    'sites: for k in 0..n {
+        match at_site(vars, places[n - 1 - k], a.pairs(), b.pairs()) {
+            Ordering::Equal => {}
+            order => return order == Ordering::Less,
+        }
+    }
+    false
+}
+
+// Puts the variables of a site at the end.
+fn put_vars(out: &mut Vec<u8>, vars: &[VarInfo], site: u8) -> Result<(), NoMemory>
+    requires { length vars.now ≤ 168 }
+    ensures { OnOk result (out.new.items ≡ out.old.items ++ vars_of site vars.now 0) }
+{
+    'vars: for (v, i) in vars.iter().enumerate() {
+        if same_site(i.site, Some(site)) {
+            out.push(v as u8)?;
+        }
+    }
+    Ok(())
+}
+
+/// All variables of sites, by rising infinitesimal in this order of the sites.
+pub fn ranking(alloc: Global, o: &Order, s: &Shape) -> Result<Seq<u8>, NoMemory>
+    requires { length (order_places o.now) ≡ s.now.sites }
+    ensures ranked { IfOk result (λ vs. IsRanking (length s.now.vars) (sites_of s.now.vars (order_places o.now)) vs) }
+    ensures value { IfOk result (λ vs. vs ≡ ranking_of s.now.vars (order_places o.now)) }
+{
+    let vars = s.vars.as_slice();
+    let places = o.places();
+    let n = places.len();
+    let mut out = Vec::new(alloc);
+    'sites: for k in 0..n {
+        put_vars(&mut out, vars, places[n - 1 - k])?;
+    }
+    Ok(Seq::from_vec(out))
+}
+
+/// The order of a row's sites gives the same order of exponents as the row's own indices.
+///
+/// On it rests that a row is decided by the stage list of its order.
+pub fn orders_are_those_of_rows()
+    ensures { OrdersAreThoseOfRows }
+{}
+
+#[cfg(test)]
+mod tests {
+    use super::*;
+    use crate::rank::order_of;
+    use ln_tree::Name;
+    use std::test::Fail;
+
+    // Coordinate number k of the one site.
+    fn coord(k: u8) -> VarInfo
+        ensures { result ≡ record { arg = 0; site = Some 0; coord = k; lo = neg_ℤ (pos 9); hi = pos 9 } }
+    {
+        VarInfo {
+            arg: 0,
+            site: Some(0),
+            coord: k,
+            lo: -9,
+            hi: 9,
+        }
+    }
+
+    // A shape with one site of two coordinates.
+    fn plane(alloc: Global) -> Result<Shape, NoMemory>
+        ensures { IfOk result (λ s. s.sites ≡ 1) }
+    {
+        let mut vars = Seq::new(alloc);
+        vars.push(coord(0))?;
+        vars.push(coord(1))?;
+        Ok(Shape {
+            name: Name::of(b"plane"),
+            sites: 1,
+            vars,
+        })
+    }
+
+    // The exponents of variable v alone.
+    fn alone(alloc: Global, v: u8) -> Result<Exps, NoMemory> {
+        let mut e = Exps::new(alloc);
+        e.push(v, 1)?;
+        Ok(e)
+    }
+
+    #[test]
+    fn the_last_coordinate_is_the_largest(rt: HostRuntime) -> Result<(), Fail> {
+        let s = plane(rt.alloc())?;
+        let x = alone(rt.alloc(), 0)?;
+        let y = alone(rt.alloc(), 1)?;
+        match order_of(&[7]) {
+            Ok(o) => {
+                assert!(rt; earlier(&o, &s, &y, &x));
+                assert!(rt; !earlier(&o, &s, &x, &y));
+                assert_eq!(rt;
+                    ranking(rt.alloc(), &o, &s)?.as_slice(),
+                    [0u8, 1].as_slice()
+                );
+            }
+            Err(_) => assert!(rt; false),
+        }
+        Ok(())
+    }
+}

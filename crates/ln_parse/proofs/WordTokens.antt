@@ -1,0 +1,67 @@
+-- Names and numbers as tokens.
+use Rattle.std.proofs.Common.{◌≡◌, ℕ, suc, ◌+◌, ◌-◌, ◌*◌, ◌<◌, ◌≤◌, ◌^◌, ◌&&◌, ◌||◌, not, Bool, true, false, List, [], ◌∷◌, length, Some, refl, ap, ◌∙◌, arith, pow-suc, codes}
+use Rattle.std.specs.Prelude.{bytes_eq, if◌then◌else◌}
+use Rattle.std.specs.Fmt.{decimal}
+use Rattle.std.specs.Str.Parse.{AllDigits}
+use Rattle.std.proofs.lemmas.Fmt.{decimal_is_IsNumeral_wide}
+use Rattle.std.proofs.lemmas.Str.Parse.{tells_digits}
+use Rattle.std.proofs.lemmas.Bool.Decides.{nat_tests}
+use Rattle.ln_base.specs.Words.{is_digit, is_letter, is_name_byte, every, is_name, is_word, is_keyword}
+use Rattle.ln_base.specs.Decimal.{decimal_value}
+use Rattle.ln_base.proofs.DecimalLemmas.{value_of_text}
+use Rattle.ln_lex.specs.declared.token.Kind.{Kind}
+use Rattle.ln_lex.specs.declared.token.Kind.TheVariants.{Name, Number, Site, Param, Predicate, Let, Sign}
+use Rattle.ln_lex.specs.Tokens.{kind_of, word_kind}
+use Rattle.ln_names.specs.Numbers as names
+
+digit : (c : ℕ) → 48 ≤ c → c ≤ 57 → is_digit c ≡ true
+digit c a b = grind (arith, nat_tests)
+
+no_letter : (c : ℕ) → 48 ≤ c → c ≤ 57 → is_letter c ≡ false
+no_letter c a b = grind (arith, nat_tests)
+
+all_digits : (ds : List ℕ) → AllDigits 10 ds → every is_digit ds ≡ true
+all_digits [] h = refl
+all_digits (c ∷ cs) h = let p = tells_digits.parts c cs h in rw (digit c p.0.0 p.0.1, all_digits cs p.1) refl
+
+numeral_kind : (ds : List ℕ) → 0 < length ds → AllDigits 10 ds → kind_of ds ≡ Some Number
+numeral_kind [] l h = absurd (omega arith)
+numeral_kind (c ∷ cs) l h = let p = tells_digits.parts c cs h in rw (no_letter c p.0.0 p.0.1, digit c p.0.0 p.0.1, all_digits cs p.1) refl
+
+-- the digits of a number are a NUMBER
+pub number_kind : (n : ℕ) → n < 10 ^ 64 → kind_of (decimal n) ≡ Some Number
+number_kind n h = let p = (decimal_is_IsNumeral_wide n h).0 in numeral_kind (decimal n) p.0 p.1
+
+one_more : (n e p v q : ℕ) → q ≡ 10 * p → (10 * n + e) * p + v ≡ n * q + (e * p + v)
+one_more n e p v q h = rw h (omega arith)
+
+running : (n : ℕ) (ds : List ℕ) → names.decimal n ds ≡ n * 10 ^ length ds + decimal_value ds
+running n [] = omega arith
+running n (d ∷ ds) =
+    let q : 10 ^ suc (length ds) ≡ 10 * 10 ^ length ds = omega (arith, pow-suc 10 (length ds)) in
+    running (10 * n + (d - 48)) ds ∙ one_more n (d - 48) (10 ^ length ds) (decimal_value ds) (10 ^ suc (length ds)) q
+
+-- the digits of a number say it
+pub number_value : (n : ℕ) → n < 10 ^ 64 → names.decimal 0 (decimal n) ≡ n
+number_value n h = running 0 (decimal n) ∙ let e = value_of_text n h in omega arith
+
+no_keyword : (s p q l g : Bool) → not (s || p || q || l || g) ≡ true → (if s then Site else if p then Param else if q then Predicate else if l then Let else if g then Sign else Name) ≡ Name
+no_keyword true p q l g h = absurd (cc)
+no_keyword false true q l g h = absurd (cc)
+no_keyword false false true l g h = absurd (cc)
+no_keyword false false false true g h = absurd (cc)
+no_keyword false false false false true h = absurd (cc)
+no_keyword false false false false false h = refl
+
+both_true : (a b : Bool) → (a && b) ≡ true → (a ≡ true) × (b ≡ true)
+both_true true b h = (refl, h)
+both_true false b h = absurd (cc)
+
+-- a name is a NAME
+pub name_kind : (t : List ℕ) → is_name t ≡ true → kind_of t ≡ Some Name
+name_kind [] h = absurd (cc)
+name_kind (b ∷ bs) h =
+    let p = both_true (is_word (b ∷ bs)) (not (is_keyword (b ∷ bs))) h in
+    let q = both_true (is_letter b) (every is_name_byte bs) p.0 in
+    let k : word_kind (b ∷ bs) ≡ Name = no_keyword (bytes_eq (b ∷ bs) (codes "site")) (bytes_eq (b ∷ bs) (codes "param")) (bytes_eq (b ∷ bs) (codes "predicate")) (bytes_eq (b ∷ bs) (codes "let")) (bytes_eq (b ∷ bs) (codes "sign")) p.1 in
+    rw (q.0, q.1) (ap (λ (w : Kind). Some w) k)

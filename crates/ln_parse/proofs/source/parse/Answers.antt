@@ -1,0 +1,28 @@
+use Rattle.std.proofs.Common.{List, sym, subst}
+use Rattle.std.proofs.lemmas.Result.{err_from_is_err_and}
+use Rattle.std.specs.Prelude.{All}
+use Rattle.ln_lex.specs.declared.token.Token.{Token}
+use Rattle.ln_lex.specs.Tokens.{IsSlice}
+use Rattle.ln_syntax.specs.declared.raw.RawItem.{RawItem}
+use Rattle.ln_syntax.specs.Raw.{items}
+use Rattle.ln_parse.specs.Ready.{ReadyFile}
+use Rattle.ln_parse.proofs.Readiness.{faultless_ready}
+use Rattle.ln_parse.proofs.OneAnswer.{memory_alone}
+use Rattle.ln_parse.proofs.source.parse.Goals as goal
+
+pub build-requires-clause-ready : goal.build-requires-clause-ready
+build-requires-clause-ready c =
+    let bytes = c.args.bytes.now in
+    let ts = c.as_slice-ts.result.now in
+    let s = subst (λ (w : List Token). All (IsSlice bytes) w) (sym c.as_slice-ts.ensures) c.in_ok-list.ensures.slices in
+    subst (λ (w : List RawItem). ReadyFile bytes ts (items w)) (sym c.deref.ensures.value) (faultless_ready bytes ts (items c.in_ok-its.its.items) s c.in_ok-its.ensures.ok)
+
+pub returns-in_err-list-clause-no_table : goal.returns-in_err-list-clause-no_table
+returns-in_err-list-clause-no_table c =
+    let p = err_from_is_err_and c.from_residual.result c.from_residual.ensures.1 in
+    rw (p.1, p.2) (memory_alone c.args.bytes.now _ c.in_err-list.ensures.err)
+
+pub returns-in_err-its-clause-no_table : goal.returns-in_err-its-clause-no_table
+returns-in_err-its-clause-no_table c =
+    let p = err_from_is_err_and c.from_residual-in_err-its.result c.from_residual-in_err-its.ensures.1 in
+    rw (p.1, p.2) (memory_alone c.args.bytes.now _ c.in_err-its.ensures.err)

@@ -1,0 +1,391 @@
+// The canonical text of tables.
+ghost use Rattle.std.specs.Prelude.{◌≡◌, ◌++◌, ◌∷◌, [], List, map, length, slice_get, unwrap_or, codes, decimal, IfOk};
+ghost use Rattle.ln_tree.specs.Names.{name_bytes};
+ghost use Rattle.ln_tree.specs.Formula.{formula};
+ghost use Rattle.ln_tree.specs.Table.{TableOf, table_of, site_of, coord_of, param_of, arg_of, pred_of};
+ghost use Rattle.ln_parse.specs.Lexemes.{Puts, opening, closing, signed, each};
+ghost use Rattle.ln_parse.specs.Written.{Naming, naming, written, input, range_name, site_name, coord_name};
+ghost use Rattle.ln_parse.specs.Canonical.{fits, wrap, inside, whole, ranged, coord, site, param, arg, further, args, let_of, lets, root, pred, canonical};
+ghost use Rattle.ln_parse.specs.ReadsBack.{TableNamed, ReadsBack};
+
+use itoa::Buffer;
+use ln_base::NoMemory;
+use ln_tree::{Arg, Coord, Expr, Name, Node, Param, Pred, Site, Table, Var};
+use std::alloc::Global;
+
+/// What may stand at a place without parentheses: anything, as between parentheses; a product, a negation or a power, as
+/// to the right of `+`; a negation or a power, as to the right of `*`; only a number, a name or an input, as before `^`.
+#[derive(Clone, Copy, Debug)]
+pub enum Room {
+    OfSum,
+    OfProduct,
+    OfUnary,
+    OfAtom,
+}
+
+/// The canonical text of a table: its site types, then its params, then its predicates, each on a line.
+pub fn print(alloc: Global, t: &Table) -> Result<Vec<u8>, NoMemory>
+    ensures { IfOk result (λ v. v.items ≡ canonical (table_of t.now.sites t.now.params t.now.preds)) }
+{
+    let mut out = Vec::new(alloc);
+    put_sites(&mut out, t.sites.as_slice())?;
+    put_params(&mut out, t.params.as_slice())?;
+    put_preds(&mut out, t)?;
+    Ok(out)
+}
+
+/// A law: the canonical text of a table, all of whose names are names of the language, is tokens that spell the table's
+/// site types, params and predicates, each written with its names.
+pub fn canonical_text_reads_back()
+    ensures { (t : TableOf) → TableNamed t → ReadsBack (canonical t) t }
+{}
+
+fn put(out: &mut Vec<u8>, text: &[u8]) -> Result<(), NoMemory>
+    ensures { IfOk result (λ x. out.new.items ≡ out.old.items ++ text.now) }
+{
+    out.extend_from_slice(text)?;
+    Ok(())
+}
+
+fn put_number(out: &mut Vec<u8>, n: u128) -> Result<(), NoMemory>
+    ensures { IfOk result (λ x. out.new.items ≡ out.old.items ++ decimal n) }
+{
+    let mut buffer = Buffer::new();
+    put(out, buffer.format(n).as_bytes())
+}
+
+fn put_signed(out: &mut Vec<u8>, z: i64) -> Result<(), NoMemory>
+    ensures { IfOk result (λ x. Puts out.old.items out.new.items (signed z)) }
+{
+    if z < 0 {
+        put(out, b"-")?;
+    }
+    put_number(out, u128::from(z.unsigned_abs()))
+}
+
+fn put_sites(out: &mut Vec<u8>, sites: &[Site]) -> Result<(), NoMemory>
+    ensures { IfOk result (λ x. Puts out.old.items out.new.items (each site (map site_of sites.now))) }
+{
+    'sites: for s in sites {
+        put_site(out, s)?;
+    }
+    Ok(())
+}
+
+fn put_site(out: &mut Vec<u8>, s: &Site) -> Result<(), NoMemory>
+    ensures { IfOk result (λ x. Puts out.old.items out.new.items (site (site_of s.now))) }
+{
+    put(out, b"site ")?;
+    put(out, s.name.bytes())?;
+    put(out, b" { ")?;
+    put_coords(out, s.coords.as_slice())?;
+    put(out, b"}\n")
+}
+
+fn put_coords(out: &mut Vec<u8>, coords: &[Coord]) -> Result<(), NoMemory>
+    ensures { IfOk result (λ x. Puts out.old.items out.new.items (each coord (map coord_of coords.now))) }
+{
+    'coords: for c in coords {
+        put_coord(out, c)?;
+    }
+    Ok(())
+}
+
+fn put_coord(out: &mut Vec<u8>, c: &Coord) -> Result<(), NoMemory>
+    ensures { IfOk result (λ x. Puts out.old.items out.new.items (coord (coord_of c.now))) }
+{
+    put_range(out, &c.name, c.lo, c.hi)?;
+    put(out, b" ")
+}
+
+fn put_range(out: &mut Vec<u8>, name: &Name, lo: i64, hi: i64) -> Result<(), NoMemory>
+    ensures { IfOk result (λ x. Puts out.old.items out.new.items (ranged (record { name = name_bytes name.now; lo = lo; hi = hi }))) }
+{
+    put(out, name.bytes())?;
+    put(out, b": ")?;
+    put_signed(out, lo)?;
+    put(out, b" .. ")?;
+    put_signed(out, hi)?;
+    put(out, b";")
+}
+
+fn put_params(out: &mut Vec<u8>, params: &[Param]) -> Result<(), NoMemory>
+    ensures { IfOk result (λ x. Puts out.old.items out.new.items (each param (map param_of params.now))) }
+{
+    'params: for p in params {
+        put_param(out, p)?;
+    }
+    Ok(())
+}
+
+fn put_param(out: &mut Vec<u8>, p: &Param) -> Result<(), NoMemory>
+    ensures { IfOk result (λ x. Puts out.old.items out.new.items (param (param_of p.now))) }
+{
+    put(out, b"param ")?;
+    put_range(out, &p.name, p.lo, p.hi)?;
+    put(out, b"\n")
+}
+
+fn put_preds(out: &mut Vec<u8>, t: &Table) -> Result<(), NoMemory>
+    ensures { IfOk result (λ x. Puts out.old.items out.new.items (each (pred (table_of t.now.sites t.now.params t.now.preds)) (map pred_of t.now.preds))) }
+{
+    let preds = t.preds.as_slice();
+    'preds: for p in preds {
+        put_pred(out, t, p)?;
+    }
+    Ok(())
+}
+
+fn put_pred(out: &mut Vec<u8>, t: &Table, p: &Pred) -> Result<(), NoMemory>
+    ensures { IfOk result (λ x. Puts out.old.items out.new.items (pred (table_of t.now.sites t.now.params t.now.preds) (pred_of p.now))) }
+{
+    put(out, b"predicate ")?;
+    put(out, p.name.bytes())?;
+    put(out, b"(")?;
+    put_args(out, t, p.args.as_slice())?;
+    put(out, b") { ")?;
+    put_lets(out, t, p)?;
+    put_root(out, t, p)
+}
+
+fn put_args(out: &mut Vec<u8>, t: &Table, list: &[Arg]) -> Result<(), NoMemory>
+    ensures { IfOk result (λ x. Puts out.old.items out.new.items (args (table_of t.now.sites t.now.params t.now.preds) (map arg_of list.now))) }
+{
+    match list {
+        [] => Ok(()),
+        [first, rest @ ..] => {
+            put_arg(out, t, first)?;
+            put_further(out, t, rest)
+        }
+    }
+}
+
+fn put_further(out: &mut Vec<u8>, t: &Table, list: &[Arg]) -> Result<(), NoMemory>
+    ensures { IfOk result (λ x. Puts out.old.items out.new.items (each (further (table_of t.now.sites t.now.params t.now.preds)) (map arg_of list.now))) }
+{
+    'args: for a in list {
+        put(out, b", ")?;
+        put_arg(out, t, a)?;
+    }
+    Ok(())
+}
+
+fn put_arg(out: &mut Vec<u8>, t: &Table, a: &Arg) -> Result<(), NoMemory>
+    ensures { IfOk result (λ x. Puts out.old.items out.new.items (arg (table_of t.now.sites t.now.params t.now.preds) (arg_of a.now))) }
+{
+    match a {
+        Arg::Site(name, s) => {
+            put(out, name.bytes())?;
+            put(out, b": ")?;
+            put(out, site_name(t, *s))
+        }
+        Arg::Param(p) => {
+            put(out, param_name(t, *p))?;
+            put(out, b": param")
+        }
+    }
+}
+
+// The name of the site type of this number.
+fn site_name(t: &Table, s: u8) -> &[u8]
+    ensures { result.now ≡ site_name (slice_get (map site_of t.now.sites) s) }
+{
+    match t.sites.get(usize::from(s)) {
+        Some(site) => site.name.bytes(),
+        None => &[],
+    }
+}
+
+// The name of the param of this number.
+fn param_name(t: &Table, p: u8) -> &[u8]
+    ensures { result.now ≡ range_name (slice_get (map param_of t.now.params) p) }
+{
+    match t.params.get(usize::from(p)) {
+        Some(param) => param.name.bytes(),
+        None => &[],
+    }
+}
+
+// The name of coordinate c of a site type.
+fn coord_of_site(s: &Site, c: u8) -> &[u8]
+    ensures { result.now ≡ range_name (slice_get (map coord_of s.now.coords) c) }
+{
+    match s.coords.get(usize::from(c)) {
+        Some(coord) => coord.name.bytes(),
+        None => &[],
+    }
+}
+
+// The name of coordinate c of the site type of this number.
+fn coord_name(t: &Table, s: u8, c: u8) -> &[u8]
+    ensures { result.now ≡ coord_name (slice_get (map site_of t.now.sites) s) c }
+{
+    match t.sites.get(usize::from(s)) {
+        Some(site) => coord_of_site(site, c),
+        None => &[],
+    }
+}
+
+// The name of the let of this number.
+fn let_name(p: &Pred, j: u8) -> &[u8]
+    ensures { result.now ≡ unwrap_or (slice_get (map name_bytes p.now.let_names) j) [] }
+{
+    match p.let_names.get(usize::from(j)) {
+        Some(name) => name.bytes(),
+        None => &[],
+    }
+}
+
+fn put_lets(out: &mut Vec<u8>, t: &Table, p: &Pred) -> Result<(), NoMemory>
+    ensures { IfOk result (λ x. Puts out.old.items out.new.items (lets (naming (table_of t.now.sites t.now.params t.now.preds) (pred_of p.now)) (map name_bytes p.now.let_names) (map formula p.now.lets))) }
+{
+    let names = p.let_names.as_slice();
+    let values = p.lets.as_slice();
+    'lets: for (name, e) in names.iter().zip(values) {
+        put_let(out, t, p, name, e)?;
+    }
+    Ok(())
+}
+
+fn put_let(out: &mut Vec<u8>, t: &Table, p: &Pred, named: &Name, e: &Expr) -> Result<(), NoMemory>
+    ensures { IfOk result (λ x. Puts out.old.items out.new.items (let_of (naming (table_of t.now.sites t.now.params t.now.preds) (pred_of p.now)) (name_bytes named.now) (formula e.now))) }
+{
+    put(out, b"let ")?;
+    put(out, named.bytes())?;
+    put(out, b" = ")?;
+    put_expr(out, t, p, Room::OfSum, e)?;
+    put(out, b"; ")
+}
+
+fn put_root(out: &mut Vec<u8>, t: &Table, p: &Pred) -> Result<(), NoMemory>
+    ensures { IfOk result (λ x. Puts out.old.items out.new.items (root (naming (table_of t.now.sites t.now.params t.now.preds) (pred_of p.now)) (formula p.now.root))) }
+{
+    put(out, b"sign ")?;
+    put_expr(out, t, p, Room::OfSum, &p.root)?;
+    put(out, b"; }\n")
+}
+
+fn put_input(out: &mut Vec<u8>, t: &Table, p: &Pred, v: Var) -> Result<(), NoMemory>
+    ensures { IfOk result (λ x. Puts out.old.items out.new.items (inside (input (naming (table_of t.now.sites t.now.params t.now.preds) (pred_of p.now)) (slice_get (map arg_of p.now.args) v.arg) v.coord))) }
+{
+    match p.args.get(usize::from(v.arg)) {
+        Some(Arg::Site(name, s)) => {
+            put(out, name.bytes())?;
+            put(out, b".")?;
+            put(out, coord_name(t, *s, v.coord))
+        }
+        Some(Arg::Param(k)) => put(out, param_name(t, *k)),
+        None => Ok(()),
+    }
+}
+
+// May the expression stand here without parentheses?
+fn stands(room: Room, e: &Expr) -> bool
+    ensures { (n : Naming) → result ≡ fits room (written n (formula e.now)) }
+{
+    match &e.node {
+        Node::Num(_) | Node::Input(_) | Node::Name(_) => true,
+        Node::Neg(_) | Node::Pow(_, _) => !matches!(room, Room::OfAtom),
+        Node::Mul(_, _) => matches!(room, Room::OfSum | Room::OfProduct),
+        Node::Add(_, _) | Node::Sub(_, _) => matches!(room, Room::OfSum),
+    }
+}
+
+fn open(out: &mut Vec<u8>, plain: bool) -> Result<(), NoMemory>
+    ensures { IfOk result (λ x. out.new.items ≡ out.old.items ++ opening plain) }
+{
+    if plain { Ok(()) } else { put(out, b"(") }
+}
+
+fn close(out: &mut Vec<u8>, plain: bool) -> Result<(), NoMemory>
+    ensures { IfOk result (λ x. out.new.items ≡ out.old.items ++ closing plain) }
+{
+    if plain { Ok(()) } else { put(out, b")") }
+}
+
+fn put_expr(out: &mut Vec<u8>, t: &Table, p: &Pred, room: Room, e: &Expr) -> Result<(), NoMemory>
+    ensures { IfOk result (λ x. Puts out.old.items out.new.items (wrap room (written (naming (table_of t.now.sites t.now.params t.now.preds) (pred_of p.now)) (formula e.now)) (inside (written (naming (table_of t.now.sites t.now.params t.now.preds) (pred_of p.now)) (formula e.now))))) }
+{
+    let plain = stands(room, e);
+    open(out, plain)?;
+    match &e.node {
+        Node::Num(c) => put_number(out, c.unsigned_abs())?,
+        Node::Input(v) => put_input(out, t, p, *v)?,
+        Node::Name(j) => put(out, let_name(p, *j))?,
+        Node::Neg(x) => {
+            put(out, b"-")?;
+            put_expr(out, t, p, Room::OfUnary, x)?;
+        }
+        Node::Add(x, y) => {
+            put_expr(out, t, p, Room::OfSum, x)?;
+            put(out, b" + ")?;
+            put_expr(out, t, p, Room::OfProduct, y)?;
+        }
+        Node::Sub(x, y) => {
+            put_expr(out, t, p, Room::OfSum, x)?;
+            put(out, b" - ")?;
+            put_expr(out, t, p, Room::OfProduct, y)?;
+        }
+        Node::Mul(x, y) => {
+            put_expr(out, t, p, Room::OfProduct, x)?;
+            put(out, b"*")?;
+            put_expr(out, t, p, Room::OfUnary, y)?;
+        }
+        Node::Pow(x, n) => {
+            put_expr(out, t, p, Room::OfAtom, x)?;
+            put(out, b"^")?;
+            put_number(out, u128::from(*n))?;
+        }
+    }
+    close(out, plain)
+}
+
+#[cfg(test)]
+mod tests {
+    use super::*;
+    use crate::build::build;
+    use ln_lex::tokens;
+    use ln_syntax::{read_items, syntax_fault};
+    use std::process::Abort;
+    use std::str::from_utf8;
+    use std::test::Fail;
+
+    const TWO_LINES: &str = "site num { t: -10 .. 10; }
+predicate s(a: num, b: num) { sign a.t^2 - b.t^2; }
+";
+
+    // The canonical text of every construct, and the same written otherwise.
+    const ALL: &str = "site point { x: -5 .. 7; y: 0 .. 0; }
+site other { t: -9 .. -1; }
+param c: 0 .. 5;
+param d: 1 .. 2;
+predicate f(p: point, c: param, q: other) { let k = -p.x + 7; let m = k*(c - 3); sign k - m - (p.y - (q.t + c))*-k^2 - (-(2*m*(k*k)))^3*(2^4)^5; }
+predicate g(p: other) { sign -(p.t - 1) + --p.t; }
+";
+
+    const OTHERWISE: &str = "param c:00..05;param d:01..2;site point{x:-5..007;y:-0..0;}
+        site other { t: -9 .. -1; } // the second site type
+        predicate f(p:point,c:param,q:other){let k=(-(p.x))+(7);let m=((k))*(c-3);
+            sign ((k-m))-((p.y-(q.t+c))*(-(k^2)))-(-((2*m)*(k*k)))^03*(2^4)^5;}
+        predicate g(p: other) { sign (-(p.t - 1)) + (-(-p.t)); }";
+
+    fn built(rt: &impl Abort, alloc: Global, source: &str) -> Result<Table, Fail> {
+        assert!(rt; source.len() <= 1 << 20);
+        let bytes = source.as_bytes();
+        let list = tokens(alloc, bytes)?;
+        let ts = list.as_slice();
+        assert!(rt; syntax_fault(ts).is_none());
+        let its = read_items(alloc, ts)?;
+        Ok(build(alloc, bytes, ts, &its)?)
+    }
+
+    #[test]
+    fn a_table_has_its_canonical_text(rt: HostRuntime) -> Result<(), Fail> {
+        for (source, want) in [(TWO_LINES, TWO_LINES), (ALL, ALL), (OTHERWISE, ALL)] {
+            let table = built(&rt, rt.alloc(), source)?;
+            let text = print(rt.alloc(), &table)?;
+            assert_eq!(rt; from_utf8(text.as_slice()), Ok(want));
+        }
+        Ok(())
+    }
+}
