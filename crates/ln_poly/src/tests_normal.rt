@@ -1,5 +1,9 @@
 // Predicates made by hand, expanded.
-ghost use Rattle.std.specs.Prelude.{◌≤◌};
+ghost use Rattle.std.specs.Prelude.{◌≤◌, IfOk, length};
+ghost use Rattle.ln_algebra.specs.Weights.{weighted_sum};
+ghost use Rattle.ln_bound.specs.Light.{most};
+ghost use Rattle.ln_bound.specs.Value.{weights};
+ghost use Rattle.ln_poly.specs.Sparse.{AreBelow, terms_of};
 
 use crate::{Poly, PolyStop, derive, normal};
 use ln_base::{NoMemory, Seq, Span};
@@ -96,7 +100,10 @@ fn pred(
 }
 
 /// The normal polynomial of a predicate, which no node is too heavy for.
-fn poly_of(alloc: Global, p: &Pred) -> Result<Poly, PolyStop> {
+fn poly_of(alloc: Global, p: &Pred) -> Result<Poly, PolyStop>
+    ensures below { IfOk result (AreBelow (length p.now.shape.vars)) }
+    ensures light { IfOk result (λ f. weighted_sum (weights p.now.shape.vars) (terms_of (length p.now.shape.vars) f) ≤ most) }
+{
     match weigh(alloc, p) {
         Ok(w) => normal(alloc, p, &w),
         Err(_) => Err(PolyStop::NoMemory),
