@@ -1,6 +1,6 @@
 -- A normal polynomial has as many terms as there are monomials.
-use Rattle.std.proofs.Common.{◌≡◌, ◌≢◌, ℕ, ◌+◌, ◌<◌, ◌≤◌, zero, suc, refl, sym, ◌∙◌, ap, arith, All, List, [], ◌∷◌, length, map, Bool, true, false, if◌then◌else◌, ◌⊎◌, inl, inr}
-use Rattle.std.proofs.Math.IntN.{ℤ, pos, ◌+ℤ◌}
+use Rattle.std.proofs.Common.{◌≡◌, ◌≢◌, ℕ, ◌+◌, ◌<◌, ◌≤◌, suc, refl, sym, ◌∙◌, ap, arith, All, List, [], ◌∷◌, length, map, Bool, true, false, if◌then◌else◌, ◌⊎◌, inl, inr}
+use Rattle.std.proofs.Math.IntN.{pos, ◌+ℤ◌}
 use Rattle.std.proofs.lemmas.Int.{ints}
 use Rattle.std.proofs.lemmas.List.Elements.{All-head, All-tail}
 use Rattle.ln_base.specs.declared.span.Span.{Span}
@@ -11,11 +11,11 @@ use Rattle.ln_algebra.proofs.Degree.{coefficient-above}
 use Rattle.ln_algebra.proofs.Normal.{same_vector-is, same_vector-refl}
 use Rattle.ln_algebra.specs.Coefficient.{normal_coefficient}
 use Rattle.ln_algebra.specs.Stage.{IsMonomial}
-use Rattle.ln_algebra.specs.Terms.{IsCollected, IsNormalOf, Lacks, Over, Term, factor_at}
+use Rattle.ln_algebra.specs.Terms.{IsCollected, Lacks, Over, Term, factor_at}
 use Rattle.ln_algebra.specs.Tree.{Tree, degree_of}
 use Rattle.ln_algebra.specs.Vector.{In, same_vector, total_degree}
-use Rattle.ln_tree.specs.Exps.{Pairs, vector}
-use Rattle.ln_poly.specs.Sparse.{AreBelow, IsFactor, IsPoly, Sparse, terms_of}
+use Rattle.ln_tree.specs.Exps.{vector}
+use Rattle.ln_poly.specs.Sparse.{IsFactor, IsPoly, Sparse, terms_of}
 use Rattle.ln_poly.specs.Expansion.{AreDistinct, HasTooManyTerms, IsNormal, IsTermsFault, IsZeroFault}
 use Rattle.ln_poly.specs.Ready.{Expands}
 use Rattle.ln_poly.proofs.Collected.{collected}
