@@ -1,0 +1,4 @@
+pub mod PairsLemmas
+pub mod StepLemmas
+pub mod TallyLemmas
+pub mod WalkLemmas
