@@ -1,18 +1,17 @@
 -- Steps of the listing: the terms that are left, and what is listed.
-use Rattle.std.proofs.Common.{◌≡◌, ◌⊎◌, inl, inr, ℕ, zero, suc, ◌+◌, ◌-◌, ◌<◌, ◌≤◌, Bool, true, false, cond, leb, eqb, List, [], ◌∷◌, ◌++◌, length, map, get_or, set, refl, sym, ◌∙◌, ap, arith, if◌then◌else◌, append_assoc, ◌&&◌}
-use Rattle.std.specs.Prelude.{All, filter, count_by, nat_le, ◌==◌}
-use Rattle.std.proofs.lemmas.Bool.{and_parts, cases_eq}
+use Rattle.std.proofs.Common.{◌≡◌, inl, inr, ℕ, zero, suc, ◌+◌, ◌<◌, Bool, true, false, cond, leb, List, [], ◌∷◌, ◌++◌, length, get_or, set, refl, sym, ◌∙◌, ap, arith, if◌then◌else◌, ◌&&◌}
+use Rattle.std.specs.Prelude.{All, filter, nat_le, ◌==◌}
 use Rattle.std.proofs.lemmas.Bool.Decides.{nat_tests}
-use Rattle.std.proofs.lemmas.List.{length-map, get_or-set_same, get_or-set_other}
+use Rattle.std.proofs.lemmas.List.{length-map, get_or-set_other}
 use Rattle.std.proofs.Math.ListN.{length-set}
 use Rattle.std.proofs.lemmas.List.Elements.{All-filter, All-head, All-tail, All-set}
 use Rattle.std.proofs.lemmas.List.Sums.{sum_by-cons}
-use Rattle.ln_algebra.specs.Vector.{covers, same_vector}
+use Rattle.ln_algebra.specs.Vector.{covers}
 use Rattle.ln_algebra.specs.Walk.{Found, Member, all_same, at_least, before, steps, unless_none, walk}
-use Rattle.ln_tree.specs.Exps.{IsAbove, IsRising, Pairs, exponent, vector}
+use Rattle.ln_tree.specs.Exps.{Pairs, exponent, vector}
 use Rattle.ln_order.proofs.PairsLemmas.{vector-get, vector-length}
 use Rattle.ln_poly.specs.Sparse.{Sparse, AreBelow, AreRising}
-use Rattle.ln_stage.specs.Kept.{AreFresh, IsStep, all_have, all_rows, high, listed, rows, term_at}
+use Rattle.ln_stage.specs.Kept.{IsStep, all_have, all_rows, high, listed, rows, term_at}
 use Rattle.ln_stage.specs.Lists.{covering}
 use Rattle.ln_stage.specs.Tally.{IsOver, Tallied, number_in, pairs_of, see, see_all}
 use Rattle.ln_stage.proofs.PairsLemmas.{tests-same}

@@ -1,5 +1,5 @@
 -- Numbers of blocks, and the blocks with one more.
-use Rattle.std.proofs.Common.{◌≡◌, ℕ, zero, suc, ◌+◌, ◌<◌, ◌≤◌, Bool, true, false, cond, not, eqb, eq-eqb, List, [], ◌∷◌, ◌++◌, length, map, Option, Some, None, refl, sym, ◌∙◌, ap, arith, if◌then◌else◌}
+use Rattle.std.proofs.Common.{◌≡◌, ℕ, suc, ◌+◌, ◌<◌, ◌≤◌, Bool, true, false, cond, not, eqb, eq-eqb, List, [], ◌∷◌, length, map, Some, None, refl, ap, arith, if◌then◌else◌}
 use Rattle.std.specs.Prelude.{position, nat_lt, ◌==◌}
 use Rattle.std.proofs.lemmas.Bool.Decides.{nat_tests}
 use Rattle.indexmap.specs.IndexMap.{insert_entry}
@@ -7,7 +7,7 @@ use Rattle.ln_tree.specs.Exps.{Pairs, same_pairs}
 use Rattle.ln_stage.specs.Tally.{Tallied, number_in, put_exps}
 
 -- ---- numbers
-number-more : (b : Pairs) (bs : List Pairs) (a : Pairs) (t : Bool) → same_pairs a b ≡ t → number_in (b ∷ bs) a ≡ cond (not t) (1 + number_in bs a) 0
+pub number-more : (b : Pairs) (bs : List Pairs) (a : Pairs) (t : Bool) → same_pairs a b ≡ t → number_in (b ∷ bs) a ≡ cond (not t) (1 + number_in bs a) 0
 number-more b bs a t e = ap (λ z. cond (not z) (1 + number_in bs a) 0) e
 
 -- blocks with one that is there stay

@@ -1,5 +1,5 @@
 -- The exponents of one variable in turn, each with what goes down from it.
-use Rattle.std.proofs.Common.{◌≡◌, ℕ, zero, suc, ◌+◌, ◌-◌, ◌<◌, ◌≤◌, Bool, true, false, List, [], ◌∷◌, ◌++◌, length, get_or, set, take, drop, refl, sym, ◌∙◌, ap, subst, arith}
+use Rattle.std.proofs.Common.{◌≡◌, ℕ, suc, ◌+◌, ◌-◌, ◌<◌, ◌≤◌, Bool, true, false, List, [], ◌∷◌, ◌++◌, length, get_or, set, drop, refl, sym, ◌∙◌, ap, subst, arith}
 use Rattle.std.proofs.Math.ListN.{length-set}
 use Rattle.std.specs.Prelude.{◌==◌}
 use Rattle.std.proofs.lemmas.Bool.Decides.{nat_tests}
@@ -98,9 +98,10 @@ module _ (f : Sparse) (vs kept p : List ℕ) (s : IsStep f vs kept p) (more : 0 
         pub keeps : stop ≡ false → (see_all (length p) f t' (rest (128 - (e + 1)) (e + 1)).0 ≡ T) × ((rest (128 - (e + 1)) (e + 1)).1 ≡ S)
         keeps c =
             let w = goes-on (sym stop-down ∙ c) in
-            rw (counts-next, next)
-            (ap (λ z. see_all (length p) f z (rest (127 - e) (suc e)).0) seen-down ∙ sym (see_all-append (length p) f t down.0 (rest (127 - e) (suc e)).0) ∙ ap (λ z. see_all (length p) f t z.0) (sym w) ∙ all,
-              ap (λ z. z.1) (sym w) ∙ cut)
+            rw (counts-next, next) (
+              ap (λ z. see_all (length p) f z (rest (127 - e) (suc e)).0) seen-down ∙ sym (see_all-append (length p) f t down.0 (rest (127 - e) (suc e)).0) ∙ ap (λ z. see_all (length p) f t z.0) (sym w) ∙ all,
+              ap (λ z. z.1) (sym w) ∙ cut,
+            )
 
       -- what is over the limits on the way down is over them at the end
       module _ (t T : Tallied) (all : see_all (length p) f t (rest (128 - e) e).0 ≡ T) where

@@ -7,6 +7,7 @@ use Rattle.ln_tree.specs.declared.shape.VarInfo.{VarInfo}
 use Rattle.ln_tree.specs.Exps.{Pairs, exponent, same_pairs, vector}
 use Rattle.ln_order.specs.Sites.{ranking_of}
 use Rattle.ln_poly.specs.Sparse.{Sparse, AreBelow, AreRising}
+use Rattle.ln_stage.specs.Tally.{Tallied, next_list, see_all}
 
 -- the term at a place
 abbrev pub term_at : Sparse → ℕ → Pairs × ℤ
@@ -56,3 +57,13 @@ listed_from f vs kept p e = steps (walk 128 (drop 1 vs)) (slice_index vs 0) (row
 -- the stage list in an order of the sites, as the listing finds it
 unfoldable pub list_of : List VarInfo → Sparse → List ℕ → List (List ℕ)
 list_of vars f order = (listed f (ranking_of vars order) (range_with_len 0 (length f)) (zeros (length vars))).0
+
+-- what is kept after the lists of several orders
+unfoldable pub tallied : List VarInfo → Sparse → Tallied → List (List ℕ) → Tallied
+tallied vars f t [] = t
+tallied vars f t (o ∷ os) = tallied vars f (next_list (see_all (length vars) f t (list_of vars f o))) os
+
+-- the numbers of the blocks in the lists of several orders
+unfoldable pub numbers_of : List VarInfo → Sparse → Tallied → List (List ℕ) → List (List ℕ)
+numbers_of vars f t [] = []
+numbers_of vars f t (o ∷ os) = (see_all (length vars) f t (list_of vars f o)).list ∷ numbers_of vars f (next_list (see_all (length vars) f t (list_of vars f o))) os

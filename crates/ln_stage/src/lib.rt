@@ -11,5 +11,6 @@ pub mod table;
 pub(crate) mod tally;
 pub(crate) mod walk;
 
+pub use lists::stages;
 pub use stop::StageStop;
 pub use table::Stages;

@@ -1,5 +1,5 @@
 // The stages of a polynomial.
-ghost use Rattle.std.specs.Prelude.{◌≡◌, ◌<◌, slice_index_or, [], length};
+ghost use Rattle.std.specs.Prelude.{◌≡◌, ◌<◌, ◌≤◌, slice_index_or, [], length};
 ghost use Rattle.indexmap.specs.IndexMap.{keys};
 ghost use Rattle.ln_order.specs.Orders.{orders_of};
 ghost use Rattle.ln_order.specs.Places.{order_places};
@@ -36,7 +36,12 @@ impl Model for Stages {
 
 impl Stages {
     // The stages with these lists.
-    pub(crate) fn of(sites: u8, blocks: IndexMap<Exps, ()>, lists: Seq<Seq<u32>>, count: u64) -> Stages
+    pub(crate) fn of(
+        sites: u8,
+        blocks: IndexMap<Exps, ()>,
+        lists: Seq<Seq<u32>>,
+        count: u64,
+    ) -> Stages
         requires few { sites ≤ 5 }
         requires all { length lists ≡ length (orders_of sites) }
         requires counted { count ≡ count_numbers lists }

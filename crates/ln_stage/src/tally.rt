@@ -87,6 +87,7 @@ impl Tally {
     // How many stages there are so far in all lists, and the blocks.
     pub(crate) fn into_blocks(self) -> (u64, IndexMap<Exps, ()>)
         ensures count { result.0 ≡ self.count }
+        ensures within { (self.count ≤ self.most) × (self.weight ≤ self.heavy) }
         ensures blocks { keys result.1 ≡ self.exps }
     {
         (self.count, self.blocks)

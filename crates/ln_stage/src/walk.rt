@@ -11,7 +11,13 @@ use ln_tree::Exps;
 use std::alloc::Global;
 
 // The places, of these, whose terms have an exponent of v that is at least e.
-fn with_exponent(alloc: Global, f: &[(Exps, i128)], kept: &[usize], v: u8, e: u8) -> Result<Vec<usize>, NoMemory>
+fn with_exponent(
+    alloc: Global,
+    f: &[(Exps, i128)],
+    kept: &[usize],
+    v: u8,
+    e: u8,
+) -> Result<Vec<usize>, NoMemory>
     requires { All (λ i. i < length f.now) kept.now }
     ensures { IfOk result (λ r. r.items ≡ high f.now v e kept.now) }
 {

@@ -1,8 +1,7 @@
-use Rattle.std.proofs.Common.{◌≡◌, ◌<◌, ◌≤◌, ◌-◌, get_or, arith, refl, sym, ap, ◌∙◌, length, take, drop}
+use Rattle.std.proofs.Common.{◌≡◌, ◌<◌, get_or, arith, sym, ap, ◌∙◌, length}
 use Rattle.std.proofs.Math.ListN.{length-set}
 use Rattle.std.proofs.lemmas.List.{length-drop, take_rest}
 use Rattle.std.proofs.lemmas.Result.{err_from_is_err_and}
-use Rattle.ln_stage.specs.Kept.{high}
 use Rattle.ln_stage.specs.Tally.{see_all}
 use Rattle.ln_stage.proofs.WalkLemmas.{begins, ends, from-cut, from-keeps, from-none, from-stops, from-step, none-length, some-length}
 use Rattle.ln_stage.proofs.walk.+walk.Goals as goal
@@ -28,8 +27,10 @@ walk-requires t c =
     let some : 0 < length c.as_slice.result.now = omega (arith, some-length _ c.if-is_empty-2.ensures, c.as_slice.ensures.len) in
     let q = c.as_slice-in-exponents.ensures.value ∙ c.in_ok-q.ensures in (
       omega (arith, c.decreases, more, ap length (take_rest c.args.vs.now 1), length-drop 1 c.args.vs.now),
-      (from-step c.args.f.now c.args.vs.now c.args.kept.now c.args.p.now c.requires.step more c.exponents.e (omega arith) c.as_slice.result.now (c.as_slice.ensures.value ∙ c.in_ok-high.ensures) some c.as_slice-in-exponents.result.now q _ (take_rest c.args.vs.now 1),
-      omega (arith, c.requires.few, ap length q, length-set c.args.p.now (get_or c.args.vs.now 0 0) c.exponents.e)),
+      (
+        from-step c.args.f.now c.args.vs.now c.args.kept.now c.args.p.now c.requires.step more c.exponents.e (omega arith) c.as_slice.result.now (c.as_slice.ensures.value ∙ c.in_ok-high.ensures) some c.as_slice-in-exponents.result.now q _ (take_rest c.args.vs.now 1),
+        omega (arith, c.requires.few, ap length q, length-set c.args.p.now (get_or c.args.vs.now 0 0) c.exponents.e),
+      ),
     )
 
 pub returns-in_err-walk-clause-err : goal.returns-in_err-walk-clause-err
