@@ -1,4 +1,5 @@
 pub mod FoldLemmas
+pub mod LawLemmas
 pub mod MonomialLemmas
 pub mod PairsLemmas
 pub mod ResultLemmas

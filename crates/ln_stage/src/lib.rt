@@ -5,12 +5,14 @@
 //! sight, or says exactly why there is none; `Stages` has its four readers.
 #![tactic(auto)]
 
+pub mod laws;
 pub mod lists;
 pub mod stop;
 pub mod table;
 pub(crate) mod tally;
 pub(crate) mod walk;
 
+pub use laws::{cut_loses_nothing, list_is_unique, lists_are_those_of_trees, there_is_a_first};
 pub use lists::stages;
 pub use stop::StageStop;
 pub use table::Stages;
