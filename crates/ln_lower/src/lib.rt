@@ -6,6 +6,5 @@
 
 pub(crate) mod draft;
 pub mod lower;
-
 #[cfg(test)]
 mod tests;

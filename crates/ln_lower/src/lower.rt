@@ -107,7 +107,13 @@ fn put_lets(draft: &mut Draft, lets: &[Fitted]) -> Result<(), NoMemory>
 /// lets, a power with the lower powers on its way, and the value that is left has the root's polynomial and at most its bound;
 /// each sum, difference, product and negation has its node's width. It has at most four times as many operations as the costs of
 /// tree and lets together, and 64 more. A let is kept in the local of its number; local 64 serves powers.
-pub fn lower(alloc: Global, a: &Exps, s: &Shape, t: &Fitted, lets: &Seq<Fitted>) -> Result<Block, NoMemory>
+pub fn lower(
+    alloc: Global,
+    a: &Exps,
+    s: &Shape,
+    t: &Fitted,
+    lets: &Seq<Fitted>,
+) -> Result<Block, NoMemory>
     requires exps { AreOfSites s.now.vars a.now }
     requires few { length lets.now ≤ 64 }
     requires lets { AreSound s.now.vars [] (map typed lets.now) }
