@@ -1,3 +1,4 @@
 pub mod Nodes
 pub mod Lowered
 pub mod Wrote
+pub mod Worked
