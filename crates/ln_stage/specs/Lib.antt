@@ -1,0 +1,3 @@
+pub mod StageList
+pub mod Lists
+pub mod Staged

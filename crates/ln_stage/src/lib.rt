@@ -1,0 +1,2 @@
+//! Stage lists.
+#![tactic(auto)]
