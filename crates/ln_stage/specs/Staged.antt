@@ -1,10 +1,12 @@
 -- The stages of a predicate, as contracts see them.
-use Rattle.std.specs.Prelude.{◌≡◌, ℕ, ◌+◌, ◌<◌, All, List, [], ◌∷◌, length, map, slice_get, slice_index_or, Some}
+use Rattle.std.specs.Prelude.{◌≡◌, ◌≢◌, ℕ, ◌+◌, ◌<◌, All, List, [], ◌∷◌, length, map, slice_get, slice_index_or, Some}
 use Rattle.ln_tree.specs.declared.shape.VarInfo.{VarInfo}
 use Rattle.ln_tree.specs.Exps.{IsAbove, Pairs, vector}
 use Rattle.ln_order.specs.Orders.{orders_of}
 use Rattle.ln_poly.specs.Sparse.{Sparse}
-use Rattle.ln_stage.specs.Lists.{AreStageLists, first_seen}
+use Rattle.ln_stage.specs.Lists.{AreStageLists, Passes, first_seen}
+use Rattle.ln_stage.specs.declared.stop.StageStop.{StageStop}
+use Rattle.ln_stage.specs.declared.stop.StageStop.TheVariants.{Zero, Stages, NoMemory}
 
 -- the number of sites, the exponents of each block by number, and for each order of the sites the list of numbers
 pub record Staged : Type 0 where
@@ -38,3 +40,9 @@ pub record IsListOf (st : Staged) (sites numbers : List ℕ) : Type 0 where
   pub place : ℕ
   pub order : slice_get (orders_of st.sites) place ≡ Some sites
   pub list : slice_get st.lists place ≡ Some numbers
+
+-- why there are no stages: f is 0, or it isn't and the stage count or the stage weight of its lists passes its limit; nothing is said of want of memory
+abbrev pub StopsListing : ℕ → List VarInfo → Sparse → ℕ → ℕ → StageStop → Type 0
+StopsListing k vars f most heavy Zero = f ≡ []
+StopsListing k vars f most heavy Stages = (f ≢ []) × ((lists : List (List (List ℕ))) × AreStageLists k vars f lists × Passes (length vars) f most heavy lists)
+StopsListing k vars f most heavy NoMemory = Unit {0}
