@@ -17,7 +17,7 @@ use Rattle.ln_bound.specs.Value.{value}
 use Rattle.ln_bound.proofs.Plain.{plain}
 
 -- ---- the vector of zeros
-is_zero-zeros : (n : ℕ) → is_zero (zeros n) ≡ true
+pub is_zero-zeros : (n : ℕ) → is_zero (zeros n) ≡ true
 is_zero-zeros zero = refl
 is_zero-zeros (suc n) = is_zero-zeros n
 
