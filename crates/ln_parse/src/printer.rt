@@ -343,9 +343,7 @@ fn put_expr(out: &mut Vec<u8>, t: &Table, p: &Pred, room: Room, e: &Expr) -> Res
 #[cfg(test)]
 mod tests {
     use super::*;
-    use crate::build::build;
-    use ln_lex::tokens;
-    use ln_syntax::{read_items, syntax_fault};
+    use crate::parse;
     use std::process::Abort;
     use std::str::from_utf8;
     use std::test::Fail;
@@ -369,20 +367,15 @@ predicate g(p: other) { sign -(p.t - 1) + --p.t; }
             sign ((k-m))-((p.y-(q.t+c))*(-(k^2)))-(-((2*m)*(k*k)))^03*(2^4)^5;}
         predicate g(p: other) { sign (-(p.t - 1)) + (-(-p.t)); }";
 
-    fn built(rt: &impl Abort, alloc: Global, source: &str) -> Result<Table, Fail> {
+    fn parsed(rt: &impl Abort, alloc: Global, source: &str) -> Result<Table, Fail> {
         assert!(rt; source.len() <= 1 << 20);
-        let bytes = source.as_bytes();
-        let list = tokens(alloc, bytes)?;
-        let ts = list.as_slice();
-        assert!(rt; syntax_fault(ts).is_none());
-        let its = read_items(alloc, ts)?;
-        Ok(build(alloc, bytes, ts, &its)?)
+        Ok(parse(alloc, source.as_bytes())?)
     }
 
     #[test]
     fn a_table_has_its_canonical_text(rt: HostRuntime) -> Result<(), Fail> {
         for (source, want) in [(TWO_LINES, TWO_LINES), (ALL, ALL), (OTHERWISE, ALL)] {
-            let table = built(&rt, rt.alloc(), source)?;
+            let table = parsed(&rt, rt.alloc(), source)?;
             let text = print(rt.alloc(), &table)?;
             assert_eq!(rt; from_utf8(text.as_slice()), Ok(want));
         }
