@@ -1,1 +1,15 @@
+pub mod Engine
+pub mod Numbers
+pub mod Exact
+pub mod Rules
+pub mod FilterRules
+pub mod Bare
+pub mod Part
+pub mod Lists
+pub mod Verdict
+pub mod Kept
+pub mod Pushes
+pub mod Errors
+pub mod Law
+pub mod Memory
 pub mod RowOf

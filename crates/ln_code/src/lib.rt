@@ -1,6 +1,29 @@
 //! The stack program of a predicate, and the rows on which it runs.
+//!
+//! A block or a filter is a list of operations on a stack; `Program` keeps that each follows the rules on bounds and widths, and
+//! so `run_row` checks nothing when it runs: on every row in range it answers what the machine over whole numbers answers, the
+//! sign, what decided it, and how many wide operations and calls it took, and each value stays within its bound and its width.
 #![tactic(auto)]
 
+pub(crate) mod arithmetic;
+pub mod block;
+pub mod filter_block;
+pub mod laws;
+pub mod op;
+pub(crate) mod processor;
+pub mod program;
+pub mod programs;
 pub mod row;
+pub mod run;
+pub mod scratch;
+pub mod verdict;
 
+pub use block::Block;
+pub use filter_block::FilterBlock;
+pub use op::{Op, Triple};
+pub use program::Program;
+pub use programs::Programs;
 pub use row::Row;
+pub use run::run_row;
+pub use scratch::Scratch;
+pub use verdict::{By, Verdict};

@@ -7,3 +7,12 @@ pub mod Weighing
 pub mod Lowering
 pub mod Deriving
 pub mod Leaves
+pub mod Collected
+pub mod Counting
+pub mod Negating
+pub mod Room
+pub mod Normals
+pub mod Expanding
+pub mod Nodes
+pub mod Lightness
+pub mod Lets

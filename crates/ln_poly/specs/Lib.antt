@@ -4,3 +4,6 @@ pub mod Times
 pub mod Rows
 pub mod Weight
 pub mod Derivative
+pub mod Expansion
+pub mod Stop
+pub mod Ready

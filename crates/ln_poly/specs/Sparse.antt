@@ -1,5 +1,5 @@
 -- Polynomials as lists of pairs: exponents and a factor.
-use Rattle.std.specs.Prelude.{ℕ, ◌<◌, ◌^◌, ◌≢◌, ℤ, pos, unsigned_abs, All, List, map, if◌then◌else◌}
+use Rattle.std.specs.Prelude.{ℕ, ◌<◌, ◌^◌, ◌≢◌, ℤ, neg_ℤ, pos, unsigned_abs, All, List, map, if◌then◌else◌}
 use Rattle.std.specs.List.{sum_by}
 use Rattle.std.specs.List.Sorted.{IsStrictlySortedBy}
 use Rattle.std.specs.Ordering.{on}
@@ -33,6 +33,10 @@ size_of f = sum_by (λ t. unsigned_abs t.1) f
 -- the exponents of the terms
 abbrev pub exps_of : Sparse → List Pairs
 exps_of f = map (λ t. t.0) f
+
+-- the terms with the other sign
+abbrev pub negated : Sparse → Sparse
+negated f = map (λ t. (t.0, neg_ℤ t.1)) f
 
 -- each term has rising pairs
 abbrev pub AreRising : Sparse → Type 0

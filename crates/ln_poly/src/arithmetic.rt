@@ -1,8 +1,8 @@
 // Sums and products of polynomials.
-ghost use Rattle.std.specs.Prelude.{◌≡◌, ℕ, List, ◌+◌, ◌*◌, ◌<◌, ◌≤◌, ◌^◌, ◌++◌, ◌+ℤ◌, ◌*ℤ◌, All, IfOk, OnOk, length, unsigned_abs};
+ghost use Rattle.std.specs.Prelude.{◌≡◌, ℕ, List, ◌+◌, ◌*◌, ◌<◌, ◌≤◌, ◌^◌, ◌++◌, ◌+ℤ◌, ◌-ℤ◌, ◌*ℤ◌, All, IfOk, OnOk, length, unsigned_abs};
 ghost use Rattle.ln_algebra.specs.Coefficient.{product};
 ghost use Rattle.ln_tree.specs.Exps.{exponent};
-ghost use Rattle.ln_poly.specs.Sparse.{IsPoly, AreBelow, AreRising, coefficient_at, size_of};
+ghost use Rattle.ln_poly.specs.Sparse.{IsFactor, IsPoly, AreBelow, AreRising, coefficient_at, negated, size_of};
 ghost use Rattle.ln_poly.specs.Rows.{IsProductPut, IsRow, PowersFit};
 
 use crate::gather::{gather, push};
@@ -13,11 +13,23 @@ use ln_tree::Exps;
 use std::alloc::Global;
 
 // Puts copies of terms at the end.
-fn put_all(out: &mut Vec<(Exps, i128)>, f: &[(Exps, i128)]) -> Result<(), NoMemory>
+pub(crate) fn put_all(out: &mut Vec<(Exps, i128)>, f: &[(Exps, i128)]) -> Result<(), NoMemory>
     ensures { OnOk result (out.new.items ≡ out.old.items ++ f.now) }
 {
     for t in f {
         push(out, t)?;
+    }
+    Ok(())
+}
+
+// Puts copies of terms with the other sign at the end.
+fn put_negated(out: &mut Vec<(Exps, i128)>, f: &[(Exps, i128)]) -> Result<(), NoMemory>
+    requires { All (λ t. IsFactor t.1) f.now }
+    ensures { OnOk result (out.new.items ≡ out.old.items ++ negated f.now) }
+{
+    for t in f {
+        let exps = t.0.copy()?;
+        out.push((exps, -t.1))?;
     }
     Ok(())
 }
@@ -33,6 +45,20 @@ pub fn add(alloc: Global, f: &Poly, g: &Poly) -> Result<Poly, NoMemory>
     let mut out = Vec::new(alloc);
     put_all(&mut out, f.terms())?;
     put_all(&mut out, g.terms())?;
+    let h = gather(alloc, out)?;
+    Ok(h)
+}
+
+/// The difference of two polynomials.
+pub fn sub(alloc: Global, f: &Poly, g: &Poly) -> Result<Poly, NoMemory>
+    requires { size_of f.now + size_of g.now < 2 ^ 127 }
+    ensures coefficients { IfOk result (λ h. (n : ℕ) (m : List ℕ) → coefficient_at n h m ≡ coefficient_at n f.now m -ℤ coefficient_at n g.now m) }
+    ensures form { IfOk result IsPoly }
+    ensures below { IfOk result (λ h. (n : ℕ) → AreBelow n f.now → AreBelow n g.now → AreBelow n h) }
+{
+    let mut out = Vec::new(alloc);
+    put_all(&mut out, f.terms())?;
+    put_negated(&mut out, g.terms())?;
     let h = gather(alloc, out)?;
     Ok(h)
 }

@@ -1,19 +1,22 @@
 //! Polynomials with whole coefficients: terms sorted, distinct and without zeros.
 //!
-//! What the crates above use: `add` and `mul` have the coefficients of the sum and of the product, `derive` those of the
-//! scaled derivative, `weight` is the weighted sum of a polynomial.
+//! What the crates above use: `normal` is the normal polynomial of a predicate's root, or the first node that has more
+//! than 1,024 terms. `add`, `sub` and `mul` have the coefficients of the sum, the difference and the product, `derive`
+//! those of the scaled derivative, `weight` is the weighted sum of a polynomial.
 #![tactic(auto)]
 
 pub mod arithmetic;
 pub mod derivatives;
+pub mod expansion;
 pub mod gather;
 pub mod leaf;
 pub mod poly;
 pub mod times;
 pub mod weights;
 
-pub use arithmetic::{add, mul};
+pub use arithmetic::{add, mul, sub};
 pub use derivatives::derive;
+pub use expansion::{PolyStop, normal};
 pub use leaf::{number, power};
 pub use poly::Poly;
 pub use weights::weight;

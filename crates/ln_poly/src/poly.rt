@@ -1,9 +1,11 @@
 // Polynomials.
-ghost use Rattle.std.specs.Prelude.{◌≡◌, ◌↔◌, All, [], IsTrue};
+ghost use Rattle.std.specs.Prelude.{◌≡◌, ◌↔◌, All, [], IfOk, IsTrue};
 ghost use Rattle.ln_poly.specs.Sparse.{IsPoly};
 
-use ln_base::Seq;
+use crate::arithmetic::put_all;
+use ln_base::{NoMemory, Seq};
 use ln_tree::Exps;
+use std::alloc::Global;
 use std::marker::Model;
 
 /// A polynomial: its terms, sorted by their exponents as lists of pairs, distinct, with factors that aren't 0 and are
@@ -39,6 +41,15 @@ impl Poly {
         ensures form { IsPoly self.now }
     {
         self.terms.as_slice()
+    }
+
+    /// An equal polynomial.
+    pub fn copy(&self, alloc: Global) -> Result<Poly, NoMemory>
+        ensures { IfOk result (λ f. f ≡ self.now) }
+    {
+        let mut out = Vec::new(alloc);
+        put_all(&mut out, self.terms())?;
+        Ok(Poly::seal(Seq::from_vec(out)))
     }
 
     /// The same polynomial?

@@ -3,3 +3,6 @@ pub mod PlainLemmas
 pub mod WorkLemmas
 pub mod SourceLemmas
 pub mod TopLemmas
+pub mod Likeness
+pub mod OneAnswer
+pub mod CauseLemmas

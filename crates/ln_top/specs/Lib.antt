@@ -5,3 +5,4 @@ pub mod Words
 pub mod Stop
 pub mod Source
 pub mod Answer
+pub mod Causes

@@ -1,5 +1,5 @@
 -- What the program says: a status, and the bytes on both ports.
-use Rattle.std.specs.Prelude.{◌≡◌, ◌⊎◌, ℕ, Bool, true, false, List, [], ◌∷◌, ◌++◌, Option, Some, None, if◌then◌else◌, codes}
+use Rattle.std.specs.Prelude.{◌≡◌, ◌⊎◌, ℕ, Bool, true, false, List, [], ◌∷◌, Option, if◌then◌else◌, codes}
 use Rattle.ln_base.specs.Outside.{Rose, Shown, appended}
 use Rattle.ln_base.specs.declared.outside.Port.TheVariants.{Out, Err as ErrPort}
 use Rattle.ln_tree.specs.declared.pred.Pred.{Pred}
@@ -68,6 +68,19 @@ StopsWork NoPredicate before after = ⊥
 StopsWork Invalid before after = ⊥
 StopsWork Read before after = ⊥
 StopsWork TooLong before after = ⊥
+
+-- a status that the work on rows ends with
+abbrev pub OfWork : Status → Type 0
+OfWork Done = Unit {0}
+OfWork Rows = Unit {0}
+OfWork Write = Unit {0}
+OfWork Memory = Unit {0}
+OfWork Refused = ⊥
+OfWork Usage = ⊥
+OfWork NoPredicate = ⊥
+OfWork Invalid = ⊥
+OfWork Read = ⊥
+OfWork TooLong = ⊥
 
 -- the first record was taken: it is the columns' names, or the header is wrong
 abbrev pub HeaderIs : List (List ℕ) → Records → Records → Bool → Type 0

@@ -4,6 +4,7 @@ ghost use Rattle.ln_base.specs.Outside.{Rose, IsAbsent, bytes_of};
 ghost use Rattle.ln_top.specs.Source.{AllLight, IsAccepted, StopsSource};
 ghost use Rattle.ln_top.specs.Said.{IsSettled, SaysError};
 ghost use Rattle.ln_top.specs.Answer.{most_source, most_rows, FileStop, OfFiles, SourceStops, IsSourceOf, IsMissing, Owed, SaysStop};
+ghost use Rattle.ln_top.specs.Causes.{IsValid, IsRefused, HasRefusedRows, LacksPredicate, IsTooLong, IsInvalid, ExactlyWhere, WhereTold, Yields, SaysLine};
 ghost use Rattle.ln_top.specs.Words.{command_of};
 
 use crate::source::{accepted, find};
@@ -80,17 +81,17 @@ fn source<F: Files>(alloc: Global, files: &mut F, name: &str) -> Result<Table, S
     accepted(alloc, &bytes)
 }
 
-/// Carries out the command of the words over the files and the console that are handed in: `run FILE NAME ROWS` puts, for
-/// each record behind the header of the rows file, the sign of the predicate on that row.
-pub fn lnc<F: Files, C: Console>(
+// Carries out the command of the words.
+fn carry_out<F: Files, C: Console>(
     alloc: Global,
     words: &[String],
     files: &mut F,
     con: &mut C,
 ) -> Status
-    // What is owed to the words and the told files was answered, to the byte, whatever the counts of faults did.
     ensures exact { IsSettled result → IfSome (F.told files.old) (λ shelf. Owed (map string_bytes words.now) shelf result (C.shown con.old) (C.shown con.new)) }
+    ensures line { SaysLine result (C.shown con.old) (C.shown con.new) }
     ensures usage { result ≡ Status.Usage → command_of (map string_bytes words.now) ≡ None }
+    ensures no_command { command_of (map string_bytes words.now) ≡ None → (result ≡ Status.Usage) ⊎ Yields result (Rose (F.faults files.old) (F.faults files.new)) (Rose (C.faults con.old) (C.faults con.new)) }
     ensures read { result ≡ Status.Read → Rose (F.faults files.old) (F.faults files.new) ⊎ IsMissing (map string_bytes words.now) (F.told files.old) }
     ensures write { result ≡ Status.Write → Rose (C.faults con.old) (C.faults con.new) }
 {
@@ -108,4 +109,34 @@ pub fn lnc<F: Files, C: Console>(
         Ok(rows) => work(alloc, con, &table, p, &rows),
         Err(stop) => say(alloc, con, stop),
     }
+}
+
+/// Carries out the command of the words over the files and the console that are handed in: `run FILE NAME ROWS` puts, for
+/// each record behind the header of the rows file, the sign of the predicate on that row.
+///
+/// Each status has its cause, of which the first in the order of the steps decides: the words, the source file, the source,
+/// the name, the rows file, its records.
+pub fn lnc<F: Files, C: Console>(
+    alloc: Global,
+    words: &[String],
+    files: &mut F,
+    con: &mut C,
+) -> Status
+    // What is owed to the words and the told files was answered, to the byte, whatever the counts of faults did.
+    ensures exact { IsSettled result → IfSome (F.told files.old) (λ shelf. Owed (map string_bytes words.now) shelf result (C.shown con.old) (C.shown con.new)) }
+    // Valid input is carried out, where neither count of faults rises and memory is there.
+    ensures complete { IfSome (F.told files.old) (λ shelf. IsValid (map string_bytes words.now) shelf → (Rose (F.faults files.old) (F.faults files.new) → ⊥) → (Rose (C.faults con.old) (C.faults con.new) → ⊥) → (result ≡ Status.Done) ⊎ (result ≡ Status.Memory)) }
+    ensures done { WhereTold Status.Done (F.told files.old) (IsValid (map string_bytes words.now)) result (Rose (F.faults files.old) (F.faults files.new)) (Rose (C.faults con.old) (C.faults con.new)) }
+    ensures refused { WhereTold Status.Refused (F.told files.old) (IsRefused (map string_bytes words.now)) result (Rose (F.faults files.old) (F.faults files.new)) (Rose (C.faults con.old) (C.faults con.new)) }
+    ensures usage { ExactlyWhere Status.Usage (command_of (map string_bytes words.now) ≡ None) result (Rose (F.faults files.old) (F.faults files.new)) (Rose (C.faults con.old) (C.faults con.new)) }
+    ensures rows { WhereTold Status.Rows (F.told files.old) (HasRefusedRows (map string_bytes words.now)) result (Rose (F.faults files.old) (F.faults files.new)) (Rose (C.faults con.old) (C.faults con.new)) }
+    ensures no_predicate { WhereTold Status.NoPredicate (F.told files.old) (LacksPredicate (map string_bytes words.now)) result (Rose (F.faults files.old) (F.faults files.new)) (Rose (C.faults con.old) (C.faults con.new)) }
+    ensures invalid { WhereTold Status.Invalid (F.told files.old) (IsInvalid (map string_bytes words.now)) result (Rose (F.faults files.old) (F.faults files.new)) (Rose (C.faults con.old) (C.faults con.new)) }
+    ensures too_long { WhereTold Status.TooLong (F.told files.old) (IsTooLong (map string_bytes words.now)) result (Rose (F.faults files.old) (F.faults files.new)) (Rose (C.faults con.old) (C.faults con.new)) }
+    ensures read { result ≡ Status.Read → Rose (F.faults files.old) (F.faults files.new) ⊎ IsMissing (map string_bytes words.now) (F.told files.old) }
+    ensures write { result ≡ Status.Write → Rose (C.faults con.old) (C.faults con.new) }
+    // An error line whose text the status alone gives stands alone, also where files tell nothing.
+    ensures line { SaysLine result (C.shown con.old) (C.shown con.new) }
+{
+    carry_out(alloc, words, files, con)
 }

@@ -8,7 +8,7 @@ ghost use Rattle.ln_bound.specs.Light.{AreLight, weighed_pred};
 ghost use Rattle.ln_base.specs.Outside.{Rose, appended};
 ghost use Rattle.ln_base.specs.declared.outside.Port.TheVariants.{Out};
 ghost use Rattle.ln_top.specs.Line.{lines_of, all_signs};
-ghost use Rattle.ln_top.specs.Said.{HeaderIs, IsSettled, SaysError, StopsWork, WorkOwed};
+ghost use Rattle.ln_top.specs.Said.{HeaderIs, IsSettled, OfWork, SaysError, StopsWork, WorkOwed};
 
 use crate::record::put_record;
 use crate::status::Status;
@@ -83,8 +83,7 @@ pub fn work<C: Console>(alloc: Global, con: &mut C, t: &Table, p: &Pred, bytes: 
     requires { AreLight (weighed_pred p.now.shape.vars (map formula p.now.lets) (formula p.now.root)) }
     ensures settled { IsSettled result → WorkOwed p.now (column_names t.now.sites t.now.params p.now.args) (records_in bytes.now) result (C.shown con.old) (C.shown con.new) }
     ensures write { result ≡ Status.Write → Rose (C.faults con.old) (C.faults con.new) }
-    ensures read { result ≡ Status.Read → ⊥ }
-    ensures usage { result ≡ Status.Usage → ⊥ }
+    ensures kind { OfWork result }
 {
     let mut rows = Rows::new(alloc, bytes);
     let mut record = ByteRecord::new(alloc);

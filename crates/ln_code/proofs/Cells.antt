@@ -1,0 +1,26 @@
+-- Facts on the memory, and on numbers that fit a width.
+use Rattle.std.proofs.Common.{◌≡◌, ◌≢◌, ℕ, ℤ, ◌≤◌, ◌<◌, true, List, ◌∷◌, length, refl, zero, suc, ap, arith, pos, unsigned_abs, get_or-set_same, get_or-set_other}
+use Rattle.std.specs.Prelude.{slice_set}
+use Rattle.std.proofs.lemmas.Bool.{leb-true}
+use Rattle.ln_bound.specs.declared.fitted.Width.{Width}
+use Rattle.ln_bound.specs.declared.fitted.Width.TheVariants.{W64}
+use Rattle.ln_code.specs.Numbers.{fits}
+use Rattle.ln_code.specs.Memory.{seen}
+
+pub fits_64 : (w : Width) (z : ℤ) → w ≡ W64 → fits w z ≡ true → unsigned_abs z ≤ 9223372036854775807
+fits_64 w z e h = leb-true _ _ (rw e at h)
+
+-- a write above the top isn't seen
+pub seen-above : (xs : List ℤ) (k n : ℕ) (z : ℤ) → n ≤ k → seen (slice_set xs k z) n ≡ seen xs n
+seen-above xs k zero z h = refl
+seen-above xs k (suc n) z h =
+    let ne : n ≢ k = omega arith in
+    let ih : seen (slice_set xs k z) n ≡ seen xs n = seen-above xs k n z (omega arith) in
+    rw (get_or-set_other xs k n z (pos 0) ne, ih) refl
+
+pub seen-push : (xs : List ℤ) (n : ℕ) (z : ℤ) → n < length xs → seen (slice_set xs n z) (suc n) ≡ z ∷ seen xs n
+seen-push xs n z h = rw (get_or-set_same xs n z (pos 0) h, seen-above xs n n z (omega arith)) refl
+
+pub seen-length : (xs : List ℤ) (n : ℕ) → length (seen xs n) ≡ n
+seen-length xs zero = refl
+seen-length xs (suc n) = ap suc (seen-length xs n)

@@ -1,0 +1,17 @@
+pub mod Follow
+pub mod Cells
+pub mod Cutting
+pub mod Steps
+pub mod Ends
+pub mod Depths
+pub mod Known
+pub mod Near
+pub mod FilterKnown
+pub mod Runs
+pub mod ErrorLaws
+pub mod Calls
+pub mod Sums
+pub mod Stages
+pub mod Differ
+pub mod Means
+pub mod Together

@@ -1,0 +1,56 @@
+//! The programs of a source.
+ghost use Rattle.std.specs.Prelude.{◌≡◌, ◌≢◌, ◌≤◌, ◌∷◌, ◌++◌, [], All, OnOk, OnErr, length};
+ghost use Rattle.ln_code.specs.Part.{Part};
+ghost use Rattle.ln_code.specs.Kept.{ArePrograms};
+
+use crate::program::Program;
+use ln_base::{NoMemory, Seq};
+use std::alloc::Global;
+use std::marker::Model;
+
+/// A list of programs whose names differ and each of which has at most 65,536 blocks.
+#[derive(Drop)]
+pub struct Programs {
+    programs: Seq<Program>,
+}
+
+impl Model for Programs {
+    ghost use Rattle.std.specs.Prelude.{List};
+    ghost use Rattle.ln_code.specs.Part.{Part};
+    ghost use Rattle.ln_code.specs.Kept.{ArePrograms};
+
+    ghost Value = { List Part };
+
+    ghost view = { λ p. p.programs };
+
+    ghost invariant = { λ p. ArePrograms p.programs };
+}
+
+impl Programs {
+    /// No program. It takes no memory.
+    pub fn new(alloc: Global) -> Programs
+        ensures { result ≡ [] }
+    {
+        Programs {
+            programs: Seq::new(alloc),
+        }
+    }
+
+    /// Puts a program at the end. Where there is no memory, the program is dropped and the list stays.
+    pub fn push(&mut self, p: Program) -> Result<(), NoMemory>
+        requires name { All (λ q. q.shape.name ≢ p.shape.name) self.old }
+        requires small { length p.blocks ≤ 65536 }
+        ensures ok { OnOk result (self.new ≡ self.old ++ p ∷ []) }
+        ensures err { OnErr result (self.new ≡ self.old) }
+    {
+        self.programs.push(p)
+    }
+
+    /// The programs, lent.
+    pub fn as_slice(&self) -> &[Program]
+        ensures value { result.now ≡ self.now }
+        ensures kept { ArePrograms self.now }
+    {
+        self.programs.as_slice()
+    }
+}

@@ -1,0 +1,127 @@
+// The nested form of a polynomial: with the terms that have variable v divided by it, it is v times these, and the others.
+ghost use Rattle.std.specs.Prelude.{◌≡◌, ℕ, List, ◌+◌, ◌-◌, ◌*◌, ◌<◌, ◌≤◌, max, [], All, IfOk, length};
+ghost use Rattle.ln_algebra.specs.Tree.{Mul, Input, Num};
+ghost use Rattle.ln_algebra.specs.Vector.{degree};
+ghost use Rattle.ln_algebra.specs.Weights.{weighted_sum};
+ghost use Rattle.ln_tree.specs.Exps.{vector};
+ghost use Rattle.ln_bound.specs.Exact.{IsExact};
+ghost use Rattle.ln_bound.specs.Light.{most};
+ghost use Rattle.ln_bound.specs.Sound.{Sound};
+ghost use Rattle.ln_bound.specs.Typed.{bound, cost, polynomial, untyped};
+ghost use Rattle.ln_bound.specs.Value.{sizes};
+ghost use Rattle.ln_bound.specs.View.{typed};
+ghost use Rattle.ln_poly.specs.Sparse.{AreBelow, coefficient_at, terms_of};
+ghost use Rattle.ln_nest.specs.Lean.{AreLean, largest};
+ghost use Rattle.ln_nest.specs.Nested.{horner, is_number, nested};
+ghost use Rattle.ln_nest.specs.View.{Has, product_of, scale, terms_in};
+
+use crate::work::{Work, constant, parted, work_of};
+use ln_base::NoMemory;
+use ln_bound::size::{input, negated, number, two};
+use ln_bound::{FitOp, Fitted, Two};
+use ln_poly::Poly;
+use ln_tree::{Shape, VarInfo};
+use std::alloc::Global;
+
+// Is the tree this number?
+fn is_number(t: &Fitted, z: i128) -> bool
+    ensures { result ≡ is_number z (untyped (typed t.now)) }
+{
+    match &t.op {
+        FitOp::Num(c) => *c == z,
+        _ => false,
+    }
+}
+
+// The product of a variable and a tree: where that is 1 or -1, the variable or its opposite.
+fn times(alloc: Global, x: Fitted, y: Fitted) -> Result<Fitted, NoMemory>
+    requires { bound (typed x) * bound (typed y) ≤ most }
+    ensures { IfOk result (λ t. typed t ≡ product_of (typed x) (typed y)) }
+{
+    if is_number(&y, 1) {
+        return Ok(x);
+    }
+    if is_number(&y, -1) {
+        let opposite = negated(alloc, x)?;
+        return Ok(opposite);
+    }
+    let product = two(alloc, Two::Times, x, y)?;
+    Ok(product)
+}
+
+// The tree of terms in the variables from v on, by powers up to d.
+#[cycle(powers)]
+fn nest_from(
+    alloc: Global,
+    vars: &[VarInfo],
+    d: u8,
+    v: usize,
+    terms: Vec<Work>,
+) -> Result<Fitted, NoMemory>
+    requires variable { v ≤ length vars.now }
+    requires few { length vars.now ≤ 168 }
+    requires weight { weighted_sum (scale vars.now) (terms_in terms.items) ≤ most }
+    ensures { IfOk result (λ t. Has vars.now (typed t) (nested d (length vars.now - v) v (terms_in terms.items)) (weighted_sum (scale vars.now) (terms_in terms.items))) }
+{
+    if v == vars.len() {
+        return Ok(number(constant(terms.as_slice())));
+    }
+    let whole = by_powers(alloc, vars, d, v, d, terms)?;
+    Ok(whole)
+}
+
+// The tree of terms by powers of v, of which there are at most b.
+#[cycle(powers)]
+fn by_powers(
+    alloc: Global,
+    vars: &[VarInfo],
+    d: u8,
+    v: usize,
+    b: u8,
+    terms: Vec<Work>,
+) -> Result<Fitted, NoMemory>
+    requires variable { v < length vars.now }
+    requires few { length vars.now ≤ 168 }
+    requires weight { weighted_sum (scale vars.now) (terms_in terms.items) ≤ most }
+    ensures { IfOk result (λ t. Has vars.now (typed t) (horner (nested d (length vars.now - (v + 1)) (v + 1)) v b (terms_in terms.items)) (weighted_sum (scale vars.now) (terms_in terms.items))) }
+{
+    if b == 0 {
+        let same = nest_from(alloc, vars, d, v + 1, terms)?;
+        return Ok(same);
+    }
+    let (with, without) = parted(alloc, v, terms)?;
+    if with.is_empty() {
+        let rest = nest_from(alloc, vars, d, v + 1, without)?;
+        return Ok(rest);
+    }
+    let h = by_powers(alloc, vars, d, v, b - 1, with)?;
+    let product = times(alloc, input(vars, v), h)?;
+    if without.is_empty() {
+        return Ok(product);
+    }
+    let i = nest_from(alloc, vars, d, v + 1, without)?;
+    let sum = two(alloc, Two::Plus, product, i)?;
+    Ok(sum)
+}
+
+/// A tree with the polynomial f, in nested form: by powers of the first variable, each factor of them by powers of the
+/// next. Each bound is exactly its operation over the operands' bounds, of a variable the largest absolute value of its
+/// range, and each width is the least that fits it and is no narrower than an operand. The root's bound is at most the sum
+/// of f's absolute factors, each times its monomial at these values, and has to be at most `2^127 - 1`. No node has more
+/// terms than f, or a larger exponent of a variable.
+pub fn nest(alloc: Global, f: &Poly, s: &Shape) -> Result<Fitted, NoMemory>
+    requires below { AreBelow (length s.now.vars) f.now }
+    requires degrees { All (λ t. degree (vector (length s.now.vars) t.0) ≤ 126) f.now }
+    requires small { weighted_sum (sizes s.now.vars) (terms_of (length s.now.vars) f.now) ≤ most }
+    ensures same { IfOk result (λ t. (m : List ℕ) → length m ≡ length s.now.vars → polynomial [] (typed t) m ≡ coefficient_at (length s.now.vars) f.now m) }
+    ensures sound { IfOk result (λ t. Sound s.now.vars [] (typed t)) }
+    ensures exact { IfOk result (λ t. IsExact s.now.vars [] (typed t)) }
+    ensures within { IfOk result (λ t. bound (typed t) ≤ weighted_sum (sizes s.now.vars) (terms_of (length s.now.vars) f.now)) }
+    ensures lean { IfOk result (λ t. AreLean (length s.now.vars) (max 1 (length f.now)) (largest f.now) (untyped (typed t))) }
+    ensures cheap { IfOk result (λ t. cost (typed t) ≤ max 1 (1024 * length f.now)) }
+{
+    let vars = s.vars.as_slice();
+    let terms = work_of(alloc, f.terms(), vars.len())?;
+    let t = nest_from(alloc, vars, 126, 0, terms)?;
+    Ok(t)
+}

@@ -1,0 +1,222 @@
+// Normal polynomials of predicates.
+ghost use Rattle.std.specs.Prelude.{◌≡◌, ℕ, ◌+◌, ◌*◌, ◌<◌, ◌≤◌, ◌^◌, ◌++◌, [], ◌∷◌, true, pos, unsigned_abs, All, List, IfOk, IfErr, OnOk, length, map, slice_index_or, ◌↔◌};
+ghost use Rattle.ln_algebra.specs.Tree.{Tree, Num, Input, Neg, Add, Sub, Mul, Pow};
+ghost use Rattle.ln_algebra.specs.Weights.{weighted_sum};
+ghost use Rattle.ln_algebra.specs.Vector.{total_degree};
+ghost use Rattle.ln_tree.specs.Exps.{vector};
+ghost use Rattle.ln_tree.specs.Variables.{number_or_end};
+ghost use Rattle.ln_tree.specs.Fits.{is_fit, lets_fit};
+ghost use Rattle.ln_tree.specs.Formula.{formula, tree, tree_of};
+ghost use Rattle.ln_bound.specs.Value.{weights};
+ghost use Rattle.ln_bound.specs.Light.{most, weighed_pred, node_weights, AreLight as HaveWeights};
+ghost use Rattle.ln_poly.specs.Sparse.{terms_of, size_of};
+ghost use Rattle.ln_poly.specs.Rows.{PowersFit};
+ghost use Rattle.ln_poly.specs.Expansion.{IsNormal, HasTooManyTerms, HaveFewTerms, IsZeroFault, closed_lets, closed_root, expanded, expanded_lets, expanded_pred, powers};
+ghost use Rattle.ln_poly.specs.Ready.{AreLight, AreNormal, Expands, HasPower, LetsAreLight};
+ghost use Rattle.ln_poly.specs.Stop.{StopsExpanding};
+
+use crate::arithmetic::{add, mul, sub};
+use crate::leaf::{number, power};
+use crate::poly::Poly;
+use ln_base::{NoMemory, Seq, Span};
+use ln_bound::Weights;
+use ln_tree::layout::number_in;
+use ln_tree::{Expr, Node, Pred, Var, VarInfo};
+use std::alloc::Global;
+
+/// Why a predicate has no normal polynomial.
+#[derive(Clone, Copy, Debug, PartialEq, Eq)]
+pub enum PolyStop {
+    /// The first node in order of evaluation that has more than 1,024 terms, or a power of which a lower one has.
+    Terms(Span),
+    NoMemory,
+}
+
+impl From<NoMemory> for PolyStop {
+    ghost use Rattle.ln_poly.specs.declared.expansion.PolyStop.TheVariants.{NoMemory};
+
+    ghost from_gives = { λ _ e. e ≡ NoMemory };
+
+    fn from(_e: NoMemory) -> Self {
+        PolyStop::NoMemory
+    }
+}
+
+// The polynomial of the node at this place, where it hasn't too many terms.
+fn counted(at: Span, f: Poly) -> Result<Poly, PolyStop>
+    ensures ok { IfOk result (λ h. (n : ℕ) (e : Tree) → IsNormal n e f → Expands n ((at, e) ∷ []) e h) }
+    ensures err { IfErr result (λ s. (n : ℕ) (e : Tree) → IsNormal n e f → StopsExpanding n ((at, e) ∷ []) s) }
+{
+    if f.terms().len() > 1024 {
+        return Err(PolyStop::Terms(at));
+    }
+    Ok(f)
+}
+
+// The polynomial of a number.
+fn literal(alloc: Global, at: Span, c: i128) -> Result<Poly, PolyStop>
+    requires { unsigned_abs c < 2 ^ 127 }
+    ensures ok { IfOk result (λ h. (n : ℕ) → Expands n ((at, Num c) ∷ []) (Num c) h) }
+    ensures err { IfErr result (λ s. (n : ℕ) → StopsExpanding n ((at, Num c) ∷ []) s) }
+{
+    let f = number(alloc, c)?;
+    counted(at, f)
+}
+
+// The polynomial of a variable.
+fn variable(alloc: Global, at: Span, vars: &[VarInfo], v: Var) -> Result<Poly, PolyStop>
+    requires few { length vars.now ≤ 168 }
+    requires within { number_or_end vars.now v.arg v.coord < length vars.now }
+    ensures ok { IfOk result (λ h. Expands (length vars.now) ((at, Input (number_or_end vars.now v.arg v.coord)) ∷ []) (Input (number_or_end vars.now v.arg v.coord)) h) }
+    ensures err { IfErr result (λ s. StopsExpanding (length vars.now) ((at, Input (number_or_end vars.now v.arg v.coord)) ∷ []) s) }
+{
+    let f = power(alloc, number_in(vars, v) as u8, 1, 1)?;
+    counted(at, f)
+}
+
+// The polynomial of a let.
+fn let_named(alloc: Global, at: Span, polys: &[Poly], j: u8) -> Result<Poly, PolyStop>
+    requires { j < length polys.now }
+    ensures ok { IfOk result (λ h. (n : ℕ) (es : List Tree) → AreNormal n es polys.now → Expands n ((at, slice_index_or es j (Num (pos 0))) ∷ []) (slice_index_or es j (Num (pos 0))) h) }
+    ensures err { IfErr result (λ s. (n : ℕ) (es : List Tree) → AreNormal n es polys.now → StopsExpanding n ((at, slice_index_or es j (Num (pos 0))) ∷ []) s) }
+{
+    let f = polys[usize::from(j)].copy(alloc)?;
+    counted(at, f)
+}
+
+// The sum of two polynomials, at the place of its node.
+fn sum(alloc: Global, at: Span, f: &Poly, g: &Poly) -> Result<Poly, PolyStop>
+    requires { size_of f.now + size_of g.now < 2 ^ 127 }
+    ensures ok { IfOk result (λ h. (n : ℕ) (d e : Tree) → IsNormal n d f.now → IsNormal n e g.now → Expands n ((at, Add d e) ∷ []) (Add d e) h) }
+    ensures err { IfErr result (λ s. (n : ℕ) (d e : Tree) → IsNormal n d f.now → IsNormal n e g.now → StopsExpanding n ((at, Add d e) ∷ []) s) }
+{
+    let h = add(alloc, f, g)?;
+    counted(at, h)
+}
+
+// The difference.
+fn difference(alloc: Global, at: Span, f: &Poly, g: &Poly) -> Result<Poly, PolyStop>
+    requires { size_of f.now + size_of g.now < 2 ^ 127 }
+    ensures ok { IfOk result (λ h. (n : ℕ) (d e : Tree) → IsNormal n d f.now → IsNormal n e g.now → Expands n ((at, Sub d e) ∷ []) (Sub d e) h) }
+    ensures err { IfErr result (λ s. (n : ℕ) (d e : Tree) → IsNormal n d f.now → IsNormal n e g.now → StopsExpanding n ((at, Sub d e) ∷ []) s) }
+{
+    let h = sub(alloc, f, g)?;
+    counted(at, h)
+}
+
+// The product.
+fn product(alloc: Global, at: Span, f: &Poly, g: &Poly) -> Result<Poly, PolyStop>
+    requires room { size_of f.now * size_of g.now < 2 ^ 127 }
+    requires powers { All (λ s. PowersFit s g.now) f.now }
+    ensures ok { IfOk result (λ h. (n : ℕ) (d e : Tree) → IsNormal n d f.now → IsNormal n e g.now → Expands n ((at, Mul d e) ∷ []) (Mul d e) h) }
+    ensures err { IfErr result (λ s. (n : ℕ) (d e : Tree) → IsNormal n d f.now → IsNormal n e g.now → StopsExpanding n ((at, Mul d e) ∷ []) s) }
+{
+    let h = mul(alloc, f, g)?;
+    counted(at, h)
+}
+
+// The polynomial with the other sign.
+fn negation(alloc: Global, at: Span, f: &Poly) -> Result<Poly, PolyStop>
+    requires { size_of f.now < 2 ^ 127 }
+    ensures ok { IfOk result (λ h. (n : ℕ) (e : Tree) → IsNormal n e f.now → Expands n ((at, Neg e) ∷ []) (Neg e) h) }
+    ensures err { IfErr result (λ s. (n : ℕ) (e : Tree) → IsNormal n e f.now → StopsExpanding n ((at, Neg e) ∷ []) s) }
+{
+    let none = number(alloc, 0)?;
+    let h = sub(alloc, &none, f)?;
+    counted(at, h)
+}
+
+// The k-th power, by all lower ones.
+fn raised(alloc: Global, at: Span, f: &Poly, k: u8) -> Result<Poly, PolyStop>
+    requires { HasPower f.now k }
+    ensures ok { IfOk result (λ h. (n : ℕ) (e : Tree) → IsNormal n e f.now → Expands n (powers at e k) (Pow e k) h) }
+    ensures err { IfErr result (λ s. (n : ℕ) (e : Tree) → IsNormal n e f.now → StopsExpanding n (powers at e k) s) }
+{
+    let mut p = number(alloc, 1)?;
+    'powers: for _j in 0..k {
+        p = product(alloc, at, &p, f)?;
+    }
+    Ok(p)
+}
+
+// The polynomial of an expression behind lets of these polynomials.
+fn expand(
+    alloc: Global,
+    e: &Expr,
+    vars: &[VarInfo],
+    lets: &[Expr],
+    polys: &[Poly],
+) -> Result<Poly, PolyStop>
+    requires few { length vars.now ≤ 168 }
+    requires fit { is_fit (length vars.now) (length polys.now) (tree_of vars.now e.now) ≡ true }
+    requires light { AreLight (length vars.now) (weights vars.now) (closed_lets vars.now (map formula lets.now)) (tree_of vars.now e.now) }
+    requires polys { AreNormal (length vars.now) (closed_lets vars.now (map formula lets.now)) polys.now }
+    ensures ok { IfOk result (λ f. Expands (length vars.now) (expanded vars.now (closed_lets vars.now (map formula lets.now)) (formula e.now)) (closed_root vars.now (map formula lets.now) (formula e.now)) f) }
+    ensures err { IfErr result (λ s. StopsExpanding (length vars.now) (expanded vars.now (closed_lets vars.now (map formula lets.now)) (formula e.now)) s) }
+{
+    match &e.node {
+        Node::Num(c) => literal(alloc, e.at, *c),
+        Node::Input(v) => variable(alloc, e.at, vars, *v),
+        Node::Name(j) => let_named(alloc, e.at, polys, *j),
+        Node::Neg(x) => {
+            let f = expand(alloc, x, vars, lets, polys)?;
+            negation(alloc, e.at, &f)
+        }
+        Node::Add(x, y) => {
+            let f = expand(alloc, x, vars, lets, polys)?;
+            let g = expand(alloc, y, vars, lets, polys)?;
+            sum(alloc, e.at, &f, &g)
+        }
+        Node::Sub(x, y) => {
+            let f = expand(alloc, x, vars, lets, polys)?;
+            let g = expand(alloc, y, vars, lets, polys)?;
+            difference(alloc, e.at, &f, &g)
+        }
+        Node::Mul(x, y) => {
+            let f = expand(alloc, x, vars, lets, polys)?;
+            let g = expand(alloc, y, vars, lets, polys)?;
+            product(alloc, e.at, &f, &g)
+        }
+        Node::Pow(x, n) => {
+            let f = expand(alloc, x, vars, lets, polys)?;
+            raised(alloc, e.at, &f, *n)
+        }
+    }
+}
+
+// The polynomials of the lets, each behind those before it.
+fn expand_lets(alloc: Global, lets: &[Expr], vars: &[VarInfo]) -> Result<Seq<Poly>, PolyStop>
+    requires few { length vars.now ≤ 168 }
+    requires fit { lets_fit (length vars.now) 0 (map (tree vars.now) (map formula lets.now)) ≡ true }
+    requires light { LetsAreLight (length vars.now) (weights vars.now) [] (map (tree vars.now) (map formula lets.now)) }
+    ensures polys { IfOk result (λ fs. AreNormal (length vars.now) (closed_lets vars.now (map formula lets.now)) fs) }
+    ensures few { OnOk result (HaveFewTerms (length vars.now) (expanded_lets vars.now [] (map formula lets.now))) }
+    ensures err { IfErr result (λ s. StopsExpanding (length vars.now) (expanded_lets vars.now [] (map formula lets.now)) s) }
+{
+    let mut done = Seq::new(alloc);
+    'each: for (j, e) in lets.iter().enumerate() {
+        let f = expand(alloc, e, vars, &lets[..j], done.as_slice())?;
+        done.push(f)?;
+    }
+    Ok(done)
+}
+
+/// The normal polynomial of a predicate's root, with its lets put in; or the first node in order of evaluation that has
+/// more than 1,024 terms, where for a power each of its lower powers counts too. It may have no term. The weights are
+/// those of the predicate: so no coefficient passes `2^127 - 1` on the way.
+pub fn normal(alloc: Global, p: &Pred, w: &Weights) -> Result<Poly, PolyStop>
+    requires weights { w.now ≡ node_weights (weighed_pred p.now.shape.vars (map formula p.now.lets) (formula p.now.root)) }
+    requires light { HaveWeights (weighed_pred p.now.shape.vars (map formula p.now.lets) (formula p.now.root)) }
+    ensures normal { IfOk result (λ f. IsNormal (length p.now.shape.vars) (closed_root p.now.shape.vars (map formula p.now.lets) (formula p.now.root)) f) }
+    ensures few { OnOk result (HaveFewTerms (length p.now.shape.vars) (expanded_pred p.now.shape.vars (map formula p.now.lets) (formula p.now.root))) }
+    ensures terms { IfOk result (λ f. length f ≤ 1024) }
+    ensures weight { IfOk result (λ f. weighted_sum (weights p.now.shape.vars) (terms_of (length p.now.shape.vars) f) ≤ most) }
+    ensures degrees { IfOk result (λ f. All (λ t. total_degree (vector (length p.now.shape.vars) t.0) ≤ 126) f) }
+    ensures zero { IfOk result (λ f. (f ≡ []) ↔ IsZeroFault (length p.now.shape.vars) (closed_root p.now.shape.vars (map formula p.now.lets) (formula p.now.root))) }
+    ensures err { IfErr result (λ s. StopsExpanding (length p.now.shape.vars) (expanded_pred p.now.shape.vars (map formula p.now.lets) (formula p.now.root)) s) }
+{
+    let vars = p.shape.vars.as_slice();
+    let lets = p.lets.as_slice();
+    let polys = expand_lets(alloc, lets, vars)?;
+    expand(alloc, &p.root, vars, lets, polys.as_slice())
+}
