@@ -74,13 +74,13 @@ params_good bytes ts before (SiteItem n cs ∷ is) e = params_good bytes ts (bef
 params_good bytes ts before (ParamItem n r ∷ is) e = and_from _ _ (ranged_good bytes n r e.0.range) (params_good bytes ts (before ++ (ParamItem n r ∷ [])) is e.1)
 params_good bytes ts before (PredItem n as' ls p ∷ is) e = params_good bytes ts (before ++ (PredItem n as' ls p ∷ [])) is e.1
 
-sites_append : (bytes : List ℕ) (xs ys : List Item) → sites_said bytes (xs ++ ys) ≡ sites_said bytes xs ++ sites_said bytes ys
+pub sites_append : (bytes : List ℕ) (xs ys : List Item) → sites_said bytes (xs ++ ys) ≡ sites_said bytes xs ++ sites_said bytes ys
 sites_append bytes [] ys = refl
 sites_append bytes (SiteItem n cs ∷ xs) ys = ap (λ (w : List SiteOf). record { name = text bytes n; coords = map (λ c. ranged bytes c.name c.range) cs } ∷ w) (sites_append bytes xs ys)
 sites_append bytes (ParamItem n r ∷ xs) ys = sites_append bytes xs ys
 sites_append bytes (PredItem n as' ls p ∷ xs) ys = sites_append bytes xs ys
 
-params_append : (bytes : List ℕ) (xs ys : List Item) → params_said bytes (xs ++ ys) ≡ params_said bytes xs ++ params_said bytes ys
+pub params_append : (bytes : List ℕ) (xs ys : List Item) → params_said bytes (xs ++ ys) ≡ params_said bytes xs ++ params_said bytes ys
 params_append bytes [] ys = refl
 params_append bytes (SiteItem n cs ∷ xs) ys = params_append bytes xs ys
 params_append bytes (ParamItem n r ∷ xs) ys = ap (λ (w : List CoordOf). ranged bytes n r ∷ w) (params_append bytes xs ys)

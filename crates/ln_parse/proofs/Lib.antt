@@ -21,3 +21,17 @@ pub mod Readiness
 pub mod Kept
 pub mod Loops
 pub mod OneAnswer
+pub mod WholeParts
+pub mod InputsThere
+pub mod ScopeNames
+pub mod ValueBack
+pub mod ArgsBack
+pub mod PredBack
+pub mod FileClean
+pub mod FromTokens
+pub mod WholeFrom
+pub mod TableWhole
+pub mod Nested
+pub mod TextTokens
+pub mod CleanValue
+pub mod HasTable
