@@ -39,6 +39,7 @@ product_cases v x y P a b c = by_case (is_number (pos 1) (untyped y)) (is_number
     by_case false false f g = c
 
 -- ---- the expansion
+-- a vector and zeros are the vector
 plus_none : (n : ℕ) (m : List ℕ) → length m ≡ n → plus m (zeros n) ≡ m
 plus_none zero [] h = refl
 plus_none zero (k ∷ m) h = absurd (omega arith)
@@ -52,8 +53,10 @@ expanded_scaled n v h = scaled_cases v h (λ t. expanded n t ≡ times (record {
     (λ e. rw (e, plus_none n (unit_vector n v) (length-unit_vector n v)) refl)
     refl
 
+-- its variables are v and those of the tree
 pub inputs_scaled : (n v : ℕ) (h : Tree) → v < n → InputsBelow n h → InputsBelow n (scaled v h)
 inputs_scaled n v h l b = scaled_cases v h (InputsBelow n) (λ e. l) (λ e. l) (l, b)
 
+-- it has no let where the tree has none
 pub closed_scaled : (v : ℕ) (h : Tree) → inlined [] h ≡ h → inlined [] (scaled v h) ≡ scaled v h
 closed_scaled v h a = scaled_cases v h (λ t. inlined [] t ≡ t) (λ e. refl) (λ e. refl) (rw a refl)

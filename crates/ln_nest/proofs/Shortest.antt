@@ -28,6 +28,7 @@ no_more m (t ∷ g) = by_case (same_vector t.exponents m) (no_more m g)
     by_case true h = omega (arith, h)
     by_case false h = omega (arith, h)
 
+-- without those of a vector whose coefficient is not 0 it is shorter
 fewer : (m : List ℕ) (g : List Term) → factor_at g m ≢ pos 0 → length (without m g) + 1 ≤ length g
 fewer m [] h = absurd (h refl)
 fewer m (t ∷ g) h = by_case (same_vector t.exponents m) h (no_more m g) (λ k. fewer m g k)
@@ -47,6 +48,7 @@ rest_same t f g l s k = by_case (same_vector t.exponents k) refl
         let z : factor_at f k ≡ pos 0 +ℤ factor_at f k = omega (arith, ints) in
         z ∙ (rw e at q) ∙ sym (without-other t.exponents k g e)
 
+-- no list with the same coefficients is shorter than a collected one without zeros
 shortest : (f g : List Term) → IsCollected f → HasNoZero f → ((k : List ℕ) → factor_at f k ≡ factor_at g k) → length f ≤ length g
 shortest [] g c z s = omega arith
 shortest (t ∷ f) g c z s =
@@ -64,6 +66,7 @@ some_under top (t ∷ g) m a h = by_case (same_vector t.exponents m) refl h (λ 
     by_case true e k ih v = let q = same_vector-is t.exponents m e in rw (← q) (a.0 v)
     by_case false e k ih v = ih (λ z. k (omega (arith, ints, z))) v
 
+-- limits on the exponents of one hold of the collected one
 all_under : (top : ℕ → ℕ) (f g : List Term) → IsCollected f → HasNoZero f → ((k : List ℕ) → factor_at f k ≡ factor_at g k) → AreUnder top g → AreUnder top f
 all_under top [] g c z s a = tt
 all_under top (t ∷ f) g c z s a =
@@ -93,5 +96,6 @@ lean_count n count top e f l a c z =
     let k = l.few in
     omega (arith, s, k)
 
+-- and small exponents
 pub lean_exponents : (n count : ℕ) (top : ℕ → ℕ) (e : Tree) (f : List Term) → IsLean n count top e → IsNormalOf n e f → IsCollected f → HasNoZero f → AreUnder top f
 lean_exponents n count top e f l a c z = all_under top f l.terms c z (everywhere n e f l.terms a l.normal) l.under

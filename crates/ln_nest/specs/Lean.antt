@@ -23,11 +23,6 @@ pub record IsLean (n count : ℕ) (top : ℕ → ℕ) (e : Tree) : Type 0 where
   pub few : length terms ≤ count
   pub under : AreUnder top terms
 
--- no factor is 0
-abbrev pub HasNoZero : List Term → Type 0
-HasNoZero [] = Unit {0}
-HasNoZero (t ∷ f) = (t.factor ≢ pos 0) × HasNoZero f
-
 -- so is that of each node, and of each lower power on the way to a power
 abbrev pub AreLean : ℕ → ℕ → (ℕ → ℕ) → Tree → Type 0
 AreLean n count top (Num c) = IsLean n count top (Num c)
@@ -38,3 +33,8 @@ AreLean n count top (Add e f) = AreLean n count top e × AreLean n count top f �
 AreLean n count top (Sub e f) = AreLean n count top e × AreLean n count top f × IsLean n count top (Sub e f)
 AreLean n count top (Mul e f) = AreLean n count top e × AreLean n count top f × IsLean n count top (Mul e f)
 AreLean n count top (Pow e k) = AreLean n count top e × ((j : ℕ) → j ≤ k → IsLean n count top (Pow e j))
+
+-- no factor is 0
+abbrev pub HasNoZero : List Term → Type 0
+HasNoZero [] = Unit {0}
+HasNoZero (t ∷ f) = (t.factor ≢ pos 0) × HasNoZero f

@@ -104,11 +104,12 @@ fn by_powers(
     Ok(sum)
 }
 
-/// A tree with the polynomial f, in nested form: by powers of the first variable, each factor of them by powers of the
-/// next. Each bound is exactly its operation over the operands' bounds, of a variable the largest absolute value of its
-/// range, and each width is the least that fits it and is no narrower than an operand. The root's bound is at most the sum
-/// of f's absolute factors, each times its monomial at these values, and has to be at most `2^127 - 1`. No node has more
-/// terms than f, or a larger exponent of a variable.
+/// A tree with the polynomial f, whose terms have a degree of at most 126, in nested form: by powers of the first variable,
+/// each factor of them by powers of the next. Each bound is exactly its operation over the operands' bounds, of a variable
+/// the largest absolute value of its range, and at least 1; each width is the least that fits it and is no narrower than an
+/// operand. The root's bound is at most the sum of f's absolute factors, each times its monomial at these values, which has
+/// to be at most `2^127 - 1`. No node has more terms than f, or than one where f has none, or a larger exponent of a
+/// variable. There are at most 1,024 operations for each term of f, and one where f has none.
 pub fn nest(alloc: Global, f: &Poly, s: &Shape) -> Result<Fitted, NoMemory>
     requires below { AreBelow (length s.now.vars) f.now }
     requires degrees { All (λ t. degree (vector (length s.now.vars) t.0) ≤ 126) f.now }

@@ -3,11 +3,12 @@ use Rattle.std.proofs.Common.{◌≡◌, ℕ, zero, suc, ◌+◌, ◌<◌, ◌�
 use Rattle.std.specs.Prelude.{slice_get, position, unwrap_or, bytes_eq, count_by, find}
 use Rattle.std.specs.List.{list_any, list_all}
 use Rattle.std.proofs.lemmas.Bool.{and_parts, ltb-true}
+use Rattle.std.proofs.lemmas.List.{map-append}
 use Rattle.std.proofs.lemmas.Iterator.Adapters.{position_from-zero}
 use Rattle.ln_base.specs.declared.span.Span.{Span}
 use Rattle.ln_syntax.specs.declared.raw.RawArg.{RawArg}
 use Rattle.ln_syntax.specs.Raw.{Item, item_name, is_site, text, same}
-use Rattle.ln_names.specs.Rules.{is_site_arg, is_param_arg, ArgSite, ArgParam, has_site, has_param, fault_at}
+use Rattle.ln_names.specs.Rules.{is_site_arg, is_param_arg, ArgName, ArgSite, ArgParam, has_site, has_param, fault_at}
 use Rattle.ln_names.specs.Visits.{visits_by, arg_visits}
 use Rattle.ln_names.specs.First.{Clean}
 use Rattle.ln_tree.specs.Table.{CoordOf, SiteOf, ArgOf, SiteArg, ParamArg, TableOf}
@@ -21,6 +22,7 @@ use Rattle.ln_parse.proofs.NamePlaces.{Differ}
 use Rattle.ln_parse.proofs.CleanValue.{clean_join, none_two, none_three, not_over, not_at, known_not}
 use Rattle.ln_parse.proofs.InputsThere.{at_place, every_at}
 use Rattle.ln_parse.proofs.ScopeNames.{type_there, param_there, any_found}
+use Rattle.ln_parse.proofs.Tests.{one_if}
 use Rattle.ln_parse.proofs.ValueBack.{any_map, new_behind}
 
 -- the items before a predicate declare all site types and params of the table, whose names differ
@@ -102,13 +104,6 @@ pub record ArgsBack (bytes : List ℕ) (is : List Item) (t : TableOf) (before ra
   pub named : map (λ (a : RawArg). text bytes a.name) raws ≡ map (arg_name t.params) xs
   pub clean : Clean bytes (visits_by (arg_visits is) before raws)
 
-map_push : (bytes : List ℕ) (before : List RawArg) (l : RawArg) → map (λ (a : RawArg). text bytes a.name) (before ++ (l ∷ [])) ≡ map (λ (a : RawArg). text bytes a.name) before ++ (text bytes l.name ∷ [])
-map_push bytes [] l = refl
-map_push bytes (b ∷ before) l = ap (λ (w : List (List ℕ)). text bytes b.name ∷ w) (map_push bytes before l)
-
-abbrev one_if : Bool → ℕ
-one_if v = cond v 1 0
-
 counted : (v : Bool) → v ≡ true → one_if v ≡ 1
 counted v h = rw h refl
 
@@ -122,7 +117,7 @@ args_back bytes is t d before (r ∷ raws) names (a ∷ xs) w o g bn df m n =
     let p = and_parts (is_one_of (length t.sites) (length t.params) a) (list_all (is_one_of (length t.sites) (length t.params)) xs) o in
     let b = arg_back bytes is t d r a w.0 p.0 g.0 in
     let nm = arg_name t.params a in
-    let bn2 : map (λ (a : RawArg). text bytes a.name) (before ++ (r ∷ [])) ≡ names ++ (nm ∷ []) = map_push bytes before r ∙ (let nn = b.named in rw (bn, nn) refl) in
+    let bn2 : map (λ (a : RawArg). text bytes a.name) (before ++ (r ∷ [])) ≡ names ++ (nm ∷ []) = map-append (λ (a : RawArg). text bytes a.name) before (r ∷ []) ∙ (let nn = b.named in rw (bn, nn) refl) in
     let df2 : Differ ((names ++ (nm ∷ [])) ++ map (arg_name t.params) xs) = subst (λ (w : List (List ℕ)). Differ w) (sym (append_assoc names (nm ∷ []) (map (arg_name t.params) xs))) df in
     let s1 = count_append is_site_arg before (r ∷ []) in
     let s2 = count_cons is_site_arg r [] in
@@ -137,7 +132,7 @@ args_back bytes is t d before (r ∷ raws) names (a ∷ xs) w o g bn df m n =
     let y = args_back bytes is t d (before ++ (r ∷ [])) raws (names ++ (nm ∷ [])) xs w.1 p.1 g.1 bn2 df2 (omega arith) (omega arith) in
     let k1 : list_any (λ (x : RawArg). bytes_eq (text bytes x.name) nm) before ≡ false = any_map (λ (a : RawArg). text bytes a.name) nm before ∙ ap (list_any (λ u. bytes_eq u nm)) bn ∙ new_behind names (map (arg_name t.params) xs) nm df in
     let k2 : list_any (λ (x : RawArg). same bytes x.name r.name) before ≡ false = subst (λ (z : List ℕ). list_any (λ (x : RawArg). bytes_eq (text bytes x.name) z) before ≡ false) (sym b.named) k1 in
-    let c1 = none_two (nat_lt 32 (length (text bytes r.name))) (list_any (λ (x : RawArg). same bytes x.name r.name) before) _ _ (not_over 32 _ b.short) k2 in
+    let c1 : fault_at bytes (ArgName before) r.name ≡ None = none_two (nat_lt 32 (length (text bytes r.name))) (list_any (λ (x : RawArg). same bytes x.name r.name) before) _ _ (not_over 32 _ b.short) k2 in
     let c2 = b.clean before r.is_param refl
         (λ z. let v : is_site_arg r ≡ true = ap not z in let u = counted (is_site_arg r) v in omega arith)
         (λ z. let u = counted (is_param_arg r) z in omega arith) in

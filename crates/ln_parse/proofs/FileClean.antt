@@ -1,10 +1,10 @@
 -- The items of a canonical text say the table's, and their tokens have no fault.
-use Rattle.std.proofs.Common.{◌≡◌, ℕ, zero, suc, ◌+◌, ◌<◌, ◌≤◌, ◌^◌, ◌==◌, ◌&&◌, ◌||◌, Bool, true, false, cond, nat_lt, List, [], ◌∷◌, ◌++◌, length, map, Some, None, refl, ap, sym, ◌∙◌, subst, arith, append_assoc, length-append}
+use Rattle.std.proofs.Common.{◌≡◌, ℕ, zero, suc, ◌+◌, ◌<◌, ◌≤◌, ◌^◌, ◌==◌, ◌&&◌, ◌||◌, Bool, true, false, cond, nat_lt, List, [], ◌∷◌, ◌++◌, length, map, Some, None, refl, ap, sym, ◌∙◌, subst, arith, append_assoc, append-nil, length-append}
 use Rattle.std.specs.Prelude.{ℤ, pos, neg_ℤ, negsuc, int_lt, unsigned_abs, ◌≤ℤ◌, bytes_eq, count_by}
 use Rattle.std.specs.List.{list_any}
 use Rattle.std.proofs.lemmas.Bool.Decides.{nat_tests}
 use Rattle.std.proofs.lemmas.Int.{ints}
-use Rattle.std.proofs.lemmas.List.{length-map}
+use Rattle.std.proofs.lemmas.List.{length-map, map-append}
 use Rattle.ln_base.specs.declared.span.Span.{Span}
 use Rattle.ln_lex.specs.declared.token.Token.{Token}
 use Rattle.ln_lex.specs.declared.token.Kind.TheVariants.{Sign}
@@ -13,6 +13,7 @@ use Rattle.ln_syntax.specs.declared.raw.RawCoord.{RawCoord}
 use Rattle.ln_syntax.specs.Raw.{Item, SiteItem, ParamItem, PredItem, item_name, is_site, is_param, is_pred, text, same}
 use Rattle.ln_syntax.specs.File as file
 use Rattle.ln_names.specs.Numbers.{number, signed, end_value, most_literal, most_end}
+use Rattle.ln_names.specs.Rules.{SiteName, ParamName, PredName, fault_at}
 use Rattle.ln_names.specs.Visits.{visits_by, range_visits, coord_visits, item_visits}
 use Rattle.ln_names.specs.First.{Clean}
 use Rattle.ln_tree.specs.Table.{CoordOf, SiteOf, PredOf, TableOf}
@@ -29,14 +30,12 @@ use Rattle.ln_parse.proofs.CleanValue.{clean_join, none_two, none_three, not_ove
 use Rattle.ln_parse.proofs.ValueBack.{any_map, new_behind}
 use Rattle.ln_parse.proofs.ArgsBack.{Declared}
 use Rattle.ln_parse.proofs.PredBack.{pred_back}
+use Rattle.ln_parse.proofs.Tests.{in_order, one_if}
 use Rattle.ln_parse.proofs.WholeParts.{InRange, SiteParts, PredParts}
 
 in_end : (b : Bool) (n : ℕ) → unsigned_abs (signed b n) < 2 ^ 63 → n < 2 ^ 63
 in_end true n h = grind (arith, nat_tests, ints)
 in_end false n h = grind (arith, nat_tests, ints)
-
-no_less : (x y : ℤ) → x ≤ℤ y → int_lt y x ≡ false
-no_less x y h = grind (arith, nat_tests, ints)
 
 -- a range within the limits has no fault
 range_clean : (bytes : List ℕ) (name : Span) (r : RawRange) (c : CoordOf) → ranged bytes name r ≡ c → InRange c → Clean bytes (range_visits r)
@@ -45,7 +44,7 @@ range_clean bytes name r c e h =
     let u : end_value bytes r.high ≡ c.hi = ap (λ (x : CoordOf). x.hi) e in
     let a : number bytes r.low.at < 2 ^ 63 = in_end r.low.negative (number bytes r.low.at) (rw l h.low) in
     let b : number bytes r.high.at < 2 ^ 63 = in_end r.high.negative (number bytes r.high.at) (rw u h.high) in
-    let o : int_lt (end_value bytes r.high) (end_value bytes r.low) ≡ false = no_less (end_value bytes r.low) (end_value bytes r.high) (rw (l, u) h.order) in
+    let o : int_lt (end_value bytes r.high) (end_value bytes r.low) ≡ false = in_order (end_value bytes r.low) (end_value bytes r.high) (rw (l, u) h.order) in
     let x : (nat_lt most_end (number bytes r.low.at) || false) ≡ false = rw (not_over most_end (number bytes r.low.at) (omega arith)) refl in
     let y : (nat_lt most_end (number bytes r.high.at) || int_lt (end_value bytes r.high) (end_value bytes r.low)) ≡ false = rw (not_over most_end (number bytes r.high.at) (omega arith), o) refl in (
       none_two (nat_lt most_literal (number bytes r.low.at)) (nat_lt most_end (number bytes r.low.at) || false) _ _ (not_over most_literal _ (omega arith)) x,
@@ -58,10 +57,6 @@ coord_name bytes c = text bytes c.name
 abbrev of_coord : List ℕ → RawCoord → CoordOf
 of_coord bytes c = ranged bytes c.name c.range
 
-coord_push : (bytes : List ℕ) (before : List RawCoord) (l : RawCoord) → map (coord_name bytes) (before ++ (l ∷ [])) ≡ map (coord_name bytes) before ++ (text bytes l.name ∷ [])
-coord_push bytes [] l = refl
-coord_push bytes (b ∷ before) l = ap (λ (w : List (List ℕ)). text bytes b.name ∷ w) (coord_push bytes before l)
-
 coords_clean : (bytes : List ℕ) (before raws : List RawCoord) (names : List (List ℕ)) (cs : List CoordOf) → map (of_coord bytes) raws ≡ cs → Every InRange cs → Every (λ c. IsShortName c.name) cs → map (coord_name bytes) before ≡ names
     → Differ (names ++ map (λ (c : CoordOf). c.name) cs) → length names + length cs ≤ 32 → Clean bytes (visits_by coord_visits before raws)
 coords_clean bytes before [] names cs e r s bn df l = tt
@@ -70,7 +65,7 @@ coords_clean bytes before (x ∷ raws) names (c ∷ cs) e r s bn df l =
     let e1 : of_coord bytes x ≡ c = cc in
     let e2 : map (of_coord bytes) raws ≡ cs = cc in
     let n : text bytes x.name ≡ c.name = ap (λ (w : CoordOf). w.name) e1 in
-    let bn2 : map (coord_name bytes) (before ++ (x ∷ [])) ≡ names ++ (c.name ∷ []) = coord_push bytes before x ∙ rw (bn, n) refl in
+    let bn2 : map (coord_name bytes) (before ++ (x ∷ [])) ≡ names ++ (c.name ∷ []) = map-append (coord_name bytes) before (x ∷ []) ∙ rw (bn, n) refl in
     let df2 : Differ ((names ++ (c.name ∷ [])) ++ map (λ (c : CoordOf). c.name) cs) = subst (λ (w : List (List ℕ)). Differ w) (sym (append_assoc names (c.name ∷ []) (map (λ (c : CoordOf). c.name) cs))) df in
     let l2 = length-append names (c.name ∷ []) in
     let lb : length before ≡ length names = sym (length-map before (coord_name bytes)) ∙ ap (λ (w : List (List ℕ)). length w) bn in
@@ -82,10 +77,6 @@ coords_clean bytes before (x ∷ raws) names (c ∷ cs) e r s bn df l =
 
 abbrev name_of : List ℕ → Item → List ℕ
 name_of bytes i = text bytes (item_name i)
-
-item_push : (bytes : List ℕ) (before : List Item) (x : Item) → map (name_of bytes) (before ++ (x ∷ [])) ≡ map (name_of bytes) before ++ (name_of bytes x ∷ [])
-item_push bytes [] x = refl
-item_push bytes (b ∷ before) x = ap (λ (w : List (List ℕ)). name_of bytes b ∷ w) (item_push bytes before x)
 
 -- an item's name is none of those before it
 item_new : (bytes : List ℕ) (before : List Item) (x : Item) (names more : List (List ℕ)) (n : List ℕ) → map (name_of bytes) before ≡ names → name_of bytes x ≡ n → Differ (names ++ (n ∷ more)) → list_any (λ i. same bytes (item_name i) (item_name x)) before ≡ false
@@ -118,13 +109,6 @@ pub record ItemsDone (bytes : List ℕ) (ts : List Token) (t : TableOf) (before 
   pub same : map pred_spanless preds ≡ map pred_spanless ps
   pub clean : Clean bytes (visits_by (item_visits ts) before is)
 
-nil_right : {A : Type 0} (xs : List A) → xs ++ [] ≡ xs
-nil_right [] = refl
-nil_right (x ∷ xs) = ap (λ w. x ∷ w) (nil_right xs)
-
-abbrev one_if : Bool → ℕ
-one_if v = cond v 1 0
-
 pushed : {A : Type 0} (p : A → Bool) (before : List A) (x : A) (b : Bool) → p x ≡ b → count_by p (before ++ (x ∷ [])) ≡ count_by p before + one_if b
 pushed p before x b h =
     let a1 = count_append p before (x ∷ []) in
@@ -140,7 +124,7 @@ push bytes t before names more n x a b c ss cs ps ss' cs' ps' e f g i j k s p m 
     let a1 = pushed is_site before x a e in let b1 = pushed is_param before x b f in let c1 = pushed is_pred before x c g in
     let a2 = h.few_sites in let b2 = h.few_params in let c2 = h.few_preds in
     record {
-      named = item_push bytes before x ∙ (let nn = h.named in rw (nn, m) refl);
+      named = map-append (name_of bytes) before (x ∷ []) ∙ (let nn = h.named in rw (nn, m) refl);
       differ = subst (λ (w : List (List ℕ)). Differ w) (sym (append_assoc names (n ∷ []) more)) h.differ;
       few_sites = omega arith;
       few_params = omega arith;
@@ -160,8 +144,8 @@ preds_done bytes ts t fa before (file.an_item (file.param a c e f g) r) names (p
 preds_done bytes ts t fa before (file.an_item (file.predicate a1 a2 a3 a4 a5 a6 a7 a8 a9 b1 b2) r) names [] w k h b = absurd w
 preds_done bytes ts t fa before (file.an_item {x = x} {xs = xs} (file.predicate {i = i} {k = kk} {l = l} {args = raws} {ls = ls} a1 a2 a3 a4 a5 a6 a7 a8 a9 b1 b2) r) names (p ∷ ps) w k h b =
     let d : Declared bytes before t = record {
-      sites = sym (nil_right (sites_said bytes before)) ∙ b.sites;
-      params = sym (nil_right (params_said bytes before)) ∙ b.params;
+      sites = sym (append-nil (sites_said bytes before)) ∙ b.sites;
+      params = sym (append-nil (params_said bytes before)) ∙ b.params;
       site_names = fa.site_names;
       param_names = fa.param_names;
       short_sites = fa.short_sites;
@@ -173,7 +157,7 @@ preds_done bytes ts t fa before (file.an_item {x = x} {xs = xs} (file.predicate 
     let y = preds_done bytes ts t fa (before ++ (x ∷ [])) r (names ++ (p.name ∷ [])) ps w.1 k.1 h.1 bb in
     let few = b.few_preds in
     let sh : length (name_of bytes x) ≤ 32 = subst (λ (z : List ℕ). length z ≤ 32) (sym n) k.0.name.1 in
-    let c = none_three (nat_lt 32 (length (name_of bytes x))) (count_by is_pred before == 16) (list_any (λ i. same bytes (item_name i) (item_name x)) before) _ _ _ (not_over 32 _ sh) (not_at (count_by is_pred before) 16 (omega arith))
+    let c : fault_at bytes (PredName before) (item_name x) ≡ None = none_three (nat_lt 32 (length (name_of bytes x))) (count_by is_pred before == 16) (list_any (λ i. same bytes (item_name i) (item_name x)) before) _ _ _ (not_over 32 _ sh) (not_at (count_by is_pred before) 16 (omega arith))
         (item_new bytes before x names (map (λ (q : PredOf). q.name) ps) p.name b.named n b.differ) in
     record {
       preds = q.pred ∷ y.preds;
@@ -195,7 +179,7 @@ params_done bytes ts t fa before (file.an_item {x = x} {xs = xs} (file.param {r 
     let y = params_done bytes ts t fa (before ++ (x ∷ [])) r (names ++ (c.name ∷ [])) cs ps w.1 r0.1 s0.1 k h bb in
     let few = b.few_params in
     let sh : length (name_of bytes x) ≤ 32 = subst (λ (z : List ℕ). length z ≤ 32) (sym n) s0.0.1 in
-    let cl = none_three (nat_lt 32 (length (name_of bytes x))) (count_by is_param before == 16) (list_any (λ i. same bytes (item_name i) (item_name x)) before) _ _ _ (not_over 32 _ sh) (not_at (count_by is_param before) 16 (omega arith))
+    let cl : fault_at bytes (ParamName before) (item_name x) ≡ None = none_three (nat_lt 32 (length (name_of bytes x))) (count_by is_param before == 16) (list_any (λ i. same bytes (item_name i) (item_name x)) before) _ _ _ (not_over 32 _ sh) (not_at (count_by is_param before) 16 (omega arith))
         (item_new bytes before x names more c.name b.named n b.differ) in
     record { preds = y.preds; say = y.say; same = y.same; clean = (cl, clean_join bytes (range_visits rr) _ (range_clean bytes (item_name x) rr c w.0 r0.0) y.clean) }
 
@@ -215,7 +199,7 @@ sites_done bytes ts t fa before (file.an_item {x = x} {xs = xs} (file.site {c = 
     let few = b.few_sites in
     let p1 = p0.0.few in
     let sh : length (name_of bytes x) ≤ 32 = subst (λ (z : List ℕ). length z ≤ 32) (sym n) n0.0.name.1 in
-    let cl = none_three (nat_lt 32 (length (name_of bytes x))) (count_by is_site before == 16) (list_any (λ i. same bytes (item_name i) (item_name x)) before) _ _ _ (not_over 32 _ sh) (not_at (count_by is_site before) 16 (omega arith))
+    let cl : fault_at bytes (SiteName before) (item_name x) ≡ None = none_three (nat_lt 32 (length (name_of bytes x))) (count_by is_site before == 16) (list_any (λ i. same bytes (item_name i) (item_name x)) before) _ _ _ (not_over 32 _ sh) (not_at (count_by is_site before) 16 (omega arith))
         (item_new bytes before x names more s.name b.named n b.differ) in
     let co = coords_clean bytes [] (rc ∷ rcs) [] s.coords w.1 p0.0.ranges n0.0.coords refl p0.0.differ (omega arith) in
     record { preds = y.preds; say = y.say; same = y.same; clean = (cl, clean_join bytes (visits_by coord_visits [] (rc ∷ rcs)) _ co y.clean) }

@@ -16,18 +16,13 @@ use Rattle.ln_tree.specs.Table.{CoordOf, SiteOf, ArgOf, SiteArg, ParamArg}
 use Rattle.ln_tree.specs.Whole.{site_vars, coords_or, param_vars, vars_behind, range_name}
 use Rattle.ln_parse.specs.ReadsBack.{Every}
 use Rattle.ln_parse.specs.WholeTable.{IsShortName, SiteNames, ArgNames}
-use Rattle.ln_parse.specs.Written.{Naming, input, written, IsNamed, coord_name}
+use Rattle.ln_parse.specs.Written.{Naming, input, written, IsNamed}
+use Rattle.ln_parse.proofs.Tests.{at_most, below, equal, neither, or_cases}
 
 -- argument d is a site whose type has coordinate c, or a param, where c is 0
 pub data InputThere (S : List SiteOf) (P : List CoordOf) (args : List ArgOf) (d c : ℕ) : Type 0 where
   of_site : (n : List ℕ) (t : ℕ) (s : SiteOf) (x : CoordOf) → slice_get args d ≡ Some (SiteArg n t) → slice_get S t ≡ Some s → slice_get s.coords c ≡ Some x → InputThere S P args d c
   of_param : (p : ℕ) (x : CoordOf) → slice_get args d ≡ Some (ParamArg p) → slice_get P p ≡ Some x → c ≡ 0 → InputThere S P args d c
-
-equal : (n m : ℕ) → (n == m) ≡ true → n ≡ m
-equal n m h = grind (arith, nat_tests)
-
-below : (n m : ℕ) → nat_lt n m ≡ true → n < m
-below n m h = grind (arith, nat_tests)
 
 pub at_place : {A : Type 0} (xs : List A) (j : ℕ) → j < length xs → (x : A) × (slice_get xs j ≡ Some x)
 at_place [] j h = absurd (omega arith)
@@ -41,10 +36,6 @@ record CoordThere (a k c m : ℕ) (xs : List CoordOf) : Type 0 where
   arg : a ≡ k
   coord : c ≡ m + d
   there : slice_get xs d ≡ Some x
-
-or_cases : {C : Type 0} (a b : Bool) → (a || b) ≡ true → (a ≡ true → C) → (b ≡ true → C) → C
-or_cases true b h f g = f refl
-or_cases false b h f g = g h
 
 coord_there : (a c k s m : ℕ) (xs : List CoordOf) → list_any (is_var a c) (site_vars k s m xs) ≡ true → CoordThere a k c m xs
 coord_there a c k s m [] h = absurd (cc)
@@ -97,10 +88,6 @@ var_there S P a c k s (ParamArg p ∷ args) h =
 none_from : {A : Type 0} (p : A → Bool) (k : ℕ) (xs : List A) → list_any p xs ≡ false → position_from p k xs ≡ None
 none_from p k [] h = refl
 none_from p k (x ∷ xs) h = let q = neither (p x) (list_any p xs) h in let r = none_from p (k + 1) xs q.1 in rw q.0 r
-  where
-    neither : (a b : Bool) → (a || b) ≡ false → (a ≡ false) × (b ≡ false)
-    neither true b h = absurd (cc)
-    neither false b h = (refl, h)
 
 -- where none passes there is no position
 pub no_place : {A : Type 0} (p : A → Bool) (xs : List A) → list_any p xs ≡ false → position p xs ≡ None
@@ -142,21 +129,15 @@ input_named n g d c (of_param p x e f z) =
     let a : IsShortName x.name = every_at (λ (y : CoordOf). IsShortName y.name) n.params p x g.params f in
     rw (e, f) a.0
 
-literal_small : (c : ℤ) → (not (int_lt c (pos 0)) && int_lt c (pos (2 ^ 127))) ≡ true → (pos (unsigned_abs c) ≡ c) × (unsigned_abs c < 2 ^ 127)
-literal_small c h = let p = and_parts (not (int_lt c (pos 0))) (int_lt c (pos (2 ^ 127))) h in (same c p.0, low c p.0 p.1)
-  where
-    same : (c : ℤ) → not (int_lt c (pos 0)) ≡ true → pos (unsigned_abs c) ≡ c
-    same c h = grind (arith, nat_tests, ints)
+literal_same : (c : ℤ) → not (int_lt c (pos 0)) ≡ true → pos (unsigned_abs c) ≡ c
+literal_same c h = grind (arith, nat_tests, ints)
 
-    low : (c : ℤ) → not (int_lt c (pos 0)) ≡ true → int_lt c (pos (2 ^ 127)) ≡ true → unsigned_abs c < 2 ^ 127
-    low c h l = grind (arith, nat_tests, ints)
+literal_low : (c : ℤ) → not (int_lt c (pos 0)) ≡ true → int_lt c (pos (2 ^ 127)) ≡ true → unsigned_abs c < 2 ^ 127
+literal_low c h l = grind (arith, nat_tests, ints)
 
 -- a literal is what its digits say, and below 2^127
 pub literal : (c : ℤ) → (not (int_lt c (pos 0)) && int_lt c (pos (2 ^ 127))) ≡ true → (pos (unsigned_abs c) ≡ c) × (unsigned_abs c < 2 ^ 127)
-literal c h = literal_small c h
-
-pub at_most : (n m : ℕ) → nat_le n m ≡ true → n ≤ m
-at_most n m h = grind (arith, nat_tests)
+literal c h = let p = and_parts (not (int_lt c (pos 0))) (int_lt c (pos (2 ^ 127))) h in (literal_same c p.0, literal_low c p.0 p.1)
 
 -- the names of a fit expression are NAMEs, and its numbers short
 pub named : (n : Naming) → NamesGood n → (vars : List VarInfo) (j : ℕ) → vars ≡ vars_behind n.sites n.params 0 0 n.args → j ≤ length n.lets → (f : Formula) → is_fit (length vars) j (tree vars f) ≡ true → IsNamed (written n f)

@@ -21,6 +21,7 @@ pub mod Readiness
 pub mod Kept
 pub mod Loops
 pub mod OneAnswer
+pub mod Tests
 pub mod WholeParts
 pub mod InputsThere
 pub mod ScopeNames

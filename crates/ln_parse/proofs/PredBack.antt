@@ -1,5 +1,5 @@
 -- A predicate of a canonical text says that of the table, and its tokens have no fault.
-use Rattle.std.proofs.Common.{◌≡◌, ℕ, zero, suc, ◌+◌, ◌<◌, ◌≤◌, true, false, List, [], ◌∷◌, ◌++◌, length, map, refl, ap, sym, ◌∙◌, subst, arith}
+use Rattle.std.proofs.Common.{◌≡◌, ℕ, zero, suc, ◌+◌, ◌<◌, ◌≤◌, true, false, List, [], ◌∷◌, ◌++◌, length, map, refl, ap, sym, ◌∙◌, subst, arith, append-nil}
 use Rattle.std.specs.Prelude.{count_by}
 use Rattle.ln_base.specs.declared.span.Span.{Span}
 use Rattle.ln_lex.specs.declared.token.Token.{Token}
@@ -57,7 +57,7 @@ pred_back bytes ts is t d sp name raws ls root dl fr p w k h =
     let z3 : nodes_before ts [] ≡ 0 = refl in
     let c1 = k.few_lets in let c2 = k.as_many in let c3 = k.few_nodes in
     let l = lets_back bytes ts is raws t n refl refl g p.vars h.vars w.args_are d.sites d.site_names sp a.named dl [] [] p.let_names p.lets w.lets_are refl refl h.names tt k.let_names (omega arith) k.lets_fit (omega arith) in
-    let e0 : p.let_names ≡ p.let_names ++ [] = sym (nil p.let_names) in
+    let e0 : p.let_names ≡ p.let_names ++ [] = sym (append-nil p.let_names) in
     let v : InScope bytes (scope is raws ls) t n.args p.let_names [] = record {
       args = w.args_are;
       sites = d.sites;
@@ -86,7 +86,3 @@ pred_back bytes ts is t d sp name raws ls root dl fr p w k h =
           w.name_is refl (w.name_is ∙ sym h.shape_name) l.named l.same x.same;
       clean = clean_join bytes (visits_by (arg_visits is) [] raws) _ a.clean (clean_join bytes (visits_by (let_visits ts is raws) [] ls) _ l.clean (x.clean (nodes_before ts ls) (omega arith)));
     }
-  where
-    nil : (xs : List (List ℕ)) → xs ++ [] ≡ xs
-    nil [] = refl
-    nil (y ∷ xs) = ap (λ (w : List (List ℕ)). y ∷ w) (nil xs)

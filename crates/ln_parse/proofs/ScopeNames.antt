@@ -25,14 +25,10 @@ use Rattle.ln_parse.specs.Written.{Naming, Written, WName, WInput, input, writte
 use Rattle.ln_parse.proofs.NamePlaces.{NoneIs, Differ, not_there, same_bytes, place_of_name}
 use Rattle.ln_parse.proofs.Meaning.{arg_called, name_meaning, meaning}
 use Rattle.ln_parse.proofs.CleanValue.{Meant}
-use Rattle.ln_parse.proofs.InputsThere.{InputThere, of_site, of_param, input_there, every_at, at_place, no_place, NamesGood, literal, at_most}
+use Rattle.ln_parse.proofs.InputsThere.{InputThere, of_site, of_param, input_there, every_at, at_place, no_place, NamesGood, literal}
+use Rattle.ln_parse.proofs.Found.{get_longer}
+use Rattle.ln_parse.proofs.Tests.{at_most, get_map}
 use Rattle.ln_parse.proofs.WholeParts.{SiteParts}
-
--- what stands in a list stands in its image
-get_map : {A B : Type 0} (f : A → B) (xs : List A) (k : ℕ) (x : A) → slice_get xs k ≡ Some x → slice_get (map f xs) k ≡ Some (f x)
-get_map f [] k x h = absurd (cc)
-get_map f (y ∷ xs) zero x h = let q : y ≡ x = cc in ap (λ w. Some (f w)) q
-get_map f (y ∷ xs) (suc k) x h = get_map f xs k x h
 
 -- names that differ from a list's differ from its parts'
 none_left : (t : List ℕ) (us vs : List (List ℕ)) → NoneIs t (us ++ vs) → NoneIs t us
@@ -178,16 +174,11 @@ record Reads (bytes : List ℕ) (s : Scope) (w : Written) (f : Formula) : Type 0
   says : meaning bytes s w ≡ f
   meant : Meant bytes s w
 
-slice_longer : {A : Type 0} (xs ys : List A) (j : ℕ) (x : A) → slice_get xs j ≡ Some x → slice_get (xs ++ ys) j ≡ Some x
-slice_longer [] ys j x h = absurd (cc)
-slice_longer (y ∷ xs) ys zero x h = h
-slice_longer (y ∷ xs) ys (suc j) x h = slice_longer xs ys j x h
-
 let_reads : (bytes : List ℕ) (s : Scope) (t : TableOf) (args : List ArgOf) (names more : List (List ℕ)) → InScope bytes s t args names more → Every IsShortName names → (j : ℕ) → j < length names
     → Reads bytes s (WName (unwrap_or (slice_get (names ++ more) j) [])) (FName no_span j)
 let_reads bytes s t args names more c g j l =
     let e = at_place names j l in
-    let u = slice_longer names more j e.0 e.1 in
+    let u = get_longer names more j e.0 e.1 in
     let d : Differ (map (λ (l : RawLet). text bytes l.name) s.lets) = subst (λ (w : List (List ℕ)). Differ w) (sym c.lets) (differ_left names more (differ_right (map (arg_name t.params) args) (names ++ more) c.differ)) in
     let v : slice_get (map (λ (l : RawLet). text bytes l.name) s.lets) j ≡ Some e.0 = ap (λ (w : List (List ℕ)). slice_get w j) c.lets ∙ e.1 in
     let p = place_of_name (λ (l : RawLet). text bytes l.name) s.lets j e.0 d v in
@@ -201,7 +192,8 @@ site_called bytes t n k r h = ap not h.0
 param_called : (bytes : List ℕ) (t : TableOf) (p : ℕ) (r : RawArg) → ArgWritten bytes t r (ParamArg p) → is_param_arg r ≡ true
 param_called bytes t p r h = h.0
 
-coord_map : (bytes : List ℕ) (raws : List RawCoord) → map (λ (x : CoordOf). x.name) (map (λ (c : RawCoord). ranged bytes c.name c.range) raws) ≡ map (λ (c : RawCoord). text bytes c.name) raws
+-- the names of coordinates
+pub coord_map : (bytes : List ℕ) (raws : List RawCoord) → map (λ (x : CoordOf). x.name) (map (λ (c : RawCoord). ranged bytes c.name c.range) raws) ≡ map (λ (c : RawCoord). text bytes c.name) raws
 coord_map bytes [] = refl
 coord_map bytes (c ∷ raws) = ap (λ (w : List (List ℕ)). text bytes c.name ∷ w) (coord_map bytes raws)
 

@@ -22,12 +22,7 @@ use Rattle.ln_tree.specs.Table.{coord_of, site_of, param_of, arg_of, pred_of, ta
 use Rattle.ln_tree.specs.Whole.{is_whole}
 use Rattle.ln_parse.specs.ReadsBack.{Every}
 use Rattle.ln_parse.specs.WholeTable.{IsShortName, SiteNames, ArgNames, PredKept, IsWhole}
-
-at_most : (n m : ℕ) → nat_le n m ≡ true → n ≤ m
-at_most n m h = grind (arith, nat_tests)
-
-equal : (n m : ℕ) → (n == m) ≡ true → n ≡ m
-equal n m h = grind (arith, nat_tests)
+use Rattle.ln_parse.proofs.Tests.{at_most, equal}
 
 taken : (n : ℕ) (xs : List ℕ) → length (take n xs) ≤ n
 taken n xs = omega (arith, length-take n xs)

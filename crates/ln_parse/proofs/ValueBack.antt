@@ -3,7 +3,7 @@ use Rattle.std.proofs.Common.{◌≡◌, ℕ, zero, suc, ◌+◌, ◌-◌, ◌<�
 use Rattle.std.specs.Prelude.{slice_get, position, unwrap_or, bytes_eq, count_by, find}
 use Rattle.std.specs.List.{list_any, list_all, position_from}
 use Rattle.std.proofs.lemmas.Bool.{and_parts, or_left, or_right, ltb-true}
-use Rattle.std.proofs.lemmas.List.{length-map}
+use Rattle.std.proofs.lemmas.List.{length-map, map-append}
 use Rattle.std.proofs.lemmas.List.Folds.{list_any-append}
 use Rattle.std.proofs.lemmas.List.Sums.{sum_by-append, sum_by-cons}
 use Rattle.std.proofs.lemmas.Iterator.Adapters.{position_from-zero}
@@ -36,6 +36,7 @@ use Rattle.ln_parse.proofs.Meaning.{meaning, meaning_is}
 use Rattle.ln_parse.proofs.CleanValue.{Meant, value_clean, clean_join, none_two, none_three, not_over, not_at, known_not}
 use Rattle.ln_parse.proofs.InputsThere.{NamesGood, at_place, every_at}
 use Rattle.ln_parse.proofs.ScopeNames.{InScope, means, type_there, param_there, any_found, flip}
+use Rattle.ln_parse.proofs.Tests.{neither}
 use Rattle.ln_parse.proofs.WholeParts.{SiteParts}
 
 -- spans count for nothing
@@ -90,10 +91,6 @@ pub new_behind : (us vs : List (List ℕ)) (t : List ℕ) → Differ (us ++ (t �
 new_behind [] vs t h = refl
 new_behind (u ∷ us) vs t h = let a = member u t us vs h.0 in let b = new_behind us vs t h.1 in rw (a, b) refl
 
-neither : (a b : Bool) → (a || b) ≡ false → (a ≡ false) × (b ≡ false)
-neither true b h = absurd (cc)
-neither false b h = (refl, h)
-
 -- lets that are written so say the formulas
 pub record LetsBack (bytes : List ℕ) (ts : List Token) (is : List Item) (raws : List RawArg) (before ls : List RawLet) (us all : List (List ℕ)) (es : List Formula) : Type 0 where
   pub formulas : List Formula
@@ -106,10 +103,6 @@ pub record LetsBack (bytes : List ℕ) (ts : List Token) (is : List Item) (raws 
 
 abbrev let_name : List ℕ → RawLet → List ℕ
 let_name bytes l = text bytes l.name
-
-map_push : (bytes : List ℕ) (before : List RawLet) (l : RawLet) → map (let_name bytes) (before ++ (l ∷ [])) ≡ map (let_name bytes) before ++ (text bytes l.name ∷ [])
-map_push bytes [] l = refl
-map_push bytes (b ∷ before) l = ap (λ (w : List (List ℕ)). text bytes b.name ∷ w) (map_push bytes before l)
 
 every_push : (us : List (List ℕ)) (t : List ℕ) → Every IsShortName us → IsShortName t → Every IsShortName (us ++ (t ∷ []))
 every_push [] t e h = (h, tt)
@@ -135,7 +128,7 @@ lets_back bytes ts is raws t n es' ep g vars q aw ss sn sp an (a_let {i = i} {j 
     let a1 : (names ++ (u ∷ [])) ++ us ≡ names ++ (u ∷ us) = append_assoc names (u ∷ []) us in
     let a2 : length (names ++ (u ∷ [])) ≡ suc (length names) = length-append names (u ∷ []) ∙ (omega arith) in
     let a3 : nodes_before ts (before ++ (here ∷ [])) ≡ nodes_before ts before + (0 + value_nodes ts here.value) = sum_by-append (λ (m : RawLet). value_nodes ts m.value) before (here ∷ []) in
-    let bn2 : map (let_name bytes) (before ++ (here ∷ [])) ≡ names ++ (u ∷ []) = map_push bytes before here ∙ rw (bn, w.0) refl in
+    let bn2 : map (let_name bytes) (before ++ (here ∷ [])) ≡ names ++ (u ∷ []) = map-append (let_name bytes) before (here ∷ []) ∙ rw (bn, w.0) refl in
     let y = lets_back bytes ts is raws t n es' ep g vars q aw ss sn sp an r (before ++ (here ∷ [])) (names ++ (u ∷ [])) us fs w.2 (el ∙ sym a1) bn2
         (subst (λ (w : List (List ℕ)). Differ (map (arg_name t.params) n.args ++ w)) (sym a1) df) (every_push names u gn gu.0) gu.1 (omega arith) (subst (λ (m : ℕ). lets_fit (length vars) m (map (tree vars) fs) ≡ true) (sym a2) p.1) (omega arith) in
     let b1 : (before ++ (here ∷ [])) ++ ls ≡ before ++ (here ∷ ls) = append_assoc before (here ∷ []) ls in

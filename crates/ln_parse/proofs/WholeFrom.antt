@@ -7,7 +7,7 @@ use Rattle.std.specs.Cmp.{signed_Decides}
 use Rattle.std.proofs.lemmas.Bool.{and_parts, and_from, le-leb, lt-ltb, eq-eqb}
 use Rattle.std.proofs.lemmas.Bool.Decides.{nat_tests}
 use Rattle.std.proofs.lemmas.Int.{ints}
-use Rattle.std.proofs.lemmas.List.{length-map}
+use Rattle.std.proofs.lemmas.List.{length-map, map-append}
 use Rattle.std.proofs.lemmas.List.Folds.{list_any-append}
 use Rattle.std.proofs.lemmas.Slice.Eq.{bytes_eq-Decides}
 use Rattle.ln_base.specs.declared.span.Span.{Span}
@@ -40,7 +40,8 @@ use Rattle.ln_parse.proofs.FromTokens.{depth_step, expression_nests, expression_
 use Rattle.ln_parse.proofs.Kept.{sees, sites_are, declared}
 use Rattle.ln_parse.proofs.LaidOut.{count_cons}
 use Rattle.ln_parse.proofs.NamePlaces.{NoneIs, Differ}
-use Rattle.ln_parse.proofs.ScopeNames.{flip}
+use Rattle.ln_parse.proofs.ScopeNames.{flip, coord_map}
+use Rattle.ln_parse.proofs.Tests.{in_order, neither, or_false, get_map}
 use Rattle.ln_parse.proofs.ValueBack.{any_map}
 
 -- names that differ, as a test
@@ -51,10 +52,6 @@ none_test t (u ∷ us) h = let q = none_test t us h.1 in rw h.0 q
 pub differ_test : (us : List (List ℕ)) → Differ us → differ us ≡ true
 differ_test [] h = refl
 differ_test (u ∷ us) h = and_from (is_new u us) (differ us) (none_test u us h.0) (differ_test us h.1)
-
-neither : (a b : Bool) → (a || b) ≡ false → (a ≡ false) × (b ≡ false)
-neither true b h = absurd (cc)
-neither false b h = (refl, h)
 
 none_insert : (u t : List ℕ) (us vs : List (List ℕ)) → NoneIs u (us ++ vs) → bytes_eq u t ≡ false → NoneIs u (us ++ (t ∷ vs))
 none_insert u t [] vs h e = (e, h)
@@ -72,16 +69,12 @@ insert (u ∷ us) vs t d a b = let q = neither (bytes_eq u t) (list_any (λ w. b
 push : (us : List (List ℕ)) (t : List ℕ) → Differ us → list_any (λ u. bytes_eq u t) us ≡ false → Differ (us ++ (t ∷ []))
 push us t d a = insert us [] t (subst (λ (w : List (List ℕ)). Differ w) (sym (append-nil us)) d) a refl
 
-map_more : {A : Type 0} (f : A → List ℕ) (before : List A) (x : A) → map f (before ++ (x ∷ [])) ≡ map f before ++ (f x ∷ [])
-map_more f [] x = refl
-map_more f (b ∷ before) x = ap (λ (w : List (List ℕ)). f b ∷ w) (map_more f before x)
-
 -- names each of which is none of those before it differ
 each_differ : {A : Type 0} (name : A → List ℕ) (before xs : List A) → Differ (map name before) → Each (λ b x. list_any (λ d. bytes_eq (name d) (name x)) b ≡ false) before xs → Differ (map name (before ++ xs))
 each_differ name before [] d e = subst (λ w. Differ (map name w)) (sym (append-nil before)) d
 each_differ name before (x ∷ xs) d e =
     let n = push (map name before) (name x) d (sym (any_map name (name x) before) ∙ e.0) in
-    let r = each_differ name (before ++ (x ∷ [])) xs (subst (λ (w : List (List ℕ)). Differ w) (sym (map_more name before x)) n) e.1 in
+    let r = each_differ name (before ++ (x ∷ [])) xs (subst (λ (w : List (List ℕ)). Differ w) (sym (map-append name before (x ∷ []))) n) e.1 in
     subst (λ w. Differ (map name w)) (append_assoc before (x ∷ []) xs) r
 
 -- those of lets differ from given ones too
@@ -97,7 +90,7 @@ lets_differ bytes ts is raws before (x ∷ ls) d e =
     let a2 : list_any (λ u. bytes_eq u t) vs ≡ false = sym (any_map (λ (l : RawLet). text bytes l.name) t before) ∙ q.1 in
     let a3 : list_any (λ u. bytes_eq u t) (us ++ vs) ≡ false = list_any-append (λ u. bytes_eq u t) us vs ∙ rw (a1, a2) refl in
     let n : Differ ((us ++ vs) ++ (t ∷ [])) = push (us ++ vs) t d a3 in
-    let m : (us ++ vs) ++ (t ∷ []) ≡ us ++ map (λ (l : RawLet). text bytes l.name) (before ++ (x ∷ [])) = append_assoc us vs (t ∷ []) ∙ ap (λ w. us ++ w) (sym (map_more (λ (l : RawLet). text bytes l.name) before x)) in
+    let m : (us ++ vs) ++ (t ∷ []) ≡ us ++ map (λ (l : RawLet). text bytes l.name) (before ++ (x ∷ [])) = append_assoc us vs (t ∷ []) ∙ ap (λ w. us ++ w) (sym (map-append (λ (l : RawLet). text bytes l.name) before (x ∷ []))) in
     let r = lets_differ bytes ts is raws (before ++ (x ∷ [])) ls (subst (λ (w : List (List ℕ)). Differ w) m n) e.1 in
     subst (λ w. Differ (us ++ map (λ (l : RawLet). text bytes l.name) w)) (append_assoc before (x ∷ []) ls) r
 
@@ -109,9 +102,6 @@ range_low true n h = grind (arith, nat_tests, ints)
 range_high : (b : Bool) (n : ℕ) → n < 2 ^ 63 → int_lt (signed b n) (pos (2 ^ 63)) ≡ true
 range_high false n h = grind (arith, nat_tests, ints)
 range_high true n h = grind (arith, nat_tests, ints)
-
-in_order : (x y : ℤ) → x ≤ℤ y → int_lt y x ≡ false
-in_order x y h = grind (arith, nat_tests, ints)
 
 range_whole : (bytes : List ℕ) (name : Span) (r : RawRange) → RangeWithin bytes r → is_range (ranged bytes name r) ≡ true
 range_whole bytes name r w =
@@ -129,10 +119,6 @@ args_new : (bytes : List ℕ) (is : List Item) (before cs : List RawArg) → Eac
 args_new bytes is before [] e = tt
 args_new bytes is before (c ∷ cs) e = (e.0.new, args_new bytes is (before ++ (c ∷ [])) cs e.1)
 
-coord_names : (bytes : List ℕ) (cs : List RawCoord) → map (λ (c : CoordOf). c.name) (map (λ (c : RawCoord). ranged bytes c.name c.range) cs) ≡ map (λ (c : RawCoord). text bytes c.name) cs
-coord_names bytes [] = refl
-coord_names bytes (c ∷ cs) = ap (λ (w : List (List ℕ)). text bytes c.name ∷ w) (coord_names bytes cs)
-
 -- a site type
 site_from : (bytes : List ℕ) (n : Span) (cs : List RawCoord) → ReadySite bytes n cs → Each (CoordWithin bytes) [] cs → site_whole (record { name = text bytes n; coords = map (λ (c : RawCoord). ranged bytes c.name c.range) cs }) ≡ true
 site_from bytes n cs r e =
@@ -141,7 +127,7 @@ site_from bytes n cs r e =
     let a = r.some in let b = r.few in
     let d : Differ (map (λ (c : RawCoord). text bytes c.name) cs) = each_differ (λ (c : RawCoord). text bytes c.name) [] cs tt (coords_new bytes [] cs e) in
     and_from _ _ (and_from _ _ (and_from _ _ (lt-ltb 0 (length xs) (omega arith)) (le-leb (length xs) 32 (omega arith))) (coords_whole bytes [] cs e))
-    (differ_test (map (λ (c : CoordOf). c.name) xs) (subst (λ (w : List (List ℕ)). Differ w) (sym (coord_names bytes cs)) d))
+    (differ_test (map (λ (c : CoordOf). c.name) xs) (subst (λ (w : List (List ℕ)). Differ w) (sym (coord_map bytes cs)) d))
 
 -- the same variables
 same_site_self : (o : Option ℕ) → same_site o o ≡ true
@@ -162,11 +148,6 @@ params_named bytes [] = refl
 params_named bytes (SiteItem n cs ∷ is) = params_named bytes is
 params_named bytes (ParamItem n r ∷ is) = ap (λ (w : List (List ℕ)). text bytes n ∷ w) (params_named bytes is)
 params_named bytes (PredItem n as' ls p ∷ is) = params_named bytes is
-
-get_map : {A B : Type 0} (f : A → B) (xs : List A) (k : ℕ) (x : A) → slice_get xs k ≡ Some x → slice_get (map f xs) k ≡ Some (f x)
-get_map f [] k x h = absurd (cc)
-get_map f (y ∷ xs) zero x h = let q : y ≡ x = cc in ap (λ w. Some (f w)) q
-get_map f (y ∷ xs) (suc k) x h = get_map f xs k x h
 
 get_back : {A B : Type 0} (f : A → B) (xs : List A) (k : ℕ) (y : B) → slice_get (map f xs) k ≡ Some y → (x : A) × (slice_get xs k ≡ Some x) × (f x ≡ y)
 get_back f [] k y h = absurd (cc)
@@ -222,7 +203,6 @@ value_whole bytes ts is raws ls p x h s v e =
     let q : resolved bytes (scope is raws ls) v.tree ≡ x = ap (resolved bytes (scope is raws ls)) (sym t) ∙ s.means in
     let a = expression_nests bytes (scope is raws ls) h s.derives e in
     let b = expression_tokens bytes is raws ls v.derives v.fit in
-    let m = (one_tree s.derives s.ends v.derives v.ends) in
     record { back = a.0; deep = subst (λ (w : Formula). nesting 0 w ≤ 64) s.means a.1; tokens = subst (λ (w : Formula). p.from + tokens_of (said bytes is raws) 0 w ≤ p.to) q b }
 
 -- the same of lets
@@ -334,10 +314,6 @@ pred_from bytes ts is t h d p (file.predicate {i = i} {j = j} {k = k} {l = l} {a
     vars_same : (a b : List VarInfo) → a ≡ b → same_vars a b ≡ true
     vars_same a b h = rw h (vars_self b)
 
--- a site type or param
-ranged_count : (c : CoordOf) → range_tokens c ≡ 4 + (end_tokens c.lo + end_tokens c.hi)
-ranged_count c = refl
-
 -- what is whole from place i on
 record ItemsWhole (bytes : List ℕ) (t : TableOf) (i k : ℕ) (is : List Item) (ps : List PredOf) : Type 0 where
   sites : list_all site_whole (sites_said bytes is) ≡ true
@@ -388,9 +364,6 @@ record Spread (bytes : List ℕ) (t : List ℕ) (is : List Item) : Type 0 where
   sites : list_any (λ u. bytes_eq u t) (site_texts bytes is) ≡ false
   params : list_any (λ u. bytes_eq u t) (param_texts bytes is) ≡ false
   preds : list_any (λ u. bytes_eq u t) (pred_texts bytes is) ≡ false
-
-or_false : (a b : Bool) → a ≡ false → b ≡ false → (a || b) ≡ false
-or_false a b h g = rw (h, g) refl
 
 spread : (bytes : List ℕ) (t : List ℕ) (is : List Item) → list_any (λ i. bytes_eq (text bytes (item_name i)) t) is ≡ false → Spread bytes t is
 spread bytes t [] h = record { sites = refl; params = refl; preds = refl }

@@ -1,0 +1,9 @@
+pub mod InputsLemmas
+pub mod CoefficientLemmas
+pub mod RowLemmas
+pub mod ListLemmas
+pub mod BlockLemmas
+pub mod AlongLemmas
+pub mod DueLemmas
+pub mod UniqueLemmas
+pub mod Composition

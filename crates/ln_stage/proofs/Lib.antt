@@ -1,0 +1,10 @@
+pub mod FoldLemmas
+pub mod LawLemmas
+pub mod MonomialLemmas
+pub mod PairsLemmas
+pub mod ResultLemmas
+pub mod StageLemmas
+pub mod StartLemmas
+pub mod StepLemmas
+pub mod TallyLemmas
+pub mod WalkLemmas

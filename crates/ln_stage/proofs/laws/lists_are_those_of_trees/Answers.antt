@@ -1,0 +1,5 @@
+use Rattle.ln_stage.proofs.LawLemmas.{lists-of-trees}
+use Rattle.ln_stage.proofs.laws.lists_are_those_of_trees.Goals as goal
+
+pub returns : goal.returns
+returns c = lists-of-trees

@@ -1,0 +1,5 @@
+pub mod Kept
+pub mod Lists
+pub mod StageList
+pub mod Staged
+pub mod Tally

@@ -1,0 +1,48 @@
+-- The stages of a predicate, as contracts see them.
+use Rattle.std.specs.Prelude.{◌≡◌, ◌≢◌, ℕ, ◌+◌, ◌<◌, All, List, [], ◌∷◌, length, map, slice_get, slice_index_or, Some}
+use Rattle.ln_tree.specs.declared.shape.VarInfo.{VarInfo}
+use Rattle.ln_tree.specs.Exps.{IsAbove, Pairs, vector}
+use Rattle.ln_order.specs.Orders.{orders_of}
+use Rattle.ln_poly.specs.Sparse.{Sparse}
+use Rattle.ln_stage.specs.Lists.{AreStageLists, Passes, first_seen}
+use Rattle.ln_stage.specs.declared.stop.StageStop.{StageStop}
+use Rattle.ln_stage.specs.declared.stop.StageStop.TheVariants.{Zero, Stages, NoMemory}
+
+-- the number of sites, the exponents of each block by number, and for each order of the sites the list of numbers
+pub record Staged : Type 0 where
+  pub sites : ℕ
+  pub exps : List Pairs
+  pub lists : List (List ℕ)
+
+-- how many numbers there are in all lists
+abbrev pub count_numbers : List (List ℕ) → ℕ
+count_numbers [] = 0
+count_numbers (list ∷ lists) = length list + count_numbers lists
+
+-- the exponent vector of block i
+abbrev pub block_vector : ℕ → List Pairs → ℕ → List ℕ
+block_vector n exps i = vector n (slice_index_or exps i [])
+
+-- the lists as lists of exponent vectors
+abbrev pub vectors_of : ℕ → Staged → List (List (List ℕ))
+vectors_of n st = map (λ list. map (block_vector n st.exps) list) st.lists
+
+-- these are the stages of f: for each order of the sites its stage list, and the blocks in order of first sight
+pub record AreStagesOf (k : ℕ) (vars : List VarInfo) (f : Sparse) (st : Staged) : Type 0 where
+  pub sites : st.sites ≡ k
+  pub lists : AreStageLists k vars f (vectors_of (length vars) st)
+  pub first_sight : map (vector (length vars)) st.exps ≡ first_seen (vectors_of (length vars) st)
+  pub below : All (λ e. IsAbove e (length vars)) st.exps
+  pub numbers : All (λ list. All (λ i. i < length st.exps) list) st.lists
+
+-- the list of an order of the sites, which stands at the place of the order among all
+pub record IsListOf (st : Staged) (sites numbers : List ℕ) : Type 0 where
+  pub place : ℕ
+  pub order : slice_get (orders_of st.sites) place ≡ Some sites
+  pub list : slice_get st.lists place ≡ Some numbers
+
+-- why there are no stages: f is 0, or it isn't and the stage count or the stage weight of its lists passes its limit; nothing is said of want of memory
+abbrev pub StopsListing : ℕ → List VarInfo → Sparse → ℕ → ℕ → StageStop → Type 0
+StopsListing k vars f most heavy Zero = f ≡ []
+StopsListing k vars f most heavy Stages = (f ≢ []) × ((lists : List (List (List ℕ))) × AreStageLists k vars f lists × Passes (length vars) f most heavy lists)
+StopsListing k vars f most heavy NoMemory = Unit {0}

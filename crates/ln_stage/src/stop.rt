@@ -1,0 +1,36 @@
+// Why a polynomial has no stages.
+use ln_base::NoMemory;
+use std::alloc::AllocFailed;
+
+/// Why a polynomial has no stages.
+#[derive(Clone, Copy, Debug, PartialEq, Eq)]
+pub enum StageStop {
+    /// The polynomial is 0, without any term.
+    Zero,
+    /// The stage count passes its limit, or the stage weight does.
+    Stages,
+    /// There was no memory.
+    NoMemory,
+}
+
+impl From<NoMemory> for StageStop {
+    ghost use Rattle.std.specs.Prelude.{◌≡◌};
+    ghost use Rattle.ln_stage.specs.declared.stop.StageStop.TheVariants.{NoMemory};
+
+    ghost from_gives = { λ _ e. e ≡ NoMemory };
+
+    fn from(_e: NoMemory) -> Self {
+        StageStop::NoMemory
+    }
+}
+
+impl<T: Drop> From<AllocFailed<T>> for StageStop {
+    ghost use Rattle.std.specs.Prelude.{◌≡◌};
+    ghost use Rattle.ln_stage.specs.declared.stop.StageStop.TheVariants.{NoMemory};
+
+    ghost from_gives = { λ _ e. e ≡ NoMemory };
+
+    fn from(_e: AllocFailed<T>) -> Self {
+        StageStop::NoMemory
+    }
+}
