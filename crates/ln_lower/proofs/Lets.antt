@@ -95,11 +95,12 @@ lets_land vars depth n done trees (t ∷ ts) l en e few d s k =
     })
 
 -- what is left of a block
-pub record BlockLands (vars : List VarInfo) (depth : ℕ) (is_node : Tree → Width → Type 0) (lines : List (Line ℕ)) (b : ℕ) (t : Tree) : Type 0 where
+pub record BlockLands (vars : List VarInfo) (depth : ℕ) (is_node : Tree → Width → Type 0) (lines : List (Line ℕ)) (b : ℕ) (t : Tree) (lets : List Typed) (trees : List Tree) : Type 0 where
   pub top : Known
   pub locals : ℕ → Option Known
   pub ends : run (rules vars depth) lines (record { stack = []; locals = no_locals }) ≡ Some (record { stack = top ∷ []; locals = locals })
   pub small : top.bound ≤ b
+  pub known : LetsKnown lets trees locals
   pub same : Same top.tree t
   pub each : PushNodes is_node (pushes (rules vars depth) lines (record { stack = []; locals = no_locals }))
 
@@ -108,7 +109,7 @@ no_lets l = record { each = λ j u e. cc; few = λ j u e. cc }
 
 -- the block of a tree with its lets
 pub block_lands : (vars : List VarInfo) (depth : ℕ) (lets : List Typed) (t : Typed) → length lets ≤ 64 → 2048 ≤ depth → AreSound vars [] lets → Sound vars lets t →
-    BlockLands vars depth (IsNodeOf lets t) (lowered_lets 0 lets ++ lowered t) (bound t) (inlined (inlined_after [] (map untyped lets)) (untyped t))
+    BlockLands vars depth (IsNodeOf lets t) (lowered_lets 0 lets ++ lowered t) (bound t) (inlined (inlined_after [] (map untyped lets)) (untyped t)) lets (inlined_after [] (map untyped lets))
 block_lands vars depth lets t few d s r =
     let trees : List Tree = inlined_after [] (map untyped lets) in
     let x = lets_land vars depth 0 [] [] lets no_locals refl refl (omega arith) d s (no_lets no_locals) in
@@ -120,6 +121,7 @@ block_lands vars depth lets t few d s r =
       locals = y.locals;
       ends = then_run vars depth (lowered_lets 0 lets) (lowered t) _ _ _ x.ends y.ends;
       small = y.small;
+      known = lets_kept lets trees x.locals y.locals x.known y.keeps;
       same = y.same;
       each = then_push vars depth (IsNodeOf lets t) (lowered_lets 0 lets) (lowered t) _ _ x.ends p q;
     }

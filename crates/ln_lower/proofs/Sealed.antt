@@ -1,8 +1,9 @@
 -- What the lowered block is.
 use Rattle.std.proofs.Common.{◌≡◌, ℕ, ℤ, ◌+◌, ◌*◌, ◌^◌, ◌≤◌, ◌<◌, List, [], ◌∷◌, ◌++◌, length, map, refl, zero, suc, ap, arith, ◌∙◌, sym, subst, get_or, length-append}
-use Rattle.std.specs.Prelude.{Some, All}
+use Rattle.std.specs.Prelude.{Option, Some, All, pos, slice_index_or}
 use Rattle.std.proofs.lemmas.List.{map-append}
-use Rattle.ln_algebra.specs.Tree.{Tree, inlined, inlined_after}
+use Rattle.ln_algebra.specs.Coefficient.{Series}
+use Rattle.ln_algebra.specs.Tree.{Num, Tree, inlined, inlined_after}
 use Rattle.ln_tree.specs.declared.shape.VarInfo.{VarInfo}
 use Rattle.ln_tree.specs.Row.{AreWithin}
 use Rattle.ln_bound.specs.declared.fitted.Fitted.{Fitted}
@@ -23,12 +24,14 @@ use Rattle.ln_code.specs.Part.{Code, lines_of, known_of, block_value}
 use Rattle.ln_code.specs.Kept.{FollowsRules, IsBlock, StoresHave}
 use Rattle.ln_code.proofs.Means.{blocks_mean}
 use Rattle.ln_lower.specs.declared.draft.Draft.{Draft}
-use Rattle.ln_lower.specs.Nodes.{IsNodeOf, PushNodes, pushed_by}
+use Rattle.ln_lower.specs.Nodes.{IsNodeOf, PushNodes, pushed_by, HasPolynomial, KeepsLets}
 use Rattle.ln_lower.specs.Lowered.{line, op_of, factors, power_of, powers, lowered, lowered_lets, ops_in, bounds_in, PowersFit}
 use Rattle.ln_lower.specs.Wrote.{Wrote}
 use Rattle.ln_lower.proofs.Same.{Same}
 use Rattle.ln_lower.proofs.Costs.{lowered_cost, lets_cost}
 use Rattle.ln_lower.proofs.Lets.{block_lands}
+use Rattle.ln_lower.proofs.Lands.{LetKnown, LetsKnown}
+use Rattle.ln_code.proofs.Calls.{there}
 use Rattle.ln_lower.proofs.Writes.{wrote_then}
 
 lines_back : (lines : List (Line ℕ)) → lines_of (ops_in lines) (bounds_in lines) ≡ lines
@@ -121,6 +124,15 @@ whole_value x lets t = value-inlined x (inlined_after [] lets) t ∙ ap (λ l. v
 
 -- ---- the block
 
+-- a let is in its local
+has_polynomial : (o : Option Known) (u : Typed) (e : Tree) → LetKnown o u e → HasPolynomial o e
+has_polynomial o u e k = rw k.there (λ m. ap (λ (f : Series). f m) k.same.series)
+
+lets_are_kept : (lets : List Typed) (trees : List Tree) (l : ℕ → Option Known) → LetsKnown lets trees l → (j : ℕ) → j < length lets → HasPolynomial (l j) (slice_index_or trees j (Num (pos 0)))
+lets_are_kept lets trees l k j h =
+    let d : Typed = TNum (pos 0) 0 W64 in
+    has_polynomial (l j) (get_or lets j d) (slice_index_or trees j (Num (pos 0))) (k.each j (get_or lets j d) (there lets j d h))
+
 pub record IsLowered (vars : List VarInfo) (code : Code) (t : Typed) (lets : List Typed) : Type 0 where
   pub block : IsBlock code
   pub rules : FollowsRules vars code
@@ -129,6 +141,7 @@ pub record IsLowered (vars : List VarInfo) (code : Code) (t : Typed) (lets : Lis
   pub small : top.bound ≤ bound t
   pub same : Same top.tree (inlined (inlined_after [] (map untyped lets)) (untyped t))
   pub each : PushNodes (IsNodeOf lets t) (pushed_by vars code)
+  pub locals : KeepsLets vars code lets
   pub few : length code.ops ≤ 4 * (cost t + costs lets) + 64
 
 lowered_is : (vars : List VarInfo) (code : Code) (t : Typed) (lets : List Typed) → length lets ≤ 64 → AreSound vars [] lets → Sound vars lets t → code.depth ≡ 2048 →
@@ -148,6 +161,7 @@ lowered_is vars code t lets few s r d o b =
       small = x.small;
       same = x.same;
       each = rw e x.each;
+      locals = rw (e, x.ends) (lets_are_kept lets (inlined_after [] (map untyped lets)) x.locals x.known);
       few = omega (arith, n, length-append (lowered_lets 0 lets) (lowered t), lowered_cost t, lets_cost 0 lets);
     }
 

@@ -1,5 +1,5 @@
 -- What a block of a tree pushes: polynomials of nodes of the tree and of its lets.
-use Rattle.std.specs.Prelude.{◌≡◌, ℕ, ◌≤◌, ◌⊎◌, List, [], ◌∷◌, ◌++◌, pos, map, slice_index_or}
+use Rattle.std.specs.Prelude.{◌≡◌, ℕ, ◌<◌, ◌≤◌, ◌⊎◌, List, [], ◌∷◌, ◌++◌, length, pos, map, slice_index_or, Option, Some, None}
 use Rattle.ln_algebra.specs.Tree.{Tree, Num, Input, Neg, Pow, inlined, inlined_after}
 use Rattle.ln_algebra.specs.Coefficient.{normal_coefficient}
 use Rattle.ln_tree.specs.declared.shape.VarInfo.{VarInfo}
@@ -7,6 +7,7 @@ use Rattle.ln_bound.specs.declared.fitted.Width.{Width}
 use Rattle.ln_bound.specs.Typed.{Typed, TNum, TInput, TLet, TNeg, TTwo, TPow, two_of, untyped}
 use Rattle.ln_code.specs.declared.op.Op.{Op}
 use Rattle.ln_code.specs.declared.op.Op.TheVariants.{Push, Input as InputOp, Get, Set, Add, Sub, Mul, Neg as NegOp, Cut}
+use Rattle.ln_code.specs.Engine.{State, run}
 use Rattle.ln_code.specs.Numbers.{no_locals}
 use Rattle.ln_code.specs.Rules.{Known, rules}
 use Rattle.ln_code.specs.Part.{Code, lines_of}
@@ -58,3 +59,17 @@ PushNodes is_node (p ∷ ps) = PushesNode is_node p × PushNodes is_node ps
 -- what a block pushes, by the rules
 abbrev pub pushed_by : List VarInfo → Code → List (Pushed Known)
 pushed_by vars c = pushes (rules vars c.depth) (lines_of c.ops c.bounds) (record { stack = []; locals = no_locals })
+
+-- there is a value, and it has the polynomial of e
+abbrev pub HasPolynomial : Option Known → Tree → Type 0
+HasPolynomial None e = ⊥
+HasPolynomial (Some k) e = (m : List ℕ) → normal_coefficient k.tree m ≡ normal_coefficient e m
+
+-- local j has it
+abbrev pub LocalHas : Option (State Known (ℕ → Option Known)) → ℕ → Tree → Type 0
+LocalHas None j e = ⊥
+LocalHas (Some s) j e = HasPolynomial (s.locals j) e
+
+-- behind all operations each let is in the local of its number
+abbrev pub KeepsLets : List VarInfo → Code → List Typed → Type 0
+KeepsLets vars c lets = (j : ℕ) → j < length lets → LocalHas (run (rules vars c.depth) (lines_of c.ops c.bounds) (record { stack = []; locals = no_locals })) j (slice_index_or (inlined_after [] (map untyped lets)) j (Num (pos 0)))

@@ -4,7 +4,10 @@
 //! operations push are polynomials of nodes of the tree and its lets, each computed in its node's width.
 #![tactic(auto)]
 
+pub mod blocks;
 pub(crate) mod draft;
-pub mod lower;
+
+pub use blocks::lower;
+
 #[cfg(test)]
 mod tests;

@@ -6,7 +6,7 @@ ghost use Rattle.ln_bound.specs.Typed.{TInput, TNum, TTwo};
 ghost use Rattle.ln_bound.specs.View.{typed};
 ghost use Rattle.ln_lower.specs.Worked.{coordinate, num_vars};
 
-use crate::lower::lower;
+use crate::blocks::lower;
 use ln_base::{NoMemory, Seq};
 use ln_bound::{FitOp, Fitted, Width};
 use ln_code::Block;

@@ -1,7 +1,7 @@
 use Rattle.std.proofs.Common.{◌≡◌, ◌+◌, ◌^◌}
 use Rattle.ln_lower.specs.Lowered.{factors}
 use Rattle.ln_lower.specs.Wrote.{Wrote}
-use Rattle.ln_lower.proofs.lower.put_factors.Given as goal
+use Rattle.ln_lower.proofs.blocks.put_factors.Given as goal
 
 abbrev pub invariant-factors : goal.invariant-factors
 invariant-factors l = record {

@@ -5,7 +5,7 @@ use Rattle.ln_bound.specs.Typed.{bound}
 use Rattle.ln_lower.specs.Lowered.{lowered, line, power_of, powers}
 use Rattle.ln_bound.proofs.Views.{bound_here}
 use Rattle.ln_lower.proofs.Writes.{ok_then, powers_more, wrote_then}
-use Rattle.ln_lower.proofs.lower.+put_tree.Goals as goal
+use Rattle.ln_lower.proofs.blocks.+put_tree.Goals as goal
 
 pub put_power-requires : goal.put_power-requires
 put_power-requires t c =

@@ -4,7 +4,7 @@ use Rattle.ln_algebra.specs.Coefficient.{Series}
 use Rattle.ln_bound.specs.View.{typed}
 use Rattle.ln_code.specs.Part.{Code}
 use Rattle.ln_lower.proofs.Sealed.{all_fit, root_fits, sealed, lowered_bound, lowered_same, lowered_value}
-use Rattle.ln_lower.proofs.lower.lower.Goals as goal
+use Rattle.ln_lower.proofs.blocks.lower.Goals as goal
 
 pub put_lets-requires-clause-powers : goal.put_lets-requires-clause-powers
 put_lets-requires-clause-powers c = rw c.as_slice.ensures (all_fit c.args.s.now.vars [] c.args.lets.now c.requires.lets)
@@ -41,6 +41,11 @@ pub returns-clause-nodes : goal.returns-clause-nodes
 returns-clause-nodes c =
     let x = sealed c.args.s.now.vars c.seal.result (typed c.args.t.now) (map typed c.args.lets.now) (record { ops = c.new.result; bounds = c.new-2.result }) c.put_lets.new.draft c.put_tree.new.draft (simp length-map c.requires.few) c.requires.lets c.requires.root c.new.ensures c.new-2.ensures (rw c.as_slice.ensures at c.in_ok-put_lets.ensures) c.in_ok-put_tree.ensures (ap (λ (k : Code). k.ops) c.seal.ensures) (ap (λ (k : Code). k.bounds) c.seal.ensures) (ap (λ (k : Code). k.depth) c.seal.ensures) in
     x.each
+
+pub returns-clause-locals : goal.returns-clause-locals
+returns-clause-locals c =
+    let x = sealed c.args.s.now.vars c.seal.result (typed c.args.t.now) (map typed c.args.lets.now) (record { ops = c.new.result; bounds = c.new-2.result }) c.put_lets.new.draft c.put_tree.new.draft (simp length-map c.requires.few) c.requires.lets c.requires.root c.new.ensures c.new-2.ensures (rw c.as_slice.ensures at c.in_ok-put_lets.ensures) c.in_ok-put_tree.ensures (ap (λ (k : Code). k.ops) c.seal.ensures) (ap (λ (k : Code). k.bounds) c.seal.ensures) (ap (λ (k : Code). k.depth) c.seal.ensures) in
+    x.locals
 
 pub returns-clause-small : goal.returns-clause-small
 returns-clause-small c =

@@ -1,7 +1,7 @@
 use Rattle.std.proofs.Common.{refl}
 use Rattle.ln_lower.proofs.Writes.{wrote_then}
 use Rattle.ln_lower.proofs.Lets.{lets_more}
-use Rattle.ln_lower.proofs.lower.put_lets.Goals as goal
+use Rattle.ln_lower.proofs.blocks.put_lets.Goals as goal
 
 pub lets-preserved : goal.lets-preserved
 lets-preserved c =

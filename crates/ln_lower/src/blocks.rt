@@ -10,7 +10,7 @@ ghost use Rattle.ln_bound.specs.View.{typed};
 ghost use Rattle.ln_code.specs.Rules.{Known};
 ghost use Rattle.ln_code.specs.Part.{block_value, known_of};
 ghost use Rattle.ln_code.specs.Kept.{AreOfSites, FollowsRules};
-ghost use Rattle.ln_lower.specs.Nodes.{IsNodeOf, PushNodes, pushed_by};
+ghost use Rattle.ln_lower.specs.Nodes.{IsNodeOf, KeepsLets, PushNodes, pushed_by};
 ghost use Rattle.ln_lower.specs.Lowered.{factors, lowered, lowered_lets, power_of, PowersFit};
 ghost use Rattle.ln_lower.specs.Wrote.{Wrote};
 
@@ -124,6 +124,7 @@ pub fn lower(
     ensures bound { IfOk result (λ b. (k : Known) → known_of s.now.vars b ≡ Some k → k.bound ≤ bound (typed t.now)) }
     ensures root { IfOk result (λ b. (k : Known) → known_of s.now.vars b ≡ Some k → (m : List ℕ) → normal_coefficient k.tree m ≡ polynomial (map typed lets.now) (typed t.now) m) }
     ensures nodes { IfOk result (λ b. PushNodes (IsNodeOf (map typed lets.now) (typed t.now)) (pushed_by s.now.vars b)) }
+    ensures locals { IfOk result (λ b. KeepsLets s.now.vars b (map typed lets.now)) }
     ensures small { IfOk result (λ b. length b.ops ≤ 4 * (cost (typed t.now) + costs (map typed lets.now)) + 64) }
 {
     let mut draft = Draft {

@@ -3,7 +3,7 @@ use Rattle.std.proofs.Math.Nat.{pow-suc, pow-zero}
 use Rattle.ln_code.specs.declared.op.Op.TheVariants.{Get, Mul}
 use Rattle.ln_lower.specs.Lowered.{factors, line}
 use Rattle.ln_lower.proofs.Writes.{nothing_written, next_power, next_factor, wrote_then}
-use Rattle.ln_lower.proofs.lower.put_factors.Goals as goal
+use Rattle.ln_lower.proofs.blocks.put_factors.Goals as goal
 
 pub factors-init : goal.factors-init
 factors-init c = record { power = sym (rw (pow-suc c.args.a 0, pow-zero c.args.a) (omega arith)); wrote = nothing_written c.args.draft.now }
