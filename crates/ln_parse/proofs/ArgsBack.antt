@@ -134,6 +134,6 @@ args_back bytes is t d before (r ∷ raws) names (a ∷ xs) w o g bn df m n =
     let k2 : list_any (λ (x : RawArg). same bytes x.name r.name) before ≡ false = subst (λ (z : List ℕ). list_any (λ (x : RawArg). bytes_eq (text bytes x.name) z) before ≡ false) (sym b.named) k1 in
     let c1 : fault_at bytes (ArgName before) r.name ≡ None = none_two (nat_lt 32 (length (text bytes r.name))) (list_any (λ (x : RawArg). same bytes x.name r.name) before) _ _ (not_over 32 _ b.short) k2 in
     let c2 = b.clean before r.is_param refl
-        (λ z. let v : is_site_arg r ≡ true = ap not z in let u = counted (is_site_arg r) v in omega arith)
-        (λ z. let u = counted (is_param_arg r) z in omega arith) in
+    (λ z. let v : is_site_arg r ≡ true = ap not z in let u = counted (is_site_arg r) v in omega arith)
+    (λ z. let u = counted (is_param_arg r) z in omega arith) in
     record { say = let sa = b.says in let sb = y.say in rw (sa, sb) refl; named = let na = b.named in let nb = y.named in rw (na, nb) refl; clean = (c1, (c2, y.clean)) }

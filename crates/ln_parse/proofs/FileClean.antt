@@ -158,7 +158,7 @@ preds_done bytes ts t fa before (file.an_item {x = x} {xs = xs} (file.predicate 
     let few = b.few_preds in
     let sh : length (name_of bytes x) ≤ 32 = subst (λ (z : List ℕ). length z ≤ 32) (sym n) k.0.name.1 in
     let c : fault_at bytes (PredName before) (item_name x) ≡ None = none_three (nat_lt 32 (length (name_of bytes x))) (count_by is_pred before == 16) (list_any (λ i. same bytes (item_name i) (item_name x)) before) _ _ _ (not_over 32 _ sh) (not_at (count_by is_pred before) 16 (omega arith))
-        (item_new bytes before x names (map (λ (q : PredOf). q.name) ps) p.name b.named n b.differ) in
+    (item_new bytes before x names (map (λ (q : PredOf). q.name) ps) p.name b.named n b.differ) in
     record {
       preds = q.pred ∷ y.preds;
       say = λ u s m. (q.says u s m, y.say u s m);
@@ -180,7 +180,7 @@ params_done bytes ts t fa before (file.an_item {x = x} {xs = xs} (file.param {r 
     let few = b.few_params in
     let sh : length (name_of bytes x) ≤ 32 = subst (λ (z : List ℕ). length z ≤ 32) (sym n) s0.0.1 in
     let cl : fault_at bytes (ParamName before) (item_name x) ≡ None = none_three (nat_lt 32 (length (name_of bytes x))) (count_by is_param before == 16) (list_any (λ i. same bytes (item_name i) (item_name x)) before) _ _ _ (not_over 32 _ sh) (not_at (count_by is_param before) 16 (omega arith))
-        (item_new bytes before x names more c.name b.named n b.differ) in
+    (item_new bytes before x names more c.name b.named n b.differ) in
     record { preds = y.preds; say = y.say; same = y.same; clean = (cl, clean_join bytes (range_visits rr) _ (range_clean bytes (item_name x) rr c w.0 r0.0) y.clean) }
 
 sites_done : (bytes : List ℕ) (ts : List Token) (t : TableOf) → Facts t → (before : List Item) {i k : ℕ} {is : List Item} → file.Items ts i k is → (names : List (List ℕ)) (ss : List SiteOf) (cs : List CoordOf) (ps : List PredOf) → SitesLike bytes ts t is ss cs ps
@@ -200,7 +200,7 @@ sites_done bytes ts t fa before (file.an_item {x = x} {xs = xs} (file.site {c = 
     let p1 = p0.0.few in
     let sh : length (name_of bytes x) ≤ 32 = subst (λ (z : List ℕ). length z ≤ 32) (sym n) n0.0.name.1 in
     let cl : fault_at bytes (SiteName before) (item_name x) ≡ None = none_three (nat_lt 32 (length (name_of bytes x))) (count_by is_site before == 16) (list_any (λ i. same bytes (item_name i) (item_name x)) before) _ _ _ (not_over 32 _ sh) (not_at (count_by is_site before) 16 (omega arith))
-        (item_new bytes before x names more s.name b.named n b.differ) in
+    (item_new bytes before x names more s.name b.named n b.differ) in
     let co = coords_clean bytes [] (rc ∷ rcs) [] s.coords w.1 p0.0.ranges n0.0.coords refl p0.0.differ (omega arith) in
     record { preds = y.preds; say = y.say; same = y.same; clean = (cl, clean_join bytes (visits_by coord_visits [] (rc ∷ rcs)) _ co y.clean) }
   where

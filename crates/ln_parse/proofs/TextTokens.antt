@@ -72,7 +72,6 @@ table_words t k h =
     let b = each_words param param_tokens t.params param_words (each (pred t) t.preds []) in
     let a = each_words site site_tokens t.sites site_words (each param t.params (each (pred t) t.preds [])) in omega arith
 
-
 signed_shallow : (v : Bool) (n d : ℕ) (rest : List Lexeme) → Shallow d rest → Shallow d (minus_if v (number n rest))
 signed_shallow true n d rest s = (λ z. absurd (cc), (λ z. absurd (cc), s))
 signed_shallow false n d rest s = (λ z. absurd (cc), s)

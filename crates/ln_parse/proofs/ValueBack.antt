@@ -130,7 +130,7 @@ lets_back bytes ts is raws t n es' ep g vars q aw ss sn sp an (a_let {i = i} {j 
     let a3 : nodes_before ts (before ++ (here ∷ [])) ≡ nodes_before ts before + (0 + value_nodes ts here.value) = sum_by-append (λ (m : RawLet). value_nodes ts m.value) before (here ∷ []) in
     let bn2 : map (let_name bytes) (before ++ (here ∷ [])) ≡ names ++ (u ∷ []) = map-append (let_name bytes) before (here ∷ []) ∙ rw (bn, w.0) refl in
     let y = lets_back bytes ts is raws t n es' ep g vars q aw ss sn sp an r (before ++ (here ∷ [])) (names ++ (u ∷ [])) us fs w.2 (el ∙ sym a1) bn2
-        (subst (λ (w : List (List ℕ)). Differ (map (arg_name t.params) n.args ++ w)) (sym a1) df) (every_push names u gn gu.0) gu.1 (omega arith) (subst (λ (m : ℕ). lets_fit (length vars) m (map (tree vars) fs) ≡ true) (sym a2) p.1) (omega arith) in
+    (subst (λ (w : List (List ℕ)). Differ (map (arg_name t.params) n.args ++ w)) (sym a1) df) (every_push names u gn gu.0) gu.1 (omega arith) (subst (λ (m : ℕ). lets_fit (length vars) m (map (tree vars) fs) ≡ true) (sym a2) p.1) (omega arith) in
     let b1 : (before ++ (here ∷ [])) ++ ls ≡ before ++ (here ∷ ls) = append_assoc before (here ∷ []) ls in
     let yc = y.count in
     let b2 = ap (nodes_before ts) b1 in

@@ -298,11 +298,11 @@ pred_from bytes ts is t h d p (file.predicate {i = i} {j = j} {k = k} {l = l} {a
     let df3 : Differ (map (arg_name P) xs ++ p.let_names) = rw (names, s.names_are) df2 in
     let t0 = y.tokens in let t1 = v.tokens in let t2 = v.deep in
     let tests : pred_tests S P p.shape_name p.name p.args p.sites p.vars p.let_names p.lets p.root ≡ true =
-        subst (λ (w : List ArgOf). pred_tests S P p.shape_name p.name w p.sites p.vars p.let_names p.lets p.root ≡ true) (sym q)
-        (and_from _ _ (and_from _ _ (and_from _ _ (and_from _ _ (and_from _ _ (and_from _ _ (and_from _ _ (and_from _ _ (and_from _ _ (name_same p.shape_name p.name (s.shape_is ∙ sym s.name_is)) (lt-ltb 0 (length xs) (omega arith)))
-            (known_of (length S) (length P) xs (all_known bytes is raws S P g))) (le-leb (count_by is_site_said xs) 5 (omega arith))) (le-leb (count_by is_param_said xs) 8 (omega arith)))
-            (eq-eqb p.sites (count_by is_site_said xs) (s.sites_are ∙ ap (count_by is_site_said) q))) (vars_same p.vars (vars_behind S P 0 0 xs) (s.vars_are ∙ ap (vars_behind S P 0 0) q)))
-            (differ_test (map (arg_name P) xs ++ p.let_names) df3)) y.deep) (le-leb (nesting 0 p.root) 64 t2)) in
+    subst (λ (w : List ArgOf). pred_tests S P p.shape_name p.name w p.sites p.vars p.let_names p.lets p.root ≡ true) (sym q)
+    (and_from _ _ (and_from _ _ (and_from _ _ (and_from _ _ (and_from _ _ (and_from _ _ (and_from _ _ (and_from _ _ (and_from _ _ (name_same p.shape_name p.name (s.shape_is ∙ sym s.name_is)) (lt-ltb 0 (length xs) (omega arith)))
+    (known_of (length S) (length P) xs (all_known bytes is raws S P g))) (le-leb (count_by is_site_said xs) 5 (omega arith))) (le-leb (count_by is_param_said xs) 8 (omega arith)))
+    (eq-eqb p.sites (count_by is_site_said xs) (s.sites_are ∙ ap (count_by is_site_said) q))) (vars_same p.vars (vars_behind S P 0 0 xs) (s.vars_are ∙ ap (vars_behind S P 0 0) q)))
+    (differ_test (map (arg_name P) xs ++ p.let_names) df3)) y.deep) (le-leb (nesting 0 p.root) 64 t2)) in
     let len : length p.args ≡ length xs = ap (λ (w : List ArgOf). length w) q in
     let k1 : total (λ z. 4 + tokens_of p.args 0 z) p.lets ≡ total (λ z. 4 + tokens_of xs 0 z) p.lets = ap (λ (w : List ArgOf). total (λ z. 4 + tokens_of w 0 z) p.lets) q in
     let k2 : tokens_of p.args 0 p.root ≡ tokens_of xs 0 p.root = ap (λ (w : List ArgOf). tokens_of w 0 p.root) q in

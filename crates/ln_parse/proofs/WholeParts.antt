@@ -27,7 +27,6 @@ pub every_map : {A : Type 0} (P Q : A → Type 0) (xs : List A) → ((x : A) →
 every_map P Q [] f e = tt
 every_map P Q (x ∷ xs) f e = (f x e.0, every_map P Q xs f e.1)
 
-
 either_not : (a b : Bool) → not (a || b) ≡ true → (a ≡ false) × (not b ≡ true)
 either_not true b h = absurd (cc)
 either_not false b h = (refl, h)
