@@ -28,7 +28,7 @@ use Rattle.ln_compile.proofs.InputsLemmas.{known_inputs}
 pub some-same : {A : Type 0} (a b : A) → Some a ≡ Some b → a ≡ b
 some-same a b e = cc
 
-no_code : Code
+pub no_code : Code
 no_code = record { exps = []; ops = []; bounds = []; depth = 0 }
 
 -- the exponent vector of a block of the program
