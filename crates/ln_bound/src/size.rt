@@ -69,7 +69,8 @@ fn named(lets: &[Fitted], j: u8) -> Fitted
     }
 }
 
-fn negated(alloc: Global, x: Fitted) -> Result<Fitted, NoMemory>
+/// The opposite of a tree, with the same bound; its width is no narrower than the tree's.
+pub fn negated(alloc: Global, x: Fitted) -> Result<Fitted, NoMemory>
     ensures { IfOk result (λ t. typed t ≡ TNeg (typed x) (bound (typed x)) (wider (width (typed x)) (least (bound (typed x))))) }
 {
     let bound = x.bound;

@@ -15,3 +15,4 @@ pub mod Stages
 pub mod Differ
 pub mod Means
 pub mod Together
+pub mod WorkedLaws

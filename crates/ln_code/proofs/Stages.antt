@@ -57,6 +57,7 @@ turn_wide zs cs list i n c z w t =
 -- the counts fit 32 bits
 pub record CountsFit (wide w calls place : ℕ) : Type 0 where
   pub wide_fits : wide + w < 2 ^ 32
+  pub block_fits : w < 2 ^ 32
   pub calls_fit : calls + 1 < 2 ^ 32
   pub place_fits : place + 1 < 2 ^ 32
 
@@ -70,6 +71,7 @@ counts_fit vars zs cs list i n c z w wide calls place entered t r l f p e s =
     let d = t.below in
     record {
       wide_fits = omega (arith, a, g, s, f);
+      block_fits = omega (arith, a, g, s, f);
       calls_fit = omega (arith, b, d, e, f);
       place_fits = omega (arith, b, d, p, f);
     }

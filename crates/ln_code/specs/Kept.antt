@@ -34,9 +34,8 @@ pub record FollowsFilterRules (vars : List VarInfo) (f : FilterCode) : Type 0 wh
   pub known : filter_known_of vars f ≡ Some what
   pub narrow : what.triple.e ≤ limit W64
 
--- a block has fewer than 2^32 operations, needs at most 2,048 places on the stack, and follows the rules over some variables
+-- a block needs at most 2,048 places on the stack, and follows the rules over some variables; what stores has the bound 0
 pub record IsBlock (c : Code) : Type 0 where
-  pub few : length c.ops < 2 ^ 32
   pub shallow : c.depth ≤ 2048
   pub stores_have : StoresHave 0 (lines_of c.ops c.bounds)
   pub vars : List VarInfo
@@ -47,7 +46,6 @@ no_triple = record { k = 0; h = 0; e = 0 }
 
 -- the same of a filter
 pub record IsFilter (f : FilterCode) : Type 0 where
-  pub few : length f.ops < 2 ^ 32
   pub shallow : f.depth ≤ 2048
   pub stores_have : StoresHave no_triple (lines_of f.ops f.triples)
   pub vars : List VarInfo

@@ -13,3 +13,4 @@ pub mod Errors
 pub mod Law
 pub mod Memory
 pub mod RowOf
+pub mod Worked

@@ -10,8 +10,7 @@ use ln_tree::Exps;
 use std::marker::Model;
 
 /// A block: the exponents of its derivative, and the operations that compute it, each with the largest absolute value that it
-/// may push. It has fewer than `2^32` operations, needs a stack of at most 2,048 places, and follows the rules on bounds, widths
-/// and stacks: each bound covers its operation and fits its width, no operand is wider than its operation, and one value is left
+/// may push. It needs a stack of at most 2,048 places and follows the rules on bounds, widths and stacks: each bound covers its operation and fits its width, no operand is wider than its operation, and one value is left
 /// in the end. A `Set` has the bound 0.
 #[derive(Drop)]
 pub struct Block {
@@ -19,7 +18,7 @@ pub struct Block {
     ops: Seq<Op>,
     bounds: Seq<u128>,
     depth: u32,
-    wide: u32,
+    wide: usize,
 }
 
 impl Model for Block {
@@ -44,8 +43,7 @@ fn is_wide(op: &Op) -> bool
 }
 
 fn wide_in(ops: &[Op]) -> usize
-    ensures count { result ≡ wide_in ops.now }
-    ensures most { result ≤ length ops.now }
+    ensures { result ≡ wide_in ops.now }
 {
     ops.iter().filter(|op| is_wide(op)).count()
 }
@@ -56,7 +54,7 @@ impl Block {
         requires { IsBlock (record { exps = exps; ops = ops; bounds = bounds; depth = depth }) }
         ensures { result ≡ record { exps = exps; ops = ops; bounds = bounds; depth = depth } }
     {
-        let wide = wide_in(ops.as_slice()) as u32;
+        let wide = wide_in(ops.as_slice());
         Block {
             exps,
             ops,
@@ -96,7 +94,7 @@ impl Block {
     }
 
     // How many of its operations are done at 128 bits.
-    pub(crate) fn wide(&self) -> u32
+    pub(crate) fn wide(&self) -> usize
         ensures { result ≡ wide_in self.now.ops }
     {
         self.wide

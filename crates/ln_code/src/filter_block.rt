@@ -8,8 +8,8 @@ use crate::op::{Op, Triple};
 use ln_base::Seq;
 use std::marker::Model;
 
-/// A filter: operations on truncated numbers, each with the triple of what it pushes. It has fewer than `2^32` operations, needs
-/// a stack of at most 2,048 places, is 64 bits wide throughout, and follows the rules on triples, sizes and stacks: each triple
+/// A filter: operations on truncated numbers, each with the triple of what it pushes. It needs a stack of at most 2,048
+/// places, is 64 bits wide throughout, and follows the rules on triples, sizes and stacks: each triple
 /// covers its operation, and one value is left in the end. A `Set` has the triple of zeros.
 #[derive(Drop)]
 pub struct FilterBlock {
@@ -33,8 +33,8 @@ impl Model for FilterBlock {
 }
 
 // How many values the stack has behind an operation, of n before it.
-fn size_after(op: Op, n: u32) -> u32
-    requires { n + 1 < 2 ^ 32 }
+fn size_after(op: Op, n: usize) -> usize
+    requires { n + 1 < 2 ^ 64 }
     ensures value { result ≡ size_after op n }
     ensures most { result ≤ n + 1 }
 {
@@ -46,7 +46,7 @@ fn size_after(op: Op, n: u32) -> u32
 }
 
 // The error of the lowest value of n behind an operation with the error e, which was d before it.
-fn error_behind(op: Op, n: u32, e: u64, d: u64) -> u64
+fn error_behind(op: Op, n: usize, e: u64, d: u64) -> u64
     ensures { result ≡ error_behind op n e d }
 {
     match op {
@@ -64,8 +64,7 @@ fn error_behind(op: Op, n: u32, e: u64, d: u64) -> u64
 
 // The error of the operation that pushed the value that is left.
 fn left_error(ops: &[Op], triples: &[Triple]) -> u64
-    requires bounded { length ops.now ≡ length triples.now }
-    requires few { length ops.now < 2 ^ 32 }
+    requires { length ops.now ≡ length triples.now }
     ensures { result ≡ left_error ops.now triples.now 0 0 }
 {
     let mut size = 0;

@@ -27,3 +27,6 @@ pub use row::Row;
 pub use run::run_row;
 pub use scratch::Scratch;
 pub use verdict::{By, Verdict};
+
+#[cfg(test)]
+mod tests;

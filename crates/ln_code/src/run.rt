@@ -94,7 +94,7 @@ fn run_list(p: &Program, list: &[u32], entered: u32, values: &[i64], s: &mut Scr
     'stages: for number in list {
         let number = *number as usize;
         let z = block_value(p, number, values, s);
-        wide += p.blocks()[number].wide();
+        wide += p.blocks()[number].wide() as u32;
         calls += 1;
         if let Some(sign) = decided(z) {
             return Verdict {

@@ -1,5 +1,5 @@
 //! The two ports of a process.
-ghost use Rattle.std.specs.Prelude.{◌≤◌, ◌<◌, None, length, IfOk};
+ghost use Rattle.std.specs.Prelude.{◌≡◌, ◌≤◌, ◌<◌, None, length, IfOk};
 ghost use Rattle.std.specs.Io.{WritesAtMost};
 
 use ln_base::{Console, Failed, Port};
@@ -14,8 +14,10 @@ pub struct StdConsole<O, E> {
 }
 
 impl<O: Write, E: Write> StdConsole<O, E> {
-    /// The ports that write to these.
-    pub fn new(out: O, err: E) -> Self {
+    /// The ports that write to these; no fault is counted yet.
+    pub fn new(out: O, err: E) -> Self
+        ensures { result.faults ≡ 0 }
+    {
         StdConsole {
             out,
             err,

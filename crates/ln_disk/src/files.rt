@@ -1,5 +1,5 @@
 //! Files on a disk.
-ghost use Rattle.std.specs.Prelude.{None};
+ghost use Rattle.std.specs.Prelude.{◌≡◌, None};
 ghost use Rattle.std.specs.Io.{ReadsAtMost};
 
 use ln_base::{Failed, Files};
@@ -23,8 +23,10 @@ pub struct DiskFiles<'a, R: rt::Files + AllocGlobal> {
 }
 
 impl<'a, R: rt::Files + AllocGlobal> DiskFiles<'a, R> {
-    /// The files of this runtime, none of them open.
-    pub fn new(rt: &'a R) -> Self {
+    /// The files of this runtime, none of them open and no fault counted.
+    pub fn new(rt: &'a R) -> Self
+        ensures { result.faults ≡ 0 }
+    {
         DiskFiles {
             rt,
             open: None,

@@ -1,4 +1,5 @@
 pub mod Parts
+pub mod Scaled
 pub mod Same
 pub mod Bounds
 pub mod Costs
@@ -7,3 +8,4 @@ pub mod Vectors
 pub mod Steps
 pub mod Whole
 pub mod Doubled
+pub mod Shortest

@@ -1,10 +1,10 @@
 -- A list of terms divided by a variable, and what is free of it.
-use Rattle.std.proofs.Common.{◌≡◌, ℕ, ℤ, ◌+◌, ◌-◌, ◌*◌, ◌≤◌, ◌<◌, ◌^◌, Bool, true, false, List, [], ◌∷◌, ◌++◌, length, refl, zero, suc, ap, arith, pos, ◌+ℤ◌, ◌*ℤ◌, ◌∙◌, sym, ◌⊎◌, inl, inr, if◌then◌else◌, unsigned_abs}
+use Rattle.std.proofs.Common.{◌≡◌, ℕ, ℤ, ◌+◌, ◌-◌, ◌≤◌, ◌<◌, Bool, true, false, List, [], ◌∷◌, length, refl, zero, suc, ap, arith, pos, ◌+ℤ◌, ◌∙◌, ◌⊎◌, inl, inr, if◌then◌else◌}
 use Rattle.std.proofs.lemmas.Int.{ints}
-use Rattle.std.proofs.lemmas.Bool.{cases_eq, cases_lt}
-use Rattle.ln_algebra.specs.Vector.{plus, sum_over}
+use Rattle.std.proofs.lemmas.Bool.{cases_eq}
+use Rattle.ln_algebra.specs.Vector.{plus}
 use Rattle.ln_algebra.specs.Terms.{Term, Over, factor_at, same_vector}
-use Rattle.ln_algebra.proofs.Expansion.{zeros, unit_vector, times_term, length-zeros}
+use Rattle.ln_algebra.proofs.Expansion.{zeros, unit_vector, times_term}
 use Rattle.ln_algebra.proofs.Ring.{one_mul}
 use Rattle.ln_nest.specs.Nested.{exponent_of, is_positive, one_less, divided, free_of, total}
 
@@ -23,6 +23,7 @@ abbrev pub AllAt : ℕ → ℕ → List Term → Type 0
 AllAt v d [] = Unit {0}
 AllAt v d (t ∷ f) = (exponent_of v t.exponents ≤ d) × AllAt v d f
 
+-- zeros and a vector are the vector
 plus_zeros : (n : ℕ) (m : List ℕ) → length m ≡ n → plus (zeros n) m ≡ m
 plus_zeros zero [] h = refl
 plus_zeros zero (k ∷ m) h = absurd (omega arith)
@@ -38,16 +39,19 @@ plus_unit (suc n) zero (zero ∷ m) h p = cc
 plus_unit (suc n) zero (suc k ∷ m) h p = let e : 1 + (suc k - 1) ≡ suc k = omega arith in rw (e, plus_zeros n m (omega arith)) refl
 plus_unit (suc n) (suc v) (k ∷ m) h p = let e : 0 + k ≡ k = omega arith in rw (e, plus_unit n v m (omega arith) p) refl
 
+-- it has as many exponents
 pub length-one_less : (v : ℕ) (m : List ℕ) → length (one_less v m) ≡ length m
 length-one_less v [] = refl
 length-one_less zero (n ∷ m) = refl
 length-one_less (suc v) (n ∷ m) = ap suc (length-one_less v m)
 
+-- that of v is one less
 pub exponent-here : (v : ℕ) (m : List ℕ) → exponent_of v (one_less v m) ≡ exponent_of v m - 1
 exponent-here v [] = refl
 exponent-here zero (n ∷ m) = refl
 exponent-here (suc v) (n ∷ m) = exponent-here v m
 
+-- none is more
 pub exponent-less : (v w : ℕ) (m : List ℕ) → exponent_of w (one_less v m) ≤ exponent_of w m
 exponent-less v w [] = omega arith
 exponent-less zero zero (n ∷ m) = omega arith
@@ -75,6 +79,7 @@ parts_sum n v d m (t ∷ f) a =
         regroup : (x y z w : ℤ) → y +ℤ z ≡ w → y +ℤ (x +ℤ z) ≡ x +ℤ w
         regroup x y z w h = omega (arith, ints, h)
 
+-- a vector without the variables up to v
 clear_more : (v : ℕ) (m : List ℕ) → ((w : ℕ) → w < v → exponent_of w m ≡ 0) → is_positive (exponent_of v m) ≡ false → (w : ℕ) → w < suc v → exponent_of w m ≡ 0
 clear_more v m h p w l = by_case (cases_eq w v)
   where
@@ -86,6 +91,7 @@ clear_more v m h p w l = by_case (cases_eq w v)
     by_case (inl e) = rw e (not_positive _ p)
     by_case (inr e) = h w (omega (arith, e))
 
+-- the terms without v have no variable up to v
 pub free_fit : (n v d : ℕ) (f : List Term) → AllFit n v d f → AllFit n (suc v) d (free_of v f)
 free_fit n v d [] a = tt
 free_fit n v d (t ∷ f) a = by_case (is_positive (exponent_of v t.exponents)) refl (free_fit n v d f a.1)
@@ -94,6 +100,7 @@ free_fit n v d (t ∷ f) a = by_case (is_positive (exponent_of v t.exponents)) r
     by_case true e ih = ih
     by_case false e ih = (record { long = a.0.long; clear = clear_more v t.exponents a.0.clear e; most = a.0.most }, ih)
 
+-- one less of v
 less_fit : (n v d : ℕ) (m : List ℕ) → Fit n v d m → Fit n v d (one_less v m)
 less_fit n v d m a = record {
   long = length-one_less v m ∙ a.long;
@@ -101,6 +108,7 @@ less_fit n v d m a = record {
   most = λ w. let e = a.most w in let g = exponent-less v w m in omega (arith, e, g);
 }
 
+-- the divided terms fit as the terms do
 pub divided_fit : (n v d : ℕ) (f : List Term) → AllFit n v d f → AllFit n v d (divided v f)
 divided_fit n v d [] a = tt
 divided_fit n v d (t ∷ f) a = by_case (is_positive (exponent_of v t.exponents)) (divided_fit n v d f a.1)
@@ -109,6 +117,7 @@ divided_fit n v d (t ∷ f) a = by_case (is_positive (exponent_of v t.exponents)
     by_case true ih = (less_fit n v d t.exponents a.0, ih)
     by_case false ih = ih
 
+-- and have one power of v less
 pub divided_at : (v d : ℕ) (f : List Term) → AllAt v (suc d) f → AllAt v d (divided v f)
 divided_at v d [] a = tt
 divided_at v d (t ∷ f) a = by_case (is_positive (exponent_of v t.exponents)) (divided_at v d f a.1)
@@ -126,10 +135,12 @@ none_fit n v d (t ∷ f) a b = (record { long = a.0.long; clear = clear_more v t
     none zero h = refl
     none (suc n) h = absurd (omega arith)
 
+-- fitting terms have at most d powers of v
 pub fit_at : (n v d : ℕ) (f : List Term) → AllFit n v d f → AllAt v d f
 fit_at n v d [] a = tt
 fit_at n v d (t ∷ f) a = (a.0.most v, fit_at n v d f a.1)
 
+-- and are over n variables
 pub fit_over : (n v d : ℕ) (f : List Term) → AllFit n v d f → Over n f
 fit_over n v d [] a = tt
 fit_over n v d (t ∷ f) a = (a.0.long, fit_over n v d f a.1)
@@ -144,6 +155,7 @@ all_zero (suc n) (k ∷ m) h c =
     let r : m ≡ zeros n = all_zero n m (omega arith) (λ w l. c (suc w) (omega arith)) in
     rw (z, r) refl
 
+-- terms without a variable are the number that is the sum of their factors
 pub constants_sum : (n d : ℕ) (m : List ℕ) (f : List Term) → AllFit n n d f → factor_at (record { exponents = zeros n; factor = total f } ∷ []) m ≡ factor_at f m
 constants_sum n d m [] a = by_case (same_vector (zeros n) m)
   where

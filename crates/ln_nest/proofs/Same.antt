@@ -1,18 +1,17 @@
 -- The nested form has the coefficients of the list.
-use Rattle.std.proofs.Common.{◌≡◌, ℕ, ℤ, ◌+◌, ◌≤◌, ◌<◌, Bool, true, false, List, [], ◌∷◌, ◌++◌, length, refl, zero, suc, ap, arith, pos, ◌+ℤ◌, ◌*ℤ◌, ◌∙◌, sym}
+use Rattle.std.proofs.Common.{◌≡◌, ℕ, ℤ, ◌+◌, List, [], ◌∷◌, ◌++◌, length, refl, zero, suc, ap, arith, pos, ◌+ℤ◌, ◌*ℤ◌, ◌∙◌, sym}
 use Rattle.std.proofs.lemmas.Int.{ints}
-use Rattle.ln_algebra.specs.Vector.{sum_over}
-use Rattle.ln_algebra.specs.Coefficient.{product, normal_coefficient}
-use Rattle.ln_algebra.specs.Terms.{Term, Over, factor_at, same_vector}
-use Rattle.ln_algebra.specs.Tree.{Tree, Num, Input, Name, Neg, Add, Sub, Mul, Pow, InputsBelow}
+use Rattle.ln_algebra.specs.Terms.{Term, Over, factor_at}
+use Rattle.ln_algebra.specs.Tree.{Tree}
 use Rattle.ln_algebra.proofs.Sums.{sum_over-append}
 use Rattle.ln_algebra.proofs.Shift.{sum_splits-within, product_is}
 use Rattle.ln_algebra.proofs.Product.{factor_at-times}
 use Rattle.ln_algebra.proofs.Expansion.{expanded, times, times_term, unit_vector, length-unit_vector, Over-expanded}
-use Rattle.ln_algebra.proofs.Normal.{normal_is}
 use Rattle.ln_nest.specs.Nested.{divided, free_of, joined, horner, nested}
+use Rattle.ln_nest.proofs.Scaled.{expanded_scaled}
 use Rattle.ln_nest.proofs.Parts.{AllFit, AllAt, parts_sum, free_fit, divided_fit, divided_at, none_fit, fit_at, fit_over, constants_sum}
 
+-- the coefficients of two lists one after the other
 factor_at-append : (f g : List Term) (m : List ℕ) → factor_at (f ++ g) m ≡ factor_at f m +ℤ factor_at g m
 factor_at-append f g m = sum_over-append _ f g
 
@@ -20,6 +19,7 @@ factor_at-append f g m = sum_over-append _ f g
 abbrev pub Same : ℕ → List Term → List Term → Type 0
 Same n f g = (m : List ℕ) → length m ≡ n → factor_at f m ≡ factor_at g m
 
+-- products with lists of the same coefficients have the same
 times_same : (n : ℕ) (u f g : List Term) → Over n u → Over n f → Over n g → Same n f g → Same n (times u f) (times u g)
 times_same n u f g o p q s m h =
     factor_at-times n u f o p m h
@@ -31,9 +31,11 @@ times_same n u f g o p q s m h =
 abbrev pub unit_terms : ℕ → ℕ → List Term
 unit_terms n v = record { exponents = unit_vector n v; factor = pos 1 } ∷ []
 
+-- the product with v alone, term by term
 times_unit : (n v : ℕ) (f : List Term) (m : List ℕ) → factor_at (times (unit_terms n v) f) m ≡ factor_at (times_term (record { exponents = unit_vector n v; factor = pos 1 }) f) m
 times_unit n v f m = factor_at-append (times_term (record { exponents = unit_vector n v; factor = pos 1 }) f) [] m ∙ (let e : (z : ℤ) → z +ℤ pos 0 ≡ z = λ z. omega (arith, ints) in e _)
 
+-- a step has the coefficients of the terms
 joined_is : (n v d : ℕ) (h i : Tree) (f p q : List Term) → p ≡ divided v f → q ≡ free_of v f → AllFit n v d f → Same n (expanded n h) p → Same n (expanded n i) q → Same n (expanded n (joined v h i p q)) f
 joined_is n v d h i f [] q e g a s t m l =
     let w = parts_sum n v d m f a in
@@ -46,7 +48,7 @@ joined_is n v d h i f (x ∷ p) [] e g a s t m l =
     let w = parts_sum n v d m f a in
     let o = fit_over n v d (divided v f) (divided_fit n v d f a) in
     let r : Same n (expanded n h) (divided v f) = rw (← e) s in
-    times_same n (unit_terms n v) (expanded n h) (divided v f) (length-unit_vector n v, tt) (Over-expanded n h) o r m l ∙ times_unit n v (divided v f) m ∙ no_rest (free_of v f) g w
+    ap (λ z. factor_at z m) (expanded_scaled n v h) ∙ times_same n (unit_terms n v) (expanded n h) (divided v f) (length-unit_vector n v, tt) (Over-expanded n h) o r m l ∙ times_unit n v (divided v f) m ∙ no_rest (free_of v f) g w
   where
     no_rest : (fs : List Term) → [] ≡ fs → factor_at (times_term (record { exponents = unit_vector n v; factor = pos 1 }) (divided v f)) m +ℤ factor_at fs m ≡ factor_at f m → factor_at (times_term (record { exponents = unit_vector n v; factor = pos 1 }) (divided v f)) m ≡ factor_at f m
     no_rest [] r w = omega (arith, ints, w)
@@ -57,8 +59,9 @@ joined_is n v d h i f (x ∷ p) (y ∷ q) e g a s t m l =
     let r : Same n (expanded n h) (divided v f) = rw (← e) s in
     let one = times_same n (unit_terms n v) (expanded n h) (divided v f) (length-unit_vector n v, tt) (Over-expanded n h) o r m l ∙ times_unit n v (divided v f) m in
     let two : factor_at (expanded n i) m ≡ factor_at (free_of v f) m = t m l ∙ ap (λ z. factor_at z m) g in
-    factor_at-append (times (unit_terms n v) (expanded n h)) (expanded n i) m ∙ rw (one, two) w
+    ap (λ z. factor_at (z ++ expanded n i) m) (expanded_scaled n v h) ∙ factor_at-append (times (unit_terms n v) (expanded n h)) (expanded n i) m ∙ rw (one, two) w
 
+-- by powers of v
 horner_is : (n v d : ℕ) (inner : List Term → Tree) → ((g : List Term) → AllFit n (suc v) d g → Same n (expanded n (inner g)) g) → (b : ℕ) (f : List Term) → AllFit n v d f → AllAt v b f → Same n (expanded n (horner inner v b f)) f
 horner_is n v d inner is zero f a u = is f (none_fit n v d f a u)
 horner_is n v d inner is (suc b) f a u =

@@ -1,25 +1,27 @@
 -- The steps of the nested form, with their bounds.
-use Rattle.std.proofs.Common.{◌≡◌, ℕ, ℤ, ◌+◌, ◌-◌, ◌*◌, ◌^◌, ◌≤◌, ◌<◌, Bool, true, false, List, [], ◌∷◌, ◌++◌, length, refl, zero, suc, ap, arith, pos, ◌+ℤ◌, ◌∙◌, sym, subst, unsigned_abs, slice_index_or, map, take}
+use Rattle.std.proofs.Common.{◌≡◌, ℕ, ℤ, ◌+◌, ◌-◌, ◌*◌, ◌^◌, ◌≤◌, ◌<◌, true, false, List, [], ◌∷◌, length, refl, zero, suc, ap, arith, pos, ◌+ℤ◌, ◌∙◌, sym, unsigned_abs, slice_index_or, take}
 use Rattle.std.proofs.lemmas.Int.{ints, fits_signed_from_abs}
 use Rattle.std.specs.Prelude.{FitsSigned}
 use mir.Syntax.{w128}
 use Rattle.std.proofs.Math.Nat.{mul-le-mul_left}
 use Rattle.ln_algebra.specs.Terms.{Term}
-use Rattle.ln_algebra.specs.Tree.{Tree, Num, Input, Name, Neg, Add, Sub, Mul, Pow}
+use Rattle.ln_algebra.specs.Tree.{Tree, Num, Input, Neg, Add, Mul}
 use Rattle.ln_algebra.specs.Weights.{weighted_sum, monomial_weight}
-use Rattle.std.specs.Prelude.{◌==◌}
+use Rattle.std.specs.Prelude.{◌==◌, negsuc}
 use Rattle.std.proofs.lemmas.Bool.{eqb-true}
 use Rattle.ln_tree.specs.declared.shape.VarInfo.{VarInfo}
-use Rattle.ln_bound.specs.declared.fitted.Two.TheVariants.{Plus, Times}
 use Rattle.ln_bound.specs.Light.{most}
-use Rattle.ln_bound.specs.Typed.{Typed, TNum, TInput, TTwo, bound, untyped, width}
-use Rattle.ln_bound.specs.Value.{sizes}
+use Rattle.ln_bound.specs.Typed.{Typed, TNum, TInput, bound, untyped, width}
+use Rattle.ln_bound.specs.Exact.{IsExact}
+use Rattle.ln_bound.specs.Value.{sizes, weight_over}
 use Rattle.ln_bound.specs.Widths.{least, wider}
-use Rattle.ln_bound.proofs.WidthLaws.{least_fits, wider_fits, first_no_wider, second_no_wider}
+use Rattle.ln_bound.proofs.ExactLaws.{exact_bound}
+use Rattle.ln_bound.proofs.WidthLaws.{least_fits, wider_fits, first_no_wider, left_no_wider, second_no_wider}
 use Rattle.ln_poly.proofs.Weighing.{size-some}
 use Rattle.ln_nest.specs.declared.work.Work.{Work}
-use Rattle.ln_nest.specs.Nested.{divided, free_of, total, joined, horner, nested}
-use Rattle.ln_nest.specs.View.{Has, terms_in, scale, abs_total}
+use Rattle.ln_nest.specs.Nested.{divided, free_of, total, joined, horner, nested, scaled}
+use Rattle.ln_nest.specs.View.{Has, terms_in, scale, abs_total, opposite_of, times_of, plus_of, product_of}
+use Rattle.ln_nest.proofs.Scaled.{product_cases}
 use Rattle.ln_nest.proofs.Bounds.{parts_weight, at_least, sum_weight}
 
 -- M of a variable, and 1 past the last, is at least 1
@@ -34,6 +36,7 @@ scale_is vars v h = let s = size-some vars v h in omega (arith, s)
 pub free_weight : (w : ℕ → ℕ) (v n : ℕ) (f : List Term) (q : List Work) → terms_in q ≡ free_of v f → weighted_sum w f ≤ n → weighted_sum w (terms_in q) ≤ n
 free_weight w v n f q e h = let s = parts_weight w v f in rw e (omega (arith, s, h))
 
+-- nor have the divided terms
 pub divided_weight : (w : ℕ → ℕ) (v n : ℕ) (f : List Term) (p : List Work) → 1 ≤ w v → terms_in p ≡ divided v f → weighted_sum w f ≤ n → weighted_sum w (terms_in p) ≤ n
 divided_weight w v n f p o e h =
     let s = parts_weight w v f in
@@ -49,6 +52,7 @@ product_bound w v f p b e h =
     omega (arith, s, m)
 
 -- ---- nodes with their bounds and widths
+-- a number
 pub number_has : (vars : List VarInfo) (c : ℤ) (t : Typed) → t ≡ TNum c (unsigned_abs c) (least (unsigned_abs c)) → unsigned_abs c ≤ most → Has vars t (Num c) (unsigned_abs c)
 number_has vars c t e l = rw e (record { same = refl; exact = (refl, refl); sound = (omega arith, least_fits (unsigned_abs c) l); small = omega arith })
 
@@ -56,16 +60,22 @@ number_has vars c t e l = rw e (record { same = refl; exact = (refl, refl); soun
 abbrev pub input_of : List VarInfo → ℕ → Typed
 input_of vars v = TInput v (sizes vars v) (least (sizes vars v))
 
+-- variable v
 pub input_has : (vars : List VarInfo) (v : ℕ) (t : Typed) → t ≡ input_of vars v → v < length vars → sizes vars v ≤ most → Has vars t (Input v) (sizes vars v)
 input_has vars v t e h l = rw e (record { same = refl; exact = (refl, refl); sound = (h, omega arith, least_fits (sizes vars v) l); small = omega arith })
 
--- the product and the sum of two trees, as the code makes them
-abbrev pub times_of : Typed → Typed → Typed
-times_of x y = TTwo Times x y (bound x * bound y) (wider (wider (width x) (width y)) (least (bound x * bound y)))
+-- the same with its own bound
+input_has_own : (vars : List VarInfo) (v : ℕ) (t : Typed) → t ≡ input_of vars v → v < length vars → sizes vars v ≤ most → Has vars t (Input v) (bound t)
+input_has_own vars v t e h l = rw e (input_has vars v (input_of vars v) refl h l)
 
-abbrev pub plus_of : Typed → Typed → Typed
-plus_of x y = TTwo Plus x y (bound x + bound y) (wider (wider (width x) (width y)) (least (bound x + bound y)))
+-- its opposite
+opposite_has : (vars : List VarInfo) (v : ℕ) (x : Typed) (b : ℕ) → x ≡ input_of vars v → v < length vars → sizes vars v ≤ most → bound x ≤ b → Has vars (opposite_of x) (Neg (Input v)) b
+opposite_has vars v x b e h l k =
+    let i = input_has vars v x e h l in
+    let s : bound x ≤ most = let m = i.small in omega (arith, m, l) in
+    record { same = ap Neg i.same; exact = (i.exact, refl, refl); sound = (i.sound, omega arith, wider_fits (width x) (bound x) s, left_no_wider (width x) (least (bound x))); small = k }
 
+-- a product
 pub times_has : (vars : List VarInfo) (x y t : Typed) (e g : Tree) (a b : ℕ) → t ≡ times_of x y → bound x * bound y ≤ most → Has vars x e a → Has vars y g b → Has vars t (Mul e g) (bound x * bound y)
 times_has vars x y t e g a b q l h i = rw q (record {
   same = rw (h.same, i.same) refl;
@@ -74,6 +84,7 @@ times_has vars x y t e g a b q l h i = rw q (record {
   small = omega arith;
 })
 
+-- a sum
 pub plus_has : (vars : List VarInfo) (x y t : Typed) (e g : Tree) (a b : ℕ) → t ≡ plus_of x y → bound x + bound y ≤ most → Has vars x e a → Has vars y g b → Has vars t (Add e g) (bound x + bound y)
 plus_has vars x y t e g a b q l h i = rw q (record {
   same = rw (h.same, i.same) refl;
@@ -86,24 +97,46 @@ plus_has vars x y t e g a b q l h i = rw q (record {
 pub has_as : (vars : List VarInfo) (t : Typed) (e g : Tree) (a b : ℕ) → e ≡ g → a ≤ b → Has vars t e a → Has vars t g b
 has_as vars t e g a b q l h = record { same = h.same ∙ q; exact = h.exact; sound = h.sound; small = let s = h.small in omega (arith, s, l) }
 
+-- where a tree is 1 or -1 its bound is 1
+unit_bound : (vars : List VarInfo) (y : Typed) (z : ℤ) → IsExact vars [] y → untyped y ≡ Num z → unsigned_abs z ≡ 1 → bound y ≡ 1
+unit_bound vars y z h e u = exact_bound vars [] y h ∙ ap (weight_over (sizes vars) []) e ∙ u
+
+-- variable v times a tree
+pub product_has : (vars : List VarInfo) (v : ℕ) (x y : Typed) (e : Tree) (b : ℕ) → x ≡ input_of vars v → v < length vars → sizes vars v ≤ most → bound x * bound y ≤ most → Has vars y e b → Has vars (product_of x y) (scaled v e) (bound x * bound y)
+product_has vars v x y e b i l k m h =
+    let input = input_has vars v x i l k in
+    let one = λ (z : ℤ) (q : untyped y ≡ Num z) (u : unsigned_abs z ≡ 1). within (bound y) (unit_bound vars y z h.exact q u) in
+    rw (← h.same) (product_cases v x y (λ t g. Has vars t g (bound x * bound y))
+    (λ q. has_as vars x (Input v) (Input v) (bound x) (bound x * bound y) refl (one (pos 1) q refl) (input_has_own vars v x i l k))
+    (λ q. opposite_has vars v x (bound x * bound y) i l k (one (negsuc 0) q refl))
+    (times_has vars x y (times_of x y) (Input v) (untyped y) (sizes vars v) b refl m input (record { same = refl; exact = h.exact; sound = h.sound; small = h.small })))
+  where
+    within : (n : ℕ) → n ≡ 1 → bound x ≤ bound x * n
+    within n e = rw e (omega arith)
+
 -- ---- each way a step ends
+-- no working terms are no terms
 nothing_in : (ws : List Work) → ws ≡ [] → terms_in ws ≡ []
 nothing_in ws e = ap terms_in e
 
+-- some working terms are some terms
 not_empty : (p : List Work) → (p ≡ [] → ⊥) → terms_in p ≡ [] → ⊥
 not_empty [] y r = y refl
 not_empty (x ∷ p) y r = cc
 
+-- a step where no term has v
 joined_free : (v : ℕ) (ds fs : List Term) (x i : Tree) → ds ≡ [] → i ≡ joined v x i ds fs
 joined_free v [] fs x i r = refl
 joined_free v (y ∷ ds) fs x i r = cc
 
-joined_product : (v : ℕ) (ds fs : List Term) (x i : Tree) → (ds ≡ [] → ⊥) → fs ≡ [] → Mul (Input v) x ≡ joined v x i ds fs
+-- a step where each term has v
+joined_product : (v : ℕ) (ds fs : List Term) (x i : Tree) → (ds ≡ [] → ⊥) → fs ≡ [] → scaled v x ≡ joined v x i ds fs
 joined_product v [] fs x i n r = absurd (n refl)
 joined_product v (d ∷ ds) [] x i n r = refl
 joined_product v (d ∷ ds) (y ∷ fs) x i n r = cc
 
-joined_sum : (v : ℕ) (ds fs : List Term) (x i : Tree) → (ds ≡ [] → ⊥) → (fs ≡ [] → ⊥) → Add (Mul (Input v) x) i ≡ joined v x i ds fs
+-- a step where some have v and some have not
+joined_sum : (v : ℕ) (ds fs : List Term) (x i : Tree) → (ds ≡ [] → ⊥) → (fs ≡ [] → ⊥) → Add (scaled v x) i ≡ joined v x i ds fs
 joined_sum v [] fs x i n r = absurd (n refl)
 joined_sum v (d ∷ ds) [] x i n r = absurd (r refl)
 joined_sum v (d ∷ ds) (y ∷ fs) x i n r = refl
@@ -112,6 +145,7 @@ joined_sum v (d ∷ ds) (y ∷ fs) x i n r = refl
 abbrev pub step : (List Term → Tree) → ℕ → ℕ → List Term → Tree
 step inner v b f = horner inner v (suc b) f
 
+-- the code ends a step with the tree of the others
 pub ends_free : (vars : List VarInfo) (inner : List Term → Tree) (v b : ℕ) (f : List Term) (p q : List Work) (t : Typed) → p ≡ [] → terms_in p ≡ divided v f → terms_in q ≡ free_of v f → Has vars t (inner (terms_in q)) (weighted_sum (scale vars) (terms_in q)) → Has vars t (step inner v b f) (weighted_sum (scale vars) f)
 ends_free vars inner v b f p q t z e g h =
     let d : divided v f ≡ [] = sym e ∙ nothing_in p z in
@@ -130,63 +164,71 @@ product_small vars v f p x h e i l d k =
 pub product_fits : (vars : List VarInfo) (v : ℕ) (f : List Term) (p : List Work) (x h : Typed) (e : Tree) → x ≡ input_of vars v → v < length vars → terms_in p ≡ divided v f → Has vars h e (weighted_sum (scale vars) (terms_in p)) → weighted_sum (scale vars) f ≤ most → bound x * bound h ≤ most
 product_fits vars v f p x h e i l d k o = let m = product_small vars v f p x h e i l d k in omega (arith, m, o)
 
-pub sum_fits_most : (vars : List VarInfo) (v : ℕ) (f : List Term) (p q : List Work) (x h s i : Typed) (e g : Tree) → x ≡ input_of vars v → v < length vars → terms_in p ≡ divided v f → terms_in q ≡ free_of v f → Has vars h e (weighted_sum (scale vars) (terms_in p)) → s ≡ times_of x h → Has vars i g (weighted_sum (scale vars) (terms_in q)) → weighted_sum (scale vars) f ≤ most → bound s + bound i ≤ most
-sum_fits_most vars v f p q x h s i e g y l d r k z j o =
+-- and the sum
+pub sum_fits_most : (vars : List VarInfo) (v : ℕ) (f : List Term) (p q : List Work) (x h s i : Typed) (e g : Tree) → x ≡ input_of vars v → v < length vars → sizes vars v ≤ most → terms_in p ≡ divided v f → terms_in q ≡ free_of v f → Has vars h e (weighted_sum (scale vars) (terms_in p)) → s ≡ product_of x h → Has vars i g (weighted_sum (scale vars) (terms_in q)) → weighted_sum (scale vars) f ≤ most → bound s + bound i ≤ most
+sum_fits_most vars v f p q x h s i e g y l u d r k z j o =
     let m = product_small vars v f p x h e y l d k in
     let w : weighted_sum (scale vars) (terms_in q) ≡ weighted_sum (scale vars) (free_of v f) = ap (weighted_sum (scale vars)) r in
-    let b : bound s ≡ bound x * bound h = ap bound z in
+    let n = product_has vars v x h e (weighted_sum (scale vars) (terms_in p)) y l u (omega (arith, m, o)) k in
+    let b : bound s ≤ bound x * bound h = rw z n.small in
     let c = j.small in
     omega (arith, m, w, b, c, o)
 
+-- with the product
 pub ends_product : (vars : List VarInfo) (inner : List Term → Tree) (v b : ℕ) (f : List Term) (p q : List Work) (x h t : Typed) → (p ≡ [] → ⊥) → q ≡ [] → terms_in p ≡ divided v f → terms_in q ≡ free_of v f → x ≡ input_of vars v → v < length vars → sizes vars v ≤ most → weighted_sum (scale vars) f ≤ most
-    → Has vars h (horner inner v b (terms_in p)) (weighted_sum (scale vars) (terms_in p)) → t ≡ times_of x h → Has vars t (step inner v b f) (weighted_sum (scale vars) f)
+    → Has vars h (horner inner v b (terms_in p)) (weighted_sum (scale vars) (terms_in p)) → t ≡ product_of x h → Has vars t (step inner v b f) (weighted_sum (scale vars) f)
 ends_product vars inner v b f p q x h t y z e g i l k o a j =
     let m = product_small vars v f p x h _ i l e a in
-    let n = times_has vars x h t _ _ _ _ j (omega (arith, m, o)) (input_has vars v x i l k) a in
-    has_as vars t _ _ _ _ (ap (λ u. Mul (Input v) (horner inner v b u)) e ∙ joined_product v (divided v f) (free_of v f) (horner inner v b (divided v f)) (inner (free_of v f)) (λ r. not_empty p y (e ∙ r)) (sym g ∙ nothing_in q z)) (omega (arith, m)) n
+    let n : Has vars t (scaled v (horner inner v b (terms_in p))) (bound x * bound h) = rw j (product_has vars v x h _ _ i l k (omega (arith, m, o)) a) in
+    has_as vars t _ _ _ _ (ap (λ u. scaled v (horner inner v b u)) e ∙ joined_product v (divided v f) (free_of v f) (horner inner v b (divided v f)) (inner (free_of v f)) (λ r. not_empty p y (e ∙ r)) (sym g ∙ nothing_in q z)) (omega (arith, m)) n
 
+-- with the sum
 pub ends_sum : (vars : List VarInfo) (inner : List Term → Tree) (v b : ℕ) (f : List Term) (p q : List Work) (x h i s t : Typed) → (p ≡ [] → ⊥) → (q ≡ [] → ⊥) → terms_in p ≡ divided v f → terms_in q ≡ free_of v f → x ≡ input_of vars v → v < length vars → sizes vars v ≤ most → weighted_sum (scale vars) f ≤ most
-    → Has vars h (horner inner v b (terms_in p)) (weighted_sum (scale vars) (terms_in p)) → s ≡ times_of x h → Has vars i (inner (terms_in q)) (weighted_sum (scale vars) (terms_in q)) → t ≡ plus_of s i → Has vars t (step inner v b f) (weighted_sum (scale vars) f)
+    → Has vars h (horner inner v b (terms_in p)) (weighted_sum (scale vars) (terms_in p)) → s ≡ product_of x h → Has vars i (inner (terms_in q)) (weighted_sum (scale vars) (terms_in q)) → t ≡ plus_of s i → Has vars t (step inner v b f) (weighted_sum (scale vars) f)
 ends_sum vars inner v b f p q x h i s t y z e g u l k o a j c r =
     let m = product_small vars v f p x h _ u l e a in
-    let n = times_has vars x h s _ _ _ _ j (omega (arith, m, o)) (input_has vars v x u l k) a in
+    let n : Has vars s (scaled v (horner inner v b (terms_in p))) (bound x * bound h) = rw j (product_has vars v x h _ _ u l k (omega (arith, m, o)) a) in
     let w : weighted_sum (scale vars) (terms_in q) ≡ weighted_sum (scale vars) (free_of v f) = ap (weighted_sum (scale vars)) g in
     let bs : bound s ≤ bound x * bound h = n.small in
     let bi : bound i ≤ weighted_sum (scale vars) (terms_in q) = c.small in
     let d = plus_has vars s i t _ _ _ _ r (omega (arith, m, o, bs, bi, w)) n c in
     has_as vars t _ _ _ _ (both (ap (horner inner v b) e) (ap inner g) ∙ joined_sum v (divided v f) (free_of v f) (horner inner v b (divided v f)) (inner (free_of v f)) (λ a. not_empty p y (e ∙ a)) (λ a. not_empty q z (g ∙ a))) (omega (arith, m, bs, bi, w)) d
   where
-    both : {a c d g : Tree} → a ≡ c → d ≡ g → Add (Mul (Input v) a) d ≡ Add (Mul (Input v) c) g
+    both : {a c d g : Tree} → a ≡ c → d ≡ g → Add (scaled v a) d ≡ Add (scaled v c) g
     both p q = rw (p, q) refl
 
 -- ---- lists that are empty or not
+-- a list of no length is empty
 pub no_length : {A : Type 0} (xs : List A) → length xs ≡ 0 → xs ≡ []
 no_length [] h = refl
 no_length (x ∷ xs) h = absurd (omega arith)
 
+-- the test of an empty vector
 pub is_empty : (n : ℕ) (ws : List Work) → true ≡ (n == 0) → n ≡ length ws → ws ≡ []
 is_empty n ws e l = let z : n ≡ 0 = eqb-true n 0 (sym e) in no_length ws (omega (arith, z, l))
 
+-- a number that is not 0 by its test
 not_zero : (n : ℕ) → false ≡ (n == 0) → n ≡ 0 → ⊥
 not_zero zero e z = cc
 not_zero (suc n) e z = absurd (omega (arith, z))
 
+-- the test of a vector that is not empty
 pub is_some : (n : ℕ) (ws : List Work) → false ≡ (n == 0) → n ≡ length ws → ws ≡ [] → ⊥
 is_some n ws e l r = not_zero n e (let z : length ws ≡ 0 = ap length r in omega (arith, z, l))
 
 -- ---- where the forms of the code and of the definition meet
+-- powers up to b + 1 are a step
 pub at_count : (vars : List VarInfo) (inner : List Term → Tree) (v b c n : ℕ) (f : List Term) (t : Typed) → c ≡ suc b → Has vars t (step inner v b f) n → Has vars t (horner inner v c f) n
 at_count vars inner v b c n f t e h = rw e h
 
+-- the variables from v on are powers of v with those behind v
 pub from_powers : (d n v : ℕ) (f : List Term) → v < n → nested d (n - v) v f ≡ horner (nested d (n - (v + 1)) (v + 1)) v d f
 from_powers d n v f h = by_eq (n - v) (n - (v + 1)) (v + 1) (omega arith) (omega arith)
   where
     by_eq : (m k u : ℕ) → m ≡ suc k → u ≡ suc v → nested d m v f ≡ horner (nested d k u) v d f
     by_eq m k u p q = rw (p, q) refl
 
-pub has_along : (vars : List VarInfo) (t : Typed) (e g : Tree) (b : ℕ) → g ≡ e → Has vars t e b → Has vars t g b
-has_along vars t e g b p h = rw p h
-
+-- the absolute factors together are at most the weighted sum
 pub few_weight : (w : ℕ → ℕ) → ((v : ℕ) → 1 ≤ w v) → (f : List Term) → abs_total f ≤ weighted_sum w f
 few_weight w o [] = omega arith
 few_weight w o (t ∷ f) =
@@ -209,6 +251,7 @@ first x ws n e = rw e (turned x.factor)
     turned : (z : ℤ) → z +ℤ pos 0 ≡ pos 0 +ℤ z
     turned z = omega (arith, ints)
 
+-- one factor more
 pub sum_step : (ws : List Work) (i : ℕ) (w : Work) → i < length ws → w ≡ slice_index_or ws i w → total (terms_in (take (i + 1) ws)) ≡ total (terms_in (take i ws)) +ℤ w.factor
 sum_step [] i w h e = absurd (omega arith)
 sum_step (x ∷ ws) zero w h e = let f : w ≡ x = e in rw f (first x ws (0 + 1) (omega arith))
@@ -217,6 +260,7 @@ sum_step (x ∷ ws) (suc i) w h e =
     let g : suc i + 1 ≡ suc (i + 1) = omega arith in
     rw g (omega (arith, ints, ih))
 
+-- a part of the sum and the next factor are within the absolute factors together
 pub sum_fits : (ws : List Work) (i : ℕ) (w : Work) → i < length ws → w ≡ slice_index_or ws i w → unsigned_abs (total (terms_in (take i ws))) + unsigned_abs w.factor ≤ abs_total (terms_in ws)
 sum_fits [] i w h e = absurd (omega arith)
 sum_fits (x ∷ ws) zero w h e = let f : w ≡ x = e in rw f (omega arith)
@@ -225,11 +269,13 @@ sum_fits (x ∷ ws) (suc i) w h e =
     let a : unsigned_abs (x.factor +ℤ total (terms_in (take i ws))) ≤ unsigned_abs x.factor + unsigned_abs (total (terms_in (take i ws))) = omega (arith, ints) in
     omega (arith, ih, a)
 
+-- so the next sum fits 128 bits
 pub small_sum : (a b s f : ℤ) (m : ℕ) → a ≡ s → b ≡ f → unsigned_abs s + unsigned_abs f ≤ m → m ≤ most → FitsSigned w128 (a +ℤ b)
 small_sum a b s f m p q h l = fits_signed_from_abs w128 (a +ℤ b) (rw (p, q) (plain s f m h l))
   where
     plain : (s f : ℤ) (m : ℕ) → unsigned_abs s + unsigned_abs f ≤ m → m ≤ most → unsigned_abs (s +ℤ f) < 2 ^ 127
     plain s f m h l = omega (arith, ints)
 
+-- and is the sum of one term more
 pub sum_next : (a b s f r : ℤ) → a ≡ s → b ≡ f → r ≡ s +ℤ f → a +ℤ b ≡ r
 sum_next a b s f r p q e = rw (p, q) (sym e)

@@ -1,45 +1,48 @@
 -- Vectors and lists of terms as the code has them.
-use Rattle.std.proofs.Common.{◌≡◌, ℕ, ℤ, ◌+◌, ◌-◌, ◌*◌, ◌≤◌, ◌<◌, Bool, true, false, List, [], ◌∷◌, ◌++◌, length, refl, zero, suc, ap, arith, pos, ◌+ℤ◌, ◌∙◌, sym, map, if◌then◌else◌, nat_lt, slice_set, slice_index_or, unsigned_abs, take}
-use Rattle.std.proofs.lemmas.Int.{ints}
+use Rattle.std.proofs.Common.{◌≡◌, ℕ, ◌+◌, ◌-◌, ◌≤◌, ◌<◌, Bool, true, false, List, [], ◌∷◌, ◌++◌, length, refl, zero, suc, ap, arith, ◌∙◌, sym, if◌then◌else◌, nat_lt, slice_set, slice_index_or}
 use Rattle.std.proofs.lemmas.Bool.Decides.{nat_tests}
-use Rattle.ln_algebra.specs.Terms.{Term}
-use Rattle.ln_algebra.specs.Weights.{weighted_sum}
 use Rattle.ln_nest.specs.declared.work.Work.{Work}
-use Rattle.ln_nest.specs.Nested.{exponent_of, is_positive, one_less, divided, free_of, total}
+use Rattle.ln_nest.specs.Nested.{exponent_of, is_positive, one_less, divided, free_of}
 use Rattle.ln_tree.specs.Exps.{Pairs, exponent, exponents_from, vector}
-use Rattle.ln_poly.specs.Sparse.{Sparse, term_of, terms_of}
 use Rattle.ln_nest.specs.View.{term_in, terms_in}
 
+-- an exponent is the entry of the vector
 pub exponent_is : (v : ℕ) (m : List ℕ) → exponent_of v m ≡ slice_index_or m v 0
 exponent_is v [] = refl
 exponent_is zero (n ∷ m) = refl
 exponent_is (suc v) (n ∷ m) = exponent_is v m
 
+-- there is none past its end
 pub exponent_none : (v : ℕ) (m : List ℕ) → length m ≤ v → false ≡ is_positive (exponent_of v m)
 exponent_none v [] h = refl
 exponent_none zero (n ∷ m) h = absurd (omega arith)
 exponent_none (suc v) (n ∷ m) h = exponent_none v m (omega arith)
 
+-- the test that it is above 0
 pub is_test : (n : ℕ) → nat_lt 0 n ≡ is_positive n
 is_test zero = refl
 is_test (suc n) = grind (arith, nat_tests)
 
+-- one above 0 is within the vector
 pub within : (v : ℕ) (m : List ℕ) → is_positive (exponent_of v m) ≡ true → v < length m
 within v [] h = cc
 within zero (n ∷ m) h = omega arith
 within (suc v) (n ∷ m) h = let r = within v m h in omega (arith, r)
 
+-- and is at least 1 there
 pub positive : (v : ℕ) (m : List ℕ) (d : ℕ) → is_positive (exponent_of v m) ≡ true → 1 ≤ slice_index_or m v d
 positive v [] d h = cc
 positive zero (zero ∷ m) d h = cc
 positive zero (suc n ∷ m) d h = omega arith
 positive (suc v) (n ∷ m) d h = positive v m d h
 
+-- writing one less gives the vector with one less
 pub set_is : (v : ℕ) (m : List ℕ) (x : ℕ) → x ≡ slice_index_or m v x → v < length m → slice_set m v (x - 1) ≡ one_less v m
 set_is v [] x e h = absurd (omega arith)
 set_is zero (n ∷ m) x e h = let f : x ≡ n = e in rw f refl
 set_is (suc v) (n ∷ m) x e h = ap (λ t. n ∷ t) (set_is v m x e (omega arith))
 
+-- the divided terms with one term more
 pub divided_one : (v : ℕ) (ws : List Work) (w : Work) (b : Bool) → is_positive (exponent_of v w.exponents.items) ≡ b → divided v (terms_in (ws ++ (w ∷ []))) ≡ divided v (terms_in ws) ++ (if b then record { exponents = one_less v w.exponents.items; factor = w.factor } ∷ [] else [])
 divided_one v [] w true e = rw e refl
 divided_one v [] w false e = rw e refl
@@ -49,6 +52,7 @@ divided_one v (x ∷ ws) w b e = by_case (is_positive (exponent_of v x.exponents
     by_case true ih = rw ih refl
     by_case false ih = ih
 
+-- the others with one term more
 pub free_one : (v : ℕ) (ws : List Work) (w : Work) (b : Bool) → is_positive (exponent_of v w.exponents.items) ≡ b → free_of v (terms_in (ws ++ (w ∷ []))) ≡ free_of v (terms_in ws) ++ (if b then [] else term_in w ∷ [])
 free_one v [] w true e = rw e refl
 free_one v [] w false e = rw e refl
@@ -58,25 +62,31 @@ free_one v (x ∷ ws) w b e = by_case (is_positive (exponent_of v x.exponents.it
     by_case true ih = ih
     by_case false ih = rw ih refl
 
+-- working terms one after the other
 pub terms_append : (xs ys : List Work) → terms_in (xs ++ ys) ≡ terms_in xs ++ terms_in ys
 terms_append [] ys = refl
 terms_append (x ∷ xs) ys = ap (λ t. term_in x ∷ t) (terms_append xs ys)
 
+-- nothing behind a list leaves it
 no_more : {A : Type 0} (xs : List A) → xs ++ [] ≡ xs
 no_more [] = refl
 no_more (x ∷ xs) = ap (λ t. x ∷ t) (no_more xs)
 
+-- a term with v goes to the divided ones
 pub with_step : (v : ℕ) (items news : List Work) (lower : Work) (seen : List Work) (term : Work) → news ≡ items ++ (lower ∷ []) → lower.exponents.items ≡ one_less v term.exponents.items → lower.factor ≡ term.factor → terms_in items ≡ divided v (terms_in seen) → is_positive (exponent_of v term.exponents.items) ≡ true → terms_in news ≡ divided v (terms_in (seen ++ (term ∷ [])))
 with_step v items news lower seen term e p q i h =
     ap terms_in e ∙ terms_append items (lower ∷ []) ∙ rw (i, p, q) (sym (divided_one v seen term true h))
 
+-- a term without v leaves them
 pub with_same : (v : ℕ) (items seen : List Work) (term : Work) → terms_in items ≡ divided v (terms_in seen) → is_positive (exponent_of v term.exponents.items) ≡ false → terms_in items ≡ divided v (terms_in (seen ++ (term ∷ [])))
 with_same v items seen term i h = i ∙ sym (divided_one v seen term false h ∙ no_more _)
 
+-- and goes to the others
 pub without_step : (v : ℕ) (items news seen : List Work) (term : Work) → news ≡ items ++ (term ∷ []) → terms_in items ≡ free_of v (terms_in seen) → is_positive (exponent_of v term.exponents.items) ≡ false → terms_in news ≡ free_of v (terms_in (seen ++ (term ∷ [])))
 without_step v items news seen term e i h =
     ap terms_in e ∙ terms_append items (term ∷ []) ∙ rw i (sym (free_one v seen term false h))
 
+-- which a term with v leaves
 pub without_same : (v : ℕ) (items seen : List Work) (term : Work) → terms_in items ≡ free_of v (terms_in seen) → is_positive (exponent_of v term.exponents.items) ≡ true → terms_in items ≡ free_of v (terms_in (seen ++ (term ∷ [])))
 without_same v items seen term i h = i ∙ sym (free_one v seen term true h ∙ no_more _)
 
@@ -86,8 +96,10 @@ exponents-more : (a n k : ℕ) (ps : Pairs) → k ≡ a + n → exponents_from a
 exponents-more a zero k ps e = let g : k ≡ a = omega (arith, e) in rw g refl
 exponents-more a (suc n) k ps e = ap (λ m. exponent a ps ∷ m) (exponents-more (suc a) n k ps (omega (arith, e)))
 
+-- the vector of one more variable
 pub vector_step : (n k : ℕ) (ps : Pairs) → k ≡ suc n → vector k ps ≡ vector n ps ++ (exponent n ps ∷ [])
 vector_step n k ps e = rw e (exponents-more 0 n n ps (omega arith))
 
+-- as the code builds it
 pub pushed : (n k : ℕ) (ps : Pairs) (m news : List ℕ) (e : ℕ) → m ≡ vector n ps → k ≡ suc n → e ≡ exponent n ps → news ≡ m ++ (e ∷ []) → news ≡ vector k ps
 pushed n k ps m news e h q p s = s ∙ rw (h, p) (sym (vector_step n k ps q))

@@ -1,5 +1,5 @@
 -- Trees no node of which has many terms or large exponents.
-use Rattle.std.specs.Prelude.{ℕ, ◌≤◌, max, List, [], ◌∷◌, length}
+use Rattle.std.specs.Prelude.{◌≢◌, ℕ, ◌≤◌, max, pos, List, [], ◌∷◌, length}
 use Rattle.ln_algebra.specs.Terms.{IsNormalOf, Term}
 use Rattle.ln_algebra.specs.Tree.{Tree, Num, Input, Name, Neg, Add, Sub, Mul, Pow}
 use Rattle.ln_tree.specs.Exps.{exponent}
@@ -33,3 +33,8 @@ AreLean n count top (Add e f) = AreLean n count top e × AreLean n count top f �
 AreLean n count top (Sub e f) = AreLean n count top e × AreLean n count top f × IsLean n count top (Sub e f)
 AreLean n count top (Mul e f) = AreLean n count top e × AreLean n count top f × IsLean n count top (Mul e f)
 AreLean n count top (Pow e k) = AreLean n count top e × ((j : ℕ) → j ≤ k → IsLean n count top (Pow e j))
+
+-- no factor is 0
+abbrev pub HasNoZero : List Term → Type 0
+HasNoZero [] = Unit {0}
+HasNoZero (t ∷ f) = (t.factor ≢ pos 0) × HasNoZero f

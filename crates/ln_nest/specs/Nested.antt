@@ -1,7 +1,9 @@
 -- A list of terms as a nested tree.
 use Rattle.std.specs.Prelude.{ℕ, zero, suc, ◌-◌, Bool, true, false, ℤ, pos, ◌+ℤ◌, List, [], ◌∷◌, if◌then◌else◌}
 use Rattle.ln_algebra.specs.Terms.{Term}
-use Rattle.ln_algebra.specs.Tree.{Tree, Num, Input, Add, Mul}
+use Rattle.std.specs.Prelude.{negsuc}
+use Rattle.std.specs.Ordering.{int_eq}
+use Rattle.ln_algebra.specs.Tree.{Tree, Num, Input, Name, Neg, Add, Sub, Mul, Pow}
 
 -- the exponent of variable v
 abbrev pub exponent_of : ℕ → List ℕ → ℕ
@@ -34,11 +36,26 @@ abbrev pub total : List Term → ℤ
 total [] = pos 0
 total (t ∷ f) = t.factor +ℤ total f
 
+-- is the tree the number z?
+abbrev pub is_number : ℤ → Tree → Bool
+is_number z (Num c) = int_eq c z
+is_number z (Input v) = false
+is_number z (Name j) = false
+is_number z (Neg e) = false
+is_number z (Add e f) = false
+is_number z (Sub e f) = false
+is_number z (Mul e f) = false
+is_number z (Pow e n) = false
+
+-- variable v times h: where h is 1 or -1 the variable or its opposite
+abbrev pub scaled : ℕ → Tree → Tree
+scaled v h = if is_number (pos 1) h then Input v else (if is_number (negsuc 0) h then Neg (Input v) else Mul (Input v) h)
+
 -- variable v times h, and i, each where it has a term
 abbrev pub joined : ℕ → Tree → Tree → List Term → List Term → Tree
 joined v h i [] g = i
-joined v h i (t ∷ f) [] = Mul (Input v) h
-joined v h i (t ∷ f) (s ∷ g) = Add (Mul (Input v) h) i
+joined v h i (t ∷ f) [] = scaled v h
+joined v h i (t ∷ f) (s ∷ g) = Add (scaled v h) i
 
 -- by powers of variable v, of which there are at most d; inner has the variables after it
 abbrev pub horner : (List Term → Tree) → ℕ → ℕ → List Term → Tree

@@ -12,16 +12,42 @@ ghost use Rattle.ln_bound.specs.Value.{sizes};
 ghost use Rattle.ln_bound.specs.View.{typed};
 ghost use Rattle.ln_poly.specs.Sparse.{AreBelow, coefficient_at, terms_of};
 ghost use Rattle.ln_nest.specs.Lean.{AreLean, largest};
-ghost use Rattle.ln_nest.specs.Nested.{horner, nested};
-ghost use Rattle.ln_nest.specs.View.{Has, scale, terms_in};
+ghost use Rattle.ln_nest.specs.Nested.{horner, is_number, nested};
+ghost use Rattle.ln_nest.specs.View.{Has, product_of, scale, terms_in};
 
 use crate::work::{Work, constant, parted, work_of};
 use ln_base::NoMemory;
-use ln_bound::size::{input, number, two};
-use ln_bound::{Fitted, Two};
+use ln_bound::size::{input, negated, number, two};
+use ln_bound::{FitOp, Fitted, Two};
 use ln_poly::Poly;
 use ln_tree::{Shape, VarInfo};
 use std::alloc::Global;
+
+// Is the tree this number?
+fn is_number(t: &Fitted, z: i128) -> bool
+    ensures { result ≡ is_number z (untyped (typed t.now)) }
+{
+    match &t.op {
+        FitOp::Num(c) => *c == z,
+        _ => false,
+    }
+}
+
+// The product of a variable and a tree: where that is 1 or -1, the variable or its opposite.
+fn times(alloc: Global, x: Fitted, y: Fitted) -> Result<Fitted, NoMemory>
+    requires { bound (typed x) * bound (typed y) ≤ most }
+    ensures { IfOk result (λ t. typed t ≡ product_of (typed x) (typed y)) }
+{
+    if is_number(&y, 1) {
+        return Ok(x);
+    }
+    if is_number(&y, -1) {
+        let opposite = negated(alloc, x)?;
+        return Ok(opposite);
+    }
+    let product = two(alloc, Two::Times, x, y)?;
+    Ok(product)
+}
 
 // The tree of terms in the variables from v on, by powers up to d.
 #[cycle(powers)]
@@ -69,7 +95,7 @@ fn by_powers(
         return Ok(rest);
     }
     let h = by_powers(alloc, vars, d, v, b - 1, with)?;
-    let product = two(alloc, Two::Times, input(vars, v), h)?;
+    let product = times(alloc, input(vars, v), h)?;
     if without.is_empty() {
         return Ok(product);
     }
@@ -78,11 +104,12 @@ fn by_powers(
     Ok(sum)
 }
 
-/// A tree with the polynomial f, in nested form: by powers of the first variable, each factor of them by powers of the
-/// next. Each bound is exactly its operation over the operands' bounds, of a variable the largest absolute value of its
-/// range, and each width is the least that fits it and is no narrower than an operand. The root's bound is at most the sum
-/// of f's absolute factors, each times its monomial at these values, and has to be at most `2^127 - 1`. No node has more
-/// terms than f, or a larger exponent of a variable.
+/// A tree with the polynomial f, whose terms have a degree of at most 126, in nested form: by powers of the first variable,
+/// each factor of them by powers of the next. Each bound is exactly its operation over the operands' bounds, of a variable
+/// the largest absolute value of its range, and at least 1; each width is the least that fits it and is no narrower than an
+/// operand. The root's bound is at most the sum of f's absolute factors, each times its monomial at these values, which has
+/// to be at most `2^127 - 1`. No node has more terms than f, or than one where f has none, or a larger exponent of a
+/// variable. There are at most 1,024 operations for each term of f, and one where f has none.
 pub fn nest(alloc: Global, f: &Poly, s: &Shape) -> Result<Fitted, NoMemory>
     requires below { AreBelow (length s.now.vars) f.now }
     requires degrees { All (λ t. degree (vector (length s.now.vars) t.0) ≤ 126) f.now }

@@ -11,7 +11,7 @@ use Rattle.ln_parse.specs.ReadsBack.{Every, CoordNamed, SiteNamed, ArgNamed, Let
 use Rattle.ln_parse.proofs.WordTokens.{number_kind, name_kind}
 use Rattle.ln_parse.proofs.LexBack.{Clear, toks, lexed}
 use Rattle.ln_parse.proofs.DeriveBack.{Clears, Sits, sits, whole_clear}
-use Rattle.ln_parse.proofs.ItemsBack.{sites_back}
+use Rattle.ln_parse.proofs.ItemsBack.{FileBack, sites_back}
 
 signed_by : (v : Bool) (n : ℕ) → n < 10 ^ 64 → Clears (λ rest. minus_if v (number n rest))
 signed_by false n h = λ rest s c. (number_kind n h, s, c)
@@ -91,11 +91,18 @@ sites_clear : (ss : List SiteOf) → Every SiteNamed ss → (rest : List Lexeme)
 sites_clear [] n rest k = k
 sites_clear (s ∷ ss) n rest k = site_clear s n.0 (each site ss rest) (sites_clear ss n.1 rest k)
 
+-- no token of the canonical text runs on
+pub table_clear : (t : TableOf) → TableNamed t → Clear (lexemes t [])
+table_clear t n = sites_clear t.sites n.sites _ (params_clear t.params n.params _ (preds_clear t t.preds n.preds))
+
+-- its tokens spell the table's items
+pub table_back : (t : TableOf) → TableNamed t → FileBack (canonical t) (toks 0 (lexemes t [])) t 0 t.sites t.params t.preds
+table_back t n =
+    let h : Sits (canonical t) (toks 0 (lexemes t [])) 0 (lexemes t []) = sits (canonical t) (toks 0 (lexemes t [])) (lexemes t []) 0 0 refl refl (omega arith) in
+    sites_back (canonical t) (toks 0 (lexemes t [])) t t.preds n.preds t.params n.params t.sites n.sites 0 h
+
 -- the canonical text of a table is read back as its items
 pub reads_back : (t : TableOf) → TableNamed t → ReadsBack (canonical t) t
 reads_back t n =
-    let xs = lexemes t [] in
-    let c : Clear xs = sites_clear t.sites n.sites _ (params_clear t.params n.params _ (preds_clear t t.preds n.preds)) in
-    let h : Sits (canonical t) (toks 0 xs) 0 xs = sits (canonical t) (toks 0 xs) xs 0 0 refl refl (omega arith) in
-    let f = sites_back (canonical t) (toks 0 xs) t t.preds n.preds t.params n.params t.sites n.sites 0 h in
-    record { tokens = toks 0 xs; lexed = lexed xs c; items = f.items; spelt = f.derives; sites = f.sites; params = f.params; preds = f.preds }
+    let f = table_back t n in
+    record { tokens = toks 0 (lexemes t []); lexed = lexed (lexemes t []) (table_clear t n); items = f.items; spelt = f.derives; sites = f.sites; params = f.params; preds = f.preds }

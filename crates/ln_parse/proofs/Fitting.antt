@@ -68,13 +68,13 @@ known_from bytes is S P before (a ∷ raws) d e = and_from _ _ (known_one bytes 
 pub all_known : (bytes : List ℕ) (is : List Item) (raws : List RawArg) (S : List SiteOf) (P : List CoordOf) → Sees bytes is raws S P → list_all (is_known (length S) (length P)) (said bytes is raws) ≡ true
 all_known bytes is raws S P s = known_from bytes is S P [] raws s.declares s.known
 
-said_site : (bytes : List ℕ) (is : List Item) (a : RawArg) (b : Bool) → b ≡ false → arg_said bytes is a b ≡ SiteArg (text bytes a.name) (place (λ n. same bytes n a.kind) (site_names is))
+pub said_site : (bytes : List ℕ) (is : List Item) (a : RawArg) (b : Bool) → b ≡ false → arg_said bytes is a b ≡ SiteArg (text bytes a.name) (place (λ n. same bytes n a.kind) (site_names is))
 said_site bytes is a b h = ap (arg_said bytes is a) h
 
-said_param : (bytes : List ℕ) (is : List Item) (a : RawArg) (b : Bool) → b ≡ true → arg_said bytes is a b ≡ ParamArg (place (λ n. same bytes n a.name) (param_names is))
+pub said_param : (bytes : List ℕ) (is : List Item) (a : RawArg) (b : Bool) → b ≡ true → arg_said bytes is a b ≡ ParamArg (place (λ n. same bytes n a.name) (param_names is))
 said_param bytes is a b h = ap (arg_said bytes is a) h
 
-said_at : (bytes : List ℕ) (is : List Item) (raws : List RawArg) (k : ℕ) (a : RawArg) → slice_get raws k ≡ Some a → slice_get (said bytes is raws) k ≡ Some (arg_said bytes is a a.is_param)
+pub said_at : (bytes : List ℕ) (is : List Item) (raws : List RawArg) (k : ℕ) (a : RawArg) → slice_get raws k ≡ Some a → slice_get (said bytes is raws) k ≡ Some (arg_said bytes is a a.is_param)
 said_at bytes is raws k a h = slice_get-map (λ a. arg_said bytes is a a.is_param) raws k ∙ ap (option_map (λ a. arg_said bytes is a a.is_param)) h
 
 -- an input is a variable

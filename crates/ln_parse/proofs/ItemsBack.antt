@@ -185,6 +185,24 @@ pred_back bytes ts t p m i rest h =
       after = z.2;
     }
 
+-- items that are these predicates
+abbrev pub PredsLike : List ℕ → List Token → TableOf → List Item → List PredOf → Type 0
+PredsLike bytes ts t [] [] = Unit {0}
+PredsLike bytes ts t (PredItem n as' ls r ∷ is) (p ∷ ps) = PredWritten bytes ts t n as' ls r p × PredsLike bytes ts t is ps
+PredsLike bytes ts t is ps = ⊥
+
+-- items that are these params, and then these predicates
+abbrev pub ParamsLike : List ℕ → List Token → TableOf → List Item → List CoordOf → List PredOf → Type 0
+ParamsLike bytes ts t is [] ps = PredsLike bytes ts t is ps
+ParamsLike bytes ts t (ParamItem n r ∷ is) (c ∷ cs) ps = (said.ranged bytes n r ≡ c) × ParamsLike bytes ts t is cs ps
+ParamsLike bytes ts t is (c ∷ cs) ps = ⊥
+
+-- items that are these site types, then these params, and then these predicates
+abbrev pub SitesLike : List ℕ → List Token → TableOf → List Item → List SiteOf → List CoordOf → List PredOf → Type 0
+SitesLike bytes ts t is [] cs ps = ParamsLike bytes ts t is cs ps
+SitesLike bytes ts t (SiteItem n raws ∷ is) (s ∷ ss) cs ps = (text bytes n ≡ s.name) × (map (λ (c : RawCoord). said.ranged bytes c.name c.range) raws ≡ s.coords) × SitesLike bytes ts t is ss cs ps
+SitesLike bytes ts t is (s ∷ ss) cs ps = ⊥
+
 -- the items that stand from place i on, up to the end
 pub record FileBack (bytes : List ℕ) (ts : List Token) (t : TableOf) (i : ℕ) (ss : List SiteOf) (cs : List CoordOf) (ps : List PredOf) : Type 0 where
   pub items : List Item
@@ -192,24 +210,25 @@ pub record FileBack (bytes : List ℕ) (ts : List Token) (t : TableOf) (i : ℕ)
   pub sites : said.sites_said bytes items ≡ ss
   pub params : said.params_said bytes items ≡ cs
   pub preds : PredsWritten bytes ts t items ps
+  pub like : SitesLike bytes ts t items ss cs ps
 
 preds_back : (bytes : List ℕ) (ts : List Token) (t : TableOf) (ps : List PredOf) → Every (PredNamed t) ps → (i : ℕ) → Sits bytes ts i (each (pred t) ps []) → FileBack bytes ts t i [] [] ps
-preds_back bytes ts t [] n i h = record { items = []; derives = subst (λ (k : ℕ). file.Items ts i k []) h file.no_item; sites = refl; params = refl; preds = tt }
+preds_back bytes ts t [] n i h = record { items = []; derives = subst (λ (k : ℕ). file.Items ts i k []) h file.no_item; sites = refl; params = refl; preds = tt; like = tt }
 preds_back bytes ts t (p ∷ ps) n i h =
     let r = pred_back bytes ts t p n.0 i (each (pred t) ps []) h in
     let m = preds_back bytes ts t ps n.1 r.to r.after in
-    record { items = PredItem (span_at ts (suc i)) r.raws r.values r.places ∷ m.items; derives = file.an_item r.derives m.derives; sites = m.sites; params = m.params; preds = (r.writes, m.preds) }
+    record { items = PredItem (span_at ts (suc i)) r.raws r.values r.places ∷ m.items; derives = file.an_item r.derives m.derives; sites = m.sites; params = m.params; preds = (r.writes, m.preds); like = (r.writes, m.like) }
 
 params_back : (bytes : List ℕ) (ts : List Token) (t : TableOf) (ps : List PredOf) → Every (PredNamed t) ps → (cs : List CoordOf) → Every CoordNamed cs → (i : ℕ) → Sits bytes ts i (each param cs (each (pred t) ps [])) → FileBack bytes ts t i [] cs ps
 params_back bytes ts t ps n [] m i h = preds_back bytes ts t ps n i h
 params_back bytes ts t ps n (c ∷ cs) m i h =
     let r = range_back bytes ts c m.0 (suc i) (line ∷ each param cs (each (pred t) ps [])) h.2 in
     let f = params_back bytes ts t ps n cs m.1 (suc r.to) r.after in
-    record { items = ParamItem (span_at ts (suc i)) r.raw ∷ f.items; derives = file.an_item (file.param h.0 r.name r.colon r.derives r.semi) f.derives; sites = f.sites; params = rw (r.says, f.params) refl; preds = f.preds }
+    record { items = ParamItem (span_at ts (suc i)) r.raw ∷ f.items; derives = file.an_item (file.param h.0 r.name r.colon r.derives r.semi) f.derives; sites = f.sites; params = rw (r.says, f.params) refl; preds = f.preds; like = (r.says, f.like) }
 
 pub sites_back : (bytes : List ℕ) (ts : List Token) (t : TableOf) (ps : List PredOf) → Every (PredNamed t) ps → (cs : List CoordOf) → Every CoordNamed cs → (ss : List SiteOf) → Every SiteNamed ss → (i : ℕ) → Sits bytes ts i (each site ss (each param cs (each (pred t) ps []))) → FileBack bytes ts t i ss cs ps
 sites_back bytes ts t ps n cs m [] k i h = params_back bytes ts t ps n cs m i h
 sites_back bytes ts t ps n cs m (s ∷ ss) k i h =
     let r = site_back bytes ts s k.0 i (each site ss (each param cs (each (pred t) ps []))) h in
     let f = sites_back bytes ts t ps n cs m ss k.1 r.to r.after in
-    record { items = SiteItem (span_at ts (suc i)) r.raws ∷ f.items; derives = file.an_item r.derives f.derives; sites = rw (r.name, r.says, f.sites) refl; params = f.params; preds = f.preds }
+    record { items = SiteItem (span_at ts (suc i)) r.raws ∷ f.items; derives = file.an_item r.derives f.derives; sites = rw (r.name, r.says, f.sites) refl; params = f.params; preds = f.preds; like = (r.name, r.says, f.like) }

@@ -40,9 +40,7 @@ use Rattle.ln_parse.specs.Ready.{ReadyValue, ReadyCoord, ReadyArg, ReadyLet, Rea
 use Rattle.ln_parse.proofs.LaidOut.{Known, count_cons, laid_out}
 use Rattle.ln_parse.proofs.Arguments.{all_are_of, all_fit}
 use Rattle.ln_parse.proofs.Fitting.{Sees, said, all_known, fits}
-
-in_order : (x y : ℤ) → x ≤ℤ y → int_lt y x ≡ false
-in_order x y h = grind (arith, nat_tests, ints)
+use Rattle.ln_parse.proofs.TestLemmas.{in_order}
 
 above : (b : Bool) (n : ℕ) → n < 2 ^ 63 → int_lt (neg_ℤ (pos (2 ^ 63))) (signed b n) ≡ true
 above false n h = grind (arith, nat_tests, ints)
@@ -74,13 +72,13 @@ params_good bytes ts before (SiteItem n cs ∷ is) e = params_good bytes ts (bef
 params_good bytes ts before (ParamItem n r ∷ is) e = and_from _ _ (ranged_good bytes n r e.0.range) (params_good bytes ts (before ++ (ParamItem n r ∷ [])) is e.1)
 params_good bytes ts before (PredItem n as' ls p ∷ is) e = params_good bytes ts (before ++ (PredItem n as' ls p ∷ [])) is e.1
 
-sites_append : (bytes : List ℕ) (xs ys : List Item) → sites_said bytes (xs ++ ys) ≡ sites_said bytes xs ++ sites_said bytes ys
+pub sites_append : (bytes : List ℕ) (xs ys : List Item) → sites_said bytes (xs ++ ys) ≡ sites_said bytes xs ++ sites_said bytes ys
 sites_append bytes [] ys = refl
 sites_append bytes (SiteItem n cs ∷ xs) ys = ap (λ (w : List SiteOf). record { name = text bytes n; coords = map (λ c. ranged bytes c.name c.range) cs } ∷ w) (sites_append bytes xs ys)
 sites_append bytes (ParamItem n r ∷ xs) ys = sites_append bytes xs ys
 sites_append bytes (PredItem n as' ls p ∷ xs) ys = sites_append bytes xs ys
 
-params_append : (bytes : List ℕ) (xs ys : List Item) → params_said bytes (xs ++ ys) ≡ params_said bytes xs ++ params_said bytes ys
+pub params_append : (bytes : List ℕ) (xs ys : List Item) → params_said bytes (xs ++ ys) ≡ params_said bytes xs ++ params_said bytes ys
 params_append bytes [] ys = refl
 params_append bytes (SiteItem n cs ∷ xs) ys = params_append bytes xs ys
 params_append bytes (ParamItem n r ∷ xs) ys = ap (λ (w : List CoordOf). ranged bytes n r ∷ w) (params_append bytes xs ys)

@@ -15,12 +15,12 @@ abbrev pub Differ : List (List ℕ) → Type 0
 Differ [] = Unit {0}
 Differ (u ∷ us) = NoneIs u us × Differ us
 
-not_there : (u : List ℕ) (us : List (List ℕ)) (j : ℕ) (t : List ℕ) → NoneIs u us → slice_get us j ≡ Some t → bytes_eq u t ≡ false
+pub not_there : (u : List ℕ) (us : List (List ℕ)) (j : ℕ) (t : List ℕ) → NoneIs u us → slice_get us j ≡ Some t → bytes_eq u t ≡ false
 not_there u [] j t n e = absurd (cc)
 not_there u (x ∷ us) zero t n e = let q : x ≡ t = cc in rw (← q) n.0
 not_there u (x ∷ us) (suc j) t n e = not_there u us j t n.1 e
 
-same_bytes : (t : List ℕ) → bytes_eq t t ≡ true
+pub same_bytes : (t : List ℕ) → bytes_eq t t ≡ true
 same_bytes t = (bytes_eq-Decides t t).1 refl
 
 place_from : {A : Type 0} (name : A → List ℕ) (k : ℕ) (xs : List A) (j : ℕ) (t : List ℕ) → Differ (map name xs) → slice_get (map name xs) j ≡ Some t → position_from (λ x. bytes_eq (name x) t) k xs ≡ Some (k + j)

@@ -6,5 +6,6 @@ pub mod Written
 pub mod Canonical
 pub mod ReadsBack
 pub mod Spanless
+pub mod WholeTable
 pub mod Fault
 pub mod Ready

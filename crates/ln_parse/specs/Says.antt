@@ -11,9 +11,9 @@ use Rattle.ln_syntax.specs.Raw.{Item, SiteItem, ParamItem, PredItem, Is, text, s
 use Rattle.ln_syntax.specs.Expression.{Tree, TNum, TName, TInput, TNeg, TAdd, TSub, TMul, TPow, Derives, Sum}
 use Rattle.ln_names.specs.Numbers.{number, end_value}
 use Rattle.ln_names.specs.Rules.{Scope, scope, is_site_arg, is_param_arg, coords_at}
-use Rattle.ln_tree.specs.declared.shape.VarInfo.{VarInfo}
 use Rattle.ln_tree.specs.Formula.{Formula, FNum, FInput, FName, FNeg, FAdd, FSub, FMul, FPow}
 use Rattle.ln_tree.specs.Table.{CoordOf, SiteOf, ArgOf, SiteArg, ParamArg, PredOf, TableOf}
+pub use Rattle.ln_tree.specs.Whole.{site_vars, coords_or, param_vars, vars_behind, is_site_said}
 
 -- the place of the first that passes; the rules of names see to it that there is one
 abbrev pub place : {A : Type 0} → (A → Bool) → List A → ℕ
@@ -69,29 +69,6 @@ LetsSay bytes ts is args before (l ∷ ls) (x ∷ xs) = Says bytes ts (scope is 
 abbrev pub arg_said : List ℕ → List Item → RawArg → Bool → ArgOf
 arg_said bytes is a true = ParamArg (place (λ n. same bytes n a.name) (param_names is))
 arg_said bytes is a false = SiteArg (text bytes a.name) (place (λ n. same bytes n a.kind) (site_names is))
-
--- the variables of the coordinates of site number s, which is argument k, from coordinate c on
-abbrev pub site_vars : ℕ → ℕ → ℕ → List CoordOf → List VarInfo
-site_vars k s c [] = []
-site_vars k s c (x ∷ xs) = record { arg = k; site = Some s; coord = c; lo = x.lo; hi = x.hi } ∷ site_vars k s (suc c) xs
-
-abbrev pub coords_or : Option SiteOf → List CoordOf
-coords_or None = []
-coords_or (Some s) = s.coords
-
-abbrev pub param_vars : ℕ → Option CoordOf → List VarInfo
-param_vars k None = []
-param_vars k (Some p) = record { arg = k; site = None; coord = 0; lo = p.lo; hi = p.hi } ∷ []
-
--- the variables of the arguments from number k on, behind s sites: in order of the arguments, for a site its coordinates in declared order
-abbrev pub vars_behind : List SiteOf → List CoordOf → ℕ → ℕ → List ArgOf → List VarInfo
-vars_behind sites params k s [] = []
-vars_behind sites params k s (SiteArg n t ∷ args) = site_vars k s 0 (coords_or (slice_get sites t)) ++ vars_behind sites params (suc k) (suc s) args
-vars_behind sites params k s (ParamArg p ∷ args) = param_vars k (slice_get params p) ++ vars_behind sites params (suc k) s args
-
-abbrev pub is_site_said : ArgOf → Bool
-is_site_said (SiteArg n t) = true
-is_site_said (ParamArg p) = false
 
 -- the tokens of a predicate, behind these items, say this predicate of the table
 pub record PredSays (bytes : List ℕ) (ts : List Token) (is : List Item) (t : TableOf) (name : Span) (args : List RawArg) (ls : List RawLet) (root : Places) (p : PredOf) : Type 0 where

@@ -6,6 +6,7 @@ use Rattle.ln_syntax.specs.Expression.{Tree, TNum, TName, TInput, TNeg, TAdd, TS
 use Rattle.ln_names.specs.Numbers.{number}
 use Rattle.ln_tree.specs.Formula.{Formula, FNum, FInput, FName, FNeg, FAdd, FSub, FMul, FPow}
 use Rattle.ln_tree.specs.Table.{CoordOf, SiteOf, ArgOf, SiteArg, ParamArg, PredOf, TableOf}
+pub use Rattle.ln_tree.specs.Whole.{range_name}
 
 -- an expression as it is written: a number, a bare name, an input as an argument's name and a coordinate's, or an operation
 pub data Written : Type 0 where
@@ -27,11 +28,6 @@ pub record Naming : Type 0 where
 
 abbrev pub naming : TableOf → PredOf → Naming
 naming t p = record { sites = t.sites; params = t.params; args = p.args; lets = p.let_names }
-
--- the name of a coordinate or param that there is
-abbrev pub range_name : Option CoordOf → List ℕ
-range_name None = []
-range_name (Some c) = c.name
 
 -- the name of a site type that there is
 abbrev pub site_name : Option SiteOf → List ℕ

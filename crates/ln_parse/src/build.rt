@@ -2,6 +2,7 @@
 ghost use Rattle.std.specs.Prelude.{◌≡◌, true, ◌<◌, ◌^◌, [], length, map, IfOk};
 ghost use Rattle.ln_syntax.specs.Raw.{item, items, text};
 ghost use Rattle.ln_tree.specs.Table.{TableOf, coord_of, site_of, param_of, pred_of, table_of, pred_fits};
+ghost use Rattle.ln_tree.specs.Whole.{is_whole};
 ghost use Rattle.std.specs.List.{list_all};
 ghost use Rattle.ln_names.specs.Limits.{Each};
 ghost use Rattle.ln_parse.specs.Ready.{ReadyCoord, ReadySite, ReadyParam, ReadyItem, ReadyFile, AreReady};
@@ -21,6 +22,7 @@ use std::alloc::Global;
 pub fn build(alloc: Global, bytes: &[u8], ts: &[Token], its: &[RawItem]) -> Result<Table, NoMemory>
     requires small { length ts.now < 2 ^ 32 }
     requires ready { ReadyFile bytes.now ts.now (items its.now) }
+    requires whole { (t : TableOf) → ItemsSay bytes.now ts.now (items its.now) t → is_whole t ≡ true }
     ensures { IfOk result (λ t. ItemsSay bytes.now ts.now (items its.now) (table_of t.sites t.params t.preds)) }
 {
     let sites = sites(alloc, bytes, its)?;

@@ -1,5 +1,5 @@
 // The canonical text of tables.
-ghost use Rattle.std.specs.Prelude.{◌≡◌, ◌++◌, ◌∷◌, [], List, map, length, slice_get, unwrap_or, codes, decimal, IfOk};
+ghost use Rattle.std.specs.Prelude.{◌≡◌, ◌++◌, ◌∷◌, [], ℕ, List, map, slice_get, unwrap_or, codes, decimal, IfOk};
 ghost use Rattle.ln_tree.specs.Names.{name_bytes};
 ghost use Rattle.ln_tree.specs.Formula.{formula};
 ghost use Rattle.ln_tree.specs.Table.{TableOf, table_of, site_of, coord_of, param_of, arg_of, pred_of};
@@ -7,6 +7,9 @@ ghost use Rattle.ln_parse.specs.Lexemes.{Puts, opening, closing, signed, each};
 ghost use Rattle.ln_parse.specs.Written.{Naming, naming, written, input, range_name, site_name, coord_name};
 ghost use Rattle.ln_parse.specs.Canonical.{fits, wrap, inside, whole, ranged, coord, site, param, arg, further, args, let_of, lets, root, pred, canonical};
 ghost use Rattle.ln_parse.specs.ReadsBack.{TableNamed, ReadsBack};
+ghost use Rattle.ln_parse.specs.Spanless.{IsTextUpToSpans, table_spanless};
+ghost use Rattle.ln_parse.specs.Text.{TextOf};
+ghost use Rattle.ln_parse.specs.WholeTable.{IsWhole};
 
 use itoa::Buffer;
 use ln_base::NoMemory;
@@ -23,8 +26,17 @@ pub enum Room {
     OfAtom,
 }
 
-/// The canonical text of a table: its site types, then its params, then its predicates, each on a line.
+/// The canonical text of a table: its site types, then its params, then its predicates, each on a line. It is a text of
+/// this table but for its spans, so that by `printed_text_has_one_table` what `parse` answers to it is the table again.
 pub fn print(alloc: Global, t: &Table) -> Result<Vec<u8>, NoMemory>
+    ensures exact { IfOk result (λ v. v.items ≡ canonical (table_of t.now.sites t.now.params t.now.preds)) }
+    ensures table { IfOk result (λ v. IsTextUpToSpans v.items (table_of t.now.sites t.now.params t.now.preds)) }
+{
+    let text = canonical_text(alloc, t)?;
+    Ok(text)
+}
+
+fn canonical_text(alloc: Global, t: &Table) -> Result<Vec<u8>, NoMemory>
     ensures { IfOk result (λ v. v.items ≡ canonical (table_of t.now.sites t.now.params t.now.preds)) }
 {
     let mut out = Vec::new(alloc);
@@ -38,6 +50,17 @@ pub fn print(alloc: Global, t: &Table) -> Result<Vec<u8>, NoMemory>
 /// site types, params and predicates, each written with its names.
 pub fn canonical_text_reads_back()
     ensures { (t : TableOf) → TableNamed t → ReadsBack (canonical t) t }
+{}
+
+/// A law: the canonical text of a table within the limits of the language, whose names are names of their own, is a text
+/// of this table up to spans.
+pub fn canonical_text_has_its_table()
+    ensures { (t : TableOf) → IsWhole t → IsTextUpToSpans (canonical t) t }
+{}
+
+/// A law: bytes that are a text of a table up to spans have no other table up to spans.
+pub fn printed_text_has_one_table()
+    ensures { (bytes : List ℕ) (t u : TableOf) → IsTextUpToSpans bytes t → TextOf bytes u → table_spanless u ≡ table_spanless t }
 {}
 
 fn put(out: &mut Vec<u8>, text: &[u8]) -> Result<(), NoMemory>
@@ -343,9 +366,7 @@ fn put_expr(out: &mut Vec<u8>, t: &Table, p: &Pred, room: Room, e: &Expr) -> Res
 #[cfg(test)]
 mod tests {
     use super::*;
-    use crate::build::build;
-    use ln_lex::tokens;
-    use ln_syntax::{read_items, syntax_fault};
+    use crate::parse;
     use std::process::Abort;
     use std::str::from_utf8;
     use std::test::Fail;
@@ -369,20 +390,15 @@ predicate g(p: other) { sign -(p.t - 1) + --p.t; }
             sign ((k-m))-((p.y-(q.t+c))*(-(k^2)))-(-((2*m)*(k*k)))^03*(2^4)^5;}
         predicate g(p: other) { sign (-(p.t - 1)) + (-(-p.t)); }";
 
-    fn built(rt: &impl Abort, alloc: Global, source: &str) -> Result<Table, Fail> {
+    fn read(rt: &impl Abort, alloc: Global, source: &str) -> Result<Table, Fail> {
         assert!(rt; source.len() <= 1 << 20);
-        let bytes = source.as_bytes();
-        let list = tokens(alloc, bytes)?;
-        let ts = list.as_slice();
-        assert!(rt; syntax_fault(ts).is_none());
-        let its = read_items(alloc, ts)?;
-        Ok(build(alloc, bytes, ts, &its)?)
+        Ok(parse(alloc, source.as_bytes())?)
     }
 
     #[test]
     fn a_table_has_its_canonical_text(rt: HostRuntime) -> Result<(), Fail> {
         for (source, want) in [(TWO_LINES, TWO_LINES), (ALL, ALL), (OTHERWISE, ALL)] {
-            let table = built(&rt, rt.alloc(), source)?;
+            let table = read(&rt, rt.alloc(), source)?;
             let text = print(rt.alloc(), &table)?;
             assert_eq!(rt; from_utf8(text.as_slice()), Ok(want));
         }

@@ -1,6 +1,6 @@
 -- The terms of a polynomial differ in their vectors.
-use Rattle.std.proofs.Common.{◌≡◌, ℕ, ◌+◌, ◌<◌, ◌≤◌, zero, suc, refl, sym, ◌∙◌, ap, arith, List, [], ◌∷◌, length, map, Bool, true, false, eqb, eq-eqb, Less, if◌then◌else◌}
-use Rattle.std.proofs.Math.IntN.{ℤ, pos}
+use Rattle.std.proofs.Common.{◌≡◌, ℕ, ◌+◌, ◌<◌, ◌≤◌, zero, suc, refl, sym, ◌∙◌, ap, arith, List, [], ◌∷◌, Bool, true, false, eqb, eq-eqb, Less, if◌then◌else◌}
+use Rattle.std.proofs.Math.IntN.{ℤ}
 use Rattle.std.proofs.lemmas.Bool.{cases_lt}
 use Rattle.std.proofs.lemmas.Bool.Decides.{nat_tests}
 use Rattle.std.proofs.lemmas.Cmp.{tied_itself}
@@ -8,12 +8,11 @@ use Rattle.std.proofs.lemmas.List.Elements.{All-head, All-tail}
 use Rattle.std.specs.List.{AllByRecursion}
 use Rattle.std.specs.List.Sorted.{IsStrictlySortedBy}
 use Rattle.std.specs.Ordering.{on, is_eq}
-use Rattle.std.specs.declared.cmp.Ordering.{Ordering}
 use mathlib.Core.Logic.{◌⊎◌, inl, inr}
 use Rattle.ln_algebra.proofs.Normal.{same_vector-is}
-use Rattle.ln_algebra.specs.Terms.{IsCollected, Lacks, Term}
+use Rattle.ln_algebra.specs.Terms.{IsCollected, Lacks}
 use Rattle.ln_algebra.specs.Vector.{same_vector}
-use Rattle.ln_tree.specs.Exps.{AllAbove, IsAbove, IsRising, Pairs, exponent, exponents_from, pairs_cmp, same_pairs-ties, vector}
+use Rattle.ln_tree.specs.Exps.{AllAbove, IsAbove, IsRising, Pairs, exponent, exponents_from, pairs_cmp, vector}
 use Rattle.ln_poly.specs.Sparse.{AreBelow, AreRising, IsPoly, Sparse, terms_of}
 use Rattle.ln_poly.proofs.Gathering.{pairs_cmp-total}
 use Rattle.ln_poly.proofs.Merging.{above-none}

@@ -1,19 +1,21 @@
 -- A normal polynomial has as many terms as there are monomials.
-use Rattle.std.proofs.Common.{◌≡◌, ◌≢◌, ℕ, ◌+◌, ◌<◌, ◌≤◌, zero, suc, refl, sym, ◌∙◌, ap, arith, All, List, [], ◌∷◌, length, map, Bool, true, false, if◌then◌else◌, ◌⊎◌, inl, inr}
-use Rattle.std.proofs.Math.IntN.{ℤ, pos, ◌+ℤ◌}
+use Rattle.std.proofs.Common.{◌≡◌, ◌≢◌, ℕ, ◌+◌, ◌<◌, ◌≤◌, suc, refl, sym, ◌∙◌, ap, arith, All, List, [], ◌∷◌, length, map, Bool, true, false, if◌then◌else◌, ◌⊎◌, inl, inr}
+use Rattle.std.proofs.Math.IntN.{pos, ◌+ℤ◌}
 use Rattle.std.proofs.lemmas.Int.{ints}
 use Rattle.std.proofs.lemmas.List.Elements.{All-head, All-tail}
 use Rattle.ln_base.specs.declared.span.Span.{Span}
+use Rattle.std.specs.Prelude.{nat_lt}
 use Rattle.std.proofs.lemmas.Bool.{cases_lt}
+use Rattle.std.proofs.lemmas.Bool.Decides.{nat_tests}
 use Rattle.ln_algebra.proofs.Degree.{coefficient-above}
 use Rattle.ln_algebra.proofs.Normal.{same_vector-is, same_vector-refl}
 use Rattle.ln_algebra.specs.Coefficient.{normal_coefficient}
 use Rattle.ln_algebra.specs.Stage.{IsMonomial}
-use Rattle.ln_algebra.specs.Terms.{IsCollected, IsNormalOf, Lacks, Over, Term, factor_at}
+use Rattle.ln_algebra.specs.Terms.{IsCollected, Lacks, Over, Term, factor_at}
 use Rattle.ln_algebra.specs.Tree.{Tree, degree_of}
 use Rattle.ln_algebra.specs.Vector.{In, same_vector, total_degree}
-use Rattle.ln_tree.specs.Exps.{Pairs, vector}
-use Rattle.ln_poly.specs.Sparse.{AreBelow, IsFactor, IsPoly, Sparse, terms_of}
+use Rattle.ln_tree.specs.Exps.{vector}
+use Rattle.ln_poly.specs.Sparse.{IsFactor, IsPoly, Sparse, terms_of}
 use Rattle.ln_poly.specs.Expansion.{AreDistinct, HasTooManyTerms, IsNormal, IsTermsFault, IsZeroFault}
 use Rattle.ln_poly.specs.Ready.{Expands}
 use Rattle.ln_poly.proofs.Collected.{collected}
@@ -147,3 +149,12 @@ counted-few n at e f l p = record { normal = p; terms = l; few = (few-terms n e 
 
 pub counted-many : (n : ℕ) (at : Span) (e : Tree) (f : Sparse) → 1024 < length f → IsNormal n e f → IsTermsFault n ((at, e) ∷ []) at
 counted-many n at e f l p = record { before = []; node = e; after = []; stands = refl; few = tt; many = many-terms n e f p l }
+
+pub few_test : (n : ℕ) → nat_lt 1024 n ≡ false → n ≤ 1024
+few_test n h = by_case (cases_lt 1024 n) where
+  test_lt : (a b : ℕ) → a < b → nat_lt a b ≡ true
+  test_lt a b l = grind (arith, nat_tests)
+
+  by_case : (1024 < n) ⊎ (n ≤ 1024) → n ≤ 1024
+  by_case (inl l) = let t : nat_lt 1024 n ≡ true = test_lt 1024 n l in let e : true ≡ false = sym t ∙ h in cc
+  by_case (inr g) = g

@@ -8,15 +8,16 @@ use Rattle.std.proofs.lemmas.List.Sums.{get_or-le-sum_by, sum_by-cons, sum_by_mo
 use Rattle.std.specs.List.{sum_by}
 use mathlib.Core.Logic.{◌⊎◌, inl, inr}
 use Rattle.std.proofs.Math.IntN.{ℤ, pos, ◌+ℤ◌, ◌*ℤ◌}
+use Rattle.ln_algebra.proofs.Bounds.{weighted-derived}
 use Rattle.ln_algebra.specs.Vector.{sum_over}
 use Rattle.ln_algebra.specs.Terms.{binomial, binomials, covers, factor_at, minus}
 use Rattle.ln_algebra.specs.Weights.{monomial_weight, weighted_sum}
 use Rattle.ln_bound.specs.Light.{most}
-use Rattle.ln_bound.specs.Value.{sizes}
+use Rattle.ln_bound.specs.Value.{sizes, weights}
 use Rattle.ln_tree.specs.declared.shape.VarInfo.{VarInfo}
 use Rattle.ln_tree.specs.Exps.{IsAbove, IsRising, Pairs, exponent, exponents_from, vector}
 use Rattle.ln_poly.specs.Times.{power_at}
-use Rattle.ln_poly.specs.Sparse.{AreBelow, AreRising, Sparse, coefficient_at, part_at, size_of}
+use Rattle.ln_poly.specs.Sparse.{AreBelow, AreRising, Sparse, coefficient_at, part_at, size_of, terms_of}
 use Rattle.ln_poly.specs.Derivative.{IsDerivedPut, IsDeriving, IsLowered, derivative}
 use Rattle.ln_poly.proofs.Coefficients.{coefficient_at-nil, coefficient_at-push, size-nil, size-push}
 use Rattle.ln_poly.proofs.Lowering.{power-apart, power-here}
@@ -217,3 +218,28 @@ pub deriving-room : (vars : List VarInfo) (f' f : Sparse) (v n i : ℕ) (t : Pai
 deriving-room vars f' f v n i t q l s h e g =
     let x : derived_weight (length vars) v n (sizes vars) t ≤ weighted_sum (sizes vars) (derivative (length vars) v n f) = subst (λ z. derived_weight (length vars) v n (sizes vars) t ≤ weighted_sum (sizes vars) (derivative (length vars) v n z)) q (weight-within (length vars) v n (sizes vars) f' i t h e) in
     omega (arith, x, s, kept-room vars v n t l g)
+
+-- ---- derivatives of a polynomial that isn't too heavy
+same-monomial : (w u : ℕ → ℕ) (m : List ℕ) → ((v : ℕ) → v < length m → w v ≡ u v) → monomial_weight w m ≡ monomial_weight u m
+same-monomial w u [] h = refl
+same-monomial w u (k ∷ m) h =
+    let e : w 0 ≡ u 0 = h 0 (omega arith) in
+    let r : monomial_weight (λ v. w (suc v)) m ≡ monomial_weight (λ v. u (suc v)) m = same-monomial (λ v. w (suc v)) (λ v. u (suc v)) m (λ v l. h (suc v) (omega arith)) in
+    rw (e, r) refl
+
+same-weight : (n : ℕ) (w u : ℕ → ℕ) (f : Sparse) → ((v : ℕ) → v < n → w v ≡ u v) → weighted_sum w (terms_of n f) ≡ weighted_sum u (terms_of n f)
+same-weight n w u [] h = refl
+same-weight n w u (t ∷ f) h =
+    let e : monomial_weight w (vector n t.0) ≡ monomial_weight u (vector n t.0) = same-monomial w u (vector n t.0) (λ v l. h v (omega (arith, l, length-vector 0 n t.0))) in
+    let r : weighted_sum w (terms_of n f) ≡ weighted_sum u (terms_of n f) = same-weight n w u f h in
+    rw (e, r) refl
+
+one-larger : (vars : List VarInfo) (v : ℕ) → v < length vars → sizes vars v + 1 ≡ weights vars v
+one-larger [] v h = absurd (omega arith)
+one-larger (i ∷ vars) zero h = refl
+one-larger (i ∷ vars) (suc v) h = one-larger vars v (omega arith)
+
+-- its weighted sum over M is within 128 bits where that of the polynomial over w is
+pub derivative-light : (vars : List VarInfo) (v n : ℕ) (f : Sparse) → weighted_sum (weights vars) (terms_of (length vars) f) ≤ most → weighted_sum (sizes vars) (derivative (length vars) v n f) ≤ most
+derivative-light vars v n f h =
+    omega (arith, h, weighted-derived (sizes vars) (vector (length vars) ((v, n) ∷ [])) (terms_of (length vars) f), same-weight (length vars) (λ u. sizes vars u + 1) (weights vars) f (one-larger vars))

@@ -6,11 +6,10 @@ use Rattle.std.proofs.lemmas.Bool.{and_parts}
 use Rattle.std.proofs.lemmas.List.{drop_all, drop_more, map-append, take_all, take_more}
 use Rattle.std.proofs.lemmas.Nat.{mul-le, pow-add}
 use Rattle.std.proofs.lemmas.List.Elements.{All-head, All-tail}
-use Rattle.ln_base.specs.declared.span.Span.{Span}
 use Rattle.ln_algebra.proofs.Weights.{weighted-normal}
 use Rattle.ln_algebra.specs.Tree.{Add, Input, Mul, Name, Neg, Num, Pow, Sub, Tree, inlined, inlined_after}
 use Rattle.ln_algebra.specs.Vector.{total_degree}
-use Rattle.ln_algebra.specs.Weights.{monomial_weight, weight, weighted_sum}
+use Rattle.ln_algebra.specs.Weights.{monomial_weight, weighted_sum}
 use Rattle.ln_bound.specs.Light.{most, weighed_pred}
 use Rattle.ln_bound.specs.Light.{AreLight as HaveWeights}
 use Rattle.ln_bound.proofs.KeptLaws.{parts_of}

@@ -1,5 +1,5 @@
 -- Where no node of a predicate is too heavy, no closed tree of it is.
-use Rattle.std.proofs.Common.{◌≡◌, ℕ, ◌+◌, ◌*◌, ◌^◌, ◌<◌, ◌≤◌, true, zero, suc, refl, sym, ◌∙◌, ap, arith, subst, pos, List, [], ◌∷◌, ◌++◌, length, map}
+use Rattle.std.proofs.Common.{◌≡◌, ℕ, ◌^◌, ◌≤◌, true, zero, suc, refl, sym, ◌∙◌, ap, arith, subst, pos, List, [], ◌∷◌, ◌++◌, length, map}
 use Rattle.std.specs.Prelude.{slice_index_or}
 use Rattle.std.proofs.lemmas.Bool.{and_parts}
 use Rattle.std.proofs.lemmas.List.{map-append}
@@ -8,7 +8,6 @@ use Rattle.ln_algebra.specs.Weights.{weight}
 use Rattle.ln_bound.specs.Light.{most, weight_of, weighed, weighed_lets, weighed_pred, let_weights}
 use Rattle.ln_bound.specs.Light.{AreLight as HaveWeights}
 use Rattle.ln_bound.specs.Value.{weight_over, weights}
-use Rattle.ln_bound.proofs.ExactLaws.{length_more}
 use Rattle.ln_bound.proofs.Fitting.{light_parts}
 use Rattle.ln_bound.proofs.WidthLaws.{lt_test}
 use Rattle.ln_tree.specs.declared.shape.VarInfo.{VarInfo}

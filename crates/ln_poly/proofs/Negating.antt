@@ -1,12 +1,12 @@
 -- Terms with the other sign.
-use Rattle.std.proofs.Common.{◌≡◌, ℕ, refl, ◌∙◌, ap, arith, All, List, [], ◌∷◌, unsigned_abs, Bool, true, false, if◌then◌else◌}
+use Rattle.std.proofs.Common.{◌≡◌, ℕ, refl, arith, List, [], ◌∷◌, unsigned_abs, Bool, true, false, if◌then◌else◌}
 use Rattle.std.proofs.Math.IntN.{ℤ, pos, neg_ℤ}
 use Rattle.std.proofs.lemmas.Int.{ints}
 use Rattle.std.proofs.lemmas.List.Elements.{All-cons, All-head, All-nil, All-tail}
 use Rattle.ln_algebra.specs.Vector.{same_vector}
 use Rattle.ln_tree.specs.Exps.{IsAbove, IsRising, Pairs, vector}
 use Rattle.ln_poly.specs.Sparse.{AreBelow, AreRising, Sparse, coefficient_at, negated, part_at, size_of}
-use Rattle.ln_poly.proofs.Coefficients.{coefficient_at-cons, coefficient_at-nil, size-cons, size-nil}
+use Rattle.ln_poly.proofs.Coefficients.{coefficient_at-cons, coefficient_at-nil, size-cons}
 
 part-negated : (n : ℕ) (m : List ℕ) (t : Pairs × ℤ) → part_at n (t.0, neg_ℤ t.1) m ≡ neg_ℤ (part_at n t m)
 unfolding part_at

@@ -1,25 +1,24 @@
 -- Polynomials of nodes from those of their operands.
-use Rattle.std.proofs.Common.{◌≡◌, ℕ, ◌+◌, ◌<◌, ◌≤◌, zero, suc, refl, sym, ◌∙◌, ap, arith, subst, List, [], ◌∷◌, length, get_or, map, eqb, eq-eqb, false, true, All, Bool, if◌then◌else◌, ◌++◌, ◌≢◌, ◌^◌, unsigned_abs, ◌⊎◌, inl, inr}
+use Rattle.std.proofs.Common.{◌≡◌, ℕ, ◌+◌, ◌<◌, zero, suc, refl, sym, ◌∙◌, ap, arith, subst, List, [], ◌∷◌, length, get_or, eqb, eq-eqb, false, true, Bool, if◌then◌else◌, ◌++◌, ◌≢◌, ◌^◌, unsigned_abs, ◌⊎◌, inl, inr}
 use Rattle.std.specs.Prelude.{slice_index_or}
-use Rattle.std.proofs.Math.IntN.{ℤ, pos, ◌+ℤ◌, ◌-ℤ◌, ◌*ℤ◌, neg_ℤ}
+use Rattle.std.proofs.Math.IntN.{ℤ, pos, ◌+ℤ◌, ◌-ℤ◌}
 use Rattle.std.proofs.lemmas.Bool.Decides.{nat_tests}
 use Rattle.std.proofs.lemmas.Int.{ints}
 use Rattle.std.proofs.lemmas.List.Elements.{All-cons, All-nil}
-use Rattle.ln_base.specs.declared.span.Span.{Span}
 use Rattle.ln_algebra.proofs.Expansion.{zeros, unit_vector}
 use Rattle.ln_algebra.proofs.Normal.{normal_is, zero_cases}
 use Rattle.ln_algebra.proofs.Shift.{product-same, product_is}
 use Rattle.ln_algebra.specs.Coefficient.{normal_coefficient, product}
 use Rattle.ln_algebra.specs.Stage.{IsMonomial}
 use Rattle.ln_algebra.specs.Vector.{is_zero, same_vector}
-use Rattle.ln_algebra.specs.Terms.{IsNormalOf, factor_at}
-use Rattle.ln_algebra.specs.Tree.{Add, Input, Mul, Name, Neg, Num, Pow, Sub, Tree}
-use Rattle.ln_tree.specs.Exps.{IsAbove, Pairs, exponent, exponents_from, vector}
-use Rattle.ln_poly.specs.Sparse.{AreBelow, IsPoly, Sparse, coefficient_at, terms_of}
+use Rattle.ln_algebra.specs.Terms.{factor_at}
+use Rattle.ln_algebra.specs.Tree.{Add, Input, Mul, Neg, Num, Pow, Sub, Tree}
+use Rattle.ln_tree.specs.Exps.{IsAbove, Pairs, exponents_from, vector}
+use Rattle.ln_poly.specs.Sparse.{AreBelow, IsPoly, Sparse, coefficient_at}
 use Rattle.ln_poly.specs.Expansion.{HasTooManyTerms, IsNormal}
 use Rattle.ln_poly.specs.Ready.{AreNormal}
 use Rattle.ln_poly.proofs.Leaves.{no-terms, one-term}
-use Rattle.ln_poly.proofs.Products.{length-vector, over-terms}
+use Rattle.ln_poly.proofs.Products.{over-terms}
 
 -- ---- vectors of leaves
 vector-none : (v n : ℕ) → exponents_from v n [] ≡ zeros n

@@ -1,5 +1,5 @@
 -- Where a closed tree isn't too heavy, its normal polynomial may be computed with in 128 bits.
-use Rattle.std.proofs.Common.{◌≡◌, ℕ, ◌+◌, ◌*◌, ◌<◌, ◌≤◌, ◌^◌, zero, suc, refl, sym, ◌∙◌, ap, arith, All, List, [], ◌∷◌, length, get_or, unsigned_abs, ◌⊎◌, inl, inr, eqb, Bool, true, false, if◌then◌else◌}
+use Rattle.std.proofs.Common.{◌≡◌, ℕ, ◌+◌, ◌*◌, ◌<◌, ◌≤◌, ◌^◌, zero, suc, arith, All, List, [], ◌∷◌, length, get_or, unsigned_abs, ◌⊎◌, inl, inr, eqb, Bool, true, false, if◌then◌else◌}
 use Rattle.std.proofs.Math.IntN.{ℤ, pos}
 use Rattle.std.proofs.Math.Nat.{pow-zero, pow-suc, pow-le-pow_right}
 use Rattle.std.proofs.lemmas.Bool.{cases_lt}
@@ -8,22 +8,20 @@ use Rattle.std.proofs.lemmas.Nat.{mul-le, pow-add}
 use Rattle.std.proofs.lemmas.List.Elements.{All-head, All-tail}
 use Rattle.std.proofs.lemmas.List.Sums.{sum_by-cons}
 use Rattle.ln_algebra.proofs.Weights.{weighted-normal}
-use Rattle.ln_algebra.specs.Terms.{IsNormalOf}
-use Rattle.ln_algebra.specs.Tree.{Add, InputsBelow, Mul, Neg, Pow, Sub, Tree}
-use Rattle.ln_algebra.specs.Weights.{monomial_weight, weight, weighted_sum}
+use Rattle.ln_algebra.specs.Tree.{Add, InputsBelow, Tree}
+use Rattle.ln_algebra.specs.Weights.{weight}
 use Rattle.ln_bound.specs.Light.{most}
 use Rattle.ln_bound.specs.Value.{weights}
 use Rattle.ln_tree.specs.declared.shape.VarInfo.{VarInfo}
-use Rattle.ln_tree.specs.Exps.{IsAbove, Pairs, exponent, vector}
-use Rattle.ln_poly.specs.Sparse.{AreBelow, IsFactor, IsPoly, Sparse, size_of, terms_of}
+use Rattle.ln_tree.specs.Exps.{IsAbove, Pairs, exponent}
+use Rattle.ln_poly.specs.Sparse.{AreBelow, IsFactor, Sparse, size_of, terms_of}
 use Rattle.ln_poly.specs.Rows.{PowersFit}
 use Rattle.ln_poly.specs.Weight.{pairs_weight, term_weight, total_weight}
 use Rattle.ln_poly.specs.Expansion.{IsNormal}
 use Rattle.ln_poly.specs.Ready.{IsLight}
 use Rattle.ln_poly.proofs.Coefficients.{size-cons, size-nil}
 use Rattle.ln_poly.proofs.Collected.{collected}
-use Rattle.ln_poly.proofs.Merging.{above-none}
-use Rattle.ln_poly.proofs.Weighing.{pow-some, total-nil, total-weight, weight-pairs}
+use Rattle.ln_poly.proofs.Weighing.{pow-some, total-weight}
 
 -- each of the first n weights is at least 2
 abbrev pub AreTwo : ℕ → (ℕ → ℕ) → Type 0

@@ -1,5 +1,5 @@
 // Normal polynomials of predicates.
-ghost use Rattle.std.specs.Prelude.{◌≡◌, ℕ, ◌+◌, ◌*◌, ◌<◌, ◌≤◌, ◌^◌, ◌++◌, [], ◌∷◌, true, pos, unsigned_abs, All, List, IfOk, IfErr, OnOk, length, map, slice_index_or, ◌↔◌};
+ghost use Rattle.std.specs.Prelude.{◌≡◌, ℕ, ◌+◌, ◌*◌, ◌<◌, ◌≤◌, ◌^◌, ◌++◌, [], ◌∷◌, true, pos, unsigned_abs, All, List, IfOk, IfErr, OnOk, nat_lt, length, map, slice_index_or, ◌↔◌};
 ghost use Rattle.ln_algebra.specs.Tree.{Tree, Num, Input, Neg, Add, Sub, Mul, Pow};
 ghost use Rattle.ln_algebra.specs.Weights.{weighted_sum};
 ghost use Rattle.ln_algebra.specs.Vector.{total_degree};
@@ -42,12 +42,19 @@ impl From<NoMemory> for PolyStop {
     }
 }
 
+// Are these more terms than a node may have?
+fn are_many(terms: usize) -> bool
+    ensures { result ≡ nat_lt 1024 terms }
+{
+    terms > 1024
+}
+
 // The polynomial of the node at this place, where it hasn't too many terms.
 fn counted(at: Span, f: Poly) -> Result<Poly, PolyStop>
     ensures ok { IfOk result (λ h. (n : ℕ) (e : Tree) → IsNormal n e f → Expands n ((at, e) ∷ []) e h) }
     ensures err { IfErr result (λ s. (n : ℕ) (e : Tree) → IsNormal n e f → StopsExpanding n ((at, e) ∷ []) s) }
 {
-    if f.terms().len() > 1024 {
+    if are_many(f.terms().len()) {
         return Err(PolyStop::Terms(at));
     }
     Ok(f)

@@ -23,3 +23,5 @@ pub use weights::weight;
 
 #[cfg(test)]
 mod tests;
+#[cfg(test)]
+mod tests_normal;

@@ -1,16 +1,15 @@
 -- Each status with its cause.
-use Rattle.std.proofs.Common.{◌≡◌, ◌≢◌, ◌⊎◌, inl, inr, ℕ, ◌≤◌, ◌<◌, ◌||◌, ◌&&◌, ◌++◌, Bool, true, false, true≢false, cond, ℤ, pos, negsuc, int_lt, List, [], ◌∷◌, map, length, All, Option, Some, None, IfSome, Result, Ok, Err, refl, ap, sym, ◌∙◌, subst, arith}
+use Rattle.std.proofs.Common.{◌≡◌, ◌≢◌, ◌⊎◌, inl, inr, ℕ, ◌||◌, ◌&&◌, ◌++◌, Bool, true, false, true≢false, cond, ℤ, pos, int_lt, List, [], ◌∷◌, map, All, Option, Some, None, IfSome, Result, Ok, Err, refl, ap, sym, ◌∙◌, subst, arith}
 use Rattle.std.proofs.lemmas.List.Elements.{All-nil, All-cons, All-head, All-tail}
 use Rattle.std.proofs.lemmas.Int.{ints}
-use Rattle.std.proofs.lemmas.Option.{none-some}
-use Rattle.ln_base.specs.Outside.{Shelf, Shown, bytes_of, Rose, appended}
+use Rattle.ln_base.specs.Outside.{Shelf, Shown, Rose, appended}
 use Rattle.ln_base.specs.declared.outside.Port.TheVariants.{Err as ErrPort}
 use Rattle.ln_tree.specs.declared.table.Table.{Table}
 use Rattle.ln_tree.specs.declared.pred.Pred.{Pred}
 use Rattle.ln_tree.specs.Formula.{formula}
 use Rattle.ln_tree.specs.Row.{Row}
 use Rattle.ln_rows.specs.Columns.{column_names}
-use Rattle.ln_rows.specs.Left.{Records, records_in}
+use Rattle.ln_rows.specs.Left.{Records}
 use Rattle.ln_rows.specs.Record.{read_row}
 use Rattle.ln_rows.specs.declared.record.RowStop.{RowStop}
 use Rattle.ln_top.specs.declared.status.Status.{Status}
@@ -20,10 +19,10 @@ use Rattle.ln_top.specs.declared.stop.Stop.TheVariants as stop
 use Rattle.ln_top.specs.Plain.{plain_value}
 use Rattle.ln_top.specs.Line.{line, verdict, value_or_stop, is_sign, all_signs}
 use Rattle.ln_top.specs.Stop.{stop_text, stop_status}
-use Rattle.ln_top.specs.Words.{Command, command_of}
-use Rattle.ln_top.specs.Said.{Said, put_both, OfWork, IsSettled, WorkSaid, wrong_header, ran}
-use Rattle.ln_top.specs.Answer.{most_rows, HasPredicate, Answer, usage, long_source, refused, no_predicate, long_rows, worked, Owed, IsMissing, SaysStop}
-use Rattle.ln_top.specs.Causes.{HasNoSign, no_row, degenerate, HasSign, HasRecords, IsValid, IsRefused, LacksPredicate, RefusesRows, header, record_, HasRefusedRows, IsTooLong, source, rows, IsInvalid, ExactlyWhere, WhereTold, Yields, SaysLine}
+use Rattle.ln_top.specs.Words.{command_of}
+use Rattle.ln_top.specs.Said.{Said, OfWork, IsSettled, WorkSaid, wrong_header, ran}
+use Rattle.ln_top.specs.Answer.{Answer, usage, long_source, refused, no_predicate, long_rows, worked, Owed, IsMissing, SaysStop}
+use Rattle.ln_top.specs.Causes.{HasNoSign, no_row, degenerate, HasSign, HasRecords, IsValid, IsRefused, LacksPredicate, RefusesRows, header, record_, HasRefusedRows, IsTooLong, source, rows, IsInvalid, WhereTold, Yields, SaysLine}
 use Rattle.ln_top.proofs.WorkLemmas.{error_alone}
 use Rattle.ln_top.proofs.OneAnswer.{one_answer, none_missing}
 
@@ -123,6 +122,7 @@ work_cause words shelf t p h (ran {rest = rest}) = by_signs (all_signs p rest) r
   where
     names : List (List ℕ)
     names = column_names t.sites t.params p.args
+
     by_signs : (b : Bool) → all_signs p rest ≡ b → CauseOf words shelf (cond b Done Rows)
     by_signs true e = record { table = t; pred = p; records = rest; has = h; signs = all_have p rest e }
     by_signs false e =

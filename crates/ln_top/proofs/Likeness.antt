@@ -1,5 +1,5 @@
 -- Tables that stand for the same: the answer sees no difference between them.
-use Rattle.std.proofs.Common.{◌≡◌, ℕ, suc, ◌++◌, ◌&&◌, ◌≤◌, ◌<◌, Bool, true, false, cond, List, [], ◌∷◌, map, flat_map, find, bytes_eq, Option, Some, None, option_map, slice_get, nat_le, refl, ap, sym, ◌∙◌, subst, arith, Result, Ok, Err, ℤ, pos}
+use Rattle.std.proofs.Common.{◌≡◌, ℕ, ◌++◌, ◌&&◌, ◌≤◌, ◌<◌, Bool, true, false, cond, List, [], ◌∷◌, map, flat_map, find, bytes_eq, Option, Some, None, option_map, slice_get, nat_le, refl, ap, sym, ◌∙◌, arith, Result, Ok, Err, ℤ}
 use Rattle.std.proofs.lemmas.Bool.Decides.{nat_tests}
 use Rattle.std.proofs.lemmas.Option.{slice_get-map, none-some, same_Some}
 use Rattle.ln_base.specs.declared.span.Span.{Span}
@@ -12,7 +12,7 @@ use Rattle.ln_tree.specs.declared.items.Coord.{Coord}
 use Rattle.ln_tree.specs.declared.items.Site.{Site}
 use Rattle.ln_tree.specs.declared.items.Param.{Param}
 use Rattle.ln_tree.specs.declared.pred.Pred.{Pred}
-use Rattle.ln_tree.specs.Table.{CoordOf, SiteOf, ArgOf, SiteArg, ParamArg, PredOf, TableOf, coord_of, site_of, param_of, arg_of, pred_of}
+use Rattle.ln_tree.specs.Table.{CoordOf, SiteOf, ArgOf, SiteArg, ParamArg, PredOf, coord_of, site_of, param_of, arg_of, pred_of}
 use Rattle.ln_bound.specs.Light.{most, AreLight, IsBoundFault, weighed_pred}
 use Rattle.ln_rows.specs.Columns.{coord_column, site_columns, param_columns, arg_columns, column_names}
 use Rattle.ln_rows.specs.Left.{Records}

@@ -1,7 +1,6 @@
 -- Words and told files are owed one answer, and none where a file that the steps reach isn't there.
 use Rattle.std.proofs.Common.{◌≡◌, ℕ, ◌≤◌, ◌<◌, Bool, cond, List, [], ◌∷◌, map, drop, length, Option, Some, None, option_map, refl, ap, sym, ◌∙◌, subst, arith}
 use Rattle.std.proofs.lemmas.Option.{none-some, same_Some}
-use Rattle.ln_base.specs.declared.span.Span.{Span}
 use Rattle.ln_base.specs.Outside.{Shelf, bytes_of}
 use Rattle.ln_tree.specs.declared.table.Table.{Table}
 use Rattle.ln_tree.specs.declared.pred.Pred.{Pred}
@@ -17,7 +16,7 @@ use Rattle.ln_top.specs.declared.stop.Stop.TheVariants.{Refused}
 use Rattle.ln_top.specs.Stop.{refusal_text}
 use Rattle.ln_top.specs.Words.{Command, command_of}
 use Rattle.ln_top.specs.Line.{lines_of, all_signs}
-use Rattle.ln_top.specs.Source.{IsAccepted, IsRefusedFor, of_text, of_bound, IsFirstHeavy, named, stop_for, refusal_at}
+use Rattle.ln_top.specs.Source.{IsAccepted, IsRefusedFor, of_text, of_bound, named, stop_for, refusal_at}
 use Rattle.ln_top.specs.Said.{Said, error_line, WorkSaid, wrong_header, ran}
 use Rattle.ln_top.specs.Answer.{most_source, most_rows, HasSource, HasPredicate, Answer, usage, long_source, refused, no_predicate, long_rows, worked, IsMissing, no_source, no_rows}
 use Rattle.ln_top.proofs.Likeness.{names_over, columns_like, one_named, lines_like, signs_like, light_or_heavy, one_heavy}

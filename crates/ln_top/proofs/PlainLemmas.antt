@@ -1,12 +1,11 @@
 -- The value of a predicate over the values of its lets is its plain value.
-use Rattle.std.proofs.Common.{◌≤◌, ◌&&◌, ◌+◌, arith, take, subst, unsigned_abs, ◌≡◌, ℕ, zero, suc, ℤ, true, List, [], ◌∷◌, ◌++◌, map, length, refl, ap, sym, ◌∙◌}
+use Rattle.std.proofs.Common.{◌≤◌, ◌&&◌, ◌+◌, arith, ◌≡◌, ℕ, zero, suc, ℤ, true, List, [], ◌∷◌, ◌++◌, map, length, refl, ap, sym, ◌∙◌}
 use Rattle.ln_algebra.specs.Tree.{Tree, inlined, inlined_after}
 use Rattle.ln_algebra.specs.Vector.{zeros, is_zero}
 use Rattle.ln_tree.specs.declared.shape.VarInfo.{VarInfo}
-use Rattle.std.specs.Prelude.{nat_le, ◌==◌, sum_by}
+use Rattle.std.specs.Prelude.{nat_le, ◌==◌}
 use Rattle.std.proofs.lemmas.Bool.{and_parts}
 use Rattle.std.proofs.lemmas.Bool.Decides.{nat_tests}
-use Rattle.std.proofs.lemmas.List.{length-take}
 use Rattle.ln_tree.specs.declared.items.Arg.{Arg}
 use Rattle.ln_tree.specs.declared.expr.Expr.{Expr}
 use Rattle.ln_tree.specs.Arguments.{are_of}

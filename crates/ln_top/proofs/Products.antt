@@ -1,5 +1,5 @@
 -- Powers by one factor after the other.
-use Rattle.std.proofs.Common.{◌≡◌, ℕ, suc, ◌+◌, ◌≤◌, ◌<◌, ℤ, ◌*ℤ◌, unsigned_abs, arith, ap, sym, ◌∙◌}
+use Rattle.std.proofs.Common.{◌≡◌, ℕ, suc, ◌≤◌, ◌<◌, ℤ, ◌*ℤ◌, unsigned_abs, arith}
 use Rattle.ln_bound.specs.Value.{power}
 use Rattle.ln_bound.specs.Light.{most}
 

@@ -1,7 +1,6 @@
 -- Predicates weighed one after the other; what a refused text stops with.
-use Rattle.std.proofs.Common.{◌≡◌, inl, inr, ℕ, ◌+◌, ◌<◌, List, [], ◌∷◌, ◌++◌, length, take, drop, get_or, refl, ap, sym, subst, ◌∙◌}
+use Rattle.std.proofs.Common.{◌≡◌, inl, inr, ℕ, ◌+◌, ◌<◌, List, [], ◌∷◌, ◌++◌, length, take, drop, get_or, refl, ap, sym, ◌∙◌}
 use Rattle.std.proofs.lemmas.List.{drop_more, take-append-drop, take_more}
-use Rattle.ln_base.specs.declared.span.Span.{Span}
 use Rattle.ln_tree.specs.declared.pred.Pred.{Pred}
 use Rattle.ln_bound.specs.declared.weigh.BoundStop.{BoundStop}
 use Rattle.ln_bound.specs.declared.weigh.BoundStop.TheVariants.{Bound, NoMemory}
@@ -10,7 +9,7 @@ use Rattle.ln_bound.specs.Stop.{StopsWeighing}
 use Rattle.ln_parse.specs.declared.source.ParseStop.{ParseStop}
 use Rattle.ln_parse.specs.declared.source.ParseStop.TheVariants as parse
 use Rattle.ln_parse.specs.Fault.{TextFault, IsRefusal}
-use Rattle.ln_top.specs.Source.{AllLight, IsFirstHeavy, HeavyStop, nodes_of, stop_for, StopsSource, IsRefusedFor, of_text}
+use Rattle.ln_top.specs.Source.{AllLight, HeavyStop, nodes_of, stop_for, StopsSource, of_text}
 
 -- one more predicate
 lights_more : (ps : List Pred) (p : Pred) → AllLight ps → AreLight (nodes_of p) → AllLight (ps ++ p ∷ [])

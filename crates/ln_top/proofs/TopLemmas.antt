@@ -1,7 +1,7 @@
 -- What is owed where a step stops, and where the work is done.
-use Rattle.std.proofs.Common.{◌≡◌, ◌⊎◌, inl, inr, ℕ, ◌+◌, ◌-◌, ◌^◌, ◌≤◌, ◌<◌, min, List, [], ◌∷◌, length, Bool, true, false, cond, Option, Some, None, refl, ap, sym, subst, ◌∙◌, arith}
+use Rattle.std.proofs.Common.{◌≡◌, inl, inr, ℕ, ◌≤◌, ◌<◌, List, [], ◌∷◌, length, Bool, true, false, cond, Option, Some, None, refl, subst, ◌∙◌, arith}
 use Rattle.std.specs.Prelude.{IfSome, find, bytes_eq}
-use Rattle.ln_base.specs.Outside.{Shelf, bytes_of, IsAbsent, Rose, Shown, appended}
+use Rattle.ln_base.specs.Outside.{Shelf, bytes_of, IsAbsent, Rose, Shown}
 use Rattle.ln_tree.specs.declared.table.Table.{Table}
 use Rattle.ln_tree.specs.declared.pred.Pred.{Pred}
 use Rattle.ln_tree.specs.Names.{name_bytes}
@@ -15,9 +15,9 @@ use Rattle.ln_top.specs.declared.stop.Stop.TheVariants.{Usage, Read, TooLong, Re
 use Rattle.ln_top.specs.Line.{line}
 use Rattle.ln_top.specs.Stop.{stop_text, stop_status}
 use Rattle.ln_top.specs.Words.{Command, command_of}
-use Rattle.ln_top.specs.Source.{AllLight, IsAccepted, nodes_of, named}
-use Rattle.ln_top.specs.Said.{Said, error_line, IsSettled, AsSaid, WorkOwed}
-use Rattle.ln_top.specs.Answer.{most_source, most_rows, HasSource, HasPredicate, Answer, usage, long_source, refused, no_predicate, long_rows, worked, Owed, IsMissing, no_source, no_rows, SaysStop, FileStop, IsSourceOf, SourceStops, OfFiles}
+use Rattle.ln_top.specs.Source.{AllLight, nodes_of, named}
+use Rattle.ln_top.specs.Said.{error_line, IsSettled, AsSaid, WorkOwed}
+use Rattle.ln_top.specs.Answer.{most_source, most_rows, HasPredicate, usage, long_source, refused, no_predicate, long_rows, worked, Owed, IsMissing, no_source, no_rows, SaysStop, FileStop, IsSourceOf, SourceStops, OfFiles}
 use Rattle.ln_top.proofs.WorkLemmas.{error_alone}
 
 abbrev pub Words : Type 0

@@ -1,6 +1,5 @@
 -- Lines put one after the other.
 use Rattle.std.proofs.Common.{cond, codes, subst, inl, inr, ◌≡◌, ◌≤◌, ◌&&◌, ℕ, Bool, true, false, List, [], ◌∷◌, ◌++◌, refl, ap, sym, ◌∙◌, arith, Option, append_assoc}
-use Rattle.std.specs.List.{list_all}
 use Rattle.std.proofs.lemmas.List.{append-nil}
 use Rattle.std.proofs.lemmas.List.Concat.{flat_map-append}
 use Rattle.std.proofs.lemmas.List.Folds.{list_all-append}
@@ -11,7 +10,7 @@ use Rattle.ln_tree.specs.declared.pred.Pred.{Pred}
 use Rattle.ln_rows.specs.Left.{Records}
 use Rattle.ln_top.specs.declared.status.Status.{Status}
 use Rattle.ln_top.specs.declared.status.Status.TheVariants.{Done, Rows}
-use Rattle.ln_top.specs.Said.{Said, error_line, IsSettled, put_both, IsWrongHeader, WorkSaid, wrong_header, ran, AsSaid, WorkOwed, SaysError}
+use Rattle.ln_top.specs.Said.{error_line, IsSettled, put_both, IsWrongHeader, wrong_header, ran, AsSaid, WorkOwed, SaysError}
 use Rattle.ln_top.specs.Line.{line, line_of, lines_of, all_signs, is_sign, verdict}
 
 -- the lines of some records stand on Out, and the rest is left

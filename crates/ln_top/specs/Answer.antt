@@ -1,5 +1,5 @@
 -- What the program answers, from its words and the told files, by the order of its steps.
-use Rattle.std.specs.Prelude.{◌≡◌, ◌⊎◌, ℕ, ◌≤◌, ◌<◌, List, length, codes, Option, Some, None, IfSome}
+use Rattle.std.specs.Prelude.{◌≡◌, ◌⊎◌, ℕ, ◌≤◌, ◌<◌, List, length, codes, Option, Some, None}
 use Rattle.ln_base.specs.Outside.{Shelf, bytes_of, Rose, Shown, appended}
 use Rattle.ln_base.specs.declared.outside.Port.TheVariants.{Err as ErrPort}
 use Rattle.ln_tree.specs.declared.table.Table.{Table}
@@ -15,7 +15,7 @@ use Rattle.ln_top.specs.Line.{line}
 use Rattle.ln_top.specs.Stop.{refusal_text, stop_text, stop_status}
 use Rattle.ln_top.specs.Words.{Command, command_of}
 use Rattle.ln_top.specs.Source.{IsAccepted, IsRefusedFor, named}
-use Rattle.ln_top.specs.Said.{Said, error_line, IsSettled, WorkSaid, AsSaid}
+use Rattle.ln_top.specs.Said.{Said, error_line, WorkSaid, AsSaid}
 
 -- a source file has at most 1,048,576 bytes
 abbrev pub most_source : ℕ

@@ -1,5 +1,5 @@
 -- When each status comes.
-use Rattle.std.specs.Prelude.{◌≡◌, ◌≢◌, ◌⊎◌, ℕ, ℤ, pos, ◌≤◌, ◌<◌, List, [], ◌∷◌, ◌++◌, length, map, codes, All, Option, Some, None, IfSome, Ok, Err}
+use Rattle.std.specs.Prelude.{◌≡◌, ◌≢◌, ◌⊎◌, ℕ, pos, ◌≤◌, ◌<◌, List, [], ◌∷◌, ◌++◌, length, map, codes, All, Option, Some, None, IfSome, Ok, Err}
 use Rattle.ln_base.specs.Outside.{Shelf, bytes_of, Shown}
 use Rattle.ln_tree.specs.declared.table.Table.{Table}
 use Rattle.ln_tree.specs.declared.pred.Pred.{Pred}
@@ -14,7 +14,7 @@ use Rattle.ln_top.specs.declared.status.Status.TheVariants as status
 use Rattle.ln_top.specs.declared.stop.Refusal.{Refusal}
 use Rattle.ln_top.specs.Line.{line}
 use Rattle.ln_top.specs.Plain.{plain_value}
-use Rattle.ln_top.specs.Words.{Command, command_of}
+use Rattle.ln_top.specs.Words.{Command}
 use Rattle.ln_top.specs.Source.{IsAccepted, IsRefusedFor, named}
 use Rattle.ln_top.specs.Said.{IsWrongHeader, put_both}
 use Rattle.ln_top.specs.Answer.{most_source, most_rows, HasSource, HasPredicate}

@@ -1,5 +1,5 @@
 -- The line of each record.
-use Rattle.std.specs.Prelude.{ℕ, ℤ, pos, int_lt, Bool, true, false, ◌||◌, if◌then◌else◌, List, [], ◌∷◌, ◌++◌, map, flat_map, codes, slice_index_or, Result, Ok, Err}
+use Rattle.std.specs.Prelude.{ℕ, ℤ, pos, int_lt, Bool, false, ◌||◌, if◌then◌else◌, List, [], ◌∷◌, ◌++◌, map, flat_map, codes, slice_index_or, Result, Ok, Err}
 use Rattle.std.specs.List.{list_all}
 use Rattle.ln_tree.specs.declared.pred.Pred.{Pred}
 use Rattle.ln_tree.specs.Formula.{formula}

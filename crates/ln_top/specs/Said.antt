@@ -1,5 +1,5 @@
 -- What the program says: a status, and the bytes on both ports.
-use Rattle.std.specs.Prelude.{◌≡◌, ◌⊎◌, ℕ, Bool, true, false, List, [], ◌∷◌, ◌++◌, Option, Some, None, if◌then◌else◌, codes}
+use Rattle.std.specs.Prelude.{◌≡◌, ◌⊎◌, ℕ, Bool, true, false, List, [], ◌∷◌, Option, if◌then◌else◌, codes}
 use Rattle.ln_base.specs.Outside.{Rose, Shown, appended}
 use Rattle.ln_base.specs.declared.outside.Port.TheVariants.{Out, Err as ErrPort}
 use Rattle.ln_tree.specs.declared.pred.Pred.{Pred}

@@ -1,5 +1,5 @@
 -- What a source is: accepted, or refused for a reason at a place.
-use Rattle.std.specs.Prelude.{◌≡◌, ℕ, List, [], ◌∷◌, ◌++◌, map, find, bytes_eq, Option, Some, None}
+use Rattle.std.specs.Prelude.{◌≡◌, ℕ, List, [], ◌∷◌, ◌++◌, map, find, bytes_eq, Option}
 use Rattle.ln_base.specs.declared.span.Span.{Span}
 use Rattle.ln_base.specs.Place.{line_of, column_of}
 use Rattle.ln_tree.specs.declared.table.Table.{Table}

@@ -1,5 +1,5 @@
 -- Why a command stops before its work, and the error line.
-use Rattle.std.specs.Prelude.{ℕ, List, [], ◌∷◌, ◌++◌, codes, decimal}
+use Rattle.std.specs.Prelude.{ℕ, List, [], ◌++◌, codes, decimal}
 use Rattle.ln_top.specs.declared.status.Status.{Status}
 use Rattle.ln_top.specs.declared.status.Status.TheVariants as status
 use Rattle.ln_top.specs.declared.stop.Kind.{Kind}

@@ -7,3 +7,4 @@ pub mod Kept
 pub mod Row
 pub mod Table
 pub mod Exps
+pub mod Whole

@@ -1,9 +1,7 @@
-use Rattle.std.proofs.Common.{◌≡◌, ◌≤◌, ◌+◌, ◌-◌, arith, ◌∙◌, ap, length, FitsSigned, rules, unsigned_abs}
+use Rattle.std.proofs.Common.{◌+◌, ◌-◌, arith, ◌∙◌, ap, length, FitsSigned, rules}
 use mir.Syntax.{w128}
 use Rattle.std.proofs.lemmas.Int.{to_z-of_z}
-use Rattle.ln_algebra.specs.Weights.{weighted_sum}
 use Rattle.ln_bound.specs.Light.{most}
-use Rattle.ln_bound.specs.Typed.{bound}
 use Rattle.ln_bound.specs.View.{typed}
 use Rattle.ln_nest.specs.Nested.{nested, total}
 use Rattle.ln_nest.specs.View.{scale, terms_in, abs_total}
@@ -22,13 +20,13 @@ pub by_powers-by_powers-requires : goal.by_powers-by_powers-requires
 by_powers-by_powers-requires t c =
     (omega arith, (c.requires.variable, (c.requires.few, divided_weight (scale c.args.vars.now) c.args.v most (terms_in c.args.terms.items) c.in_ok-with.with.items (scale_some c.args.vars.now c.args.v) c.in_ok-with.ensures.with c.requires.weight)))
 
-pub by_powers-two-requires : goal.by_powers-two-requires
-by_powers-two-requires t c =
+pub by_powers-times-requires : goal.by_powers-times-requires
+by_powers-times-requires t c =
     product_fits c.args.vars.now c.args.v (terms_in c.args.terms.items) c.in_ok-with.with.items (typed c.input.result) (typed c.in_ok-h.h) _ c.input.ensures.tree c.requires.variable c.in_ok-with.ensures.with c.in_ok-h.ensures c.requires.weight
 
-pub by_powers-two-requires-2 : goal.by_powers-two-requires-2
-by_powers-two-requires-2 t c =
-    sum_fits_most c.args.vars.now c.args.v (terms_in c.args.terms.items) c.in_ok-with.with.items c.in_ok-with.without.items (typed c.input.result) (typed c.in_ok-h.h) (typed c.in_ok-product.product) (typed c.in_ok-i.i) _ _ c.input.ensures.tree c.requires.variable c.in_ok-with.ensures.with c.in_ok-with.ensures.without c.in_ok-h.ensures c.in_ok-product.ensures c.in_ok-i.ensures c.requires.weight
+pub by_powers-two-requires : goal.by_powers-two-requires
+by_powers-two-requires t c =
+    sum_fits_most c.args.vars.now c.args.v (terms_in c.args.terms.items) c.in_ok-with.with.items c.in_ok-with.without.items (typed c.input.result) (typed c.in_ok-h.h) (typed c.in_ok-product.product) (typed c.in_ok-i.i) _ _ c.input.ensures.tree c.requires.variable (omega (arith, c.input.ensures.small)) c.in_ok-with.ensures.with c.in_ok-with.ensures.without c.in_ok-h.ensures c.in_ok-product.ensures c.in_ok-i.ensures c.requires.weight
 
 pub nest_from-constant-requires : goal.nest_from-constant-requires
 nest_from-constant-requires t c =

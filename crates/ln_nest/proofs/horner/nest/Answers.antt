@@ -1,4 +1,4 @@
-use Rattle.std.proofs.Common.{length, arith, ◌≤◌}
+use Rattle.std.proofs.Common.{length, arith}
 use Rattle.ln_tree.proofs.KeptLemmas.{few_vars}
 use Rattle.ln_bound.specs.View.{typed}
 use Rattle.ln_nest.proofs.Whole.{whole_weight, whole_has, whole_same, whole_sound, whole_lean, whole_cheap}

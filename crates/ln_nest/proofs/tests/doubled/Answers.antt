@@ -1,5 +1,3 @@
-use Rattle.std.proofs.Common.{◌≡◌, ℕ, ℤ, List, [], ◌∷◌, ◌≤◌, ◌<◌, length, arith, pos, zero, suc}
-use Rattle.ln_tree.specs.Exps.{Pairs}
 use Rattle.ln_nest.proofs.Doubled.{below, degrees, small}
 use Rattle.ln_nest.proofs.tests.doubled.Goals as goal
 

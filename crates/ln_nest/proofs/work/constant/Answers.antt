@@ -1,8 +1,8 @@
-use Rattle.std.proofs.Common.{◌≡◌, ◌≤◌, ◌<◌, ◌+◌, arith, ◌∙◌, ap, sym, length, take, rules, unsigned_abs, ◌+ℤ◌, FitsSigned}
-use Rattle.std.proofs.lemmas.Int.{ints, to_z-of_z, fits_signed_from_abs}
+use Rattle.std.proofs.Common.{◌∙◌, take, rules, FitsSigned}
+use Rattle.std.proofs.lemmas.Int.{to_z-of_z}
 use mir.Syntax.{w128}
 use Rattle.ln_nest.specs.Nested.{total}
-use Rattle.ln_nest.specs.View.{terms_in, abs_total}
+use Rattle.ln_nest.specs.View.{terms_in}
 use Rattle.ln_nest.proofs.Steps.{sum_step, sum_fits, small_sum, sum_next}
 use Rattle.ln_nest.proofs.work.constant.Goals as goal
 

@@ -1,4 +1,4 @@
-use Rattle.std.proofs.Common.{◌≡◌, ◌≤◌, ◌<◌, arith, ◌∙◌, ap, sym, slice_index_or, slice_set, length}
+use Rattle.std.proofs.Common.{arith}
 use Rattle.ln_nest.proofs.Vectors.{within, positive, set_is}
 use Rattle.ln_nest.proofs.work.lower.Goals as goal
 

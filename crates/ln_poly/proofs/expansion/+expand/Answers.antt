@@ -1,11 +1,11 @@
 use Rattle.std.proofs.Common.{rules, ◌≡◌, ◌∷◌, [], ap, subst, length, map}
 use Rattle.std.proofs.lemmas.Result.{IfOk-weaker, MatchResult-weaker, err_from_is_err_and}
 use Rattle.ln_algebra.specs.Tree.{Add, Mul, Neg, Pow, Sub, inlined}
-use Rattle.ln_tree.specs.Formula.{FAdd, FInput, FMul, FName, FNeg, FNum, FPow, FSub, Formula, formula, tree}
+use Rattle.ln_tree.specs.Formula.{FAdd, FMul, FNeg, FPow, FSub, Formula, formula, tree}
 use Rattle.ln_bound.specs.Value.{weights}
 use Rattle.ln_poly.specs.Expansion.{closed_lets, expanded, powers}
 use Rattle.ln_poly.specs.Ready.{AreLight}
-use Rattle.ln_poly.proofs.Nodes.{add-room, leaf-err, leaf-ok, mul-powers, mul-room, neg-room, one-err, one-ok, pow-room, second-stops, sub-room, two-err, two-ok}
+use Rattle.ln_poly.proofs.Nodes.{add-room, mul-powers, mul-room, neg-room, one-err, one-ok, pow-room, second-stops, sub-room, two-err, two-ok}
 use Rattle.ln_poly.proofs.expansion.+expand.Goals as goal
 
 pub returns-in_err-g-in-Add-clause-err : goal.returns-in_err-g-in-Add-clause-err

@@ -1,9 +1,10 @@
-use Rattle.std.proofs.Common.{arith}
-use Rattle.ln_poly.proofs.Counting.{counted-few, counted-many}
+use Rattle.std.proofs.Common.{length, sym, ◌∙◌}
+use Rattle.ln_bound.proofs.WidthLaws.{lt_test}
+use Rattle.ln_poly.proofs.Counting.{counted-few, counted-many, few_test}
 use Rattle.ln_poly.proofs.expansion.counted.Goals as goal
 
-pub returns-then-terms-gt1024-clause-err : goal.returns-then-terms-gt1024-clause-err
-returns-then-terms-gt1024-clause-err c = λ n e p. counted-many n c.args.at e c.args.f (rw (← c.terms.ensures.value) (omega (arith, c.if-terms-gt1024.true))) p
+pub returns-then-are_many-clause-err : goal.returns-then-are_many-clause-err
+returns-then-are_many-clause-err c = λ n e p. counted-many n c.args.at e c.args.f (rw (← c.terms.ensures.value) (lt_test 1024 (length c.terms.result.now) (sym c.are_many.ensures ∙ c.if-are_many.true))) p
 
 pub returns-clause-ok : goal.returns-clause-ok
-returns-clause-ok c = λ n e p. counted-few n c.args.at e c.args.f (rw (← c.terms.ensures.value) (omega (arith, c.if-terms-gt1024.false))) p
+returns-clause-ok c = λ n e p. counted-few n c.args.at e c.args.f (rw (← c.terms.ensures.value) (few_test (length c.terms.result.now) (sym c.are_many.ensures ∙ c.if-are_many.false))) p

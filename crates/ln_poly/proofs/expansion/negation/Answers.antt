@@ -1,4 +1,4 @@
-use Rattle.std.proofs.Common.{◌≡◌, ◌+◌, arith, subst, sym, [], refl}
+use Rattle.std.proofs.Common.{◌≡◌, arith, subst, sym, refl}
 use Rattle.std.proofs.Math.IntN.{pos}
 use Rattle.std.proofs.lemmas.Result.{IfOk-weaker, MatchResult-weaker}
 use Rattle.ln_algebra.specs.Tree.{Neg, Num}

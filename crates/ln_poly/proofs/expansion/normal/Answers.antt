@@ -1,4 +1,4 @@
-use Rattle.std.proofs.Common.{length, map, [], ap, sym, ◌∙◌}
+use Rattle.std.proofs.Common.{length, map, []}
 use Rattle.std.proofs.lemmas.Result.{IfOk-weaker, MatchResult-weaker}
 use Rattle.ln_tree.proofs.KeptLemmas.{few_vars}
 use Rattle.ln_tree.specs.Formula.{formula, tree}

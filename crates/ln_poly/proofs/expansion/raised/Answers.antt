@@ -1,4 +1,4 @@
-use Rattle.std.proofs.Common.{◌≡◌, refl, sym, ap, arith, subst, ◌+◌, add-one}
+use Rattle.std.proofs.Common.{◌≡◌, arith, subst, add-one}
 use Rattle.std.proofs.lemmas.Result.{err_from_is_err_and}
 use Rattle.ln_algebra.specs.Tree.{Pow}
 use Rattle.ln_poly.specs.Expansion.{powers}

@@ -1,4 +1,4 @@
-use Rattle.std.proofs.Common.{rules, FitsSigned, arith, ◌∙◌, sym, ap, length, ◌≡◌, ◌≤◌, take}
+use Rattle.std.proofs.Common.{rules, FitsSigned, arith, ◌∙◌, ap, length, ◌≡◌, ◌≤◌, take}
 use Rattle.std.specs.Int.{w128}
 use Rattle.std.proofs.lemmas.Int.{to_z-of_z}
 use Rattle.std.proofs.lemmas.List.{length-take-le}

@@ -1,5 +1,4 @@
-use Rattle.std.proofs.Common.{◌≡◌, true, [], length, map, take, drop}
-use Rattle.ln_tree.specs.Fits.{lets_fit}
+use Rattle.std.proofs.Common.{length, map, take, drop}
 use Rattle.ln_tree.specs.Formula.{tree_of}
 use Rattle.ln_bound.specs.Value.{values}
 use Rattle.ln_top.proofs.PlainLemmas.{LetsPut}

@@ -1,4 +1,4 @@
-use Rattle.std.proofs.Common.{sym, ap, ◌∙◌, inl, inr, Err, Some}
+use Rattle.std.proofs.Common.{sym, ap, inl, inr, Err}
 use Rattle.ln_top.proofs.TopLemmas.{usage_owed, source_owed, no_predicate_owed, rows_owed, worked_owed, not_usage, is_read, source_missing, rows_missing, rose_earlier, found_light}
 use Rattle.ln_top.specs.declared.stop.Stop.TheVariants.{Usage, NoPredicate}
 use Rattle.ln_top.proofs.CauseLemmas.{stop_line, work_line, work_not_usage, work_not_read, no_command}

@@ -1,4 +1,3 @@
-use Rattle.std.proofs.Common.{arith}
 use Rattle.std.proofs.lemmas.Int.{to_z-of_z}
 use Rattle.ln_top.proofs.Products.{next_power_fits}
 use Rattle.ln_top.proofs.value.powered.Goals as goal

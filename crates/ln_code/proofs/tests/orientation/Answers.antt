@@ -1,0 +1,5 @@
+use Rattle.ln_code.proofs.WorkedLaws.{orientation_block}
+use Rattle.ln_code.proofs.tests.orientation.Goals as goal
+
+pub seal-requires : goal.seal-requires
+seal-requires c = orientation_block c.new.result c.in_ok-ops.ops c.in_ok-bounds.bounds c.new.ensures c.in_ok-ops.ensures c.in_ok-bounds.ensures

@@ -1,0 +1,4 @@
+pub mod Nodes
+pub mod Lowered
+pub mod Wrote
+pub mod Worked

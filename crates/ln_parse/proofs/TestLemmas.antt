@@ -1,0 +1,42 @@
+-- What tests of numbers and lists say.
+use Rattle.std.proofs.Common.{◌≡◌, ℕ, zero, suc, ◌<◌, ◌≤◌, ◌==◌, ◌||◌, not, Bool, true, false, cond, nat_lt, List, [], ◌∷◌, length, map, Some, refl, ap, sym, arith}
+use Rattle.std.specs.Prelude.{ℤ, int_lt, ◌≤ℤ◌, nat_le, slice_get}
+use Rattle.std.proofs.lemmas.Bool.Decides.{nat_tests}
+use Rattle.std.proofs.lemmas.Int.{ints}
+
+pub at_most : (n m : ℕ) → nat_le n m ≡ true → n ≤ m
+at_most n m h = grind (arith, nat_tests)
+
+pub below : (n m : ℕ) → nat_lt n m ≡ true → n < m
+below n m h = grind (arith, nat_tests)
+
+pub equal : (n m : ℕ) → (n == m) ≡ true → n ≡ m
+equal n m h = grind (arith, nat_tests)
+
+pub in_order : (x y : ℤ) → x ≤ℤ y → int_lt y x ≡ false
+in_order x y h = grind (arith, nat_tests, ints)
+
+pub neither : (a b : Bool) → (a || b) ≡ false → (a ≡ false) × (b ≡ false)
+neither true b h = absurd (cc)
+neither false b h = (refl, h)
+
+pub or_false : (a b : Bool) → a ≡ false → b ≡ false → (a || b) ≡ false
+or_false a b h g = rw (h, g) refl
+
+pub or_cases : {C : Type 0} (a b : Bool) → (a || b) ≡ true → (a ≡ true → C) → (b ≡ true → C) → C
+or_cases true b h f g = f refl
+or_cases false b h f g = g h
+
+pub not_so : (a : Bool) → not a ≡ true → a ≡ false
+not_so true h = sym h
+not_so false h = refl
+
+-- one where it is so, else none
+abbrev pub one_if : Bool → ℕ
+one_if v = cond v 1 0
+
+-- what stands in a list stands in its image
+pub get_map : {A B : Type 0} (f : A → B) (xs : List A) (k : ℕ) (x : A) → slice_get xs k ≡ Some x → slice_get (map f xs) k ≡ Some (f x)
+get_map f [] k x h = absurd (cc)
+get_map f (y ∷ xs) zero x h = let q : y ≡ x = cc in ap (λ w. Some (f w)) q
+get_map f (y ∷ xs) (suc k) x h = get_map f xs k x h
