@@ -26,12 +26,14 @@ use Rattle.ln_compile.proofs.OrderExists.{order-exists}
 abbrev Answers : Option Verdict → Type 0
 Answers o = (v : Verdict) × (o ≡ Some v)
 
+-- a block decides, or what follows answers
 settled-answers : (z : ℤ) (place wide calls : ℕ) (rest : Option Verdict) → Answers rest → Answers (settled z place wide calls rest)
 settled-answers (pos zero) place wide calls rest a = a
 settled-answers (pos (suc n)) place wide calls rest a = (_, refl)
 settled-answers (negsuc n) place wide calls rest a = (_, refl)
 
 module _ (p : Part) (zs : List ℤ) (program : IsProgram p) (row : AreWithin p.shape.vars zs) where
+  -- a list of blocks has an answer
   along-answers : (ks : List ℕ) (place wide calls : ℕ) → All (λ k. k < length p.blocks) ks → Answers (along zs p.blocks ks place wide calls)
   along-answers [] place wide calls h = (_, refl)
   along-answers (k ∷ ks) place wide calls h =
@@ -43,6 +45,7 @@ module _ (p : Part) (zs : List ℤ) (program : IsProgram p) (row : AreWithin p.s
       let ih = along-answers ks (place + 1) (wide + wide_in c.ops) (calls + 1) (All-tail (λ i. i < length p.blocks) k ks h) in
       rw (g, u) (settled-answers _ place (wide + wide_in c.ops) (calls + 1) (along zs p.blocks ks (place + 1) (wide + wide_in c.ops) (calls + 1)) ih)
 
+  -- so it has behind the filter
   through-answers : (list : List ℕ) → All (λ k. k < length p.blocks) list → (o : Option FilterCode) → p.filter ≡ o → Answers (through o zs p.blocks list)
   through-answers list h None here = along-answers list 0 0 0 h
   through-answers list h (Some c) here = by_case (cases_lt m.left.error (unsigned_abs m.left.number)) (along-answers list 0 0 1 h) where
@@ -53,6 +56,7 @@ module _ (p : Part) (zs : List ℤ) (program : IsProgram p) (row : AreWithin p.s
     by_case (inl l) a = (_, through-decides zs c m.left p.blocks list m.answer ∙ decides-above m.left (along zs p.blocks list 0 0 1) l)
     by_case (inr l) a = (a.0, through-decides zs c m.left p.blocks list m.answer ∙ decides-within m.left (along zs p.blocks list 0 0 1) l ∙ a.1)
 
+-- the indices of a row have an order, the order a list, and the list an answer
 pub rows-have : RowsHaveVerdicts
 rows-have p row program r =
     let o = order-exists row.index r.differ in
