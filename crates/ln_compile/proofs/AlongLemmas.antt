@@ -22,6 +22,7 @@ abbrev pub AreZero : Sites → (ℕ → ℤ) → Tree → List (List ℕ) → Ty
 AreZero sites x e [] = Unit {0}
 AreZero sites x e (a ∷ list) = (perturbed sites x e a ≡ pos 0) × AreZero sites x e list
 
+-- so has each member
 pub zero-at : (sites : Sites) (x : ℕ → ℤ) (e : Tree) (list : List (List ℕ)) (a : List ℕ) → AreZero sites x e list → In list a → perturbed sites x e a ≡ pos 0
 zero-at sites x e [] a z i = absurd i
 zero-at sites x e (b ∷ list) a z (inl q) = ap (perturbed sites x e) q ∙ z.0
@@ -46,11 +47,13 @@ pub record Ends (sites : Sites) (x : ℕ → ℤ) (e : Tree) (list : List (List 
   pub by : v.by ≡ Nothing
   pub calls : v.calls ≡ entered + length list
 
+-- a value that isn't 0 decides
 settled-other : (z : ℤ) (place wide entered : ℕ) (rest : Option Verdict) → z ≢ pos 0 → settled z place wide entered rest ≡ Some (record { sign = sign_of z; by = Stage place; wide = wide; calls = entered })
 settled-other (pos zero) place wide entered rest h = absurd (h refl)
 settled-other (pos (suc n)) place wide entered rest h = refl
 settled-other (negsuc n) place wide entered rest h = refl
 
+-- 0 doesn't
 settled-zero : (z : ℤ) (place wide entered : ℕ) (rest : Option Verdict) → z ≡ pos 0 → settled z place wide entered rest ≡ rest
 settled-zero z place wide entered rest h = rw h refl
 
@@ -58,6 +61,7 @@ module _ (p : Part) (e : Tree) (zs : List ℤ) (sites : Sites) where
   abbrev x : ℕ → ℤ
   x = values zs
 
+  -- one block more
   turn : (k : ℕ) (ks : List ℕ) (place wide entered : ℕ) (h : HasValue p k zs (perturbed sites x e (stage_at p k))) →
       along zs p.blocks (k ∷ ks) place wide entered
       ≡ settled (perturbed sites x e (stage_at p k)) place (wide + wide_in h.block.ops) (entered + 1) (along zs p.blocks ks (place + 1) (wide + wide_in h.block.ops) (entered + 1))
@@ -66,6 +70,7 @@ module _ (p : Part) (e : Tree) (zs : List ℤ) (sites : Sites) where
       let u : block_value zs h.block ≡ Some (perturbed sites x e (stage_at p k)) = h.value in
       rw (g, u) refl
 
+  -- the verdict is that of the first vector whose coefficient isn't 0, or there is none
   pub along-finds : (ks : List ℕ) (place wide entered : ℕ) (v : Verdict) → Computes p e zs sites ks → along zs p.blocks ks place wide entered ≡ Some v →
       Stops sites x e (vectors p ks) place entered v ⊎ Ends sites x e (vectors p ks) entered v
   along-finds [] place wide entered v c q =

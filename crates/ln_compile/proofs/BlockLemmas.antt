@@ -25,10 +25,12 @@ use Rattle.ln_compile.specs.DueLaw.{HasValue}
 use Rattle.ln_compile.proofs.CoefficientLemmas.{derivative-value}
 use Rattle.ln_compile.proofs.InputsLemmas.{known_inputs}
 
+-- two names of one value
 pub some-same : {A : Type 0} (a b : A) → Some a ≡ Some b → a ≡ b
 some-same a b e = cc
 
-no_code : Code
+-- what stands past the last block
+pub no_code : Code
 no_code = record { exps = []; ops = []; bounds = []; depth = 0 }
 
 -- the exponent vector of a block of the program
@@ -55,11 +57,13 @@ module _ (p : Part) (e : Tree) (f : Sparse) (zs : List ℤ) (sites : Sites) (pro
       derivative-value n sites (values zs) e d.what.tree (terms_of n f) (vector n c.exps) carries.inputs carries.normal.normal (known_inputs p.shape.vars c d.what d.known) d.derivative (subst (IsOver n sites) at o) in
       record { block = c; there = there; value = m.answer ∙ ap (λ (w : Known). Some (value (values zs) [] w.tree)) same ∙ ap Some (v ∙ ap (perturbed sites (values zs) e) (sym at)) }
 
+  -- so does each block of a list of stages
   pub list-computes : (ks : List ℕ) → All (λ k. k < length p.blocks) ks → ((a : List ℕ) → In (vectors p ks) a → IsOver (length p.shape.vars) sites a) → Computes p e zs sites ks
   list-computes [] h o = tt
   list-computes (k ∷ ks) h o =
       (block-coefficient k (All-head (λ i. i < length p.blocks) k ks h) (o (stage_at p k) (inl refl)), list-computes ks (All-tail (λ i. i < length p.blocks) k ks h) (λ a i. o a (inr i)))
 
+  -- the same by place in the list
   pub computes-at : (ks : List ℕ) (k : ℕ) → Computes p e zs sites ks → k < length ks → HasValue p (get_or ks k 0) zs (perturbed sites (values zs) e (get_or (vectors p ks) k []))
   computes-at [] k c h = absurd (omega arith)
   computes-at (i ∷ ks) zero c h = c.0

@@ -1,9 +1,8 @@
 -- The laws, from their parts.
-use Rattle.std.proofs.Common.{◌≡◌, ◌⊎◌, inl, inr, ℕ, ◌<◌, ◌≤◌, true, false, ltb, List, length, refl, sym, ◌∙◌, ap, arith, subst, unsigned_abs}
+use Rattle.std.proofs.Common.{◌≡◌, ◌⊎◌, inl, inr, ℕ, ◌<◌, ◌≤◌, List, length, refl, sym, ◌∙◌, ap, subst, unsigned_abs}
 use Rattle.std.specs.Prelude.{Option, Some, None}
 use Rattle.std.proofs.Math.IntN.{ℤ, pos}
 use Rattle.std.proofs.lemmas.Bool.{cases_lt}
-use Rattle.std.proofs.lemmas.Bool.Decides.{nat_tests}
 use Rattle.std.proofs.lemmas.List.{length-map}
 use Rattle.std.proofs.lemmas.List.Elements.{All-contains}
 use Rattle.ln_base.specs.declared.sign.Sign.{Sign}
@@ -24,11 +23,10 @@ use Rattle.ln_poly.specs.Sparse.{Sparse}
 use Rattle.ln_code.specs.Kept.{FollowsRules, IsProgram}
 use Rattle.ln_code.specs.Law.{FilterMeans}
 use Rattle.ln_code.specs.Lists.{IsListOf}
-use Rattle.ln_code.specs.Part.{Code, FilterCode, Part, filter_value}
+use Rattle.ln_code.specs.Part.{FilterCode, Part}
 use Rattle.ln_code.specs.declared.verdict.Verdict.{Verdict}
 use Rattle.ln_code.specs.declared.verdict.By.TheVariants.{Filter}
-use Rattle.ln_code.specs.Exact.{Held}
-use Rattle.ln_code.specs.Verdict.{IsVerdict, along, decides, sign_of, through}
+use Rattle.ln_code.specs.Verdict.{IsVerdict, along, sign_of, through}
 use Rattle.ln_code.proofs.Means.{blocks_mean, filters_mean}
 use Rattle.ln_compile.specs.Carried.{Carries, vectors}
 use Rattle.ln_compile.specs.Due.{Decided, Filtering, IsOwedByStages, NoFilter, Undecided, sign_number}
@@ -37,6 +35,7 @@ use Rattle.ln_compile.proofs.AlongLemmas.{Ends, Stops, along-finds}
 use Rattle.ln_compile.proofs.BlockLemmas.{computes-at, list-computes, list-within, some-same, stage_at}
 use Rattle.ln_compile.proofs.DueLemmas.{Owed, end-owed, stop-owed}
 use Rattle.ln_compile.proofs.FilterLemmas.{decided-sign, filter-follows}
+use Rattle.ln_compile.proofs.Filtering.{decides-above, decides-within, through-decides}
 use Rattle.ln_compile.proofs.ListLemmas.{order-stages}
 use Rattle.ln_compile.proofs.RowLemmas.{row-stages, rows-differ}
 use Rattle.ln_compile.proofs.UniqueLemmas.{due-sign}
@@ -87,16 +86,6 @@ along-owed p e f places list row before v program carries r o l run = record { s
 
   owed : Owed (length p.shape.vars) (row_sites p.shape.vars row.index) (values row.values) e carries.inputs (rows-differ p.shape row r) (vectors p list) v before
   owed = elim found [ inl s ↦ stop-owed (length p.shape.vars) (row_sites p.shape.vars row.index) (values row.values) e carries.inputs (rows-differ p.shape row r) (vectors p list) v before stages s | inr s ↦ end-owed (length p.shape.vars) (row_sites p.shape.vars row.index) (values row.values) e carries.inputs (rows-differ p.shape row r) (vectors p list) v before stages s ]
-
--- what the machine does behind a filter
-through-decides : (zs : List ℤ) (c : FilterCode) (left : Held) (blocks : List Code) (list : List ℕ) → filter_value zs c ≡ Some left → through (Some c) zs blocks list ≡ decides left (along zs blocks list 0 0 1)
-through-decides zs c left blocks list h = rw h refl
-
-decides-above : (left : Held) (rest : Option Verdict) → left.error < unsigned_abs left.number → decides left rest ≡ Some (record { sign = sign_of left.number; by = Filter; wide = 0; calls = 1 })
-decides-above left rest h = let t : ltb left.error (unsigned_abs left.number) ≡ true = grind (arith, nat_tests) in rw t refl
-
-decides-within : (left : Held) (rest : Option Verdict) → unsigned_abs left.number ≤ left.error → decides left rest ≡ rest
-decides-within left rest h = let t : ltb left.error (unsigned_abs left.number) ≡ false = grind (arith, nat_tests) in rw t refl
 
 -- the machine of a part whose filter is known
 answered-with : (p : Part) (row : Row) (v : Verdict) (o : Option FilterCode) (m : IsVerdict p row v) → p.filter ≡ o → through o row.values p.blocks m.list ≡ Some v

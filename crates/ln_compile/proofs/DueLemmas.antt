@@ -31,11 +31,13 @@ split [] after here a (inr i) = inr (inr i)
 split (b ∷ before) after here a (inl q) = inl (inl q)
 split (b ∷ before) after here a (inr i) = elim (split before after here a i) [ inl k ↦ inl (inr k) | inr k ↦ inr k ]
 
+-- what stands before here is earlier
 earlier-before : (sites : Sites) (before after : List (List ℕ)) (here a : List ℕ) → IsInOrder sites (before ++ here ∷ after) → In before a → Earlier sites a here
 earlier-before sites [] after here a o i = absurd i
 earlier-before sites (b ∷ before) after here a o (inl q) = subst (λ (c : List ℕ). Earlier sites c here) (sym q) (o.0 here (In-append_right before (here ∷ after) here (inl refl)))
 earlier-before sites (b ∷ before) after here a o (inr i) = earlier-before sites before after here a o.1 i
 
+-- what stands behind is later
 later-after : (sites : Sites) (before after : List (List ℕ)) (here a : List ℕ) → IsInOrder sites (before ++ here ∷ after) → In after a → Earlier sites here a
 later-after sites [] after here a o i = o.0 a i
 later-after sites (b ∷ before) after here a o i = later-after sites before after here a o.1 i
@@ -51,9 +53,11 @@ position-is sites [] after here h k = position-none sites (here ∷ after) here 
 position-is sites (b ∷ before) after here h k = inl (h b (inl refl), (length before, position-is sites before after here (λ c i. h c (inr i)) k, omega arith))
 
 module _ (n : ℕ) (sites : Sites) (x : ℕ → ℤ) (e : Tree) (below : InputsBelow n e) (differ : IndicesDiffer sites) where
+  -- of two vectors one alone is earlier
   not-earlier : (a b : List ℕ) → Earlier sites a b → Earlier sites b a → ⊥
   not-earlier a b l k = earlier-irreflexive sites a (earlier-transitive sites differ a b a l k)
 
+  -- nothing from here on is earlier
   none-behind : (before after : List (List ℕ)) (here : List ℕ) → IsInOrder sites (before ++ here ∷ after) → (b : List ℕ) → In (here ∷ after) b → Earlier sites b here → ⊥
   none-behind before after here o b (inl q) l = earlier-irreflexive sites here (subst (λ (c : List ℕ). Earlier sites c here) q l)
   none-behind before after here o b (inr i) l = not-earlier here b (later-after sites before after here b o i) l
@@ -72,6 +76,7 @@ module _ (n : ℕ) (sites : Sites) (x : ℕ → ℤ) (e : Tree) (below : InputsB
     pub decided : IsDecidedBy n sites x e list v.by blocks
     pub calls : v.calls ≡ entered + blocks
 
+  -- where a vector decides
   pub stop-owed : (list : List (List ℕ)) (v : Verdict) (entered : ℕ) → IsStageList n sites e list → Stops sites x e list 0 entered v → Owed list v entered
   stop-owed list v entered s t =
       let l : IsStageList n sites e (t.before ++ t.here ∷ t.after) = subst (λ (q : List (List ℕ)). IsStageList n sites e q) t.all s in
@@ -87,6 +92,7 @@ module _ (n : ℕ) (sites : Sites) (x : ℕ → ℤ) (e : Tree) (below : InputsB
         calls = t.calls;
       }
 
+  -- where none does
   pub end-owed : (list : List (List ℕ)) (v : Verdict) (entered : ℕ) → IsStageList n sites e list → Ends sites x e list entered v → Owed list v entered
   end-owed list v entered s t =
       let none : (a : List ℕ) → IsFirst n sites x e a → ⊥ = λ a f. f.nonzero (zero-at sites x e list a t.zeros (s.all a (first-stage n sites x e below a f))) in

@@ -29,11 +29,13 @@ use Rattle.ln_compile.proofs.CoefficientLemmas.{is_zero-zeros, normal-value}
 use Rattle.ln_compile.proofs.InputsLemmas.{filter_known-inputs}
 
 -- ---- signs
+-- a number above 0
 positive : (v : ℤ) → pos 0 <ℤ v → (pos 1 ≡ algebra.sign_of v) × (v ≢ pos 0)
 positive (pos zero) h = absurd (omega (arith, ints, h))
 positive (pos (suc n)) h = (refl, λ q. cc)
 positive (negsuc n) h = absurd (omega (arith, ints, h))
 
+-- a number below 0
 negative : (v : ℤ) → v <ℤ pos 0 → (negsuc 0 ≡ algebra.sign_of v) × (v ≢ pos 0)
 negative (pos zero) h = absurd (omega (arith, ints, h))
 negative (pos (suc n)) h = absurd (omega (arith, ints, h))
@@ -47,9 +49,11 @@ sign-agrees (negsuc n) v e h p m = negative v (m h (omega (arith, ints)))
 
 -- ---- a plain value that isn't 0 decides
 module _ (n : ℕ) (sites : Sites) where
+  -- no vector is earlier than that of zeros
   none-earlier : (b : List ℕ) → Earlier sites b (zeros n) → ⊥
   none-earlier b l = absurd (omega (arith, l.3, zeros-get n l.0))
 
+  -- so it is the first where its coefficient isn't 0
   zeros-first : (x : ℕ → ℤ) (e : Tree) → perturbed sites x e (zeros n) ≢ pos 0 → IsFirst n sites x e (zeros n)
   zeros-first x e d = record {
     over = record { size = length-zeros n; of_sites = λ v h. zeros-get n v };
@@ -62,6 +66,7 @@ module _ (n : ℕ) (sites : Sites) where
 pub filter-follows : (p : Part) (c : FilterCode) → IsProgram p → p.filter ≡ Some c → FollowsFilterRules p.shape.vars c
 filter-follows p c program here = subst (λ (o : Option FilterCode). IfSome o (FollowsFilterRules p.shape.vars)) here program.filter
 
+-- above its error the filter's number has the perturbed sign
 pub decided-sign : (p : Part) (e : Tree) (f : Sparse) (zs : List ℤ) (sites : Sites) (c : FilterCode) (left : Held) → IsProgram p → Carries p e f → AreWithin p.shape.vars zs →
     p.filter ≡ Some c → filter_value zs c ≡ Some left → left.error < unsigned_abs left.number → IsPerturbedSign (length p.shape.vars) sites (values zs) e (sign_number (sign_of left.number))
 decided-sign p e f zs sites c left program carries row here a above =

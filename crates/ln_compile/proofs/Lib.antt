@@ -7,4 +7,7 @@ pub mod AlongLemmas
 pub mod DueLemmas
 pub mod UniqueLemmas
 pub mod FilterLemmas
+pub mod Filtering
+pub mod OrderExists
+pub mod AnswerLemmas
 pub mod Composition

@@ -27,6 +27,7 @@ use Rattle.ln_compile.specs.DueLaw.{Agree, DueIsUnique, WithoutParamsNeverZero}
 use Rattle.ln_compile.proofs.RowLemmas.{rows-differ}
 
 -- ---- one verdict
+-- signs with one number are one
 sign-number-same : (s t : Sign) → sign_number s ≡ sign_number t → s ≡ t
 sign-number-same Minus Minus e = refl
 sign-number-same Minus Zero e = cc
@@ -38,6 +39,7 @@ sign-number-same Plus Minus e = cc
 sign-number-same Plus Zero e = cc
 sign-number-same Plus Plus e = refl
 
+-- a vector has one position
 position-unique : (sites : Sites) (list : List (List ℕ)) (a : List ℕ) (i j : ℕ) → IsPosition sites list a i → IsPosition sites list a j → i ≡ j
 position-unique sites [] a i j h k = h ∙ sym k
 position-unique sites (b ∷ list) a i j (inl h) (inl k) = h.1.2 ∙ ap (λ m. m + 1) (position-unique sites list a h.1.0 k.1.0 h.1.1 k.1.1) ∙ sym k.1.2
@@ -46,6 +48,7 @@ position-unique sites (b ∷ list) a i j (inr h) (inl k) = absurd (h.0 k.0)
 position-unique sites (b ∷ list) a i j (inr h) (inr k) = position-unique sites list a i j h.1 k.1
 
 module _ (n : ℕ) (sites : Sites) (x : ℕ → ℤ) (e : Tree) (differ : IndicesDiffer sites) where
+  -- one thing decides
   decided-unique : (list : List (List ℕ)) (b c : By) (i j : ℕ) → IsDecidedBy n sites x e list b i → IsDecidedBy n sites x e list c j → (b ≡ c) × (i ≡ j)
   decided-unique list Filter c i j h k = absurd h
   decided-unique list (Stage s) Filter i j h k = absurd k
@@ -58,6 +61,7 @@ module _ (n : ℕ) (sites : Sites) (x : ℕ → ℤ) (e : Tree) (differ : Indice
   decided-unique list Nothing (Stage t) i j h k = absurd (h.0 k.0 k.1)
   decided-unique list Nothing Nothing i j h k = (refl, h.1 ∙ sym k.1)
 
+-- the stages owe one verdict
 owed-unique : (s : Shape) (e : Tree) (row : Row) (before : ℕ) (v w : Verdict) → InRange s.sites s.vars row → IsOwedByStages s.vars e row before v → IsOwedByStages s.vars e row before w → Agree v w
 owed-unique s e row before v w r d g =
     let n : ℕ = length s.vars in
@@ -71,6 +75,7 @@ owed-unique s e row before v w r d g =
       calls = d.calls ∙ ap (λ m. before + m) both.1 ∙ sym g.calls;
     }
 
+-- so there is one verdict
 pub due-unique : DueIsUnique
 due-unique s e row NoFilter v w r d g = owed-unique s e row 0 v w r d g
 due-unique s e row Undecided v w r d g = owed-unique s e row 1 v w r d g
@@ -91,16 +96,19 @@ some-site : (o : Option ℕ) → o ≢ None → is_some o ≡ true
 some-site None h = absurd (h refl)
 some-site (Some t) h = refl
 
+-- each variable is one of a site
 all-sites : (vars : List VarInfo) (v : ℕ) → All (λ i. i.site ≢ None) vars → v < length vars → is_some (site_of vars v) ≡ true
 all-sites [] v a h = absurd (omega arith)
 all-sites (i ∷ vars) zero a h = some-site i.site (All-head (λ (j : VarInfo). j.site ≢ None) i vars a)
 all-sites (i ∷ vars) (suc v) a h = all-sites vars v (All-tail (λ (j : VarInfo). j.site ≢ None) i vars a) (omega arith)
 
+-- a number that isn't 0 hasn't the sign 0
 sign-nonzero : (z : ℤ) → z ≢ pos 0 → algebra.sign_of z ≡ pos 0 → ⊥
 sign-nonzero (pos zero) h e = h refl
 sign-nonzero (pos (suc n)) h e = cc
 sign-nonzero (negsuc n) h e = cc
 
+-- without params the first vector is there, since some coefficient isn't 0
 pub never-zero : WithoutParamsNeverZero
 never-zero s e f row does v a below h filled r d q = by_sign (due-sign s.vars e row does v d) where
   sites : Sites

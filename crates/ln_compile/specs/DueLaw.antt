@@ -68,7 +68,11 @@ VerdictsAreDue =
     (p : Part) (e : Tree) (f : Sparse) (row : Row) (does : Filtering) (v : Verdict) → IsProgram p → Carries p e f →
     InRange p.shape.sites p.shape.vars row → FilterDoes p row.values does → IsVerdict p row v → Due does p.shape.vars e row v
 
--- so its sign is the perturbed sign, whatever the filter does
+-- the machine has a verdict on every row in range
+abbrev pub RowsHaveVerdicts : Type 0
+RowsHaveVerdicts = (p : Part) (row : Row) → IsProgram p → InRange p.shape.sites p.shape.vars row → (v : Verdict) × IsVerdict p row v
+
+-- its sign is the perturbed sign, whatever the filter does
 abbrev pub SignsArePerturbed : Type 0
 SignsArePerturbed =
     (p : Part) (e : Tree) (f : Sparse) (row : Row) (v : Verdict) → IsProgram p → Carries p e f →

@@ -1,5 +1,9 @@
+use Rattle.ln_compile.proofs.AnswerLemmas.{rows-have}
 use Rattle.ln_compile.proofs.Composition.{signs-perturbed, verdicts-due}
 use Rattle.ln_compile.proofs.due.verdicts_are_due.Goals as goal
+
+pub returns-clause-rows : goal.returns-clause-rows
+returns-clause-rows c = rows-have
 
 pub returns-clause-verdicts : goal.returns-clause-verdicts
 returns-clause-verdicts c = verdicts-due
