@@ -177,10 +177,12 @@ bare_two : (zs : List ℤ) (t : Two) (w : Width) (b : ℕ) (k m : Known) (y z : 
 bare_two zs t w b k m y z v f g q =
     let r = if_some _ _ _ q in
     let n = and_parts _ _ r.0 in
-    let p = known_some (bound_of t k.bound m.bound) b w (two_of t k.tree m.tree) v r.1 in
     let a = abs_two t y z k.bound m.bound f.small g.small in
-    let c : fits w (result_of t y z) ≡ true = le-leb _ _ (omega arith) in
+    let c : fits w (result_of t y z) ≡ true = within_limit (known_some (bound_of t k.bound m.bound) b w (two_of t k.tree m.tree) v r.1) a in
     rw (fits_is zs k w y n.0 f, fits_is zs m w z n.1 g, c) (kept zs (bound_of t k.bound m.bound) b w (two_of t k.tree m.tree) v (result_of t y z) (two_same zs t k m y z f g) a r.1)
+  where
+    within_limit : {K : Type 0} → (bound_of t k.bound m.bound ≤ b) × (b ≤ limit w) × K → unsigned_abs (result_of t y z) ≤ bound_of t k.bound m.bound → fits w (result_of t y z) ≡ true
+    within_limit p a = le-leb (unsigned_abs (result_of t y z)) (limit w) (omega (arith, p.0, p.1, a))
 
 -- each local that is known has its value
 abbrev pub Slots : List ℤ → (ℕ → Option Known) → (ℕ → ℤ) → Type 0

@@ -1,5 +1,5 @@
 -- What follows of one engine's answer for another's, and what the lines of code are.
-use Rattle.std.proofs.Common.{◌≡◌, ℕ, ℤ, ◌≤◌, List, [], ◌∷◌, length, refl, ap, arith, sym}
+use Rattle.std.proofs.Common.{◌≡◌, ℕ, ℤ, ◌≤◌, List, [], ◌∷◌, length, refl, ap, arith}
 use Rattle.std.specs.Prelude.{Option, Some, None, IsSome}
 use Rattle.ln_tree.specs.declared.shape.VarInfo.{VarInfo}
 use Rattle.ln_tree.specs.Row.{AreWithin}
@@ -104,7 +104,5 @@ filter_runs vars zs f places locals r range d =
     let q = reached_some (λ (x y : Held). x ≡ y) p.0 _ (rw same_lines at b) in
     let c = answer_follows (roomy zs f.depth) (bare zs places) (λ (a : Triple). a.k) IsNumber HeldSlots (bare_follows_roomy f.depth places zs d) no_locals locals lines p.0 (λ j v e. cc) p.1 in
     let s = reached_some IsNumber p.0 _ (rw (shifted_lines f.ops f.triples) at c) in
-    let e : q.0 ≡ p.0 = sym q.2 in
-    let g : s.0 ≡ p.0.number = sym s.2.same in
-    let x : filter_value zs f ≡ Some p.0 = rw e at q.1 in
-    record { what = r.what; known = r.known; left = p.0; exactly = x; barely = rw g at s.1; holds = p.2; error = left_has zs f.ops f.triples p.0 x }
+    let x : filter_value zs f ≡ Some p.0 = rw (← q.2) at q.1 in
+    record { what = r.what; known = r.known; left = p.0; exactly = x; barely = rw (← s.2.same) at s.1; holds = p.2; error = left_has zs f.ops f.triples p.0 x }

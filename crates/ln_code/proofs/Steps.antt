@@ -39,17 +39,12 @@ two_ready : (zs : List ℤ) (l : ℕ → ℤ) (t : Two) (w : Width) (k : ℕ) (b
 two_ready zs l t w b buf zero r h = cc
 two_ready zs l t w b buf (suc zero) r h = cc
 two_ready zs l t w b buf (suc (suc k)) r h =
-    let p = and_parts _ _ (when_is_some _ _ (next_is_some _ _ h)) in
-    let q = and_parts _ _ p.1 in
     let e : suc (suc k) - 2 ≡ k = omega arith in
     let f : suc (suc k) - 1 ≡ suc k = omega arith in
-    record {
-      deep = omega arith;
-      room = r;
-      left = rw e p.0;
-      right = rw f q.0;
-      result = rw (e, f) q.1;
-    }
+    let d : 2 ≤ suc (suc k) = omega arith in
+    let p = and_parts _ _ (when_is_some _ _ (next_is_some _ _ h)) in
+    let q = and_parts _ _ p.1 in
+    record { deep = d; room = r; left = rw e p.0; right = rw f q.0; result = rw (e, f) q.1 }
 
 two_is : (zs : List ℤ) (l : ℕ → ℤ) (t : Two) (w : Width) (k : ℕ) (buf : List ℤ) (top : ℕ) → TwoReady t w buf top →
     with_two (bare zs (length buf)) ((bare zs (length buf)).two t w k) l (seen buf top) ≡ Some (record { stack = result_of t (at buf (top - 2)) (at buf (top - 1)) ∷ seen buf (top - 2); locals = l })

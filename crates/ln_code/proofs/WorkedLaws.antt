@@ -1,7 +1,7 @@
 -- The orientation of three points follows the rules, and makes a program.
-use Rattle.std.proofs.Common.{◌≡◌, ◌≢◌, ℕ, ℤ, ◌-◌, ◌^◌, ◌<◌, List, [], ◌∷◌, take, refl, zero, suc, arith, pos, neg_ℤ, ◌≤ℤ◌}
+use Rattle.std.proofs.Common.{◌≡◌, ◌≢◌, ℕ, ℤ, ◌-◌, ◌^◌, ◌<◌, ◌≤◌, List, [], ◌∷◌, length, take, refl, zero, suc, arith, pos, neg_ℤ, ◌≤ℤ◌}
 use Rattle.std.proofs.lemmas.Int.{ints}
-use Rattle.std.specs.Prelude.{All, AllPairs, None}
+use Rattle.std.specs.Prelude.{All, AllPairs, Option, Some, None, IsSome, IfSome}
 use Rattle.std.proofs.lemmas.List.Elements.{All-cons, All-nil}
 use Rattle.ln_tree.specs.Exps.{Pairs}
 use Rattle.ln_tree.specs.declared.shape.Shape.{Shape}
@@ -9,11 +9,13 @@ use Rattle.ln_tree.specs.declared.shape.VarInfo.{VarInfo}
 use Rattle.ln_tree.specs.Row as tree
 use Rattle.ln_tree.specs.Row.{InRange, AreWithin}
 use Rattle.ln_code.specs.declared.op.Op.{Op}
+use Rattle.ln_code.specs.declared.op.Triple.{Triple}
 use Rattle.ln_code.specs.declared.row.Row.{Row}
 use Rattle.ln_code.specs.RowOf.{row_of}
-use Rattle.ln_code.specs.Part.{Code, lines_of}
-use Rattle.ln_code.specs.Kept.{FollowsRules, StoresHave, IsBlock, IsList, IsProgram, AreOfSites}
-use Rattle.ln_code.specs.Worked.{plane_vars, orientation_ops, orientation_bounds}
+use Rattle.ln_code.specs.FilterRules.{FilterKnown}
+use Rattle.ln_code.specs.Part.{Code, FilterCode, lines_of, filter_known_of, ops_in_filter}
+use Rattle.ln_code.specs.Kept.{FollowsRules, FollowsFilterRules, StoresHave, IsBlock, IsFilter, IsList, IsProgram, AreOfSites, no_triple}
+use Rattle.ln_code.specs.Worked.{plane_vars, orientation_ops, orientation_bounds, orientation_triples, IsFilterOrNone}
 
 abbrev pub orientation_code : Code
 orientation_code = record { exps = []; ops = orientation_ops; bounds = orientation_bounds; depth = 4 }
@@ -29,6 +31,39 @@ block = record { shallow = omega arith; stores_have = stored; vars = plane_vars;
 
 pub orientation_block : (exps : Pairs) (ops : List Op) (bounds : List ℕ) → exps ≡ [] → ops ≡ orientation_ops → bounds ≡ orientation_bounds → IsBlock (record { exps = exps; ops = ops; bounds = bounds; depth = 4 })
 orientation_block exps ops bounds e o b = rw (e, o, b) block
+
+-- ---- the same operations as a filter
+
+abbrev orientation_filter_code : FilterCode
+orientation_filter_code = record { ops = orientation_ops; triples = orientation_triples; depth = 4 }
+
+abbrev error_or : Option FilterKnown → ℕ
+error_or None = 0
+error_or (Some k) = k.triple.e
+
+follows_by : (f : FilterCode) (o : Option FilterKnown) → length f.ops ≡ length f.triples → filter_known_of plane_vars f ≡ o → IsSome o → error_or o ≡ 0 → FollowsFilterRules plane_vars f
+follows_by f None b e s n = cc
+follows_by f (Some k) b e s n = record { bounded = b; what = k; known = e; narrow = omega (arith, n) }
+
+filter_follows : FollowsFilterRules plane_vars orientation_filter_code
+filter_follows = follows_by orientation_filter_code (filter_known_of plane_vars orientation_filter_code) refl refl refl refl
+
+filter : IsFilter orientation_filter_code
+filter = record { shallow = omega arith; stores_have = stored; vars = plane_vars; rules = filter_follows }
+  where
+    stored : StoresHave no_triple (lines_of orientation_ops orientation_triples)
+    stored = (λ e. cc, (λ e. cc, (λ e. cc, (λ e. cc, (λ e. cc, (λ e. cc, (λ e. cc, (λ e. cc, (λ e. cc, (λ e. cc, (λ e. cc, (λ e. cc, (λ e. cc, (λ e. cc, (λ e. cc, tt)))))))))))))))
+
+pub orientation_filter : (ops : List Op) (triples : List Triple) → ops ≡ orientation_ops → triples ≡ orientation_triples → IsFilter (record { ops = ops; triples = triples; depth = 4 })
+orientation_filter ops triples o t = rw (o, t) filter
+
+filter_in : (o : Option FilterCode) → IsFilterOrNone o → IfSome o (FollowsFilterRules plane_vars)
+filter_in None h = tt
+filter_in (Some f) h = rw h filter_follows
+
+few_ops : (o : Option FilterCode) → IsFilterOrNone o → ops_in_filter o ≤ 15
+few_ops None h = omega arith
+few_ops (Some f) h = rw h (omega arith)
 
 abbrev pub six_lists : List (List ℕ)
 six_lists = (0 ∷ []) ∷ (0 ∷ []) ∷ (0 ∷ []) ∷ (0 ∷ []) ∷ (0 ∷ []) ∷ (0 ∷ []) ∷ []
@@ -48,11 +83,11 @@ lists_are (suc (suc (suc (suc zero)))) d h = one_list
 lists_are (suc (suc (suc (suc (suc zero))))) d h = one_list
 lists_are (suc (suc (suc (suc (suc (suc k)))))) d h = absurd (omega arith)
 
-pub orientation_program : (shape : Shape) (blocks : List Code) (lists : List (List ℕ)) → shape.sites ≡ 3 → shape.vars ≡ plane_vars → blocks ≡ orientation_code ∷ [] → lists ≡ six_lists → IsProgram (record { shape = shape; filter = None; blocks = blocks; lists = lists })
-orientation_program shape blocks lists s v b l = record {
+pub orientation_program : (shape : Shape) (filter : Option FilterCode) (blocks : List Code) (lists : List (List ℕ)) → shape.sites ≡ 3 → shape.vars ≡ plane_vars → blocks ≡ orientation_code ∷ [] → lists ≡ six_lists → IsFilterOrNone filter → IsProgram (record { shape = shape; filter = filter; blocks = blocks; lists = lists })
+orientation_program shape filter blocks lists s v b l f = record {
   blocks = rw (v, b) (all_one (FollowsRules plane_vars) orientation_code follows);
-  filter = tt;
-  few = rw b (omega arith);
+  filter = rw v (filter_in filter f);
+  few = let g = few_ops filter f in rw b (omega (arith, g));
   of_sites = rw (v, b) (all_one (λ (c : Code). AreOfSites plane_vars c.exps) orientation_code tt);
   orders = rw (s, l) refl;
   lists = rw (b, l) lists_are;

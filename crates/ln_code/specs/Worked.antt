@@ -1,8 +1,10 @@
 -- The orientation of three points of the plane, by hand: (p.x - r.x)*(q.y - r.y) - (p.y - r.y)*(q.x - r.x), each coordinate from -1000 to 1000.
-use Rattle.std.specs.Prelude.{ℕ, pos, neg_ℤ, List, [], ◌∷◌, Some}
+use Rattle.std.specs.Prelude.{◌≡◌, ℕ, pos, neg_ℤ, List, [], ◌∷◌, map, Option, Some, None}
 use Rattle.ln_tree.specs.declared.shape.VarInfo.{VarInfo}
 use Rattle.ln_bound.specs.declared.fitted.Width.TheVariants.{W64}
 use Rattle.ln_code.specs.declared.op.Op.{Op}
+use Rattle.ln_code.specs.declared.op.Triple.{Triple}
+use Rattle.ln_code.specs.Part.{FilterCode}
 use Rattle.ln_code.specs.declared.op.Op.TheVariants.{Input, Sub, Mul}
 
 abbrev pub coordinate : ℕ → ℕ → VarInfo
@@ -16,3 +18,16 @@ orientation_ops = Input 0 ∷ Input 4 ∷ Sub W64 ∷ Input 3 ∷ Input 5 ∷ Su
 
 abbrev pub orientation_bounds : List ℕ
 orientation_bounds = 1000 ∷ 1000 ∷ 2000 ∷ 1000 ∷ 1000 ∷ 2000 ∷ 4000000 ∷ 1000 ∷ 1000 ∷ 2000 ∷ 1000 ∷ 1000 ∷ 2000 ∷ 4000000 ∷ 8000000 ∷ []
+
+-- the triple of a number that isn't cut and is at most h
+abbrev pub uncut : ℕ → Triple
+uncut h = record { k = 0; h = h; e = 0 }
+
+-- no operation of the filter has more than 31 binary digits, so none is cut
+abbrev pub orientation_triples : List Triple
+orientation_triples = map uncut orientation_bounds
+
+-- the filter, or none
+abbrev pub IsFilterOrNone : Option FilterCode → Type 0
+IsFilterOrNone None = Unit {0}
+IsFilterOrNone (Some f) = f ≡ record { ops = orientation_ops; triples = orientation_triples; depth = 4 }

@@ -1,11 +1,10 @@
 // A program made by hand: the orientation of three points of the plane, block 0 alone.
 ghost use Rattle.std.specs.Prelude.{◌≡◌, ◌∷◌, [], IfOk, pos, take};
-ghost use Rattle.ln_code.specs.Part.{Part};
-ghost use Rattle.ln_code.specs.Kept.{IsProgram};
-ghost use Rattle.ln_code.specs.Worked.{coordinate, plane_vars, orientation_ops, orientation_bounds};
+ghost use Rattle.ln_code.specs.Worked.{coordinate, plane_vars, orientation_ops, orientation_bounds, orientation_triples, uncut, IsFilterOrNone};
 
 use crate::block::Block;
-use crate::op::Op;
+use crate::filter_block::FilterBlock;
+use crate::op::{Op, Triple};
 use crate::program::Program;
 use crate::programs::Programs;
 use crate::row::Row;
@@ -134,14 +133,59 @@ fn blocks(alloc: Global) -> Result<Seq<Block>, NoMemory>
     Ok(Seq::from_vec(blocks))
 }
 
-fn program(alloc: Global) -> Result<Program, NoMemory>
+fn uncut(h: u64) -> Triple
+    ensures { result ≡ uncut h }
+{
+    Triple { k: 0, h, e: 0 }
+}
+
+fn triples(alloc: Global) -> Result<Seq<Triple>, NoMemory>
+    ensures { IfOk result (λ triples. triples ≡ orientation_triples) }
+{
+    let coordinate = uncut(1000);
+    let difference = uncut(2000);
+    let product = uncut(4000000);
+    let triples = Vec::from_array(
+        alloc,
+        [
+            coordinate,
+            coordinate,
+            difference,
+            coordinate,
+            coordinate,
+            difference,
+            product,
+            coordinate,
+            coordinate,
+            difference,
+            coordinate,
+            coordinate,
+            difference,
+            product,
+            uncut(8000000),
+        ],
+    )?;
+    Ok(Seq::from_vec(triples))
+}
+
+// The same operations, on numbers that are small enough not to be cut.
+fn filter(alloc: Global) -> Result<FilterBlock, NoMemory>
+    ensures { IfOk result (λ f. f ≡ record { ops = orientation_ops; triples = orientation_triples; depth = 4 }) }
+{
+    let ops = operations(alloc)?;
+    let triples = triples(alloc)?;
+    Ok(FilterBlock::seal(ops, triples, 4))
+}
+
+fn program(alloc: Global, filter: Option<FilterBlock>) -> Result<Program, NoMemory>
+    requires { IsFilterOrNone filter }
     ensures sites { IfOk result (λ p. p.shape.sites ≡ 3) }
     ensures vars { IfOk result (λ p. p.shape.vars ≡ plane_vars) }
 {
     let shape = plane(alloc)?;
     let blocks = blocks(alloc)?;
     let lists = lists(alloc)?;
-    Ok(Program::join(shape, None, blocks, lists))
+    Ok(Program::join(shape, filter, blocks, lists))
 }
 
 // 1: (0, 0), 2: (1, 0), 3: (0, 1)
@@ -158,8 +202,10 @@ fn left_turn() -> Row
     }
 }
 
-fn answered(alloc: Global) -> Result<Verdict, NoMemory> {
-    let p = program(alloc)?;
+fn answered(alloc: Global, filter: Option<FilterBlock>) -> Result<Verdict, NoMemory>
+    requires { IsFilterOrNone filter }
+{
+    let p = program(alloc, filter)?;
     let mut scratch = Scratch::new(alloc, &p)?;
     let row = left_turn();
     Ok(run_row(&p, &mut scratch, &row))
@@ -173,13 +219,28 @@ fn points_turn_left_by_block_0(rt: HostRuntime) -> Result<(), Fail> {
         wide: 0,
         calls: 1,
     };
-    assert_eq!(rt; answered(rt.alloc())?, left);
+    assert_eq!(rt; answered(rt.alloc(), None)?, left);
+    Ok(())
+}
+
+#[test]
+fn a_filter_without_errors_decides(rt: HostRuntime) -> Result<(), Fail> {
+    let f = filter(rt.alloc())?;
+    assert_eq!(rt; f.ops().len(), 15);
+    assert_eq!(rt; f.triples().last(), Some(&uncut(8000000)));
+    let left = Verdict {
+        sign: Sign::Plus,
+        by: By::Filter,
+        wide: 0,
+        calls: 1,
+    };
+    assert_eq!(rt; answered(rt.alloc(), Some(f))?, left);
     Ok(())
 }
 
 #[test]
 fn a_program_lists_its_blocks(rt: HostRuntime) -> Result<(), Fail> {
-    let p = program(rt.alloc())?;
+    let p = program(rt.alloc(), None)?;
     assert_eq!(rt; p.shape().sites, 3);
     assert!(rt; p.filter().is_none());
     assert_eq!(rt; p.blocks().len(), 1);
@@ -187,6 +248,10 @@ fn a_program_lists_its_blocks(rt: HostRuntime) -> Result<(), Fail> {
         assert!(rt; block.exps().pairs().is_empty());
         assert_eq!(rt; block.ops().len(), 15);
         assert_eq!(rt; block.bounds().last(), Some(&8000000));
+    }
+    match order_of(&[2, 1, 3]) {
+        Ok(order) => assert_eq!(rt; p.list(&order), [0u32].as_slice()),
+        Err(_) => assert!(rt; false),
     }
     let mut programs = Programs::new(rt.alloc());
     programs.push(p)?;
