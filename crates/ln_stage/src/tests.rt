@@ -1,12 +1,13 @@
 // Worked values: the stages of the difference of two squares, over two sites of one coordinate each.
-ghost use Rattle.std.specs.Prelude.{◌≡◌, [], ◌∷◌, neg_ℤ, pos, Some, IfOk, length};
+ghost use Rattle.std.specs.Prelude.{◌≡◌, ◌≤◌, [], ◌∷◌, neg_ℤ, pos, Some, IfOk, length};
 ghost use Rattle.ln_poly.specs.Sparse.{AreBelow};
 
 use crate::{StageStop, Stages, stages};
 use ln_base::{NoMemory, Seq};
 use ln_order::order_of;
+use ln_poly::gather::gather;
 use ln_poly::{Poly, add, number, power};
-use ln_tree::{Name, Shape, VarInfo};
+use ln_tree::{Exps, Name, Shape, VarInfo, is_shape};
 use std::alloc::Global;
 use std::test::Fail;
 
@@ -104,5 +105,60 @@ fn a_limit_that_is_passed_stops(rt: HostRuntime) -> Result<(), Fail> {
     assert!(rt; is_stopped(of_squares(rt.alloc(), 5, 6), StageStop::Stages));
     assert!(rt; is_stopped(of_squares(rt.alloc(), 6, 5), StageStop::Stages));
     assert!(rt; is_stopped(of_zero(rt.alloc()), StageStop::Zero));
+    Ok(())
+}
+
+// Sixteen coordinates of one site, each from -1 to 1.
+fn many_coordinates(alloc: Global) -> Result<Shape, NoMemory>
+    ensures vars { IfOk result (λ s. length s.vars ≡ 16) }
+{
+    let mut vars = Vec::new(alloc);
+    'coords: for coord in 0..16u8 {
+        vars.push(VarInfo {
+            arg: 0,
+            site: Some(0),
+            coord,
+            lo: -1,
+            hi: 1,
+        })?;
+    }
+    if !is_shape(1, vars.as_slice()) {
+        return Err(NoMemory);
+    }
+    Ok(Shape {
+        name: Name::of(b"cube"),
+        sites: 1,
+        vars: Seq::from_vec(vars),
+    })
+}
+
+// The product of the first n variables.
+fn product(alloc: Global, n: u8) -> Result<Poly, NoMemory>
+    requires { n ≤ 168 }
+    ensures { IfOk result (AreBelow n) }
+{
+    let mut exps = Exps::new(alloc);
+    'vars: for v in 0..n {
+        exps.push(v, 1)?;
+    }
+    let mut terms = Vec::new(alloc);
+    terms.push((exps, 1))?;
+    gather(alloc, terms)
+}
+
+// The stages of the product of sixteen coordinates.
+fn of_cube(alloc: Global, most: u64) -> Result<Stages, StageStop> {
+    let s = many_coordinates(alloc)?;
+    let f = product(alloc, 16)?;
+    stages(alloc, &f, &s, most, 131_072)
+}
+
+#[test]
+fn sixteen_coordinates_have_65536_stages(rt: HostRuntime) -> Result<(), Fail> {
+    match of_cube(rt.alloc(), 65_536) {
+        Ok(st) => assert_eq!(rt; st.count(), 65_536),
+        Err(_) => assert!(rt; false),
+    }
+    assert!(rt; is_stopped(of_cube(rt.alloc(), 65_535), StageStop::Stages));
     Ok(())
 }

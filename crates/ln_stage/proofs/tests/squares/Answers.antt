@@ -1,7 +1,5 @@
 use Rattle.std.proofs.Common.{◌≡◌, [], ◌∷◌, arith, negsuc}
 use Rattle.std.proofs.Math.IntN.{pos}
-use Rattle.std.proofs.lemmas.List.Elements.{All-cons, All-nil}
-use Rattle.ln_tree.specs.Exps.{IsAbove}
 use Rattle.ln_poly.specs.Sparse.{size_of}
 use Rattle.ln_poly.proofs.Coefficients.{size-cons, size-nil}
 use Rattle.ln_stage.proofs.tests.squares.Goals as goal
