@@ -1,6 +1,7 @@
 -- What a source is compiled to: the program and the stage count of each predicate.
 use Rattle.std.specs.Prelude.{◌≡◌, ℕ, ◌+◌, ◌<◌, ◌^◌, List, [], ◌∷◌, length, map, slice_get, Option, Some, None, position, bytes_eq}
 use Rattle.ln_tree.specs.declared.pred.Pred.{Pred}
+use Rattle.ln_tree.specs.declared.table.Table.{Table}
 use Rattle.ln_tree.specs.Formula.{tree}
 use Rattle.ln_tree.specs.Names.{name_bytes}
 use Rattle.ln_tree.specs.Table.{PredOf}
@@ -67,3 +68,9 @@ IsStageCountAt ps i n = (p : PredOf) → slice_get ps i ≡ Some p → IsStageCo
 -- the number of the first predicate of a name
 abbrev pub number_of : List ℕ → List Pred → Option ℕ
 number_of name preds = position (λ p. bytes_eq (name_bytes p.name) name) preds
+
+-- a compiled source: its table, its programs and its stage counts
+pub record CompiledOf : Type 0 where
+  pub table : Table
+  pub programs : List Part
+  pub counts : List ℕ

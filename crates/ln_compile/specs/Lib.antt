@@ -1,6 +1,7 @@
 pub mod Accepted
 pub mod Carried
 pub mod Compiled
+pub mod Derived
 pub mod Due
 pub mod DueLaw
 pub mod Refused
