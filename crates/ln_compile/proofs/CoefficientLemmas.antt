@@ -50,7 +50,7 @@ binomials-zeros (k ∷ m) zero h = absurd (omega arith)
 binomials-zeros (k ∷ m) (suc n) h = let ih : binomials m (zeros n) ≡ 1 = binomials-zeros m n (omega arith) in omega (arith, ih)
 
 -- the scaled derivative by nothing
-derived-zeros : (n : ℕ) (f : List Term) → Over n f → derived (zeros n) f ≡ f
+pub derived-zeros : (n : ℕ) (f : List Term) → Over n f → derived (zeros n) f ≡ f
 derived-zeros n [] o = refl
 derived-zeros n (t ∷ f) o =
     let c : covers t.exponents (zeros n) ≡ true = covers-zeros t.exponents n o.0 in

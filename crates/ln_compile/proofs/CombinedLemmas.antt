@@ -124,7 +124,7 @@ zero_times k = omega (arith, ints)
 -- so does a derivative's
 pub once-derived : (a : List ℕ) (f : List Term) → Over (length a) f → Once f → Once (derived a f)
 once-derived a [] o c = tt
-once-derived a (t ∷ f) o c = by_case (covers t.exponents a) refl (once-derived a f o.1 c.2.1) where
+once-derived a (t ∷ f) o c = by_case (covers t.exponents a) refl (once-derived a f o.1 c.2) where
   none : covers t.exponents a ≡ true → factor_at (derived a f) (minus t.exponents a) ≡ pos 0
   none h =
       let l : length (minus t.exponents a) ≡ length a = length-minus t.exponents a o.0 ∙ o.0 in

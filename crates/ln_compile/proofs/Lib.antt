@@ -2,11 +2,14 @@ pub mod AlongLemmas
 pub mod BlockLemmas
 pub mod CoefficientLemmas
 pub mod CombinedLemmas
+pub mod DerivingLemmas
 pub mod Composition
 pub mod DueLemmas
+pub mod FewestLemmas
 pub mod InputsLemmas
 pub mod Judging
 pub mod ListLemmas
 pub mod OneRefusal
 pub mod RowLemmas
+pub mod StagingLemmas
 pub mod UniqueLemmas

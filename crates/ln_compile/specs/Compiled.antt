@@ -15,12 +15,9 @@ use Rattle.ln_lower.specs.Nodes.{IsNodeOf, PushNodes, pushed_by}
 use Rattle.ln_compile.specs.Accepted.{root_of}
 use Rattle.ln_compile.specs.Carried.{Carries}
 
--- block 0 has no exponents and is made from the source's own lets and root, with bounds and widths: what its operations push are polynomials of their nodes, each bound is exactly its operation over M, and each width the least. With the filter it has fewer than 2^21 operations
-pub record BeginsWith (p : PredOf) (part : Part) : Type 0 where
-  pub block : Code
-  pub first : slice_get part.blocks 0 ≡ Some block
+-- the block has no exponents and is made from the source's own lets and root, with bounds and widths: what its operations push are polynomials of their nodes, each bound is exactly its operation over M, and each width the least
+pub record IsOwn (p : PredOf) (block : Code) : Type 0 where
   pub plain : block.exps ≡ []
-  pub short : ops_in_filter part.filter + length block.ops < 2 ^ 21
   pub lets : List Typed
   pub of_lets : map untyped lets ≡ map (tree p.vars) p.lets
   pub root : Typed
@@ -28,6 +25,13 @@ pub record BeginsWith (p : PredOf) (part : Part) : Type 0 where
   pub exact_lets : AreExact p.vars [] lets
   pub exact_root : IsExact p.vars lets root
   pub nodes : PushNodes (IsNodeOf lets root) (pushed_by p.vars block)
+
+-- block 0 is the source's own; with the filter it has fewer than 2^21 operations
+pub record BeginsWith (p : PredOf) (part : Part) : Type 0 where
+  pub block : Code
+  pub first : slice_get part.blocks 0 ≡ Some block
+  pub own : IsOwn p block
+  pub short : ops_in_filter part.filter + length block.ops < 2 ^ 21
 
 -- the part is the program of the predicate: it is over the predicate's variables, without a filter; it carries the predicate's root, with the lets in place of their names; it begins with the source's own tree
 pub record IsProgramOf (p : PredOf) (part : Part) : Type 0 where

@@ -4,4 +4,5 @@ pub mod Compiled
 pub mod Derived
 pub mod Due
 pub mod DueLaw
+pub mod Made
 pub mod Refused
