@@ -31,7 +31,7 @@ use Rattle.ln_compile.proofs.FewestLemmas.{EachHas, each-has, shortest}
 use Rattle.ln_compile.proofs.CombinedLemmas.{AreApart, combined, everywhere, once, once-derived, over-derived}
 
 -- ---- no variable
-vector-nil : (v n : ℕ) → exponents_from v n [] ≡ zeros n
+pub vector-nil : (v n : ℕ) → exponents_from v n [] ≡ zeros n
 vector-nil v zero = refl
 vector-nil v (suc n) = ap (λ z. 0 ∷ z) (vector-nil (suc v) n)
 

@@ -9,7 +9,9 @@ pub mod FewestLemmas
 pub mod InputsLemmas
 pub mod Judging
 pub mod ListLemmas
+pub mod MakingLemmas
 pub mod OneRefusal
 pub mod RowLemmas
 pub mod StagingLemmas
 pub mod UniqueLemmas
+pub mod JoinLemmas
