@@ -297,7 +297,7 @@ blocks_by_stages k vars f st s =
 few-blocks : (x a l : ℕ) → x ≤ 524352 + 4096 * a + 68 * l → a ≤ 131072 → l ≤ 65536 → x < 2 ^ 32
 few-blocks x a l h w m = omega (arith, h, w, m)
 
-as-many : (n : ℕ) (cs : List Code) (exps : List Pairs) → map (λ c. vector n c.exps) cs ≡ map (vector n) exps → length cs ≡ length exps
+pub as-many : (n : ℕ) (cs : List Code) (exps : List Pairs) → map (λ c. vector n c.exps) cs ≡ map (vector n) exps → length cs ≡ length exps
 as-many n cs exps q =
     let l : length (map (λ (c : Code). vector n c.exps) cs) ≡ length (map (vector n) exps) = ap (λ (x : List (List ℕ)). length x) q in
     omega (arith, l, length-map cs (λ (c : Code). vector n c.exps), length-map exps (vector n))

@@ -6,6 +6,7 @@ pub mod DerivingLemmas
 pub mod Composition
 pub mod DueLemmas
 pub mod FewestLemmas
+pub mod GatheringLemmas
 pub mod InputsLemmas
 pub mod Judging
 pub mod ListLemmas

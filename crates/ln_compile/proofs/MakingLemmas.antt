@@ -1,6 +1,6 @@
 -- Blocks as they are made.
 use Rattle.std.proofs.Common.{◌≡◌, ℕ, ◌+◌, ◌*◌, ◌<◌, ◌≤◌, zero, suc, max, List, [], ◌∷◌, ◌++◌, length, map, take, drop, get_or, refl, sym, ◌∙◌, ap, subst, arith, ◌⊎◌, inl, inr, Option, Some, None}
-use Rattle.std.specs.Prelude.{All, IsSome, slice_get, is_some, true}
+use Rattle.std.specs.Prelude.{slice_get, is_some, true}
 use Rattle.ln_algebra.specs.Coefficient.{normal_coefficient}
 use Rattle.std.proofs.lemmas.Bool.{cases_lt}
 use Rattle.std.proofs.lemmas.List.{get_or_past}
@@ -25,6 +25,7 @@ use Rattle.ln_poly.proofs.Lowering.{found}
 use Rattle.ln_poly.proofs.Products.{length-vector, over-terms}
 use Rattle.ln_order.proofs.PairsLemmas.{vector-get}
 use Rattle.ln_stage.specs.Lists.{covering}
+use Rattle.ln_code.proofs.Runs.{some_is}
 use Rattle.ln_code.specs.Kept.{AreOfSites, FollowsRules, is_of_site}
 use Rattle.ln_code.specs.Part.{Code, known_of}
 use Rattle.ln_code.specs.Rules.{Known}
@@ -38,13 +39,9 @@ use Rattle.ln_compile.proofs.CoefficientLemmas.{derived-zeros}
 use Rattle.ln_compile.proofs.CombinedLemmas.{over-derived}
 use Rattle.ln_compile.proofs.DerivingLemmas.{vector-nil}
 
-there-is : {A : Type 0} (x : Option A) → IsSome x → (k : A) × (x ≡ Some k)
-there-is None h = cc
-there-is (Some k) h = (k, refl)
-
 -- a block whose value has the coefficients of the derivative carries it
 carrying : (vars : List VarInfo) (f : Sparse) (c : Code) → FollowsRules vars c → ((k : Known) → known_of vars c ≡ Some k → IsNormalOf (length vars) k.tree (derived (vector (length vars) c.exps) (terms_of (length vars) f))) → CarriesDerivative vars f c
-carrying vars f c r h = let s = there-is (known_of vars c) r.answers in record { what = s.0; known = s.1; derivative = h s.0 s.1 }
+carrying vars f c r h = let s = some_is (known_of vars c) r.answers in record { what = s.0; known = s.1; derivative = h s.0 s.1 }
 
 over-derivative : (n : ℕ) (a : Pairs) (f : Sparse) → Over n (derived (vector n a) (terms_of n f))
 over-derivative n a f = let e : length (vector n a) ≡ n = length-vector 0 n a in subst (λ k. Over k (derived (vector n a) (terms_of n f))) e (over-derived (vector n a) (terms_of n f) (subst (λ k. Over k (terms_of n f)) (sym e) (over-terms n f)))
