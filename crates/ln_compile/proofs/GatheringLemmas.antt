@@ -14,11 +14,11 @@ use Rattle.ln_compile.specs.Made.{AreBlocksOf, IsBlockOf}
 use Rattle.ln_compile.proofs.DerivingLemmas.{vector-nil}
 
 ops-append : (xs ys : List Code) → ops_in_blocks (xs ++ ys) ≡ ops_in_blocks xs + ops_in_blocks ys
-ops-append [] ys = refl
+ops-append [] ys = omega arith
 ops-append (x ∷ xs) ys = omega (arith, ops-append xs ys)
 
 covering-append : (n : ℕ) (f : Sparse) (xs ys : List (List ℕ)) → all_covering n f (xs ++ ys) ≡ all_covering n f xs + all_covering n f ys
-covering-append n f [] ys = refl
+covering-append n f [] ys = omega arith
 covering-append n f (x ∷ xs) ys = omega (arith, covering-append n f xs ys)
 
 first-stays : (xs ys : List Code) (c : Code) → slice_get xs 0 ≡ Some c → slice_get (xs ++ ys) 0 ≡ Some c
@@ -65,4 +65,4 @@ blocks-more p f exps i old blocks c a l q e x b s h =
     subst (λ (ys : List Pairs). AreBlocksOf p f ys blocks) t (subst (λ (bs : List Code). AreBlocksOf p f (take i exps ++ a ∷ []) bs) (sym e) one)
 
 pub blocks-end : (p : PredOf) (f : Sparse) (exps : List Pairs) (i : ℕ) (blocks : List Code) → length exps ≤ i → AreBlocksOf p f (take i exps) blocks → AreBlocksOf p f exps blocks
-blocks-end p f exps i blocks l h = subst (λ (ys : List Pairs). AreBlocksOf p f ys blocks) (take_all exps i l) h
+blocks-end p f exps i blocks l h = subst (λ (ys : List Pairs). AreBlocksOf p f ys blocks) (take_all i exps l) h
