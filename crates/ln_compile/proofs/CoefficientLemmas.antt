@@ -25,7 +25,7 @@ within-zeros : (p : ℕ → Bool) (n : ℕ) → Within p (zeros n)
 within-zeros p zero = tt
 within-zeros p (suc n) = within-zeros (λ v. p (suc v)) n
 
-covers-zeros : (m : List ℕ) (n : ℕ) → length m ≡ n → covers m (zeros n) ≡ true
+pub covers-zeros : (m : List ℕ) (n : ℕ) → length m ≡ n → covers m (zeros n) ≡ true
 covers-zeros [] zero h = refl
 covers-zeros [] (suc n) h = absurd (omega arith)
 covers-zeros (k ∷ m) zero h = absurd (omega arith)

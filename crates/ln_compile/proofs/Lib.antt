@@ -10,8 +10,10 @@ pub mod GatheringLemmas
 pub mod InputsLemmas
 pub mod Judging
 pub mod ListLemmas
+pub mod ListingLemmas
 pub mod MakingLemmas
 pub mod OneRefusal
+pub mod ProgramLemmas
 pub mod RowLemmas
 pub mod StagingLemmas
 pub mod UniqueLemmas
