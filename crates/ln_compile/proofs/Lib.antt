@@ -1,7 +1,9 @@
 pub mod AlongLemmas
 pub mod BlockLemmas
+pub mod BuildingLemmas
 pub mod CoefficientLemmas
 pub mod CombinedLemmas
+pub mod CopyLemmas
 pub mod DerivingLemmas
 pub mod Composition
 pub mod DueLemmas

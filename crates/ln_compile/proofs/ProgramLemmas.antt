@@ -68,7 +68,7 @@ module _ (p : Pred) (f : Sparse) (st : Staged) (blocks : List Code) (light : Are
   is-program = record {
     blocks = λ k d l. (made.each k d l).rules;
     filter = tt;
-    few = few-ops (ops_in_blocks blocks) (all_covering (length p.shape.vars) f (map (vector (length p.shape.vars)) st.exps)) (length st.exps) made.few (omega (arith, heavy, ap (all_covering (length p.shape.vars) f) stages.first_sight)) (omega (arith, stages-few p.shape.sites p.shape.vars f st stages, count));
+    few = omega (arith, few-ops (ops_in_blocks blocks) (all_covering (length p.shape.vars) f (map (vector (length p.shape.vars)) st.exps)) (length st.exps) made.few (omega (arith, heavy, ap (all_covering (length p.shape.vars) f) stages.first_sight)) (omega (arith, stages-few p.shape.sites p.shape.vars f st stages, count)));
     of_sites = λ k d l. (made.each k d l).of_sites;
     orders = size ∙ stages.lists.size;
     lists = subst (λ n. All (IsList n) st.lists) (sym as-many) (lists-are p.shape.sites p.shape.vars f st stages normal.form normal.below some);
