@@ -1,14 +1,16 @@
 -- The programs of a table's predicates, one after the other.
 use Rattle.std.proofs.Common.{◌≡◌, ◌⊎◌, inl, inr, ℕ, ◌+◌, ◌<◌, ◌≤◌, zero, suc, Bool, true, false, List, [], ◌∷◌, ◌++◌, length, map, take, drop, get_or, refl, ap, sym, subst, ◌∙◌, arith, Some}
-use Rattle.std.specs.Prelude.{◌≢◌, ◌&&◌, All, bytes_eq, slice_get}
+use Rattle.std.specs.Prelude.{◌≢◌, All, bytes_eq, slice_get}
 use Rattle.std.proofs.lemmas.List.{drop_more, length-map, map-append, take-append-drop, take_all, take_more}
 use Rattle.std.proofs.lemmas.List.Elements.{All-cons, All-nil}
 use Rattle.ln_tree.specs.declared.name.Name.{Name}
 use Rattle.ln_tree.specs.declared.pred.Pred.{Pred}
 use Rattle.ln_tree.specs.Names.{name_bytes}
 use Rattle.ln_tree.specs.Table.{PredOf, TableOf, pred_of}
-use Rattle.ln_tree.specs.Whole.{differ, is_new, is_whole}
-use Rattle.ln_parse.proofs.WholeParts.{Every, PredParts, differing, table_parts}
+use Rattle.ln_tree.specs.Whole.{differ, is_whole}
+use Rattle.ln_parse.specs.ReadsBack.{Every}
+use Rattle.ln_parse.proofs.WholeFrom.{differ_test}
+use Rattle.ln_parse.proofs.WholeParts.{PredParts, differing, table_parts}
 use Rattle.ln_parse.proofs.NamePlaces.{Differ, NoneIs, same_bytes}
 use Rattle.ln_stage.specs.Lists.{stage_count}
 use Rattle.ln_stage.specs.Staged.{count_numbers}
@@ -103,21 +105,11 @@ differ-behind : (us vs : List (List ℕ)) → Differ (us ++ vs) → Differ vs
 differ-behind [] vs d = d
 differ-behind (u ∷ us) vs d = differ-behind us vs d.1
 
-differ-test : (us : List (List ℕ)) → Differ us → differ us ≡ true
-differ-test [] d = refl
-differ-test (u ∷ us) d = both (new-test u us d.0) (differ-test us d.1) where
-  both : {a b : Bool} → a ≡ true → b ≡ true → (a && b) ≡ true
-  both p q = rw (p, q) refl
-
-  new-test : (t : List ℕ) (vs : List (List ℕ)) → NoneIs t vs → is_new t vs ≡ true
-  new-test t [] n = refl
-  new-test t (v ∷ vs) n = let r : is_new t vs ≡ true = new-test t vs n.1 in rw n.0 r
-
 pub names-differ : (t : TableOf) → is_whole t ≡ true → differ (map (λ p. p.shape_name) t.preds) ≡ true
 names-differ t h =
     let w = table_parts t h in
     let d : Differ (map (λ (p : PredOf). p.name) t.preds) = differ-behind (map (λ c. c.name) t.params) (map (λ (p : PredOf). p.name) t.preds) (differ-behind (map (λ s. s.name) t.sites) (map (λ c. c.name) t.params ++ map (λ (p : PredOf). p.name) t.preds) w.names) in
-    differ-test (map (λ p. p.shape_name) t.preds) (subst Differ (sym (same t.preds w.preds)) d) where
+    differ_test (map (λ p. p.shape_name) t.preds) (subst Differ (sym (same t.preds w.preds)) d) where
       same : (ps : List PredOf) → Every (PredParts t.sites t.params) ps → map (λ (p : PredOf). p.shape_name) ps ≡ map (λ (p : PredOf). p.name) ps
       same [] e = refl
       same (p ∷ ps) e = let r : map (λ (q : PredOf). q.shape_name) ps ≡ map (λ (q : PredOf). q.name) ps = same ps e.1 in ap (λ z. z ∷ map (λ (q : PredOf). q.shape_name) ps) e.0.shape_name ∙ ap (λ z. p.name ∷ z) r
