@@ -20,7 +20,7 @@ use ln_base::{NoMemory, Seq};
 use ln_bound::Weights;
 use ln_bound::size::size;
 use ln_code::Block;
-use ln_lower::lower::lower;
+use ln_lower::lower;
 use ln_nest::nest;
 use ln_poly::{Poly, derive};
 use ln_stage::Stages;
