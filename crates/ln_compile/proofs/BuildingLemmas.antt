@@ -1,5 +1,5 @@
 -- The programs of a table's predicates, one after the other.
-use Rattle.std.proofs.Common.{◌≡◌, ◌⊎◌, inl, inr, ℕ, ◌+◌, ◌<◌, ◌≤◌, zero, suc, Bool, true, false, List, [], ◌∷◌, ◌++◌, length, map, take, drop, get_or, refl, ap, sym, subst, ◌∙◌, arith, Some}
+use Rattle.std.proofs.Common.{◌≡◌, ℕ, ◌+◌, ◌<◌, ◌≤◌, zero, suc, true, false, List, [], ◌∷◌, ◌++◌, length, map, take, drop, get_or, refl, ap, sym, subst, ◌∙◌, arith, Some}
 use Rattle.std.specs.Prelude.{◌≢◌, All, bytes_eq, slice_get}
 use Rattle.std.proofs.lemmas.List.{drop_more, length-map, map-append, take-append-drop, take_all, take_more}
 use Rattle.std.proofs.lemmas.List.Elements.{All-cons, All-nil}
@@ -15,11 +15,9 @@ use Rattle.ln_parse.proofs.NamePlaces.{Differ, NoneIs, same_bytes}
 use Rattle.ln_stage.specs.Lists.{stage_count}
 use Rattle.ln_stage.specs.Staged.{count_numbers}
 use Rattle.ln_code.specs.Part.{Part}
-use Rattle.ln_compile.specs.declared.refusal.Refusal.{Refusal}
-use Rattle.ln_compile.specs.Accepted.{AreSound, IsSound}
+use Rattle.ln_compile.specs.Accepted.{IsSound}
 use Rattle.ln_compile.specs.Compiled.{AreProgramsOf, AreStageCounts, IsProgramOf, IsStageCount}
 use Rattle.ln_compile.specs.Made.{AreBuilt}
-use Rattle.ln_compile.specs.Refused.{StopsPred, StopsPreds}
 use Rattle.ln_compile.proofs.Judging.{judged_more}
 
 -- ---- one more

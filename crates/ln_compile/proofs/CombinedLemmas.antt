@@ -1,6 +1,6 @@
 -- A scaled derivative of a scaled derivative, by other variables.
-use Rattle.std.proofs.Common.{◌≡◌, ℕ, ◌+◌, ◌-◌, ◌*◌, ◌<◌, ◌≤◌, zero, suc, Bool, true, false, leb, ◌&&◌, List, [], ◌∷◌, length, refl, sym, ◌∙◌, ap, subst, arith, unsigned_abs, ◌⊎◌, inl, inr, if◌then◌else◌}
-use Rattle.std.proofs.Math.IntN.{ℤ, pos, ◌+ℤ◌, ◌*ℤ◌}
+use Rattle.std.proofs.Common.{◌≡◌, ℕ, ◌+◌, ◌-◌, ◌*◌, zero, suc, Bool, true, false, leb, List, [], ◌∷◌, length, refl, sym, ◌∙◌, ap, subst, arith, ◌⊎◌, inl, inr, if◌then◌else◌}
+use Rattle.std.proofs.Math.IntN.{ℤ, pos, ◌*ℤ◌}
 use Rattle.std.proofs.lemmas.Bool.{and_parts, cases_eq}
 use Rattle.std.proofs.lemmas.Bool.Decides.{nat_tests}
 use Rattle.std.proofs.lemmas.Int.{ints}
@@ -10,7 +10,7 @@ use Rattle.ln_algebra.proofs.Expansion.{length-plus}
 use Rattle.ln_algebra.proofs.Normal.{same_vector-is}
 use Rattle.ln_algebra.proofs.Ring.{mul_assoc}
 use Rattle.ln_algebra.proofs.Weights.{Once, four_ℕ}
-use Rattle.ln_algebra.specs.Terms.{IsCollected, Lacks, Over, Term, binomial, binomials, covers, derived, factor_at, minus, same_vector}
+use Rattle.ln_algebra.specs.Terms.{IsCollected, Lacks, Over, Term, binomial, binomials, covers, derived, factor_at, minus}
 use Rattle.ln_algebra.specs.Vector.{plus}
 
 -- no variable has an exponent in both

@@ -1,14 +1,13 @@
 -- Scaled derivatives by several variables, one variable after the other.
-use Rattle.std.proofs.Common.{◌≡◌, ℕ, ◌+◌, ◌*◌, ◌<◌, ◌≤◌, zero, suc, Bool, true, false, cond, eqb, List, [], ◌∷◌, ◌++◌, length, map, take, get_or, refl, sym, ◌∙◌, ap, subst, arith, ◌⊎◌, inl, inr, if◌then◌else◌}
-use Rattle.std.specs.Prelude.{◌≢◌, All, count_by}
-use Rattle.std.proofs.Math.IntN.{ℤ, pos, ◌*ℤ◌}
+use Rattle.std.proofs.Common.{◌≡◌, ℕ, ◌+◌, ◌<◌, ◌≤◌, zero, suc, Bool, true, false, cond, List, [], ◌∷◌, ◌++◌, length, take, get_or, refl, sym, ◌∙◌, ap, subst, arith, ◌⊎◌, inl, inr, if◌then◌else◌}
+use Rattle.std.specs.Prelude.{All}
+use Rattle.std.proofs.Math.IntN.{pos, ◌*ℤ◌}
 use Rattle.std.proofs.lemmas.Bool.{cases_eq}
-use Rattle.std.proofs.lemmas.Int.{ints}
 use Rattle.std.proofs.lemmas.List.{length-map, take_all, take_more}
 use Rattle.std.proofs.lemmas.List.Elements.{All-cons, All-head, All-nil, All-tail}
 use Rattle.std.proofs.lemmas.List.Sums.{sum_by-cons}
 use Rattle.ln_algebra.proofs.Bounds.{weighted-derived}
-use Rattle.ln_algebra.proofs.Weights.{Once, weighted-least}
+use Rattle.ln_algebra.proofs.Weights.{weighted-least}
 use Rattle.ln_algebra.specs.Terms.{Over, Term, binomials, covers, derived, factor_at, minus}
 use Rattle.ln_algebra.specs.Vector.{degree, plus, total_degree, zeros}
 use Rattle.ln_algebra.specs.Weights.{monomial_weight, weighted_sum}
@@ -18,7 +17,6 @@ use Rattle.ln_bound.specs.Light.{most}
 use Rattle.ln_bound.specs.Value.{sizes, weights}
 use Rattle.ln_poly.specs.Derivative.{derivative}
 use Rattle.ln_poly.specs.Sparse.{AreBelow, IsFactor, IsPoly, Sparse, coefficient_at, term_of, terms_of}
-use Rattle.ln_poly.specs.Times.{power_at}
 use Rattle.ln_poly.proofs.Collected.{collected}
 use Rattle.ln_poly.proofs.Lowering.{power-apart}
 use Rattle.ln_poly.proofs.Merging.{above-none, exponent-push}

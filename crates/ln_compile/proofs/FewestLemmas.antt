@@ -1,7 +1,7 @@
 -- Of all lists of terms with the same coefficients one with each vector once and without zeros has the fewest terms, and no others.
-use Rattle.std.proofs.Common.{◌≡◌, ℕ, ◌+◌, ◌≤◌, Bool, true, false, List, [], ◌∷◌, length, refl, ap, arith, ◌∙◌, sym, ◌⊎◌, inl, inr, if◌then◌else◌}
+use Rattle.std.proofs.Common.{◌≡◌, ℕ, ◌+◌, ◌≤◌, Bool, true, false, List, [], ◌∷◌, length, refl, ap, arith, ◌∙◌, sym, if◌then◌else◌}
 use Rattle.std.specs.Prelude.{◌≢◌}
-use Rattle.std.proofs.Math.IntN.{ℤ, pos, ◌+ℤ◌}
+use Rattle.std.proofs.Math.IntN.{pos, ◌+ℤ◌}
 use Rattle.std.proofs.lemmas.Int.{ints}
 use Rattle.ln_algebra.specs.Terms.{Term, factor_at, same_vector}
 use Rattle.ln_algebra.proofs.Weights.{Once}

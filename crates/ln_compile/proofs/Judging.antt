@@ -1,5 +1,5 @@
 -- The predicates of a table, judged one after the other.
-use Rattle.std.proofs.Common.{◌≡◌, ◌⊎◌, inl, inr, ℕ, ◌+◌, ◌<◌, ◌≤◌, zero, suc, List, [], ◌∷◌, ◌++◌, length, map, take, drop, get_or, refl, ap, sym, subst, ◌∙◌, arith}
+use Rattle.std.proofs.Common.{◌≡◌, inl, inr, ℕ, ◌+◌, ◌<◌, ◌≤◌, zero, suc, List, [], ◌∷◌, ◌++◌, length, map, take, drop, get_or, refl, ap, sym, subst, ◌∙◌, arith}
 use Rattle.std.proofs.lemmas.List.{drop_more, map-append, take-append-drop, take_all, take_more}
 use Rattle.std.specs.Prelude.{nat_le, ◌&&◌, true}
 use Rattle.std.proofs.lemmas.Bool.{and_parts}
@@ -12,14 +12,14 @@ use Rattle.ln_bound.specs.Light.{AreLight, IsBoundFault}
 use Rattle.ln_bound.proofs.WidthLaws.{le_test}
 use Rattle.ln_poly.specs.Sparse.{Sparse}
 use Rattle.ln_poly.specs.Expansion.{HaveFewTerms, IsNormal, IsTermsFault}
-use Rattle.ln_poly.proofs.Counting.{no-terms-zero, zero-no-terms}
+use Rattle.ln_poly.proofs.Counting.{no-terms-zero}
 use Rattle.ln_parse.specs.declared.source.ParseStop.{ParseStop}
 use Rattle.ln_parse.specs.Text.{TextOf}
 use Rattle.ln_parse.specs.Fault.{IsRefusal as IsParseRefusal}
 use Rattle.ln_compile.specs.declared.refusal.Refusal.{Refusal}
 use Rattle.ln_compile.specs.declared.refusal.Refusal.TheVariants.{Bound, Terms, Zero}
 use Rattle.ln_compile.specs.Accepted.{AreSound, IsSound, expanded_of, root_of, weighed_of}
-use Rattle.ln_compile.specs.Refused.{IsFirstFault, IsPredFault, IsRefusal, StopsPred, StopsPreds, bound, of_pred, of_text, refusal_of, terms, zero as zero_root}
+use Rattle.ln_compile.specs.Refused.{IsPredFault, IsRefusal, StopsPred, StopsPreds, bound, of_pred, of_text, refusal_of, terms, zero as zero_root}
 
 -- one more
 sound-more : (ps : List PredOf) (p : PredOf) → AreSound ps → IsSound p → AreSound (ps ++ p ∷ [])

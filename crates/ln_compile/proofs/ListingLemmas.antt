@@ -1,20 +1,19 @@
 -- The stages of a predicate: each is over variables of sites, the vector of zeros comes first, and none stands twice in a list.
-use Rattle.std.proofs.Common.{◌≡◌, ◌⊎◌, inl, inr, ℕ, ◌+◌, ◌<◌, ◌≤◌, zero, suc, Bool, true, false, List, [], ◌∷◌, ◌++◌, length, map, get_or, refl, ap, sym, subst, ◌∙◌, arith, Option, None, if◌then◌else◌}
+use Rattle.std.proofs.Common.{◌≡◌, inl, inr, ℕ, ◌+◌, ◌<◌, ◌≤◌, zero, suc, Bool, true, false, List, [], ◌∷◌, length, map, get_or, refl, ap, sym, subst, ◌∙◌, arith, None, if◌then◌else◌}
 use Rattle.std.specs.Prelude.{◌≢◌, All, AllPairs}
-use Rattle.std.proofs.lemmas.List.{get_or-map, get_or_default, length-append, length-map}
+use Rattle.std.proofs.lemmas.List.{get_or-map, length-append, length-map}
 use Rattle.std.proofs.lemmas.List.Elements.{All-cons, All-nil}
 use Rattle.ln_algebra.proofs.Expansion.{length-zeros}
 use Rattle.ln_algebra.proofs.Order.{earlier-irreflexive}
 use Rattle.ln_algebra.specs.Earlier.{Earlier, IsInOrder, Sites}
-use Rattle.ln_algebra.specs.Vector.{In, covers, same_vector, zeros}
+use Rattle.ln_algebra.specs.Vector.{In, same_vector, zeros}
 use Rattle.ln_tree.specs.declared.shape.VarInfo.{VarInfo}
 use Rattle.ln_tree.specs.Exps.{Pairs, vector}
 use Rattle.ln_order.specs.Orders.{behind, firsts, orders_of}
 use Rattle.ln_order.specs.Sites.{site_of, sites_of}
 use Rattle.ln_poly.specs.Sparse.{AreBelow, IsPoly, Sparse}
-use Rattle.ln_stage.specs.Kept.{all_rows}
-use Rattle.ln_stage.specs.Lists.{AreStageLists, all_seen_behind, first_seen, put_last, seen_behind, stage_count}
-use Rattle.ln_stage.specs.StageList.{IsStageListOf, IsStageOf}
+use Rattle.ln_stage.specs.Lists.{all_seen_behind, first_seen, put_last, seen_behind, stage_count}
+use Rattle.ln_stage.specs.StageList.{IsStageOf}
 use Rattle.ln_stage.specs.Staged.{AreStagesOf, Staged, block_vector, vectors_of}
 use Rattle.ln_stage.proofs.MonomialLemmas.{rows-monomials}
 use Rattle.ln_stage.proofs.ResultLemmas.{poly-terms}

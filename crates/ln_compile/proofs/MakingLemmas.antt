@@ -1,30 +1,27 @@
 -- Blocks as they are made.
-use Rattle.std.proofs.Common.{◌≡◌, ℕ, ◌+◌, ◌*◌, ◌<◌, ◌≤◌, zero, suc, max, List, [], ◌∷◌, ◌++◌, length, map, take, drop, get_or, refl, sym, ◌∙◌, ap, subst, arith, ◌⊎◌, inl, inr, Option, Some, None}
+use Rattle.std.proofs.Common.{◌≡◌, ℕ, ◌+◌, ◌*◌, ◌<◌, ◌≤◌, zero, suc, max, List, [], ◌∷◌, length, map, get_or, refl, sym, ◌∙◌, ap, subst, arith, ◌⊎◌, inl, inr, Option, Some, None}
 use Rattle.std.specs.Prelude.{slice_get, is_some, true}
 use Rattle.ln_algebra.specs.Coefficient.{normal_coefficient}
 use Rattle.std.proofs.lemmas.Bool.{cases_lt}
 use Rattle.std.proofs.lemmas.List.{get_or_past}
 use Rattle.ln_algebra.specs.Terms.{IsNormalOf, Over, derived, factor_at}
-use Rattle.ln_algebra.specs.Tree.{Tree, inlined, inlined_after}
-use Rattle.ln_algebra.specs.Vector.{zeros}
-use Rattle.ln_tree.specs.declared.expr.Expr.{Expr}
+use Rattle.ln_algebra.specs.Tree.{inlined, inlined_after}
 use Rattle.ln_tree.specs.declared.pred.Pred.{Pred}
 use Rattle.ln_tree.specs.declared.shape.VarInfo.{VarInfo}
-use Rattle.ln_tree.specs.Exps.{AllAbove, IsAbove, IsRising, Pairs, exponent, exponents_from, vector}
+use Rattle.ln_tree.specs.Exps.{IsAbove, IsRising, Pairs, vector}
 use Rattle.ln_tree.specs.Formula.{formula, tree, tree_of}
-use Rattle.ln_tree.specs.Table.{PredOf, pred_of}
+use Rattle.ln_tree.specs.Table.{pred_of}
 use Rattle.ln_bound.specs.declared.fitted.Fitted.{Fitted}
 use Rattle.ln_bound.specs.Exact.{AreExact, IsExact}
 use Rattle.ln_bound.specs.Typed.{Typed, cost, costs, polynomial, untyped}
 use Rattle.ln_bound.specs.View.{typed}
 use Rattle.ln_order.specs.Sites.{site_of}
-use Rattle.ln_poly.specs.Expansion.{IsNormal, closed_root}
+use Rattle.ln_poly.specs.Expansion.{IsNormal}
 use Rattle.ln_poly.specs.Sparse.{Sparse, coefficient_at, terms_of}
 use Rattle.ln_poly.proofs.Lets.{trees-of}
 use Rattle.ln_poly.proofs.Lowering.{found}
 use Rattle.ln_poly.proofs.Products.{length-vector, over-terms}
 use Rattle.ln_order.proofs.PairsLemmas.{vector-get}
-use Rattle.ln_stage.specs.Lists.{covering}
 use Rattle.ln_code.proofs.Runs.{some_is}
 use Rattle.ln_code.specs.Kept.{AreOfSites, FollowsRules, is_of_site}
 use Rattle.ln_code.specs.Part.{Code, known_of}

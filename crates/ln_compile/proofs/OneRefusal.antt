@@ -1,14 +1,11 @@
 -- A source has one answer.
-use Rattle.std.proofs.Common.{◌≡◌, ◌⊎◌, inl, inr, ℕ, ◌<◌, ◌≤◌, List, [], ◌∷◌, ◌++◌, length, suc, refl, ap, sym, subst, ◌∙◌, arith}
+use Rattle.std.proofs.Common.{◌≡◌, inl, inr, ℕ, ◌<◌, ◌≤◌, List, [], ◌∷◌, ◌++◌, length, suc, refl, ap, sym, subst, ◌∙◌, arith}
 use Rattle.std.specs.List.{AllByRecursion}
 use Rattle.ln_base.specs.declared.span.Span.{Span}
 use Rattle.ln_algebra.specs.Tree.{Tree}
 use Rattle.ln_tree.specs.Table.{PredOf, TableOf}
 use Rattle.ln_bound.specs.Light.{AreLight, IsBoundFault, most}
 use Rattle.ln_poly.specs.Expansion.{HasTooManyTerms, HaveFewTerms, IsTermsFault}
-use Rattle.ln_parse.specs.declared.source.ParseStop.{ParseStop}
-use Rattle.ln_parse.specs.Text.{TextOf}
-use Rattle.ln_parse.specs.Fault.{TextFault}
 use Rattle.ln_parse.proofs.OneAnswer.{no_fault, one_fault, one_table}
 use Rattle.ln_compile.specs.declared.refusal.Refusal.{Refusal}
 use Rattle.ln_compile.specs.declared.refusal.Refusal.TheVariants.{Bound, Terms}

@@ -1,13 +1,12 @@
 -- The program of a predicate, from its blocks and its stages.
-use Rattle.std.proofs.Common.{◌≡◌, ◌⊎◌, inl, inr, ℕ, ◌+◌, ◌*◌, ◌^◌, ◌<◌, ◌≤◌, zero, suc, true, List, [], ◌∷◌, ◌++◌, length, map, get_or, refl, ap, sym, subst, ◌∙◌, arith, Option, None, Some}
-use Rattle.std.specs.Prelude.{◌≢◌, All, IfSome}
+use Rattle.std.proofs.Common.{◌≡◌, ℕ, ◌+◌, ◌*◌, ◌^◌, ◌<◌, ◌≤◌, zero, suc, List, [], ◌∷◌, length, map, refl, ap, sym, subst, ◌∙◌, arith, None}
+use Rattle.std.specs.Prelude.{◌≢◌, All}
 use Rattle.std.proofs.lemmas.List.{length-map}
 use Rattle.ln_tree.specs.declared.pred.Pred.{Pred}
 use Rattle.ln_tree.specs.declared.shape.Shape.{Shape}
 use Rattle.ln_tree.specs.Exps.{Pairs, vector}
 use Rattle.ln_tree.specs.Formula.{formula, tree}
-use Rattle.ln_tree.specs.Names.{name_bytes}
-use Rattle.ln_tree.specs.Table.{PredOf, pred_of}
+use Rattle.ln_tree.specs.Table.{pred_of}
 use Rattle.ln_bound.specs.Light.{AreLight}
 use Rattle.ln_bound.specs.Value.{weights}
 use Rattle.ln_poly.specs.Expansion.{IsNormal, closed_lets}
@@ -15,12 +14,12 @@ use Rattle.ln_poly.specs.Sparse.{Sparse}
 use Rattle.ln_poly.proofs.Lets.{pred-light, root-light}
 use Rattle.ln_stage.specs.Lists.{AreStageLists, all_covering, stage_count, stage_weight}
 use Rattle.ln_stage.specs.Staged.{AreStagesOf, Staged, block_vector, vectors_of}
-use Rattle.ln_code.specs.Kept.{FollowsFilterRules, FollowsRules, IsList, IsProgram}
-use Rattle.ln_code.specs.Part.{Code, FilterCode, Part, ops_in_blocks}
+use Rattle.ln_code.specs.Kept.{IsList, IsProgram}
+use Rattle.ln_code.specs.Part.{Code, Part, ops_in_blocks}
 use Rattle.ln_compile.specs.Accepted.{root_of, weighed_of}
-use Rattle.ln_compile.specs.Carried.{Carries, staged}
-use Rattle.ln_compile.specs.Compiled.{BeginsWith, IsProgramOf}
-use Rattle.ln_compile.specs.Made.{AreBlocksOf, IsBlockOf}
+use Rattle.ln_compile.specs.Carried.{staged}
+use Rattle.ln_compile.specs.Compiled.{IsProgramOf}
+use Rattle.ln_compile.specs.Made.{AreBlocksOf}
 use Rattle.ln_compile.proofs.ListingLemmas.{lists-are, stages-few}
 
 -- ---- exponents with the same vectors

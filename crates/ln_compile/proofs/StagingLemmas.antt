@@ -1,5 +1,5 @@
 -- A predicate has one set of stage lists, of one count and one weight.
-use Rattle.std.proofs.Common.{◌≡◌, ◌⊎◌, inl, inr, ℕ, ◌+◌, ◌*◌, ◌<◌, ◌≤◌, zero, suc, Bool, true, false, leb, List, [], ◌∷◌, length, get_or, refl, ap, sym, subst, ◌∙◌, arith, if◌then◌else◌}
+use Rattle.std.proofs.Common.{◌≡◌, ◌⊎◌, inl, inr, ℕ, ◌*◌, ◌<◌, ◌≤◌, zero, suc, Bool, true, false, leb, List, [], ◌∷◌, length, get_or, refl, ap, sym, subst, ◌∙◌, arith, if◌then◌else◌}
 use Rattle.std.specs.Prelude.{◌≢◌, ◌&&◌, All, Contains, Some}
 use Rattle.std.proofs.Math.IntN.{ℤ, pos, ◌*ℤ◌}
 use Rattle.std.proofs.lemmas.Bool.{and_parts, cases_eq}
@@ -8,9 +8,8 @@ use Rattle.std.proofs.lemmas.Int.{ints, unsigned_abs-mul}
 use Rattle.std.proofs.lemmas.List.{get_or_default}
 use Rattle.std.specs.Prelude.{unsigned_abs}
 use Rattle.std.proofs.lemmas.List.Elements.{All-head, All-tail}
-use Rattle.ln_algebra.proofs.Weights.{Once}
-use Rattle.ln_algebra.specs.Earlier.{IndicesDiffer, Of}
-use Rattle.ln_algebra.specs.Terms.{IsNormalOf, Over, Term, binomial, binomials, covers, derived, factor_at, minus}
+use Rattle.ln_algebra.specs.Earlier.{IndicesDiffer}
+use Rattle.ln_algebra.specs.Terms.{IsNormalOf, Over, binomial, binomials, covers, derived, factor_at, minus}
 use Rattle.ln_algebra.specs.Tree.{Tree}
 use Rattle.ln_algebra.specs.Vector.{plus}
 use Rattle.ln_algebra.proofs.Covering.{factor_at-derived}
@@ -34,7 +33,6 @@ use Rattle.ln_stage.specs.StageList.{IsStageListOf}
 use Rattle.ln_stage.proofs.LawLemmas.{list-unique, lists-of-trees}
 use Rattle.ln_compile.specs.declared.refusal.Refusal.TheVariants.{Stages}
 use Rattle.ln_compile.specs.Accepted.{IsSound, IsStagesFault, expanded_of, root_of, weighed_of}
-use Rattle.ln_compile.specs.Compiled.{IsStageCount}
 use Rattle.ln_compile.specs.Refused.{StopsPred, stages}
 use Rattle.ln_compile.proofs.CombinedLemmas.{everywhere, once, once-derived, over-derived}
 use Rattle.ln_compile.proofs.DerivingLemmas.{length-derived}

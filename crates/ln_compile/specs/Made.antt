@@ -1,10 +1,10 @@
 -- Blocks as they are made.
-use Rattle.std.specs.Prelude.{◌≡◌, ℕ, ◌+◌, ◌*◌, ◌≤◌, All, List, [], length, map, slice_get, Some}
+use Rattle.std.specs.Prelude.{◌≡◌, ℕ, ◌+◌, ◌*◌, ◌≤◌, All, List, length, map, slice_get, Some}
 use Rattle.ln_tree.specs.declared.shape.VarInfo.{VarInfo}
 use Rattle.ln_tree.specs.Exps.{Pairs, vector}
 use Rattle.ln_tree.specs.Table.{PredOf}
 use Rattle.ln_poly.specs.Sparse.{Sparse}
-use Rattle.ln_stage.specs.Lists.{all_covering, covering}
+use Rattle.ln_stage.specs.Lists.{all_covering}
 use Rattle.ln_code.specs.Kept.{AreOfSites, FollowsRules}
 use Rattle.ln_code.specs.Part.{Code, Part, ops_in_blocks}
 use Rattle.ln_compile.specs.Carried.{CarriesDerivative}

@@ -1,5 +1,5 @@
 -- Sources that are refused, and for what.
-use Rattle.std.specs.Prelude.{◌≡◌, ℕ, List, [], ◌∷◌, ◌++◌, length, ◌⊎◌}
+use Rattle.std.specs.Prelude.{◌≡◌, ℕ, List, ◌∷◌, ◌++◌, length, ◌⊎◌}
 use Rattle.ln_base.specs.declared.span.Span.{Span}
 use Rattle.ln_tree.specs.Table.{PredOf, TableOf}
 use Rattle.ln_bound.specs.Light.{AreLight, IsBoundFault}

@@ -71,13 +71,7 @@ fn first_block(alloc: Global, p: &Pred, w: &Weights) -> Result<Block, NoMemory>
     ensures small { IfOk result (λ b. length b.ops ≤ 524352) }
 {
     let sized = size(alloc, p, w)?;
-    let block = lower(
-        alloc,
-        &Exps::new(alloc),
-        &p.shape,
-        &sized.root,
-        &sized.lets,
-    )?;
+    let block = lower(alloc, &Exps::new(alloc), &p.shape, &sized.root, &sized.lets)?;
     Ok(block)
 }
 

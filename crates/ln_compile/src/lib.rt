@@ -2,7 +2,9 @@
 //!
 //! `compile` answers the table of a source whose predicates are all accepted, with a program for each, or the one refusal that
 //! is its due: the first fault of its text; else, of the first predicate that has a fault, a node whose values may not fit 128
-//! bits, a node with too many terms, a root that is 0 however it is perturbed, or too many stages, in that order.
+//! bits, a node with too many terms, a root that is 0 however it is perturbed, or too many stages, in that order. Each program
+//! carries its predicate's root: its lists are the stage lists of all orders of the sites, and each block computes the scaled
+//! derivative of the normal polynomial by its exponents.
 //!
 //! The laws of `due` say what the verdict of a program is: the sign of the first coefficient that isn't 0 of the predicate at
 //! perturbed inputs, its place among the stages of the row's order, and the calls up to it.

@@ -11,8 +11,7 @@ use crate::judge::{expanded, staged, weighed};
 use crate::program::program;
 use crate::refusal::Refusal;
 use ln_base::Seq;
-use ln_code::Program;
-use ln_code::Programs;
+use ln_code::{Program, Programs};
 use ln_tree::Pred;
 use std::alloc::Global;
 

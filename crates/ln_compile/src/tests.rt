@@ -34,7 +34,8 @@ fn the_orientation_is_compiled_and_found(rt: HostRuntime) -> Result<(), Fail> {
 
 #[test]
 fn a_difference_of_squares_has_six_stages(rt: HostRuntime) -> Result<(), Fail> {
-    let source = "site num { t: -10 .. 10; }\npredicate s(a: num, b: num) { sign a.t^2 - b.t^2; }\n";
+    let source =
+        "site num { t: -10 .. 10; }\npredicate s(a: num, b: num) { sign a.t^2 - b.t^2; }\n";
     let c = compiled(&rt, rt.alloc(), source)?;
     assert_eq!(rt; count(&rt, &c), 6);
     Ok(())

@@ -1,6 +1,6 @@
 use Rattle.std.proofs.Common.{arith}
 use Rattle.ln_tree.specs.Table.{pred_of}
-use Rattle.ln_compile.proofs.GatheringLemmas.{blocks-begin, blocks-end, blocks-more}
+use Rattle.ln_compile.proofs.GatheringLemmas.{blocks-begin, blocks-more}
 use Rattle.ln_compile.proofs.blocks.blocks.Goals as goal
 
 pub blocks-2-init : goal.blocks-2-init

@@ -1,6 +1,6 @@
 use Rattle.std.proofs.Common.{arith, length}
 use Rattle.ln_tree.specs.Exps.{IsAbove, IsRising}
-use Rattle.ln_compile.proofs.DerivingLemmas.{deriving-end, deriving-init, deriving-light, deriving-step, variable-at}
+use Rattle.ln_compile.proofs.DerivingLemmas.{deriving-init, deriving-light, deriving-step, variable-at}
 use Rattle.ln_compile.proofs.blocks.derived.Goals as goal
 
 pub pairs-init : goal.pairs-init

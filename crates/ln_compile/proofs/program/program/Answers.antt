@@ -1,4 +1,3 @@
-use Rattle.std.proofs.Common.{length}
 use Rattle.ln_order.proofs.SitesLemmas.{kept}
 use Rattle.ln_compile.proofs.ListingLemmas.{first-exps, stages-of-sites}
 use Rattle.ln_compile.proofs.ProgramLemmas.{few-blocks, is-program, is-program-of}

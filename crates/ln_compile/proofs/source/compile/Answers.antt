@@ -1,6 +1,5 @@
-use Rattle.std.proofs.Common.{map}
 use Rattle.std.proofs.lemmas.Result.{err_from_is_err_and}
-use Rattle.ln_tree.specs.Table.{pred_of, table_of}
+use Rattle.ln_tree.specs.Table.{table_of}
 use Rattle.ln_compile.proofs.BuildingLemmas.{names-differ}
 use Rattle.ln_compile.proofs.Judging.{pred_refusal, text_refusal}
 use Rattle.ln_compile.proofs.OneRefusal.{refusal_one, refusal_unaccepted}

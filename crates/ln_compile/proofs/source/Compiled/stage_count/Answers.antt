@@ -1,5 +1,5 @@
-use Rattle.std.proofs.Common.{◌≡◌, ◌<◌, ap, arith, length, map, subst, sym}
-use Rattle.std.proofs.lemmas.List.{get_or_default, length-map}
+use Rattle.std.proofs.Common.{ap, arith, length, map}
+use Rattle.std.proofs.lemmas.List.{length-map}
 use Rattle.ln_tree.specs.Table.{pred_of}
 use Rattle.ln_compile.proofs.BuildingLemmas.{as-many-counts, count-at}
 use Rattle.ln_compile.proofs.source.Compiled.stage_count.Goals as goal
