@@ -1,5 +1,5 @@
 -- What a program carries: the expression whose sign it decides, its normal polynomial and its stages.
-use Rattle.std.specs.Prelude.{◌≡◌, ℕ, All, List, [], length, map, slice_get, Some}
+use Rattle.std.specs.Prelude.{◌≡◌, ℕ, All, List, length, map, Some}
 use Rattle.ln_algebra.specs.Terms.{IsNormalOf, derived}
 use Rattle.ln_algebra.specs.Tree.{InputsBelow, Tree}
 use Rattle.ln_tree.specs.declared.shape.VarInfo.{VarInfo}
@@ -31,12 +31,3 @@ pub record Carries (p : Part) (e : Tree) (f : Sparse) : Type 0 where
   pub normal : IsNormal (length p.shape.vars) e f
   pub lists : AreStageLists p.shape.sites p.shape.vars f (vectors_of (length p.shape.vars) (staged p))
   pub blocks : All (CarriesDerivative p.shape.vars f) p.blocks
-
--- block 0 has no exponents, and computes e itself
-pub record BeginsWith (p : Part) (e : Tree) : Type 0 where
-  pub block : Code
-  pub first : slice_get p.blocks 0 ≡ Some block
-  pub plain : block.exps ≡ []
-  pub what : Known
-  pub known : known_of p.shape.vars block ≡ Some what
-  pub whole : what.tree ≡ e

@@ -1,0 +1,47 @@
+-- Sources that are accepted.
+use Rattle.std.specs.Prelude.{ℕ, List, [], ◌∷◌, length}
+use Rattle.ln_base.specs.declared.span.Span.{Span}
+use Rattle.ln_algebra.specs.Tree.{Tree}
+use Rattle.ln_tree.specs.Table.{PredOf, TableOf}
+use Rattle.ln_bound.specs.Light.{AreLight, weighed_pred}
+use Rattle.ln_poly.specs.Expansion.{HaveFewTerms, IsNormal, IsZeroFault, closed_root, expanded_pred}
+use Rattle.ln_poly.specs.Sparse.{Sparse}
+use Rattle.ln_stage.specs.Lists.{AreStageLists, Passes}
+use Rattle.ln_parse.specs.Text.{TextOf}
+
+-- the nodes of a predicate with their weights, in order of evaluation
+abbrev pub weighed_of : PredOf → List (Span × ℕ)
+weighed_of p = weighed_pred p.vars p.lets p.root
+
+-- what is expanded of it, in order of evaluation
+abbrev pub expanded_of : PredOf → List (Span × Tree)
+expanded_of p = expanded_pred p.vars p.lets p.root
+
+-- its root with its lets in place of their names
+abbrev pub root_of : PredOf → Tree
+root_of p = closed_root p.vars p.lets p.root
+
+-- it has too many stages: the stage lists of its normal polynomial, one for each order of its sites, have more than 65,536 stages, or more than 131,072 monomials cover their distinct stages
+pub record IsStagesFault (p : PredOf) : Type 0 where
+  pub poly : Sparse
+  pub normal : IsNormal (length p.vars) (root_of p) poly
+  pub lists : List (List (List ℕ))
+  pub are_lists : AreStageLists p.sites p.vars poly lists
+  pub passes : Passes (length p.vars) poly 65536 131072 lists
+
+-- a predicate has no fault: no node is too heavy, none has too many terms, the root isn't 0 however it is perturbed, and it hasn't too many stages
+pub record IsSound (p : PredOf) : Type 0 where
+  pub light : AreLight (weighed_of p)
+  pub few : HaveFewTerms (length p.vars) (expanded_of p)
+  pub nonzero : IsZeroFault (length p.vars) (root_of p) → ⊥
+  pub staged : IsStagesFault p → ⊥
+
+-- none of them has
+abbrev pub AreSound : List PredOf → Type 0
+AreSound [] = Unit {0}
+AreSound (p ∷ ps) = IsSound p × AreSound ps
+
+-- the source has this table, and no predicate of it has a fault
+pub record Accepted (bytes : List ℕ) (t : TableOf) : Type 0 where
+  pub text : TextOf bytes t
+  pub sound : AreSound t.preds

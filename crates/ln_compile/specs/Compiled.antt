@@ -1,0 +1,69 @@
+-- What a source is compiled to: the program and the stage count of each predicate.
+use Rattle.std.specs.Prelude.{◌≡◌, ℕ, ◌+◌, ◌<◌, ◌^◌, List, [], ◌∷◌, length, map, slice_get, Option, Some, None, position, bytes_eq}
+use Rattle.ln_tree.specs.declared.pred.Pred.{Pred}
+use Rattle.ln_tree.specs.Formula.{tree}
+use Rattle.ln_tree.specs.Names.{name_bytes}
+use Rattle.ln_tree.specs.Table.{PredOf}
+use Rattle.ln_bound.specs.Exact.{AreExact, IsExact}
+use Rattle.ln_bound.specs.Typed.{Typed, untyped}
+use Rattle.ln_poly.specs.Expansion.{IsNormal}
+use Rattle.ln_poly.specs.Sparse.{Sparse}
+use Rattle.ln_stage.specs.Lists.{AreStageLists, stage_count}
+use Rattle.ln_code.specs.Part.{Code, Part, ops_in_filter}
+use Rattle.ln_lower.specs.Nodes.{IsNodeOf, PushNodes, pushed_by}
+use Rattle.ln_compile.specs.Accepted.{root_of}
+use Rattle.ln_compile.specs.Carried.{Carries}
+
+-- block 0 has no exponents and is made from the source's own lets and root, with bounds and widths: what its operations push are polynomials of their nodes, each bound is exactly its operation over M, and each width the least. With the filter it has fewer than 2^21 operations
+pub record BeginsWith (p : PredOf) (part : Part) : Type 0 where
+  pub block : Code
+  pub first : slice_get part.blocks 0 ≡ Some block
+  pub plain : block.exps ≡ []
+  pub short : ops_in_filter part.filter + length block.ops < 2 ^ 21
+  pub lets : List Typed
+  pub of_lets : map untyped lets ≡ map (tree p.vars) p.lets
+  pub root : Typed
+  pub of_root : untyped root ≡ tree p.vars p.root
+  pub exact_lets : AreExact p.vars [] lets
+  pub exact_root : IsExact p.vars lets root
+  pub nodes : PushNodes (IsNodeOf lets root) (pushed_by p.vars block)
+
+-- the part is the program of the predicate: it is over the predicate's variables, without a filter; it carries the predicate's root, with the lets in place of their names; it begins with the source's own tree
+pub record IsProgramOf (p : PredOf) (part : Part) : Type 0 where
+  pub name : name_bytes part.shape.name ≡ p.shape_name
+  pub sites : part.shape.sites ≡ p.sites
+  pub vars : part.shape.vars ≡ p.vars
+  pub filter : part.filter ≡ None
+  pub poly : Sparse
+  pub carries : Carries part (root_of p) poly
+  pub begins : BeginsWith p part
+
+-- one program for each predicate, in order
+abbrev pub AreProgramsOf : List PredOf → List Part → Type 0
+AreProgramsOf [] [] = Unit {0}
+AreProgramsOf [] (c ∷ cs) = ⊥
+AreProgramsOf (p ∷ ps) [] = ⊥
+AreProgramsOf (p ∷ ps) (c ∷ cs) = IsProgramOf p c × AreProgramsOf ps cs
+
+-- n is the stage count of the predicate: the number of stages in the lists of all orders of its sites, taken together
+pub record IsStageCount (p : PredOf) (n : ℕ) : Type 0 where
+  pub poly : Sparse
+  pub normal : IsNormal (length p.vars) (root_of p) poly
+  pub lists : List (List (List ℕ))
+  pub are_lists : AreStageLists p.sites p.vars poly lists
+  pub count : n ≡ stage_count lists
+
+-- one stage count for each predicate, in order
+abbrev pub AreStageCounts : List PredOf → List ℕ → Type 0
+AreStageCounts [] [] = Unit {0}
+AreStageCounts [] (n ∷ ns) = ⊥
+AreStageCounts (p ∷ ps) [] = ⊥
+AreStageCounts (p ∷ ps) (n ∷ ns) = IsStageCount p n × AreStageCounts ps ns
+
+-- n is the stage count of predicate number i
+abbrev pub IsStageCountAt : List PredOf → ℕ → ℕ → Type 0
+IsStageCountAt ps i n = (p : PredOf) → slice_get ps i ≡ Some p → IsStageCount p n
+
+-- the number of the first predicate of a name
+abbrev pub number_of : List ℕ → List Pred → Option ℕ
+number_of name preds = position (λ p. bytes_eq (name_bytes p.name) name) preds

@@ -1,0 +1,62 @@
+-- Sources that are refused, and for what.
+use Rattle.std.specs.Prelude.{◌≡◌, ℕ, List, [], ◌∷◌, ◌++◌, length, ◌⊎◌}
+use Rattle.ln_base.specs.declared.span.Span.{Span}
+use Rattle.ln_tree.specs.Table.{PredOf, TableOf}
+use Rattle.ln_bound.specs.Light.{AreLight, IsBoundFault}
+use Rattle.ln_poly.specs.Expansion.{HaveFewTerms, IsTermsFault, IsZeroFault}
+use Rattle.ln_parse.specs.declared.source.ParseStop.{ParseStop}
+use Rattle.ln_parse.specs.declared.source.ParseStop.TheVariants as parse
+use Rattle.ln_parse.specs.Text.{TextOf}
+use Rattle.ln_parse.specs.Fault.{TextFault}
+use Rattle.ln_compile.specs.declared.refusal.Refusal.{Refusal}
+use Rattle.ln_compile.specs.declared.refusal.Refusal.TheVariants.{Lexical, Limit, Syntax, Name, Bound, Terms, Zero, Stages, NoMemory}
+use Rattle.ln_compile.specs.Accepted.{Accepted, AreSound, IsStagesFault, expanded_of, root_of, weighed_of}
+
+-- the refusal for what `parse` answers
+abbrev pub refusal_of : ParseStop → Refusal
+refusal_of (parse.Lexical at) = Lexical at
+refusal_of (parse.Limit what at) = Limit what at
+refusal_of (parse.Syntax at) = Syntax at
+refusal_of (parse.Name what at) = Name what at
+refusal_of parse.NoMemory = NoMemory
+
+-- the fault of predicate number k: a node that is too heavy; else a node that has too many terms; else a root that is 0, at the predicate's name; else too many stages, there
+pub data IsPredFault (k : ℕ) (p : PredOf) : Refusal → Type 0 where
+  bound : {at : Span} → IsBoundFault (weighed_of p) at → IsPredFault k p (Bound k at)
+  terms : {at : Span} → AreLight (weighed_of p) → IsTermsFault (length p.vars) (expanded_of p) at → IsPredFault k p (Terms k at)
+  zero : AreLight (weighed_of p) → HaveFewTerms (length p.vars) (expanded_of p) → IsZeroFault (length p.vars) (root_of p) → IsPredFault k p (Zero k p.at)
+  stages : AreLight (weighed_of p) → HaveFewTerms (length p.vars) (expanded_of p) → (IsZeroFault (length p.vars) (root_of p) → ⊥) → IsStagesFault p → IsPredFault k p (Stages k p.at)
+
+-- the fault of the first predicate that has one
+pub record IsFirstFault (preds : List PredOf) (r : Refusal) : Type 0 where
+  pub before : List PredOf
+  pub pred : PredOf
+  pub after : List PredOf
+  pub stands : preds ≡ before ++ pred ∷ after
+  pub sound : AreSound before
+  pub fault : IsPredFault (length before) pred r
+
+-- the source is refused: for the first fault of its text, or for that of its predicates
+pub data IsRefusedFor (bytes : List ℕ) : Refusal → Type 0 where
+  of_text : {e : ParseStop} → TextFault bytes e → IsRefusedFor bytes (refusal_of e)
+  of_pred : (t : TableOf) {r : Refusal} → TextOf bytes t → IsFirstFault t.preds r → IsRefusedFor bytes r
+
+-- an answer for one predicate: its fault, or there was no memory
+abbrev pub StopsPred : ℕ → PredOf → Refusal → Type 0
+StopsPred k p r = IsPredFault k p r ⊎ (r ≡ NoMemory)
+
+-- an answer for several: the fault of the first that has one, or there was no memory
+abbrev pub StopsPreds : List PredOf → Refusal → Type 0
+StopsPreds preds r = IsFirstFault preds r ⊎ (r ≡ NoMemory)
+
+-- an answer for a source: what it is refused for, or there was no memory
+abbrev pub IsRefusal : List ℕ → Refusal → Type 0
+IsRefusal bytes r = IsRefusedFor bytes r ⊎ (r ≡ NoMemory)
+
+-- an accepted source is refused for want of memory alone
+abbrev pub IsUnaccepted : List ℕ → Refusal → Type 0
+IsUnaccepted bytes r = (t : TableOf) → Accepted bytes t → r ≡ NoMemory
+
+-- what a source is refused for is the answer, but for want of memory
+abbrev pub IsTheOne : List ℕ → Refusal → Type 0
+IsTheOne bytes r = (s : Refusal) → IsRefusedFor bytes s → (r ≡ s) ⊎ (r ≡ NoMemory)

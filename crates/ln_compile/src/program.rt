@@ -1,0 +1,68 @@
+// The program of a predicate.
+ghost use Rattle.std.specs.Prelude.{◌≡◌, ◌≢◌, ◌≤◌, ◌+◌, ◌*◌, All, [], length, map, IfOk};
+ghost use Rattle.ln_algebra.specs.Vector.{total_degree};
+ghost use Rattle.ln_algebra.specs.Weights.{weighted_sum};
+ghost use Rattle.ln_tree.specs.Exps.{vector};
+ghost use Rattle.ln_tree.specs.Formula.{formula};
+ghost use Rattle.ln_tree.specs.Table.{pred_of};
+ghost use Rattle.ln_bound.specs.Light.{AreLight, most, node_weights, weighed_pred};
+ghost use Rattle.ln_bound.specs.Value.{weights};
+ghost use Rattle.ln_poly.specs.Expansion.{IsNormal};
+ghost use Rattle.ln_poly.specs.Sparse.{terms_of};
+ghost use Rattle.ln_stage.specs.Lists.{stage_count, stage_weight};
+ghost use Rattle.ln_stage.specs.Staged.{AreStagesOf, vectors_of};
+ghost use Rattle.ln_compile.specs.Accepted.{root_of, weighed_of};
+ghost use Rattle.ln_compile.specs.Compiled.{IsProgramOf};
+
+use crate::blocks::blocks;
+use ln_base::{NoMemory, Seq};
+use ln_bound::Weights;
+use ln_bound::size::size;
+use ln_code::Program;
+use ln_order::all_orders;
+use ln_poly::Poly;
+use ln_stage::Stages;
+use ln_tree::Pred;
+use std::alloc::Global;
+
+// The lists of the stages, once more.
+fn lists(alloc: Global, sites: u8, st: &Stages) -> Result<Seq<Seq<u32>>, NoMemory>
+    requires { st.now.sites ≡ sites }
+    ensures { IfOk result (λ ls. ls ≡ st.now.lists) }
+{
+    let orders = all_orders(alloc, sites)?;
+    let orders = orders.as_slice();
+    let mut lists = Seq::new(alloc);
+    'orders: for o in orders {
+        lists.push(Seq::from_vec(st.list(o).to_vec(alloc)?))?;
+    }
+    Ok(lists)
+}
+
+/// The program of a predicate with this normal polynomial and these stages.
+pub(crate) fn program(
+    alloc: Global,
+    p: &Pred,
+    w: &Weights,
+    f: &Poly,
+    st: &Stages,
+) -> Result<Program, NoMemory>
+    requires weights { w.now ≡ node_weights (weighed_pred p.now.shape.vars (map formula p.now.lets) (formula p.now.root)) }
+    requires light { AreLight (weighed_of (pred_of p.now)) }
+    requires normal { IsNormal (length p.now.shape.vars) (root_of (pred_of p.now)) f.now }
+    requires weight { weighted_sum (weights p.now.shape.vars) (terms_of (length p.now.shape.vars) f.now) ≤ most }
+    requires degrees { All (λ t. total_degree (vector (length p.now.shape.vars) t.0) ≤ 126) f.now }
+    requires some { f.now ≢ [] }
+    requires stages { AreStagesOf p.now.shape.sites p.now.shape.vars f.now st.now }
+    requires count { stage_count (vectors_of (length p.now.shape.vars) st.now) ≤ 65536 }
+    requires stage_weight { stage_weight (length p.now.shape.vars) f.now (vectors_of (length p.now.shape.vars) st.now) ≤ 131072 }
+    ensures program { IfOk result (λ c. IsProgramOf (pred_of p.now) c) }
+    ensures name { IfOk result (λ c. c.shape.name ≡ p.now.shape.name) }
+    ensures small { IfOk result (λ c. length c.blocks ≤ 65536) }
+{
+    let sized = size(alloc, p, w)?;
+    let blocks = blocks(alloc, &sized, f, st)?;
+    let lists = lists(alloc, p.shape.sites, st)?;
+    let shape = p.shape.copy(alloc)?;
+    Ok(Program::join(shape, None, blocks, lists))
+}

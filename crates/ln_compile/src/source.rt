@@ -1,0 +1,67 @@
+// Sources to compiled tables.
+ghost use Rattle.std.specs.Prelude.{◌≡◌, ◌≤◌, ◌<◌, length, map, IfErr, IfOk};
+ghost use Rattle.ln_tree.specs.Table.{pred_of, table_of};
+ghost use Rattle.ln_compile.specs.Accepted.{Accepted};
+ghost use Rattle.ln_compile.specs.Compiled.{AreProgramsOf, AreStageCounts, IsStageCountAt, number_of};
+ghost use Rattle.ln_compile.specs.Refused.{IsRefusal, IsTheOne, IsUnaccepted};
+
+use crate::programs::{Built, build};
+use crate::refusal::{Refusal, refusal_of};
+use ln_base::Seq;
+use ln_code::Programs;
+use ln_parse::parse;
+use ln_tree::Table;
+use std::alloc::Global;
+
+/// What a source is compiled to: its table, each predicate of which is accepted, and one program for each predicate, in order.
+#[derive(Drop)]
+pub struct Compiled {
+    pub table: Table,
+    pub programs: Programs,
+    counts: Seq<u64>,
+    ghost are: { AreProgramsOf (map pred_of table.preds) programs },
+    ghost counted: { AreStageCounts (map pred_of table.preds) counts },
+}
+
+impl Compiled {
+    /// The number of the predicate of a name, from 0; none where no predicate has it. It takes no memory.
+    pub fn find(&self, name: &str) -> Option<usize>
+        ensures { result ≡ number_of name.now self.now.table.preds }
+    {
+        let name = name.as_bytes();
+        self.table
+            .preds
+            .as_slice()
+            .iter()
+            .position(|p| p.name.bytes() == name)
+    }
+
+    /// The stage count of a predicate, by its number. It takes no memory.
+    pub fn stage_count(&self, i: usize) -> u64
+        requires { i < length self.now.table.preds }
+        ensures { IsStageCountAt (map pred_of self.now.table.preds) i result }
+    {
+        self.counts.as_slice()[i]
+    }
+}
+
+/// The table of a source, each predicate of which is accepted, with its programs; or why the source is refused: the first fault
+/// of its text, else the fault of the first predicate that has one. Without want of memory, the one or the other.
+pub fn compile(alloc: Global, bytes: &[u8]) -> Result<Compiled, Refusal>
+    requires { length bytes.now ≤ 1048576 }
+    ensures ok { IfOk result (λ c. Accepted bytes.now (table_of c.table.sites c.table.params c.table.preds)) }
+    ensures err { IfErr result (λ r. IsRefusal bytes.now r) }
+    ensures unaccepted { IfErr result (λ r. IsUnaccepted bytes.now r) }
+    ensures one { IfErr result (λ r. IsTheOne bytes.now r) }
+{
+    let table = match parse(alloc, bytes) {
+        Ok(table) => table,
+        Err(e) => return Err(refusal_of(e)),
+    };
+    let Built { programs, counts } = build(alloc, table.preds.as_slice())?;
+    Ok(Compiled {
+        table,
+        programs,
+        counts,
+    })
+}
