@@ -1,7 +1,7 @@
 -- The orientation of three points follows the rules, and makes a program.
-use Rattle.std.proofs.Common.{◌≡◌, ◌≢◌, ℕ, ℤ, ◌+◌, ◌-◌, ◌^◌, ◌≤◌, ◌<◌, List, [], ◌∷◌, length, take, refl, zero, suc, arith, pos, neg_ℤ, sym, subst, get_or, ◌≤ℤ◌}
+use Rattle.std.proofs.Common.{◌≡◌, ◌≢◌, ℕ, ℤ, ◌-◌, ◌^◌, ◌<◌, List, [], ◌∷◌, take, refl, zero, suc, arith, pos, neg_ℤ, ◌≤ℤ◌}
 use Rattle.std.proofs.lemmas.Int.{ints}
-use Rattle.std.specs.Prelude.{All, AllPairs, Option, Some, None}
+use Rattle.std.specs.Prelude.{All, AllPairs, None}
 use Rattle.std.proofs.lemmas.List.Elements.{All-cons, All-nil}
 use Rattle.ln_tree.specs.Exps.{Pairs}
 use Rattle.ln_tree.specs.declared.shape.Shape.{Shape}
@@ -11,7 +11,7 @@ use Rattle.ln_tree.specs.Row.{InRange, AreWithin}
 use Rattle.ln_code.specs.declared.op.Op.{Op}
 use Rattle.ln_code.specs.declared.row.Row.{Row}
 use Rattle.ln_code.specs.RowOf.{row_of}
-use Rattle.ln_code.specs.Part.{Code, FilterCode, Part, known_of, lines_of}
+use Rattle.ln_code.specs.Part.{Code, lines_of}
 use Rattle.ln_code.specs.Kept.{FollowsRules, StoresHave, IsBlock, IsList, IsProgram, AreOfSites}
 use Rattle.ln_code.specs.Worked.{plane_vars, orientation_ops, orientation_bounds}
 

@@ -1,5 +1,5 @@
 -- The orientation of three points of the plane, by hand: (p.x - r.x)*(q.y - r.y) - (p.y - r.y)*(q.x - r.x), each coordinate from -1000 to 1000.
-use Rattle.std.specs.Prelude.{ℕ, ℤ, pos, neg_ℤ, List, [], ◌∷◌, Some}
+use Rattle.std.specs.Prelude.{ℕ, pos, neg_ℤ, List, [], ◌∷◌, Some}
 use Rattle.ln_tree.specs.declared.shape.VarInfo.{VarInfo}
 use Rattle.ln_bound.specs.declared.fitted.Width.TheVariants.{W64}
 use Rattle.ln_code.specs.declared.op.Op.{Op}

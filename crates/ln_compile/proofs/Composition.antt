@@ -1,9 +1,12 @@
 -- The laws, from their parts.
-use Rattle.std.proofs.Common.{◌≡◌, ◌⊎◌, inl, inr, ℕ, List, length, subst}
-use Rattle.std.specs.Prelude.{Option, Some}
+use Rattle.std.proofs.Common.{◌≡◌, ◌⊎◌, inl, inr, ℕ, ◌<◌, ◌≤◌, true, false, ltb, List, length, refl, sym, ◌∙◌, ap, arith, subst, unsigned_abs}
+use Rattle.std.specs.Prelude.{Option, Some, None}
 use Rattle.std.proofs.Math.IntN.{ℤ, pos}
+use Rattle.std.proofs.lemmas.Bool.{cases_lt}
+use Rattle.std.proofs.lemmas.Bool.Decides.{nat_tests}
 use Rattle.std.proofs.lemmas.List.{length-map}
 use Rattle.std.proofs.lemmas.List.Elements.{All-contains}
+use Rattle.ln_base.specs.declared.sign.Sign.{Sign}
 use Rattle.ln_algebra.proofs.Along.{sign-along}
 use Rattle.ln_algebra.proofs.Cut.{first-stage}
 use Rattle.ln_algebra.proofs.First.{nonzero-first}
@@ -13,25 +16,30 @@ use Rattle.ln_algebra.specs.Sign.{IsFirst, IsPerturbedSign, perturbed}
 use Rattle.ln_algebra.specs.Stage.{IsStageList}
 use Rattle.ln_algebra.specs.Tree.{Tree}
 use Rattle.ln_algebra.specs.Vector.{In}
-use Rattle.ln_tree.specs.Row.{InRange, Row}
+use Rattle.ln_tree.specs.Row.{AreWithin, InRange, Row}
 use Rattle.ln_bound.specs.Value.{values}
 use Rattle.ln_order.specs.Order.{IsOrder}
 use Rattle.ln_order.specs.Sites.{row_sites, sites_of}
 use Rattle.ln_poly.specs.Sparse.{Sparse}
 use Rattle.ln_code.specs.Kept.{FollowsRules, IsProgram}
+use Rattle.ln_code.specs.Law.{FilterMeans}
 use Rattle.ln_code.specs.Lists.{IsListOf}
-use Rattle.ln_code.specs.Part.{FilterCode, Part}
+use Rattle.ln_code.specs.Part.{Code, FilterCode, Part, filter_value}
 use Rattle.ln_code.specs.declared.verdict.Verdict.{Verdict}
-use Rattle.ln_code.specs.Verdict.{along, through}
-use Rattle.ln_code.proofs.Means.{blocks_mean}
+use Rattle.ln_code.specs.declared.verdict.By.TheVariants.{Filter}
+use Rattle.ln_code.specs.Exact.{Held}
+use Rattle.ln_code.specs.Verdict.{IsVerdict, along, decides, sign_of, through}
+use Rattle.ln_code.proofs.Means.{blocks_mean, filters_mean}
 use Rattle.ln_compile.specs.Carried.{Carries, vectors}
-use Rattle.ln_compile.specs.Due.{IsOwedByStages}
-use Rattle.ln_compile.specs.DueLaw.{BlocksRun, CutLosesNothing, StagesAreCoefficients, VerdictsAreDue}
+use Rattle.ln_compile.specs.Due.{Decided, Filtering, IsOwedByStages, NoFilter, Undecided, sign_number}
+use Rattle.ln_compile.specs.DueLaw.{BlocksRun, CutLosesNothing, FilterDoes, SignsArePerturbed, StagesAreCoefficients, VerdictsAreDue}
 use Rattle.ln_compile.proofs.AlongLemmas.{Ends, Stops, along-finds}
-use Rattle.ln_compile.proofs.BlockLemmas.{computes-at, list-computes, list-within, stage_at}
+use Rattle.ln_compile.proofs.BlockLemmas.{computes-at, list-computes, list-within, some-same, stage_at}
 use Rattle.ln_compile.proofs.DueLemmas.{Owed, end-owed, stop-owed}
+use Rattle.ln_compile.proofs.FilterLemmas.{decided-sign, filter-follows}
 use Rattle.ln_compile.proofs.ListLemmas.{order-stages}
 use Rattle.ln_compile.proofs.RowLemmas.{row-stages, rows-differ}
+use Rattle.ln_compile.proofs.UniqueLemmas.{due-sign}
 
 pub stages-coefficients : StagesAreCoefficients
 stages-coefficients p e f places list row program carries l r =
@@ -80,7 +88,48 @@ along-owed p e f places list row before v program carries r o l run = record { s
   owed : Owed (length p.shape.vars) (row_sites p.shape.vars row.index) (values row.values) e carries.inputs (rows-differ p.shape row r) (vectors p list) v before
   owed = elim found [ inl s ↦ stop-owed (length p.shape.vars) (row_sites p.shape.vars row.index) (values row.values) e carries.inputs (rows-differ p.shape row r) (vectors p list) v before stages s | inr s ↦ end-owed (length p.shape.vars) (row_sites p.shape.vars row.index) (values row.values) e carries.inputs (rows-differ p.shape row r) (vectors p list) v before stages s ]
 
+-- what the machine does behind a filter
+through-decides : (zs : List ℤ) (c : FilterCode) (left : Held) (blocks : List Code) (list : List ℕ) → filter_value zs c ≡ Some left → through (Some c) zs blocks list ≡ decides left (along zs blocks list 0 0 1)
+through-decides zs c left blocks list h = rw h refl
+
+decides-above : (left : Held) (rest : Option Verdict) → left.error < unsigned_abs left.number → decides left rest ≡ Some (record { sign = sign_of left.number; by = Filter; wide = 0; calls = 1 })
+decides-above left rest h = let t : ltb left.error (unsigned_abs left.number) ≡ true = grind (arith, nat_tests) in rw t refl
+
+decides-within : (left : Held) (rest : Option Verdict) → unsigned_abs left.number ≤ left.error → decides left rest ≡ rest
+decides-within left rest h = let t : ltb left.error (unsigned_abs left.number) ≡ false = grind (arith, nat_tests) in rw t refl
+
+-- the machine of a part whose filter is known
+answered-with : (p : Part) (row : Row) (v : Verdict) (o : Option FilterCode) (m : IsVerdict p row v) → p.filter ≡ o → through o row.values p.blocks m.list ≡ Some v
+answered-with p row v o m h = subst (λ (q : Option FilterCode). through q row.values p.blocks m.list ≡ Some v) h m.answered
+
 pub verdicts-due : VerdictsAreDue
-verdicts-due p e f row v program carries no_filter r m =
-    let run : along row.values p.blocks m.list 0 0 0 ≡ Some v = subst (λ (o : Option FilterCode). through o row.values p.blocks m.list ≡ Some v) no_filter m.answered in
-    along-owed p e f m.places m.list row 0 v program carries r m.order m.chosen run
+verdicts-due p e f row NoFilter v program carries r does m = along-owed p e f m.places m.list row 0 v program carries r m.order m.chosen (answered-with p row v None m does)
+verdicts-due p e f row Undecided v program carries r (c, left, here, a, within) m =
+    let run : along row.values p.blocks m.list 0 0 1 ≡ Some v =
+    sym (decides-within left (along row.values p.blocks m.list 0 0 1) within) ∙ sym (through-decides row.values c left p.blocks m.list a) ∙ answered-with p row v (Some c) m here in
+    along-owed p e f m.places m.list row 1 v program carries r m.order m.chosen run
+verdicts-due p e f row Decided v program carries r (c, left, here, a, above) m =
+    let q : record { sign = sign_of left.number; by = Filter; wide = 0; calls = 1 } ≡ v =
+    some-same _ v (sym (decides-above left (along row.values p.blocks m.list 0 0 1) above) ∙ sym (through-decides row.values c left p.blocks m.list a) ∙ answered-with p row v (Some c) m here) in
+    let s : sign_of left.number ≡ v.sign = ap (λ (w : Verdict). w.sign) q in
+    record {
+      sign = subst (λ (t : Sign). IsPerturbedSign (length p.shape.vars) (row_sites p.shape.vars row.index) (values row.values) e (sign_number t)) s (decided-sign p e f row.values (row_sites p.shape.vars row.index) c left program carries r.values here a above);
+      by = ap (λ (w : Verdict). w.by) (sym q);
+      calls = ap (λ (w : Verdict). w.calls) (sym q);
+    }
+
+-- a filter decides on a row in range, or it doesn't, or there is none
+filter-does : (p : Part) (zs : List ℤ) → IsProgram p → AreWithin p.shape.vars zs → (o : Option FilterCode) → p.filter ≡ o → (does : Filtering) × FilterDoes p zs does
+filter-does p zs program row None here = (NoFilter, here)
+filter-does p zs program row (Some c) here = by_case (cases_lt m.left.error (unsigned_abs m.left.number)) where
+  m : FilterMeans p.shape.vars zs c
+  m = filters_mean p.shape.vars zs c row (filter-follows p c program here)
+
+  by_case : (m.left.error < unsigned_abs m.left.number) ⊎ (unsigned_abs m.left.number ≤ m.left.error) → (does : Filtering) × FilterDoes p zs does
+  by_case (inl h) = (Decided, (c, m.left, here, m.answer, h))
+  by_case (inr h) = (Undecided, (c, m.left, here, m.answer, h))
+
+pub signs-perturbed : SignsArePerturbed
+signs-perturbed p e f row v program carries r m =
+    let d = filter-does p row.values program r.values p.filter refl in
+    due-sign p.shape.vars e row d.0 v (verdicts-due p e f row d.0 v program carries r d.1 m)

@@ -6,4 +6,5 @@ pub mod BlockLemmas
 pub mod AlongLemmas
 pub mod DueLemmas
 pub mod UniqueLemmas
+pub mod FilterLemmas
 pub mod Composition

@@ -12,20 +12,18 @@ use Rattle.ln_algebra.specs.Coefficient.{normal_coefficient}
 use Rattle.ln_algebra.specs.Earlier.{IndicesDiffer, Sites}
 use Rattle.ln_algebra.specs.Sign as algebra
 use Rattle.ln_algebra.specs.Sign.{IsFirst, IsPerturbedSign, perturbed}
-use Rattle.ln_algebra.specs.Tree.{InputsBelow, Tree}
+use Rattle.ln_algebra.specs.Tree.{Tree}
 use Rattle.ln_tree.specs.declared.shape.Shape.{Shape}
 use Rattle.ln_tree.specs.declared.shape.VarInfo.{VarInfo}
 use Rattle.ln_tree.specs.Row.{InRange, Row}
 use Rattle.ln_bound.specs.Value.{values}
 use Rattle.ln_order.specs.Sites.{row_sites, site_of}
-use Rattle.ln_poly.specs.Expansion.{IsNormal}
-use Rattle.ln_poly.specs.Sparse.{Sparse}
 use Rattle.ln_poly.proofs.Counting.{zero-no-terms}
 use Rattle.ln_code.specs.declared.verdict.Verdict.{Verdict}
 use Rattle.ln_code.specs.declared.verdict.By.{By}
 use Rattle.ln_code.specs.declared.verdict.By.TheVariants.{Filter, Stage, Nothing}
-use Rattle.ln_compile.specs.Due.{Due, IsDecidedBy, IsPosition, sign_number}
-use Rattle.ln_compile.specs.DueLaw.{Agree}
+use Rattle.ln_compile.specs.Due.{Decided, Due, Filtering, IsDecidedBy, IsOwedByStages, IsPosition, NoFilter, Undecided, sign_number}
+use Rattle.ln_compile.specs.DueLaw.{Agree, DueIsUnique, WithoutParamsNeverZero}
 use Rattle.ln_compile.proofs.RowLemmas.{rows-differ}
 
 -- ---- one verdict
@@ -60,8 +58,8 @@ module _ (n : ℕ) (sites : Sites) (x : ℕ → ℤ) (e : Tree) (differ : Indice
   decided-unique list Nothing (Stage t) i j h k = absurd (h.0 k.0 k.1)
   decided-unique list Nothing Nothing i j h k = (refl, h.1 ∙ sym k.1)
 
-pub due-unique : (s : Shape) (e : Tree) (row : Row) (v w : Verdict) → InRange s.sites s.vars row → Due s.vars e row v → Due s.vars e row w → Agree v w
-due-unique s e row v w r d g =
+owed-unique : (s : Shape) (e : Tree) (row : Row) (before : ℕ) (v w : Verdict) → InRange s.sites s.vars row → IsOwedByStages s.vars e row before v → IsOwedByStages s.vars e row before w → Agree v w
+owed-unique s e row before v w r d g =
     let n : ℕ = length s.vars in
     let sites : Sites = row_sites s.vars row.index in
     let differ : IndicesDiffer sites = rows-differ s row r in
@@ -70,8 +68,23 @@ due-unique s e row v w r d g =
     record {
       sign = sign-number-same v.sign w.sign (sign-unique n sites (values row.values) e (sign_number v.sign) (sign_number w.sign) differ d.sign g.sign);
       by = both.0;
-      calls = d.calls ∙ ap (λ m. 0 + m) both.1 ∙ sym g.calls;
+      calls = d.calls ∙ ap (λ m. before + m) both.1 ∙ sym g.calls;
     }
+
+pub due-unique : DueIsUnique
+due-unique s e row NoFilter v w r d g = owed-unique s e row 0 v w r d g
+due-unique s e row Undecided v w r d g = owed-unique s e row 1 v w r d g
+due-unique s e row Decided v w r d g = record {
+  sign = sign-number-same v.sign w.sign (sign-unique (length s.vars) (row_sites s.vars row.index) (values row.values) e (sign_number v.sign) (sign_number w.sign) (rows-differ s row r) d.sign g.sign);
+  by = d.by ∙ sym g.by;
+  calls = d.calls ∙ sym g.calls;
+}
+
+-- what is due has the perturbed sign
+pub due-sign : (vars : List VarInfo) (e : Tree) (row : Row) (does : Filtering) (v : Verdict) → Due does vars e row v → IsPerturbedSign (length vars) (row_sites vars row.index) (values row.values) e (sign_number v.sign)
+due-sign vars e row NoFilter v d = d.sign
+due-sign vars e row Decided v d = d.sign
+due-sign vars e row Undecided v d = d.sign
 
 -- ---- without params
 some-site : (o : Option ℕ) → o ≢ None → is_some o ≡ true
@@ -88,9 +101,8 @@ sign-nonzero (pos zero) h e = h refl
 sign-nonzero (pos (suc n)) h e = cc
 sign-nonzero (negsuc n) h e = cc
 
-pub never-zero : (s : Shape) (e : Tree) (f : Sparse) (row : Row) (v : Verdict) → All (λ i. i.site ≢ None) s.vars → InputsBelow (length s.vars) e →
-    IsNormal (length s.vars) e f → f ≢ [] → InRange s.sites s.vars row → Due s.vars e row v → v.sign ≢ Zero
-never-zero s e f row v a below h filled r d q = by_sign d.sign where
+pub never-zero : WithoutParamsNeverZero
+never-zero s e f row does v a below h filled r d q = by_sign (due-sign s.vars e row does v d) where
   sites : Sites
   sites = row_sites s.vars row.index
 

@@ -1,7 +1,7 @@
 -- What a program that carries an expression answers on rows in range: the laws.
-use Rattle.std.specs.Prelude.{◌≡◌, ◌≢◌, ℕ, ◌<◌, ◌⊎◌, All, Contains, ℤ, pos, List, [], length, Some, None, slice_get, slice_index, slice_index_or}
+use Rattle.std.specs.Prelude.{◌≡◌, ◌≢◌, ℕ, ◌<◌, ◌≤◌, ◌⊎◌, All, Contains, ℤ, pos, unsigned_abs, List, [], length, Some, None, slice_get, slice_index, slice_index_or}
 use Rattle.ln_base.specs.declared.sign.Sign.TheVariants.{Zero}
-use Rattle.ln_algebra.specs.Sign.{IsFirst, perturbed}
+use Rattle.ln_algebra.specs.Sign.{IsFirst, IsPerturbedSign, perturbed}
 use Rattle.ln_algebra.specs.Stage.{IsStageList}
 use Rattle.ln_algebra.specs.Tree.{InputsBelow, Tree}
 use Rattle.ln_algebra.specs.Vector.{In}
@@ -13,13 +13,14 @@ use Rattle.ln_order.specs.Sites.{row_sites, sites_of}
 use Rattle.ln_poly.specs.Expansion.{IsNormal}
 use Rattle.ln_poly.specs.Sparse.{Sparse}
 use Rattle.ln_code.specs.declared.verdict.Verdict.{Verdict}
+use Rattle.ln_code.specs.Exact.{Held}
 use Rattle.ln_code.specs.Kept.{IsProgram}
 use Rattle.ln_code.specs.Law.{BlockMeans}
 use Rattle.ln_code.specs.Lists.{IsListOf}
-use Rattle.ln_code.specs.Part.{Code, Part, block_value}
+use Rattle.ln_code.specs.Part.{Code, FilterCode, Part, block_value, filter_value}
 use Rattle.ln_code.specs.Verdict.{IsVerdict}
 use Rattle.ln_compile.specs.Carried.{Carries, vectors}
-use Rattle.ln_compile.specs.Due.{Due}
+use Rattle.ln_compile.specs.Due.{Decided, Due, Filtering, NoFilter, Undecided, sign_number}
 
 -- block number k has the value z on a row with these values
 pub record HasValue (p : Part) (k : ℕ) (zs : List ℤ) (z : ℤ) : Type 0 where
@@ -55,17 +56,30 @@ BlocksRun =
     (p : Part) (c : Code) (row : Row) → IsProgram p → Contains p.blocks c → InRange p.shape.sites p.shape.vars row →
     BlockMeans p.shape.vars row.values c
 
+-- what the program's filter does on a row: it decides where what it leaves is above the error of the operation that pushed it
+abbrev pub FilterDoes : Part → List ℤ → Filtering → Type 0
+FilterDoes p zs NoFilter = p.filter ≡ None
+FilterDoes p zs Decided = (c : FilterCode) × (left : Held) × (p.filter ≡ Some c) × (filter_value zs c ≡ Some left) × (left.error < unsigned_abs left.number)
+FilterDoes p zs Undecided = (c : FilterCode) × (left : Held) × (p.filter ≡ Some c) × (filter_value zs c ≡ Some left) × (unsigned_abs left.number ≤ left.error)
+
 -- the machine's verdict on a row in range is the one that the row is owed
 abbrev pub VerdictsAreDue : Type 0
 VerdictsAreDue =
-    (p : Part) (e : Tree) (f : Sparse) (row : Row) (v : Verdict) → IsProgram p → Carries p e f → p.filter ≡ None →
-    InRange p.shape.sites p.shape.vars row → IsVerdict p row v → Due p.shape.vars e row v
+    (p : Part) (e : Tree) (f : Sparse) (row : Row) (does : Filtering) (v : Verdict) → IsProgram p → Carries p e f →
+    InRange p.shape.sites p.shape.vars row → FilterDoes p row.values does → IsVerdict p row v → Due does p.shape.vars e row v
+
+-- so its sign is the perturbed sign, whatever the filter does
+abbrev pub SignsArePerturbed : Type 0
+SignsArePerturbed =
+    (p : Part) (e : Tree) (f : Sparse) (row : Row) (v : Verdict) → IsProgram p → Carries p e f →
+    InRange p.shape.sites p.shape.vars row → IsVerdict p row v →
+    IsPerturbedSign (length p.shape.vars) (row_sites p.shape.vars row.index) (values row.values) e (sign_number v.sign)
 
 -- without params no row in range is owed the sign 0, as long as the normal polynomial has any term
 abbrev pub WithoutParamsNeverZero : Type 0
 WithoutParamsNeverZero =
-    (s : Shape) (e : Tree) (f : Sparse) (row : Row) (v : Verdict) → All (λ i. i.site ≢ None) s.vars → InputsBelow (length s.vars) e →
-    IsNormal (length s.vars) e f → f ≢ [] → InRange s.sites s.vars row → Due s.vars e row v → v.sign ≢ Zero
+    (s : Shape) (e : Tree) (f : Sparse) (row : Row) (does : Filtering) (v : Verdict) → All (λ i. i.site ≢ None) s.vars → InputsBelow (length s.vars) e →
+    IsNormal (length s.vars) e f → f ≢ [] → InRange s.sites s.vars row → Due does s.vars e row v → v.sign ≢ Zero
 
 -- two verdicts agree, but for the wide operations, which no row is owed
 pub record Agree (v w : Verdict) : Type 0 where
@@ -76,5 +90,5 @@ pub record Agree (v w : Verdict) : Type 0 where
 -- a row in range is owed at most one sign, by one decider, with one number of calls
 abbrev pub DueIsUnique : Type 0
 DueIsUnique =
-    (s : Shape) (e : Tree) (row : Row) (v w : Verdict) → InRange s.sites s.vars row →
-    Due s.vars e row v → Due s.vars e row w → Agree v w
+    (s : Shape) (e : Tree) (row : Row) (does : Filtering) (v w : Verdict) → InRange s.sites s.vars row →
+    Due does s.vars e row v → Due does s.vars e row w → Agree v w

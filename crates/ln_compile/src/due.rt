@@ -1,5 +1,5 @@
 //! What the verdict of a program is: the perturbed sign.
-ghost use Rattle.ln_compile.specs.DueLaw.{BlocksRun, CutLosesNothing, DueIsUnique, StagesAreCoefficients, VerdictsAreDue, WithoutParamsNeverZero};
+ghost use Rattle.ln_compile.specs.DueLaw.{BlocksRun, CutLosesNothing, DueIsUnique, SignsArePerturbed, StagesAreCoefficients, VerdictsAreDue, WithoutParamsNeverZero};
 
 /// In a program that carries an expression each block has, on every row in range, the perturbed coefficient at its stage; and the
 /// stages of a row's order lose nothing.
@@ -18,11 +18,12 @@ pub fn blocks_run()
 {}
 
 /// The machine's verdict on a row in range is the one that the row is owed: the sign of the first coefficient that isn't 0, in the
-/// order of infinitesimals, its place, and the calls up to it.
+/// order of infinitesimals, its place, and the calls up to it; or the same sign from the filter, where that decides.
 ///
 /// On it rests the sign that is printed for a row, the place beside it, and the number of calls.
 pub fn verdicts_are_due()
-    ensures { VerdictsAreDue }
+    ensures verdicts { VerdictsAreDue }
+    ensures signs { SignsArePerturbed }
 {}
 
 /// A predicate without params owes no row in range the sign 0.

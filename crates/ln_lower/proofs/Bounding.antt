@@ -12,7 +12,7 @@ use Rattle.ln_bound.specs.declared.fitted.Two.TheVariants.{Plus, Minus, Times}
 use Rattle.ln_bound.specs.Widths.{limit, least, wider, no_wider}
 use Rattle.ln_bound.specs.Typed.{bound_of}
 use Rattle.ln_code.specs.Engine.{Engine, State, Line, next, run, step, pushed}
-use Rattle.ln_code.specs.Rules.{Known, known}
+use Rattle.ln_code.specs.Rules.{known}
 
 pub no_wider_trans : (u v w : Width) → no_wider u v ≡ true → no_wider v w ≡ true → no_wider u w ≡ true
 no_wider_trans W64 v w h k = refl

@@ -1,9 +1,9 @@
 -- How many operations a tree takes.
-use Rattle.std.proofs.Common.{◌≡◌, ℕ, ◌+◌, ◌*◌, ◌≤◌, List, [], ◌∷◌, ◌++◌, length, refl, zero, suc, arith, length-append}
+use Rattle.std.proofs.Common.{◌≡◌, ℕ, ◌+◌, ◌*◌, ◌≤◌, List, [], ◌∷◌, length, refl, zero, suc, arith, length-append}
 use Rattle.ln_bound.specs.declared.fitted.Width.{Width}
 use Rattle.ln_bound.specs.Typed.{Typed, TNum, TInput, TLet, TNeg, TTwo, TPow, bound, cost, costs}
 use Rattle.ln_code.specs.Engine.{Line}
-use Rattle.ln_lower.specs.Lowered.{line, factors, power_of, powers, lowered, lowered_lets}
+use Rattle.ln_lower.specs.Lowered.{factors, power_of, powers, lowered, lowered_lets}
 
 factors_cost : (a : ℕ) (w : Width) (m n : ℕ) → length (factors a w m n) ≡ 2 * n
 factors_cost a w m zero = refl

@@ -1,6 +1,6 @@
 -- The operations of a sound tree follow the rules: they leave a value with the tree's polynomial, and push polynomials of its nodes.
-use Rattle.std.proofs.Common.{◌≡◌, ◌⊎◌, inl, inr, ℕ, ℤ, ◌+◌, ◌*◌, ◌^◌, ◌≤◌, ◌<◌, ◌-◌, max, Bool, true, false, List, [], ◌∷◌, ◌++◌, length, refl, zero, suc, ap, arith, pos, ◌∙◌, sym, subst, unsigned_abs}
-use Rattle.std.specs.Prelude.{Option, Some, None, slice_get, slice_index_or, nat_le, ◌==◌, if◌then◌else◌, ◌&&◌}
+use Rattle.std.proofs.Common.{◌≡◌, inl, inr, ℕ, ◌+◌, ◌*◌, ◌^◌, ◌≤◌, ◌<◌, true, false, List, [], ◌∷◌, ◌++◌, length, refl, zero, suc, arith, pos, ◌∙◌, unsigned_abs}
+use Rattle.std.specs.Prelude.{Option, Some, None, slice_get, slice_index_or, ◌==◌}
 use Rattle.std.proofs.lemmas.Bool.{le-leb}
 use Rattle.std.proofs.lemmas.Bool.Decides.{nat_tests}
 use Rattle.std.proofs.Math.Nat.{pow-suc, pow-zero}
@@ -8,7 +8,6 @@ use Rattle.ln_algebra.specs.Tree as tree
 use Rattle.ln_algebra.specs.Tree.{Tree, inlined}
 use Rattle.ln_tree.specs.declared.shape.VarInfo.{VarInfo}
 use Rattle.ln_bound.specs.declared.fitted.Width.{Width}
-use Rattle.ln_bound.specs.declared.fitted.Width.TheVariants.{W64, W128}
 use Rattle.ln_bound.specs.declared.fitted.Two.{Two}
 use Rattle.ln_bound.specs.declared.fitted.Two.TheVariants.{Plus, Minus, Times}
 use Rattle.ln_bound.specs.Value.{sizes, size_of}
@@ -16,16 +15,16 @@ use Rattle.ln_bound.specs.Widths.{limit, least, wider, no_wider}
 use Rattle.ln_bound.specs.Typed.{Typed, TNum, TInput, TLet, TNeg, TTwo, TPow, bound, width, need, untyped, two_of, bound_of}
 use Rattle.ln_bound.specs.Sound.{Covers, SoundNodes}
 use Rattle.ln_code.specs.declared.op.Op.{Op}
-use Rattle.ln_code.specs.declared.op.Op.TheVariants.{Push, Input, Get, Set, Add, Sub, Mul, Neg}
-use Rattle.ln_code.specs.Engine.{Engine, State, Line, next, run, step, pushed, with_two, with_one}
+use Rattle.ln_code.specs.declared.op.Op.TheVariants.{Push, Input, Get, Mul, Neg}
+use Rattle.ln_code.specs.Engine.{State, Line, next, run, step, pushed}
 use Rattle.ln_code.specs.Numbers.{with_local}
-use Rattle.ln_code.specs.Rules.{Known, known, rules}
+use Rattle.ln_code.specs.Rules.{Known, rules}
 use Rattle.ln_code.specs.Kept.{stores}
-use Rattle.ln_code.specs.Pushes.{Pushed, newest, pushes}
+use Rattle.ln_code.specs.Pushes.{pushes}
 use Rattle.ln_lower.specs.Nodes.{IsNode, HasWidth, PushesNode, PushNodes}
-use Rattle.ln_lower.specs.Lowered.{line, op_of, factors, power_of, powers, lowered}
+use Rattle.ln_lower.specs.Lowered.{line, op_of, factors, power_of, lowered}
 use Rattle.ln_lower.proofs.Bounding.{no_wider_trans, no_wider_self, wider_narrow, least_narrow, least_limit, wider_limit, known_is, bound_more, power_grows, run_append, pushed_is}
-use Rattle.ln_lower.proofs.Same.{Same, same_self, same_is, same_then, same_turned, same_neg, same_two, same_first, same_next, same_zeroth}
+use Rattle.ln_lower.proofs.Same.{Same, same_self, same_then, same_neg, same_two, same_first, same_next, same_zeroth}
 use Rattle.ln_lower.proofs.PushLaws.{pushes_append, pushes_front, push_append, push_wider, pushes_node}
 
 -- what stands on top of the stack after the operations, and what they push

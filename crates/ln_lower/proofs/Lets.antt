@@ -1,6 +1,6 @@
 -- The operations of the lets leave each let in its local.
-use Rattle.std.proofs.Common.{◌≡◌, ◌≢◌, ◌⊎◌, inl, inr, ℕ, ◌+◌, ◌≤◌, ◌<◌, Bool, true, false, List, [], ◌∷◌, ◌++◌, length, map, take, refl, zero, suc, ap, arith, pos, ◌∙◌, sym, subst, get_or, length-append, append_assoc, append-nil}
-use Rattle.std.specs.Prelude.{Option, Some, None, slice_get, slice_index_or, ◌==◌, if◌then◌else◌}
+use Rattle.std.proofs.Common.{◌≡◌, ◌⊎◌, inl, inr, ℕ, ◌+◌, ◌≤◌, ◌<◌, true, false, List, [], ◌∷◌, ◌++◌, length, map, take, refl, zero, suc, ap, arith, pos, ◌∙◌, sym, get_or, length-append, append_assoc, append-nil}
+use Rattle.std.specs.Prelude.{Option, Some, slice_get, slice_index_or, ◌==◌}
 use Rattle.std.proofs.lemmas.Bool.Decides.{nat_tests}
 use Rattle.std.proofs.lemmas.List.{take_more, map-append, length-map, length-take-le}
 use Rattle.ln_algebra.specs.Tree as tree
@@ -9,19 +9,19 @@ use Rattle.ln_tree.specs.declared.shape.VarInfo.{VarInfo}
 use Rattle.ln_bound.specs.declared.fitted.Width.{Width}
 use Rattle.ln_bound.specs.declared.fitted.Fitted.{Fitted}
 use Rattle.ln_bound.specs.Widths.{no_wider}
-use Rattle.ln_bound.specs.Typed.{Typed, bound, width, need, untyped}
+use Rattle.ln_bound.specs.Typed.{Typed, bound, width, untyped}
 use Rattle.ln_bound.specs.Sound.{Sound, AreSound}
 use Rattle.ln_bound.specs.View.{typed}
 use Rattle.ln_code.specs.declared.op.Op.TheVariants.{Set}
-use Rattle.ln_code.specs.Engine.{State, Line, run}
+use Rattle.ln_code.specs.Engine.{Line, run}
 use Rattle.ln_code.specs.Numbers.{with_local, no_locals}
 use Rattle.ln_code.specs.Rules.{Known, rules}
 use Rattle.ln_code.specs.Pushes.{pushes}
 use Rattle.ln_lower.specs.Nodes.{IsNode, IsLetNode, IsNodeOf, PushNodes}
 use Rattle.ln_lower.specs.Lowered.{line, lowered, lowered_lets}
 use Rattle.ln_lower.proofs.Same.{Same}
-use Rattle.ln_lower.proofs.PushLaws.{push_append, push_wider}
-use Rattle.ln_lower.proofs.Lands.{Lands, LetKnown, LetsKnown, lands, lands_wider, lets_kept, then_run, then_push}
+use Rattle.ln_lower.proofs.PushLaws.{push_wider}
+use Rattle.ln_lower.proofs.Lands.{LetKnown, LetsKnown, lands, lets_kept, then_run, then_push}
 
 get_snoc : {X : Type 0} (xs : List X) (y : X) (i : ℕ) (u : X) → slice_get (xs ++ (y ∷ [])) i ≡ Some u → ((i < length xs) × (slice_get xs i ≡ Some u)) ⊎ ((i ≡ length xs) × (y ≡ u))
 get_snoc [] y zero u h = inr (refl, cc)

@@ -1,17 +1,16 @@
 -- Expressions with one polynomial and one value.
 use Rattle.std.proofs.Common.{◌≡◌, ℕ, zero, suc, Bool, true, false, ◌&&◌, if◌then◌else◌, ℤ, pos, ◌+ℤ◌, ◌-ℤ◌, ◌*ℤ◌, neg_ℤ, List, [], ◌∷◌, refl, sym, ◌∙◌, ap, arith}
 use Rattle.std.proofs.lemmas.Int.{ints}
-use Rattle.ln_algebra.proofs.Ring.{mul_comm}
 use Rattle.ln_algebra.proofs.Shift.{product_is}
 use Rattle.ln_algebra.proofs.Sums.{sum_parts, sum_splits}
 use Rattle.ln_algebra.proofs.Taylor.{sum_parts-same, sum_parts-zero, sum_splits-same, sum_splits-zero}
 use Rattle.ln_algebra.specs.Vector.{is_zero, is_zero_number}
-use Rattle.ln_algebra.specs.Coefficient.{Series, normal_coefficient, constant, product, power as series_power}
-use Rattle.ln_algebra.specs.Tree.{Tree, Num, Neg, Add, Sub, Mul, Pow}
+use Rattle.ln_algebra.specs.Coefficient.{Series, normal_coefficient, constant, product}
+use Rattle.ln_algebra.specs.Tree.{Tree, Num, Neg, Mul, Pow}
 use Rattle.ln_bound.specs.declared.fitted.Two.{Two}
 use Rattle.ln_bound.specs.declared.fitted.Two.TheVariants.{Plus, Minus, Times}
 use Rattle.ln_bound.specs.Typed.{two_of}
-use Rattle.ln_bound.specs.Value.{value, power}
+use Rattle.ln_bound.specs.Value.{value}
 
 -- ---- the number 1 is the unit on the left
 

@@ -1,7 +1,7 @@
 -- What the lowered block is.
-use Rattle.std.proofs.Common.{◌≡◌, ℕ, ℤ, ◌+◌, ◌*◌, ◌^◌, ◌≤◌, ◌<◌, Bool, true, false, List, [], ◌∷◌, ◌++◌, length, map, refl, zero, suc, ap, arith, ◌∙◌, sym, subst, get_or, pos, length-append}
-use Rattle.std.specs.Prelude.{Option, Some, None, IsSome, All}
-use Rattle.std.proofs.lemmas.List.{map-append, length-map}
+use Rattle.std.proofs.Common.{◌≡◌, ℕ, ℤ, ◌+◌, ◌*◌, ◌^◌, ◌≤◌, ◌<◌, List, [], ◌∷◌, ◌++◌, length, map, refl, zero, suc, ap, arith, ◌∙◌, sym, subst, get_or, length-append}
+use Rattle.std.specs.Prelude.{Some, All}
+use Rattle.std.proofs.lemmas.List.{map-append}
 use Rattle.ln_algebra.specs.Tree.{Tree, inlined, inlined_after}
 use Rattle.ln_tree.specs.declared.shape.VarInfo.{VarInfo}
 use Rattle.ln_tree.specs.Row.{AreWithin}
@@ -17,12 +17,10 @@ use Rattle.ln_bound.specs.Typed.{Typed, TNum, TInput, TLet, TNeg, TTwo, TPow, bo
 use Rattle.ln_bound.specs.Sound.{Sound, SoundNodes, AreSound}
 use Rattle.ln_bound.specs.View.{typed}
 use Rattle.ln_bound.proofs.Values.{value-inlined}
-use Rattle.ln_code.specs.declared.op.Op.{Op}
-use Rattle.ln_code.specs.Engine.{Line, run}
+use Rattle.ln_code.specs.Engine.{Line}
 use Rattle.ln_code.specs.Rules.{Known}
 use Rattle.ln_code.specs.Part.{Code, lines_of, known_of, block_value}
-use Rattle.ln_code.specs.Kept.{FollowsRules, IsBlock, StoresHave, stores}
-use Rattle.ln_code.specs.Law.{BlockMeans}
+use Rattle.ln_code.specs.Kept.{FollowsRules, IsBlock, StoresHave}
 use Rattle.ln_code.proofs.Means.{blocks_mean}
 use Rattle.ln_lower.specs.declared.draft.Draft.{Draft}
 use Rattle.ln_lower.specs.Nodes.{IsNodeOf, PushNodes, pushed_by}
@@ -30,7 +28,7 @@ use Rattle.ln_lower.specs.Lowered.{line, op_of, factors, power_of, powers, lower
 use Rattle.ln_lower.specs.Wrote.{Wrote}
 use Rattle.ln_lower.proofs.Same.{Same}
 use Rattle.ln_lower.proofs.Costs.{lowered_cost, lets_cost}
-use Rattle.ln_lower.proofs.Lets.{block_lands, BlockLands}
+use Rattle.ln_lower.proofs.Lets.{block_lands}
 use Rattle.ln_lower.proofs.Writes.{wrote_then}
 
 lines_back : (lines : List (Line ℕ)) → lines_of (ops_in lines) (bounds_in lines) ≡ lines

@@ -3,7 +3,6 @@ use Rattle.std.proofs.Common.{◌≡◌, ◌≢◌, ℕ, ◌+◌, ◌*◌, ◌^�
 use Rattle.std.specs.Prelude.{OnOk, Result, Ok, Err}
 use Rattle.std.proofs.Math.Nat.{pow-suc}
 use Rattle.ln_bound.specs.declared.fitted.Width.{Width}
-use Rattle.ln_code.specs.declared.op.Op.{Op}
 use Rattle.ln_code.specs.declared.op.Op.TheVariants.{Get, Mul}
 use Rattle.ln_code.specs.Engine.{Line}
 use Rattle.ln_lower.specs.declared.draft.Draft.{Draft}

@@ -1,5 +1,5 @@
 -- What a block of a tree pushes: polynomials of nodes of the tree and of its lets.
-use Rattle.std.specs.Prelude.{◌≡◌, ℕ, ◌≤◌, ◌⊎◌, ℤ, List, [], ◌∷◌, ◌++◌, pos, map, slice_index_or}
+use Rattle.std.specs.Prelude.{◌≡◌, ℕ, ◌≤◌, ◌⊎◌, List, [], ◌∷◌, ◌++◌, pos, map, slice_index_or}
 use Rattle.ln_algebra.specs.Tree.{Tree, Num, Input, Neg, Pow, inlined, inlined_after}
 use Rattle.ln_algebra.specs.Coefficient.{normal_coefficient}
 use Rattle.ln_tree.specs.declared.shape.VarInfo.{VarInfo}

@@ -22,7 +22,7 @@ use Rattle.ln_parse.proofs.NamePlaces.{Differ}
 use Rattle.ln_parse.proofs.CleanValue.{clean_join, none_two, none_three, not_over, not_at, known_not}
 use Rattle.ln_parse.proofs.InputsThere.{at_place, every_at}
 use Rattle.ln_parse.proofs.ScopeNames.{type_there, param_there, any_found}
-use Rattle.ln_parse.proofs.Tests.{one_if}
+use Rattle.ln_parse.proofs.TestLemmas.{one_if}
 use Rattle.ln_parse.proofs.ValueBack.{any_map, new_behind}
 
 -- the items before a predicate declare all site types and params of the table, whose names differ

@@ -30,7 +30,7 @@ use Rattle.ln_parse.proofs.CleanValue.{clean_join, none_two, none_three, not_ove
 use Rattle.ln_parse.proofs.ValueBack.{any_map, new_behind}
 use Rattle.ln_parse.proofs.ArgsBack.{Declared}
 use Rattle.ln_parse.proofs.PredBack.{pred_back}
-use Rattle.ln_parse.proofs.Tests.{in_order, one_if}
+use Rattle.ln_parse.proofs.TestLemmas.{in_order, one_if}
 use Rattle.ln_parse.proofs.WholeParts.{InRange, SiteParts, PredParts}
 
 in_end : (b : Bool) (n : ℕ) → unsigned_abs (signed b n) < 2 ^ 63 → n < 2 ^ 63

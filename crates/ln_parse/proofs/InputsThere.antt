@@ -17,7 +17,7 @@ use Rattle.ln_tree.specs.Whole.{site_vars, coords_or, param_vars, vars_behind, r
 use Rattle.ln_parse.specs.ReadsBack.{Every}
 use Rattle.ln_parse.specs.WholeTable.{IsShortName, SiteNames, ArgNames}
 use Rattle.ln_parse.specs.Written.{Naming, input, written, IsNamed}
-use Rattle.ln_parse.proofs.Tests.{at_most, below, equal, neither, or_cases}
+use Rattle.ln_parse.proofs.TestLemmas.{at_most, below, equal, neither, or_cases}
 
 -- argument d is a site whose type has coordinate c, or a param, where c is 0
 pub data InputThere (S : List SiteOf) (P : List CoordOf) (args : List ArgOf) (d c : ℕ) : Type 0 where

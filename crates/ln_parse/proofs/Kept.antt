@@ -40,7 +40,7 @@ use Rattle.ln_parse.specs.Ready.{ReadyValue, ReadyCoord, ReadyArg, ReadyLet, Rea
 use Rattle.ln_parse.proofs.LaidOut.{Known, count_cons, laid_out}
 use Rattle.ln_parse.proofs.Arguments.{all_are_of, all_fit}
 use Rattle.ln_parse.proofs.Fitting.{Sees, said, all_known, fits}
-use Rattle.ln_parse.proofs.Tests.{in_order}
+use Rattle.ln_parse.proofs.TestLemmas.{in_order}
 
 above : (b : Bool) (n : ℕ) → n < 2 ^ 63 → int_lt (neg_ℤ (pos (2 ^ 63))) (signed b n) ≡ true
 above false n h = grind (arith, nat_tests, ints)

@@ -21,7 +21,7 @@ pub mod Readiness
 pub mod Kept
 pub mod Loops
 pub mod OneAnswer
-pub mod Tests
+pub mod TestLemmas
 pub mod WholeParts
 pub mod InputsThere
 pub mod ScopeNames

@@ -27,7 +27,7 @@ use Rattle.ln_parse.proofs.Meaning.{arg_called, name_meaning, meaning}
 use Rattle.ln_parse.proofs.CleanValue.{Meant}
 use Rattle.ln_parse.proofs.InputsThere.{InputThere, of_site, of_param, input_there, every_at, at_place, no_place, NamesGood, literal}
 use Rattle.ln_parse.proofs.Found.{get_longer}
-use Rattle.ln_parse.proofs.Tests.{at_most, get_map}
+use Rattle.ln_parse.proofs.TestLemmas.{at_most, get_map}
 use Rattle.ln_parse.proofs.WholeParts.{SiteParts}
 
 -- names that differ from a list's differ from its parts'

@@ -22,7 +22,7 @@ use Rattle.ln_tree.specs.Table.{coord_of, site_of, param_of, arg_of, pred_of, ta
 use Rattle.ln_tree.specs.Whole.{is_whole}
 use Rattle.ln_parse.specs.ReadsBack.{Every}
 use Rattle.ln_parse.specs.WholeTable.{IsShortName, SiteNames, ArgNames, PredKept, IsWhole}
-use Rattle.ln_parse.proofs.Tests.{at_most, equal}
+use Rattle.ln_parse.proofs.TestLemmas.{at_most, equal}
 
 taken : (n : ℕ) (xs : List ℕ) → length (take n xs) ≤ n
 taken n xs = omega (arith, length-take n xs)

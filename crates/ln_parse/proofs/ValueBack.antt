@@ -36,7 +36,7 @@ use Rattle.ln_parse.proofs.Meaning.{meaning, meaning_is}
 use Rattle.ln_parse.proofs.CleanValue.{Meant, value_clean, clean_join, none_two, none_three, not_over, not_at, known_not}
 use Rattle.ln_parse.proofs.InputsThere.{NamesGood, at_place, every_at}
 use Rattle.ln_parse.proofs.ScopeNames.{InScope, means, type_there, param_there, any_found, flip}
-use Rattle.ln_parse.proofs.Tests.{neither}
+use Rattle.ln_parse.proofs.TestLemmas.{neither}
 use Rattle.ln_parse.proofs.WholeParts.{SiteParts}
 
 -- spans count for nothing

@@ -41,7 +41,7 @@ use Rattle.ln_parse.proofs.Kept.{sees, sites_are, declared}
 use Rattle.ln_parse.proofs.LaidOut.{count_cons}
 use Rattle.ln_parse.proofs.NamePlaces.{NoneIs, Differ}
 use Rattle.ln_parse.proofs.ScopeNames.{flip, coord_map}
-use Rattle.ln_parse.proofs.Tests.{in_order, neither, or_false, get_map}
+use Rattle.ln_parse.proofs.TestLemmas.{in_order, neither, or_false, get_map}
 use Rattle.ln_parse.proofs.ValueBack.{any_map}
 
 -- names that differ, as a test

@@ -15,7 +15,7 @@ use Rattle.ln_tree.specs.Table.{CoordOf, SiteOf, ArgOf, PredOf, TableOf}
 use Rattle.ln_tree.specs.Whole.{is_new, differ, is_range, site_whole, is_one_of, is_site_said, is_param_said, arg_name, vars_behind, same_var, same_vars, nesting, pred_whole, item_names, text_tokens, is_whole}
 use Rattle.ln_parse.specs.ReadsBack.{Every}
 use Rattle.ln_parse.proofs.NamePlaces.{NoneIs, Differ}
-use Rattle.ln_parse.proofs.Tests.{at_most, below, equal}
+use Rattle.ln_parse.proofs.TestLemmas.{at_most, below, equal}
 
 -- what a test says of all elements holds of each
 pub every : {A : Type 0} (p : A → Bool) (xs : List A) → list_all p xs ≡ true → Every (λ x. p x ≡ true) xs

@@ -27,8 +27,7 @@ pub enum ParseStop {
     NoMemory,
 }
 
-/// The table of a source, or the first fault of its text; without want of memory, the one or the other.
-#[tactic(auto, using(crate::proofs::OneAnswer::memory_alone))]
+/// The table of a source; or the first fault of its text and its place, and then no table has the text.
 pub fn parse(alloc: Global, bytes: &[u8]) -> Result<Table, ParseStop>
     requires { length bytes.now ≤ 1048576 }
     ensures ok { IfOk result (λ t. TextOf bytes.now (table_of t.sites t.params t.preds)) }

@@ -16,3 +16,6 @@ pub use laws::{cut_loses_nothing, list_is_unique, lists_are_those_of_trees, ther
 pub use lists::stages;
 pub use stop::StageStop;
 pub use table::Stages;
+
+#[cfg(test)]
+mod tests;

@@ -1,5 +1,5 @@
 -- The arguments of a predicate.
-use Rattle.std.specs.Prelude.{ℕ, zero, suc, ◌==◌, ◌&&◌, nat_lt, Bool, true, false, List, [], ◌∷◌, length, count_by, Option, Some, None, slice_get}
+use Rattle.std.specs.Prelude.{ℕ, zero, suc, ◌==◌, ◌&&◌, nat_lt, Bool, true, List, [], ◌∷◌, length, count_by, Option, Some, None, slice_get}
 use Rattle.std.specs.List.{list_all}
 use Rattle.ln_tree.specs.declared.items.Arg.{Arg}
 use Rattle.ln_tree.specs.declared.items.Arg.TheVariants.{Site as SiteArg, Param as ParamArg}

@@ -1,5 +1,5 @@
 -- What an expression may hold.
-use Rattle.std.specs.Prelude.{ℕ, suc, ◌+◌, ◌^◌, ◌&&◌, not, nat_lt, nat_le, int_lt, Bool, true, ℤ, pos, List, [], ◌∷◌}
+use Rattle.std.specs.Prelude.{ℕ, suc, ◌^◌, ◌&&◌, not, nat_lt, nat_le, int_lt, Bool, true, pos, List, [], ◌∷◌}
 use Rattle.ln_algebra.specs.Tree.{Tree, Num, Input, Name, Neg, Add, Sub, Mul, Pow}
 
 -- its inputs are below n, its lets below j, its literals from 0 to 2^127 - 1, its exponents at most 16

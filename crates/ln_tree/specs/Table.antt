@@ -1,5 +1,5 @@
 -- Tables without where they lie in memory.
-use Rattle.std.specs.Prelude.{ℕ, ◌==◌, ◌&&◌, nat_le, Bool, ℤ, List, length, map}
+use Rattle.std.specs.Prelude.{ℕ, ◌&&◌, nat_le, Bool, ℤ, List, length, map}
 use Rattle.std.specs.List.{list_all}
 use Rattle.ln_base.specs.declared.span.Span.{Span}
 use Rattle.ln_tree.specs.declared.shape.VarInfo.{VarInfo}

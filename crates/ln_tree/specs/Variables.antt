@@ -1,5 +1,5 @@
 -- The variables of a predicate: how they are numbered, and in which order they stand.
-use Rattle.std.specs.Prelude.{ℕ, suc, ◌+◌, ◌==◌, ◌&&◌, not, nat_le, nat_lt, int_lt, Bool, true, false, ℤ, pos, neg_ℤ, ◌^◌, List, [], ◌∷◌, length, count_by, position, unwrap_or, Option, Some, None, is_some, is_none, ◌||◌, if◌then◌else◌}
+use Rattle.std.specs.Prelude.{ℕ, suc, ◌+◌, ◌==◌, ◌&&◌, not, nat_le, nat_lt, int_lt, Bool, true, false, pos, neg_ℤ, ◌^◌, List, [], ◌∷◌, length, count_by, position, unwrap_or, Option, Some, None, is_some, is_none, ◌||◌, if◌then◌else◌}
 use Rattle.std.specs.List.{list_all}
 use Rattle.ln_tree.specs.declared.shape.VarInfo.{VarInfo}
 

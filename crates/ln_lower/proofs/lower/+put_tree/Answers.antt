@@ -1,8 +1,8 @@
-use Rattle.std.proofs.Common.{◌≡◌, ◌+◌, ◌-◌, ◌^◌, ◌<◌, ◌++◌, [], ◌∷◌, arith, sym, refl, suc, ℕ}
+use Rattle.std.proofs.Common.{◌≡◌, ◌+◌, ◌-◌, ◌^◌, ◌<◌, ◌++◌, [], ◌∷◌, arith, refl}
 use Rattle.ln_code.specs.declared.op.Op.TheVariants.{Neg, Add, Sub, Mul}
 use Rattle.ln_bound.specs.View.{typed}
 use Rattle.ln_bound.specs.Typed.{bound}
-use Rattle.ln_lower.specs.Lowered.{lowered, line, power_of, powers, PowersFit}
+use Rattle.ln_lower.specs.Lowered.{lowered, line, power_of, powers}
 use Rattle.ln_bound.proofs.Views.{bound_here}
 use Rattle.ln_lower.proofs.Writes.{ok_then, powers_more, wrote_then}
 use Rattle.ln_lower.proofs.lower.+put_tree.Goals as goal

@@ -1,4 +1,4 @@
-use Rattle.std.proofs.Common.{◌≡◌, [], ◌∷◌, ◌++◌, arith, sym, refl, map, ap}
+use Rattle.std.proofs.Common.{[], refl, map, ap}
 use Rattle.std.proofs.lemmas.List.{length-map}
 use Rattle.ln_algebra.specs.Coefficient.{Series}
 use Rattle.ln_bound.specs.View.{typed}

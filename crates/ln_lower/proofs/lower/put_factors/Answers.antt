@@ -1,4 +1,4 @@
-use Rattle.std.proofs.Common.{◌≡◌, ◌+◌, ◌*◌, ◌^◌, ◌<◌, ◌++◌, [], ◌∷◌, arith, sym, refl, Fits, suc}
+use Rattle.std.proofs.Common.{◌≡◌, ◌+◌, ◌*◌, ◌^◌, ◌++◌, [], ◌∷◌, arith, sym, refl, suc}
 use Rattle.std.proofs.Math.Nat.{pow-suc, pow-zero}
 use Rattle.ln_code.specs.declared.op.Op.TheVariants.{Get, Mul}
 use Rattle.ln_lower.specs.Lowered.{factors, line}

@@ -1,5 +1,4 @@
-use Rattle.std.proofs.Common.{◌≡◌, [], ◌∷◌, ◌++◌, arith, sym, refl}
-use Rattle.ln_code.specs.declared.op.Op.TheVariants.{Set}
+use Rattle.std.proofs.Common.{refl}
 use Rattle.ln_lower.proofs.Writes.{wrote_then}
 use Rattle.ln_lower.proofs.Lets.{lets_more}
 use Rattle.ln_lower.proofs.lower.put_lets.Goals as goal
