@@ -13,7 +13,7 @@ use Rattle.ln_parse.proofs.OneAnswer.{no_fault, one_fault, one_table}
 use Rattle.ln_compile.specs.declared.refusal.Refusal.{Refusal}
 use Rattle.ln_compile.specs.declared.refusal.Refusal.TheVariants.{Bound, Terms}
 use Rattle.ln_compile.specs.Accepted.{Accepted, AreSound, IsSound, expanded_of, weighed_of}
-use Rattle.ln_compile.specs.Refused.{IsFirstFault, IsPredFault, IsRefusal, IsRefusedFor, IsTheOne, IsUnaccepted, bound, of_pred, of_text, refusal_of, terms, zero}
+use Rattle.ln_compile.specs.Refused.{IsFirstFault, IsPredFault, IsRefusal, IsRefusedFor, IsTheOne, IsUnaccepted, bound, of_pred, of_text, refusal_of, stages, terms, zero}
 
 -- ---- the first that isn't good
 heads : {A : Type 0} (x y : A) (xs ys : List A) → x ∷ xs ≡ y ∷ ys → (x ≡ y) × (xs ≡ ys)
@@ -65,20 +65,28 @@ no_terms n ns a l f = all_good (Few n) f.before (a, f.node) f.after (fews n (f.b
 
 -- a predicate has one fault, and none where it is sound
 pred_one : (k : ℕ) (p : PredOf) (r s : Refusal) → IsPredFault k p r → IsPredFault k p s → r ≡ s
-pred_one k p r s (bound {a} f) (bound {b} g) = ap (Bound k) (bound_one (weighed_of p) a b f g)
-pred_one k p r s (bound {a} f) (terms {b} l g) = absurd (no_bound (weighed_of p) a l f)
-pred_one k p r s (bound {a} f) (zero l t z) = absurd (no_bound (weighed_of p) a l f)
-pred_one k p r s (terms {a} l f) (bound {b} g) = absurd (no_bound (weighed_of p) b l g)
-pred_one k p r s (terms {a} l f) (terms {b} m g) = ap (Terms k) (terms_one (length p.vars) (expanded_of p) a b f g)
-pred_one k p r s (terms {a} l f) (zero m t z) = absurd (no_terms (length p.vars) (expanded_of p) a t f)
-pred_one k p r s (zero l t z) (bound {b} g) = absurd (no_bound (weighed_of p) b l g)
-pred_one k p r s (zero l t z) (terms {b} m g) = absurd (no_terms (length p.vars) (expanded_of p) b t g)
+pred_one k p r s (bound {at} f) (bound {at = b} g) = ap (Bound k) (bound_one (weighed_of p) at b f g)
+pred_one k p r s (bound {at} f) (terms {at = b} l g) = absurd (no_bound (weighed_of p) at l f)
+pred_one k p r s (bound {at} f) (zero l t z) = absurd (no_bound (weighed_of p) at l f)
+pred_one k p r s (bound {at} f) (stages l t z g) = absurd (no_bound (weighed_of p) at l f)
+pred_one k p r s (terms {at} l f) (bound {at = b} g) = absurd (no_bound (weighed_of p) b l g)
+pred_one k p r s (terms {at} l f) (terms {at = b} m g) = ap (Terms k) (terms_one (length p.vars) (expanded_of p) at b f g)
+pred_one k p r s (terms {at} l f) (zero m t z) = absurd (no_terms (length p.vars) (expanded_of p) at t f)
+pred_one k p r s (terms {at} l f) (stages m t z g) = absurd (no_terms (length p.vars) (expanded_of p) at t f)
+pred_one k p r s (zero l t z) (bound {at} g) = absurd (no_bound (weighed_of p) at l g)
+pred_one k p r s (zero l t z) (terms {at} m g) = absurd (no_terms (length p.vars) (expanded_of p) at t g)
 pred_one k p r s (zero l t z) (zero m u y) = refl
+pred_one k p r s (zero l t z) (stages m u y g) = absurd (y z)
+pred_one k p r s (stages l t z f) (bound {at} g) = absurd (no_bound (weighed_of p) at l g)
+pred_one k p r s (stages l t z f) (terms {at} m g) = absurd (no_terms (length p.vars) (expanded_of p) at t g)
+pred_one k p r s (stages l t z f) (zero m u y) = absurd (z y)
+pred_one k p r s (stages l t z f) (stages m u y g) = refl
 
 no_pred : (k : ℕ) (p : PredOf) (r : Refusal) → IsPredFault k p r → IsSound p → ⊥
-no_pred k p r (bound {a} f) s = no_bound (weighed_of p) a s.light f
-no_pred k p r (terms {a} l f) s = no_terms (length p.vars) (expanded_of p) a s.few f
+no_pred k p r (bound {at} f) s = no_bound (weighed_of p) at s.light f
+no_pred k p r (terms {at} l f) s = no_terms (length p.vars) (expanded_of p) at s.few f
 no_pred k p r (zero l t z) s = s.nonzero z
+no_pred k p r (stages l t z f) s = s.staged f
 
 sounds : (ps : List PredOf) → AreSound ps → AllByRecursion IsSound ps
 sounds [] s = tt
@@ -95,15 +103,15 @@ no_preds ps r s f = no_pred (length f.before) f.pred r f.fault (all_good IsSound
 -- ---- sources
 -- a source is refused for one thing
 pub refused_one : (bytes : List ℕ) (r s : Refusal) → IsRefusedFor bytes r → IsRefusedFor bytes s → r ≡ s
-refused_one bytes r s (of_text {e} f) (of_text {g} h) = ap refusal_of (one_fault bytes f h)
-refused_one bytes r s (of_text {e} f) (of_pred t {q} x g) = absurd (no_fault bytes t x f)
-refused_one bytes r s (of_pred t {q} x f) (of_text {e} g) = absurd (no_fault bytes t x g)
-refused_one bytes r s (of_pred t {q} x f) (of_pred u {o} y g) = preds_one u.preds q o (subst (λ (v : TableOf). IsFirstFault v.preds q) (one_table bytes t u x y) f) g
+refused_one bytes r s (of_text {e} f) (of_text {e = g} h) = ap refusal_of (one_fault bytes f h)
+refused_one bytes r s (of_text {e} f) (of_pred t {r = q} x g) = absurd (no_fault bytes t x f)
+refused_one bytes r s (of_pred t {r = q} x f) (of_text {e} g) = absurd (no_fault bytes t x g)
+refused_one bytes r s (of_pred t {r = q} x f) (of_pred u {r = o} y g) = preds_one u.preds q o (subst (λ (v : TableOf). IsFirstFault v.preds q) (one_table bytes t u x y) f) g
 
 -- and not accepted
 pub accepted_alone : (bytes : List ℕ) (t : TableOf) (r : Refusal) → Accepted bytes t → IsRefusedFor bytes r → ⊥
 accepted_alone bytes t r a (of_text {e} f) = no_fault bytes t a.text f
-accepted_alone bytes t r a (of_pred u {q} x f) = no_preds t.preds q a.sound (subst (λ (v : TableOf). IsFirstFault v.preds q) (one_table bytes u t x a.text) f)
+accepted_alone bytes t r a (of_pred u {r = q} x f) = no_preds t.preds q a.sound (subst (λ (v : TableOf). IsFirstFault v.preds q) (one_table bytes u t x a.text) f)
 
 pub refusal_unaccepted : (bytes : List ℕ) (r : Refusal) → IsRefusal bytes r → IsUnaccepted bytes r
 refusal_unaccepted bytes r (inl f) t a = absurd (accepted_alone bytes t r a f)

@@ -1,6 +1,7 @@
 -- What a source is compiled to: the program and the stage count of each predicate.
 use Rattle.std.specs.Prelude.{◌≡◌, ℕ, ◌+◌, ◌<◌, ◌^◌, List, [], ◌∷◌, length, map, slice_get, Option, Some, None, position, bytes_eq}
 use Rattle.ln_tree.specs.declared.pred.Pred.{Pred}
+use Rattle.ln_tree.specs.declared.table.Table.{Table}
 use Rattle.ln_tree.specs.Formula.{tree}
 use Rattle.ln_tree.specs.Names.{name_bytes}
 use Rattle.ln_tree.specs.Table.{PredOf}
@@ -14,12 +15,9 @@ use Rattle.ln_lower.specs.Nodes.{IsNodeOf, PushNodes, pushed_by}
 use Rattle.ln_compile.specs.Accepted.{root_of}
 use Rattle.ln_compile.specs.Carried.{Carries}
 
--- block 0 has no exponents and is made from the source's own lets and root, with bounds and widths: what its operations push are polynomials of their nodes, each bound is exactly its operation over M, and each width the least. With the filter it has fewer than 2^21 operations
-pub record BeginsWith (p : PredOf) (part : Part) : Type 0 where
-  pub block : Code
-  pub first : slice_get part.blocks 0 ≡ Some block
+-- the block has no exponents and is made from the source's own lets and root, with bounds and widths: what its operations push are polynomials of their nodes, each bound is exactly its operation over M, and each width the least
+pub record IsOwn (p : PredOf) (block : Code) : Type 0 where
   pub plain : block.exps ≡ []
-  pub short : ops_in_filter part.filter + length block.ops < 2 ^ 21
   pub lets : List Typed
   pub of_lets : map untyped lets ≡ map (tree p.vars) p.lets
   pub root : Typed
@@ -27,6 +25,13 @@ pub record BeginsWith (p : PredOf) (part : Part) : Type 0 where
   pub exact_lets : AreExact p.vars [] lets
   pub exact_root : IsExact p.vars lets root
   pub nodes : PushNodes (IsNodeOf lets root) (pushed_by p.vars block)
+
+-- block 0 is the source's own; with the filter it has fewer than 2^21 operations
+pub record BeginsWith (p : PredOf) (part : Part) : Type 0 where
+  pub block : Code
+  pub first : slice_get part.blocks 0 ≡ Some block
+  pub own : IsOwn p block
+  pub short : ops_in_filter part.filter + length block.ops < 2 ^ 21
 
 -- the part is the program of the predicate: it is over the predicate's variables, without a filter; it carries the predicate's root, with the lets in place of their names; it begins with the source's own tree
 pub record IsProgramOf (p : PredOf) (part : Part) : Type 0 where
@@ -67,3 +72,9 @@ IsStageCountAt ps i n = (p : PredOf) → slice_get ps i ≡ Some p → IsStageCo
 -- the number of the first predicate of a name
 abbrev pub number_of : List ℕ → List Pred → Option ℕ
 number_of name preds = position (λ p. bytes_eq (name_bytes p.name) name) preds
+
+-- a compiled source: its table, its programs and its stage counts
+pub record CompiledOf : Type 0 where
+  pub table : Table
+  pub programs : List Part
+  pub counts : List ℕ

@@ -1,48 +1,110 @@
 // The blocks of a predicate.
-ghost use Rattle.std.specs.Prelude.{◌≡◌, ◌≢◌, ◌≤◌, ◌+◌, ◌*◌, All, [], List, ℕ, length, map, IfOk};
+ghost use Rattle.std.specs.Prelude.{◌≡◌, ◌+◌, ◌*◌, ◌<◌, ◌≤◌, ℕ, All, [], None, length, map, slice_index, slice_index_or, IfOk, OnOk};
+ghost use Rattle.ln_algebra.specs.Vector.{total_degree, zeros};
+ghost use Rattle.ln_algebra.specs.Weights.{weighted_sum};
+ghost use Rattle.ln_tree.specs.Exps.{IsAbove, IsRising, vector};
+ghost use Rattle.ln_tree.specs.Formula.{formula};
+ghost use Rattle.ln_tree.specs.Table.{pred_of};
+ghost use Rattle.ln_bound.specs.Light.{AreLight, most, node_weights, weighed_pred};
+ghost use Rattle.ln_bound.specs.Value.{weights};
+ghost use Rattle.ln_order.specs.Sites.{site_of};
+ghost use Rattle.ln_poly.specs.Expansion.{IsNormal};
+ghost use Rattle.ln_poly.specs.Sparse.{AreBelow, IsPoly, Sparse, terms_of};
+ghost use Rattle.ln_stage.specs.Lists.{covering};
+ghost use Rattle.ln_compile.specs.Accepted.{root_of, weighed_of};
+ghost use Rattle.ln_compile.specs.Compiled.{IsOwn};
+ghost use Rattle.ln_compile.specs.Derived.{IsDerivative};
+ghost use Rattle.ln_compile.specs.Made.{AreBlocksOf, IsBlockOf};
 
 use ln_base::{NoMemory, Seq};
-use ln_bound::FittedPred;
+use ln_bound::Weights;
+use ln_bound::size::size;
 use ln_code::Block;
 use ln_lower::lower::lower;
 use ln_nest::nest;
 use ln_poly::{Poly, derive};
 use ln_stage::Stages;
-use ln_tree::{Exps, Shape};
+use ln_tree::{Exps, Pred, Shape};
 use std::alloc::Global;
 
 // The scaled derivative by these exponents, variable by variable.
-fn derived(alloc: Global, f: &Poly, s: &Shape, a: &Exps) -> Result<Poly, NoMemory> {
+fn derived(alloc: Global, f: &Poly, s: &Shape, a: &Exps) -> Result<Poly, NoMemory>
+    requires form { IsPoly f.now }
+    requires below { AreBelow (length s.now.vars) f.now }
+    requires weight { weighted_sum (weights s.now.vars) (terms_of (length s.now.vars) f.now) ≤ most }
+    requires exps { IsAbove a.now (length s.now.vars) }
+    ensures derivative { IfOk result (IsDerivative (length s.now.vars) f.now a.now) }
+    ensures rising { OnOk result (IsRising a.now) }
+{
     let mut h = f.copy(alloc)?;
-    'pairs: for p in a.pairs() {
+    let pairs = a.pairs();
+    'pairs: for p in pairs {
         h = derive(alloc, &h, s, p.0, p.1)?;
     }
     Ok(h)
 }
 
 // The block of a derivative, from its nested form.
-fn derivative_block(alloc: Global, f: &Poly, s: &Shape, a: &Exps) -> Result<Block, NoMemory> {
+fn derivative_block(alloc: Global, f: &Poly, s: &Shape, a: &Exps) -> Result<Block, NoMemory>
+    requires form { IsPoly f.now }
+    requires below { AreBelow (length s.now.vars) f.now }
+    requires weight { weighted_sum (weights s.now.vars) (terms_of (length s.now.vars) f.now) ≤ most }
+    requires degrees { All (λ t. total_degree (vector (length s.now.vars) t.0) ≤ 126) f.now }
+    requires exps { IsAbove a.now (length s.now.vars) }
+    requires sites { (v : ℕ) → site_of s.now.vars v ≡ None → slice_index (vector (length s.now.vars) a.now) v ≡ 0 }
+    ensures exps { IfOk result (λ b. b.exps ≡ a.now) }
+    ensures block { IfOk result (IsBlockOf s.now.vars f.now) }
+    ensures few { IfOk result (λ b. length b.ops ≤ 4096 * covering (length s.now.vars) f.now (vector (length s.now.vars) a.now) + 68) }
+{
     let h = derived(alloc, f, s, a)?;
     let t = nest(alloc, &h, s)?;
-    lower(alloc, a, s, &t, &Seq::new(alloc))
+    let block = lower(alloc, a, s, &t, &Seq::new(alloc))?;
+    Ok(block)
 }
 
 // The block of the source's own tree with its lets.
-fn first_block(alloc: Global, p: &FittedPred) -> Result<Block, NoMemory> {
-    lower(alloc, &Exps::new(alloc), &p.shape, &p.root, &p.lets)
+fn first_block(alloc: Global, p: &Pred, w: &Weights) -> Result<Block, NoMemory>
+    requires weights { w.now ≡ node_weights (weighed_pred p.now.shape.vars (map formula p.now.lets) (formula p.now.root)) }
+    requires light { AreLight (weighed_of (pred_of p.now)) }
+    ensures own { IfOk result (IsOwn (pred_of p.now)) }
+    ensures block { IfOk result (λ b. (f : Sparse) → IsNormal (length p.now.shape.vars) (root_of (pred_of p.now)) f → IsBlockOf p.now.shape.vars f b) }
+    ensures small { IfOk result (λ b. length b.ops ≤ 524352) }
+{
+    let sized = size(alloc, p, w)?;
+    let block = lower(
+        alloc,
+        &Exps::new(alloc),
+        &p.shape,
+        &sized.root,
+        &sized.lets,
+    )?;
+    Ok(block)
 }
 
-// The blocks of the stages: the first from the source's own tree, each other from its derivative.
+/// The blocks of a predicate's stages: the first from the source's own tree, each other from its derivative.
 pub(crate) fn blocks(
     alloc: Global,
-    p: &FittedPred,
+    p: &Pred,
+    w: &Weights,
     f: &Poly,
     st: &Stages,
-) -> Result<Seq<Block>, NoMemory> {
+) -> Result<Seq<Block>, NoMemory>
+    requires weights { w.now ≡ node_weights (weighed_pred p.now.shape.vars (map formula p.now.lets) (formula p.now.root)) }
+    requires light { AreLight (weighed_of (pred_of p.now)) }
+    requires normal { IsNormal (length p.now.shape.vars) (root_of (pred_of p.now)) f.now }
+    requires weight { weighted_sum (weights p.now.shape.vars) (terms_of (length p.now.shape.vars) f.now) ≤ most }
+    requires degrees { All (λ t. total_degree (vector (length p.now.shape.vars) t.0) ≤ 126) f.now }
+    requires first { (0 < length st.now.exps) × (vector (length p.now.shape.vars) (slice_index_or st.now.exps 0 []) ≡ zeros (length p.now.shape.vars)) }
+    requires below { All (λ e. IsAbove e (length p.now.shape.vars)) st.now.exps }
+    requires sites { All (λ e. (v : ℕ) → site_of p.now.shape.vars v ≡ None → slice_index (vector (length p.now.shape.vars) e) v ≡ 0) st.now.exps }
+    ensures { IfOk result (AreBlocksOf (pred_of p.now) f.now st.now.exps) }
+{
     let mut blocks = Seq::new(alloc);
-    blocks.push(first_block(alloc, p)?)?;
+    let first = first_block(alloc, p, w)?;
+    blocks.push(first)?;
     'blocks: for i in 1..st.blocks() {
-        blocks.push(derivative_block(alloc, f, &p.shape, st.exps(i))?)?;
+        let block = derivative_block(alloc, f, &p.shape, st.exps(i))?;
+        blocks.push(block)?;
     }
     Ok(blocks)
 }

@@ -17,7 +17,6 @@ ghost use Rattle.ln_compile.specs.Compiled.{IsProgramOf};
 use crate::blocks::blocks;
 use ln_base::{NoMemory, Seq};
 use ln_bound::Weights;
-use ln_bound::size::size;
 use ln_code::Program;
 use ln_order::all_orders;
 use ln_poly::Poly;
@@ -60,8 +59,7 @@ pub(crate) fn program(
     ensures name { IfOk result (λ c. c.shape.name ≡ p.now.shape.name) }
     ensures small { IfOk result (λ c. length c.blocks ≤ 65536) }
 {
-    let sized = size(alloc, p, w)?;
-    let blocks = blocks(alloc, &sized, f, st)?;
+    let blocks = blocks(alloc, p, w, f, st)?;
     let lists = lists(alloc, p.shape.sites, st)?;
     let shape = p.shape.copy(alloc)?;
     Ok(Program::join(shape, None, blocks, lists))

@@ -12,18 +12,49 @@ use ln_code::Programs;
 use ln_parse::parse;
 use ln_tree::Table;
 use std::alloc::Global;
+use std::marker::Model;
 
-/// What a source is compiled to: its table, each predicate of which is accepted, and one program for each predicate, in order.
+/// What a source is compiled to: its table, each predicate of which is accepted, and one program and one stage count for each
+/// predicate, in order.
 #[derive(Drop)]
 pub struct Compiled {
-    pub table: Table,
-    pub programs: Programs,
+    table: Table,
+    programs: Programs,
     counts: Seq<u64>,
-    ghost are: { AreProgramsOf (map pred_of table.preds) programs },
-    ghost counted: { AreStageCounts (map pred_of table.preds) counts },
+}
+
+impl Model for Compiled {
+    ghost use Rattle.std.specs.Prelude.{map};
+    ghost use Rattle.std.specs.Coded.{codes};
+    ghost use Rattle.ln_tree.specs.contracts.expr.Node as node;
+    ghost use Rattle.ln_tree.specs.Table.{pred_of};
+    ghost use Rattle.ln_compile.specs.Compiled.{AreProgramsOf, AreStageCounts, CompiledOf};
+
+    ghost Value = { CompiledOf };
+
+    ghost coded = { Prim.hlevel (codes, node.the_row.coded) };
+
+    ghost view = { λ c. record { table = c.table; programs = c.programs; counts = c.counts } };
+
+    ghost invariant = { λ c. record { are : AreProgramsOf (map pred_of c.table.preds) c.programs; counted : AreStageCounts (map pred_of c.table.preds) c.counts } };
 }
 
 impl Compiled {
+    /// The table of the source.
+    pub fn table(&self) -> &Table
+        ensures { result.now ≡ self.now.table }
+    {
+        &self.table
+    }
+
+    /// The programs of its predicates, in order.
+    pub fn programs(&self) -> &Programs
+        ensures value { result.now ≡ self.now.programs }
+        ensures kept { AreProgramsOf (map pred_of self.now.table.preds) self.now.programs }
+    {
+        &self.programs
+    }
+
     /// The number of the predicate of a name, from 0; none where no predicate has it. It takes no memory.
     pub fn find(&self, name: &str) -> Option<usize>
         ensures { result ≡ number_of name.now self.now.table.preds }

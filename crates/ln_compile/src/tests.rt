@@ -19,7 +19,7 @@ fn compiled(rt: &impl Abort, alloc: Global, source: &str) -> Result<Compiled, Re
 #[test]
 fn the_orientation_is_compiled_and_found(rt: HostRuntime) -> Result<(), Fail> {
     let c = compiled(&rt, rt.alloc(), ORIENT)?;
-    assert_eq!(rt; c.table.preds.len(), 1);
+    assert_eq!(rt; c.programs().as_slice().len(), 1);
     assert_eq!(rt; c.find("orient"), Some(0));
     assert_eq!(rt; c.find("x"), None);
     Ok(())

@@ -1,0 +1,27 @@
+-- Blocks as they are made.
+use Rattle.std.specs.Prelude.{◌≡◌, ℕ, ◌+◌, ◌*◌, ◌≤◌, All, List, [], length, map, slice_get, Some}
+use Rattle.ln_tree.specs.declared.shape.VarInfo.{VarInfo}
+use Rattle.ln_tree.specs.Exps.{Pairs, vector}
+use Rattle.ln_tree.specs.Table.{PredOf}
+use Rattle.ln_poly.specs.Sparse.{Sparse}
+use Rattle.ln_stage.specs.Lists.{all_covering, covering}
+use Rattle.ln_code.specs.Kept.{AreOfSites, FollowsRules}
+use Rattle.ln_code.specs.Part.{Code, ops_in_blocks}
+use Rattle.ln_compile.specs.Carried.{CarriesDerivative}
+use Rattle.ln_compile.specs.Compiled.{IsOwn}
+
+-- the block follows the rules, has exponents of coordinates of sites, and computes the scaled derivative of f by them
+pub record IsBlockOf (vars : List VarInfo) (f : Sparse) (c : Code) : Type 0 where
+  pub rules : FollowsRules vars c
+  pub of_sites : AreOfSites vars c.exps
+  pub carries : CarriesDerivative vars f c
+
+-- blocks for these exponents, with at most 524,352 operations in the first and in each other 4,096 for each term that covers its exponents and 68 more
+pub record AreBlocksOf (p : PredOf) (f : Sparse) (exps : List Pairs) (blocks : List Code) : Type 0 where
+  pub own : Code
+  pub first : slice_get blocks 0 ≡ Some own
+  pub is_own : IsOwn p own
+  pub small : length own.ops ≤ 524352
+  pub vectors : map (λ c. vector (length p.vars) c.exps) blocks ≡ map (vector (length p.vars)) exps
+  pub each : All (IsBlockOf p.vars f) blocks
+  pub few : ops_in_blocks blocks ≤ 524352 + 4096 * all_covering (length p.vars) f (map (vector (length p.vars)) exps) + 68 * length exps
