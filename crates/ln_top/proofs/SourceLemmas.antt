@@ -1,7 +1,6 @@
 -- What a refused source stops with.
 use Rattle.std.proofs.Common.{◌≡◌, inl, inr, ℕ, List, Option, Some, None, refl}
 use Rattle.ln_compile.specs.declared.refusal.Refusal.{Refusal}
-use Rattle.ln_compile.specs.declared.refusal.Refusal.TheVariants.{NoMemory}
 use Rattle.ln_compile.specs.Refused.{IsRefusal, IsRefusedFor}
 use Rattle.ln_top.specs.declared.stop.Refusal as top
 use Rattle.ln_top.specs.Source.{StopsSource, stop_of, told_of}

@@ -1,5 +1,5 @@
 -- The lines of `check`: the stage count of each predicate.
-use Rattle.std.specs.Prelude.{◌≡◌, ℕ, List, [], ◌∷◌, ◌++◌, codes, decimal}
+use Rattle.std.specs.Prelude.{ℕ, List, [], ◌∷◌, ◌++◌, codes, decimal}
 use Rattle.ln_tree.specs.Table.{PredOf}
 use Rattle.ln_compile.specs.Compiled.{IsStageCount}
 use Rattle.ln_top.specs.Line.{line}

@@ -1,5 +1,5 @@
 -- The signs that `run` prints are the perturbed signs.
-use Rattle.std.specs.Prelude.{◌≡◌, ◌≢◌, ℕ, List, [], ◌∷◌, ◌++◌, length, All, Option, Some, None, IfSome, Ok}
+use Rattle.std.specs.Prelude.{◌≡◌, ◌≢◌, ℕ, List, [], ◌∷◌, ◌++◌, length, All, Option, None, Ok}
 use Rattle.ln_base.specs.Outside.{Shelf, Shown, appended}
 use Rattle.ln_base.specs.declared.outside.Port.TheVariants.{Out}
 use Rattle.ln_base.specs.declared.sign.Sign.{Sign}

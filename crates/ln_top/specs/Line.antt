@@ -38,7 +38,7 @@ stop_text names (Index k) = codes "! index " ++ slice_index_or names k []
 
 -- a verdict's sign, a space and its decider; or why there is no row
 abbrev pub said_text : List (List ℕ) → Result Verdict RowStop → List ℕ
-said_text names (Ok v) = sign_text v.sign ++ codes " " ++ decider_text v.by
+said_text names (Ok v) = sign_text v.sign ++ 32 ∷ decider_text v.by
 said_text names (Err stop) = stop_text names stop
 
 -- what a predicate says of a record: a verdict that the record's row is owed, or why the record is no row

@@ -30,18 +30,18 @@ fn add_count(text: &mut Vec<u8>, p: &Pred, count: u64) -> Result<(), NoMemory>
 }
 
 // The lines of the predicates.
-#[tactic(auto, using(crate::proofs::CountLemmas::counts_start))]
 fn counts(alloc: Global, c: &Compiled) -> Result<Vec<u8>, NoMemory>
     ensures { IfOk result (λ v. AreCounts (map pred_of c.now.table.preds) v.items) }
 {
     let mut text = Vec::new(alloc);
-    'preds: for (i, p) in c.table.preds.as_slice().iter().enumerate() {
+    'preds: for (i, p) in c.table().preds.as_slice().iter().enumerate() {
         add_count(&mut text, p, c.stage_count(i))?;
     }
     Ok(text)
 }
 
 /// Puts the lines of the predicates of a compiled source, with their stage counts, all of them made before the first is put.
+#[tactic(auto, using(crate::proofs::WorkLemmas::counts_owed))]
 pub fn check<C: Console>(alloc: Global, con: &mut C, c: &Compiled) -> Status
     ensures settled { IsSettled result → CheckOwed (map pred_of c.now.table.preds) result (C.shown con.old) (C.shown con.new) }
     ensures write { result ≡ Status.Write → Rose (C.faults con.old) (C.faults con.new) }

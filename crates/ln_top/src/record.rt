@@ -1,8 +1,9 @@
 // The line of a record.
-ghost use Rattle.std.specs.Prelude.{◌≡◌, ◌≤◌, ◌<◌, ◌++◌, ◌∷◌, [], ◌×◌, IfOk, IfErr, OnOk, slice_index_or, decimal, true};
+ghost use Rattle.std.specs.Prelude.{◌≡◌, ◌≤◌, ◌<◌, ◌++◌, ◌∷◌, [], IfOk, IfErr, OnOk, slice_index_or, decimal, true};
 ghost use Rattle.csv.specs.Records.{fields_of};
 ghost use Rattle.ln_tree.specs.Table.{pred_fits, pred_of};
 ghost use Rattle.ln_rows.specs.Columns.{column_names};
+ghost use Rattle.ln_code.specs.Kept.{IsProgram};
 ghost use Rattle.ln_code.specs.Memory.{MadeFor};
 ghost use Rattle.ln_compile.specs.Compiled.{IsProgramOf};
 ghost use Rattle.ln_base.specs.Outside.{Rose, appended};
@@ -74,7 +75,7 @@ fn add_column(
     target: Target<'_>,
     k: u8,
 ) -> Result<(), NoMemory>
-    ensures { IfOk result (λ x. text.new.items ≡ text.old.items ++ front.now ++ slice_index_or (column_names target.table.now.sites target.table.now.params target.pred.now.args) k []) }
+    ensures { IfOk result (λ x. text.new.items ≡ text.old.items ++ front.now ++ slice_index_or (column_names target.entry.table.now.sites target.entry.table.now.params target.entry.pred.now.args) k []) }
 {
     let name = column(alloc, target.table, target.pred, usize::from(k))?;
     add(text, front)?;
@@ -88,7 +89,7 @@ fn add_stop(
     target: Target<'_>,
     stop: RowStop,
 ) -> Result<(), NoMemory>
-    ensures { IfOk result (λ x. text.new.items ≡ text.old.items ++ stop_text (column_names target.table.now.sites target.table.now.params target.pred.now.args) stop) }
+    ensures { IfOk result (λ x. text.new.items ≡ text.old.items ++ stop_text (column_names target.entry.table.now.sites target.entry.table.now.params target.entry.pred.now.args) stop) }
 {
     match stop {
         RowStop::Fields => add(text, b"! fields"),
@@ -105,7 +106,7 @@ fn write_line(
     target: Target<'_>,
     said: Result<Verdict, RowStop>,
 ) -> Result<(), NoMemory>
-    ensures { IfOk result (λ x. text.new.items ≡ line (said_text (column_names target.table.now.sites target.table.now.params target.pred.now.args) said)) }
+    ensures { IfOk result (λ x. text.new.items ≡ line (said_text (column_names target.entry.table.now.sites target.entry.table.now.params target.entry.pred.now.args) said)) }
 {
     text.clear();
     match said {
@@ -115,15 +116,24 @@ fn write_line(
     add(text, b"\n")
 }
 
+// A program with what its type keeps.
+fn kept(program: &Program) -> &Program
+    ensures same { result.now ≡ program.now }
+    ensures kept { IsProgram program.now }
+{
+    let _blocks = program.blocks();
+    program
+}
+
 // What the predicate says of a record: the verdict on its row, or why it is no row.
 fn verdict_of(target: Target<'_>, s: &mut Scratch, fields: &ByteRecord) -> Result<Verdict, RowStop>
     requires program { IsProgramOf (pred_of target.pred.now) target.program.now }
     requires made { MadeFor target.program.now s.old }
-    ensures says { Says (pred_of target.pred.now) (fields_of fields.now) result }
-    ensures made { MadeFor target.program.now s.new }
+    ensures says { Says (pred_of target.entry.pred.now) (fields_of fields.now) result }
+    ensures made { MadeFor target.entry.program.now s.new }
 {
     let row = row(target.pred, fields)?;
-    Ok(run_row(target.program, s, &row))
+    Ok(run_row(kept(target.program), s, &row))
 }
 
 // Puts a line.
@@ -158,9 +168,9 @@ pub fn put_record<C: Console>(
 ) -> Result<bool, Status>
     requires program { IsProgramOf (pred_of target.pred.now) target.program.now }
     requires made { MadeFor target.program.now s.old }
-    ensures row { IfOk result (λ right. right ≡ is_row (pred_of target.pred.now) (fields_of fields.now)) }
-    ensures shown { OnOk result (PutsLine (pred_of target.pred.now) (column_names target.table.now.sites target.table.now.params target.pred.now.args) (fields_of fields.now) (C.shown con.old) (C.shown con.new)) }
-    ensures made { MadeFor target.program.now s.new }
+    ensures row { IfOk result (λ right. right ≡ is_row (pred_of target.entry.pred.now) (fields_of fields.now)) }
+    ensures shown { OnOk result (PutsLine (pred_of target.entry.pred.now) (column_names target.entry.table.now.sites target.entry.table.now.params target.entry.pred.now.args) (fields_of fields.now) (C.shown con.old) (C.shown con.new)) }
+    ensures made { MadeFor target.entry.program.now s.new }
     ensures err { IfErr result (λ s. StopsWork s (C.faults con.old) (C.faults con.new)) }
     ensures later { C.faults con.old ≤ C.faults con.new }
 {

@@ -1,6 +1,8 @@
 // The top call.
-ghost use Rattle.std.specs.Prelude.{◌≡◌, ◌≢◌, ◌⊎◌, ◌≤◌, ◌<◌, ℕ, List, Some, None, length, map, string_bytes, IfSome, IfOk, IfErr};
+ghost use Rattle.std.specs.Prelude.{◌≡◌, ◌≢◌, ◌⊎◌, ◌≤◌, ◌<◌, ℕ, List, Some, None, length, map, string_bytes, slice_get, IfSome, IfOk, IfErr};
 ghost use Rattle.ln_base.specs.Outside.{Rose, IsAbsent, bytes_of};
+ghost use Rattle.ln_tree.specs.Table.{pred_of};
+ghost use Rattle.ln_compile.specs.Compiled.{IsProgramOf};
 ghost use Rattle.ln_top.specs.Source.{IsAccepted, StopsSource};
 ghost use Rattle.ln_top.specs.Said.{IsSettled, SaysError};
 ghost use Rattle.ln_top.specs.Answer.{most_source, most_rows, FileStop, OfFiles, SourceStops, IsSourceOf, IsMissing, Owed, SaysStop};
@@ -84,12 +86,7 @@ fn source<F: Files>(alloc: Global, files: &mut F, name: &str) -> Result<Compiled
 }
 
 // Checks a source file.
-fn check_file<F: Files, C: Console>(
-    alloc: Global,
-    files: &mut F,
-    con: &mut C,
-    name: &str,
-) -> Status
+fn check_file<F: Files, C: Console>(alloc: Global, files: &mut F, con: &mut C, name: &str) -> Status
     ensures exact { IsSettled result → IfSome (F.told files.old) (λ shelf. (words : List (List ℕ)) → command_of words ≡ Some (Check name.now) → Owed words shelf result (C.shown con.old) (C.shown con.new)) }
     ensures line { SaysLine result (C.shown con.old) (C.shown con.new) }
     ensures usage { result ≢ Status.Usage }
@@ -102,17 +99,26 @@ fn check_file<F: Files, C: Console>(
     }
 }
 
+// The predicate with this number.
+fn target(c: &Compiled, i: usize) -> Target<'_>
+    requires { i < length c.now.table.preds }
+    ensures table { result.table.now ≡ c.now.table }
+    ensures pred { slice_get c.now.table.preds i ≡ Some result.pred.now }
+    ensures program { IsProgramOf (pred_of result.pred.now) result.program.now }
+{
+    Target {
+        table: c.table(),
+        pred: &c.table().preds.as_slice()[i],
+        program: &c.programs().as_slice()[i],
+    }
+}
+
 // Runs a predicate on the records of a rows file.
-fn run_file<F: Files, C: Console>(
-    alloc: Global,
-    files: &mut F,
-    con: &mut C,
-    run: Run<'_>,
-) -> Status
-    ensures exact { IsSettled result → IfSome (F.told files.old) (λ shelf. (words : List (List ℕ)) → command_of words ≡ Some (Rows (record { file = run.file.now; name = run.name.now; rows = run.rows.now })) → Owed words shelf result (C.shown con.old) (C.shown con.new)) }
+fn run_file<F: Files, C: Console>(alloc: Global, files: &mut F, con: &mut C, run: Run<'_>) -> Status
+    ensures exact { IsSettled result → IfSome (F.told files.old) (λ shelf. (words : List (List ℕ)) → command_of words ≡ Some (Rows (record { file = run.entry.file.now; name = run.entry.name.now; rows = run.entry.rows.now })) → Owed words shelf result (C.shown con.old) (C.shown con.new)) }
     ensures line { SaysLine result (C.shown con.old) (C.shown con.new) }
     ensures usage { result ≢ Status.Usage }
-    ensures read { result ≡ Status.Read → (words : List (List ℕ)) → command_of words ≡ Some (Rows (record { file = run.file.now; name = run.name.now; rows = run.rows.now })) → Rose (F.faults files.old) (F.faults files.new) ⊎ IsMissing words (F.told files.old) }
+    ensures read { result ≡ Status.Read → (words : List (List ℕ)) → command_of words ≡ Some (Rows (record { file = run.entry.file.now; name = run.entry.name.now; rows = run.entry.rows.now })) → Rose (F.faults files.old) (F.faults files.new) ⊎ IsMissing words (F.told files.old) }
     ensures write { result ≡ Status.Write → Rose (C.faults con.old) (C.faults con.new) }
 {
     let c = match source(alloc, files, run.file) {
@@ -122,11 +128,7 @@ fn run_file<F: Files, C: Console>(
     let Some(i) = c.find(run.name) else {
         return say(alloc, con, Stop::NoPredicate);
     };
-    let target = Target {
-        table: &c.table,
-        pred: &c.table.preds.as_slice()[i],
-        program: &c.programs.as_slice()[i],
-    };
+    let target = target(&c, i);
     match file(alloc, files, run.rows, ROWS_LIMIT) {
         Ok(rows) => work(alloc, con, target, &rows),
         Err(stop) => say(alloc, con, stop),

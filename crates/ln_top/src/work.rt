@@ -25,7 +25,7 @@ fn take_header(
     rows: &mut Rows,
     record: &mut ByteRecord,
 ) -> Result<bool, NoMemory>
-    ensures { IfOk result (λ right. HeaderIs (column_names target.table.now.sites target.table.now.params target.pred.now.args) rows.old rows.new right) }
+    ensures { IfOk result (λ right. HeaderIs (column_names target.entry.table.now.sites target.entry.table.now.params target.entry.pred.now.args) rows.old rows.new right) }
 {
     if rows.next(record)? {
         Ok(header(target.table, target.pred, record))
@@ -52,8 +52,8 @@ fn put_records<C: Console>(
 ) -> Result<bool, Status>
     requires program { IsProgramOf (pred_of target.pred.now) target.program.now }
     requires made { MadeFor target.program.now s.old }
-    ensures good { IfOk result (λ good. good ≡ all_rows (pred_of target.pred.now) rows.old) }
-    ensures shown { OnOk result (PutsLines (pred_of target.pred.now) (column_names target.table.now.sites target.table.now.params target.pred.now.args) rows.old (C.shown con.old) (C.shown con.new)) }
+    ensures good { IfOk result (λ good. good ≡ all_rows (pred_of target.entry.pred.now) rows.old) }
+    ensures shown { OnOk result (PutsLines (pred_of target.entry.pred.now) (column_names target.entry.table.now.sites target.entry.table.now.params target.entry.pred.now.args) rows.old (C.shown con.old) (C.shown con.new)) }
     ensures err { IfErr result (λ s. StopsWork s (C.faults con.old) (C.faults con.new)) }
     ensures later { C.faults con.old ≤ C.faults con.new }
 {
@@ -83,7 +83,7 @@ fn put_error<C: Console>(con: &mut C, text: &[u8], status: Status) -> Status
 /// Puts a line for each record behind the header; or refuses the header.
 pub fn work<C: Console>(alloc: Global, con: &mut C, target: Target<'_>, bytes: &[u8]) -> Status
     requires { IsProgramOf (pred_of target.pred.now) target.program.now }
-    ensures settled { IsSettled result → WorkOwed (pred_of target.pred.now) (column_names target.table.now.sites target.table.now.params target.pred.now.args) (records_in bytes.now) result (C.shown con.old) (C.shown con.new) }
+    ensures settled { IsSettled result → WorkOwed (pred_of target.entry.pred.now) (column_names target.entry.table.now.sites target.entry.table.now.params target.entry.pred.now.args) (records_in bytes.now) result (C.shown con.old) (C.shown con.new) }
     ensures write { result ≡ Status.Write → Rose (C.faults con.old) (C.faults con.new) }
     ensures kind { OfWork result }
 {
@@ -97,14 +97,7 @@ pub fn work<C: Console>(alloc: Global, con: &mut C, target: Target<'_>, bytes: &
     let Ok(mut scratch) = Scratch::new(alloc, target.program) else {
         return Status::Memory;
     };
-    match put_records(
-        alloc,
-        con,
-        target,
-        &mut scratch,
-        &mut rows,
-        &mut record,
-    ) {
+    match put_records(alloc, con, target, &mut scratch, &mut rows, &mut record) {
         Ok(true) => Status::Done,
         Ok(false) => Status::Rows,
         Err(status) => status,
