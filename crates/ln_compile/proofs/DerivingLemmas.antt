@@ -31,7 +31,7 @@ use Rattle.ln_compile.proofs.FewestLemmas.{EachHas, each-has, shortest}
 use Rattle.ln_compile.proofs.CombinedLemmas.{AreApart, combined, everywhere, once, once-derived, over-derived}
 
 -- ---- no variable
-vector-nil : (v n : ℕ) → exponents_from v n [] ≡ zeros n
+pub vector-nil : (v n : ℕ) → exponents_from v n [] ≡ zeros n
 vector-nil v zero = refl
 vector-nil v (suc n) = ap (λ z. 0 ∷ z) (vector-nil (suc v) n)
 
@@ -137,7 +137,7 @@ deriving-end n f h ps a i l e d = subst (λ (q : Pairs). IsDerivative n f q h) (
 
 -- ---- what a derivative is
 -- it has a term for each that covers a
-length-derived : (n : ℕ) (f : Sparse) (a : List ℕ) → length (derived a (terms_of n f)) ≡ covering n f a
+pub length-derived : (n : ℕ) (f : Sparse) (a : List ℕ) → length (derived a (terms_of n f)) ≡ covering n f a
 length-derived n [] a = refl
 length-derived n (t ∷ f) a = by_case (covers (vector n t.0) a) refl (length-derived n f a) where
   ones : Bool → ℕ
@@ -184,12 +184,12 @@ module _ (n : ℕ) (f h : Sparse) (a : Pairs) (d : IsDerivative n f a h) where
 
   pub derivative-few : length h ≤ covering n f (vector n a)
   derivative-few =
-      let s : length (terms_of n h) ≤ length (derived (vector n a) (terms_of n f)) = shortest (terms_of n h) (derived (vector n a) (terms_of n f)) (collected n h d.form d.below) no-zero same in
+      let s : length (terms_of n h) ≤ length (derived (vector n a) (terms_of n f)) = shortest (terms_of n h) (derived (vector n a) (terms_of n f)) (once (terms_of n h) (collected n h d.form d.below)) no-zero same in
       omega (arith, s, length-map h (term_of n), length-derived n f (vector n a))
 
   pub derivative-degrees : (k : ℕ) → All (λ t. total_degree (vector n t.0) ≤ k) f → All (λ t. degree (vector n t.0) ≤ k) h
   derivative-degrees k z =
-      back h (each-has (λ m. total_degree m ≤ k) (terms_of n h) (derived (vector n a) (terms_of n f)) (collected n h d.form d.below) no-zero same (degrees-derived k (vector n a) (terms_of n f) (there f z))) where
+      back h (each-has (λ m. total_degree m ≤ k) (terms_of n h) (derived (vector n a) (terms_of n f)) (once (terms_of n h) (collected n h d.form d.below)) no-zero same (degrees-derived k (vector n a) (terms_of n f) (there f z))) where
         there : (g : Sparse) → All (λ t. total_degree (vector n t.0) ≤ k) g → EachHas (λ m. total_degree m ≤ k) (terms_of n g)
         there [] y = tt
         there (t ∷ g) y = (All-head (λ u. total_degree (vector n u.0) ≤ k) t g y, there g (All-tail (λ u. total_degree (vector n u.0) ≤ k) t g y))

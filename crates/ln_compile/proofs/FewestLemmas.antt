@@ -1,9 +1,10 @@
--- Of all lists of terms with the same coefficients a collected one without zeros has the fewest terms, and no others.
+-- Of all lists of terms with the same coefficients one with each vector once and without zeros has the fewest terms, and no others.
 use Rattle.std.proofs.Common.{◌≡◌, ℕ, ◌+◌, ◌≤◌, Bool, true, false, List, [], ◌∷◌, length, refl, ap, arith, ◌∙◌, sym, ◌⊎◌, inl, inr, if◌then◌else◌}
 use Rattle.std.specs.Prelude.{◌≢◌}
 use Rattle.std.proofs.Math.IntN.{ℤ, pos, ◌+ℤ◌}
 use Rattle.std.proofs.lemmas.Int.{ints}
-use Rattle.ln_algebra.specs.Terms.{IsCollected, Lacks, Term, factor_at, same_vector}
+use Rattle.ln_algebra.specs.Terms.{Term, factor_at, same_vector}
+use Rattle.ln_algebra.proofs.Weights.{Once}
 use Rattle.ln_algebra.proofs.Normal.{same_vector-is, same_vector-refl, without, without-other, without-same}
 use Rattle.ln_nest.specs.Lean.{HasNoZero}
 
@@ -12,12 +13,8 @@ abbrev pub EachHas : (List ℕ → Type 0) → List Term → Type 0
 EachHas P [] = Unit {0}
 EachHas P (t ∷ f) = P t.exponents × EachHas P f
 
-lacks-none : (f : List Term) (m : List ℕ) → Lacks f m → factor_at f m ≡ pos 0
-lacks-none [] m l = refl
-lacks-none (t ∷ f) m l = rw l.0 (omega (arith, ints, lacks-none f m l.1))
-
-first-factor : (t : Term) (f : List Term) → Lacks f t.exponents → factor_at (t ∷ f) t.exponents ≡ t.factor
-first-factor t f l = rw (same_vector-refl t.exponents) (omega (arith, ints, lacks-none f t.exponents l))
+first-factor : (t : Term) (f : List Term) → factor_at f t.exponents ≡ pos 0 → factor_at (t ∷ f) t.exponents ≡ t.factor
+first-factor t f l = rw (same_vector-refl t.exponents) (omega (arith, ints, l))
 
 no-more : (m : List ℕ) (g : List Term) → length (without m g) ≤ length g
 no-more m [] = omega arith
@@ -34,21 +31,21 @@ fewer m (t ∷ g) h = by_case (same_vector t.exponents m) h (no-more m g) (λ k.
   by_case true k l ih = omega (arith, l)
   by_case false k l ih = let r = ih (λ e. k (omega (arith, ints, e))) in omega (arith, r)
 
-rest-same : (t : Term) (f g : List Term) → Lacks f t.exponents → ((k : List ℕ) → factor_at (t ∷ f) k ≡ factor_at g k) → (k : List ℕ) → factor_at f k ≡ factor_at (without t.exponents g) k
+rest-same : (t : Term) (f g : List Term) → factor_at f t.exponents ≡ pos 0 → ((k : List ℕ) → factor_at (t ∷ f) k ≡ factor_at g k) → (k : List ℕ) → factor_at f k ≡ factor_at (without t.exponents g) k
 rest-same t f g l s k = by_case (same_vector t.exponents k) refl where
   by_case : (b : Bool) → same_vector t.exponents k ≡ b → factor_at f k ≡ factor_at (without t.exponents g) k
-  by_case true e = ap (factor_at f) (sym (same_vector-is t.exponents k e)) ∙ lacks-none f t.exponents l ∙ sym (without-same t.exponents g) ∙ ap (factor_at (without t.exponents g)) (same_vector-is t.exponents k e)
+  by_case true e = ap (factor_at f) (sym (same_vector-is t.exponents k e)) ∙ l ∙ sym (without-same t.exponents g) ∙ ap (factor_at (without t.exponents g)) (same_vector-is t.exponents k e)
   by_case false e =
       let q : (if same_vector t.exponents k then t.factor else pos 0) +ℤ factor_at f k ≡ factor_at g k = s k in
       let z : factor_at f k ≡ pos 0 +ℤ factor_at f k = omega (arith, ints) in
       z ∙ (rw e at q) ∙ sym (without-other t.exponents k g e)
 
-pub shortest : (f g : List Term) → IsCollected f → HasNoZero f → ((k : List ℕ) → factor_at f k ≡ factor_at g k) → length f ≤ length g
+pub shortest : (f g : List Term) → Once f → HasNoZero f → ((k : List ℕ) → factor_at f k ≡ factor_at g k) → length f ≤ length g
 shortest [] g c z s = omega arith
 shortest (t ∷ f) g c z s =
     let here : t.factor ≡ factor_at g t.exponents = sym (first-factor t f c.0) ∙ s t.exponents in
     let few : length (without t.exponents g) + 1 ≤ length g = fewer t.exponents g (λ e. z.0 (here ∙ e)) in
-    let ih = shortest f (without t.exponents g) c.1 z.1 (rest-same t f g c.0 s) in
+    let ih = shortest f (without t.exponents g) c.2 z.1 (rest-same t f g c.0 s) in
     omega (arith, few, ih)
 
 -- a vector whose coefficient isn't 0 is one of a term
@@ -67,8 +64,8 @@ without-has P m (t ∷ g) a = by_case (same_vector t.exponents m) (without-has P
   by_case false h = (a.0, h)
 
 -- what holds of the exponents of each term of one list holds of those of the collected one
-pub each-has : (P : List ℕ → Type 0) (f g : List Term) → IsCollected f → HasNoZero f → ((k : List ℕ) → factor_at f k ≡ factor_at g k) → EachHas P g → EachHas P f
+pub each-has : (P : List ℕ → Type 0) (f g : List Term) → Once f → HasNoZero f → ((k : List ℕ) → factor_at f k ≡ factor_at g k) → EachHas P g → EachHas P f
 each-has P [] g c z s a = tt
 each-has P (t ∷ f) g c z s a =
     let here : t.factor ≡ factor_at g t.exponents = sym (first-factor t f c.0) ∙ s t.exponents in
-    (some-has P g t.exponents a (λ e. z.0 (here ∙ e)), each-has P f (without t.exponents g) c.1 z.1 (rest-same t f g c.0 s) (without-has P t.exponents g a))
+    (some-has P g t.exponents a (λ e. z.0 (here ∙ e)), each-has P f (without t.exponents g) c.2 z.1 (rest-same t f g c.0 s) (without-has P t.exponents g a))

@@ -59,9 +59,6 @@ terms_stops k p at l f = inl (terms l f)
 pub zero_stops : (k : ℕ) (p : PredOf) (f : Sparse) → AreLight (weighed_of p) → HaveFewTerms (length p.vars) (expanded_of p) → IsNormal (length p.vars) (root_of p) f → f ≡ [] → StopsPred k p (Zero k p.at)
 zero_stops k p f l t n e = inl (zero_root l t (no-terms-zero (length p.vars) (root_of p) f n e))
 
-pub sound_pred : (p : PredOf) (f : Sparse) → AreLight (weighed_of p) → HaveFewTerms (length p.vars) (expanded_of p) → IsNormal (length p.vars) (root_of p) f → (f ≡ [] → ⊥) → IsSound p
-sound_pred p f l t n d = record { light = l; few = t; nonzero = λ z. d (zero-no-terms (length p.vars) (root_of p) f n z) }
-
 -- ---- the answers for a source
 pub text_refusal : (bytes : List ℕ) (e : ParseStop) → IsParseRefusal bytes e → IsRefusal bytes (refusal_of e)
 text_refusal bytes e (inl f) = inl (of_text f)

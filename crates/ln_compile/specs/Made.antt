@@ -6,9 +6,10 @@ use Rattle.ln_tree.specs.Table.{PredOf}
 use Rattle.ln_poly.specs.Sparse.{Sparse}
 use Rattle.ln_stage.specs.Lists.{all_covering, covering}
 use Rattle.ln_code.specs.Kept.{AreOfSites, FollowsRules}
-use Rattle.ln_code.specs.Part.{Code, ops_in_blocks}
+use Rattle.ln_code.specs.Part.{Code, Part, ops_in_blocks}
 use Rattle.ln_compile.specs.Carried.{CarriesDerivative}
-use Rattle.ln_compile.specs.Compiled.{IsOwn}
+use Rattle.ln_compile.specs.Compiled.{AreProgramsOf, AreStageCounts, IsOwn}
+use Rattle.ln_compile.specs.Accepted.{AreSound}
 
 -- the block follows the rules, has exponents of coordinates of sites, and computes the scaled derivative of f by them
 pub record IsBlockOf (vars : List VarInfo) (f : Sparse) (c : Code) : Type 0 where
@@ -25,3 +26,9 @@ pub record AreBlocksOf (p : PredOf) (f : Sparse) (exps : List Pairs) (blocks : L
   pub vectors : map (λ c. vector (length p.vars) c.exps) blocks ≡ map (vector (length p.vars)) exps
   pub each : All (IsBlockOf p.vars f) blocks
   pub few : ops_in_blocks blocks ≤ 524352 + 4096 * all_covering (length p.vars) f (map (vector (length p.vars)) exps) + 68 * length exps
+
+-- these predicates have no fault, and these are their programs and stage counts
+pub record AreBuilt (ps : List PredOf) (cs : List Part) (ns : List ℕ) : Type 0 where
+  pub sound : AreSound ps
+  pub programs : AreProgramsOf ps cs
+  pub counts : AreStageCounts ps ns

@@ -13,7 +13,7 @@ pub mod due;
 pub(crate) mod judge;
 pub mod laws;
 pub(crate) mod program;
-pub mod programs;
+pub(crate) mod programs;
 pub mod refusal;
 pub mod source;
 

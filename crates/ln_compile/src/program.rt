@@ -7,6 +7,7 @@ ghost use Rattle.ln_tree.specs.Formula.{formula};
 ghost use Rattle.ln_tree.specs.Table.{pred_of};
 ghost use Rattle.ln_bound.specs.Light.{AreLight, most, node_weights, weighed_pred};
 ghost use Rattle.ln_bound.specs.Value.{weights};
+ghost use Rattle.ln_order.specs.Orders.{orders_of};
 ghost use Rattle.ln_poly.specs.Expansion.{IsNormal};
 ghost use Rattle.ln_poly.specs.Sparse.{terms_of};
 ghost use Rattle.ln_stage.specs.Lists.{stage_count, stage_weight};
@@ -26,14 +27,17 @@ use std::alloc::Global;
 
 // The lists of the stages, once more.
 fn lists(alloc: Global, sites: u8, st: &Stages) -> Result<Seq<Seq<u32>>, NoMemory>
-    requires { st.now.sites ≡ sites }
+    requires few { sites ≤ 5 }
+    requires sites { st.now.sites ≡ sites }
+    requires size { length st.now.lists ≡ length (orders_of sites) }
     ensures { IfOk result (λ ls. ls ≡ st.now.lists) }
 {
     let orders = all_orders(alloc, sites)?;
     let orders = orders.as_slice();
     let mut lists = Seq::new(alloc);
     'orders: for o in orders {
-        lists.push(Seq::from_vec(st.list(o).to_vec(alloc)?))?;
+        let list = st.list(o).to_vec(alloc)?;
+        lists.push(Seq::from_vec(list))?;
     }
     Ok(lists)
 }

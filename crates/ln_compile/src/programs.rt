@@ -1,12 +1,10 @@
 // Predicates, judged and compiled one after the other.
 ghost use Rattle.std.specs.Prelude.{◌≡◌, ◌≤◌, true, length, map, IfErr, IfOk, OnOk};
-ghost use Rattle.ln_tree.specs.Formula.{formula};
 ghost use Rattle.ln_tree.specs.Table.{pred_of};
 ghost use Rattle.ln_tree.specs.Whole.{differ};
-ghost use Rattle.ln_bound.specs.Light.{AreLight, node_weights, weighed_pred};
-ghost use Rattle.ln_poly.specs.Expansion.{HaveFewTerms, IsNormal};
-ghost use Rattle.ln_compile.specs.Accepted.{AreSound, IsSound, expanded_of, root_of, weighed_of};
-ghost use Rattle.ln_compile.specs.Compiled.{AreProgramsOf, AreStageCounts, IsProgramOf, IsStageCount};
+ghost use Rattle.ln_compile.specs.Accepted.{IsSound};
+ghost use Rattle.ln_compile.specs.Compiled.{IsProgramOf, IsStageCount};
+ghost use Rattle.ln_compile.specs.Made.{AreBuilt};
 ghost use Rattle.ln_compile.specs.Refused.{StopsPred, StopsPreds};
 
 use crate::judge::{expanded, staged, weighed};
@@ -20,9 +18,9 @@ use std::alloc::Global;
 
 /// Programs with their stage counts.
 #[derive(Drop)]
-pub struct Built {
-    pub programs: Programs,
-    pub counts: Seq<u64>,
+pub(crate) struct Built {
+    pub(crate) programs: Programs,
+    pub(crate) counts: Seq<u64>,
 }
 
 // The program of predicate number k, with its stage count.
@@ -43,12 +41,10 @@ fn compiled(alloc: Global, k: u8, p: &Pred) -> Result<(Program, u64), Refusal>
 }
 
 /// The programs of the predicates of a table, whose names differ; else the fault of the first that has one.
-pub fn build(alloc: Global, preds: &[Pred]) -> Result<Built, Refusal>
+pub(crate) fn build(alloc: Global, preds: &[Pred]) -> Result<Built, Refusal>
     requires few { length preds.now ≤ 16 }
     requires names { differ (map (λ p. p.shape_name) (map pred_of preds.now)) ≡ true }
-    ensures ok { OnOk result (AreSound (map pred_of preds.now)) }
-    ensures programs { IfOk result (λ b. AreProgramsOf (map pred_of preds.now) b.programs) }
-    ensures counts { IfOk result (λ b. AreStageCounts (map pred_of preds.now) b.counts) }
+    ensures built { IfOk result (λ b. AreBuilt (map pred_of preds.now) b.programs b.counts) }
     ensures err { IfErr result (λ r. StopsPreds (map pred_of preds.now) r) }
 {
     let mut programs = Programs::new(alloc);

@@ -1,0 +1,102 @@
+-- Blocks as they are made.
+use Rattle.std.proofs.Common.{◌≡◌, ℕ, ◌+◌, ◌*◌, ◌<◌, ◌≤◌, zero, suc, max, List, [], ◌∷◌, ◌++◌, length, map, take, drop, get_or, refl, sym, ◌∙◌, ap, subst, arith, ◌⊎◌, inl, inr, Option, Some, None}
+use Rattle.std.specs.Prelude.{slice_get, is_some, true}
+use Rattle.ln_algebra.specs.Coefficient.{normal_coefficient}
+use Rattle.std.proofs.lemmas.Bool.{cases_lt}
+use Rattle.std.proofs.lemmas.List.{get_or_past}
+use Rattle.ln_algebra.specs.Terms.{IsNormalOf, Over, derived, factor_at}
+use Rattle.ln_algebra.specs.Tree.{Tree, inlined, inlined_after}
+use Rattle.ln_algebra.specs.Vector.{zeros}
+use Rattle.ln_tree.specs.declared.expr.Expr.{Expr}
+use Rattle.ln_tree.specs.declared.pred.Pred.{Pred}
+use Rattle.ln_tree.specs.declared.shape.VarInfo.{VarInfo}
+use Rattle.ln_tree.specs.Exps.{AllAbove, IsAbove, IsRising, Pairs, exponent, exponents_from, vector}
+use Rattle.ln_tree.specs.Formula.{formula, tree, tree_of}
+use Rattle.ln_tree.specs.Table.{PredOf, pred_of}
+use Rattle.ln_bound.specs.declared.fitted.Fitted.{Fitted}
+use Rattle.ln_bound.specs.Exact.{AreExact, IsExact}
+use Rattle.ln_bound.specs.Typed.{Typed, cost, costs, polynomial, untyped}
+use Rattle.ln_bound.specs.View.{typed}
+use Rattle.ln_order.specs.Sites.{site_of}
+use Rattle.ln_poly.specs.Expansion.{IsNormal, closed_root}
+use Rattle.ln_poly.specs.Sparse.{Sparse, coefficient_at, terms_of}
+use Rattle.ln_poly.proofs.Lets.{trees-of}
+use Rattle.ln_poly.proofs.Lowering.{found}
+use Rattle.ln_poly.proofs.Products.{length-vector, over-terms}
+use Rattle.ln_order.proofs.PairsLemmas.{vector-get}
+use Rattle.ln_stage.specs.Lists.{covering}
+use Rattle.ln_code.proofs.Runs.{some_is}
+use Rattle.ln_code.specs.Kept.{AreOfSites, FollowsRules, is_of_site}
+use Rattle.ln_code.specs.Part.{Code, known_of}
+use Rattle.ln_code.specs.Rules.{Known}
+use Rattle.ln_lower.specs.Nodes.{IsNodeOf, PushNodes, pushed_by}
+use Rattle.ln_compile.specs.Accepted.{root_of}
+use Rattle.ln_compile.specs.Carried.{CarriesDerivative}
+use Rattle.ln_compile.specs.Compiled.{IsOwn}
+use Rattle.ln_compile.specs.Derived.{IsDerivative}
+use Rattle.ln_compile.specs.Made.{IsBlockOf}
+use Rattle.ln_compile.proofs.CoefficientLemmas.{derived-zeros}
+use Rattle.ln_compile.proofs.CombinedLemmas.{over-derived}
+use Rattle.ln_compile.proofs.DerivingLemmas.{vector-nil}
+
+-- a block whose value has the coefficients of the derivative carries it
+carrying : (vars : List VarInfo) (f : Sparse) (c : Code) → FollowsRules vars c → ((k : Known) → known_of vars c ≡ Some k → IsNormalOf (length vars) k.tree (derived (vector (length vars) c.exps) (terms_of (length vars) f))) → CarriesDerivative vars f c
+carrying vars f c r h = let s = some_is (known_of vars c) r.answers in record { what = s.0; known = s.1; derivative = h s.0 s.1 }
+
+over-derivative : (n : ℕ) (a : Pairs) (f : Sparse) → Over n (derived (vector n a) (terms_of n f))
+over-derivative n a f = let e : length (vector n a) ≡ n = length-vector 0 n a in subst (λ k. Over k (derived (vector n a) (terms_of n f))) e (over-derived (vector n a) (terms_of n f) (subst (λ k. Over k (terms_of n f)) (sym e) (over-terms n f)))
+
+-- ---- a derivative's block
+pub derivative-made : (vars : List VarInfo) (f h : Sparse) (a : Pairs) (lets : List Fitted) (t : Typed) (c : Code) → IsDerivative (length vars) f a h → lets ≡ [] → c.exps ≡ a → AreOfSites vars a → FollowsRules vars c
+    → ((m : List ℕ) → length m ≡ length vars → polynomial [] t m ≡ coefficient_at (length vars) h m)
+    → ((k : Known) → known_of vars c ≡ Some k → (m : List ℕ) → normal_coefficient k.tree m ≡ polynomial (map typed lets) t m) → IsBlockOf vars f c
+derivative-made vars f h a lets t c d z e o r p q = record { rules = r; of_sites = rw e o; carries = carrying vars f c r normal } where
+  coefficients : (k : Known) → known_of vars c ≡ Some k → (m : List ℕ) → length m ≡ length vars → factor_at (derived (vector (length vars) a) (terms_of (length vars) f)) m ≡ normal_coefficient k.tree m
+  coefficients k g m l = sym (q k g m ∙ ap (λ (us : List Fitted). polynomial (map typed us) t m) z ∙ p m l ∙ d.coefficients m l)
+
+  normal : (k : Known) → known_of vars c ≡ Some k → IsNormalOf (length vars) k.tree (derived (vector (length vars) c.exps) (terms_of (length vars) f))
+  normal k g = rw e (record { over = over-derivative (length vars) a f; coefficients = coefficients k g })
+
+-- its operations
+pub derivative-ops : (ops cost costs terms cover : ℕ) → ops ≤ 4 * (cost + costs) + 64 → costs ≡ 0 → cost ≤ max 1 (1024 * terms) → terms ≤ cover → ops ≤ 4096 * cover + 68
+derivative-ops ops cost costs terms cover h z l k = omega (arith, h, z, l, k)
+
+pub no-costs : (lets : List Fitted) → lets ≡ [] → costs (map typed lets) ≡ 0
+no-costs lets e = ap (λ (us : List Fitted). costs (map typed us)) e
+
+-- ---- exponents of coordinates of sites
+site-there : (vars : List VarInfo) (v : ℕ) → v < length vars → (site_of vars v ≡ None → ⊥) → is_of_site (slice_get vars v) ≡ true
+site-there [] v h n = absurd (omega arith)
+site-there (i ∷ is) zero h n = go i.site n where
+  go : (o : Option ℕ) → (o ≡ None → ⊥) → is_some o ≡ true
+  go None k = absurd (k refl)
+  go (Some s) k = refl
+site-there (i ∷ is) (suc v) h n = site-there is v (omega arith) n
+
+pub of-sites : (vars : List VarInfo) (a : Pairs) → IsRising a → IsAbove a (length vars) → ((v : ℕ) → site_of vars v ≡ None → get_or (vector (length vars) a) v 0 ≡ 0) → AreOfSites vars a
+of-sites vars [] r b h = tt
+of-sites vars (p ∷ ps) r b h = (here, of-sites vars ps r.3 b.1 (λ v e. rest v (cases_lt v (length vars)) e)) where
+  here : is_of_site (slice_get vars p.0) ≡ true
+  here = site-there vars p.0 b.0 (λ e. absurd (omega (arith, h p.0 e, vector-get (length vars) p.0 (p ∷ ps) b.0, found p.0 (p ∷ ps) 0 r (omega arith) refl, r.0)))
+
+  rest : (v : ℕ) → (v < length vars) ⊎ (length vars ≤ v) → site_of vars v ≡ None → get_or (vector (length vars) ps) v 0 ≡ 0
+  rest v (inl l) e = omega (arith, h v e, vector-get (length vars) v (p ∷ ps) l, vector-get (length vars) v ps l)
+  rest v (inr l) e = get_or_past (vector (length vars) ps) v 0 (omega (arith, l, length-vector 0 (length vars) ps))
+
+-- ---- the source's own block
+pub own-made : (p : Pred) (lets : List Fitted) (root : Fitted) (c : Code) (a : Pairs) → a ≡ [] → c.exps ≡ a → map untyped (map typed lets) ≡ map (tree_of p.shape.vars) p.lets → untyped (typed root) ≡ tree_of p.shape.vars p.root
+    → AreExact p.shape.vars [] (map typed lets) → IsExact p.shape.vars (map typed lets) (typed root) → PushNodes (IsNodeOf (map typed lets) (typed root)) (pushed_by p.shape.vars c) → IsOwn (pred_of p) c
+own-made p lets root c a z e l r x y n = record { plain = e ∙ z; lets = map typed lets; of_lets = l ∙ sym (trees-of p.shape.vars p.lets); root = typed root; of_root = r; exact_lets = x; exact_root = y; nodes = n }
+
+pub own-carries : (p : Pred) (lets : List Fitted) (root : Fitted) (c : Code) (a : Pairs) (f : Sparse) → a ≡ [] → c.exps ≡ a → map untyped (map typed lets) ≡ map (tree_of p.shape.vars) p.lets → untyped (typed root) ≡ tree_of p.shape.vars p.root
+    → FollowsRules p.shape.vars c → ((k : Known) → known_of p.shape.vars c ≡ Some k → (m : List ℕ) → normal_coefficient k.tree m ≡ polynomial (map typed lets) (typed root) m)
+    → IsNormal (length p.shape.vars) (root_of (pred_of p)) f → IsBlockOf p.shape.vars f c
+own-carries p lets root c a f z e l r fr q h = record { rules = fr; of_sites = rw (e ∙ z) tt; carries = carrying p.shape.vars f c fr normal } where
+  whole : (m : List ℕ) → polynomial (map typed lets) (typed root) m ≡ normal_coefficient (root_of (pred_of p)) m
+  whole m = ap (λ ts. normal_coefficient (inlined (inlined_after [] ts) (untyped (typed root))) m) (l ∙ sym (trees-of p.shape.vars p.lets)) ∙ ap (λ t. normal_coefficient (inlined (inlined_after [] (map (tree p.shape.vars) (map formula p.lets))) t) m) r
+
+  none : derived (vector (length p.shape.vars) c.exps) (terms_of (length p.shape.vars) f) ≡ terms_of (length p.shape.vars) f
+  none = ap (λ x. derived (vector (length p.shape.vars) x) (terms_of (length p.shape.vars) f)) (e ∙ z) ∙ ap (λ x. derived x (terms_of (length p.shape.vars) f)) (vector-nil 0 (length p.shape.vars)) ∙ derived-zeros (length p.shape.vars) (terms_of (length p.shape.vars) f) (over-terms (length p.shape.vars) f)
+
+  normal : (k : Known) → known_of p.shape.vars c ≡ Some k → IsNormalOf (length p.shape.vars) k.tree (derived (vector (length p.shape.vars) c.exps) (terms_of (length p.shape.vars) f))
+  normal k g = rw none (record { over = over-terms (length p.shape.vars) f; coefficients = λ m s. h.normal.coefficients m s ∙ sym (q k g m ∙ whole m) })

@@ -1,0 +1,91 @@
+-- The program of a predicate, from its blocks and its stages.
+use Rattle.std.proofs.Common.{◌≡◌, ◌⊎◌, inl, inr, ℕ, ◌+◌, ◌*◌, ◌^◌, ◌<◌, ◌≤◌, zero, suc, true, List, [], ◌∷◌, ◌++◌, length, map, get_or, refl, ap, sym, subst, ◌∙◌, arith, Option, None, Some}
+use Rattle.std.specs.Prelude.{◌≢◌, All, IfSome}
+use Rattle.std.proofs.lemmas.List.{length-map}
+use Rattle.ln_tree.specs.declared.pred.Pred.{Pred}
+use Rattle.ln_tree.specs.declared.shape.Shape.{Shape}
+use Rattle.ln_tree.specs.Exps.{Pairs, vector}
+use Rattle.ln_tree.specs.Formula.{formula, tree}
+use Rattle.ln_tree.specs.Names.{name_bytes}
+use Rattle.ln_tree.specs.Table.{PredOf, pred_of}
+use Rattle.ln_bound.specs.Light.{AreLight}
+use Rattle.ln_bound.specs.Value.{weights}
+use Rattle.ln_poly.specs.Expansion.{IsNormal, closed_lets}
+use Rattle.ln_poly.specs.Sparse.{Sparse}
+use Rattle.ln_poly.proofs.Lets.{pred-light, root-light}
+use Rattle.ln_stage.specs.Lists.{AreStageLists, all_covering, stage_count, stage_weight}
+use Rattle.ln_stage.specs.Staged.{AreStagesOf, Staged, block_vector, vectors_of}
+use Rattle.ln_code.specs.Kept.{FollowsFilterRules, FollowsRules, IsList, IsProgram}
+use Rattle.ln_code.specs.Part.{Code, FilterCode, Part, ops_in_blocks}
+use Rattle.ln_compile.specs.Accepted.{root_of, weighed_of}
+use Rattle.ln_compile.specs.Carried.{Carries, staged}
+use Rattle.ln_compile.specs.Compiled.{BeginsWith, IsProgramOf}
+use Rattle.ln_compile.specs.Made.{AreBlocksOf, IsBlockOf}
+use Rattle.ln_compile.proofs.ListingLemmas.{lists-are, stages-few}
+
+-- ---- exponents with the same vectors
+same-at : (n : ℕ) (blocks : List Code) (exps : List Pairs) → map (λ (c : Code). vector n c.exps) blocks ≡ map (vector n) exps → (i : ℕ) → block_vector n (map (λ (c : Code). c.exps) blocks) i ≡ block_vector n exps i
+same-at n [] [] e i = refl
+same-at n [] (x ∷ xs) e i = cc
+same-at n (c ∷ cs) [] e i = cc
+same-at n (c ∷ cs) (x ∷ xs) e zero = (heads (vector n c.exps) (vector n x) (map (λ (d : Code). vector n d.exps) cs) (map (vector n) xs) e).0 where
+  heads : (a b : List ℕ) (as' bs : List (List ℕ)) → a ∷ as' ≡ b ∷ bs → (a ≡ b) × (as' ≡ bs)
+  heads a b as' bs q = (cc, cc)
+same-at n (c ∷ cs) (x ∷ xs) e (suc i) = same-at n cs xs (tails (vector n c.exps) (vector n x) (map (λ (d : Code). vector n d.exps) cs) (map (vector n) xs) e) i where
+  tails : (a b : List ℕ) (as' bs : List (List ℕ)) → a ∷ as' ≡ b ∷ bs → as' ≡ bs
+  tails a b as' bs q = cc
+
+map-same : {A B : Type 0} (g h : A → B) (xs : List A) → ((x : A) → g x ≡ h x) → map g xs ≡ map h xs
+map-same g h [] e = refl
+map-same g h (x ∷ xs) e = let r : map g xs ≡ map h xs = map-same g h xs e in ap (λ z. z ∷ map g xs) (e x) ∙ ap (λ z. h x ∷ z) r
+
+-- the program's lists are the stages'
+same-vectors : (s : Shape) (st : Staged) (blocks : List Code) → map (λ (c : Code). vector (length s.vars) c.exps) blocks ≡ map (vector (length s.vars)) st.exps
+    → vectors_of (length s.vars) (staged (record { shape = s; filter = None; blocks = blocks; lists = st.lists })) ≡ vectors_of (length s.vars) st
+same-vectors s st blocks e = map-same (λ list. map (block_vector (length s.vars) (map (λ (c : Code). c.exps) blocks)) list) (λ list. map (block_vector (length s.vars) st.exps) list) st.lists (λ list. map-same (block_vector (length s.vars) (map (λ (c : Code). c.exps) blocks)) (block_vector (length s.vars) st.exps) list (same-at (length s.vars) blocks st.exps e))
+
+blocks-length : (n : ℕ) (blocks : List Code) (exps : List Pairs) → map (λ (c : Code). vector n c.exps) blocks ≡ map (vector n) exps → length blocks ≡ length exps
+blocks-length n blocks exps e = omega (arith, ap length e, length-map blocks (λ (c : Code). vector n c.exps), length-map exps (vector n))
+
+few-ops : (ops cover len : ℕ) → ops ≤ 524352 + 4096 * cover + 68 * len → cover ≤ 131072 → len ≤ 65536 → ops < 2 ^ 32
+few-ops ops cover len h k l = omega (arith, h, k, l)
+
+module _ (p : Pred) (f : Sparse) (st : Staged) (blocks : List Code) (light : AreLight (weighed_of (pred_of p))) (normal : IsNormal (length p.shape.vars) (root_of (pred_of p)) f) (some : f ≢ []) (stages : AreStagesOf p.shape.sites p.shape.vars f st)
+    (count : stage_count (vectors_of (length p.shape.vars) st) ≤ 65536) (heavy : stage_weight (length p.shape.vars) f (vectors_of (length p.shape.vars) st) ≤ 131072) (made : AreBlocksOf (pred_of p) f st.exps blocks) where
+  abbrev pub part : Part
+  part = record { shape = p.shape; filter = None; blocks = blocks; lists = st.lists }
+
+  as-many : length blocks ≡ length st.exps
+  as-many = blocks-length (length p.shape.vars) blocks st.exps made.vectors
+
+  pub few-blocks : length blocks ≤ 65536
+  few-blocks = omega (arith, as-many, stages-few p.shape.sites p.shape.vars f st stages, count)
+
+  size : length st.lists ≡ length (vectors_of (length p.shape.vars) st)
+  size = sym (length-map st.lists (λ list. map (block_vector (length p.shape.vars) st.exps) list))
+
+  pub is-program : IsProgram part
+  is-program = record {
+    blocks = λ k d l. (made.each k d l).rules;
+    filter = tt;
+    few = omega (arith, few-ops (ops_in_blocks blocks) (all_covering (length p.shape.vars) f (map (vector (length p.shape.vars)) st.exps)) (length st.exps) made.few (omega (arith, heavy, ap (all_covering (length p.shape.vars) f) stages.first_sight)) (omega (arith, stages-few p.shape.sites p.shape.vars f st stages, count)));
+    of_sites = λ k d l. (made.each k d l).of_sites;
+    orders = size ∙ stages.lists.size;
+    lists = subst (λ n. All (IsList n) st.lists) (sym as-many) (lists-are p.shape.sites p.shape.vars f st stages normal.form normal.below some);
+  }
+
+  pub is-program-of : IsProgramOf (pred_of p) part
+  is-program-of = record {
+    name = refl;
+    sites = refl;
+    vars = refl;
+    filter = refl;
+    poly = f;
+    carries = record {
+      inputs = (root-light (length p.shape.vars) (weights p.shape.vars) (closed_lets p.shape.vars (map formula p.lets)) (tree p.shape.vars (formula p.root)) (pred-light p.args p.shape.vars p.lets (length p.let_names) p.root p.kept light).1).inputs;
+      normal = normal;
+      lists = subst (AreStageLists p.shape.sites p.shape.vars f) (sym (same-vectors p.shape st blocks made.vectors)) stages.lists;
+      blocks = λ k d l. (made.each k d l).carries;
+    };
+    begins = record { block = made.own; first = made.first; own = made.is_own; short = omega (arith, made.small) };
+  }
