@@ -86,6 +86,7 @@ module _ (p : Pred) (f : Sparse) (st : Staged) (blocks : List Code) (light : Are
       normal = normal;
       lists = subst (AreStageLists p.shape.sites p.shape.vars f) (sym (same-vectors p.shape st blocks made.vectors)) stages.lists;
       blocks = λ k d l. (made.each k d l).carries;
+      filter = tt;
     };
     begins = record { block = made.own; first = made.first; own = made.is_own; short = omega (arith, made.small) };
   }
