@@ -13,16 +13,18 @@ use Rattle.ln_algebra.specs.Coefficient.{normal_coefficient}
 use Rattle.ln_algebra.specs.Earlier.{Sites}
 use Rattle.ln_algebra.specs.Sign as algebra
 use Rattle.ln_algebra.specs.Sign.{IsFirst, IsPerturbedSign, perturbed}
-use Rattle.ln_algebra.specs.Tree.{Tree}
+use Rattle.ln_algebra.specs.Tree.{InputsBelow, Tree}
 use Rattle.ln_tree.specs.declared.table.Table.{Table}
 use Rattle.ln_tree.specs.declared.pred.Pred.{Pred}
 use Rattle.ln_tree.specs.declared.shape.VarInfo.{VarInfo}
+use Rattle.ln_tree.specs.Formula.{formula, tree}
 use Rattle.ln_tree.specs.Names.{name_bytes}
 use Rattle.ln_tree.specs.Row.{InRange, Row}
 use Rattle.ln_tree.specs.Table.{pred_of}
-use Rattle.ln_bound.specs.Value.{values}
+use Rattle.ln_bound.specs.Value.{values, weights}
 use Rattle.ln_order.specs.Sites.{row_sites, site_of}
-use Rattle.ln_poly.specs.Expansion.{IsZeroFault}
+use Rattle.ln_poly.specs.Expansion.{closed_lets}
+use Rattle.ln_poly.proofs.Lets.{pred-light, root-light}
 use Rattle.ln_rows.specs.Columns.{column_names}
 use Rattle.ln_rows.specs.Left.{Records, records_in}
 use Rattle.ln_rows.specs.Record.{read_row}
@@ -43,7 +45,6 @@ use Rattle.ln_top.specs.Answer.{Answer, Owed, usage, long_source, refused, check
 use Rattle.ln_top.specs.Causes.{HasRecords}
 use Rattle.ln_top.specs.Headline.{HasPerturbedSign, HavePerturbedSigns, none, more, PutSigns, SignsArePerturbed}
 use Rattle.ln_top.proofs.WorkLemmas.{lines_alone}
-use Rattle.ln_top.proofs.InputsLemmas.{root_inputs}
 use Rattle.ln_top.proofs.OneAnswer.{no_words, check_or_run, long_or_within, refused_or_accepted, lacks_or_has, long_rows_or_within, preds_of, columns_of, same_rows, moved}
 
 abbrev Words : Type 0
@@ -71,18 +72,21 @@ module _ (p : Pred) (row : Row) where
   abbrev root : Tree
   root = root_of (pred_of p)
 
-  never_zero : InRange p.shape.sites p.shape.vars row → (IsZeroFault (length p.shape.vars) root → ⊥) → All (λ i. i.site ≢ None) p.shape.vars → (s : Sign) → IsPerturbedSign (length p.shape.vars) sites (values row.values) root (sign_number s) → s ≢ Zero
-  never_zero range filled all s d q = by_sign d
+  never_zero : InRange p.shape.sites p.shape.vars row → IsSound (pred_of p) → All (λ i. i.site ≢ None) p.shape.vars → (s : Sign) → IsPerturbedSign (length p.shape.vars) sites (values row.values) root (sign_number s) → s ≢ Zero
+  never_zero range sound all s d q = by_sign d
     where
+      inputs : InputsBelow (length p.shape.vars) root
+      inputs = (root-light (length p.shape.vars) (weights p.shape.vars) (closed_lets p.shape.vars (map formula p.lets)) (tree p.shape.vars (formula p.root)) (pred-light p.args p.shape.vars p.lets (length p.let_names) p.root p.kept sound.light).1).inputs
+
       none_first : ((b : List ℕ) → IsFirst (length p.shape.vars) sites (values row.values) root b → ⊥) → (m : List ℕ) → length m ≡ length p.shape.vars → (normal_coefficient root m ≡ pos 0) ⊎ (normal_coefficient root m ≡ pos 0 → ⊥) → normal_coefficient root m ≡ pos 0
       none_first lacks m l (inl z) = z
       none_first lacks m l (inr z) =
-          let first = all-first (length p.shape.vars) sites root (values row.values) m (root_inputs p) (rows-differ p.shape row range) (λ u k. all_sites p.shape.vars u all k) (record { size = l; nonzero = z }) in
+          let first = all-first (length p.shape.vars) sites root (values row.values) m inputs (rows-differ p.shape row range) (λ u k. all_sites p.shape.vars u all k) (record { size = l; nonzero = z }) in
           absurd (lacks first.0 first.1)
 
       by_sign : IsPerturbedSign (length p.shape.vars) sites (values row.values) root (sign_number s) → ⊥
       by_sign (inl t) = sign_nonzero (perturbed sites (values row.values) root t.0) t.1.nonzero (sym t.2 ∙ ap sign_number q)
-      by_sign (inr t) = filled (λ m l k. none_first t.0 m l (zero_cases (normal_coefficient root m)))
+      by_sign (inr t) = sound.nonzero (λ m l k. none_first t.0 m l (zero_cases (normal_coefficient root m)))
 
 -- ---- lines
 same_row : (r s : Row) (o : Result Row RowStop) → o ≡ Ok r → o ≡ Ok s → r ≡ s
@@ -91,12 +95,12 @@ same_row r s o e f = cc
 not_both : (r : Row) (s : RowStop) (o : Result Row RowStop) → o ≡ Ok r → o ≡ Err s → ⊥
 not_both r s o e f = cc
 
-module _ (p : Pred) (filled : IsZeroFault (length p.shape.vars) (root_of (pred_of p)) → ⊥) (names : List (List ℕ)) where
+module _ (p : Pred) (sound : IsSound (pred_of p)) (names : List (List ℕ)) where
   due_sign : (row : Row) (v : Verdict) (text : List ℕ) (fields : List (List ℕ)) → read_row p.shape.sites p.shape.vars fields ≡ Ok row → Due NoFilter p.shape.vars (root_of (pred_of p)) row v → text ≡ line (said_text names (Ok v)) → HasPerturbedSign (pred_of p) row text
   due_sign row v text fields e d t =
       let range = row_in_range p.shape.sites p.shape.vars fields row p.shape.kept e in
       let sign = due-sign p.shape.vars (root_of (pred_of p)) row NoFilter v d in
-      record { range = range; sign = v.sign; perturbed = sign; never_zero = λ all. never_zero p row range filled all v.sign sign; behind = decider_text v.by; text_is = t }
+      record { range = range; sign = v.sign; perturbed = sign; never_zero = λ all. never_zero p row range sound all v.sign sign; behind = decider_text v.by; text_is = t }
 
   line_sign : (fields : List (List ℕ)) (text : List ℕ) {said : Result Verdict RowStop} → Says (pred_of p) fields said → text ≡ line (said_text names said) → (row : Row) → read_row p.shape.sites p.shape.vars fields ≡ Ok row → HasPerturbedSign (pred_of p) row text
   line_sign fields text (due r v e d) t row f =
@@ -121,11 +125,11 @@ wrong_right : (names : List (List ℕ)) {rs : Records} {ys : Records} → rs ≡
 wrong_right names f w = (subst (IsWrongHeader names) f w) refl
 
 -- what the work said
-work_signs : (p : Pred) (filled : IsZeroFault (length p.shape.vars) (root_of (pred_of p)) → ⊥) (names : List (List ℕ)) (records : Records) (result : Status) (was now : Option Shown) {rs : Records} {said : Said} → rs ≡ names ∷ records → WorkSaid (pred_of p) names rs said → AsSaid said result was now → PutSigns (pred_of p) records was now
-work_signs p filled names records result was now e (wrong_header w) a = absurd (wrong_right names e w)
-work_signs p filled names records result was now e (ran {rest = rest} xs l) a =
+work_signs : (p : Pred) (sound : IsSound (pred_of p)) (names : List (List ℕ)) (records : Records) (result : Status) (was now : Option Shown) {rs : Records} {said : Said} → rs ≡ names ∷ records → WorkSaid (pred_of p) names rs said → AsSaid said result was now → PutSigns (pred_of p) records was now
+work_signs p sound names records result was now e (wrong_header w) a = absurd (wrong_right names e w)
+work_signs p sound names records result was now e (ran {rest = rest} xs l) a =
     let same : rest ≡ records = ap (drop 1) e in
-    record { lines = xs; signs = subst (λ (zs : Records). HavePerturbedSigns (pred_of p) zs xs) same (lines_signs p filled names l); shown = a.shown ∙ sym (lines_alone xs was) }
+    record { lines = xs; signs = subst (λ (zs : Records). HavePerturbedSigns (pred_of p) zs xs) same (lines_signs p sound names l); shown = a.shown ∙ sym (lines_alone xs was) }
 
 -- an answer with these records
 answer_signs : (words : Words) (shelf : Shelf) (result : Status) (was now : Option Shown) (t : Table) (p : Pred) (records : Records) (h : HasRecords words shelf t p (column_names t.sites t.params p.args ∷ records)) {said : Said} → Answer words shelf said → AsSaid said result was now → PutSigns (pred_of p) records was now
@@ -140,7 +144,7 @@ answer_signs words shelf result was now t p records h (worked c2 t2 p2 x2 g2 e2 
     let e = preds_of words shelf h.run c2 t t2 p p2 h.has g2 in
     let f = columns_of words shelf h.run c2 t t2 p p2 h.has g2 in
     let s = ap records_in (same_rows words shelf h.run c2 t t2 p p2 h.rows x2 h.has g2 h.told e2) in
-    work_signs p (found_sound h.run.name t.preds p h.has.accepted.sound h.has.is_named).nonzero names records result was now h.are (moved WorkSaid p p2 names (column_names t2.sites t2.params p2.args) (records_in h.rows) (records_in x2) e f s w2) o
+    work_signs p (found_sound h.run.name t.preds p h.has.accepted.sound h.has.is_named) names records result was now h.are (moved WorkSaid p p2 names (column_names t2.sites t2.params p2.args) (records_in h.rows) (records_in x2) e f s w2) o
 
 -- what is owed has the perturbed signs
 pub headline : (told : Option Shelf) (words : Words) (result : Status) (was now : Option Shown) → IfSome told (λ shelf. Owed words shelf result was now) → IfSome told (λ shelf. SignsArePerturbed words shelf was now)

@@ -8,5 +8,4 @@ pub mod Likeness
 pub mod OneLine
 pub mod OneAnswer
 pub mod CauseLemmas
-pub mod InputsLemmas
 pub mod HeadlineLemmas
