@@ -1,65 +1,47 @@
 -- Each status with its cause.
-use Rattle.std.proofs.Common.{◌≡◌, ◌≢◌, ◌⊎◌, inl, inr, ℕ, ◌||◌, ◌&&◌, ◌++◌, Bool, true, false, true≢false, cond, ℤ, pos, int_lt, List, [], ◌∷◌, map, All, Option, Some, None, IfSome, Result, Ok, Err, refl, ap, sym, ◌∙◌, subst, arith}
+use Rattle.std.proofs.Common.{◌≡◌, ◌⊎◌, inl, inr, ℕ, ◌&&◌, ◌++◌, Bool, true, false, true≢false, cond, List, [], ◌∷◌, map, All, Option, Some, None, IfSome, drop, Result, Ok, Err, refl, ap, sym, ◌∙◌, subst}
 use Rattle.std.proofs.lemmas.List.Elements.{All-nil, All-cons, All-head, All-tail}
-use Rattle.std.proofs.lemmas.Int.{ints}
 use Rattle.ln_base.specs.Outside.{Shelf, Shown, Rose, appended}
 use Rattle.ln_base.specs.declared.outside.Port.TheVariants.{Err as ErrPort}
 use Rattle.ln_tree.specs.declared.table.Table.{Table}
 use Rattle.ln_tree.specs.declared.pred.Pred.{Pred}
-use Rattle.ln_tree.specs.Formula.{formula}
 use Rattle.ln_tree.specs.Row.{Row}
+use Rattle.ln_tree.specs.Table.{PredOf, pred_of}
 use Rattle.ln_rows.specs.Columns.{column_names}
-use Rattle.ln_rows.specs.Left.{Records}
+use Rattle.ln_rows.specs.Left.{Records, records_in}
 use Rattle.ln_rows.specs.Record.{read_row}
 use Rattle.ln_rows.specs.declared.record.RowStop.{RowStop}
 use Rattle.ln_top.specs.declared.status.Status.{Status}
 use Rattle.ln_top.specs.declared.status.Status.TheVariants.{Done, Refused, Usage, Rows, NoPredicate, Invalid, Read, Write, TooLong, Memory}
 use Rattle.ln_top.specs.declared.stop.Stop.{Stop}
 use Rattle.ln_top.specs.declared.stop.Stop.TheVariants as stop
-use Rattle.ln_top.specs.Plain.{plain_value}
-use Rattle.ln_top.specs.Line.{line, verdict, value_or_stop, is_sign, all_signs}
+use Rattle.ln_top.specs.Line.{line, is_read, is_row, all_rows}
 use Rattle.ln_top.specs.Stop.{stop_text, stop_status}
 use Rattle.ln_top.specs.Words.{command_of}
-use Rattle.ln_top.specs.Said.{Said, OfWork, IsSettled, WorkSaid, wrong_header, ran}
-use Rattle.ln_top.specs.Answer.{Answer, usage, long_source, refused, no_predicate, long_rows, worked, Owed, IsMissing, SaysStop}
-use Rattle.ln_top.specs.Causes.{HasNoSign, no_row, degenerate, HasSign, HasRecords, IsValid, IsRefused, LacksPredicate, RefusesRows, header, record_, HasRefusedRows, IsTooLong, source, rows, IsInvalid, WhereTold, Yields, SaysLine}
+use Rattle.ln_top.specs.Said.{Said, OfWork, IsSettled, IsWrongHeader, CheckSaid, counted, WorkSaid, wrong_header, ran}
+use Rattle.ln_top.specs.Answer.{Steps, Answer, usage, long_source, refused, checked, no_predicate, long_rows, worked, Owed, IsMissing, SaysStop}
+use Rattle.ln_top.specs.Causes.{IsNoRow, IsRow, HasRecords, IsValid, check, run, IsRefused, LacksPredicate, RefusesRows, header, record_, HasRefusedRows, IsTooLong, source, rows, IsInvalid, WhereTold, Yields, SaysLine}
 use Rattle.ln_top.proofs.WorkLemmas.{error_alone}
-use Rattle.ln_top.proofs.OneAnswer.{one_answer, none_missing}
+use Rattle.ln_top.proofs.OneAnswer.{OneCheck, OneWork, one_end, none_missing}
 
 abbrev Words : Type 0
 Words = List (List ℕ)
 
--- the value of a predicate on a row
-abbrev value_on : Pred → Row → ℤ
-value_on p row = plain_value p.shape.vars (map formula p.lets) (formula p.root) row.values
+-- a record that is a row in range, and one that isn't
+as_row : (p : PredOf) (fields : List (List ℕ)) (o : Result Row RowStop) → read_row p.sites p.vars fields ≡ o → is_read o ≡ true → IsRow p fields
+as_row p fields (Ok row) e s = record { row = row; read = e }
+as_row p fields (Err stop) e s = absurd (true≢false (sym s))
 
--- a number that is neither above nor below 0 is 0
-is_zero : (z : ℤ) → (int_lt (pos 0) z || int_lt z (pos 0)) ≡ false → z ≡ pos 0
-is_zero z e = grind (arith, ints, e)
-
-isnt_zero : (z : ℤ) → z ≢ pos 0 → (int_lt (pos 0) z || int_lt z (pos 0)) ≡ true
-isnt_zero z n = by_test z (int_lt (pos 0) z || int_lt z (pos 0)) refl n
-  where
-    by_test : (z : ℤ) (b : Bool) → (int_lt (pos 0) z || int_lt z (pos 0)) ≡ b → z ≢ pos 0 → b ≡ true
-    by_test z true e n = refl
-    by_test z false e n = absurd (n (is_zero z e))
-
--- a record whose line is a sign has a sign
-has_sign : (p : Pred) (fields : List (List ℕ)) (o : Result Row RowStop) → read_row p.shape.sites p.shape.vars fields ≡ o → is_sign (value_or_stop p o) ≡ true → HasSign p fields
-has_sign p fields (Ok row) e s = record { row = row; read = e; nonzero = λ z. true≢false (sym s ∙ ap (λ w. int_lt (pos 0) w || int_lt w (pos 0)) z) }
-has_sign p fields (Err stop) e s = absurd (true≢false (sym s))
-
-no_sign : (p : Pred) (fields : List (List ℕ)) (o : Result Row RowStop) → read_row p.shape.sites p.shape.vars fields ≡ o → is_sign (value_or_stop p o) ≡ false → HasNoSign p fields
-no_sign p fields (Ok row) e s = degenerate row e (is_zero (value_on p row) s)
-no_sign p fields (Err stop) e s = no_row stop e
+as_no_row : (p : PredOf) (fields : List (List ℕ)) (o : Result Row RowStop) → read_row p.sites p.vars fields ≡ o → is_read o ≡ false → IsNoRow p fields
+as_no_row p fields (Ok row) e s = absurd (true≢false s)
+as_no_row p fields (Err stop) e s = record { stop = stop; read = e }
 
 -- and the other way round
-signed : (p : Pred) (fields : List (List ℕ)) → HasSign p fields → is_sign (verdict p fields) ≡ true
-signed p fields h = ap (λ o. is_sign (value_or_stop p o)) h.read ∙ isnt_zero (value_on p h.row) h.nonzero
+row_is : (p : PredOf) (fields : List (List ℕ)) → IsRow p fields → is_row p fields ≡ true
+row_is p fields h = ap is_read h.read
 
-unsigned : (p : Pred) (fields : List (List ℕ)) → HasNoSign p fields → is_sign (verdict p fields) ≡ false
-unsigned p fields (no_row stop e) = ap (λ o. is_sign (value_or_stop p o)) e
-unsigned p fields (degenerate row e z) = ap (λ o. is_sign (value_or_stop p o)) e ∙ ap (λ w. int_lt (pos 0) w || int_lt w (pos 0)) z
+no_row_is : (p : PredOf) (fields : List (List ℕ)) → IsNoRow p fields → is_row p fields ≡ false
+no_row_is p fields h = ap is_read h.read
 
 and_left : (a b : Bool) → (a && b) ≡ true → a ≡ true
 and_left true b e = refl
@@ -69,35 +51,35 @@ and_right : (a b : Bool) → (a && b) ≡ true → b ≡ true
 and_right true b e = e
 and_right false b e = absurd (true≢false (sym e))
 
--- records that all have a sign
-all_have : (p : Pred) (records : Records) → all_signs p records ≡ true → All (HasSign p) records
-all_have p [] e = All-nil (HasSign p)
-all_have p (fields ∷ rest) e =
-    All-cons (HasSign p) fields rest (has_sign p fields (read_row p.shape.sites p.shape.vars fields) refl (and_left (is_sign (verdict p fields)) (all_signs p rest) e)) (all_have p rest (and_right (is_sign (verdict p fields)) (all_signs p rest) e))
+-- records that all are rows
+all_are : (p : PredOf) (records : Records) → all_rows p records ≡ true → All (IsRow p) records
+all_are p [] e = All-nil (IsRow p)
+all_are p (fields ∷ rest) e =
+    All-cons (IsRow p) fields rest (as_row p fields (read_row p.sites p.vars fields) refl (and_left (is_row p fields) (all_rows p rest) e)) (all_are p rest (and_right (is_row p fields) (all_rows p rest) e))
 
-all_signed : (p : Pred) (records : Records) → All (HasSign p) records → all_signs p records ≡ true
-all_signed p [] h = refl
-all_signed p (fields ∷ rest) h = ap (λ b. b && all_signs p rest) (signed p fields (All-head (HasSign p) fields rest h)) ∙ all_signed p rest (All-tail (HasSign p) fields rest h)
+all_is : (p : PredOf) (records : Records) → All (IsRow p) records → all_rows p records ≡ true
+all_is p [] h = refl
+all_is p (fields ∷ rest) h = ap (λ b. b && all_rows p rest) (row_is p fields (All-head (IsRow p) fields rest h)) ∙ all_is p rest (All-tail (IsRow p) fields rest h)
 
--- a record without a sign among records
-record NoSignAmong (p : Pred) (records : Records) : Type 0 where
+-- a record among records that is no row
+record NoRowAmong (p : PredOf) (records : Records) : Type 0 where
   before : Records
   fields : List (List ℕ)
   after : Records
   stands : records ≡ before ++ fields ∷ after
-  none : HasNoSign p fields
+  none : IsNoRow p fields
 
-some_has_none : (p : Pred) (records : Records) → all_signs p records ≡ false → NoSignAmong p records
-some_has_none p [] e = absurd (true≢false e)
-some_has_none p (fields ∷ rest) e = by_first (is_sign (verdict p fields)) refl e (some_has_none p rest)
+some_is_none : (p : PredOf) (records : Records) → all_rows p records ≡ false → NoRowAmong p records
+some_is_none p [] e = absurd (true≢false e)
+some_is_none p (fields ∷ rest) e = by_first (is_row p fields) refl e (some_is_none p rest)
   where
-    by_first : (b : Bool) → is_sign (verdict p fields) ≡ b → (b && all_signs p rest) ≡ false → (all_signs p rest ≡ false → NoSignAmong p rest) → NoSignAmong p (fields ∷ rest)
+    by_first : (b : Bool) → is_row p fields ≡ b → (b && all_rows p rest) ≡ false → (all_rows p rest ≡ false → NoRowAmong p rest) → NoRowAmong p (fields ∷ rest)
     by_first true f g h = let s = h g in record { before = fields ∷ s.before; fields = s.fields; after = s.after; stands = ap (λ rs. fields ∷ rs) s.stands; none = s.none }
-    by_first false f g h = record { before = []; fields = fields; after = rest; stands = refl; none = no_sign p fields (read_row p.shape.sites p.shape.vars fields) refl f }
+    by_first false f g h = record { before = []; fields = fields; after = rest; stands = refl; none = as_no_row p fields (read_row p.sites p.vars fields) refl f }
 
-some_unsigned : (p : Pred) (before after : Records) (fields : List (List ℕ)) → HasNoSign p fields → all_signs p (before ++ fields ∷ after) ≡ false
-some_unsigned p [] after fields n = ap (λ b. b && all_signs p after) (unsigned p fields n)
-some_unsigned p (f ∷ fs) after fields n = and_false (is_sign (verdict p f)) (all_signs p (fs ++ fields ∷ after)) (some_unsigned p fs after fields n)
+not_all : (p : PredOf) (before after : Records) (fields : List (List ℕ)) → IsNoRow p fields → all_rows p (before ++ fields ∷ after) ≡ false
+not_all p [] after fields n = ap (λ b. b && all_rows p after) (no_row_is p fields n)
+not_all p (f ∷ fs) after fields n = and_false (is_row p f) (all_rows p (fs ++ fields ∷ after)) (not_all p fs after fields n)
   where
     and_false : (a b : Bool) → b ≡ false → (a && b) ≡ false
     and_false true b e = e
@@ -116,52 +98,105 @@ CauseOf words shelf Read = ⊥
 CauseOf words shelf Write = ⊥
 CauseOf words shelf Memory = ⊥
 
-work_cause : (words : Words) (shelf : Shelf) (t : Table) (p : Pred) {records : Records} {said : Said} → HasRecords words shelf t p records → WorkSaid p (column_names t.sites t.params p.args) records said → CauseOf words shelf said.status
+work_cause : (words : Words) (shelf : Shelf) (t : Table) (p : Pred) {records : Records} {said : Said} → HasRecords words shelf t p records → WorkSaid (pred_of p) (column_names t.sites t.params p.args) records said → CauseOf words shelf said.status
 work_cause words shelf t p {records} h (wrong_header w) = record { table = t; pred = p; records = records; has = h; refused = header w }
-work_cause words shelf t p h (ran {rest = rest}) = by_signs (all_signs p rest) refl
+work_cause words shelf t p h (ran {rest = rest} lines l) = by_rows (all_rows (pred_of p) rest) refl
   where
     names : List (List ℕ)
     names = column_names t.sites t.params p.args
 
-    by_signs : (b : Bool) → all_signs p rest ≡ b → CauseOf words shelf (cond b Done Rows)
-    by_signs true e = record { table = t; pred = p; records = rest; has = h; signs = all_have p rest e }
-    by_signs false e =
-        let s = some_has_none p rest e in
-        record { table = t; pred = p; records = names ∷ rest; has = h; refused = subst (λ (rs : Records). RefusesRows p names (names ∷ rs)) (sym s.stands) (record_ s.before s.after s.none) }
+    by_rows : (b : Bool) → all_rows (pred_of p) rest ≡ b → CauseOf words shelf (cond b Done Rows)
+    by_rows true e = run t p rest h (all_are (pred_of p) rest e)
+    by_rows false e =
+        let s = some_is_none (pred_of p) rest e in
+        record { table = t; pred = p; records = names ∷ rest; has = h; refused = subst (λ (rs : Records). RefusesRows (pred_of p) names (names ∷ rs)) (sym s.stands) (record_ s.before s.after s.none) }
+
+check_cause : (words : Words) (shelf : Shelf) (ps : List PredOf) {said : Said} → IsValid words shelf → CheckSaid ps said → CauseOf words shelf said.status
+check_cause words shelf ps v (counted lines a) = v
 
 -- an answer has the cause of its status
 pub cause_of : (words : Words) (shelf : Shelf) {said : Said} → Answer words shelf said → CauseOf words shelf said.status
 cause_of words shelf (usage e) = e
 cause_of words shelf (long_source c b s l) = source c b s l
 cause_of words shelf (refused c b r s l k) = record { command = c; bytes = b; refusal = r; source = s; within = l; cause = k }
-cause_of words shelf (no_predicate c b t s l a n) = record { command = c; bytes = b; table = t; source = s; within = l; accepted = a; lacks = n }
+cause_of words shelf (checked f b t s l a w) = check_cause words shelf (map pred_of t.preds) (check f b t s l a) w
+cause_of words shelf (no_predicate c b t s l a n) = record { run = c; bytes = b; table = t; source = s; within = l; accepted = a; lacks = n }
 cause_of words shelf (long_rows c t p b h e l) = rows c t p b h e l
-cause_of words shelf (worked c t p b h e l w) = work_cause words shelf t p (record { command = c; has = h; rows = b; told = e; within = l; are = refl }) w
+cause_of words shelf (worked c t p b h e l w) = work_cause words shelf t p (record { run = c; has = h; rows = b; told = e; within = l; are = refl }) w
 
--- where a cause stands, this is the answer
+-- ---- the status alone, without the lines
+abbrev alone : Status → Said
+alone s = record { status = s; out = []; err = [] }
+
+abbrev CheckEnds : List PredOf → Said → Type 0
+CheckEnds ps said = said ≡ alone Done
+
+data WorkEnds (p : PredOf) (names : List (List ℕ)) : Records → Said → Type 0 where
+  ends_at_header : {records : Records} → IsWrongHeader names records → WorkEnds p names records (alone Rows)
+  ends_behind : {rest : Records} → WorkEnds p names (names ∷ rest) (alone (cond (all_rows p rest) Done Rows))
+
+-- the steps with the status alone
+abbrev Ends : Words → Shelf → Said → Type 0
+Ends words shelf said = Steps words shelf CheckEnds WorkEnds said
+
+one_check : OneCheck CheckEnds
+one_check ps a b e f = e ∙ sym f
+
+wrong_right : (names : List (List ℕ)) {rs : Records} {ys : Records} → rs ≡ names ∷ ys → IsWrongHeader names rs → ⊥
+wrong_right names f w = (subst (IsWrongHeader names) f w) refl
+
+one_work : OneWork WorkEnds
+one_work p names rs a b w v = by_cases rs rs refl w v
+  where
+    by_cases : (rs ss : Records) {a b : Said} → rs ≡ ss → WorkEnds (pred_of p) names rs a → WorkEnds (pred_of p) names ss b → a ≡ b
+    by_cases rs ss f (ends_at_header w) (ends_at_header v) = refl
+    by_cases rs ss f (ends_at_header w) (ends_behind {rest = ys}) = absurd (wrong_right names f w)
+    by_cases rs ss f (ends_behind {rest = xs}) (ends_at_header v) = absurd (wrong_right names (sym f) v)
+    by_cases rs ss f (ends_behind {rest = xs}) (ends_behind {rest = ys}) = let r : xs ≡ ys = ap (drop 1) f in ap (λ (zs : Records). alone (cond (all_rows (pred_of p) zs) Done Rows)) r
+
+-- the steps end with this status
 record IsOwed (words : Words) (shelf : Shelf) (status : Status) : Type 0 where
   said : Said
-  answer : Answer words shelf said
+  ends : Ends words shelf said
   is : said.status ≡ status
 
-work_answer : (words : Words) (shelf : Shelf) (t : Table) (p : Pred) (records : Records) (status : Status) {said : Said} → HasRecords words shelf t p records → WorkSaid p (column_names t.sites t.params p.args) records said → said.status ≡ status → IsOwed words shelf status
-work_answer words shelf t p records status {said} h w e =
-    let w2 = subst (λ (rs : Records). WorkSaid p (column_names t.sites t.params p.args) rs said) (sym h.are) w in
-    record { said = said; answer = worked h.command t p h.rows h.has h.told h.within w2; is = e }
+check_ends : (words : Words) (shelf : Shelf) (f b : List ℕ) (t : Table) {said : Said} → ((a : Said) → CheckEnds (map pred_of t.preds) a → Ends words shelf a) → CheckSaid (map pred_of t.preds) said → IsOwed words shelf said.status
+check_ends words shelf f b t h (counted lines a) = record { said = alone Done; ends = h (alone Done) refl; is = refl }
 
-rows_answer : (words : Words) (shelf : Shelf) (t : Table) (p : Pred) {records : Records} → HasRecords words shelf t p records → RefusesRows p (column_names t.sites t.params p.args) records → IsOwed words shelf Rows
-rows_answer words shelf t p {records} h (header w) = work_answer words shelf t p records Rows h (wrong_header w) refl
+work_ends : (words : Words) (shelf : Shelf) (p : PredOf) (names : List (List ℕ)) (records : Records) {said : Said} → ((a : Said) → WorkEnds p names records a → Ends words shelf a) → WorkSaid p names records said → IsOwed words shelf said.status
+work_ends words shelf p names records h (wrong_header w) = record { said = alone Rows; ends = h (alone Rows) (ends_at_header w); is = refl }
+work_ends words shelf p names records h (ran {rest = rest} lines l) = record { said = alone (cond (all_rows p rest) Done Rows); ends = h (alone (cond (all_rows p rest) Done Rows)) ends_behind; is = refl }
+
+-- as those of an answer do
+ends_of : (words : Words) (shelf : Shelf) {said : Said} → Answer words shelf said → IsOwed words shelf said.status
+ends_of words shelf (usage e) = record { said = _; ends = usage e; is = refl }
+ends_of words shelf (long_source c b s l) = record { said = _; ends = long_source c b s l; is = refl }
+ends_of words shelf (refused c b r s l k) = record { said = _; ends = refused c b r s l k; is = refl }
+ends_of words shelf (checked f b t s l a w) = check_ends words shelf f b t (λ z v. checked f b t s l a v) w
+ends_of words shelf (no_predicate c b t s l a n) = record { said = _; ends = no_predicate c b t s l a n; is = refl }
+ends_of words shelf (long_rows c t p b h e l) = record { said = _; ends = long_rows c t p b h e l; is = refl }
+ends_of words shelf (worked c t p b h e l w) = work_ends words shelf (pred_of p) (column_names t.sites t.params p.args) (records_in b) (λ z v. worked c t p b h e l v) w
+
+-- and where a cause stands
+work_answer : (words : Words) (shelf : Shelf) (t : Table) (p : Pred) (records : Records) (status : Status) {said : Said} → HasRecords words shelf t p records → WorkEnds (pred_of p) (column_names t.sites t.params p.args) records said → said.status ≡ status → IsOwed words shelf status
+work_answer words shelf t p records status {said} h w e =
+    let w2 = subst (λ (rs : Records). WorkEnds (pred_of p) (column_names t.sites t.params p.args) rs said) (sym h.are) w in
+    record { said = said; ends = worked h.run t p h.rows h.has h.told h.within w2; is = e }
+
+rows_answer : (words : Words) (shelf : Shelf) (t : Table) (p : Pred) {records : Records} → HasRecords words shelf t p records → RefusesRows (pred_of p) (column_names t.sites t.params p.args) records → IsOwed words shelf Rows
+rows_answer words shelf t p {records} h (header w) = work_answer words shelf t p records Rows h (ends_at_header w) refl
 rows_answer words shelf t p h (record_ before after {fields = fields} n) =
-    work_answer words shelf t p (column_names t.sites t.params p.args ∷ before ++ fields ∷ after) Rows h ran (ap (λ b. cond b Done Rows) (some_unsigned p before after fields n))
+    work_answer words shelf t p (column_names t.sites t.params p.args ∷ before ++ fields ∷ after) Rows h ends_behind (ap (λ b. cond b Done Rows) (not_all (pred_of p) before after fields n))
 
 answer_of : (words : Words) (shelf : Shelf) (status : Status) → CauseOf words shelf status → IsOwed words shelf status
-answer_of words shelf Done k = work_answer words shelf k.table k.pred (column_names k.table.sites k.table.params k.pred.args ∷ k.records) Done k.has ran (ap (λ b. cond b Done Rows) (all_signed k.pred k.records k.signs))
-answer_of words shelf Refused k = record { said = _; answer = refused k.command k.bytes k.refusal k.source k.within k.cause; is = refl }
-answer_of words shelf Usage k = record { said = _; answer = usage k; is = refl }
+answer_of words shelf Done (check f b t s l a) = record { said = alone Done; ends = checked f b t s l a refl; is = refl }
+answer_of words shelf Done (run t p records h k) = work_answer words shelf t p (column_names t.sites t.params p.args ∷ records) Done h ends_behind (ap (λ b. cond b Done Rows) (all_is (pred_of p) records k))
+answer_of words shelf Refused k = record { said = _; ends = refused k.command k.bytes k.refusal k.source k.within k.cause; is = refl }
+answer_of words shelf Usage k = record { said = _; ends = usage k; is = refl }
 answer_of words shelf Rows k = rows_answer words shelf k.table k.pred k.has k.refused
-answer_of words shelf NoPredicate k = record { said = _; answer = no_predicate k.command k.bytes k.table k.source k.within k.accepted k.lacks; is = refl }
-answer_of words shelf TooLong (source c b s l) = record { said = _; answer = long_source c b s l; is = refl }
-answer_of words shelf TooLong (rows c t p b h e l) = record { said = _; answer = long_rows c t p b h e l; is = refl }
+answer_of words shelf NoPredicate k = record { said = _; ends = no_predicate k.run k.bytes k.table k.source k.within k.accepted k.lacks; is = refl }
+answer_of words shelf TooLong (source c b s l) = record { said = _; ends = long_source c b s l; is = refl }
+answer_of words shelf TooLong (rows c t p b h e l) = record { said = _; ends = long_rows c t p b h e l; is = refl }
 answer_of words shelf Invalid k = absurd k
 answer_of words shelf Read k = absurd k
 answer_of words shelf Write k = absurd k
@@ -169,7 +204,9 @@ answer_of words shelf Memory k = absurd k
 
 -- a settled status is that of the cause
 settles : (words : Words) (shelf : Shelf) (status result : Status) (was now : Option Shown) → IsOwed words shelf status → Owed words shelf result was now → result ≡ status
-settles words shelf status result was now k o = o.as_said.status ∙ ap (λ (s : Said). s.status) (one_answer words shelf o.owed k.answer) ∙ k.is
+settles words shelf status result was now k o =
+    let i = ends_of words shelf o.owed in
+    o.as_said.status ∙ sym i.is ∙ ap (λ (s : Said). s.status) (one_end CheckEnds WorkEnds one_check one_work words shelf i.ends k.ends) ∙ k.is
 
 -- a status comes where its cause stands
 comes : (words : Words) (shelf : Shelf) (status result : Status) (was now : Option Shown) (reads puts : Type 0) → IsOwed words shelf status → (IsSettled result → Owed words shelf result was now) → (result ≡ Read → reads ⊎ IsMissing words (Some shelf)) → (result ≡ Write → puts)
@@ -187,7 +224,7 @@ comes words shelf status Read was now reads puts k o r w = by_cause (r refl)
   where
     by_cause : reads ⊎ IsMissing words (Some shelf) → (Read ≡ status) ⊎ Yields Read reads puts
     by_cause (inl rose) = inr (inr (inl (refl, rose)))
-    by_cause (inr missing) = absurd (none_missing words shelf missing k.answer)
+    by_cause (inr missing) = absurd (none_missing CheckEnds WorkEnds one_check one_work words shelf missing k.ends)
 
 -- and exactly there
 pub exactly_where : (told : Option Shelf) (words : Words) (status result : Status) (was now : Option Shown) (reads puts : Type 0) → IsSettled status → (IsSettled result → IfSome told (λ shelf. Owed words shelf result was now)) → (result ≡ Read → reads ⊎ IsMissing words told) → (result ≡ Write → puts)

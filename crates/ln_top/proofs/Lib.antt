@@ -1,8 +1,11 @@
-pub mod Products
-pub mod PlainLemmas
 pub mod WorkLemmas
+pub mod CountLemmas
 pub mod SourceLemmas
+pub mod FindLemmas
+pub mod SaysLemmas
 pub mod TopLemmas
 pub mod Likeness
+pub mod OneLine
 pub mod OneAnswer
 pub mod CauseLemmas
+pub mod HeadlineLemmas

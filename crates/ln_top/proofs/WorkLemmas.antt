@@ -1,57 +1,75 @@
 -- Lines put one after the other.
 use Rattle.std.proofs.Common.{cond, codes, subst, inl, inr, ◌≡◌, ◌≤◌, ◌&&◌, ℕ, Bool, true, false, List, [], ◌∷◌, ◌++◌, refl, ap, sym, ◌∙◌, arith, Option, append_assoc}
 use Rattle.std.proofs.lemmas.List.{append-nil}
-use Rattle.std.proofs.lemmas.List.Concat.{flat_map-append}
-use Rattle.std.proofs.lemmas.List.Folds.{list_all-append}
 use Rattle.ln_base.specs.Outside.{Shown, appended}
 use Rattle.ln_base.specs.declared.outside.Port.TheVariants.{Out, Err as ErrPort}
 use Rattle.ln_base.proofs.Kept.{appended-twice, appended-nothing}
-use Rattle.ln_tree.specs.declared.pred.Pred.{Pred}
+use Rattle.ln_tree.specs.Table.{PredOf}
+use Rattle.ln_code.specs.Part.{Part}
+use Rattle.ln_code.specs.Memory.{MadeFor}
+use Rattle.ln_code.specs.declared.scratch.Scratch.{Scratch}
 use Rattle.ln_rows.specs.Left.{Records}
 use Rattle.ln_top.specs.declared.status.Status.{Status}
 use Rattle.ln_top.specs.declared.status.Status.TheVariants.{Done, Rows}
-use Rattle.ln_top.specs.Said.{error_line, IsSettled, put_both, IsWrongHeader, wrong_header, ran, AsSaid, WorkOwed, SaysError}
-use Rattle.ln_top.specs.Line.{line, line_of, lines_of, all_signs, is_sign, verdict}
+use Rattle.ln_top.specs.Said.{error_line, IsSettled, put_both, IsWrongHeader, wrong_header, ran, counted, AsSaid, WorkOwed, CheckOwed, SaysError, PutsLine, PutsLines}
+use Rattle.ln_top.specs.Counts.{AreCounts}
+use Rattle.ln_top.specs.Line.{line, IsLineOf, AreLines, none, more, all_rows, is_row}
 
--- the lines of some records stand on Out, and the rest is left
-pub record Running (p : Pred) (names : List (List ℕ)) (all left : Records) (good : Bool) (was now : Option Shown) (before count : ℕ) : Type 0 where
-  pub done : Records
-  pub parts : all ≡ done ++ left
-  pub shown : now ≡ appended Out (lines_of p names done) was
-  pub signs : good ≡ all_signs p done
-  pub later : before ≤ count
+-- one line more, behind others
+line_behind : (p : PredOf) (names : List (List ℕ)) (done : Records) (fields : List (List ℕ)) {lines : List ℕ} (text : List ℕ) → AreLines p names done lines → IsLineOf p names fields text → AreLines p names (done ++ fields ∷ []) (lines ++ text)
+line_behind p names [] fields text none l = subst (λ (xs : List ℕ). AreLines p names (fields ∷ []) xs) (append-nil text) (more text [] l none)
+line_behind p names (f ∷ fs) fields text (more one texts k ls) l = subst (λ (xs : List ℕ). AreLines p names (f ∷ fs ++ fields ∷ []) xs) (sym (append_assoc one texts text)) (more one (texts ++ text) k (line_behind p names fs fields text ls l))
 
--- nothing has been put yet
-pub running_start : (p : Pred) (names : List (List ℕ)) (all : Records) (was : Option Shown) (before : ℕ) → Running p names all all true was was before before
-running_start p names all was before = record { done = []; parts = refl; shown = appended_nothing was; signs = refl; later = omega arith }
+row_behind : (p : PredOf) (done : Records) (fields : List (List ℕ)) → all_rows p (done ++ fields ∷ []) ≡ (all_rows p done && is_row p fields)
+row_behind p [] fields = and_true (is_row p fields)
   where
-    appended_nothing : (s : Option Shown) → s ≡ appended Out [] s
-    appended_nothing s = sym (appended-nothing Out s)
-
--- one more line
-pub running_more : (p : Pred) (names : List (List ℕ)) (all left rest : Records) (fields : List (List ℕ)) (good sign : Bool) (was now then : Option Shown) (before count after : ℕ) → Running p names all left good was now before count
-    → left ≡ fields ∷ rest → sign ≡ is_sign (verdict p fields) → then ≡ appended Out (line_of p names fields) now → count ≤ after → Running p names all rest (good && sign) was then before after
-running_more p names all left rest fields good sign was now then before count after s l g e h = record {
-  done = s.done ++ fields ∷ [];
-  parts = s.parts ∙ rw (l, append_assoc) refl;
-  shown = e ∙ rw (s.shown, appended-twice, flat_map-append (line_of p names) s.done (fields ∷ []), append-nil) refl;
-  signs = rw (s.signs, g, list_all-append) (ap (λ b. all_signs p s.done && b) (and_true (is_sign (verdict p fields))));
-  later = omega (arith, s.later, h);
-}
-  where
-    and_true : (b : Bool) → b ≡ (b && true)
+    and_true : (b : Bool) → (b && true) ≡ b
     and_true true = refl
     and_true false = refl
+row_behind p (f ∷ fs) fields = ap (λ b. is_row p f && b) (row_behind p fs fields) ∙ and_assoc (is_row p f) (all_rows p fs) (is_row p fields)
+  where
+    and_assoc : (a b c : Bool) → (a && (b && c)) ≡ ((a && b) && c)
+    and_assoc true b c = refl
+    and_assoc false b c = refl
+
+-- the lines of some records stand on Out, and the rest is left
+pub record Running (p : PredOf) (part : Part) (names : List (List ℕ)) (all left : Records) (good : Bool) (was now : Option Shown) (before count : ℕ) (scratch : Scratch) : Type 0 where
+  pub done : Records
+  pub parts : all ≡ done ++ left
+  pub lines : List ℕ
+  pub are : AreLines p names done lines
+  pub shown : now ≡ appended Out lines was
+  pub rows : good ≡ all_rows p done
+  pub later : before ≤ count
+  pub made : MadeFor part scratch
+
+-- nothing has been put yet
+pub running_start : (p : PredOf) (part : Part) (names : List (List ℕ)) (all : Records) (was : Option Shown) (before : ℕ) (scratch : Scratch) → MadeFor part scratch → Running p part names all all true was was before before scratch
+running_start p part names all was before scratch m = record { done = []; parts = refl; lines = []; are = none; shown = sym (appended-nothing Out was); rows = refl; later = omega arith; made = m }
+
+-- one more line
+pub running_more : (p : PredOf) (part : Part) (names : List (List ℕ)) (all left rest : Records) (fields : List (List ℕ)) (good right : Bool) (was now then : Option Shown) (before count after : ℕ) (scratch next : Scratch) → Running p part names all left good was now before count scratch
+    → left ≡ fields ∷ rest → right ≡ is_row p fields → PutsLine p names fields now then → count ≤ after → MadeFor part next → Running p part names all rest (good && right) was then before after next
+running_more p part names all left rest fields good right was now then before count after scratch next s l g e h m = record {
+  done = s.done ++ fields ∷ [];
+  parts = s.parts ∙ rw (l, append_assoc) refl;
+  lines = s.lines ++ e.text;
+  are = line_behind p names s.done fields e.text s.are e.is_line;
+  shown = e.shown ∙ ap (appended Out e.text) s.shown ∙ appended-twice Out s.lines e.text was;
+  rows = rw (s.rows, g) (sym (row_behind p s.done fields));
+  later = omega (arith, s.later, h);
+  made = m;
+}
 
 -- no record is left: all lines stand
-pub ran_all : (p : Pred) (names : List (List ℕ)) (all left : Records) (good : Bool) (was now : Option Shown) (before count : ℕ) → (s : Running p names all left good was now before count) → left ≡ [] → s.done ≡ all
-ran_all p names all left good was now before count s l = sym (s.parts ∙ rw (l, append-nil) refl)
+ran_all : (p : PredOf) (part : Part) (names : List (List ℕ)) (all left : Records) (good : Bool) (was now : Option Shown) (before count : ℕ) (scratch : Scratch) → (s : Running p part names all left good was now before count scratch) → left ≡ [] → s.done ≡ all
+ran_all p part names all left good was now before count scratch s l = sym (s.parts ∙ rw (l, append-nil) refl)
 
-pub all_shown : (p : Pred) (names : List (List ℕ)) (all left : Records) (good : Bool) (was now : Option Shown) (before count : ℕ) → Running p names all left good was now before count → left ≡ [] → now ≡ appended Out (lines_of p names all) was
-all_shown p names all left good was now before count s l = s.shown ∙ ap (λ rs. appended Out (lines_of p names rs) was) (ran_all p names all left good was now before count s l)
+pub all_shown : (p : PredOf) (part : Part) (names : List (List ℕ)) (all left : Records) (good : Bool) (was now : Option Shown) (before count : ℕ) (scratch : Scratch) → Running p part names all left good was now before count scratch → left ≡ [] → PutsLines p names all was now
+all_shown p part names all left good was now before count scratch s l = record { lines = s.lines; are = subst (λ (rs : Records). AreLines p names rs s.lines) (ran_all p part names all left good was now before count scratch s l) s.are; shown = s.shown }
 
-pub all_good : (p : Pred) (names : List (List ℕ)) (all left : Records) (good : Bool) (was now : Option Shown) (before count : ℕ) → Running p names all left good was now before count → left ≡ [] → good ≡ all_signs p all
-all_good p names all left good was now before count s l = s.signs ∙ ap (all_signs p) (ran_all p names all left good was now before count s l)
+pub all_good : (p : PredOf) (part : Part) (names : List (List ℕ)) (all left : Records) (good : Bool) (was now : Option Shown) (before count : ℕ) (scratch : Scratch) → Running p part names all left good was now before count scratch → left ≡ [] → good ≡ all_rows p all
+all_good p part names all left good was now before count scratch s l = s.rows ∙ ap (all_rows p) (ran_all p part names all left good was now before count scratch s l)
 
 -- an error line alone
 pub error_alone : (text : List ℕ) (was : Option Shown) → appended ErrPort text was ≡ put_both [] text was
@@ -67,7 +85,7 @@ error_as_said status result text was now before after (inl says) s = record { st
 error_as_said status result text was now before after (inr fails) s = absurd (subst IsSettled fails.0 s)
 
 -- the header is wrong
-pub header_owed : (p : Pred) (names : List (List ℕ)) (records taken : Records) (result : Status) (was now : Option Shown) (before after : ℕ) → taken ≡ records → IsWrongHeader names taken
+pub header_owed : (p : PredOf) (names : List (List ℕ)) (records taken : Records) (result : Status) (was now : Option Shown) (before after : ℕ) → taken ≡ records → IsWrongHeader names taken
     → SaysError Rows (line (codes "error header")) result was now before after → IsSettled result → WorkOwed p names records result was now
 header_owed p names records taken result was now before after e wrong says s = record {
   said = error_line Rows (codes "error header");
@@ -76,12 +94,20 @@ header_owed p names records taken result was now before after e wrong says s = r
 }
 
 -- the lines stand behind the header
-pub lines_owed : (p : Pred) (names : List (List ℕ)) (records taken rest : Records) (good : Bool) (was now : Option Shown) → taken ≡ records → taken ≡ names ∷ rest → good ≡ all_signs p rest → now ≡ appended Out (lines_of p names rest) was
+pub lines_owed : (p : PredOf) (names : List (List ℕ)) (records taken rest : Records) (good : Bool) (was now : Option Shown) → taken ≡ records → taken ≡ names ∷ rest → good ≡ all_rows p rest → PutsLines p names rest was now
     → WorkOwed p names records (cond good Done Rows) was now
-lines_owed p names records taken rest good was now e h g shown =
+lines_owed p names records taken rest good was now e h g put =
     let owed : WorkOwed p names (names ∷ rest) (cond good Done Rows) was now = record {
-      said = record { status = cond (all_signs p rest) Done Rows; out = lines_of p names rest; err = [] };
-      owed = ran;
-      as_said = record { status = ap (λ b. cond b Done Rows) g; shown = shown ∙ lines_alone (lines_of p names rest) was };
+      said = record { status = cond (all_rows p rest) Done Rows; out = put.lines; err = [] };
+      owed = ran put.lines put.are;
+      as_said = record { status = ap (λ b. cond b Done Rows) g; shown = put.shown ∙ lines_alone put.lines was };
     } in
     subst (λ (rs : Records). WorkOwed p names rs (cond good Done Rows) was now) (sym h ∙ e) owed
+
+-- the lines of a checked source stand
+pub counts_owed : (preds : List PredOf) (lines : List ℕ) (was now : Option Shown) → AreCounts preds lines → now ≡ appended Out lines was → CheckOwed preds Done was now
+counts_owed preds lines was now a e = record {
+  said = record { status = Done; out = lines; err = [] };
+  owed = counted lines a;
+  as_said = record { status = refl; shown = e ∙ lines_alone lines was };
+}

@@ -1,11 +1,12 @@
 -- What the program answers, from its words and the told files, by the order of its steps.
-use Rattle.std.specs.Prelude.{◌≡◌, ◌⊎◌, ℕ, ◌≤◌, ◌<◌, List, length, codes, Option, Some, None}
+use Rattle.std.specs.Prelude.{◌≡◌, ◌⊎◌, ℕ, ◌≤◌, ◌<◌, List, length, map, codes, Option, Some, None}
 use Rattle.ln_base.specs.Outside.{Shelf, bytes_of, Rose, Shown, appended}
 use Rattle.ln_base.specs.declared.outside.Port.TheVariants.{Err as ErrPort}
 use Rattle.ln_tree.specs.declared.table.Table.{Table}
 use Rattle.ln_tree.specs.declared.pred.Pred.{Pred}
 use Rattle.ln_rows.specs.Columns.{column_names}
-use Rattle.ln_rows.specs.Left.{records_in}
+use Rattle.ln_tree.specs.Table.{PredOf, pred_of}
+use Rattle.ln_rows.specs.Left.{Records, records_in}
 use Rattle.ln_top.specs.declared.status.Status.{Status}
 use Rattle.ln_top.specs.declared.status.Status.TheVariants as status
 use Rattle.ln_top.specs.declared.stop.Refusal.{Refusal}
@@ -13,9 +14,9 @@ use Rattle.ln_top.specs.declared.stop.Stop.{Stop}
 use Rattle.ln_top.specs.declared.stop.Stop.TheVariants.{Usage, Read, TooLong, Refused, NoPredicate, Memory}
 use Rattle.ln_top.specs.Line.{line}
 use Rattle.ln_top.specs.Stop.{refusal_text, stop_text, stop_status}
-use Rattle.ln_top.specs.Words.{Command, command_of}
+use Rattle.ln_top.specs.Words.{Command, Check, Rows, Run, command_of, file_of}
 use Rattle.ln_top.specs.Source.{IsAccepted, IsRefusedFor, named}
-use Rattle.ln_top.specs.Said.{Said, error_line, WorkSaid, AsSaid}
+use Rattle.ln_top.specs.Said.{Said, error_line, CheckSaid, WorkSaid, AsSaid}
 
 -- a source file has at most 1,048,576 bytes
 abbrev pub most_source : ℕ
@@ -28,30 +29,36 @@ most_rows = 67108864
 -- the words are this command, and its source file has these bytes
 pub record HasSource (words : List (List ℕ)) (shelf : Shelf) (c : Command) (bytes : List ℕ) : Type 0 where
   pub form : command_of words ≡ Some c
-  pub told : bytes_of c.file shelf ≡ Some bytes
+  pub told : bytes_of (file_of c) shelf ≡ Some bytes
 
 -- and the source is within its limit and has this table, with the named predicate
-pub record HasPredicate (words : List (List ℕ)) (shelf : Shelf) (c : Command) (t : Table) (p : Pred) : Type 0 where
+pub record HasPredicate (words : List (List ℕ)) (shelf : Shelf) (run : Run) (t : Table) (p : Pred) : Type 0 where
   pub bytes : List ℕ
-  pub source : HasSource words shelf c bytes
+  pub source : HasSource words shelf (Rows run) bytes
   pub within : length bytes ≤ most_source
   pub accepted : IsAccepted bytes t
-  pub is_named : named c.name t.preds ≡ Some p
+  pub is_named : named run.name t.preds ≡ Some p
 
--- what is owed to words and told files; the first step that stops decides
-pub data Answer (words : List (List ℕ)) (shelf : Shelf) : Said → Type 0 where
+-- what is owed to words and told files, where this is owed by the check of an accepted source and by the work on rows; the first step that stops decides
+pub data Steps (words : List (List ℕ)) (shelf : Shelf) (checks : List PredOf → Said → Type 0) (works : PredOf → List (List ℕ) → Records → Said → Type 0) : Said → Type 0 where
   -- the words are no command
-  usage : command_of words ≡ None → Answer words shelf (error_line status.Usage (codes "error usage"))
+  usage : command_of words ≡ None → Steps words shelf checks works (error_line status.Usage (codes "error usage"))
   -- the source file is over its limit
-  long_source : (c : Command) (bytes : List ℕ) → HasSource words shelf c bytes → most_source < length bytes → Answer words shelf (error_line status.TooLong (codes "error long"))
+  long_source : (c : Command) (bytes : List ℕ) → HasSource words shelf c bytes → most_source < length bytes → Steps words shelf checks works (error_line status.TooLong (codes "error long"))
   -- the source is refused
-  refused : (c : Command) (bytes : List ℕ) (r : Refusal) → HasSource words shelf c bytes → length bytes ≤ most_source → IsRefusedFor bytes r → Answer words shelf (error_line status.Refused (refusal_text r))
+  refused : (c : Command) (bytes : List ℕ) (r : Refusal) → HasSource words shelf c bytes → length bytes ≤ most_source → IsRefusedFor bytes r → Steps words shelf checks works (error_line status.Refused (refusal_text r))
+  -- the source is checked
+  checked : (file bytes : List ℕ) (t : Table) {said : Said} → HasSource words shelf (Check file) bytes → length bytes ≤ most_source → IsAccepted bytes t → checks (map pred_of t.preds) said → Steps words shelf checks works said
   -- the source has no predicate of the name
-  no_predicate : (c : Command) (bytes : List ℕ) (t : Table) → HasSource words shelf c bytes → length bytes ≤ most_source → IsAccepted bytes t → named c.name t.preds ≡ None → Answer words shelf (error_line status.NoPredicate (codes "error predicate"))
+  no_predicate : (run : Run) (bytes : List ℕ) (t : Table) → HasSource words shelf (Rows run) bytes → length bytes ≤ most_source → IsAccepted bytes t → named run.name t.preds ≡ None → Steps words shelf checks works (error_line status.NoPredicate (codes "error predicate"))
   -- the rows file is over its limit
-  long_rows : (c : Command) (t : Table) (p : Pred) (rows : List ℕ) → HasPredicate words shelf c t p → bytes_of c.rows shelf ≡ Some rows → most_rows < length rows → Answer words shelf (error_line status.TooLong (codes "error long"))
-  -- the rows are read: a line for each record behind the header
-  worked : (c : Command) (t : Table) (p : Pred) (rows : List ℕ) {said : Said} → HasPredicate words shelf c t p → bytes_of c.rows shelf ≡ Some rows → length rows ≤ most_rows → WorkSaid p (column_names t.sites t.params p.args) (records_in rows) said → Answer words shelf said
+  long_rows : (run : Run) (t : Table) (p : Pred) (rows : List ℕ) → HasPredicate words shelf run t p → bytes_of run.rows shelf ≡ Some rows → most_rows < length rows → Steps words shelf checks works (error_line status.TooLong (codes "error long"))
+  -- the rows are worked on
+  worked : (run : Run) (t : Table) (p : Pred) (rows : List ℕ) {said : Said} → HasPredicate words shelf run t p → bytes_of run.rows shelf ≡ Some rows → length rows ≤ most_rows → works (pred_of p) (column_names t.sites t.params p.args) (records_in rows) said → Steps words shelf checks works said
+
+-- what is owed to words and told files: of a checked source a line for each predicate, of rows a line for each record behind the header
+abbrev pub Answer : List (List ℕ) → Shelf → Said → Type 0
+Answer words shelf said = Steps words shelf CheckSaid WorkSaid said
 
 -- what is owed is what was answered
 pub record Owed (words : List (List ℕ)) (shelf : Shelf) (result : Status) (was now : Option Shown) : Type 0 where
@@ -61,8 +68,8 @@ pub record Owed (words : List (List ℕ)) (shelf : Shelf) (result : Status) (was
 
 -- a file that the words name and the steps reach isn't there
 pub data IsMissing (words : List (List ℕ)) : Option Shelf → Type 0 where
-  no_source : {shelf : Shelf} (c : Command) → command_of words ≡ Some c → bytes_of c.file shelf ≡ None → IsMissing words (Some shelf)
-  no_rows : {shelf : Shelf} (c : Command) (t : Table) (p : Pred) → HasPredicate words shelf c t p → bytes_of c.rows shelf ≡ None → IsMissing words (Some shelf)
+  no_source : {shelf : Shelf} (c : Command) → command_of words ≡ Some c → bytes_of (file_of c) shelf ≡ None → IsMissing words (Some shelf)
+  no_rows : {shelf : Shelf} (run : Run) (t : Table) (p : Pred) → HasPredicate words shelf run t p → bytes_of run.rows shelf ≡ None → IsMissing words (Some shelf)
 
 -- the line of a stop was put and the status is the stop's, or the console failed, or memory ran out
 abbrev pub SaysStop : Stop → Status → Option Shown → Option Shown → ℕ → ℕ → Type 0

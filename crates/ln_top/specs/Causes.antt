@@ -1,10 +1,10 @@
 -- When each status comes.
-use Rattle.std.specs.Prelude.{◌≡◌, ◌≢◌, ◌⊎◌, ℕ, pos, ◌≤◌, ◌<◌, List, [], ◌∷◌, ◌++◌, length, map, codes, All, Option, Some, None, IfSome, Ok, Err}
+use Rattle.std.specs.Prelude.{◌≡◌, ◌⊎◌, ℕ, ◌≤◌, ◌<◌, List, [], ◌∷◌, ◌++◌, length, codes, All, Option, Some, None, IfSome, Ok, Err}
 use Rattle.ln_base.specs.Outside.{Shelf, bytes_of, Shown}
 use Rattle.ln_tree.specs.declared.table.Table.{Table}
 use Rattle.ln_tree.specs.declared.pred.Pred.{Pred}
-use Rattle.ln_tree.specs.Formula.{formula}
 use Rattle.ln_tree.specs.Row.{Row}
+use Rattle.ln_tree.specs.Table.{PredOf, pred_of}
 use Rattle.ln_rows.specs.Columns.{column_names}
 use Rattle.ln_rows.specs.Left.{Records, records_in}
 use Rattle.ln_rows.specs.Record.{read_row}
@@ -13,39 +13,34 @@ use Rattle.ln_top.specs.declared.status.Status.{Status}
 use Rattle.ln_top.specs.declared.status.Status.TheVariants as status
 use Rattle.ln_top.specs.declared.stop.Refusal.{Refusal}
 use Rattle.ln_top.specs.Line.{line}
-use Rattle.ln_top.specs.Plain.{plain_value}
-use Rattle.ln_top.specs.Words.{Command}
+use Rattle.ln_top.specs.Words.{Command, Check, Rows, Run}
 use Rattle.ln_top.specs.Source.{IsAccepted, IsRefusedFor, named}
 use Rattle.ln_top.specs.Said.{IsWrongHeader, put_both}
 use Rattle.ln_top.specs.Answer.{most_source, most_rows, HasSource, HasPredicate}
 
--- a record has no sign: it is no row in range, or the plain value on its row is 0
-pub data HasNoSign (p : Pred) (fields : List (List ℕ)) : Type 0 where
-  no_row : (stop : RowStop) → read_row p.shape.sites p.shape.vars fields ≡ Err stop → HasNoSign p fields
-  degenerate : (row : Row) → read_row p.shape.sites p.shape.vars fields ≡ Ok row → plain_value p.shape.vars (map formula p.lets) (formula p.root) row.values ≡ pos 0 → HasNoSign p fields
+-- a record is no row in range
+pub record IsNoRow (p : PredOf) (fields : List (List ℕ)) : Type 0 where
+  pub stop : RowStop
+  pub read : read_row p.sites p.vars fields ≡ Err stop
 
--- a record has a sign: it is a row in range, and the plain value on that row isn't 0
-pub record HasSign (p : Pred) (fields : List (List ℕ)) : Type 0 where
+-- a record is a row in range
+pub record IsRow (p : PredOf) (fields : List (List ℕ)) : Type 0 where
   pub row : Row
-  pub read : read_row p.shape.sites p.shape.vars fields ≡ Ok row
-  pub nonzero : plain_value p.shape.vars (map formula p.lets) (formula p.root) row.values ≢ pos 0
+  pub read : read_row p.sites p.vars fields ≡ Ok row
 
 -- the rows file of the words is within its limit and has these records, for this predicate of this table
 pub record HasRecords (words : List (List ℕ)) (shelf : Shelf) (t : Table) (p : Pred) (records : Records) : Type 0 where
-  pub command : Command
-  pub has : HasPredicate words shelf command t p
+  pub run : Run
+  pub has : HasPredicate words shelf run t p
   pub rows : List ℕ
-  pub told : bytes_of command.rows shelf ≡ Some rows
+  pub told : bytes_of run.rows shelf ≡ Some rows
   pub within : length rows ≤ most_rows
   pub are : records_in rows ≡ records
 
--- done: the words are a command, its files are there and within their limits, its source is accepted and has the predicate, the first record is the columns' names, and each record behind it has a sign
-pub record IsValid (words : List (List ℕ)) (shelf : Shelf) : Type 0 where
-  pub table : Table
-  pub pred : Pred
-  pub records : Records
-  pub has : HasRecords words shelf table pred (column_names table.sites table.params pred.args ∷ records)
-  pub signs : All (HasSign pred) records
+-- done: the words are a command, its files are there and within their limits, its source is accepted; and for rows it has the predicate, the first record is the columns' names, and each record behind it is a row in range
+pub data IsValid (words : List (List ℕ)) (shelf : Shelf) : Type 0 where
+  check : (file bytes : List ℕ) (t : Table) → HasSource words shelf (Check file) bytes → length bytes ≤ most_source → IsAccepted bytes t → IsValid words shelf
+  run : (t : Table) (p : Pred) (records : Records) → HasRecords words shelf t p (column_names t.sites t.params p.args ∷ records) → All (IsRow (pred_of p)) records → IsValid words shelf
 
 -- refused: the source has a first fault
 pub record IsRefused (words : List (List ℕ)) (shelf : Shelf) : Type 0 where
@@ -58,30 +53,30 @@ pub record IsRefused (words : List (List ℕ)) (shelf : Shelf) : Type 0 where
 
 -- no predicate: the accepted source has none of the name
 pub record LacksPredicate (words : List (List ℕ)) (shelf : Shelf) : Type 0 where
-  pub command : Command
+  pub run : Run
   pub bytes : List ℕ
   pub table : Table
-  pub source : HasSource words shelf command bytes
+  pub source : HasSource words shelf (Rows run) bytes
   pub within : length bytes ≤ most_source
   pub accepted : IsAccepted bytes table
-  pub lacks : named command.name table.preds ≡ None
+  pub lacks : named run.name table.preds ≡ None
 
--- rows: the first record isn't the columns' names, there being none included, or a record behind it has no sign
-pub data RefusesRows (p : Pred) (names : List (List ℕ)) : Records → Type 0 where
+-- rows: the first record isn't the columns' names, there being none included, or a record behind it is no row in range
+pub data RefusesRows (p : PredOf) (names : List (List ℕ)) : Records → Type 0 where
   header : {records : Records} → IsWrongHeader names records → RefusesRows p names records
-  record_ : (before after : Records) {fields : List (List ℕ)} → HasNoSign p fields → RefusesRows p names (names ∷ before ++ fields ∷ after)
+  record_ : (before after : Records) {fields : List (List ℕ)} → IsNoRow p fields → RefusesRows p names (names ∷ before ++ fields ∷ after)
 
 pub record HasRefusedRows (words : List (List ℕ)) (shelf : Shelf) : Type 0 where
   pub table : Table
   pub pred : Pred
   pub records : Records
   pub has : HasRecords words shelf table pred records
-  pub refused : RefusesRows pred (column_names table.sites table.params pred.args) records
+  pub refused : RefusesRows (pred_of pred) (column_names table.sites table.params pred.args) records
 
 -- too long: the source file has more than 1,048,576 bytes, or the rows file more than 67,108,864
 pub data IsTooLong (words : List (List ℕ)) (shelf : Shelf) : Type 0 where
   source : (c : Command) (bytes : List ℕ) → HasSource words shelf c bytes → most_source < length bytes → IsTooLong words shelf
-  rows : (c : Command) (t : Table) (p : Pred) (bytes : List ℕ) → HasPredicate words shelf c t p → bytes_of c.rows shelf ≡ Some bytes → most_rows < length bytes → IsTooLong words shelf
+  rows : (run : Run) (t : Table) (p : Pred) (bytes : List ℕ) → HasPredicate words shelf run t p → bytes_of run.rows shelf ≡ Some bytes → most_rows < length bytes → IsTooLong words shelf
 
 -- invalid: no command judges a listing yet
 abbrev pub IsInvalid : List (List ℕ) → Shelf → Type 0

@@ -1,8 +1,9 @@
-pub mod Plain
 pub mod Line
+pub mod Counts
 pub mod Said
 pub mod Words
 pub mod Stop
 pub mod Source
 pub mod Answer
 pub mod Causes
+pub mod Headline

@@ -1,30 +1,33 @@
 -- The line of each record.
-use Rattle.std.specs.Prelude.{ℕ, ℤ, pos, int_lt, Bool, false, ◌||◌, if◌then◌else◌, List, [], ◌∷◌, ◌++◌, map, flat_map, codes, slice_index_or, Result, Ok, Err}
-use Rattle.std.specs.List.{list_all}
-use Rattle.ln_tree.specs.declared.pred.Pred.{Pred}
-use Rattle.ln_tree.specs.Formula.{formula}
+use Rattle.std.specs.Prelude.{◌≡◌, ℕ, Bool, true, false, ◌&&◌, List, [], ◌∷◌, ◌++◌, codes, decimal, slice_index_or, Result, Ok, Err}
+use Rattle.ln_base.specs.declared.sign.Sign.{Sign}
+use Rattle.ln_base.specs.declared.sign.Sign.TheVariants.{Minus, Zero, Plus}
 use Rattle.ln_tree.specs.Row.{Row}
+use Rattle.ln_tree.specs.Table.{PredOf}
+use Rattle.ln_code.specs.declared.verdict.Verdict.{Verdict}
+use Rattle.ln_code.specs.declared.verdict.By.{By}
+use Rattle.ln_code.specs.declared.verdict.By.TheVariants.{Filter, Stage, Nothing}
 use Rattle.ln_rows.specs.declared.record.RowStop.{RowStop}
 use Rattle.ln_rows.specs.declared.record.RowStop.TheVariants.{Fields, Number, Range, Index}
+use Rattle.ln_rows.specs.Left.{Records}
 use Rattle.ln_rows.specs.Record.{read_row}
-use Rattle.ln_top.specs.Plain.{plain_value}
+use Rattle.ln_compile.specs.Accepted.{root_of}
+use Rattle.ln_compile.specs.Due.{Due, NoFilter}
 
 -- a line ends with a line feed
 abbrev pub line : List ℕ → List ℕ
 line text = text ++ 10 ∷ []
 
--- the plain value on a row, or why there is no row
-abbrev pub value_or_stop : Pred → Result Row RowStop → Result ℤ RowStop
-value_or_stop p (Ok r) = Ok (plain_value p.shape.vars (map formula p.lets) (formula p.root) r.values)
-value_or_stop p (Err stop) = Err stop
+abbrev pub sign_text : Sign → List ℕ
+sign_text Minus = codes "-"
+sign_text Zero = codes "0"
+sign_text Plus = codes "+"
 
--- what a predicate says of a record: its plain value on the record's row, or why the record is no row
-abbrev pub verdict : Pred → List (List ℕ) → Result ℤ RowStop
-verdict p fields = value_or_stop p (read_row p.shape.sites p.shape.vars fields)
-
--- the sign of a value that decides at the plain stage; 0 decides nothing
-abbrev pub sign_text : ℤ → List ℕ
-sign_text z = if int_lt (pos 0) z then codes "+ 0" else if int_lt z (pos 0) then codes "- 0" else codes "! degenerate"
+-- the decider: the filter, the place of a stage, or nothing
+abbrev pub decider_text : By → List ℕ
+decider_text Filter = codes "F"
+decider_text (Stage place) = decimal place
+decider_text Nothing = codes "-"
 
 -- why a record is no row; a column by its name
 abbrev pub stop_text : List (List ℕ) → RowStop → List ℕ
@@ -33,23 +36,41 @@ stop_text names (Number k) = codes "! number " ++ slice_index_or names k []
 stop_text names (Range k) = codes "! range " ++ slice_index_or names k []
 stop_text names (Index k) = codes "! index " ++ slice_index_or names k []
 
-abbrev pub verdict_text : List (List ℕ) → Result ℤ RowStop → List ℕ
-verdict_text names (Ok z) = sign_text z
-verdict_text names (Err stop) = stop_text names stop
+-- a verdict's sign, a space and its decider; or why there is no row
+abbrev pub said_text : List (List ℕ) → Result Verdict RowStop → List ℕ
+said_text names (Ok v) = sign_text v.sign ++ 32 ∷ decider_text v.by
+said_text names (Err stop) = stop_text names stop
 
--- is it a sign, and no refusal?
-abbrev pub is_sign : Result ℤ RowStop → Bool
-is_sign (Ok z) = int_lt (pos 0) z || int_lt z (pos 0)
-is_sign (Err stop) = false
+-- what a predicate says of a record: a verdict that the record's row is owed, or why the record is no row
+pub data Says (p : PredOf) (fields : List (List ℕ)) : Result Verdict RowStop → Type 0 where
+  due : (row : Row) (v : Verdict) → read_row p.sites p.vars fields ≡ Ok row → Due NoFilter p.vars (root_of p) row v → Says p fields (Ok v)
+  refused_ : (stop : RowStop) → read_row p.sites p.vars fields ≡ Err stop → Says p fields (Err stop)
 
 -- the line of a record
-abbrev pub line_of : Pred → List (List ℕ) → List (List ℕ) → List ℕ
-line_of p names fields = line (verdict_text names (verdict p fields))
+pub record IsLineOf (p : PredOf) (names fields : List (List ℕ)) (text : List ℕ) : Type 0 where
+  pub said : Result Verdict RowStop
+  pub says : Says p fields said
+  pub is : text ≡ line (said_text names said)
 
 -- the lines of records, in order
-abbrev pub lines_of : Pred → List (List ℕ) → List (List (List ℕ)) → List ℕ
-lines_of p names records = flat_map (line_of p names) records
+pub data AreLines (p : PredOf) (names : List (List ℕ)) : Records → List ℕ → Type 0 where
+  none : AreLines p names [] []
+  more : {fields : List (List ℕ)} {rest : Records} (text texts : List ℕ) → IsLineOf p names fields text → AreLines p names rest texts → AreLines p names (fields ∷ rest) (text ++ texts)
 
--- does each record have a sign?
-abbrev pub all_signs : Pred → List (List (List ℕ)) → Bool
-all_signs p records = list_all (λ fields. is_sign (verdict p fields)) records
+abbrev pub is_read : Result Row RowStop → Bool
+is_read (Ok row) = true
+is_read (Err stop) = false
+
+-- is a record a row in range?
+abbrev pub is_row : PredOf → List (List ℕ) → Bool
+is_row p fields = is_read (read_row p.sites p.vars fields)
+
+-- is this a verdict?
+abbrev pub is_said : Result Verdict RowStop → Bool
+is_said (Ok v) = true
+is_said (Err stop) = false
+
+-- is each record one?
+abbrev pub all_rows : PredOf → Records → Bool
+all_rows p [] = true
+all_rows p (fields ∷ rest) = is_row p fields && all_rows p rest

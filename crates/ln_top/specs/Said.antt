@@ -2,11 +2,12 @@
 use Rattle.std.specs.Prelude.{◌≡◌, ◌⊎◌, ℕ, Bool, true, false, List, [], ◌∷◌, Option, if◌then◌else◌, codes}
 use Rattle.ln_base.specs.Outside.{Rose, Shown, appended}
 use Rattle.ln_base.specs.declared.outside.Port.TheVariants.{Out, Err as ErrPort}
-use Rattle.ln_tree.specs.declared.pred.Pred.{Pred}
+use Rattle.ln_tree.specs.Table.{PredOf}
 use Rattle.ln_rows.specs.Left.{Records}
 use Rattle.ln_top.specs.declared.status.Status.{Status}
 use Rattle.ln_top.specs.declared.status.Status.TheVariants.{Done, Refused, Usage, Rows, NoPredicate, Invalid, Read, Write, TooLong, Memory}
-use Rattle.ln_top.specs.Line.{line, lines_of, all_signs}
+use Rattle.ln_top.specs.Line.{line, IsLineOf, AreLines, all_rows}
+use Rattle.ln_top.specs.Counts.{AreCounts}
 
 -- a status, and what stands on each port
 pub record Said : Type 0 where
@@ -41,19 +42,41 @@ IsWrongHeader names [] = Unit {0}
 IsWrongHeader names (first ∷ rest) = first ≡ names → ⊥
 
 -- what a predicate with these columns says of a rows file with these records: behind the header a line for each record, in order
-pub data WorkSaid (p : Pred) (names : List (List ℕ)) : Records → Said → Type 0 where
+pub data WorkSaid (p : PredOf) (names : List (List ℕ)) : Records → Said → Type 0 where
   wrong_header : {records : Records} → IsWrongHeader names records → WorkSaid p names records (error_line Rows (codes "error header"))
-  ran : {rest : Records} → WorkSaid p names (names ∷ rest) (record { status = if all_signs p rest then Done else Rows; out = lines_of p names rest; err = [] })
+  ran : {rest : Records} (lines : List ℕ) → AreLines p names rest lines → WorkSaid p names (names ∷ rest) (record { status = if all_rows p rest then Done else Rows; out = lines; err = [] })
+
+-- what is said of the predicates of an accepted source: a line for each, in order
+pub data CheckSaid (preds : List PredOf) : Said → Type 0 where
+  counted : (lines : List ℕ) → AreCounts preds lines → CheckSaid preds (record { status = Done; out = lines; err = [] })
 
 -- the status and what came to the ports are as said
 pub record AsSaid (said : Said) (result : Status) (was now : Option Shown) : Type 0 where
   pub status : result ≡ said.status
   pub shown : now ≡ put_both said.out said.err was
 
+-- the line of a record came to Out
+pub record PutsLine (p : PredOf) (names fields : List (List ℕ)) (was now : Option Shown) : Type 0 where
+  pub text : List ℕ
+  pub is_line : IsLineOf p names fields text
+  pub shown : now ≡ appended Out text was
+
+-- the lines of records came to Out
+pub record PutsLines (p : PredOf) (names : List (List ℕ)) (records : Records) (was now : Option Shown) : Type 0 where
+  pub lines : List ℕ
+  pub are : AreLines p names records lines
+  pub shown : now ≡ appended Out lines was
+
 -- the work on a rows file says what is owed
-pub record WorkOwed (p : Pred) (names : List (List ℕ)) (records : Records) (result : Status) (was now : Option Shown) : Type 0 where
+pub record WorkOwed (p : PredOf) (names : List (List ℕ)) (records : Records) (result : Status) (was now : Option Shown) : Type 0 where
   pub said : Said
   pub owed : WorkSaid p names records said
+  pub as_said : AsSaid said result was now
+
+-- the check of an accepted source says what is owed
+pub record CheckOwed (preds : List PredOf) (result : Status) (was now : Option Shown) : Type 0 where
+  pub said : Said
+  pub owed : CheckSaid preds said
   pub as_said : AsSaid said result was now
 
 -- a status that ends the work early: a fault of writing, or no memory
@@ -69,7 +92,7 @@ StopsWork Invalid before after = ⊥
 StopsWork Read before after = ⊥
 StopsWork TooLong before after = ⊥
 
--- a status that the work on rows ends with
+-- a status that the work ends with, on rows or on the predicates of a source
 abbrev pub OfWork : Status → Type 0
 OfWork Done = Unit {0}
 OfWork Rows = Unit {0}

@@ -3,7 +3,7 @@ use Rattle.std.specs.Prelude.{ℕ, List, [], ◌++◌, codes, decimal}
 use Rattle.ln_top.specs.declared.status.Status.{Status}
 use Rattle.ln_top.specs.declared.status.Status.TheVariants as status
 use Rattle.ln_top.specs.declared.stop.Kind.{Kind}
-use Rattle.ln_top.specs.declared.stop.Kind.TheVariants.{Lexical, Limit, Syntax, Name, Bound}
+use Rattle.ln_top.specs.declared.stop.Kind.TheVariants.{Lexical, Limit, Syntax, Name, Bound, Terms, Zero, Stages}
 use Rattle.ln_top.specs.declared.stop.Refusal.{Refusal}
 use Rattle.ln_top.specs.declared.stop.Stop.{Stop}
 use Rattle.ln_top.specs.declared.stop.Stop.TheVariants.{Usage, Read, TooLong, Refused, NoPredicate, Memory}
@@ -14,6 +14,9 @@ kind_text Limit = codes "limit"
 kind_text Syntax = codes "syntax"
 kind_text Name = codes "name"
 kind_text Bound = codes "bound"
+kind_text Terms = codes "terms"
+kind_text Zero = codes "zero"
+kind_text Stages = codes "stages"
 
 -- `error KIND LINE:COL`
 abbrev pub refusal_text : Refusal → List ℕ

@@ -15,6 +15,9 @@ pub enum Kind {
     Syntax,
     Name,
     Bound,
+    Terms,
+    Zero,
+    Stages,
 }
 
 /// A refusal of the source: what for, and the line and the column, from 1.
@@ -67,6 +70,9 @@ fn kind_text(kind: Kind) -> &'static [u8]
         Kind::Syntax => b"syntax",
         Kind::Name => b"name",
         Kind::Bound => b"bound",
+        Kind::Terms => b"terms",
+        Kind::Zero => b"zero",
+        Kind::Stages => b"stages",
     }
 }
 

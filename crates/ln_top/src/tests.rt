@@ -17,6 +17,14 @@ const RIGHT: &str = "p,p.x,p.y,q,q.x,q.y,r,r.x,r.y\n2,0,0,1,0,1,3,1,0\n";
 
 const ALONG: &str = "p,p.x,p.y,q,q.x,q.y,r,r.x,r.y\n1,0,0,2,1,1,3,2,2\n";
 
+const UPRIGHT: &str = "p,p.x,p.y,q,q.x,q.y,r,r.x,r.y\n1,0,0,2,0,1,3,0,2\n";
+
+const EQUAL: &str = "p,p.x,p.y,q,q.x,q.y,r,r.x,r.y
+1,1,0,2,0,0,3,0,0
+1,5,5,2,5,5,3,5,5
+2,5,5,1,5,5,3,5,5
+";
+
 const MIXED: &str = "p,p.x,p.y,q,q.x,q.y,r,r.x,r.y
 1,0,0,1,1,0,3,0,1
 1,1001,0,2,1,0,3,0,1
@@ -61,6 +69,13 @@ const CUBIC: &str = "site num { t: -10 .. 10; }
 predicate m(a: num, b: num) { let d = a.t - b.t; let e = -d^2 * d; sign e - 2*(3 - d); }
 ";
 
+// The weights of both products are just below 2^126.
+const WIDEST: &str = "site num { t: -9223372036854775806 .. 9223372036854775806; }
+predicate big(a: num, b: num, c: num, d: num) { sign a.t*b.t + c.t*d.t; }
+";
+
+const CHECK: &[&str] = &["check", "s.ln"];
+
 const RUN: &[&str] = &["run", "s.ln", "orient", "r.csv"];
 
 /// The files `s.ln` and `r.csv` with these bytes; the calls in `fails` fail.
@@ -97,7 +112,9 @@ fn each_record_has_its_line(rt: HostRuntime) -> Result<(), Fail> {
     let rows = [
         (LEFT, "+ 0\n", "", Status::Done),
         (RIGHT, "- 0\n", "", Status::Done),
-        (ALONG, "! degenerate\n", "", Status::Rows),
+        (ALONG, "+ 1\n", "", Status::Done),
+        (UPRIGHT, "- 2\n", "", Status::Done),
+        (EQUAL, "+ 3\n+ 4\n- 4\n", "", Status::Done),
         (MIXED, mixed_lines, "", Status::Rows),
         (
             WRITTEN,
@@ -123,37 +140,42 @@ fn each_record_has_its_line(rt: HostRuntime) -> Result<(), Fail> {
 fn powers_lets_minus_and_params_are_evaluated(rt: HostRuntime) -> Result<(), Fail> {
     let alloc = rt.alloc();
     let squares = "a,a.t,b,b.t\n1,3,2,3\n1,-3,2,3\n1,0,2,0\n2,0,1,0\n1,4,2,3\n1,-2,2,3\n";
-    let same = "! degenerate\n! degenerate\n! degenerate\n! degenerate\n+ 0\n- 0\n";
     let scaled = "a,a.t,c\n1,7,0\n1,0,2\n1,3,2\n1,-3,2\n1,3,6\n";
-    let times = "! degenerate\n! degenerate\n+ 0\n- 0\n! range c\n";
+    let times = "0 -\n+ 1\n+ 0\n- 0\n! range c\n";
     let circle = "a,a.x,a.y,b,b.x,b.y,c,c.x,c.y,d,d.x,d.y
 1,0,0,2,1,0,3,1,1,4,0,1
 1,0,0,2,4,0,3,0,4,4,1,1
 1,0,0,2,4,0,3,0,4,4,5,5
 ";
     let rows = [
-        (SQUARES, "s", squares, same, Status::Rows),
+        (
+            SQUARES,
+            "s",
+            squares,
+            "+ 1\n- 1\n+ 2\n- 2\n+ 0\n- 0\n",
+            Status::Done,
+        ),
         (SCALED, "z", scaled, times, Status::Rows),
         (
             SCALED,
             "other",
-            "a,a.t\n1,3\n1,-3\n",
-            "- 0\n+ 0\n",
+            "a,a.t\n1,3\n1,-3\n1,0\n",
+            "- 0\n+ 0\n- 1\n",
             Status::Done,
         ),
         (
             NOTHING_ADDED,
             "nf",
             "a,a.t\n1,3\n1,-3\n1,0\n",
-            "+ 0\n- 0\n! degenerate\n",
-            Status::Rows,
+            "+ 0\n- 0\n+ 1\n",
+            Status::Done,
         ),
         (
             CIRCLE,
             "incircle",
             circle,
-            "! degenerate\n+ 0\n- 0\n",
-            Status::Rows,
+            "- 1\n+ 0\n- 0\n",
+            Status::Done,
         ),
         (
             CUBIC,
@@ -174,7 +196,7 @@ fn powers_lets_minus_and_params_are_evaluated(rt: HostRuntime) -> Result<(), Fai
 }
 
 #[test]
-fn refused_sources_are_told_with_their_place(rt: HostRuntime) -> Result<(), Fail> {
+fn sources_are_checked_or_refused_with_their_place(rt: HostRuntime) -> Result<(), Fail> {
     let alloc = rt.alloc();
     let unknown = "site a { x: 0 .. 1; }\npredicate f(p: b) { sign p.x; }";
     let heavy = "site num { t: -9223372036854775807 .. 9223372036854775807; }
@@ -183,21 +205,47 @@ predicate big(a: num, b: num, c: num, d: num) { sign a.t*b.t + c.t*d.t; }
     let heavy_let = "param c: 0 .. 9223372036854775807;
 predicate one(c: param) { sign c; } predicate f(c: param) { let d = c^3; sign c; }
 ";
+    let many = "site s { a: 0 .. 1; b: 0 .. 1; c: 0 .. 1; d: 0 .. 1; e: 0 .. 1; }
+predicate f(p: s) { sign (p.a + p.b + p.c + p.d + p.e)^16; }
+";
+    let none = "site point { x: 0 .. 9; }\npredicate none(p: point) { sign p.x - p.x; }\n";
     let rows = [
-        ("site a { x: 0 .. 1; } #", "error lexical 1:23\n"),
-        ("site a { }", "error syntax 1:10\n"),
-        ("site a", "error syntax 1:7\n"),
-        (unknown, "error name 2:16\n"),
-        ("param c: 5 .. 4;", "error limit 1:15\n"),
-        (heavy, "error bound 2:62\n"),
-        (heavy_let, "error bound 2:70\n"),
+        ("", "", "", Status::Done),
+        (ORIENT, "orient sites 3 stages 30\n", "", Status::Done),
+        (
+            SCALED,
+            "other sites 1 stages 2\nz sites 1 stages 2\n",
+            "",
+            Status::Done,
+        ),
+        (WIDEST, "big sites 4 stages 112\n", "", Status::Done),
+        (CIRCLE, "incircle sites 4 stages 720\n", "", Status::Done),
+        (
+            "site a { x: 0 .. 1; } #",
+            "",
+            "error lexical 1:23\n",
+            Status::Refused,
+        ),
+        ("site a { }", "", "error syntax 1:10\n", Status::Refused),
+        ("site a", "", "error syntax 1:7\n", Status::Refused),
+        (unknown, "", "error name 2:16\n", Status::Refused),
+        (
+            "param c: 5 .. 4;",
+            "",
+            "error limit 1:15\n",
+            Status::Refused,
+        ),
+        (heavy, "", "error bound 2:62\n", Status::Refused),
+        (heavy_let, "", "error bound 2:70\n", Status::Refused),
+        (many, "", "error terms 2:55\n", Status::Refused),
+        (none, "", "error zero 2:11\n", Status::Refused),
     ];
-    for (source, err) in rows {
+    for (source, out, err, status) in rows {
         let mut files = shelf(alloc, source, HEAD, &[])?;
-        let (status, con) = said(alloc, RUN, &mut files, &[])?;
+        let (was, con) = said(alloc, CHECK, &mut files, &[])?;
+        assert_eq!(rt; con.bytes(Port::Out), out.as_bytes(), "{source}");
         assert_eq!(rt; con.bytes(Port::Err), err.as_bytes(), "{source}");
-        assert_eq!(rt; con.bytes(Port::Out), b"".as_slice(), "{source}");
-        assert_eq!(rt; status, Status::Refused, "{source}");
+        assert_eq!(rt; was, status, "{source}");
     }
     Ok(())
 }
@@ -205,10 +253,11 @@ predicate one(c: param) { sign c; } predicate f(c: param) { let d = c^3; sign c;
 #[test]
 fn a_command_that_stops_says_why(rt: HostRuntime) -> Result<(), Fail> {
     let alloc = rt.alloc();
-    let rows: [(&[&str], &[u64], &[u64], &str, Status); 8] = [
+    let rows: [(&[&str], &[u64], &[u64], &str, Status); 12] = [
         (&[], &[], &[], "error usage\n", Status::Usage),
         (&["run"], &[], &[], "error usage\n", Status::Usage),
-        (&["check", "f"], &[], &[], "error usage\n", Status::Usage),
+        (&["check"], &[], &[], "error usage\n", Status::Usage),
+        (&["list", "s.ln"], &[], &[], "error usage\n", Status::Usage),
         (
             &["run", "s.ln", "nosuch", "r.csv"],
             &[],
@@ -217,6 +266,14 @@ fn a_command_that_stops_says_why(rt: HostRuntime) -> Result<(), Fail> {
             Status::NoPredicate,
         ),
         (RUN, &[1], &[], "error read\n", Status::Read),
+        (CHECK, &[1], &[], "error read\n", Status::Read),
+        (
+            &["check", "t.ln"],
+            &[],
+            &[],
+            "error read\n",
+            Status::Read,
+        ),
         (
             &["run", "t.ln", "orient", "r.csv"],
             &[],
@@ -232,6 +289,7 @@ fn a_command_that_stops_says_why(rt: HostRuntime) -> Result<(), Fail> {
             Status::Read,
         ),
         (RUN, &[], &[1], "", Status::Write),
+        (CHECK, &[], &[1], "", Status::Write),
     ];
     for (words, reads, puts, err, status) in rows {
         let mut files = shelf(alloc, ORIENT, LEFT, reads)?;
@@ -247,12 +305,12 @@ fn a_command_that_stops_says_why(rt: HostRuntime) -> Result<(), Fail> {
 fn a_source_over_its_limit_is_too_long(rt: HostRuntime) -> Result<(), Fail> {
     let alloc = rt.alloc();
     for (more, err, status) in [
-        (0, "error predicate\n", Status::NoPredicate),
+        (0, "", Status::Done),
         (1, "error long\n", Status::TooLong),
     ] {
         let spaces = " ".repeat(alloc, SOURCE_LIMIT + more)?;
         let mut files = shelf(alloc, &spaces, HEAD, &[])?;
-        let (was, con) = said(alloc, RUN, &mut files, &[])?;
+        let (was, con) = said(alloc, CHECK, &mut files, &[])?;
         assert_eq!(rt; con.bytes(Port::Err), err.as_bytes(), "{err}");
         assert_eq!(rt; con.bytes(Port::Out), b"".as_slice(), "{err}");
         assert_eq!(rt; was, status, "{err}");

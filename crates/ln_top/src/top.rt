@@ -1,19 +1,24 @@
 // The top call.
-ghost use Rattle.std.specs.Prelude.{◌≡◌, ◌⊎◌, ◌≤◌, ◌<◌, Some, None, length, map, string_bytes, IfSome, IfOk, IfErr};
+ghost use Rattle.std.specs.Prelude.{◌≡◌, ◌≢◌, ◌⊎◌, ◌≤◌, ◌<◌, ℕ, List, Some, None, length, map, string_bytes, slice_get, IfSome, IfOk, IfErr};
 ghost use Rattle.ln_base.specs.Outside.{Rose, IsAbsent, bytes_of};
-ghost use Rattle.ln_top.specs.Source.{AllLight, IsAccepted, StopsSource};
+ghost use Rattle.ln_tree.specs.Table.{pred_of};
+ghost use Rattle.ln_compile.specs.Compiled.{IsProgramOf};
+ghost use Rattle.ln_top.specs.Source.{IsAccepted, StopsSource};
 ghost use Rattle.ln_top.specs.Said.{IsSettled, SaysError};
 ghost use Rattle.ln_top.specs.Answer.{most_source, most_rows, FileStop, OfFiles, SourceStops, IsSourceOf, IsMissing, Owed, SaysStop};
 ghost use Rattle.ln_top.specs.Causes.{IsValid, IsRefused, HasRefusedRows, LacksPredicate, IsTooLong, IsInvalid, ExactlyWhere, WhereTold, Yields, SaysLine};
-ghost use Rattle.ln_top.specs.Words.{command_of};
+ghost use Rattle.ln_top.specs.Headline.{SignsArePerturbed};
+ghost use Rattle.ln_top.specs.Words.{Check, Rows, command_of};
 
-use crate::source::{accepted, find};
+use crate::counts::check;
+use crate::record::Target;
+use crate::source::compiled;
 use crate::status::Status;
 use crate::stop::{Stop, refusal_line};
-use crate::words::command;
+use crate::words::{Command, Run, read_words};
 use crate::work::work;
 use ln_base::{Console, Files, Port, ReadStop, put_all, read_whole};
-use ln_tree::Table;
+use ln_compile::Compiled;
 use std::alloc::Global;
 
 /// The most bytes of a source file.
@@ -67,18 +72,67 @@ fn file<F: Files>(alloc: Global, files: &mut F, name: &str, limit: usize) -> Res
     }
 }
 
-// The table of a source file.
-fn source<F: Files>(alloc: Global, files: &mut F, name: &str) -> Result<Table, Stop>
+// The source file, compiled.
+fn source<F: Files>(alloc: Global, files: &mut F, name: &str) -> Result<Compiled, Stop>
     ensures told { F.told files.new ≡ F.told files.old }
-    ensures light { IfOk result (λ t. AllLight t.preds) }
-    ensures ok { IfSome (F.told files.old) (λ shelf. IfOk result (λ t. IsSourceOf (bytes_of name.now shelf) t)) }
+    ensures ok { IfSome (F.told files.old) (λ shelf. IfOk result (λ c. IsSourceOf (bytes_of name.now shelf) c.table)) }
     ensures err { IfSome (F.told files.old) (λ shelf. IfErr result (λ s. SourceStops (bytes_of name.now shelf) s)) }
     ensures kind { IfErr result OfFiles }
     ensures read { result ≡ Err Stop.Read → Rose (F.faults files.old) (F.faults files.new) ⊎ IsAbsent name.now (F.told files.old) }
     ensures later { F.faults files.old ≤ F.faults files.new }
 {
     let bytes = file(alloc, files, name, SOURCE_LIMIT)?;
-    accepted(alloc, &bytes)
+    compiled(alloc, &bytes)
+}
+
+// Checks a source file.
+fn check_file<F: Files, C: Console>(alloc: Global, files: &mut F, con: &mut C, name: &str) -> Status
+    ensures exact { IsSettled result → IfSome (F.told files.old) (λ shelf. (words : List (List ℕ)) → command_of words ≡ Some (Check name.now) → Owed words shelf result (C.shown con.old) (C.shown con.new)) }
+    ensures line { SaysLine result (C.shown con.old) (C.shown con.new) }
+    ensures usage { result ≢ Status.Usage }
+    ensures read { result ≡ Status.Read → (words : List (List ℕ)) → command_of words ≡ Some (Check name.now) → Rose (F.faults files.old) (F.faults files.new) ⊎ IsMissing words (F.told files.old) }
+    ensures write { result ≡ Status.Write → Rose (C.faults con.old) (C.faults con.new) }
+{
+    match source(alloc, files, name) {
+        Ok(c) => check(alloc, con, &c),
+        Err(stop) => say(alloc, con, stop),
+    }
+}
+
+// The predicate with this number.
+fn target(c: &Compiled, i: usize) -> Target<'_>
+    requires { i < length c.now.table.preds }
+    ensures table { result.table.now ≡ c.now.table }
+    ensures pred { slice_get c.now.table.preds i ≡ Some result.pred.now }
+    ensures program { IsProgramOf (pred_of result.pred.now) result.program.now }
+{
+    Target {
+        table: c.table(),
+        pred: &c.table().preds.as_slice()[i],
+        program: &c.programs().as_slice()[i],
+    }
+}
+
+// Runs a predicate on the records of a rows file.
+fn run_file<F: Files, C: Console>(alloc: Global, files: &mut F, con: &mut C, run: Run<'_>) -> Status
+    ensures exact { IsSettled result → IfSome (F.told files.old) (λ shelf. (words : List (List ℕ)) → command_of words ≡ Some (Rows (record { file = run.entry.file.now; name = run.entry.name.now; rows = run.entry.rows.now })) → Owed words shelf result (C.shown con.old) (C.shown con.new)) }
+    ensures line { SaysLine result (C.shown con.old) (C.shown con.new) }
+    ensures usage { result ≢ Status.Usage }
+    ensures read { result ≡ Status.Read → (words : List (List ℕ)) → command_of words ≡ Some (Rows (record { file = run.entry.file.now; name = run.entry.name.now; rows = run.entry.rows.now })) → Rose (F.faults files.old) (F.faults files.new) ⊎ IsMissing words (F.told files.old) }
+    ensures write { result ≡ Status.Write → Rose (C.faults con.old) (C.faults con.new) }
+{
+    let c = match source(alloc, files, run.file) {
+        Ok(c) => c,
+        Err(stop) => return say(alloc, con, stop),
+    };
+    let Some(i) = c.find(run.name) else {
+        return say(alloc, con, Stop::NoPredicate);
+    };
+    let target = target(&c, i);
+    match file(alloc, files, run.rows, ROWS_LIMIT) {
+        Ok(rows) => work(alloc, con, target, &rows),
+        Err(stop) => say(alloc, con, stop),
+    }
 }
 
 // Carries out the command of the words.
@@ -95,24 +149,16 @@ fn carry_out<F: Files, C: Console>(
     ensures read { result ≡ Status.Read → Rose (F.faults files.old) (F.faults files.new) ⊎ IsMissing (map string_bytes words.now) (F.told files.old) }
     ensures write { result ≡ Status.Write → Rose (C.faults con.old) (C.faults con.new) }
 {
-    let Some(run) = command(words) else {
-        return say(alloc, con, Stop::Usage);
-    };
-    let table = match source(alloc, files, run.file) {
-        Ok(table) => table,
-        Err(stop) => return say(alloc, con, stop),
-    };
-    let Some(p) = find(table.preds.as_slice(), run.name.as_bytes()) else {
-        return say(alloc, con, Stop::NoPredicate);
-    };
-    match file(alloc, files, run.rows, ROWS_LIMIT) {
-        Ok(rows) => work(alloc, con, &table, p, &rows),
-        Err(stop) => say(alloc, con, stop),
+    match read_words(words) {
+        None => say(alloc, con, Stop::Usage),
+        Some(Command::Check(file)) => check_file(alloc, files, con, file),
+        Some(Command::Run(run)) => run_file(alloc, files, con, run),
     }
 }
 
-/// Carries out the command of the words over the files and the console that are handed in: `run FILE NAME ROWS` puts, for
-/// each record behind the header of the rows file, the sign of the predicate on that row.
+/// Carries out the command of the words over the files and the console that are handed in. `check FILE` puts, for each predicate
+/// of an accepted source, its number of sites and its stage count. `run FILE NAME ROWS` puts, for each record behind the header of
+/// the rows file, the perturbed sign of the predicate on that row, and the place of the stage that decides it.
 ///
 /// Each status has its cause, of which the first in the order of the steps decides: the words, the source file, the source,
 /// the name, the rows file, its records.
@@ -135,6 +181,10 @@ pub fn lnc<F: Files, C: Console>(
     ensures too_long { WhereTold Status.TooLong (F.told files.old) (IsTooLong (map string_bytes words.now)) result (Rose (F.faults files.old) (F.faults files.new)) (Rose (C.faults con.old) (C.faults con.new)) }
     ensures read { result ≡ Status.Read → Rose (F.faults files.old) (F.faults files.new) ⊎ IsMissing (map string_bytes words.now) (F.told files.old) }
     ensures write { result ≡ Status.Write → Rose (C.faults con.old) (C.faults con.new) }
+    // The headline: where records behind the right header were worked on to their end, the line of each that is a row in range
+    // begins with the perturbed sign of the predicate on it: the sign of the first coefficient that isn't 0, in the order of
+    // infinitesimals by the row's own indices, of the predicate at perturbed inputs.
+    ensures headline { IsSettled result → IfSome (F.told files.old) (λ shelf. SignsArePerturbed (map string_bytes words.now) shelf (C.shown con.old) (C.shown con.new)) }
     // An error line whose text the status alone gives stands alone, also where files tell nothing.
     ensures line { SaysLine result (C.shown con.old) (C.shown con.new) }
 {

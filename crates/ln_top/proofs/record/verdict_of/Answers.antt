@@ -1,8 +1,14 @@
-use Rattle.std.proofs.Common.{arith}
-use Rattle.ln_tree.proofs.KeptLemmas.{few_vars}
+use Rattle.std.proofs.lemmas.Result.{err_from_is_err_and}
+use Rattle.ln_top.specs.Line.{refused_}
+use Rattle.ln_top.proofs.SaysLemmas.{program_says}
 use Rattle.ln_top.proofs.record.verdict_of.Goals as goal
 
-pub shared_ref_as_front-plain_value_of : goal.shared_ref_as_front-plain_value_of
-shared_ref_as_front-plain_value_of c =
-    let few = few_vars c.args.p.now.shape.sites c.args.p.now.shape.vars c.args.p.now.shape.kept in
-    omega (arith, few, c.len.ensures)
+pub returns-in_err-row-clause-says : goal.returns-in_err-row-clause-says
+returns-in_err-row-clause-says c =
+    let p = err_from_is_err_and c.from_residual.result c.from_residual.ensures.1 in
+    rw (p.1, p.2) (refused_ _ c.in_err-row.ensures.err)
+
+pub returns-clause-says : goal.returns-clause-says
+returns-clause-says c =
+    let verdict = rw c.kept.ensures.same at c.run_row.ensures.verdict in
+    program_says _ _ _ c.in_ok-row.row _ c.kept.ensures.kept c.requires.program c.in_ok-row.ensures.ok c.in_ok-row.ensures.in_range verdict

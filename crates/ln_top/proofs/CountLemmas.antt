@@ -1,0 +1,25 @@
+-- The lines of the predicates of a source, one after the other.
+use Rattle.std.proofs.Common.{◌≡◌, ℕ, ◌+◌, ◌<◌, List, [], ◌∷◌, ◌++◌, map, length, option_map, take, get_or, refl, ap, sym, ◌∙◌, subst, append_assoc}
+use Rattle.std.specs.Prelude.{slice_get, Some}
+use Rattle.std.proofs.lemmas.List.{append-nil, map-append, take_more}
+use Rattle.std.proofs.lemmas.Option.{slice_get-map, slice_get_read}
+use Rattle.ln_tree.specs.declared.pred.Pred.{Pred}
+use Rattle.ln_tree.specs.Table.{PredOf, pred_of}
+use Rattle.ln_compile.specs.Compiled.{IsStageCount, IsStageCountAt}
+use Rattle.ln_top.specs.Line.{line}
+use Rattle.ln_top.specs.Counts.{AreCounts, none, more, count_text}
+
+count_behind : (ps : List PredOf) (p : PredOf) (n : ℕ) {texts : List ℕ} → AreCounts ps texts → IsStageCount p n → AreCounts (ps ++ p ∷ []) (texts ++ line (count_text p n))
+count_behind [] p n none c = subst (λ (xs : List ℕ). AreCounts (p ∷ []) xs) (append-nil (line (count_text p n))) (more p [] n [] c none)
+count_behind (q ∷ ps) p n (more q0 ps0 m texts d a) c = subst (λ (xs : List ℕ). AreCounts (q ∷ ps ++ p ∷ []) xs) (sym (append_assoc (line (count_text q m)) texts (line (count_text p n)))) (more q (ps ++ p ∷ []) m (texts ++ line (count_text p n)) d (count_behind ps p n a c))
+
+pub counts_start : (ps : List Pred) → AreCounts (map pred_of (take 0 ps)) []
+counts_start ps = none
+
+pub counts_more : (ps : List Pred) (i : ℕ) (p : Pred) (n : ℕ) (texts new : List ℕ) → i < length ps → p ≡ get_or ps i p → AreCounts (map pred_of (take i ps)) texts → IsStageCountAt (map pred_of ps) i n → new ≡ texts ++ line (count_text (pred_of p) n)
+    → AreCounts (map pred_of (take (i + 1) ps)) new
+counts_more ps i p n texts new h e a at q =
+    let there : slice_get (map pred_of ps) i ≡ Some (pred_of p) = slice_get-map pred_of ps i ∙ ap (option_map pred_of) (slice_get_read ps (length ps) i p refl h e) in
+    let front : take (i + 1) ps ≡ take i ps ++ p ∷ [] = take_more ps i p h ∙ ap (λ z. take i ps ++ z ∷ []) (sym e) in
+    let behind : map pred_of (take (i + 1) ps) ≡ map pred_of (take i ps) ++ pred_of p ∷ [] = ap (map pred_of) front ∙ map-append pred_of (take i ps) (p ∷ []) in
+    rw (behind, q) (count_behind (map pred_of (take i ps)) (pred_of p) n a (at (pred_of p) there))

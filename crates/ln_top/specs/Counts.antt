@@ -1,0 +1,14 @@
+-- The lines of `check`: the stage count of each predicate.
+use Rattle.std.specs.Prelude.{ℕ, List, [], ◌∷◌, ◌++◌, codes, decimal}
+use Rattle.ln_tree.specs.Table.{PredOf}
+use Rattle.ln_compile.specs.Compiled.{IsStageCount}
+use Rattle.ln_top.specs.Line.{line}
+
+-- `NAME sites K stages N`
+abbrev pub count_text : PredOf → ℕ → List ℕ
+count_text p n = p.name ++ codes " sites " ++ decimal p.sites ++ codes " stages " ++ decimal n
+
+-- a line for each predicate, in order, with its stage count
+pub data AreCounts : List PredOf → List ℕ → Type 0 where
+  none : AreCounts [] []
+  more : (p : PredOf) (ps : List PredOf) (n : ℕ) (texts : List ℕ) → IsStageCount p n → AreCounts ps texts → AreCounts (p ∷ ps) (line (count_text p n) ++ texts)
