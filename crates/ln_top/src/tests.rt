@@ -170,13 +170,7 @@ fn powers_lets_minus_and_params_are_evaluated(rt: HostRuntime) -> Result<(), Fai
             "+ 0\n- 0\n+ 1\n",
             Status::Done,
         ),
-        (
-            CIRCLE,
-            "incircle",
-            circle,
-            "- 1\n+ 0\n- 0\n",
-            Status::Done,
-        ),
+        (CIRCLE, "incircle", circle, "- 1\n+ 0\n- 0\n", Status::Done),
         (
             CUBIC,
             "m",
@@ -267,13 +261,7 @@ fn a_command_that_stops_says_why(rt: HostRuntime) -> Result<(), Fail> {
         ),
         (RUN, &[1], &[], "error read\n", Status::Read),
         (CHECK, &[1], &[], "error read\n", Status::Read),
-        (
-            &["check", "t.ln"],
-            &[],
-            &[],
-            "error read\n",
-            Status::Read,
-        ),
+        (&["check", "t.ln"], &[], &[], "error read\n", Status::Read),
         (
             &["run", "t.ln", "orient", "r.csv"],
             &[],
@@ -304,10 +292,7 @@ fn a_command_that_stops_says_why(rt: HostRuntime) -> Result<(), Fail> {
 #[test]
 fn a_source_over_its_limit_is_too_long(rt: HostRuntime) -> Result<(), Fail> {
     let alloc = rt.alloc();
-    for (more, err, status) in [
-        (0, "", Status::Done),
-        (1, "error long\n", Status::TooLong),
-    ] {
+    for (more, err, status) in [(0, "", Status::Done), (1, "error long\n", Status::TooLong)] {
         let spaces = " ".repeat(alloc, SOURCE_LIMIT + more)?;
         let mut files = shelf(alloc, &spaces, HEAD, &[])?;
         let (was, con) = said(alloc, CHECK, &mut files, &[])?;
