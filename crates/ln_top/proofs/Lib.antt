@@ -4,6 +4,7 @@ pub mod SourceLemmas
 pub mod FindLemmas
 pub mod SaysLemmas
 pub mod TopLemmas
+pub mod FrontLemmas
 pub mod Likeness
 pub mod OneLine
 pub mod OneAnswer

@@ -6,4 +6,5 @@ pub mod Stop
 pub mod Source
 pub mod Answer
 pub mod Causes
+pub mod Front
 pub mod Headline

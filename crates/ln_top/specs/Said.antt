@@ -1,6 +1,7 @@
 -- What the program says: a status, and the bytes on both ports.
-use Rattle.std.specs.Prelude.{◌≡◌, ◌⊎◌, ℕ, Bool, true, false, List, [], ◌∷◌, Option, if◌then◌else◌, codes}
+use Rattle.std.specs.Prelude.{◌≡◌, ◌⊎◌, ℕ, Bool, true, false, List, [], ◌∷◌, ◌++◌, Option, if◌then◌else◌, codes}
 use Rattle.ln_base.specs.Outside.{Rose, Shown, appended}
+use Rattle.ln_base.specs.declared.outside.Port.{Port}
 use Rattle.ln_base.specs.declared.outside.Port.TheVariants.{Out, Err as ErrPort}
 use Rattle.ln_tree.specs.Table.{PredOf}
 use Rattle.ln_rows.specs.Left.{Records}
@@ -54,6 +55,25 @@ pub data CheckSaid (preds : List PredOf) : Said → Type 0 where
 pub record AsSaid (said : Said) (result : Status) (was now : Option Shown) : Type 0 where
   pub status : result ≡ said.status
   pub shown : now ≡ put_both said.out said.err was
+
+-- the first bytes of a text, or all of them
+pub record IsFront (text front : List ℕ) : Type 0 where
+  pub rest : List ℕ
+  pub is : text ≡ front ++ rest
+
+-- the first bytes of a text came to a port
+pub record PutsFront (port : Port) (text : List ℕ) (was now : Option Shown) : Type 0 where
+  pub front : List ℕ
+  pub of_text : IsFront text front
+  pub shown : now ≡ appended port front was
+
+-- the first bytes of what is said came to each port
+pub record PutsFronts (said : Said) (was now : Option Shown) : Type 0 where
+  pub out : List ℕ
+  pub err : List ℕ
+  pub of_out : IsFront said.out out
+  pub of_err : IsFront said.err err
+  pub shown : now ≡ put_both out err was
 
 -- the line of a record came to Out
 pub record PutsLine (p : PredOf) (names fields : List (List ℕ)) (was now : Option Shown) : Type 0 where

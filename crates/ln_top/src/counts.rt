@@ -6,6 +6,7 @@ ghost use Rattle.ln_base.specs.Outside.{Rose};
 ghost use Rattle.ln_top.specs.Counts.{AreCounts, count_text};
 ghost use Rattle.ln_top.specs.Line.{line};
 ghost use Rattle.ln_top.specs.Said.{CheckOwed, IsSettled, OfWork};
+ghost use Rattle.ln_top.specs.Front.{PutsFrontOfCheck};
 
 use crate::status::Status;
 use itoa::Buffer;
@@ -45,6 +46,8 @@ fn counts(alloc: Global, c: &Compiled) -> Result<Vec<u8>, NoMemory>
 pub fn check<C: Console>(alloc: Global, con: &mut C, c: &Compiled) -> Status
     ensures settled { IsSettled result → CheckOwed (map pred_of c.now.table.preds) result (C.shown con.old) (C.shown con.new) }
     ensures write { result ≡ Status.Write → Rose (C.faults con.old) (C.faults con.new) }
+    ensures front { result ≡ Status.Write → PutsFrontOfCheck (map pred_of c.now.table.preds) (C.shown con.old) (C.shown con.new) }
+    ensures memory { result ≡ Status.Memory → C.shown con.new ≡ C.shown con.old }
     ensures kind { OfWork result }
 {
     let Ok(text) = counts(alloc, c) else {

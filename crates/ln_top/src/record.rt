@@ -9,7 +9,8 @@ ghost use Rattle.ln_compile.specs.Compiled.{IsProgramOf};
 ghost use Rattle.ln_base.specs.Outside.{Rose, appended};
 ghost use Rattle.ln_base.specs.declared.outside.Port.TheVariants.{Out};
 ghost use Rattle.ln_top.specs.Line.{line, sign_text, decider_text, stop_text, said_text, is_row, is_said, Says};
-ghost use Rattle.ln_top.specs.Said.{StopsWork, PutsLine};
+ghost use Rattle.ln_top.specs.Said.{StopsWork, PutsFront, PutsLine};
+ghost use Rattle.ln_top.specs.Front.{CutsRecord};
 
 use crate::status::Status;
 use csv::ByteRecord;
@@ -116,8 +117,8 @@ fn write_line(
     add(text, b"\n")
 }
 
-// A program with what its type keeps.
-fn kept(program: &Program) -> &Program
+/// A program with what its type keeps.
+pub fn kept(program: &Program) -> &Program
     ensures same { result.now ≡ program.now }
     ensures kept { IsProgram program.now }
 {
@@ -140,6 +141,7 @@ fn verdict_of(target: Target<'_>, s: &mut Scratch, fields: &ByteRecord) -> Resul
 fn put_line<C: Console>(con: &mut C, text: &[u8]) -> Result<(), Status>
     ensures ok { OnOk result (C.shown con.new ≡ appended Out text.now (C.shown con.old)) }
     ensures err { IfErr result (λ s. StopsWork s (C.faults con.old) (C.faults con.new)) }
+    ensures cut { IfErr result (λ s. (s ≡ Status.Write) × PutsFront Out text.now (C.shown con.old) (C.shown con.new)) }
     ensures later { C.faults con.old ≤ C.faults con.new }
 {
     match put_all(con, Port::Out, text) {
@@ -172,6 +174,7 @@ pub fn put_record<C: Console>(
     ensures shown { OnOk result (PutsLine (pred_of target.entry.pred.now) (column_names target.entry.table.now.sites target.entry.table.now.params target.entry.pred.now.args) (fields_of fields.now) (C.shown con.old) (C.shown con.new)) }
     ensures made { MadeFor target.entry.program.now s.new }
     ensures err { IfErr result (λ s. StopsWork s (C.faults con.old) (C.faults con.new)) }
+    ensures cut { IfErr result (λ s. CutsRecord (pred_of target.entry.pred.now) (column_names target.entry.table.now.sites target.entry.table.now.params target.entry.pred.now.args) (fields_of fields.now) s (C.shown con.old) (C.shown con.new)) }
     ensures later { C.faults con.old ≤ C.faults con.new }
 {
     let said = verdict_of(target, s, fields);

@@ -1,10 +1,12 @@
 // Why a command stops before its work, and the error line.
-ghost use Rattle.std.specs.Prelude.{◌≡◌, ◌++◌, ◌∷◌, [], IfOk, codes, decimal, string_bytes};
+ghost use Rattle.std.specs.Prelude.{◌≡◌, ◌≤◌, ◌<◌, ◌++◌, ◌∷◌, [], IfOk, codes, decimal, string_bytes};
+ghost use Rattle.ln_base.specs.declared.outside.Port.TheVariants.{Err as ErrPort};
+ghost use Rattle.ln_top.specs.Said.{SaysError, PutsFront};
 ghost use Rattle.ln_top.specs.Line.{line};
 ghost use Rattle.ln_top.specs.Stop.{kind_text, refusal_text, stop_text, stop_status};
 
 use crate::status::Status;
-use ln_base::NoMemory;
+use ln_base::{Console, NoMemory, Port, put_all};
 use std::alloc::{AllocError, Global};
 
 /// What a source is refused for.
@@ -97,4 +99,15 @@ pub fn refusal_line(alloc: Global, r: Refusal) -> Result<Vec<u8>, NoMemory>
     text.extend_from_slice(col.as_bytes())?;
     text.push(b'\n')?;
     Ok(text)
+}
+
+/// Puts an error line. The status is the one given, or that of a fault of writing, which leaves the first bytes of the line.
+pub fn put_error<C: Console>(con: &mut C, text: &[u8], status: Status) -> Status
+    ensures says { SaysError status text.now result (C.shown con.old) (C.shown con.new) (C.faults con.old) (C.faults con.new) }
+    ensures front { result ≡ Status.Write → PutsFront ErrPort text.now (C.shown con.old) (C.shown con.new) }
+{
+    match put_all(con, Port::Err, text) {
+        Ok(()) => status,
+        Err(_) => Status::Write,
+    }
 }

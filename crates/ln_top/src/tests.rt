@@ -95,11 +95,22 @@ fn said(
     files: &mut MemFiles,
     fails: &[u64],
 ) -> Result<(Status, MemConsole), NoMemory> {
+    said_within(alloc, words, files, 4096, fails)
+}
+
+/// The same over ports with room for so many bytes each.
+fn said_within(
+    alloc: Global,
+    words: &[&str],
+    files: &mut MemFiles,
+    room: usize,
+    fails: &[u64],
+) -> Result<(Status, MemConsole), NoMemory> {
     let mut all = Vec::new(alloc);
     for word in words {
         all.push(String::from_str(alloc, word)?)?;
     }
-    let mut con = MemConsole::new(alloc, 4096, 7, Vec::from_slice(alloc, fails)?)?;
+    let mut con = MemConsole::new(alloc, room, 7, Vec::from_slice(alloc, fails)?)?;
     let status = lnc(alloc, &all, files, &mut con);
     Ok((status, con))
 }
@@ -299,6 +310,27 @@ fn a_source_over_its_limit_is_too_long(rt: HostRuntime) -> Result<(), Fail> {
         assert_eq!(rt; con.bytes(Port::Err), err.as_bytes(), "{err}");
         assert_eq!(rt; con.bytes(Port::Out), b"".as_slice(), "{err}");
         assert_eq!(rt; was, status, "{err}");
+    }
+    Ok(())
+}
+
+#[test]
+fn a_fault_of_writing_leaves_the_first_bytes(rt: HostRuntime) -> Result<(), Fail> {
+    let alloc = rt.alloc();
+    let rows: [(&[&str], usize, &[u64], &str, &str); 6] = [
+        (RUN, 4096, &[3], "+ 3\n+ 4\n", ""),
+        (RUN, 6, &[], "+ 3\n+ ", ""),
+        (CHECK, 4096, &[2], "orient ", ""),
+        (CHECK, 9, &[], "orient si", ""),
+        (&[], 5, &[], "", "error"),
+        (&["check", "t.ln"], 7, &[], "", "error r"),
+    ];
+    for (words, room, puts, out, err) in rows {
+        let mut files = shelf(alloc, ORIENT, EQUAL, &[])?;
+        let (was, con) = said_within(alloc, words, &mut files, room, puts)?;
+        assert_eq!(rt; con.bytes(Port::Out), out.as_bytes(), "{out}");
+        assert_eq!(rt; con.bytes(Port::Err), err.as_bytes(), "{err}");
+        assert_eq!(rt; was, Status::Write, "{out}");
     }
     Ok(())
 }

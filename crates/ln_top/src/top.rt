@@ -1,12 +1,16 @@
 // The top call.
 ghost use Rattle.std.specs.Prelude.{◌≡◌, ◌≢◌, ◌⊎◌, ◌≤◌, ◌<◌, ℕ, List, Some, None, length, map, string_bytes, slice_get, IfSome, IfOk, IfErr};
 ghost use Rattle.ln_base.specs.Outside.{Rose, IsAbsent, bytes_of};
+ghost use Rattle.ln_base.specs.declared.outside.Port.TheVariants.{Err as ErrPort};
 ghost use Rattle.ln_tree.specs.Table.{pred_of};
 ghost use Rattle.ln_compile.specs.Compiled.{IsProgramOf};
 ghost use Rattle.ln_top.specs.Source.{IsAccepted, StopsSource};
-ghost use Rattle.ln_top.specs.Said.{IsSettled, SaysError};
+ghost use Rattle.ln_top.specs.Line.{line};
+ghost use Rattle.ln_top.specs.Stop.{stop_text};
+ghost use Rattle.ln_top.specs.Said.{IsSettled, PutsFront};
 ghost use Rattle.ln_top.specs.Answer.{most_source, most_rows, FileStop, OfFiles, SourceStops, IsSourceOf, IsMissing, Owed, SaysStop};
 ghost use Rattle.ln_top.specs.Causes.{IsValid, IsRefused, HasRefusedRows, LacksPredicate, IsTooLong, IsInvalid, ExactlyWhere, WhereTold, Yields, SaysLine};
+ghost use Rattle.ln_top.specs.Front.{LeavesFronts, LeavesLines};
 ghost use Rattle.ln_top.specs.Headline.{SignsArePerturbed};
 ghost use Rattle.ln_top.specs.Words.{Check, Rows, command_of};
 
@@ -14,10 +18,10 @@ use crate::counts::check;
 use crate::record::Target;
 use crate::source::compiled;
 use crate::status::Status;
-use crate::stop::{Stop, refusal_line};
+use crate::stop::{Stop, put_error, refusal_line};
 use crate::words::{Command, Run, read_words};
 use crate::work::work;
-use ln_base::{Console, Files, Port, ReadStop, put_all, read_whole};
+use ln_base::{Console, Files, ReadStop, read_whole};
 use ln_compile::Compiled;
 use std::alloc::Global;
 
@@ -27,28 +31,20 @@ pub const SOURCE_LIMIT: usize = 1_048_576;
 /// The most bytes of a rows file.
 pub const ROWS_LIMIT: usize = 67_108_864;
 
-// Puts the line of a stop.
-fn put_stop<C: Console>(con: &mut C, text: &[u8], status: Status) -> Status
-    ensures { SaysError status text.now result (C.shown con.old) (C.shown con.new) (C.faults con.old) (C.faults con.new) }
-{
-    match put_all(con, Port::Err, text) {
-        Ok(()) => status,
-        Err(_) => Status::Write,
-    }
-}
-
 // Puts the line of a stop; of want of memory none.
 fn say<C: Console>(alloc: Global, con: &mut C, stop: Stop) -> Status
-    ensures { SaysStop stop result (C.shown con.old) (C.shown con.new) (C.faults con.old) (C.faults con.new) }
+    ensures says { SaysStop stop result (C.shown con.old) (C.shown con.new) (C.faults con.old) (C.faults con.new) }
+    ensures front { result ≡ Status.Write → (stop ≢ Stop.Memory) × PutsFront ErrPort (line (stop_text stop)) (C.shown con.old) (C.shown con.new) }
+    ensures memory { result ≡ Status.Memory → C.shown con.new ≡ C.shown con.old }
 {
     match stop {
-        Stop::Usage => put_stop(con, b"error usage\n", Status::Usage),
-        Stop::Read => put_stop(con, b"error read\n", Status::Read),
-        Stop::TooLong => put_stop(con, b"error long\n", Status::TooLong),
-        Stop::NoPredicate => put_stop(con, b"error predicate\n", Status::NoPredicate),
+        Stop::Usage => put_error(con, b"error usage\n", Status::Usage),
+        Stop::Read => put_error(con, b"error read\n", Status::Read),
+        Stop::TooLong => put_error(con, b"error long\n", Status::TooLong),
+        Stop::NoPredicate => put_error(con, b"error predicate\n", Status::NoPredicate),
         Stop::Memory => Status::Memory,
         Stop::Refused(r) => match refusal_line(alloc, r) {
-            Ok(text) => put_stop(con, &text, Status::Refused),
+            Ok(text) => put_error(con, &text, Status::Refused),
             Err(_) => Status::Memory,
         },
     }
@@ -92,6 +88,8 @@ fn check_file<F: Files, C: Console>(alloc: Global, files: &mut F, con: &mut C, n
     ensures usage { result ≢ Status.Usage }
     ensures read { result ≡ Status.Read → (words : List (List ℕ)) → command_of words ≡ Some (Check name.now) → Rose (F.faults files.old) (F.faults files.new) ⊎ IsMissing words (F.told files.old) }
     ensures write { result ≡ Status.Write → Rose (C.faults con.old) (C.faults con.new) }
+    ensures fronts { result ≡ Status.Write → IfSome (F.told files.old) (λ shelf. (words : List (List ℕ)) → command_of words ≡ Some (Check name.now) → LeavesFronts words shelf (Rose (F.faults files.old) (F.faults files.new)) (C.shown con.old) (C.shown con.new)) }
+    ensures memory { result ≡ Status.Memory → C.shown con.new ≡ C.shown con.old }
 {
     match source(alloc, files, name) {
         Ok(c) => check(alloc, con, &c),
@@ -120,6 +118,8 @@ fn run_file<F: Files, C: Console>(alloc: Global, files: &mut F, con: &mut C, run
     ensures usage { result ≢ Status.Usage }
     ensures read { result ≡ Status.Read → (words : List (List ℕ)) → command_of words ≡ Some (Rows (record { file = run.entry.file.now; name = run.entry.name.now; rows = run.entry.rows.now })) → Rose (F.faults files.old) (F.faults files.new) ⊎ IsMissing words (F.told files.old) }
     ensures write { result ≡ Status.Write → Rose (C.faults con.old) (C.faults con.new) }
+    ensures fronts { result ≡ Status.Write → IfSome (F.told files.old) (λ shelf. (words : List (List ℕ)) → command_of words ≡ Some (Rows (record { file = run.entry.file.now; name = run.entry.name.now; rows = run.entry.rows.now })) → LeavesFronts words shelf (Rose (F.faults files.old) (F.faults files.new)) (C.shown con.old) (C.shown con.new)) }
+    ensures lines { result ≡ Status.Memory → IfSome (F.told files.old) (λ shelf. (words : List (List ℕ)) → command_of words ≡ Some (Rows (record { file = run.entry.file.now; name = run.entry.name.now; rows = run.entry.rows.now })) → LeavesLines words shelf (C.shown con.old) (C.shown con.new)) }
 {
     let c = match source(alloc, files, run.file) {
         Ok(c) => c,
@@ -148,6 +148,8 @@ fn carry_out<F: Files, C: Console>(
     ensures no_command { command_of (map string_bytes words.now) ≡ None → (result ≡ Status.Usage) ⊎ Yields result (Rose (F.faults files.old) (F.faults files.new)) (Rose (C.faults con.old) (C.faults con.new)) }
     ensures read { result ≡ Status.Read → Rose (F.faults files.old) (F.faults files.new) ⊎ IsMissing (map string_bytes words.now) (F.told files.old) }
     ensures write { result ≡ Status.Write → Rose (C.faults con.old) (C.faults con.new) }
+    ensures fronts { result ≡ Status.Write → IfSome (F.told files.old) (λ shelf. LeavesFronts (map string_bytes words.now) shelf (Rose (F.faults files.old) (F.faults files.new)) (C.shown con.old) (C.shown con.new)) }
+    ensures lines { result ≡ Status.Memory → IfSome (F.told files.old) (λ shelf. LeavesLines (map string_bytes words.now) shelf (C.shown con.old) (C.shown con.new)) }
 {
     match read_words(words) {
         None => say(alloc, con, Stop::Usage),
@@ -181,6 +183,11 @@ pub fn lnc<F: Files, C: Console>(
     ensures too_long { WhereTold Status.TooLong (F.told files.old) (IsTooLong (map string_bytes words.now)) result (Rose (F.faults files.old) (F.faults files.new)) (Rose (C.faults con.old) (C.faults con.new)) }
     ensures read { result ≡ Status.Read → Rose (F.faults files.old) (F.faults files.new) ⊎ IsMissing (map string_bytes words.now) (F.told files.old) }
     ensures write { result ≡ Status.Write → Rose (C.faults con.old) (C.faults con.new) }
+    // A fault of writing leaves the first bytes of what is owed on each port; or, where a file wasn't read, on Err those of the
+    // line that says so, and on Out nothing.
+    ensures fronts { result ≡ Status.Write → IfSome (F.told files.old) (λ shelf. LeavesFronts (map string_bytes words.now) shelf (Rose (F.faults files.old) (F.faults files.new)) (C.shown con.old) (C.shown con.new)) }
+    // Want of memory leaves nothing; or, in the work on rows, the whole lines of the first records.
+    ensures lines { result ≡ Status.Memory → IfSome (F.told files.old) (λ shelf. LeavesLines (map string_bytes words.now) shelf (C.shown con.old) (C.shown con.new)) }
     // The headline: where records behind the right header were worked on to their end, the line of each that is a row in range
     // begins with the perturbed sign of the predicate on it: the sign of the first coefficient that isn't 0, in the order of
     // infinitesimals by the row's own indices, of the predicate at perturbed inputs.

@@ -1,5 +1,5 @@
 // The work of a command: on the records of a rows file, or on the predicates of a source.
-ghost use Rattle.std.specs.Prelude.{◌&&◌, ◌≡◌, ◌≤◌, ◌<◌, [], ◌∷◌, true, false, length, map, IfOk, IfErr, OnOk, IsTrue};
+ghost use Rattle.std.specs.Prelude.{◌&&◌, ◌≡◌, ◌⊎◌, ◌≤◌, ◌<◌, [], ◌∷◌, true, false, length, map, IfOk, IfErr, OnOk, IsTrue};
 ghost use Rattle.csv.specs.Records.{fields_of};
 ghost use Rattle.ln_tree.specs.Table.{pred_of};
 ghost use Rattle.ln_code.specs.Memory.{MadeFor};
@@ -9,12 +9,14 @@ ghost use Rattle.ln_rows.specs.Left.{records_in};
 ghost use Rattle.ln_base.specs.Outside.{Rose, appended};
 ghost use Rattle.ln_base.specs.declared.outside.Port.TheVariants.{Out};
 ghost use Rattle.ln_top.specs.Line.{all_rows};
-ghost use Rattle.ln_top.specs.Said.{HeaderIs, IsSettled, OfWork, PutsLines, SaysError, StopsWork, WorkOwed};
+ghost use Rattle.ln_top.specs.Said.{HeaderIs, IsSettled, OfWork, PutsLines, StopsWork, WorkOwed};
+ghost use Rattle.ln_top.specs.Front.{CutsRecords, PutsFirstOfWork, PutsFrontOfWork};
 
-use crate::record::{Target, put_record};
+use crate::record::{Target, kept, put_record};
 use crate::status::Status;
+use crate::stop::put_error;
 use csv::ByteRecord;
-use ln_base::{Console, NoMemory, Port, put_all};
+use ln_base::{Console, NoMemory};
 use ln_code::Scratch;
 use ln_rows::{Rows, header};
 use std::alloc::Global;
@@ -55,6 +57,7 @@ fn put_records<C: Console>(
     ensures good { IfOk result (λ good. good ≡ all_rows (pred_of target.entry.pred.now) rows.old) }
     ensures shown { OnOk result (PutsLines (pred_of target.entry.pred.now) (column_names target.entry.table.now.sites target.entry.table.now.params target.entry.pred.now.args) rows.old (C.shown con.old) (C.shown con.new)) }
     ensures err { IfErr result (λ s. StopsWork s (C.faults con.old) (C.faults con.new)) }
+    ensures cut { IfErr result (λ s. CutsRecords (pred_of target.entry.pred.now) (column_names target.entry.table.now.sites target.entry.table.now.params target.entry.pred.now.args) rows.old s (C.shown con.old) (C.shown con.new)) }
     ensures later { C.faults con.old ≤ C.faults con.new }
 {
     let mut text = Vec::new(alloc);
@@ -70,21 +73,13 @@ fn put_records<C: Console>(
     }
 }
 
-// Puts an error line; the status is the one given, or that of a fault of writing.
-fn put_error<C: Console>(con: &mut C, text: &[u8], status: Status) -> Status
-    ensures { SaysError status text.now result (C.shown con.old) (C.shown con.new) (C.faults con.old) (C.faults con.new) }
-{
-    match put_all(con, Port::Err, text) {
-        Ok(()) => status,
-        Err(_) => Status::Write,
-    }
-}
-
 /// Puts a line for each record behind the header; or refuses the header.
 pub fn work<C: Console>(alloc: Global, con: &mut C, target: Target<'_>, bytes: &[u8]) -> Status
     requires { IsProgramOf (pred_of target.pred.now) target.program.now }
     ensures settled { IsSettled result → WorkOwed (pred_of target.entry.pred.now) (column_names target.entry.table.now.sites target.entry.table.now.params target.entry.pred.now.args) (records_in bytes.now) result (C.shown con.old) (C.shown con.new) }
     ensures write { result ≡ Status.Write → Rose (C.faults con.old) (C.faults con.new) }
+    ensures front { result ≡ Status.Write → PutsFrontOfWork (pred_of target.entry.pred.now) (column_names target.entry.table.now.sites target.entry.table.now.params target.entry.pred.now.args) (records_in bytes.now) (C.shown con.old) (C.shown con.new) }
+    ensures first { result ≡ Status.Memory → (C.shown con.new ≡ C.shown con.old) ⊎ PutsFirstOfWork (pred_of target.entry.pred.now) (column_names target.entry.table.now.sites target.entry.table.now.params target.entry.pred.now.args) (records_in bytes.now) (C.shown con.old) (C.shown con.new) }
     ensures kind { OfWork result }
 {
     let mut rows = Rows::new(alloc, bytes);
@@ -94,7 +89,7 @@ pub fn work<C: Console>(alloc: Global, con: &mut C, target: Target<'_>, bytes: &
         Ok(false) => return put_error(con, b"error header\n", Status::Rows),
         Err(_) => return Status::Memory,
     }
-    let Ok(mut scratch) = Scratch::new(alloc, target.program) else {
+    let Ok(mut scratch) = Scratch::new(alloc, kept(target.program)) else {
         return Status::Memory;
     };
     match put_records(alloc, con, target, &mut scratch, &mut rows, &mut record) {
