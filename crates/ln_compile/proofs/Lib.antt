@@ -13,7 +13,6 @@ pub mod FilterLemmas
 pub mod Filtering
 pub mod GatheringLemmas
 pub mod InputsLemmas
-pub mod JoinLemmas
 pub mod Judging
 pub mod ListLemmas
 pub mod ListingLemmas

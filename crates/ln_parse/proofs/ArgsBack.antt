@@ -1,13 +1,13 @@
 -- The arguments of a canonical text say those of the table, and their tokens have no fault.
-use Rattle.std.proofs.Common.{◌≡◌, ℕ, zero, suc, ◌+◌, ◌<◌, ◌≤◌, ◌==◌, ◌&&◌, not, Bool, true, false, cond, nat_lt, List, [], ◌∷◌, ◌++◌, length, map, Some, None, refl, ap, sym, ◌∙◌, subst, arith, append_assoc, zero-add}
-use Rattle.std.specs.Prelude.{slice_get, position, unwrap_or, bytes_eq, count_by, find}
+use Rattle.std.proofs.Common.{◌≡◌, ℕ, ◌+◌, ◌<◌, ◌≤◌, ◌==◌, not, Bool, true, false, cond, nat_lt, List, [], ◌∷◌, ◌++◌, length, map, Some, None, refl, ap, sym, ◌∙◌, subst, arith, append_assoc, zero-add}
+use Rattle.std.specs.Prelude.{slice_get, position, unwrap_or, bytes_eq, count_by}
 use Rattle.std.specs.List.{list_any, list_all}
 use Rattle.std.proofs.lemmas.Bool.{and_parts, ltb-true}
 use Rattle.std.proofs.lemmas.List.{map-append}
 use Rattle.std.proofs.lemmas.Iterator.Adapters.{position_from-zero}
 use Rattle.ln_base.specs.declared.span.Span.{Span}
 use Rattle.ln_syntax.specs.declared.raw.RawArg.{RawArg}
-use Rattle.ln_syntax.specs.Raw.{Item, item_name, is_site, text, same}
+use Rattle.ln_syntax.specs.Raw.{Item, text, same}
 use Rattle.ln_names.specs.Rules.{is_site_arg, is_param_arg, ArgName, ArgSite, ArgParam, has_site, has_param, fault_at}
 use Rattle.ln_names.specs.Visits.{visits_by, arg_visits}
 use Rattle.ln_names.specs.First.{Clean}
@@ -19,7 +19,7 @@ use Rattle.ln_parse.specs.WholeTable.{IsShortName, SiteNames, ArgNames}
 use Rattle.ln_parse.specs.Written.{range_name, site_name}
 use Rattle.ln_parse.proofs.LaidOut.{count_cons, count_append}
 use Rattle.ln_parse.proofs.NamePlaces.{Differ}
-use Rattle.ln_parse.proofs.CleanValue.{clean_join, none_two, none_three, not_over, not_at, known_not}
+use Rattle.ln_parse.proofs.CleanValue.{none_two, none_three, not_over, not_at, known_not}
 use Rattle.ln_parse.proofs.InputsThere.{at_place, every_at}
 use Rattle.ln_parse.proofs.ScopeNames.{type_there, param_there, any_found}
 use Rattle.ln_parse.proofs.TestLemmas.{one_if}

@@ -1,6 +1,6 @@
 -- The canonical text of what tokens say has no more tokens than they are, and no deeper parentheses.
-use Rattle.std.proofs.Common.{◌≡◌, ℕ, zero, suc, ◌+◌, ◌-◌, ◌*◌, ◌<◌, ◌≤◌, ◌||◌, ◌&&◌, Bool, true, false, cond, List, [], ◌∷◌, take, map, Option, Some, None, refl, ap, sym, ◌∙◌, subst, arith}
-use Rattle.std.specs.Prelude.{nat_le, max, slice_get, position}
+use Rattle.std.proofs.Common.{◌≡◌, ℕ, suc, ◌+◌, ◌-◌, ◌≤◌, ◌||◌, ◌&&◌, true, false, List, take, Option, Some, None, refl, sym, ◌∙◌, subst, arith}
+use Rattle.std.specs.Prelude.{slice_get, position}
 use Rattle.std.proofs.lemmas.Bool.{and_parts}
 use Rattle.ln_base.specs.declared.span.Span.{Span}
 use Rattle.ln_lex.specs.declared.token.Token.{Token}
@@ -15,8 +15,8 @@ use Rattle.ln_syntax.proofs.Depth.{depth_more}
 use Rattle.ln_names.specs.Rules.{Scope, scope, has_let, has_param_arg, is_site_arg, is_param_arg}
 use Rattle.ln_tree.specs.Formula.{Formula, FNum, FInput, FName, FNeg, FAdd, FSub, FMul, FPow}
 use Rattle.ln_tree.specs.Table.{ArgOf, SiteArg, ParamArg}
-use Rattle.ln_tree.specs.Whole.{pairs, nesting, input_tokens, tokens_of}
-use Rattle.ln_parse.specs.Says.{place, name_of, resolved, arg_said, param_names}
+use Rattle.ln_tree.specs.Whole.{nesting, input_tokens, tokens_of}
+use Rattle.ln_parse.specs.Says.{place, name_of, resolved}
 use Rattle.ln_parse.specs.Ready.{Fit}
 use Rattle.ln_parse.proofs.Found.{found_at, no_position}
 use Rattle.ln_parse.proofs.Fitting.{said, said_at, said_param}

@@ -1,9 +1,7 @@
 -- The canonical text of a whole table is a text of it.
-use Rattle.std.proofs.Common.{◌≡◌, ℕ, suc, ◌+◌, ◌<◌, ◌≤◌, ◌^◌, ◌&&◌, true, List, [], ◌∷◌, ◌++◌, length, map, refl, ap, sym, ◌∙◌, subst, arith}
-use Rattle.std.specs.Prelude.{unsigned_abs, slice_get}
+use Rattle.std.proofs.Common.{◌≡◌, ℕ, suc, ◌+◌, ◌≤◌, true, List, [], ◌∷◌, ◌++◌, length, map, refl, ap, sym, arith}
 use Rattle.std.specs.List.{list_all}
 use Rattle.std.proofs.lemmas.Bool.{and_parts, ltb-true}
-use Rattle.ln_base.specs.Words.{is_name}
 use Rattle.ln_tree.specs.declared.shape.VarInfo.{VarInfo}
 use Rattle.ln_tree.specs.Formula.{Formula, tree}
 use Rattle.ln_tree.specs.Fits.{is_fit, lets_fit}
@@ -11,9 +9,9 @@ use Rattle.ln_tree.specs.Table.{CoordOf, SiteOf, ArgOf, SiteArg, ParamArg, PredO
 use Rattle.ln_tree.specs.Whole.{vars_behind, is_one_of}
 use Rattle.ln_parse.specs.Canonical.{canonical, lexemes}
 use Rattle.ln_parse.specs.ReadsBack.{Every, CoordNamed, SiteNamed, ArgNamed, LetsNamed, PredNamed, TableNamed}
-use Rattle.ln_parse.specs.Spanless.{pred_spanless, IsTextUpToSpans}
+use Rattle.ln_parse.specs.Spanless.{IsTextUpToSpans}
 use Rattle.ln_parse.specs.WholeTable.{IsShortName, SiteNames, ArgNames, PredKept, IsWhole}
-use Rattle.ln_parse.specs.Written.{Naming, naming, range_name, site_name}
+use Rattle.ln_parse.specs.Written.{Naming, naming}
 use Rattle.ln_parse.proofs.ClearText.{table_clear, table_back}
 use Rattle.ln_parse.proofs.FileClean.{Facts, file_done}
 use Rattle.ln_parse.proofs.InputsThere.{NamesGood, named, at_place, every_at}

@@ -1,9 +1,7 @@
 -- The parentheses and the tokens of a canonical text.
 use Rattle.std.proofs.Common.{◌≡◌, ℕ, zero, suc, ◌+◌, ◌-◌, ◌*◌, ◌<◌, ◌≤◌, Bool, true, false, cond, List, [], ◌∷◌, length, take, Option, Some, None, refl, ap, sym, ◌∙◌, subst, arith, codes}
-use Rattle.std.specs.Prelude.{nat_le, max, slice_get}
-use Rattle.ln_lex.specs.declared.token.Kind.{Kind}
-use Rattle.ln_lex.specs.declared.token.Kind.TheVariants.{ParL, ParR, Plus, Minus, Star, Caret, Number}
-use Rattle.ln_lex.specs.declared.token.Token.{Token}
+use Rattle.std.specs.Prelude.{nat_le, slice_get}
+use Rattle.ln_lex.specs.declared.token.Kind.TheVariants.{ParL, ParR, Plus, Minus, Star}
 use Rattle.ln_syntax.specs.Raw.{Is}
 use Rattle.ln_syntax.specs.Place.{depth_behind, depth_after, IsShallow}
 use Rattle.ln_tree.specs.Formula.{Formula, FNum, FInput, FName, FNeg, FAdd, FSub, FMul, FPow}
@@ -12,7 +10,7 @@ use Rattle.ln_tree.specs.Whole.{tightness, pairs, nesting, input_tokens, tokens_
 use Rattle.ln_parse.specs.declared.printer.Room.{Room}
 use Rattle.ln_parse.specs.declared.printer.Room.TheVariants.{OfSum, OfProduct, OfUnary, OfAtom}
 use Rattle.ln_parse.specs.Lexemes.{Lexeme, gap, line, word}
-use Rattle.ln_parse.specs.Written.{Written, Naming, written, input}
+use Rattle.ln_parse.specs.Written.{Naming, written, input}
 use Rattle.ln_parse.specs.Canonical.{fits, wrap, inside}
 use Rattle.ln_parse.proofs.LexBack.{toks}
 

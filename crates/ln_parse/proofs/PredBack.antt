@@ -1,28 +1,27 @@
 -- A predicate of a canonical text says that of the table, and its tokens have no fault.
-use Rattle.std.proofs.Common.{◌≡◌, ℕ, zero, suc, ◌+◌, ◌<◌, ◌≤◌, true, false, List, [], ◌∷◌, ◌++◌, length, map, refl, ap, sym, ◌∙◌, subst, arith, append-nil}
+use Rattle.std.proofs.Common.{◌≡◌, ℕ, true, List, [], ◌++◌, length, map, refl, sym, ◌∙◌, subst, arith, append-nil}
 use Rattle.std.specs.Prelude.{count_by}
 use Rattle.ln_base.specs.declared.span.Span.{Span}
 use Rattle.ln_lex.specs.declared.token.Token.{Token}
-use Rattle.ln_lex.specs.declared.token.Kind.TheVariants.{Sign}
 use Rattle.ln_syntax.specs.declared.raw.RawArg.{RawArg}
 use Rattle.ln_syntax.specs.declared.raw.RawLet.{RawLet}
 use Rattle.ln_syntax.specs.declared.raw.Places.{Places}
-use Rattle.ln_syntax.specs.Raw.{Item, PredItem, Is, text}
+use Rattle.ln_syntax.specs.Raw.{Item, text}
 use Rattle.ln_syntax.specs.File.{Lets}
 use Rattle.ln_names.specs.Rules.{scope, is_site_arg, is_param_arg}
-use Rattle.ln_names.specs.Visits.{visits_by, arg_visits, let_visits, value_visits, pred_visits, nodes_before}
+use Rattle.ln_names.specs.Visits.{visits_by, arg_visits, let_visits, pred_visits, nodes_before}
 use Rattle.ln_names.specs.First.{Clean}
 use Rattle.ln_tree.specs.declared.shape.VarInfo.{VarInfo}
-use Rattle.ln_tree.specs.Formula.{Formula, tree, node_count, node_counts}
+use Rattle.ln_tree.specs.Formula.{Formula, tree}
 use Rattle.ln_tree.specs.Fits.{is_fit}
-use Rattle.ln_tree.specs.Table.{CoordOf, SiteOf, ArgOf, PredOf, TableOf}
-use Rattle.ln_tree.specs.Whole.{vars_behind, is_site_said, is_param_said, arg_name}
-use Rattle.ln_parse.specs.Says.{LetsSay, PredSays, Says, arg_said}
+use Rattle.ln_tree.specs.Table.{ArgOf, PredOf, TableOf}
+use Rattle.ln_tree.specs.Whole.{arg_name}
+use Rattle.ln_parse.specs.Says.{PredSays}
 use Rattle.ln_parse.specs.ReadsBack.{Every, PredWritten}
 use Rattle.ln_parse.specs.Spanless.{no_span, spanless, pred_spanless}
 use Rattle.ln_parse.specs.WholeTable.{PredKept}
 use Rattle.ln_parse.specs.Written.{naming}
-use Rattle.ln_parse.proofs.Roles.{Fresh, fresh_behind}
+use Rattle.ln_parse.proofs.Roles.{Fresh}
 use Rattle.ln_parse.proofs.NamePlaces.{Differ}
 use Rattle.ln_parse.proofs.CleanValue.{clean_join}
 use Rattle.ln_parse.proofs.InputsThere.{NamesGood}

@@ -1,6 +1,6 @@
 -- What the names of a canonical text stand for.
-use Rattle.std.proofs.Common.{◌≡◌, ℕ, zero, suc, ◌+◌, ◌<◌, ◌≤◌, ◌&&◌, ◌||◌, not, Bool, true, false, cond, nat_lt, List, [], ◌∷◌, ◌++◌, length, map, Option, Some, None, refl, ap, sym, ◌∙◌, subst, arith, zero-add}
-use Rattle.std.specs.Prelude.{pos, unsigned_abs, slice_get, position, unwrap_or, bytes_eq, find, nat_le}
+use Rattle.std.proofs.Common.{◌≡◌, ℕ, zero, suc, ◌+◌, ◌<◌, ◌&&◌, ◌||◌, not, Bool, true, false, cond, nat_lt, List, [], ◌∷◌, ◌++◌, length, map, Some, None, refl, ap, sym, ◌∙◌, subst, arith, zero-add}
+use Rattle.std.specs.Prelude.{slice_get, position, unwrap_or, bytes_eq, find, nat_le}
 use Rattle.std.specs.List.{list_any, position_from}
 use Rattle.std.proofs.lemmas.Bool.{and_parts, or_left, or_right, ltb-true}
 use Rattle.std.proofs.lemmas.Slice.Eq.{bytes_eq-Decides}
@@ -17,13 +17,13 @@ use Rattle.ln_tree.specs.Formula.{Formula, FNum, FInput, FName, FNeg, FAdd, FSub
 use Rattle.ln_tree.specs.Fits.{is_fit}
 use Rattle.ln_tree.specs.Table.{CoordOf, SiteOf, ArgOf, SiteArg, ParamArg, TableOf}
 use Rattle.ln_tree.specs.Whole.{vars_behind, range_name, arg_name}
-use Rattle.ln_parse.specs.Says.{place, ranged, site_names, param_names, sites_said, params_said}
+use Rattle.ln_parse.specs.Says.{ranged, site_names, param_names, sites_said, params_said}
 use Rattle.ln_parse.specs.ReadsBack.{Every, ArgWritten, ArgsWritten}
 use Rattle.ln_parse.specs.Spanless.{no_span, spanless}
 use Rattle.ln_parse.specs.WholeTable.{IsShortName, SiteNames, ArgNames}
-use Rattle.ln_parse.specs.Written.{Naming, Written, WName, WInput, input, written, site_name, coord_name}
+use Rattle.ln_parse.specs.Written.{Naming, Written, WName, input, written, site_name}
 use Rattle.ln_parse.proofs.NamePlaces.{NoneIs, Differ, not_there, same_bytes, place_of_name}
-use Rattle.ln_parse.proofs.Meaning.{arg_called, name_meaning, meaning}
+use Rattle.ln_parse.proofs.Meaning.{arg_called, meaning}
 use Rattle.ln_parse.proofs.CleanValue.{Meant}
 use Rattle.ln_parse.proofs.InputsThere.{InputThere, of_site, of_param, input_there, every_at, at_place, no_place, NamesGood, literal}
 use Rattle.ln_parse.proofs.Found.{get_longer}

@@ -1,15 +1,13 @@
 -- The canonical text of a whole table has few tokens, and no parenthesis of it is nested too deep.
-use Rattle.std.proofs.Common.{◌≡◌, ℕ, zero, suc, ◌+◌, ◌*◌, ◌<◌, ◌≤◌, Bool, true, false, List, [], ◌∷◌, length, Option, Some, None, refl, ap, sym, ◌∙◌, arith, codes}
-use Rattle.std.specs.Prelude.{ℤ, pos, int_lt, unsigned_abs, slice_get}
-use Rattle.ln_lex.specs.declared.token.Kind.{Kind}
-use Rattle.ln_lex.specs.declared.token.Kind.TheVariants.{ParL, ParR, BraceL, BraceR, Semi, Comma, Dots, Colon, Equals}
-use Rattle.ln_syntax.specs.Place.{IsShallow}
+use Rattle.std.proofs.Common.{◌≡◌, ℕ, suc, ◌+◌, ◌*◌, ◌<◌, ◌≤◌, Bool, true, false, List, [], ◌∷◌, length, refl, arith, codes}
+use Rattle.std.specs.Prelude.{ℤ, pos, int_lt, unsigned_abs}
+use Rattle.ln_lex.specs.declared.token.Kind.TheVariants.{ParR, BraceL, BraceR, Semi, Dots}
 use Rattle.ln_tree.specs.Formula.{Formula}
 use Rattle.ln_tree.specs.Table.{CoordOf, SiteOf, ArgOf, SiteArg, ParamArg, PredOf, TableOf}
 use Rattle.ln_tree.specs.Whole.{nesting, tokens_of, total, end_tokens, range_tokens, site_tokens, param_tokens, pred_tokens, text_tokens}
 use Rattle.ln_parse.specs.Lexemes.{Lexeme, gap, line, word, signed, minus_if, number, each}
-use Rattle.ln_parse.specs.Written.{Naming, naming, written}
-use Rattle.ln_parse.specs.Canonical.{ranged, coord, site, param, arg, further, args, lets, root, whole, pred, lexemes}
+use Rattle.ln_parse.specs.Written.{Naming, naming}
+use Rattle.ln_parse.specs.Canonical.{ranged, coord, site, param, arg, further, args, lets, root, pred, lexemes}
 use Rattle.ln_parse.specs.ReadsBack.{Every}
 use Rattle.ln_parse.specs.WholeTable.{PredKept}
 use Rattle.ln_parse.proofs.Nested.{Shallow, words, whole_words, whole_shallow}

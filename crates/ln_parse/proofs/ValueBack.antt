@@ -1,41 +1,38 @@
 -- The expressions, lets and arguments of a canonical text say those of the table, and their tokens have no fault.
-use Rattle.std.proofs.Common.{◌≡◌, ℕ, zero, suc, ◌+◌, ◌-◌, ◌<◌, ◌≤◌, ◌==◌, ◌&&◌, ◌||◌, not, Bool, true, false, cond, nat_lt, List, [], ◌∷◌, ◌++◌, length, map, Option, Some, None, refl, ap, sym, ◌∙◌, subst, arith, append_assoc, append-nil, length-append, zero-add}
-use Rattle.std.specs.Prelude.{slice_get, position, unwrap_or, bytes_eq, count_by, find}
-use Rattle.std.specs.List.{list_any, list_all, position_from}
-use Rattle.std.proofs.lemmas.Bool.{and_parts, or_left, or_right, ltb-true}
+use Rattle.std.proofs.Common.{◌≡◌, ℕ, suc, ◌+◌, ◌≤◌, ◌==◌, ◌||◌, true, false, nat_lt, List, [], ◌∷◌, ◌++◌, length, map, refl, ap, sym, ◌∙◌, subst, arith, append_assoc, append-nil, length-append}
+use Rattle.std.specs.Prelude.{bytes_eq}
+use Rattle.std.specs.List.{list_any}
+use Rattle.std.proofs.lemmas.Bool.{and_parts}
 use Rattle.std.proofs.lemmas.List.{length-map, map-append}
 use Rattle.std.proofs.lemmas.List.Folds.{list_any-append}
-use Rattle.std.proofs.lemmas.List.Sums.{sum_by-append, sum_by-cons}
-use Rattle.std.proofs.lemmas.Iterator.Adapters.{position_from-zero}
-use Rattle.ln_base.specs.declared.span.Span.{Span}
+use Rattle.std.proofs.lemmas.List.Sums.{sum_by-append}
 use Rattle.ln_lex.specs.declared.token.Token.{Token}
 use Rattle.ln_lex.specs.declared.token.Kind.TheVariants.{Equals}
 use Rattle.ln_syntax.specs.declared.raw.RawArg.{RawArg}
 use Rattle.ln_syntax.specs.declared.raw.RawLet.{RawLet}
 use Rattle.ln_syntax.specs.declared.raw.Places.{Places}
-use Rattle.ln_syntax.specs.Raw.{Item, item_name, is_site, is_param, Is, span_at, text, same}
+use Rattle.ln_syntax.specs.Raw.{Item, span_at, text, same}
 use Rattle.ln_syntax.specs.File.{Lets, no_let, a_let}
-use Rattle.ln_names.specs.Rules.{Scope, scope, is_site_arg, is_param_arg, ArgSite, ArgParam, has_site, has_param, fault_at}
-use Rattle.ln_names.specs.Visits.{Visit, visits_by, arg_visits, let_visits, value_visits, value_nodes, nodes_before}
+use Rattle.ln_names.specs.Rules.{Scope, scope}
+use Rattle.ln_names.specs.Visits.{visits_by, let_visits, value_visits, value_nodes, nodes_before}
 use Rattle.ln_names.specs.First.{Clean}
 use Rattle.ln_tree.specs.declared.shape.VarInfo.{VarInfo}
 use Rattle.ln_tree.specs.Formula.{Formula, FNum, FInput, FName, FNeg, FAdd, FSub, FMul, FPow, tree, node_count, node_counts}
 use Rattle.ln_tree.specs.Fits.{is_fit, lets_fit}
-use Rattle.ln_tree.specs.Table.{CoordOf, SiteOf, ArgOf, SiteArg, ParamArg, TableOf}
-use Rattle.ln_tree.specs.Whole.{vars_behind, range_name, arg_name, is_one_of, is_site_said, is_param_said}
-use Rattle.ln_parse.specs.Says.{place, ranged, resolved, Says, LetsSay, arg_said, site_names, param_names, sites_said, params_said}
-use Rattle.ln_parse.specs.ReadsBack.{Every, ArgWritten, ArgsWritten, Spells, LetsWritten}
+use Rattle.ln_tree.specs.Table.{SiteOf, TableOf}
+use Rattle.ln_tree.specs.Whole.{vars_behind, arg_name}
+use Rattle.ln_parse.specs.Says.{resolved, Says, LetsSay, sites_said}
+use Rattle.ln_parse.specs.ReadsBack.{Every, ArgsWritten, Spells, LetsWritten}
 use Rattle.ln_parse.specs.Spanless.{spanless}
-use Rattle.ln_parse.specs.WholeTable.{IsShortName, SiteNames, ArgNames}
-use Rattle.ln_parse.specs.Written.{Naming, Written, written, spelling, site_name}
+use Rattle.ln_parse.specs.WholeTable.{IsShortName}
+use Rattle.ln_parse.specs.Written.{Naming, Written, written, spelling}
 use Rattle.ln_parse.proofs.Counts.{node_count_is}
-use Rattle.ln_parse.proofs.LaidOut.{count_cons, count_append}
 use Rattle.ln_parse.proofs.Roles.{Fresh, fresh_behind}
 use Rattle.ln_parse.proofs.NamePlaces.{NoneIs, Differ}
 use Rattle.ln_parse.proofs.Meaning.{meaning, meaning_is}
-use Rattle.ln_parse.proofs.CleanValue.{Meant, value_clean, clean_join, none_two, none_three, not_over, not_at, known_not}
-use Rattle.ln_parse.proofs.InputsThere.{NamesGood, at_place, every_at}
-use Rattle.ln_parse.proofs.ScopeNames.{InScope, means, type_there, param_there, any_found, flip}
+use Rattle.ln_parse.proofs.CleanValue.{Meant, value_clean, clean_join, none_three, not_over, not_at}
+use Rattle.ln_parse.proofs.InputsThere.{NamesGood}
+use Rattle.ln_parse.proofs.ScopeNames.{InScope, means}
 use Rattle.ln_parse.proofs.TestLemmas.{neither}
 use Rattle.ln_parse.proofs.WholeParts.{SiteParts}
 

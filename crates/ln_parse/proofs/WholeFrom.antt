@@ -1,6 +1,6 @@
 -- The table of a file without a fault is whole.
-use Rattle.std.proofs.Common.{◌≡◌, ℕ, zero, suc, ◌+◌, ◌*◌, ◌<◌, ◌≤◌, ◌^◌, ◌==◌, ◌&&◌, ◌||◌, not, Bool, true, false, cond, nat_lt, List, [], ◌∷◌, ◌++◌, length, map, take, drop, Option, Some, None, refl, ap, sym, ◌∙◌, subst, arith, append_assoc, append-nil}
-use Rattle.std.specs.Prelude.{ℤ, pos, neg_ℤ, int_lt, ◌≤ℤ◌, nat_le, slice_get, bytes_eq, count_by}
+use Rattle.std.proofs.Common.{◌≡◌, ℕ, zero, suc, ◌+◌, ◌*◌, ◌<◌, ◌≤◌, ◌^◌, ◌==◌, ◌&&◌, not, Bool, true, false, nat_lt, List, [], ◌∷◌, ◌++◌, length, map, take, Option, Some, None, refl, ap, sym, ◌∙◌, subst, arith, append_assoc, append-nil}
+use Rattle.std.specs.Prelude.{ℤ, pos, neg_ℤ, int_lt, nat_le, slice_get, bytes_eq, count_by}
 use Rattle.std.specs.List.{list_any, list_all}
 use Rattle.std.specs.Ordering.{int_eq}
 use Rattle.std.specs.Cmp.{signed_Decides}
@@ -25,7 +25,7 @@ use Rattle.ln_syntax.specs.File as file
 use Rattle.ln_syntax.specs.File.{Spelt}
 use Rattle.ln_syntax.proofs.OneTree.{one_tree}
 use Rattle.ln_names.specs.Numbers.{number, signed, end_value}
-use Rattle.ln_names.specs.Rules.{Scope, scope, is_site_arg, is_param_arg}
+use Rattle.ln_names.specs.Rules.{scope, is_param_arg}
 use Rattle.ln_names.specs.Limits.{Each, RangeWithin, CoordWithin, IsKnown, ArgWithin, LetWithin, ItemWithin, FileWithin}
 use Rattle.ln_tree.specs.declared.shape.VarInfo.{VarInfo}
 use Rattle.ln_tree.specs.Variables.{same_site}
@@ -33,9 +33,9 @@ use Rattle.ln_tree.specs.Formula.{Formula}
 use Rattle.ln_tree.specs.Table.{CoordOf, SiteOf, ArgOf, SiteArg, ParamArg, PredOf, TableOf}
 use Rattle.ln_tree.specs.Whole.{is_new, differ, is_range, site_whole, is_one_of, is_param_said, arg_name, range_name, same_var, same_vars, nesting, tokens_of, total, end_tokens, range_tokens, site_tokens, param_tokens, pred_tokens, text_tokens, item_names, pred_whole, vars_behind, is_whole}
 use Rattle.ln_parse.specs.Says.{place, ranged, resolved, Says, LetsSay, PredSays, PredsSay, ItemsSay, arg_said, param_names, sites_said, params_said, is_site_said}
-use Rattle.ln_parse.specs.Ready.{Fit, ReadyValue, ReadyLet, ReadyPred, ReadyItem, ReadySite, ReadyFile, Declares, is_known}
-use Rattle.ln_parse.proofs.Fitting.{Sees, said, all_known, value_found, said_site, said_param}
-use Rattle.ln_parse.proofs.Found.{found_at, param_found, get_longer, each_get}
+use Rattle.ln_parse.specs.Ready.{ReadyValue, ReadyLet, ReadyPred, ReadyItem, ReadySite, ReadyFile, Declares, is_known}
+use Rattle.ln_parse.proofs.Fitting.{said, all_known}
+use Rattle.ln_parse.proofs.Found.{found_at, param_found, get_longer}
 use Rattle.ln_parse.proofs.FromTokens.{depth_step, expression_nests, expression_tokens}
 use Rattle.ln_parse.proofs.Kept.{sees, sites_are, declared}
 use Rattle.ln_parse.proofs.LaidOut.{count_cons}

@@ -1,5 +1,5 @@
 -- What tokens say: the table of items and expressions, once names are resolved.
-use Rattle.std.specs.Prelude.{◌≡◌, ℕ, suc, pos, ◌&&◌, Bool, true, false, List, [], ◌∷◌, ◌++◌, Option, Some, None, map, position, unwrap_or, slice_get, count_by}
+use Rattle.std.specs.Prelude.{◌≡◌, ℕ, pos, ◌&&◌, Bool, true, false, List, [], ◌∷◌, ◌++◌, Option, Some, None, map, position, unwrap_or, count_by}
 use Rattle.ln_base.specs.declared.span.Span.{Span}
 use Rattle.ln_lex.specs.declared.token.Token.{Token}
 use Rattle.ln_lex.specs.declared.token.Kind.TheVariants.{Semi}

@@ -1,5 +1,6 @@
 -- What the machine answers on a record's row is owed to the record.
-use Rattle.std.proofs.Common.{◌≡◌, ℕ, Bool, List, Result, Ok, refl, ap, sym, ◌∙◌, subst}
+use Rattle.std.proofs.Common.{true≢false, ◌≡◌, ℕ, Bool, List, Result, Ok, Err, refl, ap, sym, ◌∙◌, subst}
+use Rattle.std.specs.Prelude.{IsOk}
 use Rattle.ln_tree.specs.declared.shape.VarInfo.{VarInfo}
 use Rattle.ln_tree.specs.Row.{InRange, Row}
 use Rattle.ln_tree.specs.Table.{PredOf}
@@ -37,3 +38,8 @@ said_row p fields said right s e = e ∙ by_cases s
     by_cases : {said : Result Verdict RowStop} → Says p fields said → is_said said ≡ is_row p fields
     by_cases (due row v read d) = sym (ap is_read read)
     by_cases (refused_ stop read) = sym (ap is_read read)
+
+-- what is Ok isn't refused
+pub not_refused : {T E P : Type 0} (r : Result T E) → IsOk r → ((x : T) → r ≡ Ok x → ⊥) → P
+not_refused (Ok x) h n = absurd (n x refl)
+not_refused (Err e) h n = absurd (true≢false (sym h))

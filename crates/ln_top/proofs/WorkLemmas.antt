@@ -13,7 +13,7 @@ use Rattle.ln_top.specs.declared.status.Status.{Status}
 use Rattle.ln_top.specs.declared.status.Status.TheVariants.{Done, Rows}
 use Rattle.ln_top.specs.Said.{error_line, IsSettled, put_both, IsWrongHeader, wrong_header, ran, counted, AsSaid, WorkOwed, CheckOwed, SaysError, PutsLine, PutsLines}
 use Rattle.ln_top.specs.Counts.{AreCounts}
-use Rattle.ln_top.specs.Line.{line, IsLineOf, AreLines, none, more, all_rows, is_row}
+use Rattle.ln_top.specs.Line.{line, line_room, IsLineOf, AreLines, none, more, all_rows, is_row}
 
 -- one line more, behind others
 line_behind : (p : PredOf) (names : List (List ℕ)) (done : Records) (fields : List (List ℕ)) {lines : List ℕ} (text : List ℕ) → AreLines p names done lines → IsLineOf p names fields text → AreLines p names (done ++ fields ∷ []) (lines ++ text)
@@ -33,7 +33,7 @@ row_behind p (f ∷ fs) fields = ap (λ b. is_row p f && b) (row_behind p fs fie
     and_assoc false b c = refl
 
 -- the lines of some records stand on Out, and the rest is left
-pub record Running (p : PredOf) (part : Part) (names : List (List ℕ)) (all left : Records) (good : Bool) (was now : Option Shown) (before count : ℕ) (scratch : Scratch) : Type 0 where
+pub record Running (p : PredOf) (part : Part) (names : List (List ℕ)) (all left : Records) (good : Bool) (was now : Option Shown) (before count : ℕ) (scratch : Scratch) (capacity : ℕ) : Type 0 where
   pub done : Records
   pub parts : all ≡ done ++ left
   pub lines : List ℕ
@@ -42,15 +42,16 @@ pub record Running (p : PredOf) (part : Part) (names : List (List ℕ)) (all lef
   pub rows : good ≡ all_rows p done
   pub later : before ≤ count
   pub made : MadeFor part scratch
+  pub room : line_room ≤ capacity
 
 -- nothing has been put yet
-pub running_start : (p : PredOf) (part : Part) (names : List (List ℕ)) (all : Records) (was : Option Shown) (before : ℕ) (scratch : Scratch) → MadeFor part scratch → Running p part names all all true was was before before scratch
-running_start p part names all was before scratch m = record { done = []; parts = refl; lines = []; are = none; shown = sym (appended-nothing Out was); rows = refl; later = omega arith; made = m }
+pub running_start : (p : PredOf) (part : Part) (names : List (List ℕ)) (all : Records) (was : Option Shown) (before : ℕ) (scratch : Scratch) (capacity : ℕ) → MadeFor part scratch → line_room ≤ capacity → Running p part names all all true was was before before scratch capacity
+running_start p part names all was before scratch capacity m c = record { done = []; parts = refl; lines = []; are = none; shown = sym (appended-nothing Out was); rows = refl; later = omega arith; made = m; room = c }
 
 -- one more line
-pub running_more : (p : PredOf) (part : Part) (names : List (List ℕ)) (all left rest : Records) (fields : List (List ℕ)) (good right : Bool) (was now then : Option Shown) (before count after : ℕ) (scratch next : Scratch) → Running p part names all left good was now before count scratch
-    → left ≡ fields ∷ rest → right ≡ is_row p fields → PutsLine p names fields now then → count ≤ after → MadeFor part next → Running p part names all rest (good && right) was then before after next
-running_more p part names all left rest fields good right was now then before count after scratch next s l g e h m = record {
+pub running_more : (p : PredOf) (part : Part) (names : List (List ℕ)) (all left rest : Records) (fields : List (List ℕ)) (good right : Bool) (was now then : Option Shown) (before count after : ℕ) (scratch next : Scratch) (capacity grown : ℕ) → Running p part names all left good was now before count scratch capacity
+    → left ≡ fields ∷ rest → right ≡ is_row p fields → PutsLine p names fields now then → count ≤ after → MadeFor part next → line_room ≤ grown → Running p part names all rest (good && right) was then before after next grown
+running_more p part names all left rest fields good right was now then before count after scratch next capacity grown s l g e h m r = record {
   done = s.done ++ fields ∷ [];
   parts = s.parts ∙ rw (l, append_assoc) refl;
   lines = s.lines ++ e.text;
@@ -59,17 +60,18 @@ running_more p part names all left rest fields good right was now then before co
   rows = rw (s.rows, g) (sym (row_behind p s.done fields));
   later = omega (arith, s.later, h);
   made = m;
+  room = r;
 }
 
 -- no record is left: all lines stand
-ran_all : (p : PredOf) (part : Part) (names : List (List ℕ)) (all left : Records) (good : Bool) (was now : Option Shown) (before count : ℕ) (scratch : Scratch) → (s : Running p part names all left good was now before count scratch) → left ≡ [] → s.done ≡ all
-ran_all p part names all left good was now before count scratch s l = sym (s.parts ∙ rw (l, append-nil) refl)
+ran_all : (p : PredOf) (part : Part) (names : List (List ℕ)) (all left : Records) (good : Bool) (was now : Option Shown) (before count : ℕ) (scratch : Scratch) (capacity : ℕ) → (s : Running p part names all left good was now before count scratch capacity) → left ≡ [] → s.done ≡ all
+ran_all p part names all left good was now before count scratch capacity s l = sym (s.parts ∙ rw (l, append-nil) refl)
 
-pub all_shown : (p : PredOf) (part : Part) (names : List (List ℕ)) (all left : Records) (good : Bool) (was now : Option Shown) (before count : ℕ) (scratch : Scratch) → Running p part names all left good was now before count scratch → left ≡ [] → PutsLines p names all was now
-all_shown p part names all left good was now before count scratch s l = record { lines = s.lines; are = subst (λ (rs : Records). AreLines p names rs s.lines) (ran_all p part names all left good was now before count scratch s l) s.are; shown = s.shown }
+pub all_shown : (p : PredOf) (part : Part) (names : List (List ℕ)) (all left : Records) (good : Bool) (was now : Option Shown) (before count : ℕ) (scratch : Scratch) (capacity : ℕ) → Running p part names all left good was now before count scratch capacity → left ≡ [] → PutsLines p names all was now
+all_shown p part names all left good was now before count scratch capacity s l = record { lines = s.lines; are = subst (λ (rs : Records). AreLines p names rs s.lines) (ran_all p part names all left good was now before count scratch capacity s l) s.are; shown = s.shown }
 
-pub all_good : (p : PredOf) (part : Part) (names : List (List ℕ)) (all left : Records) (good : Bool) (was now : Option Shown) (before count : ℕ) (scratch : Scratch) → Running p part names all left good was now before count scratch → left ≡ [] → good ≡ all_rows p all
-all_good p part names all left good was now before count scratch s l = s.rows ∙ ap (all_rows p) (ran_all p part names all left good was now before count scratch s l)
+pub all_good : (p : PredOf) (part : Part) (names : List (List ℕ)) (all left : Records) (good : Bool) (was now : Option Shown) (before count : ℕ) (scratch : Scratch) (capacity : ℕ) → Running p part names all left good was now before count scratch capacity → left ≡ [] → good ≡ all_rows p all
+all_good p part names all left good was now before count scratch capacity s l = s.rows ∙ ap (all_rows p) (ran_all p part names all left good was now before count scratch capacity s l)
 
 -- an error line alone
 pub error_alone : (text : List ℕ) (was : Option Shown) → appended ErrPort text was ≡ put_both [] text was

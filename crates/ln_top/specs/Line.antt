@@ -41,6 +41,10 @@ abbrev pub said_text : List (List ℕ) → Result Verdict RowStop → List ℕ
 said_text names (Ok v) = sign_text v.sign ++ 32 ∷ decider_text v.by
 said_text names (Err stop) = stop_text names stop
 
+-- the room that the line of any verdict fits in
+abbrev pub line_room : ℕ
+line_room = 64
+
 -- what a predicate says of a record: a verdict that the record's row is owed, or why the record is no row
 pub data Says (p : PredOf) (fields : List (List ℕ)) : Result Verdict RowStop → Type 0 where
   due : (row : Row) (v : Verdict) → read_row p.sites p.vars fields ≡ Ok row → Due NoFilter p.vars (root_of p) row v → Says p fields (Ok v)

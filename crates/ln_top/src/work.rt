@@ -1,5 +1,5 @@
 // The work of a command: on the records of a rows file, or on the predicates of a source.
-ghost use Rattle.std.specs.Prelude.{◌&&◌, ◌≡◌, ◌⊎◌, ◌≤◌, ◌<◌, [], ◌∷◌, true, false, length, map, IfOk, IfErr, OnOk, IsTrue};
+ghost use Rattle.std.specs.Prelude.{◌&&◌, ◌≡◌, ◌⊎◌, ◌≤◌, ◌<◌, [], ◌∷◌, true, false, length, map, vec_capacity, IfOk, IfErr, OnOk, IsTrue};
 ghost use Rattle.csv.specs.Records.{fields_of};
 ghost use Rattle.ln_tree.specs.Table.{pred_of};
 ghost use Rattle.ln_code.specs.Memory.{MadeFor};
@@ -8,11 +8,11 @@ ghost use Rattle.ln_rows.specs.Columns.{column_names};
 ghost use Rattle.ln_rows.specs.Left.{records_in};
 ghost use Rattle.ln_base.specs.Outside.{Rose, appended};
 ghost use Rattle.ln_base.specs.declared.outside.Port.TheVariants.{Out};
-ghost use Rattle.ln_top.specs.Line.{all_rows};
+ghost use Rattle.ln_top.specs.Line.{all_rows, line_room};
 ghost use Rattle.ln_top.specs.Said.{HeaderIs, IsSettled, OfWork, PutsLines, StopsWork, WorkOwed};
 ghost use Rattle.ln_top.specs.Front.{CutsRecords, PutsFirstOfWork, PutsFrontOfWork};
 
-use crate::record::{Target, kept, put_record};
+use crate::record::{LINE_ROOM, Target, kept, put_record};
 use crate::status::Status;
 use crate::stop::put_error;
 use csv::ByteRecord;
@@ -42,7 +42,8 @@ fn both(a: bool, b: bool) -> bool
     a && b
 }
 
-// Puts the lines of the records that are left, and says whether each is a row.
+// Puts the lines of the records that are left, and says whether each is a row. Beside the reading of a record and the name of a refused
+// column nothing takes memory.
 #[tactic(auto, using(crate::proofs::WorkLemmas::running_start, crate::proofs::WorkLemmas::all_shown, crate::proofs::WorkLemmas::all_good))]
 fn put_records<C: Console>(
     alloc: Global,
@@ -51,16 +52,17 @@ fn put_records<C: Console>(
     s: &mut Scratch,
     rows: &mut Rows,
     record: &mut ByteRecord,
+    text: &mut Vec<u8>,
 ) -> Result<bool, Status>
     requires program { IsProgramOf (pred_of target.pred.now) target.program.now }
     requires made { MadeFor target.program.now s.old }
+    requires room { line_room ≤ vec_capacity text.old }
     ensures good { IfOk result (λ good. good ≡ all_rows (pred_of target.entry.pred.now) rows.old) }
     ensures shown { OnOk result (PutsLines (pred_of target.entry.pred.now) (column_names target.entry.table.now.sites target.entry.table.now.params target.entry.pred.now.args) rows.old (C.shown con.old) (C.shown con.new)) }
     ensures err { IfErr result (λ s. StopsWork s (C.faults con.old) (C.faults con.new)) }
     ensures cut { IfErr result (λ s. CutsRecords (pred_of target.entry.pred.now) (column_names target.entry.table.now.sites target.entry.table.now.params target.entry.pred.now.args) rows.old s (C.shown con.old) (C.shown con.new)) }
     ensures later { C.faults con.old ≤ C.faults con.new }
 {
-    let mut text = Vec::new(alloc);
     let mut good = true;
     'rows: loop {
         match rows.next(record) {
@@ -68,7 +70,7 @@ fn put_records<C: Console>(
             Ok(false) => return Ok(good),
             Err(_) => return Err(Status::Memory),
         }
-        let right = put_record(alloc, con, target, s, record, &mut text)?;
+        let right = put_record(alloc, con, target, s, record, text)?;
         good = both(good, right);
     }
 }
@@ -92,7 +94,18 @@ pub fn work<C: Console>(alloc: Global, con: &mut C, target: Target<'_>, bytes: &
     let Ok(mut scratch) = Scratch::new(alloc, kept(target.program)) else {
         return Status::Memory;
     };
-    match put_records(alloc, con, target, &mut scratch, &mut rows, &mut record) {
+    let Ok(mut text) = Vec::with_capacity(alloc, LINE_ROOM) else {
+        return Status::Memory;
+    };
+    match put_records(
+        alloc,
+        con,
+        target,
+        &mut scratch,
+        &mut rows,
+        &mut record,
+        &mut text,
+    ) {
         Ok(true) => Status::Done,
         Ok(false) => Status::Rows,
         Err(status) => status,
