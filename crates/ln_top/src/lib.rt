@@ -8,12 +8,18 @@
 // count of faults rises.
 #![tactic(auto)]
 
+#[cfg(test)]
+mod compare;
 mod counts;
 pub mod laws;
 mod record;
 mod source;
+#[cfg(test)]
+mod spheres;
 pub mod status;
 pub mod stop;
+#[cfg(test)]
+mod support;
 #[cfg(test)]
 mod tests;
 pub mod top;

@@ -1,7 +1,9 @@
 // What the program says, over files and ports in memory.
+use crate::spheres::CIRCLE;
 use crate::status::Status;
-use crate::top::{SOURCE_LIMIT, lnc};
-use ln_base::{MemConsole, MemFiles, NoMemory, Port};
+use crate::support::{said, said_within, shelf};
+use crate::top::SOURCE_LIMIT;
+use ln_base::{NoMemory, Port};
 use std::alloc::Global;
 use std::test::Fail;
 
@@ -54,16 +56,6 @@ const NOTHING_ADDED: &str = "site num { t: -10 .. 10; }
 predicate nf(a: num) { let z = 0*170141183460469231731687303715884105727; let y = z*z*z; sign a.t + y; }
 ";
 
-const CIRCLE: &str = "site point { x: -1048576 .. 1048576; y: -1048576 .. 1048576; }
-predicate incircle(a: point, b: point, c: point, d: point) {
-  let ax = a.x - d.x; let ay = a.y - d.y;
-  let bx = b.x - d.x; let by = b.y - d.y;
-  let cx = c.x - d.x; let cy = c.y - d.y;
-  let aw = ax^2 + ay^2; let bw = bx^2 + by^2; let cw = cx^2 + cy^2;
-  sign ax*(by*cw - bw*cy) - ay*(bx*cw - bw*cx) + aw*(bx*cy - by*cx);
-}
-";
-
 // With d = a.t - b.t the sign is that of -d^3 - 2*(3 - d).
 const CUBIC: &str = "site num { t: -10 .. 10; }
 predicate m(a: num, b: num) { let d = a.t - b.t; let e = -d^2 * d; sign e - 2*(3 - d); }
@@ -77,43 +69,6 @@ predicate big(a: num, b: num, c: num, d: num) { sign a.t*b.t + c.t*d.t; }
 const CHECK: &[&str] = &["check", "s.ln"];
 
 const RUN: &[&str] = &["run", "s.ln", "orient", "r.csv"];
-
-/// The files `s.ln` and `r.csv` with these bytes; the calls in `fails` fail.
-fn shelf(alloc: Global, source: &str, rows: &str, fails: &[u64]) -> Result<MemFiles, NoMemory> {
-    let mut files = Vec::new(alloc);
-    let source = Vec::from_slice(alloc, source.as_bytes())?;
-    files.push((String::from_str(alloc, "s.ln")?, source))?;
-    let rows = Vec::from_slice(alloc, rows.as_bytes())?;
-    files.push((String::from_str(alloc, "r.csv")?, rows))?;
-    Ok(MemFiles::new(files, Vec::from_slice(alloc, fails)?))
-}
-
-/// The status, and the console with what was put, seven bytes at a time; the calls in `fails` fail.
-fn said(
-    alloc: Global,
-    words: &[&str],
-    files: &mut MemFiles,
-    fails: &[u64],
-) -> Result<(Status, MemConsole), NoMemory> {
-    said_within(alloc, words, files, 4096, fails)
-}
-
-/// The same over ports with room for so many bytes each.
-fn said_within(
-    alloc: Global,
-    words: &[&str],
-    files: &mut MemFiles,
-    room: usize,
-    fails: &[u64],
-) -> Result<(Status, MemConsole), NoMemory> {
-    let mut all = Vec::new(alloc);
-    for word in words {
-        all.push(String::from_str(alloc, word)?)?;
-    }
-    let mut con = MemConsole::new(alloc, room, 7, Vec::from_slice(alloc, fails)?)?;
-    let status = lnc(alloc, &all, files, &mut con);
-    Ok((status, con))
-}
 
 #[test]
 fn each_record_has_its_line(rt: HostRuntime) -> Result<(), Fail> {
@@ -310,6 +265,38 @@ fn a_source_over_its_limit_is_too_long(rt: HostRuntime) -> Result<(), Fail> {
         assert_eq!(rt; con.bytes(Port::Err), err.as_bytes(), "{err}");
         assert_eq!(rt; con.bytes(Port::Out), b"".as_slice(), "{err}");
         assert_eq!(rt; was, status, "{err}");
+    }
+    Ok(())
+}
+
+// A predicate that is the product of so many coordinates of one site, after the first.
+fn cube(alloc: Global, others: usize) -> Result<String, NoMemory> {
+    let mut source = String::from_str(alloc, "site many { t0: -1 .. 1;")?;
+    let mut product = String::from_str(alloc, "a.t0")?;
+    for i in 1..=others {
+        write!(source, " t{i}: -1 .. 1;")?;
+        write!(product, "*a.t{i}")?;
+    }
+    source.push_str(" }\npredicate cube(a: many) { sign ")?;
+    source.push_str(&product)?;
+    source.push_str("; }\n")?;
+    Ok(source)
+}
+
+#[test]
+fn each_set_of_sixteen_coordinates_is_a_stage(rt: HostRuntime) -> Result<(), Fail> {
+    let alloc = rt.alloc();
+    let rows = [
+        (15, "cube sites 1 stages 65536\n", "", Status::Done),
+        (16, "", "error stages 2:11\n", Status::Refused),
+    ];
+    for (others, out, err, status) in rows {
+        let source = cube(alloc, others)?;
+        let mut files = shelf(alloc, &source, HEAD, &[])?;
+        let (was, con) = said(alloc, CHECK, &mut files, &[])?;
+        assert_eq!(rt; con.bytes(Port::Out), out.as_bytes(), "{others} others");
+        assert_eq!(rt; con.bytes(Port::Err), err.as_bytes(), "{others} others");
+        assert_eq!(rt; was, status, "{others} others");
     }
     Ok(())
 }
