@@ -169,10 +169,6 @@ fn random_predicates_have_the_sign_and_place_of_the_definition(
             tally.compare(&rt, rt.alloc(), &mut draw, &shape)?;
         }
     }
-    eprintln!(rt;
-        "{} {} {}",
-        tally.predicates, tally.perturbed, tally.undecided
-    )?;
     assert!(rt; tally.predicates >= 100, "{} predicates", tally.predicates);
     assert!(rt; tally.perturbed >= 1000, "{} lines", tally.perturbed);
     assert!(rt; tally.undecided >= 20, "{} lines", tally.undecided);
