@@ -16,3 +16,5 @@ pub mod Differ
 pub mod Means
 pub mod Together
 pub mod WorkedLaws
+pub mod Behind
+pub mod Same

@@ -9,6 +9,7 @@ pub mod Lists
 pub mod Verdict
 pub mod Kept
 pub mod Pushes
+pub mod Nodes
 pub mod Errors
 pub mod Law
 pub mod Memory

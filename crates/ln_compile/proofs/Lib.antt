@@ -11,6 +11,7 @@ pub mod DueLemmas
 pub mod FewestLemmas
 pub mod FilterLemmas
 pub mod Filtering
+pub mod FilteredLemmas
 pub mod GatheringLemmas
 pub mod InputsLemmas
 pub mod Judging

@@ -1,6 +1,6 @@
 -- Blocks as they are made.
-use Rattle.std.proofs.Common.{◌≡◌, ℕ, ◌+◌, ◌*◌, ◌<◌, ◌≤◌, zero, suc, max, List, [], ◌∷◌, length, map, get_or, refl, sym, ◌∙◌, ap, subst, arith, ◌⊎◌, inl, inr, Option, Some, None}
-use Rattle.std.specs.Prelude.{slice_get, is_some, true}
+use Rattle.std.proofs.Common.{true≢false, ◌↔◌, ◌≡◌, ℕ, ◌+◌, ◌*◌, ◌<◌, ◌≤◌, zero, suc, max, List, [], ◌∷◌, length, map, get_or, refl, sym, ◌∙◌, ap, subst, arith, ◌⊎◌, inl, inr, Option, Some, None}
+use Rattle.std.specs.Prelude.{slice_get, is_some, true, ℤ, IfSome, IsSome}
 use Rattle.ln_algebra.specs.Coefficient.{normal_coefficient}
 use Rattle.std.proofs.lemmas.Bool.{cases_lt}
 use Rattle.std.proofs.lemmas.List.{get_or_past}
@@ -10,7 +10,8 @@ use Rattle.ln_tree.specs.declared.pred.Pred.{Pred}
 use Rattle.ln_tree.specs.declared.shape.VarInfo.{VarInfo}
 use Rattle.ln_tree.specs.Exps.{IsAbove, IsRising, Pairs, vector}
 use Rattle.ln_tree.specs.Formula.{formula, tree, tree_of}
-use Rattle.ln_tree.specs.Table.{pred_of}
+use Rattle.ln_tree.specs.Row.{AreWithin}
+use Rattle.ln_tree.specs.Table.{PredOf, pred_of}
 use Rattle.ln_bound.specs.declared.fitted.Fitted.{Fitted}
 use Rattle.ln_bound.specs.Exact.{AreExact, IsExact}
 use Rattle.ln_bound.specs.Typed.{Typed, cost, costs, polynomial, untyped}
@@ -23,13 +24,17 @@ use Rattle.ln_poly.proofs.Lowering.{found}
 use Rattle.ln_poly.proofs.Products.{length-vector, over-terms}
 use Rattle.ln_order.proofs.PairsLemmas.{vector-get}
 use Rattle.ln_code.proofs.Runs.{some_is}
-use Rattle.ln_code.specs.Kept.{AreOfSites, FollowsRules, is_of_site}
-use Rattle.ln_code.specs.Part.{Code, known_of}
+use Rattle.ln_code.specs.FilterRules.{FilterKnown}
+use Rattle.ln_code.specs.Kept.{AreOfSites, FollowsFilterRules, FollowsRules, is_of_site}
+use Rattle.ln_code.specs.Part.{Code, FilterCode, filter_known_of, filter_value, known_of, ops_in_filter}
 use Rattle.ln_code.specs.Rules.{Known}
-use Rattle.ln_lower.specs.Nodes.{IsNodeOf, PushNodes, pushed_by}
-use Rattle.ln_compile.specs.Accepted.{root_of}
-use Rattle.ln_compile.specs.Carried.{CarriesDerivative}
-use Rattle.ln_compile.specs.Compiled.{IsOwn}
+use Rattle.ln_code.specs.Nodes.{IsNodeOf}
+use Rattle.ln_lower.specs.Nodes.{PushNodes, pushed_by}
+use Rattle.ln_filter.specs.Steady.{HasFilter}
+use Rattle.ln_filter.specs.Truncated.{root_number, root_triple}
+use Rattle.ln_compile.specs.Accepted.{lets_of, own_root, root_of}
+use Rattle.ln_compile.specs.Carried.{CarriesDerivative, CarriesWhole}
+use Rattle.ln_compile.specs.Compiled.{IsFilterOf, IsOwn}
 use Rattle.ln_compile.specs.Derived.{IsDerivative}
 use Rattle.ln_compile.specs.Made.{IsBlockOf}
 use Rattle.ln_compile.proofs.CoefficientLemmas.{derived-zeros}
@@ -97,3 +102,41 @@ own-carries p lets root c a f z e l r fr q h = record { rules = fr; of_sites = r
 
   normal : (k : Known) → known_of p.shape.vars c ≡ Some k → IsNormalOf (length p.shape.vars) k.tree (derived (vector (length p.shape.vars) c.exps) (terms_of (length p.shape.vars) f))
   normal k g = rw none (record { over = over-terms (length p.shape.vars) f; coefficients = λ m s. h.normal.coefficients m s ∙ sym (q k g m ∙ whole m) })
+
+-- ---- the filter
+-- what the sized trees stand for
+sized-whole : (p : Pred) (lets : List Fitted) (root : Fitted) → map untyped (map typed lets) ≡ map (tree_of p.shape.vars) p.lets → untyped (typed root) ≡ tree_of p.shape.vars p.root
+    → (m : List ℕ) → polynomial (map typed lets) (typed root) m ≡ normal_coefficient (root_of (pred_of p)) m
+sized-whole p lets root l r m = ap (λ ts. normal_coefficient (inlined (inlined_after [] ts) (untyped (typed root))) m) (l ∙ sym (trees-of p.shape.vars p.lets)) ∙ ap (λ t. normal_coefficient (inlined (inlined_after [] (map (tree p.shape.vars) (map formula p.lets))) t) m) r
+
+-- a filter that stands for the sized trees carries the whole
+pub filter-carries : (p : Pred) (lets : List Fitted) (root : Fitted) (o : Option FilterCode) (f : Sparse) → map untyped (map typed lets) ≡ map (tree_of p.shape.vars) p.lets → untyped (typed root) ≡ tree_of p.shape.vars p.root
+    → IfSome o (FollowsFilterRules p.shape.vars) → IfSome o (λ c. (k : FilterKnown) → filter_known_of p.shape.vars c ≡ Some k → (m : List ℕ) → normal_coefficient k.tree m ≡ polynomial (map typed lets) (typed root) m)
+    → IsNormal (length p.shape.vars) (root_of (pred_of p)) f → IfSome o (CarriesWhole p.shape.vars f)
+filter-carries p lets root None f l r fr q h = tt
+filter-carries p lets root (Some c) f l r fr q h = record {
+  what = fr.what;
+  known = fr.known;
+  whole = record { over = over-terms (length p.shape.vars) f; coefficients = λ m s. h.normal.coefficients m s ∙ sym (q fr.what fr.known m ∙ sized-whole p lets root l r m) };
+}
+
+-- and it is the predicate's
+filter-here : (p : PredOf) (o : Option FilterCode) → (IsSome o ↔ HasFilter p.vars (lets_of p) (own_root p))
+    → IfSome o (λ c. (zs : List ℤ) → AreWithin p.vars zs → filter_value zs c ≡ Some (record { number = root_number p.vars zs (lets_of p) (own_root p); error = (root_triple p.vars (lets_of p) (own_root p)).e })) → IsFilterOf p o
+filter-here p None w v = λ h. absurd (true≢false (sym (w.1 h)))
+filter-here p (Some c) w v = (w.0 refl, v)
+
+pub filter-of : (p : Pred) (lets : List Fitted) (root : Fitted) (o : Option FilterCode) → map untyped (map typed lets) ≡ map (tree_of p.shape.vars) p.lets → untyped (typed root) ≡ tree_of p.shape.vars p.root
+    → (IsSome o ↔ HasFilter p.shape.vars (map untyped (map typed lets)) (untyped (typed root)))
+    → IfSome o (λ c. (zs : List ℤ) → AreWithin p.shape.vars zs → filter_value zs c ≡ Some (record { number = root_number p.shape.vars zs (map untyped (map typed lets)) (untyped (typed root)); error = (root_triple p.shape.vars (map untyped (map typed lets)) (untyped (typed root))).e })) → IsFilterOf (pred_of p) o
+filter-of p lets root o l r w v =
+    let ts : map untyped (map typed lets) ≡ lets_of (pred_of p) = l ∙ sym (trees-of p.shape.vars p.lets) in
+    let t : untyped (typed root) ≡ own_root (pred_of p) = r in
+    filter-here (pred_of p) o (rw (sym ts, sym t) w) (rw (sym ts, sym t) v)
+
+pub filter-small : (ops cost costs : ℕ) → ops ≤ 8 * (cost + costs) + 64 → costs + cost ≤ 131072 → ops ≤ 1048640
+filter-small ops cost costs h k = omega (arith, h, k)
+
+pub filter-few : (o : Option FilterCode) (n : ℕ) → IfSome o (λ c. length c.ops ≤ n) → ops_in_filter o ≤ n
+filter-few None n h = omega arith
+filter-few (Some c) n h = h

@@ -1,6 +1,6 @@
 -- The program of a predicate, from its blocks and its stages.
-use Rattle.std.proofs.Common.{◌≡◌, ℕ, ◌+◌, ◌*◌, ◌^◌, ◌<◌, ◌≤◌, zero, suc, List, [], ◌∷◌, length, map, refl, ap, sym, subst, ◌∙◌, arith, None}
-use Rattle.std.specs.Prelude.{◌≢◌, All}
+use Rattle.std.proofs.Common.{◌≡◌, ℕ, ◌+◌, ◌*◌, ◌^◌, ◌<◌, ◌≤◌, zero, suc, List, [], ◌∷◌, length, map, refl, ap, sym, subst, ◌∙◌, arith, Option}
+use Rattle.std.specs.Prelude.{◌≢◌, All, IfSome}
 use Rattle.std.proofs.lemmas.List.{length-map}
 use Rattle.ln_tree.specs.declared.pred.Pred.{Pred}
 use Rattle.ln_tree.specs.declared.shape.Shape.{Shape}
@@ -14,11 +14,11 @@ use Rattle.ln_poly.specs.Sparse.{Sparse}
 use Rattle.ln_poly.proofs.Lets.{pred-light, root-light}
 use Rattle.ln_stage.specs.Lists.{AreStageLists, all_covering, stage_count, stage_weight}
 use Rattle.ln_stage.specs.Staged.{AreStagesOf, Staged, block_vector, vectors_of}
-use Rattle.ln_code.specs.Kept.{IsList, IsProgram}
-use Rattle.ln_code.specs.Part.{Code, Part, ops_in_blocks}
+use Rattle.ln_code.specs.Kept.{FollowsFilterRules, IsList, IsProgram}
+use Rattle.ln_code.specs.Part.{Code, FilterCode, Part, ops_in_blocks, ops_in_filter}
 use Rattle.ln_compile.specs.Accepted.{root_of, weighed_of}
-use Rattle.ln_compile.specs.Carried.{staged}
-use Rattle.ln_compile.specs.Compiled.{IsProgramOf}
+use Rattle.ln_compile.specs.Carried.{CarriesWhole, staged}
+use Rattle.ln_compile.specs.Compiled.{IsFilterOf, IsProgramOf}
 use Rattle.ln_compile.specs.Made.{AreBlocksOf}
 use Rattle.ln_compile.proofs.ListingLemmas.{lists-are, stages-few}
 
@@ -39,20 +39,21 @@ map-same g h [] e = refl
 map-same g h (x ∷ xs) e = let r : map g xs ≡ map h xs = map-same g h xs e in ap (λ z. z ∷ map g xs) (e x) ∙ ap (λ z. h x ∷ z) r
 
 -- the program's lists are the stages'
-same-vectors : (s : Shape) (st : Staged) (blocks : List Code) → map (λ (c : Code). vector (length s.vars) c.exps) blocks ≡ map (vector (length s.vars)) st.exps
-    → vectors_of (length s.vars) (staged (record { shape = s; filter = None; blocks = blocks; lists = st.lists })) ≡ vectors_of (length s.vars) st
-same-vectors s st blocks e = map-same (λ list. map (block_vector (length s.vars) (map (λ (c : Code). c.exps) blocks)) list) (λ list. map (block_vector (length s.vars) st.exps) list) st.lists (λ list. map-same (block_vector (length s.vars) (map (λ (c : Code). c.exps) blocks)) (block_vector (length s.vars) st.exps) list (same-at (length s.vars) blocks st.exps e))
+same-vectors : (s : Shape) (st : Staged) (filter : Option FilterCode) (blocks : List Code) → map (λ (c : Code). vector (length s.vars) c.exps) blocks ≡ map (vector (length s.vars)) st.exps
+    → vectors_of (length s.vars) (staged (record { shape = s; filter = filter; blocks = blocks; lists = st.lists })) ≡ vectors_of (length s.vars) st
+same-vectors s st filter blocks e = map-same (λ list. map (block_vector (length s.vars) (map (λ (c : Code). c.exps) blocks)) list) (λ list. map (block_vector (length s.vars) st.exps) list) st.lists (λ list. map-same (block_vector (length s.vars) (map (λ (c : Code). c.exps) blocks)) (block_vector (length s.vars) st.exps) list (same-at (length s.vars) blocks st.exps e))
 
 blocks-length : (n : ℕ) (blocks : List Code) (exps : List Pairs) → map (λ (c : Code). vector n c.exps) blocks ≡ map (vector n) exps → length blocks ≡ length exps
 blocks-length n blocks exps e = omega (arith, ap length e, length-map blocks (λ (c : Code). vector n c.exps), length-map exps (vector n))
 
-few-ops : (ops cover len : ℕ) → ops ≤ 524352 + 4096 * cover + 68 * len → cover ≤ 131072 → len ≤ 65536 → ops < 2 ^ 32
-few-ops ops cover len h k l = omega (arith, h, k, l)
+few-ops : (first ops cover len : ℕ) → first ≤ 1048640 → ops ≤ 524352 + 4096 * cover + 68 * len → cover ≤ 131072 → len ≤ 65536 → first + ops < 2 ^ 32
+few-ops first ops cover len f h k l = omega (arith, f, h, k, l)
 
 module _ (p : Pred) (f : Sparse) (st : Staged) (blocks : List Code) (light : AreLight (weighed_of (pred_of p))) (normal : IsNormal (length p.shape.vars) (root_of (pred_of p)) f) (some : f ≢ []) (stages : AreStagesOf p.shape.sites p.shape.vars f st)
-    (count : stage_count (vectors_of (length p.shape.vars) st) ≤ 65536) (heavy : stage_weight (length p.shape.vars) f (vectors_of (length p.shape.vars) st) ≤ 131072) (made : AreBlocksOf (pred_of p) f st.exps blocks) where
+    (count : stage_count (vectors_of (length p.shape.vars) st) ≤ 65536) (heavy : stage_weight (length p.shape.vars) f (vectors_of (length p.shape.vars) st) ≤ 131072) (made : AreBlocksOf (pred_of p) f st.exps blocks)
+    (filter : Option FilterCode) (own : IsFilterOf (pred_of p) filter) (rules : IfSome filter (FollowsFilterRules p.shape.vars)) (whole : IfSome filter (CarriesWhole p.shape.vars f)) (short : ops_in_filter filter ≤ 1048640) where
   abbrev pub part : Part
-  part = record { shape = p.shape; filter = None; blocks = blocks; lists = st.lists }
+  part = record { shape = p.shape; filter = filter; blocks = blocks; lists = st.lists }
 
   as-many : length blocks ≡ length st.exps
   as-many = blocks-length (length p.shape.vars) blocks st.exps made.vectors
@@ -66,8 +67,8 @@ module _ (p : Pred) (f : Sparse) (st : Staged) (blocks : List Code) (light : Are
   pub is-program : IsProgram part
   is-program = record {
     blocks = λ k d l. (made.each k d l).rules;
-    filter = tt;
-    few = omega (arith, few-ops (ops_in_blocks blocks) (all_covering (length p.shape.vars) f (map (vector (length p.shape.vars)) st.exps)) (length st.exps) made.few (omega (arith, heavy, ap (all_covering (length p.shape.vars) f) stages.first_sight)) (omega (arith, stages-few p.shape.sites p.shape.vars f st stages, count)));
+    filter = rules;
+    few = omega (arith, few-ops (ops_in_filter filter) (ops_in_blocks blocks) (all_covering (length p.shape.vars) f (map (vector (length p.shape.vars)) st.exps)) (length st.exps) short made.few (omega (arith, heavy, ap (all_covering (length p.shape.vars) f) stages.first_sight)) (omega (arith, stages-few p.shape.sites p.shape.vars f st stages, count)));
     of_sites = λ k d l. (made.each k d l).of_sites;
     orders = size ∙ stages.lists.size;
     lists = subst (λ n. All (IsList n) st.lists) (sym as-many) (lists-are p.shape.sites p.shape.vars f st stages normal.form normal.below some);
@@ -78,14 +79,14 @@ module _ (p : Pred) (f : Sparse) (st : Staged) (blocks : List Code) (light : Are
     name = refl;
     sites = refl;
     vars = refl;
-    filter = refl;
+    filter = own;
     poly = f;
     carries = record {
       inputs = (root-light (length p.shape.vars) (weights p.shape.vars) (closed_lets p.shape.vars (map formula p.lets)) (tree p.shape.vars (formula p.root)) (pred-light p.args p.shape.vars p.lets (length p.let_names) p.root p.kept light).1).inputs;
       normal = normal;
-      lists = subst (AreStageLists p.shape.sites p.shape.vars f) (sym (same-vectors p.shape st blocks made.vectors)) stages.lists;
+      lists = subst (AreStageLists p.shape.sites p.shape.vars f) (sym (same-vectors p.shape st filter blocks made.vectors)) stages.lists;
       blocks = λ k d l. (made.each k d l).carries;
-      filter = tt;
+      filter = whole;
     };
-    begins = record { block = made.own; first = made.first; own = made.is_own; short = omega (arith, made.small) };
+    begins = record { block = made.own; first = made.first; own = made.is_own; short = omega (arith, made.small, short) };
   }

@@ -1,7 +1,8 @@
 -- Sources that are accepted.
-use Rattle.std.specs.Prelude.{ℕ, List, [], ◌∷◌, length}
+use Rattle.std.specs.Prelude.{ℕ, List, [], ◌∷◌, length, map}
 use Rattle.ln_base.specs.declared.span.Span.{Span}
 use Rattle.ln_algebra.specs.Tree.{Tree}
+use Rattle.ln_tree.specs.Formula.{tree}
 use Rattle.ln_tree.specs.Table.{PredOf, TableOf}
 use Rattle.ln_bound.specs.Light.{AreLight, weighed_pred}
 use Rattle.ln_poly.specs.Expansion.{HaveFewTerms, IsNormal, IsZeroFault, closed_root, expanded_pred}
@@ -20,6 +21,13 @@ expanded_of p = expanded_pred p.vars p.lets p.root
 -- its root with its lets in place of their names
 abbrev pub root_of : PredOf → Tree
 root_of p = closed_root p.vars p.lets p.root
+
+-- its lets and its root as they stand in the source
+abbrev pub lets_of : PredOf → List Tree
+lets_of p = map (tree p.vars) p.lets
+
+abbrev pub own_root : PredOf → Tree
+own_root p = tree p.vars p.root
 
 -- it has too many stages: the stage lists of its normal polynomial, one for each order of its sites, have more than 65,536 stages, or more than 131,072 monomials cover their distinct stages
 pub record IsStagesFault (p : PredOf) : Type 0 where

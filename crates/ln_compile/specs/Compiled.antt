@@ -1,18 +1,22 @@
 -- What a source is compiled to: the program and the stage count of each predicate.
-use Rattle.std.specs.Prelude.{◌≡◌, ℕ, ◌+◌, ◌<◌, ◌^◌, List, [], ◌∷◌, length, map, slice_get, Option, Some, None, position, bytes_eq}
+use Rattle.std.specs.Prelude.{◌≡◌, ℕ, ◌+◌, ◌<◌, ◌^◌, List, [], ◌∷◌, length, map, slice_get, ℤ, Option, Some, None, position, bytes_eq}
 use Rattle.ln_tree.specs.declared.pred.Pred.{Pred}
 use Rattle.ln_tree.specs.declared.table.Table.{Table}
 use Rattle.ln_tree.specs.Formula.{tree}
 use Rattle.ln_tree.specs.Names.{name_bytes}
+use Rattle.ln_tree.specs.Row.{AreWithin}
 use Rattle.ln_tree.specs.Table.{PredOf}
 use Rattle.ln_bound.specs.Exact.{AreExact, IsExact}
 use Rattle.ln_bound.specs.Typed.{Typed, untyped}
 use Rattle.ln_poly.specs.Expansion.{IsNormal}
 use Rattle.ln_poly.specs.Sparse.{Sparse}
 use Rattle.ln_stage.specs.Lists.{AreStageLists, stage_count}
-use Rattle.ln_code.specs.Part.{Code, Part, ops_in_filter}
-use Rattle.ln_lower.specs.Nodes.{IsNodeOf, PushNodes, pushed_by}
-use Rattle.ln_compile.specs.Accepted.{root_of}
+use Rattle.ln_code.specs.Nodes.{IsNodeOf}
+use Rattle.ln_code.specs.Part.{Code, FilterCode, Part, filter_value, ops_in_filter}
+use Rattle.ln_filter.specs.Steady.{HasFilter}
+use Rattle.ln_filter.specs.Truncated.{root_number, root_triple}
+use Rattle.ln_lower.specs.Nodes.{PushNodes, pushed_by}
+use Rattle.ln_compile.specs.Accepted.{lets_of, own_root, root_of}
 use Rattle.ln_compile.specs.Carried.{Carries}
 
 -- the block has no exponents and is made from the source's own lets and root, with bounds and widths: what its operations push are polynomials of their nodes, each bound is exactly its operation over M, and each width the least
@@ -33,12 +37,19 @@ pub record BeginsWith (p : PredOf) (part : Part) : Type 0 where
   pub own : IsOwn p block
   pub short : ops_in_filter part.filter + length block.ops < 2 ^ 21
 
--- the part is the program of the predicate: it is over the predicate's variables, without a filter; it carries the predicate's root, with the lets in place of their names; it begins with the source's own tree
+-- the filter is the predicate's: there is none where a node of it isn't steady, and else it leaves on each row in range the truncated number of the sign expression, with its error
+abbrev pub IsFilterOf : PredOf → Option FilterCode → Type 0
+IsFilterOf p None = HasFilter p.vars (lets_of p) (own_root p) → ⊥
+IsFilterOf p (Some f) =
+    HasFilter p.vars (lets_of p) (own_root p)
+    × ((zs : List ℤ) → AreWithin p.vars zs → filter_value zs f ≡ Some (record { number = root_number p.vars zs (lets_of p) (own_root p); error = (root_triple p.vars (lets_of p) (own_root p)).e }))
+
+-- the part is the program of the predicate: it is over the predicate's variables, with the predicate's filter; it carries the predicate's root, with the lets in place of their names; it begins with the source's own tree
 pub record IsProgramOf (p : PredOf) (part : Part) : Type 0 where
   pub name : name_bytes part.shape.name ≡ p.shape_name
   pub sites : part.shape.sites ≡ p.sites
   pub vars : part.shape.vars ≡ p.vars
-  pub filter : part.filter ≡ None
+  pub filter : IsFilterOf p part.filter
   pub poly : Sparse
   pub carries : Carries part (root_of p) poly
   pub begins : BeginsWith p part

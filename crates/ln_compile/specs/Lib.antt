@@ -4,5 +4,6 @@ pub mod Compiled
 pub mod Derived
 pub mod Due
 pub mod DueLaw
+pub mod Filtered
 pub mod Made
 pub mod Refused

@@ -1,5 +1,6 @@
 //! What the verdict of a program is: the perturbed sign.
 ghost use Rattle.ln_compile.specs.DueLaw.{BlocksRun, CutLosesNothing, DueIsUnique, RowsHaveVerdicts, SignsArePerturbed, StagesAreCoefficients, VerdictsAreDue, WithoutParamsNeverZero};
+ghost use Rattle.ln_compile.specs.Filtered.{OneIsDue, ProgramsAnswerDue};
 
 /// In a program that carries an expression each block has, on every row in range, the perturbed coefficient at its stage; and the
 /// stages of a row's order lose nothing.
@@ -39,4 +40,13 @@ pub fn without_params_never_zero()
 /// On it rests that what is printed for a row is the only right answer.
 pub fn due_is_unique()
     ensures { DueIsUnique }
+{}
+
+/// The verdict of a predicate's program on a row in range is the one that the row is owed by what the predicate's filter does on it, and
+/// there is no other.
+///
+/// On it rests whether the decider is the filter or a stage.
+pub fn programs_answer_due()
+    ensures due { ProgramsAnswerDue }
+    ensures one { OneIsDue }
 {}

@@ -1,5 +1,5 @@
 // The program of a predicate.
-ghost use Rattle.std.specs.Prelude.{◌≡◌, ◌≢◌, ◌≤◌, ◌+◌, ◌*◌, All, [], length, map, IfOk};
+ghost use Rattle.std.specs.Prelude.{◌≡◌, ◌≢◌, ◌≤◌, ◌+◌, ◌*◌, All, [], length, map, IfOk, IfSome};
 ghost use Rattle.ln_algebra.specs.Vector.{total_degree};
 ghost use Rattle.ln_algebra.specs.Weights.{weighted_sum};
 ghost use Rattle.ln_tree.specs.Exps.{vector};
@@ -9,16 +9,21 @@ ghost use Rattle.ln_bound.specs.Light.{AreLight, most, node_weights, weighed_pre
 ghost use Rattle.ln_bound.specs.Value.{weights};
 ghost use Rattle.ln_order.specs.Orders.{orders_of};
 ghost use Rattle.ln_poly.specs.Expansion.{IsNormal};
-ghost use Rattle.ln_poly.specs.Sparse.{terms_of};
+ghost use Rattle.ln_poly.specs.Sparse.{Sparse, terms_of};
 ghost use Rattle.ln_stage.specs.Lists.{stage_count, stage_weight};
 ghost use Rattle.ln_stage.specs.Staged.{AreStagesOf, vectors_of};
 ghost use Rattle.ln_compile.specs.Accepted.{root_of, weighed_of};
-ghost use Rattle.ln_compile.specs.Compiled.{IsProgramOf};
+ghost use Rattle.ln_code.specs.Kept.{FollowsFilterRules};
+ghost use Rattle.ln_code.specs.Part.{ops_in_filter};
+ghost use Rattle.ln_compile.specs.Carried.{CarriesWhole};
+ghost use Rattle.ln_compile.specs.Compiled.{IsFilterOf, IsProgramOf};
 
 use crate::blocks::blocks;
 use ln_base::{NoMemory, Seq};
 use ln_bound::Weights;
-use ln_code::Program;
+use ln_bound::size::size;
+use ln_code::{FilterBlock, Program};
+use ln_filter::plan;
 use ln_order::all_orders;
 use ln_poly::Poly;
 use ln_stage::Stages;
@@ -42,6 +47,20 @@ fn lists(alloc: Global, sites: u8, st: &Stages) -> Result<Seq<Seq<u32>>, NoMemor
     Ok(lists)
 }
 
+// The filter of a predicate, if it has one.
+fn filter(alloc: Global, p: &Pred, w: &Weights) -> Result<Option<FilterBlock>, NoMemory>
+    requires weights { w.now ≡ node_weights (weighed_pred p.now.shape.vars (map formula p.now.lets) (formula p.now.root)) }
+    requires light { AreLight (weighed_of (pred_of p.now)) }
+    ensures filter { IfOk result (λ o. IsFilterOf (pred_of p.now) o) }
+    ensures rules { IfOk result (λ o. IfSome o (λ f. FollowsFilterRules p.now.shape.vars f)) }
+    ensures whole { IfOk result (λ o. (f : Sparse) → IsNormal (length p.now.shape.vars) (root_of (pred_of p.now)) f → IfSome o (CarriesWhole p.now.shape.vars f)) }
+    ensures small { IfOk result (λ o. ops_in_filter o ≤ 1048640) }
+{
+    let sized = size(alloc, p, w)?;
+    let filter = plan(alloc, &sized)?;
+    Ok(filter)
+}
+
 /// The program of a predicate with this normal polynomial and these stages.
 pub(crate) fn program(
     alloc: Global,
@@ -63,8 +82,9 @@ pub(crate) fn program(
     ensures name { IfOk result (λ c. c.shape.name ≡ p.now.shape.name) }
     ensures small { IfOk result (λ c. length c.blocks ≤ 65536) }
 {
+    let filter = filter(alloc, p, w)?;
     let blocks = blocks(alloc, p, w, f, st)?;
     let lists = lists(alloc, p.shape.sites, st)?;
     let shape = p.shape.copy(alloc)?;
-    Ok(Program::join(shape, None, blocks, lists))
+    Ok(Program::join(shape, filter, blocks, lists))
 }

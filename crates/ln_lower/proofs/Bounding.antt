@@ -1,9 +1,8 @@
--- Widths, bounds and runs.
-use Rattle.std.proofs.Common.{◌≡◌, ℕ, ◌+◌, ◌*◌, ◌^◌, ◌≤◌, ◌<◌, Bool, true, false, List, [], ◌∷◌, ◌++◌, length, refl, zero, suc, arith}
-use Rattle.std.specs.Prelude.{Option, Some, None, if◌then◌else◌, nat_le}
+-- Widths and bounds.
+use Rattle.std.proofs.Common.{◌≡◌, ℕ, ◌≤◌, Bool, true, false, List, ◌∷◌, length, refl, suc, arith}
+use Rattle.std.specs.Prelude.{Some, if◌then◌else◌, nat_le}
 use Rattle.std.proofs.lemmas.Bool.{leb-true, le-leb}
 use Rattle.std.proofs.lemmas.Nat.{mul-le}
-use Rattle.std.proofs.Math.Nat.{pow-suc}
 use Rattle.ln_algebra.specs.Tree.{Tree}
 use Rattle.ln_bound.specs.declared.fitted.Width.{Width}
 use Rattle.ln_bound.specs.declared.fitted.Width.TheVariants.{W64, W128}
@@ -11,7 +10,7 @@ use Rattle.ln_bound.specs.declared.fitted.Two.{Two}
 use Rattle.ln_bound.specs.declared.fitted.Two.TheVariants.{Plus, Minus, Times}
 use Rattle.ln_bound.specs.Widths.{limit, least, wider, no_wider}
 use Rattle.ln_bound.specs.Typed.{bound_of}
-use Rattle.ln_code.specs.Engine.{Engine, State, Line, next, run, step, pushed}
+use Rattle.ln_code.specs.Engine.{Engine, pushed}
 use Rattle.ln_code.specs.Rules.{known}
 
 pub no_wider_trans : (u v w : Width) → no_wider u v ≡ true → no_wider v w ≡ true → no_wider u w ≡ true
@@ -58,36 +57,6 @@ pub bound_more : (k : Two) (a b c d : ℕ) → a ≤ c → b ≤ d → bound_of 
 bound_more Plus a b c d h k = omega arith
 bound_more Minus a b c d h k = omega arith
 bound_more Times a b c d h k = mul-le a b c d h k
-
-one_more : (a x : ℕ) → 0 < a → x ≤ x * a
-one_more zero x h = absurd (omega arith)
-one_more (suc a) x h = let m : x * 1 ≤ x * suc a = mul-le x 1 x (suc a) (omega arith) (omega arith) in omega arith
-
-zero_power : (m : ℕ) → 0 ^ suc m ≡ 0
-zero_power m = rw pow-suc (omega arith)
-
--- a power isn't above a higher one
-pub power_grows : (a m n : ℕ) → a ^ suc m ≤ a ^ (n + suc m)
-power_grows a m zero = rw add_zero (omega arith)
-  where
-    add_zero : zero + suc m ≡ suc m
-    add_zero = omega arith
-power_grows zero m (suc n) = rw zero_power (omega arith)
-power_grows (suc a) m (suc n) =
-    let ih : suc a ^ suc m ≤ suc a ^ (n + suc m) = power_grows (suc a) m n in
-    let e : suc n + suc m ≡ suc (n + suc m) = omega arith in
-    let o : suc a ^ (n + suc m) ≤ suc a ^ (n + suc m) * suc a = one_more (suc a) (suc a ^ (n + suc m)) (omega arith) in
-    let q : suc a ^ suc (n + suc m) ≡ suc a ^ (n + suc m) * suc a = pow-suc (suc a) (n + suc m) in
-    rw (e, q) (omega arith)
-
--- one part of the operations after the other
-pub run_append : {B V L : Type 0} (e : Engine B V L) (a b : List (Line B)) (s : State V L) → run e (a ++ b) s ≡ next (run e a s) (λ t. run e b t)
-run_append e [] b s = refl
-run_append {B = B} {V = V} {L = L} e (x ∷ xs) b s = by_step (step e x.op x.bound s.locals s.stack) (λ t. run_append e xs b t)
-  where
-    by_step : (o : Option (State V L)) → ((t : State V L) → run e (xs ++ b) t ≡ next (run e xs t) (λ t. run e b t)) → next o (λ t. run e (xs ++ b) t) ≡ next (next o (λ t. run e xs t)) (λ t. run e b t)
-    by_step None h = refl
-    by_step (Some t) h = h t
 
 pub pushed_is : {B V L : Type 0} (e : Engine B V L) (l : L) (s : List V) (v : V) → e.room (suc (length s)) ≡ true → pushed e l s v ≡ Some (record { stack = v ∷ s; locals = l })
 pushed_is e l s v h = rw h refl

@@ -21,11 +21,13 @@ use Rattle.ln_code.specs.Numbers.{with_local}
 use Rattle.ln_code.specs.Rules.{Known, rules}
 use Rattle.ln_code.specs.Kept.{stores}
 use Rattle.ln_code.specs.Pushes.{pushes}
-use Rattle.ln_lower.specs.Nodes.{IsNode, HasWidth, PushesNode, PushNodes}
+use Rattle.ln_code.specs.Nodes.{IsNode}
+use Rattle.ln_lower.specs.Nodes.{HasWidth, PushesNode, PushNodes}
 use Rattle.ln_lower.specs.Lowered.{line, op_of, factors, power_of, lowered}
-use Rattle.ln_lower.proofs.Bounding.{no_wider_trans, no_wider_self, wider_narrow, least_narrow, least_limit, wider_limit, known_is, bound_more, power_grows, run_append, pushed_is}
-use Rattle.ln_lower.proofs.Same.{Same, same_self, same_then, same_neg, same_two, same_first, same_next, same_zeroth}
-use Rattle.ln_lower.proofs.PushLaws.{pushes_append, pushes_front, push_append, push_wider, pushes_node}
+use Rattle.ln_code.proofs.Behind.{power_grows, pushes_append, pushes_front, run_append}
+use Rattle.ln_lower.proofs.Bounding.{no_wider_trans, no_wider_self, wider_narrow, least_narrow, least_limit, wider_limit, known_is, bound_more, pushed_is}
+use Rattle.ln_code.proofs.Same.{Same, same_self, same_then, same_neg, same_two, same_first, same_next, same_zeroth}
+use Rattle.ln_lower.proofs.PushLaws.{push_append, push_wider, pushes_node}
 
 -- what stands on top of the stack after the operations, and what they push
 pub record Lands (vars : List VarInfo) (depth : ℕ) (is_node : Tree → Width → Type 0) (lines : List (Line ℕ)) (l : ℕ → Option Known) (stack : List Known) (b : ℕ) (w : Width) (t : Tree) : Type 0 where

@@ -17,9 +17,10 @@ use Rattle.ln_code.specs.Engine.{Line, run}
 use Rattle.ln_code.specs.Numbers.{with_local, no_locals}
 use Rattle.ln_code.specs.Rules.{Known, rules}
 use Rattle.ln_code.specs.Pushes.{pushes}
-use Rattle.ln_lower.specs.Nodes.{IsNode, IsLetNode, IsNodeOf, PushNodes}
+use Rattle.ln_code.specs.Nodes.{IsNode, IsLetNode, IsNodeOf}
+use Rattle.ln_lower.specs.Nodes.{PushNodes}
 use Rattle.ln_lower.specs.Lowered.{line, lowered, lowered_lets}
-use Rattle.ln_lower.proofs.Same.{Same}
+use Rattle.ln_code.proofs.Same.{Same}
 use Rattle.ln_lower.proofs.PushLaws.{push_wider}
 use Rattle.ln_lower.proofs.Lands.{LetKnown, LetsKnown, lands, lets_kept, then_run, then_push}
 

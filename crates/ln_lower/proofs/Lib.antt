@@ -1,4 +1,3 @@
-pub mod Same
 pub mod Bounding
 pub mod Writes
 pub mod Costs

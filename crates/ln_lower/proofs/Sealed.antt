@@ -24,10 +24,11 @@ use Rattle.ln_code.specs.Part.{Code, lines_of, known_of, block_value}
 use Rattle.ln_code.specs.Kept.{FollowsRules, IsBlock, StoresHave}
 use Rattle.ln_code.proofs.Means.{blocks_mean}
 use Rattle.ln_lower.specs.declared.draft.Draft.{Draft}
-use Rattle.ln_lower.specs.Nodes.{IsNodeOf, PushNodes, pushed_by, HasPolynomial, KeepsLets}
+use Rattle.ln_code.specs.Nodes.{IsNodeOf}
+use Rattle.ln_lower.specs.Nodes.{PushNodes, pushed_by, HasPolynomial, KeepsLets}
 use Rattle.ln_lower.specs.Lowered.{line, op_of, factors, power_of, powers, lowered, lowered_lets, ops_in, bounds_in, PowersFit}
 use Rattle.ln_lower.specs.Wrote.{Wrote}
-use Rattle.ln_lower.proofs.Same.{Same}
+use Rattle.ln_code.proofs.Same.{Same}
 use Rattle.ln_lower.proofs.Costs.{lowered_cost, lets_cost}
 use Rattle.ln_lower.proofs.Lets.{block_lands}
 use Rattle.ln_lower.proofs.Lands.{LetKnown, LetsKnown}

@@ -8,7 +8,7 @@ use Rattle.ln_code.specs.Engine.{Line}
 use Rattle.ln_lower.specs.declared.draft.Draft.{Draft}
 use Rattle.ln_lower.specs.Lowered.{line, factors, power_of, powers, ops_in, bounds_in}
 use Rattle.ln_lower.specs.Wrote.{Wrote}
-use Rattle.ln_lower.proofs.Bounding.{power_grows}
+use Rattle.ln_code.proofs.Behind.{power_grows}
 
 ops_append : (a b : List (Line ℕ)) → ops_in (a ++ b) ≡ ops_in a ++ ops_in b
 ops_append [] b = refl

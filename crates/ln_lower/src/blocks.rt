@@ -10,7 +10,8 @@ ghost use Rattle.ln_bound.specs.View.{typed};
 ghost use Rattle.ln_code.specs.Rules.{Known};
 ghost use Rattle.ln_code.specs.Part.{block_value, known_of};
 ghost use Rattle.ln_code.specs.Kept.{AreOfSites, FollowsRules};
-ghost use Rattle.ln_lower.specs.Nodes.{IsNodeOf, KeepsLets, PushNodes, pushed_by};
+ghost use Rattle.ln_code.specs.Nodes.{IsNodeOf};
+ghost use Rattle.ln_lower.specs.Nodes.{KeepsLets, PushNodes, pushed_by};
 ghost use Rattle.ln_lower.specs.Lowered.{factors, lowered, lowered_lets, power_of, PowersFit};
 ghost use Rattle.ln_lower.specs.Wrote.{Wrote};
 

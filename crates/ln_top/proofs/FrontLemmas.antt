@@ -19,6 +19,7 @@ use Rattle.ln_rows.specs.declared.record.RowStop.{RowStop}
 use Rattle.ln_rows.proofs.RangeLemmas.{row_in_range}
 use Rattle.ln_compile.specs.Compiled.{IsProgramOf}
 use Rattle.ln_compile.proofs.AnswerLemmas.{rows-have}
+use Rattle.ln_compile.proofs.FilteredLemmas.{programs_answer}
 use Rattle.ln_top.specs.declared.status.Status.{Status}
 use Rattle.ln_top.specs.declared.status.Status.TheVariants as status
 use Rattle.ln_top.specs.declared.stop.Stop.{Stop}
@@ -32,7 +33,6 @@ use Rattle.ln_top.specs.Counts.{AreCounts}
 use Rattle.ln_top.specs.Answer.{most_rows, HasPredicate, usage, long_source, refused, checked, no_predicate, long_rows, worked, no_source, no_rows, FileStop, IsSourceOf, SourceStops}
 use Rattle.ln_top.specs.Front.{LeavesFronts, of_answer, of_read, LeavesLines, nothing, lines, CutsRecords, PutsFrontOfWork, PutsFirstOfWork, PutsFrontOfCheck}
 use Rattle.ln_top.proofs.WorkLemmas.{error_alone, lines_alone}
-use Rattle.ln_top.proofs.SaysLemmas.{verdict_due}
 use Rattle.ln_top.proofs.TopLemmas.{has_predicate}
 
 abbrev Words : Type 0
@@ -71,7 +71,7 @@ module _ (p : Pred) (part : Part) (k : IsProgram part) (o : IsProgramOf (pred_of
           let range : InRange p.shape.sites p.shape.vars row = row_in_range p.shape.sites p.shape.vars fields row p.shape.kept e in
           let there : InRange part.shape.sites part.shape.vars row = rw (o.sites, o.vars) range in
           let v = rows-have part row k there in
-          (_, record { said = Ok v.0; says = due row v.0 e (verdict_due (pred_of p) part row v.0 k o range v.1); is = refl })
+          (_, record { said = Ok v.0; says = due row v.0 e (programs_answer (pred_of p) part row v.0 k o range v.1); is = refl })
       by_read (Err stop) e = (_, record { said = Err stop; says = refused_ stop e; is = refl })
 
   lines_there : (records : Records) → (text : List ℕ) × AreLines (pred_of p) names records text

@@ -25,9 +25,9 @@ use Rattle.ln_rows.specs.declared.record.RowStop.{RowStop}
 use Rattle.ln_code.specs.declared.verdict.Verdict.{Verdict}
 use Rattle.ln_compile.specs.Accepted.{root_of}
 use Rattle.ln_compile.specs.Compiled.{IsStageCount}
-use Rattle.ln_compile.specs.Due.{Due, NoFilter}
+use Rattle.ln_compile.specs.Filtered.{IsDue}
 use Rattle.ln_compile.specs.DueLaw.{Agree}
-use Rattle.ln_compile.proofs.UniqueLemmas.{due-unique}
+use Rattle.ln_compile.proofs.FilteredLemmas.{one_due}
 use Rattle.ln_top.specs.Line.{line, sign_text, decider_text, said_text, Says, due, refused_, IsLineOf, AreLines, none, more}
 use Rattle.ln_top.specs.Counts.{AreCounts, count_text}
 use Rattle.ln_top.specs.Counts as counts
@@ -48,7 +48,7 @@ not_both r s o e f = cc
 says_one : (p : Pred) (names fields : List (List ℕ)) {x y : Result Verdict RowStop} → Says (pred_of p) fields x → Says (pred_of p) fields y → said_text names x ≡ said_text names y
 says_one p names fields (due r v e d) (due s w f g) =
     let q : s ≡ r = same_row s r (read_row p.shape.sites p.shape.vars fields) f e in
-    agree_text names v w (due-unique p.shape (root_of (pred_of p)) r NoFilter v w (row_in_range p.shape.sites p.shape.vars fields r p.shape.kept e) d (subst (λ (z : Row). Due NoFilter p.shape.vars (root_of (pred_of p)) z w) q g))
+    agree_text names v w (one_due p.shape (pred_of p) r v w refl refl (row_in_range p.shape.sites p.shape.vars fields r p.shape.kept e) d (subst (λ (z : Row). IsDue (pred_of p) z w) q g))
 says_one p names fields (due r v e d) (refused_ s f) = absurd (not_both r s (read_row p.shape.sites p.shape.vars fields) e f)
 says_one p names fields (refused_ s f) (due r v e d) = absurd (not_both r s (read_row p.shape.sites p.shape.vars fields) e f)
 says_one p names fields (refused_ s e) (refused_ t f) = ap (λ (z : RowStop). said_text names (Err z)) (same_stop s t (read_row p.shape.sites p.shape.vars fields) e f)

@@ -1,7 +1,6 @@
 -- What the machine answers on a record's row is owed to the record.
 use Rattle.std.proofs.Common.{true≢false, ◌≡◌, ℕ, Bool, List, Result, Ok, Err, refl, ap, sym, ◌∙◌, subst}
 use Rattle.std.specs.Prelude.{IsOk}
-use Rattle.ln_tree.specs.declared.shape.VarInfo.{VarInfo}
 use Rattle.ln_tree.specs.Row.{InRange, Row}
 use Rattle.ln_tree.specs.Table.{PredOf}
 use Rattle.ln_code.specs.declared.row.Row as code
@@ -12,24 +11,16 @@ use Rattle.ln_code.specs.RowOf.{row_of}
 use Rattle.ln_code.specs.Verdict.{IsVerdict}
 use Rattle.ln_rows.specs.Record.{read_row}
 use Rattle.ln_rows.specs.declared.record.RowStop.{RowStop}
-use Rattle.ln_compile.specs.Accepted.{root_of}
 use Rattle.ln_compile.specs.Compiled.{IsProgramOf}
-use Rattle.ln_compile.specs.Due.{Due, NoFilter}
-use Rattle.ln_compile.proofs.Composition.{verdicts-due}
+use Rattle.ln_compile.proofs.FilteredLemmas.{programs_answer}
 use Rattle.ln_top.specs.Line.{Says, due, refused_, is_row, is_read, is_said}
 
--- the verdict of the predicate's program is due
-pub verdict_due : (p : PredOf) (part : Part) (row : Row) (v : Verdict) → IsProgram part → IsProgramOf p part → InRange p.sites p.vars row → IsVerdict part row v → Due NoFilter p.vars (root_of p) row v
-verdict_due p part row v k o range verdict =
-    let there : InRange part.shape.sites part.shape.vars row = rw (o.sites, o.vars) range in
-    subst (λ (vs : List VarInfo). Due NoFilter vs (root_of p) row v) o.vars (verdicts-due part (root_of p) o.poly row NoFilter v k o.carries there o.filter verdict)
-
--- and said of the record
+-- the verdict of the predicate's program is said of the record
 pub program_says : (p : PredOf) (part : Part) (fields : List (List ℕ)) (r : code.Row) (v : Verdict) → IsProgram part → IsProgramOf p part → read_row p.sites p.vars fields ≡ Ok (row_of p.sites p.vars r)
     → InRange p.sites p.vars (row_of p.sites p.vars r) → IsVerdict part (row_of part.shape.sites part.shape.vars r) v → Says p fields (Ok v)
 program_says p part fields r v k o read range verdict =
     let same : row_of part.shape.sites part.shape.vars r ≡ row_of p.sites p.vars r = rw (o.sites, o.vars) refl in
-    due (row_of p.sites p.vars r) v read (verdict_due p part (row_of p.sites p.vars r) v k o range (subst (λ (row : Row). IsVerdict part row v) same verdict))
+    due (row_of p.sites p.vars r) v read (programs_answer p part (row_of p.sites p.vars r) v k o range (subst (λ (row : Row). IsVerdict part row v) same verdict))
 
 -- a verdict is said of a row
 pub said_row : (p : PredOf) (fields : List (List ℕ)) (said : Result Verdict RowStop) (right : Bool) → Says p fields said → right ≡ is_said said → right ≡ is_row p fields

@@ -11,8 +11,7 @@ use Rattle.ln_rows.specs.declared.record.RowStop.{RowStop}
 use Rattle.ln_rows.specs.declared.record.RowStop.TheVariants.{Fields, Number, Range, Index}
 use Rattle.ln_rows.specs.Left.{Records}
 use Rattle.ln_rows.specs.Record.{read_row}
-use Rattle.ln_compile.specs.Accepted.{root_of}
-use Rattle.ln_compile.specs.Due.{Due, NoFilter}
+use Rattle.ln_compile.specs.Filtered.{IsDue}
 
 -- a line ends with a line feed
 abbrev pub line : List ℕ → List ℕ
@@ -47,7 +46,7 @@ line_room = 64
 
 -- what a predicate says of a record: a verdict that the record's row is owed, or why the record is no row
 pub data Says (p : PredOf) (fields : List (List ℕ)) : Result Verdict RowStop → Type 0 where
-  due : (row : Row) (v : Verdict) → read_row p.sites p.vars fields ≡ Ok row → Due NoFilter p.vars (root_of p) row v → Says p fields (Ok v)
+  due : (row : Row) (v : Verdict) → read_row p.sites p.vars fields ≡ Ok row → IsDue p row v → Says p fields (Ok v)
   refused_ : (stop : RowStop) → read_row p.sites p.vars fields ≡ Err stop → Says p fields (Err stop)
 
 -- the line of a record

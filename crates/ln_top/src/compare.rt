@@ -1,10 +1,12 @@
 // What `run` says of random predicates, compared with the definition of the perturbed sign.
 mod definition;
 mod draw;
+mod filter;
 mod text;
 
 use crate::compare::definition::{Part, Row, covered};
 use crate::compare::draw::Draw;
+use crate::compare::filter::decides;
 use crate::compare::text::{Column, Shape, put_header, put_record, source};
 use crate::status::Status;
 use crate::support::{said, shelf};
@@ -89,11 +91,15 @@ impl Tally {
             out.push_str("0 -\n")?;
             return Ok(());
         };
+        let sign = if coefficient > 0 { "+" } else { "-" };
+        if decides(alloc, parts, row)? {
+            write!(out, "{sign} F\n")?;
+            return Ok(());
+        }
         let place = row.place(covered, first);
         if place > 0 {
             self.perturbed = self.perturbed.wrapping_add(1);
         }
-        let sign = if coefficient > 0 { "+" } else { "-" };
         write!(out, "{sign} {place}\n")?;
         Ok(())
     }

@@ -62,12 +62,12 @@ const IN_CIRCLE: &[(&str, &str)] = &[
     // Corners of the largest square, and its centre: the value is 2^83.
     (
         "1,-1048576,-1048576,2,1048576,-1048576,3,1048576,1048576,4,0,0",
-        "+ 0\n",
+        "+ F\n",
     ),
     // The same square, d just below its fourth corner, so inside: the value is 2^63 - 2^42.
     (
         "1,-1048576,-1048576,2,1048576,-1048576,3,1048576,1048576,4,-1048576,1048575",
-        "+ 0\n",
+        "+ F\n",
     ),
 ];
 

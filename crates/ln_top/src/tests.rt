@@ -11,6 +11,14 @@ const ORIENT: &str = "site point { x: -1000 .. 1000; y: -1000 .. 1000; }
 predicate orient(p: point, q: point, r: point) { sign (p.x - r.x)*(q.y - r.y) - (p.y - r.y)*(q.x - r.x); }
 ";
 
+// The filter leaves 2^27 on the second row of its test, and 0 on the first, with an error of 7.
+const WIDE: &str =
+    "site point { x: -1099511627776 .. 1099511627776; y: -1099511627776 .. 1099511627776; }
+predicate orient(p: point, q: point, r: point) { sign (p.x - r.x)*(q.y - r.y) - (p.y - r.y)*(q.x - r.x); }
+";
+
+const FAR: &str = "site num { t: -10 .. 10; } predicate far(a: num) { sign a.t - 4294967297; }";
+
 const HEAD: &str = "p,p.x,p.y,q,q.x,q.y,r,r.x,r.y\n";
 
 const LEFT: &str = "p,p.x,p.y,q,q.x,q.y,r,r.x,r.y\n1,0,0,2,1,0,3,0,1\n";
@@ -74,17 +82,17 @@ const RUN: &[&str] = &["run", "s.ln", "orient", "r.csv"];
 fn each_record_has_its_line(rt: HostRuntime) -> Result<(), Fail> {
     let alloc = rt.alloc();
     let exchanged = "p,p.x,p.y,q,q.x,q.y,r,r.y,r.x\n1,0,0,2,1,0,3,0,1\n";
-    let mixed_lines = "! index q\n! range p.x\n! number p.x\n! fields\n+ 0\n";
+    let mixed_lines = "! index q\n! range p.x\n! number p.x\n! fields\n+ F\n";
     let rows = [
-        (LEFT, "+ 0\n", "", Status::Done),
-        (RIGHT, "- 0\n", "", Status::Done),
+        (LEFT, "+ F\n", "", Status::Done),
+        (RIGHT, "- F\n", "", Status::Done),
         (ALONG, "+ 1\n", "", Status::Done),
         (UPRIGHT, "- 2\n", "", Status::Done),
         (EQUAL, "+ 3\n+ 4\n- 4\n", "", Status::Done),
         (MIXED, mixed_lines, "", Status::Rows),
         (
             WRITTEN,
-            "+ 0\n! range p\n! range p.x\n- 0\n",
+            "+ F\n! range p\n! range p.x\n- F\n",
             "",
             Status::Rows,
         ),
@@ -107,7 +115,7 @@ fn powers_lets_minus_and_params_are_evaluated(rt: HostRuntime) -> Result<(), Fai
     let alloc = rt.alloc();
     let squares = "a,a.t,b,b.t\n1,3,2,3\n1,-3,2,3\n1,0,2,0\n2,0,1,0\n1,4,2,3\n1,-2,2,3\n";
     let scaled = "a,a.t,c\n1,7,0\n1,0,2\n1,3,2\n1,-3,2\n1,3,6\n";
-    let times = "0 -\n+ 1\n+ 0\n- 0\n! range c\n";
+    let times = "0 -\n+ 1\n+ F\n- F\n! range c\n";
     let circle = "a,a.x,a.y,b,b.x,b.y,c,c.x,c.y,d,d.x,d.y
 1,0,0,2,1,0,3,1,1,4,0,1
 1,0,0,2,4,0,3,0,4,4,1,1
@@ -118,7 +126,7 @@ fn powers_lets_minus_and_params_are_evaluated(rt: HostRuntime) -> Result<(), Fai
             SQUARES,
             "s",
             squares,
-            "+ 1\n- 1\n+ 2\n- 2\n+ 0\n- 0\n",
+            "+ 1\n- 1\n+ 2\n- 2\n+ F\n- F\n",
             Status::Done,
         ),
         (SCALED, "z", scaled, times, Status::Rows),
@@ -126,7 +134,7 @@ fn powers_lets_minus_and_params_are_evaluated(rt: HostRuntime) -> Result<(), Fai
             SCALED,
             "other",
             "a,a.t\n1,3\n1,-3\n1,0\n",
-            "- 0\n+ 0\n- 1\n",
+            "- F\n+ F\n- 1\n",
             Status::Done,
         ),
         (
@@ -138,10 +146,24 @@ fn powers_lets_minus_and_params_are_evaluated(rt: HostRuntime) -> Result<(), Fai
         ),
         (CIRCLE, "incircle", circle, "- 1\n+ 0\n- 0\n", Status::Done),
         (
+            WIDE,
+            "orient",
+            "p,p.x,p.y,q,q.x,q.y,r,r.x,r.y\n1,0,0,2,1,0,3,0,1\n1,0,0,2,1099511627776,0,3,0,1099511627776\n",
+            "+ 0\n+ F\n",
+            Status::Done,
+        ),
+        (
+            FAR,
+            "far",
+            "a,a.t\n1,-10\n1,10\n",
+            "- F\n- F\n",
+            Status::Done,
+        ),
+        (
             CUBIC,
             "m",
             "a,a.t,b,b.t\n1,3,2,1\n1,0,2,5\n",
-            "- 0\n+ 0\n",
+            "- F\n+ F\n",
             Status::Done,
         ),
     ];

@@ -13,6 +13,7 @@ const MOST_FACTORS: u8 = 4;
 pub struct Draw(u64);
 
 impl Draw {
+    /// The generator that begins with this seed.
     pub fn new(seed: u64) -> Draw {
         Draw(seed)
     }

@@ -1,0 +1,35 @@
+-- The verdict that a row of a predicate is owed, by what the predicate's filter does on it.
+use Rattle.std.specs.Prelude.{◌≡◌}
+use Rattle.ln_tree.specs.Row.{InRange, Row}
+use Rattle.ln_tree.specs.Table.{PredOf}
+use Rattle.ln_tree.specs.declared.shape.Shape.{Shape}
+use Rattle.ln_code.specs.declared.verdict.Verdict.{Verdict}
+use Rattle.ln_code.specs.Kept.{IsProgram}
+use Rattle.ln_code.specs.Part.{Part}
+use Rattle.ln_code.specs.Verdict.{IsVerdict}
+use Rattle.ln_filter.specs.Steady.{HasFilter}
+use Rattle.ln_filter.specs.Truncated.{Decides}
+use Rattle.ln_compile.specs.Accepted.{lets_of, own_root, root_of}
+use Rattle.ln_compile.specs.Compiled.{IsProgramOf}
+use Rattle.ln_compile.specs.Due.{Filtering, NoFilter, Decided, Undecided, Due}
+use Rattle.ln_compile.specs.DueLaw.{Agree}
+
+-- the predicate has no filter; or it has one that decides the row, or one that doesn't
+abbrev pub Does : PredOf → Row → Filtering → Type 0
+Does p row NoFilter = HasFilter p.vars (lets_of p) (own_root p) → ⊥
+Does p row Decided = Decides p.vars row.values (lets_of p) (own_root p)
+Does p row Undecided = HasFilter p.vars (lets_of p) (own_root p) × (Decides p.vars row.values (lets_of p) (own_root p) → ⊥)
+
+-- the verdict that a row is owed
+pub record IsDue (p : PredOf) (row : Row) (v : Verdict) : Type 0 where
+  pub filtering : Filtering
+  pub does : Does p row filtering
+  pub due : Due filtering p.vars (root_of p) row v
+
+-- the verdict of a predicate's program on a row in range is due
+abbrev pub ProgramsAnswerDue : Type 0
+ProgramsAnswerDue = (p : PredOf) (part : Part) (row : Row) (v : Verdict) → IsProgram part → IsProgramOf p part → InRange p.sites p.vars row → IsVerdict part row v → IsDue p row v
+
+-- a row in range of a predicate over the variables of a shape is owed at most one verdict, but for the wide operations
+abbrev pub OneIsDue : Type 0
+OneIsDue = (s : Shape) (p : PredOf) (row : Row) (v w : Verdict) → p.vars ≡ s.vars → p.sites ≡ s.sites → InRange p.sites p.vars row → IsDue p row v → IsDue p row w → Agree v w

@@ -1,0 +1,12 @@
+pub mod Bits
+pub mod Words
+pub mod Steady
+pub mod Stands
+pub mod Powers
+pub mod Lands
+pub mod Leaves
+pub mod Lets
+pub mod Pushing
+pub mod Costs
+pub mod Writes
+pub mod Sealed

@@ -1,0 +1,10 @@
+pub mod Triples
+pub mod Steady
+pub mod Truncated
+pub mod Law
+pub mod Tried
+pub mod Lines
+pub mod Wrote
+pub mod Nodes
+pub mod Planned
+pub mod Worked
