@@ -1,5 +1,5 @@
 //! Rows, run.
-ghost use Rattle.std.specs.Prelude.{◌≡◌, ◌≢◌, ◌<◌, ◌≤◌, ◌+◌, ◌^◌, pos, MatchOption, All, Some, length, slice_get};
+ghost use Rattle.std.specs.Prelude.{◌≡◌, ◌≢◌, ◌×◌, ◌<◌, ◌≤◌, ◌+◌, ◌^◌, pos, MatchOption, All, Some, length, slice_get};
 ghost use Rattle.ln_tree.specs.Row.{InRange, AreWithin};
 ghost use Rattle.ln_code.specs.Part.{Code, block_value, filter_value, ops_in_blocks};
 ghost use Rattle.ln_code.specs.Exact.{Held};
@@ -8,6 +8,7 @@ ghost use Rattle.ln_code.specs.Kept.{FollowsRules, IsList, IsProgram};
 ghost use Rattle.ln_code.specs.Verdict.{sign_of, along, through, IsVerdict};
 ghost use Rattle.ln_code.specs.Memory.{MadeFor};
 ghost use Rattle.ln_code.specs.RowOf.{row_of};
+ghost use Rattle.ln_code.specs.declared.verdict.By.TheVariants.{Filter};
 
 use crate::filter_block::FilterBlock;
 use crate::processor::{run_block, run_filter};
@@ -86,6 +87,7 @@ fn run_list(p: &Program, list: &[u32], entered: u32, values: &[i64], s: &mut Scr
     requires row { AreWithin p.now.shape.vars values.now }
     requires made { MadeFor p.now s.old }
     ensures verdict { along values.now p.now.blocks list.now 0 0 entered ≡ Some result }
+    ensures stages { result.by ≢ Filter }
     ensures made { MadeFor p.now s.new }
 {
     let mut place = 0;
@@ -128,6 +130,7 @@ fn run_filtered(
     requires row { AreWithin p.now.shape.vars values.now }
     requires made { MadeFor p.now s.old }
     ensures verdict { through (Some f.now) values.now p.now.blocks list.now ≡ Some result }
+    ensures filter { result.by ≡ Filter → (result.calls ≡ 1) × (result.wide ≡ 0) }
     ensures made { MadeFor p.now s.new }
 {
     let number = filter_number(p, f, values, s);
@@ -148,6 +151,7 @@ fn run_through(p: &Program, list: &[u32], values: &[i64], s: &mut Scratch) -> Ve
     requires row { AreWithin p.now.shape.vars values.now }
     requires made { MadeFor p.now s.old }
     ensures verdict { through p.now.filter values.now p.now.blocks list.now ≡ Some result }
+    ensures filter { result.by ≡ Filter → (result.calls ≡ 1) × (result.wide ≡ 0) }
     ensures made { MadeFor p.now s.new }
 {
     match p.filter() {
@@ -156,12 +160,13 @@ fn run_through(p: &Program, list: &[u32], values: &[i64], s: &mut Scratch) -> Ve
     }
 }
 
-/// The verdict on a row in range, by a scratch made for the program: what the machine over whole numbers answers, exactly. It
-/// takes no memory and refuses nothing.
+/// The verdict on a row in range, by a scratch made for the program: what the machine over whole numbers answers, exactly. Where the
+/// filter decides, that is one call and no operation in 128 bits. It takes no memory and refuses nothing.
 pub fn run_row(p: &Program, s: &mut Scratch, r: &Row) -> Verdict
     requires made { MadeFor p.now s.old }
     requires row { InRange p.now.shape.sites p.now.shape.vars (row_of p.now.shape.sites p.now.shape.vars r.now) }
     ensures verdict { IsVerdict p.now (row_of p.now.shape.sites p.now.shape.vars r.now) result }
+    ensures filter { result.by ≡ Filter → (result.calls ≡ 1) × (result.wide ≡ 0) }
     ensures made { MadeFor p.now s.new }
 {
     let shape = p.shape();

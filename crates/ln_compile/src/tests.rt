@@ -1,12 +1,25 @@
 // Sources compiled and refused.
 use crate::{Compiled, Refusal, compile};
 use ln_base::Span;
+use ln_code::Triple;
 use std::alloc::Global;
 use std::process::Abort;
 use std::test::Fail;
 
 const ORIENT: &str = "site point { x: -1000 .. 1000; y: -1000 .. 1000; }
 predicate orient(p: point, q: point, r: point) { sign (p.x - r.x)*(q.y - r.y) - (p.y - r.y)*(q.x - r.x); }
+";
+
+const WIDE: &str =
+    "site point { x: -1099511627776 .. 1099511627776; y: -1099511627776 .. 1099511627776; }
+predicate orient(p: point, q: point, r: point) { sign (p.x - r.x)*(q.y - r.y) - (p.y - r.y)*(q.x - r.x); }
+";
+
+const FAR: &str = "site num { t: -10 .. 10; } predicate far(a: num) { sign a.t - 4294967297; }";
+
+// The exponent of y would be 288.
+const DEEP: &str = "site num { t: -10 .. 10; }
+predicate nf(a: num) { let z = 0*170141183460469231731687303715884105727; let y = z*z*z; sign a.t + y; }
 ";
 
 // Compiles a source, which has to be short enough.
@@ -75,5 +88,29 @@ predicate big(a: num, b: num, c: num, d: num) { sign a.t*b.t + c.t*d.t; }
 ";
     let c = compiled(&rt, rt.alloc(), source)?;
     assert_eq!(rt; count(&rt, &c), 112);
+    Ok(())
+}
+
+// The last triple of the filter of the first program, if it has one.
+fn root_triple(c: &Compiled) -> Option<Triple> {
+    let filter = c.programs().as_slice().first()?.filter()?;
+    filter.triples().last().copied()
+}
+
+fn triple(k: u8, h: u64, e: u64) -> Option<Triple> {
+    Some(Triple { k, h, e })
+}
+
+#[test]
+fn a_filter_ends_with_the_triple_of_its_root(rt: HostRuntime) -> Result<(), Fail> {
+    let rows = [
+        (WIDE, triple(53, 1073741824, 7)),
+        (FAR, triple(2, 1073741826, 2)),
+        (DEEP, None),
+    ];
+    for (source, last) in rows {
+        let c = compiled(&rt, rt.alloc(), source)?;
+        assert!(rt; root_triple(&c) == last);
+    }
     Ok(())
 }
