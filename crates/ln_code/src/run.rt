@@ -1,5 +1,5 @@
 //! Rows, run.
-ghost use Rattle.std.specs.Prelude.{◌≡◌, ◌≢◌, ◌×◌, ◌<◌, ◌≤◌, ◌+◌, ◌^◌, pos, MatchOption, All, Some, length, slice_get};
+ghost use Rattle.std.specs.Prelude.{◌≡◌, ◌≢◌, ◌<◌, ◌≤◌, ◌+◌, ◌^◌, pos, MatchOption, All, Some, length, slice_get};
 ghost use Rattle.ln_tree.specs.Row.{InRange, AreWithin};
 ghost use Rattle.ln_code.specs.Part.{Code, block_value, filter_value, ops_in_blocks};
 ghost use Rattle.ln_code.specs.Exact.{Held};
