@@ -17,8 +17,8 @@ use Rattle.ln_algebra.specs.Law.{Within}
 use Rattle.ln_algebra.specs.Terms.{Over, Term, factor_at, same_vector, covers, minus, binomial, binomials, monomial}
 use Rattle.ln_algebra.specs.Tree.{Tree, InputsBelow, degree_of}
 use Rattle.ln_algebra.specs.Earlier.{Sites, Earlier, IndicesDiffer, IsOver}
-use Rattle.ln_algebra.specs.Stage.{IsMonomial, Covered, IsLast, IsStage}
-use Rattle.ln_algebra.specs.Sign.{IsFirst, perturbed}
+use Rattle.ln_algebra.specs.Stage.{IsMonomial, Covered, IsLast, IsStage, IsStageIn}
+use Rattle.ln_algebra.specs.Sign.{IsFirst, IsFirstIn, perturbed}
 
 -- a vector is over a set of variables where each exponent outside is 0
 pub within_from : (p : ℕ → Bool) (a : List ℕ) → ((v : ℕ) → p v ≡ false → get_or a v 0 ≡ 0) → Within p a
@@ -136,17 +136,29 @@ module _ (n : ℕ) (sites : Sites) (x : ℕ → ℤ) (e : Tree) (below : InputsB
     by_case (inl c) = c
     by_case (inr h) = absurd (z (perturbed-uncovered a o (λ c. c.1.nonzero (normal_is n e below c.0 c.1.size ∙ h c.0 c.1.nonzero c.2))))
 
-  -- the cut loses nothing: the first vector is a stage
-  pub first-stage : (a : List ℕ) → IsFirst n sites x e a → IsStage n sites e a
-  first-stage a f = record { over = f.over; covered = nonzero-covered a f.over f.nonzero; before_cut = cut } where
-    cut : (b : List ℕ) → IsOver n sites b → IsLast n e b → Earlier sites b a → ⊥
+-- ---- the cut loses nothing, in any order
+module _ (n : ℕ) (sites : Sites) (before : List ℕ → List ℕ → Type 0) (x : ℕ → ℤ) (e : Tree) (below : InputsBelow n e) where
+  -- the first vector is a stage: this asks nothing of the order
+  pub first-stage-in : (a : List ℕ) → IsFirstIn before n sites x e a → IsStageIn before n sites e a
+  first-stage-in a f = record { over = f.over; covered = nonzero-covered n sites x e below a f.over f.nonzero; before_cut = cut } where
+    cut : (b : List ℕ) → IsOver n sites b → IsLast n e b → before b a → ⊥
     cut b o last l =
-        let z : perturbed sites x e b ≢ pos 0 = λ q. last.monomial.nonzero (sym (perturbed-last b o last) ∙ q) in
+        let z : perturbed sites x e b ≢ pos 0 = λ q. last.monomial.nonzero (sym (perturbed-last n sites x e below b o last) ∙ q) in
         z (f.zero_before b o (degree-small sites x e b z) l)
+
+  -- the first stage whose coefficient isn't 0 is the first vector: this asks that the order is transitive
+  pub stage-first-in : ((a b c : List ℕ) → before a b → before b c → before a c) → (a : List ℕ) → IsStageIn before n sites e a → perturbed sites x e a ≢ pos 0 → ((b : List ℕ) → IsStageIn before n sites e b → before b a → perturbed sites x e b ≡ pos 0) → IsFirstIn before n sites x e a
+  stage-first-in through a s z h = record { over = s.over; small = degree-small sites x e a z; nonzero = z; zero_before = λ b o l r. by_case b o r (zero_cases (perturbed sites x e b)) } where
+    by_case : (b : List ℕ) → IsOver n sites b → before b a → (perturbed sites x e b ≡ pos 0) ⊎ (perturbed sites x e b ≡ pos 0 → ⊥) → perturbed sites x e b ≡ pos 0
+    by_case b o r (inl q) = q
+    by_case b o r (inr q) = h b (record { over = o; covered = nonzero-covered n sites x e below b o q; before_cut = λ c oc last l. s.before_cut c oc last (through c b a l r) }) r
+
+-- ---- and in that by the smallest infinitesimal
+module _ (n : ℕ) (sites : Sites) (x : ℕ → ℤ) (e : Tree) (below : InputsBelow n e) where
+  -- the first vector is a stage
+  pub first-stage : (a : List ℕ) → IsFirst n sites x e a → IsStage n sites e a
+  first-stage a = first-stage-in n sites (Earlier sites) x e below a
 
   -- the first stage whose coefficient isn't 0 is the first vector
   pub stage-first : IndicesDiffer sites → (a : List ℕ) → IsStage n sites e a → perturbed sites x e a ≢ pos 0 → ((b : List ℕ) → IsStage n sites e b → Earlier sites b a → perturbed sites x e b ≡ pos 0) → IsFirst n sites x e a
-  stage-first d a s z h = record { over = s.over; small = degree-small sites x e a z; nonzero = z; zero_before = λ b o l r. by_case b o r (zero_cases (perturbed sites x e b)) } where
-    by_case : (b : List ℕ) → IsOver n sites b → Earlier sites b a → (perturbed sites x e b ≡ pos 0) ⊎ (perturbed sites x e b ≡ pos 0 → ⊥) → perturbed sites x e b ≡ pos 0
-    by_case b o r (inl q) = q
-    by_case b o r (inr q) = h b (record { over = o; covered = nonzero-covered b o q; before_cut = λ c oc last l. s.before_cut c oc last (earlier-transitive sites d c b a l r) }) r
+  stage-first d a = stage-first-in n sites (Earlier sites) x e below (earlier-transitive sites d) a

@@ -1,17 +1,19 @@
--- Where any coefficient isn't 0 there is a first vector.
+-- Where any coefficient isn't 0 there is a first vector, in any order of infinitesimals.
 use Rattle.std.proofs.Common.{◌≡◌, ◌≢◌, ℕ, ◌+◌, ◌<◌, ◌≤◌, zero, suc, refl, sym, ◌∙◌, ap, arith, List, [], ◌∷◌, ◌++◌, map, length, get_or, Bool, true, false, not, ◌&&◌, leb, None, is_some, IsTrue, ◌⊎◌, inl, inr}
 use Rattle.std.proofs.lemmas.Bool.{and_parts, cases_eq, cases_lt, leb-true}
 use Rattle.std.proofs.lemmas.List.{get_or_past}
 use Rattle.std.proofs.Math.IntN.{ℤ, pos}
+use Rattle.ln_algebra.proofs.Admissible.{earlier-admissible}
 use Rattle.ln_algebra.proofs.Cut.{degree-small, monomial_in, not_some, of_sites, perturbed-last, within_from}
 use Rattle.ln_algebra.proofs.Degree.{coefficient-above}
 use Rattle.ln_algebra.proofs.Expansion.{Over-expanded, expanded}
 use Rattle.ln_algebra.proofs.Normal.{everywhere, normal_is, origin, same_vector-is, same_vector-refl, zero_cases}
-use Rattle.ln_algebra.proofs.Order.{below_suc, earlier-irreflexive, earlier-total, earlier-transitive}
+use Rattle.ln_algebra.proofs.Order.{below_suc}
 use Rattle.ln_algebra.proofs.Walk.{In-append_left, In-append_right}
 use Rattle.ln_algebra.specs.Coefficient.{normal_coefficient}
 use Rattle.ln_algebra.specs.Earlier.{Earlier, IndicesDiffer, IsOver, Sites}
-use Rattle.ln_algebra.specs.Sign.{IsFirst, perturbed}
+use Rattle.ln_algebra.specs.Orders.{IsAdmissible}
+use Rattle.ln_algebra.specs.Sign.{IsFirst, IsFirstIn, perturbed}
 use Rattle.ln_algebra.specs.Stage.{IsLast, IsMonomial}
 use Rattle.ln_algebra.specs.Terms.{factor_at}
 use Rattle.ln_algebra.specs.Tree.{InputsBelow, Tree, degree_of}
@@ -76,66 +78,78 @@ In-vectors zero d (k ∷ a) e l = absurd (omega arith)
 In-vectors (suc n) d [] e l = absurd (omega arith)
 In-vectors (suc n) d (k ∷ a) e l = In-firsts (suc d) k (vectors_up_to n d) a (omega arith) (In-vectors n d a (omega arith) (omega arith))
 
--- ---- the earliest of them
--- of the vectors in the list, this is the first whose coefficient isn't 0
-record Best (n : ℕ) (sites : Sites) (x : ℕ → ℤ) (e : Tree) (xs : List (List ℕ)) : Type 0 where
-  vector : List ℕ
-  over : IsOver n sites vector
-  nonzero : perturbed sites x e vector ≢ pos 0
-  before : (b : List ℕ) → In xs b → IsOver n sites b → Earlier sites b vector → perturbed sites x e b ≡ pos 0
-
+-- ---- the first of a list
 -- the coefficients of all vectors in the list are 0
 abbrev AllZero : ℕ → Sites → (ℕ → ℤ) → Tree → List (List ℕ) → Type 0
 AllZero n sites x e xs = (b : List ℕ) → In xs b → IsOver n sites b → perturbed sites x e b ≡ pos 0
 
-module _ (n : ℕ) (sites : Sites) (x : ℕ → ℤ) (e : Tree) (differ : IndicesDiffer sites) where
+-- of the vectors in the list, this is the first whose coefficient isn't 0
+record Best (before : List ℕ → List ℕ → Type 0) (n : ℕ) (sites : Sites) (x : ℕ → ℤ) (e : Tree) (xs : List (List ℕ)) : Type 0 where
+  vector : List ℕ
+  over : IsOver n sites vector
+  nonzero : perturbed sites x e vector ≢ pos 0
+  zeros_before : (b : List ℕ) → In xs b → IsOver n sites b → before b vector → perturbed sites x e b ≡ pos 0
+
+module _ (n : ℕ) (sites : Sites) (before : List ℕ → List ℕ → Type 0) (order : IsAdmissible n sites before) (x : ℕ → ℤ) (e : Tree) where
   -- a vector more, whose coefficient is 0 or that isn't over the variables of sites
-  best_pass : (a : List ℕ) (xs : List (List ℕ)) → (IsOver n sites a → perturbed sites x e a ≡ pos 0) → AllZero n sites x e xs ⊎ Best n sites x e xs → AllZero n sites x e (a ∷ xs) ⊎ Best n sites x e (a ∷ xs)
+  best_pass : (a : List ℕ) (xs : List (List ℕ)) → (IsOver n sites a → perturbed sites x e a ≡ pos 0) → AllZero n sites x e xs ⊎ Best before n sites x e xs → AllZero n sites x e (a ∷ xs) ⊎ Best before n sites x e (a ∷ xs)
   best_pass a xs z (inl all) = inl none where
     none : AllZero n sites x e (a ∷ xs)
     none b (inl q) o = ap (perturbed sites x e) q ∙ z (rw q at o)
     none b (inr i) o = all b i o
-  best_pass a xs z (inr best) = inr (record { vector = best.vector; over = best.over; nonzero = best.nonzero; before = before }) where
-    before : (b : List ℕ) → In (a ∷ xs) b → IsOver n sites b → Earlier sites b best.vector → perturbed sites x e b ≡ pos 0
-    before b (inl q) o l = ap (perturbed sites x e) q ∙ z (rw q at o)
-    before b (inr i) o l = best.before b i o l
+  best_pass a xs z (inr best) = inr (record { vector = best.vector; over = best.over; nonzero = best.nonzero; zeros_before = at }) where
+    at : (b : List ℕ) → In (a ∷ xs) b → IsOver n sites b → before b best.vector → perturbed sites x e b ≡ pos 0
+    at b (inl q) o l = ap (perturbed sites x e) q ∙ z (rw q at o)
+    at b (inr i) o l = best.zeros_before b i o l
 
   -- a vector more, whose coefficient isn't 0
-  best_take : (a : List ℕ) (xs : List (List ℕ)) → IsOver n sites a → perturbed sites x e a ≢ pos 0 → AllZero n sites x e xs ⊎ Best n sites x e xs → Best n sites x e (a ∷ xs)
-  best_take a xs o z (inl all) = record { vector = a; over = o; nonzero = z; before = before } where
-    before : (b : List ℕ) → In (a ∷ xs) b → IsOver n sites b → Earlier sites b a → perturbed sites x e b ≡ pos 0
-    before b (inl q) p l = absurd (earlier-irreflexive sites a (rw q at l))
-    before b (inr i) p l = all b i p
-  best_take a xs o z (inr best) = by_order (earlier-total sites differ n a best.vector o best.over) where
-    here : (a ≡ best.vector) ⊎ Earlier sites a best.vector → (b : List ℕ) → In (a ∷ xs) b → IsOver n sites b → Earlier sites b a → perturbed sites x e b ≡ pos 0
-    here c b (inl q) p l = absurd (earlier-irreflexive sites a (rw q at l))
-    here (inl q) b (inr i) p l = best.before b i p (rw q at l)
-    here (inr m) b (inr i) p l = best.before b i p (earlier-transitive sites differ b a best.vector l m)
+  best_take : (a : List ℕ) (xs : List (List ℕ)) → IsOver n sites a → perturbed sites x e a ≢ pos 0 → AllZero n sites x e xs ⊎ Best before n sites x e xs → Best before n sites x e (a ∷ xs)
+  best_take a xs o z (inl all) = record { vector = a; over = o; nonzero = z; zeros_before = at } where
+    at : (b : List ℕ) → In (a ∷ xs) b → IsOver n sites b → before b a → perturbed sites x e b ≡ pos 0
+    at b (inl q) p l = absurd (order.irreflexive a (rw q at l))
+    at b (inr i) p l = all b i p
+  best_take a xs o z (inr best) = by_order (order.total a best.vector o best.over) where
+    here : (a ≡ best.vector) ⊎ before a best.vector → (b : List ℕ) → In (a ∷ xs) b → IsOver n sites b → before b a → perturbed sites x e b ≡ pos 0
+    here c b (inl q) p l = absurd (order.irreflexive a (rw q at l))
+    here (inl q) b (inr i) p l = best.zeros_before b i p (rw q at l)
+    here (inr m) b (inr i) p l = best.zeros_before b i p (order.transitive b a best.vector l m)
 
-    there : Earlier sites best.vector a → (b : List ℕ) → In (a ∷ xs) b → IsOver n sites b → Earlier sites b best.vector → perturbed sites x e b ≡ pos 0
-    there m b (inl q) p l = absurd (earlier-irreflexive sites a (earlier-transitive sites differ a best.vector a (rw q at l) m))
-    there m b (inr i) p l = best.before b i p l
+    there : before best.vector a → (b : List ℕ) → In (a ∷ xs) b → IsOver n sites b → before b best.vector → perturbed sites x e b ≡ pos 0
+    there m b (inl q) p l = absurd (order.irreflexive a (order.transitive a best.vector a (rw q at l) m))
+    there m b (inr i) p l = best.zeros_before b i p l
 
-    by_order : (a ≡ best.vector) ⊎ (Earlier sites a best.vector ⊎ Earlier sites best.vector a) → Best n sites x e (a ∷ xs)
-    by_order (inl q) = record { vector = a; over = o; nonzero = z; before = here (inl q) }
-    by_order (inr (inl m)) = record { vector = a; over = o; nonzero = z; before = here (inr m) }
-    by_order (inr (inr m)) = record { vector = best.vector; over = best.over; nonzero = best.nonzero; before = there m }
+    by_order : (a ≡ best.vector) ⊎ (before a best.vector ⊎ before best.vector a) → Best before n sites x e (a ∷ xs)
+    by_order (inl q) = record { vector = a; over = o; nonzero = z; zeros_before = here (inl q) }
+    by_order (inr (inl m)) = record { vector = a; over = o; nonzero = z; zeros_before = here (inr m) }
+    by_order (inr (inr m)) = record { vector = best.vector; over = best.over; nonzero = best.nonzero; zeros_before = there m }
 
   -- of a list, all are 0 or one is the first that isn't
-  best_of : (xs : List (List ℕ)) → AllZero n sites x e xs ⊎ Best n sites x e xs
+  best_of : (xs : List (List ℕ)) → AllZero n sites x e xs ⊎ Best before n sites x e xs
   best_of [] = inl (λ b i o. absurd i)
   best_of (a ∷ xs) = by_case (over_cases n sites a) (zero_cases (perturbed sites x e a)) (best_of xs) where
-    by_case : IsOver n sites a ⊎ (IsOver n sites a → ⊥) → (perturbed sites x e a ≡ pos 0) ⊎ (perturbed sites x e a ≡ pos 0 → ⊥) → AllZero n sites x e xs ⊎ Best n sites x e xs → AllZero n sites x e (a ∷ xs) ⊎ Best n sites x e (a ∷ xs)
+    by_case : IsOver n sites a ⊎ (IsOver n sites a → ⊥) → (perturbed sites x e a ≡ pos 0) ⊎ (perturbed sites x e a ≡ pos 0 → ⊥) → AllZero n sites x e xs ⊎ Best before n sites x e xs → AllZero n sites x e (a ∷ xs) ⊎ Best before n sites x e (a ∷ xs)
     by_case (inl o) (inl z) r = best_pass a xs (λ p. z) r
     by_case (inr d) z r = best_pass a xs (λ p. absurd (d p)) r
     by_case (inl o) (inr z) r = inr (best_take a xs o z r)
 
+  -- there is a first vector, or all coefficients over the variables of sites are 0
+  pub first-or-zero : ((a : List ℕ) × IsFirstIn before n sites x e a) ⊎ ((b : List ℕ) → IsOver n sites b → perturbed sites x e b ≡ pos 0)
+  first-or-zero = by_case (best_of (vectors_up_to n (degree_of e))) where
+    none : AllZero n sites x e (vectors_up_to n (degree_of e)) → (b : List ℕ) → IsOver n sites b → (perturbed sites x e b ≡ pos 0) ⊎ (perturbed sites x e b ≡ pos 0 → ⊥) → perturbed sites x e b ≡ pos 0
+    none all b o (inl z) = z
+    none all b o (inr z) = all b (In-vectors n (degree_of e) b o.size (degree-small sites x e b z)) o
+
+    by_case : AllZero n sites x e (vectors_up_to n (degree_of e)) ⊎ Best before n sites x e (vectors_up_to n (degree_of e)) → ((a : List ℕ) × IsFirstIn before n sites x e a) ⊎ ((b : List ℕ) → IsOver n sites b → perturbed sites x e b ≡ pos 0)
+    by_case (inl all) = inr (λ b o. none all b o (zero_cases (perturbed sites x e b)))
+    by_case (inr best) = inl (best.vector, record { over = best.over; small = degree-small sites x e best.vector best.nonzero; nonzero = best.nonzero; zero_before = λ c p s l. best.zeros_before c (In-vectors n (degree_of e) c p.size s) p l })
+
   -- where any coefficient isn't 0 there is a first vector
-  pub nonzero-first : (b : List ℕ) → IsOver n sites b → perturbed sites x e b ≢ pos 0 → (a : List ℕ) × IsFirst n sites x e a
-  nonzero-first b o z = by_case (best_of (vectors_up_to n (degree_of e))) where
-    by_case : AllZero n sites x e (vectors_up_to n (degree_of e)) ⊎ Best n sites x e (vectors_up_to n (degree_of e)) → (a : List ℕ) × IsFirst n sites x e a
-    by_case (inl all) = absurd (z (all b (In-vectors n (degree_of e) b o.size (degree-small sites x e b z)) o))
-    by_case (inr best) = (best.vector, record { over = best.over; small = degree-small sites x e best.vector best.nonzero; nonzero = best.nonzero; zero_before = λ c p s l. best.before c (In-vectors n (degree_of e) c p.size s) p l })
+  pub nonzero-first-in : (b : List ℕ) → IsOver n sites b → perturbed sites x e b ≢ pos 0 → (a : List ℕ) × IsFirstIn before n sites x e a
+  nonzero-first-in b o z = elim first-or-zero [ inl f ↦ f | inr all ↦ absurd (z (all b o)) ]
+
+  -- where there is no first vector all coefficients are 0
+  pub no-first-zero : ((a : List ℕ) → IsFirstIn before n sites x e a → ⊥) → (b : List ℕ) → IsOver n sites b → perturbed sites x e b ≡ pos 0
+  no-first-zero none = elim first-or-zero [ inl f ↦ absurd (none f.0 f.1) | inr all ↦ all ]
 
 -- ---- a monomial that no other covers
 -- a vector that covers another is the same or of larger total degree
@@ -190,10 +204,21 @@ over_all n sites a all e = record { size = e; of_sites = λ v h. by_case v h (ca
   by_case v h (inl l) = let t : IsTrue (is_some (sites.site v)) = all v l in let u : is_some (sites.site v) ≡ false = ap is_some h in (let w : IsTrue false = rw u at t in cc)
   by_case v h (inr l) = get_or_past a v 0 (omega (arith, e))
 
--- without params there always is a first vector
+module _ (n : ℕ) (sites : Sites) (before : List ℕ → List ℕ → Type 0) (order : IsAdmissible n sites before) (x : ℕ → ℤ) (e : Tree) where
+  -- without params there always is one
+  pub all-first-in : InputsBelow n e → ((v : ℕ) → v < n → IsTrue (is_some (sites.site v))) → (m : List ℕ) → IsMonomial n e m → (a : List ℕ) × IsFirstIn before n sites x e a
+  all-first-in below all m mono = from_last (monomial-last n e below m mono) where
+    from_last : (a : List ℕ) × IsLast n e a → (a : List ℕ) × IsFirstIn before n sites x e a
+    from_last (a, last) =
+        let o : IsOver n sites a = over_all n sites a all last.monomial.size in
+        nonzero-first-in n sites before order x e a o (λ z. last.monomial.nonzero (sym (perturbed-last n sites x e below a o last) ∙ z))
+
+-- ---- by the smallest infinitesimal
+module _ (n : ℕ) (sites : Sites) (x : ℕ → ℤ) (e : Tree) (differ : IndicesDiffer sites) where
+  -- where any coefficient isn't 0 there is a first vector
+  pub nonzero-first : (b : List ℕ) → IsOver n sites b → perturbed sites x e b ≢ pos 0 → (a : List ℕ) × IsFirst n sites x e a
+  nonzero-first b = nonzero-first-in n sites (Earlier sites) (earlier-admissible n sites differ) x e b
+
+-- without params there always is one
 pub all-first : (n : ℕ) (sites : Sites) (e : Tree) (x : ℕ → ℤ) (m : List ℕ) → InputsBelow n e → IndicesDiffer sites → ((v : ℕ) → v < n → IsTrue (is_some (sites.site v))) → IsMonomial n e m → (a : List ℕ) × IsFirst n sites x e a
-all-first n sites e x m below differ all mono = from_last (monomial-last n e below m mono) where
-  from_last : (a : List ℕ) × IsLast n e a → (a : List ℕ) × IsFirst n sites x e a
-  from_last (a, last) =
-      let o : IsOver n sites a = over_all n sites a all last.monomial.size in
-      nonzero-first n sites x e differ a o (λ z. last.monomial.nonzero (sym (perturbed-last n sites x e below a o last) ∙ z))
+all-first n sites e x m below differ all = all-first-in n sites (Earlier sites) (earlier-admissible n sites differ) x e below all m

@@ -3,7 +3,7 @@
 use Rattle.std.specs.Prelude.{◌≡◌, ◌≢◌, ℕ, true, pos, List, length}
 use Rattle.ln_algebra.specs.Vector.{In, covers}
 use Rattle.ln_algebra.specs.Coefficient.{normal_coefficient}
-use Rattle.ln_algebra.specs.Earlier.{Sites, Earlier, IsOver, IsInOrder}
+use Rattle.ln_algebra.specs.Earlier.{Sites, Earlier, IsOver, IsSortedIn}
 use Rattle.ln_algebra.specs.Tree.{Tree}
 
 -- m is a monomial of the normal polynomial of e, over n variables.
@@ -20,14 +20,22 @@ pub record IsLast (n : ℕ) (e : Tree) (a : List ℕ) : Type 0 where
   pub monomial : IsMonomial n e a
   pub only : (m : List ℕ) → IsMonomial n e m → covers m a ≡ true → m ≡ a
 
--- a is a stage: a vector over the variables of sites that some monomial covers, with no cut earlier than a.
-pub record IsStage (n : ℕ) (sites : Sites) (e : Tree) (a : List ℕ) : Type 0 where
+-- a is a stage: a vector over the variables of sites that some monomial covers, with no cut before a in this order.
+pub record IsStageIn (before : List ℕ → List ℕ → Type 0) (n : ℕ) (sites : Sites) (e : Tree) (a : List ℕ) : Type 0 where
   pub over : IsOver n sites a
   pub covered : Covered n e a
-  pub before_cut : (b : List ℕ) → IsOver n sites b → IsLast n e b → Earlier sites b a → ⊥
+  pub before_cut : (b : List ℕ) → IsOver n sites b → IsLast n e b → before b a → ⊥
 
--- The stage list: all stages, each earlier than the ones behind it, and so each once.
-pub record IsStageList (n : ℕ) (sites : Sites) (e : Tree) (list : List (List ℕ)) : Type 0 where
-  pub stages : (a : List ℕ) → In list a → IsStage n sites e a
-  pub all : (a : List ℕ) → IsStage n sites e a → In list a
-  pub in_order : IsInOrder sites list
+-- The same by the smallest infinitesimal in which two vectors differ.
+abbrev pub IsStage : ℕ → Sites → Tree → List ℕ → Type 0
+IsStage n sites e a = IsStageIn (Earlier sites) n sites e a
+
+-- The stage list: all stages, each before the ones behind it in this order, and so each once.
+pub record IsStageListIn (before : List ℕ → List ℕ → Type 0) (n : ℕ) (sites : Sites) (e : Tree) (list : List (List ℕ)) : Type 0 where
+  pub stages : (a : List ℕ) → In list a → IsStageIn before n sites e a
+  pub all : (a : List ℕ) → IsStageIn before n sites e a → In list a
+  pub in_order : IsSortedIn before list
+
+-- The same by the smallest infinitesimal in which two vectors differ.
+abbrev pub IsStageList : ℕ → Sites → Tree → List (List ℕ) → Type 0
+IsStageList n sites e list = IsStageListIn (Earlier sites) n sites e list

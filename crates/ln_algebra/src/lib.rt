@@ -2,8 +2,8 @@
 //!
 //! Definitions stand in `specs/`: exponent vectors, expressions, their
 //! coefficients at a perturbed point, polynomials with their scaled
-//! derivatives, the order of infinitesimals, stages and the cut, the
-//! perturbed sign, weights. Sources are Simulation of Simplicity
+//! derivatives, the orders of infinitesimals, stages and the cut, the
+//! perturbed sign, products of signs, weights. Sources are Simulation of Simplicity
 //! (Edelsbrunner and Mücke 1990) and Yap's admissible orders (1990);
 //! `docs/SEMANTICS.md` tells it in prose.
 //!
@@ -14,6 +14,7 @@
 mod coefficients;
 mod derivatives;
 mod infinitesimals;
+mod orders;
 mod splitting;
 mod staging;
 mod weighing;
@@ -24,6 +25,10 @@ pub use derivatives::{
     derivatives_are_coefficients, derivatives_on_rows, derived_coefficients, product_rule,
 };
 pub use infinitesimals::{earlier_is_an_order, first_is_unique, stage_list_is_unique};
+pub use orders::{
+    a_first_in_either, both_are_admissible, one_answer_in_either, products_have_sums,
+    the_cut_in_either,
+};
 pub use splitting::{covered_by_is_all, splits_are_all_sums, ways_are_all_sums};
 pub use staging::{cut_loses_nothing, there_is_a_first, walk_lists_the_stages};
 pub use weighing::{

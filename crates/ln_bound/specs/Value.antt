@@ -2,6 +2,7 @@
 use Rattle.std.specs.Prelude.{ℕ, suc, zero, ◌+◌, ◌*◌, ◌^◌, max, ℤ, pos, ◌+ℤ◌, ◌-ℤ◌, ◌*ℤ◌, neg_ℤ, unsigned_abs, List, Option, Some, None, slice_get, slice_index_or}
 use Rattle.ln_algebra.specs.Tree.{Tree, Num, Input, Name, Neg, Add, Sub, Mul, Pow}
 use Rattle.ln_tree.specs.declared.shape.VarInfo.{VarInfo}
+pub use Rattle.ln_tree.specs.Row.{values}
 
 -- z to the power of n
 abbrev pub power : ℤ → ℕ → ℤ
@@ -49,7 +50,3 @@ weight_or (Some i) = size_of i + 1
 -- w of variable number v: one more than its M
 abbrev pub weights : List VarInfo → ℕ → ℕ
 weights vars v = weight_or (slice_get vars v)
-
--- the values of a row, by variable number
-abbrev pub values : List ℤ → ℕ → ℤ
-values zs v = slice_index_or zs v (pos 0)

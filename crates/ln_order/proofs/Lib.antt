@@ -5,3 +5,6 @@ pub mod RankLemmas
 pub mod RankingLemmas
 pub mod RowsLemmas
 pub mod SitesLemmas
+pub mod OrderExists
+pub mod OrderUnique
+pub mod RowSigns

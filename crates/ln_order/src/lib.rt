@@ -1,6 +1,7 @@
 //! The order of the sites of a row by their indices: `order_of` lists the places of the sites by rising index, the largest
 //! infinitesimals first, or says which site has the index of an earlier one. `all_orders` lists all orders of so many
-//! sites, and `earlier` compares exponents in one.
+//! sites, and `earlier` compares exponents in one. The laws of `rows` say of the perturbed sign of a row that it is one, and
+//! that it may be looked for along the stage list of the row's order.
 #![tactic(auto)]
 
 pub mod equal;
@@ -8,9 +9,11 @@ pub mod infinitesimals;
 pub mod order;
 pub mod orders;
 pub mod rank;
+pub mod rows;
 
 pub use equal::{Equal, first_equal};
 pub use infinitesimals::{earlier, exponent_of, orders_are_those_of_rows, ranking};
 pub use order::Order;
 pub use orders::{all_orders, orders_are_all};
 pub use rank::order_of;
+pub use rows::{row_sign_is_unique, rows_have_one_order, sites_differ, stages_are_those_of_rows};

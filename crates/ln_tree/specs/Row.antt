@@ -1,5 +1,5 @@
 -- Rows.
-use Rattle.std.specs.Prelude.{◌≡◌, ℕ, ◌^◌, ◌-◌, ℤ, pos, ◌≤ℤ◌, List, [], ◌∷◌, length, All, AllPairs, ◌≢◌}
+use Rattle.std.specs.Prelude.{◌≡◌, ℕ, ◌^◌, ◌-◌, ℤ, pos, ◌≤ℤ◌, List, [], ◌∷◌, length, slice_index_or, All, AllPairs, ◌≢◌}
 use Rattle.ln_tree.specs.declared.shape.VarInfo.{VarInfo}
 
 -- an index for each site, by place, and a value for each variable, by number
@@ -20,3 +20,7 @@ pub record InRange (sites : ℕ) (vars : List VarInfo) (r : Row) : Type 0 where
   pub indices : All (λ z. (pos 0 ≤ℤ z) × (z ≤ℤ pos (2 ^ 63 - 1))) r.index
   pub differ : AllPairs (λ y z. y ≢ z) r.index
   pub values : AreWithin vars r.values
+
+-- the values of a row, by variable number
+abbrev pub values : List ℤ → ℕ → ℤ
+values zs v = slice_index_or zs v (pos 0)

@@ -1,3 +1,5 @@
+use Rattle.ln_algebra.specs.Earlier.{Earlier}
+use Rattle.ln_algebra.proofs.Order.{earlier-irreflexive}
 use Rattle.ln_algebra.proofs.Unique.{in_order-once, stage_list-unique}
 use Rattle.ln_algebra.proofs.infinitesimals.stage_list_is_unique.Goals as goal
 
@@ -5,4 +7,4 @@ pub returns-clause-unique : goal.returns-clause-unique
 returns-clause-unique c = stage_list-unique
 
 pub returns-clause-once : goal.returns-clause-once
-returns-clause-once c = in_order-once
+returns-clause-once c = λ sites. in_order-once (Earlier sites) (earlier-irreflexive sites)

@@ -1,0 +1,5 @@
+use Rattle.ln_order.proofs.RowSigns.{row-stages}
+use Rattle.ln_order.proofs.rows.stages_are_those_of_rows.Goals as goal
+
+pub returns : goal.returns
+returns c = row-stages
