@@ -15,6 +15,7 @@ mod coefficients;
 mod derivatives;
 mod infinitesimals;
 mod orders;
+mod sizing;
 mod splitting;
 mod staging;
 mod weighing;
@@ -29,6 +30,7 @@ pub use orders::{
     a_first_in_either, both_are_admissible, one_answer_in_either, products_have_sums,
     the_cut_in_either,
 };
+pub use sizing::{coefficients_are_within_sizes, sizes_are_within_weights};
 pub use splitting::{covered_by_is_all, splits_are_all_sums, ways_are_all_sums};
 pub use staging::{cut_loses_nothing, there_is_a_first, walk_lists_the_stages};
 pub use weighing::{

@@ -1,0 +1,5 @@
+use Rattle.ln_algebra.proofs.Sizes.{size_weight}
+use Rattle.ln_algebra.proofs.sizing.sizes_are_within_weights.Goals as goal
+
+pub returns : goal.returns
+returns c = size_weight

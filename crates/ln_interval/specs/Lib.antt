@@ -1,0 +1,4 @@
+-- The definitions, lowest first.
+pub mod Number
+pub mod Range
+pub mod View

@@ -1,0 +1,7 @@
+-- Whole numbers.
+use Rattle.std.specs.Prelude.{ℕ, suc, zero, ℤ, pos, ◌*ℤ◌}
+
+-- z to the power of n
+abbrev pub power : ℤ → ℕ → ℤ
+power z zero = pos 1
+power z (suc n) = power z n *ℤ z
