@@ -1,10 +1,13 @@
+pub mod FoundLemmas
+pub mod FrontLemmas
+pub mod OrderExists
 pub mod OrderLemmas
+pub mod OrderUnique
 pub mod OrdersLemmas
 pub mod PairsLemmas
+pub mod PrefixLemmas
 pub mod RankLemmas
 pub mod RankingLemmas
+pub mod RowSigns
 pub mod RowsLemmas
 pub mod SitesLemmas
-pub mod OrderExists
-pub mod OrderUnique
-pub mod RowSigns

@@ -5,15 +5,22 @@
 #![tactic(auto)]
 
 pub mod equal;
+pub mod found;
+pub mod front;
 pub mod infinitesimals;
 pub mod order;
 pub mod orders;
+pub mod prefix;
 pub mod rank;
 pub mod rows;
 
 pub use equal::{Equal, first_equal};
-pub use infinitesimals::{earlier, exponent_of, orders_are_those_of_rows, ranking};
+pub use front::Front;
+pub use infinitesimals::{
+    earlier, exponent_of, front_ranking, orders_are_those_of_rows, ranking, vars_of_site,
+};
 pub use order::Order;
 pub use orders::{all_orders, orders_are_all};
+pub use prefix::{all_prefixes, fronts_are_prefixes, fronts_follow, prefix_number, prefixes_are_all};
 pub use rank::order_of;
 pub use rows::{row_sign_is_unique, rows_have_one_order, sites_differ, stages_are_those_of_rows};
