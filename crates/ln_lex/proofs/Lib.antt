@@ -1,6 +1,7 @@
-pub mod Runs
-pub mod Longest
 pub mod Gaps
+pub mod HasAnswer
+pub mod Longest
+pub mod OneAnswer
+pub mod Runs
 pub mod Scanned
 pub mod Slices
-pub mod OneAnswer

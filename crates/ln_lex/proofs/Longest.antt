@@ -13,7 +13,7 @@ name_longest b bs zero l h w = refl
 name_longest b bs (suc m) l h w = rw (l, every_more is_name_byte bs m (omega arith) (omega arith)) refl
 
 -- a letter and the run of name bytes behind it are a word
-name_first : (b : ℕ) (bs : List ℕ) (n : ℕ) (k : Kind) → is_letter b ≡ true → n ≡ suc (run_len is_name_byte bs) → k ≡ word_kind (take n (b ∷ bs)) → IsFirst (b ∷ bs) n k
+pub name_first : (b : ℕ) (bs : List ℕ) (n : ℕ) (k : Kind) → is_letter b ≡ true → n ≡ suc (run_len is_name_byte bs) → k ≡ word_kind (take n (b ∷ bs)) → IsFirst (b ∷ bs) n k
 name_first b bs n k l e q =
     let go : IsFirst (b ∷ bs) (suc (run_len is_name_byte bs)) (word_kind (take (suc (run_len is_name_byte bs)) (b ∷ bs))) =
     record { some = omega arith; within = omega (arith, run_within is_name_byte bs); spelt = rw (l, every_front is_name_byte bs) refl; longest = λ m h w. name_longest b bs m l h w } in
@@ -25,7 +25,7 @@ number_longest b bs zero l d h w = refl
 number_longest b bs (suc m) l d h w = rw (l, d, every_more is_digit bs m (omega arith) (omega arith)) refl
 
 -- a digit and the run of digits behind it are a number
-number_first : (b : ℕ) (bs : List ℕ) (n : ℕ) → is_letter b ≡ false → is_digit b ≡ true → n ≡ suc (run_len is_digit bs) → IsFirst (b ∷ bs) n Number
+pub number_first : (b : ℕ) (bs : List ℕ) (n : ℕ) → is_letter b ≡ false → is_digit b ≡ true → n ≡ suc (run_len is_digit bs) → IsFirst (b ∷ bs) n Number
 number_first b bs n l d e =
     let go : IsFirst (b ∷ bs) (suc (run_len is_digit bs)) Number =
     record { some = omega arith; within = omega (arith, run_within is_digit bs); spelt = rw (l, d, every_front is_digit bs) refl; longest = λ m h w. number_longest b bs m l d h w } in
@@ -52,7 +52,7 @@ one_longest b (c ∷ x ∷ xs) l d e (suc (suc zero)) h w = rw (l, d, e) refl
 one_longest b (c ∷ x ∷ xs) l d e (suc (suc (suc m))) h w = rw (l, d) refl
 
 -- a sign of one byte, where two dots don't stand
-one_first : (b : ℕ) (bs : List ℕ) (k : Kind) → is_letter b ≡ false → is_digit b ≡ false → sign_of b ≡ Some k → begins_twice 46 (b ∷ bs) ≡ false → IsFirst (b ∷ bs) 1 k
+pub one_first : (b : ℕ) (bs : List ℕ) (k : Kind) → is_letter b ≡ false → is_digit b ≡ false → sign_of b ≡ Some k → begins_twice 46 (b ∷ bs) ≡ false → IsFirst (b ∷ bs) 1 k
 one_first b bs k l d s e = record { some = omega arith; within = omega arith; spelt = rw (l, d) s; longest = one_longest b bs l d e }
 
 -- more bytes than two dots are no token
@@ -73,7 +73,7 @@ two_first (b ∷ c ∷ cs) t =
     record { some = omega arith; within = omega arith; spelt = rw (l, d, t) refl; longest = two_longest b c cs l d }
 
 -- what begins no sign is no dot
-no_dot : (b : ℕ) → sign_of b ≡ None → (b == 46) ≡ false
+pub no_dot : (b : ℕ) → sign_of b ≡ None → (b == 46) ≡ false
 no_dot b s = grind (arith, nat_tests)
 
 -- a word at the front, by its first byte and the rest

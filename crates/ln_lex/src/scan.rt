@@ -1,5 +1,6 @@
 // The scanner.
 ghost use Rattle.std.specs.Prelude.{◌≡◌, ℕ, ◌+◌, ◌<◌, ◌≤◌, ◌^◌, false, List, All, IfErr, IfNone, IfOk, IfSome, drop, length};
+ghost use Rattle.ln_lex.specs.Answers.{IsAnswered};
 ghost use Rattle.ln_lex.specs.Tokens.{BeginsNone, IsFirst, IsLexFault, IsLexLimit, IsSlice, Lexed, RiseFrom, Skips, StopsLexing, begins_blank, begins_comment, comment_len, word_kind};
 ghost use Rattle.ln_lex.specs.declared.scan.LexStop.TheVariants.{NoMemory as OutOfMemory};
 ghost use Rattle.ln_lex.specs.declared.token.Token.{Token as Tok};
@@ -145,6 +146,13 @@ pub fn one_answer()
     ensures list_or_fault { (bytes : List ℕ) (ts : List Tok) (i : ℕ) → Lexed bytes ts → IsLexFault bytes i → ⊥ }
     ensures list_or_limit { (bytes : List ℕ) (ts : List Tok) (i : ℕ) → Lexed bytes ts → length ts ≤ 65536 → IsLexLimit bytes i → ⊥ }
     ensures fault_or_limit { (bytes : List ℕ) (i j : ℕ) → IsLexFault bytes i → IsLexLimit bytes j → ⊥ }
+{}
+
+/// A law: all bytes are tokens, or have a byte that begins none, or a token too many.
+///
+/// On it rests that every source has a table or a first fault.
+pub fn all_are_answered()
+    ensures { (bytes : List ℕ) → IsAnswered bytes }
 {}
 
 #[cfg(test)]

@@ -6,6 +6,7 @@ pub mod Putting
 pub mod LexBack
 pub mod WordTokens
 pub mod DeriveBack
+pub mod Either
 pub mod ItemsBack
 pub mod ClearText
 pub mod Meaning

@@ -1,5 +1,5 @@
 // Sources to tables.
-ghost use Rattle.std.specs.Prelude.{◌≡◌, ◌≤◌, ◌<◌, ◌^◌, ℕ, List, All, length, IfOk, IfErr};
+ghost use Rattle.std.specs.Prelude.{◌≡◌, ◌≤◌, ◌<◌, ◌^◌, ◌⊎◌, ℕ, List, All, length, IfOk, IfErr};
 ghost use Rattle.ln_lex.specs.Tokens.{IsSlice, Lexed};
 ghost use Rattle.ln_syntax.specs.Raw.{items};
 ghost use Rattle.ln_tree.specs.Table.{TableOf, table_of};
@@ -116,9 +116,10 @@ fn byte_at(at: u32) -> Span
     }
 }
 
-/// A law: a text has one table or one fault, and not both.
+/// A law: every text has one table or one first fault, and not both.
 pub fn one_answer()
     ensures table { (bytes : List ℕ) (t u : TableOf) → TextOf bytes t → TextOf bytes u → t ≡ u }
     ensures fault { (bytes : List ℕ) (e f : Stop) → TextFault bytes e → TextFault bytes f → e ≡ f }
     ensures not_both { (bytes : List ℕ) (t : TableOf) (e : Stop) → TextOf bytes t → TextFault bytes e → ⊥ }
+    ensures either { (bytes : List ℕ) → ((t : TableOf) × TextOf bytes t) ⊎ ((e : Stop) × TextFault bytes e) }
 {}

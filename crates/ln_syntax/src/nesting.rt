@@ -1,5 +1,5 @@
 // The check on nesting: no parenthesis is nested deeper than 64, so that what reads expressions may recurse.
-ghost use Rattle.std.specs.Prelude.{◌≡◌, ◌<◌, ◌≤◌, ◌^◌, length, IfSome, IfNone, ℕ, List};
+ghost use Rattle.std.specs.Prelude.{◌≡◌, ◌<◌, ◌≤◌, ◌^◌, length, IfSome, IfNone, ◌⊎◌, ℕ, List};
 ghost use Rattle.ln_lex.specs.declared.token.Token.{Token as AToken};
 ghost use Rattle.ln_lex.specs.declared.token.Kind.TheVariants.{ParL};
 ghost use Rattle.ln_syntax.specs.Place.{depth_behind, IsShallow, IsNestingFault};
@@ -47,4 +47,5 @@ pub fn nesting_fault(ts: &[Token]) -> Option<usize>
 pub fn one_depth()
     ensures place { (ts : List AToken) (i j : ℕ) → IsNestingFault ts i → IsNestingFault ts j → i ≡ j }
     ensures none { (ts : List AToken) (i : ℕ) → IsNestingFault ts i → IsShallow ts → ⊥ }
+    ensures either { (ts : List AToken) → ((i : ℕ) × IsNestingFault ts i) ⊎ IsShallow ts }
 {}

@@ -1,5 +1,5 @@
 // The place of a syntax fault: the tokens are recognised in one loop, and no tree is built.
-ghost use Rattle.std.specs.Prelude.{◌≡◌, ◌<◌, ◌^◌, length, IfSome, IfNone, ◌+◌, ◌≤◌, ℕ, List};
+ghost use Rattle.std.specs.Prelude.{◌≡◌, ◌<◌, ◌^◌, length, IfSome, IfNone, ◌⊎◌, ◌+◌, ◌≤◌, ℕ, List};
 ghost use Rattle.ln_lex.specs.declared.token.Token.{Token as AToken};
 ghost use Rattle.ln_syntax.specs.Place.{IsText, IsSyntaxFault};
 ghost use Rattle.ln_syntax.specs.Automaton.{next_of, behind, closed, ended, range_ended, is_end};
@@ -198,4 +198,5 @@ pub fn syntax_fault(ts: &[Token]) -> Option<usize>
 pub fn one_place()
     ensures place { (ts : List AToken) (i j : ℕ) → IsSyntaxFault ts i → IsSyntaxFault ts j → i ≡ j }
     ensures none { (ts : List AToken) (i : ℕ) → IsSyntaxFault ts i → IsText ts → ⊥ }
+    ensures either { (ts : List AToken) → ((i : ℕ) × IsSyntaxFault ts i) ⊎ IsText ts }
 {}

@@ -1,3 +1,4 @@
+use Rattle.ln_parse.proofs.Either.{either}
 use Rattle.ln_parse.proofs.OneAnswer.{one_table, one_fault, no_fault}
 use Rattle.ln_parse.proofs.source.one_answer.Goals as goal
 
@@ -9,3 +10,6 @@ returns-clause-fault c bytes e f a b = one_fault bytes a b
 
 pub returns-clause-not_both : goal.returns-clause-not_both
 returns-clause-not_both c bytes t e a b = no_fault bytes t a b
+
+pub returns-clause-either : goal.returns-clause-either
+returns-clause-either c = either

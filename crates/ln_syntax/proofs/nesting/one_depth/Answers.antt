@@ -1,3 +1,4 @@
+use Rattle.ln_syntax.proofs.Either.{either_depth}
 use Rattle.ln_syntax.proofs.Depth.{one_depth, no_depth}
 use Rattle.ln_syntax.proofs.nesting.one_depth.Goals as goal
 
@@ -6,3 +7,6 @@ returns-clause-place c = one_depth
 
 pub returns-clause-none : goal.returns-clause-none
 returns-clause-none c = no_depth
+
+pub returns-clause-either : goal.returns-clause-either
+returns-clause-either c = either_depth

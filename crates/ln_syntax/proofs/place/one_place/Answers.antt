@@ -1,3 +1,4 @@
+use Rattle.ln_syntax.proofs.Either.{either_place}
 use Rattle.ln_syntax.proofs.Fault.{one_place, no_text}
 use Rattle.ln_syntax.proofs.place.one_place.Goals as goal
 
@@ -6,3 +7,6 @@ returns-clause-place c = one_place
 
 pub returns-clause-none : goal.returns-clause-none
 returns-clause-none c = no_text
+
+pub returns-clause-either : goal.returns-clause-either
+returns-clause-either c = either_place
