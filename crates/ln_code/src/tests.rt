@@ -219,42 +219,42 @@ fn points_turn_left_by_block_0(rt: HostRuntime) -> Result<(), Fail> {
         wide: 0,
         calls: 1,
     };
-    assert_eq!(rt; answered(rt.alloc(), None)?, left);
+    assert!(rt; answered(rt.alloc(), None)? == left);
     Ok(())
 }
 
 #[test]
 fn a_filter_without_errors_decides(rt: HostRuntime) -> Result<(), Fail> {
     let f = filter(rt.alloc())?;
-    assert_eq!(rt; f.ops().len(), 15);
-    assert_eq!(rt; f.triples().last(), Some(&uncut(8000000)));
+    assert!(rt; f.ops().len() == 15);
+    assert!(rt; f.triples().last() == Some(&uncut(8000000)));
     let left = Verdict {
         sign: Sign::Plus,
         by: By::Filter,
         wide: 0,
         calls: 1,
     };
-    assert_eq!(rt; answered(rt.alloc(), Some(f))?, left);
+    assert!(rt; answered(rt.alloc(), Some(f))? == left);
     Ok(())
 }
 
 #[test]
 fn a_program_lists_its_blocks(rt: HostRuntime) -> Result<(), Fail> {
     let p = program(rt.alloc(), None)?;
-    assert_eq!(rt; p.shape().sites, 3);
+    assert!(rt; p.shape().sites == 3);
     assert!(rt; p.filter().is_none());
-    assert_eq!(rt; p.blocks().len(), 1);
+    assert!(rt; p.blocks().len() == 1);
     for block in p.blocks() {
         assert!(rt; block.exps().pairs().is_empty());
-        assert_eq!(rt; block.ops().len(), 15);
-        assert_eq!(rt; block.bounds().last(), Some(&8000000));
+        assert!(rt; block.ops().len() == 15);
+        assert!(rt; block.bounds().last() == Some(&8000000));
     }
     match order_of(&[2, 1, 3]) {
-        Ok(order) => assert_eq!(rt; p.list(&order), [0u32].as_slice()),
+        Ok(order) => assert!(rt; p.list(&order) == [0u32].as_slice()),
         Err(_) => assert!(rt; false),
     }
     let mut programs = Programs::new(rt.alloc());
     programs.push(p)?;
-    assert_eq!(rt; programs.as_slice().len(), 1);
+    assert!(rt; programs.as_slice().len() == 1);
     Ok(())
 }

@@ -123,8 +123,8 @@ fn a_difference_aligns_its_operands(rt: HostRuntime) -> Result<(), Fail> {
     };
     assert!(rt; filter.is_some());
     if let Some(f) = filter {
-        assert_eq!(rt; f.ops(), ops.as_slice());
-        assert_eq!(rt; f.triples()[3], last);
+        assert!(rt; f.ops() == ops.as_slice());
+        assert!(rt; f.triples()[3] == last);
     }
     Ok(())
 }
@@ -144,7 +144,7 @@ fn a_power_keeps_its_base(rt: HostRuntime) -> Result<(), Fail> {
     ];
     assert!(rt; filter.is_some());
     if let Some(f) = filter {
-        assert_eq!(rt; f.ops(), ops.as_slice());
+        assert!(rt; f.ops() == ops.as_slice());
     }
     Ok(())
 }

@@ -133,14 +133,14 @@ mod tests {
             kind: span(13, 16),
             is_param: false,
         };
-        assert_eq!(rt; site_at(bytes, &[param, site], span(0, 1)), Some(1));
-        assert_eq!(rt; param_at(bytes, &[param, site], span(0, 1)), Some(0));
+        assert!(rt; site_at(bytes, &[param, site], span(0, 1)) == Some(1));
+        assert!(rt; param_at(bytes, &[param, site], span(0, 1)) == Some(0));
     }
 
     #[test]
     fn numbers_have_leading_zeros(rt: HostRuntime) {
         let at = span(0, 3);
-        assert_eq!(rt; literal(b"012", at), 12);
-        assert_eq!(rt; end_of(b"012", RawEnd { negative: true, at }), -12);
+        assert!(rt; literal(b"012", at) == 12);
+        assert!(rt; end_of(b"012", RawEnd { negative: true, at }) == -12);
     }
 }

@@ -330,7 +330,7 @@ mod tests {
             fault: Fault::Limit(LimitWhat::NameLength),
             at: name,
         };
-        assert_eq!(rt; check_names(bytes, &[], &its), Err(found));
+        assert!(rt; check_names(bytes, &[], &its) == Err(found));
     }
 
     #[test]
@@ -340,7 +340,7 @@ mod tests {
             fault: Fault::Limit(LimitWhat::RangeEnd),
             at: span(14, 15),
         };
-        assert_eq!(rt; check_names(b"param a: 2 .. 1;", &[], &its), Err(found));
-        assert_eq!(rt; check_names(b"param a: 1 .. 2;", &[], &its), Ok(()));
+        assert!(rt; check_names(b"param a: 2 .. 1;", &[], &its) == Err(found));
+        assert!(rt; check_names(b"param a: 1 .. 2;", &[], &its) == Ok(()));
     }
 }

@@ -46,8 +46,8 @@ fn doubled(alloc: Global) -> Result<Fitted, NoMemory> {
 #[test]
 fn twice_a_number_is_a_product_within_20(rt: HostRuntime) -> Result<(), Fail> {
     let t = doubled(rt.alloc())?;
-    assert_eq!(rt; t.bound, 20);
-    assert_eq!(rt; t.width, Width::W64);
+    assert!(rt; t.bound == 20);
+    assert!(rt; t.width == Width::W64);
     assert!(rt; matches!(t.op, FitOp::Mul(_, _)));
     Ok(())
 }

@@ -21,6 +21,8 @@ pub use infinitesimals::{
 };
 pub use order::Order;
 pub use orders::{all_orders, orders_are_all};
-pub use prefix::{all_prefixes, fronts_are_prefixes, fronts_follow, prefix_number, prefixes_are_all};
+pub use prefix::{
+    all_prefixes, fronts_are_prefixes, fronts_follow, prefix_number, prefixes_are_all,
+};
 pub use rank::order_of;
 pub use rows::{row_sign_is_unique, rows_have_one_order, sites_differ, stages_are_those_of_rows};

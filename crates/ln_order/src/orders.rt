@@ -96,10 +96,10 @@ mod tests {
         let all = all_orders(rt.alloc(), 2)?;
         match all.as_slice() {
             [a, b] => {
-                assert_eq!(rt; a.places(), [0u8, 1].as_slice());
-                assert_eq!(rt; b.places(), [1u8, 0].as_slice());
-                assert_eq!(rt; a.number(), 0);
-                assert_eq!(rt; b.number(), 1);
+                assert!(rt; a.places() == [0u8, 1].as_slice());
+                assert!(rt; b.places() == [1u8, 0].as_slice());
+                assert!(rt; a.number() == 0);
+                assert!(rt; b.number() == 1);
             }
             _ => assert!(rt; false),
         }

@@ -90,40 +90,34 @@ fn site_arg(a: &Arg) -> Option<(&[u8], u8)> {
 #[test]
 fn a_source_has_its_table(rt: HostRuntime) -> Result<(), Fail> {
     let table = parsed(&rt, rt.alloc(), ORIENT)?;
-    assert_eq!(rt; table.sites.len(), 1);
+    assert!(rt; table.sites.len() == 1);
     let site = &table.sites.as_slice()[0];
-    assert_eq!(rt; site.name.bytes(), b"point".as_slice());
-    assert_eq!(rt; site.coords.len(), 2);
+    assert!(rt; site.name.bytes() == b"point".as_slice());
+    assert!(rt; site.coords.len() == 2);
     let y = site.coords.as_slice()[1];
-    assert_eq!(rt;
-        (y.name.bytes(), y.lo, y.hi),
-        (b"y".as_slice(), -1000, 1000)
-    );
-    assert_eq!(rt; table.preds.len(), 1);
+    assert!(rt; (y.name.bytes(), y.lo, y.hi) == (b"y".as_slice(), -1000, 1000));
+    assert!(rt; table.preds.len() == 1);
     let pred = &table.preds.as_slice()[0];
-    assert_eq!(rt; pred.name.bytes(), b"orient".as_slice());
-    assert_eq!(rt; pred.args.len(), 3);
-    assert_eq!(rt; (pred.shape.sites, pred.shape.vars.len()), (3, 6));
-    assert_eq!(rt;
-        site_arg(&pred.args.as_slice()[2]),
-        Some((b"r".as_slice(), 0))
-    );
+    assert!(rt; pred.name.bytes() == b"orient".as_slice());
+    assert!(rt; pred.args.len() == 3);
+    assert!(rt; (pred.shape.sites, pred.shape.vars.len()) == (3, 6));
+    assert!(rt; site_arg(&pred.args.as_slice()[2]) == Some((b"r".as_slice(), 0)));
     // The root is the difference: q.y - r.y is the second factor of its left side.
-    assert_eq!(rt; second_factor(&pred.root), Some(((1, 1), (2, 1))));
+    assert!(rt; second_factor(&pred.root) == Some(((1, 1), (2, 1))));
     Ok(())
 }
 
 #[test]
 fn powers_lets_minus_and_params_are_in_the_table(rt: HostRuntime) -> Result<(), Fail> {
     let table = parsed(&rt, rt.alloc(), SQUARES)?;
-    assert_eq!(rt; table.preds.len(), 1);
+    assert!(rt; table.preds.len() == 1);
     let root = &table.preds.as_slice()[0].root;
-    assert_eq!(rt; powers(root), Some((((0, 0), 2), ((1, 0), 2))));
+    assert!(rt; powers(root) == Some((((0, 0), 2), ((1, 0), 2))));
     let table = parsed(&rt, rt.alloc(), SCALED)?;
-    assert_eq!(rt; table.preds.len(), 1);
+    assert!(rt; table.preds.len() == 1);
     let pred = &table.preds.as_slice()[0];
-    assert_eq!(rt; pred.lets.len(), 1);
-    assert_eq!(rt; negated_power(&pred.lets.as_slice()[0]), Some(((1, 0), 2)));
-    assert_eq!(rt; times_let(&pred.root), Some(((0, 0), 0)));
+    assert!(rt; pred.lets.len() == 1);
+    assert!(rt; negated_power(&pred.lets.as_slice()[0]) == Some(((1, 0), 2)));
+    assert!(rt; times_let(&pred.root) == Some(((0, 0), 0)));
     Ok(())
 }

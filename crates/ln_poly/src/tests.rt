@@ -67,6 +67,6 @@ fn of_cube(alloc: Global) -> Result<(Poly, Option<u128>), NoMemory> {
 fn derivatives_are_scaled(rt: HostRuntime) -> Result<(), Fail> {
     let (second, w) = of_cube(rt.alloc())?;
     assert!(rt; is_power(&second, 1, 3));
-    assert_eq!(rt; w, Some(1_000_000_000));
+    assert!(rt; w == Some(1_000_000_000));
     Ok(())
 }

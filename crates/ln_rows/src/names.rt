@@ -230,11 +230,11 @@ mod tests {
             preds,
         };
         let q = Arg::Site(Name::of(b"q"), 0);
-        assert_eq!(rt; arg_column(alloc, &t, &q, 1)?.as_slice(), b"q.x".as_slice());
+        assert!(rt; arg_column(alloc, &t, &q, 1)?.as_slice() == b"q.x".as_slice());
         let mut fields = ByteRecord::new(alloc);
         fields.push_field(b"q")?;
         fields.push_field(b"q.x")?;
-        assert_eq!(rt; past_arg(&fields, 0, &t, &q), Some(2));
+        assert!(rt; past_arg(&fields, 0, &t, &q) == Some(2));
         Ok(())
     }
 }

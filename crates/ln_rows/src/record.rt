@@ -200,7 +200,7 @@ mod tests {
             Err(RowStop::Range(0)),
         ] {
             assert!(rt; rows.next(&mut record)?);
-            assert_eq!(rt; row_over(&vars, 3, &record).map(|r| r.values[1]), want);
+            assert!(rt; row_over(&vars, 3, &record).map(|r| r.values[1]) == want);
         }
         Ok(())
     }

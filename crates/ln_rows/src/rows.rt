@@ -60,9 +60,9 @@ mod tests {
         let mut rows = Rows::new(alloc, b"a\nb,c\n");
         let mut record = ByteRecord::new(alloc);
         assert!(rt; rows.next(&mut record)?);
-        assert_eq!(rt; record.len(), 1);
+        assert!(rt; record.len() == 1);
         assert!(rt; rows.next(&mut record)?);
-        assert_eq!(rt; record.len(), 2);
+        assert!(rt; record.len() == 2);
         assert!(rt; !rows.next(&mut record)?);
         Ok(())
     }

@@ -282,28 +282,28 @@ mod tests {
             return Ok(());
         }
         let read = read_items(alloc, ts.as_slice())?;
-        assert_eq!(rt; read.len(), 3);
+        assert!(rt; read.len() == 3);
         for item in &read {
             match item {
                 RawItem::Site(name, coords) => {
-                    assert_eq!(rt; *name, span(5, 6));
-                    assert_eq!(rt; coords.len(), 1);
-                    assert_eq!(rt; coords[0].name, span(9, 10));
+                    assert!(rt; *name == span(5, 6));
+                    assert!(rt; coords.len() == 1);
+                    assert!(rt; coords[0].name == span(9, 10));
                     assert!(rt; coords[0].range.low.negative);
                     assert!(rt; !coords[0].range.high.negative);
                 }
                 RawItem::Param(name, range) => {
-                    assert_eq!(rt; *name, span(29, 30));
-                    assert_eq!(rt; range.low.at, span(32, 33));
-                    assert_eq!(rt; range.high.at, span(37, 38));
+                    assert!(rt; *name == span(29, 30));
+                    assert!(rt; range.low.at == span(32, 33));
+                    assert!(rt; range.high.at == span(37, 38));
                 }
                 RawItem::Pred(name, args, lets, root) => {
-                    assert_eq!(rt; *name, span(50, 51));
-                    assert_eq!(rt; args.len(), 2);
+                    assert!(rt; *name == span(50, 51));
+                    assert!(rt; args.len() == 2);
                     assert!(rt; !args[0].is_param && args[1].is_param);
-                    assert_eq!(rt; lets.len(), 1);
-                    assert_eq!(rt; (lets[0].value.from, lets[0].value.to), (33, 38));
-                    assert_eq!(rt; (root.from, root.to), (40, 42));
+                    assert!(rt; lets.len() == 1);
+                    assert!(rt; (lets[0].value.from, lets[0].value.to) == (33, 38));
+                    assert!(rt; (root.from, root.to) == (40, 42));
                 }
             }
         }
