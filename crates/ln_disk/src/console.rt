@@ -1,16 +1,20 @@
 //! The two ports of a process.
-ghost use Rattle.std.specs.Prelude.{◌≡◌, ◌≤◌, ◌<◌, None, length, IfOk};
+ghost use Rattle.std.specs.Prelude.{◌≡◌, ◌≤◌, ◌<◌, None, length, take, IfOk, OnOk, OnErr};
 ghost use Rattle.std.specs.Io.{WritesAtMost};
+ghost use Rattle.std.specs.Io.KnownBytes.{Appends};
+ghost use Rattle.ln_base.specs.Outside.{Rose, counted};
+ghost use Rattle.ln_disk.specs.Flow.{AppendsFront, Goes};
 
 use ln_base::{Console, Failed, Port};
-use std::io::Write;
+use std::io::{ErrorKind, Write};
 
-/// Two writers, one for each port.
+/// Two writers, one for each port. A put is written and flushed; where its flush fails, it failed, though the writer took
+/// its bytes. Of writers whose bytes are known, `put` says which bytes they took.
 #[derive(Drop)]
 pub struct StdConsole<O, E> {
-    out: O,
-    err: E,
-    faults: u64,
+    pub(crate) out: O,
+    pub(crate) err: E,
+    pub(crate) faults: u64,
 }
 
 impl<O: Write, E: Write> StdConsole<O, E> {
@@ -26,24 +30,43 @@ impl<O: Write, E: Write> StdConsole<O, E> {
     }
 }
 
+// One write, again where a signal interrupts it, and how many bytes it took; at an error none.
+fn write_once<W: Write>(to: &mut W, bytes: &[u8]) -> usize
+    ensures bound { result ≤ length bytes.now }
+    ensures bytes { Appends (W.contents to.old) (W.contents to.new) (take result bytes.now) }
+{
+    for _ in 0..u64::MAX {
+        match to.write(bytes) {
+            Ok(n) => return n,
+            Err(e) if e.kind() == ErrorKind::Interrupted => {}
+            Err(_) => return 0,
+        }
+    }
+    0
+}
+
 // Writes until the bytes are at their end or a write takes none of them, and answers how many were taken.
 fn write_some<W: Write>(to: &mut W, bytes: &[u8]) -> usize
-    ensures { result ≤ length bytes.now }
+    ensures bound { result ≤ length bytes.now }
+    ensures bytes { Appends (W.contents to.old) (W.contents to.new) (take result bytes.now) }
 {
     let mut done = 0usize;
     while done < bytes.len() {
-        match to.write(&bytes[done..]) {
-            Ok(n) if n > 0 => done += n,
-            _ => return done,
+        let n = write_once(to, &bytes[done..]);
+        if n == 0 {
+            return done;
         }
+        done += n;
     }
     done
 }
 
-// Writes and flushes. That nothing is taken of some bytes is a fault.
+// Writes and flushes. That nothing is taken of some bytes is a fault, and so is a flush that fails.
 fn put_on<W: Write>(to: &mut W, bytes: &[u8]) -> Result<usize, Failed>
     ensures bound { WritesAtMost result bytes.now }
     ensures some { IfOk result (λ n. 0 < length bytes.now → 0 < n) }
+    ensures bytes { IfOk result (λ n. Appends (W.contents to.old) (W.contents to.new) (take n bytes.now)) }
+    ensures front { OnErr result (AppendsFront (W.contents to.old) (W.contents to.new) bytes.now) }
 {
     let done = write_some(to, bytes);
     if done == 0 && !bytes.is_empty() {
@@ -60,7 +83,15 @@ impl<O: Write, E: Write> Console for StdConsole<O, E> {
 
     ghost faults = { λ c. c.faults };
 
-    fn put(&mut self, port: Port, bytes: &[u8]) -> Result<usize, Failed> {
+    fn put(&mut self, port: Port, bytes: &[u8]) -> Result<usize, Failed>
+        ensures bound { WritesAtMost result bytes.now }
+        ensures some { IfOk result (λ n. 0 < length bytes.now → 0 < n) }
+        ensures later { self.old.faults ≤ self.new.faults }
+        ensures cause { OnErr result (Rose self.old.faults self.new.faults) }
+        ensures step { OnErr result (self.new.faults ≡ counted self.old.faults) }
+        ensures fine { OnOk result (self.new.faults ≡ self.old.faults) }
+        ensures goes { Goes result bytes.now port (O.contents self.old.out) (O.contents self.new.out) (E.contents self.old.err) (E.contents self.new.err) }
+    {
         let put = match port {
             Port::Out => put_on(&mut self.out, bytes),
             Port::Err => put_on(&mut self.err, bytes),
@@ -69,56 +100,5 @@ impl<O: Write, E: Write> Console for StdConsole<O, E> {
             self.faults = self.faults.saturating_add(1);
         }
         put
-    }
-}
-
-#[cfg(test)]
-mod tests {
-    use super::*;
-    use ln_base::put_all;
-    use std::io;
-    use std::test::Fail;
-
-    // A writer that takes at most two bytes at once, and five in all.
-    #[derive(Drop)]
-    struct Narrow {
-        held: [u8; 5],
-        len: usize,
-    }
-
-    impl Narrow {
-        fn new() -> Narrow {
-            Narrow {
-                held: [0; 5],
-                len: 0,
-            }
-        }
-    }
-
-    impl Write for Narrow {
-        fn write(&mut self, buf: &[u8]) -> io::Result<usize> {
-            let from = self.len.min(5);
-            let taken = buf.len().min(2).min(5 - from);
-            self.held[from..from + taken].copy_from_slice(&buf[..taken]);
-            self.len = from + taken;
-            Ok(taken)
-        }
-
-        fn flush(&mut self) -> io::Result<()> {
-            Ok(())
-        }
-    }
-
-    #[test]
-    fn all_bytes_are_written_to_their_port(rt: HostRuntime) -> Result<(), Fail> {
-        let mut con = StdConsole::new(Narrow::new(), Narrow::new());
-        assert_eq!(rt; put_all(&mut con, Port::Err, b"error"), Ok(()));
-        assert_eq!(rt; con.put(Port::Out, b"+ 0"), Ok(3));
-        assert_eq!(rt; con.put(Port::Out, b"- 0"), Ok(2));
-        assert_eq!(rt; con.put(Port::Out, b"0"), Err(Failed));
-        assert_eq!(rt; con.out.held.as_slice(), b"+ 0- ".as_slice());
-        assert_eq!(rt; con.err.held.as_slice(), b"error".as_slice());
-        assert_eq!(rt; con.faults, 1);
-        Ok(())
     }
 }

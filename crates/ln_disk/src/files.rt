@@ -1,9 +1,11 @@
 //! Files on a disk.
-ghost use Rattle.std.specs.Prelude.{◌≡◌, None};
+ghost use Rattle.std.specs.Prelude.{◌≡◌, ◌<◌, None, length, take, IfOk, OnOk};
 ghost use Rattle.std.specs.Io.{ReadsAtMost};
+ghost use Rattle.std.specs.Io.KnownBytes.{Consumes, IsAtEnd};
+ghost use Rattle.ln_disk.specs.Flow.{Passes};
 
 use ln_base::{Failed, Files};
-use std::io::Read;
+use std::io::{ErrorKind, Read};
 use std::{fs, rt};
 
 // A file by its name, of which the bytes before `at` are read.
@@ -19,7 +21,7 @@ struct Open<T> {
 pub struct DiskFiles<'a, R: rt::Files + AllocGlobal> {
     rt: &'a R,
     open: Option<Open<R::File>>,
-    faults: u64,
+    pub(crate) faults: u64,
 }
 
 impl<'a, R: rt::Files + AllocGlobal> DiskFiles<'a, R> {
@@ -35,16 +37,35 @@ impl<'a, R: rt::Files + AllocGlobal> DiskFiles<'a, R> {
     }
 }
 
-// Reads past that many bytes, or to the end.
-fn skip<T: Read>(file: &mut T, mut left: u64) -> Result<(), Failed> {
-    let mut buf = [0u8; 4096];
-    while left > 0 {
-        let most = left.min(4096) as usize;
-        match file.read(&mut buf[..most]) {
-            Ok(0) => return Ok(()),
-            Ok(n) => left -= n as u64,
+// One read, again where a signal interrupts it.
+fn read_once<T: Read>(file: &mut T, buf: &mut [u8]) -> Result<usize, Failed>
+    ensures bound { ReadsAtMost result buf.new }
+    ensures bytes { IfOk result (λ n. Consumes (T.remaining file.old) (T.remaining file.new) (take n buf.new)) }
+    ensures end { IfOk result (λ n. n ≡ 0 → 0 < length buf.old → IsAtEnd (T.remaining file.new)) }
+{
+    for _ in 0..u64::MAX {
+        match file.read(buf) {
+            Ok(n) => return Ok(n),
+            Err(e) if e.kind() == ErrorKind::Interrupted => {}
             Err(_) => return Err(Failed),
         }
+    }
+    Err(Failed)
+}
+
+// Reads past that many bytes, or to the end.
+fn skip<T: Read>(file: &mut T, count: u64) -> Result<(), Failed>
+    ensures { OnOk result (Passes (T.remaining file.old) (T.remaining file.new) count) }
+{
+    let mut buf = [0u8; 4096];
+    let mut done = 0u64;
+    while done < count {
+        let most = (count - done).min(4096) as usize;
+        let n = read_once(file, &mut buf[..most])?;
+        if n == 0 {
+            return Ok(());
+        }
+        done += n as u64;
     }
     Ok(())
 }
@@ -83,14 +104,12 @@ fn read_from<R: rt::Files + AllocGlobal>(
         Some(held) if held.at == at && held.name.as_str() == name => held,
         _ => open_at(rt, name, at)?,
     };
-    match now.file.read(buf) {
-        Ok(n) => {
-            now.at = now.at.saturating_add(n as u64);
-            *open = Some(now);
-            Ok(n)
-        }
-        Err(_) => Err(Failed),
+    let n = read_once(&mut now.file, buf)?;
+    if let Some(next) = now.at.checked_add(n as u64) {
+        now.at = next;
+        *open = Some(now);
     }
+    Ok(n)
 }
 
 impl<R: rt::Files + AllocGlobal> Files for DiskFiles<'_, R> {
@@ -104,32 +123,5 @@ impl<R: rt::Files + AllocGlobal> Files for DiskFiles<'_, R> {
             self.faults = self.faults.saturating_add(1);
         }
         read
-    }
-}
-
-#[cfg(test)]
-mod tests {
-    use super::*;
-    use ln_base::{ReadStop, read_whole};
-    use std::process;
-    use std::test::Fail;
-
-    #[test]
-    fn a_file_is_read_whole_and_from_a_place(rt: HostRuntime) -> Result<(), Fail> {
-        let alloc = rt.alloc();
-        let id = process::id(rt.process());
-        let name = format!(in alloc; "/tmp/ln_disk_{id}.txt")?;
-        fs::write(&rt, name.as_str(), b"orient")?;
-        let mut files = DiskFiles::new(&rt);
-        let whole = read_whole(alloc, &mut files, name.as_str(), 6)?;
-        let mut end = [0u8; 4];
-        let count = files.read_at(name.as_str(), 2, &mut end);
-        fs::remove_file(&rt, name.as_str())?;
-        assert_eq!(rt; whole.as_slice(), b"orient".as_slice());
-        assert_eq!(rt; count, Ok(4));
-        assert_eq!(rt; end.as_slice(), b"ient".as_slice());
-        let gone = read_whole(alloc, &mut files, name.as_str(), 6);
-        assert_eq!(rt; gone.err(), Some(ReadStop::Fault));
-        Ok(())
     }
 }

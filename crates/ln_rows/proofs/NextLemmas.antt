@@ -11,7 +11,7 @@ use Rattle.csv.specs.Reading.{records_from, records_next, default_config, ReadsN
 use Rattle.csv.specs.declared.parser.Config.{Config}
 use Rattle.csv.specs.declared.parser.State.{State}
 use Rattle.csv.specs.declared.parser.State.TheVariants as st
-use Rattle.ln_rows.specs.Left.{Records, records_of, left_in, Takes}
+use Rattle.ln_rows.specs.Left.{Records, records_of, left_in, left_unless, Takes}
 
 -- behind a record fewer bytes are left, or none and the start of a record
 IsShorter : List ℕ → Read → Type 0
@@ -103,3 +103,18 @@ takes_none a found old new fields v h f = rw f (sym v ∙ rw h refl)
 -- the records that are left by another name
 pub takes_named : (a : Reader (Bor (List ℕ))) (found : Bool) (old new : Records) (fields : List (List ℕ)) → left_in a ≡ old → Takes found (left_in a) new fields → Takes found old new fields
 takes_named a found old new fields v h = subst (λ (l : Records). Takes found l new fields) v h
+
+-- a reader whose end wasn't told has what it has left
+pub left_before : (done : Bool) (a : Reader (Bor (List ℕ))) (old : Records) → left_unless done a ≡ old → done ≡ false → left_in a ≡ old
+left_before true a old v e = absurd (cc)
+left_before false a old v e = v
+
+-- once the end is told nothing is left
+pub takes_told : (found : Bool) (old : Records) (b : Reader (Bor (List ℕ))) (fields : List (List ℕ)) → Takes found old (left_in b) fields → Takes found old (left_unless (not found) b) fields
+takes_told true old b fields h = h
+takes_told false old b fields h = h
+
+-- where the end is told nothing was left and nothing is
+pub ends_told : (found : Bool) (old : Records) (b : Reader (Bor (List ℕ))) (fields : List (List ℕ)) → Takes found old (left_unless (not found) b) fields → found ≡ false → (old ≡ []) × (left_unless (not found) b ≡ [])
+ends_told true old b fields h e = absurd (cc)
+ends_told false old b fields h e = (h, refl)

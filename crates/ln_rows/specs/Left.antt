@@ -1,5 +1,5 @@
 -- The records that a reader of bytes in memory has left.
-use Rattle.std.specs.Prelude.{◌≡◌, ◌⊎◌, ℕ, ◌+◌, ◌∷◌, Bool, true, false, ◌||◌, ◌&&◌, not, is_none, List, [], length, Option, Some, None}
+use Rattle.std.specs.Prelude.{◌≡◌, ◌⊎◌, ℕ, ◌+◌, ◌∷◌, Bool, true, false, ◌||◌, ◌&&◌, not, is_none, if◌then◌else◌, List, [], length, Option, Some, None}
 use denote.Ref.{Bor}
 use Rattle.csv.specs.Reading.{records, records_from, default_config, source_of, has_failed, strip_bom}
 use Rattle.csv.specs.declared.parser.State.{State}
@@ -22,6 +22,10 @@ records_of s (Some xs) = records_from default_config (length xs + 1) s xs
 -- the records that a reader has left
 abbrev pub left_in : Reader (Bor (List ℕ)) → Records
 left_in r = records_of r.state (source_of (λ s. Some s.now) r)
+
+-- the records that are left, of which there are none once the end was told
+abbrev pub left_unless : Bool → Reader (Bor (List ℕ)) → Records
+left_unless done r = if done then [] else left_in r
 
 -- whether the next read is of one record
 abbrev pub is_ready : Reader (Bor (List ℕ)) → Bool

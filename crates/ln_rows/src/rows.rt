@@ -1,5 +1,5 @@
 // The records of a rows file.
-ghost use Rattle.std.specs.Prelude.{◌≡◌, [], ◌∷◌, IfOk, OnErr};
+ghost use Rattle.std.specs.Prelude.{◌≡◌, [], ◌∷◌, false, IfOk, OnErr};
 ghost use Rattle.csv.specs.Records.{fields_of};
 ghost use Rattle.ln_rows.specs.Left.{records_in, Takes};
 
@@ -13,14 +13,15 @@ use std::marker::Model;
 #[derive(Drop)]
 pub struct Rows<'a> {
     rdr: Reader<&'a [u8]>,
+    done: bool,
 }
 
 impl<'a> Model for Rows<'a> {
-    ghost use Rattle.ln_rows.specs.Left.{Records, IsReader, left_in};
+    ghost use Rattle.ln_rows.specs.Left.{Records, IsReader, left_unless};
 
     ghost Value = { Records };
 
-    ghost view = { λ r. left_in r.rdr };
+    ghost view = { λ r. left_unless r.done r.rdr };
 
     ghost invariant = { λ r. IsReader r.rdr };
 }
@@ -34,17 +35,23 @@ impl<'a> Rows<'a> {
             .has_headers(false)
             .flexible(true)
             .from_reader(alloc, bytes);
-        Rows { rdr }
+        Rows { rdr, done: false }
     }
 
-    /// The next record into `into`, and whether there was one. After `NoMemory` no record is left.
+    /// The next record into `into`, and whether there was one. At the end no record is left, before and after. After
+    /// `NoMemory` no record is left.
     pub fn next(&mut self, into: &mut ByteRecord) -> Result<bool, NoMemory>
         ensures takes { IfOk result (λ found. Takes found self.old self.new (fields_of into.new)) }
+        ensures end { IfOk result (λ found. found ≡ false → (self.old ≡ []) × (self.new ≡ [])) }
         ensures err { OnErr result (self.new ≡ []) }
     {
+        if self.done {
+            return Ok(false);
+        }
         let Ok(found) = self.rdr.read_byte_record(into) else {
             return Err(NoMemory);
         };
+        self.done = !found;
         Ok(found)
     }
 }
@@ -63,6 +70,7 @@ mod tests {
         assert!(rt; record.len() == 1);
         assert!(rt; rows.next(&mut record)?);
         assert!(rt; record.len() == 2);
+        assert!(rt; !rows.next(&mut record)?);
         assert!(rt; !rows.next(&mut record)?);
         Ok(())
     }

@@ -1,0 +1,56 @@
+-- What known bytes do over several writes and reads.
+use Rattle.std.proofs.Common.{◌≡◌, ℕ, ◌+◌, ◌-◌, ◌≤◌, List, [], ◌++◌, length, take, drop, refl, ap, sym, subst, ◌∙◌, arith, rules, Some, None, Option, append-nil, length-drop, drop_of_length-le}
+use Rattle.std.proofs.Math.Seq.{take-add, take-length, drop-append_seam}
+use Rattle.std.proofs.lemmas.List.{drop-drop}
+use Rattle.std.proofs.KnownBytes.{Appends-trans}
+use Rattle.std.specs.Io.KnownBytes.{Keeps, Appends, Consumes, IsAtEnd}
+use Rattle.ln_disk.specs.Flow.{Passes, AppendsFront}
+
+-- what was kept before a read counts for nothing
+pub kept_consumes : (a b c : Option (List ℕ)) (bs : List ℕ) → Keeps a b → Consumes b c bs → Consumes a c bs
+kept_consumes None b c bs k w = tt
+kept_consumes (Some xs) None c bs k w = absurd k
+kept_consumes (Some xs) (Some ys) c bs k w = subst (λ (zs : List ℕ). Consumes (Some zs) c bs) k w
+
+-- nor before a write
+pub kept_appends : (a b c : Option (List ℕ)) (bs : List ℕ) → Keeps a b → Appends b c bs → Appends a c bs
+kept_appends None b c bs k w = tt
+kept_appends (Some xs) None c bs k w = absurd k
+kept_appends (Some xs) (Some ys) c bs k w = subst (λ (zs : List ℕ). Appends (Some zs) c bs) k w
+
+-- where nothing was written, no bytes were appended
+pub kept_none : (a b : Option (List ℕ)) → Keeps a b → Appends a b []
+kept_none None b k = tt
+kept_none (Some xs) None k = absurd k
+kept_none (Some xs) (Some ys) k = k ∙ sym (append-nil xs)
+
+take_part : (bytes : List ℕ) (done n : ℕ) → take done bytes ++ take n (drop done bytes) ≡ take (done + n) bytes
+take_part bytes done n = rw take-add refl
+
+-- one more write behind the first `done` bytes
+pub writes_more : (a b c : Option (List ℕ)) (bytes : List ℕ) (done n : ℕ) → Appends a b (take done bytes) → Appends b c (take n (take (length bytes - done) (drop done bytes))) → Appends a c (take (done + n) bytes)
+writes_more a b c bytes done n f w =
+    let all : take (length bytes - done) (drop done bytes) ≡ drop done bytes = rw (← length-drop done bytes) (take-length (drop done bytes)) in
+    let v : Appends b c (take n (drop done bytes)) = subst (λ (r : List ℕ). Appends b c (take n r)) all w in
+    subst (λ (r : List ℕ). Appends a c r) (take_part bytes done n) (Appends-trans a b c (take done bytes) (take n (drop done bytes)) f v)
+
+short : (xs : List ℕ) (i : ℕ) → drop i xs ≡ [] → length xs ≤ i
+short xs i e =
+    let l : length xs - i ≡ 0 = sym (length-drop i xs) ∙ ap length e in
+    omega (arith, l)
+
+-- one more read behind the bytes that are passed over
+pub passes_more : (a b c : Option (List ℕ)) (bs : List ℕ) (done n : ℕ) → length bs ≡ n → Passes a b done → Consumes b c bs → Passes a c (done + n)
+passes_more None b c bs done n e p w = tt
+passes_more (Some xs) None c bs done n e p w = absurd p
+passes_more (Some xs) (Some ys) None bs done n e p w = absurd w
+passes_more (Some xs) (Some ys) (Some zs) bs done n e p w =
+    let gone : drop (length bs) ys ≡ zs = ap (drop (length bs)) w ∙ drop-append_seam bs zs in
+    sym gone ∙ ap (λ k. drop k ys) e ∙ ap (drop n) p ∙ drop-drop n done xs
+
+-- at the end all is passed over
+pub passes_end : (a b : Option (List ℕ)) (done count : ℕ) → done ≤ count → Passes a b done → IsAtEnd b → Passes a b count
+passes_end None b done count le p w = tt
+passes_end (Some xs) None done count le p w = absurd p
+passes_end (Some xs) (Some ys) done count le p w =
+    w ∙ sym (drop_of_length-le xs {i = count} (omega (arith, short xs done (sym p ∙ w), le)))
