@@ -5,3 +5,6 @@ pub mod RankLemmas
 pub mod RankingLemmas
 pub mod RowsLemmas
 pub mod SitesLemmas
+pub mod PrefixLemmas
+pub mod FrontLemmas
+pub mod FoundLemmas

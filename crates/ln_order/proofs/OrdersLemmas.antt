@@ -52,16 +52,16 @@ behind-places x o few p = record { within = within; differ = differ } where
       rw (at_past x o i d n, at_past x o j d m) (past-apart x (get_or o i d) (get_or o j d) ne)
 
 -- ---- what is in the list
-in-map : {A B : Type 0} (f : A → B) (xs : List A) (y : B) → Contains (map f xs) y → (x : A) × Contains xs x × (y ≡ f x)
+pub in-map : {A B : Type 0} (f : A → B) (xs : List A) (y : B) → Contains (map f xs) y → (x : A) × Contains xs x × (y ≡ f x)
 in-map f [] y c = absurd (omega (arith, c.1))
 in-map f (x ∷ xs) y (zero, l, e) = (x, (0, omega arith, refl), sym e)
 in-map f (x ∷ xs) y (suc k, l, e) = let r = in-map f xs y (k, omega (arith, l), e) in (r.0, (suc r.1.0, omega (arith, r.1.1), r.1.2), r.2)
 
-map-in : {A B : Type 0} (f : A → B) (xs : List A) (x : A) → Contains xs x → Contains (map f xs) (f x)
+pub map-in : {A B : Type 0} (f : A → B) (xs : List A) (x : A) → Contains xs x → Contains (map f xs) (f x)
 map-in f xs x (k, l, e) = (k, omega (arith, l, length-map xs f), get_or-map f xs k x (f x) l ∙ ap f e)
 
 -- each member has a first site and then an order of the others
-firsts-are : (n : ℕ) (os : List (List ℕ)) (y : List ℕ) → Contains (firsts n os) y → (x : ℕ) × (x < n) × ((o : List ℕ) × Contains os o × (y ≡ behind x o))
+pub firsts-are : (n : ℕ) (os : List (List ℕ)) (y : List ℕ) → Contains (firsts n os) y → (x : ℕ) × (x < n) × ((o : List ℕ) × Contains os o × (y ≡ behind x o))
 firsts-are zero os y c = absurd (omega (arith, c.1))
 firsts-are (suc n) os y c = go (firsts-are n os y) (Contains-append_cases (firsts n os) (map (behind n) os) y c) where
   go : (Contains (firsts n os) y → (x : ℕ) × (x < n) × ((o : List ℕ) × Contains os o × (y ≡ behind x o))) → Contains (firsts n os) y ⊎ Contains (map (behind n) os) y → (x : ℕ) × (x < suc n) × ((o : List ℕ) × Contains os o × (y ≡ behind x o))
@@ -69,7 +69,7 @@ firsts-are (suc n) os y c = go (firsts-are n os y) (Contains-append_cases (first
   go ih (inr h) = (n, omega arith, in-map (behind n) os y h)
 
 -- and each such is a member
-in-firsts : (n : ℕ) (os : List (List ℕ)) (x : ℕ) (o : List ℕ) → x < n → Contains os o → Contains (firsts n os) (behind x o)
+pub in-firsts : (n : ℕ) (os : List (List ℕ)) (x : ℕ) (o : List ℕ) → x < n → Contains os o → Contains (firsts n os) (behind x o)
 in-firsts zero os x o h c = absurd (omega arith)
 in-firsts (suc n) os x o h c = go (λ l. in-firsts n os x o l c) (cases_lt x n) where
   go : (x < n → Contains (firsts n os) (behind x o)) → (x < n) ⊎ (n ≤ x) → Contains (firsts (suc n) os) (behind x o)
@@ -120,7 +120,7 @@ module _ (x : ℕ) (o : List ℕ) (p : ArePlaces (x ∷ o)) where
   }
 
   -- behind x they are the order
-  behind-back : behind x (map (back x) o) ≡ x ∷ o
+  pub behind-back : behind x (map (back x) o) ≡ x ∷ o
   behind-back =
       ap (λ z. x ∷ z)
       (same_lists (map (past x) (map (back x) o)) o (length-map (map (back x) o) (past x) ∙ length-map o (back x))
@@ -138,21 +138,21 @@ is-member (suc k) (x ∷ o) p =
     rw (← behind-back x o p.each) (in-firsts (suc k) (orders_of k) x (map (back x) o) (omega (arith, p.each.within 0 0 (omega arith), p.size)) ih)
 
 -- ---- sorted
-abbrev is_less : Ordering → Bool
+abbrev pub is_less : Ordering → Bool
 is_less Less = true
 is_less Equal = false
 is_less Greater = false
 
-less_is : (o : Ordering) → is_less o ≡ true → o ≡ Less
+pub less_is : (o : Ordering) → is_less o ≡ true → o ≡ Less
 less_is Less e = refl
 less_is Equal e = cc
 less_is Greater e = cc
 
-abbrev before_all : List ℕ → List (List ℕ) → Bool
+abbrev pub before_all : List ℕ → List (List ℕ) → Bool
 before_all x [] = true
 before_all x (y ∷ ys) = is_less (slice_cmp nat_cmp x y) && before_all x ys
 
-abbrev are_sorted : List (List ℕ) → Bool
+abbrev pub are_sorted : List (List ℕ) → Bool
 are_sorted [] = true
 are_sorted (x ∷ xs) = before_all x xs && are_sorted xs
 
@@ -160,7 +160,7 @@ before_all_is : (x : List ℕ) (ys : List (List ℕ)) → before_all x ys ≡ tr
 before_all_is x [] h = tt
 before_all_is x (y ∷ ys) h = let p = and_parts (is_less (slice_cmp nat_cmp x y)) (before_all x ys) h in (less_is (slice_cmp nat_cmp x y) p.0, before_all_is x ys p.1)
 
-are_sorted_is : (xs : List (List ℕ)) → are_sorted xs ≡ true → IsStrictlySortedBy (slice_cmp nat_cmp) xs
+pub are_sorted_is : (xs : List (List ℕ)) → are_sorted xs ≡ true → IsStrictlySortedBy (slice_cmp nat_cmp) xs
 unfolding IsStrictlySortedBy
 are_sorted_is [] h = tt
 are_sorted_is (x ∷ xs) h = let p = and_parts (before_all x xs) (are_sorted xs) h in (before_all_is x xs p.0, are_sorted_is xs p.1)

@@ -4,13 +4,18 @@
 #![tactic(auto)]
 
 pub mod equal;
+pub mod found;
+pub mod front;
 pub mod infinitesimals;
 pub mod order;
 pub mod orders;
+pub mod prefix;
 pub mod rank;
 
 pub use equal::{Equal, first_equal};
+pub use front::Front;
 pub use infinitesimals::{earlier, exponent_of, orders_are_those_of_rows, ranking};
 pub use order::Order;
 pub use orders::{all_orders, orders_are_all};
+pub use prefix::{all_prefixes, fronts_are_prefixes, fronts_follow, prefix_number, prefixes_are_all};
 pub use rank::order_of;

@@ -8,7 +8,7 @@ use ln_base::{NoMemory, Seq};
 use std::alloc::Global;
 
 // The place, among all sites, of the one with this place among those other than the first.
-fn past(first: u8, place: u8) -> u8
+pub(crate) fn past(first: u8, place: u8) -> u8
     requires { place < 5 }
     ensures { result ≡ past first place }
 {
@@ -58,7 +58,7 @@ pub fn all_orders(alloc: Global, k: u8) -> Result<Seq<Order>, NoMemory>
 }
 
 // How many of these places are below one.
-fn smaller(first: u8, others: &[u8]) -> usize
+pub(crate) fn smaller(first: u8, others: &[u8]) -> usize
     ensures { result ≡ smaller_behind first others.now }
 {
     others.iter().filter(|place| **place < first).count()

@@ -1,0 +1,5 @@
+use Rattle.ln_order.proofs.PrefixLemmas.{fronts-are-prefixes}
+use Rattle.ln_order.proofs.prefix.fronts_are_prefixes.Goals as goal
+
+pub returns : goal.returns
+returns c = fronts-are-prefixes

@@ -1,0 +1,5 @@
+use Rattle.ln_order.proofs.PrefixLemmas.{fronts-follow}
+use Rattle.ln_order.proofs.prefix.fronts_follow.Goals as goal
+
+pub returns : goal.returns
+returns c = fronts-follow

@@ -1,0 +1,7 @@
+-- Prefixes of the program.
+use Rattle.std.specs.Prelude.{ℕ, List, take}
+use Rattle.ln_order.specs.declared.front.Front.{Front}
+
+-- the places of the sites of a prefix, the largest infinitesimals first
+abbrev pub front_places : Front → List ℕ
+front_places p = take p.len p.places
