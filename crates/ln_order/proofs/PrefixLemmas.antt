@@ -1,5 +1,5 @@
 -- Prefixes of orders: each is there, they are sorted, and each stands at its number.
-use Rattle.std.proofs.Common.{◌≡◌, ◌⊎◌, inl, inr, ℕ, zero, suc, ◌+◌, ◌*◌, ◌-◌, ◌<◌, ◌≤◌, Bool, true, false, eqb, List, [], ◌∷◌, length, map, get_or, take, drop, refl, sym, ◌∙◌, ap, arith, add-one, drop-cons, Option, Some, None, ◌&&◌}
+use Rattle.std.proofs.Common.{◌≡◌, ◌⊎◌, inl, inr, ℕ, zero, suc, ◌+◌, ◌*◌, ◌-◌, ◌<◌, ◌≤◌, Bool, true, false, cond, eqb, eq-eqb, List, [], ◌∷◌, length, map, get_or, take, drop, refl, sym, ◌∙◌, ap, arith, add-one, drop-cons, Option, Some, None, ◌&&◌}
 use Rattle.std.specs.Prelude.{Contains, nat_lt, slice_get}
 use Rattle.std.specs.Cmp.Lexicographic.{slice_cmp}
 use Rattle.std.specs.List.{AllByRecursion}
@@ -16,7 +16,7 @@ use Rattle.ln_algebra.specs.Vector.{same_vector}
 use Rattle.ln_order.specs.Order.{ArePlaces}
 use Rattle.ln_order.specs.Orders.{IsOrderOf, behind, firsts, orders_of, past, smaller_behind}
 use Rattle.ln_order.proofs.OrdersLemmas.{are_sorted, are_sorted_is, back, before_all, behind-back, behind-places, firsts-are, in-firsts, is-member, is_less, member-is, others-places}
-use Rattle.ln_order.specs.Prefixes.{Follows, FrontsFollow, FrontsArePrefixes, IsPrefixOf, PrefixesAreAll, number_of_front, prefixes_of, tree_size}
+use Rattle.ln_order.specs.Prefixes.{Follows, FrontsFollow, FrontsArePrefixes, IsPrefixOf, PrefixesAreAll, beside, number_of_front, prefixes_of, tree_size}
 
 -- ---- by computing, for up to five sites
 -- does this prefix stand at this number?
@@ -223,6 +223,26 @@ module _ (xs : List ℕ) (n i j : ℕ) (few : length xs ≤ 5) (p : ArePlaces xs
 -- a prefix stands at one number
 pub one_number : (k : ℕ) (p : List ℕ) (a b : ℕ) → k ≤ 5 → slice_get (prefixes_of k) a ≡ Some p → slice_get (prefixes_of k) b ≡ Some p → a ≡ b
 one_number k p a b few e f = one_place (prefixes_of k) p a b (sorted_all k few) e f
+
+-- ---- what stands at a prefix
+same-self : (a : List ℕ) → same_vector a a ≡ true
+same-self [] = refl
+same-self (x ∷ a) = let r = same-self a in rw (eq-eqb x x refl) r
+
+beside-is : (qs ss : List (List ℕ)) (p : List ℕ) (n : ℕ) (s : List ℕ) → ((b : ℕ) → slice_get qs b ≡ Some p → b ≡ n) → slice_get qs n ≡ Some p → slice_get ss n ≡ Some s → beside qs ss p ≡ s
+beside-is [] ss p n s one h k = cc
+beside-is (q ∷ qs) [] p n s one h k = cc
+beside-is (q ∷ qs) (t ∷ ss) p n s one h k = go (same_vector q p) refl n h k one (λ m f g o. beside-is qs ss p m s o f g) where
+  go : (b : Bool) → same_vector q p ≡ b → (n : ℕ) → slice_get (q ∷ qs) n ≡ Some p → slice_get (t ∷ ss) n ≡ Some s → ((b : ℕ) → slice_get (q ∷ qs) b ≡ Some p → b ≡ n)
+      → ((m : ℕ) → slice_get qs m ≡ Some p → slice_get ss m ≡ Some s → ((b : ℕ) → slice_get qs b ≡ Some p → b ≡ m) → beside qs ss p ≡ s) → cond b t (beside qs ss p) ≡ s
+  go true e zero h k one ih = cc
+  go true e (suc n) h k one ih = let z : 0 ≡ suc n = one 0 (ap (λ z. Some z) (same_vector-is q p e)) in absurd (omega (arith, z))
+  go false e zero h k one ih = let z : q ≡ p = cc in let t : true ≡ false = sym (same-self p) ∙ ap (λ y. same_vector y p) (sym z) ∙ e in absurd cc
+  go false e (suc n) h k one ih = ih n h k (λ b f. (let z : suc b ≡ suc n = one (suc b) f in omega (arith, z)))
+
+-- what stands at the number of a prefix stands beside it
+pub beside_at : (k : ℕ) (ss : List (List ℕ)) (p : List ℕ) (n : ℕ) (s : List ℕ) → k ≤ 5 → slice_get (prefixes_of k) n ≡ Some p → slice_get ss n ≡ Some s → beside (prefixes_of k) ss p ≡ s
+beside_at k ss p n s few h i = beside-is (prefixes_of k) ss p n s (λ b q. one_number k p b n few q h) h i
 
 -- ---- one prefix after the other
 abbrev follows : List ℕ → List ℕ → Bool

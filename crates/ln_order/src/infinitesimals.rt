@@ -4,9 +4,11 @@ ghost use Rattle.std.specs.Prelude.{neg_ℤ, pos, Some, ◌≡◌, ◌↔◌, �
 ghost use Rattle.ln_algebra.specs.Earlier.{Earlier};
 ghost use Rattle.ln_algebra.specs.Walk.{IsRanking};
 ghost use Rattle.ln_tree.specs.Exps.{IsRising, exponent, vector};
+ghost use Rattle.ln_order.specs.Fronts.{front_places};
 ghost use Rattle.ln_order.specs.Places.{order_places};
 ghost use Rattle.ln_order.specs.Sites.{OrdersAreThoseOfRows, along, ranking_of, sites_of, vars_of};
 
+use crate::front::Front;
 use crate::order::Order;
 use ln_base::{NoMemory, Seq};
 use ln_tree::layout::same_site;
@@ -87,20 +89,44 @@ fn put_vars(out: &mut Vec<u8>, vars: &[VarInfo], site: u8) -> Result<(), NoMemor
     Ok(())
 }
 
-/// All variables of sites, by rising infinitesimal in this order of the sites.
-pub fn ranking(alloc: Global, o: &Order, s: &Shape) -> Result<Seq<u8>, NoMemory>
-    requires { length (order_places o.now) ≡ s.now.sites }
-    ensures ranked { IfOk result (λ vs. IsRanking (length s.now.vars) (sites_of s.now.vars (order_places o.now)) vs) }
-    ensures value { IfOk result (λ vs. vs ≡ ranking_of s.now.vars (order_places o.now)) }
+// The variables of the sites at these places, those of the last one first.
+fn ranked(alloc: Global, places: &[u8], vars: &[VarInfo]) -> Result<Seq<u8>, NoMemory>
+    requires { length vars.now ≤ 168 }
+    ensures { IfOk result (λ vs. vs ≡ ranking_of vars.now places.now) }
 {
-    let vars = s.vars.as_slice();
-    let places = o.places();
     let n = places.len();
     let mut out = Vec::new(alloc);
     'sites: for k in 0..n {
         put_vars(&mut out, vars, places[n - 1 - k])?;
     }
     Ok(Seq::from_vec(out))
+}
+
+/// All variables of sites, by rising infinitesimal in this order of the sites.
+pub fn ranking(alloc: Global, o: &Order, s: &Shape) -> Result<Seq<u8>, NoMemory>
+    requires { length (order_places o.now) ≡ s.now.sites }
+    ensures ranked { IfOk result (λ vs. IsRanking (length s.now.vars) (sites_of s.now.vars (order_places o.now)) vs) }
+    ensures value { IfOk result (λ vs. vs ≡ ranking_of s.now.vars (order_places o.now)) }
+{
+    let vars = ranked(alloc, o.places(), s.vars.as_slice())?;
+    Ok(vars)
+}
+
+/// The variables of the sites of a prefix, by rising infinitesimal in it.
+pub fn front_ranking(alloc: Global, p: &Front, s: &Shape) -> Result<Seq<u8>, NoMemory>
+    ensures { IfOk result (λ vs. vs ≡ ranking_of s.now.vars (front_places p.now)) }
+{
+    let vars = ranked(alloc, p.places(), s.vars.as_slice())?;
+    Ok(vars)
+}
+
+/// The variables of a site.
+pub fn vars_of_site(alloc: Global, s: &Shape, site: u8) -> Result<Seq<u8>, NoMemory>
+    ensures { IfOk result (λ vs. vs ≡ vars_of site s.now.vars 0) }
+{
+    let mut vars = Vec::new(alloc);
+    put_vars(&mut vars, s.vars.as_slice(), site)?;
+    Ok(Seq::from_vec(vars))
 }
 
 /// The order of a row's sites gives the same order of exponents as the row's own indices.

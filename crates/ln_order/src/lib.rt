@@ -14,7 +14,9 @@ pub mod rank;
 
 pub use equal::{Equal, first_equal};
 pub use front::Front;
-pub use infinitesimals::{earlier, exponent_of, orders_are_those_of_rows, ranking};
+pub use infinitesimals::{
+    earlier, exponent_of, front_ranking, orders_are_those_of_rows, ranking, vars_of_site,
+};
 pub use order::Order;
 pub use orders::{all_orders, orders_are_all};
 pub use prefix::{all_prefixes, fronts_are_prefixes, fronts_follow, prefix_number, prefixes_are_all};
