@@ -14,7 +14,7 @@ use Rattle.ln_code.specs.Rules.{Known}
 
 -- the stages that a program runs: the exponents of its blocks, and its lists
 abbrev pub staged : Part → Staged
-staged p = record { sites = p.shape.sites; exps = map (λ c. c.exps) p.blocks; lists = p.lists }
+staged p = record { sites = p.shape.sites; exps = map (λ c. c.exps) p.blocks; segments = []; lists = p.lists }
 
 -- the exponent vectors of the blocks of a list
 abbrev pub vectors : Part → List ℕ → List (List ℕ)

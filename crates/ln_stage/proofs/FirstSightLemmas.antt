@@ -9,8 +9,7 @@ use Rattle.ln_order.specs.Orders.{behind, firsts, orders_of, past}
 use Rattle.ln_poly.specs.Sparse.{Sparse}
 use Rattle.ln_stage.specs.Kept.{all_rows, list_of}
 use Rattle.ln_stage.specs.Lists.{all_seen_behind, first_seen, put_last, seen_behind, stage_count}
-use Rattle.ln_order.specs.Prefixes.{prefixes_of}
-use Rattle.ln_stage.specs.Segments.{joined}
+use Rattle.ln_order.specs.Prefixes.{joined, prefixes_of}
 use Rattle.ln_stage.specs.SiteWalk.{front_walk, site_walk, site_walks}
 use Rattle.ln_stage.specs.FirstSight.{FirstSightByPrefixes, SegmentsAreFewer, StagesByPrefixes, last_walk, list_along, prefix_walk, shared_count}
 use Rattle.ln_stage.proofs.SiteWalkLemmas.{lists-are-walked-by-prefixes}
@@ -244,7 +243,7 @@ walks-along : (b : ℕ) (vars : List VarInfo) (ms : List (List ℕ)) (q : List �
 walks-along b vars ms q s [] = sym (append-nil (site_walk b vars ms q s).0)
 walks-along b vars ms q s (t ∷ o) = ap (λ z. (site_walk b vars ms q s).0 ++ z) (walks-along b vars ms (q ++ s ∷ []) t o)
 
-list-along : (vars : List VarInfo) (f : Sparse) (o : List ℕ) → list_of vars f o ≡ list_along (prefix_walk 127 vars (all_rows (length vars) f)) o
+pub list-along : (vars : List VarInfo) (f : Sparse) (o : List ℕ) → list_of vars f o ≡ list_along (prefix_walk 127 vars (all_rows (length vars) f)) o
 list-along vars f [] = lists-are-walked-by-prefixes vars f [] ∙ append-nil (front_walk 127 vars (all_rows (length vars) f) []).0
 list-along vars f (s ∷ o) = lists-are-walked-by-prefixes vars f (s ∷ o) ∙ ap (λ z. (front_walk 127 vars (all_rows (length vars) f) []).0 ++ z) (sym (walks-along 127 vars (all_rows (length vars) f) [] s o))
 

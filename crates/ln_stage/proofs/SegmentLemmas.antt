@@ -8,22 +8,23 @@ use Rattle.ln_algebra.specs.Vector.{In}
 use Rattle.ln_algebra.specs.Earlier.{Earlier, IndicesDiffer, IsInOrder, IsOver, Of, RanksBefore, Sites}
 use Rattle.ln_algebra.proofs.Order.{earlier-irreflexive, earlier-total, earlier-transitive}
 use Rattle.ln_tree.specs.declared.shape.VarInfo.{VarInfo}
+use Rattle.ln_order.specs.Prefixes.{joined}
 use Rattle.ln_order.specs.Sites.{place_in, sites_of}
 use Rattle.ln_poly.specs.Sparse.{Sparse}
 use Rattle.ln_stage.specs.StageList.{IsStageListOf, IsStageOf}
-use Rattle.ln_stage.specs.Segments.{AreSegments, Ends, IndicesBelow, IsSegmentOf, ListHasItsSegments, NeedsBelow, SegmentIsOfThePrefix, SegmentIsUnique, SegmentsMakeTheList, at_index, isnt_zero, joined, part, reach, touches}
+use Rattle.ln_stage.specs.Segments.{AreSegments, Ends, IndicesBelow, IsSegmentOf, ListHasItsSegments, NeedsBelow, SegmentIsOfThePrefix, SegmentIsUnique, SegmentsMakeTheList, at_index, isnt_zero, part, reach, touches}
 
 -- ---- members
-in-left : (xs ys : List (List ℕ)) (a : List ℕ) → In xs a → In (xs ++ ys) a
+pub in-left : (xs ys : List (List ℕ)) (a : List ℕ) → In xs a → In (xs ++ ys) a
 in-left [] ys a i = absurd i
 in-left (x ∷ xs) ys a (inl e) = inl e
 in-left (x ∷ xs) ys a (inr i) = inr (in-left xs ys a i)
 
-in-right : (xs ys : List (List ℕ)) (a : List ℕ) → In ys a → In (xs ++ ys) a
+pub in-right : (xs ys : List (List ℕ)) (a : List ℕ) → In ys a → In (xs ++ ys) a
 in-right [] ys a i = i
 in-right (x ∷ xs) ys a i = inr (in-right xs ys a i)
 
-in-cases : (xs ys : List (List ℕ)) (a : List ℕ) → In (xs ++ ys) a → In xs a ⊎ In ys a
+pub in-cases : (xs ys : List (List ℕ)) (a : List ℕ) → In (xs ++ ys) a → In xs a ⊎ In ys a
 in-cases [] ys a i = inr i
 in-cases (x ∷ xs) ys a (inl e) = inl (inl e)
 in-cases (x ∷ xs) ys a (inr i) = elim (in-cases xs ys a i) [ inl k ↦ inl (inr k) | inr k ↦ inr k ]

@@ -18,15 +18,15 @@ use Rattle.ln_order.specs.Sites.{place_in, ranking_of, site_of, sites_of, vars_o
 use Rattle.ln_order.proofs.RankingLemmas.{member-cases, member-right, ranking-is}
 use Rattle.ln_order.proofs.SitesLemmas.{same_site-is}
 use Rattle.ln_poly.specs.Sparse.{AreBelow, IsPoly, Sparse}
-use Rattle.ln_stage.specs.Kept.{all_rows, list_of, listed, rows}
+use Rattle.ln_stage.specs.Kept.{all_rows, list_of, listed, rows, tail}
 use Rattle.ln_stage.specs.StageList.{IsStageListOf, IsStageOf}
-use Rattle.ln_stage.proofs.MonomialLemmas.{rows-monomials, rows-small}
-use Rattle.ln_stage.proofs.ResultLemmas.{poly-terms}
+use Rattle.ln_stage.proofs.MonomialLemmas.{poly-terms, rows-monomials, rows-small}
 use Rattle.ln_stage.proofs.StageLemmas.{walk-stages}
 use Rattle.ln_stage.proofs.StartLemmas.{rows-all}
-use Rattle.ln_stage.specs.Segments.{AreSegments, Ends, IsSegmentOf, joined}
-use Rattle.ln_stage.proofs.SegmentLemmas.{ends-order}
-use Rattle.ln_stage.specs.SiteWalk.{ListsAreWalkedByPrefixes, WalkGoesSiteBySite, WalksAreSegments, front_walk, prefix_walks, site_walk, site_walks, tail, unless_cut}
+use Rattle.ln_order.specs.Prefixes.{joined}
+use Rattle.ln_stage.specs.Segments.{AreSegments, Ends, IsSegmentOf}
+use Rattle.ln_stage.proofs.SegmentLemmas.{ends-order, in-cases, in-left, in-right}
+use Rattle.ln_stage.specs.SiteWalk.{ListsAreWalkedByPrefixes, WalkGoesSiteBySite, WalksAreSegments, front_walk, prefix_walks, site_walk, site_walks, unless_cut}
 
 -- ---- one list before another
 before-none : (r : Found) → r ≡ before r ([], false)
@@ -73,7 +73,7 @@ walk-tail b (v ∷ us) rest (m ∷ ms) p z =
     zero-first (walk (suc b) (us ++ rest)) v m ms p S (z v (inl refl)) ∙ ap (λ r. before r S) ih ∙ before-assoc (walk (suc b) rest (m ∷ ms) p) (tail b us rest (m ∷ ms) p) S
 
 -- ---- one site more
-ranking-last : (vars : List VarInfo) (p : List ℕ) (s : ℕ) → ranking_of vars (p ++ s ∷ []) ≡ vars_of s vars 0 ++ ranking_of vars p
+pub ranking-last : (vars : List VarInfo) (p : List ℕ) (s : ℕ) → ranking_of vars (p ++ s ∷ []) ≡ vars_of s vars 0 ++ ranking_of vars p
 ranking-last vars [] s = sym (append-nil (vars_of s vars 0))
 ranking-last vars (t ∷ p) s = ap (λ z. z ++ vars_of t vars 0) (ranking-last vars p s) ∙ append_assoc (vars_of s vars 0) (ranking_of vars p) (vars_of t vars 0)
 
@@ -105,20 +105,6 @@ pub lists-are-walked-by-prefixes : ListsAreWalkedByPrefixes
 lists-are-walked-by-prefixes vars f o = list-walks vars f o ∙ sym (fronts-joined 127 vars (all_rows (length vars) f) [] o)
 
 -- ---- what a walk lists needs its variables
-in-left : (xs ys : List (List ℕ)) (a : List ℕ) → In xs a → In (xs ++ ys) a
-in-left [] ys a i = absurd i
-in-left (x ∷ xs) ys a (inl e) = inl e
-in-left (x ∷ xs) ys a (inr i) = inr (in-left xs ys a i)
-
-in-right : (xs ys : List (List ℕ)) (a : List ℕ) → In ys a → In (xs ++ ys) a
-in-right [] ys a i = i
-in-right (x ∷ xs) ys a i = inr (in-right xs ys a i)
-
-in-cases : (xs ys : List (List ℕ)) (a : List ℕ) → In (xs ++ ys) a → In xs a ⊎ In ys a
-in-cases [] ys a i = inr i
-in-cases (x ∷ xs) ys a (inl e) = inl (inl e)
-in-cases (x ∷ xs) ys a (inr i) = elim (in-cases xs ys a i) [ inl k ↦ inl (inr k) | inr k ↦ inr k ]
-
 in-before : (r t : Found) (a : List ℕ) → In (before r t).0 a → In r.0 a ⊎ In t.0 a
 in-before (l, true) t a i = inl i
 in-before (l, false) t a i = in-cases l t.0 a i
@@ -208,7 +194,7 @@ fresh-from [] w h = tt
 fresh-from (u ∷ vs) w h = (λ e. h (inl e), fresh-from vs w (λ m. h (inr m)))
 
 -- ---- a ranking has each variable once
-ranking-join : (vars : List VarInfo) (p q : List ℕ) → ranking_of vars (p ++ q) ≡ ranking_of vars q ++ ranking_of vars p
+pub ranking-join : (vars : List VarInfo) (p q : List ℕ) → ranking_of vars (p ++ q) ≡ ranking_of vars q ++ ranking_of vars p
 ranking-join vars [] q = sym (append-nil (ranking_of vars q))
 ranking-join vars (t ∷ p) q = ap (λ z. z ++ vars_of t vars 0) (ranking-join vars p q) ∙ append_assoc (ranking_of vars q) (ranking_of vars p) (vars_of t vars 0)
 

@@ -6,15 +6,11 @@ use Rattle.ln_algebra.specs.Walk.{Found, before, steps, walk}
 use Rattle.ln_tree.specs.declared.shape.VarInfo.{VarInfo}
 use Rattle.ln_tree.specs.Variables.{is_laid_out}
 use Rattle.ln_order.specs.Orders.{IsOrderOf}
+use Rattle.ln_order.specs.Prefixes.{joined}
 use Rattle.ln_order.specs.Sites.{ranking_of, sites_of, vars_of}
 use Rattle.ln_poly.specs.Sparse.{AreBelow, IsPoly, Sparse}
-use Rattle.ln_stage.specs.Kept.{all_rows, list_of}
-use Rattle.ln_stage.specs.Segments.{AreSegments, joined}
-
--- what is listed, along the variables us and then the rest, with an exponent above 0 in one of us: the last of us goes first, from the exponent 1 on, then the one before it, and so on; exponents are at most b
-abbrev pub tail : ℕ → List ℕ → List ℕ → List (List ℕ) → List ℕ → Found
-tail b [] rest ms p = ([], false)
-tail b (v ∷ us) rest ms p = before (tail b us rest ms p) (steps (walk (suc b) (us ++ rest)) v ms p b 1)
+use Rattle.ln_stage.specs.Kept.{all_rows, list_of, tail}
+use Rattle.ln_stage.specs.Segments.{AreSegments}
 
 -- what is listed where the sites of a prefix alone have exponents
 abbrev pub front_walk : ℕ → List VarInfo → List (List ℕ) → List ℕ → Found
