@@ -173,10 +173,8 @@ some_same x y e = cc
 pub fronts-are-prefixes : FrontsArePrefixes
 fronts-are-prefixes k i j o u few p q h l = (
   front_small k o i few p h,
-  (
-    λ e. some_same (take i o) (take j u) (sym (front_number k o i few p h) ∙ ap (slice_get (prefixes_of k)) e ∙ front_number k u j few q l),
-    λ e. one_place (prefixes_of k) (take j u) (number_of_front o i) (number_of_front u j) (sorted_all k few) (front_number k o i few p h ∙ ap (λ z. Some z) e) (front_number k u j few q l),
-  ),
+  (λ e. some_same (take i o) (take j u) (sym (front_number k o i few p h) ∙ ap (slice_get (prefixes_of k)) e ∙ front_number k u j few q l),
+  λ e. one_place (prefixes_of k) (take j u) (number_of_front o i) (number_of_front u j) (sorted_all k few) (front_number k o i few p h ∙ ap (λ z. Some z) e) (front_number k u j few q l)),
 )
 
 -- ---- steps of the loop

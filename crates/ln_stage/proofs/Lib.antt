@@ -8,3 +8,9 @@ pub mod StartLemmas
 pub mod StepLemmas
 pub mod TallyLemmas
 pub mod WalkLemmas
+pub mod SiteLemmas
+pub mod SegmentLemmas
+pub mod SiteWalkLemmas
+pub mod FirstSightLemmas
+pub mod VisitLemmas
+pub mod ListedLemmas

@@ -14,7 +14,7 @@ use Rattle.ln_algebra.specs.Walk.{AllBelow}
 use Rattle.ln_algebra.proofs.Normal.{same_vector-is, same_vector-refl}
 use Rattle.ln_tree.specs.Exps.{IsAbove, IsRising, Pairs, exponent, pairs_cmp, same_pairs, same_pairs-ties, vector}
 use Rattle.ln_order.proofs.PairsLemmas.{all_above-none, power-apart, power-here, vector-get, vector-length}
-use Rattle.ln_poly.specs.Sparse.{AreBelow, AreRising, IsFactor, Sparse, coefficient_at}
+use Rattle.ln_poly.specs.Sparse.{AreBelow, AreRising, IsFactor, IsPoly, Sparse, coefficient_at}
 use Rattle.ln_stage.specs.Kept.{all_rows}
 use Rattle.ln_stage.proofs.PairsLemmas.{same-pairs, same_pairs-refl}
 use Rattle.ln_stage.proofs.StageLemmas.{AreMonomialsOf}
@@ -70,6 +70,9 @@ pub record IsTerms (f : Sparse) : Type 0 where
   pub sorted : IsStrictlySortedBy (on (λ t. t.0) pairs_cmp) f
   pub rising : AreRising f
   pub factors : All (λ t. IsFactor t.1) f
+
+pub poly-terms : (f : Sparse) → IsPoly f → IsTerms f
+poly-terms f p = record { sorted = p.sorted; rising = p.rising; factors = p.factors }
 
 terms-of : (t : Pairs × ℤ) (f : Sparse) → IsTerms (t ∷ f) → IsTerms f
 unfolding IsStrictlySortedBy

@@ -1,32 +1,40 @@
--- The lists that are found are the stages.
-use Rattle.std.proofs.Common.{◌≡◌, inl, inr, Bool, false, ℕ, zero, suc, ◌+◌, ◌<◌, ◌≤◌, true, List, [], ◌∷◌, length, map, get_or, drop, ◌++◌, append_assoc, refl, sym, ◌∙◌, ap, subst, arith}
-use Rattle.std.specs.Prelude.{◌↔◌, All, Contains, IsTrue}
-use Rattle.std.proofs.lemmas.List.{append-nil, drop_all, drop_more, get_or-map, length-map}
-use Rattle.std.proofs.lemmas.List.Elements.{All-cons, All-head, All-nil, All-tail, Contains-get_or}
-use Rattle.ln_algebra.specs.Vector.{In, zeros}
+-- The segments and lists that are found are the stages.
+use Rattle.std.proofs.Common.{◌≡◌, ◌⊎◌, inl, inr, Bool, false, ℕ, zero, suc, ◌+◌, ◌-◌, ◌<◌, ◌≤◌, true, List, [], ◌∷◌, length, map, get_or, take, ◌++◌, append_assoc, refl, sym, ◌∙◌, ap, subst, arith, if◌then◌else◌}
+use Rattle.std.specs.Prelude.{◌↔◌, All, Contains, IsTrue, Some, slice_get}
+use Rattle.std.proofs.lemmas.List.{append-nil, get_or-map, length-map, map-append}
+use Rattle.std.proofs.lemmas.List.Elements.{All-append, All-cons, All-head, All-nil, All-tail, Contains-get_or}
+use Rattle.std.proofs.lemmas.Option.{get_or_from_slice_get, slice_get-get_or, slice_get_within}
 use Rattle.std.specs.List.{range_with_len}
+use Rattle.ln_algebra.specs.Vector.{In, same_vector, zeros}
 use Rattle.ln_algebra.specs.Walk.{walk}
 use Rattle.ln_algebra.proofs.Expansion.{length-zeros}
 use Rattle.ln_tree.specs.declared.shape.VarInfo.{VarInfo}
 use Rattle.ln_tree.specs.Exps.{IsAbove, Pairs, vector}
 use Rattle.ln_tree.specs.Variables.{is_laid_out}
-use Rattle.ln_order.specs.declared.order.Order.{Order}
-use Rattle.ln_order.specs.Places.{order_places}
 use Rattle.ln_order.specs.Orders.{IsOrderOf, orders_of}
+use Rattle.ln_order.specs.Prefixes.{IsPrefixOf, beside, joined, prefixes_of, segments_from}
 use Rattle.ln_order.specs.Sites.{ranking_of, sites_of}
 use Rattle.ln_order.proofs.OrdersLemmas.{member-is}
+use Rattle.ln_order.proofs.PrefixLemmas.{beside_at, front_number, prefix-is}
+use Rattle.ln_order.specs.Prefixes.{number_of_front}
 use Rattle.ln_order.proofs.RankingLemmas.{ranking-is}
 use Rattle.ln_poly.specs.Sparse.{AreBelow, IsPoly, Sparse}
-use Rattle.ln_stage.specs.Kept.{all_rows, list_of, listed, numbers_of, rows, tallied}
-use Rattle.ln_stage.specs.Lists.{AreStageLists, Passes, all_seen_behind, first_seen, stage_count, stage_weight}
+use Rattle.ln_stage.specs.FirstSight.{last_walk, list_along, prefix_walk, shared_count}
+use Rattle.ln_stage.specs.Kept.{all_rows, list_of, listed, numbers_by, rows, tallied_by}
+use Rattle.ln_stage.specs.Lists.{AreStageLists, Passes, all_covering, all_seen_behind, first_seen, stage_count, stage_weight}
+use Rattle.ln_stage.specs.Segments.{AreSegments, IsSegmentOf}
+use Rattle.ln_stage.specs.SiteWalk.{front_walk, prefix_walks, site_walk, site_walks}
 use Rattle.ln_stage.specs.StageList.{IsStageListOf}
-use Rattle.ln_stage.specs.Staged.{AreStagesOf, Staged, StopsListing, block_vector, count_numbers, vectors_of}
-use Rattle.ln_stage.specs.Tally.{IsOver as IsPast, IsStoppedBy, Tallied, next_list, pairs_of, see_all}
+use Rattle.ln_stage.specs.Staged.{AreSegmentsOf, AreStagesOf, Staged, StopsListing, block_vector, count_numbers, segment_of, vectors_of}
+use Rattle.ln_stage.specs.Tally.{IsOver as IsPast, IsStoppedBy, Tallied, pairs_of}
+use Rattle.ln_stage.specs.Visit.{segment_at}
 use Rattle.ln_stage.specs.declared.stop.StageStop.{StageStop}
 use Rattle.ln_stage.specs.declared.stop.StageStop.TheVariants.{Zero, Stages, NoMemory}
-use Rattle.ln_stage.proofs.FoldLemmas.{AllSized, IsAllSeen, Sized, all-sized, extends-refl, numbers-cons, numbers-nil, orders-seen, over-list, tallied-cons, tallied-nil}
-use Rattle.ln_stage.proofs.MonomialLemmas.{IsTerms, rows-monomials, rows-small}
+use Rattle.ln_stage.proofs.FirstSightLemmas.{list-along, segments-are-fewer, stages-by-prefixes}
+use Rattle.ln_stage.proofs.FoldLemmas.{AllSized, IsAllSeenBy, Sized, all-sized, extends-refl, seen-by}
+use Rattle.ln_stage.proofs.MonomialLemmas.{IsTerms, poly-terms, rows-monomials, rows-small}
 use Rattle.ln_stage.proofs.PairsLemmas.{above-pairs, vector-pairs_of}
+use Rattle.ln_stage.proofs.SiteWalkLemmas.{walks-are-segments}
 use Rattle.ln_stage.proofs.StageLemmas.{walk-stages}
 use Rattle.ln_stage.proofs.StartLemmas.{rows-all}
 
@@ -44,13 +52,81 @@ sized-in : (n : ℕ) (xs : List (List ℕ)) → ((a : List ℕ) → In xs a → 
 sized-in n [] h = tt
 sized-in n (x ∷ xs) h = (h x (inl refl), sized-in n xs (λ a i. h a (inr i)))
 
-module _ (k : ℕ) (vars : List VarInfo) (f : Sparse) (laid : is_laid_out k vars ≡ true) (t : IsTerms f) (b : AreBelow (length vars) f) where
-  the-list : (o : List ℕ) → Contains (orders_of k) o → IsStageListOf (length vars) (sites_of vars o) f (list_of vars f o)
-  the-list o c = list-stages k vars f o laid (member-is k o c) t b
+-- ---- the segment of each prefix
+segments-at : (n : ℕ) (vars : List VarInfo) (o : List ℕ) (f : Sparse) (i : ℕ) (ls : List (List (List ℕ))) (j m : ℕ) → m ≡ i + j → AreSegments n (sites_of vars o) f i ls → j < length ls → IsSegmentOf n (sites_of vars o) f m (get_or ls j [])
+segments-at n vars o f i [] j m e a h = absurd (omega arith)
+segments-at n vars o f i (l ∷ ls) zero m e a h = let q : m ≡ i = omega (arith, e) in rw q a.0
+segments-at n vars o f i (l ∷ ls) (suc j) m e a h = segments-at n vars o f (suc i) ls j m (omega (arith, e)) a.1 (omega (arith, h))
 
-  sized-lists : (os : List (List ℕ)) → ((o : List ℕ) → Contains os o → Contains (orders_of k) o) → AllSized (length vars) (map (list_of vars f) os)
-  sized-lists [] h = tt
-  sized-lists (o ∷ os) h = (sized-in (length vars) (list_of vars f o) (λ a i. ((the-list o (h o (0, omega arith, refl))).stages a i).over.size), sized-lists os (λ u c. h u (suc c.0, omega (arith, c.1), c.2)))
+site-walks-at : (b : ℕ) (vars : List VarInfo) (ms : List (List ℕ)) (q o : List ℕ) (s j : ℕ) → j ≤ length o → get_or ((site_walk b vars ms q s).0 ∷ site_walks b vars ms (q ++ s ∷ []) o) j [] ≡ last_walk b vars ms q s (take j o)
+site-walks-at b vars ms q [] s zero h = refl
+site-walks-at b vars ms q [] s (suc j) h = absurd (omega arith)
+site-walks-at b vars ms q (t ∷ o) s zero h = refl
+site-walks-at b vars ms q (t ∷ o) s (suc j) h = site-walks-at b vars ms (q ++ s ∷ []) o t j (omega (arith, h))
+
+walks-at : (b : ℕ) (vars : List VarInfo) (ms : List (List ℕ)) (o : List ℕ) (j : ℕ) → j ≤ length o → get_or (prefix_walks b vars ms o) j [] ≡ prefix_walk b vars ms (take j o)
+walks-at b vars ms o zero h = refl
+walks-at b vars ms [] (suc j) h = absurd (omega arith)
+walks-at b vars ms (s ∷ o) (suc j) h = site-walks-at b vars ms [] o s j (omega (arith, h))
+
+walks-length : (b : ℕ) (vars : List VarInfo) (ms : List (List ℕ)) (q o : List ℕ) → length (site_walks b vars ms q o) ≡ length o
+walks-length b vars ms q [] = refl
+walks-length b vars ms q (s ∷ o) = ap suc (walks-length b vars ms (q ++ s ∷ []) o)
+
+-- ---- the list of an order from its segments
+range-suc : {A : Type 0} (g : ℕ → A) (a m : ℕ) → map g (range_with_len (suc a) m) ≡ map (λ i. g (suc i)) (range_with_len a m)
+range-suc g a zero = refl
+range-suc g a (suc m) = let e : suc a + 1 ≡ suc (a + 1) = omega arith in ap (λ z. g (suc a) ∷ map g (range_with_len z m)) e ∙ ap (λ z. g (suc a) ∷ z) (range-suc g (a + 1) m)
+
+along-from : (S : List ℕ → List (List ℕ)) (o : List ℕ) → list_along S o ≡ joined (map (λ i. S (take i o)) (range_with_len 0 (suc (length o))))
+along-from S [] = sym (append-nil (S []))
+along-from S (x ∷ o) = ap (λ z. S [] ++ z) (along-from (λ p. S (x ∷ p)) o ∙ ap joined (sym (range-suc (λ i. S (take i (x ∷ o))) 0 (suc (length o)))))
+
+map-joined : {A B : Type 0} (g : A → B) (ls : List (List A)) → map g (joined ls) ≡ joined (map (map g) ls)
+map-joined g [] = refl
+map-joined g (l ∷ ls) = map-append g l (joined ls) ∙ ap (λ z. map g l ++ z) (map-joined g ls)
+
+-- the same at each of the first places
+range-same : (F G : ℕ → List (List ℕ)) (a n : ℕ) → ((i : ℕ) → a ≤ i → i < a + n → F i ≡ G i) → map F (range_with_len a n) ≡ map G (range_with_len a n)
+range-same F G a zero h = refl
+range-same F G a (suc n) h =
+    let ih = range-same F G (a + 1) n (λ i l m. h i (omega (arith, l)) (omega (arith, m))) in
+    ap (λ z. z ∷ map F (range_with_len (a + 1) n)) (h a (omega arith) (omega arith)) ∙ ap (λ z. G a ∷ z) ih
+
+map-map : {A B C : Type 0} (g : B → C) (h : A → B) (xs : List A) → map g (map h xs) ≡ map (λ x. g (h x)) xs
+map-map g h [] = refl
+map-map g h (x ∷ xs) = ap (λ z. g (h x) ∷ z) (map-map g h xs)
+
+maps-agree : {A B : Type 0} (F G : A → B) (xs : List A) → ((x : A) → Contains xs x → F x ≡ G x) → map F xs ≡ map G xs
+maps-agree F G [] h = refl
+maps-agree F G (x ∷ xs) h =
+    let ih = maps-agree F G xs (λ y c. h y (suc c.0, omega (arith, c.1), c.2)) in
+    ap (λ z. z ∷ map F xs) (h x (0, omega arith, refl)) ∙ ap (λ z. G x ∷ z) ih
+
+-- a claim on all numbers of all segments is one on those of a list
+beside-all : (P : ℕ → Type 0) (ps ss : List (List ℕ)) (p : List ℕ) → All (λ l. All P l) ss → All P (beside ps ss p)
+beside-all P [] ss p h = All-nil P
+beside-all P (q ∷ ps) [] p h = All-nil P
+beside-all P (q ∷ ps) (s ∷ ss) p h = go (same_vector q p) (beside-all P ps ss p (All-tail (λ l. All P l) s ss h)) where
+  go : (b : Bool) → All P (beside ps ss p) → All P (if b then s else beside ps ss p)
+  go true ih = All-head (λ l. All P l) s ss h
+  go false ih = ih
+
+joined-all : (P : ℕ → Type 0) (F : ℕ → List ℕ) (is : List ℕ) → ((i : ℕ) → All P (F i)) → All P (joined (map F is))
+joined-all P F [] h = All-nil P
+joined-all P F (i ∷ is) h = All-append P (F i) (joined (map F is)) (h i) (joined-all P F is h)
+
+maps-all : (P : ℕ → Type 0) (F : List ℕ → List ℕ) (os : List (List ℕ)) → ((o : List ℕ) → All P (F o)) → All (λ l. All P l) (map F os)
+maps-all P F [] h = All-nil (λ l. All P l)
+maps-all P F (o ∷ os) h = All-cons (λ l. All P l) (F o) (map F os) (h o) (maps-all P F os h)
+
+count-map : (g : ℕ → List ℕ) (ls : List (List ℕ)) → count_numbers ls ≡ stage_count (map (map g) ls)
+count-map g [] = refl
+count-map g (l ∷ ls) = omega (arith, count-map g ls, length-map l g)
+
+module _ (k : ℕ) (vars : List VarInfo) (f : Sparse) (few : k ≤ 5) (laid : is_laid_out k vars ≡ true) (poly : IsPoly f) (b : AreBelow (length vars) f) where
+  the-list : (o : List ℕ) → Contains (orders_of k) o → IsStageListOf (length vars) (sites_of vars o) f (list_of vars f o)
+  the-list o c = list-stages k vars f o laid (member-is k o c) (poly-terms f poly) b
 
   -- the stage lists of all orders
   abbrev pub found : List (List (List ℕ))
@@ -64,32 +140,71 @@ module _ (k : ℕ) (vars : List VarInfo) (f : Sparse) (laid : is_laid_out k vars
         rw (get_or-map (list_of vars f) (orders_of k) j [] [] l) (the-list (get_or (orders_of k) j []) (Contains-get_or (orders_of k) j [] l));
   }
 
+  -- the segment of a prefix
+  the-segment : (o : List ℕ) (j : ℕ) → IsOrderOf k o → j ≤ k → IsSegmentOf (length vars) (sites_of vars o) f j (segment_at vars f (take j o))
+  unfolding segment_at
+  the-segment o j p h =
+      let ls : List (List (List ℕ)) = prefix_walks 127 vars (all_rows (length vars) f) o in
+      let a : AreSegments (length vars) (sites_of vars o) f 0 (prefix_walks 127 vars (all_rows (length vars) f) o) = walks-are-segments k vars f o laid p poly b in
+      let l : j < length (prefix_walks 127 vars (all_rows (length vars) f) o) = omega (arith, h, p.size, walks-length 127 vars (all_rows (length vars) f) [] o) in
+      let s : IsSegmentOf (length vars) (sites_of vars o) f j (get_or (prefix_walks 127 vars (all_rows (length vars) f) o) j []) = segments-at (length vars) vars o f 0 (prefix_walks 127 vars (all_rows (length vars) f) o) j j (omega arith) a l in
+      subst (IsSegmentOf (length vars) (sites_of vars o) f j) (walks-at 127 vars (all_rows (length vars) f) o j (omega (arith, h, p.size))) s
+
+  -- the segments of all prefixes
+  abbrev pub parts : List (List (List ℕ))
+  parts = map (segment_at vars f) (prefixes_of k)
+
+  sized-part : (p : List ℕ) → IsPrefixOf k p → Sized (length vars) (segment_at vars f p)
+  sized-part p r = subst (λ q. Sized (length vars) (segment_at vars f q)) (sym r.front) (sized-in (length vars) (segment_at vars f (take r.places r.order)) (λ a i. ((the-segment r.order r.places r.full r.within).stages a i).0.over.size))
+
+  sized-parts : (ps : List (List ℕ)) → ((p : List ℕ) → Contains ps p → Contains (prefixes_of k) p) → AllSized (length vars) (map (segment_at vars f) ps)
+  sized-parts [] h = tt
+  sized-parts (p ∷ ps) h = (sized-part p (prefix-is k p (h p (0, omega arith, refl))), sized-parts ps (λ u c. h u (suc c.0, omega (arith, c.1), c.2)))
+
+  -- numbers and count, through the lists and through the segments
+  same-first : first_seen (map (list_of vars f) (orders_of k)) ≡ all_seen_behind [] (map (segment_at vars f) (prefixes_of k))
+  unfolding segment_at
+  same-first = (stages-by-prefixes k vars f).0
+
+  same-count : stage_count (map (list_of vars f) (orders_of k)) ≡ shared_count k (segment_at vars f) (prefixes_of k)
+  unfolding segment_at
+  same-count = (stages-by-prefixes k vars f).1
+
+  list-from : (o : List ℕ) → list_of vars f o ≡ joined (map (λ i. segment_at vars f (take i o)) (range_with_len 0 (suc (length o))))
+  unfolding segment_at
+  list-from o = list-along vars f o ∙ along-from (prefix_walk 127 vars (all_rows (length vars) f)) o
+
   module _ (most heavy : ℕ) where
     -- nothing yet
     abbrev pub start : Tallied
     start = record { exps = []; list = []; count = 0; weight = 0; most = most; heavy = heavy }
 
-    seen : IsAllSeen vars f [] start (orders_of k)
-    seen = orders-seen vars f [] start (orders_of k) refl refl tt (sized-lists (orders_of k) (λ o c. c))
+    -- what is kept at the end
+    abbrev pub kept : Tallied
+    kept = tallied_by (segment_at vars f) (length vars) f start (prefixes_of k)
 
-    pub past-passes : IsPast (tallied vars f start (orders_of k)) → Passes (length vars) f most heavy found
-    past-passes (inl l) = inl (omega (arith, l, seen.count, seen.most))
-    past-passes (inr l) = inr (omega (arith, l, seen.weight, seen.heavy))
+    abbrev pub segments : List (List ℕ)
+    segments = numbers_by (segment_at vars f) (length vars) f start (prefixes_of k)
 
-    pub count-is : (tallied vars f start (orders_of k)).count ≡ stage_count found
-    count-is = seen.count ∙ omega arith
+    seen : IsAllSeenBy (segment_at vars f) (length vars) f [] start (prefixes_of k)
+    seen = seen-by (segment_at vars f) (length vars) f [] start (prefixes_of k) refl refl tt (sized-parts (prefixes_of k) (λ p c. c))
 
-    pub weight-is : (tallied vars f start (orders_of k)).weight ≡ stage_weight (length vars) f found
-    weight-is = omega (arith, seen.weight)
+    pub past-passes : IsPast kept ⊎ (most < shared_count k (segment_at vars f) (prefixes_of k)) → Passes (length vars) f most heavy found
+    past-passes (inl (inl l)) = inl (omega (arith, l, seen.count, seen.most, segments-are-fewer k (segment_at vars f), same-count))
+    past-passes (inl (inr l)) = inr (omega (arith, l, seen.weight, seen.heavy, ap (all_covering (length vars) f) same-first))
+    past-passes (inr l) = inl (omega (arith, l, same-count))
 
-    pub counted-is : count_numbers (numbers_of vars f start (orders_of k)) ≡ stage_count found
-    counted-is = seen.counted
+    -- why listing stops
+    pub stops : (x : StageStop) → (f ≡ [] → ⊥) → IsStoppedBy x (IsPast kept ⊎ (most < shared_count k (segment_at vars f) (prefixes_of k))) → StopsListing k vars f most heavy x
+    stops Zero n s = absurd s
+    stops Stages n s = (n, (found, found-lists, past-passes s))
+    stops NoMemory n s = tt
 
-    blocks : List (List ℕ)
-    blocks = first_seen found
+    abbrev blocks : List (List ℕ)
+    blocks = all_seen_behind [] parts
 
-    blocks-sized : Sized (length vars) (all_seen_behind [] found)
-    blocks-sized = all-sized (length vars) [] found tt (sized-lists (orders_of k) (λ o c. c))
+    blocks-sized : Sized (length vars) blocks
+    blocks-sized = all-sized (length vars) [] parts tt (sized-parts (prefixes_of k) (λ p c. c))
 
     -- the vector of a block
     at-block : (cs : List (List ℕ)) (i : ℕ) → Sized (length vars) cs → i < length cs → block_vector (length vars) (map pairs_of cs) i ≡ get_or cs i []
@@ -116,66 +231,95 @@ module _ (k : ℕ) (vars : List VarInfo) (f : Sparse) (laid : is_laid_out k vars
     all-below [] s = All-nil (λ e. IsAbove e (length vars))
     all-below (c ∷ cs) s = All-cons (λ e. IsAbove e (length vars)) (pairs_of c) (map pairs_of cs) (above-pairs c (length vars) s.0) (all-below cs s.1)
 
+    numbers-within : All (λ l. All (λ i. i < length blocks) l) segments
+    numbers-within = seen.within blocks (extends-refl blocks)
+
+    vectors-parts : map (λ l. map (block_vector (length vars) kept.exps) l) segments ≡ parts
+    vectors-parts =
+        ap (λ es. map (λ l. map (block_vector (length vars) es) l) segments) seen.exps
+        ∙ at-lists blocks segments blocks-sized numbers-within
+        ∙ seen.lists blocks (extends-refl blocks)
+
+    pub segments-size : length segments ≡ length (prefixes_of k)
+    segments-size = sym (length-map segments (λ l. map (block_vector (length vars) kept.exps) l)) ∙ ap length vectors-parts ∙ length-map (prefixes_of k) (segment_at vars f)
+
+    -- the vectors of a segment
+    part-vectors : (o : List ℕ) (j : ℕ) → IsOrderOf k o → j ≤ k → map (block_vector (length vars) kept.exps) (beside (prefixes_of k) segments (take j o)) ≡ segment_at vars f (take j o)
+    part-vectors o j p h =
+        let i : ℕ = number_of_front o j in
+        let g : slice_get (prefixes_of k) (number_of_front o j) ≡ Some (take j o) = front_number k o j few p h in
+        let m : number_of_front o j < length (prefixes_of k) = slice_get_within (prefixes_of k) (number_of_front o j) (take j o) g in
+        let l : number_of_front o j < length segments = omega (arith, m, segments-size) in
+        let e : beside (prefixes_of k) segments (take j o) ≡ get_or segments (number_of_front o j) [] = beside_at k segments (take j o) (number_of_front o j) (get_or segments (number_of_front o j) []) few g (slice_get-get_or segments (number_of_front o j) [] l) in
+        let x : get_or (prefixes_of k) (number_of_front o j) [] ≡ take j o = get_or_from_slice_get (prefixes_of k) (number_of_front o j) (take j o) [] g in
+        ap (map (block_vector (length vars) kept.exps)) e
+        ∙ sym (get_or-map (λ l. map (block_vector (length vars) kept.exps) l) segments (number_of_front o j) [] [] l)
+        ∙ ap (λ z. get_or z (number_of_front o j) []) vectors-parts
+        ∙ get_or-map (segment_at vars f) (prefixes_of k) (number_of_front o j) [] [] m
+        ∙ ap (segment_at vars f) x
+
+    -- the list of an order
+    abbrev pub list_at : List ℕ → List ℕ
+    list_at o = segments_from (beside (prefixes_of k) segments) o 0
+
+    list-vectors : (o : List ℕ) → IsOrderOf k o → map (block_vector (length vars) kept.exps) (list_at o) ≡ list_of vars f o
+    list-vectors o p =
+        let q : suc (length o) - 0 ≡ suc (length o) = omega arith in
+        ap (λ n. map (block_vector (length vars) kept.exps) (joined (map (λ i. beside (prefixes_of k) segments (take i o)) (range_with_len 0 n)))) q
+        ∙ map-joined (block_vector (length vars) kept.exps) (map (λ i. beside (prefixes_of k) segments (take i o)) (range_with_len 0 (suc (length o))))
+        ∙ ap joined (map-map (map (block_vector (length vars) kept.exps)) (λ i. beside (prefixes_of k) segments (take i o)) (range_with_len 0 (suc (length o))))
+        ∙ ap joined (range-same (λ i. map (block_vector (length vars) kept.exps) (beside (prefixes_of k) segments (take i o))) (λ i. segment_at vars f (take i o)) 0 (suc (length o)) (λ i l m. part-vectors o i p (omega (arith, m, p.size))))
+        ∙ sym (list-from o)
+
     -- what is kept at the end, as stages
     abbrev pub result : Staged
-    result = record { sites = k; exps = (tallied vars f start (orders_of k)).exps; lists = numbers_of vars f start (orders_of k) }
+    result = record { sites = k; exps = kept.exps; segments = segments; lists = map (λ o. segments_from (beside (prefixes_of k) segments) o 0) (orders_of k) }
 
     pub result-vectors : vectors_of (length vars) result ≡ found
-    result-vectors =
-        ap (λ es. map (λ l. map (block_vector (length vars) es) l) (numbers_of vars f start (orders_of k))) seen.exps
-        ∙ at-lists (all_seen_behind [] found) (numbers_of vars f start (orders_of k)) blocks-sized (seen.within (all_seen_behind [] found) (extends-refl (all_seen_behind [] found)))
-        ∙ seen.lists (all_seen_behind [] found) (extends-refl (all_seen_behind [] found))
+    result-vectors = map-map (map (block_vector (length vars) kept.exps)) list_at (orders_of k) ∙ maps-agree (λ o. map (block_vector (length vars) kept.exps) (list_at o)) (list_of vars f) (orders_of k) (λ o c. list-vectors o (member-is k o c))
+
+    segments-within : All (λ l. All (λ i. i < length kept.exps) l) segments
+    segments-within = rw (seen.exps, length-map blocks pairs_of) numbers-within
 
     pub result-stages : AreStagesOf k vars f result
     result-stages = record {
       sites = refl;
       lists = rw result-vectors found-lists;
-      first_sight = rw (result-vectors, seen.exps) (vectors-back (all_seen_behind [] found) blocks-sized);
-      below = rw seen.exps (all-below (all_seen_behind [] found) blocks-sized);
-      numbers = rw (seen.exps, length-map (all_seen_behind [] found) pairs_of) (seen.within (all_seen_behind [] found) (extends-refl (all_seen_behind [] found)));
+      first_sight = rw (result-vectors, seen.exps) (vectors-back blocks blocks-sized ∙ sym same-first);
+      below = rw seen.exps (all-below blocks blocks-sized);
+      numbers = maps-all (λ i. i < length kept.exps) list_at (orders_of k) (λ o. joined-all (λ i. i < length kept.exps) (λ i. beside (prefixes_of k) segments (take i o)) (range_with_len 0 (suc (length o) - 0)) (λ i. beside-all (λ i. i < length kept.exps) (prefixes_of k) segments (take i o) segments-within));
+      segments = record {
+        size = segments-size;
+        each = λ o j p h. subst (IsSegmentOf (length vars) (sites_of vars o) f j) (sym (part-vectors o j p h)) (the-segment o j p h);
+        make = refl;
+        numbers = segments-within;
+      };
     }
 
-    pub result-size : length (numbers_of vars f start (orders_of k)) ≡ length (orders_of k)
-    result-size = sym (length-map (numbers_of vars f start (orders_of k)) (λ l. map (λ i. get_or (all_seen_behind [] found) i []) l)) ∙ ap length (seen.lists (all_seen_behind [] found) (extends-refl (all_seen_behind [] found))) ∙ length-map (orders_of k) (list_of vars f)
+    pub lists-count : count_numbers (map (λ o. segments_from (beside (prefixes_of k) segments) o 0) (orders_of k)) ≡ shared_count k (segment_at vars f) (prefixes_of k)
+    lists-count = count-map (block_vector (length vars) kept.exps) (map list_at (orders_of k)) ∙ ap stage_count result-vectors ∙ same-count
 
-    -- ---- at the end of the loop
-    pub final-count : (u : Tallied) → u ≡ tallied vars f start (orders_of k) → u.count ≤ u.most → stage_count found ≤ most
-    final-count u e h = omega (arith, h, ap (λ (z : Tallied). z.count) e, ap (λ (z : Tallied). z.most) e, count-is, seen.most)
+    pub final-count : (c : ℕ) → c ≡ shared_count k (segment_at vars f) (prefixes_of k) → c ≤ most → stage_count (vectors_of (length vars) result) ≤ most
+    final-count c e h = omega (arith, h, e, same-count, ap stage_count result-vectors)
 
-    pub final-weight : (u : Tallied) → u ≡ tallied vars f start (orders_of k) → u.weight ≤ u.heavy → stage_weight (length vars) f found ≤ heavy
-    final-weight u e h = omega (arith, h, ap (λ (z : Tallied). z.weight) e, ap (λ (z : Tallied). z.heavy) e, weight-is, seen.heavy)
+    pub final-weight : kept.weight ≤ kept.heavy → stage_weight (length vars) f (vectors_of (length vars) result) ≤ heavy
+    final-weight h = omega (arith, h, seen.weight, seen.heavy, ap (all_covering (length vars) f) same-first, ap (stage_weight (length vars) f) result-vectors)
 
-    pub final-is : (u : Tallied) (st : Staged) (exps : List Pairs) (lists : List (List ℕ)) → u ≡ tallied vars f start (orders_of k) → st ≡ record { sites = k; exps = exps; lists = lists } → exps ≡ u.exps → lists ≡ numbers_of vars f start (orders_of k) → st ≡ result
-    final-is u st exps lists e q x l = q ∙ rw (x, l, e) refl
+    -- ---- what the program has at its end
+    abbrev pub lists_of : List (List ℕ) → List (List ℕ)
+    lists_of segs = map (λ o. segments_from (beside (prefixes_of k) segs) o 0) (orders_of k)
 
-    -- ---- why listing stops
-    pub stops : (x : StageStop) (u : Tallied) (o : List ℕ) (os : List (List ℕ)) → (f ≡ [] → ⊥) → tallied vars f u (o ∷ os) ≡ tallied vars f start (orders_of k) → IsStoppedBy x (IsPast (see_all (length vars) f u (list_of vars f o))) → StopsListing k vars f most heavy x
-    stops Zero u o os n e h = absurd h
-    stops Stages u o os n e h = (n, (found, found-lists, past-passes (subst IsPast e (over-list vars f u o os h))))
-    stops NoMemory u o os n e h = tt
+    pub final-is : (st : Staged) (exps : List Pairs) (segs lists : List (List ℕ)) (u : Tallied) → st ≡ record { sites = k; exps = exps; segments = segs; lists = lists } → exps ≡ u.exps → u ≡ kept → segs ≡ segments → lists ≡ lists_of segs → st ≡ result
+    final-is st exps segs lists u e x q s l =
+        let y : exps ≡ kept.exps = x ∙ ap (λ (z : Tallied). z.exps) q in
+        let z : lists ≡ lists_of segments = l ∙ ap lists_of s in
+        e ∙ rw (y, s, z) refl
 
-pub poly-terms : (f : Sparse) → IsPoly f → IsTerms f
-poly-terms f p = record { sorted = p.sorted; rising = p.rising; factors = p.factors }
+    pub counted-is : (c : ℕ) (segs lists : List (List ℕ)) → segs ≡ segments → lists ≡ lists_of segs → c ≡ shared_count k (segment_at vars f) (prefixes_of k) → c ≡ count_numbers lists
+    counted-is c segs lists s l e = e ∙ sym lists-count ∙ ap count_numbers (sym (l ∙ ap lists_of s))
 
--- ---- steps of the loop
-pub more-orders : (all : List Order) (i : ℕ) (o : Order) → i < length all → o ≡ get_or all i o → map order_places (drop i all) ≡ order_places o ∷ map order_places (drop (i + 1) all)
-more-orders all i o h e = ap (map order_places) (drop_more all i o h) ∙ ap (λ z. order_places z ∷ map order_places (drop (i + 1) all)) (sym e)
-
-pub step-tally : (vars : List VarInfo) (f : Sparse) (t u T : Tallied) (o : List ℕ) (os rest : List (List ℕ)) → os ≡ o ∷ rest → u ≡ next_list (see_all (length vars) f t (list_of vars f o)) → tallied vars f t os ≡ T → tallied vars f u rest ≡ T
-step-tally vars f t u T o os rest e q h = ap (λ z. tallied vars f z rest) q ∙ sym (tallied-cons vars f t o rest) ∙ ap (tallied vars f t) (sym e) ∙ h
-
-pub step-lists : (vars : List VarInfo) (f : Sparse) (t u : Tallied) (o : List ℕ) (os rest N lists more : List (List ℕ)) (l : List ℕ) → os ≡ o ∷ rest → u ≡ next_list (see_all (length vars) f t (list_of vars f o)) → l ≡ (see_all (length vars) f t (list_of vars f o)).list
-    → more ≡ lists ++ l ∷ [] → lists ++ numbers_of vars f t os ≡ N → more ++ numbers_of vars f u rest ≡ N
-step-lists vars f t u o os rest N lists more l e q x m h =
-    ap (λ z. z ++ numbers_of vars f u rest) m ∙ append_assoc lists (l ∷ []) (numbers_of vars f u rest)
-    ∙ ap (λ z. lists ++ l ∷ numbers_of vars f z rest) q ∙ ap (λ z. lists ++ z ∷ numbers_of vars f (next_list (see_all (length vars) f t (list_of vars f o))) rest) x
-    ∙ ap (λ z. lists ++ z) (sym (numbers-cons vars f t o rest)) ∙ ap (λ z. lists ++ numbers_of vars f t z) (sym e) ∙ h
-
-pub end-tally : (vars : List VarInfo) (f : Sparse) (t T : Tallied) (all : List Order) (i : ℕ) → length all ≤ i → tallied vars f t (map order_places (drop i all)) ≡ T → t ≡ T
-end-tally vars f t T all i h e = sym (tallied-nil vars f t) ∙ ap (λ z. tallied vars f t (map order_places z)) (sym (drop_all i all h)) ∙ e
-
-pub end-lists : (vars : List VarInfo) (f : Sparse) (t : Tallied) (N lists : List (List ℕ)) (all : List Order) (i : ℕ) → length all ≤ i → lists ++ numbers_of vars f t (map order_places (drop i all)) ≡ N → lists ≡ N
-end-lists vars f t N lists all i h e = sym (append-nil lists) ∙ ap (λ z. lists ++ z) (sym (numbers-nil vars f t)) ∙ ap (λ z. lists ++ numbers_of vars f t (map order_places z)) (sym (drop_all i all h)) ∙ e
+    pub weighed-is : (u : Tallied) → u ≡ kept → u.weight ≤ u.heavy → kept.weight ≤ kept.heavy
+    weighed-is u e h = omega (arith, h, ap (λ (z : Tallied). z.weight) e, ap (λ (z : Tallied). z.heavy) e)
 
 -- ---- a polynomial that isn't 0
 pub some-terms : (b : Bool) (f : Sparse) → b ≡ false → (IsTrue b ↔ (f ≡ [])) → f ≡ [] → ⊥

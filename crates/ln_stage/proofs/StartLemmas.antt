@@ -63,13 +63,13 @@ pub zeros-replicate : (n : ℕ) → replicate n 0 ≡ zeros n
 zeros-replicate zero = refl
 zeros-replicate (suc n) = ap (λ z. 0 ∷ z) (zeros-replicate n)
 
-pub start-step : (f : Sparse) (n : ℕ) (sites : Sites) (vs kept p : List ℕ) → AreBelow n f → AreRising f → 0 < length f → IsRanking n sites vs → kept ≡ range_with_len 0 (length f) → p ≡ zeros n → IsStep f vs kept p
-start-step f n sites vs kept p below rising some r ek ep =
+pub start-step : (f : Sparse) (n : ℕ) (vs kept p : List ℕ) → AreBelow n f → AreRising f → 0 < length f → AreFresh n vs → kept ≡ range_with_len 0 (length f) → p ≡ zeros n → IsStep f vs kept p
+start-step f n vs kept p below rising some r ek ep =
     let e : length p ≡ n = ap length ep ∙ length-zeros n in
     record {
       below = rw e below;
       rising = rising;
-      fresh = rw e (fresh-ranking n sites vs r);
+      fresh = rw e r;
       inside = rw ek (inside-all (length f));
       some = omega (arith, some, ap length ek, length-range_with_len 0 (length f));
       covering = rw (e, ek, ep) (rows-all n f ∙ sym (covered-all n f));

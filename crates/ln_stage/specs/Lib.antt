@@ -3,3 +3,7 @@ pub mod Lists
 pub mod StageList
 pub mod Staged
 pub mod Tally
+pub mod Segments
+pub mod SiteWalk
+pub mod FirstSight
+pub mod Visit

@@ -1,17 +1,21 @@
 -- The stages of a predicate, as contracts see them.
-use Rattle.std.specs.Prelude.{◌≡◌, ◌≢◌, ℕ, ◌+◌, ◌<◌, All, List, [], ◌∷◌, length, map, slice_get, slice_index_or, Some}
+use Rattle.std.specs.Prelude.{◌≡◌, ◌≢◌, ℕ, ◌+◌, ◌<◌, ◌≤◌, All, List, [], ◌∷◌, length, map, slice_get, slice_index_or, take, Some}
 use Rattle.ln_tree.specs.declared.shape.VarInfo.{VarInfo}
 use Rattle.ln_tree.specs.Exps.{IsAbove, Pairs, vector}
-use Rattle.ln_order.specs.Orders.{orders_of}
+use Rattle.ln_order.specs.Orders.{IsOrderOf, orders_of}
+use Rattle.ln_order.specs.Prefixes.{beside, prefixes_of, segments_from}
+use Rattle.ln_order.specs.Sites.{sites_of}
 use Rattle.ln_poly.specs.Sparse.{Sparse}
 use Rattle.ln_stage.specs.Lists.{AreStageLists, Passes, first_seen}
+use Rattle.ln_stage.specs.Segments.{IsSegmentOf}
 use Rattle.ln_stage.specs.declared.stop.StageStop.{StageStop}
 use Rattle.ln_stage.specs.declared.stop.StageStop.TheVariants.{Zero, Stages, NoMemory}
 
--- the number of sites, the exponents of each block by number, and for each order of the sites the list of numbers
+-- the number of sites, the exponents of each block by number, for each prefix of orders the numbers of its segment, and for each order of the sites the list of numbers
 pub record Staged : Type 0 where
   pub sites : ℕ
   pub exps : List Pairs
+  pub segments : List (List ℕ)
   pub lists : List (List ℕ)
 
 -- how many numbers there are in all lists
@@ -27,13 +31,25 @@ block_vector n exps i = vector n (slice_index_or exps i [])
 abbrev pub vectors_of : ℕ → Staged → List (List (List ℕ))
 vectors_of n st = map (λ list. map (block_vector n st.exps) list) st.lists
 
--- these are the stages of f: for each order of the sites its stage list, and the blocks in order of first sight
+-- the segment of a prefix, which stands at the number of the prefix among all
+abbrev pub segment_of : Staged → List ℕ → List ℕ
+segment_of st p = beside (prefixes_of st.sites) st.segments p
+
+-- the segment of each prefix has exactly the stages whose last site is the last of the prefix, in every order that begins with it, and a list is the segments of its prefixes, one after the other
+pub record AreSegmentsOf (k : ℕ) (vars : List VarInfo) (f : Sparse) (st : Staged) : Type 0 where
+  pub size : length st.segments ≡ length (prefixes_of k)
+  pub each : (o : List ℕ) (j : ℕ) → IsOrderOf k o → j ≤ k → IsSegmentOf (length vars) (sites_of vars o) f j (map (block_vector (length vars) st.exps) (segment_of st (take j o)))
+  pub make : st.lists ≡ map (λ o. segments_from (segment_of st) o 0) (orders_of k)
+  pub numbers : All (λ segment. All (λ i. i < length st.exps) segment) st.segments
+
+-- these are the stages of f: for each order of the sites its stage list, in segments, and the blocks in order of first sight
 pub record AreStagesOf (k : ℕ) (vars : List VarInfo) (f : Sparse) (st : Staged) : Type 0 where
   pub sites : st.sites ≡ k
   pub lists : AreStageLists k vars f (vectors_of (length vars) st)
   pub first_sight : map (vector (length vars)) st.exps ≡ first_seen (vectors_of (length vars) st)
   pub below : All (λ e. IsAbove e (length vars)) st.exps
   pub numbers : All (λ list. All (λ i. i < length st.exps) list) st.lists
+  pub segments : AreSegmentsOf k vars f st
 
 -- the list of an order of the sites, which stands at the place of the order among all
 pub record IsListOf (st : Staged) (sites numbers : List ℕ) : Type 0 where

@@ -1,19 +1,26 @@
-// The stage lists of all orders of the sites.
-ghost use Rattle.std.specs.Prelude.{◌≡◌, ◌≢◌, ◌<◌, ◌≤◌, ◌^◌, IfOk, IfErr, OnOk, length, replicate, []};
+// The segments of all prefixes of orders of the sites, and the stage lists of the orders.
+ghost use Rattle.std.specs.Prelude.{◌≡◌, ◌≢◌, ◌<◌, ◌≤◌, ◌+◌, ◌*◌, ◌^◌, ◌⊎◌, IfOk, IfErr, OnOk, length, map, replicate, []};
 ghost use Rattle.std.specs.List.{range_with_len};
+ghost use Rattle.ln_order.specs.Fronts.{front_places};
+ghost use Rattle.ln_order.specs.Orders.{orders_of};
 ghost use Rattle.ln_order.specs.Places.{order_places};
+ghost use Rattle.ln_order.specs.Prefixes.{IsPrefixOf, beside, prefixes_of, segments_from};
 ghost use Rattle.ln_poly.specs.Sparse.{AreBelow, AreRising};
-ghost use Rattle.ln_stage.specs.Kept.{list_of};
+ghost use Rattle.ln_stage.specs.FirstSight.{shared_count};
+ghost use Rattle.ln_stage.specs.Kept.{numbers_by, tallied_by};
 ghost use Rattle.ln_stage.specs.Lists.{stage_count, stage_weight};
 ghost use Rattle.ln_stage.specs.Staged.{AreStagesOf, StopsListing, vectors_of};
 ghost use Rattle.ln_stage.specs.Tally.{IsOver, IsStoppedBy, next_list, see_all};
+ghost use Rattle.ln_stage.specs.Visit.{AreCuts, cut_before, cut_in, is_cut_at, segment_at};
 
 use crate::stop::StageStop;
 use crate::table::Stages;
 use crate::tally::Tally;
-use crate::walk::walk;
+use crate::walk::{walk, walk_site};
 use ln_base::{NoMemory, Seq};
-use ln_order::{Order, all_orders, ranking};
+use ln_order::{
+    Front, Order, all_orders, all_prefixes, front_ranking, prefix_number, vars_of_site,
+};
 use ln_poly::Poly;
 use ln_tree::{Exps, Shape};
 use std::alloc::Global;
@@ -36,34 +43,180 @@ fn zeros(alloc: Global, n: usize) -> Result<Vec<u8>, NoMemory>
     Ok(vec![in alloc; 0u8; n]?)
 }
 
-// The stage list of one order of the sites.
-fn list(
+// The stages at a prefix of the orders, in order: those that need its last site and none behind it. Nothing is listed where
+// the cut stands before; answers whether the cut stands here or before.
+fn visit(
     alloc: Global,
     f: &[(Exps, i128)],
     s: &Shape,
-    o: &Order,
+    p: &Front,
+    cut: bool,
     tally: &mut Tally,
-) -> Result<Seq<u32>, StageStop>
-    requires sites { length (order_places o.now) ≡ s.now.sites }
+) -> Result<bool, StageStop>
+    requires prefix { IsPrefixOf s.now.sites (front_places p.now) }
     requires below { AreBelow (length s.now.vars) f.now }
     requires rising { AreRising f.now }
     requires some { 0 < length f.now }
-    ensures list { IfOk result (λ l. l ≡ (see_all (length s.now.vars) f.now tally.old (list_of s.now.vars f.now (order_places o.now))).list) }
-    ensures rest { OnOk result (tally.new ≡ next_list (see_all (length s.now.vars) f.now tally.old (list_of s.now.vars f.now (order_places o.now)))) }
-    ensures err { IfErr result (λ e. IsStoppedBy e (IsOver (see_all (length s.now.vars) f.now tally.old (list_of s.now.vars f.now (order_places o.now))))) }
+    requires before { cut ≡ cut_before s.now.vars f.now (front_places p.now) }
+    ensures ok { IfOk result (λ c. c ≡ is_cut_at s.now.vars f.now (front_places p.now)) }
+    ensures seen { OnOk result (tally.new ≡ see_all (length s.now.vars) f.now tally.old (segment_at s.now.vars f.now (front_places p.now))) }
+    ensures err { IfErr result (λ e. IsStoppedBy e (IsOver (see_all (length s.now.vars) f.now tally.old (segment_at s.now.vars f.now (front_places p.now))))) }
 {
-    let vars = ranking(alloc, o, s)?;
+    if cut {
+        return Ok(true);
+    }
+    let vars = front_ranking(alloc, p, s)?;
     let kept = places(alloc, f.len())?;
     let start = zeros(alloc, s.vars.len())?;
-    walk(
+    let sites = p.places();
+    if sites.is_empty() {
+        return walk(
+            alloc,
+            f,
+            vars.as_slice(),
+            kept.as_slice(),
+            start.as_slice(),
+            0,
+            tally,
+        );
+    }
+    let last = vars_of_site(alloc, s, sites[sites.len() - 1])?;
+    walk_site(
         alloc,
         f,
         vars.as_slice(),
+        last.len(),
         kept.as_slice(),
         start.as_slice(),
         tally,
-    )?;
+    )
+}
+
+// Does the cut stand before the prefix of this length?
+fn before(cuts: &[bool], n: usize) -> bool
+    requires { n ≤ length cuts.now }
+    ensures { result ≡ cut_in cuts.now n }
+{
+    if n == 0 {
+        return false;
+    }
+    cuts[n - 1]
+}
+
+// The segment of a prefix, as numbers of blocks.
+fn segment(
+    alloc: Global,
+    f: &[(Exps, i128)],
+    s: &Shape,
+    p: &Front,
+    cuts: &mut [bool; 6],
+    tally: &mut Tally,
+) -> Result<Seq<u32>, StageStop>
+    requires prefix { IsPrefixOf s.now.sites (front_places p.now) }
+    requires below { AreBelow (length s.now.vars) f.now }
+    requires rising { AreRising f.now }
+    requires some { 0 < length f.now }
+    requires cuts { AreCuts s.now.vars f.now (length (front_places p.now)) (front_places p.now) cuts.old }
+    ensures list { IfOk result (λ l. l ≡ (see_all (length s.now.vars) f.now tally.old (segment_at s.now.vars f.now (front_places p.now))).list) }
+    ensures rest { OnOk result (tally.new ≡ next_list (see_all (length s.now.vars) f.now tally.old (segment_at s.now.vars f.now (front_places p.now)))) }
+    ensures cuts { OnOk result (AreCuts s.now.vars f.now (length (front_places p.now) + 1) (front_places p.now) cuts.new) }
+    ensures err { IfErr result (λ e. IsStoppedBy e (IsOver (see_all (length s.now.vars) f.now tally.old (segment_at s.now.vars f.now (front_places p.now))))) }
+{
+    let n = p.places().len();
+    let cut = before(cuts, n);
+    let here = visit(alloc, f, s, p, cut, tally)?;
+    cuts[n] = here;
     Ok(tally.take_list(alloc))
+}
+
+// How many orders so many sites have.
+fn orders(k: u8) -> u64
+    requires { k ≤ 5 }
+    ensures value { result ≡ length (orders_of k) }
+    ensures few { result ≤ 120 }
+{
+    match k {
+        0 | 1 => 1,
+        2 => 2,
+        3 => 6,
+        4 => 24,
+        _ => 120,
+    }
+}
+
+// The count with the stages of one segment more, which stands in so many lists.
+fn with_segment(count: u64, stages: usize, lists: u64, most: u64) -> Result<u64, StageStop>
+    requires few { lists ≤ 120 }
+    ensures ok { IfOk result (λ n. n ≡ count + lists * stages) }
+    ensures within { IfOk result (λ n. n ≤ most) }
+    ensures err { IfErr result (λ e. IsStoppedBy e (most < count + lists * stages)) }
+{
+    let all = u128::from(count) + u128::from(lists) * stages as u128;
+    if all > u128::from(most) {
+        return Err(StageStop::Stages);
+    }
+    Ok(all as u64)
+}
+
+// The segments of these prefixes, and how many stages there are in all lists.
+fn listed(
+    alloc: Global,
+    f: &[(Exps, i128)],
+    s: &Shape,
+    prefixes: &[Front],
+    most: u64,
+    tally: &mut Tally,
+) -> Result<(Seq<Seq<u32>>, u64), StageStop>
+    requires prefixes { map front_places prefixes.now ≡ prefixes_of s.now.sites }
+    requires below { AreBelow (length s.now.vars) f.now }
+    requires rising { AreRising f.now }
+    requires some { 0 < length f.now }
+    requires empty { tally.old.list ≡ [] }
+    ensures segments { IfOk result (λ r. r.0 ≡ numbers_by (segment_at s.now.vars f.now) (length s.now.vars) f.now tally.old (prefixes_of s.now.sites)) }
+    ensures count { IfOk result (λ r. r.1 ≡ shared_count s.now.sites (segment_at s.now.vars f.now) (prefixes_of s.now.sites)) }
+    ensures within { IfOk result (λ r. r.1 ≤ most) }
+    ensures rest { OnOk result (tally.new ≡ tallied_by (segment_at s.now.vars f.now) (length s.now.vars) f.now tally.old (prefixes_of s.now.sites)) }
+    ensures err { IfErr result (λ e. IsStoppedBy e (IsOver (tallied_by (segment_at s.now.vars f.now) (length s.now.vars) f.now tally.old (prefixes_of s.now.sites)) ⊎ (most < shared_count s.now.sites (segment_at s.now.vars f.now) (prefixes_of s.now.sites)))) }
+{
+    let mut cuts = [false; 6];
+    let mut segments = Seq::new(alloc);
+    let mut count = 0;
+    'prefixes: for p in prefixes {
+        let list = segment(alloc, f, s, p, &mut cuts, tally)?;
+        let left = s.sites - p.places().len() as u8;
+        let more = with_segment(count, list.len(), orders(left), most)?;
+        count = more;
+        segments.push(list)?;
+    }
+    Ok((segments, count))
+}
+
+// The list of an order: its segments, one after the other.
+fn list(alloc: Global, segments: &[Seq<u32>], o: &Order) -> Result<Seq<u32>, NoMemory>
+    requires { length segments.now ≡ length (prefixes_of (length (order_places o.now))) }
+    ensures { IfOk result (λ l. l ≡ segments_from (beside (prefixes_of (length (order_places o.now))) segments.now) (order_places o.now) 0) }
+{
+    let n = o.places().len() as u8;
+    let mut list = Vec::new(alloc);
+    'prefixes: for j in 0..n + 1 {
+        let segment = segments[prefix_number(o, j) as usize].as_slice();
+        list.extend_from_slice(segment)?;
+    }
+    Ok(Seq::from_vec(list))
+}
+
+// The lists of all orders.
+fn lists(alloc: Global, k: u8, segments: &[Seq<u32>]) -> Result<Seq<Seq<u32>>, NoMemory>
+    requires few { k ≤ 5 }
+    requires size { length segments.now ≡ length (prefixes_of k) }
+    ensures { IfOk result (λ ls. ls ≡ map (λ o. segments_from (beside (prefixes_of k) segments.now) o 0) (orders_of k)) }
+{
+    let orders = all_orders(alloc, k)?;
+    let mut lists = Seq::new(alloc);
+    'orders: for o in orders.as_slice() {
+        lists.push(list(alloc, segments, o)?)?;
+    }
+    Ok(lists)
 }
 
 /// The stages of a polynomial over a shape: for each order of the sites its stage list, with the blocks numbered in order
@@ -91,13 +244,11 @@ pub fn stages(
         return Err(StageStop::Zero);
     }
     let terms = f.terms();
-    let orders = all_orders(alloc, s.sites)?;
-    let orders = orders.as_slice();
+    let prefixes = all_prefixes(alloc, s.sites)?;
     let mut tally = Tally::new(alloc, most, heavy);
-    let mut lists = Seq::new(alloc);
-    'orders: for o in orders {
-        lists.push(list(alloc, terms, s, o, &mut tally)?)?;
-    }
-    let (count, blocks) = tally.into_blocks();
-    Ok(Stages::of(s.sites, blocks, lists, count))
+    let found = listed(alloc, terms, s, prefixes.as_slice(), most, &mut tally)?;
+    let (segments, count) = found;
+    let lists = lists(alloc, s.sites, segments.as_slice())?;
+    let (_, blocks) = tally.into_blocks();
+    Ok(Stages::of(s.sites, blocks, segments, lists, count))
 }

@@ -1,22 +1,25 @@
 // The stages of a polynomial.
-ghost use Rattle.std.specs.Prelude.{◌≡◌, ◌<◌, ◌≤◌, slice_index_or, [], length};
+ghost use Rattle.std.specs.Prelude.{◌≡◌, ◌<◌, ◌≤◌, slice_index_or, [], length, take};
 ghost use Rattle.indexmap.specs.IndexMap.{keys};
 ghost use Rattle.ln_order.specs.Orders.{orders_of};
 ghost use Rattle.ln_order.specs.Places.{order_places};
-ghost use Rattle.ln_stage.specs.Staged.{IsListOf, count_numbers};
+ghost use Rattle.ln_order.specs.Prefixes.{prefixes_of};
+ghost use Rattle.ln_stage.specs.Staged.{IsListOf, count_numbers, segment_of};
 
 use indexmap::IndexMap;
 use ln_base::Seq;
-use ln_order::Order;
+use ln_order::{Order, prefix_number};
 use ln_tree::Exps;
 use std::marker::Model;
 
-/// The stages of a polynomial: for each order of the sites, in the order of `all_orders`, the list of its blocks by
-/// number, and the exponents of each block. Blocks are numbered in order of first sight.
+/// The stages of a polynomial: for each prefix of orders of the sites, in the order of `all_prefixes`, the blocks of its
+/// segment by number; for each order, in the order of `all_orders`, the list of its blocks, which is its segments one
+/// after the other; and the exponents of each block. Blocks are numbered in order of first sight through the lists.
 #[derive(Drop)]
 pub struct Stages {
     sites: u8,
     blocks: IndexMap<Exps, ()>,
+    segments: Seq<Seq<u32>>,
     lists: Seq<Seq<u32>>,
     count: u64,
 }
@@ -25,31 +28,35 @@ impl Model for Stages {
     ghost use Rattle.std.specs.Prelude.{◌≡◌, ◌≤◌, length};
     ghost use Rattle.indexmap.specs.IndexMap.{keys};
     ghost use Rattle.ln_order.specs.Orders.{orders_of};
+    ghost use Rattle.ln_order.specs.Prefixes.{prefixes_of};
     ghost use Rattle.ln_stage.specs.Staged.{Staged, count_numbers};
 
     ghost Value = { Staged };
 
-    ghost view = { λ s. record { sites = s.sites; exps = keys s.blocks; lists = s.lists } };
+    ghost view = { λ s. record { sites = s.sites; exps = keys s.blocks; segments = s.segments; lists = s.lists } };
 
-    ghost invariant = { λ s. record { few : s.sites ≤ 5; all : length s.lists ≡ length (orders_of s.sites); counted : s.count ≡ count_numbers s.lists } };
+    ghost invariant = { λ s. record { few : s.sites ≤ 5; each : length s.segments ≡ length (prefixes_of s.sites); all : length s.lists ≡ length (orders_of s.sites); counted : s.count ≡ count_numbers s.lists } };
 }
 
 impl Stages {
-    // The stages with these lists.
+    // The stages with these segments and lists.
     pub(crate) fn of(
         sites: u8,
         blocks: IndexMap<Exps, ()>,
+        segments: Seq<Seq<u32>>,
         lists: Seq<Seq<u32>>,
         count: u64,
     ) -> Stages
         requires few { sites ≤ 5 }
+        requires each { length segments ≡ length (prefixes_of sites) }
         requires all { length lists ≡ length (orders_of sites) }
         requires counted { count ≡ count_numbers lists }
-        ensures { result ≡ record { sites = sites; exps = keys blocks; lists = lists } }
+        ensures { result ≡ record { sites = sites; exps = keys blocks; segments = segments; lists = lists } }
     {
         Stages {
             sites,
             blocks,
+            segments,
             lists,
             count,
         }
@@ -78,6 +85,17 @@ impl Stages {
             Some((exps, _)) => exps,
             None => unreachable!(),
         }
+    }
+
+    /// The segment of an order of the sites at its first j places, as numbers of blocks: the members of its list, in order,
+    /// whose last site with an exponent is the j-th, and with j = 0 the member 0. It is that of every order with these
+    /// first places, and the segments for j = 0, 1, .. are the list. It takes no memory.
+    pub fn segment(&self, o: &Order, j: u8) -> &[u32]
+        requires order { length (order_places o.now) ≡ self.now.sites }
+        requires within { j ≤ length (order_places o.now) }
+        ensures { result.now ≡ segment_of self.now (take j (order_places o.now)) }
+    {
+        self.segments.as_slice()[prefix_number(o, j) as usize].as_slice()
     }
 
     /// The stage list of an order of the sites, as numbers of blocks.

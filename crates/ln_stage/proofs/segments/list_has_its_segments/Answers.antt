@@ -1,0 +1,5 @@
+use Rattle.ln_stage.proofs.SegmentLemmas.{list-has-its-segments}
+use Rattle.ln_stage.proofs.segments.list_has_its_segments.Goals as goal
+
+pub returns : goal.returns
+returns c = list-has-its-segments
