@@ -39,7 +39,7 @@ abbrev pub nodes_of_all : List Tree → ℕ
 nodes_of_all [] = 0
 nodes_of_all (e ∷ es) = nodes_of e + nodes_of_all es
 
-nodes_same : (vars : List VarInfo) (f : Formula) → nodes_of (tree vars f) ≡ node_count f
+pub nodes_same : (vars : List VarInfo) (f : Formula) → nodes_of (tree vars f) ≡ node_count f
 nodes_same vars (FNum at c) = refl
 nodes_same vars (FInput at a c) = refl
 nodes_same vars (FName at j) = refl
@@ -129,7 +129,7 @@ length_map : (ts : List Typed) → length (map untyped ts) ≡ length ts
 length_map [] = refl
 length_map (t ∷ ts) = ap suc (length_map ts)
 
-length_trees : (vars : List VarInfo) (es : List Expr) → length (map (tree_of vars) es) ≡ length es
+pub length_trees : (vars : List VarInfo) (es : List Expr) → length (map (tree_of vars) es) ≡ length es
 length_trees vars [] = refl
 length_trees vars (e ∷ es) = ap suc (length_trees vars es)
 
@@ -158,7 +158,7 @@ exact_kept args vars es root ts t k p q h g r s =
       cheap = omega (arith, a, b, c, d, z);
     }
 
-trees_of_formulas : (vars : List VarInfo) (es : List Expr) → map (tree vars) (map formula es) ≡ map (tree_of vars) es
+pub trees_of_formulas : (vars : List VarInfo) (es : List Expr) → map (tree vars) (map formula es) ≡ map (tree_of vars) es
 trees_of_formulas vars [] = refl
 trees_of_formulas vars (e ∷ es) = ap (λ (ts : List Tree). tree_of vars e ∷ ts) (trees_of_formulas vars es)
 

@@ -10,3 +10,13 @@ pub mod SoundLaws
 pub mod Views
 pub mod LetSteps
 pub mod RootWeight
+pub mod RangeLaws
+pub mod LoadLaws
+pub mod RangedRoom
+pub mod Measuring
+pub mod RangedSoundLaws
+pub mod RangedTests
+pub mod RangedExactLaws
+pub mod RangedViews
+pub mod RangedSteps
+pub mod RangedKept

@@ -7,3 +7,11 @@ pub mod View
 pub mod Sound
 pub mod Exact
 pub mod Room
+pub mod UpTo
+pub mod Ranges
+pub mod Loads
+pub mod Measures
+pub mod RangedTyped
+pub mod RangedView
+pub mod RangedSound
+pub mod RangedExact

@@ -1,13 +1,9 @@
 -- The plain value of an expression, and its weight.
-use Rattle.std.specs.Prelude.{ℕ, suc, zero, ◌+◌, ◌*◌, ◌^◌, max, ℤ, pos, ◌+ℤ◌, ◌-ℤ◌, ◌*ℤ◌, neg_ℤ, unsigned_abs, List, Option, Some, None, slice_get, slice_index_or}
+use Rattle.std.specs.Prelude.{ℕ, ◌+◌, ◌*◌, ◌^◌, max, ℤ, pos, ◌+ℤ◌, ◌-ℤ◌, ◌*ℤ◌, neg_ℤ, unsigned_abs, List, Option, Some, None, slice_get, slice_index_or}
 use Rattle.ln_algebra.specs.Tree.{Tree, Num, Input, Name, Neg, Add, Sub, Mul, Pow}
 use Rattle.ln_tree.specs.declared.shape.VarInfo.{VarInfo}
 pub use Rattle.ln_tree.specs.Row.{values}
-
--- z to the power of n
-abbrev pub power : ℤ → ℕ → ℤ
-power z zero = pos 1
-power z (suc n) = power z n *ℤ z
+pub use Rattle.ln_interval.specs.Number.{power}
 
 -- the value of an expression where variable v has the value x v, and let j the value of number j in the list
 abbrev pub value : (ℕ → ℤ) → List ℤ → Tree → ℤ

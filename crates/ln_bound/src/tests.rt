@@ -1,6 +1,9 @@
 // Predicates made by hand, weighed and sized.
 use crate::fitted::{Two, Width};
 use crate::fitted_pred::FittedPred;
+use crate::ranged_pred::RangedPred;
+use crate::ranged_size::size_by_ranges;
+use crate::ranged_weigh::weigh_by_ranges;
 use crate::size::size;
 use crate::weigh::{BoundStop, weigh};
 use ln_base::{NoMemory, Seq, Span};
@@ -144,6 +147,24 @@ fn with_lets(rt: &impl Abort, alloc: Global) -> Result<Pred, NoMemory> {
     pred(rt, alloc, 1, vars(alloc, 1, 1, -2, 3)?, lets, root)
 }
 
+/// (a.t + b.t)^2 - (a.t - b.t)^2 with each t from lo to hi; its root stands at 54
+fn cross(rt: &impl Abort, alloc: Global, lo: i64, hi: i64) -> Result<Pred, NoMemory> {
+    let sum = two(alloc, Two::Plus, coord(0, 0), coord(1, 0), 0)?;
+    let difference = two(alloc, Two::Minus, coord(0, 0), coord(1, 0), 0)?;
+    let left = power(alloc, sum, 2)?;
+    let right = power(alloc, difference, 2)?;
+    let root = two(alloc, Two::Minus, left, right, 54)?;
+    let vars = vars(alloc, 2, 1, lo, hi)?;
+    pred(rt, alloc, 2, vars, Seq::new(alloc), root)
+}
+
+/// The size of the root, and the trees with ranges.
+fn ranged(alloc: Global, p: &Pred) -> Result<(u128, RangedPred), BoundStop> {
+    let w = weigh_by_ranges(alloc, p)?;
+    let trees = size_by_ranges(alloc, p)?;
+    Ok((w.root(), trees))
+}
+
 /// The weight of the root, and the trees.
 fn sized(alloc: Global, p: &Pred) -> Result<(u128, FittedPred), BoundStop> {
     let w = weigh(alloc, p)?;
@@ -185,5 +206,34 @@ fn lets_and_powers_carry_bounds_and_widths(rt: HostRuntime) -> Result<(), Fail> 
     }
     assert_eq!(rt; trees.root.bound, 1);
     assert_eq!(rt; trees.root.width, Width::W128);
+    Ok(())
+}
+
+#[test]
+fn the_orientation_has_size_32(rt: HostRuntime) -> Result<(), Fail> {
+    let p = orientation(&rt, rt.alloc())?;
+    let (size, trees) = ranged(rt.alloc(), &p)?;
+    assert!(rt; size == 32);
+    assert!(rt; trees.root.pair.low == -8000000);
+    assert!(rt; trees.root.pair.high == 8000000);
+    assert!(rt; trees.root.width == Width::W64);
+    Ok(())
+}
+
+#[test]
+fn a_difference_of_squares_fits_where_its_weight_does_not(rt: HostRuntime) -> Result<(), Fail> {
+    let x = 4611686018427387903;
+    let p = cross(&rt, rt.alloc(), -x, x)?;
+    let at = Span { start: 54, end: 54 };
+    assert!(rt; weigh(rt.alloc(), &p).err() == Some(BoundStop::Bound(at)));
+    let (size, trees) = ranged(rt.alloc(), &p)?;
+    assert!(rt; size == 32);
+    assert!(rt; trees.root.pair.high == 170141183460469231657900327421045899272);
+    let wide = cross(&rt, rt.alloc(), -5000000000000000000, 5000000000000000000)?;
+    assert!(rt; weigh_by_ranges(rt.alloc(), &wide).err() == Some(BoundStop::Bound(at)));
+    let above = cross(&rt, rt.alloc(), 0, 5000000000000000000)?;
+    let (_, trees) = ranged(rt.alloc(), &above)?;
+    assert!(rt; trees.root.pair.low == -25000000000000000000000000000000000000);
+    assert!(rt; trees.root.pair.high == 125000000000000000000000000000000000000);
     Ok(())
 }

@@ -1,0 +1,216 @@
+//! The ranges and widths of a predicate's nodes.
+ghost use Rattle.std.specs.Prelude.{◌≡◌, ◌≤◌, ◌<◌, ◌++◌, ◌∷◌, ◌≤ℤ◌, [], ℕ, true, IfOk, length, map, unsigned_abs};
+ghost use Rattle.ln_algebra.specs.Tree.{Name};
+ghost use Rattle.ln_interval.specs.Range.{IsOrdered, magnitude, most, opposite, point, power};
+ghost use Rattle.ln_interval.specs.View.{range};
+ghost use Rattle.ln_tree.specs.Fits.{is_fit, lets_fit};
+ghost use Rattle.ln_tree.specs.Formula.{formula, tree_of};
+ghost use Rattle.ln_bound.specs.Light.{AreLight};
+ghost use Rattle.ln_bound.specs.Loads.{loaded_pred};
+ghost use Rattle.ln_bound.specs.RangedExact.{AreExact, IsExact};
+ghost use Rattle.ln_bound.specs.RangedTyped.{TInput, TNeg, TNum, TPow, TTwo, pair, range_of, untyped, width};
+ghost use Rattle.ln_bound.specs.RangedView.{typed};
+ghost use Rattle.ln_bound.specs.Ranges.{HaveRange, LetsHaveRange, ranges};
+ghost use Rattle.ln_bound.specs.Widths.{least, wider};
+
+use crate::fitted::{Two, Width};
+use crate::measure::declared;
+use crate::ranged::{Ranged, RangedOp};
+use crate::ranged_pred::RangedPred;
+use ln_base::{NoMemory, Seq};
+use ln_interval::Pair;
+use ln_tree::layout::number_in;
+use ln_tree::{Expr, Node, Pred, VarInfo};
+use std::alloc::Global;
+
+// The least width that fits a pair.
+fn least_for(p: Pair) -> Width
+    ensures { result ≡ least (magnitude (range p)) }
+{
+    Width::least(p.magnitude())
+}
+
+/// The tree of the number c: its range is c alone, its width the least that fits it.
+pub fn number(c: i128) -> Ranged
+    requires { unsigned_abs c ≤ most }
+    ensures { typed result ≡ TNum c (point c) (least (magnitude (point c))) }
+{
+    let pair = Pair { low: c, high: c };
+    Ranged {
+        op: RangedOp::Num(c),
+        pair,
+        width: least_for(pair),
+    }
+}
+
+/// The tree of variable number v: its range is the declared one, its width the least that fits it.
+pub fn input(vars: &[VarInfo], v: usize) -> Ranged
+    requires few { length vars.now ≤ 168 }
+    requires within { v < length vars.now }
+    requires ordered { IsOrdered (ranges vars.now v) }
+    ensures { typed result ≡ TInput v (ranges vars.now v) (least (magnitude (ranges vars.now v))) }
+{
+    let pair = declared(&vars[v]);
+    Ranged {
+        op: RangedOp::Input(v as u8),
+        pair,
+        width: least_for(pair),
+    }
+}
+
+fn named(lets: &[Ranged], j: u8) -> Ranged
+    requires { j < length lets.now }
+    ensures tree { untyped (typed result) ≡ Name j }
+    ensures exact { IsExact [] (map typed lets.now) (typed result) }
+{
+    let of = &lets[usize::from(j)];
+    let pair = of.pair;
+    Ranged {
+        op: RangedOp::Let(j),
+        pair,
+        width: of.width.wider(least_for(pair)),
+    }
+}
+
+/// The opposite of a tree, with the opposite range; its width is no narrower than the tree's.
+pub fn negated(alloc: Global, x: Ranged) -> Result<Ranged, NoMemory>
+    ensures { IfOk result (λ t. typed t ≡ TNeg (typed x) (opposite (pair (typed x))) (wider (width (typed x)) (least (magnitude (opposite (pair (typed x))))))) }
+{
+    let pair = x.pair.neg();
+    let width = x.width.wider(least_for(pair));
+    Ok(Ranged {
+        op: RangedOp::Neg(Box::new(alloc, x)?),
+        pair,
+        width,
+    })
+}
+
+// The pair of an operation on two, where it is within the limit.
+fn pair_of(kind: Two, p: Pair, q: Pair) -> Pair
+    requires { magnitude (range_of kind (range p) (range q)) ≤ most }
+    ensures { range result ≡ range_of kind (range p) (range q) }
+{
+    match kind {
+        Two::Plus => p.add(q).unwrap(),
+        Two::Minus => p.sub(q).unwrap(),
+        Two::Times => p.mul(q).unwrap(),
+    }
+}
+
+/// The sum, difference or product of two trees. Its range is the operation over the operands' ranges, which has to be
+/// within `2^127 - 1`; its width is the least that fits the range and is no narrower than an operand.
+pub fn two(alloc: Global, kind: Two, x: Ranged, y: Ranged) -> Result<Ranged, NoMemory>
+    requires { magnitude (range_of kind (pair (typed x)) (pair (typed y))) ≤ most }
+    ensures { IfOk result (λ t. typed t ≡ TTwo kind (typed x) (typed y) (range_of kind (pair (typed x)) (pair (typed y))) (wider (wider (width (typed x)) (width (typed y))) (least (magnitude (range_of kind (pair (typed x)) (pair (typed y))))))) }
+{
+    let pair = pair_of(kind, x.pair, y.pair);
+    let width = x.width.wider(y.width).wider(least_for(pair));
+    let x = Box::new(alloc, x)?;
+    let y = Box::new(alloc, y)?;
+    match kind {
+        Two::Plus => Ok(Ranged {
+            op: RangedOp::Add(x, y),
+            pair,
+            width,
+        }),
+        Two::Minus => Ok(Ranged {
+            op: RangedOp::Sub(x, y),
+            pair,
+            width,
+        }),
+        Two::Times => Ok(Ranged {
+            op: RangedOp::Mul(x, y),
+            pair,
+            width,
+        }),
+    }
+}
+
+// The power of a tree, whose range has to be within the limit.
+fn raised(alloc: Global, x: Ranged, n: u8) -> Result<Ranged, NoMemory>
+    requires { magnitude (power (pair (typed x)) n) ≤ most }
+    ensures { IfOk result (λ t. typed t ≡ TPow (typed x) n (power (pair (typed x)) n) (wider (width (typed x)) (least (magnitude (power (pair (typed x)) n))))) }
+{
+    let pair = x.pair.power(n).unwrap();
+    let width = x.width.wider(least_for(pair));
+    Ok(Ranged {
+        op: RangedOp::Pow(Box::new(alloc, x)?, n),
+        pair,
+        width,
+    })
+}
+
+// The tree of an expression behind lets of these trees.
+fn fit(alloc: Global, e: &Expr, vars: &[VarInfo], lets: &[Ranged]) -> Result<Ranged, NoMemory>
+    requires few { length vars.now ≤ 168 }
+    requires ordered { (k : ℕ) → IsOrdered (ranges vars.now k) }
+    requires fit { is_fit (length vars.now) (length lets.now) (tree_of vars.now e.now) ≡ true }
+    requires small { HaveRange vars.now (map pair (map typed lets.now)) (tree_of vars.now e.now) }
+    ensures tree { IfOk result (λ t. untyped (typed t) ≡ tree_of vars.now e.now) }
+    ensures exact { IfOk result (λ t. IsExact vars.now (map typed lets.now) (typed t)) }
+{
+    match &e.node {
+        Node::Num(c) => Ok(number(*c)),
+        Node::Input(v) => Ok(input(vars, number_in(vars, *v))),
+        Node::Name(j) => Ok(named(lets, *j)),
+        Node::Neg(x) => {
+            let x = fit(alloc, x, vars, lets)?;
+            negated(alloc, x)
+        }
+        Node::Add(x, y) => {
+            let x = fit(alloc, x, vars, lets)?;
+            let y = fit(alloc, y, vars, lets)?;
+            two(alloc, Two::Plus, x, y)
+        }
+        Node::Sub(x, y) => {
+            let x = fit(alloc, x, vars, lets)?;
+            let y = fit(alloc, y, vars, lets)?;
+            two(alloc, Two::Minus, x, y)
+        }
+        Node::Mul(x, y) => {
+            let x = fit(alloc, x, vars, lets)?;
+            let y = fit(alloc, y, vars, lets)?;
+            two(alloc, Two::Times, x, y)
+        }
+        Node::Pow(x, n) => {
+            let x = fit(alloc, x, vars, lets)?;
+            raised(alloc, x, *n)
+        }
+    }
+}
+
+// The trees of the lets, each behind those before it.
+#[tactic(auto, using(crate::proofs::RangedExactLaws::lets_start, crate::proofs::RangedExactLaws::next_fit, crate::proofs::RangedExactLaws::next_range))]
+fn fit_lets(alloc: Global, lets: &[Expr], vars: &[VarInfo]) -> Result<Seq<Ranged>, NoMemory>
+    requires few { length vars.now ≤ 168 }
+    requires ordered { (k : ℕ) → IsOrdered (ranges vars.now k) }
+    requires fit { lets_fit (length vars.now) 0 (map (tree_of vars.now) lets.now) ≡ true }
+    requires small { LetsHaveRange vars.now [] (map (tree_of vars.now) lets.now) }
+    ensures trees { IfOk result (λ ts. map untyped (map typed ts) ≡ map (tree_of vars.now) lets.now) }
+    ensures exact { IfOk result (λ ts. AreExact vars.now [] (map typed ts)) }
+{
+    let mut done = Seq::new(alloc);
+    'each: for e in lets {
+        let t = fit(alloc, e, vars, done.as_slice())?;
+        done.push(t)?;
+    }
+    Ok(done)
+}
+
+/// The trees of a predicate's lets and root with the range and the width of each node. Each range is exactly its operation
+/// over the ranges of its operands, of a variable the declared one; each width is the least that fits the range and is no
+/// narrower than an operand. No range and no size of a node may pass `2^127 - 1`, as `weigh_by_ranges` answers.
+pub fn size_by_ranges(alloc: Global, p: &Pred) -> Result<RangedPred, NoMemory>
+    requires { AreLight (loaded_pred p.now.shape.vars (map formula p.now.lets) (formula p.now.root)) }
+    ensures shape { IfOk result (λ f. f.shape ≡ p.now.shape) }
+    ensures lets { IfOk result (λ f. map untyped (map typed f.lets) ≡ map (tree_of p.now.shape.vars) p.now.lets) }
+    ensures root { IfOk result (λ f. untyped (typed f.root) ≡ tree_of p.now.shape.vars p.now.root) }
+    ensures exact_lets { IfOk result (λ f. AreExact p.now.shape.vars [] (map typed f.lets)) }
+    ensures exact_root { IfOk result (λ f. IsExact p.now.shape.vars (map typed f.lets) (typed f.root)) }
+{
+    let vars = p.shape.vars.as_slice();
+    let lets = fit_lets(alloc, p.lets.as_slice(), vars)?;
+    let root = fit(alloc, &p.root, vars, lets.as_slice())?;
+    let shape = p.shape.copy(alloc)?;
+    Ok(RangedPred { shape, lets, root })
+}

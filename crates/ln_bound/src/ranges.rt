@@ -1,0 +1,28 @@
+//! Laws of ranges and loads.
+ghost use Rattle.std.specs.Prelude.{◌≡◌, ◌≤◌, ℕ, ℤ, List, [], map, true, length, unsigned_abs};
+ghost use Rattle.ln_algebra.specs.Tree.{Tree, inlined};
+ghost use Rattle.ln_interval.specs.Range.{Range, Holds};
+ghost use Rattle.ln_tree.specs.Fits.{is_fit, lets_fit};
+ghost use Rattle.ln_tree.specs.Formula.{Formula, tree};
+ghost use Rattle.ln_tree.specs.Row.{AreWithin};
+ghost use Rattle.ln_tree.specs.declared.shape.VarInfo.{VarInfo as Info};
+ghost use Rattle.ln_bound.specs.Light.{AreLight, LetsFit, ValuesFit, let_values, weighed_pred};
+ghost use Rattle.ln_bound.specs.Loads.{loaded_pred};
+ghost use Rattle.ln_bound.specs.Ranges.{AreHeld, LetsAreHeld, let_ranges, range_over, ranges};
+ghost use Rattle.ln_bound.specs.Value.{values};
+
+/// On every row in range the value of each node of lets, and of an expression behind them, is in its range. Lets may be put
+/// in place of their names.
+pub fn values_are_in_ranges()
+    ensures lets { (vars : List Info) (zs : List ℤ) (es : List Tree) → AreWithin vars zs → LetsAreHeld (values zs) [] (ranges vars) [] es }
+    ensures tree { (vars : List Info) (zs : List ℤ) (es : List Tree) (e : Tree) → AreWithin vars zs → AreHeld (values zs) (let_values (values zs) [] es) (ranges vars) (let_ranges (ranges vars) [] es) e }
+    ensures inlined { (r : ℕ → Range) (ts : List Tree) (e : Tree) → range_over r [] (inlined ts e) ≡ range_over r (map (range_over r []) ts) e }
+    ensures fit { (vars : List Info) (x : ℕ → ℤ) (lets : List Formula) (root : Formula) → ((v : ℕ) → Holds (ranges vars v) (x v)) → AreLight (loaded_pred vars lets root) → LetsFit x [] (map (tree vars) lets) × ValuesFit x (let_values x [] (map (tree vars) lets)) (tree vars root) }
+    ensures in_range { (vars : List Info) (zs : List ℤ) → AreWithin vars zs → (v : ℕ) → Holds (ranges vars v) (values zs v) }
+{}
+
+/// Where no node is too heavy by weight, no range and no size of a node passes the limit: what is accepted by weight is
+/// accepted by ranges and sizes.
+pub fn light_nodes_stay_light()
+    ensures { (vars : List Info) (k : ℕ) (lets : List Formula) (root : Formula) → lets_fit (length vars) 0 (map (tree vars) lets) ≡ true → is_fit (length vars) k (tree vars root) ≡ true → AreLight (weighed_pred vars lets root) → AreLight (loaded_pred vars lets root) }
+{}
