@@ -1,0 +1,5 @@
+pub mod Look
+pub mod Slots
+pub mod Funs
+pub mod Within
+pub mod Named

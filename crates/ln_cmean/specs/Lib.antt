@@ -1,0 +1,4 @@
+pub mod Answered
+pub mod Room
+pub mod Scene
+pub mod Slots

@@ -1,0 +1,183 @@
+//! What the statements of a body do.
+ghost use Rattle.std.specs.Prelude.{◌≡◌, ◌+◌, ◌≤◌, OnOk, IfOk, true, length, ℤ};
+ghost use Rattle.ln_csyn.specs.Meaning.{runs, line_of, wanted, value_of, has, Outcome};
+ghost use Rattle.ln_csyn.specs.Meaning as m;
+ghost use Rattle.ln_csyn.specs.Tree.{Body, Decl};
+ghost use Rattle.ln_csyn.specs.View.{expr_tree, body_tree, stmt_front};
+ghost use Rattle.ln_cmean.specs.Answered.{goes_on, goes_with, ended, fault_line, tally};
+ghost use Rattle.ln_cmean.specs.Room.{HasRoom, IsNoSmaller, IsSame, IsFront, slots_in, letters_in};
+ghost use Rattle.ln_cmean.specs.Slots.{seen};
+ghost use Rattle.ln_cmean.specs.Scene.{scene_of};
+
+use crate::calls::Calls;
+use crate::expr::{Inputs, value};
+use crate::number::{Counts, Fault, same_kind};
+use crate::scratch::{CScratch, Slot, leave, open, settle};
+use ln_csyn::{CExpr, CForm, CStmt, CType};
+
+/// Where statements lead: on, or out with an answer.
+#[derive(Clone, Copy)]
+pub enum Flow {
+    Went,
+    Said(i32),
+}
+
+fn line_at(line: u32, fault: Fault) -> u32
+    ensures { result ≡ line_of line (fault_line fault) }
+{
+    match fault {
+        Fault::Here => line,
+        Fault::At(l) => l,
+    }
+}
+
+// A number of the type that is wanted, at a statement of this line.
+fn wanted_value<C: Calls>(
+    calls: &C,
+    inputs: &Inputs<'_>,
+    line: u32,
+    kind: CType,
+    e: &CExpr,
+    s: &mut CScratch,
+    counts: &mut Counts,
+) -> Result<i128, u32>
+    requires { HasRoom s.old (C.slots calls.now) (C.letters calls.now) }
+    ensures meaning { (go : ℤ → m.Counts → Outcome) → wanted line kind (value_of (scene_of (C.given calls.now) inputs.now) (seen s.old) (expr_tree e.now) (tally counts.old)) go ≡ goes_with result (tally counts.new) go }
+    ensures within { IfOk result (λ z. has kind z ≡ true) }
+    ensures capacity { IsNoSmaller s.old s.new }
+    ensures same { OnOk result (IsSame s.old s.new) }
+{
+    match value(calls, inputs, e, s, counts) {
+        Ok(n) => {
+            if same_kind(n.kind, kind) {
+                Ok(n.number)
+            } else {
+                Err(line)
+            }
+        }
+        Err(f) => Err(line_at(line, f)),
+    }
+}
+
+fn declare<C: Calls>(
+    calls: &C,
+    inputs: &Inputs<'_>,
+    line: u32,
+    kind: CType,
+    name: &[u8],
+    e: &CExpr,
+    s: &mut CScratch,
+    counts: &mut Counts,
+) -> Result<Flow, u32>
+    requires { HasRoom s.old (1 + C.slots calls.now) (length name.now + C.letters calls.now) }
+    ensures meaning { (rest : Body) → runs (scene_of (C.given calls.now) inputs.now) (seen s.old) (Decl line kind name.now (expr_tree e.now) rest) (tally counts.old) ≡ goes_on result (tally counts.new) (λ k. runs (scene_of (C.given calls.now) inputs.now) (seen s.new) rest k) }
+    ensures capacity { IsNoSmaller s.old s.new }
+    ensures front { OnOk result (IsFront s.old s.new) }
+    ensures room { OnOk result ((length s.new.slots.items ≡ length s.old.slots.items + 1) × (length s.new.names.items ≡ length s.old.names.items + length name.now)) }
+{
+    let start = s.names.len();
+    open(s, kind, name);
+    match wanted_value(calls, inputs, line, kind, e, s, counts) {
+        Ok(number) => {
+            settle(
+                s,
+                Slot {
+                    start,
+                    kind,
+                    number: Some(number),
+                },
+            );
+            Ok(Flow::Went)
+        }
+        Err(l) => Err(l),
+    }
+}
+
+/// What statements do from the first on. The declarations that they make are left behind.
+#[cycle(run)]
+pub fn run<C: Calls>(
+    calls: &C,
+    inputs: &Inputs<'_>,
+    stmts: &[CStmt],
+    s: &mut CScratch,
+    counts: &mut Counts,
+) -> Result<Flow, u32>
+    requires { HasRoom s.old (slots_in (body_tree stmts.now) + C.slots calls.now) (letters_in (body_tree stmts.now) + C.letters calls.now) }
+    ensures meaning { runs (scene_of (C.given calls.now) inputs.now) (seen s.old) (body_tree stmts.now) (tally counts.old) ≡ ended result (tally counts.new) }
+    ensures capacity { IsNoSmaller s.old s.new }
+    ensures same { OnOk result (IsSame s.old s.new) }
+{
+    let slots = s.slots.len();
+    let letters = s.names.len();
+    'stmts: for stmt in stmts {
+        match step(calls, inputs, stmt, s, counts) {
+            Ok(Flow::Went) => {}
+            Ok(Flow::Said(z)) => {
+                leave(s, slots, letters);
+                return Ok(Flow::Said(z));
+            }
+            Err(l) => return Err(l),
+        }
+    }
+    leave(s, slots, letters);
+    Ok(Flow::Went)
+}
+
+// The answer of a `return`, whose number is an `int`.
+fn said(number: i128) -> Flow
+    requires { has CType.Int number ≡ true }
+    ensures { result ≡ Flow.Said number }
+{
+    Flow::Said(number as i32)
+}
+
+#[cycle(run)]
+fn step<C: Calls>(
+    calls: &C,
+    inputs: &Inputs<'_>,
+    stmt: &CStmt,
+    s: &mut CScratch,
+    counts: &mut Counts,
+) -> Result<Flow, u32>
+    requires { (rest : Body) × HasRoom s.old (slots_in (stmt_front stmt.now rest) + C.slots calls.now) (letters_in (stmt_front stmt.now rest) + C.letters calls.now) }
+    ensures meaning { (rest : Body) → runs (scene_of (C.given calls.now) inputs.now) (seen s.old) (stmt_front stmt.now rest) (tally counts.old) ≡ goes_on result (tally counts.new) (λ k. runs (scene_of (C.given calls.now) inputs.now) (seen s.new) rest k) }
+    ensures capacity { IsNoSmaller s.old s.new }
+    ensures front { OnOk result (IsFront s.old s.new) }
+    ensures room { OnOk result ((rest : Body) → (length s.new.slots.items + slots_in rest ≤ length s.old.slots.items + slots_in (stmt_front stmt.now rest)) × (length s.new.names.items + letters_in rest ≤ length s.old.names.items + letters_in (stmt_front stmt.now rest))) }
+{
+    match &stmt.form {
+        CForm::Decl(kind, name, e) => declare(
+            calls,
+            inputs,
+            stmt.line,
+            *kind,
+            name.as_slice(),
+            e,
+            s,
+            counts,
+        ),
+        CForm::Group(body) => run(calls, inputs, body.as_slice(), s, counts),
+        CForm::If(e, body) => match wanted_value(
+            calls,
+            inputs,
+            stmt.line,
+            CType::Int,
+            e,
+            s,
+            counts,
+        ) {
+            Ok(number) => {
+                if number == 0 {
+                    Ok(Flow::Went)
+                } else {
+                    run(calls, inputs, body.as_slice(), s, counts)
+                }
+            }
+            Err(l) => Err(l),
+        },
+        CForm::Return(e) => match wanted_value(calls, inputs, stmt.line, CType::Int, e, s, counts) {
+            Ok(number) => Ok(said(number)),
+            Err(l) => Err(l),
+        },
+    }
+}

@@ -1,0 +1,12 @@
+-- Invariants and measures of `funs` in src/file.rt.
+use Rattle.std.proofs.Common.{◌-◌, length, map}
+use Rattle.ln_csyn.specs.View.{fun_tree}
+use Rattle.ln_csyn.specs.Reading.{block_at}
+use Rattle.ln_csyn.proofs.FunLoops.{Read}
+use Rattle.ln_csyn.proofs.file.funs.Given as goal
+
+abbrev pub invariant-funs : goal.invariant-funs
+invariant-funs l = Read (block_at l.depths.outer l.depths.inner l.braces) l.tokens (map fun_tree l.funs.items) l.at
+
+abbrev pub decreases-funs : goal.decreases-funs
+decreases-funs l = length l.tokens - l.at

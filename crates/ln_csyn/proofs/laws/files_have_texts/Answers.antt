@@ -1,0 +1,14 @@
+-- Answers to the goals of `files_have_texts` in src/laws.rt.
+use Rattle.ln_csyn.proofs.ReadLemmas.{text_is_kept}
+use Rattle.ln_csyn.proofs.Spells.{derives_file}
+use Rattle.ln_csyn.proofs.Writes.{written_is_file}
+use Rattle.ln_csyn.proofs.laws.files_have_texts.Goals as goal
+
+pub returns-clause-kept : goal.returns-clause-kept
+returns-clause-kept c = text_is_kept
+
+pub returns-clause-derived : goal.returns-clause-derived
+returns-clause-derived c = derives_file
+
+pub returns-clause-text : goal.returns-clause-text
+returns-clause-text c = written_is_file

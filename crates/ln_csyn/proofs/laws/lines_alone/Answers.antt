@@ -1,0 +1,9 @@
+-- Answers to the goals of `lines_alone` in src/laws.rt.
+use Rattle.ln_csyn.proofs.LinesLemmas.{flat_is_same, read_back}
+use Rattle.ln_csyn.proofs.laws.lines_alone.Goals as goal
+
+pub returns-clause-same : goal.returns-clause-same
+returns-clause-same c = flat_is_same
+
+pub returns-clause-back : goal.returns-clause-back
+returns-clause-back c = read_back

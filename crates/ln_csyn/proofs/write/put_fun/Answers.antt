@@ -1,0 +1,6 @@
+-- Answers to the goals of `put_fun` in src/write.rt.
+use Rattle.ln_csyn.proofs.PutLemmas.{puts_then}
+use Rattle.ln_csyn.proofs.write.put_fun.Goals as goal
+
+pub returns : goal.returns
+returns c = puts_then c.in_ok-put_static.ensures (puts_then c.in_ok-put_type.ensures (puts_then c.in_ok-put_own_name.ensures (puts_then c.in_ok-left.ensures (puts_then c.in_ok-put_parameters.ensures (puts_then c.in_ok-right.ensures c.in_ok-put_fun_body.ensures)))))

@@ -1,0 +1,184 @@
+// The reader of statements: one function for each function of specs/Reading.antt.
+ghost use Rattle.std.specs.Prelude.{◌≡◌, ◌<◌, suc, None, Some, IfOk, IfErr, Option, option_map, length};
+ghost use Rattle.ln_csyn.specs.Seen.{tokens_of};
+ghost use Rattle.ln_csyn.specs.Tree.{Decl};
+ghost use Rattle.ln_csyn.specs.View.{expr_tree, stmt_front, body_tree};
+ghost use Rattle.ln_csyn.specs.declared.stop.CStop.TheVariants.{NotSubset};
+ghost use Rattle.ln_csyn.specs.Reading.{expr_at, decl_rest, if_rest, return_rest, group_rest, stmt_at, stmts_at, block_at};
+
+use crate::expr::{copied, expr};
+use crate::stop::CStop;
+use crate::token::{Token, begins, eat, from, line_at, name_at, type_at};
+use crate::tree::{CExpr, CForm, CStmt, CType};
+use ln_base::Seq;
+use std::alloc::Global;
+
+// How many parentheses may stand round a place: in a declaration, and within those of an if.
+#[derive(Clone, Copy)]
+pub struct Depths {
+    pub outer: u32,
+    pub inner: u32,
+}
+
+fn declared(line: u32, kind: CType, name: Seq<u8>, e: CExpr) -> CStmt
+    ensures { stmt_front result ≡ (λ rest. Decl line kind name (expr_tree e) rest) }
+{
+    let form = CForm::Decl(kind, name, e);
+    CStmt { line, form }
+}
+
+fn decl_rest<'t, 'a>(
+    alloc: Global,
+    line: u32,
+    kind: CType,
+    tokens: &'t [Token<'a>],
+    depth: u32,
+) -> Result<(CStmt, &'t [Token<'a>]), CStop>
+    ensures ok { IfOk result (λ y. decl_rest (expr_at depth) line kind (tokens_of tokens.now) ≡ Some (stmt_front y.0, tokens_of y.1.now)) }
+    ensures err { IfErr result (λ e. e ≡ NotSubset → decl_rest (expr_at depth) line kind (tokens_of tokens.now) ≡ None) }
+{
+    let Some((name, rest)) = name_at(tokens) else {
+        return Err(CStop::NotSubset);
+    };
+    let Some(rest) = eat(rest, b"=".as_slice()) else {
+        return Err(CStop::NotSubset);
+    };
+    let (e, rest) = expr(alloc, rest, depth)?;
+    let Some(rest) = eat(rest, b";".as_slice()) else {
+        return Err(CStop::NotSubset);
+    };
+    let name = copied(alloc, name)?;
+    Ok((declared(line, kind, name, e), rest))
+}
+
+fn return_rest<'t, 'a>(
+    alloc: Global,
+    line: u32,
+    tokens: &'t [Token<'a>],
+    depth: u32,
+) -> Result<(CStmt, &'t [Token<'a>]), CStop>
+    ensures ok { IfOk result (λ y. return_rest (expr_at depth) line (tokens_of tokens.now) ≡ Some (stmt_front y.0, tokens_of y.1.now)) }
+    ensures err { IfErr result (λ e. e ≡ NotSubset → return_rest (expr_at depth) line (tokens_of tokens.now) ≡ None) }
+{
+    let (e, rest) = expr(alloc, tokens, depth)?;
+    let Some(rest) = eat(rest, b";".as_slice()) else {
+        return Err(CStop::NotSubset);
+    };
+    let form = CForm::Return(e);
+    Ok((CStmt { line, form }, rest))
+}
+
+#[cycle(stmt)]
+fn if_rest<'t, 'a>(
+    alloc: Global,
+    line: u32,
+    tokens: &'t [Token<'a>],
+    depths: Depths,
+    braces: u32,
+) -> Result<(CStmt, &'t [Token<'a>]), CStop>
+    requires { depths.outer ≡ suc depths.inner }
+    ensures ok { IfOk result (λ y. if_rest (expr_at depths.inner) (block_at depths.outer depths.inner braces) line (tokens_of tokens.now) ≡ Some (stmt_front y.0, tokens_of y.1.now)) }
+    ensures err { IfErr result (λ e. e ≡ NotSubset → if_rest (expr_at depths.inner) (block_at depths.outer depths.inner braces) line (tokens_of tokens.now) ≡ None) }
+{
+    let Some(rest) = eat(tokens, b"(".as_slice()) else {
+        return Err(CStop::NotSubset);
+    };
+    let (e, rest) = expr(alloc, rest, depths.inner)?;
+    let Some(rest) = eat(rest, b")".as_slice()) else {
+        return Err(CStop::NotSubset);
+    };
+    let (body, _, rest) = block(alloc, rest, depths, braces)?;
+    let form = CForm::If(e, body);
+    Ok((CStmt { line, form }, rest))
+}
+
+#[cycle(stmt)]
+fn group_rest<'t, 'a>(
+    alloc: Global,
+    line: u32,
+    tokens: &'t [Token<'a>],
+    depths: Depths,
+    braces: u32,
+) -> Result<(CStmt, &'t [Token<'a>]), CStop>
+    requires { depths.outer ≡ suc depths.inner }
+    ensures ok { IfOk result (λ y. group_rest (block_at depths.outer depths.inner braces) line (tokens_of tokens.now) ≡ Some (stmt_front y.0, tokens_of y.1.now)) }
+    ensures err { IfErr result (λ e. e ≡ NotSubset → group_rest (block_at depths.outer depths.inner braces) line (tokens_of tokens.now) ≡ None) }
+{
+    let (body, _, rest) = block(alloc, tokens, depths, braces)?;
+    let form = CForm::Group(body);
+    Ok((CStmt { line, form }, rest))
+}
+
+#[cycle(stmt)]
+fn stmt<'t, 'a>(
+    alloc: Global,
+    tokens: &'t [Token<'a>],
+    depths: Depths,
+    braces: u32,
+) -> Result<(CStmt, &'t [Token<'a>]), CStop>
+    requires { depths.outer ≡ suc depths.inner }
+    ensures ok { IfOk result (λ y. stmt_at depths.outer depths.inner (block_at depths.outer depths.inner braces) (tokens_of tokens.now) ≡ Some (stmt_front y.0, tokens_of y.1.now)) }
+    ensures err { IfErr result (λ e. e ≡ NotSubset → stmt_at depths.outer depths.inner (block_at depths.outer depths.inner braces) (tokens_of tokens.now) ≡ None) }
+{
+    let line = line_at(tokens);
+    if let Some((kind, rest)) = type_at(tokens) {
+        return decl_rest(alloc, line, kind, rest, depths.outer);
+    }
+    if let Some(rest) = eat(tokens, b"if".as_slice()) {
+        return if_rest(alloc, line, rest, depths, braces);
+    }
+    if let Some(rest) = eat(tokens, b"return".as_slice()) {
+        return return_rest(alloc, line, rest, depths.outer);
+    }
+    group_rest(alloc, line, tokens, depths, braces)
+}
+
+#[cycle(stmt)]
+fn stmts<'t, 'a>(
+    alloc: Global,
+    tokens: &'t [Token<'a>],
+    depths: Depths,
+    braces: u32,
+) -> Result<(Vec<CStmt>, &'t [Token<'a>]), CStop>
+    requires { depths.outer ≡ suc depths.inner }
+    ensures ok { IfOk result (λ y. stmts_at (stmt_at depths.outer depths.inner (block_at depths.outer depths.inner braces)) (suc (length (tokens_of tokens.now))) (tokens_of tokens.now) ≡ Some (body_tree y.0.items, tokens_of y.1.now)) }
+    ensures err { IfErr result (λ e. e ≡ NotSubset → stmts_at (stmt_at depths.outer depths.inner (block_at depths.outer depths.inner braces)) (suc (length (tokens_of tokens.now))) (tokens_of tokens.now) ≡ None) }
+{
+    let mut body = Vec::new(alloc);
+    let mut at = 0usize;
+    'stmts: loop {
+        let rest = from(tokens, at);
+        if begins(rest, b"}".as_slice()) {
+            return Ok((body, rest));
+        }
+        let (s, next) = stmt(alloc, rest, depths, braces)?;
+        body.push(s)?;
+        at = tokens.len() - next.len();
+    }
+}
+
+/// The statements of the pair of braces at the front, the line of the second brace, and what is behind it.
+#[cycle(stmt)]
+pub fn block<'t, 'a>(
+    alloc: Global,
+    tokens: &'t [Token<'a>],
+    depths: Depths,
+    braces: u32,
+) -> Result<(Vec<CStmt>, u32, &'t [Token<'a>]), CStop>
+    requires { depths.outer ≡ suc depths.inner }
+    ensures ok { IfOk result (λ y. block_at depths.outer depths.inner braces (tokens_of tokens.now) ≡ Some (body_tree y.0.items, y.1, tokens_of y.2.now)) }
+    ensures err { IfErr result (λ e. e ≡ NotSubset → block_at depths.outer depths.inner braces (tokens_of tokens.now) ≡ None) }
+{
+    if braces == 0 {
+        return Err(CStop::NotSubset);
+    }
+    let Some(rest) = eat(tokens, b"{".as_slice()) else {
+        return Err(CStop::NotSubset);
+    };
+    let (body, rest) = stmts(alloc, rest, depths, braces - 1)?;
+    let line = line_at(rest);
+    match eat(rest, b"}".as_slice()) {
+        Some(rest) => Ok((body, line, rest)),
+        None => Err(CStop::NotSubset),
+    }
+}

@@ -1,0 +1,226 @@
+// The reader of expressions: one function for each function of specs/Reading.antt.
+ghost use Rattle.std.specs.Prelude.{◌≡◌, suc, None, Some, IfOk, IfErr, Option, option_map};
+ghost use Rattle.ln_csyn.specs.Seen.{tokens_of};
+ghost use Rattle.ln_csyn.specs.View.{expr_tree};
+ghost use Rattle.ln_csyn.specs.declared.stop.CStop.TheVariants.{NotSubset, NoMemory as OutOfMemory};
+ghost use Rattle.ln_csyn.specs.Reading.{eat, cast_at, minus_rest, two_rest, place_of, place_rest, call_rest, named, primary, cast_rest, inside, expr_at};
+
+use crate::stop::CStop;
+use crate::token::{Token, eat, name_at, number_at, op_at, type_at};
+use crate::tree::{CExpr, CPrim, CType};
+use ln_base::Seq;
+use std::alloc::Global;
+
+// A copy of a name.
+pub fn copied(alloc: Global, name: &[u8]) -> Result<Seq<u8>, CStop>
+    ensures ok { IfOk result (λ x. x ≡ name.now) }
+    ensures err { IfErr result (λ e. e ≡ OutOfMemory) }
+{
+    Ok(Seq::from_vec(name.to_vec(alloc)?))
+}
+
+// The `( TYPE )` of a cast.
+fn cast_at<'t, 'a>(tokens: &'t [Token<'a>]) -> Option<(CType, &'t [Token<'a>])>
+    ensures { option_map (λ y. (y.0, tokens_of y.1.now)) result ≡ cast_at (tokens_of tokens.now) }
+{
+    let Some(rest) = eat(tokens, b"(".as_slice()) else {
+        return None;
+    };
+    let Some((kind, rest)) = type_at(rest) else {
+        return None;
+    };
+    match eat(rest, b")".as_slice()) {
+        Some(rest) => Some((kind, rest)),
+        None => None,
+    }
+}
+
+// `v[N]` or `x[N]`.
+fn place_of(kind: CType, name: &[u8], n: u64) -> Option<CExpr>
+    ensures { option_map expr_tree result ≡ place_of kind name.now n }
+{
+    if name == b"v".as_slice() {
+        Some(CExpr::Cast(kind, CPrim::Value(n)))
+    } else if name == b"x".as_slice() {
+        Some(CExpr::Cast(kind, CPrim::Index(n)))
+    } else {
+        None
+    }
+}
+
+fn place_rest<'t, 'a>(
+    kind: CType,
+    name: &[u8],
+    tokens: &'t [Token<'a>],
+) -> Option<(CExpr, &'t [Token<'a>])>
+    ensures { option_map (λ y. (expr_tree y.0, tokens_of y.1.now)) result ≡ place_rest kind name.now (tokens_of tokens.now) }
+{
+    let Some((n, rest)) = number_at(tokens) else {
+        return None;
+    };
+    let Some(rest) = eat(rest, b"]".as_slice()) else {
+        return None;
+    };
+    match place_of(kind, name, n) {
+        Some(e) => Some((e, rest)),
+        None => None,
+    }
+}
+
+fn call_rest<'t, 'a>(
+    alloc: Global,
+    kind: CType,
+    name: &[u8],
+    tokens: &'t [Token<'a>],
+) -> Result<(CExpr, &'t [Token<'a>]), CStop>
+    ensures ok { IfOk result (λ y. call_rest kind name.now (tokens_of tokens.now) ≡ Some (expr_tree y.0, tokens_of y.1.now)) }
+    ensures err { IfErr result (λ e. e ≡ NotSubset → call_rest kind name.now (tokens_of tokens.now) ≡ None) }
+{
+    let Some(rest) = eat(tokens, b"v".as_slice()) else {
+        return Err(CStop::NotSubset);
+    };
+    let Some(rest) = eat(rest, b")".as_slice()) else {
+        return Err(CStop::NotSubset);
+    };
+    let name = copied(alloc, name)?;
+    Ok((CExpr::Cast(kind, CPrim::Call(name)), rest))
+}
+
+fn named<'t, 'a>(
+    alloc: Global,
+    kind: CType,
+    name: &[u8],
+    tokens: &'t [Token<'a>],
+) -> Result<(CExpr, &'t [Token<'a>]), CStop>
+    ensures ok { IfOk result (λ y. named kind name.now (tokens_of tokens.now) ≡ Some (expr_tree y.0, tokens_of y.1.now)) }
+    ensures err { IfErr result (λ e. e ≡ NotSubset → named kind name.now (tokens_of tokens.now) ≡ None) }
+{
+    if let Some(rest) = eat(tokens, b"[".as_slice()) {
+        return match place_rest(kind, name, rest) {
+            Some(found) => Ok(found),
+            None => Err(CStop::NotSubset),
+        };
+    }
+    if let Some(rest) = eat(tokens, b"(".as_slice()) {
+        return call_rest(alloc, kind, name, rest);
+    }
+    let name = copied(alloc, name)?;
+    Ok((CExpr::Cast(kind, CPrim::Name(name)), tokens))
+}
+
+#[cycle(expr)]
+fn primary<'t, 'a>(
+    alloc: Global,
+    kind: CType,
+    tokens: &'t [Token<'a>],
+    depth: u32,
+) -> Result<(CExpr, &'t [Token<'a>]), CStop>
+    ensures ok { IfOk result (λ y. primary (expr_at depth) kind (tokens_of tokens.now) ≡ Some (expr_tree y.0, tokens_of y.1.now)) }
+    ensures err { IfErr result (λ e. e ≡ NotSubset → primary (expr_at depth) kind (tokens_of tokens.now) ≡ None) }
+{
+    if let Some((n, rest)) = number_at(tokens) {
+        return Ok((CExpr::Cast(kind, CPrim::Number(n)), rest));
+    }
+    if let Some((name, rest)) = name_at(tokens) {
+        return named(alloc, kind, name, rest);
+    }
+    let (e, rest) = expr(alloc, tokens, depth)?;
+    let e = Box::new(alloc, e)?;
+    Ok((CExpr::Cast(kind, CPrim::Inner(e)), rest))
+}
+
+#[cycle(expr)]
+fn cast_rest<'t, 'a>(
+    alloc: Global,
+    kind: CType,
+    tokens: &'t [Token<'a>],
+    depth: u32,
+) -> Result<(CExpr, &'t [Token<'a>]), CStop>
+    ensures ok { IfOk result (λ y. cast_rest depth (expr_at depth) kind (tokens_of tokens.now) ≡ Some (expr_tree y.0, tokens_of y.1.now)) }
+    ensures err { IfErr result (λ e. e ≡ NotSubset → cast_rest depth (expr_at depth) kind (tokens_of tokens.now) ≡ None) }
+{
+    if depth == 0 {
+        return Err(CStop::NotSubset);
+    }
+    let (e, rest) = primary(alloc, kind, tokens, depth)?;
+    match eat(rest, b")".as_slice()) {
+        Some(rest) => Ok((e, rest)),
+        None => Err(CStop::NotSubset),
+    }
+}
+
+#[cycle(expr)]
+fn minus_rest<'t, 'a>(
+    alloc: Global,
+    tokens: &'t [Token<'a>],
+    depth: u32,
+) -> Result<(CExpr, &'t [Token<'a>]), CStop>
+    ensures ok { IfOk result (λ y. minus_rest (expr_at depth) (tokens_of tokens.now) ≡ Some (expr_tree y.0, tokens_of y.1.now)) }
+    ensures err { IfErr result (λ e. e ≡ NotSubset → minus_rest (expr_at depth) (tokens_of tokens.now) ≡ None) }
+{
+    let (a, rest) = expr(alloc, tokens, depth)?;
+    let Some(rest) = eat(rest, b")".as_slice()) else {
+        return Err(CStop::NotSubset);
+    };
+    let a = Box::new(alloc, a)?;
+    Ok((CExpr::Minus(a), rest))
+}
+
+#[cycle(expr)]
+fn two_rest<'t, 'a>(
+    alloc: Global,
+    tokens: &'t [Token<'a>],
+    depth: u32,
+) -> Result<(CExpr, &'t [Token<'a>]), CStop>
+    ensures ok { IfOk result (λ y. two_rest (expr_at depth) (tokens_of tokens.now) ≡ Some (expr_tree y.0, tokens_of y.1.now)) }
+    ensures err { IfErr result (λ e. e ≡ NotSubset → two_rest (expr_at depth) (tokens_of tokens.now) ≡ None) }
+{
+    let (a, rest) = expr(alloc, tokens, depth)?;
+    let Some((op, rest)) = op_at(rest) else {
+        return Err(CStop::NotSubset);
+    };
+    let (b, rest) = expr(alloc, rest, depth)?;
+    let Some(rest) = eat(rest, b")".as_slice()) else {
+        return Err(CStop::NotSubset);
+    };
+    let a = Box::new(alloc, a)?;
+    let b = Box::new(alloc, b)?;
+    Ok((CExpr::Two(op, a, b), rest))
+}
+
+#[cycle(expr)]
+fn inside<'t, 'a>(
+    alloc: Global,
+    tokens: &'t [Token<'a>],
+    depth: u32,
+) -> Result<(CExpr, &'t [Token<'a>]), CStop>
+    ensures ok { IfOk result (λ y. inside depth (expr_at depth) (tokens_of tokens.now) ≡ Some (expr_tree y.0, tokens_of y.1.now)) }
+    ensures err { IfErr result (λ e. e ≡ NotSubset → inside depth (expr_at depth) (tokens_of tokens.now) ≡ None) }
+{
+    if let Some(rest) = eat(tokens, b"-".as_slice()) {
+        return minus_rest(alloc, rest, depth);
+    }
+    if let Some((kind, rest)) = cast_at(tokens) {
+        return cast_rest(alloc, kind, rest, depth);
+    }
+    two_rest(alloc, tokens, depth)
+}
+
+/// The expression at the front, and what is behind it.
+#[cycle(expr)]
+pub fn expr<'t, 'a>(
+    alloc: Global,
+    tokens: &'t [Token<'a>],
+    depth: u32,
+) -> Result<(CExpr, &'t [Token<'a>]), CStop>
+    ensures ok { IfOk result (λ y. expr_at depth (tokens_of tokens.now) ≡ Some (expr_tree y.0, tokens_of y.1.now)) }
+    ensures err { IfErr result (λ e. e ≡ NotSubset → expr_at depth (tokens_of tokens.now) ≡ None) }
+{
+    if depth == 0 {
+        return Err(CStop::NotSubset);
+    }
+    let Some(rest) = eat(tokens, b"(".as_slice()) else {
+        return Err(CStop::NotSubset);
+    };
+    inside(alloc, rest, depth - 1)
+}

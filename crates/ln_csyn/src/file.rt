@@ -1,0 +1,134 @@
+// The reader of functions: one function for each function of specs/Reading.antt.
+ghost use Rattle.std.specs.Prelude.{◌≡◌, ◌<◌, suc, None, Some, IfOk, IfErr, Option, option_map, length, map};
+ghost use Rattle.ln_csyn.specs.Seen.{tokens_of};
+ghost use Rattle.ln_csyn.specs.View.{fun_tree};
+ghost use Rattle.ln_csyn.specs.declared.stop.CStop.TheVariants.{NotSubset};
+ghost use Rattle.ln_csyn.specs.Reading.{block_at, pointer_at, both_rest, parameters_at, head_at, fun_at, funs_at};
+
+use crate::body::{Depths, block};
+use crate::expr::copied;
+use crate::stop::CStop;
+use crate::token::{Token, eat, from, name_at};
+use crate::tree::CFun;
+use std::alloc::Global;
+
+fn pointer_at<'t, 'a>(tokens: &'t [Token<'a>]) -> Option<&'t [Token<'a>]>
+    ensures { option_map (λ r. tokens_of r.now) result ≡ pointer_at (tokens_of tokens.now) }
+{
+    let Some(rest) = eat(tokens, b"const".as_slice()) else {
+        return None;
+    };
+    let Some(rest) = eat(rest, b"int64_t".as_slice()) else {
+        return None;
+    };
+    eat(rest, b"*".as_slice())
+}
+
+fn both_rest<'t, 'a>(tokens: &'t [Token<'a>]) -> Option<(bool, &'t [Token<'a>])>
+    ensures { option_map (λ y. (y.0, tokens_of y.1.now)) result ≡ both_rest (tokens_of tokens.now) }
+{
+    let Some(rest) = eat(tokens, b"x".as_slice()) else {
+        return None;
+    };
+    let Some(rest) = eat(rest, b",".as_slice()) else {
+        return None;
+    };
+    let Some(rest) = pointer_at(rest) else {
+        return None;
+    };
+    match eat(rest, b"v".as_slice()) {
+        Some(rest) => Some((true, rest)),
+        None => None,
+    }
+}
+
+fn parameters_at<'t, 'a>(tokens: &'t [Token<'a>]) -> Option<(bool, &'t [Token<'a>])>
+    ensures { option_map (λ y. (y.0, tokens_of y.1.now)) result ≡ parameters_at (tokens_of tokens.now) }
+{
+    let Some(rest) = pointer_at(tokens) else {
+        return None;
+    };
+    if let Some(rest) = eat(rest, b"v".as_slice()) {
+        return Some((false, rest));
+    }
+    both_rest(rest)
+}
+
+fn head_at<'t, 'a>(
+    alloc: Global,
+    own: bool,
+    tokens: &'t [Token<'a>],
+    depths: Depths,
+    braces: u32,
+) -> Result<(CFun, &'t [Token<'a>]), CStop>
+    requires { depths.outer ≡ suc depths.inner }
+    ensures ok { IfOk result (λ y. head_at (block_at depths.outer depths.inner braces) own (tokens_of tokens.now) ≡ Some (fun_tree y.0, tokens_of y.1.now)) }
+    ensures err { IfErr result (λ e. e ≡ NotSubset → head_at (block_at depths.outer depths.inner braces) own (tokens_of tokens.now) ≡ None) }
+{
+    let Some(rest) = eat(tokens, b"int".as_slice()) else {
+        return Err(CStop::NotSubset);
+    };
+    let Some((name, rest)) = name_at(rest) else {
+        return Err(CStop::NotSubset);
+    };
+    let Some(rest) = eat(rest, b"(".as_slice()) else {
+        return Err(CStop::NotSubset);
+    };
+    let Some((indexed, rest)) = parameters_at(rest) else {
+        return Err(CStop::NotSubset);
+    };
+    let Some(rest) = eat(rest, b")".as_slice()) else {
+        return Err(CStop::NotSubset);
+    };
+    let (body, end, rest) = block(alloc, rest, depths, braces)?;
+    let name = copied(alloc, name)?;
+    let f = CFun {
+        own,
+        name,
+        indexed,
+        body,
+        end,
+    };
+    Ok((f, rest))
+}
+
+fn fun_at<'t, 'a>(
+    alloc: Global,
+    tokens: &'t [Token<'a>],
+    depths: Depths,
+    braces: u32,
+) -> Result<(CFun, &'t [Token<'a>]), CStop>
+    requires { depths.outer ≡ suc depths.inner }
+    ensures ok { IfOk result (λ y. fun_at (block_at depths.outer depths.inner braces) (tokens_of tokens.now) ≡ Some (fun_tree y.0, tokens_of y.1.now)) }
+    ensures err { IfErr result (λ e. e ≡ NotSubset → fun_at (block_at depths.outer depths.inner braces) (tokens_of tokens.now) ≡ None) }
+{
+    if let Some(rest) = eat(tokens, b"static".as_slice()) {
+        return head_at(alloc, true, rest, depths, braces);
+    }
+    head_at(alloc, false, tokens, depths, braces)
+}
+
+/// The functions of a file.
+pub fn funs<'t, 'a>(
+    alloc: Global,
+    tokens: &'t [Token<'a>],
+    depths: Depths,
+    braces: u32,
+) -> Result<Vec<CFun>, CStop>
+    requires depths { depths.outer ≡ suc depths.inner }
+    requires braces { 0 < braces }
+    ensures ok { IfOk result (λ y. funs_at (block_at depths.outer depths.inner braces) (suc (length (tokens_of tokens.now))) (tokens_of tokens.now) ≡ Some (map fun_tree y.items)) }
+    ensures err { IfErr result (λ e. e ≡ NotSubset → funs_at (block_at depths.outer depths.inner braces) (suc (length (tokens_of tokens.now))) (tokens_of tokens.now) ≡ None) }
+{
+    let mut funs = Vec::new(alloc);
+    let mut at = 0usize;
+    'funs: loop {
+        if at == tokens.len() {
+            return Ok(funs);
+        }
+        let rest = from(tokens, at);
+        let (f, next) = fun_at(alloc, rest, depths, braces)?;
+        funs.push(f)?;
+        at = tokens.len() - next.len();
+    }
+}

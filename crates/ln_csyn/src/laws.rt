@@ -1,0 +1,42 @@
+// Laws of the text: contracts of functions with nothing to do.
+ghost use Rattle.ln_csyn.specs.Laws.{BodyIsComplete, FileIsComplete, FileIsSound, FlatIsSame, KeepsIs, OneFile, OneFirst, OneLexed, OneText, ReadBack, ReadIsComplete, ReadIsSound, SpelledIsDerived, TextIsKept, WrittenIsFile};
+
+/// No bytes have two files: of each place one token is the longest, no bytes are two lists of tokens, and no tokens are two files.
+pub fn one_text()
+    ensures first { OneFirst }
+    ensures lexed { OneLexed }
+    ensures file { OneFile }
+    ensures text { OneText }
+{}
+
+/// The file of a text keeps all conditions; each file that keeps them has a text, with all tokens on line 2.
+pub fn files_have_texts()
+    ensures kept { TextIsKept }
+    ensures derived { SpelledIsDerived }
+    ensures text { WrittenIsFile }
+{}
+
+/// Two files are the same up to lines exactly where their flat files are one; so what is read of a written file is that file, up to
+/// lines.
+pub fn lines_alone()
+    ensures same { FlatIsSame }
+    ensures back { ReadBack }
+{}
+
+/// What the grammar derives within the limits is read.
+pub fn read_is_complete()
+    ensures expr { ReadIsComplete }
+    ensures body { BodyIsComplete }
+    ensures file { FileIsComplete }
+{}
+
+/// What is read is derived, within the limits.
+pub fn read_is_sound()
+    ensures expr { ReadIsSound }
+    ensures file { FileIsSound }
+{}
+
+/// The checker's tests are the conditions.
+pub fn keeps_is()
+    ensures { KeepsIs }
+{}

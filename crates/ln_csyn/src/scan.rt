@@ -1,0 +1,160 @@
+// The scanner.
+ghost use Rattle.std.specs.Prelude.{◌≡◌, ◌<◌, ◌≤◌, ◌^◌, ◌-◌, ◌+◌, suc, List, IfOk, IfErr, length, take, drop};
+ghost use Rattle.ln_base.specs.Words.{is_digit, is_name_byte};
+ghost use Rattle.ln_csyn.specs.Grammar.{Token as Tok};
+ghost use Rattle.ln_csyn.specs.Seen.{tokens_of};
+ghost use Rattle.ln_csyn.specs.Text.{is_blank, is_sign, is_double, run_len, sign_len, first_len, behind, Lexed};
+ghost use Rattle.ln_csyn.specs.declared.stop.CStop.TheVariants.{NotSubset};
+
+use crate::stop::CStop;
+use crate::token::Token;
+use crate::word::{digit, letter, name_byte};
+use std::alloc::Global;
+
+fn blank(b: u8) -> bool
+    ensures { result ≡ is_blank b }
+{
+    b == b' ' || b == b'\t' || b == b'\n' || b == b'\r'
+}
+
+fn sign(b: u8) -> bool
+    ensures { result ≡ is_sign b }
+{
+    match b {
+        b'('
+        | b')'
+        | b'*'
+        | b'+'
+        | b','
+        | b'-'
+        | b'/'
+        | b';'
+        | b'<'
+        | b'='
+        | b'>'
+        | b'['
+        | b']'
+        | b'{'
+        | b'}' => true,
+        _ => false,
+    }
+}
+
+fn double(b: u8) -> bool
+    ensures { result ≡ is_double b }
+{
+    b == b'=' || b == b'!'
+}
+
+fn name_run(bytes: &[u8]) -> usize
+    ensures len { result ≡ run_len is_name_byte bytes.now }
+    ensures within { result ≤ length bytes.now }
+{
+    for (i, b) in bytes.iter().enumerate() {
+        if !name_byte(*b) {
+            return i;
+        }
+    }
+    bytes.len()
+}
+
+fn digit_run(bytes: &[u8]) -> usize
+    ensures len { result ≡ run_len is_digit bytes.now }
+    ensures within { result ≤ length bytes.now }
+{
+    for (i, b) in bytes.iter().enumerate() {
+        if !digit(*b) {
+            return i;
+        }
+    }
+    bytes.len()
+}
+
+fn sign_len(b: u8, rest: &[u8]) -> usize
+    ensures len { result ≡ sign_len b rest.now }
+    ensures within { result ≤ 1 + length rest.now }
+{
+    let pair = match rest {
+        [c, ..] => double(b) && *c == b'=',
+        [] => false,
+    };
+    if pair {
+        2
+    } else if sign(b) {
+        1
+    } else {
+        0
+    }
+}
+
+// How many bytes the token at the front has; 0 where there is none.
+fn first_len(bytes: &[u8]) -> usize
+    requires { length bytes.now < 2 ^ 32 }
+    ensures len { result ≡ first_len bytes.now }
+    ensures within { result ≤ length bytes.now }
+{
+    match bytes {
+        [] => 0,
+        [b, rest @ ..] => {
+            if letter(*b) {
+                1 + name_run(rest)
+            } else if digit(*b) {
+                1 + digit_run(rest)
+            } else {
+                sign_len(*b, rest)
+            }
+        }
+    }
+}
+
+// The line behind a byte.
+fn behind(b: u8, line: u32) -> u32
+    requires { line < 2 ^ 32 - 1 }
+    ensures { result ≡ behind b line }
+{
+    if b == b'\n' { line + 1 } else { line }
+}
+
+pub fn after(bytes: &[u8], at: usize) -> &[u8]
+    requires { at ≤ length bytes.now }
+    ensures { result.now ≡ drop at bytes.now }
+{
+    &bytes[at..]
+}
+
+pub fn front(bytes: &[u8], n: usize) -> &[u8]
+    requires { n ≤ length bytes.now }
+    ensures { result.now ≡ take n bytes.now }
+{
+    &bytes[..n]
+}
+
+/// The tokens of the bytes behind the first line.
+pub fn tokens<'a>(alloc: Global, bytes: &'a [u8]) -> Result<Vec<Token<'a>>, CStop>
+    requires { length bytes.now < 2 ^ 32 - 4 }
+    ensures ok { IfOk result (λ ts. Lexed 2 bytes.now (tokens_of ts.items)) }
+    ensures err { IfErr result (λ e. e ≡ NotSubset → (us : List Tok) → Lexed 2 bytes.now us → ⊥) }
+{
+    let mut tokens = Vec::new(alloc);
+    let mut at = 0usize;
+    let mut line = 2u32;
+    'tokens: loop {
+        if at == bytes.len() {
+            return Ok(tokens);
+        }
+        let b = bytes[at];
+        if blank(b) {
+            line = behind(b, line);
+            at += 1;
+        } else {
+            let rest = after(bytes, at);
+            let n = first_len(rest);
+            if n == 0 {
+                return Err(CStop::NotSubset);
+            }
+            let text = front(rest, n);
+            tokens.push(Token { text, line })?;
+            at += n;
+        }
+    }
+}

@@ -1,0 +1,171 @@
+// Tokens put to a text, each with a blank behind it. The writer puts a file from its tree with them, and whoever has no tree may put
+// tokens one by one: the contracts say which tokens stand between the old text and the new one.
+ghost use Rattle.std.specs.Prelude.{◌≡◌, ◌∷◌, IfOk, decimal, codes};
+ghost use Rattle.ln_csyn.specs.Spelling.{Puts, lexeme, type_text, op_text};
+
+use crate::tree::{COp, CType};
+use itoa::Buffer;
+use ln_base::NoMemory;
+
+/// Puts a token and a blank.
+pub fn put(out: &mut Vec<u8>, text: &[u8]) -> Result<(), NoMemory>
+    ensures { IfOk result (λ x. Puts out.old.items out.new.items (λ r. lexeme text.now ∷ r)) }
+{
+    out.extend_from_slice(text)?;
+    out.push(b' ')?;
+    Ok(())
+}
+
+/// Puts a NUMBER.
+pub fn put_number(out: &mut Vec<u8>, n: u64) -> Result<(), NoMemory>
+    ensures { IfOk result (λ x. Puts out.old.items out.new.items (λ r. lexeme (decimal n) ∷ r)) }
+{
+    let mut buffer = Buffer::new();
+    put(out, buffer.format(n).as_bytes())
+}
+
+/// Puts a type.
+pub fn put_type(out: &mut Vec<u8>, kind: CType) -> Result<(), NoMemory>
+    ensures { IfOk result (λ x. Puts out.old.items out.new.items (λ r. lexeme (type_text kind) ∷ r)) }
+{
+    match kind {
+        CType::Int => put(out, b"int".as_slice()),
+        CType::Int64 => put(out, b"int64_t".as_slice()),
+        CType::Int128 => put(out, b"__int128".as_slice()),
+    }
+}
+
+/// Puts an operation.
+pub fn put_op(out: &mut Vec<u8>, op: COp) -> Result<(), NoMemory>
+    ensures { IfOk result (λ x. Puts out.old.items out.new.items (λ r. lexeme (op_text op) ∷ r)) }
+{
+    match op {
+        COp::Add => put(out, b"+".as_slice()),
+        COp::Sub => put(out, b"-".as_slice()),
+        COp::Mul => put(out, b"*".as_slice()),
+        COp::Div => put(out, b"/".as_slice()),
+        COp::Less => put(out, b"<".as_slice()),
+        COp::More => put(out, b">".as_slice()),
+        COp::Same => put(out, b"==".as_slice()),
+        COp::Differ => put(out, b"!=".as_slice()),
+    }
+}
+
+/// Puts `(`.
+pub fn left(out: &mut Vec<u8>) -> Result<(), NoMemory>
+    ensures { IfOk result (λ x. Puts out.old.items out.new.items (λ r. lexeme (codes "(") ∷ r)) }
+{
+    put(out, b"(".as_slice())
+}
+
+/// Puts `)`.
+pub fn right(out: &mut Vec<u8>) -> Result<(), NoMemory>
+    ensures { IfOk result (λ x. Puts out.old.items out.new.items (λ r. lexeme (codes ")") ∷ r)) }
+{
+    put(out, b")".as_slice())
+}
+
+/// Puts `-`.
+pub fn dash(out: &mut Vec<u8>) -> Result<(), NoMemory>
+    ensures { IfOk result (λ x. Puts out.old.items out.new.items (λ r. lexeme (codes "-") ∷ r)) }
+{
+    put(out, b"-".as_slice())
+}
+
+/// Puts `=`.
+pub fn equals(out: &mut Vec<u8>) -> Result<(), NoMemory>
+    ensures { IfOk result (λ x. Puts out.old.items out.new.items (λ r. lexeme (codes "=") ∷ r)) }
+{
+    put(out, b"=".as_slice())
+}
+
+/// Puts `*`.
+pub fn star(out: &mut Vec<u8>) -> Result<(), NoMemory>
+    ensures { IfOk result (λ x. Puts out.old.items out.new.items (λ r. lexeme (codes "*") ∷ r)) }
+{
+    put(out, b"*".as_slice())
+}
+
+/// Puts `,`.
+pub fn comma(out: &mut Vec<u8>) -> Result<(), NoMemory>
+    ensures { IfOk result (λ x. Puts out.old.items out.new.items (λ r. lexeme (codes ",") ∷ r)) }
+{
+    put(out, b",".as_slice())
+}
+
+/// Puts `;`.
+pub fn semi(out: &mut Vec<u8>) -> Result<(), NoMemory>
+    ensures { IfOk result (λ x. Puts out.old.items out.new.items (λ r. lexeme (codes ";") ∷ r)) }
+{
+    put(out, b";".as_slice())
+}
+
+/// Puts `[`.
+pub fn square_left(out: &mut Vec<u8>) -> Result<(), NoMemory>
+    ensures { IfOk result (λ x. Puts out.old.items out.new.items (λ r. lexeme (codes "[") ∷ r)) }
+{
+    put(out, b"[".as_slice())
+}
+
+/// Puts `]`.
+pub fn square_right(out: &mut Vec<u8>) -> Result<(), NoMemory>
+    ensures { IfOk result (λ x. Puts out.old.items out.new.items (λ r. lexeme (codes "]") ∷ r)) }
+{
+    put(out, b"]".as_slice())
+}
+
+/// Puts `{`.
+pub fn brace_left(out: &mut Vec<u8>) -> Result<(), NoMemory>
+    ensures { IfOk result (λ x. Puts out.old.items out.new.items (λ r. lexeme (codes "{") ∷ r)) }
+{
+    put(out, b"{".as_slice())
+}
+
+/// Puts `}`.
+pub fn brace_right(out: &mut Vec<u8>) -> Result<(), NoMemory>
+    ensures { IfOk result (λ x. Puts out.old.items out.new.items (λ r. lexeme (codes "}") ∷ r)) }
+{
+    put(out, b"}".as_slice())
+}
+
+/// Puts `v`.
+pub fn values(out: &mut Vec<u8>) -> Result<(), NoMemory>
+    ensures { IfOk result (λ x. Puts out.old.items out.new.items (λ r. lexeme (codes "v") ∷ r)) }
+{
+    put(out, b"v".as_slice())
+}
+
+/// Puts `x`.
+pub fn indices(out: &mut Vec<u8>) -> Result<(), NoMemory>
+    ensures { IfOk result (λ x. Puts out.old.items out.new.items (λ r. lexeme (codes "x") ∷ r)) }
+{
+    put(out, b"x".as_slice())
+}
+
+/// Puts `if`.
+pub fn word_if(out: &mut Vec<u8>) -> Result<(), NoMemory>
+    ensures { IfOk result (λ x. Puts out.old.items out.new.items (λ r. lexeme (codes "if") ∷ r)) }
+{
+    put(out, b"if".as_slice())
+}
+
+/// Puts `return`.
+pub fn word_return(out: &mut Vec<u8>) -> Result<(), NoMemory>
+    ensures { IfOk result (λ x. Puts out.old.items out.new.items (λ r. lexeme (codes "return") ∷ r)) }
+{
+    put(out, b"return".as_slice())
+}
+
+/// Puts `const`.
+pub fn word_const(out: &mut Vec<u8>) -> Result<(), NoMemory>
+    ensures { IfOk result (λ x. Puts out.old.items out.new.items (λ r. lexeme (codes "const") ∷ r)) }
+{
+    put(out, b"const".as_slice())
+}
+
+/// Puts `static`.
+pub fn word_static(out: &mut Vec<u8>) -> Result<(), NoMemory>
+    ensures { IfOk result (λ x. Puts out.old.items out.new.items (λ r. lexeme (codes "static") ∷ r)) }
+{
+    put(out, b"static".as_slice())
+}

@@ -1,0 +1,108 @@
+// Tokens of the C subset, and what stands at the front of a list of them.
+ghost use Rattle.std.specs.Prelude.{◌≡◌, ◌≤◌, Option, option_map, length, drop};
+ghost use Rattle.ln_csyn.specs.Seen.{tokens_of};
+ghost use Rattle.ln_csyn.specs.Reading.{begins, eat, type_at, op_at, name_at, number_at, line_at};
+ghost use Rattle.ln_csyn.specs.Words.{op_of, type_of};
+
+use crate::tree::{COp, CType};
+use crate::word::{c_name, number, operation, type_word};
+
+/// A token's text, and the line that it begins on.
+#[derive(Clone, Copy)]
+pub struct Token<'a> {
+    pub text: &'a [u8],
+    pub line: u32,
+}
+
+/// What is behind a token with this text.
+pub fn eat<'t, 'a>(tokens: &'t [Token<'a>], text: &[u8]) -> Option<&'t [Token<'a>]>
+    ensures { option_map (λ r. tokens_of r.now) result ≡ eat text.now (tokens_of tokens.now) }
+{
+    match tokens {
+        [t, rest @ ..] => { if t.text == text { Some(rest) } else { None } }
+        [] => None,
+    }
+}
+
+/// The type at the front, and what is behind it.
+pub fn type_at<'t, 'a>(tokens: &'t [Token<'a>]) -> Option<(CType, &'t [Token<'a>])>
+    ensures { option_map (λ y. (y.0, tokens_of y.1.now)) result ≡ type_at (tokens_of tokens.now) }
+{
+    match tokens {
+        [t, rest @ ..] => match type_word(t.text) {
+            Some(kind) => Some((kind, rest)),
+            None => None,
+        },
+        [] => None,
+    }
+}
+
+/// The operation at the front, and what is behind it.
+pub fn op_at<'t, 'a>(tokens: &'t [Token<'a>]) -> Option<(COp, &'t [Token<'a>])>
+    ensures { option_map (λ y. (y.0, tokens_of y.1.now)) result ≡ op_at (tokens_of tokens.now) }
+{
+    match tokens {
+        [t, rest @ ..] => match operation(t.text) {
+            Some(op) => Some((op, rest)),
+            None => None,
+        },
+        [] => None,
+    }
+}
+
+/// The NUMBER at the front, and what is behind it.
+pub fn number_at<'t, 'a>(tokens: &'t [Token<'a>]) -> Option<(u64, &'t [Token<'a>])>
+    ensures { option_map (λ y. (y.0, tokens_of y.1.now)) result ≡ number_at (tokens_of tokens.now) }
+{
+    match tokens {
+        [t, rest @ ..] => match number(t.text) {
+            Some(n) => Some((n, rest)),
+            None => None,
+        },
+        [] => None,
+    }
+}
+
+/// The NAME at the front, and what is behind it.
+pub fn name_at<'t, 'a>(tokens: &'t [Token<'a>]) -> Option<(&'a [u8], &'t [Token<'a>])>
+    ensures { option_map (λ y. (y.0.now, tokens_of y.1.now)) result ≡ name_at (tokens_of tokens.now) }
+{
+    match tokens {
+        [t, rest @ ..] => {
+            if c_name(t.text) {
+                Some((t.text, rest))
+            } else {
+                None
+            }
+        }
+        [] => None,
+    }
+}
+
+/// The line of the token at the front.
+pub fn line_at(tokens: &[Token<'_>]) -> u32
+    ensures { result ≡ line_at (tokens_of tokens.now) }
+{
+    match tokens {
+        [t, ..] => t.line,
+        [] => 0,
+    }
+}
+
+/// Whether a token with this text stands at the front.
+pub fn begins(tokens: &[Token<'_>], text: &[u8]) -> bool
+    ensures { result ≡ begins text.now (tokens_of tokens.now) }
+{
+    match tokens {
+        [t, ..] => t.text == text,
+        [] => false,
+    }
+}
+
+/// The tokens from a place on.
+pub fn from<'t, 'a>(tokens: &'t [Token<'a>], at: usize) -> &'t [Token<'a>]
+    requires { at ≤ length tokens.now }
+    ensures { result.now ≡ drop at tokens.now }
+{
+    &tokens[at..]
+}

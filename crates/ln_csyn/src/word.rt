@@ -1,0 +1,204 @@
+// Words, numbers and operators by their text.
+ghost use Rattle.std.specs.Prelude.{◌≡◌, ◌-◌, ◌&&◌, ◌==◌, not, ◌<◌, ◌^◌, map};
+ghost use Rattle.ln_base.specs.Words.{is_digit, is_letter, is_name_byte, is_word, is_keyword, is_name, every};
+ghost use Rattle.ln_csyn.specs.Words.{among, reserved, is_c_name, is_numeral, number_of, type_of, op_of};
+
+use crate::tree::{COp, CType};
+use ln_base::decimal::unsigned;
+
+/// A decimal digit.
+pub fn digit(b: u8) -> bool
+    ensures { result ≡ is_digit b }
+{
+    b'0' <= b && b <= b'9'
+}
+
+/// An ASCII letter or `_`.
+pub fn letter(b: u8) -> bool
+    ensures { result ≡ is_letter b }
+{
+    (b'a' <= b && b <= b'z') || (b'A' <= b && b <= b'Z') || b == b'_'
+}
+
+/// What may stand in a name behind its first letter.
+pub fn name_byte(b: u8) -> bool
+    ensures { result ≡ is_name_byte b }
+{
+    letter(b) || digit(b)
+}
+
+fn name_bytes(bytes: &[u8]) -> bool
+    ensures { result ≡ every is_name_byte bytes.now }
+{
+    'bytes: for b in bytes {
+        if !name_byte(*b) {
+            return false;
+        }
+    }
+    true
+}
+
+fn digits(bytes: &[u8]) -> bool
+    ensures { result ≡ every is_digit bytes.now }
+{
+    'bytes: for b in bytes {
+        if !digit(*b) {
+            return false;
+        }
+    }
+    true
+}
+
+// A letter, then letters and digits.
+fn word(text: &[u8]) -> bool
+    ensures { result ≡ is_word text.now }
+{
+    match text {
+        [] => false,
+        [b, rest @ ..] => letter(*b) && name_bytes(rest),
+    }
+}
+
+// One of the words of the source language that are no names.
+fn keyword(text: &[u8]) -> bool
+    ensures { result ≡ is_keyword text.now }
+{
+    text == b"site".as_slice()
+        || text == b"param".as_slice()
+        || text == b"predicate".as_slice()
+        || text == b"let".as_slice()
+        || text == b"sign".as_slice()
+}
+
+// Whether the text is one of these words.
+fn stands_among(text: &[u8], words: &[&[u8]]) -> bool
+    ensures { result ≡ among (map (λ w. w.now) words.now) text.now }
+{
+    'words: for word in words {
+        if text == *word {
+            return true;
+        }
+    }
+    false
+}
+
+// The 37 keywords of C99, and the two types that are none of them.
+fn is_reserved(text: &[u8]) -> bool
+    ensures { result ≡ among reserved text.now }
+{
+    let words: [&[u8]; 39] = [
+        b"auto",
+        b"break",
+        b"case",
+        b"char",
+        b"const",
+        b"continue",
+        b"default",
+        b"do",
+        b"double",
+        b"else",
+        b"enum",
+        b"extern",
+        b"float",
+        b"for",
+        b"goto",
+        b"if",
+        b"inline",
+        b"int",
+        b"long",
+        b"register",
+        b"restrict",
+        b"return",
+        b"short",
+        b"signed",
+        b"sizeof",
+        b"static",
+        b"struct",
+        b"switch",
+        b"typedef",
+        b"union",
+        b"unsigned",
+        b"void",
+        b"volatile",
+        b"while",
+        b"_Bool",
+        b"_Complex",
+        b"_Imaginary",
+        b"int64_t",
+        b"__int128",
+    ];
+    stands_among(text, words.as_slice())
+}
+
+/// A NAME.
+pub fn c_name(text: &[u8]) -> bool
+    ensures { result ≡ is_c_name text.now }
+{
+    (word(text) && !keyword(text)) && !is_reserved(text)
+}
+
+// Digits without a leading zero, or a zero alone.
+fn numeral(text: &[u8]) -> bool
+    ensures { result ≡ is_numeral text.now }
+{
+    match text {
+        [] => false,
+        [d] => digit(*d),
+        [d, rest @ ..] => digit(*d) && *d != b'0' && digits(rest),
+    }
+}
+
+/// The number of a text, if it is a NUMBER.
+pub fn number(text: &[u8]) -> Option<u64>
+    ensures { result ≡ number_of text.now }
+{
+    if !numeral(text) {
+        return None;
+    }
+    let n = unsigned(text);
+    if n <= 9_223_372_036_854_775_807 {
+        Some(n as u64)
+    } else {
+        None
+    }
+}
+
+/// The type of a text, if it is one.
+pub fn type_word(text: &[u8]) -> Option<CType>
+    ensures { result ≡ type_of text.now }
+{
+    if text == b"int".as_slice() {
+        Some(CType::Int)
+    } else if text == b"int64_t".as_slice() {
+        Some(CType::Int64)
+    } else if text == b"__int128".as_slice() {
+        Some(CType::Int128)
+    } else {
+        None
+    }
+}
+
+/// The operation of a text, if it is one.
+pub fn operation(text: &[u8]) -> Option<COp>
+    ensures { result ≡ op_of text.now }
+{
+    if text == b"+".as_slice() {
+        Some(COp::Add)
+    } else if text == b"-".as_slice() {
+        Some(COp::Sub)
+    } else if text == b"*".as_slice() {
+        Some(COp::Mul)
+    } else if text == b"/".as_slice() {
+        Some(COp::Div)
+    } else if text == b"<".as_slice() {
+        Some(COp::Less)
+    } else if text == b">".as_slice() {
+        Some(COp::More)
+    } else if text == b"==".as_slice() {
+        Some(COp::Same)
+    } else if text == b"!=".as_slice() {
+        Some(COp::Differ)
+    } else {
+        None
+    }
+}

@@ -1,0 +1,323 @@
+// The writer: each token of a file, and a blank behind it.
+ghost use Rattle.std.specs.Prelude.{◌≡◌, true, false, ◌++◌, [], ◌∷◌, IfOk, OnOk, List, decimal, codes, map};
+ghost use Rattle.ln_csyn.specs.View.{expr_tree, stmt_front, body_tree, fun_tree};
+ghost use Rattle.ln_csyn.specs.Tree.{Body, Fun, Two, Minus, Number, Name, Value, Index, Call, Inner};
+ghost use Rattle.ln_csyn.specs.Spelling.{Puts, lexeme, type_text, op_text, cast_before, place_before, spell, Goes, spell_body, spell_pointer, spell_parameters, spell_own, spell_fun, spell_file, written, text_of, flat_file};
+ghost use Rattle.ln_csyn.specs.Text.{CText, first_line};
+ghost use Rattle.ln_csyn.specs.Lines.{SameUpToLines};
+
+use crate::read::CFile;
+use crate::spell::{
+    brace_left, brace_right, comma, dash, equals, indices, left, put, put_number, put_op, put_type,
+    right, semi, square_left, square_right, star, values, word_const, word_if, word_return,
+    word_static,
+};
+use crate::tree::{CExpr, CForm, CFun, COp, CPrim, CStmt, CType};
+use ln_base::NoMemory;
+use std::alloc::Global;
+
+/// A text of the file: the first line, and behind it all tokens on one line, a blank behind each. Its file is f with all lines at 2, so
+/// whatever file is read of it is f up to lines.
+pub fn write_c(alloc: Global, f: &CFile) -> Result<Vec<u8>, NoMemory>
+    ensures text { IfOk result (λ v. CText v.items (flat_file (map fun_tree f.now.funs))) }
+    ensures back { IfOk result (λ v. (gs : List Fun) → CText v.items gs → SameUpToLines gs (map fun_tree f.now.funs)) }
+{
+    let mut out = Vec::new(alloc);
+    out.extend_from_slice(b"#include <stdint.h>\n".as_slice())?;
+    put_funs(&mut out, f.funs.as_slice())?;
+    Ok(out)
+}
+
+fn put_funs(out: &mut Vec<u8>, funs: &[CFun]) -> Result<(), NoMemory>
+    ensures { IfOk result (λ x. out.new.items ≡ out.old.items ++ written (spell_file (map fun_tree funs.now))) }
+{
+    'funs: for f in funs {
+        put_fun(out, f)?;
+    }
+    Ok(())
+}
+
+fn put_fun(out: &mut Vec<u8>, f: &CFun) -> Result<(), NoMemory>
+    ensures { IfOk result (λ x. Puts out.old.items out.new.items (spell_fun (fun_tree f.now))) }
+{
+    put_static(out, f.own)?;
+    put_type(out, CType::Int)?;
+    put_own_name(out, f)?;
+    left(out)?;
+    put_parameters(out, f.indexed)?;
+    right(out)?;
+    put_fun_body(out, f)?;
+    Ok(())
+}
+
+fn put_static(out: &mut Vec<u8>, own: bool) -> Result<(), NoMemory>
+    ensures { IfOk result (λ x. Puts out.old.items out.new.items (spell_own own)) }
+{
+    if own {
+        word_static(out)?;
+        Ok(())
+    } else {
+        Ok(())
+    }
+}
+
+fn put_own_name(out: &mut Vec<u8>, f: &CFun) -> Result<(), NoMemory>
+    ensures { IfOk result (λ x. Puts out.old.items out.new.items (λ r. lexeme f.now.name ∷ r)) }
+{
+    put(out, f.name.as_slice())
+}
+
+fn put_parameters(out: &mut Vec<u8>, indexed: bool) -> Result<(), NoMemory>
+    ensures { IfOk result (λ x. Puts out.old.items out.new.items (spell_parameters indexed)) }
+{
+    if indexed { put_both(out) } else { put_one(out) }
+}
+
+fn put_one(out: &mut Vec<u8>) -> Result<(), NoMemory>
+    ensures { IfOk result (λ x. Puts out.old.items out.new.items (spell_parameters false)) }
+{
+    put_pointer(out)?;
+    values(out)?;
+    Ok(())
+}
+
+fn put_both(out: &mut Vec<u8>) -> Result<(), NoMemory>
+    ensures { IfOk result (λ x. Puts out.old.items out.new.items (spell_parameters true)) }
+{
+    put_pointer(out)?;
+    indices(out)?;
+    comma(out)?;
+    put_pointer(out)?;
+    values(out)?;
+    Ok(())
+}
+
+fn put_pointer(out: &mut Vec<u8>) -> Result<(), NoMemory>
+    ensures { IfOk result (λ x. Puts out.old.items out.new.items (λ r. lexeme (codes "const") ∷ lexeme (codes "int64_t") ∷ lexeme (codes "*") ∷ r)) }
+{
+    word_const(out)?;
+    put_type(out, CType::Int64)?;
+    star(out)?;
+    Ok(())
+}
+
+fn put_fun_body(out: &mut Vec<u8>, f: &CFun) -> Result<(), NoMemory>
+    ensures { IfOk result (λ x. Puts out.old.items out.new.items (λ r. lexeme (codes "{") ∷ spell_body (body_tree f.now.body.items) (lexeme (codes "}") ∷ r))) }
+{
+    put_block(out, f.body.as_slice())
+}
+
+#[cycle(body)]
+fn put_block(out: &mut Vec<u8>, body: &[CStmt]) -> Result<(), NoMemory>
+    ensures { IfOk result (λ x. Puts out.old.items out.new.items (λ r. lexeme (codes "{") ∷ spell_body (body_tree body.now) (lexeme (codes "}") ∷ r))) }
+{
+    brace_left(out)?;
+    put_body(out, body)?;
+    brace_right(out)?;
+    Ok(())
+}
+
+#[cycle(body)]
+fn put_body(out: &mut Vec<u8>, stmts: &[CStmt]) -> Result<(), NoMemory>
+    ensures { IfOk result (λ x. Puts out.old.items out.new.items (spell_body (body_tree stmts.now))) }
+{
+    'stmts: for s in stmts {
+        put_stmt(out, s)?;
+    }
+    Ok(())
+}
+
+// The statement before any others.
+#[cycle(body)]
+fn put_stmt(out: &mut Vec<u8>, s: &CStmt) -> Result<(), NoMemory>
+    ensures { IfOk result (λ x. (b : Body) → Goes out.old.items out.new.items (spell_body b) (spell_body (stmt_front s.now b))) }
+{
+    match &s.form {
+        CForm::Decl(kind, name, e) => {
+            put_decl(out, *kind, name.as_slice(), e)?;
+            Ok(())
+        }
+        CForm::Group(body) => {
+            put_block(out, body.as_slice())?;
+            Ok(())
+        }
+        CForm::If(e, body) => {
+            put_test(out, e)?;
+            put_block(out, body.as_slice())?;
+            Ok(())
+        }
+        CForm::Return(e) => {
+            put_return(out, e)?;
+            Ok(())
+        }
+    }
+}
+
+fn put_decl(out: &mut Vec<u8>, kind: CType, name: &[u8], e: &CExpr) -> Result<(), NoMemory>
+    ensures { IfOk result (λ x. Puts out.old.items out.new.items (λ r. lexeme (type_text kind) ∷ lexeme name.now ∷ lexeme (codes "=") ∷ spell (expr_tree e.now) (lexeme (codes ";") ∷ r))) }
+{
+    put_type(out, kind)?;
+    put(out, name)?;
+    equals(out)?;
+    put_expr(out, e)?;
+    semi(out)?;
+    Ok(())
+}
+
+fn put_test(out: &mut Vec<u8>, e: &CExpr) -> Result<(), NoMemory>
+    ensures { IfOk result (λ x. Puts out.old.items out.new.items (λ r. lexeme (codes "if") ∷ lexeme (codes "(") ∷ spell (expr_tree e.now) (lexeme (codes ")") ∷ r))) }
+{
+    word_if(out)?;
+    left(out)?;
+    put_expr(out, e)?;
+    right(out)?;
+    Ok(())
+}
+
+fn put_return(out: &mut Vec<u8>, e: &CExpr) -> Result<(), NoMemory>
+    ensures { IfOk result (λ x. Puts out.old.items out.new.items (λ r. lexeme (codes "return") ∷ spell (expr_tree e.now) (lexeme (codes ";") ∷ r))) }
+{
+    word_return(out)?;
+    put_expr(out, e)?;
+    semi(out)?;
+    Ok(())
+}
+
+/// Puts an expression.
+#[cycle(put)]
+pub fn put_expr(out: &mut Vec<u8>, e: &CExpr) -> Result<(), NoMemory>
+    ensures { IfOk result (λ x. Puts out.old.items out.new.items (spell (expr_tree e.now))) }
+{
+    match e {
+        CExpr::Two(op, a, b) => {
+            left(out)?;
+            put_expr(out, a)?;
+            put_right(out, *op, b)?;
+            Ok(())
+        }
+        CExpr::Minus(a) => put_minus(out, a),
+        CExpr::Cast(kind, CPrim::Number(n)) => put_constant(out, *kind, *n),
+        CExpr::Cast(kind, CPrim::Name(x)) => put_name(out, *kind, x.as_slice()),
+        CExpr::Cast(kind, CPrim::Value(n)) => put_value(out, *kind, *n),
+        CExpr::Cast(kind, CPrim::Index(n)) => put_index(out, *kind, *n),
+        CExpr::Cast(kind, CPrim::Call(x)) => put_call(out, *kind, x.as_slice()),
+        CExpr::Cast(kind, CPrim::Inner(a)) => put_inner(out, *kind, a),
+    }
+}
+
+// The right operand and what stands round it.
+#[cycle(put)]
+fn put_right(out: &mut Vec<u8>, op: COp, b: &CExpr) -> Result<(), NoMemory>
+    ensures { IfOk result (λ x. Puts out.old.items out.new.items (λ r. lexeme (op_text op) ∷ spell (expr_tree b.now) (lexeme (codes ")") ∷ r))) }
+{
+    put_op(out, op)?;
+    put_expr(out, b)?;
+    right(out)?;
+    Ok(())
+}
+
+#[cycle(put)]
+fn put_minus(out: &mut Vec<u8>, e: &CExpr) -> Result<(), NoMemory>
+    ensures { IfOk result (λ x. Puts out.old.items out.new.items (spell (Minus (expr_tree e.now)))) }
+{
+    left(out)?;
+    dash(out)?;
+    put_expr(out, e)?;
+    right(out)?;
+    Ok(())
+}
+
+#[cycle(put)]
+fn put_inner(out: &mut Vec<u8>, kind: CType, e: &CExpr) -> Result<(), NoMemory>
+    ensures { IfOk result (λ x. Puts out.old.items out.new.items (spell (Inner kind (expr_tree e.now)))) }
+{
+    put_cast(out, kind)?;
+    put_expr(out, e)?;
+    right(out)?;
+    Ok(())
+}
+
+/// Puts `((TYPE)`, the front of an expression that is a cast.
+pub fn put_cast(out: &mut Vec<u8>, kind: CType) -> Result<(), NoMemory>
+    ensures { IfOk result (λ x. Puts out.old.items out.new.items (cast_before kind)) }
+{
+    left(out)?;
+    left(out)?;
+    put_type(out, kind)?;
+    right(out)?;
+    Ok(())
+}
+
+/// Puts `((TYPE)NUMBER)`.
+pub fn put_constant(out: &mut Vec<u8>, kind: CType, n: u64) -> Result<(), NoMemory>
+    ensures { IfOk result (λ x. Puts out.old.items out.new.items (spell (Number kind n))) }
+{
+    put_cast(out, kind)?;
+    put_number(out, n)?;
+    right(out)?;
+    Ok(())
+}
+
+/// Puts `((TYPE)NAME)`.
+pub fn put_name(out: &mut Vec<u8>, kind: CType, name: &[u8]) -> Result<(), NoMemory>
+    ensures { IfOk result (λ x. Puts out.old.items out.new.items (spell (Name kind name.now))) }
+{
+    put_cast(out, kind)?;
+    put(out, name)?;
+    right(out)?;
+    Ok(())
+}
+
+/// Puts `((TYPE)v[N])`.
+pub fn put_value(out: &mut Vec<u8>, kind: CType, n: u64) -> Result<(), NoMemory>
+    ensures { IfOk result (λ x. Puts out.old.items out.new.items (spell (Value kind n))) }
+{
+    put_cast(out, kind)?;
+    put_v(out, n)?;
+    Ok(())
+}
+
+fn put_v(out: &mut Vec<u8>, n: u64) -> Result<(), NoMemory>
+    ensures { IfOk result (λ x. Puts out.old.items out.new.items (place_before (codes "v") n)) }
+{
+    put_place(out, b"v".as_slice(), n)
+}
+
+/// Puts `((TYPE)x[N])`.
+pub fn put_index(out: &mut Vec<u8>, kind: CType, n: u64) -> Result<(), NoMemory>
+    ensures { IfOk result (λ x. Puts out.old.items out.new.items (spell (Index kind n))) }
+{
+    put_cast(out, kind)?;
+    put_x(out, n)?;
+    Ok(())
+}
+
+fn put_x(out: &mut Vec<u8>, n: u64) -> Result<(), NoMemory>
+    ensures { IfOk result (λ x. Puts out.old.items out.new.items (place_before (codes "x") n)) }
+{
+    put_place(out, b"x".as_slice(), n)
+}
+
+fn put_place(out: &mut Vec<u8>, name: &[u8], n: u64) -> Result<(), NoMemory>
+    ensures { IfOk result (λ x. Puts out.old.items out.new.items (place_before name.now n)) }
+{
+    put(out, name)?;
+    square_left(out)?;
+    put_number(out, n)?;
+    square_right(out)?;
+    right(out)?;
+    Ok(())
+}
+
+/// Puts `((TYPE)NAME(v))`.
+pub fn put_call(out: &mut Vec<u8>, kind: CType, name: &[u8]) -> Result<(), NoMemory>
+    ensures { IfOk result (λ x. Puts out.old.items out.new.items (spell (Call kind name.now))) }
+{
+    put_cast(out, kind)?;
+    put(out, name)?;
+    left(out)?;
+    values(out)?;
+    right(out)?;
+    right(out)?;
+    Ok(())
+}
