@@ -21,7 +21,7 @@ use Rattle.ln_code.specs.Part.{Part}
 
 -- the stages that a part runs: the exponents of its blocks, and its lists
 abbrev pub staged : Part → Staged
-staged p = record { sites = p.shape.sites; exps = map (λ c. c.exps) p.blocks; lists = p.lists }
+staged p = record { sites = p.shape.sites; exps = map (λ c. c.exps) p.blocks; segments = []; lists = p.lists }
 
 -- the list of an order
 pub order-stages : (p : Part) (e : Tree) (f : Sparse) (places list : List ℕ) → IsNormalOf (length p.shape.vars) e (terms_of (length p.shape.vars) f) →
