@@ -11,6 +11,3 @@ pub mod RankingLemmas
 pub mod RowSigns
 pub mod RowsLemmas
 pub mod SitesLemmas
-pub mod PrefixLemmas
-pub mod FrontLemmas
-pub mod FoundLemmas
