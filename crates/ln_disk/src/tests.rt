@@ -114,11 +114,14 @@ fn a_name_of_any_length_is_the_name_of_its_file(rt: HostRuntime) -> Result<(), F
     );
     let mut files = DiskFiles::new(&disk);
     let mut name = String::new(alloc);
-    let mut buf = [0u8; 600];
+    let mut half = [0u8; 300];
     for i in 0..255u32 {
         name.push(char::from((97 + i % 23) as u8))?;
-        assert!(rt; files.read_at(name.as_str(), 0, &mut buf) == Ok(600));
-        assert!(rt; wrong_from(name.as_str(), 0, &buf) == 0);
+        assert!(rt; files.read_at(name.as_str(), 0, &mut half) == Ok(300));
+        assert!(rt; wrong_from(name.as_str(), 0, &half) == 0);
+        // the place fits the file that is open, and the name doesn't
+        assert!(rt; files.read_at("z", 300, &mut half) == Ok(300));
+        assert!(rt; wrong_from("z", 300, &half) == 0);
     }
     Ok(())
 }
@@ -140,6 +143,14 @@ fn a_read_that_fails_is_a_counted_fault(rt: HostRuntime) -> Result<(), Fail> {
         let mut files = DiskFiles::new(&disk);
         assert!(rt; files.read_at("a", 8_100, &mut buf) == Err(Failed));
         assert!(rt; files.faults == 1);
+        // reads one behind the other go through one file, whose read number `fails` fails
+        let mut well = 0usize;
+        for at in [0, 100, 200] {
+            if files.read_at("a", at, &mut buf).is_ok() {
+                well = well.saturating_add(1);
+            }
+        }
+        assert!(rt; well == fails - 1 && files.faults == (4 - well) as u64);
     }
     Ok(())
 }
