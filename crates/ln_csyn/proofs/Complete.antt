@@ -72,6 +72,7 @@ no_digit (b ∷ bs) h =
     let d : is_digit b ≡ false = grind (arith, nat_tests) in
     rw (no_numeral b bs d) refl
 
+-- what is derived within the depth is read
 pub complete : {s : Sort} {ts rest : List Token} {e : Expr} → Derives s ts rest e → (d : ℕ) → Goal s d ts rest e
 complete (two h d o e s) zero = λ w. absurd (omega arith)
 complete (two {a = a} {b = b} h d o e s) (suc n) = λ w.
@@ -96,5 +97,6 @@ complete (inner {e = e} d) n = λ w c.
     let f = complete d n (omega (arith, le-max_right 1 (parens e))) in
     rw ((opens d).no_number, (opens d).no_name, f) refl
 
+-- the same of a whole expression
 pub read_is_complete : ReadIsComplete
 read_is_complete d ts rest e h w = complete h d w

@@ -16,6 +16,7 @@ use Rattle.ln_csyn.proofs.Complete.{complete}
 
 -- ---- what is left is shorter
 
+-- an expression takes a token
 pub shorter : {s : Sort} {ts rest : List Token} {e : Expr} → Derives s ts rest e → length rest < length ts
 shorter (two h d o e s) = omega (arith, shorter d, shorter e)
 shorter (minus h m d s) = omega (arith, shorter d)
@@ -27,6 +28,7 @@ shorter (index h i j k) = omega arith
 shorter (call h i j k) = omega arith
 shorter (inner d) = shorter d
 
+-- statements add no token
 pub no_longer : {ts rest : List Token} {b : Body} → IsBody ts rest b → length rest ≤ length ts
 no_longer (end h) = omega arith
 no_longer (decl k x q d s b) = omega (arith, shorter d, no_longer b)
@@ -39,6 +41,7 @@ abbrev pub HasBrace : List Token → Type 0
 HasBrace [] = ⊥
 HasBrace (q ∷ us) = q.text ≡ codes "}"
 
+-- behind statements stands a closing brace
 pub closing : {ts rest : List Token} {b : Body} → IsBody ts rest b → HasBrace rest
 closing (end h) = h
 closing (decl k x q d s b) = closing b
@@ -113,6 +116,7 @@ shorter_parameters (both p h c q v) = omega (arith, shorter_pointer p, shorter_p
 shorter_head : {ts rest : List Token} {o : Bool} {f : Fun} → IsHead ts rest o f → length rest < length ts
 shorter_head (head h x l i r b d) = omega (arith, shorter_parameters i, no_longer d)
 
+-- a function takes a token
 pub shorter_fun : {ts rest : List Token} {f : Fun} → IsFun ts rest f → length rest < length ts
 shorter_fun (own h d) = omega (arith, shorter_head d)
 shorter_fun (shared d) = shorter_head d
@@ -151,9 +155,11 @@ funs_within : (names : List (List ℕ)) (fs : List Fun) → each_fun (fun_keeps 
 funs_within names [] h = tt
 funs_within names (f ∷ fs) h = (fun_within names f (and_left (fun_keeps names f) (each_fun (fun_keeps names) fs) h), funs_within names fs (and_right (fun_keeps names f) (each_fun (fun_keeps names) fs) h))
 
+-- statements that are derived within the limits are read
 pub body_is_complete : BodyIsComplete
 body_is_complete ts rest b h p k n w v l = complete_body h p k n w v l
 
+-- so is a file
 pub file_is_complete : FileIsComplete
 file_is_complete ts fs d h =
     complete_file d 15 63 (suc (length ts)) (funs_within (names_of fs) fs (and_right (distinct (names_of fs)) (each_fun (fun_keeps (names_of fs)) fs) h)) (omega arith)
@@ -161,5 +167,6 @@ file_is_complete ts fs d h =
 some_same : {A : Type 0} (x y : A) → Some x ≡ Some y → x ≡ y
 some_same x y h = cc
 
+-- both files are what is read
 pub one_file : OneFile
 one_file ts fs gs d k e l = some_same fs gs (sym (file_is_complete ts fs d k) ∙ file_is_complete ts gs e l)

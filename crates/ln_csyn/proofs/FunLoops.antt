@@ -43,9 +43,11 @@ before_none : (o : Option (List Fun)) → o ≡ before [] o
 before_none None = refl
 before_none (Some y) = refl
 
+-- at the start nothing was read
 pub read_begins : (block : ReadBlock) (ts : List CodeToken) → Read block ts [] 0
 read_begins block ts = record { within = omega arith; n = suc (length (tokens_of ts)); room = omega (arith, length-map ts seen); all = before_none (funs_at block (suc (length (tokens_of ts))) (tokens_of ts)) }
 
+-- at the end all functions were read
 pub read_ends : (block : ReadBlock) (ts : List CodeToken) (ss : List CFun) (at : ℕ) → Read block ts (map fun_tree ss) at → at ≡ length ts → funs_at block (suc (length (tokens_of ts))) (tokens_of ts) ≡ Some (map fun_tree ss)
 read_ends block ts ss at r e = by_n r.n r.room r.all where
   by_n : (n : ℕ) → length ts - at < n → funs_at block (suc (length (tokens_of ts))) (tokens_of ts) ≡ before (map fun_tree ss) (funs_at block n (tokens_of (drop at ts))) → funs_at block (suc (length (tokens_of ts))) (tokens_of ts) ≡ Some (map fun_tree ss)
@@ -70,6 +72,7 @@ before_more fs f (Some gs) = ap (λ (z : List Fun). Some z) (sym (append_assoc f
 len_from : (ts r : List CodeToken) (at : ℕ) → r ≡ drop at ts → length (tokens_of r) ≡ length ts - at
 len_from ts r at e = length-map r seen ∙ ap length e ∙ length-drop at ts
 
+-- where no function is read no file is
 pub read_fails : (block : ReadBlock) (ts r : List CodeToken) (ss : List CFun) (at : ℕ) → Read block ts (map fun_tree ss) at → r ≡ drop at ts → at < length ts → fun_at block (tokens_of r) ≡ None → funs_at block (suc (length (tokens_of ts))) (tokens_of ts) ≡ None
 read_fails block ts r ss at p e l h = by_n p.n p.room p.all where
   by_n : (n : ℕ) → length ts - at < n → funs_at block (suc (length (tokens_of ts))) (tokens_of ts) ≡ before (map fun_tree ss) (funs_at block n (tokens_of (drop at ts))) → funs_at block (suc (length (tokens_of ts))) (tokens_of ts) ≡ None
@@ -80,6 +83,7 @@ read_fails block ts r ss at p e l h = by_n p.n p.room p.all where
       let f2 : funs_at block (suc n) (tokens_of (drop at ts)) ≡ None = subst (λ (z : List CodeToken). funs_at block (suc n) (tokens_of z) ≡ None) e f in
       a ∙ ap (before (map fun_tree ss)) f2
 
+-- the place behind a function
 pub next_fun : (o i k : ℕ) (ts r next : List CodeToken) (f : Fun) (at : ℕ) → 0 < k → o ≡ suc i → at ≤ length ts → r ≡ drop at ts → fun_at (block_at o i k) (tokens_of r) ≡ Some (f, tokens_of next) → Next ts next at
 next_fun o i zero ts r next f at some q w e h = absurd (omega arith)
 next_fun o i (suc k) ts r next f at some q w e h =
@@ -89,6 +93,7 @@ next_fun o i (suc k) ts r next f at some q w e h =
     let x = place_of_rest ts next at w l2 in
     record { less = x.0; is = x.1 }
 
+-- one function further
 pub read_goes : (o i k : ℕ) (ts r next : List CodeToken) (ss ss' : List CFun) (s : CFun) (at : ℕ) → 0 < k → o ≡ suc i → Read (block_at o i k) ts (map fun_tree ss) at → r ≡ drop at ts → at < length ts
     → fun_at (block_at o i k) (tokens_of r) ≡ Some (fun_tree s, tokens_of next) → ss' ≡ ss ++ s ∷ [] → Read (block_at o i k) ts (map fun_tree ss') (length ts - length next)
 read_goes o i k ts r next ss ss' s at some q p e l h m = by_n p.n p.room p.all where

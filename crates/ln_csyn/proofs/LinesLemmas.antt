@@ -75,8 +75,10 @@ flat_file_again : (fs : List Fun) → flat_file (flat_file fs) ≡ flat_file fs
 flat_file_again [] = refl
 flat_file_again (f ∷ fs) = rw (flat_fun_again f, flat_file_again fs) refl
 
+-- both ways
 pub flat_is_same : FlatIsSame
 flat_is_same fs gs = (one_flat_file, same_file fs gs)
 
+-- what is read of a text is its one file
 pub read_back : ReadBack
 read_back bytes fs gs c d = same_file gs fs (ap flat_file (one_text bytes gs (flat_file fs) d c) ∙ flat_file_again fs)

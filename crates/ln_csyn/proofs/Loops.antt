@@ -19,6 +19,7 @@ abbrev pub onto : List Front → Body → Body
 onto [] b = b
 onto (f ∷ fs) b = f (onto fs b)
 
+-- before no statement
 pub onto_end : (fs : List Front) → onto fs End ≡ joined fs
 onto_end [] = refl
 onto_end (f ∷ fs) = ap f (onto_end fs)
@@ -41,6 +42,7 @@ onto_none : (o : Option (Body × List Token)) → o ≡ onto_read [] o
 onto_none None = refl
 onto_none (Some y) = refl
 
+-- at the start nothing was read
 pub begins : (stmt : ReadStmt) (ts : List Token) → Going stmt ts [] ts
 begins stmt ts = record { n = suc (length ts); room = omega arith; all = onto_none (stmts_at stmt (suc (length ts)) ts) }
 
@@ -51,12 +53,14 @@ more_by fs f (Some y) = ap (λ (b : Body). Some (b, y.1)) (sym (onto_more fs f y
 step_by : (stmt : ReadStmt) (n : ℕ) (rest next : List Token) (f : Front) → eat (codes "}") rest ≡ None → stmt rest ≡ Some (f, next) → stmts_at stmt (suc n) rest ≡ go_on (stmts_at stmt n next) (λ b. Some (f b.0, b.1))
 step_by stmt n rest next f h g = rw (h, g) refl
 
+-- one statement further
 pub goes : (stmt : ReadStmt) (ts : List Token) (fs : List Front) (rest next : List Token) (f : Front) → Going stmt ts fs rest → eat (codes "}") rest ≡ None → stmt rest ≡ Some (f, next) → length next < length rest → Going stmt ts (fs ++ f ∷ []) next
 goes stmt ts fs rest next f g h s l = by_n g.n g.room g.all where
   by_n : (n : ℕ) → length rest < n → stmts_at stmt (suc (length ts)) ts ≡ onto_read fs (stmts_at stmt n rest) → Going stmt ts (fs ++ f ∷ []) next
   by_n zero w a = absurd (omega arith)
   by_n (suc n) w a = record { n = n; room = omega arith; all = a ∙ ap (onto_read fs) (step_by stmt n rest next f h s) ∙ more_by fs f (stmts_at stmt n next) }
 
+-- at a closing brace all statements were read
 pub ends : (stmt : ReadStmt) (ts : List Token) (fs : List Front) (rest us : List Token) → Going stmt ts fs rest → eat (codes "}") rest ≡ Some us → stmts_at stmt (suc (length ts)) ts ≡ Some (joined fs, rest)
 ends stmt ts fs rest us g h = by_n g.n g.room g.all where
   by_n : (n : ℕ) → length rest < n → stmts_at stmt (suc (length ts)) ts ≡ onto_read fs (stmts_at stmt n rest) → stmts_at stmt (suc (length ts)) ts ≡ Some (joined fs, rest)
@@ -65,6 +69,7 @@ ends stmt ts fs rest us g h = by_n g.n g.room g.all where
       let e : stmts_at stmt (suc n) rest ≡ Some (End, rest) = rw h refl in
       a ∙ ap (onto_read fs) e ∙ ap (λ (b : Body). Some (b, rest)) (onto_end fs)
 
+-- where no statement is read no statements are
 pub fails : (stmt : ReadStmt) (ts : List Token) (fs : List Front) (rest : List Token) → Going stmt ts fs rest → eat (codes "}") rest ≡ None → stmt rest ≡ None → stmts_at stmt (suc (length ts)) ts ≡ None
 fails stmt ts fs rest g h s = by_n g.n g.room g.all where
   by_n : (n : ℕ) → length rest < n → stmts_at stmt (suc (length ts)) ts ≡ onto_read fs (stmts_at stmt n rest) → stmts_at stmt (suc (length ts)) ts ≡ None
@@ -76,6 +81,7 @@ pub brace_some : (ts : List Token) (v : Bool) → v ≡ begins_text (codes "}") 
 brace_some [] v e h = absurd (cc)
 brace_some (t ∷ ts) v e h = (ts, rw (sym e ∙ h) refl)
 
+-- there is none
 pub brace_none : (ts : List Token) (v : Bool) → v ≡ begins_text (codes "}") ts → v ≡ false → eat (codes "}") ts ≡ None
 brace_none [] v e h = refl
 brace_none (t ∷ ts) v e h = rw (sym e ∙ h) refl
@@ -86,10 +92,12 @@ pub data Leaves : List Token → List Token → Type 0 where
   one : {t : Token} {ts : List Token} → Leaves (t ∷ ts) ts
   more : {t : Token} {ts us : List Token} → Leaves ts us → Leaves (t ∷ ts) us
 
+-- one behind the other
 pub after : {ts us ws : List Token} → Leaves ts us → Leaves us ws → Leaves ts ws
 after one d = more d
 after (more c) d = more (after c d)
 
+-- fewer tokens are left
 pub fewer : {ts us : List Token} → Leaves ts us → length us < length ts
 fewer one = omega arith
 fewer (more d) = omega (arith, fewer d)
@@ -97,11 +105,13 @@ fewer (more d) = omega (arith, fewer d)
 drop_one : (k : ℕ) (t : Token) (ts : List Token) → k ≡ 1 → drop k (t ∷ ts) ≡ ts
 drop_one k t ts e = rw e refl
 
+-- what is left is found by its length
 pub dropped : {ts us : List Token} → Leaves ts us → (k : ℕ) → length ts ≡ k + length us → drop k ts ≡ us
 dropped (one {t = t} {ts = ts}) k e = drop_one k t ts (omega (arith, e))
 dropped (more d) zero e = absurd (omega (arith, fewer d))
 dropped (more d) (suc k) e = dropped d k (omega (arith, e))
 
+-- an expression leaves less
 pub leaves_expr : {s : Sort} {ts rest : List Token} {e : Expr} → Derives s ts rest e → Leaves ts rest
 leaves_expr (g.two h d o e s) = more (after (leaves_expr d) (more (after (leaves_expr e) one)))
 leaves_expr (g.minus h m d s) = more (more (after (leaves_expr d) one))
@@ -116,6 +126,7 @@ leaves_expr (g.inner d) = leaves_expr d
 one_of : (q w : Token) (ts us : List Token) → q ∷ ts ≡ w ∷ us → Leaves (q ∷ ts) us
 one_of q w ts us e = subst (λ (z : List Token). Leaves z us) (sym e) one
 
+-- statements with their closing brace leave less
 pub leaves_body : {ts rest : List Token} {b : Body} → IsBody ts rest b → (q : Token) (us : List Token) → rest ≡ q ∷ us → Leaves ts us
 leaves_body (g.end {q = w} {rest = rest} h) q us e = one_of w q rest us e
 leaves_body (g.decl k x m d s b) q us e = more (more (more (after (leaves_expr d) (more (leaves_body b q us e)))))
@@ -141,6 +152,7 @@ exprs d ts y h = leaves_expr (expr_sound d ts y h).is
 blocks : (p k : ℕ) (ts : List Token) (y : Body × ℕ × List Token) → block_at (suc p) p k ts ≡ Some y → Leaves ts y.2
 blocks p k ts y h = let s = block_sound p k ts y h in after (first_of s.o ts s.us s.at) (leaves_body s.is s.q y.2 refl)
 
+-- a statement leaves less
 pub leaves : (p k : ℕ) (ts : List Token) (s : (Body → Body) × List Token) → stmt_at (suc p) p (block_at (suc p) p k) ts ≡ Some s → Leaves ts s.1
 leaves p k ts s h =
     elim (chose (type_at ts) _ _ s h) [
@@ -174,9 +186,11 @@ pub record Placed (stmt : ReadStmt) (ts : List CodeToken) (fs : List Front) (at 
   pub within : at ≤ length ts
   pub going : Going stmt (tokens_of ts) fs (tokens_of (drop at ts))
 
+-- at the start
 pub placed_begins : (stmt : ReadStmt) (ts : List CodeToken) → Placed stmt ts [] 0
 placed_begins stmt ts = record { within = omega arith; going = begins stmt (tokens_of ts) }
 
+-- the place of what is left
 pub place_of_rest : (ts rest : List CodeToken) (at : ℕ) → at ≤ length ts → Leaves (tokens_of (drop at ts)) (tokens_of rest) → (length rest < length ts - at) × (tokens_of (drop (length ts - length rest) ts) ≡ tokens_of rest)
 place_of_rest ts rest at w l =
     let n : length (tokens_of (drop at ts)) ≡ length ts - at = length-map (drop at ts) seen ∙ length-drop at ts in
@@ -189,12 +203,14 @@ place_of_rest ts rest at w l =
     let t : drop k (drop at ts) ≡ drop (length ts - length rest) ts = drop-drop k at ts ∙ ap (λ (z : ℕ). drop z ts) q in
     (f, ap tokens_of (sym t) ∙ r ∙ d)
 
+-- at a closing brace
 pub placed_ends : (stmt : ReadStmt) (ts r : List CodeToken) (ss : List CStmt) (at : ℕ) (v : Bool) → Placed stmt ts (map stmt_front ss) at → r ≡ drop at ts → v ≡ begins_text (codes "}") (tokens_of r) → v ≡ true → stmts_at stmt (suc (length (tokens_of ts))) (tokens_of ts) ≡ Some (body_tree ss, tokens_of r)
 placed_ends stmt ts r ss at v p e b h =
     let s = brace_some (tokens_of r) v b h in
     let g : Going stmt (tokens_of ts) (map stmt_front ss) (tokens_of r) = subst (λ (z : List CodeToken). Going stmt (tokens_of ts) (map stmt_front ss) (tokens_of z)) (sym e) p.going in
     ends stmt (tokens_of ts) (map stmt_front ss) (tokens_of r) s.0 g s.1
 
+-- where no statement is read
 pub placed_fails : (stmt : ReadStmt) (ts r : List CodeToken) (ss : List CStmt) (at : ℕ) (v : Bool) → Placed stmt ts (map stmt_front ss) at → r ≡ drop at ts → v ≡ begins_text (codes "}") (tokens_of r) → v ≡ false → stmt (tokens_of r) ≡ None → stmts_at stmt (suc (length (tokens_of ts))) (tokens_of ts) ≡ None
 placed_fails stmt ts r ss at v p e b h f =
     let g : Going stmt (tokens_of ts) (map stmt_front ss) (tokens_of r) = subst (λ (z : List CodeToken). Going stmt (tokens_of ts) (map stmt_front ss) (tokens_of z)) (sym e) p.going in
@@ -205,6 +221,7 @@ pub record Next (ts next : List CodeToken) (at : ℕ) : Type 0 where
   pub less : length next < length ts - at
   pub is : tokens_of (drop (length ts - length next) ts) ≡ tokens_of next
 
+-- the place behind a statement
 pub next_place : (o i k : ℕ) (ts r next : List CodeToken) (f : Front) (at : ℕ) → o ≡ suc i → at ≤ length ts → r ≡ drop at ts → stmt_at o i (block_at o i k) (tokens_of r) ≡ Some (f, tokens_of next) → Next ts next at
 next_place o i k ts r next f at q w e h =
     let h2 : stmt_at (suc i) i (block_at (suc i) i k) (tokens_of r) ≡ Some (f, tokens_of next) = subst (λ (z : ℕ). stmt_at z i (block_at z i k) (tokens_of r) ≡ Some (f, tokens_of next)) q h in
@@ -213,6 +230,7 @@ next_place o i k ts r next f at q w e h =
     let x = place_of_rest ts next at w l2 in
     record { less = x.0; is = x.1 }
 
+-- one statement further
 pub placed_goes : (o i k : ℕ) (ts r next : List CodeToken) (ss ss' : List CStmt) (s : CStmt) (at : ℕ) (v : Bool) → o ≡ suc i → Placed (stmt_at o i (block_at o i k)) ts (map stmt_front ss) at → r ≡ drop at ts → v ≡ begins_text (codes "}") (tokens_of r) → v ≡ false
     → stmt_at o i (block_at o i k) (tokens_of r) ≡ Some (stmt_front s, tokens_of next) → ss' ≡ ss ++ s ∷ [] → Placed (stmt_at o i (block_at o i k)) ts (map stmt_front ss') (length ts - length next)
 placed_goes o i k ts r next ss ss' s at v q p e b h f m =

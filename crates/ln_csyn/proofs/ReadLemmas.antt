@@ -26,6 +26,7 @@ limits o i k ts w p q r h =
     let b : funs_at (block_at 16 15 k) (suc (length ts)) ts ≡ w = subst (λ (z : ℕ). funs_at (block_at 16 z k) (suc (length ts)) ts ≡ w) q a in
     subst (λ (z : ℕ). funs_at (block_at 16 15 z) (suc (length ts)) ts ≡ w) r b
 
+-- functions that pass the tests are the file of the tokens
 pub read_ok : (o i k : ℕ) (ts : List Token) (fs : List Fun) (v : Bool) → o ≡ 16 → i ≡ 15 → k ≡ 64 → funs_at (block_at o i k) (suc (length ts)) ts ≡ Some fs → v ≡ rest_keep fs → v ≡ true → Spelt ts fs
 read_ok o i k ts fs v p q r h e t =
     let s = file_is_sound ts fs (limits o i k ts (Some fs) p q r h) in
@@ -34,6 +35,7 @@ read_ok o i k ts fs v p q r h e t =
 some_same : (x y : List Fun) → Some x ≡ Some y → x ≡ y
 some_same x y h = cc
 
+-- where they fail the tokens are no file
 pub read_no : (o i k : ℕ) (ts : List Token) (fs : List Fun) (v : Bool) → o ≡ 16 → i ≡ 15 → k ≡ 64 → funs_at (block_at o i k) (suc (length ts)) ts ≡ Some fs → v ≡ rest_keep fs → v ≡ false → (gs : List Fun) → Spelt ts gs → ⊥
 read_no o i k ts fs v p q r h e t gs d =
     let l = limits o i k ts (Some fs) p q r h in
@@ -44,6 +46,7 @@ read_no o i k ts fs v p q r h e t gs d =
     let kf : keeps fs ≡ false = keeps_is fs s.1 ∙ sym e ∙ t in
     let z : true ≡ false = sym kt ∙ kf in absurd (cc)
 
+-- where nothing is read the tokens are no file
 pub read_none : (o i k : ℕ) (ts : List Token) → o ≡ 16 → i ≡ 15 → k ≡ 64 → funs_at (block_at o i k) (suc (length ts)) ts ≡ None → (gs : List Fun) → Spelt ts gs → ⊥
 read_none o i k ts p q r h gs d =
     let l = limits o i k ts None p q r h in
@@ -54,6 +57,7 @@ read_none o i k ts p q r h gs d =
 pub first_some : (bytes f r : List ℕ) → f ≡ take 20 bytes → r ≡ drop 20 bytes → f ≡ first_line → bytes ≡ first_line ++ r
 first_some bytes f r e d h = sym (take-append-drop 20 bytes) ∙ ap (λ (z : List ℕ). z ++ drop 20 bytes) (sym e ∙ h) ∙ ap (λ (z : List ℕ). first_line ++ z) (sym d)
 
+-- where it is another one
 pub first_none : (bytes f : List ℕ) → f ≡ take 20 bytes → (f ≡ first_line → ⊥) → (r : List ℕ) → bytes ≡ first_line ++ r → ⊥
 first_none bytes f e n r h = n (e ∙ ap (λ (z : List ℕ). take 20 z) h)
 
@@ -61,17 +65,20 @@ first_none bytes f e n r h = n (e ∙ ap (λ (z : List ℕ). take 20 z) h)
 pub no_first : (bytes : List ℕ) → ((r : List ℕ) → bytes ≡ first_line ++ r → ⊥) → (gs : List Fun) → CText bytes gs → ⊥
 no_first bytes n gs c = n c.rest c.first
 
+-- where there are no tokens
 pub no_tokens : (bytes rest : List ℕ) → bytes ≡ first_line ++ rest → ((us : List Token) → Lexed 2 rest us → ⊥) → (gs : List Fun) → CText bytes gs → ⊥
 no_tokens bytes rest e n gs c =
     let r = behind_first c.rest rest (sym c.first ∙ e) in
     n c.tokens (subst (λ (z : List ℕ). Lexed 2 z c.tokens) r c.lexed)
 
+-- where the tokens are no file
 pub no_file : (bytes rest : List ℕ) (ts : List Token) → bytes ≡ first_line ++ rest → Lexed 2 rest ts → ((gs : List Fun) → Spelt ts gs → ⊥) → (gs : List Fun) → CText bytes gs → ⊥
 no_file bytes rest ts e l n gs c =
     let r = behind_first c.rest rest (sym c.first ∙ e) in
     let t = one_lexed_by (subst (λ (z : List ℕ). Lexed 2 z c.tokens) r c.lexed) l in
     n gs (subst (λ (z : List Token). Spelt z gs) t c.spelt)
 
+-- all parts of a text
 pub whole : (bytes rest : List ℕ) (ts : List Token) (fs : List Fun) → bytes ≡ first_line ++ rest → Lexed 2 rest ts → Spelt ts fs → CText bytes fs
 whole bytes rest ts fs e l s = record { rest = rest; tokens = ts; first = e; lexed = l; spelt = s }
 
@@ -133,8 +140,10 @@ words_file : {ts : List Token} {fs : List Fun} → IsFile ts fs → each_fun fun
 words_file g.none = refl
 words_file (g.one {f = f} {fs = fs} d r) = both (fun_words f) (each_fun fun_words fs) (words_fun d) (words_file r)
 
+-- the file of tokens keeps all conditions
 pub kept : (ts : List Token) (fs : List Fun) → Spelt ts fs → is_file fs ≡ true
 kept ts fs s = both (keeps fs) (each_fun fun_words fs) s.kept (words_file s.file)
 
+-- so does the file of a text
 pub text_is_kept : TextIsKept
 text_is_kept bytes fs c = kept c.tokens fs c.spelt

@@ -41,6 +41,7 @@ lexed_end : {line : ℕ} {us : List Token} → Lexed line [] us → us ≡ []
 lexed_end none = refl
 lexed_end (token {n = n} f d) = absurd (nothing_first n f)
 
+-- two lists for the same bytes are one
 pub one_lexed_by : {line : ℕ} {bytes : List ℕ} {ts us : List Token} → Lexed line bytes ts → Lexed line bytes us → ts ≡ us
 one_lexed_by none e = sym (lexed_end e)
 one_lexed_by (blank h d) e = one_lexed_by d (lexed_blank h e)
@@ -48,6 +49,7 @@ one_lexed_by {line = line} {bytes = bs} (token {n = n} f d) e =
     let b = lexed_token f e in
     ap (λ (z : List Token). record { text = take n bs; line = line } ∷ z) (one_lexed_by d b.lexed) ∙ sym b.is
 
+-- no bytes are two lists of tokens
 pub one_lexed : OneLexed
 one_lexed line bytes ts us d e = one_lexed_by d e
 
@@ -55,6 +57,7 @@ one_lexed line bytes ts us d e = one_lexed_by d e
 pub behind_first : (rest rest' : List ℕ) → first_line ++ rest ≡ first_line ++ rest' → rest ≡ rest'
 behind_first rest rest' e = ap (λ (z : List ℕ). drop 20 z) e
 
+-- no bytes have two files
 pub one_text : OneText
 one_text bytes fs gs c d =
     let r = behind_first c.rest d.rest (sym c.first ∙ d.first) in
@@ -72,9 +75,11 @@ pub record Scanned (bytes : List ℕ) (ts : List CodeToken) (at line : ℕ) : Ty
   pub on : (vs : List Token) → Lexed line (drop at bytes) vs → Lexed 2 bytes (tokens_of ts ++ vs)
   pub back : (us : List Token) → Lexed 2 bytes us → (vs : List Token) × (us ≡ tokens_of ts ++ vs) × Lexed line (drop at bytes) vs
 
+-- at the start
 pub scan_begins : (bytes : List ℕ) → Scanned bytes [] 0 2
 scan_begins bytes = record { within = omega arith; lines = omega arith; on = λ vs d. d; back = λ us d. (us, refl, d) }
 
+-- at the end
 pub scan_ends : (bytes : List ℕ) (ts : List CodeToken) (at line : ℕ) → Scanned bytes ts at line → at ≡ length bytes → Lexed 2 bytes (tokens_of ts)
 scan_ends bytes ts at line s e =
     let d : drop at bytes ≡ [] = ap (λ (z : ℕ). drop z bytes) e ∙ drop-length bytes in
@@ -94,6 +99,7 @@ behind_within : (b line at : ℕ) (v : Bool) → line ≤ at + 2 → (b == 10) �
 behind_within b line at true w e = rw e (omega arith)
 behind_within b line at false w e = rw e (omega arith)
 
+-- behind a blank
 pub scan_blank : (bytes : List ℕ) (ts : List CodeToken) (at line b : ℕ) → Scanned bytes ts at line → at < length bytes → b ≡ get_or bytes at 0 → is_blank b ≡ true → Scanned bytes ts (at + 1) (behind b line)
 scan_blank bytes ts at line b s w e h =
     let f = front bytes at b w e in
@@ -104,6 +110,7 @@ scan_blank bytes ts at line b s w e h =
       back = λ us d. let r = s.back us d in (r.0, r.1, lexed_blank h (subst (λ (z : List ℕ). Lexed line z r.0) f r.2));
     }
 
+-- behind a token
 pub scan_token : (bytes rest : List ℕ) (ts ts' : List CodeToken) (t : CodeToken) (at line n : ℕ) → Scanned bytes ts at line → rest ≡ drop at bytes → IsFirst rest n → t.text.now ≡ take n rest → t.line ≡ line → ts' ≡ ts ++ t ∷ [] → Scanned bytes ts' (at + n) line
 scan_token bytes rest ts ts' t at line n s e f x l m =
     let f2 : IsFirst (drop at bytes) n = subst (λ (z : List ℕ). IsFirst z n) e f in
@@ -129,6 +136,7 @@ none_lexed line xs vs nb w h (token {n = n} f d) = let e = h n f.within in let q
 head_same : (b c : ℕ) (bs cs : List ℕ) → b ∷ bs ≡ c ∷ cs → b ≡ c
 head_same b c bs cs e = cc
 
+-- where no token begins
 pub scan_fails : (bytes rest : List ℕ) (ts : List CodeToken) (at line b : ℕ) → Scanned bytes ts at line → at < length bytes → b ≡ get_or bytes at 0 → is_blank b ≡ false → rest ≡ drop at bytes → ((m : ℕ) → m ≤ length rest → is_token (take m rest) ≡ false) → (us : List Token) → Lexed 2 bytes us → ⊥
 scan_fails bytes rest ts at line b s w e h r f us d =
     let x = s.back us d in

@@ -17,6 +17,7 @@ pub record Went {A B : Type 0} (o : Option A) (f : A → Option B) (y : B) : Typ
   pub found : o ≡ Some x
   pub next : f x ≡ Some y
 
+-- what went on was found
 pub went : {A B : Type 0} (o : Option A) (f : A → Option B) (y : B) → go_on o f ≡ Some y → Went o f y
 went None f y h = absurd (cc)
 went (Some x) f y h = record { x = x; found = refl; next = h }
@@ -26,6 +27,7 @@ pub chose : {A B : Type 0} (o : Option A) (f : A → Option B) (other : Option B
 chose None f other y h = inr h
 chose (Some x) f other y h = inl (record { x = x; found = refl; next = h })
 
+-- one value
 pub some_same : {A : Type 0} (x y : A) → Some x ≡ Some y → x ≡ y
 some_same x y h = cc
 
@@ -42,6 +44,7 @@ ate_by u t ts us true e h =
     subst (λ (w : List Token). Ate u (t ∷ ts) w) s (record { t = t; is = refl; text = (bytes_eq-Decides t.text u).0 e })
 ate_by u t ts us false e h = let q : eat u (t ∷ ts) ≡ None = rw e refl in absurd (cc)
 
+-- what was eaten stood at the front
 pub ate : (u : List ℕ) (ts us : List Token) → eat u ts ≡ Some us → Ate u ts us
 ate u [] us h = absurd (cc)
 ate u (t ∷ ts) us h = ate_by u t ts us (bytes_eq t.text u) refl h
@@ -57,14 +60,17 @@ took_by f t ts y None e h = absurd (cc)
 took_by f t ts y (Some x) e h =
     subst (λ (z : _ × List Token). Took f (t ∷ ts) z) (some_same (x, ts) y h) (record { t = t; is = refl; reads = e })
 
+-- a NUMBER stood at the front
 pub took_number : (ts : List Token) (y : ℕ × List Token) → number_at ts ≡ Some y → Took number_of ts y
 took_number [] y h = absurd (cc)
 took_number (t ∷ ts) y h = took_by number_of t ts y (number_of t.text) refl h
 
+-- a type
 pub took_type : (ts : List Token) (y : CType × List Token) → type_at ts ≡ Some y → Took type_of ts y
 took_type [] y h = absurd (cc)
 took_type (t ∷ ts) y h = took_by type_of t ts y (type_of t.text) refl h
 
+-- an operation
 pub took_op : (ts : List Token) (y : COp × List Token) → op_at ts ≡ Some y → Took op_of ts y
 took_op [] y h = absurd (cc)
 took_op (t ∷ ts) y h = took_by op_of t ts y (op_of t.text) refl h
@@ -82,6 +88,7 @@ named_by t ts y true e h =
     subst (λ (z : List ℕ × List Token). Named (t ∷ ts) z) (some_same (t.text, ts) y (sym q ∙ h)) (record { t = t; is = refl; name = e; text = refl })
 named_by t ts y false e h = let q : name_at (t ∷ ts) ≡ None = rw e refl in absurd (cc)
 
+-- a NAME
 pub was_named : (ts : List Token) (y : List ℕ × List Token) → name_at ts ≡ Some y → Named ts y
 was_named [] y h = absurd (cc)
 was_named (t ∷ ts) y h = named_by t ts y (is_c_name t.text) refl h
@@ -225,6 +232,7 @@ inside_sound d go hyp p hp ts y h =
       ]
     ]
 
+-- an expression that is read is derived, within the depth
 pub expr_sound : (d : ℕ) → IsSound d (expr_at d)
 expr_sound zero ts y h = absurd (cc)
 expr_sound (suc d) ts y h =

@@ -145,6 +145,7 @@ stmts_sound p k stmt hyp (suc n) ts y h =
           subst (λ (z : Body × List Token). SoundBody p k ts z) (some_same _ y b.next) (hyp ts s.x s.found b.x r))
     ]
 
+-- a pair of braces that is read is derived
 pub block_sound : (p k : ℕ) → IsBlockSound p k (block_at (suc p) p k)
 block_sound p zero ts y h = absurd (cc)
 block_sound p (suc k) ts y h =
@@ -226,6 +227,7 @@ pub record SoundFun (p k : ℕ) (ts : List Token) (y : Fun × List Token) : Type
   pub is : IsFun ts y.1 y.0
   pub within : Within p k y.0
 
+-- so is a function
 pub fun_sound : (p k : ℕ) (ts : List Token) (y : Fun × List Token) → fun_at (block_at (suc p) p (suc k)) ts ≡ Some y → SoundFun p k ts y
 fun_sound p k ts y h =
     elim (chose (eat (codes "static") ts) _ (head_at (block_at (suc p) p (suc k)) false ts) y h) [
@@ -239,6 +241,7 @@ pub record SoundFile (p k : ℕ) (ts : List Token) (fs : List Fun) : Type 0 wher
   pub is : IsFile ts fs
   pub within : AllWithin p k fs
 
+-- so are functions
 pub file_sound : (p k n : ℕ) (ts : List Token) (fs : List Fun) → funs_at (block_at (suc p) p (suc k)) n ts ≡ Some fs → SoundFile p k ts fs
 file_sound p k zero ts fs h = absurd (cc)
 file_sound p k (suc n) [] fs h = subst (λ (z : List Fun). SoundFile p k [] z) (some_same _ fs h) (record { is = g.none; within = tt })
@@ -259,5 +262,6 @@ all_small : (fs : List Fun) → AllWithin 15 63 fs → each_fun is_small fs ≡ 
 all_small [] w = refl
 all_small (f ∷ fs) w = small_by (is_small f) (each_fun is_small fs) (small f w.0) (all_small fs w.1)
 
+-- so is a file, with the limits of the subset
 pub file_is_sound : FileIsSound
 file_is_sound ts fs h = let s = file_sound 15 63 (suc (length ts)) ts fs h in (s.is, all_small fs s.within)

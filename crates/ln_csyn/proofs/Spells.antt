@@ -20,10 +20,12 @@ use Rattle.ln_csyn.specs.Keeps.{each_expr, each_name, each_fun}
 use Rattle.ln_csyn.specs.Text.{has_words, fun_words}
 use Rattle.ln_csyn.specs.Spelling.{type_text, op_text, lexeme, spell, spell_body, spell_parameters, spell_fun, spell_file, flat, flat_fun, flat_file}
 
+-- the first of two
 pub left : (a b : Bool) → (a && b) ≡ true → a ≡ true
 left true b h = refl
 left false b h = h
 
+-- the second
 pub right : (a b : Bool) → (a && b) ≡ true → b ≡ true
 right true b h = h
 right false b h = absurd (cc)
@@ -65,6 +67,7 @@ some_digits : (ds : List ℕ) → is_digits ds ≡ true → 0 < length ds
 some_digits [] h = absurd (cc)
 some_digits (d ∷ ds) h = omega arith
 
+-- a NUMBER that is written is read
 pub number_back : (n : ℕ) → nat_le n most_number ≡ true → n < 10 ^ 64 → number_of (decimal n) ≡ Some n
 number_back n h small =
     let d = text_is_digits n small in
@@ -74,9 +77,11 @@ number_back n h small =
 small_number : (n : ℕ) → nat_le n most_number ≡ true → n < 10 ^ 64
 small_number n h = let l = leb-true n most_number h in omega (arith, l)
 
+-- the same of each that fits
 pub number_is_read : (n : ℕ) → nat_le n most_number ≡ true → number_of (decimal n) ≡ Some n
 number_is_read n h = number_back n h (small_number n h)
 
+-- what is spelled for an expression is it
 pub derives : (e : Expr) (r : List Token) → has_words e ≡ true → Derives Whole (spell e r) r e
 derives (Number t n) r h = cast refl refl (type_back t) refl (number (number_is_read n h)) refl
 derives (Name t x) r h = cast refl refl (type_back t) refl (name h) refl
@@ -95,6 +100,7 @@ mid true true false h = absurd (cc)
 mid true false c h = absurd (cc)
 mid false b c h = absurd (cc)
 
+-- what is spelled for statements is them, with all lines at 2
 pub derives_body : (b : Body) (q : Token) (r : List Token) → q.text ≡ codes "}" → each_expr has_words b ≡ true → each_name is_c_name b ≡ true → IsBody (spell_body b (q ∷ r)) (q ∷ r) (flat b)
 derives_body End q r h w n = end h
 derives_body (Decl l t x e b) q r h w n =
@@ -127,6 +133,7 @@ derives_own : (v : Bool) (f : Fun) (r : List Token) → f.own ≡ v → fun_word
 derives_own true f r e h = rw e (own refl (derives_head true f r h))
 derives_own false f r e h = rw e (shared (derives_head false f r h))
 
+-- what is spelled for a file is it, with all lines at 2
 pub derives_file : (fs : List Fun) → each_fun fun_words fs ≡ true → IsFile (spell_file fs) (flat_file fs)
 derives_file [] h = g.none
 derives_file (f ∷ fs) h = g.one (derives_own f.own f (spell_file fs) refl (left (fun_words f) (each_fun fun_words fs) h)) (derives_file fs (right (fun_words f) (each_fun fun_words fs) h))

@@ -250,6 +250,7 @@ flat_file_keeps fs =
     ap (λ (z : List (List ℕ)). distinct z && each_fun (fun_keeps z) (flat_file fs)) (flat_names_of fs)
     ∙ ap (λ (v : Bool). distinct (names_of fs) && v) (flat_each (names_of fs) fs)
 
+-- the text of a file is it, with all lines at 2
 pub written_is_file : WrittenIsFile
 written_is_file fs h =
     let w = right (keeps fs) (each_fun fun_words fs) h in

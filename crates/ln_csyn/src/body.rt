@@ -13,7 +13,7 @@ use crate::tree::{CExpr, CForm, CStmt, CType};
 use ln_base::Seq;
 use std::alloc::Global;
 
-// How many parentheses may stand round a place: in a declaration, and within those of an if.
+/// How many parentheses may stand round a place: in a declaration, and within those of an if.
 #[derive(Clone, Copy)]
 pub struct Depths {
     pub outer: u32,

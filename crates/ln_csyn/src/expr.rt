@@ -11,7 +11,7 @@ use crate::tree::{CExpr, CPrim, CType};
 use ln_base::Seq;
 use std::alloc::Global;
 
-// A copy of a name.
+/// A copy of a name.
 pub fn copied(alloc: Global, name: &[u8]) -> Result<Seq<u8>, CStop>
     ensures ok { IfOk result (λ x. x ≡ name.now) }
     ensures err { IfErr result (λ e. e ≡ OutOfMemory) }

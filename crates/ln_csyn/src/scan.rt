@@ -115,6 +115,7 @@ fn behind(b: u8, line: u32) -> u32
     if b == b'\n' { line + 1 } else { line }
 }
 
+/// The bytes from a place on.
 pub fn after(bytes: &[u8], at: usize) -> &[u8]
     requires { at ≤ length bytes.now }
     ensures { result.now ≡ drop at bytes.now }
@@ -122,6 +123,7 @@ pub fn after(bytes: &[u8], at: usize) -> &[u8]
     &bytes[at..]
 }
 
+/// The first n bytes.
 pub fn front(bytes: &[u8], n: usize) -> &[u8]
     requires { n ≤ length bytes.now }
     ensures { result.now ≡ take n bytes.now }
