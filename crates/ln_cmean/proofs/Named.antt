@@ -1,6 +1,6 @@
 -- The function with two parameters that has a name, and what an answer tells of it.
-use Rattle.std.proofs.Common.{◌≡◌, ℕ, zero, suc, Bool, true, false, List, [], ◌∷◌, ◌++◌, ◌<◌, length, Option, Some, None, refl, sym, ap, ◌∙◌, arith}
-use Rattle.std.specs.Prelude.{ℤ, Any, nat_eq, ◌&&◌, ◌||◌, slice_index_or, if◌then◌else◌, Result, Ok, Err}
+use Rattle.std.proofs.Common.{◌≡◌, ℕ, Bool, true, false, List, [], ◌∷◌, ◌++◌, Option, Some, None, refl, sym, ap, ◌∙◌, arith}
+use Rattle.std.specs.Prelude.{ℤ, nat_eq, Result, Ok, Err}
 use Rattle.std.specs.List.{list_any}
 use Rattle.std.proofs.lemmas.List.Folds.{Any-from_list_any, list_any-from_Any}
 use Rattle.std.proofs.lemmas.Bool.Decides.{nat_tests}
@@ -13,6 +13,7 @@ use Rattle.ln_cmean.specs.declared.calling.CFault.{CFault}
 use Rattle.ln_cmean.specs.declared.calling.CFault.TheVariants.{NoFunction, Undefined}
 use Rattle.ln_cmean.specs.Answered.{told}
 
+-- names are compared letter by letter
 letter_is : (m n : ℕ) → nat_eq m n ≡ true → m ≡ n
 letter_is m n h = grind (arith, nat_tests)
 
@@ -32,6 +33,7 @@ name_self : (x : List ℕ) → same_name x x ≡ true
 name_self [] = refl
 name_self (a ∷ as') = let e = name_self as' in rw (letter_self a) e
 
+-- the function has two parameters
 two_is : (b : Bool) → same_bool b true ≡ true → b ≡ true
 two_is true h = refl
 two_is false h = cc
@@ -49,17 +51,22 @@ abbrev test : List ℕ → Fun → Bool
 test name f = is_wanted f true name
 
 -- a call is looked for among all functions
-none-behind : (before fs : List Fun) (name : List ℕ) (index values : List ℤ) → list_any (test name) fs ≡ false → called_behind before fs name index values ≡ None
+none-behind : (before fs : List Fun) (name : List ℕ) (index values : List ℤ) →
+    list_any (test name) fs ≡ false → called_behind before fs name index values ≡ None
 none-behind before [] name index values h = refl
 none-behind before (f ∷ fs) name index values h = by_case (is_wanted f true name) refl (none-behind (before ++ f ∷ []) fs name index values) where
-  by_case : (v : Bool) → is_wanted f true name ≡ v → (list_any (test name) fs ≡ false → called_behind (before ++ f ∷ []) fs name index values ≡ None) → called_behind before (f ∷ fs) name index values ≡ None
+  by_case : (v : Bool) → is_wanted f true name ≡ v →
+      (list_any (test name) fs ≡ false → called_behind (before ++ f ∷ []) fs name index values ≡ None) →
+      called_behind before (f ∷ fs) name index values ≡ None
   by_case true e go = absurd (true≢false (rw e at h))
   by_case false e go = rw e (go (rw e at h))
 
-some-behind : (before fs : List Fun) (name : List ℕ) (index values : List ℤ) → list_any (test name) fs ≡ true → called_behind before fs name index values ≡ None → ⊥
+some-behind : (before fs : List Fun) (name : List ℕ) (index values : List ℤ) →
+    list_any (test name) fs ≡ true → called_behind before fs name index values ≡ None → ⊥
 some-behind before [] name index values h n = true≢false (sym h)
 some-behind before (f ∷ fs) name index values h n = by_case (is_wanted f true name) refl (some-behind (before ++ f ∷ []) fs name index values) where
-  by_case : (v : Bool) → is_wanted f true name ≡ v → (list_any (test name) fs ≡ true → called_behind (before ++ f ∷ []) fs name index values ≡ None → ⊥) → ⊥
+  by_case : (v : Bool) → is_wanted f true name ≡ v →
+      (list_any (test name) fs ≡ true → called_behind (before ++ f ∷ []) fs name index values ≡ None → ⊥) → ⊥
   by_case true e go = (let q : Some (called_at f.end (runs_behind before f.body index values)) ≡ None = rw e at n in cc)
   by_case false e go = go (rw e at h) (rw e at n)
 
@@ -72,10 +79,13 @@ named_of_test fs name h =
     (a.0, a.1, a.2, a.3, wanted_is a.1 name a.4)
 
 -- there is no meaning at all exactly where no function is named so
-none_of_unnamed : (fs : List Fun) (name : List ℕ) (index values : List ℤ) → (CNamed fs name → ⊥) → CCall fs name index values ≡ None
-none_of_unnamed fs name index values h = none-behind [] fs name index values (false_from_ne_true (list_any (test name) fs) (λ t. h (named_of_test fs name t)))
+none_of_unnamed : (fs : List Fun) (name : List ℕ) (index values : List ℤ) →
+    (CNamed fs name → ⊥) → CCall fs name index values ≡ None
+none_of_unnamed fs name index values h =
+    none-behind [] fs name index values (false_from_ne_true (list_any (test name) fs) (λ t. h (named_of_test fs name t)))
 
-unnamed_of_none : (fs : List Fun) (name : List ℕ) (index values : List ℤ) → CCall fs name index values ≡ None → CNamed fs name → ⊥
+unnamed_of_none : (fs : List Fun) (name : List ℕ) (index values : List ℤ) →
+    CCall fs name index values ≡ None → CNamed fs name → ⊥
 unnamed_of_none fs name index values h n = some-behind [] fs name index values (test_of_named fs name n) h
 
 -- what an answer tells it alone tells
@@ -89,9 +99,11 @@ told_line (Ok a) l h = cc
 told_line (Err NoFunction) l h = cc
 told_line (Err (Undefined n)) l h = cc
 
-pub no_function : (r : Result CAnswer CFault) (fs : List Fun) (name : List ℕ) (index values : List ℤ) → told r ≡ CCall fs name index values → (r ≡ Err NoFunction → CNamed fs name → ⊥) × ((CNamed fs name → ⊥) → r ≡ Err NoFunction)
+pub no_function : (r : Result CAnswer CFault) (fs : List Fun) (name : List ℕ) (index values : List ℤ) → told r ≡ CCall fs name index values →
+    (r ≡ Err NoFunction → CNamed fs name → ⊥) × ((CNamed fs name → ⊥) → r ≡ Err NoFunction)
 no_function r fs name index values h =
     (λ e. unnamed_of_none fs name index values (sym h ∙ ap told e), λ n. told_none r (h ∙ none_of_unnamed fs name index values n))
 
-pub undefined : (r : Result CAnswer CFault) (l : ℕ) (o : Option CMeaning) → told r ≡ o → (r ≡ Err (Undefined l) → o ≡ Some (m.Undefined l)) × (o ≡ Some (m.Undefined l) → r ≡ Err (Undefined l))
+pub undefined : (r : Result CAnswer CFault) (l : ℕ) (o : Option CMeaning) → told r ≡ o →
+    (r ≡ Err (Undefined l) → o ≡ Some (m.Undefined l)) × (o ≡ Some (m.Undefined l) → r ≡ Err (Undefined l))
 undefined r l o h = (λ e. sym h ∙ ap told e, λ e. told_line r l (h ∙ e))

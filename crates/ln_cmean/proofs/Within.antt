@@ -1,5 +1,5 @@
 -- A number that an expression gives is one of its type.
-use Rattle.std.proofs.Common.{◌≡◌, ℕ, Bool, true, false, List, Option, Some, None, refl, sym, subst, pos}
+use Rattle.std.proofs.Common.{◌≡◌, Bool, true, false, List, None, refl, sym, subst, pos}
 use Rattle.std.proofs.lemmas.Bool.{true≢false}
 use Rattle.std.specs.Prelude.{ℤ, ⊤, if◌then◌else◌, ◌+ℤ◌, ◌-ℤ◌, ◌*ℤ◌, neg_ℤ, int_div, int_lt, not, slice_get}
 use Rattle.ln_csyn.specs.declared.tree.CType.{CType}
@@ -14,12 +14,14 @@ abbrev pub IsWithin : Answer → Type 0
 IsWithin (Gives t z k) = has t z ≡ true
 IsWithin (Fails o) = ⊤
 
+-- what the type was tested for
 given_within : (t : CType) (z : ℤ) (k : Counts) → IsWithin (given t z k)
 given_within t z k = by_case (has t z) refl where
   by_case : (v : Bool) → has t z ≡ v → IsWithin (given t z k)
   by_case true h = rw h (rw h refl)
   by_case false h = rw h tt
 
+-- what goes on
 then_within : (a : Answer) (go : CType → ℤ → Counts → Answer) → ((t : CType) (z : ℤ) (k : Counts) → IsWithin (go t z k)) → IsWithin (then_with a go)
 then_within (Gives t z k) go h = h t z k
 then_within (Fails o) go h = tt
@@ -27,6 +29,7 @@ then_within (Fails o) go h = tt
 cast_within : (t : CType) (a : Answer) → IsWithin (cast t a)
 cast_within t a = then_within a (λ u z k. given t z k) (λ u z k. given_within t z k)
 
+-- 0 and 1 are an `int`
 bool_within : (b : Bool) → has Int (number_of_bool b) ≡ true
 bool_within true = refl
 bool_within false = refl
@@ -35,6 +38,7 @@ quotient_within : (t : CType) (x y : ℤ) (k : Counts) (zero : Bool) → IsWithi
 quotient_within t x y k true = tt
 quotient_within t x y k false = given_within t (int_div x y) (counted t k)
 
+-- each operation
 operated_within : (o : COp) (t : CType) (x y : ℤ) (k : Counts) → IsWithin (operated o t x y k)
 operated_within Add t x y k = given_within t (x +ℤ y) (counted t k)
 operated_within Sub t x y k = given_within t (x -ℤ y) (counted t k)
@@ -49,6 +53,7 @@ same_within : (o : COp) (t : CType) (x y : ℤ) (k : Counts) (is : Bool) → IsW
 same_within o t x y k true = operated_within o t x y k
 same_within o t x y k false = tt
 
+-- each expression ends in a test of its type, or in a comparison
 value_within : (s : Scene) (ds : List Seen) (e : Expr) (k : Counts) → IsWithin (value_of s ds e k)
 value_within s ds (Number t n) k = given_within t (pos n) k
 value_within s ds (Name t x) k = cast_within t (find ds x k)
@@ -61,6 +66,7 @@ value_within s ds (Two o a b) k =
     then_within (value_of s ds a k) (λ t x i. then_with (value_of s ds b i) (λ u y j. if is_same t u then operated o t x y j else Fails None))
     (λ t x i. then_within (value_of s ds b i) (λ u y j. if is_same t u then operated o t x y j else Fails None) (λ u y j. same_within o t x y j (is_same t u)))
 
+-- the test on types
 is_same-one : (t u : CType) → true ≡ is_same t u → t ≡ u
 is_same-one Int Int h = refl
 is_same-one Int64 Int64 h = refl
@@ -73,5 +79,7 @@ is_same-one Int128 Int h = absurd (true≢false h)
 is_same-one Int128 Int64 h = absurd (true≢false h)
 
 -- so is one of the type that is wanted
-pub wanted_within : (s : Scene) (ds : List Seen) (e : Expr) (k j : Counts) (t u : CType) (z : ℤ) → Gives t z j ≡ value_of s ds e k → true ≡ is_same t u → has u z ≡ true
-wanted_within s ds e k j t u z h same = subst (λ v. has v z ≡ true) (is_same-one t u same) (subst IsWithin (sym h) (value_within s ds e k))
+pub wanted_within : (s : Scene) (ds : List Seen) (e : Expr) (k j : Counts) (t u : CType) (z : ℤ) →
+    Gives t z j ≡ value_of s ds e k → true ≡ is_same t u → has u z ≡ true
+wanted_within s ds e k j t u z h same =
+    subst (λ v. has v z ≡ true) (is_same-one t u same) (subst IsWithin (sym h) (value_within s ds e k))
