@@ -1,5 +1,5 @@
 -- What files and ports in memory hold, and when their calls fail.
-use Rattle.std.specs.Prelude.{◌≡◌, ℕ, ◌+◌, ◌-◌, ◌^◌, ◌<◌, min, List, length}
+use Rattle.std.specs.Prelude.{◌≡◌, ℕ, ◌-◌, ◌<◌, min, List, length}
 use Rattle.ln_base.specs.Outside.{Shelf, port_bytes}
 use Rattle.ln_base.specs.declared.outside.Port.{Port}
 
@@ -20,9 +20,9 @@ pub record PortsHeld : Type 0 where
   pub calls : ℕ
   pub faults : ℕ
 
--- one more, up to the end of 64 bits, where a count stands still
-abbrev pub counted : ℕ → ℕ
-counted n = min (n + 1) (2 ^ 64 - 1)
+-- as many bytes of a file from a place on as there are and as there is room for
+abbrev pub handed : List ℕ → ℕ → ℕ → ℕ
+handed content at room = min room (length content - at)
 
 -- what stands on a port
 abbrev pub held : Port → PortsHeld → List ℕ

@@ -6,6 +6,7 @@
 //! refusal has its cause, a count of faults that rose or a name that isn't there.
 #![tactic(auto)]
 
+pub mod calls;
 pub mod decimal;
 pub mod memory;
 pub mod outside;
@@ -15,6 +16,7 @@ pub mod sign;
 pub mod span;
 pub mod whole;
 
+pub use calls::Call;
 pub use decimal::Reading;
 pub use memory::{MemConsole, MemFiles};
 pub use outside::{Console, Failed, Files, NoMemory, Port};
