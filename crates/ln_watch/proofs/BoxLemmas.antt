@@ -35,13 +35,13 @@ pub record Showing {B : Type 0} (kind : B → ℕ) (tally : B → List ℕ) (ite
   pub split : states_of kind tally first ≡ seen ++ states_of kind tally (drop i items)
   pub left : states_of kind tally (take i items) ≡ left_after row v seen
   pub puts : now ≡ appended port (lines_at row v seen) was
-  pub later : before ≤ count
+  pub fine : count ≡ before
   pub within : i ≤ length items
 
 -- no box has
 pub starts : {B : Type 0} (kind : B → ℕ) (tally : B → List ℕ) (items : List B) (row : ℕ) (v : Verdict) (count : ℕ) (port : Port) (was : Option Shown) → Showing kind tally items items 0 row v count count port was was
 starts kind tally items row v count port was =
-    record { seen = []; split = refl; left = refl; puts = sym (appended_nothing port was); later = omega arith; within = omega arith }
+    record { seen = []; split = refl; left = refl; puts = sym (appended_nothing port was); fine = refl; within = omega arith }
 
 one-left : (row : ℕ) (v : Verdict) (s : State) (k : Keep) → k ≡ answer row v s → left_after row v (s ∷ []) ≡ left_of k (state_after row v s)
 one-left row v s k e = append-nil _ ∙ rw e refl
@@ -72,7 +72,7 @@ stays kind tally items first i row v before count port was now old new s w o k t
       split = rw back split;
       left = rw (front, states-append, s.left, left-append, one, ← is_new) refl;
       puts = rw (lines-append, none, append-nil) s.puts;
-      later = s.later;
+      fine = s.fine;
       within = omega (arith, length-set items i new);
     }
 
@@ -87,7 +87,7 @@ taken items rest i new w r =
 pub leaves : {B : Type 0} (kind : B → ℕ) (tally : B → List ℕ) (items first rest : List B) (i row : ℕ) (v : Verdict) (before count later : ℕ) (port : Port) (was now then : Option Shown) (old new done : B)
     → Showing kind tally items first i row v before count port was now
     → i < length items → old ≡ get_or items i old → kind new ≡ kind old → tally new ≡ tally_after (kind old) (tally old) row v → Done ≡ keep_after (kind old) (tally old) row v
-    → done ≡ get_or (set items i new) i done → rest ≡ remove (set items i new) i → then ≡ appended port (feed (watch_text (kind done) (tally done))) now → count ≤ later
+    → done ≡ get_or (set items i new) i done → rest ≡ remove (set items i new) i → then ≡ appended port (feed (watch_text (kind done) (tally done))) now → later ≡ count
     → Showing kind tally rest first i row v before later port was then
 leaves kind tally items first rest i row v before count later port was now then old new done s w o k t e d r p c =
     let st : State = record { kind = kind old; tally = tally old } in
@@ -106,7 +106,7 @@ leaves kind tally items first rest i row v before count later port was now then 
       split = rw back split;
       left = rw (front, left-append, none, append-nil) s.left;
       puts = p ∙ rw (said, s.puts, lines-append, one) (appended_twice port (lines_at row v s.seen) (line_of (state_after row v st)) was);
-      later = omega (arith, s.later, c);
+      fine = c ∙ s.fine;
       within = omega (arith, ap length parts, length-append (take i items) (drop (i + 1) items), size);
     }
 
@@ -149,7 +149,7 @@ pub record Closing {B : Type 0} (kind : B → ℕ) (tally : B → List ℕ) (ite
   pub seen : List State
   pub split : states_of kind tally items ≡ seen ++ states_of kind tally (drop i items)
   pub puts : now ≡ appended port (last_lines seen) was
-  pub later : before ≤ count
+  pub fine : count ≡ before
 
 -- the line of the box at a place, among all lines
 with-one : {B : Type 0} (kind : B → ℕ) (tally : B → List ℕ) (items : List B) (i : ℕ) (seen : List State) (old : B) → states_of kind tally items ≡ seen ++ states_of kind tally (drop i items) → i < length items → old ≡ get_or items i old
@@ -163,14 +163,14 @@ last-one seen s = last-append seen (s ∷ []) ∙ ap (λ q. last_lines seen ++ q
 
 -- the next line stands too
 pub closes : {B : Type 0} (kind : B → ℕ) (tally : B → List ℕ) (items : List B) (i before count later : ℕ) (port : Port) (was now then : Option Shown) (old : B) → Closing kind tally items i before count port was now
-    → i < length items → old ≡ get_or items i old → then ≡ appended port (feed (watch_text (kind old) (tally old))) now → count ≤ later → Closing kind tally items (i + 1) before later port was then
+    → i < length items → old ≡ get_or items i old → then ≡ appended port (feed (watch_text (kind old) (tally old))) now → later ≡ count → Closing kind tally items (i + 1) before later port was then
 closes kind tally items i before count later port was now then old s w o p c =
     let st : State = record { kind = kind old; tally = tally old } in
     record {
       seen = s.seen ++ st ∷ [];
       split = with-one kind tally items i s.seen old s.split w o;
       puts = p ∙ ap (appended port (line_of st)) s.puts ∙ appended_twice port (last_lines s.seen) (line_of st) was ∙ ap (λ q. appended port q was) (sym (last-one s.seen st));
-      later = omega (arith, s.later, c);
+      fine = c ∙ s.fine;
     }
 
 -- the put of the next line fails

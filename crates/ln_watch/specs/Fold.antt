@@ -11,7 +11,7 @@
 --
 -- Each watcher stays where nothing else is said. On a tally of another form a step changes nothing, and the text is empty.
 use Rattle.std.specs.Prelude.{ℕ, ◌==◌, nat_lt, max, Bool, false, ◌&&◌, List, [], ◌∷◌, ◌++◌, length, codes, decimal, if◌then◌else◌}
-use Rattle.ln_base.specs.Memory.{counted}
+use Rattle.ln_base.specs.Outside.{counted}
 use Rattle.ln_base.specs.declared.sign.Sign.{Sign}
 use Rattle.ln_base.specs.declared.sign.Sign.TheVariants.{Minus, Zero, Plus}
 use Rattle.ln_code.specs.declared.verdict.Verdict.{Verdict}

@@ -31,6 +31,7 @@ fn put_fed<C: Console>(con: &mut C, port: Port, text: &[u8]) -> Result<(), Faile
     ensures err { OnErr result (FailsAfter port (feed text.now) (C.shown con.old) (C.shown con.new)) }
     ensures later { C.faults con.old ≤ C.faults con.new }
     ensures cause { OnErr result (Rose (C.faults con.old) (C.faults con.new)) }
+    ensures fine { OnOk result (C.faults con.new ≡ C.faults con.old) }
 {
     put_all(con, port, text)?;
     put_all(con, port, b"\n")
@@ -42,6 +43,7 @@ fn put_line<C: Console>(watcher: &Box<dyn Watch>, con: &mut C, port: Port) -> Re
     ensures err { OnErr result (FailsAfter port (feed (watch_text (kind_of watcher.now) (tally_of watcher.now))) (C.shown con.old) (C.shown con.new)) }
     ensures later { C.faults con.old ≤ C.faults con.new }
     ensures cause { OnErr result (Rose (C.faults con.old) (C.faults con.new)) }
+    ensures fine { OnOk result (C.faults con.new ≡ C.faults con.old) }
 {
     let mut buf = Line::new();
     line(watcher, &mut buf);
@@ -76,6 +78,7 @@ impl Panel {
         ensures puts { OnOk result (C.shown con.new ≡ appended port (lines_at row v.now (states_of kind_of tally_of self.old.watchers.items)) (C.shown con.old)) }
         ensures stops { OnErr result (StopsAt row v.now (states_of kind_of tally_of self.old.watchers.items) (states_of kind_of tally_of self.new.watchers.items) port (C.shown con.old) (C.shown con.new)) }
         ensures cause { OnErr result (Rose (C.faults con.old) (C.faults con.new)) }
+        ensures fine { OnOk result (C.faults con.new ≡ C.faults con.old) }
         ensures later { C.faults con.old ≤ C.faults con.new }
     {
         let mut i = 0usize;
@@ -97,6 +100,7 @@ impl Panel {
         ensures puts { OnOk result (C.shown con.new ≡ appended port (last_lines (states_of kind_of tally_of self.watchers.items)) (C.shown con.old)) }
         ensures cut { OnErr result (FailsAfter port (last_lines (states_of kind_of tally_of self.watchers.items)) (C.shown con.old) (C.shown con.new)) }
         ensures cause { OnErr result (Rose (C.faults con.old) (C.faults con.new)) }
+        ensures fine { OnOk result (C.faults con.new ≡ C.faults con.old) }
         ensures later { C.faults con.old ≤ C.faults con.new }
     {
         'boxes: for watcher in self.watchers.as_slice() {

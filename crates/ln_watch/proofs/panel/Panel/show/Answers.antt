@@ -14,4 +14,4 @@ returns-in_err-put_line-in-Done-clause-stops g c =
 pub boxes-preserved : goal.boxes-preserved
 boxes-preserved g c =
     leaves _ _ _ _ _ _ _ _ _ _ _ _ _ _ _ _ c.see.new.watcher c.remove-done.result c.boxes.invariant (search rules) c.index_mut.ensures.value c.in-Done.ensures.kind c.in-Done.ensures.tally
-    c.in-Done.ensures.keep c.remove-done.ensures.value c.remove-done.ensures.items c.in_ok-put_line-in-Done.ensures.ok c.put_line.ensures.later
+    c.in-Done.ensures.keep c.remove-done.ensures.value c.remove-done.ensures.items c.in_ok-put_line-in-Done.ensures.ok c.in_ok-put_line-in-Done.ensures.fine
