@@ -1,5 +1,5 @@
 -- What a program carries: the expression whose sign it decides, its normal polynomial and its stages.
-use Rattle.std.specs.Prelude.{◌≡◌, ℕ, All, List, length, map, Some, IfSome}
+use Rattle.std.specs.Prelude.{◌≡◌, ℕ, All, List, [], length, map, Some, IfSome}
 use Rattle.ln_algebra.specs.Terms.{IsNormalOf, derived}
 use Rattle.ln_algebra.specs.Tree.{InputsBelow, Tree}
 use Rattle.ln_tree.specs.declared.shape.VarInfo.{VarInfo}
