@@ -32,7 +32,8 @@ use Rattle.ln_stage.specs.declared.stop.StageStop.{StageStop}
 use Rattle.ln_stage.specs.declared.stop.StageStop.TheVariants.{Zero, Stages, NoMemory}
 use Rattle.ln_stage.proofs.FirstSightLemmas.{list-along, segments-are-fewer, stages-by-prefixes}
 use Rattle.ln_stage.proofs.FoldLemmas.{AllSized, IsAllSeenBy, Sized, all-sized, extends-refl, seen-by}
-use Rattle.ln_stage.proofs.MonomialLemmas.{IsTerms, poly-terms, rows-monomials, rows-small}
+pub use Rattle.ln_stage.proofs.MonomialLemmas.{poly-terms}
+use Rattle.ln_stage.proofs.MonomialLemmas.{IsTerms, rows-monomials, rows-small}
 use Rattle.ln_stage.proofs.PairsLemmas.{above-pairs, vector-pairs_of}
 use Rattle.ln_stage.proofs.SiteWalkLemmas.{walks-are-segments}
 use Rattle.ln_stage.proofs.StageLemmas.{walk-stages}

@@ -121,14 +121,14 @@ touches-not : (sites : Sites) (a : List ℕ) (n i : ℕ) → touches sites a n i
 touches-not sites a zero i h v s l o e = absurd (omega arith)
 touches-not sites a (suc n) i h v s l o e =
     go (touches-not sites a n i (or_not (at_index sites (sites.site n) i && isnt_zero (get_or a n 0)) (touches sites a n i) h).1 v s) (or_not (at_index sites (sites.site n) i && isnt_zero (get_or a n 0)) (touches sites a n i) h).0 (cases_lt v n) where
-  go : (v < n → Of sites v s → sites.index s ≡ i → get_or a v 0 ≡ 0) → (at_index sites (sites.site n) i && isnt_zero (get_or a n 0)) ≡ false → (v < n) ⊎ (n ≤ v) → get_or a v 0 ≡ 0
-  go ih k (inl m) = ih m o e
-  go ih k (inr m) =
-      let q : n ≡ v = omega (arith, l, m) in
-      let there : sites.site n ≡ Some s = ap (λ z. sites.site z) q ∙ o in
-      let t : at_index sites (sites.site n) i ≡ true = rw there (eq-eqb (sites.index s) i e) in
-      let z : isnt_zero (get_or a n 0) ≡ false = rw t at k in
-      ap (λ y. get_or a y 0) (sym q) ∙ is_zero-is (get_or a n 0) z
+      go : (v < n → Of sites v s → sites.index s ≡ i → get_or a v 0 ≡ 0) → (at_index sites (sites.site n) i && isnt_zero (get_or a n 0)) ≡ false → (v < n) ⊎ (n ≤ v) → get_or a v 0 ≡ 0
+      go ih k (inl m) = ih m o e
+      go ih k (inr m) =
+          let q : n ≡ v = omega (arith, l, m) in
+          let there : sites.site n ≡ Some s = ap (λ z. sites.site z) q ∙ o in
+          let t : at_index sites (sites.site n) i ≡ true = rw there (eq-eqb (sites.index s) i e) in
+          let z : isnt_zero (get_or a n 0) ≡ false = rw t at k in
+          ap (λ y. get_or a y 0) (sym q) ∙ is_zero-is (get_or a n 0) z
 
 reach-ends : (sites : Sites) (n : ℕ) (a : List ℕ) (k : ℕ) → length a ≡ n → NeedsBelow sites k a → Ends sites (reach sites n k a) a
 reach-ends sites n a zero size h = record { below = h; last = λ i e. absurd (omega (arith, e)) }

@@ -1,4 +1,5 @@
-// Laws of stages and of the cut.
+// Laws of coefficients, of stages and of the cut.
+ghost use Rattle.ln_algebra.specs.Law.{CoefficientsVanishAboveDegree, DerivativesAreCoefficients, DerivativesOnRows, ProductRule, ProductRuleOfValues, ProductsAreSumsOverWays};
 ghost use Rattle.ln_algebra.specs.StageLaw.{FirstIsStage, FirstNonzeroStageIsFirst, LastIsConstant, NonzeroHasFirst, SignAlongTheStages, UncoveredIsZero, WithoutParamsThereIsFirst, ZeroStagesHaveNoFirst};
 ghost use Rattle.ln_stage.specs.StageList.{ListIsUnique, ListsAreThoseOfTrees};
 
@@ -15,6 +16,32 @@ pub fn lists_are_those_of_trees()
 pub fn list_is_unique()
     ensures { ListIsUnique }
 {}
+
+/// The scaled derivative of a normal polynomial by a vector has at every point the perturbed coefficient of the vector, and on
+/// a row that of the row; no vector above the syntactic degree has one that isn't 0.
+///
+/// On it rests that a block, which computes one derivative, gives the coefficient at its stage.
+pub fn derivatives_are_coefficients()
+    ensures points { DerivativesAreCoefficients }
+    ensures rows { DerivativesOnRows }
+    ensures degree { CoefficientsVanishAboveDegree }
+{
+    ln_algebra::derivatives_are_coefficients();
+    ln_algebra::derivatives_on_rows();
+    ln_algebra::coefficients_vanish_above_degree();
+}
+
+/// The product rule of scaled derivatives, and the coefficients of a product of any number of factors.
+///
+/// On it rests the sign of a product of predicates.
+pub fn product_rule()
+    ensures coefficients { ProductRule }
+    ensures values { ProductRuleOfValues }
+    ensures ways { ProductsAreSumsOverWays }
+{
+    ln_algebra::product_rule();
+    ln_algebra::products_are_sums_over_ways();
+}
 
 /// The stages of an order are all that has to be looked at, on every row: a vector that no monomial covers has the
 /// coefficient 0, the coefficient at the cut is a constant that isn't 0, and the sign along the list is the perturbed

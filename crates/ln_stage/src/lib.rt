@@ -16,7 +16,10 @@ pub mod table;
 pub(crate) mod tally;
 pub(crate) mod walk;
 
-pub use laws::{cut_loses_nothing, list_is_unique, lists_are_those_of_trees, there_is_a_first};
+pub use laws::{
+    cut_loses_nothing, derivatives_are_coefficients, list_is_unique, lists_are_those_of_trees,
+    product_rule, there_is_a_first,
+};
 pub use lists::stages;
 pub use segments::{
     first_sight_by_prefixes, list_has_its_segments, segment_is_of_the_prefix, segment_is_unique,
@@ -25,5 +28,7 @@ pub use segments::{
 pub use stop::StageStop;
 pub use table::Stages;
 
+#[cfg(test)]
+mod spheres;
 #[cfg(test)]
 mod tests;

@@ -73,9 +73,14 @@ fn two_lists_of_three_have_five_blocks(rt: HostRuntime) -> Result<(), Fail> {
             assert!(rt; is_power(&st, 3, 1, 1));
             assert!(rt; is_power(&st, 4, 1, 2));
             match (order_of(&[5, 8]), order_of(&[8, 5])) {
+                // Each second segment stands behind the cut.
                 (Ok(first), Ok(second)) => {
-                    assert_eq!(rt; st.list(&first), [0u32, 1, 2].as_slice());
-                    assert_eq!(rt; st.list(&second), [0u32, 3, 4].as_slice());
+                    assert!(rt; st.list(&first) == [0u32, 1, 2].as_slice());
+                    assert!(rt; st.list(&second) == [0u32, 3, 4].as_slice());
+                    assert!(rt; st.segment(&first, 0) == [0u32].as_slice());
+                    assert!(rt; st.segment(&first, 1) == [1u32, 2].as_slice());
+                    assert!(rt; st.segment(&second, 1) == [3u32, 4].as_slice());
+                    assert!(rt; st.segment(&second, 2).is_empty());
                 }
                 _ => assert!(rt; false),
             }
