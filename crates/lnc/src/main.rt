@@ -29,12 +29,12 @@ fn words_of(rt: &(impl Env + Alloc<A = Global>)) -> Result<Vec<String>, AllocErr
 
 fn main(rt: HostRuntime) -> ExitCode {
     let Ok(words) = words_of(&rt) else {
-        return ExitCode::from(Status::Memory as u8);
+        return ExitCode::from(Status::Memory.code());
     };
     let mut files = DiskFiles::new(&rt);
     let mut con = StdConsole::new(rt.stdout(), rt.stderr());
     let status = lnc(rt.alloc(), words.as_slice(), &mut files, &mut con);
-    ExitCode::from(status as u8)
+    ExitCode::from(status.code())
 }
 
 #[cfg(test)]
@@ -53,9 +53,9 @@ mod tests {
         let mut files = DiskFiles::new(&rt);
         let mut con = MemConsole::new(alloc, 64, 64, Vec::new(alloc))?;
         let status = lnc(alloc, words.as_slice(), &mut files, &mut con);
-        assert_eq!(rt; status, Status::Read);
-        assert_eq!(rt; con.bytes(Port::Out), b"".as_slice());
-        assert_eq!(rt; con.bytes(Port::Err), b"error read\n".as_slice());
+        assert!(rt; status == Status::Read);
+        assert!(rt; con.bytes(Port::Out).is_empty());
+        assert!(rt; con.bytes(Port::Err) == b"error read\n");
         Ok(())
     }
 }
