@@ -1,222 +1,121 @@
--- Words and told files are owed one answer, and none where a file that the steps reach isn't there.
-use Rattle.std.proofs.Common.{◌≡◌, ℕ, ◌≤◌, ◌<◌, Bool, cond, List, [], ◌∷◌, map, drop, length, Option, Some, None, option_map, refl, ap, sym, ◌∙◌, subst, arith}
+-- Words and told files are owed one answer.
+use Rattle.std.proofs.Common.{◌≡◌, ℕ, List, [], ◌∷◌, ◌++◌, map, Option, Some, None, option_map, refl, ap, sym, ◌∙◌, subst}
 use Rattle.std.proofs.lemmas.Option.{none-some, same_Some}
-use Rattle.ln_base.specs.Outside.{Shelf, bytes_of}
+use Rattle.ln_base.specs.Outside.{Shelf}
 use Rattle.ln_tree.specs.declared.table.Table.{Table}
 use Rattle.ln_tree.specs.declared.pred.Pred.{Pred}
-use Rattle.ln_tree.specs.Table.{TableOf, PredOf, site_of, param_of, arg_of, pred_of, table_of}
-use Rattle.ln_parse.proofs.OneAnswer.{one_table}
-use Rattle.ln_rows.specs.Columns.{column_names}
-use Rattle.ln_rows.specs.Left.{Records, records_in}
-use Rattle.ln_compile.proofs.OneRefusal.{accepted_alone, refused_one}
-use Rattle.ln_top.specs.declared.status.Status.TheVariants as status
-use Rattle.ln_top.specs.declared.stop.Refusal.{Refusal}
-use Rattle.ln_top.specs.Stop.{refusal_text}
-use Rattle.ln_top.specs.Words.{Command, Check, Rows, Run, command_of, file_of}
-use Rattle.ln_top.specs.Line.{AreLines, all_rows}
-use Rattle.ln_top.specs.Source.{IsAccepted, IsRefusedFor, named, told_of}
-use Rattle.ln_top.specs.Said.{Said, error_line, IsWrongHeader, CheckSaid, counted, WorkSaid, wrong_header, ran}
-use Rattle.ln_top.specs.Answer.{most_source, most_rows, HasSource, HasPredicate, Steps, Answer, usage, long_source, refused, checked, no_predicate, long_rows, worked, IsMissing, no_source, no_rows}
-use Rattle.ln_top.proofs.Likeness.{names_over, columns_like, one_named}
-use Rattle.ln_top.proofs.OneLine.{one_counts, one_lines}
+use Rattle.ln_tree.specs.Table.{TableOf, PredOf, pred_of}
+use Rattle.ln_rows.specs.Left.{Records}
+use Rattle.ln_compile.specs.Accepted.{AreSound}
+use Rattle.ln_top.specs.declared.words.Command.{Command}
+use Rattle.ln_top.specs.declared.words.Command.TheVariants as command
+use Rattle.ln_top.specs.declared.status.End.TheVariants.{Done}
+use Rattle.ln_top.specs.Said.{Said, whole}
+use Rattle.ln_top.specs.Stop.{said_of}
+use Rattle.ln_top.specs.Plan.{Plan}
+use Rattle.ln_top.specs.Source.{IsAccepted, view}
+use Rattle.ln_top.specs.Steps as step
+use Rattle.ln_top.specs.Steps.{Outcome, stops, missing, gives, Given, Prepares, Each, Finds, Compiles, named}
+use Rattle.ln_top.specs.Check.{AreCounts, CheckSaid, counted}
+use Rattle.ln_top.specs.Lines.{Lines, all_good}
+use Rattle.ln_top.specs.Line.{is_row}
+use Rattle.ln_top.specs.Run as run
+use Rattle.ln_top.specs.Run.{RunStep, RunSaid, HasRecords, end_of}
+use Rattle.ln_top.specs.Work.{WorkOwes}
+use Rattle.ln_top.specs.Answer.{PlanOwes, stopped, worked, Answer, usage, planned}
+use Rattle.ln_top.proofs.Chain.{value_or, one_prepares}
+use Rattle.ln_top.proofs.Likeness.{named_in, named_like}
+use Rattle.ln_top.proofs.LinesLaws.{one_lines, SameLines}
+use Rattle.ln_top.proofs.OneLine.{one_line, one_counts}
+use Rattle.ln_top.proofs.RunLaws.{same_pred, same_names, same_records, tail_same, wrong_right}
+use Rattle.ln_top.proofs.TopLaws.{some_plan, stops_gives, same_why, same_given}
 
-abbrev Words : Type 0
-Words = List (List ℕ)
+-- each of these predicates is the first of some name
+abbrev pub AreFound : List PredOf → List PredOf → Type 0
+AreFound table [] = Unit {0}
+AreFound table (p ∷ ps) = ((name : List ℕ) × (named name table ≡ Some p)) × AreFound table ps
 
--- what a table stands for
-abbrev view : Table → TableOf
-view t = table_of t.sites t.params t.preds
+-- what is given stands for a table in memory, whose predicates have no fault
+pub record IsGrounded (g : Given) : Type 0 where
+  pub table : Table
+  pub is : view table ≡ g.table
+  pub sound : AreSound g.table.preds
+  pub found : AreFound g.table.preds g.preds
 
--- a source is refused for one reason
-one_refusal : (bytes : List ℕ) (r q : Refusal) → IsRefusedFor bytes r → IsRefusedFor bytes q → r ≡ q
-one_refusal bytes r q f g = same_Some r q (sym f.is ∙ ap (told_of bytes) (refused_one bytes f.refusal g.refusal f.cause g.cause) ∙ g.is)
+found_of : (table : List PredOf) (name : List ℕ) (p : PredOf) → Finds table name (gives p) → named name table ≡ Some p
+found_of table name p (step.found _ e) = e
 
--- words are no command, or one
-pub no_words : {P : Type 0} (words : Words) (c : Command) → command_of words ≡ None → command_of words ≡ Some c → P
-no_words words c e f = absurd (none-some c (sym e ∙ f))
+found_each : (table : List PredOf) (names : List (List ℕ)) (preds : List PredOf) → Each (Finds table) names (gives preds) → AreFound table preds
+found_each table [] preds h = subst (AreFound table) (sym (ap (value_or preds) h)) tt
+found_each table (n ∷ ns) preds (step.goes p f (step.goes ps g h)) = subst (AreFound table) (sym (ap (value_or preds) h)) ((n, found_of table n p f), found_each table ns ps g)
 
-one_command : (words : Words) (c d : Command) → command_of words ≡ Some c → command_of words ≡ Some d → c ≡ d
-one_command words c d e f = same_Some c d (sym e ∙ f)
+accepted_of : (bytes : List ℕ) (t : TableOf) → Compiles bytes (gives t) → IsAccepted bytes t
+accepted_of bytes t (step.accepted _ a) = a
 
-pub check_or_run : {P : Type 0} (words : Words) (file : List ℕ) (run : Run) → command_of words ≡ Some (Check file) → command_of words ≡ Some (Rows run) → P
-check_or_run words file run e f = let h : Check file ≡ Rows run = one_command words (Check file) (Rows run) e f in absurd (cc)
+grounded_as : (table : TableOf) (preds : List PredOf) (texts : List (List ℕ)) (bytes : List ℕ) → IsAccepted bytes table → AreFound table.preds preds → IsGrounded (record { table = table; preds = preds; texts = texts })
+grounded_as table preds texts bytes a f = record { table = a.table; is = a.is; sound = a.accepted.sound; found = f }
 
-one_run : (words : Words) (r q : Run) → command_of words ≡ Some (Rows r) → command_of words ≡ Some (Rows q) → r ≡ q
-one_run words r q e f = let h : Rows r ≡ Rows q = one_command words (Rows r) (Rows q) e f in cc
+-- what the steps give is grounded
+pub grounded : (plan : Plan) (shelf : Shelf) (g : Given) → Prepares plan (Some shelf) (gives g) → IsGrounded g
+grounded plan shelf g (step.goes bytes r (step.goes table c (step.goes preds n (step.goes texts t h)))) =
+    subst IsGrounded (sym (ap (value_or g) h)) (grounded_as table preds texts bytes (accepted_of bytes table c) (found_each table.preds plan.names preds n))
 
--- and one source
-one_source : (words : Words) (shelf : Shelf) (c d : Command) (b bytes : List ℕ) → HasSource words shelf c b → HasSource words shelf d bytes → b ≡ bytes
-one_source words shelf c d b bytes s t = same_Some b bytes (sym s.told ∙ ap (λ (x : Command). bytes_of (file_of x) shelf) (one_command words c d s.form t.form) ∙ t.told)
+-- a predicate of it stands in memory
+by_named : (ps : List Pred) (name : List ℕ) (p : PredOf) (o : Option Pred) → option_map pred_of o ≡ Some p → (q : Pred) × (pred_of q ≡ p)
+by_named ps name p None e = absurd (none-some p e)
+by_named ps name p (Some q) e = (q, same_Some (pred_of q) p e)
 
--- of which no two of these hold: it is too long, it is refused, it has no predicate of the name, it has one
-pub long_or_within : {P : Type 0} (words : Words) (shelf : Shelf) (c d : Command) (b bytes : List ℕ) → HasSource words shelf c b → HasSource words shelf d bytes → most_source < length b → length bytes ≤ most_source → P
-long_or_within words shelf c d b bytes s t l h = let e = ap length (one_source words shelf c d b bytes s t) in absurd (omega (arith, l, h, e))
+pub in_memory : (g : Given) (p : PredOf) (rest : List PredOf) → IsGrounded g → g.preds ≡ p ∷ rest → (q : Pred) × (pred_of q ≡ p)
+in_memory g p rest h e =
+    let found : AreFound g.table.preds (p ∷ rest) = subst (AreFound g.table.preds) e h.found in
+    let there : named found.0.0 (map pred_of h.table.preds) ≡ Some p = ap (λ (t : TableOf). named found.0.0 t.preds) h.is ∙ found.0.1 in
+    by_named h.table.preds found.0.0 p (named_in found.0.0 h.table.preds) (named_like found.0.0 h.table.preds ∙ there)
 
-pub refused_or_accepted : {P : Type 0} (words : Words) (shelf : Shelf) (c d : Command) (b bytes : List ℕ) (t : Table) {r : Refusal} → HasSource words shelf c b → HasSource words shelf d bytes → IsRefusedFor b r → IsAccepted bytes t → P
-refused_or_accepted words shelf c d b bytes t {r} s u f a = let g = subst (λ (w : List ℕ). IsRefusedFor w r) (one_source words shelf c d b bytes s u) f in absurd (accepted_alone bytes (view t) g.refusal a g.cause)
+-- `check` says one thing
+check_one : (g : Given) → IsGrounded g → (a b : Said) → CheckSaid g a → CheckSaid g b → a ≡ b
+check_one g h a b (counted x c) (counted y d) =
+    let preds : g.table.preds ≡ map pred_of h.table.preds = sym (ap (λ (t : TableOf). t.preds) h.is) in
+    ap (whole Done) (one_counts h.table.preds (subst (λ ps. AreCounts ps x) preds c) (subst (λ ps. AreCounts ps y) preds d))
 
--- two tables of one source stand for the same
-tables : (words : Words) (shelf : Shelf) (c d : Command) (b bytes : List ℕ) (t u : Table) → HasSource words shelf c b → HasSource words shelf d bytes → IsAccepted b t → IsAccepted bytes u → view t ≡ view u
-tables words shelf c d b bytes t u s r a h = one_table bytes (view t) (view u) (subst (λ (w : List ℕ). IsAccepted w t) (one_source words shelf c d b bytes s r) a).text h.text
+-- and so does `run`
+one_step : (q : Pred) (names : List (List ℕ)) (u : Unit {0}) (fields : List (List ℕ)) (o e out err : List ℕ) (y z : Unit {0}) → RunStep (pred_of q) names u fields o e y → RunStep (pred_of q) names u fields out err z → SameLines o e out err y z
+one_step q names u fields o e out err y z s t = record { outs = one_line q names fields o out s.line t.line; errs = s.none ∙ sym t.none; lefts = refl }
 
-names_one : (name other : List ℕ) (t u : Table) → name ≡ other → view t ≡ view u → option_map pred_of (named name t.preds) ≡ option_map pred_of (named other u.preds)
-names_one name other t u e v = ap (λ (n : List ℕ). option_map pred_of (named n t.preds)) e ∙ one_named other t.preds u.preds (ap (λ (w : TableOf). w.preds) v)
+abbrev ran_said : PredOf → Records → List ℕ → List ℕ → Said
+ran_said p records out err = record { end = end_of (all_good (is_row p) records); out = out; err = err ++ [] }
 
-pub lacks_or_has : {P : Type 0} (words : Words) (shelf : Shelf) (c d : Run) (b : List ℕ) (t u : Table) (p : Pred) → HasSource words shelf (Rows c) b → IsAccepted b t → named c.name t.preds ≡ None → HasPredicate words shelf d u p → P
-lacks_or_has words shelf c d b t u p s a n h =
-    let v = tables words shelf (Rows c) (Rows d) b h.bytes t u s h.source a h.accepted in
-    let e = names_one c.name d.name t u (ap (λ (x : Run). x.name) (one_run words c d s.form h.source.form)) v in
-    let f : None ≡ Some (pred_of p) = sym (ap (option_map pred_of) n) ∙ e ∙ ap (option_map pred_of) h.is_named in
-    absurd (none-some (pred_of p) f)
+run_same : (q : Pred) (p r : PredOf) (names others : List (List ℕ)) (rs ss : Records) (o e out err : List ℕ) → pred_of q ≡ r → p ≡ r → names ≡ others → rs ≡ ss → Lines (RunStep p names) tt rs o e tt → Lines (RunStep r others) tt ss out err tt → ran_said p rs o e ≡ ran_said r ss out err
+run_same q p r names others rs ss o e out err i f n l x y =
+    let x1 = subst (λ z. Lines (RunStep z names) tt rs o e tt) (f ∙ sym i) x in
+    let x2 = subst (λ (ns : List (List ℕ)). Lines (RunStep (pred_of q) ns) tt rs o e tt) n x1 in
+    let x3 = subst (λ (zs : Records). Lines (RunStep (pred_of q) others) tt zs o e tt) l x2 in
+    let y1 = subst (λ z. Lines (RunStep z others) tt ss out err tt) (sym i) y in
+    let same = one_lines (RunStep (pred_of q) others) (one_step q others) tt ss o e out err tt tt x3 y1 in
+    ap (λ z. ran_said z rs o e) f ∙ ap (λ (zs : Records). ran_said r zs o e) l ∙ ap (λ t. ran_said r ss t e) same.outs ∙ ap (λ t. ran_said r ss out t) same.errs
 
--- the table and the predicate stand for the same
-tables_of : (words : Words) (shelf : Shelf) (c d : Run) (t u : Table) (p q : Pred) → HasPredicate words shelf c t p → HasPredicate words shelf d u q → view t ≡ view u
-tables_of words shelf c d t u p q g h = tables words shelf (Rows c) (Rows d) g.bytes h.bytes t u g.source h.source g.accepted h.accepted
+run_one : (g : Given) → IsGrounded g → (a b : Said) → RunSaid g a → RunSaid g b → a ≡ b
+run_one g i a b (run.header p names rs h x) (run.header q others ss k y) = refl
+run_one g i a b (run.header p names rs h x) (run.ran q others ss out err k y) = wrong_right g p q names others rs ss h x k
+run_one g i a b (run.ran p names rs out err h x) (run.header q others ss k y) = wrong_right g q p others names ss rs k y h
+run_one g i a b (run.ran p names rs o e h x) (run.ran r others ss out err k y) =
+    let q = in_memory g r [] i k.pred in
+    run_same q.0 p r names others rs ss o e out err q.1 (same_pred g p r names others (names ∷ rs) (others ∷ ss) h k) (same_names g p r names others (names ∷ rs) (others ∷ ss) h k)
+    (tail_same (same_records g p r names others (names ∷ rs) (others ∷ ss) h k)) x y
 
-pub preds_of : (words : Words) (shelf : Shelf) (c d : Run) (t u : Table) (p q : Pred) → HasPredicate words shelf c t p → HasPredicate words shelf d u q → pred_of p ≡ pred_of q
-preds_of words shelf c d t u p q g h =
-    let v = tables_of words shelf c d t u p q g h in
-    let e = names_one c.name d.name t u (ap (λ (x : Run). x.name) (one_run words c d g.source.form h.source.form)) v in
-    same_Some (pred_of p) (pred_of q) (sym (ap (option_map pred_of) g.is_named) ∙ e ∙ ap (option_map pred_of) h.is_named)
+-- the works of which the bytes are one: a line a command
+work_one : (c : Command) (g : Given) → IsGrounded g → (a b : Said) → WorkOwes c g a → WorkOwes c g b → a ≡ b
+work_one command.Check g h a b x y = check_one g h a b x y
+work_one command.Run g h a b x y = run_one g h a b x y
 
--- and so the columns' names are the same
-pub columns_of : (words : Words) (shelf : Shelf) (c d : Run) (t u : Table) (p q : Pred) → HasPredicate words shelf c t p → HasPredicate words shelf d u q → column_names t.sites t.params p.args ≡ column_names u.sites u.params q.args
-columns_of words shelf c d t u p q g h =
-    columns_like t.sites t.params p.args ∙ ap (λ (v : TableOf). names_over v.sites v.params (map arg_of p.args)) (tables_of words shelf c d t u p q g h)
-    ∙ ap (λ (v : PredOf). names_over (map site_of u.sites) (map param_of u.params) v.args) (preds_of words shelf c d t u p q g h) ∙ sym (columns_like u.sites u.params q.args)
+plan_one : (plan : Plan) (shelf : Shelf) (a b : Said) → PlanOwes plan (Some shelf) a → PlanOwes plan (Some shelf) b → a ≡ b
+plan_one plan shelf a b (stopped why p) (stopped v q) = ap said_of (same_why (one_prepares plan shelf _ _ p q))
+plan_one plan shelf a b (stopped why p) (worked g q y) = stops_gives (one_prepares plan shelf _ _ p q)
+plan_one plan shelf a b (worked g p x) (stopped v q) = stops_gives (one_prepares plan shelf _ _ q p)
+plan_one plan shelf a b (worked g p x) (worked h q y) = work_one plan.command h (grounded plan shelf h q) a b (subst (λ k. WorkOwes plan.command k a) (same_given (one_prepares plan shelf _ _ p q)) x) y
 
--- there is one rows file
-one_rows : (words : Words) (shelf : Shelf) (c d : Run) (t u : Table) (p q : Pred) (o r : Option (List ℕ)) → HasPredicate words shelf c t p → HasPredicate words shelf d u q → bytes_of c.rows shelf ≡ o → bytes_of d.rows shelf ≡ r → o ≡ r
-one_rows words shelf c d t u p q o r g h e f = sym e ∙ ap (λ (x : Run). bytes_of x.rows shelf) (one_run words c d g.source.form h.source.form) ∙ f
-
-pub same_rows : (words : Words) (shelf : Shelf) (c d : Run) (t u : Table) (p q : Pred) (b rows : List ℕ) → HasPredicate words shelf c t p → HasPredicate words shelf d u q → bytes_of c.rows shelf ≡ Some b → bytes_of d.rows shelf ≡ Some rows → b ≡ rows
-same_rows words shelf c d t u p q b rows g h e f = same_Some b rows (one_rows words shelf c d t u p q (Some b) (Some rows) g h e f)
-
-pub long_rows_or_within : {P : Type 0} (words : Words) (shelf : Shelf) (c d : Run) (t u : Table) (p q : Pred) (b rows : List ℕ) → HasPredicate words shelf c t p → HasPredicate words shelf d u q → bytes_of c.rows shelf ≡ Some b → bytes_of d.rows shelf ≡ Some rows
-    → most_rows < length b → length rows ≤ most_rows → P
-long_rows_or_within words shelf c d t u p q b rows g h e f l m =
-    let same = ap length (same_rows words shelf c d t u p q b rows g h e f) in
-    absurd (omega (arith, l, m, same))
-
--- one thing is said of predicates
-abbrev pub OneCheck : (List PredOf → Said → Type 0) → Type 0
-OneCheck checks = (ps : List Pred) (a b : Said) → checks (map pred_of ps) a → checks (map pred_of ps) b → a ≡ b
-
--- and of rows
-abbrev pub OneWork : (PredOf → List (List ℕ) → Records → Said → Type 0) → Type 0
-OneWork works = (p : Pred) (names : List (List ℕ)) (rs : Records) (a b : Said) → works (pred_of p) names rs a → works (pred_of p) names rs b → a ≡ b
-
--- the same said of rows, where predicate, columns and records are the same
-pub moved : (works : PredOf → List (List ℕ) → Records → Said → Type 0) (p q : Pred) (names others : List (List ℕ)) (rs ss : Records) {b : Said} → pred_of p ≡ pred_of q → names ≡ others → rs ≡ ss → works (pred_of q) others ss b → works (pred_of p) names rs b
-moved works p q names others rs ss {b} e f g v = subst (λ (z : PredOf). works z names rs b) (sym e) (subst (λ (ns : List (List ℕ)). works (pred_of q) ns rs b) (sym f) (subst (λ (zs : Records). works (pred_of q) others zs b) (sym g) v))
-
-module _ (checks : List PredOf → Said → Type 0) (works : PredOf → List (List ℕ) → Records → Said → Type 0) (one_check : OneCheck checks) (one_work : OneWork works) where
-  work_one : (p q : Pred) (names others : List (List ℕ)) (rs ss : Records) {a b : Said} → pred_of p ≡ pred_of q → names ≡ others → rs ≡ ss → works (pred_of p) names rs a → works (pred_of q) others ss b → a ≡ b
-  work_one p q names others rs ss {a = a} {b = b} e f g w v = one_work p names rs a b w (moved works p q names others rs ss e f g v)
-
-  check_one : (ps qs : List Pred) {a b : Said} → map pred_of ps ≡ map pred_of qs → checks (map pred_of ps) a → checks (map pred_of qs) b → a ≡ b
-  check_one ps qs {a = a} {b = b} e w v = one_check ps a b w (subst (λ (z : List PredOf). checks z b) (sym e) v)
-
-  -- the steps end in one way
-  pub one_end : (words : Words) (shelf : Shelf) {a b : Said} → Steps words shelf checks works a → Steps words shelf checks works b → a ≡ b
-  one_end words shelf (usage e1) (usage e2) = refl
-  one_end words shelf (usage e1) (long_source c2 x2 s2 l2) = no_words words c2 e1 s2.form
-  one_end words shelf (usage e1) (refused c2 x2 r2 s2 l2 k2) = no_words words c2 e1 s2.form
-  one_end words shelf (usage e1) (checked f2 x2 t2 s2 l2 a2 w2) = no_words words (Check f2) e1 s2.form
-  one_end words shelf (usage e1) (no_predicate c2 x2 t2 s2 l2 a2 n2) = no_words words (Rows c2) e1 s2.form
-  one_end words shelf (usage e1) (long_rows c2 t2 p2 x2 g2 e2 l2) = no_words words (Rows c2) e1 g2.source.form
-  one_end words shelf (usage e1) (worked c2 t2 p2 x2 g2 e2 l2 w2) = no_words words (Rows c2) e1 g2.source.form
-  one_end words shelf (long_source c1 x1 s1 l1) (usage e2) = no_words words c1 e2 s1.form
-  one_end words shelf (long_source c1 x1 s1 l1) (long_source c2 x2 s2 l2) = refl
-  one_end words shelf (long_source c1 x1 s1 l1) (refused c2 x2 r2 s2 l2 k2) = long_or_within words shelf c1 c2 x1 x2 s1 s2 l1 l2
-  one_end words shelf (long_source c1 x1 s1 l1) (checked f2 x2 t2 s2 l2 a2 w2) = long_or_within words shelf c1 (Check f2) x1 x2 s1 s2 l1 l2
-  one_end words shelf (long_source c1 x1 s1 l1) (no_predicate c2 x2 t2 s2 l2 a2 n2) = long_or_within words shelf c1 (Rows c2) x1 x2 s1 s2 l1 l2
-  one_end words shelf (long_source c1 x1 s1 l1) (long_rows c2 t2 p2 x2 g2 e2 l2) = refl
-  one_end words shelf (long_source c1 x1 s1 l1) (worked c2 t2 p2 x2 g2 e2 l2 w2) = long_or_within words shelf c1 (Rows c2) x1 g2.bytes s1 g2.source l1 g2.within
-  one_end words shelf (refused c1 x1 r1 s1 l1 k1) (usage e2) = no_words words c1 e2 s1.form
-  one_end words shelf (refused c1 x1 r1 s1 l1 k1) (long_source c2 x2 s2 l2) = long_or_within words shelf c2 c1 x2 x1 s2 s1 l2 l1
-  one_end words shelf (refused c1 x1 r1 s1 l1 k1) (refused c2 x2 r2 s2 l2 k2) = ap (λ (z : Refusal). error_line status.Refused (refusal_text z)) (one_refusal x2 r1 r2 (subst (λ (z : List ℕ). IsRefusedFor z r1) (one_source words shelf c1 c2 x1 x2 s1 s2) k1) k2)
-  one_end words shelf (refused c1 x1 r1 s1 l1 k1) (checked f2 x2 t2 s2 l2 a2 w2) = refused_or_accepted words shelf c1 (Check f2) x1 x2 t2 s1 s2 k1 a2
-  one_end words shelf (refused c1 x1 r1 s1 l1 k1) (no_predicate c2 x2 t2 s2 l2 a2 n2) = refused_or_accepted words shelf c1 (Rows c2) x1 x2 t2 s1 s2 k1 a2
-  one_end words shelf (refused c1 x1 r1 s1 l1 k1) (long_rows c2 t2 p2 x2 g2 e2 l2) = refused_or_accepted words shelf c1 (Rows c2) x1 g2.bytes t2 s1 g2.source k1 g2.accepted
-  one_end words shelf (refused c1 x1 r1 s1 l1 k1) (worked c2 t2 p2 x2 g2 e2 l2 w2) = refused_or_accepted words shelf c1 (Rows c2) x1 g2.bytes t2 s1 g2.source k1 g2.accepted
-  one_end words shelf (checked f1 x1 t1 s1 l1 a1 w1) (usage e2) = no_words words (Check f1) e2 s1.form
-  one_end words shelf (checked f1 x1 t1 s1 l1 a1 w1) (long_source c2 x2 s2 l2) = long_or_within words shelf c2 (Check f1) x2 x1 s2 s1 l2 l1
-  one_end words shelf (checked f1 x1 t1 s1 l1 a1 w1) (refused c2 x2 r2 s2 l2 k2) = refused_or_accepted words shelf c2 (Check f1) x2 x1 t1 s2 s1 k2 a1
-  one_end words shelf (checked f1 x1 t1 s1 l1 a1 w1) (checked f2 x2 t2 s2 l2 a2 w2) = check_one t1.preds t2.preds (ap (λ (v : TableOf). v.preds) (tables words shelf (Check f1) (Check f2) x1 x2 t1 t2 s1 s2 a1 a2)) w1 w2
-  one_end words shelf (checked f1 x1 t1 s1 l1 a1 w1) (no_predicate c2 x2 t2 s2 l2 a2 n2) = check_or_run words f1 c2 s1.form s2.form
-  one_end words shelf (checked f1 x1 t1 s1 l1 a1 w1) (long_rows c2 t2 p2 x2 g2 e2 l2) = check_or_run words f1 c2 s1.form g2.source.form
-  one_end words shelf (checked f1 x1 t1 s1 l1 a1 w1) (worked c2 t2 p2 x2 g2 e2 l2 w2) = check_or_run words f1 c2 s1.form g2.source.form
-  one_end words shelf (no_predicate c1 x1 t1 s1 l1 a1 n1) (usage e2) = no_words words (Rows c1) e2 s1.form
-  one_end words shelf (no_predicate c1 x1 t1 s1 l1 a1 n1) (long_source c2 x2 s2 l2) = long_or_within words shelf c2 (Rows c1) x2 x1 s2 s1 l2 l1
-  one_end words shelf (no_predicate c1 x1 t1 s1 l1 a1 n1) (refused c2 x2 r2 s2 l2 k2) = refused_or_accepted words shelf c2 (Rows c1) x2 x1 t1 s2 s1 k2 a1
-  one_end words shelf (no_predicate c1 x1 t1 s1 l1 a1 n1) (checked f2 x2 t2 s2 l2 a2 w2) = check_or_run words f2 c1 s2.form s1.form
-  one_end words shelf (no_predicate c1 x1 t1 s1 l1 a1 n1) (no_predicate c2 x2 t2 s2 l2 a2 n2) = refl
-  one_end words shelf (no_predicate c1 x1 t1 s1 l1 a1 n1) (long_rows c2 t2 p2 x2 g2 e2 l2) = lacks_or_has words shelf c1 c2 x1 t1 t2 p2 s1 a1 n1 g2
-  one_end words shelf (no_predicate c1 x1 t1 s1 l1 a1 n1) (worked c2 t2 p2 x2 g2 e2 l2 w2) = lacks_or_has words shelf c1 c2 x1 t1 t2 p2 s1 a1 n1 g2
-  one_end words shelf (long_rows c1 t1 p1 x1 g1 e1 l1) (usage e2) = no_words words (Rows c1) e2 g1.source.form
-  one_end words shelf (long_rows c1 t1 p1 x1 g1 e1 l1) (long_source c2 x2 s2 l2) = refl
-  one_end words shelf (long_rows c1 t1 p1 x1 g1 e1 l1) (refused c2 x2 r2 s2 l2 k2) = refused_or_accepted words shelf c2 (Rows c1) x2 g1.bytes t1 s2 g1.source k2 g1.accepted
-  one_end words shelf (long_rows c1 t1 p1 x1 g1 e1 l1) (checked f2 x2 t2 s2 l2 a2 w2) = check_or_run words f2 c1 s2.form g1.source.form
-  one_end words shelf (long_rows c1 t1 p1 x1 g1 e1 l1) (no_predicate c2 x2 t2 s2 l2 a2 n2) = lacks_or_has words shelf c2 c1 x2 t2 t1 p1 s2 a2 n2 g1
-  one_end words shelf (long_rows c1 t1 p1 x1 g1 e1 l1) (long_rows c2 t2 p2 x2 g2 e2 l2) = refl
-  one_end words shelf (long_rows c1 t1 p1 x1 g1 e1 l1) (worked c2 t2 p2 x2 g2 e2 l2 w2) = long_rows_or_within words shelf c1 c2 t1 t2 p1 p2 x1 x2 g1 g2 e1 e2 l1 l2
-  one_end words shelf (worked c1 t1 p1 x1 g1 e1 l1 w1) (usage e2) = no_words words (Rows c1) e2 g1.source.form
-  one_end words shelf (worked c1 t1 p1 x1 g1 e1 l1 w1) (long_source c2 x2 s2 l2) = long_or_within words shelf c2 (Rows c1) x2 g1.bytes s2 g1.source l2 g1.within
-  one_end words shelf (worked c1 t1 p1 x1 g1 e1 l1 w1) (refused c2 x2 r2 s2 l2 k2) = refused_or_accepted words shelf c2 (Rows c1) x2 g1.bytes t1 s2 g1.source k2 g1.accepted
-  one_end words shelf (worked c1 t1 p1 x1 g1 e1 l1 w1) (checked f2 x2 t2 s2 l2 a2 w2) = check_or_run words f2 c1 s2.form g1.source.form
-  one_end words shelf (worked c1 t1 p1 x1 g1 e1 l1 w1) (no_predicate c2 x2 t2 s2 l2 a2 n2) = lacks_or_has words shelf c2 c1 x2 t2 t1 p1 s2 a2 n2 g1
-  one_end words shelf (worked c1 t1 p1 x1 g1 e1 l1 w1) (long_rows c2 t2 p2 x2 g2 e2 l2) = long_rows_or_within words shelf c2 c1 t2 t1 p2 p1 x2 x1 g2 g1 e2 e1 l2 l1
-  one_end words shelf (worked c1 t1 p1 x1 g1 e1 l1 w1) (worked c2 t2 p2 x2 g2 e2 l2 w2) = work_one p1 p2 (column_names t1.sites t1.params p1.args) (column_names t2.sites t2.params p2.args) (records_in x1) (records_in x2) (preds_of words shelf c1 c2 t1 t2 p1 p2 g1 g2) (columns_of words shelf c1 c2 t1 t2 p1 p2 g1 g2) (ap records_in (same_rows words shelf c1 c2 t1 t2 p1 p2 x1 x2 g1 g2 e1 e2)) w1 w2
-
-  -- a file isn't there that is there
-  gone : {P : Type 0} (words : Words) (shelf : Shelf) (c d : Command) (b : List ℕ) → command_of words ≡ Some c → bytes_of (file_of c) shelf ≡ None → HasSource words shelf d b → P
-  gone words shelf c d b f n s = absurd (none-some b (sym n ∙ ap (λ (x : Command). bytes_of (file_of x) shelf) (one_command words c d f s.form) ∙ s.told))
-
-  rows_gone : {P : Type 0} (words : Words) (shelf : Shelf) (c d : Run) (t u : Table) (p q : Pred) (b : List ℕ) → HasPredicate words shelf c t p → HasPredicate words shelf d u q → bytes_of c.rows shelf ≡ None → bytes_of d.rows shelf ≡ Some b → P
-  rows_gone words shelf c d t u p q b g h n e = absurd (none-some b (one_rows words shelf c d t u p q None (Some b) g h n e))
-
-  -- where a file that the steps reach isn't there, they don't end
-  pub none_missing : (words : Words) (shelf : Shelf) {a : Said} → IsMissing words (Some shelf) → Steps words shelf checks works a → ⊥
-  none_missing words shelf (no_source c f n) (usage e2) = no_words words c e2 f
-  none_missing words shelf (no_source c f n) (long_source c2 x2 s2 l2) = gone words shelf c c2 x2 f n s2
-  none_missing words shelf (no_source c f n) (refused c2 x2 r2 s2 l2 k2) = gone words shelf c c2 x2 f n s2
-  none_missing words shelf (no_source c f n) (checked f2 x2 t2 s2 l2 a2 w2) = gone words shelf c (Check f2) x2 f n s2
-  none_missing words shelf (no_source c f n) (no_predicate c2 x2 t2 s2 l2 a2 n2) = gone words shelf c (Rows c2) x2 f n s2
-  none_missing words shelf (no_source c f n) (long_rows c2 t2 p2 x2 g2 e2 l2) = gone words shelf c (Rows c2) g2.bytes f n g2.source
-  none_missing words shelf (no_source c f n) (worked c2 t2 p2 x2 g2 e2 l2 w2) = gone words shelf c (Rows c2) g2.bytes f n g2.source
-  none_missing words shelf (no_rows c t p g n) (usage e2) = no_words words (Rows c) e2 g.source.form
-  none_missing words shelf (no_rows c t p g n) (long_source c2 x2 s2 l2) = long_or_within words shelf c2 (Rows c) x2 g.bytes s2 g.source l2 g.within
-  none_missing words shelf (no_rows c t p g n) (refused c2 x2 r2 s2 l2 k2) = refused_or_accepted words shelf c2 (Rows c) x2 g.bytes t s2 g.source k2 g.accepted
-  none_missing words shelf (no_rows c t p g n) (checked f2 x2 t2 s2 l2 a2 w2) = check_or_run words f2 c s2.form g.source.form
-  none_missing words shelf (no_rows c t p g n) (no_predicate c2 x2 t2 s2 l2 a2 n2) = lacks_or_has words shelf c2 c x2 t2 t p s2 a2 n2 g
-  none_missing words shelf (no_rows c t p g n) (long_rows c2 t2 p2 x2 g2 e2 l2) = rows_gone words shelf c c2 t t2 p p2 x2 g g2 n e2
-  none_missing words shelf (no_rows c t p g n) (worked c2 t2 p2 x2 g2 e2 l2 w2) = rows_gone words shelf c c2 t t2 p p2 x2 g g2 n e2
-
-abbrev with_lines : Bool → List ℕ → Said
-with_lines b xs = record { status = cond b status.Done status.Rows; out = xs; err = [] }
-
-abbrev with_counts : List ℕ → Said
-with_counts xs = record { status = status.Done; out = xs; err = [] }
-
--- one thing is said of predicates, and of rows
-one_check_said : OneCheck CheckSaid
-one_check_said ps z y (counted xs a) (counted ys b) = ap with_counts (one_counts ps a b)
-
-wrong_right : (names : List (List ℕ)) {rs : Records} {ys : Records} → rs ≡ names ∷ ys → IsWrongHeader names rs → ⊥
-wrong_right names f w = (subst (IsWrongHeader names) f w) refl
-
-one_work_said : OneWork WorkSaid
-one_work_said p names rs a b w v = by_cases rs rs refl w v
-  where
-    by_cases : (rs ss : Records) {a b : Said} → rs ≡ ss → WorkSaid (pred_of p) names rs a → WorkSaid (pred_of p) names ss b → a ≡ b
-    by_cases rs ss f (wrong_header w) (wrong_header v) = refl
-    by_cases rs ss f (wrong_header w) (ran {rest = ys} lines l) = absurd (wrong_right names f w)
-    by_cases rs ss f (ran {rest = xs} lines l) (wrong_header v) = absurd (wrong_right names (sym f) v)
-    by_cases rs ss f (ran {rest = xs} lines l) (ran {rest = ys} others m) =
-        let r : xs ≡ ys = ap (drop 1) f in
-        ap (λ (b : Bool). with_lines b lines) (ap (all_rows (pred_of p)) r) ∙ ap (λ (zs : List ℕ). with_lines (all_rows (pred_of p) ys) zs) (one_lines p names (subst (λ (zs : Records). AreLines (pred_of p) names zs lines) r l) m)
-
--- there is one answer
-pub one_answer : (words : Words) (shelf : Shelf) {a b : Said} → Answer words shelf a → Answer words shelf b → a ≡ b
-one_answer words shelf x y = one_end CheckSaid WorkSaid one_check_said one_work_said words shelf x y
+-- There is one answer.
+pub one_answer : (words : List (List ℕ)) (shelf : Shelf) (a b : Said) → Answer words (Some shelf) a → Answer words (Some shelf) b → a ≡ b
+one_answer words shelf a b (usage e) (usage h) = refl
+one_answer words shelf a b (usage e) (planned p h y) = absurd (none-some p (sym e ∙ h))
+one_answer words shelf a b (planned p e x) (usage h) = absurd (none-some p (sym h ∙ e))
+one_answer words shelf a b (planned p e x) (planned q h y) = plan_one q shelf a b (subst (λ k. PlanOwes k (Some shelf) a) (some_plan (sym e ∙ h)) x) y

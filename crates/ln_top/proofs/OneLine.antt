@@ -18,7 +18,6 @@ use Rattle.ln_poly.specs.Sparse.{Sparse}
 use Rattle.ln_poly.specs.Expansion.{IsNormal}
 use Rattle.ln_stage.specs.Lists.{AreStageLists, stage_count}
 use Rattle.ln_stage.proofs.LawLemmas.{lists-of-trees}
-use Rattle.ln_rows.specs.Left.{Records}
 use Rattle.ln_rows.specs.Record.{read_row}
 use Rattle.ln_rows.proofs.RangeLemmas.{row_in_range}
 use Rattle.ln_rows.specs.declared.record.RowStop.{RowStop}
@@ -28,9 +27,10 @@ use Rattle.ln_compile.specs.Compiled.{IsStageCount}
 use Rattle.ln_compile.specs.Filtered.{IsDue}
 use Rattle.ln_due.specs.DueLaw.{Agree}
 use Rattle.ln_compile.proofs.FilteredLemmas.{one_due}
-use Rattle.ln_top.specs.Line.{line, sign_text, decider_text, said_text, Says, due, refused_, IsLineOf, AreLines, none, more}
-use Rattle.ln_top.specs.Counts.{AreCounts, count_text}
-use Rattle.ln_top.specs.Counts as counts
+use Rattle.ln_top.specs.Line.{sign_text, decider_text, said_text, Says, due, refused_, IsLineOf}
+use Rattle.ln_top.specs.Said.{line}
+use Rattle.ln_top.specs.Check.{AreCounts, count_text}
+use Rattle.ln_top.specs.Check as counts
 
 -- verdicts that agree have one text
 agree_text : (names : List (List ℕ)) (v w : Verdict) → Agree v w → said_text names (Ok v) ≡ said_text names (Ok w)
@@ -53,13 +53,8 @@ says_one p names fields (due r v e d) (refused_ s f) = absurd (not_both r s (rea
 says_one p names fields (refused_ s f) (due r v e d) = absurd (not_both r s (read_row p.shape.sites p.shape.vars fields) e f)
 says_one p names fields (refused_ s e) (refused_ t f) = ap (λ (z : RowStop). said_text names (Err z)) (same_stop s t (read_row p.shape.sites p.shape.vars fields) e f)
 
-one_line : (p : Pred) (names fields : List (List ℕ)) (a b : List ℕ) → IsLineOf (pred_of p) names fields a → IsLineOf (pred_of p) names fields b → a ≡ b
+pub one_line : (p : Pred) (names fields : List (List ℕ)) (a b : List ℕ) → IsLineOf (pred_of p) names fields a → IsLineOf (pred_of p) names fields b → a ≡ b
 one_line p names fields a b l k = l.is ∙ ap line (says_one p names fields l.says k.says) ∙ sym k.is
-
--- records are owed one text
-pub one_lines : (p : Pred) (names : List (List ℕ)) {records : Records} {a b : List ℕ} → AreLines (pred_of p) names records a → AreLines (pred_of p) names records b → a ≡ b
-one_lines p names none none = refl
-one_lines p names (more {fields = fields} x xs l ls) (more y ys k ks) = ap (λ z. z ++ xs) (one_line p names fields x y l k) ∙ ap (λ zs. y ++ zs) (one_lines p names ls ks)
 
 -- ---- stage counts
 -- the sites of an order differ in their places

@@ -1,5 +1,5 @@
 -- The line of each record.
-use Rattle.std.specs.Prelude.{◌≡◌, ℕ, Bool, true, false, ◌&&◌, List, [], ◌∷◌, ◌++◌, codes, decimal, slice_index_or, Result, Ok, Err}
+use Rattle.std.specs.Prelude.{◌≡◌, ℕ, Bool, true, false, List, [], ◌∷◌, ◌++◌, codes, decimal, slice_index_or, Result, Ok, Err}
 use Rattle.ln_base.specs.declared.sign.Sign.{Sign}
 use Rattle.ln_base.specs.declared.sign.Sign.TheVariants.{Minus, Zero, Plus}
 use Rattle.ln_tree.specs.Row.{Row}
@@ -9,13 +9,9 @@ use Rattle.ln_code.specs.declared.verdict.By.{By}
 use Rattle.ln_code.specs.declared.verdict.By.TheVariants.{Filter, Stage, Nothing}
 use Rattle.ln_rows.specs.declared.record.RowStop.{RowStop}
 use Rattle.ln_rows.specs.declared.record.RowStop.TheVariants.{Fields, Number, Range, Index}
-use Rattle.ln_rows.specs.Left.{Records}
 use Rattle.ln_rows.specs.Record.{read_row}
 use Rattle.ln_compile.specs.Filtered.{IsDue}
-
--- a line ends with a line feed
-abbrev pub line : List ℕ → List ℕ
-line text = text ++ 10 ∷ []
+use Rattle.ln_top.specs.Said.{line}
 
 abbrev pub sign_text : Sign → List ℕ
 sign_text Minus = codes "-"
@@ -40,10 +36,6 @@ abbrev pub said_text : List (List ℕ) → Result Verdict RowStop → List ℕ
 said_text names (Ok v) = sign_text v.sign ++ 32 ∷ decider_text v.by
 said_text names (Err stop) = stop_text names stop
 
--- the room that the line of any verdict fits in
-abbrev pub line_room : ℕ
-line_room = 64
-
 -- what a predicate says of a record: a verdict that the record's row is owed, or why the record is no row
 pub data Says (p : PredOf) (fields : List (List ℕ)) : Result Verdict RowStop → Type 0 where
   due : (row : Row) (v : Verdict) → read_row p.sites p.vars fields ≡ Ok row → IsDue p row v → Says p fields (Ok v)
@@ -54,11 +46,6 @@ pub record IsLineOf (p : PredOf) (names fields : List (List ℕ)) (text : List �
   pub said : Result Verdict RowStop
   pub says : Says p fields said
   pub is : text ≡ line (said_text names said)
-
--- the lines of records, in order
-pub data AreLines (p : PredOf) (names : List (List ℕ)) : Records → List ℕ → Type 0 where
-  none : AreLines p names [] []
-  more : {fields : List (List ℕ)} {rest : Records} (text texts : List ℕ) → IsLineOf p names fields text → AreLines p names rest texts → AreLines p names (fields ∷ rest) (text ++ texts)
 
 abbrev pub is_read : Result Row RowStop → Bool
 is_read (Ok row) = true
@@ -73,7 +60,20 @@ abbrev pub is_said : Result Verdict RowStop → Bool
 is_said (Ok v) = true
 is_said (Err stop) = false
 
--- is each record one?
-abbrev pub all_rows : PredOf → Records → Bool
-all_rows p [] = true
-all_rows p (fields ∷ rest) = is_row p fields && all_rows p rest
+-- a line names no column: that of a verdict, or of another number of fields
+abbrev pub is_bare : {T : Type 0} → Result T RowStop → Bool
+is_bare (Ok v) = true
+is_bare (Err Fields) = true
+is_bare (Err (Number k)) = false
+is_bare (Err (Range k)) = false
+is_bare (Err (Index k)) = false
+
+-- the line of a record was added to a text
+pub record AddsLine (p : PredOf) (names fields : List (List ℕ)) (old new : List ℕ) : Type 0 where
+  pub text : List ℕ
+  pub is_line : IsLineOf p names fields text
+  pub added : new ≡ old ++ text
+
+-- the room that any line fits in that names no column
+abbrev pub line_room : ℕ
+line_room = 64

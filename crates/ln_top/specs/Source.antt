@@ -1,11 +1,9 @@
--- What a source is: accepted, or refused for a reason at a place.
-use Rattle.std.specs.Prelude.{◌≡◌, ℕ, List, find, bytes_eq, Option, Some, None}
+-- What a source is: accepted, with a table, or refused for a reason at a place.
+use Rattle.std.specs.Prelude.{◌≡◌, ℕ, List, Option, Some, None}
 use Rattle.ln_base.specs.declared.span.Span.{Span}
 use Rattle.ln_base.specs.Place.{line_of, column_of}
 use Rattle.ln_tree.specs.declared.table.Table.{Table}
-use Rattle.ln_tree.specs.declared.pred.Pred.{Pred}
-use Rattle.ln_tree.specs.Names.{name_bytes}
-use Rattle.ln_tree.specs.Table.{table_of}
+use Rattle.ln_tree.specs.Table.{TableOf, table_of}
 use Rattle.ln_compile.specs.Accepted.{Accepted}
 use Rattle.ln_compile.specs.Refused as compile
 use Rattle.ln_compile.specs.declared.refusal.Refusal as compile_refusal
@@ -13,12 +11,16 @@ use Rattle.ln_compile.specs.declared.refusal.Refusal.TheVariants as why
 use Rattle.ln_top.specs.declared.stop.Kind.{Kind}
 use Rattle.ln_top.specs.declared.stop.Kind.TheVariants.{Lexical, Limit, Syntax, Name, Bound, Terms, Zero, Stages}
 use Rattle.ln_top.specs.declared.stop.Refusal.{Refusal}
-use Rattle.ln_top.specs.declared.stop.Stop.{Stop}
-use Rattle.ln_top.specs.declared.stop.Stop.TheVariants.{Usage, Read, TooLong, Refused, NoPredicate, Memory}
 
--- the source has this table, and no predicate of it has a fault
-abbrev pub IsAccepted : List ℕ → Table → Type 0
-IsAccepted bytes t = Accepted bytes (table_of t.sites t.params t.preds)
+-- what a table in memory stands for
+abbrev pub view : Table → TableOf
+view t = table_of t.sites t.params t.preds
+
+-- the source has this table, which one in memory stands for, and no predicate of it has a fault
+pub record IsAccepted (bytes : List ℕ) (t : TableOf) : Type 0 where
+  pub table : Table
+  pub is : view table ≡ t
+  pub accepted : Accepted bytes t
 
 -- a refusal at the start of a span: its line and its column
 abbrev pub refusal_at : List ℕ → Kind → Span → Refusal
@@ -41,20 +43,3 @@ pub record IsRefusedFor (bytes : List ℕ) (r : Refusal) : Type 0 where
   pub refusal : compile_refusal.Refusal
   pub cause : compile.IsRefusedFor bytes refusal
   pub is : told_of bytes refusal ≡ Some r
-
-abbrev pub stop_of : Option Refusal → Stop
-stop_of None = Memory
-stop_of (Some r) = Refused r
-
--- a source stops a command where it is refused, or memory ran out
-abbrev pub StopsSource : List ℕ → Stop → Type 0
-StopsSource bytes (Refused r) = IsRefusedFor bytes r
-StopsSource bytes Memory = Unit {0}
-StopsSource bytes Usage = ⊥
-StopsSource bytes Read = ⊥
-StopsSource bytes TooLong = ⊥
-StopsSource bytes NoPredicate = ⊥
-
--- the first predicate of a name
-abbrev pub named : List ℕ → List Pred → Option Pred
-named name preds = find (λ p. bytes_eq (name_bytes p.name) name) preds

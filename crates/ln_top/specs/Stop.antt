@@ -1,12 +1,15 @@
--- Why a command stops before its work, and the error line.
-use Rattle.std.specs.Prelude.{ℕ, List, [], ◌++◌, codes, decimal}
-use Rattle.ln_top.specs.declared.status.Status.{Status}
-use Rattle.ln_top.specs.declared.status.Status.TheVariants as status
+-- Why a command stops before its work: an end that is owed with its line, or a fault of reading, or want of memory.
+use Rattle.std.specs.Prelude.{ℕ, List, ◌++◌, codes, decimal, Option, Some, None}
+use Rattle.ln_top.specs.declared.status.End.{End}
+use Rattle.ln_top.specs.declared.status.End.TheVariants as end
 use Rattle.ln_top.specs.declared.stop.Kind.{Kind}
 use Rattle.ln_top.specs.declared.stop.Kind.TheVariants.{Lexical, Limit, Syntax, Name, Bound, Terms, Zero, Stages}
 use Rattle.ln_top.specs.declared.stop.Refusal.{Refusal}
+use Rattle.ln_top.specs.declared.stop.Why.{Why}
+use Rattle.ln_top.specs.declared.stop.Why.TheVariants.{Usage, TooLong, Refused, NoPredicate, Header}
 use Rattle.ln_top.specs.declared.stop.Stop.{Stop}
-use Rattle.ln_top.specs.declared.stop.Stop.TheVariants.{Usage, Read, TooLong, Refused, NoPredicate, Memory}
+use Rattle.ln_top.specs.declared.stop.Stop.TheVariants.{Tell, Memory}
+use Rattle.ln_top.specs.Said.{Said, error_line}
 
 abbrev pub kind_text : Kind → List ℕ
 kind_text Lexical = codes "lexical"
@@ -22,20 +25,27 @@ kind_text Stages = codes "stages"
 abbrev pub refusal_text : Refusal → List ℕ
 refusal_text r = codes "error " ++ kind_text r.kind ++ codes " " ++ decimal r.line ++ codes ":" ++ decimal r.col
 
--- the text of a stop; of want of memory none is put
-abbrev pub stop_text : Stop → List ℕ
-stop_text Usage = codes "error usage"
-stop_text Read = codes "error read"
-stop_text TooLong = codes "error long"
-stop_text (Refused r) = refusal_text r
-stop_text NoPredicate = codes "error predicate"
-stop_text Memory = []
+-- how a command ends that stops so
+abbrev pub why_end : Why → End
+why_end Usage = end.Usage
+why_end TooLong = end.TooLong
+why_end (Refused r) = end.Refused
+why_end NoPredicate = end.NoPredicate
+why_end Header = end.Rows
 
--- the status of a stop
-abbrev pub stop_status : Stop → Status
-stop_status Usage = status.Usage
-stop_status Read = status.Read
-stop_status TooLong = status.TooLong
-stop_status (Refused r) = status.Refused
-stop_status NoPredicate = status.NoPredicate
-stop_status Memory = status.Memory
+-- and its line, without its end
+abbrev pub why_text : Why → List ℕ
+why_text Usage = codes "error usage"
+why_text TooLong = codes "error long"
+why_text (Refused r) = refusal_text r
+why_text NoPredicate = codes "error predicate"
+why_text Header = codes "error header"
+
+-- what is said of a stop
+abbrev pub said_of : Why → Said
+said_of why = error_line (why_end why) (why_text why)
+
+-- the stop for what is told of a refusal
+abbrev pub stop_of : Option Refusal → Stop
+stop_of None = Memory
+stop_of (Some r) = Tell (Refused r)

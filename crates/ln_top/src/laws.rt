@@ -1,10 +1,24 @@
-// Words and told files are owed one answer.
-ghost use Rattle.std.specs.Prelude.{◌≡◌, ℕ, List};
+// Words and told files end in one way, and are owed one answer.
+ghost use Rattle.std.specs.Prelude.{◌≡◌, ℕ, List, Some};
 ghost use Rattle.ln_base.specs.Outside.{Shelf};
+ghost use Rattle.ln_top.specs.declared.status.End.{End};
 ghost use Rattle.ln_top.specs.Said.{Said};
 ghost use Rattle.ln_top.specs.Answer.{Answer};
+ghost use Rattle.ln_top.specs.Causes.{Ends};
+ghost use Rattle.ln_top.specs.Plan.{Plan};
+ghost use Rattle.ln_top.specs.Steps.{Outcome, Given, Prepares};
 
-/// A law: the words and the told files are owed one answer.
+/// A law: over told files the steps of a plan come to one thing.
+pub fn one_prepared()
+    ensures { (plan : Plan) (shelf : Shelf) (o p : Outcome Given) → Prepares plan (Some shelf) o → Prepares plan (Some shelf) p → o ≡ p }
+{}
+
+/// A law: words and told files end in one way.
+pub fn one_end()
+    ensures { (words : List (List ℕ)) (shelf : Shelf) (a b : End) → Ends words (Some shelf) a → Ends words (Some shelf) b → a ≡ b }
+{}
+
+/// A law: they are owed one answer.
 pub fn one_answer()
-    ensures { (words : List (List ℕ)) (shelf : Shelf) (a b : Said) → Answer words shelf a → Answer words shelf b → a ≡ b }
+    ensures { (words : List (List ℕ)) (shelf : Shelf) (a b : Said) → Answer words (Some shelf) a → Answer words (Some shelf) b → a ≡ b }
 {}

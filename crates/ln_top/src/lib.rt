@@ -6,26 +6,23 @@
 // which is the perturbed sign of the predicate on that record's row and the place of the stage that decides it, or why the record
 // is no row. Each such status comes exactly where its cause stands, so valid input is carried out unless memory runs out or a
 // count of faults rises.
+//
+// Each command has a file with its work. The words become a plan, which says what the work needs; the steps that prepare it and
+// the contract of every level name no command.
 #![tactic(auto)]
 
-#[cfg(test)]
-mod compare;
-mod counts;
+mod check;
 pub mod laws;
-mod record;
-mod source;
-#[cfg(test)]
-mod spheres;
+pub mod line;
+pub mod prepare;
+pub mod put;
+mod run;
+pub mod source;
 pub mod status;
 pub mod stop;
-#[cfg(test)]
-mod support;
-#[cfg(test)]
-mod tests;
 pub mod top;
 pub mod words;
-mod work;
 
-pub use laws::one_answer;
 pub use status::Status;
 pub use top::lnc;
+pub use words::{Command, check_words};

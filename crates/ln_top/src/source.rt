@@ -1,8 +1,11 @@
 // Sources: compiled, or refused.
-ghost use Rattle.std.specs.Prelude.{◌≡◌, ◌≤◌, ◌<◌, length, IfOk, IfErr};
-ghost use Rattle.ln_top.specs.Source.{IsAccepted, StopsSource, refusal_at, told_of, stop_of};
+ghost use Rattle.std.specs.Prelude.{◌≡◌, ◌≤◌, length, IfOk, IfErr};
+ghost use Rattle.ln_top.specs.Source.{view, refusal_at, told_of};
+ghost use Rattle.ln_top.specs.Steps.{Compiles, gives};
+ghost use Rattle.ln_top.specs.Carried.{Halts};
+ghost use Rattle.ln_top.specs.Stop.{stop_of};
 
-use crate::stop::{Kind, Refusal, Stop};
+use crate::stop::{Kind, Refusal, Stop, Why};
 use ln_base::{Span, line_col};
 use ln_compile::{Compiled, compile};
 use std::alloc::Global;
@@ -10,10 +13,10 @@ use std::alloc::Global;
 // A refusal at the start of a span.
 fn refusal_at(bytes: &[u8], kind: Kind, at: Span) -> Stop
     requires { length bytes.now ≤ 1048576 }
-    ensures { result ≡ Stop.Refused (refusal_at bytes.now kind at) }
+    ensures { result ≡ Stop.Tell (Why.Refused (refusal_at bytes.now kind at)) }
 {
     let (line, col) = line_col(bytes, at.start.min(bytes.len() as u32));
-    Stop::Refused(Refusal { kind, line, col })
+    Stop::Tell(Why::Refused(Refusal { kind, line, col }))
 }
 
 // The stop for what `compile` refuses.
@@ -37,8 +40,8 @@ fn stop_for(bytes: &[u8], r: ln_compile::Refusal) -> Stop
 /// A source, compiled; or why it is refused.
 pub fn compiled(alloc: Global, bytes: &[u8]) -> Result<Compiled, Stop>
     requires { length bytes.now ≤ 1048576 }
-    ensures ok { IfOk result (λ c. IsAccepted bytes.now c.table) }
-    ensures err { IfErr result (λ s. StopsSource bytes.now s) }
+    ensures ok { IfOk result (λ c. Compiles bytes.now (gives (view c.table))) }
+    ensures err { IfErr result (λ s. Halts (Compiles bytes.now) ⊥ s) }
 {
     match compile(alloc, bytes) {
         Ok(c) => Ok(c),

@@ -1,8 +1,38 @@
-// Statuses.
+// How a call of the program ends.
+ghost use Rattle.std.specs.Prelude.{◌≡◌, Ok, Err};
+ghost use Rattle.ln_top.specs.Said.{end_status, early_status, status_of, code_of};
 
-/// How a call of the program ended, numbered 0 to 9 in this order: carried out; the source is refused; the words are no
-/// command; a record or the header is refused; no such predicate; an invalid listing; a fault of reading; a fault of
-/// writing; a file over its limit; no memory.
+/// An end that is owed to the words and the files.
+#[derive(Clone, Copy)]
+pub enum End {
+    /// The command was carried out.
+    Done,
+    /// The source is refused.
+    Refused,
+    /// The words are no command.
+    Usage,
+    /// A record or the header is refused.
+    Rows,
+    /// The source has no predicate of a name.
+    NoPredicate,
+    /// A listing is invalid.
+    Invalid,
+    /// A file is over its limit.
+    TooLong,
+}
+
+/// An early end.
+#[derive(Clone, Copy)]
+pub enum Early {
+    /// By a fault of reading.
+    Read,
+    /// By a fault of writing.
+    Write,
+    /// For want of memory.
+    Memory,
+}
+
+/// How a call of the program ended: by an end that is owed or an early one.
 #[derive(Clone, Copy, Debug, PartialEq, Eq)]
 pub enum Status {
     Done,
@@ -15,4 +45,64 @@ pub enum Status {
     Write,
     TooLong,
     Memory,
+}
+
+impl Status {
+    /// The exit code, from 0 to 9.
+    pub fn code(self) -> u8
+        ensures { result ≡ code_of self }
+    {
+        match self {
+            Status::Done => 0,
+            Status::Refused => 1,
+            Status::Usage => 2,
+            Status::Rows => 3,
+            Status::NoPredicate => 4,
+            Status::Invalid => 5,
+            Status::Read => 6,
+            Status::Write => 7,
+            Status::TooLong => 8,
+            Status::Memory => 9,
+        }
+    }
+}
+
+impl End {
+    /// The status of an end.
+    pub fn status(self) -> Status
+        ensures { result ≡ end_status self }
+    {
+        match self {
+            End::Done => Status::Done,
+            End::Refused => Status::Refused,
+            End::Usage => Status::Usage,
+            End::Rows => Status::Rows,
+            End::NoPredicate => Status::NoPredicate,
+            End::Invalid => Status::Invalid,
+            End::TooLong => Status::TooLong,
+        }
+    }
+}
+
+impl Early {
+    /// The status of an early end.
+    pub fn status(self) -> Status
+        ensures { result ≡ early_status self }
+    {
+        match self {
+            Early::Read => Status::Read,
+            Early::Write => Status::Write,
+            Early::Memory => Status::Memory,
+        }
+    }
+}
+
+/// The status of what a command came to.
+pub fn status_of(ended: Result<End, Early>) -> Status
+    ensures { result ≡ status_of ended }
+{
+    match ended {
+        Ok(end) => end.status(),
+        Err(early) => early.status(),
+    }
 }

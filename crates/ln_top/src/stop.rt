@@ -1,16 +1,15 @@
-// Why a command stops before its work, and the error line.
-ghost use Rattle.std.specs.Prelude.{◌≡◌, ◌≤◌, ◌<◌, ◌++◌, ◌∷◌, [], IfOk, codes, decimal, string_bytes};
-ghost use Rattle.ln_base.specs.declared.outside.Port.TheVariants.{Err as ErrPort};
-ghost use Rattle.ln_top.specs.Said.{SaysError, PutsFront};
-ghost use Rattle.ln_top.specs.Line.{line};
-ghost use Rattle.ln_top.specs.Stop.{kind_text, refusal_text, stop_text, stop_status};
+// Why a command stops before its work, and the puts of whole texts.
+ghost use Rattle.std.specs.Prelude.{◌≡◌, ◌≢◌, IfOk, codes, decimal, string_bytes};
+ghost use Rattle.ln_top.specs.Said.{count, line};
+ghost use Rattle.ln_top.specs.Stop.{kind_text, refusal_text, why_end};
+ghost use Rattle.ln_top.specs.Carried.{PutsText, Says, stop_line, stop_result};
 
-use crate::status::Status;
+use crate::status::{Early, End};
 use ln_base::{Console, NoMemory, Port, put_all};
 use std::alloc::{AllocError, Global};
 
 /// What a source is refused for.
-#[derive(Clone, Copy, Debug, PartialEq, Eq)]
+#[derive(Clone, Copy)]
 pub enum Kind {
     Lexical,
     Limit,
@@ -23,42 +22,50 @@ pub enum Kind {
 }
 
 /// A refusal of the source: what for, and the line and the column, from 1.
-#[derive(Clone, Copy, Debug, PartialEq, Eq)]
+#[derive(Clone, Copy)]
 pub struct Refusal {
     pub kind: Kind,
     pub line: u32,
     pub col: u32,
 }
 
-/// Why a command stops before its work.
-#[derive(Clone, Copy, Debug, PartialEq, Eq)]
-pub enum Stop {
+/// A stop that is owed, with its line.
+#[derive(Clone, Copy)]
+pub enum Why {
     /// The words are no command.
     Usage,
-    /// A file wasn't read.
-    Read,
     /// A file has more bytes than its limit.
     TooLong,
     /// The source is refused.
     Refused(Refusal),
-    /// The source has no predicate of the name.
+    /// The source has no predicate of a name.
     NoPredicate,
+    /// The first record isn't the columns' names.
+    Header,
+}
+
+/// Why a command stops.
+#[derive(Clone, Copy)]
+pub enum Stop {
+    /// It is told why.
+    Tell(Why),
+    /// A file wasn't read.
+    Read,
     /// There was no memory.
     Memory,
 }
 
-impl Stop {
-    /// The status that a stop ends with.
-    pub fn status(self) -> Status
-        ensures { result ≡ stop_status self }
+impl Why {
+    /// How a command ends that stops so.
+    pub fn end(self) -> End
+        ensures { result ≡ why_end self }
     {
         match self {
-            Stop::Usage => Status::Usage,
-            Stop::Read => Status::Read,
-            Stop::TooLong => Status::TooLong,
-            Stop::Refused(_) => Status::Refused,
-            Stop::NoPredicate => Status::NoPredicate,
-            Stop::Memory => Status::Memory,
+            Why::Usage => End::Usage,
+            Why::TooLong => End::TooLong,
+            Why::Refused(_) => End::Refused,
+            Why::NoPredicate => End::NoPredicate,
+            Why::Header => End::Rows,
         }
     }
 }
@@ -84,8 +91,7 @@ fn number(alloc: Global, n: u32) -> Result<String, AllocError>
     format!(in alloc; "{n}")
 }
 
-/// The line of a refused source.
-pub fn refusal_line(alloc: Global, r: Refusal) -> Result<Vec<u8>, NoMemory>
+fn refusal_line(alloc: Global, r: Refusal) -> Result<Vec<u8>, NoMemory>
     ensures { IfOk result (λ v. v.items ≡ line (refusal_text r)) }
 {
     let row = number(alloc, r.line)?;
@@ -101,13 +107,53 @@ pub fn refusal_line(alloc: Global, r: Refusal) -> Result<Vec<u8>, NoMemory>
     Ok(text)
 }
 
-/// Puts an error line. The status is the one given, or that of a fault of writing, which leaves the first bytes of the line.
-pub fn put_error<C: Console>(con: &mut C, text: &[u8], status: Status) -> Status
-    ensures says { SaysError status text.now result (C.shown con.old) (C.shown con.new) (C.faults con.old) (C.faults con.new) }
-    ensures front { result ≡ Status.Write → PutsFront ErrPort text.now (C.shown con.old) (C.shown con.new) }
+// What a stop ends with.
+fn stop_result(stop: Stop) -> Result<End, Early>
+    ensures { result ≡ stop_result stop }
+{
+    match stop {
+        Stop::Tell(why) => Ok(why.end()),
+        Stop::Read => Err(Early::Read),
+        Stop::Memory => Err(Early::Memory),
+    }
+}
+
+// Puts the line of a stop.
+fn put_line<C: Console>(con: &mut C, stop: Stop, text: &[u8]) -> Result<End, Early>
+    requires line { text.now ≡ stop_line stop }
+    requires some { stop ≢ Stop.Memory }
+    ensures { Says stop (count (C.faults con.old) (C.faults con.new)) result (C.shown con.old) (C.shown con.new) }
 {
     match put_all(con, Port::Err, text) {
-        Ok(()) => status,
-        Err(_) => Status::Write,
+        Ok(()) => stop_result(stop),
+        Err(_) => Err(Early::Write),
+    }
+}
+
+/// Puts the line of a stop on Err. Only that of a refused source takes memory.
+pub fn say<C: Console>(alloc: Global, con: &mut C, stop: Stop) -> Result<End, Early>
+    ensures { Says stop (count (C.faults con.old) (C.faults con.new)) result (C.shown con.old) (C.shown con.new) }
+{
+    match stop {
+        Stop::Read => put_line(con, stop, b"error read\n"),
+        Stop::Memory => Err(Early::Memory),
+        Stop::Tell(Why::Usage) => put_line(con, stop, b"error usage\n"),
+        Stop::Tell(Why::TooLong) => put_line(con, stop, b"error long\n"),
+        Stop::Tell(Why::NoPredicate) => put_line(con, stop, b"error predicate\n"),
+        Stop::Tell(Why::Header) => put_line(con, stop, b"error header\n"),
+        Stop::Tell(Why::Refused(r)) => match refusal_line(alloc, r) {
+            Ok(text) => put_line(con, stop, &text),
+            Err(_) => Err(Early::Memory),
+        },
+    }
+}
+
+/// Puts a whole text on Out.
+pub fn put_text<C: Console>(con: &mut C, text: &[u8], end: End) -> Result<End, Early>
+    ensures { PutsText text.now end (count (C.faults con.old) (C.faults con.new)) result (C.shown con.old) (C.shown con.new) }
+{
+    match put_all(con, Port::Out, text) {
+        Ok(()) => Ok(end),
+        Err(_) => Err(Early::Write),
     }
 }

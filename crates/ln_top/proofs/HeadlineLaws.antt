@@ -1,0 +1,160 @@
+-- The lines that were put begin with the perturbed signs of their rows, and each is one line.
+use Rattle.std.proofs.Common.{◌≡◌, ◌≢◌, ◌⊎◌, inl, inr, ℕ, zero, suc, ◌<◌, Bool, true, false, cond, List, [], ◌∷◌, ◌++◌, map, find, length, is_some, Option, Some, None, Result, Ok, Err, refl, ap, sym, ◌∙◌, subst, arith, bytes_eq}
+use Rattle.std.specs.Prelude.{All, IfSome}
+use Rattle.std.proofs.Math.IntN.{ℤ, pos, negsuc}
+use Rattle.std.proofs.lemmas.List.Elements.{All-head, All-tail}
+use Rattle.std.proofs.lemmas.Option.{none-some}
+use Rattle.ln_base.specs.Outside.{Shelf, Shown}
+use Rattle.ln_base.specs.declared.sign.Sign.{Sign}
+use Rattle.ln_base.specs.declared.sign.Sign.TheVariants.{Zero}
+use Rattle.ln_algebra.proofs.First.{all-first}
+use Rattle.ln_algebra.proofs.Normal.{zero_cases}
+use Rattle.ln_algebra.specs.Coefficient.{normal_coefficient}
+use Rattle.ln_algebra.specs.Earlier.{Sites}
+use Rattle.ln_algebra.specs.Sign as algebra
+use Rattle.ln_algebra.specs.Sign.{IsFirst, IsPerturbedSign, perturbed}
+use Rattle.ln_algebra.specs.Tree.{InputsBelow, Tree}
+use Rattle.ln_tree.specs.declared.pred.Pred.{Pred}
+use Rattle.ln_tree.specs.declared.shape.VarInfo.{VarInfo}
+use Rattle.ln_tree.specs.Formula.{formula, tree}
+use Rattle.ln_tree.specs.Row.{InRange, Row}
+use Rattle.ln_tree.specs.Table.{PredOf, pred_of}
+use Rattle.ln_bound.specs.Value.{values, weights}
+use Rattle.ln_order.specs.Sites.{row_sites, site_of}
+use Rattle.ln_poly.specs.Expansion.{closed_lets}
+use Rattle.ln_poly.proofs.Lets.{pred-light, root-light}
+use Rattle.ln_rows.specs.Left.{Records}
+use Rattle.ln_rows.specs.Record.{read_row}
+use Rattle.ln_rows.proofs.RangeLemmas.{row_in_range}
+use Rattle.ln_rows.specs.declared.record.RowStop.{RowStop}
+use Rattle.ln_code.specs.declared.verdict.Verdict.{Verdict}
+use Rattle.ln_compile.specs.Accepted.{AreSound, IsSound, root_of}
+use Rattle.ln_due.specs.Due.{sign_number}
+use Rattle.ln_compile.specs.Filtered.{IsDue}
+use Rattle.ln_algebra.specs.Orders.{BySmallest}
+use Rattle.ln_order.proofs.RowSigns.{rows-differ}
+use Rattle.ln_due.proofs.UniqueLemmas.{due-sign}
+use Rattle.ln_top.specs.declared.status.Status.{Status}
+use Rattle.ln_top.specs.Said.{Said, line, put_both}
+use Rattle.ln_top.specs.Steps.{Given, named}
+use Rattle.ln_top.specs.Line.{decider_text, said_text, Says, due, refused_}
+use Rattle.ln_top.specs.Lines as l
+use Rattle.ln_top.specs.Lines.{Lines}
+use Rattle.ln_top.specs.Run as run
+use Rattle.ln_top.specs.Run.{RunStep, RunSaid, HasRecords}
+use Rattle.ln_top.specs.Work.{WorkOwes}
+use Rattle.ln_top.specs.Answer.{Answer}
+use Rattle.ln_top.specs.Causes.{Answered}
+use Rattle.ln_top.specs.Headline.{HasPerturbedSign, HavePerturbedSigns, none, more, PutSigns, SignsArePerturbed}
+use Rattle.ln_top.proofs.Feeds.{HaveNoFeed, said_no_feed, columns_no_feed}
+use Rattle.ln_top.proofs.OneAnswer.{AreFound, IsGrounded, grounded, in_memory}
+use Rattle.ln_top.proofs.RunLaws.{same_pred, same_names, same_records, tail_same, wrong_right}
+use Rattle.ln_top.proofs.TopLaws.{work_of_words}
+
+-- ---- without params no row has the sign 0
+some_site : (o : Option ℕ) → o ≢ None → is_some o ≡ true
+some_site None h = absurd (h refl)
+some_site (Some t) h = refl
+
+all_sites : (vars : List VarInfo) (v : ℕ) → All (λ i. i.site ≢ None) vars → v < length vars → is_some (site_of vars v) ≡ true
+all_sites [] v a h = absurd (omega arith)
+all_sites (i ∷ vars) zero a h = some_site i.site (All-head (λ (j : VarInfo). j.site ≢ None) i vars a)
+all_sites (i ∷ vars) (suc v) a h = all_sites vars v (All-tail (λ (j : VarInfo). j.site ≢ None) i vars a) (omega arith)
+
+sign_nonzero : (z : ℤ) → z ≢ pos 0 → algebra.sign_of z ≡ pos 0 → ⊥
+sign_nonzero (pos zero) h e = h refl
+sign_nonzero (pos (suc n)) h e = cc
+sign_nonzero (negsuc n) h e = cc
+
+module _ (p : Pred) (row : Row) where
+  abbrev sites : Sites
+  sites = row_sites p.shape.vars row.index
+
+  abbrev root : Tree
+  root = root_of (pred_of p)
+
+  never_zero : InRange p.shape.sites p.shape.vars row → IsSound (pred_of p) → All (λ i. i.site ≢ None) p.shape.vars → (s : Sign) → IsPerturbedSign (length p.shape.vars) sites (values row.values) root (sign_number s) → s ≢ Zero
+  never_zero range sound all s d q = by_sign d
+    where
+      inputs : InputsBelow (length p.shape.vars) root
+      inputs = (root-light (length p.shape.vars) (weights p.shape.vars) (closed_lets p.shape.vars (map formula p.lets)) (tree p.shape.vars (formula p.root)) (pred-light p.args p.shape.vars p.lets (length p.let_names) p.root p.kept sound.light).1).inputs
+
+      none_first : ((b : List ℕ) → IsFirst (length p.shape.vars) sites (values row.values) root b → ⊥) → (m : List ℕ) → length m ≡ length p.shape.vars → (normal_coefficient root m ≡ pos 0) ⊎ (normal_coefficient root m ≡ pos 0 → ⊥) → normal_coefficient root m ≡ pos 0
+      none_first lacks m l (inl z) = z
+      none_first lacks m l (inr z) =
+          let first = all-first (length p.shape.vars) sites root (values row.values) m inputs (rows-differ p.shape row range) (λ u k. all_sites p.shape.vars u all k) (record { size = l; nonzero = z }) in
+          absurd (lacks first.0 first.1)
+
+      by_sign : IsPerturbedSign (length p.shape.vars) sites (values row.values) root (sign_number s) → ⊥
+      by_sign (inl t) = sign_nonzero (perturbed sites (values row.values) root t.0) t.1.nonzero (sym t.2 ∙ ap sign_number q)
+      by_sign (inr t) = sound.nonzero (λ m l k. none_first t.0 m l (zero_cases (normal_coefficient root m)))
+
+-- ---- lines
+same_row : (r s : Row) (o : Result Row RowStop) → o ≡ Ok r → o ≡ Ok s → r ≡ s
+same_row r s o e f = cc
+
+not_both : (r : Row) (s : RowStop) (o : Result Row RowStop) → o ≡ Ok r → o ≡ Err s → ⊥
+not_both r s o e f = cc
+
+module _ (p : Pred) (sound : IsSound (pred_of p)) (names : List (List ℕ)) where
+  due_sign : (row : Row) (v : Verdict) (text : List ℕ) (fields : List (List ℕ)) → read_row p.shape.sites p.shape.vars fields ≡ Ok row → IsDue (pred_of p) row v → text ≡ line (said_text names (Ok v)) → HasPerturbedSign (pred_of p) row text
+  due_sign row v text fields e d t =
+      let range = row_in_range p.shape.sites p.shape.vars fields row p.shape.kept e in
+      let sign = due-sign BySmallest p.shape.vars (root_of (pred_of p)) row d.filtering v d.due in
+      record { range = range; sign = v.sign; perturbed = sign; never_zero = λ all. never_zero p row range sound all v.sign sign; behind = decider_text v.by; text_is = t }
+
+  line_sign : (fields : List (List ℕ)) (text : List ℕ) {said : Result Verdict RowStop} → Says (pred_of p) fields said → text ≡ line (said_text names said) → (row : Row) → read_row p.shape.sites p.shape.vars fields ≡ Ok row → HasPerturbedSign (pred_of p) row text
+  line_sign fields text (due r v e d) t row f =
+      let q : r ≡ row = same_row r row (read_row p.shape.sites p.shape.vars fields) e f in
+      subst (λ (z : Row). HasPerturbedSign (pred_of p) z text) q (due_sign r v text fields e d t)
+  line_sign fields text (refused_ s e) t row f = absurd (not_both row s (read_row p.shape.sites p.shape.vars fields) f e)
+
+  lines_signs : HaveNoFeed names → (records : Records) (out err : List ℕ) → Lines (RunStep (pred_of p) names) tt records out err tt → HavePerturbedSigns (pred_of p) records out
+  lines_signs n [] out err (l.none _) = none
+  lines_signs n (fields ∷ rest) out err (l.more {out = o2} {err = e2} _ o e m t k) =
+      more o o2 (record { body = said_text names t.line.said; is = t.line.is; none = said_no_feed names t.line.said n }) (λ row f. line_sign fields o t.line.says t.line.is row f) (lines_signs n rest o2 e2 k)
+
+  -- nothing comes to Err
+  lines_err : (records : Records) (out err : List ℕ) → Lines (RunStep (pred_of p) names) tt records out err tt → err ≡ []
+  lines_err [] out err (l.none _) = refl
+  lines_err (fields ∷ rest) out err (l.more {out = o2} {err = e2} _ o e m t k) = ap (λ x. x ++ e2) t.none ∙ lines_err rest o2 e2 k
+
+-- no predicate of an accepted source is 0
+sound_if : (test : PredOf → Bool) (p x : PredOf) (ps : List PredOf) (v : Bool) → test x ≡ v → IsSound x → (find test ps ≡ Some p → IsSound p) → cond v (Some x) (find test ps) ≡ Some p → IsSound p
+sound_if test p x ps true e s h f = let same : x ≡ p = cc in subst IsSound same s
+sound_if test p x ps false e s h f = h f
+
+found_sound : (name : List ℕ) (ps : List PredOf) (p : PredOf) → AreSound ps → named name ps ≡ Some p → IsSound p
+found_sound name [] p s f = absurd (none-some p f)
+found_sound name (x ∷ ps) p s f = sound_if (λ q. bytes_eq q.name name) p x ps (bytes_eq x.name name) refl s.0 (found_sound name ps p s.1) f
+
+head_sound : (g : Given) (p : PredOf) → IsGrounded g → g.preds ≡ p ∷ [] → IsSound p
+head_sound g p h e = let found = subst (AreFound g.table.preds) e h.found in found_sound found.0.0 g.table.preds p h.sound found.0.1
+
+-- lines of a predicate in memory have the perturbed signs
+signs_of : (q : Pred) (p : PredOf) (names : List (List ℕ)) (records : Records) (out err : List ℕ) (was now : Option Shown) → pred_of q ≡ p → IsSound p → HaveNoFeed names → Lines (RunStep p names) tt records out err tt → now ≡ put_both out (err ++ []) was → PutSigns p records was now
+signs_of q p names records out err was now i s n x e =
+    let sound = subst IsSound (sym i) s in
+    let x1 = subst (λ z. Lines (RunStep z names) tt records out err tt) (sym i) x in
+    record {
+      lines = out;
+      signs = subst (λ z. HavePerturbedSigns z records out) i (lines_signs q sound names n records out err x1);
+      shown = e ∙ ap (λ t. put_both out (t ++ []) was) (lines_err q sound names records out err x1);
+    }
+
+-- what is owed to records behind the right header
+run_signs : (g : Given) (p : PredOf) (names : List (List ℕ)) (records : Records) (a : Said) (was now : Option Shown) → IsGrounded g → RunSaid g a → HasRecords g p names (names ∷ records) → now ≡ put_both a.out a.err was → PutSigns p records was now
+run_signs g p names records a was now i (run.header q others ss h x) k e = wrong_right g q p others names ss records h x k
+run_signs g p names records a was now i (run.ran r others ss out err h x) k e =
+    let q = in_memory g p [] i k.pred in
+    let x1 = subst (λ z. Lines (RunStep z others) tt ss out err tt) (same_pred g r p others names (others ∷ ss) (names ∷ records) h k) x in
+    let x2 = subst (λ (ns : List (List ℕ)). Lines (RunStep p ns) tt ss out err tt) (same_names g r p others names (others ∷ ss) (names ∷ records) h k) x1 in
+    let x3 = subst (λ (zs : Records). Lines (RunStep p names) tt zs out err tt) (tail_same (same_records g r p others names (others ∷ ss) (names ∷ records) h k)) x2 in
+    signs_of q.0 p names records out err was now q.1 (head_sound g p i k.pred) (columns_no_feed g q.0 p names i.table i.is q.1 k.columns) x3 e
+
+-- what is owed has the perturbed signs
+pub headline : (words : List (List ℕ)) (told : Option Shelf) (result : Status) (was now : Option Shown) → Answered (Answer words told) result was now → IfSome told (λ shelf. SignsArePerturbed words shelf was now)
+headline words None result was now h = tt
+headline words (Some shelf) result was now h = λ plan g p names records f r x k.
+    let owed : RunSaid g h.said = subst (λ c. WorkOwes c g h.said) r (work_of_words words shelf plan g h.said f x h.owed) in
+    run_signs g p names records h.said was now (grounded plan shelf g x) owed k h.shown

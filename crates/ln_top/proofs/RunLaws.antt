@@ -1,0 +1,180 @@
+-- `run`: what it owes is carried out by lines, and where it ends.
+use Rattle.std.proofs.Common.{◌≡◌, ℕ, ◌&&◌, Bool, true, false, true≢false, List, [], ◌∷◌, ◌++◌, refl, ap, sym, ◌∙◌, subst, Option, Result, Ok, Err, All}
+use Rattle.std.proofs.lemmas.List.{append-nil}
+use Rattle.std.proofs.lemmas.List.Elements.{All-nil, All-cons, All-head, All-tail}
+use Rattle.ln_base.specs.Outside.{Shown}
+use Rattle.ln_tree.specs.declared.pred.Pred.{Pred}
+use Rattle.ln_tree.specs.declared.table.Table.{Table}
+use Rattle.ln_tree.specs.Row.{InRange, Row}
+use Rattle.ln_tree.specs.Table.{PredOf, pred_of}
+use Rattle.ln_code.specs.Kept.{IsProgram}
+use Rattle.ln_code.specs.Part.{Part}
+use Rattle.ln_rows.specs.Left.{Records, records_in}
+use Rattle.ln_rows.specs.Record.{read_row}
+use Rattle.ln_rows.specs.declared.record.RowStop.{RowStop}
+use Rattle.ln_rows.proofs.RangeLemmas.{row_in_range}
+use Rattle.ln_compile.specs.Compiled.{IsProgramOf}
+use Rattle.ln_code.proofs.Machine.{programs-run, rows-have}
+use Rattle.ln_compile.proofs.FilteredLemmas.{programs_answer}
+use Rattle.ln_top.specs.declared.status.End.{End}
+use Rattle.ln_top.specs.declared.status.Early.{Early}
+use Rattle.ln_top.specs.declared.stop.Stop.TheVariants as stop
+use Rattle.ln_top.specs.declared.stop.Why.TheVariants.{Header}
+use Rattle.ln_top.specs.Said.{Said, Count}
+use Rattle.ln_top.specs.Source.{view}
+use Rattle.ln_top.specs.Steps.{Given}
+use Rattle.ln_top.specs.Columns.{columns_of, names_of}
+use Rattle.ln_top.specs.Line.{IsLineOf, due, refused_, is_read, is_row}
+use Rattle.ln_top.specs.Lines.{all_good}
+use Rattle.ln_top.specs.Carried.{CarriesOut, Says}
+use Rattle.ln_top.specs.Work.{IsLawful, IsWorkEnd}
+use Rattle.ln_top.specs.Work as kind_of
+use Rattle.ln_top.specs.Run as run
+use Rattle.ln_top.specs.Run.{RunStep, RunSaid, RunPart, RunEnds, HasRecords, IsWrongHeader, IsRow, IsNoRow, end_of}
+use Rattle.ln_top.proofs.Carry.{told_carried}
+use Rattle.ln_top.proofs.Likeness.{columns_like}
+use Rattle.ln_top.proofs.LinesLaws.{no_last}
+use Rattle.ln_top.proofs.LinesCarry.{IsByLines}
+
+-- what stands ready for this has these records
+pub has_records : (g : Given) (t : Table) (p : Pred) (rows : List ℕ) (records : Records) → g.table ≡ view t → g.preds ≡ pred_of p ∷ [] → g.texts ≡ rows ∷ [] → records ≡ records_in rows → HasRecords g (pred_of p) (names_of t p) records
+has_records g t p rows records e f h r = record { pred = f; columns = columns_like t.sites t.params p.args ∙ ap (λ v. columns_of v (pred_of p)) (sym e); rows = rows; text = h; are = sym r }
+
+-- the header is wrong
+pub header_carried : (g : Given) (p : PredOf) (names : List (List ℕ)) (records : Records) (puts : Count) (result : Result End Early) (was now : Option Shown) → HasRecords g p names records → IsWrongHeader names records → Says (stop.Tell Header) puts result was now → CarriesOut (RunSaid g) (RunPart g) ⊥ ⊥ puts result was now
+header_carried g p names records puts result was now h w s = told_carried (RunSaid g) (RunPart g) ⊥ ⊥ puts Header result was now (run.header p names records h w) s
+
+-- each record has a line
+module _ (p : Pred) (part : Part) (k : IsProgram part) (o : IsProgramOf (pred_of p) part) (names : List (List ℕ)) where
+  line_there : (fields : List (List ℕ)) → (text : List ℕ) × IsLineOf (pred_of p) names fields text
+  line_there fields = by_read (read_row p.shape.sites p.shape.vars fields) refl
+    where
+      by_read : (r : Result Row RowStop) → read_row p.shape.sites p.shape.vars fields ≡ r → (text : List ℕ) × IsLineOf (pred_of p) names fields text
+      by_read (Ok row) e =
+          let range : InRange p.shape.sites p.shape.vars row = row_in_range p.shape.sites p.shape.vars fields row p.shape.kept e in
+          let there : InRange part.shape.sites part.shape.vars row = rw (o.sites, o.vars) range in
+          let v = rows-have part row (programs-run part k) there in
+          (_, record { said = Ok v.0; says = due row v.0 e (programs_answer (pred_of p) part row v.0 k o range v.1); is = refl })
+      by_read (Err stop) e = (_, record { said = Err stop; says = refused_ stop e; is = refl })
+
+  has : (s : Unit {0}) (fields : List (List ℕ)) → (out : List ℕ) × (err : List ℕ) × (z : Unit {0}) × RunStep (pred_of p) names s fields out err z
+  has s fields = let l = line_there fields in (l.0, [], tt, record { line = l.1; none = refl })
+
+  -- what it owes is by lines
+  pub by_lines : (g : Given) (records : Records) → HasRecords g (pred_of p) names (names ∷ records) → IsByLines (RunStep (pred_of p) names) no_last no_last (end_of (all_good (is_row (pred_of p)) records)) tt records (RunSaid g) (RunPart g)
+  by_lines g records h = record {
+    has = has;
+    whole = λ out err z d. subst (λ t. RunSaid g (record { end = end_of (all_good (is_row (pred_of p)) records); out = t; err = err ++ [] })) (sym (append-nil out)) (run.ran (pred_of p) names records out err h d);
+    first = λ done left out err z e d. run.first (pred_of p) names done left (subst (λ (rs : Records). HasRecords g (pred_of p) names (names ∷ rs)) e h) d;
+  }
+
+-- a record that is a row in range, and one that isn't
+as_row : (p : PredOf) (fields : List (List ℕ)) (o : Result Row RowStop) → read_row p.sites p.vars fields ≡ o → is_read o ≡ true → IsRow p fields
+as_row p fields (Ok row) e s = record { row = row; read = e }
+as_row p fields (Err stop) e s = absurd (true≢false (sym s))
+
+as_no_row : (p : PredOf) (fields : List (List ℕ)) (o : Result Row RowStop) → read_row p.sites p.vars fields ≡ o → is_read o ≡ false → IsNoRow p fields
+as_no_row p fields (Ok row) e s = absurd (true≢false s)
+as_no_row p fields (Err stop) e s = record { stop = stop; read = e }
+
+row_is : (p : PredOf) (fields : List (List ℕ)) → IsRow p fields → is_row p fields ≡ true
+row_is p fields h = ap is_read h.read
+
+no_row_is : (p : PredOf) (fields : List (List ℕ)) → IsNoRow p fields → is_row p fields ≡ false
+no_row_is p fields h = ap is_read h.read
+
+and_left : (a b : Bool) → (a && b) ≡ true → a ≡ true
+and_left true b e = refl
+and_left false b e = absurd (true≢false (sym e))
+
+and_right : (a b : Bool) → (a && b) ≡ true → b ≡ true
+and_right true b e = e
+and_right false b e = absurd (true≢false (sym e))
+
+-- records that all are rows
+all_are : (p : PredOf) (records : Records) → all_good (is_row p) records ≡ true → All (IsRow p) records
+all_are p [] e = All-nil (IsRow p)
+all_are p (fields ∷ rest) e =
+    All-cons (IsRow p) fields rest (as_row p fields (read_row p.sites p.vars fields) refl (and_left (is_row p fields) (all_good (is_row p) rest) e)) (all_are p rest (and_right (is_row p fields) (all_good (is_row p) rest) e))
+
+all_is : (p : PredOf) (records : Records) → All (IsRow p) records → all_good (is_row p) records ≡ true
+all_is p [] h = refl
+all_is p (fields ∷ rest) h = ap (λ b. b && all_good (is_row p) rest) (row_is p fields (All-head (IsRow p) fields rest h)) ∙ all_is p rest (All-tail (IsRow p) fields rest h)
+
+-- a record among records that is no row
+record NoRowAmong (p : PredOf) (records : Records) : Type 0 where
+  before : Records
+  fields : List (List ℕ)
+  after : Records
+  stands : records ≡ before ++ fields ∷ after
+  none : IsNoRow p fields
+
+some_is_none : (p : PredOf) (records : Records) → all_good (is_row p) records ≡ false → NoRowAmong p records
+some_is_none p [] e = absurd (true≢false e)
+some_is_none p (fields ∷ rest) e = by_first (is_row p fields) refl e (some_is_none p rest)
+  where
+    by_first : (b : Bool) → is_row p fields ≡ b → (b && all_good (is_row p) rest) ≡ false → (all_good (is_row p) rest ≡ false → NoRowAmong p rest) → NoRowAmong p (fields ∷ rest)
+    by_first true f g h = let s = h g in record { before = fields ∷ s.before; fields = s.fields; after = s.after; stands = ap (λ rs. fields ∷ rs) s.stands; none = s.none }
+    by_first false f g h = record { before = []; fields = fields; after = rest; stands = refl; none = as_no_row p fields (read_row p.sites p.vars fields) refl f }
+
+not_all : (p : PredOf) (before after : Records) (fields : List (List ℕ)) → IsNoRow p fields → all_good (is_row p) (before ++ fields ∷ after) ≡ false
+not_all p [] after fields n = ap (λ b. b && all_good (is_row p) after) (no_row_is p fields n)
+not_all p (f ∷ fs) after fields n = and_false (is_row p f) (all_good (is_row p) (fs ++ fields ∷ after)) (not_all p fs after fields n)
+  where
+    and_false : (a b : Bool) → b ≡ false → (a && b) ≡ false
+    and_false true b e = e
+    and_false false b e = refl
+
+tells : (g : Given) (a : Said) → RunSaid g a → RunEnds g a.end
+tells g a (run.header p names records h x) = run.wrong p names records h x
+tells g a (run.ran p names records out err h x) = by_good (all_good (is_row p) records) refl
+  where
+    by_good : (b : Bool) → all_good (is_row p) records ≡ b → RunEnds g (end_of b)
+    by_good true e = run.done p names records h (all_are p records e)
+    by_good false e =
+        let s = some_is_none p records e in
+        run.refused p names s.before s.after s.fields (subst (λ (rs : Records). HasRecords g p names (names ∷ rs)) s.stands h) s.none
+
+-- two ways to see what is given are one
+pub same_pred : (g : Given) (p q : PredOf) (names others : List (List ℕ)) (rs ss : Records) → HasRecords g p names rs → HasRecords g q others ss → p ≡ q
+same_pred g p q names others rs ss h k = ap (λ (xs : List PredOf). elim xs [ [] ↦ p | x ∷ rest ↦ x ]) (sym h.pred ∙ k.pred)
+
+pub same_names : (g : Given) (p q : PredOf) (names others : List (List ℕ)) (rs ss : Records) → HasRecords g p names rs → HasRecords g q others ss → names ≡ others
+same_names g p q names others rs ss h k = h.columns ∙ ap (columns_of g.table) (same_pred g p q names others rs ss h k) ∙ sym k.columns
+
+pub same_records : (g : Given) (p q : PredOf) (names others : List (List ℕ)) (rs ss : Records) → HasRecords g p names rs → HasRecords g q others ss → rs ≡ ss
+same_records g p q names others rs ss h k = sym h.are ∙ ap records_in (ap (λ (xs : List (List ℕ)). elim xs [ [] ↦ h.rows | x ∷ rest ↦ x ]) (sym h.text ∙ k.text)) ∙ k.are
+
+pub tail_same : {x y : List (List ℕ)} {xs ys : Records} → x ∷ xs ≡ y ∷ ys → xs ≡ ys
+tail_same {xs = xs} e = ap (λ (zs : Records). elim zs [ [] ↦ xs | z ∷ rest ↦ rest ]) e
+
+-- the header is right or wrong
+pub wrong_right : {P : Type 0} (g : Given) (p q : PredOf) (names others : List (List ℕ)) (rs rest : Records) → HasRecords g p names rs → IsWrongHeader names rs → HasRecords g q others (others ∷ rest) → P
+wrong_right g p q names others rs rest h w k =
+    let wrong : IsWrongHeader names (others ∷ rest) = subst (IsWrongHeader names) (same_records g p q names others rs (others ∷ rest) h k) w in
+    absurd (wrong (sym (same_names g p q names others rs (others ∷ rest) h k)))
+
+-- the records behind the header are one, and are all rows or not
+good_or_not : {P : Type 0} (g : Given) (p q : PredOf) (names others : List (List ℕ)) (xs ys : Records) → HasRecords g p names (names ∷ xs) → HasRecords g q others (others ∷ ys) → all_good (is_row p) xs ≡ true → all_good (is_row q) ys ≡ false → P
+good_or_not g p q names others xs ys h k x y =
+    let rows : xs ≡ ys = tail_same (same_records g p q names others (names ∷ xs) (others ∷ ys) h k) in
+    absurd (true≢false (sym x ∙ ap (λ r. all_good (is_row r) xs) (same_pred g p q names others (names ∷ xs) (others ∷ ys) h k) ∙ ap (all_good (is_row q)) rows ∙ y))
+
+one : (g : Given) (a b : End) → RunEnds g a → RunEnds g b → a ≡ b
+one g a b (run.done p names rs h x) (run.done q others ss k y) = refl
+one g a b (run.done p names rs h x) (run.wrong q others ss k y) = wrong_right g q p others names ss rs k y h
+one g a b (run.done p names rs h x) (run.refused q others bs as' fields k y) = good_or_not g p q names others rs (bs ++ fields ∷ as') h k (all_is p rs x) (not_all q bs as' fields y)
+one g a b (run.wrong p names rs h x) (run.done q others ss k y) = wrong_right g p q names others rs ss h x k
+one g a b (run.wrong p names rs h x) (run.wrong q others ss k y) = refl
+one g a b (run.wrong p names rs h x) (run.refused q others bs as' fields k y) = refl
+one g a b (run.refused p names bs as' fields h x) (run.done q others ss k y) = good_or_not g q p others names ss (bs ++ fields ∷ as') k h (all_is q ss y) (not_all p bs as' fields x)
+one g a b (run.refused p names bs as' fields h x) (run.wrong q others ss k y) = refl
+one g a b (run.refused p names bs as' fields h x) (run.refused q others cs ds other k y) = refl
+
+kind : (g : Given) (e : End) → RunEnds g e → IsWorkEnd e
+kind g e (run.done p names rs h x) = kind_of.done
+kind g e (run.wrong p names rs h x) = kind_of.rows
+kind g e (run.refused p names bs as' fields h x) = kind_of.rows
+
+pub lawful : IsLawful RunSaid RunEnds
+lawful = record { tells = tells; one = one; kind = kind }

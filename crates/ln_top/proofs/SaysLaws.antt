@@ -1,0 +1,50 @@
+-- What the machine answers on a record's row is owed to the record.
+use Rattle.std.proofs.Common.{true≢false, ◌≡◌, ◌++◌, ℕ, Bool, List, Result, Ok, Err, refl, ap, sym, ◌∙◌, subst}
+use Rattle.std.specs.Prelude.{IsOk}
+use Rattle.ln_tree.specs.Row.{InRange, Row}
+use Rattle.ln_tree.specs.Table.{PredOf}
+use Rattle.ln_code.specs.declared.row.Row as code
+use Rattle.ln_code.specs.declared.verdict.Verdict.{Verdict}
+use Rattle.ln_code.specs.Kept.{IsProgram}
+use Rattle.ln_code.specs.Part.{Part}
+use Rattle.ln_code.specs.RowOf.{row_of}
+use Rattle.ln_code.specs.Verdict.{IsVerdict}
+use Rattle.ln_rows.specs.Record.{read_row}
+use Rattle.ln_rows.specs.declared.record.RowStop.{RowStop}
+use Rattle.ln_compile.specs.Compiled.{IsProgramOf}
+use Rattle.ln_compile.proofs.FilteredLemmas.{programs_answer}
+use Rattle.ln_top.specs.Line.{Says, due, refused_, said_text, AddsLine, is_row, is_read, is_said, is_bare}
+use Rattle.ln_top.specs.Said.{line}
+
+-- the verdict of the predicate's program is said of the record
+pub program_says : (p : PredOf) (part : Part) (fields : List (List ℕ)) (r : code.Row) (v : Verdict) → IsProgram part → IsProgramOf p part → read_row p.sites p.vars fields ≡ Ok (row_of p.sites p.vars r)
+    → InRange p.sites p.vars (row_of p.sites p.vars r) → IsVerdict part (row_of part.shape.sites part.shape.vars r) v → Says p fields (Ok v)
+program_says p part fields r v k o read range verdict =
+    let same : row_of part.shape.sites part.shape.vars r ≡ row_of p.sites p.vars r = rw (o.sites, o.vars) refl in
+    due (row_of p.sites p.vars r) v read (programs_answer p part (row_of p.sites p.vars r) v k o range (subst (λ (row : Row). IsVerdict part row v) same verdict))
+
+-- a verdict is said of a row
+pub said_row : (p : PredOf) (fields : List (List ℕ)) (said : Result Verdict RowStop) (right : Bool) → Says p fields said → right ≡ is_said said → right ≡ is_row p fields
+said_row p fields said right s e = e ∙ by_cases s
+  where
+    by_cases : {said : Result Verdict RowStop} → Says p fields said → is_said said ≡ is_row p fields
+    by_cases (due row v read d) = sym (ap is_read read)
+    by_cases (refused_ stop read) = sym (ap is_read read)
+
+-- what is Ok isn't refused
+pub not_refused : {T E P : Type 0} (r : Result T E) → IsOk r → ((x : T) → r ≡ Ok x → ⊥) → P
+not_refused (Ok x) h n = absurd (n x refl)
+not_refused (Err e) h n = absurd (true≢false (sym h))
+
+-- what is said of a record names a column where the record's fault does
+pub bare_same : (p : PredOf) (fields : List (List ℕ)) (said : Result Verdict RowStop) → Says p fields said → is_bare said ≡ is_bare (read_row p.sites p.vars fields)
+bare_same p fields said (due row v read d) = sym (ap is_bare read)
+bare_same p fields said (refused_ stop read) = sym (ap is_bare read)
+
+-- a line was added
+pub adds_line : (p : PredOf) (names fields : List (List ℕ)) (said : Result Verdict RowStop) (old new : List ℕ) → Says p fields said → new ≡ old ++ line (said_text names said) → AddsLine p names fields old new
+adds_line p names fields said old new s e = record { text = line (said_text names said); is_line = record { said = said; says = s; is = refl }; added = e }
+
+-- what was refused isn't Ok
+pub bare_refused : {T E P : Type 0} (r : Result T E) (e : E) → IsOk r → r ≡ Err e → P
+bare_refused r e h i = absurd (true≢false (sym (subst IsOk i h)))

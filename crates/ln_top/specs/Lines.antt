@@ -1,0 +1,53 @@
+-- Work on records: what each puts on both ports, one behind the other. For every command that puts lines as they come. The bytes for Out are gathered, and put in pieces.
+use Rattle.std.specs.Prelude.{◌≡◌, ◌≢◌, ℕ, Bool, true, false, ◌&&◌, List, [], ◌∷◌, ◌++◌, Option, Result, Ok, Err}
+use Rattle.ln_base.specs.Outside.{Shown}
+use Rattle.ln_top.specs.declared.status.Early.{Early}
+use Rattle.ln_top.specs.declared.status.Early.TheVariants.{Write, Memory}
+use Rattle.ln_top.specs.Said.{Count, Rises, IsCalm, put_both, IsFront}
+
+-- a step: from what stands before a record, as its watchers, to what it puts on Out and on Err and to what is left
+pub data Lines {S R : Type 0} (step : S → R → List ℕ → List ℕ → S → Type 0) : S → List R → List ℕ → List ℕ → S → Type 0 where
+  none : (s : S) → Lines step s [] [] [] s
+  more : {s z : S} {rest : List R} {out err : List ℕ} (r : R) (o e : List ℕ) (m : S) → step s r o e m → Lines step m rest out err z → Lines step s (r ∷ rest) (o ++ out) (e ++ err) z
+
+-- is each record good?
+abbrev pub all_good : {R : Type 0} → (R → Bool) → List R → Bool
+all_good good [] = true
+all_good good (r ∷ rest) = good r && all_good good rest
+
+-- the first bytes of these came to both ports
+pub record PutsFronts (out err : List ℕ) (was now : Option Shown) : Type 0 where
+  pub o : List ℕ
+  pub e : List ℕ
+  pub of_out : IsFront out o
+  pub of_err : IsFront err e
+  pub shown : now ≡ put_both o e was
+
+-- these were put on both ports, or cut off by a fault of writing
+pub data Wrote (out err : List ℕ) (puts : Count) (done : Bool) (was now : Option Shown) : Type 0 where
+  wrote : IsCalm puts → done ≡ true → now ≡ put_both out err was → Wrote out err puts done was now
+  broke : done ≡ false → Rises puts → PutsFronts out err was now → Wrote out err puts done was now
+
+-- records of which some bytes for Out are still held: all are worked on, or a piece was cut off, or they were given up between two
+pub data Gathers {S R : Type 0} (step : S → R → List ℕ → List ℕ → S → Type 0) (good : R → Bool) (s : S) (records : List R) (puts : Count) (result : Result Bool Early) (held : List ℕ) (was now : Option Shown) (z : S) : Type 0 where
+  worked : (sent err : List ℕ) → IsCalm puts → Lines step s records (sent ++ held) err z → result ≡ Ok (all_good good records) → now ≡ put_both sent err was → Gathers step good s records puts result held was now z
+  torn : (done left : List R) (out err : List ℕ) (m : S) → records ≡ done ++ left → Lines step s done out err m → Rises puts → PutsFronts out err was now → result ≡ Err Write → Gathers step good s records puts result held was now z
+  given_up : (done left : List R) (sent err : List ℕ) (m : S) → IsCalm puts → records ≡ done ++ left → Lines step s done (sent ++ held) err m → now ≡ put_both sent err was → result ≡ Err Memory → Gathers step good s records puts result held was now z
+
+-- what is held stays, or it was put, or cut off by a fault of writing
+pub data Empties (held left : List ℕ) (puts : Count) (done : Bool) (was now : Option Shown) : Type 0 where
+  held_on : IsCalm puts → done ≡ true → left ≡ held → now ≡ was → Empties held left puts done was now
+  emptied : IsCalm puts → done ≡ true → left ≡ [] → now ≡ put_both held [] was → Empties held left puts done was now
+  stuck : done ≡ false → Rises puts → PutsFronts held [] was now → Empties held left puts done was now
+
+-- what was held was put at the end, whatever the end is but a failed put, behind which nothing is put; a fault of this put decides
+pub data Sends (held : List ℕ) (ran result : Result Bool Early) (puts : Count) (was now : Option Shown) : Type 0 where
+  sent : ran ≢ Err Write → IsCalm puts → result ≡ ran → now ≡ put_both held [] was → Sends held ran result puts was now
+  broken : ran ≢ Err Write → Rises puts → result ≡ Err Write → PutsFronts held [] was now → Sends held ran result puts was now
+  failed : ran ≡ Err Write → IsCalm puts → result ≡ ran → now ≡ was → Sends held ran result puts was now
+
+-- records: all put, or cut off within one, or given up between two
+pub data Ran {S R : Type 0} (step : S → R → List ℕ → List ℕ → S → Type 0) (good : R → Bool) (s : S) (records : List R) (puts : Count) (result : Result Bool Early) (was now : Option Shown) (z : S) : Type 0 where
+  all : (out err : List ℕ) → IsCalm puts → Lines step s records out err z → result ≡ Ok (all_good good records) → now ≡ put_both out err was → Ran step good s records puts result was now z
+  cut : (done left : List R) (out err : List ℕ) (m : S) → records ≡ done ++ left → Lines step s done out err m → Rises puts → PutsFronts out err was now → result ≡ Err Write → Ran step good s records puts result was now z
+  short : (done left : List R) (out err : List ℕ) (m : S) → IsCalm puts → records ≡ done ++ left → Lines step s done out err m → now ≡ put_both out err was → result ≡ Err Memory → Ran step good s records puts result was now z

@@ -1,0 +1,74 @@
+-- `run FILE NAME ROWS`: a line on Out for each record behind the header.
+use Rattle.std.specs.Prelude.{◌≡◌, ◌≢◌, ℕ, Bool, true, false, List, [], ◌∷◌, ◌++◌, All, Ok, Err}
+use Rattle.ln_tree.specs.Row.{Row}
+use Rattle.ln_tree.specs.Table.{PredOf}
+use Rattle.ln_rows.specs.Left.{Records, records_in}
+use Rattle.ln_rows.specs.Record.{read_row}
+use Rattle.ln_rows.specs.declared.record.RowStop.{RowStop}
+use Rattle.ln_top.specs.declared.status.End.{End}
+use Rattle.ln_top.specs.declared.status.End.TheVariants.{Done, Rows}
+use Rattle.ln_top.specs.declared.stop.Why.TheVariants.{Header}
+use Rattle.ln_top.specs.Said.{Said}
+use Rattle.ln_top.specs.Stop.{said_of}
+use Rattle.ln_top.specs.Steps.{Given}
+use Rattle.ln_top.specs.Columns.{columns_of}
+use Rattle.ln_top.specs.Line.{IsLineOf, is_row}
+use Rattle.ln_top.specs.Lines.{Lines, all_good}
+
+-- what a record puts: its line on Out
+pub record RunStep (p : PredOf) (names : List (List ℕ)) (before : Unit {0}) (fields : List (List ℕ)) (out err : List ℕ) (after : Unit {0}) : Type 0 where
+  pub line : IsLineOf p names fields out
+  pub none : err ≡ []
+
+abbrev pub end_of : Bool → End
+end_of true = Done
+end_of false = Rows
+
+-- the first record isn't the columns' names, or there is none
+abbrev pub IsWrongHeader : List (List ℕ) → Records → Type 0
+IsWrongHeader names [] = Unit {0}
+IsWrongHeader names (first ∷ rest) = first ≢ names
+
+-- the first record was taken: it is the columns' names, or the header is wrong
+abbrev pub HeaderIs : List (List ℕ) → Records → Records → Bool → Type 0
+HeaderIs names old new true = old ≡ names ∷ new
+HeaderIs names old new false = IsWrongHeader names old
+
+-- so many bytes are gathered before they are put, and there is room for a line more
+abbrev pub piece : ℕ
+piece = 65536
+
+abbrev pub piece_room : ℕ
+piece_room = 65600
+
+-- the one predicate, the names of its columns, and the records of the one rows file
+pub record HasRecords (g : Given) (p : PredOf) (names : List (List ℕ)) (records : Records) : Type 0 where
+  pub pred : g.preds ≡ p ∷ []
+  pub columns : names ≡ columns_of g.table p
+  pub rows : List ℕ
+  pub text : g.texts ≡ rows ∷ []
+  pub are : records_in rows ≡ records
+
+-- what is owed: the error line of a wrong header; or behind the header a line for each record, in order
+pub data RunSaid (g : Given) : Said → Type 0 where
+  header : (p : PredOf) (names : List (List ℕ)) (records : Records) → HasRecords g p names records → IsWrongHeader names records → RunSaid g (said_of Header)
+  ran : (p : PredOf) (names : List (List ℕ)) (records : Records) (out err : List ℕ) → HasRecords g p names (names ∷ records) → Lines (RunStep p names) tt records out err tt → RunSaid g (record { end = end_of (all_good (is_row p) records); out = out; err = err ++ [] })
+
+-- what want of memory leaves: the whole lines of the first records
+pub data RunPart (g : Given) (out err : List ℕ) : Type 0 where
+  first : (p : PredOf) (names : List (List ℕ)) (done left : Records) → HasRecords g p names (names ∷ done ++ left) → Lines (RunStep p names) tt done out err tt → RunPart g out err
+
+-- a record is a row in range, or none
+pub record IsRow (p : PredOf) (fields : List (List ℕ)) : Type 0 where
+  pub row : Row
+  pub read : read_row p.sites p.vars fields ≡ Ok row
+
+pub record IsNoRow (p : PredOf) (fields : List (List ℕ)) : Type 0 where
+  pub stop : RowStop
+  pub read : read_row p.sites p.vars fields ≡ Err stop
+
+-- how it ends, and where: each record behind the header is a row in range; the header is wrong; a record is none
+pub data RunEnds (g : Given) : End → Type 0 where
+  done : (p : PredOf) (names : List (List ℕ)) (records : Records) → HasRecords g p names (names ∷ records) → All (IsRow p) records → RunEnds g Done
+  wrong : (p : PredOf) (names : List (List ℕ)) (records : Records) → HasRecords g p names records → IsWrongHeader names records → RunEnds g Rows
+  refused : (p : PredOf) (names : List (List ℕ)) (before after : Records) (fields : List (List ℕ)) → HasRecords g p names (names ∷ before ++ fields ∷ after) → IsNoRow p fields → RunEnds g Rows

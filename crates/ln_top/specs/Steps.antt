@@ -1,0 +1,83 @@
+-- The steps before the work, as a chain: the first that stops decides.
+use Rattle.std.specs.Prelude.{◌≡◌, ℕ, ◌≤◌, ◌<◌, List, [], ◌∷◌, length, find, bytes_eq, Option, Some, None}
+use Rattle.ln_base.specs.Outside.{Shelf, bytes_of, IsAbsent}
+use Rattle.ln_tree.specs.Table.{TableOf, PredOf}
+use Rattle.ln_top.specs.declared.stop.Refusal.{Refusal}
+use Rattle.ln_top.specs.declared.stop.Why.{Why}
+use Rattle.ln_top.specs.declared.stop.Why.TheVariants.{TooLong, Refused, NoPredicate}
+use Rattle.ln_top.specs.Plan.{Plan}
+use Rattle.ln_top.specs.Source.{IsAccepted, IsRefusedFor}
+
+-- what a step comes to: it stops the command, or a file that it wants isn't there, or it gives a value to go on with
+pub data Outcome (A : Type 0) : Type 0 where
+  stops : Why → Outcome A
+  missing : Outcome A
+  gives : A → Outcome A
+
+-- one step, and where it gives a value the next one
+pub data Then {A B : Type 0} (first : Outcome A → Type 0) (next : A → Outcome B → Type 0) : Outcome B → Type 0 where
+  stopped : (why : Why) → first (stops why) → Then first next (stops why)
+  lacks : first missing → Then first next missing
+  goes : (a : A) {o : Outcome B} → first (gives a) → next a o → Then first next o
+
+-- the end of a chain
+abbrev pub Gives : {A : Type 0} → A → Outcome A → Type 0
+Gives a o = o ≡ gives a
+
+-- the same step for each member of a list, in order
+abbrev pub Each : {A B : Type 0} → (A → Outcome B → Type 0) → List A → Outcome (List B) → Type 0
+Each step [] = Gives []
+Each step (a ∷ rest) = Then (step a) (λ b. Then (Each step rest) (λ bs. Gives (b ∷ bs)))
+
+-- a file may hold these bytes: where files tell theirs it does, else any file may
+abbrev pub MayHold : Option Shelf → List ℕ → List ℕ → Type 0
+MayHold None name bytes = Unit {0}
+MayHold (Some shelf) name bytes = bytes_of name shelf ≡ Some bytes
+
+-- a file may hold more bytes than the limit
+abbrev pub MayPass : Option Shelf → ℕ → List ℕ → Type 0
+MayPass None limit name = Unit {0}
+MayPass (Some shelf) limit name = (bytes : List ℕ) × (bytes_of name shelf ≡ Some bytes) × (limit < length bytes)
+
+-- a file is read
+pub data Reads (told : Option Shelf) (limit : ℕ) (name : List ℕ) : Outcome (List ℕ) → Type 0 where
+  there : (bytes : List ℕ) → MayHold told name bytes → length bytes ≤ limit → Reads told limit name (gives bytes)
+  long : MayPass told limit name → Reads told limit name (stops TooLong)
+  absent : IsAbsent name told → Reads told limit name missing
+
+-- a source is compiled
+pub data Compiles (bytes : List ℕ) : Outcome TableOf → Type 0 where
+  accepted : (t : TableOf) → IsAccepted bytes t → Compiles bytes (gives t)
+  refused : (r : Refusal) → IsRefusedFor bytes r → Compiles bytes (stops (Refused r))
+
+-- the first predicate of a name
+abbrev pub named : List ℕ → List PredOf → Option PredOf
+named name preds = find (λ p. bytes_eq p.name name) preds
+
+-- a predicate is looked for
+pub data Finds (preds : List PredOf) (name : List ℕ) : Outcome PredOf → Type 0 where
+  found : (p : PredOf) → named name preds ≡ Some p → Finds preds name (gives p)
+  none : named name preds ≡ None → Finds preds name (stops NoPredicate)
+
+-- a source file has at most 1,048,576 bytes
+abbrev pub most_source : ℕ
+most_source = 1048576
+
+-- any other file has at most 67,108,864
+abbrev pub most_file : ℕ
+most_file = 67108864
+
+-- what the work is done on: the source's table, the named predicates, the texts of the further files
+pub record Given : Type 0 where
+  pub table : TableOf
+  pub preds : List PredOf
+  pub texts : List (List ℕ)
+
+-- the source is read and compiled, the names are looked for, the further files are read
+abbrev pub Prepares : Plan → Option Shelf → Outcome Given → Type 0
+Prepares plan told =
+    Then (Reads told most_source plan.source) (λ bytes.
+    Then (Compiles bytes) (λ table.
+    Then (Each (Finds table.preds) plan.names) (λ preds.
+    Then (Each (Reads told most_file) plan.files) (λ texts.
+    Gives (record { table = table; preds = preds; texts = texts })))))

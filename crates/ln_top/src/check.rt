@@ -1,0 +1,53 @@
+// The work of `check`: a line for each predicate of a source.
+ghost use Rattle.std.specs.Prelude.{◌≡◌, ◌++◌, map, IfOk};
+ghost use Rattle.ln_tree.specs.Table.{pred_of};
+ghost use Rattle.ln_top.specs.Check.{AreCounts, CheckSaid, count_text};
+ghost use Rattle.ln_top.specs.Carried.{CarriesOut, NoPart};
+ghost use Rattle.ln_top.specs.Ready.{StandsFor};
+ghost use Rattle.ln_top.specs.Said.{count, line};
+ghost use Rattle.ln_top.specs.Steps.{Given};
+
+use crate::prepare::Ready;
+use crate::status::{Early, End};
+use crate::stop::put_text;
+use itoa::Buffer;
+use ln_base::{Console, NoMemory};
+use ln_compile::Compiled;
+use ln_tree::Pred;
+use std::alloc::Global;
+
+// Adds the line of a predicate with this stage count.
+fn add_count(text: &mut Vec<u8>, p: &Pred, count: u64) -> Result<(), NoMemory>
+    ensures { IfOk result (λ x. text.new.items ≡ text.old.items ++ line (count_text (pred_of p.now) count)) }
+{
+    let mut sites = Buffer::new();
+    let mut stages = Buffer::new();
+    text.extend_from_slice(p.name.bytes())?;
+    text.extend_from_slice(b" sites ")?;
+    text.extend_from_slice(sites.format(p.shape.sites).as_bytes())?;
+    text.extend_from_slice(b" stages ")?;
+    text.extend_from_slice(stages.format(count).as_bytes())?;
+    text.push(b'\n')?;
+    Ok(())
+}
+
+// The lines of the predicates.
+fn counts(alloc: Global, c: &Compiled) -> Result<Vec<u8>, NoMemory>
+    ensures { IfOk result (λ v. AreCounts (map pred_of c.now.table.preds) v.items) }
+{
+    let mut text = Vec::new(alloc);
+    'preds: for (i, p) in c.table().preds.as_slice().iter().enumerate() {
+        add_count(&mut text, p, c.stage_count(i))?;
+    }
+    Ok(text)
+}
+
+/// Puts the lines of the predicates with their stage counts, all of them made before the first is put.
+pub(crate) fn work<C: Console>(alloc: Global, con: &mut C, ready: &Ready) -> Result<End, Early>
+    ensures { (g : Given) → StandsFor ready.now g → CarriesOut (CheckSaid g) NoPart ⊥ ⊥ (count (C.faults con.old) (C.faults con.new)) result (C.shown con.old) (C.shown con.new) }
+{
+    let Ok(text) = counts(alloc, &ready.compiled) else {
+        return Err(Early::Memory);
+    };
+    put_text(con, &text, End::Done)
+}

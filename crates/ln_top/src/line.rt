@@ -1,0 +1,108 @@
+// The line of a record.
+ghost use Rattle.std.specs.Prelude.{◌≡◌, ◌≤◌, ◌+◌, ◌++◌, ◌∷◌, [], length, vec_len, vec_capacity, IsOk, OnOk, OnErr, codes, slice_index_or, true};
+ghost use Rattle.ln_top.specs.Columns.{names_of};
+ghost use Rattle.ln_top.specs.Line.{line_room, sign_text, decider_text, said_text, is_bare};
+ghost use Rattle.ln_top.specs.Said.{line};
+
+use crate::prepare::Target;
+use itoa::Buffer;
+use ln_base::{NoMemory, Sign};
+use ln_code::{By, Verdict};
+use ln_rows::{RowStop, column};
+use std::alloc::Global;
+
+/// The room that any line fits in that names no column, in bytes.
+pub const LINE_ROOM: usize = 64;
+
+// Adds bytes that there is room for.
+fn add_within(text: &mut Vec<u8>, bytes: &[u8])
+    requires { vec_len text.old + length bytes.now ≤ vec_capacity text.old }
+    ensures items { text.new.items ≡ text.old.items ++ bytes.now }
+    ensures len { vec_len text.new ≡ vec_len text.old + length bytes.now }
+    ensures room { vec_capacity text.old ≤ vec_capacity text.new }
+{
+    text.extend_from_slice(bytes).unwrap();
+}
+
+fn sign_text(sign: Sign) -> &'static [u8]
+    ensures text { result.now ≡ sign_text sign }
+    ensures len { length result.now ≡ 1 }
+{
+    match sign {
+        Sign::Minus => b"-",
+        Sign::Zero => b"0",
+        Sign::Plus => b"+",
+    }
+}
+
+fn add_decider(text: &mut Vec<u8>, by: By)
+    requires { vec_len text.old + 40 ≤ vec_capacity text.old }
+    ensures items { text.new.items ≡ text.old.items ++ decider_text by }
+    ensures len { vec_len text.new ≤ vec_len text.old + 40 }
+    ensures room { vec_capacity text.old ≤ vec_capacity text.new }
+{
+    match by {
+        By::Filter => add_within(text, b"F"),
+        By::Stage(place) => {
+            let mut buffer = Buffer::new();
+            add_within(text, buffer.format(place).as_bytes());
+        }
+        By::Nothing => add_within(text, b"-"),
+    }
+}
+
+// Adds the line of a verdict: its sign, a space and its decider. There is room for it.
+fn add_verdict(text: &mut Vec<u8>, v: Verdict)
+    requires { vec_len text.old + line_room ≤ vec_capacity text.old }
+    ensures line { text.new.items ≡ text.old.items ++ line (sign_text v.sign ++ 32 ∷ decider_text v.by) }
+    ensures room { vec_capacity text.old ≤ vec_capacity text.new }
+{
+    add_within(text, sign_text(v.sign));
+    add_within(text, b" ");
+    add_decider(text, v.by);
+    add_within(text, b"\n");
+}
+
+// Adds the line of what is wrong with a column, by the column's name.
+fn add_column(
+    alloc: Global,
+    text: &mut Vec<u8>,
+    front: &[u8],
+    target: Target<'_>,
+    k: u8,
+) -> Result<(), NoMemory>
+    requires { length front.now ≤ 16 }
+    ensures ok { OnOk result (text.new.items ≡ text.old.items ++ line (front.now ++ slice_index_or (names_of target.entry.table.now target.entry.pred.now) k [])) }
+    ensures err { OnErr result (text.new.items ≡ text.old.items) }
+    ensures room { vec_capacity text.old ≤ vec_capacity text.new }
+{
+    let name = column(alloc, target.table, target.pred, usize::from(k))?;
+    text.reserve(front.len() + name.len() + 1)?;
+    add_within(text, front);
+    add_within(text, &name);
+    add_within(text, b"\n");
+    Ok(())
+}
+
+/// Adds the line of what is said of a record. Only one that names a column takes memory.
+pub fn add_line(
+    alloc: Global,
+    text: &mut Vec<u8>,
+    target: Target<'_>,
+    said: Result<Verdict, RowStop>,
+) -> Result<(), NoMemory>
+    requires { vec_len text.old + line_room ≤ vec_capacity text.old }
+    ensures ok { OnOk result (text.new.items ≡ text.old.items ++ line (said_text (names_of target.entry.table.now target.entry.pred.now) said)) }
+    ensures err { OnErr result (text.new.items ≡ text.old.items) }
+    ensures room { vec_capacity text.old ≤ vec_capacity text.new }
+    ensures steady { is_bare said ≡ true → IsOk result }
+{
+    match said {
+        Ok(v) => add_verdict(text, v),
+        Err(RowStop::Fields) => add_within(text, b"! fields\n"),
+        Err(RowStop::Number(k)) => add_column(alloc, text, b"! number ", target, k)?,
+        Err(RowStop::Range(k)) => add_column(alloc, text, b"! range ", target, k)?,
+        Err(RowStop::Index(k)) => add_column(alloc, text, b"! index ", target, k)?,
+    }
+    Ok(())
+}
