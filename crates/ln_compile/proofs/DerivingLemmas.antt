@@ -10,7 +10,7 @@ use Rattle.ln_algebra.proofs.Zeros.{derived-zeros}
 use Rattle.ln_algebra.proofs.Bounds.{weighted-derived}
 use Rattle.ln_algebra.proofs.Weights.{weighted-least}
 use Rattle.ln_algebra.specs.Terms.{Over, Term, binomials, covers, derived, factor_at, minus}
-use Rattle.ln_algebra.specs.Vector.{degree, plus, total_degree, zeros}
+use Rattle.ln_algebra.specs.Vector.{degree, plus, total_degree}
 use Rattle.ln_algebra.specs.Weights.{monomial_weight, weighted_sum}
 use Rattle.ln_tree.specs.declared.shape.VarInfo.{VarInfo}
 use Rattle.ln_tree.specs.Exps.{AllAbove, IsAbove, IsRising, Pairs, exponent, exponents_from, vector}
@@ -23,16 +23,13 @@ use Rattle.ln_poly.proofs.Lowering.{power-apart}
 use Rattle.ln_poly.proofs.Merging.{above-none, exponent-push}
 use Rattle.ln_poly.proofs.Products.{length-vector, over-terms, vector-plus}
 use Rattle.ln_stage.specs.Lists.{covering}
+use Rattle.ln_due.proofs.CoefficientLemmas.{vector-nil}
 use Rattle.ln_compile.specs.Derived.{IsDerivative}
 use Rattle.ln_nest.specs.Lean.{HasNoZero}
 use Rattle.ln_compile.proofs.FewestLemmas.{EachHas, each-has, shortest}
 use Rattle.ln_compile.proofs.CombinedLemmas.{AreApart, combined, everywhere, once, once-derived, over-derived}
 
 -- ---- no variable
-pub vector-nil : (v n : ℕ) → exponents_from v n [] ≡ zeros n
-vector-nil v zero = refl
-vector-nil v (suc n) = ap (λ z. 0 ∷ z) (vector-nil (suc v) n)
-
 pub deriving-init : (n : ℕ) (f h : Sparse) → IsPoly f → AreBelow n f → h ≡ f → IsDerivative n f [] h
 unfolding coefficient_at
 deriving-init n f h p b e = record {

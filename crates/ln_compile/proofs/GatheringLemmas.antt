@@ -11,7 +11,7 @@ use Rattle.ln_stage.specs.Lists.{all_covering, covering}
 use Rattle.ln_code.specs.Part.{Code, ops_in_blocks}
 use Rattle.ln_compile.specs.Compiled.{IsOwn}
 use Rattle.ln_compile.specs.Made.{AreBlocksOf, IsBlockOf}
-use Rattle.ln_compile.proofs.DerivingLemmas.{vector-nil}
+use Rattle.ln_due.proofs.CoefficientLemmas.{vector-nil}
 
 ops-append : (xs ys : List Code) → ops_in_blocks (xs ++ ys) ≡ ops_in_blocks xs + ops_in_blocks ys
 ops-append [] ys = omega arith

@@ -12,3 +12,8 @@ pub mod MakingLemmas
 pub mod OneRefusal
 pub mod ProgramLemmas
 pub mod StagingLemmas
+pub mod LeanNodes
+pub mod NodesIn
+pub mod Pushing
+pub mod SourceNodes
+pub mod SmallBlocks

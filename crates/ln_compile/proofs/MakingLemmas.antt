@@ -31,6 +31,7 @@ use Rattle.ln_code.specs.Kept.{AreOfSites, FollowsFilterRules, FollowsRules, is_
 use Rattle.ln_code.specs.Part.{Code, FilterCode, filter_known_of, filter_value, known_of, ops_in_filter}
 use Rattle.ln_code.specs.Rules.{Known}
 use Rattle.ln_code.specs.Nodes.{IsNodeOf}
+use Rattle.ln_due.specs.Small.{BlockPushesSmall}
 use Rattle.ln_lower.specs.Nodes.{PushNodes, pushed_by}
 use Rattle.ln_filter.specs.Steady.{HasFilter}
 use Rattle.ln_filter.specs.Truncated.{root_number, root_triple}
@@ -39,7 +40,7 @@ use Rattle.ln_compile.specs.Compiled.{IsFilterOf, IsOwn}
 use Rattle.ln_compile.specs.Derived.{IsDerivative}
 use Rattle.ln_compile.specs.Made.{IsBlockOf}
 use Rattle.ln_compile.proofs.CombinedLemmas.{over-derived}
-use Rattle.ln_compile.proofs.DerivingLemmas.{vector-nil}
+use Rattle.ln_due.proofs.CoefficientLemmas.{vector-nil}
 
 -- a block whose value has the coefficients of the derivative carries it
 carrying : (vars : List VarInfo) (f : Sparse) (c : Code) → FollowsRules vars c → ((k : Known) → known_of vars c ≡ Some k → IsNormalOf (length vars) k.tree (derived (vector (length vars) c.exps) (terms_of (length vars) f))) → CarriesDerivative vars (terms_of (length vars) f) c
@@ -51,8 +52,14 @@ over-derivative n a f = let e : length (vector n a) ≡ n = length-vector 0 n a 
 -- ---- a derivative's block
 pub derivative-made : (vars : List VarInfo) (f h : Sparse) (a : Pairs) (lets : List Fitted) (t : Typed) (c : Code) → IsDerivative (length vars) f a h → lets ≡ [] → c.exps ≡ a → AreOfSites vars a → FollowsRules vars c
     → ((m : List ℕ) → length m ≡ length vars → polynomial [] t m ≡ coefficient_at (length vars) h m)
-    → ((k : Known) → known_of vars c ≡ Some k → (m : List ℕ) → normal_coefficient k.tree m ≡ polynomial (map typed lets) t m) → IsBlockOf vars f c
-derivative-made vars f h a lets t c d z e o r p q = record { rules = r; of_sites = rw e o; carries = carrying vars f c r normal } where
+    → ((k : Known) → known_of vars c ≡ Some k → (m : List ℕ) → normal_coefficient k.tree m ≡ polynomial (map typed lets) t m) → BlockPushesSmall vars c → IsExact vars [] t → PushNodes (IsNodeOf (map typed lets) t) (pushed_by vars c) → IsBlockOf vars f c
+derivative-made vars f h a lets t c d z e o r p q s x ns = record {
+  rules = r;
+  of_sites = rw e o;
+  carries = carrying vars f c r normal;
+  small = s;
+  exact = record { lets = []; root = t; exact_lets = tt; exact_root = x; nodes = subst (λ (us : List Fitted). PushNodes (IsNodeOf (map typed us) t) (pushed_by vars c)) z ns };
+} where
   coefficients : (k : Known) → known_of vars c ≡ Some k → (m : List ℕ) → length m ≡ length vars → factor_at (derived (vector (length vars) a) (terms_of (length vars) f)) m ≡ normal_coefficient k.tree m
   coefficients k g m l = sym (q k g m ∙ ap (λ (us : List Fitted). polynomial (map typed us) t m) z ∙ p m l ∙ d.coefficients m l)
 
@@ -92,8 +99,14 @@ own-made p lets root c a z e l r x y n = record { plain = e ∙ z; lets = map ty
 
 pub own-carries : (p : Pred) (lets : List Fitted) (root : Fitted) (c : Code) (a : Pairs) (f : Sparse) → a ≡ [] → c.exps ≡ a → map untyped (map typed lets) ≡ map (tree_of p.shape.vars) p.lets → untyped (typed root) ≡ tree_of p.shape.vars p.root
     → FollowsRules p.shape.vars c → ((k : Known) → known_of p.shape.vars c ≡ Some k → (m : List ℕ) → normal_coefficient k.tree m ≡ polynomial (map typed lets) (typed root) m)
-    → IsNormal (length p.shape.vars) (root_of (pred_of p)) f → IsBlockOf p.shape.vars f c
-own-carries p lets root c a f z e l r fr q h = record { rules = fr; of_sites = rw (e ∙ z) tt; carries = carrying p.shape.vars f c fr normal } where
+    → IsNormal (length p.shape.vars) (root_of (pred_of p)) f → BlockPushesSmall p.shape.vars c → IsOwn (pred_of p) c → IsBlockOf p.shape.vars f c
+own-carries p lets root c a f z e l r fr q h b o = record {
+  rules = fr;
+  of_sites = rw (e ∙ z) tt;
+  carries = carrying p.shape.vars f c fr normal;
+  small = b;
+  exact = record { lets = o.lets; root = o.root; exact_lets = o.exact_lets; exact_root = o.exact_root; nodes = o.nodes };
+} where
   whole : (m : List ℕ) → polynomial (map typed lets) (typed root) m ≡ normal_coefficient (root_of (pred_of p)) m
   whole m = ap (λ ts. normal_coefficient (inlined (inlined_after [] ts) (untyped (typed root))) m) (l ∙ sym (trees-of p.shape.vars p.lets)) ∙ ap (λ t. normal_coefficient (inlined (inlined_after [] (map (tree p.shape.vars) (map formula p.lets))) t) m) r
 

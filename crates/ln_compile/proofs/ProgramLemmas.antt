@@ -12,11 +12,12 @@ use Rattle.ln_bound.specs.Value.{weights}
 use Rattle.ln_poly.specs.Expansion.{IsNormal, closed_lets}
 use Rattle.ln_poly.specs.Sparse.{Sparse, terms_of}
 use Rattle.ln_poly.proofs.Lets.{pred-light, root-light}
-use Rattle.ln_stage.specs.Lists.{AreStageLists, all_covering, stage_count, stage_weight}
+use Rattle.ln_stage.specs.Lists.{AreStageLists, all_covering, first_seen, stage_count, stage_weight}
 use Rattle.ln_stage.specs.Staged.{AreStagesOf, Staged, block_vector, vectors_of}
 use Rattle.ln_code.specs.Carried.{CarriesWhole}
 use Rattle.ln_code.specs.Kept.{FollowsFilterRules, IsList, IsProgram}
 use Rattle.ln_code.specs.Part.{Code, FilterCode, Part, ops_in_blocks, ops_in_filter}
+use Rattle.ln_due.specs.Small.{FilterPushesSmall}
 use Rattle.ln_compile.specs.Accepted.{root_of, weighed_of}
 use Rattle.ln_compile.specs.Compiled.{IsFilterOf, IsProgramOf}
 use Rattle.ln_compile.specs.Made.{AreBlocksOf}
@@ -52,7 +53,7 @@ few-ops first ops cover len f h k l = omega (arith, f, h, k, l)
 
 module _ (p : Pred) (f : Sparse) (st : Staged) (blocks : List Code) (light : AreLight (weighed_of (pred_of p))) (normal : IsNormal (length p.shape.vars) (root_of (pred_of p)) f) (some : f ≢ []) (stages : AreStagesOf p.shape.sites p.shape.vars f st)
     (count : stage_count (vectors_of (length p.shape.vars) st) ≤ 65536) (heavy : stage_weight (length p.shape.vars) f (vectors_of (length p.shape.vars) st) ≤ 131072) (made : AreBlocksOf (pred_of p) f st.exps blocks)
-    (filter : Option FilterCode) (own : IsFilterOf (pred_of p) filter) (rules : IfSome filter (FollowsFilterRules p.shape.vars)) (whole : IfSome filter (CarriesWhole p.shape.vars (terms_of (length p.shape.vars) f))) (short : ops_in_filter filter ≤ 1048640) where
+    (filter : Option FilterCode) (own : IsFilterOf (pred_of p) filter) (rules : IfSome filter (FollowsFilterRules p.shape.vars)) (whole : IfSome filter (CarriesWhole p.shape.vars (terms_of (length p.shape.vars) f))) (short : ops_in_filter filter ≤ 1048640) (pushes : IfSome filter (FilterPushesSmall p.shape.vars)) where
   abbrev pub part : Part
   part = record { shape = p.shape; filter = filter; blocks = blocks; lists = st.lists }
 
@@ -90,5 +91,8 @@ module _ (p : Pred) (f : Sparse) (st : Staged) (blocks : List Code) (light : Are
       blocks = λ k d l. (made.each k d l).carries;
       filter = whole;
     };
+    exact = λ k d l. (made.each k d l).exact;
+    sight = made.vectors ∙ stages.first_sight ∙ ap first_seen (sym (same-vectors p.shape st filter blocks made.vectors));
+    small = record { blocks = λ k d l. (made.each k d l).small; filter = pushes };
     begins = record { block = made.own; first = made.first; own = made.is_own; short = omega (arith, made.small, short) };
   }

@@ -1,8 +1,10 @@
 -- What a source is compiled to: the program and the stage count of each predicate.
-use Rattle.std.specs.Prelude.{◌≡◌, ℕ, ◌+◌, ◌<◌, ◌^◌, List, [], ◌∷◌, length, map, slice_get, ℤ, Option, Some, None, position, bytes_eq}
+use Rattle.std.specs.Prelude.{◌≡◌, All, ℕ, ◌+◌, ◌<◌, ◌^◌, List, [], ◌∷◌, length, map, slice_get, ℤ, Option, Some, None, position, bytes_eq}
 use Rattle.ln_algebra.specs.Orders.{BySmallest}
 use Rattle.ln_tree.specs.declared.pred.Pred.{Pred}
 use Rattle.ln_tree.specs.declared.table.Table.{Table}
+use Rattle.ln_tree.specs.declared.shape.VarInfo.{VarInfo}
+use Rattle.ln_tree.specs.Exps.{vector}
 use Rattle.ln_tree.specs.Formula.{tree}
 use Rattle.ln_tree.specs.Names.{name_bytes}
 use Rattle.ln_tree.specs.Row.{AreWithin}
@@ -11,10 +13,11 @@ use Rattle.ln_bound.specs.Exact.{AreExact, IsExact}
 use Rattle.ln_bound.specs.Typed.{Typed, untyped}
 use Rattle.ln_poly.specs.Expansion.{IsNormal}
 use Rattle.ln_poly.specs.Sparse.{Sparse, terms_of}
-use Rattle.ln_stage.specs.Lists.{AreStageLists, stage_count}
-use Rattle.ln_code.specs.Carried.{Carries}
+use Rattle.ln_stage.specs.Lists.{AreStageLists, first_seen, stage_count}
+use Rattle.ln_code.specs.Carried.{Carries, vectors}
 use Rattle.ln_code.specs.Nodes.{IsNodeOf}
 use Rattle.ln_code.specs.Part.{Code, FilterCode, Part, filter_value, ops_in_filter}
+use Rattle.ln_due.specs.Small.{PushesSmall}
 use Rattle.ln_filter.specs.Steady.{HasFilter}
 use Rattle.ln_filter.specs.Truncated.{root_number, root_triple}
 use Rattle.ln_lower.specs.Nodes.{PushNodes, pushed_by}
@@ -31,6 +34,14 @@ pub record IsOwn (p : PredOf) (block : Code) : Type 0 where
   pub exact_root : IsExact p.vars lets root
   pub nodes : PushNodes (IsNodeOf lets root) (pushed_by p.vars block)
 
+-- the block is made from a tree with bounds and widths, and lets: what its operations push are polynomials of their nodes, each bound is exactly its operation over M, and each width the least
+pub record IsFromExact (vars : List VarInfo) (block : Code) : Type 0 where
+  pub lets : List Typed
+  pub root : Typed
+  pub exact_lets : AreExact vars [] lets
+  pub exact_root : IsExact vars lets root
+  pub nodes : PushNodes (IsNodeOf lets root) (pushed_by vars block)
+
 -- block 0 is the source's own; with the filter it has fewer than 2^21 operations
 pub record BeginsWith (p : PredOf) (part : Part) : Type 0 where
   pub block : Code
@@ -45,7 +56,7 @@ IsFilterOf p (Some f) =
     HasFilter p.vars (lets_of p) (own_root p)
     × ((zs : List ℤ) → AreWithin p.vars zs → filter_value zs f ≡ Some (record { number = root_number p.vars zs (lets_of p) (own_root p); error = (root_triple p.vars (lets_of p) (own_root p)).e }))
 
--- the part is the program of the predicate: it is over the predicate's variables, with the predicate's filter; it carries the predicate's root, with the lets in place of their names, by the smallest infinitesimal that differs; it begins with the source's own tree
+-- the part is the program of the predicate: it is over the predicate's variables, with the predicate's filter; it carries the predicate's root, with the lets in place of their names, by the smallest infinitesimal that differs; it begins with the source's own tree; and whatever its blocks and its filter push has at most 1,024 terms and no exponent above 127; each block is made from an exact tree; and the blocks' exponents are the distinct members of the lists in order of first sight
 pub record IsProgramOf (p : PredOf) (part : Part) : Type 0 where
   pub name : name_bytes part.shape.name ≡ p.shape_name
   pub sites : part.shape.sites ≡ p.sites
@@ -55,6 +66,9 @@ pub record IsProgramOf (p : PredOf) (part : Part) : Type 0 where
   pub normal : IsNormal (length p.vars) (root_of p) poly
   pub carries : Carries BySmallest part (root_of p) (terms_of (length p.vars) poly)
   pub begins : BeginsWith p part
+  pub small : PushesSmall part
+  pub exact : All (IsFromExact p.vars) part.blocks
+  pub sight : map (λ c. vector (length p.vars) c.exps) part.blocks ≡ first_seen (map (vectors part) part.lists)
 
 -- one program for each predicate, in order
 abbrev pub AreProgramsOf : List PredOf → List Part → Type 0

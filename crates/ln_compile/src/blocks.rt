@@ -8,10 +8,10 @@ ghost use Rattle.ln_tree.specs.Table.{pred_of};
 ghost use Rattle.ln_bound.specs.Light.{AreLight, most, node_weights, weighed_pred};
 ghost use Rattle.ln_bound.specs.Value.{weights};
 ghost use Rattle.ln_order.specs.Sites.{site_of};
-ghost use Rattle.ln_poly.specs.Expansion.{IsNormal};
+ghost use Rattle.ln_poly.specs.Expansion.{HaveFewTerms, IsNormal};
 ghost use Rattle.ln_poly.specs.Sparse.{AreBelow, IsPoly, Sparse, terms_of};
 ghost use Rattle.ln_stage.specs.Lists.{covering};
-ghost use Rattle.ln_compile.specs.Accepted.{root_of, weighed_of};
+ghost use Rattle.ln_compile.specs.Accepted.{expanded_of, root_of, weighed_of};
 ghost use Rattle.ln_compile.specs.Compiled.{IsOwn};
 ghost use Rattle.ln_compile.specs.Derived.{IsDerivative};
 ghost use Rattle.ln_compile.specs.Made.{AreBlocksOf, IsBlockOf};
@@ -50,6 +50,7 @@ fn derivative_block(alloc: Global, f: &Poly, s: &Shape, a: &Exps) -> Result<Bloc
     requires below { AreBelow (length s.now.vars) f.now }
     requires weight { weighted_sum (weights s.now.vars) (terms_of (length s.now.vars) f.now) ≤ most }
     requires degrees { All (λ t. total_degree (vector (length s.now.vars) t.0) ≤ 126) f.now }
+    requires terms { length f.now ≤ 1024 }
     requires exps { IsAbove a.now (length s.now.vars) }
     requires sites { (v : ℕ) → site_of s.now.vars v ≡ None → slice_index (vector (length s.now.vars) a.now) v ≡ 0 }
     ensures exps { IfOk result (λ b. b.exps ≡ a.now) }
@@ -67,7 +68,7 @@ fn first_block(alloc: Global, p: &Pred, w: &Weights) -> Result<Block, NoMemory>
     requires weights { w.now ≡ node_weights (weighed_pred p.now.shape.vars (map formula p.now.lets) (formula p.now.root)) }
     requires light { AreLight (weighed_of (pred_of p.now)) }
     ensures own { IfOk result (IsOwn (pred_of p.now)) }
-    ensures block { IfOk result (λ b. (f : Sparse) → IsNormal (length p.now.shape.vars) (root_of (pred_of p.now)) f → IsBlockOf p.now.shape.vars f b) }
+    ensures block { IfOk result (λ b. (f : Sparse) → IsNormal (length p.now.shape.vars) (root_of (pred_of p.now)) f → HaveFewTerms (length p.now.shape.vars) (expanded_of (pred_of p.now)) → IsBlockOf p.now.shape.vars f b) }
     ensures small { IfOk result (λ b. length b.ops ≤ 524352) }
 {
     let sized = size(alloc, p, w)?;
@@ -85,6 +86,7 @@ pub(crate) fn blocks(
 ) -> Result<Seq<Block>, NoMemory>
     requires weights { w.now ≡ node_weights (weighed_pred p.now.shape.vars (map formula p.now.lets) (formula p.now.root)) }
     requires light { AreLight (weighed_of (pred_of p.now)) }
+    requires terms { HaveFewTerms (length p.now.shape.vars) (expanded_of (pred_of p.now)) }
     requires normal { IsNormal (length p.now.shape.vars) (root_of (pred_of p.now)) f.now }
     requires weight { weighted_sum (weights p.now.shape.vars) (terms_of (length p.now.shape.vars) f.now) ≤ most }
     requires degrees { All (λ t. total_degree (vector (length p.now.shape.vars) t.0) ≤ 126) f.now }

@@ -8,11 +8,12 @@ ghost use Rattle.ln_tree.specs.Table.{pred_of};
 ghost use Rattle.ln_bound.specs.Light.{AreLight, most, node_weights, weighed_pred};
 ghost use Rattle.ln_bound.specs.Value.{weights};
 ghost use Rattle.ln_order.specs.Orders.{orders_of};
-ghost use Rattle.ln_poly.specs.Expansion.{IsNormal};
+ghost use Rattle.ln_poly.specs.Expansion.{HaveFewTerms, IsNormal};
 ghost use Rattle.ln_poly.specs.Sparse.{Sparse, terms_of};
 ghost use Rattle.ln_stage.specs.Lists.{stage_count, stage_weight};
 ghost use Rattle.ln_stage.specs.Staged.{AreStagesOf, vectors_of};
-ghost use Rattle.ln_compile.specs.Accepted.{root_of, weighed_of};
+ghost use Rattle.ln_compile.specs.Accepted.{expanded_of, root_of, weighed_of};
+ghost use Rattle.ln_due.specs.Small.{FilterPushesSmall};
 ghost use Rattle.ln_code.specs.Kept.{FollowsFilterRules};
 ghost use Rattle.ln_code.specs.Part.{ops_in_filter};
 ghost use Rattle.ln_code.specs.Carried.{CarriesWhole};
@@ -54,6 +55,7 @@ fn filter(alloc: Global, p: &Pred, w: &Weights) -> Result<Option<FilterBlock>, N
     ensures filter { IfOk result (λ o. IsFilterOf (pred_of p.now) o) }
     ensures rules { IfOk result (λ o. IfSome o (λ f. FollowsFilterRules p.now.shape.vars f)) }
     ensures whole { IfOk result (λ o. (f : Sparse) → IsNormal (length p.now.shape.vars) (root_of (pred_of p.now)) f → IfSome o (CarriesWhole p.now.shape.vars (terms_of (length p.now.shape.vars) f))) }
+    ensures pushes { IfOk result (λ o. HaveFewTerms (length p.now.shape.vars) (expanded_of (pred_of p.now)) → IfSome o (FilterPushesSmall p.now.shape.vars)) }
     ensures small { IfOk result (λ o. ops_in_filter o ≤ 1048640) }
 {
     let sized = size(alloc, p, w)?;
@@ -71,6 +73,7 @@ pub(crate) fn program(
 ) -> Result<Program, NoMemory>
     requires weights { w.now ≡ node_weights (weighed_pred p.now.shape.vars (map formula p.now.lets) (formula p.now.root)) }
     requires light { AreLight (weighed_of (pred_of p.now)) }
+    requires terms { HaveFewTerms (length p.now.shape.vars) (expanded_of (pred_of p.now)) }
     requires normal { IsNormal (length p.now.shape.vars) (root_of (pred_of p.now)) f.now }
     requires weight { weighted_sum (weights p.now.shape.vars) (terms_of (length p.now.shape.vars) f.now) ≤ most }
     requires degrees { All (λ t. total_degree (vector (length p.now.shape.vars) t.0) ≤ 126) f.now }

@@ -3,12 +3,13 @@ use Rattle.std.proofs.Common.{◌≡◌, ℕ, ◌<◌, zero, suc, List, [], ◌�
 use Rattle.std.specs.Prelude.{All, Some, slice_get}
 use Rattle.std.proofs.Math.IntN.{ℤ}
 use Rattle.std.proofs.lemmas.List.{get_or-map}
-use Rattle.std.proofs.lemmas.List.Elements.{All-head, All-tail}
+use Rattle.std.proofs.lemmas.List.Elements.{All-contains, All-head, All-tail}
 use Rattle.std.proofs.lemmas.Option.{slice_get-get_or}
+use Rattle.ln_algebra.proofs.Zeros.{derived-zeros}
 use Rattle.ln_algebra.specs.Earlier.{IsOver, Sites}
 use Rattle.ln_algebra.specs.Orders.{Rank}
 use Rattle.ln_algebra.specs.Sign.{perturbed}
-use Rattle.ln_algebra.specs.Terms.{Term}
+use Rattle.ln_algebra.specs.Terms.{IsNormalOf, Term, derived}
 use Rattle.ln_algebra.specs.Tree.{Tree}
 use Rattle.ln_algebra.specs.Vector.{In}
 use Rattle.ln_tree.specs.Exps.{vector}
@@ -20,8 +21,8 @@ use Rattle.ln_code.specs.Carried.{Carries, CarriesDerivative, Runs, stage_at, ve
 use Rattle.ln_code.specs.Law.{BlockMeans}
 use Rattle.ln_code.specs.Part.{Code, Part}
 use Rattle.ln_code.specs.Rules.{Known}
-use Rattle.ln_due.specs.DueLaw.{HasValue}
-use Rattle.ln_due.proofs.CoefficientLemmas.{derivative-value}
+use Rattle.ln_due.specs.DueLaw.{HasValue, PlainBlocksCarryTheWhole}
+use Rattle.ln_due.proofs.CoefficientLemmas.{derivative-value, vector-nil}
 use Rattle.ln_due.proofs.InputsLemmas.{known_inputs}
 
 -- two names of one value
@@ -59,3 +60,11 @@ module _ (p : Part) (e : Tree) (f : List Term) (zs : List ℤ) (sites : Sites) (
   computes-at [] k c h = absurd (omega arith)
   computes-at (i ∷ ks) zero c h = c.0
   computes-at (i ∷ ks) (suc k) c h = computes-at ks k c.1 (omega arith)
+
+-- a block without exponents has the polynomial of the whole
+pub plain-whole : PlainBlocksCarryTheWhole
+plain-whole rank p e f c h i q =
+    let n : ℕ = length p.shape.vars in
+    let d : CarriesDerivative p.shape.vars f c = All-contains (CarriesDerivative p.shape.vars f) p.blocks c h.blocks i in
+    let z : derived (vector n c.exps) f ≡ f = ap (λ a. derived (vector n a) f) q ∙ ap (λ a. derived a f) (vector-nil 0 n) ∙ derived-zeros n f h.normal.over in
+    (d.what, d.known, subst (λ (g : List Term). IsNormalOf n d.what.tree g) z d.derivative)

@@ -7,4 +7,5 @@ pub mod DueLemmas
 pub mod FilterLemmas
 pub mod InputsLemmas
 pub mod SeveralLemmas
+pub mod Smallness
 pub mod UniqueLemmas

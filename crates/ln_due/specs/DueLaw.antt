@@ -4,7 +4,7 @@ use Rattle.ln_base.specs.declared.sign.Sign.TheVariants.{Zero}
 use Rattle.ln_algebra.specs.Orders.{Rank}
 use Rattle.ln_algebra.specs.Sign.{perturbed}
 use Rattle.ln_algebra.specs.Stage.{IsMonomial}
-use Rattle.ln_algebra.specs.Terms.{Term}
+use Rattle.ln_algebra.specs.Terms.{IsNormalOf, Term}
 use Rattle.ln_algebra.specs.Tree.{InputsBelow, Tree}
 use Rattle.ln_algebra.specs.Vector.{In}
 use Rattle.ln_tree.specs.Row.{InRange, Row, values}
@@ -16,7 +16,8 @@ use Rattle.ln_code.specs.Carried.{Carries, Runs, vectors}
 use Rattle.ln_code.specs.Exact.{Held}
 use Rattle.ln_code.specs.Law.{BlockMeans}
 use Rattle.ln_code.specs.Lists.{IsListOf}
-use Rattle.ln_code.specs.Part.{Code, FilterCode, Part, block_value, filter_value}
+use Rattle.ln_code.specs.Part.{Code, FilterCode, Part, block_value, filter_value, known_of}
+use Rattle.ln_code.specs.Rules.{Known}
 use Rattle.ln_code.specs.Verdict.{IsVerdict}
 use Rattle.ln_code.specs.declared.verdict.Verdict.{Verdict}
 use Rattle.ln_due.specs.Due.{Decided, Due, Filtering, NoFilter, Undecided, sign_number}
@@ -48,6 +49,12 @@ CutLosesNothing =
     ((a : List ℕ) × RowFirst rank p.shape.vars e row a × In (vectors p list) a)
     ⊎ (((a : List ℕ) → RowFirst rank p.shape.vars e row a → ⊥)
     × ((a : List ℕ) → In (vectors p list) a → perturbed (row_sites p.shape.vars row.index) (values row.values) e a ≡ pos 0))
+
+-- a block without exponents has the polynomial of the whole
+abbrev pub PlainBlocksCarryTheWhole : Type 0
+PlainBlocksCarryTheWhole =
+    (rank : Rank) (p : Part) (e : Tree) (f : List Term) (c : Code) → Carries rank p e f → Contains p.blocks c → c.exps ≡ [] →
+    (what : Known) × (known_of p.shape.vars c ≡ Some what) × IsNormalOf (length p.shape.vars) what.tree f
 
 -- every block runs on every row in range, with all its values in their bounds and widths, whether the row's order names it or not
 abbrev pub BlocksRun : Type 0

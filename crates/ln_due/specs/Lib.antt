@@ -3,3 +3,4 @@ pub mod Due
 pub mod DueLaw
 pub mod Run
 pub mod Several
+pub mod Small

@@ -1,13 +1,14 @@
 //! What the verdict of a part is, in either order of infinitesimals: the perturbed sign.
-ghost use Rattle.ln_due.specs.DueLaw.{BlocksRun, CutLosesNothing, DueIsUnique, SignsArePerturbed, StagesAreCoefficients, VerdictsAreDue, WithoutParamsNeverZero};
+ghost use Rattle.ln_due.specs.DueLaw.{BlocksRun, CutLosesNothing, DueIsUnique, PlainBlocksCarryTheWhole, SignsArePerturbed, StagesAreCoefficients, VerdictsAreDue, WithoutParamsNeverZero};
 ghost use Rattle.ln_due.specs.Several.{SignsMultiply};
 
 /// In a part that carries an expression each block has, on every row in range, the perturbed coefficient at its stage; and the
-/// stages of a row's order lose nothing.
+/// stages of a row's order lose nothing. A block without exponents has the polynomial of the whole.
 ///
 /// On it rests that the blocks of a row's list, in turn, find the first coefficient that isn't 0.
 pub fn stages_are_coefficients()
     ensures values { StagesAreCoefficients }
+    ensures whole { PlainBlocksCarryTheWhole }
     ensures cut { CutLosesNothing }
 {}
 

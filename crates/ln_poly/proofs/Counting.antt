@@ -21,7 +21,7 @@ use Rattle.ln_poly.specs.Ready.{Expands}
 use Rattle.ln_poly.proofs.Collected.{collected}
 
 -- the exponents of the terms
-abbrev vectors : List Term → List (List ℕ)
+abbrev pub vectors : List Term → List (List ℕ)
 vectors f = map (λ t. t.exponents) f
 
 -- each factor differs from 0
@@ -51,7 +51,8 @@ in-nonzero (t ∷ f) m c z (inr i) e = by_case (in-nonzero f m c.1 z.1 i) (same_
   by_case ih true q = lacks-not_in f t.exponents c.0 (let g : t.exponents ≡ m = same_vector-is t.exponents m q in rw g i)
   by_case ih false q = let w : pos 0 +ℤ factor_at f m ≡ pos 0 = rw q at e in ih (omega (arith, ints, w))
 
-nonzero-in : (f : List Term) (m : List ℕ) → factor_at f m ≢ pos 0 → In (vectors f) m
+-- a vector whose coefficient isn't 0 is one of a term
+pub nonzero-in : (f : List Term) (m : List ℕ) → factor_at f m ≢ pos 0 → In (vectors f) m
 nonzero-in [] m h = absurd (h refl)
 nonzero-in (t ∷ f) m h = by_case (nonzero-in f m) (same_vector t.exponents m) refl where
   by_case : ((factor_at f m ≢ pos 0) → In (vectors f) m) → (b : Bool) → same_vector t.exponents m ≡ b → In (vectors (t ∷ f)) m
@@ -99,7 +100,8 @@ remove-in m k (y ∷ ys) d i = by_case (remove-in m k ys d) (same_vector y m) re
   by_case ih false q (inl e) = inl e
   by_case ih false q (inr j) = inr (ih j)
 
-distinct-length : (xs ys : List (List ℕ)) → AreDistinct xs → ((m : List ℕ) → In xs m → In ys m) → length xs ≤ length ys
+-- where each member of one list of different vectors is in another, it is no longer
+pub distinct-length : (xs ys : List (List ℕ)) → AreDistinct xs → ((m : List ℕ) → In xs m → In ys m) → length xs ≤ length ys
 distinct-length [] ys d h = omega arith
 distinct-length (x ∷ xs) ys d h =
     let r : length xs ≤ length (remove x ys) = distinct-length xs (remove x ys) d.1 (λ m i. remove-in x m ys (λ e. d.0 (let j : In xs m = i in rw e at j)) (h m (inr i))) in

@@ -5,6 +5,7 @@ use Rattle.ln_tree.specs.Exps.{vector}
 use Rattle.ln_stage.specs.Lists.{covering}
 use Rattle.ln_compile.proofs.DerivingLemmas.{derivative-degrees, derivative-few, derivative-light}
 use Rattle.ln_compile.proofs.MakingLemmas.{derivative-made, derivative-ops, no-costs, of-sites}
+use Rattle.ln_compile.proofs.SmallBlocks.{derivative-pushes}
 use Rattle.ln_compile.proofs.blocks.derivative_block.Goals as goal
 
 pub nest-requires-clause-degrees : goal.nest-requires-clause-degrees
@@ -21,6 +22,8 @@ returns-clause-block c =
     let b = c.in_ok-block.ensures in
     let o = of-sites c.args.s.now.vars c.args.a.now c.in_ok-h.ensures.rising c.requires.exps c.requires.sites in
     derivative-made c.args.s.now.vars c.args.f.now c.in_ok-h.h c.args.a.now _ (typed c.in_ok-t.t) c.in_ok-block.block c.in_ok-h.ensures.derivative c.new.ensures b.exps o b.rules c.in_ok-t.ensures.same b.root
+    (derivative-pushes c.args.s.now.vars c.args.f.now c.in_ok-h.h c.args.a.now _ (typed c.in_ok-t.t) c.in_ok-block.block c.in_ok-h.ensures.derivative c.requires.terms c.new.ensures c.in_ok-t.ensures.lean b.nodes)
+    c.in_ok-t.ensures.exact b.nodes
 
 pub returns-clause-few : goal.returns-clause-few
 returns-clause-few c =

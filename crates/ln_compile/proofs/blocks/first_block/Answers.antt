@@ -3,6 +3,7 @@ use Rattle.ln_bound.proofs.SoundLaws.{are_sound_say, is_sound_says}
 use Rattle.ln_bound.specs.Sound.{AreSound, Sound}
 use Rattle.ln_bound.specs.View.{typed}
 use Rattle.ln_compile.proofs.MakingLemmas.{own-carries, own-made}
+use Rattle.ln_compile.proofs.SmallBlocks.{own-pushes}
 use Rattle.ln_compile.proofs.blocks.first_block.Goals as goal
 
 pub lower-requires-clause-lets : goal.lower-requires-clause-lets
@@ -25,8 +26,10 @@ returns-clause-own c =
     own-made c.args.p.now s.lets s.root c.in_ok-block.block _ c.new.ensures b.exps e.lets e.root e.exact_lets e.exact_root b.nodes
 
 pub returns-clause-block : goal.returns-clause-block
-returns-clause-block c = λ f h.
+returns-clause-block c = λ f h few.
     let s = c.in_ok-sized.sized in
     let e = c.in_ok-sized.ensures in
     let b = c.in_ok-block.ensures in
     own-carries c.args.p.now s.lets s.root c.in_ok-block.block _ f c.new.ensures b.exps e.lets e.root b.rules b.root h
+    (own-pushes c.args.p.now s.lets s.root e.lets e.root c.requires.light few c.in_ok-block.block b.nodes)
+    (own-made c.args.p.now s.lets s.root c.in_ok-block.block _ c.new.ensures b.exps e.lets e.root e.exact_lets e.exact_root b.nodes)

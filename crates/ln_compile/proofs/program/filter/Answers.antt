@@ -1,4 +1,5 @@
 use Rattle.ln_compile.proofs.MakingLemmas.{filter-carries, filter-of}
+use Rattle.ln_compile.proofs.SmallBlocks.{filter-pushes}
 use Rattle.ln_compile.proofs.program.filter.Goals as goal
 
 pub returns-clause-filter : goal.returns-clause-filter
@@ -19,3 +20,10 @@ returns-clause-whole c = λ f h.
     let rules = rw e.shape at c.in_ok-filter.ensures.rules in
     let whole = rw e.shape at c.in_ok-filter.ensures.whole in
     filter-carries c.args.p.now s.lets s.root c.in_ok-filter.filter f e.lets e.root rules whole h
+
+pub returns-clause-pushes : goal.returns-clause-pushes
+returns-clause-pushes c = λ few.
+    let s = c.in_ok-sized.sized in
+    let e = c.in_ok-sized.ensures in
+    let nodes = rw e.shape at c.in_ok-filter.ensures.nodes in
+    filter-pushes c.args.p.now s.lets s.root e.lets e.root c.requires.light few c.in_ok-filter.filter nodes
