@@ -110,6 +110,7 @@ verdicts-due rank p e f row Decided v program carries r (c, left, here, a, above
       sign = subst (λ (t : Sign). RowSign rank p.shape.vars e row (sign_number t)) s (decided-sign rank p e f row.values (row_sites p.shape.vars row.index) c left program (rows-differ p.shape row r) carries r.values here a above);
       by = ap (λ (w : Verdict). w.by) (sym q);
       calls = ap (λ (w : Verdict). w.calls) (sym q);
+      wide = ap (λ (w : Verdict). w.wide) (sym q);
     }
 
 -- a filter decides on a row in range, or it doesn't, or there is none

@@ -49,11 +49,12 @@ pub record IsOwedByStages (rank : Rank) (vars : List VarInfo) (e : Tree) (row : 
   pub decided : DecidesRow rank vars e row list v.by blocks
   pub calls : v.calls ≡ entered + blocks
 
--- what the filter owes a row on which it decides: the perturbed sign, and one call
+-- what the filter owes a row on which it decides: the perturbed sign by one call, with no operation in 128 bits
 pub record IsOwedByFilter (rank : Rank) (vars : List VarInfo) (e : Tree) (row : Row) (v : Verdict) : Type 0 where
   pub sign : RowSign rank vars e row (sign_number v.sign)
   pub by : v.by ≡ Filter
   pub calls : v.calls ≡ 1
+  pub wide : v.wide ≡ 0
 
 -- what a filter does on a row: there is none, it decides, or it leaves the row to the stages
 pub data Filtering : Type 0 where
