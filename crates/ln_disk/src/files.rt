@@ -8,23 +8,34 @@ use ln_base::{Failed, Files};
 use std::io::{ErrorKind, Read};
 use std::{fs, rt};
 
-// A file by its name, of which the bytes before `at` are read.
+// How long a name may be. The system opens no file by a longer one.
+const LONGEST: usize = 4_096;
+
+// A file by its name, of which the bytes before `at` are read. The name stands in place, so that a read takes no memory.
 #[derive(Drop)]
 struct Open<T> {
-    name: String,
+    name: [u8; LONGEST],
+    len: usize,
     file: T,
     at: u64,
 }
 
+impl<T> Open<T> {
+    // Whether the next byte is that of this file at this place.
+    fn is_at(&self, name: &str, at: u64) -> bool {
+        self.at == at && self.name.get(..self.len) == Some(name.as_bytes())
+    }
+}
+
 /// The files of a runtime. The last file stays open, so that reads one behind the other go through it once.
 #[derive(Drop)]
-pub struct DiskFiles<'a, R: rt::Files + AllocGlobal> {
+pub struct DiskFiles<'a, R: rt::Files> {
     rt: &'a R,
     open: Option<Open<R::File>>,
     pub(crate) faults: u64,
 }
 
-impl<'a, R: rt::Files + AllocGlobal> DiskFiles<'a, R> {
+impl<'a, R: rt::Files> DiskFiles<'a, R> {
     /// The files of this runtime, none of them open and no fault counted.
     pub fn new(rt: &'a R) -> Self
         ensures { result.faults ≡ 0 }
@@ -71,27 +82,27 @@ fn skip<T: Read>(file: &mut T, count: u64) -> Result<(), Failed>
 }
 
 // Opens a file and reads past what stands before the place.
-fn open_at<R: rt::Files + AllocGlobal>(
-    rt: &R,
-    name: &str,
-    at: u64,
-) -> Result<Open<R::File>, Failed> {
-    let Ok(own) = String::from_str(rt.alloc(), name) else {
+fn open_at<R: rt::Files>(rt: &R, name: &str, at: u64) -> Result<Open<R::File>, Failed> {
+    let len = name.len();
+    if len > LONGEST {
         return Err(Failed);
-    };
+    }
+    let mut own = [0u8; LONGEST];
+    own[..len].copy_from_slice(name.as_bytes());
     let Ok(mut file) = fs::open(rt, name) else {
         return Err(Failed);
     };
     skip(&mut file, at)?;
     Ok(Open {
         name: own,
+        len,
         file,
         at,
     })
 }
 
 // Reads on in the file that is open, where the call fits its name and place, and else opens it anew.
-fn read_from<R: rt::Files + AllocGlobal>(
+fn read_from<R: rt::Files>(
     rt: &R,
     open: &mut Option<Open<R::File>>,
     name: &str,
@@ -101,7 +112,7 @@ fn read_from<R: rt::Files + AllocGlobal>(
     ensures { ReadsAtMost result buf.new }
 {
     let mut now = match open.take() {
-        Some(held) if held.at == at && held.name.as_str() == name => held,
+        Some(held) if held.is_at(name, at) => held,
         _ => open_at(rt, name, at)?,
     };
     let n = read_once(&mut now.file, buf)?;
@@ -112,7 +123,7 @@ fn read_from<R: rt::Files + AllocGlobal>(
     Ok(n)
 }
 
-impl<R: rt::Files + AllocGlobal> Files for DiskFiles<'_, R> {
+impl<R: rt::Files> Files for DiskFiles<'_, R> {
     ghost told = { λ _. None };
 
     ghost faults = { λ d. d.faults };

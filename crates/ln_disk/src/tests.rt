@@ -44,8 +44,7 @@ fn a_long_file_is_read_whole_however_short_its_reads(rt: HostRuntime) -> Result<
                 interrupted,
             },
         };
-        let disk = (shelf, alloc);
-        let mut files = DiskFiles::new(&disk);
+        let mut files = DiskFiles::new(&shelf);
         let whole = read_whole(alloc, &mut files, "rows.csv", 200_000)?;
         assert!(rt; whole.len() == 200_000);
         assert!(rt; wrong_from("rows.csv", 0, &whole) == 0);
@@ -58,7 +57,6 @@ fn a_long_file_is_read_whole_however_short_its_reads(rt: HostRuntime) -> Result<
 
 #[test]
 fn a_file_is_read_from_any_place(rt: HostRuntime) -> Result<(), Fail> {
-    let alloc = rt.alloc();
     let mut buf = [0u8; 9];
     for most in [0, 1, 63, 4_000, 4_095, 4_096] {
         let shelf = Shelf {
@@ -69,8 +67,7 @@ fn a_file_is_read_from_any_place(rt: HostRuntime) -> Result<(), Fail> {
                 interrupted: true,
             },
         };
-        let disk = (shelf, alloc);
-        let mut files = DiskFiles::new(&disk);
+        let mut files = DiskFiles::new(&shelf);
         for at in [0, 1, 4_095, 4_096, 4_097, 8_192, 65_536, 70_000, 199_998, 0] {
             let n = files.read_at("a", at as u64, &mut buf).unwrap_or(0);
             assert!(rt; n > 0 && wrong_from("a", at, &buf[..n]) == 0);
@@ -105,14 +102,11 @@ fn a_file_on_the_disk_is_read(rt: HostRuntime) -> Result<(), Fail> {
 #[test]
 fn a_name_of_any_length_is_the_name_of_its_file(rt: HostRuntime) -> Result<(), Fail> {
     let alloc = rt.alloc();
-    let disk = (
-        Shelf {
-            len: 600,
-            habit: QUICK,
-        },
-        alloc,
-    );
-    let mut files = DiskFiles::new(&disk);
+    let shelf = Shelf {
+        len: 600,
+        habit: QUICK,
+    };
+    let mut files = DiskFiles::new(&shelf);
     let mut name = String::new(alloc);
     let mut half = [0u8; 300];
     for i in 0..255u32 {
@@ -128,7 +122,6 @@ fn a_name_of_any_length_is_the_name_of_its_file(rt: HostRuntime) -> Result<(), F
 
 #[test]
 fn a_read_that_fails_is_a_counted_fault(rt: HostRuntime) -> Result<(), Fail> {
-    let alloc = rt.alloc();
     let mut buf = [0u8; 100];
     for fails in 1..=3 {
         let shelf = Shelf {
@@ -139,8 +132,7 @@ fn a_read_that_fails_is_a_counted_fault(rt: HostRuntime) -> Result<(), Fail> {
                 interrupted: false,
             },
         };
-        let disk = (shelf, alloc);
-        let mut files = DiskFiles::new(&disk);
+        let mut files = DiskFiles::new(&shelf);
         assert!(rt; files.read_at("a", 8_100, &mut buf) == Err(Failed));
         assert!(rt; files.faults == 1);
         // reads one behind the other go through one file, whose read number `fails` fails

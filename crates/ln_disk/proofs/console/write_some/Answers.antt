@@ -1,4 +1,4 @@
-use Rattle.std.proofs.Common.{arith, rules, length-drop}
+use Rattle.std.proofs.Common.{arith, length-drop}
 use Rattle.ln_disk.proofs.FlowLemmas.{writes_more}
 use Rattle.ln_disk.proofs.console.write_some.Goals as goal
 

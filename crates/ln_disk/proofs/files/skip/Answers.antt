@@ -1,4 +1,4 @@
-use Rattle.std.proofs.Common.{rules, arith, ◌≡◌, ◌≤◌, ◌-◌, length, take, length-take-le}
+use Rattle.std.proofs.Common.{rules, arith, ◌≤◌, ◌-◌, length, take, length-take-le}
 use Rattle.ln_disk.proofs.FlowLemmas.{passes_more}
 use Rattle.ln_disk.proofs.files.skip.Goals as goal
 
