@@ -1,9 +1,8 @@
 -- Two files are the same up to lines exactly where their flat files are one.
-use Rattle.std.proofs.Common.{◌≡◌, ℕ, Bool, List, [], ◌∷◌, refl, ap, sym, ◌∙◌, subst}
+use Rattle.std.proofs.Common.{◌≡◌, List, [], ◌∷◌, refl, ap, sym, ◌∙◌, subst}
 use Rattle.ln_csyn.specs.Tree.{Body, End, Decl, Group, If, Return, Fun}
 use Rattle.ln_csyn.specs.Lines.{SameBody, SameFun, SameUpToLines, end, decl, group, when, return, none, one}
 use Rattle.ln_csyn.specs.Spelling.{flat, flat_fun, flat_file}
-use Rattle.ln_csyn.specs.Text.{CText}
 use Rattle.ln_csyn.specs.Laws.{FlatIsSame, ReadBack}
 use Rattle.ln_csyn.proofs.Scanned.{one_text}
 

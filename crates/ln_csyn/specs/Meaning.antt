@@ -185,7 +185,7 @@ abbrev pub runs : Scene → List Seen → Body → Counts → Outcome
 runs s ds End k = Went k
 runs s ds (Decl l t x e rest) k =
     wanted l t (value_of s (record { name = x; kind = t; number = None } ∷ ds) e k)
-      (λ z j. runs s (record { name = x; kind = t; number = Some z } ∷ ds) rest j)
+    (λ z j. runs s (record { name = x; kind = t; number = Some z } ∷ ds) rest j)
 runs s ds (Group l b rest) k = then_on (runs s ds b k) (λ j. runs s ds rest j)
 runs s ds (If l e b rest) k =
     wanted l Int (value_of s ds e k) (λ z j. if is_zero z then runs s ds rest j else then_on (runs s ds b j) (λ i. runs s ds rest i))
