@@ -19,5 +19,7 @@ pub use infinitesimals::{
 };
 pub use order::Order;
 pub use orders::{all_orders, orders_are_all};
-pub use prefix::{all_prefixes, fronts_are_prefixes, fronts_follow, prefix_number, prefixes_are_all};
+pub use prefix::{
+    all_prefixes, fronts_are_prefixes, fronts_follow, prefix_number, prefixes_are_all,
+};
 pub use rank::order_of;
