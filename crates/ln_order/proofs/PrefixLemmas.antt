@@ -2,19 +2,15 @@
 use Rattle.std.proofs.Common.{◌≡◌, ◌⊎◌, inl, inr, ℕ, zero, suc, ◌+◌, ◌*◌, ◌-◌, ◌<◌, ◌≤◌, Bool, true, false, cond, eqb, eq-eqb, List, [], ◌∷◌, length, map, get_or, take, drop, refl, sym, ◌∙◌, ap, arith, add-one, drop-cons, Option, Some, None, ◌&&◌}
 use Rattle.std.specs.Prelude.{Contains, nat_lt, slice_get}
 use Rattle.std.specs.Cmp.Lexicographic.{slice_cmp}
-use Rattle.std.specs.List.{AllByRecursion}
-use Rattle.std.specs.List.Sorted.{IsStrictlySortedBy}
 use Rattle.std.specs.Ordering.{nat_cmp}
-use Rattle.std.specs.declared.cmp.Ordering.{Ordering}
-use Rattle.std.specs.declared.cmp.Ordering.TheVariants.{Less, Equal, Greater}
+use Rattle.std.specs.declared.cmp.Ordering.TheVariants.{Equal}
 use Rattle.std.proofs.lemmas.Bool.{and_parts, cases_lt, eqb-true}
 use Rattle.std.proofs.lemmas.Bool.Decides.{nat_tests}
-use Rattle.std.proofs.lemmas.List.{get_or-map, length-map, same_lists, take-map}
-use Rattle.std.proofs.lemmas.List.Elements.{Contains-append_left, Contains-append_right, Contains-append_cases}
+use Rattle.std.proofs.lemmas.List.{length-map, take-map}
 use Rattle.std.proofs.lemmas.Option.{slice_get_within}
 use Rattle.ln_algebra.specs.Vector.{same_vector}
 use Rattle.ln_order.specs.Order.{ArePlaces}
-use Rattle.ln_order.specs.Orders.{IsOrderOf, behind, firsts, orders_of, past, smaller_behind}
+use Rattle.ln_order.specs.Orders.{IsOrderOf, behind, orders_of, past, smaller_behind}
 use Rattle.ln_order.proofs.OrdersLemmas.{are_sorted, are_sorted_is, back, before_all, behind-back, behind-places, firsts-are, in-firsts, is-member, is_less, member-is, others-places}
 use Rattle.ln_order.specs.Prefixes.{Follows, FrontsFollow, FrontsArePrefixes, IsPrefixOf, PrefixesAreAll, beside, number_of_front, prefixes_of, tree_size}
 
@@ -173,8 +169,10 @@ some_same x y e = cc
 pub fronts-are-prefixes : FrontsArePrefixes
 fronts-are-prefixes k i j o u few p q h l = (
   front_small k o i few p h,
-  (λ e. some_same (take i o) (take j u) (sym (front_number k o i few p h) ∙ ap (slice_get (prefixes_of k)) e ∙ front_number k u j few q l),
-  λ e. one_place (prefixes_of k) (take j u) (number_of_front o i) (number_of_front u j) (sorted_all k few) (front_number k o i few p h ∙ ap (λ z. Some z) e) (front_number k u j few q l)),
+  (
+    λ e. some_same (take i o) (take j u) (sym (front_number k o i few p h) ∙ ap (slice_get (prefixes_of k)) e ∙ front_number k u j few q l),
+    λ e. one_place (prefixes_of k) (take j u) (number_of_front o i) (number_of_front u j) (sorted_all k few) (front_number k o i few p h ∙ ap (λ z. Some z) e) (front_number k u j few q l),
+  ),
 )
 
 -- ---- steps of the loop

@@ -1,9 +1,8 @@
 -- The segments of all prefixes, one after the other.
-use Rattle.std.proofs.Common.{◌≡◌, ◌⊎◌, inl, inr, ℕ, zero, suc, ◌+◌, ◌-◌, ◌*◌, ◌<◌, ◌≤◌, Bool, List, [], ◌∷◌, ◌++◌, append_assoc, length, length-append, map, get_or, take, drop, refl, sym, ◌∙◌, ap, subst, arith}
+use Rattle.std.proofs.Common.{◌≡◌, ◌⊎◌, inl, inr, ℕ, suc, ◌+◌, ◌-◌, ◌*◌, ◌<◌, ◌≤◌, Bool, List, [], ◌∷◌, ◌++◌, append_assoc, length, length-append, map, get_or, take, drop, refl, sym, ◌∙◌, ap, subst, arith}
 use Rattle.std.specs.List.{range_with_len}
 use Rattle.std.specs.Prelude.{Some, slice_get}
-use Rattle.std.proofs.Math.Nat.{add-mul}
-use Rattle.std.proofs.lemmas.List.{append-nil, drop-map, drop_all, drop_more, get_or-map, length-map}
+use Rattle.std.proofs.lemmas.List.{append-nil, drop-map, drop_all, drop_more}
 use Rattle.std.proofs.lemmas.Option.{slice_get-get_or, slice_get_within}
 use Rattle.ln_tree.specs.declared.shape.VarInfo.{VarInfo}
 use Rattle.ln_order.specs.declared.front.Front.{Front}
@@ -12,7 +11,7 @@ use Rattle.ln_order.specs.Fronts.{front_places}
 use Rattle.ln_order.specs.Orders.{orders_of}
 use Rattle.ln_order.specs.Places.{order_places}
 use Rattle.ln_order.specs.Prefixes.{IsPrefixOf, beside, joined, prefixes_of, segments_from}
-use Rattle.ln_order.proofs.FrontLemmas.{front-is-prefix, prefix-size}
+use Rattle.ln_order.proofs.FrontLemmas.{front-is-prefix}
 use Rattle.ln_order.proofs.OrdersLemmas.{sizes_are}
 use Rattle.ln_order.proofs.PrefixLemmas.{beside_at, fronts-follow}
 use Rattle.ln_poly.specs.Sparse.{Sparse}

@@ -1,5 +1,5 @@
 -- The segments and lists that are found are the stages.
-use Rattle.std.proofs.Common.{◌≡◌, ◌⊎◌, inl, inr, Bool, false, ℕ, zero, suc, ◌+◌, ◌-◌, ◌<◌, ◌≤◌, true, List, [], ◌∷◌, length, map, get_or, take, ◌++◌, append_assoc, refl, sym, ◌∙◌, ap, subst, arith, if◌then◌else◌}
+use Rattle.std.proofs.Common.{◌≡◌, ◌⊎◌, inl, inr, Bool, false, ℕ, zero, suc, ◌+◌, ◌-◌, ◌<◌, ◌≤◌, true, List, [], ◌∷◌, length, map, get_or, take, ◌++◌, refl, sym, ◌∙◌, ap, subst, arith, if◌then◌else◌}
 use Rattle.std.specs.Prelude.{◌↔◌, All, Contains, IsTrue, Some, slice_get}
 use Rattle.std.proofs.lemmas.List.{append-nil, get_or-map, length-map, map-append}
 use Rattle.std.proofs.lemmas.List.Elements.{All-append, All-cons, All-head, All-nil, All-tail, Contains-get_or}
@@ -23,9 +23,9 @@ use Rattle.ln_stage.specs.FirstSight.{last_walk, list_along, prefix_walk, shared
 use Rattle.ln_stage.specs.Kept.{all_rows, list_of, listed, numbers_by, rows, tallied_by}
 use Rattle.ln_stage.specs.Lists.{AreStageLists, Passes, all_covering, all_seen_behind, first_seen, stage_count, stage_weight}
 use Rattle.ln_stage.specs.Segments.{AreSegments, IsSegmentOf}
-use Rattle.ln_stage.specs.SiteWalk.{front_walk, prefix_walks, site_walk, site_walks}
+use Rattle.ln_stage.specs.SiteWalk.{prefix_walks, site_walk, site_walks}
 use Rattle.ln_stage.specs.StageList.{IsStageListOf}
-use Rattle.ln_stage.specs.Staged.{AreSegmentsOf, AreStagesOf, Staged, StopsListing, block_vector, count_numbers, segment_of, vectors_of}
+use Rattle.ln_stage.specs.Staged.{AreStagesOf, Staged, StopsListing, block_vector, count_numbers, vectors_of}
 use Rattle.ln_stage.specs.Tally.{IsOver as IsPast, IsStoppedBy, Tallied, pairs_of}
 use Rattle.ln_stage.specs.Visit.{segment_at}
 use Rattle.ln_stage.specs.declared.stop.StageStop.{StageStop}

@@ -1,7 +1,7 @@
 -- One prefix: what is listed there is its segment.
 use Rattle.std.proofs.Common.{◌≡◌, ◌⊎◌, inl, inr, ℕ, zero, suc, ◌+◌, ◌-◌, ◌<◌, ◌≤◌, Bool, true, false, List, [], ◌∷◌, ◌++◌, length, length-append, get_or, set, take, drop, refl, sym, ◌∙◌, ap, subst, arith}
 use Rattle.std.specs.List.{range_with_len}
-use Rattle.std.proofs.lemmas.List.{get_or-set_other, get_or-set_same, length-take, take-append-drop, take_all, take_more}
+use Rattle.std.proofs.lemmas.List.{get_or-set_other, get_or-set_same, take-append-drop, take_all, take_more}
 use Rattle.std.proofs.lemmas.Bool.{cases_lt}
 use Rattle.std.proofs.Math.Seq.{drop-append_seam, take-append_seam}
 use Rattle.ln_algebra.specs.Vector.{zeros}
@@ -12,9 +12,9 @@ use Rattle.ln_tree.specs.Variables.{is_laid_out}
 use Rattle.ln_order.specs.Prefixes.{Follows, IsPrefixOf}
 use Rattle.ln_order.specs.Sites.{ranking_of, sites_of, vars_of}
 use Rattle.ln_order.proofs.RankingLemmas.{ranking-is}
-use Rattle.ln_poly.specs.Sparse.{AreBelow, AreRising, Sparse}
+use Rattle.ln_poly.specs.Sparse.{Sparse}
 use Rattle.ln_stage.specs.FirstSight.{last_walk, prefix_walk}
-use Rattle.ln_stage.specs.Kept.{AreFresh, IsStep, all_rows, listed, listed_at, listed_behind, rows, tail}
+use Rattle.ln_stage.specs.Kept.{AreFresh, all_rows, listed, listed_at, listed_behind, rows, tail}
 use Rattle.ln_stage.specs.SiteWalk.{front_walk, site_walk, unless_cut}
 use Rattle.ln_stage.specs.Visit.{AreCuts, AreCutsFor, cut_before, cut_in, is_cut_at, segment_at}
 use Rattle.ln_stage.specs.Tally.{Tallied, see_all}

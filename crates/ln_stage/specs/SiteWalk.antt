@@ -1,8 +1,8 @@
 -- The walk by prefixes: each prefix is visited once, and what it lists is its segment.
-use Rattle.std.specs.Prelude.{◌≡◌, ℕ, true, false, List, [], ◌∷◌, ◌++◌, length, if◌then◌else◌}
+use Rattle.std.specs.Prelude.{◌≡◌, ℕ, true, List, [], ◌∷◌, ◌++◌, length, if◌then◌else◌}
 use Rattle.std.proofs.Common.{suc}
 use Rattle.ln_algebra.specs.Vector.{zeros}
-use Rattle.ln_algebra.specs.Walk.{Found, before, steps, walk}
+use Rattle.ln_algebra.specs.Walk.{Found, walk}
 use Rattle.ln_tree.specs.declared.shape.VarInfo.{VarInfo}
 use Rattle.ln_tree.specs.Variables.{is_laid_out}
 use Rattle.ln_order.specs.Orders.{IsOrderOf}

@@ -1,7 +1,7 @@
 use Rattle.std.proofs.Common.{ap, arith, length, take}
 use Rattle.ln_order.specs.Places.{order_places}
 use Rattle.ln_order.specs.Prefixes.{beside, prefixes_of}
-use Rattle.ln_stage.proofs.ListedLemmas.{list-all, list-more-is, read-is}
+use Rattle.ln_stage.proofs.ListedLemmas.{list-more-is, read-is}
 use Rattle.ln_stage.proofs.lists.list.Goals as goal
 
 pub prefixes-preserved : goal.prefixes-preserved

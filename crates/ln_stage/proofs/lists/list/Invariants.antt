@@ -1,4 +1,4 @@
-use Rattle.std.proofs.Common.{◌≡◌, ◌++◌, length, take}
+use Rattle.std.proofs.Common.{◌≡◌, ◌++◌, length}
 use Rattle.ln_order.specs.Places.{order_places}
 use Rattle.ln_order.specs.Prefixes.{beside, prefixes_of, segments_from}
 use Rattle.ln_stage.proofs.lists.list.Given as goal

@@ -1,4 +1,4 @@
-use Rattle.std.proofs.Common.{◌≡◌, ◌∙◌, ◌⊎◌, ◌+◌, ◌-◌, ◌<◌, ◌*◌, ℕ, List, [], ap, arith, drop, length, map}
+use Rattle.std.proofs.Common.{◌∙◌, ◌+◌, ◌-◌, ◌<◌, ◌*◌, ap, arith, drop, length, map}
 use Rattle.std.proofs.lemmas.Result.{err_from_is_err_and}
 use Rattle.ln_order.proofs.FrontLemmas.{prefix-size}
 use Rattle.ln_order.proofs.SitesLemmas.{kept}

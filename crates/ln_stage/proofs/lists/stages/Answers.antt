@@ -1,4 +1,4 @@
-use Rattle.std.proofs.Common.{◌≡◌, ◌∙◌, ◌<◌, ℕ, List, [], ap, length, map, sym}
+use Rattle.std.proofs.Common.{◌≡◌, ◌∙◌, [], ap, length, sym}
 use Rattle.std.proofs.lemmas.Result.{err_from_is_err_and}
 use Rattle.ln_order.proofs.SitesLemmas.{kept}
 use Rattle.ln_order.specs.Prefixes.{prefixes_of}
