@@ -38,10 +38,10 @@ fn count(rt: &impl Abort, c: &Compiled) -> u64 {
 #[test]
 fn the_orientation_is_compiled_and_found(rt: HostRuntime) -> Result<(), Fail> {
     let c = compiled(&rt, rt.alloc(), ORIENT)?;
-    assert_eq!(rt; c.programs().as_slice().len(), 1);
-    assert_eq!(rt; c.find("orient"), Some(0));
-    assert_eq!(rt; c.find("x"), None);
-    assert_eq!(rt; count(&rt, &c), 30);
+    assert!(rt; c.programs().as_slice().len() == 1);
+    assert!(rt; c.find("orient") == Some(0));
+    assert!(rt; c.find("x") == None);
+    assert!(rt; count(&rt, &c) == 30);
     Ok(())
 }
 
@@ -50,7 +50,7 @@ fn a_difference_of_squares_has_six_stages(rt: HostRuntime) -> Result<(), Fail> {
     let source =
         "site num { t: -10 .. 10; }\npredicate s(a: num, b: num) { sign a.t^2 - b.t^2; }\n";
     let c = compiled(&rt, rt.alloc(), source)?;
-    assert_eq!(rt; count(&rt, &c), 6);
+    assert!(rt; count(&rt, &c) == 6);
     Ok(())
 }
 
@@ -58,10 +58,7 @@ fn a_difference_of_squares_has_six_stages(rt: HostRuntime) -> Result<(), Fail> {
 fn a_predicate_without_a_sign_is_refused_at_its_name(rt: HostRuntime) -> Result<(), Fail> {
     let source = "site point { x: 0 .. 9; }\npredicate none(p: point) { sign p.x - p.x; }\n";
     let at = Span { start: 36, end: 40 };
-    assert_eq!(rt;
-        compiled(&rt, rt.alloc(), source).err(),
-        Some(Refusal::Zero(0, at))
-    );
+    assert!(rt; compiled(&rt, rt.alloc(), source).err() == Some(Refusal::Zero(0, at)));
     Ok(())
 }
 
@@ -74,10 +71,7 @@ predicate big(a: num, b: num, c: num, d: num) { sign a.t*b.t + c.t*d.t; }
         start: 122,
         end: 123,
     };
-    assert_eq!(rt;
-        compiled(&rt, rt.alloc(), source).err(),
-        Some(Refusal::Bound(0, at))
-    );
+    assert!(rt; compiled(&rt, rt.alloc(), source).err() == Some(Refusal::Bound(0, at)));
     Ok(())
 }
 
@@ -87,7 +81,7 @@ fn a_sum_of_products_is_just_light_enough(rt: HostRuntime) -> Result<(), Fail> {
 predicate big(a: num, b: num, c: num, d: num) { sign a.t*b.t + c.t*d.t; }
 ";
     let c = compiled(&rt, rt.alloc(), source)?;
-    assert_eq!(rt; count(&rt, &c), 112);
+    assert!(rt; count(&rt, &c) == 112);
     Ok(())
 }
 

@@ -10,10 +10,21 @@ const ORIENT: &str = "site point { x: -1000 .. 1000; y: -1000 .. 1000; }
 predicate orient(p: point, q: point, r: point) { sign (p.x - r.x)*(q.y - r.y) - (p.y - r.y)*(q.x - r.x); }
 ";
 
-// The filter leaves 2^27 on the second row of its test, and 0 on the first, with an error of 7.
+// The filter's error is 7.
 const WIDE: &str =
     "site point { x: -1099511627776 .. 1099511627776; y: -1099511627776 .. 1099511627776; }
 predicate orient(p: point, q: point, r: point) { sign (p.x - r.x)*(q.y - r.y) - (p.y - r.y)*(q.x - r.x); }
+";
+
+// The filter leaves 0, 2^27, 6, 7, 8, -7 and -8.
+const NEAR_ITS_ERROR: &str = "p,p.x,p.y,q,q.x,q.y,r,r.x,r.y
+1,0,0,2,1,0,3,0,1
+1,0,0,2,1099511627776,0,3,0,1099511627776
+1,805306368,0,2,0,67108864,3,0,0
+1,939524096,0,2,0,67108864,3,0,0
+1,1073741824,0,2,0,67108864,3,0,0
+1,-939524096,0,2,0,67108864,3,0,0
+1,-1073741824,0,2,0,67108864,3,0,0
 ";
 
 const FAR: &str = "site num { t: -10 .. 10; } predicate far(a: num) { sign a.t - 4294967297; }";
@@ -149,8 +160,8 @@ fn powers_lets_minus_and_params_are_evaluated(rt: HostRuntime) -> Result<(), Fai
         (
             WIDE,
             "orient",
-            "p,p.x,p.y,q,q.x,q.y,r,r.x,r.y\n1,0,0,2,1,0,3,0,1\n1,0,0,2,1099511627776,0,3,0,1099511627776\n",
-            "+ 0\n+ F\n",
+            NEAR_ITS_ERROR,
+            "+ 0\n+ F\n+ 0\n+ 0\n+ F\n- 0\n- F\n",
             Status::Done,
         ),
         (
