@@ -18,3 +18,5 @@ pub mod Together
 pub mod WorkedLaws
 pub mod Behind
 pub mod Same
+pub mod Filtering
+pub mod Machine

@@ -8,6 +8,8 @@ pub mod Part
 pub mod Lists
 pub mod Verdict
 pub mod Kept
+pub mod Carried
+pub mod MachineLaw
 pub mod Pushes
 pub mod Nodes
 pub mod Errors

@@ -1,5 +1,6 @@
-//! What the rules promise.
+//! What the rules promise, and the machine on rows in range.
 ghost use Rattle.ln_code.specs.Law.{BlocksMean, FiltersMean};
+ghost use Rattle.ln_code.specs.MachineLaw.{ListsAreStageLists, ProgramsRun, RowsHaveVerdicts, VerdictIsUnique};
 
 /// On every row in range a block that follows the rules has an answer, the value of the expression that it carries, and so each
 /// of its values stays within its bound and its width; a filter that follows them leaves a number near the value, and above its
@@ -7,4 +8,19 @@ ghost use Rattle.ln_code.specs.Law.{BlocksMean, FiltersMean};
 pub fn rules_keep_values()
     ensures blocks { BlocksMean }
     ensures filters { FiltersMean }
+{}
+
+/// The machine of a part whose blocks and filter follow the rules has exactly one verdict on every row in range. A program is such
+/// a part.
+///
+/// On it rests that a row is told one sign, one place and one number of calls.
+pub fn rows_have_one_verdict()
+    ensures programs { ProgramsRun }
+    ensures exists { RowsHaveVerdicts }
+    ensures unique { VerdictIsUnique }
+{}
+
+/// The lists of a part that carries an expression are its stage lists, one for each order of the sites.
+pub fn lists_are_stage_lists()
+    ensures { ListsAreStageLists }
 {}

@@ -6,6 +6,7 @@ use Rattle.std.proofs.lemmas.Bool.{cases_eq}
 use Rattle.std.proofs.lemmas.List.{length-map, take_all, take_more}
 use Rattle.std.proofs.lemmas.List.Elements.{All-cons, All-head, All-nil, All-tail}
 use Rattle.std.proofs.lemmas.List.Sums.{sum_by-cons}
+use Rattle.ln_algebra.proofs.Zeros.{derived-zeros}
 use Rattle.ln_algebra.proofs.Bounds.{weighted-derived}
 use Rattle.ln_algebra.proofs.Weights.{weighted-least}
 use Rattle.ln_algebra.specs.Terms.{Over, Term, binomials, covers, derived, factor_at, minus}
@@ -23,7 +24,6 @@ use Rattle.ln_poly.proofs.Merging.{above-none, exponent-push}
 use Rattle.ln_poly.proofs.Products.{length-vector, over-terms, vector-plus}
 use Rattle.ln_stage.specs.Lists.{covering}
 use Rattle.ln_compile.specs.Derived.{IsDerivative}
-use Rattle.ln_compile.proofs.CoefficientLemmas.{derived-zeros}
 use Rattle.ln_nest.specs.Lean.{HasNoZero}
 use Rattle.ln_compile.proofs.FewestLemmas.{EachHas, each-has, shortest}
 use Rattle.ln_compile.proofs.CombinedLemmas.{AreApart, combined, everywhere, once, once-derived, over-derived}

@@ -1,19 +1,22 @@
 -- What the filter of a predicate does on a row.
-use Rattle.std.proofs.Common.{◌≡◌, ◌⊎◌, inl, inr, ◌<◌, ◌≤◌, List, Option, Some, None, refl, sym, subst, arith, unsigned_abs}
+use Rattle.std.proofs.Common.{◌≡◌, ◌⊎◌, inl, inr, ◌<◌, ◌≤◌, List, length, Option, Some, None, refl, sym, subst, arith, unsigned_abs}
 use Rattle.std.proofs.lemmas.Bool.{cases_lt}
+use Rattle.ln_algebra.specs.Orders.{BySmallest}
 use Rattle.ln_tree.specs.declared.shape.VarInfo.{VarInfo}
 use Rattle.ln_tree.specs.Row.{InRange, Row}
 use Rattle.ln_tree.specs.Table.{PredOf}
+use Rattle.ln_poly.specs.Sparse.{terms_of}
 use Rattle.ln_code.specs.Exact.{Held}
 use Rattle.ln_code.specs.Part.{FilterCode, Part}
+use Rattle.ln_code.proofs.Machine.{programs-run}
+use Rattle.ln_due.specs.Due.{Filtering, NoFilter, Decided, Undecided, Due}
+use Rattle.ln_due.specs.DueLaw.{FilterDoes}
+use Rattle.ln_due.proofs.Composition.{verdicts-due}
+use Rattle.ln_due.proofs.UniqueLemmas.{due-unique}
 use Rattle.ln_filter.specs.Truncated.{root_number, root_triple}
 use Rattle.ln_compile.specs.Accepted.{lets_of, own_root, root_of}
 use Rattle.ln_compile.specs.Compiled.{IsFilterOf}
-use Rattle.ln_compile.specs.Due.{Filtering, NoFilter, Decided, Undecided, Due}
-use Rattle.ln_compile.specs.DueLaw.{FilterDoes}
 use Rattle.ln_compile.specs.Filtered.{Does, ProgramsAnswerDue, OneIsDue}
-use Rattle.ln_compile.proofs.Composition.{verdicts-due}
-use Rattle.ln_compile.proofs.UniqueLemmas.{due-unique}
 
 -- what the predicate's filter leaves on a row
 abbrev left_on : PredOf → Row → Held
@@ -32,7 +35,7 @@ pub programs_answer : ProgramsAnswerDue
 programs_answer p part row v k o range verdict =
     let there : InRange part.shape.sites part.shape.vars row = rw (o.sites, o.vars) range in
     let d = does_both p part row range part.filter refl o.filter in
-    record { filtering = d.0; does = d.1; due = subst (λ (vs : List VarInfo). Due d.0 vs (root_of p) row v) o.vars (verdicts-due part (root_of p) o.poly row d.0 v k o.carries there d.2 verdict) }
+    record { filtering = d.0; does = d.1; due = subst (λ (vs : List VarInfo). Due BySmallest d.0 vs (root_of p) row v) o.vars (verdicts-due BySmallest part (root_of p) (terms_of (length p.vars) o.poly) row d.0 v (programs-run part k) o.carries there d.2 verdict) }
 
 -- it does one thing on a row
 one_does : (p : PredOf) (row : Row) (a b : Filtering) → Does p row a → Does p row b → a ≡ b
@@ -50,5 +53,5 @@ pub one_due : OneIsDue
 one_due s p row v w e f range a b =
     let same : a.filtering ≡ b.filtering = one_does p row a.filtering b.filtering a.does b.does in
     let there : InRange s.sites s.vars row = rw (sym e, sym f) range in
-    let left : Due b.filtering s.vars (root_of p) row v = subst (λ (vs : List VarInfo). Due b.filtering vs (root_of p) row v) e (subst (λ (d : Filtering). Due d p.vars (root_of p) row v) same a.due) in
-    due-unique s (root_of p) row b.filtering v w there left (subst (λ (vs : List VarInfo). Due b.filtering vs (root_of p) row w) e b.due)
+    let left : Due BySmallest b.filtering s.vars (root_of p) row v = subst (λ (vs : List VarInfo). Due BySmallest b.filtering vs (root_of p) row v) e (subst (λ (d : Filtering). Due BySmallest d p.vars (root_of p) row v) same a.due) in
+    due-unique BySmallest s (root_of p) row b.filtering v w there left (subst (λ (vs : List VarInfo). Due BySmallest b.filtering vs (root_of p) row w) e b.due)

@@ -5,6 +5,7 @@ use Rattle.std.proofs.lemmas.List.{get_or-map, length-append, length-map}
 use Rattle.std.proofs.lemmas.List.Elements.{All-cons, All-nil}
 use Rattle.ln_algebra.proofs.Expansion.{length-zeros}
 use Rattle.ln_algebra.proofs.Order.{earlier-irreflexive}
+use Rattle.ln_algebra.proofs.Zeros.{covers-zeros}
 use Rattle.ln_algebra.specs.Earlier.{Earlier, IsInOrder, Sites}
 use Rattle.ln_algebra.specs.Vector.{In, same_vector, zeros}
 use Rattle.ln_tree.specs.declared.shape.VarInfo.{VarInfo}
@@ -18,7 +19,6 @@ use Rattle.ln_stage.specs.Staged.{AreStagesOf, Staged, block_vector, vectors_of}
 use Rattle.ln_stage.proofs.MonomialLemmas.{rows-monomials}
 use Rattle.ln_stage.proofs.ResultLemmas.{poly-terms}
 use Rattle.ln_code.specs.Kept.{IsList}
-use Rattle.ln_compile.proofs.CoefficientLemmas.{covers-zeros}
 
 -- ---- what holds of each vector of the lists holds of each distinct one
 abbrev pub EachIs : (List ℕ → Type 0) → List (List ℕ) → Type 0

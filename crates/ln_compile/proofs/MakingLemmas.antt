@@ -4,6 +4,7 @@ use Rattle.std.specs.Prelude.{slice_get, is_some, true, ℤ, IfSome, IsSome}
 use Rattle.ln_algebra.specs.Coefficient.{normal_coefficient}
 use Rattle.std.proofs.lemmas.Bool.{cases_lt}
 use Rattle.std.proofs.lemmas.List.{get_or_past}
+use Rattle.ln_algebra.proofs.Zeros.{derived-zeros}
 use Rattle.ln_algebra.specs.Terms.{IsNormalOf, Over, derived, factor_at}
 use Rattle.ln_algebra.specs.Tree.{inlined, inlined_after}
 use Rattle.ln_tree.specs.declared.pred.Pred.{Pred}
@@ -24,6 +25,7 @@ use Rattle.ln_poly.proofs.Lowering.{found}
 use Rattle.ln_poly.proofs.Products.{length-vector, over-terms}
 use Rattle.ln_order.proofs.PairsLemmas.{vector-get}
 use Rattle.ln_code.proofs.Runs.{some_is}
+use Rattle.ln_code.specs.Carried.{CarriesDerivative, CarriesWhole}
 use Rattle.ln_code.specs.FilterRules.{FilterKnown}
 use Rattle.ln_code.specs.Kept.{AreOfSites, FollowsFilterRules, FollowsRules, is_of_site}
 use Rattle.ln_code.specs.Part.{Code, FilterCode, filter_known_of, filter_value, known_of, ops_in_filter}
@@ -33,16 +35,14 @@ use Rattle.ln_lower.specs.Nodes.{PushNodes, pushed_by}
 use Rattle.ln_filter.specs.Steady.{HasFilter}
 use Rattle.ln_filter.specs.Truncated.{root_number, root_triple}
 use Rattle.ln_compile.specs.Accepted.{lets_of, own_root, root_of}
-use Rattle.ln_compile.specs.Carried.{CarriesDerivative, CarriesWhole}
 use Rattle.ln_compile.specs.Compiled.{IsFilterOf, IsOwn}
 use Rattle.ln_compile.specs.Derived.{IsDerivative}
 use Rattle.ln_compile.specs.Made.{IsBlockOf}
-use Rattle.ln_compile.proofs.CoefficientLemmas.{derived-zeros}
 use Rattle.ln_compile.proofs.CombinedLemmas.{over-derived}
 use Rattle.ln_compile.proofs.DerivingLemmas.{vector-nil}
 
 -- a block whose value has the coefficients of the derivative carries it
-carrying : (vars : List VarInfo) (f : Sparse) (c : Code) → FollowsRules vars c → ((k : Known) → known_of vars c ≡ Some k → IsNormalOf (length vars) k.tree (derived (vector (length vars) c.exps) (terms_of (length vars) f))) → CarriesDerivative vars f c
+carrying : (vars : List VarInfo) (f : Sparse) (c : Code) → FollowsRules vars c → ((k : Known) → known_of vars c ≡ Some k → IsNormalOf (length vars) k.tree (derived (vector (length vars) c.exps) (terms_of (length vars) f))) → CarriesDerivative vars (terms_of (length vars) f) c
 carrying vars f c r h = let s = some_is (known_of vars c) r.answers in record { what = s.0; known = s.1; derivative = h s.0 s.1 }
 
 over-derivative : (n : ℕ) (a : Pairs) (f : Sparse) → Over n (derived (vector n a) (terms_of n f))
@@ -112,7 +112,7 @@ sized-whole p lets root l r m = ap (λ ts. normal_coefficient (inlined (inlined_
 -- a filter that stands for the sized trees carries the whole
 pub filter-carries : (p : Pred) (lets : List Fitted) (root : Fitted) (o : Option FilterCode) (f : Sparse) → map untyped (map typed lets) ≡ map (tree_of p.shape.vars) p.lets → untyped (typed root) ≡ tree_of p.shape.vars p.root
     → IfSome o (FollowsFilterRules p.shape.vars) → IfSome o (λ c. (k : FilterKnown) → filter_known_of p.shape.vars c ≡ Some k → (m : List ℕ) → normal_coefficient k.tree m ≡ polynomial (map typed lets) (typed root) m)
-    → IsNormal (length p.shape.vars) (root_of (pred_of p)) f → IfSome o (CarriesWhole p.shape.vars f)
+    → IsNormal (length p.shape.vars) (root_of (pred_of p)) f → IfSome o (CarriesWhole p.shape.vars (terms_of (length p.shape.vars) f))
 filter-carries p lets root None f l r fr q h = tt
 filter-carries p lets root (Some c) f l r fr q h = record {
   what = fr.what;

@@ -10,16 +10,17 @@ use Rattle.ln_tree.specs.Table.{pred_of}
 use Rattle.ln_bound.specs.Light.{AreLight}
 use Rattle.ln_bound.specs.Value.{weights}
 use Rattle.ln_poly.specs.Expansion.{IsNormal, closed_lets}
-use Rattle.ln_poly.specs.Sparse.{Sparse}
+use Rattle.ln_poly.specs.Sparse.{Sparse, terms_of}
 use Rattle.ln_poly.proofs.Lets.{pred-light, root-light}
 use Rattle.ln_stage.specs.Lists.{AreStageLists, all_covering, stage_count, stage_weight}
 use Rattle.ln_stage.specs.Staged.{AreStagesOf, Staged, block_vector, vectors_of}
+use Rattle.ln_code.specs.Carried.{CarriesWhole}
 use Rattle.ln_code.specs.Kept.{FollowsFilterRules, IsList, IsProgram}
 use Rattle.ln_code.specs.Part.{Code, FilterCode, Part, ops_in_blocks, ops_in_filter}
 use Rattle.ln_compile.specs.Accepted.{root_of, weighed_of}
-use Rattle.ln_compile.specs.Carried.{CarriesWhole, staged}
 use Rattle.ln_compile.specs.Compiled.{IsFilterOf, IsProgramOf}
 use Rattle.ln_compile.specs.Made.{AreBlocksOf}
+use Rattle.ln_compile.proofs.ListLemmas.{order-stages, staged}
 use Rattle.ln_compile.proofs.ListingLemmas.{lists-are, stages-few}
 
 -- ---- exponents with the same vectors
@@ -51,7 +52,7 @@ few-ops first ops cover len f h k l = omega (arith, f, h, k, l)
 
 module _ (p : Pred) (f : Sparse) (st : Staged) (blocks : List Code) (light : AreLight (weighed_of (pred_of p))) (normal : IsNormal (length p.shape.vars) (root_of (pred_of p)) f) (some : f ≢ []) (stages : AreStagesOf p.shape.sites p.shape.vars f st)
     (count : stage_count (vectors_of (length p.shape.vars) st) ≤ 65536) (heavy : stage_weight (length p.shape.vars) f (vectors_of (length p.shape.vars) st) ≤ 131072) (made : AreBlocksOf (pred_of p) f st.exps blocks)
-    (filter : Option FilterCode) (own : IsFilterOf (pred_of p) filter) (rules : IfSome filter (FollowsFilterRules p.shape.vars)) (whole : IfSome filter (CarriesWhole p.shape.vars f)) (short : ops_in_filter filter ≤ 1048640) where
+    (filter : Option FilterCode) (own : IsFilterOf (pred_of p) filter) (rules : IfSome filter (FollowsFilterRules p.shape.vars)) (whole : IfSome filter (CarriesWhole p.shape.vars (terms_of (length p.shape.vars) f))) (short : ops_in_filter filter ≤ 1048640) where
   abbrev pub part : Part
   part = record { shape = p.shape; filter = filter; blocks = blocks; lists = st.lists }
 
@@ -81,10 +82,11 @@ module _ (p : Pred) (f : Sparse) (st : Staged) (blocks : List Code) (light : Are
     vars = refl;
     filter = own;
     poly = f;
+    normal = normal;
     carries = record {
       inputs = (root-light (length p.shape.vars) (weights p.shape.vars) (closed_lets p.shape.vars (map formula p.lets)) (tree p.shape.vars (formula p.root)) (pred-light p.args p.shape.vars p.lets (length p.let_names) p.root p.kept light).1).inputs;
-      normal = normal;
-      lists = subst (AreStageLists p.shape.sites p.shape.vars f) (sym (same-vectors p.shape st filter blocks made.vectors)) stages.lists;
+      normal = normal.normal;
+      lists = λ places list l. order-stages part (root_of (pred_of p)) f places list normal.normal (subst (AreStageLists p.shape.sites p.shape.vars f) (sym (same-vectors p.shape st filter blocks made.vectors)) stages.lists) l;
       blocks = λ k d l. (made.each k d l).carries;
       filter = whole;
     };

@@ -19,9 +19,9 @@ use Rattle.ln_tree.specs.Table.{PredOf}
 use Rattle.ln_tree.specs.Variables.{is_laid_out}
 use Rattle.ln_bound.specs.Light.{AreLight}
 use Rattle.ln_order.specs.Orders.{IsOrderOf, orders_of}
-use Rattle.ln_order.specs.Sites.{place_in, site_of, sites_of}
+use Rattle.ln_order.specs.Sites.{sites_of}
 use Rattle.ln_order.proofs.OrdersLemmas.{member-is}
-use Rattle.ln_order.proofs.SitesLemmas.{each-there, kept, place-is}
+use Rattle.ln_order.proofs.RowSigns.{orders-differ}
 use Rattle.ln_poly.specs.Expansion.{HaveFewTerms, IsNormal}
 use Rattle.ln_poly.specs.Sparse.{IsFactor, Sparse, terms_of}
 use Rattle.ln_poly.proofs.Collected.{collected}
@@ -37,15 +37,6 @@ use Rattle.ln_compile.specs.Refused.{StopsPred, stages}
 use Rattle.ln_compile.proofs.CombinedLemmas.{everywhere, once, once-derived, over-derived}
 use Rattle.ln_compile.proofs.DerivingLemmas.{length-derived}
 use Rattle.ln_compile.proofs.FewestLemmas.{shortest}
-
--- ---- the sites of an order have places of their own
-pub orders-differ : (k : ℕ) (vars : List VarInfo) (o : List ℕ) → is_laid_out k vars ≡ true → IsOrderOf k o → IndicesDiffer (sites_of vars o)
-orders-differ k vars o h p = record { differ = λ v w s t a b e. same s t (there v s a) (there w t b) e } where
-  there : (v s : ℕ) → site_of vars v ≡ Some s → Contains o s
-  there v s a = each-there k o s p ((kept k vars h).below v s a)
-
-  same : (s t : ℕ) → Contains o s → Contains o t → place_in o s ≡ place_in o t → s ≡ t
-  same s t a b e = sym ((place-is o s a).1 0) ∙ ap (λ z. get_or o z 0) e ∙ (place-is o t b).1 0
 
 -- ---- two lists of lists
 same-places : {A : Type 0} (xs ys : List A) (d : A) → length xs ≡ length ys → ((j : ℕ) → j < length xs → get_or xs j d ≡ get_or ys j d) → xs ≡ ys

@@ -1,5 +1,6 @@
 -- What a source is compiled to: the program and the stage count of each predicate.
 use Rattle.std.specs.Prelude.{◌≡◌, ℕ, ◌+◌, ◌<◌, ◌^◌, List, [], ◌∷◌, length, map, slice_get, ℤ, Option, Some, None, position, bytes_eq}
+use Rattle.ln_algebra.specs.Orders.{BySmallest}
 use Rattle.ln_tree.specs.declared.pred.Pred.{Pred}
 use Rattle.ln_tree.specs.declared.table.Table.{Table}
 use Rattle.ln_tree.specs.Formula.{tree}
@@ -9,15 +10,15 @@ use Rattle.ln_tree.specs.Table.{PredOf}
 use Rattle.ln_bound.specs.Exact.{AreExact, IsExact}
 use Rattle.ln_bound.specs.Typed.{Typed, untyped}
 use Rattle.ln_poly.specs.Expansion.{IsNormal}
-use Rattle.ln_poly.specs.Sparse.{Sparse}
+use Rattle.ln_poly.specs.Sparse.{Sparse, terms_of}
 use Rattle.ln_stage.specs.Lists.{AreStageLists, stage_count}
+use Rattle.ln_code.specs.Carried.{Carries}
 use Rattle.ln_code.specs.Nodes.{IsNodeOf}
 use Rattle.ln_code.specs.Part.{Code, FilterCode, Part, filter_value, ops_in_filter}
 use Rattle.ln_filter.specs.Steady.{HasFilter}
 use Rattle.ln_filter.specs.Truncated.{root_number, root_triple}
 use Rattle.ln_lower.specs.Nodes.{PushNodes, pushed_by}
 use Rattle.ln_compile.specs.Accepted.{lets_of, own_root, root_of}
-use Rattle.ln_compile.specs.Carried.{Carries}
 
 -- the block has no exponents and is made from the source's own lets and root, with bounds and widths: what its operations push are polynomials of their nodes, each bound is exactly its operation over M, and each width the least
 pub record IsOwn (p : PredOf) (block : Code) : Type 0 where
@@ -44,14 +45,15 @@ IsFilterOf p (Some f) =
     HasFilter p.vars (lets_of p) (own_root p)
     × ((zs : List ℤ) → AreWithin p.vars zs → filter_value zs f ≡ Some (record { number = root_number p.vars zs (lets_of p) (own_root p); error = (root_triple p.vars (lets_of p) (own_root p)).e }))
 
--- the part is the program of the predicate: it is over the predicate's variables, with the predicate's filter; it carries the predicate's root, with the lets in place of their names; it begins with the source's own tree
+-- the part is the program of the predicate: it is over the predicate's variables, with the predicate's filter; it carries the predicate's root, with the lets in place of their names, by the smallest infinitesimal that differs; it begins with the source's own tree
 pub record IsProgramOf (p : PredOf) (part : Part) : Type 0 where
   pub name : name_bytes part.shape.name ≡ p.shape_name
   pub sites : part.shape.sites ≡ p.sites
   pub vars : part.shape.vars ≡ p.vars
   pub filter : IsFilterOf p part.filter
   pub poly : Sparse
-  pub carries : Carries part (root_of p) poly
+  pub normal : IsNormal (length p.vars) (root_of p) poly
+  pub carries : Carries BySmallest part (root_of p) (terms_of (length p.vars) poly)
   pub begins : BeginsWith p part
 
 -- one program for each predicate, in order

@@ -1,5 +1,6 @@
 -- The verdict that a row of a predicate is owed, by what the predicate's filter does on it.
 use Rattle.std.specs.Prelude.{◌≡◌}
+use Rattle.ln_algebra.specs.Orders.{BySmallest}
 use Rattle.ln_tree.specs.Row.{InRange, Row}
 use Rattle.ln_tree.specs.Table.{PredOf}
 use Rattle.ln_tree.specs.declared.shape.Shape.{Shape}
@@ -7,12 +8,12 @@ use Rattle.ln_code.specs.declared.verdict.Verdict.{Verdict}
 use Rattle.ln_code.specs.Kept.{IsProgram}
 use Rattle.ln_code.specs.Part.{Part}
 use Rattle.ln_code.specs.Verdict.{IsVerdict}
+use Rattle.ln_due.specs.Due.{Filtering, NoFilter, Decided, Undecided, Due}
+use Rattle.ln_due.specs.DueLaw.{Agree}
 use Rattle.ln_filter.specs.Steady.{HasFilter}
 use Rattle.ln_filter.specs.Truncated.{Decides}
 use Rattle.ln_compile.specs.Accepted.{lets_of, own_root, root_of}
 use Rattle.ln_compile.specs.Compiled.{IsProgramOf}
-use Rattle.ln_compile.specs.Due.{Filtering, NoFilter, Decided, Undecided, Due}
-use Rattle.ln_compile.specs.DueLaw.{Agree}
 
 -- the predicate has no filter; or it has one that decides the row, or one that doesn't
 abbrev pub Does : PredOf → Row → Filtering → Type 0
@@ -24,7 +25,7 @@ Does p row Undecided = HasFilter p.vars (lets_of p) (own_root p) × (Decides p.v
 pub record IsDue (p : PredOf) (row : Row) (v : Verdict) : Type 0 where
   pub filtering : Filtering
   pub does : Does p row filtering
-  pub due : Due filtering p.vars (root_of p) row v
+  pub due : Due BySmallest filtering p.vars (root_of p) row v
 
 -- the verdict of a predicate's program on a row in range is due
 abbrev pub ProgramsAnswerDue : Type 0

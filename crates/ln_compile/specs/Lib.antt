@@ -1,9 +1,6 @@
 pub mod Accepted
-pub mod Carried
 pub mod Compiled
 pub mod Derived
-pub mod Due
-pub mod DueLaw
 pub mod Filtered
 pub mod Made
 pub mod Refused

@@ -3,11 +3,11 @@ use Rattle.std.specs.Prelude.{◌≡◌, ℕ, ◌+◌, ◌*◌, ◌≤◌, All, 
 use Rattle.ln_tree.specs.declared.shape.VarInfo.{VarInfo}
 use Rattle.ln_tree.specs.Exps.{Pairs, vector}
 use Rattle.ln_tree.specs.Table.{PredOf}
-use Rattle.ln_poly.specs.Sparse.{Sparse}
+use Rattle.ln_poly.specs.Sparse.{Sparse, terms_of}
 use Rattle.ln_stage.specs.Lists.{all_covering}
+use Rattle.ln_code.specs.Carried.{CarriesDerivative}
 use Rattle.ln_code.specs.Kept.{AreOfSites, FollowsRules}
 use Rattle.ln_code.specs.Part.{Code, Part, ops_in_blocks}
-use Rattle.ln_compile.specs.Carried.{CarriesDerivative}
 use Rattle.ln_compile.specs.Compiled.{AreProgramsOf, AreStageCounts, IsOwn}
 use Rattle.ln_compile.specs.Accepted.{AreSound}
 
@@ -15,7 +15,7 @@ use Rattle.ln_compile.specs.Accepted.{AreSound}
 pub record IsBlockOf (vars : List VarInfo) (f : Sparse) (c : Code) : Type 0 where
   pub rules : FollowsRules vars c
   pub of_sites : AreOfSites vars c.exps
-  pub carries : CarriesDerivative vars f c
+  pub carries : CarriesDerivative vars (terms_of (length vars) f) c
 
 -- blocks for these exponents, with at most 524,352 operations in the first and in each other 4,096 for each term that covers its exponents and 68 more
 pub record AreBlocksOf (p : PredOf) (f : Sparse) (exps : List Pairs) (blocks : List Code) : Type 0 where

@@ -1,4 +1,4 @@
-//! Sources to compiled tables, and what their programs answer.
+//! Sources to compiled tables.
 //!
 //! `compile` answers the table of a source whose predicates are all accepted, with a program for each, or the one refusal that
 //! is its due: the first fault of its text; else, of the first predicate that has a fault, a node whose values may not fit 128
@@ -6,8 +6,7 @@
 //! carries its predicate's root: its lists are the stage lists of all orders of the sites, and each block computes the scaled
 //! derivative of the normal polynomial by its exponents.
 //!
-//! The laws of `due` say what the verdict of a program is: the sign of the first coefficient that isn't 0 of the predicate at
-//! perturbed inputs, its place among the stages of the row's order, and the calls up to it.
+//! What the verdict of a program is, ln_due says; the law of `due` adds which filter a predicate has and where it decides.
 #![tactic(auto)]
 
 pub(crate) mod blocks;

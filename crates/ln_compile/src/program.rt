@@ -15,7 +15,7 @@ ghost use Rattle.ln_stage.specs.Staged.{AreStagesOf, vectors_of};
 ghost use Rattle.ln_compile.specs.Accepted.{root_of, weighed_of};
 ghost use Rattle.ln_code.specs.Kept.{FollowsFilterRules};
 ghost use Rattle.ln_code.specs.Part.{ops_in_filter};
-ghost use Rattle.ln_compile.specs.Carried.{CarriesWhole};
+ghost use Rattle.ln_code.specs.Carried.{CarriesWhole};
 ghost use Rattle.ln_compile.specs.Compiled.{IsFilterOf, IsProgramOf};
 
 use crate::blocks::blocks;
@@ -53,7 +53,7 @@ fn filter(alloc: Global, p: &Pred, w: &Weights) -> Result<Option<FilterBlock>, N
     requires light { AreLight (weighed_of (pred_of p.now)) }
     ensures filter { IfOk result (λ o. IsFilterOf (pred_of p.now) o) }
     ensures rules { IfOk result (λ o. IfSome o (λ f. FollowsFilterRules p.now.shape.vars f)) }
-    ensures whole { IfOk result (λ o. (f : Sparse) → IsNormal (length p.now.shape.vars) (root_of (pred_of p.now)) f → IfSome o (CarriesWhole p.now.shape.vars f)) }
+    ensures whole { IfOk result (λ o. (f : Sparse) → IsNormal (length p.now.shape.vars) (root_of (pred_of p.now)) f → IfSome o (CarriesWhole p.now.shape.vars (terms_of (length p.now.shape.vars) f))) }
     ensures small { IfOk result (λ o. ops_in_filter o ≤ 1048640) }
 {
     let sized = size(alloc, p, w)?;

@@ -18,7 +18,7 @@ use Rattle.ln_rows.specs.Record.{read_row}
 use Rattle.ln_rows.specs.declared.record.RowStop.{RowStop}
 use Rattle.ln_rows.proofs.RangeLemmas.{row_in_range}
 use Rattle.ln_compile.specs.Compiled.{IsProgramOf}
-use Rattle.ln_compile.proofs.AnswerLemmas.{rows-have}
+use Rattle.ln_code.proofs.Machine.{programs-run, rows-have}
 use Rattle.ln_compile.proofs.FilteredLemmas.{programs_answer}
 use Rattle.ln_top.specs.declared.status.Status.{Status}
 use Rattle.ln_top.specs.declared.status.Status.TheVariants as status
@@ -70,7 +70,7 @@ module _ (p : Pred) (part : Part) (k : IsProgram part) (o : IsProgramOf (pred_of
       by_read (Ok row) e =
           let range : InRange p.shape.sites p.shape.vars row = row_in_range p.shape.sites p.shape.vars fields row p.shape.kept e in
           let there : InRange part.shape.sites part.shape.vars row = rw (o.sites, o.vars) range in
-          let v = rows-have part row k there in
+          let v = rows-have part row (programs-run part k) there in
           (_, record { said = Ok v.0; says = due row v.0 e (programs_answer (pred_of p) part row v.0 k o range v.1); is = refl })
       by_read (Err stop) e = (_, record { said = Err stop; says = refused_ stop e; is = refl })
 

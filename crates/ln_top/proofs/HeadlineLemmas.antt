@@ -32,10 +32,11 @@ use Rattle.ln_rows.proofs.RangeLemmas.{row_in_range}
 use Rattle.ln_rows.specs.declared.record.RowStop.{RowStop}
 use Rattle.ln_code.specs.declared.verdict.Verdict.{Verdict}
 use Rattle.ln_compile.specs.Accepted.{AreSound, IsSound, root_of}
-use Rattle.ln_compile.specs.Due.{sign_number}
+use Rattle.ln_due.specs.Due.{sign_number}
 use Rattle.ln_compile.specs.Filtered.{IsDue}
-use Rattle.ln_compile.proofs.RowLemmas.{rows-differ}
-use Rattle.ln_compile.proofs.UniqueLemmas.{due-sign}
+use Rattle.ln_algebra.specs.Orders.{BySmallest}
+use Rattle.ln_order.proofs.RowSigns.{rows-differ}
+use Rattle.ln_due.proofs.UniqueLemmas.{due-sign}
 use Rattle.ln_top.specs.declared.status.Status.{Status}
 use Rattle.ln_top.specs.Words.{Rows}
 use Rattle.ln_top.specs.Source.{named}
@@ -100,7 +101,7 @@ module _ (p : Pred) (sound : IsSound (pred_of p)) (names : List (List ℕ)) wher
   due_sign : (row : Row) (v : Verdict) (text : List ℕ) (fields : List (List ℕ)) → read_row p.shape.sites p.shape.vars fields ≡ Ok row → IsDue (pred_of p) row v → text ≡ line (said_text names (Ok v)) → HasPerturbedSign (pred_of p) row text
   due_sign row v text fields e d t =
       let range = row_in_range p.shape.sites p.shape.vars fields row p.shape.kept e in
-      let sign = due-sign p.shape.vars (root_of (pred_of p)) row d.filtering v d.due in
+      let sign = due-sign BySmallest p.shape.vars (root_of (pred_of p)) row d.filtering v d.due in
       record { range = range; sign = v.sign; perturbed = sign; never_zero = λ all. never_zero p row range sound all v.sign sign; behind = decider_text v.by; text_is = t }
 
   line_sign : (fields : List (List ℕ)) (text : List ℕ) {said : Result Verdict RowStop} → Says (pred_of p) fields said → text ≡ line (said_text names said) → (row : Row) → read_row p.shape.sites p.shape.vars fields ≡ Ok row → HasPerturbedSign (pred_of p) row text

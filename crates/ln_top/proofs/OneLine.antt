@@ -26,7 +26,7 @@ use Rattle.ln_code.specs.declared.verdict.Verdict.{Verdict}
 use Rattle.ln_compile.specs.Accepted.{root_of}
 use Rattle.ln_compile.specs.Compiled.{IsStageCount}
 use Rattle.ln_compile.specs.Filtered.{IsDue}
-use Rattle.ln_compile.specs.DueLaw.{Agree}
+use Rattle.ln_due.specs.DueLaw.{Agree}
 use Rattle.ln_compile.proofs.FilteredLemmas.{one_due}
 use Rattle.ln_top.specs.Line.{line, sign_text, decider_text, said_text, Says, due, refused_, IsLineOf, AreLines, none, more}
 use Rattle.ln_top.specs.Counts.{AreCounts, count_text}

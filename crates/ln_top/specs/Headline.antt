@@ -15,7 +15,7 @@ use Rattle.ln_rows.specs.Columns.{column_names}
 use Rattle.ln_rows.specs.Left.{Records}
 use Rattle.ln_rows.specs.Record.{read_row}
 use Rattle.ln_compile.specs.Accepted.{root_of}
-use Rattle.ln_compile.specs.Due.{sign_number}
+use Rattle.ln_due.specs.Due.{sign_number}
 use Rattle.ln_top.specs.Line.{line, sign_text}
 use Rattle.ln_top.specs.Causes.{HasRecords}
 

@@ -1,0 +1,11 @@
+use Rattle.ln_code.proofs.Machine.{programs-run, rows-have, verdict-unique}
+use Rattle.ln_code.proofs.laws.rows_have_one_verdict.Goals as goal
+
+pub returns-clause-programs : goal.returns-clause-programs
+returns-clause-programs c = programs-run
+
+pub returns-clause-exists : goal.returns-clause-exists
+returns-clause-exists c = rows-have
+
+pub returns-clause-unique : goal.returns-clause-unique
+returns-clause-unique c = verdict-unique

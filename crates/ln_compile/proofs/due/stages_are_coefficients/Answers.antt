@@ -1,8 +1,0 @@
-use Rattle.ln_compile.proofs.Composition.{cut-nothing, stages-coefficients}
-use Rattle.ln_compile.proofs.due.stages_are_coefficients.Goals as goal
-
-pub returns-clause-values : goal.returns-clause-values
-returns-clause-values c = stages-coefficients
-
-pub returns-clause-cut : goal.returns-clause-cut
-returns-clause-cut c = cut-nothing

@@ -1,5 +1,0 @@
-use Rattle.ln_compile.proofs.UniqueLemmas.{never-zero}
-use Rattle.ln_compile.proofs.due.without_params_never_zero.Goals as goal
-
-pub returns : goal.returns
-returns c = never-zero

@@ -1,0 +1,10 @@
+-- The files of this folder.
+pub mod AlongLemmas
+pub mod BlockLemmas
+pub mod CoefficientLemmas
+pub mod Composition
+pub mod DueLemmas
+pub mod FilterLemmas
+pub mod InputsLemmas
+pub mod SeveralLemmas
+pub mod UniqueLemmas

@@ -1,0 +1,5 @@
+use Rattle.ln_due.proofs.Composition.{blocks-run}
+use Rattle.ln_due.proofs.due.blocks_run.Goals as goal
+
+pub returns : goal.returns
+returns c = blocks-run

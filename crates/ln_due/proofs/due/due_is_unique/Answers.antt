@@ -1,0 +1,5 @@
+use Rattle.ln_due.proofs.UniqueLemmas.{due-unique}
+use Rattle.ln_due.proofs.due.due_is_unique.Goals as goal
+
+pub returns : goal.returns
+returns c = due-unique

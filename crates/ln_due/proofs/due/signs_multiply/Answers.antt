@@ -1,0 +1,5 @@
+use Rattle.ln_due.proofs.SeveralLemmas.{signs-multiply}
+use Rattle.ln_due.proofs.due.signs_multiply.Goals as goal
+
+pub returns : goal.returns
+returns c = signs-multiply

@@ -1,0 +1,5 @@
+use Rattle.ln_due.proofs.UniqueLemmas.{never-zero}
+use Rattle.ln_due.proofs.due.without_params_never_zero.Goals as goal
+
+pub returns : goal.returns
+returns c = never-zero

@@ -1,0 +1,5 @@
+-- The files of this folder.
+pub mod Due
+pub mod DueLaw
+pub mod Run
+pub mod Several

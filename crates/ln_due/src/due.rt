@@ -1,0 +1,49 @@
+//! What the verdict of a part is, in either order of infinitesimals: the perturbed sign.
+ghost use Rattle.ln_due.specs.DueLaw.{BlocksRun, CutLosesNothing, DueIsUnique, SignsArePerturbed, StagesAreCoefficients, VerdictsAreDue, WithoutParamsNeverZero};
+ghost use Rattle.ln_due.specs.Several.{SignsMultiply};
+
+/// In a part that carries an expression each block has, on every row in range, the perturbed coefficient at its stage; and the
+/// stages of a row's order lose nothing.
+///
+/// On it rests that the blocks of a row's list, in turn, find the first coefficient that isn't 0.
+pub fn stages_are_coefficients()
+    ensures values { StagesAreCoefficients }
+    ensures cut { CutLosesNothing }
+{}
+
+/// Every block of a part runs on every row in range with all its values in their bounds and widths.
+///
+/// On it rests that no operation leaves its certified width, in blocks that a row's order doesn't name too.
+pub fn blocks_run()
+    ensures { BlocksRun }
+{}
+
+/// The machine's verdict on a row in range is the one that the row is owed: the sign of the first coefficient that isn't 0, in the
+/// order of infinitesimals, its place, and the calls up to it; or the same sign from the filter, where that decides.
+///
+/// On it rests the sign that is printed for a row, the place beside it, and the number of calls.
+pub fn verdicts_are_due()
+    ensures verdicts { VerdictsAreDue }
+    ensures signs { SignsArePerturbed }
+{}
+
+/// An expression without params owes no row in range the sign 0.
+///
+/// On it rests that a degenerate row is decided all the same, as long as the predicate has no params.
+pub fn without_params_never_zero()
+    ensures { WithoutParamsNeverZero }
+{}
+
+/// A row in range is owed at most one sign, by one decider, with one number of calls.
+///
+/// On it rests that what is printed for a row is the only right answer.
+pub fn due_is_unique()
+    ensures { DueIsUnique }
+{}
+
+/// The product of the signs of several parts' verdicts on a row is the sign of the product of the expressions that they carry.
+///
+/// On it rests the sign of a product that isn't formed.
+pub fn signs_multiply()
+    ensures { SignsMultiply }
+{}

@@ -1,0 +1,20 @@
+//! What a row is owed, and that a part which carries an expression pays it.
+//!
+//! A part carries an expression where its blocks have the scaled derivatives of the expression's normal polynomial as their
+//! polynomials, and its lists are the stage lists of all orders of the sites. The machine's verdict on a row in range is then the
+//! one that the row is owed: the sign of the first coefficient that isn't 0 at perturbed inputs, its place among the stages of the
+//! row's order, and the calls up to it; or the same sign from the filter, where that decides. Programs that are compiled and parts
+//! of a listing that are judged valid both come here.
+//!
+//! The laws hold in either order of infinitesimals, by the smallest one that differs and by total degree first; `run` has those of
+//! the first under names of their own. Nothing runs.
+#![tactic(auto)]
+
+pub mod due;
+pub mod run;
+
+pub use due::{
+    blocks_run, due_is_unique, signs_multiply, stages_are_coefficients, verdicts_are_due,
+    without_params_never_zero,
+};
+pub use run::run_is_due;
