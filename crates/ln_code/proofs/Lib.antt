@@ -14,6 +14,8 @@ pub mod Sums
 pub mod Stages
 pub mod Differ
 pub mod Means
+pub mod RangedKnown
+pub mod FromBounds
 pub mod Together
 pub mod WorkedLaws
 pub mod Behind

@@ -2,6 +2,8 @@ pub mod Engine
 pub mod Numbers
 pub mod Exact
 pub mod Rules
+pub mod RangedRules
+pub mod Balanced
 pub mod FilterRules
 pub mod Bare
 pub mod Part

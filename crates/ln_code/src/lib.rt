@@ -13,6 +13,7 @@ pub mod op;
 pub(crate) mod processor;
 pub mod program;
 pub mod programs;
+pub mod ranged_laws;
 pub mod row;
 pub mod run;
 pub mod scratch;

@@ -1,4 +1,6 @@
 pub mod Bounding
+pub mod RangedLanding
+pub mod RangedLets
 pub mod Writes
 pub mod Costs
 pub mod PushLaws

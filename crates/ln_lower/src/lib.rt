@@ -6,6 +6,7 @@
 
 pub mod blocks;
 pub(crate) mod draft;
+pub mod ranged_laws;
 
 pub use blocks::lower;
 

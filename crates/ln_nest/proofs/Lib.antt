@@ -9,3 +9,5 @@ pub mod Steps
 pub mod Whole
 pub mod Doubled
 pub mod Shortest
+pub mod RangedNests
+pub mod RangedSteps

@@ -7,6 +7,7 @@
 
 pub mod horner;
 pub mod laws;
+pub mod ranged_laws;
 pub mod work;
 
 pub use horner::nest;

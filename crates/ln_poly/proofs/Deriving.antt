@@ -162,7 +162,7 @@ kept-light : (vars : List VarInfo) (v n : ℕ) (t : Pairs × ℤ) (e : Pairs) �
 kept-light vars v n t e l h r a =
     let b : IsAbove e (length vars) = lowered-below (length vars) v n e t.0 r a in
     let c : ℕ = unsigned_abs (t.1 *ℤ pos (binomial (exponent v t.0) n)) in
-    rw (kept-weight (length vars) v n (sizes vars) t e l h r, weight-pairs (sizes vars) (length vars) e b) (times-some c _ (weight-some vars e b))
+    rw (kept-weight (length vars) v n (sizes vars) t e l h r, weight-pairs (sizes vars) (length vars) e b) (times-some c _ (weight-some (length vars) (sizes vars) (size-some vars) e b))
 
 -- ---- the loop
 pub deriving-init : (f : Sparse) (k v n : ℕ) (w : ℕ → ℕ) → IsDeriving [] f k v n 0 w

@@ -13,6 +13,7 @@ use Rattle.ln_algebra.specs.Weights.{monomial_weight, weighted_sum}
 use Rattle.ln_bound.specs.Light.{most, weighed_pred}
 use Rattle.ln_bound.specs.Light.{AreLight as HaveWeights}
 use Rattle.ln_bound.proofs.KeptLaws.{parts_of}
+use Rattle.ln_algebra.specs.Sizes.{two}
 use Rattle.ln_bound.specs.Value.{weights}
 use Rattle.ln_tree.specs.declared.expr.Expr.{Expr}
 use Rattle.ln_tree.specs.declared.items.Arg.{Arg}
@@ -55,9 +56,9 @@ pub record LetsExpanded (vars : List VarInfo) (whole front rest : List Formula) 
   pub stands : expanded_lets vars [] whole ≡ nodes ++ expanded_lets vars (closed_lets vars front) rest
   pub few : HaveFewTerms (length vars) nodes
   pub fit : lets_fit (length vars) (length polys) (map (tree vars) rest) ≡ true
-  pub light : LetsAreLight (length vars) (weights vars) (closed_lets vars front) (map (tree vars) rest)
+  pub light : LetsAreLight (length vars) two (closed_lets vars front) (map (tree vars) rest)
 
-pub lets-begin : (vars : List VarInfo) (whole : List Formula) (polys : List Sparse) → polys ≡ [] → lets_fit (length vars) 0 (map (tree vars) whole) ≡ true → LetsAreLight (length vars) (weights vars) [] (map (tree vars) whole) → LetsExpanded vars whole [] whole polys
+pub lets-begin : (vars : List VarInfo) (whole : List Formula) (polys : List Sparse) → polys ≡ [] → lets_fit (length vars) 0 (map (tree vars) whole) ≡ true → LetsAreLight (length vars) two [] (map (tree vars) whole) → LetsExpanded vars whole [] whole polys
 lets-begin vars whole polys e f l = subst (LetsExpanded vars whole [] whole) (sym e) (record { normal = tt; nodes = []; stands = refl; few = tt; fit = f; light = l })
 
 pub lets-next : (vars : List VarInfo) (whole front rest : List Formula) (f : Formula) (polys : List Sparse) (p : Sparse) → LetsExpanded vars whole front (f ∷ rest) polys → Expands (length vars) (expanded vars (closed_lets vars front) f) (inlined (closed_lets vars front) (tree vars f)) p
@@ -70,7 +71,7 @@ lets-next vars whole front rest f polys p a h =
       stands = a.stands ∙ sym (append_assoc a.nodes (expanded vars (closed_lets vars front) f) (expanded_lets vars (closed_lets vars front ++ inlined (closed_lets vars front) (tree vars f) ∷ []) rest)) ∙ ap (λ ts. a.nodes ++ expanded vars (closed_lets vars front) f ++ expanded_lets vars ts rest) (sym e);
       few = few-both (length vars) a.nodes (expanded vars (closed_lets vars front) f) a.few h.few;
       fit = subst (λ k. lets_fit (length vars) k (map (tree vars) rest) ≡ true) (sym (length-more polys p)) (and_parts (is_fit (length vars) (length polys) (tree vars f)) _ a.fit).1;
-      light = subst (λ ts. LetsAreLight (length vars) (weights vars) ts (map (tree vars) rest)) (sym e) a.light.1;
+      light = subst (λ ts. LetsAreLight (length vars) two ts (map (tree vars) rest)) (sym e) a.light.1;
     }
 
 -- ---- places in the program's list
@@ -112,7 +113,7 @@ lets-end vars lets j polys l a =
 pub next-fit : (vars : List VarInfo) (lets : List Expr) (j : ℕ) (e : Expr) (polys : List Sparse) → j < length lets → e ≡ get_or lets j e → LetsTo vars lets j polys → is_fit (length vars) (length polys) (tree vars (formula e)) ≡ true
 next-fit vars lets j e polys l h a = (and_parts (is_fit (length vars) (length polys) (tree vars (formula e))) _ (lets-at vars lets j e polys l h a).fit).0
 
-pub next-light : (vars : List VarInfo) (lets : List Expr) (j : ℕ) (e : Expr) (polys : List Sparse) → j < length lets → e ≡ get_or lets j e → LetsTo vars lets j polys → AreLight (length vars) (weights vars) (closed_lets vars (map formula (take j lets))) (tree vars (formula e))
+pub next-light : (vars : List VarInfo) (lets : List Expr) (j : ℕ) (e : Expr) (polys : List Sparse) → j < length lets → e ≡ get_or lets j e → LetsTo vars lets j polys → AreLight (length vars) two (closed_lets vars (map formula (take j lets))) (tree vars (formula e))
 next-light vars lets j e polys l h a = (lets-at vars lets j e polys l h a).light.0
 
 pub length-normal : (n : ℕ) (ts : List Tree) (fs : List Sparse) → AreNormal n ts fs → length fs ≡ length ts

@@ -16,3 +16,4 @@ pub mod Expanding
 pub mod Nodes
 pub mod Lightness
 pub mod Lets
+pub mod Sizing

@@ -37,17 +37,17 @@ abbrev pub AreClosed : ℕ → List Tree → Type 0
 AreClosed n [] = Unit {0}
 AreClosed n (t ∷ ts) = InputsBelow n t × AreClosed n ts
 
-closed-at : (n : ℕ) (ts : List Tree) (j : ℕ) → AreClosed n ts → InputsBelow n (slice_index_or ts j (Num (pos 0)))
+pub closed-at : (n : ℕ) (ts : List Tree) (j : ℕ) → AreClosed n ts → InputsBelow n (slice_index_or ts j (Num (pos 0)))
 closed-at n [] j c = tt
 closed-at n (t ∷ ts) zero c = c.0
 closed-at n (t ∷ ts) (suc j) c = closed-at n ts j c.1
 
-closed-more : (n : ℕ) (ts : List Tree) (t : Tree) → AreClosed n ts → InputsBelow n t → AreClosed n (ts ++ t ∷ [])
+pub closed-more : (n : ℕ) (ts : List Tree) (t : Tree) → AreClosed n ts → InputsBelow n t → AreClosed n (ts ++ t ∷ [])
 closed-more n [] t c i = (i, tt)
 closed-more n (u ∷ ts) t c i = (c.0, closed-more n ts t c.1 i)
 
 -- a fit tree with its lets put in is over n variables
-inputs-inlined : (n k : ℕ) (ts : List Tree) (e : Tree) → AreClosed n ts → is_fit n k e ≡ true → InputsBelow n (inlined ts e)
+pub inputs-inlined : (n k : ℕ) (ts : List Tree) (e : Tree) → AreClosed n ts → is_fit n k e ≡ true → InputsBelow n (inlined ts e)
 inputs-inlined n k ts (Num c) a f = tt
 inputs-inlined n k ts (Input v) a f = lt_test v n f
 inputs-inlined n k ts (Name j) a f = closed-at n ts j a

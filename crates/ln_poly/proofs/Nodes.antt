@@ -5,7 +5,7 @@ use Rattle.std.specs.declared.result.Result.{Result}
 use Rattle.std.proofs.lemmas.Result.{IfOk-weaker, MatchResult-weaker}
 use Rattle.ln_base.specs.declared.span.Span.{Span}
 use Rattle.ln_algebra.specs.Tree.{Add, Mul, Neg, Pow, Sub, Tree, inlined}
-use Rattle.ln_bound.specs.Value.{weights}
+use Rattle.ln_algebra.specs.Sizes.{two}
 use Rattle.ln_tree.specs.declared.shape.VarInfo.{VarInfo}
 use Rattle.ln_tree.specs.Formula.{Formula, tree}
 use Rattle.ln_poly.specs.declared.expansion.PolyStop.{PolyStop}
@@ -15,7 +15,7 @@ use Rattle.ln_poly.specs.Expansion.{HaveFewTerms, IsNormal, expanded}
 use Rattle.ln_poly.specs.Ready.{AreLight, Expands, HasPower}
 use Rattle.ln_poly.specs.Stop.{StopsExpanding}
 use Rattle.ln_poly.proofs.Expanding.{Nodes, few-both, one-expands, stop-before, stop-behind, two-expand}
-use Rattle.ln_poly.proofs.Room.{normal-size, product-powers, product-room, sum-room, two-weights}
+use Rattle.ln_poly.proofs.Room.{normal-size, product-powers, product-room, sum-room, two-sizes}
 
 module _ (vars : List VarInfo) (ls : List Tree) (F : Formula) where
   -- a leaf
@@ -49,20 +49,20 @@ module _ (vars : List VarInfo) (ls : List Tree) (F : Formula) where
 
 -- ---- room
 module _ (vars : List VarInfo) (ls : List Tree) where
-  pub neg-room : (d : Tree) (f : Sparse) → AreLight (length vars) (weights vars) ls (Neg d) → IsNormal (length vars) (inlined ls d) f → size_of f < 2 ^ 127
-  neg-room d f l p = omega (arith, l.1.light, normal-size (length vars) (weights vars) (inlined ls d) f (two-weights vars) l.1.inputs p)
+  pub neg-room : (d : Tree) (f : Sparse) → AreLight (length vars) two ls (Neg d) → IsNormal (length vars) (inlined ls d) f → size_of f < 2 ^ 127
+  neg-room d f l p = omega (arith, l.1.light, normal-size (length vars) two (inlined ls d) f (two-sizes (length vars)) l.1.inputs p)
 
-  pub add-room : (d e : Tree) (f g : Sparse) → AreLight (length vars) (weights vars) ls (Add d e) → IsNormal (length vars) (inlined ls d) f → IsNormal (length vars) (inlined ls e) g → size_of f + size_of g < 2 ^ 127
-  add-room d e f g l p q = sum-room (length vars) (weights vars) (inlined ls d) (inlined ls e) f g (two-weights vars) l.2 p q
+  pub add-room : (d e : Tree) (f g : Sparse) → AreLight (length vars) two ls (Add d e) → IsNormal (length vars) (inlined ls d) f → IsNormal (length vars) (inlined ls e) g → size_of f + size_of g < 2 ^ 127
+  add-room d e f g l p q = sum-room (length vars) two (inlined ls d) (inlined ls e) f g (two-sizes (length vars)) l.2 p q
 
-  pub sub-room : (d e : Tree) (f g : Sparse) → AreLight (length vars) (weights vars) ls (Sub d e) → IsNormal (length vars) (inlined ls d) f → IsNormal (length vars) (inlined ls e) g → size_of f + size_of g < 2 ^ 127
-  sub-room d e f g l p q = sum-room (length vars) (weights vars) (inlined ls d) (inlined ls e) f g (two-weights vars) (record { inputs = l.2.inputs; light = l.2.light }) p q
+  pub sub-room : (d e : Tree) (f g : Sparse) → AreLight (length vars) two ls (Sub d e) → IsNormal (length vars) (inlined ls d) f → IsNormal (length vars) (inlined ls e) g → size_of f + size_of g < 2 ^ 127
+  sub-room d e f g l p q = sum-room (length vars) two (inlined ls d) (inlined ls e) f g (two-sizes (length vars)) (record { inputs = l.2.inputs; light = l.2.light }) p q
 
-  pub mul-room : (d e : Tree) (f g : Sparse) → AreLight (length vars) (weights vars) ls (Mul d e) → IsNormal (length vars) (inlined ls d) f → IsNormal (length vars) (inlined ls e) g → size_of f * size_of g < 2 ^ 127
-  mul-room d e f g l p q = product-room (length vars) (weights vars) (inlined ls d) (inlined ls e) f g (two-weights vars) l.2.inputs.0 l.2.inputs.1 l.2.light p q
+  pub mul-room : (d e : Tree) (f g : Sparse) → AreLight (length vars) two ls (Mul d e) → IsNormal (length vars) (inlined ls d) f → IsNormal (length vars) (inlined ls e) g → size_of f * size_of g < 2 ^ 127
+  mul-room d e f g l p q = product-room (length vars) two (inlined ls d) (inlined ls e) f g (two-sizes (length vars)) l.2.inputs.0 l.2.inputs.1 l.2.light p q
 
-  pub mul-powers : (d e : Tree) (f g : Sparse) → AreLight (length vars) (weights vars) ls (Mul d e) → IsNormal (length vars) (inlined ls d) f → IsNormal (length vars) (inlined ls e) g → All (λ s. PowersFit s g) f
-  mul-powers d e f g l p q = product-powers (length vars) (weights vars) (inlined ls d) (inlined ls e) f g (two-weights vars) l.2.inputs.0 l.2.inputs.1 l.2.light p q
+  pub mul-powers : (d e : Tree) (f g : Sparse) → AreLight (length vars) two ls (Mul d e) → IsNormal (length vars) (inlined ls d) f → IsNormal (length vars) (inlined ls e) g → All (λ s. PowersFit s g) f
+  mul-powers d e f g l p q = product-powers (length vars) two (inlined ls d) (inlined ls e) f g (two-sizes (length vars)) l.2.inputs.0 l.2.inputs.1 l.2.light p q
 
-  pub pow-room : (d : Tree) (k : ℕ) (f : Sparse) → AreLight (length vars) (weights vars) ls (Pow d k) → IsNormal (length vars) (inlined ls d) f → HasPower f k
-  pow-room d k f l p = record { n = length vars; w = weights vars; tree = inlined ls d; two = two-weights vars; inputs = l.1.inputs; light = l.1.light; normal = p }
+  pub pow-room : (d : Tree) (k : ℕ) (f : Sparse) → AreLight (length vars) two ls (Pow d k) → IsNormal (length vars) (inlined ls d) f → HasPower f k
+  pow-room d k f l p = record { n = length vars; w = two; tree = inlined ls d; two = two-sizes (length vars); inputs = l.1.inputs; light = l.1.light; normal = p }

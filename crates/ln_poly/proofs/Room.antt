@@ -1,5 +1,5 @@
 -- Where a closed tree isn't too heavy, its normal polynomial may be computed with in 128 bits.
-use Rattle.std.proofs.Common.{◌≡◌, ℕ, ◌+◌, ◌*◌, ◌<◌, ◌≤◌, ◌^◌, zero, suc, arith, All, List, [], ◌∷◌, length, get_or, unsigned_abs, ◌⊎◌, inl, inr, eqb, Bool, true, false, if◌then◌else◌}
+use Rattle.std.proofs.Common.{◌≡◌, ℕ, ◌+◌, ◌*◌, ◌<◌, ◌≤◌, ◌^◌, zero, suc, arith, All, [], ◌∷◌, length, get_or, unsigned_abs, ◌⊎◌, inl, inr, eqb, Bool, true, false, if◌then◌else◌}
 use Rattle.std.proofs.Math.IntN.{ℤ, pos}
 use Rattle.std.proofs.Math.Nat.{pow-zero, pow-suc, pow-le-pow_right}
 use Rattle.std.proofs.lemmas.Bool.{cases_lt}
@@ -11,8 +11,7 @@ use Rattle.ln_algebra.proofs.Weights.{weighted-normal}
 use Rattle.ln_algebra.specs.Tree.{Add, InputsBelow, Tree}
 use Rattle.ln_algebra.specs.Weights.{weight}
 use Rattle.ln_bound.specs.Light.{most}
-use Rattle.ln_bound.specs.Value.{weights}
-use Rattle.ln_tree.specs.declared.shape.VarInfo.{VarInfo}
+use Rattle.ln_algebra.specs.Sizes.{two}
 use Rattle.ln_tree.specs.Exps.{IsAbove, Pairs, exponent}
 use Rattle.ln_poly.specs.Sparse.{AreBelow, IsFactor, Sparse, size_of, terms_of}
 use Rattle.ln_poly.specs.Rows.{PowersFit}
@@ -27,11 +26,9 @@ use Rattle.ln_poly.proofs.Weighing.{pow-some, total-weight}
 abbrev pub AreTwo : ℕ → (ℕ → ℕ) → Type 0
 AreTwo n w = (v : ℕ) → v < n → 2 ≤ w v
 
--- so are those of the variables of a predicate
-pub two-weights : (vars : List VarInfo) → AreTwo (length vars) (weights vars)
-two-weights [] v h = absurd (omega arith)
-two-weights (i ∷ vars) zero h = omega arith
-two-weights (i ∷ vars) (suc v) h = two-weights vars v (omega arith)
+-- so it is where each variable counts 2
+pub two-sizes : (n : ℕ) → AreTwo n two
+two-sizes n v h = omega arith
 
 -- ---- weights of pairs
 product-some : (a b : ℕ) → 0 < a → 0 < b → 0 < a * b

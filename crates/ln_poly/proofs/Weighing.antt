@@ -1,5 +1,6 @@
 -- Weights, pair by pair and term by term.
 use Rattle.std.proofs.Common.{◌≡◌, ℕ, ◌+◌, ◌*◌, ◌<◌, ◌≤◌, ◌^◌, zero, suc, refl, sym, ◌∙◌, ap, subst, arith, List, [], ◌∷◌, length, ◌-◌, take, get_or, true, false, eqb, eq-eqb, unsigned_abs, add-one}
+use Rattle.std.specs.Prelude.{MatchOption, None, Option, Some, slice_get}
 use Rattle.std.proofs.Math.IntN.{ℤ}
 use Rattle.std.proofs.Math.Nat.{pow-zero, pow-suc, mul-le-mul_left}
 use Rattle.std.proofs.lemmas.Nat.{pow-add}
@@ -8,14 +9,15 @@ use Rattle.std.proofs.lemmas.Bool.Decides.{nat_tests}
 use Rattle.std.proofs.lemmas.List.Sums.{sum_by-cons, sum_by_more, sum_by-take-le}
 use Rattle.std.proofs.lemmas.List.Elements.{All-head, All-tail}
 use Rattle.ln_algebra.proofs.Weights.{four_ℕ}
+use Rattle.ln_algebra.specs.Terms.{Term}
 use Rattle.ln_algebra.specs.Vector.{plus}
 use Rattle.ln_algebra.specs.Weights.{monomial_weight, weighted_sum}
 use Rattle.ln_bound.specs.Light.{most}
-use Rattle.ln_bound.specs.Value.{sizes}
+use Rattle.ln_bound.specs.Value.{size_or, sizes, weight_or, weights}
 use Rattle.ln_tree.specs.declared.shape.VarInfo.{VarInfo}
 use Rattle.ln_tree.specs.Exps.{IsAbove, Pairs, exponents_from, vector}
 use Rattle.ln_poly.specs.Sparse.{AreBelow, Sparse, terms_of}
-use Rattle.ln_poly.specs.Weight.{IsWeighed, pairs_weight, term_weight, total_weight}
+use Rattle.ln_poly.specs.Weight.{IsWeighed, grown, grown_or, pairs_weight, term_weight, total_weight}
 use Rattle.ln_poly.proofs.Products.{length-vector, vector-plus}
 
 -- ---- monomials
@@ -122,14 +124,20 @@ size-some [] v h = absurd (omega arith)
 size-some (i ∷ vars) zero h = omega arith
 size-some (i ∷ vars) (suc v) h = size-some vars v (omega arith)
 
-pub size-at : (vars : List VarInfo) (ps : Pairs) (i : ℕ) → i < length ps → IsAbove ps (length vars) → 0 < sizes vars (get_or ps i (0, 0)).0
-size-at vars [] i h a = absurd (omega arith)
-size-at vars (p ∷ ps) zero h a = size-some vars p.0 a.0
-size-at vars (p ∷ ps) (suc i) h a = size-at vars ps i (omega arith) a.1
+pub grown-some : (n : ℕ) (vars : List VarInfo) (v : ℕ) → v < length vars → 0 < grown n vars v
+grown-some n [] v h = absurd (omega arith)
+grown-some n (i ∷ vars) zero h = omega arith
+grown-some n (i ∷ vars) (suc v) h = grown-some n vars v (omega arith)
 
-pub weight-some : (vars : List VarInfo) (ps : Pairs) → IsAbove ps (length vars) → 0 < pairs_weight (sizes vars) ps
-weight-some vars [] a = omega arith
-weight-some vars (p ∷ ps) a = product-some (sizes vars p.0 ^ p.1) (pairs_weight (sizes vars) ps) (pow-some (sizes vars p.0) p.1 (size-some vars p.0 a.0)) (weight-some vars ps a.1) where
+pub size-at : (n : ℕ) (vars : List VarInfo) (ps : Pairs) (i : ℕ) → i < length ps → IsAbove ps (length vars) → 0 < grown n vars (get_or ps i (0, 0)).0
+size-at n vars [] i h a = absurd (omega arith)
+size-at n vars (p ∷ ps) zero h a = grown-some n vars p.0 a.0
+size-at n vars (p ∷ ps) (suc i) h a = size-at n vars ps i (omega arith) a.1
+
+-- the weight of pairs isn't 0 where that of no variable is
+pub weight-some : (n : ℕ) (w : ℕ → ℕ) → ((v : ℕ) → v < n → 0 < w v) → (ps : Pairs) → IsAbove ps n → 0 < pairs_weight w ps
+weight-some n w h [] a = omega arith
+weight-some n w h (p ∷ ps) a = product-some (w p.0 ^ p.1) (pairs_weight w ps) (pow-some (w p.0) p.1 (h p.0 a.0)) (weight-some n w h ps a.1) where
   product-some : (a b : ℕ) → 0 < a → 0 < b → 0 < a * b
   product-some (suc a) (suc b) p q = omega arith
   product-some zero b p q = absurd (omega arith)
@@ -144,10 +152,10 @@ pairs-more w (p ∷ ps) (suc i) h =
       times-assoc : (a b c : ℕ) → (a * b) * c ≡ a * (b * c)
       times-assoc a b c = omega arith
 
-pairs-take : (vars : List VarInfo) (ps : Pairs) (i : ℕ) → IsAbove ps (length vars) → pairs_weight (sizes vars) (take i ps) ≤ pairs_weight (sizes vars) ps
-pairs-take vars ps zero a = weight-some vars ps a
-pairs-take vars [] (suc i) a = omega arith
-pairs-take vars (p ∷ ps) (suc i) a = mul-le-mul_left (sizes vars p.0 ^ p.1) (pairs-take vars ps i a.1)
+pairs-take : (n : ℕ) (vars : List VarInfo) (ps : Pairs) (i : ℕ) → IsAbove ps (length vars) → pairs_weight (grown n vars) (take i ps) ≤ pairs_weight (grown n vars) ps
+pairs-take n vars ps zero a = weight-some (length vars) (grown n vars) (grown-some n vars) ps a
+pairs-take n vars [] (suc i) a = omega arith
+pairs-take n vars (p ∷ ps) (suc i) a = mul-le-mul_left (grown n vars p.0 ^ p.1) (pairs-take n vars ps i a.1)
 
 pub weighed-init : (c : ℕ) (w : ℕ → ℕ) (ps : Pairs) → c ≤ most → IsWeighed c c w ps 0
 weighed-init c w ps h = record { product = omega arith; small = h }
@@ -160,11 +168,11 @@ weighed-step p q c w ps i r h e s = record {
   times-assoc : (a b c : ℕ) → (a * b) * c ≡ a * (b * c)
   times-assoc a b c = omega arith
 
-pub weighed-heavy : (p c : ℕ) (vars : List VarInfo) (ps : Pairs) (i : ℕ) → IsAbove ps (length vars) → IsWeighed p c (sizes vars) ps i → i < length ps → most < p * sizes vars (get_or ps i (0, 0)).0 ^ (get_or ps i (0, 0)).1 → most < c * pairs_weight (sizes vars) ps
-weighed-heavy p c vars ps i a r h q =
-    let e : ℕ = sizes vars (get_or ps i (0, 0)).0 ^ (get_or ps i (0, 0)).1 in
-    let x : p * e ≡ c * (pairs_weight (sizes vars) (take i ps) * e) = ap (λ z. z * e) r.product ∙ times-assoc c (pairs_weight (sizes vars) (take i ps)) e in
-    omega (arith, x, ap (λ z. c * z) (pairs-more (sizes vars) ps i h), mul-le-mul_left c (pairs-take vars ps (i + 1) a)) where
+pub weighed-heavy : (n p c : ℕ) (vars : List VarInfo) (ps : Pairs) (i : ℕ) → IsAbove ps (length vars) → IsWeighed p c (grown n vars) ps i → i < length ps → most < p * grown n vars (get_or ps i (0, 0)).0 ^ (get_or ps i (0, 0)).1 → most < c * pairs_weight (grown n vars) ps
+weighed-heavy n p c vars ps i a r h q =
+    let e : ℕ = grown n vars (get_or ps i (0, 0)).0 ^ (get_or ps i (0, 0)).1 in
+    let x : p * e ≡ c * (pairs_weight (grown n vars) (take i ps) * e) = ap (λ z. z * e) r.product ∙ times-assoc c (pairs_weight (grown n vars) (take i ps)) e in
+    omega (arith, x, ap (λ z. c * z) (pairs-more (grown n vars) ps i h), mul-le-mul_left c (pairs-take n vars ps (i + 1) a)) where
       times-assoc : (a b c : ℕ) → (a * b) * c ≡ a * (b * c)
       times-assoc a b c = omega arith
 
@@ -177,12 +185,52 @@ scaled-step w m k p q e f = f ∙ ap (λ t. t * m) e ∙ times-assoc w (m ^ k) m
   times-assoc a b c = omega arith
 
 -- ---- the answers of `weight`, whatever the lists are called
-pub heavy-end : (vars' vars : List VarInfo) (f' f : Sparse) (i : ℕ) (t : Pairs × ℤ) (s : ℕ) → vars' ≡ vars → f' ≡ f → AreBelow (length vars) f → i < length f' → t ≡ get_or f' i t → s ≡ total_weight (sizes vars') (take i f') → most < s + term_weight (sizes vars') t → most < weighted_sum (sizes vars) (terms_of (length vars) f)
-heavy-end vars' vars f' f i t s p q b h e x y =
-    let z : most < total_weight (sizes vars) f = subst (λ v. most < total_weight (sizes v) f) p (subst (λ g. most < total_weight (sizes vars') g) q (total-heavy (sizes vars') f' i t s h e x y)) in
-    omega (arith, z, total-weight (sizes vars) (length vars) f b)
+pub heavy-end : (n : ℕ) (vars' vars : List VarInfo) (f' f : Sparse) (i : ℕ) (t : Pairs × ℤ) (s : ℕ) → vars' ≡ vars → f' ≡ f → AreBelow (length vars) f → i < length f' → t ≡ get_or f' i t → s ≡ total_weight (grown n vars') (take i f') → most < s + term_weight (grown n vars') t → most < weighted_sum (grown n vars) (terms_of (length vars) f)
+heavy-end n vars' vars f' f i t s p q b h e x y =
+    let z : most < total_weight (grown n vars) f = subst (λ v. most < total_weight (grown n v) f) p (subst (λ g. most < total_weight (grown n vars') g) q (total-heavy (grown n vars') f' i t s h e x y)) in
+    omega (arith, z, total-weight (grown n vars) (length vars) f b)
 
-pub sum-end : (vars' vars : List VarInfo) (f' f : Sparse) (i s : ℕ) → vars' ≡ vars → f' ≡ f → AreBelow (length vars) f → length f' ≤ i → s ≡ total_weight (sizes vars') (take i f') → s ≡ weighted_sum (sizes vars) (terms_of (length vars) f)
-sum-end vars' vars f' f i s p q b h x =
-    let z : s ≡ total_weight (sizes vars) f = subst (λ v. s ≡ total_weight (sizes v) f) p (subst (λ g. s ≡ total_weight (sizes vars') g) q (x ∙ ap (total_weight (sizes vars')) (take_all i f' h))) in
-    z ∙ sym (total-weight (sizes vars) (length vars) f b)
+pub sum-end : (n : ℕ) (vars' vars : List VarInfo) (f' f : Sparse) (i s : ℕ) → vars' ≡ vars → f' ≡ f → AreBelow (length vars) f → length f' ≤ i → s ≡ total_weight (grown n vars') (take i f') → s ≡ weighted_sum (grown n vars) (terms_of (length vars) f)
+sum-end n vars' vars f' f i s p q b h x =
+    let z : s ≡ total_weight (grown n vars) f = subst (λ v. s ≡ total_weight (grown n v) f) p (subst (λ g. s ≡ total_weight (grown n vars') g) q (x ∙ ap (total_weight (grown n vars')) (take_all i f' h))) in
+    z ∙ sym (total-weight (grown n vars) (length vars) f b)
+
+-- ---- M and w
+grown-none : (vars : List VarInfo) (v : ℕ) → grown 0 vars v ≡ sizes vars v
+grown-none vars v = by_there (slice_get vars v)
+  where
+    by_there : (o : Option VarInfo) → grown_or 0 o ≡ size_or o
+    by_there None = refl
+    by_there (Some i) = omega arith
+
+grown-one : (vars : List VarInfo) (v : ℕ) → grown 1 vars v ≡ weights vars v
+grown-one vars v = by_there (slice_get vars v)
+  where
+    by_there : (o : Option VarInfo) → grown_or 1 o ≡ weight_or o
+    by_there None = refl
+    by_there (Some i) = omega arith
+
+same_monomial : (u w : ℕ → ℕ) → ((v : ℕ) → u v ≡ w v) → (m : List ℕ) → monomial_weight u m ≡ monomial_weight w m
+same_monomial u w h [] = refl
+same_monomial u w h (n ∷ m) =
+    let e = h 0 in
+    let ih = same_monomial (λ v. u (suc v)) (λ v. w (suc v)) (λ v. h (suc v)) m in
+    rw (e, ih) refl
+
+-- a weighted sum over equal weights
+same_sum : (u w : ℕ → ℕ) → ((v : ℕ) → u v ≡ w v) → (f : List Term) → weighted_sum u f ≡ weighted_sum w f
+same_sum u w h [] = refl
+same_sum u w h (t ∷ f) =
+    let e = same_monomial u w h t.exponents in
+    let ih = same_sum u w h f in
+    rw (e, ih) refl
+
+as_sum : (o : Option ℕ) (a b : ℕ) → a ≡ b → MatchOption o (most < a) (λ s. (s ≡ a) × (s ≤ most)) → MatchOption o (most < b) (λ s. (s ≡ b) × (s ≤ most))
+as_sum o a b e h = rw e at h
+
+-- the sum that the code has is the M-weighted sum, or the w-weighted one
+pub as-sizes : (o : Option ℕ) (vars : List VarInfo) (f : List Term) → MatchOption o (most < weighted_sum (grown 0 vars) f) (λ s. (s ≡ weighted_sum (grown 0 vars) f) × (s ≤ most)) → MatchOption o (most < weighted_sum (sizes vars) f) (λ s. (s ≡ weighted_sum (sizes vars) f) × (s ≤ most))
+as-sizes o vars f h = as_sum o (weighted_sum (grown 0 vars) f) (weighted_sum (sizes vars) f) (same_sum (grown 0 vars) (sizes vars) (grown-none vars) f) h
+
+pub as-weights : (o : Option ℕ) (vars : List VarInfo) (f : List Term) → MatchOption o (most < weighted_sum (grown 1 vars) f) (λ s. (s ≡ weighted_sum (grown 1 vars) f) × (s ≤ most)) → MatchOption o (most < weighted_sum (weights vars) f) (λ s. (s ≡ weighted_sum (weights vars) f) × (s ≤ most))
+as-weights o vars f h = as_sum o (weighted_sum (grown 1 vars) f) (weighted_sum (weights vars) f) (same_sum (grown 1 vars) (weights vars) (grown-one vars) f) h

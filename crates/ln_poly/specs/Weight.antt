@@ -1,9 +1,20 @@
 -- The weight of a polynomial, pair by pair.
-use Rattle.std.specs.Prelude.{◌≡◌, ℕ, ◌*◌, ◌≤◌, ◌^◌, ℤ, unsigned_abs, [], ◌∷◌, take}
+use Rattle.std.specs.Prelude.{◌≡◌, ℕ, ◌+◌, List, Option, Some, None, slice_get, ◌*◌, ◌≤◌, ◌^◌, ℤ, unsigned_abs, [], ◌∷◌, take}
 use Rattle.std.specs.List.{sum_by}
 use Rattle.ln_bound.specs.Light.{most}
+use Rattle.ln_bound.specs.Value.{size_of}
 use Rattle.ln_tree.specs.Exps.{Pairs}
+use Rattle.ln_tree.specs.declared.shape.VarInfo.{VarInfo}
 use Rattle.ln_poly.specs.Sparse.{Sparse}
+
+-- M of a variable, and n more
+abbrev pub grown_or : ℕ → Option VarInfo → ℕ
+grown_or n None = 0
+grown_or n (Some i) = size_of i + n
+
+-- that of variable number v: its M where n is 0, its w where n is 1
+abbrev pub grown : ℕ → List VarInfo → ℕ → ℕ
+grown n vars v = grown_or n (slice_get vars v)
 
 -- the value of the monomial of these pairs at the weights w
 abbrev pub pairs_weight : (ℕ → ℕ) → Pairs → ℕ

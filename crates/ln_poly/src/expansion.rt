@@ -7,6 +7,8 @@ ghost use Rattle.ln_tree.specs.Exps.{vector};
 ghost use Rattle.ln_tree.specs.Variables.{number_or_end};
 ghost use Rattle.ln_tree.specs.Fits.{is_fit, lets_fit};
 ghost use Rattle.ln_tree.specs.Formula.{formula, tree, tree_of};
+ghost use Rattle.ln_algebra.specs.Sizes.{two};
+ghost use Rattle.ln_bound.specs.Loads.{loaded_pred};
 ghost use Rattle.ln_bound.specs.Value.{weights};
 ghost use Rattle.ln_bound.specs.Light.{most, weighed_pred, node_weights, AreLight as HaveWeights};
 ghost use Rattle.ln_poly.specs.Sparse.{terms_of, size_of};
@@ -156,7 +158,7 @@ fn expand(
 ) -> Result<Poly, PolyStop>
     requires few { length vars.now ≤ 168 }
     requires fit { is_fit (length vars.now) (length polys.now) (tree_of vars.now e.now) ≡ true }
-    requires light { AreLight (length vars.now) (weights vars.now) (closed_lets vars.now (map formula lets.now)) (tree_of vars.now e.now) }
+    requires light { AreLight (length vars.now) two (closed_lets vars.now (map formula lets.now)) (tree_of vars.now e.now) }
     requires polys { AreNormal (length vars.now) (closed_lets vars.now (map formula lets.now)) polys.now }
     ensures ok { IfOk result (λ f. Expands (length vars.now) (expanded vars.now (closed_lets vars.now (map formula lets.now)) (formula e.now)) (closed_root vars.now (map formula lets.now) (formula e.now)) f) }
     ensures err { IfErr result (λ s. StopsExpanding (length vars.now) (expanded vars.now (closed_lets vars.now (map formula lets.now)) (formula e.now)) s) }
@@ -195,7 +197,7 @@ fn expand(
 fn expand_lets(alloc: Global, lets: &[Expr], vars: &[VarInfo]) -> Result<Seq<Poly>, PolyStop>
     requires few { length vars.now ≤ 168 }
     requires fit { lets_fit (length vars.now) 0 (map (tree vars.now) (map formula lets.now)) ≡ true }
-    requires light { LetsAreLight (length vars.now) (weights vars.now) [] (map (tree vars.now) (map formula lets.now)) }
+    requires light { LetsAreLight (length vars.now) two [] (map (tree vars.now) (map formula lets.now)) }
     ensures polys { IfOk result (λ fs. AreNormal (length vars.now) (closed_lets vars.now (map formula lets.now)) fs) }
     ensures few { OnOk result (HaveFewTerms (length vars.now) (expanded_lets vars.now [] (map formula lets.now))) }
     ensures err { IfErr result (λ s. StopsExpanding (length vars.now) (expanded_lets vars.now [] (map formula lets.now)) s) }
@@ -209,8 +211,25 @@ fn expand_lets(alloc: Global, lets: &[Expr], vars: &[VarInfo]) -> Result<Seq<Pol
 }
 
 /// The normal polynomial of a predicate's root, with its lets put in; or the first node in order of evaluation that has
-/// more than 1,024 terms, where for a power each of its lower powers counts too. It may have no term. The weights are
-/// those of the predicate: so no coefficient passes `2^127 - 1` on the way.
+/// more than 1,024 terms, where for a power each of its lower powers counts too. It may have no term. No range and no size of
+/// a node may pass `2^127 - 1`: so no coefficient does on the way.
+pub fn normal_by_sizes(alloc: Global, p: &Pred) -> Result<Poly, PolyStop>
+    requires { HaveWeights (loaded_pred p.now.shape.vars (map formula p.now.lets) (formula p.now.root)) }
+    ensures normal { IfOk result (λ f. IsNormal (length p.now.shape.vars) (closed_root p.now.shape.vars (map formula p.now.lets) (formula p.now.root)) f) }
+    ensures few { OnOk result (HaveFewTerms (length p.now.shape.vars) (expanded_pred p.now.shape.vars (map formula p.now.lets) (formula p.now.root))) }
+    ensures terms { IfOk result (λ f. length f ≤ 1024) }
+    ensures degrees { IfOk result (λ f. All (λ t. total_degree (vector (length p.now.shape.vars) t.0) ≤ 126) f) }
+    ensures zero { IfOk result (λ f. (f ≡ []) ↔ IsZeroFault (length p.now.shape.vars) (closed_root p.now.shape.vars (map formula p.now.lets) (formula p.now.root))) }
+    ensures err { IfErr result (λ s. StopsExpanding (length p.now.shape.vars) (expanded_pred p.now.shape.vars (map formula p.now.lets) (formula p.now.root)) s) }
+{
+    let vars = p.shape.vars.as_slice();
+    let lets = p.lets.as_slice();
+    let polys = expand_lets(alloc, lets, vars)?;
+    expand(alloc, &p.root, vars, lets, polys.as_slice())
+}
+
+/// The same where no node is too heavy by weight, as the weights of the predicate say: then the weighted sum over w of the
+/// polynomial is at most `2^127 - 1` too.
 pub fn normal(alloc: Global, p: &Pred, w: &Weights) -> Result<Poly, PolyStop>
     requires weights { w.now ≡ node_weights (weighed_pred p.now.shape.vars (map formula p.now.lets) (formula p.now.root)) }
     requires light { HaveWeights (weighed_pred p.now.shape.vars (map formula p.now.lets) (formula p.now.root)) }
@@ -222,8 +241,5 @@ pub fn normal(alloc: Global, p: &Pred, w: &Weights) -> Result<Poly, PolyStop>
     ensures zero { IfOk result (λ f. (f ≡ []) ↔ IsZeroFault (length p.now.shape.vars) (closed_root p.now.shape.vars (map formula p.now.lets) (formula p.now.root))) }
     ensures err { IfErr result (λ s. StopsExpanding (length p.now.shape.vars) (expanded_pred p.now.shape.vars (map formula p.now.lets) (formula p.now.root)) s) }
 {
-    let vars = p.shape.vars.as_slice();
-    let lets = p.lets.as_slice();
-    let polys = expand_lets(alloc, lets, vars)?;
-    expand(alloc, &p.root, vars, lets, polys.as_slice())
+    normal_by_sizes(alloc, p)
 }

@@ -11,15 +11,16 @@ pub mod expansion;
 pub mod gather;
 pub mod leaf;
 pub mod poly;
+pub mod sizes;
 pub mod times;
 pub mod weights;
 
 pub use arithmetic::{add, mul, sub};
 pub use derivatives::derive;
-pub use expansion::{PolyStop, normal};
+pub use expansion::{PolyStop, normal, normal_by_sizes};
 pub use leaf::{number, power};
 pub use poly::Poly;
-pub use weights::weight;
+pub use weights::{heft, weight};
 
 #[cfg(test)]
 mod tests;

@@ -1,7 +1,7 @@
 // Worked values.
 ghost use Rattle.std.specs.Prelude.{◌≡◌, [], ◌∷◌, pos, neg_ℤ, Some, IfOk};
 
-use crate::{Poly, add, derive, mul, number, power, weight};
+use crate::{Poly, add, derive, heft, mul, number, power, weight};
 use ln_base::{NoMemory, Seq};
 use ln_tree::{Name, Shape, VarInfo};
 use std::alloc::Global;
@@ -55,18 +55,20 @@ fn sums_and_products_have_their_coefficients(rt: HostRuntime) -> Result<(), Fail
     Ok(())
 }
 
-// The derivative of the cube of variable 0, twice, and its weight.
-fn of_cube(alloc: Global) -> Result<(Poly, Option<u128>), NoMemory> {
+// The derivative of the cube of variable 0, twice, and the two weighted sums of the cube.
+fn of_cube(alloc: Global) -> Result<(Poly, Option<u128>, Option<u128>), NoMemory> {
     let s = line(alloc)?;
     let cube = power(alloc, 0, 3, 1)?;
-    let w = weight(&cube, &s);
-    Ok((derive(alloc, &cube, &s, 0, 2)?, w))
+    let m = weight(&cube, &s);
+    let w = heft(&cube, &s);
+    Ok((derive(alloc, &cube, &s, 0, 2)?, m, w))
 }
 
 #[test]
 fn derivatives_are_scaled(rt: HostRuntime) -> Result<(), Fail> {
-    let (second, w) = of_cube(rt.alloc())?;
+    let (second, m, w) = of_cube(rt.alloc())?;
     assert!(rt; is_power(&second, 1, 3));
-    assert!(rt; w == Some(1_000_000_000));
+    assert!(rt; m == Some(1_000_000_000));
+    assert!(rt; w == Some(1_003_003_001));
     Ok(())
 }

@@ -2,7 +2,7 @@ use Rattle.std.proofs.Common.{rules, ◌≡◌, ◌∷◌, [], ap, subst, length
 use Rattle.std.proofs.lemmas.Result.{IfOk-weaker, MatchResult-weaker, err_from_is_err_and}
 use Rattle.ln_algebra.specs.Tree.{Add, Mul, Neg, Pow, Sub, inlined}
 use Rattle.ln_tree.specs.Formula.{FAdd, FMul, FNeg, FPow, FSub, Formula, formula, tree}
-use Rattle.ln_bound.specs.Value.{weights}
+use Rattle.ln_algebra.specs.Sizes.{two}
 use Rattle.ln_poly.specs.Expansion.{closed_lets, expanded, powers}
 use Rattle.ln_poly.specs.Ready.{AreLight}
 use Rattle.ln_poly.proofs.Nodes.{add-room, mul-powers, mul-room, neg-room, one-err, one-ok, pow-room, second-stops, sub-room, two-err, two-ok}
@@ -23,7 +23,7 @@ sum-requires t c =
     let ls = closed_lets vars (map formula c.args.lets.now) in
     let at = c.args.e.now.at in
     let q : formula c.args.e.now ≡ FAdd at (formula c.deref-in-Add.result.now) (formula c.deref-in-Add-2.result.now) = search rules in
-    add-room vars ls (tree vars (formula c.deref-in-Add.result.now)) (tree vars (formula c.deref-in-Add-2.result.now)) c.in_ok-f-in-Add.f c.in_ok-g-in-Add.g (subst (λ (z : Formula). AreLight (length vars) (weights vars) ls (tree vars z)) q c.requires.light) c.in_ok-f-in-Add.ensures.ok.normal c.in_ok-g-in-Add.ensures.ok.normal
+    add-room vars ls (tree vars (formula c.deref-in-Add.result.now)) (tree vars (formula c.deref-in-Add-2.result.now)) c.in_ok-f-in-Add.f c.in_ok-g-in-Add.g (subst (λ (z : Formula). AreLight (length vars) two ls (tree vars z)) q c.requires.light) c.in_ok-f-in-Add.ensures.ok.normal c.in_ok-g-in-Add.ensures.ok.normal
 
 pub returns-in_ok-g-in-Add-clause-ok : goal.returns-in_ok-g-in-Add-clause-ok
 returns-in_ok-g-in-Add-clause-ok t c =
@@ -56,7 +56,7 @@ difference-requires t c =
     let ls = closed_lets vars (map formula c.args.lets.now) in
     let at = c.args.e.now.at in
     let q : formula c.args.e.now ≡ FSub at (formula c.deref-in-Sub.result.now) (formula c.deref-in-Sub-2.result.now) = search rules in
-    sub-room vars ls (tree vars (formula c.deref-in-Sub.result.now)) (tree vars (formula c.deref-in-Sub-2.result.now)) c.in_ok-f-in-Sub.f c.in_ok-g-in-Sub.g (subst (λ (z : Formula). AreLight (length vars) (weights vars) ls (tree vars z)) q c.requires.light) c.in_ok-f-in-Sub.ensures.ok.normal c.in_ok-g-in-Sub.ensures.ok.normal
+    sub-room vars ls (tree vars (formula c.deref-in-Sub.result.now)) (tree vars (formula c.deref-in-Sub-2.result.now)) c.in_ok-f-in-Sub.f c.in_ok-g-in-Sub.g (subst (λ (z : Formula). AreLight (length vars) two ls (tree vars z)) q c.requires.light) c.in_ok-f-in-Sub.ensures.ok.normal c.in_ok-g-in-Sub.ensures.ok.normal
 
 pub returns-in_ok-g-in-Sub-clause-ok : goal.returns-in_ok-g-in-Sub-clause-ok
 returns-in_ok-g-in-Sub-clause-ok t c =
@@ -89,7 +89,7 @@ product-requires-clause-room t c =
     let ls = closed_lets vars (map formula c.args.lets.now) in
     let at = c.args.e.now.at in
     let q : formula c.args.e.now ≡ FMul at (formula c.deref-in-Mul.result.now) (formula c.deref-in-Mul-2.result.now) = search rules in
-    mul-room vars ls (tree vars (formula c.deref-in-Mul.result.now)) (tree vars (formula c.deref-in-Mul-2.result.now)) c.in_ok-f-in-Mul.f c.in_ok-g-in-Mul.g (subst (λ (z : Formula). AreLight (length vars) (weights vars) ls (tree vars z)) q c.requires.light) c.in_ok-f-in-Mul.ensures.ok.normal c.in_ok-g-in-Mul.ensures.ok.normal
+    mul-room vars ls (tree vars (formula c.deref-in-Mul.result.now)) (tree vars (formula c.deref-in-Mul-2.result.now)) c.in_ok-f-in-Mul.f c.in_ok-g-in-Mul.g (subst (λ (z : Formula). AreLight (length vars) two ls (tree vars z)) q c.requires.light) c.in_ok-f-in-Mul.ensures.ok.normal c.in_ok-g-in-Mul.ensures.ok.normal
 
 pub product-requires-clause-powers : goal.product-requires-clause-powers
 product-requires-clause-powers t c =
@@ -97,7 +97,7 @@ product-requires-clause-powers t c =
     let ls = closed_lets vars (map formula c.args.lets.now) in
     let at = c.args.e.now.at in
     let q : formula c.args.e.now ≡ FMul at (formula c.deref-in-Mul.result.now) (formula c.deref-in-Mul-2.result.now) = search rules in
-    mul-powers vars ls (tree vars (formula c.deref-in-Mul.result.now)) (tree vars (formula c.deref-in-Mul-2.result.now)) c.in_ok-f-in-Mul.f c.in_ok-g-in-Mul.g (subst (λ (z : Formula). AreLight (length vars) (weights vars) ls (tree vars z)) q c.requires.light) c.in_ok-f-in-Mul.ensures.ok.normal c.in_ok-g-in-Mul.ensures.ok.normal
+    mul-powers vars ls (tree vars (formula c.deref-in-Mul.result.now)) (tree vars (formula c.deref-in-Mul-2.result.now)) c.in_ok-f-in-Mul.f c.in_ok-g-in-Mul.g (subst (λ (z : Formula). AreLight (length vars) two ls (tree vars z)) q c.requires.light) c.in_ok-f-in-Mul.ensures.ok.normal c.in_ok-g-in-Mul.ensures.ok.normal
 
 pub returns-in_ok-g-in-Mul-clause-ok : goal.returns-in_ok-g-in-Mul-clause-ok
 returns-in_ok-g-in-Mul-clause-ok t c =
@@ -121,7 +121,7 @@ negation-requires t c =
     let ls = closed_lets vars (map formula c.args.lets.now) in
     let at = c.args.e.now.at in
     let q : formula c.args.e.now ≡ FNeg at (formula c.deref.result.now) = search rules in
-    neg-room vars ls (tree vars (formula c.deref.result.now)) c.in_ok-f-in-Neg.f (subst (λ (z : Formula). AreLight (length vars) (weights vars) ls (tree vars z)) q c.requires.light) c.in_ok-f-in-Neg.ensures.ok.normal
+    neg-room vars ls (tree vars (formula c.deref.result.now)) c.in_ok-f-in-Neg.f (subst (λ (z : Formula). AreLight (length vars) two ls (tree vars z)) q c.requires.light) c.in_ok-f-in-Neg.ensures.ok.normal
 
 pub returns-in_ok-f-in-Neg-clause-ok : goal.returns-in_ok-f-in-Neg-clause-ok
 returns-in_ok-f-in-Neg-clause-ok t c =
@@ -145,7 +145,7 @@ raised-requires t c =
     let ls = closed_lets vars (map formula c.args.lets.now) in
     let at = c.args.e.now.at in
     let q : formula c.args.e.now ≡ FPow at (formula c.deref-in-Pow.result.now) c.in-Pow.n = search rules in
-    pow-room vars ls (tree vars (formula c.deref-in-Pow.result.now)) c.in-Pow.n c.in_ok-f-in-Pow.f (subst (λ (z : Formula). AreLight (length vars) (weights vars) ls (tree vars z)) q c.requires.light) c.in_ok-f-in-Pow.ensures.ok.normal
+    pow-room vars ls (tree vars (formula c.deref-in-Pow.result.now)) c.in-Pow.n c.in_ok-f-in-Pow.f (subst (λ (z : Formula). AreLight (length vars) two ls (tree vars z)) q c.requires.light) c.in_ok-f-in-Pow.ensures.ok.normal
 
 pub returns-in_ok-f-in-Pow-clause-ok : goal.returns-in_ok-f-in-Pow-clause-ok
 returns-in_ok-f-in-Pow-clause-ok t c =

@@ -1,25 +1,7 @@
-use Rattle.std.proofs.Common.{arith, sym}
-use Rattle.ln_bound.specs.Value.{sizes}
-use Rattle.ln_poly.proofs.Weighing.{heavy-end, sum-end, total-more, total-nil}
+use Rattle.ln_poly.specs.Sparse.{terms_of}
+use Rattle.std.proofs.Common.{length}
+use Rattle.ln_poly.proofs.Weighing.{as-sizes}
 use Rattle.ln_poly.proofs.weights.weight.Goals as goal
 
-pub terms-init : goal.terms-init
-terms-init c = (sym (total-nil _), omega arith)
-
-pub returns-in_default : goal.returns-in_default
-returns-in_default c =
-    let over = c.if-w-sum.false in
-    let w = c.in-Some.ensures in
-    heavy-end _ _ _ _ c.terms.t-index c.t-item.result c.terms.sum c.as_slice-vars.ensures c.terms-f.ensures.value c.requires (omega arith) c.t-item.is c.terms.invariant.0 (omega (arith, over, w.0, c.terms.invariant.1))
-
-pub returns-in_default-2 : goal.returns-in_default-2
-returns-in_default-2 c =
-    heavy-end _ _ _ _ c.terms.t-index c.t-item.result c.terms.sum c.as_slice-vars.ensures c.terms-f.ensures.value c.requires (omega arith) c.t-item.is c.terms.invariant.0 (omega (arith, c.in_default.ensures))
-
-pub terms-preserved : goal.terms-preserved
-terms-preserved c =
-    let w = c.in-Some.ensures in
-    (omega (arith, w.0, c.terms.invariant.0, total-more (sizes c.as_slice-vars.result.now) c.terms-f.result.now c.terms.t-index c.t-item.result (omega arith) c.t-item.is), omega (arith, c.if-w-sum.true, c.terms.invariant.1))
-
 pub returns : goal.returns
-returns c = (sum-end _ _ _ _ c.terms.t-index c.terms.sum c.as_slice-vars.ensures c.terms-f.ensures.value c.requires (omega (arith, c.terms-test.false)) c.terms.invariant.0, c.terms.invariant.1)
+returns c = as-sizes c.total.result c.args.s.now.vars (terms_of (length c.args.s.now.vars) c.args.f.now) c.total.ensures

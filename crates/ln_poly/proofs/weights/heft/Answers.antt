@@ -1,0 +1,7 @@
+use Rattle.ln_poly.specs.Sparse.{terms_of}
+use Rattle.std.proofs.Common.{length}
+use Rattle.ln_poly.proofs.Weighing.{as-weights}
+use Rattle.ln_poly.proofs.weights.heft.Goals as goal
+
+pub returns : goal.returns
+returns c = as-weights c.total.result c.args.s.now.vars (terms_of (length c.args.s.now.vars) c.args.f.now) c.total.ensures
