@@ -127,12 +127,9 @@ mod tests {
         let alloc = rt.alloc();
         let mut names = Seq::new(alloc);
         names.push(with_span(alloc, Span { start: 1, end: 4 })?)?;
-        assert_eq!(rt; names.len(), 1);
-        assert_eq!(rt;
-            names.as_slice()[0].spans.as_slice()[0],
-            Span { start: 1, end: 4 }
-        );
-        assert_eq!(rt; names.as_slice()[0].at, 3);
+        assert!(rt; names.len() == 1);
+        assert!(rt; names.as_slice()[0].spans.as_slice()[0] == Span { start: 1, end: 4 });
+        assert!(rt; names.as_slice()[0].at == 3);
         let mut chains = Seq::new(alloc);
         let low = Chain {
             top: 1,
@@ -140,7 +137,7 @@ mod tests {
         };
         chains.push(on_top(alloc, 2, low)?)?;
         let chains = Seq::from_vec(chains.into_vec());
-        assert_eq!(rt; chains.get(0).map(|c| c.top), Some(2));
+        assert!(rt; chains.get(0).map(|c| c.top) == Some(2));
         assert!(rt; chains.get(1).is_none());
         assert!(rt; !chains.is_empty());
         Ok(())

@@ -176,9 +176,9 @@ fn sized(alloc: Global, p: &Pred) -> Result<(u128, FittedPred), BoundStop> {
 fn the_orientation_weighs_more_than_its_bound(rt: HostRuntime) -> Result<(), Fail> {
     let p = orientation(&rt, rt.alloc())?;
     let (weight, trees) = sized(rt.alloc(), &p)?;
-    assert_eq!(rt; weight, 8016008);
-    assert_eq!(rt; trees.root.bound, 8000000);
-    assert_eq!(rt; trees.root.width, Width::W64);
+    assert!(rt; weight == 8016008);
+    assert!(rt; trees.root.bound == 8000000);
+    assert!(rt; trees.root.width == Width::W64);
     Ok(())
 }
 
@@ -186,11 +186,11 @@ fn the_orientation_weighs_more_than_its_bound(rt: HostRuntime) -> Result<(), Fai
 fn a_weight_past_128_bits_is_refused_at_its_node(rt: HostRuntime) -> Result<(), Fail> {
     let heavy = two_products(&rt, rt.alloc(), 9223372036854775807)?;
     let at = Span { start: 62, end: 62 };
-    assert_eq!(rt; weigh(rt.alloc(), &heavy).err(), Some(BoundStop::Bound(at)));
+    assert!(rt; weigh(rt.alloc(), &heavy).err() == Some(BoundStop::Bound(at)));
     let light = two_products(&rt, rt.alloc(), 9223372036854775806)?;
     let (weight, trees) = sized(rt.alloc(), &light)?;
-    assert_eq!(rt; weight, 170141183460469231694793815568465002498);
-    assert_eq!(rt; trees.root.width, Width::W128);
+    assert!(rt; weight == 170141183460469231694793815568465002498);
+    assert!(rt; trees.root.width == Width::W128);
     Ok(())
 }
 
@@ -198,14 +198,14 @@ fn a_weight_past_128_bits_is_refused_at_its_node(rt: HostRuntime) -> Result<(), 
 fn lets_and_powers_carry_bounds_and_widths(rt: HostRuntime) -> Result<(), Fail> {
     let p = with_lets(&rt, rt.alloc())?;
     let (weight, trees) = sized(rt.alloc(), &p)?;
-    assert_eq!(rt; weight, 1);
+    assert!(rt; weight == 1);
     let bounds = [4, 64];
     for (t, bound) in trees.lets.as_slice().iter().zip(&bounds) {
-        assert_eq!(rt; t.bound, *bound);
-        assert_eq!(rt; t.width, Width::W64);
+        assert!(rt; t.bound == *bound);
+        assert!(rt; t.width == Width::W64);
     }
-    assert_eq!(rt; trees.root.bound, 1);
-    assert_eq!(rt; trees.root.width, Width::W128);
+    assert!(rt; trees.root.bound == 1);
+    assert!(rt; trees.root.width == Width::W128);
     Ok(())
 }
 
