@@ -17,12 +17,17 @@ use Rattle.ln_bound.specs.Value.{weights}
 use Rattle.ln_poly.specs.Expansion.{HasTooManyTerms, HaveFewTerms, closed_lets, expanded, expanded_lets, powers}
 use Rattle.ln_poly.specs.Ready.{AreLight, IsLight, LetsAreLight}
 use Rattle.ln_poly.proofs.Lets.{pred-light}
-use Rattle.ln_poly.proofs.Room.{two-weights}
 use Rattle.ln_code.specs.Nodes.{IsLetNode, IsNodeOf}
 use Rattle.ln_due.specs.Small.{IsSmall}
 use Rattle.ln_due.proofs.Smallness.{light-low, zeroth-few}
 use Rattle.ln_compile.specs.Accepted.{expanded_of, weighed_of}
 use Rattle.ln_compile.proofs.NodesIn.{NodeIn, node-in}
+
+-- each variable weighs at least 2
+two-weights : (vars : List VarInfo) (v : ℕ) → v < length vars → 2 ≤ weights vars v
+two-weights [] v h = absurd (omega arith)
+two-weights (i ∷ vars) zero h = omega arith
+two-weights (i ∷ vars) (suc v) h = two-weights vars v (omega arith)
 
 -- ---- few terms
 -- of two lists
