@@ -243,7 +243,7 @@ predicate f(p: s) { sign (p.a + p.b + p.c + p.d + p.e)^16; }
 #[test]
 fn a_command_that_stops_says_why(rt: HostRuntime) -> Result<(), Fail> {
     let alloc = rt.alloc();
-    let rows: [(&[&str], &[u64], &[u64], &str, Status); 12] = [
+    let rows: [(&[&str], &[u64], &[u64], &str, Status); 16] = [
         (&[], &[], &[], "error usage\n", Status::Usage),
         (&["run"], &[], &[], "error usage\n", Status::Usage),
         (&["check"], &[], &[], "error usage\n", Status::Usage),
@@ -256,7 +256,11 @@ fn a_command_that_stops_says_why(rt: HostRuntime) -> Result<(), Fail> {
             Status::NoPredicate,
         ),
         (RUN, &[1], &[], "error read\n", Status::Read),
+        (RUN, &[2], &[], "error read\n", Status::Read),
+        (RUN, &[3], &[], "error read\n", Status::Read),
+        (RUN, &[4], &[], "error read\n", Status::Read),
         (CHECK, &[1], &[], "error read\n", Status::Read),
+        (CHECK, &[2], &[], "error read\n", Status::Read),
         (&["check", "t.ln"], &[], &[], "error read\n", Status::Read),
         (
             &["run", "t.ln", "orient", "r.csv"],
