@@ -7,10 +7,10 @@ use Rattle.ln_algebra.proofs.Ranking.{lex-is, member}
 use Rattle.ln_algebra.proofs.Walk.{CoversOn, Distinct, Fresh, Inside, Last, Lex, Listing, Region, Sorted, listing-walk}
 use Rattle.ln_algebra.proofs.Walk as walk_of
 use Rattle.ln_algebra.specs.Earlier.{Earlier, IsInOrder, IsOver, Of, Sites}
-use Rattle.ln_algebra.specs.Stage.{Covered, IsLast, IsMonomial, IsStageList}
+use Rattle.ln_algebra.specs.Stage.{CoveredBy, IsCutOf, IsMonomial, IsStageBy, IsStageList, IsStageListBy}
 use Rattle.ln_algebra.specs.Tree.{Tree}
 use Rattle.ln_algebra.specs.Vector.{covers, zeros}
-use Rattle.ln_algebra.specs.Walk.{AllBelow, AreMonomials, IsRanked, IsRanking, Member, walk}
+use Rattle.ln_algebra.specs.Walk.{AllBelow, AreMonomials, AreMonomialsBy, IsRanked, IsRanking, Member, walk}
 
 -- ---- covers, variable by variable
 -- then each exponent is at least the other's
@@ -74,7 +74,7 @@ inside_from n [] h = tt
 inside_from n (v ∷ vs) h = (h v (inl refl), inside_from n vs (λ u i. h u (inr i)))
 
 -- ---- the walk's words and those of the stages
-module _ (n : ℕ) (sites : Sites) (e : Tree) (vs : List ℕ) (ms : List (List ℕ)) (rank : IsRanking n sites vs) (mono : AreMonomials n e ms) where
+module _ (n : ℕ) (sites : Sites) (M : List ℕ → Type 0) (sized : (m : List ℕ) → M m → length m ≡ n) (vs : List ℕ) (ms : List (List ℕ)) (rank : IsRanking n sites vs) (mono : AreMonomialsBy M ms) where
   -- earlier along the ranking is earlier
   earlier_of : (a b : List ℕ) → Lex vs a b → Earlier sites a b
   earlier_of a b = (lex-is sites vs a b rank.ranked rank.all).0
@@ -101,26 +101,26 @@ module _ (n : ℕ) (sites : Sites) (e : Tree) (vs : List ℕ) (ms : List (List �
     by_site v f (Some s) q = absurd (fresh-not vs v f (rank.all v s q))
 
   -- on the variables of sites, and so on all
-  covers_all : (m a : List ℕ) → IsMonomial n e m → Region vs (zeros n) a → CoversOn vs m a → covers m a ≡ true
-  covers_all m a k r c = covers-from m a (k.size ∙ sym (over_of a r).size) (λ v. by_member v (member vs v)) where
+  covers_all : (m a : List ℕ) → M m → Region vs (zeros n) a → CoversOn vs m a → covers m a ≡ true
+  covers_all m a k r c = covers-from m a (sized m k ∙ sym (over_of a r).size) (λ v. by_member v (member vs v)) where
     by_member : (v : ℕ) → Member vs v ⊎ (Member vs v → ⊥) → get_or a v 0 ≤ get_or m v 0
     by_member v (inl i) = CoversOn-get vs m a c v i
     by_member v (inr d) = omega (arith, off a r v d)
 
   -- covered by the list is covered by a monomial
-  covered_of : (a : List ℕ) → Region vs (zeros n) a → walk_of.Covered vs ms a → Covered n e a
+  covered_of : (a : List ℕ) → Region vs (zeros n) a → walk_of.Covered vs ms a → CoveredBy M a
   covered_of a r c = (c.0, mono.monomials c.0 c.1, covers_all c.0 a (mono.monomials c.0 c.1) r c.2)
 
   -- and the other way
-  of_covered : (a : List ℕ) → Covered n e a → walk_of.Covered vs ms a
+  of_covered : (a : List ℕ) → CoveredBy M a → walk_of.Covered vs ms a
   of_covered a c = (c.0, mono.all c.0 c.1, CoversOn-from vs c.0 a (covers-get c.0 a c.2))
 
   -- the last of the list is the cut
-  last_of : (a : List ℕ) → Region vs (zeros n) a → Last vs ms a → IsLast n e a
+  last_of : (a : List ℕ) → Region vs (zeros n) a → Last vs ms a → IsCutOf M a
   last_of a r l = record { monomial = mono.monomials a l.here; only = λ m k c. l.only m (mono.all m k) (CoversOn-from vs m a (covers-get m a c)) }
 
   -- and the other way
-  of_last : (a : List ℕ) → Region vs (zeros n) a → IsLast n e a → Last vs ms a
+  of_last : (a : List ℕ) → Region vs (zeros n) a → IsCutOf M a → Last vs ms a
   of_last a r l = record { here = mono.all a l.monomial; only = λ m i c. l.only m (mono.monomials m i) (covers_all m a (mono.monomials m i) r c) }
 
   -- sorted along the ranking is in order
@@ -129,7 +129,7 @@ module _ (n : ℕ) (sites : Sites) (e : Tree) (vs : List ℕ) (ms : List (List �
   in_order_of (x ∷ xs) s = (λ b i. earlier_of x b (s.0 b i), in_order_of xs s.1)
 
   -- a listing of the whole region is the stage list
-  stage_list_of : (found : List (List ℕ)) (stop : Bool) → Listing (Region vs (zeros n)) vs ms found stop → IsStageList n sites e found
+  stage_list_of : (found : List (List ℕ)) (stop : Bool) → Listing (Region vs (zeros n)) vs ms found stop → IsStageListBy (Earlier sites) n sites M found
   stage_list_of found stop x = record {
     stages = λ a i. record {
       over = over_of a (x.inside a i);
@@ -141,7 +141,26 @@ module _ (n : ℕ) (sites : Sites) (e : Tree) (vs : List ℕ) (ms : List (List �
   }
 
 -- the walk lists the stages
-pub walk-stages : (n : ℕ) (sites : Sites) (e : Tree) (bound : ℕ) (vs : List ℕ) (ms : List (List ℕ)) → IsRanking n sites vs → AreMonomials n e ms → AllBelow bound ms → IsStageList n sites e (walk bound vs ms (zeros n)).0
-walk-stages n sites e bound vs ms rank mono small =
-    stage_list_of n sites e vs ms rank mono (walk bound vs ms (zeros n)).0 (walk bound vs ms (zeros n)).1
+pub walk-stages-by : (n : ℕ) (sites : Sites) (M : List ℕ → Type 0) → ((m : List ℕ) → M m → length m ≡ n) → (bound : ℕ) (vs : List ℕ) (ms : List (List ℕ)) → IsRanking n sites vs → AreMonomialsBy M ms → AllBelow bound ms → IsStageListBy (Earlier sites) n sites M (walk bound vs ms (zeros n)).0
+walk-stages-by n sites M sized bound vs ms rank mono small =
+    stage_list_of n sites M sized vs ms rank mono (walk bound vs ms (zeros n)).0 (walk bound vs ms (zeros n)).1
     (listing-walk bound vs ms (zeros n) (ranked-distinct sites vs rank.ranked) (let z : length (zeros n) ≡ n = length-zeros n in rw z (inside_from n vs rank.below)) small)
+
+-- those of an expression
+pub walk-stages : (n : ℕ) (sites : Sites) (e : Tree) (bound : ℕ) (vs : List ℕ) (ms : List (List ℕ)) → IsRanking n sites vs → AreMonomials n e ms → AllBelow bound ms → IsStageList n sites e (walk bound vs ms (zeros n)).0
+walk-stages n sites e = walk-stages-by n sites (IsMonomial n e) (λ m k. k.size)
+
+-- ---- two sets of monomials that are one have the same stages
+module _ (before : List ℕ → List ℕ → Type 0) (n : ℕ) (sites : Sites) (M N : List ℕ → Type 0) (to : (m : List ℕ) → M m → N m) (from : (m : List ℕ) → N m → M m) where
+  cut-to : (a : List ℕ) → IsCutOf N a → IsCutOf M a
+  cut-to a l = record { monomial = from a l.monomial; only = λ m k c. l.only m (to m k) c }
+
+  pub stage-to : (a : List ℕ) → IsStageBy before n sites M a → IsStageBy before n sites N a
+  stage-to a s = record { over = s.over; covered = (s.covered.0, to s.covered.0 s.covered.1, s.covered.2); before_cut = λ b o l r. s.before_cut b o (cut-to b l) r }
+
+pub stage_list-to : (before : List ℕ → List ℕ → Type 0) (n : ℕ) (sites : Sites) (M N : List ℕ → Type 0) → ((m : List ℕ) → M m → N m) → ((m : List ℕ) → N m → M m) → (list : List (List ℕ)) → IsStageListBy before n sites M list → IsStageListBy before n sites N list
+stage_list-to before n sites M N to from list s = record {
+  stages = λ a i. stage-to before n sites M N to from a (s.stages a i);
+  all = λ a k. s.all a (stage-to before n sites N M from to a k);
+  in_order = s.in_order;
+}

@@ -1,5 +1,5 @@
 -- The first vector, the sign and the stage list are unique, in any order of infinitesimals.
-use Rattle.std.proofs.Common.{◌≡◌, ℕ, zero, suc, refl, sym, ◌∙◌, ap, arith, List, [], ◌∷◌, Bool, true, false, if◌then◌else◌, ◌⊎◌, inl, inr}
+use Rattle.std.proofs.Common.{◌≡◌, ℕ, refl, sym, ◌∙◌, ap, arith, List, [], ◌∷◌, Bool, true, false, if◌then◌else◌, ◌⊎◌, inl, inr}
 use Rattle.std.proofs.lemmas.Int.{ints}
 use Rattle.std.proofs.Math.IntN.{ℤ, pos, ◌+ℤ◌}
 use Rattle.ln_algebra.proofs.Admissible.{earlier-admissible}
@@ -7,7 +7,7 @@ use Rattle.ln_algebra.proofs.Normal.{same_vector-is, same_vector-refl}
 use Rattle.ln_algebra.specs.Earlier.{Earlier, IndicesDiffer, IsSortedIn, Sites}
 use Rattle.ln_algebra.specs.Orders.{IsAdmissible}
 use Rattle.ln_algebra.specs.Sign.{IsFirst, IsFirstIn, IsPerturbedSign, IsSignIn, perturbed, sign_of}
-use Rattle.ln_algebra.specs.Stage.{IsStageList, IsStageListIn}
+use Rattle.ln_algebra.specs.Stage.{IsMonomial, IsStageList, IsStageListBy, IsStageListIn}
 use Rattle.ln_algebra.specs.Tree.{Tree}
 use Rattle.ln_algebra.specs.Vector.{In, how_many, same_vector}
 
@@ -55,8 +55,11 @@ module _ (n : ℕ) (sites : Sites) (before : List ℕ → List ℕ → Type 0) (
         up a i (inr j) = j
 
 -- two stage lists are one
+pub stage_list-unique-by : (n : ℕ) (sites : Sites) (before : List ℕ → List ℕ → Type 0) → IsAdmissible n sites before → (M : List ℕ → Type 0) (xs ys : List (List ℕ)) → IsStageListBy before n sites M xs → IsStageListBy before n sites M ys → xs ≡ ys
+stage_list-unique-by n sites before order M xs ys s t = sorted-same n sites before order xs ys s.in_order t.in_order (λ a i. t.all a (s.stages a i)) (λ a i. s.all a (t.stages a i))
+
 pub stage_list-unique-in : (n : ℕ) (sites : Sites) (before : List ℕ → List ℕ → Type 0) → IsAdmissible n sites before → (e : Tree) (xs ys : List (List ℕ)) → IsStageListIn before n sites e xs → IsStageListIn before n sites e ys → xs ≡ ys
-stage_list-unique-in n sites before order e xs ys s t = sorted-same n sites before order xs ys s.in_order t.in_order (λ a i. t.all a (s.stages a i)) (λ a i. s.all a (t.stages a i))
+stage_list-unique-in n sites before order e = stage_list-unique-by n sites before order (IsMonomial n e)
 
 -- ---- by the smallest infinitesimal
 -- two first vectors are one

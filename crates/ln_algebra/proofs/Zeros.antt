@@ -1,6 +1,6 @@
 -- The vector of zeros, and the scaled derivative by it.
 use Rattle.std.proofs.Common.{◌≡◌, ℕ, ◌-◌, zero, suc, Bool, true, leb, List, [], ◌∷◌, length, refl, arith}
-use Rattle.std.proofs.Math.IntN.{ℤ, pos, ◌*ℤ◌}
+use Rattle.std.proofs.Math.IntN.{pos, ◌*ℤ◌}
 use Rattle.std.proofs.lemmas.Bool.Decides.{nat_tests}
 use Rattle.ln_algebra.proofs.Ring.{mul_one}
 use Rattle.ln_algebra.specs.Terms.{Over, Term, binomials, covers, derived, minus}

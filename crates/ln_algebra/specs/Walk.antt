@@ -8,10 +8,14 @@ use Rattle.ln_algebra.specs.Stage.{IsMonomial}
 use Rattle.ln_algebra.specs.Tree.{Tree}
 
 -- ---- what it is given
+-- ms are the monomials, all of them and nothing else.
+pub record AreMonomialsBy (monomial : List ℕ → Type 0) (ms : List (List ℕ)) : Type 0 where
+  pub monomials : (m : List ℕ) → In ms m → monomial m
+  pub all : (m : List ℕ) → monomial m → In ms m
+
 -- ms are the monomials of the normal polynomial of e, over n variables.
-pub record AreMonomials (n : ℕ) (e : Tree) (ms : List (List ℕ)) : Type 0 where
-  pub monomials : (m : List ℕ) → In ms m → IsMonomial n e m
-  pub all : (m : List ℕ) → IsMonomial n e m → In ms m
+abbrev pub AreMonomials : ℕ → Tree → List (List ℕ) → Type 0
+AreMonomials n e ms = AreMonomialsBy (IsMonomial n e) ms
 
 -- Each exponent of the vectors is below the bound.
 abbrev pub AllBelow : ℕ → List (List ℕ) → Type 0

@@ -1,4 +1,4 @@
-// Laws of the coefficients of an expression at a perturbed point.
+//! Laws of the coefficients of an expression at a perturbed point.
 
 ghost use Rattle.ln_algebra.specs.Law.{CoefficientsVanishAboveDegree, ProductsAreSumsOverWays};
 

@@ -1,4 +1,4 @@
-// Laws of scaled derivatives.
+//! Laws of scaled derivatives.
 
 ghost use Rattle.ln_algebra.specs.Law.{DerivativesAreCoefficients, DerivativesOnRows, DerivedCoefficients, ProductRule, ProductRuleOfValues};
 

@@ -1,4 +1,4 @@
-// Laws of the order of infinitesimals.
+//! Laws of the order of infinitesimals.
 
 ghost use Rattle.ln_algebra.specs.OrderLaw.{EarlierIsIrreflexive, EarlierIsKeptBySums, EarlierIsTotal, EarlierIsTransitive, FirstIsUnique, InOrderIsOnce, PerturbedSignIsUnique, StageListIsUnique, ZeroIsEarliest};
 

@@ -1,8 +1,8 @@
-// Laws of both orders of infinitesimals: by the smallest one that differs, and
-// by total degree first.
-//
-// A clause can't range over a relation, so the laws range over the two orders
-// by name; the lemmas behind them hold for any relation that is admissible.
+//! Laws of both orders of infinitesimals: by the smallest one that differs, and
+//! by total degree first.
+//!
+//! A clause can't range over a relation, so the laws range over the two orders
+//! by name; the lemmas behind them hold for any relation that is admissible.
 
 ghost use Rattle.ln_algebra.specs.RankLaw.{BothAreAdmissible, FirstIsStageIn, FirstIsUniqueIn, FirstNonzeroStageIsFirstIn, FirstOfProduct, FirstOfProductIsSum, NoFirstOfProduct, NonzeroHasFirstIn, SignAlongTheStagesIn, SignIsUniqueIn, SignOfProduct, StageListIsUniqueIn, SumsCancel, WithoutParamsThereIsFirstIn, ZeroProducts, ZeroStagesHaveNoFirstIn};
 

@@ -1,4 +1,4 @@
-// Laws of sizes.
+//! Laws of sizes.
 
 ghost use Rattle.ln_algebra.specs.Sizes.{CoefficientsAreWithinTheRunningSize, CoefficientsAreWithinTheSize, RunningSizesAreWithinSizes, SizesAreWithinWeights};
 

@@ -1,4 +1,4 @@
-// All ways to write a vector as a sum.
+//! All ways to write a vector as a sum.
 
 ghost use Rattle.ln_algebra.specs.VectorLaw.{CoveredByIsAll, SplitsAreAllSums, WaysAreAllSums};
 

@@ -1,4 +1,4 @@
-// Laws of stages and of the cut.
+//! Laws of stages and of the cut.
 
 ghost use Rattle.ln_algebra.specs.StageLaw.{FirstIsStage, FirstNonzeroStageIsFirst, LastIsConstant, NonzeroHasFirst, SignAlongTheStages, UncoveredIsZero, WalkListsTheStages, WithoutParamsThereIsFirst, ZeroStagesHaveNoFirst};
 

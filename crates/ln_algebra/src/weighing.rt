@@ -1,4 +1,4 @@
-// Laws of weights.
+//! Laws of weights.
 
 ghost use Rattle.ln_algebra.specs.WeightLaw.{DerivativesWeighTheWhole, EachDerivativeWeighsLess, NormalWeighsAtMostTheTree, ValuesAreWithinWeights};
 

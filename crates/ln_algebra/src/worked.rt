@@ -1,4 +1,4 @@
-// Worked values of the definitions.
+//! Worked values of the definitions.
 
 ghost use Rattle.ln_algebra.specs.Worked.{CoefficientOfPy, CollinearCoefficients, DerivativeOfCube, DerivativeOfOrientation, IndicesDecide, LastCoordinateIsLargest, SignPastAParam, SignsOfOrientation, SignsOfSquares, SignsWithAParam, SixTermsAreNormal, SmallestInfinitesimalDecides, StagesOfOrientation, StagesOfSquares, StagesPastAParam, WeightOfOrientation};
 

@@ -1,5 +1,5 @@
 -- The value of digits, and the text of a number.
-use Rattle.std.proofs.Common.{◌≡◌, ℕ, suc, ◌+◌, ◌-◌, ◌*◌, ◌%◌, ◌^◌, ◌<◌, min, Bool, true, false, ◌&&◌, nat_lt, List, [], ◌∷◌, ◌++◌, length, get_or, take, decimal, ℤ, pos, negsuc, unsigned_abs, Some, refl, ap, sym, subst, ◌∙◌, arith, length-append, lt-ltb, pow-suc, ne_eqb, true≢false}
+use Rattle.std.proofs.Common.{◌≡◌, ℕ, suc, ◌+◌, ◌-◌, ◌*◌, ◌%◌, ◌^◌, ◌<◌, ◌≤◌, min, Bool, true, false, ◌&&◌, nat_lt, List, [], ◌∷◌, ◌++◌, length, get_or, take, decimal, ℤ, pos, negsuc, unsigned_abs, Some, refl, ap, sym, subst, ◌∙◌, arith, length-append, lt-ltb, pow-suc, ne_eqb, true≢false}
 use Rattle.std.specs.Fmt.{signed_decimal}
 use Rattle.std.specs.List.{list_all}
 use Rattle.std.specs.Char.{is_ascii_digit}
@@ -8,6 +8,7 @@ use Rattle.std.proofs.lemmas.Fmt.{decimal_is_IsNumeral_wide, decimal_digit, deci
 use Rattle.std.proofs.lemmas.Str.Parse.{IsNumeralModel, numerals_by_weight, tells_all_ascii_digits}
 use Rattle.std.proofs.lemmas.List.{take_more}
 use Rattle.std.proofs.Math.ListN.{get_or-append}
+use Rattle.std.proofs.Math.Nat.{mul-le-mul_right, pow-le-pow_right}
 use Rattle.std.proofs.lemmas.Bool.Decides.{nat_tests}
 use Rattle.ln_base.specs.Decimal.{is_digits, decimal_value, natural_value, integer_value, IsPlain}
 
@@ -46,6 +47,30 @@ text_is_digits n h =
 both_true : (a b : Bool) → (a && b) ≡ true → (a ≡ true) × (b ≡ true)
 both_true true b h = (refl, h)
 both_true false b h = absurd (cc)
+
+-- so many digits write a number below that power of ten
+digit_most : (d : ℕ) → is_ascii_digit d ≡ true → d - 48 ≤ 9
+digit_most d h = grind (arith, nat_tests, h)
+
+one_place : (d p v q : ℕ) → d ≤ 9 → v < p → q ≡ p * 10 → d * p + v < q
+one_place d p v q h k e =
+    let most : d * p ≤ 9 * p = mul-le-mul_right p h in
+    omega (arith, most, k, e)
+
+pub value_below : (ds : List ℕ) → list_all is_ascii_digit ds ≡ true → decimal_value ds < 10 ^ length ds
+value_below [] h = omega arith
+value_below (d ∷ ds) h =
+    let k = both_true (is_ascii_digit d) (list_all is_ascii_digit ds) h in
+    one_place (d - 48) (10 ^ length ds) (decimal_value ds) (10 ^ suc (length ds)) (digit_most d k.0) (value_below ds k.1) (pow-suc 10 (length ds))
+
+-- at most so many digits
+pub value_within : (ds : List ℕ) (n : ℕ) → is_digits ds ≡ true → length ds ≤ n → decimal_value ds < 10 ^ n
+value_within ds n h l =
+    let k = both_true (list_all is_ascii_digit ds) (nat_lt 0 (length ds)) h in
+    let below = value_below ds k.0 in
+    let ten : 0 < 10 = omega arith in
+    let wide : 10 ^ length ds ≤ 10 ^ n = pow-le-pow_right ten l in
+    omega (arith, below, wide)
 
 some_length : (ds : List ℕ) → nat_lt 0 (length ds) ≡ true → 0 < length ds
 some_length ds h = grind (arith, nat_tests, h)

@@ -1,5 +1,5 @@
 //! Lines and columns.
-ghost use Rattle.std.specs.Prelude.{◌≡◌, ◌==◌, ◌+◌, ◌-◌, ◌<◌, ◌≤◌, ◌^◌, length, take, count_by};
+ghost use Rattle.std.specs.Prelude.{◌≡◌, ◌==◌, ◌+◌, ◌-◌, ◌<◌, ◌≤◌, ◌^◌, length, count_by};
 ghost use Rattle.ln_base.specs.Place.{line_of, column_of, behind_line_feed};
 
 fn line_feeds(bytes: &[u8]) -> usize

@@ -1,5 +1,5 @@
 //! Operations on pairs: interval arithmetic (Moore 1966) on whole numbers, without rounding.
-ghost use Rattle.std.specs.Prelude.{◌≡◌, ◌≤◌, ◌*◌, ◌<◌, ◌≤ℤ◌, ◌+ℤ◌, ◌-ℤ◌, ◌*ℤ◌, ◌^◌, unsigned_abs, MatchOption, IsTrue, ◌↔◌};
+ghost use Rattle.std.specs.Prelude.{◌≡◌, ◌≤◌, ◌*◌, ◌<◌, ◌≤ℤ◌, ◌+ℤ◌, ◌-ℤ◌, ◌*ℤ◌, unsigned_abs, MatchOption, IsTrue, ◌↔◌};
 ghost use Rattle.ln_interval.specs.Range.{most, magnitude, sum, difference, opposite, product, power, Covers, IsNoPair, least_of, greatest_of};
 ghost use Rattle.ln_interval.specs.View.{range};
 

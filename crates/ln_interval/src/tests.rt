@@ -1,4 +1,4 @@
-// Pairs made by hand.
+//! Pairs made by hand.
 use crate::pair::{MOST, Pair};
 use std::process::Abort;
 use std::test::Fail;

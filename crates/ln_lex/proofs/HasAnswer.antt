@@ -1,5 +1,5 @@
 -- All bytes have an answer: tokens, a fault, or a token too many.
-use Rattle.std.proofs.Common.{◌≡◌, ℕ, zero, suc, ◌+◌, ◌-◌, ◌<◌, ◌≤◌, ◌==◌, ◌⊎◌, inl, inr, Bool, true, false, List, [], ◌∷◌, ◌++◌, length, take, drop, Option, Some, None, refl, ap, sym, ◌∙◌, arith, subst, length-drop}
+use Rattle.std.proofs.Common.{◌≡◌, ℕ, zero, suc, ◌+◌, ◌-◌, ◌<◌, ◌≤◌, ◌⊎◌, inl, inr, Bool, true, false, List, [], ◌∷◌, ◌++◌, length, take, drop, Option, Some, None, refl, ap, sym, arith, subst, length-drop}
 use Rattle.std.proofs.lemmas.List.{drop-drop}
 use Rattle.ln_base.specs.Words.{is_digit, is_letter, is_name_byte}
 use Rattle.ln_lex.specs.declared.token.Kind.{Kind}
@@ -7,9 +7,10 @@ use Rattle.ln_lex.specs.declared.token.Kind.TheVariants.{Number, Dots}
 use Rattle.ln_lex.specs.declared.token.Token.{Token}
 use Rattle.ln_lex.specs.Answers as answer
 use Rattle.ln_lex.specs.Answers.{IsAnswered}
-use Rattle.ln_lex.specs.Tokens.{run_len, word_kind, sign_of, kind_of, in_comment, comment_len, begins_twice, begins_comment, begins_blank, IsFirst, BeginsNone, Skips, nothing, blank, comment, Behind, Lexed}
+use Rattle.ln_lex.specs.Tokens.{word_kind, sign_of, kind_of, in_comment, comment_len, begins_twice, begins_comment, begins_blank, IsFirst, BeginsNone, Skips, nothing, blank, comment, Behind}
+use Rattle.ln_base.specs.Runs.{run_len}
 use Rattle.ln_lex.proofs.Longest.{name_first, number_first, one_first, two_first, no_sign, no_dot}
-use Rattle.ln_lex.proofs.Runs.{run_within}
+use Rattle.ln_base.proofs.Runs.{run_within}
 use Rattle.ln_lex.proofs.Scanned.{Scanned, scanned_more}
 
 -- what stands at the front of some bytes: a token, or none

@@ -2,6 +2,5 @@ pub mod Gaps
 pub mod HasAnswer
 pub mod Longest
 pub mod OneAnswer
-pub mod Runs
 pub mod Scanned
 pub mod Slices

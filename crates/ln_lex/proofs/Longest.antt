@@ -4,8 +4,9 @@ use Rattle.std.proofs.lemmas.Bool.Decides.{nat_tests}
 use Rattle.ln_lex.specs.declared.token.Kind.{Kind}
 use Rattle.ln_lex.specs.declared.token.Kind.TheVariants.{Number, Dots}
 use Rattle.ln_base.specs.Words.{is_digit, is_letter, is_name_byte}
-use Rattle.ln_lex.specs.Tokens.{run_len, word_kind, sign_of, begins_twice, kind_of, IsFirst, BeginsNone}
-use Rattle.ln_lex.proofs.Runs.{every_front, every_more, run_within}
+use Rattle.ln_lex.specs.Tokens.{word_kind, sign_of, begins_twice, kind_of, IsFirst, BeginsNone}
+use Rattle.ln_base.specs.Runs.{run_len}
+use Rattle.ln_base.proofs.Runs.{every_front, every_more, run_within}
 
 -- more bytes than a word are no token
 name_longest : (b : ℕ) (bs : List ℕ) (m : ℕ) → is_letter b ≡ true → suc (run_len is_name_byte bs) < m → m ≤ length (b ∷ bs) → kind_of (take m (b ∷ bs)) ≡ None

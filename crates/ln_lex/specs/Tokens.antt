@@ -1,5 +1,5 @@
 -- Which bytes are which tokens.
-use Rattle.std.specs.Prelude.{◌≡◌, ℕ, suc, ◌+◌, ◌-◌, ◌<◌, ◌≤◌, ◌==◌, ◌&&◌, ◌||◌, not, Bool, true, false, if◌then◌else◌, nat_le, nat_lt, List, [], ◌∷◌, length, take, drop, Option, Some, None, codes, bytes_eq}
+use Rattle.std.specs.Prelude.{◌≡◌, ℕ, suc, ◌+◌, ◌-◌, ◌<◌, ◌≤◌, ◌==◌, ◌&&◌, ◌||◌, not, Bool, true, false, if◌then◌else◌, nat_lt, List, [], ◌∷◌, length, take, drop, Option, Some, None, codes, bytes_eq}
 use Rattle.ln_base.specs.Words.{is_digit, is_letter, is_name_byte, every}
 use Rattle.ln_lex.specs.declared.byte.Class.{Class}
 use Rattle.ln_lex.specs.declared.byte.Class.TheVariants.{InName, Digits, InComment}
@@ -8,15 +8,11 @@ use Rattle.ln_lex.specs.declared.token.Kind.TheVariants.{Name, Number, Site, Par
 use Rattle.ln_lex.specs.declared.token.Token.{Token}
 use Rattle.ln_lex.specs.declared.scan.LexStop.{LexStop}
 use Rattle.ln_lex.specs.declared.scan.LexStop.TheVariants.{Lexical, Limit, NoMemory}
+use Rattle.ln_base.specs.Runs.{run_len}
 
 -- space, tab, line feed and carriage return
 abbrev pub is_blank : ℕ → Bool
 is_blank b = (b == 32) || (b == 9) || (b == 10) || (b == 13)
-
--- how many bytes at the front pass the test
-abbrev pub run_len : (ℕ → Bool) → List ℕ → ℕ
-run_len p [] = 0
-run_len p (b ∷ bs) = if p b then suc (run_len p bs) else 0
 
 -- a word is one of the five keywords, or else a name
 abbrev pub word_kind : List ℕ → Kind

@@ -1,7 +1,8 @@
-// Classes of bytes, and how far they run.
+//! Classes of bytes, and how far they run.
 ghost use Rattle.std.specs.Prelude.{◌≡◌, ◌≤◌, drop, length};
 ghost use Rattle.ln_base.specs.Words.{is_digit, is_letter};
-ghost use Rattle.ln_lex.specs.Tokens.{begins_blank, begins_twice, in_class, run_len, sign_of};
+ghost use Rattle.ln_lex.specs.Tokens.{begins_blank, begins_twice, in_class, sign_of};
+ghost use Rattle.ln_base.specs.Runs.{run_len};
 
 use crate::token::Kind;
 

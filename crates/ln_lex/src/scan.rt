@@ -1,4 +1,4 @@
-// The scanner.
+//! The scanner.
 ghost use Rattle.std.specs.Prelude.{◌≡◌, ℕ, ◌+◌, ◌<◌, ◌≤◌, ◌^◌, false, List, All, IfErr, IfNone, IfOk, IfSome, drop, length};
 ghost use Rattle.ln_lex.specs.Answers.{IsAnswered};
 ghost use Rattle.ln_lex.specs.Tokens.{BeginsNone, IsFirst, IsLexFault, IsLexLimit, IsSlice, Lexed, RiseFrom, Skips, StopsLexing, begins_blank, begins_comment, comment_len, word_kind};

@@ -1,4 +1,4 @@
-// Tokens of the source language.
+//! Tokens of the source language.
 use ln_base::Span;
 
 /// What a token is: a name, a number, one of the five keywords, or a sign.

@@ -1,4 +1,4 @@
-// Faults of names and limits.
+//! Faults of names and limits.
 use ln_base::Span;
 
 /// A limit of the language. Those of tokens and nesting are tested before names are.

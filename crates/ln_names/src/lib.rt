@@ -1,8 +1,8 @@
-// The rules on names and limits of a source whose tokens are a file of the grammar.
-//
-// `check_names` answers whether no token breaks one, or the first token that does, with its fault: the
-// first one of the table of `specs/Rules.antt`. Behind a file without a fault, the calls of `resolve`
-// find what names stand for and what numbers are.
+//! The rules on names and limits of a source whose tokens are a file of the grammar.
+//!
+//! `check_names` answers whether no token breaks one, or the first token that does, with its fault: the
+//! first one of the table of `specs/Rules.antt`. Behind a file without a fault, the calls of `resolve`
+//! find what names stand for and what numbers are.
 #![tactic(auto)]
 
 pub mod faults;

@@ -1,4 +1,4 @@
-// What names stand for, as places in lists, and what numbers are.
+//! What names stand for, as places in lists, and what numbers are.
 ghost use Rattle.std.specs.Prelude.{◌≡◌, ◌^◌, ◌<◌, ◌&&◌, pos, length, find, option_map, IfSome};
 ghost use Rattle.ln_syntax.specs.Raw.{same, item, items, item_name, is_site, coords_in};
 ghost use Rattle.ln_names.specs.Numbers.{number, end_value, signed};

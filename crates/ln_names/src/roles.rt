@@ -1,4 +1,4 @@
-// What the tokens of an expression are, by their kinds and their neighbours'.
+//! What the tokens of an expression are, by their kinds and their neighbours'.
 ghost use Rattle.std.specs.Prelude.{◌≡◌, ◌<◌};
 ghost use Rattle.ln_syntax.specs.Raw.{kind_at, span_at};
 ghost use Rattle.ln_names.specs.Visits.{is_dot, is_caret, role_at, is_node};

@@ -1,4 +1,4 @@
-// The bytes of a span, and the number that they are.
+//! The bytes of a span, and the number that they are.
 ghost use Rattle.std.specs.Prelude.{◌≡◌, ◌+◌, ◌*◌, ◌-◌, ◌^◌, ◌≤◌, min};
 ghost use Rattle.ln_syntax.specs.Raw.{text, same};
 ghost use Rattle.ln_names.specs.Numbers.{number};

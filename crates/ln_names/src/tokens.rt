@@ -1,4 +1,4 @@
-// The fault at one token, by what the token is.
+//! The fault at one token, by what the token is.
 ghost use Rattle.std.specs.Prelude.{◌≡◌, ◌^◌, ◌<◌, ◌&&◌, length, count_by, nat_lt, int_lt, IfNone};
 ghost use Rattle.std.specs.List.{list_any};
 ghost use Rattle.ln_syntax.specs.Raw.{text, same, item, items, item_name, is_site, is_param, is_pred};
@@ -82,6 +82,7 @@ fn coord_twice(bytes: &[u8], before: &[RawCoord], at: Span) -> bool
     before.iter().any(|c| same(bytes, c.name, at))
 }
 
+/// The fault of a site type's name behind the items `before`: over 32 letters, a seventeenth site type, or the name of an item before.
 pub fn site_name(bytes: &[u8], before: &[RawItem], at: Span) -> Option<Fault>
     ensures { result ≡ fault_at bytes.now (SiteName (items before.now)) at }
 {
@@ -96,6 +97,7 @@ pub fn site_name(bytes: &[u8], before: &[RawItem], at: Span) -> Option<Fault>
     }
 }
 
+/// The fault of a coordinate's name behind those `before` of its site type: over 32 letters, a thirty-third coordinate, or a name before.
 pub fn coord_name(bytes: &[u8], before: &[RawCoord], at: Span) -> Option<Fault>
     ensures { result ≡ fault_at bytes.now (CoordName before.now) at }
 {
@@ -110,6 +112,7 @@ pub fn coord_name(bytes: &[u8], before: &[RawCoord], at: Span) -> Option<Fault>
     }
 }
 
+/// The fault of a param's name behind the items `before`: over 32 letters, a seventeenth param, or the name of an item before.
 pub fn param_name(bytes: &[u8], before: &[RawItem], at: Span) -> Option<Fault>
     ensures { result ≡ fault_at bytes.now (ParamName (items before.now)) at }
 {
@@ -124,6 +127,7 @@ pub fn param_name(bytes: &[u8], before: &[RawItem], at: Span) -> Option<Fault>
     }
 }
 
+/// The fault of a predicate's name behind the items `before`: over 32 letters, a seventeenth predicate, or the name of an item before.
 pub fn pred_name(bytes: &[u8], before: &[RawItem], at: Span) -> Option<Fault>
     ensures { result ≡ fault_at bytes.now (PredName (items before.now)) at }
 {
@@ -154,6 +158,7 @@ fn over_end(bytes: &[u8], at: Span) -> bool
     number(bytes, at) > MOST_END
 }
 
+/// The fault of the low end of a range: a number of 2^127 or more, or an end above 2^63 - 1.
 pub fn low_end(bytes: &[u8], at: Span) -> Option<Fault>
     ensures fault { result ≡ fault_at bytes.now LowEnd at }
     ensures fine { IfNone result (number bytes.now at < 2 ^ 63) }
@@ -192,6 +197,7 @@ fn under_low(bytes: &[u8], range: RawRange) -> bool
     )
 }
 
+/// The fault of the high end of a range: that of a low end, or an end below the range's low one.
 pub fn high_end(bytes: &[u8], range: RawRange) -> Option<Fault>
     requires { number bytes.now range.low.at < 2 ^ 63 }
     ensures { result ≡ fault_at bytes.now (HighEnd range) range.high.at }
@@ -225,6 +231,7 @@ fn param_args(before: &[RawArg]) -> usize
     before.iter().filter(|a| a.is_param).count()
 }
 
+/// The fault of an argument's name behind those `before` of its predicate: over 32 letters, or a name before.
 pub fn arg_name(bytes: &[u8], before: &[RawArg], at: Span) -> Option<Fault>
     ensures { result ≡ fault_at bytes.now (ArgName before.now) at }
 {
@@ -237,6 +244,7 @@ pub fn arg_name(bytes: &[u8], before: &[RawArg], at: Span) -> Option<Fault>
     }
 }
 
+/// The fault of the site type that an argument names: over 32 letters, a sixth site, or no site type of an item before.
 pub fn arg_site(bytes: &[u8], its: &[RawItem], before: &[RawArg], at: Span) -> Option<Fault>
     ensures { result ≡ fault_at bytes.now (ArgSite (items its.now) before.now) at }
 {
@@ -251,6 +259,7 @@ pub fn arg_site(bytes: &[u8], its: &[RawItem], before: &[RawArg], at: Span) -> O
     }
 }
 
+/// The fault of an argument that is a param: a ninth param, or no param of an item before.
 pub fn arg_param(
     bytes: &[u8],
     its: &[RawItem],
@@ -275,6 +284,7 @@ fn known_let(bytes: &[u8], before: &[RawLet], at: Span) -> bool
     before.iter().any(|l| same(bytes, l.name, at))
 }
 
+/// The fault of a let's name behind the lets `before`: over 32 letters, a sixty-fifth let, or the name of an argument or a let before.
 pub fn let_name(bytes: &[u8], args: &[RawArg], before: &[RawLet], at: Span) -> Option<Fault>
     ensures { result ≡ fault_at bytes.now (LetName args.now before.now) at }
 {
@@ -301,6 +311,7 @@ fn known_param_arg(bytes: &[u8], args: &[RawArg], at: Span) -> bool
     args.iter().any(|a| a.is_param && same(bytes, a.name, at))
 }
 
+/// The fault of a number in an expression behind so many nodes: 2^127 or more, or one node too many (2,048).
 pub fn number_node(bytes: &[u8], before: usize, at: Span) -> Option<Fault>
     ensures { result ≡ fault_at bytes.now (NumberNode before) at }
 {
@@ -313,6 +324,7 @@ pub fn number_node(bytes: &[u8], before: usize, at: Span) -> Option<Fault>
     }
 }
 
+/// The fault of an operator behind so many nodes: one node too many (2,048).
 pub fn operator_node(bytes: &[u8], before: usize, at: Span) -> Option<Fault>
     ensures { result ≡ fault_at bytes.now (OperatorNode before) at }
 {
@@ -323,6 +335,7 @@ pub fn operator_node(bytes: &[u8], before: usize, at: Span) -> Option<Fault>
     }
 }
 
+/// The fault of an exponent: a number of 2^127 or more, or one above 16.
 pub fn exponent(bytes: &[u8], at: Span) -> Option<Fault>
     ensures { result ≡ fault_at bytes.now ExponentOf at }
 {
@@ -335,6 +348,7 @@ pub fn exponent(bytes: &[u8], at: Span) -> Option<Fault>
     }
 }
 
+/// The fault of a name in an expression behind so many nodes: over 32 letters, one node too many (2,048), or no let and no param of this name.
 pub fn name_node(bytes: &[u8], seen: Visible, before: usize, at: Span) -> Option<Fault>
     ensures { result ≡ fault_at bytes.now (NameNode before (visible seen.entry)) at }
 {
@@ -349,6 +363,7 @@ pub fn name_node(bytes: &[u8], seen: Visible, before: usize, at: Span) -> Option
     }
 }
 
+/// The fault of an argument whose coordinate is read, behind so many nodes: over 32 letters, one node too many (2,048), or no site of this name.
 pub fn input_node(bytes: &[u8], seen: Visible, before: usize, at: Span) -> Option<Fault>
     ensures { result ≡ fault_at bytes.now (InputNode before (visible seen.entry)) at }
 {
@@ -363,6 +378,7 @@ pub fn input_node(bytes: &[u8], seen: Visible, before: usize, at: Span) -> Optio
     }
 }
 
+/// The fault of the coordinate that is read of an argument: none of this name in its site type.
 pub fn input_coord(bytes: &[u8], seen: Visible, arg: Span, at: Span) -> Option<Fault>
     ensures { result ≡ fault_at bytes.now (InputCoord (visible seen.entry) arg) at }
 {

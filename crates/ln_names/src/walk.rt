@@ -1,14 +1,14 @@
-// The first fault of a file: its tokens in order of the text.
-ghost use Rattle.std.specs.Prelude.{◌≡◌, ◌+◌, ◌<◌, ◌≤◌, ◌^◌, [], length, None, Some, IfOk, IfErr, IfNone, OnOk, ℕ, List};
+//! The first fault of a file: its tokens in order of the text.
+ghost use Rattle.std.specs.Prelude.{◌≡◌, ◌+◌, ◌<◌, ◌≤◌, [], None, Some, IfOk, IfErr, IfNone, OnOk, ℕ, List};
 ghost use Rattle.ln_lex.specs.declared.token.Token.{Token as Tok};
-ghost use Rattle.ln_syntax.specs.Raw.{Item, items, item, kind_at, span_at};
+ghost use Rattle.ln_syntax.specs.Raw.{Item, items, item, span_at};
 ghost use Rattle.ln_names.specs.declared.faults.Found.{Found as Fnd};
 ghost use Rattle.ln_names.specs.Along.{JudgesInOrder};
 ghost use Rattle.ln_names.specs.First.{FirstFault, NoFault};
 ghost use Rattle.ln_names.specs.Limits.{FaultlessIsWithin};
-ghost use Rattle.ln_names.specs.Rules.{fault_at, scope};
+ghost use Rattle.ln_names.specs.Rules.{fault_at};
 ghost use Rattle.ln_names.specs.Resolve.{visible};
-ghost use Rattle.ln_names.specs.Visits.{first_fault, visits_by, range_visits, coord_visits, arg_visits, is_dot, is_caret, role_at, is_node, role_use, kind_use, token_visits, is_node_at, pred_visits, or_later, value_visits, value_nodes, nodes_before, let_visits, item_visits, file_visits};
+ghost use Rattle.ln_names.specs.Visits.{first_fault, visits_by, range_visits, coord_visits, arg_visits, role_at, is_node, role_use, kind_use, token_visits, is_node_at, pred_visits, or_later, value_visits, value_nodes, nodes_before, let_visits, item_visits, file_visits};
 
 use crate::faults::{Fault, Found};
 use crate::resolve::Visible;

@@ -1,5 +1,5 @@
 -- All bytes have a table or a first fault.
-use Rattle.std.proofs.Common.{◌≡◌, ℕ, ◌≤◌, ◌⊎◌, inl, inr, List, [], ◌∷◌, ◌++◌, length, map, Option, Some, None, refl, ap, sym, arith}
+use Rattle.std.proofs.Common.{◌≡◌, ℕ, ◌≤◌, ◌⊎◌, inl, inr, List, [], ◌∷◌, ◌++◌, length, map, Option, Some, None, refl}
 use Rattle.std.specs.Prelude.{count_by}
 use Rattle.ln_base.specs.declared.span.Span.{Span}
 use Rattle.ln_lex.specs.declared.token.Token.{Token}
@@ -10,13 +10,12 @@ use Rattle.ln_lex.proofs.HasAnswer.{has_answer}
 use Rattle.ln_syntax.specs.declared.raw.RawArg.{RawArg}
 use Rattle.ln_syntax.specs.declared.raw.RawLet.{RawLet}
 use Rattle.ln_syntax.specs.declared.raw.Places.{Places}
-use Rattle.ln_syntax.specs.Raw.{Item, SiteItem, ParamItem, PredItem, Is, text}
+use Rattle.ln_syntax.specs.Raw.{Item, Is, text}
 use Rattle.ln_syntax.specs.Expression.{IsExpr}
-use Rattle.ln_syntax.specs.File.{Lets, IsItem, Items, Spelt, no_let, a_let, site, param, predicate, no_item, an_item}
-use Rattle.ln_syntax.specs.Place.{IsShallow, IsText}
+use Rattle.ln_syntax.specs.File.{Lets, Items, Spelt, no_let, a_let, site, param, predicate, no_item, an_item}
+use Rattle.ln_syntax.specs.Place.{IsShallow}
 use Rattle.ln_syntax.proofs.Either.{either_depth, either_place}
 use Rattle.ln_names.specs.declared.faults.Found.{Found}
-use Rattle.ln_names.specs.First.{NoFault, FirstFault}
 use Rattle.ln_names.specs.Rules.{Scope, scope}
 use Rattle.ln_names.specs.Visits.{file_visits, first_fault}
 use Rattle.ln_names.proofs.FirstFault.{is_first, is_clean}

@@ -1,6 +1,6 @@
-// Tables from items.
+//! Tables from items.
 ghost use Rattle.std.specs.Prelude.{◌≡◌, true, ◌<◌, ◌^◌, [], length, map, IfOk};
-ghost use Rattle.ln_syntax.specs.Raw.{item, items, text};
+ghost use Rattle.ln_syntax.specs.Raw.{items, text};
 ghost use Rattle.ln_tree.specs.Table.{TableOf, coord_of, site_of, param_of, pred_of, table_of, pred_fits};
 ghost use Rattle.ln_tree.specs.Whole.{is_whole};
 ghost use Rattle.std.specs.List.{list_all};

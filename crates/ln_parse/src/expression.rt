@@ -1,6 +1,5 @@
-// The expressions of tokens, with their names resolved on the way.
-ghost use Rattle.std.specs.Prelude.{◌≡◌, ◌+◌, ◌^◌, ◌<◌, ◌≤◌, ◌∷◌, pos, length, IfOk, IfSome, Some, None, unwrap_or};
-ghost use Rattle.ln_lex.specs.declared.token.Kind.TheVariants.{Semi};
+//! The expressions of tokens, with their names resolved on the way.
+ghost use Rattle.std.specs.Prelude.{◌≡◌, ◌+◌, ◌^◌, ◌<◌, ◌≤◌, pos, length, IfOk, IfSome, Some, None, unwrap_or};
 ghost use Rattle.ln_syntax.specs.Raw.{items, Is};
 ghost use Rattle.ln_syntax.specs.Expression.{Atom, Power, Unary, Term, Sum, TName, TInput};
 ghost use Rattle.ln_names.specs.Numbers.{number};

@@ -1,5 +1,5 @@
-// The arguments of a predicate and their variables.
-ghost use Rattle.std.specs.Prelude.{◌≡◌, ◌≤◌, ◌<◌, true, [], Some, ◌+◌, ◌∷◌, ◌++◌, suc, option_map, List, length, map, count_by, slice_get, IfOk, OnOk};
+//! The arguments of a predicate and their variables.
+ghost use Rattle.std.specs.Prelude.{◌≡◌, ◌≤◌, ◌<◌, true, [], Some, ◌+◌, ◌∷◌, ◌++◌, suc, List, length, map, count_by, slice_get, IfOk, OnOk};
 ghost use Rattle.std.specs.List.{filter_map, position_from, list_all};
 ghost use Rattle.ln_syntax.specs.Raw.{item, items, same};
 ghost use Rattle.ln_tree.specs.Table.{ArgOf, arg_of, coord_of, site_of, param_of};

@@ -1,4 +1,4 @@
-// Names, from their places in the source.
+//! Names, from their places in the source.
 ghost use Rattle.std.specs.Prelude.{◌≡◌};
 ghost use Rattle.ln_syntax.specs.Raw.{text};
 ghost use Rattle.ln_tree.specs.Names.{name_bytes};

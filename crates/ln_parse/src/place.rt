@@ -1,4 +1,4 @@
-// Tokens by their places.
+//! Tokens by their places.
 ghost use Rattle.std.specs.Prelude.{IsTrue, ◌↔◌, ◌≡◌};
 ghost use Rattle.ln_syntax.specs.Raw.{Is, span_at};
 

@@ -1,5 +1,5 @@
-// Predicates from items.
-ghost use Rattle.std.specs.Prelude.{◌≡◌, ◌≤◌, ◌^◌, ◌<◌, true, [], length, map, take, IfOk};
+//! Predicates from items.
+ghost use Rattle.std.specs.Prelude.{◌≡◌, ◌^◌, ◌<◌, true, [], length, map, IfOk};
 ghost use Rattle.std.specs.List.{list_all};
 ghost use Rattle.ln_syntax.specs.Raw.{items, text};
 ghost use Rattle.ln_names.specs.Limits.{Each};
@@ -8,7 +8,7 @@ ghost use Rattle.ln_tree.specs.Formula.{formula};
 ghost use Rattle.ln_tree.specs.Variables.{is_laid_out};
 ghost use Rattle.ln_tree.specs.Table.{TableOf, site_of, param_of, pred_of, pred_fits};
 ghost use Rattle.ln_parse.specs.Says.{LetsSay, PredSays};
-ghost use Rattle.ln_parse.specs.Ready.{IsNamed, ReadyLet, ReadyPred, Declares, is_few};
+ghost use Rattle.ln_parse.specs.Ready.{ReadyLet, ReadyPred, Declares, is_few};
 
 use crate::expression::{Scene, expression};
 use crate::layout::{Layout, args, laid_out};

@@ -1,11 +1,11 @@
-// The canonical text of tables.
-ghost use Rattle.std.specs.Prelude.{◌≡◌, ◌++◌, ◌∷◌, [], ℕ, List, map, slice_get, unwrap_or, codes, decimal, IfOk};
+//! The canonical text of tables.
+ghost use Rattle.std.specs.Prelude.{◌≡◌, ◌++◌, [], ℕ, List, map, slice_get, unwrap_or, decimal, IfOk};
 ghost use Rattle.ln_tree.specs.Names.{name_bytes};
 ghost use Rattle.ln_tree.specs.Formula.{formula};
 ghost use Rattle.ln_tree.specs.Table.{TableOf, table_of, site_of, coord_of, param_of, arg_of, pred_of};
 ghost use Rattle.ln_parse.specs.Lexemes.{Puts, opening, closing, signed, each};
 ghost use Rattle.ln_parse.specs.Written.{Naming, naming, written, input, range_name, site_name, coord_name};
-ghost use Rattle.ln_parse.specs.Canonical.{fits, wrap, inside, whole, ranged, coord, site, param, arg, further, args, let_of, lets, root, pred, canonical};
+ghost use Rattle.ln_parse.specs.Canonical.{fits, wrap, inside, ranged, coord, site, param, arg, further, args, let_of, lets, root, pred, canonical};
 ghost use Rattle.ln_parse.specs.ReadsBack.{TableNamed, ReadsBack};
 ghost use Rattle.ln_parse.specs.Spanless.{IsTextUpToSpans, table_spanless};
 ghost use Rattle.ln_parse.specs.Text.{TextOf};

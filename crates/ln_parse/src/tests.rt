@@ -1,4 +1,4 @@
-// Sources and their tables.
+//! Sources and their tables.
 use crate::parse;
 use ln_tree::{Arg, Expr, Node, Table};
 use std::alloc::Global;

@@ -24,7 +24,7 @@ least Sum = 1
 least (Factors f) = 0
 least (Terms f) = 0
 
-grows : {ts : List Token} {s : Sort} {i j : ℕ} {e : Tree} → Derives ts s i j e → i + least s ≤ j
+pub grows : {ts : List Token} {s : Sort} {i j : ℕ} {e : Tree} → Derives ts s i j e → i + least s ≤ j
 grows (number n) = omega arith
 grows (name n) = omega arith
 grows (input n d x) = omega arith

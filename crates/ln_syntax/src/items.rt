@@ -1,5 +1,5 @@
-// The reader of the items of tokens that are a file.
-ghost use Rattle.std.specs.Prelude.{◌≡◌, ◌+◌, ◌^◌, ◌<◌, ◌≤◌, ℕ, length, Result, IfOk, IsTrue, ◌↔◌};
+//! The reader of the items of tokens that are a file.
+ghost use Rattle.std.specs.Prelude.{◌≡◌, ◌+◌, ◌^◌, ◌<◌, length, Result, IfOk, IsTrue, ◌↔◌};
 ghost use Rattle.std.specs.List.{All};
 ghost use Rattle.ln_syntax.specs.Raw.{item, items, Is, span_at};
 ghost use Rattle.ln_syntax.specs.Expression.{IsExpr};

@@ -1,4 +1,4 @@
-// The check on nesting: no parenthesis is nested deeper than 64, so that what reads expressions may recurse.
+//! The check on nesting: no parenthesis is nested deeper than 64, so that what reads expressions may recurse.
 ghost use Rattle.std.specs.Prelude.{◌≡◌, ◌<◌, ◌≤◌, ◌^◌, length, IfSome, IfNone, ◌⊎◌, ℕ, List};
 ghost use Rattle.ln_lex.specs.declared.token.Token.{Token as AToken};
 ghost use Rattle.ln_lex.specs.declared.token.Kind.TheVariants.{ParL};

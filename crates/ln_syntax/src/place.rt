@@ -1,4 +1,4 @@
-// The place of a syntax fault: the tokens are recognised in one loop, and no tree is built.
+//! The place of a syntax fault: the tokens are recognised in one loop, and no tree is built.
 ghost use Rattle.std.specs.Prelude.{◌≡◌, ◌<◌, ◌^◌, length, IfSome, IfNone, ◌⊎◌, ◌+◌, ◌≤◌, ℕ, List};
 ghost use Rattle.ln_lex.specs.declared.token.Token.{Token as AToken};
 ghost use Rattle.ln_syntax.specs.Place.{IsText, IsSyntaxFault};

@@ -1,4 +1,4 @@
-// What a derivation gives: items whose names are unresolved, and expressions as ranges of token places.
+//! What a derivation gives: items whose names are unresolved, and expressions as ranges of token places.
 ghost use Rattle.std.specs.Prelude.{◌≡◌, Some};
 ghost use Rattle.ln_syntax.specs.Raw.{item, item_name, is_site, is_param, is_pred, coords_in};
 

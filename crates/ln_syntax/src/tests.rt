@@ -1,4 +1,4 @@
-// The places of faults, in sources.
+//! The places of faults, in sources.
 use crate::{nesting_fault, syntax_fault};
 use ln_lex::{Token, tokens};
 use std::alloc::Global;

@@ -1,4 +1,4 @@
-// What tokens spell is one: no tokens have two trees or two lists of items.
+//! What tokens spell is one: no tokens have two trees or two lists of items.
 ghost use Rattle.std.specs.Prelude.{◌≡◌, ℕ, List};
 ghost use Rattle.ln_lex.specs.declared.token.Token.{Token as TokenOf};
 ghost use Rattle.ln_lex.specs.declared.token.Kind.TheVariants.{Semi};

@@ -1,2 +1,4 @@
 pub mod KeptLemmas
+pub mod LaidLemmas
 pub mod Pairs
+pub mod Powers

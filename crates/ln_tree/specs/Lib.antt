@@ -1,3 +1,4 @@
+pub mod Laid
 pub mod Names
 pub mod Variables
 pub mod Fits

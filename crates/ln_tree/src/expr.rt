@@ -1,4 +1,4 @@
-// Expressions whose names are resolved.
+//! Expressions whose names are resolved.
 use ln_base::Span;
 
 /// An input of a predicate: the place of its argument among all arguments, and the place of its coordinate in the

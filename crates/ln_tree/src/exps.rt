@@ -1,5 +1,6 @@
-// Exponents of a monomial.
+//! Exponents of a monomial.
 ghost use Rattle.std.specs.Prelude.{◌≡◌, ◌<◌, ◌++◌, [], ◌∷◌, IfOk, OnOk, OnErr};
+ghost use Rattle.ln_tree.specs.Exps.{IsRising, exponent};
 
 use ln_base::NoMemory;
 use smallvec::SmallVec;
@@ -66,6 +67,20 @@ impl Exps {
     {
         self.pairs.as_slice()
     }
+}
+
+/// The exponent of variable v, 0 where no pair has it.
+pub fn exponent_of(pairs: &[(u8, u8)], v: u8) -> u8
+    requires { IsRising pairs.now }
+    ensures value { result ≡ exponent v pairs.now }
+    ensures small { result < 128 }
+{
+    'pairs: for p in pairs {
+        if p.0 == v {
+            return p.1;
+        }
+    }
+    0
 }
 
 impl PartialEq for Exps {

@@ -1,5 +1,5 @@
-// The tests that a predicate and a table rest on.
-ghost use Rattle.std.specs.Prelude.{◌==◌, MatchOption, IsTrue, ◌↔◌, ◌-◌, drop, ◌≡◌, ◌+◌, ◌*◌, ◌<◌, ◌≤◌, ◌^◌, length, true, map, nat_le, count_by, slice_get};
+//! The tests that a predicate and a table rest on.
+ghost use Rattle.std.specs.Prelude.{◌==◌, MatchOption, ◌-◌, ◌≡◌, ◌+◌, ◌*◌, ◌<◌, length, true, map, nat_le, count_by, slice_get};
 ghost use Rattle.std.specs.List.{list_all};
 ghost use Rattle.ln_tree.specs.Fits.{is_fit, lets_fit};
 ghost use Rattle.ln_tree.specs.Formula.{formula, tree_of, node_count, node_counts};

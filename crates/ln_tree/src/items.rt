@@ -1,4 +1,4 @@
-// Site types, params and the arguments of predicates.
+//! Site types, params and the arguments of predicates.
 use crate::name::Name;
 use ln_base::Seq;
 

@@ -1,5 +1,5 @@
-// The tests that a shape and its numbering rest on.
-ghost use Rattle.std.specs.Prelude.{position, ◌≡◌, ◌<◌, ◌≤◌, ◌^◌, length, true, count_by};
+//! The tests that a shape and its numbering rest on.
+ghost use Rattle.std.specs.Prelude.{position, ◌≡◌, ◌<◌, length, true, count_by};
 ghost use Rattle.std.specs.List.{list_all};
 ghost use Rattle.ln_tree.specs.Variables.{is_var, number_or_end, same_site, has_range, begins, goes_on, sites_behind, in_order, no_var, starts_site, is_param, is_laid_out};
 

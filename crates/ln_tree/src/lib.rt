@@ -1,14 +1,15 @@
-// The tables that sources are read into: site types, params, predicates and their expressions.
-//
-// The types keep the limits and rules of the source language that speak of them alone, so that a call on a
-// predicate needs no table: `Pred` says that its inputs are variables of its own arguments, that a let's
-// name in it is an earlier let, and how many nodes it has; `Shape` says how its variables are numbered.
+//! The tables that sources are read into: site types, params, predicates and their expressions.
+//!
+//! The types keep the limits and rules of the source language that speak of them alone, so that a call on a
+//! predicate needs no table: `Pred` says that its inputs are variables of its own arguments, that a let's
+//! name in it is an earlier let, and how many nodes it has; `Shape` says how its variables are numbered.
 #![tactic(auto)]
 
 pub mod expr;
 pub mod exps;
 pub mod fits;
 pub mod items;
+pub mod laws;
 pub mod layout;
 pub mod name;
 pub mod pred;
@@ -16,7 +17,7 @@ pub mod shape;
 pub mod table;
 
 pub use expr::{Expr, Node, Var};
-pub use exps::Exps;
+pub use exps::{Exps, exponent_of};
 pub use fits::is_pred;
 pub use items::{Arg, Coord, Param, Site};
 pub use layout::is_shape;

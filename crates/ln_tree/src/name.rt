@@ -1,4 +1,4 @@
-// Names.
+//! Names.
 ghost use Rattle.std.specs.Prelude.{◌≡◌, ◌≤◌, length, take, true};
 ghost use Rattle.ln_base.specs.Words.{is_name};
 

@@ -1,4 +1,4 @@
-// Predicates.
+//! Predicates.
 ghost use Rattle.std.specs.Prelude.{◌≡◌, true, length};
 ghost use Rattle.ln_tree.specs.Kept.{is_pred};
 

@@ -1,4 +1,4 @@
-// The variables of a predicate.
+//! The variables of a predicate.
 ghost use Rattle.std.specs.Prelude.{◌≡◌, true};
 ghost use Rattle.ln_tree.specs.Variables.{is_laid_out};
 

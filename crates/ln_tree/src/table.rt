@@ -1,5 +1,5 @@
-// Tables: the site types, params and predicates of a source.
-ghost use Rattle.std.specs.Prelude.{◌≡◌, true, length, nat_le, ◌&&◌};
+//! Tables: the site types, params and predicates of a source.
+ghost use Rattle.std.specs.Prelude.{◌≡◌, true, ◌&&◌};
 ghost use Rattle.std.specs.List.{list_all};
 ghost use Rattle.ln_tree.specs.Table.{is_table, pred_fits, table_of};
 ghost use Rattle.ln_tree.specs.Whole.{is_whole};

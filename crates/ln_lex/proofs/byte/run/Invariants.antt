@@ -1,5 +1,6 @@
 use Rattle.std.proofs.Common.{◌≡◌, ◌+◌, drop}
-use Rattle.ln_lex.specs.Tokens.{run_len, in_class}
+use Rattle.ln_lex.specs.Tokens.{in_class}
+use Rattle.ln_base.specs.Runs.{run_len}
 use Rattle.ln_lex.proofs.byte.run.Given as goal
 
 abbrev pub invariant-loop-i : goal.invariant-loop-i

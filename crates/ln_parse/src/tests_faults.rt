@@ -1,4 +1,4 @@
-// Sources that are refused: what is wrong, and at which token.
+//! Sources that are refused: what is wrong, and at which token.
 use crate::{LimitWhat, NameWhat, ParseStop, parse};
 use ln_base::Span;
 use ln_names::Fault;

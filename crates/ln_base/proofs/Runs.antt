@@ -1,7 +1,7 @@
 -- How far bytes of a class run.
 use Rattle.std.proofs.Common.{◌≡◌, ℕ, zero, suc, ◌<◌, ◌≤◌, Bool, true, false, cond, List, [], ◌∷◌, length, take, refl, arith}
 use Rattle.ln_base.specs.Words.{every}
-use Rattle.ln_lex.specs.Tokens.{run_len}
+use Rattle.ln_base.specs.Runs.{run_len}
 
 -- by cases of the first byte: each byte of the run passes
 every_front_by : (p : ℕ → Bool) (b : ℕ) (bs : List ℕ) (v : Bool) → p b ≡ v → every p (take (run_len p bs) bs) ≡ true → every p (take (cond v (suc (run_len p bs)) 0) (b ∷ bs)) ≡ true
