@@ -1,115 +1,168 @@
--- Exact bounds are sound where they fit 128 bits, and are the weights with M in place of w.
-use Rattle.std.proofs.Common.{◌≡◌, ℕ, ◌^◌, ◌≤◌, Bool, true, List, [], ◌∷◌, ◌++◌, length, map, refl, zero, suc, ap, arith, unsigned_abs, ◌∙◌, sym, append_assoc, append-nil}
-use Rattle.std.specs.Prelude.{Option, Some, None, slice_get, slice_index_or, nat_le, ◌&&◌}
+-- Exact ranges are those of the nodes, and sound where they are within 2^127 - 1.
+use Rattle.std.proofs.Common.{◌≡◌, ℕ, ℤ, ◌≤◌, true, List, [], ◌∷◌, ◌++◌, length, map, append_assoc, append-nil, refl, zero, suc, ap, arith, pos, ◌∙◌, sym, ap₂}
+use Rattle.std.specs.Prelude.{Option, Some, None, slice_get, slice_index_or}
+use Rattle.std.proofs.lemmas.Int.{ints}
 use Rattle.std.proofs.lemmas.Bool.{and_parts}
 use Rattle.std.proofs.lemmas.List.{map-append}
-use Rattle.ln_algebra.specs.Tree.{Tree, Pow}
-use Rattle.ln_tree.specs.declared.shape.VarInfo.{VarInfo}
+use Rattle.ln_algebra.specs.Tree.{InputsBelow, Tree, Num, Input, Name, Neg, Add, Sub, Mul, Pow}
 use Rattle.ln_tree.specs.Fits.{is_fit, lets_fit}
+use Rattle.ln_tree.specs.declared.shape.VarInfo.{VarInfo}
 use Rattle.ln_bound.specs.declared.fitted.Width.{Width}
 use Rattle.ln_bound.specs.declared.fitted.Two.{Two}
 use Rattle.ln_bound.specs.declared.fitted.Two.TheVariants.{Plus, Minus, Times}
-use Rattle.ln_bound.specs.Value.{weight_over, sizes}
-use Rattle.ln_bound.specs.Light.{most}
-use Rattle.ln_bound.specs.Widths.{limit, least, wider, no_wider}
-use Rattle.ln_bound.specs.Typed.{Typed, TNum, TInput, TLet, TNeg, TTwo, TPow, bound, width, untyped, two_of, bound_of}
-use Rattle.ln_bound.specs.Sound.{covers, sound_nodes}
-use Rattle.ln_bound.specs.Exact.{IsOfLet, IsExact, AreExact}
-use Rattle.ln_bound.specs.Room.{HasRoom, HaveRoom, let_bounds}
-use Rattle.ln_bound.proofs.WidthLaws.{test_le, both_true, least_fits, wider_fits, left_no_wider, first_no_wider, second_no_wider}
+use Rattle.ln_bound.specs.Widths.{least, wider}
+use Rattle.ln_bound.proofs.WidthLaws.{least_fits, wider_fits, left_no_wider, first_no_wider, second_no_wider, lt_test}
+use Rattle.ln_interval.specs.Range.{Range, Holds, Covers, IsOrdered, point, sum, difference, product, opposite, power, magnitude, most}
+use Rattle.ln_bound.specs.Ranges.{HaveRange, LetsHaveRange, let_ranges, ranges, range_over}
+use Rattle.ln_bound.specs.Typed.{Typed, TNum, TInput, TLet, TNeg, TTwo, TPow, pair, width, two_of, untyped, range_of}
+use Rattle.ln_bound.specs.Sound.{IsIn, CoversLet, SoundNodes}
+use Rattle.ln_bound.specs.Exact.{AreExact, IsExact, IsOfLet}
+use Rattle.ln_interval.proofs.Monotone.{covers_self}
+use Rattle.ln_interval.proofs.Magnitudes.{sum_ordered, difference_ordered, opposite_ordered, product_ordered, power_ordered}
 
--- the bound of a let in the list of bounds
-let_bound : (lets : List Typed) (j : ℕ) (u : Typed) → slice_get lets j ≡ Some u → slice_index_or (map bound lets) j 0 ≡ bound u
-let_bound [] j u h = cc
-let_bound (t ∷ ts) zero u h = let e : t ≡ u = cc in ap bound e
-let_bound (t ∷ ts) (suc j) u h = let_bound ts j u h
+-- the range of a let in the list of ranges
+let_range : (lets : List Typed) (j : ℕ) (u : Typed) → slice_get lets j ≡ Some u → slice_index_or (map pair lets) j (point (pos 0)) ≡ pair u
+let_range [] j u h = cc
+let_range (t ∷ ts) zero u h = let e : t ≡ u = cc in ap pair e
+let_range (t ∷ ts) (suc j) u h = let_range ts j u h
 
-of_let : (lets : List Typed) (j : ℕ) (o : Option Typed) (b : ℕ) (w : Width) → slice_get lets j ≡ o → IsOfLet o b w → b ≡ slice_index_or (map bound lets) j 0
-of_let lets j None b w e h = absurd h
-of_let lets j (Some u) b w e h = h.0 ∙ sym (let_bound lets j u e)
+of_let : (lets : List Typed) (j : ℕ) (o : Option Typed) (p : Range) (w : Width) → slice_get lets j ≡ o → IsOfLet o p w → p ≡ slice_index_or (map pair lets) j (point (pos 0))
+of_let lets j None p w e h = absurd h
+of_let lets j (Some u) p w e h = h.0 ∙ sym (let_range lets j u e)
 
--- the bound of an exact tree is its weight with M in place of w
-pub exact_bound : (vars : List VarInfo) (lets : List Typed) (t : Typed) → IsExact vars lets t → bound t ≡ weight_over (sizes vars) (map bound lets) (untyped t)
-exact_bound vars lets (TNum c b w) h = h.0
-exact_bound vars lets (TInput v b w) h = h.0
-exact_bound vars lets (TLet j b w) h = of_let lets j (slice_get lets j) b w refl h
-exact_bound vars lets (TNeg t b w) h = h.1 ∙ exact_bound vars lets t h.0
-exact_bound vars lets (TTwo Plus s t b w) h = let p = exact_bound vars lets s h.0 in let q = exact_bound vars lets t h.1 in h.2 ∙ rw (p, q) refl
-exact_bound vars lets (TTwo Minus s t b w) h = let p = exact_bound vars lets s h.0 in let q = exact_bound vars lets t h.1 in h.2 ∙ rw (p, q) refl
-exact_bound vars lets (TTwo Times s t b w) h = let p = exact_bound vars lets s h.0 in let q = exact_bound vars lets t h.1 in h.2 ∙ rw (p, q) refl
-exact_bound vars lets (TPow t n b w) h = h.1 ∙ ap (λ m. m ^ n) (exact_bound vars lets t h.0)
+-- the range of an exact tree is that of its expression
+pub exact_range : (vars : List VarInfo) (lets : List Typed) (t : Typed) → IsExact vars lets t → pair t ≡ range_over (ranges vars) (map pair lets) (untyped t)
+exact_range vars lets (TNum c p w) h = h.0
+exact_range vars lets (TInput v p w) h = h.0
+exact_range vars lets (TLet j p w) h = of_let lets j (slice_get lets j) p w refl h
+exact_range vars lets (TNeg t p w) h = h.1 ∙ ap opposite (exact_range vars lets t h.0)
+exact_range vars lets (TTwo Plus s t p w) h = let a = exact_range vars lets s h.0 in let b = exact_range vars lets t h.1 in h.2 ∙ ap₂ sum a b
+exact_range vars lets (TTwo Minus s t p w) h = let a = exact_range vars lets s h.0 in let b = exact_range vars lets t h.1 in h.2 ∙ ap₂ difference a b
+exact_range vars lets (TTwo Times s t p w) h = let a = exact_range vars lets s h.0 in let b = exact_range vars lets t h.1 in h.2 ∙ ap₂ product a b
+exact_range vars lets (TPow t n p w) h = h.1 ∙ ap (λ q. power q n) (exact_range vars lets t h.0)
 
--- the test of a bound that is an operation, in the width that is the least
-fits_here : (a b : ℕ) (v w : Width) → b ≡ a → b ≤ most → w ≡ wider v (least b) → (nat_le a b && nat_le b (limit w)) ≡ true
-fits_here a b v w e l s = both_true _ _ (test_le a b (omega (arith, e))) (rw s (test_le b _ (wider_fits v b l)))
+-- a range that is another covers it
+same_covers : (p q : Range) → p ≡ q → Covers p q
+same_covers p q e = rw e (covers_self q)
 
-small : (a b : ℕ) → b ≡ a → a ≤ most → b ≤ most
-small a b e l = omega (arith, e, l)
+two_ordered : (k : Two) (p q : Range) → IsOrdered p → IsOrdered q → IsOrdered (range_of k p q)
+two_ordered Plus p q h g = sum_ordered p q h g
+two_ordered Minus p q h g = difference_ordered p q h g
+two_ordered Times p q h g = product_ordered p q
 
-at_least : (a b : ℕ) → b ≡ a → nat_le a b ≡ true
-at_least a b e = test_le a b (omega (arith, e))
+number_held : (c : ℤ) → Holds (point c) c
+number_held c = (omega (arith, ints), omega (arith, ints))
 
-covers_let : (o : Option Typed) (b : ℕ) (w : Width) → IsOfLet o b w → b ≤ most → (covers o b w && nat_le b (limit w)) ≡ true
-covers_let None b w h l = absurd h
-covers_let (Some u) b w h l = both_true _ _ (both_true _ _ (at_least (bound u) b h.0) (rw h.1 (left_no_wider (width u) (least b)))) (rw h.1 (test_le b _ (wider_fits (width u) b l)))
+-- the range of a node is one, where the magnitude is within 2^127 - 1 and the width is the least
+least_in : (p q : Range) (w : Width) → p ≡ q → IsOrdered q → magnitude p ≤ most → w ≡ least (magnitude p) → IsIn p w
+least_in p q w e o m s = (rw e o, rw s (least_fits (magnitude p) m))
 
--- a node over one operand
-one_sound : (p : Bool) (a b : ℕ) (v w : Width) → p ≡ true → b ≡ a → b ≤ most → w ≡ wider v (least b) → (p && nat_le a b && nat_le b (limit w) && no_wider v w) ≡ true
-one_sound p a b v w h e l s = both_true _ _ (both_true _ _ (both_true _ _ h (test_le a b (omega (arith, e)))) (rw s (test_le b _ (wider_fits v b l)))) (rw s (left_no_wider v (least b)))
+wider_in : (p q : Range) (v w : Width) → p ≡ q → IsOrdered q → magnitude p ≤ most → w ≡ wider v (least (magnitude p)) → IsIn p w
+wider_in p q v w e o m s = (rw e o, rw s (wider_fits v (magnitude p) m))
 
--- a node over two operands
-two_sound : (p q : Bool) (a b : ℕ) (u v w : Width) → p ≡ true → q ≡ true → b ≡ a → b ≤ most → w ≡ wider (wider u v) (least b) → (p && q && nat_le a b && nat_le b (limit w) && no_wider u w && no_wider v w) ≡ true
-two_sound p q a b u v w h g e l s =
-    both_true _ _ (both_true _ _ (both_true _ _ (both_true _ _ (both_true _ _ h g) (test_le a b (omega (arith, e)))) (rw s (test_le b _ (wider_fits (wider u v) b l)))) (rw s (first_no_wider u v (least b)))) (rw s (second_no_wider u v (least b)))
+-- an exact node is in order where variables and lets are
+pub exact_ordered : (vars : List VarInfo) (lets : List Typed) → ((v : ℕ) → IsOrdered (ranges vars v)) → ((j : ℕ) (u : Typed) → slice_get lets j ≡ Some u → IsOrdered (pair u)) → (t : Typed) → IsExact vars lets t → IsOrdered (pair t)
+exact_ordered vars lets h l (TNum c p w) x = let e : p ≡ point c = x.0 in rw e (omega (arith, ints))
+exact_ordered vars lets h l (TInput v p w) x = let e : p ≡ ranges vars v = x.0 in rw e (h v)
+exact_ordered vars lets h l (TLet j p w) x = by_let (slice_get lets j) refl x
+  where
+    by_let : (o : Option Typed) → slice_get lets j ≡ o → IsOfLet o p w → IsOrdered p
+    by_let None q y = absurd y
+    by_let (Some u) q y = let e : p ≡ pair u = y.0 in rw e (l j u q)
+exact_ordered vars lets h l (TNeg t p w) x = let e : p ≡ opposite (pair t) = x.1 in let i = opposite_ordered (pair t) (exact_ordered vars lets h l t x.0) in rw e i
+exact_ordered vars lets h l (TTwo k s t p w) x = let e : p ≡ range_of k (pair s) (pair t) = x.2 in let i = two_ordered k (pair s) (pair t) (exact_ordered vars lets h l s x.0) (exact_ordered vars lets h l t x.1) in rw e i
+exact_ordered vars lets h l (TPow t n p w) x = let e : p ≡ power (pair t) n = x.1 in let i = power_ordered (pair t) n in rw e i
 
--- exact nodes are sound where their bounds fit 128 bits
-pub exact_nodes : (vars : List VarInfo) (lets : List Typed) (t : Typed) → is_fit (length vars) (length lets) (untyped t) ≡ true → IsExact vars lets t → HasRoom (sizes vars) (map bound lets) (untyped t) → sound_nodes vars lets t ≡ true
-exact_nodes vars lets (TNum c b w) f h r = both_true _ _ (at_least (unsigned_abs c) b h.0) (rw h.1 (test_le b _ (least_fits b (small _ b h.0 r))))
-exact_nodes vars lets (TInput v b w) f h r = both_true _ _ (both_true _ _ f (at_least (sizes vars v) b h.0)) (rw h.1 (test_le b _ (least_fits b (small _ b h.0 r))))
-exact_nodes vars lets (TLet j b w) f h r = covers_let (slice_get lets j) b w h (small _ b (exact_bound vars lets (TLet j b w) h) r)
-exact_nodes vars lets (TNeg t b w) f h r = one_sound _ _ b (width t) w (exact_nodes vars lets t f h.0 r.0) h.1 (small _ b (exact_bound vars lets (TNeg t b w) h) r.1) h.2
-exact_nodes vars lets (TTwo Plus s t b w) f h r =
-    let p = and_parts (is_fit (length vars) (length lets) (untyped s)) _ f in
-    two_sound _ _ _ b (width s) (width t) w (exact_nodes vars lets s p.0 h.0 r.0) (exact_nodes vars lets t p.1 h.1 r.1) h.2 (small _ b (exact_bound vars lets (TTwo Plus s t b w) h) r.2) h.3
-exact_nodes vars lets (TTwo Minus s t b w) f h r =
-    let p = and_parts (is_fit (length vars) (length lets) (untyped s)) _ f in
-    two_sound _ _ _ b (width s) (width t) w (exact_nodes vars lets s p.0 h.0 r.0) (exact_nodes vars lets t p.1 h.1 r.1) h.2 (small _ b (exact_bound vars lets (TTwo Minus s t b w) h) r.2) h.3
-exact_nodes vars lets (TTwo Times s t b w) f h r =
-    let p = and_parts (is_fit (length vars) (length lets) (untyped s)) _ f in
-    two_sound _ _ _ b (width s) (width t) w (exact_nodes vars lets s p.0 h.0 r.0) (exact_nodes vars lets t p.1 h.1 r.1) h.2 (small _ b (exact_bound vars lets (TTwo Times s t b w) h) r.2) h.3
-exact_nodes vars lets (TPow t n b w) f h r =
-    let p = and_parts (is_fit (length vars) (length lets) (untyped t)) _ f in
-    one_sound _ _ b (width t) w (exact_nodes vars lets t p.0 h.0 r.0) h.1 (small _ b (exact_bound vars lets (TPow t n b w) h) r.1) h.2
+small : (p q : Range) → p ≡ q → magnitude q ≤ most → magnitude p ≤ most
+small p q e l = rw e l
 
--- one more let among the bounds
-pub bounds_more : (vars : List VarInfo) (done : List Typed) (t : Typed) → IsExact vars done t → map bound (done ++ t ∷ []) ≡ map bound done ++ weight_over (sizes vars) (map bound done) (untyped t) ∷ []
-bounds_more vars done t h = map-append bound done (t ∷ []) ∙ ap (λ (b : ℕ). map bound done ++ b ∷ []) (exact_bound vars done t h)
+let_sound : (o : Option Typed) (p : Range) (w : Width) → ((u : Typed) → o ≡ Some u → IsOrdered (pair u)) → IsOfLet o p w → magnitude p ≤ most → CoversLet o p w × IsIn p w
+let_sound None p w l h m = absurd h
+let_sound (Some u) p w l h m = ((same_covers p (pair u) h.0, rw h.1 (left_no_wider (width u) (least (magnitude p)))), wider_in p (pair u) (width u) w h.0 (l u refl) m h.1)
+
+-- an operation on two exact nodes
+exact_two : (vars : List VarInfo) (lets : List Typed) → ((v : ℕ) → IsOrdered (ranges vars v)) → ((j : ℕ) (u : Typed) → slice_get lets j ≡ Some u → IsOrdered (pair u)) → (k : Two) (s t : Typed) (p : Range) (w : Width) → IsExact vars lets (TTwo k s t p w) → SoundNodes vars lets s → SoundNodes vars lets t → magnitude p ≤ most → SoundNodes vars lets (TTwo k s t p w)
+exact_two vars lets h l k s t p w x a b m =
+    let o = exact_ordered vars lets h l s x.0 in
+    let n = exact_ordered vars lets h l t x.1 in
+    (a, b, same_covers p (range_of k (pair s) (pair t)) x.2, wider_in p (range_of k (pair s) (pair t)) (wider (width s) (width t)) w x.2 (two_ordered k (pair s) (pair t) o n) m x.3, rw x.3 (first_no_wider (width s) (width t) (least (magnitude p))), rw x.3 (second_no_wider (width s) (width t) (least (magnitude p))))
+
+-- exact nodes are sound where the ranges are within 2^127 - 1
+pub exact_nodes : (vars : List VarInfo) (lets : List Typed) → ((v : ℕ) → IsOrdered (ranges vars v)) → ((j : ℕ) (u : Typed) → slice_get lets j ≡ Some u → IsOrdered (pair u)) → (t : Typed) → InputsBelow (length vars) (untyped t) → IsExact vars lets t → HaveRange vars (map pair lets) (untyped t) → SoundNodes vars lets t
+exact_nodes vars lets h l (TNum c p w) f x r = (let e : p ≡ point c = x.0 in rw e (number_held c), least_in p (point c) w x.0 (omega (arith, ints)) (small p (point c) x.0 r) x.1)
+exact_nodes vars lets h l (TInput v p w) f x r = (f, same_covers p (ranges vars v) x.0, least_in p (ranges vars v) w x.0 (h v) (small p (ranges vars v) x.0 r) x.1)
+exact_nodes vars lets h l (TLet j p w) f x r = let_sound (slice_get lets j) p w (λ u e. l j u e) x (small p _ (of_let lets j (slice_get lets j) p w refl x) r)
+exact_nodes vars lets h l (TNeg t p w) f x r =
+    let m = small p _ (exact_range vars lets (TNeg t p w) x) r.1 in
+    let o = exact_ordered vars lets h l t x.0 in
+    (exact_nodes vars lets h l t f x.0 r.0, same_covers p (opposite (pair t)) x.1, wider_in p (opposite (pair t)) (width t) w x.1 (opposite_ordered (pair t) o) m x.2, rw x.2 (left_no_wider (width t) (least (magnitude p))))
+exact_nodes vars lets h l (TTwo Plus s t p w) f x r =
+    exact_two vars lets h l Plus s t p w x (exact_nodes vars lets h l s f.0 x.0 r.0) (exact_nodes vars lets h l t f.1 x.1 r.1) (small p _ (exact_range vars lets (TTwo Plus s t p w) x) r.2)
+exact_nodes vars lets h l (TTwo Minus s t p w) f x r =
+    exact_two vars lets h l Minus s t p w x (exact_nodes vars lets h l s f.0 x.0 r.0) (exact_nodes vars lets h l t f.1 x.1 r.1) (small p _ (exact_range vars lets (TTwo Minus s t p w) x) r.2)
+exact_nodes vars lets h l (TTwo Times s t p w) f x r =
+    exact_two vars lets h l Times s t p w x (exact_nodes vars lets h l s f.0 x.0 r.0) (exact_nodes vars lets h l t f.1 x.1 r.1) (small p _ (exact_range vars lets (TTwo Times s t p w) x) r.2)
+exact_nodes vars lets h l (TPow t n p w) f x r =
+    let m = small p _ (exact_range vars lets (TPow t n p w) x) r.1 in
+    (exact_nodes vars lets h l t f x.0 r.0, same_covers p (power (pair t) n) x.1, wider_in p (power (pair t) n) (width t) w x.1 (power_ordered (pair t) n) m x.2, rw x.2 (left_no_wider (width t) (least (magnitude p))))
+
+-- the inputs of a fit tree are variables
+pub inputs_below : (n k : ℕ) (e : Tree) → is_fit n k e ≡ true → InputsBelow n e
+inputs_below n k (Num c) h = tt
+inputs_below n k (Input v) h = lt_test v n h
+inputs_below n k (Name j) h = tt
+inputs_below n k (Neg e) h = inputs_below n k e h
+inputs_below n k (Add e f) h = let p = and_parts (is_fit n k e) _ h in (inputs_below n k e p.0, inputs_below n k f p.1)
+inputs_below n k (Sub e f) h = let p = and_parts (is_fit n k e) _ h in (inputs_below n k e p.0, inputs_below n k f p.1)
+inputs_below n k (Mul e f) h = let p = and_parts (is_fit n k e) _ h in (inputs_below n k e p.0, inputs_below n k f p.1)
+inputs_below n k (Pow e m) h = let p = and_parts (is_fit n k e) _ h in inputs_below n k e p.0
+
+-- ---- lets
+-- one more let among the ranges
+pub pairs_more : (vars : List VarInfo) (done : List Typed) (t : Typed) → IsExact vars done t → map pair (done ++ t ∷ []) ≡ map pair done ++ range_over (ranges vars) (map pair done) (untyped t) ∷ []
+pairs_more vars done t h = map-append pair done (t ∷ []) ∙ ap (λ (p : Range). map pair done ++ p ∷ []) (exact_range vars done t h)
 
 pub length_more : (done : List Typed) (t : Typed) → length (done ++ t ∷ []) ≡ suc (length done)
 length_more [] t = refl
 length_more (u ∷ us) t = ap suc (length_more us t)
 
--- the bounds of exact lets
-pub exact_lets : (vars : List VarInfo) (done ts : List Typed) → AreExact vars done ts → map bound (done ++ ts) ≡ let_bounds (sizes vars) (map bound done) (map untyped ts)
-exact_lets vars done [] h = ap (λ (us : List Typed). map bound us) (append-nil done)
+-- the ranges of exact lets
+pub exact_lets : (vars : List VarInfo) (done ts : List Typed) → AreExact vars done ts → map pair (done ++ ts) ≡ let_ranges (ranges vars) (map pair done) (map untyped ts)
+exact_lets vars done [] h = ap (λ (us : List Typed). map pair us) (append-nil done)
 exact_lets vars done (t ∷ ts) h =
     let ih = exact_lets vars (done ++ t ∷ []) ts h.1 in
-    ap (λ (us : List Typed). map bound us) (sym (append_assoc done (t ∷ []) ts)) ∙ ih ∙ ap (λ (bs : List ℕ). let_bounds (sizes vars) bs (map untyped ts)) (bounds_more vars done t h.0)
+    ap (λ (us : List Typed). map pair us) (sym (append_assoc done (t ∷ []) ts)) ∙ ih ∙ ap (λ (ps : List Range). let_ranges (ranges vars) ps (map untyped ts)) (pairs_more vars done t h.0)
+
+-- their ranges are in order where those of the variables are
+abbrev AllOrdered : List Typed → Type 0
+AllOrdered ts = (j : ℕ) (u : Typed) → slice_get ts j ≡ Some u → IsOrdered (pair u)
+
+more_ordered : (ts : List Typed) (t : Typed) → AllOrdered ts → IsOrdered (pair t) → AllOrdered (ts ++ t ∷ [])
+more_ordered [] t h o zero u e = let q : t ≡ u = cc in rw (← q) o
+more_ordered [] t h o (suc j) u e = cc
+more_ordered (s ∷ ts) t h o zero u e = h 0 u e
+more_ordered (s ∷ ts) t h o (suc j) u e = more_ordered ts t (λ i. h (suc i)) o j u e
+
+pub lets_ordered : (vars : List VarInfo) → ((v : ℕ) → IsOrdered (ranges vars v)) → (done ts : List Typed) → ((j : ℕ) (u : Typed) → slice_get done j ≡ Some u → IsOrdered (pair u)) → AreExact vars done ts → (j : ℕ) (u : Typed) → slice_get (done ++ ts) j ≡ Some u → IsOrdered (pair u)
+lets_ordered vars o done [] h x = let e : done ++ [] ≡ done = append-nil done in rw e h
+lets_ordered vars o done (t ∷ ts) h x =
+    let e : done ++ t ∷ ts ≡ (done ++ t ∷ []) ++ ts = sym (append_assoc done (t ∷ []) ts) in
+    rw e (lets_ordered vars o (done ++ t ∷ []) ts (more_ordered done t h (exact_ordered vars done o h t x.0)) x.1)
 
 -- lets on the way: these are done, and the rest stands behind them
 pub record LetsSoFar (vars : List VarInfo) (whole rest : List Tree) (done : List Typed) : Type 0 where
   pub goes_on : (us : List Typed) → map untyped us ≡ rest → AreExact vars done us → (map untyped (done ++ us) ≡ whole) × AreExact vars [] (done ++ us)
   pub fit : lets_fit (length vars) (length done) rest ≡ true
-  pub room : HaveRoom (sizes vars) (map bound done) rest
+  pub small : LetsHaveRange vars (map pair done) rest
 
-pub lets_start : (vars : List VarInfo) (whole : List Tree) → lets_fit (length vars) 0 whole ≡ true → HaveRoom (sizes vars) [] whole → LetsSoFar vars whole whole []
-lets_start vars whole f r = record { goes_on = λ us e h. (e, h); fit = f; room = r }
+pub lets_start : (vars : List VarInfo) (whole : List Tree) → lets_fit (length vars) 0 whole ≡ true → LetsHaveRange vars [] whole → LetsSoFar vars whole whole []
+lets_start vars whole f r = record { goes_on = λ us e h. (e, h); fit = f; small = r }
 
 pub lets_next : (vars : List VarInfo) (whole rest : List Tree) (e : Tree) (done : List Typed) (t : Typed) → LetsSoFar vars whole (e ∷ rest) done → untyped t ≡ e → IsExact vars done t → LetsSoFar vars whole rest (done ++ t ∷ [])
 lets_next vars whole rest e done t s q h = record {
   goes_on = λ us p g. rw (append_assoc done (t ∷ []) us) (s.goes_on (t ∷ us) (both (untyped t) e (map untyped us) rest q p) (h, g));
   fit = rw (length_more done t) ((and_parts (is_fit (length vars) (length done) e) _ s.fit).1);
-  room = rw (bounds_more vars done t h, q) s.room.1;
+  small = rw (pairs_more vars done t h, q) s.small.1;
 }
   where
     both : (x y : Tree) (xs ys : List Tree) → x ≡ y → xs ≡ ys → x ∷ xs ≡ y ∷ ys
@@ -121,18 +174,18 @@ lets_end vars whole done s =
     let e : done ++ [] ≡ done = append-nil done in
     rw e at r
 
--- the next let may stand there, and its bounds fit 128 bits
+-- the next let may stand there, and its ranges are within the limit
 pub next_fit : (vars : List VarInfo) (whole rest : List Tree) (e : Tree) (done : List Typed) → LetsSoFar vars whole (e ∷ rest) done → is_fit (length vars) (length done) e ≡ true
 next_fit vars whole rest e done s = (and_parts (is_fit (length vars) (length done) e) _ s.fit).0
 
-pub next_room : (vars : List VarInfo) (whole rest : List Tree) (e : Tree) (done : List Typed) → LetsSoFar vars whole (e ∷ rest) done → HasRoom (sizes vars) (map bound done) e
-next_room vars whole rest e done s = s.room.0
+pub next_range : (vars : List VarInfo) (whole rest : List Tree) (e : Tree) (done : List Typed) → LetsSoFar vars whole (e ∷ rest) done → HaveRange vars (map pair done) e
+next_range vars whole rest e done s = s.small.0
 
--- the bound of a sum, difference, product or power of exact trees fits 128 bits where there is room
-pub two_room : (vars : List VarInfo) (lets : List Typed) (k : Two) (e f : Tree) (s t : Typed) → HasRoom (sizes vars) (map bound lets) (two_of k e f) → untyped s ≡ e → untyped t ≡ f → IsExact vars lets s → IsExact vars lets t → bound_of k (bound s) (bound t) ≤ most
-two_room vars lets Plus e f s t r p q h g = let a = exact_bound vars lets s h in let b = exact_bound vars lets t g in rw (a, b, p, q) r.2
-two_room vars lets Minus e f s t r p q h g = let a = exact_bound vars lets s h in let b = exact_bound vars lets t g in rw (a, b, p, q) r.2
-two_room vars lets Times e f s t r p q h g = let a = exact_bound vars lets s h in let b = exact_bound vars lets t g in rw (a, b, p, q) r.2
+-- the range of a number, an opposite, a sum, difference, product or power of exact trees is within the limit where its node's is
+pub two_range : (vars : List VarInfo) (lets : List Typed) (k : Two) (e f : Tree) (s t : Typed) → HaveRange vars (map pair lets) (two_of k e f) → untyped s ≡ e → untyped t ≡ f → IsExact vars lets s → IsExact vars lets t → magnitude (range_of k (pair s) (pair t)) ≤ most
+two_range vars lets Plus e f s t r p q h g = let a = exact_range vars lets s h in let b = exact_range vars lets t g in rw (a, b, p, q) r.2
+two_range vars lets Minus e f s t r p q h g = let a = exact_range vars lets s h in let b = exact_range vars lets t g in rw (a, b, p, q) r.2
+two_range vars lets Times e f s t r p q h g = let a = exact_range vars lets s h in let b = exact_range vars lets t g in rw (a, b, p, q) r.2
 
-pub power_room : (vars : List VarInfo) (lets : List Typed) (e : Tree) (n : ℕ) (t : Typed) → HasRoom (sizes vars) (map bound lets) (Pow e n) → untyped t ≡ e → IsExact vars lets t → bound t ^ n ≤ most
-power_room vars lets e n t r p h = let a = exact_bound vars lets t h in rw (a, p) r.1
+pub power_range : (vars : List VarInfo) (lets : List Typed) (e : Tree) (n : ℕ) (t : Typed) → HaveRange vars (map pair lets) (Pow e n) → untyped t ≡ e → IsExact vars lets t → magnitude (power (pair t) n) ≤ most
+power_range vars lets e n t r p h = let a = exact_range vars lets t h in rw (a, p) r.1

@@ -19,10 +19,9 @@ use Rattle.ln_bound.specs.declared.weigh.BoundStop.{BoundStop}
 use Rattle.ln_bound.specs.Light.{most, AreLight}
 use Rattle.ln_bound.specs.Loads.{loaded, loaded_lets, loaded_pred, measured, measured_lets, node_measures, nodes_by, ranges_of_lets, sizes_of_lets}
 use Rattle.ln_bound.specs.Measures.{IsMeasure, range_in, seen, size_in}
-use Rattle.ln_bound.specs.RangedTyped.{range_of}
+use Rattle.ln_bound.specs.Typed.{range_of, bound_of, two_of}
 use Rattle.ln_bound.specs.Ranges.{range_over, ranges, size_over, load_over}
 use Rattle.ln_bound.specs.Stop.{StopsWeighing, IsHeavyOrNoMemory}
-use Rattle.ln_bound.specs.Typed.{bound_of, two_of}
 use Rattle.ln_bound.proofs.Weighing.{Nodes, light_behind, light_both, stop_before, stop_behind, stop_here}
 
 abbrev pub Seen : Type 0

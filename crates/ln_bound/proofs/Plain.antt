@@ -4,7 +4,7 @@ use Rattle.std.proofs.lemmas.Int.{ints}
 use Rattle.ln_algebra.specs.Tree.{Tree, Num, Input, Name, Neg, Add, Sub, Mul, Pow}
 use Rattle.ln_algebra.specs.Vector.{splits, is_zero}
 use Rattle.ln_algebra.specs.Coefficient as algebra
-use Rattle.ln_algebra.specs.Coefficient.{Series, coefficient, constant, product}
+use Rattle.ln_algebra.specs.Coefficient.{Series, coefficient, product}
 use Rattle.ln_bound.specs.Value.{power, value}
 
 splits_zero : (a : List ℕ) → is_zero a ≡ true → splits a ≡ (a, a) ∷ []

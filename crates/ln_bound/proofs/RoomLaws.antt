@@ -1,20 +1,27 @@
--- Bounds are at most weights, node by node.
-use Rattle.std.proofs.Common.{◌≡◌, ℕ, ◌*◌, ◌^◌, ◌≤◌, List, [], ◌∷◌, ◌++◌, length, map, refl, zero, suc, ap, arith, sym, append_assoc, append-nil}
-use Rattle.std.specs.Prelude.{Option, Some, None, slice_get, slice_index_or}
-use Rattle.std.proofs.lemmas.Nat.{mul-le}
-use Rattle.std.proofs.Math.Nat.{pow-suc, pow-zero}
-use Rattle.std.proofs.lemmas.List.{map-append}
+-- Where no node has too large a load, its range and its running size are within 2^127 - 1, and so is its value.
+use Rattle.std.proofs.Common.{◌≡◌, ℕ, ℤ, ◌≤◌, max, List, [], ◌∷◌, ◌++◌, length, map, refl, arith, unsigned_abs}
+use Rattle.std.specs.Prelude.{slice_index_or}
+use Rattle.ln_algebra.specs.Sizes.{one, two}
 use Rattle.ln_algebra.specs.Tree.{Tree, Num, Input, Name, Neg, Add, Sub, Mul, Pow}
 use Rattle.ln_tree.specs.declared.shape.VarInfo.{VarInfo}
 use Rattle.ln_tree.specs.Formula.{Formula, FNum, FInput, FName, FNeg, FAdd, FSub, FMul, FPow, tree}
-use Rattle.ln_bound.specs.declared.fitted.Two.TheVariants.{Plus, Minus, Times}
-use Rattle.ln_bound.specs.Value.{weight_over, sizes, weights, size_or, weight_or}
-use Rattle.ln_bound.specs.Light.{weight_of, weighed, weighed_lets, weighed_pred, let_weights, AreLight, node_weights}
-use Rattle.ln_bound.specs.Typed.{Typed, TNum, TInput, TLet, TNeg, TTwo, TPow, bound, untyped, bounds, all_bounds}
-use Rattle.ln_bound.specs.Exact.{IsExact, AreExact, AreAtMost}
+use Rattle.ln_interval.specs.Range.{Range, Holds, magnitude, power}
+use Rattle.ln_interval.proofs.Magnitudes.{holds_magnitude, power_magnitude}
+use Rattle.ln_interval.proofs.Pairs.{power_holds}
+use Rattle.ln_bound.specs.Light.{most, AreLight, LetsFit, ValuesFit, let_values}
+use Rattle.ln_bound.specs.Loads.{load_of, loaded, loaded_lets, loaded_pred, nodes_by, ranges_of_lets, sizes_of_lets}
+use Rattle.ln_bound.specs.Ranges.{HaveRange, LetsHaveRange, let_ranges, range_over, ranges, size_over}
 use Rattle.ln_bound.specs.Room.{HasRoom, HaveRoom, let_bounds}
-use Rattle.ln_bound.proofs.Fitting.{light_parts, within}
-use Rattle.ln_bound.proofs.ExactLaws.{exact_bound, bounds_more}
+use Rattle.ln_bound.specs.UpTo.{AreUpTo}
+use Rattle.ln_bound.specs.Value.{value, weight_over}
+use Rattle.ln_bound.specs.Value as plain
+use Rattle.ln_bound.proofs.Fitting.{light_parts, lower}
+use Rattle.ln_bound.proofs.LoadLaws.{long_more, more_sizes}
+use Rattle.ln_bound.proofs.RangeLaws.{AllHold, lets_hold, more_held, more_long, value_held}
+use Rattle.std.specs.Prelude.{◌^◌}
+use Rattle.std.proofs.Common.{zero, suc, ◌*◌}
+use Rattle.std.proofs.lemmas.Nat.{mul-le}
+use Rattle.std.proofs.Math.Nat.{pow-suc, pow-zero}
 
 power_le : (a b n : ℕ) → a ≤ b → a ^ n ≤ b ^ n
 power_le a b zero h = omega (arith, pow-zero a, pow-zero b)
@@ -34,156 +41,150 @@ weight_grows m w ms ws h l (Sub e f) = let p = weight_grows m w ms ws h l e in l
 weight_grows m w ms ws h l (Mul e f) = mul-le _ _ _ _ (weight_grows m w ms ws h l e) (weight_grows m w ms ws h l f)
 weight_grows m w ms ws h l (Pow e n) = power_le _ _ n (weight_grows m w ms ws h l e)
 
-or_below : (o : Option VarInfo) → size_or o ≤ weight_or o
-or_below None = omega arith
-or_below (Some i) = omega arith
+less : (a b : ℕ) → a ≤ b → b ≤ most → a ≤ most
+less a b h l = omega (arith, h, l)
 
--- M of a variable is below its weight
-pub sizes_below : (vars : List VarInfo) (v : ℕ) → sizes vars v ≤ weights vars v
-sizes_below vars v = or_below (slice_get vars v)
+-- where the number of each node is at most what is tested of it, no number is too large where no node is
+up_to : (vars : List VarInfo) (num : Tree → ℕ) (by : Formula → ℕ) → ((f : Formula) → num (tree vars f) ≤ by f) → (f : Formula) → AreLight (nodes_by by f) → AreUpTo num most (tree vars f)
+up_to vars num by h (FNum at c) l = less _ _ (h (FNum at c)) l.0
+up_to vars num by h (FInput at a c) l = less _ _ (h (FInput at a c)) l.0
+up_to vars num by h (FName at j) l = less _ _ (h (FName at j)) l.0
+up_to vars num by h (FNeg at e) l =
+    let p = light_parts (nodes_by by e) _ l in
+    (up_to vars num by h e p.0, less _ _ (h (FNeg at e)) p.1.0)
+up_to vars num by h (FAdd at e f) l =
+    let p = light_parts (nodes_by by e ++ nodes_by by f) _ l in
+    let q = light_parts (nodes_by by e) _ p.0 in
+    (up_to vars num by h e q.0, up_to vars num by h f q.1, less _ _ (h (FAdd at e f)) p.1.0)
+up_to vars num by h (FSub at e f) l =
+    let p = light_parts (nodes_by by e ++ nodes_by by f) _ l in
+    let q = light_parts (nodes_by by e) _ p.0 in
+    (up_to vars num by h e q.0, up_to vars num by h f q.1, less _ _ (h (FSub at e f)) p.1.0)
+up_to vars num by h (FMul at e f) l =
+    let p = light_parts (nodes_by by e ++ nodes_by by f) _ l in
+    let q = light_parts (nodes_by by e) _ p.0 in
+    (up_to vars num by h e q.0, up_to vars num by h f q.1, less _ _ (h (FMul at e f)) p.1.0)
+up_to vars num by h (FPow at e n) l =
+    let p = light_parts (nodes_by by e) _ l in
+    (up_to vars num by h e p.0, less _ _ (h (FPow at e n)) p.1.0)
 
--- one more number below
-below_more : (ms ws : List ℕ) (m w : ℕ) → length ms ≡ length ws → m ≤ w → ((j : ℕ) → slice_index_or ms j 0 ≤ slice_index_or ws j 0) → (j : ℕ) → slice_index_or (ms ++ m ∷ []) j 0 ≤ slice_index_or (ws ++ w ∷ []) j 0
-below_more [] [] m w e h l zero = h
-below_more [] [] m w e h l (suc j) = omega arith
-below_more [] (v ∷ ws) m w e h l j = absurd (omega arith)
-below_more (y ∷ ms) [] m w e h l j = absurd (omega arith)
-below_more (y ∷ ms) (v ∷ ws) m w e h l zero = l 0
-below_more (y ∷ ms) (v ∷ ws) m w e h l (suc j) = below_more ms ws m w (omega arith) h (λ i. l (suc i)) j
+-- room is said of each node
+room_of : (m : ℕ → ℕ) (ms : List ℕ) (e : Tree) → AreUpTo (weight_over m ms) most e → HasRoom m ms e
+room_of m ms (Num c) h = h
+room_of m ms (Input v) h = h
+room_of m ms (Name j) h = h
+room_of m ms (Neg e) h = (room_of m ms e h.0, h.1)
+room_of m ms (Add e f) h = (room_of m ms e h.0, room_of m ms f h.1, h.2)
+room_of m ms (Sub e f) h = (room_of m ms e h.0, room_of m ms f h.1, h.2)
+room_of m ms (Mul e f) h = (room_of m ms e h.0, room_of m ms f h.1, h.2)
+room_of m ms (Pow e n) h = (room_of m ms e h.0, h.1)
 
-length_same : (ms ws : List ℕ) (m w : ℕ) → length ms ≡ length ws → length (ms ++ m ∷ []) ≡ length (ws ++ w ∷ [])
-length_same [] [] m w e = refl
-length_same [] (v ∷ ws) m w e = absurd (omega arith)
-length_same (y ∷ ms) [] m w e = absurd (omega arith)
-length_same (y ∷ ms) (v ∷ ws) m w e = ap suc (length_same ms ws m w (omega arith))
+left : (a b : ℕ) → a ≤ max a b
+left a b = omega arith
 
--- where no node is too heavy, all bounds fit 128 bits
-pub light_room : (vars : List VarInfo) (ms ws : List ℕ) → ((j : ℕ) → slice_index_or ms j 0 ≤ slice_index_or ws j 0) → (f : Formula) → AreLight (weighed vars ws f) → HasRoom (sizes vars) ms (tree vars f)
-light_room vars ms ws l (FNum at c) a = within _ _ (weight_grows (sizes vars) (weights vars) ms ws (sizes_below vars) l (tree vars (FNum at c))) a.0
-light_room vars ms ws l (FInput at i c) a = within _ _ (weight_grows (sizes vars) (weights vars) ms ws (sizes_below vars) l (tree vars (FInput at i c))) a.0
-light_room vars ms ws l (FName at j) a = within _ _ (weight_grows (sizes vars) (weights vars) ms ws (sizes_below vars) l (tree vars (FName at j))) a.0
-light_room vars ms ws l (FNeg at e) a =
-    let p = light_parts (weighed vars ws e) _ a in
-    (light_room vars ms ws l e p.0, within _ _ (weight_grows (sizes vars) (weights vars) ms ws (sizes_below vars) l (tree vars (FNeg at e))) p.1.0)
-light_room vars ms ws l (FAdd at e f) a =
-    let p = light_parts (weighed vars ws e ++ weighed vars ws f) _ a in
-    let q = light_parts (weighed vars ws e) (weighed vars ws f) p.0 in
-    (light_room vars ms ws l e q.0, light_room vars ms ws l f q.1, within _ _ (weight_grows (sizes vars) (weights vars) ms ws (sizes_below vars) l (tree vars (FAdd at e f))) p.1.0)
-light_room vars ms ws l (FSub at e f) a =
-    let p = light_parts (weighed vars ws e ++ weighed vars ws f) _ a in
-    let q = light_parts (weighed vars ws e) (weighed vars ws f) p.0 in
-    (light_room vars ms ws l e q.0, light_room vars ms ws l f q.1, within _ _ (weight_grows (sizes vars) (weights vars) ms ws (sizes_below vars) l (tree vars (FSub at e f))) p.1.0)
-light_room vars ms ws l (FMul at e f) a =
-    let p = light_parts (weighed vars ws e ++ weighed vars ws f) _ a in
-    let q = light_parts (weighed vars ws e) (weighed vars ws f) p.0 in
-    (light_room vars ms ws l e q.0, light_room vars ms ws l f q.1, within _ _ (weight_grows (sizes vars) (weights vars) ms ws (sizes_below vars) l (tree vars (FMul at e f))) p.1.0)
-light_room vars ms ws l (FPow at e n) a =
-    let p = light_parts (weighed vars ws e) _ a in
-    (light_room vars ms ws l e p.0, within _ _ (weight_grows (sizes vars) (weights vars) ms ws (sizes_below vars) l (tree vars (FPow at e n))) p.1.0)
+-- the range of each node is within the limit
+pub light_ranges : (vars : List VarInfo) (ps : List Range) (ss : List ℕ) (f : Formula) → AreLight (loaded vars ps ss f) → HaveRange vars ps (tree vars f)
+light_ranges vars ps ss f l = up_to vars (λ n. magnitude (range_over (ranges vars) ps n)) (load_of vars ps ss) (λ g. left (magnitude (range_over (ranges vars) ps (tree vars g))) (size_over ss (tree vars g))) f l
 
--- what holds of lets that are not too heavy: their bounds fit, and are within their weights
-pub record RoomOfLets (vars : List VarInfo) (ms ws : List ℕ) (fs : List Formula) : Type 0 where
-  pub room : HaveRoom (sizes vars) ms (map (tree vars) fs)
-  pub below : (j : ℕ) → slice_index_or (let_bounds (sizes vars) ms (map (tree vars) fs)) j 0 ≤ slice_index_or (let_weights vars ws fs) j 0
+right : (a b c : ℕ) → a ≤ c → a ≤ max b c
+right a b c h = omega (arith, h)
 
-pub light_lets_room : (vars : List VarInfo) (ms ws : List ℕ) → length ms ≡ length ws → ((j : ℕ) → slice_index_or ms j 0 ≤ slice_index_or ws j 0) → (fs : List Formula) → AreLight (weighed_lets vars ws fs) → RoomOfLets vars ms ws fs
-light_lets_room vars ms ws e l [] a = record { room = tt; below = l }
-light_lets_room vars ms ws e l (f ∷ fs) a =
-    let p = light_parts (weighed vars ws f) _ a in
-    let m = weight_over (sizes vars) ms (tree vars f) in
-    let w = weight_of vars ws f in
-    let r = light_lets_room vars (ms ++ m ∷ []) (ws ++ w ∷ []) (length_same ms ws m w e) (below_more ms ws m w e (weight_grows (sizes vars) (weights vars) ms ws (sizes_below vars) l (tree vars f)) l) fs p.1 in
-    record { room = (light_room vars ms ws l f p.0, r.room); below = r.below }
+-- a running size is at most the size, where those of lets are
+running_below : (rs ss : List ℕ) → ((j : ℕ) → slice_index_or rs j 0 ≤ slice_index_or ss j 0) → (e : Tree) → weight_over one rs e ≤ size_over ss e
+running_below rs ss l e = weight_grows one two rs ss (λ v. omega arith) l e
 
--- where no node of a predicate is too heavy, all bounds of its lets and root fit 128 bits
-pub light_pred_room : (vars : List VarInfo) (lets : List Formula) (root : Formula) → AreLight (weighed_pred vars lets root) → HaveRoom (sizes vars) [] (map (tree vars) lets) × HasRoom (sizes vars) (let_bounds (sizes vars) [] (map (tree vars) lets)) (tree vars root)
-light_pred_room vars lets root a =
-    let p = light_parts (weighed_lets vars [] lets) _ a in
-    let r = light_lets_room vars [] [] refl (λ j. omega arith) lets p.0 in
-    (r.room, light_room vars (let_bounds (sizes vars) [] (map (tree vars) lets)) (let_weights vars [] lets) r.below root p.1)
+-- and so is the running size of each node
+pub light_running : (vars : List VarInfo) (ps : List Range) (rs ss : List ℕ) → ((j : ℕ) → slice_index_or rs j 0 ≤ slice_index_or ss j 0) → (f : Formula) → AreLight (loaded vars ps ss f) → HasRoom one rs (tree vars f)
+light_running vars ps rs ss l f a = room_of one rs (tree vars f) (up_to vars (weight_over one rs) (load_of vars ps ss) (λ g. right (weight_over one rs (tree vars g)) (magnitude (range_over (ranges vars) ps (tree vars g))) (size_over ss (tree vars g)) (running_below rs ss l (tree vars g))) f a)
 
--- the weights of all nodes of an expression, in order of evaluation
-abbrev pub node_list : (ℕ → ℕ) → List ℕ → Tree → List ℕ
-node_list m ms (Num c) = weight_over m ms (Num c) ∷ []
-node_list m ms (Input v) = weight_over m ms (Input v) ∷ []
-node_list m ms (Name j) = weight_over m ms (Name j) ∷ []
-node_list m ms (Neg e) = node_list m ms e ++ weight_over m ms (Neg e) ∷ []
-node_list m ms (Add e f) = node_list m ms e ++ node_list m ms f ++ weight_over m ms (Add e f) ∷ []
-node_list m ms (Sub e f) = node_list m ms e ++ node_list m ms f ++ weight_over m ms (Sub e f) ∷ []
-node_list m ms (Mul e f) = node_list m ms e ++ node_list m ms f ++ weight_over m ms (Mul e f) ∷ []
-node_list m ms (Pow e n) = node_list m ms e ++ weight_over m ms (Pow e n) ∷ []
+-- ---- lets
+lets_ranges : (vars : List VarInfo) (ps : List Range) (ss : List ℕ) (fs : List Formula) → AreLight (loaded_lets vars ps ss fs) → LetsHaveRange vars ps (map (tree vars) fs)
+lets_ranges vars ps ss [] l = tt
+lets_ranges vars ps ss (f ∷ fs) l =
+    let p = light_parts (loaded vars ps ss f) _ l in
+    (light_ranges vars ps ss f p.0, lets_ranges vars (ps ++ range_over (ranges vars) ps (tree vars f) ∷ []) (ss ++ size_over ss (tree vars f) ∷ []) fs p.1)
 
-at_most_both : (bs cs ws xs : List ℕ) → AreAtMost bs ws → AreAtMost cs xs → AreAtMost (bs ++ cs) (ws ++ xs)
-at_most_both [] cs [] xs h g = g
-at_most_both [] cs (w ∷ ws) xs h g = absurd h
-at_most_both (b ∷ bs) cs [] xs h g = absurd h
-at_most_both (b ∷ bs) cs (w ∷ ws) xs h g = (h.0, at_most_both bs cs ws xs h.1 g)
+-- the running sizes of lets are within the limit, and at most their sizes
+record RunningLets (vars : List VarInfo) (rs ss : List ℕ) (fs : List Formula) : Type 0 where
+  pub room : HaveRoom one rs (map (tree vars) fs)
+  pub below : (j : ℕ) → slice_index_or (let_bounds one rs (map (tree vars) fs)) j 0 ≤ slice_index_or (sizes_of_lets vars ss fs) j 0
 
--- the weights of a formula's nodes are those of its tree's
-weighed_list : (vars : List VarInfo) (ws : List ℕ) (f : Formula) → node_weights (weighed vars ws f) ≡ node_list (weights vars) ws (tree vars f)
-weighed_list vars ws (FNum at c) = refl
-weighed_list vars ws (FInput at i c) = refl
-weighed_list vars ws (FName at j) = refl
-weighed_list vars ws (FNeg at e) = let p = weighed_list vars ws e in rw (map-append, p) refl
-weighed_list vars ws (FAdd at e f) = let p = weighed_list vars ws e in let q = weighed_list vars ws f in rw (map-append, map-append, p, q) refl
-weighed_list vars ws (FSub at e f) = let p = weighed_list vars ws e in let q = weighed_list vars ws f in rw (map-append, map-append, p, q) refl
-weighed_list vars ws (FMul at e f) = let p = weighed_list vars ws e in let q = weighed_list vars ws f in rw (map-append, map-append, p, q) refl
-weighed_list vars ws (FPow at e n) = let p = weighed_list vars ws e in rw (map-append, p) refl
+lets_running : (vars : List VarInfo) (ps : List Range) (rs ss : List ℕ) → length rs ≡ length ss → ((j : ℕ) → slice_index_or rs j 0 ≤ slice_index_or ss j 0) → (fs : List Formula) → AreLight (loaded_lets vars ps ss fs) → RunningLets vars rs ss fs
+lets_running vars ps rs ss e l [] a = record { room = tt; below = l }
+lets_running vars ps rs ss e l (f ∷ fs) a =
+    let p = light_parts (loaded vars ps ss f) _ a in
+    let r = weight_over one rs (tree vars f) in
+    let s = size_over ss (tree vars f) in
+    let ih = lets_running vars (ps ++ range_over (ranges vars) ps (tree vars f) ∷ []) (rs ++ r ∷ []) (ss ++ s ∷ []) (long_more rs ss r s e) (more_sizes rs ss r s e (running_below rs ss l (tree vars f)) l) fs p.1 in
+    record { room = (light_running vars ps rs ss l f p.0, ih.room); below = ih.below }
 
--- the bounds of an exact tree's nodes are their weights with M in place of w
-bounds_list : (vars : List VarInfo) (lets : List Typed) (t : Typed) → IsExact vars lets t → bounds t ≡ node_list (sizes vars) (map bound lets) (untyped t)
-bounds_list vars lets (TNum c b w) h = ap (λ (n : ℕ). n ∷ []) h.0
-bounds_list vars lets (TInput v b w) h = ap (λ (n : ℕ). n ∷ []) h.0
-bounds_list vars lets (TLet j b w) h = ap (λ (n : ℕ). n ∷ []) (exact_bound vars lets (TLet j b w) h)
-bounds_list vars lets (TNeg t b w) h = let e : b ≡ _ = exact_bound vars lets (TNeg t b w) h in let p = bounds_list vars lets t h.0 in rw (e, p) refl
-bounds_list vars lets (TTwo Plus s t b w) h = let e : b ≡ _ = exact_bound vars lets (TTwo Plus s t b w) h in let p = bounds_list vars lets s h.0 in let q = bounds_list vars lets t h.1 in rw (e, p, q) refl
-bounds_list vars lets (TTwo Minus s t b w) h = let e : b ≡ _ = exact_bound vars lets (TTwo Minus s t b w) h in let p = bounds_list vars lets s h.0 in let q = bounds_list vars lets t h.1 in rw (e, p, q) refl
-bounds_list vars lets (TTwo Times s t b w) h = let e : b ≡ _ = exact_bound vars lets (TTwo Times s t b w) h in let p = bounds_list vars lets s h.0 in let q = bounds_list vars lets t h.1 in rw (e, p, q) refl
-bounds_list vars lets (TPow t n b w) h = let e : b ≡ _ = exact_bound vars lets (TPow t n b w) h in let p = bounds_list vars lets t h.0 in rw (e, p) refl
+-- the ranges of lets are those of their trees
+pub same_ranges : (vars : List VarInfo) (ps : List Range) (fs : List Formula) → ranges_of_lets vars ps fs ≡ let_ranges (ranges vars) ps (map (tree vars) fs)
+same_ranges vars ps [] = refl
+same_ranges vars ps (f ∷ fs) = same_ranges vars (ps ++ range_over (ranges vars) ps (tree vars f) ∷ []) fs
 
-list_grows : (m w : ℕ → ℕ) (ms ws : List ℕ) → ((v : ℕ) → m v ≤ w v) → ((j : ℕ) → slice_index_or ms j 0 ≤ slice_index_or ws j 0) → (e : Tree) → AreAtMost (node_list m ms e) (node_list w ws e)
-list_grows m w ms ws h l (Num c) = (weight_grows m w ms ws h l (Num c), tt)
-list_grows m w ms ws h l (Input v) = (weight_grows m w ms ws h l (Input v), tt)
-list_grows m w ms ws h l (Name j) = (weight_grows m w ms ws h l (Name j), tt)
-list_grows m w ms ws h l (Neg e) = at_most_both _ _ _ _ (list_grows m w ms ws h l e) (weight_grows m w ms ws h l (Neg e), tt)
-list_grows m w ms ws h l (Add e f) = at_most_both _ _ _ _ (at_most_both _ _ _ _ (list_grows m w ms ws h l e) (list_grows m w ms ws h l f)) (weight_grows m w ms ws h l (Add e f), tt)
-list_grows m w ms ws h l (Sub e f) = at_most_both _ _ _ _ (at_most_both _ _ _ _ (list_grows m w ms ws h l e) (list_grows m w ms ws h l f)) (weight_grows m w ms ws h l (Sub e f), tt)
-list_grows m w ms ws h l (Mul e f) = at_most_both _ _ _ _ (at_most_both _ _ _ _ (list_grows m w ms ws h l e) (list_grows m w ms ws h l f)) (weight_grows m w ms ws h l (Mul e f), tt)
-list_grows m w ms ws h l (Pow e n) = at_most_both _ _ _ _ (list_grows m w ms ws h l e) (weight_grows m w ms ws h l (Pow e n), tt)
+-- what a predicate's loads give: the ranges and the running sizes of all nodes are within the limit
+pub record PredRoom (vars : List VarInfo) (lets : List Formula) (root : Formula) : Type 0 where
+  pub lets_ranges : LetsHaveRange vars [] (map (tree vars) lets)
+  pub root_range : HaveRange vars (let_ranges (ranges vars) [] (map (tree vars) lets)) (tree vars root)
+  pub lets_running : HaveRoom one [] (map (tree vars) lets)
+  pub root_running : HasRoom one (let_bounds one [] (map (tree vars) lets)) (tree vars root)
 
--- each bound of an exact tree is at most the weight of its node
-tree_at_most : (vars : List VarInfo) (lets : List Typed) (ws : List ℕ) (f : Formula) (t : Typed) → ((j : ℕ) → slice_index_or (map bound lets) j 0 ≤ slice_index_or ws j 0) → untyped t ≡ tree vars f → IsExact vars lets t → AreAtMost (bounds t) (node_weights (weighed vars ws f))
-tree_at_most vars lets ws f t l e h =
-    let p = bounds_list vars lets t h in
-    let q = weighed_list vars ws f in
-    rw (p, q, e) (list_grows (sizes vars) (weights vars) (map bound lets) ws (sizes_below vars) l (tree vars f))
-
-head_same : (x y : Tree) (xs ys : List Tree) → x ∷ xs ≡ y ∷ ys → (x ≡ y) × (xs ≡ ys)
-head_same x y xs ys h = (cc, cc)
-
--- so in lets, whose bounds are at most their weights
-pub record LetsAtMost (vars : List VarInfo) (done ts : List Typed) (ws : List ℕ) (fs : List Formula) : Type 0 where
-  pub nodes : AreAtMost (all_bounds ts) (node_weights (weighed_lets vars ws fs))
-  pub below : (j : ℕ) → slice_index_or (map bound (done ++ ts)) j 0 ≤ slice_index_or (let_weights vars ws fs) j 0
-
-lets_at_most : (vars : List VarInfo) (done ts : List Typed) (ws : List ℕ) (fs : List Formula) → length (map bound done) ≡ length ws → ((j : ℕ) → slice_index_or (map bound done) j 0 ≤ slice_index_or ws j 0) → map untyped ts ≡ map (tree vars) fs → AreExact vars done ts → LetsAtMost vars done ts ws fs
-lets_at_most vars done [] ws [] n l e h = record { nodes = tt; below = let a : done ++ [] ≡ done = append-nil done in rw a l }
-lets_at_most vars done [] ws (f ∷ fs) n l e h = cc
-lets_at_most vars done (t ∷ ts) ws [] n l e h = cc
-lets_at_most vars done (t ∷ ts) ws (f ∷ fs) n l e h =
-    let q = head_same (untyped t) (tree vars f) (map untyped ts) (map (tree vars) fs) e in
-    let m = weight_over (sizes vars) (map bound done) (untyped t) in
-    let w = weight_of vars ws f in
-    let s : map bound (done ++ t ∷ []) ≡ map bound done ++ m ∷ [] = bounds_more vars done t h.0 in
-    let g : m ≤ w = rw q.0 (weight_grows (sizes vars) (weights vars) (map bound done) ws (sizes_below vars) l (tree vars f)) in
-    let r = lets_at_most vars (done ++ t ∷ []) ts (ws ++ w ∷ []) fs (rw s (length_same (map bound done) ws m w n)) (rw s (below_more (map bound done) ws m w n g l)) q.1 h.1 in
+pub pred_room : (vars : List VarInfo) (lets : List Formula) (root : Formula) → AreLight (loaded_pred vars lets root) → PredRoom vars lets root
+pred_room vars lets root l =
+    let p = light_parts (loaded_lets vars [] [] lets) _ l in
+    let r = lets_running vars [] [] [] refl (λ j. omega arith) lets p.0 in
+    let e = same_ranges vars [] lets in
     record {
-      nodes = rw map-append (at_most_both _ _ _ _ (tree_at_most vars done ws f t l q.0 h.0) r.nodes);
-      below = let a : done ++ t ∷ ts ≡ (done ++ t ∷ []) ++ ts = sym (append_assoc done (t ∷ []) ts) in rw a r.below;
+      lets_ranges = lets_ranges vars [] [] lets p.0;
+      root_range = rw (← e) (light_ranges vars (ranges_of_lets vars [] lets) (sizes_of_lets vars [] lets) root p.1);
+      lets_running = r.room;
+      root_running = light_running vars (ranges_of_lets vars [] lets) (let_bounds one [] (map (tree vars) lets)) (sizes_of_lets vars [] lets) r.below root p.1;
     }
 
--- the bounds of a predicate's exact trees are at most its weights, node by node
-pub pred_at_most : (vars : List VarInfo) (lets : List Formula) (root : Formula) (ts : List Typed) (t : Typed) → map untyped ts ≡ map (tree vars) lets → untyped t ≡ tree vars root → AreExact vars [] ts → IsExact vars ts t → AreAtMost (all_bounds ts ++ bounds t) (node_weights (weighed_pred vars lets root))
-pred_at_most vars lets root ts t e f h g =
-    let r = lets_at_most vars [] ts [] lets refl (λ j. omega arith) e h in
-    rw map-append (at_most_both _ _ _ _ r.nodes (tree_at_most vars ts (let_weights vars [] lets) root t r.below f g))
+-- ---- values
+module _ (vars : List VarInfo) (x : ℕ → ℤ) (h : (v : ℕ) → Holds (ranges vars v) (x v)) where
+  -- a value is within the limit where the range of its node is
+  fits : (ps : List Range) (zs : List ℤ) → AllHold ps zs → (e : Tree) → magnitude (range_over (ranges vars) ps e) ≤ most → unsigned_abs (value x zs e) ≤ most
+  fits ps zs l e m = let a = holds_magnitude (range_over (ranges vars) ps e) (value x zs e) (value_held x (ranges vars) h zs ps l e) in omega (arith, a, m)
+
+  -- so is each lower power
+  lower_fits : (ps : List Range) (zs : List ℤ) → AllHold ps zs → (e : Tree) (n k : ℕ) → magnitude (range_over (ranges vars) ps (Pow e n)) ≤ most → k ≤ n → unsigned_abs (plain.power (value x zs e) k) ≤ most
+  lower_fits ps zs l e n k m g =
+      let p = range_over (ranges vars) ps e in
+      let a = holds_magnitude (power p k) (plain.power (value x zs e) k) (power_holds p k (value x zs e) (value_held x (ranges vars) h zs ps l e)) in
+      let b = power_magnitude p n in
+      let c = power_magnitude p k in
+      let d = lower (magnitude p) k n g (omega (arith, b, m)) in
+      omega (arith, a, c, d)
+
+  -- the value of each node fits where the range of each is within the limit
+  ranges_fit : (ps : List Range) (zs : List ℤ) → AllHold ps zs → (e : Tree) → HaveRange vars ps e → ValuesFit x zs e
+  ranges_fit ps zs l (Num c) a = fits ps zs l (Num c) a
+  ranges_fit ps zs l (Input v) a = fits ps zs l (Input v) a
+  ranges_fit ps zs l (Name j) a = fits ps zs l (Name j) a
+  ranges_fit ps zs l (Neg e) a = (ranges_fit ps zs l e a.0, fits ps zs l (Neg e) a.1)
+  ranges_fit ps zs l (Add e f) a = (ranges_fit ps zs l e a.0, ranges_fit ps zs l f a.1, fits ps zs l (Add e f) a.2)
+  ranges_fit ps zs l (Sub e f) a = (ranges_fit ps zs l e a.0, ranges_fit ps zs l f a.1, fits ps zs l (Sub e f) a.2)
+  ranges_fit ps zs l (Mul e f) a = (ranges_fit ps zs l e a.0, ranges_fit ps zs l f a.1, fits ps zs l (Mul e f) a.2)
+  ranges_fit ps zs l (Pow e n) a = (ranges_fit ps zs l e a.0, λ k g. lower_fits ps zs l e n k a.1 g)
+
+  lets_ranges_fit : (ps : List Range) (zs : List ℤ) → length ps ≡ length zs → AllHold ps zs → (es : List Tree) → LetsHaveRange vars ps es → LetsFit x zs es
+  lets_ranges_fit ps zs n l [] a = tt
+  lets_ranges_fit ps zs n l (e ∷ es) a =
+      let p = range_over (ranges vars) ps e in
+      let z = value x zs e in
+      (ranges_fit ps zs l e a.0, lets_ranges_fit (ps ++ p ∷ []) (zs ++ z ∷ []) (more_long ps zs p z n) (more_held ps zs p z n (value_held x (ranges vars) h zs ps l e) l) es a.1)
+
+  nothing_held : AllHold [] []
+  nothing_held j = (omega arith, omega arith)
+
+  all_fit : (lets : List Formula) (root : Formula) → AreLight (loaded_pred vars lets root) → LetsFit x [] (map (tree vars) lets) × ValuesFit x (let_values x [] (map (tree vars) lets)) (tree vars root)
+  all_fit lets root a =
+      let r = pred_room vars lets root a in
+      let l = lets_hold x (ranges vars) h [] [] refl nothing_held (map (tree vars) lets) in
+      (lets_ranges_fit [] [] refl nothing_held (map (tree vars) lets) r.lets_ranges, ranges_fit (let_ranges (ranges vars) [] (map (tree vars) lets)) (let_values x [] (map (tree vars) lets)) l.all (tree vars root) r.root_range)
+
+-- the values of a predicate whose loads are within the limit fit
+pub pred_fits : (vars : List VarInfo) (x : ℕ → ℤ) (lets : List Formula) (root : Formula) → ((v : ℕ) → Holds (ranges vars v) (x v)) → AreLight (loaded_pred vars lets root) → LetsFit x [] (map (tree vars) lets) × ValuesFit x (let_values x [] (map (tree vars) lets)) (tree vars root)
+pred_fits vars x lets root h a = all_fit vars x h lets root a

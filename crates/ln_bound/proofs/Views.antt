@@ -1,26 +1,29 @@
 -- What the views of nodes say.
-use Rattle.std.proofs.Common.{◌≡◌, ℕ, ◌<◌, List, [], ◌∷◌, length, map, refl, zero, suc, ap, arith, get_or, ◌∙◌, sym}
+use Rattle.std.proofs.Common.{◌≡◌, ℕ, ◌<◌, List, [], ◌∷◌, length, map, refl, zero, suc, ap, ap₂, arith, get_or, ◌∙◌, sym}
 use Rattle.std.specs.Prelude.{Option, Some, None, slice_get}
+use Rattle.ln_bound.specs.Exact.{IsOfLet}
 use Rattle.ln_bound.specs.declared.fitted.Width.{Width}
+use Rattle.ln_bound.specs.declared.fitted.Two.{Two}
+use Rattle.ln_bound.specs.Widths.{least, wider}
 use Rattle.ln_bound.specs.declared.fitted.Fitted.{Fitted}
 use Rattle.ln_bound.specs.declared.fitted.FitOp.{FitOp}
 use Rattle.ln_bound.specs.declared.fitted.FitOp.TheVariants.{Num, Input, Let, Neg', Add', Sub', Mul', Pow'}
-use Rattle.ln_bound.specs.Typed.{Typed, bound, width}
-use Rattle.ln_bound.specs.Widths.{least, wider}
-use Rattle.ln_bound.specs.Exact.{IsOfLet}
+use Rattle.ln_interval.specs.Range.{Range, magnitude}
+use Rattle.ln_interval.specs.View.{range}
+use Rattle.ln_bound.specs.Typed.{Typed, TTwo, pair, width, range_of}
 use Rattle.ln_bound.specs.View.{op_typed, typed}
 
-pub bound_here : (op : FitOp) (b : ℕ) (w : Width) → bound (op_typed op b w) ≡ b
-bound_here (Num c) b w = refl
-bound_here (Input v) b w = refl
-bound_here (Let j) b w = refl
-bound_here (Neg' p x c u) b w = refl
-bound_here (Add' p x c u q y d v) b w = refl
-bound_here (Sub' p x c u q y d v) b w = refl
-bound_here (Mul' p x c u q y d v) b w = refl
-bound_here (Pow' p x c u n) b w = refl
+pub pair_here : (op : FitOp) (p : Range) (w : Width) → pair (op_typed op p w) ≡ p
+pair_here (Num c) b w = refl
+pair_here (Input v) b w = refl
+pair_here (Let j) b w = refl
+pair_here (Neg' p x c u) b w = refl
+pair_here (Add' p x c u q y d v) b w = refl
+pair_here (Sub' p x c u q y d v) b w = refl
+pair_here (Mul' p x c u q y d v) b w = refl
+pair_here (Pow' p x c u n) b w = refl
 
-pub width_here : (op : FitOp) (b : ℕ) (w : Width) → width (op_typed op b w) ≡ w
+pub width_here : (op : FitOp) (p : Range) (w : Width) → width (op_typed op p w) ≡ w
 width_here (Num c) b w = refl
 width_here (Input v) b w = refl
 width_here (Let j) b w = refl
@@ -30,12 +33,29 @@ width_here (Sub' p x c u q y d v) b w = refl
 width_here (Mul' p x c u q y d v) b w = refl
 width_here (Pow' p x c u n) b w = refl
 
--- the bound of a node's tree is the node's, and so is the width
-pub bound_typed : (t : Fitted) → bound (typed t) ≡ t.bound
-bound_typed t = bound_here t.op t.bound t.width
+-- the pair of a node's tree is the node's, and so is the width
+pub pair_typed : (t : Fitted) → pair (typed t) ≡ range t.pair
+pair_typed t = pair_here t.op (range t.pair) t.width
 
 pub width_typed : (t : Fitted) → width (typed t) ≡ t.width
-width_typed t = width_here t.op t.bound t.width
+width_typed t = width_here t.op (range t.pair) t.width
+
+-- the node of an operation on two
+pub two_made : (k m : Two) (x y : Fitted) (s t : Typed) (p : Range) (w u l : Width) → k ≡ m → s ≡ typed x → t ≡ typed y → p ≡ range_of k (range x.pair) (range y.pair) → w ≡ wider u l → u ≡ wider x.width y.width → l ≡ least (magnitude p)
+    → TTwo m s t p w ≡ TTwo k (typed x) (typed y) (range_of k (pair (typed x)) (pair (typed y))) (wider (wider (width (typed x)) (width (typed y))) (least (magnitude (range_of k (pair (typed x)) (pair (typed y))))))
+two_made k m x y s t p w u l ek es et ep ew eu el =
+    let px = pair_typed x in
+    let py = pair_typed y in
+    let wx = width_typed x in
+    let wy = width_typed y in
+    same k m (typed x) (typed y) s t p w (range x.pair) (range y.pair) x.width y.width ek es et ep (ew ∙ ap₂ wider eu el) px py wx wy
+  where
+    same : (k m : Two) (a b s t : Typed) (p : Range) (w : Width) (q r : Range) (v z : Width) → k ≡ m → s ≡ a → t ≡ b → p ≡ range_of k q r → w ≡ wider (wider v z) (least (magnitude p)) → pair a ≡ q → pair b ≡ r → width a ≡ v → width b ≡ z
+        → TTwo m s t p w ≡ TTwo k a b (range_of k (pair a) (pair b)) (wider (wider (width a) (width b)) (least (magnitude (range_of k (pair a) (pair b)))))
+    same k m a b s t p w q r v z ek es et ep ew px py wx wy =
+        let e : p ≡ range_of k (pair a) (pair b) = ep ∙ ap₂ (range_of k) (sym px) (sym py) in
+        let f : w ≡ wider (wider (width a) (width b)) (least (magnitude p)) = ew ∙ ap₂ (λ c d. wider (wider c d) (least (magnitude p))) (sym wx) (sym wy) in
+        rw (← ek, es, et, f, e) refl
 
 -- the tree of let number j
 pub let_typed : (lets : List Fitted) (j : ℕ) (d : Fitted) → j < length lets → slice_get (map typed lets) j ≡ Some (typed (get_or lets j d))
@@ -43,16 +63,16 @@ let_typed [] j d h = absurd (omega arith)
 let_typed (t ∷ ts) zero d h = refl
 let_typed (t ∷ ts) (suc j) d h = let_typed ts j d (omega arith)
 
-of_typed : (o : Option Typed) (u : Fitted) (w : Width) → o ≡ Some (typed u) → w ≡ wider u.width (least u.bound) → IsOfLet o u.bound w
+of_typed : (o : Option Typed) (u : Fitted) (w : Width) → o ≡ Some (typed u) → w ≡ wider u.width (least (magnitude (range u.pair))) → IsOfLet o (range u.pair) w
 of_typed None u w e q = cc
 of_typed (Some t) u w e q =
     let f : t ≡ typed u = cc in
-    let a : bound t ≡ u.bound = ap bound f ∙ bound_typed u in
+    let a : pair t ≡ range u.pair = ap pair f ∙ pair_typed u in
     let b : width t ≡ u.width = ap width f ∙ width_typed u in
-    (sym a, q ∙ ap (λ (v : Width). wider v (least u.bound)) (sym b))
+    (sym a, q ∙ ap (λ (v : Width). wider v (least (magnitude (range u.pair)))) (sym b))
 
--- a node that has the let's bound, and the least width that is no narrower than the let
-pub named_exact : (lets : List Fitted) (j i : ℕ) (u : Fitted) (l w : Width) → j < length lets → i ≡ j → u ≡ get_or lets i u → l ≡ least u.bound → w ≡ wider u.width l → IsOfLet (slice_get (map typed lets) j) u.bound w
+-- a node that has the let's range, and the least width that is no narrower than the let
+pub named_exact : (lets : List Fitted) (j i : ℕ) (u : Fitted) (l w : Width) → j < length lets → i ≡ j → u ≡ get_or lets i u → l ≡ least (magnitude (range u.pair)) → w ≡ wider u.width l → IsOfLet (slice_get (map typed lets) j) (range u.pair) w
 named_exact lets j i u l w h e g m n =
     let a : get_or lets j u ≡ u = sym (g ∙ ap (λ (k : ℕ). get_or lets k u) e) in
     of_typed (slice_get (map typed lets) j) u w (let_typed lets j u h ∙ ap (λ (t : Fitted). Some (typed t)) a) (n ∙ ap (λ (v : Width). wider u.width v) m)

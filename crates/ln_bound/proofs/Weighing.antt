@@ -1,12 +1,9 @@
 -- Nodes with their weights, one after the other.
-use Rattle.std.proofs.Common.{◌≡◌, ℕ, ◌≤◌, ◌<◌, List, [], ◌∷◌, ◌++◌, Option, refl, ap, ◌∙◌, sym, append_assoc}
+use Rattle.std.proofs.Common.{ℕ, ◌≤◌, ◌<◌, List, [], ◌∷◌, ◌++◌, Option, ap, ◌∙◌, sym, append_assoc}
 use Rattle.ln_base.specs.declared.span.Span.{Span}
 use Rattle.ln_bound.specs.declared.weigh.BoundStop.{BoundStop}
 use Rattle.ln_bound.specs.declared.weigh.BoundStop.TheVariants.{Bound, NoMemory}
-use Rattle.std.proofs.lemmas.List.{map-append}
-use Rattle.ln_tree.specs.declared.shape.VarInfo.{VarInfo}
-use Rattle.ln_tree.specs.Formula.{Formula}
-use Rattle.ln_bound.specs.Light.{most, AreLight, node_weights, weighed, weight_of, weighed_lets, let_weights}
+use Rattle.ln_bound.specs.Light.{most, AreLight}
 use Rattle.ln_bound.specs.Stop.{StopsWeighing, IsHeavyOrNoMemory, IsHeavy}
 
 abbrev pub Nodes : Type 0
@@ -39,27 +36,3 @@ stop_here xs at w o NoMemory l h e = tt
 -- a node alone that is too heavy
 pub stop_alone : (at : Span) (w : ℕ) (o : Option ℕ) (s : BoundStop) → (IsHeavy o → most < w) → IsHeavyOrNoMemory at o s → StopsWeighing ((at, w) ∷ []) s
 stop_alone at w o s h e = stop_here [] at w o s tt h e
-
--- some lets are weighed, with these weights; the rest stand behind
-pub record LetsWeighed (vars : List VarInfo) (whole rest : List Formula) (done all : List ℕ) : Type 0 where
-  pub front : Nodes
-  pub stands : weighed_lets vars [] whole ≡ front ++ weighed_lets vars done rest
-  pub light : AreLight front
-  pub nodes : all ≡ node_weights front
-  pub weights : let_weights vars done rest ≡ let_weights vars [] whole
-
-pub lets_begin : (vars : List VarInfo) (whole : List Formula) (all : List ℕ) → all ≡ [] → LetsWeighed vars whole whole [] all
-lets_begin vars whole all e = record { front = []; stands = refl; light = tt; nodes = e; weights = refl }
-
-pub lets_more : (vars : List VarInfo) (whole rest : List Formula) (f : Formula) (done all more after : List ℕ) → LetsWeighed vars whole (f ∷ rest) done all → AreLight (weighed vars done f) → more ≡ all ++ node_weights (weighed vars done f) → after ≡ done ++ weight_of vars done f ∷ []
-    → LetsWeighed vars whole rest after more
-lets_more vars whole rest f done all more after h l m a = record {
-  front = h.front ++ weighed vars done f;
-  stands = h.stands ∙ rw (a, append_assoc) refl;
-  light = light_both h.front (weighed vars done f) h.light l;
-  nodes = m ∙ rw (h.nodes, map-append) refl;
-  weights = rw a h.weights;
-}
-
-pub lets_stop : (vars : List VarInfo) (whole rest : List Formula) (f : Formula) (done all : List ℕ) (s : BoundStop) → LetsWeighed vars whole (f ∷ rest) done all → StopsWeighing (weighed vars done f) s → StopsWeighing (weighed_lets vars [] whole) s
-lets_stop vars whole rest f done all s h e = rw h.stands (stop_behind h.front (weighed vars done f ++ _) s h.light (stop_before (weighed vars done f) _ s e))

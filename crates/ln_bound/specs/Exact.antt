@@ -1,33 +1,36 @@
--- Trees whose bounds are exactly their operations over M, and whose widths are the least.
-use Rattle.std.specs.Prelude.{◌≡◌, ℕ, ◌^◌, ◌≤◌, unsigned_abs, List, [], ◌∷◌, ◌++◌, Option, Some, None, slice_get}
+-- Trees whose ranges are exactly those of their nodes, and whose widths are the least.
+use Rattle.std.specs.Prelude.{◌≡◌, ℕ, ◌≤◌, List, [], ◌∷◌, ◌++◌, Option, Some, None, slice_get}
 use Rattle.ln_tree.specs.declared.shape.VarInfo.{VarInfo}
 use Rattle.ln_bound.specs.declared.fitted.Width.{Width}
-use Rattle.ln_bound.specs.Value.{sizes}
 use Rattle.ln_bound.specs.Widths.{least, wider}
-use Rattle.ln_bound.specs.Typed.{Typed, TNum, TInput, TLet, TNeg, TTwo, TPow, bound, width, bound_of}
+use Rattle.ln_interval.specs.Range.{Range, point, opposite, power, magnitude}
+use Rattle.ln_bound.specs.Ranges.{ranges}
+use Rattle.ln_bound.specs.Typed.{Typed, TNum, TInput, TLet, TNeg, TTwo, TPow, pair, width, range_of}
 
--- the bound is the let's, and the width is the least that fits it and is no narrower than the let
-abbrev pub IsOfLet : Option Typed → ℕ → Width → Type 0
-IsOfLet None b w = ⊥
-IsOfLet (Some u) b w = (b ≡ bound u) × (w ≡ wider (width u) (least b))
+-- the range is the let's, and the width is the least that fits it and is no narrower than the let
+abbrev pub IsOfLet : Option Typed → Range → Width → Type 0
+IsOfLet None p w = ⊥
+IsOfLet (Some u) p w = (p ≡ pair u) × (w ≡ wider (width u) (least (magnitude p)))
 
--- the bound of each node is its operation over the operands' bounds, of a variable its M, and its width is the least that fits the bound and is no narrower than an operand
+-- the range of each node is its operation over the operands' ranges, of a variable the declared one, and its width is the least that fits the range and is no narrower than an operand
 abbrev pub IsExact : List VarInfo → List Typed → Typed → Type 0
-IsExact vars lets (TNum c b w) = (b ≡ unsigned_abs c) × (w ≡ least b)
-IsExact vars lets (TInput v b w) = (b ≡ sizes vars v) × (w ≡ least b)
-IsExact vars lets (TLet j b w) = IsOfLet (slice_get lets j) b w
-IsExact vars lets (TNeg t b w) = IsExact vars lets t × (b ≡ bound t) × (w ≡ wider (width t) (least b))
-IsExact vars lets (TTwo k s t b w) = IsExact vars lets s × IsExact vars lets t × (b ≡ bound_of k (bound s) (bound t)) × (w ≡ wider (wider (width s) (width t)) (least b))
-IsExact vars lets (TPow t n b w) = IsExact vars lets t × (b ≡ bound t ^ n) × (w ≡ wider (width t) (least b))
+IsExact vars lets (TNum c p w) = (p ≡ point c) × (w ≡ least (magnitude p))
+IsExact vars lets (TInput v p w) = (p ≡ ranges vars v) × (w ≡ least (magnitude p))
+IsExact vars lets (TLet j p w) = IsOfLet (slice_get lets j) p w
+IsExact vars lets (TNeg t p w) = IsExact vars lets t × (p ≡ opposite (pair t)) × (w ≡ wider (width t) (least (magnitude p)))
+IsExact vars lets (TTwo k s t p w) = IsExact vars lets s × IsExact vars lets t × (p ≡ range_of k (pair s) (pair t)) × (w ≡ wider (wider (width s) (width t)) (least (magnitude p)))
+IsExact vars lets (TPow t n p w) = IsExact vars lets t × (p ≡ power (pair t) n) × (w ≡ wider (width t) (least (magnitude p)))
 
 -- so in each let, over the lets before it, behind these
 abbrev pub AreExact : List VarInfo → List Typed → List Typed → Type 0
 AreExact vars done [] = Unit {0}
 AreExact vars done (t ∷ ts) = IsExact vars done t × AreExact vars (done ++ t ∷ []) ts
 
--- there are as many numbers as limits, and each is at most its limit
-abbrev pub AreAtMost : List ℕ → List ℕ → Type 0
-AreAtMost [] [] = Unit {0}
-AreAtMost [] (w ∷ ws) = ⊥
-AreAtMost (b ∷ bs) [] = ⊥
-AreAtMost (b ∷ bs) (w ∷ ws) = (b ≤ w) × AreAtMost bs ws
+-- the range of each node is within -n .. n
+abbrev pub AreWithinPairs : ℕ → Typed → Type 0
+AreWithinPairs n (TNum c p w) = magnitude p ≤ n
+AreWithinPairs n (TInput v p w) = magnitude p ≤ n
+AreWithinPairs n (TLet j p w) = magnitude p ≤ n
+AreWithinPairs n (TNeg t p w) = AreWithinPairs n t × (magnitude p ≤ n)
+AreWithinPairs n (TTwo k s t p w) = AreWithinPairs n s × AreWithinPairs n t × (magnitude p ≤ n)
+AreWithinPairs n (TPow t k p w) = AreWithinPairs n t × (magnitude p ≤ n)

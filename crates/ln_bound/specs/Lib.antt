@@ -11,7 +11,3 @@ pub mod UpTo
 pub mod Ranges
 pub mod Loads
 pub mod Measures
-pub mod RangedTyped
-pub mod RangedView
-pub mod RangedSound
-pub mod RangedExact

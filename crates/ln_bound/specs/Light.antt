@@ -1,5 +1,5 @@
 -- The weights of all nodes, and the values that fit.
-use Rattle.std.specs.Prelude.{◌≡◌, ℕ, ◌≤◌, ◌<◌, ◌++◌, ℤ, unsigned_abs, List, [], ◌∷◌, map}
+use Rattle.std.specs.Prelude.{◌≡◌, ℕ, ◌≤◌, ◌<◌, ◌++◌, ℤ, unsigned_abs, List, [], ◌∷◌}
 use Rattle.ln_base.specs.declared.span.Span.{Span}
 use Rattle.ln_algebra.specs.Tree.{Tree, Num, Input, Name, Neg, Add, Sub, Mul, Pow}
 use Rattle.ln_tree.specs.declared.shape.VarInfo.{VarInfo}
@@ -43,10 +43,6 @@ weighed_pred vars lets root = weighed_lets vars [] lets ++ weighed vars (let_wei
 abbrev pub AreLight : List (Span × ℕ) → Type 0
 AreLight [] = Unit {0}
 AreLight (n ∷ ns) = (n.1 ≤ most) × AreLight ns
-
--- the weights of nodes
-abbrev pub node_weights : List (Span × ℕ) → List ℕ
-node_weights nodes = map (λ n. n.1) nodes
 
 -- the first node that is too heavy, in order of evaluation
 pub record IsBoundFault (nodes : List (Span × ℕ)) (at : Span) : Type 0 where

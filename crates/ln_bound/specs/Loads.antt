@@ -1,6 +1,7 @@
 -- The nodes of a predicate with their ranges and sizes, and with what is tested of them.
 use Rattle.std.specs.Prelude.{ℕ, List, [], ◌∷◌, ◌++◌, map}
 use Rattle.ln_base.specs.declared.span.Span.{Span}
+use Rattle.ln_algebra.specs.Tree.{Tree, inlined, inlined_after}
 use Rattle.ln_tree.specs.declared.shape.VarInfo.{VarInfo}
 use Rattle.ln_tree.specs.Formula.{Formula, FNum, FInput, FName, FNeg, FAdd, FSub, FMul, FPow, tree}
 use Rattle.ln_interval.specs.Range.{Range}
@@ -63,3 +64,11 @@ measured_pred vars lets root = measured_lets vars [] [] lets ++ measured vars (r
 -- the ranges and sizes of nodes
 abbrev pub node_measures : List (Span × (Range × ℕ)) → List (Range × ℕ)
 node_measures nodes = map (λ n. n.1) nodes
+
+-- the root of a predicate with its lets put in place of their names
+abbrev pub whole : List VarInfo → List Formula → Formula → Tree
+whole vars lets root = inlined (inlined_after [] (map (tree vars) lets)) (tree vars root)
+
+-- its range and its size
+abbrev pub measure_of_whole : List VarInfo → List Formula → Formula → Range × ℕ
+measure_of_whole vars lets root = (range_over (ranges vars) [] (whole vars lets root), size_over [] (whole vars lets root))

@@ -1,6 +1,8 @@
-// Trees whose nodes carry the bound and the width of their values.
-ghost use Rattle.std.specs.Prelude.{◌≡◌, ◌≤◌};
+//! Trees whose nodes carry the two ends and the width of their values.
+ghost use Rattle.std.specs.Prelude.{◌≡◌};
 ghost use Rattle.ln_bound.specs.Widths.{limit, least, wider};
+
+use ln_interval::Pair;
 
 /// How wide a value is: 64 or 128 bits with a sign.
 #[derive(Clone, Copy, Debug, PartialEq, Eq)]
@@ -20,7 +22,7 @@ impl Width {
         }
     }
 
-    /// The least width that fits all values up to a bound, which is at most `2^127 - 1`.
+    /// The least width that fits all values up to a largest absolute value, which is at most `2^127 - 1`.
     pub fn least(bound: u128) -> Width
         ensures { result ≡ least bound }
     {
@@ -50,13 +52,13 @@ pub enum Two {
     Times,
 }
 
-/// A tree over the variables of a shape. Each node has a bound, the largest absolute value that its value may have, and the
-/// width in which it is computed. It is plain data: whether the bounds are true is said by `Sound`.
+/// A tree over the variables of a shape. Each node has a pair of ends, between which its value is, and the width in which
+/// it is computed. It is plain data: whether the pairs are true is said by `Sound`.
 #[cycle(fitted)]
 #[derive(Drop)]
 pub struct Fitted {
     pub op: FitOp,
-    pub bound: u128,
+    pub pair: Pair,
     pub width: Width,
 }
 

@@ -1,15 +1,15 @@
-// Predicates whose trees carry bounds and widths.
+//! Predicates whose trees carry ranges and widths.
 ghost use Rattle.std.specs.Prelude.{◌≡◌, ◌≤◌, ◌+◌, true, [], length, map};
+ghost use Rattle.ln_bound.specs.Sound.{is_sound, are_sound};
 ghost use Rattle.ln_bound.specs.Typed.{cost, costs};
 ghost use Rattle.ln_bound.specs.View.{typed};
-ghost use Rattle.ln_bound.specs.Sound.{is_sound, are_sound};
 
 use crate::fitted::Fitted;
 use ln_base::Seq;
 use ln_tree::Shape;
 
-/// A predicate whose lets and sign expression are sound: on every row in range each node's value is within its bound and
-/// fits its width. `Let(j)` in a tree is let number j, an earlier one.
+/// A predicate whose lets and sign expression are sound: on every row in range each node's value is between its two ends
+/// and fits its width. `Let(j)` in a tree is let number j, an earlier one.
 #[derive(Drop)]
 pub struct FittedPred {
     pub shape: Shape,

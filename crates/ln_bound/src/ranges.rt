@@ -1,15 +1,16 @@
 //! Laws of ranges and loads.
-ghost use Rattle.std.specs.Prelude.{◌≡◌, ◌≤◌, ℕ, ℤ, List, [], map, true, length, unsigned_abs};
-ghost use Rattle.ln_algebra.specs.Tree.{Tree, inlined};
+ghost use Rattle.std.specs.Prelude.{◌≡◌, ◌-◌, ℕ, ℤ, List, [], map, true, length, slice_index_or};
+ghost use Rattle.ln_algebra.specs.Tree.{Tree, inlined, inlined_after};
 ghost use Rattle.ln_interval.specs.Range.{Range, Holds};
 ghost use Rattle.ln_tree.specs.Fits.{is_fit, lets_fit};
 ghost use Rattle.ln_tree.specs.Formula.{Formula, tree};
 ghost use Rattle.ln_tree.specs.Row.{AreWithin};
 ghost use Rattle.ln_tree.specs.declared.shape.VarInfo.{VarInfo as Info};
 ghost use Rattle.ln_bound.specs.Light.{AreLight, LetsFit, ValuesFit, let_values, weighed_pred};
-ghost use Rattle.ln_bound.specs.Loads.{loaded_pred};
+ghost use Rattle.ln_bound.specs.Loads.{loaded_pred, measure_of_whole, measured_pred, node_measures};
+ghost use Rattle.ln_bound.specs.Room.{let_bounds};
 ghost use Rattle.ln_bound.specs.Ranges.{AreHeld, LetsAreHeld, let_ranges, range_over, ranges};
-ghost use Rattle.ln_bound.specs.Value.{values};
+ghost use Rattle.ln_bound.specs.Value.{value, values, weight_over};
 
 /// On every row in range the value of each node of lets, and of an expression behind them, is in its range. Lets may be put
 /// in place of their names.
@@ -25,4 +26,13 @@ pub fn values_are_in_ranges()
 /// accepted by ranges and sizes.
 pub fn light_nodes_stay_light()
     ensures { (vars : List Info) (k : ℕ) (lets : List Formula) (root : Formula) → lets_fit (length vars) 0 (map (tree vars) lets) ≡ true → is_fit (length vars) k (tree vars root) ≡ true → AreLight (weighed_pred vars lets root) → AreLight (loaded_pred vars lets root) }
+{}
+
+/// What is measured of a predicate's root behind its lets is what is measured of the root with the lets put in place of their
+/// names: the weight, whatever each variable weighs, the value, the range, and the size. The last node that is measured is the root.
+pub fn roots_measure_the_whole()
+    ensures value { (x : ℕ → ℤ) (lets : List Tree) (root : Tree) → value x (let_values x [] lets) root ≡ value x [] (inlined (inlined_after [] lets) root) }
+    ensures weight { (w : ℕ → ℕ) (lets : List Tree) (root : Tree) → weight_over w (let_bounds w [] lets) root ≡ weight_over w [] (inlined (inlined_after [] lets) root) }
+    ensures range { (r : ℕ → Range) (lets : List Tree) (root : Tree) → range_over r (let_ranges r [] lets) root ≡ range_over r [] (inlined (inlined_after [] lets) root) }
+    ensures last { (vars : List Info) (lets : List Formula) (root : Formula) (d : Range × ℕ) → slice_index_or (node_measures (measured_pred vars lets root)) (length (node_measures (measured_pred vars lets root)) - 1) d ≡ measure_of_whole vars lets root }
 {}

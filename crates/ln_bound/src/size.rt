@@ -1,57 +1,59 @@
-// Bounds and widths of a predicate's nodes.
-ghost use Rattle.std.specs.Prelude.{◌≡◌, ◌≤◌, ◌<◌, ◌^◌, ◌++◌, ◌∷◌, [], true, IfOk, length, map, unsigned_abs};
+//! The ranges and widths of a predicate's nodes.
+ghost use Rattle.std.specs.Prelude.{◌≡◌, ◌≤◌, ◌<◌, [], ℕ, true, IfOk, length, map, unsigned_abs};
 ghost use Rattle.ln_algebra.specs.Tree.{Name};
+ghost use Rattle.ln_interval.specs.Range.{IsOrdered, magnitude, most, opposite, point, power};
+ghost use Rattle.ln_interval.specs.View.{range};
 ghost use Rattle.ln_tree.specs.Fits.{is_fit, lets_fit};
 ghost use Rattle.ln_tree.specs.Formula.{formula, tree_of};
-ghost use Rattle.ln_bound.specs.Value.{size_of, sizes};
-ghost use Rattle.ln_bound.specs.Light.{most, weighed_pred, node_weights, AreLight};
-ghost use Rattle.ln_bound.specs.Widths.{least, wider};
-ghost use Rattle.ln_bound.specs.Typed.{TNum, TInput, TNeg, TTwo, TPow, bound, width, untyped, bound_of, bounds, all_bounds};
+ghost use Rattle.ln_bound.specs.Light.{AreLight};
+ghost use Rattle.ln_bound.specs.Loads.{loaded_pred};
+ghost use Rattle.ln_bound.specs.Exact.{AreExact, IsExact};
+ghost use Rattle.ln_bound.specs.Typed.{TInput, TNeg, TNum, TPow, TTwo, pair, range_of, untyped, width};
 ghost use Rattle.ln_bound.specs.View.{typed};
-ghost use Rattle.ln_bound.specs.Exact.{IsExact, AreExact, AreAtMost};
-ghost use Rattle.ln_bound.specs.Room.{HasRoom, HaveRoom};
+ghost use Rattle.ln_bound.specs.Ranges.{HaveRange, LetsHaveRange, ranges};
+ghost use Rattle.ln_bound.specs.Widths.{least, wider};
 
 use crate::fitted::{FitOp, Fitted, Two, Width};
 use crate::fitted_pred::FittedPred;
-use crate::weigh::Weights;
+use crate::measure::declared;
 use ln_base::{NoMemory, Seq};
+use ln_interval::Pair;
 use ln_tree::layout::number_in;
 use ln_tree::{Expr, Node, Pred, VarInfo};
 use std::alloc::Global;
 
-// M of a variable: the largest absolute value of its range, and at least 1.
-fn size_of_var(i: &VarInfo) -> u128
-    ensures value { result ≡ size_of i.now }
-    ensures small { result < 2 ^ 64 }
+// The least width that fits a pair.
+fn least_for(p: Pair) -> Width
+    ensures { result ≡ least (magnitude (range p)) }
 {
-    u128::from(i.lo.unsigned_abs().max(i.hi.unsigned_abs()).max(1))
+    Width::least(p.magnitude())
 }
 
-/// The tree of the number c: its bound is the absolute value, its width the least that fits it.
+/// The tree of the number c: its range is c alone, its width the least that fits it.
 pub fn number(c: i128) -> Fitted
-    ensures { typed result ≡ TNum c (unsigned_abs c) (least (unsigned_abs c)) }
+    requires { unsigned_abs c ≤ most }
+    ensures { typed result ≡ TNum c (point c) (least (magnitude (point c))) }
 {
-    let bound = c.unsigned_abs();
+    let pair = Pair { low: c, high: c };
     Fitted {
         op: FitOp::Num(c),
-        bound,
-        width: Width::least(bound),
+        pair,
+        width: least_for(pair),
     }
 }
 
-/// The tree of variable number v: its bound is the largest absolute value of the range, and at least 1, its width the least
-/// that fits it.
+/// The tree of variable number v: its range is the declared one, its width the least that fits it.
 pub fn input(vars: &[VarInfo], v: usize) -> Fitted
     requires few { length vars.now ≤ 168 }
     requires within { v < length vars.now }
-    ensures tree { typed result ≡ TInput v (sizes vars.now v) (least (sizes vars.now v)) }
-    ensures small { sizes vars.now v < 2 ^ 64 }
+    requires ordered { IsOrdered (ranges vars.now v) }
+    ensures { typed result ≡ TInput v (ranges vars.now v) (least (magnitude (ranges vars.now v))) }
 {
-    let bound = size_of_var(&vars[v]);
+    let pair = declared(&vars[v]);
     Fitted {
         op: FitOp::Input(v as u8),
-        bound,
-        width: Width::least(bound),
+        pair,
+        width: least_for(pair),
     }
 }
 
@@ -61,86 +63,78 @@ fn named(lets: &[Fitted], j: u8) -> Fitted
     ensures exact { IsExact [] (map typed lets.now) (typed result) }
 {
     let of = &lets[usize::from(j)];
-    let bound = of.bound;
+    let pair = of.pair;
     Fitted {
         op: FitOp::Let(j),
-        bound,
-        width: of.width.wider(Width::least(bound)),
+        pair,
+        width: of.width.wider(least_for(pair)),
     }
 }
 
-/// The opposite of a tree, with the same bound; its width is no narrower than the tree's.
+/// The opposite of a tree, with the opposite range; its width is no narrower than the tree's.
 pub fn negated(alloc: Global, x: Fitted) -> Result<Fitted, NoMemory>
-    ensures { IfOk result (λ t. typed t ≡ TNeg (typed x) (bound (typed x)) (wider (width (typed x)) (least (bound (typed x))))) }
+    ensures { IfOk result (λ t. typed t ≡ TNeg (typed x) (opposite (pair (typed x))) (wider (width (typed x)) (least (magnitude (opposite (pair (typed x))))))) }
 {
-    let bound = x.bound;
-    let width = x.width.wider(Width::least(bound));
+    let pair = x.pair.neg();
+    let width = x.width.wider(least_for(pair));
     Ok(Fitted {
         op: FitOp::Neg(Box::new(alloc, x)?),
-        bound,
+        pair,
         width,
     })
 }
 
-fn bound_of(kind: Two, a: u128, b: u128) -> u128
-    requires { bound_of kind a b ≤ most }
-    ensures { result ≡ bound_of kind a b }
+// The pair of an operation on two, where it is within the limit.
+fn pair_of(kind: Two, p: Pair, q: Pair) -> Pair
+    requires { magnitude (range_of kind (range p) (range q)) ≤ most }
+    ensures { range result ≡ range_of kind (range p) (range q) }
 {
     match kind {
-        Two::Plus | Two::Minus => a + b,
-        Two::Times => a * b,
+        Two::Plus => p.add(q).unwrap(),
+        Two::Minus => p.sub(q).unwrap(),
+        Two::Times => p.mul(q).unwrap(),
     }
 }
 
-/// The sum, difference or product of two trees. Its bound is the operation over the operands' bounds, which has to be at
-/// most `2^127 - 1`; its width is the least that fits the bound and is no narrower than an operand.
+/// The sum, difference or product of two trees. Its range is the operation over the operands' ranges, which has to be
+/// within `2^127 - 1`; its width is the least that fits the range and is no narrower than an operand.
 pub fn two(alloc: Global, kind: Two, x: Fitted, y: Fitted) -> Result<Fitted, NoMemory>
-    requires { bound_of kind (bound (typed x)) (bound (typed y)) ≤ most }
-    ensures { IfOk result (λ t. typed t ≡ TTwo kind (typed x) (typed y) (bound_of kind (bound (typed x)) (bound (typed y))) (wider (wider (width (typed x)) (width (typed y))) (least (bound_of kind (bound (typed x)) (bound (typed y)))))) }
+    requires { magnitude (range_of kind (pair (typed x)) (pair (typed y))) ≤ most }
+    ensures { IfOk result (λ t. typed t ≡ TTwo kind (typed x) (typed y) (range_of kind (pair (typed x)) (pair (typed y))) (wider (wider (width (typed x)) (width (typed y))) (least (magnitude (range_of kind (pair (typed x)) (pair (typed y))))))) }
 {
-    let bound = bound_of(kind, x.bound, y.bound);
-    let width = x.width.wider(y.width).wider(Width::least(bound));
+    let pair = pair_of(kind, x.pair, y.pair);
+    let width = x.width.wider(y.width).wider(least_for(pair));
     let x = Box::new(alloc, x)?;
     let y = Box::new(alloc, y)?;
     match kind {
         Two::Plus => Ok(Fitted {
             op: FitOp::Add(x, y),
-            bound,
+            pair,
             width,
         }),
         Two::Minus => Ok(Fitted {
             op: FitOp::Sub(x, y),
-            bound,
+            pair,
             width,
         }),
         Two::Times => Ok(Fitted {
             op: FitOp::Mul(x, y),
-            bound,
+            pair,
             width,
         }),
     }
 }
 
-fn power(a: u128, n: u8) -> u128
-    requires { a ^ n ≤ most }
-    ensures { result ≡ a ^ n }
-{
-    let mut p = 1u128;
-    'factors: for _k in 0..n {
-        p *= a;
-    }
-    p
-}
-
+// The power of a tree, whose range has to be within the limit.
 fn raised(alloc: Global, x: Fitted, n: u8) -> Result<Fitted, NoMemory>
-    requires { bound (typed x) ^ n ≤ most }
-    ensures { IfOk result (λ t. typed t ≡ TPow (typed x) n (bound (typed x) ^ n) (wider (width (typed x)) (least (bound (typed x) ^ n)))) }
+    requires { magnitude (power (pair (typed x)) n) ≤ most }
+    ensures { IfOk result (λ t. typed t ≡ TPow (typed x) n (power (pair (typed x)) n) (wider (width (typed x)) (least (magnitude (power (pair (typed x)) n))))) }
 {
-    let bound = power(x.bound, n);
-    let width = x.width.wider(Width::least(bound));
+    let pair = x.pair.power(n).unwrap();
+    let width = x.width.wider(least_for(pair));
     Ok(Fitted {
         op: FitOp::Pow(Box::new(alloc, x)?, n),
-        bound,
+        pair,
         width,
     })
 }
@@ -148,8 +142,9 @@ fn raised(alloc: Global, x: Fitted, n: u8) -> Result<Fitted, NoMemory>
 // The tree of an expression behind lets of these trees.
 fn fit(alloc: Global, e: &Expr, vars: &[VarInfo], lets: &[Fitted]) -> Result<Fitted, NoMemory>
     requires few { length vars.now ≤ 168 }
+    requires ordered { (k : ℕ) → IsOrdered (ranges vars.now k) }
     requires fit { is_fit (length vars.now) (length lets.now) (tree_of vars.now e.now) ≡ true }
-    requires room { HasRoom (sizes vars.now) (map bound (map typed lets.now)) (tree_of vars.now e.now) }
+    requires small { HaveRange vars.now (map pair (map typed lets.now)) (tree_of vars.now e.now) }
     ensures tree { IfOk result (λ t. untyped (typed t) ≡ tree_of vars.now e.now) }
     ensures exact { IfOk result (λ t. IsExact vars.now (map typed lets.now) (typed t)) }
 {
@@ -184,11 +179,12 @@ fn fit(alloc: Global, e: &Expr, vars: &[VarInfo], lets: &[Fitted]) -> Result<Fit
 }
 
 // The trees of the lets, each behind those before it.
-#[tactic(auto, using(crate::proofs::ExactLaws::lets_start, crate::proofs::ExactLaws::next_fit, crate::proofs::ExactLaws::next_room))]
+#[tactic(auto, using(crate::proofs::ExactLaws::lets_start, crate::proofs::ExactLaws::next_fit, crate::proofs::ExactLaws::next_range))]
 fn fit_lets(alloc: Global, lets: &[Expr], vars: &[VarInfo]) -> Result<Seq<Fitted>, NoMemory>
     requires few { length vars.now ≤ 168 }
+    requires ordered { (k : ℕ) → IsOrdered (ranges vars.now k) }
     requires fit { lets_fit (length vars.now) 0 (map (tree_of vars.now) lets.now) ≡ true }
-    requires room { HaveRoom (sizes vars.now) [] (map (tree_of vars.now) lets.now) }
+    requires small { LetsHaveRange vars.now [] (map (tree_of vars.now) lets.now) }
     ensures trees { IfOk result (λ ts. map untyped (map typed ts) ≡ map (tree_of vars.now) lets.now) }
     ensures exact { IfOk result (λ ts. AreExact vars.now [] (map typed ts)) }
 {
@@ -200,19 +196,16 @@ fn fit_lets(alloc: Global, lets: &[Expr], vars: &[VarInfo]) -> Result<Seq<Fitted
     Ok(done)
 }
 
-/// The trees of a predicate's lets and root with the bound and the width of each node. Each bound is exactly its operation
-/// over the bounds of its operands, of a variable the M of its range; each width is the least that fits the bound and is
-/// no narrower than an operand. The weights are those of the predicate: each is at least the bound of its node, so no
-/// bound passes `2^127 - 1`.
-pub fn size(alloc: Global, p: &Pred, w: &Weights) -> Result<FittedPred, NoMemory>
-    requires weights { w.now ≡ node_weights (weighed_pred p.now.shape.vars (map formula p.now.lets) (formula p.now.root)) }
-    requires light { AreLight (weighed_pred p.now.shape.vars (map formula p.now.lets) (formula p.now.root)) }
+/// The trees of a predicate's lets and root with the range and the width of each node. Each range is exactly its operation
+/// over the ranges of its operands, of a variable the declared one; each width is the least that fits the range and is no
+/// narrower than an operand. No range and no size of a node may pass `2^127 - 1`, as `weigh` answers.
+pub fn size(alloc: Global, p: &Pred) -> Result<FittedPred, NoMemory>
+    requires { AreLight (loaded_pred p.now.shape.vars (map formula p.now.lets) (formula p.now.root)) }
     ensures shape { IfOk result (λ f. f.shape ≡ p.now.shape) }
     ensures lets { IfOk result (λ f. map untyped (map typed f.lets) ≡ map (tree_of p.now.shape.vars) p.now.lets) }
     ensures root { IfOk result (λ f. untyped (typed f.root) ≡ tree_of p.now.shape.vars p.now.root) }
     ensures exact_lets { IfOk result (λ f. AreExact p.now.shape.vars [] (map typed f.lets)) }
     ensures exact_root { IfOk result (λ f. IsExact p.now.shape.vars (map typed f.lets) (typed f.root)) }
-    ensures within { IfOk result (λ f. AreAtMost (all_bounds (map typed f.lets) ++ bounds (typed f.root)) w.now) }
 {
     let vars = p.shape.vars.as_slice();
     let lets = fit_lets(alloc, p.lets.as_slice(), vars)?;

@@ -1,10 +1,7 @@
-// Predicates made by hand, weighed and sized.
+//! Predicates made by hand, weighed and sized.
 use crate::fitted::{Two, Width};
 use crate::fitted_pred::FittedPred;
-use crate::ranged_pred::RangedPred;
-use crate::ranged_size::size_by_ranges;
-use crate::ranged_weigh::weigh_by_ranges;
-use crate::size::size;
+use crate::size::{negated, number, size};
 use crate::weigh::{BoundStop, weigh};
 use ln_base::{NoMemory, Seq, Span};
 use ln_tree::{Arg, Expr, Name, Node, Pred, Shape, Var, VarInfo, is_pred, is_shape};
@@ -132,14 +129,14 @@ fn two_products(rt: &impl Abort, alloc: Global, most: i64) -> Result<Pred, NoMem
     )
 }
 
-/// let d = t - 1; let e = d^3; sign -e*2^58*0 + d^0, with t from -2 to 3
+/// let d = t - 1; let e = d^3; sign -e*2^59*0 + d^0, with t from -2 to 3
 fn with_lets(rt: &impl Abort, alloc: Global) -> Result<Pred, NoMemory> {
     let mut lets = Seq::new(alloc);
     let one = leaf(Node::Num(1), 0);
     lets.push(two(alloc, Two::Minus, coord(0, 0), one, 0)?)?;
     lets.push(power(alloc, leaf(Node::Name(0), 0), 3)?)?;
     let cube = Box::new(alloc, leaf(Node::Name(1), 0))?;
-    let number = leaf(Node::Num(288230376151711744), 0);
+    let number = leaf(Node::Num(576460752303423488), 0);
     let large = two(alloc, Two::Times, leaf(Node::Neg(cube), 0), number, 0)?;
     let nothing = two(alloc, Two::Times, large, leaf(Node::Num(0), 0), 0)?;
     let unit = power(alloc, leaf(Node::Name(0), 0), 0)?;
@@ -159,52 +156,25 @@ fn cross(rt: &impl Abort, alloc: Global, lo: i64, hi: i64) -> Result<Pred, NoMem
 }
 
 /// The size of the root, and the trees with ranges.
-fn ranged(alloc: Global, p: &Pred) -> Result<(u128, RangedPred), BoundStop> {
-    let w = weigh_by_ranges(alloc, p)?;
-    let trees = size_by_ranges(alloc, p)?;
-    Ok((w.root(), trees))
-}
-
-/// The weight of the root, and the trees.
 fn sized(alloc: Global, p: &Pred) -> Result<(u128, FittedPred), BoundStop> {
     let w = weigh(alloc, p)?;
-    let trees = size(alloc, p, &w)?;
+    let trees = size(alloc, p)?;
     Ok((w.root(), trees))
 }
 
 #[test]
-fn the_orientation_weighs_more_than_its_bound(rt: HostRuntime) -> Result<(), Fail> {
-    let p = orientation(&rt, rt.alloc())?;
-    let (weight, trees) = sized(rt.alloc(), &p)?;
-    assert!(rt; weight == 8016008);
-    assert!(rt; trees.root.bound == 8000000);
-    assert!(rt; trees.root.width == Width::W64);
-    Ok(())
-}
-
-#[test]
-fn a_weight_past_128_bits_is_refused_at_its_node(rt: HostRuntime) -> Result<(), Fail> {
-    let heavy = two_products(&rt, rt.alloc(), 9223372036854775807)?;
-    let at = Span { start: 62, end: 62 };
-    assert!(rt; weigh(rt.alloc(), &heavy).err() == Some(BoundStop::Bound(at)));
-    let light = two_products(&rt, rt.alloc(), 9223372036854775806)?;
-    let (weight, trees) = sized(rt.alloc(), &light)?;
-    assert!(rt; weight == 170141183460469231694793815568465002498);
-    assert!(rt; trees.root.width == Width::W128);
-    Ok(())
-}
-
-#[test]
-fn lets_and_powers_carry_bounds_and_widths(rt: HostRuntime) -> Result<(), Fail> {
+fn lets_and_powers_carry_ranges_and_widths(rt: HostRuntime) -> Result<(), Fail> {
     let p = with_lets(&rt, rt.alloc())?;
-    let (weight, trees) = sized(rt.alloc(), &p)?;
-    assert!(rt; weight == 1);
-    let bounds = [4, 64];
-    for (t, bound) in trees.lets.as_slice().iter().zip(&bounds) {
-        assert!(rt; t.bound == *bound);
+    let (size, trees) = sized(rt.alloc(), &p)?;
+    assert!(rt; size == 1);
+    let ranges = [(-3, 2), (-27, 18)];
+    for (t, range) in trees.lets.as_slice().iter().zip(&ranges) {
+        assert!(rt; t.pair.low == range.0);
+        assert!(rt; t.pair.high == range.1);
         assert!(rt; t.width == Width::W64);
     }
-    assert!(rt; trees.root.bound == 1);
+    assert!(rt; trees.root.pair.low == 1);
+    assert!(rt; trees.root.pair.high == 1);
     assert!(rt; trees.root.width == Width::W128);
     Ok(())
 }
@@ -212,7 +182,7 @@ fn lets_and_powers_carry_bounds_and_widths(rt: HostRuntime) -> Result<(), Fail> 
 #[test]
 fn the_orientation_has_size_32(rt: HostRuntime) -> Result<(), Fail> {
     let p = orientation(&rt, rt.alloc())?;
-    let (size, trees) = ranged(rt.alloc(), &p)?;
+    let (size, trees) = sized(rt.alloc(), &p)?;
     assert!(rt; size == 32);
     assert!(rt; trees.root.pair.low == -8000000);
     assert!(rt; trees.root.pair.high == 8000000);
@@ -221,19 +191,38 @@ fn the_orientation_has_size_32(rt: HostRuntime) -> Result<(), Fail> {
 }
 
 #[test]
-fn a_difference_of_squares_fits_where_its_weight_does_not(rt: HostRuntime) -> Result<(), Fail> {
+fn two_products_fit_in_128_bits(rt: HostRuntime) -> Result<(), Fail> {
+    let p = two_products(&rt, rt.alloc(), 9223372036854775807)?;
+    let (size, trees) = sized(rt.alloc(), &p)?;
+    assert!(rt; size == 8);
+    assert!(rt; trees.root.pair.high == 170141183460469231694793815568465002498);
+    assert!(rt; trees.root.width == Width::W128);
+    Ok(())
+}
+
+#[test]
+fn a_difference_of_squares_fits_where_it_has_one_sign(rt: HostRuntime) -> Result<(), Fail> {
     let x = 4611686018427387903;
     let p = cross(&rt, rt.alloc(), -x, x)?;
     let at = Span { start: 54, end: 54 };
-    assert!(rt; weigh(rt.alloc(), &p).err() == Some(BoundStop::Bound(at)));
-    let (size, trees) = ranged(rt.alloc(), &p)?;
+    let (size, trees) = sized(rt.alloc(), &p)?;
     assert!(rt; size == 32);
     assert!(rt; trees.root.pair.high == 170141183460469231657900327421045899272);
     let wide = cross(&rt, rt.alloc(), -5000000000000000000, 5000000000000000000)?;
-    assert!(rt; weigh_by_ranges(rt.alloc(), &wide).err() == Some(BoundStop::Bound(at)));
+    assert!(rt; weigh(rt.alloc(), &wide).err() == Some(BoundStop::Bound(at)));
     let above = cross(&rt, rt.alloc(), 0, 5000000000000000000)?;
-    let (_, trees) = ranged(rt.alloc(), &above)?;
+    let (_, trees) = sized(rt.alloc(), &above)?;
     assert!(rt; trees.root.pair.low == -25000000000000000000000000000000000000);
     assert!(rt; trees.root.pair.high == 125000000000000000000000000000000000000);
+    Ok(())
+}
+
+#[test]
+fn equal_trees_are_one(rt: HostRuntime) -> Result<(), Fail> {
+    let one = negated(rt.alloc(), number(2))?;
+    let same = negated(rt.alloc(), number(2))?;
+    let other = negated(rt.alloc(), number(3))?;
+    assert!(rt; one.same(&same));
+    assert!(rt; !one.same(&other));
     Ok(())
 }

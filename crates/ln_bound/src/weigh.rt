@@ -1,24 +1,30 @@
-// The weights of a predicate's nodes.
-ghost use Rattle.std.specs.Prelude.{◌≡◌, ◌+◌, ◌-◌, ◌++◌, ◌<◌, ◌≤◌, ◌^◌, ◌*◌, length, map, [], ◌∷◌, IfOk, IfErr, OnOk, MatchOption, slice_index_or, unwrap_or};
-ghost use Rattle.ln_tree.specs.Formula.{formula};
+//! The ranges and sizes of a predicate's nodes.
+ghost use Rattle.std.specs.Prelude.{◌≡◌, ◌≤◌, ◌<◌, ◌++◌, ◌∷◌, [], ◌+◌, ◌-◌, ◌*◌, ◌^◌, ℕ, IfOk, IfErr, OnOk, MatchOption, Some, length, map, max, slice_index_or, unsigned_abs, pos};
+ghost use Rattle.ln_tree.specs.Formula.{formula, tree};
 ghost use Rattle.ln_tree.specs.Variables.{number_or_end};
-ghost use Rattle.ln_bound.specs.Value.{size_of, weights};
-ghost use Rattle.ln_bound.specs.Light.{most, weight_of, weighed, weighed_lets, weighed_pred, let_weights, AreLight, node_weights};
+ghost use Rattle.ln_interval.specs.Range.{IsOrdered, magnitude, most, opposite, point, product, power, sum, difference};
+ghost use Rattle.ln_interval.specs.View.{range};
+ghost use Rattle.ln_bound.specs.Light.{AreLight};
+ghost use Rattle.ln_bound.specs.Loads.{loaded, loaded_lets, loaded_pred, measured, measured_lets, measured_pred, node_measures, ranges_of_lets, sizes_of_lets};
+ghost use Rattle.ln_bound.specs.Measures.{IsMeasure, range_in, seen, size_in, tested};
+ghost use Rattle.ln_bound.specs.Typed.{range_of, bound_of};
+ghost use Rattle.ln_bound.specs.Ranges.{range_over, ranges, size_over};
 ghost use Rattle.ln_bound.specs.Stop.{StopsWeighing, IsHeavyOrNoMemory};
 
+use crate::fitted::Two;
+use crate::measure::{Measure, declared};
 use ln_base::{NoMemory, Seq, Span};
+use ln_interval::Pair;
+use ln_interval::pair::MOST;
 use ln_tree::layout::number_in;
 use ln_tree::{Expr, Node, Pred, Var, VarInfo};
 use std::alloc::Global;
 use std::marker::Model;
 
-/// The largest weight that is allowed, and the largest absolute value of 128 bits.
-pub const MOST: u128 = 170141183460469231731687303715884105727;
-
-/// Why a predicate has no weights.
+/// Why a predicate has no ranges and sizes.
 #[derive(Clone, Copy, Debug, PartialEq, Eq)]
 pub enum BoundStop {
-    /// The first node in order of evaluation whose weight passes `2^127 - 1`.
+    /// The first node in order of evaluation whose range or size passes `2^127 - 1`.
     Bound(Span),
     NoMemory,
 }
@@ -33,159 +39,292 @@ impl From<NoMemory> for BoundStop {
     }
 }
 
-/// The weights of all nodes of a predicate, in order of evaluation: its lets in order, then its root; in each the left
-/// operand, the right operand, the node. Each is at most `2^127 - 1`. Contracts see the list.
-#[derive(Debug, Drop)]
+/// The ranges and sizes of all nodes of a predicate, in order of evaluation: its lets in order, then its root; in each the
+/// left operand, the right operand, the node. The ends of ranges and the sizes are at most `2^127 - 1` in absolute value.
+/// Contracts see the list.
+#[derive(Drop)]
 pub struct Weights {
-    all: Seq<u128>,
+    all: Seq<Measure>,
 }
 
 impl Model for Weights {
-    ghost use Rattle.std.specs.Prelude.{ℕ, List};
+    ghost use Rattle.std.specs.Prelude.{ℕ, List, map};
+    ghost use Rattle.ln_bound.specs.Measures.{seen};
+    ghost use Rattle.ln_interval.specs.Range.{Range};
 
-    ghost Value = { List ℕ };
+    ghost Value = { List (Range × ℕ) };
 
-    ghost view = { λ w. w.all };
+    ghost view = { λ w. map seen w.all };
 }
 
 impl Weights {
-    /// The weight of the root.
+    /// The size of the root.
     pub fn root(&self) -> u128
         requires { 0 < length self.now }
-        ensures { result ≡ slice_index_or self.now (length self.now - 1) 0 }
+        ensures { result ≡ (slice_index_or self.now (length self.now - 1) (point (pos 0), 0)).1 }
     {
         let all = self.all.as_slice();
-        all[all.len() - 1]
+        all[all.len() - 1].size
     }
 }
 
-// M of a variable, the largest absolute value of its range and at least 1, and one more.
-fn weight_of_var(i: &VarInfo) -> u128
-    ensures { result ≡ size_of i.now + 1 }
+// The pair of 0 alone.
+fn nothing() -> Pair
+    ensures { range result ≡ point (pos 0) }
 {
-    u128::from(i.lo.unsigned_abs().max(i.hi.unsigned_abs()).max(1)) + 1
+    Pair { low: 0, high: 0 }
 }
 
-fn weight_of_input(vars: &[VarInfo], v: Var) -> u128
-    ensures { result ≡ weights vars.now (number_or_end vars.now v.arg v.coord) }
+// The measure of the number c.
+fn of_number(c: i128) -> Option<Measure>
+    ensures { MatchOption result (most < max (magnitude (point c)) (unsigned_abs c)) (λ m. IsMeasure m (point c) (unsigned_abs c)) }
 {
-    match vars.get(number_in(vars, v)) {
-        Some(i) => weight_of_var(i),
-        None => 0,
+    let size = c.unsigned_abs();
+    if size > MOST {
+        return None;
+    }
+    let pair = Pair { low: c, high: c };
+    Some(Measure { pair, size })
+}
+
+// The measure of a sum.
+fn sum_of(a: Measure, b: Measure) -> Option<Measure>
+    requires left { a.size ≤ most }
+    requires right { b.size ≤ most }
+    ensures { MatchOption result (most < max (magnitude (sum (range a.pair) (range b.pair))) (a.size + b.size)) (λ m. IsMeasure m (sum (range a.pair) (range b.pair)) (a.size + b.size)) }
+{
+    let size = a.size + b.size;
+    match a.pair.add(b.pair) {
+        Some(pair) if size <= MOST => Some(Measure { pair, size }),
+        _ => None,
     }
 }
 
-fn product(a: u128, b: u128) -> Option<u128>
-    ensures { MatchOption result (most < a * b) (λ p. p ≡ a * b) }
+// The measure of a difference.
+fn difference_of(a: Measure, b: Measure) -> Option<Measure>
+    requires left { a.size ≤ most }
+    requires right { b.size ≤ most }
+    ensures { MatchOption result (most < max (magnitude (difference (range a.pair) (range b.pair))) (a.size + b.size)) (λ m. IsMeasure m (difference (range a.pair) (range b.pair)) (a.size + b.size)) }
 {
-    a.checked_mul(b)
+    let size = a.size + b.size;
+    match a.pair.sub(b.pair) {
+        Some(pair) if size <= MOST => Some(Measure { pair, size }),
+        _ => None,
+    }
 }
 
-fn power(a: u128, n: u8) -> Option<u128>
+// The product of two sizes, where it is within the limit.
+fn size_of_product(a: u128, b: u128) -> Option<u128>
+    ensures { MatchOption result (most < a * b) (λ p. (p ≡ a * b) × (p ≤ most)) }
+{
+    match a.checked_mul(b) {
+        Some(p) if p <= MOST => Some(p),
+        _ => None,
+    }
+}
+
+// The measure of a product.
+fn product_of(a: Measure, b: Measure) -> Option<Measure>
+    ensures { MatchOption result (most < max (magnitude (product (range a.pair) (range b.pair))) (a.size * b.size)) (λ m. IsMeasure m (product (range a.pair) (range b.pair)) (a.size * b.size)) }
+{
+    match a.pair.mul(b.pair) {
+        Some(pair) => match size_of_product(a.size, b.size) {
+            Some(size) => Some(Measure { pair, size }),
+            None => None,
+        },
+        None => None,
+    }
+}
+
+// The power of a size, where it is within the limit.
+fn size_of_power(a: u128, n: u8) -> Option<u128>
     requires { a ≤ most }
     ensures { MatchOption result (most < a ^ n) (λ p. (p ≡ a ^ n) × (p ≤ most)) }
 {
     let mut p = 1u128;
     'factors: for _k in 0..n {
-        match product(p, a) {
-            Some(q) if q <= MOST => p = q,
-            _ => return None,
+        match size_of_product(p, a) {
+            Some(q) => p = q,
+            None => return None,
         }
     }
     Some(p)
 }
 
-fn let_weight(lets: &[u128], j: u8) -> u128
-    ensures { result ≡ slice_index_or lets.now j 0 }
+// The measure of a power.
+fn power_of(a: Measure, n: u8) -> Option<Measure>
+    requires { a.size ≤ most }
+    ensures { MatchOption result (most < max (magnitude (power (range a.pair) n)) (a.size ^ n)) (λ m. IsMeasure m (power (range a.pair) n) (a.size ^ n)) }
 {
-    match lets.get(usize::from(j)) {
-        Some(w) => *w,
-        None => 0,
+    match a.pair.power(n) {
+        Some(pair) => match size_of_power(a.size, n) {
+            Some(size) => Some(Measure { pair, size }),
+            None => None,
+        },
+        None => None,
     }
 }
 
-// Puts a node's weight behind the others, where it is not too heavy.
-fn put(at: Span, weight: Option<u128>, all: &mut Seq<u128>) -> Result<u128, BoundStop>
-    ensures ok { IfOk result (λ w. (weight ≡ Some w) × (w ≤ most) × (all.new ≡ all.old ++ w ∷ [])) }
-    ensures heavy { IfErr result (λ e. IsHeavyOrNoMemory at weight e) }
+// The measure of the opposite.
+fn opposite_of(a: Measure) -> Measure
+    requires { a.size ≤ most }
+    ensures { IsMeasure result (opposite (range a.pair)) a.size }
 {
-    match weight {
-        Some(w) if w <= MOST => {
+    Measure {
+        pair: a.pair.neg(),
+        size: a.size,
+    }
+}
+
+// The measure of a let.
+fn let_measure(lets: &[Measure], j: u8) -> Option<Measure>
+    ensures { MatchOption result (most < max (magnitude (slice_index_or (map range_in lets.now) j (point (pos 0)))) (slice_index_or (map size_in lets.now) j 0)) (λ m. IsMeasure m (slice_index_or (map range_in lets.now) j (point (pos 0))) (slice_index_or (map size_in lets.now) j 0)) }
+{
+    match lets.get(usize::from(j)) {
+        Some(m) if m.size <= MOST => Some(*m),
+        Some(_) => None,
+        None => Some(Measure {
+            pair: nothing(),
+            size: 0,
+        }),
+    }
+}
+
+// The measure of a variable.
+fn input_measure(vars: &[VarInfo], v: Var) -> Measure
+    requires { (k : ℕ) → IsOrdered (ranges vars.now k) }
+    ensures { IsMeasure result (ranges vars.now (number_or_end vars.now v.arg v.coord)) 2 }
+{
+    let pair = match vars.get(number_in(vars, v)) {
+        Some(i) => declared(i),
+        None => nothing(),
+    };
+    Measure { pair, size: 2 }
+}
+
+// Puts a node's measure behind the others, where there is one.
+fn put(at: Span, m: Option<Measure>, all: &mut Seq<Measure>) -> Result<Measure, BoundStop>
+    ensures ok { IfOk result (λ w. (m ≡ Some w) × (all.new ≡ all.old ++ w ∷ [])) }
+    ensures heavy { IfErr result (λ e. IsHeavyOrNoMemory at (tested m) e) }
+{
+    match m {
+        Some(w) => {
             all.push(w)?;
             Ok(w)
         }
-        _ => Err(BoundStop::Bound(at)),
+        None => Err(BoundStop::Bound(at)),
     }
 }
 
-// The weight of a formula behind lets of these weights; the weights of its nodes come behind the others.
+// The measure of a sum, difference or product.
+fn two_of(kind: Two, a: Measure, b: Measure) -> Option<Measure>
+    requires left { a.size ≤ most }
+    requires right { b.size ≤ most }
+    ensures { MatchOption result (most < max (magnitude (range_of kind (range a.pair) (range b.pair))) (bound_of kind a.size b.size)) (λ m. IsMeasure m (range_of kind (range a.pair) (range b.pair)) (bound_of kind a.size b.size)) }
+{
+    match kind {
+        Two::Plus => sum_of(a, b),
+        Two::Minus => difference_of(a, b),
+        Two::Times => product_of(a, b),
+    }
+}
+
+// Puts the measure of a sum, difference or product behind the others.
+fn put_two(
+    at: Span,
+    kind: Two,
+    a: Measure,
+    b: Measure,
+    all: &mut Seq<Measure>,
+) -> Result<Measure, BoundStop>
+    requires left { a.size ≤ most }
+    requires right { b.size ≤ most }
+    ensures ok { IfOk result (λ w. IsMeasure w (range_of kind (range a.pair) (range b.pair)) (bound_of kind a.size b.size)) }
+    ensures nodes { OnOk result (map seen all.new ≡ map seen all.old ++ (range_of kind (range a.pair) (range b.pair), bound_of kind a.size b.size) ∷ []) }
+    ensures light { OnOk result (max (magnitude (range_of kind (range a.pair) (range b.pair))) (bound_of kind a.size b.size) ≤ most) }
+    ensures heavy { IfErr result (λ e. IsHeavyOrNoMemory at (Some (max (magnitude (range_of kind (range a.pair) (range b.pair))) (bound_of kind a.size b.size))) e) }
+{
+    put(at, two_of(kind, a, b), all)
+}
+
+// The measure of a formula behind lets of these measures; the measures of its nodes come behind the others.
 #[tactic(auto, using(crate::proofs::Weighing::stop_alone, crate::proofs::Weighing::stop_before, crate::proofs::Weighing::stop_behind, crate::proofs::Weighing::stop_here, crate::proofs::Weighing::light_both, crate::proofs::Weighing::light_behind))]
 fn weigh_in(
     e: &Expr,
     vars: &[VarInfo],
-    lets: &[u128],
-    all: &mut Seq<u128>,
-) -> Result<u128, BoundStop>
-    ensures weight { IfOk result (λ w. (w ≡ weight_of vars.now lets.now (formula e.now)) × (w ≤ most)) }
-    ensures nodes { OnOk result (all.new ≡ all.old ++ node_weights (weighed vars.now lets.now (formula e.now))) }
-    ensures light { OnOk result (AreLight (weighed vars.now lets.now (formula e.now))) }
-    ensures err { IfErr result (λ s. StopsWeighing (weighed vars.now lets.now (formula e.now)) s) }
+    lets: &[Measure],
+    all: &mut Seq<Measure>,
+) -> Result<Measure, BoundStop>
+    requires { (k : ℕ) → IsOrdered (ranges vars.now k) }
+    ensures measure { IfOk result (λ w. IsMeasure w (range_over (ranges vars.now) (map range_in lets.now) (tree vars.now (formula e.now))) (size_over (map size_in lets.now) (tree vars.now (formula e.now)))) }
+    ensures nodes { OnOk result (map seen all.new ≡ map seen all.old ++ node_measures (measured vars.now (map range_in lets.now) (map size_in lets.now) (formula e.now))) }
+    ensures light { OnOk result (AreLight (loaded vars.now (map range_in lets.now) (map size_in lets.now) (formula e.now))) }
+    ensures err { IfErr result (λ s. StopsWeighing (loaded vars.now (map range_in lets.now) (map size_in lets.now) (formula e.now)) s) }
 {
     match &e.node {
-        Node::Num(c) => put(e.at, Some(c.unsigned_abs()), all),
-        Node::Input(v) => put(e.at, Some(weight_of_input(vars, *v)), all),
-        Node::Name(j) => put(e.at, Some(let_weight(lets, *j)), all),
+        Node::Num(c) => put(e.at, of_number(*c), all),
+        Node::Input(v) => put(e.at, Some(input_measure(vars, *v)), all),
+        Node::Name(j) => put(e.at, let_measure(lets, *j), all),
         Node::Neg(x) => {
             let a = weigh_in(x, vars, lets, all)?;
-            put(e.at, Some(a), all)
+            put(e.at, Some(opposite_of(a)), all)
         }
-        Node::Add(x, y) | Node::Sub(x, y) => {
+        Node::Add(x, y) => {
             let a = weigh_in(x, vars, lets, all)?;
             let b = weigh_in(y, vars, lets, all)?;
-            put(e.at, Some(a + b), all)
+            put_two(e.at, Two::Plus, a, b, all)
+        }
+        Node::Sub(x, y) => {
+            let a = weigh_in(x, vars, lets, all)?;
+            let b = weigh_in(y, vars, lets, all)?;
+            put_two(e.at, Two::Minus, a, b, all)
         }
         Node::Mul(x, y) => {
             let a = weigh_in(x, vars, lets, all)?;
             let b = weigh_in(y, vars, lets, all)?;
-            put(e.at, product(a, b), all)
+            put_two(e.at, Two::Times, a, b, all)
         }
         Node::Pow(x, n) => {
             let a = weigh_in(x, vars, lets, all)?;
-            put(e.at, power(a, *n), all)
+            put(e.at, power_of(a, *n), all)
         }
     }
 }
 
-// The weight of a further let comes behind those of the lets before it.
+// The measure of a further let comes behind those of the lets before it.
 fn weigh_next(
     e: &Expr,
     vars: &[VarInfo],
-    done: &mut Seq<u128>,
-    all: &mut Seq<u128>,
+    done: &mut Seq<Measure>,
+    all: &mut Seq<Measure>,
 ) -> Result<(), BoundStop>
-    ensures weight { OnOk result (done.new ≡ done.old ++ weight_of vars.now done.old (formula e.now) ∷ []) }
-    ensures nodes { OnOk result (all.new ≡ all.old ++ node_weights (weighed vars.now done.old (formula e.now))) }
-    ensures light { OnOk result (AreLight (weighed vars.now done.old (formula e.now))) }
-    ensures err { IfErr result (λ s. StopsWeighing (weighed vars.now done.old (formula e.now)) s) }
+    requires { (k : ℕ) → IsOrdered (ranges vars.now k) }
+    ensures ranges { OnOk result (map range_in done.new ≡ map range_in done.old ++ range_over (ranges vars.now) (map range_in done.old) (tree vars.now (formula e.now)) ∷ []) }
+    ensures sizes { OnOk result (map size_in done.new ≡ map size_in done.old ++ size_over (map size_in done.old) (tree vars.now (formula e.now)) ∷ []) }
+    ensures nodes { OnOk result (map seen all.new ≡ map seen all.old ++ node_measures (measured vars.now (map range_in done.old) (map size_in done.old) (formula e.now))) }
+    ensures light { OnOk result (AreLight (loaded vars.now (map range_in done.old) (map size_in done.old) (formula e.now))) }
+    ensures err { IfErr result (λ s. StopsWeighing (loaded vars.now (map range_in done.old) (map size_in done.old) (formula e.now)) s) }
 {
-    let w = weigh_in(e, vars, done.as_slice(), all)?;
-    done.push(w)?;
+    let m = weigh_in(e, vars, done.as_slice(), all)?;
+    done.push(m)?;
     Ok(())
 }
 
-// The weights of the lets; those of their nodes come behind the others.
-#[tactic(auto, using(crate::proofs::Weighing::lets_begin, crate::proofs::Weighing::lets_more, crate::proofs::Weighing::lets_stop))]
+// The measures of the lets; those of their nodes come behind the others.
+#[tactic(auto, using(crate::proofs::Measuring::lets_begin, crate::proofs::Measuring::lets_more, crate::proofs::Measuring::lets_stop))]
 fn weigh_lets(
     alloc: Global,
     lets: &[Expr],
     vars: &[VarInfo],
-    all: &mut Seq<u128>,
-) -> Result<Seq<u128>, BoundStop>
-    requires { all.old ≡ [] }
-    ensures weights { IfOk result (λ ws. ws ≡ let_weights vars.now [] (map formula lets.now)) }
-    ensures nodes { OnOk result (all.new ≡ node_weights (weighed_lets vars.now [] (map formula lets.now))) }
-    ensures light { OnOk result (AreLight (weighed_lets vars.now [] (map formula lets.now))) }
-    ensures err { IfErr result (λ s. StopsWeighing (weighed_lets vars.now [] (map formula lets.now)) s) }
+    all: &mut Seq<Measure>,
+) -> Result<Seq<Measure>, BoundStop>
+    requires ordered { (k : ℕ) → IsOrdered (ranges vars.now k) }
+    requires empty { all.old ≡ [] }
+    ensures ranges { IfOk result (λ ws. map range_in ws ≡ ranges_of_lets vars.now [] (map formula lets.now)) }
+    ensures sizes { IfOk result (λ ws. map size_in ws ≡ sizes_of_lets vars.now [] (map formula lets.now)) }
+    ensures nodes { OnOk result (map seen all.new ≡ node_measures (measured_lets vars.now [] [] (map formula lets.now))) }
+    ensures light { OnOk result (AreLight (loaded_lets vars.now [] [] (map formula lets.now))) }
+    ensures err { IfErr result (λ s. StopsWeighing (loaded_lets vars.now [] [] (map formula lets.now)) s) }
 {
     let mut done = Seq::new(alloc);
     'each: for e in lets {
@@ -194,13 +333,14 @@ fn weigh_lets(
     Ok(done)
 }
 
-/// The weights of a predicate's nodes, or the first node in order of evaluation that is too heavy.
+/// The ranges and sizes of a predicate's nodes, or the first node in order of evaluation that has an end of its range, or
+/// its size, past `2^127 - 1` in absolute value.
 #[tactic(auto, using(crate::proofs::Weighing::stop_before, crate::proofs::Weighing::stop_behind, crate::proofs::Weighing::light_both))]
 pub fn weigh(alloc: Global, p: &Pred) -> Result<Weights, BoundStop>
-    ensures ok { IfOk result (λ w. w ≡ node_weights (weighed_pred p.now.shape.vars (map formula p.now.lets) (formula p.now.root))) }
-    ensures light { OnOk result (AreLight (weighed_pred p.now.shape.vars (map formula p.now.lets) (formula p.now.root))) }
+    ensures ok { IfOk result (λ w. w ≡ node_measures (measured_pred p.now.shape.vars (map formula p.now.lets) (formula p.now.root))) }
+    ensures light { OnOk result (AreLight (loaded_pred p.now.shape.vars (map formula p.now.lets) (formula p.now.root))) }
     ensures some { IfOk result (λ w. 0 < length w) }
-    ensures err { IfErr result (λ s. StopsWeighing (weighed_pred p.now.shape.vars (map formula p.now.lets) (formula p.now.root)) s) }
+    ensures err { IfErr result (λ s. StopsWeighing (loaded_pred p.now.shape.vars (map formula p.now.lets) (formula p.now.root)) s) }
 {
     let mut all = Seq::new(alloc);
     let vars = p.shape.vars.as_slice();

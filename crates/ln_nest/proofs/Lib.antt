@@ -9,5 +9,4 @@ pub mod Steps
 pub mod Whole
 pub mod Doubled
 pub mod Shortest
-pub mod RangedNests
-pub mod RangedSteps
+pub mod Nests

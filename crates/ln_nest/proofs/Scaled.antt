@@ -29,7 +29,7 @@ scaled_cases v h P a b c = by_case (is_number (pos 1) h) (is_number (negsuc 0) h
     by_case false true f g = b (g refl)
     by_case false false f g = c
 
--- the same of trees with bounds
+-- the same of trees with ranges
 pub product_cases : (v : ℕ) (x y : Typed) (P : Typed → Tree → Type 0) → (untyped y ≡ Num (pos 1) → P x (Input v)) → (untyped y ≡ Num (negsuc 0) → P (opposite_of x) (Neg (Input v))) → P (times_of x y) (Mul (Input v) (untyped y)) → P (product_of x y) (scaled v (untyped y))
 product_cases v x y P a b c = by_case (is_number (pos 1) (untyped y)) (is_number (negsuc 0) (untyped y)) (λ e. number_is (pos 1) (untyped y) e) (λ e. number_is (negsuc 0) (untyped y) e)
   where

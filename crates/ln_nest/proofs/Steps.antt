@@ -1,22 +1,23 @@
--- The steps of the nested form, with their bounds.
-use Rattle.std.proofs.Common.{◌≡◌, ℕ, ℤ, ◌+◌, ◌-◌, ◌*◌, ◌^◌, ◌≤◌, ◌<◌, true, false, List, [], ◌∷◌, length, refl, zero, suc, ap, arith, pos, ◌+ℤ◌, ◌∙◌, sym, unsigned_abs, slice_index_or, take}
-use Rattle.std.proofs.lemmas.Int.{ints, fits_signed_from_abs}
-use Rattle.std.specs.Prelude.{FitsSigned}
+-- The steps of the nested form, with their ranges.
+use Rattle.std.proofs.Common.{◌≡◌, ℕ, ℤ, ◌+◌, ◌-◌, ◌*◌, ◌^◌, ◌≤◌, ◌<◌, max, true, false, List, [], ◌∷◌, length, refl, zero, suc, ap, arith, pos, ◌+ℤ◌, ◌∙◌, sym, unsigned_abs, slice_index_or, take}
+use Rattle.std.specs.Prelude.{FitsSigned, Option, Some, None, negsuc, slice_get, ◌==◌}
 use mir.Syntax.{w128}
 use Rattle.std.proofs.Math.Nat.{mul-le-mul_left}
+use Rattle.std.proofs.lemmas.Bool.{eqb-true}
+use Rattle.std.proofs.lemmas.Int.{ints, fits_signed_from_abs}
 use Rattle.ln_algebra.specs.Terms.{Term}
 use Rattle.ln_algebra.specs.Tree.{Tree, Num, Input, Neg, Add, Mul}
 use Rattle.ln_algebra.specs.Weights.{weighted_sum, monomial_weight}
-use Rattle.std.specs.Prelude.{◌==◌, negsuc}
-use Rattle.std.proofs.lemmas.Bool.{eqb-true}
+use Rattle.ln_interval.specs.Range.{Range, point, magnitude, product, sum}
+use Rattle.ln_interval.proofs.Magnitudes.{sum_magnitude, opposite_magnitude, product_magnitude}
 use Rattle.ln_tree.specs.declared.shape.VarInfo.{VarInfo}
 use Rattle.ln_bound.specs.Light.{most}
-use Rattle.ln_bound.specs.Typed.{Typed, TNum, TInput, bound, untyped, width}
 use Rattle.ln_bound.specs.Exact.{IsExact}
-use Rattle.ln_bound.specs.Value.{sizes, weight_over}
-use Rattle.ln_bound.specs.Widths.{least, wider}
-use Rattle.ln_bound.proofs.ExactLaws.{exact_bound}
-use Rattle.ln_bound.proofs.WidthLaws.{least_fits, wider_fits, first_no_wider, left_no_wider, second_no_wider}
+use Rattle.ln_bound.specs.Typed.{Typed, TNum, TInput, pair, untyped}
+use Rattle.ln_bound.specs.Ranges.{range_or, range_over, ranges}
+use Rattle.ln_bound.specs.Value.{size_or, sizes}
+use Rattle.ln_bound.specs.Widths.{least}
+use Rattle.ln_bound.proofs.ExactLaws.{exact_range}
 use Rattle.ln_poly.proofs.Weighing.{size-some}
 use Rattle.ln_nest.specs.declared.work.Work.{Work}
 use Rattle.ln_nest.specs.Nested.{divided, free_of, total, joined, horner, nested, scaled}
@@ -31,6 +32,14 @@ scale_some vars v = omega arith
 -- of a variable it is its M
 pub scale_is : (vars : List VarInfo) (v : ℕ) → v < length vars → scale vars v ≡ sizes vars v
 scale_is vars v h = let s = size-some vars v h in omega (arith, s)
+
+-- the declared range of a variable is within it
+pub range_scale : (vars : List VarInfo) (v : ℕ) → magnitude (ranges vars v) ≤ scale vars v
+range_scale vars v = by_there (slice_get vars v)
+  where
+    by_there : (o : Option VarInfo) → magnitude (range_or o) ≤ max 1 (size_or o)
+    by_there None = omega arith
+    by_there (Some i) = omega arith
 
 -- what is left at a step has no more weight
 pub free_weight : (w : ℕ → ℕ) (v n : ℕ) (f : List Term) (q : List Work) → terms_in q ≡ free_of v f → weighted_sum w f ≤ n → weighted_sum w (terms_in q) ≤ n
@@ -51,67 +60,64 @@ product_bound w v f p b e h =
     let m : w v * b ≤ w v * weighted_sum w (divided v f) = mul-le-mul_left (w v) g in
     omega (arith, s, m)
 
--- ---- nodes with their bounds and widths
+-- ---- nodes with their ranges and widths
 -- a number
-pub number_has : (vars : List VarInfo) (c : ℤ) (t : Typed) → t ≡ TNum c (unsigned_abs c) (least (unsigned_abs c)) → unsigned_abs c ≤ most → Has vars t (Num c) (unsigned_abs c)
-number_has vars c t e l = rw e (record { same = refl; exact = (refl, refl); sound = (omega arith, least_fits (unsigned_abs c) l); small = omega arith })
+pub number_has : (vars : List VarInfo) (c : ℤ) (t : Typed) → t ≡ TNum c (point c) (least (magnitude (point c))) → Has vars t (Num c) (unsigned_abs c)
+number_has vars c t e = rw e (record { same = refl; exact = (refl, refl); small = omega arith })
 
 -- variable v, as a tree
 abbrev pub input_of : List VarInfo → ℕ → Typed
-input_of vars v = TInput v (sizes vars v) (least (sizes vars v))
+input_of vars v = TInput v (ranges vars v) (least (magnitude (ranges vars v)))
 
--- variable v
-pub input_has : (vars : List VarInfo) (v : ℕ) (t : Typed) → t ≡ input_of vars v → v < length vars → sizes vars v ≤ most → Has vars t (Input v) (sizes vars v)
-input_has vars v t e h l = rw e (record { same = refl; exact = (refl, refl); sound = (h, omega arith, least_fits (sizes vars v) l); small = omega arith })
-
--- the same with its own bound
-input_has_own : (vars : List VarInfo) (v : ℕ) (t : Typed) → t ≡ input_of vars v → v < length vars → sizes vars v ≤ most → Has vars t (Input v) (bound t)
-input_has_own vars v t e h l = rw e (input_has vars v (input_of vars v) refl h l)
+pub input_has : (vars : List VarInfo) (v : ℕ) (t : Typed) → t ≡ input_of vars v → Has vars t (Input v) (magnitude (ranges vars v))
+input_has vars v t e = rw e (record { same = refl; exact = (refl, refl); small = omega arith })
 
 -- its opposite
-opposite_has : (vars : List VarInfo) (v : ℕ) (x : Typed) (b : ℕ) → x ≡ input_of vars v → v < length vars → sizes vars v ≤ most → bound x ≤ b → Has vars (opposite_of x) (Neg (Input v)) b
-opposite_has vars v x b e h l k =
-    let i = input_has vars v x e h l in
-    let s : bound x ≤ most = let m = i.small in omega (arith, m, l) in
-    record { same = ap Neg i.same; exact = (i.exact, refl, refl); sound = (i.sound, omega arith, wider_fits (width x) (bound x) s, left_no_wider (width x) (least (bound x))); small = k }
+pub opposite_has : (vars : List VarInfo) (v : ℕ) (x : Typed) (b : ℕ) → x ≡ input_of vars v → magnitude (pair x) ≤ b → Has vars (opposite_of x) (Neg (Input v)) b
+opposite_has vars v x b e k =
+    let i = input_has vars v x e in
+    let m = opposite_magnitude (pair x) in
+    record { same = ap Neg i.same; exact = (i.exact, refl, refl); small = omega (arith, m, k) }
 
 -- a product
-pub times_has : (vars : List VarInfo) (x y t : Typed) (e g : Tree) (a b : ℕ) → t ≡ times_of x y → bound x * bound y ≤ most → Has vars x e a → Has vars y g b → Has vars t (Mul e g) (bound x * bound y)
-times_has vars x y t e g a b q l h i = rw q (record {
-  same = rw (h.same, i.same) refl;
-  exact = (h.exact, i.exact, refl, refl);
-  sound = (h.sound, i.sound, omega arith, wider_fits (wider (width x) (width y)) (bound x * bound y) l, first_no_wider (width x) (width y) (least (bound x * bound y)), second_no_wider (width x) (width y) (least (bound x * bound y)));
-  small = omega arith;
-})
+pub times_has : (vars : List VarInfo) (x y : Typed) (e g : Tree) (a b : ℕ) → Has vars x e a → Has vars y g b → Has vars (times_of x y) (Mul e g) (magnitude (pair x) * magnitude (pair y))
+times_has vars x y e g a b h i =
+    let m = product_magnitude (pair x) (pair y) in
+    record { same = rw (h.same, i.same) refl; exact = (h.exact, i.exact, refl, refl); small = omega (arith, m) }
 
 -- a sum
-pub plus_has : (vars : List VarInfo) (x y t : Typed) (e g : Tree) (a b : ℕ) → t ≡ plus_of x y → bound x + bound y ≤ most → Has vars x e a → Has vars y g b → Has vars t (Add e g) (bound x + bound y)
-plus_has vars x y t e g a b q l h i = rw q (record {
-  same = rw (h.same, i.same) refl;
-  exact = (h.exact, i.exact, refl, refl);
-  sound = (h.sound, i.sound, omega arith, wider_fits (wider (width x) (width y)) (bound x + bound y) l, first_no_wider (width x) (width y) (least (bound x + bound y)), second_no_wider (width x) (width y) (least (bound x + bound y)));
-  small = omega arith;
-})
+pub plus_has : (vars : List VarInfo) (x y : Typed) (e g : Tree) (a b : ℕ) → Has vars x e a → Has vars y g b → Has vars (plus_of x y) (Add e g) (magnitude (pair x) + magnitude (pair y))
+plus_has vars x y e g a b h i =
+    let m = sum_magnitude (pair x) (pair y) in
+    record { same = rw (h.same, i.same) refl; exact = (h.exact, i.exact, refl, refl); small = omega (arith, m) }
 
 -- the same tree under another name and a larger bound
 pub has_as : (vars : List VarInfo) (t : Typed) (e g : Tree) (a b : ℕ) → e ≡ g → a ≤ b → Has vars t e a → Has vars t g b
-has_as vars t e g a b q l h = record { same = h.same ∙ q; exact = h.exact; sound = h.sound; small = let s = h.small in omega (arith, s, l) }
+has_as vars t e g a b q l h = record { same = h.same ∙ q; exact = h.exact; small = let s = h.small in omega (arith, s, l) }
 
--- where a tree is 1 or -1 its bound is 1
-unit_bound : (vars : List VarInfo) (y : Typed) (z : ℤ) → IsExact vars [] y → untyped y ≡ Num z → unsigned_abs z ≡ 1 → bound y ≡ 1
-unit_bound vars y z h e u = exact_bound vars [] y h ∙ ap (weight_over (sizes vars) []) e ∙ u
+-- where an exact tree is the number 1 or -1 the magnitude of its range is 1
+unit_magnitude : (vars : List VarInfo) (y : Typed) (z : ℤ) → IsExact vars [] y → untyped y ≡ Num z → unsigned_abs z ≡ 1 → magnitude (pair y) ≡ 1
+unit_magnitude vars y z h e u =
+    let r : pair y ≡ range_over (ranges vars) [] (untyped y) = exact_range vars [] y h in
+    let q : pair y ≡ point z = r ∙ ap (λ t. range_over (ranges vars) [] t) e in
+    let m : magnitude (pair y) ≡ magnitude (point z) = ap magnitude_of q in
+    omega (arith, m, u)
+  where
+    magnitude_of : Range → ℕ
+    magnitude_of p = magnitude p
 
 -- variable v times a tree
-pub product_has : (vars : List VarInfo) (v : ℕ) (x y : Typed) (e : Tree) (b : ℕ) → x ≡ input_of vars v → v < length vars → sizes vars v ≤ most → bound x * bound y ≤ most → Has vars y e b → Has vars (product_of x y) (scaled v e) (bound x * bound y)
-product_has vars v x y e b i l k m h =
-    let input = input_has vars v x i l k in
-    let one = λ (z : ℤ) (q : untyped y ≡ Num z) (u : unsigned_abs z ≡ 1). within (bound y) (unit_bound vars y z h.exact q u) in
-    rw (← h.same) (product_cases v x y (λ t g. Has vars t g (bound x * bound y))
-    (λ q. has_as vars x (Input v) (Input v) (bound x) (bound x * bound y) refl (one (pos 1) q refl) (input_has_own vars v x i l k))
-    (λ q. opposite_has vars v x (bound x * bound y) i l k (one (negsuc 0) q refl))
-    (times_has vars x y (times_of x y) (Input v) (untyped y) (sizes vars v) b refl m input (record { same = refl; exact = h.exact; sound = h.sound; small = h.small })))
+pub product_has : (vars : List VarInfo) (v : ℕ) (x y : Typed) (e : Tree) (b : ℕ) → x ≡ input_of vars v → Has vars y e b → Has vars (product_of x y) (scaled v e) (magnitude (pair x) * magnitude (pair y))
+product_has vars v x y e b i h =
+    let input = input_has vars v x i in
+    let own : Has vars x (Input v) (magnitude (pair x)) = record { same = input.same; exact = input.exact; small = omega arith } in
+    let one = λ (z : ℤ) (q : untyped y ≡ Num z) (u : unsigned_abs z ≡ 1). within (magnitude (pair y)) (unit_magnitude vars y z h.exact q u) in
+    rw (← h.same) (product_cases v x y (λ t g. Has vars t g (magnitude (pair x) * magnitude (pair y)))
+    (λ q. has_as vars x (Input v) (Input v) (magnitude (pair x)) (magnitude (pair x) * magnitude (pair y)) refl (one (pos 1) q refl) own)
+    (λ q. opposite_has vars v x (magnitude (pair x) * magnitude (pair y)) i (one (negsuc 0) q refl))
+    (times_has vars x y (Input v) (untyped y) (magnitude (ranges vars v)) b input (record { same = refl; exact = h.exact; small = h.small })))
   where
-    within : (n : ℕ) → n ≡ 1 → bound x ≤ bound x * n
+    within : (n : ℕ) → n ≡ 1 → magnitude (pair x) ≤ magnitude (pair x) * n
     within n e = rw e (omega arith)
 
 -- ---- each way a step ends
@@ -153,46 +159,54 @@ ends_free vars inner v b f p q t z e g h =
     let k : weighted_sum (scale vars) (terms_in q) ≡ weighted_sum (scale vars) (free_of v f) = ap (weighted_sum (scale vars)) g in
     has_as vars t _ _ _ _ (ap inner g ∙ joined_free v (divided v f) (free_of v f) (horner inner v b (divided v f)) (inner (free_of v f)) d) (omega (arith, k, s)) h
 
--- the bound of v times a tree of the divided terms
-pub product_small : (vars : List VarInfo) (v : ℕ) (f : List Term) (p : List Work) (x h : Typed) (e : Tree) → x ≡ input_of vars v → v < length vars → terms_in p ≡ divided v f → Has vars h e (weighted_sum (scale vars) (terms_in p)) → bound x * bound h + weighted_sum (scale vars) (free_of v f) ≤ weighted_sum (scale vars) f
-product_small vars v f p x h e i l d k =
-    let m = product_bound (scale vars) v f p (bound h) d k.small in
-    let s : bound x ≡ scale vars v = rw i (sym (scale_is vars v l)) in
-    rw s m
+-- the magnitude of v times a tree of the divided terms
+pub product_small : (vars : List VarInfo) (v : ℕ) (f : List Term) (p : List Work) (x h : Typed) (e : Tree) → x ≡ input_of vars v → terms_in p ≡ divided v f → Has vars h e (weighted_sum (scale vars) (terms_in p)) → magnitude (pair x) * magnitude (pair h) + weighted_sum (scale vars) (free_of v f) ≤ weighted_sum (scale vars) f
+product_small vars v f p x h e i d k =
+    let m = product_bound (scale vars) v f p (magnitude (pair h)) d k.small in
+    let s : magnitude (pair x) ≤ scale vars v = rw i (range_scale vars v) in
+    let l = mul-le-mul_left (magnitude (pair h)) s in
+    omega (arith, m, l)
 
--- the product and the sum that a step makes fit 128 bits
-pub product_fits : (vars : List VarInfo) (v : ℕ) (f : List Term) (p : List Work) (x h : Typed) (e : Tree) → x ≡ input_of vars v → v < length vars → terms_in p ≡ divided v f → Has vars h e (weighted_sum (scale vars) (terms_in p)) → weighted_sum (scale vars) f ≤ most → bound x * bound h ≤ most
-product_fits vars v f p x h e i l d k o = let m = product_small vars v f p x h e i l d k in omega (arith, m, o)
+-- the product that a step makes is within 2^127 - 1
+pub product_fits : (vars : List VarInfo) (v : ℕ) (f : List Term) (p : List Work) (x h : Typed) (e : Tree) → x ≡ input_of vars v → terms_in p ≡ divided v f → Has vars h e (weighted_sum (scale vars) (terms_in p)) → weighted_sum (scale vars) f ≤ most → magnitude (product (pair x) (pair h)) ≤ most
+product_fits vars v f p x h e i d k o =
+    let m = product_small vars v f p x h e i d k in
+    let q = product_magnitude (pair x) (pair h) in
+    omega (arith, m, o, q)
 
--- and the sum
-pub sum_fits_most : (vars : List VarInfo) (v : ℕ) (f : List Term) (p q : List Work) (x h s i : Typed) (e g : Tree) → x ≡ input_of vars v → v < length vars → sizes vars v ≤ most → terms_in p ≡ divided v f → terms_in q ≡ free_of v f → Has vars h e (weighted_sum (scale vars) (terms_in p)) → s ≡ product_of x h → Has vars i g (weighted_sum (scale vars) (terms_in q)) → weighted_sum (scale vars) f ≤ most → bound s + bound i ≤ most
-sum_fits_most vars v f p q x h s i e g y l u d r k z j o =
-    let m = product_small vars v f p x h e y l d k in
+-- the parts of the sum are within the weight of the terms
+parts_small : (vars : List VarInfo) (v : ℕ) (f : List Term) (p q : List Work) (x h s i : Typed) (e g : Tree) → x ≡ input_of vars v → terms_in p ≡ divided v f → terms_in q ≡ free_of v f → Has vars h e (weighted_sum (scale vars) (terms_in p)) → s ≡ product_of x h → Has vars i g (weighted_sum (scale vars) (terms_in q)) → magnitude (pair s) + magnitude (pair i) ≤ weighted_sum (scale vars) f
+parts_small vars v f p q x h s i e g y d r k z j =
+    let m = product_small vars v f p x h e y d k in
     let w : weighted_sum (scale vars) (terms_in q) ≡ weighted_sum (scale vars) (free_of v f) = ap (weighted_sum (scale vars)) r in
-    let n = product_has vars v x h e (weighted_sum (scale vars) (terms_in p)) y l u (omega (arith, m, o)) k in
-    let b : bound s ≤ bound x * bound h = rw z n.small in
+    let n = product_has vars v x h e (weighted_sum (scale vars) (terms_in p)) y k in
+    let b : magnitude (pair s) ≤ magnitude (pair x) * magnitude (pair h) = rw z n.small in
     let c = j.small in
-    omega (arith, m, w, b, c, o)
+    omega (arith, m, w, b, c)
+
+-- so the sum is within 2^127 - 1
+pub sum_fits_most : (vars : List VarInfo) (v : ℕ) (f : List Term) (p q : List Work) (x h s i : Typed) (e g : Tree) → x ≡ input_of vars v → terms_in p ≡ divided v f → terms_in q ≡ free_of v f → Has vars h e (weighted_sum (scale vars) (terms_in p)) → s ≡ product_of x h → Has vars i g (weighted_sum (scale vars) (terms_in q)) → weighted_sum (scale vars) f ≤ most → magnitude (sum (pair s) (pair i)) ≤ most
+sum_fits_most vars v f p q x h s i e g y d r k z j o =
+    let m = parts_small vars v f p q x h s i e g y d r k z j in
+    let n = sum_magnitude (pair s) (pair i) in
+    omega (arith, m, n, o)
 
 -- with the product
-pub ends_product : (vars : List VarInfo) (inner : List Term → Tree) (v b : ℕ) (f : List Term) (p q : List Work) (x h t : Typed) → (p ≡ [] → ⊥) → q ≡ [] → terms_in p ≡ divided v f → terms_in q ≡ free_of v f → x ≡ input_of vars v → v < length vars → sizes vars v ≤ most → weighted_sum (scale vars) f ≤ most
+pub ends_product : (vars : List VarInfo) (inner : List Term → Tree) (v b : ℕ) (f : List Term) (p q : List Work) (x h t : Typed) → (p ≡ [] → ⊥) → q ≡ [] → terms_in p ≡ divided v f → terms_in q ≡ free_of v f → x ≡ input_of vars v
     → Has vars h (horner inner v b (terms_in p)) (weighted_sum (scale vars) (terms_in p)) → t ≡ product_of x h → Has vars t (step inner v b f) (weighted_sum (scale vars) f)
-ends_product vars inner v b f p q x h t y z e g i l k o a j =
-    let m = product_small vars v f p x h _ i l e a in
-    let n : Has vars t (scaled v (horner inner v b (terms_in p))) (bound x * bound h) = rw j (product_has vars v x h _ _ i l k (omega (arith, m, o)) a) in
+ends_product vars inner v b f p q x h t y z e g i a j =
+    let m = product_small vars v f p x h _ i e a in
+    let n : Has vars t (scaled v (horner inner v b (terms_in p))) (magnitude (pair x) * magnitude (pair h)) = rw j (product_has vars v x h _ _ i a) in
     has_as vars t _ _ _ _ (ap (λ u. scaled v (horner inner v b u)) e ∙ joined_product v (divided v f) (free_of v f) (horner inner v b (divided v f)) (inner (free_of v f)) (λ r. not_empty p y (e ∙ r)) (sym g ∙ nothing_in q z)) (omega (arith, m)) n
 
 -- with the sum
-pub ends_sum : (vars : List VarInfo) (inner : List Term → Tree) (v b : ℕ) (f : List Term) (p q : List Work) (x h i s t : Typed) → (p ≡ [] → ⊥) → (q ≡ [] → ⊥) → terms_in p ≡ divided v f → terms_in q ≡ free_of v f → x ≡ input_of vars v → v < length vars → sizes vars v ≤ most → weighted_sum (scale vars) f ≤ most
+pub ends_sum : (vars : List VarInfo) (inner : List Term → Tree) (v b : ℕ) (f : List Term) (p q : List Work) (x h i s t : Typed) → (p ≡ [] → ⊥) → (q ≡ [] → ⊥) → terms_in p ≡ divided v f → terms_in q ≡ free_of v f → x ≡ input_of vars v
     → Has vars h (horner inner v b (terms_in p)) (weighted_sum (scale vars) (terms_in p)) → s ≡ product_of x h → Has vars i (inner (terms_in q)) (weighted_sum (scale vars) (terms_in q)) → t ≡ plus_of s i → Has vars t (step inner v b f) (weighted_sum (scale vars) f)
-ends_sum vars inner v b f p q x h i s t y z e g u l k o a j c r =
-    let m = product_small vars v f p x h _ u l e a in
-    let n : Has vars s (scaled v (horner inner v b (terms_in p))) (bound x * bound h) = rw j (product_has vars v x h _ _ u l k (omega (arith, m, o)) a) in
-    let w : weighted_sum (scale vars) (terms_in q) ≡ weighted_sum (scale vars) (free_of v f) = ap (weighted_sum (scale vars)) g in
-    let bs : bound s ≤ bound x * bound h = n.small in
-    let bi : bound i ≤ weighted_sum (scale vars) (terms_in q) = c.small in
-    let d = plus_has vars s i t _ _ _ _ r (omega (arith, m, o, bs, bi, w)) n c in
-    has_as vars t _ _ _ _ (both (ap (horner inner v b) e) (ap inner g) ∙ joined_sum v (divided v f) (free_of v f) (horner inner v b (divided v f)) (inner (free_of v f)) (λ a. not_empty p y (e ∙ a)) (λ a. not_empty q z (g ∙ a))) (omega (arith, m, bs, bi, w)) d
+ends_sum vars inner v b f p q x h i s t y z e g u a j c r =
+    let m = parts_small vars v f p q x h s i _ _ u e g a j c in
+    let n : Has vars s (scaled v (horner inner v b (terms_in p))) (magnitude (pair x) * magnitude (pair h)) = rw j (product_has vars v x h _ _ u a) in
+    let d : Has vars t (Add (scaled v (horner inner v b (terms_in p))) (inner (terms_in q))) (magnitude (pair s) + magnitude (pair i)) = rw r (plus_has vars s i _ _ _ _ n c) in
+    has_as vars t _ _ _ _ (both (ap (horner inner v b) e) (ap inner g) ∙ joined_sum v (divided v f) (free_of v f) (horner inner v b (divided v f)) (inner (free_of v f)) (λ a. not_empty p y (e ∙ a)) (λ a. not_empty q z (g ∙ a))) m d
   where
     both : {a c d g : Tree} → a ≡ c → d ≡ g → Add (scaled v a) d ≡ Add (scaled v c) g
     both p q = rw (p, q) refl
@@ -236,13 +250,20 @@ few_weight w o (t ∷ f) =
     let m : unsigned_abs t.factor * 1 ≤ unsigned_abs t.factor * monomial_weight w t.exponents = mul-le-mul_left (unsigned_abs t.factor) (at_least w o t.exponents) in
     omega (arith, ih, m)
 
+-- so the sum of the factors is within 2^127 - 1
+pub total_fits : (vars : List VarInfo) (f : List Term) (c : ℤ) → c ≡ total f → weighted_sum (scale vars) f ≤ most → unsigned_abs c ≤ most
+total_fits vars f c g o =
+    let s = sum_weight (scale vars) (scale_some vars) f in
+    let k : unsigned_abs c ≡ unsigned_abs (total f) = ap unsigned_abs g in
+    omega (arith, s, k, o)
+
 -- where no variable is left the tree is a number
-pub constant_has : (vars : List VarInfo) (d n v : ℕ) (f : List Term) (t : Typed) (c : ℤ) → n ≡ v → c ≡ total f → weighted_sum (scale vars) f ≤ most → t ≡ TNum c (unsigned_abs c) (least (unsigned_abs c)) → Has vars t (nested d (n - v) v f) (weighted_sum (scale vars) f)
-constant_has vars d n v f t c e g o h =
+pub constant_has : (vars : List VarInfo) (d n v : ℕ) (f : List Term) (t : Typed) (c : ℤ) → n ≡ v → c ≡ total f → t ≡ TNum c (point c) (least (magnitude (point c))) → Has vars t (nested d (n - v) v f) (weighted_sum (scale vars) f)
+constant_has vars d n v f t c e g h =
     let z : n - v ≡ 0 = omega arith in
     let s = sum_weight (scale vars) (scale_some vars) f in
     let k : unsigned_abs c ≡ unsigned_abs (total f) = ap unsigned_abs g in
-    rw z (has_as vars t (Num c) (Num (total f)) (unsigned_abs c) (weighted_sum (scale vars) f) (ap Num g) (omega (arith, s, k)) (number_has vars c t h (omega (arith, s, k, o))))
+    rw z (has_as vars t (Num c) (Num (total f)) (unsigned_abs c) (weighted_sum (scale vars) f) (ap Num g) (omega (arith, s, k)) (number_has vars c t h))
 
 -- ---- the sum of the factors, one by one
 first : (x : Work) (ws : List Work) (n : ℕ) → n ≡ suc zero → total (terms_in (take n (x ∷ ws))) ≡ pos 0 +ℤ x.factor

@@ -1,5 +1,5 @@
 -- From a polynomial to its nested tree.
-use Rattle.std.proofs.Common.{◌≡◌, ℕ, ◌+◌, ◌-◌, ◌*◌, ◌≤◌, ◌<◌, max, All, List, [], ◌∷◌, length, refl, zero, suc, ap, arith, ◌∙◌, sym}
+use Rattle.std.proofs.Common.{◌≡◌, ℕ, ◌+◌, ◌-◌, ◌*◌, ◌≤◌, ◌<◌, max, All, List, [], ◌∷◌, length, refl, zero, suc, ap, arith, ◌∙◌, sym, subst}
 use Rattle.std.proofs.lemmas.List.{length-map}
 use Rattle.std.proofs.lemmas.List.Elements.{All-head, All-tail}
 use Rattle.ln_algebra.specs.Coefficient.{normal_coefficient}
@@ -9,14 +9,17 @@ use Rattle.ln_algebra.specs.Vector.{degree}
 use Rattle.ln_algebra.specs.Weights.{monomial_weight, weighted_sum}
 use Rattle.ln_algebra.proofs.Normal.{normal_is}
 use Rattle.ln_tree.specs.declared.shape.VarInfo.{VarInfo}
+use Rattle.ln_interval.specs.Range.{IsOrdered}
 use Rattle.ln_tree.specs.Exps.{Pairs, exponent, exponents_from, vector}
 use Rattle.ln_bound.specs.Light.{most}
 use Rattle.ln_bound.specs.Sound.{Sound}
+use Rattle.ln_bound.specs.Exact.{AreWithinPairs}
+use Rattle.ln_bound.specs.Ranges.{ranges}
 use Rattle.ln_bound.specs.Typed.{Typed, cost, need, polynomial, untyped}
 use Rattle.ln_bound.specs.Value.{sizes}
-use Rattle.ln_poly.specs.Sparse.{Sparse, coefficient_at, term_of, terms_of}
+use Rattle.ln_poly.specs.Sparse.{IsFactor, IsPoly, Sparse, coefficient_at, term_of, terms_of}
 use Rattle.ln_poly.proofs.Products.{over-terms}
-use Rattle.ln_nest.specs.Lean.{AreLean, AreUnder, largest}
+use Rattle.ln_nest.specs.Lean.{AreLean, AreUnder, HasNoZero, largest}
 use Rattle.ln_nest.specs.Nested.{exponent_of, divided, free_of, joined, horner, nested}
 use Rattle.ln_nest.specs.declared.work.Work.{Work}
 use Rattle.ln_nest.specs.View.{Has, scale, terms_in}
@@ -25,6 +28,7 @@ use Rattle.ln_nest.proofs.Scaled.{closed_scaled}
 use Rattle.ln_nest.proofs.Same.{nested_is}
 use Rattle.ln_nest.proofs.Costs.{AllDegrees, allowance, cost_of, cost_same, need_of, need_same, nested_cheap, nested_need}
 use Rattle.ln_nest.proofs.Leans.{nested_inputs, nested_slim}
+use Rattle.ln_nest.proofs.Nests.{nested_sound}
 use Rattle.ln_nest.proofs.Steps.{has_as, scale_is}
 
 -- ---- the terms of a polynomial
@@ -116,13 +120,22 @@ whole_same d n f t a e m h =
     ∙ nested_is n d (n - 0) 0 (omega arith) g fit m h
     ∙ sym (coefficient-is n f m)
 
--- it is sound
-pub whole_sound : (vars : List VarInfo) (f : Sparse) (t : Typed) (b : ℕ) → length vars ≤ 168 → All (λ u. degree (vector (length vars) u.0) ≤ 126) f → Has vars t (tree_of 126 (length vars) f) b → Sound vars [] t
-whole_sound vars f t b l a h =
+-- its terms have no factor 0
+terms_some : (n : ℕ) (f : Sparse) → All (λ t. IsFactor t.1) f → HasNoZero (terms_of n f)
+terms_some n [] a = tt
+terms_some n (t ∷ f) a = ((All-head (λ u. IsFactor u.1) t f a).0, terms_some n f (All-tail (λ u. IsFactor u.1) t f a))
+
+-- it is sound, and its ranges are within the weight of the polynomial
+pub whole_sound : (vars : List VarInfo) (f : Sparse) (t : Typed) (b : ℕ) → length vars ≤ 168 → ((v : ℕ) → IsOrdered (ranges vars v)) → IsPoly f → All (λ u. degree (vector (length vars) u.0) ≤ 126) f → weighted_sum (sizes vars) (terms_of (length vars) f) ≤ most → Has vars t (tree_of 126 (length vars) f) b → Sound vars [] t × AreWithinPairs (weighted_sum (sizes vars) (terms_of (length vars) f)) t
+whole_sound vars f t b l r p a o h =
     let n = length vars in
     let k : need_of (tree_of 126 n f) ≤ 126 + ((n - 0) + 1) = nested_need 126 (n - 0) 0 126 (terms_of n f) (terms_degrees n 126 f a) in
     let e : need t ≡ need_of (tree_of 126 n f) = need_same t ∙ ap need_of h.same in
-    record { nodes = h.sound; deep = omega (arith, l, k, e) }
+    let z : n - 0 ≡ n = omega arith in
+    let u : untyped t ≡ nested 126 n 0 (terms_of n f) = h.same ∙ ap (λ m. nested 126 m 0 (terms_of n f)) z in
+    let s = scaled_sum vars f in
+    let x = nested_sound vars 126 (terms_of n f) t r (terms_some n f p.factors) (omega (arith, s, o)) u h.exact (omega (arith, l, k, e)) in
+    (x.0, subst (λ m. AreWithinPairs m t) s x.1)
 
 -- it is lean
 pub whole_lean : (d n : ℕ) (f : Sparse) (t : Typed) → untyped t ≡ tree_of d n f → AreLean n (max 1 (length f)) (largest f) (untyped t)

@@ -1,5 +1,4 @@
 pub mod Nested
 pub mod View
 pub mod Lean
-pub mod RangedNested
-pub mod RangedHas
+pub mod Reach

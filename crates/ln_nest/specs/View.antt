@@ -1,15 +1,15 @@
 -- The working terms of the code, seen as terms, and what is kept on the way.
-use Rattle.std.specs.Prelude.{◌≡◌, ℕ, ◌+◌, ◌*◌, ◌≤◌, max, pos, negsuc, List, [], ◌∷◌, unsigned_abs, map, if◌then◌else◌}
+use Rattle.std.specs.Prelude.{◌≡◌, ℕ, ◌+◌, ◌≤◌, max, pos, negsuc, List, [], ◌∷◌, unsigned_abs, map, if◌then◌else◌}
 use Rattle.ln_algebra.specs.Terms.{Term}
 use Rattle.ln_algebra.specs.Tree.{Tree}
+use Rattle.ln_interval.specs.Range.{magnitude, opposite, product, sum}
 use Rattle.ln_tree.specs.declared.shape.VarInfo.{VarInfo}
 use Rattle.ln_bound.specs.Exact.{IsExact}
-use Rattle.ln_bound.specs.Sound.{SoundNodes}
-use Rattle.ln_bound.specs.Typed.{Typed, TNeg, TTwo, bound, untyped, width}
-use Rattle.ln_bound.specs.declared.fitted.Two.TheVariants.{Plus, Times}
-use Rattle.ln_bound.specs.Widths.{least, wider}
-use Rattle.ln_nest.specs.Nested.{is_number}
+use Rattle.ln_bound.specs.Typed.{Typed, TNeg, TTwo, pair, untyped, width}
 use Rattle.ln_bound.specs.Value.{sizes}
+use Rattle.ln_bound.specs.Widths.{least, wider}
+use Rattle.ln_bound.specs.declared.fitted.Two.TheVariants.{Plus, Times}
+use Rattle.ln_nest.specs.Nested.{is_number}
 use Rattle.ln_nest.specs.declared.work.Work.{Work}
 
 abbrev pub term_in : Work → Term
@@ -27,23 +27,22 @@ abbrev pub abs_total : List Term → ℕ
 abs_total [] = 0
 abs_total (t ∷ f) = unsigned_abs t.factor + abs_total f
 
--- the opposite of a tree, and the product and the sum of two, with their bounds and widths
+-- the opposite of a tree, and the product and the sum of two, with their ranges and widths
 abbrev pub opposite_of : Typed → Typed
-opposite_of x = TNeg x (bound x) (wider (width x) (least (bound x)))
+opposite_of x = TNeg x (opposite (pair x)) (wider (width x) (least (magnitude (opposite (pair x)))))
 
 abbrev pub times_of : Typed → Typed → Typed
-times_of x y = TTwo Times x y (bound x * bound y) (wider (wider (width x) (width y)) (least (bound x * bound y)))
+times_of x y = TTwo Times x y (product (pair x) (pair y)) (wider (wider (width x) (width y)) (least (magnitude (product (pair x) (pair y)))))
 
 abbrev pub plus_of : Typed → Typed → Typed
-plus_of x y = TTwo Plus x y (bound x + bound y) (wider (wider (width x) (width y)) (least (bound x + bound y)))
+plus_of x y = TTwo Plus x y (sum (pair x) (pair y)) (wider (wider (width x) (width y)) (least (magnitude (sum (pair x) (pair y)))))
 
 -- x times y: where y is 1 or -1 it is x or its opposite
 abbrev pub product_of : Typed → Typed → Typed
 product_of x y = if is_number (pos 1) (untyped y) then x else (if is_number (negsuc 0) (untyped y) then opposite_of x else times_of x y)
 
--- the typed tree is this tree, sound and with exact bounds, and its bound is at most b
+-- the typed tree is this tree, with exact ranges, and its own range is within -b .. b
 pub record Has (vars : List VarInfo) (t : Typed) (e : Tree) (b : ℕ) : Type 0 where
   pub same : untyped t ≡ e
   pub exact : IsExact vars [] t
-  pub sound : SoundNodes vars [] t
-  pub small : bound t ≤ b
+  pub small : magnitude (pair t) ≤ b

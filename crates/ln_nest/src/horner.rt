@@ -1,15 +1,16 @@
-// The nested form of a polynomial: with the terms that have variable v divided by it, it is v times these, and the others.
+//! The nested form of a polynomial: with the terms that have variable v divided by it, it is v times these, and the others.
 ghost use Rattle.std.specs.Prelude.{◌≡◌, ℕ, List, ◌+◌, ◌-◌, ◌*◌, ◌<◌, ◌≤◌, max, [], All, IfOk, length};
-ghost use Rattle.ln_algebra.specs.Tree.{Mul, Input, Num};
 ghost use Rattle.ln_algebra.specs.Vector.{degree};
 ghost use Rattle.ln_algebra.specs.Weights.{weighted_sum};
+ghost use Rattle.ln_interval.specs.Range.{IsOrdered, magnitude, product};
 ghost use Rattle.ln_tree.specs.Exps.{vector};
-ghost use Rattle.ln_bound.specs.Exact.{IsExact};
 ghost use Rattle.ln_bound.specs.Light.{most};
+ghost use Rattle.ln_bound.specs.Exact.{AreWithinPairs, IsExact};
 ghost use Rattle.ln_bound.specs.Sound.{Sound};
-ghost use Rattle.ln_bound.specs.Typed.{bound, cost, polynomial, untyped};
-ghost use Rattle.ln_bound.specs.Value.{sizes};
+ghost use Rattle.ln_bound.specs.Typed.{cost, pair, polynomial, untyped};
 ghost use Rattle.ln_bound.specs.View.{typed};
+ghost use Rattle.ln_bound.specs.Ranges.{ranges};
+ghost use Rattle.ln_bound.specs.Value.{sizes};
 ghost use Rattle.ln_poly.specs.Sparse.{AreBelow, coefficient_at, terms_of};
 ghost use Rattle.ln_nest.specs.Lean.{AreLean, largest};
 ghost use Rattle.ln_nest.specs.Nested.{horner, is_number, nested};
@@ -35,7 +36,7 @@ fn is_number(t: &Fitted, z: i128) -> bool
 
 // The product of a variable and a tree: where that is 1 or -1, the variable or its opposite.
 fn times(alloc: Global, x: Fitted, y: Fitted) -> Result<Fitted, NoMemory>
-    requires { bound (typed x) * bound (typed y) ≤ most }
+    requires { magnitude (product (pair (typed x)) (pair (typed y))) ≤ most }
     ensures { IfOk result (λ t. typed t ≡ product_of (typed x) (typed y)) }
 {
     if is_number(&y, 1) {
@@ -60,6 +61,7 @@ fn nest_from(
 ) -> Result<Fitted, NoMemory>
     requires variable { v ≤ length vars.now }
     requires few { length vars.now ≤ 168 }
+    requires ordered { (k : ℕ) → IsOrdered (ranges vars.now k) }
     requires weight { weighted_sum (scale vars.now) (terms_in terms.items) ≤ most }
     ensures { IfOk result (λ t. Has vars.now (typed t) (nested d (length vars.now - v) v (terms_in terms.items)) (weighted_sum (scale vars.now) (terms_in terms.items))) }
 {
@@ -82,6 +84,7 @@ fn by_powers(
 ) -> Result<Fitted, NoMemory>
     requires variable { v < length vars.now }
     requires few { length vars.now ≤ 168 }
+    requires ordered { (k : ℕ) → IsOrdered (ranges vars.now k) }
     requires weight { weighted_sum (scale vars.now) (terms_in terms.items) ≤ most }
     ensures { IfOk result (λ t. Has vars.now (typed t) (horner (nested d (length vars.now - (v + 1)) (v + 1)) v b (terms_in terms.items)) (weighted_sum (scale vars.now) (terms_in terms.items))) }
 {
@@ -105,11 +108,11 @@ fn by_powers(
 }
 
 /// A tree with the polynomial f, whose terms have a degree of at most 126, in nested form: by powers of the first variable,
-/// each factor of them by powers of the next. Each bound is exactly its operation over the operands' bounds, of a variable
-/// the largest absolute value of its range, and at least 1; each width is the least that fits it and is no narrower than an
-/// operand. The root's bound is at most the sum of f's absolute factors, each times its monomial at these values, which has
-/// to be at most `2^127 - 1`. No node has more terms than f, or than one where f has none, or a larger exponent of a
-/// variable. There are at most 1,024 operations for each term of f, and one where f has none.
+/// each factor of them by powers of the next. Each range is exactly its operation over the operands' ranges, of a variable
+/// the declared one; each width is the least that fits it and is no narrower than an operand. Each range is within `-W .. W`,
+/// W being the sum of f's absolute factors, each times its monomial at the largest absolute values of the variables, and at
+/// least 1 of each; W has to be at most `2^127 - 1`. No node has more terms than f, or than one where f has none, or a larger
+/// exponent of a variable. There are at most 1,024 operations for each term of f, and one where f has none.
 pub fn nest(alloc: Global, f: &Poly, s: &Shape) -> Result<Fitted, NoMemory>
     requires below { AreBelow (length s.now.vars) f.now }
     requires degrees { All (λ t. degree (vector (length s.now.vars) t.0) ≤ 126) f.now }
@@ -117,7 +120,7 @@ pub fn nest(alloc: Global, f: &Poly, s: &Shape) -> Result<Fitted, NoMemory>
     ensures same { IfOk result (λ t. (m : List ℕ) → length m ≡ length s.now.vars → polynomial [] (typed t) m ≡ coefficient_at (length s.now.vars) f.now m) }
     ensures sound { IfOk result (λ t. Sound s.now.vars [] (typed t)) }
     ensures exact { IfOk result (λ t. IsExact s.now.vars [] (typed t)) }
-    ensures within { IfOk result (λ t. bound (typed t) ≤ weighted_sum (sizes s.now.vars) (terms_of (length s.now.vars) f.now)) }
+    ensures within { IfOk result (λ t. AreWithinPairs (weighted_sum (sizes s.now.vars) (terms_of (length s.now.vars) f.now)) (typed t)) }
     ensures lean { IfOk result (λ t. AreLean (length s.now.vars) (max 1 (length f.now)) (largest f.now) (untyped (typed t))) }
     ensures cheap { IfOk result (λ t. cost (typed t) ≤ max 1 (1024 * length f.now)) }
 {

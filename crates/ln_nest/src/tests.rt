@@ -1,4 +1,4 @@
-// Worked values.
+//! Worked values.
 ghost use Rattle.std.specs.Prelude.{◌≡◌, [], ◌∷◌, pos, neg_ℤ, Some, IfOk};
 
 use crate::nest;
@@ -46,7 +46,8 @@ fn doubled(alloc: Global) -> Result<Fitted, NoMemory> {
 #[test]
 fn twice_a_number_is_a_product_within_20(rt: HostRuntime) -> Result<(), Fail> {
     let t = doubled(rt.alloc())?;
-    assert!(rt; t.bound == 20);
+    assert!(rt; t.pair.low == -20);
+    assert!(rt; t.pair.high == 20);
     assert!(rt; t.width == Width::W64);
     assert!(rt; matches!(t.op, FitOp::Mul(_, _)));
     Ok(())

@@ -1,4 +1,4 @@
-// Terms with an exponent for each variable, divided by one variable after the other.
+//! Terms with an exponent for each variable, divided by one variable after the other.
 ghost use Rattle.std.specs.Prelude.{◌≡◌, ◌≤◌, true, IfOk};
 ghost use Rattle.ln_bound.specs.Light.{most};
 ghost use Rattle.ln_tree.specs.Exps.{IsRising, exponent, vector};

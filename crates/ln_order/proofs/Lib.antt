@@ -4,7 +4,6 @@ pub mod OrderExists
 pub mod OrderLemmas
 pub mod OrderUnique
 pub mod OrdersLemmas
-pub mod PairsLemmas
 pub mod PrefixLemmas
 pub mod RankLemmas
 pub mod RankingLemmas

@@ -16,7 +16,7 @@ use Rattle.ln_tree.specs.Exps.{Pairs, exponent, vector}
 use Rattle.ln_tree.specs.Variables.{is_laid_out, same_site}
 use Rattle.ln_order.specs.Order.{ArePlaces}
 use Rattle.ln_order.specs.Sites.{along, place_in, ranking_of, site_of, sites_of, vars_of}
-use Rattle.ln_order.proofs.PairsLemmas.{vector-get}
+use Rattle.ln_tree.proofs.Powers.{vector-get}
 use Rattle.ln_order.proofs.SitesLemmas.{each-there, kept, same_site-is, same_site-refl}
 
 -- ---- members

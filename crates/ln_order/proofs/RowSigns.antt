@@ -5,14 +5,12 @@ use Rattle.std.proofs.lemmas.Bool.{cases_order}
 use Rattle.std.proofs.lemmas.Int.{ints}
 use Rattle.ln_algebra.proofs.Admissible.{both-admissible}
 use Rattle.ln_algebra.proofs.Unique.{first-unique-in, sign-unique-in}
-use Rattle.ln_algebra.specs.Earlier.{Earlier, IndicesDiffer, IsOver, IsSortedIn, Sites}
+use Rattle.ln_algebra.specs.Earlier.{Earlier, IsOver, IsSortedIn, Sites}
 use Rattle.ln_algebra.specs.Orders.{Before, ByDegree, BySmallest, Rank}
 use Rattle.ln_algebra.specs.Stage.{IsStageIn, IsStageListIn}
 use Rattle.ln_algebra.specs.Tree.{Tree}
-use Rattle.ln_tree.specs.declared.shape.Shape.{Shape}
-use Rattle.ln_tree.specs.Row.{InRange, Row, values}
+use Rattle.ln_tree.specs.Row.{values}
 use Rattle.ln_order.specs.Order.{index_at}
-use Rattle.ln_order.specs.Orders.{IsOrderOf}
 use Rattle.ln_order.specs.Rows.{OrdersDiffer, RowFirstIsUnique, RowSignIsUnique, RowsDiffer, StagesAreThoseOfRows}
 use Rattle.ln_order.specs.Sites.{row_sites, site_of, sites_of}
 use Rattle.ln_order.proofs.RowsLemmas.{orders-rows}

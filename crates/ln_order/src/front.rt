@@ -1,4 +1,4 @@
-// Prefixes of orders.
+//! Prefixes of orders.
 ghost use Rattle.std.specs.Prelude.{◌≤◌};
 
 /// The first places of an order of at most five sites.

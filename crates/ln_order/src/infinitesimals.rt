@@ -1,4 +1,4 @@
-// The order of exponents, and the variables of sites by rising infinitesimal.
+//! The order of exponents, and the variables of sites by rising infinitesimal.
 ghost use Rattle.std.specs.Ordering.{nat_cmp};
 ghost use Rattle.std.specs.Prelude.{neg_ℤ, pos, Some, ◌≡◌, ◌↔◌, ◌<◌, ◌≤◌, ◌+◌, ◌++◌, length, IsTrue, IfOk, OnOk};
 ghost use Rattle.ln_algebra.specs.Earlier.{Earlier};
@@ -12,23 +12,9 @@ use crate::front::Front;
 use crate::order::Order;
 use ln_base::{NoMemory, Seq};
 use ln_tree::layout::same_site;
-use ln_tree::{Exps, Shape, VarInfo};
+use ln_tree::{Exps, Shape, VarInfo, exponent_of};
 use std::alloc::Global;
 use std::cmp::Ordering;
-
-/// The exponent of variable v, 0 where no pair has it.
-pub fn exponent_of(pairs: &[(u8, u8)], v: u8) -> u8
-    requires { IsRising pairs.now }
-    ensures value { result ≡ exponent v pairs.now }
-    ensures small { result < 128 }
-{
-    'pairs: for p in pairs {
-        if p.0 == v {
-            return p.1;
-        }
-    }
-    0
-}
 
 // The order of the exponents of one variable.
 fn at_var(a: &[(u8, u8)], b: &[(u8, u8)], v: u8) -> Ordering

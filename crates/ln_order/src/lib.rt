@@ -16,9 +16,7 @@ pub mod rows;
 
 pub use equal::{Equal, first_equal};
 pub use front::Front;
-pub use infinitesimals::{
-    earlier, exponent_of, front_ranking, orders_are_those_of_rows, ranking, vars_of_site,
-};
+pub use infinitesimals::{earlier, front_ranking, orders_are_those_of_rows, ranking, vars_of_site};
 pub use order::Order;
 pub use orders::{all_orders, orders_are_all};
 pub use prefix::{

@@ -1,6 +1,6 @@
-// All orders of so many sites.
+//! All orders of so many sites.
 ghost use Rattle.std.specs.Prelude.{◌≡◌, ◌<◌, ◌≤◌, ◌+◌, Some, IfOk, length, map, slice_get, All};
-ghost use Rattle.ln_order.specs.Orders.{OrdersAreAll, behind, firsts, number_from, orders_of, past, smaller_behind};
+ghost use Rattle.ln_order.specs.Orders.{OrdersAreAll, behind, firsts, orders_of, past, smaller_behind};
 ghost use Rattle.ln_order.specs.Places.{order_places};
 
 use crate::order::Order;

@@ -1,9 +1,9 @@
-// All prefixes of orders of so many sites, and their numbers.
+//! All prefixes of orders of so many sites, and their numbers.
 ghost use Rattle.std.specs.Prelude.{◌≡◌, ◌<◌, ◌≤◌, ◌∷◌, [], All, IfOk, Some, length, map, slice_get, take};
 ghost use Rattle.ln_order.specs.Fronts.{front_places};
 ghost use Rattle.ln_order.specs.Orders.{behind, firsts};
 ghost use Rattle.ln_order.specs.Places.{order_places};
-ghost use Rattle.ln_order.specs.Prefixes.{FrontsArePrefixes, FrontsFollow, PrefixesAreAll, number_of_front, prefixes_of, tree_size};
+ghost use Rattle.ln_order.specs.Prefixes.{FrontsArePrefixes, FrontsFollow, PrefixesAreAll, prefixes_of, tree_size};
 
 use crate::front::Front;
 use crate::order::Order;

@@ -1,4 +1,4 @@
-// Laws of rows: their order, their stages and their sign.
+//! Laws of rows: their order, their stages and their sign.
 ghost use Rattle.ln_order.specs.Rows.{OrderExists, OrderIsUnique, OrdersDiffer, RowFirstIsUnique, RowSignIsUnique, RowsDiffer, StagesAreThoseOfRows};
 
 /// Indices that differ have exactly one order.

@@ -20,7 +20,7 @@ use Rattle.ln_poly.specs.Times.{power_at}
 use Rattle.ln_poly.specs.Sparse.{AreBelow, AreRising, Sparse, coefficient_at, part_at, size_of, terms_of}
 use Rattle.ln_poly.specs.Derivative.{IsDerivedPut, IsDeriving, IsLowered, derivative}
 use Rattle.ln_poly.proofs.Coefficients.{coefficient_at-nil, coefficient_at-push, size-nil, size-push}
-use Rattle.ln_poly.proofs.Lowering.{power-apart, power-here}
+use Rattle.ln_tree.proofs.Powers.{power-apart, power-here}
 use Rattle.ln_poly.proofs.Merging.{above-none, none-above}
 use Rattle.ln_poly.proofs.Products.{length-vector, sum_over-more}
 use Rattle.ln_poly.proofs.Weighing.{pow-some, size-some, weight-pairs, weight-some}

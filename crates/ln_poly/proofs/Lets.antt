@@ -10,8 +10,7 @@ use Rattle.ln_algebra.proofs.Weights.{weighted-normal}
 use Rattle.ln_algebra.specs.Tree.{Add, Input, Mul, Name, Neg, Num, Pow, Sub, Tree, inlined, inlined_after}
 use Rattle.ln_algebra.specs.Vector.{total_degree}
 use Rattle.ln_algebra.specs.Weights.{monomial_weight, weighted_sum}
-use Rattle.ln_bound.specs.Light.{most, weighed_pred}
-use Rattle.ln_bound.specs.Light.{AreLight as HaveWeights}
+use Rattle.ln_bound.specs.Light.{most, weighed_pred, AreLight as HaveWeights}
 use Rattle.ln_bound.proofs.KeptLaws.{parts_of}
 use Rattle.ln_algebra.specs.Sizes.{two}
 use Rattle.ln_bound.specs.Value.{weights}

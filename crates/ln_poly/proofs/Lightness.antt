@@ -5,8 +5,7 @@ use Rattle.std.proofs.lemmas.Bool.{and_parts}
 use Rattle.std.proofs.lemmas.List.{map-append}
 use Rattle.ln_algebra.specs.Tree.{Add, Input, InputsBelow, Mul, Name, Neg, Num, Pow, Sub, Tree, inlined, inlined_after}
 use Rattle.ln_algebra.specs.Weights.{weight}
-use Rattle.ln_bound.specs.Light.{most, weight_of, weighed, weighed_lets, weighed_pred, let_weights}
-use Rattle.ln_bound.specs.Light.{AreLight as HaveWeights}
+use Rattle.ln_bound.specs.Light.{most, weight_of, weighed, weighed_lets, weighed_pred, let_weights, AreLight as HaveWeights}
 use Rattle.ln_bound.specs.Value.{weight_over, weights}
 use Rattle.ln_bound.proofs.Fitting.{light_parts}
 use Rattle.ln_bound.proofs.WidthLaws.{lt_test}

@@ -1,56 +1,19 @@
 -- The exponent of one variable, lowered.
-use Rattle.std.proofs.Common.{◌≡◌, ℕ, ◌+◌, ◌-◌, ◌<◌, ◌≤◌, ◌^◌, zero, suc, refl, sym, ◌∙◌, ap, subst, arith, [], ◌∷◌, ◌++◌, length, take, get_or, true, false, eqb, eq-eqb, add-one}
+use Rattle.std.proofs.Common.{◌≡◌, ℕ, ◌+◌, ◌-◌, ◌<◌, ◌≤◌, ◌^◌, zero, suc, refl, sym, ◌∙◌, ap, arith, [], ◌∷◌, ◌++◌, length, take, get_or}
 use Rattle.std.proofs.lemmas.Bool.{cases_eq}
-use Rattle.std.proofs.lemmas.Bool.Decides.{nat_tests}
 use Rattle.std.proofs.lemmas.List.{take_all}
 use mathlib.Core.Logic.{◌⊎◌, inl, inr}
 use Rattle.std.proofs.Math.Nat.{pow-zero, pow-suc}
 use Rattle.ln_algebra.specs.Terms.{binomial}
-use Rattle.ln_tree.specs.Exps.{AllAbove, IsAbove, IsRising, Pairs, exponent}
+use Rattle.ln_tree.specs.Exps.{IsAbove, IsRising, Pairs, exponent}
 use Rattle.ln_tree.proofs.Pairs.{rising-push}
+use Rattle.ln_tree.proofs.Powers.{above-at, exponent-more, power-apart, power-here, small-at}
 use Rattle.ln_poly.specs.Times.{power_at}
 use Rattle.ln_poly.specs.Derivative.{IsLowered, IsLowering}
 use Rattle.ln_poly.proofs.Merging.{above-none, exponent-push, none-above}
 use Rattle.ln_poly.proofs.Weighing.{pow-le}
 
--- ---- one pair's part of an exponent
-apart : (x y : ℕ) → (x ≡ y → ⊥) → eqb x y ≡ false
-apart x y h = grind (arith, nat_tests)
-
-pub power-here : (v : ℕ) (p : ℕ × ℕ) → p.0 ≡ v → power_at v p ≡ p.1
-power-here v p e = let t : eqb p.0 v ≡ true = eq-eqb p.0 v e in rw t refl
-
-pub power-apart : (v : ℕ) (p : ℕ × ℕ) → (p.0 ≡ v → ⊥) → power_at v p ≡ 0
-power-apart v p h = let t : eqb p.0 v ≡ false = apart p.0 v h in rw t refl
-
-pub exponent-more : (v : ℕ) (ps : Pairs) (i : ℕ) → i < length ps → exponent v (take (i + 1) ps) ≡ exponent v (take i ps) + power_at v (get_or ps i (0, 0))
-exponent-more v [] i h = absurd (omega arith)
-exponent-more v (p ∷ ps) zero h = omega arith
-exponent-more v (p ∷ ps) (suc i) h =
-    let ih : exponent v (take (suc i) ps) ≡ exponent v (take i ps) + power_at v (get_or ps i (0, 0)) = rw add-one at (exponent-more v ps i (omega arith)) in
-    rw add-one (omega (arith, ih))
-
 -- ---- rising pairs
-above-at : (w : ℕ) (ps : Pairs) (i : ℕ) → i < length ps → AllAbove w ps → w < (get_or ps i (0, 0)).0
-above-at w [] i h a = absurd (omega arith)
-above-at w (p ∷ ps) zero h a = a.0
-above-at w (p ∷ ps) (suc i) h a = above-at w ps i (omega arith) a.1
-
-all_above-none : (v : ℕ) (ps : Pairs) → AllAbove v ps → exponent v ps ≡ 0
-all_above-none v [] a = refl
-all_above-none v (p ∷ ps) a = omega (arith, power-apart v p (λ e. absurd (omega (arith, a.0))), all_above-none v ps a.1)
-
--- the exponent of a variable is that of its pair
-pub found : (v : ℕ) (ps : Pairs) (i : ℕ) → IsRising ps → i < length ps → (get_or ps i (0, 0)).0 ≡ v → exponent v ps ≡ (get_or ps i (0, 0)).1
-found v [] i r h e = absurd (omega arith)
-found v (p ∷ ps) zero r h e = omega (arith, power-here v p e, all_above-none v ps (subst (λ z. AllAbove z ps) e r.2))
-found v (p ∷ ps) (suc i) r h e = omega (arith, power-apart v p (λ q. absurd (omega (arith, above-at p.0 ps i (omega arith) r.2))), found v ps i r.3 (omega arith) e)
-
-pub small-at : (ps : Pairs) (i : ℕ) → IsRising ps → i < length ps → (get_or ps i (0, 0)).1 < 128
-small-at [] i r h = absurd (omega arith)
-small-at (p ∷ ps) zero r h = r.1
-small-at (p ∷ ps) (suc i) r h = small-at ps i r.3 (omega arith)
-
 above-take : (ps : Pairs) (i : ℕ) → IsRising ps → i < length ps → IsAbove (take i ps) (get_or ps i (0, 0)).0
 above-take [] i r h = absurd (omega arith)
 above-take (p ∷ ps) zero r h = tt

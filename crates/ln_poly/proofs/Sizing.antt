@@ -6,8 +6,7 @@ use Rattle.ln_algebra.specs.Vector.{total_degree}
 use Rattle.ln_tree.specs.Exps.{vector}
 use Rattle.ln_algebra.specs.Tree.{Tree, inlined, inlined_after}
 use Rattle.ln_algebra.specs.Weights.{weight, weighted_sum}
-use Rattle.ln_bound.specs.Light.{most}
-use Rattle.ln_bound.specs.Light.{AreLight as HaveWeights}
+use Rattle.ln_bound.specs.Light.{most, AreLight as HaveWeights, weighed_pred}
 use Rattle.ln_bound.proofs.Fitting.{light_parts}
 use Rattle.ln_tree.specs.declared.shape.VarInfo.{VarInfo}
 use Rattle.ln_tree.specs.Fits.{is_fit, lets_fit}
@@ -16,11 +15,9 @@ use Rattle.ln_tree.specs.declared.expr.Expr.{Expr}
 use Rattle.ln_tree.specs.declared.items.Arg.{Arg}
 use Rattle.ln_tree.specs.Kept.{is_pred}
 use Rattle.ln_bound.proofs.KeptLaws.{parts_of}
-use Rattle.ln_bound.specs.Light.{weighed_pred}
 use Rattle.ln_bound.specs.Value.{weights}
 use Rattle.ln_poly.specs.Expansion.{IsNormal, closed_lets, closed_root}
 use Rattle.ln_poly.specs.Sparse.{Sparse, terms_of}
-use Rattle.ln_bound.proofs.LoadLaws.{old_nodes}
 use Rattle.ln_poly.proofs.Lets.{pred-fit, root-degrees, root-light, root-weight}
 use Rattle.ln_poly.specs.Ready.{AreLight, IsLight, LetsAreLight}
 use Rattle.ln_poly.proofs.Lightness.{AreClosed, closed-more, inputs-inlined, weight-inlined}
@@ -107,11 +104,3 @@ size-degrees n e f l p = root-degrees n two e f (λ v h. omega arith) l p
 pub pred-expands : (args : List Arg) (vars : List VarInfo) (es : List Expr) (names : ℕ) (root : Expr) → is_pred args vars es names root ≡ true → HaveWeights (loaded_pred vars (map formula es) (formula root))
     → LetsAreLight (length vars) two [] (map (tree vars) (map formula es)) × AreLight (length vars) two (closed_lets vars (map formula es)) (tree vars (formula root))
 pred-expands args vars es names root k l = light-pred vars (length es) (map formula es) (formula root) (pred-fit args vars es names root k) (parts_of args vars es names root k).fit_root l
-
--- no load passes the limit where no node is too heavy by weight
-pub pred-loads : (args : List Arg) (vars : List VarInfo) (es : List Expr) (names : ℕ) (root : Expr) → is_pred args vars es names root ≡ true → HaveWeights (weighed_pred vars (map formula es) (formula root)) → HaveWeights (loaded_pred vars (map formula es) (formula root))
-pred-loads args vars es names root k l = old_nodes vars (length es) (map formula es) (formula root) (pred-fit args vars es names root k) (parts_of args vars es names root k).fit_root l
-
--- and the w-weighted sum of its polynomial doesn't
-pub pred-weight : (args : List Arg) (vars : List VarInfo) (es : List Expr) (names : ℕ) (root : Expr) (f : Sparse) → is_pred args vars es names root ≡ true → HaveWeights (weighed_pred vars (map formula es) (formula root)) → IsNormal (length vars) (closed_root vars (map formula es) (formula root)) f → weighted_sum (weights vars) (terms_of (length vars) f) ≤ most
-pred-weight args vars es names root f k l p = light-root vars (length es) (map formula es) (formula root) f (pred-fit args vars es names root k) (parts_of args vars es names root k).fit_root l p

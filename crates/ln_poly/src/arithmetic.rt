@@ -1,8 +1,8 @@
-// Sums and products of polynomials.
+//! Sums and products of polynomials.
 ghost use Rattle.std.specs.Prelude.{◌≡◌, ℕ, List, ◌+◌, ◌*◌, ◌<◌, ◌≤◌, ◌^◌, ◌++◌, ◌+ℤ◌, ◌-ℤ◌, ◌*ℤ◌, All, IfOk, OnOk, length, unsigned_abs};
 ghost use Rattle.ln_algebra.specs.Coefficient.{product};
 ghost use Rattle.ln_tree.specs.Exps.{exponent};
-ghost use Rattle.ln_poly.specs.Sparse.{IsFactor, IsPoly, AreBelow, AreRising, coefficient_at, negated, size_of};
+ghost use Rattle.ln_poly.specs.Sparse.{IsFactor, IsPoly, AreBelow, coefficient_at, negated, size_of};
 ghost use Rattle.ln_poly.specs.Rows.{IsProductPut, IsRow, PowersFit};
 
 use crate::gather::{gather, push};

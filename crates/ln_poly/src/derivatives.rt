@@ -1,32 +1,18 @@
-// Scaled derivatives.
+//! Scaled derivatives.
 ghost use Rattle.std.specs.Prelude.{◌≡◌, ℕ, List, [], ◌∷◌, ◌++◌, ◌+◌, ◌<◌, ◌≤◌, ◌^◌, ◌*ℤ◌, pos, IfOk, OnOk, length, unsigned_abs};
 ghost use Rattle.ln_algebra.specs.Terms.{binomial, factor_at};
 ghost use Rattle.ln_algebra.specs.Weights.{weighted_sum};
 ghost use Rattle.ln_bound.specs.Light.{most};
 ghost use Rattle.ln_bound.specs.Value.{sizes};
-ghost use Rattle.ln_tree.specs.Exps.{IsRising, exponent, vector};
+ghost use Rattle.ln_tree.specs.Exps.{exponent};
 ghost use Rattle.ln_poly.specs.Sparse.{AreBelow, IsPoly, coefficient_at};
 ghost use Rattle.ln_poly.specs.Derivative.{IsColumn, IsDerivedPut, IsLowered, derivative};
 
 use crate::gather::gather;
 use crate::poly::Poly;
 use ln_base::NoMemory;
-use ln_tree::{Exps, Shape};
+use ln_tree::{Exps, Shape, exponent_of};
 use std::alloc::Global;
-
-// The exponent of variable v.
-fn exponent_of(pairs: &[(u8, u8)], v: u8) -> u8
-    requires { IsRising pairs.now }
-    ensures value { result ≡ exponent v pairs.now }
-    ensures small { result < 128 }
-{
-    'pairs: for p in pairs {
-        if p.0 == v {
-            return p.1;
-        }
-    }
-    0
-}
 
 // The pair with its exponent lowered where it is that of v.
 fn lowered_pair(p: (u8, u8), v: u8, n: u8) -> u8

@@ -1,7 +1,6 @@
-// Normal polynomials of predicates.
-ghost use Rattle.std.specs.Prelude.{◌≡◌, ℕ, ◌+◌, ◌*◌, ◌<◌, ◌≤◌, ◌^◌, ◌++◌, [], ◌∷◌, true, pos, unsigned_abs, All, List, IfOk, IfErr, OnOk, nat_lt, length, map, slice_index_or, ◌↔◌};
+//! Normal polynomials of predicates.
+ghost use Rattle.std.specs.Prelude.{◌≡◌, ℕ, ◌+◌, ◌*◌, ◌<◌, ◌≤◌, ◌^◌, [], ◌∷◌, true, pos, unsigned_abs, All, List, IfOk, IfErr, OnOk, nat_lt, length, map, slice_index_or, ◌↔◌};
 ghost use Rattle.ln_algebra.specs.Tree.{Tree, Num, Input, Neg, Add, Sub, Mul, Pow};
-ghost use Rattle.ln_algebra.specs.Weights.{weighted_sum};
 ghost use Rattle.ln_algebra.specs.Vector.{total_degree};
 ghost use Rattle.ln_tree.specs.Exps.{vector};
 ghost use Rattle.ln_tree.specs.Variables.{number_or_end};
@@ -9,11 +8,10 @@ ghost use Rattle.ln_tree.specs.Fits.{is_fit, lets_fit};
 ghost use Rattle.ln_tree.specs.Formula.{formula, tree, tree_of};
 ghost use Rattle.ln_algebra.specs.Sizes.{two};
 ghost use Rattle.ln_bound.specs.Loads.{loaded_pred};
-ghost use Rattle.ln_bound.specs.Value.{weights};
-ghost use Rattle.ln_bound.specs.Light.{most, weighed_pred, node_weights, AreLight as HaveWeights};
-ghost use Rattle.ln_poly.specs.Sparse.{terms_of, size_of};
+ghost use Rattle.ln_bound.specs.Light.{AreLight as HaveWeights};
+ghost use Rattle.ln_poly.specs.Sparse.{size_of};
 ghost use Rattle.ln_poly.specs.Rows.{PowersFit};
-ghost use Rattle.ln_poly.specs.Expansion.{IsNormal, HasTooManyTerms, HaveFewTerms, IsZeroFault, closed_lets, closed_root, expanded, expanded_lets, expanded_pred, powers};
+ghost use Rattle.ln_poly.specs.Expansion.{IsNormal, HaveFewTerms, IsZeroFault, closed_lets, closed_root, expanded, expanded_lets, expanded_pred, powers};
 ghost use Rattle.ln_poly.specs.Ready.{AreLight, AreNormal, Expands, HasPower, LetsAreLight};
 ghost use Rattle.ln_poly.specs.Stop.{StopsExpanding};
 
@@ -21,7 +19,6 @@ use crate::arithmetic::{add, mul, sub};
 use crate::leaf::{number, power};
 use crate::poly::Poly;
 use ln_base::{NoMemory, Seq, Span};
-use ln_bound::Weights;
 use ln_tree::layout::number_in;
 use ln_tree::{Expr, Node, Pred, Var, VarInfo};
 use std::alloc::Global;
@@ -213,7 +210,7 @@ fn expand_lets(alloc: Global, lets: &[Expr], vars: &[VarInfo]) -> Result<Seq<Pol
 /// The normal polynomial of a predicate's root, with its lets put in; or the first node in order of evaluation that has
 /// more than 1,024 terms, where for a power each of its lower powers counts too. It may have no term. No range and no size of
 /// a node may pass `2^127 - 1`: so no coefficient does on the way.
-pub fn normal_by_sizes(alloc: Global, p: &Pred) -> Result<Poly, PolyStop>
+pub fn normal(alloc: Global, p: &Pred) -> Result<Poly, PolyStop>
     requires { HaveWeights (loaded_pred p.now.shape.vars (map formula p.now.lets) (formula p.now.root)) }
     ensures normal { IfOk result (λ f. IsNormal (length p.now.shape.vars) (closed_root p.now.shape.vars (map formula p.now.lets) (formula p.now.root)) f) }
     ensures few { OnOk result (HaveFewTerms (length p.now.shape.vars) (expanded_pred p.now.shape.vars (map formula p.now.lets) (formula p.now.root))) }
@@ -226,20 +223,4 @@ pub fn normal_by_sizes(alloc: Global, p: &Pred) -> Result<Poly, PolyStop>
     let lets = p.lets.as_slice();
     let polys = expand_lets(alloc, lets, vars)?;
     expand(alloc, &p.root, vars, lets, polys.as_slice())
-}
-
-/// The same where no node is too heavy by weight, as the weights of the predicate say: then the weighted sum over w of the
-/// polynomial is at most `2^127 - 1` too.
-pub fn normal(alloc: Global, p: &Pred, w: &Weights) -> Result<Poly, PolyStop>
-    requires weights { w.now ≡ node_weights (weighed_pred p.now.shape.vars (map formula p.now.lets) (formula p.now.root)) }
-    requires light { HaveWeights (weighed_pred p.now.shape.vars (map formula p.now.lets) (formula p.now.root)) }
-    ensures normal { IfOk result (λ f. IsNormal (length p.now.shape.vars) (closed_root p.now.shape.vars (map formula p.now.lets) (formula p.now.root)) f) }
-    ensures few { OnOk result (HaveFewTerms (length p.now.shape.vars) (expanded_pred p.now.shape.vars (map formula p.now.lets) (formula p.now.root))) }
-    ensures terms { IfOk result (λ f. length f ≤ 1024) }
-    ensures weight { IfOk result (λ f. weighted_sum (weights p.now.shape.vars) (terms_of (length p.now.shape.vars) f) ≤ most) }
-    ensures degrees { IfOk result (λ f. All (λ t. total_degree (vector (length p.now.shape.vars) t.0) ≤ 126) f) }
-    ensures zero { IfOk result (λ f. (f ≡ []) ↔ IsZeroFault (length p.now.shape.vars) (closed_root p.now.shape.vars (map formula p.now.lets) (formula p.now.root))) }
-    ensures err { IfErr result (λ s. StopsExpanding (length p.now.shape.vars) (expanded_pred p.now.shape.vars (map formula p.now.lets) (formula p.now.root)) s) }
-{
-    normal_by_sizes(alloc, p)
 }

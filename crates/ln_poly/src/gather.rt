@@ -1,4 +1,4 @@
-// Terms in any order, made a polynomial.
+//! Terms in any order, made a polynomial.
 ghost use Rattle.std.specs.Prelude.{◌≡◌, ℕ, List, [], ◌∷◌, ◌++◌, false, ◌+◌, ◌-◌, ◌<◌, ◌≤◌, ◌^◌, ◌+ℤ◌, IfOk, OnOk, unsigned_abs, length, slice_index_or};
 ghost use Rattle.std.specs.List.{dedup};
 ghost use Rattle.ln_tree.specs.Exps.{same_pairs};

@@ -1,4 +1,4 @@
-// Polynomials with one term at most.
+//! Polynomials with one term at most.
 ghost use Rattle.std.specs.Prelude.{◌≡◌, ◌≢◌, ◌<◌, ◌^◌, [], ◌∷◌, pos, IfOk, unsigned_abs};
 ghost use Rattle.ln_poly.specs.Sparse.{IsPoly};
 

@@ -1,4 +1,4 @@
-// Polynomials.
+//! Polynomials.
 ghost use Rattle.std.specs.Prelude.{◌≡◌, ◌↔◌, All, [], IfOk, IsTrue};
 ghost use Rattle.ln_poly.specs.Sparse.{IsPoly};
 

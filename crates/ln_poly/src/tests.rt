@@ -1,4 +1,4 @@
-// Worked values.
+//! Worked values.
 ghost use Rattle.std.specs.Prelude.{◌≡◌, [], ◌∷◌, pos, neg_ℤ, Some, IfOk};
 
 use crate::{Poly, add, derive, heft, mul, number, power, weight};

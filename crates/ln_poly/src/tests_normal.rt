@@ -1,11 +1,11 @@
-// Predicates made by hand, expanded.
+//! Predicates made by hand, expanded.
 ghost use Rattle.std.specs.Prelude.{◌≤◌, IfOk, length};
 ghost use Rattle.ln_algebra.specs.Weights.{weighted_sum};
 ghost use Rattle.ln_bound.specs.Light.{most};
 ghost use Rattle.ln_bound.specs.Value.{weights};
 ghost use Rattle.ln_poly.specs.Sparse.{AreBelow, terms_of};
 
-use crate::{Poly, PolyStop, derive, normal};
+use crate::{Poly, PolyStop, derive, heft, normal};
 use ln_base::{NoMemory, Seq, Span};
 use ln_bound::weigh::weigh;
 use ln_tree::{Arg, Expr, Exps, Name, Node, Pred, Shape, Var, VarInfo, is_pred, is_shape};
@@ -99,14 +99,25 @@ fn pred(
     })
 }
 
-/// The normal polynomial of a predicate, which no node is too heavy for.
+/// The normal polynomial of a predicate, whose ranges and sizes have to fit.
 fn poly_of(alloc: Global, p: &Pred) -> Result<Poly, PolyStop>
-    ensures below { IfOk result (AreBelow (length p.now.shape.vars)) }
-    ensures light { IfOk result (λ f. weighted_sum (weights p.now.shape.vars) (terms_of (length p.now.shape.vars) f) ≤ most) }
+    ensures { IfOk result (AreBelow (length p.now.shape.vars)) }
 {
     match weigh(alloc, p) {
-        Ok(w) => normal(alloc, p, &w),
+        Ok(_) => normal(alloc, p),
         Err(_) => Err(PolyStop::NoMemory),
+    }
+}
+
+/// The normal polynomial of a predicate, and its weighted sum, which has to fit too.
+fn weighed(alloc: Global, p: &Pred) -> Result<(Poly, u128), PolyStop>
+    ensures below { IfOk result (λ r. AreBelow (length p.now.shape.vars) r.0) }
+    ensures light { IfOk result (λ r. weighted_sum (weights p.now.shape.vars) (terms_of (length p.now.shape.vars) r.0) ≤ most) }
+{
+    let f = poly_of(alloc, p)?;
+    match heft(&f, &p.shape) {
+        Some(w) => Ok((f, w)),
+        None => Err(PolyStop::NoMemory),
     }
 }
 
@@ -147,19 +158,20 @@ fn are_six(f: &Poly) -> bool {
     }
 }
 
-/// The normal polynomial of a predicate, and its derivative by variable 1, once, which it has to have.
-fn derived(rt: &impl Abort, alloc: Global, p: &Pred) -> Result<(Poly, Poly), PolyStop> {
-    let f = poly_of(alloc, p)?;
+/// The normal polynomial of a predicate, its weighted sum, and its derivative by variable 1, once, which it has to have.
+fn derived(rt: &impl Abort, alloc: Global, p: &Pred) -> Result<(Poly, u128, Poly), PolyStop> {
+    let (f, w) = weighed(alloc, p)?;
     assert!(rt; p.shape.vars.len() > 1);
     let g = derive(alloc, &f, &p.shape, 1, 1)?;
-    Ok((f, g))
+    Ok((f, w, g))
 }
 
 #[test]
 fn the_orientation_has_six_terms(rt: HostRuntime) -> Result<(), Fail> {
     let p = orientation(&rt, rt.alloc())?;
-    let (f, g) = derived(&rt, rt.alloc(), &p)?;
+    let (f, w, g) = derived(&rt, rt.alloc(), &p)?;
     assert!(rt; are_six(&f));
+    assert!(rt; w == 24);
     let is_derivative = match g.terms() {
         [a, b] => is_single(a, 2, -1) && is_single(b, 4, 1),
         _ => false,

@@ -1,4 +1,4 @@
-// Products of monomials.
+//! Products of monomials.
 ghost use Rattle.std.specs.Prelude.{◌≡◌, ℕ, ◌+◌, ◌<◌, ◌≤◌, IfOk, length, drop, slice_index_or};
 ghost use Rattle.ln_tree.specs.Exps.{IsRising, exponent};
 ghost use Rattle.ln_poly.specs.Times.{Picks};

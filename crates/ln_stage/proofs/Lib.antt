@@ -10,6 +10,7 @@ pub mod TallyLemmas
 pub mod WalkLemmas
 pub mod SiteLemmas
 pub mod SegmentLemmas
+pub mod SightLemmas
 pub mod SiteWalkLemmas
 pub mod FirstSightLemmas
 pub mod VisitLemmas

@@ -1,18 +1,14 @@
 -- The segments of all prefixes, one after the other.
-use Rattle.std.proofs.Common.{◌≡◌, ◌⊎◌, inl, inr, ℕ, suc, ◌+◌, ◌-◌, ◌*◌, ◌<◌, ◌≤◌, Bool, List, [], ◌∷◌, ◌++◌, append_assoc, length, length-append, map, get_or, take, drop, refl, sym, ◌∙◌, ap, subst, arith}
-use Rattle.std.specs.List.{range_with_len}
+use Rattle.std.proofs.Common.{◌≡◌, ◌⊎◌, inl, inr, ℕ, ◌+◌, ◌-◌, ◌*◌, ◌<◌, ◌≤◌, Bool, List, [], ◌∷◌, ◌++◌, append_assoc, length, length-append, map, get_or, drop, refl, sym, ◌∙◌, ap, subst, arith}
 use Rattle.std.specs.Prelude.{Some, slice_get}
 use Rattle.std.proofs.lemmas.List.{append-nil, drop-map, drop_all, drop_more}
 use Rattle.std.proofs.lemmas.Option.{slice_get-get_or, slice_get_within}
 use Rattle.ln_tree.specs.declared.shape.VarInfo.{VarInfo}
 use Rattle.ln_order.specs.declared.front.Front.{Front}
-use Rattle.ln_order.specs.declared.order.Order.{Order}
 use Rattle.ln_order.specs.Fronts.{front_places}
 use Rattle.ln_order.specs.Orders.{orders_of}
-use Rattle.ln_order.specs.Places.{order_places}
-use Rattle.ln_order.specs.Prefixes.{IsPrefixOf, beside, joined, prefixes_of, segments_from}
+use Rattle.ln_order.specs.Prefixes.{IsPrefixOf, beside, prefixes_of}
 use Rattle.ln_order.proofs.FrontLemmas.{front-is-prefix}
-use Rattle.ln_order.proofs.OrdersLemmas.{sizes_are}
 use Rattle.ln_order.proofs.PrefixLemmas.{beside_at, fronts-follow}
 use Rattle.ln_poly.specs.Sparse.{Sparse}
 use Rattle.ln_stage.specs.FirstSight.{shared_count}
@@ -104,47 +100,8 @@ pub cuts-follow : (vars : List VarInfo) (f : Sparse) (all : List Front) (k i : �
 cuts-follow vars f all k i p cuts few e h q a =
     cuts-go vars f (prefixes_of k) i (front_places p) (map front_places (drop (i + 1) all)) cuts (λ j l. fronts-follow k j few l) (ap (drop i) (sym e) ∙ drop-map front_places i all ∙ more-prefixes all i p h q) a
 
--- ---- the list of an order
-pub list_goes : (S : List ℕ → List ℕ) (o : List ℕ) (j : ℕ) → j ≤ length o → segments_from S o j ≡ S (take j o) ++ segments_from S o (j + 1)
-list_goes S o j h =
-    let q : suc (length o) - j ≡ suc (suc (length o) - (j + 1)) = omega (arith, h) in
-    ap (λ n. joined (map (λ i. S (take i o)) (range_with_len j n))) q
-
-pub list_ends : (S : List ℕ → List ℕ) (o : List ℕ) (j : ℕ) → length o < j → segments_from S o j ≡ []
-list_ends S o j h =
-    let q : suc (length o) - j ≡ 0 = omega (arith, h) in
-    ap (λ n. joined (map (λ i. S (take i o)) (range_with_len j n))) q
-
 -- what is read at a prefix's number
 pub read-is : (k : ℕ) (ss : List (List ℕ)) (p : List ℕ) (i : ℕ) (s : List ℕ) → k ≤ 5 → length ss ≡ length (prefixes_of k) → slice_get (prefixes_of k) i ≡ Some p → s ≡ get_or ss i s → s ≡ beside (prefixes_of k) ss p
 read-is k ss p i s few size h e =
     let l : i < length ss = omega (arith, slice_get_within (prefixes_of k) i p h, size) in
     sym (beside_at k ss p i s few h (slice_get-get_or ss i s l ∙ ap (λ z. Some z) (sym e)))
-
-pub list-more-is : (S : List ℕ → List ℕ) (o old new segment : List ℕ) (j : ℕ) → j ≤ length o → new ≡ old ++ segment → segment ≡ S (take j o) → old ++ segments_from S o j ≡ segments_from S o 0 → new ++ segments_from S o (j + 1) ≡ segments_from S o 0
-list-more-is S o old new segment j h e q r =
-    ap (λ z. z ++ segments_from S o (j + 1)) e ∙ append_assoc old segment (segments_from S o (j + 1)) ∙ ap (λ z. old ++ (z ++ segments_from S o (j + 1))) q ∙ ap (λ z. old ++ z) (sym (list_goes S o j h)) ∙ r
-
-pub list-all : (S : List ℕ → List ℕ) (o old : List ℕ) (j : ℕ) → length o < j → old ++ segments_from S o j ≡ segments_from S o 0 → old ≡ segments_from S o 0
-list-all S o old j h r = sym (append-nil old) ∙ ap (λ z. old ++ z) (sym (list_ends S o j h)) ∙ r
-
--- ---- the lists of all orders
--- what is listed for an order of k sites
-abbrev pub list_in : ℕ → List (List ℕ) → List ℕ → List ℕ
-list_in k segments o = segments_from (beside (prefixes_of k) segments) o 0
-
-pub order-size : (all : List Order) (k i : ℕ) (o : Order) → map order_places all ≡ orders_of k → i < length all → o ≡ get_or all i o → length (order_places o) ≡ k
-order-size all k i o e h q = ap (λ z. length (order_places z)) q ∙ sizes_are all k e i o h
-
-pub lists-go : (k : ℕ) (segments : List (List ℕ)) (all : List Order) (i : ℕ) (o : Order) (l : List ℕ) (old new N : List (List ℕ)) → i < length all → o ≡ get_or all i o → length (order_places o) ≡ k → l ≡ list_in (length (order_places o)) segments (order_places o)
-    → new ≡ old ++ l ∷ [] → old ++ map (list_in k segments) (map order_places (drop i all)) ≡ N → new ++ map (list_in k segments) (map order_places (drop (i + 1) all)) ≡ N
-lists-go k segments all i o l old new N h e size x m r =
-    let rest : List (List ℕ) = map (list_in k segments) (map order_places (drop (i + 1) all)) in
-    let y : l ≡ list_in k segments (order_places o) = x ∙ ap (λ n. list_in n segments (order_places o)) size in
-    let d : map (list_in k segments) (map order_places (drop i all)) ≡ list_in k segments (order_places o) ∷ map (list_in k segments) (map order_places (drop (i + 1) all)) =
-    ap (λ z. map (list_in k segments) (map order_places z)) (drop_more all i o h) ∙ ap (λ z. list_in k segments (order_places z) ∷ map (list_in k segments) (map order_places (drop (i + 1) all))) (sym e) in
-    ap (λ z. z ++ map (list_in k segments) (map order_places (drop (i + 1) all))) m ∙ append_assoc old (l ∷ []) (map (list_in k segments) (map order_places (drop (i + 1) all)))
-    ∙ ap (λ z. old ++ z ∷ map (list_in k segments) (map order_places (drop (i + 1) all))) y ∙ ap (λ z. old ++ z) (sym d) ∙ r
-
-pub lists-all : (k : ℕ) (segments : List (List ℕ)) (all : List Order) (i : ℕ) (old N : List (List ℕ)) → length all ≤ i → old ++ map (list_in k segments) (map order_places (drop i all)) ≡ N → old ≡ N
-lists-all k segments all i old N h r = sym (append-nil old) ∙ ap (λ z. old ++ map (list_in k segments) (map order_places z)) (sym (drop_all i all h)) ∙ r

@@ -13,7 +13,7 @@ use Rattle.ln_algebra.specs.Vector.{In, same_vector}
 use Rattle.ln_algebra.specs.Walk.{AllBelow}
 use Rattle.ln_algebra.proofs.Normal.{same_vector-is, same_vector-refl}
 use Rattle.ln_tree.specs.Exps.{IsAbove, IsRising, Pairs, exponent, pairs_cmp, same_pairs, same_pairs-ties, vector}
-use Rattle.ln_order.proofs.PairsLemmas.{all_above-none, power-apart, power-here, vector-get, vector-length}
+use Rattle.ln_tree.proofs.Powers.{all_above-none, power-apart, power-here, vector-get, vector-length}
 use Rattle.ln_poly.specs.Sparse.{AreBelow, AreRising, IsFactor, IsPoly, Sparse, coefficient_at}
 use Rattle.ln_stage.specs.Kept.{all_rows}
 use Rattle.ln_stage.proofs.PairsLemmas.{same-pairs, same_pairs-refl}

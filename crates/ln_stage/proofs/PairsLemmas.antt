@@ -5,7 +5,7 @@ use Rattle.std.proofs.lemmas.Grind.{same_number_lists}
 use Rattle.ln_algebra.specs.Vector.{same_vector}
 use Rattle.ln_algebra.proofs.Normal.{same_vector-is, same_vector-refl}
 use Rattle.ln_tree.specs.Exps.{AllAbove, IsAbove, IsRising, Pairs, exponent, exponents_from, same_pairs, same_pairs-is, vector}
-use Rattle.ln_order.proofs.PairsLemmas.{all_above-none, power-apart, power-here, vector-get, vector-length}
+use Rattle.ln_tree.proofs.Powers.{all_above-none, power-apart, power-here, vector-get, vector-length}
 use Rattle.ln_stage.specs.Tally.{pairs_from, pairs_of}
 
 -- ---- steps of the loop

@@ -25,7 +25,7 @@ use Rattle.ln_stage.specs.Lists.{AreStageLists, Passes, all_covering, all_seen_b
 use Rattle.ln_stage.specs.Segments.{AreSegments, IsSegmentOf}
 use Rattle.ln_stage.specs.SiteWalk.{prefix_walks, site_walk, site_walks}
 use Rattle.ln_stage.specs.StageList.{IsStageListOf}
-use Rattle.ln_stage.specs.Staged.{AreStagesOf, Staged, StopsListing, block_vector, count_numbers, vectors_of}
+use Rattle.ln_stage.specs.Staged.{AreStagesOf, Staged, StopsListing, block_vector, count_numbers, lists_in, vectors_of}
 use Rattle.ln_stage.specs.Tally.{IsOver as IsPast, IsStoppedBy, Tallied, pairs_of}
 use Rattle.ln_stage.specs.Visit.{segment_at}
 use Rattle.ln_stage.specs.declared.stop.StageStop.{StageStop}
@@ -274,7 +274,7 @@ module _ (k : ℕ) (vars : List VarInfo) (f : Sparse) (few : k ≤ 5) (laid : is
 
     -- what is kept at the end, as stages
     abbrev pub result : Staged
-    result = record { sites = k; exps = kept.exps; segments = segments; lists = map (λ o. segments_from (beside (prefixes_of k) segments) o 0) (orders_of k) }
+    result = record { sites = k; exps = kept.exps; segments = segments; lists = lists_in k segments }
 
     pub result-vectors : vectors_of (length vars) result ≡ found
     result-vectors = map-map (map (block_vector (length vars) kept.exps)) list_at (orders_of k) ∙ maps-agree (λ o. map (block_vector (length vars) kept.exps) (list_at o)) (list_of vars f) (orders_of k) (λ o c. list-vectors o (member-is k o c))
@@ -297,7 +297,7 @@ module _ (k : ℕ) (vars : List VarInfo) (f : Sparse) (few : k ≤ 5) (laid : is
       };
     }
 
-    pub lists-count : count_numbers (map (λ o. segments_from (beside (prefixes_of k) segments) o 0) (orders_of k)) ≡ shared_count k (segment_at vars f) (prefixes_of k)
+    pub lists-count : count_numbers (lists_in k segments) ≡ shared_count k (segment_at vars f) (prefixes_of k)
     lists-count = count-map (block_vector (length vars) kept.exps) (map list_at (orders_of k)) ∙ ap stage_count result-vectors ∙ same-count
 
     pub final-count : (c : ℕ) → c ≡ shared_count k (segment_at vars f) (prefixes_of k) → c ≤ most → stage_count (vectors_of (length vars) result) ≤ most
@@ -307,17 +307,14 @@ module _ (k : ℕ) (vars : List VarInfo) (f : Sparse) (few : k ≤ 5) (laid : is
     final-weight h = omega (arith, h, seen.weight, seen.heavy, ap (all_covering (length vars) f) same-first, ap (stage_weight (length vars) f) result-vectors)
 
     -- ---- what the program has at its end
-    abbrev pub lists_of : List (List ℕ) → List (List ℕ)
-    lists_of segs = map (λ o. segments_from (beside (prefixes_of k) segs) o 0) (orders_of k)
-
-    pub final-is : (st : Staged) (exps : List Pairs) (segs lists : List (List ℕ)) (u : Tallied) → st ≡ record { sites = k; exps = exps; segments = segs; lists = lists } → exps ≡ u.exps → u ≡ kept → segs ≡ segments → lists ≡ lists_of segs → st ≡ result
+    pub final-is : (st : Staged) (exps : List Pairs) (segs lists : List (List ℕ)) (u : Tallied) → st ≡ record { sites = k; exps = exps; segments = segs; lists = lists } → exps ≡ u.exps → u ≡ kept → segs ≡ segments → lists ≡ lists_in k segs → st ≡ result
     final-is st exps segs lists u e x q s l =
         let y : exps ≡ kept.exps = x ∙ ap (λ (z : Tallied). z.exps) q in
-        let z : lists ≡ lists_of segments = l ∙ ap lists_of s in
+        let z : lists ≡ lists_in k segments = l ∙ ap (lists_in k) s in
         e ∙ rw (y, s, z) refl
 
-    pub counted-is : (c : ℕ) (segs lists : List (List ℕ)) → segs ≡ segments → lists ≡ lists_of segs → c ≡ shared_count k (segment_at vars f) (prefixes_of k) → c ≡ count_numbers lists
-    counted-is c segs lists s l e = e ∙ sym lists-count ∙ ap count_numbers (sym (l ∙ ap lists_of s))
+    pub counted-is : (c : ℕ) (segs lists : List (List ℕ)) → segs ≡ segments → lists ≡ lists_in k segs → c ≡ shared_count k (segment_at vars f) (prefixes_of k) → c ≡ count_numbers lists
+    counted-is c segs lists s l e = e ∙ sym lists-count ∙ ap count_numbers (sym (l ∙ ap (lists_in k) s))
 
     pub weighed-is : (u : Tallied) → u ≡ kept → u.weight ≤ u.heavy → kept.weight ≤ kept.heavy
     weighed-is u e h = omega (arith, h, ap (λ (z : Tallied). z.weight) e, ap (λ (z : Tallied). z.heavy) e)

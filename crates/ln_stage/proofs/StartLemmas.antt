@@ -14,7 +14,7 @@ use Rattle.ln_algebra.proofs.Order.{before-irreflexive}
 use Rattle.ln_algebra.proofs.Stages.{zeros-get}
 use Rattle.ln_tree.specs.declared.shape.VarInfo.{VarInfo}
 use Rattle.ln_tree.specs.Exps.{vector}
-use Rattle.ln_order.proofs.PairsLemmas.{vector-length}
+use Rattle.ln_tree.proofs.Powers.{vector-length}
 use Rattle.ln_order.specs.Sites.{ranking_of}
 use Rattle.ln_poly.specs.Sparse.{Sparse, AreBelow, AreRising}
 use Rattle.ln_stage.specs.Kept.{AreFresh, IsStep, all_rows, list_of, listed, rows, term_at}

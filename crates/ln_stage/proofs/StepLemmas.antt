@@ -9,7 +9,7 @@ use Rattle.std.proofs.lemmas.List.Sums.{sum_by-cons}
 use Rattle.ln_algebra.specs.Vector.{covers}
 use Rattle.ln_algebra.specs.Walk.{Found, Member, all_same, at_least, before, steps, unless_none, walk}
 use Rattle.ln_tree.specs.Exps.{Pairs, exponent, vector}
-use Rattle.ln_order.proofs.PairsLemmas.{vector-get, vector-length}
+use Rattle.ln_tree.proofs.Powers.{vector-get, vector-length}
 use Rattle.ln_poly.specs.Sparse.{Sparse, AreBelow, AreRising}
 use Rattle.ln_stage.specs.Kept.{IsStep, all_have, all_rows, high, listed, rows, term_at}
 use Rattle.ln_stage.specs.Lists.{covering}

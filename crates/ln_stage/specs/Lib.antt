@@ -7,3 +7,4 @@ pub mod Segments
 pub mod SiteWalk
 pub mod FirstSight
 pub mod Visit
+pub mod Sighted

@@ -1,9 +1,8 @@
 -- The stage list of a polynomial in an order of its sites: a set of exponent vectors, cut and put in order.
 -- Source: the staged evaluation of Simulation of Simplicity (Edelsbrunner and Mücke 1990), which ends at the first coefficient that is a constant.
-use Rattle.std.specs.Prelude.{◌≡◌, ◌≢◌, ◌↔◌, ℕ, true, pos, List, length}
-use Rattle.ln_algebra.specs.Vector.{In, covers}
-use Rattle.ln_algebra.specs.Earlier.{Earlier, IndicesDiffer, IsInOrder, IsOver, Sites}
-use Rattle.ln_algebra.specs.Stage.{IsStageList}
+use Rattle.std.specs.Prelude.{◌≡◌, ◌≢◌, ◌↔◌, ℕ, pos, List, length}
+use Rattle.ln_algebra.specs.Earlier.{Earlier, IndicesDiffer, Sites}
+use Rattle.ln_algebra.specs.Stage.{IsStageBy, IsStageList, IsStageListBy}
 use Rattle.ln_algebra.specs.Terms.{IsNormalOf}
 use Rattle.ln_algebra.specs.Tree.{Tree}
 use Rattle.ln_poly.specs.Sparse.{Sparse, coefficient_at, terms_of}
@@ -13,26 +12,13 @@ pub record IsMonomialOf (n : ℕ) (f : Sparse) (m : List ℕ) : Type 0 where
   pub size : length m ≡ n
   pub nonzero : coefficient_at n f m ≢ pos 0
 
--- some monomial covers a: the scaled derivative by a isn't 0
-abbrev pub IsCovered : ℕ → Sparse → List ℕ → Type 0
-IsCovered n f a = (m : List ℕ) × IsMonomialOf n f m × (covers m a ≡ true)
+-- a is a stage of the polynomial
+abbrev pub IsStageOf : ℕ → Sites → Sparse → List ℕ → Type 0
+IsStageOf n sites f a = IsStageBy (Earlier sites) n sites (IsMonomialOf n f) a
 
--- the cut: a is a monomial, and no other covers it; the scaled derivative by a is a constant that isn't 0
-pub record IsLastOf (n : ℕ) (f : Sparse) (a : List ℕ) : Type 0 where
-  pub monomial : IsMonomialOf n f a
-  pub only : (m : List ℕ) → IsMonomialOf n f m → covers m a ≡ true → m ≡ a
-
--- a is a stage: a vector over the variables of sites that some monomial covers, with no cut earlier than a
-pub record IsStageOf (n : ℕ) (sites : Sites) (f : Sparse) (a : List ℕ) : Type 0 where
-  pub over : IsOver n sites a
-  pub covered : IsCovered n f a
-  pub before_cut : (b : List ℕ) → IsOver n sites b → IsLastOf n f b → Earlier sites b a → ⊥
-
--- the stage list: all stages, each earlier than the ones behind it, and so each once
-pub record IsStageListOf (n : ℕ) (sites : Sites) (f : Sparse) (list : List (List ℕ)) : Type 0 where
-  pub stages : (a : List ℕ) → In list a → IsStageOf n sites f a
-  pub all : (a : List ℕ) → IsStageOf n sites f a → In list a
-  pub in_order : IsInOrder sites list
+-- the stage list of the polynomial
+abbrev pub IsStageListOf : ℕ → Sites → Sparse → List (List ℕ) → Type 0
+IsStageListOf n sites f list = IsStageListBy (Earlier sites) n sites (IsMonomialOf n f) list
 
 -- ---- laws
 -- the stage lists of a polynomial are those of each expression whose normal polynomial it is

@@ -1,5 +1,5 @@
 -- The stages of a predicate, as contracts see them.
-use Rattle.std.specs.Prelude.{◌≡◌, ◌≢◌, ℕ, ◌+◌, ◌<◌, ◌≤◌, All, List, [], ◌∷◌, length, map, slice_get, slice_index_or, take, Some}
+use Rattle.std.specs.Prelude.{◌≡◌, ◌≢◌, ℕ, ◌+◌, ◌<◌, ◌≤◌, All, List, [], ◌∷◌, length, map, slice_index_or, take}
 use Rattle.ln_tree.specs.declared.shape.VarInfo.{VarInfo}
 use Rattle.ln_tree.specs.Exps.{IsAbove, Pairs, vector}
 use Rattle.ln_order.specs.Orders.{IsOrderOf, orders_of}
@@ -11,12 +11,16 @@ use Rattle.ln_stage.specs.Segments.{IsSegmentOf}
 use Rattle.ln_stage.specs.declared.stop.StageStop.{StageStop}
 use Rattle.ln_stage.specs.declared.stop.StageStop.TheVariants.{Zero, Stages, NoMemory}
 
--- the number of sites, the exponents of each block by number, for each prefix of orders the numbers of its segment, and for each order of the sites the list of numbers
+-- the number of sites, the exponents of each block by number, for each prefix of orders the numbers of its segment, and for each order of the sites the list of numbers, which is its segments one after the other
 pub record Staged : Type 0 where
   pub sites : ℕ
   pub exps : List Pairs
   pub segments : List (List ℕ)
   pub lists : List (List ℕ)
+
+-- the lists of all orders of k sites with these segments, each its segments one after the other
+abbrev pub lists_in : ℕ → List (List ℕ) → List (List ℕ)
+lists_in k segments = map (λ o. segments_from (beside (prefixes_of k) segments) o 0) (orders_of k)
 
 -- how many numbers there are in all lists
 abbrev pub count_numbers : List (List ℕ) → ℕ
@@ -50,12 +54,6 @@ pub record AreStagesOf (k : ℕ) (vars : List VarInfo) (f : Sparse) (st : Staged
   pub below : All (λ e. IsAbove e (length vars)) st.exps
   pub numbers : All (λ list. All (λ i. i < length st.exps) list) st.lists
   pub segments : AreSegmentsOf k vars f st
-
--- the list of an order of the sites, which stands at the place of the order among all
-pub record IsListOf (st : Staged) (sites numbers : List ℕ) : Type 0 where
-  pub place : ℕ
-  pub order : slice_get (orders_of st.sites) place ≡ Some sites
-  pub list : slice_get st.lists place ≡ Some numbers
 
 -- why there are no stages: f is 0, or it isn't and the stage count or the stage weight of its lists passes its limit; nothing is said of want of memory
 abbrev pub StopsListing : ℕ → List VarInfo → Sparse → ℕ → ℕ → StageStop → Type 0

@@ -1,6 +1,7 @@
-// Laws of coefficients, of stages and of the cut.
+//! Laws of coefficients, of stages and of the cut.
 ghost use Rattle.ln_algebra.specs.Law.{CoefficientsVanishAboveDegree, DerivativesAreCoefficients, DerivativesOnRows, ProductRule, ProductRuleOfValues, ProductsAreSumsOverWays};
 ghost use Rattle.ln_algebra.specs.StageLaw.{FirstIsStage, FirstNonzeroStageIsFirst, LastIsConstant, NonzeroHasFirst, SignAlongTheStages, UncoveredIsZero, WithoutParamsThereIsFirst, ZeroStagesHaveNoFirst};
+ghost use Rattle.ln_stage.specs.Sighted.{FirstSeenAreSighted};
 ghost use Rattle.ln_stage.specs.StageList.{ListIsUnique, ListsAreThoseOfTrees};
 
 /// The stage lists of a polynomial are those of each expression whose normal polynomial it is.
@@ -15,6 +16,13 @@ pub fn lists_are_those_of_trees()
 /// On it rests that the stage count, the stage weight and the numbers of blocks are those of the polynomial alone.
 pub fn list_is_unique()
     ensures { ListIsUnique }
+{}
+
+/// The vectors that are first seen are the members of the lists, each once, in the order in which one comes upon them.
+///
+/// On it rests that the blocks of a program are the distinct stages, numbered by first sight.
+pub fn first_seen_are_sighted()
+    ensures { FirstSeenAreSighted }
 {}
 
 /// The scaled derivative of a normal polynomial by a vector has at every point the perturbed coefficient of the vector, and on

@@ -17,8 +17,8 @@ pub(crate) mod tally;
 pub(crate) mod walk;
 
 pub use laws::{
-    cut_loses_nothing, derivatives_are_coefficients, list_is_unique, lists_are_those_of_trees,
-    product_rule, there_is_a_first,
+    cut_loses_nothing, derivatives_are_coefficients, first_seen_are_sighted, list_is_unique,
+    lists_are_those_of_trees, product_rule, there_is_a_first,
 };
 pub use lists::stages;
 pub use segments::{

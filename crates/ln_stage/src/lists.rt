@@ -1,10 +1,9 @@
-// The segments of all prefixes of orders of the sites, and the stage lists of the orders.
+//! The segments of all prefixes of orders of the sites.
 ghost use Rattle.std.specs.Prelude.{◌≡◌, ◌≢◌, ◌<◌, ◌≤◌, ◌+◌, ◌*◌, ◌^◌, ◌⊎◌, IfOk, IfErr, OnOk, length, map, replicate, []};
 ghost use Rattle.std.specs.List.{range_with_len};
 ghost use Rattle.ln_order.specs.Fronts.{front_places};
 ghost use Rattle.ln_order.specs.Orders.{orders_of};
-ghost use Rattle.ln_order.specs.Places.{order_places};
-ghost use Rattle.ln_order.specs.Prefixes.{IsPrefixOf, beside, prefixes_of, segments_from};
+ghost use Rattle.ln_order.specs.Prefixes.{IsPrefixOf, prefixes_of};
 ghost use Rattle.ln_poly.specs.Sparse.{AreBelow, AreRising};
 ghost use Rattle.ln_stage.specs.FirstSight.{shared_count};
 ghost use Rattle.ln_stage.specs.Kept.{numbers_by, tallied_by};
@@ -18,9 +17,7 @@ use crate::table::Stages;
 use crate::tally::Tally;
 use crate::walk::{walk, walk_site};
 use ln_base::{NoMemory, Seq};
-use ln_order::{
-    Front, Order, all_orders, all_prefixes, front_ranking, prefix_number, vars_of_site,
-};
+use ln_order::{Front, all_prefixes, front_ranking, vars_of_site};
 use ln_poly::Poly;
 use ln_tree::{Exps, Shape};
 use std::alloc::Global;
@@ -191,36 +188,8 @@ fn listed(
     Ok((segments, count))
 }
 
-// The list of an order: its segments, one after the other.
-fn list(alloc: Global, segments: &[Seq<u32>], o: &Order) -> Result<Seq<u32>, NoMemory>
-    requires { length segments.now ≡ length (prefixes_of (length (order_places o.now))) }
-    ensures { IfOk result (λ l. l ≡ segments_from (beside (prefixes_of (length (order_places o.now))) segments.now) (order_places o.now) 0) }
-{
-    let n = o.places().len() as u8;
-    let mut list = Vec::new(alloc);
-    'prefixes: for j in 0..n + 1 {
-        let segment = segments[prefix_number(o, j) as usize].as_slice();
-        list.extend_from_slice(segment)?;
-    }
-    Ok(Seq::from_vec(list))
-}
-
-// The lists of all orders.
-fn lists(alloc: Global, k: u8, segments: &[Seq<u32>]) -> Result<Seq<Seq<u32>>, NoMemory>
-    requires few { k ≤ 5 }
-    requires size { length segments.now ≡ length (prefixes_of k) }
-    ensures { IfOk result (λ ls. ls ≡ map (λ o. segments_from (beside (prefixes_of k) segments.now) o 0) (orders_of k)) }
-{
-    let orders = all_orders(alloc, k)?;
-    let mut lists = Seq::new(alloc);
-    'orders: for o in orders.as_slice() {
-        lists.push(list(alloc, segments, o)?)?;
-    }
-    Ok(lists)
-}
-
-/// The stages of a polynomial over a shape: for each order of the sites its stage list, with the blocks numbered in order
-/// of first sight.
+/// The stages of a polynomial over a shape: for each order of the sites its stage list, kept in segments, with the blocks
+/// numbered in order of first sight.
 ///
 /// The stage list of an order is all exponents over the variables of sites that some monomial covers, from the earliest
 /// on, up to the first that is a monomial which no other covers. `Zero` says that the polynomial has no term, `Stages`
@@ -248,7 +217,6 @@ pub fn stages(
     let mut tally = Tally::new(alloc, most, heavy);
     let found = listed(alloc, terms, s, prefixes.as_slice(), most, &mut tally)?;
     let (segments, count) = found;
-    let lists = lists(alloc, s.sites, segments.as_slice())?;
     let (_, blocks) = tally.into_blocks();
-    Ok(Stages::of(s.sites, blocks, segments, lists, count))
+    Ok(Stages::of(s.sites, blocks, segments, count))
 }

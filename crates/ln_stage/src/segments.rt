@@ -1,4 +1,4 @@
-// Laws of segments.
+//! Laws of segments.
 ghost use Rattle.ln_stage.specs.FirstSight.{FirstSightByPrefixes, SegmentsAreFewer};
 ghost use Rattle.ln_stage.specs.Segments.{ListHasItsSegments, SegmentIsOfThePrefix, SegmentIsUnique, SegmentsMakeTheList};
 ghost use Rattle.ln_stage.specs.SiteWalk.{ListsAreWalkedByPrefixes, WalkGoesSiteBySite, WalksAreSegments};

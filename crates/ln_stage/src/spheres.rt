@@ -1,4 +1,4 @@
-// The segments of the insphere predicate: five sites of three coordinates each.
+//! The segments of the insphere predicate: five sites of three coordinates each.
 ghost use Rattle.std.specs.Prelude.{◌≡◌, ◌<◌, ◌≤◌, ◌+◌, IfOk, OnOk, length, unsigned_abs};
 ghost use Rattle.ln_poly.specs.Sparse.{AreBelow};
 ghost use Rattle.ln_tree.specs.Exps.{IsAbove, IsRising};

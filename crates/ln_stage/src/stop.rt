@@ -1,4 +1,4 @@
-// Why a polynomial has no stages.
+//! Why a polynomial has no stages.
 use ln_base::NoMemory;
 use std::alloc::AllocFailed;
 

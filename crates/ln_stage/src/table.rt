@@ -1,10 +1,9 @@
-// The stages of a polynomial.
+//! The stages of a polynomial.
 ghost use Rattle.std.specs.Prelude.{◌≡◌, ◌<◌, ◌≤◌, slice_index_or, [], length, take};
 ghost use Rattle.indexmap.specs.IndexMap.{keys};
-ghost use Rattle.ln_order.specs.Orders.{orders_of};
 ghost use Rattle.ln_order.specs.Places.{order_places};
 ghost use Rattle.ln_order.specs.Prefixes.{prefixes_of};
-ghost use Rattle.ln_stage.specs.Staged.{IsListOf, count_numbers, segment_of};
+ghost use Rattle.ln_stage.specs.Staged.{count_numbers, lists_in, segment_of};
 
 use indexmap::IndexMap;
 use ln_base::Seq;
@@ -13,51 +12,46 @@ use ln_tree::Exps;
 use std::marker::Model;
 
 /// The stages of a polynomial: for each prefix of orders of the sites, in the order of `all_prefixes`, the blocks of its
-/// segment by number; for each order, in the order of `all_orders`, the list of its blocks, which is its segments one
-/// after the other; and the exponents of each block. Blocks are numbered in order of first sight through the lists.
+/// segment by number, and the exponents of each block. The list of an order is its segments one after the other. Blocks are
+/// numbered in order of first sight through the lists of all orders, in the order of `all_orders`.
 #[derive(Drop)]
 pub struct Stages {
     sites: u8,
     blocks: IndexMap<Exps, ()>,
     segments: Seq<Seq<u32>>,
-    lists: Seq<Seq<u32>>,
     count: u64,
 }
 
 impl Model for Stages {
     ghost use Rattle.std.specs.Prelude.{◌≡◌, ◌≤◌, length};
     ghost use Rattle.indexmap.specs.IndexMap.{keys};
-    ghost use Rattle.ln_order.specs.Orders.{orders_of};
     ghost use Rattle.ln_order.specs.Prefixes.{prefixes_of};
-    ghost use Rattle.ln_stage.specs.Staged.{Staged, count_numbers};
+    ghost use Rattle.ln_stage.specs.Staged.{Staged, count_numbers, lists_in};
 
     ghost Value = { Staged };
 
-    ghost view = { λ s. record { sites = s.sites; exps = keys s.blocks; segments = s.segments; lists = s.lists } };
+    ghost view = { λ s. record { sites = s.sites; exps = keys s.blocks; segments = s.segments; lists = lists_in s.sites s.segments } };
 
-    ghost invariant = { λ s. record { few : s.sites ≤ 5; each : length s.segments ≡ length (prefixes_of s.sites); all : length s.lists ≡ length (orders_of s.sites); counted : s.count ≡ count_numbers s.lists } };
+    ghost invariant = { λ s. record { few : s.sites ≤ 5; each : length s.segments ≡ length (prefixes_of s.sites); counted : s.count ≡ count_numbers (lists_in s.sites s.segments) } };
 }
 
 impl Stages {
-    // The stages with these segments and lists.
+    // The stages with these segments.
     pub(crate) fn of(
         sites: u8,
         blocks: IndexMap<Exps, ()>,
         segments: Seq<Seq<u32>>,
-        lists: Seq<Seq<u32>>,
         count: u64,
     ) -> Stages
         requires few { sites ≤ 5 }
         requires each { length segments ≡ length (prefixes_of sites) }
-        requires all { length lists ≡ length (orders_of sites) }
-        requires counted { count ≡ count_numbers lists }
-        ensures { result ≡ record { sites = sites; exps = keys blocks; segments = segments; lists = lists } }
+        requires counted { count ≡ count_numbers (lists_in sites segments) }
+        ensures { result ≡ record { sites = sites; exps = keys blocks; segments = segments; lists = lists_in sites segments } }
     {
         Stages {
             sites,
             blocks,
             segments,
-            lists,
             count,
         }
     }
@@ -98,14 +92,10 @@ impl Stages {
         self.segments.as_slice()[prefix_number(o, j) as usize].as_slice()
     }
 
-    /// The stage list of an order of the sites, as numbers of blocks.
-    pub fn list(&self, o: &Order) -> &[u32]
-        requires { length (order_places o.now) ≡ self.now.sites }
-        ensures { IsListOf self.now (order_places o.now) result.now }
+    /// The segments of all prefixes, in the order of `all_prefixes`. It takes no memory.
+    pub fn segments(&self) -> &[Seq<u32>]
+        ensures { result.now ≡ self.now.segments }
     {
-        match self.lists.get(o.number()) {
-            Some(list) => list.as_slice(),
-            None => unreachable!(),
-        }
+        self.segments.as_slice()
     }
 }

@@ -1,4 +1,4 @@
-// What is kept while stages are listed.
+//! What is kept while stages are listed.
 ghost use Rattle.std.specs.Prelude.{◌≡◌, ◌<◌, ◌≤◌, ◌+◌, ◌^◌, ◌==◌, IfOk, IfErr, OnOk, length, [], if◌then◌else◌};
 ghost use Rattle.indexmap.specs.IndexMap.{keys};
 ghost use Rattle.ln_stage.specs.Tally.{IsOver, IsStoppedBy, next_list, number_in, put_exps, see};

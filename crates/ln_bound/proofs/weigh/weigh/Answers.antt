@@ -1,11 +1,30 @@
+use Rattle.std.proofs.Common.{map, ap}
+use Rattle.std.proofs.lemmas.Result.{err_from_is_err_and}
 use Rattle.ln_tree.specs.Formula.{formula}
-use Rattle.ln_bound.specs.Light.{node_weights, weighed}
-use Rattle.ln_bound.proofs.RootWeight.{some_behind, some_weighed}
+use Rattle.ln_bound.specs.Loads.{measure_of, measured, node_measures}
+use Rattle.ln_bound.specs.Measures.{range_in, seen, size_in}
+use Rattle.ln_bound.proofs.Measuring.{ordered, pred_stops, some_behind, some_measured}
 use Rattle.ln_bound.proofs.weigh.weigh.Goals as goal
+
+pub weigh_lets-requires-clause-ordered : goal.weigh_lets-requires-clause-ordered
+weigh_lets-requires-clause-ordered c = ordered c.args.p.now.shape.sites c.args.p.now.shape.vars c.as_slice-vars.result.now c.args.p.now.shape.kept c.as_slice-vars.ensures
+
+pub weigh_in-requires : goal.weigh_in-requires
+weigh_in-requires c = ordered c.args.p.now.shape.sites c.args.p.now.shape.vars c.as_slice-vars.result.now c.args.p.now.shape.kept c.as_slice-vars.ensures
+
+pub returns-in_err-weigh_in-clause-err : goal.returns-in_err-weigh_in-clause-err
+returns-in_err-weigh_in-clause-err c =
+    let v = c.as_slice-vars.result.now in
+    let s = c.as_slice-2.result.now in
+    let p = err_from_is_err_and c.from_residual-in_err-weigh_in.result c.from_residual-in_err-weigh_in.ensures.1 in
+    let ranges = rw (← c.as_slice-2.ensures) at c.in_ok-lets.ensures.ranges in
+    let sizes = rw (← c.as_slice-2.ensures) at c.in_ok-lets.ensures.sizes in
+    rw (p.1, p.2) (pred_stops c.args.p.now.shape.vars v (map formula c.args.p.now.lets) (map formula c.as_slice.result.now) (formula c.args.p.now.root) (map range_in s) (map size_in s) _ c.as_slice-vars.ensures (ap (map formula) c.as_slice.ensures) ranges sizes c.in_ok-lets.ensures.light c.in_err-weigh_in.ensures.err)
 
 pub returns-clause-some : goal.returns-clause-some
 returns-clause-some c =
     let vars = c.as_slice-vars.result.now in
     let lets = c.as_slice-2.result.now in
     let root = formula c.args.p.now.root in
-    rw c.in_ok-weigh_in.ensures.nodes (some_behind c.weigh_lets.new.all (node_weights (weighed vars lets root)) (some_weighed vars lets root))
+    let by = measure_of vars (map range_in lets) (map size_in lets) in
+    rw c.in_ok-weigh_in.ensures.nodes (some_behind (map seen c.weigh_lets.new.all) (node_measures (measured vars (map range_in lets) (map size_in lets) root)) (some_measured by root))

@@ -1,11 +1,15 @@
-use Rattle.std.proofs.Common.{length, arith}
+use Rattle.std.proofs.Common.{length, arith, refl}
 use Rattle.ln_tree.proofs.KeptLemmas.{few_vars}
+use Rattle.ln_bound.proofs.Measuring.{ordered}
 use Rattle.ln_bound.specs.View.{typed}
 use Rattle.ln_nest.proofs.Whole.{whole_weight, whole_has, whole_same, whole_sound, whole_lean, whole_cheap}
 use Rattle.ln_nest.proofs.horner.nest.Goals as goal
 
 pub nest_from-requires-clause-few : goal.nest_from-requires-clause-few
 nest_from-requires-clause-few c = rw c.as_slice-vars.ensures (few_vars c.args.s.now.sites c.args.s.now.vars c.args.s.now.kept)
+
+pub nest_from-requires-clause-ordered : goal.nest_from-requires-clause-ordered
+nest_from-requires-clause-ordered c = ordered c.args.s.now.sites c.args.s.now.vars c.as_slice-vars.result.now c.args.s.now.kept c.as_slice-vars.ensures
 
 pub nest_from-requires-clause-weight : goal.nest_from-requires-clause-weight
 nest_from-requires-clause-weight c = whole_weight c.as_slice-vars.result.now c.args.s.now.vars c.terms.result.now c.args.f.now c.in_ok-terms.terms.items c.as_slice-vars.ensures c.terms.ensures.value c.in_ok-terms.ensures c.requires.small
@@ -18,7 +22,7 @@ returns-clause-same c =
 pub returns-clause-sound : goal.returns-clause-sound
 returns-clause-sound c =
     let h = whole_has c.as_slice-vars.result.now c.args.s.now.vars c.terms.result.now c.args.f.now c.in_ok-terms.terms.items (typed c.in_ok-t.t) c.as_slice-vars.ensures c.terms.ensures.value c.in_ok-terms.ensures c.in_ok-t.ensures in
-    whole_sound c.args.s.now.vars c.args.f.now (typed c.in_ok-t.t) _ (few_vars c.args.s.now.sites c.args.s.now.vars c.args.s.now.kept) c.requires.degrees h
+    (whole_sound c.args.s.now.vars c.args.f.now (typed c.in_ok-t.t) _ (few_vars c.args.s.now.sites c.args.s.now.vars c.args.s.now.kept) (ordered c.args.s.now.sites c.args.s.now.vars c.args.s.now.vars c.args.s.now.kept refl) c.terms.ensures.form c.requires.degrees c.requires.small h).0
 
 pub returns-clause-exact : goal.returns-clause-exact
 returns-clause-exact c =
@@ -28,7 +32,7 @@ returns-clause-exact c =
 pub returns-clause-within : goal.returns-clause-within
 returns-clause-within c =
     let h = whole_has c.as_slice-vars.result.now c.args.s.now.vars c.terms.result.now c.args.f.now c.in_ok-terms.terms.items (typed c.in_ok-t.t) c.as_slice-vars.ensures c.terms.ensures.value c.in_ok-terms.ensures c.in_ok-t.ensures in
-    h.small
+    (whole_sound c.args.s.now.vars c.args.f.now (typed c.in_ok-t.t) _ (few_vars c.args.s.now.sites c.args.s.now.vars c.args.s.now.kept) (ordered c.args.s.now.sites c.args.s.now.vars c.args.s.now.vars c.args.s.now.kept refl) c.terms.ensures.form c.requires.degrees c.requires.small h).1
 
 pub returns-clause-lean : goal.returns-clause-lean
 returns-clause-lean c =

@@ -1,5 +1,5 @@
 use Rattle.std.proofs.Common.{arith, sym, get_or}
-use Rattle.ln_poly.proofs.Lowering.{exponent-more, found, power-apart}
+use Rattle.ln_tree.proofs.Powers.{exponent-more, found, power-apart}
 use Rattle.ln_nest.proofs.work.exponent_in.Goals as goal
 
 pub returns-then-p-v : goal.returns-then-p-v

@@ -1,11 +1,12 @@
-use Rattle.std.proofs.Common.{◌≡◌, ◌∙◌, [], ap, length, sym}
+use Rattle.std.proofs.Common.{◌≡◌, ◌∙◌, [], ap, length, refl, sym}
 use Rattle.std.proofs.lemmas.Result.{err_from_is_err_and}
 use Rattle.ln_order.proofs.SitesLemmas.{kept}
 use Rattle.ln_order.specs.Prefixes.{prefixes_of}
 use Rattle.ln_poly.specs.Sparse.{AreBelow, IsPoly}
 use Rattle.ln_stage.specs.Kept.{numbers_by, tallied_by}
+use Rattle.ln_stage.specs.Staged.{lists_in}
 use Rattle.ln_stage.specs.Visit.{segment_at}
-use Rattle.ln_stage.proofs.ResultLemmas.{counted-is, final-count, final-is, final-weight, lists_of, result-stages, segments-size, some-terms, stops, weighed-is}
+use Rattle.ln_stage.proofs.ResultLemmas.{counted-is, final-count, final-is, final-weight, result-stages, segments-size, some-terms, stops, weighed-is}
 use Rattle.ln_stage.proofs.lists.stages.Goals as goal
 
 pub returns-in_err-found-clause-err : goal.returns-in_err-found-clause-err
@@ -17,18 +18,6 @@ returns-in_err-found-clause-err c =
     let some : c.terms-terms.result.now ≡ [] → ⊥ = λ z. some-terms c.is_zero.result c.args.f.now c.if-is_zero.false c.is_zero.ensures (sym f ∙ z) in
     let p = err_from_is_err_and c.from_residual-in_err-found.result c.from_residual-in_err-found.ensures.1 in
     rw (p.1, p.2, ← f) (stops s.sites s.vars c.terms-terms.result.now (kept s.sites s.vars s.kept).few_sites s.kept poly below c.args.most c.args.heavy c.in_err-found.field-0.0 some (rw c.new-tally.ensures at c.in_err-found.ensures.err))
-
-pub lists-requires-clause-few : goal.lists-requires-clause-few
-lists-requires-clause-few c = let s = c.args.s.now in (kept s.sites s.vars s.kept).few_sites
-
-pub lists-requires-clause-size : goal.lists-requires-clause-size
-lists-requires-clause-size c =
-    let s = c.args.s.now in
-    let f = c.terms-terms.ensures.value in
-    let poly : IsPoly c.terms-terms.result.now = rw f c.terms-terms.ensures.form in
-    let below : AreBelow (length s.vars) c.terms-terms.result.now = rw f c.requires.below in
-    let segs = c.in_ok-found.ensures.segments ∙ ap (λ t. numbers_by (segment_at s.vars c.terms-terms.result.now) (length s.vars) c.terms-terms.result.now t (prefixes_of s.sites)) c.new-tally.ensures in
-    ap length (c.as_slice-2.ensures ∙ segs) ∙ segments-size s.sites s.vars c.terms-terms.result.now (kept s.sites s.vars s.kept).few_sites s.kept poly below c.args.most c.args.heavy
 
 pub of-requires-clause-few : goal.of-requires-clause-few
 of-requires-clause-few c = let s = c.args.s.now in (kept s.sites s.vars s.kept).few_sites
@@ -49,8 +38,7 @@ of-requires-clause-counted c =
     let poly : IsPoly c.terms-terms.result.now = rw f c.terms-terms.ensures.form in
     let below : AreBelow (length s.vars) c.terms-terms.result.now = rw f c.requires.below in
     let segs = c.in_ok-found.ensures.segments ∙ ap (λ t. numbers_by (segment_at s.vars c.terms-terms.result.now) (length s.vars) c.terms-terms.result.now t (prefixes_of s.sites)) c.new-tally.ensures in
-    let lists = c.in_ok-lists.ensures ∙ ap (lists_of s.sites s.vars c.terms-terms.result.now (kept s.sites s.vars s.kept).few_sites s.kept poly below c.args.most c.args.heavy) c.as_slice-2.ensures in
-    counted-is s.sites s.vars c.terms-terms.result.now (kept s.sites s.vars s.kept).few_sites s.kept poly below c.args.most c.args.heavy c.in_ok-found.found.1 c.in_ok-found.found.0 c.in_ok-lists.lists segs lists c.in_ok-found.ensures.count
+    counted-is s.sites s.vars c.terms-terms.result.now (kept s.sites s.vars s.kept).few_sites s.kept poly below c.args.most c.args.heavy c.in_ok-found.found.1 c.in_ok-found.found.0 (lists_in s.sites c.in_ok-found.found.0) segs refl c.in_ok-found.ensures.count
 
 pub returns-clause-stages : goal.returns-clause-stages
 returns-clause-stages c =
@@ -60,8 +48,7 @@ returns-clause-stages c =
     let below : AreBelow (length s.vars) c.terms-terms.result.now = rw f c.requires.below in
     let segs = c.in_ok-found.ensures.segments ∙ ap (λ t. numbers_by (segment_at s.vars c.terms-terms.result.now) (length s.vars) c.terms-terms.result.now t (prefixes_of s.sites)) c.new-tally.ensures in
     let tally = c.in_ok-found.ensures.rest ∙ ap (λ t. tallied_by (segment_at s.vars c.terms-terms.result.now) (length s.vars) c.terms-terms.result.now t (prefixes_of s.sites)) c.new-tally.ensures in
-    let lists = c.in_ok-lists.ensures ∙ ap (lists_of s.sites s.vars c.terms-terms.result.now (kept s.sites s.vars s.kept).few_sites s.kept poly below c.args.most c.args.heavy) c.as_slice-2.ensures in
-    let q = final-is s.sites s.vars c.terms-terms.result.now (kept s.sites s.vars s.kept).few_sites s.kept poly below c.args.most c.args.heavy c.of.result _ c.in_ok-found.found.0 c.in_ok-lists.lists c.listed.new.tally c.of.ensures c.into_blocks-blocks.ensures.blocks tally segs lists in
+    let q = final-is s.sites s.vars c.terms-terms.result.now (kept s.sites s.vars s.kept).few_sites s.kept poly below c.args.most c.args.heavy c.of.result _ c.in_ok-found.found.0 (lists_in s.sites c.in_ok-found.found.0) c.listed.new.tally c.of.ensures c.into_blocks-blocks.ensures.blocks tally segs refl in
     rw (← f, q) (result-stages s.sites s.vars c.terms-terms.result.now (kept s.sites s.vars s.kept).few_sites s.kept poly below c.args.most c.args.heavy)
 
 pub returns-clause-count : goal.returns-clause-count
@@ -72,8 +59,7 @@ returns-clause-count c =
     let below : AreBelow (length s.vars) c.terms-terms.result.now = rw f c.requires.below in
     let segs = c.in_ok-found.ensures.segments ∙ ap (λ t. numbers_by (segment_at s.vars c.terms-terms.result.now) (length s.vars) c.terms-terms.result.now t (prefixes_of s.sites)) c.new-tally.ensures in
     let tally = c.in_ok-found.ensures.rest ∙ ap (λ t. tallied_by (segment_at s.vars c.terms-terms.result.now) (length s.vars) c.terms-terms.result.now t (prefixes_of s.sites)) c.new-tally.ensures in
-    let lists = c.in_ok-lists.ensures ∙ ap (lists_of s.sites s.vars c.terms-terms.result.now (kept s.sites s.vars s.kept).few_sites s.kept poly below c.args.most c.args.heavy) c.as_slice-2.ensures in
-    let q = final-is s.sites s.vars c.terms-terms.result.now (kept s.sites s.vars s.kept).few_sites s.kept poly below c.args.most c.args.heavy c.of.result _ c.in_ok-found.found.0 c.in_ok-lists.lists c.listed.new.tally c.of.ensures c.into_blocks-blocks.ensures.blocks tally segs lists in
+    let q = final-is s.sites s.vars c.terms-terms.result.now (kept s.sites s.vars s.kept).few_sites s.kept poly below c.args.most c.args.heavy c.of.result _ c.in_ok-found.found.0 (lists_in s.sites c.in_ok-found.found.0) c.listed.new.tally c.of.ensures c.into_blocks-blocks.ensures.blocks tally segs refl in
     rw q (final-count s.sites s.vars c.terms-terms.result.now (kept s.sites s.vars s.kept).few_sites s.kept poly below c.args.most c.args.heavy c.in_ok-found.found.1 c.in_ok-found.ensures.count c.in_ok-found.ensures.within)
 
 pub returns-clause-weight : goal.returns-clause-weight
@@ -84,6 +70,5 @@ returns-clause-weight c =
     let below : AreBelow (length s.vars) c.terms-terms.result.now = rw f c.requires.below in
     let segs = c.in_ok-found.ensures.segments ∙ ap (λ t. numbers_by (segment_at s.vars c.terms-terms.result.now) (length s.vars) c.terms-terms.result.now t (prefixes_of s.sites)) c.new-tally.ensures in
     let tally = c.in_ok-found.ensures.rest ∙ ap (λ t. tallied_by (segment_at s.vars c.terms-terms.result.now) (length s.vars) c.terms-terms.result.now t (prefixes_of s.sites)) c.new-tally.ensures in
-    let lists = c.in_ok-lists.ensures ∙ ap (lists_of s.sites s.vars c.terms-terms.result.now (kept s.sites s.vars s.kept).few_sites s.kept poly below c.args.most c.args.heavy) c.as_slice-2.ensures in
-    let q = final-is s.sites s.vars c.terms-terms.result.now (kept s.sites s.vars s.kept).few_sites s.kept poly below c.args.most c.args.heavy c.of.result _ c.in_ok-found.found.0 c.in_ok-lists.lists c.listed.new.tally c.of.ensures c.into_blocks-blocks.ensures.blocks tally segs lists in
+    let q = final-is s.sites s.vars c.terms-terms.result.now (kept s.sites s.vars s.kept).few_sites s.kept poly below c.args.most c.args.heavy c.of.result _ c.in_ok-found.found.0 (lists_in s.sites c.in_ok-found.found.0) c.listed.new.tally c.of.ensures c.into_blocks-blocks.ensures.blocks tally segs refl in
     rw (← f, q) (final-weight s.sites s.vars c.terms-terms.result.now (kept s.sites s.vars s.kept).few_sites s.kept poly below c.args.most c.args.heavy (weighed-is s.sites s.vars c.terms-terms.result.now (kept s.sites s.vars s.kept).few_sites s.kept poly below c.args.most c.args.heavy c.listed.new.tally tally c.into_blocks-blocks.ensures.within.1))

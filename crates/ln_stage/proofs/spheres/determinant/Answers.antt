@@ -1,4 +1,4 @@
-use Rattle.std.proofs.Common.{◌≡◌, ℤ, [], ◌∷◌, FitsSigned, arith, length-append, rules}
+use Rattle.std.proofs.Common.{ℤ, [], ◌∷◌, FitsSigned, arith, length-append, rules}
 use Rattle.std.specs.Int.{w128}
 use Rattle.std.proofs.lemmas.Int.{to_z-of_z}
 use Rattle.std.proofs.lemmas.List.Elements.{All-append, All-cons, All-nil}

@@ -1,7 +1,0 @@
--- What `size_of_power` keeps, or what it measures.
-use Rattle.std.proofs.Common.{◌≡◌, ◌≤◌, ◌^◌}
-use Rattle.ln_interval.specs.Range.{most}
-use Rattle.ln_bound.proofs.ranged_weigh.size_of_power.Given as goal
-
-abbrev pub invariant-factors : goal.invariant-factors
-invariant-factors l = (l.p ≡ l.a ^ l._k) × (l.p ≤ most)
