@@ -145,11 +145,11 @@ exact_minus zs w a m r y f q =
 size_stands : (zs : List ℤ) (v : ℕ) (i : VarInfo) (s : InSize zs v i) → Stands (at_triple 0 (size_of i) 0) s.number (value (values zs) [] (tree.Input v))
 size_stands zs v i s = rw (← s.same) (exact_stands (size_of i) s.number s.small)
 
-exact_input : (vars : List VarInfo) (zs : List ℤ) → AreWithin vars zs → (v : ℕ) (a : Triple) (r : FilterKnown) → next (slice_get vars v) (λ i. filter_known 0 (size_of i) 0 (size_of i) (tree.Input v) a) ≡ Some r → Reaches (HoldsHeld zs) r (next (slice_get zs v) (λ z. held a z))
+exact_input : (vars : List VarInfo) (zs : List ℤ) → AreWithin vars zs → (v : ℕ) (a : Triple) (r : FilterKnown) → next (slice_get vars v) (λ i. filter_known 0 (size_of i) 0 1 (tree.Input v) a) ≡ Some r → Reaches (HoldsHeld zs) r (next (slice_get zs v) (λ z. held a z))
 exact_input vars zs h v a r q =
-    let w = next_some (slice_get vars v) (λ (i : VarInfo). filter_known 0 (size_of i) 0 (size_of i) (tree.Input v) a) r q in
+    let w = next_some (slice_get vars v) (λ (i : VarInfo). filter_known 0 (size_of i) 0 1 (tree.Input v) a) r q in
     let s = in_size vars zs h v w.0 w.1 in
-    rw s.there (inside zs 0 (size_of w.0) 0 (size_of w.0) (tree.Input v) a r s.number (size_stands zs v w.0 s) w.2)
+    rw s.there (inside zs 0 (size_of w.0) 0 1 (tree.Input v) a r s.number (size_stands zs v w.0 s) w.2)
 
 -- ---- the machine over whole numbers
 

@@ -6,6 +6,7 @@ pub mod Ends
 pub mod Depths
 pub mod Known
 pub mod Near
+pub mod NodeLists
 pub mod FilterKnown
 pub mod Runs
 pub mod ErrorLaws
@@ -14,10 +15,9 @@ pub mod Sums
 pub mod Stages
 pub mod Differ
 pub mod Means
-pub mod RangedKnown
-pub mod FromBounds
 pub mod Together
 pub mod WorkedLaws
+pub mod Prefixed
 pub mod Behind
 pub mod Same
 pub mod Filtering

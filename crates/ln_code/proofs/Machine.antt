@@ -1,32 +1,29 @@
 -- The machine of a part has exactly one verdict on every row in range.
-use Rattle.std.proofs.Common.{◌≡◌, ◌⊎◌, inl, inr, ℕ, ◌+◌, ◌<◌, ◌≤◌, zero, suc, List, [], ◌∷◌, length, map, get_or, refl, sym, ◌∙◌, ap, arith, subst, unsigned_abs}
-use Rattle.std.specs.Prelude.{All, IfSome, Option, Some, None, slice_get}
-use Rattle.std.specs.Cmp.Lexicographic.{slice_cmp}
-use Rattle.std.specs.Ordering.{nat_cmp, ordering_reverse}
-use Rattle.std.specs.declared.cmp.Ordering.TheVariants.{Greater, Less}
+use Rattle.std.proofs.Common.{◌≡◌, ◌⊎◌, inl, inr, ℕ, ◌+◌, ◌-◌, ◌<◌, ◌≤◌, zero, suc, Bool, true, false, List, [], ◌∷◌, length, map, take, get_or, refl, sym, ◌∙◌, ap, arith, subst, unsigned_abs}
+use Rattle.std.specs.Prelude.{All, IfSome, Option, Some, None, slice_get, if◌then◌else◌}
+use Rattle.std.specs.List.{range_with_len}
 use Rattle.std.proofs.Math.IntN.{ℤ, pos, negsuc}
-use Rattle.std.proofs.lemmas.Bool.{cases_lt, cases_order}
-use Rattle.std.proofs.lemmas.Cmp.{nat_list_cmp_total}
+use Rattle.std.proofs.lemmas.Bool.{cases_lt}
 use Rattle.std.proofs.lemmas.List.{get_or-map, length-map}
-use Rattle.std.proofs.lemmas.List.Elements.{All-head, All-tail}
-use Rattle.std.proofs.lemmas.Map.Keys.{Less-from_sorted}
-use Rattle.std.proofs.lemmas.Option.{get_or_from_slice_get, slice_get-get_or, slice_get_within}
+use Rattle.std.proofs.lemmas.List.Elements.{All-append, All-head, All-nil, All-tail, Contains-get_or}
+use Rattle.std.proofs.lemmas.Option.{slice_get-get_or}
+use Rattle.ln_algebra.specs.Vector.{same_vector}
 use Rattle.ln_tree.specs.Row.{AreWithin}
-use Rattle.ln_order.specs.Orders.{orders_of}
+use Rattle.ln_order.specs.Orders.{IsOrderOf, orders_of}
+use Rattle.ln_order.specs.Prefixes.{beside, joined, prefixes_of}
 use Rattle.ln_order.specs.Rows.{OrderStages}
 use Rattle.ln_order.proofs.OrderExists.{order-exists}
 use Rattle.ln_order.proofs.OrderUnique.{order-unique}
-use Rattle.ln_order.proofs.OrdersLemmas.{is-member, orders-are-all}
+use Rattle.ln_order.proofs.OrdersLemmas.{member-is}
 use Rattle.ln_order.proofs.RowsLemmas.{order-places}
 use Rattle.ln_code.specs.declared.verdict.Verdict.{Verdict}
-use Rattle.ln_code.specs.Carried.{Carries, Runs, vectors}
+use Rattle.ln_code.specs.Carried.{Runs, vectors}
 use Rattle.ln_code.specs.Kept.{FollowsFilterRules}
 use Rattle.ln_code.specs.Law.{BlockMeans, FilterMeans}
-use Rattle.ln_code.specs.Lists.{IsListOf}
+use Rattle.ln_code.specs.Lists.{IsListOf, list_of, lists_of, segment_of}
 use Rattle.ln_code.specs.MachineLaw.{ListsAreStageLists, ProgramsRun, RowsHaveVerdicts, VerdictIsUnique}
 use Rattle.ln_code.specs.Part.{Code, FilterCode, Part, wide_in}
-use Rattle.ln_code.specs.Verdict.{IsVerdict, along, settled, through}
-use Rattle.ln_code.proofs.Differ.{few_sites}
+use Rattle.ln_code.specs.Verdict.{along, settled, through}
 use Rattle.ln_code.proofs.Filtering.{decides-above, decides-within, through-decides}
 use Rattle.ln_code.proofs.Means.{blocks_mean, filters_mean}
 
@@ -42,18 +39,31 @@ settled-answers (negsuc n) place wide calls rest a = (_, refl)
 
 -- what stands past the last block
 pub no_code : Code
-no_code = record { exps = []; ops = []; bounds = []; depth = 0 }
+no_code = record { exps = []; ops = []; pairs = []; depth = 0 }
 
 -- what the rules say of the filter of a part
 pub filter-follows : (p : Part) (c : FilterCode) → Runs p → p.filter ≡ Some c → FollowsFilterRules p.shape.vars c
 filter-follows p c program here = subst (λ (o : Option FilterCode). IfSome o (FollowsFilterRules p.shape.vars)) here program.filter
 
+-- ---- what holds of the numbers of all segments holds of those of a list
+module _ (P : ℕ → Type 0) where
+  beside-all : (qs ss : List (List ℕ)) (q : List ℕ) → All (λ s. All P s) ss → All P (beside qs ss q)
+  beside-all [] ss q h = All-nil P
+  beside-all (x ∷ qs) [] q h = All-nil P
+  beside-all (x ∷ qs) (s ∷ ss) q h = by_case (same_vector x q) (beside-all qs ss q (All-tail (λ t. All P t) s ss h)) where
+    by_case : (b : Bool) → All P (beside qs ss q) → All P (if b then s else beside qs ss q)
+    by_case true r = All-head (λ t. All P t) s ss h
+    by_case false r = r
+
+  joined-all : (f : ℕ → List ℕ) (ns : List ℕ) → ((n : ℕ) → All P (f n)) → All P (joined (map f ns))
+  joined-all f [] h = All-nil P
+  joined-all f (n ∷ ns) h = All-append P (f n) (joined (map f ns)) (h n) (joined-all f ns h)
+
 -- the numbers of a list of the part are those of blocks
 pub list-within : (p : Part) (places list : List ℕ) → Runs p → IsListOf p places list → All (λ k. k < length p.blocks) list
 list-within p places list h l =
-    let b : l.number < length p.lists = slice_get_within p.lists l.number list l.list_there in
-    let here : get_or p.lists l.number [] ≡ list = get_or_from_slice_get p.lists l.number list [] l.list_there in
-    subst (λ (q : List ℕ). All (λ k. k < length p.blocks) q) here (h.lists l.number [] b)
+    let named : (j : ℕ) → All (λ k. k < length p.blocks) (segment_of p (take j places)) = λ j. beside-all (λ k. k < length p.blocks) (prefixes_of p.shape.sites) p.segments (take j places) h.named in
+    subst (λ (q : List ℕ). All (λ k. k < length p.blocks) q) (sym l.list_is) (joined-all (λ k. k < length p.blocks) (λ j. segment_of p (take j places)) (range_with_len 0 (suc (length places) - 0)) named)
 
 module _ (p : Part) (zs : List ℤ) (program : Runs p) (row : AreWithin p.shape.vars zs) where
   -- a list of blocks has an answer
@@ -83,43 +93,15 @@ module _ (p : Part) (zs : List ℤ) (program : Runs p) (row : AreWithin p.shape.
 pub rows-have : RowsHaveVerdicts
 rows-have p row program r =
     let o = order-exists row.index r.differ in
-    let i = is-member (length row.index) o.0 (order-places row.index o.0 o.1) in
-    let at : (length row.index) ≡ p.shape.sites = r.size in
-    let k : i.0 < length (orders_of p.shape.sites) = subst (λ (n : ℕ). i.0 < length (orders_of n)) at i.1 in
-    let here : get_or (orders_of p.shape.sites) i.0 o.0 ≡ o.0 = subst (λ (n : ℕ). get_or (orders_of n) i.0 o.0 ≡ o.0) at i.2 in
-    let there : slice_get (orders_of p.shape.sites) i.0 ≡ Some o.0 = slice_get-get_or (orders_of p.shape.sites) i.0 o.0 k ∙ ap (λ (t : List ℕ). Some t) here in
-    let list : List ℕ = get_or p.lists i.0 [] in
-    let l : IsListOf p o.0 list = record { number = i.0; order = there; list_there = slice_get-get_or p.lists i.0 [] (omega (arith, k, program.orders)) } in
-    let a = through-answers p row.values program r.values list (list-within p o.0 list program l) p.filter refl in
-    (a.0, record { places = o.0; order = o.1; list = list; chosen = l; answered = a.1 })
+    let at : IsOrderOf p.shape.sites o.0 = subst (λ (n : ℕ). IsOrderOf n o.0) r.size (order-places row.index o.0 o.1) in
+    let l : IsListOf p o.0 (list_of p o.0) = record { order = at; list_is = refl } in
+    let a = through-answers p row.values program r.values (list_of p o.0) (list-within p o.0 (list_of p o.0) program l) p.filter refl in
+    (a.0, record { places = o.0; order = o.1; list = list_of p o.0; chosen = l; answered = a.1 })
 
 -- ---- one verdict
--- two orders at different places of the list of all orders differ
-apart : (k i j : ℕ) → k ≤ 5 → i < j → j < length (orders_of k) → get_or (orders_of k) i [] ≡ get_or (orders_of k) j [] → ⊥
-apart k i j few l h e =
-    let q : slice_cmp nat_cmp (get_or (orders_of k) i []) (get_or (orders_of k) j []) ≡ Less = Less-from_sorted (slice_cmp nat_cmp) (orders_of k) i j [] (orders-are-all k few).1 l h in
-    let r : slice_cmp nat_cmp (get_or (orders_of k) j []) (get_or (orders_of k) j []) ≡ Less = subst (λ (o : List ℕ). slice_cmp nat_cmp o (get_or (orders_of k) j []) ≡ Less) e q in
-    absurd (not-less (get_or (orders_of k) j []) r) where
-      not-less : (o : List ℕ) → slice_cmp nat_cmp o o ≡ Less → ⊥
-      not-less o r = let z : Less ≡ Greater = sym r ∙ nat_list_cmp_total.antisymm o o ∙ ap ordering_reverse r in cc
-
--- an order stands at one place
-place-one : (k i j : ℕ) (o : List ℕ) → k ≤ 5 → slice_get (orders_of k) i ≡ Some o → slice_get (orders_of k) j ≡ Some o → i ≡ j
-place-one k i j o few a b = by_case (cases_order i j) where
-  same : get_or (orders_of k) i [] ≡ get_or (orders_of k) j []
-  same = get_or_from_slice_get (orders_of k) i o [] a ∙ sym (get_or_from_slice_get (orders_of k) j o [] b)
-
-  by_case : (i ≡ j) ⊎ ((i < j) ⊎ (j < i)) → i ≡ j
-  by_case (inl q) = q
-  by_case (inr (inl l)) = absurd (apart k i j few l (slice_get_within (orders_of k) j o b) same)
-  by_case (inr (inr l)) = absurd (apart k j i few l (slice_get_within (orders_of k) i o a) (sym same))
-
--- so an order has one list
+-- an order has one list
 list-one : (p : Part) (places xs ys : List ℕ) → IsListOf p places xs → IsListOf p places ys → xs ≡ ys
-list-one p places xs ys a b =
-    let i : a.number ≡ b.number = place-one p.shape.sites a.number b.number places (few_sites p.shape.sites p.shape.vars p.shape.kept) a.order b.order in
-    let q : Some xs ≡ Some ys = sym a.list_there ∙ ap (slice_get p.lists) i ∙ b.list_there in
-    cc
+list-one p places xs ys a b = a.list_is ∙ sym b.list_is
 
 -- and a row one verdict
 pub verdict-unique : VerdictIsUnique
@@ -132,15 +114,17 @@ verdict-unique p row v w a b =
 -- ---- programs and parts
 -- a program has what the machine needs
 pub programs-run : ProgramsRun
-programs-run p h = record { blocks = h.blocks; filter = h.filter; orders = h.orders; lists = λ j d l. (h.lists j d l).within }
+programs-run p h = record { blocks = h.blocks; filter = h.filter; prefixes = h.prefixes; named = h.named }
 
 -- the lists of a part that carries an expression are its stage lists
 pub lists-stages : ListsAreStageLists
-lists-stages rank p e f h c = record { size = length-map p.lists (vectors p) ∙ h.orders; each = each } where
-  each : (j : ℕ) → j < length (map (vectors p) p.lists) → OrderStages rank p.shape.vars e (get_or (orders_of p.shape.sites) j []) (get_or (map (vectors p) p.lists) j [])
+lists-stages rank p e f h c = record { size = length-map (lists_of p) (vectors p) ∙ length-map (orders_of p.shape.sites) (list_of p); each = each } where
+  each : (j : ℕ) → j < length (map (vectors p) (lists_of p)) → OrderStages rank p.shape.vars e (get_or (orders_of p.shape.sites) j []) (get_or (map (vectors p) (lists_of p)) j [])
   each j l =
-      let k : j < length p.lists = omega (arith, l, length-map p.lists (vectors p)) in
-      let o : j < length (orders_of p.shape.sites) = omega (arith, k, h.orders) in
-      let at : get_or (map (vectors p) p.lists) j [] ≡ vectors p (get_or p.lists j []) = get_or-map (vectors p) p.lists j [] [] k in
+      let k : j < length (lists_of p) = omega (arith, l, length-map (lists_of p) (vectors p)) in
+      let m : j < length (orders_of p.shape.sites) = omega (arith, k, length-map (orders_of p.shape.sites) (list_of p)) in
+      let at : get_or (map (vectors p) (lists_of p)) j [] ≡ vectors p (list_of p (get_or (orders_of p.shape.sites) j [])) =
+      get_or-map (vectors p) (lists_of p) j [] [] k ∙ ap (vectors p) (get_or-map (list_of p) (orders_of p.shape.sites) j [] [] m) in
+      let q : IsOrderOf p.shape.sites (get_or (orders_of p.shape.sites) j []) = member-is p.shape.sites (get_or (orders_of p.shape.sites) j []) (Contains-get_or (orders_of p.shape.sites) j [] m) in
       subst (λ (z : List (List ℕ)). OrderStages rank p.shape.vars e (get_or (orders_of p.shape.sites) j []) z) (sym at)
-      (c.lists (get_or (orders_of p.shape.sites) j []) (get_or p.lists j []) (record { number = j; order = slice_get-get_or (orders_of p.shape.sites) j [] o; list_there = slice_get-get_or p.lists j [] k }))
+      (c.lists (get_or (orders_of p.shape.sites) j []) (list_of p (get_or (orders_of p.shape.sites) j [])) (record { order = q; list_is = refl }))

@@ -9,7 +9,7 @@ use Rattle.std.specs.Prelude.{pos}
 pub blocks_mean : BlocksMean
 blocks_mean vars zs c h r =
     let b = block_runs vars zs c c.depth (λ k. pos 0) r h (omega arith) in
-    record { what = b.what; known = b.known; answer = b.exactly; within = b.fits.small; fits = b.fits.narrow }
+    record { what = b.what; known = b.known; answer = b.exactly; within = b.fits.held; fits = b.fits.narrow }
 
 pub filters_mean : FiltersMean
 filters_mean vars zs f h r =

@@ -1,6 +1,7 @@
 -- What follows of one engine's answer for another's, and what the lines of code are.
 use Rattle.std.proofs.Common.{◌≡◌, ℕ, ℤ, ◌≤◌, List, [], ◌∷◌, length, refl, ap, arith}
 use Rattle.std.specs.Prelude.{Option, Some, None, IsSome}
+use Rattle.ln_interval.specs.Range.{Range}
 use Rattle.ln_tree.specs.declared.shape.VarInfo.{VarInfo}
 use Rattle.ln_tree.specs.Row.{AreWithin}
 use Rattle.ln_bound.specs.Value.{value, values}
@@ -44,12 +45,12 @@ same_lines [] = refl
 same_lines (x ∷ xs) = ap (λ t. x ∷ t) (same_lines xs)
 
 -- the lines of a block, for the processor
-pub plain_lines : (ops : List Op) (bounds : List ℕ) → length ops ≡ length bounds → relined (λ (b : ℕ). 0) (lines_of ops bounds) ≡ plain ops
-plain_lines [] bounds h = refl
+pub plain_lines : (ops : List Op) (pairs : List Range) → length ops ≡ length pairs → relined (λ (p : Range). 0) (lines_of ops pairs) ≡ plain ops
+plain_lines [] pairs h = refl
 plain_lines (o ∷ os) [] h = absurd (omega arith)
-plain_lines (o ∷ os) (b ∷ bs) h =
-    let e : length os ≡ length bs = omega arith in
-    ap (λ t. record { op = o; bound = 0 } ∷ t) (plain_lines os bs e)
+plain_lines (o ∷ os) (p ∷ ps) h =
+    let e : length os ≡ length ps = omega arith in
+    ap (λ t. record { op = o; bound = 0 } ∷ t) (plain_lines os ps e)
 
 -- the lines of a filter, for the processor
 pub shifted_lines : (ops : List Op) (ts : List Triple) → relined (λ (a : Triple). a.k) (lines_of ops ts) ≡ shifted ops ts
@@ -76,11 +77,11 @@ pub record Runs (vars : List VarInfo) (zs : List ℤ) (c : Code) (places : ℕ) 
 pub block_runs : (vars : List VarInfo) (zs : List ℤ) (c : Code) (places : ℕ) (locals : ℕ → ℤ) → FollowsRules vars c → AreWithin vars zs → c.depth ≤ places → Runs vars zs c places locals
 block_runs vars zs c places locals r range d =
     let k = some_is (known_of vars c) r.answers in
-    let lines = lines_of c.ops c.bounds in
-    let a = answer_follows (rules vars c.depth) (exact zs) (λ (b : ℕ). b) (Fits zs) (Locals zs) (exact_follows vars c.depth zs range) no_locals no_locals lines k.0 (λ j v e. cc) k.1 in
-    let b = answer_follows (rules vars c.depth) (bare zs places) (λ (b : ℕ). 0) (Fits zs) (Slots zs) (bare_follows vars c.depth places zs range d) no_locals locals lines k.0 (λ j v e. cc) k.1 in
+    let lines = lines_of c.ops c.pairs in
+    let a = answer_follows (rules vars c.depth) (exact zs) (λ (p : Range). p) (Fits zs) (Locals zs) (exact_follows vars c.depth zs range) no_locals no_locals lines k.0 (λ j v e. cc) k.1 in
+    let b = answer_follows (rules vars c.depth) (bare zs places) (λ (p : Range). 0) (Fits zs) (Slots zs) (bare_follows vars c.depth places zs range d) no_locals locals lines k.0 (λ j v e. cc) k.1 in
     let p = reached_some (Fits zs) k.0 _ (rw same_lines at a) in
-    let q = reached_some (Fits zs) k.0 _ (rw (plain_lines c.ops c.bounds r.bounded) at b) in
+    let q = reached_some (Fits zs) k.0 _ (rw (plain_lines c.ops c.pairs r.bounded) at b) in
     let e : p.0 ≡ value (values zs) [] k.0.tree = p.2.same in
     let f : q.0 ≡ value (values zs) [] k.0.tree = q.2.same in
     record { what = k.0; known = k.1; exactly = rw (← e) p.1; barely = rw (← f) q.1; fits = rw (← e) p.2 }

@@ -1,8 +1,12 @@
--- The orientation of three points follows the rules, and makes a program.
-use Rattle.std.proofs.Common.{◌≡◌, ◌≢◌, ℕ, ℤ, ◌-◌, ◌^◌, ◌<◌, ◌≤◌, List, [], ◌∷◌, length, take, refl, zero, suc, arith, pos, neg_ℤ, ◌≤ℤ◌}
+-- The orientation of three points and a square follow the rules, and each makes a program.
+use Rattle.std.proofs.Common.{◌≡◌, ◌≢◌, inl, inr, ℕ, ℤ, ◌-◌, ◌^◌, ◌<◌, ◌≤◌, List, [], ◌∷◌, length, take, sym, subst, refl, zero, suc, arith, pos, neg_ℤ, ◌≤ℤ◌}
 use Rattle.std.proofs.lemmas.Int.{ints}
-use Rattle.std.specs.Prelude.{All, AllPairs, Option, Some, None, IsSome, IfSome}
+use Rattle.std.specs.Prelude.{All, AllPairs, Contains, replicate, Option, Some, None, IsSome, IfSome}
 use Rattle.std.proofs.lemmas.List.Elements.{All-cons, All-nil}
+use Rattle.ln_order.specs.Orders.{IsOrderOf, orders_of}
+use Rattle.ln_order.proofs.OrdersLemmas.{is-member}
+use Rattle.ln_order.specs.Prefixes.{beside, prefixes_of, segments_from}
+use Rattle.ln_interval.specs.Range.{Range}
 use Rattle.ln_tree.specs.Exps.{Pairs}
 use Rattle.ln_tree.specs.declared.shape.Shape.{Shape}
 use Rattle.ln_tree.specs.declared.shape.VarInfo.{VarInfo}
@@ -14,23 +18,49 @@ use Rattle.ln_code.specs.declared.row.Row.{Row}
 use Rattle.ln_code.specs.RowOf.{row_of}
 use Rattle.ln_code.specs.FilterRules.{FilterKnown}
 use Rattle.ln_code.specs.Part.{Code, FilterCode, lines_of, filter_known_of, ops_in_filter}
-use Rattle.ln_code.specs.Kept.{FollowsRules, FollowsFilterRules, StoresHave, IsBlock, IsFilter, IsList, IsProgram, AreOfSites, no_triple}
-use Rattle.ln_code.specs.Worked.{plane_vars, orientation_ops, orientation_bounds, orientation_triples, IsFilterOrNone}
+use Rattle.ln_code.specs.Kept.{FollowsRules, FollowsFilterRules, StoresHave, IsBlock, IsFilter, IsList, IsProgram, AreOfSites, no_triple, nothing}
+use Rattle.ln_code.specs.Worked.{plane_vars, orientation_ops, orientation_pairs, orientation_triples, square_ops, square_pairs, IsWorked, IsFilterOrNone}
 
 abbrev pub orientation_code : Code
-orientation_code = record { exps = []; ops = orientation_ops; bounds = orientation_bounds; depth = 4 }
+orientation_code = record { exps = []; ops = orientation_ops; pairs = orientation_pairs; depth = 4 }
 
 follows : FollowsRules plane_vars orientation_code
 follows = record { bounded = refl; answers = refl }
 
+abbrev pub square_code : Code
+square_code = record { exps = []; ops = square_ops; pairs = square_pairs; depth = 2 }
+
+square_follows : FollowsRules plane_vars square_code
+square_follows = record { bounded = refl; answers = refl }
+
+-- what is asked of the block of a program
+record BlockServes (c : Code) : Type 0 where
+  follows : FollowsRules plane_vars c
+  of_sites : AreOfSites plane_vars c.exps
+  few : length c.ops ≤ 15
+
+worked_serves : (c : Code) → IsWorked c → BlockServes c
+worked_serves c (inl e) = subst BlockServes (sym e) (record { follows = follows; of_sites = tt; few = omega arith })
+worked_serves c (inr e) = subst BlockServes (sym e) (record { follows = square_follows; of_sites = tt; few = omega arith })
+
 block : IsBlock orientation_code
 block = record { shallow = omega arith; stores_have = stored; vars = plane_vars; rules = follows }
   where
-    stored : StoresHave 0 (lines_of orientation_ops orientation_bounds)
+    stored : StoresHave nothing (lines_of orientation_ops orientation_pairs)
     stored = (λ e. cc, (λ e. cc, (λ e. cc, (λ e. cc, (λ e. cc, (λ e. cc, (λ e. cc, (λ e. cc, (λ e. cc, (λ e. cc, (λ e. cc, (λ e. cc, (λ e. cc, (λ e. cc, (λ e. cc, tt)))))))))))))))
 
-pub orientation_block : (exps : Pairs) (ops : List Op) (bounds : List ℕ) → exps ≡ [] → ops ≡ orientation_ops → bounds ≡ orientation_bounds → IsBlock (record { exps = exps; ops = ops; bounds = bounds; depth = 4 })
-orientation_block exps ops bounds e o b = rw (e, o, b) block
+pub orientation_block : (exps : Pairs) (ops : List Op) (pairs : List Range) → exps ≡ [] → ops ≡ orientation_ops → pairs ≡ orientation_pairs → IsBlock (record { exps = exps; ops = ops; pairs = pairs; depth = 4 })
+orientation_block exps ops pairs e o b = rw (e, o, b) block
+
+-- the square stores, with the range 0 .. 0
+square : IsBlock square_code
+square = record { shallow = omega arith; stores_have = stored; vars = plane_vars; rules = square_follows }
+  where
+    stored : StoresHave nothing (lines_of square_ops square_pairs)
+    stored = (λ e. cc, (λ e. cc, (λ e. cc, (λ e. refl, (λ e. cc, (λ e. cc, (λ e. cc, (λ e. cc, (λ e. cc, tt)))))))))
+
+pub square_block : (exps : Pairs) (ops : List Op) (pairs : List Range) → exps ≡ [] → ops ≡ square_ops → pairs ≡ square_pairs → IsBlock (record { exps = exps; ops = ops; pairs = pairs; depth = 2 })
+square_block exps ops pairs e o b = rw (e, o, b) square
 
 -- ---- the same operations as a filter
 
@@ -65,8 +95,8 @@ few_ops : (o : Option FilterCode) → IsFilterOrNone o → ops_in_filter o ≤ 1
 few_ops None h = omega arith
 few_ops (Some f) h = rw h (omega arith)
 
-abbrev pub six_lists : List (List ℕ)
-six_lists = (0 ∷ []) ∷ (0 ∷ []) ∷ (0 ∷ []) ∷ (0 ∷ []) ∷ (0 ∷ []) ∷ (0 ∷ []) ∷ []
+abbrev pub sixteen_segments : List (List ℕ)
+sixteen_segments = (0 ∷ []) ∷ [] ∷ [] ∷ [] ∷ [] ∷ [] ∷ [] ∷ [] ∷ [] ∷ [] ∷ [] ∷ [] ∷ [] ∷ [] ∷ [] ∷ [] ∷ []
 
 all_one : {X : Type 0} (P : X → Type 0) (x : X) → P x → All P (x ∷ [])
 all_one P x p = All-cons P x [] p (All-nil P)
@@ -74,24 +104,41 @@ all_one P x p = All-cons P x [] p (All-nil P)
 one_list : IsList 1 (0 ∷ [])
 one_list = record { within = all_one (λ n. n < 1) 0 (omega arith); once = λ i j d h l. absurd (omega arith); filled = omega arith }
 
-lists_are : All (IsList 1) six_lists
-lists_are zero d h = one_list
-lists_are (suc zero) d h = one_list
-lists_are (suc (suc zero)) d h = one_list
-lists_are (suc (suc (suc zero))) d h = one_list
-lists_are (suc (suc (suc (suc zero)))) d h = one_list
-lists_are (suc (suc (suc (suc (suc zero))))) d h = one_list
-lists_are (suc (suc (suc (suc (suc (suc k)))))) d h = absurd (omega arith)
+none_named : (n : ℕ) → All (λ t. All (λ n. n < 1) t) (replicate n [])
+none_named zero = All-nil (λ t. All (λ n. n < 1) t)
+none_named (suc n) = All-cons (λ t. All (λ n. n < 1) t) [] (replicate n []) (All-nil (λ n. n < 1)) (none_named n)
 
-pub orientation_program : (shape : Shape) (filter : Option FilterCode) (blocks : List Code) (lists : List (List ℕ)) → shape.sites ≡ 3 → shape.vars ≡ plane_vars → blocks ≡ orientation_code ∷ [] → lists ≡ six_lists → IsFilterOrNone filter → IsProgram (record { shape = shape; filter = filter; blocks = blocks; lists = lists })
-orientation_program shape filter blocks lists s v b l f = record {
-  blocks = rw (v, b) (all_one (FollowsRules plane_vars) orientation_code follows);
-  filter = rw v (filter_in filter f);
-  few = let g = few_ops filter f in rw b (omega (arith, g));
-  of_sites = rw (v, b) (all_one (λ (c : Code). AreOfSites plane_vars c.exps) orientation_code tt);
-  orders = rw (s, l) refl;
-  lists = rw (b, l) lists_are;
-}
+segments_name : All (λ t. All (λ n. n < 1) t) sixteen_segments
+segments_name = All-cons (λ t. All (λ n. n < 1) t) (0 ∷ []) (replicate 15 []) (all_one (λ n. n < 1) 0 (omega arith)) (none_named 15)
+
+-- the list of each order is block 0 alone
+abbrev the_list : List ℕ → List ℕ
+the_list o = segments_from (beside (prefixes_of 3) sixteen_segments) o 0
+
+lists_in : (o : List ℕ) → Contains (orders_of 3) o → the_list o ≡ 0 ∷ []
+lists_in o (zero, h, e) = subst (λ u. the_list u ≡ 0 ∷ []) e refl
+lists_in o (suc zero, h, e) = subst (λ u. the_list u ≡ 0 ∷ []) e refl
+lists_in o (suc (suc zero), h, e) = subst (λ u. the_list u ≡ 0 ∷ []) e refl
+lists_in o (suc (suc (suc zero)), h, e) = subst (λ u. the_list u ≡ 0 ∷ []) e refl
+lists_in o (suc (suc (suc (suc zero))), h, e) = subst (λ u. the_list u ≡ 0 ∷ []) e refl
+lists_in o (suc (suc (suc (suc (suc zero)))), h, e) = subst (λ u. the_list u ≡ 0 ∷ []) e refl
+lists_in o (suc (suc (suc (suc (suc (suc k))))), h, e) = absurd (omega arith)
+
+lists_are : (o : List ℕ) → IsOrderOf 3 o → IsList 1 (the_list o)
+lists_are o p = subst (λ l. IsList 1 l) (sym (lists_in o (is-member 3 o p))) one_list
+
+pub worked_program : (shape : Shape) (filter : Option FilterCode) (block : Code) (blocks : List Code) (segments : List (List ℕ)) → shape.sites ≡ 3 → shape.vars ≡ plane_vars → IsWorked block → blocks ≡ block ∷ [] → segments ≡ sixteen_segments → IsFilterOrNone filter → IsProgram (record { shape = shape; filter = filter; blocks = blocks; segments = segments })
+worked_program shape filter block blocks segments s v w b l f =
+    let d : BlockServes block = worked_serves block w in
+    record {
+      blocks = rw (v, b) (all_one (FollowsRules plane_vars) block d.follows);
+      filter = rw v (filter_in filter f);
+      few = let g = few_ops filter f in let h = d.few in rw b (omega (arith, g, h));
+      of_sites = rw (v, b) (all_one (λ (c : Code). AreOfSites plane_vars c.exps) block d.of_sites);
+      prefixes = rw (s, l) refl;
+      named = rw (b, l) segments_name;
+      lists = λ o p. rw (s, b, l) (lists_are o (rw s at p));
+    }
 
 abbrev pub worked_values : List ℤ
 worked_values = pos 0 ∷ pos 0 ∷ pos 1 ∷ pos 0 ∷ pos 0 ∷ pos 1 ∷ []

@@ -5,7 +5,7 @@ use Rattle.ln_algebra.specs.Terms.{IsNormalOf, Term, derived}
 use Rattle.ln_algebra.specs.Tree.{InputsBelow, Tree}
 use Rattle.ln_tree.specs.declared.shape.VarInfo.{VarInfo}
 use Rattle.ln_tree.specs.Exps.{vector}
-use Rattle.ln_order.specs.Orders.{orders_of}
+use Rattle.ln_order.specs.Prefixes.{prefixes_of}
 use Rattle.ln_order.specs.Rows.{OrderStages}
 use Rattle.ln_code.specs.FilterRules.{FilterKnown}
 use Rattle.ln_code.specs.Kept.{FollowsFilterRules, FollowsRules}
@@ -13,12 +13,12 @@ use Rattle.ln_code.specs.Lists.{IsListOf}
 use Rattle.ln_code.specs.Part.{Code, FilterCode, Part, filter_known_of, known_of}
 use Rattle.ln_code.specs.Rules.{Known}
 
--- what the machine needs to answer on every row in range: blocks and filter follow the rules, each order of the sites has a list, and lists name blocks that are there
+-- what the machine needs to answer on every row in range: blocks and filter follow the rules, each prefix of orders of the sites has a segment, and segments name blocks that are there
 pub record Runs (p : Part) : Type 0 where
   pub blocks : All (FollowsRules p.shape.vars) p.blocks
   pub filter : IfSome p.filter (FollowsFilterRules p.shape.vars)
-  pub orders : length p.lists ≡ length (orders_of p.shape.sites)
-  pub lists : All (All (λ n. n < length p.blocks)) p.lists
+  pub prefixes : length p.segments ≡ length (prefixes_of p.shape.sites)
+  pub named : All (λ segment. All (λ n. n < length p.blocks) segment) p.segments
 
 -- the exponent vector of block k
 abbrev pub stage_at : Part → ℕ → List ℕ

@@ -1,24 +1,26 @@
--- What a block and a filter mean: the machine over whole numbers that have no greatest value. It has no answer where a value is above its operation's bound or leaves its width.
+-- What a block and a filter mean: the machine over whole numbers that have no greatest value. It has no answer where a value is outside its operation's range, in a filter above its bound, or leaves its width.
 use Rattle.std.specs.Prelude.{ℕ, ◌&&◌, nat_le, true, ℤ, neg_ℤ, unsigned_abs, List, Option, None, slice_get}
+use Rattle.ln_interval.specs.Range.{Range}
+use Rattle.ln_bound.specs.Sound.{holds}
 use Rattle.ln_bound.specs.declared.fitted.Width.{Width}
 use Rattle.ln_bound.specs.declared.fitted.Width.TheVariants.{W64, W128}
 use Rattle.ln_code.specs.declared.op.Triple.{Triple}
 use Rattle.ln_code.specs.Engine.{Engine, when, next}
 use Rattle.ln_code.specs.Numbers.{result_of, cut_by, fits, with_local}
 
--- z, where it is within the bound and fits the width
-abbrev pub within : ℕ → Width → ℤ → Option ℤ
-within b w z = when (nat_le (unsigned_abs z) b && fits w z) z
+-- z, where it is in the range and fits the width
+abbrev pub within : Range → Width → ℤ → Option ℤ
+within p w z = when (holds p z && fits w z) z
 
 -- a block on a row with these values
-abbrev pub exact : List ℤ → Engine ℕ ℤ (ℕ → Option ℤ)
+abbrev pub exact : List ℤ → Engine Range ℤ (ℕ → Option ℤ)
 exact zs = record {
-  push = λ c b. within b W128 c;
-  input = λ v b. next (slice_get zs v) (λ z. within b W128 z);
-  again = λ z b. within b W128 z;
-  two = λ t w b y z. within b w (result_of t y z);
-  minus = λ w b z. within b w (neg_ℤ z);
-  cut = λ n b z. None;
+  push = λ c p. within p W128 c;
+  input = λ v p. next (slice_get zs v) (λ z. within p W128 z);
+  again = λ z p. within p W128 z;
+  two = λ t w p y z. within p w (result_of t y z);
+  minus = λ w p z. within p w (neg_ℤ z);
+  cut = λ n p z. None;
   got = λ l j. l j;
   put = with_local;
   room = λ k. true;

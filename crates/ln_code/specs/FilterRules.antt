@@ -52,7 +52,7 @@ two_known Times a x y = filter_known (x.triple.k + y.triple.k) (x.triple.h * y.t
 abbrev pub filter_rules : List VarInfo → ℕ → Engine Triple FilterKnown (ℕ → Option FilterKnown)
 filter_rules vars depth = record {
   push = λ c a. filter_known a.k (unsigned_abs c / 2 ^ a.k) (push_error a.k) (unsigned_abs c) (tree.Num c) a;
-  input = λ v a. next (slice_get vars v) (λ i. filter_known 0 (size_of i) 0 (size_of i) (tree.Input v) a);
+  input = λ v a. next (slice_get vars v) (λ i. filter_known 0 (size_of i) 0 1 (tree.Input v) a);
   again = λ x a. filter_known x.triple.k x.triple.h x.triple.e x.size x.tree a;
   two = λ t w a x y. if no_wider w W64 then two_known t a x y else None;
   minus = λ w a x. if no_wider w W64 then filter_known x.triple.k x.triple.h x.triple.e x.size (tree.Neg x.tree) a else None;

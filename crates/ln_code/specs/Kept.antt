@@ -1,15 +1,19 @@
 -- What blocks, filters and programs keep.
-use Rattle.std.specs.Prelude.{◌≡◌, ◌≢◌, ℕ, ◌^◌, ◌<◌, ◌≤◌, Bool, true, false, List, [], ◌∷◌, length, All, AllPairs, Option, Some, None, IsSome, is_some, IfSome, slice_get}
+use Rattle.std.specs.Prelude.{◌≡◌, ◌≢◌, ℕ, pos, ◌^◌, ◌<◌, ◌≤◌, Bool, true, false, List, [], ◌∷◌, length, All, AllPairs, Option, Some, None, IsSome, is_some, IfSome, slice_get}
+use Rattle.ln_interval.specs.Range.{Range, point}
 use Rattle.ln_tree.specs.Exps.{Pairs}
+use Rattle.ln_tree.specs.Names.{name_bytes}
 use Rattle.ln_tree.specs.declared.shape.VarInfo.{VarInfo}
 use Rattle.ln_bound.specs.declared.fitted.Width.TheVariants.{W64}
 use Rattle.ln_bound.specs.Widths.{limit}
-use Rattle.ln_order.specs.Orders.{orders_of}
+use Rattle.ln_order.specs.Orders.{IsOrderOf}
+use Rattle.ln_order.specs.Prefixes.{prefixes_of}
 use Rattle.ln_code.specs.declared.op.Op.{Op}
 use Rattle.ln_code.specs.declared.op.Op.TheVariants.{Set}
 use Rattle.ln_code.specs.declared.op.Triple.{Triple}
 use Rattle.ln_code.specs.Engine.{Line}
 use Rattle.ln_code.specs.FilterRules.{FilterKnown}
+use Rattle.ln_code.specs.Lists.{list_of}
 use Rattle.ln_code.specs.Part.{Code, FilterCode, Part, lines_of, known_of, filter_known_of, ops_in}
 
 -- does it store into a local?
@@ -17,14 +21,14 @@ abbrev pub stores : Op → Bool
 stores (Set j) = true
 stores _ = false
 
--- what stores has no bound
+-- what stores has none
 abbrev pub StoresHave : {B : Type 0} → B → List (Line B) → Type 0
 StoresHave none [] = Unit {0}
 StoresHave none (x ∷ xs) = (stores x.op ≡ true → x.bound ≡ none) × StoresHave none xs
 
--- the rules on one block over these variables: each operation has a bound, and the rules know a value in the end
+-- the rules on one block over these variables: each operation has a range, and the rules know a value in the end
 pub record FollowsRules (vars : List VarInfo) (c : Code) : Type 0 where
-  pub bounded : length c.ops ≡ length c.bounds
+  pub bounded : length c.ops ≡ length c.pairs
   pub answers : IsSome (known_of vars c)
 
 -- the rules on a filter over these variables; the error of what it leaves fits 64 bits
@@ -34,10 +38,14 @@ pub record FollowsFilterRules (vars : List VarInfo) (f : FilterCode) : Type 0 wh
   pub known : filter_known_of vars f ≡ Some what
   pub narrow : what.triple.e ≤ limit W64
 
--- a block needs at most 2,048 places on the stack, and follows the rules over some variables; what stores has the bound 0
+-- what stores has the range 0 .. 0
+abbrev pub nothing : Range
+nothing = point (pos 0)
+
+-- a block needs at most 2,048 places on the stack, and follows the rules over some variables
 pub record IsBlock (c : Code) : Type 0 where
   pub shallow : c.depth ≤ 2048
-  pub stores_have : StoresHave 0 (lines_of c.ops c.bounds)
+  pub stores_have : StoresHave nothing (lines_of c.ops c.pairs)
   pub vars : List VarInfo
   pub rules : FollowsRules vars c
 
@@ -66,16 +74,17 @@ pub record IsList (blocks : ℕ) (list : List ℕ) : Type 0 where
   pub once : AllPairs (λ m n. m ≢ n) list
   pub filled : 0 < length list
 
--- a program: its blocks and its filter follow the rules over the variables of its shape; it has fewer than 2^32 operations; its blocks' exponents are of coordinates of sites; it has one list for each order of its sites
+-- a program: its blocks and its filter follow the rules over the variables of its shape; it has fewer than 2^32 operations; its blocks' exponents are of coordinates of sites; it has one segment for each prefix of orders of its sites, which names its own blocks; no list of an order is empty or names a block twice
 pub record IsProgram (p : Part) : Type 0 where
   pub blocks : All (FollowsRules p.shape.vars) p.blocks
   pub filter : IfSome p.filter (FollowsFilterRules p.shape.vars)
   pub few : ops_in p < 2 ^ 32
   pub of_sites : All (λ c. AreOfSites p.shape.vars c.exps) p.blocks
-  pub orders : length p.lists ≡ length (orders_of p.shape.sites)
-  pub lists : All (IsList (length p.blocks)) p.lists
+  pub prefixes : length p.segments ≡ length (prefixes_of p.shape.sites)
+  pub named : All (λ segment. All (λ n. n < length p.blocks) segment) p.segments
+  pub lists : (o : List ℕ) → IsOrderOf p.shape.sites o → IsList (length p.blocks) (list_of p o)
 
 -- programs whose names differ, each with at most 65,536 blocks
 pub record ArePrograms (ps : List Part) : Type 0 where
-  pub names : AllPairs (λ p q. p.shape.name ≢ q.shape.name) ps
+  pub names : AllPairs (λ p q. name_bytes p.shape.name ≢ name_bytes q.shape.name) ps
   pub small : All (λ p. length p.blocks ≤ 65536) ps

@@ -1,5 +1,6 @@
 -- What the rules promise of every row in range.
 use Rattle.std.specs.Prelude.{◌≡◌, ◌<◌, ◌≤◌, ℤ, pos, ◌<ℤ◌, unsigned_abs, List, [], Some}
+use Rattle.ln_interval.specs.Range.{Holds, magnitude}
 use Rattle.ln_tree.specs.declared.shape.VarInfo.{VarInfo}
 use Rattle.ln_tree.specs.Row.{AreWithin}
 use Rattle.ln_bound.specs.Value.{value, values}
@@ -10,13 +11,13 @@ use Rattle.ln_code.specs.FilterRules.{FilterKnown, Stands}
 use Rattle.ln_code.specs.Part.{Code, FilterCode, block_value, filter_value, known_of, filter_known_of}
 use Rattle.ln_code.specs.Kept.{FollowsRules, FollowsFilterRules}
 
--- a block has an answer, so each value stays within its bound and its width; it is the value of the expression that the rules know, and within the bound that they know
+-- a block has an answer, so each value stays in its range and its width; it is the value of the expression that the rules know, and in the range that they know
 pub record BlockMeans (vars : List VarInfo) (zs : List ℤ) (c : Code) : Type 0 where
   pub what : Known
   pub known : known_of vars c ≡ Some what
   pub answer : block_value zs c ≡ Some (value (values zs) [] what.tree)
-  pub within : unsigned_abs (value (values zs) [] what.tree) ≤ what.bound
-  pub fits : what.bound ≤ limit what.width
+  pub within : Holds what.range (value (values zs) [] what.tree)
+  pub fits : magnitude what.range ≤ limit what.width
 
 abbrev pub BlocksMean : Type 0
 BlocksMean = (vars : List VarInfo) (zs : List ℤ) (c : Code) → AreWithin vars zs → FollowsRules vars c → BlockMeans vars zs c

@@ -1,5 +1,5 @@
 -- The laws of the machine over a part.
-use Rattle.std.specs.Prelude.{◌≡◌, ℕ, List, map}
+use Rattle.std.specs.Prelude.{◌≡◌, List, map}
 use Rattle.ln_algebra.specs.Orders.{Rank}
 use Rattle.ln_algebra.specs.Terms.{Term}
 use Rattle.ln_algebra.specs.Tree.{Tree}
@@ -8,6 +8,7 @@ use Rattle.ln_order.specs.Rows.{AreStageListsOf}
 use Rattle.ln_code.specs.declared.verdict.Verdict.{Verdict}
 use Rattle.ln_code.specs.Carried.{Carries, Runs, vectors}
 use Rattle.ln_code.specs.Kept.{IsProgram}
+use Rattle.ln_code.specs.Lists.{lists_of}
 use Rattle.ln_code.specs.Part.{Part}
 use Rattle.ln_code.specs.Verdict.{IsVerdict}
 
@@ -27,4 +28,4 @@ VerdictIsUnique = (p : Part) (row : Row) (v w : Verdict) → IsVerdict p row v �
 abbrev pub ListsAreStageLists : Type 0
 ListsAreStageLists =
     (rank : Rank) (p : Part) (e : Tree) (f : List Term) → Runs p → Carries rank p e f →
-    AreStageListsOf rank p.shape.sites p.shape.vars e (map (vectors p) p.lists)
+    AreStageListsOf rank p.shape.sites p.shape.vars e (map (vectors p) (lists_of p))

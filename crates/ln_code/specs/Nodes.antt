@@ -2,16 +2,16 @@
 use Rattle.std.specs.Prelude.{◌≡◌, ℕ, ◌≤◌, ◌⊎◌, List, [], ◌∷◌, ◌++◌, pos, map, slice_index_or}
 use Rattle.ln_algebra.specs.Tree.{Tree, Num, Input, Neg, Pow, inlined, inlined_after}
 use Rattle.ln_bound.specs.declared.fitted.Width.{Width}
-use Rattle.ln_bound.specs.Typed.{Typed, TNum, TInput, TLet, TNeg, TTwo, TPow, two_of, untyped}
+use Rattle.ln_bound.specs.Typed.{Typed, TNum, TInput, TLet, TNeg, TTwo, TPow, untyped, two_of}
 
 -- e is the closed expression of a node of this width, where these are the closed lets; a power counts with the lower powers on its way
 abbrev pub IsNode : List Tree → Typed → Tree → Width → Type 0
-IsNode lets (TNum c b w) e v = (e ≡ Num c) × (v ≡ w)
-IsNode lets (TInput i b w) e v = (e ≡ Input i) × (v ≡ w)
-IsNode lets (TLet j b w) e v = (e ≡ slice_index_or lets j (Num (pos 0))) × (v ≡ w)
-IsNode lets (TNeg t b w) e v = IsNode lets t e v ⊎ ((e ≡ Neg (inlined lets (untyped t))) × (v ≡ w))
-IsNode lets (TTwo k s t b w) e v = (IsNode lets s e v ⊎ IsNode lets t e v) ⊎ ((e ≡ two_of k (inlined lets (untyped s)) (inlined lets (untyped t))) × (v ≡ w))
-IsNode lets (TPow t n b w) e v = IsNode lets t e v ⊎ ((k : ℕ) × (k ≤ n) × (e ≡ Pow (inlined lets (untyped t)) k) × (v ≡ w))
+IsNode lets (TNum c p w) e v = (e ≡ Num c) × (v ≡ w)
+IsNode lets (TInput i p w) e v = (e ≡ Input i) × (v ≡ w)
+IsNode lets (TLet j p w) e v = (e ≡ slice_index_or lets j (Num (pos 0))) × (v ≡ w)
+IsNode lets (TNeg t p w) e v = IsNode lets t e v ⊎ ((e ≡ Neg (inlined lets (untyped t))) × (v ≡ w))
+IsNode lets (TTwo k s t p w) e v = (IsNode lets s e v ⊎ IsNode lets t e v) ⊎ ((e ≡ two_of k (inlined lets (untyped s)) (inlined lets (untyped t))) × (v ≡ w))
+IsNode lets (TPow t n p w) e v = IsNode lets t e v ⊎ ((k : ℕ) × (k ≤ n) × (e ≡ Pow (inlined lets (untyped t)) k) × (v ≡ w))
 
 -- e is a node of one of the lets, each over those before it, behind these
 abbrev pub IsLetNode : List Tree → List Typed → Tree → Width → Type 0

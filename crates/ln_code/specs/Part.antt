@@ -1,5 +1,6 @@
 -- Parts: what a program is, and what one predicate of a listing is.
-use Rattle.std.specs.Prelude.{ℕ, ◌+◌, Bool, true, false, List, [], ◌∷◌, length, count_by, Option, Some, None}
+use Rattle.std.specs.Prelude.{ℕ, ◌+◌, Bool, true, false, List, [], ◌∷◌, length, count_by, slice_get, Option, Some, None}
+use Rattle.ln_interval.specs.Range.{Range}
 use Rattle.ln_tree.specs.Exps.{Pairs}
 use Rattle.ln_tree.specs.declared.shape.Shape.{Shape}
 use Rattle.ln_tree.specs.declared.shape.VarInfo.{VarInfo}
@@ -15,11 +16,11 @@ use Rattle.ln_code.specs.Rules.{Known, rules}
 use Rattle.ln_code.specs.FilterRules.{FilterKnown, filter_rules}
 use Rattle.std.specs.Prelude.{ℤ}
 
--- a block: the exponents of its derivative, its operations, a bound for each, and how deep its stack may be
+-- a block: the exponents of its derivative, its operations, a range for each, and how deep its stack may be
 pub record Code : Type 0 where
   pub exps : Pairs
   pub ops : List Op
-  pub bounds : List ℕ
+  pub pairs : List Range
   pub depth : ℕ
 
 -- a filter: its operations, a triple for each, and how deep its stack may be
@@ -28,12 +29,12 @@ pub record FilterCode : Type 0 where
   pub triples : List Triple
   pub depth : ℕ
 
--- a shape, a filter or none, blocks, and for each order of the sites the numbers of the blocks that it runs
+-- a shape, a filter or none, blocks, and for each prefix of orders of the sites, by number, its segment: the numbers of the blocks that are run where it is reached
 pub record Part : Type 0 where
   pub shape : Shape
   pub filter : Option FilterCode
   pub blocks : List Code
-  pub lists : List (List ℕ)
+  pub segments : List (List ℕ)
 
 -- operations with their bounds
 abbrev pub lines_of : {B : Type 0} → List Op → List B → List (Line B)
@@ -43,7 +44,7 @@ lines_of (o ∷ os) (b ∷ bs) = record { op = o; bound = b } ∷ lines_of os bs
 
 -- the value of a block on a row
 abbrev pub block_value : List ℤ → Code → Option ℤ
-block_value zs c = answer (exact zs) no_locals (lines_of c.ops c.bounds)
+block_value zs c = answer (exact zs) no_locals (lines_of c.ops c.pairs)
 
 -- what a filter leaves on a row
 abbrev pub filter_value : List ℤ → FilterCode → Option Held
@@ -51,7 +52,7 @@ filter_value zs f = answer (exact_filter zs) no_locals (lines_of f.ops f.triples
 
 -- what the rules know of a block's value
 abbrev pub known_of : List VarInfo → Code → Option Known
-known_of vars c = answer (rules vars c.depth) no_locals (lines_of c.ops c.bounds)
+known_of vars c = answer (rules vars c.depth) no_locals (lines_of c.ops c.pairs)
 
 -- what the rules know of what a filter leaves
 abbrev pub filter_known_of : List VarInfo → FilterCode → Option FilterKnown
@@ -89,3 +90,16 @@ ops_in_filter (Some f) = length f.ops
 -- how many operations there are in all
 abbrev pub ops_in : Part → ℕ
 ops_in p = ops_in_filter p.filter + ops_in_blocks p.blocks
+
+-- the sum of f over a list
+abbrev pub sum_of : (ℕ → ℕ) → List ℕ → ℕ
+sum_of f [] = 0
+sum_of f (n ∷ ns) = f n + sum_of f ns
+
+abbrev pub wide_or : Option Code → ℕ
+wide_or None = 0
+wide_or (Some c) = wide_in c.ops
+
+-- how many operations of a block are wide, by number
+abbrev pub wide_at : List Code → ℕ → ℕ
+wide_at cs k = wide_or (slice_get cs k)

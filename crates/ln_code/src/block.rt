@@ -1,36 +1,40 @@
 //! Blocks.
-ghost use Rattle.std.specs.Prelude.{◌≡◌, ◌≤◌, ◌<◌, ◌^◌, count_by, length};
+ghost use Rattle.std.specs.Prelude.{◌≡◌, ◌<◌, map};
+ghost use Rattle.ln_interval.specs.View.{range};
 ghost use Rattle.ln_code.specs.Part.{Code, is_wide, wide_in};
 ghost use Rattle.ln_code.specs.Kept.{IsBlock};
 
 use crate::op::Op;
 use ln_base::Seq;
 use ln_bound::Width;
+use ln_interval::Pair;
 use ln_tree::Exps;
 use std::marker::Model;
 
-/// A block: the exponents of its derivative, and the operations that compute it, each with the largest absolute value that it
-/// may push. It needs a stack of at most 2,048 places and follows the rules on bounds, widths and stacks: each bound covers its operation and fits its width, no operand is wider than its operation, and one value is left
-/// in the end. A `Set` has the bound 0.
+/// A block: the exponents of its derivative, and the operations that compute it, each with the pair of the values that it may
+/// push. It needs a stack of at most 2,048 places and follows the rules on pairs, sizes, widths and stacks: each pair covers its
+/// operation over its operands' pairs and fits its width, no running size passes `2^127 - 1`, no operand is wider than its operation,
+/// and one value is left in the end. A `Set` has the pair 0 .. 0.
 #[derive(Drop)]
 pub struct Block {
     exps: Exps,
     ops: Seq<Op>,
-    bounds: Seq<u128>,
+    pairs: Seq<Pair>,
     depth: u32,
     wide: usize,
 }
 
 impl Model for Block {
-    ghost use Rattle.std.specs.Prelude.{◌≡◌};
+    ghost use Rattle.std.specs.Prelude.{◌≡◌, map};
+    ghost use Rattle.ln_interval.specs.View.{range};
     ghost use Rattle.ln_code.specs.Part.{Code, wide_in};
     ghost use Rattle.ln_code.specs.Kept.{IsBlock};
 
     ghost Value = { Code };
 
-    ghost view = { λ b. record { exps = b.exps; ops = b.ops; bounds = b.bounds; depth = b.depth } };
+    ghost view = { λ b. record { exps = b.exps; ops = b.ops; pairs = map range b.pairs; depth = b.depth } };
 
-    ghost invariant = { λ b. IsBlock (record { exps = b.exps; ops = b.ops; bounds = b.bounds; depth = b.depth }) × (b.wide ≡ wide_in b.ops) };
+    ghost invariant = { λ b. IsBlock (record { exps = b.exps; ops = b.ops; pairs = map range b.pairs; depth = b.depth }) × (b.wide ≡ wide_in b.ops) };
 }
 
 fn is_wide(op: &Op) -> bool
@@ -50,15 +54,15 @@ fn wide_in(ops: &[Op]) -> usize
 
 impl Block {
     /// The block of these parts. It takes no memory.
-    pub fn seal(exps: Exps, ops: Seq<Op>, bounds: Seq<u128>, depth: u32) -> Block
-        requires { IsBlock (record { exps = exps; ops = ops; bounds = bounds; depth = depth }) }
-        ensures { result ≡ record { exps = exps; ops = ops; bounds = bounds; depth = depth } }
+    pub fn seal(exps: Exps, ops: Seq<Op>, pairs: Seq<Pair>, depth: u32) -> Block
+        requires { IsBlock (record { exps = exps; ops = ops; pairs = map range pairs; depth = depth }) }
+        ensures { result ≡ record { exps = exps; ops = ops; pairs = map range pairs; depth = depth } }
     {
         let wide = wide_in(ops.as_slice());
         Block {
             exps,
             ops,
-            bounds,
+            pairs,
             depth,
             wide,
         }
@@ -78,12 +82,12 @@ impl Block {
         self.ops.as_slice()
     }
 
-    /// For each operation the largest absolute value that it may push; 0 for a `Set`.
-    pub fn bounds(&self) -> &[u128]
-        ensures value { result.now ≡ self.now.bounds }
+    /// For each operation the pair of the values that it may push; 0 .. 0 for a `Set`.
+    pub fn pairs(&self) -> &[Pair]
+        ensures value { map range result.now ≡ self.now.pairs }
         ensures kept { IsBlock self.now }
     {
-        self.bounds.as_slice()
+        self.pairs.as_slice()
     }
 
     // How many places its stack may take.

@@ -1,5 +1,5 @@
 //! Filters.
-ghost use Rattle.std.specs.Prelude.{◌≡◌, ◌≤◌, ◌<◌, ◌^◌, ◌+◌, drop, length};
+ghost use Rattle.std.specs.Prelude.{◌≡◌, ◌≤◌, ◌<◌, ◌^◌, ◌+◌, length};
 ghost use Rattle.ln_code.specs.Part.{FilterCode};
 ghost use Rattle.ln_code.specs.Kept.{IsFilter};
 ghost use Rattle.ln_code.specs.Errors.{size_after, error_behind, left_error};

@@ -1,9 +1,10 @@
 //! What the rules promise, and the machine on rows in range.
 ghost use Rattle.ln_code.specs.Law.{BlocksMean, FiltersMean};
+ghost use Rattle.ln_code.specs.NodeList.{NodesAreListed};
 ghost use Rattle.ln_code.specs.MachineLaw.{ListsAreStageLists, ProgramsRun, RowsHaveVerdicts, VerdictIsUnique};
 
 /// On every row in range a block that follows the rules has an answer, the value of the expression that it carries, and so each
-/// of its values stays within its bound and its width; a filter that follows them leaves a number near the value, and above its
+/// of its values stays in its pair and its width; a filter that follows them leaves a number near the value, and above its
 /// error the two have one sign.
 pub fn rules_keep_values()
     ensures blocks { BlocksMean }
@@ -23,4 +24,11 @@ pub fn rows_have_one_verdict()
 /// The lists of a part that carries an expression are its stage lists, one for each order of the sites.
 pub fn lists_are_stage_lists()
     ensures { ListsAreStageLists }
+{}
+
+/// The nodes of a tree and of its lets are the members of one list, each with its width, in order of evaluation.
+///
+/// On it rests that a reader can take "a node of the tree" for what it says, in what is said of the polynomials that are pushed.
+pub fn nodes_are_listed()
+    ensures { NodesAreListed }
 {}

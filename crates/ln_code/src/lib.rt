@@ -1,8 +1,8 @@
 //! The stack program of a predicate, and the rows on which it runs.
 //!
-//! A block or a filter is a list of operations on a stack; `Program` keeps that each follows the rules on bounds and widths, and
+//! A block or a filter is a list of operations on a stack; `Program` keeps that each follows the rules on pairs and widths, and
 //! so `run_row` checks nothing when it runs: on every row in range it answers what the machine over whole numbers answers, the
-//! sign, what decided it, and how many wide operations and calls it took, and each value stays within its bound and its width.
+//! sign, what decided it, and how many wide operations and calls it took, and each value stays in its pair and its width.
 #![tactic(auto)]
 
 pub(crate) mod arithmetic;
@@ -13,7 +13,6 @@ pub mod op;
 pub(crate) mod processor;
 pub mod program;
 pub mod programs;
-pub mod ranged_laws;
 pub mod row;
 pub mod run;
 pub mod scratch;

@@ -1,27 +1,28 @@
 //! Programs.
-ghost use Rattle.std.specs.Prelude.{◌≡◌, length, MatchOption};
+ghost use Rattle.std.specs.Prelude.{◌≡◌, ◌<◌, ◌≤◌, length, take, All, MatchOption};
 ghost use Rattle.ln_order.specs.Places.{order_places};
 ghost use Rattle.ln_code.specs.Part.{Part};
-ghost use Rattle.ln_code.specs.Kept.{IsProgram, IsList};
-ghost use Rattle.ln_code.specs.Lists.{IsListOf};
+ghost use Rattle.ln_code.specs.Kept.{IsProgram};
+ghost use Rattle.ln_code.specs.Lists.{segment_of};
 
 use crate::block::Block;
 use crate::filter_block::FilterBlock;
 use ln_base::Seq;
-use ln_order::Order;
+use ln_order::{Order, prefix_number};
 use ln_tree::Shape;
 use std::marker::Model;
 
-/// The stack program of a predicate: its shape, a filter or none, blocks, and for each order of its sites, in the order of
-/// `all_orders`, the numbers of the blocks that it runs. Blocks and filter follow the rules over the variables of the shape, so
-/// that on every row in range each value stays within its bound and its width. It has fewer than `2^32` operations; its blocks'
-/// exponents are of coordinates of sites; no list is empty or names a block twice.
+/// The stack program of a predicate: its shape, a filter or none, blocks, and for each prefix of orders of its sites, in the order
+/// of `all_prefixes`, its segment: the numbers of the blocks that are run where it is reached, which may be none. The list of an
+/// order is its segments one after the other. Blocks and filter follow the rules over the variables of the shape, so that on every
+/// row in range each value stays in its pair and its width. It has fewer than `2^32` operations; its blocks' exponents are
+/// of coordinates of sites; no list is empty or names a block twice.
 #[derive(Drop)]
 pub struct Program {
     shape: Shape,
     filter: Option<FilterBlock>,
     blocks: Seq<Block>,
-    lists: Seq<Seq<u32>>,
+    segments: Seq<Seq<u32>>,
 }
 
 impl Model for Program {
@@ -30,9 +31,9 @@ impl Model for Program {
 
     ghost Value = { Part };
 
-    ghost view = { λ p. record { shape = p.shape; filter = p.filter; blocks = p.blocks; lists = p.lists } };
+    ghost view = { λ p. record { shape = p.shape; filter = p.filter; blocks = p.blocks; segments = p.segments } };
 
-    ghost invariant = { λ p. IsProgram (record { shape = p.shape; filter = p.filter; blocks = p.blocks; lists = p.lists }) };
+    ghost invariant = { λ p. IsProgram (record { shape = p.shape; filter = p.filter; blocks = p.blocks; segments = p.segments }) };
 }
 
 impl Program {
@@ -41,16 +42,16 @@ impl Program {
         shape: Shape,
         filter: Option<FilterBlock>,
         blocks: Seq<Block>,
-        lists: Seq<Seq<u32>>,
+        segments: Seq<Seq<u32>>,
     ) -> Program
-        requires { IsProgram (record { shape = shape; filter = filter; blocks = blocks; lists = lists }) }
-        ensures { result ≡ record { shape = shape; filter = filter; blocks = blocks; lists = lists } }
+        requires { IsProgram (record { shape = shape; filter = filter; blocks = blocks; segments = segments }) }
+        ensures { result ≡ record { shape = shape; filter = filter; blocks = blocks; segments = segments } }
     {
         Program {
             shape,
             filter,
             blocks,
-            lists,
+            segments,
         }
     }
 
@@ -77,12 +78,14 @@ impl Program {
         self.blocks.as_slice()
     }
 
-    /// The numbers of the blocks that a row with this order of the sites runs.
-    pub fn list(&self, o: &Order) -> &[u32]
-        requires { length (order_places o.now) ≡ self.now.shape.sites }
-        ensures value { IsListOf self.now (order_places o.now) result.now }
-        ensures kept { IsList (length self.now.blocks) result.now }
+    /// The numbers of the blocks that are run where the first j sites of this order are placed; for j = 0, 1, .. one after the
+    /// other they are the list of the order. It takes no memory.
+    pub fn segment(&self, o: &Order, j: u8) -> &[u32]
+        requires order { length (order_places o.now) ≡ self.now.shape.sites }
+        requires within { j ≤ length (order_places o.now) }
+        ensures value { result.now ≡ segment_of self.now (take j (order_places o.now)) }
+        ensures named { All (λ n. n < length self.now.blocks) result.now }
     {
-        self.lists.as_slice()[o.number()].as_slice()
+        self.segments.as_slice()[prefix_number(o, j) as usize].as_slice()
     }
 }

@@ -1,5 +1,6 @@
 //! The programs of a source.
 ghost use Rattle.std.specs.Prelude.{◌≡◌, ◌≢◌, ◌≤◌, ◌∷◌, ◌++◌, [], All, OnOk, OnErr, length};
+ghost use Rattle.ln_tree.specs.Names.{name_bytes};
 ghost use Rattle.ln_code.specs.Part.{Part};
 ghost use Rattle.ln_code.specs.Kept.{ArePrograms};
 
@@ -8,7 +9,7 @@ use ln_base::{NoMemory, Seq};
 use std::alloc::Global;
 use std::marker::Model;
 
-/// A list of programs whose names differ and each of which has at most 65,536 blocks.
+/// A list of programs whose names differ, byte for byte, and each of which has at most 65,536 blocks.
 #[derive(Drop)]
 pub struct Programs {
     programs: Seq<Program>,
@@ -38,7 +39,7 @@ impl Programs {
 
     /// Puts a program at the end. Where there is no memory, the program is dropped and the list stays.
     pub fn push(&mut self, p: Program) -> Result<(), NoMemory>
-        requires name { All (λ q. q.shape.name ≢ p.shape.name) self.old }
+        requires name { All (λ q. name_bytes q.shape.name ≢ name_bytes p.shape.name) self.old }
         requires small { length p.blocks ≤ 65536 }
         ensures ok { OnOk result (self.new ≡ self.old ++ p ∷ []) }
         ensures err { OnErr result (self.new ≡ self.old) }

@@ -1,11 +1,14 @@
 //! Rows, run.
-ghost use Rattle.std.specs.Prelude.{◌≡◌, ◌≢◌, ◌<◌, ◌≤◌, ◌+◌, ◌^◌, pos, MatchOption, All, Some, length, slice_get};
+ghost use Rattle.std.specs.Prelude.{◌≡◌, ◌≢◌, ◌<◌, ◌+◌, ◌++◌, ◌^◌, ℕ, List, Option, pos, MatchOption, IfOk, IfErr, All, AllPairs, Some, length, slice_get, take};
 ghost use Rattle.ln_tree.specs.Row.{InRange, AreWithin};
 ghost use Rattle.ln_code.specs.Part.{Code, block_value, filter_value, ops_in_blocks};
-ghost use Rattle.ln_code.specs.Exact.{Held};
 ghost use Rattle.ln_code.specs.Errors.{left_error};
-ghost use Rattle.ln_code.specs.Kept.{FollowsRules, IsList, IsProgram};
+ghost use Rattle.ln_order.specs.Order.{IsOrder};
+ghost use Rattle.ln_order.specs.Places.{order_places};
+ghost use Rattle.ln_code.specs.Kept.{IsProgram};
+ghost use Rattle.ln_code.specs.Lists.{list_of};
 ghost use Rattle.ln_code.specs.Verdict.{sign_of, along, through, IsVerdict};
+ghost use Rattle.ln_code.specs.Met.{HasMet, IsMet};
 ghost use Rattle.ln_code.specs.Memory.{MadeFor};
 ghost use Rattle.ln_code.specs.RowOf.{row_of};
 ghost use Rattle.ln_code.specs.declared.verdict.By.TheVariants.{Filter};
@@ -17,7 +20,15 @@ use crate::row::Row;
 use crate::scratch::Scratch;
 use crate::verdict::{By, Verdict};
 use ln_base::Sign;
-use ln_order::order_of;
+use ln_order::Order;
+
+// What was met on a row so far: how many blocks were passed, how many of their operations were wide, and how many calls there were.
+#[derive(Clone, Copy)]
+pub(crate) struct Met {
+    pub(crate) place: u32,
+    pub(crate) wide: u32,
+    pub(crate) calls: u32,
+}
 
 fn sign_of(z: i128) -> Sign
     ensures { result ≡ sign_of z }
@@ -79,57 +90,113 @@ fn filter_number(p: &Program, f: &FilterBlock, values: &[i64], s: &mut Scratch) 
     )
 }
 
-// Runs the blocks of a list until one isn't 0, behind so many calls.
-fn run_list(p: &Program, list: &[u32], entered: u32, values: &[i64], s: &mut Scratch) -> Verdict
-    requires list { IsList (length p.now.blocks) list.now }
-    requires rules { All (FollowsRules p.now.shape.vars) p.now.blocks }
-    requires room { entered + ops_in_blocks p.now.blocks < 2 ^ 32 }
+// Runs the blocks of a segment, the next part of the row's list, until one isn't 0: the verdict then stands in the place of an error.
+fn run_segment(
+    p: &Program,
+    segment: &[u32],
+    met: Met,
+    values: &[i64],
+    s: &mut Scratch,
+) -> Result<Met, Verdict>
+    requires named { All (λ n. n < length p.now.blocks) segment.now }
+    requires met { HasMet values.now p.now.blocks segment.now met }
     requires row { AreWithin p.now.shape.vars values.now }
     requires made { MadeFor p.now s.old }
-    ensures verdict { along values.now p.now.blocks list.now 0 0 entered ≡ Some result }
-    ensures stages { result.by ≢ Filter }
+    ensures ok { IfOk result (λ m. (answer : Option Verdict) (rest : List ℕ) → IsMet values.now p.now.blocks answer (segment.now ++ rest) met → IsMet values.now p.now.blocks answer rest m) }
+    ensures err { IfErr result (λ v. (answer : Option Verdict) (rest : List ℕ) → IsMet values.now p.now.blocks answer (segment.now ++ rest) met → answer ≡ Some v) }
+    ensures stages { IfErr result (λ v. v.by ≢ Filter) }
     ensures made { MadeFor p.now s.new }
 {
-    let mut place = 0;
-    let mut wide = 0;
-    let mut calls = entered;
-    'stages: for number in list {
+    let mut place = met.place;
+    let mut wide = met.wide;
+    let mut calls = met.calls;
+    'stages: for number in segment {
         let number = *number as usize;
         let z = block_value(p, number, values, s);
         wide += p.blocks()[number].wide() as u32;
         calls += 1;
         if let Some(sign) = decided(z) {
-            return Verdict {
+            return Err(Verdict {
                 sign,
                 by: By::Stage(place),
                 wide,
                 calls,
-            };
+            });
         }
         place += 1;
+    }
+    Ok(Met { place, wide, calls })
+}
+
+// The order with one more site of the row's order in its place, if one is left.
+fn next_site(o: &Order, j: u8, indices: &[i64]) -> Order
+    requires { length (order_places o.now) ≡ length indices.now }
+    ensures size { length (order_places result) ≡ length (order_places o.now) }
+    ensures next { (u : List ℕ) → j < length (order_places o.now) → IsOrder indices.now u → take j (order_places o.now) ≡ take j u → take (j + 1) (order_places result) ≡ take (j + 1) u }
+{
+    if usize::from(j) < o.places().len() {
+        o.found(j, indices)
+    } else {
+        *o
+    }
+}
+
+// Runs the segments of the row's order until a block isn't 0, behind so many calls. A site is found only where all blocks of the
+// segment before it are 0.
+fn run_segments(
+    p: &Program,
+    indices: &[i64],
+    entered: u32,
+    values: &[i64],
+    s: &mut Scratch,
+) -> Verdict
+    requires program { IsProgram p.now }
+    requires size { length indices.now ≡ p.now.shape.sites }
+    requires differ { AllPairs (λ y z. y ≢ z) indices.now }
+    requires room { entered + ops_in_blocks p.now.blocks < 2 ^ 32 }
+    requires row { AreWithin p.now.shape.vars values.now }
+    requires made { MadeFor p.now s.old }
+    ensures verdict { (o : List ℕ) → IsOrder indices.now o → along values.now p.now.blocks (list_of p.now o) 0 0 entered ≡ Some result }
+    ensures stages { result.by ≢ Filter }
+    ensures made { MadeFor p.now s.new }
+{
+    let sites = p.shape().sites;
+    let mut order = Order::of_arguments(sites);
+    let mut met = Met {
+        place: 0,
+        wide: 0,
+        calls: entered,
+    };
+    'prefixes: for j in 0..sites + 1 {
+        match run_segment(p, p.segment(&order, j), met, values, s) {
+            Ok(m) => met = m,
+            Err(verdict) => return verdict,
+        }
+        order = next_site(&order, j, indices);
     }
     Verdict {
         sign: Sign::Zero,
         by: By::Nothing,
-        wide,
-        calls,
+        wide: met.wide,
+        calls: met.calls,
     }
 }
 
-// Runs the filter, and where it doesn't decide, the blocks of a list.
+// Runs the filter, and where it doesn't decide, the segments of the row's order.
 fn run_filtered(
     p: &Program,
     f: &FilterBlock,
-    list: &[u32],
+    indices: &[i64],
     values: &[i64],
     s: &mut Scratch,
 ) -> Verdict
     requires program { IsProgram p.now }
     requires filter { p.now.filter ≡ Some f.now }
-    requires list { IsList (length p.now.blocks) list.now }
+    requires size { length indices.now ≡ p.now.shape.sites }
+    requires differ { AllPairs (λ y z. y ≢ z) indices.now }
     requires row { AreWithin p.now.shape.vars values.now }
     requires made { MadeFor p.now s.old }
-    ensures verdict { through (Some f.now) values.now p.now.blocks list.now ≡ Some result }
+    ensures verdict { (o : List ℕ) → IsOrder indices.now o → through (Some f.now) values.now p.now.blocks (list_of p.now o) ≡ Some result }
     ensures filter { result.by ≡ Filter → (result.calls ≡ 1) × (result.wide ≡ 0) }
     ensures made { MadeFor p.now s.new }
 {
@@ -142,26 +209,28 @@ fn run_filtered(
             calls: 1,
         };
     }
-    run_list(p, list, 1, values, s)
+    run_segments(p, indices, 1, values, s)
 }
 
-// Runs the filter, if there is one, and the blocks of a list.
-fn run_through(p: &Program, list: &[u32], values: &[i64], s: &mut Scratch) -> Verdict
-    requires list { IsList (length p.now.blocks) list.now }
+// Runs the filter, if there is one, and the segments of the row's order.
+fn run_through(p: &Program, indices: &[i64], values: &[i64], s: &mut Scratch) -> Verdict
+    requires size { length indices.now ≡ p.now.shape.sites }
+    requires differ { AllPairs (λ y z. y ≢ z) indices.now }
     requires row { AreWithin p.now.shape.vars values.now }
     requires made { MadeFor p.now s.old }
-    ensures verdict { through p.now.filter values.now p.now.blocks list.now ≡ Some result }
+    ensures verdict { (o : List ℕ) → IsOrder indices.now o → through p.now.filter values.now p.now.blocks (list_of p.now o) ≡ Some result }
     ensures filter { result.by ≡ Filter → (result.calls ≡ 1) × (result.wide ≡ 0) }
     ensures made { MadeFor p.now s.new }
 {
     match p.filter() {
-        Some(f) => run_filtered(p, f, list, values, s),
-        None => run_list(p, list, 0, values, s),
+        Some(f) => run_filtered(p, f, indices, values, s),
+        None => run_segments(p, indices, 0, values, s),
     }
 }
 
 /// The verdict on a row in range, by a scratch made for the program: what the machine over whole numbers answers, exactly. Where the
-/// filter decides, that is one call and no operation in 128 bits. It takes no memory and refuses nothing.
+/// filter decides, that is one call and no operation in 128 bits. A site of the row's order is looked for only where all blocks before
+/// it are 0. It takes no memory and refuses nothing.
 pub fn run_row(p: &Program, s: &mut Scratch, r: &Row) -> Verdict
     requires made { MadeFor p.now s.old }
     requires row { InRange p.now.shape.sites p.now.shape.vars (row_of p.now.shape.sites p.now.shape.vars r.now) }
@@ -171,14 +240,5 @@ pub fn run_row(p: &Program, s: &mut Scratch, r: &Row) -> Verdict
 {
     let shape = p.shape();
     let values = &r.values[..shape.vars.len()];
-    match order_of(&r.index[..usize::from(shape.sites)]) {
-        Ok(order) => run_through(p, p.list(&order), values, s),
-        // the indices of a row in range differ
-        Err(_) => Verdict {
-            sign: Sign::Zero,
-            by: By::Nothing,
-            wide: 0,
-            calls: 0,
-        },
-    }
+    run_through(p, &r.index[..usize::from(shape.sites)], values, s)
 }

@@ -1,6 +1,8 @@
-// A program made by hand: the orientation of three points of the plane, block 0 alone.
-ghost use Rattle.std.specs.Prelude.{◌≡◌, ◌∷◌, [], IfOk, pos, take};
-ghost use Rattle.ln_code.specs.Worked.{coordinate, plane_vars, orientation_ops, orientation_bounds, orientation_triples, uncut, IsFilterOrNone};
+//! Programs made by hand: the orientation of three points of the plane, and a square, each with block 0 alone.
+ghost use Rattle.std.specs.Prelude.{◌≡◌, ◌≤◌, ◌≤ℤ◌, ◌∷◌, [], IfOk, map, pos, replicate, take, unsigned_abs};
+ghost use Rattle.ln_interval.specs.Range.{most};
+ghost use Rattle.ln_interval.specs.View.{range};
+ghost use Rattle.ln_code.specs.Worked.{coordinate, plane_vars, orientation_ops, orientation_pairs, orientation_triples, uncut, balanced, square_ops, square_pairs, IsWorked, IsFilterOrNone};
 
 use crate::block::Block;
 use crate::filter_block::FilterBlock;
@@ -13,6 +15,7 @@ use crate::scratch::Scratch;
 use crate::verdict::{By, Verdict};
 use ln_base::{NoMemory, Seq, Sign};
 use ln_bound::Width;
+use ln_interval::Pair;
 use ln_order::order_of;
 use ln_tree::{Exps, Name, Shape, VarInfo};
 use std::alloc::Global;
@@ -81,25 +84,109 @@ fn operations(alloc: Global) -> Result<Seq<Op>, NoMemory>
     Ok(Seq::from_vec(ops))
 }
 
-fn bounds(alloc: Global) -> Result<Seq<u128>, NoMemory>
-    ensures { IfOk result (λ bounds. bounds ≡ orientation_bounds) }
+// From low to high.
+fn pair(low: i128, high: i128) -> Pair
+    requires ordered { low ≤ℤ high }
+    requires low { unsigned_abs low ≤ most }
+    requires high { unsigned_abs high ≤ most }
+    ensures { range result ≡ record { low = low; high = high } }
 {
-    let bounds = Vec::from_array(
+    Pair { low, high }
+}
+
+fn balanced(b: u64) -> Pair
+    ensures { range result ≡ balanced b }
+{
+    let high = i128::from(b);
+    pair(-high, high)
+}
+
+fn pairs(alloc: Global) -> Result<Seq<Pair>, NoMemory>
+    ensures { IfOk result (λ pairs. map range pairs ≡ orientation_pairs) }
+{
+    let coordinate = balanced(1000);
+    let difference = balanced(2000);
+    let product = balanced(4000000);
+    let pairs = Vec::from_array(
         alloc,
         [
-            1000u128, 1000, 2000, 1000, 1000, 2000, 4000000, 1000, 1000, 2000, 1000, 1000, 2000,
-            4000000, 8000000,
+            coordinate,
+            coordinate,
+            difference,
+            coordinate,
+            coordinate,
+            difference,
+            product,
+            coordinate,
+            coordinate,
+            difference,
+            coordinate,
+            coordinate,
+            difference,
+            product,
+            balanced(8000000),
         ],
     )?;
-    Ok(Seq::from_vec(bounds))
+    Ok(Seq::from_vec(pairs))
 }
 
 fn orientation(alloc: Global) -> Result<Block, NoMemory>
-    ensures { IfOk result (λ b. b ≡ record { exps = []; ops = orientation_ops; bounds = orientation_bounds; depth = 4 }) }
+    ensures { IfOk result (λ b. b ≡ record { exps = []; ops = orientation_ops; pairs = orientation_pairs; depth = 4 }) }
 {
     let ops = operations(alloc)?;
-    let bounds = bounds(alloc)?;
-    Ok(Block::seal(Exps::new(alloc), ops, bounds, 4))
+    let pairs = pairs(alloc)?;
+    Ok(Block::seal(Exps::new(alloc), ops, pairs, 4))
+}
+
+// (p.x + 5)^2 - 26
+fn square_operations(alloc: Global) -> Result<Seq<Op>, NoMemory>
+    ensures { IfOk result (λ ops. ops ≡ square_ops) }
+{
+    let ops = Vec::from_array(
+        alloc,
+        [
+            Op::Input(0),
+            Op::Push(5),
+            Op::Add(Width::W64),
+            Op::Set(0),
+            Op::Get(0),
+            Op::Get(0),
+            Op::Mul(Width::W64),
+            Op::Push(26),
+            Op::Sub(Width::W64),
+        ],
+    )?;
+    Ok(Seq::from_vec(ops))
+}
+
+// The square of -995 .. 1005 is -999975 .. 1010025 by the product of pairs, though no square is below 0.
+fn square_pairs(alloc: Global) -> Result<Seq<Pair>, NoMemory>
+    ensures { IfOk result (λ pairs. map range pairs ≡ square_pairs) }
+{
+    let sum = pair(-995, 1005);
+    let pairs = Vec::from_array(
+        alloc,
+        [
+            balanced(1000),
+            pair(5, 5),
+            sum,
+            pair(0, 0),
+            sum,
+            sum,
+            pair(-999975, 1010025),
+            pair(26, 26),
+            pair(-1000001, 1009999),
+        ],
+    )?;
+    Ok(Seq::from_vec(pairs))
+}
+
+fn square(alloc: Global) -> Result<Block, NoMemory>
+    ensures { IfOk result (λ b. b ≡ record { exps = []; ops = square_ops; pairs = square_pairs; depth = 2 }) }
+{
+    let ops = square_operations(alloc)?;
+    let pairs = square_pairs(alloc)?;
+    Ok(Block::seal(Exps::new(alloc), ops, pairs, 2))
 }
 
 fn one_block(alloc: Global) -> Result<Seq<u32>, NoMemory>
@@ -109,27 +196,38 @@ fn one_block(alloc: Global) -> Result<Seq<u32>, NoMemory>
     Ok(Seq::from_vec(list))
 }
 
-fn lists(alloc: Global) -> Result<Seq<Seq<u32>>, NoMemory>
-    ensures { IfOk result (λ lists. lists ≡ (0 ∷ []) ∷ (0 ∷ []) ∷ (0 ∷ []) ∷ (0 ∷ []) ∷ (0 ∷ []) ∷ (0 ∷ []) ∷ []) }
+// Block 0 for the empty prefix, and nothing for the fifteen others.
+fn segments(alloc: Global) -> Result<Seq<Seq<u32>>, NoMemory>
+    ensures { IfOk result (λ segments. segments ≡ (0 ∷ []) ∷ replicate 15 []) }
 {
-    let lists = Vec::from_array(
+    let segments = Vec::from_array(
         alloc,
         [
             one_block(alloc)?,
-            one_block(alloc)?,
-            one_block(alloc)?,
-            one_block(alloc)?,
-            one_block(alloc)?,
-            one_block(alloc)?,
+            Seq::new(alloc),
+            Seq::new(alloc),
+            Seq::new(alloc),
+            Seq::new(alloc),
+            Seq::new(alloc),
+            Seq::new(alloc),
+            Seq::new(alloc),
+            Seq::new(alloc),
+            Seq::new(alloc),
+            Seq::new(alloc),
+            Seq::new(alloc),
+            Seq::new(alloc),
+            Seq::new(alloc),
+            Seq::new(alloc),
+            Seq::new(alloc),
         ],
     )?;
-    Ok(Seq::from_vec(lists))
+    Ok(Seq::from_vec(segments))
 }
 
-fn blocks(alloc: Global) -> Result<Seq<Block>, NoMemory>
-    ensures { IfOk result (λ blocks. blocks ≡ record { exps = []; ops = orientation_ops; bounds = orientation_bounds; depth = 4 } ∷ []) }
+fn blocks(alloc: Global, block: Block) -> Result<Seq<Block>, NoMemory>
+    ensures { IfOk result (λ blocks. blocks ≡ block ∷ []) }
 {
-    let blocks = Vec::from_array(alloc, [orientation(alloc)?])?;
+    let blocks = Vec::from_array(alloc, [block])?;
     Ok(Seq::from_vec(blocks))
 }
 
@@ -177,15 +275,16 @@ fn filter(alloc: Global) -> Result<FilterBlock, NoMemory>
     Ok(FilterBlock::seal(ops, triples, 4))
 }
 
-fn program(alloc: Global, filter: Option<FilterBlock>) -> Result<Program, NoMemory>
-    requires { IsFilterOrNone filter }
+fn program(alloc: Global, filter: Option<FilterBlock>, block: Block) -> Result<Program, NoMemory>
+    requires filter { IsFilterOrNone filter }
+    requires block { IsWorked block }
     ensures sites { IfOk result (λ p. p.shape.sites ≡ 3) }
     ensures vars { IfOk result (λ p. p.shape.vars ≡ plane_vars) }
 {
     let shape = plane(alloc)?;
-    let blocks = blocks(alloc)?;
-    let lists = lists(alloc)?;
-    Ok(Program::join(shape, filter, blocks, lists))
+    let blocks = blocks(alloc, block)?;
+    let segments = segments(alloc)?;
+    Ok(Program::join(shape, filter, blocks, segments))
 }
 
 // 1: (0, 0), 2: (1, 0), 3: (0, 1)
@@ -202,10 +301,11 @@ fn left_turn() -> Row
     }
 }
 
-fn answered(alloc: Global, filter: Option<FilterBlock>) -> Result<Verdict, NoMemory>
-    requires { IsFilterOrNone filter }
+fn answered(alloc: Global, filter: Option<FilterBlock>, block: Block) -> Result<Verdict, NoMemory>
+    requires filter { IsFilterOrNone filter }
+    requires block { IsWorked block }
 {
-    let p = program(alloc, filter)?;
+    let p = program(alloc, filter, block)?;
     let mut scratch = Scratch::new(alloc, &p)?;
     let row = left_turn();
     Ok(run_row(&p, &mut scratch, &row))
@@ -219,7 +319,24 @@ fn points_turn_left_by_block_0(rt: HostRuntime) -> Result<(), Fail> {
         wide: 0,
         calls: 1,
     };
-    assert!(rt; answered(rt.alloc(), None)? == left);
+    assert!(rt; answered(rt.alloc(), None, orientation(rt.alloc())?)? == left);
+    Ok(())
+}
+
+#[test]
+fn a_square_isnt_known_to_begin_at_0(rt: HostRuntime) -> Result<(), Fail> {
+    let block = square(rt.alloc())?;
+    match block.pairs().last() {
+        Some(p) => assert!(rt; p.low == -1000001),
+        None => assert!(rt; false),
+    }
+    let below = Verdict {
+        sign: Sign::Minus,
+        by: By::Stage(0),
+        wide: 0,
+        calls: 1,
+    };
+    assert!(rt; answered(rt.alloc(), None, block)? == below);
     Ok(())
 }
 
@@ -234,23 +351,26 @@ fn a_filter_without_errors_decides(rt: HostRuntime) -> Result<(), Fail> {
         wide: 0,
         calls: 1,
     };
-    assert!(rt; answered(rt.alloc(), Some(f))? == left);
+    assert!(rt; answered(rt.alloc(), Some(f), orientation(rt.alloc())?)? == left);
     Ok(())
 }
 
 #[test]
 fn a_program_lists_its_blocks(rt: HostRuntime) -> Result<(), Fail> {
-    let p = program(rt.alloc(), None)?;
+    let p = program(rt.alloc(), None, orientation(rt.alloc())?)?;
     assert!(rt; p.shape().sites == 3);
     assert!(rt; p.filter().is_none());
     assert!(rt; p.blocks().len() == 1);
     for block in p.blocks() {
         assert!(rt; block.exps().pairs().is_empty());
         assert!(rt; block.ops().len() == 15);
-        assert!(rt; block.bounds().last() == Some(&8000000));
+        assert!(rt; block.pairs().len() == 15);
     }
     match order_of(&[2, 1, 3]) {
-        Ok(order) => assert!(rt; p.list(&order) == [0u32].as_slice()),
+        Ok(order) => {
+            assert!(rt; p.segment(&order, 0) == [0u32].as_slice());
+            assert!(rt; p.segment(&order, 3) == [].as_slice());
+        }
         Err(_) => assert!(rt; false),
     }
     let mut programs = Programs::new(rt.alloc());

@@ -63,14 +63,14 @@ apart : (ps : List PredOf) (p : PredOf) (qs : List PredOf) → Differ (map (λ (
 apart [] p qs h = tt
 apart (q ∷ ps) p qs h = (none-behind q.shape_name ps p qs h.0, apart ps p qs h.1)
 
-names-apart : (ps : List PredOf) (cs : List Part) (n : Name) → AreProgramsOf ps cs → Apart ps (name_bytes n) → All (λ c. c.shape.name ≢ n) cs
-names-apart [] [] n h a = All-nil (λ c. c.shape.name ≢ n)
+names-apart : (ps : List PredOf) (cs : List Part) (n : Name) → AreProgramsOf ps cs → Apart ps (name_bytes n) → All (λ c. name_bytes c.shape.name ≢ name_bytes n) cs
+names-apart [] [] n h a = All-nil (λ c. name_bytes c.shape.name ≢ name_bytes n)
 names-apart [] (c ∷ cs) n h a = absurd h
 names-apart (p ∷ ps) [] n h a = absurd h
-names-apart (p ∷ ps) (c ∷ cs) n h a = All-cons (λ (d : Part). d.shape.name ≢ n) c cs (λ e. a.0 (sym h.0.name ∙ ap name_bytes e)) (names-apart ps cs n h.1 a.1)
+names-apart (p ∷ ps) (c ∷ cs) n h a = All-cons (λ (d : Part). name_bytes d.shape.name ≢ name_bytes n) c cs (λ e. a.0 (sym h.0.name ∙ e)) (names-apart ps cs n h.1 a.1)
 
 pub name-new : (preds : List Pred) (i : ℕ) (p : Pred) (cs : List Part) (ns : List ℕ) (m : Name) → i < length preds → p ≡ get_or preds i p → differ (map (λ q. q.shape_name) (map pred_of preds)) ≡ true → m ≡ p.shape.name
-    → AreBuilt (map pred_of (take i preds)) cs ns → All (λ c. c.shape.name ≢ m) cs
+    → AreBuilt (map pred_of (take i preds)) cs ns → All (λ c. name_bytes c.shape.name ≢ name_bytes m) cs
 name-new preds i p cs ns m h e d q b =
     let here : drop i preds ≡ p ∷ drop (i + 1) preds = drop_more preds i p h ∙ ap (λ z. z ∷ drop (i + 1) preds) (sym e) in
     let all : map pred_of preds ≡ map pred_of (take i preds) ++ pred_of p ∷ map pred_of (drop (i + 1) preds) =

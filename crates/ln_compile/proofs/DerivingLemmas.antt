@@ -19,7 +19,7 @@ use Rattle.ln_bound.specs.Value.{sizes, weights}
 use Rattle.ln_poly.specs.Derivative.{derivative}
 use Rattle.ln_poly.specs.Sparse.{AreBelow, IsFactor, IsPoly, Sparse, coefficient_at, term_of, terms_of}
 use Rattle.ln_poly.proofs.Collected.{collected}
-use Rattle.ln_poly.proofs.Lowering.{power-apart}
+use Rattle.ln_tree.proofs.Powers.{power-apart}
 use Rattle.ln_poly.proofs.Merging.{above-none, exponent-push}
 use Rattle.ln_poly.proofs.Products.{length-vector, over-terms, vector-plus}
 use Rattle.ln_stage.specs.Lists.{covering}

@@ -4,22 +4,33 @@ use Rattle.std.proofs.lemmas.List.{drop_more, map-append, take-append-drop, take
 use Rattle.std.specs.Prelude.{nat_le, ◌&&◌, true}
 use Rattle.std.proofs.lemmas.Bool.{and_parts}
 use Rattle.ln_base.specs.declared.span.Span.{Span}
+use Rattle.ln_algebra.specs.Tree.{Tree}
+use Rattle.ln_algebra.proofs.Weights.{weighted-least}
+use Rattle.ln_tree.specs.declared.expr.Expr.{Expr}
+use Rattle.ln_tree.specs.declared.expr.Node.{Node}
+use Rattle.ln_tree.specs.declared.expr.Node.TheVariants.{Num, Input, Name, Neg', Add', Sub', Mul', Pow'}
+use Rattle.ln_tree.specs.Formula.{formula, node_formula}
 use Rattle.ln_tree.specs.declared.items.Param.{Param}
 use Rattle.ln_tree.specs.declared.items.Site.{Site}
 use Rattle.ln_tree.specs.declared.pred.Pred.{Pred}
 use Rattle.ln_tree.specs.Table.{PredOf, TableOf, is_table, pred_of}
-use Rattle.ln_bound.specs.Light.{AreLight, IsBoundFault}
+use Rattle.ln_algebra.specs.Weights.{weighted_sum}
+use Rattle.ln_bound.specs.Light.{AreLight, IsBoundFault, most}
+use Rattle.ln_bound.specs.Value.{weights}
 use Rattle.ln_bound.proofs.WidthLaws.{le_test}
-use Rattle.ln_poly.specs.Sparse.{Sparse}
+use Rattle.ln_poly.specs.Sparse.{Sparse, terms_of}
 use Rattle.ln_poly.specs.Expansion.{HaveFewTerms, IsNormal, IsTermsFault}
+use Rattle.ln_poly.proofs.Collected.{collected}
 use Rattle.ln_poly.proofs.Counting.{no-terms-zero}
+use Rattle.ln_poly.proofs.Products.{over-terms}
 use Rattle.ln_parse.specs.declared.source.ParseStop.{ParseStop}
 use Rattle.ln_parse.specs.Text.{TextOf}
 use Rattle.ln_parse.specs.Fault.{IsRefusal as IsParseRefusal}
 use Rattle.ln_compile.specs.declared.refusal.Refusal.{Refusal}
 use Rattle.ln_compile.specs.declared.refusal.Refusal.TheVariants.{Bound, Terms, Zero}
-use Rattle.ln_compile.specs.Accepted.{AreSound, IsSound, expanded_of, root_of, weighed_of}
-use Rattle.ln_compile.specs.Refused.{IsPredFault, IsRefusal, StopsPred, StopsPreds, bound, of_pred, of_text, refusal_of, terms, zero as zero_root}
+use Rattle.ln_compile.specs.Accepted.{AreSound, IsHeavyFault, IsSound, expanded_of, loaded_of, root_of}
+use Rattle.ln_compile.specs.Refused.{IsPredFault, IsRefusal, StopsPred, StopsPreds, bound, heavy, of_pred, of_text, refusal_of, terms, token_of, zero as zero_root}
+use Rattle.ln_compile.proofs.CombinedLemmas.{everywhere, once}
 
 -- one more
 sound-more : (ps : List PredOf) (p : PredOf) → AreSound ps → IsSound p → AreSound (ps ++ p ∷ [])
@@ -49,15 +60,43 @@ first_fault preds i p r h e s (inl f) =
     let g : IsPredFault (length (map pred_of (take i preds))) (pred_of p) r = subst (λ k. IsPredFault k (pred_of p) r) (sym (length-front preds i h)) f in
     inl (record { before = map pred_of (take i preds); pred = pred_of p; after = map pred_of (drop (i + 1) preds); stands = all; sound = s; fault = g })
 
+-- ---- weights of one expression's normal polynomials
+weigh-same : (w : ℕ → ℕ) (n : ℕ) (e : Tree) (f g : Sparse) → IsNormal n e f → IsNormal n e g → weighted_sum w (terms_of n f) ≤ weighted_sum w (terms_of n g)
+weigh-same w n e f g p q = weighted-least w (terms_of n f) (terms_of n g) (once (terms_of n f) (collected n f p.form p.below)) (everywhere n (terms_of n f) (terms_of n g) (over-terms n f) (over-terms n g) (λ m l. p.normal.coefficients m l ∙ sym (q.normal.coefficients m l)))
+
 -- ---- the answers for one predicate
-pub bound_stops : (k : ℕ) (p : PredOf) (at : Span) → IsBoundFault (weighed_of p) at → StopsPred k p (Bound k at)
+pub bound_stops : (k : ℕ) (p : PredOf) (at : Span) → IsBoundFault (loaded_of p) at → StopsPred k p (Bound k at)
 bound_stops k p at f = inl (bound f)
 
-pub terms_stops : (k : ℕ) (p : PredOf) (at : Span) → AreLight (weighed_of p) → IsTermsFault (length p.vars) (expanded_of p) at → StopsPred k p (Terms k at)
+pub terms_stops : (k : ℕ) (p : PredOf) (at : Span) → AreLight (loaded_of p) → IsTermsFault (length p.vars) (expanded_of p) at → StopsPred k p (Terms k at)
 terms_stops k p at l f = inl (terms l f)
 
-pub zero_stops : (k : ℕ) (p : PredOf) (f : Sparse) → AreLight (weighed_of p) → HaveFewTerms (length p.vars) (expanded_of p) → IsNormal (length p.vars) (root_of p) f → f ≡ [] → StopsPred k p (Zero k p.at)
-zero_stops k p f l t n e = inl (zero_root l t (no-terms-zero (length p.vars) (root_of p) f n e))
+pub heavy_stops : (k : ℕ) (p : PredOf) (f : Sparse) (at : Span) → at ≡ token_of p.root → AreLight (loaded_of p) → HaveFewTerms (length p.vars) (expanded_of p) → IsNormal (length p.vars) (root_of p) f → most < weighted_sum (weights p.vars) (terms_of (length p.vars) f) → StopsPred k p (Bound k at)
+heavy_stops k p f at e l t n h = rw e (inl (heavy l t (record { poly = f; normal = n; heavy = h })))
+
+pub zero_stops : (k : ℕ) (p : PredOf) (f : Sparse) → AreLight (loaded_of p) → HaveFewTerms (length p.vars) (expanded_of p) → (IsHeavyFault p → ⊥) → IsNormal (length p.vars) (root_of p) f → f ≡ [] → StopsPred k p (Zero k p.at)
+zero_stops k p f l t w n e = inl (zero_root l t w (no-terms-zero (length p.vars) (root_of p) f n e))
+
+-- all normal polynomials of one expression weigh the same, so a predicate is no heavier as a whole than one of them
+pub not_heavy : (p : PredOf) (f : Sparse) → IsNormal (length p.vars) (root_of p) f → weighted_sum (weights p.vars) (terms_of (length p.vars) f) ≤ most → IsHeavyFault p → ⊥
+not_heavy p f n l h =
+    let m : weighted_sum (weights p.vars) (terms_of (length p.vars) h.poly) ≤ weighted_sum (weights p.vars) (terms_of (length p.vars) f) = weigh-same (weights p.vars) (length p.vars) (root_of p) h.poly f h.normal n in
+    let k = h.heavy in
+    absurd (omega (arith, l, m, k))
+
+-- ---- the token of an expression
+pub own_token : (e : Expr) → e.at ≡ token_of (formula e)
+own_token e = by_node e.at e.node
+  where
+    by_node : (at : Span) (n : Node) → at ≡ token_of (node_formula at n)
+    by_node at (Num c) = refl
+    by_node at (Input v) = refl
+    by_node at (Name j) = refl
+    by_node at (Neg' q a x) = refl
+    by_node at (Add' q a x r b y) = refl
+    by_node at (Sub' q a x r b y) = refl
+    by_node at (Mul' q a x r b y) = refl
+    by_node at (Pow' q a x n) = refl
 
 -- ---- the answers for a source
 pub text_refusal : (bytes : List ℕ) (e : ParseStop) → IsParseRefusal bytes e → IsRefusal bytes (refusal_of e)

@@ -2,6 +2,7 @@ pub mod BuildingLemmas
 pub mod CombinedLemmas
 pub mod CopyLemmas
 pub mod DerivingLemmas
+pub mod FaultlessLemmas
 pub mod FewestLemmas
 pub mod FilteredLemmas
 pub mod GatheringLemmas
@@ -17,3 +18,5 @@ pub mod NodesIn
 pub mod Pushing
 pub mod SourceNodes
 pub mod SmallBlocks
+pub mod Staying
+pub mod TextFits

@@ -21,9 +21,8 @@ use Rattle.ln_order.specs.Sites.{site_of}
 use Rattle.ln_poly.specs.Expansion.{IsNormal}
 use Rattle.ln_poly.specs.Sparse.{Sparse, coefficient_at, terms_of}
 use Rattle.ln_poly.proofs.Lets.{trees-of}
-use Rattle.ln_poly.proofs.Lowering.{found}
 use Rattle.ln_poly.proofs.Products.{length-vector, over-terms}
-use Rattle.ln_order.proofs.PairsLemmas.{vector-get}
+use Rattle.ln_tree.proofs.Powers.{found, vector-get}
 use Rattle.ln_code.proofs.Runs.{some_is}
 use Rattle.ln_code.specs.Carried.{CarriesDerivative, CarriesWhole}
 use Rattle.ln_code.specs.FilterRules.{FilterKnown}

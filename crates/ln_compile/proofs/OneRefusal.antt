@@ -9,8 +9,8 @@ use Rattle.ln_poly.specs.Expansion.{HasTooManyTerms, HaveFewTerms, IsTermsFault}
 use Rattle.ln_parse.proofs.OneAnswer.{no_fault, one_fault, one_table}
 use Rattle.ln_compile.specs.declared.refusal.Refusal.{Refusal}
 use Rattle.ln_compile.specs.declared.refusal.Refusal.TheVariants.{Bound, Terms}
-use Rattle.ln_compile.specs.Accepted.{Accepted, AreSound, IsSound, expanded_of, weighed_of}
-use Rattle.ln_compile.specs.Refused.{IsFirstFault, IsPredFault, IsRefusal, IsRefusedFor, IsTheOne, IsUnaccepted, bound, of_pred, of_text, refusal_of, stages, terms, zero}
+use Rattle.ln_compile.specs.Accepted.{Accepted, AreSound, IsSound, expanded_of, loaded_of}
+use Rattle.ln_compile.specs.Refused.{IsFirstFault, IsPredFault, IsRefusal, IsRefusedFor, IsTheOne, IsUnaccepted, bound, heavy, of_pred, of_text, refusal_of, stages, terms, zero}
 
 -- ---- the first that isn't good
 heads : {A : Type 0} (x y : A) (xs ys : List A) → x ∷ xs ≡ y ∷ ys → (x ≡ y) × (xs ≡ ys)
@@ -38,14 +38,14 @@ lights : (ns : List (Span × ℕ)) → AreLight ns → AllByRecursion Light ns
 lights [] l = tt
 lights (n ∷ ns) l = (l.0, lights ns l.1)
 
-heavy : (w : ℕ) → most < w → w ≤ most → ⊥
-heavy w h l = absurd (omega (arith, h, l))
+past : (w : ℕ) → most < w → w ≤ most → ⊥
+past w h l = absurd (omega (arith, h, l))
 
 bound_one : (ns : List (Span × ℕ)) (a b : Span) → IsBoundFault ns a → IsBoundFault ns b → a ≡ b
-bound_one ns a b f g = ap (λ (n : Span × ℕ). n.0) (first_one Light f.before g.before (a, f.weight) (b, g.weight) f.after g.after (sym f.stands ∙ g.stands) (lights f.before f.light) (lights g.before g.light) (heavy f.weight f.heavy) (heavy g.weight g.heavy)).0
+bound_one ns a b f g = ap (λ (n : Span × ℕ). n.0) (first_one Light f.before g.before (a, f.weight) (b, g.weight) f.after g.after (sym f.stands ∙ g.stands) (lights f.before f.light) (lights g.before g.light) (past f.weight f.heavy) (past g.weight g.heavy)).0
 
 no_bound : (ns : List (Span × ℕ)) (a : Span) → AreLight ns → IsBoundFault ns a → ⊥
-no_bound ns a l f = heavy f.weight f.heavy (all_good Light f.before (a, f.weight) f.after (lights (f.before ++ (a, f.weight) ∷ f.after) (subst AreLight f.stands l)))
+no_bound ns a l f = past f.weight f.heavy (all_good Light f.before (a, f.weight) f.after (lights (f.before ++ (a, f.weight) ∷ f.after) (subst AreLight f.stands l)))
 
 abbrev Few : ℕ → Span × Tree → Type 0
 Few n x = HasTooManyTerms n x.1 → ⊥
@@ -62,28 +62,38 @@ no_terms n ns a l f = all_good (Few n) f.before (a, f.node) f.after (fews n (f.b
 
 -- a predicate has one fault, and none where it is sound
 pred_one : (k : ℕ) (p : PredOf) (r s : Refusal) → IsPredFault k p r → IsPredFault k p s → r ≡ s
-pred_one k p r s (bound {at} f) (bound {at = b} g) = ap (Bound k) (bound_one (weighed_of p) at b f g)
-pred_one k p r s (bound {at} f) (terms {at = b} l g) = absurd (no_bound (weighed_of p) at l f)
-pred_one k p r s (bound {at} f) (zero l t z) = absurd (no_bound (weighed_of p) at l f)
-pred_one k p r s (bound {at} f) (stages l t z g) = absurd (no_bound (weighed_of p) at l f)
-pred_one k p r s (terms {at} l f) (bound {at = b} g) = absurd (no_bound (weighed_of p) b l g)
+pred_one k p r s (bound {at} f) (bound {at = b} g) = ap (Bound k) (bound_one (loaded_of p) at b f g)
+pred_one k p r s (bound {at} f) (terms {at = b} m g) = absurd (no_bound (loaded_of p) at m f)
+pred_one k p r s (bound {at} f) (heavy m u j) = absurd (no_bound (loaded_of p) at m f)
+pred_one k p r s (bound {at} f) (zero m u x y) = absurd (no_bound (loaded_of p) at m f)
+pred_one k p r s (bound {at} f) (stages m u x y g) = absurd (no_bound (loaded_of p) at m f)
+pred_one k p r s (terms {at} l f) (bound {at = b} g) = absurd (no_bound (loaded_of p) b l g)
 pred_one k p r s (terms {at} l f) (terms {at = b} m g) = ap (Terms k) (terms_one (length p.vars) (expanded_of p) at b f g)
-pred_one k p r s (terms {at} l f) (zero m t z) = absurd (no_terms (length p.vars) (expanded_of p) at t f)
-pred_one k p r s (terms {at} l f) (stages m t z g) = absurd (no_terms (length p.vars) (expanded_of p) at t f)
-pred_one k p r s (zero l t z) (bound {at} g) = absurd (no_bound (weighed_of p) at l g)
-pred_one k p r s (zero l t z) (terms {at} m g) = absurd (no_terms (length p.vars) (expanded_of p) at t g)
-pred_one k p r s (zero l t z) (zero m u y) = refl
-pred_one k p r s (zero l t z) (stages m u y g) = absurd (y z)
-pred_one k p r s (stages l t z f) (bound {at} g) = absurd (no_bound (weighed_of p) at l g)
-pred_one k p r s (stages l t z f) (terms {at} m g) = absurd (no_terms (length p.vars) (expanded_of p) at t g)
-pred_one k p r s (stages l t z f) (zero m u y) = absurd (z y)
-pred_one k p r s (stages l t z f) (stages m u y g) = refl
+pred_one k p r s (terms {at} l f) (heavy m u j) = absurd (no_terms (length p.vars) (expanded_of p) at u f)
+pred_one k p r s (terms {at} l f) (zero m u x y) = absurd (no_terms (length p.vars) (expanded_of p) at u f)
+pred_one k p r s (terms {at} l f) (stages m u x y g) = absurd (no_terms (length p.vars) (expanded_of p) at u f)
+pred_one k p r s (heavy l t h) (bound {at = b} g) = absurd (no_bound (loaded_of p) b l g)
+pred_one k p r s (heavy l t h) (terms {at = b} m g) = absurd (no_terms (length p.vars) (expanded_of p) b t g)
+pred_one k p r s (heavy l t h) (heavy m u j) = refl
+pred_one k p r s (heavy l t h) (zero m u x y) = absurd (x h)
+pred_one k p r s (heavy l t h) (stages m u x y g) = absurd (x h)
+pred_one k p r s (zero l t w z) (bound {at = b} g) = absurd (no_bound (loaded_of p) b l g)
+pred_one k p r s (zero l t w z) (terms {at = b} m g) = absurd (no_terms (length p.vars) (expanded_of p) b t g)
+pred_one k p r s (zero l t w z) (heavy m u j) = absurd (w j)
+pred_one k p r s (zero l t w z) (zero m u x y) = refl
+pred_one k p r s (zero l t w z) (stages m u x y g) = absurd (y z)
+pred_one k p r s (stages l t w z f) (bound {at = b} g) = absurd (no_bound (loaded_of p) b l g)
+pred_one k p r s (stages l t w z f) (terms {at = b} m g) = absurd (no_terms (length p.vars) (expanded_of p) b t g)
+pred_one k p r s (stages l t w z f) (heavy m u j) = absurd (w j)
+pred_one k p r s (stages l t w z f) (zero m u x y) = absurd (z y)
+pred_one k p r s (stages l t w z f) (stages m u x y g) = refl
 
 no_pred : (k : ℕ) (p : PredOf) (r : Refusal) → IsPredFault k p r → IsSound p → ⊥
-no_pred k p r (bound {at} f) s = no_bound (weighed_of p) at s.light f
+no_pred k p r (bound {at} f) s = no_bound (loaded_of p) at s.light f
 no_pred k p r (terms {at} l f) s = no_terms (length p.vars) (expanded_of p) at s.few f
-no_pred k p r (zero l t z) s = s.nonzero z
-no_pred k p r (stages l t z f) s = s.staged f
+no_pred k p r (heavy l t h) s = s.whole h
+no_pred k p r (zero l t w z) s = s.nonzero z
+no_pred k p r (stages l t w z f) s = s.staged f
 
 sounds : (ps : List PredOf) → AreSound ps → AllByRecursion IsSound ps
 sounds [] s = tt

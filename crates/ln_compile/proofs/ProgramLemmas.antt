@@ -2,26 +2,30 @@
 use Rattle.std.proofs.Common.{◌≡◌, ℕ, ◌+◌, ◌*◌, ◌^◌, ◌<◌, ◌≤◌, zero, suc, List, [], ◌∷◌, length, map, refl, ap, sym, subst, ◌∙◌, arith, Option}
 use Rattle.std.specs.Prelude.{◌≢◌, All, IfSome}
 use Rattle.std.proofs.lemmas.List.{length-map}
+use Rattle.ln_algebra.specs.Sizes.{two}
 use Rattle.ln_tree.specs.declared.pred.Pred.{Pred}
 use Rattle.ln_tree.specs.declared.shape.Shape.{Shape}
 use Rattle.ln_tree.specs.Exps.{Pairs, vector}
 use Rattle.ln_tree.specs.Formula.{formula, tree}
 use Rattle.ln_tree.specs.Table.{pred_of}
 use Rattle.ln_bound.specs.Light.{AreLight}
-use Rattle.ln_bound.specs.Value.{weights}
+use Rattle.ln_order.specs.Orders.{orders_of}
+use Rattle.ln_order.specs.Prefixes.{beside, prefixes_of, segments_from}
 use Rattle.ln_poly.specs.Expansion.{IsNormal, closed_lets}
 use Rattle.ln_poly.specs.Sparse.{Sparse, terms_of}
-use Rattle.ln_poly.proofs.Lets.{pred-light, root-light}
+use Rattle.ln_poly.proofs.Lets.{root-light}
+use Rattle.ln_poly.proofs.Sizing.{pred-expands}
 use Rattle.ln_stage.specs.Lists.{AreStageLists, all_covering, first_seen, stage_count, stage_weight}
 use Rattle.ln_stage.specs.Staged.{AreStagesOf, Staged, block_vector, vectors_of}
 use Rattle.ln_code.specs.Carried.{CarriesWhole}
 use Rattle.ln_code.specs.Kept.{FollowsFilterRules, IsList, IsProgram}
+use Rattle.ln_code.specs.Lists.{list_of, lists_of}
 use Rattle.ln_code.specs.Part.{Code, FilterCode, Part, ops_in_blocks, ops_in_filter}
 use Rattle.ln_due.specs.Small.{FilterPushesSmall}
-use Rattle.ln_compile.specs.Accepted.{root_of, weighed_of}
+use Rattle.ln_compile.specs.Accepted.{root_of, loaded_of}
 use Rattle.ln_compile.specs.Compiled.{IsFilterOf, IsProgramOf}
 use Rattle.ln_compile.specs.Made.{AreBlocksOf}
-use Rattle.ln_compile.proofs.ListLemmas.{order-stages, staged}
+use Rattle.ln_compile.proofs.ListLemmas.{of-each, order-stages, staged}
 use Rattle.ln_compile.proofs.ListingLemmas.{lists-are, stages-few}
 
 -- ---- exponents with the same vectors
@@ -40,10 +44,10 @@ map-same : {A B : Type 0} (g h : A → B) (xs : List A) → ((x : A) → g x ≡
 map-same g h [] e = refl
 map-same g h (x ∷ xs) e = let r : map g xs ≡ map h xs = map-same g h xs e in ap (λ z. z ∷ map g xs) (e x) ∙ ap (λ z. h x ∷ z) r
 
--- the program's lists are the stages'
-same-vectors : (s : Shape) (st : Staged) (filter : Option FilterCode) (blocks : List Code) → map (λ (c : Code). vector (length s.vars) c.exps) blocks ≡ map (vector (length s.vars)) st.exps
-    → vectors_of (length s.vars) (staged (record { shape = s; filter = filter; blocks = blocks; lists = st.lists })) ≡ vectors_of (length s.vars) st
-same-vectors s st filter blocks e = map-same (λ list. map (block_vector (length s.vars) (map (λ (c : Code). c.exps) blocks)) list) (λ list. map (block_vector (length s.vars) st.exps) list) st.lists (λ list. map-same (block_vector (length s.vars) (map (λ (c : Code). c.exps) blocks)) (block_vector (length s.vars) st.exps) list (same-at (length s.vars) blocks st.exps e))
+-- the exponents of blocks with the vectors of the stages have the stages' lists
+same-vectors : (s : Shape) (st : Staged) (blocks : List Code) → map (λ (c : Code). vector (length s.vars) c.exps) blocks ≡ map (vector (length s.vars)) st.exps
+    → map (λ list. map (block_vector (length s.vars) (map (λ (c : Code). c.exps) blocks)) list) st.lists ≡ vectors_of (length s.vars) st
+same-vectors s st blocks e = map-same (λ list. map (block_vector (length s.vars) (map (λ (c : Code). c.exps) blocks)) list) (λ list. map (block_vector (length s.vars) st.exps) list) st.lists (λ list. map-same (block_vector (length s.vars) (map (λ (c : Code). c.exps) blocks)) (block_vector (length s.vars) st.exps) list (same-at (length s.vars) blocks st.exps e))
 
 blocks-length : (n : ℕ) (blocks : List Code) (exps : List Pairs) → map (λ (c : Code). vector n c.exps) blocks ≡ map (vector n) exps → length blocks ≡ length exps
 blocks-length n blocks exps e = omega (arith, ap length e, length-map blocks (λ (c : Code). vector n c.exps), length-map exps (vector n))
@@ -51,11 +55,11 @@ blocks-length n blocks exps e = omega (arith, ap length e, length-map blocks (λ
 few-ops : (first ops cover len : ℕ) → first ≤ 1048640 → ops ≤ 524352 + 4096 * cover + 68 * len → cover ≤ 131072 → len ≤ 65536 → first + ops < 2 ^ 32
 few-ops first ops cover len f h k l = omega (arith, f, h, k, l)
 
-module _ (p : Pred) (f : Sparse) (st : Staged) (blocks : List Code) (light : AreLight (weighed_of (pred_of p))) (normal : IsNormal (length p.shape.vars) (root_of (pred_of p)) f) (some : f ≢ []) (stages : AreStagesOf p.shape.sites p.shape.vars f st)
+module _ (p : Pred) (f : Sparse) (st : Staged) (blocks : List Code) (light : AreLight (loaded_of (pred_of p))) (normal : IsNormal (length p.shape.vars) (root_of (pred_of p)) f) (some : f ≢ []) (stages : AreStagesOf p.shape.sites p.shape.vars f st)
     (count : stage_count (vectors_of (length p.shape.vars) st) ≤ 65536) (heavy : stage_weight (length p.shape.vars) f (vectors_of (length p.shape.vars) st) ≤ 131072) (made : AreBlocksOf (pred_of p) f st.exps blocks)
     (filter : Option FilterCode) (own : IsFilterOf (pred_of p) filter) (rules : IfSome filter (FollowsFilterRules p.shape.vars)) (whole : IfSome filter (CarriesWhole p.shape.vars (terms_of (length p.shape.vars) f))) (short : ops_in_filter filter ≤ 1048640) (pushes : IfSome filter (FilterPushesSmall p.shape.vars)) where
   abbrev pub part : Part
-  part = record { shape = p.shape; filter = filter; blocks = blocks; lists = st.lists }
+  part = record { shape = p.shape; filter = filter; blocks = blocks; segments = st.segments }
 
   as-many : length blocks ≡ length st.exps
   as-many = blocks-length (length p.shape.vars) blocks st.exps made.vectors
@@ -63,8 +67,12 @@ module _ (p : Pred) (f : Sparse) (st : Staged) (blocks : List Code) (light : Are
   pub few-blocks : length blocks ≤ 65536
   few-blocks = omega (arith, as-many, stages-few p.shape.sites p.shape.vars f st stages, count)
 
-  size : length st.lists ≡ length (vectors_of (length p.shape.vars) st)
-  size = sym (length-map st.lists (λ list. map (block_vector (length p.shape.vars) st.exps) list))
+  -- the program's lists are the stages'
+  own-lists : lists_of part ≡ st.lists
+  own-lists = sym (stages.segments.make ∙ ap (λ n. map (λ o. segments_from (beside (prefixes_of n) st.segments) o 0) (orders_of p.shape.sites)) stages.sites)
+
+  own-vectors : vectors_of (length p.shape.vars) (staged part) ≡ vectors_of (length p.shape.vars) st
+  own-vectors = ap (map (λ list. map (block_vector (length p.shape.vars) (map (λ (c : Code). c.exps) blocks)) list)) own-lists ∙ same-vectors p.shape st blocks made.vectors
 
   pub is-program : IsProgram part
   is-program = record {
@@ -72,8 +80,9 @@ module _ (p : Pred) (f : Sparse) (st : Staged) (blocks : List Code) (light : Are
     filter = rules;
     few = omega (arith, few-ops (ops_in_filter filter) (ops_in_blocks blocks) (all_covering (length p.shape.vars) f (map (vector (length p.shape.vars)) st.exps)) (length st.exps) short made.few (omega (arith, heavy, ap (all_covering (length p.shape.vars) f) stages.first_sight)) (omega (arith, stages-few p.shape.sites p.shape.vars f st stages, count)));
     of_sites = λ k d l. (made.each k d l).of_sites;
-    orders = size ∙ stages.lists.size;
-    lists = subst (λ n. All (IsList n) st.lists) (sym as-many) (lists-are p.shape.sites p.shape.vars f st stages normal.form normal.below some);
+    prefixes = stages.segments.size;
+    named = subst (λ n. All (λ segment. All (λ i. i < n) segment) st.segments) (sym as-many) stages.segments.numbers;
+    lists = λ o h. of-each p.shape.sites (list_of part) st.lists (IsList (length blocks)) o (sym own-lists) (subst (λ n. All (IsList n) st.lists) (sym as-many) (lists-are p.shape.sites p.shape.vars f st stages normal.form normal.below some)) h;
   }
 
   pub is-program-of : IsProgramOf (pred_of p) part
@@ -85,14 +94,14 @@ module _ (p : Pred) (f : Sparse) (st : Staged) (blocks : List Code) (light : Are
     poly = f;
     normal = normal;
     carries = record {
-      inputs = (root-light (length p.shape.vars) (weights p.shape.vars) (closed_lets p.shape.vars (map formula p.lets)) (tree p.shape.vars (formula p.root)) (pred-light p.args p.shape.vars p.lets (length p.let_names) p.root p.kept light).1).inputs;
+      inputs = (root-light (length p.shape.vars) two (closed_lets p.shape.vars (map formula p.lets)) (tree p.shape.vars (formula p.root)) (pred-expands p.args p.shape.vars p.lets (length p.let_names) p.root p.kept light).1).inputs;
       normal = normal.normal;
-      lists = λ places list l. order-stages part (root_of (pred_of p)) f places list normal.normal (subst (AreStageLists p.shape.sites p.shape.vars f) (sym (same-vectors p.shape st filter blocks made.vectors)) stages.lists) l;
+      lists = λ places list l. order-stages part (root_of (pred_of p)) f places list normal.normal (subst (AreStageLists p.shape.sites p.shape.vars f) (sym own-vectors) stages.lists) l;
       blocks = λ k d l. (made.each k d l).carries;
       filter = whole;
     };
     exact = λ k d l. (made.each k d l).exact;
-    sight = made.vectors ∙ stages.first_sight ∙ ap first_seen (sym (same-vectors p.shape st filter blocks made.vectors));
+    sight = made.vectors ∙ stages.first_sight ∙ ap first_seen (sym own-vectors);
     small = record { blocks = λ k d l. (made.each k d l).small; filter = pushes };
     begins = record { block = made.own; first = made.first; own = made.is_own; short = omega (arith, made.small, short) };
   }

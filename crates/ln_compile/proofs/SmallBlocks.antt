@@ -16,7 +16,7 @@ use Rattle.ln_bound.specs.declared.fitted.Fitted.{Fitted}
 use Rattle.ln_bound.specs.Light.{AreLight}
 use Rattle.ln_bound.specs.Typed.{Typed, untyped}
 use Rattle.ln_bound.specs.View.{typed}
-use Rattle.ln_order.proofs.PairsLemmas.{vector-get}
+use Rattle.ln_tree.proofs.Powers.{vector-get}
 use Rattle.ln_poly.specs.Expansion.{HaveFewTerms, IsNormal, closed_lets, expanded, expanded_lets}
 use Rattle.ln_poly.specs.Sparse.{AreRising, Sparse}
 use Rattle.ln_poly.proofs.Counting.{many-terms}
@@ -29,7 +29,7 @@ use Rattle.ln_code.specs.Part.{Code, FilterCode}
 use Rattle.ln_due.specs.Small.{BlockPushesSmall, FilterPushesSmall}
 use Rattle.ln_lower.specs.Nodes as lower
 use Rattle.ln_filter.specs.Nodes as filter
-use Rattle.ln_compile.specs.Accepted.{expanded_of, root_of, weighed_of}
+use Rattle.ln_compile.specs.Accepted.{expanded_of, root_of, loaded_of}
 use Rattle.ln_compile.specs.Derived.{IsDerivative}
 use Rattle.ln_compile.proofs.DerivingLemmas.{derivative-few}
 use Rattle.ln_compile.proofs.LeanNodes.{lean-nodes}
@@ -83,7 +83,7 @@ derivative-pushes vars f h a lets t c d few z lean nodes =
     (subst (λ (us : List Fitted). lower.PushNodes (IsNodeOf (map typed us) t) (lower.pushed_by vars c)) z nodes)
 
 -- ---- the source's own block, and the filter
-module _ (p : Pred) (lets : List Fitted) (root : Fitted) (l : map untyped (map typed lets) ≡ map (tree_of p.shape.vars) p.lets) (r : untyped (typed root) ≡ tree_of p.shape.vars p.root) (light : AreLight (weighed_of (pred_of p))) (few : HaveFewTerms (length p.shape.vars) (expanded_of (pred_of p))) where
+module _ (p : Pred) (lets : List Fitted) (root : Fitted) (l : map untyped (map typed lets) ≡ map (tree_of p.shape.vars) p.lets) (r : untyped (typed root) ≡ tree_of p.shape.vars p.root) (light : AreLight (loaded_of (pred_of p))) (few : HaveFewTerms (length p.shape.vars) (expanded_of (pred_of p))) where
   -- what the source's own block pushes is small
   pub own-pushes : (c : Code) → lower.PushNodes (IsNodeOf (map typed lets) (typed root)) (lower.pushed_by p.shape.vars c) → BlockPushesSmall p.shape.vars c
   own-pushes c nodes = pushes-small (length p.shape.vars) (IsNodeOf (map typed lets) (typed root)) (lower.pushed_by p.shape.vars c) (λ e v h. source-small p (map typed lets) (typed root) e v (l ∙ sym (trees-of p.shape.vars p.lets)) r light few h) nodes

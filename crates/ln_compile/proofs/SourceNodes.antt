@@ -3,6 +3,7 @@ use Rattle.std.proofs.Common.{◌≡◌, ◌⊎◌, inl, inr, ℕ, ◌<◌, ◌�
 use Rattle.std.proofs.Math.Nat.{pow-le-pow_right, pow-suc, pow-zero}
 use Rattle.std.proofs.lemmas.Bool.{cases_lt}
 use Rattle.ln_base.specs.declared.span.Span.{Span}
+use Rattle.ln_algebra.specs.Sizes.{two}
 use Rattle.ln_algebra.specs.Tree.{Tree, Num, Input, Name, Neg, Add, Sub, Mul, Pow, inlined, inlined_after}
 use Rattle.ln_algebra.specs.Weights.{weight}
 use Rattle.ln_tree.specs.declared.pred.Pred.{Pred}
@@ -13,21 +14,14 @@ use Rattle.ln_bound.specs.declared.fitted.Width.{Width}
 use Rattle.ln_bound.specs.Light.{most}
 use Rattle.ln_bound.specs.Light as bound
 use Rattle.ln_bound.specs.Typed.{Typed, untyped}
-use Rattle.ln_bound.specs.Value.{weights}
 use Rattle.ln_poly.specs.Expansion.{HasTooManyTerms, HaveFewTerms, closed_lets, expanded, expanded_lets, powers}
 use Rattle.ln_poly.specs.Ready.{AreLight, IsLight, LetsAreLight}
-use Rattle.ln_poly.proofs.Lets.{pred-light}
+use Rattle.ln_poly.proofs.Sizing.{pred-expands}
 use Rattle.ln_code.specs.Nodes.{IsLetNode, IsNodeOf}
 use Rattle.ln_due.specs.Small.{IsSmall}
 use Rattle.ln_due.proofs.Smallness.{light-low, zeroth-few}
-use Rattle.ln_compile.specs.Accepted.{expanded_of, weighed_of}
+use Rattle.ln_compile.specs.Accepted.{expanded_of, loaded_of}
 use Rattle.ln_compile.proofs.NodesIn.{NodeIn, node-in}
-
--- each variable weighs at least 2
-two-weights : (vars : List VarInfo) (v : ℕ) → v < length vars → 2 ≤ weights vars v
-two-weights [] v h = absurd (omega arith)
-two-weights (i ∷ vars) zero h = omega arith
-two-weights (i ∷ vars) (suc v) h = two-weights vars v (omega arith)
 
 -- ---- few terms
 -- of two lists
@@ -113,16 +107,16 @@ module _ (n : ℕ) (w : ℕ → ℕ) (ls : List Tree) where
 -- ---- all nodes of a predicate
 module _ (vars : List VarInfo) where
   -- each node of a formula behind closed lets is small
-  node-small : (ls : List Tree) (f : Formula) (t : Typed) (e : Tree) (v : Width) → untyped t ≡ tree vars f → HaveFewTerms (length vars) (expanded vars ls f) → AreLight (length vars) (weights vars) ls (tree vars f) → NodeIn ls (untyped t) e → IsSmall (length vars) e
+  node-small : (ls : List Tree) (f : Formula) (t : Typed) (e : Tree) (v : Width) → untyped t ≡ tree vars f → HaveFewTerms (length vars) (expanded vars ls f) → AreLight (length vars) two ls (tree vars f) → NodeIn ls (untyped t) e → IsSmall (length vars) e
   node-small ls f t e v q few light h =
       let k : NodeIn ls (tree vars f) e = subst (λ (d : Tree). NodeIn ls d e) q h in
       record {
         few = λ many. node-few (length vars) vars ls f e few k many;
-        low = λ m u mono. light-low (length vars) (weights vars) e m u (two-weights vars) (node-light (length vars) (weights vars) ls (tree vars f) e light k) mono;
+        low = λ m u mono. light-low (length vars) two e m u (λ k g. omega arith) (node-light (length vars) two ls (tree vars f) e light k) mono;
       }
 
   -- so is each node of the lets
-  let-small : (done : List Tree) (fs : List Formula) (ts : List Typed) (e : Tree) (v : Width) → map untyped ts ≡ map (tree vars) fs → HaveFewTerms (length vars) (expanded_lets vars done fs) → LetsAreLight (length vars) (weights vars) done (map (tree vars) fs) → IsLetNode done ts e v → IsSmall (length vars) e
+  let-small : (done : List Tree) (fs : List Formula) (ts : List Typed) (e : Tree) (v : Width) → map untyped ts ≡ map (tree vars) fs → HaveFewTerms (length vars) (expanded_lets vars done fs) → LetsAreLight (length vars) two done (map (tree vars) fs) → IsLetNode done ts e v → IsSmall (length vars) e
   let-small done [] [] e v q few light h = absurd h
   let-small done (f ∷ fs) [] e v q few light h = absurd h
   let-small done [] (t ∷ ts) e v q few light h = cc
@@ -137,12 +131,12 @@ module _ (vars : List VarInfo) where
 
 -- each node of an accepted predicate's sized trees is small
 pub source-small : (p : Pred) (lets : List Typed) (root : Typed) (e : Tree) (v : Width) → map untyped lets ≡ map (tree p.shape.vars) (map formula p.lets) → untyped root ≡ tree p.shape.vars (formula p.root)
-    → bound.AreLight (weighed_of (pred_of p)) → HaveFewTerms (length p.shape.vars) (expanded_of (pred_of p)) → IsNodeOf lets root e v → IsSmall (length p.shape.vars) e
+    → bound.AreLight (loaded_of (pred_of p)) → HaveFewTerms (length p.shape.vars) (expanded_of (pred_of p)) → IsNodeOf lets root e v → IsSmall (length p.shape.vars) e
 source-small p lets root e v q r light few (inl h) =
-    let l = pred-light p.args p.shape.vars p.lets (length p.let_names) p.root p.kept light in
+    let l = pred-expands p.args p.shape.vars p.lets (length p.let_names) p.root p.kept light in
     let-small p.shape.vars [] (map formula p.lets) lets e v q (few-left (length p.shape.vars) (expanded_lets p.shape.vars [] (map formula p.lets)) (expanded p.shape.vars (closed_lets p.shape.vars (map formula p.lets)) (formula p.root)) few) l.0 h
 source-small p lets root e v q r light few (inr h) =
-    let l = pred-light p.args p.shape.vars p.lets (length p.let_names) p.root p.kept light in
+    let l = pred-expands p.args p.shape.vars p.lets (length p.let_names) p.root p.kept light in
     let ls : inlined_after [] (map untyped lets) ≡ closed_lets p.shape.vars (map formula p.lets) = ap (inlined_after []) q in
     node-small p.shape.vars (closed_lets p.shape.vars (map formula p.lets)) (formula p.root) root e v r (few-right (length p.shape.vars) (expanded_lets p.shape.vars [] (map formula p.lets)) (expanded p.shape.vars (closed_lets p.shape.vars (map formula p.lets)) (formula p.root)) few) l.1
     (subst (λ (ds : List Tree). NodeIn ds (untyped root) e) ls (node-in (inlined_after [] (map untyped lets)) root e v h))

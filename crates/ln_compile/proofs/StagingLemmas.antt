@@ -31,7 +31,7 @@ use Rattle.ln_stage.specs.Lists.{AreStageLists, Passes, all_covering, covering, 
 use Rattle.ln_stage.specs.StageList.{IsStageListOf}
 use Rattle.ln_stage.proofs.LawLemmas.{list-unique, lists-of-trees}
 use Rattle.ln_compile.specs.declared.refusal.Refusal.TheVariants.{Stages}
-use Rattle.ln_compile.specs.Accepted.{IsSound, IsStagesFault, expanded_of, root_of, weighed_of}
+use Rattle.ln_compile.specs.Accepted.{IsHeavyFault, IsSound, IsStagesFault, expanded_of, loaded_of, root_of}
 use Rattle.ln_compile.specs.Refused.{StopsPred, stages}
 use Rattle.ln_compile.proofs.CombinedLemmas.{everywhere, once, once-derived, over-derived}
 use Rattle.ln_compile.proofs.DerivingLemmas.{length-derived}
@@ -140,9 +140,9 @@ within-limits p f ls h n a c w z =
       go (inl l) e = absurd (omega (arith, l, c, ap stage_count e))
       go (inr l) e = absurd (omega (arith, l, w, ap (stage_weight (length p.vars) z.poly) e, all-same (length p.vars) (root_of p) z.poly f z.normal n (first_seen ls)))
 
-pub sound_pred : (p : PredOf) (f : Sparse) → AreLight (weighed_of p) → HaveFewTerms (length p.vars) (expanded_of p) → IsNormal (length p.vars) (root_of p) f → f ≢ [] → (IsStagesFault p → ⊥) → IsSound p
-sound_pred p f l t n d s = record { light = l; few = t; nonzero = λ z. d (zero-no-terms (length p.vars) (root_of p) f n z); staged = s }
+pub sound_pred : (p : PredOf) (f : Sparse) → AreLight (loaded_of p) → HaveFewTerms (length p.vars) (expanded_of p) → (IsHeavyFault p → ⊥) → IsNormal (length p.vars) (root_of p) f → f ≢ [] → (IsStagesFault p → ⊥) → IsSound p
+sound_pred p f l t w n d s = record { light = l; few = t; whole = w; nonzero = λ z. d (zero-no-terms (length p.vars) (root_of p) f n z); staged = s }
 
-pub stages_stops : (k : ℕ) (p : PredOf) (f : Sparse) → AreLight (weighed_of p) → HaveFewTerms (length p.vars) (expanded_of p) → IsNormal (length p.vars) (root_of p) f → f ≢ []
+pub stages_stops : (k : ℕ) (p : PredOf) (f : Sparse) → AreLight (loaded_of p) → HaveFewTerms (length p.vars) (expanded_of p) → (IsHeavyFault p → ⊥) → IsNormal (length p.vars) (root_of p) f → f ≢ []
     → ((ls : List (List (List ℕ))) × AreStageLists p.sites p.vars f ls × Passes (length p.vars) f 65536 131072 ls) → StopsPred k p (Stages k p.at)
-stages_stops k p f l t n d s = inl (stages l t (λ z. d (zero-no-terms (length p.vars) (root_of p) f n z)) (record { poly = f; normal = n; lists = s.0; are_lists = s.1; passes = s.2 }))
+stages_stops k p f l t w n d s = inl (stages l t w (λ z. d (zero-no-terms (length p.vars) (root_of p) f n z)) (record { poly = f; normal = n; lists = s.0; are_lists = s.1; passes = s.2 }))

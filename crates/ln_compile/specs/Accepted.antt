@@ -1,18 +1,21 @@
 -- Sources that are accepted.
-use Rattle.std.specs.Prelude.{ℕ, List, [], ◌∷◌, length, map}
+use Rattle.std.specs.Prelude.{ℕ, ◌<◌, List, [], ◌∷◌, length, map}
 use Rattle.ln_base.specs.declared.span.Span.{Span}
 use Rattle.ln_algebra.specs.Tree.{Tree}
+use Rattle.ln_algebra.specs.Weights.{weighted_sum}
 use Rattle.ln_tree.specs.Formula.{tree}
 use Rattle.ln_tree.specs.Table.{PredOf, TableOf}
-use Rattle.ln_bound.specs.Light.{AreLight, weighed_pred}
+use Rattle.ln_bound.specs.Light.{AreLight, most}
+use Rattle.ln_bound.specs.Loads.{loaded_pred}
+use Rattle.ln_bound.specs.Value.{weights}
 use Rattle.ln_poly.specs.Expansion.{HaveFewTerms, IsNormal, IsZeroFault, closed_root, expanded_pred}
-use Rattle.ln_poly.specs.Sparse.{Sparse}
+use Rattle.ln_poly.specs.Sparse.{Sparse, terms_of}
 use Rattle.ln_stage.specs.Lists.{AreStageLists, Passes}
 use Rattle.ln_parse.specs.Text.{TextOf}
 
--- the nodes of a predicate with their weights, in order of evaluation
-abbrev pub weighed_of : PredOf → List (Span × ℕ)
-weighed_of p = weighed_pred p.vars p.lets p.root
+-- the nodes of a predicate in order of evaluation, each with the largest absolute value of the ends of its range, or with its size where that is larger
+abbrev pub loaded_of : PredOf → List (Span × ℕ)
+loaded_of p = loaded_pred p.vars p.lets p.root
 
 -- what is expanded of it, in order of evaluation
 abbrev pub expanded_of : PredOf → List (Span × Tree)
@@ -29,6 +32,12 @@ lets_of p = map (tree p.vars) p.lets
 abbrev pub own_root : PredOf → Tree
 own_root p = tree p.vars p.root
 
+-- it is too heavy as a whole: the weighted sum of its normal polynomial, where each variable has 1 more than the largest absolute value of its range, passes 2^127 - 1
+pub record IsHeavyFault (p : PredOf) : Type 0 where
+  pub poly : Sparse
+  pub normal : IsNormal (length p.vars) (root_of p) poly
+  pub heavy : most < weighted_sum (weights p.vars) (terms_of (length p.vars) poly)
+
 -- it has too many stages: the stage lists of its normal polynomial, one for each order of its sites, have more than 65,536 stages, or more than 131,072 monomials cover their distinct stages
 pub record IsStagesFault (p : PredOf) : Type 0 where
   pub poly : Sparse
@@ -37,10 +46,11 @@ pub record IsStagesFault (p : PredOf) : Type 0 where
   pub are_lists : AreStageLists p.sites p.vars poly lists
   pub passes : Passes (length p.vars) poly 65536 131072 lists
 
--- a predicate has no fault: no node is too heavy, none has too many terms, the root isn't 0 however it is perturbed, and it hasn't too many stages
+-- a predicate has no fault: no range and no size of a node passes 2^127 - 1, no node has too many terms, it isn't too heavy as a whole, the root isn't 0 however it is perturbed, and it hasn't too many stages
 pub record IsSound (p : PredOf) : Type 0 where
-  pub light : AreLight (weighed_of p)
+  pub light : AreLight (loaded_of p)
   pub few : HaveFewTerms (length p.vars) (expanded_of p)
+  pub whole : IsHeavyFault p → ⊥
   pub nonzero : IsZeroFault (length p.vars) (root_of p) → ⊥
   pub staged : IsStagesFault p → ⊥
 

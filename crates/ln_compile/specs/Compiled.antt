@@ -15,6 +15,7 @@ use Rattle.ln_poly.specs.Expansion.{IsNormal}
 use Rattle.ln_poly.specs.Sparse.{Sparse, terms_of}
 use Rattle.ln_stage.specs.Lists.{AreStageLists, first_seen, stage_count}
 use Rattle.ln_code.specs.Carried.{Carries, vectors}
+use Rattle.ln_code.specs.Lists.{lists_of}
 use Rattle.ln_code.specs.Nodes.{IsNodeOf}
 use Rattle.ln_code.specs.Part.{Code, FilterCode, Part, filter_value, ops_in_filter}
 use Rattle.ln_due.specs.Small.{PushesSmall}
@@ -23,7 +24,7 @@ use Rattle.ln_filter.specs.Truncated.{root_number, root_triple}
 use Rattle.ln_lower.specs.Nodes.{PushNodes, pushed_by}
 use Rattle.ln_compile.specs.Accepted.{lets_of, own_root, root_of}
 
--- the block has no exponents and is made from the source's own lets and root, with bounds and widths: what its operations push are polynomials of their nodes, each bound is exactly its operation over M, and each width the least
+-- the block has no exponents and is made from the source's own lets and root, with ranges and widths: what its operations push are polynomials of their nodes, each range is exactly its operation over the operands' ranges, and each width the least
 pub record IsOwn (p : PredOf) (block : Code) : Type 0 where
   pub plain : block.exps ≡ []
   pub lets : List Typed
@@ -34,7 +35,7 @@ pub record IsOwn (p : PredOf) (block : Code) : Type 0 where
   pub exact_root : IsExact p.vars lets root
   pub nodes : PushNodes (IsNodeOf lets root) (pushed_by p.vars block)
 
--- the block is made from a tree with bounds and widths, and lets: what its operations push are polynomials of their nodes, each bound is exactly its operation over M, and each width the least
+-- the block is made from a tree with ranges and widths, and lets: what its operations push are polynomials of their nodes, each range is exactly its operation over the operands' ranges, and each width the least
 pub record IsFromExact (vars : List VarInfo) (block : Code) : Type 0 where
   pub lets : List Typed
   pub root : Typed
@@ -68,7 +69,7 @@ pub record IsProgramOf (p : PredOf) (part : Part) : Type 0 where
   pub begins : BeginsWith p part
   pub small : PushesSmall part
   pub exact : All (IsFromExact p.vars) part.blocks
-  pub sight : map (λ c. vector (length p.vars) c.exps) part.blocks ≡ first_seen (map (vectors part) part.lists)
+  pub sight : map (λ c. vector (length p.vars) c.exps) part.blocks ≡ first_seen (map (vectors part) (lists_of part))
 
 -- one program for each predicate, in order
 abbrev pub AreProgramsOf : List PredOf → List Part → Type 0

@@ -4,3 +4,5 @@ pub mod Derived
 pub mod Filtered
 pub mod Made
 pub mod Refused
+pub mod Weighed
+pub mod Faultless

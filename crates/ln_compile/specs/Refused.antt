@@ -1,6 +1,7 @@
 -- Sources that are refused, and for what.
 use Rattle.std.specs.Prelude.{◌≡◌, ℕ, List, ◌∷◌, ◌++◌, length, ◌⊎◌}
 use Rattle.ln_base.specs.declared.span.Span.{Span}
+use Rattle.ln_tree.specs.Formula.{Formula, FNum, FInput, FName, FNeg, FAdd, FSub, FMul, FPow}
 use Rattle.ln_tree.specs.Table.{PredOf, TableOf}
 use Rattle.ln_bound.specs.Light.{AreLight, IsBoundFault}
 use Rattle.ln_poly.specs.Expansion.{HaveFewTerms, IsTermsFault, IsZeroFault}
@@ -10,7 +11,7 @@ use Rattle.ln_parse.specs.Text.{TextOf}
 use Rattle.ln_parse.specs.Fault.{TextFault}
 use Rattle.ln_compile.specs.declared.refusal.Refusal.{Refusal}
 use Rattle.ln_compile.specs.declared.refusal.Refusal.TheVariants.{Lexical, Limit, Syntax, Name, Bound, Terms, Zero, Stages, NoMemory}
-use Rattle.ln_compile.specs.Accepted.{Accepted, AreSound, IsStagesFault, expanded_of, root_of, weighed_of}
+use Rattle.ln_compile.specs.Accepted.{Accepted, AreSound, IsHeavyFault, IsStagesFault, expanded_of, loaded_of, root_of}
 
 -- the refusal for what `parse` answers
 abbrev pub refusal_of : ParseStop → Refusal
@@ -20,12 +21,24 @@ refusal_of (parse.Syntax at) = Syntax at
 refusal_of (parse.Name what at) = Name what at
 refusal_of parse.NoMemory = NoMemory
 
--- the fault of predicate number k: a node that is too heavy; else a node that has too many terms; else a root that is 0, at the predicate's name; else too many stages, there
+-- the token of a node itself
+abbrev pub token_of : Formula → Span
+token_of (FNum at c) = at
+token_of (FInput at a c) = at
+token_of (FName at j) = at
+token_of (FNeg at e) = at
+token_of (FAdd at e f) = at
+token_of (FSub at e f) = at
+token_of (FMul at e f) = at
+token_of (FPow at e n) = at
+
+-- the fault of predicate number k: a node whose range or size passes 2^127 - 1; else a node that has too many terms; else too heavy a whole, at the root's own token; else a root that is 0, at the predicate's name; else too many stages, there
 pub data IsPredFault (k : ℕ) (p : PredOf) : Refusal → Type 0 where
-  bound : {at : Span} → IsBoundFault (weighed_of p) at → IsPredFault k p (Bound k at)
-  terms : {at : Span} → AreLight (weighed_of p) → IsTermsFault (length p.vars) (expanded_of p) at → IsPredFault k p (Terms k at)
-  zero : AreLight (weighed_of p) → HaveFewTerms (length p.vars) (expanded_of p) → IsZeroFault (length p.vars) (root_of p) → IsPredFault k p (Zero k p.at)
-  stages : AreLight (weighed_of p) → HaveFewTerms (length p.vars) (expanded_of p) → (IsZeroFault (length p.vars) (root_of p) → ⊥) → IsStagesFault p → IsPredFault k p (Stages k p.at)
+  bound : {at : Span} → IsBoundFault (loaded_of p) at → IsPredFault k p (Bound k at)
+  terms : {at : Span} → AreLight (loaded_of p) → IsTermsFault (length p.vars) (expanded_of p) at → IsPredFault k p (Terms k at)
+  heavy : AreLight (loaded_of p) → HaveFewTerms (length p.vars) (expanded_of p) → IsHeavyFault p → IsPredFault k p (Bound k (token_of p.root))
+  zero : AreLight (loaded_of p) → HaveFewTerms (length p.vars) (expanded_of p) → (IsHeavyFault p → ⊥) → IsZeroFault (length p.vars) (root_of p) → IsPredFault k p (Zero k p.at)
+  stages : AreLight (loaded_of p) → HaveFewTerms (length p.vars) (expanded_of p) → (IsHeavyFault p → ⊥) → (IsZeroFault (length p.vars) (root_of p) → ⊥) → IsStagesFault p → IsPredFault k p (Stages k p.at)
 
 -- the fault of the first predicate that has one
 pub record IsFirstFault (preds : List PredOf) (r : Refusal) : Type 0 where

@@ -1,23 +1,21 @@
-// The blocks of a predicate.
-ghost use Rattle.std.specs.Prelude.{◌≡◌, ◌+◌, ◌*◌, ◌<◌, ◌≤◌, ℕ, All, [], None, length, map, slice_index, slice_index_or, IfOk, OnOk};
+//! The blocks of a predicate.
+ghost use Rattle.std.specs.Prelude.{◌≡◌, ◌+◌, ◌*◌, ◌<◌, ◌≤◌, ℕ, All, [], None, length, slice_index, slice_index_or, IfOk, OnOk};
 ghost use Rattle.ln_algebra.specs.Vector.{total_degree, zeros};
 ghost use Rattle.ln_algebra.specs.Weights.{weighted_sum};
 ghost use Rattle.ln_tree.specs.Exps.{IsAbove, IsRising, vector};
-ghost use Rattle.ln_tree.specs.Formula.{formula};
 ghost use Rattle.ln_tree.specs.Table.{pred_of};
-ghost use Rattle.ln_bound.specs.Light.{AreLight, most, node_weights, weighed_pred};
+ghost use Rattle.ln_bound.specs.Light.{AreLight, most};
 ghost use Rattle.ln_bound.specs.Value.{weights};
 ghost use Rattle.ln_order.specs.Sites.{site_of};
 ghost use Rattle.ln_poly.specs.Expansion.{HaveFewTerms, IsNormal};
 ghost use Rattle.ln_poly.specs.Sparse.{AreBelow, IsPoly, Sparse, terms_of};
 ghost use Rattle.ln_stage.specs.Lists.{covering};
-ghost use Rattle.ln_compile.specs.Accepted.{expanded_of, root_of, weighed_of};
+ghost use Rattle.ln_compile.specs.Accepted.{expanded_of, loaded_of, root_of};
 ghost use Rattle.ln_compile.specs.Compiled.{IsOwn};
 ghost use Rattle.ln_compile.specs.Derived.{IsDerivative};
 ghost use Rattle.ln_compile.specs.Made.{AreBlocksOf, IsBlockOf};
 
 use ln_base::{NoMemory, Seq};
-use ln_bound::Weights;
 use ln_bound::size::size;
 use ln_code::Block;
 use ln_lower::lower;
@@ -64,28 +62,20 @@ fn derivative_block(alloc: Global, f: &Poly, s: &Shape, a: &Exps) -> Result<Bloc
 }
 
 // The block of the source's own tree with its lets.
-fn first_block(alloc: Global, p: &Pred, w: &Weights) -> Result<Block, NoMemory>
-    requires weights { w.now ≡ node_weights (weighed_pred p.now.shape.vars (map formula p.now.lets) (formula p.now.root)) }
-    requires light { AreLight (weighed_of (pred_of p.now)) }
+fn first_block(alloc: Global, p: &Pred) -> Result<Block, NoMemory>
+    requires light { AreLight (loaded_of (pred_of p.now)) }
     ensures own { IfOk result (IsOwn (pred_of p.now)) }
     ensures block { IfOk result (λ b. (f : Sparse) → IsNormal (length p.now.shape.vars) (root_of (pred_of p.now)) f → HaveFewTerms (length p.now.shape.vars) (expanded_of (pred_of p.now)) → IsBlockOf p.now.shape.vars f b) }
     ensures small { IfOk result (λ b. length b.ops ≤ 524352) }
 {
-    let sized = size(alloc, p, w)?;
+    let sized = size(alloc, p)?;
     let block = lower(alloc, &Exps::new(alloc), &p.shape, &sized.root, &sized.lets)?;
     Ok(block)
 }
 
 /// The blocks of a predicate's stages: the first from the source's own tree, each other from its derivative.
-pub(crate) fn blocks(
-    alloc: Global,
-    p: &Pred,
-    w: &Weights,
-    f: &Poly,
-    st: &Stages,
-) -> Result<Seq<Block>, NoMemory>
-    requires weights { w.now ≡ node_weights (weighed_pred p.now.shape.vars (map formula p.now.lets) (formula p.now.root)) }
-    requires light { AreLight (weighed_of (pred_of p.now)) }
+pub(crate) fn blocks(alloc: Global, p: &Pred, f: &Poly, st: &Stages) -> Result<Seq<Block>, NoMemory>
+    requires light { AreLight (loaded_of (pred_of p.now)) }
     requires terms { HaveFewTerms (length p.now.shape.vars) (expanded_of (pred_of p.now)) }
     requires normal { IsNormal (length p.now.shape.vars) (root_of (pred_of p.now)) f.now }
     requires weight { weighted_sum (weights p.now.shape.vars) (terms_of (length p.now.shape.vars) f.now) ≤ most }
@@ -96,7 +86,7 @@ pub(crate) fn blocks(
     ensures { IfOk result (AreBlocksOf (pred_of p.now) f.now st.now.exps) }
 {
     let mut blocks = Seq::new(alloc);
-    let first = first_block(alloc, p, w)?;
+    let first = first_block(alloc, p)?;
     blocks.push(first)?;
     'blocks: for i in 1..st.blocks() {
         let block = derivative_block(alloc, f, &p.shape, st.exps(i))?;

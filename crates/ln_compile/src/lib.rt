@@ -1,8 +1,9 @@
 //! Sources to compiled tables.
 //!
 //! `compile` answers the table of a source whose predicates are all accepted, with a program for each, or the one refusal that
-//! is its due: the first fault of its text; else, of the first predicate that has a fault, a node whose values may not fit 128
-//! bits, a node with too many terms, a root that is 0 however it is perturbed, or too many stages, in that order. Each program
+//! is its due: the first fault of its text; else, of the first predicate that has a fault, a node whose range or size doesn't fit 128
+//! bits, a node with too many terms, too heavy a normal polynomial, a root that is 0 however it is perturbed, or too many stages, in
+//! that order. What is accepted by the weights of its nodes is accepted so (`what_was_accepted_stays_accepted`). Each program
 //! carries its predicate's root: its lists are the stage lists of all orders of the sites, and each block computes the scaled
 //! derivative of the normal polynomial by its exponents.
 //!

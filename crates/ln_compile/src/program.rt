@@ -1,18 +1,16 @@
-// The program of a predicate.
-ghost use Rattle.std.specs.Prelude.{◌≡◌, ◌≢◌, ◌≤◌, ◌+◌, ◌*◌, All, [], length, map, IfOk, IfSome};
+//! The program of a predicate.
+ghost use Rattle.std.specs.Prelude.{◌≡◌, ◌≢◌, ◌≤◌, All, [], length, IfOk, IfSome};
 ghost use Rattle.ln_algebra.specs.Vector.{total_degree};
 ghost use Rattle.ln_algebra.specs.Weights.{weighted_sum};
 ghost use Rattle.ln_tree.specs.Exps.{vector};
-ghost use Rattle.ln_tree.specs.Formula.{formula};
 ghost use Rattle.ln_tree.specs.Table.{pred_of};
-ghost use Rattle.ln_bound.specs.Light.{AreLight, most, node_weights, weighed_pred};
+ghost use Rattle.ln_bound.specs.Light.{AreLight, most};
 ghost use Rattle.ln_bound.specs.Value.{weights};
-ghost use Rattle.ln_order.specs.Orders.{orders_of};
 ghost use Rattle.ln_poly.specs.Expansion.{HaveFewTerms, IsNormal};
 ghost use Rattle.ln_poly.specs.Sparse.{Sparse, terms_of};
 ghost use Rattle.ln_stage.specs.Lists.{stage_count, stage_weight};
 ghost use Rattle.ln_stage.specs.Staged.{AreStagesOf, vectors_of};
-ghost use Rattle.ln_compile.specs.Accepted.{expanded_of, root_of, weighed_of};
+ghost use Rattle.ln_compile.specs.Accepted.{expanded_of, loaded_of, root_of};
 ghost use Rattle.ln_due.specs.Small.{FilterPushesSmall};
 ghost use Rattle.ln_code.specs.Kept.{FollowsFilterRules};
 ghost use Rattle.ln_code.specs.Part.{ops_in_filter};
@@ -21,58 +19,43 @@ ghost use Rattle.ln_compile.specs.Compiled.{IsFilterOf, IsProgramOf};
 
 use crate::blocks::blocks;
 use ln_base::{NoMemory, Seq};
-use ln_bound::Weights;
 use ln_bound::size::size;
 use ln_code::{FilterBlock, Program};
 use ln_filter::plan;
-use ln_order::all_orders;
 use ln_poly::Poly;
 use ln_stage::Stages;
 use ln_tree::Pred;
 use std::alloc::Global;
 
-// The lists of the stages, once more.
-fn lists(alloc: Global, sites: u8, st: &Stages) -> Result<Seq<Seq<u32>>, NoMemory>
-    requires few { sites ≤ 5 }
-    requires sites { st.now.sites ≡ sites }
-    requires size { length st.now.lists ≡ length (orders_of sites) }
-    ensures { IfOk result (λ ls. ls ≡ st.now.lists) }
+// The segments of the stages, once more.
+fn segments(alloc: Global, st: &Stages) -> Result<Seq<Seq<u32>>, NoMemory>
+    ensures { IfOk result (λ ss. ss ≡ st.now.segments) }
 {
-    let orders = all_orders(alloc, sites)?;
-    let orders = orders.as_slice();
-    let mut lists = Seq::new(alloc);
-    'orders: for o in orders {
-        let list = st.list(o).to_vec(alloc)?;
-        lists.push(Seq::from_vec(list))?;
+    let mut segments = Seq::new(alloc);
+    'prefixes: for segment in st.segments() {
+        let numbers = segment.as_slice().to_vec(alloc)?;
+        segments.push(Seq::from_vec(numbers))?;
     }
-    Ok(lists)
+    Ok(segments)
 }
 
 // The filter of a predicate, if it has one.
-fn filter(alloc: Global, p: &Pred, w: &Weights) -> Result<Option<FilterBlock>, NoMemory>
-    requires weights { w.now ≡ node_weights (weighed_pred p.now.shape.vars (map formula p.now.lets) (formula p.now.root)) }
-    requires light { AreLight (weighed_of (pred_of p.now)) }
+fn filter(alloc: Global, p: &Pred) -> Result<Option<FilterBlock>, NoMemory>
+    requires light { AreLight (loaded_of (pred_of p.now)) }
     ensures filter { IfOk result (λ o. IsFilterOf (pred_of p.now) o) }
     ensures rules { IfOk result (λ o. IfSome o (λ f. FollowsFilterRules p.now.shape.vars f)) }
     ensures whole { IfOk result (λ o. (f : Sparse) → IsNormal (length p.now.shape.vars) (root_of (pred_of p.now)) f → IfSome o (CarriesWhole p.now.shape.vars (terms_of (length p.now.shape.vars) f))) }
     ensures pushes { IfOk result (λ o. HaveFewTerms (length p.now.shape.vars) (expanded_of (pred_of p.now)) → IfSome o (FilterPushesSmall p.now.shape.vars)) }
     ensures small { IfOk result (λ o. ops_in_filter o ≤ 1048640) }
 {
-    let sized = size(alloc, p, w)?;
+    let sized = size(alloc, p)?;
     let filter = plan(alloc, &sized)?;
     Ok(filter)
 }
 
 /// The program of a predicate with this normal polynomial and these stages.
-pub(crate) fn program(
-    alloc: Global,
-    p: &Pred,
-    w: &Weights,
-    f: &Poly,
-    st: &Stages,
-) -> Result<Program, NoMemory>
-    requires weights { w.now ≡ node_weights (weighed_pred p.now.shape.vars (map formula p.now.lets) (formula p.now.root)) }
-    requires light { AreLight (weighed_of (pred_of p.now)) }
+pub(crate) fn program(alloc: Global, p: &Pred, f: &Poly, st: &Stages) -> Result<Program, NoMemory>
+    requires light { AreLight (loaded_of (pred_of p.now)) }
     requires terms { HaveFewTerms (length p.now.shape.vars) (expanded_of (pred_of p.now)) }
     requires normal { IsNormal (length p.now.shape.vars) (root_of (pred_of p.now)) f.now }
     requires weight { weighted_sum (weights p.now.shape.vars) (terms_of (length p.now.shape.vars) f.now) ≤ most }
@@ -85,9 +68,9 @@ pub(crate) fn program(
     ensures name { IfOk result (λ c. c.shape.name ≡ p.now.shape.name) }
     ensures small { IfOk result (λ c. length c.blocks ≤ 65536) }
 {
-    let filter = filter(alloc, p, w)?;
-    let blocks = blocks(alloc, p, w, f, st)?;
-    let lists = lists(alloc, p.shape.sites, st)?;
+    let filter = filter(alloc, p)?;
+    let blocks = blocks(alloc, p, f, st)?;
+    let segments = segments(alloc, st)?;
     let shape = p.shape.copy(alloc)?;
-    Ok(Program::join(shape, filter, blocks, lists))
+    Ok(Program::join(shape, filter, blocks, segments))
 }

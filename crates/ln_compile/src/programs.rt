@@ -1,4 +1,4 @@
-// Predicates, judged and compiled one after the other.
+//! Predicates, judged and compiled one after the other.
 ghost use Rattle.std.specs.Prelude.{◌≡◌, ◌≤◌, true, length, map, IfErr, IfOk, OnOk};
 ghost use Rattle.ln_tree.specs.Table.{pred_of};
 ghost use Rattle.ln_tree.specs.Whole.{differ};
@@ -7,7 +7,7 @@ ghost use Rattle.ln_compile.specs.Compiled.{IsProgramOf, IsStageCount};
 ghost use Rattle.ln_compile.specs.Made.{AreBuilt};
 ghost use Rattle.ln_compile.specs.Refused.{StopsPred, StopsPreds};
 
-use crate::judge::{expanded, staged, weighed};
+use crate::judge::{expanded, measured, staged, weighed};
 use crate::program::program;
 use crate::refusal::Refusal;
 use ln_base::Seq;
@@ -31,11 +31,12 @@ fn compiled(alloc: Global, k: u8, p: &Pred) -> Result<(Program, u64), Refusal>
     ensures small { IfOk result (λ r. length r.0.blocks ≤ 65536) }
     ensures err { IfErr result (λ r. StopsPred k (pred_of p.now) r) }
 {
-    let w = weighed(alloc, k, p)?;
-    let f = expanded(alloc, k, p, &w)?;
+    measured(alloc, k, p)?;
+    let f = expanded(alloc, k, p)?;
+    weighed(k, p, &f)?;
     let st = staged(alloc, k, p, &f)?;
     let count = st.count();
-    let program = program(alloc, p, &w, &f, &st)?;
+    let program = program(alloc, p, &f, &st)?;
     Ok((program, count))
 }
 

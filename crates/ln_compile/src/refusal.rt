@@ -1,4 +1,4 @@
-// Why a source is refused.
+//! Why a source is refused.
 ghost use Rattle.std.specs.Prelude.{◌≡◌};
 ghost use Rattle.ln_compile.specs.Refused.{refusal_of};
 
@@ -21,7 +21,8 @@ pub enum Refusal {
     Syntax(Span),
     #[error("a name is unknown, or stands twice")]
     Name(NameWhat, Span),
-    /// The first node of the predicate whose weight passes `2^127 - 1`.
+    /// The first node of the predicate whose range or size passes `2^127 - 1`; or, where no node does and none has too many terms,
+    /// the root, where the weighted sum of the normal polynomial passes it.
     #[error("a value of predicate {0} may not fit 128 bits")]
     Bound(u8, Span),
     /// The first node of the predicate that has more than 1,024 terms.

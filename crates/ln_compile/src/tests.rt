@@ -1,4 +1,4 @@
-// Sources compiled and refused.
+//! Sources compiled and refused.
 use crate::{Compiled, Refusal, compile};
 use ln_base::Span;
 use ln_code::Triple;

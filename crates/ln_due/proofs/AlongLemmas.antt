@@ -48,13 +48,13 @@ pub record Ends (sites : Sites) (x : ℕ → ℤ) (e : Tree) (list : List (List 
   pub calls : v.calls ≡ entered + length list
 
 -- a value that isn't 0 decides
-settled-other : (z : ℤ) (place wide entered : ℕ) (rest : Option Verdict) → z ≢ pos 0 → settled z place wide entered rest ≡ Some (record { sign = sign_of z; by = Stage place; wide = wide; calls = entered })
+pub settled-other : (z : ℤ) (place wide entered : ℕ) (rest : Option Verdict) → z ≢ pos 0 → settled z place wide entered rest ≡ Some (record { sign = sign_of z; by = Stage place; wide = wide; calls = entered })
 settled-other (pos zero) place wide entered rest h = absurd (h refl)
 settled-other (pos (suc n)) place wide entered rest h = refl
 settled-other (negsuc n) place wide entered rest h = refl
 
 -- 0 doesn't
-settled-zero : (z : ℤ) (place wide entered : ℕ) (rest : Option Verdict) → z ≡ pos 0 → settled z place wide entered rest ≡ rest
+pub settled-zero : (z : ℤ) (place wide entered : ℕ) (rest : Option Verdict) → z ≡ pos 0 → settled z place wide entered rest ≡ rest
 settled-zero z place wide entered rest h = rw h refl
 
 module _ (p : Part) (e : Tree) (zs : List ℤ) (sites : Sites) where

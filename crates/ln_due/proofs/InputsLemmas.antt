@@ -4,8 +4,9 @@ use Rattle.std.specs.Prelude.{Option, Some, if◌then◌else◌, ◌==◌, slice
 use Rattle.std.proofs.lemmas.Option.{slice_get_within}
 use Rattle.ln_algebra.specs.Tree.{InputsBelow, Tree}
 use Rattle.ln_algebra.specs.Tree as tree
+use Rattle.ln_interval.specs.Range.{Range, magnitude, opposite, point}
 use Rattle.ln_tree.specs.declared.shape.VarInfo.{VarInfo}
-use Rattle.ln_bound.specs.Typed.{bound_of, two_of}
+use Rattle.ln_bound.specs.Typed.{range_of, bound_of, two_of}
 use Rattle.ln_bound.specs.Value.{size_of}
 use Rattle.ln_bound.specs.Widths.{least, wider}
 use Rattle.ln_bound.specs.declared.fitted.Two.{Two}
@@ -19,7 +20,7 @@ use Rattle.ln_code.specs.Engine.{Engine, next}
 use Rattle.ln_code.specs.FilterRules.{FilterKnown, error_after, filter_known, filter_rules, push_error, two_known}
 use Rattle.ln_code.specs.Numbers.{no_locals, with_local}
 use Rattle.ln_code.specs.Part.{Code, FilterCode, filter_known_of, known_of, lines_of}
-use Rattle.ln_code.specs.Rules.{Known, known, rules}
+use Rattle.ln_code.specs.Rules.{Known, declared, known, rules}
 use Rattle.ln_code.specs.declared.op.Triple.{Triple}
 
 -- the engine whose values say nothing
@@ -51,13 +52,13 @@ two_inputs n Minus d e h k = (h, k)
 two_inputs n Times d e h k = (h, k)
 
 module _ (vars : List VarInfo) where
-  kept : (a b : ℕ) (w : Width) (t : Tree) (k : Known) → InputsBelow (length vars) t → known a b w t ≡ Some k → InputsBelow (length vars) k.tree
-  kept a b w t k h q = subst (λ (z : Known). InputsBelow (length vars) z.tree) (known_some a b w t k q).2 h
+  kept : (enough p : Range) (w : Width) (s : ℕ) (t : Tree) (k : Known) → InputsBelow (length vars) t → known enough p w s t ≡ Some k → InputsBelow (length vars) k.tree
+  kept enough p w s t k h q = subst (λ (z : Known). InputsBelow (length vars) z.tree) (known_some enough p w s t k q).3 h
 
-  input : (v b : ℕ) (k : Known) → next (slice_get vars v) (λ i. known (size_of i) b (least b) (tree.Input v)) ≡ Some k → InputsBelow (length vars) k.tree
-  input v b k q =
-      let r = next_some (slice_get vars v) (λ (i : VarInfo). known (size_of i) b (least b) (tree.Input v)) k q in
-      kept (size_of r.0) b (least b) (tree.Input v) k (slice_get_within vars v r.0 r.1) r.2
+  input : (v : ℕ) (p : Range) (k : Known) → next (slice_get vars v) (λ i. known (declared i) p (least (magnitude p)) 1 (tree.Input v)) ≡ Some k → InputsBelow (length vars) k.tree
+  input v p k q =
+      let r = next_some (slice_get vars v) (λ (i : VarInfo). known (declared i) p (least (magnitude p)) 1 (tree.Input v)) k q in
+      kept (declared r.0) p (least (magnitude p)) 1 (tree.Input v) k (slice_get_within vars v r.0 r.1) r.2
 
   put : (l : ℕ → Option Known) (j : ℕ) (v : Known) → Locals vars l tt → InputsBelow (length vars) v.tree → Locals vars (with_local l j v) tt
   put l j v h f i k = by_case (i == j) where
@@ -66,14 +67,14 @@ module _ (vars : List VarInfo) where
     by_case false q = h i k q
 
   -- each step keeps that
-  follow : (depth : ℕ) → Follows (rules vars depth) (idle ℕ) (λ (b : ℕ). b) (Inputs vars) (Locals vars)
+  follow : (depth : ℕ) → Follows (rules vars depth) (idle Range) (λ (p : Range). p) (Inputs vars) (Locals vars)
   follow depth = record {
-    push = λ c b k q. kept (unsigned_abs c) b (least b) (tree.Num c) k tt q;
+    push = λ c p k q. kept (point c) p (least (magnitude p)) (unsigned_abs c) (tree.Num c) k tt q;
     input = input;
-    again = λ x y b k f q. kept x.bound b (wider x.width (least b)) x.tree k f q;
-    two = λ t w b x x' y y' k f g q. kept (bound_of t x.bound x'.bound) b w (two_of t x.tree x'.tree) k (two_inputs (length vars) t x.tree x'.tree f g) (if_some _ _ _ q).1;
-    minus = λ w b x y k f q. kept x.bound b w (tree.Neg x.tree) k f (if_some _ _ _ q).1;
-    cut = λ n b x y k f q. cc;
+    again = λ x y p k f q. kept x.range p (wider x.width (least (magnitude p))) x.size x.tree k f q;
+    two = λ t w p x x' y y' k f g q. kept (range_of t x.range x'.range) p w (bound_of t x.size x'.size) (two_of t x.tree x'.tree) k (two_inputs (length vars) t x.tree x'.tree f g) (if_some _ _ _ q).1;
+    minus = λ w p x y k f q. kept (opposite x.range) p w x.size (tree.Neg x.tree) k f (if_some _ _ _ q).1;
+    cut = λ n p x y k f q. cc;
     got = λ l m j k f q. f j k q;
     put = λ l m j x y f g. put l j x f g;
     room = λ n q. refl;
@@ -82,7 +83,7 @@ module _ (vars : List VarInfo) where
 -- the expression that a block carries has no other variables than these
 pub known_inputs : (vars : List VarInfo) (c : Code) (k : Known) → known_of vars c ≡ Some k → InputsBelow (length vars) k.tree
 known_inputs vars c k q =
-    let a = answer_follows (rules vars c.depth) (idle ℕ) (λ (b : ℕ). b) (Inputs vars) (Locals vars) (follow vars c.depth) no_locals tt (lines_of c.ops c.bounds) k (λ j v e. cc) q in
+    let a = answer_follows (rules vars c.depth) (idle Range) (λ (p : Range). p) (Inputs vars) (Locals vars) (follow vars c.depth) no_locals tt (lines_of c.ops c.pairs) k (λ j v e. cc) q in
     (reached_some (Inputs vars) k _ a).2
 
 -- ---- filters
@@ -96,10 +97,10 @@ module _ (vars : List VarInfo) where
   filter-kept : (k h e size : ℕ) (t : Tree) (a : Triple) (r : FilterKnown) → InputsBelow (length vars) t → filter_known k h e size t a ≡ Some r → InputsBelow (length vars) r.tree
   filter-kept k h e size t a r i q = subst (λ (z : FilterKnown). InputsBelow (length vars) z.tree) (known_says k h e size t a r q).is i
 
-  filter-input : (v : ℕ) (a : Triple) (r : FilterKnown) → next (slice_get vars v) (λ i. filter_known 0 (size_of i) 0 (size_of i) (tree.Input v) a) ≡ Some r → InputsBelow (length vars) r.tree
+  filter-input : (v : ℕ) (a : Triple) (r : FilterKnown) → next (slice_get vars v) (λ i. filter_known 0 (size_of i) 0 1 (tree.Input v) a) ≡ Some r → InputsBelow (length vars) r.tree
   filter-input v a r q =
-      let s = next_some (slice_get vars v) (λ (i : VarInfo). filter_known 0 (size_of i) 0 (size_of i) (tree.Input v) a) r q in
-      filter-kept 0 (size_of s.0) 0 (size_of s.0) (tree.Input v) a r (slice_get_within vars v s.0 s.1) s.2
+      let s = next_some (slice_get vars v) (λ (i : VarInfo). filter_known 0 (size_of i) 0 1 (tree.Input v) a) r q in
+      filter-kept 0 (size_of s.0) 0 1 (tree.Input v) a r (slice_get_within vars v s.0 s.1) s.2
 
   filter-two : (t : Two) (a : Triple) (x y r : FilterKnown) → InputsBelow (length vars) x.tree → InputsBelow (length vars) y.tree → two_known t a x y ≡ Some r → InputsBelow (length vars) r.tree
   filter-two Plus a x y r h k q = filter-kept x.triple.k (x.triple.h + y.triple.h) (x.triple.e + y.triple.e) (x.size + y.size) (two_of Plus x.tree y.tree) a r (h, k) (if_some _ _ _ q).1

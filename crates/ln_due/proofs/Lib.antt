@@ -1,4 +1,5 @@
 -- The files of this folder.
+pub mod AloudLemmas
 pub mod AlongLemmas
 pub mod BlockLemmas
 pub mod CoefficientLemmas

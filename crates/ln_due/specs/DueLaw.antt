@@ -56,7 +56,7 @@ PlainBlocksCarryTheWhole =
     (rank : Rank) (p : Part) (e : Tree) (f : List Term) (c : Code) → Carries rank p e f → Contains p.blocks c → c.exps ≡ [] →
     (what : Known) × (known_of p.shape.vars c ≡ Some what) × IsNormalOf (length p.shape.vars) what.tree f
 
--- every block runs on every row in range, with all its values in their bounds and widths, whether the row's order names it or not
+-- every block runs on every row in range, with all its values in their ranges and widths, whether the row's order names it or not
 abbrev pub BlocksRun : Type 0
 BlocksRun =
     (p : Part) (c : Code) (row : Row) → Runs p → Contains p.blocks c → InRange p.shape.sites p.shape.vars row →

@@ -1,4 +1,5 @@
 -- The files of this folder.
+pub mod Aloud
 pub mod Due
 pub mod DueLaw
 pub mod Run

@@ -30,7 +30,7 @@ filter_tree k = k.tree
 
 -- each operation of the block pushes a small polynomial
 abbrev pub BlockPushesSmall : List VarInfo → Code → Type 0
-BlockPushesSmall vars c = AreSmall known_tree (length vars) (pushes (rules vars c.depth) (lines_of c.ops c.bounds) (record { stack = []; locals = no_locals }))
+BlockPushesSmall vars c = AreSmall known_tree (length vars) (pushes (rules vars c.depth) (lines_of c.ops c.pairs) (record { stack = []; locals = no_locals }))
 
 -- and each operation of the filter
 abbrev pub FilterPushesSmall : List VarInfo → FilterCode → Type 0

@@ -12,7 +12,7 @@ pub fn stages_are_coefficients()
     ensures cut { CutLosesNothing }
 {}
 
-/// Every block of a part runs on every row in range with all its values in their bounds and widths.
+/// Every block of a part runs on every row in range with all its values in their pairs and widths.
 ///
 /// On it rests that no operation leaves its certified width, in blocks that a row's order doesn't name too.
 pub fn blocks_run()

@@ -10,9 +10,11 @@
 //! the first under names of their own. Nothing runs.
 #![tactic(auto)]
 
+pub mod aloud;
 pub mod due;
 pub mod run;
 
+pub use aloud::verdicts_are_told;
 pub use due::{
     blocks_run, due_is_unique, signs_multiply, stages_are_coefficients, verdicts_are_due,
     without_params_never_zero,

@@ -13,10 +13,13 @@ use Rattle.ln_bound.specs.declared.fitted.Width.{Width}
 use Rattle.ln_bound.specs.declared.fitted.Width.TheVariants.{W64, W128}
 use Rattle.ln_bound.specs.declared.fitted.Two.{Two}
 use Rattle.ln_bound.specs.declared.fitted.Two.TheVariants.{Plus, Minus, Times}
-use Rattle.ln_bound.specs.Value.{sizes, size_of}
+use Rattle.ln_bound.specs.Value.{sizes, size_of, weight_over}
 use Rattle.ln_bound.specs.Widths.{limit}
-use Rattle.ln_bound.specs.Typed.{Typed, TNum, TInput, TLet, TNeg, TTwo, TPow, bound, need, untyped, two_of}
-use Rattle.ln_bound.specs.Sound.{Covers, SoundNodes}
+use Rattle.ln_bound.specs.Room.{HasRoom}
+use Rattle.ln_bound.specs.Typed.{two_of, Typed, TNum, TInput, TLet, TNeg, TTwo, TPow, need, untyped}
+use Rattle.ln_bound.specs.Sound.{CoversLet, SoundNodes}
+use Rattle.ln_algebra.specs.Sizes.{one}
+use Rattle.ln_interval.specs.Range.{Range}
 use Rattle.ln_code.specs.declared.op.Op.{Op}
 use Rattle.ln_code.specs.declared.op.Op.TheVariants.{Push, Input, Get, Set, Add, Sub, Mul, Neg}
 use Rattle.ln_code.specs.declared.op.Triple.{Triple}
@@ -24,7 +27,6 @@ use Rattle.ln_code.specs.Engine.{State, Line, next, run, step}
 use Rattle.ln_code.specs.Numbers.{with_local}
 use Rattle.ln_code.specs.FilterRules.{FilterKnown, error_after, push_error, filter_known, filter_rules}
 use Rattle.ln_code.specs.Kept.{no_triple}
-use Rattle.ln_code.proofs.Known.{limit_wide}
 use Rattle.ln_filter.specs.Triples.{excess, cut, trimmed, whole, leaf, aligned, sum_of, product_of, added, multiplied, powered, triple}
 use Rattle.ln_filter.specs.Steady.{ArePowersSteady, AreSteady}
 use Rattle.ln_filter.specs.Tried.{IsSmall, AreNarrow}
@@ -99,12 +101,12 @@ size_there (i ∷ is) zero h = (i, refl, refl)
 size_there (i ∷ is) (suc v) h = size_there is v (omega arith)
 
 pub input_step : (vars : List VarInfo) (depth v : ℕ) (l : ℕ → Option FilterKnown) (s : List FilterKnown) → v < length vars → sizes vars v < 2 ^ 63 → suc (length s) ≤ depth →
-    step (filter_rules vars depth) (Input v) (whole (sizes vars v)) l s ≡ Some (on_top (at (whole (sizes vars v)) (tree.Input v) (sizes vars v)) s l)
+    step (filter_rules vars depth) (Input v) (whole (sizes vars v)) l s ≡ Some (on_top (at (whole (sizes vars v)) (tree.Input v) 1) s l)
 input_step vars depth v l s i n d =
     let g = size_there vars v i in
     let e : size_of g.0 ≡ sizes vars v = sym g.2 in
-    let k : filter_known 0 (sizes vars v) 0 (sizes vars v) (tree.Input v) (whole (sizes vars v)) ≡ Some (at (whole (sizes vars v)) (tree.Input v) (sizes vars v)) = known_at 0 (sizes vars v) 0 (sizes vars v) (tree.Input v) (whole (sizes vars v)) refl (le_self (sizes vars v)) (le_self 0) (omega arith) (omega arith) in
-    let f : next (slice_get vars v) (λ i. filter_known 0 (size_of i) 0 (size_of i) (tree.Input v) (whole (sizes vars v))) ≡ Some (at (whole (sizes vars v)) (tree.Input v) (sizes vars v)) = rw (g.1, e) k in
+    let k : filter_known 0 (sizes vars v) 0 1 (tree.Input v) (whole (sizes vars v)) ≡ Some (at (whole (sizes vars v)) (tree.Input v) 1) = known_at 0 (sizes vars v) 0 1 (tree.Input v) (whole (sizes vars v)) refl (le_self (sizes vars v)) (le_self 0) (omega arith) (omega arith) in
+    let f : next (slice_get vars v) (λ i. filter_known 0 (size_of i) 0 1 (tree.Input v) (whole (sizes vars v))) ≡ Some (at (whole (sizes vars v)) (tree.Input v) 1) = rw (g.1, e) k in
     rw (f, le-leb (suc (length s)) depth d) refl
 
 pub get_step : (vars : List VarInfo) (depth j : ℕ) (a : Triple) (t : Tree) (size : ℕ) (l : ℕ → Option FilterKnown) (s : List FilterKnown) → l j ≡ Some (at a t size) → a.h ≤ limit W64 → size ≤ limit W128 → suc (length s) ≤ depth →
@@ -177,56 +179,53 @@ pub record Lands (vars : List VarInfo) (depth : ℕ) (lines : List (Line Triple)
   pub same : Same tree t
   pub keeps : (j : ℕ) → j < 64 → locals j ≡ l j
 
--- what is known of a let
-pub record LetKnown (o : Option FilterKnown) (a : Triple) (u : Typed) (t : Tree) : Type 0 where
+-- what is known of a let whose running size is s
+pub record LetKnown (o : Option FilterKnown) (a : Triple) (s : ℕ) (t : Tree) : Type 0 where
   pub tree : Tree
   pub size : ℕ
   pub there : o ≡ Some (at a tree size)
-  pub fits : size ≤ bound u
+  pub fits : size ≤ s
   pub same : Same tree t
 
-pub record LetsKnown (lets : List Typed) (trees : List Tree) (ts : List Triple) (l : ℕ → Option FilterKnown) : Type 0 where
-  pub each : (j : ℕ) (u : Typed) → slice_get lets j ≡ Some u → LetKnown (l j) (slice_index_or ts j no_triple) u (slice_index_or trees j (tree.Num (pos 0)))
+pub record LetsKnown (lets : List Typed) (trees : List Tree) (ts : List Triple) (ss : List ℕ) (l : ℕ → Option FilterKnown) : Type 0 where
+  pub each : (j : ℕ) (u : Typed) → slice_get lets j ≡ Some u → LetKnown (l j) (slice_index_or ts j no_triple) (slice_index_or ss j 0) (slice_index_or trees j (tree.Num (pos 0)))
   pub few : (j : ℕ) (u : Typed) → slice_get lets j ≡ Some u → j < 64
 
-pub lets_kept : (lets : List Typed) (trees : List Tree) (ts : List Triple) (l m : ℕ → Option FilterKnown) → LetsKnown lets trees ts l → ((j : ℕ) → j < 64 → m j ≡ l j) → LetsKnown lets trees ts m
-lets_kept lets trees ts l m h k = record {
+pub lets_kept : (lets : List Typed) (trees : List Tree) (ts : List Triple) (ss : List ℕ) (l m : ℕ → Option FilterKnown) → LetsKnown lets trees ts ss l → ((j : ℕ) → j < 64 → m j ≡ l j) → LetsKnown lets trees ts ss m
+lets_kept lets trees ts ss l m h k = record {
   each = λ j u e. let r = h.each j u e in record { tree = r.tree; size = r.size; there = k j (h.few j u e) ∙ r.there; fits = r.fits; same = r.same };
   few = h.few;
 }
 
-let_lands : (vars : List VarInfo) (depth j b : ℕ) (w : Width) (l : ℕ → Option FilterKnown) (stack : List FilterKnown) (o : Option Typed) (a : Triple) (t : Tree) → ((u : Typed) → o ≡ Some u → LetKnown (l j) a u t) → Covers o b w → b ≤ limit w → IsSmall a → suc (length stack) ≤ depth →
+let_lands : (vars : List VarInfo) (depth j : ℕ) (p : Range) (w : Width) (b : ℕ) (l : ℕ → Option FilterKnown) (stack : List FilterKnown) (o : Option Typed) (a : Triple) (t : Tree) → ((u : Typed) → o ≡ Some u → LetKnown (l j) a b t) → CoversLet o p w → b ≤ limit W128 → IsSmall a → suc (length stack) ≤ depth →
     Lands vars depth (line (Get j) a ∷ []) l stack a b t
-let_lands vars depth j b w l stack None a t g c h i d = absurd c
-let_lands vars depth j b w l stack (Some u) a t g c h i d =
+let_lands vars depth j p w b l stack None a t g c h i d = absurd c
+let_lands vars depth j p w b l stack (Some u) a t g c h i d =
     let k = g u refl in
-    let p = k.fits in
-    let q = c.0 in
-    let r = limit_wide w in
-    let f : k.size ≤ limit W128 = omega arith in
+    let y = k.fits in
+    let f : k.size ≤ limit W128 = omega (arith, y, h) in
     record {
       tree = k.tree;
       size = k.size;
       locals = l;
       ends = step_run (filter_rules vars depth) (line (Get j) a) [] (record { stack = stack; locals = l }) _ _ (get_step vars depth j a k.tree k.size l stack k.there (small_narrow a i) f d) refl;
-      fits = omega arith;
+      fits = k.fits;
       same = k.same;
       keeps = λ j i. refl;
     }
 
-neg_lands : (vars : List VarInfo) (depth : ℕ) (lines : List (Line Triple)) (l : ℕ → Option FilterKnown) (stack : List FilterKnown) (a : Triple) (c b : ℕ) (w : Width) (t : Tree) →
-    Lands vars depth lines l stack a c t → c ≤ b → b ≤ limit w → IsSmall a → suc (length stack) ≤ depth →
+neg_lands : (vars : List VarInfo) (depth : ℕ) (lines : List (Line Triple)) (l : ℕ → Option FilterKnown) (stack : List FilterKnown) (a : Triple) (b : ℕ) (t : Tree) →
+    Lands vars depth lines l stack a b t → b ≤ limit W128 → IsSmall a → suc (length stack) ≤ depth →
     Lands vars depth (lines ++ (line (Neg W64) a ∷ [])) l stack a b (tree.Neg t)
-neg_lands vars depth lines l stack a c b w t x f h i d =
+neg_lands vars depth lines l stack a b t x h i d =
     let p = x.fits in
-    let r = limit_wide w in
-    let q : x.size ≤ limit W128 = omega arith in
+    let q : x.size ≤ limit W128 = omega (arith, p, h) in
     record {
       tree = tree.Neg x.tree;
       size = x.size;
       locals = x.locals;
       ends = then_run (filter_rules vars depth) lines (line (Neg W64) a ∷ []) _ _ _ x.ends (step_run (filter_rules vars depth) (line (Neg W64) a) [] (on_top (at a x.tree x.size) stack x.locals) _ _ (neg_step vars depth a x.tree x.size x.locals stack (small_narrow a i) q d) refl);
-      fits = omega arith;
+      fits = x.fits;
       same = same_neg x.tree t x.same;
       keeps = x.keeps;
     }
@@ -360,97 +359,87 @@ power_lands vars depth lines l stack a c b (suc n) t x i p f h d =
     }
 
 pub need_positive : (t : Typed) → 1 ≤ need t
-need_positive (TNum c b w) = omega arith
-need_positive (TInput v b w) = omega arith
-need_positive (TLet j b w) = omega arith
-need_positive (TNeg t b w) = need_positive t
-need_positive (TTwo o u t b w) = let h = need_positive u in omega arith
-need_positive (TPow t n b w) = omega arith
+need_positive (TNum c p w) = omega arith
+need_positive (TInput v p w) = omega arith
+need_positive (TLet j p w) = omega arith
+need_positive (TNeg t p w) = need_positive t
+need_positive (TTwo o u t p w) = let h = need_positive u in omega (arith, h)
+need_positive (TPow t n p w) = omega arith
+
+-- the running size of an expression
+abbrev pub running_size : List ℕ → Typed → ℕ
+running_size ss t = weight_over one ss (untyped t)
 
 -- the operations of a sound tree whose nodes are steady
-pub lands : (vars : List VarInfo) (depth : ℕ) (lets : List Typed) (trees : List Tree) (ts : List Triple) (t : Typed) (l : ℕ → Option FilterKnown) (stack : List FilterKnown) →
-    SoundNodes vars lets t → AreSteady vars ts (untyped t) → AreNarrow vars (untyped t) → AreSmall ts → LetsKnown lets trees ts l → need t + length stack ≤ depth →
-    Lands vars depth (filter_lines vars ts (untyped t)) l stack (triple vars ts (untyped t)) (bound t) (inlined trees (untyped t))
-lands vars depth lets trees ts (TNum c b w) l stack s z n g k d =
-    let r = limit_wide w in
-    let p = s.0 in
-    let q = s.1 in
-    let f : unsigned_abs c ≤ limit W128 = omega arith in
-    record {
-      tree = tree.Num c;
-      size = unsigned_abs c;
-      locals = l;
-      ends = step_run (filter_rules vars depth) (line (Push c) (leaf (unsigned_abs c))) [] (record { stack = stack; locals = l }) _ _ (push_step vars depth c l stack (triple_small vars ts (tree.Num c) g z) f (omega arith)) refl;
-      fits = p;
-      same = same_self (tree.Num c);
-      keeps = λ j i. refl;
-    }
-lands vars depth lets trees ts (TInput v b w) l stack s z n g k d =
-    let f : sizes vars v ≤ limit W64 = omega arith in
-    let q : sizes vars v ≤ limit W128 = omega arith in
+pub lands : (vars : List VarInfo) (depth : ℕ) (lets : List Typed) (trees : List Tree) (ts : List Triple) (ss : List ℕ) (t : Typed) (l : ℕ → Option FilterKnown) (stack : List FilterKnown) →
+    SoundNodes vars lets t → HasRoom one ss (untyped t) → AreSteady vars ts (untyped t) → AreNarrow vars (untyped t) → AreSmall ts → LetsKnown lets trees ts ss l → need t + length stack ≤ depth →
+    Lands vars depth (filter_lines vars ts (untyped t)) l stack (triple vars ts (untyped t)) (running_size ss t) (inlined trees (untyped t))
+lands vars depth lets trees ts ss (TNum c p w) l stack s h z n g k d = record {
+  tree = tree.Num c;
+  size = unsigned_abs c;
+  locals = l;
+  ends = step_run (filter_rules vars depth) (line (Push c) (leaf (unsigned_abs c))) [] (record { stack = stack; locals = l }) _ _ (push_step vars depth c l stack (triple_small vars ts (tree.Num c) g z) h (omega (arith, d))) refl;
+  fits = le_self (unsigned_abs c);
+  same = same_self (tree.Num c);
+  keeps = λ j i. refl;
+}
+lands vars depth lets trees ts ss (TInput v p w) l stack s h z n g k d =
+    let f : sizes vars v ≤ limit W64 = omega (arith, n) in
+    let e : suc (length stack) ≤ depth = omega (arith, d) in
     record {
       tree = tree.Input v;
-      size = sizes vars v;
+      size = 1;
       locals = l;
-      ends = trim_ends vars depth (Input v) (whole (sizes vars v)) (tree.Input v) (sizes vars v) l l stack stack (omega arith) f q (input_step vars depth v l stack s.0 n (omega arith));
-      fits = s.1;
+      ends = trim_ends vars depth (Input v) (whole (sizes vars v)) (tree.Input v) 1 l l stack stack e f h (input_step vars depth v l stack s.0 n e);
+      fits = le_self 1;
       same = same_self (tree.Input v);
       keeps = λ j i. refl;
     }
-lands vars depth lets trees ts (TLet j b w) l stack s z n g k d =
-    let_lands vars depth j b w l stack (slice_get lets j) (slice_index_or ts j no_triple) (slice_index_or trees j (tree.Num (pos 0))) (k.each j) s.0 s.1 (triple_small vars ts (tree.Name j) g z) (omega arith)
-lands vars depth lets trees ts (TNeg t b w) l stack s z n g k d =
-    let x = lands vars depth lets trees ts t l stack s.0 z n g k d in
+lands vars depth lets trees ts ss (TLet j p w) l stack s h z n g k d =
+    let_lands vars depth j p w (slice_index_or ss j 0) l stack (slice_get lets j) (slice_index_or ts j no_triple) (slice_index_or trees j (tree.Num (pos 0))) (k.each j) s.0 h (triple_small vars ts (tree.Name j) g z) (omega (arith, d))
+lands vars depth lets trees ts ss (TNeg t p w) l stack s h z n g k d =
+    let x = lands vars depth lets trees ts ss t l stack s.0 h.0 z n g k d in
     let m : 1 ≤ need t = need_positive t in
-    neg_lands vars depth (filter_lines vars ts (untyped t)) l stack (triple vars ts (untyped t)) (bound t) b w (inlined trees (untyped t)) x s.1 s.2 (triple_small vars ts (untyped t) g z) (omega arith)
-lands vars depth lets trees ts (TTwo Plus u t b w) l stack s z n g k d =
+    neg_lands vars depth (filter_lines vars ts (untyped t)) l stack (triple vars ts (untyped t)) (running_size ss t) (inlined trees (untyped t)) x h.1 (triple_small vars ts (untyped t) g z) (omega (arith, m, d))
+lands vars depth lets trees ts ss (TTwo Plus u t p w) l stack s h z n g k d =
     let a = triple vars ts (untyped u) in
     let c = triple vars ts (untyped t) in
     let i = triple_small vars ts (untyped u) g z.0 in
     let j = triple_small vars ts (untyped t) g z.1 in
-    let x = lands vars depth lets trees ts u l stack s.0 z.0 n.0 g k (omega arith) in
+    let x = lands vars depth lets trees ts ss u l stack s.0 h.0 z.0 n.0 g k (omega (arith, d)) in
     let m : 1 ≤ need t = need_positive t in
-    let y = lands vars depth lets trees ts t x.locals (at (aligned a c) x.tree x.size ∷ stack) s.1 z.1 n.1 g (lets_kept lets trees ts l x.locals k x.keeps) (omega arith) in
-    let r = limit_wide w in
-    let e = s.3 in
-    sum_lands vars depth (Add W64) Plus (filter_lines vars ts (untyped u)) (filter_lines vars ts (untyped t)) l stack a c (bound u) (bound t) b (inlined trees (untyped u)) (inlined trees (untyped t)) (plus_joins vars depth a c stack i j (omega arith)) x y i j s.2 (omega arith) (omega arith)
-lands vars depth lets trees ts (TTwo Minus u t b w) l stack s z n g k d =
+    let y = lands vars depth lets trees ts ss t x.locals (at (aligned a c) x.tree x.size ∷ stack) s.1 h.1 z.1 n.1 g (lets_kept lets trees ts ss l x.locals k x.keeps) (omega (arith, d)) in
+    sum_lands vars depth (Add W64) Plus (filter_lines vars ts (untyped u)) (filter_lines vars ts (untyped t)) l stack a c (running_size ss u) (running_size ss t) (running_size ss u + running_size ss t) (inlined trees (untyped u)) (inlined trees (untyped t)) (plus_joins vars depth a c stack i j (omega (arith, m, d))) x y i j (le_self (running_size ss u + running_size ss t)) h.2 (omega (arith, m, d))
+lands vars depth lets trees ts ss (TTwo Minus u t p w) l stack s h z n g k d =
     let a = triple vars ts (untyped u) in
     let c = triple vars ts (untyped t) in
     let i = triple_small vars ts (untyped u) g z.0 in
     let j = triple_small vars ts (untyped t) g z.1 in
-    let x = lands vars depth lets trees ts u l stack s.0 z.0 n.0 g k (omega arith) in
+    let x = lands vars depth lets trees ts ss u l stack s.0 h.0 z.0 n.0 g k (omega (arith, d)) in
     let m : 1 ≤ need t = need_positive t in
-    let y = lands vars depth lets trees ts t x.locals (at (aligned a c) x.tree x.size ∷ stack) s.1 z.1 n.1 g (lets_kept lets trees ts l x.locals k x.keeps) (omega arith) in
-    let r = limit_wide w in
-    let e = s.3 in
-    sum_lands vars depth (Sub W64) Minus (filter_lines vars ts (untyped u)) (filter_lines vars ts (untyped t)) l stack a c (bound u) (bound t) b (inlined trees (untyped u)) (inlined trees (untyped t)) (minus_joins vars depth a c stack i j (omega arith)) x y i j s.2 (omega arith) (omega arith)
-lands vars depth lets trees ts (TTwo Times u t b w) l stack s z n g k d =
+    let y = lands vars depth lets trees ts ss t x.locals (at (aligned a c) x.tree x.size ∷ stack) s.1 h.1 z.1 n.1 g (lets_kept lets trees ts ss l x.locals k x.keeps) (omega (arith, d)) in
+    sum_lands vars depth (Sub W64) Minus (filter_lines vars ts (untyped u)) (filter_lines vars ts (untyped t)) l stack a c (running_size ss u) (running_size ss t) (running_size ss u + running_size ss t) (inlined trees (untyped u)) (inlined trees (untyped t)) (minus_joins vars depth a c stack i j (omega (arith, m, d))) x y i j (le_self (running_size ss u + running_size ss t)) h.2 (omega (arith, m, d))
+lands vars depth lets trees ts ss (TTwo Times u t p w) l stack s h z n g k d =
     let a = triple vars ts (untyped u) in
     let c = triple vars ts (untyped t) in
     let i = triple_small vars ts (untyped u) g z.0 in
     let j = triple_small vars ts (untyped t) g z.1 in
-    let x = lands vars depth lets trees ts u l stack s.0 z.0 n.0 g k (omega arith) in
+    let x = lands vars depth lets trees ts ss u l stack s.0 h.0 z.0 n.0 g k (omega (arith, d)) in
     let m : 1 ≤ need t = need_positive t in
-    let y = lands vars depth lets trees ts t x.locals (at a x.tree x.size ∷ stack) s.1 z.1 n.1 g (lets_kept lets trees ts l x.locals k x.keeps) (omega arith) in
-    let r = limit_wide w in
-    let e = s.3 in
-    product_lands vars depth (filter_lines vars ts (untyped u)) (filter_lines vars ts (untyped t)) l stack a c (bound u) (bound t) b (inlined trees (untyped u)) (inlined trees (untyped t)) x y i j s.2 (omega arith) (omega arith)
-lands vars depth lets trees ts (TPow t zero b w) l stack s z n g k d =
-    let p : bound t ^ 0 ≡ 1 = pow-zero (bound t) in
-    let q = s.1 in
-    let f : 1 ≤ b = omega arith in
+    let y = lands vars depth lets trees ts ss t x.locals (at a x.tree x.size ∷ stack) s.1 h.1 z.1 n.1 g (lets_kept lets trees ts ss l x.locals k x.keeps) (omega (arith, d)) in
+    product_lands vars depth (filter_lines vars ts (untyped u)) (filter_lines vars ts (untyped t)) l stack a c (running_size ss u) (running_size ss t) (running_size ss u * running_size ss t) (inlined trees (untyped u)) (inlined trees (untyped t)) x y i j (le_self (running_size ss u * running_size ss t)) h.2 (omega (arith, m, d))
+lands vars depth lets trees ts ss (TPow t zero p w) l stack s h z n g k d =
+    let e : running_size ss t ^ 0 ≡ 1 = pow-zero (running_size ss t) in
+    let f : 1 ≤ running_size ss t ^ 0 = omega (arith, e) in
     record {
       tree = tree.Num (pos 1);
       size = 1;
       locals = l;
-      ends = step_run (filter_rules vars depth) (line (Push (pos 1)) (leaf 1)) [] (record { stack = stack; locals = l }) _ _ (push_step vars depth (pos 1) l stack (powered_small (triple vars ts (untyped t)) 0 (triple_small vars ts (untyped t) g z.0) z.1) (omega arith) (omega arith)) refl;
+      ends = step_run (filter_rules vars depth) (line (Push (pos 1)) (leaf 1)) [] (record { stack = stack; locals = l }) _ _ (push_step vars depth (pos 1) l stack (powered_small (triple vars ts (untyped t)) 0 (triple_small vars ts (untyped t) g z.0) z.1) (omega arith) (omega (arith, d))) refl;
       fits = f;
       same = same_zeroth (inlined trees (untyped t));
       keeps = λ j i. refl;
     }
-lands vars depth lets trees ts (TPow t (suc n) b w) l stack s z m g k d =
-    let x = lands vars depth lets trees ts t l stack s.0 z.0 m g k (omega arith) in
-    let r = limit_wide w in
-    let q = s.2 in
-    power_lands vars depth (filter_lines vars ts (untyped t)) l stack (triple vars ts (untyped t)) (bound t) b n (inlined trees (untyped t)) x (triple_small vars ts (untyped t) g z.0) z.1 s.1 (omega arith) (omega arith)
+lands vars depth lets trees ts ss (TPow t (suc n) p w) l stack s h z m g k d =
+    let x = lands vars depth lets trees ts ss t l stack s.0 h.0 z.0 m g k (omega (arith, d)) in
+    power_lands vars depth (filter_lines vars ts (untyped t)) l stack (triple vars ts (untyped t)) (running_size ss t) (running_size ss t ^ suc n) n (inlined trees (untyped t)) x (triple_small vars ts (untyped t) g z.0) z.1 (le_self (running_size ss t ^ suc n)) h.1 (omega (arith, d))

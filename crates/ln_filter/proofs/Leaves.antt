@@ -3,7 +3,6 @@ use Rattle.std.proofs.Common.{◌≡◌, ℕ, ℤ, ◌+◌, ◌-◌, ◌<◌, tr
 use Rattle.std.specs.Prelude.{Option, Some, None, slice_get, slice_index_or, ◌==◌, if◌then◌else◌, Bool, false}
 use Rattle.std.proofs.lemmas.Bool.Decides.{nat_tests}
 use Rattle.ln_algebra.specs.Tree as tree
-use Rattle.ln_algebra.specs.Tree.{Tree}
 use Rattle.ln_tree.specs.declared.shape.VarInfo.{VarInfo}
 use Rattle.ln_tree.specs.Row.{AreWithin}
 use Rattle.ln_bound.specs.declared.fitted.Width.{Width}
@@ -11,7 +10,8 @@ use Rattle.ln_bound.specs.declared.fitted.Width.TheVariants.{W64, W128}
 use Rattle.ln_bound.specs.declared.fitted.Two.TheVariants.{Plus, Minus, Times}
 use Rattle.ln_bound.specs.Value.{sizes, values}
 use Rattle.ln_bound.specs.Typed.{Typed, TNum, TInput, TLet, TNeg, TTwo, TPow, untyped}
-use Rattle.ln_bound.specs.Sound.{Covers, SoundNodes}
+use Rattle.ln_bound.specs.Sound.{CoversLet, SoundNodes}
+use Rattle.ln_interval.specs.Range.{Range}
 use Rattle.ln_code.specs.declared.op.Op.{Op}
 use Rattle.ln_code.specs.declared.op.Op.TheVariants.{Push, Input, Get, Set, Add, Sub, Mul, Neg}
 use Rattle.ln_code.specs.declared.op.Triple.{Triple}
@@ -127,9 +127,9 @@ push_leaves zs m c l s =
     let e : 0 + excess m ≡ excess m = omega arith in
     ap (λ (z : ℤ). Some (topped z s l)) (leaf_at (0 + excess m) (excess m) c e)
 
-let_leaves : (zs : List ℤ) (lets : List Typed) (j b : ℕ) (w : Width) (o : Option Typed) (a : Triple) (z : ℤ) (l : ℕ → Option ℤ) (s : List ℤ) → ((u : Typed) → o ≡ Some u → l j ≡ Some z) → Covers o b w → Leaves zs (line (Get j) a ∷ []) l s z
-let_leaves zs lets j b w None a z l s g c = absurd c
-let_leaves zs lets j b w (Some u) a z l s g c = record {
+let_leaves : (zs : List ℤ) (lets : List Typed) (j : ℕ) (p : Range) (w : Width) (o : Option Typed) (a : Triple) (z : ℤ) (l : ℕ → Option ℤ) (s : List ℤ) → ((u : Typed) → o ≡ Some u → l j ≡ Some z) → CoversLet o p w → Leaves zs (line (Get j) a ∷ []) l s z
+let_leaves zs lets j p w None a z l s g c = absurd c
+let_leaves zs lets j p w (Some u) a z l s g c = record {
   locals = l;
   ends = step_run (loose zs) (line (Get j) a) [] (record { stack = s; locals = l }) _ _ (get_leaves zs j a z l s (g u refl)) refl;
   keeps = λ j i. refl;
@@ -207,19 +207,19 @@ power_leaves zs lines l stack a z (suc n) x =
 
 pub leaves : (vars : List VarInfo) (zs : List ℤ) (lets : List Typed) (ts : List Triple) (hs : List ℤ) (t : Typed) (l : ℕ → Option ℤ) (stack : List ℤ) → AreWithin vars zs → SoundNodes vars lets t → LetsThere lets hs l →
     Leaves zs (filter_lines vars ts (untyped t)) l stack (number vars (values zs) ts hs (untyped t))
-leaves vars zs lets ts hs (TNum c b w) l stack r s k = record {
+leaves vars zs lets ts hs (TNum c p w) l stack r s k = record {
   locals = l;
   ends = step_run (loose zs) (line (Push c) (triple vars ts (tree.Num c))) [] (record { stack = stack; locals = l }) _ _ (push_leaves zs (unsigned_abs c) c l stack) refl;
   keeps = λ j i. refl;
 }
-leaves vars zs lets ts hs (TInput v b w) l stack r s k = record {
+leaves vars zs lets ts hs (TInput v p w) l stack r s k = record {
   locals = l;
   ends = trim_leaves zs (Input v) (whole (sizes vars v)) (values zs v) l l stack stack (input_leaves zs v (whole (sizes vars v)) (values zs v) l stack (value_there vars zs v r s.0));
   keeps = λ j i. refl;
 }
-leaves vars zs lets ts hs (TLet j b w) l stack r s k = let_leaves zs lets j b w (slice_get lets j) (slice_index_or ts j no_triple) (slice_index_or hs j (pos 0)) l stack (k.each j) s.0
-leaves vars zs lets ts hs (TNeg t b w) l stack r s k = neg_leaves zs (filter_lines vars ts (untyped t)) l stack (triple vars ts (untyped t)) _ (leaves vars zs lets ts hs t l stack r s.0 k)
-leaves vars zs lets ts hs (TTwo Plus u t b w) l stack r s k =
+leaves vars zs lets ts hs (TLet j p w) l stack r s k = let_leaves zs lets j p w (slice_get lets j) (slice_index_or ts j no_triple) (slice_index_or hs j (pos 0)) l stack (k.each j) s.0
+leaves vars zs lets ts hs (TNeg t p w) l stack r s k = neg_leaves zs (filter_lines vars ts (untyped t)) l stack (triple vars ts (untyped t)) _ (leaves vars zs lets ts hs t l stack r s.0 k)
+leaves vars zs lets ts hs (TTwo Plus u t p w) l stack r s k =
     let a = triple vars ts (untyped u) in
     let c = triple vars ts (untyped t) in
     let y = number vars (values zs) ts hs (untyped u) in
@@ -227,7 +227,7 @@ leaves vars zs lets ts hs (TTwo Plus u t b w) l stack r s k =
     let x = leaves vars zs lets ts hs u l stack r s.0 k in
     let v = leaves vars zs lets ts hs t x.locals (cut_by (c.k - a.k) y ∷ stack) r s.1 (there_kept lets hs l x.locals k x.keeps) in
     sum_leaves zs (Add W64) (filter_lines vars ts (untyped u)) (filter_lines vars ts (untyped t)) l stack a c y z (cut_by (c.k - a.k) y +ℤ cut_by (a.k - c.k) z) (λ m. refl) x v
-leaves vars zs lets ts hs (TTwo Minus u t b w) l stack r s k =
+leaves vars zs lets ts hs (TTwo Minus u t p w) l stack r s k =
     let a = triple vars ts (untyped u) in
     let c = triple vars ts (untyped t) in
     let y = number vars (values zs) ts hs (untyped u) in
@@ -235,15 +235,15 @@ leaves vars zs lets ts hs (TTwo Minus u t b w) l stack r s k =
     let x = leaves vars zs lets ts hs u l stack r s.0 k in
     let v = leaves vars zs lets ts hs t x.locals (cut_by (c.k - a.k) y ∷ stack) r s.1 (there_kept lets hs l x.locals k x.keeps) in
     sum_leaves zs (Sub W64) (filter_lines vars ts (untyped u)) (filter_lines vars ts (untyped t)) l stack a c y z (cut_by (c.k - a.k) y -ℤ cut_by (a.k - c.k) z) (λ m. refl) x v
-leaves vars zs lets ts hs (TTwo Times u t b w) l stack r s k =
+leaves vars zs lets ts hs (TTwo Times u t p w) l stack r s k =
     let y = number vars (values zs) ts hs (untyped u) in
     let z = number vars (values zs) ts hs (untyped t) in
     let x = leaves vars zs lets ts hs u l stack r s.0 k in
     let v = leaves vars zs lets ts hs t x.locals (y ∷ stack) r s.1 (there_kept lets hs l x.locals k x.keeps) in
     product_leaves zs (filter_lines vars ts (untyped u)) (filter_lines vars ts (untyped t)) l stack (triple vars ts (untyped u)) (triple vars ts (untyped t)) y z x v
-leaves vars zs lets ts hs (TPow t zero b w) l stack r s k = record {
+leaves vars zs lets ts hs (TPow t zero p w) l stack r s k = record {
   locals = l;
   ends = step_run (loose zs) (line (Push (pos 1)) (leaf 1)) [] (record { stack = stack; locals = l }) _ _ (push_leaves zs 1 (pos 1) l stack) refl;
   keeps = λ j i. refl;
 }
-leaves vars zs lets ts hs (TPow t (suc n) b w) l stack r s k = power_leaves zs (filter_lines vars ts (untyped t)) l stack (triple vars ts (untyped t)) (number vars (values zs) ts hs (untyped t)) n (leaves vars zs lets ts hs t l stack r s.0 k)
+leaves vars zs lets ts hs (TPow t (suc n) p w) l stack r s k = power_leaves zs (filter_lines vars ts (untyped t)) l stack (triple vars ts (untyped t)) (number vars (values zs) ts hs (untyped t)) n (leaves vars zs lets ts hs t l stack r s.0 k)

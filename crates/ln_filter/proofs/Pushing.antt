@@ -2,9 +2,8 @@
 use Rattle.std.proofs.Common.{◌≡◌, inl, inr, ℕ, ◌+◌, ◌-◌, ◌*◌, ◌^◌, ◌≤◌, false, List, [], ◌∷◌, ◌++◌, length, map, refl, zero, suc, ap, arith, pos, unsigned_abs, length-append}
 use Rattle.std.specs.Prelude.{Option, Some, None, slice_get, slice_index_or}
 use Rattle.std.proofs.lemmas.Nat.{mul-le}
-use Rattle.std.proofs.Math.Nat.{pow-zero}
 use Rattle.ln_algebra.specs.Tree as tree
-use Rattle.ln_algebra.specs.Tree.{Tree, inlined, inlined_after}
+use Rattle.ln_algebra.specs.Tree.{Tree, inlined}
 use Rattle.ln_algebra.specs.Coefficient.{Series}
 use Rattle.ln_tree.specs.declared.shape.VarInfo.{VarInfo}
 use Rattle.ln_bound.specs.declared.fitted.Width.{Width}
@@ -13,8 +12,11 @@ use Rattle.ln_bound.specs.declared.fitted.Two.{Two}
 use Rattle.ln_bound.specs.declared.fitted.Two.TheVariants.{Plus, Minus, Times}
 use Rattle.ln_bound.specs.Value.{sizes}
 use Rattle.ln_bound.specs.Widths.{limit}
-use Rattle.ln_bound.specs.Typed.{Typed, TNum, TInput, TLet, TNeg, TTwo, TPow, bound, width, need, untyped, two_of}
-use Rattle.ln_bound.specs.Sound.{Covers, SoundNodes, AreSound}
+use Rattle.ln_bound.specs.Room.{HasRoom}
+use Rattle.ln_bound.specs.Typed.{two_of, Typed, TNum, TInput, TLet, TNeg, TTwo, TPow, width, need, untyped}
+use Rattle.ln_bound.specs.Sound.{CoversLet, SoundNodes, AreSound, running}
+use Rattle.ln_algebra.specs.Sizes.{one}
+use Rattle.ln_interval.specs.Range.{Range}
 use Rattle.ln_code.specs.declared.op.Op.{Op}
 use Rattle.ln_code.specs.declared.op.Op.TheVariants.{Push, Input, Get, Set, Add, Sub, Mul, Neg, Cut}
 use Rattle.ln_code.specs.declared.op.Triple.{Triple}
@@ -24,7 +26,6 @@ use Rattle.ln_code.specs.FilterRules.{FilterKnown, filter_rules}
 use Rattle.ln_code.specs.Kept.{no_triple, stores}
 use Rattle.ln_code.specs.Pushes.{Pushed, pushes}
 use Rattle.ln_code.specs.Nodes.{IsNode, IsLetNode}
-use Rattle.ln_code.proofs.Known.{limit_wide}
 use Rattle.ln_code.proofs.Behind.{pushes_append, pushes_front}
 use Rattle.ln_code.proofs.Same.{Same, same_self, same_then, same_neg, same_two, same_first, same_zeroth}
 use Rattle.ln_filter.specs.Triples.{excess, cut, whole, leaf, aligned, sum_of, product_of, powered, triple}
@@ -32,10 +33,10 @@ use Rattle.ln_filter.specs.Steady.{ArePowersSteady, AreSteady, AreLetsSteady}
 use Rattle.ln_filter.specs.Tried.{IsSmall, AreNarrow, AllNarrow}
 use Rattle.ln_filter.specs.Lines.{line, cut_lines, trim_lines, sum_lines, factor_lines, factors, power_of, filter_lines, let_lines}
 use Rattle.ln_filter.specs.Nodes.{PushesNode, PushNodes}
-use Rattle.ln_filter.proofs.Powers.{power_size, powers_within}
+use Rattle.ln_filter.proofs.Powers.{le_self, power_size, powers_within}
 use Rattle.ln_filter.proofs.Steady.{AreSmall, small_snoc, triple_small, powered_small}
-use Rattle.ln_filter.proofs.Lands.{at, on_top, Lands, LetKnown, LetsKnown, lets_kept, Joins, cut_ends, push_step, input_step, get_step, neg_step, mul_step, small_narrow, sum_narrow, product_narrow, plus_joins, minus_joins, power_tree, power_same, factors_end, need_positive, lands}
-use Rattle.ln_filter.proofs.Lets.{snoc_known}
+use Rattle.ln_filter.proofs.Lands.{at, on_top, Lands, LetKnown, LetsKnown, lets_kept, Joins, cut_ends, push_step, input_step, get_step, neg_step, mul_step, small_narrow, sum_narrow, product_narrow, plus_joins, minus_joins, power_tree, power_same, factors_end, need_positive, lands, running_size}
+use Rattle.ln_filter.proofs.Lets.{next_known}
 
 push_append : (is_node : Tree → Width → Type 0) (xs ys : List (Pushed FilterKnown)) → PushNodes is_node xs → PushNodes is_node ys → PushNodes is_node (xs ++ ys)
 push_append is_node [] ys a b = b
@@ -79,14 +80,14 @@ trim_push vars depth is_node o a t e v size l m r s f i q d h z st =
 
 -- the root of a tree is a node of it
 root_node : (trees : List Tree) (t : Typed) → IsNode trees t (inlined trees (untyped t)) (width t)
-root_node trees (TNum c b w) = (refl, refl)
-root_node trees (TInput v b w) = (refl, refl)
-root_node trees (TLet j b w) = (refl, refl)
-root_node trees (TNeg t b w) = inr (refl, refl)
-root_node trees (TTwo Plus s t b w) = inr (refl, refl)
-root_node trees (TTwo Minus s t b w) = inr (refl, refl)
-root_node trees (TTwo Times s t b w) = inr (refl, refl)
-root_node trees (TPow t n b w) = inr (n, omega arith, refl, refl)
+root_node trees (TNum c p w) = (refl, refl)
+root_node trees (TInput v p w) = (refl, refl)
+root_node trees (TLet j p w) = (refl, refl)
+root_node trees (TNeg t p w) = inr (refl, refl)
+root_node trees (TTwo Plus s t p w) = inr (refl, refl)
+root_node trees (TTwo Minus s t p w) = inr (refl, refl)
+root_node trees (TTwo Times s t p w) = inr (refl, refl)
+root_node trees (TPow t n p w) = inr (n, omega arith, refl, refl)
 
 sum_push : (vars : List VarInfo) (depth : ℕ) (is_node : Tree → Width → Type 0) (o : Op) (k : Two) (left right : List (Line Triple)) (l : ℕ → Option FilterKnown) (stack : List FilterKnown) (a b : Triple) (c e n : ℕ) (s t : Tree) (u v w : Width) → stores o ≡ false →
     Joins vars depth o k a b stack → (x : Lands vars depth left l stack a c s) → (y : Lands vars depth right x.locals (at (aligned a b) x.tree x.size ∷ stack) b e t) →
@@ -161,123 +162,106 @@ power_push vars depth is_node w lines l stack a c b (suc n) t x i p f h d nodes 
 
 -- ---- trees
 
-let_push : (vars : List VarInfo) (depth : ℕ) (is_node : Tree → Width → Type 0) (j b : ℕ) (w : Width) (l : ℕ → Option FilterKnown) (stack : List FilterKnown) (o : Option Typed) (a : Triple) (t : Tree) → ((u : Typed) → o ≡ Some u → LetKnown (l j) a u t) → Covers o b w → b ≤ limit w → IsSmall a → suc (length stack) ≤ depth → is_node t w →
+let_push : (vars : List VarInfo) (depth : ℕ) (is_node : Tree → Width → Type 0) (j : ℕ) (p : Range) (w : Width) (b : ℕ) (l : ℕ → Option FilterKnown) (stack : List FilterKnown) (o : Option Typed) (a : Triple) (t : Tree) → ((u : Typed) → o ≡ Some u → LetKnown (l j) a b t) → CoversLet o p w → b ≤ limit W128 → IsSmall a → suc (length stack) ≤ depth → is_node t w →
     PushNodes is_node (pushes (filter_rules vars depth) (line (Get j) a ∷ []) (record { stack = stack; locals = l }))
-let_push vars depth is_node j b w l stack None a t g c h i d n = absurd c
-let_push vars depth is_node j b w l stack (Some u) a t g c h i d n =
+let_push vars depth is_node j p w b l stack None a t g c h i d n = absurd c
+let_push vars depth is_node j p w b l stack (Some u) a t g c h i d n =
     let k = g u refl in
-    let p = k.fits in
-    let q = c.0 in
-    let r = limit_wide w in
-    let f : k.size ≤ limit W128 = omega arith in
+    let y = k.fits in
+    let f : k.size ≤ limit W128 = omega (arith, y, h) in
     front_push vars depth is_node (Get j) a [] l l stack stack (at a k.tree k.size) refl (get_step vars depth j a k.tree k.size l stack k.there (small_narrow a i) f d) (one_pushes is_node (Get j) (at a k.tree k.size) t w n k.same) tt
 
-pub pushing : (vars : List VarInfo) (depth : ℕ) (lets : List Typed) (trees : List Tree) (ts : List Triple) (t : Typed) (l : ℕ → Option FilterKnown) (stack : List FilterKnown) →
-    SoundNodes vars lets t → AreSteady vars ts (untyped t) → AreNarrow vars (untyped t) → AreSmall ts → LetsKnown lets trees ts l → need t + length stack ≤ depth →
+pub pushing : (vars : List VarInfo) (depth : ℕ) (lets : List Typed) (trees : List Tree) (ts : List Triple) (ss : List ℕ) (t : Typed) (l : ℕ → Option FilterKnown) (stack : List FilterKnown) →
+    SoundNodes vars lets t → HasRoom one ss (untyped t) → AreSteady vars ts (untyped t) → AreNarrow vars (untyped t) → AreSmall ts → LetsKnown lets trees ts ss l → need t + length stack ≤ depth →
     PushNodes (IsNode trees t) (pushes (filter_rules vars depth) (filter_lines vars ts (untyped t)) (record { stack = stack; locals = l }))
-pushing vars depth lets trees ts (TNum c b w) l stack s z n g k d =
-    let r = limit_wide w in
-    let p = s.0 in
-    let q = s.1 in
-    let f : unsigned_abs c ≤ limit W128 = omega arith in
-    front_push vars depth (IsNode trees (TNum c b w)) (Push c) (leaf (unsigned_abs c)) [] l l stack stack (at (leaf (unsigned_abs c)) (tree.Num c) (unsigned_abs c)) refl (push_step vars depth c l stack (triple_small vars ts (tree.Num c) g z) f (omega arith)) (one_pushes (IsNode trees (TNum c b w)) (Push c) (at (leaf (unsigned_abs c)) (tree.Num c) (unsigned_abs c)) (tree.Num c) w (refl, refl) (same_self (tree.Num c))) tt
-pushing vars depth lets trees ts (TInput v b w) l stack s z n g k d =
-    let f : sizes vars v ≤ limit W64 = omega arith in
-    let q : sizes vars v ≤ limit W128 = omega arith in
-    trim_push vars depth (IsNode trees (TInput v b w)) (Input v) (whole (sizes vars v)) (tree.Input v) (tree.Input v) w (sizes vars v) l l stack stack refl (refl, refl) (same_self (tree.Input v)) (omega arith) f q (input_step vars depth v l stack s.0 n (omega arith))
-pushing vars depth lets trees ts (TLet j b w) l stack s z n g k d =
-    let_push vars depth (IsNode trees (TLet j b w)) j b w l stack (slice_get lets j) (slice_index_or ts j no_triple) (slice_index_or trees j (tree.Num (pos 0))) (k.each j) s.0 s.1 (triple_small vars ts (tree.Name j) g z) (omega arith) (refl, refl)
-pushing vars depth lets trees ts (TNeg t b w) l stack s z n g k d =
+pushing vars depth lets trees ts ss (TNum c p w) l stack s h z n g k d =
+    front_push vars depth (IsNode trees (TNum c p w)) (Push c) (leaf (unsigned_abs c)) [] l l stack stack (at (leaf (unsigned_abs c)) (tree.Num c) (unsigned_abs c)) refl (push_step vars depth c l stack (triple_small vars ts (tree.Num c) g z) h (omega (arith, d))) (one_pushes (IsNode trees (TNum c p w)) (Push c) (at (leaf (unsigned_abs c)) (tree.Num c) (unsigned_abs c)) (tree.Num c) w (refl, refl) (same_self (tree.Num c))) tt
+pushing vars depth lets trees ts ss (TInput v p w) l stack s h z n g k d =
+    let f : sizes vars v ≤ limit W64 = omega (arith, n) in
+    let e : suc (length stack) ≤ depth = omega (arith, d) in
+    trim_push vars depth (IsNode trees (TInput v p w)) (Input v) (whole (sizes vars v)) (tree.Input v) (tree.Input v) w 1 l l stack stack refl (refl, refl) (same_self (tree.Input v)) e f h (input_step vars depth v l stack s.0 n e)
+pushing vars depth lets trees ts ss (TLet j p w) l stack s h z n g k d =
+    let_push vars depth (IsNode trees (TLet j p w)) j p w (slice_index_or ss j 0) l stack (slice_get lets j) (slice_index_or ts j no_triple) (slice_index_or trees j (tree.Num (pos 0))) (k.each j) s.0 h (triple_small vars ts (tree.Name j) g z) (omega (arith, d)) (refl, refl)
+pushing vars depth lets trees ts ss (TNeg t p w) l stack s h z n g k d =
     let a = triple vars ts (untyped t) in
-    let x = lands vars depth lets trees ts t l stack s.0 z n g k d in
-    let p = pushing vars depth lets trees ts t l stack s.0 z n g k d in
+    let x = lands vars depth lets trees ts ss t l stack s.0 h.0 z n g k d in
+    let q = pushing vars depth lets trees ts ss t l stack s.0 h.0 z n g k d in
     let m : 1 ≤ need t = need_positive t in
     let i = triple_small vars ts (untyped t) g z in
     let xf = x.fits in
-    let r = limit_wide w in
-    let y = s.1 in
-    let h = s.2 in
-    let q : x.size ≤ limit W128 = omega arith in
-    let d' : suc (length stack) ≤ depth = omega arith in
-    let own = one_pushes (IsNode trees (TNeg t b w)) (Neg W64) (at a (tree.Neg x.tree) x.size) (tree.Neg (inlined trees (untyped t))) w (inr (refl, refl)) (same_neg x.tree (inlined trees (untyped t)) x.same) in
-    then_push vars depth (IsNode trees (TNeg t b w)) (filter_lines vars ts (untyped t)) (line (Neg W64) a ∷ []) (record { stack = stack; locals = l }) (on_top (at a x.tree x.size) stack x.locals) x.ends (push_wider (IsNode trees t) (IsNode trees (TNeg t b w)) (λ e v h. inl h) (pushes (filter_rules vars depth) (filter_lines vars ts (untyped t)) (record { stack = stack; locals = l })) p)
-    (front_push vars depth (IsNode trees (TNeg t b w)) (Neg W64) a [] x.locals x.locals (at a x.tree x.size ∷ stack) stack (at a (tree.Neg x.tree) x.size) refl (neg_step vars depth a x.tree x.size x.locals stack (small_narrow a i) q d') own tt)
-pushing vars depth lets trees ts (TTwo Plus u t b w) l stack s z n g k d =
+    let y = h.1 in
+    let f : x.size ≤ limit W128 = omega (arith, xf, y) in
+    let e : suc (length stack) ≤ depth = omega (arith, m, d) in
+    let own = one_pushes (IsNode trees (TNeg t p w)) (Neg W64) (at a (tree.Neg x.tree) x.size) (tree.Neg (inlined trees (untyped t))) w (inr (refl, refl)) (same_neg x.tree (inlined trees (untyped t)) x.same) in
+    then_push vars depth (IsNode trees (TNeg t p w)) (filter_lines vars ts (untyped t)) (line (Neg W64) a ∷ []) (record { stack = stack; locals = l }) (on_top (at a x.tree x.size) stack x.locals) x.ends (push_wider (IsNode trees t) (IsNode trees (TNeg t p w)) (λ e v h. inl h) (pushes (filter_rules vars depth) (filter_lines vars ts (untyped t)) (record { stack = stack; locals = l })) q)
+    (front_push vars depth (IsNode trees (TNeg t p w)) (Neg W64) a [] x.locals x.locals (at a x.tree x.size ∷ stack) stack (at a (tree.Neg x.tree) x.size) refl (neg_step vars depth a x.tree x.size x.locals stack (small_narrow a i) f e) own tt)
+pushing vars depth lets trees ts ss (TTwo Plus u t p w) l stack s h z n g k d =
     let a = triple vars ts (untyped u) in
     let c = triple vars ts (untyped t) in
     let i = triple_small vars ts (untyped u) g z.0 in
     let j = triple_small vars ts (untyped t) g z.1 in
-    let x = lands vars depth lets trees ts u l stack s.0 z.0 n.0 g k (omega arith) in
+    let x = lands vars depth lets trees ts ss u l stack s.0 h.0 z.0 n.0 g k (omega (arith, d)) in
     let m : 1 ≤ need t = need_positive t in
-    let kept = lets_kept lets trees ts l x.locals k x.keeps in
-    let y = lands vars depth lets trees ts t x.locals (at (aligned a c) x.tree x.size ∷ stack) s.1 z.1 n.1 g kept (omega arith) in
-    let p = pushing vars depth lets trees ts u l stack s.0 z.0 n.0 g k (omega arith) in
-    let q = pushing vars depth lets trees ts t x.locals (at (aligned a c) x.tree x.size ∷ stack) s.1 z.1 n.1 g kept (omega arith) in
-    let r = limit_wide w in
-    let e = s.3 in
-    let pw = push_wider (IsNode trees u) (IsNode trees (TTwo Plus u t b w)) (λ e v h. inl (inl h)) (pushes (filter_rules vars depth) (filter_lines vars ts (untyped u)) (record { stack = stack; locals = l })) p in
-    let qw = push_wider (IsNode trees t) (IsNode trees (TTwo Plus u t b w)) (λ e v h. inl (inr h)) (pushes (filter_rules vars depth) (filter_lines vars ts (untyped t)) (on_top (at (aligned a c) x.tree x.size) stack x.locals)) q in
-    sum_push vars depth (IsNode trees (TTwo Plus u t b w)) (Add W64) Plus (filter_lines vars ts (untyped u)) (filter_lines vars ts (untyped t)) l stack a c (bound u) (bound t) b (inlined trees (untyped u)) (inlined trees (untyped t)) (width u) (width t) w refl (plus_joins vars depth a c stack i j (omega arith)) x y i j s.2 (omega arith) (omega arith) (inl (inl (root_node trees u))) (inl (inr (root_node trees t))) (inr (refl, refl)) pw qw
-pushing vars depth lets trees ts (TTwo Minus u t b w) l stack s z n g k d =
+    let kept = lets_kept lets trees ts ss l x.locals k x.keeps in
+    let y = lands vars depth lets trees ts ss t x.locals (at (aligned a c) x.tree x.size ∷ stack) s.1 h.1 z.1 n.1 g kept (omega (arith, d)) in
+    let r = pushing vars depth lets trees ts ss u l stack s.0 h.0 z.0 n.0 g k (omega (arith, d)) in
+    let q = pushing vars depth lets trees ts ss t x.locals (at (aligned a c) x.tree x.size ∷ stack) s.1 h.1 z.1 n.1 g kept (omega (arith, d)) in
+    let pw = push_wider (IsNode trees u) (IsNode trees (TTwo Plus u t p w)) (λ e v h. inl (inl h)) (pushes (filter_rules vars depth) (filter_lines vars ts (untyped u)) (record { stack = stack; locals = l })) r in
+    let qw = push_wider (IsNode trees t) (IsNode trees (TTwo Plus u t p w)) (λ e v h. inl (inr h)) (pushes (filter_rules vars depth) (filter_lines vars ts (untyped t)) (on_top (at (aligned a c) x.tree x.size) stack x.locals)) q in
+    sum_push vars depth (IsNode trees (TTwo Plus u t p w)) (Add W64) Plus (filter_lines vars ts (untyped u)) (filter_lines vars ts (untyped t)) l stack a c (running_size ss u) (running_size ss t) (running_size ss u + running_size ss t) (inlined trees (untyped u)) (inlined trees (untyped t)) (width u) (width t) w refl (plus_joins vars depth a c stack i j (omega (arith, m, d))) x y i j (le_self (running_size ss u + running_size ss t)) h.2 (omega (arith, m, d)) (inl (inl (root_node trees u))) (inl (inr (root_node trees t))) (inr (refl, refl)) pw qw
+pushing vars depth lets trees ts ss (TTwo Minus u t p w) l stack s h z n g k d =
     let a = triple vars ts (untyped u) in
     let c = triple vars ts (untyped t) in
     let i = triple_small vars ts (untyped u) g z.0 in
     let j = triple_small vars ts (untyped t) g z.1 in
-    let x = lands vars depth lets trees ts u l stack s.0 z.0 n.0 g k (omega arith) in
+    let x = lands vars depth lets trees ts ss u l stack s.0 h.0 z.0 n.0 g k (omega (arith, d)) in
     let m : 1 ≤ need t = need_positive t in
-    let kept = lets_kept lets trees ts l x.locals k x.keeps in
-    let y = lands vars depth lets trees ts t x.locals (at (aligned a c) x.tree x.size ∷ stack) s.1 z.1 n.1 g kept (omega arith) in
-    let p = pushing vars depth lets trees ts u l stack s.0 z.0 n.0 g k (omega arith) in
-    let q = pushing vars depth lets trees ts t x.locals (at (aligned a c) x.tree x.size ∷ stack) s.1 z.1 n.1 g kept (omega arith) in
-    let r = limit_wide w in
-    let e = s.3 in
-    let pw = push_wider (IsNode trees u) (IsNode trees (TTwo Minus u t b w)) (λ e v h. inl (inl h)) (pushes (filter_rules vars depth) (filter_lines vars ts (untyped u)) (record { stack = stack; locals = l })) p in
-    let qw = push_wider (IsNode trees t) (IsNode trees (TTwo Minus u t b w)) (λ e v h. inl (inr h)) (pushes (filter_rules vars depth) (filter_lines vars ts (untyped t)) (on_top (at (aligned a c) x.tree x.size) stack x.locals)) q in
-    sum_push vars depth (IsNode trees (TTwo Minus u t b w)) (Sub W64) Minus (filter_lines vars ts (untyped u)) (filter_lines vars ts (untyped t)) l stack a c (bound u) (bound t) b (inlined trees (untyped u)) (inlined trees (untyped t)) (width u) (width t) w refl (minus_joins vars depth a c stack i j (omega arith)) x y i j s.2 (omega arith) (omega arith) (inl (inl (root_node trees u))) (inl (inr (root_node trees t))) (inr (refl, refl)) pw qw
-pushing vars depth lets trees ts (TTwo Times u t b w) l stack s z n g k d =
+    let kept = lets_kept lets trees ts ss l x.locals k x.keeps in
+    let y = lands vars depth lets trees ts ss t x.locals (at (aligned a c) x.tree x.size ∷ stack) s.1 h.1 z.1 n.1 g kept (omega (arith, d)) in
+    let r = pushing vars depth lets trees ts ss u l stack s.0 h.0 z.0 n.0 g k (omega (arith, d)) in
+    let q = pushing vars depth lets trees ts ss t x.locals (at (aligned a c) x.tree x.size ∷ stack) s.1 h.1 z.1 n.1 g kept (omega (arith, d)) in
+    let pw = push_wider (IsNode trees u) (IsNode trees (TTwo Minus u t p w)) (λ e v h. inl (inl h)) (pushes (filter_rules vars depth) (filter_lines vars ts (untyped u)) (record { stack = stack; locals = l })) r in
+    let qw = push_wider (IsNode trees t) (IsNode trees (TTwo Minus u t p w)) (λ e v h. inl (inr h)) (pushes (filter_rules vars depth) (filter_lines vars ts (untyped t)) (on_top (at (aligned a c) x.tree x.size) stack x.locals)) q in
+    sum_push vars depth (IsNode trees (TTwo Minus u t p w)) (Sub W64) Minus (filter_lines vars ts (untyped u)) (filter_lines vars ts (untyped t)) l stack a c (running_size ss u) (running_size ss t) (running_size ss u + running_size ss t) (inlined trees (untyped u)) (inlined trees (untyped t)) (width u) (width t) w refl (minus_joins vars depth a c stack i j (omega (arith, m, d))) x y i j (le_self (running_size ss u + running_size ss t)) h.2 (omega (arith, m, d)) (inl (inl (root_node trees u))) (inl (inr (root_node trees t))) (inr (refl, refl)) pw qw
+pushing vars depth lets trees ts ss (TTwo Times u t p w) l stack s h z n g k d =
     let a = triple vars ts (untyped u) in
     let c = triple vars ts (untyped t) in
     let i = triple_small vars ts (untyped u) g z.0 in
     let j = triple_small vars ts (untyped t) g z.1 in
-    let x = lands vars depth lets trees ts u l stack s.0 z.0 n.0 g k (omega arith) in
+    let x = lands vars depth lets trees ts ss u l stack s.0 h.0 z.0 n.0 g k (omega (arith, d)) in
     let m : 1 ≤ need t = need_positive t in
-    let kept = lets_kept lets trees ts l x.locals k x.keeps in
-    let y = lands vars depth lets trees ts t x.locals (at a x.tree x.size ∷ stack) s.1 z.1 n.1 g kept (omega arith) in
-    let p = pushing vars depth lets trees ts u l stack s.0 z.0 n.0 g k (omega arith) in
-    let q = pushing vars depth lets trees ts t x.locals (at a x.tree x.size ∷ stack) s.1 z.1 n.1 g kept (omega arith) in
-    let r = limit_wide w in
-    let e = s.3 in
-    let pw = push_wider (IsNode trees u) (IsNode trees (TTwo Times u t b w)) (λ e v h. inl (inl h)) (pushes (filter_rules vars depth) (filter_lines vars ts (untyped u)) (record { stack = stack; locals = l })) p in
-    let qw = push_wider (IsNode trees t) (IsNode trees (TTwo Times u t b w)) (λ e v h. inl (inr h)) (pushes (filter_rules vars depth) (filter_lines vars ts (untyped t)) (on_top (at a x.tree x.size) stack x.locals)) q in
-    product_push vars depth (IsNode trees (TTwo Times u t b w)) (filter_lines vars ts (untyped u)) (filter_lines vars ts (untyped t)) l stack a c (bound u) (bound t) b (inlined trees (untyped u)) (inlined trees (untyped t)) w x y i j s.2 (omega arith) (omega arith) (inr (refl, refl)) pw qw
-pushing vars depth lets trees ts (TPow t zero b w) l stack s z n g k d =
-    let p : bound t ^ 0 ≡ 1 = pow-zero (bound t) in
-    let q = s.1 in
-    front_push vars depth (IsNode trees (TPow t zero b w)) (Push (pos 1)) (leaf 1) [] l l stack stack (at (leaf 1) (tree.Num (pos 1)) 1) refl (push_step vars depth (pos 1) l stack (powered_small (triple vars ts (untyped t)) 0 (triple_small vars ts (untyped t) g z.0) z.1) (omega arith) (omega arith)) (one_pushes (IsNode trees (TPow t zero b w)) (Push (pos 1)) (at (leaf 1) (tree.Num (pos 1)) 1) (tree.Pow (inlined trees (untyped t)) 0) w (inr (0, omega arith, refl, refl)) (same_zeroth (inlined trees (untyped t)))) tt
-pushing vars depth lets trees ts (TPow t (suc n) b w) l stack s z m g k d =
-    let x = lands vars depth lets trees ts t l stack s.0 z.0 m g k (omega arith) in
-    let p = pushing vars depth lets trees ts t l stack s.0 z.0 m g k (omega arith) in
-    let r = limit_wide w in
-    let q = s.2 in
-    let pw = push_wider (IsNode trees t) (IsNode trees (TPow t (suc n) b w)) (λ e v h. inl h) (pushes (filter_rules vars depth) (filter_lines vars ts (untyped t)) (record { stack = stack; locals = l })) p in
-    power_push vars depth (IsNode trees (TPow t (suc n) b w)) w (filter_lines vars ts (untyped t)) l stack (triple vars ts (untyped t)) (bound t) b n (inlined trees (untyped t)) x (triple_small vars ts (untyped t) g z.0) z.1 s.1 (omega arith) (omega arith) (λ e h. inr (e, h, refl, refl)) pw
+    let kept = lets_kept lets trees ts ss l x.locals k x.keeps in
+    let y = lands vars depth lets trees ts ss t x.locals (at a x.tree x.size ∷ stack) s.1 h.1 z.1 n.1 g kept (omega (arith, d)) in
+    let r = pushing vars depth lets trees ts ss u l stack s.0 h.0 z.0 n.0 g k (omega (arith, d)) in
+    let q = pushing vars depth lets trees ts ss t x.locals (at a x.tree x.size ∷ stack) s.1 h.1 z.1 n.1 g kept (omega (arith, d)) in
+    let pw = push_wider (IsNode trees u) (IsNode trees (TTwo Times u t p w)) (λ e v h. inl (inl h)) (pushes (filter_rules vars depth) (filter_lines vars ts (untyped u)) (record { stack = stack; locals = l })) r in
+    let qw = push_wider (IsNode trees t) (IsNode trees (TTwo Times u t p w)) (λ e v h. inl (inr h)) (pushes (filter_rules vars depth) (filter_lines vars ts (untyped t)) (on_top (at a x.tree x.size) stack x.locals)) q in
+    product_push vars depth (IsNode trees (TTwo Times u t p w)) (filter_lines vars ts (untyped u)) (filter_lines vars ts (untyped t)) l stack a c (running_size ss u) (running_size ss t) (running_size ss u * running_size ss t) (inlined trees (untyped u)) (inlined trees (untyped t)) w x y i j (le_self (running_size ss u * running_size ss t)) h.2 (omega (arith, m, d)) (inr (refl, refl)) pw qw
+pushing vars depth lets trees ts ss (TPow t zero p w) l stack s h z n g k d =
+    front_push vars depth (IsNode trees (TPow t zero p w)) (Push (pos 1)) (leaf 1) [] l l stack stack (at (leaf 1) (tree.Num (pos 1)) 1) refl (push_step vars depth (pos 1) l stack (powered_small (triple vars ts (untyped t)) 0 (triple_small vars ts (untyped t) g z.0) z.1) (omega arith) (omega (arith, d))) (one_pushes (IsNode trees (TPow t zero p w)) (Push (pos 1)) (at (leaf 1) (tree.Num (pos 1)) 1) (tree.Pow (inlined trees (untyped t)) 0) w (inr (0, omega arith, refl, refl)) (same_zeroth (inlined trees (untyped t)))) tt
+pushing vars depth lets trees ts ss (TPow t (suc n) p w) l stack s h z m g k d =
+    let x = lands vars depth lets trees ts ss t l stack s.0 h.0 z.0 m g k (omega (arith, d)) in
+    let q = pushing vars depth lets trees ts ss t l stack s.0 h.0 z.0 m g k (omega (arith, d)) in
+    let pw = push_wider (IsNode trees t) (IsNode trees (TPow t (suc n) p w)) (λ e v h. inl h) (pushes (filter_rules vars depth) (filter_lines vars ts (untyped t)) (record { stack = stack; locals = l })) q in
+    power_push vars depth (IsNode trees (TPow t (suc n) p w)) w (filter_lines vars ts (untyped t)) l stack (triple vars ts (untyped t)) (running_size ss t) (running_size ss t ^ suc n) n (inlined trees (untyped t)) x (triple_small vars ts (untyped t) g z.0) z.1 (le_self (running_size ss t ^ suc n)) h.1 (omega (arith, d)) (λ e h. inr (e, h, refl, refl)) pw
 
 -- ---- lets
 
 pub lets_pushing : (vars : List VarInfo) (depth n : ℕ) (done : List Typed) (trees : List Tree) (ts : List Triple) (rest : List Typed) (l : ℕ → Option FilterKnown) →
-    n ≡ length done → length trees ≡ length done → length ts ≡ length done → n + length rest ≤ 64 → 2048 ≤ depth → AreSound vars done rest → AreLetsSteady vars ts (map untyped rest) → AllNarrow vars (map untyped rest) → AreSmall ts → LetsKnown done trees ts l →
+    n ≡ length done → length trees ≡ length done → length ts ≡ length done → n + length rest ≤ 64 → 2048 ≤ depth → AreSound vars done rest → AreLetsSteady vars ts (map untyped rest) → AllNarrow vars (map untyped rest) → AreSmall ts → LetsKnown done trees ts (running done) l →
     PushNodes (IsLetNode trees rest) (pushes (filter_rules vars depth) (let_lines vars n ts (map untyped rest)) (record { stack = []; locals = l }))
 lets_pushing vars depth n done trees ts [] l en e f few d s z w g k = tt
 lets_pushing vars depth n done trees ts (t ∷ us) l en e f few d s z w g k =
     let c : Tree = inlined trees (untyped t) in
     let a : Triple = triple vars ts (untyped t) in
-    let deep : need t + length {A = FilterKnown} [] ≤ depth = let y = s.0.deep in omega arith in
-    let x = lands vars depth done trees ts t l [] s.0.nodes z.0 w.0 g k deep in
-    let p = pushing vars depth done trees ts t l [] s.0.nodes z.0 w.0 g k deep in
-    let kept = lets_kept done trees ts l x.locals k x.keeps in
+    let y = s.0.deep in
+    let deep : need t + length {A = FilterKnown} [] ≤ depth = omega (arith, y, d) in
+    let x = lands vars depth done trees ts (running done) t l [] s.0.nodes s.0.sizes z.0 w.0 g k deep in
+    let p = pushing vars depth done trees ts (running done) t l [] s.0.nodes s.0.sizes z.0 w.0 g k deep in
+    let kept = lets_kept done trees ts (running done) l x.locals k x.keeps in
     let now : ℕ → Option FilterKnown = with_local x.locals n (at a x.tree x.size) in
-    let m : LetsKnown (done ++ (t ∷ [])) (trees ++ (c ∷ [])) (ts ++ (a ∷ [])) (with_local x.locals n (at a x.tree x.size)) = rw en (snoc_known done trees ts x.locals t c x.tree a x.size e f (omega arith) kept x.fits x.same) in
-    let q = lets_pushing vars depth (suc n) (done ++ (t ∷ [])) (trees ++ (c ∷ [])) (ts ++ (a ∷ [])) us now (omega (arith, length-append done (t ∷ []))) (omega (arith, length-append trees (c ∷ []), length-append done (t ∷ []))) (omega (arith, length-append ts (a ∷ []), length-append done (t ∷ []))) (omega arith) d s.1 z.1 w.1 (small_snoc ts a g (triple_small vars ts (untyped t) g z.0)) m in
+    let m : LetsKnown (done ++ (t ∷ [])) (trees ++ (c ∷ [])) (ts ++ (a ∷ [])) (running (done ++ (t ∷ []))) (with_local x.locals n (at a x.tree x.size)) = next_known n done trees ts x.locals t c x.tree a x.size en e f (omega (arith, en, few)) kept x.fits x.same in
+    let q = lets_pushing vars depth (suc n) (done ++ (t ∷ [])) (trees ++ (c ∷ [])) (ts ++ (a ∷ [])) us now (omega (arith, en, length-append done (t ∷ []))) (omega (arith, e, length-append trees (c ∷ []), length-append done (t ∷ []))) (omega (arith, f, length-append ts (a ∷ []), length-append done (t ∷ []))) (omega (arith, few)) d s.1 z.1 w.1 (small_snoc ts a g (triple_small vars ts (untyped t) g z.0)) m in
     let pw = push_wider (IsNode trees t) (IsLetNode trees (t ∷ us)) (λ e v h. inl h) (pushes (filter_rules vars depth) (filter_lines vars ts (untyped t)) (record { stack = []; locals = l })) p in
     let qw = push_wider (IsLetNode (trees ++ (c ∷ [])) us) (IsLetNode trees (t ∷ us)) (λ e v h. inr h) (pushes (filter_rules vars depth) (let_lines vars (suc n) (ts ++ (a ∷ [])) (map untyped us)) (record { stack = []; locals = now })) q in
     then_push vars depth (IsLetNode trees (t ∷ us)) (filter_lines vars ts (untyped t)) (line (Set n) no_triple ∷ let_lines vars (suc n) (ts ++ (a ∷ [])) (map untyped us)) (record { stack = []; locals = l }) (on_top (at a x.tree x.size) [] x.locals) x.ends pw qw

@@ -13,7 +13,7 @@ use Rattle.ln_bound.specs.declared.fitted.Width.TheVariants.{W64}
 use Rattle.ln_bound.specs.Widths.{limit}
 use Rattle.ln_bound.specs.Value.{values}
 use Rattle.ln_bound.specs.Typed.{Typed, untyped}
-use Rattle.ln_bound.specs.Sound.{Sound, AreSound, is_sound, are_sound}
+use Rattle.ln_bound.specs.Sound.{Sound, AreSound, is_sound, are_sound, running}
 use Rattle.ln_bound.specs.View.{typed}
 use Rattle.ln_bound.specs.declared.fitted.Fitted.{Fitted}
 use Rattle.ln_bound.proofs.SoundLaws.{is_sound_says, are_sound_say}
@@ -95,11 +95,11 @@ root_lands vars depth lets root d few s r f w n =
     let trees : List Tree = inlined_after [] ls in
     let x = lets_land vars depth 0 [] [] [] lets no_locals refl refl refl (omega arith) d s f.lets_steady w tt (no_lets no_locals) in
     let g : AreSmall ts = lets_small vars [] ls tt f.lets_steady in
-    let y = lands vars depth lets trees ts root x.locals [] r.nodes f.root_steady n g x.known (let z = r.deep in omega arith) in
+    let y = lands vars depth lets trees ts (running lets) root x.locals [] r.nodes r.sizes f.root_steady n g x.known (let z = r.deep in omega arith) in
     let i = triple_small vars ts (untyped root) g f.root_steady in
     let e = i.error in
     let p = lets_pushing vars depth 0 [] [] [] lets no_locals refl refl refl (omega arith) d s f.lets_steady w tt (no_lets no_locals) in
-    let q = pushing vars depth lets trees ts root x.locals [] r.nodes f.root_steady n g x.known (let z = r.deep in omega arith) in
+    let q = pushing vars depth lets trees ts (running lets) root x.locals [] r.nodes r.sizes f.root_steady n g x.known (let z = r.deep in omega arith) in
     let pw = push_wider (IsLetNode [] lets) (IsNodeOf lets root) (λ e v h. inl h) (pushes (filter_rules vars depth) (let_lines vars 0 [] ls) (record { stack = []; locals = no_locals })) p in
     let qw = push_wider (IsNode trees root) (IsNodeOf lets root) (λ e v h. inr h) (pushes (filter_rules vars depth) (filter_lines vars ts (untyped root)) (record { stack = []; locals = x.locals })) q in
     record {

@@ -7,7 +7,7 @@ ghost use Rattle.ln_bound.specs.Value.{sizes};
 ghost use Rattle.ln_bound.specs.View.{typed};
 ghost use Rattle.ln_code.specs.FilterRules.{error_after};
 ghost use Rattle.ln_code.specs.Kept.{no_triple};
-ghost use Rattle.ln_filter.specs.Triples.{added, cut, excess, leaf, multiplied, product_of, sum_of, trimmed, whole};
+ghost use Rattle.ln_filter.specs.Triples.{cut, excess, leaf, product_of, sum_of, trimmed, whole};
 ghost use Rattle.ln_filter.specs.Tried.{AreNarrow, IsSmall, of_raw, power_tried, settled, tried};
 
 use ln_bound::{FitOp, Fitted};

@@ -1,5 +1,5 @@
 //! Operations as they are written.
-ghost use Rattle.std.specs.Prelude.{◌≡◌, ◌∷◌, [], OnOk};
+ghost use Rattle.std.specs.Prelude.{◌∷◌, [], OnOk};
 ghost use Rattle.ln_filter.specs.Lines.{line};
 ghost use Rattle.ln_filter.specs.Wrote.{Wrote};
 

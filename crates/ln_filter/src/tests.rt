@@ -1,23 +1,29 @@
-// Trees made by hand, and their filters.
-ghost use Rattle.std.specs.Prelude.{◌≡◌, ◌∷◌, [], IfOk, pos};
-ghost use Rattle.ln_bound.specs.declared.fitted.Width.TheVariants.{W64, W128};
-ghost use Rattle.ln_bound.specs.declared.fitted.Two.TheVariants.{Minus, Times};
-ghost use Rattle.ln_bound.specs.Typed.{TInput, TNum, TPow, TTwo};
-ghost use Rattle.ln_bound.specs.View.{typed};
-ghost use Rattle.ln_filter.specs.Worked.{coordinate, num_vars};
+//! Trees made by hand, and their filters.
+ghost use Rattle.std.specs.Prelude.{◌≡◌, ◌≤◌, ◌≤ℤ◌, IfOk, unsigned_abs};
+ghost use Rattle.ln_interval.specs.Range.{most};
+ghost use Rattle.ln_bound.specs.View.{op_typed, typed};
+ghost use Rattle.ln_filter.specs.Worked.{coordinate, cube, deep, far, num_vars};
 
 use crate::filters::plan;
 use ln_base::{NoMemory, Seq};
 use ln_bound::{FitOp, Fitted, FittedPred, Width};
 use ln_code::{Op, Triple};
+use ln_interval::Pair;
 use ln_tree::{Name, Shape, VarInfo};
 use std::alloc::Global;
 use std::test::Fail;
 
-fn node(op: FitOp, bound: u128, width: Width) -> Fitted
-    ensures { result ≡ record { op = op; bound = bound; width = width } }
+fn node(op: FitOp, low: i128, high: i128, width: Width) -> Fitted
+    requires ordered { low ≤ℤ high }
+    requires low_small { unsigned_abs low ≤ most }
+    requires high_small { unsigned_abs high ≤ most }
+    ensures { typed result ≡ op_typed op (record { low = low; high = high }) width }
 {
-    Fitted { op, bound, width }
+    Fitted {
+        op,
+        pair: Pair { low, high },
+        width,
+    }
 }
 
 fn coordinate(site: u8) -> VarInfo
@@ -46,34 +52,36 @@ fn number(alloc: Global) -> Result<Shape, NoMemory>
 
 // t - 4294967297
 fn far(alloc: Global) -> Result<Fitted, NoMemory>
-    ensures { IfOk result (λ t. typed t ≡ TTwo Minus (TInput 0 10 W64) (TNum (pos 4294967297) 4294967297 W64) 4294967307 W64) }
+    ensures { IfOk result (λ t. typed t ≡ far) }
 {
-    let t = Box::new(alloc, node(FitOp::Input(0), 10, Width::W64))?;
-    let c = Box::new(alloc, node(FitOp::Num(4294967297), 4294967297, Width::W64))?;
-    Ok(node(FitOp::Sub(t, c), 4294967307, Width::W64))
+    let t = Box::new(alloc, node(FitOp::Input(0), -10, 10, Width::W64))?;
+    let c = node(FitOp::Num(4294967297), 4294967297, 4294967297, Width::W64);
+    let c = Box::new(alloc, c)?;
+    Ok(node(FitOp::Sub(t, c), -4294967307, -4294967287, Width::W64))
 }
 
 // t^3
 fn cube(alloc: Global) -> Result<Fitted, NoMemory>
-    ensures { IfOk result (λ t. typed t ≡ TPow (TInput 0 10 W64) 3 1000 W64) }
+    ensures { IfOk result (λ t. typed t ≡ cube) }
 {
-    let t = Box::new(alloc, node(FitOp::Input(0), 10, Width::W64))?;
-    Ok(node(FitOp::Pow(t, 3), 1000, Width::W64))
+    let t = Box::new(alloc, node(FitOp::Input(0), -10, 10, Width::W64))?;
+    Ok(node(FitOp::Pow(t, 3), -1000, 1000, Width::W64))
 }
 
 // (2^100*0)^4
 fn deep(alloc: Global) -> Result<Fitted, NoMemory>
-    ensures { IfOk result (λ t. typed t ≡ TPow (TTwo Times (TNum (pos 1267650600228229401496703205376) 1267650600228229401496703205376 W128) (TNum (pos 0) 0 W64) 0 W128) 4 0 W128) }
+    ensures { IfOk result (λ t. typed t ≡ deep) }
 {
     let c = node(
         FitOp::Num(1267650600228229401496703205376),
         1267650600228229401496703205376,
+        1267650600228229401496703205376,
         Width::W128,
     );
     let c = Box::new(alloc, c)?;
-    let z = Box::new(alloc, node(FitOp::Num(0), 0, Width::W64))?;
-    let p = Box::new(alloc, node(FitOp::Mul(c, z), 0, Width::W128))?;
-    Ok(node(FitOp::Pow(p, 4), 0, Width::W128))
+    let z = Box::new(alloc, node(FitOp::Num(0), 0, 0, Width::W64))?;
+    let p = Box::new(alloc, node(FitOp::Mul(c, z), 0, 0, Width::W128))?;
+    Ok(node(FitOp::Pow(p, 4), 0, 0, Width::W128))
 }
 
 fn of_far(alloc: Global) -> Result<FittedPred, NoMemory> {

@@ -1,141 +1,168 @@
--- The operations of a sound tree follow the rules: they leave a value with the tree's polynomial, and push polynomials of its nodes.
-use Rattle.std.proofs.Common.{◌≡◌, inl, inr, ℕ, ◌+◌, ◌*◌, ◌^◌, ◌≤◌, ◌<◌, true, false, List, [], ◌∷◌, ◌++◌, length, refl, zero, suc, arith, pos, ◌∙◌, unsigned_abs}
+-- The operations of a sound tree follow the rules: they leave a value in the tree's range with the tree's polynomial, and push polynomials of its nodes.
+use Rattle.std.proofs.Common.{◌≡◌, ◌≢◌, ℕ, ◌+◌, ◌*◌, ◌^◌, ◌≤◌, ◌<◌, true, false, List, [], ◌∷◌, ◌++◌, length, refl, zero, suc, ap, ap₂, arith, pos, ◌∙◌, sym, subst}
 use Rattle.std.specs.Prelude.{Option, Some, None, slice_get, slice_index_or, ◌==◌}
 use Rattle.std.proofs.lemmas.Bool.{le-leb}
 use Rattle.std.proofs.lemmas.Bool.Decides.{nat_tests}
-use Rattle.std.proofs.Math.Nat.{pow-suc, pow-zero}
+use Rattle.std.proofs.Math.Nat.{pow-suc}
+use Rattle.ln_algebra.specs.Sizes.{one}
 use Rattle.ln_algebra.specs.Tree as tree
 use Rattle.ln_algebra.specs.Tree.{Tree, inlined}
 use Rattle.ln_tree.specs.declared.shape.VarInfo.{VarInfo}
+use Rattle.ln_interval.specs.Range.{Range, Covers, IsOrdered, sum, difference, opposite, product, power, magnitude, most}
+use Rattle.ln_interval.proofs.Magnitudes.{power_ordered}
+use Rattle.ln_interval.proofs.Monotone.{covers_self, covers_then, lower_power, opposite_covers, product_covers}
 use Rattle.ln_bound.specs.declared.fitted.Width.{Width}
 use Rattle.ln_bound.specs.declared.fitted.Two.{Two}
 use Rattle.ln_bound.specs.declared.fitted.Two.TheVariants.{Plus, Minus, Times}
-use Rattle.ln_bound.specs.Value.{sizes, size_of}
+use Rattle.ln_bound.specs.Ranges.{ranges}
+use Rattle.ln_bound.specs.Sound.{IsIn, CoversLet, SoundNodes}
+use Rattle.ln_bound.specs.Typed.{Typed, TNum, TInput, TLet, TNeg, TTwo, TPow, pair, width, untyped, range_of, need}
+use Rattle.ln_bound.specs.Room.{HasRoom}
+use Rattle.ln_bound.specs.Typed.{bound_of, two_of}
+use Rattle.ln_bound.specs.Value.{weight_over}
 use Rattle.ln_bound.specs.Widths.{limit, least, wider, no_wider}
-use Rattle.ln_bound.specs.Typed.{Typed, TNum, TInput, TLet, TNeg, TTwo, TPow, bound, width, need, untyped, two_of, bound_of}
-use Rattle.ln_bound.specs.Sound.{Covers, SoundNodes}
+use Rattle.ln_bound.proofs.Fitting as fitting
 use Rattle.ln_code.specs.declared.op.Op.{Op}
-use Rattle.ln_code.specs.declared.op.Op.TheVariants.{Push, Input, Get, Mul, Neg}
+use Rattle.ln_code.specs.declared.op.Op.TheVariants.{Input, Get, Mul, Neg}
 use Rattle.ln_code.specs.Engine.{State, Line, next, run, step, pushed}
 use Rattle.ln_code.specs.Numbers.{with_local}
-use Rattle.ln_code.specs.Rules.{Known, rules}
+use Rattle.ln_code.specs.Rules.{Known, declared, rules}
 use Rattle.ln_code.specs.Kept.{stores}
 use Rattle.ln_code.specs.Pushes.{pushes}
-use Rattle.ln_code.specs.Nodes.{IsNode}
+use Rattle.ln_code.proofs.Behind.{pushes_append, pushes_front, then_run}
+use Rattle.ln_code.proofs.Same.{Same, same_self, same_then, same_neg, same_two, same_first, same_next}
 use Rattle.ln_lower.specs.Nodes.{HasWidth, PushesNode, PushNodes}
-use Rattle.ln_lower.specs.Lowered.{line, op_of, factors, power_of, lowered}
-use Rattle.ln_code.proofs.Behind.{power_grows, pushes_append, pushes_front, run_append}
-use Rattle.ln_lower.proofs.Bounding.{no_wider_trans, no_wider_self, wider_narrow, least_narrow, least_limit, wider_limit, known_is, bound_more, pushed_is}
-use Rattle.ln_code.proofs.Same.{Same, same_self, same_then, same_neg, same_two, same_first, same_next, same_zeroth}
+use Rattle.ln_lower.specs.Lowered.{line, op_of, factors, power_of}
+use Rattle.ln_lower.proofs.Bounding.{no_wider_trans, no_wider_self, wider_narrow, least_narrow, pushed_is, some_limit, two_covers, known_is, least_in, wider_in, power_one, size_one}
 use Rattle.ln_lower.proofs.PushLaws.{push_append, push_wider, pushes_node}
 
--- what stands on top of the stack after the operations, and what they push
-pub record Lands (vars : List VarInfo) (depth : ℕ) (is_node : Tree → Width → Type 0) (lines : List (Line ℕ)) (l : ℕ → Option Known) (stack : List Known) (b : ℕ) (w : Width) (t : Tree) : Type 0 where
+-- what stands on top of the stack after the operations, and what they push: its range is covered by p, it is no wider than w, its running size is s and its polynomial that of t. The locals below n are kept, but for local 64, and of all of them `left` is known
+pub record Lands (vars : List VarInfo) (depth : ℕ) (is_node : Tree → Width → Type 0) (lines : List (Line Range)) (l : ℕ → Option Known) (stack : List Known) (n : ℕ) (left : (ℕ → Option Known) → Type 0) (p : Range) (w : Width) (s : ℕ) (t : Tree) : Type 0 where
   pub top : Known
   pub locals : ℕ → Option Known
   pub ends : run (rules vars depth) lines (record { stack = stack; locals = l }) ≡ Some (record { stack = top ∷ stack; locals = locals })
-  pub small : top.bound ≤ b
+  pub covered : Covers p top.range
+  pub ordered : IsOrdered top.range
   pub narrow : no_wider top.width w ≡ true
+  pub size : top.size ≡ s
   pub same : Same top.tree t
-  pub keeps : (j : ℕ) → j < 64 → locals j ≡ l j
+  pub rest : left locals
+  pub keeps : (j : ℕ) → j < n → j ≢ 64 → locals j ≡ l j
   pub each : PushNodes is_node (pushes (rules vars depth) lines (record { stack = stack; locals = l }))
 
--- what is known of a let
-pub record LetKnown (o : Option Known) (u : Typed) (t : Tree) : Type 0 where
+-- what is known of a value in a local: the range of u covers its range, it is no wider, its running size is s and its polynomial that of t
+pub record LetKnown (o : Option Known) (u : Typed) (s : ℕ) (t : Tree) : Type 0 where
   pub what : Known
   pub there : o ≡ Some what
-  pub small : what.bound ≤ bound u
+  pub covered : Covers (pair u) what.range
+  pub ordered : IsOrdered what.range
   pub narrow : no_wider what.width (width u) ≡ true
+  pub size : what.size ≡ s
   pub same : Same what.tree t
 
-pub record LetsKnown (lets : List Typed) (trees : List Tree) (l : ℕ → Option Known) : Type 0 where
-  pub each : (j : ℕ) (u : Typed) → slice_get lets j ≡ Some u → LetKnown (l j) u (slice_index_or trees j (tree.Num (pos 0)))
+abbrev pub no_tree : Tree
+no_tree = tree.Num (pos 0)
+
+pub record LetsKnown (lets : List Typed) (trees : List Tree) (ss : List ℕ) (l : ℕ → Option Known) : Type 0 where
+  pub each : (j : ℕ) (u : Typed) → slice_get lets j ≡ Some u → LetKnown (l j) u (slice_index_or ss j 0) (slice_index_or trees j no_tree)
   pub few : (j : ℕ) (u : Typed) → slice_get lets j ≡ Some u → j < 64
 
--- nodes of a tree are nodes of a larger one
-pub lands_wider : (vars : List VarInfo) (depth : ℕ) (is_node is_more : Tree → Width → Type 0) (lines : List (Line ℕ)) (l : ℕ → Option Known) (stack : List Known) (b : ℕ) (w : Width) (t : Tree) → ((e : Tree) (v : Width) → is_node e v → is_more e v) →
-    Lands vars depth is_node lines l stack b w t → Lands vars depth is_more lines l stack b w t
-lands_wider vars depth is_node is_more lines l stack b w t h x = record {
+-- a local with the same value is known too
+pub let_kept : (o p : Option Known) (u : Typed) (s : ℕ) (t : Tree) → LetKnown o u s t → p ≡ o → LetKnown p u s t
+let_kept o p u s t k e = record { what = k.what; there = e ∙ k.there; covered = k.covered; ordered = k.ordered; narrow = k.narrow; size = k.size; same = k.same }
+
+pub lets_kept : (lets : List Typed) (trees : List Tree) (ss : List ℕ) (n : ℕ) (l m : ℕ → Option Known) → LetsKnown lets trees ss l → 64 ≤ n → ((j : ℕ) → j < n → j ≢ 64 → m j ≡ l j) → LetsKnown lets trees ss m
+lets_kept lets trees ss n l m h b k = record { each = each; few = h.few }
+  where
+    each : (j : ℕ) (u : Typed) → slice_get lets j ≡ Some u → LetKnown (m j) u (slice_index_or ss j 0) (slice_index_or trees j no_tree)
+    each j u e =
+        let f = h.few j u e in
+        let_kept (l j) (m j) u (slice_index_or ss j 0) (slice_index_or trees j no_tree) (h.each j u e) (k j (omega (arith, f, b)) (λ q. absurd (omega (arith, q, f))))
+
+-- nodes of a tree are nodes of a larger one, and less may be said of the locals
+pub lands_wider : (vars : List VarInfo) (depth : ℕ) (is_node is_more : Tree → Width → Type 0) (lines : List (Line Range)) (l : ℕ → Option Known) (stack : List Known) (n : ℕ) (left less : (ℕ → Option Known) → Type 0) (p : Range) (w : Width) (s : ℕ) (t : Tree) → ((e : Tree) (v : Width) → is_node e v → is_more e v) → ((m : ℕ → Option Known) → left m → less m) →
+    Lands vars depth is_node lines l stack n left p w s t → Lands vars depth is_more lines l stack n less p w s t
+lands_wider vars depth is_node is_more lines l stack n left less p w s t h g x = record {
   top = x.top;
   locals = x.locals;
   ends = x.ends;
-  small = x.small;
+  covered = x.covered;
+  ordered = x.ordered;
   narrow = x.narrow;
+  size = x.size;
   same = x.same;
+  rest = g x.locals x.rest;
   keeps = x.keeps;
   each = push_wider is_node is_more h (pushes (rules vars depth) lines (record { stack = stack; locals = l })) x.each;
 }
 
--- two parts, one after the other
-pub then_run : (vars : List VarInfo) (depth : ℕ) (a b : List (Line ℕ)) (s t : State Known (ℕ → Option Known)) (o : Option (State Known (ℕ → Option Known))) →
-    run (rules vars depth) a s ≡ Some t → run (rules vars depth) b t ≡ o → run (rules vars depth) (a ++ b) s ≡ o
-then_run vars depth a b s t o h k = rw (run_append (rules vars depth) a b s, h) k
-
-pub then_push : (vars : List VarInfo) (depth : ℕ) (is_node : Tree → Width → Type 0) (a b : List (Line ℕ)) (s t : State Known (ℕ → Option Known)) →
+-- what two parts push, one after the other
+pub then_push : (vars : List VarInfo) (depth : ℕ) (is_node : Tree → Width → Type 0) (a b : List (Line Range)) (s t : State Known (ℕ → Option Known)) →
     run (rules vars depth) a s ≡ Some t → PushNodes is_node (pushes (rules vars depth) a s) → PushNodes is_node (pushes (rules vars depth) b t) → PushNodes is_node (pushes (rules vars depth) (a ++ b) s)
 then_push vars depth is_node a b s t h p q = rw (pushes_append (rules vars depth) a b s t h) (push_append is_node (pushes (rules vars depth) a s) (pushes (rules vars depth) b t) p q)
 
 -- what one operation that doesn't store pushes
-front_push : (vars : List VarInfo) (depth : ℕ) (is_node : Tree → Width → Type 0) (op : Op) (b : ℕ) (rest : List (Line ℕ)) (l m : ℕ → Option Known) (s stack : List Known) (k : Known) → stores op ≡ false →
-    step (rules vars depth) op b l s ≡ Some (record { stack = k ∷ stack; locals = m }) → PushesNode is_node (record { op = op; value = k }) → PushNodes is_node (pushes (rules vars depth) rest (record { stack = k ∷ stack; locals = m })) →
-    PushNodes is_node (pushes (rules vars depth) (line op b ∷ rest) (record { stack = s; locals = l }))
-front_push vars depth is_node op b rest l m s stack k f e p q =
-    rw (pushes_front (rules vars depth) (line op b) rest (record { stack = s; locals = l }) (record { stack = k ∷ stack; locals = m }) e, f) (p, q)
+pub front_push : (vars : List VarInfo) (depth : ℕ) (is_node : Tree → Width → Type 0) (op : Op) (p : Range) (rest : List (Line Range)) (l m : ℕ → Option Known) (s stack : List Known) (k : Known) → stores op ≡ false →
+    step (rules vars depth) op p l s ≡ Some (record { stack = k ∷ stack; locals = m }) → PushesNode is_node (record { op = op; value = k }) → PushNodes is_node (pushes (rules vars depth) rest (record { stack = k ∷ stack; locals = m })) →
+    PushNodes is_node (pushes (rules vars depth) (line op p ∷ rest) (record { stack = s; locals = l }))
+front_push vars depth is_node op p rest l m s stack k f e x q =
+    rw (pushes_front (rules vars depth) (line op p) rest (record { stack = s; locals = l }) (record { stack = k ∷ stack; locals = m }) e, f) (x, q)
 
 -- one operation that pushes
-one_push : (vars : List VarInfo) (depth : ℕ) (is_node : Tree → Width → Type 0) (op : Op) (b c : ℕ) (v w : Width) (t u : Tree) (l : ℕ → Option Known) (stack : List Known) → stores op ≡ false →
-    step (rules vars depth) op b l stack ≡ next (Some (record { bound = b; width = v; tree = t })) (pushed (rules vars depth) l stack) →
-    b ≤ c → no_wider v w ≡ true → Same t u → suc (length stack) ≤ depth → is_node u w → HasWidth op w →
-    Lands vars depth is_node (line op b ∷ []) l stack c w u
-one_push vars depth is_node op b c v w t u l stack f e s n q r h z =
-    let k : Known = record { bound = b; width = v; tree = t } in
-    let p : step (rules vars depth) op b l stack ≡ Some (record { stack = k ∷ stack; locals = l }) = e ∙ pushed_is (rules vars depth) l stack k (le-leb (suc (length stack)) depth r) in
+pub one_push : (vars : List VarInfo) (depth : ℕ) (is_node : Tree → Width → Type 0) (op : Op) (p q : Range) (v w : Width) (t u : Tree) (s z n : ℕ) (left : (ℕ → Option Known) → Type 0) (l : ℕ → Option Known) (stack : List Known) → stores op ≡ false →
+    step (rules vars depth) op p l stack ≡ next (Some (record { range = p; width = v; tree = t; size = s })) (pushed (rules vars depth) l stack) →
+    Covers q p → IsOrdered p → no_wider v w ≡ true → s ≡ z → Same t u → suc (length stack) ≤ depth → is_node u w → HasWidth op w → left l →
+    Lands vars depth is_node (line op p ∷ []) l stack n left q w z u
+one_push vars depth is_node op p q v w t u s z n left l stack f e c o g i m r h y b =
+    let k : Known = record { range = p; width = v; tree = t; size = s } in
+    let x : step (rules vars depth) op p l stack ≡ Some (record { stack = k ∷ stack; locals = l }) = e ∙ pushed_is (rules vars depth) l stack k (le-leb (suc (length stack)) depth r) in
     record {
       top = k;
       locals = l;
-      ends = rw p refl;
-      small = s;
-      narrow = n;
-      same = q;
-      keeps = λ j i. refl;
-      each = front_push vars depth is_node op b [] l l stack stack k f p (pushes_node is_node op k u w h q z) tt;
+      ends = rw x refl;
+      covered = c;
+      ordered = o;
+      narrow = g;
+      size = i;
+      same = m;
+      rest = b;
+      keeps = λ j a b. refl;
+      each = front_push vars depth is_node op p [] l l stack stack k f x (pushes_node is_node op k u w h m y) tt;
     }
 
--- the M of a variable
-size_there : (vars : List VarInfo) (v : ℕ) → v < length vars → (i : VarInfo) × (slice_get vars v ≡ Some i) × (sizes vars v ≡ size_of i)
-size_there [] v h = absurd (omega arith)
-size_there (i ∷ is) zero h = (i, refl, refl)
-size_there (i ∷ is) (suc v) h = size_there is v (omega arith)
+-- the range of a variable
+range_there : (vars : List VarInfo) (v : ℕ) → v < length vars → (i : VarInfo) × (slice_get vars v ≡ Some i) × (ranges vars v ≡ declared i)
+range_there [] v h = absurd (omega arith)
+range_there (i ∷ is) zero h = (i, refl, refl)
+range_there (i ∷ is) (suc v) h = range_there is v (omega arith)
 
-input_lands : (vars : List VarInfo) (depth : ℕ) (is_node : Tree → Width → Type 0) (v b : ℕ) (w : Width) (l : ℕ → Option Known) (stack : List Known) → v < length vars → sizes vars v ≤ b → b ≤ limit w → suc (length stack) ≤ depth → is_node (tree.Input v) w →
-    Lands vars depth is_node (line (Input v) b ∷ []) l stack b w (tree.Input v)
-input_lands vars depth is_node v b w l stack i r h d n =
-    let g = size_there vars v i in
-    let c : size_of g.0 ≤ b = rw (← g.2) r in
-    one_push vars depth is_node (Input v) b b (least b) w (tree.Input v) (tree.Input v) l stack refl (rw (g.1, known_is (size_of g.0) b (least b) (tree.Input v) c (least_limit b w h)) refl) (omega arith) (least_narrow b w h) (same_self (tree.Input v)) d n tt
+pub input_lands : (vars : List VarInfo) (depth : ℕ) (is_node : Tree → Width → Type 0) (v : ℕ) (p : Range) (w : Width) (n : ℕ) (left : (ℕ → Option Known) → Type 0) (l : ℕ → Option Known) (stack : List Known) → v < length vars → Covers p (ranges vars v) → IsIn p w → suc (length stack) ≤ depth → is_node (tree.Input v) w → left l →
+    Lands vars depth is_node (line (Input v) p ∷ []) l stack n left p w 1 (tree.Input v)
+input_lands vars depth is_node v p w n left l stack i c m d h b =
+    let g = range_there vars v i in
+    let c' : Covers p (declared g.0) = rw (← g.2) c in
+    one_push vars depth is_node (Input v) p p (least (magnitude p)) w (tree.Input v) (tree.Input v) 1 1 n left l stack refl (rw (g.1, known_is (declared g.0) p (least (magnitude p)) 1 (tree.Input v) c' (least_in p w m) (omega arith)) refl) (covers_self p) m.0 (least_narrow (magnitude p) w m.1) refl (same_self (tree.Input v)) d h tt b
 
 -- a local that is known
-get_lands : (vars : List VarInfo) (depth : ℕ) (is_node : Tree → Width → Type 0) (j b : ℕ) (w : Width) (l : ℕ → Option Known) (stack : List Known) (k : Known) (t : Tree) → l j ≡ Some k → k.bound ≤ b → no_wider k.width w ≡ true → b ≤ limit w → suc (length stack) ≤ depth → Same k.tree t → is_node t w →
-    Lands vars depth is_node (line (Get j) b ∷ []) l stack b w t
-get_lands vars depth is_node j b w l stack k t e s n h d q p =
-    one_push vars depth is_node (Get j) b b (wider k.width (least b)) w k.tree t l stack refl (rw (e, known_is k.bound b (wider k.width (least b)) k.tree s (wider_limit b k.width (least b) (least_limit b w h))) refl) (omega arith) (wider_narrow k.width (least b) w n (least_narrow b w h)) q d p tt
+pub get_lands : (vars : List VarInfo) (depth : ℕ) (is_node : Tree → Width → Type 0) (j : ℕ) (p : Range) (w : Width) (n : ℕ) (left : (ℕ → Option Known) → Type 0) (l : ℕ → Option Known) (stack : List Known) (k : Known) (s : ℕ) (t : Tree) → l j ≡ Some k → Covers p k.range → no_wider k.width w ≡ true → IsIn p w → k.size ≡ s → s ≤ most → suc (length stack) ≤ depth → Same k.tree t → is_node t w → left l →
+    Lands vars depth is_node (line (Get j) p ∷ []) l stack n left p w s t
+get_lands vars depth is_node j p w n left l stack k s t e c g i z m d q h b =
+    one_push vars depth is_node (Get j) p p (wider k.width (least (magnitude p))) w k.tree t k.size s n left l stack refl (rw (e, known_is k.range p (wider k.width (least (magnitude p))) k.size k.tree c (wider_in p k.width w i) (omega (arith, z, m))) refl) (covers_self p) i.0 (wider_narrow k.width (least (magnitude p)) w g (least_narrow (magnitude p) w i.1)) z q d h tt b
 
-let_lands : (vars : List VarInfo) (depth : ℕ) (is_node : Tree → Width → Type 0) (j b : ℕ) (w : Width) (l : ℕ → Option Known) (stack : List Known) (o : Option Typed) (t : Tree) → ((u : Typed) → o ≡ Some u → LetKnown (l j) u t) → Covers o b w → b ≤ limit w → suc (length stack) ≤ depth → is_node t w →
-    Lands vars depth is_node (line (Get j) b ∷ []) l stack b w t
-let_lands vars depth is_node j b w l stack None t g c h d p = absurd c
-let_lands vars depth is_node j b w l stack (Some u) t g c h d p =
+pub let_lands : (vars : List VarInfo) (depth : ℕ) (is_node : Tree → Width → Type 0) (j : ℕ) (p : Range) (w : Width) (n : ℕ) (left : (ℕ → Option Known) → Type 0) (l : ℕ → Option Known) (stack : List Known) (o : Option Typed) (s : ℕ) (t : Tree) → ((u : Typed) → o ≡ Some u → LetKnown (l j) u s t) → CoversLet o p w → IsIn p w → s ≤ most → suc (length stack) ≤ depth → is_node t w → left l →
+    Lands vars depth is_node (line (Get j) p ∷ []) l stack n left p w s t
+let_lands vars depth is_node j p w n left l stack None s t g c i m d h b = absurd c
+let_lands vars depth is_node j p w n left l stack (Some u) s t g c i m d h b =
     let k = g u refl in
-    let s : k.what.bound ≤ b = let x = k.small in let y = c.0 in omega arith in
-    let n = no_wider_trans k.what.width (width u) w k.narrow c.1 in
-    get_lands vars depth is_node j b w l stack k.what t k.there s n h d k.same p
+    get_lands vars depth is_node j p w n left l stack k.what s t k.there (covers_then p (pair u) k.what.range c.0 k.covered) (no_wider_trans k.what.width (width u) w k.narrow c.1) i k.size m d k.same h b
 
 -- the operation on two known operands
-two_step : (vars : List VarInfo) (depth : ℕ) (k : Two) (b : ℕ) (w : Width) (x y : Known) (l : ℕ → Option Known) (stack : List Known) →
-    bound_of k x.bound y.bound ≤ b → b ≤ limit w → no_wider x.width w ≡ true → no_wider y.width w ≡ true → suc (length stack) ≤ depth →
-    step (rules vars depth) (op_of k w) b l (y ∷ (x ∷ stack)) ≡ Some (record { stack = record { bound = b; width = w; tree = two_of k x.tree y.tree } ∷ stack; locals = l })
-two_step vars depth Plus b w x y l stack h f n m d = rw (n, m, known_is (x.bound + y.bound) b w (tree.Add x.tree y.tree) h f, le-leb (suc (length stack)) depth d) refl
-two_step vars depth Minus b w x y l stack h f n m d = rw (n, m, known_is (x.bound + y.bound) b w (tree.Sub x.tree y.tree) h f, le-leb (suc (length stack)) depth d) refl
-two_step vars depth Times b w x y l stack h f n m d = rw (n, m, known_is (x.bound * y.bound) b w (tree.Mul x.tree y.tree) h f, le-leb (suc (length stack)) depth d) refl
+two_step : (vars : List VarInfo) (depth : ℕ) (k : Two) (p : Range) (w : Width) (x y : Known) (l : ℕ → Option Known) (stack : List Known) →
+    Covers p (range_of k x.range y.range) → IsIn p w → no_wider x.width w ≡ true → no_wider y.width w ≡ true → bound_of k x.size y.size ≤ most → suc (length stack) ≤ depth →
+    step (rules vars depth) (op_of k w) p l (y ∷ (x ∷ stack)) ≡ Some (record { stack = record { range = p; width = w; tree = two_of k x.tree y.tree; size = bound_of k x.size y.size } ∷ stack; locals = l })
+two_step vars depth Plus p w x y l stack c i n m z d = rw (n, m, known_is (sum x.range y.range) p w (x.size + y.size) (tree.Add x.tree y.tree) c i z, le-leb (suc (length stack)) depth d) refl
+two_step vars depth Minus p w x y l stack c i n m z d = rw (n, m, known_is (difference x.range y.range) p w (x.size + y.size) (tree.Sub x.tree y.tree) c i z, le-leb (suc (length stack)) depth d) refl
+two_step vars depth Times p w x y l stack c i n m z d = rw (n, m, known_is (product x.range y.range) p w (x.size * y.size) (tree.Mul x.tree y.tree) c i z, le-leb (suc (length stack)) depth d) refl
 
 two_no_store : (k : Two) (w : Width) → stores (op_of k w) ≡ false
 two_no_store Plus w = refl
@@ -147,193 +174,210 @@ two_width Plus w = refl
 two_width Minus w = refl
 two_width Times w = refl
 
-neg_step : (vars : List VarInfo) (depth b : ℕ) (w : Width) (x : Known) (l : ℕ → Option Known) (stack : List Known) →
-    x.bound ≤ b → b ≤ limit w → no_wider x.width w ≡ true → suc (length stack) ≤ depth →
-    step (rules vars depth) (Neg w) b l (x ∷ stack) ≡ Some (record { stack = record { bound = b; width = w; tree = tree.Neg x.tree } ∷ stack; locals = l })
-neg_step vars depth b w x l stack h f n d = rw (n, known_is x.bound b w (tree.Neg x.tree) h f, le-leb (suc (length stack)) depth d) refl
+neg_step : (vars : List VarInfo) (depth : ℕ) (p : Range) (w : Width) (x : Known) (l : ℕ → Option Known) (stack : List Known) →
+    Covers p (opposite x.range) → IsIn p w → no_wider x.width w ≡ true → x.size ≤ most → suc (length stack) ≤ depth →
+    step (rules vars depth) (Neg w) p l (x ∷ stack) ≡ Some (record { stack = record { range = p; width = w; tree = tree.Neg x.tree; size = x.size } ∷ stack; locals = l })
+neg_step vars depth p w x l stack c i n z d = rw (n, known_is (opposite x.range) p w x.size (tree.Neg x.tree) c i z, le-leb (suc (length stack)) depth d) refl
 
-pub lets_kept : (lets : List Typed) (trees : List Tree) (l m : ℕ → Option Known) → LetsKnown lets trees l → ((j : ℕ) → j < 64 → m j ≡ l j) → LetsKnown lets trees m
-lets_kept lets trees l m h k = record {
-  each = λ j u e. let r = h.each j u e in record { what = r.what; there = k j (h.few j u e) ∙ r.there; small = r.small; narrow = r.narrow; same = r.same };
-  few = h.few;
-}
-
-neg_lands : (vars : List VarInfo) (depth : ℕ) (is_node : Tree → Width → Type 0) (lines : List (Line ℕ)) (l : ℕ → Option Known) (stack : List Known) (a b : ℕ) (v w : Width) (t : Tree) →
-    Lands vars depth is_node lines l stack a v t → a ≤ b → b ≤ limit w → no_wider v w ≡ true → suc (length stack) ≤ depth → is_node (tree.Neg t) w →
-    Lands vars depth is_node (lines ++ (line (Neg w) b ∷ [])) l stack b w (tree.Neg t)
-neg_lands vars depth is_node lines l stack a b v w t x h f n d p =
-    let s : x.top.bound ≤ b = let y = x.small in omega arith in
-    let m = no_wider_trans x.top.width v w x.narrow n in
-    let e = neg_step vars depth b w x.top x.locals stack s f m d in
-    let k : Known = record { bound = b; width = w; tree = tree.Neg x.top.tree } in
-    let q : Same k.tree (tree.Neg t) = same_neg x.top.tree t x.same in
+pub neg_lands : (vars : List VarInfo) (depth : ℕ) (is_node : Tree → Width → Type 0) (lines : List (Line Range)) (l : ℕ → Option Known) (stack : List Known) (n : ℕ) (left : (ℕ → Option Known) → Type 0) (p q : Range) (v w : Width) (s : ℕ) (t : Tree) →
+    Lands vars depth is_node lines l stack n left q v s t → Covers p (opposite q) → IsIn p w → no_wider v w ≡ true → s ≤ most → suc (length stack) ≤ depth → is_node (tree.Neg t) w →
+    Lands vars depth is_node (lines ++ (line (Neg w) p ∷ [])) l stack n left p w s (tree.Neg t)
+neg_lands vars depth is_node lines l stack n left p q v w s t x c i m z d h =
+    let y = x.size in
+    let e = neg_step vars depth p w x.top x.locals stack (covers_then p (opposite q) (opposite x.top.range) c (opposite_covers q x.top.range x.covered)) i (no_wider_trans x.top.width v w x.narrow m) (omega (arith, y, z)) d in
+    let k : Known = record { range = p; width = w; tree = tree.Neg x.top.tree; size = x.top.size } in
+    let r : Same k.tree (tree.Neg t) = same_neg x.top.tree t x.same in
     record {
       top = k;
       locals = x.locals;
-      ends = then_run vars depth lines (line (Neg w) b ∷ []) _ _ _ x.ends (rw e refl);
-      small = omega arith;
+      ends = then_run (rules vars depth) lines (line (Neg w) p ∷ []) _ _ _ x.ends (rw e refl);
+      covered = covers_self p;
+      ordered = i.0;
       narrow = no_wider_self w;
-      same = q;
+      size = x.size;
+      same = r;
+      rest = x.rest;
       keeps = x.keeps;
-      each = then_push vars depth is_node lines (line (Neg w) b ∷ []) _ _ x.ends x.each (front_push vars depth is_node (Neg w) b [] x.locals x.locals (x.top ∷ stack) stack k refl e (pushes_node is_node (Neg w) k (tree.Neg t) w p q refl) tt);
+      each = then_push vars depth is_node lines (line (Neg w) p ∷ []) _ _ x.ends x.each (front_push vars depth is_node (Neg w) p [] x.locals x.locals (x.top ∷ stack) stack k refl e (pushes_node is_node (Neg w) k (tree.Neg t) w h r refl) tt);
     }
 
-two_lands : (vars : List VarInfo) (depth : ℕ) (is_node : Tree → Width → Type 0) (k : Two) (left right : List (Line ℕ)) (l : ℕ → Option Known) (stack : List Known) (a c b : ℕ) (u v w : Width) (s t : Tree) →
-    (x : Lands vars depth is_node left l stack a u s) → Lands vars depth is_node right x.locals (x.top ∷ stack) c v t →
-    bound_of k a c ≤ b → b ≤ limit w → no_wider u w ≡ true → no_wider v w ≡ true → suc (length stack) ≤ depth → is_node (two_of k s t) w →
-    Lands vars depth is_node (left ++ (right ++ (line (op_of k w) b ∷ []))) l stack b w (two_of k s t)
-two_lands vars depth is_node k left right l stack a c b u v w s t x y h f n m d p =
-    let g : bound_of k x.top.bound y.top.bound ≤ bound_of k a c = bound_more k x.top.bound y.top.bound a c x.small y.small in
-    let e = two_step vars depth k b w x.top y.top y.locals stack (omega arith) f (no_wider_trans x.top.width u w x.narrow n) (no_wider_trans y.top.width v w y.narrow m) d in
-    let z : Known = record { bound = b; width = w; tree = two_of k x.top.tree y.top.tree } in
-    let q : Same z.tree (two_of k s t) = same_two k x.top.tree s y.top.tree t x.same y.same in
+pub two_lands : (vars : List VarInfo) (depth : ℕ) (is_node : Tree → Width → Type 0) (k : Two) (left right : List (Line Range)) (l : ℕ → Option Known) (stack : List Known) (n m : ℕ) (mid after : (ℕ → Option Known) → Type 0) (a b p : Range) (u v w : Width) (s t : ℕ) (e f : Tree) →
+    (x : Lands vars depth is_node left l stack n mid a u s e) → Lands vars depth is_node right x.locals (x.top ∷ stack) m after b v t f → n ≤ m →
+    Covers p (range_of k a b) → IsIn p w → no_wider u w ≡ true → no_wider v w ≡ true → bound_of k s t ≤ most → suc (length stack) ≤ depth → is_node (two_of k e f) w →
+    Lands vars depth is_node (left ++ (right ++ (line (op_of k w) p ∷ []))) l stack n after p w (bound_of k s t) (two_of k e f)
+two_lands vars depth is_node k left right l stack n m mid after a b p u v w s t e f x y nm c i g o z d h =
+    let r : bound_of k x.top.size y.top.size ≡ bound_of k s t = ap₂ (bound_of k) x.size y.size in
+    let cv = covers_then p (range_of k a b) (range_of k x.top.range y.top.range) c (two_covers k a b x.top.range y.top.range x.ordered y.ordered x.covered y.covered) in
+    let st = two_step vars depth k p w x.top y.top y.locals stack cv i (no_wider_trans x.top.width u w x.narrow g) (no_wider_trans y.top.width v w y.narrow o) (rw r z) d in
+    let top : Known = record { range = p; width = w; tree = two_of k x.top.tree y.top.tree; size = bound_of k x.top.size y.top.size } in
+    let q : Same top.tree (two_of k e f) = same_two k x.top.tree e y.top.tree f x.same y.same in
     record {
-      top = z;
+      top = top;
       locals = y.locals;
-      ends = then_run vars depth left (right ++ (line (op_of k w) b ∷ [])) _ _ _ x.ends (then_run vars depth right (line (op_of k w) b ∷ []) _ _ _ y.ends (rw e refl));
-      small = omega arith;
+      ends = then_run (rules vars depth) left (right ++ (line (op_of k w) p ∷ [])) _ _ _ x.ends (then_run (rules vars depth) right (line (op_of k w) p ∷ []) _ _ _ y.ends (rw st refl));
+      covered = covers_self p;
+      ordered = i.0;
       narrow = no_wider_self w;
+      size = r;
       same = q;
-      keeps = λ j i. y.keeps j i ∙ x.keeps j i;
-      each = then_push vars depth is_node left (right ++ (line (op_of k w) b ∷ [])) _ _ x.ends x.each (then_push vars depth is_node right (line (op_of k w) b ∷ []) _ _ y.ends y.each (front_push vars depth is_node (op_of k w) b [] y.locals y.locals (y.top ∷ (x.top ∷ stack)) stack z (two_no_store k w) e (pushes_node is_node (op_of k w) z (two_of k s t) w p q (two_width k w)) tt));
+      rest = y.rest;
+      keeps = λ j i' o'. y.keeps j (omega (arith, i', nm)) o' ∙ x.keeps j i' o';
+      each = then_push vars depth is_node left (right ++ (line (op_of k w) p ∷ [])) _ _ x.ends x.each (then_push vars depth is_node right (line (op_of k w) p ∷ []) _ _ y.ends y.each (front_push vars depth is_node (op_of k w) p [] y.locals y.locals (y.top ∷ (x.top ∷ stack)) stack top (two_no_store k w) st (pushes_node is_node (op_of k w) top (two_of k e f) w h q (two_width k w)) tt));
     }
 
 -- ---- powers
 
-get_step : (vars : List VarInfo) (depth j b : ℕ) (w : Width) (l : ℕ → Option Known) (stack : List Known) (k : Known) → l j ≡ Some k → k.bound ≤ b → b ≤ limit w → suc (length stack) ≤ depth →
-    step (rules vars depth) (Get j) b l stack ≡ Some (record { stack = record { bound = b; width = wider k.width (least b); tree = k.tree } ∷ stack; locals = l })
-get_step vars depth j b w l stack k e s h d = rw (e, known_is k.bound b (wider k.width (least b)) k.tree s (wider_limit b k.width (least b) (least_limit b w h)), le-leb (suc (length stack)) depth d) refl
+-- a size's lower powers are within 2^127 - 1
+small_power : (s k n : ℕ) → k ≤ n → s ^ n ≤ most → s ^ k ≤ most
+small_power s k n h l = fitting.lower s k n h l
 
 -- a power on the stack goes on to the power that is wanted
-record Grown (vars : List VarInfo) (depth : ℕ) (is_node : Tree → Width → Type 0) (lines : List (Line ℕ)) (l : ℕ → Option Known) (p : Known) (stack : List Known) (b : ℕ) (w : Width) (t : Tree) : Type 0 where
+record Grown (vars : List VarInfo) (depth : ℕ) (is_node : Tree → Width → Type 0) (lines : List (Line Range)) (l : ℕ → Option Known) (x : Known) (stack : List Known) (p : Range) (w : Width) (s : ℕ) (t : Tree) : Type 0 where
   top : Known
-  ends : run (rules vars depth) lines (record { stack = p ∷ stack; locals = l }) ≡ Some (record { stack = top ∷ stack; locals = l })
-  small : top.bound ≤ b
+  ends : run (rules vars depth) lines (record { stack = x ∷ stack; locals = l }) ≡ Some (record { stack = top ∷ stack; locals = l })
+  covered : Covers p top.range
+  ordered : IsOrdered top.range
   narrow : no_wider top.width w ≡ true
+  size : top.size ≡ s
   same : Same top.tree t
-  each : PushNodes is_node (pushes (rules vars depth) lines (record { stack = p ∷ stack; locals = l }))
+  each : PushNodes is_node (pushes (rules vars depth) lines (record { stack = x ∷ stack; locals = l }))
 
-factors_grow : (vars : List VarInfo) (depth a : ℕ) (is_node : Tree → Width → Type 0) (w : Width) (l : ℕ → Option Known) (stack : List Known) (base : Known) (t : Tree) →
-    l 64 ≡ Some base → base.bound ≤ a → no_wider base.width w ≡ true → a ≤ limit w → suc (suc (length stack)) ≤ depth → Same base.tree t →
-    (n m total : ℕ) (p : Known) → n + suc m ≡ total → a ^ total ≤ limit w → p.bound ≤ a ^ suc m → no_wider p.width w ≡ true → Same p.tree (tree.Pow t (suc m)) → ((k : ℕ) → k ≤ total → is_node (tree.Pow t k) w) →
-    Grown vars depth is_node (factors a w (suc m) n) l p stack (a ^ total) w (tree.Pow t total)
-factors_grow vars depth a is_node w l stack base t e s v f d bt zero m total p q g h k r nodes =
-    let z : total ≡ suc m = omega arith in
-    record { top = p; ends = refl; small = rw z h; narrow = k; same = rw z r; each = tt }
-factors_grow vars depth a is_node w l stack base t e s v f d bt (suc n) m total p q g h k r nodes =
-    let z : n + suc (suc m) ≡ total = omega arith in
-    let grows : a ^ suc (suc m) ≤ a ^ (n + suc (suc m)) = power_grows a (suc m) n in
-    let fits : a ^ suc (suc m) ≤ limit w = let y : a ^ suc (suc m) ≤ a ^ total = rw z at grows in omega arith in
-    let y : Known = record { bound = a; width = wider base.width (least a); tree = base.tree } in
-    let o = get_step vars depth 64 a w l (p ∷ stack) base e s f d in
-    let covers : p.bound * a ≤ a ^ suc m * a = bound_more Times p.bound a (a ^ suc m) a h (omega arith) in
-    let c : p.bound * a ≤ a ^ suc (suc m) = rw (pow-suc a (suc m)) covers in
-    let b = two_step vars depth Times (a ^ suc (suc m)) w p y l stack c fits k (wider_narrow base.width (least a) w v (least_narrow a w f)) (omega arith) in
-    let i : Known = record { bound = a ^ suc (suc m); width = w; tree = tree.Mul p.tree base.tree } in
-    let j : Same i.tree (tree.Pow t (suc (suc m))) = same_next t base.tree p.tree (suc m) bt r in
-    let one : Same y.tree (tree.Pow t 1) = same_then base.tree t (tree.Pow t 1) bt (same_first t) in
-    let x = factors_grow vars depth a is_node w l stack base t e s v f d bt n (suc m) total i z g (omega arith) (no_wider_self w) j nodes in
+get_step : (vars : List VarInfo) (depth j : ℕ) (p : Range) (w : Width) (l : ℕ → Option Known) (stack : List Known) (k : Known) → l j ≡ Some k → Covers p k.range → IsIn p w → k.size ≤ most → suc (length stack) ≤ depth →
+    step (rules vars depth) (Get j) p l stack ≡ Some (record { stack = record { range = p; width = wider k.width (least (magnitude p)); tree = k.tree; size = k.size } ∷ stack; locals = l })
+get_step vars depth j p w l stack k e c i z d = rw (e, known_is k.range p (wider k.width (least (magnitude p))) k.size k.tree c (wider_in p k.width w i) z, le-leb (suc (length stack)) depth d) refl
+
+factors_grow : (vars : List VarInfo) (depth : ℕ) (is_node : Tree → Width → Type 0) (p : Range) (w : Width) (l : ℕ → Option Known) (stack : List Known) (base : Known) (s : ℕ) (t : Tree) →
+    l 64 ≡ Some base → Covers p base.range → no_wider base.width w ≡ true → IsIn p w → base.size ≡ s → s ≤ most → suc (suc (length stack)) ≤ depth → Same base.tree t →
+    (n m total : ℕ) (x : Known) → n + suc m ≡ total → ((k : ℕ) → k ≤ total → magnitude (power p k) ≤ limit w) → s ^ total ≤ most → Covers (power p (suc m)) x.range → IsOrdered x.range → no_wider x.width w ≡ true → x.size ≡ s ^ suc m → Same x.tree (tree.Pow t (suc m)) → ((k : ℕ) → k ≤ total → is_node (tree.Pow t k) w) →
+    Grown vars depth is_node (factors p w (suc m) n) l x stack (power p total) w (s ^ total) (tree.Pow t total)
+factors_grow vars depth is_node p w l stack base s t e c v i bz sm d bt zero m total x q fits z g o k r a nodes =
+    let y : total ≡ suc m = omega (arith, q) in
+    record { top = x; ends = refl; covered = rw y g; ordered = o; narrow = k; size = rw y r; same = rw y a; each = tt }
+factors_grow vars depth is_node p w l stack base s t e c v i bz sm d bt (suc n) m total x q fits z g o k r a nodes =
+    let y : n + suc (suc m) ≡ total = omega (arith, q) in
+    let h : suc (suc m) ≤ total = omega (arith, y) in
+    let is : IsIn (power p (suc (suc m))) w = (power_ordered p (suc (suc m)), fits (suc (suc m)) h) in
+    let b : Known = record { range = p; width = wider base.width (least (magnitude p)); tree = base.tree; size = base.size } in
+    let f = get_step vars depth 64 p w l (x ∷ stack) base e c i (omega (arith, bz, sm)) d in
+    let cv : Covers (power p (suc (suc m))) (product x.range p) = product_covers (power p (suc m)) p x.range p o i.0 g (covers_self p) in
+    let sz : x.size * base.size ≡ s ^ suc (suc m) = let u = pow-suc s (suc m) in rw (r, bz) (sym u) in
+    let sl = small_power s (suc (suc m)) total h z in
+    let st = two_step vars depth Times (power p (suc (suc m))) w x b l stack cv is k (wider_narrow base.width (least (magnitude p)) w v (least_narrow (magnitude p) w i.1)) (rw sz sl) (omega (arith, d)) in
+    let more : Known = record { range = power p (suc (suc m)); width = w; tree = tree.Mul x.tree base.tree; size = x.size * base.size } in
+    let same_more : Same more.tree (tree.Pow t (suc (suc m))) = same_next t base.tree x.tree (suc m) bt a in
+    let same_one : Same b.tree (tree.Pow t 1) = same_then base.tree t (tree.Pow t 1) bt (same_first t) in
+    let j = factors_grow vars depth is_node p w l stack base s t e c v i bz sm d bt n (suc m) total more y fits z (covers_self (power p (suc (suc m)))) is.0 (no_wider_self w) sz same_more nodes in
     record {
-      top = x.top;
-      ends = rw (o, b) x.ends;
-      small = x.small;
-      narrow = x.narrow;
-      same = x.same;
-      each = front_push vars depth is_node (Get 64) a (line (Mul w) (a ^ suc (suc m)) ∷ factors a w (suc (suc m)) n) l l (p ∷ stack) (p ∷ stack) y refl o (pushes_node is_node (Get 64) y (tree.Pow t 1) w (nodes 1 (omega arith)) one tt)
-          (front_push vars depth is_node (Mul w) (a ^ suc (suc m)) (factors a w (suc (suc m)) n) l l (y ∷ (p ∷ stack)) stack i refl b (pushes_node is_node (Mul w) i (tree.Pow t (suc (suc m))) w (nodes (suc (suc m)) (omega arith)) j refl) x.each);
+      top = j.top;
+      ends = rw (f, st) j.ends;
+      covered = j.covered;
+      ordered = j.ordered;
+      narrow = j.narrow;
+      size = j.size;
+      same = j.same;
+      each = front_push vars depth is_node (Get 64) p (line (Mul w) (power p (suc (suc m))) ∷ factors p w (suc (suc m)) n) l l (x ∷ stack) (x ∷ stack) b refl f (pushes_node is_node (Get 64) b (tree.Pow t 1) w (nodes 1 (omega (arith, h))) same_one tt)
+          (front_push vars depth is_node (Mul w) (power p (suc (suc m))) (factors p w (suc (suc m)) n) l l (b ∷ (x ∷ stack)) stack more refl st (pushes_node is_node (Mul w) more (tree.Pow t (suc (suc m))) w (nodes (suc (suc m)) h) same_more refl) j.each);
     }
 
-at_other : (l : ℕ → Option Known) (k : Known) (j : ℕ) → j < 64 → with_local l 64 k j ≡ l j
-at_other l k j h =
-    let e : (j == 64) ≡ false = grind (arith, nat_tests) in
+pub at_other : (l : ℕ → Option Known) (k : Known) (i j : ℕ) → j ≢ i → with_local l i k j ≡ l j
+at_other l k i j h =
+    let e : (j == i) ≡ false = grind (arith, nat_tests) in
     rw e refl
 
--- a number isn't above its powers from the first on
-power_above : (a n : ℕ) → a ≤ a ^ suc n
-power_above a n =
-    let h : a ^ 1 ≤ a ^ (n + 1) = power_grows a 0 n in
-    let e : n + 1 ≡ suc n = omega arith in
-    let f : a ^ 1 ≡ a = rw (pow-suc a 0, pow-zero a) (omega arith) in
-    let g : a ≤ a ^ (n + 1) = rw f at h in
-    rw e at g
-
-power_lands : (vars : List VarInfo) (depth : ℕ) (is_node : Tree → Width → Type 0) (lines : List (Line ℕ)) (l : ℕ → Option Known) (stack : List Known) (a b : ℕ) (v w : Width) (t : Tree) (n : ℕ) →
-    Lands vars depth is_node lines l stack a v t → a ^ suc n ≤ b → b ≤ limit w → no_wider v w ≡ true → suc (suc (length stack)) ≤ depth → ((k : ℕ) → k ≤ suc n → is_node (tree.Pow t k) w) →
-    Lands vars depth is_node (lines ++ power_of a w n) l stack b w (tree.Pow t (suc n))
-power_lands vars depth is_node lines l stack a b v w t zero x h f n d nodes =
-    let i : a ≤ a ^ 1 = power_above a 0 in
+pub power_lands : (vars : List VarInfo) (depth : ℕ) (is_node : Tree → Width → Type 0) (lines : List (Line Range)) (l : ℕ → Option Known) (stack : List Known) (b : ℕ) (left : (ℕ → Option Known) → Type 0) (p q : Range) (v w : Width) (s n : ℕ) (t : Tree) →
+    Lands vars depth is_node lines l stack b left p v s t → IsOrdered p → Covers q (power p (suc n)) → IsIn q w → no_wider v w ≡ true → s ^ suc n ≤ most → suc (suc (length stack)) ≤ depth → ((k : ℕ) → k ≤ suc n → is_node (tree.Pow t k) w) → ((m : ℕ → Option Known) (y : Known) → left m → left (with_local m 64 y)) →
+    Lands vars depth is_node (lines ++ power_of p w n) l stack b left q w (s ^ suc n) (tree.Pow t (suc n))
+power_lands vars depth is_node lines l stack b left p q v w s zero t x o c i n z d nodes sets =
+    let g : Covers q p = subst (λ r. Covers q r) (power_one p o) c in
     record {
       top = x.top;
       locals = x.locals;
-      ends = then_run vars depth lines [] _ _ _ x.ends refl;
-      small = let s = x.small in omega arith;
+      ends = then_run (rules vars depth) lines [] _ _ _ x.ends refl;
+      covered = covers_then q p x.top.range g x.covered;
+      ordered = x.ordered;
       narrow = no_wider_trans x.top.width v w x.narrow n;
+      size = x.size ∙ sym (size_one s);
       same = same_then x.top.tree t (tree.Pow t 1) x.same (same_first t);
+      rest = x.rest;
       keeps = x.keeps;
       each = then_push vars depth is_node lines [] _ _ x.ends x.each tt;
     }
-power_lands vars depth is_node lines l stack a b v w t (suc m) x h f n d nodes =
-    let i : a ≤ a ^ suc (suc m) = power_above a (suc m) in
+power_lands vars depth is_node lines l stack b left p q v w s (suc m) t x o c i n z d nodes sets =
     let set : ℕ → Option Known = with_local x.locals 64 x.top in
+    let fits = λ (k : ℕ) (h : k ≤ suc (suc m)). lower_power p q (limit w) k (suc (suc m)) (some_limit w) h c i.1 in
+    let f : power p 1 ≡ p = power_one p o in
+    let mp : magnitude p ≤ limit w = let a = fits 1 (omega arith) in let e : magnitude (power p 1) ≡ magnitude p = ap magnitude_of f in omega (arith, a, e) in
+    let ip : IsIn p w = (o, mp) in
+    let s1 : s ^ 1 ≡ s = size_one s in
+    let sm : s ≤ most = let a = small_power s 1 (suc (suc m)) (omega arith) z in omega (arith, a, s1) in
+    let ts : x.top.size ≤ most = let a = x.size in omega (arith, a, sm) in
     let u : no_wider x.top.width w ≡ true = no_wider_trans x.top.width v w x.narrow n in
-    let al : a ≤ limit w = omega arith in
-    let o = get_step vars depth 64 a w set stack x.top refl x.small al (omega arith) in
-    let one : a ≤ a ^ 1 = power_above a 0 in
-    let z : suc m + 1 ≡ suc (suc m) = omega arith in
-    let y : Known = record { bound = a; width = wider x.top.width (least a); tree = x.top.tree } in
+    let st = get_step vars depth 64 p w set stack x.top refl x.covered ip ts (omega (arith, d)) in
+    let y : Known = record { range = p; width = wider x.top.width (least (magnitude p)); tree = x.top.tree; size = x.top.size } in
+    let cy : Covers (power p 1) p = subst (λ r. Covers r p) (sym f) (covers_self p) in
+    let e : suc m + 1 ≡ suc (suc m) = omega arith in
     let first : Same y.tree (tree.Pow t 1) = same_then x.top.tree t (tree.Pow t 1) x.same (same_first t) in
-    let g = factors_grow vars depth a is_node w set stack x.top t refl x.small u al d x.same (suc m) 0 (suc (suc m)) y z (omega arith) one (wider_narrow x.top.width (least a) w u (least_narrow a w al)) first nodes in
-    let got : PushNodes is_node (pushes (rules vars depth) (line (Get 64) a ∷ factors a w 1 (suc m)) (record { stack = stack; locals = set })) =
-    front_push vars depth is_node (Get 64) a (factors a w 1 (suc m)) set set stack stack y refl o (pushes_node is_node (Get 64) y (tree.Pow t 1) w (nodes 1 (omega arith)) first tt) g.each in
+    let g = factors_grow vars depth is_node p w set stack x.top s t refl x.covered u ip x.size sm d x.same (suc m) 0 (suc (suc m)) y e fits z cy o (wider_narrow x.top.width (least (magnitude p)) w u (least_narrow (magnitude p) w mp)) (x.size ∙ sym s1) first nodes in
+    let got : PushNodes is_node (pushes (rules vars depth) (line (Get 64) p ∷ factors p w 1 (suc m)) (record { stack = stack; locals = set })) =
+    front_push vars depth is_node (Get 64) p (factors p w 1 (suc m)) set set stack stack y refl st (pushes_node is_node (Get 64) y (tree.Pow t 1) w (nodes 1 (omega arith)) first tt) g.each in
     record {
       top = g.top;
       locals = set;
-      ends = then_run vars depth lines (power_of a w (suc m)) _ _ _ x.ends (rw o g.ends);
-      small = let s = g.small in omega arith;
+      ends = then_run (rules vars depth) lines (power_of p w (suc m)) _ _ _ x.ends (rw st g.ends);
+      covered = covers_then q (power p (suc (suc m))) g.top.range c g.covered;
+      ordered = g.ordered;
       narrow = g.narrow;
+      size = g.size;
       same = g.same;
-      keeps = λ j k. at_other x.locals x.top j k ∙ x.keeps j k;
-      each = then_push vars depth is_node lines (power_of a w (suc m)) _ _ x.ends x.each got;
+      rest = sets x.locals x.top x.rest;
+      keeps = λ j h k. at_other x.locals x.top 64 j k ∙ x.keeps j h k;
+      each = then_push vars depth is_node lines (power_of p w (suc m)) _ _ x.ends x.each got;
     }
+  where
+    magnitude_of : Range → ℕ
+    magnitude_of r = magnitude r
 
-need_positive : (t : Typed) → 1 ≤ need t
-need_positive (TNum c b w) = omega arith
-need_positive (TInput v b w) = omega arith
-need_positive (TLet j b w) = omega arith
-need_positive (TNeg t b w) = need_positive t
-need_positive (TTwo o u t b w) = let h = need_positive u in omega arith
-need_positive (TPow t n b w) = omega arith
+-- ---- a tree
 
-two_inlined : (k : Two) (trees : List Tree) (s t : Tree) → inlined trees (two_of k s t) ≡ two_of k (inlined trees s) (inlined trees t)
+pub need_positive : (t : Typed) → 1 ≤ need t
+need_positive (TNum c p w) = omega arith
+need_positive (TInput v p w) = omega arith
+need_positive (TLet j p w) = omega arith
+need_positive (TNeg t p w) = need_positive t
+need_positive (TTwo o u t p w) = let h = need_positive u in omega (arith, h)
+need_positive (TPow t n p w) = omega arith
+
+-- the range of a sound node is one, and fits its width
+pub sound_in : (vars : List VarInfo) (lets : List Typed) (t : Typed) → SoundNodes vars lets t → IsIn (pair t) (width t)
+sound_in vars lets (TNum c p w) s = s.1
+sound_in vars lets (TInput v p w) s = s.2
+sound_in vars lets (TLet j p w) s = s.1
+sound_in vars lets (TNeg t p w) s = s.2
+sound_in vars lets (TTwo k u t p w) s = s.3
+sound_in vars lets (TPow t n p w) s = s.2
+
+pub two_room : (ss : List ℕ) (k : Two) (e f : Tree) → HasRoom one ss (two_of k e f) → HasRoom one ss e × HasRoom one ss f × (bound_of k (weight_over one ss e) (weight_over one ss f) ≤ most)
+two_room ss Plus e f h = h
+two_room ss Minus e f h = h
+two_room ss Times e f h = h
+
+pub two_weight : (ss : List ℕ) (k : Two) (e f : Tree) → weight_over one ss (two_of k e f) ≡ bound_of k (weight_over one ss e) (weight_over one ss f)
+two_weight ss Plus e f = refl
+two_weight ss Minus e f = refl
+two_weight ss Times e f = refl
+
+pub two_inlined : (k : Two) (trees : List Tree) (s t : Tree) → inlined trees (two_of k s t) ≡ two_of k (inlined trees s) (inlined trees t)
 two_inlined Plus trees s t = refl
 two_inlined Minus trees s t = refl
 two_inlined Times trees s t = refl
 
--- the operations of a sound tree
-pub lands : (vars : List VarInfo) (depth : ℕ) (lets : List Typed) (trees : List Tree) (t : Typed) (l : ℕ → Option Known) (stack : List Known) →
-    SoundNodes vars lets t → LetsKnown lets trees l → need t + length stack ≤ depth →
-    Lands vars depth (IsNode trees t) (lowered t) l stack (bound t) (width t) (inlined trees (untyped t))
-lands vars depth lets trees (TNum c b w) l stack s k d =
-    one_push vars depth (IsNode trees (TNum c b w)) (Push c) b b (least b) w (tree.Num c) (tree.Num c) l stack refl (rw (known_is (unsigned_abs c) b (least b) (tree.Num c) s.0 (least_limit b w s.1)) refl) (omega arith) (least_narrow b w s.1) (same_self (tree.Num c)) (omega arith) (refl, refl) tt
-lands vars depth lets trees (TInput v b w) l stack s k d = input_lands vars depth (IsNode trees (TInput v b w)) v b w l stack s.0 s.1 s.2 (omega arith) (refl, refl)
-lands vars depth lets trees (TLet j b w) l stack s k d = let_lands vars depth (IsNode trees (TLet j b w)) j b w l stack (slice_get lets j) (slice_index_or trees j (tree.Num (pos 0))) (k.each j) s.0 s.1 (omega arith) (refl, refl)
-lands vars depth lets trees (TNeg t b w) l stack s k d =
-    let x = lands vars depth lets trees t l stack s.0 k d in
-    let y = lands_wider vars depth (IsNode trees t) (IsNode trees (TNeg t b w)) (lowered t) l stack (bound t) (width t) (inlined trees (untyped t)) (λ e v h. inl h) x in
-    let n : 1 ≤ need t = need_positive t in
-    neg_lands vars depth (IsNode trees (TNeg t b w)) (lowered t) l stack (bound t) b (width t) w (inlined trees (untyped t)) y s.1 s.2 s.3 (omega arith) (inr (refl, refl))
-lands vars depth lets trees (TTwo o u t b w) l stack s k d =
-    let x = lands vars depth lets trees u l stack s.0 k (omega arith) in
-    let p = lands_wider vars depth (IsNode trees u) (IsNode trees (TTwo o u t b w)) (lowered u) l stack (bound u) (width u) (inlined trees (untyped u)) (λ e v h. inl (inl h)) x in
-    let kept = lets_kept lets trees l p.locals k p.keeps in
-    let y = lands vars depth lets trees t p.locals (p.top ∷ stack) s.1 kept (omega arith) in
-    let n : 1 ≤ need u = need_positive u in
-    let q = lands_wider vars depth (IsNode trees t) (IsNode trees (TTwo o u t b w)) (lowered t) p.locals (p.top ∷ stack) (bound t) (width t) (inlined trees (untyped t)) (λ e v h. inl (inr h)) y in
-    rw two_inlined (two_lands vars depth (IsNode trees (TTwo o u t b w)) o (lowered u) (lowered t) l stack (bound u) (bound t) b (width u) (width t) w (inlined trees (untyped u)) (inlined trees (untyped t)) p q s.2 s.3 s.4 s.5 (omega arith) (inr (refl, refl)))
-lands vars depth lets trees (TPow t zero b w) l stack s k d =
-    let o : 1 ≤ b = let p : bound t ^ 0 ≡ 1 = pow-zero (bound t) in omega (arith, s.1) in
-    one_push vars depth (IsNode trees (TPow t zero b w)) (Push (pos 1)) b b (least b) w (tree.Num (pos 1)) (tree.Pow (inlined trees (untyped t)) 0) l stack refl (rw (known_is 1 b (least b) (tree.Num (pos 1)) o (least_limit b w s.2)) refl) (omega arith) (least_narrow b w s.2) (same_zeroth (inlined trees (untyped t))) (omega arith) (inr (0, omega arith, refl, refl)) tt
-lands vars depth lets trees (TPow t (suc n) b w) l stack s k d =
-    let x = lands vars depth lets trees t l stack s.0 k (omega arith) in
-    let y = lands_wider vars depth (IsNode trees t) (IsNode trees (TPow t (suc n) b w)) (lowered t) l stack (bound t) (width t) (inlined trees (untyped t)) (λ e v h. inl h) x in
-    power_lands vars depth (IsNode trees (TPow t (suc n) b w)) (lowered t) l stack (bound t) b (width t) w (inlined trees (untyped t)) n y s.1 s.2 s.3 (omega arith) (λ k h. inr (k, h, refl, refl))
+-- the running size of a tree is within 2^127 - 1
+pub root_room : (ss : List ℕ) (t : Typed) → HasRoom one ss (untyped t) → weight_over one ss (untyped t) ≤ most
+root_room ss (TNum c p w) h = h
+root_room ss (TInput v p w) h = h
+root_room ss (TLet j p w) h = h
+root_room ss (TNeg t p w) h = h.1
+root_room ss (TTwo Plus u t p w) h = h.2
+root_room ss (TTwo Minus u t p w) h = h.2
+root_room ss (TTwo Times u t p w) h = h.2
+root_room ss (TPow t n p w) h = h.1

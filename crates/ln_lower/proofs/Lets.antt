@@ -1,17 +1,19 @@
 -- The operations of the lets leave each let in its local.
-use Rattle.std.proofs.Common.{◌≡◌, ◌⊎◌, inl, inr, ℕ, ◌+◌, ◌≤◌, ◌<◌, true, false, List, [], ◌∷◌, ◌++◌, length, map, take, refl, zero, suc, ap, arith, pos, ◌∙◌, sym, get_or, length-append, append_assoc, append-nil}
+use Rattle.std.proofs.Common.{◌≡◌, inl, inr, ℕ, ◌+◌, ◌≤◌, ◌<◌, true, false, List, [], ◌∷◌, ◌++◌, length, map, refl, suc, ap, arith, ◌∙◌, sym, subst, length-append, append_assoc, append-nil}
 use Rattle.std.specs.Prelude.{Option, Some, slice_get, slice_index_or, ◌==◌}
 use Rattle.std.proofs.lemmas.Bool.Decides.{nat_tests}
-use Rattle.std.proofs.lemmas.List.{take_more, map-append, length-map, length-take-le}
+use Rattle.std.proofs.lemmas.List.{map-append}
 use Rattle.ln_algebra.specs.Tree as tree
 use Rattle.ln_algebra.specs.Tree.{Tree, inlined, inlined_after}
 use Rattle.ln_tree.specs.declared.shape.VarInfo.{VarInfo}
 use Rattle.ln_bound.specs.declared.fitted.Width.{Width}
-use Rattle.ln_bound.specs.declared.fitted.Fitted.{Fitted}
 use Rattle.ln_bound.specs.Widths.{no_wider}
-use Rattle.ln_bound.specs.Typed.{Typed, bound, width, untyped}
-use Rattle.ln_bound.specs.Sound.{Sound, AreSound}
-use Rattle.ln_bound.specs.View.{typed}
+use Rattle.ln_bound.specs.Typed.{Typed, pair, width, untyped}
+use Rattle.ln_bound.specs.Sound.{Sound, AreSound, running}
+use Rattle.ln_bound.specs.Room.{let_bounds}
+use Rattle.ln_bound.specs.Value.{weight_over}
+use Rattle.ln_algebra.specs.Sizes.{one}
+use Rattle.ln_interval.specs.Range.{Range, Covers, IsOrdered}
 use Rattle.ln_code.specs.declared.op.Op.TheVariants.{Set}
 use Rattle.ln_code.specs.Engine.{Line, run}
 use Rattle.ln_code.specs.Numbers.{with_local, no_locals}
@@ -19,132 +21,192 @@ use Rattle.ln_code.specs.Rules.{Known, rules}
 use Rattle.ln_code.specs.Pushes.{pushes}
 use Rattle.ln_code.specs.Nodes.{IsNode, IsLetNode, IsNodeOf}
 use Rattle.ln_lower.specs.Nodes.{PushNodes}
-use Rattle.ln_lower.specs.Lowered.{line, lowered, lowered_lets}
+use Rattle.ln_lower.specs.declared.distinct.Key.{Key}
+use Rattle.ln_lower.specs.Lowered.{line, nothing}
+use Rattle.ln_lower.specs.Written.{Written, LetsWritten, none, more}
+use Rattle.ln_lower.proofs.Keeping.{KeptKnown, get_snoc, index_old, index_new, kept_low, kept_lets}
+use Rattle.ln_lower.proofs.Sharing.{Leaves, lands as tree_lands, size_in, tree_in}
 use Rattle.ln_code.proofs.Same.{Same}
 use Rattle.ln_lower.proofs.PushLaws.{push_wider}
-use Rattle.ln_lower.proofs.Lands.{LetKnown, LetsKnown, lands, lets_kept, then_run, then_push}
+use Rattle.ln_lower.proofs.Lands.{LetKnown, LetsKnown, no_tree, lets_kept, then_push}
+use Rattle.ln_code.proofs.Behind.{then_run}
 
-get_snoc : {X : Type 0} (xs : List X) (y : X) (i : ℕ) (u : X) → slice_get (xs ++ (y ∷ [])) i ≡ Some u → ((i < length xs) × (slice_get xs i ≡ Some u)) ⊎ ((i ≡ length xs) × (y ≡ u))
-get_snoc [] y zero u h = inr (refl, cc)
-get_snoc [] y (suc i) u h = cc
-get_snoc (x ∷ xs) y zero u h = inl (omega arith, h)
-get_snoc (x ∷ xs) y (suc i) u h = elim (get_snoc xs y i u h) [ inl p ↦ inl (omega (arith, p.0), p.1) | inr q ↦ inr (ap suc q.0, q.1) ]
+-- ---- running sizes of lets, one more let at a time
 
-index_old : {X : Type 0} (xs : List X) (y d : X) (i : ℕ) → i < length xs → slice_index_or (xs ++ (y ∷ [])) i d ≡ slice_index_or xs i d
-index_old [] y d i h = absurd (omega arith)
-index_old (x ∷ xs) y d zero h = refl
-index_old (x ∷ xs) y d (suc i) h = index_old xs y d i (omega arith)
+bounds_more : (m : ℕ → ℕ) (ds : List ℕ) (es : List Tree) (e : Tree) → let_bounds m ds (es ++ (e ∷ [])) ≡ let_bounds m ds es ++ (weight_over m (let_bounds m ds es) e ∷ [])
+bounds_more m ds [] e = refl
+bounds_more m ds (x ∷ es) e = bounds_more m (ds ++ (weight_over m ds x ∷ [])) es e
 
-index_new : {X : Type 0} (xs : List X) (y d : X) → slice_index_or (xs ++ (y ∷ [])) (length xs) d ≡ y
-index_new [] y d = refl
-index_new (x ∷ xs) y d = index_new xs y d
+pub running_more : (done : List Typed) (t : Typed) → running (done ++ (t ∷ [])) ≡ running done ++ (weight_over one (running done) (untyped t) ∷ [])
+running_more done t = ap (λ (es : List Tree). let_bounds one [] es) (map-append untyped done (t ∷ [])) ∙ bounds_more one [] (map untyped done) (untyped t)
 
-abbrev no_tree : Tree
-no_tree = tree.Num (pos 0)
+bounds_length : (m : ℕ → ℕ) (ds : List ℕ) (es : List Tree) → length (let_bounds m ds es) ≡ length ds + length es
+bounds_length m ds [] = omega arith
+bounds_length m ds (e ∷ es) =
+    let ih = bounds_length m (ds ++ (weight_over m ds e ∷ [])) es in
+    let n = length-append ds (weight_over m ds e ∷ []) in
+    omega (arith, ih, n)
+
+map_length : (ts : List Typed) → length (map untyped ts) ≡ length ts
+map_length [] = refl
+map_length (t ∷ ts) = ap suc (map_length ts)
+
+pub running_length : (done : List Typed) → length (running done) ≡ length done
+running_length done = let e = bounds_length one [] (map untyped done) in let f = map_length done in omega (arith, e, f)
+
+-- ---- one more let
 
 -- one more let is known
-snoc_known : (lets : List Typed) (trees : List Tree) (l : ℕ → Option Known) (t : Typed) (c : Tree) (k : Known) → length trees ≡ length lets → length lets < 64 →
-    LetsKnown lets trees l → k.bound ≤ bound t → no_wider k.width (width t) ≡ true → Same k.tree c →
-    LetsKnown (lets ++ (t ∷ [])) (trees ++ (c ∷ [])) (with_local l (length lets) k)
-snoc_known lets trees l t c k e few h s n q = record { each = each; few = below }
+snoc_known : (lets : List Typed) (trees : List Tree) (ss : List ℕ) (l : ℕ → Option Known) (t : Typed) (c : Tree) (s : ℕ) (k : Known) → length trees ≡ length lets → length ss ≡ length lets → length lets < 64 →
+    LetsKnown lets trees ss l → Covers (pair t) k.range → IsOrdered k.range → no_wider k.width (width t) ≡ true → k.size ≡ s → Same k.tree c →
+    LetsKnown (lets ++ (t ∷ [])) (trees ++ (c ∷ [])) (ss ++ (s ∷ [])) (with_local l (length lets) k)
+snoc_known lets trees ss l t c s k e z few h cv o n m q = record { each = each; few = below }
   where
-    old : (j : ℕ) (u : Typed) → j < length lets → LetKnown (l j) u (slice_index_or trees j no_tree) → LetKnown (with_local l (length lets) k j) u (slice_index_or (trees ++ (c ∷ [])) j no_tree)
+    old : (j : ℕ) (u : Typed) → j < length lets → LetKnown (l j) u (slice_index_or ss j 0) (slice_index_or trees j no_tree) → LetKnown (with_local l (length lets) k j) u (slice_index_or (ss ++ (s ∷ [])) j 0) (slice_index_or (trees ++ (c ∷ [])) j no_tree)
     old j u i r =
         let f : (j == length lets) ≡ false = grind (arith, nat_tests) in
-        let g : slice_index_or (trees ++ (c ∷ [])) j no_tree ≡ slice_index_or trees j no_tree = index_old trees c no_tree j (omega arith) in
-        rw (f, g) r
+        let g : slice_index_or (trees ++ (c ∷ [])) j no_tree ≡ slice_index_or trees j no_tree = index_old trees c no_tree j (omega (arith, e, i)) in
+        let x : slice_index_or (ss ++ (s ∷ [])) j 0 ≡ slice_index_or ss j 0 = index_old ss s 0 j (omega (arith, z, i)) in
+        rw (f, g, x) r
 
-    new : (j : ℕ) (u : Typed) → j ≡ length lets → t ≡ u → LetKnown (with_local l (length lets) k j) u (slice_index_or (trees ++ (c ∷ [])) j no_tree)
+    new : (j : ℕ) (u : Typed) → j ≡ length lets → t ≡ u → LetKnown (with_local l (length lets) k j) u (slice_index_or (ss ++ (s ∷ [])) j 0) (slice_index_or (trees ++ (c ∷ [])) j no_tree)
     new j u i p =
         let f : (length lets == length lets) ≡ true = grind (arith, nat_tests) in
-        let z : j ≡ length trees = i ∙ sym e in
-        let g : slice_index_or (trees ++ (c ∷ [])) j no_tree ≡ c = rw z (index_new trees c no_tree) in
-        rw (g, i, f, ← p) (record { what = k; there = refl; small = s; narrow = n; same = q })
+        let y : j ≡ length trees = i ∙ sym e in
+        let x : j ≡ length ss = i ∙ sym z in
+        let g : slice_index_or (trees ++ (c ∷ [])) j no_tree ≡ c = rw y (index_new trees c no_tree) in
+        let r : slice_index_or (ss ++ (s ∷ [])) j 0 ≡ s = rw x (index_new ss s 0) in
+        rw (g, r, i, f, ← p) (record { what = k; there = refl; covered = cv; ordered = o; narrow = n; size = m; same = q })
 
-    each : (j : ℕ) (u : Typed) → slice_get (lets ++ (t ∷ [])) j ≡ Some u → LetKnown (with_local l (length lets) k j) u (slice_index_or (trees ++ (c ∷ [])) j no_tree)
+    each : (j : ℕ) (u : Typed) → slice_get (lets ++ (t ∷ [])) j ≡ Some u → LetKnown (with_local l (length lets) k j) u (slice_index_or (ss ++ (s ∷ [])) j 0) (slice_index_or (trees ++ (c ∷ [])) j no_tree)
     each j u r = elim (get_snoc lets t j u r) [ inl p ↦ old j u p.0 (h.each j u p.1) | inr p ↦ new j u p.0 p.1 ]
 
     below : (j : ℕ) (u : Typed) → slice_get (lets ++ (t ∷ [])) j ≡ Some u → j < 64
-    below j u r = elim (get_snoc lets t j u r) [ inl p ↦ omega (arith, p.0) | inr p ↦ omega (arith, p.0) ]
+    below j u r = elim (get_snoc lets t j u r) [ inl p ↦ omega (arith, few, p.0) | inr p ↦ omega (arith, few, p.0) ]
 
-pub record LetsLand (vars : List VarInfo) (depth : ℕ) (is_node : Tree → Width → Type 0) (lines : List (Line ℕ)) (l : ℕ → Option Known) (lets : List Typed) (trees : List Tree) : Type 0 where
+-- the same, of a let behind its lets
+pub next_known : (n : ℕ) (done : List Typed) (trees : List Tree) (l : ℕ → Option Known) (t : Typed) (c : Tree) (k : Known) → n ≡ length done → length trees ≡ length done → length done < 64 →
+    LetsKnown done trees (running done) l → Covers (pair t) k.range → IsOrdered k.range → no_wider k.width (width t) ≡ true → k.size ≡ weight_over one (running done) (untyped t) → Same k.tree c →
+    LetsKnown (done ++ (t ∷ [])) (trees ++ (c ∷ [])) (running (done ++ (t ∷ []))) (with_local l n k)
+next_known n done trees l t c k en e few h cv o w m q =
+    let s : ℕ = weight_over one (running done) (untyped t) in
+    let x = snoc_known done trees (running done) l t c s k e (running_length done) few h cv o w m q in
+    let y : LetsKnown (done ++ (t ∷ [])) (trees ++ (c ∷ [])) (running done ++ (s ∷ [])) (with_local l n k) = rw en x in
+    subst (λ ss. LetsKnown (done ++ (t ∷ [])) (trees ++ (c ∷ [])) ss (with_local l n k)) (sym (running_more done t)) y
+
+-- ---- the definitions on lists, at the end of a list
+
+sound_snoc : (vars : List VarInfo) (done ts : List Typed) (t : Typed) → AreSound vars done (ts ++ (t ∷ [])) → AreSound vars done ts × Sound vars (done ++ ts) t
+sound_snoc vars done [] t s =
+    let e : done ++ [] ≡ done = append-nil done in
+    (tt, subst (λ ls. Sound vars ls t) (sym e) s.0)
+sound_snoc vars done (u ∷ us) t s =
+    let r = sound_snoc vars (done ++ (u ∷ [])) us t s.1 in
+    let e : (done ++ (u ∷ [])) ++ us ≡ done ++ (u ∷ us) = append_assoc done (u ∷ []) us in
+    ((s.0, r.0), subst (λ ls. Sound vars ls t) e r.1)
+
+inlined_snoc : (done ts : List Tree) (t : Tree) → inlined_after done (ts ++ (t ∷ [])) ≡ inlined_after done ts ++ (inlined (inlined_after done ts) t ∷ [])
+inlined_snoc done [] t = refl
+inlined_snoc done (u ∷ us) t = inlined_snoc (done ++ (inlined done u ∷ [])) us t
+
+inlined_length : (done ts : List Tree) → length (inlined_after done ts) ≡ length done + length ts
+inlined_length done [] = omega arith
+inlined_length done (u ∷ us) =
+    let ih = inlined_length (done ++ (inlined done u ∷ [])) us in
+    let n = length-append done (inlined done u ∷ []) in
+    omega (arith, ih, n)
+
+let_front : (done : List Tree) (ts : List Typed) (t : Typed) (e : Tree) (v : Width) → IsLetNode done ts e v → IsLetNode done (ts ++ (t ∷ [])) e v
+let_front done [] t e v h = absurd h
+let_front done (u ∷ us) t e v (inl h) = inl h
+let_front done (u ∷ us) t e v (inr h) = inr (let_front (done ++ (inlined done (untyped u) ∷ [])) us t e v h)
+
+let_last : (done : List Tree) (ts : List Typed) (t : Typed) (e : Tree) (v : Width) → IsNode (inlined_after done (map untyped ts)) t e v → IsLetNode done (ts ++ (t ∷ [])) e v
+let_last done [] t e v h = inl h
+let_last done (u ∷ us) t e v h = inr (let_last (done ++ (inlined done (untyped u) ∷ [])) us t e v h)
+
+-- the lets as closed expressions
+abbrev pub closed : List Typed → List Tree
+closed ts = inlined_after [] (map untyped ts)
+
+closed_snoc : (ts : List Typed) (t : Typed) → closed (ts ++ (t ∷ [])) ≡ closed ts ++ (tree_in (closed ts) t ∷ [])
+closed_snoc ts t = ap (λ (es : List Tree). inlined_after [] es) (map-append untyped ts (t ∷ [])) ∙ inlined_snoc [] (map untyped ts) (untyped t)
+
+pub closed_length : (ts : List Typed) → length (closed ts) ≡ length ts
+closed_length ts = let e = inlined_length [] (map untyped ts) in let f = map_length ts in omega (arith, e, f)
+
+-- ---- the operations of lets
+
+-- what the operations of lets leave: each let in its local, and subtrees in locals behind them
+pub record LetsLand (vars : List VarInfo) (depth : ℕ) (is_node : Tree → Width → Type 0) (lines : List (Line Range)) (ks : List Key) (kept : List ℕ) (lets : List Typed) (trees : List Tree) : Type 0 where
   pub locals : ℕ → Option Known
-  pub ends : run (rules vars depth) lines (record { stack = []; locals = l }) ≡ Some (record { stack = []; locals = locals })
-  pub known : LetsKnown lets trees locals
-  pub each : PushNodes is_node (pushes (rules vars depth) lines (record { stack = []; locals = l }))
+  pub ends : run (rules vars depth) lines (record { stack = []; locals = no_locals }) ≡ Some (record { stack = []; locals = locals })
+  pub known : LetsKnown lets trees (running lets) locals
+  pub rest : KeptKnown ks kept (length lets) trees (running lets) locals
+  pub each : PushNodes is_node (pushes (rules vars depth) lines (record { stack = []; locals = no_locals }))
 
-pub lets_land : (vars : List VarInfo) (depth n : ℕ) (done : List Typed) (trees : List Tree) (rest : List Typed) (l : ℕ → Option Known) →
-    n ≡ length done → length trees ≡ length done → n + length rest ≤ 64 → 2048 ≤ depth → AreSound vars done rest → LetsKnown done trees l →
-    LetsLand vars depth (IsLetNode trees rest) (lowered_lets n rest) l (done ++ rest) (inlined_after trees (map untyped rest))
-lets_land vars depth n done trees [] l en e few d s k =
-    let z : done ++ [] ≡ done = append-nil done in
-    rw z (record { locals = l; ends = refl; known = k; each = tt })
-lets_land vars depth n done trees (t ∷ ts) l en e few d s k =
-    let c : Tree = inlined trees (untyped t) in
-    let x = lands vars depth done trees t l [] s.0.nodes k (let y = s.0.deep in omega arith) in
-    let kept = lets_kept done trees l x.locals k x.keeps in
-    let m : LetsKnown (done ++ (t ∷ [])) (trees ++ (c ∷ [])) (with_local x.locals n x.top) = rw en (snoc_known done trees x.locals t c x.top e (omega arith) kept x.small x.narrow x.same) in
-    let r = lets_land vars depth (suc n) (done ++ (t ∷ [])) (trees ++ (c ∷ [])) ts (with_local x.locals n x.top) (omega (arith, length-append done (t ∷ []))) (omega (arith, length-append trees (c ∷ []), length-append done (t ∷ []))) (omega arith) d s.1 m in
-    let z : (done ++ (t ∷ [])) ++ ts ≡ done ++ (t ∷ ts) = append_assoc done (t ∷ []) ts in
-    let p = push_wider (IsNode trees t) (IsLetNode trees (t ∷ ts)) (λ e v h. inl h) _ x.each in
-    let q = push_wider (IsLetNode (trees ++ (c ∷ [])) ts) (IsLetNode trees (t ∷ ts)) (λ e v h. inr h) _ r.each in
-    rw (← z) (record {
-      locals = r.locals;
-      ends = then_run vars depth (lowered t) (line (Set n) 0 ∷ lowered_lets (suc n) ts) _ _ _ x.ends r.ends;
-      known = r.known;
-      each = then_push vars depth (IsLetNode trees (t ∷ ts)) (lowered t) (line (Set n) 0 ∷ lowered_lets (suc n) ts) _ _ x.ends p q;
-    })
+-- the next let, from its value on the stack
+next_rest : (ks : List Key) (now : List ℕ) (ts : List Typed) (t : Typed) (l : ℕ → Option Known) (x : Known) → length ts < 64 → KeptKnown ks now (length ts) (closed ts) (running ts) l →
+    KeptKnown ks now (length (ts ++ (t ∷ []))) (closed ts ++ (tree_in (closed ts) t ∷ [])) (running (ts ++ (t ∷ []))) (with_local l (length ts) x)
+next_rest ks now ts t l x b h =
+    let a = kept_low ks now (length ts) (closed ts) (running ts) l (length ts) x (omega (arith, b)) h in
+    let c = kept_lets ks now (length ts) (closed ts) (running ts) (with_local l (length ts) x) (tree_in (closed ts) t) (size_in (running ts) t) (closed_length ts) (running_length ts) a in
+    let e : suc (length ts) ≡ length (ts ++ (t ∷ [])) = let f = length-append ts (t ∷ []) in omega (arith, f) in
+    let f : running ts ++ (size_in (running ts) t ∷ []) ≡ running (ts ++ (t ∷ [])) = sym (running_more ts t) in
+    let g = subst (λ n. KeptKnown ks now n (closed ts ++ (tree_in (closed ts) t ∷ [])) (running ts ++ (size_in (running ts) t ∷ [])) (with_local l (length ts) x)) e c in
+    subst (λ ss. KeptKnown ks now (length (ts ++ (t ∷ []))) (closed ts ++ (tree_in (closed ts) t ∷ [])) ss (with_local l (length ts) x)) f g
+
+pub lets_land : (ks : List Key) {ts : List Typed} {lines : List (Line Range)} {kept : List ℕ} (vars : List VarInfo) (depth : ℕ) →
+    LetsWritten ks ts lines kept → length ts ≤ 64 → 2048 ≤ depth → AreSound vars [] ts → LetsLand vars depth (IsLetNode [] ts) lines ks kept ts (closed ts)
+lets_land ks vars depth none few d s = record { locals = no_locals; ends = refl; known = record { each = λ j u e. cc; few = λ j u e. cc }; rest = record { each = λ i k e. cc }; each = tt }
+lets_land ks vars depth (more {ts = ts} {t = t} {lines = lines} {last = last} {kept = kept} {new = new} h w) few d s =
+    let lt = length-append ts (t ∷ []) in
+    let r = sound_snoc vars [] ts t s in
+    let x = lets_land ks vars depth h (omega (arith, few, lt)) d r.0 in
+    let so : Sound vars ts t = r.1 in
+    let deep = so.deep in
+    let y : Leaves vars depth ks kept (kept ++ new) (length ts) (closed ts) (running ts) (IsNode (closed ts) t) last t x.locals [] = tree_lands ks vars depth ts (closed ts) (running ts) x.locals [] w so.nodes so.sizes x.known x.rest (omega (arith, deep, d)) in
+    let set : List (Line Range) = line (Set (length ts)) nothing ∷ [] in
+    let now : ℕ → Option Known = with_local y.locals (length ts) y.top in
+    let lk = lets_kept ts (closed ts) (running ts) (65 + length kept) x.locals y.locals x.known (omega arith) y.keeps in
+    let m : LetsKnown (ts ++ (t ∷ [])) (closed ts ++ (tree_in (closed ts) t ∷ [])) (running (ts ++ (t ∷ []))) now = next_known (length ts) ts (closed ts) y.locals t (tree_in (closed ts) t) y.top refl (closed_length ts) (omega (arith, few, lt)) lk y.covered y.ordered y.narrow y.size y.same in
+    let n : KeptKnown ks (kept ++ new) (length (ts ++ (t ∷ []))) (closed ts ++ (tree_in (closed ts) t ∷ [])) (running (ts ++ (t ∷ []))) now = next_rest ks (kept ++ new) ts t y.locals y.top (omega (arith, few, lt)) y.rest in
+    let e : closed ts ++ (tree_in (closed ts) t ∷ []) ≡ closed (ts ++ (t ∷ [])) = sym (closed_snoc ts t) in
+    let p = push_wider (IsLetNode [] ts) (IsLetNode [] (ts ++ (t ∷ []))) (λ e v g. let_front [] ts t e v g) (pushes (rules vars depth) lines (record { stack = []; locals = no_locals })) x.each in
+    let q = push_wider (IsNode (closed ts) t) (IsLetNode [] (ts ++ (t ∷ []))) (λ e v g. let_last [] ts t e v g) (pushes (rules vars depth) last (record { stack = []; locals = x.locals })) y.each in
+    record {
+      locals = now;
+      ends = then_run (rules vars depth) lines (last ++ set) _ _ _ x.ends (then_run (rules vars depth) last set _ _ _ y.ends refl);
+      known = subst (λ trees. LetsKnown (ts ++ (t ∷ [])) trees (running (ts ++ (t ∷ []))) now) e m;
+      rest = subst (λ trees. KeptKnown ks (kept ++ new) (length (ts ++ (t ∷ []))) trees (running (ts ++ (t ∷ []))) now) e n;
+      each = then_push vars depth (IsLetNode [] (ts ++ (t ∷ []))) lines (last ++ set) _ _ x.ends p (then_push vars depth (IsLetNode [] (ts ++ (t ∷ []))) last set _ _ y.ends q tt);
+    }
 
 -- what is left of a block
-pub record BlockLands (vars : List VarInfo) (depth : ℕ) (is_node : Tree → Width → Type 0) (lines : List (Line ℕ)) (b : ℕ) (t : Tree) (lets : List Typed) (trees : List Tree) : Type 0 where
+pub record BlockLands (vars : List VarInfo) (depth : ℕ) (is_node : Tree → Width → Type 0) (lines : List (Line Range)) (p : Range) (t : Tree) (lets : List Typed) (trees : List Tree) : Type 0 where
   pub top : Known
   pub locals : ℕ → Option Known
   pub ends : run (rules vars depth) lines (record { stack = []; locals = no_locals }) ≡ Some (record { stack = top ∷ []; locals = locals })
-  pub small : top.bound ≤ b
-  pub known : LetsKnown lets trees locals
+  pub covered : Covers p top.range
+  pub known : LetsKnown lets trees (running lets) locals
   pub same : Same top.tree t
   pub each : PushNodes is_node (pushes (rules vars depth) lines (record { stack = []; locals = no_locals }))
 
-no_lets : (l : ℕ → Option Known) → LetsKnown [] [] l
-no_lets l = record { each = λ j u e. cc; few = λ j u e. cc }
-
 -- the block of a tree with its lets
-pub block_lands : (vars : List VarInfo) (depth : ℕ) (lets : List Typed) (t : Typed) → length lets ≤ 64 → 2048 ≤ depth → AreSound vars [] lets → Sound vars lets t →
-    BlockLands vars depth (IsNodeOf lets t) (lowered_lets 0 lets ++ lowered t) (bound t) (inlined (inlined_after [] (map untyped lets)) (untyped t)) lets (inlined_after [] (map untyped lets))
-block_lands vars depth lets t few d s r =
-    let trees : List Tree = inlined_after [] (map untyped lets) in
-    let x = lets_land vars depth 0 [] [] lets no_locals refl refl (omega arith) d s (no_lets no_locals) in
-    let y = lands vars depth lets trees t x.locals [] r.nodes x.known (let z = r.deep in omega arith) in
-    let p = push_wider (IsLetNode [] lets) (IsNodeOf lets t) (λ e v h. inl h) _ x.each in
-    let q = push_wider (IsNode trees t) (IsNodeOf lets t) (λ e v h. inr h) _ y.each in
+pub block_lands : (vars : List VarInfo) (depth : ℕ) (ks : List Key) (lets : List Typed) (t : Typed) (first last : List (Line Range)) (kept new : List ℕ) (spare : ℕ) → LetsWritten ks lets first kept → Written ks kept t last new spare → length lets ≤ 64 → 2048 ≤ depth → AreSound vars [] lets → Sound vars lets t →
+    BlockLands vars depth (IsNodeOf lets t) (first ++ last) (pair t) (tree_in (closed lets) t) lets (closed lets)
+block_lands vars depth ks lets t first last kept new spare h w few d s r =
+    let deep = r.deep in
+    let x = lets_land ks vars depth h few d s in
+    let y : Leaves vars depth ks kept (kept ++ new) (length lets) (closed lets) (running lets) (IsNode (closed lets) t) last t x.locals [] = tree_lands ks vars depth lets (closed lets) (running lets) x.locals [] w r.nodes r.sizes x.known x.rest (omega (arith, deep, d)) in
+    let p = push_wider (IsLetNode [] lets) (IsNodeOf lets t) (λ e v g. inl g) (pushes (rules vars depth) first (record { stack = []; locals = no_locals })) x.each in
+    let q = push_wider (IsNode (closed lets) t) (IsNodeOf lets t) (λ e v g. inr g) (pushes (rules vars depth) last (record { stack = []; locals = x.locals })) y.each in
     record {
       top = y.top;
       locals = y.locals;
-      ends = then_run vars depth (lowered_lets 0 lets) (lowered t) _ _ _ x.ends y.ends;
-      small = y.small;
-      known = lets_kept lets trees x.locals y.locals x.known y.keeps;
+      ends = then_run (rules vars depth) first last _ _ _ x.ends y.ends;
+      covered = y.covered;
+      known = lets_kept lets (closed lets) (running lets) (65 + length kept) x.locals y.locals x.known (omega arith) y.keeps;
       same = y.same;
-      each = then_push vars depth (IsNodeOf lets t) (lowered_lets 0 lets) (lowered t) _ _ x.ends p q;
+      each = then_push vars depth (IsNodeOf lets t) first last _ _ x.ends p q;
     }
-
--- ---- the loop over the lets
-
-pub lets_snoc : (n : ℕ) (ts : List Typed) (t : Typed) → lowered_lets n (ts ++ (t ∷ [])) ≡ lowered_lets n ts ++ (lowered t ++ (line (Set (n + length ts)) 0 ∷ []))
-lets_snoc n [] t =
-    let e : n + zero ≡ n = omega arith in
-    rw e refl
-lets_snoc n (u ∷ ts) t =
-    let e : n + suc (length ts) ≡ suc n + length ts = omega arith in
-    let ih : lowered_lets (suc n) (ts ++ (t ∷ [])) ≡ lowered_lets (suc n) ts ++ (lowered t ++ (line (Set (suc n + length ts)) 0 ∷ [])) = lets_snoc (suc n) ts t in
-    rw (e, ih) (sym (append_assoc (lowered u) (line (Set n) 0 ∷ lowered_lets (suc n) ts) (lowered t ++ (line (Set (suc n + length ts)) 0 ∷ []))))
-
--- one more let
-pub lets_more : (lets : List Fitted) (j : ℕ) (u : Fitted) → j < length lets → u ≡ get_or lets j u →
-    lowered_lets 0 (map typed (take (j + 1) lets)) ≡ lowered_lets 0 (map typed (take j lets)) ++ (lowered (typed u) ++ (line (Set j) 0 ∷ []))
-lets_more lets j u h e =
-    let a : take (j + 1) lets ≡ take j lets ++ (u ∷ []) = rw e (take_more lets j u h) in
-    let b : map typed (take j lets ++ (u ∷ [])) ≡ map typed (take j lets) ++ (typed u ∷ []) = map-append typed (take j lets) (u ∷ []) in
-    let c : 0 + length (map typed (take j lets)) ≡ j = let i : j ≤ length lets = omega arith in simp (length-map, length-take-le j lets i) (omega arith) in
-    let d : lowered_lets 0 (map typed (take j lets) ++ (typed u ∷ [])) ≡ lowered_lets 0 (map typed (take j lets)) ++ (lowered (typed u) ++ (line (Set (0 + length (map typed (take j lets)))) 0 ∷ [])) = lets_snoc 0 (map typed (take j lets)) (typed u) in
-    let f = rw c at d in
-    rw (a, b) f

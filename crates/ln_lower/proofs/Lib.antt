@@ -1,9 +1,10 @@
 pub mod Bounding
-pub mod RangedLanding
-pub mod RangedLets
-pub mod Writes
-pub mod Costs
 pub mod PushLaws
 pub mod Lands
+pub mod Numbering
+pub mod Keeping
+pub mod Sharing
 pub mod Lets
+pub mod Writes
+pub mod Costs
 pub mod Sealed

@@ -1,6 +1,6 @@
 pub mod Nodes
 pub mod Lowered
-pub mod RangedLowered
-pub mod RangedLands
+pub mod Distinct
+pub mod Written
 pub mod Wrote
 pub mod Worked

@@ -40,7 +40,7 @@ PushNodes is_node (p ∷ ps) = PushesNode is_node p × PushNodes is_node ps
 
 -- what a block pushes, by the rules
 abbrev pub pushed_by : List VarInfo → Code → List (Pushed Known)
-pushed_by vars c = pushes (rules vars c.depth) (lines_of c.ops c.bounds) (record { stack = []; locals = no_locals })
+pushed_by vars c = pushes (rules vars c.depth) (lines_of c.ops c.pairs) (record { stack = []; locals = no_locals })
 
 -- there is a value, and it has the polynomial of e
 abbrev pub HasPolynomial : Option Known → Tree → Type 0
@@ -54,4 +54,4 @@ LocalHas (Some s) j e = HasPolynomial (s.locals j) e
 
 -- behind all operations each let is in the local of its number
 abbrev pub KeepsLets : List VarInfo → Code → List Typed → Type 0
-KeepsLets vars c lets = (j : ℕ) → j < length lets → LocalHas (run (rules vars c.depth) (lines_of c.ops c.bounds) (record { stack = []; locals = no_locals })) j (slice_index_or (inlined_after [] (map untyped lets)) j (Num (pos 0)))
+KeepsLets vars c lets = (j : ℕ) → j < length lets → LocalHas (run (rules vars c.depth) (lines_of c.ops c.pairs) (record { stack = []; locals = no_locals })) j (slice_index_or (inlined_after [] (map untyped lets)) j (Num (pos 0)))

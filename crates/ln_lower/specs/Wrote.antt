@@ -1,10 +1,42 @@
 -- What a draft has more.
-use Rattle.std.specs.Prelude.{◌≡◌, ℕ, List, ◌++◌}
+use Rattle.std.specs.Prelude.{◌≡◌, ◌⊎◌, ℕ, ◌+◌, List, [], ◌∷◌, ◌++◌, length, map}
+use Rattle.ln_interval.specs.Range.{Range}
+use Rattle.ln_interval.specs.View.{range}
+use Rattle.ln_bound.specs.Typed.{Typed}
 use Rattle.ln_code.specs.Engine.{Line}
+use Rattle.ln_lower.specs.declared.distinct.Key.{Key}
 use Rattle.ln_lower.specs.declared.draft.Draft.{Draft}
-use Rattle.ln_lower.specs.Lowered.{ops_in, bounds_in}
+use Rattle.ln_code.specs.declared.op.Op.TheVariants.{Set}
+use Rattle.ln_lower.specs.Lowered.{line, nothing, ops_in, pairs_in}
+use Rattle.ln_lower.specs.Written.{Written, LetsWritten, keeping}
 
--- the second draft has these operations more than the first
-pub record Wrote (before after : Draft) (lines : List (Line ℕ)) : Type 0 where
+-- the second draft has these operations more than the first, and these subtrees are kept besides
+pub record Wrote (before after : Draft) (lines : List (Line Range)) (more : List ℕ) : Type 0 where
   pub ops : after.ops ≡ before.ops ++ ops_in lines
-  pub bounds : after.bounds ≡ before.bounds ++ bounds_in lines
+  pub pairs : map range after.pairs ≡ map range before.pairs ++ pairs_in lines
+  pub kept : after.kept ≡ before.kept ++ more
+
+-- number k, whose range is p, is kept from here on, or nothing is written
+abbrev pub MayKeep : Draft → Draft → ℕ → Range → Type 0
+MayKeep before after k p = Wrote before after [] [] ⊎ Wrote before after (keeping (65 + length before.kept) p) (k ∷ [])
+
+-- the second draft has the operations of a tree more
+pub record Puts (ks : List Key) (before after : Draft) (t : Typed) : Type 0 where
+  pub lines : List (Line Range)
+  pub more : List ℕ
+  pub spare : ℕ
+  pub wrote : Wrote before after lines more
+  pub written : Written ks before.kept t lines more spare
+
+-- the second draft has the operations of a let more, into the local of its number
+pub record PutsLet (ks : List Key) (before after : Draft) (t : Typed) (j : ℕ) : Type 0 where
+  pub mid : Draft
+  pub puts : Puts ks before mid t
+  pub stores : Wrote mid after (line (Set j) nothing ∷ []) []
+
+-- the draft has the operations of these lets and nothing else
+pub record PutsLets (ks : List Key) (after : Draft) (ts : List Typed) : Type 0 where
+  pub lines : List (Line Range)
+  pub ops : after.ops ≡ ops_in lines
+  pub pairs : map range after.pairs ≡ pairs_in lines
+  pub written : LetsWritten ks ts lines after.kept

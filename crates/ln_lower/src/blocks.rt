@@ -1,10 +1,12 @@
 //! Blocks of trees.
-ghost use Rattle.std.specs.Prelude.{◌≡◌, ℕ, ◌+◌, ◌*◌, ◌^◌, ◌<◌, ◌≤◌, ◌++◌, ◌∷◌, [], All, IfOk, OnOk, Some, List, ℤ, length, map};
+ghost use Rattle.std.specs.Prelude.{◌≡◌, ℕ, ◌+◌, ◌*◌, ◌<◌, ◌≤◌, [], All, IfOk, IfSome, OnOk, Some, List, ℤ, length, map, slice_get};
 ghost use Rattle.ln_algebra.specs.Coefficient.{normal_coefficient};
+ghost use Rattle.ln_interval.specs.Range.{Covers, magnitude, most, power, product};
+ghost use Rattle.ln_interval.specs.View.{range};
 ghost use Rattle.ln_tree.specs.Row.{AreWithin};
 ghost use Rattle.ln_bound.specs.Value.{value, values};
 ghost use Rattle.ln_bound.specs.Light.{let_values};
-ghost use Rattle.ln_bound.specs.Typed.{bound, cost, costs, polynomial, untyped};
+ghost use Rattle.ln_bound.specs.Typed.{cost, costs, pair, polynomial, untyped};
 ghost use Rattle.ln_bound.specs.Sound.{AreSound, Sound};
 ghost use Rattle.ln_bound.specs.View.{typed};
 ghost use Rattle.ln_code.specs.Rules.{Known};
@@ -12,91 +14,177 @@ ghost use Rattle.ln_code.specs.Part.{block_value, known_of};
 ghost use Rattle.ln_code.specs.Kept.{AreOfSites, FollowsRules};
 ghost use Rattle.ln_code.specs.Nodes.{IsNodeOf};
 ghost use Rattle.ln_lower.specs.Nodes.{KeepsLets, PushNodes, pushed_by};
-ghost use Rattle.ln_lower.specs.Lowered.{factors, lowered, lowered_lets, power_of, PowersFit};
-ghost use Rattle.ln_lower.specs.Wrote.{Wrote};
+ghost use Rattle.ln_lower.specs.Lowered.{factors, power_of, PowersFit};
+ghost use Rattle.ln_lower.specs.Distinct.{AllStand, Stands};
+ghost use Rattle.ln_lower.specs.Wrote.{MayKeep, Puts, PutsLet, PutsLets, Wrote};
 
-use crate::draft::Draft;
+use crate::distinct::{Distinct, number};
+use crate::draft::{Draft, nothing};
 use ln_base::{NoMemory, Seq};
 use ln_bound::{FitOp, Fitted, Width};
 use ln_code::{Block, Op};
+use ln_interval::Pair;
 use ln_tree::{Exps, Shape};
 use std::alloc::Global;
 
-// The base's further factors. The base, at most a, is in local 64.
-fn put_factors(draft: &mut Draft, a: u128, width: Width, n: u8) -> Result<(), NoMemory>
-    requires { a ^ (n + 1) < 2 ^ 128 }
-    ensures { OnOk result (Wrote draft.old draft.new (factors a width 1 n)) }
+// The pair of the product of two, where it is within the limit.
+fn product_of(p: Pair, q: Pair) -> Pair
+    requires { magnitude (product (range p) (range q)) ≤ most }
+    ensures { range result ≡ product (range p) (range q) }
 {
-    let mut power = a;
-    'factors: for i in 0..n {
-        power *= a;
-        draft.push(Op::Get(64), a)?;
-        draft.push(Op::Mul(width), power)?;
+    p.mul(q).unwrap()
+}
+
+// The base's further factors, and the pair of the power that they leave. The base, of this pair, is in local 64.
+fn put_factors(draft: &mut Draft, base: Pair, width: Width, n: u8) -> Result<Pair, NoMemory>
+    requires { magnitude (power (range base) (n + 1)) ≤ most }
+    ensures pair { IfOk result (λ p. range p ≡ power (range base) (n + 1)) }
+    ensures wrote { OnOk result (Wrote draft.old draft.new (factors (range base) width 1 n) []) }
+{
+    if n == 0 {
+        return Ok(base);
     }
-    Ok(())
+    let below = put_factors(draft, base, width, n - 1)?;
+    let power = product_of(below, base);
+    draft.push(Op::Get(64), base)?;
+    draft.push(Op::Mul(width), power)?;
+    Ok(power)
 }
 
 // From the base on the stack to its power n + 1.
-fn put_power(draft: &mut Draft, a: u128, width: Width, n: u8) -> Result<(), NoMemory>
-    requires { a ^ (n + 1) < 2 ^ 128 }
-    ensures { OnOk result (Wrote draft.old draft.new (power_of a width n)) }
+fn put_power(draft: &mut Draft, base: Pair, width: Width, n: u8) -> Result<(), NoMemory>
+    requires { magnitude (power (range base) (n + 1)) ≤ most }
+    ensures { OnOk result (Wrote draft.old draft.new (power_of (range base) width n) []) }
 {
     if n != 0 {
-        draft.push(Op::Set(64), 0)?;
-        draft.push(Op::Get(64), a)?;
-        put_factors(draft, a, width, n)?;
+        draft.push(Op::Set(64), nothing())?;
+        draft.push(Op::Get(64), base)?;
+        put_factors(draft, base, width, n)?;
     }
     Ok(())
 }
 
-// The operations of a tree.
-fn put_tree(draft: &mut Draft, t: &Fitted) -> Result<(), NoMemory>
-    requires { PowersFit (typed t.now) }
-    ensures { OnOk result (Wrote draft.old draft.new (lowered (typed t.now))) }
+// The local in which a subtree is kept, if it is shared.
+fn local_of(draft: &Draft, distinct: &Distinct, k: usize) -> Option<u8>
+    ensures { IfSome result (λ j. (i : ℕ) × (slice_get draft.now.kept i ≡ Some k) × (j ≡ 65 + i)) }
 {
+    if distinct.is_shared(k) {
+        draft.local_of(k)
+    } else {
+        None
+    }
+}
+
+// Keeps the value on the stack, if its subtree is shared.
+fn put_kept(draft: &mut Draft, is_shared: bool, k: usize, pair: Pair) -> Result<(), NoMemory>
+    ensures { OnOk result (MayKeep draft.old draft.new k (range pair)) }
+{
+    if is_shared {
+        draft.keep(k, pair)
+    } else {
+        Ok(())
+    }
+}
+
+// The operations of a tree, whose number is k.
+fn put_tree(draft: &mut Draft, distinct: &Distinct, t: &Fitted, k: usize) -> Result<(), NoMemory>
+    requires powers { PowersFit (typed t.now) }
+    requires stands { Stands distinct.now.keys k (typed t.now) }
+    ensures { OnOk result (Puts distinct.now.keys draft.old draft.new (typed t.now)) }
+{
+    if let Some(j) = local_of(draft, distinct, k) {
+        return draft.push(Op::Get(j), t.pair);
+    }
     match &t.op {
-        FitOp::Num(c) => draft.push(Op::Push(*c), t.bound),
-        FitOp::Input(v) => draft.push(Op::Input(*v), t.bound),
-        FitOp::Let(j) => draft.push(Op::Get(*j), t.bound),
+        FitOp::Num(c) => draft.push(Op::Push(*c), t.pair),
+        FitOp::Input(v) => draft.push(Op::Input(*v), t.pair),
+        FitOp::Let(j) => draft.push(Op::Get(*j), t.pair),
         FitOp::Neg(x) => {
-            put_tree(draft, x)?;
-            draft.push(Op::Neg(t.width), t.bound)
+            put_tree(draft, distinct, x, distinct.operand(k))?;
+            draft.push(Op::Neg(t.width), t.pair)?;
+            put_kept(draft, distinct.is_shared(k), k, t.pair)
         }
         FitOp::Add(x, y) => {
-            put_tree(draft, x)?;
-            put_tree(draft, y)?;
-            draft.push(Op::Add(t.width), t.bound)
+            put_tree(draft, distinct, x, distinct.operand(k))?;
+            put_tree(draft, distinct, y, distinct.right(k))?;
+            draft.push(Op::Add(t.width), t.pair)?;
+            put_kept(draft, distinct.is_shared(k), k, t.pair)
         }
         FitOp::Sub(x, y) => {
-            put_tree(draft, x)?;
-            put_tree(draft, y)?;
-            draft.push(Op::Sub(t.width), t.bound)
+            put_tree(draft, distinct, x, distinct.operand(k))?;
+            put_tree(draft, distinct, y, distinct.right(k))?;
+            draft.push(Op::Sub(t.width), t.pair)?;
+            put_kept(draft, distinct.is_shared(k), k, t.pair)
         }
         FitOp::Mul(x, y) => {
-            put_tree(draft, x)?;
-            put_tree(draft, y)?;
-            draft.push(Op::Mul(t.width), t.bound)
+            put_tree(draft, distinct, x, distinct.operand(k))?;
+            put_tree(draft, distinct, y, distinct.right(k))?;
+            draft.push(Op::Mul(t.width), t.pair)?;
+            put_kept(draft, distinct.is_shared(k), k, t.pair)
         }
         FitOp::Pow(x, n) => {
             if *n == 0 {
-                draft.push(Op::Push(1), t.bound)
+                draft.push(Op::Push(1), t.pair)?;
+                put_kept(draft, distinct.is_shared(k), k, t.pair)
             } else {
-                put_tree(draft, x)?;
-                put_power(draft, x.bound, t.width, *n - 1)
+                put_tree(draft, distinct, x, distinct.operand(k))?;
+                put_power(draft, x.pair, t.width, *n - 1)?;
+                put_kept(draft, distinct.is_shared(k), k, t.pair)
             }
         }
     }
 }
 
-// The operations of the lets, each into the local of its number.
-fn put_lets(draft: &mut Draft, lets: &[Fitted]) -> Result<(), NoMemory>
+// The numbers of trees, each of which is at one place more.
+fn number_all(
+    alloc: Global,
+    distinct: &mut Distinct,
+    trees: &[Fitted],
+) -> Result<Seq<usize>, NoMemory>
+    ensures { IfOk result (λ ns. AllStand distinct.new.keys ns (map typed trees.now)) }
+{
+    let mut numbers = Seq::new(alloc);
+    'trees: for t in trees {
+        let k = number(distinct, t)?;
+        distinct.place(k);
+        numbers.push(k)?;
+    }
+    Ok(numbers)
+}
+
+// The operations of a let, whose subtree has number k, into the local of its own number.
+fn put_let(
+    draft: &mut Draft,
+    distinct: &Distinct,
+    u: &Fitted,
+    k: usize,
+    j: u8,
+) -> Result<(), NoMemory>
+    requires powers { PowersFit (typed u.now) }
+    requires stands { Stands distinct.now.keys k (typed u.now) }
+    ensures { OnOk result (PutsLet distinct.now.keys draft.old draft.new (typed u.now) j) }
+{
+    put_tree(draft, distinct, u, k)?;
+    draft.push(Op::Set(j), nothing())
+}
+
+// The operations of the lets, whose subtrees have these numbers, each into the local of its own number.
+fn put_lets(
+    draft: &mut Draft,
+    distinct: &Distinct,
+    lets: &[Fitted],
+    numbers: &[usize],
+) -> Result<(), NoMemory>
     requires few { length lets.now ≤ 64 }
     requires powers { All (λ u. PowersFit (typed u)) lets.now }
-    ensures { OnOk result (Wrote draft.old draft.new (lowered_lets 0 (map typed lets.now))) }
+    requires stand { AllStand distinct.now.keys numbers.now (map typed lets.now) }
+    requires ops { draft.now.ops ≡ [] }
+    requires pairs { draft.now.pairs ≡ [] }
+    requires kept { draft.now.kept ≡ [] }
+    ensures { OnOk result (PutsLets distinct.now.keys draft.new (map typed lets.now)) }
 {
     'lets: for (j, u) in lets.iter().enumerate() {
-        put_tree(draft, u)?;
-        draft.push(Op::Set(j as u8), 0)?;
+        put_let(draft, distinct, u, numbers[j], j as u8)?;
     }
     Ok(())
 }
@@ -105,9 +193,11 @@ fn put_lets(draft: &mut Draft, lets: &[Fitted]) -> Result<(), NoMemory>
 /// sites; there are at most 64 lets, each sound over the variables and the lets before it, and the tree is sound over all.
 ///
 /// On every row in range the block has the tree's value. What its operations push are polynomials of nodes of the tree and its
-/// lets, a power with the lower powers on its way, and the value that is left has the root's polynomial and at most its bound;
+/// lets, a power with the lower powers on its way, and the value that is left has the root's polynomial and a pair within the root's;
 /// each sum, difference, product and negation has its node's width. It has at most four times as many operations as the costs of
-/// tree and lets together, and 64 more. A let is kept in the local of its number; local 64 serves powers.
+/// tree and lets together, and 64 more. A let is kept in the local of its number; local 64 serves powers;
+/// locals 65 to 255 hold shared subtrees: of equal subtrees that are used at two or more places the first is computed, and the
+/// later ones are taken from its local. Numbers, variables and names of lets are put anew.
 pub fn lower(
     alloc: Global,
     a: &Exps,
@@ -122,18 +212,23 @@ pub fn lower(
     ensures exps { IfOk result (λ b. b.exps ≡ a.now) }
     ensures rules { IfOk result (λ b. FollowsRules s.now.vars b) }
     ensures value { IfOk result (λ b. (zs : List ℤ) → AreWithin s.now.vars zs → block_value zs b ≡ Some (value (values zs) (let_values (values zs) [] (map untyped (map typed lets.now))) (untyped (typed t.now)))) }
-    ensures bound { IfOk result (λ b. (k : Known) → known_of s.now.vars b ≡ Some k → k.bound ≤ bound (typed t.now)) }
+    ensures range { IfOk result (λ b. (k : Known) → known_of s.now.vars b ≡ Some k → Covers (pair (typed t.now)) k.range) }
     ensures root { IfOk result (λ b. (k : Known) → known_of s.now.vars b ≡ Some k → (m : List ℕ) → normal_coefficient k.tree m ≡ polynomial (map typed lets.now) (typed t.now) m) }
     ensures nodes { IfOk result (λ b. PushNodes (IsNodeOf (map typed lets.now) (typed t.now)) (pushed_by s.now.vars b)) }
     ensures locals { IfOk result (λ b. KeepsLets s.now.vars b (map typed lets.now)) }
     ensures small { IfOk result (λ b. length b.ops ≤ 4 * (cost (typed t.now) + costs (map typed lets.now)) + 64) }
 {
+    let mut distinct = Distinct::new(alloc)?;
+    let numbers = number_all(alloc, &mut distinct, lets.as_slice())?;
+    let k = number(&mut distinct, t)?;
+    distinct.place(k);
     let mut draft = Draft {
         ops: Seq::new(alloc),
-        bounds: Seq::new(alloc),
+        pairs: Seq::new(alloc),
+        kept: Seq::new(alloc),
     };
-    put_lets(&mut draft, lets.as_slice())?;
-    put_tree(&mut draft, t)?;
+    put_lets(&mut draft, &distinct, lets.as_slice(), numbers.as_slice())?;
+    put_tree(&mut draft, &distinct, t, k)?;
     let exps = a.copy()?;
-    Ok(Block::seal(exps, draft.ops, draft.bounds, 2048))
+    Ok(Block::seal(exps, draft.ops, draft.pairs, 2048))
 }

@@ -5,8 +5,9 @@
 #![tactic(auto)]
 
 pub mod blocks;
+pub(crate) mod distinct;
 pub(crate) mod draft;
-pub mod ranged_laws;
+pub(crate) mod hints;
 
 pub use blocks::lower;
 

@@ -1,36 +1,57 @@
-// Trees made by hand, lowered.
-ghost use Rattle.std.specs.Prelude.{◌≡◌, ◌∷◌, [], IfOk, pos};
+//! Trees made by hand, lowered.
+ghost use Rattle.std.specs.Prelude.{◌≡◌, ◌≤◌, ◌≤ℤ◌, ◌∷◌, [], IfOk, unsigned_abs};
+ghost use Rattle.ln_interval.specs.Range.{most};
 ghost use Rattle.ln_bound.specs.declared.fitted.Width.TheVariants.{W64};
-ghost use Rattle.ln_bound.specs.declared.fitted.Two.TheVariants.{Times};
-ghost use Rattle.ln_bound.specs.Typed.{TInput, TNum, TTwo};
-ghost use Rattle.ln_bound.specs.View.{typed};
-ghost use Rattle.ln_lower.specs.Worked.{coordinate, num_vars};
+ghost use Rattle.ln_bound.specs.View.{op_typed, typed};
+ghost use Rattle.ln_lower.specs.Worked.{coordinate, doubled, num_vars, square, total};
 
 use crate::blocks::lower;
 use ln_base::{NoMemory, Seq};
 use ln_bound::{FitOp, Fitted, Width};
-use ln_code::Block;
+use ln_code::{Block, Op};
+use ln_interval::Pair;
 use ln_tree::{Exps, Name, Shape, VarInfo};
 use std::alloc::Global;
 use std::test::Fail;
 
-fn leaf(op: FitOp, bound: u128) -> Fitted
-    ensures { result ≡ record { op = op; bound = bound; width = W64 } }
+fn node(op: FitOp, low: i128, high: i128) -> Fitted
+    requires ordered { low ≤ℤ high }
+    requires low_small { unsigned_abs low ≤ most }
+    requires high_small { unsigned_abs high ≤ most }
+    ensures { typed result ≡ op_typed op (record { low = low; high = high }) W64 }
 {
     Fitted {
         op,
-        bound,
+        pair: Pair { low, high },
         width: Width::W64,
     }
 }
 
 // 2*t with t from -10 to 10
 fn doubled(alloc: Global) -> Result<Fitted, NoMemory>
-    ensures { IfOk result (λ t. typed t ≡ TTwo Times (TNum (pos 2) 2 W64) (TInput 0 10 W64) 20 W64) }
+    ensures { IfOk result (λ t. typed t ≡ doubled) }
 {
-    let two = Box::new(alloc, leaf(FitOp::Num(2), 2))?;
-    let t = Box::new(alloc, leaf(FitOp::Input(0), 10))?;
-    Ok(leaf(FitOp::Mul(two, t), 20))
+    let two = Box::new(alloc, node(FitOp::Num(2), 2, 2))?;
+    let t = Box::new(alloc, node(FitOp::Input(0), -10, 10))?;
+    Ok(node(FitOp::Mul(two, t), -20, 20))
+}
+
+// a + b with a and b from -10 to 10
+fn total(alloc: Global) -> Result<Fitted, NoMemory>
+    ensures { IfOk result (λ t. typed t ≡ total) }
+{
+    let a = Box::new(alloc, node(FitOp::Input(0), -10, 10))?;
+    let b = Box::new(alloc, node(FitOp::Input(1), -10, 10))?;
+    Ok(node(FitOp::Add(a, b), -20, 20))
+}
+
+// (a + b)*(a + b)
+fn square(alloc: Global) -> Result<Fitted, NoMemory>
+    ensures { IfOk result (λ t. typed t ≡ square) }
+{
+    let x = Box::new(alloc, total(alloc)?)?;
+    let y = Box::new(alloc, total(alloc)?)?;
+    Ok(node(FitOp::Mul(x, y), -400, 400))
 }
 
 fn coordinate(site: u8) -> VarInfo
@@ -75,6 +96,32 @@ fn lowered(alloc: Global) -> Result<Block, NoMemory> {
 fn a_product_is_pushed_last(rt: HostRuntime) -> Result<(), Fail> {
     let block = lowered(rt.alloc())?;
     assert!(rt; block.exps().pairs() == [(0u8, 1u8)].as_slice());
-    assert!(rt; block.bounds() == [2u128, 10, 20].as_slice());
+    let last = block.pairs().last();
+    assert!(rt; last.is_some());
+    if let Some(p) = last {
+        assert!(rt; p.low == -20 && p.high == 20);
+    }
+    Ok(())
+}
+
+fn squared(alloc: Global) -> Result<Block, NoMemory> {
+    let shape = numbers(alloc)?;
+    let t = square(alloc)?;
+    lower(alloc, &first(alloc)?, &shape, &t, &Seq::new(alloc))
+}
+
+#[test]
+fn a_sum_is_computed_once(rt: HostRuntime) -> Result<(), Fail> {
+    let block = squared(rt.alloc())?;
+    let ops = [
+        Op::Input(0),
+        Op::Input(1),
+        Op::Add(Width::W64),
+        Op::Set(65),
+        Op::Get(65),
+        Op::Get(65),
+        Op::Mul(Width::W64),
+    ];
+    assert!(rt; block.ops() == ops.as_slice());
     Ok(())
 }

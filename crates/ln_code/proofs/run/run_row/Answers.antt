@@ -1,5 +1,9 @@
-use Rattle.std.proofs.Common.{◌≡◌, ◌≤◌, length, arith}
-use Rattle.ln_code.proofs.Differ.{few_vars, none_equal}
+use Rattle.std.proofs.Common.{◌≡◌, ◌≤◌, length, arith, refl, subst, ℕ}
+use Rattle.ln_order.specs.Orders.{IsOrderOf}
+use Rattle.ln_order.proofs.RowsLemmas.{order-places}
+use Rattle.ln_order.proofs.OrderExists.{order-exists}
+use Rattle.ln_code.specs.Lists.{list_of}
+use Rattle.ln_code.proofs.Differ.{few_vars}
 use Rattle.ln_code.proofs.run.run_row.Goals as goal
 
 pub shared_ref_as_front-values : goal.shared_ref_as_front-values
@@ -8,5 +12,7 @@ shared_ref_as_front-values c =
     let e : c.len.result ≡ length c.args.p.now.shape.vars = rw c.shape-shape.ensures at c.len.ensures in
     omega arith
 
-pub returns-in-Err-clause-verdict : goal.returns-in-Err-clause-verdict
-returns-in-Err-clause-verdict c = absurd (none_equal _ c.in-Err.field-0.0 c.requires.row.differ (rw (c.from.ensures, c.shape-shape.ensures) at c.in-Err.ensures.first))
+pub returns-clause-verdict : goal.returns-clause-verdict
+returns-clause-verdict c =
+    let x = order-exists _ c.requires.row.differ in
+    record { places = x.0; order = x.1; list = list_of c.args.p.now x.0; chosen = record { order = subst (λ (n : ℕ). IsOrderOf n x.0) c.requires.row.size (order-places _ x.0 x.1); list_is = refl }; answered = (let v = rw (c.from.ensures, c.len.ensures, c.shape-shape.ensures) at c.run_through.ensures.verdict in v x.0 x.1) }

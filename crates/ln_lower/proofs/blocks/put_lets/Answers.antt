@@ -1,9 +1,23 @@
-use Rattle.std.proofs.Common.{refl}
-use Rattle.ln_lower.proofs.Writes.{wrote_then}
-use Rattle.ln_lower.proofs.Lets.{lets_more}
+use Rattle.std.proofs.Common.{refl, take, map, arith}
+use Rattle.ln_bound.specs.View.{typed}
+use Rattle.ln_lower.specs.Lowered.{nothing}
+use Rattle.ln_lower.proofs.Numbering.{stand_length, stands_at}
+use Rattle.ln_lower.proofs.Writes.{next_let, no_lets_put, more_typed, typed_length}
 use Rattle.ln_lower.proofs.blocks.put_lets.Goals as goal
+
+pub lets-init : goal.lets-init
+lets-init c = no_lets_put _ _ c.requires.ops c.requires.pairs c.requires.kept
 
 pub lets-preserved : goal.lets-preserved
 lets-preserved c =
-    let e = lets_more c.args.lets.now c.lets.j c.index-lets-j.result c.lets-test.true c.index-lets-j.is in
-    wrote_then _ _ _ _ _ _ e c.lets.invariant (wrote_then _ _ _ _ _ _ refl c.in_ok-put_tree.ensures c.in_ok-push.ensures)
+    let u = c.in_ok-put_let.ensures in
+    next_let _ _ u.mid _ (map typed (take c.lets.j c.args.lets.now)) _ (typed c.index-lets-j.result) c.lets.j nothing (typed_length c.args.lets.now c.lets.j c.lets-test.true) refl (more_typed c.args.lets.now c.lets.j c.index-lets-j.result c.lets-test.true c.index-lets-j.is) c.lets.invariant u.puts u.stores
+
+pub bounds-numbers-j : goal.bounds-numbers-j
+bounds-numbers-j c =
+    let e = stand_length c.args.distinct.now.keys c.args.numbers.now c.args.lets.now c.requires.stand in
+    let t = c.lets-test.true in
+    omega (arith, t, e)
+
+pub put_let-requires-clause-stands : goal.put_let-requires-clause-stands
+put_let-requires-clause-stands c = stands_at c.args.distinct.now.keys c.args.numbers.now c.args.lets.now c.lets.j c.index-lets-j.result c.requires.stand c.lets-test.true c.index-lets-j.is

@@ -1,8 +1,7 @@
 use Rattle.std.proofs.Common.{take, map}
 use Rattle.ln_bound.specs.View.{typed}
-use Rattle.ln_lower.specs.Lowered.{lowered_lets}
-use Rattle.ln_lower.specs.Wrote.{Wrote}
+use Rattle.ln_lower.specs.Wrote.{PutsLets}
 use Rattle.ln_lower.proofs.blocks.put_lets.Given as goal
 
 abbrev pub invariant-lets : goal.invariant-lets
-invariant-lets l = Wrote l.initial.draft l.draft (lowered_lets 0 (map typed (take l.j l.lets)))
+invariant-lets l = PutsLets l.distinct.keys l.draft (map typed (take l.j l.lets))

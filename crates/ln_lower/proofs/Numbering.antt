@@ -1,0 +1,296 @@
+-- Numbers of subtrees.
+use Rattle.std.proofs.Common.{◌≡◌, ℕ, List, [], ◌∷◌, ◌++◌, refl, zero, suc, ap, arith, ◌∙◌, sym, length, map, get_or, ◌<◌}
+use Rattle.std.specs.Prelude.{Some, slice_get}
+use Rattle.ln_interval.specs.Range.{Range}
+use Rattle.ln_bound.specs.declared.fitted.Width.{Width}
+use Rattle.ln_bound.specs.declared.fitted.Two.{Two}
+use Rattle.ln_bound.specs.Typed.{Typed, TNum, TInput, TLet, TNeg, TTwo, TPow}
+use Rattle.ln_lower.specs.declared.distinct.Key.{Key}
+use Rattle.ln_lower.specs.declared.distinct.KeyOp.{KeyOp}
+use Rattle.ln_lower.specs.declared.distinct.KeyOp.TheVariants.{Number, Variable, Name, Opposite, Both, Raised}
+use Rattle.ln_bound.specs.declared.fitted.Fitted.{Fitted}
+use Rattle.ln_bound.specs.View.{typed}
+use Rattle.ln_lower.specs.Distinct.{key, Stands, AllStand, Extends, Added, Numbered, operand_or, right_or}
+
+-- ---- one number, one tree
+
+abbrev range_in : Key → Range
+range_in x = record { low = x.low; high = x.high }
+
+same_parts : (o i : KeyOp) (p q : Range) (w v : Width) → key o p w ≡ key i q v → (o ≡ i) × (p ≡ q) × (w ≡ v)
+same_parts o i p q w v e = (ap (λ (x : Key). x.op) e, ap range_in e, ap (λ (x : Key). x.width) e)
+
+same_key : (ks : List Key) (k : ℕ) (o i : KeyOp) (p q : Range) (w v : Width) → slice_get ks k ≡ Some (key o p w) → slice_get ks k ≡ Some (key i q v) → (o ≡ i) × (p ≡ q) × (w ≡ v)
+same_key ks k o i p q w v a b =
+    let e : Some (key o p w) ≡ Some (key i q v) = sym a ∙ b in
+    let f : key o p w ≡ key i q v = cc in
+    same_parts o i p q w v f
+
+pub unique : (ks : List Key) (t u : Typed) (k : ℕ) → Stands ks k t → Stands ks k u → t ≡ u
+unique ks (TNum c p w) (TNum d q v) k x y =
+    let z = same_key ks k (Number c) (Number d) p q w v x y in
+    let u : Number c ≡ Number d = z.0 in
+    let g : p ≡ q = z.1 in
+    let h : w ≡ v = z.2 in
+    cc
+unique ks (TNum c p w) (TInput d q v) k x y =
+    let z = same_key ks k (Number c) (Variable d) p q w v x y in
+    let u : Number c ≡ Variable d = z.0 in
+    cc
+unique ks (TNum c p w) (TLet d q v) k x y =
+    let z = same_key ks k (Number c) (Name d) p q w v x y in
+    let u : Number c ≡ Name d = z.0 in
+    cc
+unique ks (TNum c p w) (TNeg e q v) k x y =
+    let z = same_key ks k (Number c) (Opposite y.0) p q w v x y.1 in
+    let u : Number c ≡ Opposite y.0 = z.0 in
+    cc
+unique ks (TNum c p w) (TTwo i e f q v) k x y =
+    let z = same_key ks k (Number c) (Both i y.0 y.1) p q w v x y.2 in
+    let u : Number c ≡ Both i y.0 y.1 = z.0 in
+    cc
+unique ks (TNum c p w) (TPow e m q v) k x y =
+    let z = same_key ks k (Number c) (Raised y.0 m) p q w v x y.1 in
+    let u : Number c ≡ Raised y.0 m = z.0 in
+    cc
+unique ks (TInput c p w) (TNum d q v) k x y =
+    let z = same_key ks k (Variable c) (Number d) p q w v x y in
+    let u : Variable c ≡ Number d = z.0 in
+    cc
+unique ks (TInput c p w) (TInput d q v) k x y =
+    let z = same_key ks k (Variable c) (Variable d) p q w v x y in
+    let u : Variable c ≡ Variable d = z.0 in
+    let g : p ≡ q = z.1 in
+    let h : w ≡ v = z.2 in
+    cc
+unique ks (TInput c p w) (TLet d q v) k x y =
+    let z = same_key ks k (Variable c) (Name d) p q w v x y in
+    let u : Variable c ≡ Name d = z.0 in
+    cc
+unique ks (TInput c p w) (TNeg e q v) k x y =
+    let z = same_key ks k (Variable c) (Opposite y.0) p q w v x y.1 in
+    let u : Variable c ≡ Opposite y.0 = z.0 in
+    cc
+unique ks (TInput c p w) (TTwo i e f q v) k x y =
+    let z = same_key ks k (Variable c) (Both i y.0 y.1) p q w v x y.2 in
+    let u : Variable c ≡ Both i y.0 y.1 = z.0 in
+    cc
+unique ks (TInput c p w) (TPow e m q v) k x y =
+    let z = same_key ks k (Variable c) (Raised y.0 m) p q w v x y.1 in
+    let u : Variable c ≡ Raised y.0 m = z.0 in
+    cc
+unique ks (TLet c p w) (TNum d q v) k x y =
+    let z = same_key ks k (Name c) (Number d) p q w v x y in
+    let u : Name c ≡ Number d = z.0 in
+    cc
+unique ks (TLet c p w) (TInput d q v) k x y =
+    let z = same_key ks k (Name c) (Variable d) p q w v x y in
+    let u : Name c ≡ Variable d = z.0 in
+    cc
+unique ks (TLet c p w) (TLet d q v) k x y =
+    let z = same_key ks k (Name c) (Name d) p q w v x y in
+    let u : Name c ≡ Name d = z.0 in
+    let g : p ≡ q = z.1 in
+    let h : w ≡ v = z.2 in
+    cc
+unique ks (TLet c p w) (TNeg e q v) k x y =
+    let z = same_key ks k (Name c) (Opposite y.0) p q w v x y.1 in
+    let u : Name c ≡ Opposite y.0 = z.0 in
+    cc
+unique ks (TLet c p w) (TTwo i e f q v) k x y =
+    let z = same_key ks k (Name c) (Both i y.0 y.1) p q w v x y.2 in
+    let u : Name c ≡ Both i y.0 y.1 = z.0 in
+    cc
+unique ks (TLet c p w) (TPow e m q v) k x y =
+    let z = same_key ks k (Name c) (Raised y.0 m) p q w v x y.1 in
+    let u : Name c ≡ Raised y.0 m = z.0 in
+    cc
+unique ks (TNeg s p w) (TNum d q v) k x y =
+    let z = same_key ks k (Opposite x.0) (Number d) p q w v x.1 y in
+    let u : Opposite x.0 ≡ Number d = z.0 in
+    cc
+unique ks (TNeg s p w) (TInput d q v) k x y =
+    let z = same_key ks k (Opposite x.0) (Variable d) p q w v x.1 y in
+    let u : Opposite x.0 ≡ Variable d = z.0 in
+    cc
+unique ks (TNeg s p w) (TLet d q v) k x y =
+    let z = same_key ks k (Opposite x.0) (Name d) p q w v x.1 y in
+    let u : Opposite x.0 ≡ Name d = z.0 in
+    cc
+unique ks (TNeg s p w) (TNeg e q v) k x y =
+    let z = same_key ks k (Opposite x.0) (Opposite y.0) p q w v x.1 y.1 in
+    let u : Opposite x.0 ≡ Opposite y.0 = z.0 in
+    let r : x.0 ≡ y.0 = cc in
+    let g : p ≡ q = z.1 in
+    let h : w ≡ v = z.2 in
+    let l : s ≡ e = unique ks s e y.0 (rw r at x.2) y.2 in
+    cc
+unique ks (TNeg s p w) (TTwo i e f q v) k x y =
+    let z = same_key ks k (Opposite x.0) (Both i y.0 y.1) p q w v x.1 y.2 in
+    let u : Opposite x.0 ≡ Both i y.0 y.1 = z.0 in
+    cc
+unique ks (TNeg s p w) (TPow e m q v) k x y =
+    let z = same_key ks k (Opposite x.0) (Raised y.0 m) p q w v x.1 y.1 in
+    let u : Opposite x.0 ≡ Raised y.0 m = z.0 in
+    cc
+unique ks (TTwo o s t p w) (TNum d q v) k x y =
+    let z = same_key ks k (Both o x.0 x.1) (Number d) p q w v x.2 y in
+    let u : Both o x.0 x.1 ≡ Number d = z.0 in
+    cc
+unique ks (TTwo o s t p w) (TInput d q v) k x y =
+    let z = same_key ks k (Both o x.0 x.1) (Variable d) p q w v x.2 y in
+    let u : Both o x.0 x.1 ≡ Variable d = z.0 in
+    cc
+unique ks (TTwo o s t p w) (TLet d q v) k x y =
+    let z = same_key ks k (Both o x.0 x.1) (Name d) p q w v x.2 y in
+    let u : Both o x.0 x.1 ≡ Name d = z.0 in
+    cc
+unique ks (TTwo o s t p w) (TNeg e q v) k x y =
+    let z = same_key ks k (Both o x.0 x.1) (Opposite y.0) p q w v x.2 y.1 in
+    let u : Both o x.0 x.1 ≡ Opposite y.0 = z.0 in
+    cc
+unique ks (TTwo o s t p w) (TTwo i e f q v) k x y =
+    let z = same_key ks k (Both o x.0 x.1) (Both i y.0 y.1) p q w v x.2 y.2 in
+    let u : Both o x.0 x.1 ≡ Both i y.0 y.1 = z.0 in
+    let r : x.0 ≡ y.0 = cc in
+    let b : x.1 ≡ y.1 = cc in
+    let j : o ≡ i = cc in
+    let g : p ≡ q = z.1 in
+    let h : w ≡ v = z.2 in
+    let l : s ≡ e = unique ks s e y.0 (rw r at x.3) y.3 in
+    let a : t ≡ f = unique ks t f y.1 (rw b at x.4) y.4 in
+    cc
+unique ks (TTwo o s t p w) (TPow e m q v) k x y =
+    let z = same_key ks k (Both o x.0 x.1) (Raised y.0 m) p q w v x.2 y.1 in
+    let u : Both o x.0 x.1 ≡ Raised y.0 m = z.0 in
+    cc
+unique ks (TPow s n p w) (TNum d q v) k x y =
+    let z = same_key ks k (Raised x.0 n) (Number d) p q w v x.1 y in
+    let u : Raised x.0 n ≡ Number d = z.0 in
+    cc
+unique ks (TPow s n p w) (TInput d q v) k x y =
+    let z = same_key ks k (Raised x.0 n) (Variable d) p q w v x.1 y in
+    let u : Raised x.0 n ≡ Variable d = z.0 in
+    cc
+unique ks (TPow s n p w) (TLet d q v) k x y =
+    let z = same_key ks k (Raised x.0 n) (Name d) p q w v x.1 y in
+    let u : Raised x.0 n ≡ Name d = z.0 in
+    cc
+unique ks (TPow s n p w) (TNeg e q v) k x y =
+    let z = same_key ks k (Raised x.0 n) (Opposite y.0) p q w v x.1 y.1 in
+    let u : Raised x.0 n ≡ Opposite y.0 = z.0 in
+    cc
+unique ks (TPow s n p w) (TTwo i e f q v) k x y =
+    let z = same_key ks k (Raised x.0 n) (Both i y.0 y.1) p q w v x.1 y.2 in
+    let u : Raised x.0 n ≡ Both i y.0 y.1 = z.0 in
+    cc
+unique ks (TPow s n p w) (TPow e m q v) k x y =
+    let z = same_key ks k (Raised x.0 n) (Raised y.0 m) p q w v x.1 y.1 in
+    let u : Raised x.0 n ≡ Raised y.0 m = z.0 in
+    let r : x.0 ≡ y.0 = cc in
+    let j : n ≡ m = cc in
+    let g : p ≡ q = z.1 in
+    let h : w ≡ v = z.2 in
+    let l : s ≡ e = unique ks s e y.0 (rw r at x.2) y.2 in
+    cc
+
+-- ---- more numbers
+
+pub stands_more : (ks ls : List Key) (t : Typed) (k : ℕ) → Extends ks ls → Stands ks k t → Stands ls k t
+stands_more ks ls (TNum c p w) k e s = e k (key (Number c) p w) s
+stands_more ks ls (TInput v p w) k e s = e k (key (Variable v) p w) s
+stands_more ks ls (TLet j p w) k e s = e k (key (Name j) p w) s
+stands_more ks ls (TNeg t p w) k e s = (s.0, e k (key (Opposite s.0) p w) s.1, stands_more ks ls t s.0 e s.2)
+stands_more ks ls (TTwo o u t p w) k e s = (s.0, s.1, e k (key (Both o s.0 s.1) p w) s.2, stands_more ks ls u s.0 e s.3, stands_more ks ls t s.1 e s.4)
+stands_more ks ls (TPow t n p w) k e s = (s.0, e k (key (Raised s.0 n) p w) s.1, stands_more ks ls t s.0 e s.2)
+
+pub extends_then : (ks ls ms : List Key) → Extends ks ls → Extends ls ms → Extends ks ms
+extends_then ks ls ms a b k x h = b k x (a k x h)
+
+get_front : (ks : List Key) (x : Key) (k : ℕ) (y : Key) → slice_get ks k ≡ Some y → slice_get (ks ++ (x ∷ [])) k ≡ Some y
+get_front [] x k y h = cc
+get_front (z ∷ zs) x zero y h = h
+get_front (z ∷ zs) x (suc k) y h = get_front zs x k y h
+
+get_last : (ks : List Key) (x : Key) → slice_get (ks ++ (x ∷ [])) (length ks) ≡ Some x
+get_last [] x = refl
+get_last (z ∷ zs) x = get_last zs x
+
+pub added_new : (ks ls : List Key) (k : ℕ) (x : Key) → k ≡ length ks → ls ≡ ks ++ (x ∷ []) → Added ks ls k x
+added_new ks ls k x e f = record { there = rw (e, f) (get_last ks x); more = λ j y h. rw f (get_front ks x j y h) }
+
+pub added_there : (ks : List Key) (k : ℕ) (x : Key) → slice_get ks k ≡ Some x → Added ks ks k x
+added_there ks k x h = record { there = h; more = λ j y g. g }
+
+-- ---- trees
+
+pub numbered_num : (ks ls : List Key) (k : ℕ) (t : Typed) (x : Key) (o : KeyOp) (p : Range) (w : Width) → x ≡ key o p w → (slice_get ls k ≡ Some (key o p w) → Stands ls k t) → Added ks ls k x → Numbered ks ls k t
+numbered_num ks ls k t x o p w e f a = record { stands = f (a.there ∙ ap Some e); more = a.more }
+
+pub numbered_neg : (ks ls ms : List Key) (a k : ℕ) (t u : Typed) (x : Key) (p : Range) (w : Width) → u ≡ TNeg t p w → x ≡ key (Opposite a) p w → Numbered ks ls a t → Added ls ms k x → Numbered ks ms k u
+numbered_neg ks ls ms a k t u x p w e f n d = rw e (record {
+  stands = (a, d.there ∙ ap Some f, stands_more ls ms t a d.more n.stands);
+  more = extends_then ks ls ms n.more d.more;
+})
+
+pub numbered_pow : (ks ls ms : List Key) (a k : ℕ) (t u : Typed) (n : ℕ) (x : Key) (p : Range) (w : Width) → u ≡ TPow t n p w → x ≡ key (Raised a n) p w → Numbered ks ls a t → Added ls ms k x → Numbered ks ms k u
+numbered_pow ks ls ms a k t u n x p w e f m d = rw e (record {
+  stands = (a, d.there ∙ ap Some f, stands_more ls ms t a d.more m.stands);
+  more = extends_then ks ls ms m.more d.more;
+})
+
+pub numbered_two : (ks ls ms ns : List Key) (a b k : ℕ) (o : Two) (s t u : Typed) (x : Key) (p : Range) (w : Width) → u ≡ TTwo o s t p w → x ≡ key (Both o a b) p w → Numbered ks ls a s → Numbered ls ms b t → Added ms ns k x → Numbered ks ns k u
+numbered_two ks ls ms ns a b k o s t u x p w e f m n d = rw e (record {
+  stands = (a, b, d.there ∙ ap Some f, stands_more ls ns s a (extends_then ls ms ns n.more d.more) m.stands, stands_more ms ns t b d.more n.stands);
+  more = extends_then ks ls ns m.more (extends_then ls ms ns n.more d.more);
+})
+
+-- ---- several trees
+
+all_more : (ks ls : List Key) (ns : List ℕ) (ts : List Typed) → Extends ks ls → AllStand ks ns ts → AllStand ls ns ts
+all_more ks ls [] [] e a = tt
+all_more ks ls [] (t ∷ ts) e a = a
+all_more ks ls (n ∷ ns) [] e a = a
+all_more ks ls (n ∷ ns) (t ∷ ts) e a = (stands_more ks ls t n e a.0, all_more ks ls ns ts e a.1)
+
+all_last : (ks : List Key) (ns : List ℕ) (ts : List Typed) (n : ℕ) (t : Typed) → AllStand ks ns ts → Stands ks n t → AllStand ks (ns ++ (n ∷ [])) (ts ++ (t ∷ []))
+all_last ks [] [] n t a s = (s, tt)
+all_last ks [] (u ∷ us) n t a s = absurd a
+all_last ks (m ∷ ms) [] n t a s = absurd a
+all_last ks (m ∷ ms) (u ∷ us) n t a s = (a.0, all_last ks ms us n t a.1 s)
+
+-- one tree more
+pub next_stands : (ks ls ms : List Key) (ns os : List ℕ) (ts us : List Typed) (k : ℕ) (t : Typed) → us ≡ ts ++ (t ∷ []) → os ≡ ns ++ (k ∷ []) → ms ≡ ls → Numbered ks ls k t → AllStand ks ns ts → AllStand ms os us
+next_stands ks ls ms ns os ts us k t e f g n a = rw (e, f, g) (all_last ls ns ts k t (all_more ks ls ns ts n.more a) n.stands)
+
+-- the same trees behind one more
+pub stand_behind : (ks ls ms : List Key) (ns os : List ℕ) (ts us : List Typed) (k : ℕ) (t : Typed) → os ≡ ns → us ≡ ts → ms ≡ ls → Numbered ks ls k t → AllStand ks ns ts → AllStand ms os us
+stand_behind ks ls ms ns os ts us k t e f g n a = rw (e, f, g) (all_more ks ls ns ts n.more a)
+
+-- the number of the tree at a place
+pub stands_at : (ks : List Key) (ns : List ℕ) (us : List Fitted) (j : ℕ) (u : Fitted) → AllStand ks ns (map typed us) → j < length us → u ≡ get_or us j u → Stands ks (get_or ns j 0) (typed u)
+stands_at ks [] [] j u a h e = absurd (omega arith)
+stands_at ks [] (v ∷ vs) j u a h e = absurd a
+stands_at ks (m ∷ ms) [] j u a h e = absurd a
+stands_at ks (m ∷ ms) (v ∷ vs) zero u a h e = rw e a.0
+stands_at ks (m ∷ ms) (v ∷ vs) (suc j) u a h e = stands_at ks ms vs j u a.1 (omega arith) e
+
+pub stand_length : (ks : List Key) (ns : List ℕ) (us : List Fitted) → AllStand ks ns (map typed us) → length ns ≡ length us
+stand_length ks [] [] a = refl
+stand_length ks [] (v ∷ vs) a = absurd a
+stand_length ks (m ∷ ms) [] a = absurd a
+stand_length ks (m ∷ ms) (v ∷ vs) a = ap suc (stand_length ks ms vs a.1)
+
+-- ---- operands
+
+pub neg_operand : (ks : List Key) (k : ℕ) (t : Typed) (p : Range) (w : Width) → Stands ks k (TNeg t p w) → Stands ks (operand_or (slice_get ks k)) t
+neg_operand ks k t p w s = rw s.1 s.2
+
+pub pow_operand : (ks : List Key) (k : ℕ) (t : Typed) (n : ℕ) (p : Range) (w : Width) → Stands ks k (TPow t n p w) → Stands ks (operand_or (slice_get ks k)) t
+pow_operand ks k t n p w s = rw s.1 s.2
+
+pub two_operand : (ks : List Key) (k : ℕ) (o : Two) (t u : Typed) (p : Range) (w : Width) → Stands ks k (TTwo o t u p w) → Stands ks (operand_or (slice_get ks k)) t
+two_operand ks k o t u p w s = rw s.2 s.3
+
+pub two_right : (ks : List Key) (k : ℕ) (o : Two) (t u : Typed) (p : Range) (w : Width) → Stands ks k (TTwo o t u p w) → Stands ks (right_or (slice_get ks k)) u
+two_right ks k o t u p w s = rw s.2 s.4
