@@ -6,7 +6,7 @@ use Rattle.std.proofs.lemmas.List.Folds.{Any-from_list_any, list_any-from_Any}
 use Rattle.std.proofs.lemmas.Bool.Decides.{nat_tests}
 use Rattle.std.proofs.lemmas.Bool.{and_parts, true≢false, false_from_ne_true}
 use Rattle.ln_csyn.specs.Tree.{Fun}
-use Rattle.ln_csyn.specs.Meaning.{CCall, CNamed, CMeaning, Signed, called_behind, called_at, runs_behind, is_wanted, same_bool, same_name}
+use Rattle.ln_csyn.specs.Meaning.{CCall, CNamed, CMeaning, called_behind, called_at, runs_behind, is_wanted, same_bool, same_name}
 use Rattle.ln_csyn.specs.Meaning as m
 use Rattle.ln_cmean.specs.declared.calling.CAnswer.{CAnswer}
 use Rattle.ln_cmean.specs.declared.calling.CFault.{CFault}

@@ -6,7 +6,6 @@ ghost use Rattle.ln_csyn.specs.View.{fun_tree, body_tree};
 ghost use Rattle.ln_cmean.specs.Answered.{answered, told, tally, ended as ended_as};
 ghost use Rattle.ln_cmean.specs.Room.{HasRoom, IsNoSmaller, IsSame, MadeFor, most_slots, most_letters, slots_in, letters_in};
 ghost use Rattle.ln_cmean.specs.Slots.{seen};
-ghost use Rattle.ln_cmean.specs.Scene.{scene_of};
 
 use crate::body::{Flow, run};
 use crate::calls::{Calls, NoCalls};

@@ -1,5 +1,5 @@
 //! What the functions of a file need of a scratch.
-ghost use Rattle.std.specs.Prelude.{◌≡◌, ◌+◌, max, length, map, IfOk};
+ghost use Rattle.std.specs.Prelude.{◌≡◌, ◌+◌, max, map, IfOk};
 ghost use Rattle.ln_csyn.specs.Tree.{Body};
 ghost use Rattle.ln_csyn.specs.View.{body_tree, fun_tree, stmt_front};
 ghost use Rattle.ln_cmean.specs.Room.{MadeFor, slots_in, letters_in, most_slots, most_letters};

@@ -1,9 +1,8 @@
 //! The declarations that are visible, in memory that was made beforehand.
-ghost use Rattle.std.specs.Prelude.{◌≡◌, List, [], ◌∷◌, ◌++◌, ◌≤◌, ◌<◌, length, take, drop, min, vec_len, None, Some, IfOk, map, slice_get};
+ghost use Rattle.std.specs.Prelude.{◌≡◌, List, [], ◌∷◌, ◌++◌, ◌≤◌, ◌<◌, length, take, drop, min, vec_len, None, Some, slice_get};
 ghost use Rattle.ln_csyn.specs.Meaning.{find, same_name, number_in};
 ghost use Rattle.ln_csyn.specs.Meaning as m;
-ghost use Rattle.ln_csyn.specs.View.{fun_tree};
-ghost use Rattle.ln_cmean.specs.Room.{HasRoom, IsNoSmaller, MadeFor};
+ghost use Rattle.ln_cmean.specs.Room.{HasRoom, IsNoSmaller};
 ghost use Rattle.ln_cmean.specs.Slots.{seen};
 ghost use Rattle.ln_cmean.specs.Answered.{answered};
 

@@ -1,4 +1,4 @@
-// Files of the subset, read and called.
+//! Files of the subset, read and called.
 use crate::number::{Counts, count, enter};
 use crate::{CAnswer, CFault, CScratch, call};
 use ln_csyn::{CFile, CType, read_c};

@@ -6,7 +6,7 @@ use Rattle.std.proofs.lemmas.Slice.Eq.{bytes_eq-Decides}
 use Rattle.ln_csyn.specs.declared.tree.CType.{CType}
 use Rattle.ln_csyn.specs.Tree.{Expr, Body, Fun}
 use Rattle.ln_csyn.specs.Words.{type_of}
-use Rattle.ln_csyn.specs.Grammar.{Token, Sort, Whole, Primary, Derives, two, minus, cast, number, name, value, index, call, inner, IsExpr, IsBody, end, decl, group, when, return, IsPointer, pointer, IsParameters, one, both, IsHead, head, IsFun, own, shared, IsFile}
+use Rattle.ln_csyn.specs.Grammar.{Token, Sort, Derives, two, minus, cast, number, name, value, index, call, inner, IsBody, end, decl, group, when, return, IsPointer, pointer, IsParameters, one, both, IsHead, head, IsFun, own, shared, IsFile}
 use Rattle.ln_csyn.specs.Grammar as g
 use Rattle.ln_csyn.specs.Reading.{eat, stmt_at, stmts_at, block_at, pointer_at, parameters_at, head_at, fun_at, funs_at}
 use Rattle.ln_csyn.specs.Keeps.{parens, parens_in, braces_in, is_small, keeps_names, keeps_exprs, fun_keeps, each_fun, names_of, distinct}

@@ -11,7 +11,6 @@ pub mod ReadLemmas
 pub mod LinesLemmas
 pub mod KeepLemmas
 pub mod SetLemmas
-pub mod Runs
 pub mod Longest
 pub mod Scanned
 pub mod Loops

@@ -6,7 +6,7 @@ use Rattle.std.proofs.lemmas.Bool.{le-leb}
 use Rattle.ln_csyn.specs.declared.tree.CType.{CType}
 use Rattle.ln_csyn.specs.Tree.{Body, End, Decl, Group, If, Fun}
 use Rattle.ln_csyn.specs.Words.{type_of}
-use Rattle.ln_csyn.specs.Grammar.{Token, Whole, Derives, IsExpr, IsBody, end, decl, group, when, return, IsPointer, pointer, IsParameters, one, both, IsHead, head, IsFun, own, shared, IsFile}
+use Rattle.ln_csyn.specs.Grammar.{Token, IsExpr, IsBody, end, decl, group, when, return, IsPointer, pointer, IsParameters, one, both, IsHead, head, IsFun, own, shared, IsFile}
 use Rattle.ln_csyn.specs.Grammar as g
 use Rattle.ln_csyn.specs.Reading.{eat, type_at, name_at, line_at, expr_at, decl_rest, if_rest, return_rest, group_rest, stmt_at, stmts_at, block_at, pointer_at, both_rest, parameters_at, head_at, fun_at, funs_at, ReadStmt, ReadBlock}
 use Rattle.ln_csyn.specs.Keeps.{parens, parens_in, braces_in, is_small, each_fun}

@@ -14,7 +14,7 @@ use Rattle.ln_csyn.specs.declared.tree.COp.{COp}
 use Rattle.ln_csyn.specs.declared.tree.COp.TheVariants as op
 use Rattle.ln_csyn.specs.Tree.{Expr, Number, Name, Value, Index, Call, Inner, Minus, Two, Body, End, Decl, Group, If, Return, Fun}
 use Rattle.ln_csyn.specs.Words.{is_c_name, is_numeral, number_of, most_number, type_of, op_of}
-use Rattle.ln_csyn.specs.Grammar.{Token, Sort, Whole, Primary, Derives, two, minus, cast, number, name, value, index, call, inner, IsBody, end, decl, group, when, return, IsPointer, pointer, IsParameters, one, both, IsHead, head, IsFun, own, shared, IsFile}
+use Rattle.ln_csyn.specs.Grammar.{Token, Whole, Derives, two, minus, cast, number, name, value, index, call, inner, IsBody, end, decl, group, when, return, pointer, IsParameters, one, both, IsHead, head, IsFun, own, shared, IsFile}
 use Rattle.ln_csyn.specs.Grammar as g
 use Rattle.ln_csyn.specs.Keeps.{each_expr, each_name, each_fun}
 use Rattle.ln_csyn.specs.Text.{has_words, fun_words}

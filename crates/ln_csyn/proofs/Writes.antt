@@ -75,7 +75,7 @@ AllTokens [] = Unit {0}
 AllTokens (t ∷ ts) = (is_token t.text ≡ true) × (t.line ≡ 2) × AllTokens ts
 
 lexes : (ts : List Token) → AllTokens ts → Lexed 2 (written ts) ts
-lexes [] h = none
+lexes [] h = blank refl none
 lexes (t ∷ ts) h =
     let bs : List ℕ = t.text ++ 32 ∷ written ts in
     let d : Lexed 2 (32 ∷ written ts) ts = blank refl (lexes ts h.2) in

@@ -71,9 +71,9 @@ abbrev pub spell_file : List Fun → List Token
 spell_file [] = []
 spell_file (f ∷ fs) = spell_fun f (spell_file fs)
 
--- each token, and a blank behind it
+-- each token, and a blank behind it; a line feed at the end
 abbrev pub written : List Token → List ℕ
-written [] = []
+written [] = 10 ∷ []
 written (t ∷ ts) = t.text ++ 32 ∷ written ts
 
 abbrev pub text_of : List Fun → List ℕ

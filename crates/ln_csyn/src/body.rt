@@ -1,5 +1,5 @@
-// The reader of statements: one function for each function of specs/Reading.antt.
-ghost use Rattle.std.specs.Prelude.{◌≡◌, ◌<◌, suc, None, Some, IfOk, IfErr, Option, option_map, length};
+//! The reader of statements: one function for each function of specs/Reading.antt.
+ghost use Rattle.std.specs.Prelude.{◌≡◌, ◌<◌, suc, None, Some, IfOk, IfErr, length};
 ghost use Rattle.ln_csyn.specs.Seen.{tokens_of};
 ghost use Rattle.ln_csyn.specs.Tree.{Decl};
 ghost use Rattle.ln_csyn.specs.View.{expr_tree, stmt_front, body_tree};

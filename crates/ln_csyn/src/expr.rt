@@ -1,5 +1,5 @@
-// The reader of expressions: one function for each function of specs/Reading.antt.
-ghost use Rattle.std.specs.Prelude.{◌≡◌, suc, None, Some, IfOk, IfErr, Option, option_map};
+//! The reader of expressions: one function for each function of specs/Reading.antt.
+ghost use Rattle.std.specs.Prelude.{◌≡◌, None, Some, IfOk, IfErr, Option, option_map};
 ghost use Rattle.ln_csyn.specs.Seen.{tokens_of};
 ghost use Rattle.ln_csyn.specs.View.{expr_tree};
 ghost use Rattle.ln_csyn.specs.declared.stop.CStop.TheVariants.{NotSubset, NoMemory as OutOfMemory};

@@ -1,4 +1,4 @@
-// The reader of functions: one function for each function of specs/Reading.antt.
+//! The reader of functions: one function for each function of specs/Reading.antt.
 ghost use Rattle.std.specs.Prelude.{◌≡◌, ◌<◌, suc, None, Some, IfOk, IfErr, Option, option_map, length, map};
 ghost use Rattle.ln_csyn.specs.Seen.{tokens_of};
 ghost use Rattle.ln_csyn.specs.View.{fun_tree};

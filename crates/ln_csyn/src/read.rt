@@ -1,4 +1,4 @@
-// The reader of files.
+//! The reader of files.
 ghost use Rattle.std.specs.Prelude.{◌≡◌, ℕ, true, ◌<◌, ◌^◌, ◌++◌, List, IfOk, IfErr, IfSome, IfNone, length, map};
 ghost use Rattle.ln_csyn.specs.Tree.{Fun};
 ghost use Rattle.ln_csyn.specs.Seen.{tokens_of};

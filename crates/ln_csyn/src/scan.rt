@@ -1,9 +1,10 @@
-// The scanner.
-ghost use Rattle.std.specs.Prelude.{◌≡◌, ◌<◌, ◌≤◌, ◌^◌, ◌-◌, ◌+◌, suc, List, IfOk, IfErr, length, take, drop};
+//! The scanner.
+ghost use Rattle.std.specs.Prelude.{◌≡◌, ◌<◌, ◌≤◌, ◌^◌, ◌-◌, ◌+◌, List, IfOk, IfErr, length, take, drop};
 ghost use Rattle.ln_base.specs.Words.{is_digit, is_name_byte};
 ghost use Rattle.ln_csyn.specs.Grammar.{Token as Tok};
 ghost use Rattle.ln_csyn.specs.Seen.{tokens_of};
-ghost use Rattle.ln_csyn.specs.Text.{is_blank, is_sign, is_double, run_len, sign_len, first_len, behind, Lexed};
+ghost use Rattle.ln_csyn.specs.Text.{is_blank, is_sign, is_double, sign_len, first_len, behind, Lexed};
+ghost use Rattle.ln_base.specs.Runs.{run_len};
 ghost use Rattle.ln_csyn.specs.declared.stop.CStop.TheVariants.{NotSubset};
 
 use crate::stop::CStop;

@@ -1,6 +1,6 @@
-// Tokens put to a text, each with a blank behind it. The writer puts a file from its tree with them, and whoever has no tree may put
-// tokens one by one: the contracts say which tokens stand between the old text and the new one.
-ghost use Rattle.std.specs.Prelude.{◌≡◌, ◌∷◌, IfOk, decimal, codes};
+//! Tokens put to a text, each with a blank behind it. The writer puts a file from its tree with them, and whoever has no tree may put
+//! tokens one by one: the contracts say which tokens stand between the old text and the new one.
+ghost use Rattle.std.specs.Prelude.{◌∷◌, IfOk, decimal, codes};
 ghost use Rattle.ln_csyn.specs.Spelling.{Puts, lexeme, type_text, op_text};
 
 use crate::tree::{COp, CType};

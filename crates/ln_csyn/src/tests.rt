@@ -1,4 +1,4 @@
-// Texts that are files, and texts that are none.
+//! Texts that are files, and texts that are none.
 use crate::{CForm, CStmt, CStop, read_c, write_c};
 use std::alloc::Global;
 use std::process::Abort;
@@ -17,7 +17,8 @@ int g(const int64_t *x, const int64_t *v) {
 ";
 
 const WRITTEN: &str = "#include <stdint.h>
-static int f ( const int64_t * v ) { int64_t t = ( ( ( int64_t ) v [ 0 ] ) * ( ( int64_t ) 2 ) ) ; if ( ( ( ( int64_t ) t ) > ( ( int64_t ) 0 ) ) ) { return ( ( int ) 1 ) ; } return ( ( int ) 0 ) ; } int g ( const int64_t * x , const int64_t * v ) { if ( ( ( ( int64_t ) x [ 0 ] ) < ( ( int64_t ) x [ 1 ] ) ) ) { return ( ( int ) f ( v ) ) ; } return ( - ( ( int ) 1 ) ) ; } ";
+static int f ( const int64_t * v ) { int64_t t = ( ( ( int64_t ) v [ 0 ] ) * ( ( int64_t ) 2 ) ) ; if ( ( ( ( int64_t ) t ) > ( ( int64_t ) 0 ) ) ) { return ( ( int ) 1 ) ; } return ( ( int ) 0 ) ; } int g ( const int64_t * x , const int64_t * v ) { if ( ( ( ( int64_t ) x [ 0 ] ) < ( ( int64_t ) x [ 1 ] ) ) ) { return ( ( int ) f ( v ) ) ; } return ( - ( ( int ) 1 ) ) ; } 
+";
 
 const FIRST: &str = "#include <stdint.h>\n";
 

@@ -1,8 +1,7 @@
-// Tokens of the C subset, and what stands at the front of a list of them.
+//! Tokens of the C subset, and what stands at the front of a list of them.
 ghost use Rattle.std.specs.Prelude.{◌≡◌, ◌≤◌, Option, option_map, length, drop};
 ghost use Rattle.ln_csyn.specs.Seen.{tokens_of};
 ghost use Rattle.ln_csyn.specs.Reading.{begins, eat, type_at, op_at, name_at, number_at, line_at};
-ghost use Rattle.ln_csyn.specs.Words.{op_of, type_of};
 
 use crate::tree::{COp, CType};
 use crate::word::{c_name, number, operation, type_word};

@@ -1,6 +1,6 @@
-// Words, numbers and operators by their text.
-ghost use Rattle.std.specs.Prelude.{◌≡◌, ◌-◌, ◌&&◌, ◌==◌, not, ◌<◌, ◌^◌, map};
-ghost use Rattle.ln_base.specs.Words.{is_digit, is_letter, is_name_byte, is_word, is_keyword, is_name, every};
+//! Words, numbers and operators by their text.
+ghost use Rattle.std.specs.Prelude.{◌≡◌, ◌-◌, ◌&&◌, ◌==◌, ◌<◌, map};
+ghost use Rattle.ln_base.specs.Words.{is_digit, is_letter, is_name_byte, is_word, is_keyword, every};
 ghost use Rattle.ln_csyn.specs.Words.{among, reserved, is_c_name, is_numeral, number_of, type_of, op_of};
 
 use crate::tree::{COp, CType};

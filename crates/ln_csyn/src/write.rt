@@ -1,9 +1,9 @@
-// The writer: each token of a file, and a blank behind it.
-ghost use Rattle.std.specs.Prelude.{◌≡◌, true, false, ◌++◌, [], ◌∷◌, IfOk, OnOk, List, decimal, codes, map};
+//! The writer: each token of a file, and a blank behind it.
+ghost use Rattle.std.specs.Prelude.{◌≡◌, true, false, ◌++◌, ◌∷◌, IfOk, List, codes, map};
 ghost use Rattle.ln_csyn.specs.View.{expr_tree, stmt_front, body_tree, fun_tree};
 ghost use Rattle.ln_csyn.specs.Tree.{Body, Fun, Two, Minus, Number, Name, Value, Index, Call, Inner};
-ghost use Rattle.ln_csyn.specs.Spelling.{Puts, lexeme, type_text, op_text, cast_before, place_before, spell, Goes, spell_body, spell_pointer, spell_parameters, spell_own, spell_fun, spell_file, written, text_of, flat_file};
-ghost use Rattle.ln_csyn.specs.Text.{CText, first_line};
+ghost use Rattle.ln_csyn.specs.Spelling.{Puts, lexeme, type_text, op_text, cast_before, place_before, spell, Goes, spell_body, spell_parameters, spell_own, spell_fun, spell_file, written, flat_file};
+ghost use Rattle.ln_csyn.specs.Text.{CText};
 ghost use Rattle.ln_csyn.specs.Lines.{SameUpToLines};
 
 use crate::read::CFile;
@@ -16,8 +16,8 @@ use crate::tree::{CExpr, CForm, CFun, COp, CPrim, CStmt, CType};
 use ln_base::NoMemory;
 use std::alloc::Global;
 
-/// A text of the file: the first line, and behind it all tokens on one line, a blank behind each. Its file is f with all lines at 2, so
-/// whatever file is read of it is f up to lines.
+/// A text of the file: the first line, and behind it all tokens on one line, a blank behind each, and a line feed. Its file is f with all
+/// lines at 2, so whatever file is read of it is f up to lines.
 pub fn write_c(alloc: Global, f: &CFile) -> Result<Vec<u8>, NoMemory>
     ensures text { IfOk result (λ v. CText v.items (flat_file (map fun_tree f.now.funs))) }
     ensures back { IfOk result (λ v. (gs : List Fun) → CText v.items gs → SameUpToLines gs (map fun_tree f.now.funs)) }
@@ -34,6 +34,7 @@ fn put_funs(out: &mut Vec<u8>, funs: &[CFun]) -> Result<(), NoMemory>
     'funs: for f in funs {
         put_fun(out, f)?;
     }
+    out.push(b'\n')?;
     Ok(())
 }
 

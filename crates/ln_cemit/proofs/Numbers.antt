@@ -1,0 +1,77 @@
+-- Numbers, and the types that have them.
+use Rattle.std.proofs.Common.{◌≡◌, ℕ, zero, suc, ◌+◌, ◌^◌, ◌<◌, ◌≤◌, true, false, refl, ap, ◌∙◌, arith}
+use Rattle.std.specs.Prelude.{nat_lt, ℤ, pos, negsuc, unsigned_abs}
+use Rattle.std.proofs.lemmas.Bool.{leb-true, le-leb}
+use Rattle.std.proofs.lemmas.Bool.Decides.{nat_tests}
+use Rattle.ln_bound.specs.declared.fitted.Width.{Width}
+use Rattle.ln_bound.specs.declared.fitted.Width.TheVariants.{W64, W128}
+use Rattle.ln_bound.specs.Widths.{limit, wider, no_wider}
+use Rattle.ln_code.specs.Numbers.{fits}
+use Rattle.ln_csyn.specs.declared.tree.CType.{CType}
+use Rattle.ln_csyn.specs.Meaning.{Counts, has, given, is_same, counted, next, Gives}
+use Rattle.ln_cemit.specs.Emit.{type_of, wide_at}
+use Rattle.ln_cemit.specs.Checked.{ups, plus}
+
+pub lt_true : (a b : ℕ) → a < b → nat_lt a b ≡ true
+lt_true a b h = grind (arith, nat_tests)
+
+pub lt_false : (a b : ℕ) → b ≤ a → nat_lt a b ≡ false
+lt_false a b h = grind (arith, nat_tests)
+
+pub lt_from : (a b : ℕ) → nat_lt a b ≡ true → a < b
+lt_from a b h = grind (arith, nat_tests)
+
+pub lt_not : (a b : ℕ) → nat_lt a b ≡ false → b ≤ a
+lt_not a b h = grind (arith, nat_tests)
+
+-- what fits is at most the limit
+pub within : (w : Width) (x : ℤ) → fits w x ≡ true → unsigned_abs x ≤ limit w
+within w x h = leb-true (unsigned_abs x) (limit w) h
+
+pub fits_from : (w : Width) (x : ℤ) → unsigned_abs x ≤ limit w → fits w x ≡ true
+fits_from w x h = le-leb (unsigned_abs x) (limit w) h
+
+pub room : (w : Width) (x : ℤ) → unsigned_abs x ≤ limit w → has (type_of w) x ≡ true
+room W64 (pos n) h = lt_true n (2 ^ 63) (omega arith)
+room W64 (negsuc n) h = lt_true n (2 ^ 63) (omega arith)
+room W128 (pos n) h = lt_true n (2 ^ 127) (omega arith)
+room W128 (negsuc n) h = lt_true n (2 ^ 127) (omega arith)
+
+pub larger : (u w : Width) → no_wider u w ≡ true → limit u ≤ limit w
+larger W64 W64 h = omega arith
+larger W64 W128 h = omega arith
+larger W128 W128 h = omega arith
+larger W128 W64 h = cc
+
+pub wider_than : (u w : Width) → no_wider u (wider u w) ≡ true
+wider_than W64 w = refl
+wider_than W128 w = refl
+
+pub no_wider_self : (w : Width) → no_wider w w ≡ true
+no_wider_self W64 = refl
+no_wider_self W128 = refl
+
+-- along an equation
+pub moved : (u v w : Width) → u ≡ v → no_wider v w ≡ true → no_wider u w ≡ true
+moved u v w e h = rw e h
+
+pub same_type : (w : Width) → is_same (type_of w) (type_of w) ≡ true
+same_type W64 = refl
+same_type W128 = refl
+
+pub ups_add : (m n w : ℕ) → ups (m + n) w ≡ ups n (ups m w)
+ups_add m zero w = let e : m + 0 ≡ m = omega arith in ap (λ i. ups i w) e
+ups_add m (suc n) w = let e : m + suc n ≡ suc (m + n) = omega arith in ap (λ i. ups i w) e ∙ ap next (ups_add m n w)
+
+pub plus_add : (m n : ℕ) (k : Counts) → plus (m + n) k ≡ plus n (plus m k)
+plus_add m n k = ap (λ (v : ℕ). record { wide = v; calls = k.calls }) (ups_add m n k.wide)
+
+pub counted_is : (w : Width) (k : Counts) → counted (type_of w) k ≡ plus (wide_at w) k
+counted_is W64 k = refl
+counted_is W128 k = refl
+
+pub given_is : (t : CType) (x : ℤ) (k : Counts) → has t x ≡ true → given t x k ≡ Gives t x k
+given_is t x k h = rw h
+
+pub cast_is : (w : Width) (x : ℤ) (k : Counts) → unsigned_abs x ≤ limit w → given (type_of w) x k ≡ Gives (type_of w) x k
+cast_is w x k h = given_is (type_of w) x k (room w x h)

@@ -1,0 +1,171 @@
+-- The names of functions: they are NAMEs, begin with l, and differ.
+use Rattle.std.proofs.Common.{◌≡◌, ◌≢◌, ℕ, zero, suc, ◌+◌, ◌<◌, ◌≤◌, ◌^◌, ◌==◌, ◌||◌, Bool, true, false, List, [], ◌∷◌, ◌++◌, length, length-append, refl, sym, ap, ◌∙◌, subst, arith}
+use Rattle.std.specs.Prelude.{Option, Some, None, decimal, bytes_eq, if◌then◌else◌}
+use Rattle.std.specs.List.{list_all}
+use Rattle.std.specs.Char.{is_ascii_digit}
+use Rattle.std.proofs.lemmas.Bool.{and_parts, eqb-true}
+use Rattle.std.proofs.lemmas.Bool.Decides.{nat_tests}
+use Rattle.std.proofs.lemmas.Fmt.{decimal_injective}
+use Rattle.std.proofs.lemmas.Slice.Eq.{bytes_eq-Decides}
+use Rattle.ln_base.proofs.DecimalLemmas.{text_is_digits}
+use Rattle.ln_base.specs.Words.{is_digit, is_letter, is_name, is_name_byte, is_word, every}
+use Rattle.ln_code.specs.Part.{FilterCode}
+use Rattle.ln_csyn.specs.Tree.{Body, Fun}
+use Rattle.ln_csyn.specs.Words.{among, is_c_name}
+use Rattle.ln_csyn.specs.Keeps.{distinct, is_own, names_of}
+use Rattle.ln_cemit.specs.File.{AreAway, one_funs}
+use Rattle.ln_cemit.specs.Names.{all_begin, begins_with_l, block_name, call_name, filter_name, answer_name}
+use Rattle.ln_cemit.specs.Whole.{numbered}
+
+-- ---- bytes
+every_more : (p : ℕ → Bool) (xs ys : List ℕ) → every p xs ≡ true → every p ys ≡ true → every p (xs ++ ys) ≡ true
+every_more p [] ys h k = k
+every_more p (x ∷ xs) ys h k = let r = and_parts (p x) (every p xs) h in rw (r.0, every_more p xs ys r.1 k) refl
+
+-- all bytes of a name may stand in a name
+pub name_passes : (x : List ℕ) → is_name x ≡ true → every is_name_byte x ≡ true
+name_passes [] h = refl
+name_passes (b ∷ bs) h =
+    let w = and_parts (is_word (b ∷ bs)) _ h in
+    let l = and_parts (is_letter b) (every is_name_byte bs) w.0 in
+    rw (l.0, l.1) refl
+
+digits_pass : (ds : List ℕ) → list_all is_ascii_digit ds ≡ true → every is_digit ds ≡ true
+digits_pass [] h = refl
+digits_pass (d ∷ ds) h =
+    let p = and_parts (is_ascii_digit d) (list_all is_ascii_digit ds) h in
+    let a : is_ascii_digit d ≡ true = p.0 in
+    let b : is_digit d ≡ true = grind (arith, nat_tests) in
+    rw (b, digits_pass ds p.1) refl
+
+or_right : (u v : Bool) → v ≡ true → (u || v) ≡ true
+or_right true v h = refl
+or_right false v h = h
+
+digit_names : (ds : List ℕ) → every is_digit ds ≡ true → every is_name_byte ds ≡ true
+digit_names [] h = refl
+digit_names (d ∷ ds) h = let p = and_parts (is_digit d) (every is_digit ds) h in rw (or_right (is_letter d) (is_digit d) p.0, digit_names ds p.1) refl
+
+pub number_digits : (n : ℕ) → n ≤ 2 ^ 63 → every is_digit (decimal n) ≡ true
+number_digits n h = digits_pass (decimal n) (and_parts (list_all is_ascii_digit (decimal n)) _ (text_is_digits n (omega (arith, h)))).0
+
+-- ---- NAMEs
+filter_c_name : (x : List ℕ) → every is_name_byte x ≡ true → is_c_name (filter_name x) ≡ true
+filter_c_name x h = rw h refl
+
+pub call_c_name : (x : List ℕ) → every is_name_byte x ≡ true → is_c_name (call_name x) ≡ true
+call_c_name x h = rw h refl
+
+block_c_name : (x : List ℕ) (b : ℕ) → b ≤ 2 ^ 63 → every is_name_byte x ≡ true → is_c_name (block_name x b) ≡ true
+block_c_name x b l h = word (decimal b ++ 95 ∷ x) (every_more is_name_byte (decimal b) (95 ∷ x) (digit_names (decimal b) (number_digits b l)) h) where
+  word : (ds : List ℕ) → every is_name_byte ds ≡ true → is_c_name (108 ∷ 98 ∷ ds) ≡ true
+  word ds e = rw e refl
+
+pub numbered_c_name : (x : List ℕ) (f : Option FilterCode) (b : ℕ) → b ≤ 2 ^ 63 → every is_name_byte x ≡ true → is_c_name (numbered x f b) ≡ true
+numbered_c_name x None b l h = block_c_name x b l h
+numbered_c_name x (Some f) zero l h = filter_c_name x h
+numbered_c_name x (Some f) (suc b) l h = block_c_name x b (omega (arith, l)) h
+
+pub numbered_own : (x : List ℕ) (f : Option FilterCode) (b : ℕ) → is_own (numbered x f b) ≡ true
+numbered_own x None b = refl
+numbered_own x (Some f) zero = refl
+numbered_own x (Some f) (suc b) = refl
+
+pub numbered_begins : (x : List ℕ) (f : Option FilterCode) (b : ℕ) → begins_with_l (numbered x f b) ≡ true
+numbered_begins x None b = refl
+numbered_begins x (Some f) zero = refl
+numbered_begins x (Some f) (suc b) = refl
+
+-- the name of the one declaration is free
+pub sign_apart : (names : List (List ℕ)) → all_begin names ≡ true → among names answer_name ≡ false
+sign_apart [] h = refl
+sign_apart ([] ∷ xs) h = cc
+sign_apart ((b ∷ bs) ∷ xs) h =
+    let p = and_parts (b == 108) (all_begin xs) h in
+    let e : b ≡ 108 = eqb-true b 108 p.0 in
+    let f : bytes_eq answer_name (b ∷ bs) ≡ false = subst (λ (c : ℕ). bytes_eq answer_name (c ∷ bs) ≡ false) (sym e) refl in
+    rw (f, sign_apart xs p.1) refl
+
+-- ---- what stands behind the first underscore
+abbrev pub family : List ℕ → List ℕ
+family [] = []
+family (b ∷ bs) = if b == 95 then bs else family bs
+
+family_past : (ds x : List ℕ) → every is_digit ds ≡ true → family (ds ++ 95 ∷ x) ≡ x
+family_past [] x h = refl
+family_past (d ∷ ds) x h =
+    let p = and_parts (is_digit d) (every is_digit ds) h in
+    let a : is_digit d ≡ true = p.0 in
+    let e : (d == 95) ≡ false = other d a in
+    rw (e, family_past ds x p.1) refl
+  where
+    other : (d : ℕ) → is_digit d ≡ true → (d == 95) ≡ false
+    other d h = grind (arith, nat_tests)
+
+pub numbered_family : (x : List ℕ) (f : Option FilterCode) (b : ℕ) → b ≤ 2 ^ 63 → family (numbered x f b) ≡ x
+numbered_family x None b l = family_past (decimal b) x (number_digits b l)
+numbered_family x (Some f) zero l = refl
+numbered_family x (Some f) (suc b) l = family_past (decimal b) x (number_digits b (omega (arith, l)))
+
+pub call_family : (x : List ℕ) → family (call_name x) ≡ x
+call_family x = refl
+
+-- ---- they differ
+same_front : (xs ys t : List ℕ) → xs ++ t ≡ ys ++ t → xs ≡ ys
+same_front [] [] t e = refl
+same_front [] (y ∷ ys) t e = let q = ap length e ∙ length-append (y ∷ ys) t in absurd (omega (arith, q))
+same_front (x ∷ xs) [] t e = let q = sym (length-append (x ∷ xs) t) ∙ ap length e in absurd (omega (arith, q))
+same_front (x ∷ xs) (y ∷ ys) t e =
+    let h : x ≡ y = cc in
+    let q : xs ++ t ≡ ys ++ t = cc in
+    let r : xs ≡ ys = same_front xs ys t q in cc
+
+tail_same : (a b : ℕ) (xs ys : List ℕ) → a ∷ b ∷ xs ≡ a ∷ b ∷ ys → xs ≡ ys
+tail_same a b xs ys e = cc
+
+block_differs : (x : List ℕ) (i j : ℕ) → i ≤ 2 ^ 63 → j ≤ 2 ^ 63 → block_name x i ≡ block_name x j → i ≡ j
+block_differs x i j l m e = decimal_injective i j (omega (arith, l)) (omega (arith, m)) (same_front (decimal i) (decimal j) (95 ∷ x) (tail_same 108 98 _ _ e))
+
+-- the second byte
+abbrev second : List ℕ → ℕ
+second [] = 0
+second (a ∷ []) = 0
+second (a ∷ b ∷ bs) = b
+
+pub numbered_differ : (x : List ℕ) (f : Option FilterCode) (i j : ℕ) → i ≤ 2 ^ 63 → j ≤ 2 ^ 63 → numbered x f i ≡ numbered x f j → i ≡ j
+numbered_differ x None i j l m e = block_differs x i j l m e
+numbered_differ x (Some f) zero zero l m e = refl
+numbered_differ x (Some f) zero (suc j) l m e = let q : 102 ≡ 98 = ap second e in absurd (omega (arith, q))
+numbered_differ x (Some f) (suc i) zero l m e = let q : 98 ≡ 102 = ap second e in absurd (omega (arith, q))
+numbered_differ x (Some f) (suc i) (suc j) l m e = ap suc (block_differs x i j (omega (arith, l)) (omega (arith, m)) e)
+
+pub numbered_no_call : (x : List ℕ) (f : Option FilterCode) (b : ℕ) → numbered x f b ≢ call_name x
+numbered_no_call x None b e = let q : 98 ≡ 110 = ap second e in absurd (omega (arith, q))
+numbered_no_call x (Some f) zero e = let q : 102 ≡ 110 = ap second e in absurd (omega (arith, q))
+numbered_no_call x (Some f) (suc b) e = let q : 98 ≡ 110 = ap second e in absurd (omega (arith, q))
+
+-- ---- lists of functions
+other : (x y : List ℕ) → (y ≢ x) → bytes_eq x y ≡ false
+other x y h = by_case (bytes_eq x y) refl where
+  by_case : (v : Bool) → bytes_eq x y ≡ v → v ≡ false
+  by_case true e = absurd (h (sym ((bytes_eq-Decides x y).0 e)))
+  by_case false e = refl
+
+pub away_among : (fs : List Fun) (x : List ℕ) → AreAway fs x → among (names_of fs) x ≡ false
+away_among [] x h = refl
+away_among (f ∷ fs) x h = rw (other x f.name h.0, away_among fs x h.1) refl
+
+pub away_more : (fs gs : List Fun) (x : List ℕ) → AreAway fs x → AreAway gs x → AreAway (fs ++ gs) x
+away_more [] gs x h k = k
+away_more (f ∷ fs) gs x h k = (h.0, away_more fs gs x h.1 k)
+
+pub away_one : (name : ℕ → List ℕ) (i : ℕ) (bodies : List Body) (x : List ℕ) → ((j : ℕ) → i ≤ j → j < i + length bodies → name j ≢ x) → AreAway (one_funs name i bodies) x
+away_one name i [] x h = tt
+away_one name i (b ∷ bs) x h = (h i (omega arith) (omega arith), away_one name (suc i) bs x (λ j l m. h j (omega (arith, l)) (omega (arith, m))))
+
+pub distinct_one : (name : ℕ → List ℕ) (i top : ℕ) (bodies : List Body) (rest : List Fun) → i + length bodies ≤ top → ((j k : ℕ) → j < top → k < top → name j ≡ name k → j ≡ k) → ((j : ℕ) → j < top → AreAway rest (name j)) → distinct (names_of rest) ≡ true → distinct (names_of (one_funs name i bodies ++ rest)) ≡ true
+distinct_one name i top [] rest l differ away h = h
+distinct_one name i top (b ∷ bs) rest l differ away h =
+    let later : AreAway (one_funs name (suc i) bs) (name i) = away_one name (suc i) bs (name i) (λ j m n e. omega (arith, differ j i (omega (arith, n, l)) (omega (arith, l)) e, m)) in
+    let here : AreAway (one_funs name (suc i) bs ++ rest) (name i) = away_more (one_funs name (suc i) bs) rest (name i) later (away i (omega (arith, l))) in
+    rw (away_among (one_funs name (suc i) bs ++ rest) (name i) here, distinct_one name (suc i) top bs rest (omega (arith, l)) differ away h) refl

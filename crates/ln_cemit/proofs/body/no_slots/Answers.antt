@@ -1,0 +1,6 @@
+-- Answers to the goals of `no_slots` in src/body.rt.
+use Rattle.ln_cemit.proofs.Loops.{none_unset}
+use Rattle.ln_cemit.proofs.body.no_slots.Goals as goal
+
+pub returns-clause-none : goal.returns-clause-none
+returns-clause-none c = none_unset 256

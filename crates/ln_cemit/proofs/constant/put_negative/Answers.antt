@@ -1,0 +1,6 @@
+-- Answers to the goals of `put_negative` in src/constant.rt.
+use Rattle.ln_csyn.proofs.PutLemmas.{puts_then}
+use Rattle.ln_cemit.proofs.constant.put_negative.Goals as goal
+
+pub returns : goal.returns
+returns c = puts_then c.in_ok-left.ensures (puts_then c.in_ok-dash.ensures (puts_then c.in_ok-put_natural.ensures c.in_ok-right.ensures))

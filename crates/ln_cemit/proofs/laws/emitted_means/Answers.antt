@@ -1,0 +1,6 @@
+-- Answers to the goals of `emitted_means` in src/laws.rt.
+use Rattle.ln_cemit.proofs.Blocks.{emitted_means}
+use Rattle.ln_cemit.proofs.laws.emitted_means.Goals as goal
+
+pub returns : goal.returns
+returns c = emitted_means

@@ -1,0 +1,6 @@
+-- Answers to the goals of `put_both_decl` in src/put.rt.
+use Rattle.ln_csyn.proofs.PutLemmas.{puts_then}
+use Rattle.ln_cemit.proofs.put.put_both_decl.Goals as goal
+
+pub returns : goal.returns
+returns c = puts_then c.in_ok-put_width.ensures (puts_then c.in_ok-put_decl_name.ensures (puts_then c.in_ok-equals.ensures (puts_then c.in_ok-put_both.ensures c.in_ok-semi.ensures)))

@@ -1,0 +1,6 @@
+-- Answers to the goals of `file_means` in src/two.rt.
+use Rattle.ln_cemit.proofs.Files.{file-means}
+use Rattle.ln_cemit.proofs.two.file_means.Goals as goal
+
+pub returns : goal.returns
+returns c = file-means

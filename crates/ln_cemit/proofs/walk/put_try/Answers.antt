@@ -1,0 +1,8 @@
+-- Answers to the goals of `put_try` in src/walk.rt.
+use Rattle.ln_csyn.proofs.PutLemmas.{goes_group, puts_then}
+use Rattle.ln_cemit.specs.Names.{answer_name}
+use Rattle.ln_cemit.specs.Walked.{attempt}
+use Rattle.ln_cemit.proofs.walk.put_try.Goals as goal
+
+pub returns : goal.returns
+returns c = goes_group 2 (attempt answer_name c.args.title.now) (puts_then c.in_ok-brace_left.ensures (puts_then c.in_ok-put_attempt.ensures c.in_ok-brace_right.ensures))

@@ -1,0 +1,33 @@
+-- The names of the emitted file. Functions begin with l: `lf_NAME` is the filter of a predicate, `lb0_NAME`, `lb1_NAME`, .. its blocks, `ln_NAME` the function that is called from outside. Declarations begin with n, with which no keyword begins.
+use Rattle.std.specs.Prelude.{◌≡◌, ℕ, ◌≤◌, ◌^◌, ◌==◌, ◌&&◌, Bool, true, false, List, [], ◌∷◌, ◌++◌, codes, decimal}
+use Rattle.ln_cemit.specs.Checked.{AreNames}
+use Rattle.ln_cemit.specs.Conditions.{AreFree}
+
+-- a declaration by its number
+abbrev pub decl_name : ℕ → List ℕ
+decl_name n = 110 ∷ decimal n
+
+-- the one declaration of the function with two parameters
+abbrev pub answer_name : List ℕ
+answer_name = codes "answer"
+
+abbrev pub filter_name : List ℕ → List ℕ
+filter_name x = 108 ∷ 102 ∷ 95 ∷ x
+
+abbrev pub block_name : List ℕ → ℕ → List ℕ
+block_name x b = 108 ∷ 98 ∷ (decimal b ++ 95 ∷ x)
+
+abbrev pub call_name : List ℕ → List ℕ
+call_name x = 108 ∷ 110 ∷ 95 ∷ x
+
+abbrev pub begins_with_l : List ℕ → Bool
+begins_with_l [] = false
+begins_with_l (b ∷ bs) = b == 108
+
+abbrev pub all_begin : List (List ℕ) → Bool
+all_begin [] = true
+all_begin (x ∷ xs) = begins_with_l x && all_begin xs
+
+-- they serve for a block of at most so many operations
+abbrev pub NamesServe : Type 0
+NamesServe = (names : List (List ℕ)) (top : ℕ) → top ≤ 2 ^ 63 → all_begin names ≡ true → AreNames decl_name top × AreFree names decl_name top

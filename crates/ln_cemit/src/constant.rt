@@ -1,0 +1,87 @@
+//! Constants.
+ghost use Rattle.std.specs.Prelude.{◌≡◌, ◌∷◌, true, IfOk, codes};
+ghost use Rattle.ln_csyn.specs.Spelling.{Puts, lexeme, spell};
+ghost use Rattle.ln_csyn.specs.Tree.{Inner};
+ghost use Rattle.ln_code.specs.Numbers.{cut_by};
+ghost use Rattle.ln_cemit.specs.Emit.{constant, in_parts, natural};
+ghost use Rattle.ln_cemit.specs.Puts.{parts_fit};
+
+use ln_base::NoMemory;
+use ln_csyn::spell::{dash, left, put_op, right};
+use ln_csyn::write::{put_cast, put_constant};
+use ln_csyn::{COp, CType};
+
+// A number in parts below 2^31: k of them and one more.
+fn put_parts(out: &mut Vec<u8>, k: u8, n: u128) -> Result<(), NoMemory>
+    requires { parts_fit k n ≡ true }
+    ensures { IfOk result (λ z. Puts out.old.items out.new.items (spell (in_parts k n))) }
+{
+    if k == 0 {
+        return put_constant(out, CType::Int128, n as u64);
+    }
+    left(out)?;
+    left(out)?;
+    put_parts(out, k - 1, n / 2147483648)?;
+    put_op(out, COp::Mul)?;
+    put_constant(out, CType::Int128, 2147483648)?;
+    right(out)?;
+    put_op(out, COp::Add)?;
+    put_constant(out, CType::Int128, (n % 2147483648) as u64)?;
+    right(out)?;
+    Ok(())
+}
+
+// A number from 0 up: as it is below 2^63, else in parts.
+fn put_natural(out: &mut Vec<u8>, n: u128) -> Result<(), NoMemory>
+    ensures { IfOk result (λ z. Puts out.old.items out.new.items (spell (natural n))) }
+{
+    if n < 9223372036854775808 {
+        put_constant(out, CType::Int64, n as u64)
+    } else {
+        put_parts(out, 4, n)
+    }
+}
+
+fn put_negative(out: &mut Vec<u8>, size: u128) -> Result<(), NoMemory>
+    ensures { IfOk result (λ x. Puts out.old.items out.new.items (λ r. lexeme (codes "(") ∷ lexeme (codes "-") ∷ spell (natural size) (lexeme (codes ")") ∷ r))) }
+{
+    left(out)?;
+    dash(out)?;
+    put_natural(out, size)?;
+    right(out)?;
+    Ok(())
+}
+
+fn put_whole(out: &mut Vec<u8>, z: i128) -> Result<(), NoMemory>
+    ensures { IfOk result (λ x. Puts out.old.items out.new.items (spell (constant z))) }
+{
+    if z < 0 {
+        put_negative(out, z.unsigned_abs())
+    } else {
+        put_natural(out, z.unsigned_abs())
+    }
+}
+
+/// Puts a whole number, cast to the type.
+pub(crate) fn put_inner(out: &mut Vec<u8>, kind: CType, z: i128) -> Result<(), NoMemory>
+    ensures { IfOk result (λ x. Puts out.old.items out.new.items (spell (Inner kind (constant z)))) }
+{
+    put_cast(out, kind)?;
+    put_whole(out, z)?;
+    right(out)?;
+    Ok(())
+}
+
+// z divided by 2^n, towards 0.
+pub(crate) fn cut(z: i128, n: u8) -> i128
+    ensures { result ≡ cut_by n z }
+{
+    if n == 0 {
+        return z;
+    }
+    if n >= 128 {
+        return 0;
+    }
+    let size = (z.unsigned_abs() >> n) as i128;
+    if z < 0 { -size } else { size }
+}

@@ -1,0 +1,189 @@
+//! The whole file.
+ghost use Rattle.std.specs.Prelude.{◌≡◌, ◌≤◌, ◌++◌, ◌∷◌, [], true, IfOk, codes, map};
+ghost use Rattle.std.specs.List.{range_with_len};
+ghost use Rattle.ln_csyn.specs.Spelling.{Puts, Goes, lexeme, spell_body, spell_parameters, spell_file, spell_fun, text_of, written};
+ghost use Rattle.ln_csyn.specs.Tree.{Body, Group};
+ghost use Rattle.ln_code.specs.Kept.{IsProgram};
+ghost use Rattle.ln_code.specs.Lists.{segment_of};
+ghost use Rattle.ln_cemit.specs.Emitted.{AreKept, IsEmitted};
+ghost use Rattle.ln_cemit.specs.File.{one_fun, one_funs, two_fun};
+ghost use Rattle.ln_cemit.specs.Names.{answer_name, block_name, call_name, filter_name};
+ghost use Rattle.ln_cemit.specs.Puts.{PutsFuns, filter_funs, filter_tried, spell_funs};
+ghost use Rattle.ln_cemit.specs.Walked.{attempt, walked};
+ghost use Rattle.ln_cemit.specs.Whole.{block_body, call_body, file_of, filter_body, part_name};
+
+use crate::body::{put_block_fun, put_filter_fun, put_may_touch_index, put_two_head};
+use crate::title::{block_title, call_title, filter_title};
+use crate::walk::{name_of, put_try, put_walked};
+use ln_base::NoMemory;
+use ln_code::{Block, FilterBlock, Program, Programs};
+use ln_csyn::spell::{brace_left, brace_right};
+use ln_order::{Order, all_orders};
+use std::alloc::Global;
+
+fn put_numbered_block(
+    alloc: Global,
+    out: &mut Vec<u8>,
+    name: &[u8],
+    number: usize,
+    block: &Block,
+) -> Result<(), NoMemory>
+    ensures { IfOk result (λ x. Puts out.old.items out.new.items (spell_fun (one_fun (block_name name.now number) (block_body block.now)))) }
+{
+    let title = block_title(alloc, name, number)?;
+    put_block_fun(alloc, out, title.as_slice(), block)
+}
+
+// The functions of the blocks, by number.
+fn put_blocks(
+    alloc: Global,
+    out: &mut Vec<u8>,
+    name: &[u8],
+    blocks: &[Block],
+) -> Result<(), NoMemory>
+    ensures { IfOk result (λ x. Puts out.old.items out.new.items (spell_funs (one_funs (block_name name.now) 0 (map block_body blocks.now)))) }
+{
+    'all: for (number, block) in blocks.iter().enumerate() {
+        put_numbered_block(alloc, out, name, number, block)?;
+    }
+    Ok(())
+}
+
+fn put_filter(
+    alloc: Global,
+    out: &mut Vec<u8>,
+    name: &[u8],
+    filter: &FilterBlock,
+) -> Result<(), NoMemory>
+    ensures { IfOk result (λ x. Puts out.old.items out.new.items (spell_fun (one_fun (filter_name name.now) (filter_body filter.now)))) }
+{
+    let title = filter_title(alloc, name)?;
+    put_filter_fun(alloc, out, title.as_slice(), filter)
+}
+
+// The function of the filter, if there is one.
+fn put_filter_of(alloc: Global, out: &mut Vec<u8>, p: &Program) -> Result<(), NoMemory>
+    ensures put { IfOk result (λ x. Puts out.old.items out.new.items (spell_funs (filter_funs (part_name p.now) p.now.filter))) }
+    ensures kept { IfOk result (λ x. IsProgram p.now) }
+{
+    let name = name_of(p);
+    match p.filter() {
+        Some(filter) => {
+            put_filter(alloc, out, name, filter)?;
+            Ok(())
+        }
+        None => Ok(()),
+    }
+}
+
+fn put_blocks_of(alloc: Global, out: &mut Vec<u8>, p: &Program) -> Result<(), NoMemory>
+    ensures { IfOk result (λ x. Puts out.old.items out.new.items (spell_funs (one_funs (block_name (part_name p.now)) 0 (map block_body p.now.blocks)))) }
+{
+    let name = name_of(p);
+    put_blocks(alloc, out, name, p.blocks())
+}
+
+fn put_filter_try(alloc: Global, out: &mut Vec<u8>, name: &[u8]) -> Result<(), NoMemory>
+    ensures { IfOk result (λ x. (b : Body) → Goes out.old.items out.new.items (spell_body b) (spell_body (Group 2 (attempt answer_name (filter_name name.now)) b))) }
+{
+    let title = filter_title(alloc, name)?;
+    put_try(out, title.as_slice())
+}
+
+// The call of the filter, if there is one.
+fn put_may_filter(alloc: Global, out: &mut Vec<u8>, p: &Program) -> Result<(), NoMemory>
+    ensures { IfOk result (λ x. (b : Body) → Goes out.old.items out.new.items (spell_body b) (spell_body (filter_tried (part_name p.now) p.now.filter b))) }
+{
+    let name = name_of(p);
+    match p.filter() {
+        Some(_) => {
+            put_filter_try(alloc, out, name)?;
+            Ok(())
+        }
+        None => Ok(()),
+    }
+}
+
+// The statements behind the call of the filter.
+fn put_all_sites(alloc: Global, out: &mut Vec<u8>, p: &Program, sites: u8) -> Result<(), NoMemory>
+    requires few { sites ≤ 5 }
+    requires sites { sites ≡ p.now.shape.sites }
+    ensures { IfOk result (λ x. Puts out.old.items out.new.items (spell_body (walked (block_name (part_name p.now)) answer_name (segment_of p.now) sites [] (range_with_len 0 sites)))) }
+{
+    let orders = all_orders(alloc, sites)?;
+    let all = Order::of_arguments(sites);
+    put_walked(alloc, out, p, orders.as_slice(), sites, &[], all.places())?;
+    Ok(())
+}
+
+// The body of the function with two parameters.
+fn put_call_body(alloc: Global, out: &mut Vec<u8>, p: &Program) -> Result<(), NoMemory>
+    ensures { IfOk result (λ x. Puts out.old.items out.new.items (spell_body (call_body p.now))) }
+{
+    let sites = p.shape().sites;
+    put_may_touch_index(out, 2 <= sites)?;
+    put_may_filter(alloc, out, p)?;
+    put_all_sites(alloc, out, p, sites)?;
+    Ok(())
+}
+
+fn put_call_head(alloc: Global, out: &mut Vec<u8>, p: &Program) -> Result<(), NoMemory>
+    ensures { IfOk result (λ x. Puts out.old.items out.new.items (λ r. lexeme (codes "int") ∷ lexeme (call_name (part_name p.now)) ∷ lexeme (codes "(") ∷ spell_parameters true (lexeme (codes ")") ∷ r))) }
+{
+    let name = name_of(p);
+    let title = call_title(alloc, name)?;
+    put_two_head(out, title.as_slice())?;
+    Ok(())
+}
+
+fn put_call(alloc: Global, out: &mut Vec<u8>, p: &Program) -> Result<(), NoMemory>
+    ensures { IfOk result (λ x. Puts out.old.items out.new.items (spell_fun (two_fun (call_name (part_name p.now)) (call_body p.now)))) }
+{
+    put_call_head(alloc, out, p)?;
+    brace_left(out)?;
+    put_call_body(alloc, out, p)?;
+    brace_right(out)?;
+    Ok(())
+}
+
+fn put_program(alloc: Global, out: &mut Vec<u8>, p: &Program) -> Result<(), NoMemory>
+    ensures put { IfOk result (λ x. PutsFuns out.old.items out.new.items p.now) }
+    ensures kept { IfOk result (λ x. IsProgram p.now) }
+{
+    put_filter_of(alloc, out, p)?;
+    put_blocks_of(alloc, out, p)?;
+    put_call(alloc, out, p)?;
+    Ok(())
+}
+
+fn put_programs(alloc: Global, out: &mut Vec<u8>, programs: &[Program]) -> Result<(), NoMemory>
+    ensures put { IfOk result (λ x. out.new.items ≡ out.old.items ++ written (spell_file (file_of programs.now))) }
+    ensures kept { IfOk result (λ x. AreKept programs.now) }
+{
+    'programs: for p in programs {
+        put_program(alloc, out, p)?;
+    }
+    out.push(b'\n')?;
+    Ok(())
+}
+
+fn text_of_programs(alloc: Global, programs: &[Program]) -> Result<Vec<u8>, NoMemory>
+    ensures text { IfOk result (λ v. v.items ≡ text_of (file_of programs.now)) }
+    ensures kept { IfOk result (λ v. AreKept programs.now) }
+{
+    let mut out = Vec::new(alloc);
+    out.extend_from_slice(b"#include <stdint.h>\n".as_slice())?;
+    put_programs(alloc, &mut out, programs)?;
+    Ok(out)
+}
+
+/// The C of these programs: a text of the subset in which each program `NAME` has the function
+/// `int ln_NAME(const int64_t *x, const int64_t *v)`. On each row in range, its indices in `x` and its values in `v`, the call has a
+/// meaning: the sign -1, 0 or 1 of the verdict of `run_row`, with as many calls of other functions as the verdict has, and no operation
+/// in `__int128` where the filter decides. The text goes straight into one buffer.
+pub fn emit(alloc: Global, p: &Programs) -> Result<Vec<u8>, NoMemory>
+    ensures { IfOk result (λ v. IsEmitted p.now v.items) }
+{
+    let text = text_of_programs(alloc, p.as_slice())?;
+    Ok(text)
+}

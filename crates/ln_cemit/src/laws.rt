@@ -1,0 +1,35 @@
+//! What is promised of the emitted functions.
+ghost use Rattle.ln_cemit.specs.Checked.{EmittedMeans};
+ghost use Rattle.ln_cemit.specs.Law.{BlocksSay, FiltersSay};
+ghost use Rattle.ln_cemit.specs.Conditions.{FunsKeep, BlocksKeep, FiltersKeep};
+ghost use Rattle.ln_cemit.specs.Names.{NamesServe};
+ghost use Rattle.ln_cemit.specs.Emitted.{FileIsEmitted};
+
+/// Where the machine as C has it has an answer, the emitted body answers its sign, and no line fails.
+pub fn emitted_means()
+    ensures { EmittedMeans }
+{}
+
+/// On a row in range the function of a block that follows the rules answers the sign of the block's value; that of a filter 0
+/// where the filter doesn't decide, else the sign, with no operation at 128 bits.
+pub fn functions_say()
+    ensures blocks { BlocksSay }
+    ensures filters { FiltersSay }
+{}
+
+/// The functions of blocks keep the conditions of the subset, and those of filters where there is a row in range.
+pub fn functions_keep()
+    ensures all { FunsKeep }
+    ensures blocks { BlocksKeep }
+    ensures filters { FiltersKeep }
+{}
+
+/// The letter n and a number serve as names of declarations, where the functions' names begin with l.
+pub fn names_serve()
+    ensures { NamesServe }
+{}
+
+/// The text of the file of programs is of the subset, and its calls say what the machine answers.
+pub fn file_is_emitted()
+    ensures { FileIsEmitted }
+{}

@@ -1,0 +1,433 @@
+//! The declaration of each operation, put straight to the text with no tree.
+ghost use Rattle.std.specs.Prelude.{◌≡◌, ◌≤◌, ◌<◌, ◌^◌, ◌∷◌, true, IfOk, length, reverse};
+ghost use Rattle.ln_csyn.specs.Spelling.{Puts, lexeme, spell, type_text};
+ghost use Rattle.ln_csyn.specs.Tree.{Inner, Minus, Number, Two, Value};
+ghost use Rattle.ln_cemit.specs.Emit.{constant, cut_expr, operand, pushing, type_of, put_cut, put_get, put_neg, put_op, put_set, put_two};
+ghost use Rattle.ln_cemit.specs.Names.{decl_name};
+ghost use Rattle.ln_cemit.specs.Puts.{decl_before, locals_of, Does, MayMove, Moves, Stores};
+ghost use Rattle.ln_bound.specs.Widths.{wider};
+ghost use Rattle.ln_bound.specs.declared.fitted.Width.TheVariants.{W64};
+ghost use Rattle.ln_csyn.specs.declared.tree.CType.TheVariants.{Int64};
+ghost use Rattle.ln_csyn.specs.declared.tree.COp.TheVariants.{Div};
+
+use crate::constant::{cut, put_inner};
+use crate::slot::{Slot, Way};
+use itoa::Buffer;
+use ln_base::NoMemory;
+use ln_bound::Width;
+use ln_code::Op;
+use ln_csyn::spell::{dash, equals, left, put_op, put_type, right, semi};
+use ln_csyn::write::{put_constant, put_value};
+use ln_csyn::{COp, CType};
+
+pub(crate) fn type_of(width: Width) -> CType
+    ensures { result ≡ type_of width }
+{
+    match width {
+        Width::W64 => CType::Int64,
+        Width::W128 => CType::Int128,
+    }
+}
+
+fn put_width(out: &mut Vec<u8>, width: Width) -> Result<(), NoMemory>
+    ensures { IfOk result (λ x. Puts out.old.items out.new.items (λ r. lexeme (type_text (type_of width)) ∷ r)) }
+{
+    put_type(out, type_of(width))
+}
+
+/// Puts the name of a declaration.
+pub(crate) fn put_decl_name(out: &mut Vec<u8>, n: usize) -> Result<(), NoMemory>
+    ensures { IfOk result (λ x. Puts out.old.items out.new.items (λ r. lexeme (decl_name n) ∷ r)) }
+{
+    let mut buffer = Buffer::new();
+    out.push(b'n')?;
+    out.extend_from_slice(buffer.format(n as u64).as_bytes())?;
+    out.push(b' ')?;
+    Ok(())
+}
+
+fn put_value_of(out: &mut Vec<u8>, width: Width, v: u64) -> Result<(), NoMemory>
+    ensures { IfOk result (λ x. Puts out.old.items out.new.items (spell (Value (type_of width) v))) }
+{
+    put_value(out, type_of(width), v)
+}
+
+/// Puts a constant of this width.
+pub(crate) fn put_number_of(out: &mut Vec<u8>, width: Width, n: u64) -> Result<(), NoMemory>
+    ensures { IfOk result (λ x. Puts out.old.items out.new.items (spell (Number (type_of width) n))) }
+{
+    put_constant(out, type_of(width), n)
+}
+
+fn put_inner_of(out: &mut Vec<u8>, width: Width, z: i128) -> Result<(), NoMemory>
+    ensures { IfOk result (λ x. Puts out.old.items out.new.items (spell (Inner (type_of width) (constant z)))) }
+{
+    put_inner(out, type_of(width), z)
+}
+
+pub(crate) fn put_operand(out: &mut Vec<u8>, width: Width, slot: Slot) -> Result<(), NoMemory>
+    ensures { IfOk result (λ x. Puts out.old.items out.new.items (spell (operand decl_name width slot))) }
+{
+    left(out)?;
+    left(out)?;
+    put_width(out, width)?;
+    right(out)?;
+    put_decl_name(out, slot.at)?;
+    right(out)?;
+    Ok(())
+}
+
+fn put_opposite(out: &mut Vec<u8>, width: Width, slot: Slot) -> Result<(), NoMemory>
+    ensures { IfOk result (λ x. Puts out.old.items out.new.items (spell (Minus (operand decl_name width slot)))) }
+{
+    left(out)?;
+    dash(out)?;
+    put_operand(out, width, slot)?;
+    right(out)?;
+    Ok(())
+}
+
+fn put_opposite_decl(out: &mut Vec<u8>, n: usize, width: Width, slot: Slot) -> Result<(), NoMemory>
+    ensures { IfOk result (λ x. Puts out.old.items out.new.items (decl_before n width (Minus (operand decl_name width slot)))) }
+{
+    put_width(out, width)?;
+    put_decl_name(out, n)?;
+    equals(out)?;
+    put_opposite(out, width, slot)?;
+    semi(out)?;
+    Ok(())
+}
+
+// Puts the declaration of the opposite of the last value, which takes its place on the stack.
+fn negate(out: &mut Vec<u8>, n: usize, width: Width, stack: &mut Vec<Slot>) -> Result<(), NoMemory>
+    requires { 1 ≤ length stack.now.items }
+    ensures { IfOk result (λ x. Moves out.old.items out.new.items stack.new.items (λ ls go. put_neg decl_name width n (reverse stack.old.items) ls go)) }
+{
+    let slot = stack.pop().unwrap();
+    put_opposite_decl(out, n, width, slot)?;
+    stack.push(Slot { at: n, width })?;
+    Ok(())
+}
+
+fn put_both(out: &mut Vec<u8>, op: COp, width: Width, x: Slot, y: Slot) -> Result<(), NoMemory>
+    ensures { IfOk result (λ z. Puts out.old.items out.new.items (spell (Two op (operand decl_name width x) (operand decl_name width y)))) }
+{
+    left(out)?;
+    put_operand(out, width, x)?;
+    put_op(out, op)?;
+    put_operand(out, width, y)?;
+    right(out)?;
+    Ok(())
+}
+
+fn put_both_decl(
+    out: &mut Vec<u8>,
+    n: usize,
+    op: COp,
+    width: Width,
+    x: Slot,
+    y: Slot,
+) -> Result<(), NoMemory>
+    ensures { IfOk result (λ z. Puts out.old.items out.new.items (decl_before n width (Two op (operand decl_name width x) (operand decl_name width y)))) }
+{
+    put_width(out, width)?;
+    put_decl_name(out, n)?;
+    equals(out)?;
+    put_both(out, op, width, x, y)?;
+    semi(out)?;
+    Ok(())
+}
+
+// Puts the declaration of an operation on the last two values, which takes their place on the stack.
+fn combine(
+    out: &mut Vec<u8>,
+    n: usize,
+    op: COp,
+    width: Width,
+    stack: &mut Vec<Slot>,
+) -> Result<(), NoMemory>
+    requires { 2 ≤ length stack.now.items }
+    ensures { IfOk result (λ x. Moves out.old.items out.new.items stack.new.items (λ ls go. put_two decl_name op width n (reverse stack.old.items) ls go)) }
+{
+    let y = stack.pop().unwrap();
+    let x = stack.pop().unwrap();
+    put_both_decl(out, n, op, width, x, y)?;
+    stack.push(Slot { at: n, width })?;
+    Ok(())
+}
+
+fn put_value_decl(out: &mut Vec<u8>, n: usize, width: Width, v: u64) -> Result<(), NoMemory>
+    ensures { IfOk result (λ z. Puts out.old.items out.new.items (decl_before n width (Value (type_of width) v))) }
+{
+    put_width(out, width)?;
+    put_decl_name(out, n)?;
+    equals(out)?;
+    put_value_of(out, width, v)?;
+    semi(out)?;
+    Ok(())
+}
+
+// Puts the declaration of a value of the row, and pushes it.
+fn read(
+    out: &mut Vec<u8>,
+    n: usize,
+    width: Width,
+    v: u64,
+    stack: &mut Vec<Slot>,
+) -> Result<(), NoMemory>
+    ensures { IfOk result (λ x. Moves out.old.items out.new.items stack.new.items (λ ls go. pushing decl_name n width (Value (type_of width) v) (reverse stack.old.items) ls go)) }
+{
+    put_value_decl(out, n, width, v)?;
+    stack.push(Slot { at: n, width })?;
+    Ok(())
+}
+
+fn put_same_decl(out: &mut Vec<u8>, n: usize, width: Width, slot: Slot) -> Result<(), NoMemory>
+    ensures { IfOk result (λ x. Puts out.old.items out.new.items (decl_before n width (operand decl_name width slot))) }
+{
+    put_width(out, width)?;
+    put_decl_name(out, n)?;
+    equals(out)?;
+    put_operand(out, width, slot)?;
+    semi(out)?;
+    Ok(())
+}
+
+// Puts the declaration of the last value, which is taken off the stack into a local.
+fn store(
+    out: &mut Vec<u8>,
+    n: usize,
+    j: u8,
+    stack: &mut Vec<Slot>,
+    locals: &mut [Option<Slot>],
+) -> Result<(), NoMemory>
+    requires { (1 ≤ length stack.now.items) × (j < length locals.now) }
+    ensures { IfOk result (λ x. Stores out.old.items out.new.items stack.new.items locals.new (λ go. put_set decl_name j n (reverse stack.old.items) (locals_of locals.old) go)) }
+{
+    let slot = stack.pop().unwrap();
+    put_same_decl(out, n, slot.width, slot)?;
+    locals[j as usize] = Some(Slot {
+        at: n,
+        width: slot.width,
+    });
+    Ok(())
+}
+
+// Puts the declaration of a local, and pushes it.
+fn load(
+    out: &mut Vec<u8>,
+    n: usize,
+    width: Width,
+    slot: Slot,
+    stack: &mut Vec<Slot>,
+) -> Result<(), NoMemory>
+    ensures { IfOk result (λ x. Moves out.old.items out.new.items stack.new.items (λ ls go. pushing decl_name n (wider slot.width width) (operand decl_name (wider slot.width width) slot) (reverse stack.old.items) ls go)) }
+{
+    let wide = slot.width.wider(width);
+    put_same_decl(out, n, wide, slot)?;
+    stack.push(Slot { at: n, width: wide })?;
+    Ok(())
+}
+
+fn put_pushed_decl(out: &mut Vec<u8>, n: usize, width: Width, z: i128) -> Result<(), NoMemory>
+    ensures { IfOk result (λ x. Puts out.old.items out.new.items (decl_before n width (Inner (type_of width) (constant z)))) }
+{
+    put_width(out, width)?;
+    put_decl_name(out, n)?;
+    equals(out)?;
+    put_inner_of(out, width, z)?;
+    semi(out)?;
+    Ok(())
+}
+
+// Puts the declaration of a number, and pushes it.
+fn push(
+    out: &mut Vec<u8>,
+    n: usize,
+    width: Width,
+    z: i128,
+    stack: &mut Vec<Slot>,
+) -> Result<(), NoMemory>
+    ensures { IfOk result (λ x. Moves out.old.items out.new.items stack.new.items (λ ls go. pushing decl_name n width (Inner (type_of width) (constant z)) (reverse stack.old.items) ls go)) }
+{
+    put_pushed_decl(out, n, width, z)?;
+    stack.push(Slot { at: n, width })?;
+    Ok(())
+}
+
+fn put_division(out: &mut Vec<u8>, slot: Slot, n: u64) -> Result<(), NoMemory>
+    ensures { IfOk result (λ x. Puts out.old.items out.new.items (spell (Two Div (operand decl_name W64 slot) (Number Int64 n)))) }
+{
+    left(out)?;
+    put_operand(out, Width::W64, slot)?;
+    put_op(out, COp::Div)?;
+    put_constant(out, CType::Int64, n)?;
+    right(out)?;
+    Ok(())
+}
+
+fn power(m: u8) -> u64
+    requires { m < 63 }
+    ensures { result ≡ 2 ^ m }
+{
+    1u64 << m
+}
+
+// A quotient of a declaration by 2^m, which is 0 from 63 on.
+fn put_quotient(out: &mut Vec<u8>, m: u8, slot: Slot) -> Result<(), NoMemory>
+    ensures { IfOk result (λ x. Puts out.old.items out.new.items (spell (cut_expr m (operand decl_name W64 slot)))) }
+{
+    if m < 63 {
+        put_division(out, slot, power(m))
+    } else {
+        put_constant(out, CType::Int64, 0)
+    }
+}
+
+fn put_quotient_decl(out: &mut Vec<u8>, n: usize, m: u8, slot: Slot) -> Result<(), NoMemory>
+    ensures { IfOk result (λ x. Puts out.old.items out.new.items (decl_before n W64 (cut_expr m (operand decl_name W64 slot)))) }
+{
+    put_width(out, Width::W64)?;
+    put_decl_name(out, n)?;
+    equals(out)?;
+    put_quotient(out, m, slot)?;
+    semi(out)?;
+    Ok(())
+}
+
+// Puts the declaration of a quotient by 2^m of the last value, which takes its place on the stack.
+fn divide(out: &mut Vec<u8>, n: usize, m: u8, stack: &mut Vec<Slot>) -> Result<(), NoMemory>
+    requires { 1 ≤ length stack.now.items }
+    ensures { IfOk result (λ x. Moves out.old.items out.new.items stack.new.items (λ ls go. put_cut decl_name m n (reverse stack.old.items) ls go)) }
+{
+    let slot = stack.pop().unwrap();
+    put_quotient_decl(out, n, m, slot)?;
+    stack.push(Slot {
+        at: n,
+        width: Width::W64,
+    })?;
+    Ok(())
+}
+
+// The last value's opposite, if there is one; false where there is none, and nothing was put.
+fn may_negate(
+    out: &mut Vec<u8>,
+    n: usize,
+    width: Width,
+    stack: &mut Vec<Slot>,
+) -> Result<bool, NoMemory>
+    ensures { IfOk result (λ more. MayMove more out.old.items out.new.items stack.new.items (λ ls go. put_neg decl_name width n (reverse stack.old.items) ls go)) }
+{
+    if stack.len() < 1 {
+        return Ok(false);
+    }
+    negate(out, n, width, stack)?;
+    Ok(true)
+}
+
+fn may_divide(out: &mut Vec<u8>, n: usize, m: u8, stack: &mut Vec<Slot>) -> Result<bool, NoMemory>
+    ensures { IfOk result (λ more. MayMove more out.old.items out.new.items stack.new.items (λ ls go. put_cut decl_name m n (reverse stack.old.items) ls go)) }
+{
+    if stack.len() < 1 {
+        return Ok(false);
+    }
+    divide(out, n, m, stack)?;
+    Ok(true)
+}
+
+fn may_combine(
+    out: &mut Vec<u8>,
+    n: usize,
+    op: COp,
+    width: Width,
+    stack: &mut Vec<Slot>,
+) -> Result<bool, NoMemory>
+    ensures { IfOk result (λ more. MayMove more out.old.items out.new.items stack.new.items (λ ls go. put_two decl_name op width n (reverse stack.old.items) ls go)) }
+{
+    if stack.len() < 2 {
+        return Ok(false);
+    }
+    combine(out, n, op, width, stack)?;
+    Ok(true)
+}
+
+fn may_store(
+    out: &mut Vec<u8>,
+    n: usize,
+    j: u8,
+    stack: &mut Vec<Slot>,
+    locals: &mut [Option<Slot>],
+) -> Result<bool, NoMemory>
+    requires { length locals.old ≡ 256 }
+    ensures size { length locals.new ≡ 256 }
+    ensures put { IfOk result (λ more. Does more out.old.items out.new.items stack.new.items locals.new (λ go. put_set decl_name j n (reverse stack.old.items) (locals_of locals.old) go)) }
+{
+    if stack.len() < 1 {
+        return Ok(false);
+    }
+    store(out, n, j, stack, locals)?;
+    Ok(true)
+}
+
+// Where the value of a local stands, if it is set.
+fn slot_at(locals: &[Option<Slot>], j: u8) -> Option<Slot>
+    requires { length locals.now ≡ 256 }
+    ensures { result ≡ locals_of locals.now j }
+{
+    locals[usize::from(j)]
+}
+
+fn may_load(
+    out: &mut Vec<u8>,
+    n: usize,
+    way: Way,
+    slot: Option<Slot>,
+    stack: &mut Vec<Slot>,
+) -> Result<bool, NoMemory>
+    ensures { IfOk result (λ more. MayMove more out.old.items out.new.items stack.new.items (λ ls go. put_get decl_name way n slot (reverse stack.old.items) ls go)) }
+{
+    match slot {
+        Some(slot) => {
+            load(out, n, way.width, slot, stack)?;
+            Ok(true)
+        }
+        None => Ok(false),
+    }
+}
+
+/// Puts the declaration of an operation, and keeps where the values of stack and locals stand. False where the stack or the local
+/// hasn't what it takes, which is so of no operation of a block or filter: then nothing was put, and nothing may follow.
+pub(crate) fn put_operation(
+    out: &mut Vec<u8>,
+    n: usize,
+    op: Op,
+    way: Way,
+    stack: &mut Vec<Slot>,
+    locals: &mut [Option<Slot>],
+) -> Result<bool, NoMemory>
+    requires { length locals.old ≡ 256 }
+    ensures size { length locals.new ≡ 256 }
+    ensures put { IfOk result (λ more. Does more out.old.items out.new.items stack.new.items locals.new (λ go. put_op decl_name op way n (reverse stack.old.items) (locals_of locals.old) go)) }
+{
+    match op {
+        Op::Push(z) => {
+            push(out, n, way.width, cut(z, way.shift), stack)?;
+            Ok(true)
+        }
+        Op::Input(v) => {
+            read(out, n, way.width, u64::from(v), stack)?;
+            Ok(true)
+        }
+        Op::Get(j) => {
+            let slot = slot_at(locals, j);
+            let more = may_load(out, n, way, slot, stack)?;
+            Ok(more)
+        }
+        Op::Set(j) => may_store(out, n, j, stack, locals),
+        Op::Add(width) => may_combine(out, n, COp::Add, width, stack),
+        Op::Sub(width) => may_combine(out, n, COp::Sub, width, stack),
+        Op::Mul(width) => may_combine(out, n, COp::Mul, width, stack),
+        Op::Neg(width) => may_negate(out, n, width, stack),
+        Op::Cut(m) => may_divide(out, n, m, stack),
+    }
+}

@@ -1,0 +1,40 @@
+//! The names of functions.
+ghost use Rattle.std.specs.Prelude.{◌≡◌, IfOk};
+ghost use Rattle.ln_cemit.specs.Names.{block_name, call_name, filter_name};
+
+use itoa::Buffer;
+use ln_base::NoMemory;
+use std::alloc::Global;
+
+/// `lf_NAME`.
+pub(crate) fn filter_title(alloc: Global, name: &[u8]) -> Result<Vec<u8>, NoMemory>
+    ensures { IfOk result (λ v. v.items ≡ filter_name name.now) }
+{
+    let mut title = Vec::new(alloc);
+    title.extend_from_slice(b"lf_".as_slice())?;
+    title.extend_from_slice(name)?;
+    Ok(title)
+}
+
+/// `lbN_NAME`.
+pub(crate) fn block_title(alloc: Global, name: &[u8], number: usize) -> Result<Vec<u8>, NoMemory>
+    ensures { IfOk result (λ v. v.items ≡ block_name name.now number) }
+{
+    let mut title = Vec::new(alloc);
+    let mut buffer = Buffer::new();
+    title.extend_from_slice(b"lb".as_slice())?;
+    title.extend_from_slice(buffer.format(number as u64).as_bytes())?;
+    title.push(b'_')?;
+    title.extend_from_slice(name)?;
+    Ok(title)
+}
+
+/// `ln_NAME`.
+pub(crate) fn call_title(alloc: Global, name: &[u8]) -> Result<Vec<u8>, NoMemory>
+    ensures { IfOk result (λ v. v.items ≡ call_name name.now) }
+{
+    let mut title = Vec::new(alloc);
+    title.extend_from_slice(b"ln_".as_slice())?;
+    title.extend_from_slice(name)?;
+    Ok(title)
+}

@@ -1,0 +1,325 @@
+//! The body of the function with two parameters: the filter, the blocks of the empty prefix, and then site by site the next one.
+ghost use Rattle.std.specs.Prelude.{◌≡◌, ◌≢◌, ◌<◌, ◌+◌, ◌∷◌, ◌++◌, [], IfOk, MatchOption, codes, drop, length, map, take};
+ghost use Rattle.ln_order.specs.Orders.{orders_of};
+ghost use Rattle.ln_order.specs.Places.{order_places};
+ghost use Rattle.ln_csyn.specs.Spelling.{Puts, Goes, lexeme, spell, spell_body};
+ghost use Rattle.ln_csyn.specs.Tree.{Body, Call, Group, Index, Name, Number, Two};
+ghost use Rattle.ln_csyn.specs.declared.tree.CType.TheVariants.{Int, Int64};
+ghost use Rattle.ln_csyn.specs.declared.tree.COp.TheVariants.{Differ};
+ghost use Rattle.ln_code.specs.Lists.{segment_of};
+ghost use Rattle.ln_cemit.specs.Names.{block_name, answer_name};
+ghost use Rattle.ln_cemit.specs.Puts.{Begins, close_braces, open_guards};
+ghost use Rattle.ln_cemit.specs.Walked.{attempt, less, picks, says_nothing, tries, walked, without};
+ghost use Rattle.ln_cemit.specs.Whole.{part_name};
+
+use crate::title::block_title;
+use ln_base::NoMemory;
+use ln_code::Program;
+use ln_csyn::spell::{
+    brace_left, brace_right, equals, left, put, put_op, put_type, right, semi, word_if, word_return,
+};
+use ln_csyn::write::{put_call, put_constant, put_index, put_name};
+use ln_csyn::{COp, CType};
+use ln_order::Order;
+use std::alloc::Global;
+
+fn put_answer_name(out: &mut Vec<u8>) -> Result<(), NoMemory>
+    ensures { IfOk result (λ x. Puts out.old.items out.new.items (λ r. lexeme answer_name ∷ r)) }
+{
+    put(out, b"answer".as_slice())
+}
+
+fn put_answer(out: &mut Vec<u8>) -> Result<(), NoMemory>
+    ensures { IfOk result (λ x. Puts out.old.items out.new.items (spell (Name Int answer_name))) }
+{
+    put_name(out, CType::Int, b"answer".as_slice())
+}
+
+fn put_answer_decl(out: &mut Vec<u8>, title: &[u8]) -> Result<(), NoMemory>
+    ensures { IfOk result (λ x. Puts out.old.items out.new.items (λ r. lexeme (codes "int") ∷ lexeme answer_name ∷ lexeme (codes "=") ∷ spell (Call Int title.now) (lexeme (codes ";") ∷ r))) }
+{
+    put_type(out, CType::Int)?;
+    put_answer_name(out)?;
+    equals(out)?;
+    put_call(out, CType::Int, title)?;
+    semi(out)?;
+    Ok(())
+}
+
+fn put_answer_test(out: &mut Vec<u8>) -> Result<(), NoMemory>
+    ensures { IfOk result (λ x. Puts out.old.items out.new.items (spell (Two Differ (Name Int answer_name) (Number Int 0)))) }
+{
+    left(out)?;
+    put_answer(out)?;
+    put_op(out, COp::Differ)?;
+    put_constant(out, CType::Int, 0)?;
+    right(out)?;
+    Ok(())
+}
+
+fn put_answer_if(out: &mut Vec<u8>) -> Result<(), NoMemory>
+    ensures { IfOk result (λ x. Puts out.old.items out.new.items (λ r. lexeme (codes "if") ∷ lexeme (codes "(") ∷ spell (Two Differ (Name Int answer_name) (Number Int 0)) (lexeme (codes ")") ∷ r))) }
+{
+    word_if(out)?;
+    left(out)?;
+    put_answer_test(out)?;
+    right(out)?;
+    Ok(())
+}
+
+fn put_answer_return(out: &mut Vec<u8>) -> Result<(), NoMemory>
+    ensures { IfOk result (λ x. Puts out.old.items out.new.items (λ r. lexeme (codes "return") ∷ spell (Name Int answer_name) (lexeme (codes ";") ∷ r))) }
+{
+    word_return(out)?;
+    put_answer(out)?;
+    semi(out)?;
+    Ok(())
+}
+
+fn put_attempt(out: &mut Vec<u8>, title: &[u8]) -> Result<(), NoMemory>
+    ensures { IfOk result (λ x. Puts out.old.items out.new.items (spell_body (attempt answer_name title.now))) }
+{
+    put_answer_decl(out, title)?;
+    put_answer_if(out)?;
+    brace_left(out)?;
+    put_answer_return(out)?;
+    brace_right(out)?;
+    Ok(())
+}
+
+/// Puts the call of a function, and the return of what it answers where that isn't 0.
+pub(crate) fn put_try(out: &mut Vec<u8>, title: &[u8]) -> Result<(), NoMemory>
+    ensures { IfOk result (λ x. (b : Body) → Goes out.old.items out.new.items (spell_body b) (spell_body (Group 2 (attempt answer_name title.now) b))) }
+{
+    brace_left(out)?;
+    put_attempt(out, title)?;
+    brace_right(out)?;
+    Ok(())
+}
+
+fn put_block_try(
+    alloc: Global,
+    out: &mut Vec<u8>,
+    name: &[u8],
+    number: usize,
+) -> Result<(), NoMemory>
+    ensures { IfOk result (λ x. (b : Body) → Goes out.old.items out.new.items (spell_body b) (spell_body (Group 2 (attempt answer_name (block_name name.now number)) b))) }
+{
+    let title = block_title(alloc, name, number)?;
+    put_try(out, title.as_slice())
+}
+
+// The calls of the blocks with these numbers, one after the other.
+fn put_tries(alloc: Global, out: &mut Vec<u8>, name: &[u8], numbers: &[u32]) -> Result<(), NoMemory>
+    ensures { IfOk result (λ x. (b : Body) → Goes out.old.items out.new.items (spell_body b) (spell_body (tries (block_name name.now) answer_name numbers.now b))) }
+{
+    'numbers: for number in numbers {
+        put_block_try(alloc, out, name, *number as usize)?;
+    }
+    Ok(())
+}
+
+fn put_nothing(out: &mut Vec<u8>) -> Result<(), NoMemory>
+    ensures { IfOk result (λ x. Puts out.old.items out.new.items (spell_body says_nothing)) }
+{
+    word_return(out)?;
+    put_constant(out, CType::Int, 0)?;
+    semi(out)?;
+    Ok(())
+}
+
+fn put_index_at(out: &mut Vec<u8>, i: u8) -> Result<(), NoMemory>
+    ensures { IfOk result (λ x. Puts out.old.items out.new.items (spell (Index Int64 i))) }
+{
+    put_index(out, CType::Int64, u64::from(i))
+}
+
+// Is the index at place i below that at place j?
+fn put_less(out: &mut Vec<u8>, i: u8, j: u8) -> Result<(), NoMemory>
+    ensures { IfOk result (λ x. Puts out.old.items out.new.items (spell (less i j))) }
+{
+    left(out)?;
+    put_index_at(out, i)?;
+    put_op(out, COp::Less)?;
+    put_index_at(out, j)?;
+    right(out)?;
+    Ok(())
+}
+
+fn put_guard(out: &mut Vec<u8>, i: u8, j: u8) -> Result<(), NoMemory>
+    ensures { IfOk result (λ x. Puts out.old.items out.new.items (λ r. lexeme (codes "if") ∷ lexeme (codes "(") ∷ spell (less i j) (lexeme (codes ")") ∷ lexeme (codes "{") ∷ r))) }
+{
+    word_if(out)?;
+    left(out)?;
+    put_less(out, i, j)?;
+    right(out)?;
+    brace_left(out)?;
+    Ok(())
+}
+
+fn put_guards(out: &mut Vec<u8>, i: u8, others: &[u8]) -> Result<(), NoMemory>
+    ensures { IfOk result (λ x. Puts out.old.items out.new.items (open_guards i others.now)) }
+{
+    'others: for j in others {
+        put_guard(out, i, *j)?;
+    }
+    Ok(())
+}
+
+fn put_ends(out: &mut Vec<u8>, n: usize) -> Result<(), NoMemory>
+    ensures { IfOk result (λ x. Puts out.old.items out.new.items (close_braces n)) }
+{
+    if n == 0 {
+        return Ok(());
+    }
+    brace_right(out)?;
+    put_ends(out, n - 1)?;
+    Ok(())
+}
+
+/// The name of a program.
+pub(crate) fn name_of(p: &Program) -> &[u8]
+    ensures { result.now ≡ part_name p.now }
+{
+    p.shape().name.bytes()
+}
+
+// These places, and one more.
+fn longer(alloc: Global, front: &[u8], place: u8) -> Result<Vec<u8>, NoMemory>
+    ensures { IfOk result (λ v. v.items ≡ front.now ++ place ∷ []) }
+{
+    let mut places = front.to_vec(alloc)?;
+    places.push(place)?;
+    Ok(places)
+}
+
+// Puts a place at the end, but not this one.
+fn keep(others: &mut Vec<u8>, place: u8, p: u8) -> Result<(), NoMemory>
+    ensures { IfOk result (λ x. others.new.items ≡ others.old.items ++ without place (p ∷ [])) }
+{
+    if p != place {
+        others.push(p)?;
+    }
+    Ok(())
+}
+
+// These places without one.
+fn without(alloc: Global, place: u8, places: &[u8]) -> Result<Vec<u8>, NoMemory>
+    ensures { IfOk result (λ v. v.items ≡ without place places.now) }
+{
+    let mut others = Vec::new(alloc);
+    'places: for p in places {
+        keep(&mut others, place, *p)?;
+    }
+    Ok(others)
+}
+
+// How many places these are, where the order begins with them.
+fn begins(order: &Order, front: &[u8]) -> Option<u8>
+    ensures { MatchOption result (take (length front.now) (order_places order.now) ≢ front.now) (λ j. Begins (order_places order.now) front.now j) }
+{
+    let places = order.places();
+    if front.len() > places.len() {
+        return None;
+    }
+    if &places[..front.len()] == front {
+        Some(front.len() as u8)
+    } else {
+        None
+    }
+}
+
+// The numbers of the blocks that are called where these sites are placed.
+fn segment_at<'a>(p: &'a Program, orders: &[Order], front: &[u8]) -> &'a [u32]
+    requires { map order_places orders.now ≡ orders_of p.now.shape.sites }
+    ensures { result.now ≡ segment_of p.now front.now }
+{
+    'orders: for order in orders {
+        if let Some(j) = begins(order, front) {
+            return p.segment(order, j);
+        }
+    }
+    &[]
+}
+
+/// Puts the statements from a prefix on, with these sites left, of which there are at most d: the blocks of the prefix are called, and
+/// where all are 0 the next site is found.
+#[cycle(walk)]
+pub(crate) fn put_walked(
+    alloc: Global,
+    out: &mut Vec<u8>,
+    p: &Program,
+    orders: &[Order],
+    d: u8,
+    front: &[u8],
+    left: &[u8],
+) -> Result<(), NoMemory>
+    requires { map order_places orders.now ≡ orders_of p.now.shape.sites }
+    ensures { IfOk result (λ x. Puts out.old.items out.new.items (spell_body (walked (block_name (part_name p.now)) answer_name (segment_of p.now) d front.now left.now))) }
+{
+    let name = name_of(p);
+    let segment = segment_at(p, orders, front);
+    put_tries(alloc, out, name, segment)?;
+    if d == 0 {
+        put_nothing(out)?;
+        return Ok(());
+    }
+    put_picks(alloc, out, p, orders, d - 1, front, left)?;
+    Ok(())
+}
+
+// The places behind the one at k.
+fn behind(left: &[u8], k: usize) -> &[u8]
+    requires { k < length left.now }
+    ensures { result.now ≡ drop (k + 1) left.now }
+{
+    &left[k + 1..]
+}
+
+// The statements of the site with the least index, of those that are left.
+#[cycle(walk)]
+fn put_picks(
+    alloc: Global,
+    out: &mut Vec<u8>,
+    p: &Program,
+    orders: &[Order],
+    d: u8,
+    front: &[u8],
+    left: &[u8],
+) -> Result<(), NoMemory>
+    requires { map order_places orders.now ≡ orders_of p.now.shape.sites }
+    ensures { IfOk result (λ x. Puts out.old.items out.new.items (spell_body (picks (λ i. walked (block_name (part_name p.now)) answer_name (segment_of p.now) d (front.now ++ i ∷ []) (without i left.now)) left.now))) }
+{
+    if left.is_empty() {
+        return put_nothing(out);
+    }
+    'left: for (k, place) in left.iter().enumerate() {
+        let others = behind(left, k);
+        put_pick(alloc, out, p, orders, d, front, left, *place, others)?;
+    }
+    Ok(())
+}
+
+// The statements of one of the sites, where its index is below those of the others that are behind it.
+#[cycle(walk)]
+fn put_pick(
+    alloc: Global,
+    out: &mut Vec<u8>,
+    p: &Program,
+    orders: &[Order],
+    d: u8,
+    front: &[u8],
+    left: &[u8],
+    place: u8,
+    others: &[u8],
+) -> Result<(), NoMemory>
+    requires { map order_places orders.now ≡ orders_of p.now.shape.sites }
+    ensures { IfOk result (λ x. Puts out.old.items out.new.items (λ r. open_guards place others.now (spell_body (walked (block_name (part_name p.now)) answer_name (segment_of p.now) d (front.now ++ place ∷ []) (without place left.now)) (close_braces (length others.now) r)))) }
+{
+    let next = longer(alloc, front, place)?;
+    let rest = without(alloc, place, left)?;
+    put_guards(out, place, others)?;
+    put_walked(alloc, out, p, orders, d, next.as_slice(), rest.as_slice())?;
+    put_ends(out, others.len())?;
+    Ok(())
+}

@@ -1,0 +1,10 @@
+-- Answers to the goals of `one_fault` in src/laws.rt.
+use Rattle.ln_cert.proofs.Whole.{no_text}
+use Rattle.ln_cert.proofs.OneFault.{one_fault}
+use Rattle.ln_cert.proofs.laws.one_fault.Goals as goal
+
+pub returns-clause-none : goal.returns-clause-none
+returns-clause-none c = no_text
+
+pub returns-clause-one : goal.returns-clause-one
+returns-clause-one c = one_fault

@@ -1,0 +1,6 @@
+-- Answers to the goals of `put_block_head` in src/write.rt.
+use Rattle.ln_cert.proofs.Programmed.{head_wrote}
+use Rattle.ln_cert.proofs.write.put_block_head.Goals as goal
+
+pub returns : goal.returns
+returns c = head_wrote c.args.out.now.items c.put_block.new.out.items c.args.n c.pairs.result.now c.args.exps.now c.requires.number c.pairs.ensures.rising c.requires.of_vars c.pairs.ensures.value c.in_ok-put_block.ensures

@@ -1,0 +1,10 @@
+-- The files of this folder.
+pub mod Lines
+pub mod Words
+pub mod Text
+pub mod Listing
+pub mod Reading
+pub mod Stop
+pub mod Loop
+pub mod Writing
+pub mod Written

@@ -1,0 +1,164 @@
+//! First words, by what the lines so far end in.
+ghost use Rattle.std.specs.Prelude.{◌≡◌, Some, None, if◌then◌else◌, bytes_eq};
+ghost use Rattle.ln_cert.specs.Text.{block_word, filter_word};
+ghost use Rattle.ln_cert.specs.Reading.{after, block_kind, block_verbs, filter_verbs, found, is_end, kind_in};
+ghost use Rattle.ln_cert.specs.declared.part.State.TheVariants.{InFilter, InBlock};
+
+use crate::part::{Kind, State, Verb};
+use ln_bound::Width;
+
+fn filter_verb(w: &[u8]) -> Option<Verb>
+    ensures { result ≡ found filter_word w.now filter_verbs }
+{
+    if w == b"push".as_slice() {
+        Some(Verb::Push)
+    } else if w == b"input".as_slice() {
+        Some(Verb::Input)
+    } else if w == b"get".as_slice() {
+        Some(Verb::Get)
+    } else if w == b"set".as_slice() {
+        Some(Verb::Set)
+    } else if w == b"add".as_slice() {
+        Some(Verb::Add(Width::W64))
+    } else if w == b"sub".as_slice() {
+        Some(Verb::Sub(Width::W64))
+    } else if w == b"mul".as_slice() {
+        Some(Verb::Mul(Width::W64))
+    } else if w == b"neg".as_slice() {
+        Some(Verb::Neg(Width::W64))
+    } else if w == b"cut".as_slice() {
+        Some(Verb::Cut)
+    } else {
+        None
+    }
+}
+
+fn block_verb(w: &[u8]) -> Option<Verb>
+    ensures { result ≡ found block_word w.now block_verbs }
+{
+    if w == b"push".as_slice() {
+        Some(Verb::Push)
+    } else if w == b"input".as_slice() {
+        Some(Verb::Input)
+    } else if w == b"get".as_slice() {
+        Some(Verb::Get)
+    } else if w == b"set".as_slice() {
+        Some(Verb::Set)
+    } else if w == b"add64".as_slice() {
+        Some(Verb::Add(Width::W64))
+    } else if w == b"add128".as_slice() {
+        Some(Verb::Add(Width::W128))
+    } else if w == b"sub64".as_slice() {
+        Some(Verb::Sub(Width::W64))
+    } else if w == b"sub128".as_slice() {
+        Some(Verb::Sub(Width::W128))
+    } else if w == b"mul64".as_slice() {
+        Some(Verb::Mul(Width::W64))
+    } else if w == b"mul128".as_slice() {
+        Some(Verb::Mul(Width::W128))
+    } else if w == b"neg64".as_slice() {
+        Some(Verb::Neg(Width::W64))
+    } else if w == b"neg128".as_slice() {
+        Some(Verb::Neg(Width::W128))
+    } else {
+        None
+    }
+}
+
+fn block_kind(version: u8, verb: Verb) -> Kind
+    ensures { result ≡ block_kind version verb }
+{
+    if version == 1 {
+        Kind::BlockOp(verb)
+    } else {
+        Kind::RangeOp(verb)
+    }
+}
+
+fn in_filter(version: u8, w: &[u8]) -> Option<Kind>
+    ensures { result ≡ kind_in version InFilter w.now }
+{
+    if w == b"decide".as_slice() {
+        return Some(Kind::Decide);
+    }
+    match filter_verb(w) {
+        Some(verb) => Some(Kind::FilterOp(verb)),
+        None => None,
+    }
+}
+
+fn in_block(version: u8, w: &[u8]) -> Option<Kind>
+    ensures { result ≡ kind_in version InBlock w.now }
+{
+    if w == b"end".as_slice() {
+        return Some(Kind::End);
+    }
+    match block_verb(w) {
+        Some(verb) => Some(block_kind(version, verb)),
+        None => None,
+    }
+}
+
+// One of two words.
+fn either(w: &[u8], first: &[u8], one: Kind, second: &[u8], two: Kind) -> Option<Kind>
+    ensures { result ≡ (if bytes_eq w.now first.now then Some one else if bytes_eq w.now second.now then Some two else None) }
+{
+    if w == first {
+        Some(one)
+    } else if w == second {
+        Some(two)
+    } else {
+        None
+    }
+}
+
+fn only(w: &[u8], first: &[u8], one: Kind) -> Option<Kind>
+    ensures { result ≡ (if bytes_eq w.now first.now then Some one else None) }
+{
+    if w == first { Some(one) } else { None }
+}
+
+/// The kind of the line that begins with this word, where the lines so far end in this.
+pub fn kind(version: u8, state: State, w: &[u8]) -> Option<Kind>
+    ensures { result ≡ kind_in version state w.now }
+{
+    match state {
+        State::Top => only(w, b"predicate", Kind::Predicate),
+        State::Opened => either(w, b"nofilter", Kind::NoFilter, b"filter", Kind::Filter),
+        State::InFilter => in_filter(version, w),
+        State::Planned => only(w, b"block", Kind::Block),
+        State::InBlock => in_block(version, w),
+        State::Blocks => either(w, b"block", Kind::Block, b"order", Kind::Order),
+        State::Orders => either(w, b"order", Kind::Order, b"done", Kind::Done),
+    }
+}
+
+/// What the lines end in behind a line of this kind.
+pub fn after(kind: Kind) -> State
+    ensures { result ≡ after kind }
+{
+    match kind {
+        Kind::Done => State::Top,
+        Kind::Predicate => State::Opened,
+        Kind::NoFilter | Kind::Decide => State::Planned,
+        Kind::Filter | Kind::FilterOp(_) => State::InFilter,
+        Kind::Block | Kind::BlockOp(_) | Kind::RangeOp(_) => State::InBlock,
+        Kind::End => State::Blocks,
+        Kind::Order => State::Orders,
+    }
+}
+
+/// Whether the lines may end here.
+pub fn is_end(state: State) -> bool
+    ensures { result ≡ is_end state }
+{
+    match state {
+        State::Top => true,
+        State::Opened
+        | State::InFilter
+        | State::Planned
+        | State::InBlock
+        | State::Blocks
+        | State::Orders => false,
+    }
+}

@@ -1,0 +1,51 @@
+//! Listings.
+ghost use Rattle.std.specs.Prelude.{◌≡◌, ◌⊎◌};
+ghost use Rattle.ln_cert.specs.Listing.{Kept};
+
+use crate::part::Entry;
+use ln_base::Seq;
+use std::marker::Model;
+
+/// A listing: its version, and for each line behind the first one its number and what it says. Some bytes, at most 67,108,864, are
+/// its text.
+#[derive(Drop)]
+pub struct Listing {
+    version: u8,
+    entries: Seq<Entry>,
+}
+
+impl Model for Listing {
+    ghost use Rattle.ln_cert.specs.Listing.{Listed, Kept};
+
+    ghost Value = { Listed };
+
+    ghost view = { λ l. record { version = l.version; entries = l.entries } };
+
+    ghost invariant = { λ l. Kept (record { version = l.version; entries = l.entries }) };
+}
+
+impl Listing {
+    // The listing of these entries.
+    pub(crate) fn of(version: u8, entries: Seq<Entry>) -> Listing
+        requires { Kept (record { version = version; entries = entries }) }
+        ensures { result ≡ record { version = version; entries = entries } }
+    {
+        Listing { version, entries }
+    }
+
+    /// The version, 1 or 2. It takes no memory.
+    pub fn version(&self) -> u8
+        ensures value { result ≡ self.now.version }
+        ensures known { (result ≡ 1) ⊎ (result ≡ 2) }
+    {
+        self.version
+    }
+
+    /// The lines behind the first one. It takes no memory.
+    pub fn entries(&self) -> &[Entry]
+        ensures value { result.now ≡ self.now.entries }
+        ensures kept { Kept self.now }
+    {
+        self.entries.as_slice()
+    }
+}

@@ -1,0 +1,77 @@
+//! An operation with its number.
+ghost use Rattle.std.specs.Prelude.{IfSome, IfNone};
+ghost use Rattle.ln_cert.specs.declared.part.Verb.TheVariants as verb;
+ghost use Rattle.ln_cert.specs.Words.{words_from};
+ghost use Rattle.ln_cert.specs.Reading.{OpAt, NoOpAt};
+
+use crate::args::{field, signed_field};
+use crate::part::Verb;
+use ln_code::Op;
+
+fn push(bytes: &[u8], at: usize) -> Option<(Op, usize)>
+    ensures some { IfSome result (λ x. OpAt verb.Push (words_from at bytes.now) x.0 (words_from x.1 bytes.now)) }
+    ensures none { IfNone result (NoOpAt verb.Push (words_from at bytes.now)) }
+{
+    let Some((c, next)) = signed_field(bytes, at) else {
+        return None;
+    };
+    Some((Op::Push(c), next))
+}
+
+fn input(bytes: &[u8], at: usize) -> Option<(Op, usize)>
+    ensures some { IfSome result (λ x. OpAt verb.Input (words_from at bytes.now) x.0 (words_from x.1 bytes.now)) }
+    ensures none { IfNone result (NoOpAt verb.Input (words_from at bytes.now)) }
+{
+    let Some((v, next)) = field(bytes, at, 167) else {
+        return None;
+    };
+    Some((Op::Input(v as u8), next))
+}
+
+fn get(bytes: &[u8], at: usize) -> Option<(Op, usize)>
+    ensures some { IfSome result (λ x. OpAt verb.Get (words_from at bytes.now) x.0 (words_from x.1 bytes.now)) }
+    ensures none { IfNone result (NoOpAt verb.Get (words_from at bytes.now)) }
+{
+    let Some((j, next)) = field(bytes, at, 255) else {
+        return None;
+    };
+    Some((Op::Get(j as u8), next))
+}
+
+fn set(bytes: &[u8], at: usize) -> Option<(Op, usize)>
+    ensures some { IfSome result (λ x. OpAt verb.Set (words_from at bytes.now) x.0 (words_from x.1 bytes.now)) }
+    ensures none { IfNone result (NoOpAt verb.Set (words_from at bytes.now)) }
+{
+    let Some((j, next)) = field(bytes, at, 255) else {
+        return None;
+    };
+    Some((Op::Set(j as u8), next))
+}
+
+fn cut(bytes: &[u8], at: usize) -> Option<(Op, usize)>
+    ensures some { IfSome result (λ x. OpAt verb.Cut (words_from at bytes.now) x.0 (words_from x.1 bytes.now)) }
+    ensures none { IfNone result (NoOpAt verb.Cut (words_from at bytes.now)) }
+{
+    let Some((n, next)) = field(bytes, at, 255) else {
+        return None;
+    };
+    Some((Op::Cut(n as u8), next))
+}
+
+/// The operation whose number, if it has one, stands at a place, and the place behind it.
+pub fn operation(verb: Verb, bytes: &[u8], at: usize) -> Option<(Op, usize)>
+    ensures some { IfSome result (λ x. OpAt verb (words_from at bytes.now) x.0 (words_from x.1 bytes.now)) }
+    ensures none { IfNone result (NoOpAt verb (words_from at bytes.now)) }
+{
+    match verb {
+        Verb::Push => push(bytes, at),
+        Verb::Input => input(bytes, at),
+        Verb::Get => get(bytes, at),
+        Verb::Set => set(bytes, at),
+        Verb::Cut => cut(bytes, at),
+        Verb::Add(w) => Some((Op::Add(w), at)),
+        Verb::Sub(w) => Some((Op::Sub(w), at)),
+        Verb::Mul(w) => Some((Op::Mul(w), at)),
+        Verb::Neg(w) => Some((Op::Neg(w), at)),
+    }
+}

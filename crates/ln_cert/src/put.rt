@@ -1,0 +1,275 @@
+//! Putting lines to a text.
+ghost use Rattle.std.specs.Prelude.{◌≡◌, ◌∷◌, ◌++◌, [], IfOk, decimal, map};
+ghost use Rattle.std.specs.Fmt.{signed_decimal};
+ghost use Rattle.ln_cert.specs.declared.part.Part.TheVariants as part;
+ghost use Rattle.ln_cert.specs.Text.{block_word, certificate, exponent_word, filter_word, number_words, range_words, triple_words, verb_of};
+ghost use Rattle.ln_cert.specs.Writing.{Puts, PutsLine};
+
+use itoa::Buffer;
+use ln_base::NoMemory;
+use ln_bound::Width;
+use ln_code::{Op, Triple};
+
+/// Puts bytes.
+pub fn put(out: &mut Vec<u8>, text: &[u8]) -> Result<(), NoMemory>
+    ensures { IfOk result (λ x. out.new.items ≡ out.old.items ++ text.now) }
+{
+    out.extend_from_slice(text)?;
+    Ok(())
+}
+
+/// Puts a space and a word.
+pub fn put_word(out: &mut Vec<u8>, text: &[u8]) -> Result<(), NoMemory>
+    ensures { IfOk result (λ x. Puts out.old.items out.new.items (λ r. text.now ∷ r)) }
+{
+    out.push(b' ')?;
+    out.extend_from_slice(text)?;
+    Ok(())
+}
+
+fn put_number(out: &mut Vec<u8>, n: u128) -> Result<(), NoMemory>
+    ensures { IfOk result (λ x. Puts out.old.items out.new.items (λ r. decimal n ∷ r)) }
+{
+    let mut buffer = Buffer::new();
+    put_word(out, buffer.format(n).as_bytes())
+}
+
+fn put_signed(out: &mut Vec<u8>, z: i128) -> Result<(), NoMemory>
+    ensures { IfOk result (λ x. Puts out.old.items out.new.items (λ r. signed_decimal z ∷ r)) }
+{
+    let mut buffer = Buffer::new();
+    put_word(out, buffer.format(z).as_bytes())
+}
+
+fn put_digits(out: &mut Vec<u8>, n: u128) -> Result<(), NoMemory>
+    ensures { IfOk result (λ x. out.new.items ≡ out.old.items ++ decimal n) }
+{
+    let mut buffer = Buffer::new();
+    put(out, buffer.format(n).as_bytes())
+}
+
+fn put_exponent(out: &mut Vec<u8>, v: u8, e: u8) -> Result<(), NoMemory>
+    ensures { IfOk result (λ x. Puts out.old.items out.new.items (λ r. exponent_word (v, e) ∷ r)) }
+{
+    put_number(out, u128::from(v))?;
+    out.push(b'^')?;
+    put_digits(out, u128::from(e))?;
+    Ok(())
+}
+
+/// Puts exponents.
+pub fn put_exponents(out: &mut Vec<u8>, exps: &[(u8, u8)]) -> Result<(), NoMemory>
+    ensures { IfOk result (λ x. Puts out.old.items out.new.items (λ r. map exponent_word exps.now ++ r)) }
+{
+    'exps: for pair in exps {
+        let (v, e) = *pair;
+        put_exponent(out, v, e)?;
+    }
+    Ok(())
+}
+
+/// Puts places.
+pub fn put_places(out: &mut Vec<u8>, places: &[u8]) -> Result<(), NoMemory>
+    ensures { IfOk result (λ x. Puts out.old.items out.new.items (λ r. map decimal places.now ++ r)) }
+{
+    'places: for place in places {
+        put_number(out, u128::from(*place))?;
+    }
+    Ok(())
+}
+
+/// Puts numbers of blocks.
+pub fn put_numbers(out: &mut Vec<u8>, list: &[u32]) -> Result<(), NoMemory>
+    ensures { IfOk result (λ x. Puts out.old.items out.new.items (λ r. map decimal list.now ++ r)) }
+{
+    'list: for n in list {
+        put_number(out, u128::from(*n))?;
+    }
+    Ok(())
+}
+
+fn put_op_number(out: &mut Vec<u8>, op: Op) -> Result<(), NoMemory>
+    ensures { IfOk result (λ x. Puts out.old.items out.new.items (λ r. number_words op ++ r)) }
+{
+    match op {
+        Op::Push(c) => put_signed(out, c),
+        Op::Input(n) | Op::Get(n) | Op::Set(n) | Op::Cut(n) => put_number(out, u128::from(n)),
+        Op::Add(_) | Op::Sub(_) | Op::Mul(_) | Op::Neg(_) => Ok(()),
+    }
+}
+
+fn put_triple(out: &mut Vec<u8>, t: Triple) -> Result<(), NoMemory>
+    ensures { IfOk result (λ x. Puts out.old.items out.new.items (λ r. triple_words t ++ r)) }
+{
+    put_number(out, u128::from(t.k))?;
+    put_number(out, u128::from(t.h))?;
+    put_number(out, u128::from(t.e))?;
+    Ok(())
+}
+
+fn put_ends(out: &mut Vec<u8>, low: i128, high: i128) -> Result<(), NoMemory>
+    ensures { IfOk result (λ x. Puts out.old.items out.new.items (λ r. range_words low high ++ r)) }
+{
+    put_signed(out, low)?;
+    put_signed(out, high)?;
+    Ok(())
+}
+
+fn put_certificate_triple(out: &mut Vec<u8>, op: Op, t: Triple) -> Result<(), NoMemory>
+    ensures { IfOk result (λ x. Puts out.old.items out.new.items (λ r. certificate (verb_of op) (triple_words t) ++ r)) }
+{
+    match op {
+        Op::Set(_) => Ok(()),
+        Op::Push(_)
+        | Op::Input(_)
+        | Op::Get(_)
+        | Op::Add(_)
+        | Op::Sub(_)
+        | Op::Mul(_)
+        | Op::Neg(_)
+        | Op::Cut(_) => put_triple(out, t),
+    }
+}
+
+fn put_certificate_bound(out: &mut Vec<u8>, op: Op, b: u128) -> Result<(), NoMemory>
+    ensures { IfOk result (λ x. Puts out.old.items out.new.items (λ r. certificate (verb_of op) (decimal b ∷ []) ++ r)) }
+{
+    match op {
+        Op::Set(_) => Ok(()),
+        Op::Push(_)
+        | Op::Input(_)
+        | Op::Get(_)
+        | Op::Add(_)
+        | Op::Sub(_)
+        | Op::Mul(_)
+        | Op::Neg(_)
+        | Op::Cut(_) => put_number(out, b),
+    }
+}
+
+fn put_certificate_ends(out: &mut Vec<u8>, op: Op, low: i128, high: i128) -> Result<(), NoMemory>
+    ensures { IfOk result (λ x. Puts out.old.items out.new.items (λ r. certificate (verb_of op) (range_words low high) ++ r)) }
+{
+    match op {
+        Op::Set(_) => Ok(()),
+        Op::Push(_)
+        | Op::Input(_)
+        | Op::Get(_)
+        | Op::Add(_)
+        | Op::Sub(_)
+        | Op::Mul(_)
+        | Op::Neg(_)
+        | Op::Cut(_) => put_ends(out, low, high),
+    }
+}
+
+fn filter_text(op: Op) -> &'static [u8]
+    ensures { result.now ≡ filter_word (verb_of op) }
+{
+    match op {
+        Op::Push(_) => b"push",
+        Op::Input(_) => b"input",
+        Op::Get(_) => b"get",
+        Op::Set(_) => b"set",
+        Op::Add(_) => b"add",
+        Op::Sub(_) => b"sub",
+        Op::Mul(_) => b"mul",
+        Op::Neg(_) => b"neg",
+        Op::Cut(_) => b"cut",
+    }
+}
+
+fn block_text(op: Op) -> &'static [u8]
+    ensures { result.now ≡ block_word (verb_of op) }
+{
+    match op {
+        Op::Push(_) => b"push",
+        Op::Input(_) => b"input",
+        Op::Get(_) => b"get",
+        Op::Set(_) => b"set",
+        Op::Add(Width::W64) => b"add64",
+        Op::Add(Width::W128) => b"add128",
+        Op::Sub(Width::W64) => b"sub64",
+        Op::Sub(Width::W128) => b"sub128",
+        Op::Mul(Width::W64) => b"mul64",
+        Op::Mul(Width::W128) => b"mul128",
+        Op::Neg(Width::W64) => b"neg64",
+        Op::Neg(Width::W128) => b"neg128",
+        Op::Cut(_) => b"cut",
+    }
+}
+
+/// Puts `predicate NAME`.
+pub fn put_predicate(out: &mut Vec<u8>, name: &[u8]) -> Result<(), NoMemory>
+    ensures { IfOk result (λ x. PutsLine out.old.items out.new.items (part.Predicate name.now)) }
+{
+    put(out, b"predicate".as_slice())?;
+    put_word(out, name)?;
+    out.push(b'\n')?;
+    Ok(())
+}
+
+/// Puts a line of one word.
+pub fn put_bare(out: &mut Vec<u8>, word: &[u8]) -> Result<(), NoMemory>
+    ensures { IfOk result (λ x. out.new.items ≡ out.old.items ++ (word.now ++ 10 ∷ [])) }
+{
+    put(out, word)?;
+    out.push(b'\n')?;
+    Ok(())
+}
+
+/// Puts an operation of a filter.
+pub fn put_filter_op(out: &mut Vec<u8>, op: Op, t: Triple) -> Result<(), NoMemory>
+    ensures { IfOk result (λ x. PutsLine out.old.items out.new.items (part.FilterOp op t)) }
+{
+    put(out, filter_text(op))?;
+    put_op_number(out, op)?;
+    put_certificate_triple(out, op, t)?;
+    out.push(b'\n')?;
+    Ok(())
+}
+
+/// Puts an operation of a block of version 1.
+pub fn put_bound_op(out: &mut Vec<u8>, op: Op, b: u128) -> Result<(), NoMemory>
+    ensures { IfOk result (λ x. PutsLine out.old.items out.new.items (part.BlockOp op b)) }
+{
+    put(out, block_text(op))?;
+    put_op_number(out, op)?;
+    put_certificate_bound(out, op, b)?;
+    out.push(b'\n')?;
+    Ok(())
+}
+
+/// Puts an operation of a block of version 2.
+pub fn put_range_op(out: &mut Vec<u8>, op: Op, low: i128, high: i128) -> Result<(), NoMemory>
+    ensures { IfOk result (λ x. PutsLine out.old.items out.new.items (part.RangeOp op low high)) }
+{
+    put(out, block_text(op))?;
+    put_op_number(out, op)?;
+    put_certificate_ends(out, op, low, high)?;
+    out.push(b'\n')?;
+    Ok(())
+}
+
+/// Puts `block N` with exponents.
+pub fn put_block(out: &mut Vec<u8>, n: u32, exps: &[(u8, u8)]) -> Result<(), NoMemory>
+    ensures { IfOk result (λ x. PutsLine out.old.items out.new.items (part.Block n exps.now)) }
+{
+    put(out, b"block".as_slice())?;
+    put_number(out, u128::from(n))?;
+    put_exponents(out, exps)?;
+    out.push(b'\n')?;
+    Ok(())
+}
+
+/// Puts an `order` line.
+pub fn put_order(out: &mut Vec<u8>, places: &[u8], list: &[u32]) -> Result<(), NoMemory>
+    ensures { IfOk result (λ x. PutsLine out.old.items out.new.items (part.Order places.now list.now)) }
+{
+    put(out, b"order".as_slice())?;
+    put_places(out, places)?;
+    put_word(out, b":".as_slice())?;
+    put_numbers(out, list)?;
+    out.push(b'\n')?;
+    Ok(())
+}
