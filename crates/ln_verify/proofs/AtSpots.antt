@@ -1,0 +1,173 @@
+-- Lines within the part of a predicate: from what a stack does to what the whole desk stands for.
+use Rattle.std.proofs.Common.{◌≡◌, ℕ, ◌<◌, ◌+◌, Bool, true, false, List, [], ◌∷◌, ◌++◌, length, refl, sym, ap, arith, subst, ◌∙◌}
+use Rattle.std.proofs.lemmas.List.{length-map, map-append}
+use Rattle.std.specs.Prelude.{Option, Some, None, slice_get}
+use Rattle.std.proofs.Common.{zero, suc}
+use Rattle.ln_tree.specs.declared.shape.VarInfo.{VarInfo}
+use Rattle.ln_tree.specs.Exps.{IsAbove, IsRising, Pairs}
+use Rattle.ln_code.specs.Engine.{State}
+use Rattle.ln_code.specs.FilterRules.{FilterKnown}
+use Rattle.ln_code.specs.Kept.{AreOfSites, is_of_site}
+use Rattle.ln_verify.specs.Line.{fresh}
+use Rattle.ln_verify.specs.declared.desk.At.{At}
+use Rattle.ln_code.specs.declared.op.Op.{Op}
+use Rattle.ln_code.specs.declared.op.Triple.{Triple}
+use Rattle.ln_interval.specs.Range.{Range}
+use Rattle.ln_code.specs.Rules.{Known}
+use Rattle.ln_verify.specs.BlockRules.{Version, balanced}
+use Rattle.ln_verify.specs.Line.{Between, InBlock, InFilter, IsNextList, Named, Ordering, Piece, Subject, exps_of}
+use Rattle.ln_cert.specs.declared.part.Part.TheVariants.{Filter, FilterOp, Decide, Block, BlockOp, RangeOp, End, NoFilter, Order}
+use Rattle.ln_verify.specs.declared.desk.At.TheVariants.{AtName, AtFilter, AtGap, AtBlock, AtOrder}
+use Rattle.ln_verify.specs.declared.stacks.Bench.{Bench}
+use Rattle.ln_verify.specs.declared.desk.Desk.{Desk}
+use Rattle.ln_verify.specs.declared.stacks.Tray.{Tray}
+use Rattle.ln_verify.specs.Here.{AreAbove, BenchEnds, Leads, TrayDecides, before_of}
+use Rattle.ln_verify.specs.Versions.{version_of}
+use Rattle.ln_verify.specs.declared.form.Form.{Form}
+use Rattle.ln_verify.specs.declared.form.Form.TheVariants.{One, Two}
+use Rattle.ln_verify.specs.Works.{BenchLed, IsBench, IsTray, TrayLed}
+
+-- the desk with another tray, or bench
+abbrev pub with_tray : Desk → Tray → Desk
+with_tray d t = record { at = d.at; parts = d.parts; exps = d.exps; bench = d.bench; tray = t; lists = d.lists }
+
+abbrev pub with_bench : Desk → Bench → Desk
+with_bench d b = record { at = d.at; parts = d.parts; exps = d.exps; bench = b; tray = d.tray; lists = d.lists }
+
+module _ (v : Version) (p : Subject) (d : Desk) where
+  pub tray-led : (t : Tray) (op : Op) (a : Triple) (ok : Bool) → d.at ≡ AtFilter → TrayLed v p.vars d.tray op a ok t → Leads v p d (FilterOp op a) ok (with_tray d t)
+  tray-led t op a ok e h Named i = cc
+  tray-led t op a true e h (InFilter lines s) i = let r = h s i.1 in (refl, (InFilter (lines ++ record { op = op; bound = a } ∷ []) r.0, (r.0, r.1, refl), (e, r.2)))
+  tray-led t op a false e h (InFilter lines s) i = let r = h s i.1 in (refl, λ q k. r k.0 k.1)
+  tray-led t op a ok e h (Between f bs) i = cc
+  tray-led t op a ok e h (InBlock f bs x lines s) i = cc
+  tray-led t op a ok e h (Ordering w) i = cc
+
+  pub bound-led : (t : Bench) (op : Op) (b : ℕ) (ok : Bool) → v.number ≡ 1 → d.at ≡ AtBlock → BenchLed v p.vars d.bench op (balanced b) ok t → Leads v p d (BlockOp op b) ok (with_bench d t)
+  bound-led t op b ok o e h Named i = cc
+  bound-led t op b ok o e h (InFilter lines s) i = cc
+  bound-led t op b ok o e h (Between f bs) i = cc
+  bound-led t op b true o e h (InBlock f bs x lines s) i = let r = h s i.3 in (refl, (InBlock f bs x (lines ++ record { op = op; bound = balanced b } ∷ []) r.0, (o, (r.0, r.1, refl)), (e, i.1, i.2, r.2)))
+  bound-led t op b false o e h (InBlock f bs x lines s) i = let r = h s i.3 in (refl, λ q k. r k.1.0 k.1.1)
+  bound-led t op b ok o e h (Ordering w) i = cc
+
+  pub range-led : (t : Bench) (op : Op) (b : Range) (ok : Bool) → v.number ≡ 2 → d.at ≡ AtBlock → BenchLed v p.vars d.bench op b ok t → Leads v p d (RangeOp op b.low b.high) ok (with_bench d t)
+  range-led t op b ok o e h Named i = cc
+  range-led t op b ok o e h (InFilter lines s) i = cc
+  range-led t op b ok o e h (Between f bs) i = cc
+  range-led t op b true o e h (InBlock f bs x lines s) i = let r = h s i.3 in (refl, (InBlock f bs x (lines ++ record { op = op; bound = b } ∷ []) r.0, (o, (r.0, r.1, refl)), (e, i.1, i.2, r.2)))
+  range-led t op b false o e h (InBlock f bs x lines s) i = let r = h s i.3 in (refl, λ q k. r k.1.0 k.1.1)
+  range-led t op b ok o e h (Ordering w) i = cc
+
+-- the desk at another place, with other exponents
+abbrev pub moved : Desk → At → List Pairs → Desk
+moved d x es = record { at = x; parts = d.parts; exps = es; bench = d.bench; tray = d.tray; lists = d.lists }
+
+above-none : (n : ℕ) (es : List Pairs) → es ≡ [] → AreAbove n es
+above-none n [] e = λ i d l. absurd (omega (arith, l))
+above-none n (x ∷ es) e = cc
+
+above-more : (n : ℕ) (es : List Pairs) (a : Pairs) → AreAbove n es → IsAbove a n → AreAbove n (es ++ a ∷ [])
+above-more n [] a h k zero d l = k
+above-more n [] a h k (suc i) d l = absurd (omega (arith, l))
+above-more n (x ∷ es) a h k zero d l = h zero d (omega arith)
+above-more n (x ∷ es) a h k (suc i) d l = above-more n es a (λ j z m. h (suc j) z (omega (arith, m))) k i d (omega (arith, l))
+
+site-within : (vars : List VarInfo) (v : ℕ) → is_of_site (slice_get vars v) ≡ true → v < length vars
+site-within [] v h = cc
+site-within (x ∷ vars) zero h = omega arith
+site-within (x ∷ vars) (suc v) h = omega (arith, site-within vars v h)
+
+sites-above : (vars : List VarInfo) (a : Pairs) → AreOfSites vars a → IsAbove a (length vars)
+sites-above vars [] h = tt
+sites-above vars (x ∷ a) h = (site-within vars x.0 h.0, sites-above vars a h.1)
+
+exps-more : (bs : List Piece) (b : Piece) → exps_of (bs ++ b ∷ []) ≡ exps_of bs ++ b.exps ∷ []
+exps-more bs b = map-append (λ (x : Piece). x.exps) bs (b ∷ [])
+
+length-more : {A : Type 0} (xs : List A) (x : A) → length (xs ++ x ∷ []) ≡ length xs + 1
+length-more [] x = refl
+length-more (y ∷ xs) x = omega (arith, length-more xs x)
+
+module _ (v : Version) (p : Subject) (d : Desk) where
+  pub named-gap : (es : List Pairs) → d.at ≡ AtName → es ≡ [] → Leads v p d NoFilter true (moved d AtGap es)
+  named-gap es e h Named i = (refl, (Between None [], refl, (refl, h, above-none (length p.vars) es h)))
+  named-gap es e h (InFilter lines s) i = cc
+  named-gap es e h (Between f bs) i = cc
+  named-gap es e h (InBlock f bs x lines s) i = cc
+  named-gap es e h (Ordering w) i = cc
+
+  pub named-filter : (t : Tray) → d.at ≡ AtName → ((n : ℕ) → IsTray n t fresh) → Leads v p d Filter true (record { at = AtFilter; parts = d.parts; exps = d.exps; bench = d.bench; tray = t; lists = d.lists })
+  named-filter t e h Named i = (refl, (InFilter [] fresh, refl, (refl, h (length p.vars))))
+  named-filter t e h (InFilter lines s) i = cc
+  named-filter t e h (Between f bs) i = cc
+  named-filter t e h (InBlock f bs x lines s) i = cc
+  named-filter t e h (Ordering w) i = cc
+
+  pub decided : (es : List Pairs) → d.at ≡ AtFilter → es ≡ [] → ((s : State FilterKnown (ℕ → Option FilterKnown)) → IsTray (length p.vars) d.tray s → TrayDecides p s) → Leads v p d Decide true (moved d AtGap es)
+  decided es e h k Named i = cc
+  decided es e h k (InFilter lines s) i =
+      let r = k s i.1 in
+      (refl, (Between (Some lines) [], record { left = r.left; one = r.one; whole = r.whole; narrow = r.narrow; to = refl }, (refl, h, above-none (length p.vars) es h)))
+  decided es e h k (Between f bs) i = cc
+  decided es e h k (InBlock f bs x lines s) i = cc
+  decided es e h k (Ordering w) i = cc
+
+  pub end-not : ((es : List Pairs) (a : Pairs) (s : State Known (ℕ → Option Known)) → d.exps ≡ es ++ a ∷ [] → AreAbove (length p.vars) d.exps → IsBench (length p.vars) d.bench s → BenchEnds p a s → ⊥) → Leads v p d End false d
+  end-not k Named i = (refl, λ t r. r)
+  end-not k (InFilter lines s) i = (refl, λ t r. r)
+  end-not k (Between f bs) i = (refl, λ t r. r)
+  end-not k (InBlock f bs x lines s) i = (refl, λ t r. k (exps_of bs) x s i.1 i.2 i.3 (record { left = r.left; one = r.one; derivative = r.derivative }))
+  end-not k (Ordering w) i = (refl, λ t r. r)
+
+  pub ended : d.at ≡ AtBlock → ((es : List Pairs) (a : Pairs) (s : State Known (ℕ → Option Known)) → d.exps ≡ es ++ a ∷ [] → AreAbove (length p.vars) d.exps → IsBench (length p.vars) d.bench s → BenchEnds p a s) → Leads v p d End true (moved d AtGap d.exps)
+  ended e k Named i = cc
+  ended e k (InFilter lines s) i = cc
+  ended e k (Between f bs) i = cc
+  ended e k (InBlock f bs x lines s) i =
+      let r = k (exps_of bs) x s i.1 i.2 i.3 in
+      (refl, (Between f (bs ++ record { exps = x; lines = lines } ∷ []), record { left = r.left; one = r.one; derivative = r.derivative; to = refl }, (refl, i.1 ∙ sym (exps-more bs (record { exps = x; lines = lines })), i.2)))
+  ended e k (Ordering w) i = cc
+
+  pub opened : (k : ℕ) (a : Pairs) (es : List Pairs) (b : Bench) → d.at ≡ AtGap → k ≡ length d.exps → AreOfSites p.vars a → IsRising a → es ≡ d.exps ++ a ∷ [] → ((n : ℕ) → IsBench n b fresh) →
+      Leads v p d (Block k a) true (record { at = AtBlock; parts = d.parts; exps = es; bench = b; tray = d.tray; lists = d.lists })
+  opened k a es b e l o r h z Named i = cc
+  opened k a es b e l o r h z (InFilter lines s) i = cc
+  opened k a es b e l o r h z (Between f bs) i =
+      let n : k ≡ length bs = l ∙ ap length i.1 ∙ length-map bs (λ (x : Piece). x.exps) in
+      (refl, (InBlock f bs a [] fresh, record { number = n; rising = r; of_sites = o; to = refl }, (refl, h ∙ ap (λ xs. xs ++ a ∷ []) i.1, subst (AreAbove (length p.vars)) (sym h) (above-more (length p.vars) d.exps a i.2 (sites-above p.vars a o)), z (length p.vars))))
+  opened k a es b e l o r h z (InBlock f bs x lines s) i = cc
+  opened k a es b e l o r h z (Ordering w) i = cc
+
+  some-is : (m n : ℕ) → Some m ≡ Some n → m ≡ n
+  some-is m n e = cc
+
+  pub ordered : (n : ℕ) (places list : List ℕ) → before_of d.at d.lists ≡ Some n → (AreAbove (length p.vars) d.exps → IsNextList p d.exps n places list) →
+      Leads v p d (Order places list) true (record { at = AtOrder; parts = d.parts; exps = d.exps; bench = d.bench; tray = d.tray; lists = n + 1 })
+  ordered n places list e k Named i = absurd (none n (sym (ap (λ x. before_of x d.lists) i) ∙ e))
+    where
+      none : (m : ℕ) → None ≡ Some m → ⊥
+      none m q = cc
+  ordered n places list e k (InFilter lines s) i = absurd (none n (sym (ap (λ x. before_of x d.lists) i.0) ∙ e))
+    where
+      none : (m : ℕ) → None ≡ Some m → ⊥
+      none m q = cc
+  ordered n places list e k (Between f bs) i =
+      let z : 0 ≡ n = some-is 0 n (sym (ap (λ x. before_of x d.lists) i.0) ∙ e) in
+      let next : IsNextList p (exps_of bs) 0 places list = subst (λ (m : ℕ). IsNextList p (exps_of bs) m places list) (sym z) (subst (λ (es : List Pairs). IsNextList p es n places list) i.1 (k i.2)) in
+      (refl, (Ordering (record { filter = f; blocks = bs; lists = list ∷ [] }), record { next = next; to = refl }, (refl, i.1, i.2, omega (arith, z))))
+  ordered n places list e k (InBlock f bs x lines s) i = absurd (none n (sym (ap (λ x. before_of x d.lists) i.0) ∙ e))
+    where
+      none : (m : ℕ) → None ≡ Some m → ⊥
+      none m q = cc
+  ordered n places list e k (Ordering w) i =
+      let z : d.lists ≡ n = some-is d.lists n (sym (ap (λ x. before_of x d.lists) i.0) ∙ e) in
+      let y : n ≡ length w.lists = sym z ∙ i.3 in
+      let next : IsNextList p (exps_of w.blocks) (length w.lists) places list = subst (λ (m : ℕ). IsNextList p (exps_of w.blocks) m places list) y (subst (λ (es : List Pairs). IsNextList p es n places list) i.1 (k i.2)) in
+      (refl, (Ordering (record { filter = w.filter; blocks = w.blocks; lists = w.lists ++ list ∷ [] }), record { next = next; to = refl }, (refl, i.1, i.2, ap (λ m. m + 1) y ∙ sym (length-more w.lists list))))
+
+pub one-number : (f : Form) → f ≡ One → (version_of f).number ≡ 1
+one-number f e = ap (λ x. (version_of x).number) e
+
+pub two-number : (f : Form) → f ≡ Two → (version_of f).number ≡ 2
+two-number f e = ap (λ x. (version_of x).number) e

@@ -1,0 +1,34 @@
+-- What is left to show of `difference`.
+use Rattle.std.proofs.Common.{◌≡◌, ◌≤◌, ◌+◌, ◌∙◌, ◌==◌, ℕ, ap, arith, sym, true, false}
+use Rattle.std.proofs.lemmas.Bool.{leb-true}
+use Rattle.std.proofs.lemmas.Bool.Decides.{nat_tests}
+use Rattle.ln_algebra.specs.Tree.{Sub}
+use Rattle.ln_bound.specs.declared.fitted.Two.TheVariants.{Minus}
+use Rattle.ln_interval.specs.Range.{most}
+use Rattle.ln_poly.specs.Sparse.{Sparse, size_of}
+use Rattle.ln_poly.proofs.Negating.{size-negated}
+use Rattle.ln_verify.proofs.Negations.{below-of, difference-normal}
+use Rattle.ln_verify.proofs.MadeCuts.{added-yes}
+use Rattle.ln_verify.proofs.cutters.difference.Goals as goal
+
+apart : (a b : ℕ) → (a ≡ b → ⊥) → (a == b) ≡ false
+apart a b h = grind (arith, nat_tests)
+
+same : (a b : ℕ) → a ≡ b → (a == b) ≡ true
+same a b h = grind (arith, nat_tests)
+
+pub add-requires : goal.add-requires
+add-requires c =
+    let e : size_of c.in_ok-g.g ≡ size_of c.args.y.now.poly = ap (λ (z : Sparse). size_of z) c.in_ok-g.ensures ∙ size-negated c.args.y.now.poly in
+    let m : c.args.x.now.size + c.args.y.now.size ≤ most = leb-true _ _ (sym c.is_small.ensures ∙ c.if-not-is_small.false) in
+    omega (arith, e, m, c.args.x.now.heavy, c.args.y.now.heavy)
+
+pub kept-requires-clause-heavy : goal.kept-requires-clause-heavy
+kept-requires-clause-heavy c =
+    let e : size_of c.in_ok-g.g ≡ size_of c.args.y.now.poly = ap (λ (z : Sparse). size_of z) c.in_ok-g.ensures ∙ size-negated c.args.y.now.poly in
+    omega (arith, e, c.in_ok-h.ensures.size, c.args.x.now.heavy, c.args.y.now.heavy)
+
+pub returns : goal.returns
+returns c n j k f g =
+    added-yes n c.args.x.now c.args.y.now j k c.args.a f g Minus c.kept.result (same _ _ c.if-x-y.false) (sym c.sum_covered.ensures ∙ c.if-not-sum_covered.false) (sym c.is_small.ensures ∙ c.if-not-is_small.false)
+    (c.kept.ensures n (Sub j.tree k.tree) (difference-normal n j.tree k.tree c.args.x.now.poly c.args.y.now.poly c.in_ok-g.g c.in_ok-h.h f.normal g.normal c.in_ok-g.ensures c.in_ok-h.ensures.form (c.in_ok-h.ensures.below n f.normal.below (below-of n c.args.y.now.poly c.in_ok-g.g c.in_ok-g.ensures g.normal.below)) (λ m. c.in_ok-h.ensures.coefficients n m)))

@@ -1,0 +1,7 @@
+-- The loop of `all_fit`.
+use Rattle.ln_verify.specs.Products.{RowFits}
+use Rattle.ln_verify.proofs.Fitting.{EachDecides}
+use Rattle.ln_verify.proofs.fits.all_fit.Given as goal
+
+abbrev pub invariant-rows : goal.invariant-rows
+invariant-rows l = EachDecides (λ s. RowFits s.0 l.g) l.f l.s-index

@@ -1,0 +1,8 @@
+-- The loop of `pairs_fit`.
+use Rattle.std.proofs.Common.{◌+◌, ◌<◌}
+use Rattle.ln_tree.specs.Exps.{exponent}
+use Rattle.ln_verify.proofs.Fitting.{EachDecides}
+use Rattle.ln_verify.proofs.fits.pairs_fit.Given as goal
+
+abbrev pub invariant-pairs : goal.invariant-pairs
+invariant-pairs l = EachDecides (λ p. p.1 + exponent p.0 l.b < 128) l.a l.p-index

@@ -1,0 +1,7 @@
+-- The loop of `row_fits`.
+use Rattle.ln_verify.specs.Products.{PairsFit}
+use Rattle.ln_verify.proofs.Fitting.{EachDecides}
+use Rattle.ln_verify.proofs.fits.row_fits.Given as goal
+
+abbrev pub invariant-terms : goal.invariant-terms
+invariant-terms l = EachDecides (λ t. PairsFit l.a t.0) l.g l.t-index

@@ -1,0 +1,6 @@
+-- The loop of `exps_of`.
+use Rattle.ln_verify.proofs.Readings.{Read}
+use Rattle.ln_verify.proofs.heads.exps_of.Given as goal
+
+abbrev pub invariant-pairs : goal.invariant-pairs
+invariant-pairs l = Read l.a l.p-index l.out

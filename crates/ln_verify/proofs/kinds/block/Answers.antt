@@ -1,0 +1,14 @@
+-- What is left to show of `block`.
+use Rattle.std.proofs.Common.{◌∙◌, List, subst, ◌≡◌, ◌++◌, ◌∷◌, [], ap}
+use Rattle.std.specs.Prelude.{MatchOption, Option}
+use Rattle.ln_tree.specs.declared.shape.VarInfo.{VarInfo}
+use Rattle.ln_tree.specs.Exps.{IsRising, Pairs}
+use Rattle.ln_code.specs.Kept.{AreOfSites}
+use Rattle.ln_verify.specs.Here.{subject_of}
+use Rattle.ln_verify.proofs.AtSpots.{opened}
+use Rattle.ln_verify.proofs.kinds.block.Goals as goal
+
+pub returns : goal.returns
+returns c v =
+    let m : (c.in-Some.e ≡ c.args.a.now) × IsRising c.args.a.now = subst (λ (o : Option Pairs). MatchOption o (IsRising c.args.a.now → ⊥) (λ e. (e ≡ c.args.a.now) × IsRising c.args.a.now)) c.in-Some.is c.in_ok-e.ensures in
+    opened v (subject_of c.args.case.now) c.args.desk.now c.args.k c.args.a.now c.push.new.self c.in_ok-desk.field-0 (c.is_at.ensures.0 c.if-not-is_at.false) (c.if-k-len.false ∙ c.len.ensures) (subst (λ (vs : List VarInfo). AreOfSites vs c.args.a.now) c.as_slice.ensures (c.are_of_sites.ensures.0 c.if-not-are_of_sites.false)) m.1 (c.in_ok-push.ensures.ok ∙ ap (λ (e : Pairs). c.args.desk.now.exps ++ e ∷ []) m.0) c.in_ok-desk.ensures

@@ -1,0 +1,10 @@
+-- What is left to show of `bound_line`.
+use Rattle.std.proofs.Common.{List, subst}
+use Rattle.ln_tree.specs.declared.shape.VarInfo.{VarInfo}
+use Rattle.ln_verify.specs.BlockRules.{balanced}
+use Rattle.ln_verify.specs.Versions.{version_of}
+use Rattle.ln_verify.specs.Works.{BenchLed}
+use Rattle.ln_verify.proofs.kinds.bound_line.Goals as goal
+
+pub returns : goal.returns
+returns c = subst (λ (vs : List VarInfo). BenchLed (version_of c.args.form) vs c.args.bench.now c.args.op (balanced c.args.b) c.in_ok-ok.ok c.bench_op.new.bench) c.as_slice.ensures (c.in_ok-ok.ensures (balanced c.args.b) c.pair_of_bound-ends.ensures)

@@ -1,0 +1,6 @@
+-- What is left to show of `filter`.
+use Rattle.ln_verify.proofs.AtSpots.{named-filter}
+use Rattle.ln_verify.proofs.kinds.filter.Goals as goal
+
+pub returns : goal.returns
+returns c v p = named-filter v p c.args.desk.now c.in_ok-desk.field-0 (c.is_at.ensures.0 c.if-not-is_at.false) c.in_ok-desk.ensures

@@ -1,0 +1,6 @@
+-- What is left to show of `no_filter`.
+use Rattle.ln_verify.proofs.AtSpots.{named-gap}
+use Rattle.ln_verify.proofs.kinds.no_filter.Goals as goal
+
+pub returns : goal.returns
+returns c v p = named-gap v p c.args.desk.now c.new.result (c.is_at.ensures.0 c.if-not-is_at.false) c.new.ensures

@@ -1,0 +1,6 @@
+-- What is left to show of `good_parts_are_valid`.
+use Rattle.ln_verify.proofs.Put.{good-valid}
+use Rattle.ln_verify.proofs.laws.good_parts_are_valid.Goals as goal
+
+pub returns : goal.returns
+returns c = good-valid

@@ -1,0 +1,6 @@
+-- The loop of `cases_of`.
+use Rattle.ln_verify.proofs.Subjects.{Made}
+use Rattle.ln_verify.proofs.listings.cases_of.Given as goal
+
+abbrev pub invariant-each : goal.invariant-each
+invariant-each l = Made l.preds l.i l.cases.items

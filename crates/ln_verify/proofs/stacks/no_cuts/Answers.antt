@@ -1,0 +1,16 @@
+-- What is left to show of `no_cuts`.
+use Rattle.std.proofs.Common.{◌≡◌, ap, arith, ◌∙◌, ◌++◌, ◌∷◌, []}
+use Rattle.std.specs.Prelude.{replicate, None}
+use Rattle.ln_verify.proofs.Empty.{replicate-more}
+use Rattle.ln_verify.proofs.stacks.no_cuts.Goals as goal
+
+pub locals-init : goal.locals-init
+locals-init c = c.new-locals.ensures.items
+
+pub locals-preserved : goal.locals-preserved
+locals-preserved c = c.in_ok-push.ensures.items ∙ ap (λ xs. xs ++ None ∷ []) c.locals.invariant ∙ replicate-more c.locals._i None
+
+pub returns : goal.returns
+returns c =
+    let e : c.locals._i ≡ 256 = omega (arith, c.locals-test.false, c.locals.auto._i-end) in
+    c.locals.invariant ∙ ap (λ k. replicate k None) e

@@ -1,0 +1,49 @@
+-- Listings that are valid for the predicates of a table, and the first line of a listing whose rule fails.
+use Rattle.std.specs.Prelude.{◌≡◌, ◌==◌, ℕ, List, [], ◌∷◌, length, map, slice_get, Some, if◌then◌else◌}
+use Rattle.ln_tree.specs.declared.pred.Pred.{Pred}
+use Rattle.ln_tree.specs.Row.{InRange, Row}
+use Rattle.ln_tree.specs.Table.{PredOf, pred_of}
+use Rattle.ln_poly.specs.Expansion.{IsNormal}
+use Rattle.ln_cert.specs.Listing.{Listed, parts_of}
+use Rattle.ln_verify.specs.Accepted.{AreAccepted, root_of}
+use Rattle.ln_verify.specs.AsPart.{GivesSign}
+use Rattle.ln_verify.specs.BlockRules.{Version, version_1, version_2}
+use Rattle.ln_verify.specs.Judge.{IsFirstFault, IsValid}
+use Rattle.ln_verify.specs.Line.{Subject, Written}
+
+-- the predicate as its part is judged: its name, its sites, its variables and its normal polynomial
+pub record IsSubjectOf (p : PredOf) (s : Subject) : Type 0 where
+  pub name : s.name ≡ p.shape_name
+  pub sites : s.sites ≡ p.sites
+  pub vars : s.vars ≡ p.vars
+  pub normal : IsNormal (length p.vars) (root_of p) s.poly
+
+-- one for each predicate, in order; there is one such list, since a predicate has one normal polynomial
+abbrev pub AreSubjectsOf : List PredOf → List Subject → Type 0
+AreSubjectsOf [] [] = Unit {0}
+AreSubjectsOf [] (s ∷ ss) = ⊥
+AreSubjectsOf (p ∷ ps) [] = ⊥
+AreSubjectsOf (p ∷ ps) (s ∷ ss) = IsSubjectOf p s × AreSubjectsOf ps ss
+
+-- the rules of a listing of this version
+abbrev pub rules_of : ℕ → Version
+rules_of n = if n == 1 then version_1 else version_2
+
+-- the listing is valid for these predicates: no line of it fails, and at its end each predicate has its part
+pub record IsValidFor (ps : List PredOf) (l : Listed) : Type 0 where
+  pub subjects : List Subject
+  pub those : AreSubjectsOf ps subjects
+  pub valid : IsValid (rules_of l.version) subjects (parts_of l.entries)
+
+-- the first line of the listing whose rule fails; at the end of the file, where some predicate hasn't its part, it is one more than there are lines
+pub record IsFaultFor (ps : List PredOf) (l : Listed) (line : ℕ) : Type 0 where
+  pub subjects : List Subject
+  pub those : AreSubjectsOf ps subjects
+  pub fault : IsFirstFault (rules_of l.version) subjects (parts_of l.entries) line
+
+-- ---- the promise
+-- a listing that is valid for accepted predicates, whoever made it, has a part of each, and on each row in range the machine of the part has a verdict, whose sign is the perturbed sign of the predicate
+abbrev pub ValidListingsGiveSigns : Type 0
+ValidListingsGiveSigns =
+    (ps : List Pred) (l : Listed) → AreAccepted (map pred_of ps) → (h : IsValidFor (map pred_of ps) l) (k : ℕ) (p : Pred) (row : Row) → slice_get ps k ≡ Some p → InRange p.shape.sites p.shape.vars row →
+    (w : Written) × (slice_get h.valid.parts k ≡ Some w) × GivesSign p.shape (root_of (pred_of p)) w row

@@ -1,0 +1,215 @@
+//! What the operations of a filter make: a truncated number with its triple, where the rule of the line holds and what it would
+//! push is small.
+ghost use Rattle.std.specs.Prelude.{◌≡◌, ◌≤◌, ℕ, List, IfOk, length, nat_le, Some};
+ghost use Rattle.ln_algebra.specs.Tree.{Tree};
+ghost use Rattle.ln_bound.specs.declared.fitted.Two.TheVariants.{Minus, Plus, Times};
+ghost use Rattle.ln_bound.specs.declared.fitted.Width.TheVariants.{W64};
+ghost use Rattle.ln_bound.specs.Widths.{no_wider};
+ghost use Rattle.ln_interval.specs.Range.{most};
+ghost use Rattle.ln_tree.specs.declared.shape.VarInfo.{VarInfo as Info};
+ghost use Rattle.ln_poly.specs.Expansion.{IsNormal};
+ghost use Rattle.ln_poly.specs.Sparse.{size_of};
+ghost use Rattle.ln_code.specs.FilterRules.{FilterKnown, two_known};
+ghost use Rattle.ln_verify.specs.BlockRules.{Version, triple_rules};
+ghost use Rattle.ln_verify.specs.Cuts.{IsCut};
+ghost use Rattle.ln_verify.specs.Line.{filter_tree_of};
+ghost use Rattle.ln_verify.specs.Values.{IsMade};
+ghost use Rattle.ln_verify.specs.Versions.{version_of};
+
+use crate::allowed::{input_size, variable};
+use crate::cut::Cut;
+use crate::fits::all_fit;
+use crate::form::Form;
+use crate::negated::negated;
+use crate::triple::{
+    cut_covered, input_covered, number_covered, product_covered, same_covered, sum_covered,
+};
+use ln_base::NoMemory;
+use ln_bound::{Two, Width};
+use ln_code::Triple;
+use ln_interval::pair::MOST;
+use ln_poly::{Poly, add, mul, power};
+use ln_tree::VarInfo;
+use std::alloc::Global;
+
+// Is the running size at most 2^127 - 1?
+fn is_small(size: u128) -> bool
+    ensures { result ≡ nat_le size most }
+{
+    size <= MOST
+}
+
+// The number, where its polynomial has at most 1,024 terms.
+fn kept(a: Triple, size: u128, poly: Poly) -> Option<Cut>
+    requires small { size ≤ most }
+    requires heavy { size_of poly ≤ size }
+    ensures { (n : ℕ) (t : Tree) → IsNormal n t poly → IsMade (IsCut n) filter_tree_of n result (Some (record { triple = a; tree = t; size = size })) }
+{
+    if poly.terms().len() > 1024 {
+        return None;
+    }
+    Some(Cut {
+        triple: a,
+        size,
+        poly,
+    })
+}
+
+/// Of a number.
+pub fn number(alloc: Global, c: i128, a: Triple) -> Result<Option<Cut>, NoMemory>
+    ensures { IfOk result (λ o. (v : Version) (vars : List Info) (n : ℕ) → IsMade (IsCut n) filter_tree_of n o ((triple_rules v vars).push c a)) }
+{
+    let size = c.unsigned_abs();
+    if !number_covered(c, a) {
+        return Ok(None);
+    }
+    if !is_small(size) {
+        return Ok(None);
+    }
+    let h = ln_poly::number(alloc, c)?;
+    Ok(kept(a, size, h))
+}
+
+/// Of a variable.
+pub fn input(
+    alloc: Global,
+    form: Form,
+    vars: &[VarInfo],
+    k: u8,
+    a: Triple,
+) -> Result<Option<Cut>, NoMemory>
+    ensures { IfOk result (λ o. IsMade (IsCut (length vars.now)) filter_tree_of (length vars.now) o ((triple_rules (version_of form) vars.now).input k a)) }
+{
+    let Some(i) = variable(vars, k) else {
+        return Ok(None);
+    };
+    let size = input_size(form, i);
+    if !input_covered(i, a) {
+        return Ok(None);
+    }
+    if !is_small(size) {
+        return Ok(None);
+    }
+    let h = power(alloc, k, 1, 1)?;
+    Ok(kept(a, size, h))
+}
+
+/// Of a local, which is copied.
+pub fn again(alloc: Global, x: &Cut, a: Triple) -> Result<Option<Cut>, NoMemory>
+    ensures { IfOk result (λ o. (v : Version) (vars : List Info) (n : ℕ) (k : FilterKnown) → IsCut n x.now k → IsMade (IsCut n) filter_tree_of n o ((triple_rules v vars).again k a)) }
+{
+    if !same_covered(x.triple, a) {
+        return Ok(None);
+    }
+    let h = x.poly.copy(alloc)?;
+    Ok(kept(a, x.size, h))
+}
+
+// A sum.
+fn sum(alloc: Global, a: Triple, x: &Cut, y: &Cut) -> Result<Option<Cut>, NoMemory>
+    ensures { IfOk result (λ o. (n : ℕ) (j k : FilterKnown) → IsCut n x.now j → IsCut n y.now k → IsMade (IsCut n) filter_tree_of n o (two_known Plus a j k)) }
+{
+    let size = x.size + y.size;
+    if x.triple.k != y.triple.k {
+        return Ok(None);
+    }
+    if !sum_covered(x.triple, y.triple, a) {
+        return Ok(None);
+    }
+    if !is_small(size) {
+        return Ok(None);
+    }
+    let h = add(alloc, &x.poly, &y.poly)?;
+    Ok(kept(a, size, h))
+}
+
+// A difference.
+fn difference(alloc: Global, a: Triple, x: &Cut, y: &Cut) -> Result<Option<Cut>, NoMemory>
+    ensures { IfOk result (λ o. (n : ℕ) (j k : FilterKnown) → IsCut n x.now j → IsCut n y.now k → IsMade (IsCut n) filter_tree_of n o (two_known Minus a j k)) }
+{
+    let size = x.size + y.size;
+    if x.triple.k != y.triple.k {
+        return Ok(None);
+    }
+    if !sum_covered(x.triple, y.triple, a) {
+        return Ok(None);
+    }
+    if !is_small(size) {
+        return Ok(None);
+    }
+    let g = negated(alloc, &y.poly)?;
+    let h = add(alloc, &x.poly, &g)?;
+    Ok(kept(a, size, h))
+}
+
+// A product. Where exponents pass the limit it isn't worked out.
+fn product(alloc: Global, a: Triple, x: &Cut, y: &Cut) -> Result<Option<Cut>, NoMemory>
+    ensures { IfOk result (λ o. (n : ℕ) (j k : FilterKnown) → IsCut n x.now j → IsCut n y.now k → IsMade (IsCut n) filter_tree_of n o (two_known Times a j k)) }
+{
+    if !product_covered(x.triple, y.triple, a) {
+        return Ok(None);
+    }
+    let Some(size) = x.size.checked_mul(y.size) else {
+        return Ok(None);
+    };
+    if !is_small(size) {
+        return Ok(None);
+    }
+    if !all_fit(x.poly.terms(), y.poly.terms()) {
+        return Ok(None);
+    }
+    let h = mul(alloc, &x.poly, &y.poly)?;
+    Ok(kept(a, size, h))
+}
+
+// Is it 64 bits?
+fn is_64(w: Width) -> bool
+    ensures { result ≡ no_wider w W64 }
+{
+    matches!(w, Width::W64)
+}
+
+/// Of two values.
+pub fn two(
+    alloc: Global,
+    t: Two,
+    w: Width,
+    a: Triple,
+    x: &Cut,
+    y: &Cut,
+) -> Result<Option<Cut>, NoMemory>
+    ensures { IfOk result (λ o. (v : Version) (vars : List Info) (n : ℕ) (j k : FilterKnown) → IsCut n x.now j → IsCut n y.now k → IsMade (IsCut n) filter_tree_of n o ((triple_rules v vars).two t w a j k)) }
+{
+    if !is_64(w) {
+        return Ok(None);
+    }
+    match t {
+        Two::Plus => sum(alloc, a, x, y),
+        Two::Minus => difference(alloc, a, x, y),
+        Two::Times => product(alloc, a, x, y),
+    }
+}
+
+/// Of one value.
+pub fn minus(alloc: Global, w: Width, a: Triple, x: &Cut) -> Result<Option<Cut>, NoMemory>
+    ensures { IfOk result (λ o. (v : Version) (vars : List Info) (n : ℕ) (k : FilterKnown) → IsCut n x.now k → IsMade (IsCut n) filter_tree_of n o ((triple_rules v vars).minus w a k)) }
+{
+    if !is_64(w) {
+        return Ok(None);
+    }
+    if !same_covered(x.triple, a) {
+        return Ok(None);
+    }
+    let h = negated(alloc, &x.poly)?;
+    Ok(kept(a, x.size, h))
+}
+
+/// Of one value that is divided by 2^n.
+pub fn divided(n: u8, a: Triple, x: Cut) -> Option<Cut>
+    ensures { (v : Version) (vars : List Info) (m : ℕ) (k : FilterKnown) → IsCut m x k → IsMade (IsCut m) filter_tree_of m result ((triple_rules v vars).cut n a k) }
+{
+    if !cut_covered(n, x.triple, a) {
+        return None;
+    }
+    kept(a, x.size, x.poly)
+}

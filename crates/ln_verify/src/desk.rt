@@ -1,0 +1,51 @@
+//! What the judge holds while it reads.
+ghost use Rattle.std.specs.Prelude.{◌≡◌, ◌↔◌, IsTrue};
+ghost use Rattle.ln_verify.specs.Here.{before_of};
+
+use crate::stacks::{Bench, Tray};
+use ln_base::Seq;
+use ln_tree::Exps;
+
+/// Where the reader stands: outside of parts; behind a name, in a filter, behind a filter or a block, in a block, behind an order.
+#[derive(Clone, Copy, PartialEq, Eq)]
+pub enum At {
+    Away,
+    AtName,
+    AtFilter,
+    AtGap,
+    AtBlock,
+    AtOrder,
+}
+
+/// What is held: the place, the number of whole parts, the exponents of the blocks, those of the one at hand last, the stacks, and
+/// the number of lists.
+#[derive(Drop)]
+pub struct Desk {
+    pub at: At,
+    pub parts: usize,
+    pub exps: Seq<Exps>,
+    pub bench: Bench,
+    pub tray: Tray,
+    pub lists: usize,
+}
+
+/// Does the reader stand there?
+pub fn is_at(at: At, x: At) -> bool
+    ensures { IsTrue result ↔ (at ≡ x) }
+{
+    at == x
+}
+
+/// Behind how many lists may an `order` line stand?
+pub fn before(at: At, lists: usize) -> Option<usize>
+    ensures { result ≡ before_of at lists }
+{
+    match at {
+        At::Away => None,
+        At::AtName => None,
+        At::AtFilter => None,
+        At::AtGap => Some(0),
+        At::AtBlock => None,
+        At::AtOrder => Some(lists),
+    }
+}

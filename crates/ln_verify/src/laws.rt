@@ -1,0 +1,38 @@
+//! What valid listings promise.
+ghost use Rattle.ln_verify.specs.Verified.{ValidListingsGiveSigns};
+ghost use Rattle.ln_verify.specs.Law.{GoodPartsAreValid, OneAnswer, ValidPartsStand, Version1Follows, Version1IsOnBounds, Version2IsOfPrograms};
+
+/// A listing has one first fault at most, and none where it is valid.
+pub fn one_answer()
+    ensures { OneAnswer }
+{}
+
+/// Each part of a valid listing follows the rules, carries its predicate's polynomial, and has the stage lists of all orders.
+pub fn valid_parts_stand()
+    ensures { ValidPartsStand }
+{}
+
+/// A listing that is valid for the accepted predicates of a table, whoever made it, has a part of each, and on each row in range
+/// the machine of the part has a verdict, whose sign is the perturbed sign.
+///
+/// On it rests what `verify` means by valid.
+pub fn valid_listings_give_signs()
+    ensures { ValidListingsGiveSigns }
+{}
+
+/// What is put from parts that are good is judged valid.
+///
+/// On it rests that what `list` puts is valid.
+pub fn good_parts_are_valid()
+    ensures { GoodPartsAreValid }
+{}
+
+/// The rules of version 1 are those on one bound for each operation; the rules of version 2 are those by which programs are kept;
+/// and what follows version 1 follows version 2.
+///
+/// On it rests that one machine runs the parts of both versions.
+pub fn versions_follow()
+    ensures bounds { Version1IsOnBounds }
+    ensures programs { Version2IsOfPrograms }
+    ensures first { Version1Follows }
+{}
