@@ -1,10 +1,10 @@
 -- The answer of `row` is that of the definition.
-use Rattle.std.proofs.Common.{◌≡◌, ◌≢◌, ℕ, ◌-◌, true, List, length, take, Some, None, Ok, Err, refl, ◌∙◌, subst, arith, eq-eqb, ne_eqb}
+use Rattle.std.proofs.Common.{◌≡◌, ◌≢◌, ℕ, ◌-◌, true, List, length, take, Some, None, Ok, Err, refl, ◌∙◌, arith, eq-eqb, ne_eqb}
 use Rattle.std.proofs.lemmas.List.{take_all, length-take}
 use Rattle.ln_tree.specs.declared.shape.VarInfo.{VarInfo}
 use Rattle.ln_tree.specs.Variables.{is_laid_out}
 use Rattle.ln_code.specs.declared.row.Row.{Row}
-use Rattle.ln_code.specs.RowOf.{row_of, IsZeroPast}
+use Rattle.ln_code.specs.RowOf.{row_of}
 use Rattle.ln_order.specs.Order.{first_equal}
 use Rattle.ln_rows.specs.Record.{columns, first_fault, indices, index_column, unless_fault, read_row, IsRead}
 use Rattle.ln_rows.specs.declared.record.RowStop.{RowStop}
@@ -41,9 +41,3 @@ is_said sites vars fields r laid size read none = by_indices sites vars fields r
 pub has_equal : (sites : ℕ) (vars : List VarInfo) (fields : List (List ℕ)) (r : Row) (place : ℕ) → is_laid_out sites vars ≡ true → length fields ≡ length (columns vars) → IsRead vars fields r → first_equal (take sites r.index) ≡ Some place
     → read_row sites vars fields ≡ Err (Index (index_column 0 place (columns vars)))
 has_equal sites vars fields r place laid size read some = by_indices sites vars fields r laid size read ∙ rw some refl
-
--- the places past those of the predicate are 0
-pub zero_past : (sites : ℕ) (vars : List VarInfo) (fields : List (List ℕ)) (r : Row) → is_laid_out sites vars ≡ true → IsRead vars fields r → IsZeroPast sites (length vars) r
-zero_past sites vars fields r laid read =
-    let n : length (columns vars) - length vars ≡ sites = omega (arith, shape_columns sites vars laid) in
-    subst (λ (k : ℕ). IsZeroPast k (length vars) r) n read.zeros

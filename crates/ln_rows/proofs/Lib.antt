@@ -1,5 +1,9 @@
-pub mod NextLemmas
+pub mod FirstLemmas
+pub mod ScanLemmas
+pub mod PlainLemmas
 pub mod RowLemmas
+pub mod PlainRowLemmas
 pub mod RangeLemmas
 pub mod ExactLemmas
 pub mod NameLemmas
+pub mod RowsLemmas

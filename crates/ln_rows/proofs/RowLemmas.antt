@@ -1,5 +1,5 @@
 -- Reading the columns from the left.
-use Rattle.std.proofs.Common.{◌≡◌, ◌≢◌, ℕ, zero, suc, ◌+◌, ◌-◌, ◌^◌, ◌<◌, ◌≤◌, Bool, true, false, ◌&&◌, List, [], ◌∷◌, ◌++◌, length, get_or, take, drop, set, ℤ, pos, Option, Some, None, Ok, Err, refl, ap, sym, ◌∙◌, arith, add-one, drop-cons, append_assoc, get_or-set_other, replicate}
+use Rattle.std.proofs.Common.{◌≡◌, ◌≢◌, ℕ, zero, suc, ◌+◌, ◌-◌, ◌^◌, ◌<◌, ◌≤◌, Bool, true, false, ◌&&◌, List, [], ◌∷◌, ◌++◌, length, get_or, take, drop, set, ℤ, pos, Option, Some, None, Ok, Err, refl, ap, sym, subst, ◌∙◌, arith, add-one, drop-cons, append_assoc, get_or-set_other}
 use Rattle.std.specs.Prelude.{unwrap_or, int_le, if◌then◌else◌}
 use Rattle.std.proofs.lemmas.List.{take_more_set, append-nil, length-set, length-drop, drop_all}
 use Rattle.csv.specs.Records.{field_at}
@@ -7,8 +7,9 @@ use Rattle.ln_base.specs.Decimal.{integer_value}
 use Rattle.ln_tree.specs.declared.shape.VarInfo.{VarInfo}
 use Rattle.ln_tree.specs.Variables.{starts_site, no_var}
 use Rattle.ln_code.specs.declared.row.Row.{Row}
+use Rattle.ln_code.specs.RowOf.{IsZeroPast}
 use Rattle.ln_rows.specs.Number.{within, number_in}
-use Rattle.ln_rows.specs.Record.{Column, SiteIndex, Variable, columns, number_of, in_column, first_fault, said, indices, values, IsRead}
+use Rattle.ln_rows.specs.Record.{Column, SiteIndex, Variable, columns, number_of, in_column, first_fault, said, indices, values, IsRead, StaysPast}
 use Rattle.ln_rows.specs.declared.numbers.NumberStop.TheVariants as stop
 use Rattle.ln_rows.specs.declared.record.RowStop.{RowStop}
 
@@ -67,34 +68,28 @@ field_or [] i = refl
 field_or (f ∷ fs) zero = refl
 field_or (f ∷ fs) (suc i) = field_or fs i
 
--- how far the variables have been read into the arrays of a row
-pub record Filled (vars : List VarInfo) (fields : List (List ℕ)) (v site at : ℕ) (index value : List ℤ) : Type 0 where
+-- how far the variables have been read into the arrays of a row, which had these before
+pub record Filled (vars : List VarInfo) (fields : List (List ℕ)) (index0 value0 : List ℤ) (v site at : ℕ) (index value : List ℤ) : Type 0 where
   pub front : Front (columns vars) fields at (columns (drop v vars)) (take site index) (take v value)
   pub size : at + length (columns (drop v vars)) ≡ length (columns vars)
   pub places : at ≡ v + site
   pub within : v ≤ length vars
-  pub index_zero : (k : ℕ) → site ≤ k → get_or index k (pos 0) ≡ pos 0
-  pub value_zero : (k : ℕ) → v ≤ k → get_or value k (pos 0) ≡ pos 0
+  pub index_stays : (k : ℕ) → site ≤ k → get_or index k (pos 0) ≡ get_or index0 k (pos 0)
+  pub value_stays : (k : ℕ) → v ≤ k → get_or value k (pos 0) ≡ get_or value0 k (pos 0)
   pub index_size : length index ≡ 5
   pub value_size : length value ≡ 168
 
--- zeros alone
-zeros : (n k : ℕ) → get_or (replicate n (pos 0)) k (pos 0) ≡ pos 0
-zeros zero k = refl
-zeros (suc n) zero = refl
-zeros (suc n) (suc k) = zeros n k
-
 -- before any variable
-pub filled_none : (vars : List VarInfo) (fields : List (List ℕ)) → Filled vars fields 0 0 0 (replicate 5 (pos 0)) (replicate 168 (pos 0))
-filled_none vars fields = record {
+pub filled_none : (vars : List VarInfo) (fields : List (List ℕ)) (index value : List ℤ) → length index ≡ 5 → length value ≡ 168 → Filled vars fields index value 0 0 0 index value
+filled_none vars fields index value five all = record {
   front = front_none (columns vars) fields;
   size = omega arith;
   places = refl;
   within = omega arith;
-  index_zero = λ k h. zeros 5 k;
-  value_zero = λ k h. zeros 168 k;
-  index_size = refl;
-  value_size = refl;
+  index_stays = λ k h. refl;
+  value_stays = λ k h. refl;
+  index_size = five;
+  value_size = all;
 }
 
 -- each variable has a column
@@ -121,7 +116,7 @@ behind_at_least : (vars : List VarInfo) (v : ℕ) → length vars ≤ v + length
 behind_at_least vars v = omega (arith, columns_at_least (drop v vars), length-drop v vars)
 
 -- there is a place for the index of a site
-pub site_fits : {vars : List VarInfo} {fields : List (List ℕ)} {v site at : ℕ} {index value : List ℤ} → Filled vars fields v site at index value → v < length vars → starts_site (var_at vars v) ≡ true
+pub site_fits : {vars : List VarInfo} {fields : List (List ℕ)} {index0 value0 : List ℤ} {v site at : ℕ} {index value : List ℤ} → Filled vars fields index0 value0 v site at index value → v < length vars → starts_site (var_at vars v) ≡ true
     → length (columns vars) ≤ length vars + 5 → site < 5
 site_fits {vars = vars} {v = v} f h e few =
     let here = ap length (at_site vars v h e) in
@@ -130,55 +125,65 @@ site_fits {vars = vars} {v = v} f h e few =
 two_more : (n : ℕ) → n + 2 ≡ suc (suc n)
 two_more n = omega arith
 
+-- the fields of a site and of its first coordinate are there
+pub site_room : {vars : List VarInfo} {fields : List (List ℕ)} {index0 value0 : List ℤ} {v site at : ℕ} {index value : List ℤ} → Filled vars fields index0 value0 v site at index value → v < length vars → starts_site (var_at vars v) ≡ true
+    → length fields ≡ length (columns vars) → at + 1 < length fields
+site_room {vars = vars} {v = v} f h e size = let here = ap length (at_site vars v h e) in omega (arith, f.size, here, size)
+
+-- and that of another variable
+pub other_room : {vars : List VarInfo} {fields : List (List ℕ)} {index0 value0 : List ℤ} {v site at : ℕ} {index value : List ℤ} → Filled vars fields index0 value0 v site at index value → v < length vars → starts_site (var_at vars v) ≡ false
+    → length fields ≡ length (columns vars) → at < length fields
+other_room {vars = vars} {v = v} f h e size = let here = ap length (at_other vars v h e) in omega (arith, f.size, here, size)
+
 -- one more site
-pub filled_site : {vars : List VarInfo} {fields : List (List ℕ)} {v site at : ℕ} {index value : List ℤ} (z y : ℤ) → Filled vars fields v site at index value → v < length vars → starts_site (var_at vars v) ≡ true
-    → length fields ≡ length (columns vars) → length vars ≤ 168 → length (columns vars) ≤ length vars + 5
+pub filled_site : {vars : List VarInfo} {fields : List (List ℕ)} {index0 value0 : List ℤ} {v site at : ℕ} {index value : List ℤ} (z y : ℤ) → Filled vars fields index0 value0 v site at index value → v < length vars → starts_site (var_at vars v) ≡ true
+    → at + 1 < length fields → length vars ≤ 168 → length (columns vars) ≤ length vars + 5
     → in_column at (number_in (pos 0) (pos (2 ^ 63 - 1)) (get_or fields at [])) ≡ Ok z → in_column (at + 1) (number_in (var_at vars v).lo (var_at vars v).hi (get_or fields (at + 1) [])) ≡ Ok y
-    → Filled vars fields (v + 1) (site + 1) (at + 2) (set index site z) (set value v y)
-filled_site {vars = vars} {fields = fields} {v = v} {site = site} {at = at} {index = index} {value = value} z y f h e size few five p q =
+    → Filled vars fields index0 value0 (v + 1) (site + 1) (at + 2) (set index site z) (set value v y)
+filled_site {vars = vars} {fields = fields} {v = v} {site = site} {at = at} {index = index} {value = value} z y f h e room few five p q =
     let cols = at_site vars v h e in
     let here = ap length cols in
     let fits : site < 5 = site_fits f h e five in
     let in_index : site < length index = omega (arith, f.index_size, fits) in
     let in_value : v < length value = omega (arith, f.value_size, few, h) in
     let one : Front (columns vars) fields at (SiteIndex ∷ Variable (var_at vars v) ∷ columns (drop (suc v) vars)) (take site index) (take v value) = rw cols at f.front in
-    let two = front_index (columns vars) fields at _ _ _ z one (omega (arith, f.size, here, size)) p in
+    let two = front_index (columns vars) fields at _ _ _ z one (omega (arith, room)) p in
     let q2 : in_column (suc at) (number_in (var_at vars v).lo (var_at vars v).hi (get_or fields (suc at) [])) ≡ Ok y = rw (add-one at) at q in
-    let three = front_value (columns vars) fields (suc at) _ _ _ _ y two (omega (arith, f.size, here, size)) q2 in
+    let three = front_value (columns vars) fields (suc at) _ _ _ _ y two (omega (arith, room)) q2 in
     record {
       front = rw (take_more_set index site z in_index, take_more_set value v y in_value, two_more at, add-one v) three;
       size = rw (add-one v) (omega (arith, f.size, here));
       places = omega (arith, f.places);
       within = omega (arith, h);
-      index_zero = λ k l. let ne : k ≢ site = omega arith in rw get_or-set_other (f.index_zero k (omega arith));
-      value_zero = λ k l. let ne : k ≢ v = omega arith in rw get_or-set_other (f.value_zero k (omega arith));
+      index_stays = λ k l. let ne : k ≢ site = omega arith in rw get_or-set_other (f.index_stays k (omega arith));
+      value_stays = λ k l. let ne : k ≢ v = omega arith in rw get_or-set_other (f.value_stays k (omega arith));
       index_size = length-set index site z ∙ f.index_size;
       value_size = length-set value v y ∙ f.value_size;
     }
 
 -- one more variable that begins no site
-pub filled_other : {vars : List VarInfo} {fields : List (List ℕ)} {v site at : ℕ} {index value : List ℤ} (y : ℤ) → Filled vars fields v site at index value → v < length vars → starts_site (var_at vars v) ≡ false
-    → length fields ≡ length (columns vars) → length vars ≤ 168 → in_column at (number_in (var_at vars v).lo (var_at vars v).hi (get_or fields at [])) ≡ Ok y
-    → Filled vars fields (v + 1) site (at + 1) index (set value v y)
-filled_other {vars = vars} {fields = fields} {v = v} {site = site} {at = at} {index = index} {value = value} y f h e size few p =
+pub filled_other : {vars : List VarInfo} {fields : List (List ℕ)} {index0 value0 : List ℤ} {v site at : ℕ} {index value : List ℤ} (y : ℤ) → Filled vars fields index0 value0 v site at index value → v < length vars → starts_site (var_at vars v) ≡ false
+    → at < length fields → length vars ≤ 168 → in_column at (number_in (var_at vars v).lo (var_at vars v).hi (get_or fields at [])) ≡ Ok y
+    → Filled vars fields index0 value0 (v + 1) site (at + 1) index (set value v y)
+filled_other {vars = vars} {fields = fields} {v = v} {site = site} {at = at} {index = index} {value = value} y f h e room few p =
     let cols = at_other vars v h e in
     let here = ap length cols in
     let in_value : v < length value = omega (arith, f.value_size, few, h) in
     let one : Front (columns vars) fields at (Variable (var_at vars v) ∷ columns (drop (suc v) vars)) (take site index) (take v value) = rw cols at f.front in
-    let two = front_value (columns vars) fields at _ _ _ _ y one (omega (arith, f.size, here, size)) p in
+    let two = front_value (columns vars) fields at _ _ _ _ y one room p in
     record {
       front = rw (take_more_set value v y in_value, add-one at, add-one v) two;
       size = rw (add-one v) (omega (arith, f.size, here));
       places = omega (arith, f.places);
       within = omega (arith, h);
-      index_zero = λ k l. f.index_zero k l;
-      value_zero = λ k l. let ne : k ≢ v = omega arith in rw get_or-set_other (f.value_zero k (omega arith));
+      index_stays = λ k l. f.index_stays k l;
+      value_stays = λ k l. let ne : k ≢ v = omega arith in rw get_or-set_other (f.value_stays k (omega arith));
       index_size = f.index_size;
       value_size = length-set value v y ∙ f.value_size;
     }
 
 -- the fault of the value behind a site's index
-pub value_fault : {vars : List VarInfo} {fields : List (List ℕ)} {v site at : ℕ} {index value : List ℤ} (z : ℤ) (s : RowStop) → Filled vars fields v site at index value → v < length vars → starts_site (var_at vars v) ≡ true
+pub value_fault : {vars : List VarInfo} {fields : List (List ℕ)} {index0 value0 : List ℤ} {v site at : ℕ} {index value : List ℤ} (z : ℤ) (s : RowStop) → Filled vars fields index0 value0 v site at index value → v < length vars → starts_site (var_at vars v) ≡ true
     → length fields ≡ length (columns vars)
     → in_column at (number_in (pos 0) (pos (2 ^ 63 - 1)) (get_or fields at [])) ≡ Ok z → in_column (at + 1) (number_in (var_at vars v).lo (var_at vars v).hi (get_or fields (at + 1) [])) ≡ Err s
     → first_fault 0 (columns vars) fields ≡ Some s
@@ -191,7 +196,7 @@ value_fault {vars = vars} {fields = fields} {v = v} {site = site} {at = at} {ind
     front_fault (columns vars) fields (suc at) _ _ _ _ s two (omega (arith, f.size, here, size)) q2
 
 -- the fault of another variable
-pub other_fault : {vars : List VarInfo} {fields : List (List ℕ)} {v site at : ℕ} {index value : List ℤ} (s : RowStop) → Filled vars fields v site at index value → v < length vars → starts_site (var_at vars v) ≡ false
+pub other_fault : {vars : List VarInfo} {fields : List (List ℕ)} {index0 value0 : List ℤ} {v site at : ℕ} {index value : List ℤ} (s : RowStop) → Filled vars fields index0 value0 v site at index value → v < length vars → starts_site (var_at vars v) ≡ false
     → length fields ≡ length (columns vars) → in_column at (number_in (var_at vars v).lo (var_at vars v).hi (get_or fields at [])) ≡ Err s
     → first_fault 0 (columns vars) fields ≡ Some s
 other_fault {vars = vars} {fields = fields} {v = v} {site = site} {at = at} {index = index} {value = value} s f h e size q =
@@ -201,7 +206,7 @@ other_fault {vars = vars} {fields = fields} {v = v} {site = site} {at = at} {ind
     front_fault (columns vars) fields at _ _ _ _ s one (omega (arith, f.size, here, size)) q
 
 -- behind the last variable
-pub filled_all : {vars : List VarInfo} {fields : List (List ℕ)} {v site at : ℕ} {r : Row} → Filled vars fields v site at r.index r.values → length vars ≤ v → IsRead vars fields r
+pub filled_all : {vars : List VarInfo} {fields : List (List ℕ)} {index0 value0 : List ℤ} {v site at : ℕ} {r : Row} → Filled vars fields index0 value0 v site at r.index r.values → length vars ≤ v → IsRead vars fields r
 filled_all {vars = vars} {fields = fields} {v = v} {site = site} {at = at} {r = r} f h =
     let all : v ≡ length vars = omega (arith, f.within, h) in
     let none : drop v vars ≡ [] = rw (all, drop_all (length vars) vars (omega arith)) refl in
@@ -211,5 +216,39 @@ filled_all {vars = vars} {fields = fields} {v = v} {site = site} {at = at} {r = 
       fault = sym (rw none at f.front.fault);
       index = rw sites (sym (append-nil (take site r.index)) ∙ rw none at f.front.indices);
       values = rw (← all) (sym (append-nil (take v r.values)) ∙ rw none at f.front.values);
-      zeros = record { index = rw sites f.index_zero; values = rw (← all) f.value_zero };
     }
+
+-- no more sites have been read than there are
+sites_below : {vars : List VarInfo} {fields : List (List ℕ)} {index0 value0 : List ℤ} {v site at : ℕ} {index value : List ℤ} → Filled vars fields index0 value0 v site at index value → site ≤ length (columns vars) - length vars
+sites_below {vars = vars} {v = v} f = omega (arith, f.size, f.places, behind_at_least vars v)
+
+-- and one more is there
+site_below : {vars : List VarInfo} {fields : List (List ℕ)} {index0 value0 : List ℤ} {v site at : ℕ} {index value : List ℤ} → Filled vars fields index0 value0 v site at index value → v < length vars → starts_site (var_at vars v) ≡ true → site < length (columns vars) - length vars
+site_below {vars = vars} {v = v} f h e = let here = ap length (at_site vars v h e) in omega (arith, f.size, f.places, here, behind_at_least vars (suc v))
+
+-- so what is past them stays
+pub filled_stays : {vars : List VarInfo} {fields : List (List ℕ)} {v site at : ℕ} (old new : Row) → Filled vars fields old.index old.values v site at new.index new.values → StaysPast (length (columns vars) - length vars) (length vars) old new
+filled_stays {vars = vars} {v = v} {site = site} old new f = record {
+  index = λ k h. let s = sites_below f in f.index_stays k (omega (arith, s, h));
+  values = λ k h. f.value_stays k (omega (arith, f.within, h));
+}
+
+-- also where the index of one more site has been written
+pub index_stays_past : {vars : List VarInfo} {fields : List (List ℕ)} {v site at : ℕ} {index : List ℤ} (old new : Row) (z : ℤ) → Filled vars fields old.index old.values v site at index new.values → v < length vars → starts_site (var_at vars v) ≡ true
+    → new.index ≡ set index site z → StaysPast (length (columns vars) - length vars) (length vars) old new
+index_stays_past {vars = vars} {v = v} {site = site} {index = index} old new z f h e q = record {
+  index = λ k l. let s = site_below f h e in let ne : k ≢ site = omega (arith, s, l) in rw (q, get_or-set_other index site k z (pos 0) ne) (f.index_stays k (omega (arith, s, l)));
+  values = λ k l. f.value_stays k (omega (arith, f.within, l));
+}
+
+-- of a predicate with so many sites
+pub stays_past : (sites : ℕ) (vars : List VarInfo) (old new : Row) → length (columns vars) ≡ length vars + sites → StaysPast (length (columns vars) - length vars) (length vars) old new → StaysPast sites (length vars) old new
+stays_past sites vars old new e s = let n : length (columns vars) - length vars ≡ sites = omega (arith, e) in subst (λ k. StaysPast k (length vars) old new) n s
+
+-- nothing has been written
+pub stays_same : (sites vars : ℕ) (r : Row) → StaysPast sites vars r r
+stays_same sites vars r = record { index = λ k h. refl; values = λ k h. refl }
+
+-- zeros stay zeros
+pub zero_stays : (sites vars : ℕ) (old new : Row) → StaysPast sites vars old new → IsZeroPast sites vars old → IsZeroPast sites vars new
+zero_stays sites vars old new s z = record { index = λ k h. s.index k h ∙ z.index k h; values = λ k h. s.values k h ∙ z.values k h }

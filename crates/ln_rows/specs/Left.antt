@@ -1,46 +1,35 @@
--- The records that a reader of bytes in memory has left.
-use Rattle.std.specs.Prelude.{◌≡◌, ◌⊎◌, ℕ, ◌+◌, ◌∷◌, Bool, true, false, ◌||◌, ◌&&◌, not, is_none, if◌then◌else◌, List, [], length, Option, Some, None}
-use denote.Ref.{Bor}
-use Rattle.csv.specs.Reading.{records, records_from, default_config, source_of, has_failed, strip_bom}
+-- The records of bytes in memory.
+use Rattle.std.specs.Prelude.{◌≡◌, ◌⊎◌, ℕ, ◌∷◌, Bool, true, false, List, [], Option, Some}
+use Rattle.csv.specs.Machine.{Read, next_record}
+use Rattle.csv.specs.Reading.{records, default_config, strip_bom}
 use Rattle.csv.specs.declared.parser.State.{State}
-use Rattle.csv.specs.declared.reader.Reader.{Reader}
-use Rattle.csv.specs.declared.reader.Trim.TheVariants as trim
+use Rattle.csv.specs.declared.parser.State.TheVariants as st
 
 -- records, each with the bytes of its fields
 abbrev pub Records : Type 0
 Records = List (List (List ℕ))
 
--- the records of a rows file: those of csv's own definition with its default settings, behind a byte order mark
+-- the records of bytes, by csv's own definition with its default settings
+abbrev pub records_of : List ℕ → Records
+records_of bytes = records default_config bytes
+
+-- the records of a rows file: those behind a byte order mark
 abbrev pub records_in : List ℕ → Records
-records_in bytes = records default_config (strip_bom bytes)
+records_in bytes = records_of (strip_bom bytes)
 
--- the records of the bytes that are left, in a state of csv's reader
-abbrev pub records_of : State → Option (List ℕ) → Records
-records_of s None = []
-records_of s (Some xs) = records_from default_config (length xs + 1) s xs
+-- the first record of bytes by that definition, with what is left behind it
+abbrev pub first_of : List ℕ → Option Read
+first_of bytes = next_record default_config st.StartRecord [] [] bytes
 
--- the records that a reader has left
-abbrev pub left_in : Reader (Bor (List ℕ)) → Records
-left_in r = records_of r.state (source_of (λ s. Some s.now) r)
+-- the states in which csv stands between two records
+abbrev pub IsBetween : State → Type 0
+IsBetween s = (s ≡ st.StartRecord) ⊎ (s ≡ st.AfterCr)
 
--- the records that are left, of which there are none once the end was told
-abbrev pub left_unless : Bool → Reader (Bor (List ℕ)) → Records
-left_unless done r = if done then [] else left_in r
-
--- whether the next read is of one record
-abbrev pub is_ready : Reader (Bor (List ℕ)) → Bool
-is_ready r = r.first || (not r.has_headers && is_none r.headers)
-
--- a reader with the default settings, but records of any length and no header of its own
-pub record IsPlain (r : Reader (Bor (List ℕ))) : Type 0 where
-  pub config : r.config ≡ default_config
-  pub trim : r.trim ≡ trim.None
-  pub ready : is_ready r ≡ true
-  pub flexible : r.flexible ≡ true
-
--- a reader with these settings, or one that found no memory and gives no more records
-abbrev pub IsReader : Reader (Bor (List ℕ)) → Type 0
-IsReader r = (has_failed r ≡ true) ⊎ IsPlain r
+-- the first record of a text has these fields, and this is left behind it
+pub record Gives (text : List ℕ) (fields : List (List ℕ)) (rest : List ℕ) : Type 0 where
+  pub state : State
+  pub between : IsBetween state
+  pub first : first_of text ≡ Some (fields, state, rest)
 
 -- a read takes the next record, or there is none
 abbrev pub Takes : Bool → Records → Records → List (List ℕ) → Type 0

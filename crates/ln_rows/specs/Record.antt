@@ -1,11 +1,11 @@
 -- What a record says: a row of a predicate, or the fault that it has.
-use Rattle.std.specs.Prelude.{◌≡◌, ℕ, zero, suc, ◌-◌, ◌^◌, ◌==◌, if◌then◌else◌, ℤ, pos, List, [], ◌∷◌, length, take, Option, Some, None, unwrap_or, Result, Ok, Err}
+use Rattle.std.specs.Prelude.{◌≡◌, ℕ, zero, suc, ◌-◌, ◌^◌, ◌≤◌, ◌==◌, slice_index_or, if◌then◌else◌, ℤ, pos, List, [], ◌∷◌, length, take, Option, Some, None, unwrap_or, Result, Ok, Err, OnOk, IfErr}
 use Rattle.ln_base.specs.Decimal.{integer_value}
 use Rattle.ln_tree.specs.declared.shape.VarInfo.{VarInfo}
 use Rattle.ln_tree.specs.Variables.{starts_site}
-use Rattle.ln_tree.specs.Row.{Row}
+use Rattle.ln_tree.specs.Row.{Row, InRange}
 use Rattle.ln_code.specs.declared.row.Row as code
-use Rattle.ln_code.specs.RowOf.{IsZeroPast}
+use Rattle.ln_code.specs.RowOf.{row_of}
 use Rattle.ln_order.specs.Order.{first_equal}
 use Rattle.ln_rows.specs.Number.{number_in}
 use Rattle.ln_rows.specs.declared.numbers.NumberStop.{NumberStop}
@@ -87,9 +87,19 @@ read_row sites vars fields =
     then unless_fault (columns vars) (record { index = take sites (indices (columns vars) fields); values = values (columns vars) fields }) (first_fault 0 (columns vars) fields)
     else Err Fields
 
--- the columns have no fault, and the row of the program is what they say, with 0 in the places past them
+-- the columns have no fault, and the row of the program is what they say
 pub record IsRead (vars : List VarInfo) (fields : List (List ℕ)) (r : code.Row) : Type 0 where
   pub fault : first_fault 0 (columns vars) fields ≡ None
   pub index : take (length (columns vars) - length vars) r.index ≡ indices (columns vars) fields
   pub values : take (length vars) r.values ≡ values (columns vars) fields
-  pub zeros : IsZeroPast (length (columns vars) - length vars) (length vars) r
+
+-- what is said of a record with these fields: the program's row is what it says, which is in range, or it has this first fault
+pub record IsReadAs {T : Type 0} (sites : ℕ) (vars : List VarInfo) (fields : List (List ℕ)) (read : Result T RowStop) (r : code.Row) : Type 0 where
+  pub ok : OnOk read (read_row sites vars fields ≡ Ok (row_of sites vars r))
+  pub err : IfErr read (λ e. read_row sites vars fields ≡ Err e)
+  pub in_range : OnOk read (InRange sites vars (row_of sites vars r))
+
+-- the places behind so many sites and so many variables are the same in both rows of the program
+pub record StaysPast (sites vars : ℕ) (old new : code.Row) : Type 0 where
+  pub index : (k : ℕ) → sites ≤ k → slice_index_or new.index k (pos 0) ≡ slice_index_or old.index k (pos 0)
+  pub values : (k : ℕ) → vars ≤ k → slice_index_or new.values k (pos 0) ≡ slice_index_or old.values k (pos 0)

@@ -1,5 +1,5 @@
-// The names of the columns.
-ghost use Rattle.std.specs.Prelude.{◌≡◌, ◌↔◌, ◌+◌, ◌<◌, ◌^◌, ◌++◌, [], ◌∷◌, map, length, IsTrue, Some, slice_get, slice_index_or, IfOk};
+//! The names of the columns.
+ghost use Rattle.std.specs.Prelude.{◌≡◌, ◌↔◌, ◌+◌, ◌-◌, ◌<◌, ◌^◌, ◌++◌, min, [], ◌∷◌, map, length, IsTrue, Some, slice_index_or, IfOk};
 ghost use Rattle.csv.specs.Records.{fields_of, field_at};
 ghost use Rattle.std.specs.Option.{option_copied};
 ghost use Rattle.ln_tree.specs.Names.{name_bytes};
@@ -183,6 +183,17 @@ fn arg_width(t: &Table, arg: &Arg) -> usize
             None => 0,
         },
     }
+}
+
+/// Room for as many fields as there are columns, and one; or `2^64 - 1` where that is less.
+pub(crate) fn room(t: &Table, p: &Pred) -> usize
+    ensures { result ≡ min (length (column_names t.now.sites t.now.params p.now.args) + 1) (2 ^ 64 - 1) }
+{
+    let mut room = 1usize;
+    'each: for arg in p.args.as_slice() {
+        room = room.saturating_add(arg_width(t, arg));
+    }
+    room
 }
 
 /// The name of column `i` of a predicate, from 0; empty where it has no such column.

@@ -1,4 +1,4 @@
-// Numbers of fields.
+//! Numbers of fields.
 ghost use Rattle.std.specs.Prelude.{◌≡◌, ◌==◌, Some};
 ghost use Rattle.ln_rows.specs.Number.{within, number_in, is_lowest};
 
@@ -15,7 +15,7 @@ pub enum NumberStop {
 }
 
 // A number that has to be from lo to hi.
-fn within(z: i64, lo: i64, hi: i64) -> Result<i64, NumberStop>
+pub(crate) fn within(z: i64, lo: i64, hi: i64) -> Result<i64, NumberStop>
     ensures { result ≡ within lo hi (Some z) }
 {
     if lo <= z && z <= hi {

@@ -1,11 +1,11 @@
-// Records as rows.
-ghost use Rattle.std.specs.Prelude.{◌≡◌, ◌+◌, ◌<◌, ◌≤◌, ℕ, pos, [], true, length, drop, count_by, slice_index_or, Some, None, Ok, Err, IfOk, IfErr};
+//! Records as rows.
+ghost use Rattle.std.specs.Prelude.{◌≡◌, ◌+◌, ◌-◌, ◌<◌, ◌≤◌, ℕ, List, [], true, length, slice_index_or, Some, None, Ok, Err, IfErr, OnOk};
 ghost use Rattle.csv.specs.Records.{fields_of};
 ghost use Rattle.ln_tree.specs.Row.{InRange};
 ghost use Rattle.ln_code.specs.RowOf.{row_of, IsZeroPast};
 ghost use Rattle.ln_tree.specs.Variables.{starts_site, is_laid_out};
 ghost use Rattle.ln_rows.specs.Number.{number_in};
-ghost use Rattle.ln_rows.specs.Record.{SiteIndex, Variable, columns, number_of, in_column, first_fault, indices, values, index_column, read_row, IsRead};
+ghost use Rattle.ln_rows.specs.Record.{SiteIndex, Variable, columns, number_of, in_column, first_fault, values, index_column, read_row, IsRead, IsReadAs, StaysPast};
 
 use crate::numbers::{NumberStop, number};
 use csv::ByteRecord;
@@ -26,7 +26,7 @@ pub enum RowStop {
     Index(u8),
 }
 
-fn starts_site(i: &VarInfo) -> bool
+pub(crate) fn starts_site(i: &VarInfo) -> bool
     ensures { result ≡ starts_site i.now }
 {
     i.site.is_some() && i.coord == 0
@@ -72,36 +72,33 @@ fn read_value(fields: &ByteRecord, at: usize, i: &VarInfo) -> Result<i64, RowSto
     read(fields, at, lo, hi)
 }
 
-// The row that the fields say, or the first fault of a column.
-fn read_columns(vars: &[VarInfo], fields: &ByteRecord) -> Result<Row, RowStop>
+// The row that the fields say, or the first fault of a column. Nothing else of the row is written.
+fn read_columns(vars: &[VarInfo], fields: &ByteRecord, into: &mut Row) -> Result<(), RowStop>
     requires few_vars { length vars.now ≤ 168 }
     requires few_sites { length (columns vars.now) ≤ length vars.now + 5 }
     requires size { length (fields_of fields.now) ≡ length (columns vars.now) }
-    ensures ok { IfOk result (λ r. IsRead vars.now (fields_of fields.now) r) }
+    ensures ok { OnOk result (IsRead vars.now (fields_of fields.now) into.new) }
     ensures err { IfErr result (λ e. first_fault 0 (columns vars.now) (fields_of fields.now) ≡ Some e) }
+    ensures past { StaysPast (length (columns vars.now) - length vars.now) (length vars.now) into.old into.new }
 {
-    let mut row = Row {
-        index: [0; 5],
-        values: [0; 168],
-    };
     let mut at = 0usize;
     let mut site = 0usize;
     'vars: for (v, i) in vars.iter().enumerate() {
         if starts_site(i) {
-            row.index[site] = read_index(fields, at)?;
-            row.values[v] = read_value(fields, at + 1, i)?;
+            into.index[site] = read_index(fields, at)?;
+            into.values[v] = read_value(fields, at + 1, i)?;
             site += 1;
             at += 2;
         } else {
-            row.values[v] = read_value(fields, at, i)?;
+            into.values[v] = read_value(fields, at, i)?;
             at += 1;
         }
     }
-    Ok(row)
+    Ok(())
 }
 
 // How many columns there are.
-fn column_count(vars: &[VarInfo], sites: u8) -> usize
+pub(crate) fn column_count(vars: &[VarInfo], sites: u8) -> usize
     requires { is_laid_out sites vars.now ≡ true }
     ensures { result ≡ length (columns vars.now) }
 {
@@ -129,33 +126,43 @@ fn index_column(vars: &[VarInfo], place: u8) -> u8
     at
 }
 
-// The row of a predicate with these variables and so many sites, or the first fault.
-fn row_over(vars: &[VarInfo], sites: u8, fields: &ByteRecord) -> Result<Row, RowStop>
+// Whether the indices of a row that was read differ, or the fault that it has.
+pub(crate) fn differ(vars: &[VarInfo], sites: u8, into: &Row) -> Result<(), RowStop>
     requires { is_laid_out sites vars.now ≡ true }
-    ensures ok { IfOk result (λ r. read_row sites vars.now (fields_of fields.now) ≡ Ok (row_of sites vars.now r)) }
-    ensures err { IfErr result (λ e. read_row sites vars.now (fields_of fields.now) ≡ Err e) }
-    ensures past { IfOk result (λ r. IsZeroPast sites (length vars.now) r) }
-    ensures in_range { IfOk result (λ r. InRange sites vars.now (row_of sites vars.now r)) }
+    ensures { (fields : List (List ℕ)) → length fields ≡ length (columns vars.now) → IsRead vars.now fields into.now → IsReadAs sites vars.now fields result into.now }
 {
-    if fields.len() != column_count(vars, sites) {
-        return Err(RowStop::Fields);
-    }
-    let row = read_columns(vars, fields)?;
-    match first_equal(&row.index[..usize::from(sites)]) {
-        None => Ok(row),
+    match first_equal(&into.index[..usize::from(sites)]) {
+        None => Ok(()),
         Some(place) => Err(RowStop::Index(index_column(vars, place))),
     }
 }
 
-/// The row that a record says, or the first fault that it has. An index is from 0 to `2^63 - 1`, a variable in its declared
-/// range, and the indices differ. Places past those of the predicate are 0.
-pub fn row(p: &Pred, fields: &ByteRecord) -> Result<Row, RowStop>
-    ensures ok { IfOk result (λ r. read_row p.now.shape.sites p.now.shape.vars (fields_of fields.now) ≡ Ok (row_of p.now.shape.sites p.now.shape.vars r)) }
-    ensures err { IfErr result (λ e. read_row p.now.shape.sites p.now.shape.vars (fields_of fields.now) ≡ Err e) }
-    ensures past { IfOk result (λ r. IsZeroPast p.now.shape.sites (length p.now.shape.vars) r) }
-    ensures in_range { IfOk result (λ r. InRange p.now.shape.sites p.now.shape.vars (row_of p.now.shape.sites p.now.shape.vars r)) }
+// The row of a predicate with these variables and so many sites, or the first fault.
+fn row_over(vars: &[VarInfo], sites: u8, fields: &ByteRecord, into: &mut Row) -> Result<(), RowStop>
+    requires { is_laid_out sites vars.now ≡ true }
+    ensures ok { OnOk result (read_row sites vars.now (fields_of fields.now) ≡ Ok (row_of sites vars.now into.new)) }
+    ensures err { IfErr result (λ e. read_row sites vars.now (fields_of fields.now) ≡ Err e) }
+    ensures past { StaysPast sites (length vars.now) into.old into.new }
+    ensures in_range { OnOk result (InRange sites vars.now (row_of sites vars.now into.new)) }
 {
-    row_over(p.shape.vars.as_slice(), p.shape.sites, fields)
+    if fields.len() != column_count(vars, sites) {
+        return Err(RowStop::Fields);
+    }
+    read_columns(vars, fields, into)?;
+    differ(vars, sites, into)
+}
+
+/// Reads the row that a record says into `into`, or tells the first fault that it has. An index is from 0 to `2^63 - 1`, a
+/// variable in its declared range, and the indices differ. Places past those of the predicate stay as they are; so where they
+/// were 0 they are 0. With a fault the places of the predicate may hold what was read of the record.
+pub fn row(p: &Pred, fields: &ByteRecord, into: &mut Row) -> Result<(), RowStop>
+    ensures ok { OnOk result (read_row p.now.shape.sites p.now.shape.vars (fields_of fields.now) ≡ Ok (row_of p.now.shape.sites p.now.shape.vars into.new)) }
+    ensures err { IfErr result (λ e. read_row p.now.shape.sites p.now.shape.vars (fields_of fields.now) ≡ Err e) }
+    ensures stays { StaysPast p.now.shape.sites (length p.now.shape.vars) into.old into.new }
+    ensures past { IsZeroPast p.now.shape.sites (length p.now.shape.vars) into.old → IsZeroPast p.now.shape.sites (length p.now.shape.vars) into.new }
+    ensures in_range { OnOk result (InRange p.now.shape.sites p.now.shape.vars (row_of p.now.shape.sites p.now.shape.vars into.new)) }
+{
+    row_over(p.shape.vars.as_slice(), p.shape.sites, fields, into)
 }
 
 #[cfg(test)]
@@ -188,20 +195,25 @@ mod tests {
         ];
         assert!(rt; is_shape(3, &vars));
         let text =
-            b"1,0,0,1,1,0,3,0,1\n1,1001,0,2,1,0,3,0,1\n1,1e3,0,2,1,0,3,0,1\n1,0,0,2,1,0,3,0\n\"1\",-0,007,2,1,0,3,0,1\n-1,0,0,2,1,0,3,0,x\n";
+            b"1,0,0,1,1,0,3,0,1\n1,1001,0,2,1,0,3,0,1\n1,1e3,0,2,1,0,3,0,1\n1,0,0,2,1,0,3,0\n-1,0,0,2,1,0,3,0,x\n\"1\",-0,007,2,1,0,3,0,1\n";
         let mut rows = Rows::new(alloc, text);
         let mut record = ByteRecord::new(alloc);
+        let mut row = Row {
+            index: [9; 5],
+            values: [9; 168],
+        };
         for want in [
             Err(RowStop::Index(3)),
             Err(RowStop::Range(1)),
             Err(RowStop::Number(1)),
             Err(RowStop::Fields),
-            Ok(7),
             Err(RowStop::Range(0)),
+            Ok(()),
         ] {
             assert!(rt; rows.next(&mut record)?);
-            assert!(rt; row_over(&vars, 3, &record).map(|r| r.values[1]) == want);
+            assert!(rt; row_over(&vars, 3, &record, &mut row) == want);
         }
+        assert!(rt; row.values[1] == 7 && row.values[6] == 9 && row.index[3] == 9);
         Ok(())
     }
 }

@@ -1,7 +1,6 @@
 //! The first rows that were perturbed.
-ghost use Rattle.std.specs.Prelude.{◌≡◌, ℕ, ◌+◌, ◌≤◌, List, [], ◌∷◌, ◌++◌, length, decimal, codes};
-ghost use Rattle.std.specs.Str.{IsAscii};
-ghost use Rattle.ln_watch.specs.Fold.{tally_after, keep_after, watch_text, is_perturbed, first_after, is_full, first_text, rows_text};
+ghost use Rattle.std.specs.Prelude.{◌≡◌, ℕ, ◌+◌, ◌≤◌, List, [], ◌∷◌, ◌++◌, length};
+ghost use Rattle.ln_watch.specs.Fold.{is_perturbed, first_after, is_full, rows_text};
 
 use crate::line::Line;
 use crate::watch::{Keep, Watch};

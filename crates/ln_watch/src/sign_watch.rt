@@ -1,7 +1,5 @@
 //! How often each sign came.
-ghost use Rattle.std.specs.Prelude.{◌≡◌, ℕ, ◌+◌, ◌≤◌, List, [], ◌∷◌, ◌++◌, length, decimal, codes};
-ghost use Rattle.std.specs.Str.{IsAscii};
-ghost use Rattle.ln_watch.specs.Fold.{tally_after, keep_after, watch_text, signs_after, signs_text};
+ghost use Rattle.std.specs.Prelude.{◌≡◌, ◌+◌, [], ◌∷◌};
 
 use crate::line::Line;
 use crate::watch::{Keep, Watch};

@@ -1,69 +1,11 @@
-// Boxes that leave, that stay and that are cut off, over ports in memory.
-ghost use Rattle.std.specs.Prelude.{◌≡◌, ℕ, List, []};
-ghost use Rattle.ln_watch.specs.Fold.{tally_after, keep_after, watch_text};
-
+//! What each watcher says of verdicts that it has seen.
 use crate::decider_watch::DeciderWatch;
 use crate::first_watch::FirstWatch;
 use crate::line::Line;
-use crate::panel::Panel;
 use crate::sign_watch::SignWatch;
 use crate::watch::{Keep, Watch};
-use ln_base::{Failed, MemConsole, NoMemory, Port, Sign};
+use ln_base::Sign;
 use ln_code::{By, Verdict};
-use std::alloc::Global;
-use std::cell::Cell;
-use std::rc::Rc;
-use std::test::Fail;
-
-// A watcher of the caller's own: it adds up the wide operations in a cell that the caller holds too.
-#[derive(Drop)]
-struct WideWatch {
-    sum: Rc<Cell<u64>>,
-}
-
-impl Watch for WideWatch {
-    ghost kind_of = { λ _. 9 };
-
-    ghost tally_of = { λ _. [] };
-
-    fn kind(&self) -> u32 {
-        9
-    }
-
-    fn see(&mut self, _row: u64, v: &Verdict) -> Keep {
-        self.sum.set(self.sum.get().wrapping_add(u64::from(v.wide)));
-        Keep::Stay
-    }
-
-    fn line(&self, buf: &mut Line) {
-        buf.clear();
-    }
-}
-
-// A watcher of the first perturbed row that holds something of the caller's.
-#[derive(Drop)]
-struct HoldingWatch {
-    first: FirstWatch,
-    _held: Rc<Cell<u64>>,
-}
-
-impl Watch for HoldingWatch {
-    ghost kind_of = { λ _. 3 };
-
-    ghost tally_of = { λ w. w.first };
-
-    fn kind(&self) -> u32 {
-        3
-    }
-
-    fn see(&mut self, row: u64, v: &Verdict) -> Keep {
-        self.first.see(row, v)
-    }
-
-    fn line(&self, buf: &mut Line) {
-        self.first.line(buf);
-    }
-}
 
 fn verdict(sign: Sign, by: By) -> Verdict {
     Verdict {
@@ -74,157 +16,36 @@ fn verdict(sign: Sign, by: By) -> Verdict {
     }
 }
 
-fn console(alloc: Global, fails: &[u64]) -> Result<MemConsole, NoMemory> {
-    MemConsole::new(alloc, 400, 100, Vec::from_slice(alloc, fails)?)
-}
-
 #[test]
-fn a_box_leaves_between_two_that_stay(rt: HostRuntime) -> Result<(), Fail> {
-    let alloc = rt.alloc();
-    let mut con = console(alloc, &[])?;
-    let held = Rc::new(alloc, Cell::new(0u64))?;
-    let mut boxes: Vec<Box<dyn Watch>> = Vec::new(alloc);
-    boxes.push(Box::new(alloc, SignWatch::new())?)?;
-    let holding = HoldingWatch {
-        first: FirstWatch::new(1),
-        _held: held.clone()?,
-    };
-    boxes.push(Box::new(alloc, holding)?)?;
-    boxes.push(Box::new(alloc, DeciderWatch::new())?)?;
-    let mut panel = Panel::new(boxes);
-    assert!(rt; Rc::strong_count(&held) == 2);
-    assert!(rt;
-        panel
-            .show(7, &verdict(Sign::Plus, By::Stage(4)), &mut con, Port::Out)
-            .is_ok()
-    );
-    assert!(rt; Rc::strong_count(&held) == 1);
-    assert!(rt;
-        panel
-            .show(8, &verdict(Sign::Minus, By::Stage(0)), &mut con, Port::Out)
-            .is_ok()
-    );
-    assert!(rt;
-        panel
-            .show(9, &verdict(Sign::Zero, By::Nothing), &mut con, Port::Out)
-            .is_ok()
-    );
-    assert!(rt;
-        panel
-            .show(10, &verdict(Sign::Plus, By::Filter), &mut con, Port::Out)
-            .is_ok()
-    );
-    assert!(rt; con.bytes(Port::Out) == b"first 7\n".as_slice());
-    assert!(rt; panel.close(&mut con, Port::Out).is_ok());
-    assert!(rt;
-        con.bytes(Port::Out)
-            == b"first 7\nsigns + 2 0 1 - 1\ndeciders filter 1 plain 1 stages 1 none 1 deepest 4\n".as_slice()
-    );
-    assert!(rt; con.bytes(Port::Err).is_empty());
-    Ok(())
-}
-
-#[test]
-fn two_of_three_boxes_leave(rt: HostRuntime) -> Result<(), Fail> {
-    let alloc = rt.alloc();
-    let mut con = console(alloc, &[])?;
-    let mut boxes: Vec<Box<dyn Watch>> = Vec::new(alloc);
-    boxes.push(Box::new(alloc, FirstWatch::new(1))?)?;
-    boxes.push(Box::new(alloc, SignWatch::new())?)?;
-    boxes.push(Box::new(alloc, FirstWatch::new(2))?)?;
-    let mut panel = Panel::new(boxes);
-    assert!(rt;
-        panel
-            .show(1, &verdict(Sign::Plus, By::Stage(1)), &mut con, Port::Err)
-            .is_ok()
-    );
-    assert!(rt;
-        panel
-            .show(2, &verdict(Sign::Plus, By::Filter), &mut con, Port::Err)
-            .is_ok()
-    );
-    assert!(rt;
-        panel
-            .show(3, &verdict(Sign::Minus, By::Stage(2)), &mut con, Port::Err)
-            .is_ok()
-    );
-    assert!(rt; panel.close(&mut con, Port::Err).is_ok());
-    assert!(rt; con.bytes(Port::Err) == b"first 1\nfirst 1 3\nsigns + 2 0 0 - 1\n".as_slice());
-    Ok(())
-}
-
-#[test]
-fn five_perturbed_rows(rt: HostRuntime) -> Result<(), Fail> {
-    let alloc = rt.alloc();
-    let mut con = console(alloc, &[])?;
-    let mut boxes: Vec<Box<dyn Watch>> = Vec::new(alloc);
-    boxes.push(Box::new(alloc, SignWatch::new())?)?;
-    boxes.push(Box::new(alloc, DeciderWatch::new())?)?;
-    boxes.push(Box::new(alloc, FirstWatch::new(3))?)?;
-    let mut panel = Panel::new(boxes);
-    for row in 1..6u64 {
-        assert!(rt;
-            panel
-                .show(row, &verdict(Sign::Plus, By::Stage(1)), &mut con, Port::Out)
-                .is_ok()
-        );
+fn signs_and_deciders_are_counted(rt: HostRuntime) {
+    let mut signs = SignWatch::new();
+    let mut deciders = DeciderWatch::new();
+    for (sign, by) in [
+        (Sign::Plus, By::Stage(4)),
+        (Sign::Minus, By::Stage(0)),
+        (Sign::Zero, By::Nothing),
+        (Sign::Plus, By::Filter),
+    ] {
+        let v = verdict(sign, by);
+        assert!(rt; signs.see(7, &v) == Keep::Stay && deciders.see(7, &v) == Keep::Stay);
     }
-    assert!(rt; panel.close(&mut con, Port::Out).is_ok());
-    assert!(rt;
-        con.bytes(Port::Out)
-            == b"first 1 2 3\nsigns + 5 0 0 - 0\ndeciders filter 0 plain 0 stages 5 none 0 deepest 1\n".as_slice()
-    );
-    Ok(())
+    let mut text = Line::new();
+    signs.line(&mut text);
+    assert!(rt; text.bytes() == b"signs + 2 0 1 - 1".as_slice());
+    deciders.line(&mut text);
+    assert!(rt; text.bytes() == b"deciders filter 1 plain 1 stages 1 none 1 deepest 4".as_slice());
+    assert!(rt; signs.kind() == 1 && deciders.kind() == 2);
 }
 
 #[test]
-fn a_watcher_of_a_caller_adds_up_wide_operations(rt: HostRuntime) -> Result<(), Fail> {
-    let alloc = rt.alloc();
-    let mut con = console(alloc, &[])?;
-    let sum = Rc::new(alloc, Cell::new(u64::MAX))?;
-    let mut boxes: Vec<Box<dyn Watch>> = Vec::new(alloc);
-    boxes.push(Box::new(alloc, WideWatch { sum: sum.clone()? })?)?;
-    boxes.push(Box::new(alloc, FirstWatch::new(1))?)?;
-    let mut panel = Panel::new(boxes);
-    assert!(rt; panel.watchers[0].kind() == 9);
-    assert!(rt;
-        panel
-            .show(1, &verdict(Sign::Plus, By::Stage(1)), &mut con, Port::Out)
-            .is_ok()
-    );
-    assert!(rt;
-        panel
-            .show(2, &verdict(Sign::Plus, By::Filter), &mut con, Port::Out)
-            .is_ok()
-    );
-    assert!(rt; sum.get() == 5);
-    assert!(rt; panel.close(&mut con, Port::Out).is_ok());
-    assert!(rt; con.bytes(Port::Out) == b"first 1\n\n".as_slice());
-    Ok(())
-}
-
-#[test]
-fn later_boxes_see_nothing_behind_a_put_that_fails(rt: HostRuntime) -> Result<(), Fail> {
-    let alloc = rt.alloc();
-    let mut con = console(alloc, &[3, 8])?;
-    let mut boxes: Vec<Box<dyn Watch>> = Vec::new(alloc);
-    boxes.push(Box::new(alloc, FirstWatch::new(1))?)?;
-    boxes.push(Box::new(alloc, FirstWatch::new(2))?)?;
-    boxes.push(Box::new(alloc, FirstWatch::new(1))?)?;
-    boxes.push(Box::new(alloc, SignWatch::new())?)?;
-    boxes.push(Box::new(alloc, SignWatch::new())?)?;
-    let mut panel = Panel::new(boxes);
-    assert!(rt;
-        panel.show(5, &verdict(Sign::Plus, By::Stage(1)), &mut con, Port::Out) == Err(Failed)
-    );
-    assert!(rt; con.bytes(Port::Out) == b"first 5\n".as_slice());
-    assert!(rt; panel.watchers.len() == 3);
-    assert!(rt;
-        panel
-            .show(6, &verdict(Sign::Plus, By::Filter), &mut con, Port::Out)
-            .is_ok()
-    );
-    assert!(rt; panel.close(&mut con, Port::Err) == Err(Failed));
-    assert!(rt; con.bytes(Port::Err) == b"first 5\nsigns + 1 0 0 - 0\n".as_slice());
-    Ok(())
+fn the_first_perturbed_rows_are_kept(rt: HostRuntime) {
+    let mut first = FirstWatch::new(2);
+    assert!(rt; first.see(5, &verdict(Sign::Plus, By::Filter)) == Keep::Stay);
+    assert!(rt; first.see(6, &verdict(Sign::Plus, By::Stage(0))) == Keep::Stay);
+    assert!(rt; first.see(u64::MAX, &verdict(Sign::Minus, By::Stage(1))) == Keep::Stay);
+    assert!(rt; first.see(8, &verdict(Sign::Plus, By::Stage(2))) == Keep::Done);
+    let mut text = Line::new();
+    first.line(&mut text);
+    assert!(rt; text.bytes() == b"first 18446744073709551615 8".as_slice());
+    assert!(rt; first.kind() == 3);
 }

@@ -1,19 +1,20 @@
-use Rattle.std.proofs.Common.{◌≡◌, false, inl, inr, rules}
-use Rattle.ln_rows.specs.Left.{left_in}
-use Rattle.ln_rows.proofs.NextLemmas.{ready_of, left_before, takes_read, takes_none, takes_named, takes_told, ends_told}
+use Rattle.std.proofs.Common.{◌+◌, length, rules, sym, ◌∙◌}
+use Rattle.csv.specs.Records.{fields_of}
+use Rattle.ln_rows.proofs.FirstLemmas.{none_records}
+use Rattle.ln_rows.proofs.ScanLemmas.{Ended}
+use Rattle.ln_rows.proofs.RowsLemmas.{from_some, next_takes, no_records}
 use Rattle.ln_rows.proofs.rows.Rows.next.Goals as goal
 
-pub returns-clause-takes : goal.returns-clause-takes
-returns-clause-takes c =
-    let going : c.self.inside.done ≡ false = search rules in
-    let was : left_in c.self.inside.rdr ≡ c.args.self.now = left_before c.self.inside.done c.self.inside.rdr _ c.self.view_is going in
-    takes_told _ _ c.read_byte_record.new.self _ (elim c.self.invariant [
-      | inl failed ↦ takes_none c.self.inside.rdr _ _ _ _ was failed (let e = c.in-Ok.ensures.failed failed in cc)
-      | inr plain ↦
-          takes_named c.self.inside.rdr _ _ _ _ was
-          (takes_read c.self.inside.rdr c.read_byte_record.new.self _ _ plain.config (c.in-Ok.ensures.reads plain.trim (ready_of _ _ _ plain.ready))
-          (λ h. let e = c.in-Ok.ensures.failed h in cc))
-    ])
+pub returns-in-Ok-Some-clause-takes : goal.returns-in-Ok-Some-clause-takes
+returns-in-Ok-Some-clause-takes c =
+    let s = from_some c.in-Ok-Some.field-0 c.in-Ok-Some.rest (λ r. Ended c.self.inside.rest.now (length c.self.inside.rest.now + 1) r.now (fields_of c.first_record.new.into)) c.in-Ok-Some.ensures.some (search rules) in
+    sym c.self.view_is ∙ next_takes _ _ _ _ s.1 s.2
 
-pub returns-clause-end : goal.returns-clause-end
-returns-clause-end c = ends_told _ _ c.read_byte_record.new.self _ (returns-clause-takes c)
+pub returns-in-Ok-None-clause-takes : goal.returns-in-Ok-None-clause-takes
+returns-in-Ok-None-clause-takes c = sym c.self.view_is ∙ none_records _ (c.in-Ok-None.ensures.none (search rules))
+
+pub returns-in-Ok-None-clause-end : goal.returns-in-Ok-None-clause-end
+returns-in-Ok-None-clause-end c e = (returns-in-Ok-None-clause-takes c, no_records)
+
+pub returns-in-Err-clause-err : goal.returns-in-Err-clause-err
+returns-in-Err-clause-err c = no_records

@@ -1,0 +1,74 @@
+-- Rows whose fields are plain numbers, right from the bytes.
+use Rattle.std.specs.Prelude.{◌≡◌, ◌≢◌, ◌⊎◌, ℕ, ◌≤◌, ◌++◌, Bool, true, false, List, [], ◌∷◌, length, ℤ, pos, neg_ℤ, Some, Ok}
+use Rattle.std.specs.List.{list_all}
+use Rattle.std.specs.Char.{is_ascii_digit}
+use Rattle.ln_base.specs.Decimal.{decimal_value}
+use Rattle.ln_tree.specs.declared.shape.VarInfo.{VarInfo}
+use Rattle.ln_code.specs.declared.row.Row.{Row}
+use Rattle.ln_rows.specs.Left.{Gives}
+use Rattle.ln_rows.specs.Number.{within, number_in}
+use Rattle.ln_rows.specs.Record.{columns, IsRead}
+
+-- digits stand in front of a text, at most 18, with this value, and this is behind them
+pub record HasDigits (text : List ℕ) (n : ℕ) (rest : List ℕ) : Type 0 where
+  pub digits : List ℕ
+  pub is : text ≡ digits ++ rest
+  pub all : list_all is_ascii_digit digits ≡ true
+  pub few : length digits ≤ 18
+  pub value : n ≡ decimal_value digits
+
+abbrev pub signed_of : Bool → ℕ → ℤ
+signed_of true n = neg_ℤ (pos n)
+signed_of false n = pos n
+
+-- one or more of them, whose number with this sign is from lo to hi
+pub record HasSigned (negative : Bool) (text : List ℕ) (lo hi z : ℤ) (rest : List ℕ) : Type 0 where
+  pub n : ℕ
+  pub digits : HasDigits text n rest
+  pub some : length rest ≢ length text
+  pub says : within lo hi (Some (signed_of negative n)) ≡ Ok z
+
+-- a byte of a field without quotes that isn't its end
+pub record IsInner (b : ℕ) : Type 0 where
+  pub comma : b ≢ 44
+  pub quote : b ≢ 34
+  pub feed : b ≢ 10
+  pub return_ : b ≢ 13
+
+abbrev pub AreInner : List ℕ → Type 0
+AreInner [] = Unit {0}
+AreInner (b ∷ bs) = IsInner b × AreInner bs
+
+-- a field of such bytes stands in front of a text, which says this number from lo to hi, and this is behind it
+pub record HasNumber (text : List ℕ) (lo hi z : ℤ) (rest : List ℕ) : Type 0 where
+  pub first : ℕ
+  pub others : List ℕ
+  pub is : text ≡ first ∷ (others ++ rest)
+  pub inner : AreInner (first ∷ others)
+  pub says : number_in lo hi (first ∷ others) ≡ Ok z
+
+-- a line feed or a return stands in front of a text, and this is behind it
+abbrev pub PastFeed : List ℕ → List ℕ → Type 0
+PastFeed text rest = (text ≡ 10 ∷ rest) ⊎ (text ≡ 13 ∷ rest)
+
+-- the end of a record stands in front of a text, and this is behind it
+abbrev pub PastEnd : List ℕ → List ℕ → Type 0
+PastEnd text rest = PastFeed text rest ⊎ ((text ≡ []) × (rest ≡ []))
+
+-- a comma, or the end of a record, stands in front of a text
+abbrev pub IsPast : Bool → List ℕ → List ℕ → Type 0
+IsPast true text rest = PastEnd text rest
+IsPast false text rest = text ≡ 44 ∷ rest
+
+-- such a field and a comma, or the end of the record, and this is behind them
+pub record HasValue (text : List ℕ) (lo hi : ℤ) (last : Bool) (z : ℤ) (rest : List ℕ) : Type 0 where
+  pub behind : List ℕ
+  pub number : HasNumber text lo hi z behind
+  pub past : IsPast last behind rest
+
+-- the first record of a text has a field for each column, and the program's row is what they say
+pub record IsPlainRow (vars : List VarInfo) (text rest : List ℕ) (r : Row) : Type 0 where
+  pub fields : List (List ℕ)
+  pub gives : Gives text fields rest
+  pub size : length fields ≡ length (columns vars)
+  pub read : IsRead vars fields r
