@@ -48,5 +48,5 @@ one g a b done done = refl
 kind : (g : Given) (e : End) → CheckEnds g e → IsWorkEnd e
 kind g e done = kind_of.done
 
-pub lawful : IsLawful CheckSaid CheckEnds
-lawful = record { tells = tells; one = one; kind = kind }
+pub lawful : IsLawful (λ boxes. CheckSaid) CheckEnds
+lawful = record { tells = λ boxes. tells; one = one; kind = kind }

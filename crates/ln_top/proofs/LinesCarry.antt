@@ -9,8 +9,8 @@ use Rattle.ln_top.specs.Said.{Said, Count, count, put_both, IsFront}
 use Rattle.ln_top.specs.Carried as c
 use Rattle.ln_top.specs.Carried.{CarriesOut, ended, of_owed, of_part}
 use Rattle.ln_top.specs.Lines as l
-use Rattle.ln_top.specs.Lines.{Lines, Ran, Wrote, PutsFronts, all_good}
-use Rattle.ln_top.proofs.LinesLaws.{rises_from, lines_have, lines_join, HasLines, fronts_behind, fronts_wider, wrote_all, broke_off, both_twice, ok_err, ok_same}
+use Rattle.ln_top.specs.Lines.{Lines, Ran, Wrote, all_good, Closes, closed, unclosed}
+use Rattle.ln_top.proofs.LinesLaws.{rises_from, lines_have, lines_join, HasLines, fronts_behind, fronts_wider, wrote_all, broke_off, both_twice, ok_err, ok_same, no_last}
 
 -- lines with the last lines behind them, as those of watchers at the end
 abbrev pub with_last : {S : Type 0} → End → (S → List ℕ) → (S → List ℕ) → List ℕ → List ℕ → S → Said
@@ -61,3 +61,11 @@ close_carried step good lo le end s z records owes part right x y k was mid now 
     let q = broke_off (lo z) (le z) (count y k) mid now v in
     let w = fronts_behind out err (lo z) (le z) was mid now f q.1 in
     c.cut (rises_from x y k u q.0) (of_owed (with_last end lo le out err z) w.o w.e (b.whole out err z d) w.of_out w.of_err w.shown) refl
+
+-- the last lines for Err were put behind the records, or cut off
+pub closes_carried : {S R : Type 0} (step : S → R → List ℕ → List ℕ → S → Type 0) (good : R → Bool) (le : S → List ℕ) (end : Bool → End) (s z : S) (records : List R) (owes : Said → Type 0) (part : List ℕ → List ℕ → Type 0) (right : Bool) (result : Result End Early) (x y k : ℕ) (was mid now : Option Shown)
+    → IsByLines step no_last le (end (all_good good records)) s records owes part → Ran step good s records (count x y) (Ok right) was mid z → Closes (le z) (end right) (count y k) result mid now → CarriesOut owes part ⊥ ⊥ (count x k) result was now
+closes_carried step good le end s z records owes part right result x y k was mid now b r (closed e w) =
+    subst (λ t. CarriesOut owes part ⊥ ⊥ (count x k) t was now) (sym e) (end_carried step good no_last le end s z records owes part right x y k was mid now b r w)
+closes_carried step good le end s z records owes part right result x y k was mid now b r (unclosed e w) =
+    subst (λ t. CarriesOut owes part ⊥ ⊥ (count x k) t was now) (sym e) (close_carried step good no_last le (end (all_good good records)) s z records owes part right x y k was mid now b r w)

@@ -12,7 +12,7 @@ use Rattle.ln_top.specs.Said.{Count, count, Rises, IsCalm, put_both, IsFront}
 use Rattle.ln_top.proofs.Chain.{true_false}
 use Rattle.ln_top.proofs.Carry.{front_of, out_alone}
 use Rattle.ln_top.specs.Lines as l
-use Rattle.ln_top.specs.Lines.{Lines, none, more, all_good, PutsFronts, Wrote, wrote, broke, Gathers, worked, torn, given_up, Empties, held_on, emptied, stuck, Sends, broken, failed, Ran, all, cut, short}
+use Rattle.ln_top.specs.Lines.{Lines, none, more, all_good, PutsFronts, PutsAll, PutsOne, every, Wrote, wrote, broke, Takes, took, tore, left_off, Gathers, worked, torn, given_up, Empties, held_on, emptied, stuck, Sends, broken, failed, Ran, all, cut, short}
 
 -- both ports, twice
 pub both_twice : (o e out err : List ℕ) (was : Option Shown) → put_both out err (put_both o e was) ≡ put_both (o ++ out) (e ++ err) was
@@ -98,7 +98,7 @@ IsMemory (Err early.Memory) = Unit {0}
 IsMemory (Err early.Write) = ⊥
 IsMemory (Err early.Read) = ⊥
 
-memory_write : {T : Type 0} {P : Type 0} → (let r : Result T Early = Err early.Memory in r ≡ Err early.Write) → P
+pub memory_write : {T : Type 0} {P : Type 0} → (let r : Result T Early = Err early.Memory in r ≡ Err early.Write) → P
 memory_write e = absurd (subst IsMemory e tt)
 
 -- the lines of the first records stand, or the last of them are held, and the rest is left: what was put and what is held are the lines so far
@@ -115,19 +115,37 @@ pub record Running {S R : Type 0} (step : S → R → List ℕ → List ℕ → 
 pub running_none : {S R : Type 0} (step : S → R → List ℕ → List ℕ → S → Type 0) (good : R → Bool) (s : S) (records : List R) (held : List ℕ) (was : Option Shown) (before : ℕ) → held ≡ [] → Running step good s records records true held was was s before before
 running_none step good s records held was before h = record { done = []; parts = refl; sent = []; err = []; lines = subst (λ a. Lines step s [] a [] s) (sym h) (none s); shown = sym (both_nothing was); goods = refl; calm = refl }
 
--- a record's bytes for Out were gathered, and it puts none on Err
-pub running_adds : {S R : Type 0} (step : S → R → List ℕ → List ℕ → S → Type 0) (good : R → Bool) (s m z : S) (records left rest : List R) (r : R) (so_far right next : Bool) (o held grown : List ℕ) (was now : Option Shown) (a b : ℕ)
-    → Running step good s records left so_far held was now m a b → left ≡ r ∷ rest → step m r o [] z → grown ≡ held ++ o → right ≡ good r → next ≡ (so_far && right) → Running step good s records rest next grown was now z a b
-running_adds step good s m z records left rest r so_far right next o held grown was now a b k l t e g h = record {
+-- the lines of one record more
+lines_more : {S R : Type 0} (step : S → R → List ℕ → List ℕ → S → Type 0) (s m z : S) (done : List R) (r : R) (o e out err : List ℕ) → Lines step s done out err m → step m r o e z → Lines step s (done ++ r ∷ []) (out ++ o) (err ++ e) z
+lines_more step s m z done r o e out err k t = lines_join step s m z done (r ∷ []) out err o e k (lines_one step m z r o e t)
+
+-- a record was taken: its bytes for Out were gathered, and those for Err were put
+pub running_takes : {S R : Type 0} (step : S → R → List ℕ → List ℕ → S → Type 0) (good : R → Bool) (s m z : S) (records left rest : List R) (r : R) (so_far right next : Bool) (held grown : List ℕ) (was mid now : Option Shown) (a b d : ℕ)
+    → Running step good s records left so_far held was mid m a b → left ≡ r ∷ rest → Takes step good m r (count b d) (Ok right) held grown mid now z → next ≡ (so_far && right) → Running step good s records rest next grown was now z a d
+running_takes step good s m z records left rest r so_far right next held grown was mid now a b d k l (took o e q t x g f) h = record {
   done = k.done ++ r ∷ [];
   parts = k.parts ∙ rw (l, append_assoc) refl;
   sent = k.sent;
-  err = k.err;
-  lines = subst (λ x. Lines step s (k.done ++ r ∷ []) x k.err z) (append_assoc k.sent held o ∙ ap (λ x. k.sent ++ x) (sym e)) (subst (λ x. Lines step s (k.done ++ r ∷ []) ((k.sent ++ held) ++ o) x z) (append-nil k.err) (lines_join step s m z k.done (r ∷ []) (k.sent ++ held) k.err o [] k.lines (lines_one step m z r o [] t)));
-  shown = k.shown;
-  goods = h ∙ rw (k.goods, good_join) (ap (λ b. all_good good k.done && b) g);
-  calm = k.calm;
+  err = k.err ++ e;
+  lines = subst (λ t. Lines step s (k.done ++ r ∷ []) t (k.err ++ e) z) (append_assoc k.sent held o ∙ ap (λ t. k.sent ++ t) (sym g)) (lines_more step s m z k.done r o e (k.sent ++ held) k.err k.lines t);
+  shown = f ∙ ap (put_both [] e) k.shown ∙ both_twice k.sent k.err [] e was ∙ ap (λ t. put_both t (k.err ++ e) was) (append-nil k.sent);
+  goods = h ∙ rw (k.goods, good_join) (ap (λ b. all_good good k.done && b) (ok_same x));
+  calm = q ∙ k.calm;
 }
+running_takes step good s m z records left rest r so_far right next held grown was mid now a b d k l (tore o e n t p x w) h = ok_err x
+running_takes step good s m z records left rest r so_far right next held grown was mid now a b d k l (left_off q x g f) h = ok_err x
+
+-- it wasn't: a put was cut off, or it was given up
+pub running_stops : {S R : Type 0} (step : S → R → List ℕ → List ℕ → S → Type 0) (good : R → Bool) (s m z : S) (records left rest : List R) (r : R) (so_far : Bool) (early : Early) (held grown last : List ℕ) (was mid now : Option Shown) (a b d : ℕ)
+    → Running step good s records left so_far held was mid m a b → left ≡ r ∷ rest → Takes step good m r (count b d) (Err early) held grown mid now z → last ≡ grown → Gathers step good s records (count a d) (Err early) last was now z
+running_stops step good s m z records left rest r so_far early held grown last was mid now a b d k l (took o e q t x g f) h = ok_err (sym x)
+running_stops step good s m z records left rest r so_far early held grown last was mid now a b d k l (tore o e n t p x w) h =
+    let wide = fronts_wider (k.sent ++ []) (k.err ++ e) (held ++ o) [] was now (fronts_behind k.sent k.err [] e was mid now k.shown w) in
+    let out = subst (λ t. PutsFronts t ((k.err ++ e) ++ []) was now) (ap (λ t. t ++ (held ++ o)) (append-nil k.sent) ∙ sym (append_assoc k.sent held o)) wide in
+    torn (k.done ++ r ∷ []) rest ((k.sent ++ held) ++ o) (k.err ++ e) n (k.parts ∙ rw (l, append_assoc) refl) (lines_more step s m n k.done r o e (k.sent ++ held) k.err k.lines t) (rises_from a b d k.calm p)
+    (subst (λ t. PutsFronts ((k.sent ++ held) ++ o) t was now) (append-nil (k.err ++ e)) out) x
+running_stops step good s m z records left rest r so_far early held grown last was mid now a b d k l (left_off q x g f) h =
+    given_up k.done left k.sent k.err m (q ∙ k.calm) k.parts (subst (λ t. Lines step s k.done (k.sent ++ t) k.err m) (sym (h ∙ g)) k.lines) (f ∙ k.shown) x
 
 -- what was held is held on, or it was put
 pub running_empties : {S R : Type 0} (step : S → R → List ℕ → List ℕ → S → Type 0) (good : R → Bool) (s z : S) (records left : List R) (so_far : Bool) (held kept : List ℕ) (was mid now : Option Shown) (a b d : ℕ)
@@ -243,3 +261,40 @@ sends_broken held ran puts was now n w = let p = broke_off held [] puts was now 
 
 pub sends_none : (held : List ℕ) (ran : Result Bool Early) (k : ℕ) (was : Option Shown) → ran ≡ Err Write → Sends held ran (Err Write) (count k k) was was
 sends_none held ran k was e = failed e refl (sym e) refl
+
+-- ---- records that put their bytes at once: nothing is held
+all_every : {R : Type 0} (xs : List R) → all_good every xs ≡ true
+all_every [] = refl
+all_every (x ∷ xs) = all_every xs
+
+-- a record was put
+pub running_puts : {S R : Type 0} (step : S → R → List ℕ → List ℕ → S → Type 0) (s m z : S) (records left rest : List R) (r : R) (was mid now : Option Shown) (a b d : ℕ)
+    → Running step every s records left true [] was mid m a b → left ≡ r ∷ rest → PutsOne step m r (count b d) true mid now z → Running step every s records rest true [] was now z a d
+running_puts step s m z records left rest r was mid now a b d k l p =
+    let w = wrote_all p.out p.err (count b d) mid now p.wrote in
+    let t : step m r p.out p.err z = subst (λ y. step m r p.out p.err y) (sym (p.stays refl)) p.stepped in
+    record {
+      done = k.done ++ r ∷ [];
+      parts = k.parts ∙ rw (l, append_assoc) refl;
+      sent = k.sent ++ p.out;
+      err = k.err ++ p.err;
+      lines = subst (λ t. Lines step s (k.done ++ r ∷ []) t (k.err ++ p.err) z) (ap (λ t. t ++ p.out) (append-nil k.sent) ∙ sym (append-nil (k.sent ++ p.out))) (lines_more step s m z k.done r p.out p.err (k.sent ++ []) k.err k.lines t);
+      shown = w.1 ∙ ap (put_both p.out p.err) k.shown ∙ both_twice k.sent k.err p.out p.err was;
+      goods = sym (all_every (k.done ++ r ∷ []));
+      calm = w.0 ∙ k.calm;
+    }
+
+-- or it was cut off
+pub running_tears : {S R : Type 0} (step : S → R → List ℕ → List ℕ → S → Type 0) (s m z y : S) (records left rest : List R) (r : R) (was mid now : Option Shown) (a b d : ℕ)
+    → Running step every s records left true [] was mid m a b → left ≡ r ∷ rest → PutsOne step m r (count b d) false mid now z → PutsAll step s records (count a d) false was now y
+running_tears step s m z y records left rest r was mid now a b d k l p =
+    let w = broke_off p.out p.err (count b d) mid now p.wrote in
+    cut (k.done ++ r ∷ []) rest (k.sent ++ p.out) (k.err ++ p.err) p.left (k.parts ∙ rw (l, append_assoc) refl)
+    (subst (λ t. Lines step s (k.done ++ r ∷ []) (t ++ p.out) (k.err ++ p.err) p.left) (append-nil k.sent) (lines_more step s m p.left k.done r p.out p.err (k.sent ++ []) k.err k.lines p.stepped)) (rises_from a b d k.calm w.0)
+    (fronts_behind k.sent k.err p.out p.err was mid now k.shown w.1) refl
+
+-- all of them were put
+pub running_done : {S R : Type 0} (step : S → R → List ℕ → List ℕ → S → Type 0) (s z : S) (records left : List R) (was now : Option Shown) (a b : ℕ) → Running step every s records left true [] was now z a b → left ≡ [] → PutsAll step s records (count a b) true was now z
+running_done step s z records left was now a b k e =
+    let whole : k.done ≡ records = sym (k.parts ∙ rw (e, append-nil) refl) in
+    all k.sent k.err k.calm (subst (λ rs. Lines step s rs k.sent k.err z) whole (subst (λ t. Lines step s k.done t k.err z) (append-nil k.sent) k.lines)) (ap Ok (sym (all_every records))) k.shown

@@ -22,6 +22,8 @@ use Rattle.ln_rows.specs.Record.{read_row}
 use Rattle.ln_rows.proofs.RangeLemmas.{row_in_range}
 use Rattle.ln_rows.specs.declared.record.RowStop.{RowStop}
 use Rattle.ln_code.specs.declared.verdict.Verdict.{Verdict}
+use Rattle.ln_top.specs.Watching.{Watching, next_lines, next}
+use Rattle.ln_top.proofs.WatchingLaws.{alike_lines, alike_next}
 use Rattle.ln_compile.specs.Accepted.{root_of}
 use Rattle.ln_compile.specs.Compiled.{IsStageCount}
 use Rattle.ln_compile.specs.Filtered.{IsDue}
@@ -55,6 +57,16 @@ says_one p names fields (refused_ s e) (refused_ t f) = ap (λ (z : RowStop). sa
 
 pub one_line : (p : Pred) (names fields : List (List ℕ)) (a b : List ℕ) → IsLineOf (pred_of p) names fields a → IsLineOf (pred_of p) names fields b → a ≡ b
 one_line p names fields a b l k = l.is ∙ ap line (says_one p names fields l.says k.says) ∙ sym k.is
+
+-- watchers put the same and are left the same
+pub says_alike : (p : Pred) (fields : List (List ℕ)) {x y : Result Verdict RowStop} → Says (pred_of p) fields x → Says (pred_of p) fields y → (w : Watching) → (next_lines x w ≡ next_lines y w) × (next x w ≡ next y w)
+says_alike p fields (due r v e d) (due s u f g) w =
+    let q : s ≡ r = same_row s r (read_row p.shape.sites p.shape.vars fields) f e in
+    let a = one_due p.shape (pred_of p) r v u refl refl (row_in_range p.shape.sites p.shape.vars fields r p.shape.kept e) d (subst (λ (z : Row). IsDue (pred_of p) z u) q g) in
+    (alike_lines v u w a.sign a.by, alike_next v u w a.sign a.by)
+says_alike p fields (due r v e d) (refused_ s f) w = absurd (not_both r s (read_row p.shape.sites p.shape.vars fields) e f)
+says_alike p fields (refused_ s f) (due r v e d) w = absurd (not_both r s (read_row p.shape.sites p.shape.vars fields) e f)
+says_alike p fields (refused_ s e) (refused_ t f) w = (refl, refl)
 
 -- ---- stage counts
 -- the sites of an order differ in their places

@@ -9,7 +9,9 @@ use Rattle.ln_tree.specs.Row.{InRange, Row}
 use Rattle.ln_tree.specs.Table.{PredOf, pred_of}
 use Rattle.ln_code.specs.Kept.{IsProgram}
 use Rattle.ln_code.specs.Part.{Part}
+use Rattle.ln_code.specs.declared.verdict.Verdict.{Verdict}
 use Rattle.ln_rows.specs.Left.{Records, records_in}
+use Rattle.ln_watch.specs.Panel.{State}
 use Rattle.ln_rows.specs.Record.{read_row}
 use Rattle.ln_rows.specs.declared.record.RowStop.{RowStop}
 use Rattle.ln_rows.proofs.RangeLemmas.{row_in_range}
@@ -18,31 +20,42 @@ use Rattle.ln_code.proofs.Machine.{programs-run, rows-have}
 use Rattle.ln_compile.proofs.FilteredLemmas.{programs_answer}
 use Rattle.ln_top.specs.declared.status.End.{End}
 use Rattle.ln_top.specs.declared.status.Early.{Early}
+use Rattle.ln_top.specs.declared.status.Early.TheVariants.{Write, Memory}
 use Rattle.ln_top.specs.declared.stop.Stop.TheVariants as stop
 use Rattle.ln_top.specs.declared.stop.Why.TheVariants.{Header}
-use Rattle.ln_top.specs.Said.{Said, Count}
+use Rattle.ln_top.specs.Said.{Said, Count, count, line}
 use Rattle.ln_top.specs.Source.{view}
 use Rattle.ln_top.specs.Steps.{Given}
 use Rattle.ln_top.specs.Columns.{columns_of, names_of}
-use Rattle.ln_top.specs.Line.{IsLineOf, due, refused_, is_read, is_row}
-use Rattle.ln_top.specs.Lines.{all_good}
-use Rattle.ln_top.specs.Carried.{CarriesOut, Says}
+use Rattle.ln_top.specs.Line as of_record
+use Rattle.ln_top.specs.Line.{IsLineOf, due, refused_, is_read, is_row, is_said, said_text}
+use Rattle.ln_top.specs.Lines.{all_good, Takes, took, tore, left_off, Wrote}
+use Rattle.ln_top.specs.Carried as carried
+use Rattle.ln_top.specs.Carried.{CarriesOut}
 use Rattle.ln_top.specs.Work.{IsLawful, IsWorkEnd}
 use Rattle.ln_top.specs.Work as kind_of
 use Rattle.ln_top.specs.Run as run
-use Rattle.ln_top.specs.Run.{RunStep, RunSaid, RunPart, RunEnds, HasRecords, IsWrongHeader, IsRow, IsNoRow, end_of}
+use Rattle.ln_top.specs.Run.{RunStep, RunSaid, RunPart, RunEnds, HasRecords, HeaderIs, IsWrongHeader, IsRow, IsNoRow, end_of}
 use Rattle.ln_top.proofs.Carry.{told_carried}
 use Rattle.ln_top.proofs.Likeness.{columns_like}
-use Rattle.ln_top.proofs.LinesLaws.{no_last}
+use Rattle.ln_top.specs.Watching.{Watching, watching, next_lines, next, last_of}
+use Rattle.ln_top.proofs.LinesLaws.{no_last, wrote_all, broke_off}
+use Rattle.ln_top.proofs.SaysLaws.{said_row}
 use Rattle.ln_top.proofs.LinesCarry.{IsByLines}
 
 -- what stands ready for this has these records
 pub has_records : (g : Given) (t : Table) (p : Pred) (rows : List ℕ) (records : Records) → g.table ≡ view t → g.preds ≡ pred_of p ∷ [] → g.texts ≡ rows ∷ [] → records ≡ records_in rows → HasRecords g (pred_of p) (names_of t p) records
 has_records g t p rows records e f h r = record { pred = f; columns = columns_like t.sites t.params p.args ∙ ap (λ v. columns_of v (pred_of p)) (sym e); rows = rows; text = h; are = sym r }
 
+-- the first record is the columns' names or not
+pub header_is : (names : List (List ℕ)) (old new : Records) (right : Bool) → (right ≡ true → old ≡ names ∷ new) → (right ≡ false → (rest : Records) → old ≡ names ∷ rest → ⊥) → HeaderIs names old new right
+header_is names old new true h w = h refl
+header_is names [] new false h w = tt
+header_is names (first ∷ rest) new false h w = λ e. w refl rest (ap (λ (f : List (List ℕ)). f ∷ rest) e)
+
 -- the header is wrong
-pub header_carried : (g : Given) (p : PredOf) (names : List (List ℕ)) (records : Records) (puts : Count) (result : Result End Early) (was now : Option Shown) → HasRecords g p names records → IsWrongHeader names records → Says (stop.Tell Header) puts result was now → CarriesOut (RunSaid g) (RunPart g) ⊥ ⊥ puts result was now
-header_carried g p names records puts result was now h w s = told_carried (RunSaid g) (RunPart g) ⊥ ⊥ puts Header result was now (run.header p names records h w) s
+pub header_carried : (boxes : List State) (g : Given) (p : PredOf) (names : List (List ℕ)) (records : Records) (puts : Count) (result : Result End Early) (was now : Option Shown) → HasRecords g p names records → IsWrongHeader names records → carried.Says (stop.Tell Header) puts result was now → CarriesOut (RunSaid boxes g) (RunPart boxes g) ⊥ ⊥ puts result was now
+header_carried boxes g p names records puts result was now h w s = told_carried (RunSaid boxes g) (RunPart boxes g) ⊥ ⊥ puts Header result was now (run.header p names records h w) s
 
 -- each record has a line
 module _ (p : Pred) (part : Part) (k : IsProgram part) (o : IsProgramOf (pred_of p) part) (names : List (List ℕ)) where
@@ -57,16 +70,32 @@ module _ (p : Pred) (part : Part) (k : IsProgram part) (o : IsProgramOf (pred_of
           (_, record { said = Ok v.0; says = due row v.0 e (programs_answer (pred_of p) part row v.0 k o range v.1); is = refl })
       by_read (Err stop) e = (_, record { said = Err stop; says = refused_ stop e; is = refl })
 
-  has : (s : Unit {0}) (fields : List (List ℕ)) → (out : List ℕ) × (err : List ℕ) × (z : Unit {0}) × RunStep (pred_of p) names s fields out err z
-  has s fields = let l = line_there fields in (l.0, [], tt, record { line = l.1; none = refl })
+  has : (s : Watching) (fields : List (List ℕ)) → (out : List ℕ) × (err : List ℕ) × (z : Watching) × RunStep (pred_of p) names s fields out err z
+  has s fields = let l = line_there fields in (l.0, next_lines l.1.said s, next l.1.said s, record { line = l.1; told = refl; left = refl })
 
   -- what it owes is by lines
-  pub by_lines : (g : Given) (records : Records) → HasRecords g (pred_of p) names (names ∷ records) → IsByLines (RunStep (pred_of p) names) no_last no_last (end_of (all_good (is_row (pred_of p)) records)) tt records (RunSaid g) (RunPart g)
-  by_lines g records h = record {
+  pub by_lines : (boxes : List State) (g : Given) (records : Records) → HasRecords g (pred_of p) names (names ∷ records) → IsByLines (RunStep (pred_of p) names) no_last last_of (end_of (all_good (is_row (pred_of p)) records)) (watching 0 boxes) records (RunSaid boxes g) (RunPart boxes g)
+  by_lines boxes g records h = record {
     has = has;
-    whole = λ out err z d. subst (λ t. RunSaid g (record { end = end_of (all_good (is_row (pred_of p)) records); out = t; err = err ++ [] })) (sym (append-nil out)) (run.ran (pred_of p) names records out err h d);
-    first = λ done left out err z e d. run.first (pred_of p) names done left (subst (λ (rs : Records). HasRecords g (pred_of p) names (names ∷ rs)) e h) d;
+    whole = λ out err z d. subst (λ t. RunSaid boxes g (record { end = end_of (all_good (is_row (pred_of p)) records); out = t; err = err ++ last_of z })) (sym (append-nil out)) (run.ran (pred_of p) names records out err z h d);
+    first = λ done left out err z e d. run.first (pred_of p) names done left z (subst (λ (rs : Records). HasRecords g (pred_of p) names (names ∷ rs)) e h) d;
   }
+
+-- a record was taken, or a put was cut off, or its line took memory
+pub takes_all : (p : PredOf) (names fields : List (List ℕ)) (w z : Watching) (said : Result Verdict RowStop) (right : Bool) (held grown : List ℕ) (a b : ℕ) (was now : Option Shown)
+    → of_record.Says p fields said → grown ≡ held ++ line (said_text names said) → Wrote [] (next_lines said w) (count a b) true was now → z ≡ next said w → right ≡ is_said said → Takes (RunStep p names) (is_row p) w fields (count a b) (Ok right) held grown was now z
+takes_all p names fields w z said right held grown a b was now s g h l r =
+    let e = wrote_all [] (next_lines said w) (count a b) was now h in
+    took (line (said_text names said)) (next_lines said w) e.0 (record { line = record { said = said; says = s; is = refl }; told = refl; left = l }) (ap Ok (said_row p fields said right s r)) g e.1
+
+pub takes_cut : (p : PredOf) (names fields : List (List ℕ)) (w z : Watching) (said : Result Verdict RowStop) (held grown : List ℕ) (a b : ℕ) (was now : Option Shown)
+    → of_record.Says p fields said → grown ≡ held ++ line (said_text names said) → Wrote [] (next_lines said w) (count a b) false was now → Takes (RunStep p names) (is_row p) w fields (count a b) (Err Write) held grown was now z
+takes_cut p names fields w z said held grown a b was now s g h =
+    let e = broke_off [] (next_lines said w) (count a b) was now h in
+    tore (line (said_text names said)) (next_lines said w) (next said w) (record { line = record { said = said; says = s; is = refl }; told = refl; left = refl }) e.0 refl e.1
+
+pub takes_none : (p : PredOf) (names fields : List (List ℕ)) (w z : Watching) (held grown : List ℕ) (a : ℕ) (was : Option Shown) → grown ≡ held → Takes (RunStep p names) (is_row p) w fields (count a a) (Err Memory) held grown was was z
+takes_none p names fields w z held grown a was e = left_off refl refl e refl
 
 -- a record that is a row in range, and one that isn't
 as_row : (p : PredOf) (fields : List (List ℕ)) (o : Result Row RowStop) → read_row p.sites p.vars fields ≡ o → is_read o ≡ true → IsRow p fields
@@ -125,9 +154,9 @@ not_all p (f ∷ fs) after fields n = and_false (is_row p f) (all_good (is_row p
     and_false true b e = e
     and_false false b e = refl
 
-tells : (g : Given) (a : Said) → RunSaid g a → RunEnds g a.end
-tells g a (run.header p names records h x) = run.wrong p names records h x
-tells g a (run.ran p names records out err h x) = by_good (all_good (is_row p) records) refl
+tells : (boxes : List State) (g : Given) (a : Said) → RunSaid boxes g a → RunEnds g a.end
+tells boxes g a (run.header p names records h x) = run.wrong p names records h x
+tells boxes g a (run.ran p names records out err z h x) = by_good (all_good (is_row p) records) refl
   where
     by_good : (b : Bool) → all_good (is_row p) records ≡ b → RunEnds g (end_of b)
     by_good true e = run.done p names records h (all_are p records e)

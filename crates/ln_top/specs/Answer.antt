@@ -1,6 +1,7 @@
--- What the program answers, from its words and its files. Files that tell nothing may hold anything.
+-- What the program answers, from its words, its files and the watchers that are handed in. Files that tell nothing may hold anything.
 use Rattle.std.specs.Prelude.{◌≡◌, ℕ, List, Option, Some, None}
 use Rattle.ln_base.specs.Outside.{Shelf}
+use Rattle.ln_watch.specs.Panel.{State}
 use Rattle.ln_top.specs.declared.stop.Why.{Why}
 use Rattle.ln_top.specs.declared.stop.Why.TheVariants.{Usage}
 use Rattle.ln_top.specs.Said.{Said}
@@ -10,29 +11,29 @@ use Rattle.ln_top.specs.Steps.{stops, missing, gives, Given, Prepares}
 use Rattle.ln_top.specs.Work.{WorkOwes, WorkPart}
 
 -- what a plan is owed: the line of the step that stops, or what its work owes
-pub data PlanOwes (plan : Plan) (told : Option Shelf) : Said → Type 0 where
-  stopped : (why : Why) → Prepares plan told (stops why) → PlanOwes plan told (said_of why)
-  worked : (g : Given) {said : Said} → Prepares plan told (gives g) → WorkOwes plan.command g said → PlanOwes plan told said
+pub data PlanOwes (plan : Plan) (told : Option Shelf) (boxes : List State) : Said → Type 0 where
+  stopped : (why : Why) → Prepares plan told (stops why) → PlanOwes plan told boxes (said_of why)
+  worked : (g : Given) {said : Said} → Prepares plan told (gives g) → WorkOwes plan.command boxes g said → PlanOwes plan told boxes said
 
 -- a part of it that may be left for want of memory
-pub record PlanPart (plan : Plan) (told : Option Shelf) (out err : List ℕ) : Type 0 where
+pub record PlanPart (plan : Plan) (told : Option Shelf) (boxes : List State) (out err : List ℕ) : Type 0 where
   pub given : Given
   pub ready : Prepares plan told (gives given)
-  pub part : WorkPart plan.command given out err
+  pub part : WorkPart plan.command boxes given out err
 
 -- a file that it names and its steps reach isn't there
 abbrev pub PlanLacks : Plan → Option Shelf → Type 0
 PlanLacks plan told = Prepares plan told missing
 
 -- what words are owed: those that are no command the usage line, those that are one what its plan is owed
-pub data Answer (words : List (List ℕ)) (told : Option Shelf) : Said → Type 0 where
-  usage : plan_of words ≡ None → Answer words told (said_of Usage)
-  planned : (plan : Plan) {said : Said} → plan_of words ≡ Some plan → PlanOwes plan told said → Answer words told said
+pub data Answer (words : List (List ℕ)) (told : Option Shelf) (boxes : List State) : Said → Type 0 where
+  usage : plan_of words ≡ None → Answer words told boxes (said_of Usage)
+  planned : (plan : Plan) {said : Said} → plan_of words ≡ Some plan → PlanOwes plan told boxes said → Answer words told boxes said
 
-pub record Part (words : List (List ℕ)) (told : Option Shelf) (out err : List ℕ) : Type 0 where
+pub record Part (words : List (List ℕ)) (told : Option Shelf) (boxes : List State) (out err : List ℕ) : Type 0 where
   pub plan : Plan
   pub form : plan_of words ≡ Some plan
-  pub part : PlanPart plan told out err
+  pub part : PlanPart plan told boxes out err
 
 -- a file that the words name and the steps reach isn't there
 pub record IsMissing (words : List (List ℕ)) (told : Option Shelf) : Type 0 where

@@ -9,6 +9,7 @@ use Rattle.ln_tree.specs.Table.{PredOf}
 use Rattle.ln_bound.specs.Value.{values}
 use Rattle.ln_order.specs.Sites.{row_sites}
 use Rattle.ln_rows.specs.Left.{Records}
+use Rattle.ln_watch.specs.Panel.{State}
 use Rattle.ln_rows.specs.Record.{read_row}
 use Rattle.ln_compile.specs.Accepted.{root_of}
 use Rattle.ln_due.specs.Due.{sign_number}
@@ -44,12 +45,14 @@ pub data HavePerturbedSigns (p : PredOf) : Records → List ℕ → Type 0 where
   none : HavePerturbedSigns p [] []
   more : {fields : List (List ℕ)} {rest : Records} (text texts : List ℕ) → IsOneLine text → ((row : Row) → read_row p.sites p.vars fields ≡ Ok row → HasPerturbedSign p row text) → HavePerturbedSigns p rest texts → HavePerturbedSigns p (fields ∷ rest) (text ++ texts)
 
--- what came to Out is such lines, and nothing came to Err
-pub record PutSigns (p : PredOf) (records : Records) (was now : Option Shown) : Type 0 where
+-- what came to Out is such lines; on Err are the lines of watchers alone, and so nothing where none is handed in
+pub record PutSigns (p : PredOf) (records : Records) (boxes : List State) (was now : Option Shown) : Type 0 where
   pub lines : List ℕ
   pub signs : HavePerturbedSigns p records lines
-  pub shown : now ≡ put_both lines [] was
+  pub err : List ℕ
+  pub none : boxes ≡ [] → err ≡ []
+  pub shown : now ≡ put_both lines err was
 
 -- where the words are `run FILE NAME ROWS`, and over the told files have a predicate and records behind the right header, their lines came to Out
-abbrev pub SignsArePerturbed : List (List ℕ) → Shelf → Option Shown → Option Shown → Type 0
-SignsArePerturbed words shelf was now = (plan : Plan) (g : Given) (p : PredOf) (names : List (List ℕ)) (records : Records) → plan_of words ≡ Some plan → plan.command ≡ Run → Prepares plan (Some shelf) (gives g) → HasRecords g p names (names ∷ records) → PutSigns p records was now
+abbrev pub SignsArePerturbed : List (List ℕ) → Shelf → List State → Option Shown → Option Shown → Type 0
+SignsArePerturbed words shelf boxes was now = (plan : Plan) (g : Given) (p : PredOf) (names : List (List ℕ)) (records : Records) → plan_of words ≡ Some plan → plan.command ≡ Run → Prepares plan (Some shelf) (gives g) → HasRecords g p names (names ∷ records) → PutSigns p records boxes was now

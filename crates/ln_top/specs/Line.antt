@@ -68,12 +68,6 @@ is_bare (Err (Number k)) = false
 is_bare (Err (Range k)) = false
 is_bare (Err (Index k)) = false
 
--- the line of a record was added to a text
-pub record AddsLine (p : PredOf) (names fields : List (List ℕ)) (old new : List ℕ) : Type 0 where
-  pub text : List ℕ
-  pub is_line : IsLineOf p names fields text
-  pub added : new ≡ old ++ text
-
 -- the room that any line fits in that names no column
 abbrev pub line_room : ℕ
 line_room = 64

@@ -1,6 +1,9 @@
 -- Work on records: what each puts on both ports, one behind the other. For every command that puts lines as they come. The bytes for Out are gathered, and put in pieces.
 use Rattle.std.specs.Prelude.{◌≡◌, ◌≢◌, ℕ, Bool, true, false, ◌&&◌, List, [], ◌∷◌, ◌++◌, Option, Result, Ok, Err}
 use Rattle.ln_base.specs.Outside.{Shown}
+use Rattle.ln_base.specs.declared.outside.Port.{Port}
+use Rattle.ln_base.specs.declared.outside.Port.TheVariants.{Out, Err as ErrPort}
+use Rattle.ln_top.specs.declared.status.End.{End}
 use Rattle.ln_top.specs.declared.status.Early.{Early}
 use Rattle.ln_top.specs.declared.status.Early.TheVariants.{Write, Memory}
 use Rattle.ln_top.specs.Said.{Count, Rises, IsCalm, put_both, IsFront}
@@ -28,6 +31,22 @@ pub data Wrote (out err : List ℕ) (puts : Count) (done : Bool) (was now : Opti
   wrote : IsCalm puts → done ≡ true → now ≡ put_both out err was → Wrote out err puts done was now
   broke : done ≡ false → Rises puts → PutsFronts out err was now → Wrote out err puts done was now
 
+-- a text was put on one port, or cut off
+abbrev pub WroteOn : Port → List ℕ → Count → Bool → Option Shown → Option Shown → Type 0
+WroteOn Out text = Wrote text []
+WroteOn ErrPort text = Wrote [] text
+
+-- the last lines for Err were put, or cut off
+pub data Closes (err : List ℕ) (end : End) (puts : Count) (result : Result End Early) (was now : Option Shown) : Type 0 where
+  closed : result ≡ Ok end → Wrote [] err puts true was now → Closes err end puts result was now
+  unclosed : result ≡ Err Write → Wrote [] err puts false was now → Closes err end puts result was now
+
+-- one record: its bytes for Out were gathered and those for Err were put; or a put was cut off; or it was given up
+pub data Takes {S R : Type 0} (step : S → R → List ℕ → List ℕ → S → Type 0) (good : R → Bool) (s : S) (r : R) (puts : Count) (result : Result Bool Early) (held grown : List ℕ) (was now : Option Shown) (z : S) : Type 0 where
+  took : (o e : List ℕ) → IsCalm puts → step s r o e z → result ≡ Ok (good r) → grown ≡ held ++ o → now ≡ put_both [] e was → Takes step good s r puts result held grown was now z
+  tore : (o e : List ℕ) (m : S) → step s r o e m → Rises puts → result ≡ Err Write → PutsFronts [] e was now → Takes step good s r puts result held grown was now z
+  left_off : IsCalm puts → result ≡ Err Memory → grown ≡ held → now ≡ was → Takes step good s r puts result held grown was now z
+
 -- records of which some bytes for Out are still held: all are worked on, or a piece was cut off, or they were given up between two
 pub data Gathers {S R : Type 0} (step : S → R → List ℕ → List ℕ → S → Type 0) (good : R → Bool) (s : S) (records : List R) (puts : Count) (result : Result Bool Early) (held : List ℕ) (was now : Option Shown) (z : S) : Type 0 where
   worked : (sent err : List ℕ) → IsCalm puts → Lines step s records (sent ++ held) err z → result ≡ Ok (all_good good records) → now ≡ put_both sent err was → Gathers step good s records puts result held was now z
@@ -51,3 +70,24 @@ pub data Ran {S R : Type 0} (step : S → R → List ℕ → List ℕ → S → 
   all : (out err : List ℕ) → IsCalm puts → Lines step s records out err z → result ≡ Ok (all_good good records) → now ≡ put_both out err was → Ran step good s records puts result was now z
   cut : (done left : List R) (out err : List ℕ) (m : S) → records ≡ done ++ left → Lines step s done out err m → Rises puts → PutsFronts out err was now → result ≡ Err Write → Ran step good s records puts result was now z
   short : (done left : List R) (out err : List ℕ) (m : S) → IsCalm puts → records ≡ done ++ left → Lines step s done out err m → now ≡ put_both out err was → result ≡ Err Memory → Ran step good s records puts result was now z
+
+-- one record whose bytes are put at once: all of them, or they were cut off
+pub record PutsOne {S R : Type 0} (step : S → R → List ℕ → List ℕ → S → Type 0) (s : S) (r : R) (puts : Count) (done : Bool) (was now : Option Shown) (z : S) : Type 0 where
+  pub out : List ℕ
+  pub err : List ℕ
+  pub left : S
+  pub stepped : step s r out err left
+  pub wrote : Wrote out err puts done was now
+  pub stays : done ≡ true → z ≡ left
+
+-- every record is good
+abbrev pub every : {R : Type 0} → R → Bool
+every r = true
+
+-- what such records come to: all were put, or a put failed
+abbrev pub ran_of : Bool → Result Bool Early
+ran_of true = Ok true
+ran_of false = Err Write
+
+abbrev pub PutsAll : {S R : Type 0} → (S → R → List ℕ → List ℕ → S → Type 0) → S → List R → Count → Bool → Option Shown → Option Shown → S → Type 0
+PutsAll step s records puts done was now z = Ran step every s records puts (ran_of done) was now z

@@ -1,7 +1,9 @@
 -- The words, and what a command needs.
-use Rattle.std.specs.Prelude.{◌≡◌, ℕ, ◌+◌, ◌-◌, ◌≤◌, nat_le, ◌&&◌, List, ◌∷◌, length, take, drop, map, Option, Some, None, option_map, if◌then◌else◌, bytes_eq, codes, string_bytes}
+use Rattle.std.specs.Prelude.{◌≡◌, ℕ, ◌+◌, ◌-◌, ◌≤◌, nat_le, Bool, ◌&&◌, List, [], ◌∷◌, length, take, drop, map, Option, Some, None, option_map, if◌then◌else◌, bytes_eq, codes, string_bytes}
+use Rattle.ln_base.specs.Decimal.{is_digits, decimal_value}
 use Rattle.ln_top.specs.declared.words.Command.{Command}
-use Rattle.ln_top.specs.declared.words.Command.TheVariants.{Check, Run}
+use Rattle.ln_top.specs.declared.words.Command.TheVariants.{Check, Run, Gen}
+use Rattle.ln_top.specs.declared.words.Command.TheVariants as command
 use Rattle.ln_top.specs.declared.words.Plan as code
 
 -- the name of a source file, those of predicates and of further files, and the command
@@ -17,16 +19,23 @@ pub record Form : Type 0 where
   pub most : ℕ
   pub files : ℕ
 
--- `check FILE`, `run FILE NAME ROWS`
+-- `check FILE`, `list FILE`, `emit FILE`, `verify FILE LISTING`, `run FILE NAME ROWS`, `gen FILE NAME SEED COUNT`
 abbrev pub form : Command → Form
 form Check = record { least = 0; most = 0; files = 0 }
+form command.List = record { least = 0; most = 0; files = 0 }
+form command.Emit = record { least = 0; most = 0; files = 0 }
+form command.Verify = record { least = 0; most = 0; files = 1 }
 form Run = record { least = 1; most = 1; files = 1 }
+form (Gen seed count) = record { least = 1; most = 1; files = 0 }
 
--- the command that a first word names
+-- the command that a first word names; that of `gen` has numbers of its own
 abbrev pub named_command : List ℕ → Option Command
 named_command word =
     if bytes_eq word (codes "check") then Some Check
     else if bytes_eq word (codes "run") then Some Run
+    else if bytes_eq word (codes "list") then Some command.List
+    else if bytes_eq word (codes "emit") then Some command.Emit
+    else if bytes_eq word (codes "verify") then Some command.Verify
     else None
 
 -- a plan has as many names and files as its command takes
@@ -48,9 +57,31 @@ plan_for (Some c) source rest =
     })
     else None
 
+-- the number that a word of 1 to 18 digits is; leading zeros count for nothing
+abbrev pub number_of : List ℕ → Option ℕ
+number_of word = if is_digits word && nat_le (length word) 18 then Some (decimal_value word) else None
+
+-- the count of rows is from 1 to 1,000,000
+abbrev pub is_count : ℕ → Bool
+is_count n = nat_le 1 n && nat_le n 1000000
+
+-- a plan of `gen`, where both words behind the name are numbers and the second of them is a count
+abbrev pub gen_with : List ℕ → List ℕ → Option ℕ → Option ℕ → Option Plan
+gen_with source name None count = None
+gen_with source name (Some seed) None = None
+gen_with source name (Some seed) (Some count) = if is_count count then Some (record { source = source; names = name ∷ []; files = []; command = Gen seed count }) else None
+
+abbrev pub gen_plan : List ℕ → List (List ℕ) → Option Plan
+gen_plan source (name ∷ seed ∷ count ∷ []) = gen_with source name (number_of seed) (number_of count)
+gen_plan source words = None
+
+-- the plan of a first word, a source file and the words behind them
+abbrev pub plan_behind : List ℕ → List ℕ → List (List ℕ) → Option Plan
+plan_behind word source rest = if bytes_eq word (codes "gen") then gen_plan source rest else plan_for (named_command word) source rest
+
 -- the plan of the words, where they are a command
 abbrev pub plan_of : List (List ℕ) → Option Plan
-plan_of (word ∷ source ∷ rest) = plan_for (named_command word) source rest
+plan_of (word ∷ source ∷ rest) = plan_behind word source rest
 plan_of words = None
 
 -- the command of the words, where they are one

@@ -2,11 +2,12 @@
 use Rattle.std.specs.Prelude.{◌≡◌, ℕ, ◌≤◌, List, [], ◌∷◌, map, length, slice_get, Option, Some}
 use Rattle.ln_base.specs.Outside.{Shelf}
 use Rattle.ln_tree.specs.Table.{PredOf, TableOf, pred_of}
+use Rattle.ln_compile.specs.Accepted.{AreSound}
 use Rattle.ln_top.specs.declared.words.Command.{Command}
 use Rattle.ln_top.specs.declared.prepare.Ready.{Ready}
 use Rattle.ln_top.specs.Plan.{Plan, form}
 use Rattle.ln_top.specs.Source.{view}
-use Rattle.ln_top.specs.Steps.{Reads, Compiles, Each, Finds, Given, Prepares, gives, most_source}
+use Rattle.ln_top.specs.Steps.{Reads, Compiles, Each, Finds, Given, Prepares, gives, most_file, most_source}
 
 -- the predicates with these numbers
 abbrev pub AreNumbered : List PredOf → List ℕ → List PredOf → Type 0
@@ -20,6 +21,11 @@ pub record HasNumbers (table : List PredOf) (names : List (List ℕ)) (numbers :
   pub preds : List PredOf
   pub found : Each (Finds table) names (gives preds)
   pub numbered : AreNumbered table numbers preds
+
+-- the further files are within their limit
+abbrev pub AreShort : List (List ℕ) → Type 0
+AreShort [] = Unit {0}
+AreShort (t ∷ ts) = (length t ≤ most_file) × AreShort ts
 
 -- what is ready stands for this
 pub record StandsFor (r : Ready) (g : Given) : Type 0 where
@@ -39,10 +45,12 @@ pub record IsFit (c : Command) (numbers texts : ℕ) : Type 0 where
   pub most : numbers ≤ (form c).most
   pub files : texts ≡ (form c).files
 
--- it stands for something
+-- it stands for something; no predicate of the source has a fault, and the further files are within their limit
 pub record HasStanding (r : Ready) : Type 0 where
   pub given : Given
   pub stands : StandsFor r given
+  pub sound : AreSound (map pred_of r.compiled.table.preds)
+  pub short : AreShort given.texts
 
 -- and is as much as the command takes: what each work asks of the steps before it
 pub record IsReadyFor (c : Command) (r : Ready) : Type 0 where

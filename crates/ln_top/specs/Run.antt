@@ -1,8 +1,9 @@
--- `run FILE NAME ROWS`: a line on Out for each record behind the header.
+-- `run FILE NAME ROWS`: a line on Out for each record behind the header, and the watchers' lines on Err.
 use Rattle.std.specs.Prelude.{◌≡◌, ◌≢◌, ℕ, Bool, true, false, List, [], ◌∷◌, ◌++◌, All, Ok, Err}
 use Rattle.ln_tree.specs.Row.{Row}
 use Rattle.ln_tree.specs.Table.{PredOf}
 use Rattle.ln_rows.specs.Left.{Records, records_in}
+use Rattle.ln_watch.specs.Panel.{State}
 use Rattle.ln_rows.specs.Record.{read_row}
 use Rattle.ln_rows.specs.declared.record.RowStop.{RowStop}
 use Rattle.ln_top.specs.declared.status.End.{End}
@@ -14,11 +15,13 @@ use Rattle.ln_top.specs.Steps.{Given}
 use Rattle.ln_top.specs.Columns.{columns_of}
 use Rattle.ln_top.specs.Line.{IsLineOf, is_row}
 use Rattle.ln_top.specs.Lines.{Lines, all_good}
+use Rattle.ln_top.specs.Watching.{Watching, watching, next_lines, next, last_of}
 
--- what a record puts: its line on Out
-pub record RunStep (p : PredOf) (names : List (List ℕ)) (before : Unit {0}) (fields : List (List ℕ)) (out err : List ℕ) (after : Unit {0}) : Type 0 where
+-- what a record puts: its line on Out, and on Err the lines of the boxes that are done behind its verdict
+pub record RunStep (p : PredOf) (names : List (List ℕ)) (before : Watching) (fields : List (List ℕ)) (out err : List ℕ) (after : Watching) : Type 0 where
   pub line : IsLineOf p names fields out
-  pub none : err ≡ []
+  pub told : err ≡ next_lines line.said before
+  pub left : after ≡ next line.said before
 
 abbrev pub end_of : Bool → End
 end_of true = Done
@@ -49,14 +52,15 @@ pub record HasRecords (g : Given) (p : PredOf) (names : List (List ℕ)) (record
   pub text : g.texts ≡ rows ∷ []
   pub are : records_in rows ≡ records
 
--- what is owed: the error line of a wrong header; or behind the header a line for each record, in order
-pub data RunSaid (g : Given) : Said → Type 0 where
-  header : (p : PredOf) (names : List (List ℕ)) (records : Records) → HasRecords g p names records → IsWrongHeader names records → RunSaid g (said_of Header)
-  ran : (p : PredOf) (names : List (List ℕ)) (records : Records) (out err : List ℕ) → HasRecords g p names (names ∷ records) → Lines (RunStep p names) tt records out err tt → RunSaid g (record { end = end_of (all_good (is_row p) records); out = out; err = err ++ [] })
+-- what is owed: the error line of a wrong header; or behind the header a line for each record, in order, and the lines of the watchers, at the end those of the boxes that are left, also where records are refused
+pub data RunSaid (boxes : List State) (g : Given) : Said → Type 0 where
+  header : (p : PredOf) (names : List (List ℕ)) (records : Records) → HasRecords g p names records → IsWrongHeader names records → RunSaid boxes g (said_of Header)
+  ran : (p : PredOf) (names : List (List ℕ)) (records : Records) (out err : List ℕ) (z : Watching) → HasRecords g p names (names ∷ records)
+      → Lines (RunStep p names) (watching 0 boxes) records out err z → RunSaid boxes g (record { end = end_of (all_good (is_row p) records); out = out; err = err ++ last_of z })
 
 -- what want of memory leaves: the whole lines of the first records
-pub data RunPart (g : Given) (out err : List ℕ) : Type 0 where
-  first : (p : PredOf) (names : List (List ℕ)) (done left : Records) → HasRecords g p names (names ∷ done ++ left) → Lines (RunStep p names) tt done out err tt → RunPart g out err
+pub data RunPart (boxes : List State) (g : Given) (out err : List ℕ) : Type 0 where
+  first : (p : PredOf) (names : List (List ℕ)) (done left : Records) (z : Watching) → HasRecords g p names (names ∷ done ++ left) → Lines (RunStep p names) (watching 0 boxes) done out err z → RunPart boxes g out err
 
 -- a record is a row in range, or none
 pub record IsRow (p : PredOf) (fields : List (List ℕ)) : Type 0 where

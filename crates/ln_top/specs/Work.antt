@@ -1,26 +1,44 @@
--- The works of the commands, each by its own file: what is owed, what want of memory may leave, and how and where it ends.
-use Rattle.std.specs.Prelude.{◌≡◌, ℕ, List}
+-- The works of the commands, each by its own file and over the watchers that are handed in: what is owed, what want of memory may leave, and how and where it ends.
+use Rattle.std.specs.Prelude.{◌≡◌, ℕ, List, Some}
+use Rattle.ln_watch.specs.Panel.{State}
 use Rattle.ln_top.specs.declared.status.End.{End}
 use Rattle.ln_top.specs.declared.status.End.TheVariants as end
 use Rattle.ln_top.specs.declared.words.Command.{Command}
 use Rattle.ln_top.specs.declared.words.Command.TheVariants as command
+use Rattle.ln_top.specs.Plan.{Plan, plan_of}
 use Rattle.ln_top.specs.Said.{Said}
 use Rattle.ln_top.specs.Steps.{Given}
 use Rattle.ln_top.specs.Carried.{NoPart}
 use Rattle.ln_top.specs.Check.{CheckSaid, CheckEnds}
+use Rattle.ln_top.specs.Listing.{ListSaid, ListEnds}
+use Rattle.ln_top.specs.Emit.{EmitSaid, EmitEnds}
+use Rattle.ln_top.specs.Verify.{VerifySaid, VerifyEnds}
 use Rattle.ln_top.specs.Run.{RunSaid, RunPart, RunEnds}
+use Rattle.ln_top.specs.Gen.{GenSaid, GenEnds}
 
-abbrev pub WorkOwes : Command → Given → Said → Type 0
-WorkOwes command.Check g = CheckSaid g
-WorkOwes command.Run g = RunSaid g
+abbrev pub WorkOwes : Command → List State → Given → Said → Type 0
+WorkOwes command.Check = λ boxes. CheckSaid
+WorkOwes command.List = λ boxes. ListSaid
+WorkOwes command.Emit = λ boxes. EmitSaid
+WorkOwes command.Verify = λ boxes. VerifySaid
+WorkOwes command.Run = RunSaid
+WorkOwes (command.Gen seed count) = GenSaid seed count
 
-abbrev pub WorkPart : Command → Given → List ℕ → List ℕ → Type 0
-WorkPart command.Check g = NoPart
-WorkPart command.Run g = RunPart g
+abbrev pub WorkPart : Command → List State → Given → List ℕ → List ℕ → Type 0
+WorkPart command.Check = λ boxes g. NoPart
+WorkPart command.List = λ boxes g. NoPart
+WorkPart command.Emit = λ boxes g. NoPart
+WorkPart command.Verify = λ boxes g. NoPart
+WorkPart command.Run = RunPart
+WorkPart (command.Gen seed count) = λ boxes g. NoPart
 
 abbrev pub WorkEnds : Command → Given → End → Type 0
 WorkEnds command.Check g = CheckEnds g
+WorkEnds command.List g = ListEnds g
+WorkEnds command.Emit g = EmitEnds g
+WorkEnds command.Verify g = VerifyEnds g
 WorkEnds command.Run g = RunEnds g
+WorkEnds (command.Gen seed count) g = GenEnds g
 
 -- an end that works have; any other comes with its line alone
 pub data IsWorkEnd : End → Type 0 where
@@ -28,8 +46,21 @@ pub data IsWorkEnd : End → Type 0 where
   rows : IsWorkEnd end.Rows
   invalid : IsWorkEnd end.Invalid
 
+-- works that say one thing: all but `list` and `emit`, for which more than one text may be true of a source
+abbrev pub IsOneValued : Command → Type 0
+IsOneValued command.Check = Unit {0}
+IsOneValued command.List = ⊥
+IsOneValued command.Emit = ⊥
+IsOneValued command.Verify = Unit {0}
+IsOneValued command.Run = Unit {0}
+IsOneValued (command.Gen seed count) = Unit {0}
+
+-- where these words are a command, it is one of those
+abbrev pub AreOneValued : List (List ℕ) → Type 0
+AreOneValued words = (p : Plan) → plan_of words ≡ Some p → IsOneValued p.command
+
 -- the laws of a work: what it says ends as it ends, it ends in one way, and by an end of works
-pub record IsLawful (owes : Given → Said → Type 0) (ends : Given → End → Type 0) : Type 0 where
-  pub tells : (g : Given) (a : Said) → owes g a → ends g a.end
+pub record IsLawful (owes : List State → Given → Said → Type 0) (ends : Given → End → Type 0) : Type 0 where
+  pub tells : (boxes : List State) (g : Given) (a : Said) → owes boxes g a → ends g a.end
   pub one : (g : Given) (a b : End) → ends g a → ends g b → a ≡ b
   pub kind : (g : Given) (e : End) → ends g e → IsWorkEnd e

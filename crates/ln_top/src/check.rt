@@ -1,4 +1,4 @@
-// The work of `check`: a line for each predicate of a source.
+//! The work of `check`: a line for each predicate of a source.
 ghost use Rattle.std.specs.Prelude.{◌≡◌, ◌++◌, map, IfOk};
 ghost use Rattle.ln_tree.specs.Table.{pred_of};
 ghost use Rattle.ln_top.specs.Check.{AreCounts, CheckSaid, count_text};

@@ -1,12 +1,14 @@
-// Words and told files end in one way, and are owed one answer.
+//! Words and told files end in one way, and are owed one answer.
 ghost use Rattle.std.specs.Prelude.{◌≡◌, ℕ, List, Some};
 ghost use Rattle.ln_base.specs.Outside.{Shelf};
+ghost use Rattle.ln_watch.specs.Panel.{State};
 ghost use Rattle.ln_top.specs.declared.status.End.{End};
 ghost use Rattle.ln_top.specs.Said.{Said};
 ghost use Rattle.ln_top.specs.Answer.{Answer};
 ghost use Rattle.ln_top.specs.Causes.{Ends};
 ghost use Rattle.ln_top.specs.Plan.{Plan};
 ghost use Rattle.ln_top.specs.Steps.{Outcome, Given, Prepares};
+ghost use Rattle.ln_top.specs.Work.{AreOneValued};
 
 /// A law: over told files the steps of a plan come to one thing.
 pub fn one_prepared()
@@ -18,7 +20,7 @@ pub fn one_end()
     ensures { (words : List (List ℕ)) (shelf : Shelf) (a b : End) → Ends words (Some shelf) a → Ends words (Some shelf) b → a ≡ b }
 {}
 
-/// A law: they are owed one answer.
+/// A law: they are owed one answer, where their command isn't `list` or `emit`: more than one text may be true of a source.
 pub fn one_answer()
-    ensures { (words : List (List ℕ)) (shelf : Shelf) (a b : Said) → Answer words (Some shelf) a → Answer words (Some shelf) b → a ≡ b }
+    ensures { (words : List (List ℕ)) (shelf : Shelf) (boxes : List State) → AreOneValued words → (a b : Said) → Answer words (Some shelf) boxes a → Answer words (Some shelf) boxes b → a ≡ b }
 {}

@@ -1,5 +1,5 @@
-// The line of a record.
-ghost use Rattle.std.specs.Prelude.{◌≡◌, ◌≤◌, ◌+◌, ◌++◌, ◌∷◌, [], length, vec_len, vec_capacity, IsOk, OnOk, OnErr, codes, slice_index_or, true};
+//! The line of a record.
+ghost use Rattle.std.specs.Prelude.{◌≡◌, ◌≤◌, ◌+◌, ◌++◌, ◌∷◌, [], length, vec_len, vec_capacity, IsOk, OnOk, OnErr, slice_index_or, true};
 ghost use Rattle.ln_top.specs.Columns.{names_of};
 ghost use Rattle.ln_top.specs.Line.{line_room, sign_text, decider_text, said_text, is_bare};
 ghost use Rattle.ln_top.specs.Said.{line};

@@ -1,19 +1,24 @@
-// The steps before the work: the source is read and compiled, the names are looked for, the further files are read.
+//! The steps before the work: the source is read and compiled, the names are looked for, the further files are read.
 ghost use Rattle.std.specs.Prelude.{◌≡◌, ◌≢◌, ◌≤◌, ◌<◌, Err, [], ◌∷◌, map, length, slice_get, Some, IfOk, IfErr, string_bytes};
 ghost use Rattle.ln_base.specs.Outside.{Rose};
 ghost use Rattle.ln_tree.specs.Table.{pred_of};
-ghost use Rattle.ln_compile.specs.Compiled.{IsProgramOf};
+ghost use Rattle.ln_code.specs.Kept.{IsProgram};
+ghost use Rattle.ln_cemit.specs.Emitted.{AreKept};
+ghost use Rattle.ln_compile.specs.Compiled.{AreProgramsOf, IsProgramOf};
+ghost use Rattle.ln_top.specs.Listing.{AreListable};
 ghost use Rattle.ln_top.specs.Plan.{with_bytes};
 ghost use Rattle.ln_top.specs.Source.{view};
 ghost use Rattle.ln_top.specs.Steps.{Compiles, Each, Finds, Given, Prepares, Reads, Then, gives, most_source, most_file};
 ghost use Rattle.ln_top.specs.Carried.{Halts};
+ghost use Rattle.ln_verify.specs.Accepted.{AreAccepted};
 ghost use Rattle.ln_top.specs.Ready.{HasNumbers, HasStanding, IsReady, IsSource, StandsFor};
 
+use crate::listable::listable;
 use crate::source::compiled;
 use crate::stop::{Stop, Why};
 use crate::words::Plan;
 use ln_base::{Files, ReadStop, read_whole};
-use ln_code::Program;
+use ln_code::{Program, Programs};
 use ln_compile::Compiled;
 use ln_tree::{Pred, Table};
 use std::alloc::Global;
@@ -167,10 +172,53 @@ pub fn one_target(ready: &Ready) -> Target<'_>
     numbered(&ready.compiled, ready.numbers.as_slice()[0])
 }
 
+/// A program with what its type keeps.
+pub fn kept(program: &Program) -> &Program
+    ensures same { result.now ≡ program.now }
+    ensures kept { IsProgram program.now }
+{
+    let _blocks = program.blocks();
+    program
+}
+
+/// The programs, each with what its type keeps.
+pub fn kept_programs(c: &Compiled) -> &Programs
+    ensures value { result.now ≡ c.now.programs }
+    ensures are { AreProgramsOf (map pred_of c.now.table.preds) c.now.programs }
+    ensures kept { AreKept c.now.programs }
+    ensures listable { AreListable c.now.programs }
+{
+    let programs = c.programs();
+    'programs: for p in programs.as_slice() {
+        let _kept = kept(p);
+        let _listable = listable(p);
+    }
+    programs
+}
+
 /// The one further file.
 pub fn one_text(ready: &Ready) -> &[u8]
     requires one { length ready.now.texts.items ≡ 1 }
     ensures { (g : Given) → StandsFor ready.now g → g.texts ≡ result.now ∷ [] }
 {
     ready.texts.as_slice()[0].as_slice()
+}
+
+/// The one further file, which is within its limit.
+pub fn short_text(ready: &Ready) -> &[u8]
+    requires stands { HasStanding ready.now }
+    requires one { length ready.now.texts.items ≡ 1 }
+    ensures is { (g : Given) → StandsFor ready.now g → g.texts ≡ result.now ∷ [] }
+    ensures short { length result.now ≤ most_file }
+{
+    one_text(ready)
+}
+
+/// The source's table, no predicate of which has a fault.
+pub fn sound_table(ready: &Ready) -> &Table
+    requires { HasStanding ready.now }
+    ensures is { (g : Given) → StandsFor ready.now g → g.table ≡ view result.now }
+    ensures sound { AreAccepted (map pred_of result.now.preds) }
+{
+    ready.compiled.table()
 }

@@ -1,5 +1,5 @@
-// Puts on a port.
-ghost use Rattle.std.specs.Prelude.{◌≡◌, ◌↔◌, [], Bool, Err, IsTrue};
+//! Puts on a port.
+ghost use Rattle.std.specs.Prelude.{◌≡◌, ◌↔◌, [], Err, IsTrue};
 ghost use Rattle.ln_top.specs.Said.{count};
 ghost use Rattle.ln_top.specs.Lines.{Sends, Wrote};
 

@@ -1,53 +1,56 @@
-// The work of `run`: a line for each record behind the header.
-ghost use Rattle.std.specs.Prelude.{◌&&◌, ◌≡◌, ◌≤◌, ◌<◌, ◌+◌, [], ◌∷◌, true, length, vec_len, vec_capacity, IfOk, IsOk, OnOk, OnErr};
-ghost use Rattle.csv.specs.Records.{fields_of};
+//! The work of `run`: a line for each record behind the header, and the lines of the watchers.
+ghost use Rattle.std.specs.Prelude.{◌&&◌, ◌≡◌, ◌≤◌, ◌<◌, ◌+◌, ◌++◌, [], ◌∷◌, ℕ, List, true, vec_len, vec_capacity, IfOk, IsOk, OnOk, OnErr};
+ghost use Rattle.ln_tree.specs.Row.{InRange};
 ghost use Rattle.ln_tree.specs.Table.{pred_of};
-ghost use Rattle.ln_code.specs.Kept.{IsProgram};
 ghost use Rattle.ln_code.specs.Memory.{MadeFor};
+ghost use Rattle.ln_code.specs.RowOf.{row_of};
 ghost use Rattle.ln_compile.specs.Compiled.{IsProgramOf};
-ghost use Rattle.ln_rows.specs.Record.{read_row};
+ghost use Rattle.ln_rows.specs.Record.{read_row, IsReadAs};
 ghost use Rattle.ln_top.specs.Carried.{CarriesOut};
 ghost use Rattle.ln_top.specs.Columns.{names_of};
-ghost use Rattle.ln_top.specs.Line.{Says, AddsLine, is_bare, is_row, is_said, line_room};
-ghost use Rattle.ln_top.specs.Lines.{Gathers, Empties};
+ghost use Rattle.ln_top.specs.Line.{Says, is_bare, is_row, is_said, line_room, said_text};
+ghost use Rattle.ln_top.specs.Lines.{Closes, Gathers, Empties, Takes};
 ghost use Rattle.ln_top.specs.Ready.{IsReadyFor, StandsFor};
 ghost use Rattle.ln_top.specs.Run.{HasRecords, HeaderIs, RunPart, RunSaid, RunStep, end_of, piece, piece_room};
-ghost use Rattle.ln_top.specs.Said.{count};
+ghost use Rattle.ln_top.specs.Said.{count, line};
 ghost use Rattle.ln_top.specs.Steps.{Given};
+ghost use Rattle.ln_top.specs.Watching.{watching};
+ghost use Rattle.ln_watch.specs.Panel.{last_lines, states_of};
 
 use crate::line::{LINE_ROOM, add_line};
-use crate::prepare::{Ready, Target, one_target, one_text};
+use crate::panel::Panel;
+use crate::prepare::{Ready, Target, kept, one_target, one_text};
 use crate::put::{put_out, put_rest};
 use crate::status::{Early, End};
 use crate::stop::{Stop, Why, say};
+use crate::watching::{Viewers, close, view};
 use crate::words::Command;
-use csv::ByteRecord;
-use ln_base::{Console, NoMemory};
-use ln_code::{Program, Scratch, Verdict, run_row};
-use ln_rows::{RowStop, Rows, header, row};
+use ln_base::{Console, NoMemory, Port};
+use ln_code::{Row, Scratch, Verdict, run_row};
+use ln_rows::{RowStop, Rows};
+use ln_watch::Watch;
 use std::alloc::Global;
 
 /// So many bytes are gathered before they are put.
 const PIECE: usize = 65_536;
 
-/// A program with what its type keeps.
-fn kept(program: &Program) -> &Program
-    ensures same { result.now ≡ program.now }
-    ensures kept { IsProgram program.now }
-{
-    let _blocks = program.blocks();
-    program
-}
-
-// What the predicate says of a record: the verdict on its row, or why it is no row.
-fn verdict_of(target: Target<'_>, s: &mut Scratch, fields: &ByteRecord) -> Result<Verdict, RowStop>
+// What the predicate says of a record that was read: the verdict on its row, or why it is no row.
+fn verdict_of(
+    target: Target<'_>,
+    s: &mut Scratch,
+    read: Result<(), RowStop>,
+    row: &Row,
+) -> Result<Verdict, RowStop>
     requires program { IsProgramOf (pred_of target.pred.now) target.program.now }
     requires made { MadeFor target.program.now s.old }
-    ensures says { Says (pred_of target.entry.pred.now) (fields_of fields.now) result }
+    requires range { OnOk read (InRange target.pred.now.shape.sites target.pred.now.shape.vars (row_of target.pred.now.shape.sites target.pred.now.shape.vars row.now)) }
+    ensures says { (fields : List (List ℕ)) → IsReadAs target.entry.pred.now.shape.sites target.entry.pred.now.shape.vars fields read row.now → Says (pred_of target.entry.pred.now) fields result }
     ensures made { MadeFor target.entry.program.now s.new }
 {
-    let row = row(target.pred, fields)?;
-    Ok(run_row(kept(target.program), s, &row))
+    match read {
+        Ok(()) => Ok(run_row(kept(target.program), s, row)),
+        Err(stop) => Err(stop),
+    }
 }
 
 fn is_verdict(said: &Result<Verdict, RowStop>) -> bool
@@ -59,28 +62,58 @@ fn is_verdict(said: &Result<Verdict, RowStop>) -> bool
     }
 }
 
-// Adds the line of a record, and says whether the record is a row. Only a line that names a column takes memory.
+// Adds the line of a record that was read, and tells what is said of it. Only a line that names a column takes memory.
 fn add_record(
     alloc: Global,
     target: Target<'_>,
     s: &mut Scratch,
-    fields: &ByteRecord,
+    read: Result<(), RowStop>,
+    row: &Row,
     text: &mut Vec<u8>,
-) -> Result<bool, NoMemory>
+) -> Result<Result<Verdict, RowStop>, NoMemory>
     requires program { IsProgramOf (pred_of target.pred.now) target.program.now }
     requires made { MadeFor target.program.now s.old }
+    requires range { OnOk read (InRange target.pred.now.shape.sites target.pred.now.shape.vars (row_of target.pred.now.shape.sites target.pred.now.shape.vars row.now)) }
     requires room { vec_len text.old + line_room ≤ vec_capacity text.old }
-    ensures row { IfOk result (λ right. right ≡ is_row (pred_of target.entry.pred.now) (fields_of fields.now)) }
-    ensures line { OnOk result (AddsLine (pred_of target.entry.pred.now) (names_of target.entry.table.now target.entry.pred.now) (fields_of fields.now) text.old.items text.new.items) }
+    ensures says { IfOk result (λ said. (fields : List (List ℕ)) → IsReadAs target.entry.pred.now.shape.sites target.entry.pred.now.shape.vars fields read row.now → Says (pred_of target.entry.pred.now) fields said) }
+    ensures line { IfOk result (λ said. text.new.items ≡ text.old.items ++ line (said_text (names_of target.entry.table.now target.entry.pred.now) said)) }
     ensures err { OnErr result (text.new.items ≡ text.old.items) }
     ensures made { MadeFor target.entry.program.now s.new }
     ensures room { vec_capacity text.old ≤ vec_capacity text.new }
-    ensures steady { is_bare (read_row target.entry.pred.now.shape.sites target.entry.pred.now.shape.vars (fields_of fields.now)) ≡ true → IsOk result }
+    ensures steady { (fields : List (List ℕ)) → IsReadAs target.entry.pred.now.shape.sites target.entry.pred.now.shape.vars fields read row.now → is_bare (read_row target.entry.pred.now.shape.sites target.entry.pred.now.shape.vars fields) ≡ true → IsOk result }
 {
-    let said = verdict_of(target, s, fields);
-    let right = is_verdict(&said);
+    let said = verdict_of(target, s, read, row);
     add_line(alloc, text, target, said)?;
-    Ok(right)
+    Ok(said)
+}
+
+// Adds the line of a record that was read and shows its verdict to the watchers. Says whether the record is a row.
+fn take_record<C: Console>(
+    alloc: Global,
+    con: &mut C,
+    target: Target<'_>,
+    s: &mut Scratch,
+    read: Result<(), RowStop>,
+    row: &Row,
+    text: &mut Vec<u8>,
+    viewers: &mut Viewers,
+) -> Result<bool, Early>
+    requires program { IsProgramOf (pred_of target.pred.now) target.program.now }
+    requires made { MadeFor target.program.now s.old }
+    requires range { OnOk read (InRange target.pred.now.shape.sites target.pred.now.shape.vars (row_of target.pred.now.shape.sites target.pred.now.shape.vars row.now)) }
+    requires room { vec_len text.old + line_room ≤ vec_capacity text.old }
+    ensures takes { (fields : List (List ℕ)) → IsReadAs target.entry.pred.now.shape.sites target.entry.pred.now.shape.vars fields read row.now → Takes (RunStep (pred_of target.entry.pred.now) (names_of target.entry.table.now target.entry.pred.now)) (is_row (pred_of target.entry.pred.now)) (watching viewers.old.seen (states_of kind_of tally_of viewers.old.panel.watchers.items)) fields (count (C.faults con.old) (C.faults con.new)) result text.old.items text.new.items (C.shown con.old) (C.shown con.new) (watching viewers.new.seen (states_of kind_of tally_of viewers.new.panel.watchers.items)) }
+    ensures made { MadeFor target.entry.program.now s.new }
+    ensures room { vec_capacity text.old ≤ vec_capacity text.new }
+{
+    let said = match add_record(alloc, target, s, read, row, text) {
+        Ok(said) => said,
+        Err(_) => return Err(Early::Memory),
+    };
+    if !view(con, viewers, &said) {
+        return Err(Early::Write);
+    }
+    Ok(is_verdict(&said))
 }
 
 // Puts what is gathered, where that is a piece, and says whether all of it was put.
@@ -100,18 +133,11 @@ fn put_piece<C: Console>(con: &mut C, text: &mut Vec<u8>) -> bool
 }
 
 // Reads the first record: is it the columns' names?
-fn take_header(
-    target: Target<'_>,
-    rows: &mut Rows,
-    record: &mut ByteRecord,
-) -> Result<bool, NoMemory>
+fn take_header(target: Target<'_>, rows: &mut Rows) -> Result<bool, NoMemory>
     ensures { IfOk result (λ right. HeaderIs (names_of target.entry.table.now target.entry.pred.now) rows.old rows.new right) }
 {
-    if rows.next(record)? {
-        Ok(header(target.table, target.pred, record))
-    } else {
-        Ok(false)
-    }
+    let right = rows.header(target.table, target.pred)?;
+    Ok(right)
 }
 
 fn both(a: bool, b: bool) -> bool
@@ -128,27 +154,30 @@ fn put_records<C: Console>(
     target: Target<'_>,
     s: &mut Scratch,
     rows: &mut Rows,
-    record: &mut ByteRecord,
     text: &mut Vec<u8>,
+    viewers: &mut Viewers,
 ) -> Result<bool, Early>
     requires program { IsProgramOf (pred_of target.pred.now) target.program.now }
     requires made { MadeFor target.program.now s.old }
     requires room { piece_room ≤ vec_capacity text.old }
     requires empty { text.old.items ≡ [] }
-    ensures { Gathers (RunStep (pred_of target.entry.pred.now) (names_of target.entry.table.now target.entry.pred.now)) (is_row (pred_of target.entry.pred.now)) tt rows.old (count (C.faults con.old) (C.faults con.new)) result text.new.items (C.shown con.old) (C.shown con.new) tt }
+    ensures { Gathers (RunStep (pred_of target.entry.pred.now) (names_of target.entry.table.now target.entry.pred.now)) (is_row (pred_of target.entry.pred.now)) (watching viewers.old.seen (states_of kind_of tally_of viewers.old.panel.watchers.items)) rows.old (count (C.faults con.old) (C.faults con.new)) result text.new.items (C.shown con.old) (C.shown con.new) (watching viewers.new.seen (states_of kind_of tally_of viewers.new.panel.watchers.items)) }
 {
+    let mut row = Row {
+        index: [0; 5],
+        values: [0; 168],
+    };
     let mut good = true;
     'rows: loop {
         if !put_piece(con, text) {
             return Err(Early::Write);
         }
-        match rows.next(record) {
-            Ok(true) => {}
-            Ok(false) => return Ok(good),
-            Err(_) => return Err(Early::Memory),
-        }
-        match add_record(alloc, target, s, record, text) {
-            Ok(right) => good = both(good, right),
+        match rows.next_row(target.pred, &mut row) {
+            Ok(Some(read)) => match take_record(alloc, con, target, s, read, &row, text, viewers) {
+                Ok(right) => good = both(good, right),
+                Err(early) => return Err(early),
+            },
+            Ok(None) => return Ok(good),
             Err(_) => return Err(Early::Memory),
         }
     }
@@ -160,16 +189,26 @@ fn end_of(good: bool) -> End
     if good { End::Done } else { End::Rows }
 }
 
+// Puts the lines of the watchers that are left behind the records.
+fn close_after<C: Console>(con: &mut C, panel: Panel, good: bool) -> Result<End, Early>
+    ensures { Closes (last_lines (states_of kind_of tally_of panel.watchers.items)) (end_of good) (count (C.faults con.old) (C.faults con.new)) result (C.shown con.old) (C.shown con.new) }
+{
+    if !close(con, Port::Err, panel) {
+        return Err(Early::Write);
+    }
+    Ok(end_of(good))
+}
+
 // The work on the records behind the header.
 fn run_rows<C: Console>(
     alloc: Global,
     con: &mut C,
     target: Target<'_>,
     rows: &mut Rows,
-    record: &mut ByteRecord,
+    watchers: Vec<Box<dyn Watch>>,
 ) -> Result<End, Early>
     requires { IsProgramOf (pred_of target.pred.now) target.program.now }
-    ensures { (g : Given) → HasRecords g (pred_of target.entry.pred.now) (names_of target.entry.table.now target.entry.pred.now) (names_of target.entry.table.now target.entry.pred.now ∷ rows.old) → CarriesOut (RunSaid g) (RunPart g) ⊥ ⊥ (count (C.faults con.old) (C.faults con.new)) result (C.shown con.old) (C.shown con.new) }
+    ensures { (g : Given) → HasRecords g (pred_of target.entry.pred.now) (names_of target.entry.table.now target.entry.pred.now) (names_of target.entry.table.now target.entry.pred.now ∷ rows.old) → CarriesOut (RunSaid (states_of kind_of tally_of watchers.items) g) (RunPart (states_of kind_of tally_of watchers.items) g) ⊥ ⊥ (count (C.faults con.old) (C.faults con.new)) result (C.shown con.old) (C.shown con.new) }
 {
     let Ok(mut scratch) = Scratch::new(alloc, kept(target.program)) else {
         return Err(Early::Memory);
@@ -177,23 +216,37 @@ fn run_rows<C: Console>(
     let Ok(mut text) = Vec::with_capacity(alloc, PIECE + LINE_ROOM) else {
         return Err(Early::Memory);
     };
-    let ran = put_records(alloc, con, target, &mut scratch, rows, record, &mut text);
+    let panel = Panel::new(watchers);
+    let mut viewers = Viewers { seen: 0, panel };
+    let ran = put_records(
+        alloc,
+        con,
+        target,
+        &mut scratch,
+        rows,
+        &mut text,
+        &mut viewers,
+    );
     match put_rest(con, &text, ran) {
-        Ok(good) => Ok(end_of(good)),
+        Ok(good) => close_after(con, viewers.panel, good),
         Err(early) => Err(early),
     }
 }
 
-/// Puts a line for each record behind the header; or refuses the header.
-pub(crate) fn work<C: Console>(alloc: Global, con: &mut C, ready: &Ready) -> Result<End, Early>
+/// Puts a line for each record behind the header, and the lines of the watchers on Err; or refuses the header.
+pub(crate) fn work<C: Console>(
+    alloc: Global,
+    con: &mut C,
+    ready: &Ready,
+    watchers: Vec<Box<dyn Watch>>,
+) -> Result<End, Early>
     requires { IsReadyFor Command.Run ready.now }
-    ensures { (g : Given) → StandsFor ready.now g → CarriesOut (RunSaid g) (RunPart g) ⊥ ⊥ (count (C.faults con.old) (C.faults con.new)) result (C.shown con.old) (C.shown con.new) }
+    ensures { (g : Given) → StandsFor ready.now g → CarriesOut (RunSaid (states_of kind_of tally_of watchers.items) g) (RunPart (states_of kind_of tally_of watchers.items) g) ⊥ ⊥ (count (C.faults con.old) (C.faults con.new)) result (C.shown con.old) (C.shown con.new) }
 {
     let target = one_target(ready);
     let mut rows = Rows::new(alloc, one_text(ready));
-    let mut record = ByteRecord::new(alloc);
-    match take_header(target, &mut rows, &mut record) {
-        Ok(true) => run_rows(alloc, con, target, &mut rows, &mut record),
+    match take_header(target, &mut rows) {
+        Ok(true) => run_rows(alloc, con, target, &mut rows, watchers),
         Ok(false) => say(alloc, con, Stop::Tell(Why::Header)),
         Err(_) => Err(Early::Memory),
     }

@@ -1,4 +1,4 @@
-// Sources: compiled, or refused.
+//! Sources: compiled, or refused.
 ghost use Rattle.std.specs.Prelude.{◌≡◌, ◌≤◌, length, IfOk, IfErr};
 ghost use Rattle.ln_top.specs.Source.{view, refusal_at, told_of};
 ghost use Rattle.ln_top.specs.Steps.{Compiles, gives};

@@ -1,4 +1,4 @@
-// How a call of the program ends.
+//! How a call of the program ends.
 ghost use Rattle.std.specs.Prelude.{◌≡◌, Ok, Err};
 ghost use Rattle.ln_top.specs.Said.{end_status, early_status, status_of, code_of};
 
@@ -35,15 +35,25 @@ pub enum Early {
 /// How a call of the program ended: by an end that is owed or an early one.
 #[derive(Clone, Copy, Debug, PartialEq, Eq)]
 pub enum Status {
+    /// 0: the command was carried out.
     Done,
+    /// 1: the source is refused.
     Refused,
+    /// 2: the words are no command.
     Usage,
+    /// 3: the header or a record is refused.
     Rows,
+    /// 4: the source has no predicate of a name.
     NoPredicate,
+    /// 5: a listing is invalid.
     Invalid,
+    /// 6: a file wasn't read.
     Read,
+    /// 7: a port failed.
     Write,
+    /// 8: a file is over its limit.
     TooLong,
+    /// 9: there was no memory.
     Memory,
 }
 

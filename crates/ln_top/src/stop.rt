@@ -1,5 +1,5 @@
-// Why a command stops before its work, and the puts of whole texts.
-ghost use Rattle.std.specs.Prelude.{◌≡◌, ◌≢◌, IfOk, codes, decimal, string_bytes};
+//! Why a command stops before its work, and the puts of whole texts.
+ghost use Rattle.std.specs.Prelude.{◌≡◌, ◌≢◌, IfOk, decimal, string_bytes};
 ghost use Rattle.ln_top.specs.Said.{count, line};
 ghost use Rattle.ln_top.specs.Stop.{kind_text, refusal_text, why_end};
 ghost use Rattle.ln_top.specs.Carried.{PutsText, Says, stop_line, stop_result};
@@ -85,7 +85,7 @@ fn kind_text(kind: Kind) -> &'static [u8]
     }
 }
 
-fn number(alloc: Global, n: u32) -> Result<String, AllocError>
+pub(crate) fn number(alloc: Global, n: u32) -> Result<String, AllocError>
     ensures { IfOk result (λ s. string_bytes s ≡ decimal n) }
 {
     format!(in alloc; "{n}")

@@ -1,22 +1,27 @@
-// The top call: the words become a plan, the plan is prepared, and the work is done.
+//! The top call: the words become a plan, the plan is prepared, and the work is done.
 ghost use Rattle.std.specs.Prelude.{◌≡◌, ◌≢◌, ◌⊎◌, [], map, string_bytes, IfSome, Some, None, Err};
 ghost use Rattle.ln_base.specs.Outside.{Rose, counted};
 ghost use Rattle.ln_top.specs.Answer.{Answer, IsMissing, Part, PlanOwes, PlanPart, PlanLacks};
 ghost use Rattle.ln_top.specs.Carried.{CarriesOut, LeavesFronts, LeavesPart, read_line};
 ghost use Rattle.ln_top.specs.Causes.{Answered, Ends, EndsExactly, ExactlyWhere, IsSettled, SaysLine};
+ghost use Rattle.ln_top.specs.Emitted.{CallsArePerturbed};
 ghost use Rattle.ln_top.specs.Headline.{SignsArePerturbed};
+ghost use Rattle.ln_top.specs.Listed.{ListingGivesSigns};
 ghost use Rattle.ln_top.specs.Plan.{HasForm, plan_of, with_bytes};
 ghost use Rattle.ln_top.specs.Ready.{IsReadyFor, StandsFor};
 ghost use Rattle.ln_top.specs.Said.{count, end_status, put_both};
 ghost use Rattle.ln_top.specs.Steps.{Given};
+ghost use Rattle.ln_top.specs.Trusted.{ValidTellsSigns};
 ghost use Rattle.ln_top.specs.Work.{IsWorkEnd, WorkOwes, WorkPart};
+ghost use Rattle.ln_watch.specs.Panel.{states_of};
 
 use crate::prepare::{Ready, prepare};
 use crate::status::{Early, End, Status, status_of};
 use crate::stop::{Stop, Why, say};
 use crate::words::{Command, Plan, plan_of};
-use crate::{check, run};
+use crate::{check, emit, generate, list, run, verify};
 use ln_base::{Console, Files};
+use ln_watch::Watch;
 use std::alloc::Global;
 
 // Does the work of a command.
@@ -25,13 +30,18 @@ fn work<C: Console>(
     con: &mut C,
     command: Command,
     ready: &Ready,
+    watchers: Vec<Box<dyn Watch>>,
 ) -> Result<End, Early>
     requires { IsReadyFor command ready.now }
-    ensures { (g : Given) → StandsFor ready.now g → CarriesOut (WorkOwes command g) (WorkPart command g) ⊥ ⊥ (count (C.faults con.old) (C.faults con.new)) result (C.shown con.old) (C.shown con.new) }
+    ensures { (g : Given) → StandsFor ready.now g → CarriesOut (WorkOwes command (states_of kind_of tally_of watchers.items) g) (WorkPart command (states_of kind_of tally_of watchers.items) g) ⊥ ⊥ (count (C.faults con.old) (C.faults con.new)) result (C.shown con.old) (C.shown con.new) }
 {
     match command {
         Command::Check => check::work(alloc, con, ready),
-        Command::Run => run::work(alloc, con, ready),
+        Command::List => list::work(alloc, con, ready),
+        Command::Emit => emit::work(alloc, con, ready),
+        Command::Verify => verify::work(alloc, con, ready),
+        Command::Run => run::work(alloc, con, ready, watchers),
+        Command::Gen(seed, rows) => { generate::work(alloc, con, ready, seed, rows, watchers) }
     }
 }
 
@@ -41,13 +51,14 @@ fn carry_plan<F: Files, C: Console>(
     files: &mut F,
     con: &mut C,
     plan: Plan<'_>,
+    watchers: Vec<Box<dyn Watch>>,
 ) -> Result<End, Early>
     requires { HasForm (with_bytes plan) }
-    ensures done { CarriesOut (PlanOwes (with_bytes plan.entry) (F.told files.old)) (PlanPart (with_bytes plan.entry) (F.told files.old)) (PlanLacks (with_bytes plan.entry) (F.told files.old)) (Rose (F.faults files.old) (F.faults files.new)) (count (C.faults con.old) (C.faults con.new)) result (C.shown con.old) (C.shown con.new) }
+    ensures done { CarriesOut (PlanOwes (with_bytes plan.entry) (F.told files.old) (states_of kind_of tally_of watchers.items)) (PlanPart (with_bytes plan.entry) (F.told files.old) (states_of kind_of tally_of watchers.items)) (PlanLacks (with_bytes plan.entry) (F.told files.old)) (Rose (F.faults files.old) (F.faults files.new)) (count (C.faults con.old) (C.faults con.new)) result (C.shown con.old) (C.shown con.new) }
     ensures quiet { result ≢ Err Early.Read → result ≢ Err Early.Write → F.faults files.new ≡ F.faults files.old }
 {
     match prepare(alloc, files, plan) {
-        Ok(ready) => work(alloc, con, plan.command, &ready),
+        Ok(ready) => work(alloc, con, plan.command, &ready, watchers),
         Err(stop) => say(alloc, con, stop),
     }
 }
@@ -58,19 +69,25 @@ fn carry_out<F: Files, C: Console>(
     words: &[String],
     files: &mut F,
     con: &mut C,
+    watchers: Vec<Box<dyn Watch>>,
 ) -> Result<End, Early>
-    ensures done { CarriesOut (Answer (map string_bytes words.now) (F.told files.old)) (Part (map string_bytes words.now) (F.told files.old)) (IsMissing (map string_bytes words.now) (F.told files.old)) (Rose (F.faults files.old) (F.faults files.new)) (count (C.faults con.old) (C.faults con.new)) result (C.shown con.old) (C.shown con.new) }
+    ensures done { CarriesOut (Answer (map string_bytes words.now) (F.told files.old) (states_of kind_of tally_of watchers.items)) (Part (map string_bytes words.now) (F.told files.old) (states_of kind_of tally_of watchers.items)) (IsMissing (map string_bytes words.now) (F.told files.old)) (Rose (F.faults files.old) (F.faults files.new)) (count (C.faults con.old) (C.faults con.new)) result (C.shown con.old) (C.shown con.new) }
     ensures quiet { result ≢ Err Early.Read → result ≢ Err Early.Write → F.faults files.new ≡ F.faults files.old }
 {
     match plan_of(words) {
-        Some(plan) => carry_plan(alloc, files, con, plan),
+        Some(plan) => carry_plan(alloc, files, con, plan, watchers),
         None => say(alloc, con, Stop::Tell(Why::Usage)),
     }
 }
 
 /// Carries out the command of the words over the files and the console that are handed in. `check FILE` puts, for each predicate
-/// of an accepted source, its number of sites and its stage count. `run FILE NAME ROWS` puts, for each record behind the header of
-/// the rows file, the perturbed sign of the predicate on that row, and the place of the stage that decides it.
+/// of an accepted source, its number of sites and its stage count. `list FILE` puts a listing of its programs, `emit FILE` C for its
+/// predicates, in which the call of `ln_NAME` gives the perturbed sign of a row. `verify FILE LISTING` says whether a listing, whoever made
+/// it, is valid for them, or the first line at which it isn't. `run FILE NAME ROWS` puts, for each record behind the
+/// header of the rows file, the perturbed sign of the predicate on that row, and the place of the stage that decides it. There the
+/// watchers see each verdict, with the record's number from 1 behind the header, and their lines go to Err: that of a box that is done
+/// at once, those of the boxes that are left at the end, also where records are refused. `gen FILE NAME SEED COUNT` makes so many rows
+/// of the seed, runs each as it is made and puts the watchers' lines on Out. `check`, `list`, `emit` and `verify` show them nothing.
 ///
 /// Each status has its cause, of which the first in the order of the steps decides: the words, the source file, the source, the
 /// names, the further files, the work. A failed put decides before all of them.
@@ -79,10 +96,11 @@ pub fn lnc<F: Files, C: Console>(
     words: &[String],
     files: &mut F,
     con: &mut C,
+    watchers: Vec<Box<dyn Watch>>,
 ) -> Status
     // What the words are owed over the files was answered, to the byte, whatever the counts of faults did. Files that tell nothing
     // may hold anything.
-    ensures exact { IsSettled result → Answered (Answer (map string_bytes words.now) (F.told files.old)) result (C.shown con.old) (C.shown con.new) }
+    ensures exact { IsSettled result → Answered (Answer (map string_bytes words.now) (F.told files.old) (states_of kind_of tally_of watchers.items)) result (C.shown con.old) (C.shown con.new) }
     // Valid input is carried out, where neither count of faults rises and memory is there.
     ensures complete { IfSome (F.told files.old) (λ shelf. Ends (map string_bytes words.now) (Some shelf) End.Done → (Rose (F.faults files.old) (F.faults files.new) → ⊥) → (Rose (C.faults con.old) (C.faults con.new) → ⊥) → (result ≡ Status.Done) ⊎ (result ≡ Status.Memory)) }
     // Each status that says what was owed comes exactly where the steps end so; and the same for each one by its name.
@@ -103,17 +121,27 @@ pub fn lnc<F: Files, C: Console>(
     ensures quiet { result ≢ Status.Read → result ≢ Status.Write → F.faults files.new ≡ F.faults files.old }
     // A fault of writing leaves the first bytes of what is owed on each port; or, where a file wasn't read, on Err those of the
     // line that says so, and on Out nothing.
-    ensures fronts { result ≡ Status.Write → LeavesFronts (Answer (map string_bytes words.now) (F.told files.old)) (Rose (F.faults files.old) (F.faults files.new) ⊎ IsMissing (map string_bytes words.now) (F.told files.old)) (C.shown con.old) (C.shown con.new) }
+    ensures fronts { result ≡ Status.Write → LeavesFronts (Answer (map string_bytes words.now) (F.told files.old) (states_of kind_of tally_of watchers.items)) (Rose (F.faults files.old) (F.faults files.new) ⊎ IsMissing (map string_bytes words.now) (F.told files.old)) (C.shown con.old) (C.shown con.new) }
     // Want of memory leaves nothing, or a part that the command names: in the work on rows, the whole lines of the first records.
-    ensures part { result ≡ Status.Memory → LeavesPart (Answer (map string_bytes words.now) (F.told files.old)) (Part (map string_bytes words.now) (F.told files.old)) (C.shown con.old) (C.shown con.new) }
+    ensures part { result ≡ Status.Memory → LeavesPart (Answer (map string_bytes words.now) (F.told files.old) (states_of kind_of tally_of watchers.items)) (Part (map string_bytes words.now) (F.told files.old) (states_of kind_of tally_of watchers.items)) (C.shown con.old) (C.shown con.new) }
     // The headline: where records behind the right header were worked on to their end, there is one line for each, and that of
     // each that is a row in range begins with the perturbed sign of the predicate on it: the sign of the first coefficient that
     // isn't 0, in the order of infinitesimals by the row's own indices, of the predicate at perturbed inputs.
-    ensures headline { IsSettled result → IfSome (F.told files.old) (λ shelf. SignsArePerturbed (map string_bytes words.now) shelf (C.shown con.old) (C.shown con.new)) }
+    ensures headline { IsSettled result → IfSome (F.told files.old) (λ shelf. SignsArePerturbed (map string_bytes words.now) shelf (states_of kind_of tally_of watchers.items) (C.shown con.old) (C.shown con.new)) }
+    // And the C: where `emit` came to its end, what stands on Out is the text of a C file in which, for each predicate and each row in
+    // its declared ranges, the call of `ln_NAME` has a meaning, by the subset's written meaning: the perturbed sign.
+    ensures emitted { IsSettled result → IfSome (F.told files.old) (λ shelf. CallsArePerturbed (map string_bytes words.now) shelf (C.shown con.old) (C.shown con.new)) }
+    // And the listing: where `list` came to its end, what stands on Out is the text of a listing that is valid, and `verify` of it says
+    // so; for each predicate and each row in its declared ranges the machine of the listing's part has a verdict, so no operation
+    // leaves its certified width, and its sign is the perturbed sign.
+    ensures listed { IsSettled result → IfSome (F.told files.old) (λ shelf. ListingGivesSigns (map string_bytes words.now) shelf (C.shown con.old) (C.shown con.new)) }
+    // And any listing: where `verify` came to done, the listing has a part for each predicate, and on each row in its declared ranges
+    // the machine of the part has a verdict, so no operation leaves its certified width; its sign is the perturbed sign.
+    ensures trusted { IfSome (F.told files.old) (λ shelf. ValidTellsSigns (map string_bytes words.now) shelf result) }
     // After a fault of reading its line stands alone, and so does that of each status that no work ends with; also where files
     // tell nothing.
     ensures unread { result ≡ Status.Read → C.shown con.new ≡ put_both [] read_line (C.shown con.old) }
     ensures line { (e : End) → result ≡ end_status e → (IsWorkEnd e → ⊥) → SaysLine e (C.shown con.old) (C.shown con.new) }
 {
-    status_of(carry_out(alloc, words, files, con))
+    status_of(carry_out(alloc, words, files, con, watchers))
 }

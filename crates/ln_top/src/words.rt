@@ -1,6 +1,11 @@
-// The words, and what a command needs.
+//! The words, and what a command needs.
 ghost use Rattle.std.specs.Prelude.{◌≡◌, ◌≤◌, ◌+◌, map, option_map, string_bytes, IfSome};
-ghost use Rattle.ln_top.specs.Plan.{HasForm, plan_of, plan_for, command_of, named_command, form, with_bytes};
+ghost use Rattle.std.specs.Char.{is_ascii_digit};
+ghost use Rattle.std.specs.List.{list_all};
+ghost use Rattle.ln_base.specs.Decimal.{is_digits};
+ghost use Rattle.ln_top.specs.Plan.{HasForm, plan_of, plan_for, gen_plan, number_of, plan_behind, command_of, named_command, form, with_bytes};
+
+use ln_base::decimal::unsigned;
 
 /// What is to be done.
 #[derive(Clone, Copy)]
@@ -9,6 +14,14 @@ pub enum Command {
     Check,
     /// `run FILE NAME ROWS`: the signs of a predicate on the records of a rows file.
     Run,
+    /// `list FILE`: the listing of the compiled programs.
+    List,
+    /// `emit FILE`: C for the predicates.
+    Emit,
+    /// `verify FILE LISTING`: is a listing valid for the predicates?
+    Verify,
+    /// `gen FILE NAME SEED COUNT`: so many rows are made of a seed, and what watchers say of the signs of a predicate on them.
+    Gen(u64, u64),
 }
 
 /// What a command needs: its source file, the names of predicates, further files.
@@ -45,10 +58,30 @@ fn form(command: Command) -> Counts
             most: 0,
             files: 0,
         },
+        Command::List => Counts {
+            least: 0,
+            most: 0,
+            files: 0,
+        },
+        Command::Emit => Counts {
+            least: 0,
+            most: 0,
+            files: 0,
+        },
+        Command::Verify => Counts {
+            least: 0,
+            most: 0,
+            files: 1,
+        },
         Command::Run => Counts {
             least: 1,
             most: 1,
             files: 1,
+        },
+        Command::Gen(..) => Counts {
+            least: 1,
+            most: 1,
+            files: 0,
         },
     }
 }
@@ -60,6 +93,12 @@ fn named_command(word: &str) -> Option<Command>
         Some(Command::Check)
     } else if word == "run" {
         Some(Command::Run)
+    } else if word == "list" {
+        Some(Command::List)
+    } else if word == "emit" {
+        Some(Command::Emit)
+    } else if word == "verify" {
+        Some(Command::Verify)
     } else {
         None
     }
@@ -85,13 +124,71 @@ fn plan_for<'a>(command: Option<Command>, source: &'a str, rest: &'a [String]) -
     }
 }
 
+fn every_digit(bytes: &[u8]) -> bool
+    ensures { result ≡ list_all is_ascii_digit bytes.now }
+{
+    bytes.iter().all(|b| b.is_ascii_digit())
+}
+
+fn all_digits(bytes: &[u8]) -> bool
+    ensures { result ≡ is_digits bytes.now }
+{
+    every_digit(bytes) && !bytes.is_empty()
+}
+
+// The number that a word of 1 to 18 digits is.
+fn number(word: &str) -> Option<u64>
+    ensures { result ≡ number_of word.now }
+{
+    let digits = word.as_bytes();
+    if all_digits(digits) && digits.len() <= 18 {
+        Some(unsigned(digits) as u64)
+    } else {
+        None
+    }
+}
+
+// The plan of the words behind `gen`.
+fn gen_plan<'a>(source: &'a str, rest: &'a [String]) -> Option<Plan<'a>>
+    ensures is { option_map with_bytes result ≡ gen_plan source.now (map string_bytes rest.now) }
+    ensures form { IfSome result (λ p. HasForm (with_bytes p)) }
+{
+    let [_, seed, count] = rest else {
+        return None;
+    };
+    let seed = number(seed.as_str())?;
+    let count = number(count.as_str())?;
+    if 1 <= count && count <= 1_000_000 {
+        Some(Plan {
+            source,
+            names: &rest[..1],
+            files: &rest[3..],
+            command: Command::Gen(seed, count),
+        })
+    } else {
+        None
+    }
+}
+
+// The plan of a first word, a source file and the words behind them.
+fn plan_behind<'a>(word: &str, source: &'a str, rest: &'a [String]) -> Option<Plan<'a>>
+    ensures is { option_map with_bytes result ≡ plan_behind word.now source.now (map string_bytes rest.now) }
+    ensures form { IfSome result (λ p. HasForm (with_bytes p)) }
+{
+    if word == "gen" {
+        gen_plan(source, rest)
+    } else {
+        plan_for(named_command(word), source, rest)
+    }
+}
+
 /// The plan of the words, where they are a command.
 pub fn plan_of(words: &[String]) -> Option<Plan<'_>>
     ensures is { option_map with_bytes result ≡ plan_of (map string_bytes words.now) }
     ensures form { IfSome result (λ p. HasForm (with_bytes p)) }
 {
     match words {
-        [word, source, rest @ ..] => plan_for(named_command(word.as_str()), source.as_str(), rest),
+        [word, source, rest @ ..] => plan_behind(word.as_str(), source.as_str(), rest),
         _ => None,
     }
 }

@@ -1,4 +1,4 @@
-// What the program says of words, sources and rows, over files and ports in memory.
+//! What the program says of words, sources and rows, over files and ports in memory.
 use crate::spheres::CIRCLE;
 use crate::support::{said, said_within, shelf, tells};
 use ln_base::{MemFiles, NoMemory};
@@ -240,6 +240,63 @@ predicate f(p: s) { sign (p.a + p.b + p.c + p.d + p.e)^16; }
     Ok(())
 }
 
+// The product of four numbers, as a difference of squares.
+fn cross(alloc: Global, low: &str, high: &str) -> Result<String, NoMemory> {
+    let mut source = String::from_str(alloc, "site num { t: ")?;
+    write!(source, "{low} .. {high}; }}")?;
+    source.push_str("\npredicate cross(a: num, b: num) { sign (a.t + b.t)^2 - (a.t - b.t)^2; }\n")?;
+    Ok(source)
+}
+
+#[test]
+fn a_difference_of_squares_is_accepted_by_its_ranges(rt: HostRuntime) -> Result<(), Fail> {
+    let alloc = rt.alloc();
+    let stages = "cross sites 2 stages 8\n";
+    let wide = "5000000000000000000";
+    let rows = [
+        ("-4611686018427387903", "4611686018427387903", stages, ""),
+        ("0", wide, stages, ""),
+        ("-5000000000000000000", wide, "", "error bound 2:54\n"),
+    ];
+    for (low, high, out, err) in rows {
+        let source = cross(alloc, low, high)?;
+        let mut files = shelf(alloc, &source, HEAD, &[])?;
+        let (_, con) = said(alloc, CHECK, &mut files, &[])?;
+        assert!(rt; tells(&con, out, err));
+    }
+    let source = cross(alloc, "0", wide)?;
+    let mut files = shelf(alloc, &source, "a,a.t,b,b.t\n1,0,2,5\n1,0,2,0\n", &[])?;
+    let words = &["run", "s.ln", "cross", "r.csv"];
+    let (was, con) = said(alloc, words, &mut files, &[])?;
+    assert!(rt; was == Status::Done && tells(&con, "+ 1\n+ 3\n", ""));
+    Ok(())
+}
+
+#[test]
+fn sizes_and_the_whole_are_tested_beside_ranges(rt: HostRuntime) -> Result<(), Fail> {
+    let alloc = rt.alloc();
+    // The range is 0 .. 0, the size 2^128.
+    let large = "param c: 0 .. 0; predicate f(c: param) { sign (c^16)^8; }";
+    // The range is 0 .. 2^81, and so is the size; 3^81 passes 2^127.
+    let heavy = "param c: 0 .. 2; predicate f(c: param) { sign (c^16)^5*c; }";
+    let light = "param c: 0 .. 2; predicate f(c: param) { sign (c^16)^5; }";
+    let both = "param c: 0 .. 2; site s { a: 0 .. 1; b: 0 .. 1; c: 0 .. 1; d: 0 .. 1; }
+predicate f(p: s, c: param) { sign (p.a + p.b + p.c + p.d + 1)^12 * (c^16)^5*c; }
+";
+    let rows = [
+        (large, "", "error bound 1:53\n"),
+        (heavy, "", "error bound 1:55\n"),
+        (light, "f sites 0 stages 1\n", ""),
+        (both, "", "error terms 2:63\n"),
+    ];
+    for (source, out, err) in rows {
+        let mut files = shelf(alloc, source, HEAD, &[])?;
+        let (_, con) = said(alloc, CHECK, &mut files, &[])?;
+        assert!(rt; tells(&con, out, err));
+    }
+    Ok(())
+}
+
 #[test]
 fn a_command_that_stops_says_why(rt: HostRuntime) -> Result<(), Fail> {
     let alloc = rt.alloc();
@@ -247,7 +304,7 @@ fn a_command_that_stops_says_why(rt: HostRuntime) -> Result<(), Fail> {
         (&[], &[], &[], "error usage\n", Status::Usage),
         (&["run"], &[], &[], "error usage\n", Status::Usage),
         (&["check"], &[], &[], "error usage\n", Status::Usage),
-        (&["list", "s.ln"], &[], &[], "error usage\n", Status::Usage),
+        (&["draw", "s.ln"], &[], &[], "error usage\n", Status::Usage),
         (
             &["run", "s.ln", "nosuch", "r.csv"],
             &[],

@@ -1,4 +1,4 @@
-// What `run` says of random predicates, compared with the definition of the perturbed sign.
+//! What `run` says of random predicates, compared with the definition of the perturbed sign.
 mod definition;
 mod draw;
 mod filter;
@@ -7,7 +7,7 @@ mod text;
 use crate::compare::definition::{Part, Row, covered};
 use crate::compare::draw::Draw;
 use crate::compare::filter::decides;
-use crate::compare::text::{Column, Shape, put_header, put_record, source};
+use crate::compare::text::{Column, Shape, put_header, put_record, repeats, source};
 use crate::support::{said, shelf, tells};
 use ln_base::NoMemory;
 use ln_top::Status;
@@ -68,10 +68,11 @@ predicate f(c: param, p: num, q: point, r: num)",
     sites: [0, 1, 1, 2],
 };
 
-/// How many predicates were compared, and how many lines had a place above 0, or `0 -`.
+/// How many predicates were compared, and how many of them have equal parts; how many lines had a place above 0, or `0 -`.
 #[derive(Drop)]
 struct Tally {
     predicates: u32,
+    repeated: u32,
     perturbed: u32,
     undecided: u32,
 }
@@ -149,6 +150,9 @@ impl Tally {
             "{source}{records}{lines}"
         );
         self.predicates = self.predicates.wrapping_add(1);
+        if repeats(alloc, &parts)? {
+            self.repeated = self.repeated.wrapping_add(1);
+        }
         Ok(())
     }
 }
@@ -160,6 +164,7 @@ fn random_predicates_have_the_sign_and_place_of_the_definition(
     let mut draw = Draw::new(1990);
     let mut tally = Tally {
         predicates: 0,
+        repeated: 0,
         perturbed: 0,
         undecided: 0,
     };
@@ -169,6 +174,7 @@ fn random_predicates_have_the_sign_and_place_of_the_definition(
         }
     }
     assert!(rt; tally.predicates >= 100, "{} predicates", tally.predicates);
+    assert!(rt; tally.repeated >= 100, "{} predicates", tally.repeated);
     assert!(rt; tally.perturbed >= 1000, "{} lines", tally.perturbed);
     assert!(rt; tally.undecided >= 20, "{} lines", tally.undecided);
     Ok(())

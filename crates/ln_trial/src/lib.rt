@@ -1,7 +1,10 @@
-// Tests of the program as a whole: what `ln_top::lnc` says over files and ports in memory. There is nothing else in this crate.
-//
-// `commands` has sources, rows and words with the lines and statuses that they are owed, `spheres` rows of incircle and insphere
-// whose lines geometry tells, `compare` random predicates against the definition of the perturbed sign.
+//! Tests of the program as a whole: what `ln_top::lnc` says over files and ports in memory. There is nothing else in this crate.
+//!
+//! `commands` has sources, rows and words with the lines and statuses that they are owed, `watchers` what boxes that are handed in
+//! say of records, `generated` what they say of rows that `gen` makes, `listings` what `list` puts, read back, `emitted` what `emit`
+//! puts, read back and called, `verified` what `verify` says of listings, `rules` the same of listings that are changed in one place,
+//! with their texts and lines in `judged`, `repeated` predicates whose equal parts are computed once, `spheres` rows of incircle and
+//! insphere whose lines geometry tells, `compare` random predicates against the definition of the perturbed sign.
 #![tactic(auto)]
 
 #[cfg(test)]
@@ -9,6 +12,24 @@ mod commands;
 #[cfg(test)]
 mod compare;
 #[cfg(test)]
+mod emitted;
+#[cfg(test)]
+mod failing;
+#[cfg(test)]
+mod generated;
+#[cfg(test)]
+mod judged;
+#[cfg(test)]
+mod listings;
+#[cfg(test)]
+mod repeated;
+#[cfg(test)]
+mod rules;
+#[cfg(test)]
 mod spheres;
 #[cfg(test)]
 mod support;
+#[cfg(test)]
+mod verified;
+#[cfg(test)]
+mod watchers;

@@ -1,9 +1,9 @@
-// Rows of the incircle and the insphere predicate whose lines geometry tells.
-//
-// Of a, b, c that turn left, incircle is + where d is inside their circle. Of a, b, c, d that are right-handed, insphere is - where
-// e is inside their sphere. Exchanging two points exchanges the sign. Where the plain value is 0 the point with the smallest index
-// moves first, by its last coordinate: the stages of incircle begin with 1, a.y, a.y^2, a.x if that point is a, those of insphere
-// with 1, a.z, a.z^2, a.y, a.y^2, a.x, a.x^2.
+//! Rows of the incircle and the insphere predicate whose lines geometry tells.
+//!
+//! Of a, b, c that turn left, incircle is + where d is inside their circle. Of a, b, c, d that are right-handed, insphere is - where
+//! e is inside their sphere. Exchanging two points exchanges the sign. Where the plain value is 0 the point with the smallest index
+//! moves first, by its last coordinate: the stages of incircle begin with 1, a.y, a.y^2, a.x if that point is a, those of insphere
+//! with 1, a.z, a.z^2, a.y, a.y^2, a.x, a.x^2.
 use crate::support::{said, shelf, tells};
 use ln_base::NoMemory;
 use ln_top::Status;

@@ -1,6 +1,7 @@
-// Files and a console in memory, for the tests.
+//! Files and a console in memory, for the tests.
 use ln_base::{MemConsole, MemFiles, NoMemory, Port};
 use ln_top::{Status, lnc};
+use ln_watch::Watch;
 use std::alloc::Global;
 
 /// The files `s.ln` and `r.csv` with these bytes; the calls in `fails` fail.
@@ -31,12 +32,24 @@ pub fn said_within(
     room: usize,
     fails: &[u64],
 ) -> Result<(Status, MemConsole), NoMemory> {
+    said_watched(alloc, words, files, room, fails, Vec::new(alloc))
+}
+
+/// The same with watchers.
+pub fn said_watched(
+    alloc: Global,
+    words: &[&str],
+    files: &mut MemFiles,
+    room: usize,
+    fails: &[u64],
+    watchers: Vec<Box<dyn Watch>>,
+) -> Result<(Status, MemConsole), NoMemory> {
     let mut all = Vec::new(alloc);
     for word in words {
         all.push(String::from_str(alloc, word)?)?;
     }
     let mut con = MemConsole::new(alloc, room, 7, Vec::from_slice(alloc, fails)?)?;
-    let status = lnc(alloc, &all, files, &mut con);
+    let status = lnc(alloc, &all, files, &mut con, watchers);
     Ok((status, con))
 }
 

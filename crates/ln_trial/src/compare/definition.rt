@@ -1,7 +1,7 @@
-// The perturbed sign as it is defined, for expressions in five inputs: four coordinates of sites, and then a param.
-//
-// A vector of exponents is a number of five digits in base 5, digit v being the exponent of input v. No expression here has a larger
-// degree than 4, so sums of vectors are sums of their numbers. The weights of an accepted source are below 2^127, so nothing wraps.
+//! The perturbed sign as it is defined, for expressions in five inputs: four coordinates of sites, and then a param.
+//!
+//! A vector of exponents is a number of five digits in base 5, digit v being the exponent of input v. No expression here has a larger
+//! degree than 4, so sums of vectors are sums of their numbers. The weights of an accepted source are below 2^127, so nothing wraps.
 use ln_base::NoMemory;
 use std::alloc::Global;
 
@@ -24,6 +24,17 @@ pub enum Part {
     Difference(usize, usize),
     Product(usize, usize),
     Power(usize, u8),
+}
+
+impl Part {
+    /// The places of the operands.
+    pub fn operands(self) -> (Option<usize>, Option<usize>) {
+        match self {
+            Part::Number(_) | Part::Input(_) => (None, None),
+            Part::Minus(e) | Part::Power(e, _) => (Some(e), None),
+            Part::Sum(l, r) | Part::Difference(l, r) | Part::Product(l, r) => (Some(l), Some(r)),
+        }
+    }
 }
 
 /// Values of the inputs, and how many inputs, from the first, are perturbed.

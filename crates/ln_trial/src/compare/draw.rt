@@ -1,4 +1,4 @@
-// Random expressions and rows, the same at each run.
+//! Random expressions and rows, the same at each run.
 ghost use Rattle.std.specs.Prelude.{◌<◌};
 
 use crate::compare::definition::{Part, Row};
@@ -49,12 +49,14 @@ impl Draw {
         let of_right = factors.get(right).copied().unwrap_or(0);
         let exponent = self.below(5) as u8;
         let of_product = of_left.saturating_add(of_right);
+        let of_square = of_right.saturating_add(of_right);
         let of_power = of_right.saturating_mul(exponent);
-        match self.below(8) {
+        match self.below(10) {
             0 => (Part::Minus(right), of_right),
             1 if of_power <= MOST_FACTORS => (Part::Power(right, exponent), of_power.max(1)),
             2..=4 if of_product <= MOST_FACTORS => (Part::Product(left, right), of_product),
-            5 => (Part::Sum(left, right), of_left.max(of_right)),
+            5 | 6 if of_square <= MOST_FACTORS => (Part::Product(right, right), of_square),
+            7 => (Part::Sum(left, right), of_left.max(of_right)),
             _ => (Part::Difference(left, right), of_left.max(of_right)),
         }
     }

@@ -1,4 +1,4 @@
-// The filter as it is defined: truncated numbers with their sizes and errors.
+//! The filter as it is defined: truncated numbers with their sizes and errors.
 use crate::compare::definition::{Part, Row};
 use ln_base::NoMemory;
 use std::alloc::Global;

@@ -1,4 +1,4 @@
-// The texts of expressions, sources and records.
+//! The texts of expressions, sources and records.
 use crate::compare::definition::{Part, Row};
 use ln_base::NoMemory;
 use std::alloc::Global;
@@ -107,6 +107,41 @@ fn put_part(
     Ok(Binding::Atom)
 }
 
+// Is the part at this place, which is an operation, a let of its own?
+fn is_let(place: usize) -> bool {
+    place % 3 == 0 && place >= 6
+}
+
+// One place more for the part at this place, if there is one.
+fn add_place(places: &mut [u32], operand: Option<usize>) {
+    if let Some(place) = operand {
+        if let Some(n) = places.get_mut(place) {
+            *n = n.saturating_add(1);
+        }
+    }
+}
+
+/// Whether the text of the expression has an operation, outside a let's name, at two places whose operations aren't equal.
+pub fn repeats(alloc: Global, parts: &[Part]) -> Result<bool, NoMemory> {
+    let mut places = vec![in alloc; 0u32; parts.len()]?;
+    let mut found = false;
+    let mut last = true;
+    for behind in 1..=parts.len() {
+        let place = parts.len().saturating_sub(behind);
+        let here = places.get(place).copied().unwrap_or(0);
+        if place >= 6 && (here > 0 || last || is_let(place)) {
+            found = found || (here > 1 && !is_let(place));
+            if let Some(part) = parts.get(place) {
+                let (left, right) = part.operands();
+                add_place(places.as_mut_slice(), left);
+                add_place(places.as_mut_slice(), right);
+            }
+        }
+        last = false;
+    }
+    Ok(found)
+}
+
 /// A source whose predicate is the expression, with a let for each operation at a place that 3 divides.
 pub fn source(alloc: Global, shape: &Shape, parts: &[Part]) -> Result<String, NoMemory> {
     let mut source = String::from_str(alloc, shape.head)?;
@@ -115,7 +150,7 @@ pub fn source(alloc: Global, shape: &Shape, parts: &[Part]) -> Result<String, No
     for (place, part) in parts.iter().enumerate() {
         let mut text = String::new(alloc);
         let mut binding = put_part(&mut text, shape, &texts, *part)?;
-        if place % 3 == 0 && place >= 6 {
+        if is_let(place) {
             write!(source, " let d{place} = {text};")?;
             text.clear();
             write!(text, "d{place}")?;

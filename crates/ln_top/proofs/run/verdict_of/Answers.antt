@@ -1,14 +1,13 @@
-use Rattle.std.proofs.lemmas.Result.{err_from_is_err_and}
+use Rattle.std.proofs.Common.{rules}
 use Rattle.ln_top.specs.Line.{refused_}
-use Rattle.ln_top.proofs.SaysLaws.{program_says}
+use Rattle.ln_top.proofs.SaysLaws.{program_says, read_as, read_not}
 use Rattle.ln_top.proofs.run.verdict_of.Goals as goal
 
-pub returns-in_err-row-clause-says : goal.returns-in_err-row-clause-says
-returns-in_err-row-clause-says c =
-    let p = err_from_is_err_and c.from_residual.result c.from_residual.ensures.1 in
-    rw (p.1, p.2) (refused_ _ c.in_err-row.ensures.err)
-
-pub returns-clause-says : goal.returns-clause-says
-returns-clause-says c =
+pub returns-in-Ok-clause-says : goal.returns-in-Ok-clause-says
+returns-in-Ok-clause-says c = λ fields r.
     let verdict = rw c.kept.ensures.same at c.run_row.ensures.verdict in
-    program_says _ _ _ c.in_ok-row.row _ c.kept.ensures.kept c.requires.program c.in_ok-row.ensures.ok c.in_ok-row.ensures.in_range verdict
+    let said = read_as c.args.target.pred.now.shape.sites c.args.target.pred.now.shape.vars fields c.args.read tt c.args.row.now (search rules) r in
+    program_says _ _ fields c.args.row.now _ c.kept.ensures.kept c.requires.program said.0 said.1 verdict
+
+pub returns-in-Err-clause-says : goal.returns-in-Err-clause-says
+returns-in-Err-clause-says c = λ fields r. refused_ _ (read_not c.args.target.pred.now.shape.sites c.args.target.pred.now.shape.vars fields c.args.read c.in-Err.stop c.args.row.now (search rules) r)

@@ -12,5 +12,5 @@ returns-in-Ok-true g c = λ given s.
 pub returns-in-Ok-false : goal.returns-in-Ok-false
 returns-in-Ok-false g c = λ given s.
     let wrong = rw c.in-Ok-false.field-0-test at c.in-Ok-false.ensures in
-    header_carried given (pred_of c.one_target-target.result.pred.now) (names_of c.one_target-target.result.table.now c.one_target-target.result.pred.now) _ _ _ _ _
+    header_carried _ given (pred_of c.one_target-target.result.pred.now) (names_of c.one_target-target.result.table.now c.one_target-target.result.pred.now) _ _ _ _ _
     (has_records given c.one_target-target.result.table.now c.one_target-target.result.pred.now _ _ (c.one_target-target.ensures.table given s) (c.one_target-target.ensures.pred given s) (c.one_text.ensures given s) c.new-rows.ensures) wrong c.say.ensures

@@ -3,5 +3,17 @@ use Rattle.ln_top.proofs.top.work.Goals as goal
 pub returns-in-Check : goal.returns-in-Check
 returns-in-Check g c = λ given s. rw c.in-Check.is (c.work.ensures given s)
 
+pub returns-in-List : goal.returns-in-List
+returns-in-List g c = λ given s. rw c.in-List.is (c.work-in-List.ensures given s)
+
+pub returns-in-Emit : goal.returns-in-Emit
+returns-in-Emit g c = λ given s. rw c.in-Emit.is (c.work-in-Emit.ensures given s)
+
+pub returns-in-Verify : goal.returns-in-Verify
+returns-in-Verify g c = λ given s. rw c.in-Verify.is (c.work-in-Verify.ensures given s)
+
 pub returns-in-Run : goal.returns-in-Run
 returns-in-Run g c = λ given s. rw c.in-Run.is (c.work-in-Run.ensures given s)
+
+pub returns-in-Gen : goal.returns-in-Gen
+returns-in-Gen g c = λ given s. rw c.in-Gen.is (c.work-in-Gen.ensures given s)

@@ -1,0 +1,5 @@
+use Rattle.ln_top.proofs.MadeLemmas.{Filled}
+use Rattle.ln_top.proofs.gen_row.fill.Given as goal
+
+abbrev pub invariant-vars : goal.invariant-vars
+invariant-vars l = Filled l.n l.vars l.initial.g l.v l.site l.g l.row.index l.row.values

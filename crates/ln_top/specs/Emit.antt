@@ -1,0 +1,44 @@
+-- `emit FILE`: C for the predicates of a source.
+use Rattle.std.specs.Prelude.{◌≡◌, ℕ, List, [], ◌∷◌, Some}
+use Rattle.ln_tree.specs.Row.{InRange, Row}
+use Rattle.ln_tree.specs.Table.{PredOf}
+use Rattle.ln_code.specs.declared.verdict.Verdict.{Verdict}
+use Rattle.ln_code.specs.declared.verdict.By.TheVariants.{Filter}
+use Rattle.ln_due.specs.Due.{sign_number}
+use Rattle.ln_compile.specs.Filtered.{IsDue}
+use Rattle.ln_csyn.specs.Tree.{Fun}
+use Rattle.ln_csyn.specs.Text.{CText}
+use Rattle.ln_csyn.specs.Meaning.{CCall, Counts, Signed}
+use Rattle.ln_cemit.specs.Names.{call_name}
+use Rattle.ln_top.specs.declared.status.End.{End}
+use Rattle.ln_top.specs.declared.status.End.TheVariants.{Done}
+use Rattle.ln_top.specs.Said.{Said, whole}
+use Rattle.ln_top.specs.Steps.{Given}
+
+-- on this row the call of `ln_NAME` gives the sign of the verdict that the row is owed, with its calls, and with no wide operation where the filter decides
+pub record CallIsDue (file : List Fun) (p : PredOf) (row : Row) : Type 0 where
+  pub verdict : Verdict
+  pub due : IsDue p row verdict
+  pub counts : Counts
+  pub called : CCall file (call_name p.shape_name) row.index row.values ≡ Some (Signed (sign_number verdict.sign) counts)
+  pub calls : counts.calls ≡ verdict.calls
+  pub narrow : verdict.by ≡ Filter → counts.wide ≡ 0
+
+-- so for each predicate, on each row in range
+abbrev pub AllAreDue : List Fun → List PredOf → Type 0
+AllAreDue file [] = Unit {0}
+AllAreDue file (p ∷ ps) = ((row : Row) → InRange p.sites p.vars row → CallIsDue file p row) × AllAreDue file ps
+
+-- the bytes are a file of the C subset, whose calls say what rows of these predicates are owed
+pub record IsCOf (preds : List PredOf) (bytes : List ℕ) : Type 0 where
+  pub file : List Fun
+  pub text : CText bytes file
+  pub due : AllAreDue file preds
+
+-- what may be said: C for the predicates of the source
+pub data EmitSaid (g : Given) : Said → Type 0 where
+  emitted : (text : List ℕ) → IsCOf g.table.preds text → EmitSaid g (whole Done text)
+
+-- how it ends, and where
+pub data EmitEnds (g : Given) : End → Type 0 where
+  done : EmitEnds g Done

@@ -1,0 +1,55 @@
+-- `gen FILE NAME SEED COUNT`: rows are made of a generator's words, and the watchers' lines go to Out.
+use Rattle.std.specs.Prelude.{◌≡◌, ℕ, zero, suc, List, [], ◌∷◌, ◌++◌, length}
+use Rattle.rand_pcg.specs.Lcg.{Lcg}
+use Rattle.rand_core.specs.Pcg32Seed.{pcg32_seed}
+use Rattle.rand_pcg.specs.Pcg.{pcg64_of_seed}
+use Rattle.ln_tree.specs.declared.shape.VarInfo.{VarInfo}
+use Rattle.ln_tree.specs.Row.{Row}
+use Rattle.ln_tree.specs.Table.{PredOf}
+use Rattle.ln_code.specs.declared.verdict.Verdict.{Verdict}
+use Rattle.ln_rows.specs.Record.{columns}
+use Rattle.ln_watch.specs.Panel.{State, left_after, lines_at, last_lines}
+use Rattle.ln_compile.specs.Filtered.{IsDue}
+use Rattle.ln_top.specs.declared.status.End.{End}
+use Rattle.ln_top.specs.declared.status.End.TheVariants.{Done}
+use Rattle.ln_top.specs.Said.{Said, whole}
+use Rattle.ln_top.specs.Steps.{Given}
+use Rattle.ln_top.specs.GenRow.{words, past, row_by}
+use Rattle.ln_top.specs.Lines.{Lines}
+
+-- the generator of a seed
+abbrev pub seeded : ℕ → Lcg
+seeded seed = pcg64_of_seed (pcg32_seed 32 seed)
+
+-- a row by its number, and the generator as it stands before its words
+pub record Draw : Type 0 where
+  pub number : ℕ
+  pub from : Lcg
+
+abbrev pub draw : ℕ → Lcg → Draw
+draw number from = record { number = number; from = from }
+
+-- the row: it takes a word for each column
+abbrev pub drawn : List VarInfo → Draw → Row
+drawn vars d = row_by d.number vars (words (length (columns vars)) d.from)
+
+-- so many rows behind row n, each by the words behind those of the one before it
+abbrev pub draws : ℕ → ℕ → List VarInfo → Lcg → List Draw
+draws zero n vars g = []
+draws (suc k) n vars g = draw (suc n) g ∷ draws k (suc n) vars (past (length (columns vars)) g)
+
+-- what a row puts: on Out the lines of the boxes that are done behind the verdict that it is owed, on Err nothing
+pub record GenStep (p : PredOf) (before : List State) (d : Draw) (out err : List ℕ) (after : List State) : Type 0 where
+  pub verdict : Verdict
+  pub due : IsDue p (drawn p.vars d) verdict
+  pub told : out ≡ lines_at d.number verdict before
+  pub silent : err ≡ []
+  pub left : after ≡ left_after d.number verdict before
+
+-- what is owed: the lines of the watchers over the rows from 1 to the count, and at the end those of the boxes that are left
+pub data GenSaid (seed count : ℕ) (boxes : List State) (g : Given) : Said → Type 0 where
+  made : (p : PredOf) (out : List ℕ) (z : List State) → g.preds ≡ p ∷ [] → Lines (GenStep p) boxes (draws count 0 p.vars (seeded seed)) out [] z → GenSaid seed count boxes g (whole Done (out ++ last_lines z))
+
+-- how it ends, and where
+pub data GenEnds (g : Given) : End → Type 0 where
+  done : GenEnds g Done

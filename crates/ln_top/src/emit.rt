@@ -1,0 +1,24 @@
+//! The work of `emit`: C for the predicates of a source.
+ghost use Rattle.ln_top.specs.Carried.{CarriesOut, NoPart};
+ghost use Rattle.ln_top.specs.Emit.{EmitSaid};
+ghost use Rattle.ln_top.specs.Ready.{StandsFor};
+ghost use Rattle.ln_top.specs.Said.{count};
+ghost use Rattle.ln_top.specs.Steps.{Given};
+
+use crate::prepare::{Ready, kept_programs};
+use crate::status::{Early, End};
+use crate::stop::put_text;
+use ln_base::Console;
+use ln_cemit::emit;
+use std::alloc::Global;
+
+/// Puts C for the predicates, all of it made before the first byte is put.
+pub(crate) fn work<C: Console>(alloc: Global, con: &mut C, ready: &Ready) -> Result<End, Early>
+    ensures { (g : Given) → StandsFor ready.now g → CarriesOut (EmitSaid g) NoPart ⊥ ⊥ (count (C.faults con.old) (C.faults con.new)) result (C.shown con.old) (C.shown con.new) }
+{
+    let programs = kept_programs(&ready.compiled);
+    let Ok(text) = emit(alloc, programs) else {
+        return Err(Early::Memory);
+    };
+    put_text(con, &text, End::Done)
+}

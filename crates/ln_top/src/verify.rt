@@ -1,0 +1,61 @@
+//! The work of `verify`: a listing is judged against its source.
+ghost use Rattle.std.specs.Prelude.{◌≡◌, ◌++◌, IfOk, MatchOption, codes, decimal};
+ghost use Rattle.ln_top.specs.Carried.{CarriesOut, NoPart};
+ghost use Rattle.ln_top.specs.Ready.{IsReadyFor, StandsFor};
+ghost use Rattle.ln_top.specs.Said.{count, line};
+ghost use Rattle.ln_top.specs.Steps.{Given};
+ghost use Rattle.ln_top.specs.Verify.{HasFault, HasValid, VerifySaid};
+
+use crate::prepare::{Ready, short_text, sound_table};
+use crate::status::{Early, End};
+use crate::stop::{number, put_text};
+use crate::words::Command;
+use ln_base::{Console, NoMemory};
+use ln_cert::{ListStop, read_listing};
+use ln_verify::{Judged, verify};
+use std::alloc::Global;
+
+// The first fault of the listing, of its form or of its rules; none where it is valid.
+fn first_fault(alloc: Global, ready: &Ready) -> Result<Option<u32>, NoMemory>
+    requires { IsReadyFor Command.Verify ready.now }
+    ensures { IfOk result (λ o. (g : Given) → StandsFor ready.now g → MatchOption o (HasValid g) (λ at. HasFault g at)) }
+{
+    let listing = match read_listing(alloc, short_text(ready)) {
+        Ok(listing) => listing,
+        Err(ListStop::Form(at)) => return Ok(Some(at)),
+        Err(ListStop::NoMemory) => return Err(NoMemory),
+    };
+    match verify(alloc, sound_table(ready), &listing)? {
+        Judged::Valid => Ok(None),
+        Judged::Invalid(at) => Ok(Some(at)),
+    }
+}
+
+// `invalid LINE`.
+fn fault_text(alloc: Global, at: u32) -> Result<Vec<u8>, NoMemory>
+    ensures { IfOk result (λ v. v.items ≡ line (codes "invalid " ++ decimal at)) }
+{
+    let at = number(alloc, at)?;
+    let mut text = Vec::new(alloc);
+    text.extend_from_slice(b"invalid ")?;
+    text.extend_from_slice(at.as_bytes())?;
+    text.push(b'\n')?;
+    Ok(text)
+}
+
+/// Puts `valid`, or `invalid LINE`.
+pub(crate) fn work<C: Console>(alloc: Global, con: &mut C, ready: &Ready) -> Result<End, Early>
+    requires { IsReadyFor Command.Verify ready.now }
+    ensures { (g : Given) → StandsFor ready.now g → CarriesOut (VerifySaid g) NoPart ⊥ ⊥ (count (C.faults con.old) (C.faults con.new)) result (C.shown con.old) (C.shown con.new) }
+{
+    let Ok(fault) = first_fault(alloc, ready) else {
+        return Err(Early::Memory);
+    };
+    let Some(at) = fault else {
+        return put_text(con, b"valid\n", End::Done);
+    };
+    let Ok(text) = fault_text(alloc, at) else {
+        return Err(Early::Memory);
+    };
+    put_text(con, &text, End::Invalid)
+}

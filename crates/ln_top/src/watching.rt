@@ -1,0 +1,62 @@
+//! Watchers that see the records.
+ghost use Rattle.std.specs.Prelude.{◌≡◌, [], true};
+ghost use Rattle.ln_top.specs.Lines.{Wrote, WroteOn};
+ghost use Rattle.ln_top.specs.Said.{count};
+ghost use Rattle.ln_top.specs.Watching.{next, next_lines, watching};
+ghost use Rattle.ln_watch.specs.Panel.{last_lines, left_after, lines_at, states_of};
+
+use crate::panel::Panel;
+use ln_base::{Console, Port};
+use ln_code::Verdict;
+use ln_rows::RowStop;
+use ln_watch::Watch;
+
+/// A panel, and how many records have come.
+#[derive(Drop)]
+pub(crate) struct Viewers {
+    pub seen: u64,
+    pub panel: Panel,
+}
+
+/// Shows a verdict to the boxes, and says whether all that was to be put was put.
+pub(crate) fn show<C: Console>(
+    con: &mut C,
+    port: Port,
+    panel: &mut Panel,
+    row: u64,
+    v: &Verdict,
+) -> bool
+    ensures wrote { WroteOn port (lines_at row v.now (states_of kind_of tally_of panel.old.watchers.items)) (count (C.faults con.old) (C.faults con.new)) result (C.shown con.old) (C.shown con.new) }
+    ensures left { result ≡ true → states_of kind_of tally_of panel.new.watchers.items ≡ left_after row v.now (states_of kind_of tally_of panel.old.watchers.items) }
+{
+    match panel.show(row, v, con, port) {
+        Ok(()) => true,
+        Err(_) => false,
+    }
+}
+
+/// Shows what is said of the next record to the watchers, and says whether all that was to be put on Err was put.
+pub(crate) fn view<C: Console>(
+    con: &mut C,
+    viewers: &mut Viewers,
+    said: &Result<Verdict, RowStop>,
+) -> bool
+    ensures wrote { Wrote [] (next_lines said.now (watching viewers.old.seen (states_of kind_of tally_of viewers.old.panel.watchers.items))) (count (C.faults con.old) (C.faults con.new)) result (C.shown con.old) (C.shown con.new) }
+    ensures left { result ≡ true → watching viewers.new.seen (states_of kind_of tally_of viewers.new.panel.watchers.items) ≡ next said.now (watching viewers.old.seen (states_of kind_of tally_of viewers.old.panel.watchers.items)) }
+{
+    viewers.seen = viewers.seen.saturating_add(1);
+    match said {
+        Ok(v) => show(con, Port::Err, &mut viewers.panel, viewers.seen, v),
+        Err(_) => true,
+    }
+}
+
+/// Puts the lines of the boxes that are left, and says whether all of it was put.
+pub(crate) fn close<C: Console>(con: &mut C, port: Port, panel: Panel) -> bool
+    ensures { WroteOn port (last_lines (states_of kind_of tally_of panel.watchers.items)) (count (C.faults con.old) (C.faults con.new)) result (C.shown con.old) (C.shown con.new) }
+{
+    match panel.close(con, port) {
+        Ok(()) => true,
+        Err(_) => false,
+    }
+}

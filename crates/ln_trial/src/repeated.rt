@@ -1,0 +1,165 @@
+//! Equal parts of a predicate are computed once, while there are locals.
+use crate::support::{said, said_within, shelf, tells};
+use ln_base::{NoMemory, Port};
+use ln_cert::{Entry, Part, read_listing};
+use ln_code::Op;
+use ln_top::Status;
+use std::alloc::Global;
+use std::process::Abort;
+use std::test::Fail;
+
+const CHECK: &[&str] = &["check", "s.ln"];
+
+const RUN: &[&str] = &["run", "s.ln", "rep", "r.csv"];
+
+const LIST: &[&str] = &["list", "s.ln"];
+
+const ROOM: usize = 1 << 20;
+
+/// How many operations a block has, how many of them are products, and how many put a value into a local.
+#[derive(Drop)]
+struct Counts {
+    all: u32,
+    products: u32,
+    stores: u32,
+}
+
+impl Counts {
+    fn add(&mut self, op: Op) {
+        self.all = self.all.saturating_add(1);
+        match op {
+            Op::Mul(_) => self.products = self.products.saturating_add(1),
+            Op::Set(_) => self.stores = self.stores.saturating_add(1),
+            _ => {}
+        }
+    }
+
+    // Those of block 0.
+    fn of_first(entries: &[Entry]) -> Counts {
+        let mut counts = Counts {
+            all: 0,
+            products: 0,
+            stores: 0,
+        };
+        let mut is_first = false;
+        for entry in entries {
+            match &entry.part {
+                Part::Block(number, _) => is_first = *number == 0,
+                Part::RangeOp(op, _, _) if is_first => counts.add(*op),
+                _ => {}
+            }
+        }
+        counts
+    }
+}
+
+/// How many operations block 0 of a source's one program has.
+fn count(rt: &impl Abort, alloc: Global, source: &str) -> Result<Counts, Fail> {
+    let mut files = shelf(alloc, source, "", &[])?;
+    let (status, con) = said_within(alloc, LIST, &mut files, ROOM, &[])?;
+    let text = con.bytes(Port::Out);
+    assert!(rt; status == Status::Done && text.len() <= 67_108_864);
+    match read_listing(alloc, text) {
+        Ok(listing) => Ok(Counts::of_first(listing.entries())),
+        Err(_) => {
+            assert!(rt; false);
+            Ok(Counts::of_first(&[]))
+        }
+    }
+}
+
+/// What `check` and `run` say of a source.
+fn compare(
+    rt: &impl Abort,
+    alloc: Global,
+    source: &str,
+    checked: &str,
+    records: &str,
+    lines: &str,
+) -> Result<(), Fail> {
+    let mut files = shelf(alloc, source, records, &[])?;
+    let (status, con) = said(alloc, CHECK, &mut files, &[])?;
+    assert!(rt; status == Status::Done && tells(&con, checked, ""));
+    let mut files = shelf(alloc, source, records, &[])?;
+    let (status, con) = said(alloc, RUN, &mut files, &[])?;
+    assert!(rt; status == Status::Done && tells(&con, lines, ""));
+    Ok(())
+}
+
+// A predicate whose sign is so many copies of a square, one added to the other.
+fn copies(alloc: Global, count: u32) -> Result<String, NoMemory> {
+    let mut source = String::from_str(
+        alloc,
+        "site num { t: -10 .. 10; }\npredicate rep(a: num, b: num) { sign ",
+    )?;
+    let mut plus = "";
+    for _ in 0..count {
+        source.push_str(plus)?;
+        source.push_str("(a.t + b.t)*(a.t + b.t)")?;
+        plus = " + ";
+    }
+    source.push_str("; }\n")?;
+    Ok(source)
+}
+
+#[test]
+fn a_hundred_copies_of_a_square_take_207_operations(rt: HostRuntime) -> Result<(), Fail> {
+    let alloc = rt.alloc();
+    let source = copies(alloc, 100)?;
+    let records = "a,a.t,b,b.t\n1,3,2,-3\n";
+    compare(
+        &rt,
+        alloc,
+        &source,
+        "rep sites 2 stages 6\n",
+        records,
+        "+ 2\n",
+    )?;
+    let counts = count(&rt, alloc, &source)?;
+    assert!(rt; counts.all == 207 && counts.products == 1 && counts.stores == 2);
+    Ok(())
+}
+
+// A predicate whose sign is the sum of so many different products, and of the same once more.
+fn products(alloc: Global, count: u32) -> Result<String, NoMemory> {
+    let mut source = String::from_str(
+        alloc,
+        "site num { t: -1000000000000 .. 1000000000000; }\npredicate rep(a: num, b: num) { sign ",
+    )?;
+    let mut plus = "";
+    for _ in 0..2 {
+        for factor in 1..=count {
+            let name = if factor % 2 == 0 { "b" } else { "a" };
+            write!(source, "{plus}{name}.t*{factor}")?;
+            plus = " + ";
+        }
+    }
+    source.push_str("; }\n")?;
+    Ok(source)
+}
+
+// 250 of them are 1,999 nodes; the locals from 65 to 255 hold 191. The sign is that of 31250 a.t + 31500 b.t, which the filter
+// leaves open where it is small.
+#[test]
+fn past_local_255_products_are_computed_anew(rt: HostRuntime) -> Result<(), Fail> {
+    let alloc = rt.alloc();
+    let source = products(alloc, 250)?;
+    let records = "a,a.t,b,b.t
+1,1,2,-1
+1,3,2,5
+1,126,2,-125
+2,126,1,-125
+1,1000000000000,2,1000000000000
+";
+    compare(
+        &rt,
+        alloc,
+        &source,
+        "rep sites 2 stages 4\n",
+        records,
+        "- 0\n+ 0\n+ 1\n+ 1\n+ F\n",
+    )?;
+    let counts = count(&rt, alloc, &source)?;
+    assert!(rt; counts.all == 1999 && counts.products == 309 && counts.stores == 191);
+    Ok(())
+}
