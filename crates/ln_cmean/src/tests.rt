@@ -111,7 +111,7 @@ fn a_file_of_two_functions_is_called(rt: HostRuntime) -> Result<(), Fail> {
 }
 
 #[test]
-fn bodies_have_a_sign_or_fail_at_a_line(rt: HostRuntime) -> Result<(), Fail> {
+fn numbers_stay_within_their_type(rt: HostRuntime) -> Result<(), Fail> {
     let rows = [
         // An `int` at both ends, and past them.
         ("return ((int)32767);", Ok(32767)),
@@ -138,7 +138,14 @@ fn bodies_have_a_sign_or_fail_at_a_line(rt: HostRuntime) -> Result<(), Fail> {
             Err(9),
         ),
         ("return ((-((int64_t)v[0])) > ((int64_t)0));", Err(9)),
-        // An `__int128`: p is 2^126.
+    ];
+    all_give(&rt, rt.alloc(), &rows)
+}
+
+#[test]
+fn wide_numbers_stay_within_their_type(rt: HostRuntime) -> Result<(), Fail> {
+    let rows = [
+        // p is 2^126.
         (
             "__int128 p = (((__int128)v[0]) * ((__int128)v[0]));
 return (((((__int128)p) - ((__int128)1)) + ((__int128)p)) > ((__int128)0));",
@@ -170,6 +177,13 @@ __int128 q = (((__int128)p) * ((__int128)2));",
             "__int128 p = ((__int128)v[1]);\nreturn ((((int64_t)p) + ((int64_t)0)) == ((int64_t)v[1]));",
             Ok(1),
         ),
+    ];
+    all_give(&rt, rt.alloc(), &rows)
+}
+
+#[test]
+fn operands_have_one_type(rt: HostRuntime) -> Result<(), Fail> {
+    let rows = [
         // `/` truncates towards zero; its divisor has to be one of its type.
         (
             "return ((((int64_t)v[2]) / ((int64_t)2)) == (-((int64_t)3)));",

@@ -380,7 +380,8 @@ predicate s(a: num, b: num) { sign a.t^2 - b.t^2; }
 site other { t: -9 .. -1; }
 param c: 0 .. 5;
 param d: 1 .. 2;
-predicate f(p: point, c: param, q: other) { let k = -p.x + 7; let m = k*(c - 3); sign k - m - (p.y - (q.t + c))*-k^2 - (-(2*m*(k*k)))^3*(2^4)^5; }
+predicate f(p: point, c: param, q: other) { let k = -p.x + 7; let m = k*(c - 3); \
+        sign k - m - (p.y - (q.t + c))*-k^2 - (-(2*m*(k*k)))^3*(2^4)^5; }
 predicate g(p: other) { sign -(p.t - 1) + --p.t; }
 ";
 

@@ -194,8 +194,8 @@ mod tests {
             coord(2, 1),
         ];
         assert!(rt; is_shape(3, &vars));
-        let text =
-            b"1,0,0,1,1,0,3,0,1\n1,1001,0,2,1,0,3,0,1\n1,1e3,0,2,1,0,3,0,1\n1,0,0,2,1,0,3,0\n-1,0,0,2,1,0,3,0,x\n\"1\",-0,007,2,1,0,3,0,1\n";
+        let text = b"1,0,0,1,1,0,3,0,1\n1,1001,0,2,1,0,3,0,1\n1,1e3,0,2,1,0,3,0,1\n\
+              1,0,0,2,1,0,3,0\n-1,0,0,2,1,0,3,0,x\n\"1\",-0,007,2,1,0,3,0,1\n";
         let mut rows = Rows::new(alloc, text);
         let mut record = ByteRecord::new(alloc);
         let mut row = Row {
