@@ -9,8 +9,8 @@ use Rattle.ln_algebra.specs.Tree.{InputsBelow, Tree, degree_of, multiplied}
 pub use Rattle.ln_algebra.specs.Vector.{Within}
 pub use Rattle.ln_algebra.specs.Terms.{IsNormalOf}
 
--- The coefficient of a product of any number of factors is the sum, over all ways to write the vector as a sum of one vector for each factor,
--- of the product of the factors' coefficients at these vectors.
+-- The coefficient of a product of any number of factors is the sum, over all ways to write the vector as a sum of one vector for
+-- each factor, of the product of the factors' coefficients at these vectors.
 abbrev pub ProductsAreSumsOverWays : Type 0
 ProductsAreSumsOverWays =
     (p : ℕ → Bool) (x : ℕ → ℤ) (e : Tree) (es : List Tree) (a : List ℕ) →
@@ -29,7 +29,8 @@ DerivedCoefficients =
     (a : List ℕ) (f : List Term) (m : List ℕ) → Over (length a) f → length m ≡ length a →
     factor_at (derived a f) m ≡ factor_at f (plus m a) *ℤ pos (binomials (plus m a) a)
 
--- The product rule: the scaled derivative of a product by a is the sum, over all a = b + c, of the derivative of one factor by b times that of the other by c; here at each coefficient.
+-- The product rule: the scaled derivative of a product by a is the sum, over all a = b + c, of the derivative of one factor by b
+-- times that of the other by c; here at each coefficient.
 abbrev pub ProductRule : Type 0
 ProductRule =
     (n : ℕ) (f g h : List Term) (a m : List ℕ) → IsProductOf n f g h → length a ≡ n → length m ≡ n →
@@ -43,7 +44,8 @@ ProductRuleOfValues =
     IsProductOf n f g h → length a ≡ n →
     value x (derived a h) ≡ sum_over (λ s. value x (derived s.0 f) *ℤ value x (derived s.1 g)) (splits a)
 
--- Where f is the normal polynomial of e, the value on a row of its scaled derivative by a is the perturbed coefficient of e at a, for every a over the perturbed variables.
+-- Where f is the normal polynomial of e, the value on a row of its scaled derivative by a is the perturbed coefficient of e at a,
+-- for every a over the perturbed variables.
 abbrev pub DerivativesAreCoefficients : Type 0
 DerivativesAreCoefficients =
     (n : ℕ) (e : Tree) (f : List Term) (p : ℕ → Bool) (x : ℕ → ℤ) (a : List ℕ) →

@@ -4,7 +4,8 @@ use Rattle.std.specs.Prelude.{◌≡◌, ℕ, ◌<◌, ◌⊎◌, List, length}
 use Rattle.ln_algebra.specs.Vector.{plus, total_degree, zeros}
 use Rattle.ln_algebra.specs.Earlier.{Earlier, IsOver, Sites}
 
--- A relation on exponent vectors is an order of infinitesimals: on vectors over the variables of sites it is a total order with the vector of zeros first, and it is kept where one vector is added to both sides.
+-- A relation on exponent vectors is an order of infinitesimals: on vectors over the variables of sites it is a total order with
+-- the vector of zeros first, and it is kept where one vector is added to both sides.
 pub record IsAdmissible (n : ℕ) (sites : Sites) (before : List ℕ → List ℕ → Type 0) : Type 0 where
   pub irreflexive : (a : List ℕ) → before a a → ⊥
   pub transitive : (a b c : List ℕ) → before a b → before b c → before a c

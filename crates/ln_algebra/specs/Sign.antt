@@ -11,7 +11,8 @@ use Rattle.ln_algebra.specs.Tree.{Tree, degree_of}
 abbrev pub perturbed : Sites → (ℕ → ℤ) → Tree → List ℕ → ℤ
 perturbed sites x e a = coefficient (λ v. is_some (sites.site v)) x e a
 
--- a is the first vector whose coefficient isn't 0, of those over the variables of sites and not above the syntactic degree, in this order of vectors.
+-- a is the first vector whose coefficient isn't 0, of those over the variables of sites and not above the syntactic degree, in
+-- this order of vectors.
 pub record IsFirstIn (before : List ℕ → List ℕ → Type 0) (n : ℕ) (sites : Sites) (x : ℕ → ℤ) (e : Tree) (a : List ℕ) : Type 0 where
   pub over : IsOver n sites a
   pub small : total_degree a ≤ degree_of e

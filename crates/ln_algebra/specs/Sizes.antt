@@ -12,7 +12,8 @@ one v = 1
 abbrev pub two : ℕ → ℕ
 two v = 2
 
--- The running size of a closed tree: the absolute value of a number, 1 for a variable, the sum for a sum or difference, the product for a product, the power for a power.
+-- The running size of a closed tree: the absolute value of a number, 1 for a variable, the sum for a sum or difference, the
+-- product for a product, the power for a power.
 abbrev pub running_size : Tree → ℕ
 running_size e = weight one e
 

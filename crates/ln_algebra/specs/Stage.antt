@@ -1,5 +1,6 @@
 -- Stages: the vectors at which a coefficient has to be looked at, one after the other, and where that may end.
--- Source: the staged evaluation of Simulation of Simplicity (Edelsbrunner and Mücke 1990), which ends at the first coefficient that is a constant.
+-- Source: the staged evaluation of Simulation of Simplicity (Edelsbrunner and Mücke 1990), which ends at the first coefficient
+-- that is a constant.
 use Rattle.std.specs.Prelude.{◌≡◌, ◌≢◌, ℕ, true, pos, List, length}
 use Rattle.ln_algebra.specs.Vector.{In, covers}
 use Rattle.ln_algebra.specs.Coefficient.{normal_coefficient}
@@ -23,7 +24,8 @@ pub record IsStageBy (before : List ℕ → List ℕ → Type 0) (n : ℕ) (site
   pub before_cut : (b : List ℕ) → IsOver n sites b → IsCutOf monomial b → before b a → ⊥
 
 -- The stage list: all stages, each before the ones behind it in this order, and so each once.
-pub record IsStageListBy (before : List ℕ → List ℕ → Type 0) (n : ℕ) (sites : Sites) (monomial : List ℕ → Type 0) (list : List (List ℕ)) : Type 0 where
+pub record IsStageListBy (before : List ℕ → List ℕ → Type 0) (n : ℕ) (sites : Sites) (monomial : List ℕ → Type 0)
+    (list : List (List ℕ)) : Type 0 where
   pub stages : (a : List ℕ) → In list a → IsStageBy before n sites monomial a
   pub all : (a : List ℕ) → IsStageBy before n sites monomial a → In list a
   pub in_order : IsSortedIn before list

@@ -70,7 +70,10 @@ binomials [] a = 1
 binomials (n ∷ m) [] = 1
 binomials (n ∷ m) (k ∷ a) = binomial n k * binomials m a
 
--- The scaled (Hasse) derivative by a: x^m becomes C(m, a) times x^(m - a) where m covers a, and vanishes where not. It is the partial derivative divided by the factorials of a.
+-- The scaled (Hasse) derivative by a: x^m becomes C(m, a) times x^(m - a) where m covers a, and vanishes where not. It is the
+-- partial derivative divided by the factorials of a.
 abbrev pub derived : List ℕ → List Term → List Term
 derived a [] = []
-derived a (t ∷ f) = if covers t.exponents a then (record { exponents = minus t.exponents a; factor = t.factor *ℤ pos (binomials t.exponents a) } ∷ derived a f) else derived a f
+derived a (t ∷ f) = if covers t.exponents a
+    then (record { exponents = minus t.exponents a; factor = t.factor *ℤ pos (binomials t.exponents a) } ∷ derived a f)
+    else derived a f

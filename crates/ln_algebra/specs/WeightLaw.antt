@@ -10,8 +10,8 @@ abbrev pub CoversEach : List ℕ → List Term → Type 0
 CoversEach bound [] = Unit {0}
 CoversEach bound (t ∷ f) = (covers bound t.exponents ≡ true) × CoversEach bound f
 
--- With w above M by 1 at each variable, the w-weighted sum of a list of terms is the sum, over all a, of the M-weighted sums of its scaled derivatives by a.
--- A bound that covers the exponents of each term covers every a whose derivative isn't empty.
+-- With w above M by 1 at each variable, the w-weighted sum of a list of terms is the sum, over all a, of the M-weighted sums of
+-- its scaled derivatives by a. A bound that covers the exponents of each term covers every a whose derivative isn't empty.
 abbrev pub DerivativesWeighTheWhole : Type 0
 DerivativesWeighTheWhole =
     (m : ℕ → ℕ) (bound : List ℕ) (f : List Term) → Over (length bound) f → CoversEach bound f →

@@ -4,7 +4,8 @@ use Rattle.std.proofs.Common.{suc}
 use Rattle.ln_algebra.specs.Terms.{Term}
 use Rattle.ln_algebra.specs.Tree.{Tree, Num, Input, Name, Neg, Add, Sub, Mul, Pow}
 
--- The weight of a closed tree: the absolute value of a number, w v of variable v, the sum for a sum or difference, the product for a product, the power for a power.
+-- The weight of a closed tree: the absolute value of a number, w v of variable v, the sum for a sum or difference, the product
+-- for a product, the power for a power.
 abbrev pub weight : (ℕ → ℕ) → Tree → ℕ
 weight w (Num c) = unsigned_abs c
 weight w (Input v) = w v

@@ -72,7 +72,8 @@ WeightOfOrientation = weight (λ v. 1001) orientation ≡ 8016008
 -- ---- scaled derivatives
 -- The scaled derivative of x^3 by 2 is 3x, where the plain second derivative is 6x.
 abbrev pub DerivativeOfCube : Type 0
-DerivativeOfCube = derived (2 ∷ []) (record { exponents = 3 ∷ []; factor = pos 1 } ∷ []) ≡ record { exponents = 1 ∷ []; factor = pos 3 } ∷ []
+DerivativeOfCube = derived (2 ∷ []) (record { exponents = 3 ∷ []; factor = pos 1 } ∷ [])
+    ≡ record { exponents = 1 ∷ []; factor = pos 3 } ∷ []
 
 -- The derivative of the orientation's normal polynomial by p.y is r.x - q.x.
 abbrev pub DerivativeOfOrientation : Type 0
@@ -161,10 +162,13 @@ SignsWithAParam =
 -- With p first, then q, then r: 1, p.y, p.x, q.y, p.x*q.y. With q first, then p: 1, q.y, q.x, p.y, q.x*p.y.
 abbrev pub StagesOfOrientation : Type 0
 StagesOfOrientation =
-    IsStageList 6 (three_points 1 2 3) orientation (of_points 0 0 0 0 ∷ of_points 0 1 0 0 ∷ of_points 1 0 0 0 ∷ of_points 0 0 0 1 ∷ of_points 1 0 0 1 ∷ [])
-    × IsStageList 6 (three_points 2 1 3) orientation (of_points 0 0 0 0 ∷ of_points 0 0 0 1 ∷ of_points 0 0 1 0 ∷ of_points 0 1 0 0 ∷ of_points 0 1 1 0 ∷ [])
+    IsStageList 6 (three_points 1 2 3) orientation (of_points 0 0 0 0 ∷ of_points 0 1 0 0 ∷ of_points 1 0 0 0 ∷ of_points 0 0 0 1
+    ∷ of_points 1 0 0 1 ∷ [])
+    × IsStageList 6 (three_points 2 1 3) orientation (of_points 0 0 0 0 ∷ of_points 0 0 0 1 ∷ of_points 0 0 1 0
+    ∷ of_points 0 1 0 0 ∷ of_points 0 1 1 0 ∷ [])
 
--- The signs of points on a line: (0, 0), (1, 1), (2, 2); (0, 0), (0, 1), (0, 2); (1, 0), (0, 0), (0, 0); and three times (5, 5), with p first and with q first.
+-- The signs of points on a line: (0, 0), (1, 1), (2, 2); (0, 0), (0, 1), (0, 2); (1, 0), (0, 0), (0, 0); and three times (5, 5),
+-- with p first and with q first.
 abbrev pub SignsOfOrientation : Type 0
 SignsOfOrientation =
     IsPerturbedSign 6 (three_points 1 2 3) collinear orientation (pos 1)

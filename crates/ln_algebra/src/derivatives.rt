@@ -1,6 +1,7 @@
 //! Laws of scaled derivatives.
 
-ghost use Rattle.ln_algebra.specs.Law.{DerivativesAreCoefficients, DerivativesOnRows, DerivedCoefficients, ProductRule, ProductRuleOfValues};
+ghost use Rattle.ln_algebra.specs.Law.{DerivativesAreCoefficients, DerivativesOnRows};
+ghost use Rattle.ln_algebra.specs.Law.{DerivedCoefficients, ProductRule, ProductRuleOfValues};
 
 /// The coefficients of a scaled derivative.
 ///

@@ -1,6 +1,8 @@
 //! Laws of the order of infinitesimals.
 
-ghost use Rattle.ln_algebra.specs.OrderLaw.{EarlierIsIrreflexive, EarlierIsKeptBySums, EarlierIsTotal, EarlierIsTransitive, FirstIsUnique, InOrderIsOnce, PerturbedSignIsUnique, StageListIsUnique, ZeroIsEarliest};
+ghost use Rattle.ln_algebra.specs.OrderLaw.{EarlierIsIrreflexive, EarlierIsKeptBySums, EarlierIsTotal, EarlierIsTransitive};
+ghost use Rattle.ln_algebra.specs.OrderLaw.{FirstIsUnique, InOrderIsOnce, PerturbedSignIsUnique, StageListIsUnique};
+ghost use Rattle.ln_algebra.specs.OrderLaw.{ZeroIsEarliest};
 
 /// `Earlier` is a total order on the vectors over the variables of sites, has
 /// the vector of zeros first, and is kept where one vector is added to both

@@ -4,7 +4,10 @@
 //! A clause can't range over a relation, so the laws range over the two orders
 //! by name; the lemmas behind them hold for any relation that is admissible.
 
-ghost use Rattle.ln_algebra.specs.RankLaw.{BothAreAdmissible, FirstIsStageIn, FirstIsUniqueIn, FirstNonzeroStageIsFirstIn, FirstOfProduct, FirstOfProductIsSum, NoFirstOfProduct, NonzeroHasFirstIn, SignAlongTheStagesIn, SignIsUniqueIn, SignOfProduct, StageListIsUniqueIn, SumsCancel, WithoutParamsThereIsFirstIn, ZeroProducts, ZeroStagesHaveNoFirstIn};
+ghost use Rattle.ln_algebra.specs.RankLaw.{BothAreAdmissible, FirstIsStageIn, FirstIsUniqueIn, FirstNonzeroStageIsFirstIn};
+ghost use Rattle.ln_algebra.specs.RankLaw.{FirstOfProduct, FirstOfProductIsSum, NoFirstOfProduct, NonzeroHasFirstIn};
+ghost use Rattle.ln_algebra.specs.RankLaw.{SignAlongTheStagesIn, SignIsUniqueIn, SignOfProduct, StageListIsUniqueIn};
+ghost use Rattle.ln_algebra.specs.RankLaw.{SumsCancel, WithoutParamsThereIsFirstIn, ZeroProducts, ZeroStagesHaveNoFirstIn};
 
 /// Both orders are total, have the vector of zeros first, and are kept by sums
 /// and by differences: they are admissible (Yap 1990).

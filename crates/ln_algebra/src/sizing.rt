@@ -1,6 +1,7 @@
 //! Laws of sizes.
 
-ghost use Rattle.ln_algebra.specs.Sizes.{CoefficientsAreWithinTheRunningSize, CoefficientsAreWithinTheSize, RunningSizesAreWithinSizes, SizesAreWithinWeights};
+ghost use Rattle.ln_algebra.specs.Sizes.{CoefficientsAreWithinTheRunningSize, CoefficientsAreWithinTheSize};
+ghost use Rattle.ln_algebra.specs.Sizes.{RunningSizesAreWithinSizes, SizesAreWithinWeights};
 
 /// The absolute coefficients of the normal polynomial are together at most
 /// the expression's running size, and so at most its size.

@@ -1,6 +1,8 @@
 //! Laws of stages and of the cut.
 
-ghost use Rattle.ln_algebra.specs.StageLaw.{FirstIsStage, FirstNonzeroStageIsFirst, LastIsConstant, NonzeroHasFirst, SignAlongTheStages, UncoveredIsZero, WalkListsTheStages, WithoutParamsThereIsFirst, ZeroStagesHaveNoFirst};
+ghost use Rattle.ln_algebra.specs.StageLaw.{FirstIsStage, FirstNonzeroStageIsFirst, LastIsConstant};
+ghost use Rattle.ln_algebra.specs.StageLaw.{NonzeroHasFirst, SignAlongTheStages, UncoveredIsZero};
+ghost use Rattle.ln_algebra.specs.StageLaw.{WalkListsTheStages, WithoutParamsThereIsFirst, ZeroStagesHaveNoFirst};
 
 /// The stages of an order are all that has to be looked at, on every row.
 ///

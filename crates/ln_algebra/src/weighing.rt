@@ -1,6 +1,7 @@
 //! Laws of weights.
 
-ghost use Rattle.ln_algebra.specs.WeightLaw.{DerivativesWeighTheWhole, EachDerivativeWeighsLess, NormalWeighsAtMostTheTree, ValuesAreWithinWeights};
+ghost use Rattle.ln_algebra.specs.WeightLaw.{DerivativesWeighTheWhole, EachDerivativeWeighsLess};
+ghost use Rattle.ln_algebra.specs.WeightLaw.{NormalWeighsAtMostTheTree, ValuesAreWithinWeights};
 
 /// Weighted sums bound values.
 ///

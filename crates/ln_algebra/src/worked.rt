@@ -1,6 +1,9 @@
 //! Worked values of the definitions.
 
-ghost use Rattle.ln_algebra.specs.Worked.{CoefficientOfPy, CollinearCoefficients, DerivativeOfCube, DerivativeOfOrientation, IndicesDecide, LastCoordinateIsLargest, SignPastAParam, SignsOfOrientation, SignsOfSquares, SignsWithAParam, SixTermsAreNormal, SmallestInfinitesimalDecides, StagesOfOrientation, StagesOfSquares, StagesPastAParam, WeightOfOrientation};
+ghost use Rattle.ln_algebra.specs.Worked.{CoefficientOfPy, CollinearCoefficients, DerivativeOfCube, DerivativeOfOrientation};
+ghost use Rattle.ln_algebra.specs.Worked.{IndicesDecide, LastCoordinateIsLargest, SignPastAParam, SignsOfOrientation};
+ghost use Rattle.ln_algebra.specs.Worked.{SignsOfSquares, SignsWithAParam, SixTermsAreNormal, SmallestInfinitesimalDecides};
+ghost use Rattle.ln_algebra.specs.Worked.{StagesOfOrientation, StagesOfSquares, StagesPastAParam, WeightOfOrientation};
 
 /// Coefficients and normal polynomial of the orientation of three points.
 pub fn worked_coefficients()

@@ -10,7 +10,8 @@ pub record FilesHeld : Type 0 where
   pub calls : ℕ
   pub faults : ℕ
 
--- two ports in memory: their bytes, the room of each, the most that one put takes, the numbers of the calls that fail, and how many calls and faults there were
+-- two ports in memory: their bytes, the room of each, the most that one put takes, the numbers of the calls that fail, and how
+-- many calls and faults there were
 pub record PortsHeld : Type 0 where
   pub out : List ℕ
   pub err : List ℕ

@@ -20,7 +20,8 @@ every p (b ∷ bs) = p b && every p bs
 
 -- one of the five words that are no names
 abbrev pub is_keyword : List ℕ → Bool
-is_keyword text = bytes_eq text (codes "site") || bytes_eq text (codes "param") || bytes_eq text (codes "predicate") || bytes_eq text (codes "let") || bytes_eq text (codes "sign")
+is_keyword text = bytes_eq text (codes "site") || bytes_eq text (codes "param") || bytes_eq text (codes "predicate")
+    || bytes_eq text (codes "let") || bytes_eq text (codes "sign")
 
 -- a letter, then letters and digits
 abbrev pub is_word : List ℕ → Bool

@@ -12,13 +12,15 @@ abbrev pub IsOfLet : Option Typed → Range → Width → Type 0
 IsOfLet None p w = ⊥
 IsOfLet (Some u) p w = (p ≡ pair u) × (w ≡ wider (width u) (least (magnitude p)))
 
--- the range of each node is its operation over the operands' ranges, of a variable the declared one, and its width is the least that fits the range and is no narrower than an operand
+-- the range of each node is its operation over the operands' ranges, of a variable the declared one, and its width is the least
+-- that fits the range and is no narrower than an operand
 abbrev pub IsExact : List VarInfo → List Typed → Typed → Type 0
 IsExact vars lets (TNum c p w) = (p ≡ point c) × (w ≡ least (magnitude p))
 IsExact vars lets (TInput v p w) = (p ≡ ranges vars v) × (w ≡ least (magnitude p))
 IsExact vars lets (TLet j p w) = IsOfLet (slice_get lets j) p w
 IsExact vars lets (TNeg t p w) = IsExact vars lets t × (p ≡ opposite (pair t)) × (w ≡ wider (width t) (least (magnitude p)))
-IsExact vars lets (TTwo k s t p w) = IsExact vars lets s × IsExact vars lets t × (p ≡ range_of k (pair s) (pair t)) × (w ≡ wider (wider (width s) (width t)) (least (magnitude p)))
+IsExact vars lets (TTwo k s t p w) = IsExact vars lets s × IsExact vars lets t × (p ≡ range_of k (pair s) (pair t))
+    × (w ≡ wider (wider (width s) (width t)) (least (magnitude p)))
 IsExact vars lets (TPow t n p w) = IsExact vars lets t × (p ≡ power (pair t) n) × (w ≡ wider (width t) (least (magnitude p)))
 
 -- so in each let, over the lets before it, behind these

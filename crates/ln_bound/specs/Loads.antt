@@ -33,7 +33,8 @@ loaded vars ps ss f = nodes_by (load_of vars ps ss) f
 -- the nodes of lets with their loads, each over the lets before it
 abbrev pub loaded_lets : List VarInfo → List Range → List ℕ → List Formula → List (Span × ℕ)
 loaded_lets vars ps ss [] = []
-loaded_lets vars ps ss (f ∷ fs) = loaded vars ps ss f ++ loaded_lets vars (ps ++ range_over (ranges vars) ps (tree vars f) ∷ []) (ss ++ size_over ss (tree vars f) ∷ []) fs
+loaded_lets vars ps ss (f ∷ fs) = loaded vars ps ss f ++ loaded_lets vars (ps ++ range_over (ranges vars) ps (tree vars f) ∷ [])
+    (ss ++ size_over ss (tree vars f) ∷ []) fs
 
 -- the ranges and the sizes of lets, each over the lets before it, behind these
 abbrev pub ranges_of_lets : List VarInfo → List Range → List Formula → List Range
@@ -55,11 +56,14 @@ measured vars ps ss f = nodes_by (measure_of vars ps ss) f
 -- those of lets, each over the lets before it
 abbrev pub measured_lets : List VarInfo → List Range → List ℕ → List Formula → List (Span × (Range × ℕ))
 measured_lets vars ps ss [] = []
-measured_lets vars ps ss (f ∷ fs) = measured vars ps ss f ++ measured_lets vars (ps ++ range_over (ranges vars) ps (tree vars f) ∷ []) (ss ++ size_over ss (tree vars f) ∷ []) fs
+measured_lets vars ps ss (f ∷ fs) =
+    measured vars ps ss f ++ measured_lets vars (ps ++ range_over (ranges vars) ps (tree vars f) ∷ [])
+    (ss ++ size_over ss (tree vars f) ∷ []) fs
 
 -- those of a predicate: the lets in order of the text, then the root
 abbrev pub measured_pred : List VarInfo → List Formula → Formula → List (Span × (Range × ℕ))
-measured_pred vars lets root = measured_lets vars [] [] lets ++ measured vars (ranges_of_lets vars [] lets) (sizes_of_lets vars [] lets) root
+measured_pred vars lets root = measured_lets vars [] [] lets ++ measured vars (ranges_of_lets vars [] lets)
+    (sizes_of_lets vars [] lets) root
 
 -- the ranges and sizes of nodes
 abbrev pub node_measures : List (Span × (Range × ℕ)) → List (Range × ℕ)

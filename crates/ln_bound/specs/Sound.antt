@@ -1,5 +1,6 @@
 -- What makes a tree with ranges and widths sound, and what is then known of its values.
-use Rattle.std.specs.Prelude.{◌≡◌, ℕ, ◌<◌, ◌≤◌, ◌&&◌, nat_le, nat_lt, int_le, Bool, true, false, ℤ, unsigned_abs, List, [], ◌∷◌, ◌++◌, length, map, Option, Some, None, slice_get}
+use Rattle.std.specs.Prelude.{◌≡◌, ℕ, ◌<◌, ◌≤◌, ◌&&◌, nat_le, nat_lt, int_le, Bool, true, false, ℤ}
+use Rattle.std.specs.Prelude.{unsigned_abs, List, [], ◌∷◌, ◌++◌, length, map, Option, Some, None, slice_get}
 use Rattle.ln_algebra.specs.Tree.{Tree, Num, Input, Name, Neg, Add, Sub, Mul, Pow}
 use Rattle.ln_tree.specs.declared.shape.VarInfo.{VarInfo}
 use Rattle.ln_bound.specs.declared.fitted.Width.{Width}
@@ -20,13 +21,15 @@ abbrev pub CoversLet : Option Typed → Range → Width → Type 0
 CoversLet None p w = ⊥
 CoversLet (Some u) p w = Covers p (pair u) × (no_wider (width u) w ≡ true)
 
--- at each node the range covers the operation over the operands' ranges and fits the width, and no operand is wider; an input is a variable, and its range covers the variable's; a let is one of these
+-- at each node the range covers the operation over the operands' ranges and fits the width, and no operand is wider; an input is
+-- a variable, and its range covers the variable's; a let is one of these
 abbrev pub SoundNodes : List VarInfo → List Typed → Typed → Type 0
 SoundNodes vars lets (TNum c p w) = Holds p c × IsIn p w
 SoundNodes vars lets (TInput v p w) = (v < length vars) × Covers p (ranges vars v) × IsIn p w
 SoundNodes vars lets (TLet j p w) = CoversLet (slice_get lets j) p w × IsIn p w
 SoundNodes vars lets (TNeg t p w) = SoundNodes vars lets t × Covers p (opposite (pair t)) × IsIn p w × (no_wider (width t) w ≡ true)
-SoundNodes vars lets (TTwo k s t p w) = SoundNodes vars lets s × SoundNodes vars lets t × Covers p (range_of k (pair s) (pair t)) × IsIn p w × (no_wider (width s) w ≡ true) × (no_wider (width t) w ≡ true)
+SoundNodes vars lets (TTwo k s t p w) = SoundNodes vars lets s × SoundNodes vars lets t × Covers p (range_of k (pair s) (pair t))
+    × IsIn p w × (no_wider (width s) w ≡ true) × (no_wider (width t) w ≡ true)
 SoundNodes vars lets (TPow t n p w) = SoundNodes vars lets t × Covers p (power (pair t) n) × IsIn p w × (no_wider (width t) w ≡ true)
 
 -- the running sizes of lets
@@ -63,7 +66,8 @@ sound_nodes vars lets (TNum c p w) = holds p c && is_in p w
 sound_nodes vars lets (TInput v p w) = nat_lt v (length vars) && covers p (ranges vars v) && is_in p w
 sound_nodes vars lets (TLet j p w) = covers_let (slice_get lets j) p w && is_in p w
 sound_nodes vars lets (TNeg t p w) = sound_nodes vars lets t && covers p (opposite (pair t)) && is_in p w && no_wider (width t) w
-sound_nodes vars lets (TTwo k s t p w) = sound_nodes vars lets s && sound_nodes vars lets t && covers p (range_of k (pair s) (pair t)) && is_in p w && no_wider (width s) w && no_wider (width t) w
+sound_nodes vars lets (TTwo k s t p w) = sound_nodes vars lets s && sound_nodes vars lets t
+    && covers p (range_of k (pair s) (pair t)) && is_in p w && no_wider (width s) w && no_wider (width t) w
 sound_nodes vars lets (TPow t n p w) = sound_nodes vars lets t && covers p (power (pair t) n) && is_in p w && no_wider (width t) w
 
 -- the running size of each node is at most 2^127 - 1

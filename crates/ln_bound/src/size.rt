@@ -73,7 +73,8 @@ fn named(lets: &[Fitted], j: u8) -> Fitted
 
 /// The opposite of a tree, with the opposite range; its width is no narrower than the tree's.
 pub fn negated(alloc: Global, x: Fitted) -> Result<Fitted, NoMemory>
-    ensures { IfOk result (λ t. typed t ≡ TNeg (typed x) (opposite (pair (typed x))) (wider (width (typed x)) (least (magnitude (opposite (pair (typed x))))))) }
+    ensures { IfOk result (λ t. typed t ≡ TNeg (typed x) (opposite (pair (typed x)))
+        (wider (width (typed x)) (least (magnitude (opposite (pair (typed x))))))) }
 {
     let pair = x.pair.neg();
     let width = x.width.wider(least_for(pair));
@@ -100,7 +101,8 @@ fn pair_of(kind: Two, p: Pair, q: Pair) -> Pair
 /// within `2^127 - 1`; its width is the least that fits the range and is no narrower than an operand.
 pub fn two(alloc: Global, kind: Two, x: Fitted, y: Fitted) -> Result<Fitted, NoMemory>
     requires { magnitude (range_of kind (pair (typed x)) (pair (typed y))) ≤ most }
-    ensures { IfOk result (λ t. typed t ≡ TTwo kind (typed x) (typed y) (range_of kind (pair (typed x)) (pair (typed y))) (wider (wider (width (typed x)) (width (typed y))) (least (magnitude (range_of kind (pair (typed x)) (pair (typed y))))))) }
+    ensures { IfOk result (λ t. typed t ≡ TTwo kind (typed x) (typed y) (range_of kind (pair (typed x)) (pair (typed y)))
+        (wider (wider (width (typed x)) (width (typed y))) (least (magnitude (range_of kind (pair (typed x)) (pair (typed y))))))) }
 {
     let pair = pair_of(kind, x.pair, y.pair);
     let width = x.width.wider(y.width).wider(least_for(pair));
@@ -128,7 +130,8 @@ pub fn two(alloc: Global, kind: Two, x: Fitted, y: Fitted) -> Result<Fitted, NoM
 // The power of a tree, whose range has to be within the limit.
 fn raised(alloc: Global, x: Fitted, n: u8) -> Result<Fitted, NoMemory>
     requires { magnitude (power (pair (typed x)) n) ≤ most }
-    ensures { IfOk result (λ t. typed t ≡ TPow (typed x) n (power (pair (typed x)) n) (wider (width (typed x)) (least (magnitude (power (pair (typed x)) n))))) }
+    ensures { IfOk result (λ t. typed t ≡ TPow (typed x) n (power (pair (typed x)) n)
+        (wider (width (typed x)) (least (magnitude (power (pair (typed x)) n))))) }
 {
     let pair = x.pair.power(n).unwrap();
     let width = x.width.wider(least_for(pair));

@@ -1,11 +1,13 @@
 //! The ranges and sizes of a predicate's nodes.
-ghost use Rattle.std.specs.Prelude.{◌≡◌, ◌≤◌, ◌<◌, ◌++◌, ◌∷◌, [], ◌+◌, ◌-◌, ◌*◌, ◌^◌, ℕ, IfOk, IfErr, OnOk, MatchOption, Some, length, map, max, slice_index_or, unsigned_abs, pos};
+ghost use Rattle.std.specs.Prelude.{◌≡◌, ◌≤◌, ◌<◌, ◌++◌, ◌∷◌, [], ◌+◌, ◌-◌, ◌*◌, ◌^◌, ℕ, IfOk, IfErr, OnOk};
+ghost use Rattle.std.specs.Prelude.{MatchOption, Some, length, map, max, slice_index_or, unsigned_abs, pos};
 ghost use Rattle.ln_tree.specs.Formula.{formula, tree};
 ghost use Rattle.ln_tree.specs.Variables.{number_or_end};
 ghost use Rattle.ln_interval.specs.Range.{IsOrdered, magnitude, most, opposite, point, product, power, sum, difference};
 ghost use Rattle.ln_interval.specs.View.{range};
 ghost use Rattle.ln_bound.specs.Light.{AreLight};
-ghost use Rattle.ln_bound.specs.Loads.{loaded, loaded_lets, loaded_pred, measured, measured_lets, measured_pred, node_measures, ranges_of_lets, sizes_of_lets};
+ghost use Rattle.ln_bound.specs.Loads.{loaded, loaded_lets, loaded_pred, measured, measured_lets};
+ghost use Rattle.ln_bound.specs.Loads.{measured_pred, node_measures, ranges_of_lets, sizes_of_lets};
 ghost use Rattle.ln_bound.specs.Measures.{IsMeasure, range_in, seen, size_in, tested};
 ghost use Rattle.ln_bound.specs.Typed.{range_of, bound_of};
 ghost use Rattle.ln_bound.specs.Ranges.{range_over, ranges, size_over};
@@ -91,7 +93,8 @@ fn of_number(c: i128) -> Option<Measure>
 fn sum_of(a: Measure, b: Measure) -> Option<Measure>
     requires left { a.size ≤ most }
     requires right { b.size ≤ most }
-    ensures { MatchOption result (most < max (magnitude (sum (range a.pair) (range b.pair))) (a.size + b.size)) (λ m. IsMeasure m (sum (range a.pair) (range b.pair)) (a.size + b.size)) }
+    ensures { MatchOption result (most < max (magnitude (sum (range a.pair) (range b.pair))) (a.size + b.size))
+        (λ m. IsMeasure m (sum (range a.pair) (range b.pair)) (a.size + b.size)) }
 {
     let size = a.size + b.size;
     match a.pair.add(b.pair) {
@@ -104,7 +107,8 @@ fn sum_of(a: Measure, b: Measure) -> Option<Measure>
 fn difference_of(a: Measure, b: Measure) -> Option<Measure>
     requires left { a.size ≤ most }
     requires right { b.size ≤ most }
-    ensures { MatchOption result (most < max (magnitude (difference (range a.pair) (range b.pair))) (a.size + b.size)) (λ m. IsMeasure m (difference (range a.pair) (range b.pair)) (a.size + b.size)) }
+    ensures { MatchOption result (most < max (magnitude (difference (range a.pair) (range b.pair))) (a.size + b.size))
+        (λ m. IsMeasure m (difference (range a.pair) (range b.pair)) (a.size + b.size)) }
 {
     let size = a.size + b.size;
     match a.pair.sub(b.pair) {
@@ -125,7 +129,8 @@ fn size_of_product(a: u128, b: u128) -> Option<u128>
 
 // The measure of a product.
 fn product_of(a: Measure, b: Measure) -> Option<Measure>
-    ensures { MatchOption result (most < max (magnitude (product (range a.pair) (range b.pair))) (a.size * b.size)) (λ m. IsMeasure m (product (range a.pair) (range b.pair)) (a.size * b.size)) }
+    ensures { MatchOption result (most < max (magnitude (product (range a.pair) (range b.pair))) (a.size * b.size))
+        (λ m. IsMeasure m (product (range a.pair) (range b.pair)) (a.size * b.size)) }
 {
     match a.pair.mul(b.pair) {
         Some(pair) => match size_of_product(a.size, b.size) {
@@ -154,7 +159,8 @@ fn size_of_power(a: u128, n: u8) -> Option<u128>
 // The measure of a power.
 fn power_of(a: Measure, n: u8) -> Option<Measure>
     requires { a.size ≤ most }
-    ensures { MatchOption result (most < max (magnitude (power (range a.pair) n)) (a.size ^ n)) (λ m. IsMeasure m (power (range a.pair) n) (a.size ^ n)) }
+    ensures { MatchOption result (most < max (magnitude (power (range a.pair) n)) (a.size ^ n))
+        (λ m. IsMeasure m (power (range a.pair) n) (a.size ^ n)) }
 {
     match a.pair.power(n) {
         Some(pair) => match size_of_power(a.size, n) {
@@ -178,7 +184,9 @@ fn opposite_of(a: Measure) -> Measure
 
 // The measure of a let.
 fn let_measure(lets: &[Measure], j: u8) -> Option<Measure>
-    ensures { MatchOption result (most < max (magnitude (slice_index_or (map range_in lets.now) j (point (pos 0)))) (slice_index_or (map size_in lets.now) j 0)) (λ m. IsMeasure m (slice_index_or (map range_in lets.now) j (point (pos 0))) (slice_index_or (map size_in lets.now) j 0)) }
+    ensures { MatchOption result (most < max (magnitude (slice_index_or (map range_in lets.now) j (point (pos 0))))
+        (slice_index_or (map size_in lets.now) j 0))
+        (λ m. IsMeasure m (slice_index_or (map range_in lets.now) j (point (pos 0))) (slice_index_or (map size_in lets.now) j 0)) }
 {
     match lets.get(usize::from(j)) {
         Some(m) if m.size <= MOST => Some(*m),
@@ -220,7 +228,8 @@ fn put(at: Span, m: Option<Measure>, all: &mut Seq<Measure>) -> Result<Measure, 
 fn two_of(kind: Two, a: Measure, b: Measure) -> Option<Measure>
     requires left { a.size ≤ most }
     requires right { b.size ≤ most }
-    ensures { MatchOption result (most < max (magnitude (range_of kind (range a.pair) (range b.pair))) (bound_of kind a.size b.size)) (λ m. IsMeasure m (range_of kind (range a.pair) (range b.pair)) (bound_of kind a.size b.size)) }
+    ensures { MatchOption result (most < max (magnitude (range_of kind (range a.pair) (range b.pair)))
+        (bound_of kind a.size b.size)) (λ m. IsMeasure m (range_of kind (range a.pair) (range b.pair)) (bound_of kind a.size b.size)) }
 {
     match kind {
         Two::Plus => sum_of(a, b),
@@ -240,9 +249,11 @@ fn put_two(
     requires left { a.size ≤ most }
     requires right { b.size ≤ most }
     ensures ok { IfOk result (λ w. IsMeasure w (range_of kind (range a.pair) (range b.pair)) (bound_of kind a.size b.size)) }
-    ensures nodes { OnOk result (map seen all.new ≡ map seen all.old ++ (range_of kind (range a.pair) (range b.pair), bound_of kind a.size b.size) ∷ []) }
+    ensures nodes { OnOk result (map seen all.new ≡ map seen all.old
+        ++ (range_of kind (range a.pair) (range b.pair), bound_of kind a.size b.size) ∷ []) }
     ensures light { OnOk result (max (magnitude (range_of kind (range a.pair) (range b.pair))) (bound_of kind a.size b.size) ≤ most) }
-    ensures heavy { IfErr result (λ e. IsHeavyOrNoMemory at (Some (max (magnitude (range_of kind (range a.pair) (range b.pair))) (bound_of kind a.size b.size))) e) }
+    ensures heavy { IfErr result (λ e. IsHeavyOrNoMemory at
+        (Some (max (magnitude (range_of kind (range a.pair) (range b.pair))) (bound_of kind a.size b.size))) e) }
 {
     put(at, two_of(kind, a, b), all)
 }
@@ -256,8 +267,10 @@ fn weigh_in(
     all: &mut Seq<Measure>,
 ) -> Result<Measure, BoundStop>
     requires { (k : ℕ) → IsOrdered (ranges vars.now k) }
-    ensures measure { IfOk result (λ w. IsMeasure w (range_over (ranges vars.now) (map range_in lets.now) (tree vars.now (formula e.now))) (size_over (map size_in lets.now) (tree vars.now (formula e.now)))) }
-    ensures nodes { OnOk result (map seen all.new ≡ map seen all.old ++ node_measures (measured vars.now (map range_in lets.now) (map size_in lets.now) (formula e.now))) }
+    ensures measure { IfOk result (λ w. IsMeasure w (range_over (ranges vars.now) (map range_in lets.now)
+        (tree vars.now (formula e.now))) (size_over (map size_in lets.now) (tree vars.now (formula e.now)))) }
+    ensures nodes { OnOk result (map seen all.new ≡ map seen all.old
+        ++ node_measures (measured vars.now (map range_in lets.now) (map size_in lets.now) (formula e.now))) }
     ensures light { OnOk result (AreLight (loaded vars.now (map range_in lets.now) (map size_in lets.now) (formula e.now))) }
     ensures err { IfErr result (λ s. StopsWeighing (loaded vars.now (map range_in lets.now) (map size_in lets.now) (formula e.now)) s) }
 {
@@ -299,9 +312,12 @@ fn weigh_next(
     all: &mut Seq<Measure>,
 ) -> Result<(), BoundStop>
     requires { (k : ℕ) → IsOrdered (ranges vars.now k) }
-    ensures ranges { OnOk result (map range_in done.new ≡ map range_in done.old ++ range_over (ranges vars.now) (map range_in done.old) (tree vars.now (formula e.now)) ∷ []) }
-    ensures sizes { OnOk result (map size_in done.new ≡ map size_in done.old ++ size_over (map size_in done.old) (tree vars.now (formula e.now)) ∷ []) }
-    ensures nodes { OnOk result (map seen all.new ≡ map seen all.old ++ node_measures (measured vars.now (map range_in done.old) (map size_in done.old) (formula e.now))) }
+    ensures ranges { OnOk result (map range_in done.new ≡ map range_in done.old ++ range_over (ranges vars.now)
+        (map range_in done.old) (tree vars.now (formula e.now)) ∷ []) }
+    ensures sizes { OnOk result (map size_in done.new ≡ map size_in done.old ++ size_over (map size_in done.old)
+        (tree vars.now (formula e.now)) ∷ []) }
+    ensures nodes { OnOk result (map seen all.new ≡ map seen all.old
+        ++ node_measures (measured vars.now (map range_in done.old) (map size_in done.old) (formula e.now))) }
     ensures light { OnOk result (AreLight (loaded vars.now (map range_in done.old) (map size_in done.old) (formula e.now))) }
     ensures err { IfErr result (λ s. StopsWeighing (loaded vars.now (map range_in done.old) (map size_in done.old) (formula e.now)) s) }
 {

@@ -1,5 +1,7 @@
--- The machine as C has it: a value has a width, which it fits, and no operand is wider than its operation. It lies between the rules and the meaning of the C.
-use Rattle.std.specs.Prelude.{◌≡◌, ℕ, zero, suc, ◌<◌, ◌&&◌, true, ℤ, pos, neg_ℤ, unsigned_abs, nat_lt, length, List, [], Option, Some, None, slice_get, if◌then◌else◌, negsuc}
+-- The machine as C has it: a value has a width, which it fits, and no operand is wider than its operation. It lies between the
+-- rules and the meaning of the C.
+use Rattle.std.specs.Prelude.{◌≡◌, ℕ, zero, suc, ◌<◌, ◌&&◌, true, ℤ, pos, neg_ℤ, unsigned_abs, nat_lt}
+use Rattle.std.specs.Prelude.{length, List, [], Option, Some, None, slice_get, if◌then◌else◌, negsuc}
 use Rattle.ln_bound.specs.declared.fitted.Width.{Width}
 use Rattle.ln_bound.specs.declared.fitted.Width.TheVariants.{W64}
 use Rattle.ln_bound.specs.Widths.{wider, no_wider}

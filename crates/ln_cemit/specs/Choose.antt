@@ -33,7 +33,8 @@ choices block own (l ∷ ls) = where_rising l.0 (tries block own l.1) (choices b
 -- what the blocks of a list answer, one behind the other, where each gives a sign and makes its counts
 abbrev pub first_of_signs : (ℕ → ℤ) → (ℕ → Counts → Counts) → List ℕ → Counts → Outcome
 first_of_signs sign after [] k = Said (pos 0) k
-first_of_signs sign after (b ∷ bs) k = if is_zero (sign b) then first_of_signs sign after bs (after b (entered k)) else Said (sign b) (after b (entered k))
+first_of_signs sign after (b ∷ bs) k = if is_zero (sign b) then first_of_signs sign after bs (after b (entered k))
+    else Said (sign b) (after b (entered k))
 
 -- the list of the first order along which the indices rise
 abbrev pub chosen : (ℕ → ℤ) → List (List ℕ × List ℕ) → Option (List ℕ)

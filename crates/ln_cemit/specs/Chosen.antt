@@ -18,19 +18,23 @@ list_of_order segment k places = joined (map (λ j. segment (take j places)) (ra
 
 -- each block that is named below m answers its sign
 abbrev pub Answers : Scene → (ℕ → List ℕ) → ℕ → (ℕ → ℤ) → (ℕ → Counts → Counts) → Type 0
-Answers s block m sign after = (b : ℕ) → b < m → ((k : Counts) → s.call (block b) k ≡ Gives Int (sign b) (after b k)) × (has Int (sign b) ≡ true)
+Answers s block m sign after = (b : ℕ) → b < m → ((k : Counts) → s.call (block b) k ≡ Gives Int (sign b) (after b k))
+    × (has Int (sign b) ≡ true)
 
 -- the numbers of a list are below m
 abbrev pub AreNumbers : ℕ → List ℕ → Type 0
 AreNumbers m bs = (b : ℕ) → Member bs b → b < m
 
--- On a row whose indices differ, which is where it has an order, the body answers what the filter and then the blocks of the row's order answer, one behind the other.
+-- On a row whose indices differ, which is where it has an order, the body answers what the filter and then the blocks of the
+-- row's order answer, one behind the other.
 abbrev pub FindsTheOrder : Type 0
 FindsTheOrder =
-    (block : ℕ → List ℕ) (own : List ℕ) (s : Scene) (m : ℕ) (sign : ℕ → ℤ) (after : ℕ → Counts → Counts) (segment : List ℕ → List ℕ) (before places : List ℕ) (indices : List ℤ) (k : Counts) →
+    (block : ℕ → List ℕ) (own : List ℕ) (s : Scene) (m : ℕ) (sign : ℕ → ℤ) (after : ℕ → Counts → Counts)
+    (segment : List ℕ → List ℕ) (before places : List ℕ) (indices : List ℤ) (k : Counts) →
     Answers s block m sign after → AreNumbers m before → ((p : List ℕ) → AreNumbers m (segment p)) →
     s.index ≡ Some indices → ((i : ℕ) → i < length indices → has Int64 (index_at indices i) ≡ true) → IsOrder indices places →
-    runs s [] (body_for block own segment before (length indices)) k ≡ first_of_signs sign after (before ++ list_of_order segment (length indices) places) k
+    runs s [] (body_for block own segment before (length indices)) k
+    ≡ first_of_signs sign after (before ++ list_of_order segment (length indices) places) k
 
 -- the first sign that isn't 0, and how many blocks were entered up to it
 abbrev pub decided : (ℕ → ℤ) → List ℕ → ℤ × ℕ
@@ -40,7 +44,8 @@ decided sign (b ∷ bs) = if is_zero (sign b) then ((decided sign bs).0, suc (de
 -- Where the blocks keep the count of calls, the answer is that sign, and so many calls are counted.
 abbrev pub CallsAreCounted : Type 0
 CallsAreCounted =
-    (sign : ℕ → ℤ) (after : ℕ → Counts → Counts) (bs : List ℕ) (k : Counts) → ((b : ℕ) → Member bs b → (j : Counts) → (after b j).calls ≡ j.calls) →
+    (sign : ℕ → ℤ) (after : ℕ → Counts → Counts) (bs : List ℕ) (k : Counts) →
+    ((b : ℕ) → Member bs b → (j : Counts) → (after b j).calls ≡ j.calls) →
     (j : Counts) × (first_of_signs sign after bs k ≡ Said (decided sign bs).0 j) × (j.calls ≡ ups (decided sign bs).1 k.calls)
 
 -- ---- a worked one: one block for the empty prefix, two for each site, two for each pair, none for whole orders

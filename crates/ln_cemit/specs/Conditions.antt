@@ -38,7 +38,8 @@ is_free names x = is_c_name x && (is_own x && not (among names x))
 abbrev pub AreFree : List (List ℕ) → (ℕ → List ℕ) → ℕ → Type 0
 AreFree names name top = (n : ℕ) → n < top → is_free names (name n) ≡ true
 
--- the conditions on one function among functions with these names, that its names are NAMEs and its numbers NUMBERs, and that it stands on one line
+-- the conditions on one function among functions with these names, that its names are NAMEs and its numbers NUMBERs, and that it
+-- stands on one line
 pub record Stands (names : List (List ℕ)) (f : Fun) : Type 0 where
   pub keeps : fun_keeps names f ≡ true
   pub words : fun_words f ≡ true
@@ -48,11 +49,18 @@ abbrev pub Kept : List (List ℕ) → (ℕ → List ℕ) → List ℕ → ℕ �
 Kept names name own e xs = Stands names (fun_of name own e xs)
 
 abbrev pub FunsKeep : Type 0
-FunsKeep = (names : List (List ℕ)) (name : ℕ → List ℕ) (own : List ℕ) (e : ℕ) (xs : List (Line Way)) → AreNames name (length xs) → AreFree names name (length xs) → is_c_name own ≡ true → is_own own ≡ true → e ≤ most_number → are_fine xs ≡ true → Kept names name own e xs
+FunsKeep = (names : List (List ℕ)) (name : ℕ → List ℕ) (own : List ℕ) (e : ℕ) (xs : List (Line Way)) → AreNames name (length xs) →
+    AreFree names name (length xs) → is_c_name own ≡ true → is_own own ≡ true → e ≤ most_number → are_fine xs ≡ true →
+    Kept names name own e xs
 
 abbrev pub BlocksKeep : Type 0
-BlocksKeep = (names : List (List ℕ)) (name : ℕ → List ℕ) (own : List ℕ) (vars : List VarInfo) (c : Code) → AreNames name (length (block_lines c)) → AreFree names name (length (block_lines c)) → is_c_name own ≡ true → is_own own ≡ true → length vars ≤ most_number → FollowsRules vars c → Kept names name own 0 (block_lines c)
+BlocksKeep = (names : List (List ℕ)) (name : ℕ → List ℕ) (own : List ℕ) (vars : List VarInfo) (c : Code) →
+    AreNames name (length (block_lines c)) → AreFree names name (length (block_lines c)) → is_c_name own ≡ true →
+    is_own own ≡ true → length vars ≤ most_number → FollowsRules vars c → Kept names name own 0 (block_lines c)
 
 -- that there is a row in range makes the error of the last line the one that the rules know
 abbrev pub FiltersKeep : Type 0
-FiltersKeep = (names : List (List ℕ)) (name : ℕ → List ℕ) (own : List ℕ) (vars : List VarInfo) (zs : List ℤ) (f : FilterCode) → AreWithin vars zs → AreNames name (length (filter_lines f)) → AreFree names name (length (filter_lines f)) → is_c_name own ≡ true → is_own own ≡ true → length vars ≤ most_number → FollowsFilterRules vars f → Kept names name own (error_of f) (filter_lines f)
+FiltersKeep = (names : List (List ℕ)) (name : ℕ → List ℕ) (own : List ℕ) (vars : List VarInfo) (zs : List ℤ) (f : FilterCode) →
+    AreWithin vars zs → AreNames name (length (filter_lines f)) → AreFree names name (length (filter_lines f)) →
+    is_c_name own ≡ true → is_own own ≡ true → length vars ≤ most_number → FollowsFilterRules vars f →
+    Kept names name own (error_of f) (filter_lines f)

@@ -22,7 +22,8 @@ number_of Minus = negsuc 0
 number_of Zero = pos 0
 number_of Plus = pos 1
 
--- On this row the call of `ln_NAME` gives the sign of the machine's verdict, with its calls, and with no wide operation where the filter decides.
+-- On this row the call of `ln_NAME` gives the sign of the machine's verdict, with its calls, and with no wide operation where the
+-- filter decides.
 pub record CallSays (file : List Fun) (part : Part) (row : tree.Row) : Type 0 where
   pub verdict : Verdict
   pub counts : Counts

@@ -29,15 +29,22 @@ abbrev pub AreAway : List Fun → List ℕ → Type 0
 AreAway [] x = Unit {0}
 AreAway (f ∷ fs) x = (f.name ≢ x) × AreAway fs x
 
--- On a row whose indices differ a call of the function with two parameters gives the first sign that isn't 0 along what stands before all blocks and the list of the row's order, and counts as many calls as functions were entered; its counts are those of the functions entered. Other functions may stand before and behind.
+-- On a row whose indices differ a call of the function with two parameters gives the first sign that isn't 0 along what stands
+-- before all blocks and the list of the row's order, and counts as many calls as functions were entered; its counts are those of
+-- the functions entered. Other functions may stand before and behind.
 abbrev pub FileMeans : Type 0
 FileMeans =
-    (front rest : List Fun) (block : ℕ → List ℕ) (own name : List ℕ) (touch : Bool) (bodies : List Body) (sign : ℕ → ℤ) (after : ℕ → Counts → Counts) (segment : List ℕ → List ℕ) (before places : List ℕ) (indices values : List ℤ) →
+    (front rest : List Fun) (block : ℕ → List ℕ) (own name : List ℕ) (touch : Bool) (bodies : List Body) (sign : ℕ → ℤ)
+    (after : ℕ → Counts → Counts) (segment : List ℕ → List ℕ) (before places : List ℕ) (indices values : List ℤ) →
     AreAway front name → ((b : ℕ) → b < length bodies → AreAway front (block b)) →
-    ((i j : ℕ) → i < length bodies → j < length bodies → block i ≡ block j → i ≡ j) → ((b : ℕ) → b < length bodies → Means values (slice_index_or bodies b End) (sign b) (after b)) →
+    ((i j : ℕ) → i < length bodies → j < length bodies → block i ≡ block j → i ≡ j) →
+    ((b : ℕ) → b < length bodies → Means values (slice_index_or bodies b End) (sign b) (after b)) →
     AreNumbers (length bodies) before → ((p : List ℕ) → AreNumbers (length bodies) (segment p)) →
     ((i : ℕ) → i < length indices → has Int64 (index_at indices i) ≡ true) → IsOrder indices places →
     (j : Counts)
-    × (CCall (front ++ (one_funs block 0 bodies ++ two_fun name (touching_index touch (body_for block own segment before (length indices))) ∷ rest)) name indices values ≡ Some (Signed (decided sign (before ++ list_of_order segment (length indices) places)).0 j))
+    × (CCall (front ++ (one_funs block 0 bodies
+    ++ two_fun name (touching_index touch (body_for block own segment before (length indices))) ∷ rest)) name indices values
+    ≡ Some (Signed (decided sign (before ++ list_of_order segment (length indices) places)).0 j))
     × (j.calls ≡ ups (decided sign (before ++ list_of_order segment (length indices) places)).1 0)
-    × (first_of_signs sign after (before ++ list_of_order segment (length indices) places) (record { wide = 0; calls = 0 }) ≡ Said (decided sign (before ++ list_of_order segment (length indices) places)).0 j)
+    × (first_of_signs sign after (before ++ list_of_order segment (length indices) places) (record { wide = 0; calls = 0 })
+    ≡ Said (decided sign (before ++ list_of_order segment (length indices) places)).0 j)

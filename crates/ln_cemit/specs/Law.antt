@@ -26,7 +26,8 @@ pub record BlockSays (name : ℕ → List ℕ) (zs : List ℤ) (c : Code) : Type
   pub means : Means zs (body_of name 0 (block_lines c)) (sign_of value) (λ k. plus (wide_lines (block_lines c)) k)
 
 abbrev pub BlocksSay : Type 0
-BlocksSay = (name : ℕ → List ℕ) (vars : List VarInfo) (zs : List ℤ) (c : Code) → AreNames name (length (block_lines c)) → AreWithin vars zs → FollowsRules vars c → BlockSays name zs c
+BlocksSay = (name : ℕ → List ℕ) (vars : List VarInfo) (zs : List ℤ) (c : Code) → AreNames name (length (block_lines c)) →
+    AreWithin vars zs → FollowsRules vars c → BlockSays name zs c
 
 -- the error of what a filter leaves
 abbrev pub error_of : FilterCode → ℕ
@@ -43,4 +44,5 @@ pub record FilterSays (name : ℕ → List ℕ) (zs : List ℤ) (f : FilterCode)
   pub means : Means zs (body_of name (error_of f) (filter_lines f)) (decided left) (λ k. k)
 
 abbrev pub FiltersSay : Type 0
-FiltersSay = (name : ℕ → List ℕ) (vars : List VarInfo) (zs : List ℤ) (f : FilterCode) → AreNames name (length (filter_lines f)) → AreWithin vars zs → FollowsFilterRules vars f → FilterSays name zs f
+FiltersSay = (name : ℕ → List ℕ) (vars : List VarInfo) (zs : List ℤ) (f : FilterCode) → AreNames name (length (filter_lines f)) →
+    AreWithin vars zs → FollowsFilterRules vars f → FilterSays name zs f

@@ -1,4 +1,5 @@
--- The names of the emitted file. Functions begin with l: `lf_NAME` is the filter of a predicate, `lb0_NAME`, `lb1_NAME`, .. its blocks, `ln_NAME` the function that is called from outside. Declarations begin with n, with which no keyword begins.
+-- The names of the emitted file. Functions begin with l: `lf_NAME` is the filter of a predicate, `lb0_NAME`, `lb1_NAME`, .. its
+-- blocks, `ln_NAME` the function that is called from outside. Declarations begin with n, with which no keyword begins.
 use Rattle.std.specs.Prelude.{◌≡◌, ℕ, ◌≤◌, ◌^◌, ◌==◌, ◌&&◌, Bool, true, false, List, [], ◌∷◌, ◌++◌, codes, decimal}
 use Rattle.ln_cemit.specs.Checked.{AreNames}
 use Rattle.ln_cemit.specs.Conditions.{AreFree}
@@ -30,4 +31,5 @@ all_begin (x ∷ xs) = begins_with_l x && all_begin xs
 
 -- they serve for a block of at most so many operations
 abbrev pub NamesServe : Type 0
-NamesServe = (names : List (List ℕ)) (top : ℕ) → top ≤ 2 ^ 63 → all_begin names ≡ true → AreNames decl_name top × AreFree names decl_name top
+NamesServe = (names : List (List ℕ)) (top : ℕ) → top ≤ 2 ^ 63 → all_begin names ≡ true → AreNames decl_name top
+    × AreFree names decl_name top

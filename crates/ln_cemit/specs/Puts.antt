@@ -1,5 +1,6 @@
 -- What one operation puts, whatever comes behind it.
-use Rattle.std.specs.Prelude.{◌≡◌, ℕ, zero, suc, ◌/◌, ◌^◌, Bool, true, false, ◌||◌, ◌≤◌, length, take, nat_le, List, [], ◌∷◌, ◌++◌, codes, reverse, Option, Some, None, slice_get}
+use Rattle.std.specs.Prelude.{◌≡◌, ℕ, zero, suc, ◌/◌, ◌^◌, Bool, true, false, ◌||◌, ◌≤◌, length, take}
+use Rattle.std.specs.Prelude.{nat_le, List, [], ◌∷◌, ◌++◌, codes, reverse, Option, Some, None, slice_get}
 use Rattle.ln_bound.specs.declared.fitted.Width.{Width}
 use Rattle.ln_code.specs.Engine.{next}
 use Rattle.ln_csyn.specs.Words.{most_number}
@@ -71,7 +72,8 @@ picks_on go (i ∷ js) = picks go (i ∷ js)
 -- comparisons of the index at place i with those at each of these, each with an open brace
 abbrev pub open_guards : ℕ → List ℕ → List Token → List Token
 open_guards i [] r = r
-open_guards i (j ∷ js) r = lexeme (codes "if") ∷ lexeme (codes "(") ∷ spell (less i j) (lexeme (codes ")") ∷ lexeme (codes "{") ∷ open_guards i js r)
+open_guards i (j ∷ js) r = lexeme (codes "if") ∷ lexeme (codes "(") ∷ spell (less i j)
+    (lexeme (codes ")") ∷ lexeme (codes "{") ∷ open_guards i js r)
 
 -- so many closing braces
 abbrev pub close_braces : ℕ → List Token → List Token

@@ -1,4 +1,5 @@
--- The body of the function with two parameters: the blocks of a prefix are called, and where all are 0 the next site is found by comparisons among the sites that aren't placed yet.
+-- The body of the function with two parameters: the blocks of a prefix are called, and where all are 0 the next site is found by
+-- comparisons among the sites that aren't placed yet.
 use Rattle.std.specs.Prelude.{ℕ, ◌+◌, not, eqb, List, [], ◌∷◌, ◌++◌, filter}
 use Rattle.std.proofs.Common.{zero, suc}
 use Rattle.std.specs.List.{range_with_len}
@@ -18,7 +19,8 @@ abbrev pub guarded : ℕ → List ℕ → Body → Body
 guarded i [] inner = inner
 guarded i (j ∷ js) inner = If 2 (less i j) (guarded i js inner) End
 
--- the statements of the place, of these, with the least index. Where a place isn't the least, it isn't compared again: the least is then behind it
+-- the statements of the place, of these, with the least index. Where a place isn't the least, it isn't compared again: the least
+-- is then behind it
 abbrev pub picks : (ℕ → Body) → List ℕ → Body
 picks go [] = says_nothing
 picks go (i ∷ []) = go i

@@ -45,11 +45,14 @@ moved (Some f) bs = map suc bs
 -- the body of the function with two parameters
 abbrev pub call_body : Part → Body
 call_body p =
-    touching_index (nat_le 2 p.shape.sites) (body_for (numbered (part_name p) p.filter) answer_name (λ q. moved p.filter (segment_of p q)) (first_of p.filter) p.shape.sites)
+    touching_index (nat_le 2 p.shape.sites)
+    (body_for (numbered (part_name p) p.filter) answer_name (λ q. moved p.filter (segment_of p q))
+    (first_of p.filter) p.shape.sites)
 
 -- the functions of a program, and behind them others
 abbrev pub funs_before : Part → List Fun → List Fun
-funs_before p rest = one_funs (numbered (part_name p) p.filter) 0 (bodies_of p.filter p.blocks) ++ two_fun (call_name (part_name p)) (call_body p) ∷ rest
+funs_before p rest = one_funs (numbered (part_name p) p.filter) 0 (bodies_of p.filter p.blocks)
+    ++ two_fun (call_name (part_name p)) (call_body p) ∷ rest
 
 -- those of each program
 abbrev pub file_of : List Part → List Fun

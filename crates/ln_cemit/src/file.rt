@@ -28,7 +28,8 @@ fn put_numbered_block(
     number: usize,
     block: &Block,
 ) -> Result<(), NoMemory>
-    ensures { IfOk result (λ x. Puts out.old.items out.new.items (spell_fun (one_fun (block_name name.now number) (block_body block.now)))) }
+    ensures { IfOk result (λ x. Puts out.old.items out.new.items
+        (spell_fun (one_fun (block_name name.now number) (block_body block.now)))) }
 {
     let title = block_title(alloc, name, number)?;
     put_block_fun(alloc, out, title.as_slice(), block)
@@ -41,7 +42,8 @@ fn put_blocks(
     name: &[u8],
     blocks: &[Block],
 ) -> Result<(), NoMemory>
-    ensures { IfOk result (λ x. Puts out.old.items out.new.items (spell_funs (one_funs (block_name name.now) 0 (map block_body blocks.now)))) }
+    ensures { IfOk result (λ x. Puts out.old.items out.new.items
+        (spell_funs (one_funs (block_name name.now) 0 (map block_body blocks.now)))) }
 {
     'all: for (number, block) in blocks.iter().enumerate() {
         put_numbered_block(alloc, out, name, number, block)?;
@@ -77,14 +79,16 @@ fn put_filter_of(alloc: Global, out: &mut Vec<u8>, p: &Program) -> Result<(), No
 }
 
 fn put_blocks_of(alloc: Global, out: &mut Vec<u8>, p: &Program) -> Result<(), NoMemory>
-    ensures { IfOk result (λ x. Puts out.old.items out.new.items (spell_funs (one_funs (block_name (part_name p.now)) 0 (map block_body p.now.blocks)))) }
+    ensures { IfOk result (λ x. Puts out.old.items out.new.items
+        (spell_funs (one_funs (block_name (part_name p.now)) 0 (map block_body p.now.blocks)))) }
 {
     let name = name_of(p);
     put_blocks(alloc, out, name, p.blocks())
 }
 
 fn put_filter_try(alloc: Global, out: &mut Vec<u8>, name: &[u8]) -> Result<(), NoMemory>
-    ensures { IfOk result (λ x. (b : Body) → Goes out.old.items out.new.items (spell_body b) (spell_body (Group 2 (attempt answer_name (filter_name name.now)) b))) }
+    ensures { IfOk result (λ x. (b : Body) → Goes out.old.items out.new.items (spell_body b)
+        (spell_body (Group 2 (attempt answer_name (filter_name name.now)) b))) }
 {
     let title = filter_title(alloc, name)?;
     put_try(out, title.as_slice())
@@ -92,7 +96,8 @@ fn put_filter_try(alloc: Global, out: &mut Vec<u8>, name: &[u8]) -> Result<(), N
 
 // The call of the filter, if there is one.
 fn put_may_filter(alloc: Global, out: &mut Vec<u8>, p: &Program) -> Result<(), NoMemory>
-    ensures { IfOk result (λ x. (b : Body) → Goes out.old.items out.new.items (spell_body b) (spell_body (filter_tried (part_name p.now) p.now.filter b))) }
+    ensures { IfOk result (λ x. (b : Body) → Goes out.old.items out.new.items (spell_body b)
+        (spell_body (filter_tried (part_name p.now) p.now.filter b))) }
 {
     let name = name_of(p);
     match p.filter() {
@@ -108,7 +113,8 @@ fn put_may_filter(alloc: Global, out: &mut Vec<u8>, p: &Program) -> Result<(), N
 fn put_all_sites(alloc: Global, out: &mut Vec<u8>, p: &Program, sites: u8) -> Result<(), NoMemory>
     requires few { sites ≤ 5 }
     requires sites { sites ≡ p.now.shape.sites }
-    ensures { IfOk result (λ x. Puts out.old.items out.new.items (spell_body (walked (block_name (part_name p.now)) answer_name (segment_of p.now) sites [] (range_with_len 0 sites)))) }
+    ensures { IfOk result (λ x. Puts out.old.items out.new.items
+        (spell_body (walked (block_name (part_name p.now)) answer_name (segment_of p.now) sites [] (range_with_len 0 sites)))) }
 {
     let orders = all_orders(alloc, sites)?;
     let all = Order::of_arguments(sites);
@@ -128,7 +134,8 @@ fn put_call_body(alloc: Global, out: &mut Vec<u8>, p: &Program) -> Result<(), No
 }
 
 fn put_call_head(alloc: Global, out: &mut Vec<u8>, p: &Program) -> Result<(), NoMemory>
-    ensures { IfOk result (λ x. Puts out.old.items out.new.items (λ r. lexeme (codes "int") ∷ lexeme (call_name (part_name p.now)) ∷ lexeme (codes "(") ∷ spell_parameters true (lexeme (codes ")") ∷ r))) }
+    ensures { IfOk result (λ x. Puts out.old.items out.new.items (λ r. lexeme (codes "int") ∷ lexeme (call_name (part_name p.now))
+        ∷ lexeme (codes "(") ∷ spell_parameters true (lexeme (codes ")") ∷ r))) }
 {
     let name = name_of(p);
     let title = call_title(alloc, name)?;

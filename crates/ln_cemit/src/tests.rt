@@ -2,7 +2,8 @@
 ghost use Rattle.std.specs.Prelude.{◌≡◌, ◌≤◌, ◌≤ℤ◌, ◌∷◌, [], IfOk, length, map, replicate, unsigned_abs};
 ghost use Rattle.ln_interval.specs.Range.{most};
 ghost use Rattle.ln_interval.specs.View.{range};
-ghost use Rattle.ln_code.specs.Worked.{coordinate, plane_vars, orientation_ops, orientation_pairs, orientation_triples, uncut, balanced, IsWorked, IsFilterOrNone};
+ghost use Rattle.ln_code.specs.Worked.{coordinate, plane_vars, orientation_ops, orientation_pairs};
+ghost use Rattle.ln_code.specs.Worked.{orientation_triples, uncut, balanced, IsWorked, IsFilterOrNone};
 
 use crate::emit;
 use ln_base::{NoMemory, Seq};

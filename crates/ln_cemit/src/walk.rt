@@ -36,7 +36,8 @@ fn put_answer(out: &mut Vec<u8>) -> Result<(), NoMemory>
 }
 
 fn put_answer_decl(out: &mut Vec<u8>, title: &[u8]) -> Result<(), NoMemory>
-    ensures { IfOk result (λ x. Puts out.old.items out.new.items (λ r. lexeme (codes "int") ∷ lexeme answer_name ∷ lexeme (codes "=") ∷ spell (Call Int title.now) (lexeme (codes ";") ∷ r))) }
+    ensures { IfOk result (λ x. Puts out.old.items out.new.items (λ r. lexeme (codes "int") ∷ lexeme answer_name
+        ∷ lexeme (codes "=") ∷ spell (Call Int title.now) (lexeme (codes ";") ∷ r))) }
 {
     put_type(out, CType::Int)?;
     put_answer_name(out)?;
@@ -58,7 +59,8 @@ fn put_answer_test(out: &mut Vec<u8>) -> Result<(), NoMemory>
 }
 
 fn put_answer_if(out: &mut Vec<u8>) -> Result<(), NoMemory>
-    ensures { IfOk result (λ x. Puts out.old.items out.new.items (λ r. lexeme (codes "if") ∷ lexeme (codes "(") ∷ spell (Two Differ (Name Int answer_name) (Number Int 0)) (lexeme (codes ")") ∷ r))) }
+    ensures { IfOk result (λ x. Puts out.old.items out.new.items (λ r. lexeme (codes "if") ∷ lexeme (codes "(")
+        ∷ spell (Two Differ (Name Int answer_name) (Number Int 0)) (lexeme (codes ")") ∷ r))) }
 {
     word_if(out)?;
     left(out)?;
@@ -68,7 +70,8 @@ fn put_answer_if(out: &mut Vec<u8>) -> Result<(), NoMemory>
 }
 
 fn put_answer_return(out: &mut Vec<u8>) -> Result<(), NoMemory>
-    ensures { IfOk result (λ x. Puts out.old.items out.new.items (λ r. lexeme (codes "return") ∷ spell (Name Int answer_name) (lexeme (codes ";") ∷ r))) }
+    ensures { IfOk result (λ x. Puts out.old.items out.new.items (λ r. lexeme (codes "return") ∷ spell (Name Int answer_name)
+        (lexeme (codes ";") ∷ r))) }
 {
     word_return(out)?;
     put_answer(out)?;
@@ -89,7 +92,8 @@ fn put_attempt(out: &mut Vec<u8>, title: &[u8]) -> Result<(), NoMemory>
 
 /// Puts the call of a function, and the return of what it answers where that isn't 0.
 pub(crate) fn put_try(out: &mut Vec<u8>, title: &[u8]) -> Result<(), NoMemory>
-    ensures { IfOk result (λ x. (b : Body) → Goes out.old.items out.new.items (spell_body b) (spell_body (Group 2 (attempt answer_name title.now) b))) }
+    ensures { IfOk result (λ x. (b : Body) → Goes out.old.items out.new.items (spell_body b)
+        (spell_body (Group 2 (attempt answer_name title.now) b))) }
 {
     brace_left(out)?;
     put_attempt(out, title)?;
@@ -103,7 +107,8 @@ fn put_block_try(
     name: &[u8],
     number: usize,
 ) -> Result<(), NoMemory>
-    ensures { IfOk result (λ x. (b : Body) → Goes out.old.items out.new.items (spell_body b) (spell_body (Group 2 (attempt answer_name (block_name name.now number)) b))) }
+    ensures { IfOk result (λ x. (b : Body) → Goes out.old.items out.new.items (spell_body b)
+        (spell_body (Group 2 (attempt answer_name (block_name name.now number)) b))) }
 {
     let title = block_title(alloc, name, number)?;
     put_try(out, title.as_slice())
@@ -111,7 +116,8 @@ fn put_block_try(
 
 // The calls of the blocks with these numbers, one after the other.
 fn put_tries(alloc: Global, out: &mut Vec<u8>, name: &[u8], numbers: &[u32]) -> Result<(), NoMemory>
-    ensures { IfOk result (λ x. (b : Body) → Goes out.old.items out.new.items (spell_body b) (spell_body (tries (block_name name.now) answer_name numbers.now b))) }
+    ensures { IfOk result (λ x. (b : Body) → Goes out.old.items out.new.items (spell_body b)
+        (spell_body (tries (block_name name.now) answer_name numbers.now b))) }
 {
     'numbers: for number in numbers {
         put_block_try(alloc, out, name, *number as usize)?;
@@ -147,7 +153,8 @@ fn put_less(out: &mut Vec<u8>, i: u8, j: u8) -> Result<(), NoMemory>
 }
 
 fn put_guard(out: &mut Vec<u8>, i: u8, j: u8) -> Result<(), NoMemory>
-    ensures { IfOk result (λ x. Puts out.old.items out.new.items (λ r. lexeme (codes "if") ∷ lexeme (codes "(") ∷ spell (less i j) (lexeme (codes ")") ∷ lexeme (codes "{") ∷ r))) }
+    ensures { IfOk result (λ x. Puts out.old.items out.new.items (λ r. lexeme (codes "if") ∷ lexeme (codes "(") ∷ spell (less i j)
+        (lexeme (codes ")") ∷ lexeme (codes "{") ∷ r))) }
 {
     word_if(out)?;
     left(out)?;
@@ -216,7 +223,8 @@ fn without(alloc: Global, place: u8, places: &[u8]) -> Result<Vec<u8>, NoMemory>
 
 // How many places these are, where the order begins with them.
 fn begins(order: &Order, front: &[u8]) -> Option<u8>
-    ensures { MatchOption result (take (length front.now) (order_places order.now) ≢ front.now) (λ j. Begins (order_places order.now) front.now j) }
+    ensures { MatchOption result (take (length front.now) (order_places order.now) ≢ front.now)
+        (λ j. Begins (order_places order.now) front.now j) }
 {
     let places = order.places();
     if front.len() > places.len() {
@@ -255,7 +263,8 @@ pub(crate) fn put_walked(
     left: &[u8],
 ) -> Result<(), NoMemory>
     requires { map order_places orders.now ≡ orders_of p.now.shape.sites }
-    ensures { IfOk result (λ x. Puts out.old.items out.new.items (spell_body (walked (block_name (part_name p.now)) answer_name (segment_of p.now) d front.now left.now))) }
+    ensures { IfOk result (λ x. Puts out.old.items out.new.items
+        (spell_body (walked (block_name (part_name p.now)) answer_name (segment_of p.now) d front.now left.now))) }
 {
     let name = name_of(p);
     let segment = segment_at(p, orders, front);
@@ -288,7 +297,9 @@ fn put_picks(
     left: &[u8],
 ) -> Result<(), NoMemory>
     requires { map order_places orders.now ≡ orders_of p.now.shape.sites }
-    ensures { IfOk result (λ x. Puts out.old.items out.new.items (spell_body (picks (λ i. walked (block_name (part_name p.now)) answer_name (segment_of p.now) d (front.now ++ i ∷ []) (without i left.now)) left.now))) }
+    ensures { IfOk result (λ x. Puts out.old.items out.new.items
+        (spell_body (picks (λ i. walked (block_name (part_name p.now)) answer_name (segment_of p.now) d (front.now ++ i ∷ [])
+        (without i left.now)) left.now))) }
 {
     if left.is_empty() {
         return put_nothing(out);
@@ -314,7 +325,10 @@ fn put_pick(
     others: &[u8],
 ) -> Result<(), NoMemory>
     requires { map order_places orders.now ≡ orders_of p.now.shape.sites }
-    ensures { IfOk result (λ x. Puts out.old.items out.new.items (λ r. open_guards place others.now (spell_body (walked (block_name (part_name p.now)) answer_name (segment_of p.now) d (front.now ++ place ∷ []) (without place left.now)) (close_braces (length others.now) r)))) }
+    ensures { IfOk result (λ x. Puts out.old.items out.new.items
+        (λ r. open_guards place others.now
+        (spell_body (walked (block_name (part_name p.now)) answer_name (segment_of p.now) d (front.now ++ place ∷ [])
+        (without place left.now)) (close_braces (length others.now) r)))) }
 {
     let next = longer(alloc, front, place)?;
     let rest = without(alloc, place, left)?;

@@ -5,7 +5,8 @@ use Rattle.ln_code.specs.declared.op.Op.{Op}
 use Rattle.ln_code.specs.declared.op.Triple.{Triple}
 use Rattle.ln_cert.specs.declared.part.Entry.{Entry}
 use Rattle.ln_cert.specs.declared.part.Part.{Part}
-use Rattle.ln_cert.specs.declared.part.Part.TheVariants.{Predicate, NoFilter, Filter, FilterOp, Decide, Block, BlockOp, RangeOp, End, Order, Done}
+use Rattle.ln_cert.specs.declared.part.Part.TheVariants.{Predicate, NoFilter, Filter, FilterOp, Decide}
+use Rattle.ln_cert.specs.declared.part.Part.TheVariants.{Block, BlockOp, RangeOp, End, Order, Done}
 use Rattle.ln_cert.specs.Lines.{joined, lines}
 use Rattle.ln_cert.specs.Text.{Each, IsLine, text_of}
 use Rattle.std.specs.Prelude.{ℤ}
@@ -30,7 +31,8 @@ pub data AFilter : List Part → List Part → Type 0 where
 -- one or more blocks, each ended by `end`
 pub data SomeBlocks : ℕ → List Part → List Part → Type 0 where
   last : {v n : ℕ} {exps : List (ℕ × ℕ)} {xs r : List Part} → BlockOps v xs (End ∷ r) → SomeBlocks v (Block n exps ∷ xs) r
-  more : {v n : ℕ} {exps : List (ℕ × ℕ)} {xs ys r : List Part} → BlockOps v xs (End ∷ ys) → SomeBlocks v ys r → SomeBlocks v (Block n exps ∷ xs) r
+  more : {v n : ℕ} {exps : List (ℕ × ℕ)} {xs ys r : List Part} → BlockOps v xs (End ∷ ys) → SomeBlocks v ys r →
+      SomeBlocks v (Block n exps ∷ xs) r
 
 -- one or more `order` lines
 pub data SomeOrders : List Part → List Part → Type 0 where
@@ -77,7 +79,8 @@ pub record Listed : Type 0 where
   pub version : ℕ
   pub entries : List Entry
 
--- entries of a listing of this version, with their lines, which count from 1 and the first names the version; some bytes, at most 67,108,864, are its text
+-- entries of a listing of this version, with their lines, which count from 1 and the first names the version; some bytes, at most
+-- 67,108,864, are its text
 pub record Kept (l : Listed) : Type 0 where
   pub numbered : AreNumbered 2 l.entries
   pub bytes : List ℕ
@@ -96,7 +99,8 @@ pub record IsWhole (texts : List (List ℕ)) : Type 0 where
 abbrev pub IsFront : List (List ℕ) → Type 0
 IsFront texts = (more : List (List ℕ)) × IsWhole (texts ++ more)
 
--- line `at`, from 1, is the first at which the lines so far are no prefix of a listing; where all lines are one and the bytes are no listing, it is one more than there are lines
+-- line `at`, from 1, is the first at which the lines so far are no prefix of a listing; where all lines are one and the bytes are
+-- no listing, it is one more than there are lines
 pub record IsFormFault (bytes : List ℕ) (at : ℕ) : Type 0 where
   pub before : ℕ
   pub number : at ≡ before + 1

@@ -1,5 +1,7 @@
--- Which line may stand where, and what its words say: for the reader, which goes line by line. That this is the grammar is the matter of proofs/Walk.
-use Rattle.std.specs.Prelude.{◌≡◌, ℕ, ◌==◌, not, Bool, true, false, if◌then◌else◌, List, [], ◌∷◌, ◌++◌, Option, Some, None, option_map, bytes_eq, codes}
+-- Which line may stand where, and what its words say: for the reader, which goes line by line. That this is the grammar is the
+-- matter of proofs/Walk.
+use Rattle.std.specs.Prelude.{◌≡◌, ℕ, ◌==◌, not, Bool, true, false, if◌then◌else◌, List, []}
+use Rattle.std.specs.Prelude.{◌∷◌, ◌++◌, Option, Some, None, option_map, bytes_eq, codes}
 use Rattle.ln_bound.specs.declared.fitted.Width.TheVariants.{W64, W128}
 use Rattle.ln_code.specs.declared.op.Op.{Op}
 use Rattle.ln_cert.specs.declared.part.Kind.{Kind}
@@ -9,7 +11,8 @@ use Rattle.ln_cert.specs.declared.part.State.{State}
 use Rattle.ln_cert.specs.declared.part.State.TheVariants.{Top, Opened, InFilter, Planned, InBlock, Blocks, Orders}
 use Rattle.ln_cert.specs.declared.part.Verb.{Verb}
 use Rattle.ln_cert.specs.declared.part.Verb.TheVariants as verb
-use Rattle.ln_cert.specs.Text.{IsLine, IsOp, args_of, block_word, filter_word, kind_of, number_words, of_block, of_filter, verb_of, words_of}
+use Rattle.ln_cert.specs.Text.{IsLine, IsOp, args_of, block_word, filter_word, kind_of}
+use Rattle.ln_cert.specs.Text.{number_words, of_block, of_filter, verb_of, words_of}
 
 -- ---- first words
 -- the first of these whose word it is
@@ -37,7 +40,8 @@ block_kind v w = if v == 1 then kind.BlockOp w else kind.RangeOp w
 -- the kind of the line that begins with this word, in this state; none where no line does
 abbrev pub kind_in : ℕ → State → List ℕ → Option Kind
 kind_in v Top w = if bytes_eq w (codes "predicate") then Some kind.Predicate else None
-kind_in v Opened w = if bytes_eq w (codes "nofilter") then Some kind.NoFilter else if bytes_eq w (codes "filter") then Some kind.Filter else None
+kind_in v Opened w = if bytes_eq w (codes "nofilter") then Some kind.NoFilter else if bytes_eq w (codes "filter")
+    then Some kind.Filter else None
 kind_in v InFilter w = if bytes_eq w (codes "decide") then Some kind.Decide else option_map filter_kind (found filter_word w filter_verbs)
 kind_in v Planned w = if bytes_eq w (codes "block") then Some kind.Block else None
 kind_in v InBlock w = if bytes_eq w (codes "end") then Some kind.End else option_map (block_kind v) (found block_word w block_verbs)

@@ -1,5 +1,6 @@
 -- What each line of a listing says, as text.
-use Rattle.std.specs.Prelude.{◌≡◌, ℕ, ℤ, ◌^◌, ◌<◌, ◌≤◌, Bool, true, false, if◌then◌else◌, List, [], ◌∷◌, ◌++◌, length, map, codes, decimal, unsigned_abs}
+use Rattle.std.specs.Prelude.{◌≡◌, ℕ, ℤ, ◌^◌, ◌<◌, ◌≤◌, Bool, true, false, if◌then◌else◌, List}
+use Rattle.std.specs.Prelude.{[], ◌∷◌, ◌++◌, length, map, codes, decimal, unsigned_abs}
 use Rattle.std.specs.Fmt.{signed_decimal}
 use Rattle.ln_base.specs.Words.{is_name}
 use Rattle.ln_bound.specs.declared.fitted.Width.{Width}
@@ -10,7 +11,8 @@ use Rattle.ln_code.specs.declared.op.Triple.{Triple}
 use Rattle.ln_cert.specs.declared.part.Kind.{Kind}
 use Rattle.ln_cert.specs.declared.part.Kind.TheVariants as kind
 use Rattle.ln_cert.specs.declared.part.Part.{Part}
-use Rattle.ln_cert.specs.declared.part.Part.TheVariants.{Predicate, NoFilter, Filter, FilterOp, Decide, Block, BlockOp, RangeOp, End, Order, Done}
+use Rattle.ln_cert.specs.declared.part.Part.TheVariants.{Predicate, NoFilter, Filter, FilterOp, Decide}
+use Rattle.ln_cert.specs.declared.part.Part.TheVariants.{Block, BlockOp, RangeOp, End, Order, Done}
 use Rattle.ln_cert.specs.declared.part.Verb.{Verb}
 use Rattle.ln_cert.specs.declared.part.Verb.TheVariants as verb
 use Rattle.ln_cert.specs.Words.{parted}

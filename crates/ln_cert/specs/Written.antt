@@ -45,7 +45,8 @@ order_lines p os = map (λ o. Order o (list_of p o)) os
 
 -- one program: its name, its filter, its blocks by number, and the list of each order of its sites
 abbrev pub program_lines : Program → List Part
-program_lines p = Predicate (name_bytes p.shape.name) ∷ (filter_lines p.filter ++ (blocks_lines 0 p.blocks ++ (order_lines p (orders_of p.shape.sites) ++ Done ∷ [])))
+program_lines p = Predicate (name_bytes p.shape.name)
+    ∷ (filter_lines p.filter ++ (blocks_lines 0 p.blocks ++ (order_lines p (orders_of p.shape.sites) ++ Done ∷ [])))
 
 -- all programs, one after the other
 abbrev pub listing_of : List Program → List Part
@@ -57,7 +58,8 @@ pub record Wrote (old new : List ℕ) (ps : List Part) : Type 0 where
   pub text : new ≡ old ++ joined (map text_of ps)
   pub ranges : Each IsLine ps
 
--- what the rules on filters say of an operation: a constant is within 2^127 - 1, a variable is one of 168; it is 64 bits wide, and has no triple where it stores
+-- what the rules on filters say of an operation: a constant is within 2^127 - 1, a variable is one of 168; it is 64 bits wide,
+-- and has no triple where it stores
 abbrev pub IsWithin : Op → Type 0
 IsWithin (op.Push c) = unsigned_abs c < 2 ^ 127
 IsWithin (op.Input v) = v ≤ 167

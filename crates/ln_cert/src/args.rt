@@ -37,8 +37,10 @@ pub fn field(bytes: &[u8], at: usize, most: u128) -> Option<(u128, usize)>
 
 /// The signed number that stands at a place, and the place of the next word.
 pub fn signed_field(bytes: &[u8], at: usize) -> Option<(i128, usize)>
-    ensures some { IfSome result (λ x. (unsigned_abs x.0 < 2 ^ 127) × (words_from at bytes.now ≡ signed_decimal x.0 ∷ words_from x.1 bytes.now)) }
-    ensures none { IfNone result ((z : ℤ) (ws : List (List ℕ)) → unsigned_abs z < 2 ^ 127 → words_from at bytes.now ≡ signed_decimal z ∷ ws → ⊥) }
+    ensures some { IfSome result (λ x. (unsigned_abs x.0 < 2 ^ 127)
+        × (words_from at bytes.now ≡ signed_decimal x.0 ∷ words_from x.1 bytes.now)) }
+    ensures none { IfNone result ((z : ℤ) (ws : List (List ℕ)) → unsigned_abs z < 2 ^ 127 →
+        words_from at bytes.now ≡ signed_decimal z ∷ ws → ⊥) }
 {
     let Some((w, next)) = next_word(bytes, at) else {
         return None;
@@ -70,7 +72,8 @@ fn one(bytes: &[u8], at: usize, most: u128) -> Option<u128>
 // The triple that stands from the place on.
 fn triple_at(bytes: &[u8], at: usize) -> Option<Triple>
     ensures some { IfSome result (λ t. (t.k ≤ 255) × (t.h < 2 ^ 64) × (t.e < 2 ^ 64) × (words_from at bytes.now ≡ triple_words t)) }
-    ensures none { IfNone result ((t : AnyTriple) → t.k ≤ 255 → t.h < 2 ^ 64 → t.e < 2 ^ 64 → words_from at bytes.now ≡ triple_words t → ⊥) }
+    ensures none { IfNone result ((t : AnyTriple) → t.k ≤ 255 → t.h < 2 ^ 64 → t.e < 2 ^ 64 →
+        words_from at bytes.now ≡ triple_words t → ⊥) }
 {
     let Some((k, at_h)) = field(bytes, at, 255) else {
         return None;
@@ -90,8 +93,10 @@ fn triple_at(bytes: &[u8], at: usize) -> Option<Triple>
 
 // The two ends that stand from the place on.
 fn ends_at(bytes: &[u8], at: usize) -> Option<(i128, i128)>
-    ensures some { IfSome result (λ x. (unsigned_abs x.0 < 2 ^ 127) × (unsigned_abs x.1 < 2 ^ 127) × (words_from at bytes.now ≡ range_words x.0 x.1)) }
-    ensures none { IfNone result ((l u : ℤ) → unsigned_abs l < 2 ^ 127 → unsigned_abs u < 2 ^ 127 → words_from at bytes.now ≡ range_words l u → ⊥) }
+    ensures some { IfSome result (λ x. (unsigned_abs x.0 < 2 ^ 127) × (unsigned_abs x.1 < 2 ^ 127)
+        × (words_from at bytes.now ≡ range_words x.0 x.1)) }
+    ensures none { IfNone result ((l u : ℤ) → unsigned_abs l < 2 ^ 127 → unsigned_abs u < 2 ^ 127 →
+        words_from at bytes.now ≡ range_words l u → ⊥) }
 {
     let Some((low, at_high)) = signed_field(bytes, at) else {
         return None;

@@ -1,8 +1,9 @@
 //! Listings: the text of compiled stack programs with a certificate at each operation, both ways. docs/LISTING.md has the grammar.
 //!
-//! `ListText bytes version parts` says that the bytes are the text of this listing (`specs/Text.antt` has the lines, `specs/Listing.antt` the
-//! grammar). `read_listing` answers it both ways: the listing of the bytes, and `Form` with the line of their form fault exactly where they
-//! are none. `write_listing` gives the text of the listing of programs (`specs/Written.antt`). By `laws::one_listing` no bytes are two listings.
+//! `ListText bytes version parts` says that the bytes are the text of this listing (`specs/Text.antt` has the lines,
+//! `specs/Listing.antt` the grammar). `read_listing` answers it both ways: the listing of the bytes, and `Form` with the line of
+//! their form fault exactly where they are none. `write_listing` gives the text of the listing of programs
+//! (`specs/Written.antt`). By `laws::one_listing` no bytes are two listings.
 #![tactic(auto)]
 
 pub mod args;

@@ -23,7 +23,8 @@ pub enum ListStop {
 }
 
 fn version(first: &[u8]) -> Option<u8>
-    ensures { MatchOption result ((v : ℕ) → (v ≡ 1) ⊎ (v ≡ 2) → first.now ≡ first_line v → ⊥) (λ v. ((v ≡ 1) ⊎ (v ≡ 2)) × (first.now ≡ first_line v)) }
+    ensures { MatchOption result ((v : ℕ) → (v ≡ 1) ⊎ (v ≡ 2) → first.now ≡ first_line v → ⊥)
+        (λ v. ((v ≡ 1) ⊎ (v ≡ 2)) × (first.now ≡ first_line v)) }
 {
     if first == b"listing 1\n".as_slice() {
         Some(1)

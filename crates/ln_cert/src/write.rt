@@ -12,7 +12,8 @@ ghost use Rattle.ln_cert.specs.declared.part.Part.TheVariants as part;
 ghost use Rattle.ln_cert.specs.Listing.{ListText};
 ghost use Rattle.ln_cert.specs.Text.{Each};
 ghost use Rattle.ln_cert.specs.Writing.{Puts};
-ghost use Rattle.ln_cert.specs.Written.{ForBlock, ForFilter, InBlock, InFilter, Wrote, WroteListing, block_lines, blocks_lines, filter_line, filter_lines, listing_of, order_lines, program_lines, range_line};
+ghost use Rattle.ln_cert.specs.Written.{ForBlock, ForFilter, InBlock, InFilter, Wrote, WroteListing, block_lines, blocks_lines};
+ghost use Rattle.ln_cert.specs.Written.{filter_line, filter_lines, listing_of, order_lines, program_lines, range_line};
 
 use crate::put::{
     put, put_bare, put_block, put_filter_op, put_numbers, put_places, put_predicate, put_range_op,
@@ -166,7 +167,8 @@ fn put_order_line(out: &mut Vec<u8>, p: &Program, o: &Order) -> Result<(), NoMem
     requires order { IsOrderOf p.now.shape.sites (order_places o.now) }
     requires few { length p.now.blocks ≤ 65536 }
     requires list { IsList (length p.now.blocks) (list_of p.now (order_places o.now)) }
-    ensures { IfOk result (λ x. Wrote out.old.items out.new.items (part.Order (order_places o.now) (list_of p.now (order_places o.now)) ∷ [])) }
+    ensures { IfOk result (λ x. Wrote out.old.items out.new.items (part.Order (order_places o.now)
+        (list_of p.now (order_places o.now)) ∷ [])) }
 {
     put(out, b"order".as_slice())?;
     put_places(out, o.places())?;

@@ -42,7 +42,9 @@ fn wanted_value<C: Calls>(
     counts: &mut Counts,
 ) -> Result<i128, u32>
     requires { HasRoom s.old (C.slots calls.now) (C.letters calls.now) }
-    ensures meaning { (go : ℤ → m.Counts → Outcome) → wanted line kind (value_of (scene_of (C.given calls.now) inputs.now) (seen s.old) (expr_tree e.now) (tally counts.old)) go ≡ goes_with result (tally counts.new) go }
+    ensures meaning { (go : ℤ → m.Counts → Outcome) →
+        wanted line kind (value_of (scene_of (C.given calls.now) inputs.now) (seen s.old) (expr_tree e.now) (tally counts.old)) go
+        ≡ goes_with result (tally counts.new) go }
     ensures within { IfOk result (λ z. has kind z ≡ true) }
     ensures capacity { IsNoSmaller s.old s.new }
     ensures same { OnOk result (IsSame s.old s.new) }
@@ -70,10 +72,13 @@ fn declare<C: Calls>(
     counts: &mut Counts,
 ) -> Result<Flow, u32>
     requires { HasRoom s.old (1 + C.slots calls.now) (length name.now + C.letters calls.now) }
-    ensures meaning { (rest : Body) → runs (scene_of (C.given calls.now) inputs.now) (seen s.old) (Decl line kind name.now (expr_tree e.now) rest) (tally counts.old) ≡ goes_on result (tally counts.new) (λ k. runs (scene_of (C.given calls.now) inputs.now) (seen s.new) rest k) }
+    ensures meaning { (rest : Body) → runs (scene_of (C.given calls.now) inputs.now) (seen s.old)
+        (Decl line kind name.now (expr_tree e.now) rest) (tally counts.old) ≡ goes_on result (tally counts.new)
+        (λ k. runs (scene_of (C.given calls.now) inputs.now) (seen s.new) rest k) }
     ensures capacity { IsNoSmaller s.old s.new }
     ensures front { OnOk result (IsFront s.old s.new) }
-    ensures room { OnOk result ((length s.new.slots.items ≡ length s.old.slots.items + 1) × (length s.new.names.items ≡ length s.old.names.items + length name.now)) }
+    ensures room { OnOk result ((length s.new.slots.items ≡ length s.old.slots.items + 1)
+        × (length s.new.names.items ≡ length s.old.names.items + length name.now)) }
 {
     let start = s.names.len();
     open(s, kind, name);
@@ -103,7 +108,8 @@ pub fn run<C: Calls>(
     counts: &mut Counts,
 ) -> Result<Flow, u32>
     requires { HasRoom s.old (slots_in (body_tree stmts.now) + C.slots calls.now) (letters_in (body_tree stmts.now) + C.letters calls.now) }
-    ensures meaning { runs (scene_of (C.given calls.now) inputs.now) (seen s.old) (body_tree stmts.now) (tally counts.old) ≡ ended result (tally counts.new) }
+    ensures meaning { runs (scene_of (C.given calls.now) inputs.now) (seen s.old) (body_tree stmts.now)
+        (tally counts.old) ≡ ended result (tally counts.new) }
     ensures capacity { IsNoSmaller s.old s.new }
     ensures same { OnOk result (IsSame s.old s.new) }
 {
@@ -139,11 +145,16 @@ fn step<C: Calls>(
     s: &mut CScratch,
     counts: &mut Counts,
 ) -> Result<Flow, u32>
-    requires { (rest : Body) × HasRoom s.old (slots_in (stmt_front stmt.now rest) + C.slots calls.now) (letters_in (stmt_front stmt.now rest) + C.letters calls.now) }
-    ensures meaning { (rest : Body) → runs (scene_of (C.given calls.now) inputs.now) (seen s.old) (stmt_front stmt.now rest) (tally counts.old) ≡ goes_on result (tally counts.new) (λ k. runs (scene_of (C.given calls.now) inputs.now) (seen s.new) rest k) }
+    requires { (rest : Body) × HasRoom s.old (slots_in (stmt_front stmt.now rest) + C.slots calls.now)
+        (letters_in (stmt_front stmt.now rest) + C.letters calls.now) }
+    ensures meaning { (rest : Body) → runs (scene_of (C.given calls.now) inputs.now) (seen s.old) (stmt_front stmt.now rest)
+        (tally counts.old) ≡ goes_on result (tally counts.new)
+        (λ k. runs (scene_of (C.given calls.now) inputs.now) (seen s.new) rest k) }
     ensures capacity { IsNoSmaller s.old s.new }
     ensures front { OnOk result (IsFront s.old s.new) }
-    ensures room { OnOk result ((rest : Body) → (length s.new.slots.items + slots_in rest ≤ length s.old.slots.items + slots_in (stmt_front stmt.now rest)) × (length s.new.names.items + letters_in rest ≤ length s.old.names.items + letters_in (stmt_front stmt.now rest))) }
+    ensures room { OnOk result ((rest : Body) →
+        (length s.new.slots.items + slots_in rest ≤ length s.old.slots.items + slots_in (stmt_front stmt.now rest))
+        × (length s.new.names.items + letters_in rest ≤ length s.old.names.items + letters_in (stmt_front stmt.now rest))) }
 {
     match &stmt.form {
         CForm::Decl(kind, name, e) => declare(

@@ -66,7 +66,9 @@ fn call_one(
     counts: &mut Counts,
 ) -> Result<Number, Fault>
     requires { HasRoom s.old (slots_in (body_tree f.now.body.items)) (letters_in (body_tree f.now.body.items)) }
-    ensures meaning { answered result (tally counts.new) ≡ answer_of f.now.end (runs (record { values = values.now; index = None; call = λ g j. Fails None }) [] (body_tree f.now.body.items) (tally counts.old)) }
+    ensures meaning { answered result (tally counts.new)
+        ≡ answer_of f.now.end (runs (record { values = values.now; index = None; call = λ g j. Fails None }) []
+        (body_tree f.now.body.items) (tally counts.old)) }
     ensures capacity { IsNoSmaller s.old s.new }
     ensures same { OnOk result (IsSame s.old s.new) }
 {
@@ -132,9 +134,11 @@ fn call_two(
     values: &[i64],
     s: &mut CScratch,
 ) -> Result<CAnswer, CFault>
-    requires room { HasRoom s.old (slots_in (body_tree f.now.body.items) + most_slots (map fun_tree before.now)) (letters_in (body_tree f.now.body.items) + most_letters (map fun_tree before.now)) }
+    requires room { HasRoom s.old (slots_in (body_tree f.now.body.items) + most_slots (map fun_tree before.now))
+        (letters_in (body_tree f.now.body.items) + most_letters (map fun_tree before.now)) }
     requires empty { seen s.old ≡ [] }
-    ensures meaning { told result ≡ Some (called_at f.now.end (runs_behind (map fun_tree before.now) (body_tree f.now.body.items) index.now values.now)) }
+    ensures meaning { told result ≡ Some
+        (called_at f.now.end (runs_behind (map fun_tree before.now) (body_tree f.now.body.items) index.now values.now)) }
     ensures capacity { IsNoSmaller s.old s.new }
 {
     let inputs = Inputs {
@@ -183,8 +187,8 @@ fn call_in(
 }
 
 /// What a call of the file's function with two parameters and this name gives, on these indices and values: the meaning of the call, or the
-/// first statement at which it has none, or that there is no such function. It takes no memory; the scratch has to be made for the file, and
-/// stays so.
+/// first statement at which it has none, or that there is no such function. It takes no memory; the scratch has to be made for
+/// the file, and stays so.
 pub fn call(
     f: &CFile,
     name: &str,
@@ -195,7 +199,8 @@ pub fn call(
     requires { MadeFor (map fun_tree f.now.funs) s.old }
     ensures meaning { told result ≡ CCall (map fun_tree f.now.funs) name.now index.now values.now }
     ensures no_function { (result ≡ Err CFault.NoFunction) ↔ (CNamed (map fun_tree f.now.funs) name.now → ⊥) }
-    ensures undefined { (line : ℕ) → (result ≡ Err (CFault.Undefined line)) ↔ (CCall (map fun_tree f.now.funs) name.now index.now values.now ≡ Some (m.Undefined line)) }
+    ensures undefined { (line : ℕ) → (result ≡ Err (CFault.Undefined line))
+        ↔ (CCall (map fun_tree f.now.funs) name.now index.now values.now ≡ Some (m.Undefined line)) }
     ensures made { MadeFor (map fun_tree f.now.funs) s.new }
 {
     call_in(f.funs.as_slice(), name.as_bytes(), index, values, s)

@@ -62,7 +62,8 @@ pub fn value<C: Calls>(
     counts: &mut Counts,
 ) -> Result<Number, Fault>
     requires { HasRoom s.old (C.slots calls.now) (C.letters calls.now) }
-    ensures meaning { answered result (tally counts.new) ≡ value_of (scene_of (C.given calls.now) inputs.now) (seen s.old) (expr_tree e.now) (tally counts.old) }
+    ensures meaning { answered result (tally counts.new) ≡ value_of (scene_of (C.given calls.now) inputs.now) (seen s.old)
+        (expr_tree e.now) (tally counts.old) }
     ensures capacity { IsNoSmaller s.old s.new }
     ensures same { OnOk result (IsSame s.old s.new) }
 {
@@ -99,7 +100,8 @@ fn primary<C: Calls>(
     counts: &mut Counts,
 ) -> Result<Number, Fault>
     requires { HasRoom s.old (C.slots calls.now) (C.letters calls.now) }
-    ensures meaning { answered result (tally counts.new) ≡ value_of (scene_of (C.given calls.now) inputs.now) (seen s.old) (cast_tree kind of.now) (tally counts.old) }
+    ensures meaning { answered result (tally counts.new) ≡ value_of (scene_of (C.given calls.now) inputs.now) (seen s.old)
+        (cast_tree kind of.now) (tally counts.old) }
     ensures capacity { IsNoSmaller s.old s.new }
     ensures same { OnOk result (IsSame s.old s.new) }
 {

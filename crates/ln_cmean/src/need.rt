@@ -58,7 +58,8 @@ fn need_of(stmts: &[CStmt]) -> Result<Need, NoMemory>
 // What a statement needs, together with those behind it.
 #[cycle(need)]
 fn need_with(stmt: &CStmt, behind: Need) -> Result<Need, NoMemory>
-    ensures { IfOk result (λ n. (rest : Body) → behind ≡ record { slots = slots_in rest; letters = letters_in rest } → n ≡ record { slots = slots_in (stmt_front stmt.now rest); letters = letters_in (stmt_front stmt.now rest) }) }
+    ensures { IfOk result (λ n. (rest : Body) → behind ≡ record { slots = slots_in rest; letters = letters_in rest } →
+        n ≡ record { slots = slots_in (stmt_front stmt.now rest); letters = letters_in (stmt_front stmt.now rest) }) }
 {
     match &stmt.form {
         CForm::Decl(_, name, _) => {

@@ -1,6 +1,7 @@
 //! Numbers with their types, and the counts.
 ghost use Rattle.std.specs.Prelude.{◌≡◌, ◌+ℤ◌, ◌-ℤ◌, ◌*ℤ◌, neg_ℤ, int_div, int_lt, if◌then◌else◌, None};
-ghost use Rattle.ln_csyn.specs.Meaning.{has, is_same, given, operated, counted, entered, negated, is_zero, Gives, Fails, number_of_bool, same_number};
+ghost use Rattle.ln_csyn.specs.Meaning.{has, is_same, given, operated, counted, entered, negated};
+ghost use Rattle.ln_csyn.specs.Meaning.{is_zero, Gives, Fails, number_of_bool, same_number};
 ghost use Rattle.ln_csyn.specs.Meaning as m;
 ghost use Rattle.ln_cmean.specs.Answered.{answered, tally};
 

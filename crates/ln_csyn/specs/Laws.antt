@@ -21,7 +21,8 @@ BodyIsComplete =
 
 -- so are files
 abbrev pub FileIsComplete : Type 0
-FileIsComplete = (ts : List Token) (fs : List Fun) → IsFile ts fs → keeps fs ≡ true → funs_at (block_at 16 15 64) (suc (length ts)) ts ≡ Some fs
+FileIsComplete = (ts : List Token) (fs : List Fun) → IsFile ts fs → keeps fs ≡ true →
+    funs_at (block_at 16 15 64) (suc (length ts)) ts ≡ Some fs
 
 -- no tokens have two files
 abbrev pub OneFile : Type 0
@@ -33,7 +34,8 @@ ReadIsSound = (d : ℕ) (ts rest : List Token) (e : Expr) → expr_at d ts ≡ S
 
 -- so is a file
 abbrev pub FileIsSound : Type 0
-FileIsSound = (ts : List Token) (fs : List Fun) → funs_at (block_at 16 15 64) (suc (length ts)) ts ≡ Some fs → IsFile ts fs × (each_fun is_small fs ≡ true)
+FileIsSound = (ts : List Token) (fs : List Fun) → funs_at (block_at 16 15 64) (suc (length ts)) ts ≡ Some fs →
+    IsFile ts fs × (each_fun is_small fs ≡ true)
 
 -- of no place two tokens are the longest
 abbrev pub OneFirst : Type 0

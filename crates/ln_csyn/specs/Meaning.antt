@@ -1,6 +1,9 @@
 -- What a call of a function of a C file means: its sign with two counts, or the line at which it has no meaning. Sources: C99 for the
--- types, the order of declarations and `/`; the extension `__int128` of GCC and Clang; the subset's own narrower `int` and order of operands.
-use Rattle.std.specs.Prelude.{◌≡◌, ℕ, zero, ◌+◌, ◌^◌, ◌&&◌, Bool, true, false, not, List, [], ◌∷◌, ◌++◌, Option, Some, None, nat_eq, nat_lt, slice_get, if◌then◌else◌, ℤ, pos, negsuc, ◌+ℤ◌, ◌-ℤ◌, ◌*ℤ◌, neg_ℤ, int_lt, int_div, Any}
+-- types, the order of declarations and `/`; the extension `__int128` of GCC and Clang; the subset's own narrower `int` and order
+-- of operands.
+use Rattle.std.specs.Prelude.{◌≡◌, ℕ, zero, ◌+◌, ◌^◌, ◌&&◌, Bool, true, false, not, List, [], ◌∷◌, ◌++◌, Option, Some, None}
+use Rattle.std.specs.Prelude.{nat_eq, nat_lt, slice_get, if◌then◌else◌, ℤ, pos, negsuc, ◌+ℤ◌, ◌-ℤ◌, ◌*ℤ◌, neg_ℤ, int_lt, int_div}
+use Rattle.std.specs.Prelude.{Any}
 use Rattle.ln_csyn.specs.declared.tree.CType.{CType}
 use Rattle.ln_csyn.specs.declared.tree.CType.TheVariants.{Int, Int64, Int128}
 use Rattle.ln_csyn.specs.declared.tree.COp.{COp}
@@ -132,7 +135,8 @@ abbrev pub find : List Seen → List ℕ → Counts → Answer
 find [] x k = Fails None
 find (d ∷ ds) x k = if same_name d.name x then number_in d.number d.kind k else find ds x k
 
--- What a body can speak of besides its declarations: the values, the indices where the function has `x`, and the functions that it can call.
+-- What a body can speak of besides its declarations: the values, the indices where the function has `x`, and the functions that
+-- it can call.
 pub record Scene : Type 0 where
   pub values : List ℤ
   pub index : Option (List ℤ)
@@ -143,8 +147,8 @@ abbrev pub index_at : Option (List ℤ) → ℕ → Option ℤ
 index_at None i = None
 index_at (Some is) i = slice_get is i
 
--- The value of an expression, with the declarations that are visible, the innermost first. Of two operands the left is evaluated first, then
--- the right, and then their types are compared.
+-- The value of an expression, with the declarations that are visible, the innermost first. Of two operands the left is evaluated
+-- first, then the right, and then their types are compared.
 abbrev pub value_of : Scene → List Seen → Expr → Counts → Answer
 value_of s ds (Number t n) k = given t (pos n) k
 value_of s ds (Name t x) k = cast t (find ds x k)

@@ -59,7 +59,8 @@ abbrev pub minus_rest : ReadExpr → ReadExpr
 minus_rest go ts = go_on (go ts) (λ a. go_on (eat (codes ")") a.1) (λ r. Some (Minus a.0, r)))
 
 abbrev pub two_rest : ReadExpr → ReadExpr
-two_rest go ts = go_on (go ts) (λ a. go_on (op_at a.1) (λ o. go_on (go o.1) (λ b. go_on (eat (codes ")") b.1) (λ r. Some (Two o.0 a.0 b.0, r)))))
+two_rest go ts = go_on (go ts)
+    (λ a. go_on (op_at a.1) (λ o. go_on (go o.1) (λ b. go_on (eat (codes ")") b.1) (λ r. Some (Two o.0 a.0 b.0, r)))))
 
 -- `v[N]` or `x[N]`
 abbrev pub place_of : CType → List ℕ → ℕ → Option Expr
@@ -109,10 +110,12 @@ line_at [] = 0
 line_at (t ∷ ts) = t.line
 
 abbrev pub decl_rest : ReadExpr → ℕ → CType → ReadStmt
-decl_rest go l t ts = go_on (name_at ts) (λ x. go_on (eat (codes "=") x.1) (λ us. go_on (go us) (λ e. go_on (eat (codes ";") e.1) (λ r. Some (Decl l t x.0 e.0, r)))))
+decl_rest go l t ts = go_on (name_at ts)
+    (λ x. go_on (eat (codes "=") x.1) (λ us. go_on (go us) (λ e. go_on (eat (codes ";") e.1) (λ r. Some (Decl l t x.0 e.0, r)))))
 
 abbrev pub if_rest : ReadExpr → ReadBlock → ℕ → ReadStmt
-if_rest go block l ts = go_on (eat (codes "(") ts) (λ us. go_on (go us) (λ e. go_on (eat (codes ")") e.1) (λ ws. go_on (block ws) (λ b. Some (If l e.0 b.0, b.2)))))
+if_rest go block l ts = go_on (eat (codes "(") ts)
+    (λ us. go_on (go us) (λ e. go_on (eat (codes ")") e.1) (λ ws. go_on (block ws) (λ b. Some (If l e.0 b.0, b.2)))))
 
 abbrev pub return_rest : ReadExpr → ℕ → ReadStmt
 return_rest go l ts = go_on (go ts) (λ e. go_on (eat (codes ";") e.1) (λ r. Some (Return l e.0, r)))
@@ -131,7 +134,8 @@ stmt_at o i block ts =
 -- statements up to a closing brace, fewer than n of them
 abbrev pub stmts_at : ReadStmt → ℕ → List Token → Option (Body × List Token)
 stmts_at stmt zero ts = None
-stmts_at stmt (suc n) ts = choose (eat (codes "}") ts) (λ r. Some (End, ts)) (go_on (stmt ts) (λ s. go_on (stmts_at stmt n s.1) (λ b. Some (s.0 b.0, b.1))))
+stmts_at stmt (suc n) ts = choose (eat (codes "}") ts) (λ r. Some (End, ts))
+    (go_on (stmt ts) (λ s. go_on (stmts_at stmt n s.1) (λ b. Some (s.0 b.0, b.1))))
 
 -- a pair of braces, with at most this many round a place
 abbrev pub block_at : ℕ → ℕ → ℕ → ReadBlock
@@ -147,7 +151,8 @@ abbrev pub pointer_at : List Token → Option (List Token)
 pointer_at ts = go_on (eat (codes "const") ts) (λ us. go_on (eat (codes "int64_t") us) (λ ws. eat (codes "*") ws))
 
 abbrev pub both_rest : List Token → Option (Bool × List Token)
-both_rest ts = go_on (eat (codes "x") ts) (λ us. go_on (eat (codes ",") us) (λ ws. go_on (pointer_at ws) (λ vs. go_on (eat (codes "v") vs) (λ r. Some (true, r)))))
+both_rest ts = go_on (eat (codes "x") ts)
+    (λ us. go_on (eat (codes ",") us) (λ ws. go_on (pointer_at ws) (λ vs. go_on (eat (codes "v") vs) (λ r. Some (true, r)))))
 
 abbrev pub parameters_at : List Token → Option (Bool × List Token)
 parameters_at ts = go_on (pointer_at ts) (λ us. choose (eat (codes "v") us) (λ r. Some (false, r)) (both_rest us))

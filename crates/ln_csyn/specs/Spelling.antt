@@ -49,7 +49,8 @@ spell_body End r = r
 spell_body (Decl l t x e b) r = lexeme (type_text t) ∷ lexeme x ∷ lexeme (codes "=") ∷ spell e (lexeme (codes ";") ∷ spell_body b r)
 spell_body (Group l a b) r = lexeme (codes "{") ∷ spell_body a (lexeme (codes "}") ∷ spell_body b r)
 spell_body (If l e a b) r =
-    lexeme (codes "if") ∷ lexeme (codes "(") ∷ spell e (lexeme (codes ")") ∷ lexeme (codes "{") ∷ spell_body a (lexeme (codes "}") ∷ spell_body b r))
+    lexeme (codes "if") ∷ lexeme (codes "(")
+    ∷ spell e (lexeme (codes ")") ∷ lexeme (codes "{") ∷ spell_body a (lexeme (codes "}") ∷ spell_body b r))
 spell_body (Return l e b) r = lexeme (codes "return") ∷ spell e (lexeme (codes ";") ∷ spell_body b r)
 
 abbrev pub spell_pointer : List ℕ → List Token → List Token
@@ -65,7 +66,8 @@ spell_own true r = lexeme (codes "static") ∷ r
 
 abbrev pub spell_fun : Fun → List Token → List Token
 spell_fun f r =
-    spell_own f.own (lexeme (codes "int") ∷ lexeme f.name ∷ lexeme (codes "(") ∷ spell_parameters f.indexed (lexeme (codes ")") ∷ lexeme (codes "{") ∷ spell_body f.body (lexeme (codes "}") ∷ r)))
+    spell_own f.own (lexeme (codes "int") ∷ lexeme f.name ∷ lexeme (codes "(")
+    ∷ spell_parameters f.indexed (lexeme (codes ")") ∷ lexeme (codes "{") ∷ spell_body f.body (lexeme (codes "}") ∷ r)))
 
 abbrev pub spell_file : List Fun → List Token
 spell_file [] = []

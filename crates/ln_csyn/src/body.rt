@@ -77,8 +77,10 @@ fn if_rest<'t, 'a>(
     braces: u32,
 ) -> Result<(CStmt, &'t [Token<'a>]), CStop>
     requires { depths.outer ≡ suc depths.inner }
-    ensures ok { IfOk result (λ y. if_rest (expr_at depths.inner) (block_at depths.outer depths.inner braces) line (tokens_of tokens.now) ≡ Some (stmt_front y.0, tokens_of y.1.now)) }
-    ensures err { IfErr result (λ e. e ≡ NotSubset → if_rest (expr_at depths.inner) (block_at depths.outer depths.inner braces) line (tokens_of tokens.now) ≡ None) }
+    ensures ok { IfOk result (λ y. if_rest (expr_at depths.inner)
+        (block_at depths.outer depths.inner braces) line (tokens_of tokens.now) ≡ Some (stmt_front y.0, tokens_of y.1.now)) }
+    ensures err { IfErr result (λ e. e ≡ NotSubset →
+        if_rest (expr_at depths.inner) (block_at depths.outer depths.inner braces) line (tokens_of tokens.now) ≡ None) }
 {
     let Some(rest) = eat(tokens, b"(".as_slice()) else {
         return Err(CStop::NotSubset);
@@ -101,8 +103,10 @@ fn group_rest<'t, 'a>(
     braces: u32,
 ) -> Result<(CStmt, &'t [Token<'a>]), CStop>
     requires { depths.outer ≡ suc depths.inner }
-    ensures ok { IfOk result (λ y. group_rest (block_at depths.outer depths.inner braces) line (tokens_of tokens.now) ≡ Some (stmt_front y.0, tokens_of y.1.now)) }
-    ensures err { IfErr result (λ e. e ≡ NotSubset → group_rest (block_at depths.outer depths.inner braces) line (tokens_of tokens.now) ≡ None) }
+    ensures ok { IfOk result (λ y. group_rest (block_at depths.outer depths.inner braces) line (tokens_of tokens.now)
+        ≡ Some (stmt_front y.0, tokens_of y.1.now)) }
+    ensures err { IfErr result (λ e. e ≡ NotSubset →
+        group_rest (block_at depths.outer depths.inner braces) line (tokens_of tokens.now) ≡ None) }
 {
     let (body, _, rest) = block(alloc, tokens, depths, braces)?;
     let form = CForm::Group(body);
@@ -117,8 +121,10 @@ fn stmt<'t, 'a>(
     braces: u32,
 ) -> Result<(CStmt, &'t [Token<'a>]), CStop>
     requires { depths.outer ≡ suc depths.inner }
-    ensures ok { IfOk result (λ y. stmt_at depths.outer depths.inner (block_at depths.outer depths.inner braces) (tokens_of tokens.now) ≡ Some (stmt_front y.0, tokens_of y.1.now)) }
-    ensures err { IfErr result (λ e. e ≡ NotSubset → stmt_at depths.outer depths.inner (block_at depths.outer depths.inner braces) (tokens_of tokens.now) ≡ None) }
+    ensures ok { IfOk result (λ y. stmt_at depths.outer depths.inner (block_at depths.outer depths.inner braces)
+        (tokens_of tokens.now) ≡ Some (stmt_front y.0, tokens_of y.1.now)) }
+    ensures err { IfErr result (λ e. e ≡ NotSubset → stmt_at depths.outer depths.inner (block_at depths.outer depths.inner braces)
+        (tokens_of tokens.now) ≡ None) }
 {
     let line = line_at(tokens);
     if let Some((kind, rest)) = type_at(tokens) {
@@ -141,8 +147,11 @@ fn stmts<'t, 'a>(
     braces: u32,
 ) -> Result<(Vec<CStmt>, &'t [Token<'a>]), CStop>
     requires { depths.outer ≡ suc depths.inner }
-    ensures ok { IfOk result (λ y. stmts_at (stmt_at depths.outer depths.inner (block_at depths.outer depths.inner braces)) (suc (length (tokens_of tokens.now))) (tokens_of tokens.now) ≡ Some (body_tree y.0.items, tokens_of y.1.now)) }
-    ensures err { IfErr result (λ e. e ≡ NotSubset → stmts_at (stmt_at depths.outer depths.inner (block_at depths.outer depths.inner braces)) (suc (length (tokens_of tokens.now))) (tokens_of tokens.now) ≡ None) }
+    ensures ok { IfOk result (λ y. stmts_at (stmt_at depths.outer depths.inner (block_at depths.outer depths.inner braces))
+        (suc (length (tokens_of tokens.now))) (tokens_of tokens.now) ≡ Some (body_tree y.0.items, tokens_of y.1.now)) }
+    ensures err { IfErr result (λ e. e ≡ NotSubset →
+        stmts_at (stmt_at depths.outer depths.inner (block_at depths.outer depths.inner braces))
+        (suc (length (tokens_of tokens.now))) (tokens_of tokens.now) ≡ None) }
 {
     let mut body = Vec::new(alloc);
     let mut at = 0usize;
@@ -166,7 +175,8 @@ pub fn block<'t, 'a>(
     braces: u32,
 ) -> Result<(Vec<CStmt>, u32, &'t [Token<'a>]), CStop>
     requires { depths.outer ≡ suc depths.inner }
-    ensures ok { IfOk result (λ y. block_at depths.outer depths.inner braces (tokens_of tokens.now) ≡ Some (body_tree y.0.items, y.1, tokens_of y.2.now)) }
+    ensures ok { IfOk result (λ y. block_at depths.outer depths.inner braces (tokens_of tokens.now)
+        ≡ Some (body_tree y.0.items, y.1, tokens_of y.2.now)) }
     ensures err { IfErr result (λ e. e ≡ NotSubset → block_at depths.outer depths.inner braces (tokens_of tokens.now) ≡ None) }
 {
     if braces == 0 {

@@ -3,7 +3,8 @@ ghost use Rattle.std.specs.Prelude.{◌≡◌, None, Some, IfOk, IfErr, Option, 
 ghost use Rattle.ln_csyn.specs.Seen.{tokens_of};
 ghost use Rattle.ln_csyn.specs.View.{expr_tree};
 ghost use Rattle.ln_csyn.specs.declared.stop.CStop.TheVariants.{NotSubset, NoMemory as OutOfMemory};
-ghost use Rattle.ln_csyn.specs.Reading.{eat, cast_at, minus_rest, two_rest, place_of, place_rest, call_rest, named, primary, cast_rest, inside, expr_at};
+ghost use Rattle.ln_csyn.specs.Reading.{eat, cast_at, minus_rest, two_rest, place_of, place_rest};
+ghost use Rattle.ln_csyn.specs.Reading.{call_rest, named, primary, cast_rest, inside, expr_at};
 
 use crate::stop::CStop;
 use crate::token::{Token, eat, name_at, number_at, op_at, type_at};

@@ -62,8 +62,10 @@ fn head_at<'t, 'a>(
     braces: u32,
 ) -> Result<(CFun, &'t [Token<'a>]), CStop>
     requires { depths.outer ≡ suc depths.inner }
-    ensures ok { IfOk result (λ y. head_at (block_at depths.outer depths.inner braces) own (tokens_of tokens.now) ≡ Some (fun_tree y.0, tokens_of y.1.now)) }
-    ensures err { IfErr result (λ e. e ≡ NotSubset → head_at (block_at depths.outer depths.inner braces) own (tokens_of tokens.now) ≡ None) }
+    ensures ok { IfOk result (λ y. head_at (block_at depths.outer depths.inner braces) own (tokens_of tokens.now)
+        ≡ Some (fun_tree y.0, tokens_of y.1.now)) }
+    ensures err { IfErr result (λ e. e ≡ NotSubset →
+        head_at (block_at depths.outer depths.inner braces) own (tokens_of tokens.now) ≡ None) }
 {
     let Some(rest) = eat(tokens, b"int".as_slice()) else {
         return Err(CStop::NotSubset);
@@ -99,7 +101,8 @@ fn fun_at<'t, 'a>(
     braces: u32,
 ) -> Result<(CFun, &'t [Token<'a>]), CStop>
     requires { depths.outer ≡ suc depths.inner }
-    ensures ok { IfOk result (λ y. fun_at (block_at depths.outer depths.inner braces) (tokens_of tokens.now) ≡ Some (fun_tree y.0, tokens_of y.1.now)) }
+    ensures ok { IfOk result (λ y. fun_at (block_at depths.outer depths.inner braces) (tokens_of tokens.now)
+        ≡ Some (fun_tree y.0, tokens_of y.1.now)) }
     ensures err { IfErr result (λ e. e ≡ NotSubset → fun_at (block_at depths.outer depths.inner braces) (tokens_of tokens.now) ≡ None) }
 {
     if let Some(rest) = eat(tokens, b"static".as_slice()) {
@@ -117,8 +120,10 @@ pub fn funs<'t, 'a>(
 ) -> Result<Vec<CFun>, CStop>
     requires depths { depths.outer ≡ suc depths.inner }
     requires braces { 0 < braces }
-    ensures ok { IfOk result (λ y. funs_at (block_at depths.outer depths.inner braces) (suc (length (tokens_of tokens.now))) (tokens_of tokens.now) ≡ Some (map fun_tree y.items)) }
-    ensures err { IfErr result (λ e. e ≡ NotSubset → funs_at (block_at depths.outer depths.inner braces) (suc (length (tokens_of tokens.now))) (tokens_of tokens.now) ≡ None) }
+    ensures ok { IfOk result (λ y. funs_at (block_at depths.outer depths.inner braces) (suc (length (tokens_of tokens.now)))
+        (tokens_of tokens.now) ≡ Some (map fun_tree y.items)) }
+    ensures err { IfErr result (λ e. e ≡ NotSubset → funs_at (block_at depths.outer depths.inner braces)
+        (suc (length (tokens_of tokens.now))) (tokens_of tokens.now) ≡ None) }
 {
     let mut funs = Vec::new(alloc);
     let mut at = 0usize;

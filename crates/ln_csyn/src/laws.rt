@@ -1,5 +1,7 @@
 //! Laws of the text: contracts of functions with nothing to do.
-ghost use Rattle.ln_csyn.specs.Laws.{BodyIsComplete, FileIsComplete, FileIsSound, FlatIsSame, KeepsIs, OneFile, OneFirst, OneLexed, OneText, ReadBack, ReadIsComplete, ReadIsSound, SpelledIsDerived, TextIsKept, WrittenIsFile};
+ghost use Rattle.ln_csyn.specs.Laws.{BodyIsComplete, FileIsComplete, FileIsSound, FlatIsSame, KeepsIs};
+ghost use Rattle.ln_csyn.specs.Laws.{OneFile, OneFirst, OneLexed, OneText, ReadBack, ReadIsComplete};
+ghost use Rattle.ln_csyn.specs.Laws.{ReadIsSound, SpelledIsDerived, TextIsKept, WrittenIsFile};
 
 /// No bytes have two files: of each place one token is the longest, no bytes are two lists of tokens, and no tokens are two files.
 pub fn one_text()

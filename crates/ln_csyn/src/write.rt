@@ -2,7 +2,8 @@
 ghost use Rattle.std.specs.Prelude.{◌≡◌, true, false, ◌++◌, ◌∷◌, IfOk, List, codes, map};
 ghost use Rattle.ln_csyn.specs.View.{expr_tree, stmt_front, body_tree, fun_tree};
 ghost use Rattle.ln_csyn.specs.Tree.{Body, Fun, Two, Minus, Number, Name, Value, Index, Call, Inner};
-ghost use Rattle.ln_csyn.specs.Spelling.{Puts, lexeme, type_text, op_text, cast_before, place_before, spell, Goes, spell_body, spell_parameters, spell_own, spell_fun, spell_file, written, flat_file};
+ghost use Rattle.ln_csyn.specs.Spelling.{Puts, lexeme, type_text, op_text, cast_before, place_before, spell, Goes, spell_body};
+ghost use Rattle.ln_csyn.specs.Spelling.{spell_parameters, spell_own, spell_fun, spell_file, written, flat_file};
 ghost use Rattle.ln_csyn.specs.Text.{CText};
 ghost use Rattle.ln_csyn.specs.Lines.{SameUpToLines};
 
@@ -94,7 +95,8 @@ fn put_both(out: &mut Vec<u8>) -> Result<(), NoMemory>
 }
 
 fn put_pointer(out: &mut Vec<u8>) -> Result<(), NoMemory>
-    ensures { IfOk result (λ x. Puts out.old.items out.new.items (λ r. lexeme (codes "const") ∷ lexeme (codes "int64_t") ∷ lexeme (codes "*") ∷ r)) }
+    ensures { IfOk result (λ x. Puts out.old.items out.new.items (λ r. lexeme (codes "const") ∷ lexeme (codes "int64_t")
+        ∷ lexeme (codes "*") ∷ r)) }
 {
     word_const(out)?;
     put_type(out, CType::Int64)?;
@@ -103,14 +105,16 @@ fn put_pointer(out: &mut Vec<u8>) -> Result<(), NoMemory>
 }
 
 fn put_fun_body(out: &mut Vec<u8>, f: &CFun) -> Result<(), NoMemory>
-    ensures { IfOk result (λ x. Puts out.old.items out.new.items (λ r. lexeme (codes "{") ∷ spell_body (body_tree f.now.body.items) (lexeme (codes "}") ∷ r))) }
+    ensures { IfOk result (λ x. Puts out.old.items out.new.items
+        (λ r. lexeme (codes "{") ∷ spell_body (body_tree f.now.body.items) (lexeme (codes "}") ∷ r))) }
 {
     put_block(out, f.body.as_slice())
 }
 
 #[cycle(body)]
 fn put_block(out: &mut Vec<u8>, body: &[CStmt]) -> Result<(), NoMemory>
-    ensures { IfOk result (λ x. Puts out.old.items out.new.items (λ r. lexeme (codes "{") ∷ spell_body (body_tree body.now) (lexeme (codes "}") ∷ r))) }
+    ensures { IfOk result (λ x. Puts out.old.items out.new.items (λ r. lexeme (codes "{") ∷ spell_body (body_tree body.now)
+        (lexeme (codes "}") ∷ r))) }
 {
     brace_left(out)?;
     put_body(out, body)?;
@@ -155,7 +159,8 @@ fn put_stmt(out: &mut Vec<u8>, s: &CStmt) -> Result<(), NoMemory>
 }
 
 fn put_decl(out: &mut Vec<u8>, kind: CType, name: &[u8], e: &CExpr) -> Result<(), NoMemory>
-    ensures { IfOk result (λ x. Puts out.old.items out.new.items (λ r. lexeme (type_text kind) ∷ lexeme name.now ∷ lexeme (codes "=") ∷ spell (expr_tree e.now) (lexeme (codes ";") ∷ r))) }
+    ensures { IfOk result (λ x. Puts out.old.items out.new.items (λ r. lexeme (type_text kind) ∷ lexeme name.now
+        ∷ lexeme (codes "=") ∷ spell (expr_tree e.now) (lexeme (codes ";") ∷ r))) }
 {
     put_type(out, kind)?;
     put(out, name)?;
@@ -166,7 +171,8 @@ fn put_decl(out: &mut Vec<u8>, kind: CType, name: &[u8], e: &CExpr) -> Result<()
 }
 
 fn put_test(out: &mut Vec<u8>, e: &CExpr) -> Result<(), NoMemory>
-    ensures { IfOk result (λ x. Puts out.old.items out.new.items (λ r. lexeme (codes "if") ∷ lexeme (codes "(") ∷ spell (expr_tree e.now) (lexeme (codes ")") ∷ r))) }
+    ensures { IfOk result (λ x. Puts out.old.items out.new.items (λ r. lexeme (codes "if") ∷ lexeme (codes "(")
+        ∷ spell (expr_tree e.now) (lexeme (codes ")") ∷ r))) }
 {
     word_if(out)?;
     left(out)?;
@@ -176,7 +182,8 @@ fn put_test(out: &mut Vec<u8>, e: &CExpr) -> Result<(), NoMemory>
 }
 
 fn put_return(out: &mut Vec<u8>, e: &CExpr) -> Result<(), NoMemory>
-    ensures { IfOk result (λ x. Puts out.old.items out.new.items (λ r. lexeme (codes "return") ∷ spell (expr_tree e.now) (lexeme (codes ";") ∷ r))) }
+    ensures { IfOk result (λ x. Puts out.old.items out.new.items (λ r. lexeme (codes "return") ∷ spell (expr_tree e.now)
+        (lexeme (codes ";") ∷ r))) }
 {
     word_return(out)?;
     put_expr(out, e)?;
@@ -209,7 +216,8 @@ pub fn put_expr(out: &mut Vec<u8>, e: &CExpr) -> Result<(), NoMemory>
 // The right operand and what stands round it.
 #[cycle(put)]
 fn put_right(out: &mut Vec<u8>, op: COp, b: &CExpr) -> Result<(), NoMemory>
-    ensures { IfOk result (λ x. Puts out.old.items out.new.items (λ r. lexeme (op_text op) ∷ spell (expr_tree b.now) (lexeme (codes ")") ∷ r))) }
+    ensures { IfOk result (λ x. Puts out.old.items out.new.items (λ r. lexeme (op_text op) ∷ spell (expr_tree b.now)
+        (lexeme (codes ")") ∷ r))) }
 {
     put_op(out, op)?;
     put_expr(out, b)?;

@@ -90,7 +90,8 @@ impl<O: Write, E: Write> Console for StdConsole<O, E> {
         ensures cause { OnErr result (Rose self.old.faults self.new.faults) }
         ensures step { OnErr result (self.new.faults ≡ counted self.old.faults) }
         ensures fine { OnOk result (self.new.faults ≡ self.old.faults) }
-        ensures goes { Goes result bytes.now port (O.contents self.old.out) (O.contents self.new.out) (E.contents self.old.err) (E.contents self.new.err) }
+        ensures goes { Goes result bytes.now port (O.contents self.old.out) (O.contents self.new.out) (E.contents self.old.err)
+            (E.contents self.new.err) }
     {
         let put = match port {
             Port::Out => put_on(&mut self.out, bytes),

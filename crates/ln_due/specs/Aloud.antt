@@ -1,4 +1,5 @@
--- The machine's verdict read aloud: where the filter decides its sign; else that of the first block of the row's list whose value isn't 0, with the calls and the wide operations up to it.
+-- The machine's verdict read aloud: where the filter decides its sign; else that of the first block of the row's list whose value
+-- isn't 0, with the calls and the wide operations up to it.
 use Rattle.std.specs.Prelude.{◌≡◌, ◌≢◌, ◌↔◌, ◌⊎◌, ℕ, ◌+◌, ◌<◌, ◌≤◌, ℤ, pos, unsigned_abs, List, length, take, Option, Some, None, slice_get}
 use Rattle.ln_base.specs.declared.sign.Sign.TheVariants.{Zero}
 use Rattle.ln_tree.specs.Row.{Row}
@@ -51,7 +52,8 @@ pub record FilterDecides (left : Held) (v : Verdict) : Type 0 where
   pub calls : v.calls ≡ 1
   pub wide : v.wide ≡ 0
 
--- filter and blocks tell this verdict: without a filter the blocks do; with one it decides, or what it leaves isn't above its error and the blocks do, behind its call
+-- filter and blocks tell this verdict: without a filter the blocks do; with one it decides, or what it leaves isn't above its
+-- error and the blocks do, behind its call
 abbrev pub Tell : Option FilterCode → List ℤ → List Code → List ℕ → Verdict → Type 0
 Tell None zs blocks list v = BlocksTell zs blocks list 0 v v.by
 Tell (Some f) zs blocks list v =

@@ -28,7 +28,8 @@ IsPositionIn before (b ∷ list) a place =
     (before b a × ((k : ℕ) × IsPositionIn before list a k × (place ≡ k + 1)))
     ⊎ ((before b a → ⊥) × IsPositionIn before list a place)
 
--- what decides by the stages of this list, and how many blocks are entered for it: the stage at the position of the first vector, and the blocks up to it; where there is no first vector nothing, and all blocks of the list
+-- what decides by the stages of this list, and how many blocks are entered for it: the stage at the position of the first vector,
+-- and the blocks up to it; where there is no first vector nothing, and all blocks of the list
 abbrev pub IsDecidedBy : (List ℕ → List ℕ → Type 0) → ℕ → Sites → (ℕ → ℤ) → Tree → List (List ℕ) → By → ℕ → Type 0
 IsDecidedBy before n sites x e list Filter blocks = ⊥
 IsDecidedBy before n sites x e list (Stage place) blocks =
@@ -40,7 +41,8 @@ abbrev pub DecidesRow : Rank → List VarInfo → Tree → Row → List (List �
 DecidesRow rank vars e row list by blocks =
     IsDecidedBy (Before rank (row_sites vars row.index)) (length vars) (row_sites vars row.index) (values row.values) e list by blocks
 
--- what the stages owe a row of these variables and this expression, behind so many calls: the perturbed sign, by the row's own indices; what decides in the stage list of the row's order; and the calls, one for each block that is entered
+-- what the stages owe a row of these variables and this expression, behind so many calls: the perturbed sign, by the row's own
+-- indices; what decides in the stage list of the row's order; and the calls, one for each block that is entered
 pub record IsOwedByStages (rank : Rank) (vars : List VarInfo) (e : Tree) (row : Row) (entered : ℕ) (v : Verdict) : Type 0 where
   pub sign : RowSign rank vars e row (sign_number v.sign)
   pub list : List (List ℕ)
@@ -62,7 +64,8 @@ pub data Filtering : Type 0 where
   Decided : Filtering
   Undecided : Filtering
 
--- the verdict that a row is owed in this order of infinitesimals, where the filter does this: the filter's, or that of the stages, behind the filter's call if there is one
+-- the verdict that a row is owed in this order of infinitesimals, where the filter does this: the filter's, or that of the
+-- stages, behind the filter's call if there is one
 abbrev pub Due : Rank → Filtering → List VarInfo → Tree → Row → Verdict → Type 0
 Due rank NoFilter vars e row v = IsOwedByStages rank vars e row 0 v
 Due rank Decided vars e row v = IsOwedByFilter rank vars e row v

@@ -1,5 +1,6 @@
 -- What a part that carries an expression answers on rows in range, in either order of infinitesimals: the laws.
-use Rattle.std.specs.Prelude.{◌≡◌, ◌≢◌, ℕ, ◌<◌, ◌≤◌, ◌⊎◌, All, Contains, ℤ, pos, unsigned_abs, List, [], length, Some, None, slice_get, slice_index, slice_index_or}
+use Rattle.std.specs.Prelude.{◌≡◌, ◌≢◌, ℕ, ◌<◌, ◌≤◌, ◌⊎◌, All, Contains, ℤ, pos, unsigned_abs, List}
+use Rattle.std.specs.Prelude.{[], length, Some, None, slice_get, slice_index, slice_index_or}
 use Rattle.ln_base.specs.declared.sign.Sign.TheVariants.{Zero}
 use Rattle.ln_algebra.specs.Orders.{Rank}
 use Rattle.ln_algebra.specs.Sign.{perturbed}
@@ -33,7 +34,9 @@ pub record AreCoefficients (rank : Rank) (p : Part) (e : Tree) (places list : Li
   pub stages : List (List ℕ)
   pub are_stages : OrderStages rank p.shape.vars e places stages
   pub size : length stages ≡ length list
-  pub coefficients : (k : ℕ) → k < length list → HasValue p (slice_index list k) row.values (perturbed (sites_of p.shape.vars places) (values row.values) e (slice_index_or stages k []))
+  pub coefficients : (k : ℕ) → k < length list →
+      HasValue p (slice_index list k) row.values (perturbed (sites_of p.shape.vars places)
+      (values row.values) e (slice_index_or stages k []))
 
 -- the stages are the perturbed coefficients: in the list of each order, on each row in range, each block has the coefficient at its stage
 abbrev pub StagesAreCoefficients : Type 0
@@ -41,7 +44,8 @@ StagesAreCoefficients =
     (rank : Rank) (p : Part) (e : Tree) (f : List Term) (places list : List ℕ) (row : Row) → Runs p → Carries rank p e f →
     IsListOf p places list → InRange p.shape.sites p.shape.vars row → AreCoefficients rank p e places list row
 
--- the cut loses nothing: the first vector of a row in range is in the list of the row's order; or there is none, and the coefficient at each member is 0
+-- the cut loses nothing: the first vector of a row in range is in the list of the row's order; or there is none, and the
+-- coefficient at each member is 0
 abbrev pub CutLosesNothing : Type 0
 CutLosesNothing =
     (rank : Rank) (p : Part) (e : Tree) (f : List Term) (places list : List ℕ) (row : Row) → Carries rank p e f →
@@ -65,8 +69,10 @@ BlocksRun =
 -- what the part's filter does on a row: it decides where what it leaves is above the error of the operation that pushed it
 abbrev pub FilterDoes : Part → List ℤ → Filtering → Type 0
 FilterDoes p zs NoFilter = p.filter ≡ None
-FilterDoes p zs Decided = (c : FilterCode) × (left : Held) × (p.filter ≡ Some c) × (filter_value zs c ≡ Some left) × (left.error < unsigned_abs left.number)
-FilterDoes p zs Undecided = (c : FilterCode) × (left : Held) × (p.filter ≡ Some c) × (filter_value zs c ≡ Some left) × (unsigned_abs left.number ≤ left.error)
+FilterDoes p zs Decided = (c : FilterCode) × (left : Held) × (p.filter ≡ Some c) × (filter_value zs c ≡ Some left)
+    × (left.error < unsigned_abs left.number)
+FilterDoes p zs Undecided = (c : FilterCode) × (left : Held) × (p.filter ≡ Some c) × (filter_value zs c ≡ Some left)
+    × (unsigned_abs left.number ≤ left.error)
 
 -- the machine's verdict on a row in range is the one that the row is owed
 abbrev pub VerdictsAreDue : Type 0
@@ -84,7 +90,8 @@ SignsArePerturbed =
 -- without params no row in range is owed the sign 0, as long as the normal polynomial has any monomial
 abbrev pub WithoutParamsNeverZero : Type 0
 WithoutParamsNeverZero =
-    (rank : Rank) (s : Shape) (e : Tree) (m : List ℕ) (row : Row) (does : Filtering) (v : Verdict) → All (λ i. i.site ≢ None) s.vars → InputsBelow (length s.vars) e →
+    (rank : Rank) (s : Shape) (e : Tree) (m : List ℕ) (row : Row) (does : Filtering) (v : Verdict) →
+    All (λ i. i.site ≢ None) s.vars → InputsBelow (length s.vars) e →
     IsMonomial (length s.vars) e m → InRange s.sites s.vars row → Due rank does s.vars e row v → v.sign ≢ Zero
 
 -- two verdicts agree, but for the wide operations, which no row is owed

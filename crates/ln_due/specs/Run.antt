@@ -38,7 +38,8 @@ DueIsPerturbed =
 -- without params it isn't 0
 abbrev pub RunIsNeverZero : Type 0
 RunIsNeverZero =
-    (s : Shape) (e : Tree) (m : List ℕ) (row : Row) (does : Filtering) (v : Verdict) → All (λ i. i.site ≢ None) s.vars → InputsBelow (length s.vars) e →
+    (s : Shape) (e : Tree) (m : List ℕ) (row : Row) (does : Filtering) (v : Verdict) → All (λ i. i.site ≢ None) s.vars →
+    InputsBelow (length s.vars) e →
     IsMonomial (length s.vars) e m → InRange s.sites s.vars row → Due BySmallest does s.vars e row v → v.sign ≢ Zero
 
 -- there is one

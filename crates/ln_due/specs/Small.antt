@@ -30,11 +30,13 @@ filter_tree k = k.tree
 
 -- each operation of the block pushes a small polynomial
 abbrev pub BlockPushesSmall : List VarInfo → Code → Type 0
-BlockPushesSmall vars c = AreSmall known_tree (length vars) (pushes (rules vars c.depth) (lines_of c.ops c.pairs) (record { stack = []; locals = no_locals }))
+BlockPushesSmall vars c = AreSmall known_tree (length vars)
+    (pushes (rules vars c.depth) (lines_of c.ops c.pairs) (record { stack = []; locals = no_locals }))
 
 -- and each operation of the filter
 abbrev pub FilterPushesSmall : List VarInfo → FilterCode → Type 0
-FilterPushesSmall vars f = AreSmall filter_tree (length vars) (pushes (filter_rules vars f.depth) (lines_of f.ops f.triples) (record { stack = []; locals = no_locals }))
+FilterPushesSmall vars f = AreSmall filter_tree (length vars)
+    (pushes (filter_rules vars f.depth) (lines_of f.ops f.triples) (record { stack = []; locals = no_locals }))
 
 -- each block of the part and its filter push small polynomials alone
 pub record PushesSmall (p : Part) : Type 0 where

@@ -1,5 +1,6 @@
 //! What the verdict of a part is, in either order of infinitesimals: the perturbed sign.
-ghost use Rattle.ln_due.specs.DueLaw.{BlocksRun, CutLosesNothing, DueIsUnique, PlainBlocksCarryTheWhole, SignsArePerturbed, StagesAreCoefficients, VerdictsAreDue, WithoutParamsNeverZero};
+ghost use Rattle.ln_due.specs.DueLaw.{BlocksRun, CutLosesNothing, DueIsUnique, PlainBlocksCarryTheWhole};
+ghost use Rattle.ln_due.specs.DueLaw.{SignsArePerturbed, StagesAreCoefficients, VerdictsAreDue, WithoutParamsNeverZero};
 ghost use Rattle.ln_due.specs.Several.{SignsMultiply};
 
 /// In a part that carries an expression each block has, on every row in range, the perturbed coefficient at its stage; and the

@@ -15,8 +15,11 @@ plain_value zs lets root = value (values zs) (let_values (values zs) [] lets) ro
 
 -- the truncated number stands for the plain value
 abbrev pub NumbersStand : Type 0
-NumbersStand = (vars : List VarInfo) (zs : List ℤ) (lets : List Tree) (root : Tree) → AreWithin vars zs → Stands (root_triple vars lets root) (root_number vars zs lets root) (plain_value zs lets root)
+NumbersStand = (vars : List VarInfo) (zs : List ℤ) (lets : List Tree) (root : Tree) → AreWithin vars zs →
+    Stands (root_triple vars lets root) (root_number vars zs lets root) (plain_value zs lets root)
 
 -- where the filter decides, the plain value isn't 0 and has the truncated number's sign
 abbrev pub NeverWrong : Type 0
-NeverWrong = (vars : List VarInfo) (zs : List ℤ) (lets : List Tree) (root : Tree) → AreWithin vars zs → Decides vars zs lets root → (sign_of (root_number vars zs lets root) ≡ sign_of (plain_value zs lets root)) × (plain_value zs lets root ≢ pos 0)
+NeverWrong = (vars : List VarInfo) (zs : List ℤ) (lets : List Tree) (root : Tree) → AreWithin vars zs →
+    Decides vars zs lets root → (sign_of (root_number vars zs lets root) ≡ sign_of (plain_value zs lets root))
+    × (plain_value zs lets root ≢ pos 0)

@@ -5,7 +5,8 @@ use Rattle.ln_tree.specs.declared.shape.VarInfo.{VarInfo}
 use Rattle.ln_bound.specs.declared.fitted.Width.TheVariants.{W64}
 use Rattle.ln_bound.specs.Value.{sizes}
 use Rattle.ln_code.specs.declared.op.Op.{Op}
-use Rattle.ln_code.specs.declared.op.Op.TheVariants.{Push, Input as InputOp, Get, Set, Add as AddOp, Sub as SubOp, Mul as MulOp, Neg as NegOp, Cut}
+use Rattle.ln_code.specs.declared.op.Op.TheVariants.{Push, Input as InputOp, Get, Set, Add as AddOp}
+use Rattle.ln_code.specs.declared.op.Op.TheVariants.{Sub as SubOp, Mul as MulOp, Neg as NegOp, Cut}
 use Rattle.ln_code.specs.declared.op.Triple.{Triple}
 use Rattle.ln_code.specs.Engine.{Line}
 use Rattle.ln_code.specs.Kept.{no_triple}
@@ -51,12 +52,17 @@ filter_lines vars lets (Num c) = line (Push c) (leaf (unsigned_abs c)) ∷ []
 filter_lines vars lets (Input v) = trim_lines (InputOp v) (whole (sizes vars v))
 filter_lines vars lets (Name j) = line (Get j) (slice_index_or lets j no_triple) ∷ []
 filter_lines vars lets (Neg e) = filter_lines vars lets e ++ (line (NegOp W64) (triple vars lets e) ∷ [])
-filter_lines vars lets (Add e f) = sum_lines (AddOp W64) (filter_lines vars lets e) (filter_lines vars lets f) (triple vars lets e) (triple vars lets f)
-filter_lines vars lets (Sub e f) = sum_lines (SubOp W64) (filter_lines vars lets e) (filter_lines vars lets f) (triple vars lets e) (triple vars lets f)
-filter_lines vars lets (Mul e f) = filter_lines vars lets e ++ (filter_lines vars lets f ++ trim_lines (MulOp W64) (product_of (triple vars lets e) (triple vars lets f)))
+filter_lines vars lets (Add e f) = sum_lines (AddOp W64) (filter_lines vars lets e) (filter_lines vars lets f)
+    (triple vars lets e) (triple vars lets f)
+filter_lines vars lets (Sub e f) = sum_lines (SubOp W64) (filter_lines vars lets e) (filter_lines vars lets f)
+    (triple vars lets e) (triple vars lets f)
+filter_lines vars lets (Mul e f) =
+    filter_lines vars lets e ++ (filter_lines vars lets f ++ trim_lines (MulOp W64)
+    (product_of (triple vars lets e) (triple vars lets f)))
 filter_lines vars lets (Pow e n) = powers (filter_lines vars lets e) (triple vars lets e) n
 
 -- each let into the local of its number, from number j on, behind lets with these triples
 abbrev pub let_lines : List VarInfo → ℕ → List Triple → List Tree → List (Line Triple)
 let_lines vars j done [] = []
-let_lines vars j done (t ∷ ts) = filter_lines vars done t ++ (line (Set j) no_triple ∷ let_lines vars (suc j) (done ++ triple vars done t ∷ []) ts)
+let_lines vars j done (t ∷ ts) =
+    filter_lines vars done t ++ (line (Set j) no_triple ∷ let_lines vars (suc j) (done ++ triple vars done t ∷ []) ts)

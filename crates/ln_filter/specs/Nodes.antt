@@ -9,7 +9,8 @@ use Rattle.ln_code.specs.FilterRules.{FilterKnown, filter_rules}
 use Rattle.ln_code.specs.Part.{FilterCode, lines_of}
 use Rattle.ln_code.specs.Pushes.{Pushed, pushes}
 
--- what is pushed stands for one of these nodes: it has the node's polynomial. A filter is 64 bits wide throughout, whatever width the node has
+-- what is pushed stands for one of these nodes: it has the node's polynomial. A filter is 64 bits wide throughout, whatever width
+-- the node has
 pub record PushesNode (is_node : Tree → Width → Type 0) (p : Pushed FilterKnown) : Type 0 where
   pub node : Tree
   pub width : Width

@@ -12,14 +12,19 @@ use Rattle.ln_filter.specs.Nodes.{PushNodes, pushed_by}
 use Rattle.ln_filter.specs.Steady.{HasFilter}
 use Rattle.ln_filter.specs.Truncated.{root_number, root_triple}
 
--- the filter of a predicate with these lets and this sign expression: it follows the rules, stands for the predicate's polynomial, pushes polynomials of nodes, leaves its truncated number with its error, and is small
+-- the filter of a predicate with these lets and this sign expression: it follows the rules, stands for the predicate's
+-- polynomial, pushes polynomials of nodes, leaves its truncated number with its error, and is small
 pub record IsPlanned (vars : List VarInfo) (lets : List Typed) (root : Typed) (f : FilterCode) : Type 0 where
   pub has : HasFilter vars (map untyped lets) (untyped root)
   pub rules : FollowsFilterRules vars f
   pub triple : (k : FilterKnown) → filter_known_of vars f ≡ Some k → k.triple ≡ root_triple vars (map untyped lets) (untyped root)
   pub whole : (k : FilterKnown) → filter_known_of vars f ≡ Some k → (m : List ℕ) → normal_coefficient k.tree m ≡ polynomial lets root m
   pub nodes : PushNodes (IsNodeOf lets root) (pushed_by vars f)
-  pub value : (zs : List ℤ) → AreWithin vars zs → filter_value zs f ≡ Some (record { number = root_number vars zs (map untyped lets) (untyped root); error = (root_triple vars (map untyped lets) (untyped root)).e })
+  pub value : (zs : List ℤ) → AreWithin vars zs →
+      filter_value zs f ≡ Some (record {
+        number = root_number vars zs (map untyped lets) (untyped root);
+        error = (root_triple vars (map untyped lets) (untyped root)).e;
+      })
   pub small : length f.ops ≤ 8 * (cost root + costs lets) + 64
 
 abbrev pub IsPlan : List VarInfo → List Typed → Typed → Option FilterCode → Type 0

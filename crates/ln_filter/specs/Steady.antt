@@ -14,7 +14,8 @@ pub record IsSteady (a : Triple) : Type 0 where
 abbrev pub ArePowersSteady : Triple → ℕ → Type 0
 ArePowersSteady a n = (m : ℕ) → 2 ≤ m → m ≤ n → IsSteady (powered a m)
 
--- so has each node, where the lets have these triples; each product on the way to a power counts as a node, and the base of the power 0, which is the number 1, is judged too. The name of a let and a negation have the triple of what they stand for
+-- so has each node, where the lets have these triples; each product on the way to a power counts as a node, and the base of the
+-- power 0, which is the number 1, is judged too. The name of a let and a negation have the triple of what they stand for
 abbrev pub AreSteady : List VarInfo → List Triple → Tree → Type 0
 AreSteady vars lets (Num c) = IsSteady (triple vars lets (Num c))
 AreSteady vars lets (Input v) = IsSteady (triple vars lets (Input v))

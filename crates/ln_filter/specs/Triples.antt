@@ -1,5 +1,6 @@
 -- The triples of a filter's nodes: by which power of 2 a truncated number is divided, how large it is at most, and how far it may be off.
-use Rattle.std.specs.Prelude.{ℕ, zero, suc, ◌+◌, ◌-◌, ◌*◌, ◌/◌, ◌^◌, ◌==◌, max, unsigned_abs, List, [], ◌∷◌, ◌++◌, slice_index_or, if◌then◌else◌}
+use Rattle.std.specs.Prelude.{ℕ, zero, suc, ◌+◌, ◌-◌, ◌*◌, ◌/◌, ◌^◌, ◌==◌, max, unsigned_abs}
+use Rattle.std.specs.Prelude.{List, [], ◌∷◌, ◌++◌, slice_index_or, if◌then◌else◌}
 use Rattle.ln_algebra.specs.Tree.{Tree, Num, Input, Name, Neg, Add, Sub, Mul, Pow}
 use Rattle.ln_tree.specs.declared.shape.VarInfo.{VarInfo}
 use Rattle.ln_bound.specs.Value.{sizes}

@@ -34,8 +34,10 @@ number vars x lets hs (Input v) = leaf_number (sizes vars v) (x v)
 number vars x lets hs (Name j) = slice_index_or hs j (pos 0)
 number vars x lets hs (Neg e) = neg_ℤ (number vars x lets hs e)
 number vars x lets hs (Add e f) = sum_number (triple vars lets e) (triple vars lets f) (number vars x lets hs e) (number vars x lets hs f)
-number vars x lets hs (Sub e f) = difference_number (triple vars lets e) (triple vars lets f) (number vars x lets hs e) (number vars x lets hs f)
-number vars x lets hs (Mul e f) = product_number (triple vars lets e) (triple vars lets f) (number vars x lets hs e) (number vars x lets hs f)
+number vars x lets hs (Sub e f) = difference_number (triple vars lets e) (triple vars lets f) (number vars x lets hs e)
+    (number vars x lets hs f)
+number vars x lets hs (Mul e f) = product_number (triple vars lets e) (triple vars lets f) (number vars x lets hs e)
+    (number vars x lets hs f)
 number vars x lets hs (Pow e n) = power_number (triple vars lets e) (number vars x lets hs e) n
 
 -- the truncated numbers of lets, each over the lets before it, behind these

@@ -17,7 +17,8 @@ tens = record { low = neg_ℤ (pos 10); high = pos 10 }
 
 -- t - 4294967297
 abbrev pub far : Typed
-far = TTwo Minus (TInput 0 tens W64) (TNum (pos 4294967297) (point (pos 4294967297)) W64) (record { low = neg_ℤ (pos 4294967307); high = neg_ℤ (pos 4294967287) }) W64
+far = TTwo Minus (TInput 0 tens W64) (TNum (pos 4294967297) (point (pos 4294967297)) W64)
+    (record { low = neg_ℤ (pos 4294967307); high = neg_ℤ (pos 4294967287) }) W64
 
 -- t^3
 abbrev pub cube : Typed
@@ -25,4 +26,5 @@ cube = TPow (TInput 0 tens W64) 3 (record { low = neg_ℤ (pos 1000); high = pos
 
 -- (2^100*0)^4
 abbrev pub deep : Typed
-deep = TPow (TTwo Times (TNum (pos 1267650600228229401496703205376) (point (pos 1267650600228229401496703205376)) W128) (TNum (pos 0) (point (pos 0)) W64) (point (pos 0)) W128) 4 (point (pos 0)) W128
+deep = TPow (TTwo Times (TNum (pos 1267650600228229401496703205376) (point (pos 1267650600228229401496703205376)) W128)
+    (TNum (pos 0) (point (pos 0)) W64) (point (pos 0)) W128) 4 (point (pos 0)) W128

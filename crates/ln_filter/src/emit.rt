@@ -1,5 +1,6 @@
 //! The operations of a filter, node by node.
-ghost use Rattle.std.specs.Prelude.{◌≡◌, ◌+◌, ◌-◌, ◌^◌, ◌<◌, ◌≤◌, ◌++◌, ◌∷◌, [], true, unsigned_abs, All, IfOk, IfSome, OnOk, length, map, slice_index_or};
+ghost use Rattle.std.specs.Prelude.{◌≡◌, ◌+◌, ◌-◌, ◌^◌, ◌<◌, ◌≤◌, ◌++◌, ◌∷◌, [], true, unsigned_abs};
+ghost use Rattle.std.specs.Prelude.{All, IfOk, IfSome, OnOk, length, map, slice_index_or};
 ghost use Rattle.std.specs.List.{list_all};
 ghost use Rattle.ln_tree.specs.Variables.{has_range};
 ghost use Rattle.ln_bound.specs.Typed.{untyped};
@@ -253,7 +254,8 @@ pub(crate) fn put_lets(
     ensures tried { IfOk result (λ o. o ≡ lets_tried vars.now [] (map untyped (map typed lets.now))) }
     ensures small { IfOk result (λ o. IfSome o (λ ts. All IsSmall ts)) }
     ensures narrow { IfOk result (λ o. IfSome o (λ ts. AllNarrow vars.now (map untyped (map typed lets.now)))) }
-    ensures wrote { IfOk result (λ o. IfSome o (λ ts. Wrote draft.old draft.new (let_lines vars.now 0 [] (map untyped (map typed lets.now))))) }
+    ensures wrote { IfOk result (λ o. IfSome o
+        (λ ts. Wrote draft.old draft.new (let_lines vars.now 0 [] (map untyped (map typed lets.now))))) }
 {
     let mut done = Seq::new(alloc);
     'lets: for (j, t) in lets.iter().enumerate() {

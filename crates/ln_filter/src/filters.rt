@@ -46,12 +46,22 @@ fn written(alloc: Global, p: &FittedPred) -> Result<Option<FilterBlock>, NoMemor
 /// with the lower powers on its way. It has at most eight times as many operations as the costs of lets and root together, and 64
 /// more. A let is kept in the local of its number; local 64 serves powers.
 pub fn plan(alloc: Global, p: &FittedPred) -> Result<Option<FilterBlock>, NoMemory>
-    ensures where_ { IfOk result (λ o. IsSome o ↔ HasFilter p.now.shape.vars (map untyped (map typed p.now.lets)) (untyped (typed p.now.root))) }
+    ensures where_ { IfOk result (λ o. IsSome o ↔ HasFilter p.now.shape.vars (map untyped (map typed p.now.lets))
+        (untyped (typed p.now.root))) }
     ensures rules { IfOk result (λ o. IfSome o (FollowsFilterRules p.now.shape.vars)) }
-    ensures triple { IfOk result (λ o. IfSome o (λ f. (k : FilterKnown) → filter_known_of p.now.shape.vars f ≡ Some k → k.triple ≡ root_triple p.now.shape.vars (map untyped (map typed p.now.lets)) (untyped (typed p.now.root)))) }
-    ensures whole { IfOk result (λ o. IfSome o (λ f. (k : FilterKnown) → filter_known_of p.now.shape.vars f ≡ Some k → (m : List ℕ) → normal_coefficient k.tree m ≡ polynomial (map typed p.now.lets) (typed p.now.root) m)) }
-    ensures nodes { IfOk result (λ o. IfSome o (λ f. PushNodes (IsNodeOf (map typed p.now.lets) (typed p.now.root)) (pushed_by p.now.shape.vars f))) }
-    ensures value { IfOk result (λ o. IfSome o (λ f. (zs : List ℤ) → AreWithin p.now.shape.vars zs → filter_value zs f ≡ Some (record { number = root_number p.now.shape.vars zs (map untyped (map typed p.now.lets)) (untyped (typed p.now.root)); error = (root_triple p.now.shape.vars (map untyped (map typed p.now.lets)) (untyped (typed p.now.root))).e }))) }
+    ensures triple { IfOk result (λ o. IfSome o (λ f. (k : FilterKnown) → filter_known_of p.now.shape.vars f ≡ Some k →
+        k.triple ≡ root_triple p.now.shape.vars (map untyped (map typed p.now.lets)) (untyped (typed p.now.root)))) }
+    ensures whole { IfOk result (λ o. IfSome o (λ f. (k : FilterKnown) → filter_known_of p.now.shape.vars f ≡ Some k →
+        (m : List ℕ) → normal_coefficient k.tree m ≡ polynomial (map typed p.now.lets) (typed p.now.root) m)) }
+    ensures nodes { IfOk result (λ o. IfSome o (λ f. PushNodes (IsNodeOf (map typed p.now.lets) (typed p.now.root))
+        (pushed_by p.now.shape.vars f))) }
+    ensures value { IfOk result (λ o. IfSome o (λ f. (zs : List ℤ) → AreWithin p.now.shape.vars zs →
+        filter_value zs f ≡ Some (record {
+          number = root_number p.now.shape.vars zs (map untyped (map typed p.now.lets))
+              (untyped (typed p.now.root));
+          error =
+              (root_triple p.now.shape.vars (map untyped (map typed p.now.lets)) (untyped (typed p.now.root))).e;
+        }))) }
     ensures small { IfOk result (λ o. IfSome o (λ f. length f.ops ≤ 8 * (cost (typed p.now.root) + costs (map typed p.now.lets)) + 64)) }
 {
     written(alloc, p)

@@ -1,6 +1,7 @@
 //! Operations on pairs: interval arithmetic (Moore 1966) on whole numbers, without rounding.
 ghost use Rattle.std.specs.Prelude.{◌≡◌, ◌≤◌, ◌*◌, ◌<◌, ◌≤ℤ◌, ◌+ℤ◌, ◌-ℤ◌, ◌*ℤ◌, unsigned_abs, MatchOption, IsTrue, ◌↔◌};
-ghost use Rattle.ln_interval.specs.Range.{most, magnitude, sum, difference, opposite, product, power, Covers, IsNoPair, least_of, greatest_of};
+ghost use Rattle.ln_interval.specs.Range.{most, magnitude, sum, difference, opposite, product};
+ghost use Rattle.ln_interval.specs.Range.{power, Covers, IsNoPair, least_of, greatest_of};
 ghost use Rattle.ln_interval.specs.View.{range};
 
 use crate::pair::{MOST, Pair};
@@ -102,7 +103,8 @@ impl Pair {
 
     /// The pair of a difference of two values, `L1 - H2 .. H1 - L2`. `None` where an end is past `2^127 - 1`.
     pub fn sub(self, o: Pair) -> Option<Pair>
-        ensures { MatchOption result (most < magnitude (difference (range self) (range o))) (λ p. range p ≡ difference (range self) (range o)) }
+        ensures { MatchOption result (most < magnitude (difference (range self) (range o)))
+            (λ p. range p ≡ difference (range self) (range o)) }
     {
         match (minus(self.low, o.high), minus(self.high, o.low)) {
             (Some(low), Some(high)) => Some(of_ends(low, high)),

@@ -1,10 +1,12 @@
 -- Which bytes are which tokens.
-use Rattle.std.specs.Prelude.{◌≡◌, ℕ, suc, ◌+◌, ◌-◌, ◌<◌, ◌≤◌, ◌==◌, ◌&&◌, ◌||◌, not, Bool, true, false, if◌then◌else◌, nat_lt, List, [], ◌∷◌, length, take, drop, Option, Some, None, codes, bytes_eq}
+use Rattle.std.specs.Prelude.{◌≡◌, ℕ, suc, ◌+◌, ◌-◌, ◌<◌, ◌≤◌, ◌==◌, ◌&&◌, ◌||◌, not, Bool, true, false, if◌then◌else◌}
+use Rattle.std.specs.Prelude.{nat_lt, List, [], ◌∷◌, length, take, drop, Option, Some, None, codes, bytes_eq}
 use Rattle.ln_base.specs.Words.{is_digit, is_letter, is_name_byte, every}
 use Rattle.ln_lex.specs.declared.byte.Class.{Class}
 use Rattle.ln_lex.specs.declared.byte.Class.TheVariants.{InName, Digits, InComment}
 use Rattle.ln_lex.specs.declared.token.Kind.{Kind}
-use Rattle.ln_lex.specs.declared.token.Kind.TheVariants.{Name, Number, Site, Param, Predicate, Let, Sign, BraceL, BraceR, ParL, ParR, Colon, Semi, Comma, Dot, Dots, Plus, Minus, Star, Caret, Equals}
+use Rattle.ln_lex.specs.declared.token.Kind.TheVariants.{Name, Number, Site, Param, Predicate, Let, Sign, BraceL, BraceR, ParL}
+use Rattle.ln_lex.specs.declared.token.Kind.TheVariants.{ParR, Colon, Semi, Comma, Dot, Dots, Plus, Minus, Star, Caret, Equals}
 use Rattle.ln_lex.specs.declared.token.Token.{Token}
 use Rattle.ln_lex.specs.declared.scan.LexStop.{LexStop}
 use Rattle.ln_lex.specs.declared.scan.LexStop.TheVariants.{Lexical, Limit, NoMemory}
@@ -100,7 +102,8 @@ begins_blank (b ∷ bs) = is_blank b
 pub data Skips : List ℕ → ℕ → Type 0 where
   nothing : {bytes : List ℕ} → Skips bytes 0
   blank : {bytes : List ℕ} {n : ℕ} → begins_blank bytes ≡ true → Skips (drop 1 bytes) n → Skips bytes (suc n)
-  comment : {bytes : List ℕ} {n k : ℕ} → begins_comment bytes ≡ true → k ≡ comment_len bytes + n → Skips (drop (comment_len bytes) bytes) n → Skips bytes k
+  comment : {bytes : List ℕ} {n k : ℕ} → begins_comment bytes ≡ true → k ≡ comment_len bytes + n →
+      Skips (drop (comment_len bytes) bytes) n → Skips bytes k
 
 -- from place `at` to place `to` stand these tokens, each the longest at its place, behind blanks and comments
 abbrev pub Stand : List ℕ → ℕ → List Token → ℕ → Type 0

@@ -54,4 +54,6 @@ LocalHas (Some s) j e = HasPolynomial (s.locals j) e
 
 -- behind all operations each let is in the local of its number
 abbrev pub KeepsLets : List VarInfo → Code → List Typed → Type 0
-KeepsLets vars c lets = (j : ℕ) → j < length lets → LocalHas (run (rules vars c.depth) (lines_of c.ops c.pairs) (record { stack = []; locals = no_locals })) j (slice_index_or (inlined_after [] (map untyped lets)) j (Num (pos 0)))
+KeepsLets vars c lets = (j : ℕ) → j < length lets →
+    LocalHas (run (rules vars c.depth) (lines_of c.ops c.pairs) (record { stack = []; locals = no_locals })) j
+    (slice_index_or (inlined_after [] (map untyped lets)) j (Num (pos 0)))

@@ -211,9 +211,12 @@ pub fn lower(
     requires root { Sound s.now.vars (map typed lets.now) (typed t.now) }
     ensures exps { IfOk result (λ b. b.exps ≡ a.now) }
     ensures rules { IfOk result (λ b. FollowsRules s.now.vars b) }
-    ensures value { IfOk result (λ b. (zs : List ℤ) → AreWithin s.now.vars zs → block_value zs b ≡ Some (value (values zs) (let_values (values zs) [] (map untyped (map typed lets.now))) (untyped (typed t.now)))) }
+    ensures value { IfOk result (λ b. (zs : List ℤ) → AreWithin s.now.vars zs →
+        block_value zs b ≡ Some (value (values zs) (let_values (values zs) [] (map untyped (map typed lets.now)))
+        (untyped (typed t.now)))) }
     ensures range { IfOk result (λ b. (k : Known) → known_of s.now.vars b ≡ Some k → Covers (pair (typed t.now)) k.range) }
-    ensures root { IfOk result (λ b. (k : Known) → known_of s.now.vars b ≡ Some k → (m : List ℕ) → normal_coefficient k.tree m ≡ polynomial (map typed lets.now) (typed t.now) m) }
+    ensures root { IfOk result (λ b. (k : Known) → known_of s.now.vars b ≡ Some k → (m : List ℕ) →
+        normal_coefficient k.tree m ≡ polynomial (map typed lets.now) (typed t.now) m) }
     ensures nodes { IfOk result (λ b. PushNodes (IsNodeOf (map typed lets.now) (typed t.now)) (pushed_by s.now.vars b)) }
     ensures locals { IfOk result (λ b. KeepsLets s.now.vars b (map typed lets.now)) }
     ensures small { IfOk result (λ b. length b.ops ≤ 4 * (cost (typed t.now) + costs (map typed lets.now)) + 64) }

@@ -20,11 +20,13 @@ fits (Some Name) u = is_name u
 fits (Some Number) u = is_number u
 fits o u = not (is_name u || is_number u)
 
--- going over the tokens from place i up to place j, each is the next one that is judged, or it is passed over and is neither a NAME nor a NUMBER
+-- going over the tokens from place i up to place j, each is the next one that is judged, or it is passed over and is neither a
+-- NAME nor a NUMBER
 pub data Along (ts : List Token) : ℕ → ℕ → List Visit → Type 0 where
   done : {i : ℕ} → Along ts i i []
   passed : {i j : ℕ} {vs : List Visit} → is_other (kind_at ts i) ≡ true → Along ts (suc i) j vs → Along ts i j vs
-  judged : {i j : ℕ} {u : Use} {vs : List Visit} → fits (kind_at ts i) u ≡ true → Along ts (suc i) j vs → Along ts i j (visit u (span_at ts i) ∷ vs)
+  judged : {i j : ℕ} {u : Use} {vs : List Visit} → fits (kind_at ts i) u ≡ true → Along ts (suc i) j vs →
+      Along ts i j (visit u (span_at ts i) ∷ vs)
 
 -- the tokens that the rules speak of stand in order of the text, and no NAME and no NUMBER is left out
 abbrev pub JudgesInOrder : Type 0

@@ -1,5 +1,6 @@
 -- What holds of a file without a fault of names and limits: the limits of the language and the rules on its names, item by item.
-use Rattle.std.specs.Prelude.{◌≡◌, ℕ, ◌+◌, ◌-◌, ◌<◌, ◌≤◌, ◌^◌, ◌≤ℤ◌, Bool, true, false, ◌||◌, List, [], ◌∷◌, ◌++◌, length, count_by, Option, Some}
+use Rattle.std.specs.Prelude.{◌≡◌, ℕ, ◌+◌, ◌-◌, ◌<◌, ◌≤◌, ◌^◌, ◌≤ℤ◌, Bool, true, false}
+use Rattle.std.specs.Prelude.{◌||◌, List, [], ◌∷◌, ◌++◌, length, count_by, Option, Some}
 use Rattle.std.specs.List.{list_any}
 use Rattle.ln_base.specs.declared.span.Span.{Span}
 use Rattle.ln_lex.specs.declared.token.Token.{Token}
@@ -12,7 +13,8 @@ use Rattle.ln_syntax.specs.Raw.{Item, SiteItem, ParamItem, PredItem, item_name, 
 use Rattle.ln_names.specs.declared.roles.Role.{Role}
 use Rattle.ln_names.specs.declared.roles.Role.TheVariants.{Value, AfterCaret, Bare, Input, AfterDot}
 use Rattle.ln_names.specs.Numbers.{number, end_value}
-use Rattle.ln_names.specs.Rules.{Scope, scope, is_site_arg, is_param_arg, has_site, has_param, has_site_arg, has_param_arg, has_let, coords_at}
+use Rattle.ln_names.specs.Rules.{Scope, scope, is_site_arg, is_param_arg, has_site, has_param}
+use Rattle.ln_names.specs.Rules.{has_site_arg, has_param_arg, has_let, coords_at}
 use Rattle.ln_names.specs.Visits.{role_at, nodes_before, value_nodes}
 use Rattle.ln_names.specs.First.{NoFault}
 
@@ -62,13 +64,15 @@ abbrev pub ValueWithin : List ℕ → List Token → Scope → Places → Type 0
 ValueWithin bytes ts s p = (k : ℕ) → p.from ≤ k → k < p.to → TokenWithin bytes ts s k (role_at ts k)
 
 -- a let with a name of its own within its predicate
-pub record LetWithin (bytes : List ℕ) (ts : List Token) (is : List Item) (args : List RawArg) (before : List RawLet) (l : RawLet) : Type 0 where
+pub record LetWithin (bytes : List ℕ) (ts : List Token) (is : List Item) (args : List RawArg) (before : List RawLet)
+    (l : RawLet) : Type 0 where
   pub short : IsShort bytes l.name
   pub new : (list_any (λ a. same bytes a.name l.name) args || list_any (λ m. same bytes m.name l.name) before) ≡ false
   pub value : ValueWithin bytes ts (scope is args before) l.value
 
 -- the arguments, lets and sign expression of a predicate
-pub record PredWithin (bytes : List ℕ) (ts : List Token) (is : List Item) (args : List RawArg) (ls : List RawLet) (root : Places) : Type 0 where
+pub record PredWithin (bytes : List ℕ) (ts : List Token) (is : List Item) (args : List RawArg) (ls : List RawLet)
+    (root : Places) : Type 0 where
   pub site_args : count_by is_site_arg args ≤ 5
   pub param_args : count_by is_param_arg args ≤ 8
   pub args_each : Each (ArgWithin bytes is) [] args

@@ -1,5 +1,6 @@
 -- The rules on names and limits at one token: what the token is, and the table of its faults in their order.
-use Rattle.std.specs.Prelude.{ℕ, ◌==◌, ◌&&◌, ◌||◌, not, nat_lt, int_lt, Bool, true, false, if◌then◌else◌, List, [], ◌∷◌, length, count_by, find, Option, Some, None}
+use Rattle.std.specs.Prelude.{ℕ, ◌==◌, ◌&&◌, ◌||◌, not, nat_lt, int_lt, Bool, true, false, if◌then◌else◌}
+use Rattle.std.specs.Prelude.{List, [], ◌∷◌, length, count_by, find, Option, Some, None}
 use Rattle.std.specs.List.{list_any}
 use Rattle.ln_base.specs.declared.span.Span.{Span}
 use Rattle.ln_syntax.specs.declared.raw.RawRange.{RawRange}
@@ -9,7 +10,8 @@ use Rattle.ln_syntax.specs.declared.raw.RawLet.{RawLet}
 use Rattle.ln_syntax.specs.Raw.{Item, item_name, is_site, is_param, is_pred, coords_in, text, same}
 use Rattle.ln_names.specs.declared.faults.Fault.{Fault}
 use Rattle.ln_names.specs.declared.faults.Fault.TheVariants.{Limit, Named}
-use Rattle.ln_names.specs.declared.faults.LimitWhat.TheVariants.{NameLength, Literal, RangeEnd, Exponent, Sites, Params, Predicates, Coords, Lets, SiteArgs, ParamArgs, Nodes}
+use Rattle.ln_names.specs.declared.faults.LimitWhat.TheVariants.{NameLength, Literal, RangeEnd, Exponent, Sites, Params}
+use Rattle.ln_names.specs.declared.faults.LimitWhat.TheVariants.{Predicates, Coords, Lets, SiteArgs, ParamArgs, Nodes}
 use Rattle.ln_names.specs.declared.faults.NameWhat.TheVariants.{Twice, Unknown}
 use Rattle.ln_names.specs.Numbers.{number, end_value, most_literal, most_end}
 
@@ -39,7 +41,8 @@ pub data Use : Type 0 where
   ArgParam : List Item → List RawArg → Span → Use
   -- the name of a let
   LetName : List RawArg → List RawLet → Use
-  -- in an expression: a NUMBER, a bare NAME, the first NAME of an input, the second one with the first one's place, an operator, a NUMBER after ^
+  -- in an expression: a NUMBER, a bare NAME, the first NAME of an input, the second one with the first one's place, an operator,
+  -- a NUMBER after ^
   NumberNode : ℕ → Use
   NameNode : ℕ → Scope → Use
   InputNode : ℕ → Scope → Use

@@ -14,7 +14,9 @@ use Rattle.ln_names.specs.declared.faults.Fault.{Fault}
 use Rattle.ln_names.specs.declared.faults.Found.{Found}
 use Rattle.ln_names.specs.declared.roles.Role.{Role}
 use Rattle.ln_names.specs.declared.roles.Role.TheVariants.{Value, AfterCaret, Bare, Input, AfterDot, Operator}
-use Rattle.ln_names.specs.Rules.{Scope, scope, Use, SiteName, ParamName, PredName, CoordName, LowEnd, HighEnd, ArgName, ArgSite, ArgParam, LetName, NumberNode, NameNode, InputNode, InputCoord, OperatorNode, ExponentOf, fault_at}
+use Rattle.ln_names.specs.Rules.{Scope, scope, Use, SiteName, ParamName, PredName, CoordName, LowEnd}
+use Rattle.ln_names.specs.Rules.{HighEnd, ArgName, ArgSite, ArgParam, LetName, NumberNode, NameNode}
+use Rattle.ln_names.specs.Rules.{InputNode, InputCoord, OperatorNode, ExponentOf, fault_at}
 
 -- a token: what it is, and where it stands
 pub record Visit : Type 0 where

@@ -3,7 +3,9 @@ ghost use Rattle.std.specs.Prelude.{◌≡◌, ◌^◌, ◌<◌, ◌&&◌, lengt
 ghost use Rattle.std.specs.List.{list_any};
 ghost use Rattle.ln_syntax.specs.Raw.{text, same, item, items, item_name, is_site, is_param, is_pred};
 ghost use Rattle.ln_names.specs.Numbers.{number, end_value, signed, most_literal, most_end};
-ghost use Rattle.ln_names.specs.Rules.{fault_at, SiteName, ParamName, PredName, CoordName, is_site_arg, is_param_arg, has_site, has_param, has_site_arg, has_param_arg, has_let, LowEnd, HighEnd, ArgName, ArgSite, ArgParam, LetName, NumberNode, NameNode, InputNode, InputCoord, OperatorNode, ExponentOf};
+ghost use Rattle.ln_names.specs.Rules.{fault_at, SiteName, ParamName, PredName, CoordName, is_site_arg, is_param_arg, has_site};
+ghost use Rattle.ln_names.specs.Rules.{has_param, has_site_arg, has_param_arg, has_let, LowEnd, HighEnd, ArgName, ArgSite};
+ghost use Rattle.ln_names.specs.Rules.{ArgParam, LetName, NumberNode, NameNode, InputNode, InputCoord, OperatorNode, ExponentOf};
 ghost use Rattle.ln_names.specs.Resolve.{visible};
 
 use crate::faults::{Fault, LimitWhat, NameWhat};
@@ -348,7 +350,8 @@ pub fn exponent(bytes: &[u8], at: Span) -> Option<Fault>
     }
 }
 
-/// The fault of a name in an expression behind so many nodes: over 32 letters, one node too many (2,048), or no let and no param of this name.
+/// The fault of a name in an expression behind so many nodes: over 32 letters, one node too many (2,048), or no let and no param
+/// of this name.
 pub fn name_node(bytes: &[u8], seen: Visible, before: usize, at: Span) -> Option<Fault>
     ensures { result ≡ fault_at bytes.now (NameNode before (visible seen.entry)) at }
 {
@@ -363,7 +366,8 @@ pub fn name_node(bytes: &[u8], seen: Visible, before: usize, at: Span) -> Option
     }
 }
 
-/// The fault of an argument whose coordinate is read, behind so many nodes: over 32 letters, one node too many (2,048), or no site of this name.
+/// The fault of an argument whose coordinate is read, behind so many nodes: over 32 letters, one node too many (2,048), or no
+/// site of this name.
 pub fn input_node(bytes: &[u8], seen: Visible, before: usize, at: Span) -> Option<Fault>
     ensures { result ≡ fault_at bytes.now (InputNode before (visible seen.entry)) at }
 {

@@ -8,7 +8,9 @@ ghost use Rattle.ln_names.specs.First.{FirstFault, NoFault};
 ghost use Rattle.ln_names.specs.Limits.{FaultlessIsWithin};
 ghost use Rattle.ln_names.specs.Rules.{fault_at};
 ghost use Rattle.ln_names.specs.Resolve.{visible};
-ghost use Rattle.ln_names.specs.Visits.{first_fault, visits_by, range_visits, coord_visits, arg_visits, role_at, is_node, role_use, kind_use, token_visits, is_node_at, pred_visits, or_later, value_visits, value_nodes, nodes_before, let_visits, item_visits, file_visits};
+ghost use Rattle.ln_names.specs.Visits.{first_fault, visits_by, range_visits, coord_visits, arg_visits, role_at, is_node};
+ghost use Rattle.ln_names.specs.Visits.{role_use, kind_use, token_visits, is_node_at, pred_visits, or_later, value_visits};
+ghost use Rattle.ln_names.specs.Visits.{value_nodes, nodes_before, let_visits, item_visits, file_visits};
 
 use crate::faults::{Fault, Found};
 use crate::resolve::Visible;
@@ -31,7 +33,8 @@ pub fn check_names(bytes: &[u8], ts: &[Token], its: &[RawItem]) -> Result<(), Fo
 
 /// A list of items has one first fault, and none where no token has one.
 pub fn one_fault()
-    ensures one { (bytes : List ℕ) (ts : List Tok) (is : List Item) (f g : Fnd) → FirstFault bytes ts is f → FirstFault bytes ts is g → f ≡ g }
+    ensures one { (bytes : List ℕ) (ts : List Tok) (is : List Item) (f g : Fnd) → FirstFault bytes ts is f →
+        FirstFault bytes ts is g → f ≡ g }
     ensures none { (bytes : List ℕ) (ts : List Tok) (is : List Item) (f : Fnd) → FirstFault bytes ts is f → NoFault bytes ts is → ⊥ }
 {}
 
@@ -170,10 +173,12 @@ fn lets_fault(
 fn let_fault(bytes: &[u8], ts: &[Token], seen: Visible, n: usize, l: RawLet) -> Result<usize, Found>
     requires few { n ≤ 2048 }
     requires nodes { n ≡ nodes_before ts.now seen.lets.now }
-    ensures fine { OnOk result (first_fault bytes.now (let_visits ts.now (items seen.entry.before.now) seen.entry.args.now seen.entry.lets.now l) ≡ None) }
+    ensures fine { OnOk result (first_fault bytes.now
+        (let_visits ts.now (items seen.entry.before.now) seen.entry.args.now seen.entry.lets.now l) ≡ None) }
     ensures nodes { IfOk result (λ m. m ≡ n + value_nodes ts.now l.value) }
     ensures few { IfOk result (λ m. m ≤ 2048) }
-    ensures err { IfErr result (λ f. first_fault bytes.now (let_visits ts.now (items seen.entry.before.now) seen.entry.args.now seen.entry.lets.now l) ≡ Some f) }
+    ensures err { IfErr result (λ f. first_fault bytes.now
+        (let_visits ts.now (items seen.entry.before.now) seen.entry.args.now seen.entry.lets.now l) ≡ Some f) }
 {
     if let Some(fault) = tokens::let_name(bytes, seen.args, seen.lets, l.name) {
         return Err(Found { fault, at: l.name });

@@ -16,7 +16,8 @@ abbrev pub AreUnder : (ℕ → ℕ) → List Term → Type 0
 AreUnder top [] = Unit {0}
 AreUnder top (t ∷ f) = ((v : ℕ) → exponent_of v t.exponents ≤ top v) × AreUnder top f
 
--- the polynomial of the tree over n variables is the sum of at most this many terms, in none of which the exponent of a variable v is above top v
+-- the polynomial of the tree over n variables is the sum of at most this many terms, in none of which the exponent of a variable
+-- v is above top v
 pub record IsLean (n count : ℕ) (top : ℕ → ℕ) (e : Tree) : Type 0 where
   pub terms : List Term
   pub normal : IsNormalOf n e terms

@@ -24,7 +24,8 @@ one_less (suc v) (n ∷ m) = n ∷ one_less v m
 -- the terms with variable v, divided by it
 abbrev pub divided : ℕ → List Term → List Term
 divided v [] = []
-divided v (t ∷ f) = if is_positive (exponent_of v t.exponents) then record { exponents = one_less v t.exponents; factor = t.factor } ∷ divided v f else divided v f
+divided v (t ∷ f) = if is_positive (exponent_of v t.exponents)
+    then record { exponents = one_less v t.exponents; factor = t.factor } ∷ divided v f else divided v f
 
 -- the terms without variable v
 abbrev pub free_of : ℕ → List Term → List Term

@@ -32,7 +32,8 @@ abbrev pub opposite_of : Typed → Typed
 opposite_of x = TNeg x (opposite (pair x)) (wider (width x) (least (magnitude (opposite (pair x)))))
 
 abbrev pub times_of : Typed → Typed → Typed
-times_of x y = TTwo Times x y (product (pair x) (pair y)) (wider (wider (width x) (width y)) (least (magnitude (product (pair x) (pair y)))))
+times_of x y = TTwo Times x y (product (pair x) (pair y))
+    (wider (wider (width x) (width y)) (least (magnitude (product (pair x) (pair y)))))
 
 abbrev pub plus_of : Typed → Typed → Typed
 plus_of x y = TTwo Plus x y (sum (pair x) (pair y)) (wider (wider (width x) (width y)) (least (magnitude (sum (pair x) (pair y)))))

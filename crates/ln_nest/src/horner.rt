@@ -63,7 +63,8 @@ fn nest_from(
     requires few { length vars.now ≤ 168 }
     requires ordered { (k : ℕ) → IsOrdered (ranges vars.now k) }
     requires weight { weighted_sum (scale vars.now) (terms_in terms.items) ≤ most }
-    ensures { IfOk result (λ t. Has vars.now (typed t) (nested d (length vars.now - v) v (terms_in terms.items)) (weighted_sum (scale vars.now) (terms_in terms.items))) }
+    ensures { IfOk result (λ t. Has vars.now (typed t) (nested d (length vars.now - v) v (terms_in terms.items))
+        (weighted_sum (scale vars.now) (terms_in terms.items))) }
 {
     if v == vars.len() {
         return Ok(number(constant(terms.as_slice())));
@@ -86,7 +87,9 @@ fn by_powers(
     requires few { length vars.now ≤ 168 }
     requires ordered { (k : ℕ) → IsOrdered (ranges vars.now k) }
     requires weight { weighted_sum (scale vars.now) (terms_in terms.items) ≤ most }
-    ensures { IfOk result (λ t. Has vars.now (typed t) (horner (nested d (length vars.now - (v + 1)) (v + 1)) v b (terms_in terms.items)) (weighted_sum (scale vars.now) (terms_in terms.items))) }
+    ensures { IfOk result (λ t. Has vars.now (typed t)
+        (horner (nested d (length vars.now - (v + 1)) (v + 1)) v b (terms_in terms.items))
+        (weighted_sum (scale vars.now) (terms_in terms.items))) }
 {
     if b == 0 {
         let same = nest_from(alloc, vars, d, v + 1, terms)?;
@@ -117,7 +120,8 @@ pub fn nest(alloc: Global, f: &Poly, s: &Shape) -> Result<Fitted, NoMemory>
     requires below { AreBelow (length s.now.vars) f.now }
     requires degrees { All (λ t. degree (vector (length s.now.vars) t.0) ≤ 126) f.now }
     requires small { weighted_sum (sizes s.now.vars) (terms_of (length s.now.vars) f.now) ≤ most }
-    ensures same { IfOk result (λ t. (m : List ℕ) → length m ≡ length s.now.vars → polynomial [] (typed t) m ≡ coefficient_at (length s.now.vars) f.now m) }
+    ensures same { IfOk result (λ t. (m : List ℕ) → length m ≡ length s.now.vars →
+        polynomial [] (typed t) m ≡ coefficient_at (length s.now.vars) f.now m) }
     ensures sound { IfOk result (λ t. Sound s.now.vars [] (typed t)) }
     ensures exact { IfOk result (λ t. IsExact s.now.vars [] (typed t)) }
     ensures within { IfOk result (λ t. AreWithinPairs (weighted_sum (sizes s.now.vars) (terms_of (length s.now.vars) f.now)) (typed t)) }

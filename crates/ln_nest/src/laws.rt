@@ -19,15 +19,22 @@ ghost use Rattle.ln_nest.specs.View.{scale};
 /// The normal polynomial of a lean tree, with like terms collected and without zeros, has no more terms than the limit, and
 /// no larger exponents.
 pub fn lean_polynomials_are_short()
-    ensures count { (n count : ℕ) (top : ℕ → ℕ) (e : Tree) (f : List Term) → IsLean n count top e → IsNormalOf n e f → IsCollected f → HasNoZero f → length f ≤ count }
-    ensures exponents { (n count : ℕ) (top : ℕ → ℕ) (e : Tree) (f : List Term) → IsLean n count top e → IsNormalOf n e f → IsCollected f → HasNoZero f → AreUnder top f }
+    ensures count { (n count : ℕ) (top : ℕ → ℕ) (e : Tree) (f : List Term) → IsLean n count top e → IsNormalOf n e f →
+        IsCollected f → HasNoZero f → length f ≤ count }
+    ensures exponents { (n count : ℕ) (top : ℕ → ℕ) (e : Tree) (f : List Term) → IsLean n count top e → IsNormalOf n e f →
+        IsCollected f → HasNoZero f → AreUnder top f }
 {}
 
 /// No node of the nested form weighs more than its terms, whatever weights of at least 1. So its ranges are within
 /// `-W .. W`, W being the M-weighted sum of the terms, and its running sizes are at most W.
 pub fn nested_forms_stay_within()
-    ensures weights { (w : ℕ → ℕ) → ((v : ℕ) → 1 ≤ w v) → (d k v : ℕ) (f : List Term) → HasNoZero f → AreUpTo (weighs w) (weighted_sum w f) (nested d k v f) }
-    ensures ranges { (r : ℕ → Range) (m : ℕ → ℕ) → ((v : ℕ) → 1 ≤ m v) → ((v : ℕ) → magnitude (r v) ≤ m v) → (d k v : ℕ) (f : List Term) → HasNoZero f → AreUpTo (reaches r) (weighted_sum m f) (nested d k v f) }
-    ensures sound { (vars : List Info) (d : ℕ) (f : List Term) (t : Typed) → ((v : ℕ) → IsOrdered (declared_ranges vars v)) → HasNoZero f → weighted_sum (scale vars) f ≤ most → untyped t ≡ nested d (length vars) 0 f → IsExact vars [] t → need t ≤ 2048 → Sound vars [] t × AreWithinPairs (weighted_sum (scale vars) f) t }
-    ensures sizes { (m : ℕ → ℕ) → ((v : ℕ) → 1 ≤ m v) → (d k v : ℕ) (f : List Term) → HasNoZero f → AreUpTo (weighs one) (weighted_sum m f) (nested d k v f) }
+    ensures weights { (w : ℕ → ℕ) → ((v : ℕ) → 1 ≤ w v) → (d k v : ℕ) (f : List Term) → HasNoZero f →
+        AreUpTo (weighs w) (weighted_sum w f) (nested d k v f) }
+    ensures ranges { (r : ℕ → Range) (m : ℕ → ℕ) → ((v : ℕ) → 1 ≤ m v) → ((v : ℕ) → magnitude (r v) ≤ m v) →
+        (d k v : ℕ) (f : List Term) → HasNoZero f → AreUpTo (reaches r) (weighted_sum m f) (nested d k v f) }
+    ensures sound { (vars : List Info) (d : ℕ) (f : List Term) (t : Typed) → ((v : ℕ) → IsOrdered (declared_ranges vars v)) →
+        HasNoZero f → weighted_sum (scale vars) f ≤ most → untyped t ≡ nested d (length vars) 0 f → IsExact vars [] t →
+        need t ≤ 2048 → Sound vars [] t × AreWithinPairs (weighted_sum (scale vars) f) t }
+    ensures sizes { (m : ℕ → ℕ) → ((v : ℕ) → 1 ≤ m v) → (d k v : ℕ) (f : List Term) → HasNoZero f →
+        AreUpTo (weighs one) (weighted_sum m f) (nested d k v f) }
 {}

@@ -24,7 +24,8 @@ fn number_of(site: u8) -> VarInfo
 
 // Two sites with a number each.
 fn two_numbers(alloc: Global) -> Result<Shape, NoMemory>
-    ensures { IfOk result (λ s. s.vars ≡ record { arg = 0; site = Some 0; coord = 0; lo = neg_ℤ (pos 10); hi = pos 10 } ∷ record { arg = 1; site = Some 1; coord = 0; lo = neg_ℤ (pos 10); hi = pos 10 } ∷ []) }
+    ensures { IfOk result (λ s. s.vars ≡ record { arg = 0; site = Some 0; coord = 0; lo = neg_ℤ (pos 10); hi = pos 10 }
+        ∷ record { arg = 1; site = Some 1; coord = 0; lo = neg_ℤ (pos 10); hi = pos 10 } ∷ []) }
 {
     let mut vars = Seq::new(alloc);
     vars.push(number_of(0))?;

@@ -40,4 +40,5 @@ number_from n (x ∷ o) = number_from (n * suc (length o) + smaller_behind x o) 
 
 -- the orders of at most 5 sites are exactly the lists of their places in which each stands once; they are sorted, and so each is there once
 abbrev pub OrdersAreAll : Type 0
-OrdersAreAll = (k : ℕ) → k ≤ 5 → ((o : List ℕ) → Contains (orders_of k) o ↔ IsOrderOf k o) × IsStrictlySortedBy (slice_cmp nat_cmp) (orders_of k)
+OrdersAreAll = (k : ℕ) → k ≤ 5 → ((o : List ℕ) → Contains (orders_of k) o ↔ IsOrderOf k o)
+    × IsStrictlySortedBy (slice_cmp nat_cmp) (orders_of k)

@@ -14,13 +14,16 @@ use Rattle.ln_order.specs.Order.{IsOrder}
 use Rattle.ln_order.specs.Orders.{IsOrderOf, orders_of}
 use Rattle.ln_order.specs.Sites.{row_sites, sites_of}
 
--- a is the first vector of e on the row: the first, by the row's own indices and in this order of infinitesimals, whose perturbed coefficient isn't 0
+-- a is the first vector of e on the row: the first, by the row's own indices and in this order of infinitesimals, whose perturbed
+-- coefficient isn't 0
 abbrev pub RowFirst : Rank → List VarInfo → Tree → Row → List ℕ → Type 0
-RowFirst rank vars e row a = IsFirstIn (Before rank (row_sites vars row.index)) (length vars) (row_sites vars row.index) (values row.values) e a
+RowFirst rank vars e row a = IsFirstIn (Before rank (row_sites vars row.index)) (length vars) (row_sites vars row.index)
+    (values row.values) e a
 
 -- s is the perturbed sign of e on the row: that of the coefficient at the first vector, or 0 where there is none
 abbrev pub RowSign : Rank → List VarInfo → Tree → Row → ℤ → Type 0
-RowSign rank vars e row s = IsSignIn (Before rank (row_sites vars row.index)) (length vars) (row_sites vars row.index) (values row.values) e s
+RowSign rank vars e row s = IsSignIn (Before rank (row_sites vars row.index)) (length vars) (row_sites vars row.index)
+    (values row.values) e s
 
 -- list is the stage list of e for a row's own indices
 abbrev pub RowStages : Rank → List VarInfo → Tree → Row → List (List ℕ) → Type 0
@@ -55,7 +58,8 @@ RowsDiffer = (s : Shape) (row : Row) → InRange s.sites s.vars row → IndicesD
 -- the stage list of the order of a row's sites is that of the row's own indices
 abbrev pub StagesAreThoseOfRows : Type 0
 StagesAreThoseOfRows =
-    (rank : Rank) (s : Shape) (row : Row) (places : List ℕ) (e : Tree) (list : List (List ℕ)) → InRange s.sites s.vars row → IsOrder row.index places →
+    (rank : Rank) (s : Shape) (row : Row) (places : List ℕ) (e : Tree) (list : List (List ℕ)) → InRange s.sites s.vars row →
+    IsOrder row.index places →
     OrderStages rank s.vars e places list → RowStages rank s.vars e row list
 
 -- a row in range has at most one first vector

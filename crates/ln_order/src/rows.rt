@@ -1,5 +1,6 @@
 //! Laws of rows: their order, their stages and their sign.
-ghost use Rattle.ln_order.specs.Rows.{OrderExists, OrderIsUnique, OrdersDiffer, RowFirstIsUnique, RowSignIsUnique, RowsDiffer, StagesAreThoseOfRows};
+ghost use Rattle.ln_order.specs.Rows.{OrderExists, OrderIsUnique, OrdersDiffer, RowFirstIsUnique};
+ghost use Rattle.ln_order.specs.Rows.{RowSignIsUnique, RowsDiffer, StagesAreThoseOfRows};
 
 /// Indices that differ have exactly one order.
 ///

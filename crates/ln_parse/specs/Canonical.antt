@@ -1,14 +1,17 @@
 -- The canonical text of a table.
 use Rattle.std.specs.Prelude.{ℕ, Bool, true, false, if◌then◌else◌, List, [], ◌∷◌, codes, slice_get}
-use Rattle.ln_lex.specs.declared.token.Kind.TheVariants.{Site, Param, Predicate, Let, Sign, BraceL, BraceR, ParL, ParR, Colon, Semi, Comma, Dot, Dots, Plus, Minus, Star, Caret, Equals}
+use Rattle.ln_lex.specs.declared.token.Kind.TheVariants.{Site, Param, Predicate, Let, Sign, BraceL, BraceR, ParL, ParR}
+use Rattle.ln_lex.specs.declared.token.Kind.TheVariants.{Colon, Semi, Comma, Dot, Dots, Plus, Minus, Star, Caret, Equals}
 use Rattle.ln_tree.specs.Formula.{Formula}
 use Rattle.ln_tree.specs.Table.{CoordOf, SiteOf, ArgOf, SiteArg, ParamArg, PredOf, TableOf}
 use Rattle.ln_parse.specs.declared.printer.Room.{Room}
 use Rattle.ln_parse.specs.declared.printer.Room.TheVariants.{OfSum, OfProduct, OfUnary, OfAtom}
 use Rattle.ln_parse.specs.Lexemes.{Lexeme, gap, line, word, text_of, name, number, signed, each}
-use Rattle.ln_parse.specs.Written.{Written, WNum, WName, WInput, WNeg, WAdd, WSub, WMul, WPow, Naming, naming, written, range_name, site_name}
+use Rattle.ln_parse.specs.Written.{Written, WNum, WName, WInput, WNeg, WAdd, WSub, WMul}
+use Rattle.ln_parse.specs.Written.{WPow, Naming, naming, written, range_name, site_name}
 
--- may the expression stand in this room without parentheses? A sum or difference may only where a sum may, a product where a sum or product may, a negation or power everywhere but under ^
+-- may the expression stand in this room without parentheses? A sum or difference may only where a sum may, a product where a sum
+-- or product may, a negation or power everywhere but under ^
 abbrev pub fits : Room → Written → Bool
 fits r (WNum n) = true
 fits r (WName t) = true
@@ -47,7 +50,8 @@ whole e rest = wrap OfSum e (inside e) rest
 
 -- NAME: LOW .. HIGH;
 abbrev pub ranged : CoordOf → List Lexeme → List Lexeme
-ranged c rest = name c.name (word Colon (codes ":") ∷ gap ∷ signed c.lo (gap ∷ word Dots (codes "..") ∷ gap ∷ signed c.hi (word Semi (codes ";") ∷ rest)))
+ranged c rest = name c.name (word Colon (codes ":") ∷ gap
+    ∷ signed c.lo (gap ∷ word Dots (codes "..") ∷ gap ∷ signed c.hi (word Semi (codes ";") ∷ rest)))
 
 -- a coordinate, behind which one space stands
 abbrev pub coord : CoordOf → List Lexeme → List Lexeme
@@ -55,7 +59,8 @@ coord c rest = ranged c (gap ∷ rest)
 
 -- the line of a site type
 abbrev pub site : SiteOf → List Lexeme → List Lexeme
-site s rest = word Site (codes "site") ∷ gap ∷ name s.name (gap ∷ word BraceL (codes "{") ∷ gap ∷ each coord s.coords (word BraceR (codes "}") ∷ line ∷ rest))
+site s rest = word Site (codes "site") ∷ gap
+    ∷ name s.name (gap ∷ word BraceL (codes "{") ∷ gap ∷ each coord s.coords (word BraceR (codes "}") ∷ line ∷ rest))
 
 -- the line of a param
 abbrev pub param : CoordOf → List Lexeme → List Lexeme
@@ -77,7 +82,8 @@ args t (a ∷ more) rest = arg t a (each (further t) more rest)
 
 -- let NAME = EXPR; and a space
 abbrev pub let_of : Naming → List ℕ → Formula → List Lexeme → List Lexeme
-let_of n t e rest = word Let (codes "let") ∷ gap ∷ name t (gap ∷ word Equals (codes "=") ∷ gap ∷ whole (written n e) (word Semi (codes ";") ∷ gap ∷ rest))
+let_of n t e rest = word Let (codes "let") ∷ gap ∷ name t (gap ∷ word Equals (codes "=") ∷ gap ∷ whole (written n e)
+    (word Semi (codes ";") ∷ gap ∷ rest))
 
 -- the lets, with their names
 abbrev pub lets : Naming → List (List ℕ) → List Formula → List Lexeme → List Lexeme
@@ -92,7 +98,8 @@ root n e rest = word Sign (codes "sign") ∷ gap ∷ whole (written n e) (word S
 -- the line of a predicate
 abbrev pub pred : TableOf → PredOf → List Lexeme → List Lexeme
 pred t p rest =
-    word Predicate (codes "predicate") ∷ gap ∷ name p.name (word ParL (codes "(") ∷ args t p.args (word ParR (codes ")") ∷ gap ∷ word BraceL (codes "{") ∷ gap
+    word Predicate (codes "predicate") ∷ gap
+    ∷ name p.name (word ParL (codes "(") ∷ args t p.args (word ParR (codes ")") ∷ gap ∷ word BraceL (codes "{") ∷ gap
     ∷ lets (naming t p) p.let_names p.lets (root (naming t p) p.root rest)))
 
 -- the site types, then the params, then the predicates, each on a line of its own

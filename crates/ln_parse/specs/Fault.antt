@@ -36,11 +36,14 @@ pub data TextFault (bytes : List ℕ) : ParseStop → Type 0 where
   -- token 65,537 begins at a byte
   tokens : {at : ℕ} → IsLexLimit bytes at → TextFault bytes (Limit Tokens (one_byte at))
   -- a parenthesis is nested too deep
-  nesting : {ts : List Token} {k : ℕ} → Lexed bytes ts → length ts ≤ 65536 → IsNestingFault ts k → TextFault bytes (Limit Nesting (span_at ts k))
+  nesting : {ts : List Token} {k : ℕ} → Lexed bytes ts → length ts ≤ 65536 → IsNestingFault ts k →
+      TextFault bytes (Limit Nesting (span_at ts k))
   -- a token, or the end, with which no file of the grammar goes on
-  syntax : {ts : List Token} {k : ℕ} → Lexed bytes ts → length ts ≤ 65536 → IsShallow ts → IsSyntaxFault ts k → TextFault bytes (Syntax (place_of bytes ts k))
+  syntax : {ts : List Token} {k : ℕ} → Lexed bytes ts → length ts ≤ 65536 → IsShallow ts → IsSyntaxFault ts k →
+      TextFault bytes (Syntax (place_of bytes ts k))
   -- a token that breaks a rule of names and limits
-  names : {ts : List Token} {is : List Item} {f : Found} → Lexed bytes ts → length ts ≤ 65536 → IsShallow ts → Spelt ts is → FirstFault bytes ts is f → TextFault bytes (stop_of f.fault f.at)
+  names : {ts : List Token} {is : List Item} {f : Found} → Lexed bytes ts → length ts ≤ 65536 → IsShallow ts → Spelt ts is →
+      FirstFault bytes ts is f → TextFault bytes (stop_of f.fault f.at)
 
 -- no pass finds a fault
 pub record IsFaultless (bytes : List ℕ) (ts : List Token) (is : List Item) : Type 0 where

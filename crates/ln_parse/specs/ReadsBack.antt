@@ -80,11 +80,13 @@ pub record Spells (bytes : List ℕ) (ts : List Token) (p : Places) (e : Written
 -- lets are written with these names and expressions
 abbrev pub LetsWritten : List ℕ → List Token → Naming → List RawLet → List (List ℕ) → List Formula → Type 0
 LetsWritten bytes ts n [] [] [] = Unit {0}
-LetsWritten bytes ts n (r ∷ rs) (t ∷ us) (e ∷ es) = (text bytes r.name ≡ t) × Spells bytes ts r.value (written n e) × LetsWritten bytes ts n rs us es
+LetsWritten bytes ts n (r ∷ rs) (t ∷ us) (e ∷ es) = (text bytes r.name ≡ t) × Spells bytes ts r.value (written n e)
+    × LetsWritten bytes ts n rs us es
 LetsWritten bytes ts n rs us es = ⊥
 
 -- an item is this predicate, written with its names
-pub record PredWritten (bytes : List ℕ) (ts : List Token) (t : TableOf) (name : Span) (args : List RawArg) (ls : List RawLet) (root : Places) (p : PredOf) : Type 0 where
+pub record PredWritten (bytes : List ℕ) (ts : List Token) (t : TableOf) (name : Span) (args : List RawArg) (ls : List RawLet)
+    (root : Places) (p : PredOf) : Type 0 where
   pub name_is : text bytes name ≡ p.name
   pub args_are : ArgsWritten bytes t args p.args
   pub lets_are : LetsWritten bytes ts (naming t p) ls p.let_names p.lets

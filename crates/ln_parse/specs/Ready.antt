@@ -1,5 +1,6 @@
 -- What a source without a fault gives to those who build its table: names are names, numbers fit, and what names stand for is there.
-use Rattle.std.specs.Prelude.{◌≡◌, ◌+◌, ℕ, pos, neg_ℤ, int_lt, nat_lt, nat_le, not, ◌&&◌, ◌<◌, ◌≤◌, ◌^◌, ◌||◌, Bool, true, List, [], ◌++◌, length, count_by}
+use Rattle.std.specs.Prelude.{◌≡◌, ◌+◌, ℕ, pos, neg_ℤ, int_lt, nat_lt, nat_le, not, ◌&&◌, ◌<◌}
+use Rattle.std.specs.Prelude.{◌≤◌, ◌^◌, ◌||◌, Bool, true, List, [], ◌++◌, length, count_by}
 use Rattle.std.specs.List.{list_any, list_all}
 use Rattle.ln_base.specs.declared.span.Span.{Span}
 use Rattle.ln_base.specs.Words.{is_name}
@@ -104,7 +105,8 @@ pub record ReadyArg (bytes : List ℕ) (is : List Item) (a : RawArg) : Type 0 wh
   pub known : IsKnown bytes is a a.is_param
 
 -- a let whose name and expression fit
-pub record ReadyLet (bytes : List ℕ) (ts : List Token) (is : List Item) (as' : List RawArg) (before : List RawLet) (l : RawLet) : Type 0 where
+pub record ReadyLet (bytes : List ℕ) (ts : List Token) (is : List Item) (as' : List RawArg) (before : List RawLet)
+    (l : RawLet) : Type 0 where
   pub name : IsNamed bytes l.name
   pub value : ReadyValue bytes ts (scope is as' before) l.value
 
@@ -114,7 +116,8 @@ is_few (SiteItem name cs) = nat_le (length cs) 32
 is_few i = true
 
 -- a predicate behind these items, whose parts fit
-pub record ReadyPred (bytes : List ℕ) (ts : List Token) (is : List Item) (at : Span) (as' : List RawArg) (ls : List RawLet) (p : Places) : Type 0 where
+pub record ReadyPred (bytes : List ℕ) (ts : List Token) (is : List Item) (at : Span) (as' : List RawArg) (ls : List RawLet)
+    (p : Places) : Type 0 where
   pub name : IsNamed bytes at
   pub site_args : count_by is_site_arg as' ≤ 5
   pub param_args : count_by is_param_arg as' ≤ 8

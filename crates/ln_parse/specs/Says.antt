@@ -1,5 +1,6 @@
 -- What tokens say: the table of items and expressions, once names are resolved.
-use Rattle.std.specs.Prelude.{◌≡◌, ℕ, pos, ◌&&◌, Bool, true, false, List, [], ◌∷◌, ◌++◌, Option, Some, None, map, position, unwrap_or, count_by}
+use Rattle.std.specs.Prelude.{◌≡◌, ℕ, pos, ◌&&◌, Bool, true, false, List, [], ◌∷◌, ◌++◌}
+use Rattle.std.specs.Prelude.{Option, Some, None, map, position, unwrap_or, count_by}
 use Rattle.ln_base.specs.declared.span.Span.{Span}
 use Rattle.ln_lex.specs.declared.token.Token.{Token}
 use Rattle.ln_lex.specs.declared.token.Kind.TheVariants.{Semi}
@@ -44,7 +45,8 @@ name_of bytes s at None = FInput at (place (λ a. is_param_arg a && same bytes a
 abbrev pub resolved : List ℕ → Scope → Tree → Formula
 resolved bytes s (TNum at) = FNum at (pos (number bytes at))
 resolved bytes s (TName at) = name_of bytes s at (position (λ l. same bytes l.name at) s.lets)
-resolved bytes s (TInput at x) = FInput at (place (λ a. is_site_arg a && same bytes a.name at) s.args) (place (λ c. same bytes c.name x) (coords_at bytes s at))
+resolved bytes s (TInput at x) = FInput at (place (λ a. is_site_arg a && same bytes a.name at) s.args)
+    (place (λ c. same bytes c.name x) (coords_at bytes s at))
 resolved bytes s (TNeg at e) = FNeg at (resolved bytes s e)
 resolved bytes s (TAdd at e f) = FAdd at (resolved bytes s e) (resolved bytes s f)
 resolved bytes s (TSub at e f) = FSub at (resolved bytes s e) (resolved bytes s f)
@@ -63,7 +65,8 @@ abbrev pub LetsSay : List ℕ → List Token → List Item → List RawArg → L
 LetsSay bytes ts is args before [] [] = Unit {0}
 LetsSay bytes ts is args before [] (x ∷ xs) = ⊥
 LetsSay bytes ts is args before (l ∷ ls) [] = ⊥
-LetsSay bytes ts is args before (l ∷ ls) (x ∷ xs) = Says bytes ts (scope is args before) l.value x × LetsSay bytes ts is args (before ++ (l ∷ [])) ls xs
+LetsSay bytes ts is args before (l ∷ ls) (x ∷ xs) = Says bytes ts (scope is args before) l.value x
+    × LetsSay bytes ts is args (before ++ (l ∷ [])) ls xs
 
 -- an argument: the param of its name, or a site of the type behind its colon
 abbrev pub arg_said : List ℕ → List Item → RawArg → Bool → ArgOf
@@ -71,7 +74,8 @@ arg_said bytes is a true = ParamArg (place (λ n. same bytes n a.name) (param_na
 arg_said bytes is a false = SiteArg (text bytes a.name) (place (λ n. same bytes n a.kind) (site_names is))
 
 -- the tokens of a predicate, behind these items, say this predicate of the table
-pub record PredSays (bytes : List ℕ) (ts : List Token) (is : List Item) (t : TableOf) (name : Span) (args : List RawArg) (ls : List RawLet) (root : Places) (p : PredOf) : Type 0 where
+pub record PredSays (bytes : List ℕ) (ts : List Token) (is : List Item) (t : TableOf) (name : Span) (args : List RawArg)
+    (ls : List RawLet) (root : Places) (p : PredOf) : Type 0 where
   pub name_is : p.name ≡ text bytes name
   pub at_is : p.at ≡ name
   pub args_are : p.args ≡ map (λ a. arg_said bytes is a a.is_param) args
@@ -85,7 +89,8 @@ pub record PredSays (bytes : List ℕ) (ts : List Token) (is : List Item) (t : T
 -- the site types among the items
 abbrev pub sites_said : List ℕ → List Item → List SiteOf
 sites_said bytes [] = []
-sites_said bytes (SiteItem name coords ∷ is) = record { name = text bytes name; coords = map (λ c. ranged bytes c.name c.range) coords } ∷ sites_said bytes is
+sites_said bytes (SiteItem name coords ∷ is) =
+    record { name = text bytes name; coords = map (λ c. ranged bytes c.name c.range) coords } ∷ sites_said bytes is
 sites_said bytes (i ∷ is) = sites_said bytes is
 
 -- the params among the items
@@ -101,7 +106,8 @@ PredsSay bytes ts before t [] (p ∷ ps) = ⊥
 PredsSay bytes ts before t (SiteItem n cs ∷ is) ps = PredsSay bytes ts (before ++ (SiteItem n cs ∷ [])) t is ps
 PredsSay bytes ts before t (ParamItem n r ∷ is) ps = PredsSay bytes ts (before ++ (ParamItem n r ∷ [])) t is ps
 PredsSay bytes ts before t (PredItem n args ls root ∷ is) [] = ⊥
-PredsSay bytes ts before t (PredItem n args ls root ∷ is) (p ∷ ps) = PredSays bytes ts before t n args ls root p × PredsSay bytes ts (before ++ (PredItem n args ls root ∷ [])) t is ps
+PredsSay bytes ts before t (PredItem n args ls root ∷ is) (p ∷ ps) = PredSays bytes ts before t n args ls root p
+    × PredsSay bytes ts (before ++ (PredItem n args ls root ∷ [])) t is ps
 
 -- the items say the table: its site types, its params, its predicates
 pub record ItemsSay (bytes : List ℕ) (ts : List Token) (is : List Item) (t : TableOf) : Type 0 where

@@ -21,7 +21,17 @@ spanless (FPow at e n) = FPow no_span (spanless e) n
 
 -- a predicate without its spans
 abbrev pub pred_spanless : PredOf → PredOf
-pred_spanless p = record { name = p.name; at = no_span; args = p.args; shape_name = p.shape_name; sites = p.sites; vars = p.vars; let_names = p.let_names; lets = map spanless p.lets; root = spanless p.root }
+pred_spanless p = record {
+  name = p.name;
+  at = no_span;
+  args = p.args;
+  shape_name = p.shape_name;
+  sites = p.sites;
+  vars = p.vars;
+  let_names = p.let_names;
+  lets = map spanless p.lets;
+  root = spanless p.root;
+}
 
 -- a table without its spans
 abbrev pub table_spanless : TableOf → TableOf

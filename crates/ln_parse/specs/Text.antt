@@ -9,7 +9,8 @@ use Rattle.ln_names.specs.First.{NoFault}
 use Rattle.ln_tree.specs.Table.{TableOf}
 use Rattle.ln_parse.specs.Says.{ItemsSay}
 
--- the bytes are tokens, at most 65,536, with no parenthesis nested too deep; the tokens spell items; no rule of names and limits has a fault; the items say the table
+-- the bytes are tokens, at most 65,536, with no parenthesis nested too deep; the tokens spell items; no rule of names and limits
+-- has a fault; the items say the table
 pub record TextOf (bytes : List ℕ) (t : TableOf) : Type 0 where
   pub tokens : List Token
   pub lexed : Lexed bytes tokens

@@ -52,7 +52,8 @@ fn sites(alloc: Global, bytes: &[u8], its: &[RawItem]) -> Result<Seq<Site>, NoMe
 
 fn site(alloc: Global, bytes: &[u8], name: Span, raw: &[RawCoord]) -> Result<Site, NoMemory>
     requires { ReadySite bytes.now name raw.now }
-    ensures { IfOk result (λ s. site_of s ≡ record { name = text bytes.now name; coords = map (λ c. ranged bytes.now c.name c.range) raw.now }) }
+    ensures { IfOk result (λ s. site_of s
+        ≡ record { name = text bytes.now name; coords = map (λ c. ranged bytes.now c.name c.range) raw.now }) }
 {
     let name = name_at(bytes, name);
     let mut coords = Seq::new(alloc);
@@ -112,7 +113,8 @@ fn preds(
     requires sites { map site_of sites.now ≡ sites_said bytes.now (items its.now) }
     requires params { map param_of params.now ≡ params_said bytes.now (items its.now) }
     ensures fits { IfOk result (λ ps. list_all (pred_fits sites.now params.now) ps ≡ true) }
-    ensures says { IfOk result (λ ps. (t : TableOf) → t.sites ≡ map site_of sites.now → t.params ≡ map param_of params.now → PredsSay bytes.now ts.now [] t (items its.now) (map pred_of ps)) }
+    ensures says { IfOk result (λ ps. (t : TableOf) → t.sites ≡ map site_of sites.now → t.params ≡ map param_of params.now →
+        PredsSay bytes.now ts.now [] t (items its.now) (map pred_of ps)) }
 {
     let mut preds = Seq::new(alloc);
     'items: for (i, it) in its.iter().enumerate() {

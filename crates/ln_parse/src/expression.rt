@@ -41,7 +41,8 @@ pub fn expression(alloc: Global, s: &Scene, at: Places) -> Result<Expr, NoMemory
     requires small { length s.now.ts.now < 2 ^ 32 }
     requires narrow { IsNarrow s.now.bytes.now (scope (items s.now.items.now) s.now.args.now s.now.lets.now) }
     requires ready { ReadyValue s.now.bytes.now s.now.ts.now (scope (items s.now.items.now) s.now.args.now s.now.lets.now) at }
-    ensures { IfOk result (λ x. Says s.now.bytes.now s.now.ts.now (scope (items s.now.items.now) s.now.args.now s.now.lets.now) at (formula x)) }
+    ensures { IfOk result (λ x. Says s.now.bytes.now s.now.ts.now (scope (items s.now.items.now) s.now.args.now s.now.lets.now) at
+        (formula x)) }
 {
     let read = sum(alloc, s, at.from)?;
     Ok(read.expr)
@@ -53,7 +54,8 @@ fn sum(alloc: Global, s: &Scene, at: usize) -> Result<Read, NoMemory>
     requires small { length s.now.ts.now < 2 ^ 32 }
     requires narrow { IsNarrow s.now.bytes.now (scope (items s.now.items.now) s.now.args.now s.now.lets.now) }
     requires there { HasTree s.now.bytes.now s.now.ts.now (scope (items s.now.items.now) s.now.args.now s.now.lets.now) Sum at }
-    ensures { IfOk result (λ x. Reads s.now.bytes.now s.now.ts.now (scope (items s.now.items.now) s.now.args.now s.now.lets.now) Sum at x.end (formula x.expr)) }
+    ensures { IfOk result (λ x. Reads s.now.bytes.now s.now.ts.now
+        (scope (items s.now.items.now) s.now.args.now s.now.lets.now) Sum at x.end (formula x.expr)) }
 {
     let first = term(alloc, s, at)?;
     let mut left = first.expr;
@@ -82,7 +84,8 @@ fn term(alloc: Global, s: &Scene, at: usize) -> Result<Read, NoMemory>
     requires small { length s.now.ts.now < 2 ^ 32 }
     requires narrow { IsNarrow s.now.bytes.now (scope (items s.now.items.now) s.now.args.now s.now.lets.now) }
     requires there { HasTree s.now.bytes.now s.now.ts.now (scope (items s.now.items.now) s.now.args.now s.now.lets.now) Term at }
-    ensures { IfOk result (λ x. Reads s.now.bytes.now s.now.ts.now (scope (items s.now.items.now) s.now.args.now s.now.lets.now) Term at x.end (formula x.expr)) }
+    ensures { IfOk result (λ x. Reads s.now.bytes.now s.now.ts.now
+        (scope (items s.now.items.now) s.now.args.now s.now.lets.now) Term at x.end (formula x.expr)) }
 {
     let first = unary(alloc, s, at)?;
     let mut left = first.expr;
@@ -104,7 +107,8 @@ fn unary(alloc: Global, s: &Scene, at: usize) -> Result<Read, NoMemory>
     requires small { length s.now.ts.now < 2 ^ 32 }
     requires narrow { IsNarrow s.now.bytes.now (scope (items s.now.items.now) s.now.args.now s.now.lets.now) }
     requires there { HasTree s.now.bytes.now s.now.ts.now (scope (items s.now.items.now) s.now.args.now s.now.lets.now) Unary at }
-    ensures { IfOk result (λ x. Reads s.now.bytes.now s.now.ts.now (scope (items s.now.items.now) s.now.args.now s.now.lets.now) Unary at x.end (formula x.expr)) }
+    ensures { IfOk result (λ x. Reads s.now.bytes.now s.now.ts.now
+        (scope (items s.now.items.now) s.now.args.now s.now.lets.now) Unary at x.end (formula x.expr)) }
 {
     if !is(s.ts, at, Kind::Minus) {
         return power(alloc, s, at);
@@ -122,7 +126,8 @@ fn power(alloc: Global, s: &Scene, at: usize) -> Result<Read, NoMemory>
     requires small { length s.now.ts.now < 2 ^ 32 }
     requires narrow { IsNarrow s.now.bytes.now (scope (items s.now.items.now) s.now.args.now s.now.lets.now) }
     requires there { HasTree s.now.bytes.now s.now.ts.now (scope (items s.now.items.now) s.now.args.now s.now.lets.now) Power at }
-    ensures { IfOk result (λ x. Reads s.now.bytes.now s.now.ts.now (scope (items s.now.items.now) s.now.args.now s.now.lets.now) Power at x.end (formula x.expr)) }
+    ensures { IfOk result (λ x. Reads s.now.bytes.now s.now.ts.now
+        (scope (items s.now.items.now) s.now.args.now s.now.lets.now) Power at x.end (formula x.expr)) }
 {
     let base = atom(alloc, s, at)?;
     let place = base.end;
@@ -142,7 +147,8 @@ fn atom(alloc: Global, s: &Scene, at: usize) -> Result<Read, NoMemory>
     requires small { length s.now.ts.now < 2 ^ 32 }
     requires narrow { IsNarrow s.now.bytes.now (scope (items s.now.items.now) s.now.args.now s.now.lets.now) }
     requires there { HasTree s.now.bytes.now s.now.ts.now (scope (items s.now.items.now) s.now.args.now s.now.lets.now) Atom at }
-    ensures { IfOk result (λ x. Reads s.now.bytes.now s.now.ts.now (scope (items s.now.items.now) s.now.args.now s.now.lets.now) Atom at x.end (formula x.expr)) }
+    ensures { IfOk result (λ x. Reads s.now.bytes.now s.now.ts.now
+        (scope (items s.now.items.now) s.now.args.now s.now.lets.now) Atom at x.end (formula x.expr)) }
 {
     if is(s.ts, at, Kind::Number) {
         return Ok(number_atom(s, at));
@@ -163,7 +169,8 @@ fn number_atom(s: &Scene, at: usize) -> Read
     requires within { at ≤ length s.now.ts.now }
     requires kind { Is s.now.ts.now at Kind.Number }
     requires there { HasTree s.now.bytes.now s.now.ts.now (scope (items s.now.items.now) s.now.args.now s.now.lets.now) Atom at }
-    ensures { Reads s.now.bytes.now s.now.ts.now (scope (items s.now.items.now) s.now.args.now s.now.lets.now) Atom at result.end (formula result.expr) }
+    ensures { Reads s.now.bytes.now s.now.ts.now (scope (items s.now.items.now) s.now.args.now s.now.lets.now) Atom at result.end
+        (formula result.expr) }
 {
     Read {
         expr: number_leaf(s.bytes, span_of(s.ts, at)),
@@ -178,7 +185,8 @@ fn name_atom(s: &Scene, at: usize) -> Read
     requires narrow { IsNarrow s.now.bytes.now (scope (items s.now.items.now) s.now.args.now s.now.lets.now) }
     requires kind { Is s.now.ts.now at Kind.Name }
     requires there { HasTree s.now.bytes.now s.now.ts.now (scope (items s.now.items.now) s.now.args.now s.now.lets.now) Atom at }
-    ensures { Reads s.now.bytes.now s.now.ts.now (scope (items s.now.items.now) s.now.args.now s.now.lets.now) Atom at result.end (formula result.expr) }
+    ensures { Reads s.now.bytes.now s.now.ts.now (scope (items s.now.items.now) s.now.args.now s.now.lets.now) Atom at result.end
+        (formula result.expr) }
 {
     let name = span_of(s.ts, at);
     if !is(s.ts, at + 1, Kind::Dot) {

@@ -123,8 +123,11 @@ fn arg_vars(
 ) -> Result<u8, NoMemory>
     requires good { list_all is_good_site (map site_of sites.now) ≡ true }
     requires room { s < 255 }
-    ensures vars { IfOk result (λ n. (rest : List ArgOf) → vars.new ++ vars_behind (map site_of sites.now) (map param_of params.now) (suc k) n rest ≡ vars.old ++ vars_behind (map site_of sites.now) (map param_of params.now) k s (arg_of a.now ∷ rest)) }
-    ensures sites { IfOk result (λ n. (rest : List ArgOf) → n + count_by is_site_said rest ≡ s + count_by is_site_said (arg_of a.now ∷ rest)) }
+    ensures vars { IfOk result (λ n. (rest : List ArgOf) → vars.new ++ vars_behind (map site_of sites.now)
+        (map param_of params.now) (suc k) n rest ≡ vars.old ++ vars_behind (map site_of sites.now)
+        (map param_of params.now) k s (arg_of a.now ∷ rest)) }
+    ensures sites { IfOk result (λ n. (rest : List ArgOf) →
+        n + count_by is_site_said rest ≡ s + count_by is_site_said (arg_of a.now ∷ rest)) }
 {
     match a {
         Arg::Site(_, t) => {

@@ -31,7 +31,8 @@ pub fn predicate(
     requires small { length s.now.ts.now < 2 ^ 32 }
     requires ready { ReadyPred s.now.bytes.now s.now.ts.now (items s.now.items.now) name s.now.args.now s.now.lets.now root }
     requires declared { Declares s.now.bytes.now (items s.now.items.now) (map site_of sites.now) (map param_of params.now) }
-    ensures says { IfOk result (λ p. (t : TableOf) → t.sites ≡ map site_of sites.now → t.params ≡ map param_of params.now → PredSays s.now.bytes.now s.now.ts.now (items s.now.items.now) t name s.now.args.now s.now.lets.now root (pred_of p)) }
+    ensures says { IfOk result (λ p. (t : TableOf) → t.sites ≡ map site_of sites.now → t.params ≡ map param_of params.now →
+        PredSays s.now.bytes.now s.now.ts.now (items s.now.items.now) t name s.now.args.now s.now.lets.now root (pred_of p)) }
     ensures fits { IfOk result (λ p. pred_fits sites.now params.now p ≡ true) }
 {
     let args = args(alloc, s)?;
@@ -70,7 +71,8 @@ fn lets(alloc: Global, s: &Scene) -> Result<Seq<Expr>, NoMemory>
     requires args { length s.now.args.now < 256 }
     requires lets { length s.now.lets.now < 256 }
     requires few { list_all is_few (items s.now.items.now) ≡ true }
-    ensures { IfOk result (λ xs. LetsSay s.now.bytes.now s.now.ts.now (items s.now.items.now) s.now.args.now [] s.now.lets.now (map formula xs)) }
+    ensures { IfOk result (λ xs. LetsSay s.now.bytes.now s.now.ts.now (items s.now.items.now) s.now.args.now [] s.now.lets.now
+        (map formula xs)) }
 {
     let lets = s.lets;
     let mut values = Seq::new(alloc);

@@ -5,7 +5,8 @@ ghost use Rattle.ln_tree.specs.Formula.{formula};
 ghost use Rattle.ln_tree.specs.Table.{TableOf, table_of, site_of, coord_of, param_of, arg_of, pred_of};
 ghost use Rattle.ln_parse.specs.Lexemes.{Puts, opening, closing, signed, each};
 ghost use Rattle.ln_parse.specs.Written.{Naming, naming, written, input, range_name, site_name, coord_name};
-ghost use Rattle.ln_parse.specs.Canonical.{fits, wrap, inside, ranged, coord, site, param, arg, further, args, let_of, lets, root, pred, canonical};
+ghost use Rattle.ln_parse.specs.Canonical.{fits, wrap, inside, ranged, coord, site, param, arg};
+ghost use Rattle.ln_parse.specs.Canonical.{further, args, let_of, lets, root, pred, canonical};
 ghost use Rattle.ln_parse.specs.ReadsBack.{TableNamed, ReadsBack};
 ghost use Rattle.ln_parse.specs.Spanless.{IsTextUpToSpans, table_spanless};
 ghost use Rattle.ln_parse.specs.Text.{TextOf};
@@ -150,7 +151,8 @@ fn put_param(out: &mut Vec<u8>, p: &Param) -> Result<(), NoMemory>
 }
 
 fn put_preds(out: &mut Vec<u8>, t: &Table) -> Result<(), NoMemory>
-    ensures { IfOk result (λ x. Puts out.old.items out.new.items (each (pred (table_of t.now.sites t.now.params t.now.preds)) (map pred_of t.now.preds))) }
+    ensures { IfOk result (λ x. Puts out.old.items out.new.items (each (pred (table_of t.now.sites t.now.params t.now.preds))
+        (map pred_of t.now.preds))) }
 {
     let preds = t.preds.as_slice();
     'preds: for p in preds {
@@ -172,7 +174,8 @@ fn put_pred(out: &mut Vec<u8>, t: &Table, p: &Pred) -> Result<(), NoMemory>
 }
 
 fn put_args(out: &mut Vec<u8>, t: &Table, list: &[Arg]) -> Result<(), NoMemory>
-    ensures { IfOk result (λ x. Puts out.old.items out.new.items (args (table_of t.now.sites t.now.params t.now.preds) (map arg_of list.now))) }
+    ensures { IfOk result (λ x. Puts out.old.items out.new.items (args (table_of t.now.sites t.now.params t.now.preds)
+        (map arg_of list.now))) }
 {
     match list {
         [] => Ok(()),
@@ -184,7 +187,8 @@ fn put_args(out: &mut Vec<u8>, t: &Table, list: &[Arg]) -> Result<(), NoMemory>
 }
 
 fn put_further(out: &mut Vec<u8>, t: &Table, list: &[Arg]) -> Result<(), NoMemory>
-    ensures { IfOk result (λ x. Puts out.old.items out.new.items (each (further (table_of t.now.sites t.now.params t.now.preds)) (map arg_of list.now))) }
+    ensures { IfOk result (λ x. Puts out.old.items out.new.items (each (further (table_of t.now.sites t.now.params t.now.preds))
+        (map arg_of list.now))) }
 {
     'args: for a in list {
         put(out, b", ")?;
@@ -260,7 +264,9 @@ fn let_name(p: &Pred, j: u8) -> &[u8]
 }
 
 fn put_lets(out: &mut Vec<u8>, t: &Table, p: &Pred) -> Result<(), NoMemory>
-    ensures { IfOk result (λ x. Puts out.old.items out.new.items (lets (naming (table_of t.now.sites t.now.params t.now.preds) (pred_of p.now)) (map name_bytes p.now.let_names) (map formula p.now.lets))) }
+    ensures { IfOk result (λ x. Puts out.old.items out.new.items
+        (lets (naming (table_of t.now.sites t.now.params t.now.preds) (pred_of p.now)) (map name_bytes p.now.let_names)
+        (map formula p.now.lets))) }
 {
     let names = p.let_names.as_slice();
     let values = p.lets.as_slice();
@@ -271,7 +277,8 @@ fn put_lets(out: &mut Vec<u8>, t: &Table, p: &Pred) -> Result<(), NoMemory>
 }
 
 fn put_let(out: &mut Vec<u8>, t: &Table, p: &Pred, named: &Name, e: &Expr) -> Result<(), NoMemory>
-    ensures { IfOk result (λ x. Puts out.old.items out.new.items (let_of (naming (table_of t.now.sites t.now.params t.now.preds) (pred_of p.now)) (name_bytes named.now) (formula e.now))) }
+    ensures { IfOk result (λ x. Puts out.old.items out.new.items
+        (let_of (naming (table_of t.now.sites t.now.params t.now.preds) (pred_of p.now)) (name_bytes named.now) (formula e.now))) }
 {
     put(out, b"let ")?;
     put(out, named.bytes())?;
@@ -281,7 +288,8 @@ fn put_let(out: &mut Vec<u8>, t: &Table, p: &Pred, named: &Name, e: &Expr) -> Re
 }
 
 fn put_root(out: &mut Vec<u8>, t: &Table, p: &Pred) -> Result<(), NoMemory>
-    ensures { IfOk result (λ x. Puts out.old.items out.new.items (root (naming (table_of t.now.sites t.now.params t.now.preds) (pred_of p.now)) (formula p.now.root))) }
+    ensures { IfOk result (λ x. Puts out.old.items out.new.items
+        (root (naming (table_of t.now.sites t.now.params t.now.preds) (pred_of p.now)) (formula p.now.root))) }
 {
     put(out, b"sign ")?;
     put_expr(out, t, p, Room::OfSum, &p.root)?;
@@ -289,7 +297,9 @@ fn put_root(out: &mut Vec<u8>, t: &Table, p: &Pred) -> Result<(), NoMemory>
 }
 
 fn put_input(out: &mut Vec<u8>, t: &Table, p: &Pred, v: Var) -> Result<(), NoMemory>
-    ensures { IfOk result (λ x. Puts out.old.items out.new.items (inside (input (naming (table_of t.now.sites t.now.params t.now.preds) (pred_of p.now)) (slice_get (map arg_of p.now.args) v.arg) v.coord))) }
+    ensures { IfOk result (λ x. Puts out.old.items out.new.items
+        (inside (input (naming (table_of t.now.sites t.now.params t.now.preds) (pred_of p.now))
+        (slice_get (map arg_of p.now.args) v.arg) v.coord))) }
 {
     match p.args.get(usize::from(v.arg)) {
         Some(Arg::Site(name, s)) => {
@@ -327,7 +337,9 @@ fn close(out: &mut Vec<u8>, plain: bool) -> Result<(), NoMemory>
 }
 
 fn put_expr(out: &mut Vec<u8>, t: &Table, p: &Pred, room: Room, e: &Expr) -> Result<(), NoMemory>
-    ensures { IfOk result (λ x. Puts out.old.items out.new.items (wrap room (written (naming (table_of t.now.sites t.now.params t.now.preds) (pred_of p.now)) (formula e.now)) (inside (written (naming (table_of t.now.sites t.now.params t.now.preds) (pred_of p.now)) (formula e.now))))) }
+    ensures { IfOk result (λ x. Puts out.old.items out.new.items
+        (wrap room (written (naming (table_of t.now.sites t.now.params t.now.preds) (pred_of p.now)) (formula e.now))
+        (inside (written (naming (table_of t.now.sites t.now.params t.now.preds) (pred_of p.now)) (formula e.now))))) }
 {
     let plain = stands(room, e);
     open(out, plain)?;

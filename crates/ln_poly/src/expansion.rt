@@ -1,5 +1,6 @@
 //! Normal polynomials of predicates.
-ghost use Rattle.std.specs.Prelude.{◌≡◌, ℕ, ◌+◌, ◌*◌, ◌<◌, ◌≤◌, ◌^◌, [], ◌∷◌, true, pos, unsigned_abs, All, List, IfOk, IfErr, OnOk, nat_lt, length, map, slice_index_or, ◌↔◌};
+ghost use Rattle.std.specs.Prelude.{◌≡◌, ℕ, ◌+◌, ◌*◌, ◌<◌, ◌≤◌, ◌^◌, [], ◌∷◌, true, pos, unsigned_abs, All};
+ghost use Rattle.std.specs.Prelude.{List, IfOk, IfErr, OnOk, nat_lt, length, map, slice_index_or, ◌↔◌};
 ghost use Rattle.ln_algebra.specs.Tree.{Tree, Num, Input, Neg, Add, Sub, Mul, Pow};
 ghost use Rattle.ln_algebra.specs.Vector.{total_degree};
 ghost use Rattle.ln_tree.specs.Exps.{vector};
@@ -11,7 +12,8 @@ ghost use Rattle.ln_bound.specs.Loads.{loaded_pred};
 ghost use Rattle.ln_bound.specs.Light.{AreLight as HaveWeights};
 ghost use Rattle.ln_poly.specs.Sparse.{size_of};
 ghost use Rattle.ln_poly.specs.Rows.{PowersFit};
-ghost use Rattle.ln_poly.specs.Expansion.{IsNormal, HaveFewTerms, IsZeroFault, closed_lets, closed_root, expanded, expanded_lets, expanded_pred, powers};
+ghost use Rattle.ln_poly.specs.Expansion.{IsNormal, HaveFewTerms, IsZeroFault, closed_lets, closed_root};
+ghost use Rattle.ln_poly.specs.Expansion.{expanded, expanded_lets, expanded_pred, powers};
 ghost use Rattle.ln_poly.specs.Ready.{AreLight, AreNormal, Expands, HasPower, LetsAreLight};
 ghost use Rattle.ln_poly.specs.Stop.{StopsExpanding};
 
@@ -73,7 +75,8 @@ fn literal(alloc: Global, at: Span, c: i128) -> Result<Poly, PolyStop>
 fn variable(alloc: Global, at: Span, vars: &[VarInfo], v: Var) -> Result<Poly, PolyStop>
     requires few { length vars.now ≤ 168 }
     requires within { number_or_end vars.now v.arg v.coord < length vars.now }
-    ensures ok { IfOk result (λ h. Expands (length vars.now) ((at, Input (number_or_end vars.now v.arg v.coord)) ∷ []) (Input (number_or_end vars.now v.arg v.coord)) h) }
+    ensures ok { IfOk result (λ h. Expands (length vars.now) ((at, Input (number_or_end vars.now v.arg v.coord)) ∷ [])
+        (Input (number_or_end vars.now v.arg v.coord)) h) }
     ensures err { IfErr result (λ s. StopsExpanding (length vars.now) ((at, Input (number_or_end vars.now v.arg v.coord)) ∷ []) s) }
 {
     let f = power(alloc, number_in(vars, v) as u8, 1, 1)?;
@@ -83,8 +86,10 @@ fn variable(alloc: Global, at: Span, vars: &[VarInfo], v: Var) -> Result<Poly, P
 // The polynomial of a let.
 fn let_named(alloc: Global, at: Span, polys: &[Poly], j: u8) -> Result<Poly, PolyStop>
     requires { j < length polys.now }
-    ensures ok { IfOk result (λ h. (n : ℕ) (es : List Tree) → AreNormal n es polys.now → Expands n ((at, slice_index_or es j (Num (pos 0))) ∷ []) (slice_index_or es j (Num (pos 0))) h) }
-    ensures err { IfErr result (λ s. (n : ℕ) (es : List Tree) → AreNormal n es polys.now → StopsExpanding n ((at, slice_index_or es j (Num (pos 0))) ∷ []) s) }
+    ensures ok { IfOk result (λ h. (n : ℕ) (es : List Tree) → AreNormal n es polys.now →
+        Expands n ((at, slice_index_or es j (Num (pos 0))) ∷ []) (slice_index_or es j (Num (pos 0))) h) }
+    ensures err { IfErr result (λ s. (n : ℕ) (es : List Tree) → AreNormal n es polys.now →
+        StopsExpanding n ((at, slice_index_or es j (Num (pos 0))) ∷ []) s) }
 {
     let f = polys[usize::from(j)].copy(alloc)?;
     counted(at, f)
@@ -93,8 +98,10 @@ fn let_named(alloc: Global, at: Span, polys: &[Poly], j: u8) -> Result<Poly, Pol
 // The sum of two polynomials, at the place of its node.
 fn sum(alloc: Global, at: Span, f: &Poly, g: &Poly) -> Result<Poly, PolyStop>
     requires { size_of f.now + size_of g.now < 2 ^ 127 }
-    ensures ok { IfOk result (λ h. (n : ℕ) (d e : Tree) → IsNormal n d f.now → IsNormal n e g.now → Expands n ((at, Add d e) ∷ []) (Add d e) h) }
-    ensures err { IfErr result (λ s. (n : ℕ) (d e : Tree) → IsNormal n d f.now → IsNormal n e g.now → StopsExpanding n ((at, Add d e) ∷ []) s) }
+    ensures ok { IfOk result (λ h. (n : ℕ) (d e : Tree) → IsNormal n d f.now → IsNormal n e g.now →
+        Expands n ((at, Add d e) ∷ []) (Add d e) h) }
+    ensures err { IfErr result (λ s. (n : ℕ) (d e : Tree) → IsNormal n d f.now → IsNormal n e g.now →
+        StopsExpanding n ((at, Add d e) ∷ []) s) }
 {
     let h = add(alloc, f, g)?;
     counted(at, h)
@@ -103,8 +110,10 @@ fn sum(alloc: Global, at: Span, f: &Poly, g: &Poly) -> Result<Poly, PolyStop>
 // The difference.
 fn difference(alloc: Global, at: Span, f: &Poly, g: &Poly) -> Result<Poly, PolyStop>
     requires { size_of f.now + size_of g.now < 2 ^ 127 }
-    ensures ok { IfOk result (λ h. (n : ℕ) (d e : Tree) → IsNormal n d f.now → IsNormal n e g.now → Expands n ((at, Sub d e) ∷ []) (Sub d e) h) }
-    ensures err { IfErr result (λ s. (n : ℕ) (d e : Tree) → IsNormal n d f.now → IsNormal n e g.now → StopsExpanding n ((at, Sub d e) ∷ []) s) }
+    ensures ok { IfOk result (λ h. (n : ℕ) (d e : Tree) → IsNormal n d f.now → IsNormal n e g.now →
+        Expands n ((at, Sub d e) ∷ []) (Sub d e) h) }
+    ensures err { IfErr result (λ s. (n : ℕ) (d e : Tree) → IsNormal n d f.now → IsNormal n e g.now →
+        StopsExpanding n ((at, Sub d e) ∷ []) s) }
 {
     let h = sub(alloc, f, g)?;
     counted(at, h)
@@ -114,8 +123,10 @@ fn difference(alloc: Global, at: Span, f: &Poly, g: &Poly) -> Result<Poly, PolyS
 fn product(alloc: Global, at: Span, f: &Poly, g: &Poly) -> Result<Poly, PolyStop>
     requires room { size_of f.now * size_of g.now < 2 ^ 127 }
     requires powers { All (λ s. PowersFit s g.now) f.now }
-    ensures ok { IfOk result (λ h. (n : ℕ) (d e : Tree) → IsNormal n d f.now → IsNormal n e g.now → Expands n ((at, Mul d e) ∷ []) (Mul d e) h) }
-    ensures err { IfErr result (λ s. (n : ℕ) (d e : Tree) → IsNormal n d f.now → IsNormal n e g.now → StopsExpanding n ((at, Mul d e) ∷ []) s) }
+    ensures ok { IfOk result (λ h. (n : ℕ) (d e : Tree) → IsNormal n d f.now → IsNormal n e g.now →
+        Expands n ((at, Mul d e) ∷ []) (Mul d e) h) }
+    ensures err { IfErr result (λ s. (n : ℕ) (d e : Tree) → IsNormal n d f.now → IsNormal n e g.now →
+        StopsExpanding n ((at, Mul d e) ∷ []) s) }
 {
     let h = mul(alloc, f, g)?;
     counted(at, h)
@@ -157,8 +168,11 @@ fn expand(
     requires fit { is_fit (length vars.now) (length polys.now) (tree_of vars.now e.now) ≡ true }
     requires light { AreLight (length vars.now) two (closed_lets vars.now (map formula lets.now)) (tree_of vars.now e.now) }
     requires polys { AreNormal (length vars.now) (closed_lets vars.now (map formula lets.now)) polys.now }
-    ensures ok { IfOk result (λ f. Expands (length vars.now) (expanded vars.now (closed_lets vars.now (map formula lets.now)) (formula e.now)) (closed_root vars.now (map formula lets.now) (formula e.now)) f) }
-    ensures err { IfErr result (λ s. StopsExpanding (length vars.now) (expanded vars.now (closed_lets vars.now (map formula lets.now)) (formula e.now)) s) }
+    ensures ok { IfOk result (λ f. Expands (length vars.now)
+        (expanded vars.now (closed_lets vars.now (map formula lets.now)) (formula e.now))
+        (closed_root vars.now (map formula lets.now) (formula e.now)) f) }
+    ensures err { IfErr result (λ s. StopsExpanding (length vars.now)
+        (expanded vars.now (closed_lets vars.now (map formula lets.now)) (formula e.now)) s) }
 {
     match &e.node {
         Node::Num(c) => literal(alloc, e.at, *c),
@@ -212,12 +226,16 @@ fn expand_lets(alloc: Global, lets: &[Expr], vars: &[VarInfo]) -> Result<Seq<Pol
 /// a node may pass `2^127 - 1`: so no coefficient does on the way.
 pub fn normal(alloc: Global, p: &Pred) -> Result<Poly, PolyStop>
     requires { HaveWeights (loaded_pred p.now.shape.vars (map formula p.now.lets) (formula p.now.root)) }
-    ensures normal { IfOk result (λ f. IsNormal (length p.now.shape.vars) (closed_root p.now.shape.vars (map formula p.now.lets) (formula p.now.root)) f) }
-    ensures few { OnOk result (HaveFewTerms (length p.now.shape.vars) (expanded_pred p.now.shape.vars (map formula p.now.lets) (formula p.now.root))) }
+    ensures normal { IfOk result (λ f. IsNormal (length p.now.shape.vars)
+        (closed_root p.now.shape.vars (map formula p.now.lets) (formula p.now.root)) f) }
+    ensures few { OnOk result (HaveFewTerms (length p.now.shape.vars)
+        (expanded_pred p.now.shape.vars (map formula p.now.lets) (formula p.now.root))) }
     ensures terms { IfOk result (λ f. length f ≤ 1024) }
     ensures degrees { IfOk result (λ f. All (λ t. total_degree (vector (length p.now.shape.vars) t.0) ≤ 126) f) }
-    ensures zero { IfOk result (λ f. (f ≡ []) ↔ IsZeroFault (length p.now.shape.vars) (closed_root p.now.shape.vars (map formula p.now.lets) (formula p.now.root))) }
-    ensures err { IfErr result (λ s. StopsExpanding (length p.now.shape.vars) (expanded_pred p.now.shape.vars (map formula p.now.lets) (formula p.now.root)) s) }
+    ensures zero { IfOk result (λ f. (f ≡ []) ↔ IsZeroFault (length p.now.shape.vars)
+        (closed_root p.now.shape.vars (map formula p.now.lets) (formula p.now.root))) }
+    ensures err { IfErr result (λ s. StopsExpanding (length p.now.shape.vars)
+        (expanded_pred p.now.shape.vars (map formula p.now.lets) (formula p.now.root)) s) }
 {
     let vars = p.shape.vars.as_slice();
     let lets = p.lets.as_slice();

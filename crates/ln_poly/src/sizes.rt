@@ -18,13 +18,21 @@ ghost use Rattle.ln_poly.specs.Sparse.{Sparse, terms_of};
 /// Where no range and no size of a predicate's nodes passes the limit, each node may be expanded in 128 bits; and where the
 /// size of an expression is at most `2^127 - 1`, no degree of its normal polynomial is above 126.
 pub fn sizes_make_room()
-    ensures expand { (vars : List Info) (k : ℕ) (lets : List Formula) (root : Formula) → lets_fit (length vars) 0 (map (tree vars) lets) ≡ true → is_fit (length vars) k (tree vars root) ≡ true → AreLight (loaded_pred vars lets root) → LetsMayExpand (length vars) two [] (map (tree vars) lets) × MayExpand (length vars) two (closed_lets vars lets) (tree vars root) }
+    ensures expand { (vars : List Info) (k : ℕ) (lets : List Formula) (root : Formula) →
+        lets_fit (length vars) 0 (map (tree vars) lets) ≡ true → is_fit (length vars) k (tree vars root) ≡ true →
+        AreLight (loaded_pred vars lets root) → LetsMayExpand (length vars) two [] (map (tree vars) lets)
+        × MayExpand (length vars) two (closed_lets vars lets) (tree vars root) }
     ensures degrees { (n : ℕ) (e : Tree) (f : Sparse) → IsLight n two e → IsNormal n e f → All (λ t. total_degree (vector n t.0) ≤ 126) f }
 {}
 
 /// What is accepted by weight is accepted by ranges, sizes and the weighted sum of the normal polynomial: where no node is too
 /// heavy, no range and no size passes the limit, and the w-weighted sum of the root's normal polynomial doesn't.
 pub fn what_was_accepted_stays_accepted()
-    ensures nodes { (vars : List Info) (k : ℕ) (lets : List Formula) (root : Formula) → lets_fit (length vars) 0 (map (tree vars) lets) ≡ true → is_fit (length vars) k (tree vars root) ≡ true → AreLight (weighed_pred vars lets root) → AreLight (loaded_pred vars lets root) }
-    ensures root { (vars : List Info) (k : ℕ) (lets : List Formula) (root : Formula) (f : Sparse) → lets_fit (length vars) 0 (map (tree vars) lets) ≡ true → is_fit (length vars) k (tree vars root) ≡ true → AreLight (weighed_pred vars lets root) → IsNormal (length vars) (closed_root vars lets root) f → weighted_sum (weights vars) (terms_of (length vars) f) ≤ most }
+    ensures nodes { (vars : List Info) (k : ℕ) (lets : List Formula) (root : Formula) →
+        lets_fit (length vars) 0 (map (tree vars) lets) ≡ true → is_fit (length vars) k (tree vars root) ≡ true →
+        AreLight (weighed_pred vars lets root) → AreLight (loaded_pred vars lets root) }
+    ensures root { (vars : List Info) (k : ℕ) (lets : List Formula) (root : Formula) (f : Sparse) →
+        lets_fit (length vars) 0 (map (tree vars) lets) ≡ true → is_fit (length vars) k (tree vars root) ≡ true →
+        AreLight (weighed_pred vars lets root) → IsNormal (length vars) (closed_root vars lets root) f →
+        weighted_sum (weights vars) (terms_of (length vars) f) ≤ most }
 {}

@@ -42,7 +42,8 @@ fn scaled(w: u128, m: u128, e: u8) -> Option<u128>
 fn weight_of_term(vars: &[VarInfo], t: &(Exps, i128), more: u8) -> Option<u128>
     requires below { IsAbove t.now.0 (length vars.now) }
     requires small { unsigned_abs t.now.1 ≤ most }
-    ensures { MatchOption result (most < term_weight (grown more vars.now) t.now) (λ w. (w ≡ term_weight (grown more vars.now) t.now) × (w ≤ most)) }
+    ensures { MatchOption result (most < term_weight (grown more vars.now) t.now)
+        (λ w. (w ≡ term_weight (grown more vars.now) t.now) × (w ≤ most)) }
 {
     let mut w = t.1.unsigned_abs();
     'pairs: for p in t.0.pairs() {
@@ -57,7 +58,8 @@ fn weight_of_term(vars: &[VarInfo], t: &(Exps, i128), more: u8) -> Option<u128>
 // The weighted sum where each variable weighs its M and `more`.
 fn total(f: &Poly, s: &Shape, more: u8) -> Option<u128>
     requires { AreBelow (length s.now.vars) f.now }
-    ensures { MatchOption result (most < weighted_sum (grown more s.now.vars) (terms_of (length s.now.vars) f.now)) (λ w. (w ≡ weighted_sum (grown more s.now.vars) (terms_of (length s.now.vars) f.now)) × (w ≤ most)) }
+    ensures { MatchOption result (most < weighted_sum (grown more s.now.vars) (terms_of (length s.now.vars) f.now))
+        (λ w. (w ≡ weighted_sum (grown more s.now.vars) (terms_of (length s.now.vars) f.now)) × (w ≤ most)) }
 {
     let vars = s.vars.as_slice();
     let f = f.terms();
@@ -75,7 +77,8 @@ fn total(f: &Poly, s: &Shape, more: u8) -> Option<u128>
 /// value of its range, and at least 1. None where it passes `2^127 - 1`. It takes no memory.
 pub fn weight(f: &Poly, s: &Shape) -> Option<u128>
     requires { AreBelow (length s.now.vars) f.now }
-    ensures { MatchOption result (most < weighted_sum (sizes s.now.vars) (terms_of (length s.now.vars) f.now)) (λ w. (w ≡ weighted_sum (sizes s.now.vars) (terms_of (length s.now.vars) f.now)) × (w ≤ most)) }
+    ensures { MatchOption result (most < weighted_sum (sizes s.now.vars) (terms_of (length s.now.vars) f.now))
+        (λ w. (w ≡ weighted_sum (sizes s.now.vars) (terms_of (length s.now.vars) f.now)) × (w ≤ most)) }
 {
     total(f, s, 0)
 }
@@ -84,7 +87,8 @@ pub fn weight(f: &Poly, s: &Shape) -> Option<u128>
 /// None where it passes `2^127 - 1`. It takes no memory.
 pub fn heft(f: &Poly, s: &Shape) -> Option<u128>
     requires { AreBelow (length s.now.vars) f.now }
-    ensures { MatchOption result (most < weighted_sum (weights s.now.vars) (terms_of (length s.now.vars) f.now)) (λ w. (w ≡ weighted_sum (weights s.now.vars) (terms_of (length s.now.vars) f.now)) × (w ≤ most)) }
+    ensures { MatchOption result (most < weighted_sum (weights s.now.vars) (terms_of (length s.now.vars) f.now))
+        (λ w. (w ≡ weighted_sum (weights s.now.vars) (terms_of (length s.now.vars) f.now)) × (w ≤ most)) }
 {
     total(f, s, 1)
 }

@@ -1,5 +1,6 @@
 -- What a record says: a row of a predicate, or the fault that it has.
-use Rattle.std.specs.Prelude.{◌≡◌, ℕ, zero, suc, ◌-◌, ◌^◌, ◌≤◌, ◌==◌, slice_index_or, if◌then◌else◌, ℤ, pos, List, [], ◌∷◌, length, take, Option, Some, None, unwrap_or, Result, Ok, Err, OnOk, IfErr}
+use Rattle.std.specs.Prelude.{◌≡◌, ℕ, zero, suc, ◌-◌, ◌^◌, ◌≤◌, ◌==◌, slice_index_or, if◌then◌else◌, ℤ, pos, List}
+use Rattle.std.specs.Prelude.{[], ◌∷◌, length, take, Option, Some, None, unwrap_or, Result, Ok, Err, OnOk, IfErr}
 use Rattle.ln_base.specs.Decimal.{integer_value}
 use Rattle.ln_tree.specs.declared.shape.VarInfo.{VarInfo}
 use Rattle.ln_tree.specs.Variables.{starts_site}
@@ -80,11 +81,14 @@ abbrev pub unless_fault : List Column → Row → Option RowStop → Result Row 
 unless_fault cs r None = differing cs r (first_equal r.index)
 unless_fault cs r (Some stop) = Err stop
 
--- the row that a record says, over so many sites and these variables, or the first of its faults: another number of fields than of columns; the first column that has no number or one outside its range; the first site whose index an earlier site has
+-- the row that a record says, over so many sites and these variables, or the first of its faults: another number of fields than
+-- of columns; the first column that has no number or one outside its range; the first site whose index an earlier site has
 abbrev pub read_row : ℕ → List VarInfo → List (List ℕ) → Result Row RowStop
 read_row sites vars fields =
     if length fields == length (columns vars)
-    then unless_fault (columns vars) (record { index = take sites (indices (columns vars) fields); values = values (columns vars) fields }) (first_fault 0 (columns vars) fields)
+    then unless_fault (columns vars)
+    (record { index = take sites (indices (columns vars) fields); values = values (columns vars) fields })
+    (first_fault 0 (columns vars) fields)
     else Err Fields
 
 -- the columns have no fault, and the row of the program is what they say
@@ -94,7 +98,8 @@ pub record IsRead (vars : List VarInfo) (fields : List (List ℕ)) (r : code.Row
   pub values : take (length vars) r.values ≡ values (columns vars) fields
 
 -- what is said of a record with these fields: the program's row is what it says, which is in range, or it has this first fault
-pub record IsReadAs {T : Type 0} (sites : ℕ) (vars : List VarInfo) (fields : List (List ℕ)) (read : Result T RowStop) (r : code.Row) : Type 0 where
+pub record IsReadAs {T : Type 0} (sites : ℕ) (vars : List VarInfo) (fields : List (List ℕ)) (read : Result T RowStop)
+    (r : code.Row) : Type 0 where
   pub ok : OnOk read (read_row sites vars fields ≡ Ok (row_of sites vars r))
   pub err : IfErr read (λ e. read_row sites vars fields ≡ Err e)
   pub in_range : OnOk read (InRange sites vars (row_of sites vars r))

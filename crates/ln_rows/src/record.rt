@@ -5,7 +5,8 @@ ghost use Rattle.ln_tree.specs.Row.{InRange};
 ghost use Rattle.ln_code.specs.RowOf.{row_of, IsZeroPast};
 ghost use Rattle.ln_tree.specs.Variables.{starts_site, is_laid_out};
 ghost use Rattle.ln_rows.specs.Number.{number_in};
-ghost use Rattle.ln_rows.specs.Record.{SiteIndex, Variable, columns, number_of, in_column, first_fault, values, index_column, read_row, IsRead, IsReadAs, StaysPast};
+ghost use Rattle.ln_rows.specs.Record.{SiteIndex, Variable, columns, number_of, in_column, first_fault};
+ghost use Rattle.ln_rows.specs.Record.{values, index_column, read_row, IsRead, IsReadAs, StaysPast};
 
 use crate::numbers::{NumberStop, number};
 use csv::ByteRecord;
@@ -129,7 +130,8 @@ fn index_column(vars: &[VarInfo], place: u8) -> u8
 // Whether the indices of a row that was read differ, or the fault that it has.
 pub(crate) fn differ(vars: &[VarInfo], sites: u8, into: &Row) -> Result<(), RowStop>
     requires { is_laid_out sites vars.now ≡ true }
-    ensures { (fields : List (List ℕ)) → length fields ≡ length (columns vars.now) → IsRead vars.now fields into.now → IsReadAs sites vars.now fields result into.now }
+    ensures { (fields : List (List ℕ)) → length fields ≡ length (columns vars.now) → IsRead vars.now fields into.now →
+        IsReadAs sites vars.now fields result into.now }
 {
     match first_equal(&into.index[..usize::from(sites)]) {
         None => Ok(()),
@@ -156,10 +158,12 @@ fn row_over(vars: &[VarInfo], sites: u8, fields: &ByteRecord, into: &mut Row) ->
 /// variable in its declared range, and the indices differ. Places past those of the predicate stay as they are; so where they
 /// were 0 they are 0. With a fault the places of the predicate may hold what was read of the record.
 pub fn row(p: &Pred, fields: &ByteRecord, into: &mut Row) -> Result<(), RowStop>
-    ensures ok { OnOk result (read_row p.now.shape.sites p.now.shape.vars (fields_of fields.now) ≡ Ok (row_of p.now.shape.sites p.now.shape.vars into.new)) }
+    ensures ok { OnOk result (read_row p.now.shape.sites p.now.shape.vars (fields_of fields.now)
+        ≡ Ok (row_of p.now.shape.sites p.now.shape.vars into.new)) }
     ensures err { IfErr result (λ e. read_row p.now.shape.sites p.now.shape.vars (fields_of fields.now) ≡ Err e) }
     ensures stays { StaysPast p.now.shape.sites (length p.now.shape.vars) into.old into.new }
-    ensures past { IsZeroPast p.now.shape.sites (length p.now.shape.vars) into.old → IsZeroPast p.now.shape.sites (length p.now.shape.vars) into.new }
+    ensures past { IsZeroPast p.now.shape.sites (length p.now.shape.vars) into.old →
+        IsZeroPast p.now.shape.sites (length p.now.shape.vars) into.new }
     ensures in_range { OnOk result (InRange p.now.shape.sites p.now.shape.vars (row_of p.now.shape.sites p.now.shape.vars into.new)) }
 {
     row_over(p.shape.vars.as_slice(), p.shape.sites, fields, into)

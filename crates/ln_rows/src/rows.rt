@@ -94,7 +94,8 @@ impl<'a> Rows<'a> {
     /// of them than there are columns, and one. After `NoMemory` no record is left.
     pub fn header(&mut self, t: &Table, p: &Pred) -> Result<bool, NoMemory>
         ensures right { IfOk result (λ right. right ≡ true → self.old ≡ column_names t.now.sites t.now.params p.now.args ∷ self.new) }
-        ensures wrong { IfOk result (λ right. right ≡ false → (rest : Records) → self.old ≡ column_names t.now.sites t.now.params p.now.args ∷ rest → ⊥) }
+        ensures wrong { IfOk result (λ right. right ≡ false → (rest : Records) →
+            self.old ≡ column_names t.now.sites t.now.params p.now.args ∷ rest → ⊥) }
         ensures err { OnErr result (self.new ≡ []) }
     {
         let most = room(t, p).min(self.rest.len() + 1);
@@ -120,7 +121,8 @@ impl<'a> Rows<'a> {
         p: &Pred,
         into: &mut Row,
     ) -> Result<Option<Result<(), RowStop>>, NoMemory>
-        ensures takes { IfOk result (λ o. IfSome o (λ read. (fields : List (List ℕ)) × (self.old ≡ fields ∷ self.new) × IsReadAs p.now.shape.sites p.now.shape.vars fields read into.new)) }
+        ensures takes { IfOk result (λ o. IfSome o (λ read. (fields : List (List ℕ)) × (self.old ≡ fields ∷ self.new)
+            × IsReadAs p.now.shape.sites p.now.shape.vars fields read into.new)) }
         ensures end { IfOk result (λ o. o ≡ None → (self.old ≡ []) × (self.new ≡ [])) }
         ensures err { OnErr result (self.new ≡ []) }
     {
@@ -149,7 +151,8 @@ impl<'a> Rows<'a> {
         p: &Pred,
         into: &mut Row,
     ) -> Result<Option<Result<(), RowStop>>, NoMemory>
-        ensures takes { IfOk result (λ o. IfSome o (λ read. (fields : List (List ℕ)) × (self.old ≡ fields ∷ self.new) × IsReadAs p.now.shape.sites p.now.shape.vars fields read into.new)) }
+        ensures takes { IfOk result (λ o. IfSome o (λ read. (fields : List (List ℕ)) × (self.old ≡ fields ∷ self.new)
+            × IsReadAs p.now.shape.sites p.now.shape.vars fields read into.new)) }
         ensures end { IfOk result (λ o. o ≡ None → (self.old ≡ []) × (self.new ≡ [])) }
         ensures err { OnErr result (self.new ≡ []) }
     {

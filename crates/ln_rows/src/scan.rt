@@ -99,7 +99,8 @@ fn step(stand: Stand, c: u8) -> (Stand, Deed)
 
 // A byte joins its field, where that is kept.
 fn hold(most: usize, c: u8, held: &mut Vec<u8>, into: &ByteRecord) -> Result<(), NoMemory>
-    ensures { OnOk result ((all : List (List ℕ)) → (field : List ℕ) → Keeps most all field (fields_of into.now) held.old.items → Keeps most all (field ++ c ∷ []) (fields_of into.now) held.new.items) }
+    ensures { OnOk result ((all : List (List ℕ)) → (field : List ℕ) → Keeps most all field (fields_of into.now) held.old.items →
+        Keeps most all (field ++ c ∷ []) (fields_of into.now) held.new.items) }
 {
     if into.len() < most {
         held.push(c)?;
@@ -110,7 +111,9 @@ fn hold(most: usize, c: u8, held: &mut Vec<u8>, into: &ByteRecord) -> Result<(),
 // A field ends, and is kept where there is room for it.
 fn end_field(most: usize, held: &mut Vec<u8>, into: &mut ByteRecord) -> Result<(), NoMemory>
     requires { partial_of into.old ≡ [] }
-    ensures keeps { OnOk result ((all : List (List ℕ)) → (field : List ℕ) → Keeps most all field (fields_of into.old) held.old.items → Keeps most (all ++ field ∷ []) [] (fields_of into.new) held.new.items) }
+    ensures keeps { OnOk result ((all : List (List ℕ)) → (field : List ℕ) →
+        Keeps most all field (fields_of into.old) held.old.items →
+        Keeps most (all ++ field ∷ []) [] (fields_of into.new) held.new.items) }
     ensures partial { OnOk result (partial_of into.new ≡ []) }
 {
     if into.len() < most {
@@ -129,7 +132,9 @@ fn carry(
     into: &mut ByteRecord,
 ) -> Result<(), NoMemory>
     requires { partial_of into.old ≡ [] }
-    ensures keeps { OnOk result ((all : List (List ℕ)) → (field : List ℕ) → Keeps most all field (fields_of into.old) held.old.items → Keeps most (fields_after (action_of deed) all field) (field_after (action_of deed) c field) (fields_of into.new) held.new.items) }
+    ensures keeps { OnOk result ((all : List (List ℕ)) → (field : List ℕ) →
+        Keeps most all field (fields_of into.old) held.old.items → Keeps most (fields_after (action_of deed) all field)
+        (field_after (action_of deed) c field) (fields_of into.new) held.new.items) }
     ensures partial { OnOk result (partial_of into.new ≡ []) }
 {
     match deed {
@@ -157,7 +162,8 @@ pub(crate) fn first_record<'a>(
     into: &mut ByteRecord,
 ) -> Result<Option<&'a [u8]>, NoMemory>
     ensures none { IfOk result (λ o. o ≡ None → first_of text.now ≡ None) }
-    ensures some { IfOk result (λ o. IfSome o (λ rest. (all : List (List ℕ)) × Gives text.now all rest.now × (fields_of into.new ≡ take most all))) }
+    ensures some { IfOk result (λ o. IfSome o (λ rest. (all : List (List ℕ)) × Gives text.now all rest.now
+        × (fields_of into.new ≡ take most all))) }
 {
     into.clear();
     held.clear();

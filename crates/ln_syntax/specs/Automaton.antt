@@ -2,7 +2,8 @@
 use Rattle.std.specs.Prelude.{ℕ, zero, suc, Bool, true, false, List, [], ◌∷◌, Option, Some, None}
 use Rattle.ln_lex.specs.declared.token.Token.{Token}
 use Rattle.ln_lex.specs.declared.token.Kind.{Kind}
-use Rattle.ln_lex.specs.declared.token.Kind.TheVariants.{Name, Number, Site, Param, Predicate, Let, Sign, BraceL, BraceR, ParL, ParR, Colon, Semi, Comma, Dot, Dots, Plus, Minus, Star, Caret, Equals}
+use Rattle.ln_lex.specs.declared.token.Kind.TheVariants.{Name, Number, Site, Param, Predicate, Let, Sign, BraceL, BraceR, ParL}
+use Rattle.ln_lex.specs.declared.token.Kind.TheVariants.{ParR, Colon, Semi, Comma, Dot, Dots, Plus, Minus, Star, Caret, Equals}
 use Rattle.ln_syntax.specs.declared.place.Ranged.{Ranged}
 use Rattle.ln_syntax.specs.declared.place.Ranged.TheVariants.{Coordinate, Parameter}
 use Rattle.ln_syntax.specs.declared.place.Part.{Part}
@@ -10,7 +11,11 @@ use Rattle.ln_syntax.specs.declared.place.Part.TheVariants.{Value, Root}
 use Rattle.ln_syntax.specs.declared.place.Last.{Last}
 use Rattle.ln_syntax.specs.declared.place.Last.TheVariants.{Named, Whole, Raised}
 use Rattle.ln_syntax.specs.declared.place.State.{State}
-use Rattle.ln_syntax.specs.declared.place.State.TheVariants.{AnItem, SiteName, SiteOpen, CoordName, CoordColon, CoordOrEnd, ParamName, ParamColon, Low, LowNumber, Between, High, HighNumber, RangeEnd, PredicateName, PredicateOpen, ArgName, ArgColon, ArgKind, ArgEnd, BodyOpen, Body, LetName, LetEquals, Operand, InputName, Exponent, After, BodyEnd}
+use Rattle.ln_syntax.specs.declared.place.State.TheVariants.{AnItem, SiteName, SiteOpen, CoordName, CoordColon, CoordOrEnd}
+use Rattle.ln_syntax.specs.declared.place.State.TheVariants.{ParamName, ParamColon, Low, LowNumber, Between, High}
+use Rattle.ln_syntax.specs.declared.place.State.TheVariants.{HighNumber, RangeEnd, PredicateName, PredicateOpen, ArgName}
+use Rattle.ln_syntax.specs.declared.place.State.TheVariants.{ArgColon, ArgKind, ArgEnd, BodyOpen, Body, LetName, LetEquals}
+use Rattle.ln_syntax.specs.declared.place.State.TheVariants.{Operand, InputName, Exponent, After, BodyEnd}
 
 -- a state and the count of open parentheses; none behind a token with which no file goes on
 abbrev pub Standing : Type 0

@@ -1,5 +1,6 @@
 -- The items of a file, without where they lie in memory, and the tokens by their places.
-use Rattle.std.specs.Prelude.{◌≡◌, ℕ, ◌-◌, Bool, true, false, List, [], Option, Some, None, option_map, slice_get, take, drop, map, bytes_eq}
+use Rattle.std.specs.Prelude.{◌≡◌, ℕ, ◌-◌, Bool, true, false, List, [], Option, Some}
+use Rattle.std.specs.Prelude.{None, option_map, slice_get, take, drop, map, bytes_eq}
 use Rattle.ln_base.specs.declared.span.Span.{Span}
 use Rattle.ln_lex.specs.declared.token.Token.{Token}
 use Rattle.ln_lex.specs.declared.token.Kind.{Kind}

@@ -58,14 +58,23 @@ is_eq-then Equal b = refl
 is_eq-then Greater b = refl
 
 eqb-cmp : (x y : ℕ) → (x == y) ≡ is_eq (nat_cmp x y)
-eqb-cmp x y = by_ranked (x < y) (x ≡ y) (y < x) (nat_cmp x y) (ranked x y (nat_cmp x y) refl) (λ e h. rw e (grind (arith, nat_tests))) (λ e h. rw e (grind (arith, nat_tests))) (λ e h. rw e (grind (arith, nat_tests)))
+eqb-cmp x y = by_ranked (x < y) (x ≡ y) (y < x) (nat_cmp x y) (ranked x y (nat_cmp x y) refl)
+    (λ e h. rw e (grind (arith, nat_tests))) (λ e h. rw e (grind (arith, nat_tests))) (λ e h. rw e (grind (arith, nat_tests)))
 
 -- the order has no other ties than equal lists
 pub same_pairs-ties : (xs ys : Pairs) → same_pairs xs ys ≡ is_eq (pairs_cmp xs ys)
 same_pairs-ties [] [] = refl
 same_pairs-ties [] (y ∷ ys) = refl
 same_pairs-ties (x ∷ xs) [] = refl
-same_pairs-ties (x ∷ xs) (y ∷ ys) = rw (is_eq-then (ordering_then (nat_cmp x.0 y.0) (nat_cmp x.1 y.1)) (pairs_cmp xs ys), is_eq-then (nat_cmp x.0 y.0) (nat_cmp x.1 y.1), ← eqb-cmp x.0 y.0, ← eqb-cmp x.1 y.1, ← same_pairs-ties xs ys) refl
+same_pairs-ties (x ∷ xs) (y ∷ ys) =
+    rw (
+      is_eq-then (ordering_then (nat_cmp x.0 y.0) (nat_cmp x.1 y.1)) (pairs_cmp xs ys),
+      is_eq-then (nat_cmp x.0 y.0)
+          (nat_cmp x.1 y.1),
+      ← eqb-cmp x.0 y.0,
+      ← eqb-cmp x.1 y.1,
+      ← same_pairs-ties xs ys,
+    ) refl
 
 -- the exponent of variable v; as variables rise, at most one pair adds to it
 abbrev pub exponent : ℕ → Pairs → ℕ

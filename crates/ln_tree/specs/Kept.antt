@@ -7,7 +7,8 @@ use Rattle.ln_tree.specs.Arguments.{are_of}
 use Rattle.ln_tree.specs.Formula.{formula, tree_of, node_count, node_counts}
 use Rattle.ln_tree.specs.Fits.{is_fit, lets_fit}
 
--- its variables are of its arguments; its lets and its sign expression are fit; it has at most 64 lets, each with a name, and at most 2,048 nodes
+-- its variables are of its arguments; its lets and its sign expression are fit; it has at most 64 lets, each with a name, and at
+-- most 2,048 nodes
 abbrev pub is_pred : List Arg → List VarInfo → List Expr → ℕ → Expr → Bool
 is_pred args vars lets names root =
     are_of args vars && nat_le (length lets) 64 && (names == length lets)

@@ -1,5 +1,6 @@
 -- The variables of a predicate read aloud: there are arguments, and the variables are their coordinates in turn.
-use Rattle.std.specs.Prelude.{◌≡◌, ◌↔◌, ℕ, suc, ◌+◌, ◌<◌, ◌≤◌, ℤ, Bool, true, false, List, [], ◌∷◌, ◌++◌, length, count_by, Option, Some, None}
+use Rattle.std.specs.Prelude.{◌≡◌, ◌↔◌, ℕ, suc, ◌+◌, ◌<◌, ◌≤◌, ℤ, Bool, true, false, List}
+use Rattle.std.specs.Prelude.{[], ◌∷◌, ◌++◌, length, count_by, Option, Some, None}
 use Rattle.std.specs.List.{list_all}
 use Rattle.ln_tree.specs.declared.shape.VarInfo.{VarInfo}
 use Rattle.ln_tree.specs.Variables.{has_range, is_laid_out}
@@ -27,10 +28,12 @@ abbrev pub coordinates_behind : VarInfo → List Ends → List VarInfo
 coordinates_behind b [] = []
 coordinates_behind b (r ∷ rs) = next_of b r ∷ coordinates_behind (next_of b r) rs
 
--- the variables of the arguments, where a arguments and s sites stand before them: arguments and sites count upwards, and so do the coordinates of a site
+-- the variables of the arguments, where a arguments and s sites stand before them: arguments and sites count upwards, and so do
+-- the coordinates of a site
 abbrev pub variables_from : ℕ → ℕ → List Argument → List VarInfo
 variables_from a s [] = []
-variables_from a s (ASite r rs ∷ args) = first_of a (Some s) r ∷ (coordinates_behind (first_of a (Some s) r) rs ++ variables_from (suc a) (suc s) args)
+variables_from a s (ASite r rs ∷ args) =
+    first_of a (Some s) r ∷ (coordinates_behind (first_of a (Some s) r) rs ++ variables_from (suc a) (suc s) args)
 variables_from a s (AParam r ∷ args) = first_of a None r ∷ variables_from (suc a) s args
 
 abbrev pub is_a_site : Argument → Bool

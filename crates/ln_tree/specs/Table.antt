@@ -61,7 +61,18 @@ arg_of (IsSite n t) = SiteArg (name_bytes n) t
 arg_of (IsParam p) = ParamArg p
 
 abbrev pub pred_of : Pred → PredOf
-pred_of p = record { name = name_bytes p.name; at = p.at; args = map arg_of p.args; shape_name = name_bytes p.shape.name; sites = p.shape.sites; vars = p.shape.vars; let_names = map name_bytes p.let_names; lets = map formula p.lets; root = formula p.root }
+pred_of p = record {
+  name = name_bytes p.name;
+  at = p.at;
+  args = map arg_of p.args;
+  shape_name = name_bytes p.shape.name;
+  sites = p.shape.sites;
+  vars = p.shape.vars;
+  let_names = map name_bytes p.let_names;
+  lets = map formula p.lets;
+  root =
+      formula p.root;
+}
 
 -- the table of lists of the program
 abbrev pub table_of : List Site → List Param → List Pred → TableOf
@@ -73,4 +84,5 @@ pred_fits sites params p = args_fit sites params p.shape.vars 0 p.args
 
 -- at most 16 site types, 16 params and 16 predicates; the arguments are of the site types and params
 abbrev pub is_table : List Site → List Param → List Pred → Bool
-is_table sites params preds = nat_le (length sites) 16 && nat_le (length params) 16 && nat_le (length preds) 16 && list_all (pred_fits sites params) preds
+is_table sites params preds = nat_le (length sites) 16 && nat_le (length params) 16 && nat_le (length preds) 16
+    && list_all (pred_fits sites params) preds

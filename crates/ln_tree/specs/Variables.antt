@@ -1,5 +1,7 @@
 -- The variables of a predicate: how they are numbered, and in which order they stand.
-use Rattle.std.specs.Prelude.{ℕ, suc, ◌+◌, ◌==◌, ◌&&◌, not, nat_le, nat_lt, int_lt, Bool, true, false, pos, neg_ℤ, ◌^◌, List, [], ◌∷◌, length, count_by, position, unwrap_or, Option, Some, None, is_some, is_none, ◌||◌, if◌then◌else◌}
+use Rattle.std.specs.Prelude.{ℕ, suc, ◌+◌, ◌==◌, ◌&&◌, not, nat_le, nat_lt, int_lt, Bool, true}
+use Rattle.std.specs.Prelude.{false, pos, neg_ℤ, ◌^◌, List, [], ◌∷◌, length, count_by, position}
+use Rattle.std.specs.Prelude.{unwrap_or, Option, Some, None, is_some, is_none, ◌||◌, if◌then◌else◌}
 use Rattle.std.specs.List.{list_all}
 use Rattle.ln_tree.specs.declared.shape.VarInfo.{VarInfo}
 
@@ -49,13 +51,16 @@ sites_behind s i = if is_some i.site then suc s else s
 -- the variables stand in order behind a arguments, s sites and the variable b
 abbrev pub in_order : ℕ → ℕ → VarInfo → List VarInfo → Bool
 in_order a s b [] = true
-in_order a s b (i ∷ is) = if i.coord == 0 then begins a s i && in_order (suc a) (sites_behind s i) i is else goes_on b i && in_order a s i is
+in_order a s b (i ∷ is) = if i.coord == 0 then begins a s i && in_order (suc a) (sites_behind s i) i is
+    else goes_on b i && in_order a s i is
 
 -- a param, which no coordinate goes on with
 abbrev pub no_var : VarInfo
 no_var = record { arg = 0; site = None; coord = 0; lo = pos 0; hi = pos 0 }
 
--- the variables are in order of the arguments, for a site its coordinates in declared order; at most 5 sites of at most 32 coordinates and at most 8 params; ranges in order
+-- the variables are in order of the arguments, for a site its coordinates in declared order; at most 5 sites of at most 32
+-- coordinates and at most 8 params; ranges in order
 abbrev pub is_laid_out : ℕ → List VarInfo → Bool
 is_laid_out sites vars =
-    in_order 0 0 no_var vars && list_all has_range vars && (count_by starts_site vars == sites) && nat_le sites 5 && nat_le (count_by is_param vars) 8 && nat_le (length vars) 168
+    in_order 0 0 no_var vars && list_all has_range vars && (count_by starts_site vars == sites) && nat_le sites 5
+    && nat_le (count_by is_param vars) 8 && nat_le (length vars) 168

@@ -1,5 +1,8 @@
--- What the table of a text has beside what its parts keep: names that differ, variables that are those of the arguments, and a canonical text within the limits.
-use Rattle.std.specs.Prelude.{ℕ, suc, ◌+◌, ◌*◌, ◌^◌, ◌==◌, ◌&&◌, not, max, nat_lt, nat_le, int_lt, Bool, true, false, if◌then◌else◌, ℤ, pos, neg_ℤ, List, [], ◌∷◌, ◌++◌, length, map, count_by, Option, Some, None, slice_get, bytes_eq}
+-- What the table of a text has beside what its parts keep: names that differ, variables that are those of the arguments, and a
+-- canonical text within the limits.
+use Rattle.std.specs.Prelude.{ℕ, suc, ◌+◌, ◌*◌, ◌^◌, ◌==◌, ◌&&◌, not, max, nat_lt, nat_le, int_lt}
+use Rattle.std.specs.Prelude.{Bool, true, false, if◌then◌else◌, ℤ, pos, neg_ℤ, List, [], ◌∷◌, ◌++◌}
+use Rattle.std.specs.Prelude.{length, map, count_by, Option, Some, None, slice_get, bytes_eq}
 use Rattle.std.specs.List.{list_any, list_all}
 use Rattle.std.specs.Ordering.{int_eq}
 use Rattle.ln_tree.specs.declared.shape.VarInfo.{VarInfo}
@@ -22,7 +25,8 @@ is_range c = not (int_lt c.hi c.lo) && int_lt (neg_ℤ (pos (2 ^ 63))) c.lo && i
 
 -- a site type has 1 to 32 coordinates, each with its range and a name of its own
 abbrev pub site_whole : SiteOf → Bool
-site_whole s = nat_lt 0 (length s.coords) && nat_le (length s.coords) 32 && list_all is_range s.coords && differ (map (λ c. c.name) s.coords)
+site_whole s = nat_lt 0 (length s.coords) && nat_le (length s.coords) 32 && list_all is_range s.coords
+    && differ (map (λ c. c.name) s.coords)
 
 -- one of so many site types, or of so many params
 abbrev pub is_one_of : ℕ → ℕ → ArgOf → Bool
@@ -63,7 +67,8 @@ param_vars k (Some p) = record { arg = k; site = None; coord = 0; lo = p.lo; hi 
 -- the variables of the arguments from number k on, behind s sites: in order of the arguments, for a site its coordinates in declared order
 abbrev pub vars_behind : List SiteOf → List CoordOf → ℕ → ℕ → List ArgOf → List VarInfo
 vars_behind sites params k s [] = []
-vars_behind sites params k s (SiteArg n t ∷ args) = site_vars k s 0 (coords_or (slice_get sites t)) ++ vars_behind sites params (suc k) (suc s) args
+vars_behind sites params k s (SiteArg n t ∷ args) = site_vars k s 0 (coords_or (slice_get sites t))
+    ++ vars_behind sites params (suc k) (suc s) args
 vars_behind sites params k s (ParamArg p ∷ args) = param_vars k (slice_get params p) ++ vars_behind sites params (suc k) s args
 
 abbrev pub same_var : VarInfo → VarInfo → Bool
@@ -148,8 +153,9 @@ pred_tokens p = 7 + (4 * length p.args + (total (λ e. 4 + tokens_of p.args 0 e)
 abbrev pub text_tokens : TableOf → ℕ
 text_tokens t = total site_tokens t.sites + (total param_tokens t.params + total pred_tokens t.preds)
 
--- The name of a predicate's shape is its own. It has at least one argument and at most 5 sites and 8 params, which are of the table; its variables are theirs. Its
--- arguments and lets have names of their own. No parenthesis of its canonical text is nested more than 64 deep.
+-- The name of a predicate's shape is its own. It has at least one argument and at most 5 sites and 8 params, which are of the
+-- table; its variables are theirs. Its arguments and lets have names of their own. No parenthesis of its canonical text is nested
+-- more than 64 deep.
 abbrev pub pred_whole : List SiteOf → List CoordOf → PredOf → Bool
 pred_whole sites params p =
     bytes_eq p.shape_name p.name && nat_lt 0 (length p.args) && list_all (is_one_of (length sites) (length params)) p.args

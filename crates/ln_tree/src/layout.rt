@@ -1,7 +1,8 @@
 //! The tests that a shape and its numbering rest on.
 ghost use Rattle.std.specs.Prelude.{position, ◌≡◌, ◌<◌, length, true, count_by};
 ghost use Rattle.std.specs.List.{list_all};
-ghost use Rattle.ln_tree.specs.Variables.{is_var, number_or_end, same_site, has_range, begins, goes_on, sites_behind, in_order, no_var, starts_site, is_param, is_laid_out};
+ghost use Rattle.ln_tree.specs.Variables.{is_var, number_or_end, same_site, has_range, begins, goes_on};
+ghost use Rattle.ln_tree.specs.Variables.{sites_behind, in_order, no_var, starts_site, is_param, is_laid_out};
 
 use crate::expr::Var;
 use crate::shape::VarInfo;

@@ -1,5 +1,6 @@
-//! Listings for the tests of `verify`, each changed in one place, with the first line that fails then, and 0 where none does. The lines are by
-//! hand, and those of the tables of deletions, doublings, exchanges and random numbers by a judge that was written from the rules alone.
+//! Listings for the tests of `verify`, each changed in one place, with the first line that fails then, and 0 where none does. The
+//! lines are by hand, and those of the tables of deletions, doublings, exchanges and random numbers by a judge that was written
+//! from the rules alone.
 //!
 //! A change is the line where it begins, from 1, how many lines go there, the text that comes, and the line that fails.
 

@@ -34,13 +34,15 @@ signs_text other = []
 -- the counts of rows decided by the filter, by stage 0, by a later stage and by nothing, and the largest place of a stage
 abbrev pub deciders_after : List ℕ → By → List ℕ
 deciders_after (f ∷ p ∷ s ∷ n ∷ d ∷ []) Filter = counted f ∷ p ∷ s ∷ n ∷ d ∷ []
-deciders_after (f ∷ p ∷ s ∷ n ∷ d ∷ []) (Stage place) = if place == 0 then f ∷ counted p ∷ s ∷ n ∷ d ∷ [] else f ∷ p ∷ counted s ∷ n ∷ max d place ∷ []
+deciders_after (f ∷ p ∷ s ∷ n ∷ d ∷ []) (Stage place) = if place == 0 then f ∷ counted p ∷ s ∷ n ∷ d ∷ [] else f ∷ p ∷ counted s
+    ∷ n ∷ max d place ∷ []
 deciders_after (f ∷ p ∷ s ∷ n ∷ d ∷ []) Nothing = f ∷ p ∷ s ∷ counted n ∷ d ∷ []
 deciders_after other by = other
 
 abbrev pub deciders_text : List ℕ → List ℕ
 deciders_text (f ∷ p ∷ s ∷ n ∷ d ∷ []) =
-    codes "deciders filter " ++ decimal f ++ codes " plain " ++ decimal p ++ codes " stages " ++ decimal s ++ codes " none " ++ decimal n ++ codes " deepest " ++ decimal d
+    codes "deciders filter " ++ decimal f ++ codes " plain " ++ decimal p ++ codes " stages " ++ decimal s ++ codes " none "
+    ++ decimal n ++ codes " deepest " ++ decimal d
 deciders_text other = []
 
 -- a row is perturbed where a stage behind stage 0 decides it
@@ -70,7 +72,8 @@ first_text (n ∷ rows) = codes "first" ++ rows_text rows
 -- the tally behind a step on a row and its verdict
 abbrev pub tally_after : ℕ → List ℕ → ℕ → Verdict → List ℕ
 tally_after kind tally row v =
-    if kind == 1 then signs_after tally v.sign else (if kind == 2 then deciders_after tally v.by else (if kind == 3 then first_after tally row v.by else tally))
+    if kind == 1 then signs_after tally v.sign
+    else (if kind == 2 then deciders_after tally v.by else (if kind == 3 then first_after tally row v.by else tally))
 
 -- whether the watcher stays behind that step
 abbrev pub keep_after : ℕ → List ℕ → ℕ → Verdict → Keep
@@ -78,4 +81,5 @@ keep_after kind tally row v = if kind == 3 && is_full (tally_after kind tally ro
 
 -- the text of a tally
 abbrev pub watch_text : ℕ → List ℕ → List ℕ
-watch_text kind tally = if kind == 1 then signs_text tally else (if kind == 2 then deciders_text tally else (if kind == 3 then first_text tally else []))
+watch_text kind tally = if kind == 1 then signs_text tally
+    else (if kind == 2 then deciders_text tally else (if kind == 3 then first_text tally else []))

@@ -72,8 +72,8 @@ pub record FailsAfter (port : Port) (bytes : List ℕ) (was now : Option Shown) 
   pub within : n ≤ length bytes
   pub shown : now ≡ appended port (take n bytes) was
 
--- a put failed while the verdict on a row was shown: the boxes before one that was done have seen it, that one is dropped, some first bytes of its line
--- went out behind the lines of those before it, and the later ones haven't seen the verdict
+-- a put failed while the verdict on a row was shown: the boxes before one that was done have seen it, that one is dropped, some
+-- first bytes of its line went out behind the lines of those before it, and the later ones haven't seen the verdict
 pub record StopsAt (row : ℕ) (v : Verdict) (boxes left : List State) (port : Port) (was now : Option Shown) : Type 0 where
   pub seen : List State
   pub done : State

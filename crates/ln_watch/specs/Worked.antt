@@ -20,10 +20,12 @@ first n = record { kind = 3; tally = n ∷ [] }
 
 -- five rows at which the plain value is 0 and the first stage behind it is positive
 abbrev pub five_rows : List Numbered
-five_rows = on_row 1 Plus (Stage 1) ∷ on_row 2 Plus (Stage 1) ∷ on_row 3 Plus (Stage 1) ∷ on_row 4 Plus (Stage 1) ∷ on_row 5 Plus (Stage 1) ∷ []
+five_rows = on_row 1 Plus (Stage 1) ∷ on_row 2 Plus (Stage 1) ∷ on_row 3 Plus (Stage 1) ∷ on_row 4 Plus (Stage 1)
+    ∷ on_row 5 Plus (Stage 1) ∷ []
 
 abbrev pub FiveRowsAre : Type 0
-FiveRowsAre = panel_lines five_rows (signs ∷ deciders ∷ first 3 ∷ []) ≡ codes "first 1 2 3\nsigns + 5 0 0 - 0\ndeciders filter 0 plain 0 stages 5 none 0 deepest 1\n"
+FiveRowsAre = panel_lines five_rows (signs ∷ deciders ∷ first 3 ∷ [])
+    ≡ codes "first 1 2 3\nsigns + 5 0 0 - 0\ndeciders filter 0 plain 0 stages 5 none 0 deepest 1\n"
 
 -- two perturbed rows round one that the filter decides: two boxes leave and one stays between them
 abbrev pub three_rows : List Numbered
