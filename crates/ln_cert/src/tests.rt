@@ -212,7 +212,7 @@ fn first_parts_have_their_line(rt: HostRuntime) -> Result<(), Fail> {
 }
 
 #[test]
-fn faults_of_each_kind(rt: HostRuntime) -> Result<(), Fail> {
+fn faults_of_first_line(rt: HostRuntime) -> Result<(), Fail> {
     let alloc = rt.alloc();
     faulty(
         &rt,
@@ -229,6 +229,12 @@ fn faults_of_each_kind(rt: HostRuntime) -> Result<(), Fail> {
             ("\n", 1),
         ],
     )?;
+    Ok(())
+}
+
+#[test]
+fn faults_of_each_kind(rt: HostRuntime) -> Result<(), Fail> {
+    let alloc = rt.alloc();
     faulty(
         &rt,
         alloc,
@@ -264,7 +270,7 @@ fn faults_of_each_kind(rt: HostRuntime) -> Result<(), Fail> {
 }
 
 #[test]
-fn faults_of_operations(rt: HostRuntime) -> Result<(), Fail> {
+fn faults_of_operations_of_filters(rt: HostRuntime) -> Result<(), Fail> {
     let alloc = rt.alloc();
     faulty(
         &rt,
@@ -291,6 +297,12 @@ fn faults_of_operations(rt: HostRuntime) -> Result<(), Fail> {
             ("halve 0 0 0\n", 4),
         ],
     )?;
+    Ok(())
+}
+
+#[test]
+fn faults_of_operations_of_blocks(rt: HostRuntime) -> Result<(), Fail> {
+    let alloc = rt.alloc();
     faulty(
         &rt,
         alloc,

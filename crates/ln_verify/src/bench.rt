@@ -1,4 +1,4 @@
-//! One operation of a block, on a stack of values. A value is moved off the stack, and a local is copied by `get` alone.
+//! One operation of a block, on a stack of values. A value is moved off the stack, and a local gets one more owner by `get`.
 ghost use Rattle.std.specs.Prelude.{◌≡◌, List, IfOk, MatchOption, false};
 ghost use Rattle.ln_bound.specs.declared.fitted.Two.TheVariants.{Plus, Minus, Times};
 ghost use Rattle.ln_interval.specs.Range.{Range};
@@ -88,8 +88,8 @@ fn set(bench: &mut Bench, j: u8) -> bool
     true
 }
 
-// A local, copied onto the stack.
-fn get(alloc: Global, bench: &mut Bench, j: u8, b: Pair) -> Result<bool, NoMemory>
+// A local, onto the stack once more.
+fn get(bench: &mut Bench, j: u8, b: Pair) -> Result<bool, NoMemory>
     ensures { IfOk result (λ ok. (v : Version) (vars : List Info) → BenchLed v vars bench.old (Get j) (range b) ok bench.new) }
 {
     let j = usize::from(j);
@@ -99,7 +99,7 @@ fn get(alloc: Global, bench: &mut Bench, j: u8, b: Pair) -> Result<bool, NoMemor
     let Some(x) = value_in(bench.locals.as_slice(), j) else {
         return Ok(false);
     };
-    let v = again(alloc, x, b)?;
+    let v = again(x, b)?;
     let ok = push_value(&mut bench.stack, v)?;
     Ok(ok)
 }
@@ -118,7 +118,7 @@ fn pair_op(
     match op {
         Op::Push(c) => push_number(alloc, bench, c, b),
         Op::Input(k) => push_input(alloc, form, vars, bench, k, b),
-        Op::Get(j) => get(alloc, bench, j, b),
+        Op::Get(j) => get(bench, j, b),
         Op::Set(j) => Ok(set(bench, j)),
         Op::Add(w) => with_two(alloc, bench, Two::Plus, w, b),
         Op::Sub(w) => with_two(alloc, bench, Two::Minus, w, b),
@@ -165,7 +165,8 @@ pub fn bench_op(
     op: Op,
     ends: Option<Pair>,
 ) -> Result<bool, NoMemory>
-    ensures { IfOk result (λ ok. (p : Range) → MatchOption ends (FitsNot p) (λ b. range b ≡ p) → BenchLed (version_of form) vars.now bench.old op p ok bench.new) }
+    ensures { IfOk result (λ ok. (p : Range) → MatchOption ends (FitsNot p) (λ b. range b ≡ p) →
+        BenchLed (version_of form) vars.now bench.old op p ok bench.new) }
 {
     if let Some(b) = ends {
         return pair_op(alloc, form, vars, bench, op, b);

@@ -37,7 +37,8 @@ fn expanded(alloc: Global, p: &Pred) -> Result<Poly, NoMemory>
 fn staged(alloc: Global, f: &Poly, s: &Shape) -> Result<Stages, NoMemory>
     requires some { f.now ≡ [] → ⊥ }
     requires below { AreBelow (length s.now.vars) f.now }
-    requires few { (lists : List (List (List ℕ))) → AreStageLists s.now.sites s.now.vars f.now lists → Passes (length s.now.vars) f.now 65536 131072 lists → ⊥ }
+    requires few { (lists : List (List (List ℕ))) → AreStageLists s.now.sites s.now.vars f.now lists →
+        Passes (length s.now.vars) f.now 65536 131072 lists → ⊥ }
     ensures { IfOk result (λ st. AreStagesOf s.now.sites s.now.vars f.now st) }
 {
     match stages(alloc, f, s, 65536, 131072) {

@@ -3,8 +3,8 @@ ghost use Rattle.std.specs.Prelude.{◌≤◌};
 ghost use Rattle.ln_interval.specs.Range.{most};
 ghost use Rattle.ln_poly.specs.Sparse.{size_of};
 
+use crate::held::Held;
 use ln_code::Triple;
-use ln_poly::Poly;
 
 /// A truncated number on the judge's stack: its triple, its running size and the polynomial of the value that it stands for. The
 /// size is as that of a value in a block.
@@ -12,7 +12,7 @@ use ln_poly::Poly;
 pub struct Cut {
     pub triple: Triple,
     pub size: u128,
-    pub poly: Poly,
+    pub poly: Held,
     ghost small: { size ≤ most },
     ghost heavy: { size_of poly ≤ size },
 }

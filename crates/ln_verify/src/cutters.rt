@@ -20,7 +20,8 @@ use crate::allowed::{input_size, variable};
 use crate::cut::Cut;
 use crate::fits::all_fit;
 use crate::form::Form;
-use crate::negated::negated;
+use crate::held;
+use crate::held::{Held, add, mul, opposite, power};
 use crate::triple::{
     cut_covered, input_covered, number_covered, product_covered, same_covered, sum_covered,
 };
@@ -28,7 +29,6 @@ use ln_base::NoMemory;
 use ln_bound::{Two, Width};
 use ln_code::Triple;
 use ln_interval::pair::MOST;
-use ln_poly::{Poly, add, mul, power};
 use ln_tree::VarInfo;
 use std::alloc::Global;
 
@@ -40,10 +40,11 @@ fn is_small(size: u128) -> bool
 }
 
 // The number, where its polynomial has at most 1,024 terms.
-fn kept(a: Triple, size: u128, poly: Poly) -> Option<Cut>
+fn kept(a: Triple, size: u128, poly: Held) -> Option<Cut>
     requires small { size ≤ most }
     requires heavy { size_of poly ≤ size }
-    ensures { (n : ℕ) (t : Tree) → IsNormal n t poly → IsMade (IsCut n) filter_tree_of n result (Some (record { triple = a; tree = t; size = size })) }
+    ensures { (n : ℕ) (t : Tree) → IsNormal n t poly →
+        IsMade (IsCut n) filter_tree_of n result (Some (record { triple = a; tree = t; size = size })) }
 {
     if poly.terms().len() > 1024 {
         return None;
@@ -57,7 +58,8 @@ fn kept(a: Triple, size: u128, poly: Poly) -> Option<Cut>
 
 /// Of a number.
 pub fn number(alloc: Global, c: i128, a: Triple) -> Result<Option<Cut>, NoMemory>
-    ensures { IfOk result (λ o. (v : Version) (vars : List Info) (n : ℕ) → IsMade (IsCut n) filter_tree_of n o ((triple_rules v vars).push c a)) }
+    ensures { IfOk result (λ o. (v : Version) (vars : List Info) (n : ℕ) →
+        IsMade (IsCut n) filter_tree_of n o ((triple_rules v vars).push c a)) }
 {
     let size = c.unsigned_abs();
     if !number_covered(c, a) {
@@ -66,7 +68,7 @@ pub fn number(alloc: Global, c: i128, a: Triple) -> Result<Option<Cut>, NoMemory
     if !is_small(size) {
         return Ok(None);
     }
-    let h = ln_poly::number(alloc, c)?;
+    let h = held::number(alloc, c)?;
     Ok(kept(a, size, h))
 }
 
@@ -78,7 +80,8 @@ pub fn input(
     k: u8,
     a: Triple,
 ) -> Result<Option<Cut>, NoMemory>
-    ensures { IfOk result (λ o. IsMade (IsCut (length vars.now)) filter_tree_of (length vars.now) o ((triple_rules (version_of form) vars.now).input k a)) }
+    ensures { IfOk result (λ o.
+        IsMade (IsCut (length vars.now)) filter_tree_of (length vars.now) o ((triple_rules (version_of form) vars.now).input k a)) }
 {
     let Some(i) = variable(vars, k) else {
         return Ok(None);
@@ -94,20 +97,22 @@ pub fn input(
     Ok(kept(a, size, h))
 }
 
-/// Of a local, which is copied.
-pub fn again(alloc: Global, x: &Cut, a: Triple) -> Result<Option<Cut>, NoMemory>
-    ensures { IfOk result (λ o. (v : Version) (vars : List Info) (n : ℕ) (k : FilterKnown) → IsCut n x.now k → IsMade (IsCut n) filter_tree_of n o ((triple_rules v vars).again k a)) }
+/// Of a local, which gets one more owner.
+pub fn again(x: &Cut, a: Triple) -> Result<Option<Cut>, NoMemory>
+    ensures { IfOk result (λ o. (v : Version) (vars : List Info) (n : ℕ) (k : FilterKnown) → IsCut n x.now k →
+        IsMade (IsCut n) filter_tree_of n o ((triple_rules v vars).again k a)) }
 {
     if !same_covered(x.triple, a) {
         return Ok(None);
     }
-    let h = x.poly.copy(alloc)?;
+    let h = x.poly.copy()?;
     Ok(kept(a, x.size, h))
 }
 
 // A sum.
 fn sum(alloc: Global, a: Triple, x: &Cut, y: &Cut) -> Result<Option<Cut>, NoMemory>
-    ensures { IfOk result (λ o. (n : ℕ) (j k : FilterKnown) → IsCut n x.now j → IsCut n y.now k → IsMade (IsCut n) filter_tree_of n o (two_known Plus a j k)) }
+    ensures { IfOk result (λ o. (n : ℕ) (j k : FilterKnown) → IsCut n x.now j → IsCut n y.now k →
+        IsMade (IsCut n) filter_tree_of n o (two_known Plus a j k)) }
 {
     let size = x.size + y.size;
     if x.triple.k != y.triple.k {
@@ -125,7 +130,8 @@ fn sum(alloc: Global, a: Triple, x: &Cut, y: &Cut) -> Result<Option<Cut>, NoMemo
 
 // A difference.
 fn difference(alloc: Global, a: Triple, x: &Cut, y: &Cut) -> Result<Option<Cut>, NoMemory>
-    ensures { IfOk result (λ o. (n : ℕ) (j k : FilterKnown) → IsCut n x.now j → IsCut n y.now k → IsMade (IsCut n) filter_tree_of n o (two_known Minus a j k)) }
+    ensures { IfOk result (λ o. (n : ℕ) (j k : FilterKnown) → IsCut n x.now j → IsCut n y.now k →
+        IsMade (IsCut n) filter_tree_of n o (two_known Minus a j k)) }
 {
     let size = x.size + y.size;
     if x.triple.k != y.triple.k {
@@ -137,14 +143,15 @@ fn difference(alloc: Global, a: Triple, x: &Cut, y: &Cut) -> Result<Option<Cut>,
     if !is_small(size) {
         return Ok(None);
     }
-    let g = negated(alloc, &y.poly)?;
+    let g = opposite(alloc, &y.poly)?;
     let h = add(alloc, &x.poly, &g)?;
     Ok(kept(a, size, h))
 }
 
 // A product. Where exponents pass the limit it isn't worked out.
 fn product(alloc: Global, a: Triple, x: &Cut, y: &Cut) -> Result<Option<Cut>, NoMemory>
-    ensures { IfOk result (λ o. (n : ℕ) (j k : FilterKnown) → IsCut n x.now j → IsCut n y.now k → IsMade (IsCut n) filter_tree_of n o (two_known Times a j k)) }
+    ensures { IfOk result (λ o. (n : ℕ) (j k : FilterKnown) → IsCut n x.now j → IsCut n y.now k →
+        IsMade (IsCut n) filter_tree_of n o (two_known Times a j k)) }
 {
     if !product_covered(x.triple, y.triple, a) {
         return Ok(None);
@@ -178,7 +185,8 @@ pub fn two(
     x: &Cut,
     y: &Cut,
 ) -> Result<Option<Cut>, NoMemory>
-    ensures { IfOk result (λ o. (v : Version) (vars : List Info) (n : ℕ) (j k : FilterKnown) → IsCut n x.now j → IsCut n y.now k → IsMade (IsCut n) filter_tree_of n o ((triple_rules v vars).two t w a j k)) }
+    ensures { IfOk result (λ o. (v : Version) (vars : List Info) (n : ℕ) (j k : FilterKnown) → IsCut n x.now j → IsCut n y.now k →
+        IsMade (IsCut n) filter_tree_of n o ((triple_rules v vars).two t w a j k)) }
 {
     if !is_64(w) {
         return Ok(None);
@@ -192,7 +200,8 @@ pub fn two(
 
 /// Of one value.
 pub fn minus(alloc: Global, w: Width, a: Triple, x: &Cut) -> Result<Option<Cut>, NoMemory>
-    ensures { IfOk result (λ o. (v : Version) (vars : List Info) (n : ℕ) (k : FilterKnown) → IsCut n x.now k → IsMade (IsCut n) filter_tree_of n o ((triple_rules v vars).minus w a k)) }
+    ensures { IfOk result (λ o. (v : Version) (vars : List Info) (n : ℕ) (k : FilterKnown) → IsCut n x.now k →
+        IsMade (IsCut n) filter_tree_of n o ((triple_rules v vars).minus w a k)) }
 {
     if !is_64(w) {
         return Ok(None);
@@ -200,13 +209,14 @@ pub fn minus(alloc: Global, w: Width, a: Triple, x: &Cut) -> Result<Option<Cut>,
     if !same_covered(x.triple, a) {
         return Ok(None);
     }
-    let h = negated(alloc, &x.poly)?;
+    let h = opposite(alloc, &x.poly)?;
     Ok(kept(a, x.size, h))
 }
 
 /// Of one value that is divided by 2^n.
 pub fn divided(n: u8, a: Triple, x: Cut) -> Option<Cut>
-    ensures { (v : Version) (vars : List Info) (m : ℕ) (k : FilterKnown) → IsCut m x k → IsMade (IsCut m) filter_tree_of m result ((triple_rules v vars).cut n a k) }
+    ensures { (v : Version) (vars : List Info) (m : ℕ) (k : FilterKnown) → IsCut m x k →
+        IsMade (IsCut m) filter_tree_of m result ((triple_rules v vars).cut n a k) }
 {
     if !cut_covered(n, x.triple, a) {
         return None;

@@ -69,7 +69,8 @@ fn is_done(line: &Part) -> bool
 // `predicate`.
 fn predicate(cases: &[Case], desk: &mut Desk, name: &[u8]) -> bool
     requires { desk.old.at ≡ Away }
-    ensures { (v : Version) (here : Place) → IsHere (subjects_of cases.now) desk.old here → Gone v (subjects_of cases.now) here (Predicate name.now) result desk.new }
+    ensures { (v : Version) (here : Place) → IsHere (subjects_of cases.now) desk.old here →
+        Gone v (subjects_of cases.now) here (Predicate name.now) result desk.new }
 {
     let Some(case) = case_at(cases, desk.parts) else {
         return false;
@@ -84,7 +85,8 @@ fn predicate(cases: &[Case], desk: &mut Desk, name: &[u8]) -> bool
 // A line outside the parts.
 fn outside(cases: &[Case], desk: &mut Desk, line: &Part) -> bool
     requires { desk.old.at ≡ Away }
-    ensures { (v : Version) (here : Place) → IsHere (subjects_of cases.now) desk.old here → Gone v (subjects_of cases.now) here line.now result desk.new }
+    ensures { (v : Version) (here : Place) → IsHere (subjects_of cases.now) desk.old here →
+        Gone v (subjects_of cases.now) here line.now result desk.new }
 {
     match line {
         Part::Predicate(name) => predicate(cases, desk, name.as_slice()),
@@ -127,7 +129,8 @@ fn line(
     line: &Part,
 ) -> Result<bool, NoMemory>
     requires { All IsCase cases.now }
-    ensures { IfOk result (λ ok. (here : Place) → IsHere (subjects_of cases.now) desk.old here → Gone (version_of form) (subjects_of cases.now) here line.now ok desk.new) }
+    ensures { IfOk result (λ ok. (here : Place) → IsHere (subjects_of cases.now) desk.old here →
+        Gone (version_of form) (subjects_of cases.now) here line.now ok desk.new) }
 {
     if is_at(desk.at, At::Away) {
         return Ok(outside(cases, desk, line));

@@ -129,7 +129,8 @@ fn range_line(
     low: i128,
     high: i128,
 ) -> Result<bool, NoMemory>
-    ensures { IfOk result (λ ok. BenchLed (version_of form) case.now.shape.vars bench.old op (record { low = low; high = high }) ok bench.new) }
+    ensures { IfOk result (λ ok.
+        BenchLed (version_of form) case.now.shape.vars bench.old op (record { low = low; high = high }) ok bench.new) }
 {
     let ends = pair_of_ends(low, high);
     let ok = bench_op(alloc, form, case.shape.vars.as_slice(), bench, op, ends)?;
@@ -186,7 +187,8 @@ pub fn order(
 // Is there one value, whose polynomial is the predicate's, with an E that fits 64 bits?
 fn decides(case: &Case, tray: &Tray) -> bool
     requires { IsCase case.now }
-    ensures { (s : State FilterKnown (ℕ → Option FilterKnown)) → IsTray (length case.now.shape.vars) tray.now s → IsTrue result ↔ TrayDecides (subject_of case.now) s }
+    ensures { (s : State FilterKnown (ℕ → Option FilterKnown)) → IsTray (length case.now.shape.vars) tray.now s →
+        IsTrue result ↔ TrayDecides (subject_of case.now) s }
 {
     if tray.stack.len() != 1 {
         return false;
@@ -195,7 +197,7 @@ fn decides(case: &Case, tray: &Tray) -> bool
     if x.triple.e > 9223372036854775807 {
         return false;
     }
-    is_whole(case, &x.poly)
+    is_whole(case, x.poly.lent())
 }
 
 /// `decide`.
@@ -217,7 +219,8 @@ pub fn decide(alloc: Global, case: &Case, desk: &mut Desk) -> bool
 // Is there one value, whose polynomial is the scaled derivative by the last of the exponents?
 fn ends(alloc: Global, case: &Case, exps: &[Exps], bench: &Bench) -> Result<bool, NoMemory>
     requires { IsCase case.now }
-    ensures { IfOk result (λ ok. (es : List Pairs) (a : Pairs) (s : State Known (ℕ → Option Known)) → exps.now ≡ es ++ a ∷ [] → AreAbove (length case.now.shape.vars) exps.now →
+    ensures { IfOk result (λ ok. (es : List Pairs) (a : Pairs) (s : State Known (ℕ → Option Known)) → exps.now ≡ es ++ a ∷ [] →
+        AreAbove (length case.now.shape.vars) exps.now →
         IsBench (length case.now.shape.vars) bench.now s → IsTrue ok ↔ BenchEnds (subject_of case.now) a s) }
 {
     if exps.is_empty() {
@@ -226,7 +229,7 @@ fn ends(alloc: Global, case: &Case, exps: &[Exps], bench: &Bench) -> Result<bool
     if bench.stack.len() != 1 {
         return Ok(false);
     }
-    let ok = is_derivative(alloc, case, &exps[exps.len() - 1], &bench.stack[0].poly)?;
+    let ok = is_derivative(alloc, case, &exps[exps.len() - 1], bench.stack[0].poly.lent())?;
     Ok(ok)
 }
 

@@ -1,6 +1,7 @@
 //! What valid listings promise.
 ghost use Rattle.ln_verify.specs.Verified.{ValidListingsGiveSigns};
-ghost use Rattle.ln_verify.specs.Law.{GoodPartsAreValid, OneAnswer, ValidPartsStand, Version1Follows, Version1IsOnBounds, Version2IsOfPrograms};
+ghost use Rattle.ln_verify.specs.Law.{GoodPartsAreValid, OneAnswer, ValidPartsStand, Version1Follows, Version1IsOnBounds};
+ghost use Rattle.ln_verify.specs.Law.{Version2IsOfPrograms};
 
 /// A listing has one first fault at most, and none where it is valid.
 pub fn one_answer()

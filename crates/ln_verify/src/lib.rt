@@ -15,6 +15,7 @@ pub mod desk;
 pub mod fits;
 pub mod form;
 pub mod heads;
+pub mod held;
 pub mod judge;
 pub mod kinds;
 pub mod laws;

@@ -19,20 +19,21 @@ ghost use Rattle.ln_verify.specs.Versions.{version_of};
 use crate::allowed::{covers_input, covers_number, input_size, is_allowed, is_covered, variable};
 use crate::fits::all_fit;
 use crate::form::Form;
-use crate::negated::negated;
+use crate::held;
+use crate::held::{Held, add, mul, opposite, power};
 use crate::value::Value;
 use ln_base::NoMemory;
 use ln_bound::{Two, Width};
 use ln_interval::Pair;
-use ln_poly::{Poly, add, mul, power};
 use ln_tree::VarInfo;
 use std::alloc::Global;
 
 // The value, where its polynomial has at most 1,024 terms.
-fn kept(b: Pair, width: Width, size: u128, poly: Poly) -> Option<Value>
+fn kept(b: Pair, width: Width, size: u128, poly: Held) -> Option<Value>
     requires small { size ≤ most }
     requires heavy { size_of poly ≤ size }
-    ensures { (n : ℕ) (t : Tree) → IsNormal n t poly → IsMade (IsFor n) tree_of n result (Some (record { range = range b; width = width; tree = t; size = size })) }
+    ensures { (n : ℕ) (t : Tree) → IsNormal n t poly →
+        IsMade (IsFor n) tree_of n result (Some (record { range = range b; width = width; tree = t; size = size })) }
 {
     if poly.terms().len() > 1024 {
         return None;
@@ -47,14 +48,15 @@ fn kept(b: Pair, width: Width, size: u128, poly: Poly) -> Option<Value>
 
 /// Of a number.
 pub fn number(alloc: Global, c: i128, b: Pair) -> Result<Option<Value>, NoMemory>
-    ensures { IfOk result (λ o. (v : Version) (vars : List Info) (n : ℕ) → IsMade (IsFor n) tree_of n o ((block_rules v vars).push c (range b))) }
+    ensures { IfOk result (λ o. (v : Version) (vars : List Info) (n : ℕ) →
+        IsMade (IsFor n) tree_of n o ((block_rules v vars).push c (range b))) }
 {
     let width = Width::least(b.magnitude());
     let size = c.unsigned_abs();
     if !is_allowed(covers_number(b, c), b, width, size) {
         return Ok(None);
     }
-    let h = ln_poly::number(alloc, c)?;
+    let h = held::number(alloc, c)?;
     Ok(kept(b, width, size, h))
 }
 
@@ -66,7 +68,8 @@ pub fn input(
     k: u8,
     b: Pair,
 ) -> Result<Option<Value>, NoMemory>
-    ensures { IfOk result (λ o. IsMade (IsFor (length vars.now)) tree_of (length vars.now) o ((block_rules (version_of form) vars.now).input k (range b))) }
+    ensures { IfOk result (λ o.
+        IsMade (IsFor (length vars.now)) tree_of (length vars.now) o ((block_rules (version_of form) vars.now).input k (range b))) }
 {
     let Some(i) = variable(vars, k) else {
         return Ok(None);
@@ -80,15 +83,16 @@ pub fn input(
     Ok(kept(b, width, size, h))
 }
 
-/// Of a local, which is copied: the one place where a polynomial is.
-pub fn again(alloc: Global, x: &Value, b: Pair) -> Result<Option<Value>, NoMemory>
-    ensures { IfOk result (λ o. (v : Version) (vars : List Info) (n : ℕ) (k : Known) → IsFor n x.now k → IsMade (IsFor n) tree_of n o ((block_rules v vars).again k (range b))) }
+/// Of a local, which gets one more owner.
+pub fn again(x: &Value, b: Pair) -> Result<Option<Value>, NoMemory>
+    ensures { IfOk result (λ o. (v : Version) (vars : List Info) (n : ℕ) (k : Known) → IsFor n x.now k →
+        IsMade (IsFor n) tree_of n o ((block_rules v vars).again k (range b))) }
 {
     let width = x.width.wider(Width::least(b.magnitude()));
     if !is_allowed(b.covers(x.pair), b, width, x.size) {
         return Ok(None);
     }
-    let h = x.poly.copy(alloc)?;
+    let h = x.poly.copy()?;
     Ok(kept(b, width, x.size, h))
 }
 
@@ -120,7 +124,7 @@ fn difference(
     if !is_allowed(is_covered(b, x.pair.sub(y.pair)), b, w, size) {
         return Ok(None);
     }
-    let g = negated(alloc, &y.poly)?;
+    let g = opposite(alloc, &y.poly)?;
     let h = add(alloc, &x.poly, &g)?;
     Ok(kept(b, w, size, h))
 }
@@ -168,7 +172,8 @@ pub fn two(
     x: &Value,
     y: &Value,
 ) -> Result<Option<Value>, NoMemory>
-    ensures { IfOk result (λ o. (v : Version) (vars : List Info) (n : ℕ) (j k : Known) → IsFor n x.now j → IsFor n y.now k → IsMade (IsFor n) tree_of n o ((block_rules v vars).two t w (range b) j k)) }
+    ensures { IfOk result (λ o. (v : Version) (vars : List Info) (n : ℕ) (j k : Known) → IsFor n x.now j → IsFor n y.now k →
+        IsMade (IsFor n) tree_of n o ((block_rules v vars).two t w (range b) j k)) }
 {
     if !no_wider(x.width, w) {
         return Ok(None);
@@ -185,7 +190,8 @@ pub fn two(
 
 /// Of one value.
 pub fn minus(alloc: Global, w: Width, b: Pair, x: &Value) -> Result<Option<Value>, NoMemory>
-    ensures { IfOk result (λ o. (v : Version) (vars : List Info) (n : ℕ) (k : Known) → IsFor n x.now k → IsMade (IsFor n) tree_of n o ((block_rules v vars).minus w (range b) k)) }
+    ensures { IfOk result (λ o. (v : Version) (vars : List Info) (n : ℕ) (k : Known) → IsFor n x.now k →
+        IsMade (IsFor n) tree_of n o ((block_rules v vars).minus w (range b) k)) }
 {
     if !no_wider(x.width, w) {
         return Ok(None);
@@ -193,6 +199,6 @@ pub fn minus(alloc: Global, w: Width, b: Pair, x: &Value) -> Result<Option<Value
     if !is_allowed(b.covers(x.pair.neg()), b, w, x.size) {
         return Ok(None);
     }
-    let h = negated(alloc, &x.poly)?;
+    let h = opposite(alloc, &x.poly)?;
     Ok(kept(b, w, x.size, h))
 }

@@ -51,7 +51,8 @@ fn has_exps(exps: &[Exps], k: u32, a: &Exps) -> bool
 // Have the blocks of a list, one by one, the exponents of the stages with these numbers?
 fn same_stages(exps: &[Exps], list: &[u32], st: &Stages, numbers: &[u32]) -> bool
     requires { All (λ i. i < length st.now.exps) numbers.now }
-    ensures { (n : ℕ) → All (λ e. IsAbove e n) exps.now → All (λ e. IsAbove e n) st.now.exps → IsTrue result ↔ SameStages n exps.now st.now.exps list.now numbers.now }
+    ensures { (n : ℕ) → All (λ e. IsAbove e n) exps.now → All (λ e. IsAbove e n) st.now.exps →
+        IsTrue result ↔ SameStages n exps.now st.now.exps list.now numbers.now }
 {
     if list.len() != numbers.len() {
         return false;
@@ -82,7 +83,8 @@ pub fn is_next(
     list: &[u32],
 ) -> Result<bool, NoMemory>
     requires { IsCase case.now }
-    ensures { IfOk result (λ ok. AreAbove (length case.now.shape.vars) exps.now → IsTrue ok ↔ IsNextList (subject_of case.now) exps.now before places.now list.now) }
+    ensures { IfOk result (λ ok. AreAbove (length case.now.shape.vars) exps.now →
+        IsTrue ok ↔ IsNextList (subject_of case.now) exps.now before places.now list.now) }
 {
     let Some(o) = case.orders.as_slice().get(before) else {
         return Ok(false);

@@ -1,5 +1,5 @@
-//! One operation of a filter, on a stack of truncated numbers. A number is moved off the stack, and a local is copied by `get`
-//! alone.
+//! One operation of a filter, on a stack of truncated numbers. A number is moved off the stack, and a local gets one more owner
+//! by `get`.
 ghost use Rattle.std.specs.Prelude.{List, IfOk};
 ghost use Rattle.ln_bound.specs.declared.fitted.Two.TheVariants.{Plus, Minus, Times};
 ghost use Rattle.ln_tree.specs.declared.shape.VarInfo.{VarInfo as Info};
@@ -96,8 +96,8 @@ fn set(tray: &mut Tray, j: u8, a: Triple) -> bool
     true
 }
 
-// A local, copied onto the stack.
-fn get(alloc: Global, tray: &mut Tray, j: u8, a: Triple) -> Result<bool, NoMemory>
+// A local, onto the stack once more.
+fn get(tray: &mut Tray, j: u8, a: Triple) -> Result<bool, NoMemory>
     ensures { IfOk result (λ ok. (v : Version) (vars : List Info) → TrayLed v vars tray.old (Get j) a ok tray.new) }
 {
     let j = usize::from(j);
@@ -107,7 +107,7 @@ fn get(alloc: Global, tray: &mut Tray, j: u8, a: Triple) -> Result<bool, NoMemor
     let Some(x) = cut_in(tray.locals.as_slice(), j) else {
         return Ok(false);
     };
-    let v = again(alloc, x, a)?;
+    let v = again(x, a)?;
     let ok = push_cut(&mut tray.stack, v)?;
     Ok(ok)
 }
@@ -126,7 +126,7 @@ pub fn tray_op(
     match op {
         Op::Push(c) => push_number(alloc, tray, c, a),
         Op::Input(k) => push_input(alloc, form, vars, tray, k, a),
-        Op::Get(j) => get(alloc, tray, j, a),
+        Op::Get(j) => get(tray, j, a),
         Op::Set(j) => Ok(set(tray, j, a)),
         Op::Add(w) => with_two(alloc, tray, Two::Plus, w, a),
         Op::Sub(w) => with_two(alloc, tray, Two::Minus, w, a),

@@ -1,0 +1,128 @@
+//! Polynomials that have several owners.
+//!
+//! A `get` puts a local onto the stack once more. Were its terms copied then, a short line could cost a thousand copies; so a
+//! polynomial on the stack has owners, and its terms go with the last one.
+ghost use Rattle.std.specs.Prelude.{◌≡◌, ◌≢◌, ℕ, List, [], ◌∷◌, ◌+◌, ◌*◌, ◌<◌, ◌≤◌, ◌^◌, ◌+ℤ◌, All, pos, IfOk, length, unsigned_abs};
+ghost use Rattle.ln_algebra.specs.Coefficient.{product};
+ghost use Rattle.ln_poly.specs.Rows.{PowersFit};
+ghost use Rattle.ln_poly.specs.Sparse.{IsPoly, AreBelow, coefficient_at, negated, size_of};
+
+use crate::negated::negated;
+use ln_base::NoMemory;
+use ln_poly::Poly;
+use ln_tree::Exps;
+use std::alloc::Global;
+use std::marker::Model;
+use std::rc::Rc;
+
+/// A polynomial, of which there may be several owners. Contracts see the list of its terms, as those of a `Poly`.
+#[derive(Drop)]
+pub struct Held {
+    poly: Rc<Poly>,
+}
+
+impl Model for Held {
+    ghost use Rattle.std.specs.Prelude.{ℕ, ℤ, List};
+    ghost use Rattle.ln_poly.specs.Sparse.{IsPoly};
+
+    ghost Value = { List (List (ℕ × ℕ) × ℤ) };
+
+    ghost view = { λ h. h.poly.value };
+
+    ghost invariant = { λ h. IsPoly h.poly.value };
+}
+
+impl Held {
+    /// The first owner of a polynomial.
+    pub fn of(alloc: Global, f: Poly) -> Result<Held, NoMemory>
+        ensures { IfOk result (λ h. h ≡ f) }
+    {
+        let poly = Rc::new(alloc, f)?;
+        Ok(Held { poly })
+    }
+
+    /// The polynomial, lent.
+    pub fn lent(&self) -> &Poly
+        ensures { result.now ≡ self.now }
+    {
+        self.poly.as_ref()
+    }
+
+    /// The terms, lent.
+    pub fn terms(&self) -> &[(Exps, i128)]
+        ensures value { result.now ≡ self.now }
+        ensures form { IsPoly self.now }
+    {
+        self.lent().terms()
+    }
+
+    /// One more owner. No term is copied.
+    pub fn copy(&self) -> Result<Held, NoMemory>
+        ensures { IfOk result (λ h. h ≡ self.now) }
+    {
+        let poly = self.poly.clone()?;
+        Ok(Held { poly })
+    }
+}
+
+/// c times the e-th power of variable v.
+pub fn power(alloc: Global, v: u8, e: u8, c: i128) -> Result<Held, NoMemory>
+    requires positive { 0 < e }
+    requires small { e < 128 }
+    requires some { c ≢ pos 0 }
+    requires factor { unsigned_abs c < 2 ^ 127 }
+    ensures { IfOk result (λ f. f ≡ ((v, e) ∷ [], c) ∷ []) }
+{
+    let f = ln_poly::power(alloc, v, e, c)?;
+    let h = Held::of(alloc, f)?;
+    Ok(h)
+}
+
+/// The number c.
+pub fn number(alloc: Global, c: i128) -> Result<Held, NoMemory>
+    requires factor { unsigned_abs c < 2 ^ 127 }
+    ensures zero { c ≡ pos 0 → IfOk result (λ f. f ≡ []) }
+    ensures some { c ≢ pos 0 → IfOk result (λ f. f ≡ ([], c) ∷ []) }
+{
+    let f = ln_poly::number(alloc, c)?;
+    let h = Held::of(alloc, f)?;
+    Ok(h)
+}
+
+/// Minus a polynomial.
+pub fn opposite(alloc: Global, f: &Held) -> Result<Held, NoMemory>
+    ensures { IfOk result (λ h. h ≡ negated f.now) }
+{
+    let g = negated(alloc, f.lent())?;
+    let h = Held::of(alloc, g)?;
+    Ok(h)
+}
+
+/// The sum of two polynomials.
+pub fn add(alloc: Global, f: &Held, g: &Held) -> Result<Held, NoMemory>
+    requires { size_of f.now + size_of g.now < 2 ^ 127 }
+    ensures coefficients { IfOk result (λ h. (n : ℕ) (m : List ℕ) →
+        coefficient_at n h m ≡ coefficient_at n f.now m +ℤ coefficient_at n g.now m) }
+    ensures size { IfOk result (λ h. size_of h ≤ size_of f.now + size_of g.now) }
+    ensures form { IfOk result IsPoly }
+    ensures below { IfOk result (λ h. (n : ℕ) → AreBelow n f.now → AreBelow n g.now → AreBelow n h) }
+{
+    let s = ln_poly::add(alloc, f.lent(), g.lent())?;
+    let h = Held::of(alloc, s)?;
+    Ok(h)
+}
+
+/// The product of two polynomials.
+pub fn mul(alloc: Global, f: &Held, g: &Held) -> Result<Held, NoMemory>
+    requires room { size_of f.now * size_of g.now < 2 ^ 127 }
+    requires powers { All (λ s. PowersFit s g.now) f.now }
+    ensures coefficients { IfOk result (λ h. (n : ℕ) (m : List ℕ) → length m ≡ n →
+        coefficient_at n h m ≡ product (coefficient_at n f.now) (coefficient_at n g.now) m) }
+    ensures size { IfOk result (λ h. size_of h ≤ size_of f.now * size_of g.now) }
+    ensures form { IfOk result IsPoly }
+    ensures below { IfOk result (λ h. (n : ℕ) → AreBelow n f.now → AreBelow n g.now → AreBelow n h) }
+{
+    let p = ln_poly::mul(alloc, f.lent(), g.lent())?;
+    let h = Held::of(alloc, p)?;
+    Ok(h)
+}
