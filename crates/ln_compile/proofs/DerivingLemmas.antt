@@ -1,136 +1,29 @@
--- Scaled derivatives by several variables, one variable after the other.
-use Rattle.std.proofs.Common.{◌≡◌, ℕ, ◌+◌, ◌<◌, ◌≤◌, zero, suc, Bool, true, false, cond, List, [], ◌∷◌, ◌++◌, length, take, get_or, refl, sym, ◌∙◌, ap, subst, arith, ◌⊎◌, inl, inr, if◌then◌else◌}
+-- What a scaled derivative by several variables is: its terms, their number, weight and degrees.
+use Rattle.std.proofs.Common.{◌≡◌, ℕ, ◌≤◌, Bool, true, false, cond, List, [], ◌∷◌, length, refl, ap, subst, arith, if◌then◌else◌}
 use Rattle.std.specs.Prelude.{All}
 use Rattle.std.proofs.Math.IntN.{pos, ◌*ℤ◌}
-use Rattle.std.proofs.lemmas.Bool.{cases_eq}
-use Rattle.std.proofs.lemmas.List.{length-map, take_all, take_more}
+use Rattle.std.proofs.lemmas.List.{length-map}
 use Rattle.std.proofs.lemmas.List.Elements.{All-cons, All-head, All-nil, All-tail}
 use Rattle.std.proofs.lemmas.List.Sums.{sum_by-cons}
-use Rattle.ln_algebra.proofs.Zeros.{derived-zeros}
-use Rattle.ln_algebra.proofs.Bounds.{weighted-derived}
 use Rattle.ln_algebra.proofs.Weights.{weighted-least}
 use Rattle.ln_algebra.specs.Terms.{Over, Term, binomials, covers, derived, factor_at, minus}
-use Rattle.ln_algebra.specs.Vector.{degree, plus, total_degree}
-use Rattle.ln_algebra.specs.Weights.{monomial_weight, weighted_sum}
+use Rattle.ln_algebra.specs.Vector.{degree, total_degree}
+use Rattle.ln_algebra.specs.Weights.{weighted_sum}
 use Rattle.ln_tree.specs.declared.shape.VarInfo.{VarInfo}
-use Rattle.ln_tree.specs.Exps.{AllAbove, IsAbove, IsRising, Pairs, exponent, exponents_from, vector}
+use Rattle.ln_tree.specs.Exps.{Pairs, vector}
 use Rattle.ln_bound.specs.Light.{most}
 use Rattle.ln_bound.specs.Value.{sizes, weights}
-use Rattle.ln_poly.specs.Derivative.{derivative}
-use Rattle.ln_poly.specs.Sparse.{AreBelow, IsFactor, IsPoly, Sparse, coefficient_at, term_of, terms_of}
+use Rattle.ln_poly.specs.Derivative.{IsDerivative}
+use Rattle.ln_poly.specs.Sparse.{IsFactor, Sparse, coefficient_at, term_of, terms_of}
 use Rattle.ln_poly.proofs.Collected.{collected}
-use Rattle.ln_tree.proofs.Powers.{power-apart}
-use Rattle.ln_poly.proofs.Merging.{above-none, exponent-push}
-use Rattle.ln_poly.proofs.Products.{length-vector, over-terms, vector-plus}
+use Rattle.ln_poly.proofs.Combined.{everywhere, once}
+use Rattle.ln_poly.proofs.Deriving.{derived-light}
+use Rattle.ln_poly.proofs.Products.{over-terms}
+use Rattle.ln_poly.proofs.Several.{over-vector}
 use Rattle.ln_stage.specs.Lists.{covering}
-use Rattle.ln_due.proofs.CoefficientLemmas.{vector-nil}
-use Rattle.ln_compile.specs.Derived.{IsDerivative}
 use Rattle.ln_nest.specs.Lean.{HasNoZero}
 use Rattle.ln_compile.proofs.FewestLemmas.{EachHas, each-has, shortest}
-use Rattle.ln_compile.proofs.CombinedLemmas.{AreApart, combined, everywhere, once, once-derived, over-derived}
 
--- ---- no variable
-pub deriving-init : (n : ℕ) (f h : Sparse) → IsPoly f → AreBelow n f → h ≡ f → IsDerivative n f [] h
-unfolding coefficient_at
-deriving-init n f h p b e = record {
-  form = rw e p;
-  below = rw e b;
-  coefficients = λ m l.
-      let z : derived (vector n []) (terms_of n f) ≡ terms_of n f = ap (λ a. derived a (terms_of n f)) (vector-nil 0 n) ∙ derived-zeros n (terms_of n f) (over-terms n f) in
-      ap (λ (g : Sparse). factor_at (terms_of n g) m) e ∙ ap (λ (ts : List Term). factor_at ts m) (sym z);
-}
-
--- ---- one variable more
-above-at : (v : ℕ) (ps : Pairs) (i : ℕ) → i < length ps → AllAbove v ps → v < (get_or ps i (0, 0)).0
-above-at v [] i h a = absurd (omega arith)
-above-at v (p ∷ ps) zero h a = a.0
-above-at v (p ∷ ps) (suc i) h a = above-at v ps i (omega arith) a.1
-
-above-take : (ps : Pairs) (i : ℕ) → IsRising ps → i < length ps → IsAbove (take i ps) (get_or ps i (0, 0)).0
-above-take [] i r h = absurd (omega arith)
-above-take (p ∷ ps) zero r h = tt
-above-take (p ∷ ps) (suc i) r h = (above-at p.0 ps i (omega arith) r.2, above-take ps i r.3 (omega arith))
-
-pub variable-at : (n : ℕ) (ps : Pairs) (i : ℕ) → IsAbove ps n → i < length ps → (get_or ps i (0, 0)).0 < n
-variable-at n [] i a h = absurd (omega arith)
-variable-at n (p ∷ ps) zero a h = a.0
-variable-at n (p ∷ ps) (suc i) a h = variable-at n ps i a.1 (omega arith)
-
--- pairs below a variable and the pair of the variable have no variable in common
-apart-from : (w n v k : ℕ) (xs : Pairs) → IsAbove xs v → AreApart (exponents_from w n xs) (exponents_from w n ((v, k) ∷ []))
-apart-from w zero v k xs a = tt
-apart-from w (suc n) v k xs a = (by_case (cases_eq v w), apart-from (suc w) n v k xs a) where
-  by_case : (v ≡ w) ⊎ (v ≡ w → ⊥) → (exponent w xs ≡ 0) ⊎ (exponent w ((v, k) ∷ []) ≡ 0)
-  by_case (inl e) = inl (above-none v w xs a (omega (arith, e)))
-  by_case (inr d) = inr (omega (arith, power-apart w (v, k) d))
-
-exponent-sum : (xs : Pairs) (p : ℕ × ℕ) (u : ℕ) → exponent u (xs ++ p ∷ []) ≡ exponent u xs + exponent u (p ∷ [])
-exponent-sum xs p u = omega (arith, exponent-push u xs p)
-
-vector-more : (n : ℕ) (ps : Pairs) (i : ℕ) → i < length ps → plus (vector n (take i ps)) (vector n (get_or ps i (0, 0) ∷ [])) ≡ vector n (take (i + 1) ps)
-vector-more n ps i h =
-    let p : ℕ × ℕ = get_or ps i (0, 0) in
-    sym (vector-plus 0 n (take i ps) (p ∷ []) (take i ps ++ p ∷ []) (exponent-sum (take i ps) p)) ∙ ap (vector n) (sym (take_more ps i (0, 0) h))
-
-module _ (n : ℕ) (f h : Sparse) (ps : Pairs) (i : ℕ) (r : IsRising ps) (l : i < length ps) (d : IsDerivative n f (take i ps) h) where
-  -- the coefficients of the next derivative
-  next-coefficients : (m : List ℕ) → length m ≡ n → factor_at (derivative n (get_or ps i (0, 0)).0 (get_or ps i (0, 0)).1 h) m ≡ factor_at (derived (vector n (take (i + 1) ps)) (terms_of n f)) m
-  unfolding coefficient_at
-  next-coefficients m k =
-      let p : ℕ × ℕ = get_or ps i (0, 0) in
-      combined n (vector n (take i ps)) (vector n (p ∷ [])) (terms_of n f) (terms_of n h) (length-vector 0 n (take i ps)) (length-vector 0 n (p ∷ [])) (apart-from 0 n p.0 p.1 (take i ps) (above-take ps i r l)) (over-terms n f) (over-terms n h) d.coefficients m k
-      ∙ ap (λ a. factor_at (derived a (terms_of n f)) m) (vector-more n ps i l)
-
-  pub deriving-step : (g : Sparse) → IsPoly g → AreBelow n g → ((m : List ℕ) → coefficient_at n g m ≡ factor_at (derivative n (get_or ps i (0, 0)).0 (get_or ps i (0, 0)).1 h) m) → IsDerivative n f (take (i + 1) ps) g
-  deriving-step g p b c = record { form = p; below = b; coefficients = λ m k. c m ∙ next-coefficients m k }
-
-  over-vector : (a : Pairs) (x : List Term) → Over n x → Over n (derived (vector n a) x)
-  over-vector a x o = let e : length (vector n a) ≡ n = length-vector 0 n a in subst (λ k. Over k (derived (vector n a) x)) e (over-derived (vector n a) x (subst (λ k. Over k x) (sym e) o))
-
-  -- it weighs no more than that of the whole
-  next-weight : (w : ℕ → ℕ) → weighted_sum w (derivative n (get_or ps i (0, 0)).0 (get_or ps i (0, 0)).1 h) ≤ weighted_sum w (derived (vector n (take (i + 1) ps)) (terms_of n f))
-  next-weight w =
-      let p : ℕ × ℕ = get_or ps i (0, 0) in
-      let a : List ℕ = vector n (p ∷ []) in
-      let e : length (vector n (p ∷ [])) ≡ n = length-vector 0 n (p ∷ []) in
-      let o : Over (length (vector n (p ∷ []))) (terms_of n h) = subst (λ k. Over k (terms_of n h)) (sym e) (over-terms n h) in
-      weighted-least w (derivative n p.0 p.1 h) (derived (vector n (take (i + 1) ps)) (terms_of n f)) (once-derived (vector n (p ∷ [])) (terms_of n h) o (once (terms_of n h) (collected n h d.form d.below)))
-      (everywhere n (derivative n p.0 p.1 h) (derived (vector n (take (i + 1) ps)) (terms_of n f)) (over-vector (p ∷ []) (terms_of n h) (over-terms n h)) (over-vector (take (i + 1) ps) (terms_of n f) (over-terms n f)) next-coefficients)
-
--- ---- weights
-same-monomial : (w u : ℕ → ℕ) (m : List ℕ) → ((v : ℕ) → v < length m → w v ≡ u v) → monomial_weight w m ≡ monomial_weight u m
-same-monomial w u [] h = refl
-same-monomial w u (k ∷ m) h =
-    let e : w 0 ≡ u 0 = h 0 (omega arith) in
-    let r : monomial_weight (λ v. w (suc v)) m ≡ monomial_weight (λ v. u (suc v)) m = same-monomial (λ v. w (suc v)) (λ v. u (suc v)) m (λ v l. h (suc v) (omega arith)) in
-    rw (e, r) refl
-
-same-weight : (n : ℕ) (w u : ℕ → ℕ) (f : Sparse) → ((v : ℕ) → v < n → w v ≡ u v) → weighted_sum w (terms_of n f) ≡ weighted_sum u (terms_of n f)
-same-weight n w u [] h = refl
-same-weight n w u (t ∷ f) h =
-    let e : monomial_weight w (vector n t.0) ≡ monomial_weight u (vector n t.0) = same-monomial w u (vector n t.0) (λ v l. h v (omega (arith, l, length-vector 0 n t.0))) in
-    let r : weighted_sum w (terms_of n f) ≡ weighted_sum u (terms_of n f) = same-weight n w u f h in
-    rw (e, r) refl
-
-one-larger : (vars : List VarInfo) (v : ℕ) → v < length vars → sizes vars v + 1 ≡ weights vars v
-one-larger [] v h = absurd (omega arith)
-one-larger (i ∷ vars) zero h = refl
-one-larger (i ∷ vars) (suc v) h = one-larger vars v (omega arith)
-
--- each scaled derivative is within 128 bits where the polynomial is over weights larger by 1
-whole-light : (vars : List VarInfo) (a : List ℕ) (f : Sparse) → weighted_sum (weights vars) (terms_of (length vars) f) ≤ most → weighted_sum (sizes vars) (derived a (terms_of (length vars) f)) ≤ most
-whole-light vars a f h =
-    omega (arith, h, weighted-derived (sizes vars) a (terms_of (length vars) f), same-weight (length vars) (λ u. sizes vars u + 1) (weights vars) f (one-larger vars))
-
-pub deriving-light : (vars : List VarInfo) (f h : Sparse) (ps : Pairs) (i : ℕ) → IsRising ps → i < length ps → IsDerivative (length vars) f (take i ps) h → weighted_sum (weights vars) (terms_of (length vars) f) ≤ most
-    → weighted_sum (sizes vars) (derivative (length vars) (get_or ps i (0, 0)).0 (get_or ps i (0, 0)).1 h) ≤ most
-deriving-light vars f h ps i r l d w =
-    omega (arith, next-weight (length vars) f h ps i r l d (sizes vars), whole-light vars (vector (length vars) (take (i + 1) ps)) f w)
-
-pub deriving-end : (n : ℕ) (f h : Sparse) (ps a : Pairs) (i : ℕ) → length ps ≤ i → ps ≡ a → IsDerivative n f (take i ps) h → IsDerivative n f a h
-deriving-end n f h ps a i l e d = subst (λ (q : Pairs). IsDerivative n f q h) (take_all i ps l ∙ e) d
-
--- ---- what a derivative is
 -- it has a term for each that covers a
 pub length-derived : (n : ℕ) (f : Sparse) (a : List ℕ) → length (derived a (terms_of n f)) ≡ covering n f a
 length-derived n [] a = refl
@@ -157,7 +50,7 @@ degrees-derived k a (t ∷ f) h = by_case (covers t.exponents a) (degrees-derive
 
 module _ (n : ℕ) (f h : Sparse) (a : Pairs) (d : IsDerivative n f a h) where
   over-whole : Over n (derived (vector n a) (terms_of n f))
-  over-whole = let e : length (vector n a) ≡ n = length-vector 0 n a in subst (λ k. Over k (derived (vector n a) (terms_of n f))) e (over-derived (vector n a) (terms_of n f) (subst (λ k. Over k (terms_of n f)) (sym e) (over-terms n f)))
+  over-whole = over-vector n a (terms_of n f) (over-terms n f)
 
   same : (m : List ℕ) → factor_at (terms_of n h) m ≡ factor_at (derived (vector n a) (terms_of n f)) m
   unfolding coefficient_at
@@ -169,7 +62,7 @@ module _ (n : ℕ) (f h : Sparse) (a : Pairs) (d : IsDerivative n f a h) where
       let k : weighted_sum (sizes vars) (derived (vector n a) (terms_of n f)) ≤ most = light-over vars n e (vector n a) f w in
       omega (arith, l, k) where
         light-over : (vs : List VarInfo) (k : ℕ) → length vs ≡ k → (b : List ℕ) (g : Sparse) → weighted_sum (weights vs) (terms_of k g) ≤ most → weighted_sum (sizes vs) (derived b (terms_of k g)) ≤ most
-        light-over vs k q b g = subst (λ j. weighted_sum (weights vs) (terms_of j g) ≤ most → weighted_sum (sizes vs) (derived b (terms_of j g)) ≤ most) q (whole-light vs b g)
+        light-over vs k q b g = subst (λ j. weighted_sum (weights vs) (terms_of j g) ≤ most → weighted_sum (sizes vs) (derived b (terms_of j g)) ≤ most) q (derived-light vs b g)
 
   no-zero : HasNoZero (terms_of n h)
   no-zero = go h d.form.factors where

@@ -11,7 +11,7 @@ use Rattle.ln_stage.specs.Lists.{all_covering, covering}
 use Rattle.ln_code.specs.Part.{Code, ops_in_blocks}
 use Rattle.ln_compile.specs.Compiled.{IsOwn}
 use Rattle.ln_compile.specs.Made.{AreBlocksOf, IsBlockOf}
-use Rattle.ln_due.proofs.CoefficientLemmas.{vector-nil}
+use Rattle.ln_poly.proofs.Normals.{vector-none}
 
 ops-append : (xs ys : List Code) → ops_in_blocks (xs ++ ys) ≡ ops_in_blocks xs + ops_in_blocks ys
 ops-append [] ys = omega arith
@@ -31,7 +31,7 @@ pub blocks-begin : (p : PredOf) (f : Sparse) (exps : List Pairs) (old blocks : L
 blocks-begin p f [] old blocks c a e l z o b s = absurd (omega arith)
 blocks-begin p f (x ∷ xs) old blocks c a e l z o b s =
     let g : c ∷ [] ≡ blocks = sym (e ∙ ap (λ bs. bs ++ c ∷ []) a) in
-    let v : vector (length p.vars) c.exps ≡ vector (length p.vars) x = ap (vector (length p.vars)) o.plain ∙ vector-nil 0 (length p.vars) ∙ sym z in
+    let v : vector (length p.vars) c.exps ≡ vector (length p.vars) x = ap (vector (length p.vars)) o.plain ∙ vector-none 0 (length p.vars) ∙ sym z in
     let one : AreBlocksOf p f (x ∷ []) (c ∷ []) = record {
       own = c;
       first = refl;

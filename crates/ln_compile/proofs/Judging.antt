@@ -30,7 +30,7 @@ use Rattle.ln_compile.specs.declared.refusal.Refusal.{Refusal}
 use Rattle.ln_compile.specs.declared.refusal.Refusal.TheVariants.{Bound, Terms, Zero}
 use Rattle.ln_compile.specs.Accepted.{AreSound, IsHeavyFault, IsSound, expanded_of, loaded_of, root_of}
 use Rattle.ln_compile.specs.Refused.{IsPredFault, IsRefusal, StopsPred, StopsPreds, bound, heavy, of_pred, of_text, refusal_of, terms, token_of, zero as zero_root}
-use Rattle.ln_compile.proofs.CombinedLemmas.{everywhere, once}
+use Rattle.ln_poly.proofs.Combined.{everywhere, once}
 
 -- one more
 sound-more : (ps : List PredOf) (p : PredOf) → AreSound ps → IsSound p → AreSound (ps ++ p ∷ [])

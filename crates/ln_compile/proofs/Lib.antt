@@ -1,5 +1,4 @@
 pub mod BuildingLemmas
-pub mod CombinedLemmas
 pub mod CopyLemmas
 pub mod DerivingLemmas
 pub mod FaultlessLemmas

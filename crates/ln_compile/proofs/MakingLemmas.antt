@@ -5,7 +5,7 @@ use Rattle.ln_algebra.specs.Coefficient.{normal_coefficient}
 use Rattle.std.proofs.lemmas.Bool.{cases_lt}
 use Rattle.std.proofs.lemmas.List.{get_or_past}
 use Rattle.ln_algebra.proofs.Zeros.{derived-zeros}
-use Rattle.ln_algebra.specs.Terms.{IsNormalOf, Over, derived, factor_at}
+use Rattle.ln_algebra.specs.Terms.{IsNormalOf, derived, factor_at}
 use Rattle.ln_algebra.specs.Tree.{inlined, inlined_after}
 use Rattle.ln_tree.specs.declared.pred.Pred.{Pred}
 use Rattle.ln_tree.specs.declared.shape.VarInfo.{VarInfo}
@@ -36,17 +36,14 @@ use Rattle.ln_filter.specs.Steady.{HasFilter}
 use Rattle.ln_filter.specs.Truncated.{root_number, root_triple}
 use Rattle.ln_compile.specs.Accepted.{lets_of, own_root, root_of}
 use Rattle.ln_compile.specs.Compiled.{IsFilterOf, IsOwn}
-use Rattle.ln_compile.specs.Derived.{IsDerivative}
+use Rattle.ln_poly.specs.Derivative.{IsDerivative}
 use Rattle.ln_compile.specs.Made.{IsBlockOf}
-use Rattle.ln_compile.proofs.CombinedLemmas.{over-derived}
-use Rattle.ln_due.proofs.CoefficientLemmas.{vector-nil}
+use Rattle.ln_poly.proofs.Several.{over-vector}
+use Rattle.ln_poly.proofs.Normals.{vector-none}
 
 -- a block whose value has the coefficients of the derivative carries it
 carrying : (vars : List VarInfo) (f : Sparse) (c : Code) → FollowsRules vars c → ((k : Known) → known_of vars c ≡ Some k → IsNormalOf (length vars) k.tree (derived (vector (length vars) c.exps) (terms_of (length vars) f))) → CarriesDerivative vars (terms_of (length vars) f) c
 carrying vars f c r h = let s = some_is (known_of vars c) r.answers in record { what = s.0; known = s.1; derivative = h s.0 s.1 }
-
-over-derivative : (n : ℕ) (a : Pairs) (f : Sparse) → Over n (derived (vector n a) (terms_of n f))
-over-derivative n a f = let e : length (vector n a) ≡ n = length-vector 0 n a in subst (λ k. Over k (derived (vector n a) (terms_of n f))) e (over-derived (vector n a) (terms_of n f) (subst (λ k. Over k (terms_of n f)) (sym e) (over-terms n f)))
 
 -- ---- a derivative's block
 pub derivative-made : (vars : List VarInfo) (f h : Sparse) (a : Pairs) (lets : List Fitted) (t : Typed) (c : Code) → IsDerivative (length vars) f a h → lets ≡ [] → c.exps ≡ a → AreOfSites vars a → FollowsRules vars c
@@ -63,7 +60,7 @@ derivative-made vars f h a lets t c d z e o r p q s x ns = record {
   coefficients k g m l = sym (q k g m ∙ ap (λ (us : List Fitted). polynomial (map typed us) t m) z ∙ p m l ∙ d.coefficients m l)
 
   normal : (k : Known) → known_of vars c ≡ Some k → IsNormalOf (length vars) k.tree (derived (vector (length vars) c.exps) (terms_of (length vars) f))
-  normal k g = rw e (record { over = over-derivative (length vars) a f; coefficients = coefficients k g })
+  normal k g = rw e (record { over = over-vector (length vars) a (terms_of (length vars) f) (over-terms (length vars) f); coefficients = coefficients k g })
 
 -- its operations
 pub derivative-ops : (ops cost costs terms cover : ℕ) → ops ≤ 4 * (cost + costs) + 64 → costs ≡ 0 → cost ≤ max 1 (1024 * terms) → terms ≤ cover → ops ≤ 4096 * cover + 68
@@ -110,7 +107,7 @@ own-carries p lets root c a f z e l r fr q h b o = record {
   whole m = ap (λ ts. normal_coefficient (inlined (inlined_after [] ts) (untyped (typed root))) m) (l ∙ sym (trees-of p.shape.vars p.lets)) ∙ ap (λ t. normal_coefficient (inlined (inlined_after [] (map (tree p.shape.vars) (map formula p.lets))) t) m) r
 
   none : derived (vector (length p.shape.vars) c.exps) (terms_of (length p.shape.vars) f) ≡ terms_of (length p.shape.vars) f
-  none = ap (λ x. derived (vector (length p.shape.vars) x) (terms_of (length p.shape.vars) f)) (e ∙ z) ∙ ap (λ x. derived x (terms_of (length p.shape.vars) f)) (vector-nil 0 (length p.shape.vars)) ∙ derived-zeros (length p.shape.vars) (terms_of (length p.shape.vars) f) (over-terms (length p.shape.vars) f)
+  none = ap (λ x. derived (vector (length p.shape.vars) x) (terms_of (length p.shape.vars) f)) (e ∙ z) ∙ ap (λ x. derived x (terms_of (length p.shape.vars) f)) (vector-none 0 (length p.shape.vars)) ∙ derived-zeros (length p.shape.vars) (terms_of (length p.shape.vars) f) (over-terms (length p.shape.vars) f)
 
   normal : (k : Known) → known_of p.shape.vars c ≡ Some k → IsNormalOf (length p.shape.vars) k.tree (derived (vector (length p.shape.vars) c.exps) (terms_of (length p.shape.vars) f))
   normal k g = rw none (record { over = over-terms (length p.shape.vars) f; coefficients = λ m s. h.normal.coefficients m s ∙ sym (q k g m ∙ whole m) })

@@ -30,7 +30,7 @@ use Rattle.ln_due.specs.Small.{BlockPushesSmall, FilterPushesSmall}
 use Rattle.ln_lower.specs.Nodes as lower
 use Rattle.ln_filter.specs.Nodes as filter
 use Rattle.ln_compile.specs.Accepted.{expanded_of, root_of, loaded_of}
-use Rattle.ln_compile.specs.Derived.{IsDerivative}
+use Rattle.ln_poly.specs.Derivative.{IsDerivative}
 use Rattle.ln_compile.proofs.DerivingLemmas.{derivative-few}
 use Rattle.ln_compile.proofs.LeanNodes.{lean-nodes}
 use Rattle.ln_compile.proofs.NodesIn.{NodeIn}

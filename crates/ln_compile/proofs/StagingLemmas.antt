@@ -33,7 +33,7 @@ use Rattle.ln_stage.proofs.LawLemmas.{list-unique, lists-of-trees}
 use Rattle.ln_compile.specs.declared.refusal.Refusal.TheVariants.{Stages}
 use Rattle.ln_compile.specs.Accepted.{IsHeavyFault, IsSound, IsStagesFault, expanded_of, loaded_of, root_of}
 use Rattle.ln_compile.specs.Refused.{StopsPred, stages}
-use Rattle.ln_compile.proofs.CombinedLemmas.{everywhere, once, once-derived, over-derived}
+use Rattle.ln_poly.proofs.Combined.{everywhere, once, once-derived, over-derived}
 use Rattle.ln_compile.proofs.DerivingLemmas.{length-derived}
 use Rattle.ln_compile.proofs.FewestLemmas.{shortest}
 

@@ -1,6 +1,5 @@
 pub mod Accepted
 pub mod Compiled
-pub mod Derived
 pub mod Filtered
 pub mod Made
 pub mod Refused

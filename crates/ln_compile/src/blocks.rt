@@ -1,8 +1,8 @@
 //! The blocks of a predicate.
-ghost use Rattle.std.specs.Prelude.{◌≡◌, ◌+◌, ◌*◌, ◌<◌, ◌≤◌, ℕ, All, [], None, length, slice_index, slice_index_or, IfOk, OnOk};
+ghost use Rattle.std.specs.Prelude.{◌≡◌, ◌+◌, ◌*◌, ◌<◌, ◌≤◌, ℕ, All, [], None, length, slice_index, slice_index_or, IfOk};
 ghost use Rattle.ln_algebra.specs.Vector.{total_degree, zeros};
 ghost use Rattle.ln_algebra.specs.Weights.{weighted_sum};
-ghost use Rattle.ln_tree.specs.Exps.{IsAbove, IsRising, vector};
+ghost use Rattle.ln_tree.specs.Exps.{IsAbove, vector};
 ghost use Rattle.ln_tree.specs.Table.{pred_of};
 ghost use Rattle.ln_bound.specs.Light.{AreLight, most};
 ghost use Rattle.ln_bound.specs.Value.{weights};
@@ -12,7 +12,6 @@ ghost use Rattle.ln_poly.specs.Sparse.{AreBelow, IsPoly, Sparse, terms_of};
 ghost use Rattle.ln_stage.specs.Lists.{covering};
 ghost use Rattle.ln_compile.specs.Accepted.{expanded_of, loaded_of, root_of};
 ghost use Rattle.ln_compile.specs.Compiled.{IsOwn};
-ghost use Rattle.ln_compile.specs.Derived.{IsDerivative};
 ghost use Rattle.ln_compile.specs.Made.{AreBlocksOf, IsBlockOf};
 
 use ln_base::{NoMemory, Seq};
@@ -20,27 +19,10 @@ use ln_bound::size::size;
 use ln_code::Block;
 use ln_lower::lower;
 use ln_nest::nest;
-use ln_poly::{Poly, derive};
+use ln_poly::{Poly, derive_by};
 use ln_stage::Stages;
 use ln_tree::{Exps, Pred, Shape};
 use std::alloc::Global;
-
-// The scaled derivative by these exponents, variable by variable.
-fn derived(alloc: Global, f: &Poly, s: &Shape, a: &Exps) -> Result<Poly, NoMemory>
-    requires form { IsPoly f.now }
-    requires below { AreBelow (length s.now.vars) f.now }
-    requires weight { weighted_sum (weights s.now.vars) (terms_of (length s.now.vars) f.now) ≤ most }
-    requires exps { IsAbove a.now (length s.now.vars) }
-    ensures derivative { IfOk result (IsDerivative (length s.now.vars) f.now a.now) }
-    ensures rising { OnOk result (IsRising a.now) }
-{
-    let mut h = f.copy(alloc)?;
-    let pairs = a.pairs();
-    'pairs: for p in pairs {
-        h = derive(alloc, &h, s, p.0, p.1)?;
-    }
-    Ok(h)
-}
 
 // The block of a derivative, from its nested form.
 fn derivative_block(alloc: Global, f: &Poly, s: &Shape, a: &Exps) -> Result<Block, NoMemory>
@@ -55,7 +37,7 @@ fn derivative_block(alloc: Global, f: &Poly, s: &Shape, a: &Exps) -> Result<Bloc
     ensures block { IfOk result (IsBlockOf s.now.vars f.now) }
     ensures few { IfOk result (λ b. length b.ops ≤ 4096 * covering (length s.now.vars) f.now (vector (length s.now.vars) a.now) + 68) }
 {
-    let h = derived(alloc, f, s, a)?;
+    let h = derive_by(alloc, f, s, a)?;
     let t = nest(alloc, &h, s)?;
     let block = lower(alloc, a, s, &t, &Seq::new(alloc))?;
     Ok(block)

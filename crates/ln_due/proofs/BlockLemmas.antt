@@ -22,7 +22,8 @@ use Rattle.ln_code.specs.Law.{BlockMeans}
 use Rattle.ln_code.specs.Part.{Code, Part}
 use Rattle.ln_code.specs.Rules.{Known}
 use Rattle.ln_due.specs.DueLaw.{HasValue, PlainBlocksCarryTheWhole}
-use Rattle.ln_due.proofs.CoefficientLemmas.{derivative-value, vector-nil}
+use Rattle.ln_poly.proofs.Normals.{vector-none}
+use Rattle.ln_due.proofs.CoefficientLemmas.{derivative-value}
 use Rattle.ln_due.proofs.InputsLemmas.{known_inputs}
 
 -- two names of one value
@@ -66,5 +67,5 @@ pub plain-whole : PlainBlocksCarryTheWhole
 plain-whole rank p e f c h i q =
     let n : ℕ = length p.shape.vars in
     let d : CarriesDerivative p.shape.vars f c = All-contains (CarriesDerivative p.shape.vars f) p.blocks c h.blocks i in
-    let z : derived (vector n c.exps) f ≡ f = ap (λ a. derived (vector n a) f) q ∙ ap (λ a. derived a f) (vector-nil 0 n) ∙ derived-zeros n f h.normal.over in
+    let z : derived (vector n c.exps) f ≡ f = ap (λ a. derived (vector n a) f) q ∙ ap (λ a. derived a f) (vector-none 0 n) ∙ derived-zeros n f h.normal.over in
     (d.what, d.known, subst (λ (g : List Term). IsNormalOf n d.what.tree g) z d.derivative)

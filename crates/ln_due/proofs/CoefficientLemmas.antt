@@ -1,5 +1,5 @@
 -- What a scaled derivative's expression is worth on a row: the perturbed coefficient.
-use Rattle.std.proofs.Common.{◌≡◌, ℕ, zero, suc, false, List, [], ◌∷◌, refl, sym, ◌∙◌, ap}
+use Rattle.std.proofs.Common.{◌≡◌, ℕ, false, List, [], sym, ◌∙◌, ap}
 use Rattle.std.proofs.Math.IntN.{ℤ}
 use Rattle.ln_algebra.proofs.Cut.{of_sites, within}
 use Rattle.ln_algebra.proofs.Derived.{derivative-coefficient}
@@ -13,13 +13,7 @@ use Rattle.ln_algebra.specs.Terms as terms
 use Rattle.ln_algebra.specs.Tree.{InputsBelow, Tree}
 use Rattle.ln_algebra.specs.Vector.{zeros}
 use Rattle.ln_bound.proofs.Plain.{plain}
-use Rattle.ln_tree.specs.Exps.{exponents_from}
 use Rattle.ln_bound.specs.Value.{value}
-
--- no exponents are those of the vector of zeros
-pub vector-nil : (v n : ℕ) → exponents_from v n [] ≡ zeros n
-vector-nil v zero = refl
-vector-nil v (suc n) = ap (λ z. 0 ∷ z) (vector-nil (suc v) n)
 
 -- the value of an expression is that of its normal polynomial
 pub normal-value : (n : ℕ) (x : ℕ → ℤ) (e : Tree) (f : List Term) → InputsBelow n e → IsNormalOf n e f → value x [] e ≡ terms.value x f

@@ -10,7 +10,7 @@ use mathlib.Core.Logic.{◌⊎◌, inl, inr}
 use Rattle.std.proofs.Math.IntN.{ℤ, pos, ◌+ℤ◌, ◌*ℤ◌}
 use Rattle.ln_algebra.proofs.Bounds.{weighted-derived}
 use Rattle.ln_algebra.specs.Vector.{sum_over}
-use Rattle.ln_algebra.specs.Terms.{binomial, binomials, covers, factor_at, minus}
+use Rattle.ln_algebra.specs.Terms.{binomial, binomials, covers, derived, factor_at, minus}
 use Rattle.ln_algebra.specs.Weights.{monomial_weight, weighted_sum}
 use Rattle.ln_bound.specs.Light.{most}
 use Rattle.ln_bound.specs.Value.{sizes, weights}
@@ -22,6 +22,7 @@ use Rattle.ln_poly.specs.Derivative.{IsDerivedPut, IsDeriving, IsLowered, deriva
 use Rattle.ln_poly.proofs.Coefficients.{coefficient_at-nil, coefficient_at-push, size-nil, size-push}
 use Rattle.ln_tree.proofs.Powers.{power-apart, power-here}
 use Rattle.ln_poly.proofs.Merging.{above-none, none-above}
+use Rattle.ln_poly.proofs.Combined.{binomial-none}
 use Rattle.ln_poly.proofs.Products.{length-vector, sum_over-more}
 use Rattle.ln_poly.proofs.Weighing.{pow-some, size-some, weight-pairs, weight-some}
 
@@ -58,10 +59,6 @@ minus-single w zero v n e ps h = refl
 minus-single w (suc k) v n e ps h =
     let x : exponent w ps - exponent w ((v, n) ∷ []) ≡ exponent w e = omega (arith, h w) in
     rw (x, minus-single (suc w) k v n e ps h) refl
-
-binomial-none : (e : ℕ) → binomial e 0 ≡ 1
-binomial-none zero = refl
-binomial-none (suc e) = refl
 
 binomials-behind : (w k v n : ℕ) (ps : Pairs) → v < w → binomials (exponents_from w k ps) (exponents_from w k ((v, n) ∷ [])) ≡ 1
 binomials-behind w zero v n ps h = refl
@@ -239,7 +236,10 @@ one-larger [] v h = absurd (omega arith)
 one-larger (i ∷ vars) zero h = refl
 one-larger (i ∷ vars) (suc v) h = one-larger vars v (omega arith)
 
--- its weighted sum over M is within 128 bits where that of the polynomial over w is
+-- the weighted sum over M of each scaled derivative is within 128 bits where that of the polynomial over w is
+pub derived-light : (vars : List VarInfo) (a : List ℕ) (f : Sparse) → weighted_sum (weights vars) (terms_of (length vars) f) ≤ most → weighted_sum (sizes vars) (derived a (terms_of (length vars) f)) ≤ most
+derived-light vars a f h =
+    omega (arith, h, weighted-derived (sizes vars) a (terms_of (length vars) f), same-weight (length vars) (λ u. sizes vars u + 1) (weights vars) f (one-larger vars))
+
 pub derivative-light : (vars : List VarInfo) (v n : ℕ) (f : Sparse) → weighted_sum (weights vars) (terms_of (length vars) f) ≤ most → weighted_sum (sizes vars) (derivative (length vars) v n f) ≤ most
-derivative-light vars v n f h =
-    omega (arith, h, weighted-derived (sizes vars) (vector (length vars) ((v, n) ∷ [])) (terms_of (length vars) f), same-weight (length vars) (λ u. sizes vars u + 1) (weights vars) f (one-larger vars))
+derivative-light vars v n f h = derived-light vars (vector (length vars) ((v, n) ∷ [])) f h

@@ -5,7 +5,9 @@ pub mod Merging
 pub mod Products
 pub mod Weighing
 pub mod Lowering
+pub mod Combined
 pub mod Deriving
+pub mod Several
 pub mod Leaves
 pub mod Collected
 pub mod Counting

@@ -21,7 +21,8 @@ use Rattle.ln_poly.proofs.Leaves.{no-terms, one-term}
 use Rattle.ln_poly.proofs.Products.{over-terms}
 
 -- ---- vectors of leaves
-vector-none : (v n : ℕ) → exponents_from v n [] ≡ zeros n
+-- no exponents are those of the vector of zeros
+pub vector-none : (v n : ℕ) → exponents_from v n [] ≡ zeros n
 vector-none v zero = refl
 vector-none v (suc n) = ap (λ z. 0 ∷ z) (vector-none (suc v) n)
 

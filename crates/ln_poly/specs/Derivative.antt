@@ -1,9 +1,9 @@
--- Scaled derivatives by one variable.
-use Rattle.std.specs.Prelude.{◌≡◌, ℕ, ◌+◌, ◌-◌, ◌<◌, ◌≤◌, ◌*ℤ◌, ℤ, pos, List, [], ◌∷◌, ◌++◌, slice_index, take}
+-- Scaled derivatives, by one variable and by several.
+use Rattle.std.specs.Prelude.{◌≡◌, ℕ, ◌+◌, ◌-◌, ◌<◌, ◌≤◌, ◌*ℤ◌, ℤ, pos, List, [], ◌∷◌, ◌++◌, length, slice_index, take}
 use Rattle.ln_algebra.specs.Terms.{Term, binomial, derived, factor_at}
 use Rattle.ln_algebra.specs.Weights.{weighted_sum}
 use Rattle.ln_tree.specs.Exps.{IsRising, Pairs, exponent, vector}
-use Rattle.ln_poly.specs.Sparse.{AreBelow, AreRising, Sparse, coefficient_at, size_of, terms_of}
+use Rattle.ln_poly.specs.Sparse.{AreBelow, AreRising, IsPoly, Sparse, coefficient_at, size_of, terms_of}
 use Rattle.ln_poly.specs.Times.{power_at}
 
 -- the scaled derivative by variable v, n times, over k variables
@@ -36,3 +36,9 @@ pub record IsDeriving (out f : Sparse) (k v n i : ℕ) (w : ℕ → ℕ) : Type 
   pub size : size_of out ≤ weighted_sum w (derivative k v n (take i f))
   pub rising : AreRising out
   pub below : AreBelow k out
+
+-- h is the scaled derivative of f by the exponents a, over n variables
+pub record IsDerivative (n : ℕ) (f : Sparse) (a : Pairs) (h : Sparse) : Type 0 where
+  pub form : IsPoly h
+  pub below : AreBelow n h
+  pub coefficients : (m : List ℕ) → length m ≡ n → coefficient_at n h m ≡ factor_at (derived (vector n a) (terms_of n f)) m

@@ -3,10 +3,10 @@ ghost use Rattle.std.specs.Prelude.{◌≡◌, ℕ, List, [], ◌∷◌, ◌++�
 ghost use Rattle.ln_algebra.specs.Terms.{binomial, factor_at};
 ghost use Rattle.ln_algebra.specs.Weights.{weighted_sum};
 ghost use Rattle.ln_bound.specs.Light.{most};
-ghost use Rattle.ln_bound.specs.Value.{sizes};
-ghost use Rattle.ln_tree.specs.Exps.{exponent};
-ghost use Rattle.ln_poly.specs.Sparse.{AreBelow, IsPoly, coefficient_at};
-ghost use Rattle.ln_poly.specs.Derivative.{IsColumn, IsDerivedPut, IsLowered, derivative};
+ghost use Rattle.ln_bound.specs.Value.{sizes, weights};
+ghost use Rattle.ln_tree.specs.Exps.{IsAbove, IsRising, exponent};
+ghost use Rattle.ln_poly.specs.Sparse.{AreBelow, IsPoly, coefficient_at, terms_of};
+ghost use Rattle.ln_poly.specs.Derivative.{IsColumn, IsDerivative, IsDerivedPut, IsLowered, derivative};
 
 use crate::gather::gather;
 use crate::poly::Poly;
@@ -120,5 +120,22 @@ pub fn derive(alloc: Global, f: &Poly, s: &Shape, v: u8, n: u8) -> Result<Poly, 
         put_derived(alloc, &mut out, t, v, n, &column)?;
     }
     let h = gather(alloc, out)?;
+    Ok(h)
+}
+
+/// The scaled derivative by these exponents, variable by variable: the partial derivative divided by their factorials.
+pub fn derive_by(alloc: Global, f: &Poly, s: &Shape, a: &Exps) -> Result<Poly, NoMemory>
+    requires form { IsPoly f.now }
+    requires below { AreBelow (length s.now.vars) f.now }
+    requires weight { weighted_sum (weights s.now.vars) (terms_of (length s.now.vars) f.now) ≤ most }
+    requires exps { IsAbove a.now (length s.now.vars) }
+    ensures derivative { IfOk result (IsDerivative (length s.now.vars) f.now a.now) }
+    ensures rising { OnOk result (IsRising a.now) }
+{
+    let mut h = f.copy(alloc)?;
+    let pairs = a.pairs();
+    'pairs: for p in pairs {
+        h = derive(alloc, &h, s, p.0, p.1)?;
+    }
     Ok(h)
 }

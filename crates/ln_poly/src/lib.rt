@@ -2,7 +2,7 @@
 //!
 //! What the crates above use: `normal` is the normal polynomial of a predicate's root, or the first node that has more
 //! than 1,024 terms. `add`, `sub` and `mul` have the coefficients of the sum, the difference and the product, `derive`
-//! those of the scaled derivative, `weight` and `heft` are weighted sums of a polynomial.
+//! those of the scaled derivative by one variable, `derive_by` by several; `weight` and `heft` are weighted sums.
 #![tactic(auto)]
 
 pub mod arithmetic;
@@ -16,7 +16,7 @@ pub mod times;
 pub mod weights;
 
 pub use arithmetic::{add, mul, sub};
-pub use derivatives::derive;
+pub use derivatives::{derive, derive_by};
 pub use expansion::{PolyStop, normal};
 pub use leaf::{number, power};
 pub use poly::Poly;

@@ -3,8 +3,6 @@ pub mod Behind
 pub mod CaseLemmas
 pub mod Closes
 pub mod Closing
-pub mod Combined
-pub mod Deriving
 pub mod Domain
 pub mod Empty
 pub mod Fitting

@@ -10,7 +10,6 @@ pub mod Versions
 pub mod Values
 pub mod Cuts
 pub mod Works
-pub mod Derived
 pub mod Orders
 pub mod Here
 pub mod AsPart

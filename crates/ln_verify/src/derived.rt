@@ -1,37 +1,17 @@
-//! The scaled derivative by several variables, and the comparisons of `decide` and `end`.
-ghost use Rattle.std.specs.Prelude.{◌↔◌, ◌≤◌, IfOk, IsTrue, length};
+//! The comparisons of `decide` and `end`.
+ghost use Rattle.std.specs.Prelude.{◌↔◌, IfOk, IsTrue, length};
 ghost use Rattle.ln_algebra.specs.Terms.{IsNormalOf, derived};
 ghost use Rattle.ln_algebra.specs.Tree.{Tree};
-ghost use Rattle.ln_algebra.specs.Weights.{weighted_sum};
-ghost use Rattle.ln_bound.specs.Light.{most};
-ghost use Rattle.ln_bound.specs.Value.{weights};
 ghost use Rattle.ln_tree.specs.Exps.{IsAbove, vector};
 ghost use Rattle.ln_poly.specs.Expansion.{IsNormal};
-ghost use Rattle.ln_poly.specs.Sparse.{AreBelow, IsPoly, terms_of};
-ghost use Rattle.ln_verify.specs.Derived.{IsDerivative};
+ghost use Rattle.ln_poly.specs.Sparse.{terms_of};
 ghost use Rattle.ln_verify.specs.Here.{IsCase};
 
 use crate::case::Case;
 use ln_base::NoMemory;
-use ln_poly::{Poly, derive};
-use ln_tree::{Exps, Shape};
+use ln_poly::{Poly, derive_by};
+use ln_tree::Exps;
 use std::alloc::Global;
-
-// The scaled derivative by these exponents, variable by variable.
-fn derived(alloc: Global, f: &Poly, s: &Shape, a: &Exps) -> Result<Poly, NoMemory>
-    requires form { IsPoly f.now }
-    requires below { AreBelow (length s.now.vars) f.now }
-    requires weight { weighted_sum (weights s.now.vars) (terms_of (length s.now.vars) f.now) ≤ most }
-    requires exps { IsAbove a.now (length s.now.vars) }
-    ensures { IfOk result (IsDerivative (length s.now.vars) f.now a.now) }
-{
-    let mut h = f.copy(alloc)?;
-    let pairs = a.pairs();
-    'pairs: for p in pairs {
-        h = derive(alloc, &h, s, p.0, p.1)?;
-    }
-    Ok(h)
-}
 
 /// Is each variable below n?
 pub fn are_below(a: &[(u8, u8)], n: usize) -> bool
@@ -54,7 +34,7 @@ pub fn is_derivative(alloc: Global, case: &Case, a: &Exps, g: &Poly) -> Result<b
     if !are_below(a.pairs(), case.shape.vars.len()) {
         return Ok(false);
     }
-    let h = derived(alloc, &case.poly, &case.shape, a)?;
+    let h = derive_by(alloc, &case.poly, &case.shape, a)?;
     Ok(g.same(&h))
 }
 

@@ -19,7 +19,7 @@ AreApart [] b = Unit {0}
 AreApart (i ∷ a) [] = Unit {0}
 AreApart (i ∷ a) (j ∷ b) = ((i ≡ 0) ⊎ (j ≡ 0)) × AreApart a b
 
-binomial-none : (e : ℕ) → binomial e 0 ≡ 1
+pub binomial-none : (e : ℕ) → binomial e 0 ≡ 1
 binomial-none zero = refl
 binomial-none (suc e) = refl
 

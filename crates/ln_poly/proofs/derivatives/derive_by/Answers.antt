@@ -1,10 +1,10 @@
 use Rattle.std.proofs.Common.{arith, length}
 use Rattle.ln_tree.specs.Exps.{IsAbove, IsRising}
-use Rattle.ln_verify.proofs.Deriving.{deriving-init, deriving-light, deriving-step, variable-at}
-use Rattle.ln_verify.proofs.derived.derived.Goals as goal
+use Rattle.ln_poly.proofs.Several.{several-init, several-light, several-step, variable-at}
+use Rattle.ln_poly.proofs.derivatives.derive_by.Goals as goal
 
 pub pairs-init : goal.pairs-init
-pairs-init c = deriving-init _ _ _ c.requires.form c.requires.below c.in_ok-h.ensures
+pairs-init c = several-init _ _ _ c.requires.form c.requires.below c.in_ok-h.ensures
 
 pub derive-requires-clause-variable : goal.derive-requires-clause-variable
 derive-requires-clause-variable c =
@@ -14,10 +14,10 @@ derive-requires-clause-variable c =
 pub derive-requires-clause-small : goal.derive-requires-clause-small
 derive-requires-clause-small c =
     let r : IsRising c.pairs-pairs.result.now = rw c.pairs-pairs.ensures.value c.pairs-pairs.ensures.rising in
-    deriving-light c.args.s.now.vars c.args.f.now c.pairs.h c.pairs-pairs.result.now c.pairs.p-index r (omega (arith, c.pairs-test.true)) c.pairs.invariant c.requires.weight
+    several-light c.args.s.now.vars c.args.f.now c.pairs.h c.pairs-pairs.result.now c.pairs.p-index r (omega (arith, c.pairs-test.true)) c.pairs.invariant c.requires.weight
 
 pub pairs-preserved : goal.pairs-preserved
 pairs-preserved c =
     let r : IsRising c.pairs-pairs.result.now = rw c.pairs-pairs.ensures.value c.pairs-pairs.ensures.rising in
     let e = c.in_ok-h-2.ensures in
-    deriving-step (length c.args.s.now.vars) c.args.f.now c.pairs.h c.pairs-pairs.result.now c.pairs.p-index r (omega (arith, c.pairs-test.true)) c.pairs.invariant c.in_ok-h-2.h e.form e.below e.coefficients
+    several-step (length c.args.s.now.vars) c.args.f.now c.pairs.h c.pairs-pairs.result.now c.pairs.p-index r (omega (arith, c.pairs-test.true)) c.pairs.invariant c.in_ok-h-2.h e.form e.below e.coefficients

@@ -1,6 +1,6 @@
 use Rattle.std.proofs.Common.{length, take}
-use Rattle.ln_compile.specs.Derived.{IsDerivative}
-use Rattle.ln_compile.proofs.blocks.derived.Given as goal
+use Rattle.ln_poly.specs.Derivative.{IsDerivative}
+use Rattle.ln_poly.proofs.derivatives.derive_by.Given as goal
 
 abbrev pub invariant-pairs : goal.invariant-pairs
 invariant-pairs l = IsDerivative (length l.s.vars) l.f (take l.p-index l.pairs) l.h
