@@ -1,29 +1,16 @@
 -- Sources that are accepted.
 use Rattle.std.specs.Prelude.{ℕ, ◌<◌, List, [], ◌∷◌, length, map}
-use Rattle.ln_base.specs.declared.span.Span.{Span}
 use Rattle.ln_algebra.specs.Tree.{Tree}
 use Rattle.ln_algebra.specs.Weights.{weighted_sum}
 use Rattle.ln_tree.specs.Formula.{tree}
 use Rattle.ln_tree.specs.Table.{PredOf, TableOf}
 use Rattle.ln_bound.specs.Light.{AreLight, most}
-use Rattle.ln_bound.specs.Loads.{loaded_pred}
 use Rattle.ln_bound.specs.Value.{weights}
-use Rattle.ln_poly.specs.Expansion.{HaveFewTerms, IsNormal, IsZeroFault, closed_root, expanded_pred}
+use Rattle.ln_poly.specs.Expansion.{HaveFewTerms, IsNormal, IsZeroFault}
+pub use Rattle.ln_poly.specs.OfPred.{expanded_of, loaded_of, root_of}
 use Rattle.ln_poly.specs.Sparse.{Sparse, terms_of}
 use Rattle.ln_stage.specs.Lists.{AreStageLists, Passes}
 use Rattle.ln_parse.specs.Text.{TextOf}
-
--- the nodes of a predicate in order of evaluation, each with the largest absolute value of the ends of its range, or with its size where that is larger
-abbrev pub loaded_of : PredOf → List (Span × ℕ)
-loaded_of p = loaded_pred p.vars p.lets p.root
-
--- what is expanded of it, in order of evaluation
-abbrev pub expanded_of : PredOf → List (Span × Tree)
-expanded_of p = expanded_pred p.vars p.lets p.root
-
--- its root with its lets in place of their names
-abbrev pub root_of : PredOf → Tree
-root_of p = closed_root p.vars p.lets p.root
 
 -- its lets and its root as they stand in the source
 abbrev pub lets_of : PredOf → List Tree

@@ -7,3 +7,4 @@ pub mod Derivative
 pub mod Expansion
 pub mod Stop
 pub mod Ready
+pub mod OfPred

@@ -1,27 +1,13 @@
 -- Predicates that are accepted: what a predicate of a table has where its source compiles.
 use Rattle.std.specs.Prelude.{ℕ, ◌≤◌, List, [], ◌∷◌, length}
-use Rattle.ln_base.specs.declared.span.Span.{Span}
-use Rattle.ln_algebra.specs.Tree.{Tree}
 use Rattle.ln_algebra.specs.Weights.{weighted_sum}
 use Rattle.ln_tree.specs.Table.{PredOf}
 use Rattle.ln_bound.specs.Light.{AreLight, most}
-use Rattle.ln_bound.specs.Loads.{loaded_pred}
 use Rattle.ln_bound.specs.Value.{weights}
-use Rattle.ln_poly.specs.Expansion.{HaveFewTerms, IsNormal, IsZeroFault, closed_root, expanded_pred}
+use Rattle.ln_poly.specs.Expansion.{HaveFewTerms, IsNormal, IsZeroFault}
+pub use Rattle.ln_poly.specs.OfPred.{expanded_of, loaded_of, root_of}
 use Rattle.ln_poly.specs.Sparse.{Sparse, terms_of}
 use Rattle.ln_stage.specs.Lists.{AreStageLists, Passes}
-
--- the nodes of a predicate in order of evaluation, each with the largest absolute value of the ends of its range, or with its size where that is larger
-abbrev pub loaded_of : PredOf → List (Span × ℕ)
-loaded_of p = loaded_pred p.vars p.lets p.root
-
--- what is expanded of it, in order of evaluation
-abbrev pub expanded_of : PredOf → List (Span × Tree)
-expanded_of p = expanded_pred p.vars p.lets p.root
-
--- its root with its lets in place of their names
-abbrev pub root_of : PredOf → Tree
-root_of p = closed_root p.vars p.lets p.root
 
 -- no range and no size of a node passes 2^127 - 1; no node has too many terms; all scaled derivatives of the normal polynomial together weigh at most 2^127 - 1; the root isn't 0 however it is perturbed; and it hasn't too many stages
 pub record IsAccepted (p : PredOf) : Type 0 where
