@@ -52,6 +52,15 @@ fn wide_in(ops: &[Op]) -> usize
     ops.iter().filter(|op| is_wide(op)).count()
 }
 
+// The list without the room behind its items: a program may keep tens of thousands of short ones.
+pub(crate) fn tight<T>(items: Seq<T>) -> Seq<T>
+    ensures { result ≡ items }
+{
+    let mut items = items.into_vec();
+    items.shrink_to_fit();
+    Seq::from_vec(items)
+}
+
 impl Block {
     /// The block of these parts. It takes no memory.
     pub fn seal(exps: Exps, ops: Seq<Op>, pairs: Seq<Pair>, depth: u32) -> Block
@@ -61,8 +70,8 @@ impl Block {
         let wide = wide_in(ops.as_slice());
         Block {
             exps,
-            ops,
-            pairs,
+            ops: tight(ops),
+            pairs: tight(pairs),
             depth,
             wide,
         }
