@@ -15,9 +15,9 @@ use Rattle.ln_parse.proofs.NamePlaces.{Differ, NoneIs, same_bytes}
 use Rattle.ln_stage.specs.Lists.{stage_count}
 use Rattle.ln_stage.specs.Staged.{count_numbers}
 use Rattle.ln_code.specs.Part.{Part}
-use Rattle.ln_compile.specs.Accepted.{IsSound}
+use Rattle.ln_compile.specs.Accepted.{AreSound, IsSound}
 use Rattle.ln_compile.specs.Compiled.{AreProgramsOf, AreStageCounts, IsProgramOf, IsStageCount}
-use Rattle.ln_compile.specs.Made.{AreBuilt}
+use Rattle.ln_compile.specs.Made.{AreCounted}
 use Rattle.ln_compile.proofs.Judging.{judged_more}
 
 -- ---- one more
@@ -36,18 +36,30 @@ counts-more (q ∷ ps) (m ∷ ns) p n h l = (h.0, counts-more ps ns p n h.1 l)
 front-more : (preds : List Pred) (i : ℕ) (p : Pred) → i < length preds → p ≡ get_or preds i p → map pred_of (take (i + 1) preds) ≡ map pred_of (take i preds) ++ pred_of p ∷ []
 front-more preds i p h e = ap (map pred_of) (take_more preds i p h ∙ ap (λ q. take i preds ++ q ∷ []) (sym e)) ∙ map-append pred_of (take i preds) (p ∷ [])
 
-pub built-more : (preds : List Pred) (i : ℕ) (p : Pred) (cs ds : List Part) (ns ms : List ℕ) (c : Part) (n : ℕ) → i < length preds → p ≡ get_or preds i p → ds ≡ cs ++ c ∷ [] → ms ≡ ns ++ n ∷ []
-    → IsSound (pred_of p) → IsProgramOf (pred_of p) c → IsStageCount (pred_of p) n → AreBuilt (map pred_of (take i preds)) cs ns → AreBuilt (map pred_of (take (i + 1) preds)) ds ms
-built-more preds i p cs ds ns ms c n h e q r s o k b =
+pub compiled-more : (preds : List Pred) (i : ℕ) (p : Pred) (cs ds : List Part) (c : Part) → i < length preds → p ≡ get_or preds i p → ds ≡ cs ++ c ∷ [] → IsProgramOf (pred_of p) c → AreProgramsOf (map pred_of (take i preds)) cs → AreProgramsOf (map pred_of (take (i + 1) preds)) ds
+compiled-more preds i p cs ds c h e q o b =
+    let f : map pred_of (take i preds) ++ pred_of p ∷ [] ≡ map pred_of (take (i + 1) preds) = sym (front-more preds i p h e) in
+    subst (λ (ps : List PredOf). AreProgramsOf ps ds) f (rw q (programs-more (map pred_of (take i preds)) cs (pred_of p) c b o))
+
+pub compiled-end : (preds : List Pred) (i : ℕ) (cs : List Part) → length preds ≤ i → AreProgramsOf (map pred_of (take i preds)) cs → AreProgramsOf (map pred_of preds) cs
+compiled-end preds i cs h b = subst (λ (ps : List Pred). AreProgramsOf (map pred_of ps) cs) (take_all i preds h) b
+
+pub counted-more : (preds : List Pred) (i : ℕ) (p : Pred) (ns ms : List ℕ) (n : ℕ) → i < length preds → p ≡ get_or preds i p → ms ≡ ns ++ n ∷ [] → IsSound (pred_of p) → IsStageCount (pred_of p) n → AreCounted (map pred_of (take i preds)) ns → AreCounted (map pred_of (take (i + 1) preds)) ms
+counted-more preds i p ns ms n h e r s k b =
     let f : map pred_of (take i preds) ++ pred_of p ∷ [] ≡ map pred_of (take (i + 1) preds) = sym (front-more preds i p h e) in
     record {
       sound = judged_more preds i p h e b.sound s;
-      programs = subst (λ (ps : List PredOf). AreProgramsOf ps ds) f (rw q (programs-more (map pred_of (take i preds)) cs (pred_of p) c b.programs o));
       counts = subst (λ (ps : List PredOf). AreStageCounts ps ms) f (rw r (counts-more (map pred_of (take i preds)) ns (pred_of p) n b.counts k));
     }
 
-pub built-end : (preds : List Pred) (i : ℕ) (cs : List Part) (ns : List ℕ) → length preds ≤ i → AreBuilt (map pred_of (take i preds)) cs ns → AreBuilt (map pred_of preds) cs ns
-built-end preds i cs ns h b = subst (λ (ps : List Pred). AreBuilt (map pred_of ps) cs ns) (take_all i preds h) b
+pub counted-end : (preds : List Pred) (i : ℕ) (ns : List ℕ) → length preds ≤ i → AreCounted (map pred_of (take i preds)) ns → AreCounted (map pred_of preds) ns
+counted-end preds i ns h b = subst (λ (ps : List Pred). AreCounted (map pred_of ps) ns) (take_all i preds h) b
+
+-- each of several predicates without a fault has none
+pub sound-at : (preds : List Pred) (i : ℕ) (p : Pred) → i < length preds → p ≡ get_or preds i p → AreSound (map pred_of preds) → IsSound (pred_of p)
+sound-at [] i p h e s = absurd (omega (arith, h))
+sound-at (q ∷ ps) zero p h e s = subst (λ (r : Pred). IsSound (pred_of r)) (sym e) s.0
+sound-at (q ∷ ps) (suc i) p h e s = sound-at ps i p (omega (arith, h)) e s.1
 
 -- ---- names
 -- a name differs from each of these
@@ -69,20 +81,26 @@ names-apart [] (c ∷ cs) n h a = absurd h
 names-apart (p ∷ ps) [] n h a = absurd h
 names-apart (p ∷ ps) (c ∷ cs) n h a = All-cons (λ (d : Part). name_bytes d.shape.name ≢ name_bytes n) c cs (λ e. a.0 (sym h.0.name ∙ e)) (names-apart ps cs n h.1 a.1)
 
-pub name-new : (preds : List Pred) (i : ℕ) (p : Pred) (cs : List Part) (ns : List ℕ) (m : Name) → i < length preds → p ≡ get_or preds i p → differ (map (λ q. q.shape_name) (map pred_of preds)) ≡ true → m ≡ p.shape.name
-    → AreBuilt (map pred_of (take i preds)) cs ns → All (λ c. name_bytes c.shape.name ≢ name_bytes m) cs
-name-new preds i p cs ns m h e d q b =
+pub name-new : (preds : List Pred) (i : ℕ) (p : Pred) (cs : List Part) (m : Name) → i < length preds → p ≡ get_or preds i p → differ (map (λ q. q.shape_name) (map pred_of preds)) ≡ true → m ≡ p.shape.name
+    → AreProgramsOf (map pred_of (take i preds)) cs → All (λ c. name_bytes c.shape.name ≢ name_bytes m) cs
+name-new preds i p cs m h e d q b =
     let here : drop i preds ≡ p ∷ drop (i + 1) preds = drop_more preds i p h ∙ ap (λ z. z ∷ drop (i + 1) preds) (sym e) in
     let all : map pred_of preds ≡ map pred_of (take i preds) ++ pred_of p ∷ map pred_of (drop (i + 1) preds) =
     sym (ap (map pred_of) (take-append-drop i preds)) ∙ map-append pred_of (take i preds) (drop i preds) ∙ ap (λ qs. map pred_of (take i preds) ++ map pred_of qs) here in
     let f : differ (map (λ (z : PredOf). z.shape_name) (map pred_of (take i preds) ++ pred_of p ∷ map pred_of (drop (i + 1) preds))) ≡ true = subst (λ (ps : List PredOf). differ (map (λ (z : PredOf). z.shape_name) ps) ≡ true) all d in
     let a : Apart (map pred_of (take i preds)) (name_bytes p.shape.name) = apart (map pred_of (take i preds)) (pred_of p) (map pred_of (drop (i + 1) preds)) (differing (map (λ (z : PredOf). z.shape_name) (map pred_of (take i preds) ++ pred_of p ∷ map pred_of (drop (i + 1) preds))) f) in
-    rw q (names-apart (map pred_of (take i preds)) cs p.shape.name b.programs a)
+    rw q (names-apart (map pred_of (take i preds)) cs p.shape.name b a)
 
 -- ---- the stage count
 pub counted-numbers : (g : ℕ → List ℕ) (ls : List (List ℕ)) → count_numbers ls ≡ stage_count (map (λ list. map g list) ls)
 counted-numbers g [] = refl
 counted-numbers g (l ∷ ls) = omega (arith, counted-numbers g ls, length-map l g)
+
+-- the program of a predicate, by its number
+pub program-at : (preds : List Pred) (i : ℕ) (p : Pred) (c : Part) → i < length preds → p ≡ get_or preds i p → IsProgramOf (pred_of p) c → (q : PredOf) → slice_get (map pred_of preds) i ≡ Some q → IsProgramOf q c
+program-at [] i p c h e o q f = absurd (omega (arith, h))
+program-at (x ∷ ps) zero p c h e o q f = let d : pred_of x ≡ q = cc in subst (λ (r : PredOf). IsProgramOf r c) d (subst (λ (y : Pred). IsProgramOf (pred_of y) c) e o)
+program-at (x ∷ ps) (suc i) p c h e o q f = program-at ps i p c (omega (arith, h)) e o q f
 
 -- the stage count of a predicate, by its number
 pub count-at : (ps : List PredOf) (ns : List ℕ) (i : ℕ) → AreStageCounts ps ns → (p : PredOf) → slice_get ps i ≡ Some p → IsStageCount p (get_or ns i 0)

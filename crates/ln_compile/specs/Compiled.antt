@@ -97,9 +97,18 @@ AreStageCounts (p ∷ ps) (n ∷ ns) = IsStageCount p n × AreStageCounts ps ns
 abbrev pub IsStageCountAt : List PredOf → ℕ → ℕ → Type 0
 IsStageCountAt ps i n = (p : PredOf) → slice_get ps i ≡ Some p → IsStageCount p n
 
+-- the part is the program of predicate number i
+abbrev pub IsProgramAt : List PredOf → ℕ → Part → Type 0
+IsProgramAt ps i part = (p : PredOf) → slice_get ps i ≡ Some p → IsProgramOf p part
+
 -- the number of the first predicate of a name
 abbrev pub number_of : List ℕ → List Pred → Option ℕ
 number_of name preds = position (λ p. bytes_eq (name_bytes p.name) name) preds
+
+-- a source whose predicates have no fault: its table and its stage counts
+pub record CheckedOf : Type 0 where
+  pub table : Table
+  pub counts : List ℕ
 
 -- a compiled source: its table, its programs and its stage counts
 pub record CompiledOf : Type 0 where

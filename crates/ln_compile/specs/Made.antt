@@ -7,9 +7,9 @@ use Rattle.ln_poly.specs.Sparse.{Sparse, terms_of}
 use Rattle.ln_stage.specs.Lists.{all_covering}
 use Rattle.ln_code.specs.Carried.{CarriesDerivative}
 use Rattle.ln_code.specs.Kept.{AreOfSites, FollowsRules}
-use Rattle.ln_code.specs.Part.{Code, Part, ops_in_blocks}
+use Rattle.ln_code.specs.Part.{Code, ops_in_blocks}
 use Rattle.ln_due.specs.Small.{BlockPushesSmall}
-use Rattle.ln_compile.specs.Compiled.{AreProgramsOf, AreStageCounts, IsFromExact, IsOwn}
+use Rattle.ln_compile.specs.Compiled.{AreStageCounts, IsFromExact, IsOwn}
 use Rattle.ln_compile.specs.Accepted.{AreSound}
 
 -- the block follows the rules, has exponents of coordinates of sites, computes the scaled derivative of f by them, pushes small polynomials alone, and is made from an exact tree
@@ -30,8 +30,7 @@ pub record AreBlocksOf (p : PredOf) (f : Sparse) (exps : List Pairs) (blocks : L
   pub each : All (IsBlockOf p.vars f) blocks
   pub few : ops_in_blocks blocks ≤ 524352 + 4096 * all_covering (length p.vars) f (map (vector (length p.vars)) exps) + 68 * length exps
 
--- these predicates have no fault, and these are their programs and stage counts
-pub record AreBuilt (ps : List PredOf) (cs : List Part) (ns : List ℕ) : Type 0 where
+-- these predicates have no fault, and these are their stage counts
+pub record AreCounted (ps : List PredOf) (ns : List ℕ) : Type 0 where
   pub sound : AreSound ps
-  pub programs : AreProgramsOf ps cs
   pub counts : AreStageCounts ps ns

@@ -1,58 +1,84 @@
-//! Predicates, judged and compiled one after the other.
+//! Predicates, judged one after the other, and compiled.
 ghost use Rattle.std.specs.Prelude.{◌≡◌, ◌≤◌, true, length, map, IfErr, IfOk, OnOk};
 ghost use Rattle.ln_tree.specs.Table.{pred_of};
 ghost use Rattle.ln_tree.specs.Whole.{differ};
-ghost use Rattle.ln_compile.specs.Accepted.{IsSound};
-ghost use Rattle.ln_compile.specs.Compiled.{IsProgramOf, IsStageCount};
-ghost use Rattle.ln_compile.specs.Made.{AreBuilt};
+ghost use Rattle.ln_compile.specs.Accepted.{AreSound, IsSound};
+ghost use Rattle.ln_compile.specs.Compiled.{AreProgramsOf, IsProgramOf, IsStageCount};
+ghost use Rattle.ln_compile.specs.Made.{AreCounted};
 ghost use Rattle.ln_compile.specs.Refused.{StopsPred, StopsPreds};
 
 use crate::judge::{expanded, measured, staged, weighed};
 use crate::program::program;
 use crate::refusal::Refusal;
-use ln_base::Seq;
+use ln_base::{NoMemory, Seq};
 use ln_code::{Program, Programs};
 use ln_tree::Pred;
 use std::alloc::Global;
 
-/// Programs with their stage counts.
-#[derive(Drop)]
-pub(crate) struct Built {
-    pub(crate) programs: Programs,
-    pub(crate) counts: Seq<u64>,
-}
-
-// The program of predicate number k, with its stage count.
-fn compiled(alloc: Global, k: u8, p: &Pred) -> Result<(Program, u64), Refusal>
+// The stage count of predicate number k. Its stages are dropped before it is answered.
+fn counted(alloc: Global, k: u8, p: &Pred) -> Result<u64, Refusal>
     ensures sound { OnOk result (IsSound (pred_of p.now)) }
-    ensures program { IfOk result (λ r. IsProgramOf (pred_of p.now) r.0) }
-    ensures count { IfOk result (λ r. IsStageCount (pred_of p.now) r.1) }
-    ensures name { IfOk result (λ r. r.0.shape.name ≡ p.now.shape.name) }
-    ensures small { IfOk result (λ r. length r.0.blocks ≤ 65536) }
+    ensures count { IfOk result (λ n. IsStageCount (pred_of p.now) n) }
     ensures err { IfErr result (λ r. StopsPred k (pred_of p.now) r) }
 {
     measured(alloc, k, p)?;
     let f = expanded(alloc, k, p)?;
     weighed(k, p, &f)?;
     let st = staged(alloc, k, p, &f)?;
-    let count = st.count();
-    let program = program(alloc, p, &f, &st)?;
-    Ok((program, count))
+    Ok(st.count())
 }
 
-/// The programs of the predicates of a table, whose names differ; else the fault of the first that has one.
-pub(crate) fn build(alloc: Global, preds: &[Pred]) -> Result<Built, Refusal>
-    requires few { length preds.now ≤ 16 }
-    requires names { differ (map (λ p. p.shape_name) (map pred_of preds.now)) ≡ true }
-    ensures built { IfOk result (λ b. AreBuilt (map pred_of preds.now) b.programs b.counts) }
+/// The stage counts of the predicates of a table; else the fault of the first that has one.
+pub(crate) fn counts(alloc: Global, preds: &[Pred]) -> Result<Seq<u64>, Refusal>
+    requires { length preds.now ≤ 16 }
+    ensures counted { IfOk result (λ ns. AreCounted (map pred_of preds.now) ns) }
     ensures err { IfErr result (λ r. StopsPreds (map pred_of preds.now) r) }
 {
-    let mut programs = Programs::new(alloc);
     let mut counts = Seq::new(alloc);
     'each: for (k, p) in preds.iter().enumerate() {
-        let (program, count) = compiled(alloc, k as u8, p)?;
-        programs.push(program)?;
+        let count = counted(alloc, k as u8, p)?;
         counts.push(count)?;
     }
-    Ok(Built { programs, counts })
+    Ok(counts)
+}
+
+// The program of a predicate, or why there is none.
+fn compiled(alloc: Global, p: &Pred) -> Result<Program, Refusal>
+    ensures program { IfOk result (λ c. IsProgramOf (pred_of p.now) c) }
+    ensures name { IfOk result (λ c. c.shape.name ≡ p.now.shape.name) }
+    ensures small { IfOk result (λ c. length c.blocks ≤ 65536) }
+{
+    measured(alloc, 0, p)?;
+    let f = expanded(alloc, 0, p)?;
+    weighed(0, p, &f)?;
+    let st = staged(alloc, 0, p, &f)?;
+    let program = program(alloc, p, &f, &st)?;
+    Ok(program)
+}
+
+/// The program of a predicate that has no fault.
+pub(crate) fn program_of(alloc: Global, p: &Pred) -> Result<Program, NoMemory>
+    requires { IsSound (pred_of p.now) }
+    ensures program { IfOk result (λ c. IsProgramOf (pred_of p.now) c) }
+    ensures name { IfOk result (λ c. c.shape.name ≡ p.now.shape.name) }
+    ensures small { IfOk result (λ c. length c.blocks ≤ 65536) }
+{
+    match compiled(alloc, p) {
+        Ok(program) => Ok(program),
+        Err(_) => Err(NoMemory),
+    }
+}
+
+/// The programs of the predicates of a table, whose names differ and none of which has a fault.
+pub(crate) fn programs(alloc: Global, preds: &[Pred]) -> Result<Programs, NoMemory>
+    requires sound { AreSound (map pred_of preds.now) }
+    requires names { differ (map (λ p. p.shape_name) (map pred_of preds.now)) ≡ true }
+    ensures { IfOk result (λ cs. AreProgramsOf (map pred_of preds.now) cs) }
+{
+    let mut programs = Programs::new(alloc);
+    'each: for p in preds {
+        let program = program_of(alloc, p)?;
+        programs.push(program)?;
+    }
+    Ok(programs)
 }

@@ -2,14 +2,12 @@
 ghost use Rattle.std.specs.Prelude.{◌≡◌, ◌≤◌, ◌<◌, length, map, IfErr, IfOk};
 ghost use Rattle.ln_tree.specs.Table.{pred_of, table_of};
 ghost use Rattle.ln_compile.specs.Accepted.{Accepted};
-ghost use Rattle.ln_compile.specs.Compiled.{AreProgramsOf, AreStageCounts, IsStageCountAt, number_of};
+ghost use Rattle.ln_compile.specs.Compiled.{AreProgramsOf, IsStageCountAt, number_of};
 ghost use Rattle.ln_compile.specs.Refused.{IsRefusal, IsTheOne, IsUnaccepted};
 
-use crate::programs::{Built, build};
-use crate::refusal::{Refusal, refusal_of};
-use ln_base::Seq;
+use crate::checked::{Checked, check};
+use crate::refusal::Refusal;
 use ln_code::Programs;
-use ln_parse::parse;
 use ln_tree::Table;
 use std::alloc::Global;
 use std::marker::Model;
@@ -18,9 +16,8 @@ use std::marker::Model;
 /// predicate, in order.
 #[derive(Drop)]
 pub struct Compiled {
-    table: Table,
+    checked: Checked,
     programs: Programs,
-    counts: Seq<u64>,
 }
 
 impl Model for Compiled {
@@ -28,15 +25,15 @@ impl Model for Compiled {
     ghost use Rattle.std.specs.Coded.{codes};
     ghost use Rattle.ln_tree.specs.contracts.expr.Node as node;
     ghost use Rattle.ln_tree.specs.Table.{pred_of};
-    ghost use Rattle.ln_compile.specs.Compiled.{AreProgramsOf, AreStageCounts, CompiledOf};
+    ghost use Rattle.ln_compile.specs.Compiled.{AreProgramsOf, CompiledOf};
 
     ghost Value = { CompiledOf };
 
     ghost coded = { Prim.hlevel (codes, node.the_row.coded) };
 
-    ghost view = { λ c. record { table = c.table; programs = c.programs; counts = c.counts } };
+    ghost view = { λ c. record { table = c.checked.table; programs = c.programs; counts = c.checked.counts } };
 
-    ghost invariant = { λ c. record { are : AreProgramsOf (map pred_of c.table.preds) c.programs; counted : AreStageCounts (map pred_of c.table.preds) c.counts } };
+    ghost invariant = { λ c. AreProgramsOf (map pred_of c.checked.table.preds) c.programs };
 }
 
 impl Compiled {
@@ -44,7 +41,7 @@ impl Compiled {
     pub fn table(&self) -> &Table
         ensures { result.now ≡ self.now.table }
     {
-        &self.table
+        self.checked.table()
     }
 
     /// The programs of its predicates, in order.
@@ -59,12 +56,7 @@ impl Compiled {
     pub fn find(&self, name: &str) -> Option<usize>
         ensures { result ≡ number_of name.now self.now.table.preds }
     {
-        let name = name.as_bytes();
-        self.table
-            .preds
-            .as_slice()
-            .iter()
-            .position(|p| p.name.bytes() == name)
+        self.checked.find(name)
     }
 
     /// The stage count of a predicate, by its number. It takes no memory.
@@ -72,7 +64,7 @@ impl Compiled {
         requires { i < length self.now.table.preds }
         ensures { IsStageCountAt (map pred_of self.now.table.preds) i result }
     {
-        self.counts.as_slice()[i]
+        self.checked.stage_count(i)
     }
 }
 
@@ -85,14 +77,7 @@ pub fn compile(alloc: Global, bytes: &[u8]) -> Result<Compiled, Refusal>
     ensures unaccepted { IfErr result (λ r. IsUnaccepted bytes.now r) }
     ensures one { IfErr result (λ r. IsTheOne bytes.now r) }
 {
-    let table = match parse(alloc, bytes) {
-        Ok(table) => table,
-        Err(e) => return Err(refusal_of(e)),
-    };
-    let Built { programs, counts } = build(alloc, table.preds.as_slice())?;
-    Ok(Compiled {
-        table,
-        programs,
-        counts,
-    })
+    let checked = check(alloc, bytes)?;
+    let programs = checked.programs(alloc)?;
+    Ok(Compiled { checked, programs })
 }

@@ -1,7 +1,7 @@
 use Rattle.std.proofs.Common.{◌∙◌, length}
 use Rattle.ln_stage.specs.Staged.{block_vector, vectors_of}
 use Rattle.ln_compile.proofs.BuildingLemmas.{counted-numbers}
-use Rattle.ln_compile.proofs.programs.compiled.Goals as goal
+use Rattle.ln_compile.proofs.programs.counted.Goals as goal
 
 pub returns-clause-count : goal.returns-clause-count
 returns-clause-count c =
@@ -12,5 +12,5 @@ returns-clause-count c =
       normal = c.in_ok-f.ensures.normal;
       lists = vectors_of (length c.args.p.now.shape.vars) c.in_ok-st.st;
       are_lists = c.in_ok-st.ensures.stages.lists;
-      count = c.count-count.ensures ∙ counted-numbers (block_vector (length c.args.p.now.shape.vars) st.exps) st.lists;
+      count = c.count.ensures ∙ counted-numbers (block_vector (length c.args.p.now.shape.vars) st.exps) st.lists;
     }

@@ -1,0 +1,102 @@
+//! Sources whose predicates have no fault.
+ghost use Rattle.std.specs.Prelude.{◌≡◌, ◌≤◌, ◌<◌, length, map, IfErr, IfOk};
+ghost use Rattle.ln_tree.specs.Table.{pred_of, table_of};
+ghost use Rattle.ln_compile.specs.Accepted.{Accepted};
+ghost use Rattle.ln_compile.specs.Compiled.{AreProgramsOf, IsProgramAt, IsStageCountAt, number_of};
+ghost use Rattle.ln_compile.specs.Refused.{IsRefusal, IsTheOne, IsUnaccepted};
+
+use crate::programs::{counts, program_of, programs};
+use crate::refusal::{Refusal, refusal_of};
+use ln_base::{NoMemory, Seq};
+use ln_code::{Program, Programs};
+use ln_parse::parse;
+use ln_tree::Table;
+use std::alloc::Global;
+use std::marker::Model;
+
+/// The table of a source, each predicate of which is accepted, with one stage count for each predicate, in order. Programs take far
+/// more memory than it does, so they are made where they are asked for.
+#[derive(Drop)]
+pub struct Checked {
+    table: Table,
+    counts: Seq<u64>,
+}
+
+impl Model for Checked {
+    ghost use Rattle.std.specs.Prelude.{map};
+    ghost use Rattle.std.specs.Coded.{codes};
+    ghost use Rattle.ln_tree.specs.contracts.expr.Node as node;
+    ghost use Rattle.ln_tree.specs.Table.{pred_of};
+    ghost use Rattle.ln_compile.specs.Accepted.{AreSound};
+    ghost use Rattle.ln_compile.specs.Compiled.{AreStageCounts, CheckedOf};
+
+    ghost Value = { CheckedOf };
+
+    ghost coded = { Prim.hlevel (codes, node.the_row.coded) };
+
+    ghost view = { λ c. record { table = c.table; counts = c.counts } };
+
+    ghost invariant = { λ c. record { sound : AreSound (map pred_of c.table.preds); counted : AreStageCounts (map pred_of c.table.preds) c.counts } };
+}
+
+impl Checked {
+    /// The table of the source.
+    pub fn table(&self) -> &Table
+        ensures { result.now ≡ self.now.table }
+    {
+        &self.table
+    }
+
+    /// The number of the predicate of a name, from 0; none where no predicate has it. It takes no memory.
+    pub fn find(&self, name: &str) -> Option<usize>
+        ensures { result ≡ number_of name.now self.now.table.preds }
+    {
+        let name = name.as_bytes();
+        self.table
+            .preds
+            .as_slice()
+            .iter()
+            .position(|p| p.name.bytes() == name)
+    }
+
+    /// The stage count of a predicate, by its number. It takes no memory.
+    pub fn stage_count(&self, i: usize) -> u64
+        requires { i < length self.now.table.preds }
+        ensures { IsStageCountAt (map pred_of self.now.table.preds) i result }
+    {
+        self.counts.as_slice()[i]
+    }
+
+    /// The program of a predicate, by its number.
+    pub fn program(&self, alloc: Global, i: usize) -> Result<Program, NoMemory>
+        requires { i < length self.now.table.preds }
+        ensures { IfOk result (IsProgramAt (map pred_of self.now.table.preds) i) }
+    {
+        let program = program_of(alloc, &self.table.preds.as_slice()[i])?;
+        Ok(program)
+    }
+
+    /// The programs of all predicates, in order.
+    pub fn programs(&self, alloc: Global) -> Result<Programs, NoMemory>
+        ensures { IfOk result (AreProgramsOf (map pred_of self.now.table.preds)) }
+    {
+        programs(alloc, self.table.preds.as_slice())
+    }
+}
+
+/// The table of a source, each predicate of which is accepted, with its stage counts; or why the source is refused: the first fault
+/// of its text, else the fault of the first predicate that has one. Without want of memory, the one or the other. No program is made.
+pub fn check(alloc: Global, bytes: &[u8]) -> Result<Checked, Refusal>
+    requires { length bytes.now ≤ 1048576 }
+    ensures ok { IfOk result (λ c. Accepted bytes.now (table_of c.table.sites c.table.params c.table.preds)) }
+    ensures err { IfErr result (λ r. IsRefusal bytes.now r) }
+    ensures unaccepted { IfErr result (λ r. IsUnaccepted bytes.now r) }
+    ensures one { IfErr result (λ r. IsTheOne bytes.now r) }
+{
+    let table = match parse(alloc, bytes) {
+        Ok(table) => table,
+        Err(e) => return Err(refusal_of(e)),
+    };
+    let counts = counts(alloc, table.preds.as_slice())?;
+    Ok(Checked { table, counts })
+}
