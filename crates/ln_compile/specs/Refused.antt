@@ -1,5 +1,5 @@
 -- Sources that are refused, and for what.
-use Rattle.std.specs.Prelude.{◌≡◌, ℕ, List, ◌∷◌, ◌++◌, length, ◌⊎◌}
+use Rattle.std.specs.Prelude.{◌≡◌, ℕ, List, ◌∷◌, ◌++◌, length, codes, Option, Some, None, ◌⊎◌}
 use Rattle.ln_base.specs.declared.span.Span.{Span}
 use Rattle.ln_tree.specs.Formula.{Formula, FNum, FInput, FName, FNeg, FAdd, FSub, FMul, FPow}
 use Rattle.ln_tree.specs.Table.{PredOf, TableOf}
@@ -20,6 +20,30 @@ refusal_of (parse.Limit what at) = Limit what at
 refusal_of (parse.Syntax at) = Syntax at
 refusal_of (parse.Name what at) = Name what at
 refusal_of parse.NoMemory = NoMemory
+
+-- what it is for, in a word
+abbrev pub word_of : Refusal → List ℕ
+word_of (Lexical at) = codes "lexical"
+word_of (Limit what at) = codes "limit"
+word_of (Syntax at) = codes "syntax"
+word_of (Name what at) = codes "name"
+word_of (Bound pred at) = codes "bound"
+word_of (Terms pred at) = codes "terms"
+word_of (Zero pred at) = codes "zero"
+word_of (Stages pred at) = codes "stages"
+word_of NoMemory = codes "memory"
+
+-- its place in the source; want of memory has none
+abbrev pub span_of : Refusal → Option Span
+span_of (Lexical at) = Some at
+span_of (Limit what at) = Some at
+span_of (Syntax at) = Some at
+span_of (Name what at) = Some at
+span_of (Bound pred at) = Some at
+span_of (Terms pred at) = Some at
+span_of (Zero pred at) = Some at
+span_of (Stages pred at) = Some at
+span_of NoMemory = None
 
 -- the token of a node itself
 abbrev pub token_of : Formula → Span

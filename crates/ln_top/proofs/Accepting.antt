@@ -25,7 +25,9 @@ accepted p s =
     record {
       light = s.light;
       few = s.few;
-      whole = λ f n. light (weighted_sum (weights p.vars) (terms_of (length p.vars) f)) most (λ h. s.whole (record { poly = f; normal = n; heavy = h }));
+      whole =
+          λ f n. light (weighted_sum (weights p.vars) (terms_of (length p.vars) f)) most
+          (λ h. s.whole (record { poly = f; normal = n; heavy = h }));
       nonzero = s.nonzero;
       staged = λ f lists n a h. s.staged (record { poly = f; normal = n; lists = lists; are_lists = a; passes = h });
     }
@@ -40,7 +42,8 @@ short_read told name bytes (step.there _ m l) = l
 
 short_each : (told : Option Shelf) (names texts : List (List ℕ)) → Each (Reads told most_file) names (gives texts) → AreShort texts
 short_each told [] texts h = subst AreShort (sym (ap (value_or texts) h)) tt
-short_each told (n ∷ ns) texts (step.goes t r (step.goes ts f h)) = subst AreShort (sym (ap (value_or texts) h)) (short_read told n t r, short_each told ns ts f)
+short_each told (n ∷ ns) texts (step.goes t r (step.goes ts f h)) =
+    subst AreShort (sym (ap (value_or texts) h)) (short_read told n t r, short_each told ns ts f)
 
 -- what the steps give is sound and short
 pub record IsFine (g : Given) : Type 0 where
@@ -49,18 +52,35 @@ pub record IsFine (g : Given) : Type 0 where
 
 pub fine : (plan : Plan) (told : Option Shelf) (g : Given) → Prepares plan told (gives g) → IsFine g
 fine plan told g (step.goes bytes r (step.goes table c (step.goes preds n (step.goes texts t h)))) =
-    subst IsFine (sym (ap (value_or g) h)) (record { sound = (accepted_of bytes table c).accepted.sound; short = short_each told plan.files texts t })
+    subst IsFine (sym (ap (value_or g) h)) (record {
+      sound = (accepted_of bytes table c).accepted.sound;
+      short = short_each told plan.files texts t;
+    })
 
 -- so what is ready has its standing
 pub standing : (plan : Plan) (told : Option Shelf) (r : Ready) → IsReady plan told r → HasStanding r
 standing plan told r h =
     let f : IsFine h.given = fine plan told h.given h.prepared in
-    record { given = h.given; stands = h.stands; sound = subst AreSound (ap (λ (t : TableOf). t.preds) h.stands.table) f.sound; short = f.short }
+    record {
+      given = h.given;
+      stands = h.stands;
+      sound = subst AreSound (ap (λ (t : TableOf). t.preds) h.stands.table) f.sound;
+      short = f.short;
+    }
 
 -- the one further file
 pub one_short : (texts : List (List ℕ)) (bytes : List ℕ) → texts ≡ bytes ∷ [] → AreShort texts → length bytes ≤ most_file
 one_short texts bytes e h = (subst AreShort e h).0
 
 -- and it is as much as the command takes
-pub ready_for : (k : Command) (r : Ready) (n m : ℕ) → HasStanding r → (form k).least ≤ n → n ≤ (form k).most → m ≡ (form k).files → length r.numbers.items ≡ n → length r.texts.items ≡ m → IsReadyFor k r
-ready_for k r n m s least most_ files a b = record { stands = s; fit = record { least = subst (λ (x : ℕ). (form k).least ≤ x) (sym a) least; most = subst (λ (x : ℕ). x ≤ (form k).most) (sym a) most_; files = b ∙ files } }
+pub ready_for : (k : Command) (r : Ready) (n m : ℕ) → HasStanding r → (form k).least ≤ n → n ≤ (form k).most
+    → m ≡ (form k).files → length r.numbers.items ≡ n → length r.texts.items ≡ m → IsReadyFor k r
+ready_for k r n m s least most_ files a b = record {
+  stands = s;
+  fit =
+      record {
+        least = subst (λ (x : ℕ). (form k).least ≤ x) (sym a) least;
+        most = subst (λ (x : ℕ). x ≤ (form k).most) (sym a) most_;
+        files = b ∙ files;
+      };
+}

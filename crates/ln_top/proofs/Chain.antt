@@ -1,17 +1,22 @@
 -- Chains: one lemma on what they come to, and one for each way to run through a list.
-use Rattle.std.proofs.Common.{◌≡◌, ℕ, ◌<◌, Bool, true, false, List, [], ◌∷◌, ◌++◌, length, refl, ap, sym, ◌∙◌, subst, arith, Some, None, append_assoc}
+use Rattle.std.proofs.Common.{◌≡◌, ℕ, ◌<◌, Bool, true, false, List, [], ◌∷◌, ◌++◌, length, refl, ap, sym}
+use Rattle.std.proofs.Common.{◌∙◌, subst, arith, Some, None, append_assoc}
 use Rattle.std.proofs.lemmas.List.{append-nil}
 use Rattle.std.proofs.lemmas.Option.{none-some}
 use Rattle.ln_base.specs.Outside.{Shelf}
 use Rattle.ln_tree.specs.Table.{PredOf}
 use Rattle.ln_parse.proofs.OneAnswer.{one_table}
+use Rattle.ln_base.specs.declared.span.Span.{Span}
+use Rattle.ln_compile.specs.declared.refusal.Refusal.{Refusal}
+use Rattle.ln_compile.specs.Refused.{span_of}
 use Rattle.ln_compile.proofs.OneRefusal.{accepted_alone, refused_one}
 use Rattle.ln_top.specs.declared.stop.Why.{Why}
 use Rattle.ln_top.specs.declared.stop.Why.TheVariants.{Refused}
-use Rattle.ln_top.specs.declared.stop.Refusal.{Refusal}
+use Rattle.ln_top.specs.declared.stop.Place.{Place}
 use Rattle.ln_top.specs.Plan.{Plan}
-use Rattle.ln_top.specs.Source.{IsRefusedFor, told_of}
-use Rattle.ln_top.specs.Steps.{Outcome, stops, missing, gives, Then, stopped, lacks, goes, Gives, Each, Reads, there, long, absent, Compiles, accepted, refused, Finds, found, none, Prepares, most_source, most_file}
+use Rattle.ln_top.specs.Source.{IsRefusedAt, place_at}
+use Rattle.ln_top.specs.Steps.{Outcome, stops, missing, gives, Then, stopped, lacks, goes, Gives, Each, Reads, there, long, absent}
+use Rattle.ln_top.specs.Steps.{Compiles, accepted, refused, Finds, found, none, Prepares, most_source, most_file}
 
 -- a step comes to one thing
 abbrev pub One : {A : Type 0} → (Outcome A → Type 0) → Type 0
@@ -46,7 +51,8 @@ pub true_false : true ≡ false → ⊥
 true_false e = subst IsTrueHere e tt
 
 -- A chain of steps that each come to one thing comes to one thing.
-pub one_then : {A B : Type 0} (first : Outcome A → Type 0) (next : A → Outcome B → Type 0) → One first → ((a : A) → One (next a)) → One (Then first next)
+pub one_then : {A B : Type 0} (first : Outcome A → Type 0) (next : A → Outcome B → Type 0) → One first
+    → ((a : A) → One (next a)) → One (Then first next)
 one_then first next f n o p (stopped w s) (stopped v t) = ap stops (ap (why_or w) (f (stops w) (stops v) s t))
 one_then first next f n o p (stopped w s) (lacks t) = absurd (subst IsStop (f (stops w) missing s t) tt)
 one_then first next f n o p (stopped w s) (goes a t y) = absurd (subst IsStop (f (stops w) (gives a) s t) tt)
@@ -62,7 +68,9 @@ one_gives a o p e f = e ∙ sym f
 
 one_each : {A B : Type 0} (step : A → Outcome B → Type 0) → ((a : A) → One (step a)) → (all : List A) → One (Each step all)
 one_each step f [] = one_gives []
-one_each step f (a ∷ rest) = one_then (step a) (λ b. Then (Each step rest) (λ bs. Gives (b ∷ bs))) (f a) (λ b. one_then (Each step rest) (λ bs. Gives (b ∷ bs)) (one_each step f rest) (λ bs. one_gives (b ∷ bs)))
+one_each step f (a ∷ rest) =
+    one_then (step a) (λ b. Then (Each step rest) (λ bs. Gives (b ∷ bs))) (f a)
+    (λ b. one_then (Each step rest) (λ bs. Gives (b ∷ bs)) (one_each step f rest) (λ bs. one_gives (b ∷ bs)))
 
 some_same : {A : Type 0} (a b : A) → Some a ≡ Some b → a ≡ b
 some_same a b e = ap (λ o. elim o [ Some x ↦ x | None ↦ a ]) e
@@ -83,15 +91,20 @@ one_reads shelf limit name o p (absent a) (there c f m) = absurd (none-some c (s
 one_reads shelf limit name o p (absent a) (long h) = absurd (none-some h.0 (sym a ∙ h.1))
 one_reads shelf limit name o p (absent a) (absent b) = refl
 
--- a source is accepted with one table, or refused for one reason
-one_refusal : (bytes : List ℕ) (r q : Refusal) → IsRefusedFor bytes r → IsRefusedFor bytes q → r ≡ q
-one_refusal bytes r q f g = some_same r q (sym f.is ∙ ap (told_of bytes) (refused_one bytes f.refusal g.refusal f.cause g.cause) ∙ g.is)
+-- a source is accepted with one table, or refused for one thing at one place
+one_refusal : (bytes : List ℕ) (r q : Refusal) (a b : Place) → IsRefusedAt bytes r a → IsRefusedAt bytes q b
+    → Refused r a ≡ Refused q b
+one_refusal bytes r q a b f g =
+    let same : r ≡ q = refused_one bytes r q f.cause g.cause in
+    let span : f.at ≡ g.at = some_same f.at g.at (sym f.span ∙ ap span_of same ∙ g.span) in
+    let place : a ≡ b = f.start ∙ ap (place_at bytes) span ∙ sym g.start in
+    ap (λ x. Refused x a) same ∙ ap (Refused q) place
 
 one_compiles : (bytes : List ℕ) → One (Compiles bytes)
 one_compiles bytes o p (accepted t a) (accepted u b) = ap gives (one_table bytes t u a.accepted.text b.accepted.text)
-one_compiles bytes o p (accepted t a) (refused r h) = absurd (accepted_alone bytes t h.refusal a.accepted h.cause)
-one_compiles bytes o p (refused r h) (accepted t a) = absurd (accepted_alone bytes t h.refusal a.accepted h.cause)
-one_compiles bytes o p (refused r h) (refused q k) = ap (λ x. stops (Refused x)) (one_refusal bytes r q h k)
+one_compiles bytes o p (accepted t a) (refused r place h) = absurd (accepted_alone bytes t r a.accepted h.cause)
+one_compiles bytes o p (refused r place h) (accepted t a) = absurd (accepted_alone bytes t r a.accepted h.cause)
+one_compiles bytes o p (refused r place h) (refused q other k) = ap stops (one_refusal bytes r q place other h k)
 
 one_finds : (preds : List PredOf) (name : List ℕ) → One (Finds preds name)
 one_finds preds name o p (found a e) (found b f) = ap gives (some_same a b (sym e ∙ f))
@@ -123,19 +136,27 @@ behind_none step all (gives bs) e = e
 behind_none step all missing e = e
 behind_none step all (stops why) e = e
 
-before_one : {B : Type 0} (done : List B) (b : B) (o : Outcome (List B)) → before done (before (b ∷ []) o) ≡ before (done ++ b ∷ []) o
+before_one : {B : Type 0} (done : List B) (b : B) (o : Outcome (List B))
+    → before done (before (b ∷ []) o) ≡ before (done ++ b ∷ []) o
 before_one done b (gives bs) = ap gives (sym (append_assoc done (b ∷ []) bs))
 before_one done b missing = refl
 before_one done b (stops why) = refl
 
-each_one : {A B : Type 0} (step : A → Outcome B → Type 0) (a : A) (rest : List A) (b : B) → step a (gives b) → (o : Outcome (List B)) → Each step rest o → Each step (a ∷ rest) (before (b ∷ []) o)
+each_one : {A B : Type 0} (step : A → Outcome B → Type 0) (a : A) (rest : List A) (b : B) → step a (gives b)
+    → (o : Outcome (List B)) → Each step rest o → Each step (a ∷ rest) (before (b ∷ []) o)
 each_one step a rest b s (gives bs) e = goes b s (goes bs e refl)
 each_one step a rest b s missing e = goes b s (lacks e)
 each_one step a rest b s (stops why) e = goes b s (stopped why e)
 
-pub behind_more : {A B : Type 0} (step : A → Outcome B → Type 0) (all left rest : List A) (done more : List B) (a : A) (b : B) → Behind step all left done → left ≡ a ∷ rest → step a (gives b) → more ≡ done ++ b ∷ [] → Behind step all rest more
-behind_more step all left rest done more a b h l s m = λ o e. subst (λ p. Each step all p) (before_one done b o ∙ ap (λ d. before d o) (sym m)) (h (before (b ∷ []) o) (subst (λ xs. Each step xs (before (b ∷ []) o)) (sym l) (each_one step a rest b s o e)))
+pub behind_more : {A B : Type 0} (step : A → Outcome B → Type 0) (all left rest : List A) (done more : List B) (a : A) (b : B)
+    → Behind step all left done → left ≡ a ∷ rest → step a (gives b) → more ≡ done ++ b ∷ []
+    → Behind step all rest more
+behind_more step all left rest done more a b h l s m =
+    λ o e. subst (λ p. Each step all p) (before_one done b o ∙ ap (λ d. before d o) (sym m))
+    (h (before (b ∷ []) o) (subst (λ xs. Each step xs (before (b ∷ []) o)) (sym l) (each_one step a rest b s o e)))
 
 -- nothing is left: the whole gave these values
-pub behind_all : {A B : Type 0} (step : A → Outcome B → Type 0) (all left : List A) (done : List B) → Behind step all left done → left ≡ [] → Each step all (gives done)
-behind_all step all left done h l = subst (λ d. Each step all (gives d)) (append-nil done) (h (gives []) (subst (λ xs. Each step xs (gives [])) (sym l) refl))
+pub behind_all : {A B : Type 0} (step : A → Outcome B → Type 0) (all left : List A) (done : List B)
+    → Behind step all left done → left ≡ [] → Each step all (gives done)
+behind_all step all left done h l =
+    subst (λ d. Each step all (gives d)) (append-nil done) (h (gives []) (subst (λ xs. Each step xs (gives [])) (sym l) refl))

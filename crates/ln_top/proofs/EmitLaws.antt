@@ -35,36 +35,47 @@ same_number Zero = refl
 same_number Plus = refl
 
 -- the call on a row gives what the row is owed
-call_due : (file : List Fun) (p : PredOf) (part : Part) (row : Row) → IsProgram part → IsProgramOf p part → InRange p.sites p.vars row → CallSays file part row → CallIsDue file p row
+call_due : (file : List Fun) (p : PredOf) (part : Part) (row : Row) → IsProgram part → IsProgramOf p part
+    → InRange p.sites p.vars row → CallSays file part row → CallIsDue file p row
 call_due file p part row k o range s =
     record {
       verdict = s.verdict;
       due = programs_answer p part row s.verdict k o range s.machine;
       counts = s.counts;
-      called = subst (λ (x : List ℕ). CCall file (call_name x) row.index row.values ≡ Some (Signed (sign_number s.verdict.sign) s.counts)) o.name (s.called ∙ ap (λ z. Some (Signed z s.counts)) (same_number s.verdict.sign));
+      called =
+          subst (λ (x : List ℕ). CCall file (call_name x) row.index row.values ≡ Some
+          (Signed (sign_number s.verdict.sign) s.counts)) o.name
+          (s.called ∙ ap (λ z. Some (Signed z s.counts)) (same_number s.verdict.sign));
       calls = s.calls;
       narrow = s.narrow;
     }
 
-row_there : (p : PredOf) (part : Part) (row : Row) → IsProgramOf p part → InRange p.sites p.vars row → InRange part.shape.sites part.shape.vars row
+row_there : (p : PredOf) (part : Part) (row : Row) → IsProgramOf p part → InRange p.sites p.vars row
+    → InRange part.shape.sites part.shape.vars row
 row_there p part row o range = rw (o.sites, o.vars) range
 
 -- so for all predicates
-all_due : (file : List Fun) (ps : List PredOf) (parts : List Part) → AreProgramsOf ps parts → AreKept parts → AllSay file parts → AllAreDue file ps
+all_due : (file : List Fun) (ps : List PredOf) (parts : List Part) → AreProgramsOf ps parts → AreKept parts
+    → AllSay file parts → AllAreDue file ps
 all_due file [] [] a k s = tt
 all_due file [] (c ∷ cs) a k s = absurd a
 all_due file (p ∷ ps) [] a k s = absurd a
-all_due file (p ∷ ps) (c ∷ cs) a k s = (λ row range. call_due file p c row k.0 a.0 range (s.0 row (row_there p c row a.0 range)), all_due file ps cs a.1 k.1 s.1)
+all_due file (p ∷ ps) (c ∷ cs) a k s =
+    (λ row range. call_due file p c row k.0 a.0 range (s.0 row (row_there p c row a.0 range)), all_due file ps cs a.1 k.1 s.1)
 
 -- what is emitted of programs is C for their predicates
-c_of : (ps : List PredOf) (parts : List Part) (text : List ℕ) → AreProgramsOf ps parts → AreKept parts → IsEmitted parts text → IsCOf ps text
+c_of : (ps : List PredOf) (parts : List Part) (text : List ℕ) → AreProgramsOf ps parts → AreKept parts
+    → IsEmitted parts text → IsCOf ps text
 c_of ps parts text a k e = record { file = e.file; text = e.text; due = all_due e.file ps parts a k e.says }
 
 -- the C was put as a whole text
-pub carried : (r : Ready) (g : Given) (text : List ℕ) (puts : Count) (result : Result End Early) (was now : Option Shown) → StandsFor r g → AreProgramsOf (map pred_of r.compiled.table.preds) r.compiled.programs → AreKept r.compiled.programs → IsEmitted r.compiled.programs text
+pub carried : (r : Ready) (g : Given) (text : List ℕ) (puts : Count) (result : Result End Early) (was now : Option Shown)
+    → StandsFor r g → AreProgramsOf (map pred_of r.compiled.table.preds) r.compiled.programs → AreKept r.compiled.programs
+    → IsEmitted r.compiled.programs text
     → PutsText text Done puts result was now → CarriesOut (EmitSaid g) NoPart ⊥ ⊥ puts result was now
 carried r g text puts result was now s a k e p = text_carried (EmitSaid g) NoPart ⊥ ⊥ puts Done text result was now
-    (emitted text (subst (λ t. IsCOf t text) (sym (ap (λ t. t.preds) s.table)) (c_of (map pred_of r.compiled.table.preds) r.compiled.programs text a k e))) p
+    (emitted text (subst (λ t. IsCOf t text) (sym (ap (λ t. t.preds) s.table))
+    (c_of (map pred_of r.compiled.table.preds) r.compiled.programs text a k e))) p
 
 tells : (g : Given) (a : Said) → EmitSaid g a → EmitEnds g a.end
 tells g a (emitted text h) = done

@@ -37,50 +37,62 @@ abbrev pub AreNamed : List PredOf → Type 0
 AreNamed [] = Unit {0}
 AreNamed (p ∷ ps) = (p.shape_name ≡ p.name) × AreNamed ps
 
-said_named : (bytes : List ℕ) (ts : List Token) (before : List Item) (t : TableOf) (is : List Item) (ps : List PredOf) → PredsSay bytes ts before t is ps → AreNamed ps
+said_named : (bytes : List ℕ) (ts : List Token) (before : List Item) (t : TableOf) (is : List Item) (ps : List PredOf)
+    → PredsSay bytes ts before t is ps → AreNamed ps
 said_named bytes ts before t [] [] h = tt
 said_named bytes ts before t [] (p ∷ ps) h = absurd h
 said_named bytes ts before t (SiteItem n cs ∷ is) ps h = said_named bytes ts (before ++ (SiteItem n cs ∷ [])) t is ps h
 said_named bytes ts before t (ParamItem n r ∷ is) ps h = said_named bytes ts (before ++ (ParamItem n r ∷ [])) t is ps h
 said_named bytes ts before t (PredItem n args ls root ∷ is) [] h = absurd h
-said_named bytes ts before t (PredItem n args ls root ∷ is) (p ∷ ps) h = (h.0.shape_is ∙ sym h.0.name_is, said_named bytes ts (before ++ (PredItem n args ls root ∷ [])) t is ps h.1)
+said_named bytes ts before t (PredItem n args ls root ∷ is) (p ∷ ps) h =
+    (h.0.shape_is ∙ sym h.0.name_is, said_named bytes ts (before ++ (PredItem n args ls root ∷ [])) t is ps h.1)
 
 -- so it is of what the steps give
 pub names_given : (plan : Plan) (shelf : Shelf) (g : Given) → Prepares plan (Some shelf) (gives g) → AreNamed g.table.preds
 names_given plan shelf g (step.goes bytes r (step.goes table c (step.goes preds n (step.goes texts t h)))) =
     let text = (accepted_of bytes table c).accepted.text in
-    subst (λ (k : Given). AreNamed k.table.preds) (sym (ap (value_or g) h)) (said_named bytes text.tokens [] table text.items table.preds text.says.preds_are)
+    subst (λ (k : Given). AreNamed k.table.preds) (sym (ap (value_or g) h))
+    (said_named bytes text.tokens [] table text.items table.preds text.says.preds_are)
 
 -- the call on a row means the perturbed sign
-call_signed : (file : List Fun) (p : Pred) (row : Row) → IsSound (pred_of p) → (let q : PredOf = pred_of p in q.shape_name ≡ q.name) → InRange p.shape.sites p.shape.vars row → CallIsDue file (pred_of p) row → CallsPerturbedSign file (pred_of p) row
+call_signed : (file : List Fun) (p : Pred) (row : Row) → IsSound (pred_of p)
+    → (let q : PredOf = pred_of p in q.shape_name ≡ q.name) → InRange p.shape.sites p.shape.vars row
+    → CallIsDue file (pred_of p) row → CallsPerturbedSign file (pred_of p) row
 call_signed file p row sound named range d =
     let sign = due-sign BySmallest p.shape.vars (root_of (pred_of p)) row d.due.filtering d.verdict d.due.due in
     record {
       sign = d.verdict.sign;
       counts = d.counts;
-      called = subst (λ (x : List ℕ). CCall file (call_name x) row.index row.values ≡ Some (Signed (sign_number d.verdict.sign) d.counts)) named d.called;
+      called =
+          subst (λ (x : List ℕ). CCall file (call_name x) row.index row.values ≡ Some
+          (Signed (sign_number d.verdict.sign) d.counts)) named d.called;
       perturbed = sign;
       never_zero = λ all. never_zero p row range sound all d.verdict.sign sign;
     }
 
-all_signed : (file : List Fun) (ps : List Pred) → AreSound (map pred_of ps) → AreNamed (map pred_of ps) → AllAreDue file (map pred_of ps) → CallPerturbedSigns file (map pred_of ps)
+all_signed : (file : List Fun) (ps : List Pred) → AreSound (map pred_of ps) → AreNamed (map pred_of ps)
+    → AllAreDue file (map pred_of ps) → CallPerturbedSigns file (map pred_of ps)
 all_signed file [] s n d = tt
 all_signed file (p ∷ ps) s n d = (λ row range. call_signed file p row s.0 n.0 range (d.0 row range), all_signed file ps s.1 n.1 d.1)
 
 -- what is owed to a source's predicates
-put_c : (g : Given) (a : Said) (was now : Option Shown) → IsGrounded g → AreNamed g.table.preds → EmitSaid g a → now ≡ put_both a.out a.err was → PutC g.table.preds was now
+put_c : (g : Given) (a : Said) (was now : Option Shown) → IsGrounded g → AreNamed g.table.preds → EmitSaid g a
+    → now ≡ put_both a.out a.err was → PutC g.table.preds was now
 put_c g a was now i n (e.emitted text c) q =
     let preds : map pred_of i.table.preds ≡ g.table.preds = ap (λ (t : TableOf). t.preds) i.is in
     record {
       bytes = text;
       file = c.file;
       text = c.text;
-      signs = subst (CallPerturbedSigns c.file) preds (all_signed c.file i.table.preds (subst AreSound (sym preds) i.sound) (subst AreNamed (sym preds) n) (subst (AllAreDue c.file) (sym preds) c.due));
+      signs =
+          subst (CallPerturbedSigns c.file) preds (all_signed c.file i.table.preds (subst AreSound (sym preds) i.sound)
+          (subst AreNamed (sym preds) n) (subst (AllAreDue c.file) (sym preds) c.due));
       shown = q;
     }
 
 -- what is owed has the perturbed signs
-pub emitted : (words : List (List ℕ)) (told : Option Shelf) (boxes : List State) (result : Status) (was now : Option Shown) → Answered (Answer words told boxes) result was now → IfSome told (λ shelf. CallsArePerturbed words shelf was now)
+pub emitted : (words : List (List ℕ)) (told : Option Shelf) (boxes : List State) (result : Status) (was now : Option Shown)
+    → Answered (Answer words told boxes) result was now → IfSome told (λ shelf. CallsArePerturbed words shelf was now)
 emitted words None boxes result was now h = tt
 emitted words (Some shelf) boxes result was now h = λ plan g f r x.
     let owed : EmitSaid g h.said = subst (λ c. WorkOwes c boxes g h.said) r (work_of_words words shelf boxes plan g h.said f x h.owed) in

@@ -1,5 +1,7 @@
 -- Which texts have no line feed.
-use Rattle.std.proofs.Common.{◌≡◌, ◌≢◌, ℕ, zero, suc, ◌+◌, ◌&&◌, ◌/◌, ◌%◌, ◌==◌, nat_lt, not, cond, Bool, true, false, true≢false, List, [], ◌∷◌, ◌++◌, codes, map, Option, Some, None, Result, Ok, Err, refl, ap, sym, ◌∙◌, subst, arith, decimal}
+use Rattle.std.proofs.Common.{◌≡◌, ◌≢◌, ℕ, zero, suc, ◌+◌, ◌&&◌, ◌/◌, ◌%◌, ◌==◌, nat_lt, not}
+use Rattle.std.proofs.Common.{cond, Bool, true, false, true≢false, List, [], ◌∷◌, ◌++◌, codes, map, Option, Some, None}
+use Rattle.std.proofs.Common.{Result, Ok, Err, refl, ap, sym, ◌∙◌, subst, arith, decimal}
 use Rattle.std.specs.Prelude.{slice_get, slice_index_or}
 use Rattle.std.specs.Fmt.{digits, digits_onto, digit_glyph}
 use Rattle.ln_base.specs.Words.{is_word, is_keyword, is_letter, is_name_byte, every}
@@ -45,7 +47,8 @@ digits_feed : (k n : ℕ) (acc : List ℕ) → NoFeed acc → NoFeed (digits_ont
 digits_feed zero n acc f = f
 digits_feed (suc k) n acc f = by_test (n / 10 == 0) (digits_feed k (n / 10) (digit_glyph false (n % 10) ∷ acc) (glyph (n % 10), f))
   where
-    by_test : (b : Bool) → NoFeed (digits_onto k 10 false (n / 10) (digit_glyph false (n % 10) ∷ acc)) → NoFeed (cond b (digit_glyph false (n % 10) ∷ acc) (digits_onto k 10 false (n / 10) (digit_glyph false (n % 10) ∷ acc)))
+    by_test : (b : Bool) → NoFeed (digits_onto k 10 false (n / 10) (digit_glyph false (n % 10) ∷ acc))
+        → NoFeed (cond b (digit_glyph false (n % 10) ∷ acc) (digits_onto k 10 false (n / 10) (digit_glyph false (n % 10) ∷ acc)))
     by_test true g = (glyph (n % 10), f)
     by_test false g = g
 
@@ -70,7 +73,8 @@ and_right false b e = absurd (true≢false (sym e))
 
 above : (bs : List ℕ) → every (nat_lt 10) bs ≡ true → NoFeed bs
 above [] e = tt
-above (b ∷ bs) e = (other b (and_left (nat_lt 10 b) (every (nat_lt 10) bs) e), above bs (and_right (nat_lt 10 b) (every (nat_lt 10) bs) e))
+above (b ∷ bs) e =
+    (other b (and_left (nat_lt 10 b) (every (nat_lt 10) bs) e), above bs (and_right (nat_lt 10 b) (every (nat_lt 10) bs) e))
 
 sign_feed : (s : Sign) → NoFeed (sign_text s)
 sign_feed Minus = above (codes "-") refl
@@ -91,11 +95,17 @@ name_byte b h e = true≢false (sym h ∙ ap is_name_byte e)
 
 name_bytes_feed : (bs : List ℕ) → every is_name_byte bs ≡ true → NoFeed bs
 name_bytes_feed [] e = tt
-name_bytes_feed (b ∷ bs) e = (name_byte b (and_left (is_name_byte b) (every is_name_byte bs) e), name_bytes_feed bs (and_right (is_name_byte b) (every is_name_byte bs) e))
+name_bytes_feed (b ∷ bs) e = (
+  name_byte b (and_left (is_name_byte b) (every is_name_byte bs) e),
+  name_bytes_feed bs (and_right (is_name_byte b) (every is_name_byte bs) e),
+)
 
 word_feed : (bs : List ℕ) → is_word bs ≡ true → NoFeed bs
 word_feed [] e = tt
-word_feed (b ∷ bs) e = (letter b (and_left (is_letter b) (every is_name_byte bs) e), name_bytes_feed bs (and_right (is_letter b) (every is_name_byte bs) e))
+word_feed (b ∷ bs) e = (
+  letter b (and_left (is_letter b) (every is_name_byte bs) e),
+  name_bytes_feed bs (and_right (is_letter b) (every is_name_byte bs) e),
+)
 
 name_feed : (n : Name) → NoFeed (name_bytes n)
 name_feed n = word_feed (name_bytes n) (and_left (is_word (name_bytes n)) (not (is_keyword (name_bytes n))) n.named)
@@ -111,7 +121,8 @@ join (x ∷ xs) ys f g = (f.0, join xs ys f.1 g)
 
 coords_feed : (n : Name) (cs : List Coord) → HaveNoFeed (map (coord_column n) cs)
 coords_feed n [] = tt
-coords_feed n (c ∷ cs) = (behind (name_bytes n) (46 ∷ name_bytes c.name) (name_feed n) (other 46 refl, name_feed c.name), coords_feed n cs)
+coords_feed n (c ∷ cs) =
+    (behind (name_bytes n) (46 ∷ name_bytes c.name) (name_feed n) (other 46 refl, name_feed c.name), coords_feed n cs)
 
 site_feed : (n : Name) (o : Option Site) → HaveNoFeed (site_columns n o)
 site_feed n None = (name_feed n, tt)
@@ -127,12 +138,15 @@ arg_feed sites params (IsParam p) = param_feed (slice_get params p)
 
 args_feed : (sites : List Site) (params : List Param) (args : List Arg) → HaveNoFeed (column_names sites params args)
 args_feed sites params [] = tt
-args_feed sites params (a ∷ as') = join (arg_columns sites params a) (column_names sites params as') (arg_feed sites params a) (args_feed sites params as')
+args_feed sites params (a ∷ as') =
+    join (arg_columns sites params a) (column_names sites params as') (arg_feed sites params a) (args_feed sites params as')
 
 -- the columns of what is given stand for those of a table in memory
-pub columns_no_feed : (g : Given) (q : Pred) (p : PredOf) (names : List (List ℕ)) (t : Table) → view t ≡ g.table → pred_of q ≡ p → names ≡ columns_of g.table p → HaveNoFeed names
+pub columns_no_feed : (g : Given) (q : Pred) (p : PredOf) (names : List (List ℕ)) (t : Table) → view t ≡ g.table
+    → pred_of q ≡ p → names ≡ columns_of g.table p → HaveNoFeed names
 columns_no_feed g q p names t e f n =
-    let same : column_names t.sites t.params q.args ≡ names = columns_like t.sites t.params q.args ∙ ap (λ v. columns_of v (pred_of q)) e ∙ ap (columns_of g.table) f ∙ sym n in
+    let same : column_names t.sites t.params q.args ≡ names = columns_like t.sites t.params q.args
+    ∙ ap (λ v. columns_of v (pred_of q)) e ∙ ap (columns_of g.table) f ∙ sym n in
     subst HaveNoFeed same (args_feed t.sites t.params q.args)
 
 nth : (names : List (List ℕ)) (k : ℕ) → HaveNoFeed names → NoFeed (slice_index_or names k [])

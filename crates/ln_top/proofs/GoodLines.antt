@@ -40,7 +40,9 @@ blocks_same : (k : ℕ) (cs : List Code) → blocks_lines k cs ≡ block_lines k
 blocks_same k [] = refl
 blocks_same k (c ∷ cs) =
     let r = blocks_same (suc k) cs in
-    let a : (map range_line (lines_of c.ops c.pairs) ++ End ∷ []) ++ blocks_lines (suc k) cs ≡ map range_line (lines_of c.ops c.pairs) ++ End ∷ blocks_lines (suc k) cs = append_more (map range_line (lines_of c.ops c.pairs)) (blocks_lines (suc k) cs) End in
+    let a : (map range_line (lines_of c.ops c.pairs) ++ End ∷ []) ++ blocks_lines (suc k) cs ≡ map range_line
+    (lines_of c.ops c.pairs) ++ End ∷ blocks_lines (suc k) cs = append_more (map range_line (lines_of c.ops c.pairs))
+    (blocks_lines (suc k) cs) End in
     ap (λ z. Block k c.exps ∷ z) a ∙ ap (λ z. Block k c.exps ∷ (map range_line (lines_of c.ops c.pairs) ++ (End ∷ z))) r
 
 orders_same : (p : Part) (os : List (List ℕ)) → cert.order_lines p os ≡ order_lines os (map (list_of p) os)
@@ -62,7 +64,8 @@ pub record Goods (ps : List PredOf) (parts : List Part) : Type 0 where
   pub lines : listing_of parts ≡ all_lines subjects (map written_of parts)
   pub good : AreGoodParts version_2 subjects (map written_of parts)
 
-carries_here : (p : PredOf) (part : Part) (o : IsProgramOf p part) → Carries BySmallest part (root_of p) (terms_of (length part.shape.vars) o.poly)
+carries_here : (p : PredOf) (part : Part) (o : IsProgramOf p part)
+    → Carries BySmallest part (root_of p) (terms_of (length part.shape.vars) o.poly)
 carries_here p part o = subst (λ (n : ℕ). Carries BySmallest part (root_of p) (terms_of n o.poly)) (sym (ap length o.vars)) o.carries
 
 pub goods : (ps : List PredOf) (parts : List Part) → AreProgramsOf ps parts → AreKept parts → AreListable parts → Goods ps parts
@@ -75,7 +78,9 @@ goods (p ∷ ps) (c ∷ cs) a k l =
     record {
       subjects = subject_of c o.poly ∷ r.subjects;
       those = (record { name = o.name; sites = o.sites; vars = o.vars; normal = o.normal }, r.those);
-      lines = ap (λ z. z ++ listing_of cs) (lines_same c o.poly) ∙ ap (λ z. part_lines (subject_of c o.poly) (written_of c) ++ z) r.lines;
+      lines =
+          ap (λ z. z ++ listing_of cs) (lines_same c o.poly)
+          ∙ ap (λ z. part_lines (subject_of c o.poly) (written_of c) ++ z) r.lines;
       good = (good_part c (root_of p) o.poly k.0 (carries_here p c o) l.0 o.small, r.good);
     }
 
@@ -95,7 +100,8 @@ entries_back : (n : ℕ) (xs : List Said) → parts_of (entries_from n xs) ≡ x
 entries_back n [] = refl
 entries_back n (x ∷ xs) = ap (λ z. x ∷ z) (entries_back (suc n) xs)
 
-pub listing_is : (ps : List PredOf) (parts : List Part) (bytes : List ℕ) → AreProgramsOf ps parts → AreKept parts → AreListable parts → ListText bytes 2 (listing_of parts) → IsListingOf ps bytes
+pub listing_is : (ps : List PredOf) (parts : List Part) (bytes : List ℕ) → AreProgramsOf ps parts → AreKept parts
+    → AreListable parts → ListText bytes 2 (listing_of parts) → IsListingOf ps bytes
 listing_is ps parts bytes a k l t =
     let g : Goods ps parts = goods ps parts a k l in
     let ws : List Written = map written_of parts in
@@ -109,7 +115,9 @@ listing_is ps parts bytes a k l t =
         those = g.those;
         valid = record {
           parts = ws;
-          good = subst (λ (xs : List Said). Go version_2 g.subjects (Outside []) xs (Outside (map written_of parts))) (sym (e ∙ g.lines)) (parts-go [] g.subjects [] (map written_of parts) refl g.good);
+          good =
+              subst (λ (xs : List Said). Go version_2 g.subjects (Outside []) xs (Outside (map written_of parts)))
+              (sym (e ∙ g.lines)) (parts-go [] g.subjects [] (map written_of parts) refl g.good);
           all = same-size g.subjects (map written_of parts) g.good;
         };
       };

@@ -3,6 +3,7 @@ pub mod Carry
 pub mod Likeness
 pub mod FindLaws
 pub mod SourceLaws
+pub mod TargetLaws
 pub mod Prepared
 pub mod WordsLaws
 pub mod LinesLaws

@@ -1,5 +1,6 @@
 -- Tables in memory, and what they stand for.
-use Rattle.std.proofs.Common.{◌≡◌, ℕ, ◌++◌, Bool, true, false, cond, List, [], ◌∷◌, map, find, bytes_eq, Option, Some, None, option_map, slice_get, refl, ap, sym, ◌∙◌}
+use Rattle.std.proofs.Common.{◌≡◌, ℕ, ◌++◌, Bool, true, false, cond, List, [], ◌∷◌, map, find, bytes_eq, Option}
+use Rattle.std.proofs.Common.{Some, None, option_map, slice_get, refl, ap, sym, ◌∙◌}
 use Rattle.std.proofs.lemmas.Option.{slice_get-map}
 use Rattle.ln_tree.specs.Names.{name_bytes}
 use Rattle.ln_tree.specs.declared.name.Name.{Name}
@@ -26,24 +27,30 @@ param_like : (o : Option Param) → param_columns o ≡ param_names (option_map 
 param_like None = refl
 param_like (Some p) = refl
 
-arg_like : (sites : List Site) (params : List Param) (a : Arg) → arg_columns sites params a ≡ arg_names (map site_of sites) (map param_of params) (arg_of a)
-arg_like sites params (IsSite n t) = site_like n (slice_get sites t) ∙ ap (site_names (name_bytes n)) (sym (slice_get-map site_of sites t))
+arg_like : (sites : List Site) (params : List Param) (a : Arg)
+    → arg_columns sites params a ≡ arg_names (map site_of sites) (map param_of params) (arg_of a)
+arg_like sites params (IsSite n t) =
+    site_like n (slice_get sites t) ∙ ap (site_names (name_bytes n)) (sym (slice_get-map site_of sites t))
 arg_like sites params (IsParam p) = param_like (slice_get params p) ∙ ap param_names (sym (slice_get-map param_of params p))
 
 -- the columns' names are those of what the table stands for
-pub columns_like : (sites : List Site) (params : List Param) (args : List Arg) → column_names sites params args ≡ names_over (map site_of sites) (map param_of params) (map arg_of args)
+pub columns_like : (sites : List Site) (params : List Param) (args : List Arg)
+    → column_names sites params args ≡ names_over (map site_of sites) (map param_of params) (map arg_of args)
 columns_like sites params [] = refl
 columns_like sites params (a ∷ as') =
-    ap (λ xs. xs ++ column_names sites params as') (arg_like sites params a) ∙ ap (λ xs. arg_names (map site_of sites) (map param_of params) (arg_of a) ++ xs) (columns_like sites params as')
+    ap (λ xs. xs ++ column_names sites params as') (arg_like sites params a)
+    ∙ ap (λ xs. arg_names (map site_of sites) (map param_of params) (arg_of a) ++ xs) (columns_like sites params as')
 
 -- the first predicate of a name, in memory
 abbrev pub named_in : List ℕ → List Pred → Option Pred
 named_in name preds = find (λ p. bytes_eq (name_bytes p.name) name) preds
 
-named_if : (b : Bool) (p : Pred) (o : Option Pred) (v : Option PredOf) → option_map pred_of o ≡ v → option_map pred_of (cond b (Some p) o) ≡ cond b (Some (pred_of p)) v
+named_if : (b : Bool) (p : Pred) (o : Option Pred) (v : Option PredOf) → option_map pred_of o ≡ v
+    → option_map pred_of (cond b (Some p) o) ≡ cond b (Some (pred_of p)) v
 named_if true p o v e = refl
 named_if false p o v e = e
 
 pub named_like : (name : List ℕ) (ps : List Pred) → option_map pred_of (named_in name ps) ≡ named name (map pred_of ps)
 named_like name [] = refl
-named_like name (p ∷ ps) = named_if (bytes_eq (name_bytes p.name) name) p (named_in name ps) (named name (map pred_of ps)) (named_like name ps)
+named_like name (p ∷ ps) =
+    named_if (bytes_eq (name_bytes p.name) name) p (named_in name ps) (named name (map pred_of ps)) (named_like name ps)

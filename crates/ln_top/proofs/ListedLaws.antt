@@ -35,7 +35,8 @@ use Rattle.ln_top.proofs.OneAnswer.{IsGrounded, grounded}
 use Rattle.ln_top.proofs.TopLaws.{work_of_words}
 
 -- the machine of a part on a row gives the perturbed sign
-row_signed : (p : Pred) (part : Part) (row : Row) → IsSound (pred_of p) → InRange p.shape.sites p.shape.vars row → AnswersDue (pred_of p) part row → GivesPerturbedSign (pred_of p) part row
+row_signed : (p : Pred) (part : Part) (row : Row) → IsSound (pred_of p) → InRange p.shape.sites p.shape.vars row
+    → AnswersDue (pred_of p) part row → GivesPerturbedSign (pred_of p) part row
 row_signed p part row sound range d = record {
   verdict = d.verdict;
   answers = d.answers;
@@ -43,24 +44,41 @@ row_signed p part row sound range d = record {
   never_zero = λ x m all. never_zero p row range sound all x.sign (sign x m);
 }
   where
-    sign : (x : Verdict) → IsVerdict part row x → IsPerturbedSign (length p.shape.vars) (row_sites p.shape.vars row.index) (values row.values) (root_of (pred_of p)) (sign_number x.sign)
+    sign : (x : Verdict) → IsVerdict part row x
+        → IsPerturbedSign (length p.shape.vars) (row_sites p.shape.vars row.index) (values row.values) (root_of (pred_of p))
+        (sign_number x.sign)
     sign x m = let o = d.due x m in due-sign BySmallest p.shape.vars (root_of (pred_of p)) row o.filtering x o.due
 
-part_signed : (p : Pred) (w : Written) → IsSound (pred_of p) → (let q : PredOf = pred_of p in q.shape_name ≡ q.name) → PartIsDue (pred_of p) w → PartGivesSigns (pred_of p) w
-part_signed p w sound named d = record { shape = d.shape; name = d.name ∙ named; sites = d.sites; vars = d.vars; rows = λ row range. row_signed p _ row sound range (d.rows row range) }
+part_signed : (p : Pred) (w : Written) → IsSound (pred_of p) → (let q : PredOf = pred_of p in q.shape_name ≡ q.name)
+    → PartIsDue (pred_of p) w → PartGivesSigns (pred_of p) w
+part_signed p w sound named d = record {
+  shape = d.shape;
+  name = d.name ∙ named;
+  sites = d.sites;
+  vars = d.vars;
+  rows = λ row range. row_signed p _ row sound range (d.rows row range);
+}
 
-all_signed : (ps : List Pred) (ws : List Written) → AreSound (map pred_of ps) → AreNamed (map pred_of ps) → PartsAreDue (map pred_of ps) ws → PartsGiveSigns (map pred_of ps) ws
+all_signed : (ps : List Pred) (ws : List Written) → AreSound (map pred_of ps) → AreNamed (map pred_of ps)
+    → PartsAreDue (map pred_of ps) ws → PartsGiveSigns (map pred_of ps) ws
 all_signed [] [] s n d = tt
 all_signed [] (w ∷ ws) s n d = absurd d
 all_signed (p ∷ ps) [] s n d = absurd d
 all_signed (p ∷ ps) (w ∷ ws) s n d = (part_signed p w s.0 n.0 d.0, all_signed ps ws s.1 n.1 d.1)
 
 -- a file of a valid listing's text is owed `valid`
-verified : (g : Given) (text : List ℕ) (c : IsListingOf g.table.preds text) (h : Given) → h.table ≡ g.table → h.texts ≡ text ∷ [] → v.VerifySaid h (whole Done (line (codes "valid")))
-verified g text c h e f = v.valid (record { listing = c.listing; listed = record { bytes = text; file = f; text = c.text }; valid = subst (λ (ps : List PredOf). IsValidFor ps c.listing) (sym (ap (λ (t : TableOf). t.preds) e)) c.valid })
+verified : (g : Given) (text : List ℕ) (c : IsListingOf g.table.preds text) (h : Given) → h.table ≡ g.table
+    → h.texts ≡ text ∷ [] → v.VerifySaid h (whole Done (line (codes "valid")))
+verified g text c h e f =
+    v.valid (record {
+      listing = c.listing;
+      listed = record { bytes = text; file = f; text = c.text };
+      valid = subst (λ (ps : List PredOf). IsValidFor ps c.listing) (sym (ap (λ (t : TableOf). t.preds) e)) c.valid;
+    })
 
 -- what is owed to a source's predicates
-put_listing : (g : Given) (a : Said) (was now : Option Shown) → IsGrounded g → AreNamed g.table.preds → ListSaid g a → now ≡ put_both a.out a.err was → PutListing g was now
+put_listing : (g : Given) (a : Said) (was now : Option Shown) → IsGrounded g → AreNamed g.table.preds → ListSaid g a
+    → now ≡ put_both a.out a.err was → PutListing g was now
 put_listing g a was now i n (l.listed text c) q =
     let preds : map pred_of i.table.preds ≡ g.table.preds = ap (λ (t : TableOf). t.preds) i.is in
     record {
@@ -69,13 +87,15 @@ put_listing g a was now i n (l.listed text c) q =
       text = c.text;
       valid = c.valid;
       signs = subst (λ (ps : List PredOf). PartsGiveSigns ps c.valid.valid.parts) preds
-          (all_signed i.table.preds c.valid.valid.parts (subst AreSound (sym preds) i.sound) (subst AreNamed (sym preds) n) (subst (λ (ps : List PredOf). PartsAreDue ps c.valid.valid.parts) (sym preds) c.due));
+          (all_signed i.table.preds c.valid.valid.parts (subst AreSound (sym preds) i.sound) (subst AreNamed (sym preds) n)
+          (subst (λ (ps : List PredOf). PartsAreDue ps c.valid.valid.parts) (sym preds) c.due));
       verified = verified g text c;
       shown = q;
     }
 
 -- what is owed has the perturbed signs
-pub listed : (words : List (List ℕ)) (told : Option Shelf) (boxes : List State) (result : Status) (was now : Option Shown) → Answered (Answer words told boxes) result was now → IfSome told (λ shelf. ListingGivesSigns words shelf was now)
+pub listed : (words : List (List ℕ)) (told : Option Shelf) (boxes : List State) (result : Status) (was now : Option Shown)
+    → Answered (Answer words told boxes) result was now → IfSome told (λ shelf. ListingGivesSigns words shelf was now)
 listed words None boxes result was now h = tt
 listed words (Some shelf) boxes result was now h = λ plan g f r x.
     let owed : ListSaid g h.said = subst (λ c. WorkOwes c boxes g h.said) r (work_of_words words shelf boxes plan g h.said f x h.owed) in

@@ -1,5 +1,7 @@
 -- A row that is made of words is in range.
-use Rattle.std.proofs.Common.{◌≡◌, ◌≢◌, ℕ, zero, suc, ◌+◌, ◌-◌, ◌*◌, ◌%◌, ◌^◌, ◌<◌, ◌≤◌, Bool, true, false, ◌&&◌, List, [], ◌∷◌, length, take, ℤ, pos, neg_ℤ, ◌+ℤ◌, ◌-ℤ◌, ◌≤ℤ◌, refl, ap, arith}
+use Rattle.std.proofs.Common.{◌≡◌, ◌≢◌, ℕ, zero, suc, ◌+◌, ◌-◌, ◌*◌, ◌%◌, ◌^◌, ◌<◌, ◌≤◌}
+use Rattle.std.proofs.Common.{Bool, true, false, ◌&&◌, List, [], ◌∷◌, length, take, ℤ, pos, neg_ℤ, ◌+ℤ◌}
+use Rattle.std.proofs.Common.{◌-ℤ◌, ◌≤ℤ◌, refl, ap, arith}
 use Rattle.std.specs.Prelude.{int_le, int_lt, not, unsigned_abs, if◌then◌else◌, All, AllPairs, count_by, ◌==◌, nat_le}
 use Rattle.std.specs.List.{list_all}
 use Rattle.std.proofs.lemmas.Bool.{and_parts}
@@ -16,10 +18,12 @@ use Rattle.ln_code.specs.declared.row.Row as code
 use Rattle.ln_code.specs.RowOf.{row_of, IsZeroPast}
 use Rattle.ln_rows.specs.Record.{Column, SiteIndex, Variable, columns}
 use Rattle.ln_rows.proofs.RangeLemmas.{sizes, columns_length, shape_columns}
-use Rattle.ln_top.specs.GenRow.{words, index_by, value_by, low_part, high_part, is_narrowed, low_end, high_end, variable_by, indices_by, values_by, row_by, IsMade}
+use Rattle.ln_top.specs.GenRow.{words, index_by, value_by, low_part, high_part, is_narrowed, low_end, high_end, variable_by}
+use Rattle.ln_top.specs.GenRow.{indices_by, values_by, row_by, IsMade}
 
 -- a number that is that far from the low end is between both
-offset_between : (lo hi : ℤ) (r : ℕ) → lo ≤ℤ hi → r < unsigned_abs (hi -ℤ lo) + 1 → (lo ≤ℤ (lo +ℤ pos r)) × ((lo +ℤ pos r) ≤ℤ hi)
+offset_between : (lo hi : ℤ) (r : ℕ) → lo ≤ℤ hi → r < unsigned_abs (hi -ℤ lo) + 1
+    → (lo ≤ℤ (lo +ℤ pos r)) × ((lo +ℤ pos r) ≤ℤ hi)
 offset_between lo hi r h w = (grind (arith, ints, h, w), grind (arith, ints, h, w))
 
 value_between : (lo hi : ℤ) (w : ℕ) → lo ≤ℤ hi → (lo ≤ℤ value_by lo hi w) × (value_by lo hi w ≤ℤ hi)
@@ -59,7 +63,8 @@ below_and : (a b c d e : ℤ) → a ≤ℤ b → b ≤ℤ c → c ≤ℤ d → d
 below_and a b c d e p q r s = (grind (arith, ints, p, q), grind (arith, ints, r, s))
 
 -- the value of a variable is in its range
-variable_within : (n : ℕ) (i : VarInfo) (w : ℕ) → has_range i ≡ true → (i.lo ≤ℤ variable_by n i w) × (variable_by n i w ≤ℤ i.hi)
+variable_within : (n : ℕ) (i : VarInfo) (w : ℕ) → has_range i ≡ true
+    → (i.lo ≤ℤ variable_by n i w) × (variable_by n i w ≤ℤ i.hi)
 variable_within n i w h =
     let e = are_ends n i.lo i.hi (in_order_of i.lo i.hi (and_parts (not (int_lt i.hi i.lo)) (int_lt (neg_ℤ (pos (2 ^ 63))) i.lo) h).0) in
     let v = value_between (low_end n i.lo i.hi) (high_end n i.lo i.hi) w e.order in
@@ -77,12 +82,15 @@ words_length (suc k) g = ap suc (words_length k (pcg64 g).1)
 Within : ℕ → List VarInfo → Type 0
 Within n is = (ws : List ℕ) → length ws ≡ length (columns is) → AreWithin is (values_by n (columns is) ws)
 
-value_within : (n : ℕ) (i : VarInfo) (is : List VarInfo) → has_range i ≡ true → Within n is → (ws : List ℕ) → length ws ≡ suc (length (columns is)) → AreWithin (i ∷ is) (values_by n (Variable i ∷ columns is) ws)
+value_within : (n : ℕ) (i : VarInfo) (is : List VarInfo) → has_range i ≡ true → Within n is → (ws : List ℕ)
+    → length ws ≡ suc (length (columns is)) → AreWithin (i ∷ is) (values_by n (Variable i ∷ columns is) ws)
 unfolding Within
 value_within n i is r behind [] size = absurd (omega (arith, size))
 value_within n i is r behind (w ∷ ws) size = let v = variable_within n i w r in (v.0, v.1, behind ws (omega (arith, size)))
 
-site_within : (n : ℕ) (i : VarInfo) (is : List VarInfo) → has_range i ≡ true → Within n is → (ws : List ℕ) → length ws ≡ suc (suc (length (columns is))) → AreWithin (i ∷ is) (values_by n (SiteIndex ∷ Variable i ∷ columns is) ws)
+site_within : (n : ℕ) (i : VarInfo) (is : List VarInfo) → has_range i ≡ true → Within n is → (ws : List ℕ)
+    → length ws ≡ suc (suc (length (columns is)))
+    → AreWithin (i ∷ is) (values_by n (SiteIndex ∷ Variable i ∷ columns is) ws)
 site_within n i is r behind [] size = absurd (omega (arith, size))
 site_within n i is r behind (w ∷ ws) size = value_within n i is r behind ws (omega (arith, size))
 
@@ -92,12 +100,14 @@ values_within n [] r ws size = tt
 values_within n (i ∷ is) r ws size =
     let p = and_parts (has_range i) (list_all has_range is) r in go (starts_site i) p.0 (values_within n is p.1) size
   where
-    go : (b : Bool) → has_range i ≡ true → Within n is → length ws ≡ length (if b then SiteIndex ∷ Variable i ∷ columns is else Variable i ∷ columns is)
+    go : (b : Bool) → has_range i ≡ true → Within n is
+        → length ws ≡ length (if b then SiteIndex ∷ Variable i ∷ columns is else Variable i ∷ columns is)
         → AreWithin (i ∷ is) (values_by n (if b then SiteIndex ∷ Variable i ∷ columns is else Variable i ∷ columns is) ws)
     go true q w s = site_within n i is q w ws s
     go false q w s = value_within n i is q w ws s
 
-values_within_at : (n : ℕ) (vars : List VarInfo) → list_all has_range vars ≡ true → (ws : List ℕ) → length ws ≡ length (columns vars) → AreWithin vars (values_by n (columns vars) ws)
+values_within_at : (n : ℕ) (vars : List VarInfo) → list_all has_range vars ≡ true → (ws : List ℕ)
+    → length ws ≡ length (columns vars) → AreWithin vars (values_by n (columns vars) ws)
 unfolding Within
 values_within_at n vars r ws size = values_within n vars r ws size
 
@@ -108,7 +118,8 @@ within_length (i ∷ is) [] h = absurd h
 within_length (i ∷ is) (z ∷ zs) h = ap suc (within_length is zs h.2)
 
 -- each column gives an index or a value
-all_made : (n j : ℕ) (cs : List Column) (ws : List ℕ) → length ws ≡ length cs → length (indices_by j cs ws) + length (values_by n cs ws) ≡ length cs
+all_made : (n j : ℕ) (cs : List Column) (ws : List ℕ) → length ws ≡ length cs
+    → length (indices_by j cs ws) + length (values_by n cs ws) ≡ length cs
 all_made n j [] ws h = refl
 all_made n j (c ∷ cs) [] h = absurd (omega (arith, h))
 all_made n j (SiteIndex ∷ cs) (w ∷ ws) h = omega (arith, all_made n (suc j) cs ws (omega (arith, h)))
@@ -125,59 +136,81 @@ index_within : (a j : ℕ) → a < 2 ^ 32 → j < 8 → (pos 0 ≤ℤ pos (a * 8
 index_within a j h k = (omega (arith, ints), omega (arith, ints, h, k))
 
 -- the indices are from 0 to 2^63 - 1
-indices_within : (j : ℕ) (cs : List Column) (ws : List ℕ) → j + length (indices_by j cs ws) ≤ 8 → All (λ z. (pos 0 ≤ℤ z) × (z ≤ℤ pos (2 ^ 63 - 1))) (indices_by j cs ws)
+indices_within : (j : ℕ) (cs : List Column) (ws : List ℕ) → j + length (indices_by j cs ws) ≤ 8
+    → All (λ z. (pos 0 ≤ℤ z) × (z ≤ℤ pos (2 ^ 63 - 1))) (indices_by j cs ws)
 indices_within j [] ws h = All-nil _
 indices_within j (c ∷ cs) [] h = All-nil _
 indices_within j (SiteIndex ∷ cs) (w ∷ ws) h =
     let low : w % 2 ^ 32 < 2 ^ 32 = mod-lt w (omega arith) in
-    All-cons (λ z. (pos 0 ≤ℤ z) × (z ≤ℤ pos (2 ^ 63 - 1))) (index_by j w) (indices_by (suc j) cs ws) (index_within (w % 2 ^ 32) j low (omega (arith, h))) (indices_within (suc j) cs ws (omega (arith, h)))
+    All-cons (λ z. (pos 0 ≤ℤ z) × (z ≤ℤ pos (2 ^ 63 - 1))) (index_by j w) (indices_by (suc j) cs ws)
+    (index_within (w % 2 ^ 32) j low (omega (arith, h))) (indices_within (suc j) cs ws (omega (arith, h)))
 indices_within j (Variable i ∷ cs) (w ∷ ws) h = indices_within j cs ws h
 
 -- an earlier index differs from all of them
-later_differ : (i w j : ℕ) (cs : List Column) (ws : List ℕ) → i < j → j + length (indices_by j cs ws) ≤ 8 → All (λ z. index_by i w ≢ z) (indices_by j cs ws)
+later_differ : (i w j : ℕ) (cs : List Column) (ws : List ℕ) → i < j → j + length (indices_by j cs ws) ≤ 8
+    → All (λ z. index_by i w ≢ z) (indices_by j cs ws)
 later_differ i w j [] ws h k = All-nil _
 later_differ i w j (c ∷ cs) [] h k = All-nil _
 later_differ i w j (SiteIndex ∷ cs) (v ∷ vs) h k =
-    All-cons (λ z. index_by i w ≢ z) (index_by j v) (indices_by (suc j) cs vs) (apart (w % 2 ^ 32) (v % 2 ^ 32) i j h (omega (arith, k))) (later_differ i w (suc j) cs vs (omega (arith, h)) (omega (arith, k)))
+    All-cons (λ z. index_by i w ≢ z) (index_by j v) (indices_by (suc j) cs vs)
+    (apart (w % 2 ^ 32) (v % 2 ^ 32) i j h (omega (arith, k)))
+    (later_differ i w (suc j) cs vs (omega (arith, h)) (omega (arith, k)))
 later_differ i w j (Variable x ∷ cs) (v ∷ vs) h k = later_differ i w j cs vs h k
 
 -- the indices differ
-indices_differ : (j : ℕ) (cs : List Column) (ws : List ℕ) → j + length (indices_by j cs ws) ≤ 8 → AllPairs (λ y z. y ≢ z) (indices_by j cs ws)
+indices_differ : (j : ℕ) (cs : List Column) (ws : List ℕ) → j + length (indices_by j cs ws) ≤ 8
+    → AllPairs (λ y z. y ≢ z) (indices_by j cs ws)
 indices_differ j [] ws h = λ a b d lt in_. absurd (omega arith)
 indices_differ j (c ∷ cs) [] h = λ a b d lt in_. absurd (omega arith)
 indices_differ j (SiteIndex ∷ cs) (w ∷ ws) h =
-    AllPairs-cons (λ y z. y ≢ z) (index_by j w) (indices_by (suc j) cs ws) (later_differ j w (suc j) cs ws (omega arith) (omega (arith, h))) (indices_differ (suc j) cs ws (omega (arith, h)))
+    AllPairs-cons (λ y z. y ≢ z) (index_by j w) (indices_by (suc j) cs ws)
+    (later_differ j w (suc j) cs ws (omega arith) (omega (arith, h))) (indices_differ (suc j) cs ws (omega (arith, h)))
 indices_differ j (Variable i ∷ cs) (w ∷ ws) h = indices_differ j cs ws h
 
 -- the ranges of a shape are in order
 pub ranges : (sites : ℕ) (vars : List VarInfo) → is_laid_out sites vars ≡ true → list_all has_range vars ≡ true
 ranges sites vars h =
-    let a = and_parts (in_order 0 0 no_var vars && list_all has_range vars && (count_by starts_site vars == sites) && nat_le sites 5 && nat_le (count_by is_param vars) 8) (nat_le (length vars) 168) h in
-    let b = and_parts (in_order 0 0 no_var vars && list_all has_range vars && (count_by starts_site vars == sites) && nat_le sites 5) (nat_le (count_by is_param vars) 8) a.0 in
+    let a = and_parts (in_order 0 0 no_var vars && list_all has_range vars && (count_by starts_site vars == sites) && nat_le sites 5
+    && nat_le (count_by is_param vars) 8) (nat_le (length vars) 168) h in
+    let b = and_parts (in_order 0 0 no_var vars && list_all has_range vars && (count_by starts_site vars == sites) && nat_le sites
+    5) (nat_le (count_by is_param vars) 8) a.0 in
     let c = and_parts (in_order 0 0 no_var vars && list_all has_range vars && (count_by starts_site vars == sites)) (nat_le sites 5) b.0 in
     let d = and_parts (in_order 0 0 no_var vars && list_all has_range vars) (count_by starts_site vars == sites) c.0 in
     (and_parts (in_order 0 0 no_var vars) (list_all has_range vars) d.0).1
 
 -- a row by words is in range
-pub words_in_range : (n sites : ℕ) (vars : List VarInfo) (ws : List ℕ) → is_laid_out sites vars ≡ true → length ws ≡ length (columns vars) → InRange sites vars (row_by n vars ws)
+pub words_in_range : (n sites : ℕ) (vars : List VarInfo) (ws : List ℕ) → is_laid_out sites vars ≡ true
+    → length ws ≡ length (columns vars) → InRange sites vars (row_by n vars ws)
 words_in_range n sites vars ws laid size =
     let s = sizes sites vars laid in
     let w = values_within_at n vars (ranges sites vars laid) ws size in
-    let count : length (indices_by 0 (columns vars) ws) ≡ sites = omega (arith, all_made n 0 (columns vars) ws size, within_length vars (values_by n (columns vars) ws) w, columns_length vars, s.counted) in
+    let count : length (indices_by 0 (columns vars) ws)
+    ≡ sites = omega (
+      arith,
+      all_made n 0 (columns vars) ws size,
+      within_length vars (values_by n (columns vars) ws) w,
+      columns_length vars,
+      s.counted,
+    ) in
     let few : 0 + length (indices_by 0 (columns vars) ws) ≤ 8 = omega (arith, count, s.few_sites) in
     record { size = count; indices = indices_within 0 (columns vars) ws few; differ = indices_differ 0 (columns vars) ws few; values = w }
 
 -- a row that is made by words is that row
-pub made_is : (n sites : ℕ) (vars : List VarInfo) (g : Lcg) (r : code.Row) → is_laid_out sites vars ≡ true → IsMade n vars g r → row_of sites vars r ≡ row_by n vars (words (length (columns vars)) g)
+pub made_is : (n sites : ℕ) (vars : List VarInfo) (g : Lcg) (r : code.Row) → is_laid_out sites vars ≡ true
+    → IsMade n vars g r → row_of sites vars r ≡ row_by n vars (words (length (columns vars)) g)
 made_is n sites vars g r laid m =
     let e : length (columns vars) - length vars ≡ sites = omega (arith, shape_columns sites vars laid) in
     let i : take sites r.index ≡ indices_by 0 (columns vars) (words (length (columns vars)) g) = rw e at m.index in
     rw (i, m.values) refl
 
-pub made_in_range : (n sites : ℕ) (vars : List VarInfo) (g : Lcg) (r : code.Row) → is_laid_out sites vars ≡ true → IsMade n vars g r → InRange sites vars (row_of sites vars r)
-made_in_range n sites vars g r laid m = rw (made_is n sites vars g r laid m) (words_in_range n sites vars (words (length (columns vars)) g) laid (words_length (length (columns vars)) g))
+pub made_in_range : (n sites : ℕ) (vars : List VarInfo) (g : Lcg) (r : code.Row) → is_laid_out sites vars ≡ true
+    → IsMade n vars g r → InRange sites vars (row_of sites vars r)
+made_in_range n sites vars g r laid m =
+    rw (made_is n sites vars g r laid m) (words_in_range n sites vars (words (length (columns vars)) g) laid
+    (words_length (length (columns vars)) g))
 
-pub zero_past : (n sites : ℕ) (vars : List VarInfo) (g : Lcg) (r : code.Row) → is_laid_out sites vars ≡ true → IsMade n vars g r → IsZeroPast sites (length vars) r
+pub zero_past : (n sites : ℕ) (vars : List VarInfo) (g : Lcg) (r : code.Row) → is_laid_out sites vars ≡ true
+    → IsMade n vars g r → IsZeroPast sites (length vars) r
 zero_past n sites vars g r laid m =
     let e : length (columns vars) - length vars ≡ sites = omega (arith, shape_columns sites vars laid) in
     rw e at m.zeros

@@ -1,5 +1,6 @@
 -- Puts one behind the other, and where one of them fails.
-use Rattle.std.proofs.Common.{◌≡◌, ℕ, ◌+◌, ◌≤◌, List, [], ◌++◌, length, take, refl, ◌∙◌, arith, Option, Some, None, Result, Ok, Err, OnErr, append_assoc, length-append}
+use Rattle.std.proofs.Common.{◌≡◌, ℕ, ◌+◌, ◌≤◌, List, [], ◌++◌, length, take, refl, ◌∙◌, arith, Option}
+use Rattle.std.proofs.Common.{Some, None, Result, Ok, Err, OnErr, append_assoc, length-append}
 use Rattle.std.proofs.lemmas.List.{append-nil, take-append-le}
 use Rattle.std.proofs.Math.Seq.{take-append-add}
 use Rattle.ln_base.specs.Outside.{Shown, appended}
@@ -8,7 +9,8 @@ use Rattle.ln_base.specs.declared.outside.Port.TheVariants.{Out, Err as ErrPort}
 use Rattle.ln_watch.specs.Panel.{FailsAfter}
 
 -- two puts are one of all their bytes
-pub appended_twice : (port : Port) (xs ys : List ℕ) (s : Option Shown) → appended port ys (appended port xs s) ≡ appended port (xs ++ ys) s
+pub appended_twice : (port : Port) (xs ys : List ℕ) (s : Option Shown)
+    → appended port ys (appended port xs s) ≡ appended port (xs ++ ys) s
 appended_twice Out xs ys None = refl
 appended_twice Out xs ys (Some s) = rw append_assoc refl
 appended_twice ErrPort xs ys None = refl
@@ -22,17 +24,26 @@ appended_nothing ErrPort None = refl
 appended_nothing ErrPort (Some s) = rw append-nil refl
 
 -- the first of two puts fails
-pub fails_first : (port : Port) (xs ys : List ℕ) (was now : Option Shown) → FailsAfter port xs was now → FailsAfter port (xs ++ ys) was now
+pub fails_first : (port : Port) (xs ys : List ℕ) (was now : Option Shown) → FailsAfter port xs was now
+    → FailsAfter port (xs ++ ys) was now
 fails_first port xs ys was now f =
     record { n = f.n; within = omega (arith, length-append xs ys, f.within); shown = rw (take-append-le f.n xs ys f.within) f.shown }
 
 -- the second of two puts fails
-pub fails_behind : (port : Port) (xs ys : List ℕ) (was between now : Option Shown) → between ≡ appended port xs was → FailsAfter port ys between now → FailsAfter port (xs ++ ys) was now
+pub fails_behind : (port : Port) (xs ys : List ℕ) (was between now : Option Shown) → between ≡ appended port xs was
+    → FailsAfter port ys between now → FailsAfter port (xs ++ ys) was now
 fails_behind port xs ys was between now e f =
-    record { n = length xs + f.n; within = omega (arith, length-append xs ys, f.within); shown = f.shown ∙ rw (e, appended_twice, ← take-append-add xs ys f.n) refl }
+    record {
+      n = length xs + f.n;
+      within = omega (arith, length-append xs ys, f.within);
+      shown = f.shown ∙ rw (e, appended_twice, ← take-append-add xs ys f.n) refl;
+    }
 
 -- what a put says of its failing, as a fact of what went out
-pub fails_second : {T E : Type 0} (r : Result T E) (port : Port) (xs ys : List ℕ) (was between now : Option Shown) → between ≡ appended port xs was
-    → OnErr r ((n : ℕ) × (n ≤ length ys) × (now ≡ appended port (take n ys) between)) → OnErr r (FailsAfter port (xs ++ ys) was now)
+pub fails_second : {T E : Type 0} (r : Result T E) (port : Port) (xs ys : List ℕ) (was between now : Option Shown)
+    → between ≡ appended port xs was
+    → OnErr r ((n : ℕ) × (n ≤ length ys) × (now ≡ appended port (take n ys) between))
+    → OnErr r (FailsAfter port (xs ++ ys) was now)
 fails_second (Ok x) port xs ys was between now e f = tt
-fails_second (Err x) port xs ys was between now e f = fails_behind port xs ys was between now e (record { n = f.0; within = f.1; shown = f.2 })
+fails_second (Err x) port xs ys was between now e f =
+    fails_behind port xs ys was between now e (record { n = f.0; within = f.1; shown = f.2 })

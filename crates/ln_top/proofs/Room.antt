@@ -11,25 +11,39 @@ use Rattle.ln_code.specs.Pushes.{Pushed, after, newest, pushes}
 
 -- the same machine with other room
 abbrev pub roomy : {B V L : Type 0} → Engine B V L → (ℕ → Bool) → Engine B V L
-roomy e r = record { push = e.push; input = e.input; again = e.again; two = e.two; minus = e.minus; cut = e.cut; got = e.got; put = e.put; room = r }
+roomy e r = record {
+  push = e.push;
+  input = e.input;
+  again = e.again;
+  two = e.two;
+  minus = e.minus;
+  cut = e.cut;
+  got = e.got;
+  put = e.put;
+  room = r;
+}
 
 module _ {B V L : Type 0} (e : Engine B V L) (r : ℕ → Bool) (more : (n : ℕ) → e.room n ≡ true → r n ≡ true) where
   pushed-more : (l : L) (rest : List V) (v : V) (t : State V L) → pushed e l rest v ≡ Some t → pushed (roomy e r) l rest v ≡ Some t
   pushed-more l rest v t h = go (e.room (suc (length rest))) refl h
     where
-      go : (b : Bool) → e.room (suc (length rest)) ≡ b → when b (record { stack = v ∷ rest; locals = l }) ≡ Some t → when (r (suc (length rest))) (record { stack = v ∷ rest; locals = l }) ≡ Some t
+      go : (b : Bool) → e.room (suc (length rest)) ≡ b → when b (record { stack = v ∷ rest; locals = l }) ≡ Some t
+          → when (r (suc (length rest))) (record { stack = v ∷ rest; locals = l }) ≡ Some t
       go true q k = let z = more (suc (length rest)) q in rw z k
       go false q k = cc
 
-  next-more : (o : Option V) (l : L) (rest : List V) (t : State V L) → next o (pushed e l rest) ≡ Some t → next o (pushed (roomy e r) l rest) ≡ Some t
+  next-more : (o : Option V) (l : L) (rest : List V) (t : State V L) → next o (pushed e l rest) ≡ Some t
+      → next o (pushed (roomy e r) l rest) ≡ Some t
   next-more None l rest t h = cc
   next-more (Some v) l rest t h = pushed-more l rest v t h
 
-  one-more : (f : V → Option V) (l : L) (s : List V) (t : State V L) → with_one e f l s ≡ Some t → with_one (roomy e r) f l s ≡ Some t
+  one-more : (f : V → Option V) (l : L) (s : List V) (t : State V L) → with_one e f l s ≡ Some t
+      → with_one (roomy e r) f l s ≡ Some t
   one-more f l [] t h = cc
   one-more f l (x ∷ rest) t h = next-more (f x) l rest t h
 
-  two-more : (f : V → V → Option V) (l : L) (s : List V) (t : State V L) → with_two e f l s ≡ Some t → with_two (roomy e r) f l s ≡ Some t
+  two-more : (f : V → V → Option V) (l : L) (s : List V) (t : State V L) → with_two e f l s ≡ Some t
+      → with_two (roomy e r) f l s ≡ Some t
   two-more f l [] t h = cc
   two-more f l (y ∷ []) t h = cc
   two-more f l (y ∷ (x ∷ rest)) t h = next-more (f x y) l rest t h
@@ -53,19 +67,26 @@ module _ {B V L : Type 0} (e : Engine B V L) (r : ℕ → Bool) (more : (n : ℕ
   run-more [] s t h = h
   run-more (x ∷ xs) s t h = go (step e x.op x.bound s.locals s.stack) refl h (λ u. run-more xs u t)
     where
-      go : (o : Option (State V L)) → step e x.op x.bound s.locals s.stack ≡ o → next o (λ u. run e xs u) ≡ Some t → ((u : State V L) → run e xs u ≡ Some t → run (roomy e r) xs u ≡ Some t) → next (step (roomy e r) x.op x.bound s.locals s.stack) (λ u. run (roomy e r) xs u) ≡ Some t
+      go : (o : Option (State V L)) → step e x.op x.bound s.locals s.stack ≡ o → next o (λ u. run e xs u) ≡ Some t
+          → ((u : State V L) → run e xs u ≡ Some t → run (roomy e r) xs u ≡ Some t)
+          → next (step (roomy e r) x.op x.bound s.locals s.stack) (λ u. run (roomy e r) xs u) ≡ Some t
       go None q k f = cc
       go (Some u) q k f = let z = step-more x.op x.bound s.locals s.stack u q in rw z (f u k)
 
   -- and pushes the same
-  pub pushes-more : (lines : List (Line B)) (s t : State V L) → run e lines s ≡ Some t → pushes (roomy e r) lines s ≡ pushes e lines s
+  pub pushes-more : (lines : List (Line B)) (s t : State V L) → run e lines s ≡ Some t
+      → pushes (roomy e r) lines s ≡ pushes e lines s
   pushes-more [] s t h = refl
   pushes-more (x ∷ xs) s t h = go (step e x.op x.bound s.locals s.stack) refl h (λ u. pushes-more xs u t)
     where
-      go : (o : Option (State V L)) → step e x.op x.bound s.locals s.stack ≡ o → next o (λ u. run e xs u) ≡ Some t → ((u : State V L) → run e xs u ≡ Some t → pushes (roomy e r) xs u ≡ pushes e xs u) →
-          after x.op (step (roomy e r) x.op x.bound s.locals s.stack) (λ u. pushes (roomy e r) xs u) ≡ after x.op (step e x.op x.bound s.locals s.stack) (λ u. pushes e xs u)
+      go : (o : Option (State V L)) → step e x.op x.bound s.locals s.stack ≡ o → next o (λ u. run e xs u) ≡ Some t
+          → ((u : State V L) → run e xs u ≡ Some t → pushes (roomy e r) xs u ≡ pushes e xs u) →
+          after x.op (step (roomy e r) x.op x.bound s.locals s.stack) (λ u. pushes (roomy e r) xs u) ≡ after x.op
+          (step e x.op x.bound s.locals s.stack) (λ u. pushes e xs u)
       go None q k f = cc
-      go (Some u) q k f = let z = step-more x.op x.bound s.locals s.stack u q in rw (z, q) (ap (λ (ps : List (Pushed V)). newest x.op (stores x.op) u.stack ++ ps) (f u k))
+      go (Some u) q k f =
+          let z = step-more x.op x.bound s.locals s.stack u q in rw (z, q)
+          (ap (λ (ps : List (Pushed V)). newest x.op (stores x.op) u.stack ++ ps) (f u k))
 
 -- a stack of n places fits where one of m does
 pub room-more : (m n k : ℕ) → m ≤ n → nat_le k m ≡ true → nat_le k n ≡ true
@@ -82,9 +103,11 @@ only-one [] v h = cc
 only-one (x ∷ []) v h = cc
 only-one (x ∷ (y ∷ rest)) v h = cc
 
-pub leaves : {B V L : Type 0} (e : Engine B V L) (lines : List (Line B)) (l : L) (v : V) → next (run e lines (record { stack = []; locals = l })) (λ s. only s.stack) ≡ Some v → Leaves e lines l v
+pub leaves : {B V L : Type 0} (e : Engine B V L) (lines : List (Line B)) (l : L) (v : V)
+    → next (run e lines (record { stack = []; locals = l })) (λ s. only s.stack) ≡ Some v → Leaves e lines l v
 leaves {V = V} {L = L} e lines l v h = go (run e lines (record { stack = []; locals = l })) refl h
   where
-    go : (o : Option (State V L)) → run e lines (record { stack = []; locals = l }) ≡ o → next o (λ s. only s.stack) ≡ Some v → Leaves e lines l v
+    go : (o : Option (State V L)) → run e lines (record { stack = []; locals = l }) ≡ o
+        → next o (λ s. only s.stack) ≡ Some v → Leaves e lines l v
     go None q k = cc
     go (Some t) q k = record { end = t; runs = q; one = only-one t.stack v k }

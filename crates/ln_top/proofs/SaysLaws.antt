@@ -2,36 +2,30 @@
 use Rattle.std.proofs.Common.{true≢false, ◌≡◌, ℕ, Bool, List, Result, Ok, Err, refl, ap, sym, ◌∙◌, subst}
 use Rattle.std.specs.Prelude.{IsOk}
 use Rattle.ln_tree.specs.declared.shape.VarInfo.{VarInfo}
-use Rattle.ln_tree.specs.Row.{InRange, Row}
+use Rattle.ln_tree.specs.Row.{InRange}
 use Rattle.ln_tree.specs.Table.{PredOf}
 use Rattle.ln_code.specs.declared.row.Row as code
 use Rattle.ln_code.specs.declared.verdict.Verdict.{Verdict}
-use Rattle.ln_code.specs.Kept.{IsProgram}
-use Rattle.ln_code.specs.Part.{Part}
 use Rattle.ln_code.specs.RowOf.{row_of}
-use Rattle.ln_code.specs.Verdict.{IsVerdict}
 use Rattle.ln_rows.specs.Record.{read_row, IsReadAs}
 use Rattle.ln_rows.specs.declared.record.RowStop.{RowStop}
-use Rattle.ln_compile.specs.Compiled.{IsProgramOf}
-use Rattle.ln_compile.proofs.FilteredLemmas.{programs_answer}
 use Rattle.ln_top.specs.Line.{Says, due, refused_, is_row, is_read, is_said, is_bare}
 
--- the verdict of the predicate's program is said of the record
-pub program_says : (p : PredOf) (part : Part) (fields : List (List ℕ)) (r : code.Row) (v : Verdict) → IsProgram part → IsProgramOf p part → read_row p.sites p.vars fields ≡ Ok (row_of p.sites p.vars r)
-    → InRange p.sites p.vars (row_of p.sites p.vars r) → IsVerdict part (row_of part.shape.sites part.shape.vars r) v → Says p fields (Ok v)
-program_says p part fields r v k o read range verdict =
-    let same : row_of part.shape.sites part.shape.vars r ≡ row_of p.sites p.vars r = rw (o.sites, o.vars) refl in
-    due (row_of p.sites p.vars r) v read (programs_answer p part (row_of p.sites p.vars r) v k o range (subst (λ (row : Row). IsVerdict part row v) same verdict))
-
 -- a record that was read is a row in range, or has this first fault
-pub read_as : {T : Type 0} (sites : ℕ) (vars : List VarInfo) (fields : List (List ℕ)) (read : Result T RowStop) (u : T) (r : code.Row) → read ≡ Ok u → IsReadAs sites vars fields read r → (read_row sites vars fields ≡ Ok (row_of sites vars r)) × InRange sites vars (row_of sites vars r)
-read_as {T = T} sites vars fields read u r e h = let k = subst (λ (o : Result T RowStop). IsReadAs sites vars fields o r) e h in (k.ok, k.in_range)
+pub read_as : {T : Type 0} (sites : ℕ) (vars : List VarInfo) (fields : List (List ℕ)) (read : Result T RowStop) (u : T)
+    (r : code.Row) → read ≡ Ok u → IsReadAs sites vars fields read r
+    → (read_row sites vars fields ≡ Ok (row_of sites vars r)) × InRange sites vars (row_of sites vars r)
+read_as {T = T} sites vars fields read u r e h =
+    let k = subst (λ (o : Result T RowStop). IsReadAs sites vars fields o r) e h in (k.ok, k.in_range)
 
-pub read_not : {T : Type 0} (sites : ℕ) (vars : List VarInfo) (fields : List (List ℕ)) (read : Result T RowStop) (stop : RowStop) (r : code.Row) → read ≡ Err stop → IsReadAs sites vars fields read r → read_row sites vars fields ≡ Err stop
+pub read_not : {T : Type 0} (sites : ℕ) (vars : List VarInfo) (fields : List (List ℕ)) (read : Result T RowStop)
+    (stop : RowStop) (r : code.Row) → read ≡ Err stop → IsReadAs sites vars fields read r
+    → read_row sites vars fields ≡ Err stop
 read_not {T = T} sites vars fields read stop r e h = let k = subst (λ (o : Result T RowStop). IsReadAs sites vars fields o r) e h in k.err
 
 -- a verdict is said of a row
-pub said_row : (p : PredOf) (fields : List (List ℕ)) (said : Result Verdict RowStop) (right : Bool) → Says p fields said → right ≡ is_said said → right ≡ is_row p fields
+pub said_row : (p : PredOf) (fields : List (List ℕ)) (said : Result Verdict RowStop) (right : Bool) → Says p fields said
+    → right ≡ is_said said → right ≡ is_row p fields
 said_row p fields said right s e = e ∙ by_cases s
   where
     by_cases : {said : Result Verdict RowStop} → Says p fields said → is_said said ≡ is_row p fields
@@ -44,7 +38,8 @@ not_refused (Ok x) h n = absurd (n x refl)
 not_refused (Err e) h n = absurd (true≢false (sym h))
 
 -- what is said of a record names a column where the record's fault does
-pub bare_same : (p : PredOf) (fields : List (List ℕ)) (said : Result Verdict RowStop) → Says p fields said → is_bare said ≡ is_bare (read_row p.sites p.vars fields)
+pub bare_same : (p : PredOf) (fields : List (List ℕ)) (said : Result Verdict RowStop) → Says p fields said
+    → is_bare said ≡ is_bare (read_row p.sites p.vars fields)
 bare_same p fields said (due row v read d) = sym (ap is_bare read)
 bare_same p fields said (refused_ stop read) = sym (ap is_bare read)
 

@@ -26,17 +26,26 @@ use Rattle.ln_top.proofs.TopLaws.{work_of_words}
 -- a listing that is valid gives the signs
 told_signs : (g : Given) → IsGrounded g → HasValid g → TellsSigns g
 told_signs g i h =
-    let over : (t : Table) → view t ≡ g.table → IsValidFor (map pred_of t.preds) h.listing = λ t q. subst (λ (ps : List PredOf). IsValidFor ps h.listing) (sym (ap (λ (x : TableOf). x.preds) q)) h.valid in
+    let over : (t : Table) → view t ≡ g.table → IsValidFor
+    (map pred_of t.preds) h.listing = λ t q. subst (λ (ps : List PredOf). IsValidFor ps h.listing)
+    (sym (ap (λ (x : TableOf). x.preds) q)) h.valid in
     record {
       listing = h.listing;
       listed = h.listed;
       valid = over;
-      signs = λ t q k p row e r. signs-told t.preds h.listing (accepted_all (map pred_of t.preds) (subst AreSound (sym (ap (λ (x : TableOf). x.preds) q)) i.sound)) (over t q) k p row e r;
+      signs =
+          λ t q k p row e r. signs-told t.preds h.listing
+          (accepted_all (map pred_of t.preds) (subst AreSound (sym (ap (λ (x : TableOf). x.preds) q)) i.sound))
+          (over t q) k p row e r;
     }
 
 -- done is settled
 settled_done : (result : Status) → result ≡ Done → IsSettled result
-settled_done result h = record { read = λ e. no_read (sym h ∙ e); write = λ e. no_write (sym h ∙ e); memory = λ e. no_memory (sym h ∙ e) }
+settled_done result h = record {
+  read = λ e. no_read (sym h ∙ e);
+  write = λ e. no_write (sym h ∙ e);
+  memory = λ e. no_memory (sym h ∙ e);
+}
   where
     no_read : Done ≡ status.Read → ⊥
     no_read e = cc
@@ -53,7 +62,9 @@ valid_there g a (valid h) e = h
 valid_there g a (invalid n h) e = cc
 
 -- so `valid` means the signs
-pub trusted : (words : List (List ℕ)) (told : Option Shelf) (boxes : List State) (result : Status) (was now : Option Shown) → (IsSettled result → Answered (Answer words told boxes) result was now) → IfSome told (λ shelf. ValidTellsSigns words shelf result)
+pub trusted : (words : List (List ℕ)) (told : Option Shelf) (boxes : List State) (result : Status) (was now : Option Shown)
+    → (IsSettled result → Answered (Answer words told boxes) result was now)
+    → IfSome told (λ shelf. ValidTellsSigns words shelf result)
 trusted words None boxes result was now h = tt
 trusted words (Some shelf) boxes result was now h = λ plan g f r x e.
     let a : Answered (Answer words (Some shelf) boxes) result was now = h (settled_done result e) in

@@ -1,5 +1,6 @@
 -- The plan of words, whatever the commands are.
-use Rattle.std.proofs.Common.{◌≡◌, ℕ, ◌+◌, ◌-◌, ◌^◌, ◌<◌, ◌≤◌, min, nat_le, true, List, length, map, take, drop, refl, ap, sym, ◌∙◌, arith, Some, length-drop}
+use Rattle.std.proofs.Common.{◌≡◌, ℕ, ◌+◌, ◌-◌, ◌^◌, ◌<◌, ◌≤◌, min, nat_le, true, List, length, map}
+use Rattle.std.proofs.Common.{take, drop, refl, ap, sym, ◌∙◌, arith, Some, length-drop}
 use Rattle.std.proofs.Math.Seq.{take-length}
 use Rattle.std.proofs.lemmas.Bool.{le-leb}
 use Rattle.std.proofs.lemmas.List.{length-map, take-map, drop-map}
@@ -12,7 +13,8 @@ use Rattle.ln_base.proofs.DecimalLemmas.{value_within}
 rest_whole : {A : Type 0} (xs : List A) (k : ℕ) → take (length xs - k) (drop k xs) ≡ drop k xs
 rest_whole xs k = ap (λ n. take n (drop k xs)) (sym (length-drop k xs)) ∙ take-length (drop k xs)
 
-pub plan_there : {A : Type 0} (f : A → List ℕ) (xs : List A) (c : Command) (source : List ℕ) (least most files : ℕ) → least ≡ (form c).least → most ≡ (form c).most → files ≡ (form c).files
+pub plan_there : {A : Type 0} (f : A → List ℕ) (xs : List A) (c : Command) (source : List ℕ) (least most files : ℕ)
+    → least ≡ (form c).least → most ≡ (form c).most → files ≡ (form c).files
     → nat_le (least + files) (length xs) ≡ true → nat_le (length xs) (most + files) ≡ true
     → (let p : Plan = record {
       source = source;
@@ -26,11 +28,14 @@ plan_there f xs c source least most files a b e g h =
     rw (rest_whole xs (length xs - files), length-map, take-map, drop-map, g2, h2, e) refl
 
 -- the number of a word of 1 to 18 digits
-number_is : (ds : List ℕ) (n : ℕ) → is_digits ds ≡ true → length ds ≤ 18 → n ≡ min (decimal_value ds) (2 ^ 128 - 1) → (n ≡ decimal_value ds) × (n < 2 ^ 64)
+number_is : (ds : List ℕ) (n : ℕ) → is_digits ds ≡ true → length ds ≤ 18 → n ≡ min (decimal_value ds) (2 ^ 128 - 1)
+    → (n ≡ decimal_value ds) × (n < 2 ^ 64)
 number_is ds n h l e = let below = value_within ds 18 h l in (omega (arith, below, e), omega (arith, below, e))
 
-pub number_fits : (ds : List ℕ) (n : ℕ) → is_digits ds ≡ true → length ds ≤ 18 → n ≡ min (decimal_value ds) (2 ^ 128 - 1) → n < 2 ^ 64
+pub number_fits : (ds : List ℕ) (n : ℕ) → is_digits ds ≡ true → length ds ≤ 18
+    → n ≡ min (decimal_value ds) (2 ^ 128 - 1) → n < 2 ^ 64
 number_fits ds n h l e = (number_is ds n h l e).1
 
-pub number_there : (ds : List ℕ) (n : ℕ) → is_digits ds ≡ true → length ds ≤ 18 → n ≡ min (decimal_value ds) (2 ^ 128 - 1) → Some n ≡ number_of ds
+pub number_there : (ds : List ℕ) (n : ℕ) → is_digits ds ≡ true → length ds ≤ 18
+    → n ≡ min (decimal_value ds) (2 ^ 128 - 1) → Some n ≡ number_of ds
 number_there ds n h l e = rw (h, le-leb (length ds) 18 l) (ap Some (number_is ds n h l e).0)

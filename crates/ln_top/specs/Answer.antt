@@ -13,7 +13,8 @@ use Rattle.ln_top.specs.Work.{WorkOwes, WorkPart}
 -- what a plan is owed: the line of the step that stops, or what its work owes
 pub data PlanOwes (plan : Plan) (told : Option Shelf) (boxes : List State) : Said → Type 0 where
   stopped : (why : Why) → Prepares plan told (stops why) → PlanOwes plan told boxes (said_of why)
-  worked : (g : Given) {said : Said} → Prepares plan told (gives g) → WorkOwes plan.command boxes g said → PlanOwes plan told boxes said
+  worked : (g : Given) {said : Said} → Prepares plan told (gives g) → WorkOwes plan.command boxes g said
+      → PlanOwes plan told boxes said
 
 -- a part of it that may be left for want of memory
 pub record PlanPart (plan : Plan) (told : Option Shelf) (boxes : List State) (out err : List ℕ) : Type 0 where

@@ -14,22 +14,30 @@ use Rattle.ln_top.specs.Steps.{Outcome, stops, missing}
 abbrev pub read_line : List ℕ
 read_line = line (codes "error read")
 
--- a fault of writing leaves on each port the first bytes of what is owed; or, where a file wasn't read, on Err those of the line that says so, and on Out nothing
+-- a fault of writing leaves on each port the first bytes of what is owed; or, where a file wasn't read, on Err those of the line that
+-- says so, and on Out nothing
 pub data LeavesFronts (owes : Said → Type 0) (unread : Type 0) (was now : Option Shown) : Type 0 where
-  of_owed : (said : Said) (out err : List ℕ) → owes said → IsFront said.out out → IsFront said.err err → now ≡ put_both out err was → LeavesFronts owes unread was now
+  of_owed : (said : Said) (out err : List ℕ) → owes said → IsFront said.out out → IsFront said.err err
+      → now ≡ put_both out err was → LeavesFronts owes unread was now
   of_read : (err : List ℕ) → unread → IsFront read_line err → now ≡ put_both [] err was → LeavesFronts owes unread was now
 
 -- want of memory leaves nothing; or a part that may be left, which is the first bytes of what is owed
 pub data LeavesPart (owes : Said → Type 0) (part : List ℕ → List ℕ → Type 0) (was now : Option Shown) : Type 0 where
   nothing : now ≡ was → LeavesPart owes part was now
-  of_part : (said : Said) (out err : List ℕ) → part out err → owes said → IsFront said.out out → IsFront said.err err → now ≡ put_both out err was → LeavesPart owes part was now
+  of_part : (said : Said) (out err : List ℕ) → part out err → owes said → IsFront said.out out → IsFront said.err err
+      → now ≡ put_both out err was → LeavesPart owes part was now
 
 -- what this may say was said; or a file is missing or its count of faults rose; or the console's count rose; or memory ran out
-pub data CarriesOut (owes : Said → Type 0) (part : List ℕ → List ℕ → Type 0) (lacks reads : Type 0) (puts : Count) (result : Result End Early) (was now : Option Shown) : Type 0 where
-  ended : (said : Said) → IsCalm puts → owes said → result ≡ Ok said.end → now ≡ put_both said.out said.err was → CarriesOut owes part lacks reads puts result was now
-  unread : IsCalm puts → reads ⊎ lacks → result ≡ Err Read → now ≡ put_both [] read_line was → CarriesOut owes part lacks reads puts result was now
-  cut : Rises puts → LeavesFronts owes (reads ⊎ lacks) was now → result ≡ Err Write → CarriesOut owes part lacks reads puts result was now
-  short : IsCalm puts → LeavesPart owes part was now → result ≡ Err Memory → CarriesOut owes part lacks reads puts result was now
+pub data CarriesOut (owes : Said → Type 0) (part : List ℕ → List ℕ → Type 0) (lacks reads : Type 0)
+    (puts : Count) (result : Result End Early) (was now : Option Shown) : Type 0 where
+  ended : (said : Said) → IsCalm puts → owes said → result ≡ Ok said.end → now ≡ put_both said.out said.err was
+      → CarriesOut owes part lacks reads puts result was now
+  unread : IsCalm puts → reads ⊎ lacks → result ≡ Err Read → now ≡ put_both [] read_line was
+      → CarriesOut owes part lacks reads puts result was now
+  cut : Rises puts → LeavesFronts owes (reads ⊎ lacks) was now → result ≡ Err Write
+      → CarriesOut owes part lacks reads puts result was now
+  short : IsCalm puts → LeavesPart owes part was now → result ≡ Err Memory
+      → CarriesOut owes part lacks reads puts result was now
 
 -- no part is left for want of memory
 abbrev pub NoPart : List ℕ → List ℕ → Type 0
@@ -54,10 +62,12 @@ stop_result stop.Memory = Err Memory
 
 pub data Says (s : Stop) (puts : Count) (result : Result End Early) (was now : Option Shown) : Type 0 where
   all : IsCalm puts → result ≡ stop_result s → now ≡ put_both [] (stop_line s) was → Says s puts result was now
-  cut : (front : List ℕ) → Rises puts → s ≢ stop.Memory → IsFront (stop_line s) front → now ≡ put_both [] front was → result ≡ Err Write → Says s puts result was now
+  cut : (front : List ℕ) → Rises puts → s ≢ stop.Memory → IsFront (stop_line s) front → now ≡ put_both [] front was
+      → result ≡ Err Write → Says s puts result was now
   short : IsCalm puts → s ≢ stop.Read → result ≡ Err Memory → now ≡ was → Says s puts result was now
 
 -- a whole text was put on Out, or cut off
 pub data PutsText (text : List ℕ) (end : End) (puts : Count) (result : Result End Early) (was now : Option Shown) : Type 0 where
   all : IsCalm puts → result ≡ Ok end → now ≡ put_both text [] was → PutsText text end puts result was now
-  cut : (front : List ℕ) → Rises puts → IsFront text front → now ≡ put_both front [] was → result ≡ Err Write → PutsText text end puts result was now
+  cut : (front : List ℕ) → Rises puts → IsFront text front → now ≡ put_both front [] was → result ≡ Err Write
+      → PutsText text end puts result was now

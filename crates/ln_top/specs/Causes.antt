@@ -1,18 +1,19 @@
 -- When each status comes.
-use Rattle.std.specs.Prelude.{◌≡◌, ◌≢◌, ◌⊎◌, ℕ, List, [], Option, Some, None}
+use Rattle.std.specs.Prelude.{◌≡◌, ◌≢◌, ◌⊎◌, ℕ, List, [], Option, Some, None, IfSome}
 use Rattle.ln_base.specs.Outside.{Shelf, Shown}
 use Rattle.ln_tree.specs.Table.{PredOf, TableOf}
+use Rattle.ln_compile.specs.declared.refusal.Refusal.{Refusal}
 use Rattle.ln_top.specs.declared.status.End.{End}
 use Rattle.ln_top.specs.declared.status.End.TheVariants as end
 use Rattle.ln_top.specs.declared.status.Status.{Status}
 use Rattle.ln_top.specs.declared.status.Status.TheVariants as status
-use Rattle.ln_top.specs.declared.stop.Refusal.{Refusal}
+use Rattle.ln_top.specs.declared.stop.Place.{Place}
 use Rattle.ln_top.specs.declared.stop.Why.{Why}
 use Rattle.ln_top.specs.declared.stop.Why.TheVariants.{TooLong, NoPredicate}
 use Rattle.ln_top.specs.Said.{Said, line, put_both, end_status}
 use Rattle.ln_top.specs.Stop.{why_end, why_text}
 use Rattle.ln_top.specs.Plan.{Plan, plan_of}
-use Rattle.ln_top.specs.Source.{IsRefusedFor}
+use Rattle.ln_top.specs.Source.{IsRefusedAt}
 use Rattle.ln_top.specs.Steps.{stops, gives, Given, Prepares, Reads, Compiles, Finds, Each, MayPass, most_source, most_file}
 use Rattle.ln_top.specs.Work.{WorkEnds}
 
@@ -41,15 +42,23 @@ pub data Ends (words : List (List ℕ)) (told : Option Shelf) (e : End) : Type 0
   -- the words are no command
   usage : plan_of words ≡ None → e ≡ end.Usage → Ends words told e
   -- the source file is over its limit
-  long_source : (plan : Plan) → plan_of words ≡ Some plan → MayPass told most_source plan.source → e ≡ end.TooLong → Ends words told e
+  long_source : (plan : Plan) → plan_of words ≡ Some plan → MayPass told most_source plan.source
+      → e ≡ end.TooLong → Ends words told e
   -- the source is refused
-  refused : (plan : Plan) (bytes : List ℕ) (r : Refusal) → plan_of words ≡ Some plan → Reads told most_source plan.source (gives bytes) → IsRefusedFor bytes r → e ≡ end.Refused → Ends words told e
+  refused : (plan : Plan) (bytes : List ℕ) (r : Refusal) (place : Place) → plan_of words ≡ Some plan
+      → Reads told most_source plan.source (gives bytes) → IsRefusedAt bytes r place
+      → e ≡ end.Refused → Ends words told e
   -- it has no predicate of a name
-  no_predicate : (plan : Plan) (table : TableOf) → HasTable words told plan table → Each (Finds table.preds) plan.names (stops NoPredicate) → e ≡ end.NoPredicate → Ends words told e
+  no_predicate : (plan : Plan) (table : TableOf) → HasTable words told plan table
+      → Each (Finds table.preds) plan.names (stops NoPredicate)
+      → e ≡ end.NoPredicate → Ends words told e
   -- a further file is over its limit
-  long_file : (plan : Plan) (table : TableOf) (preds : List PredOf) → HasTable words told plan table → Each (Finds table.preds) plan.names (gives preds) → Each (Reads told most_file) plan.files (stops TooLong) → e ≡ end.TooLong → Ends words told e
+  long_file : (plan : Plan) (table : TableOf) (preds : List PredOf) → HasTable words told plan table
+      → Each (Finds table.preds) plan.names (gives preds) → Each (Reads told most_file) plan.files (stops TooLong)
+      → e ≡ end.TooLong → Ends words told e
   -- the work ends so, by the command's own file
-  worked : (plan : Plan) (g : Given) → plan_of words ≡ Some plan → Prepares plan told (gives g) → WorkEnds plan.command g e → Ends words told e
+  worked : (plan : Plan) (g : Given) → plan_of words ≡ Some plan → Prepares plan told (gives g)
+      → WorkEnds plan.command g e → Ends words told e
 
 -- memory ran out, or a count of faults of reading or of writing rose
 abbrev pub Yields : Status → Type 0 → Type 0 → Type 0
@@ -63,6 +72,11 @@ pub record ExactlyWhere (s : Status) (cause : Type 0) (result : Status) (reads p
 -- each status that says what was owed comes exactly where the steps end so
 abbrev pub EndsExactly : List (List ℕ) → Shelf → Status → Type 0 → Type 0 → Type 0
 EndsExactly words shelf result reads puts = (e : End) → ExactlyWhere (end_status e) (Ends words (Some shelf) e) result reads puts
+
+-- over files that tell their bytes, the status of one end does
+abbrev pub EndsAt : End → List (List ℕ) → Option Shelf → Status → Type 0 → Type 0 → Type 0
+EndsAt e words told result reads puts =
+    IfSome told (λ shelf. ExactlyWhere (end_status e) (Ends words (Some shelf) e) result reads puts)
 
 -- an end that no work has came with the line of its stop alone
 pub record SaysLine (e : End) (was now : Option Shown) : Type 0 where

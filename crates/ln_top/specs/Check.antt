@@ -14,7 +14,8 @@ count_text p n = p.name ++ codes " sites " ++ decimal p.sites ++ codes " stages 
 -- a line for each predicate, in order, with its stage count
 pub data AreCounts : List PredOf → List ℕ → Type 0 where
   none : AreCounts [] []
-  more : (p : PredOf) (ps : List PredOf) (n : ℕ) (texts : List ℕ) → IsStageCount p n → AreCounts ps texts → AreCounts (p ∷ ps) (line (count_text p n) ++ texts)
+  more : (p : PredOf) (ps : List PredOf) (n : ℕ) (texts : List ℕ) → IsStageCount p n → AreCounts ps texts
+      → AreCounts (p ∷ ps) (line (count_text p n) ++ texts)
 
 -- what is owed: the lines of the predicates of the source
 pub data CheckSaid (g : Given) : Said → Type 0 where

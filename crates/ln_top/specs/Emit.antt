@@ -15,7 +15,8 @@ use Rattle.ln_top.specs.declared.status.End.TheVariants.{Done}
 use Rattle.ln_top.specs.Said.{Said, whole}
 use Rattle.ln_top.specs.Steps.{Given}
 
--- on this row the call of `ln_NAME` gives the sign of the verdict that the row is owed, with its calls, and with no wide operation where the filter decides
+-- on this row the call of `ln_NAME` gives the sign of the verdict that the row is owed, with its calls, and with no wide operation where
+-- the filter decides
 pub record CallIsDue (file : List Fun) (p : PredOf) (row : Row) : Type 0 where
   pub verdict : Verdict
   pub due : IsDue p row verdict

@@ -1,36 +1,32 @@
 -- The calls of the C that `emit` puts mean the perturbed signs.
-use Rattle.std.specs.Prelude.{◌≡◌, ◌≢◌, ℕ, List, [], ◌∷◌, length, All, Option, Some, None}
+use Rattle.std.specs.Prelude.{◌≡◌, ℕ, List, [], ◌∷◌, Option, Some}
 use Rattle.ln_base.specs.Outside.{Shelf, Shown}
 use Rattle.ln_base.specs.declared.sign.Sign.{Sign}
-use Rattle.ln_base.specs.declared.sign.Sign.TheVariants.{Zero}
-use Rattle.ln_algebra.specs.Sign.{IsPerturbedSign}
 use Rattle.ln_tree.specs.Row.{InRange, Row}
 use Rattle.ln_tree.specs.Table.{PredOf}
-use Rattle.ln_bound.specs.Value.{values}
-use Rattle.ln_order.specs.Sites.{row_sites}
 use Rattle.ln_due.specs.Due.{sign_number}
-use Rattle.ln_compile.specs.Accepted.{root_of}
 use Rattle.ln_csyn.specs.Tree.{Fun}
 use Rattle.ln_csyn.specs.Text.{CText}
 use Rattle.ln_csyn.specs.Meaning.{CCall, Counts, Signed}
 use Rattle.ln_cemit.specs.Names.{call_name}
 use Rattle.ln_top.specs.declared.words.Command.TheVariants.{Emit}
 use Rattle.ln_top.specs.Said.{put_both}
-use Rattle.ln_top.specs.Plan.{Plan, plan_of}
-use Rattle.ln_top.specs.Steps.{gives, Given, Prepares}
+use Rattle.ln_top.specs.Perturbed.{IsSignOn, NotZeroWithoutParams}
+use Rattle.ln_top.specs.Steps.{WhereGiven}
 
--- on this row the call of `ln_NAME` has a meaning: the perturbed sign of the predicate, which is the sign of the first coefficient that isn't 0, by the row's own indices. Without params it isn't 0
+-- on this row the call of `ln_NAME` has a meaning: the perturbed sign of the predicate. Without params it isn't 0
 pub record CallsPerturbedSign (file : List Fun) (p : PredOf) (row : Row) : Type 0 where
   pub sign : Sign
   pub counts : Counts
   pub called : CCall file (call_name p.name) row.index row.values ≡ Some (Signed (sign_number sign) counts)
-  pub perturbed : IsPerturbedSign (length p.vars) (row_sites p.vars row.index) (values row.values) (root_of p) (sign_number sign)
-  pub never_zero : All (λ i. i.site ≢ None) p.vars → sign ≢ Zero
+  pub perturbed : IsSignOn p row sign
+  pub never_zero : NotZeroWithoutParams p sign
 
 -- so for each predicate, on each row in its declared ranges
 abbrev pub CallPerturbedSigns : List Fun → List PredOf → Type 0
 CallPerturbedSigns file [] = Unit {0}
-CallPerturbedSigns file (p ∷ ps) = ((row : Row) → InRange p.sites p.vars row → CallsPerturbedSign file p row) × CallPerturbedSigns file ps
+CallPerturbedSigns file (p ∷ ps) =
+    ((row : Row) → InRange p.sites p.vars row → CallsPerturbedSign file p row) × CallPerturbedSigns file ps
 
 -- what came to Out is the text of such a C file, and nothing came to Err
 pub record PutC (preds : List PredOf) (was now : Option Shown) : Type 0 where
@@ -42,4 +38,4 @@ pub record PutC (preds : List PredOf) (was now : Option Shown) : Type 0 where
 
 -- where the words are `emit FILE`, and over the told files the source is accepted, C for its predicates came to Out
 abbrev pub CallsArePerturbed : List (List ℕ) → Shelf → Option Shown → Option Shown → Type 0
-CallsArePerturbed words shelf was now = (plan : Plan) (g : Given) → plan_of words ≡ Some plan → plan.command ≡ Emit → Prepares plan (Some shelf) (gives g) → PutC g.table.preds was now
+CallsArePerturbed words shelf was now = WhereGiven words shelf Emit (λ g. PutC g.table.preds was now)

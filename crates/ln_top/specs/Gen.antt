@@ -48,7 +48,9 @@ pub record GenStep (p : PredOf) (before : List State) (d : Draw) (out err : List
 
 -- what is owed: the lines of the watchers over the rows from 1 to the count, and at the end those of the boxes that are left
 pub data GenSaid (seed count : ℕ) (boxes : List State) (g : Given) : Said → Type 0 where
-  made : (p : PredOf) (out : List ℕ) (z : List State) → g.preds ≡ p ∷ [] → Lines (GenStep p) boxes (draws count 0 p.vars (seeded seed)) out [] z → GenSaid seed count boxes g (whole Done (out ++ last_lines z))
+  made : (p : PredOf) (out : List ℕ) (z : List State) → g.preds ≡ p ∷ []
+      → Lines (GenStep p) boxes (draws count 0 p.vars (seeded seed)) out [] z
+      → GenSaid seed count boxes g (whole Done (out ++ last_lines z))
 
 -- how it ends, and where
 pub data GenEnds (g : Given) : End → Type 0 where

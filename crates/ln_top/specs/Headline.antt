@@ -1,31 +1,26 @@
 -- The signs that `run` prints are the perturbed signs.
-use Rattle.std.specs.Prelude.{◌≡◌, ◌≢◌, ℕ, List, [], ◌∷◌, ◌++◌, length, All, Option, Some, None, Ok}
+use Rattle.std.specs.Prelude.{◌≡◌, ◌≢◌, ℕ, List, [], ◌∷◌, ◌++◌, Option, Ok}
 use Rattle.ln_base.specs.Outside.{Shelf, Shown}
 use Rattle.ln_base.specs.declared.sign.Sign.{Sign}
-use Rattle.ln_base.specs.declared.sign.Sign.TheVariants.{Zero}
-use Rattle.ln_algebra.specs.Sign.{IsPerturbedSign}
 use Rattle.ln_tree.specs.Row.{InRange, Row}
 use Rattle.ln_tree.specs.Table.{PredOf}
-use Rattle.ln_bound.specs.Value.{values}
-use Rattle.ln_order.specs.Sites.{row_sites}
 use Rattle.ln_rows.specs.Left.{Records}
 use Rattle.ln_watch.specs.Panel.{State}
 use Rattle.ln_rows.specs.Record.{read_row}
-use Rattle.ln_compile.specs.Accepted.{root_of}
-use Rattle.ln_due.specs.Due.{sign_number}
 use Rattle.ln_top.specs.declared.words.Command.TheVariants.{Run}
 use Rattle.ln_top.specs.Said.{line, put_both}
-use Rattle.ln_top.specs.Plan.{Plan, plan_of}
-use Rattle.ln_top.specs.Steps.{gives, Given, Prepares}
+use Rattle.ln_top.specs.Perturbed.{IsSignOn, NotZeroWithoutParams}
+use Rattle.ln_top.specs.Steps.{WhereGiven}
 use Rattle.ln_top.specs.Line.{sign_text}
 use Rattle.ln_top.specs.Run.{HasRecords}
 
--- the line begins with the perturbed sign of the predicate on the row, which is in range: the sign of the first coefficient that isn't 0, by the row's own indices. A predicate without params has no row with the sign 0
+-- the line begins with the perturbed sign of the predicate on the row, which is in range. A predicate without params has no row with the
+-- sign 0
 pub record HasPerturbedSign (p : PredOf) (row : Row) (text : List ℕ) : Type 0 where
   pub range : InRange p.sites p.vars row
   pub sign : Sign
-  pub perturbed : IsPerturbedSign (length p.vars) (row_sites p.vars row.index) (values row.values) (root_of p) (sign_number sign)
-  pub never_zero : All (λ i. i.site ≢ None) p.vars → sign ≢ Zero
+  pub perturbed : IsSignOn p row sign
+  pub never_zero : NotZeroWithoutParams p sign
   pub behind : List ℕ
   pub text_is : text ≡ line (sign_text sign ++ 32 ∷ behind)
 
@@ -43,7 +38,9 @@ pub record IsOneLine (text : List ℕ) : Type 0 where
 -- one line behind the other, exactly one for each record: that of a row has its perturbed sign
 pub data HavePerturbedSigns (p : PredOf) : Records → List ℕ → Type 0 where
   none : HavePerturbedSigns p [] []
-  more : {fields : List (List ℕ)} {rest : Records} (text texts : List ℕ) → IsOneLine text → ((row : Row) → read_row p.sites p.vars fields ≡ Ok row → HasPerturbedSign p row text) → HavePerturbedSigns p rest texts → HavePerturbedSigns p (fields ∷ rest) (text ++ texts)
+  more : {fields : List (List ℕ)} {rest : Records} (text texts : List ℕ) → IsOneLine text
+      → ((row : Row) → read_row p.sites p.vars fields ≡ Ok row → HasPerturbedSign p row text)
+      → HavePerturbedSigns p rest texts → HavePerturbedSigns p (fields ∷ rest) (text ++ texts)
 
 -- what came to Out is such lines; on Err are the lines of watchers alone, and so nothing where none is handed in
 pub record PutSigns (p : PredOf) (records : Records) (boxes : List State) (was now : Option Shown) : Type 0 where
@@ -53,6 +50,8 @@ pub record PutSigns (p : PredOf) (records : Records) (boxes : List State) (was n
   pub none : boxes ≡ [] → err ≡ []
   pub shown : now ≡ put_both lines err was
 
--- where the words are `run FILE NAME ROWS`, and over the told files have a predicate and records behind the right header, their lines came to Out
+-- where the words are `run FILE NAME ROWS`, and over the told files have a predicate and records behind the right header, their lines
+-- came to Out
 abbrev pub SignsArePerturbed : List (List ℕ) → Shelf → List State → Option Shown → Option Shown → Type 0
-SignsArePerturbed words shelf boxes was now = (plan : Plan) (g : Given) (p : PredOf) (names : List (List ℕ)) (records : Records) → plan_of words ≡ Some plan → plan.command ≡ Run → Prepares plan (Some shelf) (gives g) → HasRecords g p names (names ∷ records) → PutSigns p records boxes was now
+SignsArePerturbed words shelf boxes was now = WhereGiven words shelf Run (λ g. (p : PredOf) (names : List (List ℕ)) (records : Records)
+    → HasRecords g p names (names ∷ records) → PutSigns p records boxes was now)

@@ -7,6 +7,7 @@ pub mod Carried
 pub mod Lines
 pub mod Ready
 pub mod Columns
+pub mod Target
 pub mod Check
 pub mod Listing
 pub mod Emit
@@ -16,6 +17,7 @@ pub mod Trusted
 pub mod Listed
 pub mod Line
 pub mod Run
+pub mod Perturbed
 pub mod Watching
 pub mod Headline
 pub mod Work

@@ -1,5 +1,6 @@
 -- The line of each record.
-use Rattle.std.specs.Prelude.{◌≡◌, ℕ, Bool, true, false, List, [], ◌∷◌, ◌++◌, codes, decimal, slice_index_or, Result, Ok, Err}
+use Rattle.std.specs.Prelude.{◌≡◌, ℕ, Bool, true, false, List, [], ◌∷◌, ◌++◌, slice_index_or}
+use Rattle.std.specs.Prelude.{codes, decimal, Result, Ok, Err}
 use Rattle.ln_base.specs.declared.sign.Sign.{Sign}
 use Rattle.ln_base.specs.declared.sign.Sign.TheVariants.{Minus, Zero, Plus}
 use Rattle.ln_tree.specs.Row.{Row}
@@ -67,6 +68,10 @@ is_bare (Err Fields) = true
 is_bare (Err (Number k)) = false
 is_bare (Err (Range k)) = false
 is_bare (Err (Index k)) = false
+
+-- the line of a record names none
+abbrev pub is_bare_record : PredOf → List (List ℕ) → Bool
+is_bare_record p fields = is_bare (read_row p.sites p.vars fields)
 
 -- the room that any line fits in that names no column
 abbrev pub line_room : ℕ

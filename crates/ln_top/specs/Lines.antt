@@ -1,5 +1,7 @@
--- Work on records: what each puts on both ports, one behind the other. For every command that puts lines as they come. The bytes for Out are gathered, and put in pieces.
-use Rattle.std.specs.Prelude.{◌≡◌, ◌≢◌, ℕ, Bool, true, false, ◌&&◌, List, [], ◌∷◌, ◌++◌, Option, Result, Ok, Err}
+-- Work on records: what each puts on both ports, one behind the other. For every command that puts lines as they come. The bytes for
+-- Out are gathered, and put in pieces.
+use Rattle.std.specs.Prelude.{◌≡◌, ◌≢◌, ℕ, Bool, true, false, ◌&&◌, List, [], ◌∷◌, ◌++◌}
+use Rattle.std.specs.Prelude.{Option, Result, Ok, Err}
 use Rattle.ln_base.specs.Outside.{Shown}
 use Rattle.ln_base.specs.declared.outside.Port.{Port}
 use Rattle.ln_base.specs.declared.outside.Port.TheVariants.{Out, Err as ErrPort}
@@ -9,9 +11,14 @@ use Rattle.ln_top.specs.declared.status.Early.TheVariants.{Write, Memory}
 use Rattle.ln_top.specs.Said.{Count, Rises, IsCalm, put_both, IsFront}
 
 -- a step: from what stands before a record, as its watchers, to what it puts on Out and on Err and to what is left
-pub data Lines {S R : Type 0} (step : S → R → List ℕ → List ℕ → S → Type 0) : S → List R → List ℕ → List ℕ → S → Type 0 where
+abbrev pub Step : Type 0 → Type 0 → Type 1
+Step S R = S → R → List ℕ → List ℕ → S → Type 0
+
+-- the bytes on both ports of records one behind the other
+pub data Lines {S R : Type 0} (step : Step S R) : S → List R → List ℕ → List ℕ → S → Type 0 where
   none : (s : S) → Lines step s [] [] [] s
-  more : {s z : S} {rest : List R} {out err : List ℕ} (r : R) (o e : List ℕ) (m : S) → step s r o e m → Lines step m rest out err z → Lines step s (r ∷ rest) (o ++ out) (e ++ err) z
+  more : {s z : S} {rest : List R} {out err : List ℕ} (r : R) (o e : List ℕ) (m : S)
+      → step s r o e m → Lines step m rest out err z → Lines step s (r ∷ rest) (o ++ out) (e ++ err) z
 
 -- is each record good?
 abbrev pub all_good : {R : Type 0} → (R → Bool) → List R → Bool
@@ -42,16 +49,25 @@ pub data Closes (err : List ℕ) (end : End) (puts : Count) (result : Result End
   unclosed : result ≡ Err Write → Wrote [] err puts false was now → Closes err end puts result was now
 
 -- one record: its bytes for Out were gathered and those for Err were put; or a put was cut off; or it was given up
-pub data Takes {S R : Type 0} (step : S → R → List ℕ → List ℕ → S → Type 0) (good : R → Bool) (s : S) (r : R) (puts : Count) (result : Result Bool Early) (held grown : List ℕ) (was now : Option Shown) (z : S) : Type 0 where
-  took : (o e : List ℕ) → IsCalm puts → step s r o e z → result ≡ Ok (good r) → grown ≡ held ++ o → now ≡ put_both [] e was → Takes step good s r puts result held grown was now z
-  tore : (o e : List ℕ) (m : S) → step s r o e m → Rises puts → result ≡ Err Write → PutsFronts [] e was now → Takes step good s r puts result held grown was now z
-  left_off : IsCalm puts → result ≡ Err Memory → grown ≡ held → now ≡ was → Takes step good s r puts result held grown was now z
+pub data Takes {S R : Type 0} (step : Step S R) (good : R → Bool) (s : S) (r : R)
+    (puts : Count) (result : Result Bool Early) (held grown : List ℕ) (was now : Option Shown) (z : S) : Type 0 where
+  took : (o e : List ℕ) → IsCalm puts → step s r o e z → result ≡ Ok (good r) → grown ≡ held ++ o
+      → now ≡ put_both [] e was → Takes step good s r puts result held grown was now z
+  tore : (o e : List ℕ) (m : S) → step s r o e m → Rises puts → result ≡ Err Write → PutsFronts [] e was now
+      → Takes step good s r puts result held grown was now z
+  left_off : IsCalm puts → result ≡ Err Memory → grown ≡ held → now ≡ was
+      → Takes step good s r puts result held grown was now z
 
 -- records of which some bytes for Out are still held: all are worked on, or a piece was cut off, or they were given up between two
-pub data Gathers {S R : Type 0} (step : S → R → List ℕ → List ℕ → S → Type 0) (good : R → Bool) (s : S) (records : List R) (puts : Count) (result : Result Bool Early) (held : List ℕ) (was now : Option Shown) (z : S) : Type 0 where
-  worked : (sent err : List ℕ) → IsCalm puts → Lines step s records (sent ++ held) err z → result ≡ Ok (all_good good records) → now ≡ put_both sent err was → Gathers step good s records puts result held was now z
-  torn : (done left : List R) (out err : List ℕ) (m : S) → records ≡ done ++ left → Lines step s done out err m → Rises puts → PutsFronts out err was now → result ≡ Err Write → Gathers step good s records puts result held was now z
-  given_up : (done left : List R) (sent err : List ℕ) (m : S) → IsCalm puts → records ≡ done ++ left → Lines step s done (sent ++ held) err m → now ≡ put_both sent err was → result ≡ Err Memory → Gathers step good s records puts result held was now z
+pub data Gathers {S R : Type 0} (step : Step S R) (good : R → Bool) (s : S) (records : List R)
+    (puts : Count) (result : Result Bool Early) (held : List ℕ) (was now : Option Shown) (z : S) : Type 0 where
+  worked : (sent err : List ℕ) → IsCalm puts → Lines step s records (sent ++ held) err z → result ≡ Ok (all_good good records)
+      → now ≡ put_both sent err was → Gathers step good s records puts result held was now z
+  torn : (done left : List R) (out err : List ℕ) (m : S) → records ≡ done ++ left → Lines step s done out err m → Rises puts
+      → PutsFronts out err was now → result ≡ Err Write → Gathers step good s records puts result held was now z
+  given_up : (done left : List R) (sent err : List ℕ) (m : S) → IsCalm puts → records ≡ done ++ left
+      → Lines step s done (sent ++ held) err m → now ≡ put_both sent err was → result ≡ Err Memory
+      → Gathers step good s records puts result held was now z
 
 -- what is held stays, or it was put, or cut off by a fault of writing
 pub data Empties (held left : List ℕ) (puts : Count) (done : Bool) (was now : Option Shown) : Type 0 where
@@ -66,13 +82,18 @@ pub data Sends (held : List ℕ) (ran result : Result Bool Early) (puts : Count)
   failed : ran ≡ Err Write → IsCalm puts → result ≡ ran → now ≡ was → Sends held ran result puts was now
 
 -- records: all put, or cut off within one, or given up between two
-pub data Ran {S R : Type 0} (step : S → R → List ℕ → List ℕ → S → Type 0) (good : R → Bool) (s : S) (records : List R) (puts : Count) (result : Result Bool Early) (was now : Option Shown) (z : S) : Type 0 where
-  all : (out err : List ℕ) → IsCalm puts → Lines step s records out err z → result ≡ Ok (all_good good records) → now ≡ put_both out err was → Ran step good s records puts result was now z
-  cut : (done left : List R) (out err : List ℕ) (m : S) → records ≡ done ++ left → Lines step s done out err m → Rises puts → PutsFronts out err was now → result ≡ Err Write → Ran step good s records puts result was now z
-  short : (done left : List R) (out err : List ℕ) (m : S) → IsCalm puts → records ≡ done ++ left → Lines step s done out err m → now ≡ put_both out err was → result ≡ Err Memory → Ran step good s records puts result was now z
+pub data Ran {S R : Type 0} (step : Step S R) (good : R → Bool) (s : S) (records : List R)
+    (puts : Count) (result : Result Bool Early) (was now : Option Shown) (z : S) : Type 0 where
+  all : (out err : List ℕ) → IsCalm puts → Lines step s records out err z → result ≡ Ok (all_good good records)
+      → now ≡ put_both out err was → Ran step good s records puts result was now z
+  cut : (done left : List R) (out err : List ℕ) (m : S) → records ≡ done ++ left → Lines step s done out err m → Rises puts
+      → PutsFronts out err was now → result ≡ Err Write → Ran step good s records puts result was now z
+  short : (done left : List R) (out err : List ℕ) (m : S) → IsCalm puts → records ≡ done ++ left → Lines step s done out err m
+      → now ≡ put_both out err was → result ≡ Err Memory → Ran step good s records puts result was now z
 
 -- one record whose bytes are put at once: all of them, or they were cut off
-pub record PutsOne {S R : Type 0} (step : S → R → List ℕ → List ℕ → S → Type 0) (s : S) (r : R) (puts : Count) (done : Bool) (was now : Option Shown) (z : S) : Type 0 where
+pub record PutsOne {S R : Type 0} (step : Step S R) (s : S) (r : R)
+    (puts : Count) (done : Bool) (was now : Option Shown) (z : S) : Type 0 where
   pub out : List ℕ
   pub err : List ℕ
   pub left : S
@@ -89,5 +110,5 @@ abbrev pub ran_of : Bool → Result Bool Early
 ran_of true = Ok true
 ran_of false = Err Write
 
-abbrev pub PutsAll : {S R : Type 0} → (S → R → List ℕ → List ℕ → S → Type 0) → S → List R → Count → Bool → Option Shown → Option Shown → S → Type 0
+abbrev pub PutsAll : {S R : Type 0} → Step S R → S → List R → Count → Bool → Option Shown → Option Shown → S → Type 0
 PutsAll step s records puts done was now z = Ran step every s records puts (ran_of done) was now z

@@ -1,38 +1,34 @@
 -- The listing that `list` puts gives the perturbed signs, and `verify` says that it is valid.
-use Rattle.std.specs.Prelude.{◌≡◌, ◌≢◌, ℕ, List, [], ◌∷◌, length, codes, All, Option, Some, None}
+use Rattle.std.specs.Prelude.{◌≡◌, ℕ, List, [], ◌∷◌, codes, Option}
 use Rattle.ln_base.specs.Outside.{Shelf, Shown}
-use Rattle.ln_base.specs.declared.sign.Sign.TheVariants.{Zero}
-use Rattle.ln_algebra.specs.Sign.{IsPerturbedSign}
 use Rattle.ln_tree.specs.declared.shape.Shape.{Shape}
 use Rattle.ln_tree.specs.Names.{name_bytes}
 use Rattle.ln_tree.specs.Row.{InRange, Row}
 use Rattle.ln_tree.specs.Table.{PredOf}
-use Rattle.ln_bound.specs.Value.{values}
-use Rattle.ln_order.specs.Sites.{row_sites}
 use Rattle.ln_code.specs.declared.verdict.Verdict.{Verdict}
 use Rattle.ln_code.specs.Part.{Part}
 use Rattle.ln_code.specs.Verdict.{IsVerdict}
-use Rattle.ln_due.specs.Due.{sign_number}
-use Rattle.ln_compile.specs.Accepted.{root_of}
 use Rattle.ln_cert.specs.Listing.{ListText, Listed, parts_of}
 use Rattle.ln_verify.specs.AsPart.{part_of}
 use Rattle.ln_verify.specs.Line.{Written}
 use Rattle.ln_verify.specs.Verified.{IsValidFor}
 use Rattle.ln_top.specs.declared.status.End.TheVariants.{Done}
 use Rattle.ln_top.specs.declared.words.Command.TheVariants as command
-use Rattle.ln_top.specs.Plan.{Plan, plan_of}
+use Rattle.ln_top.specs.Perturbed.{IsSignOn, NotZeroWithoutParams}
 use Rattle.ln_top.specs.Said.{line, put_both, whole}
-use Rattle.ln_top.specs.Steps.{gives, Given, Prepares}
+use Rattle.ln_top.specs.Steps.{Given, WhereGiven}
 use Rattle.ln_top.specs.Verify.{VerifySaid}
 
--- on this row the machine of the part has a verdict, so no operation leaves its certified width; whatever verdict it has, its sign is the perturbed sign of the predicate, which is the sign of the first coefficient that isn't 0, by the row's own indices. Without params it isn't 0
+-- on this row the machine of the part has a verdict, so no operation leaves its certified width; whatever verdict it has, its sign is
+-- the perturbed sign of the predicate. Without params it isn't 0
 pub record GivesPerturbedSign (p : PredOf) (part : Part) (row : Row) : Type 0 where
   pub verdict : Verdict
   pub answers : IsVerdict part row verdict
-  pub perturbed : (v : Verdict) → IsVerdict part row v → IsPerturbedSign (length p.vars) (row_sites p.vars row.index) (values row.values) (root_of p) (sign_number v.sign)
-  pub never_zero : (v : Verdict) → IsVerdict part row v → All (λ i. i.site ≢ None) p.vars → v.sign ≢ Zero
+  pub perturbed : (v : Verdict) → IsVerdict part row v → IsSignOn p row v.sign
+  pub never_zero : (v : Verdict) → IsVerdict part row v → NotZeroWithoutParams p v.sign
 
--- the machine's part over the predicate's sites and variables, of what the listing writes for it, gives so on each row in its declared ranges
+-- the machine's part over the predicate's sites and variables, of what the listing writes for it, gives so on each row in its declared
+-- ranges
 pub record PartGivesSigns (p : PredOf) (w : Written) : Type 0 where
   pub shape : Shape
   pub name : name_bytes shape.name ≡ p.name
@@ -47,7 +43,8 @@ PartsGiveSigns [] (w ∷ ws) = ⊥
 PartsGiveSigns (p ∷ ps) [] = ⊥
 PartsGiveSigns (p ∷ ps) (w ∷ ws) = PartGivesSigns p w × PartsGiveSigns ps ws
 
--- what came to Out is the text of a listing that is valid for the source's predicates and whose parts give their signs, and nothing came to Err; and `verify` of a file that holds this text, over the same table, owes `valid`
+-- what came to Out is the text of a listing that is valid for the source's predicates and whose parts give their signs, and nothing came
+-- to Err; and `verify` of a file that holds this text, over the same table, owes `valid`
 pub record PutListing (g : Given) (was now : Option Shown) : Type 0 where
   pub bytes : List ℕ
   pub listing : Listed
@@ -59,4 +56,4 @@ pub record PutListing (g : Given) (was now : Option Shown) : Type 0 where
 
 -- where the words are `list FILE`, and over the told files the source is accepted, such a listing came to Out
 abbrev pub ListingGivesSigns : List (List ℕ) → Shelf → Option Shown → Option Shown → Type 0
-ListingGivesSigns words shelf was now = (plan : Plan) (g : Given) → plan_of words ≡ Some plan → plan.command ≡ command.List → Prepares plan (Some shelf) (gives g) → PutListing g was now
+ListingGivesSigns words shelf was now = WhereGiven words shelf command.List (λ g. PutListing g was now)

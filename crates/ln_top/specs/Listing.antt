@@ -42,7 +42,8 @@ AreListable [] = Unit {0}
 AreListable (p ∷ ps) = IsListable p × AreListable ps
 
 -- ---- what its machine answers
--- on this row the machine of the part has a verdict; whatever verdict it has, its sign, its decider and its calls are those that the row is owed, and no operation is done in 128 bits where the filter decides
+-- on this row the machine of the part has a verdict; whatever verdict it has, its sign, its decider and its calls are those that the row
+-- is owed, and no operation is done in 128 bits where the filter decides
 pub record AnswersDue (p : PredOf) (part : Part) (row : Row) : Type 0 where
   pub verdict : Verdict
   pub answers : IsVerdict part row verdict
@@ -64,7 +65,8 @@ PartsAreDue [] (w ∷ ws) = ⊥
 PartsAreDue (p ∷ ps) [] = ⊥
 PartsAreDue (p ∷ ps) (w ∷ ws) = PartIsDue p w × PartsAreDue ps ws
 
--- the bytes are the text of a listing of version 2 that is valid for these predicates, and whose parts answer what their rows are owed; it is that of programs of the predicates, one for each, that follow the rules
+-- the bytes are the text of a listing of version 2 that is valid for these predicates, and whose parts answer what their rows are owed;
+-- it is that of programs of the predicates, one for each, that follow the rules
 pub record IsListingOf (preds : List PredOf) (bytes : List ℕ) : Type 0 where
   pub listing : Listed
   pub second : listing.version ≡ 2

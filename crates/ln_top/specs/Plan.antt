@@ -1,5 +1,7 @@
 -- The words, and what a command needs.
-use Rattle.std.specs.Prelude.{◌≡◌, ℕ, ◌+◌, ◌-◌, ◌≤◌, nat_le, Bool, ◌&&◌, List, [], ◌∷◌, length, take, drop, map, Option, Some, None, option_map, if◌then◌else◌, bytes_eq, codes, string_bytes}
+use Rattle.std.specs.Prelude.{◌≡◌, ℕ, ◌+◌, ◌-◌, ◌≤◌, nat_le, Bool, ◌&&◌, if◌then◌else◌}
+use Rattle.std.specs.Prelude.{bytes_eq, codes, string_bytes}
+use Rattle.std.specs.Prelude.{List, [], ◌∷◌, length, take, drop, map, Option, Some, None, option_map}
 use Rattle.ln_base.specs.Decimal.{is_digits, decimal_value}
 use Rattle.ln_top.specs.declared.words.Command.{Command}
 use Rattle.ln_top.specs.declared.words.Command.TheVariants.{Check, Run, Gen}
@@ -69,7 +71,10 @@ is_count n = nat_le 1 n && nat_le n 1000000
 abbrev pub gen_with : List ℕ → List ℕ → Option ℕ → Option ℕ → Option Plan
 gen_with source name None count = None
 gen_with source name (Some seed) None = None
-gen_with source name (Some seed) (Some count) = if is_count count then Some (record { source = source; names = name ∷ []; files = []; command = Gen seed count }) else None
+gen_with source name (Some seed) (Some count) =
+    if is_count count
+    then Some (record { source = source; names = name ∷ []; files = []; command = Gen seed count })
+    else None
 
 abbrev pub gen_plan : List ℕ → List (List ℕ) → Option Plan
 gen_plan source (name ∷ seed ∷ count ∷ []) = gen_with source name (number_of seed) (number_of count)
@@ -90,4 +95,9 @@ command_of words = option_map (λ p. p.command) (plan_of words)
 
 -- the program's plan, with the bytes of its words
 abbrev pub with_bytes : code.Plan → Plan
-with_bytes p = record { source = p.source.now; names = map string_bytes p.names.now; files = map string_bytes p.files.now; command = p.command }
+with_bytes p = record {
+  source = p.source.now;
+  names = map string_bytes p.names.now;
+  files = map string_bytes p.files.now;
+  command = p.command;
+}

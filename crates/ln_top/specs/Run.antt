@@ -15,13 +15,19 @@ use Rattle.ln_top.specs.Steps.{Given}
 use Rattle.ln_top.specs.Columns.{columns_of}
 use Rattle.ln_top.specs.Line.{IsLineOf, is_row}
 use Rattle.ln_top.specs.Lines.{Lines, all_good}
+use Rattle.ln_top.specs.Target.{TargetOf, pred_in}
 use Rattle.ln_top.specs.Watching.{Watching, watching, next_lines, next, last_of}
 
 -- what a record puts: its line on Out, and on Err the lines of the boxes that are done behind its verdict
-pub record RunStep (p : PredOf) (names : List (List ℕ)) (before : Watching) (fields : List (List ℕ)) (out err : List ℕ) (after : Watching) : Type 0 where
+pub record RunStep (p : PredOf) (names : List (List ℕ))
+    (before : Watching) (fields : List (List ℕ)) (out err : List ℕ) (after : Watching) : Type 0 where
   pub line : IsLineOf p names fields out
   pub told : err ≡ next_lines line.said before
   pub left : after ≡ next line.said before
+
+-- the step of a predicate that is run
+abbrev pub StepOf : TargetOf → Watching → List (List ℕ) → List ℕ → List ℕ → Watching → Type 0
+StepOf t = RunStep (pred_in t) t.names
 
 abbrev pub end_of : Bool → End
 end_of true = Done
@@ -52,15 +58,24 @@ pub record HasRecords (g : Given) (p : PredOf) (names : List (List ℕ)) (record
   pub text : g.texts ≡ rows ∷ []
   pub are : records_in rows ≡ records
 
--- what is owed: the error line of a wrong header; or behind the header a line for each record, in order, and the lines of the watchers, at the end those of the boxes that are left, also where records are refused
+-- the answer behind the header: the lines, at the end those of the boxes that are left, and whether all records are rows
+abbrev pub said_of_run : PredOf → Records → List ℕ → List ℕ → Watching → Said
+said_of_run p records out err z = record { end = end_of (all_good (is_row p) records); out = out; err = err ++ last_of z }
+
+-- what is owed: the error line of a wrong header; or behind the header a line for each record, in order, and the lines of the watchers,
+-- at the end those of the boxes that are left, also where records are refused
 pub data RunSaid (boxes : List State) (g : Given) : Said → Type 0 where
-  header : (p : PredOf) (names : List (List ℕ)) (records : Records) → HasRecords g p names records → IsWrongHeader names records → RunSaid boxes g (said_of Header)
-  ran : (p : PredOf) (names : List (List ℕ)) (records : Records) (out err : List ℕ) (z : Watching) → HasRecords g p names (names ∷ records)
-      → Lines (RunStep p names) (watching 0 boxes) records out err z → RunSaid boxes g (record { end = end_of (all_good (is_row p) records); out = out; err = err ++ last_of z })
+  header : (p : PredOf) (names : List (List ℕ)) (records : Records)
+      → HasRecords g p names records → IsWrongHeader names records → RunSaid boxes g (said_of Header)
+  ran : (p : PredOf) (names : List (List ℕ)) (records : Records) (out err : List ℕ) (z : Watching)
+      → HasRecords g p names (names ∷ records) → Lines (RunStep p names) (watching 0 boxes) records out err z
+      → RunSaid boxes g (said_of_run p records out err z)
 
 -- what want of memory leaves: the whole lines of the first records
 pub data RunPart (boxes : List State) (g : Given) (out err : List ℕ) : Type 0 where
-  first : (p : PredOf) (names : List (List ℕ)) (done left : Records) (z : Watching) → HasRecords g p names (names ∷ done ++ left) → Lines (RunStep p names) (watching 0 boxes) done out err z → RunPart boxes g out err
+  first : (p : PredOf) (names : List (List ℕ)) (done left : Records) (z : Watching)
+      → HasRecords g p names (names ∷ done ++ left) → Lines (RunStep p names) (watching 0 boxes) done out err z
+      → RunPart boxes g out err
 
 -- a record is a row in range, or none
 pub record IsRow (p : PredOf) (fields : List (List ℕ)) : Type 0 where
@@ -73,6 +88,9 @@ pub record IsNoRow (p : PredOf) (fields : List (List ℕ)) : Type 0 where
 
 -- how it ends, and where: each record behind the header is a row in range; the header is wrong; a record is none
 pub data RunEnds (g : Given) : End → Type 0 where
-  done : (p : PredOf) (names : List (List ℕ)) (records : Records) → HasRecords g p names (names ∷ records) → All (IsRow p) records → RunEnds g Done
-  wrong : (p : PredOf) (names : List (List ℕ)) (records : Records) → HasRecords g p names records → IsWrongHeader names records → RunEnds g Rows
-  refused : (p : PredOf) (names : List (List ℕ)) (before after : Records) (fields : List (List ℕ)) → HasRecords g p names (names ∷ before ++ fields ∷ after) → IsNoRow p fields → RunEnds g Rows
+  done : (p : PredOf) (names : List (List ℕ)) (records : Records)
+      → HasRecords g p names (names ∷ records) → All (IsRow p) records → RunEnds g Done
+  wrong : (p : PredOf) (names : List (List ℕ)) (records : Records)
+      → HasRecords g p names records → IsWrongHeader names records → RunEnds g Rows
+  refused : (p : PredOf) (names : List (List ℕ)) (before after : Records) (fields : List (List ℕ))
+      → HasRecords g p names (names ∷ before ++ fields ∷ after) → IsNoRow p fields → RunEnds g Rows

@@ -2,11 +2,13 @@
 use Rattle.std.specs.Prelude.{◌≡◌, ℕ, ◌≤◌, ◌<◌, List, [], ◌∷◌, length, find, bytes_eq, Option, Some, None}
 use Rattle.ln_base.specs.Outside.{Shelf, bytes_of, IsAbsent}
 use Rattle.ln_tree.specs.Table.{TableOf, PredOf}
-use Rattle.ln_top.specs.declared.stop.Refusal.{Refusal}
+use Rattle.ln_compile.specs.declared.refusal.Refusal.{Refusal}
+use Rattle.ln_top.specs.declared.stop.Place.{Place}
 use Rattle.ln_top.specs.declared.stop.Why.{Why}
 use Rattle.ln_top.specs.declared.stop.Why.TheVariants.{TooLong, Refused, NoPredicate}
-use Rattle.ln_top.specs.Plan.{Plan}
-use Rattle.ln_top.specs.Source.{IsAccepted, IsRefusedFor}
+use Rattle.ln_top.specs.declared.words.Command.{Command}
+use Rattle.ln_top.specs.Plan.{Plan, plan_of}
+use Rattle.ln_top.specs.Source.{IsAccepted, IsRefusedAt}
 
 -- what a step comes to: it stops the command, or a file that it wants isn't there, or it gives a value to go on with
 pub data Outcome (A : Type 0) : Type 0 where
@@ -48,7 +50,7 @@ pub data Reads (told : Option Shelf) (limit : ℕ) (name : List ℕ) : Outcome (
 -- a source is compiled
 pub data Compiles (bytes : List ℕ) : Outcome TableOf → Type 0 where
   accepted : (t : TableOf) → IsAccepted bytes t → Compiles bytes (gives t)
-  refused : (r : Refusal) → IsRefusedFor bytes r → Compiles bytes (stops (Refused r))
+  refused : (r : Refusal) (place : Place) → IsRefusedAt bytes r place → Compiles bytes (stops (Refused r place))
 
 -- the first predicate of a name
 abbrev pub named : List ℕ → List PredOf → Option PredOf
@@ -81,3 +83,9 @@ Prepares plan told =
     Then (Each (Finds table.preds) plan.names) (λ preds.
     Then (Each (Reads told most_file) plan.files) (λ texts.
     Gives (record { table = table; preds = preds; texts = texts })))))
+
+-- a claim on what is given where these words are this command and prepare it over the told files
+abbrev pub WhereGiven : List (List ℕ) → Shelf → Command → (Given → Type 0) → Type 0
+WhereGiven words shelf command claim =
+    (plan : Plan) (g : Given) → plan_of words ≡ Some plan → plan.command ≡ command
+    → Prepares plan (Some shelf) (gives g) → claim g

@@ -1,35 +1,27 @@
 -- Why a command stops before its work: an end that is owed with its line, or a fault of reading, or want of memory.
 use Rattle.std.specs.Prelude.{ℕ, List, ◌++◌, codes, decimal, Option, Some, None}
+use Rattle.ln_base.specs.declared.span.Span.{Span}
+use Rattle.ln_compile.specs.declared.refusal.Refusal.{Refusal}
+use Rattle.ln_compile.specs.Refused.{span_of, word_of}
 use Rattle.ln_top.specs.declared.status.End.{End}
 use Rattle.ln_top.specs.declared.status.End.TheVariants as end
-use Rattle.ln_top.specs.declared.stop.Kind.{Kind}
-use Rattle.ln_top.specs.declared.stop.Kind.TheVariants.{Lexical, Limit, Syntax, Name, Bound, Terms, Zero, Stages}
-use Rattle.ln_top.specs.declared.stop.Refusal.{Refusal}
+use Rattle.ln_top.specs.declared.stop.Place.{Place}
 use Rattle.ln_top.specs.declared.stop.Why.{Why}
 use Rattle.ln_top.specs.declared.stop.Why.TheVariants.{Usage, TooLong, Refused, NoPredicate, Header}
 use Rattle.ln_top.specs.declared.stop.Stop.{Stop}
 use Rattle.ln_top.specs.declared.stop.Stop.TheVariants.{Tell, Memory}
 use Rattle.ln_top.specs.Said.{Said, error_line}
-
-abbrev pub kind_text : Kind → List ℕ
-kind_text Lexical = codes "lexical"
-kind_text Limit = codes "limit"
-kind_text Syntax = codes "syntax"
-kind_text Name = codes "name"
-kind_text Bound = codes "bound"
-kind_text Terms = codes "terms"
-kind_text Zero = codes "zero"
-kind_text Stages = codes "stages"
+use Rattle.ln_top.specs.Source.{place_at}
 
 -- `error KIND LINE:COL`
-abbrev pub refusal_text : Refusal → List ℕ
-refusal_text r = codes "error " ++ kind_text r.kind ++ codes " " ++ decimal r.line ++ codes ":" ++ decimal r.col
+abbrev pub refusal_text : Refusal → Place → List ℕ
+refusal_text r place = codes "error " ++ word_of r ++ codes " " ++ decimal place.line ++ codes ":" ++ decimal place.col
 
 -- how a command ends that stops so
 abbrev pub why_end : Why → End
 why_end Usage = end.Usage
 why_end TooLong = end.TooLong
-why_end (Refused r) = end.Refused
+why_end (Refused r place) = end.Refused
 why_end NoPredicate = end.NoPredicate
 why_end Header = end.Rows
 
@@ -37,7 +29,7 @@ why_end Header = end.Rows
 abbrev pub why_text : Why → List ℕ
 why_text Usage = codes "error usage"
 why_text TooLong = codes "error long"
-why_text (Refused r) = refusal_text r
+why_text (Refused r place) = refusal_text r place
 why_text NoPredicate = codes "error predicate"
 why_text Header = codes "error header"
 
@@ -45,7 +37,10 @@ why_text Header = codes "error header"
 abbrev pub said_of : Why → Said
 said_of why = error_line (why_end why) (why_text why)
 
--- the stop for what is told of a refusal
-abbrev pub stop_of : Option Refusal → Stop
-stop_of None = Memory
-stop_of (Some r) = Tell (Refused r)
+-- the stop for a refusal: its place is the start of its span; want of memory has none and is told by no line
+abbrev pub stop_at : List ℕ → Refusal → Option Span → Stop
+stop_at bytes r None = Memory
+stop_at bytes r (Some at) = Tell (Refused r (place_at bytes at))
+
+abbrev pub stop_of : List ℕ → Refusal → Stop
+stop_of bytes r = stop_at bytes r (span_of r)

@@ -1,4 +1,5 @@
--- The works of the commands, each by its own file and over the watchers that are handed in: what is owed, what want of memory may leave, and how and where it ends.
+-- The works of the commands, each by its own file and over the watchers that are handed in: what is owed, what want of memory may
+-- leave, and how and where it ends.
 use Rattle.std.specs.Prelude.{◌≡◌, ℕ, List, Some}
 use Rattle.ln_watch.specs.Panel.{State}
 use Rattle.ln_top.specs.declared.status.End.{End}

@@ -44,7 +44,8 @@ fn counts(alloc: Global, c: &Compiled) -> Result<Vec<u8>, NoMemory>
 
 /// Puts the lines of the predicates with their stage counts, all of them made before the first is put.
 pub(crate) fn work<C: Console>(alloc: Global, con: &mut C, ready: &Ready) -> Result<End, Early>
-    ensures { (g : Given) → StandsFor ready.now g → CarriesOut (CheckSaid g) NoPart ⊥ ⊥ (count (C.faults con.old) (C.faults con.new)) result (C.shown con.old) (C.shown con.new) }
+    ensures { (g : Given) → StandsFor ready.now g → CarriesOut (CheckSaid g) NoPart ⊥ ⊥
+        (count (C.faults con.old) (C.faults con.new)) result (C.shown con.old) (C.shown con.new) }
 {
     let Ok(text) = counts(alloc, &ready.compiled) else {
         return Err(Early::Memory);

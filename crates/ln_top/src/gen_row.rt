@@ -6,7 +6,8 @@ ghost use Rattle.ln_tree.specs.Row.{InRange};
 ghost use Rattle.ln_tree.specs.Variables.{starts_site, has_range, is_laid_out};
 ghost use Rattle.ln_code.specs.RowOf.{row_of, IsZeroPast};
 ghost use Rattle.ln_rows.specs.Record.{columns};
-ghost use Rattle.ln_top.specs.GenRow.{words, past, index_by, value_by, low_part, high_part, low_end, high_end, variable_by, row_by, IsMade};
+ghost use Rattle.ln_top.specs.GenRow.{words, past, index_by, value_by, low_part, high_part, low_end, high_end};
+ghost use Rattle.ln_top.specs.GenRow.{variable_by, row_by, IsMade};
 
 use ln_code::Row;
 use ln_tree::{Pred, Shape, VarInfo};
@@ -109,7 +110,8 @@ fn laid_out(shape: &Shape) -> &[VarInfo]
 /// The row that `gen` makes as row `n` from the generator's next words, one for each column, in order. It is in range, and the generator
 /// then stands just past these words. Places past those of the predicate are 0. Takes no memory.
 pub fn gen_row(p: &Pred, g: &mut Lcg128Xsl64, n: u64) -> Row
-    ensures row { row_of p.now.shape.sites p.now.shape.vars result ≡ row_by n p.now.shape.vars (words (length (columns p.now.shape.vars)) g.old) }
+    ensures row { row_of p.now.shape.sites p.now.shape.vars result
+        ≡ row_by n p.now.shape.vars (words (length (columns p.now.shape.vars)) g.old) }
     ensures past { g.new ≡ past (length (columns p.now.shape.vars)) g.old }
     ensures in_range { InRange p.now.shape.sites p.now.shape.vars (row_of p.now.shape.sites p.now.shape.vars result) }
     ensures zero { IsZeroPast p.now.shape.sites (length p.now.shape.vars) result }

@@ -1,8 +1,6 @@
 //! The work of `gen`: rows are made of a generator's words and run one at a time, and the watchers' lines go to Out.
 ghost use Rattle.std.specs.Prelude.{◌≡◌, length};
-ghost use Rattle.ln_tree.specs.Table.{pred_of};
 ghost use Rattle.ln_code.specs.Memory.{MadeFor};
-ghost use Rattle.ln_compile.specs.Compiled.{IsProgramOf};
 ghost use Rattle.ln_rows.specs.Record.{columns};
 ghost use Rattle.ln_top.specs.Carried.{CarriesOut, NoPart};
 ghost use Rattle.ln_top.specs.Gen.{GenSaid, GenStep, draw, draws};
@@ -11,16 +9,18 @@ ghost use Rattle.ln_top.specs.Lines.{PutsAll, PutsOne};
 ghost use Rattle.ln_top.specs.Ready.{IsReadyFor, StandsFor};
 ghost use Rattle.ln_top.specs.Said.{count};
 ghost use Rattle.ln_top.specs.Steps.{Given};
+ghost use Rattle.ln_top.specs.Target.{pred_in};
 ghost use Rattle.ln_watch.specs.Panel.{states_of};
 
 use crate::gen_row::gen_row;
 use crate::panel::Panel;
-use crate::prepare::{Ready, Target, kept, one_target};
+use crate::prepare::{Ready, one_target};
 use crate::status::{Early, End};
+use crate::target::Target;
 use crate::watching::{close, show};
 use crate::words::Command;
 use ln_base::{Console, Port};
-use ln_code::{Scratch, run_row};
+use ln_code::Scratch;
 use ln_watch::Watch;
 use rand_core::SeedableRng;
 use rand_pcg::Lcg128Xsl64;
@@ -29,35 +29,39 @@ use std::alloc::Global;
 // Makes row n and runs it, and shows its verdict to the watchers. Says whether all that was to be put was put.
 fn put_row<C: Console>(
     con: &mut C,
-    target: Target<'_>,
+    target: &Target<'_>,
     s: &mut Scratch,
     g: &mut Lcg128Xsl64,
     n: u64,
     panel: &mut Panel,
 ) -> bool
-    requires program { IsProgramOf (pred_of target.pred.now) target.program.now }
-    requires made { MadeFor target.program.now s.old }
-    ensures puts { PutsOne (GenStep (pred_of target.entry.pred.now)) (states_of kind_of tally_of panel.old.watchers.items) (draw n g.old) (count (C.faults con.old) (C.faults con.new)) result (C.shown con.old) (C.shown con.new) (states_of kind_of tally_of panel.new.watchers.items) }
-    ensures past { g.new ≡ past (length (columns target.entry.pred.now.shape.vars)) g.old }
-    ensures made { MadeFor target.entry.program.now s.new }
+    requires { MadeFor target.now.program s.old }
+    ensures puts { PutsOne (GenStep (pred_in target.now)) (states_of kind_of tally_of panel.old.watchers.items)
+        (draw n g.old)
+        (count (C.faults con.old) (C.faults con.new)) result (C.shown con.old) (C.shown con.new)
+        (states_of kind_of tally_of panel.new.watchers.items) }
+    ensures past { g.new ≡ past (length (columns target.now.pred.shape.vars)) g.old }
+    ensures made { MadeFor target.now.program s.new }
 {
-    let row = gen_row(target.pred, g, n);
-    let v = run_row(kept(target.program), s, &row);
+    let row = gen_row(target.pred(), g, n);
+    let v = target.verdict(s, &row);
     show(con, Port::Out, panel, n, &v)
 }
 
 // Makes so many rows, from row 1, and runs them. Says whether all that was to be put was put.
 fn put_rows<C: Console>(
     con: &mut C,
-    target: Target<'_>,
+    target: &Target<'_>,
     s: &mut Scratch,
     g: &mut Lcg128Xsl64,
     rows: u64,
     panel: &mut Panel,
 ) -> bool
-    requires program { IsProgramOf (pred_of target.pred.now) target.program.now }
-    requires made { MadeFor target.program.now s.old }
-    ensures { PutsAll (GenStep (pred_of target.entry.pred.now)) (states_of kind_of tally_of panel.old.watchers.items) (draws rows 0 target.entry.pred.now.shape.vars g.old) (count (C.faults con.old) (C.faults con.new)) result (C.shown con.old) (C.shown con.new) (states_of kind_of tally_of panel.new.watchers.items) }
+    requires { MadeFor target.now.program s.old }
+    ensures { PutsAll (GenStep (pred_in target.now)) (states_of kind_of tally_of panel.old.watchers.items)
+        (draws rows 0 target.now.pred.shape.vars g.old)
+        (count (C.faults con.old) (C.faults con.new)) result (C.shown con.old) (C.shown con.new)
+        (states_of kind_of tally_of panel.new.watchers.items) }
 {
     let mut n = 0u64;
     'rows: while n < rows {
@@ -80,15 +84,17 @@ pub(crate) fn work<C: Console>(
     watchers: Vec<Box<dyn Watch>>,
 ) -> Result<End, Early>
     requires { IsReadyFor (Command.Gen seed rows) ready.now }
-    ensures { (g : Given) → StandsFor ready.now g → CarriesOut (GenSaid seed rows (states_of kind_of tally_of watchers.items) g) NoPart ⊥ ⊥ (count (C.faults con.old) (C.faults con.new)) result (C.shown con.old) (C.shown con.new) }
+    ensures { (g : Given) → StandsFor ready.now g
+        → CarriesOut (GenSaid seed rows (states_of kind_of tally_of watchers.items) g) NoPart ⊥ ⊥
+        (count (C.faults con.old) (C.faults con.new)) result (C.shown con.old) (C.shown con.new) }
 {
     let target = one_target(ready);
-    let Ok(mut scratch) = Scratch::new(alloc, kept(target.program)) else {
+    let Ok(mut scratch) = target.scratch(alloc) else {
         return Err(Early::Memory);
     };
     let mut panel = Panel::new(watchers);
     let mut g = Lcg128Xsl64::seed_from_u64(seed);
-    if !put_rows(con, target, &mut scratch, &mut g, rows, &mut panel) {
+    if !put_rows(con, &target, &mut scratch, &mut g, rows, &mut panel) {
         return Err(Early::Write);
     }
     if !close(con, Port::Out, panel) {

@@ -1,14 +1,14 @@
 //! The line of a record.
-ghost use Rattle.std.specs.Prelude.{◌≡◌, ◌≤◌, ◌+◌, ◌++◌, ◌∷◌, [], length, vec_len, vec_capacity, IsOk, OnOk, OnErr, slice_index_or, true};
-ghost use Rattle.ln_top.specs.Columns.{names_of};
+ghost use Rattle.std.specs.Prelude.{◌≡◌, ◌≤◌, ◌+◌, ◌++◌, ◌∷◌, [], length, slice_index_or};
+ghost use Rattle.std.specs.Prelude.{vec_len, vec_capacity, IsOk, OnOk, OnErr, true};
 ghost use Rattle.ln_top.specs.Line.{line_room, sign_text, decider_text, said_text, is_bare};
 ghost use Rattle.ln_top.specs.Said.{line};
 
-use crate::prepare::Target;
+use crate::target::Target;
 use itoa::Buffer;
 use ln_base::{NoMemory, Sign};
 use ln_code::{By, Verdict};
-use ln_rows::{RowStop, column};
+use ln_rows::RowStop;
 use std::alloc::Global;
 
 /// The room that any line fits in that names no column, in bytes.
@@ -68,15 +68,15 @@ fn add_column(
     alloc: Global,
     text: &mut Vec<u8>,
     front: &[u8],
-    target: Target<'_>,
+    target: &Target<'_>,
     k: u8,
 ) -> Result<(), NoMemory>
     requires { length front.now ≤ 16 }
-    ensures ok { OnOk result (text.new.items ≡ text.old.items ++ line (front.now ++ slice_index_or (names_of target.entry.table.now target.entry.pred.now) k [])) }
+    ensures ok { OnOk result (text.new.items ≡ text.old.items ++ line (front.now ++ slice_index_or target.now.names k [])) }
     ensures err { OnErr result (text.new.items ≡ text.old.items) }
     ensures room { vec_capacity text.old ≤ vec_capacity text.new }
 {
-    let name = column(alloc, target.table, target.pred, usize::from(k))?;
+    let name = target.column(alloc, k)?;
     text.reserve(front.len() + name.len() + 1)?;
     add_within(text, front);
     add_within(text, &name);
@@ -88,11 +88,11 @@ fn add_column(
 pub fn add_line(
     alloc: Global,
     text: &mut Vec<u8>,
-    target: Target<'_>,
+    target: &Target<'_>,
     said: Result<Verdict, RowStop>,
 ) -> Result<(), NoMemory>
     requires { vec_len text.old + line_room ≤ vec_capacity text.old }
-    ensures ok { OnOk result (text.new.items ≡ text.old.items ++ line (said_text (names_of target.entry.table.now target.entry.pred.now) said)) }
+    ensures ok { OnOk result (text.new.items ≡ text.old.items ++ line (said_text target.now.names said)) }
     ensures err { OnErr result (text.new.items ≡ text.old.items) }
     ensures room { vec_capacity text.old ≤ vec_capacity text.new }
     ensures steady { is_bare said ≡ true → IsOk result }

@@ -14,7 +14,8 @@ use std::alloc::Global;
 
 /// Puts the listing of the programs, all of it made before the first byte is put.
 pub(crate) fn work<C: Console>(alloc: Global, con: &mut C, ready: &Ready) -> Result<End, Early>
-    ensures { (g : Given) → StandsFor ready.now g → CarriesOut (ListSaid g) NoPart ⊥ ⊥ (count (C.faults con.old) (C.faults con.new)) result (C.shown con.old) (C.shown con.new) }
+    ensures { (g : Given) → StandsFor ready.now g → CarriesOut (ListSaid g) NoPart ⊥ ⊥
+        (count (C.faults con.old) (C.faults con.new)) result (C.shown con.old) (C.shown con.new) }
 {
     let programs = kept_programs(&ready.compiled);
     let Ok(text) = write_listing(alloc, programs) else {

@@ -1,8 +1,18 @@
-//! What a listing can say of programs, read off their types.
+//! What programs keep, and that a listing can say it, read off their types.
 ghost use Rattle.std.specs.Prelude.{◌≡◌, ◌≤◌, IfSome};
+ghost use Rattle.ln_code.specs.Kept.{IsProgram};
 ghost use Rattle.ln_top.specs.Listing.{AreListableBlocks, IsListable, IsListableBlock};
 
 use ln_code::{Block, Program};
+
+/// A program with what its type keeps.
+pub fn kept(program: &Program) -> &Program
+    ensures same { result.now ≡ program.now }
+    ensures kept { IsProgram program.now }
+{
+    let _blocks = program.blocks();
+    program
+}
 
 // A block: the variables of its exponents rise, and its stack is within the listing's depth.
 fn listable_block(block: &Block) -> &Block

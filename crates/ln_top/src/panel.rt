@@ -40,8 +40,10 @@ fn put_fed<C: Console>(con: &mut C, port: Port, text: &[u8]) -> Result<(), Faile
 
 // Puts the line of a box.
 fn put_line<C: Console>(watcher: &Box<dyn Watch>, con: &mut C, port: Port) -> Result<(), Failed>
-    ensures ok { OnOk result (C.shown con.new ≡ appended port (feed (watch_text (kind_of watcher.now) (tally_of watcher.now))) (C.shown con.old)) }
-    ensures err { OnErr result (FailsAfter port (feed (watch_text (kind_of watcher.now) (tally_of watcher.now))) (C.shown con.old) (C.shown con.new)) }
+    ensures ok { OnOk result (C.shown con.new
+        ≡ appended port (feed (watch_text (kind_of watcher.now) (tally_of watcher.now))) (C.shown con.old)) }
+    ensures err { OnErr result (FailsAfter port (feed (watch_text (kind_of watcher.now) (tally_of watcher.now)))
+        (C.shown con.old) (C.shown con.new)) }
     ensures later { C.faults con.old ≤ C.faults con.new }
     ensures cause { OnErr result (Rose (C.faults con.old) (C.faults con.new)) }
     ensures step { OnErr result (C.faults con.new ≡ counted (C.faults con.old)) }
@@ -76,9 +78,12 @@ impl Panel {
         con: &mut C,
         port: Port,
     ) -> Result<(), Failed>
-        ensures left { OnOk result (states_of kind_of tally_of self.new.watchers.items ≡ left_after row v.now (states_of kind_of tally_of self.old.watchers.items)) }
-        ensures puts { OnOk result (C.shown con.new ≡ appended port (lines_at row v.now (states_of kind_of tally_of self.old.watchers.items)) (C.shown con.old)) }
-        ensures stops { OnErr result (StopsAt row v.now (states_of kind_of tally_of self.old.watchers.items) (states_of kind_of tally_of self.new.watchers.items) port (C.shown con.old) (C.shown con.new)) }
+        ensures left { OnOk result (states_of kind_of tally_of self.new.watchers.items
+            ≡ left_after row v.now (states_of kind_of tally_of self.old.watchers.items)) }
+        ensures puts { OnOk result (C.shown con.new
+            ≡ appended port (lines_at row v.now (states_of kind_of tally_of self.old.watchers.items)) (C.shown con.old)) }
+        ensures stops { OnErr result (StopsAt row v.now (states_of kind_of tally_of self.old.watchers.items)
+            (states_of kind_of tally_of self.new.watchers.items) port (C.shown con.old) (C.shown con.new)) }
         ensures cause { OnErr result (Rose (C.faults con.old) (C.faults con.new)) }
         ensures step { OnErr result (C.faults con.new ≡ counted (C.faults con.old)) }
         ensures fine { OnOk result (C.faults con.new ≡ C.faults con.old) }
@@ -100,8 +105,10 @@ impl Panel {
     /// Puts the lines of the boxes that are left, in order, each with a line feed, and nothing more after a put that fails. All boxes are
     /// dropped. A put fails only where the console's count of faults rose. Takes no memory.
     pub fn close<C: Console>(self, con: &mut C, port: Port) -> Result<(), Failed>
-        ensures puts { OnOk result (C.shown con.new ≡ appended port (last_lines (states_of kind_of tally_of self.watchers.items)) (C.shown con.old)) }
-        ensures cut { OnErr result (FailsAfter port (last_lines (states_of kind_of tally_of self.watchers.items)) (C.shown con.old) (C.shown con.new)) }
+        ensures puts { OnOk result (C.shown con.new
+            ≡ appended port (last_lines (states_of kind_of tally_of self.watchers.items)) (C.shown con.old)) }
+        ensures cut { OnErr result (FailsAfter port (last_lines (states_of kind_of tally_of self.watchers.items))
+            (C.shown con.old) (C.shown con.new)) }
         ensures cause { OnErr result (Rose (C.faults con.old) (C.faults con.new)) }
         ensures step { OnErr result (C.faults con.new ≡ counted (C.faults con.old)) }
         ensures fine { OnOk result (C.faults con.new ≡ C.faults con.old) }

@@ -1,26 +1,27 @@
 //! The steps before the work: the source is read and compiled, the names are looked for, the further files are read.
-ghost use Rattle.std.specs.Prelude.{◌≡◌, ◌≢◌, ◌≤◌, ◌<◌, Err, [], ◌∷◌, map, length, slice_get, Some, IfOk, IfErr, string_bytes};
+ghost use Rattle.std.specs.Prelude.{◌≡◌, ◌≢◌, ◌≤◌, Err, [], ◌∷◌, map, length, IfOk, IfErr, string_bytes};
 ghost use Rattle.ln_base.specs.Outside.{Rose};
 ghost use Rattle.ln_tree.specs.Table.{pred_of};
-ghost use Rattle.ln_code.specs.Kept.{IsProgram};
 ghost use Rattle.ln_cemit.specs.Emitted.{AreKept};
-ghost use Rattle.ln_compile.specs.Compiled.{AreProgramsOf, IsProgramOf};
+ghost use Rattle.ln_compile.specs.Compiled.{AreProgramsOf};
 ghost use Rattle.ln_top.specs.Listing.{AreListable};
 ghost use Rattle.ln_top.specs.Plan.{with_bytes};
 ghost use Rattle.ln_top.specs.Source.{view};
 ghost use Rattle.ln_top.specs.Steps.{Compiles, Each, Finds, Given, Prepares, Reads, Then, gives, most_source, most_file};
 ghost use Rattle.ln_top.specs.Carried.{Halts};
+ghost use Rattle.ln_top.specs.Target.{IsGivenBy};
 ghost use Rattle.ln_verify.specs.Accepted.{AreAccepted};
 ghost use Rattle.ln_top.specs.Ready.{HasNumbers, HasStanding, IsReady, IsSource, StandsFor};
 
-use crate::listable::listable;
+use crate::listable::{kept, listable};
 use crate::source::compiled;
 use crate::stop::{Stop, Why};
+use crate::target::Target;
 use crate::words::Plan;
 use ln_base::{Files, ReadStop, read_whole};
-use ln_code::{Program, Programs};
+use ln_code::Programs;
 use ln_compile::Compiled;
-use ln_tree::{Pred, Table};
+use ln_tree::Table;
 use std::alloc::Global;
 
 /// The most bytes of a source file.
@@ -40,19 +41,11 @@ pub struct Ready {
     pub texts: Vec<Vec<u8>>,
 }
 
-/// A predicate with its table and its program.
-#[derive(Clone, Copy)]
-pub struct Target<'a> {
-    pub table: &'a Table,
-    pub pred: &'a Pred,
-    pub program: &'a Program,
-}
-
 // The bytes of a file within its limit.
 fn file<F: Files>(alloc: Global, files: &mut F, name: &str, limit: usize) -> Result<Vec<u8>, Stop>
     ensures told { F.told files.new ≡ F.told files.old }
     ensures ok { IfOk result (λ v. Reads (F.told files.old) limit name.now (gives v.items)) }
-    ensures err { IfErr result (λ s. Halts (Reads (F.told files.old) limit name.now) (Rose (F.faults files.old) (F.faults files.new)) s) }
+    ensures err { IfErr result (Halts (Reads (F.told files.old) limit name.now) (Rose (F.faults files.old) (F.faults files.new))) }
     ensures limit { IfOk result (λ v. length v.items ≤ limit) }
     ensures quiet { result ≢ Err Stop.Read → F.faults files.new ≡ F.faults files.old }
 {
@@ -67,7 +60,7 @@ fn file<F: Files>(alloc: Global, files: &mut F, name: &str, limit: usize) -> Res
 // The numbers of the names.
 fn numbers(alloc: Global, c: &Compiled, names: &[String]) -> Result<Vec<usize>, Stop>
     ensures ok { IfOk result (λ v. HasNumbers (map pred_of c.now.table.preds) (map string_bytes names.now) v.items) }
-    ensures err { IfErr result (λ s. Halts (Each (Finds (map pred_of c.now.table.preds)) (map string_bytes names.now)) ⊥ s) }
+    ensures err { IfErr result (Halts (Each (Finds (map pred_of c.now.table.preds)) (map string_bytes names.now)) ⊥) }
     ensures count { IfOk result (λ v. length v.items ≡ length names.now) }
 {
     let mut numbers = Vec::new(alloc);
@@ -85,8 +78,10 @@ fn numbers(alloc: Global, c: &Compiled, names: &[String]) -> Result<Vec<usize>, 
 // The bytes of the further files.
 fn texts<F: Files>(alloc: Global, files: &mut F, names: &[String]) -> Result<Vec<Vec<u8>>, Stop>
     ensures told { F.told files.new ≡ F.told files.old }
-    ensures ok { IfOk result (λ v. Each (Reads (F.told files.old) most_file) (map string_bytes names.now) (gives (map (λ t. t.items) v.items))) }
-    ensures err { IfErr result (λ s. Halts (Each (Reads (F.told files.old) most_file) (map string_bytes names.now)) (Rose (F.faults files.old) (F.faults files.new)) s) }
+    ensures ok { IfOk result (λ v. Each (Reads (F.told files.old) most_file) (map string_bytes names.now)
+        (gives (map (λ t. t.items) v.items))) }
+    ensures err { IfErr result (Halts (Each (Reads (F.told files.old) most_file) (map string_bytes names.now))
+        (Rose (F.faults files.old) (F.faults files.new))) }
     ensures count { IfOk result (λ v. length v.items ≡ length names.now) }
     ensures quiet { result ≢ Err Stop.Read → F.faults files.new ≡ F.faults files.old }
 {
@@ -108,7 +103,8 @@ fn texts<F: Files>(alloc: Global, files: &mut F, names: &[String]) -> Result<Vec
 fn source<F: Files>(alloc: Global, files: &mut F, name: &str) -> Result<Compiled, Stop>
     ensures told { F.told files.new ≡ F.told files.old }
     ensures ok { IfOk result (λ c. IsSource (F.told files.old) name.now (view c.table)) }
-    ensures err { IfErr result (λ s. Halts (Then (Reads (F.told files.old) most_source name.now) Compiles) (Rose (F.faults files.old) (F.faults files.new)) s) }
+    ensures err { IfErr result (Halts (Then (Reads (F.told files.old) most_source name.now) Compiles)
+        (Rose (F.faults files.old) (F.faults files.new))) }
     ensures quiet { result ≢ Err Stop.Read → F.faults files.new ≡ F.faults files.old }
 {
     let bytes = match file(alloc, files, name, SOURCE_LIMIT) {
@@ -124,7 +120,8 @@ fn source<F: Files>(alloc: Global, files: &mut F, name: &str) -> Result<Compiled
 /// Takes the steps of a plan.
 pub fn prepare<F: Files>(alloc: Global, files: &mut F, plan: Plan<'_>) -> Result<Ready, Stop>
     ensures ok { IfOk result (λ r. IsReady (with_bytes plan.entry) (F.told files.old) r) }
-    ensures err { IfErr result (λ s. Halts (Prepares (with_bytes plan.entry) (F.told files.old)) (Rose (F.faults files.old) (F.faults files.new)) s) }
+    ensures err { IfErr result (Halts (Prepares (with_bytes plan.entry) (F.told files.old))
+        (Rose (F.faults files.old) (F.faults files.new))) }
     ensures numbers { IfOk result (λ r. length r.numbers.items ≡ length plan.entry.names.now) }
     ensures texts { IfOk result (λ r. length r.texts.items ≡ length plan.entry.files.now) }
     ensures quiet { result ≢ Err Stop.Read → F.faults files.new ≡ F.faults files.old }
@@ -147,38 +144,13 @@ pub fn prepare<F: Files>(alloc: Global, files: &mut F, plan: Plan<'_>) -> Result
     }
 }
 
-// The predicate with this number.
-fn numbered(c: &Compiled, i: usize) -> Target<'_>
-    requires { i < length c.now.table.preds }
-    ensures table { result.table.now ≡ c.now.table }
-    ensures pred { slice_get c.now.table.preds i ≡ Some result.pred.now }
-    ensures program { IsProgramOf (pred_of result.pred.now) result.program.now }
-{
-    Target {
-        table: c.table(),
-        pred: &c.table().preds.as_slice()[i],
-        program: &c.programs().as_slice()[i],
-    }
-}
-
 /// The one named predicate.
 pub fn one_target(ready: &Ready) -> Target<'_>
     requires stands { HasStanding ready.now }
     requires one { length ready.now.numbers.items ≡ 1 }
-    ensures table { (g : Given) → StandsFor ready.now g → g.table ≡ view result.table.now }
-    ensures pred { (g : Given) → StandsFor ready.now g → g.preds ≡ pred_of result.pred.now ∷ [] }
-    ensures program { IsProgramOf (pred_of result.pred.now) result.program.now }
+    ensures { (g : Given) → StandsFor ready.now g → IsGivenBy g result }
 {
-    numbered(&ready.compiled, ready.numbers.as_slice()[0])
-}
-
-/// A program with what its type keeps.
-pub fn kept(program: &Program) -> &Program
-    ensures same { result.now ≡ program.now }
-    ensures kept { IsProgram program.now }
-{
-    let _blocks = program.blocks();
-    program
+    Target::new(&ready.compiled, ready.numbers.as_slice()[0])
 }
 
 /// The programs, each with what its type keeps.

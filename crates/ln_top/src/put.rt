@@ -8,7 +8,8 @@ use ln_base::{Console, Port, put_all};
 
 /// Puts a text on Out, and says whether all of it was put.
 pub fn put_out<C: Console>(con: &mut C, text: &[u8]) -> bool
-    ensures { Wrote text.now [] (count (C.faults con.old) (C.faults con.new)) result (C.shown con.old) (C.shown con.new) }
+    ensures { Wrote text.now []
+        (count (C.faults con.old) (C.faults con.new)) result (C.shown con.old) (C.shown con.new) }
 {
     match put_all(con, Port::Out, text) {
         Ok(()) => true,
@@ -32,7 +33,8 @@ pub fn put_rest<C: Console>(
     text: &[u8],
     ran: Result<bool, Early>,
 ) -> Result<bool, Early>
-    ensures { Sends text.now ran result (count (C.faults con.old) (C.faults con.new)) (C.shown con.old) (C.shown con.new) }
+    ensures { Sends text.now ran result
+        (count (C.faults con.old) (C.faults con.new)) (C.shown con.old) (C.shown con.new) }
 {
     if has_failed(ran) {
         return Err(Early::Write);

@@ -1,32 +1,29 @@
 //! The work of `run`: a line for each record behind the header, and the lines of the watchers.
-ghost use Rattle.std.specs.Prelude.{◌&&◌, ◌≡◌, ◌≤◌, ◌<◌, ◌+◌, ◌++◌, [], ◌∷◌, ℕ, List, true, vec_len, vec_capacity, IfOk, IsOk, OnOk, OnErr};
-ghost use Rattle.ln_tree.specs.Row.{InRange};
-ghost use Rattle.ln_tree.specs.Table.{pred_of};
+ghost use Rattle.std.specs.Prelude.{◌&&◌, ◌≡◌, ◌≤◌, ◌<◌, ◌+◌, ◌++◌, [], ◌∷◌, ℕ, List, true};
+ghost use Rattle.std.specs.Prelude.{vec_len, vec_capacity, IfOk, IsOk, OnOk, OnErr};
 ghost use Rattle.ln_code.specs.Memory.{MadeFor};
-ghost use Rattle.ln_code.specs.RowOf.{row_of};
-ghost use Rattle.ln_compile.specs.Compiled.{IsProgramOf};
-ghost use Rattle.ln_rows.specs.Record.{read_row, IsReadAs};
 ghost use Rattle.ln_top.specs.Carried.{CarriesOut};
-ghost use Rattle.ln_top.specs.Columns.{names_of};
-ghost use Rattle.ln_top.specs.Line.{Says, is_bare, is_row, is_said, line_room, said_text};
+ghost use Rattle.ln_top.specs.Line.{Says, is_bare_record, is_row, is_said, line_room, said_text};
 ghost use Rattle.ln_top.specs.Lines.{Closes, Gathers, Empties, Takes};
 ghost use Rattle.ln_top.specs.Ready.{IsReadyFor, StandsFor};
-ghost use Rattle.ln_top.specs.Run.{HasRecords, HeaderIs, RunPart, RunSaid, RunStep, end_of, piece, piece_room};
+ghost use Rattle.ln_top.specs.Run.{HasRecords, RunPart, RunSaid, StepOf, end_of, piece, piece_room};
 ghost use Rattle.ln_top.specs.Said.{count, line};
 ghost use Rattle.ln_top.specs.Steps.{Given};
+ghost use Rattle.ln_top.specs.Target.{IsInRange, IsReadFor, pred_in};
 ghost use Rattle.ln_top.specs.Watching.{watching};
 ghost use Rattle.ln_watch.specs.Panel.{last_lines, states_of};
 
 use crate::line::{LINE_ROOM, add_line};
 use crate::panel::Panel;
-use crate::prepare::{Ready, Target, kept, one_target, one_text};
+use crate::prepare::{Ready, one_target, one_text};
 use crate::put::{put_out, put_rest};
 use crate::status::{Early, End};
 use crate::stop::{Stop, Why, say};
+use crate::target::Target;
 use crate::watching::{Viewers, close, view};
 use crate::words::Command;
 use ln_base::{Console, NoMemory, Port};
-use ln_code::{Row, Scratch, Verdict, run_row};
+use ln_code::{Row, Scratch, Verdict};
 use ln_rows::{RowStop, Rows};
 use ln_watch::Watch;
 use std::alloc::Global;
@@ -36,19 +33,19 @@ const PIECE: usize = 65_536;
 
 // What the predicate says of a record that was read: the verdict on its row, or why it is no row.
 fn verdict_of(
-    target: Target<'_>,
+    target: &Target<'_>,
     s: &mut Scratch,
     read: Result<(), RowStop>,
     row: &Row,
 ) -> Result<Verdict, RowStop>
-    requires program { IsProgramOf (pred_of target.pred.now) target.program.now }
-    requires made { MadeFor target.program.now s.old }
-    requires range { OnOk read (InRange target.pred.now.shape.sites target.pred.now.shape.vars (row_of target.pred.now.shape.sites target.pred.now.shape.vars row.now)) }
-    ensures says { (fields : List (List ℕ)) → IsReadAs target.entry.pred.now.shape.sites target.entry.pred.now.shape.vars fields read row.now → Says (pred_of target.entry.pred.now) fields result }
-    ensures made { MadeFor target.entry.program.now s.new }
+    requires made { MadeFor target.now.program s.old }
+    requires range { OnOk read (IsInRange target.now row.now) }
+    ensures says { (fields : List (List ℕ)) → IsReadFor target.now fields read row.now
+        → Says (pred_in target.now) fields result }
+    ensures made { MadeFor target.now.program s.new }
 {
     match read {
-        Ok(()) => Ok(run_row(kept(target.program), s, row)),
+        Ok(()) => Ok(target.verdict(s, row)),
         Err(stop) => Err(stop),
     }
 }
@@ -65,22 +62,23 @@ fn is_verdict(said: &Result<Verdict, RowStop>) -> bool
 // Adds the line of a record that was read, and tells what is said of it. Only a line that names a column takes memory.
 fn add_record(
     alloc: Global,
-    target: Target<'_>,
+    target: &Target<'_>,
     s: &mut Scratch,
     read: Result<(), RowStop>,
     row: &Row,
     text: &mut Vec<u8>,
 ) -> Result<Result<Verdict, RowStop>, NoMemory>
-    requires program { IsProgramOf (pred_of target.pred.now) target.program.now }
-    requires made { MadeFor target.program.now s.old }
-    requires range { OnOk read (InRange target.pred.now.shape.sites target.pred.now.shape.vars (row_of target.pred.now.shape.sites target.pred.now.shape.vars row.now)) }
+    requires made { MadeFor target.now.program s.old }
+    requires range { OnOk read (IsInRange target.now row.now) }
     requires room { vec_len text.old + line_room ≤ vec_capacity text.old }
-    ensures says { IfOk result (λ said. (fields : List (List ℕ)) → IsReadAs target.entry.pred.now.shape.sites target.entry.pred.now.shape.vars fields read row.now → Says (pred_of target.entry.pred.now) fields said) }
-    ensures line { IfOk result (λ said. text.new.items ≡ text.old.items ++ line (said_text (names_of target.entry.table.now target.entry.pred.now) said)) }
+    ensures says { IfOk result (λ said. (fields : List (List ℕ)) → IsReadFor target.now fields read row.now
+        → Says (pred_in target.now) fields said) }
+    ensures line { IfOk result (λ said. text.new.items ≡ text.old.items ++ line (said_text target.now.names said)) }
     ensures err { OnErr result (text.new.items ≡ text.old.items) }
-    ensures made { MadeFor target.entry.program.now s.new }
+    ensures made { MadeFor target.now.program s.new }
     ensures room { vec_capacity text.old ≤ vec_capacity text.new }
-    ensures steady { (fields : List (List ℕ)) → IsReadAs target.entry.pred.now.shape.sites target.entry.pred.now.shape.vars fields read row.now → is_bare (read_row target.entry.pred.now.shape.sites target.entry.pred.now.shape.vars fields) ≡ true → IsOk result }
+    ensures steady { (fields : List (List ℕ)) → IsReadFor target.now fields read row.now
+        → is_bare_record (pred_in target.now) fields ≡ true → IsOk result }
 {
     let said = verdict_of(target, s, read, row);
     add_line(alloc, text, target, said)?;
@@ -91,19 +89,23 @@ fn add_record(
 fn take_record<C: Console>(
     alloc: Global,
     con: &mut C,
-    target: Target<'_>,
+    target: &Target<'_>,
     s: &mut Scratch,
     read: Result<(), RowStop>,
     row: &Row,
     text: &mut Vec<u8>,
     viewers: &mut Viewers,
 ) -> Result<bool, Early>
-    requires program { IsProgramOf (pred_of target.pred.now) target.program.now }
-    requires made { MadeFor target.program.now s.old }
-    requires range { OnOk read (InRange target.pred.now.shape.sites target.pred.now.shape.vars (row_of target.pred.now.shape.sites target.pred.now.shape.vars row.now)) }
+    requires made { MadeFor target.now.program s.old }
+    requires range { OnOk read (IsInRange target.now row.now) }
     requires room { vec_len text.old + line_room ≤ vec_capacity text.old }
-    ensures takes { (fields : List (List ℕ)) → IsReadAs target.entry.pred.now.shape.sites target.entry.pred.now.shape.vars fields read row.now → Takes (RunStep (pred_of target.entry.pred.now) (names_of target.entry.table.now target.entry.pred.now)) (is_row (pred_of target.entry.pred.now)) (watching viewers.old.seen (states_of kind_of tally_of viewers.old.panel.watchers.items)) fields (count (C.faults con.old) (C.faults con.new)) result text.old.items text.new.items (C.shown con.old) (C.shown con.new) (watching viewers.new.seen (states_of kind_of tally_of viewers.new.panel.watchers.items)) }
-    ensures made { MadeFor target.entry.program.now s.new }
+    ensures takes { (fields : List (List ℕ)) → IsReadFor target.now fields read row.now
+        → Takes (StepOf target.now) (is_row (pred_in target.now))
+        (watching viewers.old.seen (states_of kind_of tally_of viewers.old.panel.watchers.items)) fields
+        (count (C.faults con.old) (C.faults con.new)) result text.old.items text.new.items
+        (C.shown con.old) (C.shown con.new)
+        (watching viewers.new.seen (states_of kind_of tally_of viewers.new.panel.watchers.items)) }
+    ensures made { MadeFor target.now.program s.new }
     ensures room { vec_capacity text.old ≤ vec_capacity text.new }
 {
     let said = match add_record(alloc, target, s, read, row, text) {
@@ -118,7 +120,8 @@ fn take_record<C: Console>(
 
 // Puts what is gathered, where that is a piece, and says whether all of it was put.
 fn put_piece<C: Console>(con: &mut C, text: &mut Vec<u8>) -> bool
-    ensures empties { Empties text.old.items text.new.items (count (C.faults con.old) (C.faults con.new)) result (C.shown con.old) (C.shown con.new) }
+    ensures empties { Empties text.old.items text.new.items
+        (count (C.faults con.old) (C.faults con.new)) result (C.shown con.old) (C.shown con.new) }
     ensures less { result ≡ true → vec_len text.new < piece }
     ensures room { vec_capacity text.new ≡ vec_capacity text.old }
 {
@@ -132,14 +135,6 @@ fn put_piece<C: Console>(con: &mut C, text: &mut Vec<u8>) -> bool
     true
 }
 
-// Reads the first record: is it the columns' names?
-fn take_header(target: Target<'_>, rows: &mut Rows) -> Result<bool, NoMemory>
-    ensures { IfOk result (λ right. HeaderIs (names_of target.entry.table.now target.entry.pred.now) rows.old rows.new right) }
-{
-    let right = rows.header(target.table, target.pred)?;
-    Ok(right)
-}
-
 fn both(a: bool, b: bool) -> bool
     ensures { result ≡ (a && b) }
 {
@@ -151,17 +146,19 @@ fn both(a: bool, b: bool) -> bool
 fn put_records<C: Console>(
     alloc: Global,
     con: &mut C,
-    target: Target<'_>,
+    target: &Target<'_>,
     s: &mut Scratch,
-    rows: &mut Rows,
+    rows: &mut Rows<'_>,
     text: &mut Vec<u8>,
     viewers: &mut Viewers,
 ) -> Result<bool, Early>
-    requires program { IsProgramOf (pred_of target.pred.now) target.program.now }
-    requires made { MadeFor target.program.now s.old }
+    requires made { MadeFor target.now.program s.old }
     requires room { piece_room ≤ vec_capacity text.old }
     requires empty { text.old.items ≡ [] }
-    ensures { Gathers (RunStep (pred_of target.entry.pred.now) (names_of target.entry.table.now target.entry.pred.now)) (is_row (pred_of target.entry.pred.now)) (watching viewers.old.seen (states_of kind_of tally_of viewers.old.panel.watchers.items)) rows.old (count (C.faults con.old) (C.faults con.new)) result text.new.items (C.shown con.old) (C.shown con.new) (watching viewers.new.seen (states_of kind_of tally_of viewers.new.panel.watchers.items)) }
+    ensures { Gathers (StepOf target.now) (is_row (pred_in target.now))
+        (watching viewers.old.seen (states_of kind_of tally_of viewers.old.panel.watchers.items)) rows.old
+        (count (C.faults con.old) (C.faults con.new)) result text.new.items (C.shown con.old) (C.shown con.new)
+        (watching viewers.new.seen (states_of kind_of tally_of viewers.new.panel.watchers.items)) }
 {
     let mut row = Row {
         index: [0; 5],
@@ -172,7 +169,7 @@ fn put_records<C: Console>(
         if !put_piece(con, text) {
             return Err(Early::Write);
         }
-        match rows.next_row(target.pred, &mut row) {
+        match rows.next_row(target.pred(), &mut row) {
             Ok(Some(read)) => match take_record(alloc, con, target, s, read, &row, text, viewers) {
                 Ok(right) => good = both(good, right),
                 Err(early) => return Err(early),
@@ -191,7 +188,8 @@ fn end_of(good: bool) -> End
 
 // Puts the lines of the watchers that are left behind the records.
 fn close_after<C: Console>(con: &mut C, panel: Panel, good: bool) -> Result<End, Early>
-    ensures { Closes (last_lines (states_of kind_of tally_of panel.watchers.items)) (end_of good) (count (C.faults con.old) (C.faults con.new)) result (C.shown con.old) (C.shown con.new) }
+    ensures { Closes (last_lines (states_of kind_of tally_of panel.watchers.items)) (end_of good)
+        (count (C.faults con.old) (C.faults con.new)) result (C.shown con.old) (C.shown con.new) }
 {
     if !close(con, Port::Err, panel) {
         return Err(Early::Write);
@@ -203,14 +201,16 @@ fn close_after<C: Console>(con: &mut C, panel: Panel, good: bool) -> Result<End,
 fn run_rows<C: Console>(
     alloc: Global,
     con: &mut C,
-    target: Target<'_>,
-    rows: &mut Rows,
+    target: &Target<'_>,
+    rows: &mut Rows<'_>,
     watchers: Vec<Box<dyn Watch>>,
 ) -> Result<End, Early>
-    requires { IsProgramOf (pred_of target.pred.now) target.program.now }
-    ensures { (g : Given) → HasRecords g (pred_of target.entry.pred.now) (names_of target.entry.table.now target.entry.pred.now) (names_of target.entry.table.now target.entry.pred.now ∷ rows.old) → CarriesOut (RunSaid (states_of kind_of tally_of watchers.items) g) (RunPart (states_of kind_of tally_of watchers.items) g) ⊥ ⊥ (count (C.faults con.old) (C.faults con.new)) result (C.shown con.old) (C.shown con.new) }
+    ensures { (g : Given) → HasRecords g (pred_in target.now) target.now.names (target.now.names ∷ rows.old)
+        → CarriesOut (RunSaid (states_of kind_of tally_of watchers.items) g)
+        (RunPart (states_of kind_of tally_of watchers.items) g) ⊥ ⊥
+        (count (C.faults con.old) (C.faults con.new)) result (C.shown con.old) (C.shown con.new) }
 {
-    let Ok(mut scratch) = Scratch::new(alloc, kept(target.program)) else {
+    let Ok(mut scratch) = target.scratch(alloc) else {
         return Err(Early::Memory);
     };
     let Ok(mut text) = Vec::with_capacity(alloc, PIECE + LINE_ROOM) else {
@@ -241,12 +241,15 @@ pub(crate) fn work<C: Console>(
     watchers: Vec<Box<dyn Watch>>,
 ) -> Result<End, Early>
     requires { IsReadyFor Command.Run ready.now }
-    ensures { (g : Given) → StandsFor ready.now g → CarriesOut (RunSaid (states_of kind_of tally_of watchers.items) g) (RunPart (states_of kind_of tally_of watchers.items) g) ⊥ ⊥ (count (C.faults con.old) (C.faults con.new)) result (C.shown con.old) (C.shown con.new) }
+    ensures { (g : Given) → StandsFor ready.now g
+        → CarriesOut (RunSaid (states_of kind_of tally_of watchers.items) g)
+        (RunPart (states_of kind_of tally_of watchers.items) g) ⊥ ⊥
+        (count (C.faults con.old) (C.faults con.new)) result (C.shown con.old) (C.shown con.new) }
 {
     let target = one_target(ready);
     let mut rows = Rows::new(alloc, one_text(ready));
-    match take_header(target, &mut rows) {
-        Ok(true) => run_rows(alloc, con, target, &mut rows, watchers),
+    match target.take_header(&mut rows) {
+        Ok(true) => run_rows(alloc, con, &target, &mut rows, watchers),
         Ok(false) => say(alloc, con, Stop::Tell(Why::Header)),
         Err(_) => Err(Early::Memory),
     }

@@ -1,30 +1,17 @@
 //! Why a command stops before its work, and the puts of whole texts.
 ghost use Rattle.std.specs.Prelude.{◌≡◌, ◌≢◌, IfOk, decimal, string_bytes};
 ghost use Rattle.ln_top.specs.Said.{count, line};
-ghost use Rattle.ln_top.specs.Stop.{kind_text, refusal_text, why_end};
+ghost use Rattle.ln_top.specs.Stop.{refusal_text, why_end};
 ghost use Rattle.ln_top.specs.Carried.{PutsText, Says, stop_line, stop_result};
 
 use crate::status::{Early, End};
 use ln_base::{Console, NoMemory, Port, put_all};
+use ln_compile::Refusal;
 use std::alloc::{AllocError, Global};
 
-/// What a source is refused for.
+/// The line and the column of a byte of the source, from 1.
 #[derive(Clone, Copy)]
-pub enum Kind {
-    Lexical,
-    Limit,
-    Syntax,
-    Name,
-    Bound,
-    Terms,
-    Zero,
-    Stages,
-}
-
-/// A refusal of the source: what for, and the line and the column, from 1.
-#[derive(Clone, Copy)]
-pub struct Refusal {
-    pub kind: Kind,
+pub struct Place {
     pub line: u32,
     pub col: u32,
 }
@@ -36,8 +23,8 @@ pub enum Why {
     Usage,
     /// A file has more bytes than its limit.
     TooLong,
-    /// The source is refused.
-    Refused(Refusal),
+    /// The source is refused for this, at this place.
+    Refused(Refusal, Place),
     /// The source has no predicate of a name.
     NoPredicate,
     /// The first record isn't the columns' names.
@@ -63,25 +50,10 @@ impl Why {
         match self {
             Why::Usage => End::Usage,
             Why::TooLong => End::TooLong,
-            Why::Refused(_) => End::Refused,
+            Why::Refused(..) => End::Refused,
             Why::NoPredicate => End::NoPredicate,
             Why::Header => End::Rows,
         }
-    }
-}
-
-fn kind_text(kind: Kind) -> &'static [u8]
-    ensures { result.now ≡ kind_text kind }
-{
-    match kind {
-        Kind::Lexical => b"lexical",
-        Kind::Limit => b"limit",
-        Kind::Syntax => b"syntax",
-        Kind::Name => b"name",
-        Kind::Bound => b"bound",
-        Kind::Terms => b"terms",
-        Kind::Zero => b"zero",
-        Kind::Stages => b"stages",
     }
 }
 
@@ -91,14 +63,14 @@ pub(crate) fn number(alloc: Global, n: u32) -> Result<String, AllocError>
     format!(in alloc; "{n}")
 }
 
-fn refusal_line(alloc: Global, r: Refusal) -> Result<Vec<u8>, NoMemory>
-    ensures { IfOk result (λ v. v.items ≡ line (refusal_text r)) }
+fn refusal_line(alloc: Global, r: Refusal, place: Place) -> Result<Vec<u8>, NoMemory>
+    ensures { IfOk result (λ v. v.items ≡ line (refusal_text r place)) }
 {
-    let row = number(alloc, r.line)?;
-    let col = number(alloc, r.col)?;
+    let row = number(alloc, place.line)?;
+    let col = number(alloc, place.col)?;
     let mut text = Vec::new(alloc);
     text.extend_from_slice(b"error ")?;
-    text.extend_from_slice(kind_text(r.kind))?;
+    text.extend_from_slice(r.word().as_bytes())?;
     text.extend_from_slice(b" ")?;
     text.extend_from_slice(row.as_bytes())?;
     text.extend_from_slice(b":")?;
@@ -122,7 +94,8 @@ fn stop_result(stop: Stop) -> Result<End, Early>
 fn put_line<C: Console>(con: &mut C, stop: Stop, text: &[u8]) -> Result<End, Early>
     requires line { text.now ≡ stop_line stop }
     requires some { stop ≢ Stop.Memory }
-    ensures { Says stop (count (C.faults con.old) (C.faults con.new)) result (C.shown con.old) (C.shown con.new) }
+    ensures { Says stop
+        (count (C.faults con.old) (C.faults con.new)) result (C.shown con.old) (C.shown con.new) }
 {
     match put_all(con, Port::Err, text) {
         Ok(()) => stop_result(stop),
@@ -132,7 +105,8 @@ fn put_line<C: Console>(con: &mut C, stop: Stop, text: &[u8]) -> Result<End, Ear
 
 /// Puts the line of a stop on Err. Only that of a refused source takes memory.
 pub fn say<C: Console>(alloc: Global, con: &mut C, stop: Stop) -> Result<End, Early>
-    ensures { Says stop (count (C.faults con.old) (C.faults con.new)) result (C.shown con.old) (C.shown con.new) }
+    ensures { Says stop
+        (count (C.faults con.old) (C.faults con.new)) result (C.shown con.old) (C.shown con.new) }
 {
     match stop {
         Stop::Read => put_line(con, stop, b"error read\n"),
@@ -141,7 +115,7 @@ pub fn say<C: Console>(alloc: Global, con: &mut C, stop: Stop) -> Result<End, Ea
         Stop::Tell(Why::TooLong) => put_line(con, stop, b"error long\n"),
         Stop::Tell(Why::NoPredicate) => put_line(con, stop, b"error predicate\n"),
         Stop::Tell(Why::Header) => put_line(con, stop, b"error header\n"),
-        Stop::Tell(Why::Refused(r)) => match refusal_line(alloc, r) {
+        Stop::Tell(Why::Refused(r, place)) => match refusal_line(alloc, r, place) {
             Ok(text) => put_line(con, stop, &text),
             Err(_) => Err(Early::Memory),
         },
@@ -150,7 +124,8 @@ pub fn say<C: Console>(alloc: Global, con: &mut C, stop: Stop) -> Result<End, Ea
 
 /// Puts a whole text on Out.
 pub fn put_text<C: Console>(con: &mut C, text: &[u8], end: End) -> Result<End, Early>
-    ensures { PutsText text.now end (count (C.faults con.old) (C.faults con.new)) result (C.shown con.old) (C.shown con.new) }
+    ensures { PutsText text.now end
+        (count (C.faults con.old) (C.faults con.new)) result (C.shown con.old) (C.shown con.new) }
 {
     match put_all(con, Port::Out, text) {
         Ok(()) => Ok(end),

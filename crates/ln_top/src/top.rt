@@ -3,7 +3,7 @@ ghost use Rattle.std.specs.Prelude.{◌≡◌, ◌≢◌, ◌⊎◌, [], map, st
 ghost use Rattle.ln_base.specs.Outside.{Rose, counted};
 ghost use Rattle.ln_top.specs.Answer.{Answer, IsMissing, Part, PlanOwes, PlanPart, PlanLacks};
 ghost use Rattle.ln_top.specs.Carried.{CarriesOut, LeavesFronts, LeavesPart, read_line};
-ghost use Rattle.ln_top.specs.Causes.{Answered, Ends, EndsExactly, ExactlyWhere, IsSettled, SaysLine};
+ghost use Rattle.ln_top.specs.Causes.{Answered, Ends, EndsAt, EndsExactly, ExactlyWhere, IsSettled, SaysLine};
 ghost use Rattle.ln_top.specs.Emitted.{CallsArePerturbed};
 ghost use Rattle.ln_top.specs.Headline.{SignsArePerturbed};
 ghost use Rattle.ln_top.specs.Listed.{ListingGivesSigns};
@@ -33,7 +33,10 @@ fn work<C: Console>(
     watchers: Vec<Box<dyn Watch>>,
 ) -> Result<End, Early>
     requires { IsReadyFor command ready.now }
-    ensures { (g : Given) → StandsFor ready.now g → CarriesOut (WorkOwes command (states_of kind_of tally_of watchers.items) g) (WorkPart command (states_of kind_of tally_of watchers.items) g) ⊥ ⊥ (count (C.faults con.old) (C.faults con.new)) result (C.shown con.old) (C.shown con.new) }
+    ensures { (g : Given) → StandsFor ready.now g
+        → CarriesOut (WorkOwes command (states_of kind_of tally_of watchers.items) g)
+        (WorkPart command (states_of kind_of tally_of watchers.items) g) ⊥ ⊥
+        (count (C.faults con.old) (C.faults con.new)) result (C.shown con.old) (C.shown con.new) }
 {
     match command {
         Command::Check => check::work(alloc, con, ready),
@@ -54,7 +57,11 @@ fn carry_plan<F: Files, C: Console>(
     watchers: Vec<Box<dyn Watch>>,
 ) -> Result<End, Early>
     requires { HasForm (with_bytes plan) }
-    ensures done { CarriesOut (PlanOwes (with_bytes plan.entry) (F.told files.old) (states_of kind_of tally_of watchers.items)) (PlanPart (with_bytes plan.entry) (F.told files.old) (states_of kind_of tally_of watchers.items)) (PlanLacks (with_bytes plan.entry) (F.told files.old)) (Rose (F.faults files.old) (F.faults files.new)) (count (C.faults con.old) (C.faults con.new)) result (C.shown con.old) (C.shown con.new) }
+    ensures done { CarriesOut
+        (PlanOwes (with_bytes plan.entry) (F.told files.old) (states_of kind_of tally_of watchers.items))
+        (PlanPart (with_bytes plan.entry) (F.told files.old) (states_of kind_of tally_of watchers.items))
+        (PlanLacks (with_bytes plan.entry) (F.told files.old)) (Rose (F.faults files.old) (F.faults files.new))
+        (count (C.faults con.old) (C.faults con.new)) result (C.shown con.old) (C.shown con.new) }
     ensures quiet { result ≢ Err Early.Read → result ≢ Err Early.Write → F.faults files.new ≡ F.faults files.old }
 {
     match prepare(alloc, files, plan) {
@@ -71,7 +78,11 @@ fn carry_out<F: Files, C: Console>(
     con: &mut C,
     watchers: Vec<Box<dyn Watch>>,
 ) -> Result<End, Early>
-    ensures done { CarriesOut (Answer (map string_bytes words.now) (F.told files.old) (states_of kind_of tally_of watchers.items)) (Part (map string_bytes words.now) (F.told files.old) (states_of kind_of tally_of watchers.items)) (IsMissing (map string_bytes words.now) (F.told files.old)) (Rose (F.faults files.old) (F.faults files.new)) (count (C.faults con.old) (C.faults con.new)) result (C.shown con.old) (C.shown con.new) }
+    ensures done { CarriesOut
+        (Answer (map string_bytes words.now) (F.told files.old) (states_of kind_of tally_of watchers.items))
+        (Part (map string_bytes words.now) (F.told files.old) (states_of kind_of tally_of watchers.items))
+        (IsMissing (map string_bytes words.now) (F.told files.old)) (Rose (F.faults files.old) (F.faults files.new))
+        (count (C.faults con.old) (C.faults con.new)) result (C.shown con.old) (C.shown con.new) }
     ensures quiet { result ≢ Err Early.Read → result ≢ Err Early.Write → F.faults files.new ≡ F.faults files.old }
 {
     match plan_of(words) {
@@ -100,19 +111,32 @@ pub fn lnc<F: Files, C: Console>(
 ) -> Status
     // What the words are owed over the files was answered, to the byte, whatever the counts of faults did. Files that tell nothing
     // may hold anything.
-    ensures exact { IsSettled result → Answered (Answer (map string_bytes words.now) (F.told files.old) (states_of kind_of tally_of watchers.items)) result (C.shown con.old) (C.shown con.new) }
+    ensures exact { IsSettled result → Answered
+        (Answer (map string_bytes words.now) (F.told files.old) (states_of kind_of tally_of watchers.items)) result
+        (C.shown con.old) (C.shown con.new) }
     // Valid input is carried out, where neither count of faults rises and memory is there.
-    ensures complete { IfSome (F.told files.old) (λ shelf. Ends (map string_bytes words.now) (Some shelf) End.Done → (Rose (F.faults files.old) (F.faults files.new) → ⊥) → (Rose (C.faults con.old) (C.faults con.new) → ⊥) → (result ≡ Status.Done) ⊎ (result ≡ Status.Memory)) }
+    ensures complete { IfSome (F.told files.old) (λ shelf. Ends (map string_bytes words.now) (Some shelf) End.Done
+        → (Rose (F.faults files.old) (F.faults files.new) → ⊥) → (Rose (C.faults con.old) (C.faults con.new) → ⊥)
+        → (result ≡ Status.Done) ⊎ (result ≡ Status.Memory)) }
     // Each status that says what was owed comes exactly where the steps end so; and the same for each one by its name.
-    ensures ends { IfSome (F.told files.old) (λ shelf. EndsExactly (map string_bytes words.now) shelf result (Rose (F.faults files.old) (F.faults files.new)) (Rose (C.faults con.old) (C.faults con.new))) }
-    ensures done { IfSome (F.told files.old) (λ shelf. ExactlyWhere Status.Done (Ends (map string_bytes words.now) (Some shelf) End.Done) result (Rose (F.faults files.old) (F.faults files.new)) (Rose (C.faults con.old) (C.faults con.new))) }
-    ensures refused { IfSome (F.told files.old) (λ shelf. ExactlyWhere Status.Refused (Ends (map string_bytes words.now) (Some shelf) End.Refused) result (Rose (F.faults files.old) (F.faults files.new)) (Rose (C.faults con.old) (C.faults con.new))) }
-    ensures usage { ExactlyWhere Status.Usage (plan_of (map string_bytes words.now) ≡ None) result (Rose (F.faults files.old) (F.faults files.new)) (Rose (C.faults con.old) (C.faults con.new)) }
-    ensures rows { IfSome (F.told files.old) (λ shelf. ExactlyWhere Status.Rows (Ends (map string_bytes words.now) (Some shelf) End.Rows) result (Rose (F.faults files.old) (F.faults files.new)) (Rose (C.faults con.old) (C.faults con.new))) }
-    ensures no_predicate { IfSome (F.told files.old) (λ shelf. ExactlyWhere Status.NoPredicate (Ends (map string_bytes words.now) (Some shelf) End.NoPredicate) result (Rose (F.faults files.old) (F.faults files.new)) (Rose (C.faults con.old) (C.faults con.new))) }
-    ensures invalid { IfSome (F.told files.old) (λ shelf. ExactlyWhere Status.Invalid (Ends (map string_bytes words.now) (Some shelf) End.Invalid) result (Rose (F.faults files.old) (F.faults files.new)) (Rose (C.faults con.old) (C.faults con.new))) }
-    ensures too_long { IfSome (F.told files.old) (λ shelf. ExactlyWhere Status.TooLong (Ends (map string_bytes words.now) (Some shelf) End.TooLong) result (Rose (F.faults files.old) (F.faults files.new)) (Rose (C.faults con.old) (C.faults con.new))) }
-    ensures read { result ≡ Status.Read → Rose (F.faults files.old) (F.faults files.new) ⊎ IsMissing (map string_bytes words.now) (F.told files.old) }
+    ensures ends { IfSome (F.told files.old) (λ shelf. EndsExactly (map string_bytes words.now) shelf result
+        (Rose (F.faults files.old) (F.faults files.new)) (Rose (C.faults con.old) (C.faults con.new))) }
+    ensures done { EndsAt End.Done (map string_bytes words.now) (F.told files.old) result
+        (Rose (F.faults files.old) (F.faults files.new)) (Rose (C.faults con.old) (C.faults con.new)) }
+    ensures refused { EndsAt End.Refused (map string_bytes words.now) (F.told files.old) result
+        (Rose (F.faults files.old) (F.faults files.new)) (Rose (C.faults con.old) (C.faults con.new)) }
+    ensures usage { ExactlyWhere Status.Usage (plan_of (map string_bytes words.now) ≡ None) result
+        (Rose (F.faults files.old) (F.faults files.new)) (Rose (C.faults con.old) (C.faults con.new)) }
+    ensures rows { EndsAt End.Rows (map string_bytes words.now) (F.told files.old) result
+        (Rose (F.faults files.old) (F.faults files.new)) (Rose (C.faults con.old) (C.faults con.new)) }
+    ensures no_predicate { EndsAt End.NoPredicate (map string_bytes words.now) (F.told files.old) result
+        (Rose (F.faults files.old) (F.faults files.new)) (Rose (C.faults con.old) (C.faults con.new)) }
+    ensures invalid { EndsAt End.Invalid (map string_bytes words.now) (F.told files.old) result
+        (Rose (F.faults files.old) (F.faults files.new)) (Rose (C.faults con.old) (C.faults con.new)) }
+    ensures too_long { EndsAt End.TooLong (map string_bytes words.now) (F.told files.old) result
+        (Rose (F.faults files.old) (F.faults files.new)) (Rose (C.faults con.old) (C.faults con.new)) }
+    ensures read { result ≡ Status.Read
+        → Rose (F.faults files.old) (F.faults files.new) ⊎ IsMissing (map string_bytes words.now) (F.told files.old) }
     ensures write { result ≡ Status.Write → Rose (C.faults con.old) (C.faults con.new) }
     // A failed put decides: behind it nothing is put, so one fault was counted; and where no fault of writing is told, none was.
     ensures once { result ≡ Status.Write → C.faults con.new ≡ counted (C.faults con.old) }
@@ -121,20 +145,29 @@ pub fn lnc<F: Files, C: Console>(
     ensures quiet { result ≢ Status.Read → result ≢ Status.Write → F.faults files.new ≡ F.faults files.old }
     // A fault of writing leaves the first bytes of what is owed on each port; or, where a file wasn't read, on Err those of the
     // line that says so, and on Out nothing.
-    ensures fronts { result ≡ Status.Write → LeavesFronts (Answer (map string_bytes words.now) (F.told files.old) (states_of kind_of tally_of watchers.items)) (Rose (F.faults files.old) (F.faults files.new) ⊎ IsMissing (map string_bytes words.now) (F.told files.old)) (C.shown con.old) (C.shown con.new) }
+    ensures fronts { result ≡ Status.Write → LeavesFronts
+        (Answer (map string_bytes words.now) (F.told files.old) (states_of kind_of tally_of watchers.items))
+        (Rose (F.faults files.old) (F.faults files.new) ⊎ IsMissing (map string_bytes words.now) (F.told files.old))
+        (C.shown con.old) (C.shown con.new) }
     // Want of memory leaves nothing, or a part that the command names: in the work on rows, the whole lines of the first records.
-    ensures part { result ≡ Status.Memory → LeavesPart (Answer (map string_bytes words.now) (F.told files.old) (states_of kind_of tally_of watchers.items)) (Part (map string_bytes words.now) (F.told files.old) (states_of kind_of tally_of watchers.items)) (C.shown con.old) (C.shown con.new) }
+    ensures part { result ≡ Status.Memory → LeavesPart
+        (Answer (map string_bytes words.now) (F.told files.old) (states_of kind_of tally_of watchers.items))
+        (Part (map string_bytes words.now) (F.told files.old) (states_of kind_of tally_of watchers.items))
+        (C.shown con.old) (C.shown con.new) }
     // The headline: where records behind the right header were worked on to their end, there is one line for each, and that of
     // each that is a row in range begins with the perturbed sign of the predicate on it: the sign of the first coefficient that
     // isn't 0, in the order of infinitesimals by the row's own indices, of the predicate at perturbed inputs.
-    ensures headline { IsSettled result → IfSome (F.told files.old) (λ shelf. SignsArePerturbed (map string_bytes words.now) shelf (states_of kind_of tally_of watchers.items) (C.shown con.old) (C.shown con.new)) }
+    ensures headline { IsSettled result → IfSome (F.told files.old) (λ shelf. SignsArePerturbed (map string_bytes words.now) shelf
+        (states_of kind_of tally_of watchers.items) (C.shown con.old) (C.shown con.new)) }
     // And the C: where `emit` came to its end, what stands on Out is the text of a C file in which, for each predicate and each row in
     // its declared ranges, the call of `ln_NAME` has a meaning, by the subset's written meaning: the perturbed sign.
-    ensures emitted { IsSettled result → IfSome (F.told files.old) (λ shelf. CallsArePerturbed (map string_bytes words.now) shelf (C.shown con.old) (C.shown con.new)) }
+    ensures emitted { IsSettled result → IfSome (F.told files.old) (λ shelf. CallsArePerturbed (map string_bytes words.now) shelf
+        (C.shown con.old) (C.shown con.new)) }
     // And the listing: where `list` came to its end, what stands on Out is the text of a listing that is valid, and `verify` of it says
     // so; for each predicate and each row in its declared ranges the machine of the listing's part has a verdict, so no operation
     // leaves its certified width, and its sign is the perturbed sign.
-    ensures listed { IsSettled result → IfSome (F.told files.old) (λ shelf. ListingGivesSigns (map string_bytes words.now) shelf (C.shown con.old) (C.shown con.new)) }
+    ensures listed { IsSettled result → IfSome (F.told files.old) (λ shelf. ListingGivesSigns (map string_bytes words.now) shelf
+        (C.shown con.old) (C.shown con.new)) }
     // And any listing: where `verify` came to done, the listing has a part for each predicate, and on each row in its declared ranges
     // the machine of the part has a verdict, so no operation leaves its certified width; its sign is the perturbed sign.
     ensures trusted { IfSome (F.told files.old) (λ shelf. ValidTellsSigns (map string_bytes words.now) shelf result) }

@@ -46,7 +46,8 @@ fn fault_text(alloc: Global, at: u32) -> Result<Vec<u8>, NoMemory>
 /// Puts `valid`, or `invalid LINE`.
 pub(crate) fn work<C: Console>(alloc: Global, con: &mut C, ready: &Ready) -> Result<End, Early>
     requires { IsReadyFor Command.Verify ready.now }
-    ensures { (g : Given) → StandsFor ready.now g → CarriesOut (VerifySaid g) NoPart ⊥ ⊥ (count (C.faults con.old) (C.faults con.new)) result (C.shown con.old) (C.shown con.new) }
+    ensures { (g : Given) → StandsFor ready.now g → CarriesOut (VerifySaid g) NoPart ⊥ ⊥
+        (count (C.faults con.old) (C.faults con.new)) result (C.shown con.old) (C.shown con.new) }
 {
     let Ok(fault) = first_fault(alloc, ready) else {
         return Err(Early::Memory);

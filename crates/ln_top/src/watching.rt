@@ -26,8 +26,10 @@ pub(crate) fn show<C: Console>(
     row: u64,
     v: &Verdict,
 ) -> bool
-    ensures wrote { WroteOn port (lines_at row v.now (states_of kind_of tally_of panel.old.watchers.items)) (count (C.faults con.old) (C.faults con.new)) result (C.shown con.old) (C.shown con.new) }
-    ensures left { result ≡ true → states_of kind_of tally_of panel.new.watchers.items ≡ left_after row v.now (states_of kind_of tally_of panel.old.watchers.items) }
+    ensures wrote { WroteOn port (lines_at row v.now (states_of kind_of tally_of panel.old.watchers.items))
+        (count (C.faults con.old) (C.faults con.new)) result (C.shown con.old) (C.shown con.new) }
+    ensures left { result ≡ true → states_of kind_of tally_of panel.new.watchers.items
+        ≡ left_after row v.now (states_of kind_of tally_of panel.old.watchers.items) }
 {
     match panel.show(row, v, con, port) {
         Ok(()) => true,
@@ -41,8 +43,11 @@ pub(crate) fn view<C: Console>(
     viewers: &mut Viewers,
     said: &Result<Verdict, RowStop>,
 ) -> bool
-    ensures wrote { Wrote [] (next_lines said.now (watching viewers.old.seen (states_of kind_of tally_of viewers.old.panel.watchers.items))) (count (C.faults con.old) (C.faults con.new)) result (C.shown con.old) (C.shown con.new) }
-    ensures left { result ≡ true → watching viewers.new.seen (states_of kind_of tally_of viewers.new.panel.watchers.items) ≡ next said.now (watching viewers.old.seen (states_of kind_of tally_of viewers.old.panel.watchers.items)) }
+    ensures wrote { Wrote []
+        (next_lines said.now (watching viewers.old.seen (states_of kind_of tally_of viewers.old.panel.watchers.items)))
+        (count (C.faults con.old) (C.faults con.new)) result (C.shown con.old) (C.shown con.new) }
+    ensures left { result ≡ true → watching viewers.new.seen (states_of kind_of tally_of viewers.new.panel.watchers.items)
+        ≡ next said.now (watching viewers.old.seen (states_of kind_of tally_of viewers.old.panel.watchers.items)) }
 {
     viewers.seen = viewers.seen.saturating_add(1);
     match said {
@@ -53,7 +58,8 @@ pub(crate) fn view<C: Console>(
 
 /// Puts the lines of the boxes that are left, and says whether all of it was put.
 pub(crate) fn close<C: Console>(con: &mut C, port: Port, panel: Panel) -> bool
-    ensures { WroteOn port (last_lines (states_of kind_of tally_of panel.watchers.items)) (count (C.faults con.old) (C.faults con.new)) result (C.shown con.old) (C.shown con.new) }
+    ensures { WroteOn port (last_lines (states_of kind_of tally_of panel.watchers.items))
+        (count (C.faults con.old) (C.faults con.new)) result (C.shown con.old) (C.shown con.new) }
 {
     match panel.close(con, port) {
         Ok(()) => true,

@@ -3,7 +3,8 @@ ghost use Rattle.std.specs.Prelude.{◌≡◌, ◌≤◌, ◌+◌, map, option_m
 ghost use Rattle.std.specs.Char.{is_ascii_digit};
 ghost use Rattle.std.specs.List.{list_all};
 ghost use Rattle.ln_base.specs.Decimal.{is_digits};
-ghost use Rattle.ln_top.specs.Plan.{HasForm, plan_of, plan_for, gen_plan, number_of, plan_behind, command_of, named_command, form, with_bytes};
+ghost use Rattle.ln_top.specs.Plan.{HasForm, command_of, form, named_command, number_of, with_bytes};
+ghost use Rattle.ln_top.specs.Plan.{gen_plan, plan_behind, plan_for, plan_of};
 
 use ln_base::decimal::unsigned;
 

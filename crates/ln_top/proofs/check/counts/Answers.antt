@@ -8,4 +8,5 @@ pub preds-preserved : goal.preds-preserved
 preds-preserved c =
     let few = rw (c.as_slice-p-items.ensures, c.table.ensures) at c.preds-test.true in
     let there = rw (c.as_slice-p-items.ensures, c.table.ensures) at c.p-item.is in
-    counts_more c.args.c.now.table.preds c.preds.i c.p-item.result _ _ _ few there c.preds.invariant c.stage_count.ensures c.in_ok-add_count.ensures
+    counts_more c.args.c.now.table.preds c.preds.i c.p-item.result _ _ _ few there c.preds.invariant c.stage_count.ensures
+    c.in_ok-add_count.ensures

@@ -4,14 +4,16 @@ use Rattle.ln_top.proofs.generate.work.Goals as goal
 pub returns-then-not-put_rows : goal.returns-then-not-put_rows
 returns-then-not-put_rows g c = λ given s.
     let ran = rw (c.new-panel.ensures, c.seed_from_u64-g.ensures) at c.if-not-put_rows.ensures in
-    rows_cut c.one_target-target.result.pred.now c.one_target-target.result.program.now c.kept.ensures.kept c.one_target-target.ensures.program _ _ _ given (c.one_target-target.ensures.pred given s) _ _ _ _ ran
+    rows_cut c.one_target-target.result c.scratch.ensures.belongs _ _ _ given (c.one_target-target.ensures given s).pred _ _ _ _ ran
 
 pub returns-then-not-close : goal.returns-then-not-close
 returns-then-not-close g c = λ given s.
     let ran = rw (c.new-panel.ensures, c.seed_from_u64-g.ensures) at c.if-not-put_rows.ensures in
-    close_cut c.one_target-target.result.pred.now c.one_target-target.result.program.now c.kept.ensures.kept c.one_target-target.ensures.program _ _ _ given (c.one_target-target.ensures.pred given s) _ _ _ _ _ _ _ ran c.if-not-close.ensures
+    close_cut c.one_target-target.result c.scratch.ensures.belongs _ _ _ given (c.one_target-target.ensures given s).pred _ _ _ _ _ _ _ ran
+    c.if-not-close.ensures
 
 pub returns : goal.returns
 returns g c = λ given s.
     let ran = rw (c.new-panel.ensures, c.seed_from_u64-g.ensures) at c.if-not-put_rows.ensures in
-    all_put c.one_target-target.result.pred.now c.one_target-target.result.program.now c.kept.ensures.kept c.one_target-target.ensures.program _ _ _ given (c.one_target-target.ensures.pred given s) _ _ _ _ _ _ _ ran c.if-not-close.ensures
+    all_put c.one_target-target.result c.scratch.ensures.belongs _ _ _ given (c.one_target-target.ensures given s).pred _ _ _ _ _ _ _ ran
+    c.if-not-close.ensures

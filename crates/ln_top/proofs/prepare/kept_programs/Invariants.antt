@@ -4,4 +4,6 @@ use Rattle.ln_top.specs.Listing.{AreListable}
 use Rattle.ln_top.proofs.prepare.kept_programs.Given as goal
 
 abbrev pub invariant-programs : goal.invariant-programs
-invariant-programs l = (AreKept (drop l.p-index l.c.programs) → AreKept l.c.programs) × (AreListable (drop l.p-index l.c.programs) → AreListable l.c.programs)
+invariant-programs l =
+    (AreKept (drop l.p-index l.c.programs) → AreKept l.c.programs)
+    × (AreListable (drop l.p-index l.c.programs) → AreListable l.c.programs)

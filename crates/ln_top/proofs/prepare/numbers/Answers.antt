@@ -10,8 +10,11 @@ returns-in_default-clause-err c =
 
 pub names-preserved : goal.names-preserved
 names-preserved c =
-    let l = left_more string_bytes c.args.names.now c.names.name-index c.name-item.result c.names-test.true c.name-item.is in
-    (looking_more c.args.c.now.table.preds _ _ _ _ _ _ _ c.names.invariant.0 l (sym (rw c.as_str.ensures.value at c.in-Some.ensures)) (search rules), search rules)
+    let l = left_more string_bytes c.args.names.now c.names.name-index c.name-item.result c.names-test.true c.name-item.is in (
+      looking_more c.args.c.now.table.preds _ _ _ _ _ _ _ c.names.invariant.0 l
+          (sym (rw c.as_str.ensures.value at c.in-Some.ensures)) (search rules),
+      search rules,
+    )
 
 pub returns-clause-ok : goal.returns-clause-ok
 returns-clause-ok c = looking_all _ _ _ _ c.names.invariant.0 (left_none string_bytes c.args.names.now c.names.name-index (search rules))

@@ -4,4 +4,6 @@ use Rattle.ln_top.proofs.Prepared.{Looking}
 use Rattle.ln_top.proofs.prepare.numbers.Given as goal
 
 abbrev pub invariant-names : goal.invariant-names
-invariant-names l = Looking (map pred_of l.c.table.preds) (map string_bytes l.names) (map string_bytes (drop l.name-index l.names)) l.numbers.items × (length l.numbers.items ≡ l.name-index)
+invariant-names l =
+    Looking (map pred_of l.c.table.preds) (map string_bytes l.names)
+    (map string_bytes (drop l.name-index l.names)) l.numbers.items × (length l.numbers.items ≡ l.name-index)

@@ -13,14 +13,22 @@ returns-in-Err-clause-err g c =
     let l = left_more string_bytes c.args.names.now c.names.name-index c.name-item.result c.names-test.true c.name-item.is in
     let told = c.names.invariant.0 in
     let stops = rw (c.as_str.ensures.value, told) at c.in-Err.ensures.err in
-    halts_behind (Reads (g.F.Files.told c.args.files.now) most_file) _ _ _ _ _ _ _ _ c.names.invariant.2 l stops (rose_same _ _ _ c.names.invariant.1)
+    halts_behind (Reads (g.F.Files.told c.args.files.now) most_file) _ _ _ _ _ _ _ _ c.names.invariant.2 l stops
+    (rose_same _ _ _ c.names.invariant.1)
 
 pub names-preserved : goal.names-preserved
 names-preserved g c =
     let l = left_more string_bytes c.args.names.now c.names.name-index c.name-item.result c.names-test.true c.name-item.is in
     let told = c.names.invariant.0 in
-    let read = rw (c.as_str.ensures.value, told) at c.in-Ok.ensures.ok in
-    (search rules, search rules, behind_more (Reads (g.F.Files.told c.args.files.now) most_file) _ _ _ _ _ _ _ c.names.invariant.2 l read (map_behind (λ t. t.items) c.names.texts.items c.push.new.self.items c.in-Ok.text (search rules)), search rules)
+    let read = rw (c.as_str.ensures.value, told) at c.in-Ok.ensures.ok in (
+      search rules,
+      search rules,
+      behind_more (Reads (g.F.Files.told c.args.files.now) most_file) _ _ _ _ _ _ _ c.names.invariant.2 l
+          read (map_behind (λ t. t.items) c.names.texts.items c.push.new.self.items c.in-Ok.text (search rules)),
+      search rules,
+    )
 
 pub returns-clause-ok : goal.returns-clause-ok
-returns-clause-ok g c = behind_all (Reads (g.F.Files.told c.args.files.now) most_file) _ _ _ c.names.invariant.2 (left_none string_bytes c.args.names.now c.names.name-index (search rules))
+returns-clause-ok g c =
+    behind_all (Reads (g.F.Files.told c.args.files.now) most_file) _ _ _ c.names.invariant.2
+    (left_none string_bytes c.args.names.now c.names.name-index (search rules))

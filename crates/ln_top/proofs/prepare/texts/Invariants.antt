@@ -6,4 +6,5 @@ use Rattle.ln_top.proofs.prepare.texts.Given as goal
 abbrev pub invariant-names : goal.invariant-names
 invariant-names g l =
     (g.F.Files.told l.files ≡ g.F.Files.told l.initial.files) × (g.F.Files.faults l.files ≡ g.F.Files.faults l.initial.files)
-    × Behind (Reads (g.F.Files.told l.initial.files) most_file) (map string_bytes l.names) (map string_bytes (drop l.name-index l.names)) (map (λ t. t.items) l.texts.items) × (length l.texts.items ≡ l.name-index)
+    × Behind (Reads (g.F.Files.told l.initial.files) most_file) (map string_bytes l.names)
+    (map string_bytes (drop l.name-index l.names)) (map (λ t. t.items) l.texts.items) × (length l.texts.items ≡ l.name-index)

@@ -1,10 +1,9 @@
 use Rattle.std.proofs.Common.{◌≤◌, length}
 use Rattle.std.specs.Prelude.{vec_capacity}
-use Rattle.ln_tree.specs.Table.{pred_of}
+use Rattle.ln_top.specs.Target.{pred_in}
 use Rattle.ln_code.specs.Memory.{MadeFor}
-use Rattle.ln_top.specs.Columns.{names_of}
 use Rattle.ln_top.specs.Line.{is_row}
-use Rattle.ln_top.specs.Run.{RunStep, piece_room}
+use Rattle.ln_top.specs.Run.{StepOf, piece_room}
 use Rattle.ln_top.specs.Watching.{watching}
 use Rattle.ln_watch.specs.Panel.{states_of}
 use Rattle.ln_top.proofs.LinesLaws.{Running}
@@ -12,8 +11,14 @@ use Rattle.ln_top.proofs.run.put_records.Given as goal
 
 abbrev pub invariant-rows : goal.invariant-rows
 invariant-rows g l =
-    Running (RunStep (pred_of l.target.pred.now) (names_of l.target.table.now l.target.pred.now)) (is_row (pred_of l.target.pred.now)) (watching l.initial.viewers.seen (states_of (λ b. (goal.Watch-dyn g (b.vtable, b.value)).kind_of b.value) (λ b. (goal.Watch-dyn g (b.vtable, b.value)).tally_of b.value) l.initial.viewers.panel.watchers.items)) l.initial.rows l.rows l.good l.text.items (g.C.Console.shown l.initial.con) (g.C.Console.shown l.con) (watching l.viewers.seen (states_of (λ b. (goal.Watch-dyn g (b.vtable, b.value)).kind_of b.value) (λ b. (goal.Watch-dyn g (b.vtable, b.value)).tally_of b.value) l.viewers.panel.watchers.items)) (g.C.Console.faults l.initial.con) (g.C.Console.faults l.con)
-    × MadeFor l.target.program.now l.s × (piece_room ≤ vec_capacity l.text)
+    Running (StepOf l.target) (is_row (pred_in l.target))
+    (watching l.initial.viewers.seen (states_of (λ b. (goal.Watch-dyn g (b.vtable, b.value)).kind_of b.value)
+    (λ b. (goal.Watch-dyn g (b.vtable, b.value)).tally_of b.value) l.initial.viewers.panel.watchers.items)) l.initial.rows
+    l.rows l.good l.text.items (g.C.Console.shown l.initial.con) (g.C.Console.shown l.con)
+    (watching l.viewers.seen (states_of (λ b. (goal.Watch-dyn g (b.vtable, b.value)).kind_of b.value)
+    (λ b. (goal.Watch-dyn g (b.vtable, b.value)).tally_of b.value) l.viewers.panel.watchers.items))
+    (g.C.Console.faults l.initial.con) (g.C.Console.faults l.con)
+    × MadeFor l.target.program l.s × (piece_room ≤ vec_capacity l.text)
 
 abbrev pub decreases-rows : goal.decreases-rows
 decreases-rows g l = length l.rows

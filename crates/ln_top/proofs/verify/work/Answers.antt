@@ -3,7 +3,10 @@ use Rattle.ln_top.proofs.VerifyLaws.{valid_carried, fault_carried}
 use Rattle.ln_top.proofs.verify.work.Goals as goal
 
 pub returns-in_default-fault : goal.returns-in_default-fault
-returns-in_default-fault g c = λ given s. valid_carried given _ _ _ _ _ c.in_default-fault.not-Some (c.in-Ok.ensures given s) c.put_text.ensures
+returns-in_default-fault g c =
+    λ given s. valid_carried given _ _ _ _ _ c.in_default-fault.not-Some (c.in-Ok.ensures given s) c.put_text.ensures
 
 pub returns : goal.returns
-returns g c = λ given s. fault_carried given _ _ _ _ _ _ _ c.in-Some.is (c.in-Ok.ensures given s) c.in-Ok-fault_text.ensures (rw c.deref.ensures.value at c.put_text-2.ensures)
+returns g c =
+    λ given s. fault_carried given _ _ _ _ _ _ _ c.in-Some.is (c.in-Ok.ensures given s) c.in-Ok-fault_text.ensures
+    (rw c.deref.ensures.value at c.put_text-2.ensures)

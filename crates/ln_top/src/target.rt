@@ -1,0 +1,97 @@
+//! A predicate of a source as it is run: with the names of its columns and its program.
+ghost use Rattle.std.specs.Prelude.{◌≡◌, ◌<◌, [], length, slice_get, slice_index_or, Some, IfOk};
+ghost use Rattle.ln_code.specs.Memory.{MadeFor};
+ghost use Rattle.ln_compile.specs.Filtered.{IsDue};
+ghost use Rattle.ln_top.specs.Columns.{names_of};
+ghost use Rattle.ln_top.specs.Run.{HeaderIs};
+ghost use Rattle.ln_top.specs.Target.{Belongs, IsInRange, pred_in, row_in};
+
+use crate::listable::kept;
+use ln_base::NoMemory;
+use ln_code::{Program, Row, Scratch, Verdict, run_row};
+use ln_compile::Compiled;
+use ln_rows::{Rows, column};
+use ln_tree::{Pred, Table};
+use std::alloc::Global;
+use std::marker::Model;
+
+/// A predicate of a source with its table and its program. Contracts see the predicate, the names of its columns and the program; the
+/// type keeps that the program follows the rules and is the predicate's.
+#[derive(Drop)]
+pub struct Target<'a> {
+    table: &'a Table,
+    pred: &'a Pred,
+    program: &'a Program,
+}
+
+impl<'a> Model for Target<'a> {
+    ghost use Rattle.std.specs.Coded.{codes};
+    ghost use Rattle.ln_tree.specs.contracts.expr.Node as node;
+    ghost use Rattle.ln_top.specs.Columns.{names_of};
+    ghost use Rattle.ln_top.specs.Target.{Belongs, TargetOf};
+
+    ghost Value = { TargetOf };
+
+    ghost coded = { Prim.hlevel (codes, node.the_row.coded) };
+
+    ghost view = { λ t. record { pred = t.pred.now; names = names_of t.table.now t.pred.now; program = t.program.now } };
+
+    ghost invariant = { λ t. Belongs t.pred.now t.program.now };
+}
+
+impl<'a> Target<'a> {
+    /// The predicate of a compiled source with this number, from 0.
+    pub fn new(c: &'a Compiled, i: usize) -> Target<'a>
+        requires { i < length c.now.table.preds }
+        ensures pred { slice_get c.now.table.preds i ≡ Some result.pred }
+        ensures names { result.names ≡ names_of c.now.table result.pred }
+    {
+        Target {
+            table: c.table(),
+            pred: &c.table().preds.as_slice()[i],
+            program: kept(&c.programs().as_slice()[i]),
+        }
+    }
+
+    /// The predicate.
+    pub fn pred(&self) -> &Pred
+        ensures { result.now ≡ self.now.pred }
+    {
+        self.pred
+    }
+
+    /// The name of column `k`, from 0; empty where there is no such column.
+    pub fn column(&self, alloc: Global, k: u8) -> Result<Vec<u8>, NoMemory>
+        ensures { IfOk result (λ v. v.items ≡ slice_index_or self.now.names k []) }
+    {
+        let name = column(alloc, self.table, self.pred, usize::from(k))?;
+        Ok(name)
+    }
+
+    /// Takes the first record, if there is one: is it the names of the columns?
+    pub fn take_header(&self, rows: &mut Rows<'_>) -> Result<bool, NoMemory>
+        ensures { IfOk result (λ right. HeaderIs self.now.names rows.old rows.new right) }
+    {
+        let right = rows.header(self.table, self.pred)?;
+        Ok(right)
+    }
+
+    /// Memory in which the program is run.
+    pub fn scratch(&self, alloc: Global) -> Result<Scratch, NoMemory>
+        ensures made { IfOk result (λ s. MadeFor self.now.program s) }
+        ensures belongs { Belongs self.now.pred self.now.program }
+    {
+        let scratch = Scratch::new(alloc, self.program)?;
+        Ok(scratch)
+    }
+
+    /// The verdict that a row in range is owed. It takes no memory and refuses nothing.
+    pub fn verdict(&self, s: &mut Scratch, row: &Row) -> Verdict
+        requires made { MadeFor self.now.program s.old }
+        requires range { IsInRange self.now row.now }
+        ensures due { IsDue (pred_in self.now) (row_in self.now row.now) result }
+        ensures made { MadeFor self.now.program s.new }
+    {
+        run_row(self.program, s, row)
+    }
+}
