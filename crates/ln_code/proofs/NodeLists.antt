@@ -3,9 +3,30 @@ use Rattle.std.proofs.Common.{◌≡◌, ℕ, ◌+◌, ◌≤◌, ◌<◌, zero,
 use Rattle.std.proofs.lemmas.Bool.{cases_lt}
 use Rattle.ln_algebra.specs.Tree.{Tree, Neg, Pow, inlined, inlined_after}
 use Rattle.ln_bound.specs.declared.fitted.Width.{Width}
-use Rattle.ln_bound.specs.Typed.{Typed, TNum, TInput, TLet, TNeg, TTwo, TPow, untyped, two_of}
+use Rattle.ln_bound.specs.declared.fitted.Two.TheVariants.{Plus, Minus, Times}
+use Rattle.ln_bound.specs.Typed.{Typed, TNum, TInput, TLet, TNeg, TTwo, TPow, need, untyped, two_of, width}
 use Rattle.ln_code.specs.Nodes.{IsLetNode, IsNode, IsNodeOf}
 use Rattle.ln_code.specs.NodeList.{NodesAreListed, Sized, Stands, all_nodes, at_width, nodes_in, nodes_in_lets, powers_from, powers_to}
+
+-- the root of a tree is a node of it
+pub root_node : (trees : List Tree) (t : Typed) → IsNode trees t (inlined trees (untyped t)) (width t)
+root_node trees (TNum c p w) = (refl, refl)
+root_node trees (TInput v p w) = (refl, refl)
+root_node trees (TLet j p w) = (refl, refl)
+root_node trees (TNeg t p w) = inr (refl, refl)
+root_node trees (TTwo Plus s t p w) = inr (refl, refl)
+root_node trees (TTwo Minus s t p w) = inr (refl, refl)
+root_node trees (TTwo Times s t p w) = inr (refl, refl)
+root_node trees (TPow t n p w) = inr (n, omega arith, refl, refl)
+
+-- a tree needs a place of the stack
+pub need_positive : (t : Typed) → 1 ≤ need t
+need_positive (TNum c p w) = omega arith
+need_positive (TInput v p w) = omega arith
+need_positive (TLet j p w) = omega arith
+need_positive (TNeg t p w) = need_positive t
+need_positive (TTwo o u t p w) = let h = need_positive u in omega (arith, h)
+need_positive (TPow t n p w) = omega arith
 
 -- ---- members of lists put together
 left : (xs ys : List Sized) (e : Tree) (w : Width) → Stands xs e w → Stands (xs ++ ys) e w

@@ -27,6 +27,7 @@ use Rattle.ln_code.specs.Engine.{State, Line, next, run, step}
 use Rattle.ln_code.specs.Numbers.{with_local}
 use Rattle.ln_code.specs.FilterRules.{FilterKnown, error_after, push_error, filter_known, filter_rules}
 use Rattle.ln_code.specs.Kept.{no_triple}
+use Rattle.ln_code.proofs.NodeLists.{need_positive}
 use Rattle.ln_filter.specs.Triples.{excess, cut, trimmed, whole, leaf, aligned, sum_of, product_of, added, multiplied, powered, triple}
 use Rattle.ln_filter.specs.Steady.{ArePowersSteady, AreSteady}
 use Rattle.ln_filter.specs.Tried.{IsSmall, AreNarrow}
@@ -357,14 +358,6 @@ power_lands vars depth lines l stack a c b (suc n) t x i p f h d =
       same = power_same x.tree t (suc n) x.same;
       keeps = λ j z. at_other x.locals k j z ∙ x.keeps j z;
     }
-
-pub need_positive : (t : Typed) → 1 ≤ need t
-need_positive (TNum c p w) = omega arith
-need_positive (TInput v p w) = omega arith
-need_positive (TLet j p w) = omega arith
-need_positive (TNeg t p w) = need_positive t
-need_positive (TTwo o u t p w) = let h = need_positive u in omega (arith, h)
-need_positive (TPow t n p w) = omega arith
 
 -- the running size of an expression
 abbrev pub running_size : List ℕ → Typed → ℕ

@@ -1,17 +1,15 @@
 -- The operations of the lets leave each let in its local.
-use Rattle.std.proofs.Common.{◌≡◌, ◌⊎◌, inl, inr, ℕ, ℤ, ◌+◌, ◌≤◌, ◌<◌, true, false, List, [], ◌∷◌, ◌++◌, length, map, refl, zero, suc, ap, arith, pos, ◌∙◌, sym, subst, length-append, append_assoc, append-nil}
+use Rattle.std.proofs.Common.{◌≡◌, inl, inr, ℕ, ℤ, ◌+◌, ◌≤◌, ◌<◌, true, false, List, [], ◌∷◌, ◌++◌, length, map, refl, suc, arith, pos, ◌∙◌, sym, subst, length-append, append_assoc, append-nil}
 use Rattle.std.specs.Prelude.{Option, Some, slice_get, slice_index_or, ◌==◌}
 use Rattle.std.proofs.lemmas.Bool.Decides.{nat_tests}
-use Rattle.std.proofs.lemmas.List.{map-append}
 use Rattle.ln_algebra.specs.Tree as tree
 use Rattle.ln_algebra.specs.Tree.{Tree, inlined, inlined_after}
 use Rattle.ln_tree.specs.declared.shape.VarInfo.{VarInfo}
 use Rattle.ln_tree.specs.Row.{AreWithin}
-use Rattle.ln_bound.specs.Value.{values, weight_over}
-use Rattle.ln_bound.specs.Room.{let_bounds}
-use Rattle.ln_algebra.specs.Sizes.{one}
+use Rattle.ln_bound.specs.Value.{values}
 use Rattle.ln_bound.specs.Typed.{Typed, untyped}
 use Rattle.ln_bound.specs.Sound.{AreSound, running}
+use Rattle.ln_bound.proofs.LetLists.{get_snoc, index_new, index_old, running_length, running_more}
 use Rattle.ln_code.specs.declared.op.Op.TheVariants.{Set}
 use Rattle.ln_code.specs.declared.op.Triple.{Triple}
 use Rattle.ln_code.specs.Engine.{Line, run}
@@ -28,21 +26,6 @@ use Rattle.ln_code.proofs.Behind.{then_run, step_run}
 use Rattle.ln_filter.proofs.Steady.{AreSmall, small_snoc, triple_small}
 use Rattle.ln_filter.proofs.Lands.{LetKnown, LetsKnown, lets_kept, at, on_top, lands, running_size}
 use Rattle.ln_filter.proofs.Leaves.{LetsThere, there_kept, loose, topped, leaves}
-
-get_snoc : {X : Type 0} (xs : List X) (y : X) (i : ℕ) (u : X) → slice_get (xs ++ (y ∷ [])) i ≡ Some u → ((i < length xs) × (slice_get xs i ≡ Some u)) ⊎ ((i ≡ length xs) × (y ≡ u))
-get_snoc [] y zero u h = inr (refl, cc)
-get_snoc [] y (suc i) u h = cc
-get_snoc (x ∷ xs) y zero u h = inl (omega arith, h)
-get_snoc (x ∷ xs) y (suc i) u h = elim (get_snoc xs y i u h) [ inl p ↦ inl (omega (arith, p.0), p.1) | inr q ↦ inr (ap suc q.0, q.1) ]
-
-index_old : {X : Type 0} (xs : List X) (y d : X) (i : ℕ) → i < length xs → slice_index_or (xs ++ (y ∷ [])) i d ≡ slice_index_or xs i d
-index_old [] y d i h = absurd (omega arith)
-index_old (x ∷ xs) y d zero h = refl
-index_old (x ∷ xs) y d (suc i) h = index_old xs y d i (omega arith)
-
-index_new : {X : Type 0} (xs : List X) (y d : X) → slice_index_or (xs ++ (y ∷ [])) (length xs) d ≡ y
-index_new [] y d = refl
-index_new (x ∷ xs) y d = index_new xs y d
 
 abbrev no_tree : Tree
 no_tree = tree.Num (pos 0)
@@ -79,29 +62,6 @@ snoc_known lets trees ts ss l t c e a n r p z x few h s q = record { each = each
 
     below : (j : ℕ) (u : Typed) → slice_get (lets ++ (t ∷ [])) j ≡ Some u → j < 64
     below j u m = elim (get_snoc lets t j u m) [ inl v ↦ omega (arith, few, v.0) | inr v ↦ omega (arith, few, v.0) ]
-
--- ---- running sizes of lets, one more let at a time
-
-bounds_more : (m : ℕ → ℕ) (ds : List ℕ) (es : List Tree) (e : Tree) → let_bounds m ds (es ++ (e ∷ [])) ≡ let_bounds m ds es ++ (weight_over m (let_bounds m ds es) e ∷ [])
-bounds_more m ds [] e = refl
-bounds_more m ds (x ∷ es) e = bounds_more m (ds ++ (weight_over m ds x ∷ [])) es e
-
-pub running_more : (done : List Typed) (t : Typed) → running (done ++ (t ∷ [])) ≡ running done ++ (running_size (running done) t ∷ [])
-running_more done t = ap (λ (es : List Tree). let_bounds one [] es) (map-append untyped done (t ∷ [])) ∙ bounds_more one [] (map untyped done) (untyped t)
-
-bounds_length : (m : ℕ → ℕ) (ds : List ℕ) (es : List Tree) → length (let_bounds m ds es) ≡ length ds + length es
-bounds_length m ds [] = omega arith
-bounds_length m ds (e ∷ es) =
-    let ih = bounds_length m (ds ++ (weight_over m ds e ∷ [])) es in
-    let n = length-append ds (weight_over m ds e ∷ []) in
-    omega (arith, ih, n)
-
-map_length : (ts : List Typed) → length (map untyped ts) ≡ length ts
-map_length [] = refl
-map_length (t ∷ ts) = ap suc (map_length ts)
-
-pub running_length : (done : List Typed) → length (running done) ≡ length done
-running_length done = let e = bounds_length one [] (map untyped done) in let f = map_length done in omega (arith, e, f)
 
 -- one more let of a predicate is known
 pub next_known : (n : ℕ) (done : List Typed) (trees : List Tree) (ts : List Triple) (l : ℕ → Option FilterKnown) (t : Typed) (c e : Tree) (a : Triple) (m : ℕ) → n ≡ length done → length trees ≡ length done → length ts ≡ length done → length done < 64 →

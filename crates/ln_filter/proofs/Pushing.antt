@@ -28,6 +28,7 @@ use Rattle.ln_code.specs.Pushes.{Pushed, pushes}
 use Rattle.ln_code.specs.Nodes.{IsNode, IsLetNode}
 use Rattle.ln_code.proofs.Behind.{pushes_append, pushes_front}
 use Rattle.ln_code.proofs.Same.{Same, same_self, same_then, same_neg, same_two, same_first, same_zeroth}
+use Rattle.ln_code.proofs.NodeLists.{need_positive, root_node}
 use Rattle.ln_filter.specs.Triples.{excess, cut, whole, leaf, aligned, sum_of, product_of, powered, triple}
 use Rattle.ln_filter.specs.Steady.{ArePowersSteady, AreSteady, AreLetsSteady}
 use Rattle.ln_filter.specs.Tried.{IsSmall, AreNarrow, AllNarrow}
@@ -35,7 +36,7 @@ use Rattle.ln_filter.specs.Lines.{line, cut_lines, trim_lines, sum_lines, factor
 use Rattle.ln_filter.specs.Nodes.{PushesNode, PushNodes}
 use Rattle.ln_filter.proofs.Powers.{le_self, power_size, powers_within}
 use Rattle.ln_filter.proofs.Steady.{AreSmall, small_snoc, triple_small, powered_small}
-use Rattle.ln_filter.proofs.Lands.{at, on_top, Lands, LetKnown, LetsKnown, lets_kept, Joins, cut_ends, push_step, input_step, get_step, neg_step, mul_step, small_narrow, sum_narrow, product_narrow, plus_joins, minus_joins, power_tree, power_same, factors_end, need_positive, lands, running_size}
+use Rattle.ln_filter.proofs.Lands.{at, on_top, Lands, LetKnown, LetsKnown, lets_kept, Joins, cut_ends, push_step, input_step, get_step, neg_step, mul_step, small_narrow, sum_narrow, product_narrow, plus_joins, minus_joins, power_tree, power_same, factors_end, lands, running_size}
 use Rattle.ln_filter.proofs.Lets.{next_known}
 
 push_append : (is_node : Tree → Width → Type 0) (xs ys : List (Pushed FilterKnown)) → PushNodes is_node xs → PushNodes is_node ys → PushNodes is_node (xs ++ ys)
@@ -77,17 +78,6 @@ trim_push : (vars : List VarInfo) (depth : ℕ) (is_node : Tree → Width → Ty
     step (filter_rules vars depth) o a l r ≡ Some (on_top (at a t size) s m) → PushNodes is_node (pushes (filter_rules vars depth) (trim_lines o a) (record { stack = r; locals = l }))
 trim_push vars depth is_node o a t e v size l m r s f i q d h z st =
     front_push vars depth is_node o a (cut_lines (excess a.h) a) l m r s (at a t size) f st (one_pushes is_node o (at a t size) e v i q) (cut_push vars depth is_node (excess a.h) a t e v size m s i q d h z)
-
--- the root of a tree is a node of it
-root_node : (trees : List Tree) (t : Typed) → IsNode trees t (inlined trees (untyped t)) (width t)
-root_node trees (TNum c p w) = (refl, refl)
-root_node trees (TInput v p w) = (refl, refl)
-root_node trees (TLet j p w) = (refl, refl)
-root_node trees (TNeg t p w) = inr (refl, refl)
-root_node trees (TTwo Plus s t p w) = inr (refl, refl)
-root_node trees (TTwo Minus s t p w) = inr (refl, refl)
-root_node trees (TTwo Times s t p w) = inr (refl, refl)
-root_node trees (TPow t n p w) = inr (n, omega arith, refl, refl)
 
 sum_push : (vars : List VarInfo) (depth : ℕ) (is_node : Tree → Width → Type 0) (o : Op) (k : Two) (left right : List (Line Triple)) (l : ℕ → Option FilterKnown) (stack : List FilterKnown) (a b : Triple) (c e n : ℕ) (s t : Tree) (u v w : Width) → stores o ≡ false →
     Joins vars depth o k a b stack → (x : Lands vars depth left l stack a c s) → (y : Lands vars depth right x.locals (at (aligned a b) x.tree x.size ∷ stack) b e t) →

@@ -1,6 +1,6 @@
 -- Values that are kept in locals, and lets.
-use Rattle.std.proofs.Common.{◌≡◌, ◌⊎◌, inl, inr, ℕ, ◌+◌, ◌<◌, true, List, [], ◌∷◌, ◌++◌, length, refl, zero, suc, ap, ap₂, arith, pos, ◌*◌, ◌^◌}
-use Rattle.std.specs.Prelude.{Option, Some, None, slice_get, slice_index_or, ◌==◌}
+use Rattle.std.proofs.Common.{◌≡◌, inl, inr, ℕ, ◌+◌, ◌<◌, true, List, [], ◌∷◌, ◌++◌, length, refl, suc, ap, ap₂, arith, pos, ◌*◌, ◌^◌}
+use Rattle.std.specs.Prelude.{Option, Some, None, slice_get, ◌==◌}
 use Rattle.std.proofs.lemmas.Bool.Decides.{nat_tests}
 use Rattle.std.proofs.lemmas.Option.{slice_get_within}
 use Rattle.ln_algebra.specs.Sizes.{one}
@@ -14,6 +14,7 @@ use Rattle.ln_bound.specs.declared.fitted.Two.TheVariants.{Plus, Minus, Times}
 use Rattle.ln_bound.specs.Sound.{CoversLet, SoundNodes}
 use Rattle.ln_bound.specs.Typed.{Typed, TNum, TInput, TLet, TNeg, TTwo, TPow, two_of, untyped}
 use Rattle.ln_bound.specs.Value.{weight_over}
+use Rattle.ln_bound.proofs.LetLists.{get_snoc, index_old}
 use Rattle.ln_code.specs.Numbers.{with_local}
 use Rattle.ln_code.specs.Rules.{Known}
 use Rattle.ln_lower.specs.declared.distinct.Key.{Key}
@@ -62,21 +63,6 @@ sound_names vars lets (TTwo k u t p w) s = names_two (length lets) k (untyped u)
 sound_names vars lets (TPow t n p w) s = sound_names vars lets t s.0
 
 -- ---- one let more
-
-pub get_snoc : {X : Type 0} (xs : List X) (y : X) (i : ℕ) (u : X) → slice_get (xs ++ (y ∷ [])) i ≡ Some u → ((i < length xs) × (slice_get xs i ≡ Some u)) ⊎ ((i ≡ length xs) × (y ≡ u))
-get_snoc [] y zero u h = inr (refl, cc)
-get_snoc [] y (suc i) u h = cc
-get_snoc (x ∷ xs) y zero u h = inl (omega arith, h)
-get_snoc (x ∷ xs) y (suc i) u h = elim (get_snoc xs y i u h) [ inl p ↦ inl (omega (arith, p.0), p.1) | inr q ↦ inr (ap suc q.0, q.1) ]
-
-pub index_old : {X : Type 0} (xs : List X) (y d : X) (i : ℕ) → i < length xs → slice_index_or (xs ++ (y ∷ [])) i d ≡ slice_index_or xs i d
-index_old [] y d i h = absurd (omega arith)
-index_old (x ∷ xs) y d zero h = refl
-index_old (x ∷ xs) y d (suc i) h = index_old xs y d i (omega arith)
-
-pub index_new : {X : Type 0} (xs : List X) (y d : X) → slice_index_or (xs ++ (y ∷ [])) (length xs) d ≡ y
-index_new [] y d = refl
-index_new (x ∷ xs) y d = index_new xs y d
 
 inlined_front : (ts : List Tree) (c e : Tree) → NamesBelow (length ts) e → inlined (ts ++ (c ∷ [])) e ≡ inlined ts e
 inlined_front ts c (Num z) h = refl

@@ -16,7 +16,7 @@ use Rattle.ln_bound.specs.declared.fitted.Two.{Two}
 use Rattle.ln_bound.specs.declared.fitted.Two.TheVariants.{Plus, Minus, Times}
 use Rattle.ln_bound.specs.Ranges.{ranges}
 use Rattle.ln_bound.specs.Sound.{IsIn, CoversLet, SoundNodes}
-use Rattle.ln_bound.specs.Typed.{Typed, TNum, TInput, TLet, TNeg, TTwo, TPow, pair, width, untyped, range_of, need}
+use Rattle.ln_bound.specs.Typed.{Typed, TNum, TInput, TLet, TNeg, TTwo, TPow, pair, width, untyped, range_of}
 use Rattle.ln_bound.specs.Room.{HasRoom}
 use Rattle.ln_bound.specs.Typed.{bound_of, two_of}
 use Rattle.ln_bound.specs.Value.{weight_over}
@@ -338,14 +338,6 @@ power_lands vars depth is_node lines l stack b left p q v w s (suc m) t x o c i 
     magnitude_of r = magnitude r
 
 -- ---- a tree
-
-pub need_positive : (t : Typed) → 1 ≤ need t
-need_positive (TNum c p w) = omega arith
-need_positive (TInput v p w) = omega arith
-need_positive (TLet j p w) = omega arith
-need_positive (TNeg t p w) = need_positive t
-need_positive (TTwo o u t p w) = let h = need_positive u in omega (arith, h)
-need_positive (TPow t n p w) = omega arith
 
 -- the range of a sound node is one, and fits its width
 pub sound_in : (vars : List VarInfo) (lets : List Typed) (t : Typed) → SoundNodes vars lets t → IsIn (pair t) (width t)

@@ -10,8 +10,8 @@ use Rattle.ln_bound.specs.declared.fitted.Width.{Width}
 use Rattle.ln_bound.specs.Widths.{no_wider}
 use Rattle.ln_bound.specs.Typed.{Typed, pair, width, untyped}
 use Rattle.ln_bound.specs.Sound.{Sound, AreSound, running}
-use Rattle.ln_bound.specs.Room.{let_bounds}
 use Rattle.ln_bound.specs.Value.{weight_over}
+use Rattle.ln_bound.proofs.LetLists.{get_snoc, index_new, index_old, running_length, running_more, untyped_length}
 use Rattle.ln_algebra.specs.Sizes.{one}
 use Rattle.ln_interval.specs.Range.{Range, Covers, IsOrdered}
 use Rattle.ln_code.specs.declared.op.Op.TheVariants.{Set}
@@ -24,35 +24,12 @@ use Rattle.ln_lower.specs.Nodes.{PushNodes}
 use Rattle.ln_lower.specs.declared.distinct.Key.{Key}
 use Rattle.ln_lower.specs.Lowered.{line, nothing}
 use Rattle.ln_lower.specs.Written.{Written, LetsWritten, none, more}
-use Rattle.ln_lower.proofs.Keeping.{KeptKnown, get_snoc, index_old, index_new, kept_low, kept_lets}
+use Rattle.ln_lower.proofs.Keeping.{KeptKnown, kept_low, kept_lets}
 use Rattle.ln_lower.proofs.Sharing.{Leaves, lands as tree_lands, size_in, tree_in}
 use Rattle.ln_code.proofs.Same.{Same}
 use Rattle.ln_lower.proofs.PushLaws.{push_wider}
 use Rattle.ln_lower.proofs.Lands.{LetKnown, LetsKnown, no_tree, lets_kept, then_push}
 use Rattle.ln_code.proofs.Behind.{then_run}
-
--- ---- running sizes of lets, one more let at a time
-
-bounds_more : (m : ℕ → ℕ) (ds : List ℕ) (es : List Tree) (e : Tree) → let_bounds m ds (es ++ (e ∷ [])) ≡ let_bounds m ds es ++ (weight_over m (let_bounds m ds es) e ∷ [])
-bounds_more m ds [] e = refl
-bounds_more m ds (x ∷ es) e = bounds_more m (ds ++ (weight_over m ds x ∷ [])) es e
-
-pub running_more : (done : List Typed) (t : Typed) → running (done ++ (t ∷ [])) ≡ running done ++ (weight_over one (running done) (untyped t) ∷ [])
-running_more done t = ap (λ (es : List Tree). let_bounds one [] es) (map-append untyped done (t ∷ [])) ∙ bounds_more one [] (map untyped done) (untyped t)
-
-bounds_length : (m : ℕ → ℕ) (ds : List ℕ) (es : List Tree) → length (let_bounds m ds es) ≡ length ds + length es
-bounds_length m ds [] = omega arith
-bounds_length m ds (e ∷ es) =
-    let ih = bounds_length m (ds ++ (weight_over m ds e ∷ [])) es in
-    let n = length-append ds (weight_over m ds e ∷ []) in
-    omega (arith, ih, n)
-
-map_length : (ts : List Typed) → length (map untyped ts) ≡ length ts
-map_length [] = refl
-map_length (t ∷ ts) = ap suc (map_length ts)
-
-pub running_length : (done : List Typed) → length (running done) ≡ length done
-running_length done = let e = bounds_length one [] (map untyped done) in let f = map_length done in omega (arith, e, f)
 
 -- ---- one more let
 
@@ -133,7 +110,7 @@ closed_snoc : (ts : List Typed) (t : Typed) → closed (ts ++ (t ∷ [])) ≡ cl
 closed_snoc ts t = ap (λ (es : List Tree). inlined_after [] es) (map-append untyped ts (t ∷ [])) ∙ inlined_snoc [] (map untyped ts) (untyped t)
 
 pub closed_length : (ts : List Typed) → length (closed ts) ≡ length ts
-closed_length ts = let e = inlined_length [] (map untyped ts) in let f = map_length ts in omega (arith, e, f)
+closed_length ts = let e = inlined_length [] (map untyped ts) in let f = untyped_length ts in omega (arith, e, f)
 
 -- ---- the operations of lets
 

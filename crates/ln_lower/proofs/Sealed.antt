@@ -1,7 +1,6 @@
 -- What the lowered block is.
 use Rattle.std.proofs.Common.{◌≡◌, ℕ, ℤ, ◌+◌, ◌*◌, ◌≤◌, ◌<◌, List, [], ◌∷◌, ◌++◌, length, map, refl, zero, suc, ap, arith, ◌∙◌, sym, subst, get_or, length-append}
 use Rattle.std.specs.Prelude.{Option, Some, All, pos, slice_index_or}
-use Rattle.std.proofs.lemmas.List.{map-append}
 use Rattle.ln_algebra.specs.Coefficient.{Series}
 use Rattle.ln_algebra.specs.Tree.{Num, Tree, inlined, inlined_after}
 use Rattle.ln_tree.specs.declared.shape.VarInfo.{VarInfo}
@@ -16,7 +15,7 @@ use Rattle.ln_bound.specs.View.{typed}
 use Rattle.ln_interval.specs.Range.{Range, Covers, power}
 use Rattle.ln_interval.specs.View.{range}
 use Rattle.ln_interval.proofs.Magnitudes.{covers_magnitude, power_ordered}
-use Rattle.ln_bound.proofs.Values.{value-inlined}
+use Rattle.ln_bound.proofs.Whole.{whole_value}
 use Rattle.ln_code.specs.Engine.{Line}
 use Rattle.ln_code.specs.Rules.{Known}
 use Rattle.ln_code.specs.Part.{Code, lines_of, known_of, block_value}
@@ -76,19 +75,6 @@ all_cons P u us p a = λ k d h. at k d h
 pub all_fit : (vars : List VarInfo) (done : List Typed) (lets : List Fitted) → AreSound vars done (map typed lets) → All (λ u. PowersFit (typed u)) lets
 all_fit vars done [] s = λ k d h. absurd (omega arith)
 all_fit vars done (u ∷ us) s = all_cons (λ u. PowersFit (typed u)) u us (root_fits vars done (typed u) s.0) (all_fit vars (done ++ (typed u ∷ [])) us s.1)
-
--- ---- values
-
--- the values of the lets, put in one after the other
-lets_values : (x : ℕ → ℤ) (done ts : List Tree) → map (value x []) (inlined_after done ts) ≡ let_values x (map (value x []) done) ts
-lets_values x done [] = refl
-lets_values x done (t ∷ ts) =
-    let a : map (value x []) (done ++ (inlined done t ∷ [])) ≡ map (value x []) done ++ (value x [] (inlined done t) ∷ []) = map-append (value x []) done (inlined done t ∷ []) in
-    let b : value x [] (inlined done t) ≡ value x (map (value x []) done) t = value-inlined x done t in
-    lets_values x (done ++ (inlined done t ∷ [])) ts ∙ ap (λ l. let_values x l ts) (a ∙ ap (λ z. map (value x []) done ++ (z ∷ [])) b)
-
-whole_value : (x : ℕ → ℤ) (lets : List Tree) (t : Tree) → value x [] (inlined (inlined_after [] lets) t) ≡ value x (let_values x [] lets) t
-whole_value x lets t = value-inlined x (inlined_after [] lets) t ∙ ap (λ l. value x l t) (lets_values x [] lets)
 
 -- ---- the block
 
@@ -157,4 +143,4 @@ pub lowered_value : (vars : List VarInfo) (code : Code) (t : Typed) (lets : List
 lowered_value vars code t lets x zs h =
     let m = blocks_mean vars zs code h x.rules in
     let s = lowered_same vars code t lets x m.what m.known in
-    m.answer ∙ ap Some (s.values (values zs) ∙ whole_value (values zs) (map untyped lets) (untyped t))
+    m.answer ∙ ap Some (s.values (values zs) ∙ sym (whole_value (values zs) (map untyped lets) (untyped t)))

@@ -11,7 +11,6 @@ use Rattle.ln_interval.specs.Range.{Range, point, magnitude}
 use Rattle.ln_interval.proofs.Monotone.{covers_self}
 use Rattle.ln_bound.specs.declared.fitted.Width.{Width}
 use Rattle.ln_bound.specs.declared.fitted.Two.{Two}
-use Rattle.ln_bound.specs.declared.fitted.Two.TheVariants.{Plus, Minus, Times}
 use Rattle.ln_bound.specs.Sound.{SoundNodes}
 use Rattle.ln_bound.specs.Typed.{Typed, TNum, TInput, TLet, TNeg, TTwo, TPow, pair, width, untyped, need}
 use Rattle.ln_bound.specs.Room.{HasRoom}
@@ -25,13 +24,14 @@ use Rattle.ln_code.specs.Rules.{Known, rules}
 use Rattle.ln_code.specs.Nodes.{IsNode}
 use Rattle.ln_code.proofs.Behind.{then_run}
 use Rattle.ln_code.proofs.Same.{same_self, same_zeroth}
+use Rattle.ln_code.proofs.NodeLists.{need_positive, root_node}
 use Rattle.ln_lower.specs.declared.distinct.Key.{Key}
 use Rattle.ln_lower.specs.Distinct.{Stands}
 use Rattle.ln_lower.specs.Lowered.{line, op_of}
 use Rattle.ln_lower.specs.Written.{Written, keeping, number, variable, name, again, opposite, two, zeroth, raised, keep}
 use Rattle.ln_lower.proofs.Bounding.{known_is, least_in, least_narrow}
 use Rattle.ln_lower.proofs.Numbering.{unique}
-use Rattle.ln_lower.proofs.Lands.{Lands, LetKnown, LetsKnown, no_tree, lets_kept, lands_wider, then_push, one_push, input_lands, let_lands, get_lands, neg_lands, two_lands, power_lands, need_positive, sound_in, two_room, two_weight, two_inlined, root_room, at_other}
+use Rattle.ln_lower.proofs.Lands.{Lands, LetKnown, LetsKnown, no_tree, lets_kept, lands_wider, then_push, one_push, input_lands, let_lands, get_lands, neg_lands, two_lands, power_lands, sound_in, two_room, two_weight, two_inlined, root_room, at_other}
 use Rattle.ln_lower.proofs.Keeping.{Entry, KeptKnown, kept_low, kept_snoc, sound_names}
 
 -- the running size of a tree, and the tree with its lets
@@ -44,17 +44,6 @@ tree_in trees t = inlined trees (untyped t)
 -- what the operations of a tree leave, with these subtrees in locals behind them
 abbrev pub Leaves : List VarInfo → ℕ → List Key → List ℕ → List ℕ → ℕ → List Tree → List ℕ → (Tree → Width → Type 0) → List (Line Range) → Typed → (ℕ → Option Known) → List Known → Type 0
 Leaves vars depth ks kept now n trees ss is_node lines t l stack = Lands vars depth is_node lines l stack (65 + length kept) (KeptKnown ks now n trees ss) (pair t) (width t) (size_in ss t) (tree_in trees t)
-
--- the root of a tree is a node of it
-pub root_node : (trees : List Tree) (t : Typed) → IsNode trees t (tree_in trees t) (width t)
-root_node trees (TNum c p w) = (refl, refl)
-root_node trees (TInput v p w) = (refl, refl)
-root_node trees (TLet j p w) = (refl, refl)
-root_node trees (TNeg t p w) = inr (refl, refl)
-root_node trees (TTwo Plus s t p w) = inr (refl, refl)
-root_node trees (TTwo Minus s t p w) = inr (refl, refl)
-root_node trees (TTwo Times s t p w) = inr (refl, refl)
-root_node trees (TPow t n p w) = inr (n, omega arith, refl, refl)
 
 -- a tree whose value is in a local
 local_lands : (vars : List VarInfo) (depth : ℕ) (lets : List Typed) (trees : List Tree) (ss : List ℕ) (t : Typed) (n j : ℕ) (left : (ℕ → Option Known) → Type 0) (l : ℕ → Option Known) (stack : List Known) →
