@@ -1,13 +1,13 @@
 //! Terms with an exponent for each variable, divided by one variable after the other.
 ghost use Rattle.std.specs.Prelude.{◌≡◌, ◌≤◌, true, IfOk};
 ghost use Rattle.ln_bound.specs.Light.{most};
-ghost use Rattle.ln_tree.specs.Exps.{IsRising, exponent, vector};
+ghost use Rattle.ln_tree.specs.Exps.{IsRising, vector};
 ghost use Rattle.ln_poly.specs.Sparse.{AreRising, terms_of};
 ghost use Rattle.ln_nest.specs.Nested.{divided, free_of, total, one_less, exponent_of, is_positive};
 ghost use Rattle.ln_nest.specs.View.{terms_in, abs_total};
 
 use ln_base::NoMemory;
-use ln_tree::Exps;
+use ln_tree::{Exps, exponent_of};
 use std::alloc::Global;
 
 /// A term on its way into the nested form: an exponent for each variable, and a factor.
@@ -15,19 +15,6 @@ use std::alloc::Global;
 pub struct Work {
     pub exponents: Vec<u8>,
     pub factor: i128,
-}
-
-// The exponent of variable v.
-fn exponent_in(pairs: &[(u8, u8)], v: u8) -> u8
-    requires { IsRising pairs.now }
-    ensures { result ≡ exponent v pairs.now }
-{
-    'pairs: for p in pairs {
-        if p.0 == v {
-            return p.1;
-        }
-    }
-    0
 }
 
 // The exponents of the first n variables.
@@ -38,7 +25,7 @@ fn spread(alloc: Global, pairs: &[(u8, u8)], n: usize) -> Result<Vec<u8>, NoMemo
 {
     let mut out = Vec::new(alloc);
     'variables: for v in 0..n {
-        out.push(exponent_in(pairs, v as u8))?;
+        out.push(exponent_of(pairs, v as u8))?;
     }
     Ok(out)
 }
