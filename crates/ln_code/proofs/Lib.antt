@@ -1,6 +1,7 @@
 pub mod Follow
 pub mod Cells
 pub mod Cutting
+pub mod Quotients
 pub mod Steps
 pub mod Ends
 pub mod Depths

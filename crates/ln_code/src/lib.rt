@@ -8,6 +8,7 @@
 pub(crate) mod arithmetic;
 pub mod block;
 pub mod filter_block;
+pub mod halving;
 pub mod laws;
 pub mod op;
 pub(crate) mod processor;
@@ -20,6 +21,7 @@ pub mod verdict;
 
 pub use block::Block;
 pub use filter_block::FilterBlock;
+pub use halving::{error_after, shifted};
 pub use op::{Op, Triple};
 pub use program::Program;
 pub use programs::Programs;

@@ -1,5 +1,4 @@
 pub mod Bits
-pub mod Words
 pub mod Steady
 pub mod Stands
 pub mod Powers

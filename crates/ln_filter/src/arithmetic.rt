@@ -1,5 +1,5 @@
 //! Triples of nodes: exponent, size and error.
-ghost use Rattle.std.specs.Prelude.{◌≡◌, ◌+◌, ◌-◌, ◌*◌, ◌/◌, ◌^◌, ◌<◌, ◌≤◌, true, All, IfSome, slice_index_or};
+ghost use Rattle.std.specs.Prelude.{◌≡◌, ◌+◌, ◌-◌, ◌*◌, ◌^◌, ◌<◌, ◌≤◌, true, All, IfSome, slice_index_or};
 ghost use Rattle.std.specs.List.{list_all};
 ghost use Rattle.ln_tree.specs.Variables.{has_range};
 ghost use Rattle.ln_bound.specs.Typed.{untyped};
@@ -11,7 +11,7 @@ ghost use Rattle.ln_filter.specs.Triples.{cut, excess, leaf, product_of, sum_of,
 ghost use Rattle.ln_filter.specs.Tried.{AreNarrow, IsSmall, of_raw, power_tried, settled, tried};
 
 use ln_bound::{FitOp, Fitted};
-use ln_code::Triple;
+use ln_code::{Triple, error_after, shifted};
 use ln_tree::VarInfo;
 
 /// What is known of a truncated number before it is cut to 31 binary digits. The exponent of a product can reach 510, its error
@@ -29,27 +29,6 @@ pub(crate) fn excess(n: u128) -> u32
     ensures most { result ≤ 97 }
 {
     (128 - n.leading_zeros()).saturating_sub(31)
-}
-
-// `h` divided by 2^n.
-fn shifted(h: u128, n: u32) -> u128
-    ensures { result ≡ h / 2 ^ n }
-{
-    if n < 128 { h >> n } else { 0 }
-}
-
-// The error after a division by 2^n.
-fn error_after(n: u32, e: u64) -> u64
-    ensures value { result ≡ error_after n e }
-    ensures most { result ≤ e + 2 }
-{
-    if n == 0 {
-        return e;
-    }
-    if n < 64 {
-        return e.div_ceil(1u64 << n) + 1;
-    }
-    if e == 0 { 1 } else { 2 }
 }
 
 /// The triple after a division by 2^n.

@@ -27,7 +27,6 @@ pub mod Versions
 pub mod Walk
 pub mod Wholes
 pub mod Wide
-pub mod Words
 pub mod Entries
 pub mod Subjects
 pub mod Tells

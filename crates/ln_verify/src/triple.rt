@@ -3,7 +3,7 @@ ghost use Rattle.std.specs.Prelude.{◌≡◌, ◌≤◌, ◌<◌, ◌+◌, ◌*
 ghost use Rattle.ln_bound.specs.Value.{size_of};
 ghost use Rattle.ln_code.specs.FilterRules.{covers, error_after, push_error};
 
-use ln_code::Triple;
+use ln_code::{Triple, error_after, shifted};
 use ln_tree::VarInfo;
 
 // Has the triple this k, and are its H and E at least these, with an H that fits 64 bits?
@@ -14,26 +14,6 @@ fn covered(k: u32, h: u128, e: u128, a: Triple) -> bool
         && h <= u128::from(a.h)
         && e <= u128::from(a.e)
         && u128::from(a.h) <= 9223372036854775807
-}
-
-// A number divided by 2^n.
-fn shifted(h: u128, n: u32) -> u128
-    ensures { result ≡ h / 2 ^ n }
-{
-    if n < 128 { h >> n } else { 0 }
-}
-
-// The error after a division by 2^n.
-fn error_after(n: u32, e: u64) -> u64
-    ensures { result ≡ error_after n e }
-{
-    if n == 0 {
-        return e;
-    }
-    if n < 64 {
-        return e.div_ceil(1u64 << n) + 1;
-    }
-    if e == 0 { 1 } else { 2 }
 }
 
 // The least error of a number that is divided by 2^k.

@@ -1,7 +1,7 @@
 use Rattle.std.proofs.Common.{◌≡◌, ◌^◌, ◌∙◌, ap, arith}
 use Rattle.std.specs.Int.{div_ceil}
-use Rattle.ln_filter.proofs.Words.{far_error, ceil_fits, unit_is}
-use Rattle.ln_filter.proofs.arithmetic.error_after.Goals as goal
+use Rattle.ln_code.proofs.Quotients.{far_error, ceil_fits, unit_is}
+use Rattle.ln_code.proofs.halving.error_after.Goals as goal
 
 pub overflow_add-result : goal.overflow_add-result
 overflow_add-result c =
