@@ -101,15 +101,15 @@ columns_at_least (i ∷ is) = go (starts_site i) (columns_at_least is) where
   go false h = omega (arith, h)
 
 -- the variable of this number
-abbrev var_at : List VarInfo → ℕ → VarInfo
+abbrev pub var_at : List VarInfo → ℕ → VarInfo
 var_at vars v = get_or vars v no_var
 
 -- the columns from a site on
-at_site : (vars : List VarInfo) (v : ℕ) → v < length vars → starts_site (var_at vars v) ≡ true → columns (drop v vars) ≡ SiteIndex ∷ Variable (var_at vars v) ∷ columns (drop (suc v) vars)
+pub at_site : (vars : List VarInfo) (v : ℕ) → v < length vars → starts_site (var_at vars v) ≡ true → columns (drop v vars) ≡ SiteIndex ∷ Variable (var_at vars v) ∷ columns (drop (suc v) vars)
 at_site vars v h e = rw (drop-cons vars v no_var, e) refl
 
 -- the columns from another variable on
-at_other : (vars : List VarInfo) (v : ℕ) → v < length vars → starts_site (var_at vars v) ≡ false → columns (drop v vars) ≡ Variable (var_at vars v) ∷ columns (drop (suc v) vars)
+pub at_other : (vars : List VarInfo) (v : ℕ) → v < length vars → starts_site (var_at vars v) ≡ false → columns (drop v vars) ≡ Variable (var_at vars v) ∷ columns (drop (suc v) vars)
 at_other vars v h e = rw (drop-cons vars v no_var, e) refl
 
 behind_at_least : (vars : List VarInfo) (v : ℕ) → length vars ≤ v + length (columns (drop v vars))

@@ -1,15 +1,15 @@
 -- Making a row from the left, a word for each column.
 use Rattle.std.proofs.Common.{◌≡◌, ◌≢◌, ℕ, zero, suc, ◌+◌, ◌-◌, ◌<◌, ◌≤◌, true, false, List, []}
 use Rattle.std.proofs.Common.{◌∷◌, ◌++◌, length, get_or, take, drop, set, ℤ, pos, refl, ap, sym, ◌∙◌, arith}
-use Rattle.std.proofs.Common.{add-one, drop-cons, append_assoc, get_or-set_other, replicate}
+use Rattle.std.proofs.Common.{add-one, append_assoc, get_or-set_other, replicate}
 use Rattle.std.proofs.lemmas.List.{take_more_set, append-nil, length-set, length-drop, drop_all}
 use Rattle.rand_pcg.specs.Lcg.{Lcg}
 use Rattle.rand_pcg.specs.Pcg.{pcg64}
 use Rattle.ln_tree.specs.declared.shape.VarInfo.{VarInfo}
-use Rattle.ln_tree.specs.Variables.{starts_site, no_var}
+use Rattle.ln_tree.specs.Variables.{starts_site}
 use Rattle.ln_code.specs.declared.row.Row.{Row}
 use Rattle.ln_rows.specs.Record.{Column, SiteIndex, Variable, columns}
-use Rattle.ln_rows.proofs.RowLemmas.{columns_at_least}
+use Rattle.ln_rows.proofs.RowLemmas.{at_other, at_site, columns_at_least, var_at}
 use Rattle.ln_top.specs.GenRow.{words, past, index_by, variable_by, indices_by, values_by, IsMade}
 
 -- the words of these columns, from this generator on
@@ -63,20 +63,6 @@ filled_none n vars first = record {
   index_size = refl;
   value_size = refl;
 }
-
--- the variable of this number
-abbrev var_at : List VarInfo → ℕ → VarInfo
-var_at vars v = get_or vars v no_var
-
--- the columns from a site on
-at_site : (vars : List VarInfo) (v : ℕ) → v < length vars → starts_site (var_at vars v) ≡ true
-    → columns (drop v vars) ≡ SiteIndex ∷ Variable (var_at vars v) ∷ columns (drop (suc v) vars)
-at_site vars v h e = rw (drop-cons vars v no_var, e) refl
-
--- the columns from another variable on
-at_other : (vars : List VarInfo) (v : ℕ) → v < length vars → starts_site (var_at vars v) ≡ false
-    → columns (drop v vars) ≡ Variable (var_at vars v) ∷ columns (drop (suc v) vars)
-at_other vars v h e = rw (drop-cons vars v no_var, e) refl
 
 -- there is a place for the index of a site
 pub site_fits : {n : ℕ} {vars : List VarInfo} {first : Lcg} {v site : ℕ} {g : Lcg} {index value : List ℤ}
