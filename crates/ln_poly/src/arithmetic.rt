@@ -5,7 +5,7 @@ ghost use Rattle.ln_tree.specs.Exps.{exponent};
 ghost use Rattle.ln_poly.specs.Sparse.{IsFactor, IsPoly, AreBelow, coefficient_at, negated, size_of};
 ghost use Rattle.ln_poly.specs.Rows.{IsProductPut, IsRow, PowersFit};
 
-use crate::gather::{gather, push};
+use crate::gather::{gather, merge, push};
 use crate::poly::Poly;
 use crate::times::times;
 use ln_base::NoMemory;
@@ -46,7 +46,7 @@ pub fn add(alloc: Global, f: &Poly, g: &Poly) -> Result<Poly, NoMemory>
     let mut out = Vec::new(alloc);
     put_all(&mut out, f.terms())?;
     put_all(&mut out, g.terms())?;
-    let h = gather(alloc, out)?;
+    let h = merge(alloc, out)?;
     Ok(h)
 }
 
@@ -61,7 +61,7 @@ pub fn sub(alloc: Global, f: &Poly, g: &Poly) -> Result<Poly, NoMemory>
     let mut out = Vec::new(alloc);
     put_all(&mut out, f.terms())?;
     put_negated(&mut out, g.terms())?;
-    let h = gather(alloc, out)?;
+    let h = merge(alloc, out)?;
     Ok(h)
 }
 

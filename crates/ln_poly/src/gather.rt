@@ -2,9 +2,10 @@
 ghost use Rattle.std.specs.Prelude.{◌≡◌, ℕ, List, [], ◌∷◌, ◌++◌, false, ◌+◌, ◌-◌, ◌<◌, ◌≤◌, ◌^◌};
 ghost use Rattle.std.specs.Prelude.{◌+ℤ◌, IfOk, OnOk, unsigned_abs, length, slice_index_or};
 ghost use Rattle.std.specs.List.{dedup};
+ghost use Rattle.std.specs.List.Sorted.{IsSorted};
 ghost use Rattle.ln_tree.specs.Exps.{same_pairs};
 ghost use Rattle.ln_poly.specs.Sparse.{IsPoly, AreBelow, AreRising, coefficient_at, exps_of, part_at, size_of};
-ghost use Rattle.ln_poly.specs.Gather.{put_exps};
+ghost use Rattle.ln_poly.specs.Gather.{put_exps, term_cmp};
 
 use crate::poly::Poly;
 use ln_base::{NoMemory, Seq};
@@ -70,6 +71,21 @@ fn collected(alloc: Global, terms: &[(Exps, i128)]) -> Result<Vec<(Exps, i128)>,
     Ok(out)
 }
 
+// The polynomial of sorted terms: like ones are collected, zeros are left out.
+fn settled(alloc: Global, terms: &[(Exps, i128)]) -> Result<Poly, NoMemory>
+    requires small { size_of terms.now < 2 ^ 127 }
+    requires rising { AreRising terms.now }
+    requires sorted { IsSorted term_cmp terms.now }
+    ensures coefficients { IfOk result (λ f. (n : ℕ) (m : List ℕ) → coefficient_at n f m ≡ coefficient_at n terms.now m) }
+    ensures size { IfOk result (λ f. size_of f ≤ size_of terms.now) }
+    ensures form { IfOk result IsPoly }
+    ensures below { IfOk result (λ f. (n : ℕ) → AreBelow n terms.now → AreBelow n f) }
+{
+    let mut out = collected(alloc, terms)?;
+    out.retain(|t| t.1 != 0);
+    Ok(Poly::seal(Seq::from_vec(out)))
+}
+
 /// The polynomial of terms in any order: like ones are collected, zeros are left out.
 pub fn gather(alloc: Global, terms: Vec<(Exps, i128)>) -> Result<Poly, NoMemory>
     requires small { size_of terms.items < 2 ^ 127 }
@@ -81,7 +97,21 @@ pub fn gather(alloc: Global, terms: Vec<(Exps, i128)>) -> Result<Poly, NoMemory>
 {
     let mut terms = terms;
     terms.sort_unstable();
-    let mut out = collected(alloc, terms.as_slice())?;
-    out.retain(|t| t.1 != 0);
-    Ok(Poly::seal(Seq::from_vec(out)))
+    let f = settled(alloc, terms.as_slice())?;
+    Ok(f)
+}
+
+/// The same, in time near linear where the terms are a few sorted lists one behind the other. It takes memory for as many terms.
+pub fn merge(alloc: Global, terms: Vec<(Exps, i128)>) -> Result<Poly, NoMemory>
+    requires small { size_of terms.items < 2 ^ 127 }
+    requires rising { AreRising terms.items }
+    ensures coefficients { IfOk result (λ f. (n : ℕ) (m : List ℕ) → coefficient_at n f m ≡ coefficient_at n terms.items m) }
+    ensures size { IfOk result (λ f. size_of f ≤ size_of terms.items) }
+    ensures form { IfOk result IsPoly }
+    ensures below { IfOk result (λ f. (n : ℕ) → AreBelow n terms.items → AreBelow n f) }
+{
+    let mut terms = terms;
+    terms.sort()?;
+    let f = settled(alloc, terms.as_slice())?;
+    Ok(f)
 }

@@ -229,7 +229,12 @@ fn ends(alloc: Global, case: &Case, exps: &[Exps], bench: &Bench) -> Result<bool
     if bench.stack.len() != 1 {
         return Ok(false);
     }
-    let ok = is_derivative(alloc, case, &exps[exps.len() - 1], bench.stack[0].poly.lent())?;
+    let ok = is_derivative(
+        alloc,
+        case,
+        &exps[exps.len() - 1],
+        bench.stack[0].poly.lent(),
+    )?;
     Ok(ok)
 }
 

@@ -7,13 +7,13 @@ use Rattle.ln_poly.proofs.Coefficients.{coefficient_at-append, size-append}
 use Rattle.ln_poly.proofs.Negating.{below-negated, coefficient-negated, rising-negated, size-negated}
 use Rattle.ln_poly.proofs.arithmetic.sub.Goals as goal
 
-pub gather-requires-clause-small : goal.gather-requires-clause-small
-gather-requires-clause-small c =
+pub merge-requires-clause-small : goal.merge-requires-clause-small
+merge-requires-clause-small c =
     let e : c.put_negated.new.out.items ≡ c.args.f.now ++ negated c.args.g.now = rw (c.in_ok-put_negated.ensures, c.in_ok-put_all.ensures, c.new-out.ensures.items, c.terms.ensures.value, c.terms-2.ensures.value) refl in
     rw e (omega (arith, c.requires, size-append c.args.f.now (negated c.args.g.now), size-negated c.args.g.now))
 
-pub gather-requires-clause-rising : goal.gather-requires-clause-rising
-gather-requires-clause-rising c =
+pub merge-requires-clause-rising : goal.merge-requires-clause-rising
+merge-requires-clause-rising c =
     let e : c.put_negated.new.out.items ≡ c.args.f.now ++ negated c.args.g.now = rw (c.in_ok-put_negated.ensures, c.in_ok-put_all.ensures, c.new-out.ensures.items, c.terms.ensures.value, c.terms-2.ensures.value) refl in
     subst AreRising (sym e) (All-append (λ t. IsRising t.0) c.args.f.now (negated c.args.g.now) c.terms.ensures.form.rising (rising-negated c.args.g.now c.terms-2.ensures.form.rising))
 
