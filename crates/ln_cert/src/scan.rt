@@ -1,6 +1,5 @@
 //! Bytes, words and numbers.
-ghost use Rattle.std.specs.Prelude.{◌≡◌, ◌<◌, ◌≤◌, ◌+◌, ◌-◌, ◌*◌, ◌^◌, ◌∷◌, ◌++◌, ◌&&◌, ℕ, ℤ};
-ghost use Rattle.std.specs.Prelude.{length, drop, take, IfSome, IfNone, decimal, unsigned_abs};
+ghost use Rattle.std.specs.Prelude.{◌≡◌, ◌<◌, ◌≤◌, ◌+◌, ◌-◌, ◌*◌, ◌^◌, ◌∷◌, ◌++◌, ◌&&◌, ℕ, ℤ, length, drop, take, IfSome, IfNone, decimal, unsigned_abs};
 ghost use Rattle.std.specs.Fmt.{signed_decimal};
 ghost use Rattle.std.specs.Str.Parse.{AllDigits, digits_value_after};
 ghost use Rattle.ln_base.specs.Words.{is_digit, is_letter, is_name_byte, is_word, is_keyword, is_name, every};
