@@ -15,7 +15,6 @@ ghost use Rattle.ln_cemit.specs.Puts.{any_reads, locals_of};
 ghost use Rattle.ln_cemit.specs.Whole.{block_body, filter_body};
 ghost use Rattle.ln_cemit.specs.Ways.{block_way, filter_way};
 
-use crate::error::left_error;
 use crate::put::{put_decl_name, put_number_of, put_operand, put_operation};
 use crate::slot::{Slot, Way};
 use ln_base::NoMemory;
@@ -461,7 +460,7 @@ pub(crate) fn put_filter_fun(
     ensures { IfOk result (λ x. Puts out.old.items out.new.items (spell_fun (one_fun title.now (filter_body filter.now)))) }
 {
     let ways = filter_ways(alloc, filter.triples())?;
-    let e = left_error(filter.ops(), filter.triples());
+    let e = filter.error();
     put_fun(alloc, out, title, e, filter.ops(), ways.as_slice())?;
     Ok(())
 }

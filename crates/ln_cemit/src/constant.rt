@@ -2,7 +2,6 @@
 ghost use Rattle.std.specs.Prelude.{◌≡◌, ◌∷◌, true, IfOk, codes};
 ghost use Rattle.ln_csyn.specs.Spelling.{Puts, lexeme, spell};
 ghost use Rattle.ln_csyn.specs.Tree.{Inner};
-ghost use Rattle.ln_code.specs.Numbers.{cut_by};
 ghost use Rattle.ln_cemit.specs.Emit.{constant, in_parts, natural};
 ghost use Rattle.ln_cemit.specs.Puts.{parts_fit};
 
@@ -70,18 +69,4 @@ pub(crate) fn put_inner(out: &mut Vec<u8>, kind: CType, z: i128) -> Result<(), N
     put_whole(out, z)?;
     right(out)?;
     Ok(())
-}
-
-// z divided by 2^n, towards 0.
-pub(crate) fn cut(z: i128, n: u8) -> i128
-    ensures { result ≡ cut_by n z }
-{
-    if n == 0 {
-        return z;
-    }
-    if n >= 128 {
-        return 0;
-    }
-    let size = (z.unsigned_abs() >> n) as i128;
-    if z < 0 { -size } else { size }
 }

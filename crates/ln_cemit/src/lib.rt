@@ -9,7 +9,6 @@
 
 pub(crate) mod body;
 pub(crate) mod constant;
-pub(crate) mod error;
 pub mod file;
 pub mod laws;
 pub(crate) mod put;

@@ -10,12 +10,12 @@ ghost use Rattle.ln_bound.specs.declared.fitted.Width.TheVariants.{W64};
 ghost use Rattle.ln_csyn.specs.declared.tree.CType.TheVariants.{Int64};
 ghost use Rattle.ln_csyn.specs.declared.tree.COp.TheVariants.{Div};
 
-use crate::constant::{cut, put_inner};
+use crate::constant::put_inner;
 use crate::slot::{Slot, Way};
 use itoa::Buffer;
 use ln_base::NoMemory;
 use ln_bound::Width;
-use ln_code::Op;
+use ln_code::{Op, cut};
 use ln_csyn::spell::{dash, equals, left, put_op, put_type, right, semi};
 use ln_csyn::write::{put_constant, put_value};
 use ln_csyn::{COp, CType};

@@ -75,8 +75,8 @@ fn combine(kind: Two, width: Width, x: i128, y: i128) -> i128
     }
 }
 
-// z divided by 2^n, towards 0.
-pub(crate) fn cut(z: i128, n: u8) -> i128
+/// z divided by 2^n, towards 0.
+pub fn cut(z: i128, n: u8) -> i128
     ensures { result ≡ cut_by n z }
 {
     if n == 0 {

@@ -113,8 +113,8 @@ impl FilterBlock {
         self.depth
     }
 
-    // The error of the operation that pushes the value that is left: the filter decides above it.
-    pub(crate) fn error(&self) -> u64
+    /// The error of the operation that pushes the value that is left: the filter decides above it.
+    pub fn error(&self) -> u64
         ensures { result ≡ left_error self.now.ops self.now.triples 0 0 }
     {
         self.error

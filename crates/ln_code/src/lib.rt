@@ -19,6 +19,7 @@ pub mod run;
 pub mod scratch;
 pub mod verdict;
 
+pub use arithmetic::cut;
 pub use block::Block;
 pub use filter_block::FilterBlock;
 pub use halving::{error_after, shifted};

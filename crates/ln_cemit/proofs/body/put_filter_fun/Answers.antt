@@ -7,5 +7,5 @@ use Rattle.ln_cemit.proofs.body.put_filter_fun.Goals as goal
 
 pub returns : goal.returns
 returns c =
-    let e : c.left_error-e.result ≡ error_of c.args.filter.now = search rules in
-    fun_put filter_way c.args.title.now c.left_error-e.result (error_of c.args.filter.now) c.ops-2.result.now c.args.filter.now.ops c.args.filter.now.triples c.in_ok-ways.ways.items c.as_slice.result.now c.ops-2.ensures c.as_slice.ensures.value (c.in_ok-ways.ensures ∙ ap (map filter_way) c.triples.ensures.value) e c.in_ok-put_fun.ensures
+    let e : c.error-e.result ≡ error_of c.args.filter.now = search rules in
+    fun_put filter_way c.args.title.now c.error-e.result (error_of c.args.filter.now) c.ops.result.now c.args.filter.now.ops c.args.filter.now.triples c.in_ok-ways.ways.items c.as_slice.result.now c.ops.ensures c.as_slice.ensures.value (c.in_ok-ways.ensures ∙ ap (map filter_way) c.triples.ensures.value) e c.in_ok-put_fun.ensures
