@@ -1,6 +1,6 @@
 //! What every crate of the product stands on: files and ports with their counts of faults (`outside`), in memory
 //! (`memory`), whole files and whole texts (`whole`), lists that contracts see as lists (`seq`), decimal numbers
-//! (`decimal`), places in a source (`span`, `place`) and signs (`sign`).
+//! (`decimal`), places in a source (`span`, `place`), names (`word`) and signs (`sign`).
 //!
 //! What the crates above use: `read_whole` answers the told bytes of a file, `put_all` appends all bytes to a port, and a
 //! refusal has its cause, a count of faults that rose or a name that isn't there.
@@ -15,6 +15,7 @@ pub mod seq;
 pub mod sign;
 pub mod span;
 pub mod whole;
+pub mod word;
 
 pub use calls::Call;
 pub use decimal::Reading;

@@ -1,10 +1,10 @@
 //! Classes of bytes, and how far they run.
 ghost use Rattle.std.specs.Prelude.{◌≡◌, ◌≤◌, drop, length};
-ghost use Rattle.ln_base.specs.Words.{is_digit, is_letter};
 ghost use Rattle.ln_lex.specs.Tokens.{begins_blank, begins_twice, in_class, sign_of};
 ghost use Rattle.ln_base.specs.Runs.{run_len};
 
 use crate::token::Kind;
+use ln_base::word::{digit, letter};
 
 /// A class of bytes that run on: what goes on with a name, digits, and what a comment may hold behind its slashes.
 #[derive(Clone, Copy)]
@@ -12,20 +12,6 @@ pub enum Class {
     InName,
     Digits,
     InComment,
-}
-
-/// Whether the byte is a decimal digit.
-pub fn digit(b: u8) -> bool
-    ensures { result ≡ is_digit b }
-{
-    b'0' <= b && b <= b'9'
-}
-
-/// Whether the byte begins a name: an ASCII letter or the underscore.
-pub fn letter(b: u8) -> bool
-    ensures { result ≡ is_letter b }
-{
-    (b'a' <= b && b <= b'z') || (b'A' <= b && b <= b'Z') || b == b'_'
 }
 
 // Whether the byte is of the class.

@@ -5,8 +5,9 @@ ghost use Rattle.ln_lex.specs.Tokens.{BeginsNone, IsFirst, IsLexFault, IsLexLimi
 ghost use Rattle.ln_lex.specs.declared.scan.LexStop.TheVariants.{NoMemory as OutOfMemory};
 ghost use Rattle.ln_lex.specs.declared.token.Token.{Token as Tok};
 
-use crate::byte::{Class, after, blank_at, digit, letter, run, sign, twice_at};
+use crate::byte::{Class, after, blank_at, run, sign, twice_at};
 use crate::token::{Kind, Token};
+use ln_base::word::{digit, letter};
 use ln_base::{NoMemory, Seq, Span};
 use std::alloc::Global;
 
