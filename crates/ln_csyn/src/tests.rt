@@ -30,15 +30,6 @@ const HEAD: &str = "int g(const int64_t*v){";
 
 const HEAD_OF_TWO: &str = "int g(const int64_t*x,const int64_t*v){";
 
-/// The keywords of C.
-const KEYWORDS: &str =
-    "auto break case char const continue default do double else enum extern float for goto if inline int \
-    long register restrict return short signed sizeof static struct switch typedef union unsigned void \
-    volatile while _Bool _Complex _Imaginary";
-
-/// Types of the subset and keywords of the source language, which are no names of C here.
-const OTHERS: &str = "int64_t __int128 site param predicate let sign";
-
 /// Whether the parts, one behind the other, are a file.
 fn is_file(rt: &impl Abort, alloc: Global, parts: &[&str]) -> Result<bool, Fail> {
     let mut text = Vec::new(alloc);
@@ -49,18 +40,6 @@ fn is_file(rt: &impl Abort, alloc: Global, parts: &[&str]) -> Result<bool, Fail>
     let stop = read_c(alloc, text.as_slice()).err();
     assert!(rt; stop != Some(CStop::NoMemory));
     Ok(stop.is_none())
-}
-
-/// Whether a word is neither a function's name nor a declaration's nor one that is read, while longer ones are.
-fn is_no_name(rt: &impl Abort, alloc: Global, word: &str) -> Result<bool, Fail> {
-    let behind = "(const int64_t*v){}";
-    let named = is_file(rt, alloc, &[FIRST, "int ", word, behind])?
-        || is_file(rt, alloc, &[FIRST, HEAD, "int ", word, "=((int)1);}"])?
-        || is_file(rt, alloc, &[FIRST, HEAD, "return((int)", word, ");}"])?;
-    let longer = is_file(rt, alloc, &[FIRST, "int ", word, "_", behind])?
-        && is_file(rt, alloc, &[FIRST, "int _", word, behind])?
-        && is_file(rt, alloc, &[FIRST, HEAD, "return((int)", word, "9);}"])?;
-    Ok(longer && !named)
 }
 
 /// The line of the one statement in the braces of the first, an `if`.
@@ -144,188 +123,241 @@ fn whole_texts(rt: HostRuntime) -> Result<(), Fail> {
     Ok(())
 }
 
-/// Texts behind the first line, and whether they make a file.
-const FUNCTIONS: &[(&str, bool)] = &[
-    ("int g() { }", false),
-    ("int g(const int64_t *v) { }", true),
-    (
-        "int g(const int64_t*v){}static int h(const int64_t*v){}",
-        true,
-    ),
-    ("int g(const int64_t*x,const int64_t*v){}", true),
-    ("int g(const int64_t*v,const int64_t*x){}", false),
-    ("int g(const int64_t*x){}", false),
-    ("int g(int64_t*v){}", false),
-    ("int g(const int64_t*v)", false),
-    ("int g(const int64_t*v){", false),
-    ("int g(const int64_t*v){}}", false),
-    ("int g(const int64_t*v){};", false),
-    ("int64_t g(const int64_t*v){}", false),
-    ("staticint g(const int64_t*v){}", false),
-    ("int static g(const int64_t*v){}", false),
-    ("\r\n\tint\rg\t(const\nint64_t*v){}\r", true),
-    ("int\x0Bg(const int64_t*v){}", false),
-    ("int\x0Cg(const int64_t*v){}", false),
-    ("int g(const int64_t*v){\0}", false),
-    ("int g(const int64_t*v){}\u{e9}", false),
-    ("int g(const int64_t*v){/**/}", false),
-    ("int g(const int64_t*v){}// g\n", false),
-    ("int v(const int64_t*v){}", false),
-    ("int x(const int64_t*v){}", false),
-    ("int vx(const int64_t*v){}", true),
-    (
-        "int g(const int64_t*v){}int g(const int64_t*x,const int64_t*v){}",
-        false,
-    ),
-    (
-        "int g(const int64_t*v){}int G(const int64_t*v){}int g_(const int64_t*v){}",
-        true,
-    ),
-    (
-        "int g(const int64_t*v){int h=((int)1);}int h(const int64_t*v){}",
-        false,
-    ),
-    (
-        "int g(const int64_t*v){}int h(const int64_t*v){{int g=((int)1);}}",
-        false,
-    ),
-    (
-        "int abcdefghijklmnopqrstuvwxyzabcdefghijklmnopqrstuvwxyz9(const int64_t*v){}",
-        true,
-    ),
-    ("int 9g(const int64_t*v){}", false),
-];
-
 #[test]
 fn functions(rt: HostRuntime) -> Result<(), Fail> {
     let alloc = rt.alloc();
-    for (text, want) in FUNCTIONS {
-        assert!(rt; is_file(&rt, alloc, &[FIRST, *text])? == *want, "{text}");
+    for (text, want) in [
+        ("int g() { }", false),
+        ("int g(const int64_t *v) { }", true),
+        (
+            "int g(const int64_t*v){}static int h(const int64_t*v){}",
+            true,
+        ),
+        ("int g(const int64_t*x,const int64_t*v){}", true),
+        ("int g(const int64_t*v,const int64_t*x){}", false),
+        ("int g(const int64_t*x){}", false),
+        ("int g(int64_t*v){}", false),
+        ("int g(const int64_t*v)", false),
+        ("int g(const int64_t*v){", false),
+        ("int g(const int64_t*v){}}", false),
+        ("int g(const int64_t*v){};", false),
+        ("int64_t g(const int64_t*v){}", false),
+        ("staticint g(const int64_t*v){}", false),
+        ("int static g(const int64_t*v){}", false),
+        ("\r\n\tint\rg\t(const\nint64_t*v){}\r", true),
+        ("int\x0Bg(const int64_t*v){}", false),
+        ("int\x0Cg(const int64_t*v){}", false),
+        ("int g(const int64_t*v){\0}", false),
+        ("int g(const int64_t*v){}\u{e9}", false),
+        ("int g(const int64_t*v){/**/}", false),
+        ("int g(const int64_t*v){}// g\n", false),
+        ("int v(const int64_t*v){}", false),
+        ("int x(const int64_t*v){}", false),
+        ("int vx(const int64_t*v){}", true),
+        (
+            "int g(const int64_t*v){}int g(const int64_t*x,const int64_t*v){}",
+            false,
+        ),
+        (
+            "int g(const int64_t*v){}int G(const int64_t*v){}int g_(const int64_t*v){}",
+            true,
+        ),
+        (
+            "int g(const int64_t*v){int h=((int)1);}int h(const int64_t*v){}",
+            false,
+        ),
+        (
+            "int g(const int64_t*v){}int h(const int64_t*v){{int g=((int)1);}}",
+            false,
+        ),
+        (
+            "int abcdefghijklmnopqrstuvwxyzabcdefghijklmnopqrstuvwxyz9(const int64_t*v){}",
+            true,
+        ),
+        ("int 9g(const int64_t*v){}", false),
+    ] {
+        assert!(rt; is_file(&rt, alloc, &[FIRST, text])? == want, "{text}");
     }
     Ok(())
 }
 
 #[test]
 fn words_that_are_no_names(rt: HostRuntime) -> Result<(), Fail> {
-    for word in KEYWORDS.split_whitespace() {
-        assert!(rt; is_no_name(&rt, rt.alloc(), word)?, "{word}");
-    }
-    for word in OTHERS.split_whitespace() {
-        assert!(rt; is_no_name(&rt, rt.alloc(), word)?, "{word}");
+    let alloc = rt.alloc();
+    for word in [
+        "auto",
+        "break",
+        "case",
+        "char",
+        "const",
+        "continue",
+        "default",
+        "do",
+        "double",
+        "else",
+        "enum",
+        "extern",
+        "float",
+        "for",
+        "goto",
+        "if",
+        "inline",
+        "int",
+        "long",
+        "register",
+        "restrict",
+        "return",
+        "short",
+        "signed",
+        "sizeof",
+        "static",
+        "struct",
+        "switch",
+        "typedef",
+        "union",
+        "unsigned",
+        "void",
+        "volatile",
+        "while",
+        "_Bool",
+        "_Complex",
+        "_Imaginary",
+        "int64_t",
+        "__int128",
+        "site",
+        "param",
+        "predicate",
+        "let",
+        "sign",
+    ] {
+        let behind = "(const int64_t*v){}";
+        assert!(rt;
+            !is_file(&rt, alloc, &[FIRST, "int ", word, behind])?,
+            "{word}"
+        );
+        assert!(rt;
+            is_file(&rt, alloc, &[FIRST, "int ", word, "_", behind])?,
+            "{word}"
+        );
+        assert!(rt;
+            is_file(&rt, alloc, &[FIRST, "int _", word, behind])?,
+            "{word}"
+        );
+        assert!(rt;
+            !is_file(&rt, alloc, &[FIRST, HEAD, "int ", word, "=((int)1);}"])?,
+            "{word}"
+        );
+        assert!(rt;
+            !is_file(&rt, alloc, &[FIRST, HEAD, "return((int)", word, ");}"])?,
+            "{word}"
+        );
+        assert!(rt;
+            is_file(&rt, alloc, &[FIRST, HEAD, "return((int)", word, "9);}"])?,
+            "{word}"
+        );
     }
     Ok(())
 }
 
-/// Statements of a function, and whether they are some of the subset.
-const STATEMENTS: &[(&str, bool)] = &[
-    ("int a=((int)1);", true),
-    ("int64_t a=((int)1);__int128 b=((int)1);", true),
-    ("long a=((int)1);", false),
-    ("inta=((int)1);", false),
-    ("int a;", false),
-    ("a=((int)1);", false),
-    ("int a=((int)1)", false),
-    (";", false),
-    ("return;", false),
-    ("return((int)1);return((int)1);", true),
-    ("returnn((int)1);", false),
-    ("if(((int)1)){}return((int)1);", true),
-    ("if((int)1){}", false),
-    ("if(((int)1))return((int)1);", false),
-    ("if(((int)1)){}else{}", false),
-    ("{{}{}}{}", true),
-    ("{}}", false),
-    ("int v=((int)1);", false),
-    ("{int x=((int)1);}", false),
-    ("int g=((int)1);", false),
-    ("int a=((int)1);int a=((int)2);", false),
-    ("int a=((int)1);{}int64_t a=((int)2);", false),
-    (
-        "int a=((int)1);{int a=((int)2);}if(((int)1)){int a=((int)3);}",
-        true,
-    ),
-    ("{int a=((int)1);int a=((int)2);}", false),
-    (
-        "if(((int)1)){int a=((int)1);int b=((int)2);int a=((int)2);}",
-        false,
-    ),
-];
-
 #[test]
 fn statements(rt: HostRuntime) -> Result<(), Fail> {
     let alloc = rt.alloc();
-    for (body, want) in STATEMENTS {
+    for (body, want) in [
+        ("int a=((int)1);", true),
+        ("int64_t a=((int)1);__int128 b=((int)1);", true),
+        ("long a=((int)1);", false),
+        ("inta=((int)1);", false),
+        ("int a;", false),
+        ("a=((int)1);", false),
+        ("int a=((int)1)", false),
+        (";", false),
+        ("return;", false),
+        ("return((int)1);return((int)1);", true),
+        ("returnn((int)1);", false),
+        ("if(((int)1)){}return((int)1);", true),
+        ("if((int)1){}", false),
+        ("if(((int)1))return((int)1);", false),
+        ("if(((int)1)){}else{}", false),
+        ("{{}{}}{}", true),
+        ("{}}", false),
+        ("int v=((int)1);", false),
+        ("{int x=((int)1);}", false),
+        ("int g=((int)1);", false),
+        ("int a=((int)1);int a=((int)2);", false),
+        ("int a=((int)1);{}int64_t a=((int)2);", false),
+        (
+            "int a=((int)1);{int a=((int)2);}if(((int)1)){int a=((int)3);}",
+            true,
+        ),
+        ("{int a=((int)1);int a=((int)2);}", false),
+        (
+            "if(((int)1)){int a=((int)1);int b=((int)2);int a=((int)2);}",
+            false,
+        ),
+    ] {
         assert!(rt;
-            is_file(&rt, alloc, &[FIRST, HEAD, *body, "}"])? == *want,
+            is_file(&rt, alloc, &[FIRST, HEAD, body, "}"])? == want,
             "{body}"
         );
     }
     Ok(())
 }
 
-/// Expressions behind `return`, and whether they are some of the subset.
-const EXPRESSIONS: &[(&str, bool)] = &[
-    ("((int)1)", true),
-    ("(-((__int128)1))", true),
-    ("((int)(-((int64_t)1)))", true),
-    ("1", false),
-    ("((int)-1)", false),
-    ("(((int)1))", false),
-    ("((long)1)", false),
-    ("((int)1a)", false),
-    ("((int)1 2)", false),
-    ("((int)a1)", true),
-    ("((int)v)", true),
-    ("((int)x)", true),
-    ("((int)0)", true),
-    ("((int)00)", false),
-    ("((int)01)", false),
-    ("((int)9223372036854775807)", true),
-    ("((int)9223372036854775808)", false),
-    ("((int)18446744073709551617)", false),
-    ("((int)340282366920938463463374607431768211457)", false),
-    ("((int)v[0])", true),
-    ("((int)x [ 9223372036854775807 ])", true),
-    ("((int)v[9223372036854775808])", false),
-    ("((int)v[00])", false),
-    ("((int)v[a])", false),
-    ("((int)a[0])", false),
-    ("(((int)1)+((int)2))", true),
-    ("(((int)1)-((int)2))", true),
-    ("(((int)1)*((int)2))", true),
-    ("(((int)1)<((int)2))", true),
-    ("(((int)1)>((int)2))", true),
-    ("(((int)1)==((int)2))", true),
-    ("(((int)1)!=((int)2))", true),
-    ("(((int)1)<=((int)2))", false),
-    ("(((int)1)= =((int)2))", false),
-    ("(((int)1)=((int)2))", false),
-    ("(((int)1)!((int)2))", false),
-    ("(((int)1)%((int)2))", false),
-    ("(((int)1)+((int)2)+((int)3))", false),
-    ("(((int)1)/((__int128)2))", true),
-    ("(((int)1)/((int)0))", false),
-    ("(((int)1)/((int)a))", false),
-    ("(((int)1)/(-((int)1)))", false),
-    ("(((int)1)/((int)((int)2)))", false),
-    ("(-((int)((((int)1)/((int)0))*((int)2))))", false),
-];
-
 #[test]
 fn expressions(rt: HostRuntime) -> Result<(), Fail> {
     let alloc = rt.alloc();
-    for (text, want) in EXPRESSIONS {
+    for (text, want) in [
+        ("((int)1)", true),
+        ("(-((__int128)1))", true),
+        ("((int)(-((int64_t)1)))", true),
+        ("1", false),
+        ("((int)-1)", false),
+        ("(((int)1))", false),
+        ("((long)1)", false),
+        ("((int)1a)", false),
+        ("((int)1 2)", false),
+        ("((int)a1)", true),
+        ("((int)v)", true),
+        ("((int)x)", true),
+        ("((int)0)", true),
+        ("((int)00)", false),
+        ("((int)01)", false),
+        ("((int)9223372036854775807)", true),
+        ("((int)9223372036854775808)", false),
+        ("((int)18446744073709551617)", false),
+        ("((int)340282366920938463463374607431768211457)", false),
+        ("((int)v[0])", true),
+        ("((int)x [ 9223372036854775807 ])", true),
+        ("((int)v[9223372036854775808])", false),
+        ("((int)v[00])", false),
+        ("((int)v[a])", false),
+        ("((int)a[0])", false),
+        ("(((int)1)+((int)2))", true),
+        ("(((int)1)-((int)2))", true),
+        ("(((int)1)*((int)2))", true),
+        ("(((int)1)<((int)2))", true),
+        ("(((int)1)>((int)2))", true),
+        ("(((int)1)==((int)2))", true),
+        ("(((int)1)!=((int)2))", true),
+        ("(((int)1)<=((int)2))", false),
+        ("(((int)1)= =((int)2))", false),
+        ("(((int)1)=((int)2))", false),
+        ("(((int)1)!((int)2))", false),
+        ("(((int)1)%((int)2))", false),
+        ("(((int)1)+((int)2)+((int)3))", false),
+        ("(((int)1)/((__int128)2))", true),
+        ("(((int)1)/((int)0))", false),
+        ("(((int)1)/((int)a))", false),
+        ("(((int)1)/(-((int)1)))", false),
+        ("(((int)1)/((int)((int)2)))", false),
+        ("(-((int)((((int)1)/((int)0))*((int)2))))", false),
+    ] {
         assert!(rt;
-            is_file(&rt, alloc, &[FIRST, HEAD, "return", *text, ";}"])? == *want,
+            is_file(&rt, alloc, &[FIRST, HEAD, "return", text, ";}"])? == want,
             "{text}"
         );
     }
-    Ok(())
-}
-
-#[test]
-fn calls_stand_in_functions_of_two_parameters(rt: HostRuntime) -> Result<(), Fail> {
-    let alloc = rt.alloc();
+    // Calls stand in functions of two parameters alone.
     for text in ["((int)g(v))", "((int)v(v))", "(-(((int)1)*((int)h(v))))"] {
         assert!(rt;
             !is_file(&rt, alloc, &[FIRST, HEAD, "return", text, ";}"])?,
