@@ -69,13 +69,12 @@ c_of : (ps : List PredOf) (parts : List Part) (text : List ℕ) → AreProgramsO
 c_of ps parts text a k e = record { file = e.file; text = e.text; due = all_due e.file ps parts a k e.says }
 
 -- the C was put as a whole text
-pub carried : (r : Ready) (g : Given) (text : List ℕ) (puts : Count) (result : Result End Early) (was now : Option Shown)
-    → StandsFor r g → AreProgramsOf (map pred_of r.compiled.table.preds) r.compiled.programs → AreKept r.compiled.programs
-    → IsEmitted r.compiled.programs text
+pub carried : (r : Ready) (cs : List Part) (g : Given) (text : List ℕ) (puts : Count) (result : Result End Early) (was now : Option Shown)
+    → StandsFor r g → AreProgramsOf (map pred_of r.compiled.table.preds) cs → AreKept cs → IsEmitted cs text
     → PutsText text Done puts result was now → CarriesOut (EmitSaid g) NoPart ⊥ ⊥ puts result was now
-carried r g text puts result was now s a k e p = text_carried (EmitSaid g) NoPart ⊥ ⊥ puts Done text result was now
+carried r cs g text puts result was now s a k e p = text_carried (EmitSaid g) NoPart ⊥ ⊥ puts Done text result was now
     (emitted text (subst (λ t. IsCOf t text) (sym (ap (λ t. t.preds) s.table))
-    (c_of (map pred_of r.compiled.table.preds) r.compiled.programs text a k e))) p
+    (c_of (map pred_of r.compiled.table.preds) cs text a k e))) p
 
 tells : (g : Given) (a : Said) → EmitSaid g a → EmitEnds g a.end
 tells g a (emitted text h) = done

@@ -1,4 +1,4 @@
--- The predicate of a name, by its number, and its program.
+-- The predicate of a name, by its number.
 use Rattle.std.proofs.Common.{◌≡◌, ℕ, zero, suc, ◌+◌, ◌<◌, ◌≤◌, cond, Bool, true, false, List, [], ◌∷◌}
 use Rattle.std.proofs.Common.{map, length, Some, None, option_map, refl, ap, sym, ◌∙◌, subst, arith}
 use Rattle.std.specs.Prelude.{find, slice_get, position, nat_lt, bytes_eq}
@@ -13,26 +13,6 @@ use Rattle.ln_code.specs.Part.{Part}
 use Rattle.ln_compile.specs.Compiled.{AreProgramsOf, IsProgramOf, number_of}
 use Rattle.ln_top.specs.Steps.{named}
 use Rattle.ln_top.proofs.Likeness.{named_in, named_like}
-
--- there are as many programs as predicates
-pub as_many : (ps : List PredOf) (cs : List Part) → AreProgramsOf ps cs → length cs ≡ length ps
-as_many [] [] a = refl
-as_many [] (c ∷ cs) a = absurd a
-as_many (p ∷ ps) [] a = absurd a
-as_many (p ∷ ps) (c ∷ cs) a = ap suc (as_many ps cs a.1)
-
--- and each is that of the predicate with its number
-pub program_at : (ps : List PredOf) (cs : List Part) (i : ℕ) (p : PredOf) (c : Part) → AreProgramsOf ps cs
-    → slice_get ps i ≡ Some p → slice_get cs i ≡ Some c → IsProgramOf p c
-program_at [] cs i p c a e f = absurd (none-some p e)
-program_at (q ∷ ps) [] i p c a e f = absurd a
-program_at (q ∷ ps) (d ∷ cs) zero p c a e f =
-    subst (λ (z : PredOf). IsProgramOf z c) (same_Some q p e) (subst (λ (z : Part). IsProgramOf q z) (same_Some d c f) a.0)
-program_at (q ∷ ps) (d ∷ cs) (suc i) p c a e f = program_at ps cs i p c a.1 e f
-
-pub program_of : (ps : List Pred) (cs : List Part) (i : ℕ) (p : Pred) (c : Part) → AreProgramsOf (map pred_of ps) cs
-    → slice_get ps i ≡ Some p → slice_get cs i ≡ Some c → IsProgramOf (pred_of p) c
-program_of ps cs i p c a e f = program_at (map pred_of ps) cs i (pred_of p) c a (slice_get-map pred_of ps i ∙ ap (option_map pred_of) e) f
 
 one_more : (n : ℕ) → 1 + n ≡ suc n
 one_more n = omega arith

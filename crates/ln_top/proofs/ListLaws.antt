@@ -22,14 +22,13 @@ use Rattle.ln_top.proofs.Carry.{text_carried}
 use Rattle.ln_top.proofs.GoodLines.{listing_is}
 
 -- the listing was put as a whole text
-pub carried : (r : Ready) (g : Given) (text : List ℕ) (puts : Count) (result : Result End Early) (was now : Option Shown)
-    → StandsFor r g → AreProgramsOf (map pred_of r.compiled.table.preds) r.compiled.programs → AreKept r.compiled.programs
-    → AreListable r.compiled.programs
-    → ListText text 2 (listing_of r.compiled.programs) → PutsText text Done puts result was now
+pub carried : (r : Ready) (cs : List Part) (g : Given) (text : List ℕ) (puts : Count) (result : Result End Early) (was now : Option Shown)
+    → StandsFor r g → AreProgramsOf (map pred_of r.compiled.table.preds) cs → AreKept cs → AreListable cs
+    → ListText text 2 (listing_of cs) → PutsText text Done puts result was now
     → CarriesOut (ListSaid g) NoPart ⊥ ⊥ puts result was now
-carried r g text puts result was now s a k m l p = text_carried (ListSaid g) NoPart ⊥ ⊥ puts Done text result was now
+carried r cs g text puts result was now s a k m l p = text_carried (ListSaid g) NoPart ⊥ ⊥ puts Done text result was now
     (listed text (subst (λ t. IsListingOf t text) (sym (ap (λ t. t.preds) s.table))
-    (listing_is (map pred_of r.compiled.table.preds) r.compiled.programs text a k m l))) p
+    (listing_is (map pred_of r.compiled.table.preds) cs text a k m l))) p
 
 tells : (g : Given) (a : Said) → ListSaid g a → ListEnds g a.end
 tells g a (listed text h) = done

@@ -12,7 +12,7 @@ use crate::status::{Early, End};
 use crate::stop::put_text;
 use itoa::Buffer;
 use ln_base::{Console, NoMemory};
-use ln_compile::Compiled;
+use ln_compile::Checked;
 use ln_tree::Pred;
 use std::alloc::Global;
 
@@ -32,7 +32,7 @@ fn add_count(text: &mut Vec<u8>, p: &Pred, count: u64) -> Result<(), NoMemory>
 }
 
 // The lines of the predicates.
-fn counts(alloc: Global, c: &Compiled) -> Result<Vec<u8>, NoMemory>
+fn counts(alloc: Global, c: &Checked) -> Result<Vec<u8>, NoMemory>
     ensures { IfOk result (λ v. AreCounts (map pred_of c.now.table.preds) v.items) }
 {
     let mut text = Vec::new(alloc);

@@ -88,7 +88,9 @@ pub(crate) fn work<C: Console>(
         → CarriesOut (GenSaid seed rows (states_of kind_of tally_of watchers.items) g) NoPart ⊥ ⊥
         (count (C.faults con.old) (C.faults con.new)) result (C.shown con.old) (C.shown con.new) }
 {
-    let target = one_target(ready);
+    let Ok(target) = one_target(alloc, ready) else {
+        return Err(Early::Memory);
+    };
     let Ok(mut scratch) = target.scratch(alloc) else {
         return Err(Early::Memory);
     };

@@ -17,7 +17,10 @@ pub(crate) fn work<C: Console>(alloc: Global, con: &mut C, ready: &Ready) -> Res
     ensures { (g : Given) → StandsFor ready.now g → CarriesOut (ListSaid g) NoPart ⊥ ⊥
         (count (C.faults con.old) (C.faults con.new)) result (C.shown con.old) (C.shown con.new) }
 {
-    let programs = kept_programs(&ready.compiled);
+    let Ok(made) = ready.compiled.programs(alloc) else {
+        return Err(Early::Memory);
+    };
+    let programs = kept_programs(&made);
     let Ok(text) = write_listing(alloc, programs) else {
         return Err(Early::Memory);
     };

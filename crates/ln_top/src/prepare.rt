@@ -3,7 +3,6 @@ ghost use Rattle.std.specs.Prelude.{◌≡◌, ◌≢◌, ◌≤◌, Err, [], �
 ghost use Rattle.ln_base.specs.Outside.{Rose};
 ghost use Rattle.ln_tree.specs.Table.{pred_of};
 ghost use Rattle.ln_cemit.specs.Emitted.{AreKept};
-ghost use Rattle.ln_compile.specs.Compiled.{AreProgramsOf};
 ghost use Rattle.ln_top.specs.Listing.{AreListable};
 ghost use Rattle.ln_top.specs.Plan.{with_bytes};
 ghost use Rattle.ln_top.specs.Source.{view};
@@ -18,9 +17,9 @@ use crate::source::compiled;
 use crate::stop::{Stop, Why};
 use crate::target::Target;
 use crate::words::Plan;
-use ln_base::{Files, ReadStop, read_whole};
+use ln_base::{Files, NoMemory, ReadStop, read_whole};
 use ln_code::Programs;
-use ln_compile::Compiled;
+use ln_compile::Checked;
 use ln_tree::Table;
 use std::alloc::Global;
 
@@ -33,8 +32,8 @@ pub const FILE_LIMIT: usize = 67_108_864;
 /// What the work is done on.
 #[derive(Drop)]
 pub struct Ready {
-    /// The compiled source.
-    pub compiled: Compiled,
+    /// The source, which is accepted. Its programs are made by the work that wants them.
+    pub compiled: Checked,
     /// The numbers of the named predicates, in order.
     pub numbers: Vec<usize>,
     /// The further files, in order.
@@ -58,7 +57,7 @@ fn file<F: Files>(alloc: Global, files: &mut F, name: &str, limit: usize) -> Res
 }
 
 // The numbers of the names.
-fn numbers(alloc: Global, c: &Compiled, names: &[String]) -> Result<Vec<usize>, Stop>
+fn numbers(alloc: Global, c: &Checked, names: &[String]) -> Result<Vec<usize>, Stop>
     ensures ok { IfOk result (λ v. HasNumbers (map pred_of c.now.table.preds) (map string_bytes names.now) v.items) }
     ensures err { IfErr result (Halts (Each (Finds (map pred_of c.now.table.preds)) (map string_bytes names.now)) ⊥) }
     ensures count { IfOk result (λ v. length v.items ≡ length names.now) }
@@ -99,8 +98,8 @@ fn texts<F: Files>(alloc: Global, files: &mut F, names: &[String]) -> Result<Vec
     Ok(texts)
 }
 
-// The source file, compiled.
-fn source<F: Files>(alloc: Global, files: &mut F, name: &str) -> Result<Compiled, Stop>
+// The source file, which is accepted.
+fn source<F: Files>(alloc: Global, files: &mut F, name: &str) -> Result<Checked, Stop>
     ensures told { F.told files.new ≡ F.told files.old }
     ensures ok { IfOk result (λ c. IsSource (F.told files.old) name.now (view c.table)) }
     ensures err { IfErr result (Halts (Then (Reads (F.told files.old) most_source name.now) Compiles)
@@ -144,23 +143,22 @@ pub fn prepare<F: Files>(alloc: Global, files: &mut F, plan: Plan<'_>) -> Result
     }
 }
 
-/// The one named predicate.
-pub fn one_target(ready: &Ready) -> Target<'_>
+/// The one named predicate, with its program.
+pub fn one_target(alloc: Global, ready: &Ready) -> Result<Target<'_>, NoMemory>
     requires stands { HasStanding ready.now }
     requires one { length ready.now.numbers.items ≡ 1 }
-    ensures { (g : Given) → StandsFor ready.now g → IsGivenBy g result }
+    ensures { IfOk result (λ t. (g : Given) → StandsFor ready.now g → IsGivenBy g t) }
 {
-    Target::new(&ready.compiled, ready.numbers.as_slice()[0])
+    let target = Target::new(alloc, &ready.compiled, ready.numbers.as_slice()[0])?;
+    Ok(target)
 }
 
-/// The programs, each with what its type keeps.
-pub fn kept_programs(c: &Compiled) -> &Programs
-    ensures value { result.now ≡ c.now.programs }
-    ensures are { AreProgramsOf (map pred_of c.now.table.preds) c.now.programs }
-    ensures kept { AreKept c.now.programs }
-    ensures listable { AreListable c.now.programs }
+/// Programs, each with what its type keeps.
+pub fn kept_programs(programs: &Programs) -> &Programs
+    ensures value { result.now ≡ programs.now }
+    ensures kept { AreKept programs.now }
+    ensures listable { AreListable programs.now }
 {
-    let programs = c.programs();
     'programs: for p in programs.as_slice() {
         let _kept = kept(p);
         let _listable = listable(p);

@@ -246,7 +246,9 @@ pub(crate) fn work<C: Console>(
         (RunPart (states_of kind_of tally_of watchers.items) g) ⊥ ⊥
         (count (C.faults con.old) (C.faults con.new)) result (C.shown con.old) (C.shown con.new) }
 {
-    let target = one_target(ready);
+    let Ok(target) = one_target(alloc, ready) else {
+        return Err(Early::Memory);
+    };
     let mut rows = Rows::new(alloc, one_text(ready));
     match target.take_header(&mut rows) {
         Ok(true) => run_rows(alloc, con, &target, &mut rows, watchers),

@@ -7,7 +7,7 @@ ghost use Rattle.ln_top.specs.Stop.{stop_of};
 
 use crate::stop::{Place, Stop, Why};
 use ln_base::{Span, line_col};
-use ln_compile::{Compiled, Refusal, compile};
+use ln_compile::{Checked, Refusal, check};
 use std::alloc::Global;
 
 // The place of the start of a span.
@@ -31,12 +31,12 @@ fn stop_for(bytes: &[u8], r: Refusal) -> Stop
 }
 
 /// A source, compiled; or why it is refused.
-pub fn compiled(alloc: Global, bytes: &[u8]) -> Result<Compiled, Stop>
+pub fn compiled(alloc: Global, bytes: &[u8]) -> Result<Checked, Stop>
     requires { length bytes.now ≤ 1048576 }
     ensures ok { IfOk result (λ c. Compiles bytes.now (gives (view c.table))) }
     ensures err { IfErr result (λ s. Halts (Compiles bytes.now) ⊥ s) }
 {
-    match compile(alloc, bytes) {
+    match check(alloc, bytes) {
         Ok(c) => Ok(c),
         Err(r) => Err(stop_for(bytes, r)),
     }

@@ -9,7 +9,7 @@ ghost use Rattle.ln_top.specs.Target.{Belongs, IsInRange, pred_in, row_in};
 use crate::listable::kept;
 use ln_base::NoMemory;
 use ln_code::{Program, Row, Scratch, Verdict, run_row};
-use ln_compile::Compiled;
+use ln_compile::Checked;
 use ln_rows::{Rows, column};
 use ln_tree::{Pred, Table};
 use std::alloc::Global;
@@ -21,7 +21,7 @@ use std::marker::Model;
 pub struct Target<'a> {
     table: &'a Table,
     pred: &'a Pred,
-    program: &'a Program,
+    program: Program,
 }
 
 impl<'a> Model for Target<'a> {
@@ -34,23 +34,25 @@ impl<'a> Model for Target<'a> {
 
     ghost coded = { Prim.hlevel (codes, node.the_row.coded) };
 
-    ghost view = { λ t. record { pred = t.pred.now; names = names_of t.table.now t.pred.now; program = t.program.now } };
+    ghost view = { λ t. record { pred = t.pred.now; names = names_of t.table.now t.pred.now; program = t.program } };
 
-    ghost invariant = { λ t. Belongs t.pred.now t.program.now };
+    ghost invariant = { λ t. Belongs t.pred.now t.program };
 }
 
 impl<'a> Target<'a> {
-    /// The predicate of a compiled source with this number, from 0.
-    pub fn new(c: &'a Compiled, i: usize) -> Target<'a>
+    /// The predicate of a source with this number, from 0, and its program, which is made here.
+    pub fn new(alloc: Global, c: &'a Checked, i: usize) -> Result<Target<'a>, NoMemory>
         requires { i < length c.now.table.preds }
-        ensures pred { slice_get c.now.table.preds i ≡ Some result.pred }
-        ensures names { result.names ≡ names_of c.now.table result.pred }
+        ensures pred { IfOk result (λ t. slice_get c.now.table.preds i ≡ Some t.pred) }
+        ensures names { IfOk result (λ t. t.names ≡ names_of c.now.table t.pred) }
     {
-        Target {
+        let program = c.program(alloc, i)?;
+        let _kept = kept(&program);
+        Ok(Target {
             table: c.table(),
             pred: &c.table().preds.as_slice()[i],
-            program: kept(&c.programs().as_slice()[i]),
-        }
+            program,
+        })
     }
 
     /// The predicate.
@@ -81,7 +83,7 @@ impl<'a> Target<'a> {
         ensures made { IfOk result (λ s. MadeFor self.now.program s) }
         ensures belongs { Belongs self.now.pred self.now.program }
     {
-        let scratch = Scratch::new(alloc, self.program)?;
+        let scratch = Scratch::new(alloc, &self.program)?;
         Ok(scratch)
     }
 
@@ -92,6 +94,6 @@ impl<'a> Target<'a> {
         ensures due { IsDue (pred_in self.now) (row_in self.now row.now) result }
         ensures made { MadeFor self.now.program s.new }
     {
-        run_row(self.program, s, row)
+        run_row(&self.program, s, row)
     }
 }

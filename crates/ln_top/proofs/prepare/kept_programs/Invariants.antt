@@ -5,5 +5,5 @@ use Rattle.ln_top.proofs.prepare.kept_programs.Given as goal
 
 abbrev pub invariant-programs : goal.invariant-programs
 invariant-programs l =
-    (AreKept (drop l.p-index l.c.programs) → AreKept l.c.programs)
-    × (AreListable (drop l.p-index l.c.programs) → AreListable l.c.programs)
+    (AreKept (drop l.p-index l.programs) → AreKept l.programs)
+    × (AreListable (drop l.p-index l.programs) → AreListable l.programs)
