@@ -9,7 +9,8 @@ use crate::args::{bound, ended, ends, field, next_word, triple};
 use crate::kinds::{after, kind};
 use crate::operation::operation;
 use crate::part::{Kind, Part, State, Verb};
-use crate::scan::{exponent, is_name, number, word};
+use crate::scan::{exponent, number, word};
+use ln_base::word::is_name;
 use ln_base::{NoMemory, Seq};
 use std::alloc::Global;
 

@@ -2,7 +2,6 @@
 ghost use Rattle.std.specs.Prelude.{◌≡◌, ◌<◌, ◌≤◌, ◌+◌, ◌-◌, ◌*◌, ◌^◌, ◌∷◌, ◌++◌, ◌&&◌, ℕ, ℤ, length, drop, take, IfSome, IfNone, decimal, unsigned_abs};
 ghost use Rattle.std.specs.Fmt.{signed_decimal};
 ghost use Rattle.std.specs.Str.Parse.{AllDigits, digits_value_after};
-ghost use Rattle.ln_base.specs.Words.{is_digit, is_letter, is_name_byte, is_word, is_keyword, is_name, every};
 ghost use Rattle.ln_cert.specs.Words.{span_to, words_from};
 ghost use Rattle.ln_cert.specs.Text.{IsExponent, exponent_word};
 
@@ -139,61 +138,4 @@ pub fn exponent(word: &[u8]) -> Option<(u8, u8)>
         return None;
     }
     Some((v as u8, e as u8))
-}
-
-fn digit(b: u8) -> bool
-    ensures { result ≡ is_digit b }
-{
-    b'0' <= b && b <= b'9'
-}
-
-fn letter(b: u8) -> bool
-    ensures { result ≡ is_letter b }
-{
-    (b'a' <= b && b <= b'z') || (b'A' <= b && b <= b'Z') || b == b'_'
-}
-
-fn name_byte(b: u8) -> bool
-    ensures { result ≡ is_name_byte b }
-{
-    letter(b) || digit(b)
-}
-
-fn name_bytes(bytes: &[u8]) -> bool
-    ensures { result ≡ every is_name_byte bytes.now }
-{
-    'bytes: for b in bytes {
-        if !name_byte(*b) {
-            return false;
-        }
-    }
-    true
-}
-
-// A letter, then letters and digits.
-fn is_word(text: &[u8]) -> bool
-    ensures { result ≡ is_word text.now }
-{
-    match text {
-        [] => false,
-        [b, rest @ ..] => letter(*b) && name_bytes(rest),
-    }
-}
-
-// One of the words of the source language that are no names.
-fn is_keyword(text: &[u8]) -> bool
-    ensures { result ≡ is_keyword text.now }
-{
-    text == b"site".as_slice()
-        || text == b"param".as_slice()
-        || text == b"predicate".as_slice()
-        || text == b"let".as_slice()
-        || text == b"sign".as_slice()
-}
-
-/// Whether the word is a NAME.
-pub fn is_name(text: &[u8]) -> bool
-    ensures { result ≡ is_name text.now }
-{
-    is_word(text) && !is_keyword(text)
 }

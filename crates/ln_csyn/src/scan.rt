@@ -9,7 +9,7 @@ ghost use Rattle.ln_csyn.specs.declared.stop.CStop.TheVariants.{NotSubset};
 
 use crate::stop::CStop;
 use crate::token::Token;
-use crate::word::{digit, letter, name_byte};
+use ln_base::word::{digit, letter, name_byte};
 use std::alloc::Global;
 
 fn blank(b: u8) -> bool

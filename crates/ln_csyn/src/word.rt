@@ -1,74 +1,10 @@
 //! Words, numbers and operators by their text.
 ghost use Rattle.std.specs.Prelude.{◌≡◌, ◌-◌, ◌&&◌, ◌==◌, ◌<◌, map};
-ghost use Rattle.ln_base.specs.Words.{is_digit, is_letter, is_name_byte, is_word, is_keyword, every};
 ghost use Rattle.ln_csyn.specs.Words.{among, reserved, is_c_name, is_numeral, number_of, type_of, op_of};
 
 use crate::tree::{COp, CType};
 use ln_base::decimal::unsigned;
-
-/// A decimal digit.
-pub fn digit(b: u8) -> bool
-    ensures { result ≡ is_digit b }
-{
-    b'0' <= b && b <= b'9'
-}
-
-/// An ASCII letter or `_`.
-pub fn letter(b: u8) -> bool
-    ensures { result ≡ is_letter b }
-{
-    (b'a' <= b && b <= b'z') || (b'A' <= b && b <= b'Z') || b == b'_'
-}
-
-/// What may stand in a name behind its first letter.
-pub fn name_byte(b: u8) -> bool
-    ensures { result ≡ is_name_byte b }
-{
-    letter(b) || digit(b)
-}
-
-fn name_bytes(bytes: &[u8]) -> bool
-    ensures { result ≡ every is_name_byte bytes.now }
-{
-    'bytes: for b in bytes {
-        if !name_byte(*b) {
-            return false;
-        }
-    }
-    true
-}
-
-fn digits(bytes: &[u8]) -> bool
-    ensures { result ≡ every is_digit bytes.now }
-{
-    'bytes: for b in bytes {
-        if !digit(*b) {
-            return false;
-        }
-    }
-    true
-}
-
-// A letter, then letters and digits.
-fn word(text: &[u8]) -> bool
-    ensures { result ≡ is_word text.now }
-{
-    match text {
-        [] => false,
-        [b, rest @ ..] => letter(*b) && name_bytes(rest),
-    }
-}
-
-// One of the words of the source language that are no names.
-fn keyword(text: &[u8]) -> bool
-    ensures { result ≡ is_keyword text.now }
-{
-    text == b"site".as_slice()
-        || text == b"param".as_slice()
-        || text == b"predicate".as_slice()
-        || text == b"let".as_slice()
-        || text == b"sign".as_slice()
-}
+use ln_base::word::{digit, digits, is_name};
 
 // Whether the text is one of these words.
 fn stands_among(text: &[u8], words: &[&[u8]]) -> bool
@@ -134,7 +70,7 @@ fn is_reserved(text: &[u8]) -> bool
 pub fn c_name(text: &[u8]) -> bool
     ensures { result ≡ is_c_name text.now }
 {
-    (word(text) && !keyword(text)) && !is_reserved(text)
+    is_name(text) && !is_reserved(text)
 }
 
 // Digits without a leading zero, or a zero alone.

@@ -3,6 +3,7 @@ use Rattle.std.proofs.Common.{◌≡◌, ℕ, List, map, refl, ap, sym, subst, O
 use Rattle.std.specs.Prelude.{Result}
 use Rattle.ln_base.specs.Outside.{Shown}
 use Rattle.ln_tree.specs.Table.{pred_of}
+use Rattle.ln_code.specs.Part.{Part}
 use Rattle.ln_compile.specs.Compiled.{AreProgramsOf}
 use Rattle.ln_cemit.specs.Emitted.{AreKept}
 use Rattle.ln_cert.specs.Listing.{ListText}

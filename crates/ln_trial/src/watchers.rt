@@ -1,17 +1,16 @@
 //! What watchers that are handed in say of the records, and what is left of them where a put fails.
 ghost use Rattle.std.specs.Prelude.{[]};
-ghost use Rattle.ln_tree.specs.Table.{pred_of};
 ghost use Rattle.ln_code.specs.Memory.{MadeFor};
-ghost use Rattle.ln_compile.specs.Compiled.{IsProgramOf};
 
 use crate::spheres::CIRCLE;
 use crate::support::{said_watched, shelf, tells};
 use csv::ByteRecord;
 use ln_base::{MemConsole, MemFiles, NoMemory};
-use ln_code::{Row, Scratch, Verdict, run_row};
+use ln_code::{Row, Scratch, Verdict};
 use ln_rows::{Rows, row};
 use ln_top::Status;
-use ln_top::prepare::{Target, one_target, prepare};
+use ln_top::prepare::{one_target, prepare};
+use ln_top::target::Target;
 use ln_top::words::{Command, Plan};
 use ln_watch::{DeciderWatch, FirstWatch, Keep, Line, SignWatch, Watch};
 use std::alloc::Global;
@@ -136,22 +135,21 @@ fn a_failed_put_of_a_watcher_ends_the_run(rt: HostRuntime) -> Result<(), Fail> {
 
 // The operations in 128 bits that the program's own run of the next record does; 0 where it is no row.
 fn wide_of(
-    target: Target<'_>,
+    target: &Target<'_>,
     s: &mut Scratch,
-    rows: &mut Rows,
+    rows: &mut Rows<'_>,
     record: &mut ByteRecord,
 ) -> Result<u64, NoMemory>
-    requires program { IsProgramOf (pred_of target.pred.now) target.program.now }
-    requires made { MadeFor target.program.now s.old }
-    ensures made { MadeFor target.entry.program.now s.new }
+    requires { MadeFor target.now.program s.old }
+    ensures { MadeFor target.now.program s.new }
 {
     rows.next(record)?;
     let mut into = Row {
         index: [0; 5],
         values: [0; 168],
     };
-    match row(target.pred, record, &mut into) {
-        Ok(()) => Ok(u64::from(run_row(target.program, s, &into).wide)),
+    match row(target.pred(), record, &mut into) {
+        Ok(()) => Ok(u64::from(target.verdict(s, &into).wide)),
         Err(_) => Ok(0),
     }
 }
@@ -168,13 +166,13 @@ fn wide_of_two(alloc: Global, files: &mut MemFiles, lines: &str) -> Result<u64, 
     let Ok(ready) = prepare(alloc, files, plan) else {
         return Ok(0);
     };
-    let target = one_target(&ready);
-    let mut scratch = Scratch::new(alloc, target.program)?;
+    let target = one_target(alloc, &ready)?;
+    let mut scratch = target.scratch(alloc)?;
     let mut rows = Rows::new(alloc, lines.as_bytes());
     let mut record = ByteRecord::new(alloc);
     rows.next(&mut record)?;
-    let first = wide_of(target, &mut scratch, &mut rows, &mut record)?;
-    let second = wide_of(target, &mut scratch, &mut rows, &mut record)?;
+    let first = wide_of(&target, &mut scratch, &mut rows, &mut record)?;
+    let second = wide_of(&target, &mut scratch, &mut rows, &mut record)?;
     Ok(first.wrapping_add(second))
 }
 

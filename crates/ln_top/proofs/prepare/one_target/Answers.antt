@@ -8,7 +8,7 @@ new-requires c =
     c.requires.one)
 
 pub returns : goal.returns
-returns c = λ given s.
-    let preds = one_numbered c.args.ready.now.compiled.table.preds _ _ c.new.result.pred s.numbered c.requires.one
-    (rw c.as_slice.ensures.value at c.new.ensures.pred) in
-    given_by given c.new.result c.args.ready.now.compiled.table s.table preds c.new.ensures.names
+returns c given = λ s.
+    let preds = one_numbered c.args.ready.now.compiled.table.preds _ _ c.in_ok-target.target.pred s.numbered c.requires.one
+    (rw c.as_slice.ensures.value at c.in_ok-target.ensures.pred) in
+    given_by given c.in_ok-target.target c.args.ready.now.compiled.table s.table preds c.in_ok-target.ensures.names
