@@ -62,7 +62,8 @@ fn lines_of(l: &Listing) -> &[Entry]
 /// Is the listing valid for the table, and if not, at which line does it fail first? The table's predicates are such as
 /// compile. Each is expanded and staged anew from the source: no compiled program is asked.
 ///
-/// It takes time near linear in the listing, and memory for the polynomials of one stack and the exponents of one part.
+/// A `get` copies no term. A sum takes time near linear in its terms, a product a product of terms for each pair of its operands'
+/// terms, of which there may be 1,048,576. It takes memory for the polynomials of one stack, the exponents of one part and one product.
 pub fn verify(alloc: Global, t: &Table, l: &Listing) -> Result<Judged, NoMemory>
     requires { AreAccepted (map pred_of t.now.preds) }
     ensures valid { IfOk result (λ j. (j ≡ Valid) ↔ IsValidFor (map pred_of t.now.preds) l.now) }
