@@ -8,7 +8,8 @@ ghost use Rattle.ln_interval.specs.View.{range};
 ghost use Rattle.ln_code.specs.Numbers.{no_locals};
 ghost use Rattle.ln_code.specs.Part.{lines_of};
 ghost use Rattle.ln_code.specs.declared.op.Op.TheVariants.{Set};
-ghost use Rattle.ln_cemit.specs.Emit.{any_gets, body_of, cut_away, emitted, gets, naming, unread, lowest, operand, put_sign, reads, sign_expr, touching, touching_index, type_of};
+ghost use Rattle.ln_cemit.specs.Emit.{any_gets, body_of, cut_away, emitted, gets, naming, unread, lowest};
+ghost use Rattle.ln_cemit.specs.Emit.{operand, put_sign, reads, sign_expr, touching, touching_index, type_of};
 ghost use Rattle.ln_cemit.specs.File.{one_fun};
 ghost use Rattle.ln_cemit.specs.Names.{decl_name};
 ghost use Rattle.ln_cemit.specs.Puts.{any_reads, locals_of};
@@ -52,7 +53,8 @@ fn put_lowest(out: &mut Vec<u8>, width: Width, e: u64) -> Result<(), NoMemory>
 
 // Is the value above e?
 fn put_above(out: &mut Vec<u8>, e: u64, slot: Slot) -> Result<(), NoMemory>
-    ensures { IfOk result (λ x. Puts out.old.items out.new.items (spell (Inner Int (Two More (operand decl_name slot.width slot) (Number (type_of slot.width) e))))) }
+    ensures { IfOk result (λ x. Puts out.old.items out.new.items
+        (spell (Inner Int (Two More (operand decl_name slot.width slot) (Number (type_of slot.width) e))))) }
 {
     put_cast(out, CType::Int)?;
     left(out)?;
@@ -66,7 +68,8 @@ fn put_above(out: &mut Vec<u8>, e: u64, slot: Slot) -> Result<(), NoMemory>
 
 // Is it below -e?
 fn put_below(out: &mut Vec<u8>, e: u64, slot: Slot) -> Result<(), NoMemory>
-    ensures { IfOk result (λ x. Puts out.old.items out.new.items (spell (Inner Int (Two Less (operand decl_name slot.width slot) (lowest (type_of slot.width) e))))) }
+    ensures { IfOk result (λ x. Puts out.old.items out.new.items
+        (spell (Inner Int (Two Less (operand decl_name slot.width slot) (lowest (type_of slot.width) e))))) }
 {
     put_cast(out, CType::Int)?;
     left(out)?;
@@ -91,7 +94,8 @@ fn put_sign_expr(out: &mut Vec<u8>, e: u64, slot: Slot) -> Result<(), NoMemory>
 }
 
 fn put_answer(out: &mut Vec<u8>, e: u64, slot: Slot) -> Result<(), NoMemory>
-    ensures { IfOk result (λ x. Puts out.old.items out.new.items (λ r. lexeme (codes "return") ∷ spell (sign_expr decl_name e slot) (lexeme (codes ";") ∷ r))) }
+    ensures { IfOk result (λ x. Puts out.old.items out.new.items
+        (λ r. lexeme (codes "return") ∷ spell (sign_expr decl_name e slot) (lexeme (codes ";") ∷ r))) }
 {
     word_return(out)?;
     put_sign_expr(out, e, slot)?;
@@ -232,7 +236,8 @@ fn put_lines(
     ways: &[Way],
 ) -> Result<(), NoMemory>
     requires { length ops.now ≡ length ways.now }
-    ensures { IfOk result (λ x. Puts out.old.items out.new.items (spell_body (emitted decl_name e (lines_of ops.now ways.now) 0 [] no_locals))) }
+    ensures { IfOk result (λ x. Puts out.old.items out.new.items
+        (spell_body (emitted decl_name e (lines_of ops.now ways.now) 0 [] no_locals))) }
 {
     let mut stack = Vec::new(alloc);
     let mut locals = no_slots();
@@ -278,7 +283,8 @@ fn reads_row(ops: &[Op]) -> bool
 
 // A test that never holds.
 fn put_never(out: &mut Vec<u8>) -> Result<(), NoMemory>
-    ensures { IfOk result (λ x. Puts out.old.items out.new.items (λ r. lexeme (codes "if") ∷ lexeme (codes "(") ∷ spell (Number Int 0) (lexeme (codes ")") ∷ r))) }
+    ensures { IfOk result (λ x. Puts out.old.items out.new.items (λ r. lexeme (codes "if") ∷ lexeme (codes "(")
+        ∷ spell (Number Int 0) (lexeme (codes ")") ∷ r))) }
 {
     word_if(out)?;
     left(out)?;
@@ -353,7 +359,8 @@ fn put_body(
 
 /// Puts `const int64_t *`.
 fn put_pointer(out: &mut Vec<u8>) -> Result<(), NoMemory>
-    ensures { IfOk result (λ x. Puts out.old.items out.new.items (λ r. lexeme (codes "const") ∷ lexeme (codes "int64_t") ∷ lexeme (codes "*") ∷ r)) }
+    ensures { IfOk result (λ x. Puts out.old.items out.new.items (λ r. lexeme (codes "const") ∷ lexeme (codes "int64_t")
+        ∷ lexeme (codes "*") ∷ r)) }
 {
     word_const(out)?;
     put_type(out, CType::Int64)?;
@@ -363,7 +370,9 @@ fn put_pointer(out: &mut Vec<u8>) -> Result<(), NoMemory>
 
 /// Puts the front of a function with one parameter.
 fn put_one_head(out: &mut Vec<u8>, title: &[u8]) -> Result<(), NoMemory>
-    ensures { IfOk result (λ x. Puts out.old.items out.new.items (λ r. spell_own true (lexeme (codes "int") ∷ lexeme title.now ∷ lexeme (codes "(") ∷ spell_parameters false (lexeme (codes ")") ∷ r)))) }
+    ensures { IfOk result (λ x. Puts out.old.items out.new.items
+        (λ r. spell_own true (lexeme (codes "int") ∷ lexeme title.now ∷ lexeme (codes "(")
+        ∷ spell_parameters false (lexeme (codes ")") ∷ r)))) }
 {
     word_static(out)?;
     put_type(out, CType::Int)?;
@@ -377,7 +386,8 @@ fn put_one_head(out: &mut Vec<u8>, title: &[u8]) -> Result<(), NoMemory>
 
 /// Puts the front of the function with two parameters.
 pub(crate) fn put_two_head(out: &mut Vec<u8>, title: &[u8]) -> Result<(), NoMemory>
-    ensures { IfOk result (λ x. Puts out.old.items out.new.items (λ r. lexeme (codes "int") ∷ lexeme title.now ∷ lexeme (codes "(") ∷ spell_parameters true (lexeme (codes ")") ∷ r))) }
+    ensures { IfOk result (λ x. Puts out.old.items out.new.items (λ r. lexeme (codes "int") ∷ lexeme title.now
+        ∷ lexeme (codes "(") ∷ spell_parameters true (lexeme (codes ")") ∷ r))) }
 {
     put_type(out, CType::Int)?;
     put(out, title)?;
@@ -401,7 +411,8 @@ fn put_fun(
     ways: &[Way],
 ) -> Result<(), NoMemory>
     requires { length ops.now ≡ length ways.now }
-    ensures { IfOk result (λ x. Puts out.old.items out.new.items (spell_fun (one_fun title.now (body_of decl_name e (lines_of ops.now ways.now))))) }
+    ensures { IfOk result (λ x. Puts out.old.items out.new.items
+        (spell_fun (one_fun title.now (body_of decl_name e (lines_of ops.now ways.now))))) }
 {
     put_one_head(out, title)?;
     brace_left(out)?;

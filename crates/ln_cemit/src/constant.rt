@@ -42,7 +42,8 @@ fn put_natural(out: &mut Vec<u8>, n: u128) -> Result<(), NoMemory>
 }
 
 fn put_negative(out: &mut Vec<u8>, size: u128) -> Result<(), NoMemory>
-    ensures { IfOk result (λ x. Puts out.old.items out.new.items (λ r. lexeme (codes "(") ∷ lexeme (codes "-") ∷ spell (natural size) (lexeme (codes ")") ∷ r))) }
+    ensures { IfOk result (λ x. Puts out.old.items out.new.items (λ r. lexeme (codes "(") ∷ lexeme (codes "-")
+        ∷ spell (natural size) (lexeme (codes ")") ∷ r))) }
 {
     left(out)?;
     dash(out)?;

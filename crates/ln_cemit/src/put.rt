@@ -101,7 +101,8 @@ fn put_opposite_decl(out: &mut Vec<u8>, n: usize, width: Width, slot: Slot) -> R
 // Puts the declaration of the opposite of the last value, which takes its place on the stack.
 fn negate(out: &mut Vec<u8>, n: usize, width: Width, stack: &mut Vec<Slot>) -> Result<(), NoMemory>
     requires { 1 ≤ length stack.now.items }
-    ensures { IfOk result (λ x. Moves out.old.items out.new.items stack.new.items (λ ls go. put_neg decl_name width n (reverse stack.old.items) ls go)) }
+    ensures { IfOk result (λ x. Moves out.old.items out.new.items stack.new.items
+        (λ ls go. put_neg decl_name width n (reverse stack.old.items) ls go)) }
 {
     let slot = stack.pop().unwrap();
     put_opposite_decl(out, n, width, slot)?;
@@ -128,7 +129,8 @@ fn put_both_decl(
     x: Slot,
     y: Slot,
 ) -> Result<(), NoMemory>
-    ensures { IfOk result (λ z. Puts out.old.items out.new.items (decl_before n width (Two op (operand decl_name width x) (operand decl_name width y)))) }
+    ensures { IfOk result (λ z. Puts out.old.items out.new.items
+        (decl_before n width (Two op (operand decl_name width x) (operand decl_name width y)))) }
 {
     put_width(out, width)?;
     put_decl_name(out, n)?;
@@ -147,7 +149,8 @@ fn combine(
     stack: &mut Vec<Slot>,
 ) -> Result<(), NoMemory>
     requires { 2 ≤ length stack.now.items }
-    ensures { IfOk result (λ x. Moves out.old.items out.new.items stack.new.items (λ ls go. put_two decl_name op width n (reverse stack.old.items) ls go)) }
+    ensures { IfOk result (λ x. Moves out.old.items out.new.items stack.new.items
+        (λ ls go. put_two decl_name op width n (reverse stack.old.items) ls go)) }
 {
     let y = stack.pop().unwrap();
     let x = stack.pop().unwrap();
@@ -175,7 +178,8 @@ fn read(
     v: u64,
     stack: &mut Vec<Slot>,
 ) -> Result<(), NoMemory>
-    ensures { IfOk result (λ x. Moves out.old.items out.new.items stack.new.items (λ ls go. pushing decl_name n width (Value (type_of width) v) (reverse stack.old.items) ls go)) }
+    ensures { IfOk result (λ x. Moves out.old.items out.new.items stack.new.items
+        (λ ls go. pushing decl_name n width (Value (type_of width) v) (reverse stack.old.items) ls go)) }
 {
     put_value_decl(out, n, width, v)?;
     stack.push(Slot { at: n, width })?;
@@ -202,7 +206,8 @@ fn store(
     locals: &mut [Option<Slot>],
 ) -> Result<(), NoMemory>
     requires { (1 ≤ length stack.now.items) × (j < length locals.now) }
-    ensures { IfOk result (λ x. Stores out.old.items out.new.items stack.new.items locals.new (λ go. put_set decl_name j n (reverse stack.old.items) (locals_of locals.old) go)) }
+    ensures { IfOk result (λ x. Stores out.old.items out.new.items stack.new.items locals.new
+        (λ go. put_set decl_name j n (reverse stack.old.items) (locals_of locals.old) go)) }
 {
     let slot = stack.pop().unwrap();
     put_same_decl(out, n, slot.width, slot)?;
@@ -221,7 +226,9 @@ fn load(
     slot: Slot,
     stack: &mut Vec<Slot>,
 ) -> Result<(), NoMemory>
-    ensures { IfOk result (λ x. Moves out.old.items out.new.items stack.new.items (λ ls go. pushing decl_name n (wider slot.width width) (operand decl_name (wider slot.width width) slot) (reverse stack.old.items) ls go)) }
+    ensures { IfOk result (λ x. Moves out.old.items out.new.items stack.new.items
+        (λ ls go. pushing decl_name n (wider slot.width width) (operand decl_name (wider slot.width width) slot)
+        (reverse stack.old.items) ls go)) }
 {
     let wide = slot.width.wider(width);
     put_same_decl(out, n, wide, slot)?;
@@ -248,7 +255,8 @@ fn push(
     z: i128,
     stack: &mut Vec<Slot>,
 ) -> Result<(), NoMemory>
-    ensures { IfOk result (λ x. Moves out.old.items out.new.items stack.new.items (λ ls go. pushing decl_name n width (Inner (type_of width) (constant z)) (reverse stack.old.items) ls go)) }
+    ensures { IfOk result (λ x. Moves out.old.items out.new.items stack.new.items
+        (λ ls go. pushing decl_name n width (Inner (type_of width) (constant z)) (reverse stack.old.items) ls go)) }
 {
     put_pushed_decl(out, n, width, z)?;
     stack.push(Slot { at: n, width })?;
@@ -298,7 +306,8 @@ fn put_quotient_decl(out: &mut Vec<u8>, n: usize, m: u8, slot: Slot) -> Result<(
 // Puts the declaration of a quotient by 2^m of the last value, which takes its place on the stack.
 fn divide(out: &mut Vec<u8>, n: usize, m: u8, stack: &mut Vec<Slot>) -> Result<(), NoMemory>
     requires { 1 ≤ length stack.now.items }
-    ensures { IfOk result (λ x. Moves out.old.items out.new.items stack.new.items (λ ls go. put_cut decl_name m n (reverse stack.old.items) ls go)) }
+    ensures { IfOk result (λ x. Moves out.old.items out.new.items stack.new.items
+        (λ ls go. put_cut decl_name m n (reverse stack.old.items) ls go)) }
 {
     let slot = stack.pop().unwrap();
     put_quotient_decl(out, n, m, slot)?;
@@ -316,7 +325,8 @@ fn may_negate(
     width: Width,
     stack: &mut Vec<Slot>,
 ) -> Result<bool, NoMemory>
-    ensures { IfOk result (λ more. MayMove more out.old.items out.new.items stack.new.items (λ ls go. put_neg decl_name width n (reverse stack.old.items) ls go)) }
+    ensures { IfOk result (λ more. MayMove more out.old.items out.new.items stack.new.items
+        (λ ls go. put_neg decl_name width n (reverse stack.old.items) ls go)) }
 {
     if stack.len() < 1 {
         return Ok(false);
@@ -326,7 +336,8 @@ fn may_negate(
 }
 
 fn may_divide(out: &mut Vec<u8>, n: usize, m: u8, stack: &mut Vec<Slot>) -> Result<bool, NoMemory>
-    ensures { IfOk result (λ more. MayMove more out.old.items out.new.items stack.new.items (λ ls go. put_cut decl_name m n (reverse stack.old.items) ls go)) }
+    ensures { IfOk result (λ more. MayMove more out.old.items out.new.items stack.new.items
+        (λ ls go. put_cut decl_name m n (reverse stack.old.items) ls go)) }
 {
     if stack.len() < 1 {
         return Ok(false);
@@ -342,7 +353,8 @@ fn may_combine(
     width: Width,
     stack: &mut Vec<Slot>,
 ) -> Result<bool, NoMemory>
-    ensures { IfOk result (λ more. MayMove more out.old.items out.new.items stack.new.items (λ ls go. put_two decl_name op width n (reverse stack.old.items) ls go)) }
+    ensures { IfOk result (λ more. MayMove more out.old.items out.new.items stack.new.items
+        (λ ls go. put_two decl_name op width n (reverse stack.old.items) ls go)) }
 {
     if stack.len() < 2 {
         return Ok(false);
@@ -360,7 +372,8 @@ fn may_store(
 ) -> Result<bool, NoMemory>
     requires { length locals.old ≡ 256 }
     ensures size { length locals.new ≡ 256 }
-    ensures put { IfOk result (λ more. Does more out.old.items out.new.items stack.new.items locals.new (λ go. put_set decl_name j n (reverse stack.old.items) (locals_of locals.old) go)) }
+    ensures put { IfOk result (λ more. Does more out.old.items out.new.items stack.new.items locals.new
+        (λ go. put_set decl_name j n (reverse stack.old.items) (locals_of locals.old) go)) }
 {
     if stack.len() < 1 {
         return Ok(false);
@@ -384,7 +397,8 @@ fn may_load(
     slot: Option<Slot>,
     stack: &mut Vec<Slot>,
 ) -> Result<bool, NoMemory>
-    ensures { IfOk result (λ more. MayMove more out.old.items out.new.items stack.new.items (λ ls go. put_get decl_name way n slot (reverse stack.old.items) ls go)) }
+    ensures { IfOk result (λ more. MayMove more out.old.items out.new.items stack.new.items
+        (λ ls go. put_get decl_name way n slot (reverse stack.old.items) ls go)) }
 {
     match slot {
         Some(slot) => {
@@ -407,7 +421,8 @@ pub(crate) fn put_operation(
 ) -> Result<bool, NoMemory>
     requires { length locals.old ≡ 256 }
     ensures size { length locals.new ≡ 256 }
-    ensures put { IfOk result (λ more. Does more out.old.items out.new.items stack.new.items locals.new (λ go. put_op decl_name op way n (reverse stack.old.items) (locals_of locals.old) go)) }
+    ensures put { IfOk result (λ more. Does more out.old.items out.new.items stack.new.items locals.new
+        (λ go. put_op decl_name op way n (reverse stack.old.items) (locals_of locals.old) go)) }
 {
     match op {
         Op::Push(z) => {

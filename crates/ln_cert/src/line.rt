@@ -22,7 +22,8 @@ fn copied(alloc: Global, bytes: &[u8]) -> Result<Seq<u8>, NoMemory>
 }
 
 fn predicate(alloc: Global, bytes: &[u8], at: usize) -> Result<Option<Part>, NoMemory>
-    ensures { IfOk result (λ o. MatchOption o (NoArgs kind.Predicate (words_from at bytes.now)) (λ p. HasArgs kind.Predicate (words_from at bytes.now) p)) }
+    ensures { IfOk result (λ o. MatchOption o (NoArgs kind.Predicate (words_from at bytes.now))
+        (λ p. HasArgs kind.Predicate (words_from at bytes.now) p)) }
 {
     let Some((w, next)) = next_word(bytes, at) else {
         return Ok(None);
@@ -36,7 +37,8 @@ fn predicate(alloc: Global, bytes: &[u8], at: usize) -> Result<Option<Part>, NoM
 
 fn filter_op(verb: Verb, bytes: &[u8], at: usize) -> Option<Part>
     requires { of_filter verb ≡ true }
-    ensures { MatchOption result (NoArgs (kind.FilterOp verb) (words_from at bytes.now)) (λ p. HasArgs (kind.FilterOp verb) (words_from at bytes.now) p) }
+    ensures { MatchOption result (NoArgs (kind.FilterOp verb) (words_from at bytes.now))
+        (λ p. HasArgs (kind.FilterOp verb) (words_from at bytes.now) p) }
 {
     let Some((op, next)) = operation(verb, bytes, at) else {
         return None;
@@ -49,7 +51,8 @@ fn filter_op(verb: Verb, bytes: &[u8], at: usize) -> Option<Part>
 
 fn bound_op(verb: Verb, bytes: &[u8], at: usize) -> Option<Part>
     requires { of_block verb ≡ true }
-    ensures { MatchOption result (NoArgs (kind.BlockOp verb) (words_from at bytes.now)) (λ p. HasArgs (kind.BlockOp verb) (words_from at bytes.now) p) }
+    ensures { MatchOption result (NoArgs (kind.BlockOp verb) (words_from at bytes.now))
+        (λ p. HasArgs (kind.BlockOp verb) (words_from at bytes.now) p) }
 {
     let Some((op, next)) = operation(verb, bytes, at) else {
         return None;
@@ -62,7 +65,8 @@ fn bound_op(verb: Verb, bytes: &[u8], at: usize) -> Option<Part>
 
 fn range_op(verb: Verb, bytes: &[u8], at: usize) -> Option<Part>
     requires { of_block verb ≡ true }
-    ensures { MatchOption result (NoArgs (kind.RangeOp verb) (words_from at bytes.now)) (λ p. HasArgs (kind.RangeOp verb) (words_from at bytes.now) p) }
+    ensures { MatchOption result (NoArgs (kind.RangeOp verb) (words_from at bytes.now))
+        (λ p. HasArgs (kind.RangeOp verb) (words_from at bytes.now) p) }
 {
     let Some((op, next)) = operation(verb, bytes, at) else {
         return None;
@@ -93,7 +97,8 @@ fn exponents(alloc: Global, bytes: &[u8], at: usize) -> Result<Option<Seq<(u8, u
 }
 
 fn block(alloc: Global, bytes: &[u8], at: usize) -> Result<Option<Part>, NoMemory>
-    ensures { IfOk result (λ o. MatchOption o (NoArgs kind.Block (words_from at bytes.now)) (λ p. HasArgs kind.Block (words_from at bytes.now) p)) }
+    ensures { IfOk result (λ o. MatchOption o (NoArgs kind.Block (words_from at bytes.now))
+        (λ p. HasArgs kind.Block (words_from at bytes.now) p)) }
 {
     let Some((n, next)) = field(bytes, at, 65535) else {
         return Ok(None);
@@ -146,7 +151,8 @@ fn places(alloc: Global, bytes: &[u8], at: usize) -> Result<Option<(Seq<u8>, usi
 }
 
 fn order(alloc: Global, bytes: &[u8], at: usize) -> Result<Option<Part>, NoMemory>
-    ensures { IfOk result (λ o. MatchOption o (NoArgs kind.Order (words_from at bytes.now)) (λ p. HasArgs kind.Order (words_from at bytes.now) p)) }
+    ensures { IfOk result (λ o. MatchOption o (NoArgs kind.Order (words_from at bytes.now))
+        (λ p. HasArgs kind.Order (words_from at bytes.now) p)) }
 {
     let Some((sites, next)) = places(alloc, bytes, at)? else {
         return Ok(None);
@@ -237,7 +243,8 @@ pub fn line(
     state: State,
     bytes: &[u8],
 ) -> Result<Option<(Part, State)>, NoMemory>
-    ensures { IfOk result (λ o. MatchOption o (Refuses version state (words bytes.now)) (λ x. IsRead version state (words bytes.now) x.0 x.1)) }
+    ensures { IfOk result (λ o. MatchOption o (Refuses version state (words bytes.now))
+        (λ x. IsRead version state (words bytes.now) x.0 x.1)) }
 {
     let (w, at) = word(bytes, 0);
     let Some(k) = kind(version, state, w) else {

@@ -1,5 +1,6 @@
 //! Bytes, words and numbers.
-ghost use Rattle.std.specs.Prelude.{◌≡◌, ◌<◌, ◌≤◌, ◌+◌, ◌-◌, ◌*◌, ◌^◌, ◌∷◌, ◌++◌, ◌&&◌, ℕ, ℤ, length, drop, take, IfSome, IfNone, decimal, unsigned_abs};
+ghost use Rattle.std.specs.Prelude.{◌≡◌, ◌<◌, ◌≤◌, ◌+◌, ◌-◌, ◌*◌, ◌^◌, ◌∷◌, ◌++◌, ◌&&◌, ℕ, ℤ};
+ghost use Rattle.std.specs.Prelude.{length, drop, take, IfSome, IfNone, decimal, unsigned_abs};
 ghost use Rattle.std.specs.Fmt.{signed_decimal};
 ghost use Rattle.std.specs.Str.Parse.{AllDigits, digits_value_after};
 ghost use Rattle.ln_cert.specs.Words.{span_to, words_from};

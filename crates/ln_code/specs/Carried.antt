@@ -1,4 +1,5 @@
--- What a part carries: the expression whose sign it decides, its normal polynomial and its stages. Programs that are compiled and parts of a listing are such parts.
+-- What a part carries: the expression whose sign it decides, its normal polynomial and its stages. Programs that are compiled and
+-- parts of a listing are such parts.
 use Rattle.std.specs.Prelude.{◌≡◌, ℕ, ◌<◌, All, List, [], length, map, slice_index_or, Some, IfSome}
 use Rattle.ln_algebra.specs.Orders.{Rank}
 use Rattle.ln_algebra.specs.Terms.{IsNormalOf, Term, derived}
@@ -13,7 +14,8 @@ use Rattle.ln_code.specs.Lists.{IsListOf}
 use Rattle.ln_code.specs.Part.{Code, FilterCode, Part, filter_known_of, known_of}
 use Rattle.ln_code.specs.Rules.{Known}
 
--- what the machine needs to answer on every row in range: blocks and filter follow the rules, each prefix of orders of the sites has a segment, and segments name blocks that are there
+-- what the machine needs to answer on every row in range: blocks and filter follow the rules, each prefix of orders of the sites
+-- has a segment, and segments name blocks that are there
 pub record Runs (p : Part) : Type 0 where
   pub blocks : All (FollowsRules p.shape.vars) p.blocks
   pub filter : IfSome p.filter (FollowsFilterRules p.shape.vars)
@@ -40,7 +42,9 @@ pub record CarriesWhole (vars : List VarInfo) (f : List Term) (c : FilterCode) :
   pub known : filter_known_of vars c ≡ Some what
   pub whole : IsNormalOf (length vars) what.tree f
 
--- the part carries the closed expression e, whose normal polynomial is f, by this order of infinitesimals: the list of each order of the sites is its stage list, each block computes its derivative (so one without exponents the whole), and the filter, if there is one, stands for the whole
+-- the part carries the closed expression e, whose normal polynomial is f, by this order of infinitesimals: the list of each order
+-- of the sites is its stage list, each block computes its derivative (so one without exponents the whole), and the filter, if
+-- there is one, stands for the whole
 pub record Carries (rank : Rank) (p : Part) (e : Tree) (f : List Term) : Type 0 where
   pub inputs : InputsBelow (length p.shape.vars) e
   pub normal : IsNormalOf (length p.shape.vars) e f

@@ -1,4 +1,5 @@
--- A stack machine over values of any kind: one definition, of which the meaning of a program, the rules on it and the processor are instances.
+-- A stack machine over values of any kind: one definition, of which the meaning of a program, the rules on it and the processor
+-- are instances.
 use Rattle.std.specs.Prelude.{ℕ, suc, ℤ, Bool, true, false, List, [], ◌∷◌, length, Option, Some, None}
 use Rattle.ln_bound.specs.declared.fitted.Width.{Width}
 use Rattle.ln_bound.specs.declared.fitted.Two.{Two}

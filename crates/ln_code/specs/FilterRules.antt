@@ -1,5 +1,7 @@
--- The rules on a filter, before any row is seen: each triple covers its operation over its operands' triples, each size fits 64 bits, and each value carries the expression that it stands for.
-use Rattle.std.specs.Prelude.{ℕ, zero, suc, ◌+◌, ◌*◌, ◌/◌, ◌^◌, ◌≤◌, ◌==◌, ◌&&◌, nat_le, Bool, ℤ, pos, ◌-ℤ◌, ◌*ℤ◌, unsigned_abs, List, Option, None, slice_get, if◌then◌else◌}
+-- The rules on a filter, before any row is seen: each triple covers its operation over its operands' triples, each size fits 64
+-- bits, and each value carries the expression that it stands for.
+use Rattle.std.specs.Prelude.{ℕ, zero, suc, ◌+◌, ◌*◌, ◌/◌, ◌^◌, ◌≤◌, ◌==◌, ◌&&◌, nat_le, Bool, ℤ, pos}
+use Rattle.std.specs.Prelude.{◌-ℤ◌, ◌*ℤ◌, unsigned_abs, List, Option, None, slice_get, if◌then◌else◌}
 use Rattle.std.specs.Int.{div_ceil}
 use Rattle.ln_algebra.specs.Tree as tree
 use Rattle.ln_algebra.specs.Tree.{Tree}
@@ -19,7 +21,8 @@ pub record Stands (a : Triple) (h v : ℤ) : Type 0 where
   pub small : unsigned_abs h ≤ a.h
   pub near : unsigned_abs (v -ℤ h *ℤ pos (2 ^ a.k)) ≤ a.e * 2 ^ a.k
 
--- what is known of a truncated number: its triple, the expression for whose value it stands, and a size that no coefficient of that expression's polynomial passes
+-- what is known of a truncated number: its triple, the expression for whose value it stands, and a size that no coefficient of
+-- that expression's polynomial passes
 pub record FilterKnown : Type 0 where
   pub triple : Triple
   pub tree : Tree
@@ -44,9 +47,12 @@ filter_known k h e size t a = when (covers k h e a && nat_le size (limit W128)) 
 
 -- of a sum, difference or product: k and the sizes of H and e
 abbrev pub two_known : Two → Triple → FilterKnown → FilterKnown → Option FilterKnown
-two_known Plus a x y = if x.triple.k == y.triple.k then filter_known x.triple.k (x.triple.h + y.triple.h) (x.triple.e + y.triple.e) (x.size + y.size) (two_of Plus x.tree y.tree) a else None
-two_known Minus a x y = if x.triple.k == y.triple.k then filter_known x.triple.k (x.triple.h + y.triple.h) (x.triple.e + y.triple.e) (x.size + y.size) (two_of Minus x.tree y.tree) a else None
-two_known Times a x y = filter_known (x.triple.k + y.triple.k) (x.triple.h * y.triple.h) (x.triple.h * y.triple.e + y.triple.h * x.triple.e + x.triple.e * y.triple.e) (x.size * y.size) (two_of Times x.tree y.tree) a
+two_known Plus a x y = if x.triple.k == y.triple.k then filter_known x.triple.k (x.triple.h + y.triple.h)
+    (x.triple.e + y.triple.e) (x.size + y.size) (two_of Plus x.tree y.tree) a else None
+two_known Minus a x y = if x.triple.k == y.triple.k then filter_known x.triple.k (x.triple.h + y.triple.h)
+    (x.triple.e + y.triple.e) (x.size + y.size) (two_of Minus x.tree y.tree) a else None
+two_known Times a x y = filter_known (x.triple.k + y.triple.k) (x.triple.h * y.triple.h)
+    (x.triple.h * y.triple.e + y.triple.h * x.triple.e + x.triple.e * y.triple.e) (x.size * y.size) (two_of Times x.tree y.tree) a
 
 -- over these variables, with a stack of this depth
 abbrev pub filter_rules : List VarInfo → ℕ → Engine Triple FilterKnown (ℕ → Option FilterKnown)

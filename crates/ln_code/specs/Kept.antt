@@ -1,5 +1,6 @@
 -- What blocks, filters and programs keep.
-use Rattle.std.specs.Prelude.{◌≡◌, ◌≢◌, ℕ, pos, ◌^◌, ◌<◌, ◌≤◌, Bool, true, false, List, [], ◌∷◌, length, All, AllPairs, Option, Some, None, IsSome, is_some, IfSome, slice_get}
+use Rattle.std.specs.Prelude.{◌≡◌, ◌≢◌, ℕ, pos, ◌^◌, ◌<◌, ◌≤◌, Bool, true, false, List, [], ◌∷◌, length}
+use Rattle.std.specs.Prelude.{All, AllPairs, Option, Some, None, IsSome, is_some, IfSome, slice_get}
 use Rattle.ln_interval.specs.Range.{Range, point}
 use Rattle.ln_tree.specs.Exps.{Pairs}
 use Rattle.ln_tree.specs.Names.{name_bytes}
@@ -74,7 +75,9 @@ pub record IsList (blocks : ℕ) (list : List ℕ) : Type 0 where
   pub once : AllPairs (λ m n. m ≢ n) list
   pub filled : 0 < length list
 
--- a program: its blocks and its filter follow the rules over the variables of its shape; it has fewer than 2^32 operations; its blocks' exponents are of coordinates of sites; it has one segment for each prefix of orders of its sites, which names its own blocks; no list of an order is empty or names a block twice
+-- a program: its blocks and its filter follow the rules over the variables of its shape; it has fewer than 2^32 operations; its
+-- blocks' exponents are of coordinates of sites; it has one segment for each prefix of orders of its sites, which names its own
+-- blocks; no list of an order is empty or names a block twice
 pub record IsProgram (p : Part) : Type 0 where
   pub blocks : All (FollowsRules p.shape.vars) p.blocks
   pub filter : IfSome p.filter (FollowsFilterRules p.shape.vars)

@@ -11,7 +11,8 @@ use Rattle.ln_code.specs.FilterRules.{FilterKnown, Stands}
 use Rattle.ln_code.specs.Part.{Code, FilterCode, block_value, filter_value, known_of, filter_known_of}
 use Rattle.ln_code.specs.Kept.{FollowsRules, FollowsFilterRules}
 
--- a block has an answer, so each value stays in its range and its width; it is the value of the expression that the rules know, and in the range that they know
+-- a block has an answer, so each value stays in its range and its width; it is the value of the expression that the rules know,
+-- and in the range that they know
 pub record BlockMeans (vars : List VarInfo) (zs : List ℤ) (c : Code) : Type 0 where
   pub what : Known
   pub known : known_of vars c ≡ Some what

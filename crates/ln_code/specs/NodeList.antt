@@ -28,7 +28,8 @@ nodes_in lets (TNum c p w) = at_width w (Num c) ∷ []
 nodes_in lets (TInput i p w) = at_width w (Input i) ∷ []
 nodes_in lets (TLet j p w) = at_width w (slice_index_or lets j (Num (pos 0))) ∷ []
 nodes_in lets (TNeg t p w) = nodes_in lets t ++ at_width w (Neg (inlined lets (untyped t))) ∷ []
-nodes_in lets (TTwo k s t p w) = nodes_in lets s ++ (nodes_in lets t ++ at_width w (two_of k (inlined lets (untyped s)) (inlined lets (untyped t))) ∷ [])
+nodes_in lets (TTwo k s t p w) =
+    nodes_in lets s ++ (nodes_in lets t ++ at_width w (two_of k (inlined lets (untyped s)) (inlined lets (untyped t))) ∷ [])
 nodes_in lets (TPow t n p w) = nodes_in lets t ++ powers_to (inlined lets (untyped t)) w n
 
 -- those of lets in turn, each over those before it, behind these

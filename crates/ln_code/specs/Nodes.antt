@@ -10,7 +10,8 @@ IsNode lets (TNum c p w) e v = (e ≡ Num c) × (v ≡ w)
 IsNode lets (TInput i p w) e v = (e ≡ Input i) × (v ≡ w)
 IsNode lets (TLet j p w) e v = (e ≡ slice_index_or lets j (Num (pos 0))) × (v ≡ w)
 IsNode lets (TNeg t p w) e v = IsNode lets t e v ⊎ ((e ≡ Neg (inlined lets (untyped t))) × (v ≡ w))
-IsNode lets (TTwo k s t p w) e v = (IsNode lets s e v ⊎ IsNode lets t e v) ⊎ ((e ≡ two_of k (inlined lets (untyped s)) (inlined lets (untyped t))) × (v ≡ w))
+IsNode lets (TTwo k s t p w) e v = (IsNode lets s e v ⊎ IsNode lets t e v)
+    ⊎ ((e ≡ two_of k (inlined lets (untyped s)) (inlined lets (untyped t))) × (v ≡ w))
 IsNode lets (TPow t n p w) e v = IsNode lets t e v ⊎ ((k : ℕ) × (k ≤ n) × (e ≡ Pow (inlined lets (untyped t)) k) × (v ≡ w))
 
 -- e is a node of one of the lets, each over those before it, behind these

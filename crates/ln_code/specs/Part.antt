@@ -29,7 +29,8 @@ pub record FilterCode : Type 0 where
   pub triples : List Triple
   pub depth : ℕ
 
--- a shape, a filter or none, blocks, and for each prefix of orders of the sites, by number, its segment: the numbers of the blocks that are run where it is reached
+-- a shape, a filter or none, blocks, and for each prefix of orders of the sites, by number, its segment: the numbers of the
+-- blocks that are run where it is reached
 pub record Part : Type 0 where
   pub shape : Shape
   pub filter : Option FilterCode

@@ -1,4 +1,5 @@
--- The rules on a block, before any row is seen: each range covers its operation over the operands' ranges and fits its width, no operand is wider, each size is at most 2^127 - 1, and each value carries the expression that it is the value of.
+-- The rules on a block, before any row is seen: each range covers its operation over the operands' ranges and fits its width, no
+-- operand is wider, each size is at most 2^127 - 1, and each value carries the expression that it is the value of.
 use Rattle.std.specs.Prelude.{ℕ, ◌&&◌, nat_le, unsigned_abs, List, Option, None, slice_get, if◌then◌else◌}
 use Rattle.ln_algebra.specs.Tree as tree
 use Rattle.ln_algebra.specs.Tree.{Tree}
@@ -11,7 +12,8 @@ use Rattle.ln_bound.specs.Widths.{least, wider, no_wider}
 use Rattle.ln_code.specs.Engine.{Engine, when, next}
 use Rattle.ln_code.specs.Numbers.{with_local}
 
--- what is known of a value: its range, its width, the expression whose value it is, and a size that no coefficient of that expression's polynomial passes
+-- what is known of a value: its range, its width, the expression whose value it is, and a size that no coefficient of that
+-- expression's polynomial passes
 pub record Known : Type 0 where
   pub range : Range
   pub width : Width
@@ -26,13 +28,15 @@ known enough p w s t = when (covers p enough && is_in p w && nat_le s most) (rec
 abbrev pub declared : VarInfo → Range
 declared i = record { low = i.lo; high = i.hi }
 
--- over these variables, with a stack of this depth. What is pushed from outside or from a local has the least width that its range fits, and is no narrower than the local
+-- over these variables, with a stack of this depth. What is pushed from outside or from a local has the least width that its
+-- range fits, and is no narrower than the local
 abbrev pub rules : List VarInfo → ℕ → Engine Range Known (ℕ → Option Known)
 rules vars depth = record {
   push = λ c p. known (point c) p (least (magnitude p)) (unsigned_abs c) (tree.Num c);
   input = λ v p. next (slice_get vars v) (λ i. known (declared i) p (least (magnitude p)) 1 (tree.Input v));
   again = λ x p. known x.range p (wider x.width (least (magnitude p))) x.size x.tree;
-  two = λ t w p x y. if no_wider x.width w && no_wider y.width w then known (range_of t x.range y.range) p w (bound_of t x.size y.size) (two_of t x.tree y.tree) else None;
+  two = λ t w p x y. if no_wider x.width w && no_wider y.width w
+      then known (range_of t x.range y.range) p w (bound_of t x.size y.size) (two_of t x.tree y.tree) else None;
   minus = λ w p x. if no_wider x.width w then known (opposite x.range) p w x.size (tree.Neg x.tree) else None;
   cut = λ n p x. None;
   got = λ l j. l j;

@@ -1,5 +1,7 @@
--- What the machine answers on a row: the filter's sign where it decides, else that of the first block, along the list of the row's order, that isn't 0.
-use Rattle.std.specs.Prelude.{◌≡◌, ℕ, zero, suc, ◌+◌, nat_lt, ℤ, pos, negsuc, unsigned_abs, List, [], ◌∷◌, Option, Some, None, slice_get, if◌then◌else◌}
+-- What the machine answers on a row: the filter's sign where it decides, else that of the first block, along the list of the
+-- row's order, that isn't 0.
+use Rattle.std.specs.Prelude.{◌≡◌, ℕ, zero, suc, ◌+◌, nat_lt, ℤ, pos, negsuc, unsigned_abs}
+use Rattle.std.specs.Prelude.{List, [], ◌∷◌, Option, Some, None, slice_get, if◌then◌else◌}
 use Rattle.ln_base.specs.declared.sign.Sign.{Sign}
 use Rattle.ln_base.specs.declared.sign.Sign.TheVariants.{Minus, Zero, Plus}
 use Rattle.ln_tree.specs.Row as tree
@@ -22,15 +24,18 @@ settled (pos zero) place wide calls rest = rest
 settled (pos (suc n)) place wide calls rest = Some (record { sign = Plus; by = Stage place; wide = wide; calls = calls })
 settled (negsuc n) place wide calls rest = Some (record { sign = Minus; by = Stage place; wide = wide; calls = calls })
 
--- the blocks with these numbers, from this place of the list on, behind so many wide operations and so many calls; no answer where a block has none
+-- the blocks with these numbers, from this place of the list on, behind so many wide operations and so many calls; no answer
+-- where a block has none
 abbrev pub along : List ℤ → List Code → List ℕ → ℕ → ℕ → ℕ → Option Verdict
 along zs blocks [] place wide calls = Some (record { sign = Zero; by = Nothing; wide = wide; calls = calls })
 along zs blocks (n ∷ ns) place wide calls =
-    next (slice_get blocks n) (λ c. next (block_value zs c) (λ z. settled z place (wide + wide_in c.ops) (calls + 1) (along zs blocks ns (place + 1) (wide + wide_in c.ops) (calls + 1))))
+    next (slice_get blocks n) (λ c. next (block_value zs c)
+    (λ z. settled z place (wide + wide_in c.ops) (calls + 1) (along zs blocks ns (place + 1) (wide + wide_in c.ops) (calls + 1))))
 
 -- the filter decides where what it leaves is above the error of the operation that pushed it
 abbrev pub decides : Held → Option Verdict → Option Verdict
-decides h rest = if nat_lt h.error (unsigned_abs h.number) then Some (record { sign = sign_of h.number; by = Filter; wide = 0; calls = 1 }) else rest
+decides h rest = if nat_lt h.error (unsigned_abs h.number)
+    then Some (record { sign = sign_of h.number; by = Filter; wide = 0; calls = 1 }) else rest
 
 abbrev pub through : Option FilterCode → List ℤ → List Code → List ℕ → Option Verdict
 through None zs blocks list = along zs blocks list 0 0 0

@@ -1,4 +1,5 @@
--- The orientation of three points of the plane, by hand: (p.x - r.x)*(q.y - r.y) - (p.y - r.y)*(q.x - r.x), each coordinate from -1000 to 1000.
+-- The orientation of three points of the plane, by hand: (p.x - r.x)*(q.y - r.y) - (p.y - r.y)*(q.x - r.x), each coordinate from
+-- -1000 to 1000.
 use Rattle.std.specs.Prelude.{◌≡◌, ◌⊎◌, ℕ, pos, neg_ℤ, List, [], ◌∷◌, map, Option, Some, None}
 use Rattle.ln_interval.specs.Range.{Range, point}
 use Rattle.ln_tree.specs.declared.shape.VarInfo.{VarInfo}
@@ -15,7 +16,8 @@ abbrev pub plane_vars : List VarInfo
 plane_vars = coordinate 0 0 ∷ coordinate 0 1 ∷ coordinate 1 0 ∷ coordinate 1 1 ∷ coordinate 2 0 ∷ coordinate 2 1 ∷ []
 
 abbrev pub orientation_ops : List Op
-orientation_ops = Input 0 ∷ Input 4 ∷ Sub W64 ∷ Input 3 ∷ Input 5 ∷ Sub W64 ∷ Mul W64 ∷ Input 1 ∷ Input 5 ∷ Sub W64 ∷ Input 2 ∷ Input 4 ∷ Sub W64 ∷ Mul W64 ∷ Sub W64 ∷ []
+orientation_ops = Input 0 ∷ Input 4 ∷ Sub W64 ∷ Input 3 ∷ Input 5 ∷ Sub W64 ∷ Mul W64 ∷ Input 1 ∷ Input 5 ∷ Sub W64 ∷ Input 2
+    ∷ Input 4 ∷ Sub W64 ∷ Mul W64 ∷ Sub W64 ∷ []
 
 -- the largest absolute value of each
 abbrev pub orientation_sizes : List ℕ
@@ -36,7 +38,8 @@ uncut h = record { k = 0; h = h; e = 0 }
 abbrev pub orientation_triples : List Triple
 orientation_triples = map uncut orientation_sizes
 
--- another block, whose pairs aren't balanced: (p.x + 5)^2 - 26. The sum is kept in local 0, and its square by the product of pairs doesn't begin at 0
+-- another block, whose pairs aren't balanced: (p.x + 5)^2 - 26. The sum is kept in local 0, and its square by the product of
+-- pairs doesn't begin at 0
 abbrev pub square_ops : List Op
 square_ops = Input 0 ∷ Push (pos 5) ∷ Add W64 ∷ Set 0 ∷ Get 0 ∷ Get 0 ∷ Mul W64 ∷ Push (pos 26) ∷ Sub W64 ∷ []
 

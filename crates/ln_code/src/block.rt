@@ -34,7 +34,8 @@ impl Model for Block {
 
     ghost view = { λ b. record { exps = b.exps; ops = b.ops; pairs = map range b.pairs; depth = b.depth } };
 
-    ghost invariant = { λ b. IsBlock (record { exps = b.exps; ops = b.ops; pairs = map range b.pairs; depth = b.depth }) × (b.wide ≡ wide_in b.ops) };
+    ghost invariant = { λ b. IsBlock (record { exps = b.exps; ops = b.ops; pairs = map range b.pairs; depth = b.depth })
+        × (b.wide ≡ wide_in b.ops) };
 }
 
 fn is_wide(op: &Op) -> bool

@@ -29,7 +29,8 @@ impl Model for FilterBlock {
 
     ghost view = { λ f. record { ops = f.ops; triples = f.triples; depth = f.depth } };
 
-    ghost invariant = { λ f. IsFilter (record { ops = f.ops; triples = f.triples; depth = f.depth }) × (f.error ≡ left_error f.ops f.triples 0 0) };
+    ghost invariant = { λ f. IsFilter (record { ops = f.ops; triples = f.triples; depth = f.depth })
+        × (f.error ≡ left_error f.ops f.triples 0 0) };
 }
 
 // How many values the stack has behind an operation, of n before it.

@@ -29,7 +29,8 @@ fn apply(
     ensures room { result ≤ length stack.new }
     ensures size { length stack.new ≡ length stack.old }
     ensures locals { length locals.new ≡ length locals.old }
-    ensures state { leads op k values.now stack.old top locals.old ≡ Some (record { stack = seen stack.new result; locals = at locals.new }) }
+    ensures state { leads op k values.now stack.old top locals.old
+        ≡ Some (record { stack = seen stack.new result; locals = at locals.new }) }
 {
     match op {
         Op::Push(c) => push(stack, top, cut(c, k)),

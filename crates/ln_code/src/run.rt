@@ -1,5 +1,6 @@
 //! Rows, run.
-ghost use Rattle.std.specs.Prelude.{◌≡◌, ◌≢◌, ◌<◌, ◌+◌, ◌++◌, ◌^◌, ℕ, List, Option, pos, MatchOption, IfOk, IfErr, All, AllPairs, Some, length, slice_get, take};
+ghost use Rattle.std.specs.Prelude.{◌≡◌, ◌≢◌, ◌<◌, ◌+◌, ◌++◌, ◌^◌, ℕ, List, Option, pos, MatchOption};
+ghost use Rattle.std.specs.Prelude.{IfOk, IfErr, All, AllPairs, Some, length, slice_get, take};
 ghost use Rattle.ln_tree.specs.Row.{InRange, AreWithin};
 ghost use Rattle.ln_code.specs.Part.{Code, block_value, filter_value, ops_in_blocks};
 ghost use Rattle.ln_code.specs.Errors.{left_error};
@@ -102,8 +103,10 @@ fn run_segment(
     requires met { HasMet values.now p.now.blocks segment.now met }
     requires row { AreWithin p.now.shape.vars values.now }
     requires made { MadeFor p.now s.old }
-    ensures ok { IfOk result (λ m. (answer : Option Verdict) (rest : List ℕ) → IsMet values.now p.now.blocks answer (segment.now ++ rest) met → IsMet values.now p.now.blocks answer rest m) }
-    ensures err { IfErr result (λ v. (answer : Option Verdict) (rest : List ℕ) → IsMet values.now p.now.blocks answer (segment.now ++ rest) met → answer ≡ Some v) }
+    ensures ok { IfOk result (λ m. (answer : Option Verdict) (rest : List ℕ) →
+        IsMet values.now p.now.blocks answer (segment.now ++ rest) met → IsMet values.now p.now.blocks answer rest m) }
+    ensures err { IfErr result (λ v. (answer : Option Verdict) (rest : List ℕ) →
+        IsMet values.now p.now.blocks answer (segment.now ++ rest) met → answer ≡ Some v) }
     ensures stages { IfErr result (λ v. v.by ≢ Filter) }
     ensures made { MadeFor p.now s.new }
 {
@@ -132,7 +135,8 @@ fn run_segment(
 fn next_site(o: &Order, j: u8, indices: &[i64]) -> Order
     requires { length (order_places o.now) ≡ length indices.now }
     ensures size { length (order_places result) ≡ length (order_places o.now) }
-    ensures next { (u : List ℕ) → j < length (order_places o.now) → IsOrder indices.now u → take j (order_places o.now) ≡ take j u → take (j + 1) (order_places result) ≡ take (j + 1) u }
+    ensures next { (u : List ℕ) → j < length (order_places o.now) → IsOrder indices.now u →
+        take j (order_places o.now) ≡ take j u → take (j + 1) (order_places result) ≡ take (j + 1) u }
 {
     if usize::from(j) < o.places().len() {
         o.found(j, indices)

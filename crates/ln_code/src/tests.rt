@@ -2,7 +2,8 @@
 ghost use Rattle.std.specs.Prelude.{◌≡◌, ◌≤◌, ◌≤ℤ◌, ◌∷◌, [], IfOk, map, pos, replicate, take, unsigned_abs};
 ghost use Rattle.ln_interval.specs.Range.{most};
 ghost use Rattle.ln_interval.specs.View.{range};
-ghost use Rattle.ln_code.specs.Worked.{coordinate, plane_vars, orientation_ops, orientation_pairs, orientation_triples, uncut, balanced, square_ops, square_pairs, IsWorked, IsFilterOrNone};
+ghost use Rattle.ln_code.specs.Worked.{coordinate, plane_vars, orientation_ops, orientation_pairs, orientation_triples};
+ghost use Rattle.ln_code.specs.Worked.{uncut, balanced, square_ops, square_pairs, IsWorked, IsFilterOrNone};
 
 use crate::block::Block;
 use crate::filter_block::FilterBlock;

@@ -19,13 +19,15 @@ lets_of p = map (tree p.vars) p.lets
 abbrev pub own_root : PredOf → Tree
 own_root p = tree p.vars p.root
 
--- it is too heavy as a whole: the weighted sum of its normal polynomial, where each variable has 1 more than the largest absolute value of its range, passes 2^127 - 1
+-- it is too heavy as a whole: the weighted sum of its normal polynomial, where each variable has 1 more than the largest absolute
+-- value of its range, passes 2^127 - 1
 pub record IsHeavyFault (p : PredOf) : Type 0 where
   pub poly : Sparse
   pub normal : IsNormal (length p.vars) (root_of p) poly
   pub heavy : most < weighted_sum (weights p.vars) (terms_of (length p.vars) poly)
 
--- it has too many stages: the stage lists of its normal polynomial, one for each order of its sites, have more than 65,536 stages, or more than 131,072 monomials cover their distinct stages
+-- it has too many stages: the stage lists of its normal polynomial, one for each order of its sites, have more than 65,536
+-- stages, or more than 131,072 monomials cover their distinct stages
 pub record IsStagesFault (p : PredOf) : Type 0 where
   pub poly : Sparse
   pub normal : IsNormal (length p.vars) (root_of p) poly
@@ -33,7 +35,8 @@ pub record IsStagesFault (p : PredOf) : Type 0 where
   pub are_lists : AreStageLists p.sites p.vars poly lists
   pub passes : Passes (length p.vars) poly 65536 131072 lists
 
--- a predicate has no fault: no range and no size of a node passes 2^127 - 1, no node has too many terms, it isn't too heavy as a whole, the root isn't 0 however it is perturbed, and it hasn't too many stages
+-- a predicate has no fault: no range and no size of a node passes 2^127 - 1, no node has too many terms, it isn't too heavy as a
+-- whole, the root isn't 0 however it is perturbed, and it hasn't too many stages
 pub record IsSound (p : PredOf) : Type 0 where
   pub light : AreLight (loaded_of p)
   pub few : HaveFewTerms (length p.vars) (expanded_of p)

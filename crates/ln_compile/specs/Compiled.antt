@@ -24,7 +24,8 @@ use Rattle.ln_filter.specs.Truncated.{root_number, root_triple}
 use Rattle.ln_lower.specs.Nodes.{PushNodes, pushed_by}
 use Rattle.ln_compile.specs.Accepted.{lets_of, own_root, root_of}
 
--- the block has no exponents and is made from the source's own lets and root, with ranges and widths: what its operations push are polynomials of their nodes, each range is exactly its operation over the operands' ranges, and each width the least
+-- the block has no exponents and is made from the source's own lets and root, with ranges and widths: what its operations push
+-- are polynomials of their nodes, each range is exactly its operation over the operands' ranges, and each width the least
 pub record IsOwn (p : PredOf) (block : Code) : Type 0 where
   pub plain : block.exps ≡ []
   pub lets : List Typed
@@ -35,7 +36,8 @@ pub record IsOwn (p : PredOf) (block : Code) : Type 0 where
   pub exact_root : IsExact p.vars lets root
   pub nodes : PushNodes (IsNodeOf lets root) (pushed_by p.vars block)
 
--- the block is made from a tree with ranges and widths, and lets: what its operations push are polynomials of their nodes, each range is exactly its operation over the operands' ranges, and each width the least
+-- the block is made from a tree with ranges and widths, and lets: what its operations push are polynomials of their nodes, each
+-- range is exactly its operation over the operands' ranges, and each width the least
 pub record IsFromExact (vars : List VarInfo) (block : Code) : Type 0 where
   pub lets : List Typed
   pub root : Typed
@@ -50,14 +52,22 @@ pub record BeginsWith (p : PredOf) (part : Part) : Type 0 where
   pub own : IsOwn p block
   pub short : ops_in_filter part.filter + length block.ops < 2 ^ 21
 
--- the filter is the predicate's: there is none where a node of it isn't steady, and else it leaves on each row in range the truncated number of the sign expression, with its error
+-- the filter is the predicate's: there is none where a node of it isn't steady, and else it leaves on each row in range the
+-- truncated number of the sign expression, with its error
 abbrev pub IsFilterOf : PredOf → Option FilterCode → Type 0
 IsFilterOf p None = HasFilter p.vars (lets_of p) (own_root p) → ⊥
 IsFilterOf p (Some f) =
     HasFilter p.vars (lets_of p) (own_root p)
-    × ((zs : List ℤ) → AreWithin p.vars zs → filter_value zs f ≡ Some (record { number = root_number p.vars zs (lets_of p) (own_root p); error = (root_triple p.vars (lets_of p) (own_root p)).e }))
+    × ((zs : List ℤ) → AreWithin p.vars zs →
+    filter_value zs f ≡ Some (record {
+      number = root_number p.vars zs (lets_of p) (own_root p);
+      error = (root_triple p.vars (lets_of p) (own_root p)).e;
+    }))
 
--- the part is the program of the predicate: it is over the predicate's variables, with the predicate's filter; it carries the predicate's root, with the lets in place of their names, by the smallest infinitesimal that differs; it begins with the source's own tree; and whatever its blocks and its filter push has at most 1,024 terms and no exponent above 127; each block is made from an exact tree; and the blocks' exponents are the distinct members of the lists in order of first sight
+-- the part is the program of the predicate: it is over the predicate's variables, with the predicate's filter; it carries the
+-- predicate's root, with the lets in place of their names, by the smallest infinitesimal that differs; it begins with the
+-- source's own tree; and whatever its blocks and its filter push has at most 1,024 terms and no exponent above 127; each block is
+-- made from an exact tree; and the blocks' exponents are the distinct members of the lists in order of first sight
 pub record IsProgramOf (p : PredOf) (part : Part) : Type 0 where
   pub name : name_bytes part.shape.name ≡ p.shape_name
   pub sites : part.shape.sites ≡ p.sites

@@ -29,8 +29,10 @@ pub record IsDue (p : PredOf) (row : Row) (v : Verdict) : Type 0 where
 
 -- the verdict of a predicate's program on a row in range is due
 abbrev pub ProgramsAnswerDue : Type 0
-ProgramsAnswerDue = (p : PredOf) (part : Part) (row : Row) (v : Verdict) → IsProgram part → IsProgramOf p part → InRange p.sites p.vars row → IsVerdict part row v → IsDue p row v
+ProgramsAnswerDue = (p : PredOf) (part : Part) (row : Row) (v : Verdict) → IsProgram part → IsProgramOf p part →
+    InRange p.sites p.vars row → IsVerdict part row v → IsDue p row v
 
 -- a row in range of a predicate over the variables of a shape is owed at most one verdict, but for the wide operations
 abbrev pub OneIsDue : Type 0
-OneIsDue = (s : Shape) (p : PredOf) (row : Row) (v w : Verdict) → p.vars ≡ s.vars → p.sites ≡ s.sites → InRange p.sites p.vars row → IsDue p row v → IsDue p row w → Agree v w
+OneIsDue = (s : Shape) (p : PredOf) (row : Row) (v w : Verdict) → p.vars ≡ s.vars → p.sites ≡ s.sites →
+    InRange p.sites p.vars row → IsDue p row v → IsDue p row w → Agree v w

@@ -12,7 +12,8 @@ use Rattle.ln_due.specs.Small.{BlockPushesSmall}
 use Rattle.ln_compile.specs.Compiled.{AreStageCounts, IsFromExact, IsOwn}
 use Rattle.ln_compile.specs.Accepted.{AreSound}
 
--- the block follows the rules, has exponents of coordinates of sites, computes the scaled derivative of f by them, pushes small polynomials alone, and is made from an exact tree
+-- the block follows the rules, has exponents of coordinates of sites, computes the scaled derivative of f by them, pushes small
+-- polynomials alone, and is made from an exact tree
 pub record IsBlockOf (vars : List VarInfo) (f : Sparse) (c : Code) : Type 0 where
   pub rules : FollowsRules vars c
   pub of_sites : AreOfSites vars c.exps
@@ -20,7 +21,8 @@ pub record IsBlockOf (vars : List VarInfo) (f : Sparse) (c : Code) : Type 0 wher
   pub small : BlockPushesSmall vars c
   pub exact : IsFromExact vars c
 
--- blocks for these exponents, with at most 524,352 operations in the first and in each other 4,096 for each term that covers its exponents and 68 more
+-- blocks for these exponents, with at most 524,352 operations in the first and in each other 4,096 for each term that covers its
+-- exponents and 68 more
 pub record AreBlocksOf (p : PredOf) (f : Sparse) (exps : List Pairs) (blocks : List Code) : Type 0 where
   pub own : Code
   pub first : slice_get blocks 0 ≡ Some own

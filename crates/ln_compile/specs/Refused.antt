@@ -56,13 +56,17 @@ token_of (FSub at e f) = at
 token_of (FMul at e f) = at
 token_of (FPow at e n) = at
 
--- the fault of predicate number k: a node whose range or size passes 2^127 - 1; else a node that has too many terms; else too heavy a whole, at the root's own token; else a root that is 0, at the predicate's name; else too many stages, there
+-- the fault of predicate number k: a node whose range or size passes 2^127 - 1; else a node that has too many terms; else too
+-- heavy a whole, at the root's own token; else a root that is 0, at the predicate's name; else too many stages, there
 pub data IsPredFault (k : ℕ) (p : PredOf) : Refusal → Type 0 where
   bound : {at : Span} → IsBoundFault (loaded_of p) at → IsPredFault k p (Bound k at)
   terms : {at : Span} → AreLight (loaded_of p) → IsTermsFault (length p.vars) (expanded_of p) at → IsPredFault k p (Terms k at)
-  heavy : AreLight (loaded_of p) → HaveFewTerms (length p.vars) (expanded_of p) → IsHeavyFault p → IsPredFault k p (Bound k (token_of p.root))
-  zero : AreLight (loaded_of p) → HaveFewTerms (length p.vars) (expanded_of p) → (IsHeavyFault p → ⊥) → IsZeroFault (length p.vars) (root_of p) → IsPredFault k p (Zero k p.at)
-  stages : AreLight (loaded_of p) → HaveFewTerms (length p.vars) (expanded_of p) → (IsHeavyFault p → ⊥) → (IsZeroFault (length p.vars) (root_of p) → ⊥) → IsStagesFault p → IsPredFault k p (Stages k p.at)
+  heavy : AreLight (loaded_of p) → HaveFewTerms (length p.vars) (expanded_of p) → IsHeavyFault p →
+      IsPredFault k p (Bound k (token_of p.root))
+  zero : AreLight (loaded_of p) → HaveFewTerms (length p.vars) (expanded_of p) → (IsHeavyFault p → ⊥) →
+      IsZeroFault (length p.vars) (root_of p) → IsPredFault k p (Zero k p.at)
+  stages : AreLight (loaded_of p) → HaveFewTerms (length p.vars) (expanded_of p) → (IsHeavyFault p → ⊥) →
+      (IsZeroFault (length p.vars) (root_of p) → ⊥) → IsStagesFault p → IsPredFault k p (Stages k p.at)
 
 -- the fault of the first predicate that has one
 pub record IsFirstFault (preds : List PredOf) (r : Refusal) : Type 0 where

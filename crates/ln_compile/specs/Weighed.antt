@@ -1,4 +1,5 @@
--- Sources that are accepted by the weights of their nodes: a narrower rule, in which each node of the source is tested by its weight, in place of its range, its size and the weight of the whole.
+-- Sources that are accepted by the weights of their nodes: a narrower rule, in which each node of the source is tested by its
+-- weight, in place of its range, its size and the weight of the whole.
 use Rattle.std.specs.Prelude.{◌≡◌, true, ℕ, List, [], ◌∷◌, length, map}
 use Rattle.ln_base.specs.declared.span.Span.{Span}
 use Rattle.ln_tree.specs.Fits.{is_fit, lets_fit}
@@ -13,7 +14,8 @@ use Rattle.ln_compile.specs.Accepted.{IsStagesFault, expanded_of, root_of}
 abbrev pub weighed_of : PredOf → List (Span × ℕ)
 weighed_of p = weighed_pred p.vars p.lets p.root
 
--- a predicate has no fault by weight: no node weighs more than 2^127 - 1, none has too many terms, the root isn't 0 however it is perturbed, and it hasn't too many stages
+-- a predicate has no fault by weight: no node weighs more than 2^127 - 1, none has too many terms, the root isn't 0 however it is
+-- perturbed, and it hasn't too many stages
 pub record IsSoundByWeight (p : PredOf) : Type 0 where
   pub light : AreLight (weighed_of p)
   pub few : HaveFewTerms (length p.vars) (expanded_of p)

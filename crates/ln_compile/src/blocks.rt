@@ -47,7 +47,8 @@ fn derivative_block(alloc: Global, f: &Poly, s: &Shape, a: &Exps) -> Result<Bloc
 fn first_block(alloc: Global, p: &Pred) -> Result<Block, NoMemory>
     requires light { AreLight (loaded_of (pred_of p.now)) }
     ensures own { IfOk result (IsOwn (pred_of p.now)) }
-    ensures block { IfOk result (λ b. (f : Sparse) → IsNormal (length p.now.shape.vars) (root_of (pred_of p.now)) f → HaveFewTerms (length p.now.shape.vars) (expanded_of (pred_of p.now)) → IsBlockOf p.now.shape.vars f b) }
+    ensures block { IfOk result (λ b. (f : Sparse) → IsNormal (length p.now.shape.vars) (root_of (pred_of p.now)) f →
+        HaveFewTerms (length p.now.shape.vars) (expanded_of (pred_of p.now)) → IsBlockOf p.now.shape.vars f b) }
     ensures small { IfOk result (λ b. length b.ops ≤ 524352) }
 {
     let sized = size(alloc, p)?;
@@ -62,9 +63,11 @@ pub(crate) fn blocks(alloc: Global, p: &Pred, f: &Poly, st: &Stages) -> Result<S
     requires normal { IsNormal (length p.now.shape.vars) (root_of (pred_of p.now)) f.now }
     requires weight { weighted_sum (weights p.now.shape.vars) (terms_of (length p.now.shape.vars) f.now) ≤ most }
     requires degrees { All (λ t. total_degree (vector (length p.now.shape.vars) t.0) ≤ 126) f.now }
-    requires first { (0 < length st.now.exps) × (vector (length p.now.shape.vars) (slice_index_or st.now.exps 0 []) ≡ zeros (length p.now.shape.vars)) }
+    requires first { (0 < length st.now.exps)
+        × (vector (length p.now.shape.vars) (slice_index_or st.now.exps 0 []) ≡ zeros (length p.now.shape.vars)) }
     requires below { All (λ e. IsAbove e (length p.now.shape.vars)) st.now.exps }
-    requires sites { All (λ e. (v : ℕ) → site_of p.now.shape.vars v ≡ None → slice_index (vector (length p.now.shape.vars) e) v ≡ 0) st.now.exps }
+    requires sites { All (λ e. (v : ℕ) → site_of p.now.shape.vars v ≡ None →
+        slice_index (vector (length p.now.shape.vars) e) v ≡ 0) st.now.exps }
     ensures { IfOk result (AreBlocksOf (pred_of p.now) f.now st.now.exps) }
 {
     let mut blocks = Seq::new(alloc);

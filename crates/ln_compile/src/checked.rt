@@ -36,7 +36,10 @@ impl Model for Checked {
 
     ghost view = { λ c. record { table = c.table; counts = c.counts } };
 
-    ghost invariant = { λ c. record { sound : AreSound (map pred_of c.table.preds); counted : AreStageCounts (map pred_of c.table.preds) c.counts } };
+    ghost invariant = { λ c. record {
+      sound : AreSound (map pred_of c.table.preds);
+      counted : AreStageCounts (map pred_of c.table.preds) c.counts;
+    } };
 }
 
 impl Checked {

@@ -44,8 +44,10 @@ fn filter(alloc: Global, p: &Pred) -> Result<Option<FilterBlock>, NoMemory>
     requires light { AreLight (loaded_of (pred_of p.now)) }
     ensures filter { IfOk result (λ o. IsFilterOf (pred_of p.now) o) }
     ensures rules { IfOk result (λ o. IfSome o (λ f. FollowsFilterRules p.now.shape.vars f)) }
-    ensures whole { IfOk result (λ o. (f : Sparse) → IsNormal (length p.now.shape.vars) (root_of (pred_of p.now)) f → IfSome o (CarriesWhole p.now.shape.vars (terms_of (length p.now.shape.vars) f))) }
-    ensures pushes { IfOk result (λ o. HaveFewTerms (length p.now.shape.vars) (expanded_of (pred_of p.now)) → IfSome o (FilterPushesSmall p.now.shape.vars)) }
+    ensures whole { IfOk result (λ o. (f : Sparse) → IsNormal (length p.now.shape.vars) (root_of (pred_of p.now)) f →
+        IfSome o (CarriesWhole p.now.shape.vars (terms_of (length p.now.shape.vars) f))) }
+    ensures pushes { IfOk result (λ o. HaveFewTerms (length p.now.shape.vars) (expanded_of (pred_of p.now)) →
+        IfSome o (FilterPushesSmall p.now.shape.vars)) }
     ensures small { IfOk result (λ o. ops_in_filter o ≤ 1048640) }
 {
     let sized = size(alloc, p)?;

@@ -1,7 +1,8 @@
 //! The scanner.
 ghost use Rattle.std.specs.Prelude.{◌≡◌, ℕ, ◌+◌, ◌<◌, ◌≤◌, ◌^◌, false, List, All, IfErr, IfNone, IfOk, IfSome, drop, length};
 ghost use Rattle.ln_lex.specs.Answers.{IsAnswered};
-ghost use Rattle.ln_lex.specs.Tokens.{BeginsNone, IsFirst, IsLexFault, IsLexLimit, IsSlice, Lexed, RiseFrom, Skips, StopsLexing, begins_blank, begins_comment, comment_len, word_kind};
+ghost use Rattle.ln_lex.specs.Tokens.{BeginsNone, IsFirst, IsLexFault, IsLexLimit, IsSlice, Lexed, RiseFrom};
+ghost use Rattle.ln_lex.specs.Tokens.{Skips, StopsLexing, begins_blank, begins_comment, comment_len, word_kind};
 ghost use Rattle.ln_lex.specs.declared.scan.LexStop.TheVariants.{NoMemory as OutOfMemory};
 ghost use Rattle.ln_lex.specs.declared.token.Token.{Token as Tok};
 

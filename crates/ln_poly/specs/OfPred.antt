@@ -6,7 +6,8 @@ use Rattle.ln_tree.specs.Table.{PredOf}
 use Rattle.ln_bound.specs.Loads.{loaded_pred}
 use Rattle.ln_poly.specs.Expansion.{closed_root, expanded_pred}
 
--- the nodes of a predicate in order of evaluation, each with the largest absolute value of the ends of its range, or with its size where that is larger
+-- the nodes of a predicate in order of evaluation, each with the largest absolute value of the ends of its range, or with its
+-- size where that is larger
 abbrev pub loaded_of : PredOf → List (Span × ℕ)
 loaded_of p = loaded_pred p.vars p.lets p.root
 

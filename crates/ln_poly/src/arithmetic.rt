@@ -37,7 +37,8 @@ fn put_negated(out: &mut Vec<(Exps, i128)>, f: &[(Exps, i128)]) -> Result<(), No
 /// The sum of two polynomials.
 pub fn add(alloc: Global, f: &Poly, g: &Poly) -> Result<Poly, NoMemory>
     requires { size_of f.now + size_of g.now < 2 ^ 127 }
-    ensures coefficients { IfOk result (λ h. (n : ℕ) (m : List ℕ) → coefficient_at n h m ≡ coefficient_at n f.now m +ℤ coefficient_at n g.now m) }
+    ensures coefficients { IfOk result (λ h. (n : ℕ) (m : List ℕ) →
+        coefficient_at n h m ≡ coefficient_at n f.now m +ℤ coefficient_at n g.now m) }
     ensures size { IfOk result (λ h. size_of h ≤ size_of f.now + size_of g.now) }
     ensures form { IfOk result IsPoly }
     ensures below { IfOk result (λ h. (n : ℕ) → AreBelow n f.now → AreBelow n g.now → AreBelow n h) }
@@ -52,7 +53,8 @@ pub fn add(alloc: Global, f: &Poly, g: &Poly) -> Result<Poly, NoMemory>
 /// The difference of two polynomials.
 pub fn sub(alloc: Global, f: &Poly, g: &Poly) -> Result<Poly, NoMemory>
     requires { size_of f.now + size_of g.now < 2 ^ 127 }
-    ensures coefficients { IfOk result (λ h. (n : ℕ) (m : List ℕ) → coefficient_at n h m ≡ coefficient_at n f.now m -ℤ coefficient_at n g.now m) }
+    ensures coefficients { IfOk result (λ h. (n : ℕ) (m : List ℕ) →
+        coefficient_at n h m ≡ coefficient_at n f.now m -ℤ coefficient_at n g.now m) }
     ensures form { IfOk result IsPoly }
     ensures below { IfOk result (λ h. (n : ℕ) → AreBelow n f.now → AreBelow n g.now → AreBelow n h) }
 {
@@ -100,7 +102,8 @@ fn put_row(
 pub fn mul(alloc: Global, f: &Poly, g: &Poly) -> Result<Poly, NoMemory>
     requires room { size_of f.now * size_of g.now < 2 ^ 127 }
     requires powers { All (λ s. PowersFit s g.now) f.now }
-    ensures coefficients { IfOk result (λ h. (n : ℕ) (m : List ℕ) → length m ≡ n → coefficient_at n h m ≡ product (coefficient_at n f.now) (coefficient_at n g.now) m) }
+    ensures coefficients { IfOk result (λ h. (n : ℕ) (m : List ℕ) → length m ≡ n →
+        coefficient_at n h m ≡ product (coefficient_at n f.now) (coefficient_at n g.now) m) }
     ensures size { IfOk result (λ h. size_of h ≤ size_of f.now * size_of g.now) }
     ensures form { IfOk result IsPoly }
     ensures below { IfOk result (λ h. (n : ℕ) → AreBelow n f.now → AreBelow n g.now → AreBelow n h) }

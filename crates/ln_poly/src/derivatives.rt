@@ -109,7 +109,8 @@ pub fn derive(alloc: Global, f: &Poly, s: &Shape, v: u8, n: u8) -> Result<Poly, 
     requires variable { v < length s.now.vars }
     requires below { AreBelow (length s.now.vars) f.now }
     requires small { weighted_sum (sizes s.now.vars) (derivative (length s.now.vars) v n f.now) ≤ most }
-    ensures coefficients { IfOk result (λ h. (m : List ℕ) → coefficient_at (length s.now.vars) h m ≡ factor_at (derivative (length s.now.vars) v n f.now) m) }
+    ensures coefficients { IfOk result (λ h. (m : List ℕ) →
+        coefficient_at (length s.now.vars) h m ≡ factor_at (derivative (length s.now.vars) v n f.now) m) }
     ensures form { IfOk result IsPoly }
     ensures below { IfOk result (AreBelow (length s.now.vars)) }
 {

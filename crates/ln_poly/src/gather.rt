@@ -1,5 +1,6 @@
 //! Terms in any order, made a polynomial.
-ghost use Rattle.std.specs.Prelude.{◌≡◌, ℕ, List, [], ◌∷◌, ◌++◌, false, ◌+◌, ◌-◌, ◌<◌, ◌≤◌, ◌^◌, ◌+ℤ◌, IfOk, OnOk, unsigned_abs, length, slice_index_or};
+ghost use Rattle.std.specs.Prelude.{◌≡◌, ℕ, List, [], ◌∷◌, ◌++◌, false, ◌+◌, ◌-◌, ◌<◌, ◌≤◌, ◌^◌};
+ghost use Rattle.std.specs.Prelude.{◌+ℤ◌, IfOk, OnOk, unsigned_abs, length, slice_index_or};
 ghost use Rattle.std.specs.List.{dedup};
 ghost use Rattle.std.specs.List.Sorted.{IsSorted};
 ghost use Rattle.ln_tree.specs.Exps.{same_pairs};
@@ -44,7 +45,8 @@ fn ends_alike(out: &[(Exps, i128)], t: &(Exps, i128)) -> bool
 fn put(out: &mut Vec<(Exps, i128)>, t: &(Exps, i128)) -> Result<(), NoMemory>
     requires { size_of out.old.items + unsigned_abs t.now.1 < 2 ^ 127 }
     ensures exps { OnOk result (exps_of out.new.items ≡ put_exps (exps_of out.old.items) t.now.0) }
-    ensures coefficients { OnOk result ((n : ℕ) (m : List ℕ) → coefficient_at n out.new.items m ≡ coefficient_at n out.old.items m +ℤ part_at n t.now m) }
+    ensures coefficients { OnOk result ((n : ℕ) (m : List ℕ) →
+        coefficient_at n out.new.items m ≡ coefficient_at n out.old.items m +ℤ part_at n t.now m) }
     ensures size { OnOk result (size_of out.new.items ≤ size_of out.old.items + unsigned_abs t.now.1) }
 {
     if ends_alike(out.as_slice(), t) {

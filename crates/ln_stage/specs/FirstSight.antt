@@ -1,4 +1,5 @@
--- Going through the lists of all orders and going through the segments of all prefixes: the same vectors in the same order of first sight, and how many stages there are.
+-- Going through the lists of all orders and going through the segments of all prefixes: the same vectors in the same order of
+-- first sight, and how many stages there are.
 use Rattle.std.specs.Prelude.{◌≡◌, ℕ, ◌+◌, ◌-◌, ◌*◌, ◌≤◌, List, [], ◌∷◌, ◌++◌, length, map}
 use Rattle.ln_tree.specs.declared.shape.VarInfo.{VarInfo}
 use Rattle.ln_order.specs.Orders.{orders_of}
@@ -44,4 +45,5 @@ StagesByPrefixes =
 
 -- what stands at the prefixes, each counted once, is at most what stands in all lists: where that passes a limit, so does the stage count
 abbrev pub SegmentsAreFewer : Type 0
-SegmentsAreFewer = (k : ℕ) (segment : List ℕ → List (List ℕ)) → stage_count (map segment (prefixes_of k)) ≤ shared_count k segment (prefixes_of k)
+SegmentsAreFewer = (k : ℕ) (segment : List ℕ → List (List ℕ)) →
+    stage_count (map segment (prefixes_of k)) ≤ shared_count k segment (prefixes_of k)

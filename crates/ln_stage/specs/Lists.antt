@@ -11,7 +11,8 @@ use Rattle.ln_stage.specs.StageList.{IsStageListOf}
 -- a stage list for each order of the sites, in the order of the orders
 pub record AreStageLists (sites : ℕ) (vars : List VarInfo) (f : Sparse) (lists : List (List (List ℕ))) : Type 0 where
   pub size : length lists ≡ length (orders_of sites)
-  pub each : (j : ℕ) → j < length lists → IsStageListOf (length vars) (sites_of vars (slice_index_or (orders_of sites) j [])) f (slice_index_or lists j [])
+  pub each : (j : ℕ) → j < length lists →
+      IsStageListOf (length vars) (sites_of vars (slice_index_or (orders_of sites) j [])) f (slice_index_or lists j [])
 
 -- the stage count: the sum of the lengths
 abbrev pub stage_count : List (List (List ℕ)) → ℕ

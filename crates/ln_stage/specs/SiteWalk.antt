@@ -34,7 +34,8 @@ abbrev pub prefix_walks : ℕ → List VarInfo → List (List ℕ) → List ℕ 
 prefix_walks b vars ms o = (front_walk b vars ms []).0 ∷ site_walks b vars ms [] o
 
 -- ---- laws
--- One variable of a site more: with exponents of 0 there the walk lists what it lists without the site, and then what needs the site. So the cut of a prefix ends the lists of all that extend it.
+-- One variable of a site more: with exponents of 0 there the walk lists what it lists without the site, and then what needs the
+-- site. So the cut of a prefix ends the lists of all that extend it.
 abbrev pub WalkGoesSiteBySite : Type 0
 WalkGoesSiteBySite =
     (b : ℕ) (vars : List VarInfo) (ms : List (List ℕ)) (p : List ℕ) (s : ℕ) →
@@ -48,5 +49,6 @@ ListsAreWalkedByPrefixes =
 -- What is listed at a prefix is its segment.
 abbrev pub WalksAreSegments : Type 0
 WalksAreSegments =
-    (k : ℕ) (vars : List VarInfo) (f : Sparse) (o : List ℕ) → is_laid_out k vars ≡ true → IsOrderOf k o → IsPoly f → AreBelow (length vars) f →
+    (k : ℕ) (vars : List VarInfo) (f : Sparse) (o : List ℕ) → is_laid_out k vars ≡ true → IsOrderOf k o → IsPoly f →
+    AreBelow (length vars) f →
     AreSegments (length vars) (sites_of vars o) f 0 (prefix_walks 127 vars (all_rows (length vars) f) o)

@@ -1,5 +1,6 @@
 -- The stage list of a polynomial in an order of its sites: a set of exponent vectors, cut and put in order.
--- Source: the staged evaluation of Simulation of Simplicity (Edelsbrunner and Mücke 1990), which ends at the first coefficient that is a constant.
+-- Source: the staged evaluation of Simulation of Simplicity (Edelsbrunner and Mücke 1990), which ends at the first coefficient
+-- that is a constant.
 use Rattle.std.specs.Prelude.{◌≡◌, ◌≢◌, ◌↔◌, ℕ, pos, List, length}
 use Rattle.ln_algebra.specs.Earlier.{Earlier, IndicesDiffer, Sites}
 use Rattle.ln_algebra.specs.Stage.{IsStageBy, IsStageList, IsStageListBy}

@@ -11,7 +11,8 @@ use Rattle.ln_stage.specs.Segments.{IsSegmentOf}
 use Rattle.ln_stage.specs.declared.stop.StageStop.{StageStop}
 use Rattle.ln_stage.specs.declared.stop.StageStop.TheVariants.{Zero, Stages, NoMemory}
 
--- the number of sites, the exponents of each block by number, for each prefix of orders the numbers of its segment, and for each order of the sites the list of numbers, which is its segments one after the other
+-- the number of sites, the exponents of each block by number, for each prefix of orders the numbers of its segment, and for each
+-- order of the sites the list of numbers, which is its segments one after the other
 pub record Staged : Type 0 where
   pub sites : ℕ
   pub exps : List Pairs
@@ -39,10 +40,12 @@ vectors_of n st = map (λ list. map (block_vector n st.exps) list) st.lists
 abbrev pub segment_of : Staged → List ℕ → List ℕ
 segment_of st p = beside (prefixes_of st.sites) st.segments p
 
--- the segment of each prefix has exactly the stages whose last site is the last of the prefix, in every order that begins with it, and a list is the segments of its prefixes, one after the other
+-- the segment of each prefix has exactly the stages whose last site is the last of the prefix, in every order that begins with
+-- it, and a list is the segments of its prefixes, one after the other
 pub record AreSegmentsOf (k : ℕ) (vars : List VarInfo) (f : Sparse) (st : Staged) : Type 0 where
   pub size : length st.segments ≡ length (prefixes_of k)
-  pub each : (o : List ℕ) (j : ℕ) → IsOrderOf k o → j ≤ k → IsSegmentOf (length vars) (sites_of vars o) f j (map (block_vector (length vars) st.exps) (segment_of st (take j o)))
+  pub each : (o : List ℕ) (j : ℕ) → IsOrderOf k o → j ≤ k →
+      IsSegmentOf (length vars) (sites_of vars o) f j (map (block_vector (length vars) st.exps) (segment_of st (take j o)))
   pub make : st.lists ≡ map (λ o. segments_from (segment_of st) o 0) (orders_of k)
   pub numbers : All (λ segment. All (λ i. i < length st.exps) segment) st.segments
 
@@ -55,8 +58,10 @@ pub record AreStagesOf (k : ℕ) (vars : List VarInfo) (f : Sparse) (st : Staged
   pub numbers : All (λ list. All (λ i. i < length st.exps) list) st.lists
   pub segments : AreSegmentsOf k vars f st
 
--- why there are no stages: f is 0, or it isn't and the stage count or the stage weight of its lists passes its limit; nothing is said of want of memory
+-- why there are no stages: f is 0, or it isn't and the stage count or the stage weight of its lists passes its limit; nothing is
+-- said of want of memory
 abbrev pub StopsListing : ℕ → List VarInfo → Sparse → ℕ → ℕ → StageStop → Type 0
 StopsListing k vars f most heavy Zero = f ≡ []
-StopsListing k vars f most heavy Stages = (f ≢ []) × ((lists : List (List (List ℕ))) × AreStageLists k vars f lists × Passes (length vars) f most heavy lists)
+StopsListing k vars f most heavy Stages = (f ≢ [])
+    × ((lists : List (List (List ℕ))) × AreStageLists k vars f lists × Passes (length vars) f most heavy lists)
 StopsListing k vars f most heavy NoMemory = Unit {0}

@@ -8,8 +8,8 @@ use Rattle.ln_stage.specs.Lists.{covering}
 use Rattle.ln_stage.specs.declared.stop.StageStop.{StageStop}
 use Rattle.ln_stage.specs.declared.stop.StageStop.TheVariants.{Zero, Stages, NoMemory}
 
--- the distinct exponents so far in order of first sight, the numbers of the list at hand, how many stages so far in all lists, the weight of
--- the distinct ones, and the limits of count and weight
+-- the distinct exponents so far in order of first sight, the numbers of the list at hand, how many stages so far in all lists,
+-- the weight of the distinct ones, and the limits of count and weight
 pub record Tallied : Type 0 where
   pub exps : List Pairs
   pub list : List ℕ

@@ -1,6 +1,9 @@
 //! Laws of coefficients, of stages and of the cut.
-ghost use Rattle.ln_algebra.specs.Law.{CoefficientsVanishAboveDegree, DerivativesAreCoefficients, DerivativesOnRows, ProductRule, ProductRuleOfValues, ProductsAreSumsOverWays};
-ghost use Rattle.ln_algebra.specs.StageLaw.{FirstIsStage, FirstNonzeroStageIsFirst, LastIsConstant, NonzeroHasFirst, SignAlongTheStages, UncoveredIsZero, WithoutParamsThereIsFirst, ZeroStagesHaveNoFirst};
+ghost use Rattle.ln_algebra.specs.Law.{CoefficientsVanishAboveDegree, DerivativesAreCoefficients, DerivativesOnRows};
+ghost use Rattle.ln_algebra.specs.Law.{ProductRule, ProductRuleOfValues, ProductsAreSumsOverWays};
+ghost use Rattle.ln_algebra.specs.StageLaw.{FirstIsStage, FirstNonzeroStageIsFirst, LastIsConstant, NonzeroHasFirst};
+ghost use Rattle.ln_algebra.specs.StageLaw.{SignAlongTheStages, UncoveredIsZero, WithoutParamsThereIsFirst};
+ghost use Rattle.ln_algebra.specs.StageLaw.{ZeroStagesHaveNoFirst};
 ghost use Rattle.ln_stage.specs.Sighted.{FirstSeenAreSighted};
 ghost use Rattle.ln_stage.specs.StageList.{ListIsUnique, ListsAreThoseOfTrees};
 

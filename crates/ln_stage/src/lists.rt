@@ -56,8 +56,10 @@ fn visit(
     requires some { 0 < length f.now }
     requires before { cut ≡ cut_before s.now.vars f.now (front_places p.now) }
     ensures ok { IfOk result (λ c. c ≡ is_cut_at s.now.vars f.now (front_places p.now)) }
-    ensures seen { OnOk result (tally.new ≡ see_all (length s.now.vars) f.now tally.old (segment_at s.now.vars f.now (front_places p.now))) }
-    ensures err { IfErr result (λ e. IsStoppedBy e (IsOver (see_all (length s.now.vars) f.now tally.old (segment_at s.now.vars f.now (front_places p.now))))) }
+    ensures seen { OnOk result (tally.new ≡ see_all (length s.now.vars) f.now tally.old
+        (segment_at s.now.vars f.now (front_places p.now))) }
+    ensures err { IfErr result (λ e. IsStoppedBy e
+        (IsOver (see_all (length s.now.vars) f.now tally.old (segment_at s.now.vars f.now (front_places p.now))))) }
 {
     if cut {
         return Ok(true);
@@ -114,10 +116,13 @@ fn segment(
     requires rising { AreRising f.now }
     requires some { 0 < length f.now }
     requires cuts { AreCuts s.now.vars f.now (length (front_places p.now)) (front_places p.now) cuts.old }
-    ensures list { IfOk result (λ l. l ≡ (see_all (length s.now.vars) f.now tally.old (segment_at s.now.vars f.now (front_places p.now))).list) }
-    ensures rest { OnOk result (tally.new ≡ next_list (see_all (length s.now.vars) f.now tally.old (segment_at s.now.vars f.now (front_places p.now)))) }
+    ensures list { IfOk result (λ l. l
+        ≡ (see_all (length s.now.vars) f.now tally.old (segment_at s.now.vars f.now (front_places p.now))).list) }
+    ensures rest { OnOk result (tally.new
+        ≡ next_list (see_all (length s.now.vars) f.now tally.old (segment_at s.now.vars f.now (front_places p.now)))) }
     ensures cuts { OnOk result (AreCuts s.now.vars f.now (length (front_places p.now) + 1) (front_places p.now) cuts.new) }
-    ensures err { IfErr result (λ e. IsStoppedBy e (IsOver (see_all (length s.now.vars) f.now tally.old (segment_at s.now.vars f.now (front_places p.now))))) }
+    ensures err { IfErr result (λ e. IsStoppedBy e
+        (IsOver (see_all (length s.now.vars) f.now tally.old (segment_at s.now.vars f.now (front_places p.now))))) }
 {
     let n = p.places().len();
     let cut = before(cuts, n);
@@ -169,11 +174,15 @@ fn listed(
     requires rising { AreRising f.now }
     requires some { 0 < length f.now }
     requires empty { tally.old.list ≡ [] }
-    ensures segments { IfOk result (λ r. r.0 ≡ numbers_by (segment_at s.now.vars f.now) (length s.now.vars) f.now tally.old (prefixes_of s.now.sites)) }
+    ensures segments { IfOk result (λ r. r.0 ≡ numbers_by (segment_at s.now.vars f.now)
+        (length s.now.vars) f.now tally.old (prefixes_of s.now.sites)) }
     ensures count { IfOk result (λ r. r.1 ≡ shared_count s.now.sites (segment_at s.now.vars f.now) (prefixes_of s.now.sites)) }
     ensures within { IfOk result (λ r. r.1 ≤ most) }
-    ensures rest { OnOk result (tally.new ≡ tallied_by (segment_at s.now.vars f.now) (length s.now.vars) f.now tally.old (prefixes_of s.now.sites)) }
-    ensures err { IfErr result (λ e. IsStoppedBy e (IsOver (tallied_by (segment_at s.now.vars f.now) (length s.now.vars) f.now tally.old (prefixes_of s.now.sites)) ⊎ (most < shared_count s.now.sites (segment_at s.now.vars f.now) (prefixes_of s.now.sites)))) }
+    ensures rest { OnOk result (tally.new ≡ tallied_by (segment_at s.now.vars f.now)
+        (length s.now.vars) f.now tally.old (prefixes_of s.now.sites)) }
+    ensures err { IfErr result (λ e. IsStoppedBy e
+        (IsOver (tallied_by (segment_at s.now.vars f.now) (length s.now.vars) f.now tally.old (prefixes_of s.now.sites))
+        ⊎ (most < shared_count s.now.sites (segment_at s.now.vars f.now) (prefixes_of s.now.sites)))) }
 {
     let mut cuts = [false; 6];
     let mut segments = Seq::new(alloc);

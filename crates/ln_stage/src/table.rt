@@ -32,7 +32,11 @@ impl Model for Stages {
 
     ghost view = { λ s. record { sites = s.sites; exps = keys s.blocks; segments = s.segments; lists = lists_in s.sites s.segments } };
 
-    ghost invariant = { λ s. record { few : s.sites ≤ 5; each : length s.segments ≡ length (prefixes_of s.sites); counted : s.count ≡ count_numbers (lists_in s.sites s.segments) } };
+    ghost invariant = { λ s. record {
+      few : s.sites ≤ 5;
+      each : length s.segments ≡ length (prefixes_of s.sites);
+      counted : s.count ≡ count_numbers (lists_in s.sites s.segments);
+    } };
 }
 
 impl Stages {

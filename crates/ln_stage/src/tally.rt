@@ -29,9 +29,21 @@ impl Model for Tally {
 
     ghost Value = { Tallied };
 
-    ghost view = { λ t. record { exps = keys t.blocks; list = t.list.items; count = t.count; weight = t.weight; most = t.most; heavy = t.heavy } };
+    ghost view = { λ t. record {
+      exps = keys t.blocks;
+      list = t.list.items;
+      count = t.count;
+      weight = t.weight;
+      most = t.most;
+      heavy = t.heavy;
+    } };
 
-    ghost invariant = { λ t. record { counted : t.count ≤ t.most; weighed : t.weight ≤ t.heavy; light : t.heavy < 2 ^ 32; few : length (keys t.blocks) ≤ t.weight } };
+    ghost invariant = { λ t. record {
+      counted : t.count ≤ t.most;
+      weighed : t.weight ≤ t.heavy;
+      light : t.heavy < 2 ^ 32;
+      few : length (keys t.blocks) ≤ t.weight;
+    } };
 }
 
 impl Tally {
@@ -54,8 +66,13 @@ impl Tally {
     fn number(&mut self, a: Exps, cover: usize) -> Result<u32, StageStop>
         requires { 0 < cover }
         ensures ok { IfOk result (λ i. i ≡ number_in self.old.exps a) }
-        ensures blocks { OnOk result (self.new ≡ record self.old { exps = put_exps self.old.exps a; weight = if number_in self.old.exps a == length self.old.exps then self.old.weight + cover else self.old.weight }) }
-        ensures err { IfErr result (λ e. IsStoppedBy e (self.old.heavy < (if number_in self.old.exps a == length self.old.exps then self.old.weight + cover else self.old.weight))) }
+        ensures blocks { OnOk result (self.new ≡ record self.old {
+          exps = put_exps self.old.exps a;
+          weight = if number_in self.old.exps a == length self.old.exps then self.old.weight + cover else self.old.weight;
+        }) }
+        ensures err { IfErr result (λ e. IsStoppedBy e
+            (self.old.heavy < (if number_in self.old.exps a == length self.old.exps then self.old.weight + cover
+            else self.old.weight))) }
     {
         if let Some(i) = self.blocks.get_index_of(&a) {
             return Ok(i as u32);

@@ -9,13 +9,15 @@ pub use Rattle.ln_poly.specs.OfPred.{expanded_of, loaded_of, root_of}
 use Rattle.ln_poly.specs.Sparse.{Sparse, terms_of}
 use Rattle.ln_stage.specs.Lists.{AreStageLists, Passes}
 
--- no range and no size of a node passes 2^127 - 1; no node has too many terms; all scaled derivatives of the normal polynomial together weigh at most 2^127 - 1; the root isn't 0 however it is perturbed; and it hasn't too many stages
+-- no range and no size of a node passes 2^127 - 1; no node has too many terms; all scaled derivatives of the normal polynomial
+-- together weigh at most 2^127 - 1; the root isn't 0 however it is perturbed; and it hasn't too many stages
 pub record IsAccepted (p : PredOf) : Type 0 where
   pub light : AreLight (loaded_of p)
   pub few : HaveFewTerms (length p.vars) (expanded_of p)
   pub whole : (f : Sparse) → IsNormal (length p.vars) (root_of p) f → weighted_sum (weights p.vars) (terms_of (length p.vars) f) ≤ most
   pub nonzero : IsZeroFault (length p.vars) (root_of p) → ⊥
-  pub staged : (f : Sparse) (lists : List (List (List ℕ))) → IsNormal (length p.vars) (root_of p) f → AreStageLists p.sites p.vars f lists → Passes (length p.vars) f 65536 131072 lists → ⊥
+  pub staged : (f : Sparse) (lists : List (List (List ℕ))) → IsNormal (length p.vars) (root_of p) f →
+      AreStageLists p.sites p.vars f lists → Passes (length p.vars) f 65536 131072 lists → ⊥
 
 -- each of them is
 abbrev pub AreAccepted : List PredOf → Type 0

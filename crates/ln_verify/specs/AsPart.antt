@@ -37,7 +37,12 @@ abbrev pub segment_at : ℕ → List (List ℕ) → List ℕ → List ℕ
 segment_at k lists p = if length p == k then beside (orders_of k) lists p else []
 
 abbrev pub part_of : Shape → Written → Part
-part_of s w = record { shape = s; filter = filter_of w.filter; blocks = map code_of w.blocks; segments = map (segment_at s.sites w.lists) (prefixes_of s.sites) }
+part_of s w = record {
+  shape = s;
+  filter = filter_of w.filter;
+  blocks = map code_of w.blocks;
+  segments = map (segment_at s.sites w.lists) (prefixes_of s.sites);
+}
 
 -- ---- the promise
 -- the predicate with this shape and this closed root is the judge's subject
@@ -51,10 +56,12 @@ pub record IsSubject (s : Shape) (e : Tree) (p : Subject) : Type 0 where
 pub record GivesSign (s : Shape) (e : Tree) (w : Written) (row : Row) : Type 0 where
   pub verdict : Verdict
   pub answers : IsVerdict (part_of s w) row verdict
-  pub sign : (v : Verdict) → IsVerdict (part_of s w) row v → IsPerturbedSign (length s.vars) (row_sites s.vars row.index) (values row.values) e (sign_number v.sign)
+  pub sign : (v : Verdict) → IsVerdict (part_of s w) row v → IsPerturbedSign (length s.vars) (row_sites s.vars row.index)
+      (values row.values) e (sign_number v.sign)
 
 -- the parts of a valid listing of either version, whoever made it, give the perturbed sign: for each subject, on each row in range
 abbrev pub ValidPartsGiveSigns : Type 0
 ValidPartsGiveSigns =
-    (f : Form) (ps : List Subject) (lines : List listing.Part) (h : IsValid (version_of f) ps lines) (k : ℕ) (p : Subject) (w : Written) (s : Shape) (e : Tree) (row : Row) →
+    (f : Form) (ps : List Subject) (lines : List listing.Part) (h : IsValid (version_of f) ps lines) (k : ℕ) (p : Subject)
+    (w : Written) (s : Shape) (e : Tree) (row : Row) →
     slice_get ps k ≡ Some p → slice_get h.parts k ≡ Some w → IsSubject s e p → InRange s.sites s.vars row → GivesSign s e w row

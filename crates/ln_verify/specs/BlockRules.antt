@@ -1,4 +1,5 @@
--- The rules on the lines of a block and of a filter, in both versions: they differ in what the range of an input has to cover, and in the running size of an input. A bound b of version 1 stands for the range -b .. b.
+-- The rules on the lines of a block and of a filter, in both versions: they differ in what the range of an input has to cover,
+-- and in the running size of an input. A bound b of version 1 stands for the range -b .. b.
 use Rattle.std.specs.Prelude.{ℕ, ◌+◌, ◌/◌, ◌^◌, ◌&&◌, nat_le, pos, neg_ℤ, unsigned_abs, List, Option, None, slice_get, if◌then◌else◌}
 use Rattle.ln_algebra.specs.Tree as tree
 use Rattle.ln_interval.specs.Range.{Range, magnitude, opposite, point}
@@ -42,7 +43,8 @@ block_rules v vars = record {
   push = λ c p. known (point c) p (least (magnitude p)) (unsigned_abs c) (tree.Num c);
   input = λ k p. next (slice_get vars k) (λ i. known (v.range i) p (least (magnitude p)) (v.size i) (tree.Input k));
   again = λ x p. known x.range p (wider x.width (least (magnitude p))) x.size x.tree;
-  two = λ t w p x y. if no_wider x.width w && no_wider y.width w then known (range_of t x.range y.range) p w (bound_of t x.size y.size) (two_of t x.tree y.tree) else None;
+  two = λ t w p x y. if no_wider x.width w && no_wider y.width w
+      then known (range_of t x.range y.range) p w (bound_of t x.size y.size) (two_of t x.tree y.tree) else None;
   minus = λ w p x. if no_wider x.width w then known (opposite x.range) p w x.size (tree.Neg x.tree) else None;
   cut = λ n p x. None;
   got = λ l j. l j;

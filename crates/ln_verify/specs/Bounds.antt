@@ -1,4 +1,5 @@
--- The table of version 1 as it stands, with one bound in absolute value for each operation: what the rules of version 1 say of ranges from -b to b.
+-- The table of version 1 as it stands, with one bound in absolute value for each operation: what the rules of version 1 say of
+-- ranges from -b to b.
 use Rattle.std.specs.Prelude.{◌≡◌, ℕ, ◌&&◌, nat_le, unsigned_abs, List, Option, Some, None, map, slice_get, if◌then◌else◌}
 use Rattle.ln_algebra.specs.Tree as tree
 use Rattle.ln_algebra.specs.Tree.{Tree}
@@ -29,7 +30,8 @@ bound_rules vars = record {
   push = λ c b. bounded (unsigned_abs c) b (least b) (tree.Num c);
   input = λ v b. next (slice_get vars v) (λ i. bounded (size_of i) b (least b) (tree.Input v));
   again = λ x b. bounded x.bound b (wider x.width (least b)) x.tree;
-  two = λ t w b x y. if no_wider x.width w && no_wider y.width w then bounded (bound_of t x.bound y.bound) b w (two_of t x.tree y.tree) else None;
+  two = λ t w b x y. if no_wider x.width w && no_wider y.width w
+      then bounded (bound_of t x.bound y.bound) b w (two_of t x.tree y.tree) else None;
   minus = λ w b x. if no_wider x.width w then bounded x.bound b w (tree.Neg x.tree) else None;
   cut = λ n b x. None;
   got = λ l j. l j;
@@ -49,5 +51,7 @@ pub record IsSame (k : Bounded) (x : Known) : Type 0 where
 
 -- version 1 is its table: on ranges from -b to b its rules know a value exactly where those on bounds do, and the same one
 pub record IsOnBounds (vars : List VarInfo) (lines : List (Line ℕ)) : Type 0 where
-  pub there : (k : Bounded) → answer (bound_rules vars) no_locals lines ≡ Some k → (x : Known) × (answer (block_rules version_1 vars) no_locals (on_ranges lines) ≡ Some x) × IsSame k x
-  pub back : (x : Known) → answer (block_rules version_1 vars) no_locals (on_ranges lines) ≡ Some x → (k : Bounded) × (answer (bound_rules vars) no_locals lines ≡ Some k) × IsSame k x
+  pub there : (k : Bounded) → answer (bound_rules vars) no_locals lines ≡ Some k →
+      (x : Known) × (answer (block_rules version_1 vars) no_locals (on_ranges lines) ≡ Some x) × IsSame k x
+  pub back : (x : Known) → answer (block_rules version_1 vars) no_locals (on_ranges lines) ≡ Some x →
+      (k : Bounded) × (answer (bound_rules vars) no_locals lines ≡ Some k) × IsSame k x

@@ -41,7 +41,8 @@ order_lines (o ∷ os) [] = []
 order_lines (o ∷ os) (l ∷ ls) = Order o l ∷ order_lines os ls
 
 abbrev pub part_lines : Subject → Written → List Part
-part_lines p w = Predicate p.name ∷ (filter_lines w.filter ++ (block_lines 0 w.blocks ++ (order_lines (orders_of p.sites) w.lists ++ Done ∷ [])))
+part_lines p w = Predicate p.name
+    ∷ (filter_lines w.filter ++ (block_lines 0 w.blocks ++ (order_lines (orders_of p.sites) w.lists ++ Done ∷ [])))
 
 abbrev pub all_lines : List Subject → List Written → List Part
 all_lines [] parts = []
@@ -50,7 +51,8 @@ all_lines (p ∷ ps) (w ∷ ws) = part_lines p w ++ all_lines ps ws
 
 -- ---- what makes them valid
 -- lines lead from one state to another, and each pushes something small
-abbrev pub AllLead : {B K : Type 0} → (K → Tree) → ℕ → Engine B K (ℕ → Option K) → List (Line B) → State K (ℕ → Option K) → State K (ℕ → Option K) → Type 0
+abbrev pub AllLead : {B K : Type 0} → (K → Tree) → ℕ → Engine B K (ℕ → Option K) → List (Line B) → State K (ℕ → Option K) →
+    State K (ℕ → Option K) → Type 0
 AllLead tree n e [] s t = t ≡ s
 AllLead {B} {K} tree n e (x ∷ xs) s t = (u : State K (ℕ → Option K)) × Leads tree n e x.op x.bound s u × AllLead tree n e xs u t
 

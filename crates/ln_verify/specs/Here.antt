@@ -17,7 +17,8 @@ use Rattle.ln_code.specs.FilterRules.{FilterKnown}
 use Rattle.ln_code.specs.Rules.{Known}
 use Rattle.ln_verify.specs.BlockRules.{Version}
 use Rattle.ln_verify.specs.Judge.{IsFirstFault, IsValid}
-use Rattle.ln_verify.specs.Line.{Between, InBlock, InFilter, LineRule, Named, Ordering, Outside, Place, Rule, Spot, Subject, Within, Written, exps_of}
+use Rattle.ln_verify.specs.Line.{Between, InBlock, InFilter, LineRule, Named, Ordering, Outside}
+use Rattle.ln_verify.specs.Line.{Place, Rule, Spot, Subject, Within, Written, exps_of}
 use Rattle.ln_verify.specs.Works.{IsBench, IsTray}
 use Rattle.ln_verify.specs.declared.case.Case.{Case}
 use Rattle.ln_verify.specs.declared.desk.At.{At}
@@ -28,7 +29,8 @@ use Rattle.ln_cert.specs.declared.part.Part.{Part}
 abbrev pub subject_of : Case → Subject
 subject_of c = record { name = name_bytes c.shape.name; sites = c.shape.sites; vars = c.shape.vars; poly = c.poly }
 
--- its polynomial is one over its variables, no derivative of which is too heavy; its stages are those of the polynomial, and its orders are all orders of its sites
+-- its polynomial is one over its variables, no derivative of which is too heavy; its stages are those of the polynomial, and its
+-- orders are all orders of its sites
 pub record IsCase (c : Case) : Type 0 where
   pub form : IsPoly c.poly
   pub below : AreBelow (length c.shape.vars) c.poly
@@ -52,7 +54,8 @@ IsSpot n d (Ordering w) = (d.at ≡ AtOrder) × (d.exps ≡ exps_of w.blocks) ×
 
 abbrev pub IsHere : List Subject → Desk → Place → Type 0
 IsHere ps d (Outside parts) = (d.at ≡ Away) × (d.parts ≡ length parts)
-IsHere ps d (Within parts s) = (d.parts ≡ length parts) × (p : Subject) × (slice_get ps (length parts) ≡ Some p) × IsSpot (length p.vars) d s
+IsHere ps d (Within parts s) = (d.parts ≡ length parts) × (p : Subject) × (slice_get ps (length parts) ≡ Some p)
+    × IsSpot (length p.vars) d s
 
 -- ---- what a line does
 -- it leads to a spot that the desk stands for, or nowhere

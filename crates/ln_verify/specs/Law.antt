@@ -34,7 +34,8 @@ Version1IsOnBounds = (vars : List VarInfo) (lines : List (Line ℕ)) → IsOnBou
 
 -- the lines of blocks and filters in version 2 follow the rules by which programs are kept
 abbrev pub Version2IsOfPrograms : Type 0
-Version2IsOfPrograms = (vars : List VarInfo) → (block_rules version_2 vars ≡ rules vars deepest) × (triple_rules version_2 vars ≡ filter_rules vars deepest)
+Version2IsOfPrograms = (vars : List VarInfo) → (block_rules version_2 vars ≡ rules vars deepest)
+    × (triple_rules version_2 vars ≡ filter_rules vars deepest)
 
 -- the same is known of a value, with a running size that is no larger
 pub record IsNoLarger (x y : Known) : Type 0 where
@@ -51,5 +52,9 @@ pub record IsNoLargerCut (x y : FilterKnown) : Type 0 where
 
 -- what follows the rules of version 1 follows those of version 2
 pub record Version1Follows : Type 0 where
-  pub block : (vars : List VarInfo) (lines : List (Line Range)) (x : Known) → answer (block_rules version_1 vars) no_locals lines ≡ Some x → (y : Known) × (answer (block_rules version_2 vars) no_locals lines ≡ Some y) × IsNoLarger x y
-  pub filter : (vars : List VarInfo) (lines : List (Line Triple)) (x : FilterKnown) → answer (triple_rules version_1 vars) no_locals lines ≡ Some x → (y : FilterKnown) × (answer (triple_rules version_2 vars) no_locals lines ≡ Some y) × IsNoLargerCut x y
+  pub block : (vars : List VarInfo) (lines : List (Line Range)) (x : Known) →
+      answer (block_rules version_1 vars) no_locals lines ≡ Some x →
+      (y : Known) × (answer (block_rules version_2 vars) no_locals lines ≡ Some y) × IsNoLarger x y
+  pub filter : (vars : List VarInfo) (lines : List (Line Triple)) (x : FilterKnown) →
+      answer (triple_rules version_1 vars) no_locals lines ≡ Some x →
+      (y : FilterKnown) × (answer (triple_rules version_2 vars) no_locals lines ≡ Some y) × IsNoLargerCut x y

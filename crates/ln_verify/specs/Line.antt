@@ -1,5 +1,7 @@
--- The rule of each line of a listing, at each place. A place is what has been read so far; a rule says to which place the line leads. Where it leads nowhere, the line fails.
-use Rattle.std.specs.Prelude.{◌≡◌, ℕ, ◌<◌, ◌≤◌, Bool, true, false, All, List, [], ◌∷◌, ◌++◌, length, map, slice_get, slice_index_or, Option, Some, None}
+-- The rule of each line of a listing, at each place. A place is what has been read so far; a rule says to which place the line
+-- leads. Where it leads nowhere, the line fails.
+use Rattle.std.specs.Prelude.{◌≡◌, ℕ, ◌<◌, ◌≤◌, Bool, true, false, All, List, [], ◌∷◌, ◌++◌}
+use Rattle.std.specs.Prelude.{length, map, slice_get, slice_index_or, Option, Some, None}
 use Rattle.ln_algebra.specs.Terms.{IsNormalOf, derived}
 use Rattle.ln_algebra.specs.Tree.{Tree}
 use Rattle.ln_interval.specs.Range.{Range}
@@ -21,7 +23,8 @@ use Rattle.ln_code.specs.Rules.{Known}
 use Rattle.ln_due.specs.Small.{IsSmall}
 use Rattle.ln_verify.specs.BlockRules.{Version, balanced, block_rules, triple_rules}
 use Rattle.ln_cert.specs.declared.part.Part.{Part}
-use Rattle.ln_cert.specs.declared.part.Part.TheVariants.{Predicate, NoFilter, Filter, FilterOp, Decide, Block, BlockOp, RangeOp, End, Order, Done}
+use Rattle.ln_cert.specs.declared.part.Part.TheVariants.{Predicate, NoFilter, Filter, FilterOp, Decide}
+use Rattle.ln_cert.specs.declared.part.Part.TheVariants.{Block, BlockOp, RangeOp, End, Order, Done}
 
 -- a predicate of the source, as the judge sees it: its name, its sites, its variables and its normal polynomial
 pub record Subject : Type 0 where
@@ -42,7 +45,8 @@ pub record Written : Type 0 where
   pub blocks : List Piece
   pub lists : List (List ℕ)
 
--- within the part of a predicate: behind its name; in the filter, behind these lines; behind the filter and these blocks; in a block with these exponents, behind these lines; behind the lists of some orders
+-- within the part of a predicate: behind its name; in the filter, behind these lines; behind the filter and these blocks; in a
+-- block with these exponents, behind these lines; behind the lists of some orders
 pub data Spot : Type 0 where
   Named : Spot
   InFilter : List (Line Triple) → State FilterKnown (ℕ → Option FilterKnown) → Spot
@@ -67,7 +71,8 @@ PushedSmall tree n false [] = Unit {0}
 PushedSmall tree n false (x ∷ stack) = IsSmall n (tree x)
 
 -- a line of a block or a filter leads from one state to another
-abbrev pub Leads : {B K : Type 0} → (K → Tree) → ℕ → Engine B K (ℕ → Option K) → Op → B → State K (ℕ → Option K) → State K (ℕ → Option K) → Type 0
+abbrev pub Leads : {B K : Type 0} → (K → Tree) → ℕ → Engine B K (ℕ → Option K) → Op → B → State K (ℕ → Option K) →
+    State K (ℕ → Option K) → Type 0
 Leads tree n e op b s t = (step e op b s.locals s.stack ≡ Some t) × PushedSmall tree n (stores op) t.stack
 
 abbrev pub tree_of : Known → Tree
@@ -78,12 +83,15 @@ filter_tree_of x = x.tree
 
 -- ---- the rules
 -- of a line of a block: the one bound of version 1 stands for the pair from -B to B
-abbrev pub BlockLine : Version → Subject → Option (List (Line Triple)) → List Piece → Pairs → List (Line Range) → State Known (ℕ → Option Known) → Op → Range → Spot → Type 0
+abbrev pub BlockLine : Version → Subject → Option (List (Line Triple)) → List Piece → Pairs → List (Line Range) →
+    State Known (ℕ → Option Known) → Op → Range → Spot → Type 0
 BlockLine v p f bs a lines s op b q =
-    (t : State Known (ℕ → Option Known)) × Leads tree_of (length p.vars) (block_rules v p.vars) op b s t × (q ≡ InBlock f bs a (lines ++ record { op = op; bound = b } ∷ []) t)
+    (t : State Known (ℕ → Option Known)) × Leads tree_of (length p.vars) (block_rules v p.vars) op b s t
+    × (q ≡ InBlock f bs a (lines ++ record { op = op; bound = b } ∷ []) t)
 
 -- `end`: one value is on the stack, and its polynomial is the scaled derivative of f by the block's exponents
-pub record EndLine (p : Subject) (f : Option (List (Line Triple))) (bs : List Piece) (a : Pairs) (lines : List (Line Range)) (s : State Known (ℕ → Option Known)) (q : Spot) : Type 0 where
+pub record EndLine (p : Subject) (f : Option (List (Line Triple))) (bs : List Piece) (a : Pairs) (lines : List (Line Range))
+    (s : State Known (ℕ → Option Known)) (q : Spot) : Type 0 where
   pub left : Known
   pub one : s.stack ≡ left ∷ []
   pub derivative : IsNormalOf (length p.vars) left.tree (derived (vector (length p.vars) a) (terms_of (length p.vars) p.poly))
@@ -112,7 +120,8 @@ exps_of bs = map (λ b. b.exps) bs
 abbrev pub named : ℕ → List Pairs → List ℕ → List (List ℕ)
 named n exps list = map (λ k. vector n (slice_index_or exps k [])) list
 
--- behind so many lists, the places are the next order of all, the numbers are those of blocks, and the exponents of these are the stage list of the order
+-- behind so many lists, the places are the next order of all, the numbers are those of blocks, and the exponents of these are the
+-- stage list of the order
 pub record IsNextList (p : Subject) (exps : List Pairs) (before : ℕ) (places list : List ℕ) : Type 0 where
   pub order : slice_get (orders_of p.sites) before ≡ Some places
   pub within : All (λ k. k < length exps) list
@@ -129,7 +138,8 @@ LineRule v p Named NoFilter q = q ≡ Between None []
 LineRule v p Named Filter q = q ≡ InFilter [] fresh
 LineRule v p Named _ q = ⊥
 LineRule v p (InFilter lines s) (FilterOp op a) q =
-    (t : State FilterKnown (ℕ → Option FilterKnown)) × Leads filter_tree_of (length p.vars) (triple_rules v p.vars) op a s t × (q ≡ InFilter (lines ++ record { op = op; bound = a } ∷ []) t)
+    (t : State FilterKnown (ℕ → Option FilterKnown)) × Leads filter_tree_of (length p.vars) (triple_rules v p.vars) op a s t
+    × (q ≡ InFilter (lines ++ record { op = op; bound = a } ∷ []) t)
 LineRule v p (InFilter lines s) Decide q = DecideLine p lines s q
 LineRule v p (InFilter lines s) _ q = ⊥
 LineRule v p (Between f bs) (Block k a) q = BlockHead p f bs k a q

@@ -50,7 +50,8 @@ pub record ListStands (p : Subject) (bs : List Piece) (places list : List ℕ) :
 
 -- the lists of the first orders
 abbrev pub ListsStand : Subject → List Piece → List (List ℕ) → Type 0
-ListsStand p bs lists = Everywhere (λ k list. (places : List ℕ) → slice_get (orders_of p.sites) k ≡ Some places → ListStands p bs places list) lists
+ListsStand p bs lists = Everywhere (λ k list. (places : List ℕ) → slice_get (orders_of p.sites) k ≡ Some places →
+    ListStands p bs places list) lists
 
 -- the part of a predicate
 pub record PartStands (v : Version) (p : Subject) (w : Written) : Type 0 where

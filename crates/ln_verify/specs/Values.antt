@@ -46,7 +46,8 @@ pub record IsState {X K : Type 0} (R : X → K → Type 0) (xs : List X) (ls : L
   pub locals : (j : ℕ) → j < 256 → IsLocal R (get_or ls j None) (s.locals j)
 
 -- the operation leads to a state that the stack and the locals are for, or nowhere
-abbrev pub Came : {B X K : Type 0} → (X → K → Type 0) → (K → Tree) → ℕ → Engine B K (ℕ → Option K) → State K (ℕ → Option K) → Op → B → Bool → List X → List (Option X) → Type 0
+abbrev pub Came : {B X K : Type 0} → (X → K → Type 0) → (K → Tree) → ℕ → Engine B K (ℕ → Option K) → State K (ℕ → Option K) → Op →
+    B → Bool → List X → List (Option X) → Type 0
 Came {K = K} R tree n e s op b true xs ls = (t : State K (ℕ → Option K)) × Leads tree n e op b s t × IsState R xs ls t
 Came {K = K} R tree n e s op b false xs ls = (t : State K (ℕ → Option K)) → Leads tree n e op b s t → ⊥
 

@@ -35,15 +35,18 @@ pub record IsValidFor (ps : List PredOf) (l : Listed) : Type 0 where
   pub those : AreSubjectsOf ps subjects
   pub valid : IsValid (rules_of l.version) subjects (parts_of l.entries)
 
--- the first line of the listing whose rule fails; at the end of the file, where some predicate hasn't its part, it is one more than there are lines
+-- the first line of the listing whose rule fails; at the end of the file, where some predicate hasn't its part, it is one more
+-- than there are lines
 pub record IsFaultFor (ps : List PredOf) (l : Listed) (line : ℕ) : Type 0 where
   pub subjects : List Subject
   pub those : AreSubjectsOf ps subjects
   pub fault : IsFirstFault (rules_of l.version) subjects (parts_of l.entries) line
 
 -- ---- the promise
--- a listing that is valid for accepted predicates, whoever made it, has a part of each, and on each row in range the machine of the part has a verdict, whose sign is the perturbed sign of the predicate
+-- a listing that is valid for accepted predicates, whoever made it, has a part of each, and on each row in range the machine of
+-- the part has a verdict, whose sign is the perturbed sign of the predicate
 abbrev pub ValidListingsGiveSigns : Type 0
 ValidListingsGiveSigns =
-    (ps : List Pred) (l : Listed) → AreAccepted (map pred_of ps) → (h : IsValidFor (map pred_of ps) l) (k : ℕ) (p : Pred) (row : Row) → slice_get ps k ≡ Some p → InRange p.shape.sites p.shape.vars row →
+    (ps : List Pred) (l : Listed) → AreAccepted (map pred_of ps) → (h : IsValidFor (map pred_of ps) l) (k : ℕ) (p : Pred)
+    (row : Row) → slice_get ps k ≡ Some p → InRange p.shape.sites p.shape.vars row →
     (w : Written) × (slice_get h.valid.parts k ≡ Some w) × GivesSign p.shape (root_of (pred_of p)) w row

@@ -37,11 +37,13 @@ IsTray n b s = IsState (IsCut n) b.stack.items b.locals.items s
 -- an operation leads each state that the old ones are for to one that the new ones are for, or nowhere
 abbrev pub BenchLed : Version → List VarInfo → Bench → Op → Range → Bool → Bench → Type 0
 BenchLed v vars old op p ok new =
-    (s : State Known (ℕ → Option Known)) → IsBench (length vars) old s → Came (IsFor (length vars)) tree_of (length vars) (block_rules v vars) s op p ok new.stack.items new.locals.items
+    (s : State Known (ℕ → Option Known)) → IsBench (length vars) old s → Came (IsFor (length vars)) tree_of (length vars)
+    (block_rules v vars) s op p ok new.stack.items new.locals.items
 
 abbrev pub TrayLed : Version → List VarInfo → Tray → Op → Triple → Bool → Tray → Type 0
 TrayLed v vars old op a ok new =
-    (s : State FilterKnown (ℕ → Option FilterKnown)) → IsTray (length vars) old s → Came (IsCut (length vars)) filter_tree_of (length vars) (triple_rules v vars) s op a ok new.stack.items new.locals.items
+    (s : State FilterKnown (ℕ → Option FilterKnown)) → IsTray (length vars) old s →
+    Came (IsCut (length vars)) filter_tree_of (length vars) (triple_rules v vars) s op a ok new.stack.items new.locals.items
 
 -- the two ends aren't those of a pair that fits 128 bits
 abbrev pub FitsNot : Range → Type 0

@@ -41,7 +41,8 @@ pub fn is_derivative(alloc: Global, case: &Case, a: &Exps, g: &Poly) -> Result<b
 /// Is the polynomial the predicate's?
 pub fn is_whole(case: &Case, g: &Poly) -> bool
     requires { IsCase case.now }
-    ensures { (t : Tree) → IsNormal (length case.now.shape.vars) t g.now → IsTrue result ↔ IsNormalOf (length case.now.shape.vars) t (terms_of (length case.now.shape.vars) case.now.poly) }
+    ensures { (t : Tree) → IsNormal (length case.now.shape.vars) t g.now →
+        IsTrue result ↔ IsNormalOf (length case.now.shape.vars) t (terms_of (length case.now.shape.vars) case.now.poly) }
 {
     g.same(&case.poly)
 }
