@@ -182,7 +182,7 @@ fn fit(alloc: Global, e: &Expr, vars: &[VarInfo], lets: &[Fitted]) -> Result<Fit
 }
 
 // The trees of the lets, each behind those before it.
-#[tactic(auto, using(crate::proofs::ExactLaws::lets_start, crate::proofs::ExactLaws::next_fit, crate::proofs::ExactLaws::next_range))]
+#[tactic(auto, using(crate::proofs::Soundness::ExactLaws::lets_start, crate::proofs::Soundness::ExactLaws::next_fit, crate::proofs::Soundness::ExactLaws::next_range))]
 fn fit_lets(alloc: Global, lets: &[Expr], vars: &[VarInfo]) -> Result<Seq<Fitted>, NoMemory>
     requires few { length vars.now ≤ 168 }
     requires ordered { (k : ℕ) → IsOrdered (ranges vars.now k) }

@@ -259,7 +259,7 @@ fn put_two(
 }
 
 // The measure of a formula behind lets of these measures; the measures of its nodes come behind the others.
-#[tactic(auto, using(crate::proofs::Weighing::stop_alone, crate::proofs::Weighing::stop_before, crate::proofs::Weighing::stop_behind, crate::proofs::Weighing::stop_here, crate::proofs::Weighing::light_both, crate::proofs::Weighing::light_behind))]
+#[tactic(auto, using(crate::proofs::Measures::Weighing::stop_alone, crate::proofs::Measures::Weighing::stop_before, crate::proofs::Measures::Weighing::stop_behind, crate::proofs::Measures::Weighing::stop_here, crate::proofs::Measures::Weighing::light_both, crate::proofs::Measures::Weighing::light_behind))]
 fn weigh_in(
     e: &Expr,
     vars: &[VarInfo],
@@ -327,7 +327,7 @@ fn weigh_next(
 }
 
 // The measures of the lets; those of their nodes come behind the others.
-#[tactic(auto, using(crate::proofs::Measuring::lets_begin, crate::proofs::Measuring::lets_more, crate::proofs::Measuring::lets_stop))]
+#[tactic(auto, using(crate::proofs::Measures::Measuring::lets_begin, crate::proofs::Measures::Measuring::lets_more, crate::proofs::Measures::Measuring::lets_stop))]
 fn weigh_lets(
     alloc: Global,
     lets: &[Expr],
@@ -351,7 +351,7 @@ fn weigh_lets(
 
 /// The ranges and sizes of a predicate's nodes, or the first node in order of evaluation that has an end of its range, or
 /// its size, past `2^127 - 1` in absolute value.
-#[tactic(auto, using(crate::proofs::Weighing::stop_before, crate::proofs::Weighing::stop_behind, crate::proofs::Weighing::light_both))]
+#[tactic(auto, using(crate::proofs::Measures::Weighing::stop_before, crate::proofs::Measures::Weighing::stop_behind, crate::proofs::Measures::Weighing::light_both))]
 pub fn weigh(alloc: Global, p: &Pred) -> Result<Weights, BoundStop>
     ensures ok { IfOk result (λ w. w ≡ node_measures (measured_pred p.now.shape.vars (map formula p.now.lets) (formula p.now.root))) }
     ensures light { OnOk result (AreLight (loaded_pred p.now.shape.vars (map formula p.now.lets) (formula p.now.root))) }

@@ -1,23 +1,5 @@
 -- What the laws and the code cite.
-pub mod Names
-pub mod Numbers
-pub mod Constants
-pub mod Blocks
-pub mod Follows
-pub mod Filters
-pub mod Means
-pub mod Shapes
-pub mod Keeping
-pub mod Named
-pub mod Sample
-pub mod Parts
-pub mod LocalCells
-pub mod Orders
-pub mod Finds
-pub mod Files
-pub mod Steps
-pub mod Titles
-pub mod Agrees
-pub mod Kept
-pub mod Says
-pub mod Loops
+pub mod Conditions
+pub mod Meanings
+pub mod Writing
+pub mod Choices

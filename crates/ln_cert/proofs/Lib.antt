@@ -1,19 +1,4 @@
 -- The lemma files of this folder.
-pub mod Numbers
-pub mod Halves
-pub mod Parting
-pub mod Lists
-pub mod FirstWords
-pub mod Plain
-pub mod OneLine
-pub mod OrderLines
-pub mod Putting
-pub mod Walk
-pub mod Certificates
-pub mod Fault
-pub mod Whole
-pub mod OneFault
-pub mod Rules
-pub mod Wrote
-pub mod Forms
-pub mod Programmed
+pub mod Texts
+pub mod Reading
+pub mod Writing

@@ -1,5 +1,5 @@
 -- Which line may stand where, and what its words say: for the reader, which goes line by line. That this is the grammar is the
--- matter of proofs/Walk.
+-- matter of proofs/Reading/Walk.
 use Rattle.std.specs.Prelude.{◌≡◌, ℕ, ◌==◌, not, Bool, true, false, if◌then◌else◌, List, []}
 use Rattle.std.specs.Prelude.{◌∷◌, ◌++◌, Option, Some, None, option_map, bytes_eq, codes}
 use Rattle.ln_bound.specs.declared.fitted.Width.TheVariants.{W64, W128}

@@ -22,7 +22,7 @@ use ln_tree::Pred;
 use std::alloc::Global;
 
 // Tests the ranges and sizes of the nodes of predicate number k.
-#[tactic(auto, using(crate::proofs::Judging::bound_stops))]
+#[tactic(auto, using(crate::proofs::Refusing::Judging::bound_stops))]
 pub(crate) fn measured(alloc: Global, k: u8, p: &Pred) -> Result<(), Refusal>
     ensures light { OnOk result (AreLight (loaded_of (pred_of p.now))) }
     ensures err { IfErr result (λ r. StopsPred k (pred_of p.now) r) }
@@ -35,7 +35,7 @@ pub(crate) fn measured(alloc: Global, k: u8, p: &Pred) -> Result<(), Refusal>
 }
 
 // The normal polynomial of predicate number k.
-#[tactic(auto, using(crate::proofs::Judging::terms_stops))]
+#[tactic(auto, using(crate::proofs::Refusing::Judging::terms_stops))]
 pub(crate) fn expanded(alloc: Global, k: u8, p: &Pred) -> Result<Poly, Refusal>
     requires light { AreLight (loaded_of (pred_of p.now)) }
     ensures few { OnOk result (HaveFewTerms (length p.now.shape.vars) (expanded_of (pred_of p.now))) }

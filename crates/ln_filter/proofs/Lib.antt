@@ -1,11 +1,2 @@
-pub mod Bits
-pub mod Steady
-pub mod Stands
-pub mod Powers
-pub mod Lands
-pub mod Leaves
-pub mod Lets
-pub mod Pushing
-pub mod Costs
-pub mod Writes
-pub mod Sealed
+pub mod Truncation
+pub mod Operations

@@ -1,10 +1,2 @@
-pub mod Bounding
-pub mod PushLaws
-pub mod Lands
-pub mod Numbering
-pub mod Keeping
-pub mod Sharing
-pub mod Lets
-pub mod Writes
-pub mod Costs
-pub mod Sealed
+pub mod Subtrees
+pub mod Operations

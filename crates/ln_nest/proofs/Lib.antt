@@ -1,12 +1,2 @@
-pub mod Parts
-pub mod Scaled
-pub mod Same
-pub mod Bounds
-pub mod Costs
-pub mod Leans
-pub mod Vectors
-pub mod Steps
-pub mod Whole
-pub mod Doubled
-pub mod Shortest
-pub mod Nests
+pub mod Terms
+pub mod Forms

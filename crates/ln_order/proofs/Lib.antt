@@ -1,12 +1,2 @@
-pub mod FoundLemmas
-pub mod FrontLemmas
-pub mod OrderExists
-pub mod OrderLemmas
-pub mod OrderUnique
-pub mod OrdersLemmas
-pub mod PrefixLemmas
-pub mod RankLemmas
-pub mod RankingLemmas
-pub mod RowSigns
-pub mod RowsLemmas
-pub mod SitesLemmas
+pub mod Listing
+pub mod Signs

@@ -1,9 +1,2 @@
-pub mod FirstLemmas
-pub mod ScanLemmas
-pub mod PlainLemmas
-pub mod RowLemmas
-pub mod PlainRowLemmas
-pub mod RangeLemmas
-pub mod ExactLemmas
-pub mod NameLemmas
-pub mod RowsLemmas
+pub mod Records
+pub mod Fields

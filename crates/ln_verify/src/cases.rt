@@ -18,7 +18,7 @@ use ln_tree::{Pred, Shape};
 use std::alloc::Global;
 
 // The normal polynomial of a predicate no node of which has too many terms.
-#[tactic(auto, using(crate::proofs::CaseLemmas::few_terms))]
+#[tactic(auto, using(crate::proofs::Polynomials::CaseLemmas::few_terms))]
 fn expanded(alloc: Global, p: &Pred) -> Result<Poly, NoMemory>
     requires light { AreLight (loaded_of (pred_of p.now)) }
     requires few { HaveFewTerms (length p.now.shape.vars) (expanded_of (pred_of p.now)) }
@@ -33,7 +33,7 @@ fn expanded(alloc: Global, p: &Pred) -> Result<Poly, NoMemory>
 }
 
 // The stages of a polynomial that isn't 0 and hasn't too many.
-#[tactic(auto, using(crate::proofs::CaseLemmas::few_stages))]
+#[tactic(auto, using(crate::proofs::Polynomials::CaseLemmas::few_stages))]
 fn staged(alloc: Global, f: &Poly, s: &Shape) -> Result<Stages, NoMemory>
     requires some { f.now ≡ [] → ⊥ }
     requires below { AreBelow (length s.now.vars) f.now }

@@ -1,5 +1,5 @@
-use Rattle.ln_algebra.proofs.Cut.{of_sites, within}
-use Rattle.ln_algebra.proofs.Derived.{derivative-coefficient}
+use Rattle.ln_algebra.proofs.Walking.Cut.{of_sites, within}
+use Rattle.ln_algebra.proofs.Deriving.Derived.{derivative-coefficient}
 use Rattle.ln_algebra.proofs.derivatives.derivatives_on_rows.Goals as goal
 
 pub returns : goal.returns

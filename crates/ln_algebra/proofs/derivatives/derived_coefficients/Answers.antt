@@ -1,4 +1,4 @@
-use Rattle.ln_algebra.proofs.Covering.{factor_at-derived}
+use Rattle.ln_algebra.proofs.Vectors.Covering.{factor_at-derived}
 use Rattle.ln_algebra.proofs.derivatives.derived_coefficients.Goals as goal
 
 pub returns : goal.returns

@@ -1,5 +1,5 @@
-use Rattle.ln_algebra.proofs.Leibniz.{product-rule-coefficients}
-use Rattle.ln_algebra.proofs.Product.{product-rule}
+use Rattle.ln_algebra.proofs.Deriving.Leibniz.{product-rule-coefficients}
+use Rattle.ln_algebra.proofs.Expanded.Product.{product-rule}
 use Rattle.ln_algebra.proofs.derivatives.product_rule.Goals as goal
 
 pub returns-clause-coefficients : goal.returns-clause-coefficients

@@ -1,5 +1,5 @@
-use Rattle.ln_algebra.proofs.Order.{earlier-total, earlier-transitive}
-use Rattle.ln_algebra.proofs.Admissible.{earlier-plus, zeros-earliest}
+use Rattle.ln_algebra.proofs.Ordering.Order.{earlier-total, earlier-transitive}
+use Rattle.ln_algebra.proofs.Ordering.Admissible.{earlier-plus, zeros-earliest}
 use Rattle.ln_algebra.proofs.infinitesimals.earlier_is_an_order.Goals as goal
 
 pub returns-clause-transitive : goal.returns-clause-transitive

@@ -1,4 +1,4 @@
-use Rattle.ln_algebra.proofs.Unique.{first-unique, sign-unique}
+use Rattle.ln_algebra.proofs.Ordering.Unique.{first-unique, sign-unique}
 use Rattle.ln_algebra.proofs.infinitesimals.first_is_unique.Goals as goal
 
 pub returns-clause-vector : goal.returns-clause-vector

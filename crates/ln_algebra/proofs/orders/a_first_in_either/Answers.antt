@@ -1,5 +1,5 @@
-use Rattle.ln_algebra.proofs.Admissible.{both-admissible}
-use Rattle.ln_algebra.proofs.First.{all-first-in, nonzero-first-in}
+use Rattle.ln_algebra.proofs.Ordering.Admissible.{both-admissible}
+use Rattle.ln_algebra.proofs.Ordering.First.{all-first-in, nonzero-first-in}
 use Rattle.ln_algebra.specs.Orders.{Before}
 use Rattle.ln_algebra.proofs.orders.a_first_in_either.Goals as goal
 

@@ -1,4 +1,4 @@
-use Rattle.ln_algebra.proofs.Admissible.{both-admissible, cancels}
+use Rattle.ln_algebra.proofs.Ordering.Admissible.{both-admissible, cancels}
 use Rattle.ln_algebra.specs.Orders.{Before}
 use Rattle.ln_algebra.proofs.orders.both_are_admissible.Goals as goal
 

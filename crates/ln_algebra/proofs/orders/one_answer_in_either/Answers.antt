@@ -1,5 +1,5 @@
-use Rattle.ln_algebra.proofs.Admissible.{both-admissible}
-use Rattle.ln_algebra.proofs.Unique.{first-unique-in, sign-unique-in, stage_list-unique-in}
+use Rattle.ln_algebra.proofs.Ordering.Admissible.{both-admissible}
+use Rattle.ln_algebra.proofs.Ordering.Unique.{first-unique-in, sign-unique-in, stage_list-unique-in}
 use Rattle.ln_algebra.specs.Orders.{Before}
 use Rattle.ln_algebra.proofs.orders.one_answer_in_either.Goals as goal
 

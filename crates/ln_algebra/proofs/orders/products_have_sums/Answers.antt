@@ -1,5 +1,5 @@
-use Rattle.ln_algebra.proofs.Admissible.{both-admissible}
-use Rattle.ln_algebra.proofs.Products.{product-first, product-first-sum, product-lacks, product-sign, zero-products}
+use Rattle.ln_algebra.proofs.Ordering.Admissible.{both-admissible}
+use Rattle.ln_algebra.proofs.Ordering.Products.{product-first, product-first-sum, product-lacks, product-sign, zero-products}
 use Rattle.ln_algebra.specs.Orders.{Before}
 use Rattle.ln_algebra.proofs.orders.products_have_sums.Goals as goal
 

@@ -1,6 +1,6 @@
-use Rattle.ln_algebra.proofs.Admissible.{both-admissible}
-use Rattle.ln_algebra.proofs.Along.{sign-along-in}
-use Rattle.ln_algebra.proofs.Cut.{first-stage-in, stage-first-in}
+use Rattle.ln_algebra.proofs.Ordering.Admissible.{both-admissible}
+use Rattle.ln_algebra.proofs.Walking.Along.{sign-along-in}
+use Rattle.ln_algebra.proofs.Walking.Cut.{first-stage-in, stage-first-in}
 use Rattle.ln_algebra.specs.Orders.{Before}
 use Rattle.ln_algebra.proofs.orders.the_cut_in_either.Goals as goal
 

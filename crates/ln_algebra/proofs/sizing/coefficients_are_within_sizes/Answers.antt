@@ -1,4 +1,4 @@
-use Rattle.ln_algebra.proofs.Sizes.{running_size, sum_running, sum_size}
+use Rattle.ln_algebra.proofs.Bounding.Sizes.{running_size, sum_running, sum_size}
 use Rattle.ln_algebra.proofs.sizing.coefficients_are_within_sizes.Goals as goal
 
 pub returns-clause-running : goal.returns-clause-running

@@ -1,5 +1,5 @@
-use Rattle.ln_algebra.proofs.Cut.{first-stage, perturbed-last, perturbed-uncovered, stage-first}
-use Rattle.ln_algebra.proofs.Along.{sign-along}
+use Rattle.ln_algebra.proofs.Walking.Cut.{first-stage, perturbed-last, perturbed-uncovered, stage-first}
+use Rattle.ln_algebra.proofs.Walking.Along.{sign-along}
 use Rattle.std.proofs.Common.{sym, ◌∙◌}
 use Rattle.ln_algebra.proofs.staging.cut_loses_nothing.Goals as goal
 

@@ -1,4 +1,4 @@
-use Rattle.ln_algebra.proofs.First.{all-first, nonzero-first}
+use Rattle.ln_algebra.proofs.Ordering.First.{all-first, nonzero-first}
 use Rattle.ln_algebra.proofs.staging.there_is_a_first.Goals as goal
 
 pub returns-clause-nonzero : goal.returns-clause-nonzero

@@ -1,5 +1,5 @@
-use Rattle.ln_algebra.proofs.Bounds.{weighted-derived}
-use Rattle.ln_algebra.proofs.Whole.{weighted-covered}
+use Rattle.ln_algebra.proofs.Bounding.Bounds.{weighted-derived}
+use Rattle.ln_algebra.proofs.Bounding.Whole.{weighted-covered}
 use Rattle.ln_algebra.proofs.weighing.derivatives_weigh_the_whole.Goals as goal
 
 pub returns-clause-sum : goal.returns-clause-sum

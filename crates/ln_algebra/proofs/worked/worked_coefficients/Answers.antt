@@ -1,4 +1,4 @@
-use Rattle.ln_algebra.proofs.WorkedValues.{coefficient_of_py, six_terms_are_normal}
+use Rattle.ln_algebra.proofs.Examples.WorkedValues.{coefficient_of_py, six_terms_are_normal}
 use Rattle.ln_algebra.proofs.worked.worked_coefficients.Goals as goal
 
 pub returns-clause-of_py : goal.returns-clause-of_py

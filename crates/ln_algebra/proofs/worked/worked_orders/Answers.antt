@@ -1,4 +1,4 @@
-use Rattle.ln_algebra.proofs.WorkedValues.{indices_decide, last_coordinate_is_largest, smallest_infinitesimal_decides}
+use Rattle.ln_algebra.proofs.Examples.WorkedValues.{indices_decide, last_coordinate_is_largest, smallest_infinitesimal_decides}
 use Rattle.ln_algebra.proofs.worked.worked_orders.Goals as goal
 
 pub returns-clause-last_coordinate : goal.returns-clause-last_coordinate

@@ -1,4 +1,4 @@
-use Rattle.ln_algebra.proofs.WorkedValues.{sign_past_a_param, signs_of_orientation, signs_of_squares, signs_with_a_param}
+use Rattle.ln_algebra.proofs.Examples.WorkedValues.{sign_past_a_param, signs_of_orientation, signs_of_squares, signs_with_a_param}
 use Rattle.ln_algebra.proofs.worked.worked_signs.Goals as goal
 
 pub returns-clause-squares : goal.returns-clause-squares

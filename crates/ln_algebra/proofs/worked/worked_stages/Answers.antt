@@ -1,4 +1,4 @@
-use Rattle.ln_algebra.proofs.WorkedValues.{stages_of_orientation, stages_of_squares, stages_past_a_param}
+use Rattle.ln_algebra.proofs.Examples.WorkedValues.{stages_of_orientation, stages_of_squares, stages_past_a_param}
 use Rattle.ln_algebra.proofs.worked.worked_stages.Goals as goal
 
 pub returns-clause-squares : goal.returns-clause-squares

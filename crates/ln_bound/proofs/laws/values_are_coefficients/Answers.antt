@@ -1,5 +1,5 @@
-use Rattle.ln_bound.proofs.Plain.{plain}
-use Rattle.ln_bound.proofs.Values.{value-inlined}
+use Rattle.ln_bound.proofs.Trees.Plain.{plain}
+use Rattle.ln_bound.proofs.Trees.Values.{value-inlined}
 use Rattle.ln_bound.proofs.laws.values_are_coefficients.Goals as goal
 
 pub returns-clause-plain : goal.returns-clause-plain

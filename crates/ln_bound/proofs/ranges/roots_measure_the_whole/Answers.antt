@@ -1,4 +1,4 @@
-use Rattle.ln_bound.proofs.Whole.{last_measure, whole_range, whole_value, whole_weight}
+use Rattle.ln_bound.proofs.Trees.Whole.{last_measure, whole_range, whole_value, whole_weight}
 use Rattle.ln_bound.proofs.ranges.roots_measure_the_whole.Goals as goal
 
 pub returns-clause-value : goal.returns-clause-value

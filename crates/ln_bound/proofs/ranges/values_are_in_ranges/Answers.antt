@@ -1,5 +1,5 @@
-use Rattle.ln_bound.proofs.RangeLaws.{in_ranges, range-inlined, row_lets, row_tree}
-use Rattle.ln_bound.proofs.RoomLaws.{pred_fits}
+use Rattle.ln_bound.proofs.Soundness.RangeLaws.{in_ranges, range-inlined, row_lets, row_tree}
+use Rattle.ln_bound.proofs.Measures.RoomLaws.{pred_fits}
 use Rattle.ln_bound.proofs.ranges.values_are_in_ranges.Goals as goal
 
 pub returns-clause-lets : goal.returns-clause-lets

@@ -5,7 +5,7 @@ use Rattle.ln_bound.specs.declared.fitted.Two.TheVariants.{Plus, Minus, Times}
 use Rattle.ln_bound.specs.Typed.{pair}
 use Rattle.ln_bound.specs.View.{typed}
 use Rattle.ln_bound.specs.Ranges.{HaveRange}
-use Rattle.ln_bound.proofs.ExactLaws.{two_range, power_range}
+use Rattle.ln_bound.proofs.Soundness.ExactLaws.{two_range, power_range}
 use Rattle.ln_bound.proofs.size.+fit.Goals as goal
 
 pub two-requires : goal.two-requires

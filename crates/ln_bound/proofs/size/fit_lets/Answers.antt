@@ -1,5 +1,5 @@
 use Rattle.std.proofs.Common.{arith}
-use Rattle.ln_bound.proofs.LetSteps.{lets_step, lets_finish}
+use Rattle.ln_bound.proofs.Measures.LetSteps.{lets_step, lets_finish}
 use Rattle.ln_bound.proofs.size.fit_lets.Goals as goal
 
 pub each-preserved : goal.each-preserved

@@ -1,7 +1,7 @@
 use Rattle.std.proofs.Common.{map, drop}
 use Rattle.ln_tree.specs.Formula.{tree_of}
 use Rattle.ln_bound.specs.View.{typed}
-use Rattle.ln_bound.proofs.ExactLaws.{LetsSoFar}
+use Rattle.ln_bound.proofs.Soundness.ExactLaws.{LetsSoFar}
 use Rattle.ln_bound.proofs.size.fit_lets.Given as goal
 
 abbrev pub invariant-each : goal.invariant-each

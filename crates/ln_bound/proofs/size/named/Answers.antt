@@ -1,4 +1,4 @@
-use Rattle.ln_bound.proofs.Views.{named_exact}
+use Rattle.ln_bound.proofs.Trees.Views.{named_exact}
 use Rattle.ln_bound.proofs.size.named.Goals as goal
 
 pub returns-clause-exact : goal.returns-clause-exact

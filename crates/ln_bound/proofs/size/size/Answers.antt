@@ -2,8 +2,8 @@ use Rattle.std.proofs.Common.{length, map, ap, refl}
 use Rattle.ln_tree.specs.declared.shape.Shape.{Shape}
 use Rattle.ln_tree.proofs.KeptLemmas.{few_vars}
 use Rattle.ln_bound.specs.View.{typed}
-use Rattle.ln_bound.proofs.Measuring.{ordered}
-use Rattle.ln_bound.proofs.KeptLaws.{kept_of, light_kept, room_of, root_fit, root_range}
+use Rattle.ln_bound.proofs.Measures.Measuring.{ordered}
+use Rattle.ln_bound.proofs.Soundness.KeptLaws.{kept_of, light_kept, room_of, root_fit, root_range}
 use Rattle.ln_bound.proofs.size.size.Goals as goal
 
 pub fit_lets-requires-clause-few : goal.fit_lets-requires-clause-few

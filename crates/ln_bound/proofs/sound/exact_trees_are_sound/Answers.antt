@@ -1,5 +1,5 @@
 -- What the search leaves open in `exact_trees_are_sound`.
-use Rattle.ln_bound.proofs.ExactLaws.{exact_range, exact_nodes}
+use Rattle.ln_bound.proofs.Soundness.ExactLaws.{exact_range, exact_nodes}
 use Rattle.ln_bound.proofs.sound.exact_trees_are_sound.Goals as goal
 
 pub returns-clause-range : goal.returns-clause-range

@@ -1,6 +1,6 @@
 -- What the search leaves open in `sound_trees_hold_their_values`.
-use Rattle.ln_bound.proofs.SoundLaws.{sound_lets, sound_tree, is_sound_says, are_sound_say}
-use Rattle.ln_bound.proofs.SoundTests.{test_sound, test_sounds}
+use Rattle.ln_bound.proofs.Soundness.SoundLaws.{sound_lets, sound_tree, is_sound_says, are_sound_say}
+use Rattle.ln_bound.proofs.Soundness.SoundTests.{test_sound, test_sounds}
 use Rattle.ln_bound.proofs.sound.sound_trees_hold_their_values.Goals as goal
 
 pub returns-clause-lets : goal.returns-clause-lets

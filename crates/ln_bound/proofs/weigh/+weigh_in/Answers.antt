@@ -5,7 +5,7 @@ use Rattle.ln_bound.specs.declared.fitted.Two.TheVariants.{Plus, Minus, Times}
 use Rattle.ln_tree.specs.Formula.{FAdd, FSub, FMul, formula, tree}
 use Rattle.ln_bound.specs.Loads.{loaded, load_of, measure_of, measured}
 use Rattle.ln_bound.specs.Measures.{range_in, seen, size_in}
-use Rattle.ln_bound.proofs.Measuring.{two_light, two_stops, two_nodes, two_loaded, two_measured}
+use Rattle.ln_bound.proofs.Measures.Measuring.{two_light, two_stops, two_nodes, two_loaded, two_measured}
 use Rattle.ln_bound.proofs.weigh.+weigh_in.Goals as goal
 
 pub returns-in_ok-b-in-Add-clause-err : goal.returns-in_ok-b-in-Add-clause-err

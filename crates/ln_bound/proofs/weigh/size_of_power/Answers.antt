@@ -1,6 +1,6 @@
 -- What the search leaves open in `size_of_power`.
 use Rattle.std.proofs.Common.{arith}
-use Rattle.ln_bound.proofs.Fitting.{heavier}
+use Rattle.ln_bound.proofs.Measures.Fitting.{heavier}
 use Rattle.ln_bound.proofs.weigh.size_of_power.Goals as goal
 
 pub returns-in-None : goal.returns-in-None

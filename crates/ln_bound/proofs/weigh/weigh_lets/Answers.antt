@@ -2,7 +2,7 @@ use Rattle.std.proofs.Common.{◌≡◌, ◌+◌, ◌∷◌, map, drop, ap, ◌�
 use Rattle.std.proofs.lemmas.List.{drop_more}
 use Rattle.std.proofs.lemmas.Result.{err_from_is_err_and}
 use Rattle.ln_tree.specs.Formula.{formula}
-use Rattle.ln_bound.proofs.Measuring.{lets_more, lets_stop}
+use Rattle.ln_bound.proofs.Measures.Measuring.{lets_more, lets_stop}
 use Rattle.ln_bound.proofs.weigh.weigh_lets.Goals as goal
 
 pub returns-in_err-weigh_next-clause-err : goal.returns-in_err-weigh_next-clause-err

@@ -1,6 +1,6 @@
 use Rattle.std.proofs.Common.{map, drop}
 use Rattle.ln_tree.specs.Formula.{formula}
-use Rattle.ln_bound.proofs.Measuring.{LetsMeasured}
+use Rattle.ln_bound.proofs.Measures.Measuring.{LetsMeasured}
 use Rattle.ln_bound.proofs.weigh.weigh_lets.Given as goal
 
 abbrev pub invariant-each : goal.invariant-each

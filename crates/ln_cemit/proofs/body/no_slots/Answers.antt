@@ -1,5 +1,5 @@
 -- Answers to the goals of `no_slots` in src/body.rt.
-use Rattle.ln_cemit.proofs.Loops.{none_unset}
+use Rattle.ln_cemit.proofs.Writing.Loops.{none_unset}
 use Rattle.ln_cemit.proofs.body.no_slots.Goals as goal
 
 pub returns-clause-none : goal.returns-clause-none

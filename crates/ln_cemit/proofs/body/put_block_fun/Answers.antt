@@ -1,7 +1,7 @@
 -- Answers to the goals of `put_block_fun` in src/body.rt.
 use Rattle.std.proofs.Common.{refl, ap, ◌∙◌, map}
 use Rattle.ln_cemit.specs.Ways.{block_way}
-use Rattle.ln_cemit.proofs.Loops.{fun_put}
+use Rattle.ln_cemit.proofs.Writing.Loops.{fun_put}
 use Rattle.ln_cemit.proofs.body.put_block_fun.Goals as goal
 
 pub returns : goal.returns

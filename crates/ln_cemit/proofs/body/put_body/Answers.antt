@@ -1,5 +1,5 @@
 -- Answers to the goals of `put_body` in src/body.rt.
-use Rattle.ln_cemit.proofs.Loops.{body_put}
+use Rattle.ln_cemit.proofs.Writing.Loops.{body_put}
 use Rattle.ln_cemit.proofs.body.put_body.Goals as goal
 
 pub returns : goal.returns

@@ -2,7 +2,7 @@
 use Rattle.std.proofs.Common.{ap, ◌∙◌, map, ◌≡◌, rules}
 use Rattle.ln_cemit.specs.Ways.{filter_way}
 use Rattle.ln_cemit.specs.Law.{error_of}
-use Rattle.ln_cemit.proofs.Loops.{fun_put}
+use Rattle.ln_cemit.proofs.Writing.Loops.{fun_put}
 use Rattle.ln_cemit.proofs.body.put_filter_fun.Goals as goal
 
 pub returns : goal.returns

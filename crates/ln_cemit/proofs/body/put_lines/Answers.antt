@@ -1,6 +1,6 @@
 -- Answers to the goals of `put_lines` in src/body.rt.
 use Rattle.std.proofs.Common.{rules, ◌≡◌, false, true, refl, arith}
-use Rattle.ln_cemit.proofs.Loops.{line_step, lines_end, loop_end, loop_goes, loop_named, loop_step, loop_stop, unread_is}
+use Rattle.ln_cemit.proofs.Writing.Loops.{line_step, lines_end, loop_end, loop_goes, loop_named, loop_step, loop_stop, unread_is}
 use Rattle.ln_cemit.proofs.body.put_lines.Goals as goal
 
 pub returns-then-not-more : goal.returns-then-not-more

@@ -1,6 +1,6 @@
 -- Answers to the goals of `put_may_touch` in src/body.rt.
 use Rattle.std.proofs.Common.{rules, ◌≡◌, true, false}
-use Rattle.ln_cemit.proofs.Loops.{touched_none, touched_put}
+use Rattle.ln_cemit.proofs.Writing.Loops.{touched_none, touched_put}
 use Rattle.ln_cemit.proofs.body.put_may_touch.Goals as goal
 
 pub returns-then-reads : goal.returns-then-reads

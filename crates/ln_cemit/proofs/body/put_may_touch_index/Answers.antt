@@ -1,6 +1,6 @@
 -- Answers to the goals of `put_may_touch_index` in src/body.rt.
 use Rattle.std.proofs.Common.{rules, ◌≡◌, true, false}
-use Rattle.ln_cemit.proofs.Loops.{index_none, index_put}
+use Rattle.ln_cemit.proofs.Writing.Loops.{index_none, index_put}
 use Rattle.ln_cemit.proofs.body.put_may_touch_index.Goals as goal
 
 pub returns-then-reads : goal.returns-then-reads

@@ -4,7 +4,7 @@ use Rattle.std.proofs.lemmas.Int.{to_z-of_z}
 use mir.Syntax.{w128}
 use Rattle.ln_csyn.specs.Spelling.{Puts, spell}
 use Rattle.ln_csyn.specs.Tree.{Inner}
-use Rattle.ln_csyn.proofs.PutLemmas.{puts_then}
+use Rattle.ln_csyn.proofs.Writing.PutLemmas.{puts_then}
 use Rattle.ln_cemit.specs.Emit.{constant}
 use Rattle.ln_cemit.proofs.constant.put_inner.Goals as goal
 

@@ -1,5 +1,5 @@
 -- Answers to the goals of `emit` in src/file.rt.
-use Rattle.ln_cemit.proofs.Says.{file_is_emitted}
+use Rattle.ln_cemit.proofs.Choices.Says.{file_is_emitted}
 use Rattle.ln_cemit.proofs.file.emit.Goals as goal
 
 pub returns : goal.returns

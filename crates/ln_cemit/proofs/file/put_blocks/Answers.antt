@@ -1,6 +1,6 @@
 -- Answers to the goals of `put_blocks` in src/file.rt.
 use Rattle.std.proofs.Common.{arith}
-use Rattle.ln_cemit.proofs.Loops.{blocks_done, blocks_next}
+use Rattle.ln_cemit.proofs.Writing.Loops.{blocks_done, blocks_next}
 use Rattle.ln_cemit.proofs.file.put_blocks.Goals as goal
 
 pub all-preserved : goal.all-preserved

@@ -1,5 +1,5 @@
 -- Answers to the goals of `put_call` in src/file.rt.
-use Rattle.ln_csyn.proofs.PutLemmas.{puts_then}
+use Rattle.ln_csyn.proofs.Writing.PutLemmas.{puts_then}
 use Rattle.ln_cemit.proofs.file.put_call.Goals as goal
 
 pub returns : goal.returns

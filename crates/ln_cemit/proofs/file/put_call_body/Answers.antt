@@ -1,7 +1,7 @@
 -- Answers to the goals of `put_call_body` in src/file.rt.
 use Rattle.std.proofs.Common.{rules, ap}
 use Rattle.ln_tree.specs.declared.shape.Shape.{Shape}
-use Rattle.ln_cemit.proofs.Loops.{call_put}
+use Rattle.ln_cemit.proofs.Writing.Loops.{call_put}
 use Rattle.ln_cemit.proofs.file.put_call_body.Goals as goal
 
 pub returns : goal.returns

@@ -1,5 +1,5 @@
 -- Answers to the goals of `put_program` in src/file.rt.
-use Rattle.ln_cemit.proofs.Loops.{program_put}
+use Rattle.ln_cemit.proofs.Writing.Loops.{program_put}
 use Rattle.ln_cemit.proofs.file.put_program.Goals as goal
 
 pub returns-clause-put : goal.returns-clause-put

@@ -1,6 +1,6 @@
 -- Answers to the goals of `put_programs` in src/file.rt.
 use Rattle.std.proofs.Common.{arith}
-use Rattle.ln_cemit.proofs.Loops.{kept_next, programs_next}
+use Rattle.ln_cemit.proofs.Writing.Loops.{kept_next, programs_next}
 use Rattle.ln_cemit.proofs.file.put_programs.Goals as goal
 
 pub programs-preserved : goal.programs-preserved

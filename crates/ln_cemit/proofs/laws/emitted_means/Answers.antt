@@ -1,5 +1,5 @@
 -- Answers to the goals of `emitted_means` in src/laws.rt.
-use Rattle.ln_cemit.proofs.Blocks.{emitted_means}
+use Rattle.ln_cemit.proofs.Meanings.Blocks.{emitted_means}
 use Rattle.ln_cemit.proofs.laws.emitted_means.Goals as goal
 
 pub returns : goal.returns

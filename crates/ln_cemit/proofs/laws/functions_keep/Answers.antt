@@ -1,5 +1,5 @@
 -- Answers to the goals of `functions_keep` in src/laws.rt.
-use Rattle.ln_cemit.proofs.Keeping.{funs_keep, blocks_keep, filters_keep}
+use Rattle.ln_cemit.proofs.Conditions.Keeping.{funs_keep, blocks_keep, filters_keep}
 use Rattle.ln_cemit.proofs.laws.functions_keep.Goals as goal
 
 pub returns-clause-all : goal.returns-clause-all

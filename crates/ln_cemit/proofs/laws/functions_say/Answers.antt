@@ -1,5 +1,5 @@
 -- Answers to the goals of `functions_say` in src/laws.rt.
-use Rattle.ln_cemit.proofs.Means.{blocks_say, filters_say}
+use Rattle.ln_cemit.proofs.Meanings.Means.{blocks_say, filters_say}
 use Rattle.ln_cemit.proofs.laws.functions_say.Goals as goal
 
 pub returns-clause-blocks : goal.returns-clause-blocks

@@ -1,5 +1,5 @@
 -- Answers to the goals of `names_serve` in src/laws.rt.
-use Rattle.ln_cemit.proofs.Named.{names_serve}
+use Rattle.ln_cemit.proofs.Conditions.Named.{names_serve}
 use Rattle.ln_cemit.proofs.laws.names_serve.Goals as goal
 
 pub returns : goal.returns

@@ -2,7 +2,7 @@
 use Rattle.std.proofs.Common.{FitsSigned, rules}
 use Rattle.std.proofs.lemmas.Int.{to_z-of_z}
 use mir.Syntax.{w128}
-use Rattle.ln_cemit.proofs.Loops.{pushed}
+use Rattle.ln_cemit.proofs.Writing.Loops.{pushed}
 use Rattle.ln_cemit.proofs.put.push.Goals as goal
 
 pub returns : goal.returns

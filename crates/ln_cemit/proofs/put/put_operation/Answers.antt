@@ -3,7 +3,7 @@ use Rattle.std.proofs.Common.{FitsSigned, rules, ◌≡◌, ◌∙◌}
 use Rattle.std.proofs.lemmas.Int.{to_z-of_z}
 use mir.Syntax.{w128}
 use Rattle.ln_code.specs.Numbers.{cut_by}
-use Rattle.ln_cemit.proofs.Loops.{does_get, does_push}
+use Rattle.ln_cemit.proofs.Writing.Loops.{does_get, does_push}
 use Rattle.ln_cemit.proofs.put.put_operation.Goals as goal
 
 pub returns-in_ok-push-in-Push-clause-put : goal.returns-in_ok-push-in-Push-clause-put

@@ -4,7 +4,7 @@ use Rattle.std.proofs.lemmas.Int.{to_z-of_z}
 use mir.Syntax.{w128}
 use Rattle.ln_csyn.specs.Spelling.{Puts}
 use Rattle.ln_csyn.specs.Tree.{Inner}
-use Rattle.ln_csyn.proofs.PutLemmas.{puts_then}
+use Rattle.ln_csyn.proofs.Writing.PutLemmas.{puts_then}
 use Rattle.ln_cemit.specs.Emit.{constant, type_of}
 use Rattle.ln_cemit.specs.Puts.{decl_before}
 use Rattle.ln_cemit.proofs.put.put_pushed_decl.Goals as goal

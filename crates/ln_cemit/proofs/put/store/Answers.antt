@@ -1,6 +1,6 @@
 -- Answers to the goals of `store` in src/put.rt.
 use Rattle.std.proofs.Common.{rules, ◌≡◌, ◌++◌, ◌∷◌, []}
-use Rattle.ln_cemit.proofs.LocalCells.{stored}
+use Rattle.ln_cemit.proofs.Meanings.LocalCells.{stored}
 use Rattle.ln_cemit.proofs.put.store.Goals as goal
 
 pub returns : goal.returns

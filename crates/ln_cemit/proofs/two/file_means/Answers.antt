@@ -1,5 +1,5 @@
 -- Answers to the goals of `file_means` in src/two.rt.
-use Rattle.ln_cemit.proofs.Files.{file-means}
+use Rattle.ln_cemit.proofs.Choices.Files.{file-means}
 use Rattle.ln_cemit.proofs.two.file_means.Goals as goal
 
 pub returns : goal.returns

@@ -4,7 +4,7 @@ use Rattle.ln_code.specs.Lists.{segment_of}
 use Rattle.ln_cemit.specs.Names.{answer_name, block_name}
 use Rattle.ln_cemit.specs.Walked.{walked, without}
 use Rattle.ln_cemit.specs.Whole.{part_name}
-use Rattle.ln_cemit.proofs.Loops.{picks_done, picks_next, walked_end, walked_on}
+use Rattle.ln_cemit.proofs.Writing.Loops.{picks_done, picks_next, walked_end, walked_on}
 use Rattle.ln_cemit.proofs.walk.+walk.Goals as goal
 
 pub put_picks-returns : goal.put_picks-returns

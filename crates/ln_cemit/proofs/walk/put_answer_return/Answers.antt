@@ -1,5 +1,5 @@
 -- Answers to the goals of `put_answer_return` in src/walk.rt.
-use Rattle.ln_csyn.proofs.PutLemmas.{puts_then}
+use Rattle.ln_csyn.proofs.Writing.PutLemmas.{puts_then}
 use Rattle.ln_cemit.proofs.walk.put_answer_return.Goals as goal
 
 pub returns : goal.returns

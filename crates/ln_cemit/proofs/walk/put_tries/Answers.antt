@@ -1,6 +1,6 @@
 -- Answers to the goals of `put_tries` in src/walk.rt.
 use Rattle.std.proofs.Common.{arith, refl}
-use Rattle.ln_cemit.proofs.Loops.{tries_done, tries_next}
+use Rattle.ln_cemit.proofs.Writing.Loops.{tries_done, tries_next}
 use Rattle.ln_cemit.proofs.walk.put_tries.Goals as goal
 
 pub numbers-preserved : goal.numbers-preserved

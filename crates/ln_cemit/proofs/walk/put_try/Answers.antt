@@ -1,5 +1,5 @@
 -- Answers to the goals of `put_try` in src/walk.rt.
-use Rattle.ln_csyn.proofs.PutLemmas.{goes_group, puts_then}
+use Rattle.ln_csyn.proofs.Writing.PutLemmas.{goes_group, puts_then}
 use Rattle.ln_cemit.specs.Names.{answer_name}
 use Rattle.ln_cemit.specs.Walked.{attempt}
 use Rattle.ln_cemit.proofs.walk.put_try.Goals as goal

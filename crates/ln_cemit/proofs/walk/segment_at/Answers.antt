@@ -2,8 +2,8 @@
 use Rattle.std.proofs.Common.{arith, sym, subst, ◌≡◌, length}
 use Rattle.ln_order.specs.declared.order.Order.{Order}
 use Rattle.ln_order.specs.Places.{order_places}
-use Rattle.ln_order.proofs.OrdersLemmas.{sizes_are}
-use Rattle.ln_cemit.proofs.Loops.{next_order, no_segment}
+use Rattle.ln_order.proofs.Listing.OrdersLemmas.{sizes_are}
+use Rattle.ln_cemit.proofs.Writing.Loops.{next_order, no_segment}
 use Rattle.ln_cemit.proofs.walk.segment_at.Goals as goal
 
 pub segment-requires-clause-order : goal.segment-requires-clause-order

@@ -1,5 +1,5 @@
 -- Answers to the goals of `one_listing` in src/laws.rt.
-use Rattle.ln_cert.proofs.Whole.{one_text}
+use Rattle.ln_cert.proofs.Reading.Whole.{one_text}
 use Rattle.ln_cert.proofs.laws.one_listing.Goals as goal
 
 pub returns : goal.returns

@@ -1,7 +1,7 @@
 -- Answers to the goals of `line` in src/line.rt.
 use Rattle.std.proofs.Common.{sym, ◌∙◌}
 use Rattle.ln_cert.specs.Words.{words, words_from}
-use Rattle.ln_cert.proofs.OneLine.{no_args, found}
+use Rattle.ln_cert.proofs.Reading.OneLine.{no_args, found}
 use Rattle.ln_cert.proofs.line.line.Goals as goal
 
 pub returns-in_default-2 : goal.returns-in_default-2

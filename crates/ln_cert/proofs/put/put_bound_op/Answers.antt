@@ -1,7 +1,7 @@
 -- Answers to the goals of `put_bound_op` in src/put.rt.
 use Rattle.std.proofs.Common.{decimal, ◌∷◌, []}
 use Rattle.ln_cert.specs.Text.{certificate, block_word, number_words, verb_of}
-use Rattle.ln_cert.proofs.Putting.{line_two}
+use Rattle.ln_cert.proofs.Writing.Putting.{line_two}
 use Rattle.ln_cert.proofs.put.put_bound_op.Goals as goal
 
 pub returns : goal.returns

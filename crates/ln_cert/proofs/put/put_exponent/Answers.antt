@@ -1,5 +1,5 @@
 -- Answers to the goals of `put_exponent` in src/put.rt.
-use Rattle.ln_cert.proofs.Putting.{exponent_is}
+use Rattle.ln_cert.proofs.Writing.Putting.{exponent_is}
 use Rattle.ln_cert.proofs.put.put_exponent.Goals as goal
 
 pub returns : goal.returns

@@ -1,6 +1,6 @@
 -- Answers to the goals of `put_filter_op` in src/put.rt.
 use Rattle.ln_cert.specs.Text.{certificate, filter_word, number_words, triple_words, verb_of}
-use Rattle.ln_cert.proofs.Putting.{line_two}
+use Rattle.ln_cert.proofs.Writing.Putting.{line_two}
 use Rattle.ln_cert.proofs.put.put_filter_op.Goals as goal
 
 pub returns : goal.returns

@@ -1,5 +1,5 @@
 -- Answers to the goals of `put_order` in src/put.rt.
-use Rattle.ln_cert.proofs.Putting.{order_line}
+use Rattle.ln_cert.proofs.Writing.Putting.{order_line}
 use Rattle.ln_cert.proofs.put.put_order.Goals as goal
 
 pub returns : goal.returns

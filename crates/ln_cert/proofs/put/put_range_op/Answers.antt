@@ -4,7 +4,7 @@ use Rattle.std.proofs.Common.{rules}
 use Rattle.std.specs.Int.{w128}
 use Rattle.std.specs.Prelude.{FitsSigned}
 use Rattle.ln_cert.specs.Text.{block_word, certificate, number_words, range_words, verb_of}
-use Rattle.ln_cert.proofs.Putting.{certificate_put, line_two}
+use Rattle.ln_cert.proofs.Writing.Putting.{certificate_put, line_two}
 use Rattle.ln_cert.proofs.put.put_range_op.Goals as goal
 
 pub returns : goal.returns

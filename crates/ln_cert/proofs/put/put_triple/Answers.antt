@@ -1,5 +1,5 @@
 -- Answers to the goals of `put_triple` in src/put.rt.
-use Rattle.ln_cert.proofs.Putting.{triple_put}
+use Rattle.ln_cert.proofs.Writing.Putting.{triple_put}
 use Rattle.ln_cert.proofs.put.put_triple.Goals as goal
 
 pub returns : goal.returns

@@ -2,8 +2,8 @@
 use Rattle.std.proofs.Common.{◌≡◌, arith, List, ℕ, [], ◌∷◌, length}
 use Rattle.ln_cert.specs.declared.read.ListStop.TheVariants.{Form}
 use Rattle.ln_cert.specs.Stop.{Stops}
-use Rattle.ln_cert.proofs.Fault.{fault_empty}
-use Rattle.ln_cert.proofs.Whole.{no_first, no_first_feed, stops_at}
+use Rattle.ln_cert.proofs.Reading.Fault.{fault_empty}
+use Rattle.ln_cert.proofs.Reading.Whole.{no_first, no_first_feed, stops_at}
 use Rattle.ln_cert.proofs.read.read_listing.Goals as goal
 
 no_bytes : (bs : List ℕ) → length bs ≡ 0 → Stops bs (Form 1)

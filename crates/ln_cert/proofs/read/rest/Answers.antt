@@ -3,7 +3,7 @@ use Rattle.std.proofs.Common.{◌≡◌, ◌+◌, ◌++◌, ◌∷◌, [], lengt
 use Rattle.ln_cert.specs.declared.part.Entry.{Entry}
 use Rattle.ln_cert.specs.Listing.{parts_of}
 use Rattle.ln_cert.specs.Reading.{IsRead}
-use Rattle.ln_cert.proofs.Whole.{fault_here, fault_open, fault_short, is_text, many, numbered_more, parts_more, ranges_more, stops_at, texts_more, walked_more}
+use Rattle.ln_cert.proofs.Reading.Whole.{fault_here, fault_open, fault_short, is_text, many, numbered_more, parts_more, ranges_more, stops_at, texts_more, walked_more}
 use Rattle.ln_cert.proofs.read.rest.Goals as goal
 
 pub returns-then-end-bytes-clause-err : goal.returns-then-end-bytes-clause-err

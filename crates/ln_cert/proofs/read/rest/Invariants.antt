@@ -3,7 +3,7 @@ use Rattle.std.proofs.Common.{◌≡◌, ◌≤◌, ◌+◌, ◌-◌, length, So
 use Rattle.ln_cert.specs.Text.{Each, IsLine}
 use Rattle.ln_cert.specs.Listing.{AreNumbered, parts_of}
 use Rattle.ln_cert.specs.Loop.{TextsSo}
-use Rattle.ln_cert.proofs.Walk.{goes, start}
+use Rattle.ln_cert.proofs.Reading.Walk.{goes, start}
 use Rattle.ln_cert.proofs.read.rest.Given as goal
 
 abbrev pub invariant-lines : goal.invariant-lines

@@ -1,5 +1,5 @@
 use Rattle.std.proofs.Common.{arith}
-use Rattle.ln_cert.proofs.Numbers.{too_large}
+use Rattle.ln_cert.proofs.Texts.Numbers.{too_large}
 use Rattle.ln_cert.proofs.scan.digits.Goals as goal
 
 pub returns-in_default-clause-none : goal.returns-in_default-clause-none

@@ -1,5 +1,5 @@
 -- Answers to the goals of `exponent` in src/scan.rt.
-use Rattle.ln_cert.proofs.Halves.{no_hat, no_left, no_right, no_power}
+use Rattle.ln_cert.proofs.Texts.Halves.{no_hat, no_left, no_right, no_power}
 use Rattle.ln_cert.proofs.scan.exponent.Goals as goal
 
 pub returns-in_default-clause-none : goal.returns-in_default-clause-none

@@ -1,6 +1,6 @@
 -- Answers to the goals of `halves` in src/scan.rt.
 use Rattle.std.proofs.Common.{arith}
-use Rattle.ln_cert.proofs.Halves.{cut_here}
+use Rattle.ln_cert.proofs.Texts.Halves.{cut_here}
 use Rattle.ln_cert.proofs.scan.halves.Goals as goal
 
 pub returns-clause-some : goal.returns-clause-some

@@ -1,5 +1,5 @@
 use Rattle.std.proofs.Common.{◌≡◌, arith, drop, decimal, ◌∙◌, ap}
-use Rattle.ln_cert.proofs.Numbers.{no_number, no_zero}
+use Rattle.ln_cert.proofs.Texts.Numbers.{no_number, no_zero}
 use Rattle.ln_cert.proofs.scan.integer.Goals as goal
 
 pub returns-in_default-clause-none : goal.returns-in_default-clause-none

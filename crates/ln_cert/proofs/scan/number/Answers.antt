@@ -1,6 +1,6 @@
 use Rattle.std.proofs.Common.{◌≡◌, ◌<◌, ◌≤◌, ◌^◌, ℕ, length, get_or, arith, Option, Some, None, IfSome, IfNone, decimal, List}
 use Rattle.std.specs.Str.Parse.{AllDigits, digits_value_after}
-use Rattle.ln_cert.proofs.Numbers.{empty, leading, no_digits, number_is}
+use Rattle.ln_cert.proofs.Texts.Numbers.{empty, leading, no_digits, number_is}
 use Rattle.ln_cert.proofs.scan.number.Goals as goal
 use Rattle.ln_cert.proofs.scan.number.Goals.{else-word-eq48-via-then-word-eq48+else-word-gt1, else-word-eq48-via-else-word-eq48}
 

@@ -1,4 +1,4 @@
-use Rattle.ln_cert.proofs.Parting.{word_at}
+use Rattle.ln_cert.proofs.Reading.Parting.{word_at}
 use Rattle.ln_cert.proofs.scan.word.Goals as goal
 
 pub returns-clause-word : goal.returns-clause-word

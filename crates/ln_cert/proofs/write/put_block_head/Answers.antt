@@ -1,5 +1,5 @@
 -- Answers to the goals of `put_block_head` in src/write.rt.
-use Rattle.ln_cert.proofs.Programmed.{head_wrote}
+use Rattle.ln_cert.proofs.Writing.Programmed.{head_wrote}
 use Rattle.ln_cert.proofs.write.put_block_head.Goals as goal
 
 pub returns : goal.returns

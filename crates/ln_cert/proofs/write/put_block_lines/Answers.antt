@@ -1,8 +1,8 @@
 -- Answers to the goals of `put_block_lines` in src/write.rt.
 use Rattle.std.proofs.Common.{map}
 use Rattle.ln_interval.specs.View.{range}
-use Rattle.ln_cert.proofs.Programmed.{block_each, block_vars}
-use Rattle.ln_cert.proofs.Wrote.{block_wrote}
+use Rattle.ln_cert.proofs.Writing.Programmed.{block_each, block_vars}
+use Rattle.ln_cert.proofs.Writing.Wrote.{block_wrote}
 use Rattle.ln_cert.proofs.write.put_block_lines.Goals as goal
 
 pub put_block_head-requires-clause-of_vars : goal.put_block_head-requires-clause-of_vars

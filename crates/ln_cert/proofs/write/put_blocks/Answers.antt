@@ -1,6 +1,6 @@
 -- Answers to the goals of `put_blocks` in src/write.rt.
 use Rattle.std.proofs.Common.{arith}
-use Rattle.ln_cert.proofs.Programmed.{more_blocks, no_blocks}
+use Rattle.ln_cert.proofs.Writing.Programmed.{more_blocks, no_blocks}
 use Rattle.ln_cert.proofs.write.put_blocks.Goals as goal
 
 pub numbered-preserved : goal.numbered-preserved

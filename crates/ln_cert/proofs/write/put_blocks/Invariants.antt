@@ -1,7 +1,7 @@
 -- The loop of `put_blocks` in src/write.rt.
 use Rattle.std.proofs.Common.{drop}
 use Rattle.ln_cert.specs.Written.{blocks_lines}
-use Rattle.ln_cert.proofs.Wrote.{Left}
+use Rattle.ln_cert.proofs.Writing.Wrote.{Left}
 use Rattle.ln_cert.proofs.write.put_blocks.Given as goal
 
 abbrev pub invariant-numbered : goal.invariant-numbered

@@ -2,7 +2,7 @@
 use Rattle.std.proofs.Common.{arith, map}
 use Rattle.ln_code.specs.Part.{lines_of}
 use Rattle.ln_cert.specs.Written.{InFilter, filter_line}
-use Rattle.ln_cert.proofs.Wrote.{each_at, more_lines, no_lines}
+use Rattle.ln_cert.proofs.Writing.Wrote.{each_at, more_lines, no_lines}
 use Rattle.ln_cert.proofs.write.put_filter_lines.Goals as goal
 
 pub put_filter_line-requires : goal.put_filter_line-requires

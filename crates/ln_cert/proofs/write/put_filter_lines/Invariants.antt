@@ -2,7 +2,7 @@
 use Rattle.std.proofs.Common.{drop, map}
 use Rattle.ln_code.specs.Part.{lines_of}
 use Rattle.ln_cert.specs.Written.{filter_line}
-use Rattle.ln_cert.proofs.Wrote.{Left}
+use Rattle.ln_cert.proofs.Writing.Wrote.{Left}
 use Rattle.ln_cert.proofs.write.put_filter_lines.Given as goal
 
 abbrev pub invariant-ops : goal.invariant-ops

@@ -1,7 +1,7 @@
 -- Answers to the goals of `put_list` in src/write.rt.
 use Rattle.std.proofs.Common.{ap, arith, length}
 use Rattle.ln_order.specs.Places.{order_places}
-use Rattle.ln_cert.proofs.Programmed.{list_end, more_list}
+use Rattle.ln_cert.proofs.Writing.Programmed.{list_end, more_list}
 use Rattle.ln_cert.proofs.write.put_list.Goals as goal
 
 pub segments-preserved : goal.segments-preserved

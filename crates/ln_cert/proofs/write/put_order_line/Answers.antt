@@ -2,8 +2,8 @@
 use Rattle.std.proofs.Common.{length}
 use Rattle.ln_order.specs.Places.{order_places}
 use Rattle.ln_code.specs.Lists.{list_of}
-use Rattle.ln_cert.proofs.Programmed.{order_wrote, places_put}
-use Rattle.ln_cert.proofs.Putting.{order_line}
+use Rattle.ln_cert.proofs.Writing.Programmed.{order_wrote, places_put}
+use Rattle.ln_cert.proofs.Writing.Putting.{order_line}
 use Rattle.ln_cert.proofs.write.put_order_line.Goals as goal
 
 pub returns : goal.returns

@@ -1,7 +1,7 @@
 -- Answers to the goals of `put_orders` in src/write.rt.
 use Rattle.std.proofs.Common.{arith}
 use Rattle.ln_order.specs.Places.{order_places}
-use Rattle.ln_cert.proofs.Programmed.{more_orders, no_orders, order_at}
+use Rattle.ln_cert.proofs.Writing.Programmed.{more_orders, no_orders, order_at}
 use Rattle.ln_cert.proofs.write.put_orders.Goals as goal
 
 pub put_order_line-requires-clause-order : goal.put_order_line-requires-clause-order

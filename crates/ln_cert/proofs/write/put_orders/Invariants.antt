@@ -2,7 +2,7 @@
 use Rattle.std.proofs.Common.{drop, map}
 use Rattle.ln_order.specs.Places.{order_places}
 use Rattle.ln_cert.specs.Written.{order_lines}
-use Rattle.ln_cert.proofs.Wrote.{Left}
+use Rattle.ln_cert.proofs.Writing.Wrote.{Left}
 use Rattle.ln_cert.proofs.write.put_orders.Given as goal
 
 abbrev pub invariant-orders : goal.invariant-orders

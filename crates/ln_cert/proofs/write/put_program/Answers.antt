@@ -1,6 +1,6 @@
 -- Answers to the goals of `put_program` in src/write.rt.
-use Rattle.ln_code.proofs.Differ.{few_vars}
-use Rattle.ln_cert.proofs.Programmed.{for_blocks, program_wrote}
+use Rattle.ln_code.proofs.Verdicts.Differ.{few_vars}
+use Rattle.ln_cert.proofs.Writing.Programmed.{for_blocks, program_wrote}
 use Rattle.ln_cert.proofs.write.put_program.Goals as goal
 
 pub put_blocks-requires-clause-rules : goal.put_blocks-requires-clause-rules

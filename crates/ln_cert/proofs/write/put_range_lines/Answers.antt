@@ -3,7 +3,7 @@ use Rattle.std.proofs.Common.{arith, map}
 use Rattle.ln_interval.specs.View.{range}
 use Rattle.ln_code.specs.Part.{lines_of}
 use Rattle.ln_cert.specs.Written.{range_line}
-use Rattle.ln_cert.proofs.Wrote.{more_ranges, no_lines, range_at}
+use Rattle.ln_cert.proofs.Writing.Wrote.{more_ranges, no_lines, range_at}
 use Rattle.ln_cert.proofs.write.put_range_lines.Goals as goal
 
 pub put_range_line-requires : goal.put_range_line-requires

@@ -3,7 +3,7 @@ use Rattle.std.proofs.Common.{drop, map}
 use Rattle.ln_interval.specs.View.{range}
 use Rattle.ln_code.specs.Part.{lines_of}
 use Rattle.ln_cert.specs.Written.{range_line}
-use Rattle.ln_cert.proofs.Wrote.{Left}
+use Rattle.ln_cert.proofs.Writing.Wrote.{Left}
 use Rattle.ln_cert.proofs.write.put_range_lines.Given as goal
 
 abbrev pub invariant-ops : goal.invariant-ops

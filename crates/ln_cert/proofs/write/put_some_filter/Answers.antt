@@ -1,6 +1,6 @@
 -- Answers to the goals of `put_some_filter` in src/write.rt.
-use Rattle.ln_cert.proofs.Programmed.{filter_each}
-use Rattle.ln_cert.proofs.Wrote.{some_filter}
+use Rattle.ln_cert.proofs.Writing.Programmed.{filter_each}
+use Rattle.ln_cert.proofs.Writing.Wrote.{some_filter}
 use Rattle.ln_cert.proofs.write.put_some_filter.Goals as goal
 
 pub put_filter_lines-requires-clause-rules : goal.put_filter_lines-requires-clause-rules

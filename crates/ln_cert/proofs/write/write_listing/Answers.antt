@@ -2,8 +2,8 @@
 use Rattle.std.proofs.Common.{◌≡◌, ◌<◌, ap, arith, get_or, length, subst}
 use Rattle.ln_cert.specs.Listing.{first_line}
 use Rattle.ln_cert.specs.Written.{listing_of}
-use Rattle.ln_cert.proofs.Programmed.{all_listed, more_programs}
-use Rattle.ln_cert.proofs.Whole.{one_text}
+use Rattle.ln_cert.proofs.Writing.Programmed.{all_listed, more_programs}
+use Rattle.ln_cert.proofs.Reading.Whole.{one_text}
 use Rattle.ln_cert.proofs.write.write_listing.Goals as goal
 
 pub programs-preserved : goal.programs-preserved

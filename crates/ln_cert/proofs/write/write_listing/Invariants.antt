@@ -2,7 +2,7 @@
 use Rattle.std.proofs.Common.{drop}
 use Rattle.ln_cert.specs.Listing.{first_line}
 use Rattle.ln_cert.specs.Written.{listing_of}
-use Rattle.ln_cert.proofs.Programmed.{Listed}
+use Rattle.ln_cert.proofs.Writing.Programmed.{Listed}
 use Rattle.ln_cert.proofs.write.write_listing.Given as goal
 
 abbrev pub invariant-programs : goal.invariant-programs

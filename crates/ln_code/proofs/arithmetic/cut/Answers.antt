@@ -1,7 +1,7 @@
 use Rattle.std.proofs.Common.{arith, ◌≤◌, ◌^◌, ◌/◌, unsigned_abs}
 use Rattle.std.proofs.lemmas.Int.{ints, to_z_pos}
 use mir.Syntax.{w128}
-use Rattle.ln_code.proofs.Cutting.{cut_far, halved, negated_fits}
+use Rattle.ln_code.proofs.Filters.Cutting.{cut_far, halved, negated_fits}
 use Rattle.ln_code.proofs.arithmetic.cut.Goals as goal
 
 pub returns-then-n-ge128 : goal.returns-then-n-ge128

@@ -1,7 +1,7 @@
 use Rattle.std.proofs.Common.{FitsSigned, rules, add-one}
 use Rattle.std.proofs.lemmas.Int.{to_z-of_z}
 use mir.Syntax.{w128}
-use Rattle.ln_code.proofs.Cells.{seen-push}
+use Rattle.ln_code.proofs.Engines.Cells.{seen-push}
 use Rattle.ln_code.proofs.arithmetic.push.Goals as goal
 
 pub returns-clause-stack : goal.returns-clause-stack

@@ -1,6 +1,6 @@
 use Rattle.std.proofs.Common.{arith, ◌≤◌, unsigned_abs, ◌-ℤ◌}
 use Rattle.std.proofs.lemmas.Int.{ints}
-use Rattle.ln_code.proofs.Cells.{fits_64}
+use Rattle.ln_code.proofs.Engines.Cells.{fits_64}
 use Rattle.ln_code.proofs.arithmetic.subtract.Goals as goal
 
 pub returns-in-W64 : goal.returns-in-W64

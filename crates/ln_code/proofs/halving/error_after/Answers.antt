@@ -1,6 +1,6 @@
 use Rattle.std.proofs.Common.{◌≡◌, ◌^◌, ◌∙◌, ap, arith}
 use Rattle.std.specs.Int.{div_ceil}
-use Rattle.ln_code.proofs.Quotients.{far_error, ceil_fits, unit_is}
+use Rattle.ln_code.proofs.Engines.Quotients.{far_error, ceil_fits, unit_is}
 use Rattle.ln_code.proofs.halving.error_after.Goals as goal
 
 pub overflow_add-result : goal.overflow_add-result

@@ -1,5 +1,5 @@
 use Rattle.std.proofs.Common.{arith, sym}
-use Rattle.ln_code.proofs.Quotients.{far}
+use Rattle.ln_code.proofs.Engines.Quotients.{far}
 use Rattle.ln_code.proofs.halving.shifted.Goals as goal
 
 pub returns-else-n-lt128 : goal.returns-else-n-lt128

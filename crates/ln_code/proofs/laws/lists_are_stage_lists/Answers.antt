@@ -1,4 +1,4 @@
-use Rattle.ln_code.proofs.Machine.{lists-stages}
+use Rattle.ln_code.proofs.Verdicts.Machine.{lists-stages}
 use Rattle.ln_code.proofs.laws.lists_are_stage_lists.Goals as goal
 
 pub returns : goal.returns

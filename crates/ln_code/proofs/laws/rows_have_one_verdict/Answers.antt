@@ -1,4 +1,4 @@
-use Rattle.ln_code.proofs.Machine.{programs-run, rows-have, verdict-unique}
+use Rattle.ln_code.proofs.Verdicts.Machine.{programs-run, rows-have, verdict-unique}
 use Rattle.ln_code.proofs.laws.rows_have_one_verdict.Goals as goal
 
 pub returns-clause-programs : goal.returns-clause-programs

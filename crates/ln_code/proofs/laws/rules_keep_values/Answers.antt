@@ -1,4 +1,4 @@
-use Rattle.ln_code.proofs.Means.{blocks_mean, filters_mean}
+use Rattle.ln_code.proofs.Following.Means.{blocks_mean, filters_mean}
 use Rattle.ln_code.proofs.laws.rules_keep_values.Goals as goal
 
 pub returns-clause-blocks : goal.returns-clause-blocks

@@ -3,7 +3,7 @@ use mir.Syntax.{w128}
 use Rattle.std.proofs.lemmas.Int.{to_z-of_z}
 use Rattle.ln_bound.specs.declared.fitted.Two.TheVariants.{Plus, Minus, Times}
 use Rattle.ln_code.specs.Memory.{at}
-use Rattle.ln_code.proofs.Steps.{leads_push, leads_input, input_leads, leads_get, leads_two, two_leads, cut_leads, set_leads}
+use Rattle.ln_code.proofs.Engines.Steps.{leads_push, leads_input, input_leads, leads_get, leads_two, two_leads, cut_leads, set_leads}
 use Rattle.ln_code.proofs.processor.apply.Goals as goal
 
 pub push-requires : goal.push-requires

@@ -3,7 +3,7 @@ use Rattle.std.proofs.lemmas.Int.{to_z-of_z}
 use mir.Syntax.{w128}
 use Rattle.ln_code.specs.Bare.{bare}
 use Rattle.ln_code.specs.Memory.{at}
-use Rattle.ln_code.proofs.Ends.{filter_ends}
+use Rattle.ln_code.proofs.Engines.Ends.{filter_ends}
 use Rattle.ln_code.proofs.processor.run_filter.Goals as goal
 
 pub returns-clause-value : goal.returns-clause-value

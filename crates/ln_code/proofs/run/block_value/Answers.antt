@@ -1,7 +1,7 @@
 use Rattle.std.proofs.Common.{FitsSigned, rules}
 use Rattle.std.proofs.lemmas.Int.{to_z-of_z}
 use mir.Syntax.{w128}
-use Rattle.ln_code.proofs.Calls.{BlockCall, block_answers, block_gives}
+use Rattle.ln_code.proofs.Verdicts.Calls.{BlockCall, block_answers, block_gives}
 use Rattle.ln_code.proofs.run.block_value.Goals as goal
 
 pub run_block-requires-clause-answers : goal.run_block-requires-clause-answers

@@ -1,7 +1,7 @@
 use Rattle.std.proofs.Common.{FitsSigned, rules}
 use Rattle.std.proofs.lemmas.Int.{to_z-of_z}
 use mir.Syntax.{w128}
-use Rattle.ln_code.proofs.Calls.{FilterCall, filter_answers, filter_gives}
+use Rattle.ln_code.proofs.Verdicts.Calls.{FilterCall, filter_answers, filter_gives}
 use Rattle.ln_code.proofs.run.filter_number.Goals as goal
 
 pub run_filter-requires-clause-answers : goal.run_filter-requires-clause-answers

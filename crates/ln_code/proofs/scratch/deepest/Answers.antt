@@ -1,5 +1,5 @@
 use Rattle.std.proofs.lemmas.List.{take_all}
-use Rattle.ln_code.proofs.Depths.{deeper}
+use Rattle.ln_code.proofs.Engines.Depths.{deeper}
 use Rattle.ln_code.proofs.scratch.deepest.Goals as goal
 
 pub each-preserved : goal.each-preserved

@@ -1,4 +1,4 @@
-use Rattle.ln_code.proofs.WorkedLaws.{worked_row_of}
+use Rattle.ln_code.proofs.Following.WorkedLaws.{worked_row_of}
 use Rattle.ln_code.proofs.tests.answered.Goals as goal
 
 pub run_row-requires-clause-row : goal.run_row-requires-clause-row

@@ -1,4 +1,4 @@
-use Rattle.ln_code.proofs.WorkedLaws.{orientation_filter}
+use Rattle.ln_code.proofs.Following.WorkedLaws.{orientation_filter}
 use Rattle.ln_code.proofs.tests.filter.Goals as goal
 
 pub seal-requires : goal.seal-requires

@@ -1,4 +1,4 @@
-use Rattle.ln_code.proofs.WorkedLaws.{worked_program}
+use Rattle.ln_code.proofs.Following.WorkedLaws.{worked_program}
 use Rattle.ln_code.proofs.tests.program.Goals as goal
 
 pub join-requires : goal.join-requires

@@ -1,6 +1,6 @@
 use Rattle.std.specs.Prelude.{map}
 use Rattle.ln_interval.specs.View.{range}
-use Rattle.ln_code.proofs.WorkedLaws.{square_block}
+use Rattle.ln_code.proofs.Following.WorkedLaws.{square_block}
 use Rattle.ln_code.proofs.tests.square.Goals as goal
 
 pub seal-requires : goal.seal-requires

@@ -1,7 +1,7 @@
 use Rattle.std.proofs.Common.{arith}
 use Rattle.ln_tree.specs.Table.{pred_of}
-use Rattle.ln_compile.proofs.GatheringLemmas.{blocks-begin, blocks-more}
-use Rattle.ln_compile.proofs.SmallBlocks.{root-terms}
+use Rattle.ln_compile.proofs.Making.GatheringLemmas.{blocks-begin, blocks-more}
+use Rattle.ln_compile.proofs.Smallness.SmallBlocks.{root-terms}
 use Rattle.ln_compile.proofs.blocks.blocks.Goals as goal
 
 pub derivative_block-requires-clause-terms : goal.derivative_block-requires-clause-terms

@@ -1,9 +1,9 @@
 use Rattle.std.proofs.Common.{[], map}
-use Rattle.ln_bound.proofs.SoundLaws.{are_sound_say, is_sound_says}
+use Rattle.ln_bound.proofs.Soundness.SoundLaws.{are_sound_say, is_sound_says}
 use Rattle.ln_bound.specs.Sound.{AreSound, Sound}
 use Rattle.ln_bound.specs.View.{typed}
-use Rattle.ln_compile.proofs.MakingLemmas.{own-carries, own-made}
-use Rattle.ln_compile.proofs.SmallBlocks.{own-pushes}
+use Rattle.ln_compile.proofs.Making.MakingLemmas.{own-carries, own-made}
+use Rattle.ln_compile.proofs.Smallness.SmallBlocks.{own-pushes}
 use Rattle.ln_compile.proofs.blocks.first_block.Goals as goal
 
 pub lower-requires-clause-lets : goal.lower-requires-clause-lets

@@ -1,7 +1,7 @@
 use Rattle.std.proofs.lemmas.Result.{err_from_is_err_and}
 use Rattle.ln_tree.specs.Table.{table_of}
-use Rattle.ln_compile.proofs.Judging.{pred_refusal, text_refusal}
-use Rattle.ln_compile.proofs.OneRefusal.{refusal_one, refusal_unaccepted}
+use Rattle.ln_compile.proofs.Refusing.Judging.{pred_refusal, text_refusal}
+use Rattle.ln_compile.proofs.Refusing.OneRefusal.{refusal_one, refusal_unaccepted}
 use Rattle.ln_compile.proofs.checked.check.Goals as goal
 
 pub returns-in-Err-clause-err : goal.returns-in-Err-clause-err

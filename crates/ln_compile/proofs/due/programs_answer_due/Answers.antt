@@ -1,4 +1,4 @@
-use Rattle.ln_compile.proofs.FilteredLemmas.{programs_answer, one_due}
+use Rattle.ln_compile.proofs.Listing.FilteredLemmas.{programs_answer, one_due}
 use Rattle.ln_compile.proofs.due.programs_answer_due.Goals as goal
 
 pub returns-clause-due : goal.returns-clause-due

@@ -1,8 +1,8 @@
 use Rattle.std.proofs.Common.{length}
 use Rattle.ln_tree.specs.Table.{pred_of}
 use Rattle.ln_stage.specs.Staged.{vectors_of}
-use Rattle.ln_compile.proofs.Judging.{zero_stops}
-use Rattle.ln_compile.proofs.StagingLemmas.{sound_pred, stages_stops, within-limits}
+use Rattle.ln_compile.proofs.Refusing.Judging.{zero_stops}
+use Rattle.ln_compile.proofs.Listing.StagingLemmas.{sound_pred, stages_stops, within-limits}
 use Rattle.ln_compile.proofs.judge.staged.Goals as goal
 
 pub returns-in-Ok-clause-sound : goal.returns-in-Ok-clause-sound

@@ -1,6 +1,6 @@
 use Rattle.std.proofs.Common.{arith}
 use Rattle.ln_tree.specs.Table.{pred_of}
-use Rattle.ln_compile.proofs.Judging.{heavy_stops, not_heavy, own_token}
+use Rattle.ln_compile.proofs.Refusing.Judging.{heavy_stops, not_heavy, own_token}
 use Rattle.ln_compile.proofs.judge.weighed.Goals as goal
 
 pub returns-in-Some-clause-whole : goal.returns-in-Some-clause-whole

@@ -1,5 +1,5 @@
-use Rattle.ln_compile.proofs.FaultlessLemmas.{faultless-accepted}
-use Rattle.ln_compile.proofs.OneRefusal.{accepted_alone, refused_one}
+use Rattle.ln_compile.proofs.Refusing.FaultlessLemmas.{faultless-accepted}
+use Rattle.ln_compile.proofs.Refusing.OneRefusal.{accepted_alone, refused_one}
 use Rattle.ln_compile.proofs.laws.one_refusal.Goals as goal
 
 pub returns-clause-one : goal.returns-clause-one

@@ -1,5 +1,5 @@
-use Rattle.ln_compile.proofs.Staying.{stays-accepted, stays-sound}
-use Rattle.ln_compile.proofs.TextFits.{text-fits}
+use Rattle.ln_compile.proofs.Refusing.Staying.{stays-accepted, stays-sound}
+use Rattle.ln_compile.proofs.Refusing.TextFits.{text-fits}
 use Rattle.ln_compile.proofs.laws.what_was_accepted_stays_accepted.Goals as goal
 
 pub returns-clause-source : goal.returns-clause-source

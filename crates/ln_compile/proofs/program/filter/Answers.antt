@@ -1,5 +1,5 @@
-use Rattle.ln_compile.proofs.MakingLemmas.{filter-carries, filter-of}
-use Rattle.ln_compile.proofs.SmallBlocks.{filter-pushes}
+use Rattle.ln_compile.proofs.Making.MakingLemmas.{filter-carries, filter-of}
+use Rattle.ln_compile.proofs.Smallness.SmallBlocks.{filter-pushes}
 use Rattle.ln_compile.proofs.program.filter.Goals as goal
 
 pub returns-clause-filter : goal.returns-clause-filter

@@ -1,5 +1,5 @@
-use Rattle.ln_compile.proofs.ListingLemmas.{first-exps, stages-of-sites}
-use Rattle.ln_compile.proofs.ProgramLemmas.{few-blocks, is-program, is-program-of}
+use Rattle.ln_compile.proofs.Listing.ListingLemmas.{first-exps, stages-of-sites}
+use Rattle.ln_compile.proofs.Making.ProgramLemmas.{few-blocks, is-program, is-program-of}
 use Rattle.ln_compile.proofs.program.program.Goals as goal
 
 pub blocks-requires-clause-first : goal.blocks-requires-clause-first

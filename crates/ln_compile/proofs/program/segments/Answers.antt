@@ -1,6 +1,6 @@
 use Rattle.std.proofs.Common.{◌∙◌, arith}
 use Rattle.std.proofs.lemmas.List.{take_all}
-use Rattle.ln_compile.proofs.CopyLemmas.{copied-more}
+use Rattle.ln_compile.proofs.Making.CopyLemmas.{copied-more}
 use Rattle.ln_compile.proofs.program.segments.Goals as goal
 
 pub prefixes-preserved : goal.prefixes-preserved

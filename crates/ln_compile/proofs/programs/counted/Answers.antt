@@ -1,6 +1,6 @@
 use Rattle.std.proofs.Common.{◌∙◌, length}
 use Rattle.ln_stage.specs.Staged.{block_vector, vectors_of}
-use Rattle.ln_compile.proofs.BuildingLemmas.{counted-numbers}
+use Rattle.ln_compile.proofs.Making.BuildingLemmas.{counted-numbers}
 use Rattle.ln_compile.proofs.programs.counted.Goals as goal
 
 pub returns-clause-count : goal.returns-clause-count

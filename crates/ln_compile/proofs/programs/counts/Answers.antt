@@ -1,7 +1,7 @@
 use Rattle.std.proofs.Common.{arith}
 use Rattle.std.proofs.lemmas.Result.{err_from_is_err_and}
-use Rattle.ln_compile.proofs.BuildingLemmas.{counted-more}
-use Rattle.ln_compile.proofs.Judging.{first_fault}
+use Rattle.ln_compile.proofs.Making.BuildingLemmas.{counted-more}
+use Rattle.ln_compile.proofs.Refusing.Judging.{first_fault}
 use Rattle.ln_compile.proofs.programs.counts.Goals as goal
 
 pub returns-in_err-count-clause-err : goal.returns-in_err-count-clause-err

@@ -1,5 +1,5 @@
 use Rattle.std.proofs.Common.{arith}
-use Rattle.ln_compile.proofs.BuildingLemmas.{compiled-more, name-new, sound-at}
+use Rattle.ln_compile.proofs.Making.BuildingLemmas.{compiled-more, name-new, sound-at}
 use Rattle.ln_compile.proofs.programs.programs.Goals as goal
 
 pub program_of-requires : goal.program_of-requires

@@ -4,7 +4,7 @@ use Rattle.std.specs.Prelude.{codes}
 use Rattle.std.proofs.lemmas.Result.{err_from_is_err_and}
 use Rattle.ln_csyn.specs.Seen.{tokens_of}
 use Rattle.ln_csyn.specs.Reading.{begins}
-use Rattle.ln_csyn.proofs.Loops.{placed_begins, placed_ends, placed_fails, placed_goes, next_place}
+use Rattle.ln_csyn.proofs.Reading.Loops.{placed_begins, placed_ends, placed_fails, placed_goes, next_place}
 use Rattle.ln_csyn.proofs.body.+stmt.Goals as goal
 
 pub stmts-stmts-init : goal.stmts-stmts-init

@@ -2,7 +2,7 @@
 use Rattle.std.proofs.Common.{◌+◌, ◌*◌, ◌-◌, length, map}
 use Rattle.ln_csyn.specs.View.{stmt_front}
 use Rattle.ln_csyn.specs.Reading.{stmt_at, block_at}
-use Rattle.ln_csyn.proofs.Loops.{Placed}
+use Rattle.ln_csyn.proofs.Reading.Loops.{Placed}
 use Rattle.ln_csyn.proofs.body.+stmt.Given as goal
 
 abbrev pub decreases-block : goal.decreases-block

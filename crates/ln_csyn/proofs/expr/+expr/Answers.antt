@@ -3,7 +3,7 @@ use Rattle.std.proofs.Common.{rules, ◌≡◌, ◌<◌, ◌-◌, Some, arith}
 use Rattle.std.specs.Prelude.{codes}
 use Rattle.ln_csyn.specs.Seen.{tokens_of}
 use Rattle.ln_csyn.specs.Reading.{eat}
-use Rattle.ln_csyn.proofs.Steps.{expr_step}
+use Rattle.ln_csyn.proofs.Reading.Steps.{expr_step}
 use Rattle.ln_csyn.proofs.expr.+expr.Goals as goal
 
 pub expr-returns-clause-ok : goal.expr-returns-clause-ok

@@ -1,7 +1,7 @@
 -- Answers to the goals of `funs` in src/file.rt.
 use Rattle.std.proofs.Common.{rules, ◌≡◌, ◌-◌, ◌<◌, length, arith}
 use Rattle.std.proofs.lemmas.Result.{err_from_is_err_and}
-use Rattle.ln_csyn.proofs.FunLoops.{read_begins, read_ends, read_fails, read_goes, next_fun}
+use Rattle.ln_csyn.proofs.Reading.FunLoops.{read_begins, read_ends, read_fails, read_goes, next_fun}
 use Rattle.ln_csyn.proofs.file.funs.Goals as goal
 
 pub funs-init : goal.funs-init

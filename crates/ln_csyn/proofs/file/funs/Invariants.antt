@@ -2,7 +2,7 @@
 use Rattle.std.proofs.Common.{◌-◌, length, map}
 use Rattle.ln_csyn.specs.View.{fun_tree}
 use Rattle.ln_csyn.specs.Reading.{block_at}
-use Rattle.ln_csyn.proofs.FunLoops.{Read}
+use Rattle.ln_csyn.proofs.Reading.FunLoops.{Read}
 use Rattle.ln_csyn.proofs.file.funs.Given as goal
 
 abbrev pub invariant-funs : goal.invariant-funs

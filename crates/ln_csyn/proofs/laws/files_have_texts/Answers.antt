@@ -1,7 +1,7 @@
 -- Answers to the goals of `files_have_texts` in src/laws.rt.
-use Rattle.ln_csyn.proofs.ReadLemmas.{text_is_kept}
-use Rattle.ln_csyn.proofs.Spells.{derives_file}
-use Rattle.ln_csyn.proofs.Writes.{written_is_file}
+use Rattle.ln_csyn.proofs.Reading.ReadLemmas.{text_is_kept}
+use Rattle.ln_csyn.proofs.Writing.Spells.{derives_file}
+use Rattle.ln_csyn.proofs.Writing.Writes.{written_is_file}
 use Rattle.ln_csyn.proofs.laws.files_have_texts.Goals as goal
 
 pub returns-clause-kept : goal.returns-clause-kept

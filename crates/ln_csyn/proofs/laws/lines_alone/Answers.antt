@@ -1,5 +1,5 @@
 -- Answers to the goals of `lines_alone` in src/laws.rt.
-use Rattle.ln_csyn.proofs.LinesLemmas.{flat_is_same, read_back}
+use Rattle.ln_csyn.proofs.Writing.LinesLemmas.{flat_is_same, read_back}
 use Rattle.ln_csyn.proofs.laws.lines_alone.Goals as goal
 
 pub returns-clause-same : goal.returns-clause-same

@@ -1,7 +1,7 @@
 -- Answers to the goals of `one_text` in src/laws.rt.
-use Rattle.ln_csyn.proofs.CompleteFile.{one_file}
-use Rattle.ln_csyn.proofs.Longest.{first_same}
-use Rattle.ln_csyn.proofs.Scanned.{one_lexed, one_text}
+use Rattle.ln_csyn.proofs.Reading.CompleteFile.{one_file}
+use Rattle.ln_csyn.proofs.Lexing.Longest.{first_same}
+use Rattle.ln_csyn.proofs.Lexing.Scanned.{one_lexed, one_text}
 use Rattle.ln_csyn.proofs.laws.one_text.Goals as goal
 
 pub returns-clause-first : goal.returns-clause-first

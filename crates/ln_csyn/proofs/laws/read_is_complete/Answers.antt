@@ -1,6 +1,6 @@
 -- Answers to the goals of `read_is_complete` in src/laws.rt.
-use Rattle.ln_csyn.proofs.Complete.{read_is_complete}
-use Rattle.ln_csyn.proofs.CompleteFile.{body_is_complete, file_is_complete}
+use Rattle.ln_csyn.proofs.Reading.Complete.{read_is_complete}
+use Rattle.ln_csyn.proofs.Reading.CompleteFile.{body_is_complete, file_is_complete}
 use Rattle.ln_csyn.proofs.laws.read_is_complete.Goals as goal
 
 pub returns-clause-expr : goal.returns-clause-expr

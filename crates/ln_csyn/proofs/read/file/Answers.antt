@@ -3,7 +3,7 @@ use Rattle.std.proofs.Common.{rules, ◌≡◌, map}
 use Rattle.std.proofs.lemmas.Result.{err_from_is_err_and}
 use Rattle.ln_csyn.specs.Seen.{tokens_of}
 use Rattle.ln_csyn.specs.View.{fun_tree}
-use Rattle.ln_csyn.proofs.ReadLemmas.{rest_keep, read_ok, read_no, read_none}
+use Rattle.ln_csyn.proofs.Reading.ReadLemmas.{rest_keep, read_ok, read_no, read_none}
 use Rattle.ln_csyn.proofs.read.file.Goals as goal
 
 pub returns-in_err-fs-clause-err : goal.returns-in_err-fs-clause-err

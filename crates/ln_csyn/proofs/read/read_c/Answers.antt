@@ -4,7 +4,7 @@ use Rattle.std.proofs.lemmas.Result.{err_from_is_err_and}
 use Rattle.ln_csyn.specs.Seen.{tokens_of}
 use Rattle.ln_csyn.specs.View.{fun_tree}
 use Rattle.ln_csyn.specs.Text.{Lexed}
-use Rattle.ln_csyn.proofs.ReadLemmas.{no_first, no_file, kept}
+use Rattle.ln_csyn.proofs.Reading.ReadLemmas.{no_first, no_file, kept}
 use Rattle.ln_csyn.proofs.read.read_c.Goals as goal
 
 pub returns-in_default-clause-err : goal.returns-in_default-clause-err

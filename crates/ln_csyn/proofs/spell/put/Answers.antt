@@ -1,5 +1,5 @@
 -- Answers to the goals of `put` in src/spell.rt.
-use Rattle.ln_csyn.proofs.PutLemmas.{puts_one}
+use Rattle.ln_csyn.proofs.Writing.PutLemmas.{puts_one}
 use Rattle.ln_csyn.proofs.spell.put.Goals as goal
 
 pub returns : goal.returns

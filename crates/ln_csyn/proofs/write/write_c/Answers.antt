@@ -3,7 +3,7 @@ use Rattle.std.proofs.Common.{rules, ◌≡◌, true, map}
 use Rattle.ln_csyn.specs.View.{fun_tree}
 use Rattle.ln_csyn.specs.Text.{is_file}
 use Rattle.ln_csyn.specs.Spelling.{text_of}
-use Rattle.ln_csyn.proofs.Writes.{text_is_file, text_reads_back}
+use Rattle.ln_csyn.proofs.Writing.Writes.{text_is_file, text_reads_back}
 use Rattle.ln_csyn.proofs.write.write_c.Goals as goal
 
 pub returns-clause-text : goal.returns-clause-text

@@ -1,4 +1,4 @@
-use Rattle.ln_due.proofs.AloudLemmas.{verdicts-are-told}
+use Rattle.ln_due.proofs.Verdicts.AloudLemmas.{verdicts-are-told}
 use Rattle.ln_due.proofs.aloud.verdicts_are_told.Goals as goal
 
 pub returns : goal.returns

@@ -1,5 +1,5 @@
-use Rattle.ln_due.proofs.BlockLemmas.{plain-whole}
-use Rattle.ln_due.proofs.Composition.{cut-nothing, stages-coefficients}
+use Rattle.ln_due.proofs.Parts.BlockLemmas.{plain-whole}
+use Rattle.ln_due.proofs.Verdicts.Composition.{cut-nothing, stages-coefficients}
 use Rattle.ln_due.proofs.due.stages_are_coefficients.Goals as goal
 
 pub returns-clause-values : goal.returns-clause-values

@@ -1,4 +1,4 @@
-use Rattle.ln_due.proofs.Composition.{signs-perturbed, verdicts-due}
+use Rattle.ln_due.proofs.Verdicts.Composition.{signs-perturbed, verdicts-due}
 use Rattle.ln_due.proofs.due.verdicts_are_due.Goals as goal
 
 pub returns-clause-verdicts : goal.returns-clause-verdicts

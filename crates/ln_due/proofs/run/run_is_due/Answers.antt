@@ -1,6 +1,6 @@
 use Rattle.ln_algebra.specs.Orders.{BySmallest}
-use Rattle.ln_due.proofs.Composition.{signs-perturbed, verdicts-due}
-use Rattle.ln_due.proofs.UniqueLemmas.{due-sign, due-unique, never-zero}
+use Rattle.ln_due.proofs.Verdicts.Composition.{signs-perturbed, verdicts-due}
+use Rattle.ln_due.proofs.Verdicts.UniqueLemmas.{due-sign, due-unique, never-zero}
 use Rattle.ln_due.proofs.run.run_is_due.Goals as goal
 
 pub returns-clause-due : goal.returns-clause-due

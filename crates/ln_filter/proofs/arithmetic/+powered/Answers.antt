@@ -2,7 +2,7 @@ use Rattle.std.proofs.Common.{◌∙◌, ap}
 use Rattle.ln_code.specs.declared.op.Triple.{Triple}
 use Rattle.ln_filter.specs.Triples.{trimmed}
 use Rattle.ln_filter.specs.Tried.{settled}
-use Rattle.ln_filter.proofs.Steady.{power_step}
+use Rattle.ln_filter.proofs.Truncation.Steady.{power_step}
 use Rattle.ln_filter.proofs.arithmetic.+powered.Goals as goal
 
 pub returns-clause-value : goal.returns-clause-value

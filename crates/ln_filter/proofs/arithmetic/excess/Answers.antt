@@ -1,5 +1,5 @@
 use Rattle.std.proofs.Common.{arith}
-use Rattle.ln_filter.proofs.Bits.{bits_by_zeros}
+use Rattle.ln_filter.proofs.Truncation.Bits.{bits_by_zeros}
 use Rattle.ln_filter.proofs.arithmetic.excess.Goals as goal
 
 pub returns-clause-value : goal.returns-clause-value

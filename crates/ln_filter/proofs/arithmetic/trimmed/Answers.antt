@@ -1,6 +1,6 @@
 use Rattle.std.proofs.Common.{◌≡◌, ◌/◌, ◌^◌, arith, refl}
 use Rattle.ln_filter.specs.Triples.{excess}
-use Rattle.ln_filter.proofs.Bits.{excess_leaves}
+use Rattle.ln_filter.proofs.Truncation.Bits.{excess_leaves}
 use Rattle.ln_filter.proofs.arithmetic.trimmed.Goals as goal
 
 pub overflow_cast-result-2 : goal.overflow_cast-result-2

@@ -3,7 +3,7 @@ use Rattle.std.proofs.lemmas.Result.{on_ok_weaker}
 use Rattle.ln_algebra.specs.Tree.{Neg, Add, Sub, Mul, Pow}
 use Rattle.ln_bound.specs.Typed.{untyped}
 use Rattle.ln_bound.specs.View.{typed}
-use Rattle.ln_filter.proofs.Writes.{wrote_neg, wrote_add, wrote_sub, wrote_mul, wrote_pow}
+use Rattle.ln_filter.proofs.Operations.Writes.{wrote_neg, wrote_add, wrote_sub, wrote_mul, wrote_pow}
 use Rattle.ln_filter.proofs.emit.+put_tree.Goals as goal
 
 pub returns-in_ok-push-in-Neg-clause-wrote : goal.returns-in_ok-push-in-Neg-clause-wrote

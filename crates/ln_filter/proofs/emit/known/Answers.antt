@@ -1,6 +1,6 @@
 use Rattle.ln_bound.specs.Typed.{untyped}
 use Rattle.ln_bound.specs.View.{typed}
-use Rattle.ln_filter.proofs.Writes.{known_is, known_not}
+use Rattle.ln_filter.proofs.Operations.Writes.{known_is, known_not}
 use Rattle.ln_filter.proofs.emit.known.Goals as goal
 
 pub returns-in-Some-clause-value : goal.returns-in-Some-clause-value

@@ -1,5 +1,5 @@
 use Rattle.std.proofs.Common.{refl}
-use Rattle.ln_filter.proofs.Writes.{nothing_written, next_steady, next_power, next_factor, wrote_then}
+use Rattle.ln_filter.proofs.Operations.Writes.{nothing_written, next_steady, next_power, next_factor, wrote_then}
 use Rattle.ln_filter.proofs.emit.put_factors.Goals as goal
 
 pub factors-init : goal.factors-init

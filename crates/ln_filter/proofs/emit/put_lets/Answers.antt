@@ -1,4 +1,4 @@
-use Rattle.ln_filter.proofs.Writes.{LetsKept, let_step, wrote_all}
+use Rattle.ln_filter.proofs.Operations.Writes.{LetsKept, let_step, wrote_all}
 use Rattle.ln_filter.proofs.emit.put_lets.Goals as goal
 
 pub lets-preserved : goal.lets-preserved

@@ -3,7 +3,7 @@ use Rattle.ln_bound.specs.Typed.{untyped}
 use Rattle.ln_bound.specs.View.{typed}
 use Rattle.ln_filter.specs.Tried.{IsSmall, AllNarrow, lets_tried}
 use Rattle.ln_filter.specs.Lines.{let_lines}
-use Rattle.ln_filter.proofs.Writes.{lets_from, Continues}
+use Rattle.ln_filter.proofs.Operations.Writes.{lets_from, Continues}
 use Rattle.ln_filter.proofs.emit.put_lets.Given as goal
 
 abbrev pub invariant-lets : goal.invariant-lets

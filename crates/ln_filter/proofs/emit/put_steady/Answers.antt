@@ -1,7 +1,7 @@
 use Rattle.std.proofs.Common.{sym}
 use Rattle.ln_bound.specs.Typed.{untyped}
 use Rattle.ln_bound.specs.View.{typed}
-use Rattle.ln_filter.proofs.Steady.{tried_steady, tried_again}
+use Rattle.ln_filter.proofs.Truncation.Steady.{tried_steady, tried_again}
 use Rattle.ln_filter.proofs.emit.put_steady.Goals as goal
 
 pub put_tree-requires-clause-steady : goal.put_tree-requires-clause-steady

@@ -1,6 +1,6 @@
 use Rattle.std.proofs.lemmas.Result.{IfOk-weaker}
 use Rattle.ln_filter.specs.Tried.{of_raw}
-use Rattle.ln_filter.proofs.Writes.{cut_small}
+use Rattle.ln_filter.proofs.Operations.Writes.{cut_small}
 use Rattle.ln_filter.proofs.emit.put_trimmed.Goals as goal
 
 pub returns-clause-small : goal.returns-clause-small

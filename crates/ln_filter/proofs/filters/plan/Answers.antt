@@ -1,7 +1,7 @@
 use Rattle.std.proofs.Common.{map}
 use Rattle.std.proofs.lemmas.Result.{IfOk-weaker}
 use Rattle.ln_bound.specs.View.{typed}
-use Rattle.ln_filter.proofs.Sealed.{where_is, gives}
+use Rattle.ln_filter.proofs.Operations.Sealed.{where_is, gives}
 use Rattle.ln_filter.proofs.filters.plan.Goals as goal
 
 pub returns-clause-where_ : goal.returns-clause-where_

@@ -2,7 +2,7 @@ use Rattle.std.proofs.Common.{refl, ap}
 use Rattle.ln_bound.specs.Typed.{untyped}
 use Rattle.ln_bound.specs.View.{typed}
 use Rattle.ln_code.specs.Part.{FilterCode}
-use Rattle.ln_filter.proofs.Sealed.{ranges_of, written_is, none_by_lets, none_by_root}
+use Rattle.ln_filter.proofs.Operations.Sealed.{ranges_of, written_is, none_by_lets, none_by_root}
 use Rattle.ln_filter.proofs.filters.written.Goals as goal
 
 pub put_steady-requires-clause-ranges : goal.put_steady-requires-clause-ranges

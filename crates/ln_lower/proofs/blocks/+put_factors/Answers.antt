@@ -3,7 +3,7 @@ use Rattle.ln_interval.specs.Range.{power}
 use Rattle.ln_interval.specs.View.{range}
 use Rattle.ln_code.specs.declared.op.Op.TheVariants.{Get, Mul}
 use Rattle.ln_lower.specs.Lowered.{line}
-use Rattle.ln_lower.proofs.Writes.{factors_more, next_fits, next_power, power_below, wrote_plain}
+use Rattle.ln_lower.proofs.Operations.Writes.{factors_more, next_fits, next_power, power_below, wrote_plain}
 use Rattle.ln_lower.proofs.blocks.+put_factors.Goals as goal
 
 pub put_factors-requires : goal.put_factors-requires

@@ -5,13 +5,13 @@ use Rattle.ln_bound.specs.declared.fitted.Width.{Width}
 use Rattle.ln_bound.specs.declared.fitted.Two.TheVariants.{Plus, Minus, Times}
 use Rattle.ln_bound.specs.Typed.{TNum, TInput, TLet, TNeg, TTwo, TPow, pair}
 use Rattle.ln_bound.specs.View.{typed}
-use Rattle.ln_bound.proofs.Views.{pair_typed}
+use Rattle.ln_bound.proofs.Trees.Views.{pair_typed}
 use Rattle.ln_code.specs.declared.op.Op.TheVariants.{Push, Input, Get}
 use Rattle.ln_lower.specs.Lowered.{line}
 use Rattle.std.specs.Prelude.{OnOk}
 use Rattle.ln_lower.specs.Wrote.{Wrote}
 use Rattle.ln_lower.specs.Written.{number, variable, name}
-use Rattle.ln_lower.proofs.Writes.{ok_then, puts_leaf, puts_again, puts_kept, done_neg, done_two, done_zeroth, done_power}
+use Rattle.ln_lower.proofs.Operations.Writes.{ok_then, puts_leaf, puts_again, puts_kept, done_neg, done_two, done_zeroth, done_power}
 use Rattle.ln_lower.proofs.blocks.+put_tree.Goals as goal
 
 pub put_power-requires : goal.put_power-requires

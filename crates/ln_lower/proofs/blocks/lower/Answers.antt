@@ -5,8 +5,8 @@ use Rattle.ln_interval.specs.View.{range}
 use Rattle.ln_bound.specs.declared.fitted.Fitted.{Fitted}
 use Rattle.ln_bound.specs.View.{typed}
 use Rattle.ln_code.specs.Part.{Code}
-use Rattle.ln_lower.proofs.Numbering.{stand_behind}
-use Rattle.ln_lower.proofs.Sealed.{all_fit, root_fits, sealed, lowered_range, lowered_same, lowered_value}
+use Rattle.ln_lower.proofs.Subtrees.Numbering.{stand_behind}
+use Rattle.ln_lower.proofs.Operations.Sealed.{all_fit, root_fits, sealed, lowered_range, lowered_same, lowered_value}
 use Rattle.ln_lower.proofs.blocks.lower.Goals as goal
 
 pub put_lets-requires-clause-powers : goal.put_lets-requires-clause-powers

@@ -1,7 +1,7 @@
 use Rattle.std.proofs.Common.{take, map}
 use Rattle.ln_bound.specs.View.{typed}
-use Rattle.ln_lower.proofs.Numbering.{next_stands}
-use Rattle.ln_lower.proofs.Writes.{more_typed}
+use Rattle.ln_lower.proofs.Subtrees.Numbering.{next_stands}
+use Rattle.ln_lower.proofs.Operations.Writes.{more_typed}
 use Rattle.ln_lower.proofs.blocks.number_all.Goals as goal
 
 pub trees-preserved : goal.trees-preserved

@@ -1,8 +1,8 @@
 use Rattle.std.proofs.Common.{refl, take, map, arith}
 use Rattle.ln_bound.specs.View.{typed}
 use Rattle.ln_lower.specs.Lowered.{nothing}
-use Rattle.ln_lower.proofs.Numbering.{stand_length, stands_at}
-use Rattle.ln_lower.proofs.Writes.{next_let, no_lets_put, more_typed, typed_length}
+use Rattle.ln_lower.proofs.Subtrees.Numbering.{stand_length, stands_at}
+use Rattle.ln_lower.proofs.Operations.Writes.{next_let, no_lets_put, more_typed, typed_length}
 use Rattle.ln_lower.proofs.blocks.put_lets.Goals as goal
 
 pub lets-init : goal.lets-init

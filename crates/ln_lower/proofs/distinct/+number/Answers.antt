@@ -6,7 +6,7 @@ use Rattle.ln_bound.specs.declared.fitted.Width.{Width}
 use Rattle.ln_bound.specs.declared.fitted.Two.TheVariants.{Plus, Minus, Times}
 use Rattle.ln_bound.specs.Typed.{TNeg, TTwo, TPow}
 use Rattle.ln_bound.specs.View.{typed}
-use Rattle.ln_lower.proofs.Numbering.{numbered_neg, numbered_two, numbered_pow}
+use Rattle.ln_lower.proofs.Subtrees.Numbering.{numbered_neg, numbered_two, numbered_pow}
 use Rattle.ln_lower.proofs.distinct.+number.Goals as goal
 
 pub returns-in_ok-a-in-Neg : goal.returns-in_ok-a-in-Neg

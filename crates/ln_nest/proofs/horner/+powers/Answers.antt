@@ -5,7 +5,7 @@ use Rattle.ln_bound.specs.Light.{most}
 use Rattle.ln_bound.specs.View.{typed}
 use Rattle.ln_nest.specs.Nested.{nested, total}
 use Rattle.ln_nest.specs.View.{scale, terms_in, abs_total}
-use Rattle.ln_nest.proofs.Steps.{scale_some, free_weight, divided_weight, few_weight, product_fits, sum_fits_most, ends_free, ends_product, ends_sum, is_empty, is_some, at_count, constant_has, total_fits}
+use Rattle.ln_nest.proofs.Forms.Steps.{scale_some, free_weight, divided_weight, few_weight, product_fits, sum_fits_most, ends_free, ends_product, ends_sum, is_empty, is_some, at_count, constant_has, total_fits}
 use Rattle.ln_nest.proofs.horner.+powers.Goals as goal
 
 pub by_powers-nest_from-requires-then-is_empty : goal.by_powers-nest_from-requires-then-is_empty

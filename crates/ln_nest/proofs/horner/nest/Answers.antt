@@ -1,8 +1,8 @@
 use Rattle.std.proofs.Common.{length, arith, refl}
 use Rattle.ln_tree.proofs.KeptLemmas.{few_vars}
-use Rattle.ln_bound.proofs.Measuring.{ordered}
+use Rattle.ln_bound.proofs.Measures.Measuring.{ordered}
 use Rattle.ln_bound.specs.View.{typed}
-use Rattle.ln_nest.proofs.Whole.{whole_weight, whole_has, whole_same, whole_sound, whole_lean, whole_cheap}
+use Rattle.ln_nest.proofs.Forms.Whole.{whole_weight, whole_has, whole_same, whole_sound, whole_lean, whole_cheap}
 use Rattle.ln_nest.proofs.horner.nest.Goals as goal
 
 pub nest_from-requires-clause-few : goal.nest_from-requires-clause-few

@@ -1,4 +1,4 @@
-use Rattle.ln_nest.proofs.Shortest.{lean_count, lean_exponents}
+use Rattle.ln_nest.proofs.Terms.Shortest.{lean_count, lean_exponents}
 use Rattle.ln_nest.proofs.laws.lean_polynomials_are_short.Goals as goal
 
 pub returns-clause-count : goal.returns-clause-count

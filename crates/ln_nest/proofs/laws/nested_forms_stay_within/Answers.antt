@@ -1,4 +1,4 @@
-use Rattle.ln_nest.proofs.Nests.{nested_up, nested_ranges, nested_sizes, nested_sound}
+use Rattle.ln_nest.proofs.Forms.Nests.{nested_up, nested_ranges, nested_sizes, nested_sound}
 use Rattle.ln_nest.proofs.laws.nested_forms_stay_within.Goals as goal
 
 pub returns-clause-weights : goal.returns-clause-weights

@@ -1,4 +1,4 @@
-use Rattle.ln_nest.proofs.Doubled.{below, degrees, small}
+use Rattle.ln_nest.proofs.Terms.Doubled.{below, degrees, small}
 use Rattle.ln_nest.proofs.tests.doubled.Goals as goal
 
 pub nest-requires-clause-below : goal.nest-requires-clause-below

@@ -3,7 +3,7 @@ use Rattle.std.proofs.lemmas.Int.{to_z-of_z}
 use mir.Syntax.{w128}
 use Rattle.ln_nest.specs.Nested.{total}
 use Rattle.ln_nest.specs.View.{terms_in}
-use Rattle.ln_nest.proofs.Steps.{sum_step, sum_fits, small_sum, sum_next}
+use Rattle.ln_nest.proofs.Forms.Steps.{sum_step, sum_fits, small_sum, sum_next}
 use Rattle.ln_nest.proofs.work.constant.Goals as goal
 
 pub overflow_add-sum : goal.overflow_add-sum

@@ -1,6 +1,6 @@
 use Rattle.std.proofs.Common.{◌≡◌, arith, ◌∙◌, ap, sym, slice_index_or, length}
 use Rattle.ln_nest.specs.Nested.{is_positive, exponent_of}
-use Rattle.ln_nest.proofs.Vectors.{exponent_is, exponent_none, is_test}
+use Rattle.ln_nest.proofs.Terms.Vectors.{exponent_is, exponent_none, is_test}
 use Rattle.ln_nest.proofs.work.has.Goals as goal
 
 pub returns-in-None : goal.returns-in-None

@@ -1,5 +1,5 @@
 use Rattle.std.proofs.Common.{arith}
-use Rattle.ln_nest.proofs.Vectors.{within, positive, set_is}
+use Rattle.ln_nest.proofs.Terms.Vectors.{within, positive, set_is}
 use Rattle.ln_nest.proofs.work.lower.Goals as goal
 
 pub index_mut-requires : goal.index_mut-requires

@@ -1,6 +1,6 @@
 use Rattle.std.proofs.Common.{◌≡◌, ◌∙◌, sym, true, false}
 use Rattle.ln_nest.specs.Nested.{is_positive, exponent_of}
-use Rattle.ln_nest.proofs.Vectors.{with_step, with_same, without_step, without_same}
+use Rattle.ln_nest.proofs.Terms.Vectors.{with_step, with_same, without_step, without_same}
 use Rattle.ln_nest.proofs.work.parted.Goals as goal
 
 pub loop-term-preserved-in-Continue-1 : goal.loop-term-preserved-in-Continue-1

@@ -1,5 +1,5 @@
 use Rattle.std.proofs.Common.{◌+◌, arith}
-use Rattle.ln_nest.proofs.Vectors.{pushed}
+use Rattle.ln_nest.proofs.Terms.Vectors.{pushed}
 use Rattle.ln_nest.proofs.work.spread.Goals as goal
 
 pub variables-preserved : goal.variables-preserved

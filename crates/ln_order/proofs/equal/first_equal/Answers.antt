@@ -1,5 +1,5 @@
 use Rattle.std.proofs.Common.{◌∙◌, sym, arith, pos, Some, None}
-use Rattle.ln_order.proofs.OrderLemmas.{found_here, passed_by, none_behind, first_equal_says}
+use Rattle.ln_order.proofs.Listing.OrderLemmas.{found_here, passed_by, none_behind, first_equal_says}
 use Rattle.ln_order.proofs.equal.first_equal.Goals as goal
 
 pub returns-then-is_among-clause-value : goal.returns-then-is_among-clause-value

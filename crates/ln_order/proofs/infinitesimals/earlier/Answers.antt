@@ -1,5 +1,5 @@
 use Rattle.std.proofs.Common.{◌∙◌, refl, sym, arith, length}
-use Rattle.ln_order.proofs.RankingLemmas.{along-more, tested-here, tested-nowhere}
+use Rattle.ln_order.proofs.Signs.RankingLemmas.{along-more, tested-here, tested-nowhere}
 use Rattle.ln_order.proofs.infinitesimals.earlier.Goals as goal
 
 pub returns-in_default : goal.returns-in_default

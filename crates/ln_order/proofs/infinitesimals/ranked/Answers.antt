@@ -1,5 +1,5 @@
 use Rattle.std.proofs.Common.{arith, length, refl}
-use Rattle.ln_order.proofs.RankingLemmas.{all-passed}
+use Rattle.ln_order.proofs.Signs.RankingLemmas.{all-passed}
 use Rattle.ln_order.proofs.infinitesimals.ranked.Goals as goal
 
 pub returns : goal.returns

@@ -1,5 +1,5 @@
 use Rattle.std.proofs.Common.{arith}
-use Rattle.ln_order.proofs.RankingLemmas.{ranking-is}
+use Rattle.ln_order.proofs.Signs.RankingLemmas.{ranking-is}
 use Rattle.ln_order.proofs.infinitesimals.ranking.Goals as goal
 
 pub returns-clause-ranked : goal.returns-clause-ranked

@@ -1,5 +1,5 @@
 use Rattle.std.proofs.Common.{arith}
-use Rattle.ln_order.proofs.OrdersLemmas.{sizes_are}
+use Rattle.ln_order.proofs.Listing.OrdersLemmas.{sizes_are}
 use Rattle.ln_order.proofs.orders.all_orders.Goals as goal
 
 pub longer-requires-clause-size : goal.longer-requires-clause-size

@@ -1,5 +1,5 @@
 use Rattle.std.proofs.Common.{ap, arith, length}
-use Rattle.ln_order.proofs.OrdersLemmas.{all_behind, behind-places}
+use Rattle.ln_order.proofs.Listing.OrdersLemmas.{all_behind, behind-places}
 use Rattle.ln_order.proofs.orders.behind.Goals as goal
 
 pub of-requires-clause-each : goal.of-requires-clause-each

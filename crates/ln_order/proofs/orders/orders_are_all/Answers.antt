@@ -1,4 +1,4 @@
-use Rattle.ln_order.proofs.OrdersLemmas.{orders-are-all}
+use Rattle.ln_order.proofs.Listing.OrdersLemmas.{orders-are-all}
 use Rattle.ln_order.proofs.orders.orders_are_all.Goals as goal
 
 pub returns : goal.returns

@@ -1,5 +1,5 @@
 use Rattle.std.proofs.Common.{arith}
-use Rattle.ln_order.proofs.FrontLemmas.{places_small, sizes_small}
+use Rattle.ln_order.proofs.Listing.FrontLemmas.{places_small, sizes_small}
 use Rattle.ln_order.proofs.prefix.all_prefixes.Goals as goal
 
 pub longer-requires-clause-size : goal.longer-requires-clause-size

@@ -1,4 +1,4 @@
-use Rattle.ln_order.proofs.PrefixLemmas.{fronts-follow}
+use Rattle.ln_order.proofs.Listing.PrefixLemmas.{fronts-follow}
 use Rattle.ln_order.proofs.prefix.fronts_follow.Goals as goal
 
 pub returns : goal.returns

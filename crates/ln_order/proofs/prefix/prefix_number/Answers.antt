@@ -1,7 +1,7 @@
 use Rattle.std.proofs.Common.{◌<◌, ◌+◌, arith}
 use Rattle.std.specs.Prelude.{suc}
 use Rattle.std.proofs.lemmas.List.{take_rest}
-use Rattle.ln_order.proofs.PrefixLemmas.{added, done_small, done_there, step_small}
+use Rattle.ln_order.proofs.Listing.PrefixLemmas.{added, done_small, done_there, step_small}
 use Rattle.ln_order.proofs.prefix.prefix_number.Goals as goal
 
 pub overflow_mul-number : goal.overflow_mul-number

@@ -1,4 +1,4 @@
-use Rattle.ln_order.proofs.RankLemmas.{are_places, sorted_is_order, front_places}
+use Rattle.ln_order.proofs.Signs.RankLemmas.{are_places, sorted_is_order, front_places}
 use Rattle.ln_order.proofs.rank.order_of.Goals as goal
 
 pub of-requires-clause-each : goal.of-requires-clause-each

@@ -1,4 +1,4 @@
-use Rattle.ln_order.proofs.RowSigns.{row_first-unique, row_sign-unique}
+use Rattle.ln_order.proofs.Signs.RowSigns.{row_first-unique, row_sign-unique}
 use Rattle.ln_order.proofs.rows.row_sign_is_unique.Goals as goal
 
 pub returns-clause-vector : goal.returns-clause-vector

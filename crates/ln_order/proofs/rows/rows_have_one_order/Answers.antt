@@ -1,5 +1,5 @@
-use Rattle.ln_order.proofs.OrderExists.{order-exists}
-use Rattle.ln_order.proofs.OrderUnique.{order-unique}
+use Rattle.ln_order.proofs.Listing.OrderExists.{order-exists}
+use Rattle.ln_order.proofs.Listing.OrderUnique.{order-unique}
 use Rattle.ln_order.proofs.rows.rows_have_one_order.Goals as goal
 
 pub returns-clause-exists : goal.returns-clause-exists

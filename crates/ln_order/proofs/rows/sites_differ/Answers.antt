@@ -1,4 +1,4 @@
-use Rattle.ln_order.proofs.RowSigns.{orders-differ, rows-differ}
+use Rattle.ln_order.proofs.Signs.RowSigns.{orders-differ, rows-differ}
 use Rattle.ln_order.proofs.rows.sites_differ.Goals as goal
 
 pub returns-clause-orders : goal.returns-clause-orders

@@ -1,7 +1,7 @@
 use Rattle.std.proofs.Common.{take, ap, subst, arith}
 use Rattle.ln_syntax.specs.Raw.{Item, item, items}
 use Rattle.ln_parse.specs.Ready.{ReadyItem}
-use Rattle.ln_parse.proofs.Loops.{item_index}
+use Rattle.ln_parse.proofs.Building.Loops.{item_index}
 use Rattle.ln_parse.proofs.build.params.Goals as goal
 
 pub param-requires : goal.param-requires

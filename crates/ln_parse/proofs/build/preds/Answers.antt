@@ -9,9 +9,9 @@ use Rattle.ln_syntax.specs.Raw.{Item, item, items}
 use Rattle.ln_tree.specs.declared.pred.Pred.{Pred}
 use Rattle.ln_tree.specs.Table.{site_of, param_of, pred_of, pred_fits}
 use Rattle.ln_parse.specs.Ready.{ReadyItem, ReadyPred}
-use Rattle.ln_parse.proofs.Said.{preds_end, preds_site, preds_param, preds_pred}
-use Rattle.ln_parse.proofs.Kept.{declared}
-use Rattle.ln_parse.proofs.Loops.{item_index}
+use Rattle.ln_parse.proofs.Building.Said.{preds_end, preds_site, preds_param, preds_pred}
+use Rattle.ln_parse.proofs.Building.Kept.{declared}
+use Rattle.ln_parse.proofs.Building.Loops.{item_index}
 use Rattle.ln_parse.proofs.build.preds.Goals as goal
 use Rattle.ln_parse.proofs.build.preds.Goals.{in-Site, in-Param, in-Pred+in_ok-predicate-in-Pred+in_ok-push-in-Pred}
 

@@ -1,7 +1,7 @@
 use Rattle.std.proofs.Common.{◌≡◌, true, map}
 use Rattle.std.specs.List.{list_all}
 use Rattle.ln_tree.specs.Table.{TableOf, site_of, param_of, pred_of, pred_fits}
-use Rattle.ln_parse.proofs.Said.{PredsOn}
+use Rattle.ln_parse.proofs.Building.Said.{PredsOn}
 use Rattle.ln_parse.proofs.build.preds.Given as goal
 
 abbrev pub invariant-items : goal.invariant-items

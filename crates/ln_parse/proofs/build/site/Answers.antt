@@ -1,6 +1,6 @@
 use Rattle.std.proofs.Common.{arith}
 use Rattle.ln_parse.specs.Ready.{ReadyCoord}
-use Rattle.ln_parse.proofs.Loops.{each_or}
+use Rattle.ln_parse.proofs.Building.Loops.{each_or}
 use Rattle.ln_parse.proofs.build.site.Goals as goal
 
 pub coord-requires : goal.coord-requires

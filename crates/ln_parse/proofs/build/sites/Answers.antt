@@ -3,8 +3,8 @@ use Rattle.ln_syntax.specs.declared.raw.RawCoord.{RawCoord}
 use Rattle.ln_syntax.specs.Raw.{Item, SiteItem, item, items, is_site}
 use Rattle.ln_parse.specs.Says.{sites_said}
 use Rattle.ln_parse.specs.Ready.{ReadyItem, ReadySite}
-use Rattle.ln_parse.proofs.Loops.{item_index}
-use Rattle.ln_parse.proofs.Said.{sites_more, sites_skip}
+use Rattle.ln_parse.proofs.Building.Loops.{item_index}
+use Rattle.ln_parse.proofs.Building.Said.{sites_more, sites_skip}
 use Rattle.ln_parse.proofs.build.sites.Goals as goal
 use Rattle.ln_parse.proofs.build.sites.Goals.{in-Site+in_ok-site-in-Site+in_ok-push-in-Site, in-Param, in-Pred}
 

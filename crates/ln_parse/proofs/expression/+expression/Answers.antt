@@ -3,7 +3,7 @@ use Rattle.ln_base.specs.declared.span.Span.{Span}
 use Rattle.ln_names.specs.Numbers.{number}
 use Rattle.std.proofs.lemmas.Result.{IfOk-weaker}
 use Rattle.ln_lex.specs.declared.token.Kind.TheVariants.{ParL, Plus, Minus, Star}
-use Rattle.ln_parse.proofs.Steps.{is_within, par_here, par_tree, parens_read, atom_tree, power_plain, exponent_fit, power_read, power_tree, unary_tree, unary_plain, unary_minus, unary_first, factor_tree, term_first, plus_tree, less_tree, sums_begin, sums_plus, sums_less, sums_end, products_begin, products_times, products_end}
+use Rattle.ln_parse.proofs.Expressions.Steps.{is_within, par_here, par_tree, parens_read, atom_tree, power_plain, exponent_fit, power_read, power_tree, unary_tree, unary_plain, unary_minus, unary_first, factor_tree, term_first, plus_tree, less_tree, sums_begin, sums_plus, sums_less, sums_end, products_begin, products_times, products_end}
 use Rattle.ln_parse.proofs.expression.+expression.Goals as goal
 
 pub atom-sum-requires : goal.atom-sum-requires

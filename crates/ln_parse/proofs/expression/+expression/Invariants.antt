@@ -2,7 +2,7 @@ use Rattle.std.proofs.Common.{◌+◌, length, ◌-◌, ◌*◌}
 use Rattle.ln_syntax.specs.Raw.{items}
 use Rattle.ln_names.specs.Rules.{scope}
 use Rattle.ln_tree.specs.Formula.{formula}
-use Rattle.ln_parse.proofs.Steps.{Sums, Products}
+use Rattle.ln_parse.proofs.Expressions.Steps.{Sums, Products}
 use Rattle.ln_parse.proofs.expression.+expression.Given as goal
 
 abbrev pub decreases-atom : goal.decreases-atom

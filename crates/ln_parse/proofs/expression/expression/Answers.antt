@@ -1,4 +1,4 @@
-use Rattle.ln_parse.proofs.Steps.{value_tree, value_said, value_within}
+use Rattle.ln_parse.proofs.Expressions.Steps.{value_tree, value_said, value_within}
 use Rattle.ln_parse.proofs.expression.expression.Goals as goal
 
 pub sum-requires-clause-within : goal.sum-requires-clause-within

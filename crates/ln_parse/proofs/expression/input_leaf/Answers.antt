@@ -4,7 +4,7 @@ use Rattle.ln_syntax.specs.declared.raw.RawCoord.{RawCoord}
 use Rattle.ln_syntax.specs.Raw.{items, same}
 use Rattle.ln_names.specs.Rules.{scope, is_site_arg, coords_at}
 use Rattle.ln_parse.specs.Says.{place}
-use Rattle.ln_parse.proofs.Places.{place_is}
+use Rattle.ln_parse.proofs.Building.Places.{place_is}
 use Rattle.ln_parse.proofs.expression.input_leaf.Goals as goal
 
 pub or_zero-requires-2 : goal.or_zero-requires-2

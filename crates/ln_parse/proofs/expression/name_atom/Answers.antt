@@ -1,4 +1,4 @@
-use Rattle.ln_parse.proofs.Steps.{name_read, input_read}
+use Rattle.ln_parse.proofs.Expressions.Steps.{name_read, input_read}
 use Rattle.ln_parse.proofs.expression.name_atom.Goals as goal
 
 pub returns-then-not-is : goal.returns-then-not-is

@@ -1,7 +1,7 @@
 use Rattle.std.proofs.Common.{refl}
 use Rattle.ln_syntax.specs.Raw.{items}
 use Rattle.ln_names.specs.Rules.{scope}
-use Rattle.ln_parse.proofs.Places.{name_is_let, name_is_param}
+use Rattle.ln_parse.proofs.Building.Places.{name_is_let, name_is_param}
 use Rattle.ln_parse.proofs.expression.name_leaf.Goals as goal
 
 pub returns-in-Some : goal.returns-in-Some

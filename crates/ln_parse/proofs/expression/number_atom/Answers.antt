@@ -1,7 +1,7 @@
 use Rattle.std.proofs.Common.{◌<◌, ◌^◌, subst, sym}
 use Rattle.ln_base.specs.declared.span.Span.{Span}
 use Rattle.ln_names.specs.Numbers.{number}
-use Rattle.ln_parse.proofs.Steps.{number_fit, number_read}
+use Rattle.ln_parse.proofs.Expressions.Steps.{number_fit, number_read}
 use Rattle.ln_parse.proofs.expression.number_atom.Goals as goal
 
 pub number_leaf-requires : goal.number_leaf-requires

@@ -2,8 +2,8 @@ use Rattle.std.proofs.Common.{◌≡◌, refl, ap, ◌∙◌}
 use Rattle.std.specs.List.{position_from}
 use Rattle.ln_syntax.specs.Raw.{items, same}
 use Rattle.ln_parse.specs.Says.{place, site_names, param_names}
-use Rattle.ln_parse.proofs.Places.{place_is, sites_named, params_named}
-use Rattle.ln_parse.proofs.Loops.{below_byte}
+use Rattle.ln_parse.proofs.Building.Places.{place_is, sites_named, params_named}
+use Rattle.ln_parse.proofs.Building.Loops.{below_byte}
 use Rattle.ln_parse.proofs.layout.arg.Goals as goal
 
 pub or_zero-requires : goal.or_zero-requires

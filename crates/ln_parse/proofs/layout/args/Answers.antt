@@ -1,7 +1,7 @@
 use Rattle.std.proofs.Common.{arith}
 use Rattle.ln_syntax.specs.Raw.{items}
 use Rattle.ln_parse.specs.Ready.{ReadyArg}
-use Rattle.ln_parse.proofs.Loops.{each_or}
+use Rattle.ln_parse.proofs.Building.Loops.{each_or}
 use Rattle.ln_parse.proofs.layout.args.Goals as goal
 
 pub arg-requires-clause-ready : goal.arg-requires-clause-ready

@@ -6,7 +6,7 @@ use Rattle.ln_tree.specs.declared.items.Site.{Site}
 use Rattle.ln_tree.specs.declared.items.Coord.{Coord}
 use Rattle.ln_tree.specs.Table.{CoordOf, site_of, coord_of}
 use Rattle.ln_parse.specs.Says.{coords_or}
-use Rattle.ln_parse.proofs.LaidOut.{coords_few}
+use Rattle.ln_parse.proofs.Building.LaidOut.{coords_few}
 use Rattle.ln_parse.proofs.layout.coords_of.Goals as goal
 
 pub returns-in-Some-clause-coords : goal.returns-in-Some-clause-coords

@@ -1,7 +1,7 @@
 use Rattle.std.proofs.Common.{arith}
 use Rattle.ln_syntax.specs.Raw.{items}
 use Rattle.ln_parse.specs.Ready.{ReadyLet}
-use Rattle.ln_parse.proofs.Loops.{each_or}
+use Rattle.ln_parse.proofs.Building.Loops.{each_or}
 use Rattle.ln_parse.proofs.predicate.let_names.Goals as goal
 
 pub name_at-requires : goal.name_at-requires

@@ -2,8 +2,8 @@ use Rattle.std.proofs.Common.{map, arith}
 use Rattle.ln_syntax.specs.Raw.{items}
 use Rattle.ln_tree.specs.Formula.{formula}
 use Rattle.ln_parse.specs.Ready.{ReadyLet}
-use Rattle.ln_parse.proofs.Said.{lets_end}
-use Rattle.ln_parse.proofs.Loops.{each_or, is_narrow, short_take}
+use Rattle.ln_parse.proofs.Building.Said.{lets_end}
+use Rattle.ln_parse.proofs.Building.Loops.{each_or, is_narrow, short_take}
 use Rattle.ln_parse.proofs.predicate.lets.Goals as goal
 
 pub expression-requires-clause-narrow : goal.expression-requires-clause-narrow

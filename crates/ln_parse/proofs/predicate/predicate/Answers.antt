@@ -4,8 +4,8 @@ use Rattle.ln_syntax.specs.Raw.{items}
 use Rattle.ln_tree.specs.declared.items.Arg.{Arg}
 use Rattle.ln_tree.specs.Table.{arg_of, site_of, param_of}
 use Rattle.ln_parse.specs.Says.{vars_behind, is_site_said}
-use Rattle.ln_parse.proofs.Kept.{few_args, shape_kept, pred_kept, args_kept, as_many}
-use Rattle.ln_parse.proofs.Loops.{is_narrow}
+use Rattle.ln_parse.proofs.Building.Kept.{few_args, shape_kept, pred_kept, args_kept, as_many}
+use Rattle.ln_parse.proofs.Building.Loops.{is_narrow}
 use Rattle.ln_parse.proofs.predicate.predicate.Goals as goal
 
 pub laid_out-requires-clause-few : goal.laid_out-requires-clause-few

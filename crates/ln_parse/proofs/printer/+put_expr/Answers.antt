@@ -12,7 +12,7 @@ use Rattle.ln_parse.specs.declared.printer.Room.TheVariants.{OfSum, OfProduct, O
 use Rattle.ln_parse.specs.Lexemes.{Lexeme, word, Puts}
 use Rattle.ln_parse.specs.Written.{Written, naming, written}
 use Rattle.ln_parse.specs.Canonical.{inside}
-use Rattle.ln_parse.proofs.Putting.{then, wraps, puts_name, puts_number, puts_fixed, puts_equal, spaced, tight}
+use Rattle.ln_parse.proofs.Texts.Putting.{then, wraps, puts_name, puts_number, puts_fixed, puts_equal, spaced, tight}
 use Rattle.ln_parse.proofs.printer.+put_expr.Goals as goal
 use Rattle.ln_parse.proofs.printer.+put_expr.Goals.{in-Num+in_ok-put_number-in-Num, in-Input+in_ok-put_input-in-Input, in-Name+in_ok-put-in-Name, in-Neg+in_ok-put-in-Neg+in_ok-put_expr-in-Neg, in-Add+in_ok-put_expr-in-Add+in_ok-put-in-Add+in_ok-put_expr-in-Add-2, in-Sub+in_ok-put_expr-in-Sub+in_ok-put-in-Sub+in_ok-put_expr-in-Sub-2, in-Mul+in_ok-put_expr-in-Mul+in_ok-put-in-Mul+in_ok-put_expr-in-Mul-2, in-Pow+in_ok-put_expr-in-Pow+in_ok-put-in-Pow+in_ok-put_number-in-Pow}
 

@@ -1,8 +1,8 @@
 use Rattle.std.proofs.Common.{List, ℕ, sym, subst}
 use Rattle.ln_tree.specs.Table.{table_of}
 use Rattle.ln_parse.specs.Spanless.{IsTextUpToSpans}
-use Rattle.ln_parse.proofs.HasTable.{has_table}
-use Rattle.ln_parse.proofs.TableWhole.{table_is_whole}
+use Rattle.ln_parse.proofs.Wholes.HasTable.{has_table}
+use Rattle.ln_parse.proofs.Wholes.TableWhole.{table_is_whole}
 use Rattle.ln_parse.proofs.printer.print.Goals as goal
 
 pub returns-clause-table : goal.returns-clause-table

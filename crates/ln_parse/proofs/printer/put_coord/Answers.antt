@@ -3,7 +3,7 @@ use Rattle.std.proofs.lemmas.Int.{to_z-of_z}
 use mir.Syntax.{w64}
 use Rattle.std.proofs.lemmas.Result.{IfOk-weaker}
 use Rattle.ln_parse.specs.Lexemes.{Lexeme, gap}
-use Rattle.ln_parse.proofs.Putting.{then, puts_fixed}
+use Rattle.ln_parse.proofs.Texts.Putting.{then, puts_fixed}
 use Rattle.ln_parse.proofs.printer.put_coord.Goals as goal
 
 pub returns : goal.returns

@@ -1,6 +1,6 @@
 use Rattle.ln_tree.specs.Table.{table_of, arg_of}
 use Rattle.ln_parse.specs.Canonical.{further}
-use Rattle.ln_parse.proofs.Putting.{EachPut}
+use Rattle.ln_parse.proofs.Texts.Putting.{EachPut}
 use Rattle.ln_parse.proofs.printer.put_further.Given as goal
 
 abbrev pub invariant-args-2 : goal.invariant-args-2

@@ -7,7 +7,7 @@ use Rattle.ln_tree.specs.Names.{name_bytes}
 use Rattle.ln_tree.specs.Table.{arg_of, site_of, param_of}
 use Rattle.ln_parse.specs.Lexemes.{Lexeme, word}
 use Rattle.ln_parse.specs.Written.{coord_name, range_name}
-use Rattle.ln_parse.proofs.Putting.{then, puts_name, puts_fixed, puts_empty, found}
+use Rattle.ln_parse.proofs.Texts.Putting.{then, puts_name, puts_fixed, puts_empty, found}
 use Rattle.ln_parse.proofs.printer.put_input.Goals as goal
 
 pub returns-in_ok-put-in-Some-Site-2 : goal.returns-in_ok-put-in-Some-Site-2

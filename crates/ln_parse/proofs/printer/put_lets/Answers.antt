@@ -1,5 +1,5 @@
 use Rattle.std.proofs.Common.{inl, inr}
-use Rattle.ln_parse.proofs.Putting.{lets_end}
+use Rattle.ln_parse.proofs.Texts.Putting.{lets_end}
 use Rattle.ln_parse.proofs.printer.put_lets.Goals as goal
 
 pub returns : goal.returns

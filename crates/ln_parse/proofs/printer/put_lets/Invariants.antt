@@ -2,7 +2,7 @@ use Rattle.ln_tree.specs.Names.{name_bytes}
 use Rattle.ln_tree.specs.Formula.{formula}
 use Rattle.ln_tree.specs.Table.{table_of, pred_of}
 use Rattle.ln_parse.specs.Written.{naming}
-use Rattle.ln_parse.proofs.Putting.{LetsPut}
+use Rattle.ln_parse.proofs.Texts.Putting.{LetsPut}
 use Rattle.ln_parse.proofs.printer.put_lets.Given as goal
 
 abbrev pub invariant-lets : goal.invariant-lets

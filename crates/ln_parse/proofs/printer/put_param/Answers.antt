@@ -4,7 +4,7 @@ use mir.Syntax.{w64}
 use Rattle.std.proofs.lemmas.Result.{IfOk-weaker}
 use Rattle.ln_lex.specs.declared.token.Kind.TheVariants.{Param}
 use Rattle.ln_parse.specs.Lexemes.{Lexeme, gap, line, word}
-use Rattle.ln_parse.proofs.Putting.{then, puts_fixed}
+use Rattle.ln_parse.proofs.Texts.Putting.{then, puts_fixed}
 use Rattle.ln_parse.proofs.printer.put_param.Goals as goal
 
 pub returns : goal.returns

@@ -1,7 +1,7 @@
 use Rattle.std.proofs.Common.{arith}
 use Rattle.ln_tree.specs.Table.{table_of, pred_of}
 use Rattle.ln_parse.specs.Canonical.{pred}
-use Rattle.ln_parse.proofs.Putting.{each_more}
+use Rattle.ln_parse.proofs.Texts.Putting.{each_more}
 use Rattle.ln_parse.proofs.printer.put_preds.Goals as goal
 
 pub preds-preserved : goal.preds-preserved

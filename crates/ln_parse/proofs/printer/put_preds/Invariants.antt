@@ -1,6 +1,6 @@
 use Rattle.ln_tree.specs.Table.{table_of, pred_of}
 use Rattle.ln_parse.specs.Canonical.{pred}
-use Rattle.ln_parse.proofs.Putting.{EachPut}
+use Rattle.ln_parse.proofs.Texts.Putting.{EachPut}
 use Rattle.ln_parse.proofs.printer.put_preds.Given as goal
 
 abbrev pub invariant-preds : goal.invariant-preds

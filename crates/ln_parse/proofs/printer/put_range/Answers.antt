@@ -5,7 +5,7 @@ use Rattle.std.proofs.lemmas.Result.{IfOk-weaker}
 use Rattle.ln_lex.specs.declared.token.Kind.TheVariants.{Colon, Semi, Dots}
 use Rattle.ln_tree.specs.Names.{name_bytes}
 use Rattle.ln_parse.specs.Lexemes.{Lexeme, gap, word}
-use Rattle.ln_parse.proofs.Putting.{then, puts_name, puts_fixed}
+use Rattle.ln_parse.proofs.Texts.Putting.{then, puts_name, puts_fixed}
 use Rattle.ln_parse.proofs.printer.put_range.Goals as goal
 
 pub returns : goal.returns

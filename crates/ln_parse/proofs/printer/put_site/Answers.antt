@@ -3,7 +3,7 @@ use Rattle.std.proofs.lemmas.Result.{IfOk-weaker}
 use Rattle.ln_lex.specs.declared.token.Kind.TheVariants.{Site, BraceL, BraceR}
 use Rattle.ln_tree.specs.Names.{name_bytes}
 use Rattle.ln_parse.specs.Lexemes.{Lexeme, gap, line, word}
-use Rattle.ln_parse.proofs.Putting.{then, puts_name, puts_fixed}
+use Rattle.ln_parse.proofs.Texts.Putting.{then, puts_name, puts_fixed}
 use Rattle.ln_parse.proofs.printer.put_site.Goals as goal
 
 pub returns : goal.returns

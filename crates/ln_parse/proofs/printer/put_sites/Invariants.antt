@@ -1,6 +1,6 @@
 use Rattle.ln_tree.specs.Table.{site_of}
 use Rattle.ln_parse.specs.Canonical.{site}
-use Rattle.ln_parse.proofs.Putting.{EachPut}
+use Rattle.ln_parse.proofs.Texts.Putting.{EachPut}
 use Rattle.ln_parse.proofs.printer.put_sites.Given as goal
 
 abbrev pub invariant-sites : goal.invariant-sites

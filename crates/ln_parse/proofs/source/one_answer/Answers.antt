@@ -1,5 +1,5 @@
-use Rattle.ln_parse.proofs.Either.{either}
-use Rattle.ln_parse.proofs.OneAnswer.{one_table, one_fault, no_fault}
+use Rattle.ln_parse.proofs.Settling.Either.{either}
+use Rattle.ln_parse.proofs.Settling.OneAnswer.{one_table, one_fault, no_fault}
 use Rattle.ln_parse.proofs.source.one_answer.Goals as goal
 
 pub returns-clause-table : goal.returns-clause-table

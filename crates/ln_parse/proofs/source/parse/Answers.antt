@@ -9,9 +9,9 @@ use Rattle.ln_names.proofs.Faultless.{faultless_is_within}
 use Rattle.ln_tree.specs.Whole.{is_whole}
 use Rattle.ln_parse.specs.Says.{ItemsSay}
 use Rattle.ln_parse.specs.Ready.{ReadyFile}
-use Rattle.ln_parse.proofs.Readiness.{faultless_ready}
-use Rattle.ln_parse.proofs.OneAnswer.{memory_alone}
-use Rattle.ln_parse.proofs.WholeFrom.{whole_from}
+use Rattle.ln_parse.proofs.Building.Readiness.{faultless_ready}
+use Rattle.ln_parse.proofs.Settling.OneAnswer.{memory_alone}
+use Rattle.ln_parse.proofs.Wholes.WholeFrom.{whole_from}
 use Rattle.ln_parse.proofs.source.parse.Goals as goal
 
 pub build-requires-clause-ready : goal.build-requires-clause-ready

@@ -2,7 +2,7 @@ use Rattle.std.proofs.Common.{◌≡◌, refl, ◌++◌, ◌∙◌, ap, arith, s
 use Rattle.std.proofs.lemmas.List.Elements.{All-append}
 use Rattle.ln_tree.specs.Exps.{IsAbove, IsRising}
 use Rattle.ln_poly.specs.Sparse.{AreBelow, AreRising, coefficient_at, size_of}
-use Rattle.ln_poly.proofs.Coefficients.{coefficient_at-append, size-append}
+use Rattle.ln_poly.proofs.TermLists.Coefficients.{coefficient_at-append, size-append}
 use Rattle.ln_poly.proofs.arithmetic.add.Goals as goal
 
 pub merge-requires-clause-small : goal.merge-requires-clause-small

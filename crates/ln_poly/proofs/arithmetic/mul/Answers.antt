@@ -1,6 +1,6 @@
 use Rattle.std.proofs.Common.{◌∙◌, arith, length}
 use Rattle.ln_poly.specs.Rows.{IsRows}
-use Rattle.ln_poly.proofs.Products.{rows-end, rows-begin, rows-product, rows-room, rows-size, rows-step}
+use Rattle.ln_poly.proofs.TermLists.Products.{rows-end, rows-begin, rows-product, rows-room, rows-size, rows-step}
 use Rattle.ln_poly.proofs.arithmetic.mul.Goals as goal
 
 pub rows-init : goal.rows-init

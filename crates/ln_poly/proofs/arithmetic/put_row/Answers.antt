@@ -1,5 +1,5 @@
 use Rattle.std.proofs.Common.{arith}
-use Rattle.ln_poly.proofs.Products.{row-init, row-room, row-step}
+use Rattle.ln_poly.proofs.TermLists.Products.{row-init, row-room, row-step}
 use Rattle.ln_poly.proofs.arithmetic.put_row.Goals as goal
 
 pub loop-t-init : goal.loop-t-init

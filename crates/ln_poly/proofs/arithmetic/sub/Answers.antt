@@ -3,8 +3,8 @@ use Rattle.std.proofs.lemmas.Int.{ints}
 use Rattle.std.proofs.lemmas.List.Elements.{All-append}
 use Rattle.ln_tree.specs.Exps.{IsAbove, IsRising}
 use Rattle.ln_poly.specs.Sparse.{AreBelow, AreRising, coefficient_at, negated}
-use Rattle.ln_poly.proofs.Coefficients.{coefficient_at-append, size-append}
-use Rattle.ln_poly.proofs.Negating.{below-negated, coefficient-negated, rising-negated, size-negated}
+use Rattle.ln_poly.proofs.TermLists.Coefficients.{coefficient_at-append, size-append}
+use Rattle.ln_poly.proofs.TermLists.Negating.{below-negated, coefficient-negated, rising-negated, size-negated}
 use Rattle.ln_poly.proofs.arithmetic.sub.Goals as goal
 
 pub merge-requires-clause-small : goal.merge-requires-clause-small

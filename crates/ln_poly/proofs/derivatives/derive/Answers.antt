@@ -1,5 +1,5 @@
 use Rattle.std.proofs.Common.{arith}
-use Rattle.ln_poly.proofs.Deriving.{deriving-init, deriving-room, deriving-step}
+use Rattle.ln_poly.proofs.Derivations.Deriving.{deriving-init, deriving-room, deriving-step}
 use Rattle.ln_poly.proofs.derivatives.derive.Goals as goal
 
 pub terms-init : goal.terms-init

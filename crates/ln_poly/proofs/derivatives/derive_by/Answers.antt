@@ -1,6 +1,6 @@
 use Rattle.std.proofs.Common.{arith, length}
 use Rattle.ln_tree.specs.Exps.{IsAbove, IsRising}
-use Rattle.ln_poly.proofs.Several.{several-init, several-light, several-step, variable-at}
+use Rattle.ln_poly.proofs.Derivations.Several.{several-init, several-light, several-step, variable-at}
 use Rattle.ln_poly.proofs.derivatives.derive_by.Goals as goal
 
 pub pairs-init : goal.pairs-init

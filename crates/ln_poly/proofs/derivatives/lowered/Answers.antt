@@ -1,6 +1,6 @@
 use Rattle.std.proofs.Common.{ap, arith}
 use Rattle.ln_tree.specs.Exps.{IsRising, exponent}
-use Rattle.ln_poly.proofs.Lowering.{lowered-small, lowering-above, lowering-push, lowering-skip}
+use Rattle.ln_poly.proofs.Derivations.Lowering.{lowered-small, lowering-above, lowering-push, lowering-skip}
 use Rattle.ln_tree.proofs.Powers.{found, small-at}
 use Rattle.ln_poly.proofs.derivatives.lowered.Goals as goal
 use Rattle.ln_poly.proofs.derivatives.lowered.Goals.{then-k-gt0+in_ok-push, else-k-gt0}

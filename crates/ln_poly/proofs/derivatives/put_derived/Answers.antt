@@ -1,6 +1,6 @@
 use Rattle.std.proofs.Common.{◌≡◌, ◌<◌, arith, get_or}
 use Rattle.ln_algebra.specs.Terms.{binomial}
-use Rattle.ln_poly.proofs.Lowering.{binomial-small}
+use Rattle.ln_poly.proofs.Derivations.Lowering.{binomial-small}
 use Rattle.ln_poly.proofs.derivatives.put_derived.Goals as goal
 
 pub push_times-requires-clause-times : goal.push_times-requires-clause-times

@@ -1,7 +1,7 @@
 use Rattle.std.proofs.Common.{◌≡◌, ◌≤◌, ◌+◌, ◌^◌, ◌-◌, arith, add-one, ℕ}
 use Rattle.ln_algebra.specs.Terms.{binomial}
-use Rattle.ln_poly.proofs.Lowering.{binomial-pair}
-use Rattle.ln_poly.proofs.Weighing.{pow-le}
+use Rattle.ln_poly.proofs.Derivations.Lowering.{binomial-pair}
+use Rattle.ln_poly.proofs.Loads.Weighing.{pow-le}
 use Rattle.ln_poly.proofs.derivatives.raise.Goals as goal
 
 pub overflow_add-sum : goal.overflow_add-sum

@@ -5,7 +5,7 @@ use Rattle.ln_tree.specs.Formula.{FAdd, FMul, FNeg, FPow, FSub, Formula, formula
 use Rattle.ln_algebra.specs.Sizes.{two}
 use Rattle.ln_poly.specs.Expansion.{closed_lets, expanded, powers}
 use Rattle.ln_poly.specs.Ready.{AreLight}
-use Rattle.ln_poly.proofs.Nodes.{add-room, mul-powers, mul-room, neg-room, one-err, one-ok, pow-room, second-stops, sub-room, two-err, two-ok}
+use Rattle.ln_poly.proofs.Expansions.Nodes.{add-room, mul-powers, mul-room, neg-room, one-err, one-ok, pow-room, second-stops, sub-room, two-err, two-ok}
 use Rattle.ln_poly.proofs.expansion.+expand.Goals as goal
 
 pub returns-in_err-g-in-Add-clause-err : goal.returns-in_err-g-in-Add-clause-err

@@ -1,6 +1,6 @@
 use Rattle.std.proofs.Common.{length, sym, ◌∙◌}
-use Rattle.ln_bound.proofs.WidthLaws.{lt_test}
-use Rattle.ln_poly.proofs.Counting.{counted-few, counted-many, few_test}
+use Rattle.ln_bound.proofs.Soundness.WidthLaws.{lt_test}
+use Rattle.ln_poly.proofs.TermLists.Counting.{counted-few, counted-many, few_test}
 use Rattle.ln_poly.proofs.expansion.counted.Goals as goal
 
 pub returns-then-are_many-clause-err : goal.returns-then-are_many-clause-err

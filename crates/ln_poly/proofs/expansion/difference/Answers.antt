@@ -1,6 +1,6 @@
 use Rattle.std.proofs.lemmas.Result.{IfOk-weaker, MatchResult-weaker}
 use Rattle.ln_algebra.specs.Tree.{Sub}
-use Rattle.ln_poly.proofs.Normals.{sub-normal}
+use Rattle.ln_poly.proofs.Expansions.Normals.{sub-normal}
 use Rattle.ln_poly.proofs.expansion.difference.Goals as goal
 
 pub returns-clause-ok : goal.returns-clause-ok

@@ -1,6 +1,6 @@
 use Rattle.std.proofs.Common.{arith}
 use Rattle.std.proofs.lemmas.Result.{err_from_is_err_and}
-use Rattle.ln_poly.proofs.Lets.{lets-step, lets-stop}
+use Rattle.ln_poly.proofs.Expansions.Lets.{lets-step, lets-stop}
 use Rattle.ln_poly.proofs.expansion.expand_lets.Goals as goal
 
 pub returns-in_err-f-clause-err : goal.returns-in_err-f-clause-err

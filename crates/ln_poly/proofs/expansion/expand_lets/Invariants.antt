@@ -1,4 +1,4 @@
-use Rattle.ln_poly.proofs.Lets.{LetsTo}
+use Rattle.ln_poly.proofs.Expansions.Lets.{LetsTo}
 use Rattle.ln_poly.proofs.expansion.expand_lets.Given as goal
 
 abbrev pub invariant-each : goal.invariant-each

@@ -2,7 +2,7 @@ use Rattle.std.proofs.Common.{◌≡◌, ◌∙◌, ap, get_or, pos}
 use Rattle.std.specs.Prelude.{slice_index_or}
 use Rattle.std.proofs.lemmas.Result.{IfOk-weaker, MatchResult-weaker}
 use Rattle.ln_algebra.specs.Tree.{Num}
-use Rattle.ln_poly.proofs.Normals.{let-at}
+use Rattle.ln_poly.proofs.Expansions.Normals.{let-at}
 use Rattle.ln_poly.proofs.expansion.let_named.Goals as goal
 
 pub returns-clause-ok : goal.returns-clause-ok

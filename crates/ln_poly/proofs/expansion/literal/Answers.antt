@@ -3,7 +3,7 @@ use Rattle.std.proofs.lemmas.Int.{to_z-of_z}
 use Rattle.std.proofs.lemmas.Result.{IfOk-weaker, MatchResult-weaker}
 use mir.Syntax.{w128}
 use Rattle.ln_algebra.specs.Tree.{Num}
-use Rattle.ln_poly.proofs.Normals.{number-normal}
+use Rattle.ln_poly.proofs.Expansions.Normals.{number-normal}
 use Rattle.ln_poly.proofs.expansion.literal.Goals as goal
 
 pub returns-clause-ok : goal.returns-clause-ok

@@ -4,8 +4,8 @@ use Rattle.std.proofs.lemmas.Result.{IfOk-weaker, MatchResult-weaker}
 use Rattle.ln_algebra.specs.Tree.{Neg, Num}
 use Rattle.ln_poly.specs.Sparse.{size_of}
 use Rattle.ln_poly.specs.Expansion.{IsNormal}
-use Rattle.ln_poly.proofs.Coefficients.{size-nil}
-use Rattle.ln_poly.proofs.Normals.{neg-normal, number-none}
+use Rattle.ln_poly.proofs.TermLists.Coefficients.{size-nil}
+use Rattle.ln_poly.proofs.Expansions.Normals.{neg-normal, number-none}
 use Rattle.ln_poly.proofs.expansion.negation.Goals as goal
 
 pub sub-requires : goal.sub-requires

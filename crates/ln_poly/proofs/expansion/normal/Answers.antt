@@ -4,11 +4,11 @@ use Rattle.ln_tree.proofs.KeptLemmas.{few_vars}
 use Rattle.ln_tree.specs.Formula.{formula, tree}
 use Rattle.ln_algebra.specs.Sizes.{two}
 use Rattle.ln_poly.specs.Expansion.{closed_lets, closed_root, expanded, expanded_lets}
-use Rattle.ln_poly.proofs.Counting.{no-terms-zero, zero-no-terms}
-use Rattle.ln_poly.proofs.Expanding.{few-both, stop-behind}
-use Rattle.ln_poly.proofs.Lets.{pred-fit, root-degrees, root-fits, root-light}
-use Rattle.ln_poly.proofs.Sizing.{pred-expands}
-use Rattle.ln_poly.proofs.Room.{two-sizes}
+use Rattle.ln_poly.proofs.TermLists.Counting.{no-terms-zero, zero-no-terms}
+use Rattle.ln_poly.proofs.Expansions.Expanding.{few-both, stop-behind}
+use Rattle.ln_poly.proofs.Expansions.Lets.{pred-fit, root-degrees, root-fits, root-light}
+use Rattle.ln_poly.proofs.Loads.Sizing.{pred-expands}
+use Rattle.ln_poly.proofs.Loads.Room.{two-sizes}
 use Rattle.ln_poly.proofs.expansion.normal.Goals as goal
 
 pub expand_lets-requires-clause-few : goal.expand_lets-requires-clause-few

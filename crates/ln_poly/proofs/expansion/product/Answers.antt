@@ -1,6 +1,6 @@
 use Rattle.std.proofs.lemmas.Result.{IfOk-weaker, MatchResult-weaker}
 use Rattle.ln_algebra.specs.Tree.{Mul}
-use Rattle.ln_poly.proofs.Normals.{mul-normal}
+use Rattle.ln_poly.proofs.Expansions.Normals.{mul-normal}
 use Rattle.ln_poly.proofs.expansion.product.Goals as goal
 
 pub returns-clause-ok : goal.returns-clause-ok

@@ -3,7 +3,7 @@ use Rattle.std.proofs.lemmas.Result.{err_from_is_err_and}
 use Rattle.ln_algebra.specs.Tree.{Pow}
 use Rattle.ln_poly.specs.Expansion.{powers}
 use Rattle.ln_poly.specs.Ready.{Expands}
-use Rattle.ln_poly.proofs.Expanding.{power-begin, power-powers, power-room, powers-more, powers-stop}
+use Rattle.ln_poly.proofs.Expansions.Expanding.{power-begin, power-powers, power-room, powers-more, powers-stop}
 use Rattle.ln_poly.proofs.expansion.raised.Goals as goal
 
 pub powers-init : goal.powers-init

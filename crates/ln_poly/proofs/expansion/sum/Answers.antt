@@ -1,6 +1,6 @@
 use Rattle.std.proofs.lemmas.Result.{IfOk-weaker, MatchResult-weaker}
 use Rattle.ln_algebra.specs.Tree.{Add}
-use Rattle.ln_poly.proofs.Normals.{add-normal}
+use Rattle.ln_poly.proofs.Expansions.Normals.{add-normal}
 use Rattle.ln_poly.proofs.expansion.sum.Goals as goal
 
 pub returns-clause-ok : goal.returns-clause-ok

@@ -2,7 +2,7 @@ use Rattle.std.proofs.Common.{◌≡◌, ◌∙◌, ap, length, pos, [], ◌∷�
 use Rattle.std.proofs.lemmas.Result.{IfOk-weaker, MatchResult-weaker}
 use Rattle.ln_algebra.specs.Tree.{Input}
 use Rattle.ln_tree.specs.Variables.{number_or_end}
-use Rattle.ln_poly.proofs.Normals.{input-at}
+use Rattle.ln_poly.proofs.Expansions.Normals.{input-at}
 use Rattle.ln_poly.proofs.expansion.variable.Goals as goal
 
 pub returns-clause-ok : goal.returns-clause-ok

@@ -1,5 +1,5 @@
 use Rattle.std.proofs.Common.{arith}
-use Rattle.ln_poly.proofs.Gathering.{collected-room, collected-step}
+use Rattle.ln_poly.proofs.Sorting.Gathering.{collected-room, collected-step}
 use Rattle.ln_poly.proofs.gather.collected.Goals as goal
 
 pub put-requires : goal.put-requires

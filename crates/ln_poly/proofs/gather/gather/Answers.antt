@@ -2,7 +2,7 @@
 use Rattle.std.proofs.Common.{◌∙◌, arith}
 use Rattle.std.proofs.lemmas.List.Sorted.{All-permutation}
 use Rattle.ln_tree.specs.Exps.{IsAbove, IsRising}
-use Rattle.ln_poly.proofs.Coefficients.{permuted-coefficient, permuted-size}
+use Rattle.ln_poly.proofs.TermLists.Coefficients.{permuted-coefficient, permuted-size}
 use Rattle.ln_poly.proofs.gather.gather.Goals as goal
 
 pub settled-requires-clause-small : goal.settled-requires-clause-small

@@ -1,7 +1,7 @@
 use Rattle.std.proofs.Common.{◌≡◌, ◌<◌, ◌-◌, ◌∙◌, sym, arith, true, length, get_or, vec_len, rules}
 use Rattle.ln_tree.specs.Exps.{same_pairs, same_pairs-is}
-use Rattle.ln_poly.proofs.Coefficients.{coefficient_at-push, size-push}
-use Rattle.ln_poly.proofs.Gathering.{put-like, put-unlike, some-there}
+use Rattle.ln_poly.proofs.TermLists.Coefficients.{coefficient_at-push, size-push}
+use Rattle.ln_poly.proofs.Sorting.Gathering.{put-like, put-unlike, some-there}
 use Rattle.ln_poly.proofs.gather.put.Goals as goal
 
 pub add_at-requires-clause-same : goal.add_at-requires-clause-same

@@ -4,7 +4,7 @@ use Rattle.std.specs.List.{filter}
 use Rattle.std.proofs.lemmas.List.Elements.{filter_from_retain}
 use Rattle.std.proofs.lemmas.List.Sorted.{IsPermutation-refl}
 use Rattle.ln_tree.specs.Exps.{IsAbove}
-use Rattle.ln_poly.proofs.Gathering.{has_factor, filtered-coefficient, filtered-size, is_poly, still-all}
+use Rattle.ln_poly.proofs.Sorting.Gathering.{has_factor, filtered-coefficient, filtered-size, is_poly, still-all}
 use Rattle.ln_poly.proofs.gather.settled.Goals as goal
 
 pub seal-requires : goal.seal-requires

@@ -1,7 +1,7 @@
 use Rattle.std.proofs.Common.{[], refl}
 use Rattle.std.proofs.lemmas.Int.{to_z-of_z}
 use mir.Syntax.{w128}
-use Rattle.ln_poly.proofs.Leaves.{no-terms, one-term}
+use Rattle.ln_poly.proofs.TermLists.Leaves.{no-terms, one-term}
 use Rattle.ln_poly.proofs.leaf.number.Goals as goal
 
 pub seal-requires : goal.seal-requires

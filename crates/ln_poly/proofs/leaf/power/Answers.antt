@@ -1,7 +1,7 @@
 use Rattle.std.proofs.Common.{[], ◌∷◌}
 use Rattle.std.proofs.lemmas.Int.{to_z-of_z}
 use mir.Syntax.{w128}
-use Rattle.ln_poly.proofs.Leaves.{one-term}
+use Rattle.ln_poly.proofs.TermLists.Leaves.{one-term}
 use Rattle.ln_poly.proofs.leaf.power.Goals as goal
 
 pub one_term-requires : goal.one_term-requires

@@ -1,4 +1,4 @@
-use Rattle.ln_poly.proofs.Sizing.{light-pred, size-degrees}
+use Rattle.ln_poly.proofs.Loads.Sizing.{light-pred, size-degrees}
 use Rattle.ln_poly.proofs.sizes.sizes_make_room.Goals as goal
 
 pub returns-clause-expand : goal.returns-clause-expand

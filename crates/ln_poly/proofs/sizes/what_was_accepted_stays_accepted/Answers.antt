@@ -1,5 +1,5 @@
-use Rattle.ln_bound.proofs.LoadLaws.{old_nodes}
-use Rattle.ln_poly.proofs.Sizing.{light-root}
+use Rattle.ln_bound.proofs.Measures.LoadLaws.{old_nodes}
+use Rattle.ln_poly.proofs.Loads.Sizing.{light-root}
 use Rattle.ln_poly.proofs.sizes.what_was_accepted_stays_accepted.Goals as goal
 
 pub returns-clause-nodes : goal.returns-clause-nodes

@@ -1,4 +1,4 @@
-use Rattle.ln_poly.proofs.Deriving.{derivative-light}
+use Rattle.ln_poly.proofs.Derivations.Deriving.{derivative-light}
 use Rattle.ln_poly.proofs.tests_normal.derived.Goals as goal
 
 pub derive-requires-clause-small : goal.derive-requires-clause-small

@@ -1,5 +1,5 @@
 use Rattle.std.proofs.Common.{arith}
-use Rattle.ln_poly.proofs.Merging.{left-at, right-at, lower-at}
+use Rattle.ln_poly.proofs.Sorting.Merging.{left-at, right-at, lower-at}
 use Rattle.ln_poly.proofs.times.lowest.Goals as goal
 
 pub returns-then-a-i-clause-picks : goal.returns-then-a-i-clause-picks

@@ -1,5 +1,5 @@
 use Rattle.std.proofs.Common.{◌<◌, arith}
-use Rattle.ln_poly.proofs.Merging.{merged-small, merged-step, picked-above, picked-small}
+use Rattle.ln_poly.proofs.Sorting.Merging.{merged-small, merged-step, picked-above, picked-small}
 use Rattle.ln_poly.proofs.times.times.Goals as goal
 
 pub push-requires-clause-above : goal.push-requires-clause-above

@@ -1,6 +1,6 @@
 use Rattle.ln_poly.specs.Sparse.{terms_of}
 use Rattle.std.proofs.Common.{length}
-use Rattle.ln_poly.proofs.Weighing.{as-weights}
+use Rattle.ln_poly.proofs.Loads.Weighing.{as-weights}
 use Rattle.ln_poly.proofs.weights.heft.Goals as goal
 
 pub returns : goal.returns

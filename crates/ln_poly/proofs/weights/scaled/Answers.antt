@@ -1,5 +1,5 @@
 use Rattle.std.proofs.Common.{arith}
-use Rattle.ln_poly.proofs.Weighing.{scaled-heavy, scaled-step}
+use Rattle.ln_poly.proofs.Loads.Weighing.{scaled-heavy, scaled-step}
 use Rattle.ln_poly.proofs.weights.scaled.Goals as goal
 
 pub returns-in_default : goal.returns-in_default

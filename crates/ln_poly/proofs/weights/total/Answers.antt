@@ -1,6 +1,6 @@
 use Rattle.std.proofs.Common.{arith, sym}
 use Rattle.ln_poly.specs.Weight.{grown}
-use Rattle.ln_poly.proofs.Weighing.{heavy-end, sum-end, total-more, total-nil}
+use Rattle.ln_poly.proofs.Loads.Weighing.{heavy-end, sum-end, total-more, total-nil}
 use Rattle.ln_poly.proofs.weights.total.Goals as goal
 
 pub terms-init : goal.terms-init

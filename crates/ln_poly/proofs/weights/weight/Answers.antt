@@ -1,6 +1,6 @@
 use Rattle.ln_poly.specs.Sparse.{terms_of}
 use Rattle.std.proofs.Common.{length}
-use Rattle.ln_poly.proofs.Weighing.{as-sizes}
+use Rattle.ln_poly.proofs.Loads.Weighing.{as-sizes}
 use Rattle.ln_poly.proofs.weights.weight.Goals as goal
 
 pub returns : goal.returns

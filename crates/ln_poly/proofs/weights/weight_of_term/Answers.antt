@@ -1,5 +1,5 @@
 use Rattle.std.proofs.Common.{◌<◌, ap, arith, length}
-use Rattle.ln_poly.proofs.Weighing.{size-at, weighed-heavy, weighed-step}
+use Rattle.ln_poly.proofs.Loads.Weighing.{size-at, weighed-heavy, weighed-step}
 use Rattle.ln_poly.proofs.weights.weight_of_term.Goals as goal
 
 pub scaled-requires-clause-some : goal.scaled-requires-clause-some

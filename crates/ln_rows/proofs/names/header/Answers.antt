@@ -1,6 +1,6 @@
 use Rattle.std.proofs.lemmas.Bool.{false≢true}
 use Rattle.ln_rows.specs.Columns.{arg_columns}
-use Rattle.ln_rows.proofs.NameLemmas.{arg_stop}
+use Rattle.ln_rows.proofs.Fields.NameLemmas.{arg_stop}
 use Rattle.ln_rows.proofs.names.header.Goals as goal
 
 pub returns-in-None : goal.returns-in-None

@@ -1,7 +1,7 @@
 use Rattle.std.proofs.Common.{refl}
 use Rattle.std.proofs.lemmas.Bool.{false≢true}
 use Rattle.ln_rows.specs.Columns.{coord_column}
-use Rattle.ln_rows.proofs.NameLemmas.{coord_more, coord_stop}
+use Rattle.ln_rows.proofs.Fields.NameLemmas.{coord_more, coord_stop}
 use Rattle.ln_rows.proofs.names.past_coords.Goals as goal
 
 pub returns-then-not-is_coord : goal.returns-then-not-is_coord

@@ -1,6 +1,6 @@
 use Rattle.std.proofs.Common.{refl, []}
 use Rattle.std.proofs.lemmas.Bool.{false≢true}
-use Rattle.ln_rows.proofs.NameLemmas.{one_name, no_name}
+use Rattle.ln_rows.proofs.Fields.NameLemmas.{one_name, no_name}
 use Rattle.ln_rows.proofs.names.past_name.Goals as goal
 
 pub returns-then-is_name : goal.returns-then-is_name

@@ -1,7 +1,7 @@
 use Rattle.std.proofs.Common.{◌∙◌, sym}
 use Rattle.ln_tree.specs.Names.{name_bytes}
 use Rattle.ln_rows.specs.Columns.{coord_column}
-use Rattle.ln_rows.proofs.NameLemmas.{none_past}
+use Rattle.ln_rows.proofs.Fields.NameLemmas.{none_past}
 use Rattle.ln_rows.proofs.names.site_column.Goals as goal
 
 pub returns-in-None : goal.returns-in-None

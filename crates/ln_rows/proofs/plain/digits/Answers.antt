@@ -1,5 +1,5 @@
 use Rattle.std.proofs.Common.{arith, sym, ◌∙◌}
-use Rattle.ln_rows.proofs.PlainLemmas.{read_none, read_fits, read_small, read_more, read_digits}
+use Rattle.ln_rows.proofs.Records.PlainLemmas.{read_none, read_fits, read_small, read_more, read_digits}
 use Rattle.ln_rows.proofs.plain.digits.Goals as goal
 
 pub digits-init : goal.digits-init

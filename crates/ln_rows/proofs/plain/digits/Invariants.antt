@@ -1,5 +1,5 @@
 use Rattle.std.proofs.Common.{◌-◌}
-use Rattle.ln_rows.proofs.PlainLemmas.{Read}
+use Rattle.ln_rows.proofs.Records.PlainLemmas.{Read}
 use Rattle.ln_rows.proofs.plain.digits.Given as goal
 
 abbrev pub invariant-digits : goal.invariant-digits

@@ -1,6 +1,6 @@
 use Rattle.std.proofs.Common.{to_z-of_z, rules, w64}
 use mir.Val.{SFits}
-use Rattle.ln_rows.proofs.PlainLemmas.{some_by, signed_number, plain_number}
+use Rattle.ln_rows.proofs.Records.PlainLemmas.{some_by, signed_number, plain_number}
 use Rattle.ln_rows.proofs.plain.number.Goals as goal
 
 pub returns-in-Some : goal.returns-in-Some

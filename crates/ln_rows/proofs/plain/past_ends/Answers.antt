@@ -1,5 +1,5 @@
 use Rattle.std.proofs.Common.{◌∙◌}
-use Rattle.ln_rows.proofs.PlainLemmas.{past_line}
+use Rattle.ln_rows.proofs.Records.PlainLemmas.{past_line}
 use Rattle.ln_rows.proofs.plain.past_ends.Goals as goal
 
 pub ends-preserved : goal.ends-preserved

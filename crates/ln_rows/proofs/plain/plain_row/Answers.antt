@@ -1,6 +1,6 @@
 use Rattle.std.proofs.Common.{◌<◌, length, arith, refl, sym, rules, to_z-of_z, w64}
 use mir.Val.{SFits}
-use Rattle.ln_rows.proofs.PlainRowLemmas.{reading_none, reading_site, reading_other, reading_fits, reading_all}
+use Rattle.ln_rows.proofs.Fields.PlainRowLemmas.{reading_none, reading_site, reading_other, reading_fits, reading_all}
 use Rattle.ln_rows.proofs.plain.plain_row.Goals as goal
 use Rattle.ln_rows.proofs.plain.plain_row.Goals.{then-starts_site+in_ok-z+in_ok-y, else-starts_site+in_ok-y-2}
 

@@ -1,4 +1,4 @@
-use Rattle.ln_rows.proofs.PlainRowLemmas.{Reading}
+use Rattle.ln_rows.proofs.Fields.PlainRowLemmas.{Reading}
 use Rattle.ln_rows.proofs.plain.plain_row.Given as goal
 
 abbrev pub invariant-vars : goal.invariant-vars

@@ -1,5 +1,5 @@
 use Rattle.std.proofs.Common.{arith}
-use Rattle.ln_rows.proofs.RangeLemmas.{shape_columns}
+use Rattle.ln_rows.proofs.Fields.RangeLemmas.{shape_columns}
 use Rattle.ln_rows.proofs.record.column_count.Goals as goal
 
 pub returns : goal.returns

@@ -1,6 +1,6 @@
 use Rattle.std.proofs.Common.{arith, sym}
-use Rattle.ln_rows.proofs.RangeLemmas.{shape_columns, sizes, row_in_range}
-use Rattle.ln_rows.proofs.ExactLemmas.{is_said, has_equal}
+use Rattle.ln_rows.proofs.Fields.RangeLemmas.{shape_columns, sizes, row_in_range}
+use Rattle.ln_rows.proofs.Fields.ExactLemmas.{is_said, has_equal}
 use Rattle.ln_rows.proofs.record.differ.Goals as goal
 
 pub index_column-requires : goal.index_column-requires

@@ -1,6 +1,6 @@
 use Rattle.std.proofs.Common.{◌∙◌, sym, ap, List, ℕ, Option, []}
 use Rattle.std.specs.Prelude.{unwrap_or}
-use Rattle.ln_rows.proofs.RowLemmas.{field_or}
+use Rattle.ln_rows.proofs.Fields.RowLemmas.{field_or}
 use Rattle.ln_rows.proofs.record.field.Goals as goal
 
 pub returns-in-Some : goal.returns-in-Some

@@ -1,7 +1,7 @@
 use Rattle.std.proofs.Common.{refl, sym, rules, to_z-of_z, w64}
 use mir.Val.{SFits}
 use Rattle.std.proofs.lemmas.Result.{err_from_is_err_and}
-use Rattle.ln_rows.proofs.RowLemmas.{filled_site, filled_other, filled_stays, index_stays_past, value_fault, site_fits, site_room, other_room}
+use Rattle.ln_rows.proofs.Fields.RowLemmas.{filled_site, filled_other, filled_stays, index_stays_past, value_fault, site_fits, site_room, other_room}
 use Rattle.ln_rows.proofs.record.read_columns.Goals as goal
 use Rattle.ln_rows.proofs.record.read_columns.Goals.{then-starts_site+in_ok-into+in_ok-into-2, else-starts_site+in_ok-into-3}
 

@@ -1,5 +1,5 @@
 use Rattle.csv.specs.Records.{fields_of}
-use Rattle.ln_rows.proofs.RowLemmas.{Filled}
+use Rattle.ln_rows.proofs.Fields.RowLemmas.{Filled}
 use Rattle.ln_rows.proofs.record.read_columns.Given as goal
 
 abbrev pub invariant-vars : goal.invariant-vars

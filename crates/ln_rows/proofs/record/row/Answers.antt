@@ -1,5 +1,5 @@
 use Rattle.std.proofs.Common.{length}
-use Rattle.ln_rows.proofs.RowLemmas.{zero_stays}
+use Rattle.ln_rows.proofs.Fields.RowLemmas.{zero_stays}
 use Rattle.ln_rows.proofs.record.row.Goals as goal
 
 pub returns-clause-past : goal.returns-clause-past

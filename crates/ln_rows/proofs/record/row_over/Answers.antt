@@ -1,7 +1,7 @@
 use Rattle.std.proofs.Common.{arith, sym, ◌∙◌}
 use Rattle.csv.specs.Records.{fields_of}
-use Rattle.ln_rows.proofs.RangeLemmas.{shape_columns, sizes}
-use Rattle.ln_rows.proofs.RowLemmas.{stays_past}
+use Rattle.ln_rows.proofs.Fields.RangeLemmas.{shape_columns, sizes}
+use Rattle.ln_rows.proofs.Fields.RowLemmas.{stays_past}
 use Rattle.ln_rows.proofs.record.row_over.Goals as goal
 
 pub read_columns-requires-clause-few_sites : goal.read_columns-requires-clause-few_sites

@@ -1,5 +1,5 @@
 use Rattle.std.proofs.Common.{arith, rules, sym, ◌∙◌}
-use Rattle.ln_rows.proofs.ScanLemmas.{standing_none, standing_more, standing_ends, standing_out, standing_last}
+use Rattle.ln_rows.proofs.Records.ScanLemmas.{standing_none, standing_more, standing_ends, standing_out, standing_last}
 use Rattle.ln_rows.proofs.scan.first_record.Goals as goal
 
 pub bytes-init : goal.bytes-init

@@ -1,6 +1,6 @@
 use Rattle.std.proofs.Common.{◌≡◌, ◌≤◌, ◌-◌, [], length}
 use Rattle.csv.specs.Records.{fields_of, partial_of}
-use Rattle.ln_rows.proofs.ScanLemmas.{Standing}
+use Rattle.ln_rows.proofs.Records.ScanLemmas.{Standing}
 use Rattle.ln_rows.proofs.scan.first_record.Given as goal
 
 abbrev pub invariant-bytes : goal.invariant-bytes

@@ -1,7 +1,7 @@
 use Rattle.std.proofs.Common.{◌∙◌, ◌+◌, ◌-◌, ◌<◌, ◌*◌, ap, arith, drop, length, map}
 use Rattle.std.proofs.lemmas.Result.{err_from_is_err_and}
-use Rattle.ln_order.proofs.FrontLemmas.{prefix-size}
-use Rattle.ln_order.proofs.SitesLemmas.{kept}
+use Rattle.ln_order.proofs.Listing.FrontLemmas.{prefix-size}
+use Rattle.ln_order.proofs.Signs.SitesLemmas.{kept}
 use Rattle.ln_order.specs.Fronts.{front_places}
 use Rattle.ln_order.specs.Orders.{orders_of}
 use Rattle.ln_order.specs.Prefixes.{prefixes_of}
@@ -9,7 +9,7 @@ use Rattle.ln_stage.specs.FirstSight.{shared_count}
 use Rattle.ln_stage.specs.Kept.{numbers_by, tallied_by}
 use Rattle.ln_stage.specs.Tally.{IsOver, Tallied}
 use Rattle.ln_stage.specs.Visit.{segment_at}
-use Rattle.ln_stage.proofs.ListedLemmas.{at-prefix, count-passes, cuts-follow, more-prefixes, over-goes, segments-end, segments-go, shares-here, tally-ends, tally-goes}
+use Rattle.ln_stage.proofs.Results.ListedLemmas.{at-prefix, count-passes, cuts-follow, more-prefixes, over-goes, segments-end, segments-go, shares-here, tally-ends, tally-goes}
 use Rattle.ln_stage.proofs.lists.listed.Goals as goal
 
 pub segment-requires-clause-prefix : goal.segment-requires-clause-prefix

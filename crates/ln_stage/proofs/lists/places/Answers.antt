@@ -1,5 +1,5 @@
 use Rattle.std.proofs.Common.{◌≡◌, ◌+◌, arith, refl}
-use Rattle.ln_stage.proofs.StartLemmas.{range-more}
+use Rattle.ln_stage.proofs.Walks.StartLemmas.{range-more}
 use Rattle.ln_stage.proofs.lists.places.Goals as goal
 
 pub places-preserved : goal.places-preserved

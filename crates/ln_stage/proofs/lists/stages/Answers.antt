@@ -1,12 +1,12 @@
 use Rattle.std.proofs.Common.{◌≡◌, ◌∙◌, [], ap, length, refl, sym}
 use Rattle.std.proofs.lemmas.Result.{err_from_is_err_and}
-use Rattle.ln_order.proofs.SitesLemmas.{kept}
+use Rattle.ln_order.proofs.Signs.SitesLemmas.{kept}
 use Rattle.ln_order.specs.Prefixes.{prefixes_of}
 use Rattle.ln_poly.specs.Sparse.{AreBelow, IsPoly}
 use Rattle.ln_stage.specs.Kept.{numbers_by, tallied_by}
 use Rattle.ln_stage.specs.Staged.{lists_in}
 use Rattle.ln_stage.specs.Visit.{segment_at}
-use Rattle.ln_stage.proofs.ResultLemmas.{counted-is, final-count, final-is, final-weight, result-stages, segments-size, some-terms, stops, weighed-is}
+use Rattle.ln_stage.proofs.Results.ResultLemmas.{counted-is, final-count, final-is, final-weight, result-stages, segments-size, some-terms, stops, weighed-is}
 use Rattle.ln_stage.proofs.lists.stages.Goals as goal
 
 pub returns-in_err-found-clause-err : goal.returns-in_err-found-clause-err

@@ -1,16 +1,16 @@
 use Rattle.std.proofs.Common.{◌≡◌, ◌∙◌, ℕ, List, ap, arith, length, replicate, subst, sym}
 use Rattle.std.specs.Prelude.{IfErr, IfOk, OnOk}
 use Rattle.std.specs.List.{range_with_len}
-use Rattle.ln_algebra.proofs.Expansion.{length-zeros}
+use Rattle.ln_algebra.proofs.Expanded.Expansion.{length-zeros}
 use Rattle.ln_algebra.specs.Vector.{zeros}
-use Rattle.ln_order.proofs.SitesLemmas.{kept}
+use Rattle.ln_order.proofs.Signs.SitesLemmas.{kept}
 use Rattle.ln_order.specs.Fronts.{front_places}
 use Rattle.ln_order.specs.Sites.{ranking_of}
 use Rattle.ln_stage.specs.Kept.{AreFresh}
 use Rattle.ln_stage.specs.Tally.{IsOver, IsStoppedBy, Tallied, see_all}
-use Rattle.ln_stage.proofs.StartLemmas.{start-step, zeros-replicate}
-use Rattle.ln_stage.proofs.VisitLemmas.{cut-first, cut-last, fresh-front, last-within, nothing-behind, seen-first, seen-last}
-use Rattle.ln_stage.proofs.WalkLemmas.{none-length, some-length}
+use Rattle.ln_stage.proofs.Walks.StartLemmas.{start-step, zeros-replicate}
+use Rattle.ln_stage.proofs.Walks.VisitLemmas.{cut-first, cut-last, fresh-front, last-within, nothing-behind, seen-first, seen-last}
+use Rattle.ln_stage.proofs.Walks.WalkLemmas.{none-length, some-length}
 use Rattle.ln_stage.proofs.lists.visit.Goals as goal
 
 pub returns-then-cut-clause-ok : goal.returns-then-cut-clause-ok

@@ -1,4 +1,4 @@
-use Rattle.ln_stage.proofs.FirstSightLemmas.{first-sight-by-prefixes, segments-are-fewer}
+use Rattle.ln_stage.proofs.Sights.FirstSightLemmas.{first-sight-by-prefixes, segments-are-fewer}
 use Rattle.ln_stage.proofs.segments.first_sight_by_prefixes.Goals as goal
 
 pub returns-clause-same : goal.returns-clause-same

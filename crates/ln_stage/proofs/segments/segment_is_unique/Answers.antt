@@ -1,4 +1,4 @@
-use Rattle.ln_stage.proofs.SegmentLemmas.{segment-is-unique}
+use Rattle.ln_stage.proofs.Results.SegmentLemmas.{segment-is-unique}
 use Rattle.ln_stage.proofs.segments.segment_is_unique.Goals as goal
 
 pub returns : goal.returns

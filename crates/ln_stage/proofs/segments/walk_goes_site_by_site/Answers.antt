@@ -1,4 +1,4 @@
-use Rattle.ln_stage.proofs.SiteWalkLemmas.{lists-are-walked-by-prefixes, walk-goes-site-by-site, walks-are-segments}
+use Rattle.ln_stage.proofs.Walks.SiteWalkLemmas.{lists-are-walked-by-prefixes, walk-goes-site-by-site, walks-are-segments}
 use Rattle.ln_stage.proofs.segments.walk_goes_site_by_site.Goals as goal
 
 pub returns-clause-step : goal.returns-clause-step

@@ -3,7 +3,7 @@ use Rattle.std.specs.Int.{w128}
 use Rattle.std.proofs.lemmas.Int.{to_z-of_z}
 use Rattle.std.proofs.lemmas.List.Elements.{All-append, All-cons, All-nil}
 use Rattle.ln_tree.specs.Exps.{IsAbove, IsRising, Pairs}
-use Rattle.ln_poly.proofs.Coefficients.{size-append, size-cons, size-nil}
+use Rattle.ln_poly.proofs.TermLists.Coefficients.{size-append, size-cons, size-nil}
 use Rattle.ln_stage.proofs.spheres.determinant.Goals as goal
 
 pub orders-init : goal.orders-init

@@ -1,6 +1,6 @@
 use Rattle.std.proofs.Common.{arith}
 use Rattle.ln_tree.proofs.Pairs.{rising-push}
-use Rattle.ln_stage.proofs.PairsLemmas.{above-more, above-put}
+use Rattle.ln_stage.proofs.Walks.PairsLemmas.{above-more, above-put}
 use Rattle.ln_stage.proofs.spheres.put.Goals as goal
 
 pub returns-then-e-eq0-clause-above : goal.returns-then-e-eq0-clause-above

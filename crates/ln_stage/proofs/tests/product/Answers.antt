@@ -2,8 +2,8 @@ use Rattle.std.proofs.Common.{[], arith, pos}
 use Rattle.std.proofs.lemmas.List.Elements.{All-cons, All-nil}
 use Rattle.ln_tree.specs.Exps.{IsRising}
 use Rattle.ln_tree.proofs.Pairs.{rising-push}
-use Rattle.ln_poly.proofs.Coefficients.{size-cons, size-nil}
-use Rattle.ln_stage.proofs.PairsLemmas.{above-put}
+use Rattle.ln_poly.proofs.TermLists.Coefficients.{size-cons, size-nil}
+use Rattle.ln_stage.proofs.Walks.PairsLemmas.{above-put}
 use Rattle.ln_stage.proofs.tests.product.Goals as goal
 
 pub vars-preserved : goal.vars-preserved

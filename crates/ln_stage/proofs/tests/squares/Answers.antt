@@ -1,7 +1,7 @@
 use Rattle.std.proofs.Common.{◌≡◌, [], ◌∷◌, arith, negsuc}
 use Rattle.std.proofs.Math.IntN.{pos}
 use Rattle.ln_poly.specs.Sparse.{size_of}
-use Rattle.ln_poly.proofs.Coefficients.{size-cons, size-nil}
+use Rattle.ln_poly.proofs.TermLists.Coefficients.{size-cons, size-nil}
 use Rattle.ln_stage.proofs.tests.squares.Goals as goal
 
 pub add-requires : goal.add-requires

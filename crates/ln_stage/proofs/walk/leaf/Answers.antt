@@ -1,7 +1,7 @@
 use Rattle.std.proofs.Common.{◌∙◌, subst}
 use Rattle.std.proofs.lemmas.Result.{err_from_is_err_and}
 use Rattle.ln_stage.specs.Tally.{IsOver, IsStoppedBy, Tallied}
-use Rattle.ln_stage.proofs.StepLemmas.{leaf-cut, leaf-sees}
+use Rattle.ln_stage.proofs.Walks.StepLemmas.{leaf-cut, leaf-sees}
 use Rattle.ln_stage.proofs.walk.leaf.Goals as goal
 
 pub returns-clause-ok : goal.returns-clause-ok

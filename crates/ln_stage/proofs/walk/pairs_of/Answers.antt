@@ -1,5 +1,5 @@
 use Rattle.std.proofs.Common.{arith, get_or, ◌≡◌, ◌∙◌}
-use Rattle.ln_stage.proofs.PairsLemmas.{above-more, above-put, pairs-put, pairs-skip}
+use Rattle.ln_stage.proofs.Walks.PairsLemmas.{above-more, above-put, pairs-put, pairs-skip}
 use Rattle.ln_stage.proofs.walk.pairs_of.Goals as goal
 use Rattle.ln_stage.proofs.walk.pairs_of.Goals.{then-e-gt0+in_ok-push, else-e-gt0}
 

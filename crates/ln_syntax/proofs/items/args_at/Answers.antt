@@ -1,6 +1,6 @@
 use Rattle.std.proofs.Common.{arith, ◌+◌}
 use Rattle.ln_lex.specs.declared.token.Kind.TheVariants.{Comma}
-use Rattle.ln_syntax.proofs.Parts.{is_within, args_last, args_more}
+use Rattle.ln_syntax.proofs.Spellings.Parts.{is_within, args_last, args_more}
 use Rattle.ln_syntax.proofs.items.args_at.Goals as goal
 
 pub returns-then-not-is-clause-ok : goal.returns-then-not-is-clause-ok

@@ -1,5 +1,5 @@
 use Rattle.std.proofs.Common.{length, ◌-◌}
-use Rattle.ln_syntax.proofs.Parts.{ArgsRead}
+use Rattle.ln_syntax.proofs.Spellings.Parts.{ArgsRead}
 use Rattle.ln_syntax.proofs.items.args_at.Given as goal
 
 abbrev pub invariant-arguments : goal.invariant-arguments

@@ -1,5 +1,5 @@
 use Rattle.std.proofs.Common.{length, ◌-◌}
-use Rattle.ln_syntax.proofs.Parts.{CoordsRead}
+use Rattle.ln_syntax.proofs.Spellings.Parts.{CoordsRead}
 use Rattle.ln_syntax.proofs.items.coords_at.Given as goal
 
 abbrev pub invariant-coords : goal.invariant-coords

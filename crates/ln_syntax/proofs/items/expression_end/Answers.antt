@@ -1,7 +1,7 @@
 use Rattle.std.proofs.Common.{ℕ, arith, subst}
 use Rattle.ln_syntax.specs.Expression.{IsExpr}
-use Rattle.ln_syntax.proofs.Ahead.{next_semi}
-use Rattle.ln_syntax.proofs.Parts.{end_ahead}
+use Rattle.ln_syntax.proofs.Recognising.Ahead.{next_semi}
+use Rattle.ln_syntax.proofs.Spellings.Parts.{end_ahead}
 use Rattle.ln_syntax.proofs.items.expression_end.Goals as goal
 
 pub overflow_add-to : goal.overflow_add-to

@@ -1,5 +1,5 @@
 use Rattle.std.proofs.Common.{◌-◌, length}
-use Rattle.ln_syntax.proofs.Ahead.{NoSemi}
+use Rattle.ln_syntax.proofs.Recognising.Ahead.{NoSemi}
 use Rattle.ln_syntax.proofs.items.expression_end.Given as goal
 
 abbrev pub invariant-tokens : goal.invariant-tokens

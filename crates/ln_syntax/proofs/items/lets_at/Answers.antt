@@ -1,7 +1,7 @@
 use Rattle.std.proofs.Common.{arith}
 use Rattle.ln_lex.specs.declared.token.Kind.TheVariants.{Let, Semi}
-use Rattle.ln_syntax.proofs.Ahead.{no_semi}
-use Rattle.ln_syntax.proofs.Parts.{is_within, lets_begin, let_more}
+use Rattle.ln_syntax.proofs.Recognising.Ahead.{no_semi}
+use Rattle.ln_syntax.proofs.Spellings.Parts.{is_within, lets_begin, let_more}
 use Rattle.ln_syntax.proofs.items.lets_at.Goals as goal
 
 pub lets-init : goal.lets-init

@@ -1,5 +1,5 @@
 use Rattle.std.proofs.Common.{length, ◌-◌}
-use Rattle.ln_syntax.proofs.Parts.{LetsRead}
+use Rattle.ln_syntax.proofs.Spellings.Parts.{LetsRead}
 use Rattle.ln_syntax.proofs.items.lets_at.Given as goal
 
 abbrev pub invariant-lets : goal.invariant-lets

@@ -1,6 +1,6 @@
 use Rattle.std.proofs.Common.{arith}
 use Rattle.ln_lex.specs.declared.token.Kind.TheVariants.{Semi}
-use Rattle.ln_syntax.proofs.Parts.{is_within, param_range, param_semi, param_read}
+use Rattle.ln_syntax.proofs.Spellings.Parts.{is_within, param_range, param_semi, param_read}
 use Rattle.ln_syntax.proofs.items.param_at.Goals as goal
 
 pub range_at-range-requires-clause-there : goal.range_at-range-requires-clause-there

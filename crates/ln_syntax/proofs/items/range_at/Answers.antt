@@ -1,4 +1,4 @@
-use Rattle.ln_syntax.proofs.Parts.{high_there, range_read}
+use Rattle.ln_syntax.proofs.Spellings.Parts.{high_there, range_read}
 use Rattle.ln_syntax.proofs.items.range_at.Goals as goal
 
 pub end_at-high-requires-clause-there : goal.end_at-high-requires-clause-there

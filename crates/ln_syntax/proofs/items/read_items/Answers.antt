@@ -1,7 +1,7 @@
 use Rattle.std.proofs.Common.{arith}
 use Rattle.std.proofs.lemmas.List.{map-append}
-use Rattle.ln_syntax.proofs.Parts.{items_begin, item_rises, item_more, items_end}
-use Rattle.ln_syntax.proofs.PlacesWithin.{all_within}
+use Rattle.ln_syntax.proofs.Spellings.Parts.{items_begin, item_rises, item_more, items_end}
+use Rattle.ln_syntax.proofs.Spellings.PlacesWithin.{all_within}
 use Rattle.ln_syntax.proofs.items.read_items.Goals as goal
 
 pub items-init : goal.items-init

@@ -1,6 +1,6 @@
 use Rattle.std.proofs.Common.{length, ◌-◌}
 use Rattle.ln_syntax.specs.Raw.{items}
-use Rattle.ln_syntax.proofs.Parts.{ItemsRead}
+use Rattle.ln_syntax.proofs.Spellings.Parts.{ItemsRead}
 use Rattle.ln_syntax.proofs.items.read_items.Given as goal
 
 abbrev pub invariant-items : goal.invariant-items

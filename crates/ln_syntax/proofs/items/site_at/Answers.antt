@@ -1,6 +1,6 @@
 use Rattle.std.proofs.Common.{arith}
 use Rattle.ln_lex.specs.declared.token.Kind.TheVariants.{BraceR}
-use Rattle.ln_syntax.proofs.Parts.{is_within, site_coords, site_read}
+use Rattle.ln_syntax.proofs.Spellings.Parts.{is_within, site_coords, site_read}
 use Rattle.ln_syntax.proofs.items.site_at.Goals as goal
 
 pub coords_at-requires-clause-there : goal.coords_at-requires-clause-there

@@ -1,6 +1,6 @@
 use Rattle.std.proofs.Common.{◌≡◌, length, Some, sym, ap, ◌∙◌, arith}
-use Rattle.ln_syntax.proofs.Fault.{is_at}
-use Rattle.ln_syntax.proofs.Depth.{depth_more, shallow_more, shallow_all}
+use Rattle.ln_syntax.proofs.Recognising.Fault.{is_at}
+use Rattle.ln_syntax.proofs.Recognising.Depth.{depth_more, shallow_more, shallow_all}
 use Rattle.ln_syntax.proofs.nesting.nesting_fault.Goals as goal
 
 pub returns-in_default-clause-some : goal.returns-in_default-clause-some

@@ -1,6 +1,6 @@
 use Rattle.std.proofs.Common.{◌≡◌, ◌≤◌, take}
 use Rattle.ln_syntax.specs.Place.{depth_after}
-use Rattle.ln_syntax.proofs.Depth.{ShallowTo}
+use Rattle.ln_syntax.proofs.Recognising.Depth.{ShallowTo}
 use Rattle.ln_syntax.proofs.nesting.nesting_fault.Given as goal
 
 abbrev pub invariant-tokens : goal.invariant-tokens

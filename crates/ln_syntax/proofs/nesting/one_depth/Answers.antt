@@ -1,5 +1,5 @@
-use Rattle.ln_syntax.proofs.Either.{either_depth}
-use Rattle.ln_syntax.proofs.Depth.{one_depth, no_depth}
+use Rattle.ln_syntax.proofs.Recognising.Either.{either_depth}
+use Rattle.ln_syntax.proofs.Recognising.Depth.{one_depth, no_depth}
 use Rattle.ln_syntax.proofs.nesting.one_depth.Goals as goal
 
 pub returns-clause-place : goal.returns-clause-place

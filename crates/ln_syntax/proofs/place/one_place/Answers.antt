@@ -1,5 +1,5 @@
-use Rattle.ln_syntax.proofs.Either.{either_place}
-use Rattle.ln_syntax.proofs.Fault.{one_place, no_text}
+use Rattle.ln_syntax.proofs.Recognising.Either.{either_place}
+use Rattle.ln_syntax.proofs.Recognising.Fault.{one_place, no_text}
 use Rattle.ln_syntax.proofs.place.one_place.Goals as goal
 
 pub returns-clause-place : goal.returns-clause-place

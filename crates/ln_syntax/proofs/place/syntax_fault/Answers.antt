@@ -1,5 +1,5 @@
 use Rattle.std.proofs.Common.{◌≡◌, length, sym, ◌∙◌, arith}
-use Rattle.ln_syntax.proofs.Fault.{is_at, fault_at, fault_end, is_text, walked_more}
+use Rattle.ln_syntax.proofs.Recognising.Fault.{is_at, fault_at, fault_end, is_text, walked_more}
 use Rattle.ln_syntax.proofs.place.syntax_fault.Goals as goal
 
 pub returns-in_default-clause-some : goal.returns-in_default-clause-some

@@ -1,4 +1,4 @@
-use Rattle.ln_syntax.proofs.OneSpelling.{one_spelling}
+use Rattle.ln_syntax.proofs.Spellings.OneSpelling.{one_spelling}
 use Rattle.ln_syntax.proofs.unique.one_spelling.Goals as goal
 
 pub returns : goal.returns

@@ -1,4 +1,4 @@
-use Rattle.ln_syntax.proofs.OneTree.{one_tree}
+use Rattle.ln_syntax.proofs.Spellings.OneTree.{one_tree}
 use Rattle.ln_syntax.proofs.unique.one_tree.Goals as goal
 
 pub returns-clause-end : goal.returns-clause-end

@@ -1,4 +1,4 @@
-use Rattle.ln_top.proofs.CheckLaws.{counts_start, counts_more}
+use Rattle.ln_top.proofs.Commands.CheckLaws.{counts_start, counts_more}
 use Rattle.ln_top.proofs.check.counts.Goals as goal
 
 pub preds-init : goal.preds-init

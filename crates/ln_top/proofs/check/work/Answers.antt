@@ -1,4 +1,4 @@
-use Rattle.ln_top.proofs.CheckLaws.{carried}
+use Rattle.ln_top.proofs.Commands.CheckLaws.{carried}
 use Rattle.ln_top.proofs.check.work.Goals as goal
 
 pub returns : goal.returns

@@ -1,5 +1,5 @@
 -- Answers to the goals of `work` in src/emit.rt.
-use Rattle.ln_top.proofs.EmitLaws.{carried}
+use Rattle.ln_top.proofs.Commands.EmitLaws.{carried}
 use Rattle.ln_top.proofs.emit.work.Goals as goal
 
 pub returns : goal.returns

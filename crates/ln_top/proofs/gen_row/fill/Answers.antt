@@ -1,6 +1,6 @@
 use Rattle.std.proofs.Common.{sym, rules, arith, to_z-of_z, w64, ◌<◌}
 use mir.Val.{SFits}
-use Rattle.ln_top.proofs.MadeLemmas.{filled_none, filled_site, filled_other, site_fits}
+use Rattle.ln_top.proofs.Gathering.MadeLemmas.{filled_none, filled_site, filled_other, site_fits}
 use Rattle.ln_top.proofs.gen_row.fill.Goals as goal
 use Rattle.ln_top.proofs.gen_row.fill.Goals.{then-starts_site, else-starts_site}
 

@@ -1,4 +1,4 @@
-use Rattle.ln_top.proofs.MadeLemmas.{Filled}
+use Rattle.ln_top.proofs.Gathering.MadeLemmas.{Filled}
 use Rattle.ln_top.proofs.gen_row.fill.Given as goal
 
 abbrev pub invariant-vars : goal.invariant-vars

@@ -1,6 +1,6 @@
 use Rattle.std.proofs.Common.{arith}
-use Rattle.ln_rows.proofs.RangeLemmas.{sizes, shape_columns}
-use Rattle.ln_top.proofs.MadeRangeLemmas.{ranges, made_is, made_in_range, zero_past}
+use Rattle.ln_rows.proofs.Fields.RangeLemmas.{sizes, shape_columns}
+use Rattle.ln_top.proofs.Gathering.MadeRangeLemmas.{ranges, made_is, made_in_range, zero_past}
 use Rattle.ln_top.proofs.gen_row.gen_row.Goals as goal
 
 pub fill-requires-clause-few_vars : goal.fill-requires-clause-few_vars

@@ -1,4 +1,4 @@
-use Rattle.ln_top.proofs.GenLaws.{row_put}
+use Rattle.ln_top.proofs.Commands.GenLaws.{row_put}
 use Rattle.ln_top.proofs.generate.put_row.Goals as goal
 
 pub returns-clause-puts : goal.returns-clause-puts

@@ -1,8 +1,8 @@
 use Rattle.std.proofs.Common.{rules}
 use Rattle.ln_top.specs.Target.{pred_in}
 use Rattle.ln_top.specs.Gen.{GenStep}
-use Rattle.ln_top.proofs.LinesLaws.{running_puts, running_tears, running_done}
-use Rattle.ln_top.proofs.GenLaws.{none_made, draws_more, draws_none}
+use Rattle.ln_top.proofs.Gathering.LinesLaws.{running_puts, running_tears, running_done}
+use Rattle.ln_top.proofs.Commands.GenLaws.{none_made, draws_more, draws_none}
 use Rattle.ln_top.proofs.generate.put_rows.Goals as goal
 
 pub rows-init : goal.rows-init

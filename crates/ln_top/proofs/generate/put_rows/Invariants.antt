@@ -4,7 +4,7 @@ use Rattle.ln_code.specs.Memory.{MadeFor}
 use Rattle.ln_watch.specs.Panel.{states_of}
 use Rattle.ln_top.specs.Gen.{GenStep, draws}
 use Rattle.ln_top.specs.Lines.{every}
-use Rattle.ln_top.proofs.LinesLaws.{Running}
+use Rattle.ln_top.proofs.Gathering.LinesLaws.{Running}
 use Rattle.ln_top.proofs.generate.put_rows.Given as goal
 
 abbrev pub invariant-rows : goal.invariant-rows

@@ -1,4 +1,4 @@
-use Rattle.ln_top.proofs.GenLaws.{rows_cut, close_cut, all_put}
+use Rattle.ln_top.proofs.Commands.GenLaws.{rows_cut, close_cut, all_put}
 use Rattle.ln_top.proofs.generate.work.Goals as goal
 
 pub returns-then-not-put_rows : goal.returns-then-not-put_rows

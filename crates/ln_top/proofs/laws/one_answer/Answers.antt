@@ -1,4 +1,4 @@
-use Rattle.ln_top.proofs.OneAnswer.{one_answer}
+use Rattle.ln_top.proofs.Steps.OneAnswer.{one_answer}
 use Rattle.ln_top.proofs.laws.one_answer.Goals as goal
 
 pub returns : goal.returns

@@ -1,4 +1,4 @@
-use Rattle.ln_top.proofs.TopLaws.{one_end}
+use Rattle.ln_top.proofs.Steps.TopLaws.{one_end}
 use Rattle.ln_top.proofs.laws.one_end.Goals as goal
 
 pub returns : goal.returns

@@ -1,5 +1,5 @@
 -- Answers to the goals of `work` in src/list.rt.
-use Rattle.ln_top.proofs.ListLaws.{carried}
+use Rattle.ln_top.proofs.Commands.ListLaws.{carried}
 use Rattle.ln_top.proofs.list.work.Goals as goal
 
 pub returns : goal.returns

@@ -1,4 +1,4 @@
-use Rattle.ln_top.proofs.PutLemmas.{fails_second}
+use Rattle.ln_top.proofs.Steps.PutLemmas.{fails_second}
 use Rattle.ln_top.proofs.panel.put_fed.Goals as goal
 
 pub returns-clause-err : goal.returns-clause-err

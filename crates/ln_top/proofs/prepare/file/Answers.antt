@@ -1,6 +1,6 @@
 use Rattle.std.proofs.Common.{ap, Err}
 use Rattle.ln_top.specs.Carried.{short}
-use Rattle.ln_top.proofs.Prepared.{read_there, read_fault, read_long}
+use Rattle.ln_top.proofs.Steps.Prepared.{read_there, read_fault, read_long}
 use Rattle.ln_top.proofs.prepare.file.Goals as goal
 
 pub returns-in-Ok-clause-ok : goal.returns-in-Ok-clause-ok

@@ -1,6 +1,6 @@
 use Rattle.std.proofs.Common.{string_bytes, rules, sym}
 use Rattle.ln_top.specs.Carried.{short}
-use Rattle.ln_top.proofs.Prepared.{looking_more, looking_all, looking_stops, left_more, left_none}
+use Rattle.ln_top.proofs.Steps.Prepared.{looking_more, looking_all, looking_stops, left_more, left_none}
 use Rattle.ln_top.proofs.prepare.numbers.Goals as goal
 
 pub returns-in_default-clause-err : goal.returns-in_default-clause-err

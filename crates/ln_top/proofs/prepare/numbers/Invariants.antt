@@ -1,6 +1,6 @@
 use Rattle.std.proofs.Common.{◌≡◌, map, drop, length, string_bytes}
 use Rattle.ln_tree.specs.Table.{pred_of}
-use Rattle.ln_top.proofs.Prepared.{Looking}
+use Rattle.ln_top.proofs.Steps.Prepared.{Looking}
 use Rattle.ln_top.proofs.prepare.numbers.Given as goal
 
 abbrev pub invariant-names : goal.invariant-names

@@ -1,5 +1,5 @@
-use Rattle.ln_top.proofs.Prepared.{one_within, one_numbered}
-use Rattle.ln_top.proofs.TargetLaws.{given_by}
+use Rattle.ln_top.proofs.Steps.Prepared.{one_within, one_numbered}
+use Rattle.ln_top.proofs.Commands.TargetLaws.{given_by}
 use Rattle.ln_top.proofs.prepare.one_target.Goals as goal
 
 pub new-requires : goal.new-requires

@@ -1,5 +1,5 @@
 use Rattle.std.proofs.Common.{◌∙◌}
-use Rattle.ln_top.proofs.Prepared.{one_text}
+use Rattle.ln_top.proofs.Steps.Prepared.{one_text}
 use Rattle.ln_top.proofs.prepare.one_text.Goals as goal
 
 pub returns : goal.returns

@@ -1,5 +1,5 @@
 use Rattle.ln_top.specs.Plan.{with_bytes}
-use Rattle.ln_top.proofs.Prepared.{source_stops, names_stop, files_stop, is_ready, rose_same}
+use Rattle.ln_top.proofs.Steps.Prepared.{source_stops, names_stop, files_stop, is_ready, rose_same}
 use Rattle.ln_top.proofs.prepare.prepare.Goals as goal
 
 pub returns-in-Err-clause-err : goal.returns-in-Err-clause-err

@@ -1,4 +1,4 @@
-use Rattle.ln_top.proofs.Prepared.{file_stops, compiler_stops}
+use Rattle.ln_top.proofs.Steps.Prepared.{file_stops, compiler_stops}
 use Rattle.ln_top.proofs.prepare.source.Goals as goal
 
 pub returns-in-Err-clause-err : goal.returns-in-Err-clause-err

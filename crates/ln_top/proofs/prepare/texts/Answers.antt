@@ -1,8 +1,8 @@
 use Rattle.std.proofs.Common.{string_bytes, rules}
 use Rattle.ln_top.specs.Steps.{Reads, most_file}
 use Rattle.ln_top.specs.Carried.{short}
-use Rattle.ln_top.proofs.Chain.{behind_more, behind_all}
-use Rattle.ln_top.proofs.Prepared.{halts_behind, left_more, left_none, rose_same, map_behind}
+use Rattle.ln_top.proofs.Steps.Chain.{behind_more, behind_all}
+use Rattle.ln_top.proofs.Steps.Prepared.{halts_behind, left_more, left_none, rose_same, map_behind}
 use Rattle.ln_top.proofs.prepare.texts.Goals as goal
 
 pub returns-in_default-clause-err : goal.returns-in_default-clause-err

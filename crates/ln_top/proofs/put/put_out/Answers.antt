@@ -1,4 +1,4 @@
-use Rattle.ln_top.proofs.LinesLaws.{out_broke}
+use Rattle.ln_top.proofs.Gathering.LinesLaws.{out_broke}
 use Rattle.ln_top.proofs.put.put_out.Goals as goal
 
 pub returns-in-Err : goal.returns-in-Err

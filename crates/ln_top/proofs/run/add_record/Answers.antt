@@ -1,6 +1,6 @@
 use Rattle.std.proofs.Common.{◌∙◌}
 use Rattle.ln_top.specs.Target.{pred_in}
-use Rattle.ln_top.proofs.SaysLaws.{bare_same, bare_refused}
+use Rattle.ln_top.proofs.Commands.SaysLaws.{bare_same, bare_refused}
 use Rattle.ln_top.proofs.run.add_record.Goals as goal
 
 pub returns-in_err-add_line-clause-steady : goal.returns-in_err-add_line-clause-steady

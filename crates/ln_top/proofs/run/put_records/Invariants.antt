@@ -6,7 +6,7 @@ use Rattle.ln_top.specs.Line.{is_row}
 use Rattle.ln_top.specs.Run.{StepOf, piece_room}
 use Rattle.ln_top.specs.Watching.{watching}
 use Rattle.ln_watch.specs.Panel.{states_of}
-use Rattle.ln_top.proofs.LinesLaws.{Running}
+use Rattle.ln_top.proofs.Gathering.LinesLaws.{Running}
 use Rattle.ln_top.proofs.run.put_records.Given as goal
 
 abbrev pub invariant-rows : goal.invariant-rows

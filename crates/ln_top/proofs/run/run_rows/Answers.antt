@@ -2,9 +2,9 @@ use Rattle.ln_top.specs.Target.{pred_in}
 use Rattle.ln_top.specs.Line.{is_row}
 use Rattle.ln_top.specs.Run.{StepOf, end_of}
 use Rattle.ln_top.specs.Watching.{last_of}
-use Rattle.ln_top.proofs.LinesLaws.{no_last, sends_ran}
-use Rattle.ln_top.proofs.LinesCarry.{early_carried, closes_carried}
-use Rattle.ln_top.proofs.RunLaws.{by_lines}
+use Rattle.ln_top.proofs.Gathering.LinesLaws.{no_last, sends_ran}
+use Rattle.ln_top.proofs.Gathering.LinesCarry.{early_carried, closes_carried}
+use Rattle.ln_top.proofs.Commands.RunLaws.{by_lines}
 use Rattle.ln_top.proofs.run.run_rows.Goals as goal
 
 pub returns-in-Ok-put_rest : goal.returns-in-Ok-put_rest

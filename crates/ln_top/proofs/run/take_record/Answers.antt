@@ -1,6 +1,6 @@
 use Rattle.std.proofs.Common.{refl}
 use Rattle.ln_top.specs.Target.{pred_in}
-use Rattle.ln_top.proofs.RunLaws.{takes_all, takes_cut, takes_none}
+use Rattle.ln_top.proofs.Commands.RunLaws.{takes_all, takes_cut, takes_none}
 use Rattle.ln_top.proofs.run.take_record.Goals as goal
 
 pub returns-in-Err-clause-takes : goal.returns-in-Err-clause-takes

@@ -1,6 +1,6 @@
 use Rattle.std.proofs.Common.{rules}
 use Rattle.ln_top.specs.Line.{due, refused_}
-use Rattle.ln_top.proofs.SaysLaws.{read_as, read_not}
+use Rattle.ln_top.proofs.Commands.SaysLaws.{read_as, read_not}
 use Rattle.ln_top.proofs.run.verdict_of.Goals as goal
 
 pub returns-in-Ok-clause-says : goal.returns-in-Ok-clause-says

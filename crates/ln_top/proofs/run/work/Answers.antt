@@ -1,6 +1,6 @@
 use Rattle.std.proofs.Common.{sym, ◌∙◌}
 use Rattle.ln_top.specs.Target.{pred_in}
-use Rattle.ln_top.proofs.RunLaws.{has_records, header_carried}
+use Rattle.ln_top.proofs.Commands.RunLaws.{has_records, header_carried}
 use Rattle.ln_top.proofs.run.work.Goals as goal
 
 pub returns-in-Ok-true : goal.returns-in-Ok-true

@@ -1,4 +1,4 @@
-use Rattle.ln_top.proofs.SourceLaws.{accepted_source, refused_stop}
+use Rattle.ln_top.proofs.Steps.SourceLaws.{accepted_source, refused_stop}
 use Rattle.ln_top.proofs.source.compiled.Goals as goal
 
 pub returns-in-Ok-clause-ok : goal.returns-in-Ok-clause-ok

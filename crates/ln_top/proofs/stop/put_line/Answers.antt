@@ -1,4 +1,4 @@
-use Rattle.ln_top.proofs.Carry.{line_cut}
+use Rattle.ln_top.proofs.Steps.Carry.{line_cut}
 use Rattle.ln_top.proofs.stop.put_line.Goals as goal
 
 pub returns-in-Err : goal.returns-in-Err

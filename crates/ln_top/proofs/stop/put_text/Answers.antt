@@ -1,4 +1,4 @@
-use Rattle.ln_top.proofs.Carry.{text_cut}
+use Rattle.ln_top.proofs.Steps.Carry.{text_cut}
 use Rattle.ln_top.proofs.stop.put_text.Goals as goal
 
 pub returns-in-Err : goal.returns-in-Err

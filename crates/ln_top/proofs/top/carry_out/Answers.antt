@@ -1,6 +1,6 @@
 use Rattle.std.proofs.Common.{sym}
 use Rattle.ln_top.specs.Plan.{with_bytes}
-use Rattle.ln_top.proofs.TopLaws.{plan_carried, usage_carried}
+use Rattle.ln_top.proofs.Steps.TopLaws.{plan_carried, usage_carried}
 use Rattle.ln_top.proofs.top.carry_out.Goals as goal
 
 pub returns-in-Some-clause-done : goal.returns-in-Some-clause-done

@@ -2,8 +2,8 @@ use Rattle.std.proofs.Common.{sym, ◌∙◌}
 use Rattle.std.specs.Prelude.{string_bytes}
 use Rattle.std.proofs.lemmas.List.{length-map}
 use Rattle.ln_top.specs.Plan.{with_bytes}
-use Rattle.ln_top.proofs.Accepting.{ready_for, standing}
-use Rattle.ln_top.proofs.TopLaws.{work_carried, stop_carried, says_read, err_same}
+use Rattle.ln_top.proofs.Theorem.Accepting.{ready_for, standing}
+use Rattle.ln_top.proofs.Steps.TopLaws.{work_carried, stop_carried, says_read, err_same}
 use Rattle.ln_top.proofs.top.carry_plan.Goals as goal
 
 pub returns-in-Ok-clause-done : goal.returns-in-Ok-clause-done

@@ -1,12 +1,12 @@
 use Rattle.std.proofs.Common.{ap, ◌∙◌}
 use Rattle.ln_top.specs.Said.{count, status_of}
 use Rattle.ln_top.specs.declared.status.End.TheVariants.{Done, Refused, Rows, NoPredicate, Invalid, TooLong}
-use Rattle.ln_top.proofs.TopLaws.{exact, exactly_told, exactly_at, usage_where, calm, complete, says_line, read_cause, write_cause}
-use Rattle.ln_top.proofs.TopLaws.{memory_leaves, counted_rose}
-use Rattle.ln_top.proofs.HeadlineLaws.{headline}
-use Rattle.ln_top.proofs.EmittedLaws.{emitted}
-use Rattle.ln_top.proofs.ListedLaws.{listed}
-use Rattle.ln_top.proofs.TrustedLaws.{trusted}
+use Rattle.ln_top.proofs.Steps.TopLaws.{exact, exactly_told, exactly_at, usage_where, calm, complete, says_line, read_cause, write_cause}
+use Rattle.ln_top.proofs.Steps.TopLaws.{memory_leaves, counted_rose}
+use Rattle.ln_top.proofs.Theorem.HeadlineLaws.{headline}
+use Rattle.ln_top.proofs.Theorem.EmittedLaws.{emitted}
+use Rattle.ln_top.proofs.Theorem.ListedLaws.{listed}
+use Rattle.ln_top.proofs.Theorem.TrustedLaws.{trusted}
 use Rattle.ln_top.proofs.top.lnc.Goals as goal
 
 pub returns-clause-exact : goal.returns-clause-exact

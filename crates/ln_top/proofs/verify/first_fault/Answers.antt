@@ -3,7 +3,7 @@ use Rattle.std.proofs.Common.{ap, sym, subst}
 use Rattle.ln_cert.specs.Listing.{IsFormFault}
 use Rattle.ln_tree.specs.Table.{TableOf}
 use Rattle.ln_top.specs.Verify.{form}
-use Rattle.ln_top.proofs.VerifyLaws.{form_there, judged_fault, judged_valid}
+use Rattle.ln_top.proofs.Commands.VerifyLaws.{form_there, judged_fault, judged_valid}
 use Rattle.ln_top.proofs.verify.first_fault.Goals as goal
 
 pub returns-in-Err-Form : goal.returns-in-Err-Form

@@ -1,5 +1,5 @@
 -- Answers to the goals of `work` in src/verify.rt.
-use Rattle.ln_top.proofs.VerifyLaws.{valid_carried, fault_carried}
+use Rattle.ln_top.proofs.Commands.VerifyLaws.{valid_carried, fault_carried}
 use Rattle.ln_top.proofs.verify.work.Goals as goal
 
 pub returns-in_default-fault : goal.returns-in_default-fault

@@ -1,4 +1,4 @@
-use Rattle.ln_top.proofs.WatchingLaws.{put_on, cut_on}
+use Rattle.ln_top.proofs.Gathering.WatchingLaws.{put_on, cut_on}
 use Rattle.ln_top.proofs.watching.close.Goals as goal
 
 pub returns-in-Ok : goal.returns-in-Ok

@@ -1,4 +1,4 @@
-use Rattle.ln_top.proofs.WatchingLaws.{put_on, show_cut}
+use Rattle.ln_top.proofs.Gathering.WatchingLaws.{put_on, show_cut}
 use Rattle.ln_top.proofs.watching.show.Goals as goal
 
 pub returns-in-Ok-clause-wrote : goal.returns-in-Ok-clause-wrote

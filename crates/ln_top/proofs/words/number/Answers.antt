@@ -1,5 +1,5 @@
 use Rattle.std.proofs.Common.{◌<◌, ◌^◌, rules, sym}
-use Rattle.ln_top.proofs.WordsLaws.{number_fits, number_there}
+use Rattle.ln_top.proofs.Steps.WordsLaws.{number_fits, number_there}
 use Rattle.ln_top.proofs.words.number.Goals as goal
 
 pub overflow_cast-result : goal.overflow_cast-result

@@ -1,5 +1,5 @@
 use Rattle.std.proofs.Common.{string_bytes, rules}
-use Rattle.ln_top.proofs.WordsLaws.{plan_there}
+use Rattle.ln_top.proofs.Steps.WordsLaws.{plan_there}
 use Rattle.ln_top.proofs.words.plan_for.Goals as goal
 
 pub returns-then-count-form-clause-is : goal.returns-then-count-form-clause-is

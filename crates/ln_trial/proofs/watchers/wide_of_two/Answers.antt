@@ -1,4 +1,4 @@
-use Rattle.ln_top.proofs.Accepting.{standing}
+use Rattle.ln_top.proofs.Theorem.Accepting.{standing}
 use Rattle.ln_trial.proofs.watchers.wide_of_two.Goals as goal
 
 pub one_target-target-requires-clause-stands : goal.one_target-target-requires-clause-stands

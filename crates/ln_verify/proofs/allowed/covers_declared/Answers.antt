@@ -1,6 +1,6 @@
 -- What is left to show of `covers_declared`.
 use Rattle.std.proofs.Common.{sym, ◌∙◌}
-use Rattle.ln_verify.proofs.Ranges.{not-true}
+use Rattle.ln_verify.proofs.Values.Ranges.{not-true}
 use Rattle.ln_verify.proofs.allowed.covers_declared.Goals as goal
 
 pub returns-then-not-covers_low : goal.returns-then-not-covers_low

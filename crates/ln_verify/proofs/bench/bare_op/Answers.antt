@@ -1,5 +1,5 @@
 -- What is left to show of `bare_op`.
-use Rattle.ln_verify.proofs.Wide.{too-wide}
+use Rattle.ln_verify.proofs.Engines.Wide.{too-wide}
 use Rattle.ln_verify.proofs.bench.bare_op.Goals as goal
 
 pub returns : goal.returns

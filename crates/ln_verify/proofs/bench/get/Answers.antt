@@ -7,7 +7,7 @@ use Rattle.ln_verify.specs.Values.{IsFor}
 use Rattle.ln_verify.specs.BlockRules.{block_rules}
 use Rattle.ln_verify.specs.Line.{tree_of}
 use Rattle.ln_verify.specs.declared.value.Value.{Value}
-use Rattle.ln_verify.proofs.Steps.{get-step, local-there, pushed-came}
+use Rattle.ln_verify.proofs.Engines.Steps.{get-step, local-there, pushed-came}
 use Rattle.ln_verify.proofs.bench.get.Goals as goal
 
 pub returns : goal.returns

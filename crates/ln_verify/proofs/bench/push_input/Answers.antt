@@ -6,7 +6,7 @@ use Rattle.ln_verify.specs.Values.{IsFor}
 use Rattle.ln_verify.specs.BlockRules.{block_rules}
 use Rattle.ln_verify.specs.Line.{tree_of}
 use Rattle.ln_verify.specs.Versions.{version_of}
-use Rattle.ln_verify.proofs.Steps.{pushed-came}
+use Rattle.ln_verify.proofs.Engines.Steps.{pushed-came}
 use Rattle.ln_verify.proofs.bench.push_input.Goals as goal
 
 pub returns : goal.returns

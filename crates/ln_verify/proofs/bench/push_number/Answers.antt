@@ -8,8 +8,8 @@ use Rattle.ln_code.specs.declared.op.Op.TheVariants.{Push}
 use Rattle.ln_verify.specs.Values.{IsFor}
 use Rattle.ln_verify.specs.BlockRules.{block_rules}
 use Rattle.ln_verify.specs.Line.{tree_of}
-use Rattle.ln_verify.proofs.Made.{Makes}
-use Rattle.ln_verify.proofs.Steps.{pushed-came}
+use Rattle.ln_verify.proofs.Values.Made.{Makes}
+use Rattle.ln_verify.proofs.Engines.Steps.{pushed-came}
 use Rattle.ln_verify.proofs.bench.push_number.Goals as goal
 
 pub returns : goal.returns

@@ -4,7 +4,7 @@ use Rattle.std.specs.Prelude.{Some, slice_set}
 use Rattle.ln_verify.specs.Values.{IsFor}
 use Rattle.ln_verify.specs.BlockRules.{block_rules}
 use Rattle.ln_verify.specs.Line.{tree_of}
-use Rattle.ln_verify.proofs.Steps.{set-came}
+use Rattle.ln_verify.proofs.Engines.Steps.{set-came}
 use Rattle.ln_verify.proofs.bench.set.Goals as goal
 
 pub returns : goal.returns

@@ -5,7 +5,7 @@ use Rattle.ln_code.specs.declared.op.Op.TheVariants.{Neg}
 use Rattle.ln_verify.specs.Values.{IsFor}
 use Rattle.ln_verify.specs.BlockRules.{block_rules}
 use Rattle.ln_verify.specs.Line.{tree_of}
-use Rattle.ln_verify.proofs.Steps.{one-step, popped, pushed-came}
+use Rattle.ln_verify.proofs.Engines.Steps.{one-step, popped, pushed-came}
 use Rattle.ln_verify.proofs.bench.with_one.Goals as goal
 
 pub returns : goal.returns

@@ -5,7 +5,7 @@ use Rattle.ln_verify.specs.Values.{IsFor}
 use Rattle.ln_verify.specs.BlockRules.{block_rules}
 use Rattle.ln_verify.specs.Line.{tree_of}
 use Rattle.ln_verify.specs.Works.{op_of}
-use Rattle.ln_verify.proofs.Steps.{op-pushes, popped, pushed-came, two-step}
+use Rattle.ln_verify.proofs.Engines.Steps.{op-pushes, popped, pushed-came, two-step}
 use Rattle.ln_verify.proofs.bench.with_two.Goals as goal
 
 pub returns : goal.returns

@@ -1,5 +1,5 @@
 -- What is left to show of `case_of`.
-use Rattle.ln_verify.proofs.CaseLemmas.{case_is, some_terms}
+use Rattle.ln_verify.proofs.Polynomials.CaseLemmas.{case_is, some_terms}
 use Rattle.ln_verify.proofs.cases.case_of.Goals as goal
 
 pub staged-requires-clause-some : goal.staged-requires-clause-some

@@ -3,7 +3,7 @@ use Rattle.std.proofs.Common.{◌∙◌, subst, sym}
 use Rattle.std.proofs.lemmas.Bool.{le-leb}
 use Rattle.ln_poly.specs.Expansion.{IsNormal}
 use Rattle.ln_poly.specs.Sparse.{Sparse}
-use Rattle.ln_verify.proofs.MadeCuts.{cut-again-yes}
+use Rattle.ln_verify.proofs.Values.MadeCuts.{cut-again-yes}
 use Rattle.ln_verify.proofs.cutters.again.Goals as goal
 
 pub returns : goal.returns

@@ -6,9 +6,9 @@ use Rattle.ln_algebra.specs.Tree.{Sub}
 use Rattle.ln_bound.specs.declared.fitted.Two.TheVariants.{Minus}
 use Rattle.ln_interval.specs.Range.{most}
 use Rattle.ln_poly.specs.Sparse.{Sparse, size_of}
-use Rattle.ln_poly.proofs.Negating.{size-negated}
-use Rattle.ln_verify.proofs.Negations.{below-of, difference-normal}
-use Rattle.ln_verify.proofs.MadeCuts.{added-yes}
+use Rattle.ln_poly.proofs.TermLists.Negating.{size-negated}
+use Rattle.ln_verify.proofs.Polynomials.Negations.{below-of, difference-normal}
+use Rattle.ln_verify.proofs.Values.MadeCuts.{added-yes}
 use Rattle.ln_verify.proofs.cutters.difference.Goals as goal
 
 apart : (a b : ℕ) → (a ≡ b → ⊥) → (a == b) ≡ false

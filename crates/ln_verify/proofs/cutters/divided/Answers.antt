@@ -1,7 +1,7 @@
 -- What is left to show of `divided`.
 use Rattle.std.proofs.Common.{◌∙◌, sym}
 use Rattle.std.proofs.lemmas.Bool.{le-leb}
-use Rattle.ln_verify.proofs.MadeCuts.{cut-cut-yes}
+use Rattle.ln_verify.proofs.Values.MadeCuts.{cut-cut-yes}
 use Rattle.ln_verify.proofs.cutters.divided.Goals as goal
 
 pub returns : goal.returns

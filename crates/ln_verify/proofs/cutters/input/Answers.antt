@@ -2,10 +2,10 @@
 use Rattle.std.proofs.Common.{◌∙◌, length, sym}
 use Rattle.std.proofs.lemmas.Option.{slice_get_within}
 use Rattle.ln_algebra.specs.Tree.{Input}
-use Rattle.ln_poly.proofs.Normals.{input-at}
+use Rattle.ln_poly.proofs.Expansions.Normals.{input-at}
 use Rattle.ln_verify.specs.Versions.{version_of}
-use Rattle.ln_verify.proofs.Made.{input-heavy}
-use Rattle.ln_verify.proofs.MadeCuts.{cut-input-yes}
+use Rattle.ln_verify.proofs.Values.Made.{input-heavy}
+use Rattle.ln_verify.proofs.Values.MadeCuts.{cut-input-yes}
 use Rattle.ln_verify.proofs.cutters.input.Goals as goal
 
 pub kept-requires-clause-heavy : goal.kept-requires-clause-heavy

@@ -1,6 +1,6 @@
 -- What is left to show of `kept`.
 use Rattle.std.proofs.Common.{ap, arith, length, refl}
-use Rattle.ln_verify.proofs.Small.{few-small, many-large}
+use Rattle.ln_verify.proofs.Polynomials.Small.{few-small, many-large}
 use Rattle.ln_verify.proofs.cutters.kept.Goals as goal
 
 pub returns-then-terms-gt1024 : goal.returns-then-terms-gt1024

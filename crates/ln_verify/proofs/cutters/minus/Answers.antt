@@ -3,9 +3,9 @@ use Rattle.std.proofs.Common.{◌≡◌, ◌∙◌, ap, arith, sym}
 use Rattle.std.proofs.lemmas.Bool.{le-leb}
 use Rattle.ln_algebra.specs.Tree.{Neg}
 use Rattle.ln_poly.specs.Sparse.{Sparse, size_of}
-use Rattle.ln_poly.proofs.Negating.{size-negated}
-use Rattle.ln_verify.proofs.MadeCuts.{cut-minus-yes}
-use Rattle.ln_verify.proofs.Negations.{negated-normal}
+use Rattle.ln_poly.proofs.TermLists.Negating.{size-negated}
+use Rattle.ln_verify.proofs.Values.MadeCuts.{cut-minus-yes}
+use Rattle.ln_verify.proofs.Polynomials.Negations.{negated-normal}
 use Rattle.ln_verify.proofs.cutters.minus.Goals as goal
 
 pub kept-requires-clause-heavy : goal.kept-requires-clause-heavy

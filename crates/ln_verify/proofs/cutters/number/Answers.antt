@@ -7,9 +7,9 @@ use mir.Syntax.{w128}
 use Rattle.ln_algebra.specs.Tree.{Num}
 use Rattle.ln_interval.specs.Range.{most}
 use Rattle.ln_code.specs.FilterRules.{covers, push_error}
-use Rattle.ln_poly.proofs.Normals.{number-normal}
-use Rattle.ln_verify.proofs.Made.{number-heavy}
-use Rattle.ln_verify.proofs.MadeCuts.{cut-number-yes}
+use Rattle.ln_poly.proofs.Expansions.Normals.{number-normal}
+use Rattle.ln_verify.proofs.Values.Made.{number-heavy}
+use Rattle.ln_verify.proofs.Values.MadeCuts.{cut-number-yes}
 use Rattle.ln_verify.proofs.cutters.number.Goals as goal
 
 pub kept-requires-clause-heavy : goal.kept-requires-clause-heavy

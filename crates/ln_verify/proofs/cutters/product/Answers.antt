@@ -5,10 +5,10 @@ use Rattle.std.proofs.lemmas.Bool.Decides.{nat_tests}
 use Rattle.ln_algebra.specs.Tree.{Mul}
 use Rattle.ln_bound.specs.declared.fitted.Width.TheVariants.{W128}
 use Rattle.ln_bound.specs.Widths.{limit}
-use Rattle.ln_poly.proofs.Normals.{mul-normal}
-use Rattle.ln_verify.proofs.Fitting.{all-powers, fits-at, misfit-large}
-use Rattle.ln_verify.proofs.MadeCuts.{MakesCut, PutCut, multiplied-large, multiplied-yes}
-use Rattle.ln_verify.proofs.Ranges.{not-true}
+use Rattle.ln_poly.proofs.Expansions.Normals.{mul-normal}
+use Rattle.ln_verify.proofs.Polynomials.Fitting.{all-powers, fits-at, misfit-large}
+use Rattle.ln_verify.proofs.Values.MadeCuts.{MakesCut, PutCut, multiplied-large, multiplied-yes}
+use Rattle.ln_verify.proofs.Values.Ranges.{not-true}
 use Rattle.ln_verify.proofs.cutters.product.Goals as goal
 
 past : (m : ℕ) → 340282366920938463463374607431768211456 ≤ m → nat_le m 170141183460469231731687303715884105727 ≡ false

@@ -3,8 +3,8 @@ use Rattle.std.proofs.Common.{◌≡◌, ◌∙◌, ◌==◌, ℕ, arith, sym, t
 use Rattle.std.proofs.lemmas.Bool.Decides.{nat_tests}
 use Rattle.ln_algebra.specs.Tree.{Add}
 use Rattle.ln_bound.specs.declared.fitted.Two.TheVariants.{Plus}
-use Rattle.ln_poly.proofs.Normals.{add-normal}
-use Rattle.ln_verify.proofs.MadeCuts.{added-yes}
+use Rattle.ln_poly.proofs.Expansions.Normals.{add-normal}
+use Rattle.ln_verify.proofs.Values.MadeCuts.{added-yes}
 use Rattle.ln_verify.proofs.cutters.sum.Goals as goal
 
 apart : (a b : ℕ) → (a ≡ b → ⊥) → (a == b) ≡ false

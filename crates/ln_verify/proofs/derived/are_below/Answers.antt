@@ -1,8 +1,8 @@
 -- What is left to show of `are_below`.
 use Rattle.std.proofs.Common.{◌<◌, ℕ, arith, refl}
-use Rattle.ln_verify.proofs.Fitting.{each-end, each-next, each-stop}
-use Rattle.ln_verify.proofs.Readings.{each-above}
-use Rattle.ln_verify.proofs.Ranges.{not-true}
+use Rattle.ln_verify.proofs.Polynomials.Fitting.{each-end, each-next, each-stop}
+use Rattle.ln_verify.proofs.Judging.Readings.{each-above}
+use Rattle.ln_verify.proofs.Values.Ranges.{not-true}
 use Rattle.ln_verify.proofs.derived.are_below.Goals as goal
 
 pub pairs-init : goal.pairs-init

@@ -1,8 +1,8 @@
 -- What is left to show of `is_derivative`.
 use Rattle.std.proofs.Common.{ℕ, length, subst, sym, ◌∙◌}
 use Rattle.ln_tree.specs.Exps.{IsAbove, Pairs}
-use Rattle.ln_verify.proofs.Closing.{end-same}
-use Rattle.ln_verify.proofs.Ranges.{not-true}
+use Rattle.ln_verify.proofs.Polynomials.Closing.{end-same}
+use Rattle.ln_verify.proofs.Values.Ranges.{not-true}
 use Rattle.ln_verify.proofs.derived.is_derivative.Goals as goal
 
 pub returns-then-not-are_below : goal.returns-then-not-are_below

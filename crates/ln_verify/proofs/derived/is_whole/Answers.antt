@@ -1,6 +1,6 @@
 -- What is left to show of `is_whole`.
 use Rattle.std.proofs.Common.{length}
-use Rattle.ln_verify.proofs.Closing.{decide-same}
+use Rattle.ln_verify.proofs.Polynomials.Closing.{decide-same}
 use Rattle.ln_verify.proofs.derived.is_whole.Goals as goal
 
 pub returns : goal.returns

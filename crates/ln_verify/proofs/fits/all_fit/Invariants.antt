@@ -1,6 +1,6 @@
 -- The loop of `all_fit`.
 use Rattle.ln_verify.specs.Products.{RowFits}
-use Rattle.ln_verify.proofs.Fitting.{EachDecides}
+use Rattle.ln_verify.proofs.Polynomials.Fitting.{EachDecides}
 use Rattle.ln_verify.proofs.fits.all_fit.Given as goal
 
 abbrev pub invariant-rows : goal.invariant-rows

@@ -1,8 +1,8 @@
 -- What is left to show of `pairs_fit`.
 use Rattle.std.proofs.Common.{◌+◌, ◌<◌, ℕ, arith, refl}
 use Rattle.ln_tree.specs.Exps.{exponent}
-use Rattle.ln_verify.proofs.Fitting.{each-end, each-next, each-stop}
-use Rattle.ln_verify.proofs.Ranges.{not-true}
+use Rattle.ln_verify.proofs.Polynomials.Fitting.{each-end, each-next, each-stop}
+use Rattle.ln_verify.proofs.Values.Ranges.{not-true}
 use Rattle.ln_verify.proofs.fits.pairs_fit.Goals as goal
 
 pub pairs-init : goal.pairs-init

@@ -1,7 +1,7 @@
 -- The loop of `pairs_fit`.
 use Rattle.std.proofs.Common.{◌+◌, ◌<◌}
 use Rattle.ln_tree.specs.Exps.{exponent}
-use Rattle.ln_verify.proofs.Fitting.{EachDecides}
+use Rattle.ln_verify.proofs.Polynomials.Fitting.{EachDecides}
 use Rattle.ln_verify.proofs.fits.pairs_fit.Given as goal
 
 abbrev pub invariant-pairs : goal.invariant-pairs

@@ -3,8 +3,8 @@ use Rattle.std.proofs.Common.{arith, refl, sym, ◌∙◌, subst}
 use Rattle.std.proofs.Math.IntN.{ℤ}
 use Rattle.ln_tree.specs.Exps.{Pairs}
 use Rattle.ln_verify.specs.Products.{PairsFit}
-use Rattle.ln_verify.proofs.Fitting.{each-end, each-next, each-stop, pairs-at}
-use Rattle.ln_verify.proofs.Ranges.{not-true}
+use Rattle.ln_verify.proofs.Polynomials.Fitting.{each-end, each-next, each-stop, pairs-at}
+use Rattle.ln_verify.proofs.Values.Ranges.{not-true}
 use Rattle.ln_verify.proofs.fits.row_fits.Goals as goal
 
 pub terms-init : goal.terms-init

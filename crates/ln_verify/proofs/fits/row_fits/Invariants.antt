@@ -1,6 +1,6 @@
 -- The loop of `row_fits`.
 use Rattle.ln_verify.specs.Products.{PairsFit}
-use Rattle.ln_verify.proofs.Fitting.{EachDecides}
+use Rattle.ln_verify.proofs.Polynomials.Fitting.{EachDecides}
 use Rattle.ln_verify.proofs.fits.row_fits.Given as goal
 
 abbrev pub invariant-terms : goal.invariant-terms

@@ -2,9 +2,9 @@
 use Rattle.std.proofs.Common.{◌≡◌, ◌∙◌, ℕ, arith, refl, sym, true}
 use Rattle.std.specs.Prelude.{slice_get}
 use Rattle.ln_code.specs.Kept.{is_of_site}
-use Rattle.ln_verify.proofs.Fitting.{each-end, each-next, each-stop}
-use Rattle.ln_verify.proofs.Readings.{each-site}
-use Rattle.ln_verify.proofs.Ranges.{not-true}
+use Rattle.ln_verify.proofs.Polynomials.Fitting.{each-end, each-next, each-stop}
+use Rattle.ln_verify.proofs.Judging.Readings.{each-site}
+use Rattle.ln_verify.proofs.Values.Ranges.{not-true}
 use Rattle.ln_verify.proofs.heads.are_of_sites.Goals as goal
 
 pub pairs-init : goal.pairs-init

@@ -2,7 +2,7 @@
 use Rattle.std.proofs.Common.{◌≡◌, true}
 use Rattle.std.specs.Prelude.{slice_get}
 use Rattle.ln_code.specs.Kept.{is_of_site}
-use Rattle.ln_verify.proofs.Fitting.{EachDecides}
+use Rattle.ln_verify.proofs.Polynomials.Fitting.{EachDecides}
 use Rattle.ln_verify.proofs.heads.are_of_sites.Given as goal
 
 abbrev pub invariant-pairs : goal.invariant-pairs

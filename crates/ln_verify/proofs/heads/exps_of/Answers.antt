@@ -1,8 +1,8 @@
 -- What is left to show of `exps_of`.
 use Rattle.std.proofs.Common.{◌∙◌, ℕ, arith, get_or, subst, sym}
 use Rattle.ln_tree.specs.Exps.{IsAbove, Pairs}
-use Rattle.ln_verify.proofs.Ranges.{not-true}
-use Rattle.ln_verify.proofs.Readings.{rising-at, take-above}
+use Rattle.ln_verify.proofs.Values.Ranges.{not-true}
+use Rattle.ln_verify.proofs.Judging.Readings.{rising-at, take-above}
 use Rattle.ln_verify.proofs.heads.exps_of.Goals as goal
 
 pub returns-then-p-eq0 : goal.returns-then-p-eq0

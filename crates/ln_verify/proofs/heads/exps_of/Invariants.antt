@@ -1,5 +1,5 @@
 -- The loop of `exps_of`.
-use Rattle.ln_verify.proofs.Readings.{Read}
+use Rattle.ln_verify.proofs.Judging.Readings.{Read}
 use Rattle.ln_verify.proofs.heads.exps_of.Given as goal
 
 abbrev pub invariant-pairs : goal.invariant-pairs

@@ -2,10 +2,10 @@
 use Rattle.std.proofs.Common.{Bool, true, false, sym, ◌∙◌, arith, subst}
 use Rattle.std.proofs.lemmas.List.{length-map}
 use Rattle.ln_verify.specs.Line.{Place}
-use Rattle.ln_verify.proofs.Ranges.{not-true}
+use Rattle.ln_verify.proofs.Values.Ranges.{not-true}
 use Rattle.ln_verify.specs.Here.{Gone, IsHere, subject_of, subjects_of}
 use Rattle.ln_verify.specs.Versions.{version_of}
-use Rattle.ln_verify.proofs.Entries.{entries-short, entries-whole, entries-within, entry-more, entry-stops}
+use Rattle.ln_verify.proofs.Judging.Entries.{entries-short, entries-whole, entries-within, entry-more, entry-stops}
 use Rattle.ln_verify.proofs.judge.judge.Goals as goal
 
 pub lines-preserved : goal.lines-preserved

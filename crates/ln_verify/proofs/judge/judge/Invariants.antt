@@ -3,7 +3,7 @@ use Rattle.std.proofs.Common.{take}
 use Rattle.ln_cert.specs.Listing.{parts_of}
 use Rattle.ln_verify.specs.Here.{subjects_of}
 use Rattle.ln_verify.specs.Versions.{version_of}
-use Rattle.ln_verify.proofs.Places.{Come}
+use Rattle.ln_verify.proofs.Judging.Places.{Come}
 use Rattle.ln_verify.proofs.judge.judge.Given as goal
 
 abbrev pub invariant-lines : goal.invariant-lines

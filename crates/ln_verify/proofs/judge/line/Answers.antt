@@ -3,10 +3,10 @@ use Rattle.std.proofs.Common.{Bool, sym, ◌∙◌, subst}
 use Rattle.std.proofs.lemmas.Result.{IfOk-weaker}
 use Rattle.ln_verify.specs.Line.{Place}
 use Rattle.ln_cert.specs.declared.part.Part.{Part}
-use Rattle.ln_verify.proofs.Ranges.{not-true}
+use Rattle.ln_verify.proofs.Values.Ranges.{not-true}
 use Rattle.ln_verify.specs.Here.{Gone, IsHere, Leads, subject_of, subjects_of}
 use Rattle.ln_verify.specs.Versions.{version_of}
-use Rattle.ln_verify.proofs.Places.{case-staged, done-part, within-part}
+use Rattle.ln_verify.proofs.Judging.Places.{case-staged, done-part, within-part}
 use Rattle.ln_verify.proofs.judge.line.Goals as goal
 
 pub within-requires : goal.within-requires

@@ -1,6 +1,6 @@
 -- What is left to show of `predicate`.
 use Rattle.std.proofs.Common.{sym}
-use Rattle.ln_verify.proofs.Places.{named-one}
+use Rattle.ln_verify.proofs.Judging.Places.{named-one}
 use Rattle.ln_verify.proofs.judge.predicate.Goals as goal
 
 pub returns : goal.returns

@@ -5,7 +5,7 @@ use Rattle.ln_tree.specs.declared.shape.VarInfo.{VarInfo}
 use Rattle.ln_tree.specs.Exps.{IsRising, Pairs}
 use Rattle.ln_code.specs.Kept.{AreOfSites}
 use Rattle.ln_verify.specs.Here.{subject_of}
-use Rattle.ln_verify.proofs.AtSpots.{opened}
+use Rattle.ln_verify.proofs.Engines.AtSpots.{opened}
 use Rattle.ln_verify.proofs.kinds.block.Goals as goal
 
 pub returns : goal.returns

@@ -1,7 +1,7 @@
 -- What is left to show of `block_op`.
 use Rattle.ln_verify.specs.Here.{subject_of}
 use Rattle.ln_verify.specs.Versions.{version_of}
-use Rattle.ln_verify.proofs.AtSpots.{bound-led, one-number}
+use Rattle.ln_verify.proofs.Engines.AtSpots.{bound-led, one-number}
 use Rattle.ln_verify.proofs.kinds.block_op.Goals as goal
 
 pub returns : goal.returns

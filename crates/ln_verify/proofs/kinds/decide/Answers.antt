@@ -1,6 +1,6 @@
 -- What is left to show of `decide`.
 use Rattle.ln_verify.specs.Here.{subject_of}
-use Rattle.ln_verify.proofs.AtSpots.{decided}
+use Rattle.ln_verify.proofs.Engines.AtSpots.{decided}
 use Rattle.ln_verify.proofs.kinds.decide.Goals as goal
 
 pub returns : goal.returns

@@ -1,8 +1,8 @@
 -- What is left to show of `decides`.
 use Rattle.std.proofs.Common.{arith}
-use Rattle.ln_verify.proofs.Ranges.{not-true}
+use Rattle.ln_verify.proofs.Values.Ranges.{not-true}
 use Rattle.ln_verify.specs.Here.{subject_of}
-use Rattle.ln_verify.proofs.Closes.{tray-decides, tray-not-one, tray-wide}
+use Rattle.ln_verify.proofs.Polynomials.Closes.{tray-decides, tray-not-one, tray-wide}
 use Rattle.ln_verify.proofs.kinds.decides.Goals as goal
 
 pub returns-then-len-ne1 : goal.returns-then-len-ne1

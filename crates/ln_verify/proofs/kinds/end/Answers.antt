@@ -1,8 +1,8 @@
 -- What is left to show of `end`.
 use Rattle.std.proofs.Common.{length, subst, sym, ◌∙◌}
-use Rattle.ln_verify.proofs.Ranges.{not-true}
+use Rattle.ln_verify.proofs.Values.Ranges.{not-true}
 use Rattle.ln_verify.specs.Here.{AreAbove, subject_of}
-use Rattle.ln_verify.proofs.AtSpots.{end-not, ended}
+use Rattle.ln_verify.proofs.Engines.AtSpots.{end-not, ended}
 use Rattle.ln_verify.proofs.kinds.end.Goals as goal
 
 pub returns-then-not-branch : goal.returns-then-not-branch

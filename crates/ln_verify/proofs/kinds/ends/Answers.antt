@@ -7,8 +7,8 @@ use Rattle.ln_tree.specs.Exps.{IsAbove, Pairs, vector}
 use Rattle.ln_poly.specs.Expansion.{IsNormal}
 use Rattle.ln_poly.specs.Sparse.{terms_of}
 use Rattle.ln_verify.specs.Here.{subject_of}
-use Rattle.ln_verify.proofs.Closes.{bench-ends, bench-not-one, last-above, last-is}
-use Rattle.ln_verify.proofs.Ranges.{not-true}
+use Rattle.ln_verify.proofs.Polynomials.Closes.{bench-ends, bench-not-one, last-above, last-is}
+use Rattle.ln_verify.proofs.Values.Ranges.{not-true}
 use Rattle.ln_verify.proofs.kinds.ends.Goals as goal
 
 pub returns-then-len-ne1 : goal.returns-then-len-ne1

@@ -1,5 +1,5 @@
 -- What is left to show of `filter`.
-use Rattle.ln_verify.proofs.AtSpots.{named-filter}
+use Rattle.ln_verify.proofs.Engines.AtSpots.{named-filter}
 use Rattle.ln_verify.proofs.kinds.filter.Goals as goal
 
 pub returns : goal.returns

@@ -1,7 +1,7 @@
 -- What is left to show of `filter_op`.
 use Rattle.ln_verify.specs.Here.{subject_of}
 use Rattle.ln_verify.specs.Versions.{version_of}
-use Rattle.ln_verify.proofs.AtSpots.{tray-led}
+use Rattle.ln_verify.proofs.Engines.AtSpots.{tray-led}
 use Rattle.ln_verify.proofs.kinds.filter_op.Goals as goal
 
 pub returns : goal.returns

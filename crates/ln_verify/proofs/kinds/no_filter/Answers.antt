@@ -1,5 +1,5 @@
 -- What is left to show of `no_filter`.
-use Rattle.ln_verify.proofs.AtSpots.{named-gap}
+use Rattle.ln_verify.proofs.Engines.AtSpots.{named-gap}
 use Rattle.ln_verify.proofs.kinds.no_filter.Goals as goal
 
 pub returns : goal.returns

@@ -3,7 +3,7 @@ use Rattle.std.proofs.Common.{sym, ◌∙◌, subst, List, length}
 use Rattle.ln_tree.specs.Exps.{Pairs}
 use Rattle.ln_verify.specs.Line.{IsNextList}
 use Rattle.ln_verify.specs.Here.{AreAbove, subject_of}
-use Rattle.ln_verify.proofs.AtSpots.{ordered}
+use Rattle.ln_verify.proofs.Engines.AtSpots.{ordered}
 use Rattle.ln_verify.proofs.kinds.order.Goals as goal
 
 pub returns : goal.returns

@@ -6,7 +6,7 @@ use Rattle.ln_interval.specs.Range.{Range}
 use Rattle.ln_tree.specs.declared.shape.VarInfo.{VarInfo}
 use Rattle.ln_verify.specs.Versions.{version_of}
 use Rattle.ln_verify.specs.Works.{BenchLed}
-use Rattle.ln_verify.proofs.Ends.{pair-said}
+use Rattle.ln_verify.proofs.Values.Ends.{pair-said}
 use Rattle.ln_verify.proofs.kinds.range_line.Goals as goal
 
 pub returns : goal.returns

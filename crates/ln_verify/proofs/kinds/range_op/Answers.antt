@@ -4,7 +4,7 @@ use Rattle.std.proofs.lemmas.Int.{to_z-of_z}
 use mir.Syntax.{w128}
 use Rattle.ln_verify.specs.Here.{subject_of}
 use Rattle.ln_verify.specs.Versions.{version_of}
-use Rattle.ln_verify.proofs.AtSpots.{range-led, two-number}
+use Rattle.ln_verify.proofs.Engines.AtSpots.{range-led, two-number}
 use Rattle.ln_verify.proofs.kinds.range_op.Goals as goal
 
 pub returns : goal.returns

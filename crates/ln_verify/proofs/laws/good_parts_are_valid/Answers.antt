@@ -1,5 +1,5 @@
 -- What is left to show of `good_parts_are_valid`.
-use Rattle.ln_verify.proofs.Put.{good-valid}
+use Rattle.ln_verify.proofs.Judging.Put.{good-valid}
 use Rattle.ln_verify.proofs.laws.good_parts_are_valid.Goals as goal
 
 pub returns : goal.returns

@@ -1,5 +1,5 @@
 -- What is left to show of `valid_listings_give_signs`.
-use Rattle.ln_verify.proofs.Tells.{signs-told}
+use Rattle.ln_verify.proofs.Validity.Tells.{signs-told}
 use Rattle.ln_verify.proofs.laws.valid_listings_give_signs.Goals as goal
 
 pub returns : goal.returns

@@ -1,5 +1,5 @@
 -- What is left to show of `valid_parts_stand`.
-use Rattle.ln_verify.proofs.Stand.{valid-stands}
+use Rattle.ln_verify.proofs.Validity.Stand.{valid-stands}
 use Rattle.ln_verify.proofs.laws.valid_parts_stand.Goals as goal
 
 pub returns : goal.returns

@@ -1,7 +1,7 @@
 -- What is left to show of `versions_follow`.
 use Rattle.std.proofs.Common.{refl}
-use Rattle.ln_verify.proofs.OnBounds.{is-on-bounds}
-use Rattle.ln_verify.proofs.Versions.{version-1-follows}
+use Rattle.ln_verify.proofs.Engines.OnBounds.{is-on-bounds}
+use Rattle.ln_verify.proofs.Engines.Versions.{version-1-follows}
 use Rattle.ln_verify.proofs.laws.versions_follow.Goals as goal
 
 pub returns-clause-bounds : goal.returns-clause-bounds

@@ -3,7 +3,7 @@ use Rattle.std.proofs.Common.{arith, sym, subst}
 use Rattle.ln_tree.specs.declared.pred.Pred.{Pred}
 use Rattle.ln_tree.specs.Table.{pred_of}
 use Rattle.ln_verify.specs.Accepted.{IsAccepted}
-use Rattle.ln_verify.proofs.Subjects.{accepted-at, case-subject, cases-first, cases-next, cases-whole}
+use Rattle.ln_verify.proofs.Judging.Subjects.{accepted-at, case-subject, cases-first, cases-next, cases-whole}
 use Rattle.ln_verify.proofs.listings.cases_of.Goals as goal
 
 pub each-init : goal.each-init

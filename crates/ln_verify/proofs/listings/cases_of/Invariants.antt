@@ -1,5 +1,5 @@
 -- The loop of `cases_of`.
-use Rattle.ln_verify.proofs.Subjects.{Made}
+use Rattle.ln_verify.proofs.Judging.Subjects.{Made}
 use Rattle.ln_verify.proofs.listings.cases_of.Given as goal
 
 abbrev pub invariant-each : goal.invariant-each

@@ -1,6 +1,6 @@
 -- What is left to show of `form_of`.
 use Rattle.std.proofs.Common.{sym, ◌∙◌}
-use Rattle.ln_verify.proofs.Subjects.{rules-1, rules-2}
+use Rattle.ln_verify.proofs.Judging.Subjects.{rules-1, rules-2}
 use Rattle.ln_verify.proofs.listings.form_of.Goals as goal
 
 pub returns-then-version-eq1 : goal.returns-then-version-eq1

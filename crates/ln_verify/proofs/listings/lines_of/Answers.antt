@@ -1,7 +1,7 @@
 -- What is left to show of `lines_of`.
 use Rattle.std.proofs.Common.{arith, ap, length, subst, sym}
 use Rattle.ln_cert.specs.Listing.{AreNumbered}
-use Rattle.ln_verify.proofs.Entries.{entries-few}
+use Rattle.ln_verify.proofs.Judging.Entries.{entries-few}
 use Rattle.ln_verify.proofs.listings.lines_of.Goals as goal
 
 pub returns-clause-numbered : goal.returns-clause-numbered

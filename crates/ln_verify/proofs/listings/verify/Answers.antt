@@ -6,7 +6,7 @@ use Rattle.ln_tree.specs.Table.{pred_of}
 use Rattle.ln_verify.specs.Here.{subjects_of}
 use Rattle.ln_verify.specs.Verified.{AreSubjectsOf}
 use Rattle.ln_verify.specs.Versions.{version_of}
-use Rattle.ln_verify.proofs.Subjects.{answered, fault-not, fault-there, valid-not, valid-there}
+use Rattle.ln_verify.proofs.Judging.Subjects.{answered, fault-not, fault-there, valid-not, valid-there}
 use Rattle.ln_verify.proofs.listings.verify.Goals as goal
 
 pub returns-in-Some-clause-valid : goal.returns-in-Some-clause-valid

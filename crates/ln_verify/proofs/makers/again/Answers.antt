@@ -4,8 +4,8 @@ use Rattle.ln_interval.specs.View.{range}
 use Rattle.ln_bound.specs.Widths.{least, wider}
 use Rattle.ln_poly.specs.Expansion.{IsNormal}
 use Rattle.ln_poly.specs.Sparse.{Sparse}
-use Rattle.ln_verify.proofs.Made.{again-no, again-yes}
-use Rattle.ln_verify.proofs.Ranges.{not-true}
+use Rattle.ln_verify.proofs.Values.Made.{again-no, again-yes}
+use Rattle.ln_verify.proofs.Values.Ranges.{not-true}
 use Rattle.ln_verify.proofs.makers.again.Goals as goal
 
 pub returns-then-not-is_allowed : goal.returns-then-not-is_allowed

@@ -6,10 +6,10 @@ use Rattle.ln_interval.specs.Range.{difference}
 use Rattle.ln_interval.specs.View.{range}
 use Rattle.ln_interval.proofs.Magnitudes.{difference_ordered}
 use Rattle.ln_poly.specs.Sparse.{Sparse, size_of}
-use Rattle.ln_poly.proofs.Negating.{size-negated}
-use Rattle.ln_verify.proofs.Made.{two-no, two-yes}
-use Rattle.ln_verify.proofs.Negations.{below-of, difference-normal}
-use Rattle.ln_verify.proofs.Ranges.{not-true}
+use Rattle.ln_poly.proofs.TermLists.Negating.{size-negated}
+use Rattle.ln_verify.proofs.Values.Made.{two-no, two-yes}
+use Rattle.ln_verify.proofs.Polynomials.Negations.{below-of, difference-normal}
+use Rattle.ln_verify.proofs.Values.Ranges.{not-true}
 use Rattle.ln_verify.proofs.makers.difference.Goals as goal
 
 pub returns-then-not-is_allowed : goal.returns-then-not-is_allowed

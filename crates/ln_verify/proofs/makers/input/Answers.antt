@@ -4,10 +4,10 @@ use Rattle.std.proofs.lemmas.Option.{slice_get_within}
 use Rattle.ln_algebra.specs.Tree.{Input}
 use Rattle.ln_interval.specs.View.{range}
 use Rattle.ln_bound.specs.Widths.{least}
-use Rattle.ln_poly.proofs.Normals.{input-at}
+use Rattle.ln_poly.proofs.Expansions.Normals.{input-at}
 use Rattle.ln_verify.specs.Versions.{version_of}
-use Rattle.ln_verify.proofs.Made.{input-heavy, input-no, input-yes}
-use Rattle.ln_verify.proofs.Ranges.{not-true}
+use Rattle.ln_verify.proofs.Values.Made.{input-heavy, input-no, input-yes}
+use Rattle.ln_verify.proofs.Values.Ranges.{not-true}
 use Rattle.ln_verify.proofs.makers.input.Goals as goal
 
 pub returns-then-not-is_allowed : goal.returns-then-not-is_allowed

@@ -5,10 +5,10 @@ use Rattle.ln_algebra.specs.Tree.{Neg}
 use Rattle.ln_interval.specs.Range.{Range, Covers, opposite}
 use Rattle.ln_interval.specs.View.{range}
 use Rattle.ln_poly.specs.Sparse.{Sparse, size_of}
-use Rattle.ln_poly.proofs.Negating.{size-negated}
-use Rattle.ln_verify.proofs.Made.{minus-no, minus-wide, minus-yes}
-use Rattle.ln_verify.proofs.Negations.{negated-normal}
-use Rattle.ln_verify.proofs.Ranges.{not-true}
+use Rattle.ln_poly.proofs.TermLists.Negating.{size-negated}
+use Rattle.ln_verify.proofs.Values.Made.{minus-no, minus-wide, minus-yes}
+use Rattle.ln_verify.proofs.Polynomials.Negations.{negated-normal}
+use Rattle.ln_verify.proofs.Values.Ranges.{not-true}
 use Rattle.ln_verify.proofs.makers.minus.Goals as goal
 
 pub returns-then-not-no_wider : goal.returns-then-not-no_wider

@@ -7,9 +7,9 @@ use Rattle.ln_algebra.specs.Tree.{Num}
 use Rattle.ln_interval.specs.Range.{point}
 use Rattle.ln_interval.specs.View.{range}
 use Rattle.ln_bound.specs.Widths.{least}
-use Rattle.ln_poly.proofs.Normals.{number-normal}
-use Rattle.ln_verify.proofs.Made.{number-heavy, number-no, number-yes}
-use Rattle.ln_verify.proofs.Ranges.{not-true}
+use Rattle.ln_poly.proofs.Expansions.Normals.{number-normal}
+use Rattle.ln_verify.proofs.Values.Made.{number-heavy, number-no, number-yes}
+use Rattle.ln_verify.proofs.Values.Ranges.{not-true}
 use Rattle.ln_verify.proofs.makers.number.Goals as goal
 
 pub returns-then-not-is_allowed : goal.returns-then-not-is_allowed

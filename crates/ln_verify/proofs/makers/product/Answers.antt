@@ -5,11 +5,11 @@ use Rattle.ln_bound.specs.declared.fitted.Two.TheVariants.{Times}
 use Rattle.ln_interval.specs.Range.{product}
 use Rattle.ln_interval.specs.View.{range}
 use Rattle.ln_interval.proofs.Magnitudes.{product_ordered}
-use Rattle.ln_poly.proofs.Normals.{mul-normal}
+use Rattle.ln_poly.proofs.Expansions.Normals.{mul-normal}
 use Rattle.ln_verify.specs.Versions.{Allows}
-use Rattle.ln_verify.proofs.Fitting.{all-powers, fits-at, misfit-large}
-use Rattle.ln_verify.proofs.Made.{Makes, Put, two-large, two-no, two-yes}
-use Rattle.ln_verify.proofs.Ranges.{not-true}
+use Rattle.ln_verify.proofs.Polynomials.Fitting.{all-powers, fits-at, misfit-large}
+use Rattle.ln_verify.proofs.Values.Made.{Makes, Put, two-large, two-no, two-yes}
+use Rattle.ln_verify.proofs.Values.Ranges.{not-true}
 use Rattle.ln_verify.proofs.makers.product.Goals as goal
 
 pub returns-then-not-is_allowed : goal.returns-then-not-is_allowed

@@ -5,9 +5,9 @@ use Rattle.ln_bound.specs.declared.fitted.Two.TheVariants.{Plus}
 use Rattle.ln_interval.specs.Range.{sum}
 use Rattle.ln_interval.specs.View.{range}
 use Rattle.ln_interval.proofs.Magnitudes.{sum_ordered}
-use Rattle.ln_poly.proofs.Normals.{add-normal}
-use Rattle.ln_verify.proofs.Made.{two-no, two-yes}
-use Rattle.ln_verify.proofs.Ranges.{not-true}
+use Rattle.ln_poly.proofs.Expansions.Normals.{add-normal}
+use Rattle.ln_verify.proofs.Values.Made.{two-no, two-yes}
+use Rattle.ln_verify.proofs.Values.Ranges.{not-true}
 use Rattle.ln_verify.proofs.makers.sum.Goals as goal
 
 pub returns-then-not-is_allowed : goal.returns-then-not-is_allowed

@@ -1,7 +1,7 @@
 -- What is left to show of `two`.
 use Rattle.std.proofs.Common.{◌∙◌, sym}
 use Rattle.ln_interval.specs.View.{range}
-use Rattle.ln_verify.proofs.Made.{two-left, two-right}
+use Rattle.ln_verify.proofs.Values.Made.{two-left, two-right}
 use Rattle.ln_verify.proofs.makers.two.Goals as goal
 
 pub returns-then-not-no_wider : goal.returns-then-not-no_wider

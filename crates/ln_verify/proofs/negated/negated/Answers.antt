@@ -1,7 +1,7 @@
 -- What is left to show of `negated`.
 use Rattle.std.proofs.Common.{◌≡◌, ◌∙◌, sym, subst, refl}
 use Rattle.ln_poly.specs.Sparse.{IsPoly, negated}
-use Rattle.ln_verify.proofs.Negations.{poly-negated}
+use Rattle.ln_verify.proofs.Polynomials.Negations.{poly-negated}
 use Rattle.ln_verify.proofs.negated.negated.Goals as goal
 
 pub seal-requires : goal.seal-requires

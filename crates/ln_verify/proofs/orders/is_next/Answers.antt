@@ -7,11 +7,11 @@ use Rattle.ln_tree.specs.Exps.{IsAbove, Pairs}
 use Rattle.ln_order.specs.declared.order.Order.{Order}
 use Rattle.ln_order.specs.Orders.{orders_of}
 use Rattle.ln_order.specs.Places.{order_places}
-use Rattle.ln_order.proofs.OrdersLemmas.{member-is}
+use Rattle.ln_order.proofs.Listing.OrdersLemmas.{member-is}
 use Rattle.ln_verify.specs.Here.{subject_of}
 use Rattle.ln_verify.specs.Orders.{SameStages}
-use Rattle.ln_verify.proofs.OrderLines.{numbers-are, order-at, order-none, tested}
-use Rattle.ln_verify.proofs.Ranges.{not-true}
+use Rattle.ln_verify.proofs.Judging.OrderLines.{numbers-are, order-at, order-none, tested}
+use Rattle.ln_verify.proofs.Values.Ranges.{not-true}
 use Rattle.ln_verify.proofs.orders.is_next.Goals as goal
 
 below : (k m : ℕ) → true ≡ nat_lt k m → k < m

@@ -2,8 +2,8 @@
 use Rattle.std.proofs.Common.{◌≡◌, ◌↔◌, ◌<◌, [], true, get_or, length, arith, sym, ◌∙◌, subst, refl}
 use Rattle.ln_tree.specs.Exps.{IsAbove, Pairs}
 use Rattle.ln_verify.specs.Orders.{HasVector}
-use Rattle.ln_verify.proofs.OrderLines.{decides-end, decides-next, decides-stop, same-length}
-use Rattle.ln_verify.proofs.Ranges.{not-true}
+use Rattle.ln_verify.proofs.Judging.OrderLines.{decides-end, decides-next, decides-stop, same-length}
+use Rattle.ln_verify.proofs.Values.Ranges.{not-true}
 use Rattle.ln_verify.proofs.orders.same_stages.Goals as goal
 
 pub returns-then-list-numbers : goal.returns-then-list-numbers

@@ -1,7 +1,7 @@
 -- The loop of `same_stages`.
 use Rattle.std.proofs.Common.{◌≡◌, ℕ, All, length}
 use Rattle.ln_tree.specs.Exps.{IsAbove}
-use Rattle.ln_verify.proofs.OrderLines.{Decides}
+use Rattle.ln_verify.proofs.Judging.OrderLines.{Decides}
 use Rattle.ln_verify.proofs.orders.same_stages.Given as goal
 
 abbrev pub invariant-stages : goal.invariant-stages

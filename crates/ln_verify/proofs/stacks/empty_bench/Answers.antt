@@ -1,5 +1,5 @@
 -- What is left to show of `empty_bench`.
-use Rattle.ln_verify.proofs.Empty.{bench-empty}
+use Rattle.ln_verify.proofs.Engines.Empty.{bench-empty}
 use Rattle.ln_verify.proofs.stacks.empty_bench.Goals as goal
 
 pub returns : goal.returns

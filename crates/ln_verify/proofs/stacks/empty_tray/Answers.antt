@@ -1,5 +1,5 @@
 -- What is left to show of `empty_tray`.
-use Rattle.ln_verify.proofs.Empty.{tray-empty}
+use Rattle.ln_verify.proofs.Engines.Empty.{tray-empty}
 use Rattle.ln_verify.proofs.stacks.empty_tray.Goals as goal
 
 pub returns : goal.returns

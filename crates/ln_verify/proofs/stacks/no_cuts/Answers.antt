@@ -1,7 +1,7 @@
 -- What is left to show of `no_cuts`.
 use Rattle.std.proofs.Common.{◌≡◌, ap, arith, ◌∙◌, ◌++◌, ◌∷◌, []}
 use Rattle.std.specs.Prelude.{replicate, None}
-use Rattle.ln_verify.proofs.Empty.{replicate-more}
+use Rattle.ln_verify.proofs.Engines.Empty.{replicate-more}
 use Rattle.ln_verify.proofs.stacks.no_cuts.Goals as goal
 
 pub locals-init : goal.locals-init

@@ -6,7 +6,7 @@ use Rattle.ln_verify.specs.Cuts.{IsCut}
 use Rattle.ln_verify.specs.BlockRules.{triple_rules}
 use Rattle.ln_verify.specs.Line.{filter_tree_of}
 use Rattle.ln_verify.specs.declared.cut.Cut.{Cut}
-use Rattle.ln_verify.proofs.Steps.{get-step, local-there, pushed-came}
+use Rattle.ln_verify.proofs.Engines.Steps.{get-step, local-there, pushed-came}
 use Rattle.ln_verify.proofs.tray.get.Goals as goal
 
 pub returns : goal.returns

@@ -5,7 +5,7 @@ use Rattle.ln_verify.specs.Cuts.{IsCut}
 use Rattle.ln_verify.specs.BlockRules.{triple_rules}
 use Rattle.ln_verify.specs.Line.{filter_tree_of}
 use Rattle.ln_verify.specs.Versions.{version_of}
-use Rattle.ln_verify.proofs.Steps.{pushed-came}
+use Rattle.ln_verify.proofs.Engines.Steps.{pushed-came}
 use Rattle.ln_verify.proofs.tray.push_input.Goals as goal
 
 pub returns : goal.returns

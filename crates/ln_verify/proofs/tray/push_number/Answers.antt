@@ -7,8 +7,8 @@ use Rattle.ln_code.specs.declared.op.Op.TheVariants.{Push}
 use Rattle.ln_verify.specs.Cuts.{IsCut}
 use Rattle.ln_verify.specs.BlockRules.{triple_rules}
 use Rattle.ln_verify.specs.Line.{filter_tree_of}
-use Rattle.ln_verify.proofs.MadeCuts.{MakesCut}
-use Rattle.ln_verify.proofs.Steps.{pushed-came}
+use Rattle.ln_verify.proofs.Values.MadeCuts.{MakesCut}
+use Rattle.ln_verify.proofs.Engines.Steps.{pushed-came}
 use Rattle.ln_verify.proofs.tray.push_number.Goals as goal
 
 pub returns : goal.returns

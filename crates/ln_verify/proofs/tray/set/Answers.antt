@@ -4,7 +4,7 @@ use Rattle.std.specs.Prelude.{Some, slice_set}
 use Rattle.ln_verify.specs.Cuts.{IsCut}
 use Rattle.ln_verify.specs.BlockRules.{triple_rules}
 use Rattle.ln_verify.specs.Line.{filter_tree_of}
-use Rattle.ln_verify.proofs.Steps.{set-came}
+use Rattle.ln_verify.proofs.Engines.Steps.{set-came}
 use Rattle.ln_verify.proofs.tray.set.Goals as goal
 
 pub returns : goal.returns

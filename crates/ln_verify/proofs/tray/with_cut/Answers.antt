@@ -4,7 +4,7 @@ use Rattle.ln_code.specs.declared.op.Op.TheVariants.{Cut}
 use Rattle.ln_verify.specs.Cuts.{IsCut}
 use Rattle.ln_verify.specs.BlockRules.{triple_rules}
 use Rattle.ln_verify.specs.Line.{filter_tree_of}
-use Rattle.ln_verify.proofs.Steps.{cut-step, popped, pushed-came}
+use Rattle.ln_verify.proofs.Engines.Steps.{cut-step, popped, pushed-came}
 use Rattle.ln_verify.proofs.tray.with_cut.Goals as goal
 
 pub returns : goal.returns

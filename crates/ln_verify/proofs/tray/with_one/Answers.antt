@@ -4,7 +4,7 @@ use Rattle.ln_code.specs.declared.op.Op.TheVariants.{Neg}
 use Rattle.ln_verify.specs.Cuts.{IsCut}
 use Rattle.ln_verify.specs.BlockRules.{triple_rules}
 use Rattle.ln_verify.specs.Line.{filter_tree_of}
-use Rattle.ln_verify.proofs.Steps.{one-step, popped, pushed-came}
+use Rattle.ln_verify.proofs.Engines.Steps.{one-step, popped, pushed-came}
 use Rattle.ln_verify.proofs.tray.with_one.Goals as goal
 
 pub returns : goal.returns

@@ -4,7 +4,7 @@ use Rattle.ln_verify.specs.Cuts.{IsCut}
 use Rattle.ln_verify.specs.BlockRules.{triple_rules}
 use Rattle.ln_verify.specs.Line.{filter_tree_of}
 use Rattle.ln_verify.specs.Works.{op_of}
-use Rattle.ln_verify.proofs.Steps.{op-pushes, popped, pushed-came, two-step}
+use Rattle.ln_verify.proofs.Engines.Steps.{op-pushes, popped, pushed-came, two-step}
 use Rattle.ln_verify.proofs.tray.with_two.Goals as goal
 
 pub returns : goal.returns

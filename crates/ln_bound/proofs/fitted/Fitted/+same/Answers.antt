@@ -5,7 +5,7 @@ use Rattle.ln_interval.specs.View.{range}
 use Rattle.ln_bound.specs.declared.fitted.Fitted.{Fitted}
 use Rattle.ln_bound.specs.Typed.{pair, width}
 use Rattle.ln_bound.specs.View.{typed}
-use Rattle.ln_bound.proofs.Views.{pair_typed, width_typed}
+use Rattle.ln_bound.proofs.Trees.Views.{pair_typed, width_typed}
 use Rattle.ln_bound.proofs.fitted.Fitted.+same.Goals as goal
 
 same_pair : (a b : Fitted) → typed a ≡ typed b → range a.pair ≡ range b.pair

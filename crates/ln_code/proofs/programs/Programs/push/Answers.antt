@@ -1,4 +1,4 @@
-use Rattle.ln_code.proofs.Together.{pushed_programs}
+use Rattle.ln_code.proofs.Following.Together.{pushed_programs}
 use Rattle.ln_code.proofs.programs.Programs.push.Goals as goal
 
 pub invariant_of-self : goal.invariant_of-self

@@ -1,5 +1,5 @@
 use Rattle.std.proofs.Common.{◌≡◌, length, arith}
-use Rattle.ln_code.proofs.Depths.{made_for}
+use Rattle.ln_code.proofs.Engines.Depths.{made_for}
 use Rattle.ln_code.proofs.scratch.Scratch.new.Goals as goal
 
 pub returns : goal.returns

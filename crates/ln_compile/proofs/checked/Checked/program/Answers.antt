@@ -1,5 +1,5 @@
 use Rattle.std.proofs.Common.{ap, arith, length}
-use Rattle.ln_compile.proofs.BuildingLemmas.{program-at, sound-at}
+use Rattle.ln_compile.proofs.Making.BuildingLemmas.{program-at, sound-at}
 use Rattle.ln_compile.proofs.checked.Checked.program.Goals as goal
 
 pub bounds-as_slice-i : goal.bounds-as_slice-i

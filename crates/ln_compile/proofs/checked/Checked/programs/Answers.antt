@@ -1,5 +1,5 @@
 use Rattle.ln_tree.specs.Table.{table_of}
-use Rattle.ln_compile.proofs.BuildingLemmas.{names-differ}
+use Rattle.ln_compile.proofs.Making.BuildingLemmas.{names-differ}
 use Rattle.ln_compile.proofs.checked.Checked.programs.Goals as goal
 
 pub programs-requires-clause-sound : goal.programs-requires-clause-sound

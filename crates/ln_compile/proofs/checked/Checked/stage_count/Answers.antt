@@ -1,7 +1,7 @@
 use Rattle.std.proofs.Common.{ap, arith, length, map}
 use Rattle.std.proofs.lemmas.List.{length-map}
 use Rattle.ln_tree.specs.Table.{pred_of}
-use Rattle.ln_compile.proofs.BuildingLemmas.{as-many-counts, count-at}
+use Rattle.ln_compile.proofs.Making.BuildingLemmas.{as-many-counts, count-at}
 use Rattle.ln_compile.proofs.checked.Checked.stage_count.Goals as goal
 
 pub bounds-as_slice-i : goal.bounds-as_slice-i

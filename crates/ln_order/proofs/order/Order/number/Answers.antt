@@ -1,7 +1,7 @@
 use Rattle.std.proofs.Common.{◌<◌, ◌+◌, ◌*◌, length, drop, get_or, arith}
 use Rattle.std.proofs.lemmas.List.{take_rest}
 use Rattle.ln_order.specs.Orders.{smaller_behind}
-use Rattle.ln_order.proofs.OrdersLemmas.{step_small, number_done}
+use Rattle.ln_order.proofs.Listing.OrdersLemmas.{step_small, number_done}
 use Rattle.ln_order.proofs.order.Order.number.Goals as goal
 
 pub overflow_mul-number : goal.overflow_mul-number

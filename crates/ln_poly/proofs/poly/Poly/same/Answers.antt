@@ -1,5 +1,5 @@
 use Rattle.std.proofs.Common.{◌≡◌, sym, ◌∙◌, ap}
-use Rattle.ln_poly.proofs.Equality.{same_term, same_terms-is, same_terms-refl}
+use Rattle.ln_poly.proofs.Sorting.Equality.{same_term, same_terms-is, same_terms-refl}
 use lib.Pointwise.{pointwise}
 use Rattle.ln_poly.proofs.poly.Poly.same.Goals as goal
 

@@ -1,8 +1,8 @@
 use Rattle.std.proofs.Common.{◌+◌, ◌-◌, ◌^◌, ◌<◌, length, rules, sym, ◌∙◌, true≢false}
 use Rattle.csv.specs.Records.{fields_of}
 use Rattle.ln_rows.specs.Columns.{column_names}
-use Rattle.ln_rows.proofs.ScanLemmas.{Ended}
-use Rattle.ln_rows.proofs.RowsLemmas.{from_some, names_cut, header_right, header_wrong, header_none, no_records}
+use Rattle.ln_rows.proofs.Records.ScanLemmas.{Ended}
+use Rattle.ln_rows.proofs.Records.RowsLemmas.{from_some, names_cut, header_right, header_wrong, header_none, no_records}
 use Rattle.ln_rows.proofs.rows.Rows.header.Goals as goal
 
 pub returns-in-Ok-Some-clause-right : goal.returns-in-Ok-Some-clause-right

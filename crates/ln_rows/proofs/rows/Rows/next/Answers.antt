@@ -1,8 +1,8 @@
 use Rattle.std.proofs.Common.{◌+◌, length, rules, sym, ◌∙◌}
 use Rattle.csv.specs.Records.{fields_of}
-use Rattle.ln_rows.proofs.FirstLemmas.{none_records}
-use Rattle.ln_rows.proofs.ScanLemmas.{Ended}
-use Rattle.ln_rows.proofs.RowsLemmas.{from_some, next_takes, no_records}
+use Rattle.ln_rows.proofs.Records.FirstLemmas.{none_records}
+use Rattle.ln_rows.proofs.Records.ScanLemmas.{Ended}
+use Rattle.ln_rows.proofs.Records.RowsLemmas.{from_some, next_takes, no_records}
 use Rattle.ln_rows.proofs.rows.Rows.next.Goals as goal
 
 pub returns-in-Ok-Some-clause-takes : goal.returns-in-Ok-Some-clause-takes

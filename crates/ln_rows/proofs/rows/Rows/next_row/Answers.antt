@@ -1,7 +1,7 @@
 use Rattle.std.proofs.Common.{arith, sym, ◌∙◌}
-use Rattle.ln_rows.proofs.FirstLemmas.{gives_records}
-use Rattle.ln_rows.proofs.RangeLemmas.{shape_columns, sizes}
-use Rattle.ln_rows.proofs.RowsLemmas.{gives_past}
+use Rattle.ln_rows.proofs.Records.FirstLemmas.{gives_records}
+use Rattle.ln_rows.proofs.Fields.RangeLemmas.{shape_columns, sizes}
+use Rattle.ln_rows.proofs.Records.RowsLemmas.{gives_past}
 use Rattle.ln_rows.proofs.rows.Rows.next_row.Goals as goal
 
 pub plain_row-requires-clause-few_vars : goal.plain_row-requires-clause-few_vars

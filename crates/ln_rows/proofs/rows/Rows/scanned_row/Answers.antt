@@ -1,10 +1,10 @@
 use Rattle.std.proofs.Common.{◌+◌, ◌<◌, length, arith, rules, sym, ◌∙◌}
 use Rattle.csv.specs.Records.{fields_of}
 use Rattle.ln_rows.specs.Record.{columns}
-use Rattle.ln_rows.proofs.FirstLemmas.{none_records, gives_records}
-use Rattle.ln_rows.proofs.RangeLemmas.{shape_columns, sizes}
-use Rattle.ln_rows.proofs.ScanLemmas.{Ended}
-use Rattle.ln_rows.proofs.RowsLemmas.{from_some, read_cut, no_records}
+use Rattle.ln_rows.proofs.Records.FirstLemmas.{none_records, gives_records}
+use Rattle.ln_rows.proofs.Fields.RangeLemmas.{shape_columns, sizes}
+use Rattle.ln_rows.proofs.Records.ScanLemmas.{Ended}
+use Rattle.ln_rows.proofs.Records.RowsLemmas.{from_some, read_cut, no_records}
 use Rattle.ln_rows.proofs.rows.Rows.scanned_row.Goals as goal
 
 pub overflow_add-most : goal.overflow_add-most

@@ -2,7 +2,7 @@ use Rattle.std.proofs.Common.{◌≡◌, length, take}
 use Rattle.std.specs.Prelude.{Some, slice_get}
 use Rattle.ln_order.specs.Places.{order_places}
 use Rattle.ln_order.specs.Prefixes.{prefixes_of}
-use Rattle.ln_stage.proofs.ListedLemmas.{read-is}
+use Rattle.ln_stage.proofs.Results.ListedLemmas.{read-is}
 use Rattle.ln_stage.proofs.table.Stages.segment.Goals as goal
 
 pub returns : goal.returns

@@ -1,7 +1,7 @@
 use Rattle.std.proofs.Common.{◌≡◌, arith, sym, ap, ◌∙◌, map}
 use Rattle.indexmap.specs.IndexMap.{insert_entry}
 use Rattle.ln_tree.specs.Exps.{same_pairs}
-use Rattle.ln_stage.proofs.TallyLemmas.{keys-insert, numbered-known, numbered-new, over-new}
+use Rattle.ln_stage.proofs.Results.TallyLemmas.{keys-insert, numbered-known, numbered-new, over-new}
 use Rattle.ln_stage.proofs.tally.Tally.number.Goals as goal
 
 pub returns-in-Some-clause-blocks : goal.returns-in-Some-clause-blocks

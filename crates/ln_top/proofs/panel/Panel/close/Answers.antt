@@ -1,5 +1,5 @@
 use Rattle.std.proofs.Common.{rules}
-use Rattle.ln_top.proofs.BoxLemmas.{closes, cut_at}
+use Rattle.ln_top.proofs.Gathering.BoxLemmas.{closes, cut_at}
 use Rattle.ln_top.proofs.panel.Panel.close.Goals as goal
 
 pub returns-in_err-put_line-clause-cut : goal.returns-in_err-put_line-clause-cut

@@ -1,4 +1,4 @@
-use Rattle.ln_top.proofs.BoxLemmas.{Closing}
+use Rattle.ln_top.proofs.Gathering.BoxLemmas.{Closing}
 use Rattle.ln_top.proofs.panel.Panel.close.Given as goal
 
 abbrev pub invariant-boxes : goal.invariant-boxes

@@ -1,5 +1,5 @@
 use Rattle.std.proofs.Common.{rules}
-use Rattle.ln_top.proofs.BoxLemmas.{stays, leaves, stopped}
+use Rattle.ln_top.proofs.Gathering.BoxLemmas.{stays, leaves, stopped}
 use Rattle.ln_top.proofs.panel.Panel.show.Goals as goal
 
 pub boxes-preserved-in-Stay : goal.boxes-preserved-in-Stay

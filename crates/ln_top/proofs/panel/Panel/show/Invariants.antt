@@ -1,5 +1,5 @@
 use Rattle.std.proofs.Common.{vec_len, ◌-◌}
-use Rattle.ln_top.proofs.BoxLemmas.{Showing}
+use Rattle.ln_top.proofs.Gathering.BoxLemmas.{Showing}
 use Rattle.ln_top.proofs.panel.Panel.show.Given as goal
 
 abbrev pub invariant-boxes : goal.invariant-boxes

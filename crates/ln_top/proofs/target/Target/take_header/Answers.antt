@@ -1,4 +1,4 @@
-use Rattle.ln_top.proofs.RunLaws.{header_is}
+use Rattle.ln_top.proofs.Commands.RunLaws.{header_is}
 use Rattle.ln_top.proofs.target.Target.take_header.Goals as goal
 
 pub returns : goal.returns

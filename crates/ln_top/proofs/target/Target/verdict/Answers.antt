@@ -1,4 +1,4 @@
-use Rattle.ln_top.proofs.TargetLaws.{answer_due, row_for}
+use Rattle.ln_top.proofs.Commands.TargetLaws.{answer_due, row_for}
 use Rattle.ln_top.proofs.target.Target.verdict.Goals as goal
 
 pub run_row-requires-clause-row : goal.run_row-requires-clause-row

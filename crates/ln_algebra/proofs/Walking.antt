@@ -1,0 +1,5 @@
+-- Stage lists: the walk that lists them, and that the cut loses nothing.
+pub mod Cut
+pub mod Walk
+pub mod Stages
+pub mod Along

@@ -1,0 +1,7 @@
+-- Ranges, sizes and loads of nodes, one after the other.
+pub mod Fitting
+pub mod LetSteps
+pub mod LoadLaws
+pub mod Measuring
+pub mod RoomLaws
+pub mod Weighing

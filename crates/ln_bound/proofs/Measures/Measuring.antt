@@ -1,0 +1,152 @@
+-- The nodes of a predicate with their ranges, sizes and loads, one after the other.
+use Rattle.std.proofs.Common.{◌≡◌, ℕ, true, zero, suc, ◌≤◌, ◌<◌, max, List, [], ◌∷◌, ◌++◌, length, map, refl, ap, arith, ◌∙◌, append_assoc}
+use Rattle.std.specs.Prelude.{Some, not, int_lt, nat_le, ◌&&◌, ◌==◌, ◌≤ℤ◌}
+use Rattle.std.specs.List.{count_by, list_all}
+use Rattle.std.proofs.lemmas.Bool.{and_parts}
+use Rattle.std.proofs.lemmas.Int.{ints}
+use Rattle.std.proofs.lemmas.List.{map-append}
+use Rattle.ln_base.specs.declared.span.Span.{Span}
+use Rattle.ln_algebra.specs.Tree.{Tree}
+use Rattle.ln_tree.specs.declared.shape.VarInfo.{VarInfo}
+use Rattle.ln_tree.specs.Formula.{Formula, FNum, FInput, FName, FNeg, FAdd, FSub, FMul, FPow, tree}
+use Rattle.ln_tree.specs.Variables.{has_range, in_order, is_laid_out, is_param, no_var, starts_site}
+use Rattle.ln_interval.specs.Range.{IsOrdered, Range, magnitude}
+use Rattle.ln_interval.specs.View.{range}
+use Rattle.ln_bound.specs.declared.fitted.Two.{Two}
+use Rattle.ln_bound.specs.declared.fitted.Two.TheVariants.{Plus, Minus, Times}
+use Rattle.ln_bound.specs.declared.measure.Measure.{Measure}
+use Rattle.ln_bound.specs.declared.weigh.BoundStop.{BoundStop}
+use Rattle.ln_bound.specs.Light.{most, AreLight}
+use Rattle.ln_bound.specs.Loads.{loaded, loaded_lets, loaded_pred, measured, measured_lets, node_measures, nodes_by, ranges_of_lets, sizes_of_lets}
+use Rattle.ln_bound.specs.Measures.{IsMeasure, range_in, seen, size_in}
+use Rattle.ln_bound.specs.Typed.{range_of, bound_of, two_of}
+use Rattle.ln_bound.specs.Ranges.{range_over, ranges, size_over, load_over}
+use Rattle.ln_bound.specs.Stop.{StopsWeighing, IsHeavyOrNoMemory}
+use Rattle.ln_bound.proofs.Measures.Weighing.{Nodes, light_behind, light_both, stop_before, stop_behind, stop_here}
+
+abbrev pub Seen : Type 0
+Seen = Range × ℕ
+
+-- a range with a size
+abbrev pub made : Range → ℕ → Seen
+made p n = (p, n)
+
+four : (b x y : List Seen) (w : Seen) → ((b ++ x) ++ y) ++ w ∷ [] ≡ b ++ ((x ++ y) ++ w ∷ [])
+four b x y w = rw (append_assoc b x y) (append_assoc b (x ++ y) (w ∷ []))
+
+-- ---- the nodes of an operation on two
+module _ (vars : List VarInfo) (ps : List Range) (ss : List ℕ) where
+  -- the load of an operation, from the ranges and sizes of its operands
+  two_load : (k : Two) (e f : Tree) (p q : Range) (a b : ℕ) → p ≡ range_over (ranges vars) ps e → q ≡ range_over (ranges vars) ps f → a ≡ size_over ss e → b ≡ size_over ss f → max (magnitude (range_of k p q)) (bound_of k a b) ≡ load_over (ranges vars) ps ss (two_of k e f)
+  two_load Plus e f p q a b ep eq ea eb = rw (ep, eq, ea, eb) refl
+  two_load Minus e f p q a b ep eq ea eb = rw (ep, eq, ea, eb) refl
+  two_load Times e f p q a b ep eq ea eb = rw (ep, eq, ea, eb) refl
+
+  -- the load of an operation on measures
+  pub two_loaded : (k : Two) (e f : Tree) (m n : Measure) → IsMeasure m (range_over (ranges vars) ps e) (size_over ss e) → IsMeasure n (range_over (ranges vars) ps f) (size_over ss f) → max (magnitude (range_of k (range m.pair) (range n.pair))) (bound_of k m.size n.size) ≡ load_over (ranges vars) ps ss (two_of k e f)
+  two_loaded k e f m n a b = two_load k e f (range m.pair) (range n.pair) m.size n.size a.same_range b.same_range a.same_size b.same_size
+
+  -- the nodes of both operands are light, and the operation isn't
+  pub two_stops : (e x y : Formula) (at : Span) (w v : ℕ) (s : BoundStop) → loaded vars ps ss e ≡ loaded vars ps ss x ++ loaded vars ps ss y ++ (at, w) ∷ [] → v ≡ w → AreLight (loaded vars ps ss x) → AreLight (loaded vars ps ss y) → IsHeavyOrNoMemory at (Some v) s → StopsWeighing (loaded vars ps ss e) s
+  two_stops e x y at w v s q z l m h = rw q (stop_here (loaded vars ps ss x ++ loaded vars ps ss y) at w (Some v) s (light_both (loaded vars ps ss x) (loaded vars ps ss y) l m) (λ g. let f : most < v = g in omega (arith, f, z)) h)
+
+  -- the nodes of both operands are light, and the operation is
+  pub two_light : (e x y : Formula) (at : Span) (w v : ℕ) → loaded vars ps ss e ≡ loaded vars ps ss x ++ loaded vars ps ss y ++ (at, w) ∷ [] → v ≡ w → AreLight (loaded vars ps ss x) → AreLight (loaded vars ps ss y) → v ≤ most → AreLight (loaded vars ps ss e)
+  two_light e x y at w v q z l m h = rw q (light_behind (loaded vars ps ss x ++ loaded vars ps ss y) at w (light_both (loaded vars ps ss x) (loaded vars ps ss y) l m) (omega (arith, z, h)))
+
+  -- the range and the size of an operation, from those of its operands
+  two_measure : (k : Two) (e f : Tree) (p q : Range) (a b : ℕ) → p ≡ range_over (ranges vars) ps e → q ≡ range_over (ranges vars) ps f → a ≡ size_over ss e → b ≡ size_over ss f → made (range_of k p q) (bound_of k a b) ≡ made (range_over (ranges vars) ps (two_of k e f)) (size_over ss (two_of k e f))
+  two_measure Plus e f p q a b ep eq ea eb = rw (ep, eq, ea, eb) refl
+  two_measure Minus e f p q a b ep eq ea eb = rw (ep, eq, ea, eb) refl
+  two_measure Times e f p q a b ep eq ea eb = rw (ep, eq, ea, eb) refl
+
+  -- the same of measures
+  pub two_measured : (k : Two) (e f : Tree) (m n : Measure) → IsMeasure m (range_over (ranges vars) ps e) (size_over ss e) → IsMeasure n (range_over (ranges vars) ps f) (size_over ss f) → made (range_of k (range m.pair) (range n.pair)) (bound_of k m.size n.size) ≡ made (range_over (ranges vars) ps (two_of k e f)) (size_over ss (two_of k e f))
+  two_measured k e f m n a b = two_measure k e f (range m.pair) (range n.pair) m.size n.size a.same_range b.same_range a.same_size b.same_size
+
+  -- what was put behind the others
+  pub two_nodes : (e x y : Formula) (at : Span) (w v : Seen) (before first second after : List Seen) → measured vars ps ss e ≡ measured vars ps ss x ++ measured vars ps ss y ++ (at, w) ∷ [] → v ≡ w
+      → first ≡ before ++ node_measures (measured vars ps ss x) → second ≡ first ++ node_measures (measured vars ps ss y) → after ≡ second ++ v ∷ [] → after ≡ before ++ node_measures (measured vars ps ss e)
+  two_nodes e x y at w v before first second after q z f g h =
+      rw (q, map-append, map-append) (h ∙ rw (g, f, z) (four before (node_measures (measured vars ps ss x)) (node_measures (measured vars ps ss y)) w))
+
+-- ---- lets
+-- some lets are measured; the rest stand behind
+pub record LetsMeasured (vars : List VarInfo) (whole rest : List Formula) (done all : List Measure) : Type 0 where
+  pub front : Nodes
+  pub stands : loaded_lets vars [] [] whole ≡ front ++ loaded_lets vars (map range_in done) (map size_in done) rest
+  pub light : AreLight front
+  pub before : List (Span × Seen)
+  pub follows : measured_lets vars [] [] whole ≡ before ++ measured_lets vars (map range_in done) (map size_in done) rest
+  pub nodes : map seen all ≡ node_measures before
+  pub same_ranges : ranges_of_lets vars (map range_in done) rest ≡ ranges_of_lets vars [] whole
+  pub same_sizes : sizes_of_lets vars (map size_in done) rest ≡ sizes_of_lets vars [] whole
+
+pub lets_begin : (vars : List VarInfo) (whole : List Formula) (all : List Measure) → all ≡ [] → LetsMeasured vars whole whole [] all
+lets_begin vars whole all e = record { front = []; stands = refl; light = tt; before = []; follows = refl; nodes = ap (map seen) e; same_ranges = refl; same_sizes = refl }
+
+pub lets_more : (vars : List VarInfo) (whole rest : List Formula) (f : Formula) (done all more after : List Measure) → LetsMeasured vars whole (f ∷ rest) done all → AreLight (loaded vars (map range_in done) (map size_in done) f)
+    → map seen more ≡ map seen all ++ node_measures (measured vars (map range_in done) (map size_in done) f)
+    → map range_in after ≡ map range_in done ++ range_over (ranges vars) (map range_in done) (tree vars f) ∷ []
+    → map size_in after ≡ map size_in done ++ size_over (map size_in done) (tree vars f) ∷ []
+    → LetsMeasured vars whole rest after more
+lets_more vars whole rest f done all more after h l m a b = record {
+  front = h.front ++ loaded vars (map range_in done) (map size_in done) f;
+  stands = h.stands ∙ rw (a, b, append_assoc) refl;
+  light = light_both h.front (loaded vars (map range_in done) (map size_in done) f) h.light l;
+  before = h.before ++ measured vars (map range_in done) (map size_in done) f;
+  follows = h.follows ∙ rw (a, b, append_assoc) refl;
+  nodes = m ∙ rw (h.nodes, map-append) refl;
+  same_ranges = rw a h.same_ranges;
+  same_sizes = rw b h.same_sizes;
+}
+
+pub lets_stop : (vars : List VarInfo) (whole rest : List Formula) (f : Formula) (done all : List Measure) (s : BoundStop) → LetsMeasured vars whole (f ∷ rest) done all → StopsWeighing (loaded vars (map range_in done) (map size_in done) f) s → StopsWeighing (loaded_lets vars [] [] whole) s
+lets_stop vars whole rest f done all s h e = rw h.stands (stop_behind h.front (loaded vars (map range_in done) (map size_in done) f ++ _) s h.light (stop_before (loaded vars (map range_in done) (map size_in done) f) _ s e))
+
+-- ---- the predicate
+-- the first node that is too heavy may stand in the root
+pub pred_stops : (vars v : List VarInfo) (lets ls : List Formula) (root : Formula) (ps : List Range) (ss : List ℕ) (s : BoundStop) → v ≡ vars → ls ≡ lets → ps ≡ ranges_of_lets v [] ls → ss ≡ sizes_of_lets v [] ls → AreLight (loaded_lets v [] [] ls)
+    → StopsWeighing (loaded v ps ss root) s → StopsWeighing (loaded_pred vars lets root) s
+pred_stops vars v lets ls root ps ss s ev el ep es a h =
+    let g : StopsWeighing (loaded v (ranges_of_lets v [] ls) (sizes_of_lets v [] ls) root) s = rw (ep, es) at h in
+    rw (← ev, ← el) (stop_behind (loaded_lets v [] [] ls) (loaded v (ranges_of_lets v [] ls) (sizes_of_lets v [] ls) root) s a g)
+
+ends : (xs : List (Span × Seen)) (at : Span) (w : Seen) → 0 < length (node_measures (xs ++ (at, w) ∷ []))
+ends [] at w = omega arith
+ends (x ∷ xs) at w = omega arith
+
+-- a formula has a node
+pub some_measured : (by : Formula → Seen) (f : Formula) → 0 < length (node_measures (nodes_by by f))
+some_measured by (FNum at c) = omega arith
+some_measured by (FInput at a c) = omega arith
+some_measured by (FName at j) = omega arith
+some_measured by (FNeg at e) = ends (nodes_by by e) at (by (FNeg at e))
+some_measured by (FAdd at e f) = ends (nodes_by by e ++ nodes_by by f) at (by (FAdd at e f))
+some_measured by (FSub at e f) = ends (nodes_by by e ++ nodes_by by f) at (by (FSub at e f))
+some_measured by (FMul at e f) = ends (nodes_by by e ++ nodes_by by f) at (by (FMul at e f))
+some_measured by (FPow at e n) = ends (nodes_by by e) at (by (FPow at e n))
+
+-- there are measures where there are some behind others
+pub some_behind : (xs ys : List Seen) → 0 < length ys → 0 < length (xs ++ ys)
+some_behind [] ys h = h
+some_behind (x ∷ xs) ys h = omega arith
+
+-- ---- variables
+ordered_here : (i : VarInfo) → has_range i ≡ true → i.lo ≤ℤ i.hi
+ordered_here i h = let e = (and_parts (not (int_lt i.hi i.lo)) _ h).0 in grind (arith, ints, e)
+
+each_ordered : (vars : List VarInfo) → list_all has_range vars ≡ true → (v : ℕ) → IsOrdered (ranges vars v)
+each_ordered [] h v = omega (arith, ints)
+each_ordered (i ∷ vars) h zero = ordered_here i (and_parts (has_range i) _ h).0
+each_ordered (i ∷ vars) h (suc v) = each_ordered vars (and_parts (has_range i) _ h).1 v
+
+-- the ranges of a shape's variables are in order
+pub ordered : (sites : ℕ) (vars v : List VarInfo) → is_laid_out sites vars ≡ true → v ≡ vars → (k : ℕ) → IsOrdered (ranges v k)
+ordered sites vars v h e =
+    let a = and_parts (in_order 0 0 no_var vars && list_all has_range vars && (count_by starts_site vars == sites) && nat_le sites 5 && nat_le (count_by is_param vars) 8) _ h in
+    let b = and_parts (in_order 0 0 no_var vars && list_all has_range vars && (count_by starts_site vars == sites) && nat_le sites 5) _ a.0 in
+    let c = and_parts (in_order 0 0 no_var vars && list_all has_range vars && (count_by starts_site vars == sites)) _ b.0 in
+    let d = and_parts (in_order 0 0 no_var vars && list_all has_range vars) _ c.0 in
+    let f = and_parts (in_order 0 0 no_var vars) _ d.0 in
+    rw e (each_ordered vars f.1)

@@ -1,0 +1,7 @@
+-- Sound and exact trees: their values are in their ranges.
+pub mod ExactLaws
+pub mod KeptLaws
+pub mod RangeLaws
+pub mod SoundLaws
+pub mod SoundTests
+pub mod WidthLaws

@@ -1,0 +1,8 @@
+-- What the functions of blocks and filters mean.
+pub mod Numbers
+pub mod Blocks
+pub mod Follows
+pub mod Filters
+pub mod Means
+pub mod Sample
+pub mod LocalCells

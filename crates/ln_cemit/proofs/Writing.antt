@@ -1,0 +1,4 @@
+-- How the text is put, piece by piece.
+pub mod Constants
+pub mod Parts
+pub mod Loops

@@ -1,0 +1,414 @@
+-- Loops that put operations, functions and statements.
+use Rattle.std.proofs.Common.{◌≡◌, ◌≢◌, ℕ, zero, suc, ◌+◌, ◌-◌, ◌<◌, ◌≤◌, ◌||◌, Bool, true, false, cond, List, [], ◌∷◌, ◌++◌, append_assoc, length, map, drop, get_or, take, refl, sym, ap, ◌∙◌, subst, arith, ℤ}
+use Rattle.std.specs.Prelude.{Option, Some, None, Contains, codes, reverse, nat_le, nat_lt}
+use Rattle.std.specs.List.{range_with_len}
+use Rattle.std.proofs.Math.ListN.{replicate}
+use Rattle.std.proofs.Math.Path.{fun_ext}
+use Rattle.std.proofs.lemmas.List.{drop_all, length-map, length-reverse, get_or-map, get_or-reverse, reverse-append}
+use Rattle.std.proofs.lemmas.Option.{slice_get-get_or}
+use Rattle.std.proofs.lemmas.Bool.{and_parts, eqb-true}
+use Rattle.ln_algebra.specs.Vector.{same_vector}
+use Rattle.ln_bound.specs.declared.fitted.Width.{Width}
+use Rattle.ln_code.specs.declared.op.Op.{Op}
+use Rattle.ln_code.specs.declared.op.Op.TheVariants.{Get, Push}
+use Rattle.ln_code.specs.Engine.{Line, next}
+use Rattle.ln_code.specs.Numbers.{cut_by, no_locals}
+use Rattle.ln_code.specs.Kept.{IsProgram}
+use Rattle.ln_code.specs.Lists.{segment_of}
+use Rattle.ln_code.specs.Part.{Code, FilterCode, Part, lines_of}
+use Rattle.ln_csyn.specs.declared.tree.COp.{COp}
+use Rattle.ln_csyn.specs.declared.tree.CType.{CType}
+use Rattle.ln_csyn.specs.Tree as c
+use Rattle.ln_csyn.specs.Tree.{Body, Fun}
+use Rattle.ln_csyn.specs.Grammar.{Token}
+use Rattle.ln_csyn.specs.Spelling.{Goes, Puts, lexeme, spell, spell_body, spell_file, spell_fun, written}
+use Rattle.ln_csyn.proofs.Writing.PutLemmas.{drop_more}
+use Rattle.ln_order.specs.declared.order.Order.{Order}
+use Rattle.ln_order.specs.Orders.{orders_of}
+use Rattle.ln_order.specs.Places.{order_places}
+use Rattle.ln_order.specs.Prefixes.{IsPrefixOf, beside, prefixes_of}
+use Rattle.ln_order.proofs.Listing.OrdersLemmas.{is-member}
+use Rattle.ln_order.proofs.Listing.PrefixLemmas.{prefix-is}
+use Rattle.ln_cemit.specs.declared.slot.Slot.{Slot}
+use Rattle.ln_cemit.specs.declared.slot.Way.{Way}
+use Rattle.ln_cemit.specs.Emit.{Rest, body_of, constant, emitted, touching_index, lowest, pushing, put_cut, put_get, slot, type_of, put_neg, put_op, put_set, put_sign, put_two, cut_away, naming, ops_of, unread, reads, reads_row, touching}
+use Rattle.ln_cemit.specs.Emitted.{AreKept}
+use Rattle.ln_cemit.specs.File.{one_fun, one_funs, two_fun}
+use Rattle.ln_cemit.specs.Names.{answer_name, block_name, call_name, decl_name, filter_name}
+use Rattle.ln_cemit.specs.Puts.{Does, MayMove, Moves, PutsFuns, any_reads, decl_before, filter_funs, filter_tried, close_braces, locals_of, open_guards, picks_on, rest_or, spell_funs}
+use Rattle.ln_cemit.specs.Walked.{attempt, body_for, guarded, less, picks, says_nothing, tries, walked, without}
+use Rattle.ln_cemit.proofs.Meanings.Numbers.{lt_from, lt_not}
+use Rattle.ln_cemit.specs.Ways.{ways}
+use Rattle.ln_cemit.specs.Whole.{block_body, bodies_of, call_body, file_of, filter_body, first_of, funs_before, moved, numbered, part_name}
+
+-- ---- the stack is too short
+short-one : (xs : List Slot) → length xs < 1 → xs ≡ []
+short-one [] h = refl
+short-one (x ∷ xs) h = absurd (omega (arith, h))
+
+pub neg_ends : (w : Width) (n : ℕ) (st : List Slot) (ls : ℕ → Option Slot) (go : Rest) → length st < 1 → put_neg decl_name w n (reverse st) ls go ≡ c.End
+neg_ends w n st ls go h = let e = short-one st h in rw e refl
+
+pub cut_ends : (m n : ℕ) (st : List Slot) (ls : ℕ → Option Slot) (go : Rest) → length st < 1 → put_cut decl_name m n (reverse st) ls go ≡ c.End
+cut_ends m n st ls go h = let e = short-one st h in rw e refl
+
+pub set_ends : (j n : ℕ) (st : List Slot) (ls : ℕ → Option Slot) (go : Rest) → length st < 1 → put_set decl_name j n (reverse st) ls go ≡ c.End
+set_ends j n st ls go h = let e = short-one st h in rw e refl
+
+pub two_ends : (o : COp) (w : Width) (n : ℕ) (st : List Slot) (ls : ℕ → Option Slot) (go : Rest) → length st < 2 → put_two decl_name o w n (reverse st) ls go ≡ c.End
+two_ends o w n [] ls go h = refl
+two_ends o w n (x ∷ []) ls go h = refl
+two_ends o w n (x ∷ y ∷ st) ls go h = absurd (omega (arith, h))
+
+-- nothing was put, and nothing follows
+pub nothing_moved : (out : List ℕ) (st : List Slot) (body : (ℕ → Option Slot) → Rest → Body) → ((ls : ℕ → Option Slot) (go : Rest) → body ls go ≡ c.End) → MayMove false out out st body
+nothing_moved out st body h = record { goes = λ ls go. record { is = λ r. ap (λ (b : Body). out ++ written (spell_body b r)) (sym (h ls go)) } }
+
+pub nothing_done : (out : List ℕ) (st : List Slot) (os : List (Option Slot)) (body : Rest → Body) → ((go : Rest) → body go ≡ c.End) → Does false out out st os body
+nothing_done out st os body h = record { goes = λ go. record { is = λ r. ap (λ (b : Body). out ++ written (spell_body b r)) (sym (h go)) } }
+
+-- ---- one operation
+-- a constant is pushed
+pub pushed : {a b : List ℕ} (n : ℕ) (wd : Width) (y z : ℤ) (st su : List Slot) → y ≡ z → su ≡ st ++ slot n wd ∷ [] → Puts a b (decl_before n wd (c.Inner (type_of wd) (constant y))) → Moves a b su (λ ls go. pushing decl_name n wd (c.Inner (type_of wd) (constant z)) (reverse st) ls go)
+pushed {a} {b} n wd y z st su e f p =
+    let r : reverse su ≡ slot n wd ∷ reverse st = ap reverse f ∙ reverse-append st (slot n wd ∷ []) in
+    let q : Puts a b (decl_before n wd (c.Inner (type_of wd) (constant z))) = subst (λ x. Puts a b (decl_before n wd (c.Inner (type_of wd) (constant x)))) e p in
+    record {
+      goes = λ ls go. subst (λ sv. Goes a b (spell_body (go sv ls)) (spell_body (pushing decl_name n wd (c.Inner (type_of wd) (constant z)) (reverse st) ls go))) (sym r) (record { is = λ t. q.is (spell_body (go (slot n wd ∷ reverse st) ls) t) });
+    }
+
+pub does_push : {a b : List ℕ} (o : Op) (x y : ℤ) (way : Way) (n : ℕ) (st su : List Slot) (os : List (Option Slot)) → o ≡ Push x → y ≡ cut_by way.shift x → Moves a b su (λ ls go. pushing decl_name n way.width (c.Inner (type_of way.width) (constant y)) (reverse st) ls go) → Does true a b su os (λ go. put_op decl_name o way n (reverse st) (locals_of os) go)
+does_push o x y way n st su os e f m = rw (e, ← f) (record { goes = λ go. m.goes (locals_of os) go })
+
+pub does_get : {a b : List ℕ} (more : Bool) (o : Op) (j : ℕ) (way : Way) (n : ℕ) (s : Option Slot) (st su : List Slot) (os : List (Option Slot)) → o ≡ Get j → s ≡ locals_of os j → MayMove more a b su (λ ls go. put_get decl_name way n s (reverse st) ls go) → Does more a b su os (λ go. put_op decl_name o way n (reverse st) (locals_of os) go)
+does_get {a} {b} more o j way n s st su os e f m = rw (e, ← f) (record { goes = λ go. m.goes (locals_of os) go })
+
+pub local_is : (d : Option Slot) (os : List (Option Slot)) (k j : ℕ) → k ≡ j → k < length os → get_or os k d ≡ locals_of os j
+local_is d os k j e l = rw (← e) (sym (ap (λ x. next x (λ y. y)) (slice_get-get_or os k d l)))
+
+-- ---- one operation after the other
+line_suc : (d : Op) (b : Way) (ops : List Op) (ws : List Way) (i : ℕ) (o : Op) (w : Way) → length ops ≡ length ws → i < length ops → o ≡ get_or ops i d → w ≡ get_or ws i b → drop i (lines_of ops ws) ≡ record { op = o; bound = w } ∷ drop (suc i) (lines_of ops ws)
+line_suc d b [] ws i o w e h p q = absurd (omega arith)
+line_suc d b (x ∷ xs) [] i o w e h p q = absurd (omega (arith, e))
+line_suc d b (x ∷ xs) (y ∷ ys) zero o w e h p q = let f : o ≡ x = p in let g : w ≡ y = q in rw (f, g) refl
+line_suc d b (x ∷ xs) (y ∷ ys) (suc i) o w e h p q = line_suc d b xs ys i o w (omega (arith, e)) (omega (arith, h)) p q
+
+pub line_step : (d : Op) (b : Way) (ops : List Op) (ws : List Way) (i : ℕ) (o : Op) (w : Way) → length ops ≡ length ws → i < length ops → o ≡ get_or ops i d → w ≡ get_or ws i b → drop i (lines_of ops ws) ≡ record { op = o; bound = w } ∷ drop (i + 1) (lines_of ops ws)
+line_step d b ops ws i o w e h p q =
+    let n : suc i ≡ i + 1 = omega arith in
+    line_suc d b ops ws i o w e h p q ∙ ap (λ z. record { op = o; bound = w } ∷ drop z (lines_of ops ws)) n
+
+pub lines_end : (ops : List Op) (ws : List Way) (i : ℕ) → length ops ≤ i → drop i (lines_of ops ws) ≡ []
+lines_end [] ws zero h = refl
+lines_end [] ws (suc i) h = refl
+lines_end (x ∷ xs) ws zero h = absurd (omega arith)
+lines_end (x ∷ xs) [] (suc i) h = refl
+lines_end (x ∷ xs) (y ∷ ys) (suc i) h = lines_end xs ys i (omega (arith, h))
+
+pub loop_step : {start old new : List ℕ} {all : List Token → List Token} (more : Bool) (e : ℕ) (xs ys : List (Line Way)) (i : ℕ) (o : Op) (w : Way) (st su : List Slot) (os os' : List (Option Slot)) (u : Option ℕ) → xs ≡ record { op = o; bound = w } ∷ ys → unread o (ops_of ys) i (reverse st) ≡ u
+    → Goes start old (spell_body (emitted decl_name e xs i (reverse st) (locals_of os))) all
+    → Does more old new su os' (λ go. put_op decl_name o w i (reverse st) (locals_of os) go)
+    → Goes start new (spell_body (rest_or more (naming decl_name u (emitted decl_name e ys (i + 1) (reverse su) (locals_of os'))))) all
+loop_step {start} {old} {new} {all} more e xs ys i o w st su os os' u q v g d =
+    let n : suc i ≡ i + 1 = omega arith in
+    let go : Rest = λ sv ms. naming decl_name (unread o (ops_of ys) i (reverse st)) (emitted decl_name e ys (suc i) sv ms) in
+    let h : Goes start old (spell_body (put_op decl_name o w i (reverse st) (locals_of os) go)) all = subst (λ z. Goes start old (spell_body (emitted decl_name e z i (reverse st) (locals_of os))) all) q g in
+    let k = d.goes go in
+    let m : Goes start new (spell_body (rest_or more (naming decl_name (unread o (ops_of ys) i (reverse st)) (emitted decl_name e ys (suc i) (reverse su) (locals_of os'))))) all = record { is = λ r. k.is r ∙ h.is r } in
+    let m' = subst (λ z. Goes start new (spell_body (rest_or more (naming decl_name z (emitted decl_name e ys (suc i) (reverse su) (locals_of os'))))) all) v m in
+    subst (λ z. Goes start new (spell_body (rest_or more (naming decl_name u (emitted decl_name e ys z (reverse su) (locals_of os'))))) all) n m'
+
+-- the statement that names a declaration, if there is one
+pub loop_named : {start mid new : List ℕ} {all : List Token → List Token} (u : Option ℕ) (b : Body) → Goes start mid (spell_body (naming decl_name u b)) all → ((b : Body) → Goes mid new (spell_body b) (spell_body (naming decl_name u b))) → Goes start new (spell_body b) all
+loop_named u b g h = record { is = λ r. (h b).is r ∙ g.is r }
+
+pub named_none : {a : List ℕ} (u : Option ℕ) → u ≡ None → (b : Body) → Goes a a (spell_body b) (spell_body (naming decl_name u b))
+named_none u e b = rw e (record { is = λ r. refl })
+
+pub named_put : {a n : List ℕ} (u : Option ℕ) (i : ℕ) → u ≡ Some i → Puts a n (spell_body (naming decl_name (Some i) c.End)) → (b : Body) → Goes a n (spell_body b) (spell_body (naming decl_name u b))
+named_put u i e p b = rw e (record { is = λ r. p.is (spell_body b r) })
+
+-- the operations behind one
+ops_behind : (ops : List Op) (ws : List Way) (i : ℕ) → length ops ≡ length ws → ops_of (drop i (lines_of ops ws)) ≡ drop i ops
+ops_behind [] ws zero e = refl
+ops_behind [] ws (suc i) e = refl
+ops_behind (o ∷ os) [] i e = absurd (omega (arith, e))
+ops_behind (o ∷ os) (w ∷ ws) zero e = ap (λ z. o ∷ z) (ops_behind os ws 0 (omega (arith, e)))
+ops_behind (o ∷ os) (w ∷ ws) (suc i) e = ops_behind os ws i (omega (arith, e))
+
+pub unread_is : (o : Op) (ops left : List Op) (ws : List Way) (i : ℕ) (st : List Slot) (u : Option ℕ) → length ops ≡ length ws → left ≡ drop (i + 1) ops → u ≡ unread o left i (reverse st) → unread o (ops_of (drop (i + 1) (lines_of ops ws))) i (reverse st) ≡ u
+unread_is o ops left ws i st u e f g = ap (λ z. unread o z i (reverse st)) (ops_behind ops ws (i + 1) e ∙ sym f) ∙ sym g
+
+-- the top of the stack is last in the code
+pub top_is : (d : Slot) (st : List Slot) (m : ℕ) (u : Option ℕ) → 1 ≤ length st → u ≡ cut_away m (get_or st (length st - 1) d ∷ []) → u ≡ cut_away m (reverse st)
+top_is d st m u h e = by_case (reverse st) refl where
+  by_case : (rs : List Slot) → reverse st ≡ rs → u ≡ cut_away m (reverse st)
+  by_case [] f = let l : length (reverse st) ≡ length st = length-reverse st in let z : length (reverse st) ≡ 0 = ap length f in absurd (omega (arith, h, l, z))
+  by_case (y ∷ ys) f =
+      let a : get_or (reverse st) 0 d ≡ get_or st (length st - 1 - 0) d = get_or-reverse st 0 d (omega (arith, h)) in
+      let b : get_or (reverse st) 0 d ≡ y = ap (λ z. get_or z 0 d) f in
+      let n : length st - 1 - 0 ≡ length st - 1 = omega arith in
+      let s : get_or st (length st - 1) d ≡ y = ap (λ z. get_or st z d) (sym n) ∙ sym a ∙ b in
+      e ∙ ap (λ z. cut_away m (z ∷ [])) s ∙ sym (ap (λ z. cut_away m z) f)
+
+pub loop_end : {start old new : List ℕ} {all : List Token → List Token} (e : ℕ) (xs : List (Line Way)) (i : ℕ) (st : List Slot) (os : List (Option Slot)) → xs ≡ [] → Goes start old (spell_body (emitted decl_name e xs i (reverse st) (locals_of os))) all → Puts old new (spell_body (put_sign decl_name e (reverse st))) → Puts start new all
+loop_end {start} {old} {new} {all} e xs i st os q g p =
+    let h : Goes start old (spell_body (put_sign decl_name e (reverse st))) all = subst (λ z. Goes start old (spell_body (emitted decl_name e z i (reverse st) (locals_of os))) all) q g in
+    record { is = λ r. p.is r ∙ h.is r }
+
+-- what goes on with nothing is put
+pub loop_stop : {start new : List ℕ} {all : List Token → List Token} (more : Bool) (b : Body) → more ≡ false → Goes start new (spell_body (rest_or more b)) all → Puts start new all
+loop_stop true b e p = absurd cc
+loop_stop false b e p = record { is = p.is }
+
+pub loop_goes : {start new : List ℕ} {all : List Token → List Token} (more : Bool) (b : Body) → more ≡ true → Goes start new (spell_body (rest_or more b)) all → Goes start new (spell_body b) all
+loop_goes true b e p = p
+loop_goes false b e p = absurd cc
+
+-- no local is set
+pub none_unset : (n : ℕ) → locals_of (replicate n None) ≡ no_locals
+none_unset n = fun_ext (λ i. one n i) where
+  one : (n i : ℕ) → locals_of (replicate n None) i ≡ None
+  one zero i = refl
+  one (suc n) zero = refl
+  one (suc n) (suc i) = one n i
+
+-- ---- bodies
+pub reads_lines : (ops : List Op) (ws : List Way) → length ops ≡ length ws → reads_row (lines_of ops ws) ≡ any_reads ops
+reads_lines [] ws e = refl
+reads_lines (o ∷ os) [] e = absurd (omega (arith, e))
+reads_lines (o ∷ os) (w ∷ ws) e = ap (λ v. reads o || v) (reads_lines os ws (omega (arith, e)))
+
+pub lowest_more : (t : CType) (e : ℕ) → e ≢ 0 → c.Minus (c.Number t e) ≡ lowest t e
+lowest_more t zero h = absurd (h refl)
+lowest_more t (suc e) h = refl
+
+pub ways_map : {B : Type 0} (g : B → Way) (ops : List Op) (bs : List B) → ways g (lines_of ops bs) ≡ lines_of ops (map g bs)
+ways_map g [] bs = refl
+ways_map g (o ∷ os) [] = refl
+ways_map g (o ∷ os) (b ∷ bs) = ap (λ z. record { op = o; bound = g b } ∷ z) (ways_map g os bs)
+
+touch_none : {a : List ℕ} (v : Bool) (b : Body) → v ≡ true → Goes a a (spell_body b) (spell_body (touching v b))
+touch_none v b e = rw e (record { is = λ r. refl })
+
+pub touched_none : {a : List ℕ} (v : Bool) → v ≡ true → (b : Body) → Goes a a (spell_body b) (spell_body (touching v b))
+touched_none v e b = touch_none v b e
+
+pub touched_put : {a n : List ℕ} (v : Bool) → v ≡ false → Puts a n (spell_body (touching false c.End)) → (b : Body) → Goes a n (spell_body b) (spell_body (touching v b))
+touched_put v e p b = rw e (record { is = λ r. p.is (spell_body b r) })
+
+pub index_none : {a : List ℕ} (v : Bool) → v ≡ true → (b : Body) → Goes a a (spell_body b) (spell_body (touching_index v b))
+index_none v e b = rw e (record { is = λ r. refl })
+
+pub index_put : {a n : List ℕ} (v : Bool) → v ≡ false → Puts a n (spell_body (touching_index false c.End)) → (b : Body) → Goes a n (spell_body b) (spell_body (touching_index v b))
+index_put v e p b = rw e (record { is = λ r. p.is (spell_body b r) })
+
+pub body_put : {a m n : List ℕ} (v : Bool) (e : ℕ) (ops : List Op) (ws : List Way) → v ≡ any_reads ops → length ops ≡ length ws → ((b : Body) → Goes a m (spell_body b) (spell_body (touching v b))) → Puts m n (spell_body (emitted decl_name e (lines_of ops ws) 0 [] no_locals)) → Puts a n (spell_body (body_of decl_name e (lines_of ops ws)))
+body_put {a} {m} {n} v e ops ws q l g p =
+    let b : Body = emitted decl_name e (lines_of ops ws) 0 [] no_locals in
+    let f : v ≡ reads_row (lines_of ops ws) = q ∙ sym (reads_lines ops ws l) in
+    subst (λ u. Puts a n (spell_body (touching u b))) f (record { is = λ r. p.is r ∙ (g b).is r })
+
+pub fun_put : {B : Type 0} {a n : List ℕ} (g : B → Way) (x : List ℕ) (d e : ℕ) (ops os : List Op) (bs : List B) (ws vs : List Way) → ops ≡ os → vs ≡ ws → ws ≡ map g bs → d ≡ e → Puts a n (spell_fun (one_fun x (body_of decl_name d (lines_of ops vs)))) → Puts a n (spell_fun (one_fun x (body_of decl_name e (ways g (lines_of os bs)))))
+fun_put g x d e ops os bs ws vs p q r h u = rw (← p, ways_map g ops bs, ← r, ← q, ← h) u
+
+-- ---- the function with two parameters
+pub tries_next : {start cur new : List ℕ} {all : List Token → List Token} (name : List ℕ) (numbers : List ℕ) (k n d : ℕ) (b : Body) → k < length numbers → n ≡ get_or numbers k d
+    → Goes start cur (spell_body (tries (block_name name) answer_name (drop k numbers) b)) all → ((e : Body) → Goes cur new (spell_body e) (spell_body (c.Group 2 (attempt answer_name (block_name name n)) e))) → Goes start new (spell_body (tries (block_name name) answer_name (drop (k + 1) numbers) b)) all
+tries_next {start} {cur} {new} {all} name numbers k n d b l e g h =
+    let q : drop k numbers ≡ n ∷ drop (k + 1) numbers = drop_more numbers k d l ∙ ap (λ z. z ∷ drop (k + 1) numbers) (sym e) in
+    let f : Goes start cur (spell_body (tries (block_name name) answer_name (n ∷ drop (k + 1) numbers) b)) all = subst (λ z. Goes start cur (spell_body (tries (block_name name) answer_name z b)) all) q g in
+    let i = h (tries (block_name name) answer_name (drop (k + 1) numbers) b) in
+    record { is = λ r. i.is r ∙ f.is r }
+
+pub tries_done : {start cur : List ℕ} {all : List Token → List Token} (name : List ℕ) (numbers : List ℕ) (k : ℕ) (b : Body) → length numbers ≤ k → Goes start cur (spell_body (tries (block_name name) answer_name (drop k numbers) b)) all → Goes start cur (spell_body b) all
+tries_done {start} {cur} {all} name numbers k b l g = subst (λ z. Goes start cur (spell_body (tries (block_name name) answer_name z b)) all) (drop_all k numbers l) g
+
+brace_past : (n : ℕ) (r : List Token) → close_braces n (lexeme (codes "}") ∷ r) ≡ lexeme (codes "}") ∷ close_braces n r
+brace_past zero r = refl
+brace_past (suc n) r = ap (λ z. lexeme (codes "}") ∷ z) (brace_past n r)
+
+guarded_spelled : (i : ℕ) (js : List ℕ) (inner : Body) (r : List Token) → spell_body (guarded i js inner) r ≡ open_guards i js (spell_body inner (close_braces (length js) r))
+guarded_spelled i [] inner r = refl
+guarded_spelled i (j ∷ js) inner r =
+    ap (λ z. lexeme (codes "if") ∷ lexeme (codes "(") ∷ spell (less i j) (lexeme (codes ")") ∷ lexeme (codes "{") ∷ z))
+    (guarded_spelled i js inner (lexeme (codes "}") ∷ r) ∙ ap (λ z. open_guards i js (spell_body inner z)) (brace_past (length js) r))
+
+pick_spelled : (go : ℕ → Body) (i : ℕ) (js : List ℕ) (r : List Token) → spell_body (picks_on go (i ∷ js)) r ≡ open_guards i js (spell_body (go i) (close_braces (length js) (spell_body (picks_on go js) r)))
+pick_spelled go i [] r = refl
+pick_spelled go i (j ∷ js) r =
+    ap (λ z. lexeme (codes "if") ∷ lexeme (codes "(") ∷ spell (less i j) (lexeme (codes ")") ∷ lexeme (codes "{") ∷ z))
+    (guarded_spelled i js (go i) (lexeme (codes "}") ∷ spell_body (picks go (j ∷ js)) r) ∙ ap (λ z. open_guards i js (spell_body (go i) z)) (brace_past (length js) (spell_body (picks go (j ∷ js)) r)))
+
+pub picks_first : {a : List ℕ} (go : ℕ → Body) (left : List ℕ) → (left ≡ [] → ⊥) → Goes a a (spell_body (picks_on go left)) (spell_body (picks go left))
+picks_first go [] h = absurd (h refl)
+picks_first go (i ∷ js) h = record { is = λ r. refl }
+
+pub picks_next : {start cur new : List ℕ} {all : List Token → List Token} (go : ℕ → Body) (left others : List ℕ) (k place d : ℕ) → k < length left → place ≡ get_or left k d → others ≡ drop (k + 1) left
+    → Goes start cur (spell_body (picks_on go (drop k left))) all → Puts cur new (λ r. open_guards place others (spell_body (go place) (close_braces (length others) r))) → Goes start new (spell_body (picks_on go (drop (k + 1) left))) all
+picks_next {start} {cur} {new} {all} go left others k place d l e o g p =
+    let q : drop k left ≡ place ∷ others = drop_more left k d l ∙ ap (λ z. z ∷ drop (k + 1) left) (sym e) ∙ ap (λ z. place ∷ z) (sym o) in
+    let f : Goes start cur (spell_body (picks_on go (place ∷ others))) all = subst (λ z. Goes start cur (spell_body (picks_on go z)) all) q g in
+    subst (λ z. Goes start new (spell_body (picks_on go z)) all) o (record { is = λ r. p.is (spell_body (picks_on go others) r) ∙ sym (ap (λ z. cur ++ written z) (pick_spelled go place others r)) ∙ f.is r })
+
+pub picks_done : {start cur : List ℕ} {all : List Token → List Token} (go : ℕ → Body) (left : List ℕ) (k : ℕ) → length left ≤ k → Goes start cur (spell_body (picks_on go (drop k left))) all → Puts start cur all
+picks_done {start} {cur} {all} go left k l g =
+    let f : Goes start cur (spell_body (picks_on go [])) all = subst (λ z. Goes start cur (spell_body (picks_on go z)) all) (drop_all k left l) g in
+    record { is = f.is }
+
+pub walked_end : {a m n : List ℕ} (name x : List ℕ) (segment : List ℕ → List ℕ) (numbers : List ℕ) (d : ℕ) (p left : List ℕ) → name ≡ x → numbers ≡ segment p → d ≡ 0 → ((b : Body) → Goes a m (spell_body b) (spell_body (tries (block_name name) answer_name numbers b))) → Puts m n (spell_body says_nothing) → Puts a n (spell_body (walked (block_name x) answer_name segment d p left))
+walked_end name x segment numbers d p left e f z g u = rw (z, ← e, ← f) (record { is = λ r. u.is r ∙ (g says_nothing).is r })
+
+pub walked_on : {a m n : List ℕ} (name x : List ℕ) (segment : List ℕ → List ℕ) (numbers : List ℕ) (d e : ℕ) (p left : List ℕ) → name ≡ x → numbers ≡ segment p → d ≡ suc e → ((b : Body) → Goes a m (spell_body b) (spell_body (tries (block_name name) answer_name numbers b)))
+    → Puts m n (spell_body (picks (λ i. walked (block_name x) answer_name segment e (p ++ i ∷ []) (without i left)) left)) → Puts a n (spell_body (walked (block_name x) answer_name segment d p left))
+walked_on {a} {m} {n} name x segment numbers d e p left q f z g u =
+    let rest : Body = picks (λ i. walked (block_name x) answer_name segment e (p ++ i ∷ []) (without i left)) left in
+    let h : Puts a n (spell_body (tries (block_name name) answer_name numbers rest)) = record { is = λ r. u.is r ∙ (g rest).is r } in
+    let h2 : Puts a n (spell_body (tries (block_name x) answer_name numbers rest)) = subst (λ y. Puts a n (spell_body (tries (block_name y) answer_name numbers rest))) q h in
+    let h3 : Puts a n (spell_body (tries (block_name x) answer_name (segment p) rest)) = subst (λ y. Puts a n (spell_body (tries (block_name x) answer_name y rest))) f h2 in
+    subst (λ y. Puts a n (spell_body (walked (block_name x) answer_name segment y p left))) (sym z) h3
+
+-- the same with functions by number
+tries-moved : (x : List ℕ) (f : Option FilterCode) (ns : List ℕ) (a b : Body) → a ≡ b → tries (numbered x f) answer_name (moved f ns) a ≡ tries (block_name x) answer_name ns b
+tries-moved x None [] a b e = e
+tries-moved x (Some f) [] a b e = e
+tries-moved x None (n ∷ ns) a b e = ap (λ z. c.Group 2 (attempt answer_name (block_name x n)) z) (tries-moved x None ns a b e)
+tries-moved x (Some f) (n ∷ ns) a b e = ap (λ z. c.Group 2 (attempt answer_name (block_name x n)) z) (tries-moved x (Some f) ns a b e)
+
+guarded-same : (i : ℕ) (js : List ℕ) (a b : Body) → a ≡ b → guarded i js a ≡ guarded i js b
+guarded-same i js a b e = ap (guarded i js) e
+
+picks-same : (go to : ℕ → Body) (left : List ℕ) → ((i : ℕ) → go i ≡ to i) → picks go left ≡ picks to left
+picks-same go to [] h = refl
+picks-same go to (i ∷ []) h = h i
+picks-same go to (i ∷ j ∷ js) h = ap (λ z. c.If 2 (less i j) (guarded i js z) (picks go (j ∷ js))) (h i) ∙ ap (λ z. c.If 2 (less i j) (guarded i js (to i)) z) (picks-same go to (j ∷ js) h)
+
+walked-moved : (x : List ℕ) (f : Option FilterCode) (segment : List ℕ → List ℕ) (d : ℕ) (p left : List ℕ) → walked (numbered x f) answer_name (λ q. moved f (segment q)) d p left ≡ walked (block_name x) answer_name segment d p left
+walked-moved x f segment zero p left = tries-moved x f (segment p) says_nothing says_nothing refl
+walked-moved x f segment (suc d) p left =
+    tries-moved x f (segment p) _ _
+    (picks-same (λ i. walked (numbered x f) answer_name (λ q. moved f (segment q)) d (p ++ i ∷ []) (without i left)) (λ i. walked (block_name x) answer_name segment d (p ++ i ∷ []) (without i left)) left (λ i. walked-moved x f segment d (p ++ i ∷ []) (without i left)))
+
+first-tried : (x : List ℕ) (f : Option FilterCode) (a b : Body) → a ≡ b → tries (numbered x f) answer_name (first_of f) a ≡ filter_tried x f b
+first-tried x None a b e = e
+first-tried x (Some f) a b e = ap (λ z. c.Group 2 (attempt answer_name (filter_name x)) z) e
+
+pub call_put : {a l m n : List ℕ} (p : Part) (sites : ℕ) (v : Bool) → sites ≡ p.shape.sites → v ≡ nat_le 2 sites → ((b : Body) → Goes a l (spell_body b) (spell_body (touching_index v b))) → ((b : Body) → Goes l m (spell_body b) (spell_body (filter_tried (part_name p) p.filter b)))
+    → Puts m n (spell_body (walked (block_name (part_name p)) answer_name (segment_of p) sites [] (range_with_len 0 sites))) → Puts a n (spell_body (call_body p))
+call_put {a} {l} {m} {n} p sites v e q g h u =
+    let inner : Body = walked (block_name (part_name p)) answer_name (segment_of p) sites [] (range_with_len 0 sites) in
+    let x : List ℕ = part_name p in
+    let t : Puts a n (spell_body (touching_index v (filter_tried x p.filter inner))) = record { is = λ r. u.is r ∙ (h inner).is r ∙ (g (filter_tried x p.filter inner)).is r } in
+    let f : body_for (numbered x p.filter) answer_name (λ q. moved p.filter (segment_of p q)) (first_of p.filter) sites ≡ filter_tried x p.filter inner = first-tried x p.filter _ _ (walked-moved x p.filter (segment_of p) sites [] (range_with_len 0 sites)) in
+    let s : Puts a n (spell_body (touching_index (nat_le 2 sites) (body_for (numbered x p.filter) answer_name (λ q. moved p.filter (segment_of p q)) (first_of p.filter) sites))) = subst (λ z. Puts a n (spell_body (touching_index z (body_for (numbered x p.filter) answer_name (λ q. moved p.filter (segment_of p q)) (first_of p.filter) sites)))) q (subst (λ z. Puts a n (spell_body (touching_index v z))) (sym f) t) in
+    subst (λ z. Puts a n (spell_body (touching_index (nat_le 2 z) (body_for (numbered x p.filter) answer_name (λ q. moved p.filter (segment_of p q)) (first_of p.filter) z)))) e s
+
+-- ---- the file
+one-by-block : (x : List ℕ) (f : FilterCode) (i : ℕ) (bs : List Body) → one_funs (numbered x (Some f)) (suc i) bs ≡ one_funs (block_name x) i bs
+one-by-block x f i [] = refl
+one-by-block x f i (b ∷ bs) = ap (λ z. one_fun (block_name x i) b ∷ z) (one-by-block x f (suc i) bs)
+
+one-by-number : (x : List ℕ) (i : ℕ) (bs : List Body) → one_funs (numbered x None) i bs ≡ one_funs (block_name x) i bs
+one-by-number x i [] = refl
+one-by-number x i (b ∷ bs) = ap (λ z. one_fun (block_name x i) b ∷ z) (one-by-number x (suc i) bs)
+
+ones-are : (x : List ℕ) (f : Option FilterCode) (cs : List Code) → one_funs (numbered x f) 0 (bodies_of f cs) ≡ filter_funs x f ++ one_funs (block_name x) 0 (map block_body cs)
+ones-are x None cs = one-by-number x 0 (map block_body cs)
+ones-are x (Some f) cs = ap (λ z. one_fun (filter_name x) (filter_body f) ∷ z) (one-by-block x f 0 (map block_body cs))
+
+spelled-more : (fs gs : List Fun) → spell_file (fs ++ gs) ≡ spell_funs fs (spell_file gs)
+spelled-more [] gs = refl
+spelled-more (f ∷ fs) gs = ap (spell_fun f) (spelled-more fs gs)
+
+pub program_put : {a l m n : List ℕ} (p : Part) → Puts a l (spell_funs (filter_funs (part_name p) p.filter)) → Puts l m (spell_funs (one_funs (block_name (part_name p)) 0 (map block_body p.blocks))) → Puts m n (spell_fun (two_fun (call_name (part_name p)) (call_body p))) → PutsFuns a n p
+program_put {a} {l} {m} {n} p g h u =
+    let x : List ℕ = part_name p in
+    let fs : List Fun = filter_funs x p.filter in
+    let os : List Fun = one_funs (block_name x) 0 (map block_body p.blocks) in
+    let t : Fun = two_fun (call_name x) (call_body p) in
+    let e : (rest : List Fun) → funs_before p rest ≡ fs ++ (os ++ t ∷ rest) = λ rest. ap (λ z. z ++ t ∷ rest) (ones-are x p.filter p.blocks) ∙ append_assoc fs os (t ∷ rest) in
+    let s : (rest : List Fun) → spell_file (funs_before p rest) ≡ spell_funs fs (spell_funs os (spell_fun t (spell_file rest))) = λ rest. ap spell_file (e rest) ∙ spelled-more fs (os ++ t ∷ rest) ∙ ap (spell_funs fs) (spelled-more os (t ∷ rest)) in
+    record {
+      is = λ rest. u.is (spell_file rest) ∙ h.is (spell_fun t (spell_file rest)) ∙ g.is (spell_funs os (spell_fun t (spell_file rest))) ∙ sym (ap (λ z. a ++ written z) (s rest));
+    }
+
+pub blocks_next : {start cur new : List ℕ} {all : List Token → List Token} (name : List ℕ) (cs : List Code) (k : ℕ) (b d : Code) → k < length cs → b ≡ get_or cs k d
+    → Goes start cur (spell_funs (one_funs (block_name name) k (map block_body (drop k cs)))) all → Puts cur new (spell_fun (one_fun (block_name name k) (block_body b))) → Goes start new (spell_funs (one_funs (block_name name) (k + 1) (map block_body (drop (k + 1) cs)))) all
+blocks_next {start} {cur} {new} {all} name cs k b d l e g p =
+    let q : drop k cs ≡ b ∷ drop (k + 1) cs = drop_more cs k d l ∙ ap (λ z. z ∷ drop (k + 1) cs) (sym e) in
+    let f : Goes start cur (spell_funs (one_funs (block_name name) k (map block_body (b ∷ drop (k + 1) cs)))) all = subst (λ z. Goes start cur (spell_funs (one_funs (block_name name) k (map block_body z))) all) q g in
+    let n : suc k ≡ k + 1 = omega arith in
+    subst (λ z. Goes start new (spell_funs (one_funs (block_name name) z (map block_body (drop (k + 1) cs)))) all) n (record { is = λ r. p.is (spell_funs (one_funs (block_name name) (suc k) (map block_body (drop (k + 1) cs))) r) ∙ f.is r })
+
+pub blocks_done : {start cur : List ℕ} {all : List Token → List Token} (name : List ℕ) (cs : List Code) (k : ℕ) → length cs ≤ k → Goes start cur (spell_funs (one_funs (block_name name) k (map block_body (drop k cs)))) all → Puts start cur all
+blocks_done {start} {cur} {all} name cs k l g =
+    let f : Goes start cur (spell_funs (one_funs (block_name name) k [])) all = subst (λ z. Goes start cur (spell_funs (one_funs (block_name name) k (map block_body z))) all) (drop_all k cs l) g in
+    record { is = f.is }
+
+-- one program more, of those that are left
+pub programs_next : (start cur new : List ℕ) (ps : List Part) (k : ℕ) (p d : Part) → k < length ps → p ≡ get_or ps k d → cur ++ written (spell_file (file_of (drop k ps))) ≡ start ++ written (spell_file (file_of ps)) → PutsFuns cur new p → new ++ written (spell_file (file_of (drop (k + 1) ps))) ≡ start ++ written (spell_file (file_of ps))
+programs_next start cur new ps k p d l e g h =
+    let q : drop k ps ≡ p ∷ drop (k + 1) ps = drop_more ps k d l ∙ ap (λ z. z ∷ drop (k + 1) ps) (sym e) in
+    h.is (file_of (drop (k + 1) ps)) ∙ sym (ap (λ z. cur ++ written (spell_file (file_of z))) q) ∙ g
+
+pub kept_next : (ps : List Part) (k : ℕ) (p d : Part) → k < length ps → p ≡ get_or ps k d → (AreKept (drop k ps) → AreKept ps) → IsProgram p → AreKept (drop (k + 1) ps) → AreKept ps
+kept_next ps k p d l e g h r =
+    let q : drop k ps ≡ p ∷ drop (k + 1) ps = drop_more ps k d l ∙ ap (λ z. z ∷ drop (k + 1) ps) (sym e) in
+    g (subst AreKept (sym q) (h, r))
+
+-- ---- segments
+same-is : (a b : List ℕ) → same_vector a b ≡ true → a ≡ b
+same-is [] [] h = refl
+same-is [] (y ∷ b) h = cc
+same-is (x ∷ a) [] h = cc
+same-is (x ∷ a) (y ∷ b) h =
+    let p = and_parts _ (same_vector a b) h in
+    let q : x ≡ y = eqb-true x y p.0 in
+    let r : a ≡ b = same-is a b p.1 in cc
+
+beside-none : (qs ss : List (List ℕ)) (p : List ℕ) → (Contains qs p → ⊥) → beside qs ss p ≡ []
+beside-none [] ss p h = refl
+beside-none (q ∷ qs) [] p h = refl
+beside-none (q ∷ qs) (s ∷ ss) p h = go (same_vector q p) refl (beside-none qs ss p (λ k. h (suc k.0, omega (arith, k.1), k.2))) where
+  go : (b : Bool) → same_vector q p ≡ b → beside qs ss p ≡ [] → cond b s (beside qs ss p) ≡ []
+  go true e r = absurd (h (0, omega arith, same-is q p e))
+  go false e r = r
+
+take-length : (n : ℕ) (xs : List ℕ) → n ≤ length xs → length (take n xs) ≡ n
+take-length zero xs h = refl
+take-length (suc n) [] h = absurd (omega (arith, h))
+take-length (suc n) (x ∷ xs) h = ap suc (take-length n xs (omega (arith, h)))
+
+-- where no order begins with these, no segment stands there
+pub no_segment : (k : ℕ) (orders : List Order) (ss : List (List ℕ)) (front : List ℕ) → map order_places orders ≡ orders_of k → ((m : ℕ) (d : Order) → m < length orders → take (length front) (order_places (get_or orders m d)) ≢ front) → beside (prefixes_of k) ss front ≡ []
+no_segment k orders ss front e h = beside-none (prefixes_of k) ss front never where
+  at_place : (x : IsPrefixOf k front) → Contains (map order_places orders) x.order → ⊥
+  at_place x (m, l, q) =
+      let small : m < length orders = omega (arith, l, length-map orders order_places) in
+      let d : Order = get_or orders m (no_order orders small) in
+      let same : order_places d ≡ x.order = sym (get_or-map order_places orders m (no_order orders small) x.order small) ∙ q in
+      let size : length front ≡ x.places = ap length x.front ∙ take-length x.places x.order (omega (arith, x.within, x.full.size)) in
+      h m (no_order orders small) small (ap (λ z. take z (order_places d)) size ∙ ap (take x.places) same ∙ sym x.front)
+    where
+      no_order : {m : ℕ} (os : List Order) → m < length os → Order
+      no_order [] l = absurd (omega (arith, l))
+      no_order (o ∷ os) l = o
+
+  never : Contains (prefixes_of k) front → ⊥
+  never i = let x = prefix-is k front i in at_place x (subst (λ z. Contains z x.order) (sym e) (is-member k x.order x.full))
+
+at_same : {A : Type 0} (xs : List A) (i : ℕ) (d e : A) → i < length xs → get_or xs i d ≡ get_or xs i e
+at_same [] i d e h = absurd (omega arith)
+at_same (x ∷ xs) zero d e h = refl
+at_same (x ∷ xs) (suc i) d e h = at_same xs i d e (omega (arith, h))
+
+-- one order more that doesn't begin so
+pub next_order : (orders : List Order) (front : List ℕ) (k : ℕ) (o d : Order) → k < length orders → o ≡ get_or orders k d → ((m : ℕ) (e : Order) → m < k → take (length front) (order_places (get_or orders m e)) ≢ front) → take (length front) (order_places o) ≢ front
+    → (m : ℕ) (e : Order) → m < k + 1 → take (length front) (order_places (get_or orders m e)) ≢ front
+next_order orders front k o d l q h n m e s = by_case (nat_lt m k) refl where
+  by_case : (b : Bool) → nat_lt m k ≡ b → take (length front) (order_places (get_or orders m e)) ≢ front
+  by_case true t = h m e (lt_from m k t)
+  by_case false t =
+      let f : m ≡ k = omega (arith, s, lt_not m k t) in
+      let g : o ≡ get_or orders m e = q ∙ at_same orders k d e l ∙ ap (λ z. get_or orders z e) (sym f) in
+      subst (λ z. take (length front) (order_places z) ≢ front) g n

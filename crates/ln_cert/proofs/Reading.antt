@@ -1,0 +1,9 @@
+-- Lines and listings read, and where reading stops.
+pub mod Parting
+pub mod FirstWords
+pub mod OneLine
+pub mod OrderLines
+pub mod Walk
+pub mod Fault
+pub mod Whole
+pub mod OneFault

@@ -1,0 +1,199 @@
+-- What a program's facts say of its listing.
+use Rattle.std.proofs.Common.{◌≡◌, ℕ, suc, ◌+◌, ◌≤◌, ◌<◌, true, List, [], ◌∷◌, ◌++◌, length, get_or, drop, take, map, Option, Some, None, inr, refl, sym, ap, ◌∙◌, subst, arith, append_assoc, drop-cons}
+use Rattle.std.specs.Prelude.{All, decimal, slice_get}
+use Rattle.std.proofs.lemmas.List.{drop_all, map-append}
+use Rattle.std.proofs.lemmas.Option.{slice_get_within}
+use Rattle.ln_tree.specs.declared.shape.Shape.{Shape}
+use Rattle.ln_tree.specs.declared.shape.VarInfo.{VarInfo}
+use Rattle.ln_tree.specs.Exps.{IsRising, Pairs}
+use Rattle.ln_tree.specs.Names.{name_bytes}
+use Rattle.ln_order.specs.declared.order.Order.{Order as AnyOrder}
+use Rattle.ln_order.specs.Order.{ArePlaces}
+use Rattle.ln_order.specs.Orders.{IsOrderOf, orders_of}
+use Rattle.ln_order.specs.Places.{order_places}
+use Rattle.ln_order.proofs.Listing.OrdersLemmas.{member-is}
+use Rattle.ln_code.specs.Kept.{AreOfSites, FollowsRules, IsBlock, IsFilter, IsList, IsProgram, is_of_site}
+use Rattle.ln_code.specs.Lists.{list_from, list_of, segment_of}
+use Rattle.ln_code.specs.Part.{Code, FilterCode, lines_of}
+use Rattle.ln_code.specs.Part.{Part as Program}
+use Rattle.ln_code.proofs.Verdicts.Prefixed.{list_ends, list_goes}
+use Rattle.ln_cert.specs.declared.part.Part.{Part}
+use Rattle.ln_cert.specs.declared.part.Part.TheVariants.{Predicate, Block, Order, Done}
+use Rattle.ln_cert.specs.Text.{Each, IsExponent, IsNumber, IsPlace}
+use Rattle.ln_cert.specs.Listing.{ListText, first_line}
+use Rattle.ln_cert.specs.Writing.{Puts, PutsLine, spaced}
+use Rattle.ln_cert.specs.Written.{ForBlock, ForFilter, InBlock, InFilter, Wrote, WroteListing, block_lines, blocks_lines, filter_lines, listing_of, order_lines, program_lines}
+use Rattle.ln_cert.proofs.Writing.Forms.{both_forms, program_form, some_order}
+use Rattle.ln_cert.proofs.Writing.Rules.{obeys_block, obeys_filter}
+use Rattle.ln_cert.proofs.Reading.Walk.{is_form}
+use Rattle.ln_cert.proofs.Writing.Wrote.{Left, after, at_end, go_on, nothing, one}
+use Rattle.std.proofs.Common.{zero, Contains}
+
+pub all_each : {A : Type 0} (P : A → Type 0) (xs : List A) → All P xs → Each P xs
+all_each P [] a = tt
+all_each P (x ∷ xs) a = (a 0 x (omega arith), all_each P xs (λ k d h. a (suc k) d (omega arith)))
+
+each_get : {A : Type 0} (P : A → Type 0) (xs : List A) (i : ℕ) (x : A) → i < length xs → x ≡ get_or xs i x → Each P xs → P x
+each_get P [] i x h e p = absurd (omega arith)
+each_get P (y ∷ ys) zero x h e p = subst P (sym e) p.0
+each_get P (y ∷ ys) (suc i) x h e p = each_get P ys i x (omega arith) e p.1
+
+-- ---- blocks
+below : (vars : List VarInfo) (v : ℕ) (o : Option VarInfo) → slice_get vars v ≡ o → is_of_site o ≡ true → v < length vars
+below vars v None e h = absurd (cc)
+below vars v (Some i) e h = slice_get_within vars v i e
+
+of_vars : (vars : List VarInfo) (ps : Pairs) → length vars ≤ 168 → AreOfSites vars ps → Each (λ p. p.0 ≤ 167) ps
+of_vars vars [] few s = tt
+of_vars vars (p ∷ ps) few s = let h = below vars p.0 (slice_get vars p.0) refl s.0 in (omega arith, of_vars vars ps few s.1)
+
+exponents : (ps : Pairs) → IsRising ps → Each (λ p. p.0 ≤ 167) ps → Each IsExponent ps
+exponents [] r v = tt
+exponents (p ∷ ps) r v = ((v.0, r.0, omega (arith, r.1)), exponents ps r.3 v.1)
+
+pub head_wrote : (a b : List ℕ) (n : ℕ) (ps qs : Pairs) → n ≤ 65535 → IsRising qs → Each (λ p. p.0 ≤ 167) qs → ps ≡ qs → PutsLine a b (Block n ps) → Wrote a b (Block n qs ∷ [])
+head_wrote a b n ps qs h r v e p = one a b (Block n qs) (subst (λ z. PutsLine a b (Block n z)) e p) (h, exponents qs r v)
+
+pub block_vars : (c : Code) → ForBlock c → Each (λ p. p.0 ≤ 167) c.exps
+block_vars c f = of_vars f.vars c.exps f.few f.of_sites
+
+pub block_each : (c : Code) → ForBlock c → IsBlock c → Each InBlock (lines_of c.ops c.pairs)
+block_each c f k = obeys_block f.vars c f.few f.rules k.stores_have
+
+pub filter_each : (f : FilterCode) → ForFilter f → IsFilter f → Each InFilter (lines_of f.ops f.triples)
+filter_each f g k = obeys_filter g.vars f g.few g.rules k.stores_have
+
+pub three : (a b c d : List ℕ) (p q r : List Part) → Wrote a b p → Wrote b c q → Wrote c d r → Wrote a d (p ++ (q ++ r))
+three a b c d p q r x y z = after a b d p (q ++ r) x (after b c d q r y z)
+
+for_block : (p : Program) → length p.shape.vars ≤ 168 → (cs : List Code) → Each (FollowsRules p.shape.vars) cs → Each (λ c. AreOfSites p.shape.vars c.exps) cs → Each ForBlock cs
+for_block p few [] f s = tt
+for_block p few (c ∷ cs) f s = (record { vars = p.shape.vars; few = few; rules = f.0; of_sites = s.0 }, for_block p few cs f.1 s.1)
+
+pub for_blocks : (p : Program) → IsProgram p → length p.shape.vars ≤ 168 → Each ForBlock p.blocks
+for_blocks p k few = for_block p few p.blocks (all_each (FollowsRules p.shape.vars) p.blocks k.blocks) (all_each (λ c. AreOfSites p.shape.vars c.exps) p.blocks k.of_sites)
+
+pub block_at : (cs : List Code) (i : ℕ) (c : Code) → i < length cs → c ≡ get_or cs i c → Each ForBlock cs → ForBlock c
+block_at cs i c h e p = each_get ForBlock cs i c h e p
+
+more_block : (start now new : List ℕ) (cs : List Code) (i : ℕ) (c : Code) → i < length cs → c ≡ get_or cs i c → Left start now (blocks_lines i (drop i cs)) (blocks_lines 0 cs) → Wrote now new (block_lines i c) → Left start new (blocks_lines (suc i) (drop (suc i) cs)) (blocks_lines 0 cs)
+more_block start now new cs i c h e left w =
+    let d : drop i cs ≡ c ∷ drop (suc i) cs = drop-cons cs i c h ∙ ap (λ z. z ∷ drop (suc i) cs) (sym e) in
+    go_on start now new (block_lines i c) (blocks_lines (suc i) (drop (suc i) cs)) (blocks_lines 0 cs) (subst (λ z. Left start now (blocks_lines i z) (blocks_lines 0 cs)) d left) w
+
+pub more_blocks : (start now new : List ℕ) (cs : List Code) (i : ℕ) (c : Code) → i < length cs → c ≡ get_or cs i c → Left start now (blocks_lines i (drop i cs)) (blocks_lines 0 cs) → Wrote now new (block_lines i c) → Left start new (blocks_lines (i + 1) (drop (i + 1) cs)) (blocks_lines 0 cs)
+more_blocks start now new cs i c h e left w =
+    let n : suc i ≡ i + 1 = omega arith in
+    subst (λ m. Left start new (blocks_lines m (drop m cs)) (blocks_lines 0 cs)) n (more_block start now new cs i c h e left w)
+
+-- ---- orders
+abbrev pub Listing : Program → List ℕ → List ℕ → List ℕ → ℕ → Type 0
+Listing p o start now j = (r : List (List ℕ)) → now ++ spaced (map decimal (list_from p o j) ++ r) ≡ start ++ spaced (map decimal (list_from p o 0) ++ r)
+
+pub more_list : (p : Program) (o start now new segment : List ℕ) (j : ℕ) → j ≤ length o → segment ≡ segment_of p (take j o) → Listing p o start now j → Puts now new (λ r. map decimal segment ++ r) → Listing p o start new (j + 1)
+more_list p o start now new segment j h e l w r =
+    let g : list_from p o j ≡ segment ++ list_from p o (j + 1) = list_goes p o j h ∙ ap (λ z. z ++ list_from p o (j + 1)) (sym e) in
+    let m : map decimal (list_from p o j) ++ r ≡ map decimal segment ++ (map decimal (list_from p o (j + 1)) ++ r) =
+    ap (λ z. map decimal z ++ r) g ∙ ap (λ z. z ++ r) (map-append decimal segment (list_from p o (j + 1))) ∙ append_assoc (map decimal segment) (map decimal (list_from p o (j + 1))) r in
+    w.is (map decimal (list_from p o (j + 1)) ++ r) ∙ ap (λ z. now ++ spaced z) (sym m) ∙ l r
+
+pub list_end : (p : Program) (o start now : List ℕ) (j : ℕ) → length o < j → Listing p o start now j → Puts start now (λ r. map decimal (list_from p o 0) ++ r)
+list_end p o start now j h l = record { is = λ r. ap (λ z. now ++ spaced (map decimal z ++ r)) (sym (list_ends p o j h)) ∙ l r }
+
+place : (n : ℕ) (xs : List ℕ) → n ≤ 5 → Each (λ k. k < n) xs → Each IsPlace xs
+place n [] h p = tt
+place n (x ∷ xs) h p = let q = p.0 in (omega arith, place n xs h p.1)
+
+number : (n : ℕ) (xs : List ℕ) → n ≤ 65536 → Each (λ k. k < n) xs → Each IsNumber xs
+number n [] h p = tt
+number n (x ∷ xs) h p = let q = p.0 in (omega arith, number n xs h p.1)
+
+pub order_wrote : (a b : List ℕ) (blocks : ℕ) (places list : List ℕ) → PutsLine a b (Order places list) → length places ≤ 5 → ArePlaces places → blocks ≤ 65536 → IsList blocks list → Wrote a b (Order places list ∷ [])
+order_wrote a b blocks places list e few each small l =
+    one a b (Order places list) e (place (length places) places few (all_each (λ k. k < length places) places each.within), number blocks list small (all_each (λ n. n < blocks) list l.within), l.filled)
+
+member : (xs : List (List ℕ)) (i : ℕ) (x : List ℕ) → i < length xs → x ≡ get_or xs i x → Contains xs x
+member xs i x h e = (i, h, sym e)
+
+get_map : (xs : List AnyOrder) (i : ℕ) (x : AnyOrder) → i < length xs → x ≡ get_or xs i x → order_places x ≡ get_or (map order_places xs) i (order_places x)
+get_map [] i x h e = absurd (omega arith)
+get_map (y ∷ ys) zero x h e = ap order_places e
+get_map (y ∷ ys) (suc i) x h e = get_map ys i x (omega arith) e
+
+long : (xs : List AnyOrder) → length (map order_places xs) ≡ length xs
+long [] = refl
+long (x ∷ xs) = let h = long xs in omega arith
+
+pub order_at : (k : ℕ) (os : List AnyOrder) (i : ℕ) (o : AnyOrder) → i < length os → o ≡ get_or os i o → map order_places os ≡ orders_of k → IsOrderOf k (order_places o)
+order_at k os i o h e all =
+    let l = long os in
+    member-is k (order_places o) (subst (λ z. Contains z (order_places o)) all (member (map order_places os) i (order_places o) (omega arith) (get_map os i o h e)))
+
+pub more_orders : (p : Program) (start now new : List ℕ) (os : List AnyOrder) (i : ℕ) (o : AnyOrder) → i < length os → o ≡ get_or os i o →
+    Left start now (order_lines p (map order_places (drop i os))) (order_lines p (map order_places os)) → Wrote now new (Order (order_places o) (list_of p (order_places o)) ∷ []) → Left start new (order_lines p (map order_places (drop (i + 1) os))) (order_lines p (map order_places os))
+more_orders p start now new os i o h e left w =
+    let n : suc i ≡ i + 1 = omega arith in
+    let d : drop i os ≡ o ∷ drop (i + 1) os = drop-cons os i o h ∙ (λ j. sym e j ∷ drop (n j) os) in
+    go_on start now new (Order (order_places o) (list_of p (order_places o)) ∷ []) (order_lines p (map order_places (drop (i + 1) os))) (order_lines p (map order_places os))
+    (subst (λ z. Left start now (order_lines p (map order_places z)) (order_lines p (map order_places os))) d left) w
+
+pub no_orders : (p : Program) (start now : List ℕ) (os : List AnyOrder) (i : ℕ) → length os ≤ i → Left start now (order_lines p (map order_places (drop i os))) (order_lines p (map order_places os)) → Wrote start now (order_lines p (map order_places os))
+no_orders p start now os i h left = at_end start now (order_lines p (map order_places (drop i os))) (order_lines p (map order_places os)) left (ap (λ z. order_lines p (map order_places z)) (drop_all i os h))
+
+pub no_blocks : (start now : List ℕ) (cs : List Code) (i : ℕ) → length cs ≤ i → Left start now (blocks_lines i (drop i cs)) (blocks_lines 0 cs) → Wrote start now (blocks_lines 0 cs)
+no_blocks start now cs i h left = at_end start now (blocks_lines i (drop i cs)) (blocks_lines 0 cs) left (ap (λ z. blocks_lines i z) (drop_all i cs h))
+
+pub places_put : (a b : List ℕ) (xs ys : List ℕ) → Puts a b (λ r. map decimal xs ++ r) → xs ≡ ys → Puts a b (λ r. map decimal ys ++ r)
+places_put a b xs ys p e = subst (λ z. Puts a b (λ r. map decimal z ++ r)) e p
+
+-- ---- programs
+first_block : (n : ℕ) (xs : List ℕ) → 0 < length xs → Each (λ k. k < n) xs → 0 < n
+first_block n [] h p = absurd (omega arith)
+first_block n (x ∷ xs) h p = let q = p.0 in omega arith
+
+first_in : (xs : List (List ℕ)) → 0 < length xs → Contains xs (get_or xs 0 [])
+first_in [] h = absurd (omega arith)
+first_in (x ∷ xs) h = (0, h, refl)
+
+some_block : (p : Program) → IsProgram p → 0 < length p.blocks
+some_block p k =
+    let o : List ℕ = get_or (orders_of p.shape.sites) 0 [] in
+    let c : Contains (orders_of p.shape.sites) o = first_in (orders_of p.shape.sites) (some_order p.shape.sites) in
+    let l = k.lists o (member-is p.shape.sites o c) in
+    first_block (length p.blocks) (list_of p o) l.filled (all_each (λ n. n < length p.blocks) (list_of p o) l.within)
+
+pub program_wrote : (p : Program) (a b c d e f : List ℕ) (shape : Shape) (blocks : List Code) → IsProgram p → shape ≡ p.shape → blocks ≡ p.blocks → Wrote a b (Predicate (name_bytes shape.name) ∷ []) → Wrote b c (filter_lines p.filter) → Wrote c d (blocks_lines 0 blocks) → Wrote d e (order_lines p (orders_of p.shape.sites)) → Wrote e f (Done ∷ []) → WroteListing a f (program_lines p)
+program_wrote p a b c d e f shape blocks k s l p0 p1 p2 p3 p4 =
+    let x : List Part = filter_lines p.filter in
+    let y : List Part = blocks_lines 0 p.blocks in
+    let z : List Part = order_lines p (orders_of p.shape.sites) in
+    record {
+      wrote = after a b f (Predicate (name_bytes p.shape.name) ∷ []) (x ++ (y ++ (z ++ Done ∷ []))) (subst (λ w. Wrote a b (Predicate (name_bytes w.name) ∷ [])) s p0)
+          (after b c f x (y ++ (z ++ Done ∷ [])) p1 (three c d e f y z (Done ∷ []) (subst (λ w. Wrote c d (blocks_lines 0 w)) l p2) p3 p4));
+      form = program_form p (some_block p k);
+    }
+
+-- a loop over programs, by what is left
+abbrev pub Listed : List ℕ → List ℕ → List Part → List Part → Type 0
+Listed start now rest all = (d : List ℕ) → WroteListing now d rest → WroteListing start d all
+
+pub none_left : (a : List ℕ) → WroteListing a a []
+none_left a = record { wrote = nothing a; form = is_form 2 [] (inr refl) refl }
+
+pub more_programs : (start now new : List ℕ) (ps : List Program) (i : ℕ) (p : Program) → i < length ps → p ≡ get_or ps i p → Listed start now (listing_of (drop i ps)) (listing_of ps) → WroteListing now new (program_lines p) → Listed start new (listing_of (drop (i + 1) ps)) (listing_of ps)
+more_programs start now new ps i p h e l w d q =
+    let n : suc i ≡ i + 1 = omega arith in
+    let s : drop i ps ≡ p ∷ drop (i + 1) ps = drop-cons ps i p h ∙ (λ j. sym e j ∷ drop (n j) ps) in
+    let both : WroteListing now d (program_lines p ++ listing_of (drop (i + 1) ps)) = record {
+      wrote = after now new d (program_lines p) (listing_of (drop (i + 1) ps)) w.wrote q.wrote;
+      form = both_forms (program_lines p) (listing_of (drop (i + 1) ps)) w.form q.form;
+    } in
+    l d (subst (λ z. WroteListing now d (listing_of z)) (sym s) both)
+
+pub all_listed : (now : List ℕ) (ps : List Program) (i : ℕ) → length ps ≤ i → Listed (first_line 2) now (listing_of (drop i ps)) (listing_of ps) → ListText now 2 (listing_of ps)
+all_listed now ps i h l =
+    let w = l now (subst (λ z. WroteListing now now (listing_of z)) (sym (drop_all i ps h)) (none_left now)) in
+    record { listing = record { known = inr refl; form = w.form; ranges = w.wrote.ranges }; text = w.wrote.text }
+
+pub few_blocks : (ps : List Program) (i : ℕ) (p : Program) → i < length ps → p ≡ get_or ps i p → All (λ p. length p.blocks ≤ 65536) ps → length p.blocks ≤ 65536
+few_blocks ps i p h e a = each_get (λ p. length p.blocks ≤ 65536) ps i p h e (all_each (λ p. length p.blocks ≤ 65536) ps a)

@@ -1,0 +1,7 @@
+-- Blocks that follow the rules, their nodes and their expressions.
+pub mod Known
+pub mod NodeLists
+pub mod Means
+pub mod Together
+pub mod WorkedLaws
+pub mod Same

@@ -1,0 +1,7 @@
+-- The verdict of a part on a row, segment by segment.
+pub mod Calls
+pub mod Sums
+pub mod Stages
+pub mod Differ
+pub mod Prefixed
+pub mod Machine

@@ -1,0 +1,83 @@
+-- A block and the filter of a program, on a row in range.
+use Rattle.std.proofs.Common.{◌≡◌, ℕ, ℤ, ◌≤◌, ◌<◌, List, [], ◌∷◌, length, refl, zero, suc, ap, arith, get_or, ◌∙◌, sym, subst}
+use Rattle.std.specs.Prelude.{Option, Some, None, IsSome, slice_get, IfSome}
+use Rattle.ln_tree.specs.Row.{AreWithin}
+use Rattle.ln_code.specs.declared.op.Op.{Op}
+use Rattle.ln_code.specs.declared.op.Triple.{Triple}
+use Rattle.ln_code.specs.declared.scratch.Scratch.{Scratch}
+use Rattle.ln_code.specs.Part.{Code, FilterCode, Part, block_value, filter_value}
+use Rattle.ln_code.specs.Errors.{left_error}
+use Rattle.ln_code.specs.Kept.{FollowsRules, FollowsFilterRules, IsProgram}
+use Rattle.ln_code.specs.Memory.{MadeFor, at, plain, shifted, bare_value}
+use Rattle.ln_code.proofs.Engines.Runs.{Runs, block_runs, FilterRuns, filter_runs}
+
+-- the block with this number
+pub there : {X : Type 0} (xs : List X) (k : ℕ) (d : X) → k < length xs → slice_get xs k ≡ Some (get_or xs k d)
+there [] k d h = absurd (omega arith)
+there (x ∷ xs) zero d h = refl
+there (x ∷ xs) (suc k) d h = there xs k d (omega arith)
+
+if_at : {X : Type 0} (P : X → Type 0) (o : Option X) (x : X) → IfSome o P → o ≡ Some x → P x
+if_at P None x h e = cc
+if_at P (Some y) x h e = let r : y ≡ x = cc in subst P r h
+
+-- what a call of a block has
+pub record BlockCall (p : Part) (number : ℕ) (block : Code) (zs : List ℤ) (ops : List Op) (stack : List ℤ) (s : Scratch) : Type 0 where
+  pub program : IsProgram p
+  pub made : MadeFor p s
+  pub row : AreWithin p.shape.vars zs
+  pub below : number < length p.blocks
+  pub block_is : block ≡ get_or p.blocks number block
+  pub ops_is : ops ≡ block.ops
+  pub stack_is : stack ≡ s.stack.items
+
+call_runs : (p : Part) (number : ℕ) (block : Code) (zs : List ℤ) (ops : List Op) (stack locals : List ℤ) (s : Scratch) → BlockCall p number block zs ops stack s → Runs p.shape.vars zs block (length stack) (at locals)
+call_runs p number block zs ops stack locals s c =
+    let f : FollowsRules p.shape.vars block = subst (FollowsRules p.shape.vars) (sym c.block_is) (c.program.blocks number block c.below) in
+    let d : block.depth ≤ length s.stack.items = subst (λ (b : Code). b.depth ≤ length s.stack.items) (sym c.block_is) (c.made.blocks number block c.below) in
+    block_runs p.shape.vars zs block (length stack) (at locals) f c.row (rw c.stack_is d)
+
+pub block_answers : (p : Part) (number : ℕ) (block : Code) (zs : List ℤ) (ops : List Op) (stack locals : List ℤ) (s : Scratch) → BlockCall p number block zs ops stack s → IsSome (bare_value (plain ops) zs stack locals)
+block_answers p number block zs ops stack locals s c =
+    let r = call_runs p number block zs ops stack locals s c in
+    rw (c.ops_is, r.barely) refl
+
+pub block_gives : (p : Part) (number : ℕ) (block : Code) (zs : List ℤ) (ops : List Op) (stack locals : List ℤ) (s : Scratch) (z : ℤ) → BlockCall p number block zs ops stack s → bare_value (plain ops) zs stack locals ≡ Some z →
+    (b : Code) → slice_get p.blocks number ≡ Some b → block_value zs b ≡ Some z
+block_gives p number block zs ops stack locals s z c h b e =
+    let r = call_runs p number block zs ops stack locals s c in
+    let g : bare_value (plain block.ops) zs stack locals ≡ Some z = rw c.ops_is at h in
+    let t : slice_get p.blocks number ≡ Some block = there p.blocks number block c.below ∙ ap Some (sym c.block_is) in
+    let q : Some b ≡ Some block = sym e ∙ t in
+    let i : b ≡ block = cc in
+    rw i (r.exactly ∙ sym r.barely ∙ g)
+
+-- what a call of the filter has
+pub record FilterCall (p : Part) (f : FilterCode) (zs : List ℤ) (ops : List Op) (triples : List Triple) (stack : List ℤ) (s : Scratch) : Type 0 where
+  pub program : IsProgram p
+  pub made : MadeFor p s
+  pub row : AreWithin p.shape.vars zs
+  pub filter_is : p.filter ≡ Some f
+  pub ops_is : ops ≡ f.ops
+  pub triples_is : triples ≡ f.triples
+  pub stack_is : stack ≡ s.stack.items
+
+filter_call_runs : (p : Part) (f : FilterCode) (zs : List ℤ) (ops : List Op) (triples : List Triple) (stack locals : List ℤ) (s : Scratch) → FilterCall p f zs ops triples stack s → FilterRuns p.shape.vars zs f (length stack) (at locals)
+filter_call_runs p f zs ops triples stack locals s c =
+    let r : FollowsFilterRules p.shape.vars f = if_at (FollowsFilterRules p.shape.vars) p.filter f c.program.filter c.filter_is in
+    let d : f.depth ≤ length s.stack.items = if_at (λ (g : FilterCode). g.depth ≤ length s.stack.items) p.filter f c.made.filter c.filter_is in
+    filter_runs p.shape.vars zs f (length stack) (at locals) r c.row (rw c.stack_is d)
+
+pub filter_answers : (p : Part) (f : FilterCode) (zs : List ℤ) (ops : List Op) (triples : List Triple) (stack locals : List ℤ) (s : Scratch) → FilterCall p f zs ops triples stack s → IsSome (bare_value (shifted ops triples) zs stack locals)
+filter_answers p f zs ops triples stack locals s c =
+    let r = filter_call_runs p f zs ops triples stack locals s c in
+    rw (c.ops_is, c.triples_is, r.barely) refl
+
+pub filter_gives : (p : Part) (f : FilterCode) (zs : List ℤ) (ops : List Op) (triples : List Triple) (stack locals : List ℤ) (s : Scratch) (z : ℤ) → FilterCall p f zs ops triples stack s → bare_value (shifted ops triples) zs stack locals ≡ Some z →
+    filter_value zs f ≡ Some (record { number = z; error = left_error f.ops f.triples 0 0 })
+filter_gives p f zs ops triples stack locals s z c h =
+    let r = filter_call_runs p f zs ops triples stack locals s c in
+    let g : bare_value (shifted f.ops f.triples) zs stack locals ≡ Some z = rw (c.ops_is, c.triples_is) at h in
+    let q : Some r.left.number ≡ Some z = sym r.barely ∙ g in
+    let i : r.left.number ≡ z = cc in
+    rw (← i, ← r.error) r.exactly

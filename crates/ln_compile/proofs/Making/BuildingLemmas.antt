@@ -1,0 +1,131 @@
+-- The programs of a table's predicates, one after the other.
+use Rattle.std.proofs.Common.{◌≡◌, ℕ, ◌+◌, ◌<◌, ◌≤◌, zero, suc, true, false, List, [], ◌∷◌, ◌++◌, length, map, take, drop, get_or, refl, ap, sym, subst, ◌∙◌, arith, Some}
+use Rattle.std.specs.Prelude.{◌≢◌, All, bytes_eq, slice_get}
+use Rattle.std.proofs.lemmas.List.{drop_more, length-map, map-append, take-append-drop, take_all, take_more}
+use Rattle.std.proofs.lemmas.List.Elements.{All-cons, All-nil}
+use Rattle.ln_tree.specs.declared.name.Name.{Name}
+use Rattle.ln_tree.specs.declared.pred.Pred.{Pred}
+use Rattle.ln_tree.specs.Names.{name_bytes}
+use Rattle.ln_tree.specs.Table.{PredOf, TableOf, pred_of}
+use Rattle.ln_tree.specs.Whole.{differ, is_whole}
+use Rattle.ln_parse.specs.ReadsBack.{Every}
+use Rattle.ln_parse.proofs.Wholes.WholeFrom.{differ_test}
+use Rattle.ln_parse.proofs.Wholes.WholeParts.{PredParts, differing, table_parts}
+use Rattle.ln_parse.proofs.ReadBack.NamePlaces.{Differ, NoneIs, same_bytes}
+use Rattle.ln_stage.specs.Lists.{stage_count}
+use Rattle.ln_stage.specs.Staged.{count_numbers}
+use Rattle.ln_code.specs.Part.{Part}
+use Rattle.ln_compile.specs.Accepted.{AreSound, IsSound}
+use Rattle.ln_compile.specs.Compiled.{AreProgramsOf, AreStageCounts, IsProgramOf, IsStageCount}
+use Rattle.ln_compile.specs.Made.{AreCounted}
+use Rattle.ln_compile.proofs.Refusing.Judging.{judged_more}
+
+-- ---- one more
+programs-more : (ps : List PredOf) (cs : List Part) (p : PredOf) (c : Part) → AreProgramsOf ps cs → IsProgramOf p c → AreProgramsOf (ps ++ p ∷ []) (cs ++ c ∷ [])
+programs-more [] [] p c h l = (l, tt)
+programs-more [] (d ∷ cs) p c h l = absurd h
+programs-more (q ∷ ps) [] p c h l = absurd h
+programs-more (q ∷ ps) (d ∷ cs) p c h l = (h.0, programs-more ps cs p c h.1 l)
+
+counts-more : (ps : List PredOf) (ns : List ℕ) (p : PredOf) (n : ℕ) → AreStageCounts ps ns → IsStageCount p n → AreStageCounts (ps ++ p ∷ []) (ns ++ n ∷ [])
+counts-more [] [] p n h l = (l, tt)
+counts-more [] (m ∷ ns) p n h l = absurd h
+counts-more (q ∷ ps) [] p n h l = absurd h
+counts-more (q ∷ ps) (m ∷ ns) p n h l = (h.0, counts-more ps ns p n h.1 l)
+
+front-more : (preds : List Pred) (i : ℕ) (p : Pred) → i < length preds → p ≡ get_or preds i p → map pred_of (take (i + 1) preds) ≡ map pred_of (take i preds) ++ pred_of p ∷ []
+front-more preds i p h e = ap (map pred_of) (take_more preds i p h ∙ ap (λ q. take i preds ++ q ∷ []) (sym e)) ∙ map-append pred_of (take i preds) (p ∷ [])
+
+pub compiled-more : (preds : List Pred) (i : ℕ) (p : Pred) (cs ds : List Part) (c : Part) → i < length preds → p ≡ get_or preds i p → ds ≡ cs ++ c ∷ [] → IsProgramOf (pred_of p) c → AreProgramsOf (map pred_of (take i preds)) cs → AreProgramsOf (map pred_of (take (i + 1) preds)) ds
+compiled-more preds i p cs ds c h e q o b =
+    let f : map pred_of (take i preds) ++ pred_of p ∷ [] ≡ map pred_of (take (i + 1) preds) = sym (front-more preds i p h e) in
+    subst (λ (ps : List PredOf). AreProgramsOf ps ds) f (rw q (programs-more (map pred_of (take i preds)) cs (pred_of p) c b o))
+
+pub compiled-end : (preds : List Pred) (i : ℕ) (cs : List Part) → length preds ≤ i → AreProgramsOf (map pred_of (take i preds)) cs → AreProgramsOf (map pred_of preds) cs
+compiled-end preds i cs h b = subst (λ (ps : List Pred). AreProgramsOf (map pred_of ps) cs) (take_all i preds h) b
+
+pub counted-more : (preds : List Pred) (i : ℕ) (p : Pred) (ns ms : List ℕ) (n : ℕ) → i < length preds → p ≡ get_or preds i p → ms ≡ ns ++ n ∷ [] → IsSound (pred_of p) → IsStageCount (pred_of p) n → AreCounted (map pred_of (take i preds)) ns → AreCounted (map pred_of (take (i + 1) preds)) ms
+counted-more preds i p ns ms n h e r s k b =
+    let f : map pred_of (take i preds) ++ pred_of p ∷ [] ≡ map pred_of (take (i + 1) preds) = sym (front-more preds i p h e) in
+    record {
+      sound = judged_more preds i p h e b.sound s;
+      counts = subst (λ (ps : List PredOf). AreStageCounts ps ms) f (rw r (counts-more (map pred_of (take i preds)) ns (pred_of p) n b.counts k));
+    }
+
+pub counted-end : (preds : List Pred) (i : ℕ) (ns : List ℕ) → length preds ≤ i → AreCounted (map pred_of (take i preds)) ns → AreCounted (map pred_of preds) ns
+counted-end preds i ns h b = subst (λ (ps : List Pred). AreCounted (map pred_of ps) ns) (take_all i preds h) b
+
+-- each of several predicates without a fault has none
+pub sound-at : (preds : List Pred) (i : ℕ) (p : Pred) → i < length preds → p ≡ get_or preds i p → AreSound (map pred_of preds) → IsSound (pred_of p)
+sound-at [] i p h e s = absurd (omega (arith, h))
+sound-at (q ∷ ps) zero p h e s = subst (λ (r : Pred). IsSound (pred_of r)) (sym e) s.0
+sound-at (q ∷ ps) (suc i) p h e s = sound-at ps i p (omega (arith, h)) e s.1
+
+-- ---- names
+-- a name differs from each of these
+abbrev Apart : List PredOf → List ℕ → Type 0
+Apart [] u = Unit {0}
+Apart (p ∷ ps) u = (p.shape_name ≢ u) × Apart ps u
+
+none-behind : (u : List ℕ) (ps : List PredOf) (p : PredOf) (qs : List PredOf) → NoneIs u (map (λ (q : PredOf). q.shape_name) (ps ++ p ∷ qs)) → u ≢ p.shape_name
+none-behind u [] p qs n e = let z : bytes_eq u u ≡ false = subst (λ v. bytes_eq u v ≡ false) (sym e) n.0 in let w : true ≡ false = sym (same_bytes u) ∙ z in cc
+none-behind u (q ∷ ps) p qs n e = none-behind u ps p qs n.1 e
+
+apart : (ps : List PredOf) (p : PredOf) (qs : List PredOf) → Differ (map (λ (q : PredOf). q.shape_name) (ps ++ p ∷ qs)) → Apart ps p.shape_name
+apart [] p qs h = tt
+apart (q ∷ ps) p qs h = (none-behind q.shape_name ps p qs h.0, apart ps p qs h.1)
+
+names-apart : (ps : List PredOf) (cs : List Part) (n : Name) → AreProgramsOf ps cs → Apart ps (name_bytes n) → All (λ c. name_bytes c.shape.name ≢ name_bytes n) cs
+names-apart [] [] n h a = All-nil (λ c. name_bytes c.shape.name ≢ name_bytes n)
+names-apart [] (c ∷ cs) n h a = absurd h
+names-apart (p ∷ ps) [] n h a = absurd h
+names-apart (p ∷ ps) (c ∷ cs) n h a = All-cons (λ (d : Part). name_bytes d.shape.name ≢ name_bytes n) c cs (λ e. a.0 (sym h.0.name ∙ e)) (names-apart ps cs n h.1 a.1)
+
+pub name-new : (preds : List Pred) (i : ℕ) (p : Pred) (cs : List Part) (m : Name) → i < length preds → p ≡ get_or preds i p → differ (map (λ q. q.shape_name) (map pred_of preds)) ≡ true → m ≡ p.shape.name
+    → AreProgramsOf (map pred_of (take i preds)) cs → All (λ c. name_bytes c.shape.name ≢ name_bytes m) cs
+name-new preds i p cs m h e d q b =
+    let here : drop i preds ≡ p ∷ drop (i + 1) preds = drop_more preds i p h ∙ ap (λ z. z ∷ drop (i + 1) preds) (sym e) in
+    let all : map pred_of preds ≡ map pred_of (take i preds) ++ pred_of p ∷ map pred_of (drop (i + 1) preds) =
+    sym (ap (map pred_of) (take-append-drop i preds)) ∙ map-append pred_of (take i preds) (drop i preds) ∙ ap (λ qs. map pred_of (take i preds) ++ map pred_of qs) here in
+    let f : differ (map (λ (z : PredOf). z.shape_name) (map pred_of (take i preds) ++ pred_of p ∷ map pred_of (drop (i + 1) preds))) ≡ true = subst (λ (ps : List PredOf). differ (map (λ (z : PredOf). z.shape_name) ps) ≡ true) all d in
+    let a : Apart (map pred_of (take i preds)) (name_bytes p.shape.name) = apart (map pred_of (take i preds)) (pred_of p) (map pred_of (drop (i + 1) preds)) (differing (map (λ (z : PredOf). z.shape_name) (map pred_of (take i preds) ++ pred_of p ∷ map pred_of (drop (i + 1) preds))) f) in
+    rw q (names-apart (map pred_of (take i preds)) cs p.shape.name b a)
+
+-- ---- the stage count
+pub counted-numbers : (g : ℕ → List ℕ) (ls : List (List ℕ)) → count_numbers ls ≡ stage_count (map (λ list. map g list) ls)
+counted-numbers g [] = refl
+counted-numbers g (l ∷ ls) = omega (arith, counted-numbers g ls, length-map l g)
+
+-- the program of a predicate, by its number
+pub program-at : (preds : List Pred) (i : ℕ) (p : Pred) (c : Part) → i < length preds → p ≡ get_or preds i p → IsProgramOf (pred_of p) c → (q : PredOf) → slice_get (map pred_of preds) i ≡ Some q → IsProgramOf q c
+program-at [] i p c h e o q f = absurd (omega (arith, h))
+program-at (x ∷ ps) zero p c h e o q f = let d : pred_of x ≡ q = cc in subst (λ (r : PredOf). IsProgramOf r c) d (subst (λ (y : Pred). IsProgramOf (pred_of y) c) e o)
+program-at (x ∷ ps) (suc i) p c h e o q f = program-at ps i p c (omega (arith, h)) e o q f
+
+-- the stage count of a predicate, by its number
+pub count-at : (ps : List PredOf) (ns : List ℕ) (i : ℕ) → AreStageCounts ps ns → (p : PredOf) → slice_get ps i ≡ Some p → IsStageCount p (get_or ns i 0)
+count-at [] [] i h p e = cc
+count-at [] (n ∷ ns) i h p e = absurd h
+count-at (q ∷ ps) [] i h p e = absurd h
+count-at (q ∷ ps) (n ∷ ns) zero h p e = let d : q ≡ p = cc in subst (λ (r : PredOf). IsStageCount r n) d h.0
+count-at (q ∷ ps) (n ∷ ns) (suc i) h p e = count-at ps ns i h.1 p e
+
+pub as-many-counts : (ps : List PredOf) (ns : List ℕ) → AreStageCounts ps ns → length ns ≡ length ps
+as-many-counts [] [] h = refl
+as-many-counts [] (n ∷ ns) h = absurd h
+as-many-counts (p ∷ ps) [] h = absurd h
+as-many-counts (p ∷ ps) (n ∷ ns) h = ap suc (as-many-counts ps ns h.1)
+
+-- ---- the names of a table's predicates differ
+differ-behind : (us vs : List (List ℕ)) → Differ (us ++ vs) → Differ vs
+differ-behind [] vs d = d
+differ-behind (u ∷ us) vs d = differ-behind us vs d.1
+
+pub names-differ : (t : TableOf) → is_whole t ≡ true → differ (map (λ p. p.shape_name) t.preds) ≡ true
+names-differ t h =
+    let w = table_parts t h in
+    let d : Differ (map (λ (p : PredOf). p.name) t.preds) = differ-behind (map (λ c. c.name) t.params) (map (λ (p : PredOf). p.name) t.preds) (differ-behind (map (λ s. s.name) t.sites) (map (λ c. c.name) t.params ++ map (λ (p : PredOf). p.name) t.preds) w.names) in
+    differ_test (map (λ p. p.shape_name) t.preds) (subst Differ (sym (same t.preds w.preds)) d) where
+      same : (ps : List PredOf) → Every (PredParts t.sites t.params) ps → map (λ (p : PredOf). p.shape_name) ps ≡ map (λ (p : PredOf). p.name) ps
+      same [] e = refl
+      same (p ∷ ps) e = let r : map (λ (q : PredOf). q.shape_name) ps ≡ map (λ (q : PredOf). q.name) ps = same ps e.1 in ap (λ z. z ∷ map (λ (q : PredOf). q.shape_name) ps) e.0.shape_name ∙ ap (λ z. p.name ∷ z) r

@@ -1,0 +1,3 @@
+-- The side conditions and their tests.
+pub mod KeepLemmas
+pub mod SetLemmas

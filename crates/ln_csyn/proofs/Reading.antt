@@ -1,0 +1,9 @@
+-- What is derived is read, and what is read is derived.
+pub mod Complete
+pub mod CompleteFile
+pub mod Sound
+pub mod SoundFile
+pub mod Steps
+pub mod ReadLemmas
+pub mod Loops
+pub mod FunLoops

@@ -1,0 +1,7 @@
+-- What a row is owed, found along its list.
+pub mod AloudLemmas
+pub mod AlongLemmas
+pub mod Composition
+pub mod DueLemmas
+pub mod SeveralLemmas
+pub mod UniqueLemmas

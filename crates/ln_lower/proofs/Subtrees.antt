@@ -1,0 +1,4 @@
+-- Equal subtrees, kept in locals.
+pub mod Bounding
+pub mod Numbering
+pub mod Sharing

@@ -1,0 +1,181 @@
+-- No node of the nested form weighs more than the terms, whatever the weights from 1 on: so its ranges are within the M-weighted sum, and its running sizes within the sum of the absolute factors.
+use Rattle.std.proofs.Common.{◌≡◌, ◌≢◌, ℕ, ℤ, ◌+◌, ◌*◌, ◌≤◌, length, Bool, true, false, List, [], ◌∷◌, refl, zero, suc, ap, arith, pos, negsuc, unsigned_abs, if◌then◌else◌}
+use Rattle.std.proofs.Math.Nat.{mul-le-mul_left}
+use Rattle.ln_algebra.specs.Terms.{Term}
+use Rattle.ln_algebra.specs.Tree.{Tree, Num, Input, Name, Neg, Add, Sub, Mul, Pow, InputsBelow}
+use Rattle.ln_algebra.specs.Weights.{monomial_weight, weighted_sum}
+use Rattle.ln_bound.specs.Light.{most}
+use Rattle.ln_bound.specs.Room.{HasRoom}
+use Rattle.ln_tree.specs.declared.shape.VarInfo.{VarInfo}
+use Rattle.ln_bound.proofs.Measures.RoomLaws.{weight_grows}
+use Rattle.ln_nest.specs.Lean.{HasNoZero}
+use Rattle.ln_nest.specs.Nested.{exponent_of, is_positive, one_less, divided, free_of, joined, horner, nested, scaled}
+use Rattle.ln_nest.proofs.Forms.Bounds.{parts_weight, at_least, sum_weight}
+use Rattle.ln_nest.proofs.Terms.Scaled.{scaled_cases}
+use Rattle.ln_nest.proofs.Forms.Steps.{range_scale, scale_some}
+use Rattle.ln_nest.proofs.Forms.Leans.{nested_inputs}
+use Rattle.ln_nest.specs.View.{scale}
+use Rattle.ln_interval.specs.Range.{Range, IsOrdered, magnitude}
+use Rattle.ln_bound.specs.Ranges.{ranges, HaveRange}
+use Rattle.ln_bound.specs.Typed.{Typed, TNum, TInput, TLet, TNeg, TTwo, TPow, need, pair, untyped}
+use Rattle.ln_bound.specs.declared.fitted.Two.TheVariants.{Plus, Minus, Times}
+use Rattle.ln_bound.specs.Sound.{Sound}
+use Rattle.ln_bound.specs.Exact.{AreWithinPairs, IsExact}
+use Rattle.ln_bound.proofs.Soundness.ExactLaws.{exact_nodes, exact_range}
+use Rattle.ln_bound.specs.UpTo.{AreUpTo}
+use Rattle.ln_nest.specs.Reach.{reaches, weighs}
+use Rattle.ln_algebra.specs.Sizes.{one}
+use Rattle.ln_bound.proofs.Measures.LoadLaws.{range_weight}
+
+-- ---- ranges of exact trees
+small_in : (vars : List VarInfo) (n : ℕ) (t : Typed) → IsExact vars [] t → reaches (ranges vars) (untyped t) ≤ n → magnitude (pair t) ≤ n
+small_in vars n t x h =
+    let e = exact_range vars [] t x in
+    let f : magnitude (pair t) ≡ reaches (ranges vars) (untyped t) = ap magnitude_of e in
+    omega (arith, f, h)
+  where
+    magnitude_of : Range → ℕ
+    magnitude_of r = magnitude r
+
+-- each range of an exact tree without lets is within n where those of its expression are
+pub exact_within : (vars : List VarInfo) (n : ℕ) (t : Typed) → IsExact vars [] t → AreUpTo (reaches (ranges vars)) n (untyped t) → AreWithinPairs n t
+exact_within vars n (TNum c p w) x a = small_in vars n (TNum c p w) x a
+exact_within vars n (TInput v p w) x a = small_in vars n (TInput v p w) x a
+exact_within vars n (TLet j p w) x a = small_in vars n (TLet j p w) x a
+exact_within vars n (TNeg t p w) x a = (exact_within vars n t x.0 a.0, small_in vars n (TNeg t p w) x a.1)
+exact_within vars n (TTwo Plus s t p w) x a = (exact_within vars n s x.0 a.0, exact_within vars n t x.1 a.1, small_in vars n (TTwo Plus s t p w) x a.2)
+exact_within vars n (TTwo Minus s t p w) x a = (exact_within vars n s x.0 a.0, exact_within vars n t x.1 a.1, small_in vars n (TTwo Minus s t p w) x a.2)
+exact_within vars n (TTwo Times s t p w) x a = (exact_within vars n s x.0 a.0, exact_within vars n t x.1 a.1, small_in vars n (TTwo Times s t p w) x a.2)
+exact_within vars n (TPow t k p w) x a = (exact_within vars n t x.0 a.0, small_in vars n (TPow t k p w) x a.1)
+
+-- ---- nodes up to a number
+-- the root is one of the nodes
+pub root_up : (by : Tree → ℕ) (n : ℕ) (e : Tree) → AreUpTo by n e → by e ≤ n
+root_up by n (Num c) a = a
+root_up by n (Input v) a = a
+root_up by n (Name j) a = a
+root_up by n (Neg e) a = a.1
+root_up by n (Add e f) a = a.2
+root_up by n (Sub e f) a = a.2
+root_up by n (Mul e f) a = a.2
+root_up by n (Pow e k) a = a.1
+
+-- up to a larger number, of smaller numbers
+pub up_more : (by c : Tree → ℕ) (n m : ℕ) → ((e : Tree) → c e ≤ by e) → n ≤ m → (e : Tree) → AreUpTo by n e → AreUpTo c m e
+up_more by c n m h l (Num z) a = let g = h (Num z) in omega (arith, g, a, l)
+up_more by c n m h l (Input v) a = let g = h (Input v) in omega (arith, g, a, l)
+up_more by c n m h l (Name j) a = let g = h (Name j) in omega (arith, g, a, l)
+up_more by c n m h l (Neg e) a = (up_more by c n m h l e a.0, let g = h (Neg e) in omega (arith, g, a.1, l))
+up_more by c n m h l (Add e f) a = (up_more by c n m h l e a.0, up_more by c n m h l f a.1, let g = h (Add e f) in omega (arith, g, a.2, l))
+up_more by c n m h l (Sub e f) a = (up_more by c n m h l e a.0, up_more by c n m h l f a.1, let g = h (Sub e f) in omega (arith, g, a.2, l))
+up_more by c n m h l (Mul e f) a = (up_more by c n m h l e a.0, up_more by c n m h l f a.1, let g = h (Mul e f) in omega (arith, g, a.2, l))
+up_more by c n m h l (Pow e k) a = (up_more by c n m h l e a.0, let g = h (Pow e k) in omega (arith, g, a.1, l))
+
+-- ---- the parts of a list of terms have no zero factor where it has none
+pub divided_some : (v : ℕ) (f : List Term) → HasNoZero f → HasNoZero (divided v f)
+divided_some v [] z = tt
+divided_some v (t ∷ f) z = by_case (is_positive (exponent_of v t.exponents)) (divided_some v f z.1)
+  where
+    by_case : (b : Bool) → HasNoZero (divided v f) → HasNoZero (if b then record { exponents = one_less v t.exponents; factor = t.factor } ∷ divided v f else divided v f)
+    by_case true ih = (z.0, ih)
+    by_case false ih = ih
+
+pub free_some : (v : ℕ) (f : List Term) → HasNoZero f → HasNoZero (free_of v f)
+free_some v [] z = tt
+free_some v (t ∷ f) z = by_case (is_positive (exponent_of v t.exponents)) (free_some v f z.1)
+  where
+    by_case : (b : Bool) → HasNoZero (free_of v f) → HasNoZero (if b then free_of v f else t ∷ free_of v f)
+    by_case true ih = ih
+    by_case false ih = (z.0, ih)
+
+nonzero : (z : ℤ) → z ≢ pos 0 → 1 ≤ unsigned_abs z
+nonzero (pos zero) h = absurd (h refl)
+nonzero (pos (suc n)) h = omega arith
+nonzero (negsuc n) h = omega arith
+
+module _ (w : ℕ → ℕ) (o : (v : ℕ) → 1 ≤ w v) where
+  -- some terms weigh at least 1
+  some_weight : (t : Term) (f : List Term) → HasNoZero (t ∷ f) → 1 ≤ weighted_sum w (t ∷ f)
+  some_weight t f z =
+      let a = nonzero t.factor z.0 in
+      let m : unsigned_abs t.factor * 1 ≤ unsigned_abs t.factor * monomial_weight w t.exponents = mul-le-mul_left (unsigned_abs t.factor) (at_least w o t.exponents) in
+      omega (arith, a, m)
+
+  -- v times a tree that is up to d, where d is at least 1
+  scaled_up : (v d n : ℕ) (h : Tree) → 1 ≤ d → w v * d ≤ n → AreUpTo (weighs w) d h → AreUpTo (weighs w) n (scaled v h)
+  scaled_up v d n h s l a =
+      let one : w v * 1 ≤ w v * d = mul-le-mul_left (w v) s in
+      let at : w v ≤ n = omega (arith, one, l) in
+      let r = root_up (weighs w) d h a in
+      let m : w v * weighs w h ≤ w v * d = mul-le-mul_left (w v) r in
+      let k : d * 1 ≤ d * w v = mul-le-mul_left d (o v) in
+      scaled_cases v h (AreUpTo (weighs w) n)
+      (λ e. at)
+      (λ e. (at, at))
+      (at, up_more (weighs w) (weighs w) d n (λ e. omega arith) (omega (arith, k, l)) h a, omega (arith, m, l))
+
+  -- the root of v times a tree
+  scaled_root : (v : ℕ) (h : Tree) → weighs w (scaled v h) ≤ w v * weighs w h
+  scaled_root v h = scaled_cases v h (λ e. weighs w e ≤ w v * weighs w h) (λ e. rw e (omega arith)) (λ e. rw e (omega arith)) (omega arith)
+
+  -- a step: v times a tree of the divided terms, and a tree of the others
+  joined_up : (v : ℕ) (h i : Tree) (ds fs : List Term) (n : ℕ) → HasNoZero ds → w v * weighted_sum w ds + weighted_sum w fs ≤ n → AreUpTo (weighs w) (weighted_sum w ds) h → AreUpTo (weighs w) (weighted_sum w fs) i → AreUpTo (weighs w) n (joined v h i ds fs)
+  joined_up v h i [] fs n z l a b = up_more (weighs w) (weighs w) (weighted_sum w fs) n (λ e. omega arith) (omega (arith, l)) i b
+  joined_up v h i (t ∷ ds) [] n z l a b = scaled_up v (weighted_sum w (t ∷ ds)) n h (some_weight t ds z) (omega (arith, l)) a
+  joined_up v h i (t ∷ ds) (s ∷ fs) n z l a b =
+      let d = weighted_sum w (t ∷ ds) in
+      let g = weighted_sum w (s ∷ fs) in
+      let p = scaled_up v d n h (some_weight t ds z) (omega (arith, l)) a in
+      let q = up_more (weighs w) (weighs w) g n (λ e. omega arith) (omega (arith, l)) i b in
+      let r = root_up (weighs w) d h a in
+      let c = root_up (weighs w) g i b in
+      let k = scaled_root v h in
+      let m : w v * weighs w h ≤ w v * d = mul-le-mul_left (w v) r in
+      (p, q, omega (arith, l, c, k, m))
+
+  -- by powers of v
+  horner_up : (inner : List Term → Tree) → ((g : List Term) → HasNoZero g → AreUpTo (weighs w) (weighted_sum w g) (inner g)) → (v d : ℕ) (f : List Term) → HasNoZero f → AreUpTo (weighs w) (weighted_sum w f) (horner inner v d f)
+  horner_up inner is v zero f z = is f z
+  horner_up inner is v (suc d) f z =
+      let p = parts_weight w v f in
+      joined_up v (horner inner v d (divided v f)) (inner (free_of v f)) (divided v f) (free_of v f) (weighted_sum w f) (divided_some v f z) (omega (arith, p)) (horner_up inner is v d (divided v f) (divided_some v f z)) (is (free_of v f) (free_some v f z))
+
+  -- no node of the nested form weighs more than the terms
+  pub nested_up : (d k v : ℕ) (f : List Term) → HasNoZero f → AreUpTo (weighs w) (weighted_sum w f) (nested d k v f)
+  nested_up d zero v f z = sum_weight w o f
+  nested_up d (suc k) v f z =
+      let is = λ (g : List Term) (y : HasNoZero g). nested_up d k (suc v) g y in
+      horner_up (nested d k (suc v)) is v d f z
+
+-- so the range of each node is within the M-weighted sum
+pub nested_ranges : (r : ℕ → Range) (m : ℕ → ℕ) → ((v : ℕ) → 1 ≤ m v) → ((v : ℕ) → magnitude (r v) ≤ m v) → (d k v : ℕ) (f : List Term) → HasNoZero f → AreUpTo (reaches r) (weighted_sum m f) (nested d k v f)
+nested_ranges r m o h d k v f z = up_more (weighs m) (reaches r) (weighted_sum m f) (weighted_sum m f) (λ e. range_weight r m [] [] h (λ j. omega arith) e) (omega arith) (nested d k v f) (nested_up m o d k v f z)
+
+-- and its running size within the same sum
+pub nested_sizes : (m : ℕ → ℕ) → ((v : ℕ) → 1 ≤ m v) → (d k v : ℕ) (f : List Term) → HasNoZero f → AreUpTo (weighs one) (weighted_sum m f) (nested d k v f)
+nested_sizes m o d k v f z = up_more (weighs m) (weighs one) (weighted_sum m f) (weighted_sum m f) (λ e. weight_grows one m [] [] o (λ j. omega arith) e) (omega arith) (nested d k v f) (nested_up m o d k v f z)
+
+-- ---- the typed tree
+room_up : (e : Tree) → AreUpTo (weighs one) most e → HasRoom one [] e
+room_up (Num c) a = a
+room_up (Input v) a = a
+room_up (Name j) a = a
+room_up (Neg e) a = (room_up e a.0, a.1)
+room_up (Add e f) a = (room_up e a.0, room_up f a.1, a.2)
+room_up (Sub e f) a = (room_up e a.0, room_up f a.1, a.2)
+room_up (Mul e f) a = (room_up e a.0, room_up f a.1, a.2)
+room_up (Pow e k) a = (room_up e a.0, a.1)
+
+-- an exact tree in nested form is sound, with its ranges within the M-weighted sum
+pub nested_sound : (vars : List VarInfo) (d : ℕ) (f : List Term) (t : Typed) → ((v : ℕ) → IsOrdered (ranges vars v)) → HasNoZero f → weighted_sum (scale vars) f ≤ most → untyped t ≡ nested d (length vars) 0 f → IsExact vars [] t → need t ≤ 2048 → Sound vars [] t × AreWithinPairs (weighted_sum (scale vars) f) t
+nested_sound vars d f t o z l e x n =
+    let scales = λ (v : ℕ). scale_some vars v in
+    let r = nested_ranges (ranges vars) (scale vars) scales (range_scale vars) d (length vars) 0 f z in
+    let s = nested_sizes (scale vars) scales d (length vars) 0 f z in
+    let rm = up_more (reaches (ranges vars)) (reaches (ranges vars)) (weighted_sum (scale vars) f) most (λ e. omega arith) l (nested d (length vars) 0 f) r in
+    let sm = up_more (weighs one) (weighs one) (weighted_sum (scale vars) f) most (λ e. omega arith) l (nested d (length vars) 0 f) s in
+    let i : InputsBelow (length vars) (nested d (length vars) 0 f) = nested_inputs (length vars) d (length vars) 0 (omega arith) f in
+    let ii : InputsBelow (length vars) (untyped t) = rw e i in
+    let hr : HaveRange vars [] (untyped t) = rw e rm in
+    let hs : HasRoom one [] (untyped t) = rw e (room_up (nested d (length vars) 0 f) sm) in
+    (record { nodes = exact_nodes vars [] o (λ j u q. cc) t ii x hr; sizes = hs; deep = n }, exact_within vars (weighted_sum (scale vars) f) t x (rw e r))

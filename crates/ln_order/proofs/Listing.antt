@@ -1,0 +1,8 @@
+-- The order of a row; all orders and all prefixes.
+pub mod FoundLemmas
+pub mod FrontLemmas
+pub mod OrderExists
+pub mod OrderLemmas
+pub mod OrderUnique
+pub mod OrdersLemmas
+pub mod PrefixLemmas

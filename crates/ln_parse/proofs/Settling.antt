@@ -1,0 +1,3 @@
+-- A text has one answer.
+pub mod Either
+pub mod OneAnswer

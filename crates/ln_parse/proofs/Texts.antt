@@ -1,0 +1,9 @@
+-- Canonical text: how it is put, and its tokens and items.
+pub mod Putting
+pub mod LexBack
+pub mod WordTokens
+pub mod DeriveBack
+pub mod ItemsBack
+pub mod ClearText
+pub mod Names
+pub mod Nested

@@ -1,0 +1,220 @@
+-- The tokens of an expression that is written canonically derive it.
+use Rattle.std.proofs.Common.{◌≡◌, ℕ, zero, suc, ◌+◌, ◌-◌, ◌<◌, ◌≤◌, Bool, true, false, cond, List, [], ◌∷◌, length, take, drop, Some, refl, ap, sym, ◌∙◌, arith, length-drop, codes, ◌++◌, ◌&&◌, ◌==◌}
+use Rattle.ln_base.specs.Words.{is_name, is_letter}
+use Rattle.std.proofs.lemmas.Bool.Decides.{nat_tests}
+use Rattle.ln_lex.specs.declared.token.Kind.TheVariants.{Number, ParL, ParR, Plus, Minus, Star, Caret}
+use Rattle.ln_lex.specs.declared.token.Token.{Token}
+use Rattle.ln_parse.specs.declared.printer.Room.{Room}
+use Rattle.ln_parse.specs.declared.printer.Room.TheVariants.{OfSum, OfProduct, OfUnary, OfAtom}
+use Rattle.ln_parse.specs.Written.{Written, WNum, WName, WInput, WNeg, WAdd, WSub, WMul, WPow, spelling, IsNamed}
+use Rattle.ln_syntax.specs.Raw.{Is, span_at, text}
+use Rattle.ln_syntax.specs.Expression.{Tree, TNum, TName, TInput, TNeg, TAdd, TSub, TMul, TPow, Sort, Atom, Power, Unary, Term, Sum, Factors, Terms, Derives, number, name, input, parens, plain, power, base, minus, term, no_factor, times, sum, no_term, plus, less}
+use Rattle.ln_parse.specs.Lexemes.{Lexeme, gap, line, word, text_of}
+use Rattle.ln_parse.specs.Canonical.{fits, wrap, inside, whole}
+use Rattle.ln_names.specs.Numbers as names
+use Rattle.std.specs.Fmt.{decimal}
+use Rattle.ln_parse.proofs.Texts.WordTokens.{number_value, number_kind, name_kind}
+use Rattle.ln_parse.proofs.Texts.LexBack.{soft, undotted, Clear, toks, front, drop_word}
+
+-- the words of the lexemes are the tokens from place i on
+abbrev pub Sits : List ℕ → List Token → ℕ → List Lexeme → Type 0
+Sits bytes ts i [] = i ≡ length ts
+Sits bytes ts i (gap ∷ xs) = Sits bytes ts i xs
+Sits bytes ts i (line ∷ xs) = Sits bytes ts i xs
+Sits bytes ts i (word k t ∷ xs) = Is ts i k × (text bytes (span_at ts i) ≡ t) × Sits bytes ts (suc i) xs
+
+-- the list from place j on
+record From (ts : List Token) (j : ℕ) (t : Token) (us : List Token) : Type 0 where
+  first : Is ts j t.kind
+  span : span_at ts j ≡ t.span
+  rest : drop (suc j) ts ≡ us
+  more : j < length ts
+
+from : (ts : List Token) (j : ℕ) (t : Token) (us : List Token) → drop j ts ≡ t ∷ us → From ts j t us
+from [] zero t us e = absurd (cc)
+from [] (suc j) t us e = absurd (cc)
+from (x ∷ xs) zero t us e = let q : x ≡ t = cc in record { first = ap (λ (w : Token). Some w.kind) q; span = ap (λ (w : Token). w.span) q; rest = cc; more = omega arith }
+from (x ∷ xs) (suc j) t us e = let r = from xs j t us e in record { first = r.first; span = r.span; rest = r.rest; more = omega (arith, r.more) }
+
+pub sits : (bytes : List ℕ) (ts : List Token) (xs : List Lexeme) (i at : ℕ) → drop at bytes ≡ text_of xs → drop i ts ≡ toks at xs → i ≤ length ts → Sits bytes ts i xs
+sits bytes ts [] i at e f h =
+    let q : length (drop i ts) ≡ 0 = ap (λ (x : List Token). length x) f in omega (arith, length-drop i ts)
+sits bytes ts (gap ∷ xs) i at e f h =
+    let a : at + 1 ≡ suc at = omega arith in
+    sits bytes ts xs i (suc at) (ap (λ (w : ℕ). drop w bytes) (sym a) ∙ drop_word bytes (32 ∷ []) (text_of xs) at e) f h
+sits bytes ts (line ∷ xs) i at e f h =
+    let a : at + 1 ≡ suc at = omega arith in
+    sits bytes ts xs i (suc at) (ap (λ (w : ℕ). drop w bytes) (sym a) ∙ drop_word bytes (10 ∷ []) (text_of xs) at e) f h
+sits bytes ts (word k t ∷ xs) i at e f h =
+    let r = from ts i _ _ f in
+    let n : (at + length t) - at ≡ length t = omega arith in
+    let p : text bytes (span_at ts i) ≡ t = ap (λ (w : _). text bytes w) r.span ∙ ap (λ (w : ℕ). take w (drop at bytes)) n ∙ ap (λ (w : List ℕ). take (length t) w) e ∙ front t (text_of xs) in
+    (r.first, p, sits bytes ts xs (suc i) (at + length t) (drop_word bytes t (text_of xs) at e) r.rest (omega (arith, r.more)))
+
+-- a tree is spelt in front of other lexemes
+pub record Derived (bytes : List ℕ) (ts : List Token) (s : Sort) (i : ℕ) (t : Written) (rest : List Lexeme) : Type 0 where
+  pub end : ℕ
+  pub tree : Tree
+  pub derives : Derives ts s i end tree
+  pub same : spelling bytes tree ≡ t
+  pub after : Sits bytes ts end rest
+
+abbrev sort_of : Room → Sort
+sort_of OfSum = Sum
+sort_of OfProduct = Term
+sort_of OfUnary = Unary
+sort_of OfAtom = Atom
+
+abbrev own : Written → Sort
+own (WNum t) = Atom
+own (WName t) = Atom
+own (WInput t x) = Atom
+own (WNeg a) = Unary
+own (WAdd a b) = Sum
+own (WSub a b) = Sum
+own (WMul a b) = Term
+own (WPow a n) = Power
+
+unary_up : {ts : List Token} {i j : ℕ} {e : Tree} (w : Room) → (w ≡ OfAtom → ⊥) → Derives ts Unary i j e → Derives ts (sort_of w) i j e
+unary_up OfSum n d = sum (term d no_factor) no_term
+unary_up OfProduct n d = term d no_factor
+unary_up OfUnary n d = d
+unary_up OfAtom n d = absurd (n refl)
+
+atom_up : {ts : List Token} {i j : ℕ} {e : Tree} (w : Room) → Derives ts Atom i j e → Derives ts (sort_of w) i j e
+atom_up OfSum d = sum (term (base (plain d)) no_factor) no_term
+atom_up OfProduct d = term (base (plain d)) no_factor
+atom_up OfUnary d = base (plain d)
+atom_up OfAtom d = d
+
+lift : {ts : List Token} {i j : ℕ} {e : Tree} (w : Room) (t : Written) → fits w t ≡ true → Derives ts (own t) i j e → Derives ts (sort_of w) i j e
+lift w (WNum t) h d = atom_up w d
+lift w (WName t) h d = atom_up w d
+lift w (WInput t x) h d = atom_up w d
+lift OfSum (WNeg a) h d = sum (term d no_factor) no_term
+lift OfProduct (WNeg a) h d = term d no_factor
+lift OfUnary (WNeg a) h d = d
+lift OfAtom (WNeg a) h d = absurd (cc)
+lift OfSum (WPow a n) h d = sum (term (base d) no_factor) no_term
+lift OfProduct (WPow a n) h d = term (base d) no_factor
+lift OfUnary (WPow a n) h d = base d
+lift OfAtom (WPow a n) h d = absurd (cc)
+lift OfSum (WMul a b) h d = sum d no_term
+lift OfProduct (WMul a b) h d = d
+lift OfUnary (WMul a b) h d = absurd (cc)
+lift OfAtom (WMul a b) h d = absurd (cc)
+lift OfSum (WAdd a b) h d = d
+lift OfProduct (WAdd a b) h d = absurd (cc)
+lift OfUnary (WAdd a b) h d = absurd (cc)
+lift OfAtom (WAdd a b) h d = absurd (cc)
+lift OfSum (WSub a b) h d = d
+lift OfProduct (WSub a b) h d = absurd (cc)
+lift OfUnary (WSub a b) h d = absurd (cc)
+lift OfAtom (WSub a b) h d = absurd (cc)
+
+any_fits : (t : Written) → fits OfSum t ≡ true
+any_fits (WNum t) = refl
+any_fits (WName t) = refl
+any_fits (WInput t x) = refl
+any_fits (WNeg a) = refl
+any_fits (WAdd a b) = refl
+any_fits (WSub a b) = refl
+any_fits (WMul a b) = refl
+any_fits (WPow a n) = refl
+
+-- one more operand behind a list of them
+terms_plus : {ts : List Token} {i j k : ℕ} {e f g : Tree} → Derives ts (Terms f) i j e → Is ts j Plus → Derives ts Term (suc j) k g → Derives ts (Terms f) i k (TAdd (span_at ts j) e g)
+terms_plus no_term is d = plus is d no_term
+terms_plus (plus n x y) is d = plus n x (terms_plus y is d)
+terms_plus (less n x y) is d = less n x (terms_plus y is d)
+
+terms_less : {ts : List Token} {i j k : ℕ} {e f g : Tree} → Derives ts (Terms f) i j e → Is ts j Minus → Derives ts Term (suc j) k g → Derives ts (Terms f) i k (TSub (span_at ts j) e g)
+terms_less no_term is d = less is d no_term
+terms_less (plus n x y) is d = plus n x (terms_less y is d)
+terms_less (less n x y) is d = less n x (terms_less y is d)
+
+factors_times : {ts : List Token} {i j k : ℕ} {e f g : Tree} → Derives ts (Factors f) i j e → Is ts j Star → Derives ts Unary (suc j) k g → Derives ts (Factors f) i k (TMul (span_at ts j) e g)
+factors_times no_factor is d = times is d no_factor
+factors_times (times n x y) is d = times n x (factors_times y is d)
+
+sum_plus : {ts : List Token} {i j k : ℕ} {e g : Tree} → Derives ts Sum i j e → Is ts j Plus → Derives ts Term (suc j) k g → Derives ts Sum i k (TAdd (span_at ts j) e g)
+sum_plus (sum x y) is d = sum x (terms_plus y is d)
+
+sum_less : {ts : List Token} {i j k : ℕ} {e g : Tree} → Derives ts Sum i j e → Is ts j Minus → Derives ts Term (suc j) k g → Derives ts Sum i k (TSub (span_at ts j) e g)
+sum_less (sum x y) is d = sum x (terms_less y is d)
+
+term_times : {ts : List Token} {i j k : ℕ} {e g : Tree} → Derives ts Term i j e → Is ts j Star → Derives ts Unary (suc j) k g → Derives ts Term i k (TMul (span_at ts j) e g)
+term_times (term x y) is d = term x (factors_times y is d)
+
+wrap_by : (bytes : List ℕ) (ts : List Token) (w : Room) (t : Written) (v : Bool) → fits w t ≡ v → ((i : ℕ) (rest : List Lexeme) → Sits bytes ts i (inside t rest) → Derived bytes ts (own t) i t rest)
+    → (i : ℕ) (rest : List Lexeme) → Sits bytes ts i (cond v (inside t rest) (word ParL (codes "(") ∷ inside t (word ParR (codes ")") ∷ rest))) → Derived bytes ts (sort_of w) i t rest
+wrap_by bytes ts w t true e f i rest h =
+    let d = f i rest h in
+    record { end = d.end; tree = d.tree; derives = lift w t e d.derives; same = d.same; after = d.after }
+wrap_by bytes ts w t false e f i rest h =
+    let d = f (suc i) (word ParR (codes ")") ∷ rest) h.2 in
+    record { end = suc d.end; tree = d.tree; derives = atom_up w (parens h.0 (lift OfSum t (any_fits t) d.derives) d.after.0); same = d.same; after = d.after.2 }
+
+derived : (bytes : List ℕ) (ts : List Token) (t : Written) → IsNamed t → (i : ℕ) (rest : List Lexeme) → Sits bytes ts i (inside t rest) → Derived bytes ts (own t) i t rest
+derived bytes ts (WNum t) n i rest h = record { end = suc i; tree = TNum (span_at ts i); derives = number h.0; same = ap (λ (w : List ℕ). WNum (names.decimal 0 w)) h.1 ∙ ap (λ (w : ℕ). WNum w) (number_value t n); after = h.2 }
+derived bytes ts (WName t) m i rest h = record { end = suc i; tree = TName (span_at ts i); derives = name h.0; same = ap (λ (w : List ℕ). WName w) h.1; after = h.2 }
+derived bytes ts (WInput t x) m i rest h =
+    let q = h.2.2 in
+    record { end = suc (suc (suc i)); tree = TInput (span_at ts i) (span_at ts (suc (suc i))); derives = input h.0 h.2.0 q.0; same = rw (h.1, q.1) refl; after = q.2 }
+derived bytes ts (WNeg a) m i rest h =
+    let d = wrap_by bytes ts OfUnary a (fits OfUnary a) refl (λ j r g. derived bytes ts a m j r g) (suc i) rest h.2 in
+    record { end = d.end; tree = TNeg (span_at ts i) d.tree; derives = minus h.0 d.derives; same = ap (λ (w : Written). WNeg w) d.same; after = d.after }
+derived bytes ts (WAdd a b) m i rest h =
+    let l = wrap_by bytes ts OfSum a (fits OfSum a) refl (λ j r g. derived bytes ts a m.0 j r g) i (gap ∷ word Plus (codes "+") ∷ gap ∷ wrap OfProduct b (inside b) rest) h in
+    let r = wrap_by bytes ts OfProduct b (fits OfProduct b) refl (λ j r g. derived bytes ts b m.1 j r g) (suc l.end) rest l.after.2 in
+    record { end = r.end; tree = TAdd (span_at ts l.end) l.tree r.tree; derives = sum_plus l.derives l.after.0 r.derives; same = rw (l.same, r.same) refl; after = r.after }
+derived bytes ts (WSub a b) m i rest h =
+    let l = wrap_by bytes ts OfSum a (fits OfSum a) refl (λ j r g. derived bytes ts a m.0 j r g) i (gap ∷ word Minus (codes "-") ∷ gap ∷ wrap OfProduct b (inside b) rest) h in
+    let r = wrap_by bytes ts OfProduct b (fits OfProduct b) refl (λ j r g. derived bytes ts b m.1 j r g) (suc l.end) rest l.after.2 in
+    record { end = r.end; tree = TSub (span_at ts l.end) l.tree r.tree; derives = sum_less l.derives l.after.0 r.derives; same = rw (l.same, r.same) refl; after = r.after }
+derived bytes ts (WMul a b) m i rest h =
+    let l = wrap_by bytes ts OfProduct a (fits OfProduct a) refl (λ j r g. derived bytes ts a m.0 j r g) i (word Star (codes "*") ∷ wrap OfUnary b (inside b) rest) h in
+    let r = wrap_by bytes ts OfUnary b (fits OfUnary b) refl (λ j r g. derived bytes ts b m.1 j r g) (suc l.end) rest l.after.2 in
+    record { end = r.end; tree = TMul (span_at ts l.end) l.tree r.tree; derives = term_times l.derives l.after.0 r.derives; same = rw (l.same, r.same) refl; after = r.after }
+derived bytes ts (WPow a n) m i rest h =
+    let l = wrap_by bytes ts OfAtom a (fits OfAtom a) refl (λ j r g. derived bytes ts a m.0 j r g) i (word Caret (codes "^") ∷ word Number (decimal n) ∷ rest) h in
+    let q = l.after.2 in
+    record { end = suc (suc l.end); tree = TPow (span_at ts l.end) l.tree (span_at ts (suc l.end)); derives = power l.derives l.after.0 q.0; same = rw (l.same, q.1, number_value n m.1) refl; after = q.2 }
+
+-- a tree whose texts are names and numbers is put clearly
+abbrev pub Clears : (List Lexeme → List Lexeme) → Type 0
+Clears f = (rest : List Lexeme) → soft (text_of rest) ≡ true → Clear rest → Clear (f rest)
+
+and_first : (a b : Bool) → (a && b) ≡ true → a ≡ true
+and_first true b h = refl
+and_first false b h = absurd (cc)
+
+no_dot : (b : ℕ) → is_letter b ≡ true → (b == 46) ≡ false
+no_dot b h = grind (arith, nat_tests)
+
+-- no name begins with a dot
+name_undotted : (t : List ℕ) → is_name t ≡ true → (rest : List ℕ) → undotted (t ++ rest) ≡ true
+name_undotted [] h rest = absurd (cc)
+name_undotted (b ∷ bs) h rest = rw (no_dot b (and_first (is_letter b) _ (and_first _ _ h))) refl
+
+clear_by : (t : Written) (v : Bool) → Clears (inside t) → Clears (λ rest. cond v (inside t rest) (word ParL (codes "(") ∷ inside t (word ParR (codes ")") ∷ rest)))
+clear_by t true f = f
+clear_by t false f = λ rest s c. (refl, tt, f (word ParR (codes ")") ∷ rest) refl (refl, tt, c))
+
+clear : (t : Written) → IsNamed t → Clears (inside t)
+clear (WNum t) n = λ rest s c. (number_kind t n, s, c)
+clear (WName t) n = λ rest s c. (name_kind t n, s, c)
+clear (WInput t x) n = λ rest s c. (name_kind t n.0, refl, (refl, name_undotted x n.1 (text_of rest), (name_kind x n.1, s, c)))
+clear (WNeg a) n = λ rest s c. (refl, tt, clear_by a (fits OfUnary a) (clear a n) rest s c)
+clear (WAdd a b) n = λ rest s c. clear_by a (fits OfSum a) (clear a n.0) (gap ∷ word Plus (codes "+") ∷ gap ∷ wrap OfProduct b (inside b) rest) refl (refl, tt, clear_by b (fits OfProduct b) (clear b n.1) rest s c)
+clear (WSub a b) n = λ rest s c. clear_by a (fits OfSum a) (clear a n.0) (gap ∷ word Minus (codes "-") ∷ gap ∷ wrap OfProduct b (inside b) rest) refl (refl, tt, clear_by b (fits OfProduct b) (clear b n.1) rest s c)
+clear (WMul a b) n = λ rest s c. clear_by a (fits OfProduct a) (clear a n.0) (word Star (codes "*") ∷ wrap OfUnary b (inside b) rest) refl (refl, tt, clear_by b (fits OfUnary b) (clear b n.1) rest s c)
+clear (WPow a m) n = λ rest s c. clear_by a (fits OfAtom a) (clear a n.0) (word Caret (codes "^") ∷ word Number (decimal m) ∷ rest) refl (refl, tt, (number_kind m n.1, s, c))
+
+-- a whole expression is derived
+pub whole_back : (bytes : List ℕ) (ts : List Token) (e : Written) → IsNamed e → (i : ℕ) (rest : List Lexeme) → Sits bytes ts i (whole e rest) → Derived bytes ts Sum i e rest
+whole_back bytes ts e n i rest h = wrap_by bytes ts OfSum e (fits OfSum e) refl (λ j r g. derived bytes ts e n j r g) i rest h
+
+-- a whole expression is put clearly
+pub whole_clear : (e : Written) → IsNamed e → Clears (whole e)
+whole_clear e n = clear_by e (fits OfSum e) (clear e n)

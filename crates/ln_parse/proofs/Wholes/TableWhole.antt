@@ -1,0 +1,97 @@
+-- A table of the program is whole.
+use Rattle.std.proofs.Common.{◌≡◌, ℕ, ◌+◌, ◌≤◌, ◌==◌, ◌&&◌, true, List, [], ◌∷◌, length, length-take, map, take, refl, ap, sym, subst, arith}
+use Rattle.std.specs.Prelude.{nat_le}
+use Rattle.std.specs.List.{list_all}
+use Rattle.std.proofs.lemmas.Bool.{and_parts}
+use Rattle.std.proofs.lemmas.List.{length-map}
+use Rattle.ln_tree.specs.declared.name.Name.{Name}
+use Rattle.ln_tree.specs.declared.items.Coord.{Coord}
+use Rattle.ln_tree.specs.declared.items.Site.{Site}
+use Rattle.ln_tree.specs.declared.items.Param.{Param}
+use Rattle.ln_tree.specs.declared.items.Arg.{Arg}
+use Rattle.ln_tree.specs.declared.items.Arg.TheVariants.{Site as IsSite, Param as IsParam}
+use Rattle.ln_tree.specs.declared.pred.Pred.{Pred}
+use Rattle.ln_tree.specs.declared.expr.Expr.{Expr}
+use Rattle.ln_tree.specs.declared.shape.VarInfo.{VarInfo}
+use Rattle.ln_tree.specs.Names.{name_bytes}
+use Rattle.ln_tree.specs.Formula.{formula, tree, tree_of, node_count, node_counts}
+use Rattle.ln_tree.specs.Fits.{is_fit, lets_fit}
+use Rattle.ln_tree.specs.Arguments.{are_of}
+use Rattle.ln_tree.specs.Table.{coord_of, site_of, param_of, arg_of, pred_of, table_of, pred_fits, is_table}
+use Rattle.ln_tree.specs.Whole.{is_whole}
+use Rattle.ln_parse.specs.ReadsBack.{Every}
+use Rattle.ln_parse.specs.WholeTable.{IsShortName, SiteNames, ArgNames, PredKept, IsWhole}
+use Rattle.ln_parse.proofs.Wholes.TestLemmas.{at_most, equal}
+
+taken : (n : ℕ) (xs : List ℕ) → length (take n xs) ≤ n
+taken n xs = omega (arith, length-take n xs)
+
+short_name : (n : Name) → IsShortName (name_bytes n)
+short_name n = let a = n.within in let b = taken n.len n.bytes in (n.named, omega arith)
+
+coords_short : (cs : List Coord) → Every (λ c. IsShortName c.name) (map coord_of cs)
+coords_short [] = tt
+coords_short (c ∷ cs) = (short_name c.name, coords_short cs)
+
+sites_short : (ss : List Site) → Every SiteNames (map site_of ss)
+sites_short [] = tt
+sites_short (s ∷ ss) = (record { name = short_name s.name; coords = coords_short s.coords }, sites_short ss)
+
+params_short : (ps : List Param) → Every (λ c. IsShortName c.name) (map param_of ps)
+params_short [] = tt
+params_short (p ∷ ps) = (short_name p.name, params_short ps)
+
+args_short : (as' : List Arg) → Every ArgNames (map arg_of as')
+args_short [] = tt
+args_short (IsSite n t ∷ as') = (short_name n, args_short as')
+args_short (IsParam p ∷ as') = (tt, args_short as')
+
+names_short : (ns : List Name) → Every IsShortName (map name_bytes ns)
+names_short [] = tt
+names_short (n ∷ ns) = (short_name n, names_short ns)
+
+trees_are : (vars : List VarInfo) (es : List Expr) → map (tree_of vars) es ≡ map (tree vars) (map formula es)
+trees_are vars [] = refl
+trees_are vars (e ∷ es) = ap (λ w. tree_of vars e ∷ w) (trees_are vars es)
+
+pred_kept : (p : Pred) → PredKept (pred_of p)
+pred_kept p =
+    let vars = p.shape.vars in
+    let t1 = are_of p.args vars in
+    let t2 = nat_le (length p.lets) 64 in
+    let t3 = length p.let_names == length p.lets in
+    let t4 = lets_fit (length vars) 0 (map (tree_of vars) p.lets) in
+    let t5 = is_fit (length vars) (length p.lets) (tree_of vars p.root) in
+    let e = and_parts (t1 && t2 && t3 && t4 && t5) (nat_le (node_counts (map formula p.lets) + node_count (formula p.root)) 2048) p.kept in
+    let d = and_parts (t1 && t2 && t3 && t4) t5 e.0 in
+    let c = and_parts (t1 && t2 && t3) t4 d.0 in
+    let b = and_parts (t1 && t2) t3 c.0 in
+    let a = and_parts t1 t2 b.0 in
+    let l = length-map p.lets formula in
+    let m = length-map p.let_names name_bytes in
+    let x = equal (length p.let_names) (length p.lets) b.1 in
+    let y = at_most (length p.lets) 64 a.1 in
+    record {
+      name = short_name p.name;
+      args = args_short p.args;
+      let_names = names_short p.let_names;
+      as_many = omega arith;
+      few_lets = omega arith;
+      lets_fit = subst (λ w. lets_fit (length vars) 0 w ≡ true) (trees_are vars p.lets) c.1;
+      root_fit = subst (λ (w : ℕ). is_fit (length vars) w (tree vars (formula p.root)) ≡ true) (sym l) d.1;
+      few_nodes = at_most _ _ e.1;
+    }
+
+preds_kept : (ps : List Pred) → Every PredKept (map pred_of ps)
+preds_kept [] = tt
+preds_kept (p ∷ ps) = (pred_kept p, preds_kept ps)
+
+-- what its type keeps makes a table whole
+pub table_is_whole : (sites : List Site) (params : List Param) (preds : List Pred) → is_table sites params preds ≡ true → is_whole (table_of sites params preds) ≡ true → IsWhole (table_of sites params preds)
+table_is_whole sites params preds k w =
+    let c = and_parts (nat_le (length sites) 16 && nat_le (length params) 16 && nat_le (length preds) 16) (list_all (pred_fits sites params) preds) k in
+    let b = and_parts (nat_le (length sites) 16 && nat_le (length params) 16) (nat_le (length preds) 16) c.0 in
+    let a = and_parts (nat_le (length sites) 16) (nat_le (length params) 16) b.0 in
+    let x = at_most (length sites) 16 a.0 in let y = at_most (length params) 16 a.1 in let z = at_most (length preds) 16 b.1 in
+    let l = length-map sites site_of in let m = length-map params param_of in let n = length-map preds pred_of in
+    record { sites = sites_short sites; params = params_short params; preds = preds_kept preds; few_sites = omega arith; few_params = omega arith; few_preds = omega arith; whole = w }

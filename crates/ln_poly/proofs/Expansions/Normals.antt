@@ -1,0 +1,141 @@
+-- Polynomials of nodes from those of their operands.
+use Rattle.std.proofs.Common.{◌≡◌, ℕ, ◌+◌, ◌<◌, zero, suc, refl, sym, ◌∙◌, ap, arith, subst, List, [], ◌∷◌, length, get_or, eqb, eq-eqb, false, true, Bool, if◌then◌else◌, ◌++◌, ◌≢◌, ◌^◌, unsigned_abs, ◌⊎◌, inl, inr}
+use Rattle.std.specs.Prelude.{slice_index_or}
+use Rattle.std.proofs.Math.IntN.{ℤ, pos, ◌+ℤ◌, ◌-ℤ◌}
+use Rattle.std.proofs.lemmas.Bool.Decides.{nat_tests}
+use Rattle.std.proofs.lemmas.Int.{ints}
+use Rattle.std.proofs.lemmas.List.Elements.{All-cons, All-nil}
+use Rattle.ln_algebra.proofs.Expanded.Expansion.{zeros, unit_vector}
+use Rattle.ln_algebra.proofs.Expanded.Normal.{normal_is, zero_cases}
+use Rattle.ln_algebra.proofs.Expanded.Shift.{product-same, product_is}
+use Rattle.ln_algebra.specs.Coefficient.{normal_coefficient, product}
+use Rattle.ln_algebra.specs.Stage.{IsMonomial}
+use Rattle.ln_algebra.specs.Vector.{is_zero, same_vector}
+use Rattle.ln_algebra.specs.Terms.{factor_at}
+use Rattle.ln_algebra.specs.Tree.{Add, Input, Mul, Neg, Num, Pow, Sub, Tree}
+use Rattle.ln_tree.specs.Exps.{IsAbove, Pairs, exponents_from, vector}
+use Rattle.ln_poly.specs.Sparse.{AreBelow, IsPoly, Sparse, coefficient_at}
+use Rattle.ln_poly.specs.Expansion.{HasTooManyTerms, IsNormal}
+use Rattle.ln_poly.specs.Ready.{AreNormal}
+use Rattle.ln_poly.proofs.TermLists.Leaves.{no-terms, one-term}
+use Rattle.ln_poly.proofs.TermLists.Products.{over-terms}
+
+-- ---- vectors of leaves
+-- no exponents are those of the vector of zeros
+pub vector-none : (v n : ℕ) → exponents_from v n [] ≡ zeros n
+vector-none v zero = refl
+vector-none v (suc n) = ap (λ z. 0 ∷ z) (vector-none (suc v) n)
+
+-- a variable that came before
+vector-before : (v n u : ℕ) → u < v → exponents_from v n ((u, 1) ∷ []) ≡ zeros n
+vector-before v zero u h = refl
+vector-before v (suc n) u h = let f : eqb u v ≡ false = other u v h in rw f (ap (λ z. 0 ∷ z) (vector-before (suc v) n u (omega arith))) where
+  other : (x y : ℕ) → x < y → eqb x y ≡ false
+  other x y l = grind (arith, nat_tests)
+
+vector-unit : (v n u x : ℕ) → x ≡ v + u → exponents_from v n ((x, 1) ∷ []) ≡ unit_vector n u
+vector-unit v zero u x q = refl
+vector-unit v (suc n) zero x q = let t : eqb x v ≡ true = eq-eqb x v (omega arith) in rw t (ap (λ z. 1 ∷ z) (vector-before (suc v) n x (omega arith)))
+vector-unit v (suc n) (suc u) x q = let f : eqb x v ≡ false = other x v u q in rw f (ap (λ z. 0 ∷ z) (vector-unit (suc v) n u x (omega arith))) where
+  other : (a b k : ℕ) → a ≡ b + suc k → eqb a b ≡ false
+  other a b k l = grind (arith, nat_tests)
+
+-- ---- leaves
+module _ (n : ℕ) where
+  normal-of : (e : Tree) (f : Sparse) → IsPoly f → AreBelow n f → ((m : List ℕ) → length m ≡ n → coefficient_at n f m ≡ normal_coefficient e m) → IsNormal n e f
+  unfolding coefficient_at
+  normal-of e f p b c = record { normal = record { over = over-terms n f; coefficients = c }; form = p; below = b }
+
+  coefficients-of : (e : Tree) (f : Sparse) → IsNormal n e f → (m : List ℕ) → length m ≡ n → coefficient_at n f m ≡ normal_coefficient e m
+  unfolding coefficient_at
+  coefficients-of e f p m h = p.normal.coefficients m h
+
+  none-coefficient : (m : List ℕ) → coefficient_at n [] m ≡ factor_at (record { exponents = zeros n; factor = pos 0 } ∷ []) m
+  unfolding coefficient_at
+  none-coefficient m = by_case (same_vector (zeros n) m) where
+    by_case : (b : Bool) → pos 0 ≡ (if b then pos 0 else pos 0) +ℤ pos 0
+    by_case true = refl
+    by_case false = refl
+
+  some-coefficient : (ps : Pairs) (v : List ℕ) (c : ℤ) (m : List ℕ) → vector n ps ≡ v → coefficient_at n ((ps, c) ∷ []) m ≡ factor_at (record { exponents = v; factor = c } ∷ []) m
+  unfolding coefficient_at
+  some-coefficient ps v c m h = ap (λ u. factor_at (record { exponents = u; factor = c } ∷ []) m) h
+
+  one-below : (ps : Pairs) (c : ℤ) → IsAbove ps n → AreBelow n ((ps, c) ∷ [])
+  one-below ps c a = All-cons (λ t. IsAbove t.0 n) (ps, c) [] a (All-nil (λ t. IsAbove t.0 n))
+
+  -- a number
+  pub number-none : IsNormal n (Num (pos 0)) []
+  number-none = normal-of (Num (pos 0)) [] no-terms (All-nil (λ t. IsAbove t.0 n)) (λ m h. none-coefficient m ∙ sym (normal_is n (Num (pos 0)) tt m h))
+
+  pub number-some : (c : ℤ) → IsPoly (([], c) ∷ []) → IsNormal n (Num c) (([], c) ∷ [])
+  number-some c p = normal-of (Num c) (([], c) ∷ []) p (one-below [] c tt) (λ m h. some-coefficient [] (zeros n) c m (vector-none 0 n) ∙ sym (normal_is n (Num c) tt m h))
+
+  -- a variable
+  pub input-normal : (v : ℕ) → v < n → IsPoly (((v, 1) ∷ [], pos 1) ∷ []) → IsNormal n (Input v) (((v, 1) ∷ [], pos 1) ∷ [])
+  input-normal v l p = normal-of (Input v) (((v, 1) ∷ [], pos 1) ∷ []) p (one-below ((v, 1) ∷ []) (pos 1) (l, tt)) (λ m h. some-coefficient ((v, 1) ∷ []) (unit_vector n v) (pos 1) m (vector-unit 0 n v v (omega arith)) ∙ sym (normal_is n (Input v) l m h))
+
+  -- ---- operations
+  pub neg-normal : (e : Tree) (f z h : Sparse) → IsNormal n e f → IsNormal n (Num (pos 0)) z → IsPoly h → AreBelow n h → ((m : List ℕ) → coefficient_at n h m ≡ coefficient_at n z m -ℤ coefficient_at n f m) → IsNormal n (Neg e) h
+  neg-normal e f z h p q r b c = normal-of (Neg e) h r b (λ m l. omega (arith, ints, c m, coefficients-of e f p m l, zero-coefficient m l)) where
+    zero-coefficient : (m : List ℕ) → length m ≡ n → coefficient_at n z m ≡ pos 0
+    zero-coefficient m l = coefficients-of (Num (pos 0)) z q m l ∙ by_case (is_zero m) where
+      by_case : (t : Bool) → (if t then pos 0 else pos 0) ≡ pos 0
+      by_case true = refl
+      by_case false = refl
+
+  pub add-normal : (d e : Tree) (f g h : Sparse) → IsNormal n d f → IsNormal n e g → IsPoly h → AreBelow n h → ((m : List ℕ) → coefficient_at n h m ≡ coefficient_at n f m +ℤ coefficient_at n g m) → IsNormal n (Add d e) h
+  add-normal d e f g h p q r b c = normal-of (Add d e) h r b (λ m l. omega (arith, ints, c m, coefficients-of d f p m l, coefficients-of e g q m l))
+
+  pub sub-normal : (d e : Tree) (f g h : Sparse) → IsNormal n d f → IsNormal n e g → IsPoly h → AreBelow n h → ((m : List ℕ) → coefficient_at n h m ≡ coefficient_at n f m -ℤ coefficient_at n g m) → IsNormal n (Sub d e) h
+  sub-normal d e f g h p q r b c = normal-of (Sub d e) h r b (λ m l. omega (arith, ints, c m, coefficients-of d f p m l, coefficients-of e g q m l))
+
+  pub mul-normal : (d e : Tree) (f g h : Sparse) → IsNormal n d f → IsNormal n e g → IsPoly h → AreBelow n h → ((m : List ℕ) → length m ≡ n → coefficient_at n h m ≡ product (coefficient_at n f) (coefficient_at n g) m) → IsNormal n (Mul d e) h
+  mul-normal d e f g h p q r b c =
+      normal-of (Mul d e) h r b (λ m l.
+      c m l
+      ∙ product-same (coefficient_at n f) (coefficient_at n g) (normal_coefficient d) (normal_coefficient e) n (coefficients-of d f p) (coefficients-of e g q) m l
+      ∙ sym (product_is (normal_coefficient d) (normal_coefficient e) m))
+
+  -- e^0 is 1, and e^(k + 1) is e^k times e
+  pub power-none : (e : Tree) (f : Sparse) → IsNormal n (Num (pos 1)) f → IsNormal n (Pow e 0) f
+  power-none e f p = normal-of (Pow e 0) f p.form p.below (coefficients-of (Num (pos 1)) f p)
+
+  pub power-more : (e : Tree) (k : ℕ) (f : Sparse) → IsNormal n (Mul (Pow e k) e) f → IsNormal n (Pow e (suc k)) f
+  power-more e k f p = normal-of (Pow e (suc k)) f p.form p.below (coefficients-of (Mul (Pow e k) e) f p)
+
+  pub power-many : (e : Tree) (k : ℕ) → HasTooManyTerms n (Mul (Pow e k) e) → HasTooManyTerms n (Pow e (suc k))
+  power-many e k h = record { vectors = h.vectors; distinct = h.distinct; monomials = λ m i. of_product m (h.monomials m i); many = h.many } where
+    of_product : (m : List ℕ) → IsMonomial n (Mul (Pow e k) e) m → IsMonomial n (Pow e (suc k)) m
+    of_product m t = record { size = t.size; nonzero = t.nonzero }
+
+  pub power-many-back : (e : Tree) (k : ℕ) → HasTooManyTerms n (Pow e (suc k)) → HasTooManyTerms n (Mul (Pow e k) e)
+  power-many-back e k h = record { vectors = h.vectors; distinct = h.distinct; monomials = λ m i. of_power m (h.monomials m i); many = h.many } where
+    of_power : (m : List ℕ) → IsMonomial n (Pow e (suc k)) m → IsMonomial n (Mul (Pow e k) e) m
+    of_power m t = record { size = t.size; nonzero = t.nonzero }
+
+  -- ---- lets
+  pub let-normal : (es : List Tree) (fs : List Sparse) (j : ℕ) (d : Sparse) → AreNormal n es fs → j < length fs → IsNormal n (slice_index_or es j (Num (pos 0))) (get_or fs j d)
+  let-normal [] [] j d a l = absurd (omega arith)
+  let-normal [] (f ∷ fs) j d a l = absurd a
+  let-normal (e ∷ es) [] j d a l = absurd a
+  let-normal (e ∷ es) (f ∷ fs) zero d a l = a.0
+  let-normal (e ∷ es) (f ∷ fs) (suc j) d a l = let-normal es fs j d a.1 (omega arith)
+
+  pub lets-more : (es : List Tree) (fs : List Sparse) (e : Tree) (f : Sparse) → AreNormal n es fs → IsNormal n e f → AreNormal n (es ++ e ∷ []) (fs ++ f ∷ [])
+  lets-more [] [] e f a p = (p, tt)
+  lets-more [] (g ∷ fs) e f a p = absurd a
+  lets-more (d ∷ es) [] e f a p = absurd a
+  lets-more (d ∷ es) (g ∷ fs) e f a p = (a.0, lets-more es fs e f a.1 p)
+
+  pub number-normal : (c : ℤ) (f : Sparse) → unsigned_abs c < 2 ^ 127 → (c ≡ pos 0 → f ≡ []) → (c ≢ pos 0 → f ≡ ([], c) ∷ []) → IsNormal n (Num c) f
+  number-normal c f l h k = by_case (zero_cases c) where
+    by_case : (c ≡ pos 0) ⊎ (c ≡ pos 0 → ⊥) → IsNormal n (Num c) f
+    by_case (inl e) = subst (λ z. IsNormal n (Num z) f) (sym e) (subst (IsNormal n (Num (pos 0))) (sym (h e)) number-none)
+    by_case (inr d) = subst (IsNormal n (Num c)) (sym (k d)) (number-some c (one-term [] c tt d l))
+
+  pub input-at : (v : ℕ) (f : Sparse) → v < n → f ≡ ((v, 1) ∷ [], pos 1) ∷ [] → IsNormal n (Input v) f
+  input-at v f l h = subst (IsNormal n (Input v)) (sym h) (input-normal v l (one-term ((v, 1) ∷ []) (pos 1) (omega arith, omega arith, tt, tt) (λ e. cc) (omega arith)))
+
+  pub let-at : (es : List Tree) (fs : List Sparse) (j : ℕ) (d f : Sparse) → AreNormal n es fs → j < length fs → f ≡ get_or fs j d → IsNormal n (slice_index_or es j (Num (pos 0))) f
+  let-at es fs j d f a l h = subst (IsNormal n (slice_index_or es j (Num (pos 0)))) (sym h) (let-normal es fs j d a l)

@@ -1,0 +1,236 @@
+-- Weights, pair by pair and term by term.
+use Rattle.std.proofs.Common.{◌≡◌, ℕ, ◌+◌, ◌*◌, ◌<◌, ◌≤◌, ◌^◌, zero, suc, refl, sym, ◌∙◌, ap, subst, arith, List, [], ◌∷◌, length, ◌-◌, take, get_or, true, false, eqb, eq-eqb, unsigned_abs, add-one}
+use Rattle.std.specs.Prelude.{MatchOption, None, Option, Some, slice_get}
+use Rattle.std.proofs.Math.IntN.{ℤ}
+use Rattle.std.proofs.Math.Nat.{pow-zero, pow-suc, mul-le-mul_left}
+use Rattle.std.proofs.lemmas.Nat.{pow-add}
+use Rattle.std.proofs.lemmas.List.{take_all}
+use Rattle.std.proofs.lemmas.Bool.Decides.{nat_tests}
+use Rattle.std.proofs.lemmas.List.Sums.{sum_by-cons, sum_by_more, sum_by-take-le}
+use Rattle.std.proofs.lemmas.List.Elements.{All-head, All-tail}
+use Rattle.ln_algebra.proofs.Bounding.Weights.{four_ℕ}
+use Rattle.ln_algebra.specs.Terms.{Term}
+use Rattle.ln_algebra.specs.Vector.{plus}
+use Rattle.ln_algebra.specs.Weights.{monomial_weight, weighted_sum}
+use Rattle.ln_bound.specs.Light.{most}
+use Rattle.ln_bound.specs.Value.{size_or, sizes, weight_or, weights}
+use Rattle.ln_tree.specs.declared.shape.VarInfo.{VarInfo}
+use Rattle.ln_tree.specs.Exps.{IsAbove, Pairs, exponents_from, vector}
+use Rattle.ln_poly.specs.Sparse.{AreBelow, Sparse, terms_of}
+use Rattle.ln_poly.specs.Weight.{IsWeighed, grown, grown_or, pairs_weight, term_weight, total_weight}
+use Rattle.ln_poly.proofs.TermLists.Products.{length-vector, vector-plus}
+
+-- ---- monomials
+weight-plus : (w : ℕ → ℕ) (a b : List ℕ) → length a ≡ length b → monomial_weight w (plus a b) ≡ monomial_weight w a * monomial_weight w b
+weight-plus w [] [] h = refl
+weight-plus w [] (k ∷ b) h = absurd (omega arith)
+weight-plus w (n ∷ a) [] h = absurd (omega arith)
+weight-plus w (n ∷ a) (k ∷ b) h =
+    let v : ℕ → ℕ = λ u. w (suc u) in
+    four_ℕ (w 0 ^ n) (w 0 ^ k) (monomial_weight v a) (monomial_weight v b) (w 0 ^ (n + k)) (monomial_weight v (plus a b)) (pow-add (w 0) n k) (weight-plus v a b (omega arith))
+
+-- no pair: the monomial 1
+weight-none : (w : ℕ → ℕ) (v n : ℕ) → monomial_weight w (exponents_from v n []) ≡ 1
+weight-none w v zero = refl
+weight-none w v (suc n) = rw pow-zero (omega (arith, weight-none (λ u. w (suc u)) (suc v) n))
+
+other-number : (x y : ℕ) → x < y → eqb x y ≡ false
+other-number x y h = grind (arith, nat_tests)
+
+number-other : (x y : ℕ) → y < x → eqb x y ≡ false
+number-other x y h = grind (arith, nat_tests)
+
+-- a variable that came before
+weight-before : (w : ℕ → ℕ) (v n u e : ℕ) → u < v → monomial_weight w (exponents_from v n ((u, e) ∷ [])) ≡ 1
+weight-before w v zero u e h = refl
+weight-before w v (suc n) u e h =
+    let f : eqb u v ≡ false = other-number u v h in
+    rw f (rw pow-zero (omega (arith, weight-before (λ x. w (suc x)) (suc v) n u e (omega arith))))
+
+weight-single : (w : ℕ → ℕ) (v n u x e : ℕ) → x ≡ v + u → u < n → monomial_weight w (exponents_from v n ((x, e) ∷ [])) ≡ w u ^ e
+weight-single w v zero u x e q h = absurd (omega arith)
+weight-single w v (suc n) zero x e q h =
+    let t : eqb x v ≡ true = eq-eqb x v (omega arith) in
+    rw t (omega (arith, ap (λ z. w 0 ^ (e + 0) * z) (weight-before (λ y. w (suc y)) (suc v) n x e (omega arith)), ap (λ z. w 0 ^ z) (plus_zero e))) where
+      plus_zero : (k : ℕ) → k + 0 ≡ k
+      plus_zero k = omega arith
+weight-single w v (suc n) (suc u) x e q h =
+    let f : eqb x v ≡ false = number-other x v (omega arith) in
+    rw f (rw pow-zero (omega (arith, weight-single (λ y. w (suc y)) (suc v) n u x e (omega arith) (omega arith))))
+
+pub weight-pairs : (w : ℕ → ℕ) (n : ℕ) (ps : Pairs) → IsAbove ps n → monomial_weight w (vector n ps) ≡ pairs_weight w ps
+weight-pairs w n [] a = weight-none w 0 n
+weight-pairs w n (p ∷ ps) a =
+    ap (monomial_weight w) (vector-plus 0 n (p ∷ []) ps (p ∷ ps) (λ u. omega arith))
+    ∙ weight-plus w (vector n (p ∷ [])) (vector n ps) (length-vector 0 n (p ∷ []) ∙ sym (length-vector 0 n ps))
+    ∙ ap (λ z. z * monomial_weight w (vector n ps)) (weight-single w 0 n p.0 p.0 p.1 (omega arith) a.0)
+    ∙ ap (λ z. w p.0 ^ p.1 * z) (weight-pairs w n ps a.1)
+
+-- ---- sums
+pub total-weight : (w : ℕ → ℕ) (n : ℕ) (f : Sparse) → AreBelow n f → weighted_sum w (terms_of n f) ≡ total_weight w f
+unfolding total_weight
+total-weight w n [] a = refl
+total-weight w n (t ∷ f) a =
+    omega (arith, sum_by-cons (term_weight w) t f, total-weight w n f (All-tail (λ z. IsAbove z.0 n) t f a), ap (λ z. unsigned_abs t.1 * z) (weight-pairs w n t.0 (All-head (λ z. IsAbove z.0 n) t f a)))
+
+pub total-more : (w : ℕ → ℕ) (f : Sparse) (i : ℕ) (t : Pairs × ℤ) → i < length f → t ≡ get_or f i t → total_weight w (take (i + 1) f) ≡ total_weight w (take i f) + term_weight w t
+unfolding total_weight
+total-more w f i t h e = omega (arith, sum_by_more (term_weight w) f i t h, ap (term_weight w) e)
+
+pub total-take : (w : ℕ → ℕ) (f : Sparse) (i : ℕ) → total_weight w (take i f) ≤ total_weight w f
+unfolding total_weight
+total-take w f i = sum_by-take-le (term_weight w) f i
+
+pub total-nil : (w : ℕ → ℕ) → total_weight w [] ≡ 0
+unfolding total_weight
+total-nil w = refl
+
+-- one term more is too heavy, and so is the whole
+pub total-heavy : (w : ℕ → ℕ) (f : Sparse) (i : ℕ) (t : Pairs × ℤ) (s : ℕ) → i < length f → t ≡ get_or f i t → s ≡ total_weight w (take i f) → most < s + term_weight w t → most < total_weight w f
+total-heavy w f i t s h e p q = omega (arith, total-more w f i t h e, total-take w f (i + 1))
+
+-- ---- powers
+pub pow-some : (m k : ℕ) → 0 < m → 0 < m ^ k
+pow-some m zero h = rw pow-zero (omega arith)
+pow-some m (suc k) h = rw pow-suc (product-some (m ^ k) m (pow-some m k h) h) where
+  product-some : (a b : ℕ) → 0 < a → 0 < b → 0 < a * b
+  product-some (suc a) (suc b) p q = omega arith
+  product-some zero b p q = absurd (omega arith)
+  product-some (suc a) zero p q = absurd (omega arith)
+
+times-le : (a b : ℕ) → 0 < b → a ≤ a * b
+times-le a zero h = absurd (omega arith)
+times-le a (suc b) h = omega arith
+
+pub pow-le : (m a d : ℕ) → 0 < m → m ^ a ≤ m ^ (a + d)
+pow-le m a d h = rw pow-add (times-le (m ^ a) (m ^ d) (pow-some m d h))
+
+-- a lower power that is too heavy
+pub scaled-heavy : (w m k e p : ℕ) → 0 < m → k < e → p ≡ w * m ^ k → most < p * m → most < w * m ^ e
+scaled-heavy w m k e p h l q r =
+    let d : ℕ = e - (k + 1) in
+    let x : m ^ (k + 1) ≤ m ^ ((k + 1) + d) = pow-le m (k + 1) d h in
+    let y : (k + 1) + d ≡ e = omega arith in
+    let z : m ^ (k + 1) ≤ m ^ e = rw y at x in
+    let u : m ^ (k + 1) ≡ m ^ k * m = rw add-one (pow-suc m k) in
+    let v : p * m ≡ w * (m ^ k * m) = ap (λ t. t * m) q ∙ times-assoc w (m ^ k) m in
+    omega (arith, mul-le-mul_left w z, ap (λ t. w * t) u, v) where
+      times-assoc : (a b c : ℕ) → (a * b) * c ≡ a * (b * c)
+      times-assoc a b c = omega arith
+
+-- ---- pairs
+pub size-some : (vars : List VarInfo) (v : ℕ) → v < length vars → 0 < sizes vars v
+size-some [] v h = absurd (omega arith)
+size-some (i ∷ vars) zero h = omega arith
+size-some (i ∷ vars) (suc v) h = size-some vars v (omega arith)
+
+pub grown-some : (n : ℕ) (vars : List VarInfo) (v : ℕ) → v < length vars → 0 < grown n vars v
+grown-some n [] v h = absurd (omega arith)
+grown-some n (i ∷ vars) zero h = omega arith
+grown-some n (i ∷ vars) (suc v) h = grown-some n vars v (omega arith)
+
+pub size-at : (n : ℕ) (vars : List VarInfo) (ps : Pairs) (i : ℕ) → i < length ps → IsAbove ps (length vars) → 0 < grown n vars (get_or ps i (0, 0)).0
+size-at n vars [] i h a = absurd (omega arith)
+size-at n vars (p ∷ ps) zero h a = grown-some n vars p.0 a.0
+size-at n vars (p ∷ ps) (suc i) h a = size-at n vars ps i (omega arith) a.1
+
+-- the weight of pairs isn't 0 where that of no variable is
+pub weight-some : (n : ℕ) (w : ℕ → ℕ) → ((v : ℕ) → v < n → 0 < w v) → (ps : Pairs) → IsAbove ps n → 0 < pairs_weight w ps
+weight-some n w h [] a = omega arith
+weight-some n w h (p ∷ ps) a = product-some (w p.0 ^ p.1) (pairs_weight w ps) (pow-some (w p.0) p.1 (h p.0 a.0)) (weight-some n w h ps a.1) where
+  product-some : (a b : ℕ) → 0 < a → 0 < b → 0 < a * b
+  product-some (suc a) (suc b) p q = omega arith
+  product-some zero b p q = absurd (omega arith)
+  product-some (suc a) zero p q = absurd (omega arith)
+
+pairs-more : (w : ℕ → ℕ) (ps : Pairs) (i : ℕ) → i < length ps → pairs_weight w (take (i + 1) ps) ≡ pairs_weight w (take i ps) * w (get_or ps i (0, 0)).0 ^ (get_or ps i (0, 0)).1
+pairs-more w [] i h = absurd (omega arith)
+pairs-more w (p ∷ ps) zero h = omega arith
+pairs-more w (p ∷ ps) (suc i) h =
+    let ih : pairs_weight w (take (suc i) ps) ≡ pairs_weight w (take i ps) * w (get_or ps i (0, 0)).0 ^ (get_or ps i (0, 0)).1 = rw add-one at (pairs-more w ps i (omega arith)) in
+    rw add-one (ap (λ z. w p.0 ^ p.1 * z) ih ∙ sym (times-assoc (w p.0 ^ p.1) (pairs_weight w (take i ps)) (w (get_or ps i (0, 0)).0 ^ (get_or ps i (0, 0)).1))) where
+      times-assoc : (a b c : ℕ) → (a * b) * c ≡ a * (b * c)
+      times-assoc a b c = omega arith
+
+pairs-take : (n : ℕ) (vars : List VarInfo) (ps : Pairs) (i : ℕ) → IsAbove ps (length vars) → pairs_weight (grown n vars) (take i ps) ≤ pairs_weight (grown n vars) ps
+pairs-take n vars ps zero a = weight-some (length vars) (grown n vars) (grown-some n vars) ps a
+pairs-take n vars [] (suc i) a = omega arith
+pairs-take n vars (p ∷ ps) (suc i) a = mul-le-mul_left (grown n vars p.0 ^ p.1) (pairs-take n vars ps i a.1)
+
+pub weighed-init : (c : ℕ) (w : ℕ → ℕ) (ps : Pairs) → c ≤ most → IsWeighed c c w ps 0
+weighed-init c w ps h = record { product = omega arith; small = h }
+
+pub weighed-step : (p q c : ℕ) (w : ℕ → ℕ) (ps : Pairs) (i : ℕ) → IsWeighed p c w ps i → i < length ps → q ≡ p * w (get_or ps i (0, 0)).0 ^ (get_or ps i (0, 0)).1 → q ≤ most → IsWeighed q c w ps (i + 1)
+weighed-step p q c w ps i r h e s = record {
+  product = e ∙ ap (λ z. z * w (get_or ps i (0, 0)).0 ^ (get_or ps i (0, 0)).1) r.product ∙ times-assoc c (pairs_weight w (take i ps)) (w (get_or ps i (0, 0)).0 ^ (get_or ps i (0, 0)).1) ∙ ap (λ z. c * z) (sym (pairs-more w ps i h));
+  small = s;
+} where
+  times-assoc : (a b c : ℕ) → (a * b) * c ≡ a * (b * c)
+  times-assoc a b c = omega arith
+
+pub weighed-heavy : (n p c : ℕ) (vars : List VarInfo) (ps : Pairs) (i : ℕ) → IsAbove ps (length vars) → IsWeighed p c (grown n vars) ps i → i < length ps → most < p * grown n vars (get_or ps i (0, 0)).0 ^ (get_or ps i (0, 0)).1 → most < c * pairs_weight (grown n vars) ps
+weighed-heavy n p c vars ps i a r h q =
+    let e : ℕ = grown n vars (get_or ps i (0, 0)).0 ^ (get_or ps i (0, 0)).1 in
+    let x : p * e ≡ c * (pairs_weight (grown n vars) (take i ps) * e) = ap (λ z. z * e) r.product ∙ times-assoc c (pairs_weight (grown n vars) (take i ps)) e in
+    omega (arith, x, ap (λ z. c * z) (pairs-more (grown n vars) ps i h), mul-le-mul_left c (pairs-take n vars ps (i + 1) a)) where
+      times-assoc : (a b c : ℕ) → (a * b) * c ≡ a * (b * c)
+      times-assoc a b c = omega arith
+
+pub weighed-end : (p c : ℕ) (w : ℕ → ℕ) (ps : Pairs) (i : ℕ) → IsWeighed p c w ps i → length ps ≤ i → p ≡ c * pairs_weight w ps
+weighed-end p c w ps i r h = r.product ∙ ap (λ z. c * pairs_weight w z) (take_all i ps h)
+
+pub scaled-step : (w m k p q : ℕ) → p ≡ w * m ^ k → q ≡ p * m → q ≡ w * m ^ (k + 1)
+scaled-step w m k p q e f = f ∙ ap (λ t. t * m) e ∙ times-assoc w (m ^ k) m ∙ ap (λ t. w * t) (sym (ap (λ t. m ^ t) (add-one k) ∙ pow-suc m k)) where
+  times-assoc : (a b c : ℕ) → (a * b) * c ≡ a * (b * c)
+  times-assoc a b c = omega arith
+
+-- ---- the answers of `weight`, whatever the lists are called
+pub heavy-end : (n : ℕ) (vars' vars : List VarInfo) (f' f : Sparse) (i : ℕ) (t : Pairs × ℤ) (s : ℕ) → vars' ≡ vars → f' ≡ f → AreBelow (length vars) f → i < length f' → t ≡ get_or f' i t → s ≡ total_weight (grown n vars') (take i f') → most < s + term_weight (grown n vars') t → most < weighted_sum (grown n vars) (terms_of (length vars) f)
+heavy-end n vars' vars f' f i t s p q b h e x y =
+    let z : most < total_weight (grown n vars) f = subst (λ v. most < total_weight (grown n v) f) p (subst (λ g. most < total_weight (grown n vars') g) q (total-heavy (grown n vars') f' i t s h e x y)) in
+    omega (arith, z, total-weight (grown n vars) (length vars) f b)
+
+pub sum-end : (n : ℕ) (vars' vars : List VarInfo) (f' f : Sparse) (i s : ℕ) → vars' ≡ vars → f' ≡ f → AreBelow (length vars) f → length f' ≤ i → s ≡ total_weight (grown n vars') (take i f') → s ≡ weighted_sum (grown n vars) (terms_of (length vars) f)
+sum-end n vars' vars f' f i s p q b h x =
+    let z : s ≡ total_weight (grown n vars) f = subst (λ v. s ≡ total_weight (grown n v) f) p (subst (λ g. s ≡ total_weight (grown n vars') g) q (x ∙ ap (total_weight (grown n vars')) (take_all i f' h))) in
+    z ∙ sym (total-weight (grown n vars) (length vars) f b)
+
+-- ---- M and w
+grown-none : (vars : List VarInfo) (v : ℕ) → grown 0 vars v ≡ sizes vars v
+grown-none vars v = by_there (slice_get vars v)
+  where
+    by_there : (o : Option VarInfo) → grown_or 0 o ≡ size_or o
+    by_there None = refl
+    by_there (Some i) = omega arith
+
+grown-one : (vars : List VarInfo) (v : ℕ) → grown 1 vars v ≡ weights vars v
+grown-one vars v = by_there (slice_get vars v)
+  where
+    by_there : (o : Option VarInfo) → grown_or 1 o ≡ weight_or o
+    by_there None = refl
+    by_there (Some i) = omega arith
+
+same_monomial : (u w : ℕ → ℕ) → ((v : ℕ) → u v ≡ w v) → (m : List ℕ) → monomial_weight u m ≡ monomial_weight w m
+same_monomial u w h [] = refl
+same_monomial u w h (n ∷ m) =
+    let e = h 0 in
+    let ih = same_monomial (λ v. u (suc v)) (λ v. w (suc v)) (λ v. h (suc v)) m in
+    rw (e, ih) refl
+
+-- a weighted sum over equal weights
+same_sum : (u w : ℕ → ℕ) → ((v : ℕ) → u v ≡ w v) → (f : List Term) → weighted_sum u f ≡ weighted_sum w f
+same_sum u w h [] = refl
+same_sum u w h (t ∷ f) =
+    let e = same_monomial u w h t.exponents in
+    let ih = same_sum u w h f in
+    rw (e, ih) refl
+
+as_sum : (o : Option ℕ) (a b : ℕ) → a ≡ b → MatchOption o (most < a) (λ s. (s ≡ a) × (s ≤ most)) → MatchOption o (most < b) (λ s. (s ≡ b) × (s ≤ most))
+as_sum o a b e h = rw e at h
+
+-- the sum that the code has is the M-weighted sum, or the w-weighted one
+pub as-sizes : (o : Option ℕ) (vars : List VarInfo) (f : List Term) → MatchOption o (most < weighted_sum (grown 0 vars) f) (λ s. (s ≡ weighted_sum (grown 0 vars) f) × (s ≤ most)) → MatchOption o (most < weighted_sum (sizes vars) f) (λ s. (s ≡ weighted_sum (sizes vars) f) × (s ≤ most))
+as-sizes o vars f h = as_sum o (weighted_sum (grown 0 vars) f) (weighted_sum (sizes vars) f) (same_sum (grown 0 vars) (sizes vars) (grown-none vars) f) h
+
+pub as-weights : (o : Option ℕ) (vars : List VarInfo) (f : List Term) → MatchOption o (most < weighted_sum (grown 1 vars) f) (λ s. (s ≡ weighted_sum (grown 1 vars) f) × (s ≤ most)) → MatchOption o (most < weighted_sum (weights vars) f) (λ s. (s ≡ weighted_sum (weights vars) f) × (s ≤ most))
+as-weights o vars f h = as_sum o (weighted_sum (grown 1 vars) f) (weighted_sum (weights vars) f) (same_sum (grown 1 vars) (weights vars) (grown-one vars) f) h

@@ -1,0 +1,5 @@
+-- Terms sorted, with like ones collected.
+pub mod Gathering
+pub mod Equality
+pub mod Merging
+pub mod Collected

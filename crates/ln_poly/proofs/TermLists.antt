@@ -1,0 +1,6 @@
+-- Lists of terms: coefficients, sums, products.
+pub mod Coefficients
+pub mod Products
+pub mod Leaves
+pub mod Counting
+pub mod Negating

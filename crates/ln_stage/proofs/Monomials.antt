@@ -1,0 +1,4 @@
+-- Monomials of a polynomial and stages of an expression.
+pub mod LawLemmas
+pub mod MonomialLemmas
+pub mod StageLemmas

@@ -1,0 +1,6 @@
+-- What is found: segments, numbers, count and weight.
+pub mod FoldLemmas
+pub mod ResultLemmas
+pub mod TallyLemmas
+pub mod SegmentLemmas
+pub mod ListedLemmas

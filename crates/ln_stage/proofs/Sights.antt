@@ -1,0 +1,3 @@
+-- Blocks by first sight.
+pub mod SightLemmas
+pub mod FirstSightLemmas

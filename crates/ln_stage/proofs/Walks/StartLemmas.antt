@@ -1,0 +1,89 @@
+-- The first step of a listing: all terms, and the vector of zeros.
+use Rattle.std.proofs.Common.{◌≡◌, inl, inr, ℕ, zero, suc, ◌+◌, ◌<◌, true, List, [], ◌∷◌, ◌++◌, length, get_or, replicate, refl, sym, ◌∙◌, ap, arith, pos}
+use Rattle.std.specs.Prelude.{All, filter}
+use Rattle.std.specs.List.{range_with_len}
+use Rattle.std.proofs.lemmas.Bool.{le-leb}
+use Rattle.std.proofs.lemmas.List.{get_or-map, length-map, same_lists}
+use Rattle.std.proofs.lemmas.List.Elements.{All-replicate}
+use Rattle.std.proofs.lemmas.List.FromFn.{get_or-map-range_with_len, get_or-range_with_len, length-map-range_with_len, length-range_with_len}
+use Rattle.ln_algebra.specs.Earlier.{Sites}
+use Rattle.ln_algebra.specs.Vector.{covers, zeros}
+use Rattle.ln_algebra.specs.Walk.{IsRanked, IsRanking, Member}
+use Rattle.ln_algebra.proofs.Expanded.Expansion.{length-zeros}
+use Rattle.ln_algebra.proofs.Ordering.Order.{before-irreflexive}
+use Rattle.ln_algebra.proofs.Walking.Stages.{zeros-get}
+use Rattle.ln_tree.specs.declared.shape.VarInfo.{VarInfo}
+use Rattle.ln_tree.specs.Exps.{vector}
+use Rattle.ln_tree.proofs.Powers.{vector-length}
+use Rattle.ln_order.specs.Sites.{ranking_of}
+use Rattle.ln_poly.specs.Sparse.{Sparse, AreBelow, AreRising}
+use Rattle.ln_stage.specs.Kept.{AreFresh, IsStep, all_rows, list_of, listed, rows, term_at}
+use Rattle.ln_stage.specs.Tally.{Tallied, see_all}
+
+-- ---- the variables
+fresh-ranked : (n : ℕ) (sites : Sites) (vs : List ℕ) → IsRanked sites vs → ((v : ℕ) → Member vs v → v < n) → AreFresh n vs
+fresh-ranked n sites [] r h = tt
+fresh-ranked n sites (v ∷ vs) r h = (h v (inl refl), (λ m. before-irreflexive sites v (r.2 v m)), fresh-ranked n sites vs r.3 (λ w m. h w (inr m)))
+
+pub fresh-ranking : (n : ℕ) (sites : Sites) (vs : List ℕ) → IsRanking n sites vs → AreFresh n vs
+fresh-ranking n sites vs r = fresh-ranked n sites vs r.ranked r.below
+
+-- ---- the terms
+pub rows-all : (n : ℕ) (f : Sparse) → rows n f (range_with_len 0 (length f)) ≡ all_rows n f
+rows-all n f =
+    same_lists (rows n f (range_with_len 0 (length f))) (all_rows n f) (length-map-range_with_len (λ i. vector n (term_at f i).0) 0 (length f) ∙ sym (length-map f (λ t. vector n t.0)))
+    (λ k d h. let l : k < length f = omega (arith, h, length-map-range_with_len (λ i. vector n (term_at f i).0) 0 (length f)) in
+    get_or-map-range_with_len (λ i. vector n (term_at f i).0) 0 (length f) k k d l (omega arith) ∙ sym (get_or-map (λ t. vector n t.0) f k ([], pos 0) d l))
+
+covers-zeros : (n : ℕ) (m : List ℕ) → length m ≡ n → covers m (zeros n) ≡ true
+covers-zeros zero [] e = refl
+covers-zeros zero (k ∷ m) e = absurd (omega arith)
+covers-zeros (suc n) [] e = absurd (omega arith)
+covers-zeros (suc n) (k ∷ m) e = rw (le-leb 0 k (omega arith)) (covers-zeros n m (omega (arith, e)))
+
+covered-all : (n : ℕ) (f : Sparse) → filter (λ m. covers m (zeros n)) (all_rows n f) ≡ all_rows n f
+covered-all n [] = refl
+covered-all n (t ∷ f) = rw (covers-zeros n (vector n t.0) (vector-length n t.0), covered-all n f) refl
+
+inside-all : (n : ℕ) → All (λ i. i < n) (range_with_len 0 n)
+inside-all n k d h = let l : k < n = omega (arith, h, length-range_with_len 0 n) in omega (arith, l, get_or-range_with_len 0 n k d l)
+
+-- one number more
+pub range-more : (a n : ℕ) → range_with_len a (n + 1) ≡ range_with_len a n ++ (a + n) ∷ []
+range-more a zero = let e : a + zero ≡ a = omega arith in rw e refl
+range-more a (suc n) =
+    let e : a + suc n ≡ a + 1 + n = omega arith in
+    let q : n + 1 ≡ suc n = omega arith in
+    let ih : range_with_len (a + 1) (suc n) ≡ range_with_len (a + 1) n ++ (a + 1 + n) ∷ [] = rw q at (range-more (a + 1) n) in
+    let z : suc n + 1 ≡ suc (suc n) = omega arith in
+    rw (z, e) (ap (λ x. a ∷ x) ih)
+
+-- ---- the vector
+pub zeros-replicate : (n : ℕ) → replicate n 0 ≡ zeros n
+zeros-replicate zero = refl
+zeros-replicate (suc n) = ap (λ z. 0 ∷ z) (zeros-replicate n)
+
+pub start-step : (f : Sparse) (n : ℕ) (vs kept p : List ℕ) → AreBelow n f → AreRising f → 0 < length f → AreFresh n vs → kept ≡ range_with_len 0 (length f) → p ≡ zeros n → IsStep f vs kept p
+start-step f n vs kept p below rising some r ek ep =
+    let e : length p ≡ n = ap length ep ∙ length-zeros n in
+    record {
+      below = rw e below;
+      rising = rising;
+      fresh = rw e r;
+      inside = rw ek (inside-all (length f));
+      some = omega (arith, some, ap length ek, length-range_with_len 0 (length f));
+      covering = rw (e, ek, ep) (rows-all n f ∙ sym (covered-all n f));
+      none_yet = λ v m. ap (λ z. get_or z v 0) ep ∙ zeros-get n v;
+      small = rw (ep, ← zeros-replicate n) (All-replicate (λ x. x < 128) n 0 (omega arith));
+    }
+
+-- ---- what is listed from there
+pub list-is : (vars : List VarInfo) (f : Sparse) (o vs kept p : List ℕ) → vs ≡ ranking_of vars o → kept ≡ range_with_len 0 (length f) → p ≡ zeros (length vars) → (listed f vs kept p).0 ≡ list_of vars f o
+unfolding list_of
+list-is vars f o vs kept p ev ek ep = rw (ev, ek, ep) refl
+
+pub list-seen : (vars : List VarInfo) (f : Sparse) (o vs kept p : List ℕ) (t : Tallied) → vs ≡ ranking_of vars o → kept ≡ range_with_len 0 (length f) → p ≡ zeros (length vars)
+    → see_all (length p) f t (listed f vs kept p).0 ≡ see_all (length vars) f t (list_of vars f o)
+list-seen vars f o vs kept p t ev ek ep =
+    let e : length p ≡ length vars = ap length ep ∙ length-zeros (length vars) in
+    rw (e, list-is vars f o vs kept p ev ek ep) refl

@@ -1,0 +1,164 @@
+-- Steps of the listing: the terms that are left, and what is listed.
+use Rattle.std.proofs.Common.{◌≡◌, inl, inr, ℕ, zero, suc, ◌+◌, ◌<◌, Bool, true, false, cond, leb, List, [], ◌∷◌, ◌++◌, length, get_or, set, refl, sym, ◌∙◌, ap, arith, if◌then◌else◌, ◌&&◌}
+use Rattle.std.specs.Prelude.{All, filter, nat_le, ◌==◌}
+use Rattle.std.proofs.lemmas.Bool.Decides.{nat_tests}
+use Rattle.std.proofs.lemmas.List.{length-map, get_or-set_other}
+use Rattle.std.proofs.Math.ListN.{length-set}
+use Rattle.std.proofs.lemmas.List.Elements.{All-filter, All-head, All-tail, All-set}
+use Rattle.std.proofs.lemmas.List.Sums.{sum_by-cons}
+use Rattle.ln_algebra.specs.Vector.{covers}
+use Rattle.ln_algebra.specs.Walk.{Found, Member, all_same, at_least, before, steps, unless_none, walk}
+use Rattle.ln_tree.specs.Exps.{Pairs, exponent, vector}
+use Rattle.ln_tree.proofs.Powers.{vector-get, vector-length}
+use Rattle.ln_poly.specs.Sparse.{Sparse, AreBelow, AreRising}
+use Rattle.ln_stage.specs.Kept.{IsStep, all_have, all_rows, high, listed, rows, term_at}
+use Rattle.ln_stage.specs.Lists.{covering}
+use Rattle.ln_stage.specs.Tally.{IsOver, Tallied, number_in, pairs_of, see, see_all}
+use Rattle.ln_stage.proofs.Walks.PairsLemmas.{tests-same}
+
+-- ---- the terms that are left
+-- those with a high exponent
+pub rows-high : (n : ℕ) (f : Sparse) (v e : ℕ) (kept : List ℕ) → v < n → rows n f (high f v e kept) ≡ at_least v e (rows n f kept)
+rows-high n f v e [] h = refl
+rows-high n f v e (i ∷ kept) h = go (nat_le e (exponent v (term_at f i).0)) refl (rows-high n f v e kept h) where
+  go : (t : Bool) → nat_le e (exponent v (term_at f i).0) ≡ t → rows n f (high f v e kept) ≡ at_least v e (rows n f kept)
+      → rows n f (cond t (i ∷ high f v e kept) (high f v e kept)) ≡ (if leb e (get_or (vector n (term_at f i).0) v 0) then vector n (term_at f i).0 ∷ at_least v e (rows n f kept) else at_least v e (rows n f kept))
+  go t q ih =
+      let s : leb e (get_or (vector n (term_at f i).0) v 0) ≡ t = ap (leb e) (vector-get n v (term_at f i).0 h) ∙ q in
+      rw s (both t ih) where
+        both : (t : Bool) → rows n f (high f v e kept) ≡ at_least v e (rows n f kept) → rows n f (cond t (i ∷ high f v e kept) (high f v e kept)) ≡ (if t then vector n (term_at f i).0 ∷ at_least v e (rows n f kept) else at_least v e (rows n f kept))
+        both true r = ap (λ z. vector n (term_at f i).0 ∷ z) r
+        both false r = r
+
+-- a vector with one exponent set, from 0, is covered where it was, by those that have the exponent
+covers-set : (m p : List ℕ) (v e : ℕ) → length m ≡ length p → v < length p → get_or p v 0 ≡ 0 → covers m (set p v e) ≡ (covers m p && leb e (get_or m v 0))
+covers-set [] [] v e s h z = absurd (omega arith)
+covers-set [] (k ∷ p) v e s h z = absurd (omega arith)
+covers-set (n ∷ m) [] v e s h z = absurd (omega arith)
+covers-set (n ∷ m) (k ∷ p) zero e s h z = flip (leb e n) (covers m p) (leb k n) (let q : k ≡ 0 = z in grind (arith, nat_tests, q)) where
+  flip : (x y w : Bool) → w ≡ true → (x && y) ≡ ((w && y) && x)
+  flip true true w q = rw q refl
+  flip true false w q = rw q refl
+  flip false true w q = rw q refl
+  flip false false w q = rw q refl
+covers-set (n ∷ m) (k ∷ p) (suc v) e s h z =
+    ap (λ x. leb k n && x) (covers-set m p v e (omega (arith, s)) (omega (arith, h)) z) ∙ assoc (leb k n) (covers m p) (leb e (get_or m v 0)) where
+      assoc : (x y w : Bool) → (x && (y && w)) ≡ ((x && y) && w)
+      assoc true y w = refl
+      assoc false y w = refl
+
+abbrev AllOfSize : ℕ → List (List ℕ) → Type 0
+AllOfSize n [] = Unit {0}
+AllOfSize n (m ∷ ms) = (length m ≡ n) × AllOfSize n ms
+
+rows-size : (n : ℕ) (f : Sparse) → AllOfSize n (all_rows n f)
+rows-size n [] = tt
+rows-size n (t ∷ f) = (vector-length n t.0, rows-size n f)
+
+-- so are those that cover it
+covering-set : (p : List ℕ) (v e : ℕ) (ms : List (List ℕ)) → AllOfSize (length p) ms → v < length p → get_or p v 0 ≡ 0 → at_least v e (filter (λ m. covers m p) ms) ≡ filter (λ m. covers m (set p v e)) ms
+covering-set p v e [] s h z = refl
+covering-set p v e (m ∷ ms) s h z = go (covers m p) refl (leb e (get_or m v 0)) refl (covers-set m p v e s.0 h z) (covering-set p v e ms s.1 h z) where
+  go : (x : Bool) → covers m p ≡ x → (y : Bool) → leb e (get_or m v 0) ≡ y → covers m (set p v e) ≡ (covers m p && leb e (get_or m v 0)) → at_least v e (filter (λ m. covers m p) ms) ≡ filter (λ m. covers m (set p v e)) ms
+      → at_least v e (cond x (m ∷ filter (λ m. covers m p) ms) (filter (λ m. covers m p) ms)) ≡ cond (covers m (set p v e)) (m ∷ filter (λ m. covers m (set p v e)) ms) (filter (λ m. covers m (set p v e)) ms)
+  go true q true r c ih = let d : covers m (set p v e) ≡ true = rw (q, r) at c in rw (r, d) (ap (λ z. m ∷ z) ih)
+  go true q false r c ih = let d : covers m (set p v e) ≡ false = rw (q, r) at c in rw (r, d) ih
+  go false q y r c ih = let d : covers m (set p v e) ≡ false = rw q at c in rw d ih
+
+fresh-more : (n : ℕ) (vs : List ℕ) (p : List ℕ) (v e : ℕ) → (Member vs v → ⊥) → ((w : ℕ) → Member vs w → get_or p w 0 ≡ 0) → (w : ℕ) → Member vs w → get_or (set p v e) w 0 ≡ 0
+fresh-more n vs p v e h z w m = get_or-set_other p v w e 0 (λ q. h (rw q at m)) ∙ z w m
+
+-- the next step of the listing, where v has the exponent e
+pub step-down : (f : Sparse) (v : ℕ) (vs kept p : List ℕ) (e : ℕ) → IsStep f (v ∷ vs) kept p → e < 128 → 0 < length (high f v e kept) → IsStep f vs (high f v e kept) (set p v e)
+step-down f v vs kept p e s small some =
+    let n : length (set p v e) ≡ length p = length-set p v e in
+    record {
+      below = rw n s.below;
+      rising = s.rising;
+      fresh = rw n s.fresh.2;
+      inside = All-filter (λ i. nat_le e (exponent v (term_at f i).0)) (λ i. i < length f) kept s.inside;
+      some = some;
+      covering = rw n (rows-high (length p) f v e kept s.fresh.0 ∙ ap (at_least v e) s.covering ∙ covering-set p v e (all_rows (length p) f) (rows-size (length p) f) s.fresh.0 (s.none_yet v (inl refl)));
+      none_yet = λ w m. fresh-more (length p) vs p v e s.fresh.1 (λ u k. s.none_yet u (inr k)) w m;
+      small = All-set (λ x. x < 128) p v e small s.small;
+    }
+
+-- ---- the end of a way down
+-- all terms that are left are the vector itself
+all-have : (f : Sparse) (p kept : List ℕ) → AreBelow (length p) f → AreRising f → All (λ i. i < length f) kept → all_have f (pairs_of p) kept ≡ all_same (rows (length p) f kept) p
+all-have f p [] b r h = refl
+all-have f p (i ∷ kept) b r h =
+    let l : i < length f = All-head (λ i. i < length f) i kept h in
+    let t = tests-same (length p) (term_at f i).0 p (r i _ l) (b i _ l) refl in
+    rw (t, all-have f p kept b r (All-tail (λ i. i < length f) i kept h)) refl
+
+rows-some : (n : ℕ) (f : Sparse) (kept : List ℕ) (r : Found) → 0 < length kept → unless_none (rows n f kept) r ≡ r
+rows-some n f [] r h = absurd (omega arith)
+rows-some n f (i ∷ kept) r h = refl
+
+-- how many are left is how many cover the vector
+-- what one term counts for
+abbrev ones : Bool → ℕ
+ones x = cond x 1 0
+
+covering-count : (n : ℕ) (f : Sparse) (p : List ℕ) → length (filter (λ m. covers m p) (all_rows n f)) ≡ covering n f p
+covering-count n [] p = refl
+covering-count n (t ∷ f) p = go (covers (vector n t.0) p) refl (covering-count n f p) where
+  go : (x : Bool) → covers (vector n t.0) p ≡ x → length (filter (λ m. covers m p) (all_rows n f)) ≡ covering n f p → length (cond x (vector n t.0 ∷ filter (λ m. covers m p) (all_rows n f)) (filter (λ m. covers m p) (all_rows n f))) ≡ covering n (t ∷ f) p
+  go true q ih = omega (arith, ih, sum_by-cons (λ t. cond (covers (vector n t.0) p) 1 0) t f, ap ones q)
+  go false q ih = omega (arith, ih, sum_by-cons (λ t. cond (covers (vector n t.0) p) 1 0) t f, ap ones q)
+
+pub kept-count : (f : Sparse) (vs kept p : List ℕ) → IsStep f vs kept p → length kept ≡ covering (length p) f p
+kept-count f vs kept p s = omega (arith, length-map kept (λ i. vector (length p) (term_at f i).0), ap length s.covering, covering-count (length p) f p)
+
+-- what is listed there
+pub leaf-walk : (f : Sparse) (kept p : List ℕ) → IsStep f [] kept p → walk 128 [] (rows (length p) f kept) p ≡ (p ∷ [], all_have f (pairs_of p) kept)
+leaf-walk f kept p s = rows-some (length p) f kept (p ∷ [], all_same (rows (length p) f kept) p) s.some ∙ ap (λ z. (p ∷ [], z)) (sym (all-have f p kept s.below s.rising s.inside))
+
+pub leaf-sees : (f : Sparse) (kept p : List ℕ) (t : Tallied) (a : Pairs) → IsStep f [] kept p → a ≡ pairs_of p → see (length kept) t a ≡ see_all (length p) f t (listed f [] kept p).0
+unfolding listed
+leaf-sees f kept p t a s e = rw (leaf-walk f kept p s, e, kept-count f [] kept p s) refl
+
+pub leaf-cut : (f : Sparse) (kept p : List ℕ) (a : Pairs) → IsStep f [] kept p → a ≡ pairs_of p → all_have f a kept ≡ (listed f [] kept p).1
+unfolding listed
+leaf-cut f kept p a s e = rw (leaf-walk f kept p s, e) refl
+
+-- ---- several stages more
+pub see_all-append : (n : ℕ) (f : Sparse) (t : Tallied) (xs ys : List (List ℕ)) → see_all n f t (xs ++ ys) ≡ see_all n f (see_all n f t xs) ys
+see_all-append n f t [] ys = refl
+see_all-append n f t (x ∷ xs) ys = see_all-append n f (see (covering n f x) t (pairs_of x)) xs ys
+
+see-limits : (cover : ℕ) (t : Tallied) (a : Pairs) → IsOver t → IsOver (see cover t a)
+see-limits cover t a (inl l) = inl (omega (arith, l))
+see-limits cover t a (inr l) = inr (more (number_in t.exps a == length t.exps)) where
+  more : (b : Bool) → t.heavy < (if b then t.weight + cover else t.weight)
+  more true = omega (arith, l)
+  more false = l
+
+-- over the limit, it stays so
+pub over-more : (n : ℕ) (f : Sparse) (t : Tallied) (xs : List (List ℕ)) → IsOver t → IsOver (see_all n f t xs)
+over-more n f t [] h = h
+over-more n f t (x ∷ xs) h = over-more n f (see (covering n f x) t (pairs_of x)) xs (see-limits (covering n f x) t (pairs_of x) h)
+
+-- ---- the exponents in turn
+module _ (go : List (List ℕ) → List ℕ → Found) (v : ℕ) (ms : List (List ℕ)) (p : List ℕ) (k e : ℕ) where
+  some-rows : (r : Found) → 0 < length (at_least v e ms) → unless_none (at_least v e ms) r ≡ r
+  some-rows r h = by (at_least v e ms) h where
+    by : (l : List (List ℕ)) → 0 < length l → unless_none l r ≡ r
+    by [] h = absurd (omega arith)
+    by (m ∷ l) h = refl
+
+  -- none has this exponent
+  pub steps-none : length (at_least v e ms) ≡ 0 → steps go v ms p (suc k) e ≡ ([], false)
+  steps-none h = by (at_least v e ms) h where
+    by : (l : List (List ℕ)) → length l ≡ 0 → unless_none l (before (go (at_least v e ms) (set p v e)) (steps go v ms p k (suc e))) ≡ ([], false)
+    by [] h = refl
+    by (m ∷ l) h = absurd (omega arith)
+
+  -- the cut ends the list
+  pub steps-cut : 0 < length (at_least v e ms) → (go (at_least v e ms) (set p v e)).1 ≡ true → steps go v ms p (suc k) e ≡ go (at_least v e ms) (set p v e)
+  steps-cut h c = some-rows _ h ∙ (rw c refl)
+
+  -- the list goes on
+  pub steps-more : 0 < length (at_least v e ms) → (go (at_least v e ms) (set p v e)).1 ≡ false → steps go v ms p (suc k) e ≡ ((go (at_least v e ms) (set p v e)).0 ++ (steps go v ms p k (suc e)).0, (steps go v ms p k (suc e)).1)
+  steps-more h c = some-rows _ h ∙ (rw c refl)

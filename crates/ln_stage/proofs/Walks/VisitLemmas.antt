@@ -1,0 +1,198 @@
+-- One prefix: what is listed there is its segment.
+use Rattle.std.proofs.Common.{◌≡◌, ◌⊎◌, inl, inr, ℕ, zero, suc, ◌+◌, ◌-◌, ◌<◌, ◌≤◌, Bool, true, false, List, [], ◌∷◌, ◌++◌, length, length-append, get_or, set, take, drop, refl, sym, ◌∙◌, ap, subst, arith}
+use Rattle.std.specs.List.{range_with_len}
+use Rattle.std.proofs.lemmas.List.{get_or-set_other, get_or-set_same, take-append-drop, take_all, take_more}
+use Rattle.std.proofs.lemmas.Bool.{cases_lt}
+use Rattle.std.proofs.Math.Seq.{drop-append_seam, take-append_seam}
+use Rattle.ln_algebra.specs.Vector.{zeros}
+use Rattle.ln_algebra.specs.Walk.{Found, walk}
+use Rattle.ln_algebra.proofs.Expanded.Expansion.{length-zeros}
+use Rattle.ln_tree.specs.declared.shape.VarInfo.{VarInfo}
+use Rattle.ln_tree.specs.Variables.{is_laid_out}
+use Rattle.ln_order.specs.Prefixes.{Follows, IsPrefixOf}
+use Rattle.ln_order.specs.Sites.{ranking_of, sites_of, vars_of}
+use Rattle.ln_order.proofs.Signs.RankingLemmas.{ranking-is}
+use Rattle.ln_poly.specs.Sparse.{Sparse}
+use Rattle.ln_stage.specs.FirstSight.{last_walk, prefix_walk}
+use Rattle.ln_stage.specs.Kept.{AreFresh, all_rows, listed, listed_at, listed_behind, rows, tail}
+use Rattle.ln_stage.specs.SiteWalk.{front_walk, site_walk, unless_cut}
+use Rattle.ln_stage.specs.Visit.{AreCuts, AreCutsFor, cut_before, cut_in, is_cut_at, segment_at}
+use Rattle.ln_stage.specs.Tally.{Tallied, see_all}
+use Rattle.ln_stage.proofs.Walks.SiteLemmas.{fresh-behind}
+use Rattle.ln_stage.proofs.Walks.SiteWalkLemmas.{ranking-join, ranking-last, walk-goes-site-by-site}
+use Rattle.ln_stage.proofs.Walks.StartLemmas.{fresh-ranking, rows-all}
+use Rattle.ln_stage.proofs.Walks.WalkLemmas.{at-zero}
+
+-- ---- a prefix and its last site
+last-split : (p : List ℕ) (n : ℕ) → length p ≡ suc n → p ≡ take n p ++ get_or p n 0 ∷ []
+last-split p n e = sym (take_all (n + 1) p (omega (arith, e))) ∙ take_more p n 0 (omega (arith, e))
+
+last-walked : (b : ℕ) (vars : List VarInfo) (ms : List (List ℕ)) (q : List ℕ) (s : ℕ) (p : List ℕ) (t : ℕ) → last_walk b vars ms q s (p ++ t ∷ []) ≡ (site_walk b vars ms (q ++ s ∷ p) t).0
+last-walked b vars ms q s [] t = refl
+last-walked b vars ms q s (u ∷ p) t =
+    let ih = last-walked b vars ms (q ++ s ∷ []) u p t in
+    ih ∙ ap (λ z. (site_walk b vars ms z t).0) (seam q s (u ∷ p)) where
+      seam : (q : List ℕ) (s : ℕ) (r : List ℕ) → (q ++ s ∷ []) ++ r ≡ q ++ s ∷ r
+      seam [] s r = refl
+      seam (x ∷ q) s r = ap (λ z. x ∷ z) (seam q s r)
+
+pub walked-last : (b : ℕ) (vars : List VarInfo) (ms : List (List ℕ)) (q : List ℕ) (t : ℕ) → prefix_walk b vars ms (q ++ t ∷ []) ≡ (site_walk b vars ms q t).0
+walked-last b vars ms [] t = refl
+walked-last b vars ms (s ∷ q) t = last-walked b vars ms [] s q t
+
+-- behind the cut nothing is listed, before it the site's walk is
+unless-true : (r t : Found) → r.1 ≡ true → unless_cut r t ≡ ([], true)
+unless-true (l, true) t h = refl
+unless-true (l, false) t h = cc
+
+unless-false : (r t : Found) → r.1 ≡ false → unless_cut r t ≡ t
+unless-false (l, true) t h = cc
+unless-false (l, false) t h = refl
+
+pairs : (l : List (List ℕ)) (b : Bool) (r : Found) → l ≡ r.0 → b ≡ r.1 → (l, b) ≡ r
+pairs l b (m, c) e q = ap (λ z. (z, b)) e ∙ ap (λ z. (m, z)) q
+
+module _ (vars : List VarInfo) (f : Sparse) where
+  abbrev the_rows : List (List ℕ)
+  the_rows = all_rows (length vars) f
+
+  -- the segment and the cut, from the walk of the last site
+  at-last : (p : List ℕ) (n : ℕ) → length p ≡ suc n → (segment_at vars f p ≡ (site_walk 127 vars (all_rows (length vars) f) (take n p) (get_or p n 0)).0) × (is_cut_at vars f p ≡ (site_walk 127 vars (all_rows (length vars) f) (take n p) (get_or p n 0)).1)
+  unfolding segment_at is_cut_at
+  at-last p n e = (
+    ap (prefix_walk 127 vars (all_rows (length vars) f)) (last-split p n e) ∙ walked-last 127 vars (all_rows (length vars) f) (take n p) (get_or p n 0),
+    ap (λ z. (front_walk 127 vars (all_rows (length vars) f) z).1) (last-split p n e) ∙ ap (λ z. z.1) (walk-goes-site-by-site 127 vars (all_rows (length vars) f) (take n p) (get_or p n 0)),
+  )
+
+  before-is : (p : List ℕ) (n : ℕ) → length p ≡ suc n → cut_before vars f p ≡ is_cut_at vars f (take n p)
+  before-is [] n e = absurd (omega (arith, e))
+  before-is (x ∷ p) n e = let q : length p ≡ n = omega (arith, e) in ap (λ m. is_cut_at vars f (take m (x ∷ p))) q
+
+  front-cut : (q : List ℕ) (b : Bool) → is_cut_at vars f q ≡ b → (front_walk 127 vars (all_rows (length vars) f) q).1 ≡ b
+  unfolding is_cut_at
+  front-cut q b h = h
+
+  some-cut : (p : List ℕ) → cut_before vars f p ≡ true → (n : ℕ) × (length p ≡ suc n)
+  some-cut [] h = cc
+  some-cut (x ∷ p) h = (length p, refl)
+
+  -- where the cut stands before the prefix, its segment is empty
+  pub nothing-behind : (p : List ℕ) → cut_before vars f p ≡ true → (segment_at vars f p ≡ []) × (is_cut_at vars f p ≡ true)
+  nothing-behind p h =
+      let n = some-cut p h in
+      let a = at-last p n.0 n.1 in
+      let z = unless-true (front_walk 127 vars (all_rows (length vars) f) (take n.0 p)) (tail 127 (vars_of (get_or p n.0 0) vars 0) (ranking_of vars (take n.0 p)) (all_rows (length vars) f) (zeros (length vars))) (front-cut (take n.0 p) true (sym (before-is p n.0 n.1) ∙ h)) in
+      (a.0 ∙ ap (λ y. y.0) z, a.1 ∙ ap (λ y. y.1) z)
+
+  -- ---- what the program lists
+  rows-start : rows (length (zeros (length vars))) f (range_with_len 0 (length f)) ≡ all_rows (length vars) f
+  rows-start = ap (λ z. rows z f (range_with_len 0 (length f))) (length-zeros (length vars)) ∙ rows-all (length vars) f
+
+  -- at the empty prefix
+  pub listed-first : (p vs kept start : List ℕ) → length p ≡ 0 → vs ≡ ranking_of vars p → kept ≡ range_with_len 0 (length f) → start ≡ zeros (length vars) → listed_at f vs kept start 0 ≡ (segment_at vars f p, is_cut_at vars f p)
+  unfolding listed segment_at is_cut_at
+  listed-first [] vs kept start e v k s = at-zero f vs kept start ∙ rw (v, k, s) (ap (λ ms. walk 128 [] ms (zeros (length vars))) rows-start)
+  listed-first (x ∷ p) vs kept start e v k s = absurd (omega (arith, e))
+
+  -- the variables of its last site go first
+  vars-first : (p vs us : List ℕ) (n : ℕ) → length p ≡ suc n → vs ≡ ranking_of vars p → us ≡ vars_of (get_or p n 0) vars 0 → vs ≡ us ++ ranking_of vars (take n p)
+  vars-first p vs us n e v u = v ∙ ap (ranking_of vars) (last-split p n e) ∙ ranking-last vars (take n p) (get_or p n 0) ∙ ap (λ z. z ++ ranking_of vars (take n p)) (sym u)
+
+  within-vars : (p vs us : List ℕ) (n : ℕ) → length p ≡ suc n → vs ≡ ranking_of vars p → us ≡ vars_of (get_or p n 0) vars 0 → length us ≤ length vs
+  within-vars p vs us n e v u = omega (arith, ap length (vars-first p vs us n e v u), length-append us (ranking_of vars (take n p)))
+
+  -- at any other
+  listed-last : (p vs us kept start : List ℕ) (n : ℕ) → length p ≡ suc n → cut_before vars f p ≡ false → vs ≡ ranking_of vars p → us ≡ vars_of (get_or p n 0) vars 0 → kept ≡ range_with_len 0 (length f) → start ≡ zeros (length vars)
+      → listed_behind f (take (length us) vs) (drop (length us) vs) kept start ≡ (segment_at vars f p, is_cut_at vars f p)
+  unfolding listed_behind
+  listed-last p vs us kept start n e c v u k s =
+      let g = vars-first p vs us n e v u in
+      let l : take (length us) vs ≡ us = ap (take (length us)) g ∙ take-append_seam us (ranking_of vars (take n p)) in
+      let r : drop (length us) vs ≡ ranking_of vars (take n p) = ap (drop (length us)) g ∙ drop-append_seam us (ranking_of vars (take n p)) in
+      let a = at-last p n e in
+      let z = unless-false (front_walk 127 vars (all_rows (length vars) f) (take n p)) (tail 127 (vars_of (get_or p n 0) vars 0) (ranking_of vars (take n p)) (all_rows (length vars) f) (zeros (length vars))) (front-cut (take n p) false (sym (before-is p n e) ∙ c)) in
+      let w : listed_behind f (take (length us) vs) (drop (length us) vs) kept start ≡ tail 127 (vars_of (get_or p n 0) vars 0) (ranking_of vars (take n p)) (all_rows (length vars) f) (zeros (length vars)) =
+      ap (λ x. tail 127 x (drop (length us) vs) (rows (length start) f kept) start) (l ∙ u) ∙ ap (λ x. tail 127 (vars_of (get_or p n 0) vars 0) x (rows (length start) f kept) start) r
+      ∙ ap (λ x. tail 127 (vars_of (get_or p n 0) vars 0) (ranking_of vars (take n p)) (rows (length start) f x) start) k
+      ∙ ap (λ x. tail 127 (vars_of (get_or p n 0) vars 0) (ranking_of vars (take n p)) (rows (length x) f (range_with_len 0 (length f))) x) s
+      ∙ ap (λ x. tail 127 (vars_of (get_or p n 0) vars 0) (ranking_of vars (take n p)) x (zeros (length vars))) rows-start in
+      let y : (segment_at vars f p, is_cut_at vars f p) ≡ site_walk 127 vars (all_rows (length vars) f) (take n p) (get_or p n 0) = pairs (segment_at vars f p) (is_cut_at vars f p) (site_walk 127 vars (all_rows (length vars) f) (take n p) (get_or p n 0)) a.0 a.1 in
+      w ∙ sym z ∙ sym y
+
+  -- ---- what the program keeps
+  size-start : (start : List ℕ) → start ≡ zeros (length vars) → length start ≡ length vars
+  size-start start s = ap length s ∙ length-zeros (length vars)
+
+  module _ (p vs kept start sites : List ℕ) (t : Tallied) (v : vs ≡ ranking_of vars p) (k : kept ≡ range_with_len 0 (length f)) (s : start ≡ zeros (length vars)) (w : sites ≡ p) where
+    pub cut-first : length sites ≡ 0 → (listed_at f vs kept start 0).1 ≡ is_cut_at vars f p
+    cut-first e = ap (λ z. z.1) (listed-first p vs kept start (ap length (sym w) ∙ e) v k s)
+
+    pub seen-first : length sites ≡ 0 → see_all (length start) f t (listed_at f vs kept start 0).0 ≡ see_all (length vars) f t (segment_at vars f p)
+    seen-first e = ap (λ z. see_all (length start) f t z.0) (listed-first p vs kept start (ap length (sym w) ∙ e) v k s) ∙ ap (λ n. see_all n f t (segment_at vars f p)) (size-start start s)
+
+    module _ (us : List ℕ) (m : ℕ) (some : 0 < length sites) (u : us ≡ vars_of (get_or sites (length sites - 1) 0) vars 0) (c : cut_before vars f p ≡ false) (size : m ≡ length us) where
+      one-more : length p ≡ suc (length sites - 1)
+      one-more = omega (arith, ap length w, some)
+
+      of-last : us ≡ vars_of (get_or p (length sites - 1) 0) vars 0
+      of-last = u ∙ ap (λ z. vars_of (get_or z (length sites - 1) 0) vars 0) w
+
+      there : listed_behind f (take m vs) (drop m vs) kept start ≡ (segment_at vars f p, is_cut_at vars f p)
+      there = ap (λ n. listed_behind f (take n vs) (drop n vs) kept start) size ∙ listed-last p vs us kept start (length sites - 1) one-more c v of-last k s
+
+      pub cut-last : (listed_behind f (take m vs) (drop m vs) kept start).1 ≡ is_cut_at vars f p
+      cut-last = ap (λ z. z.1) there
+
+      pub seen-last : see_all (length start) f t (listed_behind f (take m vs) (drop m vs) kept start).0 ≡ see_all (length vars) f t (segment_at vars f p)
+      seen-last = ap (λ z. see_all (length start) f t z.0) there ∙ ap (λ n. see_all n f t (segment_at vars f p)) (size-start start s)
+
+      pub last-within : m ≤ length vs
+      last-within = omega (arith, size, within-vars p vs us (length sites - 1) one-more v of-last)
+
+  -- ---- the first step
+  pub fresh-front : (k : ℕ) (p : List ℕ) → is_laid_out k vars ≡ true → IsPrefixOf k p → AreFresh (length vars) (ranking_of vars p)
+  fresh-front k p laid r =
+      let o : List ℕ = r.order in
+      let whole = fresh-ranking (length vars) (sites_of vars r.order) (ranking_of vars r.order) (ranking-is k vars r.order laid r.full.size r.full.each) in
+      let split : ranking_of vars r.order ≡ ranking_of vars (drop r.places r.order) ++ ranking_of vars p = ap (ranking_of vars) (sym (take-append-drop r.places r.order)) ∙ ranking-join vars (take r.places r.order) (drop r.places r.order) ∙ ap (λ z. ranking_of vars (drop r.places r.order) ++ ranking_of vars z) (sym r.front) in
+      let behind = fresh-behind (length vars) (ranking_of vars r.order) (length (ranking_of vars (drop r.places r.order))) whole in
+      subst (AreFresh (length vars)) (ap (drop (length (ranking_of vars (drop r.places r.order)))) split ∙ drop-append_seam (ranking_of vars (drop r.places r.order)) (ranking_of vars p)) behind
+
+  -- ---- what is kept by length
+  pub cut-of : (p : List ℕ) (cuts : List Bool) → AreCuts vars f (length p) p cuts → cut_in cuts (length p) ≡ cut_before vars f p
+  cut-of [] cuts h = refl
+  cut-of (x ∷ p) cuts h = h (length p) (omega arith)
+
+  -- one length more
+  pub cuts-more : (p : List ℕ) (cuts : List Bool) (b : Bool) → length cuts ≡ 6 → length p ≤ 5 → AreCuts vars f (length p) p cuts → b ≡ is_cut_at vars f p → AreCuts vars f (length p + 1) p (set cuts (length p) b)
+  cuts-more p cuts b six few h e j l = go (cases_lt j (length p)) where
+    go : (j < length p) ⊎ (length p ≤ j) → get_or (set cuts (length p) b) j false ≡ is_cut_at vars f (take j p)
+    go (inl m) = get_or-set_other cuts (length p) j b false (λ q. omega (arith, q, m)) ∙ h j m
+    go (inr m) =
+        let q : j ≡ length p = omega (arith, l, m) in
+        rw q (get_or-set_same cuts (length p) b false (omega (arith, six, few)) ∙ e ∙ ap (is_cut_at vars f) (sym (take_all (length p) p (omega arith))))
+
+  -- at the prefix that follows
+  take-less : (j m : ℕ) (xs : List ℕ) → j ≤ m → take j (take m xs) ≡ take j xs
+  take-less zero m xs h = refl
+  take-less (suc j) zero xs h = absurd (omega arith)
+  take-less (suc j) (suc m) [] h = refl
+  take-less (suc j) (suc m) (x ∷ xs) h = ap (λ z. x ∷ z) (take-less j m xs (omega (arith, h)))
+
+  cuts-next : (p q : List ℕ) (cuts : List Bool) → Follows p q → AreCuts vars f (length p + 1) p cuts → AreCuts vars f (length q) q cuts
+  cuts-next p q cuts w h j l =
+      let m : ℕ = length q - 1 in
+      let le : j ≤ length q - 1 = omega (arith, l) in
+      let same : take j p ≡ take j q = sym (take-less j (length q - 1) p le) ∙ ap (take j) w.shared ∙ take-less j (length q - 1) q le in
+      h j (omega (arith, l, w.near)) ∙ ap (is_cut_at vars f) same
+
+  pub cuts-go : (ps : List (List ℕ)) (i : ℕ) (p : List ℕ) (rest : List (List ℕ)) (cuts : List Bool) → ((i : ℕ) → suc i < length ps → Follows (get_or ps i []) (get_or ps (suc i) [])) → drop i ps ≡ p ∷ rest → AreCuts vars f (length p + 1) p cuts → AreCutsFor vars f rest cuts
+  cuts-go [] zero p rest cuts all e h = cc
+  cuts-go [] (suc i) p rest cuts all e h = cc
+  cuts-go (q ∷ ps) (suc i) p rest cuts all e h = cuts-go ps i p rest cuts (λ j l. all (suc j) (omega (arith, l))) e h
+  cuts-go (q ∷ []) zero p rest cuts all e h = let z : [] ≡ rest = cc in subst (λ r. AreCutsFor vars f r cuts) z tt
+  cuts-go (q ∷ (u ∷ ps)) zero p rest cuts all e h =
+      let z : u ∷ ps ≡ rest = cc in
+      let y : q ≡ p = cc in
+      let a : AreCuts vars f (length q + 1) q cuts = rw y h in
+      subst (λ r. AreCutsFor vars f r cuts) z (cuts-next q u cuts (all 0 (omega arith)) a)

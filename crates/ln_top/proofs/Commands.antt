@@ -1,0 +1,9 @@
+-- Each command: what it owes is carried out.
+pub mod TargetLaws
+pub mod CheckLaws
+pub mod ListLaws
+pub mod EmitLaws
+pub mod VerifyLaws
+pub mod SaysLaws
+pub mod RunLaws
+pub mod GenLaws

@@ -1,0 +1,262 @@
+-- `run`: what it owes is carried out by lines, and where it ends.
+use Rattle.std.proofs.Common.{◌≡◌, ℕ, ◌&&◌, Bool, true, false, true≢false, List, [], ◌∷◌, ◌++◌, refl, ap}
+use Rattle.std.proofs.Common.{sym, ◌∙◌, subst, Option, Result, Ok, Err, All}
+use Rattle.std.proofs.lemmas.List.{append-nil}
+use Rattle.std.proofs.lemmas.List.Elements.{All-nil, All-cons, All-head, All-tail}
+use Rattle.ln_base.specs.Outside.{Shown}
+use Rattle.ln_tree.specs.Row.{Row}
+use Rattle.ln_tree.specs.Table.{PredOf}
+use Rattle.ln_code.specs.declared.verdict.Verdict.{Verdict}
+use Rattle.ln_rows.specs.Left.{Records, records_in}
+use Rattle.ln_watch.specs.Panel.{State}
+use Rattle.ln_rows.specs.Record.{read_row}
+use Rattle.ln_rows.specs.declared.record.RowStop.{RowStop}
+use Rattle.ln_rows.proofs.Fields.RangeLemmas.{row_in_range}
+use Rattle.ln_top.specs.declared.status.End.{End}
+use Rattle.ln_top.specs.declared.status.Early.{Early}
+use Rattle.ln_top.specs.declared.status.Early.TheVariants.{Write, Memory}
+use Rattle.ln_top.specs.declared.stop.Stop.TheVariants as stop
+use Rattle.ln_top.specs.declared.stop.Why.TheVariants.{Header}
+use Rattle.ln_top.specs.Said.{Said, Count, count, line}
+use Rattle.ln_top.specs.Steps.{Given}
+use Rattle.ln_top.specs.Columns.{columns_of}
+use Rattle.ln_top.specs.Line as of_record
+use Rattle.ln_top.specs.Line.{IsLineOf, due, refused_, is_read, is_row, is_said, said_text}
+use Rattle.ln_top.specs.Lines.{all_good, Takes, took, tore, left_off, Wrote}
+use Rattle.ln_top.specs.Carried as carried
+use Rattle.ln_top.specs.Carried.{CarriesOut}
+use Rattle.ln_top.specs.Work.{IsLawful, IsWorkEnd}
+use Rattle.ln_top.specs.Work as kind_of
+use Rattle.ln_top.specs.Run as run
+use Rattle.ln_top.specs.Run.{RunStep, StepOf, RunSaid, RunPart, RunEnds, HasRecords, HeaderIs, IsWrongHeader, IsRow, IsNoRow, end_of}
+use Rattle.ln_top.specs.Target.{Belongs, IsGivenBy, TargetOf, pred_in}
+use Rattle.ln_top.proofs.Steps.Carry.{told_carried}
+use Rattle.ln_top.proofs.Commands.TargetLaws.{owed_there}
+use Rattle.ln_top.specs.Watching.{Watching, watching, next_lines, next, last_of}
+use Rattle.ln_top.proofs.Gathering.LinesLaws.{no_last, wrote_all, broke_off}
+use Rattle.ln_top.proofs.Commands.SaysLaws.{said_row}
+use Rattle.ln_top.proofs.Gathering.LinesCarry.{IsByLines}
+
+-- what stands ready for this has these records
+pub has_records : (g : Given) (t : TargetOf) (rows : List ℕ) (records : Records) → IsGivenBy g t → g.texts ≡ rows ∷ []
+    → records ≡ records_in rows → HasRecords g (pred_in t) t.names records
+has_records g t rows records h text r = record { pred = h.pred; columns = h.names; rows = rows; text = text; are = sym r }
+
+-- the first record is the columns' names or not
+pub header_is : (names : List (List ℕ)) (old new : Records) (right : Bool) → (right ≡ true → old ≡ names ∷ new)
+    → (right ≡ false → (rest : Records) → old ≡ names ∷ rest → ⊥) → HeaderIs names old new right
+header_is names old new true h w = h refl
+header_is names [] new false h w = tt
+header_is names (first ∷ rest) new false h w = λ e. w refl rest (ap (λ (f : List (List ℕ)). f ∷ rest) e)
+
+-- the header is wrong
+pub header_carried : (boxes : List State) (g : Given) (p : PredOf) (names : List (List ℕ)) (records : Records) (puts : Count)
+    (result : Result End Early) (was now : Option Shown) → HasRecords g p names records → IsWrongHeader names records
+    → carried.Says (stop.Tell Header) puts result was now
+    → CarriesOut (RunSaid boxes g) (RunPart boxes g) ⊥ ⊥ puts result was now
+header_carried boxes g p names records puts result was now h w s =
+    told_carried (RunSaid boxes g) (RunPart boxes g) ⊥ ⊥ puts Header result was now (run.header p names records h w) s
+
+-- each record has a line
+module _ (t : TargetOf) (belongs : Belongs t.pred t.program) where
+  line_there : (fields : List (List ℕ)) → (text : List ℕ) × IsLineOf (pred_in t) t.names fields text
+  line_there fields = by_read (read_row t.pred.shape.sites t.pred.shape.vars fields) refl
+    where
+      by_read : (r : Result Row RowStop) → read_row t.pred.shape.sites t.pred.shape.vars fields ≡ r
+          → (text : List ℕ) × IsLineOf (pred_in t) t.names fields text
+      by_read (Ok row) e =
+          let v = owed_there t.pred t.program row belongs
+          (row_in_range t.pred.shape.sites t.pred.shape.vars fields row t.pred.shape.kept e) in
+          (_, record { said = Ok v.0; says = due row v.0 e v.1; is = refl })
+      by_read (Err stop) e = (_, record { said = Err stop; says = refused_ stop e; is = refl })
+
+  has : (s : Watching) (fields : List (List ℕ)) → (out : List ℕ) × (err : List ℕ) × (z : Watching) × StepOf t s fields out err z
+  has s fields = let l = line_there fields in (l.0, next_lines l.1.said s, next l.1.said s, record { line = l.1; told = refl; left = refl })
+
+  -- what it owes is by lines
+  pub by_lines : (boxes : List State) (g : Given) (records : Records) → HasRecords g (pred_in t) t.names (t.names ∷ records)
+      → IsByLines (StepOf t) no_last last_of (end_of (all_good (is_row (pred_in t)) records))
+      (watching 0 boxes) records (RunSaid boxes g) (RunPart boxes g)
+  by_lines boxes g records h = record {
+    has = has;
+    whole = λ out err z d.
+        subst (λ x. RunSaid boxes g (record {
+          end = end_of (all_good (is_row (pred_in t)) records);
+          out = x;
+          err = err ++ last_of z;
+        })) (sym (append-nil out))
+        (run.ran (pred_in t) t.names records out err z h d);
+    first = λ done left out err z e d.
+        run.first (pred_in t) t.names done left z (subst (λ (rs : Records). HasRecords g (pred_in t) t.names (t.names ∷ rs)) e h) d;
+  }
+
+-- a record was taken, or a put was cut off, or its line took memory
+pub takes_all : (p : PredOf) (names fields : List (List ℕ)) (w z : Watching) (said : Result Verdict RowStop) (right : Bool)
+    (held grown : List ℕ) (a b : ℕ) (was now : Option Shown)
+    → of_record.Says p fields said → grown ≡ held ++ line (said_text names said)
+    → Wrote [] (next_lines said w) (count a b) true was now → z ≡ next said w → right ≡ is_said said
+    → Takes (RunStep p names) (is_row p) w fields (count a b) (Ok right) held grown was now z
+takes_all p names fields w z said right held grown a b was now s g h l r =
+    let e = wrote_all [] (next_lines said w) (count a b) was now h in
+    took (line (said_text names said)) (next_lines said w) e.0
+    (record { line = record { said = said; says = s; is = refl }; told = refl; left = l })
+    (ap Ok (said_row p fields said right s r)) g e.1
+
+pub takes_cut : (p : PredOf) (names fields : List (List ℕ)) (w z : Watching) (said : Result Verdict RowStop)
+    (held grown : List ℕ) (a b : ℕ) (was now : Option Shown)
+    → of_record.Says p fields said → grown ≡ held ++ line (said_text names said)
+    → Wrote [] (next_lines said w) (count a b) false was now
+    → Takes (RunStep p names) (is_row p) w fields (count a b) (Err Write) held grown was now z
+takes_cut p names fields w z said held grown a b was now s g h =
+    let e = broke_off [] (next_lines said w) (count a b) was now h in
+    tore (line (said_text names said)) (next_lines said w) (next said w)
+    (record { line = record { said = said; says = s; is = refl }; told = refl; left = refl }) e.0 refl e.1
+
+pub takes_none : (p : PredOf) (names fields : List (List ℕ)) (w z : Watching) (held grown : List ℕ) (a : ℕ)
+    (was : Option Shown) → grown ≡ held
+    → Takes (RunStep p names) (is_row p) w fields (count a a) (Err Memory) held grown was was z
+takes_none p names fields w z held grown a was e = left_off refl refl e refl
+
+-- a record that is a row in range, and one that isn't
+as_row : (p : PredOf) (fields : List (List ℕ)) (o : Result Row RowStop) → read_row p.sites p.vars fields ≡ o
+    → is_read o ≡ true → IsRow p fields
+as_row p fields (Ok row) e s = record { row = row; read = e }
+as_row p fields (Err stop) e s = absurd (true≢false (sym s))
+
+as_no_row : (p : PredOf) (fields : List (List ℕ)) (o : Result Row RowStop) → read_row p.sites p.vars fields ≡ o
+    → is_read o ≡ false → IsNoRow p fields
+as_no_row p fields (Ok row) e s = absurd (true≢false s)
+as_no_row p fields (Err stop) e s = record { stop = stop; read = e }
+
+row_is : (p : PredOf) (fields : List (List ℕ)) → IsRow p fields → is_row p fields ≡ true
+row_is p fields h = ap is_read h.read
+
+no_row_is : (p : PredOf) (fields : List (List ℕ)) → IsNoRow p fields → is_row p fields ≡ false
+no_row_is p fields h = ap is_read h.read
+
+and_left : (a b : Bool) → (a && b) ≡ true → a ≡ true
+and_left true b e = refl
+and_left false b e = absurd (true≢false (sym e))
+
+and_right : (a b : Bool) → (a && b) ≡ true → b ≡ true
+and_right true b e = e
+and_right false b e = absurd (true≢false (sym e))
+
+-- records that all are rows
+all_are : (p : PredOf) (records : Records) → all_good (is_row p) records ≡ true → All (IsRow p) records
+all_are p [] e = All-nil (IsRow p)
+all_are p (fields ∷ rest) e =
+    All-cons (IsRow p) fields rest (as_row p fields (read_row p.sites p.vars fields) refl
+    (and_left (is_row p fields) (all_good (is_row p) rest) e))
+    (all_are p rest (and_right (is_row p fields) (all_good (is_row p) rest) e))
+
+all_is : (p : PredOf) (records : Records) → All (IsRow p) records → all_good (is_row p) records ≡ true
+all_is p [] h = refl
+all_is p (fields ∷ rest) h =
+    ap (λ b. b && all_good (is_row p) rest) (row_is p fields (All-head (IsRow p) fields rest h)) ∙ all_is p rest
+    (All-tail (IsRow p) fields rest h)
+
+-- a record among records that is no row
+record NoRowAmong (p : PredOf) (records : Records) : Type 0 where
+  before : Records
+  fields : List (List ℕ)
+  after : Records
+  stands : records ≡ before ++ fields ∷ after
+  none : IsNoRow p fields
+
+some_is_none : (p : PredOf) (records : Records) → all_good (is_row p) records ≡ false → NoRowAmong p records
+some_is_none p [] e = absurd (true≢false e)
+some_is_none p (fields ∷ rest) e = by_first (is_row p fields) refl e (some_is_none p rest)
+  where
+    by_first : (b : Bool) → is_row p fields ≡ b → (b && all_good (is_row p) rest) ≡ false
+        → (all_good (is_row p) rest ≡ false → NoRowAmong p rest) → NoRowAmong p (fields ∷ rest)
+    by_first true f g h =
+        let s = h g in record {
+          before = fields ∷ s.before;
+          fields = s.fields;
+          after = s.after;
+          stands = ap (λ rs. fields ∷ rs) s.stands;
+          none = s.none;
+        }
+    by_first false f g h = record {
+      before = [];
+      fields = fields;
+      after = rest;
+      stands = refl;
+      none = as_no_row p fields (read_row p.sites p.vars fields) refl f;
+    }
+
+not_all : (p : PredOf) (before after : Records) (fields : List (List ℕ)) → IsNoRow p fields
+    → all_good (is_row p) (before ++ fields ∷ after) ≡ false
+not_all p [] after fields n = ap (λ b. b && all_good (is_row p) after) (no_row_is p fields n)
+not_all p (f ∷ fs) after fields n = and_false (is_row p f) (all_good (is_row p) (fs ++ fields ∷ after)) (not_all p fs after fields n)
+  where
+    and_false : (a b : Bool) → b ≡ false → (a && b) ≡ false
+    and_false true b e = e
+    and_false false b e = refl
+
+tells : (boxes : List State) (g : Given) (a : Said) → RunSaid boxes g a → RunEnds g a.end
+tells boxes g a (run.header p names records h x) = run.wrong p names records h x
+tells boxes g a (run.ran p names records out err z h x) = by_good (all_good (is_row p) records) refl
+  where
+    by_good : (b : Bool) → all_good (is_row p) records ≡ b → RunEnds g (end_of b)
+    by_good true e = run.done p names records h (all_are p records e)
+    by_good false e =
+        let s = some_is_none p records e in
+        run.refused p names s.before s.after s.fields (subst (λ (rs : Records). HasRecords g p names (names ∷ rs)) s.stands h) s.none
+
+-- two ways to see what is given are one
+pub same_pred : (g : Given) (p q : PredOf) (names others : List (List ℕ)) (rs ss : Records) → HasRecords g p names rs
+    → HasRecords g q others ss → p ≡ q
+same_pred g p q names others rs ss h k = ap (λ (xs : List PredOf). elim xs [ [] ↦ p | x ∷ rest ↦ x ]) (sym h.pred ∙ k.pred)
+
+pub same_names : (g : Given) (p q : PredOf) (names others : List (List ℕ)) (rs ss : Records) → HasRecords g p names rs
+    → HasRecords g q others ss → names ≡ others
+same_names g p q names others rs ss h k = h.columns ∙ ap (columns_of g.table) (same_pred g p q names others rs ss h k) ∙ sym k.columns
+
+pub same_records : (g : Given) (p q : PredOf) (names others : List (List ℕ)) (rs ss : Records) → HasRecords g p names rs
+    → HasRecords g q others ss → rs ≡ ss
+same_records g p q names others rs ss h k =
+    sym h.are ∙ ap records_in (ap (λ (xs : List (List ℕ)). elim xs [ [] ↦ h.rows | x ∷ rest ↦ x ])
+    (sym h.text ∙ k.text)) ∙ k.are
+
+pub tail_same : {x y : List (List ℕ)} {xs ys : Records} → x ∷ xs ≡ y ∷ ys → xs ≡ ys
+tail_same {xs = xs} e = ap (λ (zs : Records). elim zs [ [] ↦ xs | z ∷ rest ↦ rest ]) e
+
+-- the header is right or wrong
+pub wrong_right : {P : Type 0} (g : Given) (p q : PredOf) (names others : List (List ℕ)) (rs rest : Records)
+    → HasRecords g p names rs → IsWrongHeader names rs → HasRecords g q others (others ∷ rest) → P
+wrong_right g p q names others rs rest h w k =
+    let wrong : IsWrongHeader names (others ∷ rest) = subst (IsWrongHeader names)
+    (same_records g p q names others rs (others ∷ rest) h k) w in
+    absurd (wrong (sym (same_names g p q names others rs (others ∷ rest) h k)))
+
+-- the records behind the header are one, and are all rows or not
+good_or_not : {P : Type 0} (g : Given) (p q : PredOf) (names others : List (List ℕ)) (xs ys : Records)
+    → HasRecords g p names (names ∷ xs) → HasRecords g q others (others ∷ ys) → all_good (is_row p) xs ≡ true
+    → all_good (is_row q) ys ≡ false → P
+good_or_not g p q names others xs ys h k x y =
+    let rows : xs ≡ ys = tail_same (same_records g p q names others (names ∷ xs) (others ∷ ys) h k) in
+    absurd (true≢false (sym x ∙ ap (λ r. all_good (is_row r) xs)
+    (same_pred g p q names others (names ∷ xs) (others ∷ ys) h k) ∙ ap (all_good (is_row q)) rows ∙ y))
+
+one : (g : Given) (a b : End) → RunEnds g a → RunEnds g b → a ≡ b
+one g a b (run.done p names rs h x) (run.done q others ss k y) = refl
+one g a b (run.done p names rs h x) (run.wrong q others ss k y) = wrong_right g q p others names ss rs k y h
+one g a b (run.done p names rs h x) (run.refused q others bs as' fields k y) =
+    good_or_not g p q names others rs (bs ++ fields ∷ as') h k (all_is p rs x) (not_all q bs as' fields y)
+one g a b (run.wrong p names rs h x) (run.done q others ss k y) = wrong_right g p q names others rs ss h x k
+one g a b (run.wrong p names rs h x) (run.wrong q others ss k y) = refl
+one g a b (run.wrong p names rs h x) (run.refused q others bs as' fields k y) = refl
+one g a b (run.refused p names bs as' fields h x) (run.done q others ss k y) =
+    good_or_not g q p others names ss (bs ++ fields ∷ as') k h (all_is q ss y) (not_all p bs as' fields x)
+one g a b (run.refused p names bs as' fields h x) (run.wrong q others ss k y) = refl
+one g a b (run.refused p names bs as' fields h x) (run.refused q others cs ds other k y) = refl
+
+kind : (g : Given) (e : End) → RunEnds g e → IsWorkEnd e
+kind g e (run.done p names rs h x) = kind_of.done
+kind g e (run.wrong p names rs h x) = kind_of.rows
+kind g e (run.refused p names bs as' fields h x) = kind_of.rows
+
+pub lawful : IsLawful RunSaid RunEnds
+lawful = record { tells = tells; one = one; kind = kind }

@@ -1,0 +1,9 @@
+-- Lines and rows, one behind the other, and the watchers.
+pub mod LinesLaws
+pub mod LinesCarry
+pub mod BoxLemmas
+pub mod WatchingLaws
+pub mod OneLine
+pub mod Feeds
+pub mod MadeLemmas
+pub mod MadeRangeLemmas

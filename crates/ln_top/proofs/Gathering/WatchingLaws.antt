@@ -1,0 +1,134 @@
+-- What watchers put for a verdict, and where a put of theirs is cut off.
+use Rattle.std.proofs.Common.{◌≡◌, ℕ, ◌&&◌, List, [], ◌∷◌, ◌++◌, take, refl, ap, sym, ◌∙◌, subst, true}
+use Rattle.std.proofs.Common.{false, Bool, Option, Ok, Err, append_assoc}
+use Rattle.std.specs.Prelude.{Result, ◌==◌, if◌then◌else◌}
+use Rattle.ln_base.specs.Outside.{Shown, appended, counted}
+use Rattle.ln_base.specs.declared.outside.Port.{Port}
+use Rattle.ln_base.specs.declared.outside.Port.TheVariants.{Out, Err as ErrPort}
+use Rattle.ln_base.specs.declared.sign.Sign.{Sign}
+use Rattle.ln_code.specs.declared.verdict.Verdict.{Verdict}
+use Rattle.ln_code.specs.declared.verdict.By.{By}
+use Rattle.ln_rows.specs.declared.record.RowStop.{RowStop}
+use Rattle.ln_watch.specs.declared.watch.Keep.TheVariants.{Stay, Done}
+use Rattle.ln_watch.specs.Fold.{signs_after, deciders_after, first_after, is_full, tally_after, keep_after}
+use Rattle.ln_watch.specs.Panel.{State, state_after, answer, line_of, left_of, said_of, left_after, lines_at, FailsAfter, StopsAt}
+use Rattle.ln_top.proofs.Gathering.BoxLemmas.{lines-append}
+use Rattle.ln_top.proofs.Steps.PutLemmas.{fails_first, fails_behind}
+use Rattle.ln_top.specs.Said.{Count, count, Rises, IsCalm}
+use Rattle.ln_top.specs.Lines.{Wrote, WroteOn, wrote, broke}
+use Rattle.ln_top.specs.Watching.{Watching, watching, told_on, left_on, next_lines, next}
+use Rattle.ln_top.proofs.Steps.Carry.{front_of, out_alone, err_alone}
+use Rattle.ln_top.proofs.Gathering.LinesLaws.{wrote_nothing}
+
+-- ---- a step reads the sign and the decider alone
+abbrev tally_by : ℕ → List ℕ → ℕ → Sign → By → List ℕ
+tally_by kind tally row sign by =
+    if kind == 1 then signs_after tally sign else (if kind == 2 then deciders_after tally by else
+    (if kind == 3 then first_after tally row by else tally))
+
+tally_alike : (kind : ℕ) (tally : List ℕ) (row : ℕ) (v u : Verdict) → v.sign ≡ u.sign → v.by ≡ u.by
+    → tally_after kind tally row v ≡ tally_after kind tally row u
+tally_alike kind tally row v u e f = ap (λ s. tally_by kind tally row s v.by) e ∙ ap (λ b. tally_by kind tally row u.sign b) f
+
+keep_alike : (kind : ℕ) (tally : List ℕ) (row : ℕ) (v u : Verdict) → v.sign ≡ u.sign → v.by ≡ u.by
+    → keep_after kind tally row v ≡ keep_after kind tally row u
+keep_alike kind tally row v u e f = ap (λ t. if kind == 3 && is_full t then Done else Stay) (tally_alike kind tally row v u e f)
+
+state_alike : (row : ℕ) (v u : Verdict) (s : State) → v.sign ≡ u.sign → v.by ≡ u.by
+    → state_after row v s ≡ state_after row u s
+state_alike row v u s e f = ap (λ (t : List ℕ). record { kind = s.kind; tally = t }) (tally_alike s.kind s.tally row v u e f)
+
+pub lines_alike : (row : ℕ) (v u : Verdict) (boxes : List State) → v.sign ≡ u.sign → v.by ≡ u.by
+    → lines_at row v boxes ≡ lines_at row u boxes
+lines_alike row v u [] e f = refl
+lines_alike row v u (s ∷ ss) e f =
+    ap (λ k. said_of k (state_after row v s) ++ lines_at row v ss) (keep_alike s.kind s.tally row v u e f)
+    ∙ ap (λ t. said_of (answer row u s) t ++ lines_at row v ss) (state_alike row v u s e f)
+    ∙ ap (λ t. said_of (answer row u s) (state_after row u s) ++ t) (lines_alike row v u ss e f)
+
+pub left_alike : (row : ℕ) (v u : Verdict) (boxes : List State) → v.sign ≡ u.sign → v.by ≡ u.by
+    → left_after row v boxes ≡ left_after row u boxes
+left_alike row v u [] e f = refl
+left_alike row v u (s ∷ ss) e f =
+    ap (λ k. left_of k (state_after row v s) ++ left_after row v ss) (keep_alike s.kind s.tally row v u e f)
+    ∙ ap (λ t. left_of (answer row u s) t ++ left_after row v ss) (state_alike row v u s e f)
+    ∙ ap (λ t. left_of (answer row u s) (state_after row u s) ++ t) (left_alike row v u ss e f)
+
+pub alike_lines : (v u : Verdict) (w : Watching) → v.sign ≡ u.sign → v.by ≡ u.by → next_lines (Ok v) w ≡ next_lines (Ok u) w
+alike_lines v u w e f = lines_alike (counted w.seen) v u w.boxes e f
+
+pub alike_next : (v u : Verdict) (w : Watching) → v.sign ≡ u.sign → v.by ≡ u.by → next (Ok v) w ≡ next (Ok u) w
+alike_next v u w e f = ap (watching (counted w.seen)) (left_alike (counted w.seen) v u w.boxes e f)
+
+-- ---- without boxes nothing is put and none is left
+pub none_told : (row : ℕ) (said : Result Verdict RowStop) (boxes : List State) → boxes ≡ [] → told_on row said boxes ≡ []
+none_told row (Ok v) boxes e = ap (lines_at row v) e
+none_told row (Err stop) boxes e = refl
+
+pub none_left : (row : ℕ) (said : Result Verdict RowStop) (boxes : List State) → boxes ≡ [] → left_on row said boxes ≡ []
+none_left row (Ok v) boxes e = ap (left_after row v) e
+none_left row (Err stop) boxes e = e
+
+-- ---- puts
+-- a verdict was shown to all boxes, or a put failed: some first bytes of all their lines went out
+stops_short : (row : ℕ) (v : Verdict) (boxes left : List State) (port : Port) (was now : Option Shown)
+    → StopsAt row v boxes left port was now → FailsAfter port (lines_at row v boxes) was now
+stops_short row v boxes left port was now h =
+    let done : State = state_after row v h.done in
+    let e : lines_at row v boxes ≡ (lines_at row v h.seen ++ line_of done) ++ lines_at row v h.later =
+    ap (lines_at row v) h.boxes_are ∙ lines-append row v h.seen (h.done ∷ h.later)
+    ∙ ap (λ k. lines_at row v h.seen ++ (said_of k done ++ lines_at row v h.later)) h.is_done
+    ∙ sym (append_assoc (lines_at row v h.seen) (line_of done) (lines_at row v h.later)) in
+    let behind = fails_behind port (lines_at row v h.seen) (line_of done) was (appended port (lines_at row v h.seen) was) now refl h.puts in
+    subst (λ t. FailsAfter port t was now) (sym e) (fails_first port (lines_at row v h.seen ++ line_of done)
+    (lines_at row v h.later) was now behind)
+
+-- a text was put on a port, or cut off
+pub put_on : (port : Port) (text : List ℕ) (puts : Count) (was now : Option Shown) → IsCalm puts
+    → now ≡ appended port text was → WroteOn port text puts true was now
+put_on Out text puts was now q e = wrote q refl (e ∙ out_alone text was)
+put_on ErrPort text puts was now q e = wrote q refl (e ∙ err_alone text was)
+
+pub cut_on : (port : Port) (text : List ℕ) (puts : Count) (was now : Option Shown) → Rises puts → FailsAfter port text was now
+    → WroteOn port text puts false was now
+cut_on Out text puts was now p f =
+    broke refl p (record {
+      o = take f.n text;
+      e = [];
+      of_out = front_of f.n text;
+      of_err = record { rest = []; is = refl };
+      shown = f.shown ∙ out_alone (take f.n text) was;
+    })
+cut_on ErrPort text puts was now p f =
+    broke refl p (record {
+      o = [];
+      e = take f.n text;
+      of_out = record { rest = []; is = refl };
+      of_err = front_of f.n text;
+      shown = f.shown ∙ err_alone (take f.n text) was;
+    })
+
+pub show_cut : (row : ℕ) (v : Verdict) (boxes left : List State) (port : Port) (puts : Count) (was now : Option Shown)
+    → Rises puts → StopsAt row v boxes left port was now → WroteOn port (lines_at row v boxes) puts false was now
+show_cut row v boxes left port puts was now p h =
+    cut_on port (lines_at row v boxes) puts was now p (stops_short row v boxes left port was now h)
+
+-- ---- what is said of a record was shown
+pub shown_lines : (said : Result Verdict RowStop) (v : Verdict) (w : Watching) (row : ℕ) (puts : Count) (all : Bool)
+    (was now : Option Shown) → said ≡ Ok v → row ≡ counted w.seen
+    → WroteOn ErrPort (lines_at row v w.boxes) puts all was now → Wrote [] (next_lines said w) puts all was now
+shown_lines said v w row puts all was now e r h =
+    subst (λ s. Wrote [] (next_lines s w) puts all was now) (sym e) (subst (λ n. Wrote [] (lines_at n v w.boxes) puts all was now) r h)
+
+pub shown_left : (said : Result Verdict RowStop) (v : Verdict) (w : Watching) (row : ℕ) (boxes : List State) → said ≡ Ok v
+    → row ≡ counted w.seen → boxes ≡ left_after row v w.boxes → watching row boxes ≡ next said w
+shown_left said v w row boxes e r h =
+    ap (watching row) h ∙ ap (λ n. watching n (left_after n v w.boxes)) r ∙ ap (λ s. next s w) (sym e)
+
+pub hidden_lines : (said : Result Verdict RowStop) (stop : RowStop) (w : Watching) (k : ℕ) (was : Option Shown)
+    → said ≡ Err stop → Wrote [] (next_lines said w) (count k k) true was was
+hidden_lines said stop w k was e = subst (λ s. Wrote [] (next_lines s w) (count k k) true was was) (sym e) (wrote_nothing k was was refl)
+
+pub hidden_left : (said : Result Verdict RowStop) (stop : RowStop) (w : Watching) (row : ℕ) → said ≡ Err stop
+    → row ≡ counted w.seen → watching row w.boxes ≡ next said w
+hidden_left said stop w row e r = ap (λ n. watching n w.boxes) r ∙ ap (λ s. next s w) (sym e)

@@ -1,0 +1,162 @@
+-- Chains: one lemma on what they come to, and one for each way to run through a list.
+use Rattle.std.proofs.Common.{◌≡◌, ℕ, ◌<◌, Bool, true, false, List, [], ◌∷◌, ◌++◌, length, refl, ap, sym}
+use Rattle.std.proofs.Common.{◌∙◌, subst, arith, Some, None, append_assoc}
+use Rattle.std.proofs.lemmas.List.{append-nil}
+use Rattle.std.proofs.lemmas.Option.{none-some}
+use Rattle.ln_base.specs.Outside.{Shelf}
+use Rattle.ln_tree.specs.Table.{PredOf}
+use Rattle.ln_parse.proofs.Settling.OneAnswer.{one_table}
+use Rattle.ln_base.specs.declared.span.Span.{Span}
+use Rattle.ln_compile.specs.declared.refusal.Refusal.{Refusal}
+use Rattle.ln_compile.specs.Refused.{span_of}
+use Rattle.ln_compile.proofs.Refusing.OneRefusal.{accepted_alone, refused_one}
+use Rattle.ln_top.specs.declared.stop.Why.{Why}
+use Rattle.ln_top.specs.declared.stop.Why.TheVariants.{Refused}
+use Rattle.ln_top.specs.declared.stop.Place.{Place}
+use Rattle.ln_top.specs.Plan.{Plan}
+use Rattle.ln_top.specs.Source.{IsRefusedAt, place_at}
+use Rattle.ln_top.specs.Steps.{Outcome, stops, missing, gives, Then, stopped, lacks, goes, Gives, Each, Reads, there, long, absent}
+use Rattle.ln_top.specs.Steps.{Compiles, accepted, refused, Finds, found, none, Prepares, most_source, most_file}
+
+-- a step comes to one thing
+abbrev pub One : {A : Type 0} → (Outcome A → Type 0) → Type 0
+One {A} step = (o p : Outcome A) → step o → step p → o ≡ p
+
+-- what stands behind an outcome of its own kind
+abbrev pub value_or : {A : Type 0} → A → Outcome A → A
+value_or a (gives b) = b
+value_or a missing = a
+value_or a (stops why) = a
+
+abbrev pub IsGiven : {A : Type 0} → Outcome A → Type 0
+IsGiven (gives a) = Unit {0}
+IsGiven missing = ⊥
+IsGiven (stops why) = ⊥
+
+abbrev pub IsStop : {A : Type 0} → Outcome A → Type 0
+IsStop (gives a) = ⊥
+IsStop missing = ⊥
+IsStop (stops why) = Unit {0}
+
+abbrev pub why_or : {A : Type 0} → Why → Outcome A → Why
+why_or w (gives b) = w
+why_or w missing = w
+why_or w (stops why) = why
+
+abbrev IsTrueHere : Bool → Type 0
+IsTrueHere true = Unit {0}
+IsTrueHere false = ⊥
+
+pub true_false : true ≡ false → ⊥
+true_false e = subst IsTrueHere e tt
+
+-- A chain of steps that each come to one thing comes to one thing.
+pub one_then : {A B : Type 0} (first : Outcome A → Type 0) (next : A → Outcome B → Type 0) → One first
+    → ((a : A) → One (next a)) → One (Then first next)
+one_then first next f n o p (stopped w s) (stopped v t) = ap stops (ap (why_or w) (f (stops w) (stops v) s t))
+one_then first next f n o p (stopped w s) (lacks t) = absurd (subst IsStop (f (stops w) missing s t) tt)
+one_then first next f n o p (stopped w s) (goes a t y) = absurd (subst IsStop (f (stops w) (gives a) s t) tt)
+one_then first next f n o p (lacks s) (stopped v t) = absurd (subst IsStop (f (stops v) missing t s) tt)
+one_then first next f n o p (lacks s) (lacks t) = refl
+one_then first next f n o p (lacks s) (goes a t y) = absurd (subst IsGiven (f (gives a) missing t s) tt)
+one_then first next f n o p (goes a s x) (stopped v t) = absurd (subst IsGiven (f (gives a) (stops v) s t) tt)
+one_then first next f n o p (goes a s x) (lacks t) = absurd (subst IsGiven (f (gives a) missing s t) tt)
+one_then first next f n o p (goes a s x) (goes b t y) = n b o p (subst (λ c. next c o) (ap (value_or a) (f (gives a) (gives b) s t)) x) y
+
+one_gives : {A : Type 0} (a : A) → One (Gives a)
+one_gives a o p e f = e ∙ sym f
+
+one_each : {A B : Type 0} (step : A → Outcome B → Type 0) → ((a : A) → One (step a)) → (all : List A) → One (Each step all)
+one_each step f [] = one_gives []
+one_each step f (a ∷ rest) =
+    one_then (step a) (λ b. Then (Each step rest) (λ bs. Gives (b ∷ bs))) (f a)
+    (λ b. one_then (Each step rest) (λ bs. Gives (b ∷ bs)) (one_each step f rest) (λ bs. one_gives (b ∷ bs)))
+
+some_same : {A : Type 0} (a b : A) → Some a ≡ Some b → a ≡ b
+some_same a b e = ap (λ o. elim o [ Some x ↦ x | None ↦ a ]) e
+
+-- the told bytes of a file are one
+one_reads : (shelf : Shelf) (limit : ℕ) (name : List ℕ) → One (Reads (Some shelf) limit name)
+one_reads shelf limit name o p (there b e l) (there c f m) = ap gives (some_same b c (sym e ∙ f))
+one_reads shelf limit name o p (there b e l) (long h) =
+    let same : b ≡ h.0 = some_same b h.0 (sym e ∙ h.1) in
+    absurd (omega (arith, l, subst (λ xs. limit < length xs) (sym same) h.2))
+one_reads shelf limit name o p (there b e l) (absent a) = absurd (none-some b (sym a ∙ e))
+one_reads shelf limit name o p (long h) (there c f m) =
+    let same : c ≡ h.0 = some_same c h.0 (sym f ∙ h.1) in
+    absurd (omega (arith, m, subst (λ xs. limit < length xs) (sym same) h.2))
+one_reads shelf limit name o p (long h) (long k) = refl
+one_reads shelf limit name o p (long h) (absent a) = absurd (none-some h.0 (sym a ∙ h.1))
+one_reads shelf limit name o p (absent a) (there c f m) = absurd (none-some c (sym a ∙ f))
+one_reads shelf limit name o p (absent a) (long h) = absurd (none-some h.0 (sym a ∙ h.1))
+one_reads shelf limit name o p (absent a) (absent b) = refl
+
+-- a source is accepted with one table, or refused for one thing at one place
+one_refusal : (bytes : List ℕ) (r q : Refusal) (a b : Place) → IsRefusedAt bytes r a → IsRefusedAt bytes q b
+    → Refused r a ≡ Refused q b
+one_refusal bytes r q a b f g =
+    let same : r ≡ q = refused_one bytes r q f.cause g.cause in
+    let span : f.at ≡ g.at = some_same f.at g.at (sym f.span ∙ ap span_of same ∙ g.span) in
+    let place : a ≡ b = f.start ∙ ap (place_at bytes) span ∙ sym g.start in
+    ap (λ x. Refused x a) same ∙ ap (Refused q) place
+
+one_compiles : (bytes : List ℕ) → One (Compiles bytes)
+one_compiles bytes o p (accepted t a) (accepted u b) = ap gives (one_table bytes t u a.accepted.text b.accepted.text)
+one_compiles bytes o p (accepted t a) (refused r place h) = absurd (accepted_alone bytes t r a.accepted h.cause)
+one_compiles bytes o p (refused r place h) (accepted t a) = absurd (accepted_alone bytes t r a.accepted h.cause)
+one_compiles bytes o p (refused r place h) (refused q other k) = ap stops (one_refusal bytes r q place other h k)
+
+one_finds : (preds : List PredOf) (name : List ℕ) → One (Finds preds name)
+one_finds preds name o p (found a e) (found b f) = ap gives (some_same a b (sym e ∙ f))
+one_finds preds name o p (found a e) (none f) = absurd (none-some a (sym f ∙ e))
+one_finds preds name o p (none e) (found b f) = absurd (none-some b (sym e ∙ f))
+one_finds preds name o p (none e) (none f) = refl
+
+-- the steps of a plan come to one thing over told files
+pub one_prepares : (plan : Plan) (shelf : Shelf) → One (Prepares plan (Some shelf))
+one_prepares plan shelf =
+    one_then _ _ (one_reads shelf most_source plan.source) (λ bytes.
+    one_then _ _ (one_compiles bytes) (λ table.
+    one_then _ _ (one_each (Finds table.preds) (one_finds table.preds) plan.names) (λ preds.
+    one_then _ _ (one_each (Reads (Some shelf) most_file) (one_reads shelf most_file) plan.files) (λ texts.
+    one_gives (record { table = table; preds = preds; texts = texts })))))
+
+-- values in front of what a list comes to
+abbrev pub before : {B : Type 0} → List B → Outcome (List B) → Outcome (List B)
+before done (gives bs) = gives (done ++ bs)
+before done missing = missing
+before done (stops why) = stops why
+
+-- the members before a place gave these values: what the rest comes to, the whole comes to
+abbrev pub Behind : {A B : Type 0} → (A → Outcome B → Type 0) → List A → List A → List B → Type 0
+Behind {A} {B} step all left done = (o : Outcome (List B)) → Each step left o → Each step all (before done o)
+
+pub behind_none : {A B : Type 0} (step : A → Outcome B → Type 0) (all : List A) → Behind step all all []
+behind_none step all (gives bs) e = e
+behind_none step all missing e = e
+behind_none step all (stops why) e = e
+
+before_one : {B : Type 0} (done : List B) (b : B) (o : Outcome (List B))
+    → before done (before (b ∷ []) o) ≡ before (done ++ b ∷ []) o
+before_one done b (gives bs) = ap gives (sym (append_assoc done (b ∷ []) bs))
+before_one done b missing = refl
+before_one done b (stops why) = refl
+
+each_one : {A B : Type 0} (step : A → Outcome B → Type 0) (a : A) (rest : List A) (b : B) → step a (gives b)
+    → (o : Outcome (List B)) → Each step rest o → Each step (a ∷ rest) (before (b ∷ []) o)
+each_one step a rest b s (gives bs) e = goes b s (goes bs e refl)
+each_one step a rest b s missing e = goes b s (lacks e)
+each_one step a rest b s (stops why) e = goes b s (stopped why e)
+
+pub behind_more : {A B : Type 0} (step : A → Outcome B → Type 0) (all left rest : List A) (done more : List B) (a : A) (b : B)
+    → Behind step all left done → left ≡ a ∷ rest → step a (gives b) → more ≡ done ++ b ∷ []
+    → Behind step all rest more
+behind_more step all left rest done more a b h l s m =
+    λ o e. subst (λ p. Each step all p) (before_one done b o ∙ ap (λ d. before d o) (sym m))
+    (h (before (b ∷ []) o) (subst (λ xs. Each step xs (before (b ∷ []) o)) (sym l) (each_one step a rest b s o e)))
+
+-- nothing is left: the whole gave these values
+pub behind_all : {A B : Type 0} (step : A → Outcome B → Type 0) (all left : List A) (done : List B)
+    → Behind step all left done → left ≡ [] → Each step all (gives done)
+behind_all step all left done h l =
+    subst (λ d. Each step all (gives d)) (append-nil done) (h (gives []) (subst (λ xs. Each step xs (gives [])) (sym l) refl))

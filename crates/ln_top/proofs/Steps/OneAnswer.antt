@@ -1,0 +1,174 @@
+-- Words and told files are owed one answer.
+use Rattle.std.proofs.Common.{◌≡◌, ℕ, List, [], ◌∷◌, ◌++◌, map, Option, Some, None, option_map, refl, ap, sym}
+use Rattle.std.proofs.Common.{◌∙◌, subst}
+use Rattle.std.proofs.lemmas.Option.{none-some, same_Some}
+use Rattle.ln_base.specs.Outside.{Shelf}
+use Rattle.ln_watch.specs.Panel.{State, last_lines}
+use Rattle.ln_tree.specs.declared.table.Table.{Table}
+use Rattle.ln_tree.specs.declared.pred.Pred.{Pred}
+use Rattle.ln_tree.specs.Table.{TableOf, PredOf, pred_of}
+use Rattle.ln_rows.specs.Left.{Records}
+use Rattle.ln_compile.specs.Accepted.{AreSound}
+use Rattle.ln_top.specs.declared.words.Command.{Command}
+use Rattle.ln_top.specs.declared.words.Command.TheVariants as command
+use Rattle.ln_top.specs.declared.status.End.TheVariants.{Done}
+use Rattle.ln_top.specs.Said.{Said, whole}
+use Rattle.ln_top.specs.Stop.{said_of}
+use Rattle.ln_top.specs.Plan.{Plan}
+use Rattle.ln_top.specs.Source.{IsAccepted, view}
+use Rattle.ln_top.specs.Steps as step
+use Rattle.ln_top.specs.Steps.{gives, Given, Prepares, Each, Finds, Compiles, named}
+use Rattle.ln_top.specs.Check.{AreCounts, CheckSaid, counted}
+use Rattle.ln_top.specs.Lines.{Lines, all_good}
+use Rattle.ln_top.specs.Line.{is_row}
+use Rattle.ln_top.specs.Run as run
+use Rattle.ln_top.specs.Run.{RunStep, RunSaid, end_of}
+use Rattle.ln_top.specs.Watching.{Watching, watching, last_of}
+use Rattle.ln_top.specs.Gen.{GenStep, GenSaid, made, draws, seeded}
+use Rattle.ln_top.specs.Work.{AreOneValued, IsOneValued, WorkOwes}
+use Rattle.ln_top.specs.Answer.{PlanOwes, stopped, worked, Answer, usage, planned}
+use Rattle.ln_top.proofs.Steps.Chain.{value_or, one_prepares}
+use Rattle.ln_top.proofs.Steps.Likeness.{named_in, named_like}
+use Rattle.ln_top.proofs.Gathering.LinesLaws.{one_lines, SameLines}
+use Rattle.ln_top.proofs.Gathering.OneLine.{one_line, one_counts, says_alike}
+use Rattle.ln_top.proofs.Commands.RunLaws.{same_pred, same_names, same_records, tail_same, wrong_right}
+use Rattle.ln_top.proofs.Commands.GenLaws as gen_laws
+use Rattle.ln_top.proofs.Commands.VerifyLaws as verify_laws
+use Rattle.ln_top.proofs.Steps.TopLaws.{some_plan, stops_gives, same_why, same_given}
+
+-- each of these predicates is the first of some name
+abbrev pub AreFound : List PredOf → List PredOf → Type 0
+AreFound table [] = Unit {0}
+AreFound table (p ∷ ps) = ((name : List ℕ) × (named name table ≡ Some p)) × AreFound table ps
+
+-- what is given stands for a table in memory, whose predicates have no fault
+pub record IsGrounded (g : Given) : Type 0 where
+  pub table : Table
+  pub is : view table ≡ g.table
+  pub sound : AreSound g.table.preds
+  pub found : AreFound g.table.preds g.preds
+
+found_of : (table : List PredOf) (name : List ℕ) (p : PredOf) → Finds table name (gives p) → named name table ≡ Some p
+found_of table name p (step.found _ e) = e
+
+found_each : (table : List PredOf) (names : List (List ℕ)) (preds : List PredOf) → Each (Finds table) names (gives preds)
+    → AreFound table preds
+found_each table [] preds h = subst (AreFound table) (sym (ap (value_or preds) h)) tt
+found_each table (n ∷ ns) preds (step.goes p f (step.goes ps g h)) =
+    subst (AreFound table) (sym (ap (value_or preds) h)) ((n, found_of table n p f), found_each table ns ps g)
+
+pub accepted_of : (bytes : List ℕ) (t : TableOf) → Compiles bytes (gives t) → IsAccepted bytes t
+accepted_of bytes t (step.accepted _ a) = a
+
+grounded_as : (table : TableOf) (preds : List PredOf) (texts : List (List ℕ)) (bytes : List ℕ) → IsAccepted bytes table
+    → AreFound table.preds preds → IsGrounded (record { table = table; preds = preds; texts = texts })
+grounded_as table preds texts bytes a f = record { table = a.table; is = a.is; sound = a.accepted.sound; found = f }
+
+-- what the steps give is grounded
+pub grounded : (plan : Plan) (shelf : Shelf) (g : Given) → Prepares plan (Some shelf) (gives g) → IsGrounded g
+grounded plan shelf g (step.goes bytes r (step.goes table c (step.goes preds n (step.goes texts t h)))) =
+    subst IsGrounded (sym (ap (value_or g) h)) (grounded_as table preds texts bytes (accepted_of bytes table c)
+    (found_each table.preds plan.names preds n))
+
+-- a predicate of it stands in memory
+by_named : (ps : List Pred) (name : List ℕ) (p : PredOf) (o : Option Pred) → option_map pred_of o ≡ Some p
+    → (q : Pred) × (pred_of q ≡ p)
+by_named ps name p None e = absurd (none-some p e)
+by_named ps name p (Some q) e = (q, same_Some (pred_of q) p e)
+
+pub in_memory : (g : Given) (p : PredOf) (rest : List PredOf) → IsGrounded g → g.preds ≡ p ∷ rest
+    → (q : Pred) × (pred_of q ≡ p)
+in_memory g p rest h e =
+    let found : AreFound g.table.preds (p ∷ rest) = subst (AreFound g.table.preds) e h.found in
+    let there : named found.0.0 (map pred_of h.table.preds) ≡ Some p = ap (λ (t : TableOf). named found.0.0 t.preds) h.is
+    ∙ found.0.1 in
+    by_named h.table.preds found.0.0 p (named_in found.0.0 h.table.preds) (named_like found.0.0 h.table.preds ∙ there)
+
+-- `check` says one thing
+check_one : (g : Given) → IsGrounded g → (a b : Said) → CheckSaid g a → CheckSaid g b → a ≡ b
+check_one g h a b (counted x c) (counted y d) =
+    let preds : g.table.preds ≡ map pred_of h.table.preds = sym (ap (λ (t : TableOf). t.preds) h.is) in
+    ap (whole Done) (one_counts h.table.preds (subst (λ ps. AreCounts ps x) preds c) (subst (λ ps. AreCounts ps y) preds d))
+
+-- and so does `run`
+one_step : (q : Pred) (names : List (List ℕ)) (w : Watching) (fields : List (List ℕ)) (o e out err : List ℕ) (y z : Watching)
+    → RunStep (pred_of q) names w fields o e y → RunStep (pred_of q) names w fields out err z → SameLines o e out err y z
+one_step q names w fields o e out err y z s t =
+    let same = says_alike q fields s.line.says t.line.says w in
+    record {
+      outs = one_line q names fields o out s.line t.line;
+      errs = s.told ∙ same.0 ∙ sym t.told;
+      lefts = s.left ∙ same.1 ∙ sym t.left;
+    }
+
+abbrev ran_said : PredOf → Records → List ℕ → List ℕ → Watching → Said
+ran_said p records out err z = record { end = end_of (all_good (is_row p) records); out = out; err = err ++ last_of z }
+
+run_same : (boxes : List State) (q : Pred) (p r : PredOf) (names others : List (List ℕ)) (rs ss : Records)
+    (o e out err : List ℕ) (m z : Watching) → pred_of q ≡ r → p ≡ r → names ≡ others → rs ≡ ss
+    → Lines (RunStep p names) (watching 0 boxes) rs o e m → Lines (RunStep r others) (watching 0 boxes) ss out err z
+    → ran_said p rs o e m ≡ ran_said r ss out err z
+run_same boxes q p r names others rs ss o e out err m z i f n l x y =
+    let x1 = subst (λ t. Lines (RunStep t names) (watching 0 boxes) rs o e m) (f ∙ sym i) x in
+    let x2 = subst (λ (ns : List (List ℕ)). Lines (RunStep (pred_of q) ns) (watching 0 boxes) rs o e m) n x1 in
+    let x3 = subst (λ (zs : Records). Lines (RunStep (pred_of q) others) (watching 0 boxes) zs o e m) l x2 in
+    let y1 = subst (λ t. Lines (RunStep t others) (watching 0 boxes) ss out err z) (sym i) y in
+    let same = one_lines (RunStep (pred_of q) others) (one_step q others) (watching 0 boxes) ss o e out err m z x3 y1 in
+    ap (λ t. ran_said t rs o e m) f ∙ ap (λ (zs : Records). ran_said r zs o e m) l ∙ ap (λ t. ran_said r ss t e m) same.outs
+    ∙ ap (λ t. ran_said r ss out t m) same.errs ∙ ap (ran_said r ss out err) same.lefts
+
+run_one : (boxes : List State) (g : Given) → IsGrounded g → (a b : Said) → RunSaid boxes g a → RunSaid boxes g b → a ≡ b
+run_one boxes g i a b (run.header p names rs h x) (run.header q others ss k y) = refl
+run_one boxes g i a b (run.header p names rs h x) (run.ran q others ss out err z k y) = wrong_right g p q names others rs ss h x k
+run_one boxes g i a b (run.ran p names rs out err z h x) (run.header q others ss k y) = wrong_right g q p others names ss rs k y h
+run_one boxes g i a b (run.ran p names rs o e m h x) (run.ran r others ss out err z k y) =
+    let q = in_memory g r [] i k.pred in
+    run_same boxes q.0 p r names others rs ss o e out err m z q.1 (same_pred g p r names others (names ∷ rs) (others ∷ ss) h k)
+    (same_names g p r names others (names ∷ rs) (others ∷ ss) h k)
+    (tail_same (same_records g p r names others (names ∷ rs) (others ∷ ss) h k)) x y
+
+-- and so does `gen`
+gen_same : (seed count : ℕ) (boxes : List State) (q : Pred) (p r : PredOf) (o out : List ℕ) (y z : List State)
+    → pred_of q ≡ r → p ≡ r → Lines (GenStep p) boxes (draws count 0 p.vars (seeded seed)) o [] y
+    → Lines (GenStep r) boxes (draws count 0 r.vars (seeded seed)) out [] z
+    → whole Done (o ++ last_lines y) ≡ whole Done (out ++ last_lines z)
+gen_same seed count boxes q p r o out y z i f x k =
+    let x1 = subst (λ (t : PredOf). Lines (GenStep t) boxes (draws count 0 t.vars (seeded seed)) o [] y) (f ∙ sym i) x in
+    let k1 = subst (λ (t : PredOf). Lines (GenStep t) boxes (draws count 0 t.vars (seeded seed)) out [] z) (sym i) k in
+    let same = one_lines (GenStep (pred_of q)) (gen_laws.one_step q) boxes
+    (draws count 0 q.shape.vars (seeded seed)) o [] out [] y z x1 k1 in
+    ap (λ t. whole Done (t ++ last_lines y)) same.outs ∙ ap (λ t. whole Done (out ++ last_lines t)) same.lefts
+
+gen_one : (seed count : ℕ) (boxes : List State) (g : Given) → IsGrounded g → (a b : Said) → GenSaid seed count boxes g a
+    → GenSaid seed count boxes g b → a ≡ b
+gen_one seed count boxes g i a b (made p o y e x) (made r out z f k) =
+    let q = in_memory g r [] i f in
+    gen_same seed count boxes q.0 p r o out y z q.1 (ap (λ (xs : List PredOf). elim xs [ [] ↦ p | t ∷ rest ↦ t ]) (sym e ∙ f)) x k
+
+-- the works of which the bytes are one: a line a command
+work_one : (c : Command) (boxes : List State) (g : Given) → IsGrounded g → IsOneValued c → (a b : Said)
+    → WorkOwes c boxes g a → WorkOwes c boxes g b → a ≡ b
+work_one command.Check boxes g h v a b x y = check_one g h a b x y
+work_one command.List boxes g h v a b x y = absurd v
+work_one command.Emit boxes g h v a b x y = absurd v
+work_one command.Verify boxes g h v a b x y = verify_laws.one_said g a b x y
+work_one command.Run boxes g h v a b x y = run_one boxes g h a b x y
+work_one (command.Gen seed count) boxes g h v a b x y = gen_one seed count boxes g h a b x y
+
+plan_one : (plan : Plan) (shelf : Shelf) (boxes : List State) → IsOneValued plan.command → (a b : Said)
+    → PlanOwes plan (Some shelf) boxes a → PlanOwes plan (Some shelf) boxes b → a ≡ b
+plan_one plan shelf boxes i a b (stopped why p) (stopped v q) = ap said_of (same_why (one_prepares plan shelf _ _ p q))
+plan_one plan shelf boxes i a b (stopped why p) (worked g q y) = stops_gives (one_prepares plan shelf _ _ p q)
+plan_one plan shelf boxes i a b (worked g p x) (stopped v q) = stops_gives (one_prepares plan shelf _ _ q p)
+plan_one plan shelf boxes i a b (worked g p x) (worked h q y) =
+    work_one plan.command boxes h (grounded plan shelf h q) i a b
+    (subst (λ k. WorkOwes plan.command boxes k a) (same_given (one_prepares plan shelf _ _ p q)) x) y
+
+-- There is one answer.
+pub one_answer : (words : List (List ℕ)) (shelf : Shelf) (boxes : List State) → AreOneValued words → (a b : Said)
+    → Answer words (Some shelf) boxes a → Answer words (Some shelf) boxes b → a ≡ b
+one_answer words shelf boxes i a b (usage e) (usage h) = refl
+one_answer words shelf boxes i a b (usage e) (planned p h y) = absurd (none-some p (sym e ∙ h))
+one_answer words shelf boxes i a b (planned p e x) (usage h) = absurd (none-some p (sym h ∙ e))
+one_answer words shelf boxes i a b (planned p e x) (planned q h y) =
+    plan_one q shelf boxes (i q h) a b (subst (λ k. PlanOwes k (Some shelf) boxes a) (some_plan (sym e ∙ h)) x) y

@@ -1,0 +1,214 @@
+-- The steps of a plan, taken one behind the other.
+use Rattle.std.proofs.Common.{◌≡◌, ◌⊎◌, inl, inr, ℕ, ◌+◌, ◌≤◌, ◌<◌, List, [], ◌∷◌, ◌++◌}
+use Rattle.std.proofs.Common.{length, map, drop, refl, ap, sym, ◌∙◌, subst, arith, Option, Some, None, get_or}
+use Rattle.std.specs.Prelude.{slice_get, slice_index_or, IfSome}
+use Rattle.std.proofs.lemmas.List.{drop_more, drop_all}
+use Rattle.ln_base.specs.Outside.{Shelf, bytes_of, IsAbsent, Rose}
+use Rattle.ln_tree.specs.declared.pred.Pred.{Pred}
+use Rattle.ln_tree.specs.Table.{PredOf, TableOf, pred_of}
+use Rattle.ln_compile.specs.Compiled.{number_of}
+use Rattle.ln_top.specs.declared.stop.Why.{Why}
+use Rattle.ln_top.specs.declared.stop.Why.TheVariants.{TooLong, NoPredicate}
+use Rattle.ln_top.specs.declared.stop.Stop.{Stop}
+use Rattle.ln_top.specs.declared.stop.Stop.TheVariants as stop
+use Rattle.ln_top.specs.declared.prepare.Ready.{Ready}
+use Rattle.ln_top.specs.Plan.{Plan}
+use Rattle.ln_top.specs.Source.{view}
+use Rattle.ln_top.specs.Steps.{Outcome, stops, missing, gives, Then, stopped, lacks, goes, Each, Reads, there, long, absent, Finds}
+use Rattle.ln_top.specs.Steps.{found, none, Compiles, Prepares, most_source, most_file}
+use Rattle.ln_top.specs.Carried.{Halts, tells, unread, short}
+use Rattle.ln_top.specs.Ready.{AreNumbered, HasNumbers, IsReady, IsSource}
+use Rattle.ln_top.proofs.Steps.Chain.{Behind, behind_none, behind_more, behind_all}
+use Rattle.ln_top.proofs.Steps.FindLaws.{found_at, none_at, within_at, same_at}
+
+pub halts_first : {A B : Type 0} (first : Outcome A → Type 0) (next : A → Outcome B → Type 0) (r q : Type 0) (s : Stop)
+    → Halts first r s → (r → q) → Halts (Then first next) q s
+halts_first first next r q s (tells why h) f = tells why (stopped why h)
+halts_first first next r q s (unread (inl u)) f = unread (inl (f u))
+halts_first first next r q s (unread (inr u)) f = unread (inr (lacks u))
+halts_first first next r q s short f = short
+
+pub halts_next : {A B : Type 0} (first : Outcome A → Type 0) (next : A → Outcome B → Type 0) (a : A) (r q : Type 0) (s : Stop)
+    → first (gives a) → Halts (next a) r s → (r → q) → Halts (Then first next) q s
+halts_next first next a r q s g (tells why h) f = tells why (goes a g h)
+halts_next first next a r q s g (unread (inl u)) f = unread (inl (f u))
+halts_next first next a r q s g (unread (inr u)) f = unread (inr (goes a g u))
+halts_next first next a r q s g short f = short
+
+pub halts_behind : {A B : Type 0} (step : A → Outcome B → Type 0) (all left rest : List A) (done : List B) (a : A)
+    (r q : Type 0) (s : Stop) → Behind step all left done → left ≡ a ∷ rest → Halts (step a) r s → (r → q)
+    → Halts (Each step all) q s
+halts_behind step all left rest done a r q s b l (tells why h) f =
+    tells why (b (stops why) (subst (λ xs. Each step xs (stops why)) (sym l) (stopped why h)))
+halts_behind step all left rest done a r q s b l (unread (inl u)) f = unread (inl (f u))
+halts_behind step all left rest done a r q s b l (unread (inr u)) f =
+    unread (inr (b missing (subst (λ xs. Each step xs missing) (sym l) (lacks u))))
+halts_behind step all left rest done a r q s b l short f = short
+
+-- one more number
+pub numbered_more : (table : List PredOf) (is : List ℕ) (ps : List PredOf) (more : List ℕ) (i : ℕ) (p : PredOf)
+    → AreNumbered table is ps → slice_get table i ≡ Some p → more ≡ is ++ i ∷ []
+    → AreNumbered table more (ps ++ p ∷ [])
+numbered_more table is ps more i p h e m = subst (λ js. AreNumbered table js (ps ++ p ∷ [])) (sym m) (go is ps h)
+  where
+    go : (is : List ℕ) (ps : List PredOf) → AreNumbered table is ps → AreNumbered table (is ++ i ∷ []) (ps ++ p ∷ [])
+    go [] [] h = (e, tt)
+    go [] (q ∷ qs) h = absurd h
+    go (j ∷ js) [] h = absurd h
+    go (j ∷ js) (q ∷ qs) h = (h.0, go js qs h.1)
+
+pub read_there : (told : Option Shelf) (limit : ℕ) (name bytes : List ℕ)
+    → IfSome told (λ shelf. bytes_of name shelf ≡ Some bytes) → length bytes ≤ limit
+    → Reads told limit name (gives bytes)
+read_there None limit name bytes e l = there bytes tt l
+read_there (Some shelf) limit name bytes e l = there bytes e l
+
+pub read_fault : (told : Option Shelf) (limit : ℕ) (name : List ℕ) (r : Type 0) → r ⊎ IsAbsent name told
+    → Halts (Reads told limit name) r stop.Read
+read_fault told limit name r (inl u) = unread (inl u)
+read_fault told limit name r (inr a) = unread (inr (absent a))
+
+long_told : (o : Option (List ℕ)) (limit : ℕ) → IfSome o (λ bytes. limit < length bytes) → (o ≡ None → ⊥)
+    → (bytes : List ℕ) × (o ≡ Some bytes) × (limit < length bytes)
+long_told None limit l n = absurd (n refl)
+long_told (Some bytes) limit l n = (bytes, refl, l)
+
+pub read_long : (told : Option Shelf) (limit : ℕ) (name : List ℕ) (r : Type 0)
+    → IfSome told (λ shelf. IfSome (bytes_of name shelf) (λ bytes. limit < length bytes)) → (IsAbsent name told → ⊥)
+    → Halts (Reads told limit name) r (stop.Tell TooLong)
+read_long None limit name r l n = tells TooLong (long tt)
+read_long (Some shelf) limit name r l n = tells TooLong (long (long_told (bytes_of name shelf) limit l n))
+
+-- the names before a place were found, at these numbers
+pub record Looking (table : List PredOf) (names left : List (List ℕ)) (numbers : List ℕ) : Type 0 where
+  pub preds : List PredOf
+  pub behind : Behind (Finds table) names left preds
+  pub numbered : AreNumbered table numbers preds
+
+pub looking_none : (table : List PredOf) (names : List (List ℕ)) → Looking table names names []
+looking_none table names = record { preds = []; behind = behind_none (Finds table) names; numbered = tt }
+
+pub looking_more : (ps : List Pred) (names left rest : List (List ℕ)) (numbers more : List ℕ) (name : List ℕ) (i : ℕ)
+    → Looking (map pred_of ps) names left numbers → left ≡ name ∷ rest → number_of name ps ≡ Some i
+    → more ≡ numbers ++ i ∷ [] → Looking (map pred_of ps) names rest more
+looking_more ps names left rest numbers more name i s l e m =
+    let p = found_at name ps i e in
+    record {
+      preds = s.preds ++ p.0 ∷ [];
+      behind = behind_more (Finds (map pred_of ps)) names left rest s.preds
+          (s.preds ++ p.0 ∷ []) name p.0 s.behind l (found p.0 p.2) refl;
+      numbered = numbered_more (map pred_of ps) numbers s.preds more i p.0 s.numbered p.1 m;
+    }
+
+pub looking_all : (table : List PredOf) (names left : List (List ℕ)) (numbers : List ℕ) → Looking table names left numbers
+    → left ≡ [] → HasNumbers table names numbers
+looking_all table names left numbers s l = record {
+  preds = s.preds;
+  found = behind_all (Finds table) names left s.preds s.behind l;
+  numbered = s.numbered;
+}
+
+-- a name has no predicate
+pub looking_stops : (ps : List Pred) (names left rest : List (List ℕ)) (numbers : List ℕ) (name : List ℕ)
+    → Looking (map pred_of ps) names left numbers → left ≡ name ∷ rest → number_of name ps ≡ None
+    → Halts (Each (Finds (map pred_of ps)) names) ⊥ (stop.Tell NoPredicate)
+looking_stops ps names left rest numbers name s l n =
+    halts_behind (Finds (map pred_of ps)) names left rest s.preds name ⊥ ⊥ (stop.Tell NoPredicate) s.behind l
+    (tells NoPredicate (none (none_at name ps n))) (λ x. x)
+
+-- what is left at a place, one step on
+pub left_more : {A : Type 0} (f : A → List ℕ) (xs : List A) (i : ℕ) (x : A) → i < length xs → x ≡ get_or xs i x
+    → map f (drop i xs) ≡ f x ∷ map f (drop (i + 1) xs)
+left_more f xs i x l e = ap (map f) (drop_more xs i x l) ∙ ap (λ y. f y ∷ map f (drop (i + 1) xs)) (sym e)
+
+pub left_none : {A : Type 0} (f : A → List ℕ) (xs : List A) (i : ℕ) → length xs ≤ i → map f (drop i xs) ≡ []
+left_none f xs i l = ap (map f) (drop_all i xs l)
+
+-- a count that rose behind one that stood still rose
+pub rose_same : (a b c : ℕ) → b ≡ a → Rose b c → Rose a c
+rose_same a b c e r = subst (λ k. Rose k c) e r
+
+pub map_behind : {A : Type 0} (f : A → List ℕ) (xs ys : List A) (x : A) → ys ≡ xs ++ x ∷ []
+    → map f ys ≡ map f xs ++ f x ∷ []
+map_behind {A = A} f xs ys x e = ap (map f) e ∙ go xs
+  where
+    go : (xs : List A) → map f (xs ++ x ∷ []) ≡ map f xs ++ f x ∷ []
+    go [] = refl
+    go (y ∷ rest) = ap (λ zs. f y ∷ zs) (go rest)
+
+-- what stops the source, and a plan, step by step
+pub file_stops : (told : Option Shelf) (name : List ℕ) (r : Type 0) (s : Stop) → Halts (Reads told most_source name) r s
+    → Halts (Then (Reads told most_source name) Compiles) r s
+file_stops told name r s h = halts_first _ _ r r s h (λ x. x)
+
+pub compiler_stops : (told : Option Shelf) (name bytes : List ℕ) (r : Type 0) (s : Stop)
+    → Reads told most_source name (gives bytes) → Halts (Compiles bytes) ⊥ s
+    → Halts (Then (Reads told most_source name) Compiles) r s
+compiler_stops told name bytes r s a h = halts_next _ _ bytes ⊥ r s a h (λ x. absurd x)
+
+-- what the source comes to, the plan comes to
+source_why : (plan : Plan) (told : Option Shelf) (why : Why) → Then (Reads told most_source plan.source) Compiles (stops why)
+    → Prepares plan told (stops why)
+source_why plan told why (stopped w a) = stopped w a
+source_why plan told why (goes bytes a c) = goes bytes a (stopped why c)
+
+source_lacks : (plan : Plan) (told : Option Shelf) → Then (Reads told most_source plan.source) Compiles missing
+    → Prepares plan told missing
+source_lacks plan told (lacks a) = lacks a
+source_lacks plan told (goes bytes a c) = goes bytes a (lacks c)
+
+pub source_stops : (plan : Plan) (told : Option Shelf) (r : Type 0) (s : Stop)
+    → Halts (Then (Reads told most_source plan.source) Compiles) r s → Halts (Prepares plan told) r s
+source_stops plan told r s (tells why h) = tells why (source_why plan told why h)
+source_stops plan told r s (unread (inl u)) = unread (inl u)
+source_stops plan told r s (unread (inr h)) = unread (inr (source_lacks plan told h))
+source_stops plan told r s short = short
+
+pub names_stop : (plan : Plan) (told : Option Shelf) (table : TableOf) (r : Type 0) (s : Stop) → IsSource told plan.source table
+    → Halts (Each (Finds table.preds) plan.names) ⊥ s → Halts (Prepares plan told) r s
+names_stop plan told table r s src h =
+    halts_next _ _ src.bytes r r s src.read (halts_next _ _ table r r s src.accepted (halts_first _ _ ⊥ r s h (λ x. absurd x))
+    (λ x. x)) (λ x. x)
+
+pub files_stop : (plan : Plan) (told : Option Shelf) (table : TableOf) (numbers : List ℕ) (r q : Type 0) (s : Stop)
+    → IsSource told plan.source table → HasNumbers table.preds plan.names numbers
+    → Halts (Each (Reads told most_file) plan.files) r s → (r → q) → Halts (Prepares plan told) q s
+files_stop plan told table numbers r q s src n h f =
+    halts_next _ _ src.bytes q q s src.read (halts_next _ _ table q q s src.accepted
+    (halts_next _ _ n.preds q q s n.found (halts_first _ _ r q s h f) (λ x. x)) (λ x. x)) (λ x. x)
+
+-- all is ready
+pub is_ready : (plan : Plan) (told : Option Shelf) (r : Ready) → IsSource told plan.source (view r.compiled.table)
+    → HasNumbers (map pred_of r.compiled.table.preds) plan.names r.numbers.items
+    → Each (Reads told most_file) plan.files (gives (map (λ v. v.items) r.texts.items)) → IsReady plan told r
+is_ready plan told r src n t = record {
+  given = record { table = view r.compiled.table; preds = n.preds; texts = map (λ v. v.items) r.texts.items };
+  prepared =
+      goes src.bytes src.read (goes (view r.compiled.table) src.accepted
+      (goes n.preds n.found (goes (map (λ v. v.items) r.texts.items) t refl)));
+  stands = record { table = refl; numbered = n.numbered; texts = refl };
+}
+
+-- one further file
+pub one_text : {A : Type 0} (f : A → List ℕ) (xs : List A) (x : A) → length xs ≡ 1 → x ≡ get_or xs 0 x
+    → map f xs ≡ f x ∷ []
+one_text f [] x l e = absurd (omega (arith, l))
+one_text f (y ∷ []) x l e = ap (λ z. f z ∷ []) (sym e)
+one_text f (y ∷ z ∷ rest) x l e = absurd (omega (arith, l))
+
+-- the one number is within, and is that of the one predicate
+pub one_within : (ps : List Pred) (numbers : List ℕ) (preds : List PredOf) → AreNumbered (map pred_of ps) numbers preds
+    → length numbers ≡ 1 → slice_index_or numbers 0 0 < length ps
+one_within ps [] preds h l = absurd (omega (arith, l))
+one_within ps (i ∷ []) [] h l = absurd h
+one_within ps (i ∷ []) (p ∷ rest) h l = within_at ps i p h.0
+one_within ps (i ∷ j ∷ rest) preds h l = absurd (omega (arith, l))
+
+pub one_numbered : (ps : List Pred) (numbers : List ℕ) (preds : List PredOf) (p : Pred)
+    → AreNumbered (map pred_of ps) numbers preds → length numbers ≡ 1 → slice_get ps (slice_index_or numbers 0 0) ≡ Some p
+    → preds ≡ pred_of p ∷ []
+one_numbered ps [] preds p h l e = absurd (omega (arith, l))
+one_numbered ps (i ∷ []) [] p h l e = absurd h
+one_numbered ps (i ∷ []) (q ∷ []) p h l e = ap (λ x. x ∷ []) (same_at ps i p q e h.0)
+one_numbered ps (i ∷ []) (q ∷ r ∷ rest) p h l e = absurd h.1
+one_numbered ps (i ∷ j ∷ rest) preds p h l e = absurd (omega (arith, l))

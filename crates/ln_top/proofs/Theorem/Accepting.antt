@@ -1,0 +1,86 @@
+-- What is sound for the compiler is accepted by the judge; and what the steps give is sound and within its limits.
+use Rattle.std.proofs.Common.{◌≡◌, ℕ, ◌≤◌, ◌<◌, List, [], ◌∷◌, length, ap, sym, ◌∙◌, subst, Option, arith}
+use Rattle.ln_base.specs.Outside.{Shelf}
+use Rattle.ln_algebra.specs.Weights.{weighted_sum}
+use Rattle.ln_tree.specs.Table.{PredOf, TableOf}
+use Rattle.ln_bound.specs.Light.{most}
+use Rattle.ln_bound.specs.Value.{weights}
+use Rattle.ln_poly.specs.Sparse.{terms_of}
+use Rattle.ln_compile.specs.Accepted.{AreSound, IsSound}
+use Rattle.ln_verify.specs.Accepted.{AreAccepted, IsAccepted}
+use Rattle.ln_top.specs.declared.prepare.Ready.{Ready}
+use Rattle.ln_top.specs.declared.words.Command.{Command}
+use Rattle.ln_top.specs.Plan.{Plan, form}
+use Rattle.ln_top.specs.Steps as step
+use Rattle.ln_top.specs.Steps.{gives, Given, Prepares, Each, Reads, most_file}
+use Rattle.ln_top.specs.Ready.{AreShort, HasStanding, IsReady, IsReadyFor}
+use Rattle.ln_top.proofs.Steps.Chain.{value_or}
+use Rattle.ln_top.proofs.Steps.OneAnswer.{accepted_of}
+
+light : (a b : ℕ) → (b < a → ⊥) → a ≤ b
+light a b h = omega (arith, h)
+
+accepted : (p : PredOf) → IsSound p → IsAccepted p
+accepted p s =
+    record {
+      light = s.light;
+      few = s.few;
+      whole =
+          λ f n. light (weighted_sum (weights p.vars) (terms_of (length p.vars) f)) most
+          (λ h. s.whole (record { poly = f; normal = n; heavy = h }));
+      nonzero = s.nonzero;
+      staged = λ f lists n a h. s.staged (record { poly = f; normal = n; lists = lists; are_lists = a; passes = h });
+    }
+
+pub accepted_all : (ps : List PredOf) → AreSound ps → AreAccepted ps
+accepted_all [] h = tt
+accepted_all (p ∷ ps) h = (accepted p h.0, accepted_all ps h.1)
+
+-- the further files that were read are within their limit
+short_read : (told : Option Shelf) (name bytes : List ℕ) → Reads told most_file name (gives bytes) → length bytes ≤ most_file
+short_read told name bytes (step.there _ m l) = l
+
+short_each : (told : Option Shelf) (names texts : List (List ℕ)) → Each (Reads told most_file) names (gives texts) → AreShort texts
+short_each told [] texts h = subst AreShort (sym (ap (value_or texts) h)) tt
+short_each told (n ∷ ns) texts (step.goes t r (step.goes ts f h)) =
+    subst AreShort (sym (ap (value_or texts) h)) (short_read told n t r, short_each told ns ts f)
+
+-- what the steps give is sound and short
+pub record IsFine (g : Given) : Type 0 where
+  pub sound : AreSound g.table.preds
+  pub short : AreShort g.texts
+
+pub fine : (plan : Plan) (told : Option Shelf) (g : Given) → Prepares plan told (gives g) → IsFine g
+fine plan told g (step.goes bytes r (step.goes table c (step.goes preds n (step.goes texts t h)))) =
+    subst IsFine (sym (ap (value_or g) h)) (record {
+      sound = (accepted_of bytes table c).accepted.sound;
+      short = short_each told plan.files texts t;
+    })
+
+-- so what is ready has its standing
+pub standing : (plan : Plan) (told : Option Shelf) (r : Ready) → IsReady plan told r → HasStanding r
+standing plan told r h =
+    let f : IsFine h.given = fine plan told h.given h.prepared in
+    record {
+      given = h.given;
+      stands = h.stands;
+      sound = subst AreSound (ap (λ (t : TableOf). t.preds) h.stands.table) f.sound;
+      short = f.short;
+    }
+
+-- the one further file
+pub one_short : (texts : List (List ℕ)) (bytes : List ℕ) → texts ≡ bytes ∷ [] → AreShort texts → length bytes ≤ most_file
+one_short texts bytes e h = (subst AreShort e h).0
+
+-- and it is as much as the command takes
+pub ready_for : (k : Command) (r : Ready) (n m : ℕ) → HasStanding r → (form k).least ≤ n → n ≤ (form k).most
+    → m ≡ (form k).files → length r.numbers.items ≡ n → length r.texts.items ≡ m → IsReadyFor k r
+ready_for k r n m s least most_ files a b = record {
+  stands = s;
+  fit =
+      record {
+        least = subst (λ (x : ℕ). (form k).least ≤ x) (sym a) least;
+        most = subst (λ (x : ℕ). x ≤ (form k).most) (sym a) most_;
+        files = b ∙ files;
+      };
+}

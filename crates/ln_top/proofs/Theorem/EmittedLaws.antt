@@ -1,0 +1,99 @@
+-- The calls of the C that was put mean the perturbed signs, under the names of the source's predicates.
+use Rattle.std.proofs.Common.{◌≡◌, ℕ, List, [], ◌∷◌, ◌++◌, map, Option, Some, None, ap, sym, ◌∙◌, subst}
+use Rattle.std.specs.Prelude.{IfSome}
+use Rattle.ln_base.specs.Outside.{Shelf, Shown}
+use Rattle.ln_algebra.specs.Orders.{BySmallest}
+use Rattle.ln_lex.specs.declared.token.Token.{Token}
+use Rattle.ln_syntax.specs.Raw.{Item, SiteItem, ParamItem, PredItem}
+use Rattle.ln_watch.specs.Panel.{State}
+use Rattle.ln_tree.specs.declared.pred.Pred.{Pred}
+use Rattle.ln_tree.specs.Row.{InRange, Row}
+use Rattle.ln_tree.specs.Table.{PredOf, TableOf, pred_of}
+use Rattle.ln_parse.specs.Says.{PredsSay}
+use Rattle.ln_due.specs.Due.{sign_number}
+use Rattle.ln_due.proofs.Verdicts.UniqueLemmas.{due-sign}
+use Rattle.ln_compile.specs.Accepted.{AreSound, IsSound, root_of}
+use Rattle.ln_csyn.specs.Tree.{Fun}
+use Rattle.ln_csyn.specs.Meaning.{CCall, Signed}
+use Rattle.ln_cemit.specs.Names.{call_name}
+use Rattle.ln_top.specs.declared.status.Status.{Status}
+use Rattle.ln_top.specs.Said.{Said, put_both}
+use Rattle.ln_top.specs.Plan.{Plan}
+use Rattle.ln_top.specs.Steps as step
+use Rattle.ln_top.specs.Steps.{gives, Given, Prepares}
+use Rattle.ln_top.specs.Work.{WorkOwes}
+use Rattle.ln_top.specs.Answer.{Answer}
+use Rattle.ln_top.specs.Causes.{Answered}
+use Rattle.ln_top.specs.Emit as e
+use Rattle.ln_top.specs.Emit.{AllAreDue, CallIsDue, EmitSaid}
+use Rattle.ln_top.specs.Emitted.{CallsPerturbedSign, CallPerturbedSigns, PutC, CallsArePerturbed}
+use Rattle.ln_top.proofs.Steps.Chain.{value_or}
+use Rattle.ln_top.proofs.Theorem.HeadlineLaws.{never_zero}
+use Rattle.ln_top.proofs.Steps.OneAnswer.{IsGrounded, accepted_of, grounded}
+use Rattle.ln_top.proofs.Steps.TopLaws.{work_of_words}
+
+-- the shape of each predicate has the predicate's name
+abbrev pub AreNamed : List PredOf → Type 0
+AreNamed [] = Unit {0}
+AreNamed (p ∷ ps) = (p.shape_name ≡ p.name) × AreNamed ps
+
+said_named : (bytes : List ℕ) (ts : List Token) (before : List Item) (t : TableOf) (is : List Item) (ps : List PredOf)
+    → PredsSay bytes ts before t is ps → AreNamed ps
+said_named bytes ts before t [] [] h = tt
+said_named bytes ts before t [] (p ∷ ps) h = absurd h
+said_named bytes ts before t (SiteItem n cs ∷ is) ps h = said_named bytes ts (before ++ (SiteItem n cs ∷ [])) t is ps h
+said_named bytes ts before t (ParamItem n r ∷ is) ps h = said_named bytes ts (before ++ (ParamItem n r ∷ [])) t is ps h
+said_named bytes ts before t (PredItem n args ls root ∷ is) [] h = absurd h
+said_named bytes ts before t (PredItem n args ls root ∷ is) (p ∷ ps) h =
+    (h.0.shape_is ∙ sym h.0.name_is, said_named bytes ts (before ++ (PredItem n args ls root ∷ [])) t is ps h.1)
+
+-- so it is of what the steps give
+pub names_given : (plan : Plan) (shelf : Shelf) (g : Given) → Prepares plan (Some shelf) (gives g) → AreNamed g.table.preds
+names_given plan shelf g (step.goes bytes r (step.goes table c (step.goes preds n (step.goes texts t h)))) =
+    let text = (accepted_of bytes table c).accepted.text in
+    subst (λ (k : Given). AreNamed k.table.preds) (sym (ap (value_or g) h))
+    (said_named bytes text.tokens [] table text.items table.preds text.says.preds_are)
+
+-- the call on a row means the perturbed sign
+call_signed : (file : List Fun) (p : Pred) (row : Row) → IsSound (pred_of p)
+    → (let q : PredOf = pred_of p in q.shape_name ≡ q.name) → InRange p.shape.sites p.shape.vars row
+    → CallIsDue file (pred_of p) row → CallsPerturbedSign file (pred_of p) row
+call_signed file p row sound named range d =
+    let sign = due-sign BySmallest p.shape.vars (root_of (pred_of p)) row d.due.filtering d.verdict d.due.due in
+    record {
+      sign = d.verdict.sign;
+      counts = d.counts;
+      called =
+          subst (λ (x : List ℕ). CCall file (call_name x) row.index row.values ≡ Some
+          (Signed (sign_number d.verdict.sign) d.counts)) named d.called;
+      perturbed = sign;
+      never_zero = λ all. never_zero p row range sound all d.verdict.sign sign;
+    }
+
+all_signed : (file : List Fun) (ps : List Pred) → AreSound (map pred_of ps) → AreNamed (map pred_of ps)
+    → AllAreDue file (map pred_of ps) → CallPerturbedSigns file (map pred_of ps)
+all_signed file [] s n d = tt
+all_signed file (p ∷ ps) s n d = (λ row range. call_signed file p row s.0 n.0 range (d.0 row range), all_signed file ps s.1 n.1 d.1)
+
+-- what is owed to a source's predicates
+put_c : (g : Given) (a : Said) (was now : Option Shown) → IsGrounded g → AreNamed g.table.preds → EmitSaid g a
+    → now ≡ put_both a.out a.err was → PutC g.table.preds was now
+put_c g a was now i n (e.emitted text c) q =
+    let preds : map pred_of i.table.preds ≡ g.table.preds = ap (λ (t : TableOf). t.preds) i.is in
+    record {
+      bytes = text;
+      file = c.file;
+      text = c.text;
+      signs =
+          subst (CallPerturbedSigns c.file) preds (all_signed c.file i.table.preds (subst AreSound (sym preds) i.sound)
+          (subst AreNamed (sym preds) n) (subst (AllAreDue c.file) (sym preds) c.due));
+      shown = q;
+    }
+
+-- what is owed has the perturbed signs
+pub emitted : (words : List (List ℕ)) (told : Option Shelf) (boxes : List State) (result : Status) (was now : Option Shown)
+    → Answered (Answer words told boxes) result was now → IfSome told (λ shelf. CallsArePerturbed words shelf was now)
+emitted words None boxes result was now h = tt
+emitted words (Some shelf) boxes result was now h = λ plan g f r x.
+    let owed : EmitSaid g h.said = subst (λ c. WorkOwes c boxes g h.said) r (work_of_words words shelf boxes plan g h.said f x h.owed) in
+    put_c g h.said was now (grounded plan shelf g x) (names_given plan shelf g x) owed h.shown

@@ -1,0 +1,102 @@
+-- The listing that was put gives the perturbed signs, and is valid.
+use Rattle.std.proofs.Common.{◌≡◌, ℕ, List, [], ◌∷◌, length, map, Option, Some, None, ap, sym, ◌∙◌, subst}
+use Rattle.std.specs.Prelude.{IfSome, codes}
+use Rattle.ln_base.specs.Outside.{Shelf, Shown}
+use Rattle.ln_algebra.specs.Orders.{BySmallest}
+use Rattle.ln_watch.specs.Panel.{State}
+use Rattle.ln_tree.specs.declared.pred.Pred.{Pred}
+use Rattle.ln_tree.specs.Row.{InRange, Row}
+use Rattle.ln_tree.specs.Table.{PredOf, TableOf, pred_of}
+use Rattle.ln_code.specs.declared.verdict.Verdict.{Verdict}
+use Rattle.ln_code.specs.Part.{Part}
+use Rattle.ln_code.specs.Verdict.{IsVerdict}
+use Rattle.ln_due.specs.Due.{sign_number}
+use Rattle.ln_due.proofs.Verdicts.UniqueLemmas.{due-sign}
+use Rattle.ln_algebra.specs.Sign.{IsPerturbedSign}
+use Rattle.ln_compile.specs.Accepted.{AreSound, IsSound, root_of}
+use Rattle.ln_bound.specs.Value.{values}
+use Rattle.ln_order.specs.Sites.{row_sites}
+use Rattle.ln_verify.specs.Line.{Written}
+use Rattle.ln_verify.specs.Verified.{IsValidFor}
+use Rattle.ln_top.specs.declared.status.Status.{Status}
+use Rattle.ln_top.specs.declared.status.End.TheVariants.{Done}
+use Rattle.ln_top.specs.Said.{Said, line, put_both, whole}
+use Rattle.ln_top.specs.Steps.{Given}
+use Rattle.ln_top.specs.Work.{WorkOwes}
+use Rattle.ln_top.specs.Answer.{Answer}
+use Rattle.ln_top.specs.Causes.{Answered}
+use Rattle.ln_top.specs.Listing as l
+use Rattle.ln_top.specs.Listing.{AnswersDue, IsListingOf, ListSaid, PartIsDue, PartsAreDue}
+use Rattle.ln_top.specs.Listed.{GivesPerturbedSign, ListingGivesSigns, PartGivesSigns, PartsGiveSigns, PutListing}
+use Rattle.ln_top.specs.Verify as v
+use Rattle.ln_top.proofs.Theorem.EmittedLaws.{AreNamed, names_given}
+use Rattle.ln_top.proofs.Theorem.HeadlineLaws.{never_zero}
+use Rattle.ln_top.proofs.Steps.OneAnswer.{IsGrounded, grounded}
+use Rattle.ln_top.proofs.Steps.TopLaws.{work_of_words}
+
+-- the machine of a part on a row gives the perturbed sign
+row_signed : (p : Pred) (part : Part) (row : Row) → IsSound (pred_of p) → InRange p.shape.sites p.shape.vars row
+    → AnswersDue (pred_of p) part row → GivesPerturbedSign (pred_of p) part row
+row_signed p part row sound range d = record {
+  verdict = d.verdict;
+  answers = d.answers;
+  perturbed = sign;
+  never_zero = λ x m all. never_zero p row range sound all x.sign (sign x m);
+}
+  where
+    sign : (x : Verdict) → IsVerdict part row x
+        → IsPerturbedSign (length p.shape.vars) (row_sites p.shape.vars row.index) (values row.values) (root_of (pred_of p))
+        (sign_number x.sign)
+    sign x m = let o = d.due x m in due-sign BySmallest p.shape.vars (root_of (pred_of p)) row o.filtering x o.due
+
+part_signed : (p : Pred) (w : Written) → IsSound (pred_of p) → (let q : PredOf = pred_of p in q.shape_name ≡ q.name)
+    → PartIsDue (pred_of p) w → PartGivesSigns (pred_of p) w
+part_signed p w sound named d = record {
+  shape = d.shape;
+  name = d.name ∙ named;
+  sites = d.sites;
+  vars = d.vars;
+  rows = λ row range. row_signed p _ row sound range (d.rows row range);
+}
+
+all_signed : (ps : List Pred) (ws : List Written) → AreSound (map pred_of ps) → AreNamed (map pred_of ps)
+    → PartsAreDue (map pred_of ps) ws → PartsGiveSigns (map pred_of ps) ws
+all_signed [] [] s n d = tt
+all_signed [] (w ∷ ws) s n d = absurd d
+all_signed (p ∷ ps) [] s n d = absurd d
+all_signed (p ∷ ps) (w ∷ ws) s n d = (part_signed p w s.0 n.0 d.0, all_signed ps ws s.1 n.1 d.1)
+
+-- a file of a valid listing's text is owed `valid`
+verified : (g : Given) (text : List ℕ) (c : IsListingOf g.table.preds text) (h : Given) → h.table ≡ g.table
+    → h.texts ≡ text ∷ [] → v.VerifySaid h (whole Done (line (codes "valid")))
+verified g text c h e f =
+    v.valid (record {
+      listing = c.listing;
+      listed = record { bytes = text; file = f; text = c.text };
+      valid = subst (λ (ps : List PredOf). IsValidFor ps c.listing) (sym (ap (λ (t : TableOf). t.preds) e)) c.valid;
+    })
+
+-- what is owed to a source's predicates
+put_listing : (g : Given) (a : Said) (was now : Option Shown) → IsGrounded g → AreNamed g.table.preds → ListSaid g a
+    → now ≡ put_both a.out a.err was → PutListing g was now
+put_listing g a was now i n (l.listed text c) q =
+    let preds : map pred_of i.table.preds ≡ g.table.preds = ap (λ (t : TableOf). t.preds) i.is in
+    record {
+      bytes = text;
+      listing = c.listing;
+      text = c.text;
+      valid = c.valid;
+      signs = subst (λ (ps : List PredOf). PartsGiveSigns ps c.valid.valid.parts) preds
+          (all_signed i.table.preds c.valid.valid.parts (subst AreSound (sym preds) i.sound) (subst AreNamed (sym preds) n)
+          (subst (λ (ps : List PredOf). PartsAreDue ps c.valid.valid.parts) (sym preds) c.due));
+      verified = verified g text c;
+      shown = q;
+    }
+
+-- what is owed has the perturbed signs
+pub listed : (words : List (List ℕ)) (told : Option Shelf) (boxes : List State) (result : Status) (was now : Option Shown)
+    → Answered (Answer words told boxes) result was now → IfSome told (λ shelf. ListingGivesSigns words shelf was now)
+listed words None boxes result was now h = tt
+listed words (Some shelf) boxes result was now h = λ plan g f r x.
+    let owed : ListSaid g h.said = subst (λ c. WorkOwes c boxes g h.said) r (work_of_words words shelf boxes plan g h.said f x h.owed) in
+    put_listing g h.said was now (grounded plan shelf g x) (names_given plan shelf g x) owed h.shown

@@ -1,0 +1,9 @@
+-- Lines, subjects and lists of a listing, one after the other.
+pub mod Readings
+pub mod OrderLines
+pub mod Places
+pub mod Put
+pub mod Walk
+pub mod Wholes
+pub mod Entries
+pub mod Subjects

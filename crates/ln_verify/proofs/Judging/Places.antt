@@ -1,0 +1,158 @@
+-- Lines at their places, and the loop.
+use Rattle.std.proofs.Common.{◌≡◌, ℕ, ◌<◌, ◌≤◌, ◌+◌, Bool, true, false, List, [], ◌∷◌, ◌++◌, length, take, get_or, refl, sym, ap, arith, subst, ◌∙◌}
+use Rattle.ln_verify.proofs.Judging.Walk.{walk-ends, walk-lacks, walk-more, walk-stops}
+use Rattle.std.proofs.lemmas.Option.{get_or_from_slice_get, slice_get-map, slice_get_within}
+use Rattle.std.specs.Option.{option_map}
+use Rattle.std.specs.Prelude.{All, Some, slice_get}
+use Rattle.ln_tree.specs.Names.{name_bytes}
+use Rattle.ln_verify.specs.BlockRules.{Version}
+use Rattle.ln_verify.specs.Judge.{FailsAt, Go, IsFirstFault, IsValid}
+use Rattle.ln_verify.specs.Line.{Between, InBlock, InFilter, LineRule, Named, Ordering, Outside, PartRule, Place, Spot, Subject, Within, Written}
+use Rattle.ln_cert.specs.declared.part.Part.{Part}
+use Rattle.ln_cert.specs.declared.part.Part.TheVariants.{Predicate, NoFilter, Filter, FilterOp, Decide, Block, BlockOp, RangeOp, End, Order, Done}
+use Rattle.ln_verify.specs.declared.desk.At.TheVariants.{Away, AtName}
+use Rattle.ln_verify.specs.declared.case.Case.{Case}
+use Rattle.ln_verify.specs.declared.desk.Desk.{Desk}
+use Rattle.ln_verify.specs.Here.{Finished, Gone, IsHere, IsSpot, IsCase, Leads, Over, subject_of, subjects_of}
+
+some-same : (x y : Subject) → Some x ≡ Some y → x ≡ y
+some-same x y e = cc
+
+pub subject-at : (cs : List Case) (i : ℕ) (c : Case) → slice_get cs i ≡ Some c → slice_get (subjects_of cs) i ≡ Some (subject_of c)
+subject-at cs i c e = slice_get-map subject_of cs i ∙ ap (option_map subject_of) e
+
+pub case-staged : (cs : List Case) (i : ℕ) (c : Case) → All IsCase cs → slice_get cs i ≡ Some c → IsCase c
+case-staged cs i c h e = subst IsCase (get_or_from_slice_get cs i c c e) (h i c (slice_get_within cs i c e))
+
+-- a desk that stands nowhere is at no spot
+pub away-none : (n : ℕ) (d : Desk) (s : Spot) → d.at ≡ Away → IsSpot n d s → ⊥
+away-none n d Named e i = cc
+away-none n d (InFilter lines s) e i = cc
+away-none n d (Between f bs) e i = cc
+away-none n d (InBlock f bs x lines s) e i = cc
+away-none n d (Ordering w) e i = cc
+
+pub named-one : (v : Version) (cs : List Case) (d : Desk) (c : Case) (name : List ℕ) (here : Place) → d.at ≡ Away → slice_get cs d.parts ≡ Some c → name_bytes c.shape.name ≡ name → IsHere (subjects_of cs) d here →
+    Gone v (subjects_of cs) here (Predicate name) true (record { at = AtName; parts = d.parts; exps = d.exps; bench = d.bench; tray = d.tray; lists = d.lists })
+named-one v cs d c name (Outside parts) a g e i =
+    let there : slice_get (subjects_of cs) (length parts) ≡ Some (subject_of c) = subst (λ k. slice_get (subjects_of cs) k ≡ Some (subject_of c)) i.1 (subject-at cs d.parts c g) in
+    (Within parts Named, record { subject = subject_of c; there = there; named = e; to = refl }, (i.1, subject_of c, there, refl))
+named-one v cs d c name (Within parts s) a g e i = absurd (away-none (length i.1.vars) d s a i.3)
+
+-- ---- within a part
+-- the predicate at hand is that of the number of parts
+at-hand : (ps : List Subject) (i j : ℕ) (p q : Subject) → i ≡ j → slice_get ps i ≡ Some p → slice_get ps j ≡ Some q → p ≡ q
+at-hand ps i j p q e f g = some-same p q (sym f ∙ ap (λ k. slice_get ps k) e ∙ g)
+
+part-yes : (v : Version) (p : Subject) (parts : List Written) (s t : Spot) (line : Part) → (line ≡ Done → ⊥) → LineRule v p s line t → PartRule v p parts s line (Within parts t)
+part-yes v p parts Named t line n r = (t, r, refl)
+part-yes v p parts (InFilter lines s) t line n r = (t, r, refl)
+part-yes v p parts (Between f bs) t line n r = (t, r, refl)
+part-yes v p parts (InBlock f bs x lines s) t line n r = (t, r, refl)
+part-yes v p parts (Ordering w) t (Order places list) n r = (t, r, refl)
+part-yes v p parts (Ordering w) t (Predicate name) n r = absurd r
+part-yes v p parts (Ordering w) t NoFilter n r = absurd r
+part-yes v p parts (Ordering w) t Filter n r = absurd r
+part-yes v p parts (Ordering w) t (FilterOp op a) n r = absurd r
+part-yes v p parts (Ordering w) t Decide n r = absurd r
+part-yes v p parts (Ordering w) t (Block k a) n r = absurd r
+part-yes v p parts (Ordering w) t (BlockOp op b) n r = absurd r
+part-yes v p parts (Ordering w) t (RangeOp op l u) n r = absurd r
+part-yes v p parts (Ordering w) t End n r = absurd r
+part-yes v p parts (Ordering w) t Done n r = absurd r
+
+part-no : (v : Version) (p : Subject) (parts : List Written) (s : Spot) (line : Part) (q : Place) → (line ≡ Done → ⊥) → ((t : Spot) → LineRule v p s line t → ⊥) → PartRule v p parts s line q → ⊥
+part-no v p parts Named line q n h r = h r.0 r.1
+part-no v p parts (InFilter lines s) line q n h r = h r.0 r.1
+part-no v p parts (Between f bs) line q n h r = h r.0 r.1
+part-no v p parts (InBlock f bs x lines s) line q n h r = h r.0 r.1
+part-no v p parts (Ordering w) (Order places list) q n h r = h r.0 r.1
+part-no v p parts (Ordering w) (Predicate name) q n h r = h r.0 r.1
+part-no v p parts (Ordering w) NoFilter q n h r = h r.0 r.1
+part-no v p parts (Ordering w) Filter q n h r = h r.0 r.1
+part-no v p parts (Ordering w) (FilterOp op a) q n h r = h r.0 r.1
+part-no v p parts (Ordering w) Decide q n h r = h r.0 r.1
+part-no v p parts (Ordering w) (Block k a) q n h r = h r.0 r.1
+part-no v p parts (Ordering w) (BlockOp op b) q n h r = h r.0 r.1
+part-no v p parts (Ordering w) (RangeOp op l u) q n h r = h r.0 r.1
+part-no v p parts (Ordering w) End q n h r = h r.0 r.1
+part-no v p parts (Ordering w) Done q n h r = absurd (n refl)
+
+pub within-part : (v : Version) (cs : List Case) (old new : Desk) (c : Case) (line : Part) (ok : Bool) (here : Place) → (old.at ≡ Away → ⊥) → slice_get cs old.parts ≡ Some c → (line ≡ Done → ⊥) → Leads v (subject_of c) old line ok new → IsHere (subjects_of cs) old here →
+    Gone v (subjects_of cs) here line ok new
+within-part v cs old new c line ok (Outside parts) a g n h i = absurd (a i.0)
+within-part v cs old new c line true (Within parts s) a g n h i =
+    let ps : List Subject = subjects_of cs in
+    let e : subject_of c ≡ i.1 = at-hand ps old.parts (length parts) (subject_of c) i.1 i.0 (subject-at cs old.parts c g) i.2 in
+    let r = subst (λ (p : Subject). Leads v p old line true new) e h s i.3 in
+    (Within parts r.1.0, (i.1, i.2, part-yes v i.1 parts s r.1.0 line n r.1.1), (r.0 ∙ i.0, i.1, i.2, r.1.2))
+within-part v cs old new c line false (Within parts s) a g n h i =
+    let ps : List Subject = subjects_of cs in
+    let e : subject_of c ≡ i.1 = at-hand ps old.parts (length parts) (subject_of c) i.1 i.0 (subject-at cs old.parts c g) i.2 in
+    let r = subst (λ (p : Subject). Leads v p old line false new) e h s i.3 in
+    (λ q k. part-no v i.1 parts s line q n r.1 (subst (λ (p : Subject). PartRule v p parts s line q) (some-same k.0 i.1 (sym k.1 ∙ i.2)) k.2))
+
+length-more : (xs : List Written) (x : Written) → length (xs ++ x ∷ []) ≡ length xs + 1
+length-more [] x = refl
+length-more (y ∷ xs) x = omega (arith, length-more xs x)
+
+done-yes : (v : Version) (ps : List Subject) (p : Subject) (new : Desk) (parts : List Written) (s : Spot) → slice_get ps (length parts) ≡ Some p → Over p parts s true new → Gone v ps (Within parts s) Done true new
+done-yes v ps p new parts Named g o = absurd o
+done-yes v ps p new parts (InFilter lines s) g o = absurd o
+done-yes v ps p new parts (Between f bs) g o = absurd o
+done-yes v ps p new parts (InBlock f bs x lines s) g o = absurd o
+done-yes v ps p new parts (Ordering w) g o = (Outside (parts ++ w ∷ []), (p, g, record { all = o.0; to = refl }), (o.1, o.2 ∙ sym (length-more parts w)))
+
+done-no : (v : Version) (p : Subject) (new : Desk) (parts : List Written) (s : Spot) (q : Place) → Over p parts s false new → PartRule v p parts s Done q → ⊥
+done-no v p new parts Named q o r = r.1
+done-no v p new parts (InFilter lines s) q o r = r.1
+done-no v p new parts (Between f bs) q o r = r.1
+done-no v p new parts (InBlock f bs x lines s) q o r = r.1
+done-no v p new parts (Ordering w) q o r = o r.all
+
+pub done-part : (v : Version) (cs : List Case) (old new : Desk) (c : Case) (ok : Bool) (here : Place) → (old.at ≡ Away → ⊥) → slice_get cs old.parts ≡ Some c → Finished (subject_of c) old ok new → IsHere (subjects_of cs) old here → Gone v (subjects_of cs) here Done ok new
+done-part v cs old new c ok (Outside parts) a g h i = absurd (a i.0)
+done-part v cs old new c true (Within parts s) a g h i =
+    let ps : List Subject = subjects_of cs in
+    let e : subject_of c ≡ i.1 = at-hand ps old.parts (length parts) (subject_of c) i.1 i.0 (subject-at cs old.parts c g) i.2 in
+    done-yes v ps i.1 new parts s i.2 (subst (λ (p : Subject). Finished p old true new) e h parts s i.0 i.3)
+done-part v cs old new c false (Within parts s) a g h i =
+    let ps : List Subject = subjects_of cs in
+    let e : subject_of c ≡ i.1 = at-hand ps old.parts (length parts) (subject_of c) i.1 i.0 (subject-at cs old.parts c g) i.2 in
+    (λ q k. done-no v i.1 new parts s q (subst (λ (p : Subject). Finished p old false new) e h parts s i.0 i.3) (subst (λ (p : Subject). PartRule v p parts s Done q) (some-same k.0 i.1 (sym k.1 ∙ i.2)) k.2))
+
+-- ---- the loop
+-- what the loop keeps: the lines so far lead to a place that the desk stands for
+abbrev pub Come : Version → List Subject → List Part → Desk → Type 0
+Come v ps lines d = (here : Place) × Go v ps (Outside []) lines here × IsHere ps d here
+
+module _ (v : Version) (ps : List Subject) (d : Desk) where
+  pub come-first : d.at ≡ Away → d.parts ≡ 0 → Come v ps [] d
+  come-first e h = (Outside [], refl, (e, h))
+
+  lacks-place : (here : Place) → (d.at ≡ Away → ⊥) → IsHere ps d here → FailsAt v ps here []
+  lacks-place (Outside parts) a i = absurd (a i.0)
+  lacks-place (Within parts s) a i = tt
+
+  lacks-part : (here : Place) → (d.parts ≡ length ps → ⊥) → IsHere ps d here → FailsAt v ps here []
+  lacks-part (Outside parts) a i = λ e. a (i.1 ∙ e)
+  lacks-part (Within parts s) a i = tt
+
+  pub come-within : (lines : List Part) (i : ℕ) → i ≡ length lines → Come v ps (take i lines) d → (d.at ≡ Away → ⊥) → IsFirstFault v ps lines (length lines + 2)
+  come-within lines i e c a = walk-lacks v ps lines i (length lines + 2) c.0 e (ap (λ k. k + 2) (sym e)) c.1 (lacks-place c.0 a c.2)
+
+  pub come-short : (lines : List Part) (i : ℕ) → i ≡ length lines → Come v ps (take i lines) d → (d.parts ≡ length ps → ⊥) → IsFirstFault v ps lines (length lines + 2)
+  come-short lines i e c a = walk-lacks v ps lines i (length lines + 2) c.0 e (ap (λ k. k + 2) (sym e)) c.1 (lacks-part c.0 a c.2)
+
+  whole : (lines : List Part) (i : ℕ) (here : Place) → length lines ≤ i → Go v ps (Outside []) (take i lines) here → IsHere ps d here → d.at ≡ Away → d.parts ≡ length ps → IsValid v ps lines
+  whole lines i (Outside parts) l g h a e = walk-ends v ps lines i parts l g (sym h.1 ∙ e)
+  whole lines i (Within parts s) l g h a e = absurd (away-none (length h.1.vars) d s a h.3)
+
+  pub come-whole : (lines : List Part) (i : ℕ) → i ≡ length lines → Come v ps (take i lines) d → d.at ≡ Away → d.parts ≡ length ps → IsValid v ps lines
+  come-whole lines i e c a h = whole lines i c.0 (omega (arith, e)) c.1 c.2 a h
+
+  pub come-stops : (lines : List Part) (i : ℕ) (x : Part) (e : Desk) → i < length lines → Come v ps (take i lines) d → ((here : Place) → IsHere ps d here → Gone v ps here (get_or lines i x) false e) → IsFirstFault v ps lines (i + 2)
+  come-stops lines i x e l c h = walk-stops v ps lines i (i + 2) x c.0 l refl c.1 (h c.0 c.2)
+
+  pub come-more : (lines : List Part) (i : ℕ) (x : Part) (e : Desk) → i < length lines → Come v ps (take i lines) d → ((here : Place) → IsHere ps d here → Gone v ps here (get_or lines i x) true e) → Come v ps (take (i + 1) lines) e
+  come-more lines i x e l c h = let r = h c.0 c.2 in (r.0, walk-more v ps lines i x (Outside []) c.0 r.0 l c.1 r.1, r.2)

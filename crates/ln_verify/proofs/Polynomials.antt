@@ -1,0 +1,9 @@
+-- Polynomials in code, compared with those of the rules.
+pub mod CaseLemmas
+pub mod Closes
+pub mod Closing
+pub mod Domain
+pub mod Fitting
+pub mod Negations
+pub mod SamePoly
+pub mod Small

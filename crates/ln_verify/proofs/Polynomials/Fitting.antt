@@ -1,0 +1,149 @@
+-- Whether exponents fit, and what follows of a product.
+use Rattle.std.proofs.Common.{◌≡◌, ◌⊎◌, inl, inr, Bool, ◌↔◌, ℕ, ◌+◌, ◌<◌, ◌≤◌, zero, suc, List, [], ◌∷◌, length, get_or, drop, refl, sym, arith, subst, eqb, true, false}
+use Rattle.std.specs.Prelude.{All}
+use Rattle.std.proofs.Math.IntN.{ℤ, pos}
+use Rattle.std.proofs.lemmas.Bool.{cases_eq, cases_lt}
+use Rattle.std.proofs.lemmas.Bool.Decides.{nat_tests}
+use Rattle.std.proofs.lemmas.List.Elements.{All-head, All-tail, All-cons, All-nil}
+use Rattle.ln_algebra.specs.Tree.{Mul, Tree}
+use Rattle.ln_tree.specs.Exps.{AllAbove, IsAbove, IsRising, Pairs, exponent}
+use Rattle.ln_poly.specs.Expansion.{IsNormal}
+use Rattle.ln_poly.specs.Rows.{PowersFit}
+use Rattle.ln_poly.specs.Sparse.{AreRising, Sparse}
+use Rattle.ln_due.specs.Small.{IsSmall}
+use Rattle.ln_verify.specs.Products.{AllFit, EachOf, PairsFit, RowFits}
+use Rattle.ln_verify.proofs.Polynomials.Small.{too-high}
+
+-- ---- it fits, or some variable passes the limit
+pub record TooHigh (n : ℕ) (a b : Pairs) : Type 0 where
+  pub var : ℕ
+  pub below : var < n
+  pub high : 128 ≤ exponent var a + exponent var b
+
+AllAbove-none : (v : ℕ) (ps : Pairs) (w : ℕ) → AllAbove w ps → v ≤ w → exponent v ps ≡ 0
+AllAbove-none v [] w h l = refl
+AllAbove-none v (p ∷ ps) w h l = by_case (cases_eq p.0 v) (AllAbove-none v ps w h.1 l)
+  where
+    by_case : (p.0 ≡ v) ⊎ (p.0 ≡ v → ⊥) → exponent v ps ≡ 0 → exponent v (p ∷ ps) ≡ 0
+    by_case (inl e) r = absurd (omega (arith, e, h.0, l))
+    by_case (inr d) r = let q : eqb p.0 v ≡ false = grind (arith, nat_tests) in rw (q, r) refl
+
+here : (p : ℕ × ℕ) (ps : Pairs) → exponent p.0 (p ∷ ps) ≡ p.1 + exponent p.0 ps
+here p ps = let q : eqb p.0 p.0 ≡ true = grind (arith, nat_tests) in rw q refl
+
+apart : (p : ℕ × ℕ) (ps : Pairs) (v : ℕ) → (p.0 ≡ v → ⊥) → exponent v (p ∷ ps) ≡ exponent v ps
+apart p ps v d = let q : eqb p.0 v ≡ false = grind (arith, nat_tests) in rw q (omega arith)
+
+more : (p : ℕ × ℕ) (ps : Pairs) (v : ℕ) → exponent v ps ≤ exponent v (p ∷ ps)
+more p ps v = by_case (cases_eq p.0 v)
+  where
+    by_case : (p.0 ≡ v) ⊎ (p.0 ≡ v → ⊥) → exponent v ps ≤ exponent v (p ∷ ps)
+    by_case (inl e) = subst (λ (w : ℕ). exponent w ps ≤ exponent w (p ∷ ps)) e (omega (arith, here p ps))
+    by_case (inr d) = omega (arith, apart p ps v d)
+
+pairs-fit-or : (n : ℕ) (a b : Pairs) → IsAbove a n → PairsFit a b ⊎ TooHigh n a b
+pairs-fit-or n [] b h = inl tt
+pairs-fit-or n (p ∷ ps) b h = by_case (cases_lt (p.1 + exponent p.0 b) 128) (pairs-fit-or n ps b h.1)
+  where
+    by_case : (p.1 + exponent p.0 b < 128) ⊎ (128 ≤ p.1 + exponent p.0 b) → PairsFit ps b ⊎ TooHigh n ps b → PairsFit (p ∷ ps) b ⊎ TooHigh n (p ∷ ps) b
+    by_case (inr l) r = inr (record { var = p.0; below = h.0; high = omega (arith, l, here p ps) })
+    by_case (inl l) (inl r) = inl (l, r)
+    by_case (inl l) (inr r) = inr (record { var = r.var; below = r.below; high = omega (arith, r.high, more p ps r.var) })
+
+-- in each variable
+small : (ps : Pairs) (v : ℕ) → IsRising ps → exponent v ps < 128
+small [] v r = omega arith
+small (p ∷ ps) v r = by_case (cases_eq p.0 v) (small ps v r.3)
+  where
+    by_case : (p.0 ≡ v) ⊎ (p.0 ≡ v → ⊥) → exponent v ps < 128 → exponent v (p ∷ ps) < 128
+    by_case (inl e) s = subst (λ (w : ℕ). exponent w (p ∷ ps) < 128) e (omega (arith, here p ps, AllAbove-none p.0 ps p.0 r.2 (omega arith), r.1))
+    by_case (inr d) s = omega (arith, apart p ps v d, s)
+
+pub pairs-fit : (a b : Pairs) → IsRising a → IsRising b → PairsFit a b → (v : ℕ) → exponent v a + exponent v b < 128
+pairs-fit [] b r s h v = omega (arith, small b v s)
+pairs-fit (p ∷ ps) b r s h v = by_case (cases_eq p.0 v) (pairs-fit ps b r.3 s h.1 v)
+  where
+    by_case : (p.0 ≡ v) ⊎ (p.0 ≡ v → ⊥) → exponent v ps + exponent v b < 128 → exponent v (p ∷ ps) + exponent v b < 128
+    by_case (inl e) q = subst (λ (w : ℕ). exponent w (p ∷ ps) + exponent w b < 128) e (omega (arith, here p ps, AllAbove-none p.0 ps p.0 r.2 (omega arith), h.0))
+    by_case (inr d) q = omega (arith, apart p ps v d, q)
+
+-- ---- rows
+row-powers : (s : Pairs × ℤ) (g : Sparse) → IsRising s.0 → AreRising g → RowFits s.0 g → PowersFit s g
+row-powers s [] r q h = All-nil (λ t. (v : ℕ) → exponent v s.0 + exponent v t.0 < 128)
+row-powers s (t ∷ g) r q h = All-cons (λ t. (v : ℕ) → exponent v s.0 + exponent v t.0 < 128) t g (pairs-fit s.0 t.0 r (All-head (λ t. IsRising t.0) t g q) h.0) (row-powers s g r (All-tail (λ t. IsRising t.0) t g q) h.1)
+
+pub all-powers : (f g : Sparse) → AreRising f → AreRising g → AllFit f g → All (λ s. PowersFit s g) f
+all-powers [] g r q h = All-nil (λ s. PowersFit s g)
+all-powers (s ∷ f) g r q h = All-cons (λ s. PowersFit s g) s f (row-powers s g (All-head (λ t. IsRising t.0) s f r) q h.0) (all-powers f g (All-tail (λ t. IsRising t.0) s f r) q h.1)
+
+record RowHigh (n : ℕ) (a : Pairs) (g : Sparse) : Type 0 where
+  pub at : ℕ
+  pub within : at < length g
+  pub high : TooHigh n a (get_or g at ([], pos 0)).0
+
+row-fits-or : (n : ℕ) (a : Pairs) (g : Sparse) → IsAbove a n → RowFits a g ⊎ RowHigh n a g
+row-fits-or n a [] h = inl tt
+row-fits-or n a (t ∷ g) h = by_case (pairs-fit-or n a t.0 h) (row-fits-or n a g h)
+  where
+    by_case : PairsFit a t.0 ⊎ TooHigh n a t.0 → RowFits a g ⊎ RowHigh n a g → RowFits a (t ∷ g) ⊎ RowHigh n a (t ∷ g)
+    by_case (inr x) r = inr (record { at = 0; within = omega arith; high = x })
+    by_case (inl l) (inl r) = inl (l, r)
+    by_case (inl l) (inr r) = inr (record { at = suc r.at; within = omega (arith, r.within); high = r.high })
+
+record AllHigh (n : ℕ) (f g : Sparse) : Type 0 where
+  pub at : ℕ
+  pub within : at < length f
+  pub high : RowHigh n (get_or f at ([], pos 0)).0 g
+
+all-fit-or : (n : ℕ) (f g : Sparse) → All (λ s. IsAbove s.0 n) f → AllFit f g ⊎ AllHigh n f g
+all-fit-or n [] g h = inl tt
+all-fit-or n (s ∷ f) g h = by_case (row-fits-or n s.0 g (All-head (λ s. IsAbove s.0 n) s f h)) (all-fit-or n f g (All-tail (λ s. IsAbove s.0 n) s f h))
+  where
+    by_case : RowFits s.0 g ⊎ RowHigh n s.0 g → AllFit f g ⊎ AllHigh n f g → AllFit (s ∷ f) g ⊎ AllHigh n (s ∷ f) g
+    by_case (inr x) r = inr (record { at = 0; within = omega arith; high = x })
+    by_case (inl l) (inl r) = inl (l, r)
+    by_case (inl l) (inr r) = inr (record { at = suc r.at; within = omega (arith, r.within); high = r.high })
+
+-- a product whose exponents don't fit isn't small
+pub misfit-large : (n : ℕ) (d e : Tree) (f g : Sparse) → IsNormal n d f → IsNormal n e g → (AllFit f g → ⊥) → IsSmall n (Mul d e) → ⊥
+misfit-large n d e f g p q none s = by_case (all-fit-or n f g p.below)
+  where
+    by_case : AllFit f g ⊎ AllHigh n f g → ⊥
+    by_case (inl h) = none h
+    by_case (inr x) = too-high n d e f g p q x.at x.high.at x.high.high.var ([], pos 0) x.within x.high.within x.high.high.below x.high.high.high s
+
+-- ---- loops over each of several
+module _ {A : Type 0} (H : A → Type 0) where
+  each-turn : (xs : List A) (i : ℕ) (d : A) → i < length xs → EachOf H (drop i xs) ↔ H (get_or xs i d) × EachOf H (drop (suc i) xs)
+  each-turn [] i d l = absurd (omega arith)
+  each-turn (x ∷ xs) zero d l = (λ h. h, λ h. h)
+  each-turn (x ∷ xs) (suc i) d l = each-turn xs i d (omega arith)
+
+  -- whether it holds from place i on decides
+  abbrev pub EachDecides : List A → ℕ → Type 0
+  EachDecides xs i = EachOf H (drop i xs) ↔ EachOf H xs
+
+  pub each-stop : (xs : List A) (i : ℕ) (d : A) → i < length xs → EachDecides xs i → (H (get_or xs i d) → ⊥) → EachOf H xs → ⊥
+  each-stop xs i d l t none h = none ((each-turn xs i d l).0 (t.1 h)).0
+
+  pub each-next : (xs : List A) (i : ℕ) (d : A) → i < length xs → EachDecides xs i → H (get_or xs i d) → EachDecides xs (i + 1)
+  each-next xs i d l t y =
+      let u = each-turn xs i d l in
+      let w : suc i ≡ i + 1 = omega arith in
+      subst (EachDecides xs) w (λ h. t.0 (u.1 (y, h)), λ h. (u.0 (t.1 h)).1)
+
+  past : (xs : List A) (i : ℕ) → length xs ≤ i → EachOf H (drop i xs)
+  past [] zero l = tt
+  past [] (suc i) l = tt
+  past (x ∷ xs) zero l = absurd (omega arith)
+  past (x ∷ xs) (suc i) l = past xs i (omega arith)
+
+  pub each-end : (xs : List A) (i : ℕ) → length xs ≤ i → EachDecides xs i → EachOf H xs
+  each-end xs i l t = t.0 (past xs i l)
+
+-- the tests of the loops, at what stands in the lists
+pub pairs-at : (r : Bool) (x y a b : Pairs) → (r ≡ true) ↔ PairsFit x y → x ≡ a → y ≡ b → (r ≡ true) ↔ PairsFit a b
+pairs-at r x y a b t p q = (λ e. subst (λ (z : Pairs). PairsFit z b) p (subst (PairsFit x) q (t.0 e)), λ h. t.1 (subst (λ (z : Pairs). PairsFit z y) (sym p) (subst (PairsFit a) (sym q) h)))
+
+pub fits-at : (r : Bool) (x y f g : Sparse) → (r ≡ true) ↔ AllFit x y → x ≡ f → y ≡ g → (r ≡ true) ↔ AllFit f g
+fits-at r x y f g t p q = (λ e. subst (λ (z : Sparse). AllFit z g) p (subst (AllFit x) q (t.0 e)), λ h. t.1 (subst (λ (z : Sparse). AllFit z y) (sym p) (subst (AllFit f) (sym q) h)))

@@ -1,0 +1,5 @@
+-- A valid listing gives the perturbed sign.
+pub mod One
+pub mod Signs
+pub mod Stand
+pub mod Tells
