@@ -1,5 +1,5 @@
 -- What a predicate that is run keeps: the verdict of its program is owed, on each row in range there is one, and it is what is given.
-use Rattle.std.proofs.Common.{◌≡◌, List, [], ◌∷◌, refl, ap, sym, ◌∙◌, subst}
+use Rattle.std.proofs.Common.{◌≡◌, [], ◌∷◌, refl, ap, sym, ◌∙◌, subst}
 use Rattle.ln_tree.specs.declared.pred.Pred.{Pred}
 use Rattle.ln_tree.specs.declared.table.Table.{Table}
 use Rattle.ln_tree.specs.Row.{InRange, Row}

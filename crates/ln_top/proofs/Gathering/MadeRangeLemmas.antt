@@ -13,7 +13,7 @@ use Rattle.rand_pcg.specs.Lcg.{Lcg}
 use Rattle.rand_pcg.specs.Pcg.{pcg64}
 use Rattle.ln_tree.specs.declared.shape.VarInfo.{VarInfo}
 use Rattle.ln_tree.specs.Variables.{starts_site, no_var, in_order, has_range, is_param, is_laid_out}
-use Rattle.ln_tree.specs.Row.{Row, AreWithin, InRange}
+use Rattle.ln_tree.specs.Row.{AreWithin, InRange}
 use Rattle.ln_code.specs.declared.row.Row as code
 use Rattle.ln_code.specs.RowOf.{row_of, IsZeroPast}
 use Rattle.ln_rows.specs.Record.{Column, SiteIndex, Variable, columns}

@@ -6,7 +6,6 @@ use Rattle.std.proofs.lemmas.Option.{none-some}
 use Rattle.ln_base.specs.Outside.{Shelf}
 use Rattle.ln_tree.specs.Table.{PredOf}
 use Rattle.ln_parse.proofs.Settling.OneAnswer.{one_table}
-use Rattle.ln_base.specs.declared.span.Span.{Span}
 use Rattle.ln_compile.specs.declared.refusal.Refusal.{Refusal}
 use Rattle.ln_compile.specs.Refused.{span_of}
 use Rattle.ln_compile.proofs.Refusing.OneRefusal.{accepted_alone, refused_one}

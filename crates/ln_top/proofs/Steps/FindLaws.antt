@@ -9,8 +9,7 @@ use Rattle.std.proofs.lemmas.Bool.Decides.{nat_tests}
 use Rattle.ln_tree.specs.declared.pred.Pred.{Pred}
 use Rattle.ln_tree.specs.Names.{name_bytes}
 use Rattle.ln_tree.specs.Table.{PredOf, pred_of}
-use Rattle.ln_code.specs.Part.{Part}
-use Rattle.ln_compile.specs.Compiled.{AreProgramsOf, IsProgramOf, number_of}
+use Rattle.ln_compile.specs.Compiled.{number_of}
 use Rattle.ln_top.specs.Steps.{named}
 use Rattle.ln_top.proofs.Steps.Likeness.{named_in, named_like}
 
