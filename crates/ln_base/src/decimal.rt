@@ -55,7 +55,8 @@ fn every_digit(bytes: &[u8]) -> bool
     bytes.iter().all(|b| b.is_ascii_digit())
 }
 
-fn all_digits(bytes: &[u8]) -> bool
+/// Are the bytes one or more digits from 0 to 9?
+pub fn all_digits(bytes: &[u8]) -> bool
     ensures { result ≡ is_digits bytes.now }
 {
     every_digit(bytes) && !bytes.is_empty()

@@ -22,10 +22,10 @@ use ln_base::NoMemory;
 use ln_bound::Width;
 use ln_code::{Block, FilterBlock, Op, Triple};
 use ln_csyn::spell::{
-    brace_left, brace_right, comma, dash, indices, left, put, put_op, put_type, right, semi, star,
-    values, word_const, word_if, word_return, word_static,
+    brace_left, brace_right, comma, dash, indices, left, put, put_op, put_type, right, semi,
+    values, word_if, word_return, word_static,
 };
-use ln_csyn::write::{put_cast, put_constant, put_index, put_value};
+use ln_csyn::write::{put_cast, put_constant, put_index, put_pointer, put_value};
 use ln_csyn::{COp, CType};
 use ln_interval::Pair;
 use std::alloc::Global;
@@ -354,17 +354,6 @@ fn put_body(
     let reads = reads_row(ops);
     put_may_touch(out, reads)?;
     put_lines(alloc, out, e, ops, ways)?;
-    Ok(())
-}
-
-/// Puts `const int64_t *`.
-fn put_pointer(out: &mut Vec<u8>) -> Result<(), NoMemory>
-    ensures { IfOk result (λ x. Puts out.old.items out.new.items (λ r. lexeme (codes "const") ∷ lexeme (codes "int64_t")
-        ∷ lexeme (codes "*") ∷ r)) }
-{
-    word_const(out)?;
-    put_type(out, CType::Int64)?;
-    star(out)?;
     Ok(())
 }
 

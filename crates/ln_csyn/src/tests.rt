@@ -151,6 +151,16 @@ fn functions(rt: HostRuntime) -> Result<(), Fail> {
         ("int g(const int64_t*v){}\u{e9}", false),
         ("int g(const int64_t*v){/**/}", false),
         ("int g(const int64_t*v){}// g\n", false),
+    ] {
+        assert!(rt; is_file(&rt, alloc, &[FIRST, text])? == want, "{text}");
+    }
+    Ok(())
+}
+
+#[test]
+fn names_of_functions(rt: HostRuntime) -> Result<(), Fail> {
+    let alloc = rt.alloc();
+    for (text, want) in [
         ("int v(const int64_t*v){}", false),
         ("int x(const int64_t*v){}", false),
         ("int vx(const int64_t*v){}", true),
@@ -181,55 +191,16 @@ fn functions(rt: HostRuntime) -> Result<(), Fail> {
     Ok(())
 }
 
+const RESERVED: &str = "auto break case char const continue default do double else enum \
+    extern float for goto if inline int long register restrict return \
+    short signed sizeof static struct switch typedef union unsigned \
+    void volatile while _Bool _Complex _Imaginary int64_t __int128 site \
+    param predicate let sign";
+
 #[test]
 fn words_that_are_no_names(rt: HostRuntime) -> Result<(), Fail> {
     let alloc = rt.alloc();
-    for word in [
-        "auto",
-        "break",
-        "case",
-        "char",
-        "const",
-        "continue",
-        "default",
-        "do",
-        "double",
-        "else",
-        "enum",
-        "extern",
-        "float",
-        "for",
-        "goto",
-        "if",
-        "inline",
-        "int",
-        "long",
-        "register",
-        "restrict",
-        "return",
-        "short",
-        "signed",
-        "sizeof",
-        "static",
-        "struct",
-        "switch",
-        "typedef",
-        "union",
-        "unsigned",
-        "void",
-        "volatile",
-        "while",
-        "_Bool",
-        "_Complex",
-        "_Imaginary",
-        "int64_t",
-        "__int128",
-        "site",
-        "param",
-        "predicate",
-        "let",
-        "sign",
-    ] {
+    for word in RESERVED.split_terminator(' ') {
         let behind = "(const int64_t*v){}";
         assert!(rt;
             !is_file(&rt, alloc, &[FIRST, "int ", word, behind])?,
@@ -303,61 +274,77 @@ fn statements(rt: HostRuntime) -> Result<(), Fail> {
     Ok(())
 }
 
+// One on each line.
+const EXPRESSIONS: &str = "((int)1)
+(-((__int128)1))
+((int)(-((int64_t)1)))
+((int)a1)
+((int)v)
+((int)x)
+((int)0)
+((int)9223372036854775807)
+((int)v[0])
+((int)x [ 9223372036854775807 ])
+(((int)1)+((int)2))
+(((int)1)-((int)2))
+(((int)1)*((int)2))
+(((int)1)<((int)2))
+(((int)1)>((int)2))
+(((int)1)==((int)2))
+(((int)1)!=((int)2))
+(((int)1)/((__int128)2))
+";
+
+// The same.
+const NO_EXPRESSIONS: &str = "1
+((int)-1)
+(((int)1))
+((long)1)
+((int)1a)
+((int)1 2)
+((int)00)
+((int)01)
+((int)9223372036854775808)
+((int)18446744073709551617)
+((int)340282366920938463463374607431768211457)
+((int)v[9223372036854775808])
+((int)v[00])
+((int)v[a])
+((int)a[0])
+(((int)1)<=((int)2))
+(((int)1)= =((int)2))
+(((int)1)=((int)2))
+(((int)1)!((int)2))
+(((int)1)%((int)2))
+(((int)1)+((int)2)+((int)3))
+(((int)1)/((int)0))
+(((int)1)/((int)a))
+(((int)1)/(-((int)1)))
+(((int)1)/((int)((int)2)))
+(-((int)((((int)1)/((int)0))*((int)2))))
+";
+
 #[test]
 fn expressions(rt: HostRuntime) -> Result<(), Fail> {
     let alloc = rt.alloc();
-    for (text, want) in [
-        ("((int)1)", true),
-        ("(-((__int128)1))", true),
-        ("((int)(-((int64_t)1)))", true),
-        ("1", false),
-        ("((int)-1)", false),
-        ("(((int)1))", false),
-        ("((long)1)", false),
-        ("((int)1a)", false),
-        ("((int)1 2)", false),
-        ("((int)a1)", true),
-        ("((int)v)", true),
-        ("((int)x)", true),
-        ("((int)0)", true),
-        ("((int)00)", false),
-        ("((int)01)", false),
-        ("((int)9223372036854775807)", true),
-        ("((int)9223372036854775808)", false),
-        ("((int)18446744073709551617)", false),
-        ("((int)340282366920938463463374607431768211457)", false),
-        ("((int)v[0])", true),
-        ("((int)x [ 9223372036854775807 ])", true),
-        ("((int)v[9223372036854775808])", false),
-        ("((int)v[00])", false),
-        ("((int)v[a])", false),
-        ("((int)a[0])", false),
-        ("(((int)1)+((int)2))", true),
-        ("(((int)1)-((int)2))", true),
-        ("(((int)1)*((int)2))", true),
-        ("(((int)1)<((int)2))", true),
-        ("(((int)1)>((int)2))", true),
-        ("(((int)1)==((int)2))", true),
-        ("(((int)1)!=((int)2))", true),
-        ("(((int)1)<=((int)2))", false),
-        ("(((int)1)= =((int)2))", false),
-        ("(((int)1)=((int)2))", false),
-        ("(((int)1)!((int)2))", false),
-        ("(((int)1)%((int)2))", false),
-        ("(((int)1)+((int)2)+((int)3))", false),
-        ("(((int)1)/((__int128)2))", true),
-        ("(((int)1)/((int)0))", false),
-        ("(((int)1)/((int)a))", false),
-        ("(((int)1)/(-((int)1)))", false),
-        ("(((int)1)/((int)((int)2)))", false),
-        ("(-((int)((((int)1)/((int)0))*((int)2))))", false),
-    ] {
+    for text in EXPRESSIONS.split_terminator('\n') {
         assert!(rt;
-            is_file(&rt, alloc, &[FIRST, HEAD, "return", text, ";}"])? == want,
+            is_file(&rt, alloc, &[FIRST, HEAD, "return", text, ";}"])?,
             "{text}"
         );
     }
-    // Calls stand in functions of two parameters alone.
+    for text in NO_EXPRESSIONS.split_terminator('\n') {
+        assert!(rt;
+            !is_file(&rt, alloc, &[FIRST, HEAD, "return", text, ";}"])?,
+            "{text}"
+        );
+    }
+    Ok(())
+}
+
+#[test]
+fn calls_stand_in_functions_of_two_parameters(rt: HostRuntime) -> Result<(), Fail> {
+    let alloc = rt.alloc();
     for text in ["((int)g(v))", "((int)v(v))", "(-(((int)1)*((int)h(v))))"] {
         assert!(rt;
             !is_file(&rt, alloc, &[FIRST, HEAD, "return", text, ";}"])?,

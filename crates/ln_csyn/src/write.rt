@@ -94,7 +94,8 @@ fn put_both(out: &mut Vec<u8>) -> Result<(), NoMemory>
     Ok(())
 }
 
-fn put_pointer(out: &mut Vec<u8>) -> Result<(), NoMemory>
+/// Puts `const int64_t *`.
+pub fn put_pointer(out: &mut Vec<u8>) -> Result<(), NoMemory>
     ensures { IfOk result (λ x. Puts out.old.items out.new.items (λ r. lexeme (codes "const") ∷ lexeme (codes "int64_t")
         ∷ lexeme (codes "*") ∷ r)) }
 {

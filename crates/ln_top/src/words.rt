@@ -1,12 +1,9 @@
 //! The words, and what a command needs.
 ghost use Rattle.std.specs.Prelude.{◌≡◌, ◌≤◌, ◌+◌, map, option_map, string_bytes, IfSome};
-ghost use Rattle.std.specs.Char.{is_ascii_digit};
-ghost use Rattle.std.specs.List.{list_all};
-ghost use Rattle.ln_base.specs.Decimal.{is_digits};
 ghost use Rattle.ln_top.specs.Plan.{HasForm, command_of, form, named_command, number_of, with_bytes};
 ghost use Rattle.ln_top.specs.Plan.{gen_plan, plan_behind, plan_for, plan_of};
 
-use ln_base::decimal::unsigned;
+use ln_base::decimal::{all_digits, unsigned};
 
 /// What is to be done.
 #[derive(Clone, Copy)]
@@ -123,18 +120,6 @@ fn plan_for<'a>(command: Option<Command>, source: &'a str, rest: &'a [String]) -
     } else {
         None
     }
-}
-
-fn every_digit(bytes: &[u8]) -> bool
-    ensures { result ≡ list_all is_ascii_digit bytes.now }
-{
-    bytes.iter().all(|b| b.is_ascii_digit())
-}
-
-fn all_digits(bytes: &[u8]) -> bool
-    ensures { result ≡ is_digits bytes.now }
-{
-    every_digit(bytes) && !bytes.is_empty()
 }
 
 // The number that a word of 1 to 18 digits is.
