@@ -3,3 +3,4 @@ pub mod Gathering
 pub mod Equality
 pub mod Merging
 pub mod Collected
+pub mod Summing

@@ -1,6 +1,7 @@
 -- Exponents that come in order.
 use Rattle.std.specs.Prelude.{◌≡◌, ℕ, ℤ, ◌≤◌, List, [], ◌∷◌, take, if◌then◌else◌}
 use Rattle.std.specs.List.{dedup}
+use Rattle.std.specs.List.Sorted.{IsStrictlySortedBy}
 use Rattle.std.specs.Ordering.{int_cmp, on, then_cmp}
 use Rattle.std.specs.declared.cmp.Ordering.{Ordering}
 use Rattle.ln_tree.specs.Exps.{Pairs, pairs_cmp, same_pairs}
@@ -9,6 +10,10 @@ use Rattle.ln_poly.specs.Sparse.{Sparse, coefficient_at, exps_of, size_of}
 -- the order of terms: by their exponents, and then by their factors
 abbrev pub term_cmp : Pairs × ℤ → Pairs × ℤ → Ordering
 term_cmp = then_cmp (on (λ (t : Pairs × ℤ). t.0) pairs_cmp) (on (λ (t : Pairs × ℤ). t.1) int_cmp)
+
+-- the exponents rise as lists of pairs, so no two terms have the same
+abbrev pub AreSorted : Sparse → Type 0
+AreSorted f = IsStrictlySortedBy (on (λ t. t.0) pairs_cmp) f
 
 -- the exponents with e at the end, unless it is the last already, behind k
 abbrev pub put_behind : Pairs → List Pairs → Pairs → List Pairs

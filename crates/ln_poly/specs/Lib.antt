@@ -1,5 +1,6 @@
 pub mod Sparse
 pub mod Gather
+pub mod Sums
 pub mod Times
 pub mod Rows
 pub mod Weight

@@ -5,8 +5,9 @@ ghost use Rattle.ln_tree.specs.Exps.{exponent};
 ghost use Rattle.ln_poly.specs.Sparse.{IsFactor, IsPoly, AreBelow, coefficient_at, negated, size_of};
 ghost use Rattle.ln_poly.specs.Rows.{IsProductPut, IsRow, PowersFit};
 
-use crate::gather::{gather, merge, push};
+use crate::gather::{gather, push};
 use crate::poly::Poly;
+use crate::sums::sum;
 use crate::times::times;
 use ln_base::NoMemory;
 use ln_tree::Exps;
@@ -22,19 +23,26 @@ pub(crate) fn put_all(out: &mut Vec<(Exps, i128)>, f: &[(Exps, i128)]) -> Result
     Ok(())
 }
 
-// Puts copies of terms with the other sign at the end.
-fn put_negated(out: &mut Vec<(Exps, i128)>, f: &[(Exps, i128)]) -> Result<(), NoMemory>
-    requires { All (λ t. IsFactor t.1) f.now }
-    ensures { OnOk result (out.new.items ≡ out.old.items ++ negated f.now) }
+// Changes the sign of each factor.
+pub(crate) fn negate(out: &mut Vec<(Exps, i128)>)
+    requires { All (λ t. IsFactor t.1) out.old.items }
+    ensures { out.new.items ≡ negated out.old.items }
 {
-    for t in f {
-        let exps = t.0.copy()?;
-        out.push((exps, -t.1))?;
+    for i in 0..out.len() {
+        let t = &mut out[i];
+        t.1 = -t.1;
     }
-    Ok(())
 }
 
-/// The sum of two polynomials.
+/// Minus a polynomial that is lent. Where it is owned, `Poly::negated` takes no memory.
+pub fn negated(alloc: Global, f: &Poly) -> Result<Poly, NoMemory>
+    ensures { IfOk result (λ g. g ≡ negated f.now) }
+{
+    let g = f.copy(alloc)?;
+    Ok(g.negated())
+}
+
+/// The sum of two polynomials. Where the first is owned, `sum` copies none of its terms.
 pub fn add(alloc: Global, f: &Poly, g: &Poly) -> Result<Poly, NoMemory>
     requires { size_of f.now + size_of g.now < 2 ^ 127 }
     ensures coefficients { IfOk result (λ h. (n : ℕ) (m : List ℕ) →
@@ -43,10 +51,8 @@ pub fn add(alloc: Global, f: &Poly, g: &Poly) -> Result<Poly, NoMemory>
     ensures form { IfOk result IsPoly }
     ensures below { IfOk result (λ h. (n : ℕ) → AreBelow n f.now → AreBelow n g.now → AreBelow n h) }
 {
-    let mut out = Vec::new(alloc);
-    put_all(&mut out, f.terms())?;
-    put_all(&mut out, g.terms())?;
-    let h = merge(alloc, out)?;
+    let own = f.copy(alloc)?;
+    let h = sum(alloc, own, g)?;
     Ok(h)
 }
 
@@ -58,10 +64,8 @@ pub fn sub(alloc: Global, f: &Poly, g: &Poly) -> Result<Poly, NoMemory>
     ensures form { IfOk result IsPoly }
     ensures below { IfOk result (λ h. (n : ℕ) → AreBelow n f.now → AreBelow n g.now → AreBelow n h) }
 {
-    let mut out = Vec::new(alloc);
-    put_all(&mut out, f.terms())?;
-    put_negated(&mut out, g.terms())?;
-    let h = merge(alloc, out)?;
+    let minus = negated(alloc, g)?;
+    let h = sum(alloc, minus, f)?;
     Ok(h)
 }
 

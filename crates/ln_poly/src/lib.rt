@@ -1,7 +1,7 @@
 //! Polynomials with whole coefficients: terms sorted, distinct and without zeros.
 //!
 //! What the crates above use: `normal` is the normal polynomial of a predicate's root, or the first node that has more
-//! than 1,024 terms. `add`, `sub` and `mul` have the coefficients of the sum, the difference and the product, `derive`
+//! than 1,024 terms. `add`, `sum`, `sub` and `mul` have the coefficients of the sum, the difference and the product, `derive`
 //! those of the scaled derivative by one variable, `derive_by` by several; `weight` and `heft` are weighted sums.
 #![tactic(auto)]
 
@@ -12,14 +12,16 @@ pub mod gather;
 pub mod leaf;
 pub mod poly;
 pub mod sizes;
+pub mod sums;
 pub mod times;
 pub mod weights;
 
-pub use arithmetic::{add, mul, sub};
+pub use arithmetic::{add, mul, negated, sub};
 pub use derivatives::{derive, derive_by};
 pub use expansion::{PolyStop, normal};
 pub use leaf::{number, power};
 pub use poly::Poly;
+pub use sums::sum;
 pub use weights::{heft, weight};
 
 #[cfg(test)]

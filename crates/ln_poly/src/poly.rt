@@ -1,8 +1,8 @@
 //! Polynomials.
 ghost use Rattle.std.specs.Prelude.{◌≡◌, ◌↔◌, All, [], IfOk, IsTrue};
-ghost use Rattle.ln_poly.specs.Sparse.{IsPoly};
+ghost use Rattle.ln_poly.specs.Sparse.{IsPoly, negated};
 
-use crate::arithmetic::put_all;
+use crate::arithmetic::{negate, put_all};
 use ln_base::{NoMemory, Seq};
 use ln_tree::Exps;
 use std::alloc::Global;
@@ -43,6 +43,15 @@ impl Poly {
         self.terms.as_slice()
     }
 
+    // The terms, in the memory that they have.
+    pub(crate) fn into_terms(self) -> Vec<(Exps, i128)>
+        ensures value { result.items ≡ self }
+        ensures form { IsPoly self }
+    {
+        let Poly { terms } = self;
+        terms.into_vec()
+    }
+
     /// An equal polynomial.
     pub fn copy(&self, alloc: Global) -> Result<Poly, NoMemory>
         ensures { IfOk result (λ f. f ≡ self.now) }
@@ -50,6 +59,15 @@ impl Poly {
         let mut out = Vec::new(alloc);
         put_all(&mut out, self.terms())?;
         Ok(Poly::seal(Seq::from_vec(out)))
+    }
+
+    /// Minus the polynomial. It takes no memory.
+    pub fn negated(self) -> Poly
+        ensures { result ≡ negated self }
+    {
+        let mut terms = self.into_terms();
+        negate(&mut terms);
+        Poly::seal(Seq::from_vec(terms))
     }
 
     /// The same polynomial?

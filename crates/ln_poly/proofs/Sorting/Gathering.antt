@@ -5,19 +5,18 @@ use Rattle.std.proofs.Math.IntN.{ℤ, pos, ◌+ℤ◌}
 use lib.Signed.{◌<ℤ◌}
 use Rattle.std.proofs.lemmas.List.{get_or-map, length-map, map_more, map-append}
 use Rattle.std.specs.List.{dedup, dedup_from, filter, All, AllByRecursion}
-use Rattle.std.specs.List.Sorted.{IsPermutation, IsSorted, IsStrictlySortedBy}
+use Rattle.std.specs.List.Sorted.{IsSorted, IsStrictlySortedBy}
 use Rattle.std.specs.Cmp.{IsTotalOrder}
-use Rattle.std.specs.Ordering.{int_cmp, int_eq, is_lt, on, ordering_then, then_cmp}
+use Rattle.std.specs.Ordering.{int_cmp, int_eq, is_lt, on, ordering_then}
 use Rattle.std.specs.declared.cmp.Ordering.{Ordering}
 use Rattle.std.specs.declared.cmp.Ordering.TheVariants.{Less, Equal, Greater}
 use Rattle.std.proofs.lemmas.Cmp.{by_ranked, int_ranked, lists_total, nat_cmp_total, on_total, then_total}
 use Rattle.std.proofs.lemmas.List.Elements.{All-cons, All-filter, All-nil}
 use Rattle.std.proofs.lemmas.List.Filters.{All-dedup}
 use Rattle.std.proofs.lemmas.List.Kept.{IsStrictlySortedBy-dedup, IsStrictlySortedBy-filter}
-use Rattle.std.proofs.lemmas.List.Sorted.{All-permutation}
 use Rattle.ln_tree.specs.Exps.{Pairs, IsRising, pairs_cmp, same_pairs, same_pairs-ties}
 use Rattle.ln_poly.specs.Sparse.{AreRising, IsFactor, IsPoly, Sparse, coefficient_at, exps_of, part_at, size_of}
-use Rattle.ln_poly.specs.Gather.{put_behind, put_exps, IsCollected}
+use Rattle.ln_poly.specs.Gather.{AreSorted, put_behind, put_exps, term_cmp, IsCollected}
 use Rattle.ln_poly.proofs.TermLists.Coefficients.{coefficient_at-cons, coefficient_at-more, part-zero, size-cons, size-more, size-next}
 
 -- ---- the exponents, one after another
@@ -156,11 +155,12 @@ off_exps : (P : Pairs → Type 0) (xs : Sparse) → All P (exps_of xs) → All (
 off_exps P xs h = λ k t l. subst P (get_or-map (λ (z : Pairs × ℤ). z.0) xs k t t.0 l) (h k t.0 (omega (arith, length-map xs (λ (z : Pairs × ℤ). z.0))))
 
 -- what holds of all exponents holds of those that are left
-pub still-all : (P : Pairs → Type 0) (terms sorted out : Sparse) → IsPermutation terms sorted → exps_of out ≡ dedup same_pairs (exps_of sorted) → All (λ t. P t.0) terms → All (λ t. P t.0) (filter has_factor out)
-still-all P terms sorted out p e h =
-    let s : All (λ t. P t.0) sorted = All-permutation (λ t. P t.0) terms sorted p h in
-    let d : All P (dedup same_pairs (exps_of sorted)) = All-dedup same_pairs P (exps_of sorted) (on_exps P sorted s) in
-    All-filter has_factor (λ t. P t.0) out (off_exps P out (subst (All P) (sym e) d))
+pub still-all : (P : Pairs → Type 0) (terms out : Sparse) → exps_of out ≡ dedup same_pairs (exps_of terms) → All (λ t. P t.0) terms → All (λ t. P t.0) out
+still-all P terms out e h = off_exps P out (subst (All P) (sym e) (All-dedup same_pairs P (exps_of terms) (on_exps P terms h)))
+
+-- what holds of all exponents holds where they are the same
+pub same-all : (P : Pairs → Type 0) (terms out : Sparse) → exps_of out ≡ exps_of terms → All (λ t. P t.0) terms → All (λ t. P t.0) out
+same-all P terms out e h = off_exps P out (subst (All P) (sym e) (on_exps P terms h))
 
 -- ---- order
 less-then : (a b : Ordering) → is_lt (ordering_then a b) ≡ false → is_lt a ≡ false
@@ -168,7 +168,7 @@ less-then Less b h = h
 less-then Equal b h = refl
 less-then Greater b h = refl
 
-sorted-exps : (xs : Sparse) → IsSorted (then_cmp (on (λ (t : Pairs × ℤ). t.0) pairs_cmp) (on (λ (t : Pairs × ℤ). t.1) int_cmp)) xs → IsSorted pairs_cmp (exps_of xs)
+sorted-exps : (xs : Sparse) → IsSorted term_cmp xs → IsSorted pairs_cmp (exps_of xs)
 sorted-exps xs h = λ k d l r.
     let n = length-map xs (λ (z : Pairs × ℤ). z.0) in
     let a : get_or (exps_of xs) (k + 1) d ≡ (get_or xs (k + 1) (d, pos 0)).0 = get_or-map (λ (z : Pairs × ℤ). z.0) xs (k + 1) (d, pos 0) d (omega arith) in
@@ -186,10 +186,26 @@ strict-terms (x ∷ xs) h = (all xs h.0, strict-terms xs h.1) where
   all [] h = tt
   all (y ∷ ys) h = (h.0, all ys h.1)
 
+terms-strict : (xs : Sparse) → AreSorted xs → IsStrictlySortedBy pairs_cmp (exps_of xs)
+unfolding IsStrictlySortedBy
+terms-strict [] h = tt
+terms-strict (x ∷ xs) h = (all xs h.0, terms-strict xs h.1) where
+  all : (ys : Sparse) → AllByRecursion (λ (y : Pairs × ℤ). pairs_cmp x.0 y.0 ≡ Less) ys → AllByRecursion (λ y. pairs_cmp x.0 y ≡ Less) (exps_of ys)
+  all [] h = tt
+  all (y ∷ ys) h = (h.0, all ys h.1)
+
+-- sorted terms without like neighbours
+pub collected-sorted : (terms out : Sparse) → IsSorted term_cmp terms → exps_of out ≡ dedup same_pairs (exps_of terms) → AreSorted out
+collected-sorted terms out s e = strict-terms out (subst (IsStrictlySortedBy pairs_cmp) (sym e) (IsStrictlySortedBy-dedup pairs_cmp-total same_pairs-ties (exps_of terms) (sorted-exps terms s)))
+
+-- terms with the exponents of sorted ones
+pub same-sorted : (terms out : Sparse) → AreSorted terms → exps_of out ≡ exps_of terms → AreSorted out
+same-sorted terms out s e = strict-terms out (subst (IsStrictlySortedBy pairs_cmp) (sym e) (terms-strict terms s))
+
 -- the terms that are left make a polynomial
-pub is_poly : (terms sorted out : Sparse) → IsPermutation terms sorted → IsSorted (then_cmp (on (λ (t : Pairs × ℤ). t.0) pairs_cmp) (on (λ (t : Pairs × ℤ). t.1) int_cmp)) sorted → exps_of out ≡ dedup same_pairs (exps_of sorted) → size_of out < 2 ^ 127 → AreRising terms → IsPoly (filter has_factor out)
-is_poly terms sorted out p s e z r = record {
-  sorted = IsStrictlySortedBy-filter (on (λ (t : Pairs × ℤ). t.0) pairs_cmp) has_factor out (strict-terms out (subst (IsStrictlySortedBy pairs_cmp) (sym e) (IsStrictlySortedBy-dedup pairs_cmp-total same_pairs-ties (exps_of sorted) (sorted-exps sorted s))));
-  rising = still-all IsRising terms sorted out p e r;
+pub is_poly : (out : Sparse) → AreSorted out → size_of out < 2 ^ 127 → AreRising out → IsPoly (filter has_factor out)
+is_poly out s z r = record {
+  sorted = IsStrictlySortedBy-filter (on (λ (t : Pairs × ℤ). t.0) pairs_cmp) has_factor out s;
+  rising = All-filter has_factor (λ t. IsRising t.0) out r;
   factors = filtered-factors out z;
 }

@@ -1,28 +1,23 @@
 -- What is left to show of `settled`.
-use Rattle.std.proofs.Common.{rules, ◌≡◌, ◌∙◌, arith}
-use Rattle.std.specs.List.{filter}
-use Rattle.std.proofs.lemmas.List.Elements.{filter_from_retain}
-use Rattle.std.proofs.lemmas.List.Sorted.{IsPermutation-refl}
-use Rattle.ln_tree.specs.Exps.{IsAbove}
-use Rattle.ln_poly.proofs.Sorting.Gathering.{has_factor, filtered-coefficient, filtered-size, is_poly, still-all}
+use Rattle.std.proofs.Common.{◌∙◌, arith}
+use Rattle.ln_tree.specs.Exps.{IsAbove, IsRising}
+use Rattle.ln_poly.proofs.Sorting.Gathering.{collected-sorted, still-all}
 use Rattle.ln_poly.proofs.gather.settled.Goals as goal
 
-pub seal-requires : goal.seal-requires
-seal-requires c =
-    let f : c.retain.new.self.items ≡ filter has_factor c.in_ok-out.out.items = filter_from_retain _ has_factor (λ p x b q k. search rules) _ _ _ c.retain.ensures.filtered in
-    rw (c.from_vec.ensures, f) (is_poly _ _ _ (IsPermutation-refl c.args.terms.now) c.requires.sorted c.in_ok-out.ensures.exps (omega (arith, c.in_ok-out.ensures.size, c.requires.small)) c.requires.rising)
+pub nonzero-requires-clause-small : goal.nonzero-requires-clause-small
+nonzero-requires-clause-small c = omega (arith, c.in_ok-out.ensures.size, c.requires.small)
+
+pub nonzero-requires-clause-rising : goal.nonzero-requires-clause-rising
+nonzero-requires-clause-rising c = still-all IsRising c.args.terms.items _ c.in_ok-out.ensures.exps c.requires.rising
+
+pub nonzero-requires-clause-sorted : goal.nonzero-requires-clause-sorted
+nonzero-requires-clause-sorted c = collected-sorted c.args.terms.items _ c.requires.sorted c.in_ok-out.ensures.exps
 
 pub returns-clause-coefficients : goal.returns-clause-coefficients
-returns-clause-coefficients c =
-    let f : c.retain.new.self.items ≡ filter has_factor c.in_ok-out.out.items = filter_from_retain _ has_factor (λ p x b q k. search rules) _ _ _ c.retain.ensures.filtered in
-    λ n m. rw (c.seal.ensures, c.from_vec.ensures, f) (filtered-coefficient n m _ ∙ c.in_ok-out.ensures.coefficients n m)
+returns-clause-coefficients c = λ n m. c.nonzero.ensures.coefficients n m ∙ c.in_ok-out.ensures.coefficients n m
 
 pub returns-clause-size : goal.returns-clause-size
-returns-clause-size c =
-    let f : c.retain.new.self.items ≡ filter has_factor c.in_ok-out.out.items = filter_from_retain _ has_factor (λ p x b q k. search rules) _ _ _ c.retain.ensures.filtered in
-    rw (c.seal.ensures, c.from_vec.ensures, f) (omega (arith, c.in_ok-out.ensures.size, filtered-size c.in_ok-out.out.items))
+returns-clause-size c = omega (arith, c.nonzero.ensures.size, c.in_ok-out.ensures.size)
 
 pub returns-clause-below : goal.returns-clause-below
-returns-clause-below c =
-    let f : c.retain.new.self.items ≡ filter has_factor c.in_ok-out.out.items = filter_from_retain _ has_factor (λ p x b q k. search rules) _ _ _ c.retain.ensures.filtered in
-    λ n h. rw (c.seal.ensures, c.from_vec.ensures, f) (still-all (λ e. IsAbove e n) _ _ _ (IsPermutation-refl c.args.terms.now) c.in_ok-out.ensures.exps h)
+returns-clause-below c = λ n h. c.nonzero.ensures.below n (still-all (λ e. IsAbove e n) c.args.terms.items _ c.in_ok-out.ensures.exps h)

@@ -1,0 +1,109 @@
+//! A sum in place of the first polynomial: no term of it is copied.
+ghost use Rattle.std.specs.Prelude.{◌≡◌, ℕ, List, true, ◌+◌, ◌<◌, ◌≤◌, ◌^◌, ◌+ℤ◌, IfOk, OnOk, length, slice_index_or, unsigned_abs};
+ghost use Rattle.std.specs.List.{AllWithin};
+ghost use Rattle.std.specs.Ordering.{is_lt};
+ghost use Rattle.ln_tree.specs.Exps.{pairs_cmp};
+ghost use Rattle.ln_poly.specs.Gather.{AreSorted};
+ghost use Rattle.ln_poly.specs.Sparse.{IsPoly, AreBelow, AreRising, coefficient_at, size_of};
+ghost use Rattle.ln_poly.specs.Sums.{IsPutIn, IsSpread};
+
+use crate::gather::{add_at, merge, nonzero, push};
+use crate::poly::Poly;
+use ln_base::NoMemory;
+use ln_tree::Exps;
+use std::alloc::Global;
+
+// The first place from `at` on with exponents that aren't below those of t; the length where there is none.
+fn reached(f: &[(Exps, i128)], at: usize, t: &(Exps, i128)) -> usize
+    ensures within { at ≤ length f.now → result ≤ length f.now }
+    ensures passed { AllWithin (λ s. is_lt (pairs_cmp s.0 t.now.0) ≡ true) f.now at result }
+{
+    let n = f.len();
+    for i in at..n {
+        if f[i].0 >= t.0 {
+            return i;
+        }
+    }
+    n
+}
+
+// Are the exponents at a place those of t?
+fn stands_at(f: &[(Exps, i128)], at: usize, t: &(Exps, i128)) -> bool
+    ensures there { result ≡ true → at < length f.now }
+    ensures same { result ≡ true → (slice_index_or f.now at t.now).0 ≡ t.now.0 }
+{
+    at < f.len() && f[at].0 == t.0
+}
+
+// Adds a term to that of f at a place, where it has the same exponents, or else puts a copy at the end of `more`.
+fn put_in(
+    f: &mut Vec<(Exps, i128)>,
+    more: &mut Vec<(Exps, i128)>,
+    at: usize,
+    t: &(Exps, i128),
+) -> Result<(), NoMemory>
+    requires { size_of f.old.items + unsigned_abs t.now.1 < 2 ^ 127 }
+    ensures { OnOk result (IsPutIn f.new.items more.new.items f.old.items more.old.items t.now) }
+{
+    if stands_at(f.as_slice(), at, t) {
+        add_at(f, at, t);
+        return Ok(());
+    }
+    push(more, t)?;
+    Ok(())
+}
+
+// Adds the terms of g to those of f with the same exponents. What f has none for comes out.
+fn spread(
+    alloc: Global,
+    f: &mut Vec<(Exps, i128)>,
+    g: &[(Exps, i128)],
+) -> Result<Vec<(Exps, i128)>, NoMemory>
+    requires { size_of f.old.items + size_of g.now < 2 ^ 127 }
+    ensures { IfOk result (λ more. IsSpread f.new.items more.items f.old.items g.now (length g.now)) }
+{
+    let mut more = Vec::new(alloc);
+    let mut at = 0;
+    for t in g {
+        at = reached(f.as_slice(), at, t);
+        put_in(f, &mut more, at, t)?;
+    }
+    Ok(more)
+}
+
+// The polynomial of sorted terms and of more terms in any order.
+fn joined(alloc: Global, f: Vec<(Exps, i128)>, more: Vec<(Exps, i128)>) -> Result<Poly, NoMemory>
+    requires small { size_of f.items + size_of more.items < 2 ^ 127 }
+    requires sorted { AreSorted f.items }
+    requires rising { AreRising f.items }
+    requires more_rising { AreRising more.items }
+    ensures coefficients { IfOk result (λ h. (n : ℕ) (m : List ℕ) →
+        coefficient_at n h m ≡ coefficient_at n f.items m +ℤ coefficient_at n more.items m) }
+    ensures size { IfOk result (λ h. size_of h ≤ size_of f.items + size_of more.items) }
+    ensures form { IfOk result IsPoly }
+    ensures below { IfOk result (λ h. (n : ℕ) → AreBelow n f.items → AreBelow n more.items → AreBelow n h) }
+{
+    if more.is_empty() {
+        return Ok(nonzero(f));
+    }
+    let mut all = f;
+    let mut more = more;
+    all.append(&mut more)?;
+    let h = merge(alloc, all)?;
+    Ok(h)
+}
+
+/// The sum of two polynomials, in place of the first: only terms with exponents that it doesn't have are copied.
+pub fn sum(alloc: Global, f: Poly, g: &Poly) -> Result<Poly, NoMemory>
+    requires { size_of f + size_of g.now < 2 ^ 127 }
+    ensures coefficients { IfOk result (λ h. (n : ℕ) (m : List ℕ) →
+        coefficient_at n h m ≡ coefficient_at n f m +ℤ coefficient_at n g.now m) }
+    ensures size { IfOk result (λ h. size_of h ≤ size_of f + size_of g.now) }
+    ensures form { IfOk result IsPoly }
+    ensures below { IfOk result (λ h. (n : ℕ) → AreBelow n f → AreBelow n g.now → AreBelow n h) }
+{
+    let mut terms = f.into_terms();
+    let more = spread(alloc, &mut terms, g.terms())?;
+    let h = joined(alloc, terms, more)?;
+    Ok(h)
+}
