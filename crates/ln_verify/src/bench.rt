@@ -56,7 +56,7 @@ fn with_two(alloc: Global, bench: &mut Bench, t: Two, w: Width, b: Pair) -> Resu
     let Some(x) = pop_value(&mut bench.stack) else {
         return Ok(false);
     };
-    let v = two(alloc, t, w, b, &x, &y)?;
+    let v = two(alloc, t, w, b, x, y)?;
     let ok = push_value(&mut bench.stack, v)?;
     Ok(ok)
 }
@@ -68,7 +68,7 @@ fn with_one(alloc: Global, bench: &mut Bench, w: Width, b: Pair) -> Result<bool,
     let Some(x) = pop_value(&mut bench.stack) else {
         return Ok(false);
     };
-    let v = minus(alloc, w, b, &x)?;
+    let v = minus(alloc, w, b, x)?;
     let ok = push_value(&mut bench.stack, v)?;
     Ok(ok)
 }

@@ -110,8 +110,8 @@ pub fn again(x: &Cut, a: Triple) -> Result<Option<Cut>, NoMemory>
 }
 
 // A sum.
-fn sum(alloc: Global, a: Triple, x: &Cut, y: &Cut) -> Result<Option<Cut>, NoMemory>
-    ensures { IfOk result (λ o. (n : ℕ) (j k : FilterKnown) → IsCut n x.now j → IsCut n y.now k →
+fn sum(alloc: Global, a: Triple, x: Cut, y: Cut) -> Result<Option<Cut>, NoMemory>
+    ensures { IfOk result (λ o. (n : ℕ) (j k : FilterKnown) → IsCut n x j → IsCut n y k →
         IsMade (IsCut n) filter_tree_of n o (two_known Plus a j k)) }
 {
     let size = x.size + y.size;
@@ -124,13 +124,13 @@ fn sum(alloc: Global, a: Triple, x: &Cut, y: &Cut) -> Result<Option<Cut>, NoMemo
     if !is_small(size) {
         return Ok(None);
     }
-    let h = add(alloc, &x.poly, &y.poly)?;
+    let h = add(alloc, x.poly, y.poly)?;
     Ok(kept(a, size, h))
 }
 
 // A difference.
-fn difference(alloc: Global, a: Triple, x: &Cut, y: &Cut) -> Result<Option<Cut>, NoMemory>
-    ensures { IfOk result (λ o. (n : ℕ) (j k : FilterKnown) → IsCut n x.now j → IsCut n y.now k →
+fn difference(alloc: Global, a: Triple, x: Cut, y: Cut) -> Result<Option<Cut>, NoMemory>
+    ensures { IfOk result (λ o. (n : ℕ) (j k : FilterKnown) → IsCut n x j → IsCut n y k →
         IsMade (IsCut n) filter_tree_of n o (two_known Minus a j k)) }
 {
     let size = x.size + y.size;
@@ -143,14 +143,14 @@ fn difference(alloc: Global, a: Triple, x: &Cut, y: &Cut) -> Result<Option<Cut>,
     if !is_small(size) {
         return Ok(None);
     }
-    let g = opposite(alloc, &y.poly)?;
-    let h = add(alloc, &x.poly, &g)?;
+    let g = opposite(alloc, y.poly)?;
+    let h = add(alloc, x.poly, g)?;
     Ok(kept(a, size, h))
 }
 
 // A product. Where exponents pass the limit it isn't worked out.
-fn product(alloc: Global, a: Triple, x: &Cut, y: &Cut) -> Result<Option<Cut>, NoMemory>
-    ensures { IfOk result (λ o. (n : ℕ) (j k : FilterKnown) → IsCut n x.now j → IsCut n y.now k →
+fn product(alloc: Global, a: Triple, x: Cut, y: Cut) -> Result<Option<Cut>, NoMemory>
+    ensures { IfOk result (λ o. (n : ℕ) (j k : FilterKnown) → IsCut n x j → IsCut n y k →
         IsMade (IsCut n) filter_tree_of n o (two_known Times a j k)) }
 {
     if !product_covered(x.triple, y.triple, a) {
@@ -182,10 +182,10 @@ pub fn two(
     t: Two,
     w: Width,
     a: Triple,
-    x: &Cut,
-    y: &Cut,
+    x: Cut,
+    y: Cut,
 ) -> Result<Option<Cut>, NoMemory>
-    ensures { IfOk result (λ o. (v : Version) (vars : List Info) (n : ℕ) (j k : FilterKnown) → IsCut n x.now j → IsCut n y.now k →
+    ensures { IfOk result (λ o. (v : Version) (vars : List Info) (n : ℕ) (j k : FilterKnown) → IsCut n x j → IsCut n y k →
         IsMade (IsCut n) filter_tree_of n o ((triple_rules v vars).two t w a j k)) }
 {
     if !is_64(w) {
@@ -199,8 +199,8 @@ pub fn two(
 }
 
 /// Of one value.
-pub fn minus(alloc: Global, w: Width, a: Triple, x: &Cut) -> Result<Option<Cut>, NoMemory>
-    ensures { IfOk result (λ o. (v : Version) (vars : List Info) (n : ℕ) (k : FilterKnown) → IsCut n x.now k →
+pub fn minus(alloc: Global, w: Width, a: Triple, x: Cut) -> Result<Option<Cut>, NoMemory>
+    ensures { IfOk result (λ o. (v : Version) (vars : List Info) (n : ℕ) (k : FilterKnown) → IsCut n x k →
         IsMade (IsCut n) filter_tree_of n o ((triple_rules v vars).minus w a k)) }
 {
     if !is_64(w) {
@@ -209,7 +209,7 @@ pub fn minus(alloc: Global, w: Width, a: Triple, x: &Cut) -> Result<Option<Cut>,
     if !same_covered(x.triple, a) {
         return Ok(None);
     }
-    let h = opposite(alloc, &x.poly)?;
+    let h = opposite(alloc, x.poly)?;
     Ok(kept(a, x.size, h))
 }
 

@@ -7,9 +7,8 @@ ghost use Rattle.ln_algebra.specs.Coefficient.{product};
 ghost use Rattle.ln_poly.specs.Rows.{PowersFit};
 ghost use Rattle.ln_poly.specs.Sparse.{IsPoly, AreBelow, coefficient_at, negated, size_of};
 
-use crate::negated::negated;
 use ln_base::NoMemory;
-use ln_poly::Poly;
+use ln_poly::{Poly, sum};
 use ln_tree::Exps;
 use std::alloc::Global;
 use std::marker::Model;
@@ -56,6 +55,20 @@ impl Held {
         self.lent().terms()
     }
 
+    // The polynomial alone, without other owners. Where this is the last one, no term is copied.
+    fn owned(self, alloc: Global) -> Result<Poly, NoMemory>
+        ensures { IfOk result (λ f. f ≡ self) }
+    {
+        let Held { poly } = self;
+        match Rc::try_unwrap(poly) {
+            Ok(f) => Ok(f),
+            Err(shared) => {
+                let f = shared.as_ref().copy(alloc)?;
+                Ok(f)
+            }
+        }
+    }
+
     /// One more owner. No term is copied.
     pub fn copy(&self) -> Result<Held, NoMemory>
         ensures { IfOk result (λ h. h ≡ self.now) }
@@ -89,26 +102,44 @@ pub fn number(alloc: Global, c: i128) -> Result<Held, NoMemory>
     Ok(h)
 }
 
-/// Minus a polynomial.
-pub fn opposite(alloc: Global, f: &Held) -> Result<Held, NoMemory>
-    ensures { IfOk result (λ h. h ≡ negated f.now) }
+/// Minus a polynomial. Where it has no other owner, no term is copied.
+pub fn opposite(alloc: Global, f: Held) -> Result<Held, NoMemory>
+    ensures { IfOk result (λ h. h ≡ negated f) }
 {
-    let g = negated(alloc, f.lent())?;
-    let h = Held::of(alloc, g)?;
+    let own = f.owned(alloc)?;
+    let h = Held::of(alloc, own.negated())?;
     Ok(h)
 }
 
-/// The sum of two polynomials.
-pub fn add(alloc: Global, f: &Held, g: &Held) -> Result<Held, NoMemory>
-    requires { size_of f.now + size_of g.now < 2 ^ 127 }
+// The sum of two polynomials, in place of the first.
+fn add_to(alloc: Global, f: Held, g: &Held) -> Result<Held, NoMemory>
+    requires { size_of f + size_of g.now < 2 ^ 127 }
     ensures coefficients { IfOk result (λ h. (n : ℕ) (m : List ℕ) →
-        coefficient_at n h m ≡ coefficient_at n f.now m +ℤ coefficient_at n g.now m) }
-    ensures size { IfOk result (λ h. size_of h ≤ size_of f.now + size_of g.now) }
+        coefficient_at n h m ≡ coefficient_at n f m +ℤ coefficient_at n g.now m) }
+    ensures size { IfOk result (λ h. size_of h ≤ size_of f + size_of g.now) }
     ensures form { IfOk result IsPoly }
-    ensures below { IfOk result (λ h. (n : ℕ) → AreBelow n f.now → AreBelow n g.now → AreBelow n h) }
+    ensures below { IfOk result (λ h. (n : ℕ) → AreBelow n f → AreBelow n g.now → AreBelow n h) }
 {
-    let s = ln_poly::add(alloc, f.lent(), g.lent())?;
+    let own = f.owned(alloc)?;
+    let s = sum(alloc, own, g.lent())?;
     let h = Held::of(alloc, s)?;
+    Ok(h)
+}
+
+/// The sum of two polynomials, in place of the longer one. Its terms are copied only where it has other owners.
+pub fn add(alloc: Global, f: Held, g: Held) -> Result<Held, NoMemory>
+    requires { size_of f + size_of g < 2 ^ 127 }
+    ensures coefficients { IfOk result (λ h. (n : ℕ) (m : List ℕ) →
+        coefficient_at n h m ≡ coefficient_at n f m +ℤ coefficient_at n g m) }
+    ensures size { IfOk result (λ h. size_of h ≤ size_of f + size_of g) }
+    ensures form { IfOk result IsPoly }
+    ensures below { IfOk result (λ h. (n : ℕ) → AreBelow n f → AreBelow n g → AreBelow n h) }
+{
+    if f.terms().len() < g.terms().len() {
+        let h = add_to(alloc, g, &f)?;
+        return Ok(h);
+    }
+    let h = add_to(alloc, f, &g)?;
     Ok(h)
 }
 

@@ -21,7 +21,6 @@ pub mod kinds;
 pub mod laws;
 pub mod listings;
 pub mod makers;
-pub mod negated;
 pub mod orders;
 pub mod stacks;
 pub mod tray;

@@ -97,15 +97,15 @@ pub fn again(x: &Value, b: Pair) -> Result<Option<Value>, NoMemory>
 }
 
 // A sum.
-fn sum(alloc: Global, w: Width, b: Pair, x: &Value, y: &Value) -> Result<Option<Value>, NoMemory>
-    ensures { IfOk result (λ o. (n : ℕ) (j k : Known) → IsFor n x.now j → IsFor n y.now k →
+fn sum(alloc: Global, w: Width, b: Pair, x: Value, y: Value) -> Result<Option<Value>, NoMemory>
+    ensures { IfOk result (λ o. (n : ℕ) (j k : Known) → IsFor n x j → IsFor n y k →
         IsMade (IsFor n) tree_of n o (known (sum j.range k.range) (range b) w (j.size + k.size) (Add j.tree k.tree))) }
 {
     let size = x.size + y.size;
     if !is_allowed(is_covered(b, x.pair.add(y.pair)), b, w, size) {
         return Ok(None);
     }
-    let h = add(alloc, &x.poly, &y.poly)?;
+    let h = add(alloc, x.poly, y.poly)?;
     Ok(kept(b, w, size, h))
 }
 
@@ -114,30 +114,24 @@ fn difference(
     alloc: Global,
     w: Width,
     b: Pair,
-    x: &Value,
-    y: &Value,
+    x: Value,
+    y: Value,
 ) -> Result<Option<Value>, NoMemory>
-    ensures { IfOk result (λ o. (n : ℕ) (j k : Known) → IsFor n x.now j → IsFor n y.now k →
+    ensures { IfOk result (λ o. (n : ℕ) (j k : Known) → IsFor n x j → IsFor n y k →
         IsMade (IsFor n) tree_of n o (known (difference j.range k.range) (range b) w (j.size + k.size) (Sub j.tree k.tree))) }
 {
     let size = x.size + y.size;
     if !is_allowed(is_covered(b, x.pair.sub(y.pair)), b, w, size) {
         return Ok(None);
     }
-    let g = opposite(alloc, &y.poly)?;
-    let h = add(alloc, &x.poly, &g)?;
+    let g = opposite(alloc, y.poly)?;
+    let h = add(alloc, x.poly, g)?;
     Ok(kept(b, w, size, h))
 }
 
 // A product. Where exponents pass the limit it isn't worked out.
-fn product(
-    alloc: Global,
-    w: Width,
-    b: Pair,
-    x: &Value,
-    y: &Value,
-) -> Result<Option<Value>, NoMemory>
-    ensures { IfOk result (λ o. (n : ℕ) (j k : Known) → IsFor n x.now j → IsFor n y.now k →
+fn product(alloc: Global, w: Width, b: Pair, x: Value, y: Value) -> Result<Option<Value>, NoMemory>
+    ensures { IfOk result (λ o. (n : ℕ) (j k : Known) → IsFor n x j → IsFor n y k →
         IsMade (IsFor n) tree_of n o (known (product j.range k.range) (range b) w (j.size * k.size) (Mul j.tree k.tree))) }
 {
     let Some(size) = x.size.checked_mul(y.size) else {
@@ -169,10 +163,10 @@ pub fn two(
     t: Two,
     w: Width,
     b: Pair,
-    x: &Value,
-    y: &Value,
+    x: Value,
+    y: Value,
 ) -> Result<Option<Value>, NoMemory>
-    ensures { IfOk result (λ o. (v : Version) (vars : List Info) (n : ℕ) (j k : Known) → IsFor n x.now j → IsFor n y.now k →
+    ensures { IfOk result (λ o. (v : Version) (vars : List Info) (n : ℕ) (j k : Known) → IsFor n x j → IsFor n y k →
         IsMade (IsFor n) tree_of n o ((block_rules v vars).two t w (range b) j k)) }
 {
     if !no_wider(x.width, w) {
@@ -189,8 +183,8 @@ pub fn two(
 }
 
 /// Of one value.
-pub fn minus(alloc: Global, w: Width, b: Pair, x: &Value) -> Result<Option<Value>, NoMemory>
-    ensures { IfOk result (λ o. (v : Version) (vars : List Info) (n : ℕ) (k : Known) → IsFor n x.now k →
+pub fn minus(alloc: Global, w: Width, b: Pair, x: Value) -> Result<Option<Value>, NoMemory>
+    ensures { IfOk result (λ o. (v : Version) (vars : List Info) (n : ℕ) (k : Known) → IsFor n x k →
         IsMade (IsFor n) tree_of n o ((block_rules v vars).minus w (range b) k)) }
 {
     if !no_wider(x.width, w) {
@@ -199,6 +193,6 @@ pub fn minus(alloc: Global, w: Width, b: Pair, x: &Value) -> Result<Option<Value
     if !is_allowed(b.covers(x.pair.neg()), b, w, x.size) {
         return Ok(None);
     }
-    let h = opposite(alloc, &x.poly)?;
+    let h = opposite(alloc, x.poly)?;
     Ok(kept(b, w, x.size, h))
 }

@@ -52,7 +52,7 @@ fn with_two(alloc: Global, tray: &mut Tray, t: Two, w: Width, a: Triple) -> Resu
     let Some(x) = pop_cut(&mut tray.stack) else {
         return Ok(false);
     };
-    let v = two(alloc, t, w, a, &x, &y)?;
+    let v = two(alloc, t, w, a, x, y)?;
     let ok = push_cut(&mut tray.stack, v)?;
     Ok(ok)
 }
@@ -64,7 +64,7 @@ fn with_one(alloc: Global, tray: &mut Tray, w: Width, a: Triple) -> Result<bool,
     let Some(x) = pop_cut(&mut tray.stack) else {
         return Ok(false);
     };
-    let v = minus(alloc, w, a, &x)?;
+    let v = minus(alloc, w, a, x)?;
     let ok = push_cut(&mut tray.stack, v)?;
     Ok(ok)
 }

@@ -15,5 +15,5 @@ same a b h = grind (arith, nat_tests)
 
 pub returns : goal.returns
 returns c n j k f g =
-    added-yes n c.args.x.now c.args.y.now j k c.args.a f g Plus c.kept.result (same _ _ c.if-x-y.false) (sym c.sum_covered.ensures ∙ c.if-not-sum_covered.false) (sym c.is_small.ensures ∙ c.if-not-is_small.false)
-    (c.kept.ensures n (Add j.tree k.tree) (add-normal n j.tree k.tree c.args.x.now.poly c.args.y.now.poly c.in_ok-h.h f.normal g.normal c.in_ok-h.ensures.form (c.in_ok-h.ensures.below n f.normal.below g.normal.below) (λ m. c.in_ok-h.ensures.coefficients n m)))
+    added-yes n c.args.x c.args.y j k c.args.a f g Plus c.kept.result (same _ _ c.if-x-y.false) (sym c.sum_covered.ensures ∙ c.if-not-sum_covered.false) (sym c.is_small.ensures ∙ c.if-not-is_small.false)
+    (c.kept.ensures n (Add j.tree k.tree) (add-normal n j.tree k.tree c.args.x.poly c.args.y.poly c.in_ok-h.h f.normal g.normal c.in_ok-h.ensures.form (c.in_ok-h.ensures.below n f.normal.below g.normal.below) (λ m. c.in_ok-h.ensures.coefficients n m)))

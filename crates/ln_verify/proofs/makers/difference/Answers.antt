@@ -14,22 +14,22 @@ use Rattle.ln_verify.proofs.makers.difference.Goals as goal
 
 pub returns-then-not-is_allowed : goal.returns-then-not-is_allowed
 returns-then-not-is_allowed c n j k f g =
-    two-no n Minus c.args.x.now c.args.y.now j k (range c.args.b) c.args.w f g
-    (λ a. not-true _ (sym c.if-not-is_allowed.true ∙ (c.is_allowed.ensures.value (difference (range c.args.x.now.pair) (range c.args.y.now.pair)) (c.is_covered.ensures (difference (range c.args.x.now.pair) (range c.args.y.now.pair)) (difference_ordered (range c.args.x.now.pair) (range c.args.y.now.pair) c.args.x.now.pair.ordered c.args.y.now.pair.ordered) c.sub.ensures)).1 a))
+    two-no n Minus c.args.x c.args.y j k (range c.args.b) c.args.w f g
+    (λ a. not-true _ (sym c.if-not-is_allowed.true ∙ (c.is_allowed.ensures.value (difference (range c.args.x.pair) (range c.args.y.pair)) (c.is_covered.ensures (difference (range c.args.x.pair) (range c.args.y.pair)) (difference_ordered (range c.args.x.pair) (range c.args.y.pair) c.args.x.pair.ordered c.args.y.pair.ordered) c.sub.ensures)).1 a))
 
 pub add-requires : goal.add-requires
 add-requires c =
-    let e : size_of c.in_ok-g.g ≡ size_of c.args.y.now.poly = ap (λ (z : Sparse). size_of z) c.in_ok-g.ensures ∙ size-negated c.args.y.now.poly in
+    let e : size_of c.in_ok-g.g ≡ size_of c.args.y.poly = ap (λ (z : Sparse). size_of z) c.in_ok-g.ensures ∙ size-negated c.args.y.poly in
     let m = c.is_allowed.ensures.small c.if-not-is_allowed.false in
-    omega (arith, e, m, c.args.x.now.heavy, c.args.y.now.heavy)
+    omega (arith, e, m, c.args.x.heavy, c.args.y.heavy)
 
 pub kept-requires-clause-heavy : goal.kept-requires-clause-heavy
 kept-requires-clause-heavy c =
-    let e : size_of c.in_ok-g.g ≡ size_of c.args.y.now.poly = ap (λ (z : Sparse). size_of z) c.in_ok-g.ensures ∙ size-negated c.args.y.now.poly in
-    omega (arith, e, c.in_ok-h.ensures.size, c.args.x.now.heavy, c.args.y.now.heavy)
+    let e : size_of c.in_ok-g.g ≡ size_of c.args.y.poly = ap (λ (z : Sparse). size_of z) c.in_ok-g.ensures ∙ size-negated c.args.y.poly in
+    omega (arith, e, c.in_ok-h.ensures.size, c.args.x.heavy, c.args.y.heavy)
 
 pub returns : goal.returns
 returns c n j k f g =
-    two-yes n Minus c.args.x.now c.args.y.now j k (range c.args.b) c.args.w f g c.kept.result
-    ((c.is_allowed.ensures.value (difference (range c.args.x.now.pair) (range c.args.y.now.pair)) (c.is_covered.ensures (difference (range c.args.x.now.pair) (range c.args.y.now.pair)) (difference_ordered (range c.args.x.now.pair) (range c.args.y.now.pair) c.args.x.now.pair.ordered c.args.y.now.pair.ordered) c.sub.ensures)).0 c.if-not-is_allowed.false)
-    (c.kept.ensures n (Sub j.tree k.tree) (difference-normal n j.tree k.tree c.args.x.now.poly c.args.y.now.poly c.in_ok-g.g c.in_ok-h.h f.normal g.normal c.in_ok-g.ensures c.in_ok-h.ensures.form (c.in_ok-h.ensures.below n f.normal.below (below-of n c.args.y.now.poly c.in_ok-g.g c.in_ok-g.ensures g.normal.below)) (λ m. c.in_ok-h.ensures.coefficients n m)))
+    two-yes n Minus c.args.x c.args.y j k (range c.args.b) c.args.w f g c.kept.result
+    ((c.is_allowed.ensures.value (difference (range c.args.x.pair) (range c.args.y.pair)) (c.is_covered.ensures (difference (range c.args.x.pair) (range c.args.y.pair)) (difference_ordered (range c.args.x.pair) (range c.args.y.pair) c.args.x.pair.ordered c.args.y.pair.ordered) c.sub.ensures)).0 c.if-not-is_allowed.false)
+    (c.kept.ensures n (Sub j.tree k.tree) (difference-normal n j.tree k.tree c.args.x.poly c.args.y.poly c.in_ok-g.g c.in_ok-h.h f.normal g.normal c.in_ok-g.ensures c.in_ok-h.ensures.form (c.in_ok-h.ensures.below n f.normal.below (below-of n c.args.y.poly c.in_ok-g.g c.in_ok-g.ensures g.normal.below)) (λ m. c.in_ok-h.ensures.coefficients n m)))

@@ -14,22 +14,22 @@ use Rattle.ln_verify.proofs.makers.product.Goals as goal
 
 pub returns-then-not-is_allowed : goal.returns-then-not-is_allowed
 returns-then-not-is_allowed c n j k f g =
-    two-no n Times c.args.x.now c.args.y.now j k (range c.args.b) c.args.w f g
-    (λ a. not-true _ (sym c.if-not-is_allowed.true ∙ (c.is_allowed.ensures.value (product (range c.args.x.now.pair) (range c.args.y.now.pair)) (c.is_covered.ensures (product (range c.args.x.now.pair) (range c.args.y.now.pair)) (product_ordered (range c.args.x.now.pair) (range c.args.y.now.pair)) c.mul.ensures)).1
-    (subst (λ (s : ℕ). Allows (product (range c.args.x.now.pair) (range c.args.y.now.pair)) (range c.args.b) c.args.w s) (sym c.in-Some.ensures.1) a)))
+    two-no n Times c.args.x c.args.y j k (range c.args.b) c.args.w f g
+    (λ a. not-true _ (sym c.if-not-is_allowed.true ∙ (c.is_allowed.ensures.value (product (range c.args.x.pair) (range c.args.y.pair)) (c.is_covered.ensures (product (range c.args.x.pair) (range c.args.y.pair)) (product_ordered (range c.args.x.pair) (range c.args.y.pair)) c.mul.ensures)).1
+    (subst (λ (s : ℕ). Allows (product (range c.args.x.pair) (range c.args.y.pair)) (range c.args.b) c.args.w s) (sym c.in-Some.ensures.1) a)))
 
 pub returns-then-not-all_fit : goal.returns-then-not-all_fit
 returns-then-not-all_fit c n j k f g =
-    two-large n Times c.args.x.now c.args.y.now j k (range c.args.b) c.args.w f g
-    (misfit-large n j.tree k.tree c.args.x.now.poly c.args.y.now.poly f.normal g.normal (λ h. not-true _ (sym c.if-not-all_fit.true ∙ (fits-at c.all_fit.result c.terms.result.now c.terms-2.result.now c.args.x.now.poly c.args.y.now.poly c.all_fit.ensures c.terms.ensures.value c.terms-2.ensures.value).1 h)))
+    two-large n Times c.args.x c.args.y j k (range c.args.b) c.args.w f g
+    (misfit-large n j.tree k.tree c.args.x.poly c.args.y.poly f.normal g.normal (λ h. not-true _ (sym c.if-not-all_fit.true ∙ (fits-at c.all_fit.result c.terms.result.now c.terms-2.result.now c.args.x.poly c.args.y.poly c.all_fit.ensures c.terms.ensures.value c.terms-2.ensures.value).1 h)))
 
 pub mul-requires-2-clause-powers : goal.mul-requires-2-clause-powers
 mul-requires-2-clause-powers c =
-    all-powers c.args.x.now.poly c.args.y.now.poly c.terms.ensures.form.rising c.terms-2.ensures.form.rising ((fits-at c.all_fit.result c.terms.result.now c.terms-2.result.now c.args.x.now.poly c.args.y.now.poly c.all_fit.ensures c.terms.ensures.value c.terms-2.ensures.value).0 c.if-not-all_fit.false)
+    all-powers c.args.x.poly c.args.y.poly c.terms.ensures.form.rising c.terms-2.ensures.form.rising ((fits-at c.all_fit.result c.terms.result.now c.terms-2.result.now c.args.x.poly c.args.y.poly c.all_fit.ensures c.terms.ensures.value c.terms-2.ensures.value).0 c.if-not-all_fit.false)
 
 pub returns : goal.returns
 returns c n j k f g =
-    two-yes n Times c.args.x.now c.args.y.now j k (range c.args.b) c.args.w f g c.kept.result
-    (subst (λ (s : ℕ). Allows (product (range c.args.x.now.pair) (range c.args.y.now.pair)) (range c.args.b) c.args.w s) c.in-Some.ensures.1 ((c.is_allowed.ensures.value (product (range c.args.x.now.pair) (range c.args.y.now.pair)) (c.is_covered.ensures (product (range c.args.x.now.pair) (range c.args.y.now.pair)) (product_ordered (range c.args.x.now.pair) (range c.args.y.now.pair)) c.mul.ensures)).0 c.if-not-is_allowed.false))
+    two-yes n Times c.args.x c.args.y j k (range c.args.b) c.args.w f g c.kept.result
+    (subst (λ (s : ℕ). Allows (product (range c.args.x.pair) (range c.args.y.pair)) (range c.args.b) c.args.w s) c.in-Some.ensures.1 ((c.is_allowed.ensures.value (product (range c.args.x.pair) (range c.args.y.pair)) (c.is_covered.ensures (product (range c.args.x.pair) (range c.args.y.pair)) (product_ordered (range c.args.x.pair) (range c.args.y.pair)) c.mul.ensures)).0 c.if-not-is_allowed.false))
     (subst (λ (s : ℕ). Makes n c.kept.result (Put (range c.args.b) c.args.w s (Mul j.tree k.tree))) c.in-Some.ensures.1
-    (c.kept.ensures n (Mul j.tree k.tree) (mul-normal n j.tree k.tree c.args.x.now.poly c.args.y.now.poly c.in_ok-h.h f.normal g.normal c.in_ok-h.ensures.form (c.in_ok-h.ensures.below n f.normal.below g.normal.below) (λ m l. c.in_ok-h.ensures.coefficients n m l))))
+    (c.kept.ensures n (Mul j.tree k.tree) (mul-normal n j.tree k.tree c.args.x.poly c.args.y.poly c.in_ok-h.h f.normal g.normal c.in_ok-h.ensures.form (c.in_ok-h.ensures.below n f.normal.below g.normal.below) (λ m l. c.in_ok-h.ensures.coefficients n m l))))
