@@ -1,6 +1,7 @@
 -- Lists of terms: coefficients, sums, products.
 pub mod Coefficients
 pub mod Products
+pub mod Bounded
 pub mod Leaves
 pub mod Counting
 pub mod Negating

@@ -6,6 +6,7 @@ pub mod Rows
 pub mod Weight
 pub mod Derivative
 pub mod Expansion
+pub mod Within
 pub mod Stop
 pub mod Ready
 pub mod OfPred

@@ -3,7 +3,7 @@ ghost use Rattle.std.specs.Prelude.{◌≡◌, ℕ, List, ◌+◌, ◌*◌, ◌<
 ghost use Rattle.ln_algebra.specs.Coefficient.{product};
 ghost use Rattle.ln_tree.specs.Exps.{exponent};
 ghost use Rattle.ln_poly.specs.Sparse.{IsFactor, IsPoly, AreBelow, coefficient_at, negated, size_of};
-ghost use Rattle.ln_poly.specs.Rows.{IsProductPut, IsRow, PowersFit};
+ghost use Rattle.ln_poly.specs.Rows.{IsProductPut, IsRow, IsRows, PowersFit};
 
 use crate::gather::{gather, push};
 use crate::poly::Poly;
@@ -102,6 +102,24 @@ fn put_row(
     Ok(())
 }
 
+// The products of the terms of f with those of g, gathered.
+pub(crate) fn products(
+    alloc: Global,
+    f: &[(Exps, i128)],
+    g: &[(Exps, i128)],
+) -> Result<Poly, NoMemory>
+    requires room { size_of f.now * size_of g.now < 2 ^ 127 }
+    requires powers { All (λ s. PowersFit s g.now) f.now }
+    ensures { IfOk result (λ h. IsRows h f.now g.now (length f.now)) }
+{
+    let mut out = Vec::new(alloc);
+    'rows: for s in f {
+        put_row(alloc, &mut out, s, g)?;
+    }
+    let h = gather(alloc, out)?;
+    Ok(h)
+}
+
 /// The product of two polynomials.
 pub fn mul(alloc: Global, f: &Poly, g: &Poly) -> Result<Poly, NoMemory>
     requires room { size_of f.now * size_of g.now < 2 ^ 127 }
@@ -112,12 +130,6 @@ pub fn mul(alloc: Global, f: &Poly, g: &Poly) -> Result<Poly, NoMemory>
     ensures form { IfOk result IsPoly }
     ensures below { IfOk result (λ h. (n : ℕ) → AreBelow n f.now → AreBelow n g.now → AreBelow n h) }
 {
-    let mut out = Vec::new(alloc);
-    let f = f.terms();
-    let g = g.terms();
-    'rows: for s in f {
-        put_row(alloc, &mut out, s, g)?;
-    }
-    let h = gather(alloc, out)?;
+    let h = products(alloc, f.terms(), g.terms())?;
     Ok(h)
 }

@@ -2,7 +2,8 @@
 //!
 //! What the crates above use: `normal` is the normal polynomial of a predicate's root, or the first node that has more
 //! than 1,024 terms. `add`, `sum`, `sub` and `mul` have the coefficients of the sum, the difference and the product, `derive`
-//! those of the scaled derivative by one variable, `derive_by` by several; `weight` and `heft` are weighted sums.
+//! those of the scaled derivative by one variable, `derive_by` by several; `weight` and `heft` are weighted sums. `mul_within` is
+//! `mul` where the product has no more terms than are wanted, or tells that it has more.
 #![tactic(auto)]
 
 pub mod arithmetic;
@@ -15,6 +16,7 @@ pub mod sizes;
 pub mod sums;
 pub mod times;
 pub mod weights;
+pub mod within;
 
 pub use arithmetic::{add, mul, negated, sub};
 pub use derivatives::{derive, derive_by};
@@ -23,6 +25,7 @@ pub use leaf::{number, power};
 pub use poly::Poly;
 pub use sums::sum;
 pub use weights::{heft, weight};
+pub use within::mul_within;
 
 #[cfg(test)]
 mod tests;

@@ -1,9 +1,10 @@
 //! Worked values.
 ghost use Rattle.std.specs.Prelude.{◌≡◌, [], ◌∷◌, pos, neg_ℤ, Some, IfOk};
+ghost use Rattle.ln_poly.specs.Sparse.{IsFactor};
 
-use crate::{Poly, add, derive, heft, mul, number, power, weight};
+use crate::{Poly, add, derive, heft, mul, mul_within, number, power, weight};
 use ln_base::{NoMemory, Seq};
-use ln_tree::{Name, Shape, VarInfo};
+use ln_tree::{Exps, Name, Shape, VarInfo};
 use std::alloc::Global;
 use std::test::Fail;
 
@@ -70,5 +71,51 @@ fn derivatives_are_scaled(rt: HostRuntime) -> Result<(), Fail> {
     assert!(rt; is_power(&second, 1, 3));
     assert!(rt; m == Some(1_000_000_000));
     assert!(rt; w == Some(1_003_003_001));
+    Ok(())
+}
+
+// x + c, of variable 0.
+fn x_and(alloc: Global, c: i128) -> Result<Poly, NoMemory>
+    requires { IsFactor c }
+    ensures { IfOk result (λ f. f ≡ ([], c) ∷ ((0, 1) ∷ [], pos 1) ∷ []) }
+{
+    let mut x = Exps::new(alloc);
+    x.push(0, 1)?;
+    let mut terms = Seq::new(alloc);
+    terms.push((Exps::new(alloc), c))?;
+    terms.push((x, 1))?;
+    Ok(Poly::seal(terms))
+}
+
+// The product of x + 1 and x - 1, where it has at most `most` terms.
+fn squares_less(alloc: Global, most: usize) -> Result<Option<Poly>, NoMemory> {
+    let f = x_and(alloc, 1)?;
+    let g = x_and(alloc, -1)?;
+    let h = mul_within(alloc, &f, &g, most)?;
+    Ok(h)
+}
+
+// Is it x * x - 1, of variable 0?
+fn is_square_less_one(f: &Option<Poly>) -> bool {
+    let Some(f) = f else {
+        return false;
+    };
+    match f.terms() {
+        [s, t] => {
+            s.1 == -1
+                && s.0.pairs().is_empty()
+                && t.1 == 1
+                && t.0.pairs() == [(0u8, 2u8)].as_slice()
+        }
+        _ => false,
+    }
+}
+
+#[test]
+fn products_of_too_many_terms_are_given_up(rt: HostRuntime) -> Result<(), Fail> {
+    let kept = squares_less(rt.alloc(), 2)?;
+    let given_up = squares_less(rt.alloc(), 1)?;
+    assert!(rt; is_square_less_one(&kept));
+    assert!(rt; given_up.is_none());
     Ok(())
 }

@@ -17,6 +17,7 @@ use Rattle.ln_tree.specs.Exps.{IsAbove, Pairs, exponents_from, vector}
 use Rattle.ln_poly.specs.Sparse.{AreBelow, IsPoly, Sparse, coefficient_at}
 use Rattle.ln_poly.specs.Expansion.{HasTooManyTerms, IsNormal}
 use Rattle.ln_poly.specs.Ready.{AreNormal}
+use Rattle.ln_poly.specs.Within.{TakesMore}
 use Rattle.ln_poly.proofs.TermLists.Leaves.{no-terms, one-term}
 use Rattle.ln_poly.proofs.TermLists.Products.{over-terms}
 
@@ -96,6 +97,12 @@ module _ (n : ℕ) where
       c m l
       ∙ product-same (coefficient_at n f) (coefficient_at n g) (normal_coefficient d) (normal_coefficient e) n (coefficients-of d f p) (coefficients-of e g q) m l
       ∙ sym (product_is (normal_coefficient d) (normal_coefficient e) m))
+
+  -- a product of more than 1,024 terms is that of an expression with as many
+  pub mul-many : (d e : Tree) (f g : Sparse) → IsNormal n d f → IsNormal n e g → TakesMore f g 1024 → HasTooManyTerms n (Mul d e)
+  mul-many d e f g p q t =
+      let h = t n p.below q.below in
+      record { vectors = h.vectors; distinct = h.distinct; monomials = λ m i. record { size = h.sizes m i; nonzero = λ z. h.nonzero m i (product-same (coefficient_at n f) (coefficient_at n g) (normal_coefficient d) (normal_coefficient e) n (coefficients-of d f p) (coefficients-of e g q) m (h.sizes m i) ∙ sym (product_is (normal_coefficient d) (normal_coefficient e) m) ∙ z) }; many = h.many }
 
   -- e^0 is 1, and e^(k + 1) is e^k times e
   pub power-none : (e : Tree) (f : Sparse) → IsNormal n (Num (pos 1)) f → IsNormal n (Pow e 0) f

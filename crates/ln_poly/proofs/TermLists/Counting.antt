@@ -39,7 +39,7 @@ lacks-zero : (f : List Term) (m : List ℕ) → Lacks f m → factor_at f m ≡ 
 lacks-zero [] m l = refl
 lacks-zero (t ∷ f) m l = rw l.0 (omega (arith, ints, lacks-zero f m l.1))
 
-in-nonzero : (f : List Term) (m : List ℕ) → IsCollected f → AreNonzero f → In (vectors f) m → factor_at f m ≢ pos 0
+pub in-nonzero : (f : List Term) (m : List ℕ) → IsCollected f → AreNonzero f → In (vectors f) m → factor_at f m ≢ pos 0
 in-nonzero [] m c z i e = i
 in-nonzero (t ∷ f) m c z (inl q) e =
     let x : same_vector t.exponents m ≡ true = rw q (same_vector-refl t.exponents) in
@@ -59,22 +59,22 @@ nonzero-in (t ∷ f) m h = by_case (nonzero-in f m) (same_vector t.exponents m) 
   by_case ih true q = inl (sym (same_vector-is t.exponents m q))
   by_case ih false q = inr (ih (λ e. h (rw q (omega (arith, ints, e)))))
 
-distinct-vectors : (f : List Term) → IsCollected f → AreDistinct (vectors f)
+pub distinct-vectors : (f : List Term) → IsCollected f → AreDistinct (vectors f)
 distinct-vectors [] c = tt
 distinct-vectors (t ∷ f) c = (lacks-not_in f t.exponents c.0, distinct-vectors f c.1)
 
-over-length : (n : ℕ) (f : List Term) (m : List ℕ) → Over n f → In (vectors f) m → length m ≡ n
+pub over-length : (n : ℕ) (f : List Term) (m : List ℕ) → Over n f → In (vectors f) m → length m ≡ n
 over-length n [] m o i = absurd i
 over-length n (t ∷ f) m o (inl e) = rw e o.0
 over-length n (t ∷ f) m o (inr i) = over-length n f m o.1 i
 
-nonzero-terms : (n : ℕ) (f : Sparse) → IsPoly f → AreNonzero (terms_of n f)
+pub nonzero-terms : (n : ℕ) (f : Sparse) → IsPoly f → AreNonzero (terms_of n f)
 nonzero-terms n f p = go f p.factors where
   go : (g : Sparse) → All (λ t. IsFactor t.1) g → AreNonzero (terms_of n g)
   go [] a = tt
   go (t ∷ g) a = ((All-head (λ z. IsFactor z.1) t g a).0, go g (All-tail (λ z. IsFactor z.1) t g a))
 
-length-vectors : (n : ℕ) (f : Sparse) → length (vectors (terms_of n f)) ≡ length f
+pub length-vectors : (n : ℕ) (f : Sparse) → length (vectors (terms_of n f)) ≡ length f
 length-vectors n [] = refl
 length-vectors n (t ∷ f) = ap suc (length-vectors n f)
 

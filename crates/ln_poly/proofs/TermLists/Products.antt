@@ -100,7 +100,7 @@ unfolding row_at
 row_times n m s [] = refl
 row_times n m s (t ∷ g) = omega (arith, ints, row_times n m s g)
 
-rows_times : (n : ℕ) (m : List ℕ) (f g : Sparse) → sum_over (λ s. row_at n m s g) f ≡ factor_at (times (terms_of n f) (terms_of n g)) m
+pub rows_times : (n : ℕ) (m : List ℕ) (f g : Sparse) → sum_over (λ s. row_at n m s g) f ≡ factor_at (times (terms_of n f) (terms_of n g)) m
 rows_times n m [] g = refl
 rows_times n m (s ∷ f) g =
     omega (arith, ints, rows_times n m f g, row_times n m s g, sum_over-append (λ t. if same_vector t.exponents m then t.factor else pos 0) (times_term (term_of n s) (terms_of n g)) (times (terms_of n f) (terms_of n g)))

@@ -1,0 +1,27 @@
+use Rattle.std.proofs.Common.{arith, length, refl}
+use Rattle.ln_poly.specs.Rows.{IsRows}
+use Rattle.ln_poly.proofs.TermLists.Bounded.{rows-gathered}
+use Rattle.ln_poly.proofs.TermLists.Products.{rows-begin, rows-end, rows-room, rows-size, rows-step}
+use Rattle.ln_poly.proofs.arithmetic.products.Goals as goal
+
+pub rows-init : goal.rows-init
+rows-init c = rw c.new-out.ensures.items (rows-begin _ _)
+
+pub put_row-requires-clause-room : goal.put_row-requires-clause-room
+put_row-requires-clause-room c = rows-room _ _ _ _ _ c.rows.invariant (omega arith) c.s-item.is c.requires.room
+
+pub rows-preserved : goal.rows-preserved
+rows-preserved c = rows-step _ _ _ _ _ _ c.rows.invariant (omega arith) c.s-item.is c.in_ok-put_row.ensures
+
+pub gather-requires-clause-small : goal.gather-requires-clause-small
+gather-requires-clause-small c =
+    let r : IsRows c.rows.out.items c.args.f.now c.args.g.now (length c.args.f.now) = rows-end _ _ _ _ _ _ c.rows.invariant (omega arith) refl refl in
+    omega (arith, rows-size _ _ _ r, c.requires.room)
+
+pub gather-requires-clause-rising : goal.gather-requires-clause-rising
+gather-requires-clause-rising c = c.rows.invariant.rising
+
+pub returns : goal.returns
+returns c =
+    let r : IsRows c.rows.out.items c.args.f.now c.args.g.now (length c.args.f.now) = rows-end _ _ _ _ _ _ c.rows.invariant (omega arith) refl refl in
+    rows-gathered _ _ _ _ _ r c.in_ok-h.ensures.coefficients c.in_ok-h.ensures.size c.in_ok-h.ensures.form c.in_ok-h.ensures.below

@@ -1,0 +1,100 @@
+//! A product that is given up where it has too many terms.
+ghost use Rattle.std.specs.Prelude.{◌≡◌, ℕ, List, ◌+◌, ◌-◌, ◌*◌, ◌<◌, ◌≤◌, ◌^◌, ◌+ℤ◌, ◌↔◌};
+ghost use Rattle.std.specs.Prelude.{All, IfOk, IfSome, IfNone, IsTrue, drop, length, take};
+ghost use Rattle.ln_algebra.specs.Coefficient.{product};
+ghost use Rattle.ln_poly.specs.Sparse.{IsPoly, AreBelow, coefficient_at, size_of};
+ghost use Rattle.ln_poly.specs.Rows.{IsRows, PowersFit};
+ghost use Rattle.ln_poly.specs.Within.{TakesMore};
+
+use crate::arithmetic::products;
+use crate::poly::Poly;
+use crate::sums::sum;
+use ln_base::{NoMemory, Seq};
+use ln_tree::Exps;
+use std::alloc::Global;
+
+// As many terms of the first polynomial are multiplied at once.
+const ROWS: usize = 64;
+
+// The end of the next rows.
+fn end_of(i: usize, n: usize) -> usize
+    requires { i < n }
+    ensures further { i < result }
+    ensures within { result ≤ n }
+{
+    if n - i <= ROWS {
+        return n;
+    }
+    i + ROWS
+}
+
+// The terms from one place to another.
+fn between(f: &[(Exps, i128)], i: usize, j: usize) -> &[(Exps, i128)]
+    requires order { i ≤ j }
+    requires within { j ≤ length f.now }
+    ensures { result.now ≡ take (j - i) (drop i f.now) }
+{
+    &f[i..j]
+}
+
+// What there is of the first i rows, with the rows from there up to j.
+fn with_rows(
+    alloc: Global,
+    done: Poly,
+    f: &[(Exps, i128)],
+    g: &[(Exps, i128)],
+    i: usize,
+    j: usize,
+) -> Result<Poly, NoMemory>
+    requires room { size_of f.now * size_of g.now < 2 ^ 127 }
+    requires powers { All (λ s. PowersFit s g.now) f.now }
+    requires order { i ≤ j }
+    requires within { j ≤ length f.now }
+    requires done { IsRows done f.now g.now i }
+    ensures { IfOk result (λ h. IsRows h f.now g.now j) }
+{
+    let rows = between(f, i, j);
+    let more = products(alloc, rows, g)?;
+    let h = sum(alloc, done, &more)?;
+    Ok(h)
+}
+
+// Are there so many terms that more than `most` stay, whatever the rows that are left take away? Each has `width` terms.
+fn are_too_many(terms: usize, left: usize, width: usize, most: usize) -> bool
+    ensures { IsTrue result ↔ (most + left * width < terms) }
+{
+    terms.saturating_sub(most) > left.saturating_mul(width)
+}
+
+/// The product of two polynomials, where it has at most `most` terms; None where it has more.
+///
+/// The terms of f are multiplied 64 at a time. Each product of two terms that is still to come takes away at most one term of what
+/// there is; so None is answered as soon as there are more terms than `most` and those products. Beside the products of 64 terms of
+/// f, which are then collected, at most about half of all products of two terms are held at once. It takes the time of `mul`, and
+/// that of a sum for each 64 terms of f.
+pub fn mul_within(alloc: Global, f: &Poly, g: &Poly, most: usize) -> Result<Option<Poly>, NoMemory>
+    requires room { size_of f.now * size_of g.now < 2 ^ 127 }
+    requires powers { All (λ s. PowersFit s g.now) f.now }
+    ensures coefficients { IfOk result (λ o. IfSome o (λ h. (n : ℕ) (m : List ℕ) → length m ≡ n →
+        coefficient_at n h m ≡ product (coefficient_at n f.now) (coefficient_at n g.now) m)) }
+    ensures size { IfOk result (λ o. IfSome o (λ h. size_of h ≤ size_of f.now * size_of g.now)) }
+    ensures form { IfOk result (λ o. IfSome o IsPoly) }
+    ensures below { IfOk result (λ o. IfSome o (λ h. (n : ℕ) → AreBelow n f.now → AreBelow n g.now → AreBelow n h)) }
+    ensures few { IfOk result (λ o. IfSome o (λ h. length h ≤ most)) }
+    ensures none { IfOk result (λ o. IfNone o (TakesMore f.now g.now most)) }
+{
+    let f = f.terms();
+    let g = g.terms();
+    let mut done = Poly::seal(Seq::new(alloc));
+    let mut i = 0;
+    'parts: while i < f.len() {
+        let j = end_of(i, f.len());
+        let next = with_rows(alloc, done, f, g, i, j)?;
+        done = next;
+        i = j;
+        if are_too_many(done.terms().len(), f.len() - i, g.len(), most) {
+            return Ok(None);
+        }
+    }
+    Ok(Some(done))
+}
