@@ -15,7 +15,6 @@ use Rattle.ln_code.specs.Part.{Part as Program}
 use Rattle.ln_cert.specs.declared.part.Part.{Part}
 use Rattle.ln_cert.specs.declared.part.Part.TheVariants.{Predicate, NoFilter, Filter, FilterOp, Decide, Block, RangeOp, End, Order, Done}
 use Rattle.ln_cert.specs.Lines.{joined}
-use Rattle.ln_cert.specs.Listing.{Predicates}
 use Rattle.ln_cert.specs.Text.{Each, IsLine, of_block, of_filter, takes_off, text_of, verb_of}
 
 -- an operation of a filter with its triple
@@ -94,8 +93,3 @@ pub record ForBlock (c : Code) : Type 0 where
   pub few : length vars ≤ 168
   pub rules : FollowsRules vars c
   pub of_sites : AreOfSites vars c.exps
-
--- these lines were put, and they are predicates of version 2
-pub record WroteListing (old new : List ℕ) (ps : List Part) : Type 0 where
-  pub wrote : Wrote old new ps
-  pub form : Predicates 2 ps

@@ -3,7 +3,8 @@
 //! `ListText bytes version parts` says that the bytes are the text of this listing (`specs/Text.antt` has the lines,
 //! `specs/Listing.antt` the grammar). `read_listing` answers it both ways: the listing of the bytes, and `Form` with the line of
 //! their form fault exactly where they are none. `write_listing` gives the text of the listing of programs
-//! (`specs/Written.antt`). By `laws::one_listing` no bytes are two listings.
+//! (`specs/Written.antt`); `begin_listing` and `put_program` give it program by program, so that each may be dropped before the next is
+//! made. By `laws::one_listing` no bytes are two listings.
 #![tactic(auto)]
 
 pub mod args;
@@ -23,4 +24,4 @@ pub mod write;
 pub use listing::Listing;
 pub use part::{Entry, Part};
 pub use read::{ListStop, read_listing};
-pub use write::write_listing;
+pub use write::{begin_listing, put_program, write_listing};

@@ -6,14 +6,15 @@ ghost use Rattle.ln_order.specs.Places.{order_places};
 ghost use Rattle.ln_tree.specs.Names.{name_bytes};
 ghost use Rattle.ln_code.specs.Kept.{IsList, IsProgram};
 ghost use Rattle.ln_code.specs.Lists.{list_from, list_of};
+ghost use Rattle.ln_code.specs.Part.{Part as AnyProgram};
 ghost use Rattle.ln_code.specs.Part.{lines_of};
 ghost use Rattle.ln_cert.specs.declared.part.Part.{Part as AnyPart};
 ghost use Rattle.ln_cert.specs.declared.part.Part.TheVariants as part;
 ghost use Rattle.ln_cert.specs.Listing.{ListText};
 ghost use Rattle.ln_cert.specs.Text.{Each};
 ghost use Rattle.ln_cert.specs.Writing.{Puts};
-ghost use Rattle.ln_cert.specs.Written.{ForBlock, ForFilter, InBlock, InFilter, Wrote, WroteListing, block_lines, blocks_lines};
-ghost use Rattle.ln_cert.specs.Written.{filter_line, filter_lines, listing_of, order_lines, program_lines, range_line};
+ghost use Rattle.ln_cert.specs.Written.{ForBlock, ForFilter, InBlock, InFilter, Wrote, block_lines, blocks_lines};
+ghost use Rattle.ln_cert.specs.Written.{filter_line, filter_lines, listing_of, order_lines, range_line};
 
 use crate::put::{
     put, put_bare, put_block, put_filter_op, put_numbers, put_places, put_predicate, put_range_op,
@@ -200,9 +201,21 @@ fn put_all_orders(alloc: Global, out: &mut Vec<u8>, p: &Program) -> Result<(), N
     Ok(())
 }
 
-fn put_program(alloc: Global, out: &mut Vec<u8>, p: &Program) -> Result<(), NoMemory>
+/// The listing of no programs, of version 2: the text behind which programs are put.
+pub fn begin_listing(alloc: Global) -> Result<Vec<u8>, NoMemory>
+    ensures { IfOk result (λ v. ListText v.items 2 (listing_of [])) }
+{
+    let mut out = Vec::new(alloc);
+    out.extend_from_slice(b"listing 2\n".as_slice())?;
+    Ok(out)
+}
+
+/// Puts a program behind the listing of programs: it is the listing of these and of this one. Where there is no memory, what is put
+/// is no listing.
+pub fn put_program(alloc: Global, out: &mut Vec<u8>, p: &Program) -> Result<(), NoMemory>
     requires few { length p.now.blocks ≤ 65536 }
-    ensures { IfOk result (λ x. WroteListing out.old.items out.new.items (program_lines p.now)) }
+    ensures { IfOk result (λ x. (ps : List AnyProgram) → ListText out.old.items 2 (listing_of ps)
+        → ListText out.new.items 2 (listing_of (ps ++ p.now ∷ []))) }
 {
     let blocks = p.blocks();
     put_name(out, &p.shape().name)?;
@@ -218,8 +231,7 @@ pub fn write_listing(alloc: Global, p: &Programs) -> Result<Vec<u8>, NoMemory>
     ensures text { IfOk result (λ v. ListText v.items 2 (listing_of p.now)) }
     ensures back { IfOk result (λ v. (w : ℕ) (qs : List AnyPart) → ListText v.items w qs → (w ≡ 2) × (qs ≡ listing_of p.now)) }
 {
-    let mut out = Vec::new(alloc);
-    out.extend_from_slice(b"listing 2\n".as_slice())?;
+    let mut out = begin_listing(alloc)?;
     'programs: for program in p.as_slice() {
         put_program(alloc, &mut out, program)?;
     }

@@ -1,7 +1,7 @@
 -- What a program's facts say of its listing.
-use Rattle.std.proofs.Common.{◌≡◌, ℕ, suc, ◌+◌, ◌≤◌, ◌<◌, true, List, [], ◌∷◌, ◌++◌, length, get_or, drop, take, map, Option, Some, None, inr, refl, sym, ap, ◌∙◌, subst, arith, append_assoc, drop-cons}
+use Rattle.std.proofs.Common.{◌≡◌, ℕ, suc, ◌+◌, ◌≤◌, ◌<◌, true, List, [], ◌∷◌, ◌++◌, length, get_or, drop, take, map, Option, Some, None, inr, refl, sym, ap, ◌∙◌, subst, arith, append_assoc, append-nil, drop-cons}
 use Rattle.std.specs.Prelude.{All, decimal, slice_get}
-use Rattle.std.proofs.lemmas.List.{drop_all, map-append}
+use Rattle.std.proofs.lemmas.List.{drop_all, map-append, take_all, take_more}
 use Rattle.std.proofs.lemmas.Option.{slice_get_within}
 use Rattle.ln_tree.specs.declared.shape.Shape.{Shape}
 use Rattle.ln_tree.specs.declared.shape.VarInfo.{VarInfo}
@@ -20,13 +20,13 @@ use Rattle.ln_code.proofs.Verdicts.Prefixed.{list_ends, list_goes}
 use Rattle.ln_cert.specs.declared.part.Part.{Part}
 use Rattle.ln_cert.specs.declared.part.Part.TheVariants.{Predicate, Block, Order, Done}
 use Rattle.ln_cert.specs.Text.{Each, IsExponent, IsNumber, IsPlace}
-use Rattle.ln_cert.specs.Listing.{ListText, first_line}
+use Rattle.ln_cert.specs.Listing.{ListText, Predicates, first_line}
 use Rattle.ln_cert.specs.Writing.{Puts, PutsLine, spaced}
-use Rattle.ln_cert.specs.Written.{ForBlock, ForFilter, InBlock, InFilter, Wrote, WroteListing, block_lines, blocks_lines, filter_lines, listing_of, order_lines, program_lines}
+use Rattle.ln_cert.specs.Written.{ForBlock, ForFilter, InBlock, InFilter, Wrote, block_lines, blocks_lines, filter_lines, listing_of, order_lines, program_lines}
 use Rattle.ln_cert.proofs.Writing.Forms.{both_forms, program_form, some_order}
 use Rattle.ln_cert.proofs.Writing.Rules.{obeys_block, obeys_filter}
 use Rattle.ln_cert.proofs.Reading.Walk.{is_form}
-use Rattle.ln_cert.proofs.Writing.Wrote.{Left, after, at_end, go_on, nothing, one}
+use Rattle.ln_cert.proofs.Writing.Wrote.{Left, after, at_end, go_on, one}
 use Rattle.std.proofs.Common.{zero, Contains}
 
 pub all_each : {A : Type 0} (P : A → Type 0) (xs : List A) → All P xs → Each P xs
@@ -162,6 +162,11 @@ some_block p k =
     let l = k.lists o (member-is p.shape.sites o c) in
     first_block (length p.blocks) (list_of p o) l.filled (all_each (λ n. n < length p.blocks) (list_of p o) l.within)
 
+-- these lines were put, and they are predicates of version 2
+pub record WroteListing (old new : List ℕ) (ps : List Part) : Type 0 where
+  pub wrote : Wrote old new ps
+  pub form : Predicates 2 ps
+
 pub program_wrote : (p : Program) (a b c d e f : List ℕ) (shape : Shape) (blocks : List Code) → IsProgram p → shape ≡ p.shape → blocks ≡ p.blocks → Wrote a b (Predicate (name_bytes shape.name) ∷ []) → Wrote b c (filter_lines p.filter) → Wrote c d (blocks_lines 0 blocks) → Wrote d e (order_lines p (orders_of p.shape.sites)) → Wrote e f (Done ∷ []) → WroteListing a f (program_lines p)
 program_wrote p a b c d e f shape blocks k s l p0 p1 p2 p3 p4 =
     let x : List Part = filter_lines p.filter in
@@ -173,27 +178,30 @@ program_wrote p a b c d e f shape blocks k s l p0 p1 p2 p3 p4 =
       form = program_form p (some_block p k);
     }
 
--- a loop over programs, by what is left
-abbrev pub Listed : List ℕ → List ℕ → List Part → List Part → Type 0
-Listed start now rest all = (d : List ℕ) → WroteListing now d rest → WroteListing start d all
+-- ---- programs put one behind the other
+pub begun : (a b d : List ℕ) → a ≡ b ++ d → b ≡ [] → d ≡ first_line 2 → ListText a 2 (listing_of [])
+begun a b d e f g = record {
+  listing = record { known = inr refl; form = is_form 2 [] (inr refl) refl; ranges = tt };
+  text = e ∙ ap (λ z. z ++ d) f ∙ g;
+}
 
-pub none_left : (a : List ℕ) → WroteListing a a []
-none_left a = record { wrote = nothing a; form = is_form 2 [] (inr refl) refl }
+listing_more : (ps : List Program) (p : Program) → listing_of (ps ++ p ∷ []) ≡ listing_of ps ++ program_lines p
+listing_more [] p = append-nil (program_lines p)
+listing_more (q ∷ ps) p = ap (λ z. program_lines q ++ z) (listing_more ps p) ∙ sym (append_assoc (program_lines q) (listing_of ps) (program_lines p))
 
-pub more_programs : (start now new : List ℕ) (ps : List Program) (i : ℕ) (p : Program) → i < length ps → p ≡ get_or ps i p → Listed start now (listing_of (drop i ps)) (listing_of ps) → WroteListing now new (program_lines p) → Listed start new (listing_of (drop (i + 1) ps)) (listing_of ps)
-more_programs start now new ps i p h e l w d q =
-    let n : suc i ≡ i + 1 = omega arith in
-    let s : drop i ps ≡ p ∷ drop (i + 1) ps = drop-cons ps i p h ∙ (λ j. sym e j ∷ drop (n j) ps) in
-    let both : WroteListing now d (program_lines p ++ listing_of (drop (i + 1) ps)) = record {
-      wrote = after now new d (program_lines p) (listing_of (drop (i + 1) ps)) w.wrote q.wrote;
-      form = both_forms (program_lines p) (listing_of (drop (i + 1) ps)) w.form q.form;
+pub one_behind : (old new : List ℕ) (p : Program) → WroteListing old new (program_lines p) → (ps : List Program) → ListText old 2 (listing_of ps) → ListText new 2 (listing_of (ps ++ p ∷ []))
+one_behind old new p w ps t =
+    let b : Wrote (first_line 2) old (listing_of ps) = record { text = t.text; ranges = t.listing.ranges } in
+    let a : Wrote (first_line 2) new (listing_of ps ++ program_lines p) = after (first_line 2) old new (listing_of ps) (program_lines p) b w.wrote in
+    let l : ListText new 2 (listing_of ps ++ program_lines p) = record {
+      listing = record { known = inr refl; form = both_forms (listing_of ps) (program_lines p) t.listing.form w.form; ranges = a.ranges };
+      text = a.text;
     } in
-    l d (subst (λ z. WroteListing now d (listing_of z)) (sym s) both)
+    subst (λ z. ListText new 2 z) (sym (listing_more ps p)) l
 
-pub all_listed : (now : List ℕ) (ps : List Program) (i : ℕ) → length ps ≤ i → Listed (first_line 2) now (listing_of (drop i ps)) (listing_of ps) → ListText now 2 (listing_of ps)
-all_listed now ps i h l =
-    let w = l now (subst (λ z. WroteListing now now (listing_of z)) (sym (drop_all i ps h)) (none_left now)) in
-    record { listing = record { known = inr refl; form = w.form; ranges = w.wrote.ranges }; text = w.wrote.text }
+-- a loop over programs, by those that are put
+pub more_listed : (now : List ℕ) (ps : List Program) (i : ℕ) (p : Program) → i < length ps → p ≡ get_or ps i p → ListText now 2 (listing_of (take i ps ++ p ∷ [])) → ListText now 2 (listing_of (take (i + 1) ps))
+more_listed now ps i p h e t = subst (λ z. ListText now 2 (listing_of z)) (ap (λ q. take i ps ++ q ∷ []) e ∙ sym (take_more ps i p h)) t
 
-pub few_blocks : (ps : List Program) (i : ℕ) (p : Program) → i < length ps → p ≡ get_or ps i p → All (λ p. length p.blocks ≤ 65536) ps → length p.blocks ≤ 65536
-few_blocks ps i p h e a = each_get (λ p. length p.blocks ≤ 65536) ps i p h e (all_each (λ p. length p.blocks ≤ 65536) ps a)
+pub all_listed : (now : List ℕ) (ps : List Program) (i : ℕ) → length ps ≤ i → ListText now 2 (listing_of (take i ps)) → ListText now 2 (listing_of ps)
+all_listed now ps i h t = subst (λ z. ListText now 2 (listing_of z)) (take_all i ps h) t

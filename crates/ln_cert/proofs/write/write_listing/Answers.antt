@@ -1,16 +1,16 @@
 -- Answers to the goals of `write_listing` in src/write.rt.
-use Rattle.std.proofs.Common.{◌≡◌, ◌<◌, ap, arith, get_or, length, subst}
-use Rattle.ln_cert.specs.Listing.{first_line}
+use Rattle.std.proofs.Common.{◌≡◌, ◌<◌, ap, arith, get_or, length, subst, take}
 use Rattle.ln_cert.specs.Written.{listing_of}
-use Rattle.ln_cert.proofs.Writing.Programmed.{all_listed, more_programs}
+use Rattle.ln_cert.proofs.Writing.Programmed.{all_listed, more_listed}
 use Rattle.ln_cert.proofs.Reading.Whole.{one_text}
 use Rattle.ln_cert.proofs.write.write_listing.Goals as goal
 
 pub programs-preserved : goal.programs-preserved
 programs-preserved c =
     let e = c.as_slice-program-items.ensures.value in
-    more_programs (first_line 2) c.programs.out.items c.put_program.new.out.items c.args.p.now c.programs.program-index c.program-item.result
-    (subst (λ z. c.programs.program-index < length z) e c.programs-test.true) (subst (λ z. c.program-item.result ≡ get_or z c.programs.program-index c.program-item.result) e c.program-item.is) c.programs.invariant c.in_ok-put_program.ensures
+    more_listed c.put_program.new.out.items c.args.p.now c.programs.program-index c.program-item.result
+    (subst (λ z. c.programs.program-index < length z) e c.programs-test.true) (subst (λ z. c.program-item.result ≡ get_or z c.programs.program-index c.program-item.result) e c.program-item.is)
+    (c.in_ok-put_program.ensures (take c.programs.program-index c.args.p.now) c.programs.invariant)
 
 pub returns-clause-text : goal.returns-clause-text
 returns-clause-text c =
