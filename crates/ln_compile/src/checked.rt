@@ -70,10 +70,11 @@ impl Checked {
         self.counts.as_slice()[i]
     }
 
-    /// The program of a predicate, by its number.
+    /// The program of a predicate, by its number. By `laws::programs_of_a_table` those of all predicates are what `Programs` may hold.
     pub fn program(&self, alloc: Global, i: usize) -> Result<Program, NoMemory>
         requires { i < length self.now.table.preds }
-        ensures { IfOk result (IsProgramAt (map pred_of self.now.table.preds) i) }
+        ensures program { IfOk result (IsProgramAt (map pred_of self.now.table.preds) i) }
+        ensures small { IfOk result (λ c. length c.blocks ≤ 65536) }
     {
         let program = program_of(alloc, &self.table.preds.as_slice()[i])?;
         Ok(program)

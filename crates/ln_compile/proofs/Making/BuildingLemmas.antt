@@ -1,12 +1,14 @@
 -- The programs of a table's predicates, one after the other.
 use Rattle.std.proofs.Common.{◌≡◌, ℕ, ◌+◌, ◌<◌, ◌≤◌, zero, suc, true, false, List, [], ◌∷◌, ◌++◌, length, map, take, drop, get_or, refl, ap, sym, subst, ◌∙◌, arith, Some}
-use Rattle.std.specs.Prelude.{◌≢◌, All, bytes_eq, slice_get}
+use Rattle.std.specs.Prelude.{◌≢◌, All, AllPairs, bytes_eq, slice_get}
 use Rattle.std.proofs.lemmas.List.{drop_more, length-map, map-append, take-append-drop, take_all, take_more}
 use Rattle.std.proofs.lemmas.List.Elements.{All-cons, All-nil}
+use Rattle.std.proofs.lemmas.List.Kept.{AllPairs-cons}
 use Rattle.ln_tree.specs.declared.name.Name.{Name}
 use Rattle.ln_tree.specs.declared.pred.Pred.{Pred}
+use Rattle.ln_tree.specs.declared.table.Table.{Table}
 use Rattle.ln_tree.specs.Names.{name_bytes}
-use Rattle.ln_tree.specs.Table.{PredOf, TableOf, pred_of}
+use Rattle.ln_tree.specs.Table.{PredOf, TableOf, pred_of, table_of}
 use Rattle.ln_tree.specs.Whole.{differ, is_whole}
 use Rattle.ln_parse.specs.ReadsBack.{Every}
 use Rattle.ln_parse.proofs.Wholes.WholeFrom.{differ_test}
@@ -14,9 +16,10 @@ use Rattle.ln_parse.proofs.Wholes.WholeParts.{PredParts, differing, table_parts}
 use Rattle.ln_parse.proofs.ReadBack.NamePlaces.{Differ, NoneIs, same_bytes}
 use Rattle.ln_stage.specs.Lists.{stage_count}
 use Rattle.ln_stage.specs.Staged.{count_numbers}
+use Rattle.ln_code.specs.Kept.{ArePrograms}
 use Rattle.ln_code.specs.Part.{Part}
 use Rattle.ln_compile.specs.Accepted.{AreSound, IsSound}
-use Rattle.ln_compile.specs.Compiled.{AreProgramsOf, AreStageCounts, IsProgramOf, IsStageCount}
+use Rattle.ln_compile.specs.Compiled.{AreProgramsOf, AreStageCounts, IsProgramAt, IsProgramOf, IsStageCount}
 use Rattle.ln_compile.specs.Made.{AreCounted}
 use Rattle.ln_compile.proofs.Refusing.Judging.{judged_more}
 
@@ -129,3 +132,36 @@ names-differ t h =
       same : (ps : List PredOf) → Every (PredParts t.sites t.params) ps → map (λ (p : PredOf). p.shape_name) ps ≡ map (λ (p : PredOf). p.name) ps
       same [] e = refl
       same (p ∷ ps) e = let r : map (λ (q : PredOf). q.shape_name) ps ≡ map (λ (q : PredOf). q.name) ps = same ps e.1 in ap (λ z. z ∷ map (λ (q : PredOf). q.shape_name) ps) e.0.shape_name ∙ ap (λ z. p.name ∷ z) r
+
+-- ---- the programs of a table's predicates, each made on its own
+-- one more, by its number
+more-by-number : (ps : List PredOf) (i : ℕ) (cs : List Part) (c : Part) → i < length ps → IsProgramAt ps i c → AreProgramsOf (take i ps) cs → AreProgramsOf (take (suc i) ps) (cs ++ c ∷ [])
+more-by-number [] i cs c h o a = absurd (omega (arith, h))
+more-by-number (p ∷ ps) zero [] c h o a = (o p refl, tt)
+more-by-number (p ∷ ps) zero (d ∷ cs) c h o a = absurd a
+more-by-number (p ∷ ps) (suc i) [] c h o a = absurd a
+more-by-number (p ∷ ps) (suc i) (d ∷ cs) c h o a = (a.0, more-by-number ps i cs c (omega (arith, h)) o a.1)
+
+pub program-more : (ps : List PredOf) (i : ℕ) (cs : List Part) (c : Part) → i < length ps → IsProgramAt ps i c → AreProgramsOf (take i ps) cs → AreProgramsOf (take (i + 1) ps) (cs ++ c ∷ [])
+program-more ps i cs c h o a =
+    let n : suc i ≡ i + 1 = omega arith in
+    subst (λ m. AreProgramsOf (take m ps) (cs ++ c ∷ [])) n (more-by-number ps i cs c h o a)
+
+-- their names differ as those of the predicates do
+names-behind : (p : PredOf) (c : Part) (ps : List PredOf) (cs : List Part) → name_bytes c.shape.name ≡ p.shape_name → NoneIs p.shape_name (map (λ (q : PredOf). q.shape_name) ps) → AreProgramsOf ps cs → All (λ (d : Part). name_bytes c.shape.name ≢ name_bytes d.shape.name) cs
+names-behind p c [] [] e n a = All-nil (λ (d : Part). name_bytes c.shape.name ≢ name_bytes d.shape.name)
+names-behind p c [] (d ∷ cs) e n a = absurd a
+names-behind p c (q ∷ ps) [] e n a = absurd a
+names-behind p c (q ∷ ps) (d ∷ cs) e n a = All-cons (λ (d : Part). name_bytes c.shape.name ≢ name_bytes d.shape.name) d cs (λ x. none-behind p.shape_name [] q ps n (sym e ∙ x ∙ a.0.name)) (names-behind p c ps cs e n.1 a.1)
+
+names-of-programs : (ps : List PredOf) (cs : List Part) → Differ (map (λ (p : PredOf). p.shape_name) ps) → AreProgramsOf ps cs → AllPairs (λ (c d : Part). name_bytes c.shape.name ≢ name_bytes d.shape.name) cs
+names-of-programs [] [] d a = λ i j e l m. absurd (omega arith)
+names-of-programs [] (c ∷ cs) d a = absurd a
+names-of-programs (p ∷ ps) [] d a = absurd a
+names-of-programs (p ∷ ps) (c ∷ cs) d a = AllPairs-cons (λ (c d : Part). name_bytes c.shape.name ≢ name_bytes d.shape.name) c cs (names-behind p c ps cs a.0.name d.0 a.1) (names-of-programs ps cs d.1 a.1)
+
+pub programs-of-table : (t : Table) (cs : List Part) → AreProgramsOf (map pred_of t.preds) cs → All (λ (c : Part). length c.blocks ≤ 65536) cs → ArePrograms cs
+programs-of-table t cs a s = record {
+  names = names-of-programs (map pred_of t.preds) cs (differing (map (λ (p : PredOf). p.shape_name) (map pred_of t.preds)) (names-differ (table_of t.sites t.params t.preds) t.whole)) a;
+  small = s;
+}
