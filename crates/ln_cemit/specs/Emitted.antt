@@ -1,5 +1,5 @@
 -- What is promised of the bytes that are emitted.
-use Rattle.std.specs.Prelude.{◌≡◌, ℕ, ℤ, pos, negsuc, List, [], ◌∷◌, Some}
+use Rattle.std.specs.Prelude.{◌≡◌, ℕ, ℤ, pos, negsuc, List, [], ◌∷◌, ◌++◌, Some}
 use Rattle.ln_base.specs.declared.sign.Sign.{Sign}
 use Rattle.ln_base.specs.declared.sign.Sign.TheVariants.{Minus, Zero, Plus}
 use Rattle.ln_tree.specs.Row as tree
@@ -13,7 +13,7 @@ use Rattle.ln_csyn.specs.Tree.{Fun}
 use Rattle.ln_csyn.specs.Text.{CText}
 use Rattle.ln_csyn.specs.Meaning.{CCall, Counts, Signed}
 use Rattle.ln_cemit.specs.Names.{call_name}
-use Rattle.ln_csyn.specs.Spelling.{text_of}
+use Rattle.ln_csyn.specs.Spelling.{spell_file, text_of, written}
 use Rattle.ln_cemit.specs.Whole.{file_of, part_name}
 
 -- -1, 0 or 1
@@ -51,3 +51,9 @@ AreKept (p ∷ ps) = IsProgram p × AreKept ps
 -- the text of the file of programs is one
 abbrev pub FileIsEmitted : Type 0
 FileIsEmitted = (ps : List Part) (bytes : List ℕ) → ArePrograms ps → AreKept ps → bytes ≡ text_of (file_of ps) → IsEmitted ps bytes
+
+-- the bytes are the text of the file of these programs but for its end: with the functions of any further programs and the end behind
+-- them, they are the text of the file of all
+pub record BeginsFile (bytes : List ℕ) (ps : List Part) : Type 0 where
+  pub text : (more : List Part) → bytes ++ written (spell_file (file_of more)) ≡ text_of (file_of (ps ++ more))
+  pub kept : AreKept ps

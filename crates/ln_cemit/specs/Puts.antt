@@ -1,20 +1,20 @@
 -- What one operation puts, whatever comes behind it.
 use Rattle.std.specs.Prelude.{◌≡◌, ℕ, zero, suc, ◌/◌, ◌^◌, Bool, true, false, ◌||◌, ◌≤◌, length, take}
-use Rattle.std.specs.Prelude.{nat_le, List, [], ◌∷◌, ◌++◌, codes, reverse, Option, Some, None, slice_get}
+use Rattle.std.specs.Prelude.{nat_le, List, [], ◌∷◌, codes, reverse, Option, Some, None, slice_get}
 use Rattle.ln_bound.specs.declared.fitted.Width.{Width}
 use Rattle.ln_code.specs.Engine.{next}
 use Rattle.ln_csyn.specs.Words.{most_number}
 use Rattle.ln_csyn.specs.Tree.{Expr, Body, End, Group, Fun}
 use Rattle.ln_csyn.specs.Grammar.{Token}
-use Rattle.ln_csyn.specs.Spelling.{lexeme, type_text, spell, spell_body, spell_file, spell_fun, written, Goes}
+use Rattle.ln_csyn.specs.Spelling.{lexeme, type_text, spell, spell_body, spell_fun, Goes}
 use Rattle.ln_cemit.specs.declared.slot.Slot.{Slot}
 use Rattle.ln_cemit.specs.Emit.{Rest, reads, type_of}
 use Rattle.ln_cemit.specs.Names.{answer_name, decl_name, filter_name}
 use Rattle.ln_cemit.specs.File.{one_fun}
 use Rattle.ln_cemit.specs.Walked.{attempt, less, picks}
-use Rattle.ln_cemit.specs.Whole.{filter_body, funs_before}
+use Rattle.ln_cemit.specs.Whole.{filter_body}
 use Rattle.ln_code.specs.declared.op.Op.{Op}
-use Rattle.ln_code.specs.Part.{FilterCode, Part}
+use Rattle.ln_code.specs.Part.{FilterCode}
 
 -- a declaration, in front of a rest
 abbrev pub decl_before : ℕ → Width → Expr → List Token → List Token
@@ -59,10 +59,6 @@ any_reads (o ∷ os) = reads o || any_reads os
 abbrev pub spell_funs : List Fun → List Token → List Token
 spell_funs [] r = r
 spell_funs (f ∷ fs) r = spell_fun f (spell_funs fs r)
-
--- the functions of a program were put, whatever functions come behind
-pub record PutsFuns (old new : List ℕ) (p : Part) : Type 0 where
-  pub is : (rest : List Fun) → new ++ written (spell_file rest) ≡ old ++ written (spell_file (funs_before p rest))
 
 -- the statements of the sites that are left, without the end where none is left
 abbrev pub picks_on : (ℕ → Body) → List ℕ → Body

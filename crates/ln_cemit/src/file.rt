@@ -1,16 +1,17 @@
 //! The whole file.
-ghost use Rattle.std.specs.Prelude.{◌≡◌, ◌≤◌, ◌++◌, ◌∷◌, [], true, IfOk, codes, map};
+ghost use Rattle.std.specs.Prelude.{◌≡◌, ◌≤◌, ◌++◌, ◌∷◌, [], true, IfOk, List, codes, map};
 ghost use Rattle.std.specs.List.{range_with_len};
-ghost use Rattle.ln_csyn.specs.Spelling.{Puts, Goes, lexeme, spell_body, spell_parameters, spell_file, spell_fun, text_of, written};
+ghost use Rattle.ln_csyn.specs.Spelling.{Puts, Goes, lexeme, spell_body, spell_parameters, spell_fun};
 ghost use Rattle.ln_csyn.specs.Tree.{Body, Group};
-ghost use Rattle.ln_code.specs.Kept.{IsProgram};
+ghost use Rattle.ln_code.specs.Kept.{ArePrograms, IsProgram};
 ghost use Rattle.ln_code.specs.Lists.{segment_of};
-ghost use Rattle.ln_cemit.specs.Emitted.{AreKept, IsEmitted};
+ghost use Rattle.ln_code.specs.Part.{Part};
+ghost use Rattle.ln_cemit.specs.Emitted.{BeginsFile, IsEmitted};
 ghost use Rattle.ln_cemit.specs.File.{one_fun, one_funs, two_fun};
 ghost use Rattle.ln_cemit.specs.Names.{answer_name, block_name, call_name, filter_name};
-ghost use Rattle.ln_cemit.specs.Puts.{PutsFuns, filter_funs, filter_tried, spell_funs};
+ghost use Rattle.ln_cemit.specs.Puts.{filter_funs, filter_tried, spell_funs};
 ghost use Rattle.ln_cemit.specs.Walked.{attempt, walked};
-ghost use Rattle.ln_cemit.specs.Whole.{block_body, call_body, file_of, filter_body, part_name};
+ghost use Rattle.ln_cemit.specs.Whole.{block_body, call_body, filter_body, part_name};
 
 use crate::body::{put_block_fun, put_filter_fun, put_may_touch_index, put_two_head};
 use crate::title::{block_title, call_title, filter_title};
@@ -153,9 +154,18 @@ fn put_call(alloc: Global, out: &mut Vec<u8>, p: &Program) -> Result<(), NoMemor
     Ok(())
 }
 
-fn put_program(alloc: Global, out: &mut Vec<u8>, p: &Program) -> Result<(), NoMemory>
-    ensures put { IfOk result (λ x. PutsFuns out.old.items out.new.items p.now) }
-    ensures kept { IfOk result (λ x. IsProgram p.now) }
+/// The C of no programs, as far as its functions begin: the text behind which programs are put.
+pub fn begin_file(alloc: Global) -> Result<Vec<u8>, NoMemory>
+    ensures { IfOk result (λ v. BeginsFile v.items []) }
+{
+    let mut out = Vec::new(alloc);
+    out.extend_from_slice(b"#include <stdint.h>\n".as_slice())?;
+    Ok(out)
+}
+
+/// Puts the functions of a program behind those of others. Where there is no memory, what is put begins no file.
+pub fn put_program(alloc: Global, out: &mut Vec<u8>, p: &Program) -> Result<(), NoMemory>
+    ensures { IfOk result (λ x. (ps : List Part) → BeginsFile out.old.items ps → BeginsFile out.new.items (ps ++ p.now ∷ [])) }
 {
     put_filter_of(alloc, out, p)?;
     put_blocks_of(alloc, out, p)?;
@@ -163,25 +173,12 @@ fn put_program(alloc: Global, out: &mut Vec<u8>, p: &Program) -> Result<(), NoMe
     Ok(())
 }
 
-fn put_programs(alloc: Global, out: &mut Vec<u8>, programs: &[Program]) -> Result<(), NoMemory>
-    ensures put { IfOk result (λ x. out.new.items ≡ out.old.items ++ written (spell_file (file_of programs.now))) }
-    ensures kept { IfOk result (λ x. AreKept programs.now) }
+/// Ends the C of programs whose names differ, each with at most 65,536 blocks: it is what `emit` gives for them.
+pub fn end_file(out: &mut Vec<u8>) -> Result<(), NoMemory>
+    ensures { IfOk result (λ x. (ps : List Part) → ArePrograms ps → BeginsFile out.old.items ps → IsEmitted ps out.new.items) }
 {
-    'programs: for p in programs {
-        put_program(alloc, out, p)?;
-    }
     out.push(b'\n')?;
     Ok(())
-}
-
-fn text_of_programs(alloc: Global, programs: &[Program]) -> Result<Vec<u8>, NoMemory>
-    ensures text { IfOk result (λ v. v.items ≡ text_of (file_of programs.now)) }
-    ensures kept { IfOk result (λ v. AreKept programs.now) }
-{
-    let mut out = Vec::new(alloc);
-    out.extend_from_slice(b"#include <stdint.h>\n".as_slice())?;
-    put_programs(alloc, &mut out, programs)?;
-    Ok(out)
 }
 
 /// The C of these programs: a text of the subset in which each program `NAME` has the function
@@ -191,6 +188,10 @@ fn text_of_programs(alloc: Global, programs: &[Program]) -> Result<Vec<u8>, NoMe
 pub fn emit(alloc: Global, p: &Programs) -> Result<Vec<u8>, NoMemory>
     ensures { IfOk result (λ v. IsEmitted p.now v.items) }
 {
-    let text = text_of_programs(alloc, p.as_slice())?;
-    Ok(text)
+    let mut out = begin_file(alloc)?;
+    'programs: for program in p.as_slice() {
+        put_program(alloc, &mut out, program)?;
+    }
+    end_file(&mut out)?;
+    Ok(out)
 }

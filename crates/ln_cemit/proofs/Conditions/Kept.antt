@@ -18,7 +18,7 @@ use Rattle.ln_code.proofs.Verdicts.Differ.{few_sites, few_vars}
 use Rattle.ln_order.specs.Prefixes.{beside, prefixes_of}
 use Rattle.ln_csyn.specs.Tree.{Body, End, Fun}
 use Rattle.ln_csyn.specs.Words.{among, is_c_name, most_number}
-use Rattle.ln_csyn.specs.Keeps.{braces_in, each_fun, each_name, differ_within, direct, distinct, fun_keeps, is_own, keeps, names_of, parens_in, each_expr, divides}
+use Rattle.ln_csyn.specs.Keeps.{braces_in, each_fun, each_name, differ_within, direct, distinct, fun_keeps, is_own, names_of, parens_in, each_expr, divides}
 use Rattle.ln_csyn.specs.Text.{fun_words, has_words, is_file}
 use Rattle.ln_csyn.specs.Spelling.{flat, flat_file, flat_fun}
 use Rattle.ln_cemit.specs.declared.slot.Way.{Way}

@@ -1,10 +1,9 @@
 -- The body of the function with two parameters keeps the conditions of the subset: statements that call, compare and return.
-use Rattle.std.proofs.Common.{◌≡◌, inl, inr, ℕ, zero, suc, ◌+◌, ◌<◌, ◌≤◌, not, Bool, true, false, cond, List, [], ◌∷◌, ◌++◌, length, refl, ap, ◌∙◌, arith, eqb}
+use Rattle.std.proofs.Common.{◌≡◌, inl, inr, ℕ, zero, suc, ◌<◌, ◌≤◌, not, Bool, true, false, cond, List, [], ◌∷◌, ◌++◌, length, refl, ap, ◌∙◌, arith, eqb}
 use Rattle.std.specs.List.{range_with_len}
 use Rattle.std.proofs.lemmas.Bool.{le-leb}
 use Rattle.ln_algebra.specs.Walk.{Member}
 use Rattle.ln_csyn.specs.declared.tree.CType.TheVariants.{Int}
-use Rattle.ln_csyn.specs.declared.tree.COp.TheVariants as op
 use Rattle.ln_csyn.specs.Tree as c
 use Rattle.ln_csyn.specs.Tree.{Body}
 use Rattle.ln_csyn.specs.Words.{is_c_name, most_number}

@@ -16,8 +16,6 @@ use Rattle.ln_code.proofs.Following.Known.{next_some}
 use Rattle.ln_code.proofs.Engines.Runs.{answer_follows, reached_some, filter_runs}
 use Rattle.ln_code.proofs.Following.Means.{blocks_mean}
 use Rattle.ln_csyn.specs.declared.tree.CType.TheVariants.{Int}
-use Rattle.ln_csyn.specs.declared.tree.COp.TheVariants as op
-use Rattle.ln_csyn.specs.Tree as c
 use Rattle.ln_csyn.specs.Tree.{Body}
 use Rattle.ln_csyn.specs.Meaning.{Counts, Scene, Fails, Said, has, runs}
 use Rattle.ln_cemit.specs.declared.slot.Way.{Way}

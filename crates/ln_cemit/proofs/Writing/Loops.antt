@@ -1,10 +1,10 @@
 -- Loops that put operations, functions and statements.
-use Rattle.std.proofs.Common.{◌≡◌, ◌≢◌, ℕ, zero, suc, ◌+◌, ◌-◌, ◌<◌, ◌≤◌, ◌||◌, Bool, true, false, cond, List, [], ◌∷◌, ◌++◌, append_assoc, length, map, drop, get_or, take, refl, sym, ap, ◌∙◌, subst, arith, ℤ}
+use Rattle.std.proofs.Common.{◌≡◌, ◌≢◌, ℕ, zero, suc, ◌+◌, ◌-◌, ◌<◌, ◌≤◌, ◌||◌, Bool, true, false, cond, List, [], ◌∷◌, ◌++◌, append_assoc, append-nil, length, map, drop, get_or, take, refl, sym, ap, ◌∙◌, subst, arith, ℤ}
 use Rattle.std.specs.Prelude.{Option, Some, None, Contains, codes, reverse, nat_le, nat_lt}
 use Rattle.std.specs.List.{range_with_len}
 use Rattle.std.proofs.Math.ListN.{replicate}
 use Rattle.std.proofs.Math.Path.{fun_ext}
-use Rattle.std.proofs.lemmas.List.{drop_all, length-map, length-reverse, get_or-map, get_or-reverse, reverse-append}
+use Rattle.std.proofs.lemmas.List.{drop_all, length-map, length-reverse, get_or-map, get_or-reverse, reverse-append, take_all, take_more}
 use Rattle.std.proofs.lemmas.Option.{slice_get-get_or}
 use Rattle.std.proofs.lemmas.Bool.{and_parts, eqb-true}
 use Rattle.ln_algebra.specs.Vector.{same_vector}
@@ -21,7 +21,8 @@ use Rattle.ln_csyn.specs.declared.tree.CType.{CType}
 use Rattle.ln_csyn.specs.Tree as c
 use Rattle.ln_csyn.specs.Tree.{Body, Fun}
 use Rattle.ln_csyn.specs.Grammar.{Token}
-use Rattle.ln_csyn.specs.Spelling.{Goes, Puts, lexeme, spell, spell_body, spell_file, spell_fun, written}
+use Rattle.ln_csyn.specs.Text.{first_line}
+use Rattle.ln_csyn.specs.Spelling.{Goes, Puts, lexeme, spell, spell_body, spell_file, spell_fun, text_of, written}
 use Rattle.ln_csyn.proofs.Writing.PutLemmas.{drop_more}
 use Rattle.ln_order.specs.declared.order.Order.{Order}
 use Rattle.ln_order.specs.Orders.{orders_of}
@@ -32,10 +33,10 @@ use Rattle.ln_order.proofs.Listing.PrefixLemmas.{prefix-is}
 use Rattle.ln_cemit.specs.declared.slot.Slot.{Slot}
 use Rattle.ln_cemit.specs.declared.slot.Way.{Way}
 use Rattle.ln_cemit.specs.Emit.{Rest, body_of, constant, emitted, touching_index, lowest, pushing, put_cut, put_get, slot, type_of, put_neg, put_op, put_set, put_sign, put_two, cut_away, naming, ops_of, unread, reads, reads_row, touching}
-use Rattle.ln_cemit.specs.Emitted.{AreKept}
+use Rattle.ln_cemit.specs.Emitted.{AreKept, BeginsFile}
 use Rattle.ln_cemit.specs.File.{one_fun, one_funs, two_fun}
 use Rattle.ln_cemit.specs.Names.{answer_name, block_name, call_name, decl_name, filter_name}
-use Rattle.ln_cemit.specs.Puts.{Does, MayMove, Moves, PutsFuns, any_reads, decl_before, filter_funs, filter_tried, close_braces, locals_of, open_guards, picks_on, rest_or, spell_funs}
+use Rattle.ln_cemit.specs.Puts.{Does, MayMove, Moves, any_reads, decl_before, filter_funs, filter_tried, close_braces, locals_of, open_guards, picks_on, rest_or, spell_funs}
 use Rattle.ln_cemit.specs.Walked.{attempt, body_for, guarded, less, picks, says_nothing, tries, walked, without}
 use Rattle.ln_cemit.proofs.Meanings.Numbers.{lt_from, lt_not}
 use Rattle.ln_cemit.specs.Ways.{ways}
@@ -320,6 +321,10 @@ spelled-more : (fs gs : List Fun) → spell_file (fs ++ gs) ≡ spell_funs fs (s
 spelled-more [] gs = refl
 spelled-more (f ∷ fs) gs = ap (spell_fun f) (spelled-more fs gs)
 
+-- the functions of a program were put, whatever functions come behind
+pub record PutsFuns (old new : List ℕ) (p : Part) : Type 0 where
+  pub is : (rest : List Fun) → new ++ written (spell_file rest) ≡ old ++ written (spell_file (funs_before p rest))
+
 pub program_put : {a l m n : List ℕ} (p : Part) → Puts a l (spell_funs (filter_funs (part_name p) p.filter)) → Puts l m (spell_funs (one_funs (block_name (part_name p)) 0 (map block_body p.blocks))) → Puts m n (spell_fun (two_fun (call_name (part_name p)) (call_body p))) → PutsFuns a n p
 program_put {a} {l} {m} {n} p g h u =
     let x : List ℕ = part_name p in
@@ -345,16 +350,31 @@ blocks_done {start} {cur} {all} name cs k l g =
     let f : Goes start cur (spell_funs (one_funs (block_name name) k [])) all = subst (λ z. Goes start cur (spell_funs (one_funs (block_name name) k (map block_body z))) all) (drop_all k cs l) g in
     record { is = f.is }
 
--- one program more, of those that are left
-pub programs_next : (start cur new : List ℕ) (ps : List Part) (k : ℕ) (p d : Part) → k < length ps → p ≡ get_or ps k d → cur ++ written (spell_file (file_of (drop k ps))) ≡ start ++ written (spell_file (file_of ps)) → PutsFuns cur new p → new ++ written (spell_file (file_of (drop (k + 1) ps))) ≡ start ++ written (spell_file (file_of ps))
-programs_next start cur new ps k p d l e g h =
-    let q : drop k ps ≡ p ∷ drop (k + 1) ps = drop_more ps k d l ∙ ap (λ z. z ∷ drop (k + 1) ps) (sym e) in
-    h.is (file_of (drop (k + 1) ps)) ∙ sym (ap (λ z. cur ++ written (spell_file (file_of z))) q) ∙ g
+-- ---- programs put one behind the other
+pub kept_more : (ps : List Part) (p : Part) → AreKept ps → IsProgram p → AreKept (ps ++ p ∷ [])
+kept_more [] p k h = (h, tt)
+kept_more (q ∷ ps) p k h = (k.0, kept_more ps p k.1 h)
 
-pub kept_next : (ps : List Part) (k : ℕ) (p d : Part) → k < length ps → p ≡ get_or ps k d → (AreKept (drop k ps) → AreKept ps) → IsProgram p → AreKept (drop (k + 1) ps) → AreKept ps
-kept_next ps k p d l e g h r =
-    let q : drop k ps ≡ p ∷ drop (k + 1) ps = drop_more ps k d l ∙ ap (λ z. z ∷ drop (k + 1) ps) (sym e) in
-    g (subst AreKept (sym q) (h, r))
+pub begun : (a b d : List ℕ) → a ≡ b ++ d → b ≡ [] → d ≡ first_line → BeginsFile a []
+begun a b d e f g =
+    let h : a ≡ first_line = e ∙ ap (λ z. z ++ d) f ∙ g in
+    record { text = λ more. ap (λ z. z ++ written (spell_file (file_of more))) h; kept = tt }
+
+pub one_behind : (old new : List ℕ) (p : Part) → PutsFuns old new p → IsProgram p → (ps : List Part) → BeginsFile old ps → BeginsFile new (ps ++ p ∷ [])
+one_behind old new p h k ps b = record {
+  text = λ more. h.is (file_of more) ∙ b.text (p ∷ more) ∙ ap (λ z. text_of (file_of z)) (sym (append_assoc ps (p ∷ []) more));
+  kept = kept_more ps p b.kept k;
+}
+
+pub whole_file : (old new : List ℕ) → new ≡ old ++ 10 ∷ [] → (ps : List Part) → BeginsFile old ps → new ≡ text_of (file_of ps)
+whole_file old new e ps b = e ∙ b.text [] ∙ ap (λ z. text_of (file_of z)) (append-nil ps)
+
+-- a loop over programs, by those that are put
+pub more_begun : (now : List ℕ) (ps : List Part) (i : ℕ) (p : Part) → i < length ps → p ≡ get_or ps i p → BeginsFile now (take i ps ++ p ∷ []) → BeginsFile now (take (i + 1) ps)
+more_begun now ps i p h e b = subst (λ z. BeginsFile now z) (ap (λ q. take i ps ++ q ∷ []) e ∙ sym (take_more ps i p h)) b
+
+pub all_begun : (now : List ℕ) (ps : List Part) (i : ℕ) → length ps ≤ i → BeginsFile now (take i ps) → BeginsFile now ps
+all_begun now ps i h b = subst (λ z. BeginsFile now z) (take_all i ps h) b
 
 -- ---- segments
 same-is : (a b : List ℕ) → same_vector a b ≡ true → a ≡ b

@@ -1,6 +1,16 @@
 -- Answers to the goals of `emit` in src/file.rt.
-use Rattle.ln_cemit.proofs.Choices.Says.{file_is_emitted}
+use Rattle.std.proofs.Common.{◌≡◌, ◌<◌, ap, arith, get_or, length, subst, take}
+use Rattle.ln_cemit.proofs.Writing.Loops.{all_begun, more_begun}
 use Rattle.ln_cemit.proofs.file.emit.Goals as goal
 
+pub programs-preserved : goal.programs-preserved
+programs-preserved c =
+    let e = c.as_slice-program-items.ensures.value in
+    more_begun c.put_program.new.out.items c.args.p.now c.programs.program-index c.program-item.result
+    (subst (λ z. c.programs.program-index < length z) e c.programs-test.true) (subst (λ z. c.program-item.result ≡ get_or z c.programs.program-index c.program-item.result) e c.program-item.is)
+    (c.in_ok-put_program.ensures (take c.programs.program-index c.args.p.now) c.programs.invariant)
+
 pub returns : goal.returns
-returns c = file_is_emitted _ c.in_ok-text.text.items c.as_slice.ensures.kept (rw c.as_slice.ensures.value at c.in_ok-text.ensures.kept) (rw c.as_slice.ensures.value at c.in_ok-text.ensures.text)
+returns c =
+    let l = ap length c.as_slice-program-items.ensures.value in
+    c.in_ok-end_file.ensures c.args.p.now c.as_slice-program-items.ensures.kept (all_begun c.programs.out.items c.args.p.now c.programs.program-index (omega (arith, l)) c.programs.invariant)
