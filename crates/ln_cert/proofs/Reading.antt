@@ -6,4 +6,5 @@ pub mod OrderLines
 pub mod Walk
 pub mod Fault
 pub mod Whole
+pub mod Left
 pub mod OneFault

@@ -5,6 +5,6 @@ pub mod Text
 pub mod Listing
 pub mod Reading
 pub mod Stop
-pub mod Loop
+pub mod Unread
 pub mod Writing
 pub mod Written

@@ -12,7 +12,7 @@ use Rattle.ln_cert.specs.declared.part.State.TheVariants.{Top, Opened, InFilter,
 use Rattle.ln_cert.specs.declared.part.Verb.{Verb}
 use Rattle.ln_cert.specs.declared.part.Verb.TheVariants as verb
 use Rattle.ln_cert.specs.Text.{IsLine, IsOp, args_of, block_word, filter_word, kind_of}
-use Rattle.ln_cert.specs.Text.{number_words, of_block, of_filter, verb_of, words_of}
+use Rattle.ln_cert.specs.Text.{number_words, of_block, of_filter, text_of, verb_of, words_of}
 
 -- ---- first words
 -- the first of these whose word it is
@@ -94,6 +94,16 @@ abbrev pub is_end : State → Bool
 is_end Top = true
 is_end s = false
 
+-- one line more, if the lines so far lead anywhere
+abbrev pub next_at : ℕ → Option State → Part → Option State
+next_at v None p = None
+next_at v (Some s) p = next_of v s p
+
+-- where lines lead
+abbrev pub goes : ℕ → Option State → List Part → Option State
+goes v o [] = o
+goes v o (p ∷ ps) = goes v (next_at v o p) ps
+
 -- ---- lines
 -- the words are this line, which may stand in the state and leads to the next
 pub record IsRead (v : ℕ) (s : State) (ws : List (List ℕ)) (p : Part) (t : State) : Type 0 where
@@ -104,6 +114,10 @@ pub record IsRead (v : ℕ) (s : State) (ws : List (List ℕ)) (p : Part) (t : S
 -- no line of these words may stand in the state
 abbrev pub Refuses : ℕ → State → List (List ℕ) → Type 0
 Refuses v s ws = (p : Part) (t : State) → IsRead v s ws p t → ⊥
+
+-- this text is no line that may stand in the state
+abbrev pub RefusesText : ℕ → State → List ℕ → Type 0
+RefusesText v s t = (p : Part) (u : State) → IsLine p → next_of v s p ≡ Some u → t ≡ text_of p → ⊥
 
 -- the words are the arguments of this line of a kind
 pub record HasArgs (k : Kind) (ws : List (List ℕ)) (p : Part) : Type 0 where

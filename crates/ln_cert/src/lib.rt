@@ -2,15 +2,16 @@
 //!
 //! `ListText bytes version parts` says that the bytes are the text of this listing (`specs/Text.antt` has the lines,
 //! `specs/Listing.antt` the grammar). `read_listing` answers it both ways: the listing of the bytes, and `Form` with the line of
-//! their form fault exactly where they are none. `write_listing` gives the text of the listing of programs
-//! (`specs/Written.antt`); `begin_listing` and `put_program` give it program by program, so that each may be dropped before the next is
-//! made. By `laws::one_listing` no bytes are two listings.
+//! their form fault exactly where they are none. `listing_lines` answers the same, and gives the lines one after the other without
+//! keeping any. `write_listing` gives the text of the listing of programs (`specs/Written.antt`); `begin_listing` and `put_program` give
+//! it program by program, so that each may be dropped before the next is made. By `laws::one_listing` no bytes are two listings.
 #![tactic(auto)]
 
 pub mod args;
 pub mod kinds;
 pub mod laws;
 pub mod line;
+pub mod lines;
 pub mod listing;
 pub mod operation;
 pub mod part;
@@ -21,7 +22,8 @@ pub mod scan;
 mod tests;
 pub mod write;
 
+pub use lines::Lines;
 pub use listing::Listing;
 pub use part::{Entry, Part};
-pub use read::{ListStop, read_listing};
+pub use read::{ListStop, listing_lines, read_listing};
 pub use write::{begin_listing, put_program, write_listing};

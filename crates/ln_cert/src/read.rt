@@ -1,13 +1,13 @@
 //! Reading a listing.
-ghost use Rattle.std.specs.Prelude.{◌≡◌, ◌≤◌, ◌⊎◌, IfOk, IfErr, MatchOption, [], length, ℕ};
-ghost use Rattle.ln_cert.specs.Listing.{ListText, first_line, parts_of};
-ghost use Rattle.ln_cert.specs.Loop.{TextsSo};
+ghost use Rattle.std.specs.Prelude.{◌≡◌, ◌≤◌, ◌⊎◌, IfOk, IfErr, List, MatchOption, length, ℕ};
+ghost use Rattle.ln_cert.specs.Listing.{AreNumbered, ListText, first_line, parts_of};
 ghost use Rattle.ln_cert.specs.Stop.{Stops};
+ghost use Rattle.ln_cert.specs.Unread.{AreLeft, IsOpened};
+ghost use Rattle.ln_cert.specs.declared.part.Part.{Part as AnyPart};
 
-use crate::kinds::is_end;
-use crate::line::line;
+use crate::lines::{Lines, opened};
 use crate::listing::Listing;
-use crate::part::{Entry, State};
+use crate::part::Entry;
 use crate::scan::{between, find};
 use ln_base::{NoMemory, Seq};
 use std::alloc::{AllocFailed, Global};
@@ -35,10 +35,11 @@ fn version(first: &[u8]) -> Option<u8>
     }
 }
 
-/// The listing that the bytes are. It takes time in proportion to their number.
-pub fn read_listing(alloc: Global, bytes: &[u8]) -> Result<Listing, ListStop>
+/// The lines of the listing that the bytes are. The form of the whole text is checked first, and no line is kept: each is read once more
+/// where it is taken. It takes time in proportion to the number of bytes, and memory for one line.
+pub fn listing_lines<'a>(alloc: Global, bytes: &'a [u8]) -> Result<Lines<'a>, ListStop>
     requires { length bytes.now ≤ 67108864 }
-    ensures ok { IfOk result (λ l. ListText bytes.now l.version (parts_of l.entries)) }
+    ensures ok { IfOk result (λ l. IsOpened bytes.now l) }
     ensures err { IfErr result (λ e. Stops bytes.now e) }
 {
     if bytes.len() == 0 {
@@ -51,42 +52,32 @@ pub fn read_listing(alloc: Global, bytes: &[u8]) -> Result<Listing, ListStop>
     let Some(version) = version(between(bytes, 0, end + 1)) else {
         return Err(ListStop::Form(1));
     };
-    let listing = rest(alloc, bytes, end + 1, version)?;
-    Ok(listing)
+    let lines = opened(alloc, bytes, end + 1, version)?;
+    Ok(lines)
 }
 
-// The listing of this version whose first line ends at a place.
-fn rest(alloc: Global, bytes: &[u8], behind: usize, version: u8) -> Result<Listing, ListStop>
-    requires short { length bytes.now ≤ 67108864 }
-    requires within { behind ≤ length bytes.now }
-    requires known { (version ≡ 1) ⊎ (version ≡ 2) }
-    requires first { TextsSo version bytes.now [] behind }
+// All lines that are left, with their numbers.
+fn entries_of(alloc: Global, lines: &mut Lines<'_>) -> Result<Seq<Entry>, NoMemory>
+    ensures parts { IfOk result (λ es. (ps : List AnyPart) → AreLeft lines.old ps → parts_of es ≡ ps) }
+    ensures numbers { IfOk result (λ es. AreNumbered lines.old.line es) }
+{
+    let mut entries = Vec::new(alloc);
+    'lines: while let Some(entry) = lines.next(alloc)? {
+        entries.push(entry)?;
+    }
+    Ok(Seq::from_vec(entries))
+}
+
+/// The listing that the bytes are. It takes time in proportion to their number, and memory for an entry for each line.
+pub fn read_listing(alloc: Global, bytes: &[u8]) -> Result<Listing, ListStop>
+    requires { length bytes.now ≤ 67108864 }
     ensures ok { IfOk result (λ l. ListText bytes.now l.version (parts_of l.entries)) }
     ensures err { IfErr result (λ e. Stops bytes.now e) }
 {
-    let mut entries = Vec::new(alloc);
-    let mut state = State::Top;
-    let mut at = behind;
-    let mut number = 2u32;
-    'lines: while at < bytes.len() {
-        let end = find(bytes, at, b'\n');
-        if end == bytes.len() {
-            return Err(ListStop::Form(number));
-        }
-        let read = line(alloc, version, state, between(bytes, at, end))?;
-        let Some((part, next)) = read else {
-            return Err(ListStop::Form(number));
-        };
-        entries.push(Entry { line: number, part })?;
-        state = next;
-        at = end + 1;
-        number += 1;
-    }
-    if is_end(state) {
-        Ok(Listing::of(version, Seq::from_vec(entries)))
-    } else {
-        Err(ListStop::Form(number))
-    }
+    let mut lines = listing_lines(alloc, bytes)?;
+    let version = lines.version();
+    let entries = entries_of(alloc, &mut lines)?;
+    Ok(Listing::of(version, entries))
 }
 
 impl From<NoMemory> for ListStop {

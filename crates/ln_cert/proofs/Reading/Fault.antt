@@ -8,6 +8,7 @@ use Rattle.ln_cert.specs.Lines.{lines}
 use Rattle.ln_cert.specs.Text.{Each, IsLine, text_of}
 use Rattle.ln_cert.specs.Listing.{IsFormFault, IsFront, IsListing, IsWhole, first_line, texts_of}
 use Rattle.ln_cert.specs.Reading.{is_end, next_of}
+pub use Rattle.ln_cert.specs.Reading.{RefusesText}
 use Rattle.ln_cert.proofs.Texts.Lists.{head, rest}
 use Rattle.ln_cert.proofs.Reading.OneLine.{one_line}
 use Rattle.ln_cert.proofs.Reading.Walk.{goes, goes_append, goes_none, is_form, start, whole}
@@ -80,7 +81,7 @@ record Behind (v : ℕ) (done : List Part) (t : State) (ts : List (List ℕ)) (p
   ranges : Each IsLine rest
   ends : goes v (Some t) rest ≡ Some Top
 
-some_next : (v : ℕ) (o : Option State) (ps : List Part) (t : State) → goes v o ps ≡ Some t → (u : State) × (o ≡ Some u)
+pub some_next : (v : ℕ) (o : Option State) (ps : List Part) (t : State) → goes v o ps ≡ Some t → (u : State) × (o ≡ Some u)
 some_next v None ps t e = let n = goes_none v ps in absurd (cc)
 some_next v (Some u) ps t e = (u, refl)
 
@@ -105,10 +106,6 @@ goes_on v done s more p e w =
     let k : v ≡ w.version = version_of v w.version (head w.same) in
     let f : goes v start w.parts ≡ Some Top = subst (λ n. goes n start w.parts ≡ Some Top) (sym k) (whole w.version w.listing.form) in
     split v done Top s p e more w.parts w.listing.ranges f (rest w.same)
-
--- a line that the state refuses
-abbrev pub RefusesText : ℕ → State → List ℕ → Type 0
-RefusesText v s t = (p : Part) (u : State) → IsLine p → next_of v s p ≡ Some u → t ≡ text_of p → ⊥
 
 refused : (v : ℕ) (done : List Part) (s : State) (t : List ℕ) (more : List (List ℕ)) → Each IsLine done → goes v start done ≡ Some s → RefusesText v s t → IsWhole (texts_of v done ++ (t ∷ more)) → ⊥
 refused v done s t more p e f w =

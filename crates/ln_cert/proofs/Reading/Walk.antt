@@ -10,16 +10,7 @@ use Rattle.ln_cert.specs.declared.part.State.TheVariants.{Top, Opened, InFilter,
 use Rattle.ln_cert.specs.Listing.{FilterOps, BlockOps, AFilter, SomeBlocks, SomeOrders, Predicates}
 use Rattle.ln_cert.specs.Listing as form
 use Rattle.ln_cert.specs.Reading.{next_of}
-
--- one line more, if the lines so far lead anywhere
-abbrev pub next_at : ℕ → Option State → Part → Option State
-next_at v None p = None
-next_at v (Some s) p = next_of v s p
-
--- where lines lead
-abbrev pub goes : ℕ → Option State → List Part → Option State
-goes v o [] = o
-goes v o (p ∷ ps) = goes v (next_at v o p) ps
+pub use Rattle.ln_cert.specs.Reading.{goes, next_at}
 
 abbrev pub start : Option State
 start = Some Top

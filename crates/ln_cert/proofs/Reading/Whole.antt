@@ -1,25 +1,22 @@
 -- Lines of the bytes, one by one.
-use Rattle.std.proofs.Common.{◌≡◌, ℕ, zero, suc, ◌+◌, ◌-◌, ◌≤◌, ◌<◌, ◌==◌, Bool, true, false, List, [], ◌∷◌, ◌++◌, length, get_or, take, drop, map, Some, ◌⊎◌, inl, inr, refl, sym, ap, ◌∙◌, subst, arith, append_assoc, append-nil, drop-cons, drop-drop}
+use Rattle.std.proofs.Common.{◌≡◌, ℕ, zero, suc, ◌+◌, ◌-◌, ◌≤◌, ◌<◌, ◌==◌, Bool, true, false, List, [], ◌∷◌, ◌++◌, length, get_or, take, drop, map, ◌⊎◌, inl, inr, refl, sym, ap, ◌∙◌, subst, arith, append_assoc, drop-cons, drop-drop}
 use Rattle.std.specs.Prelude.{if◌then◌else◌}
 use Rattle.std.proofs.lemmas.Bool.{eqb-true}
-use Rattle.std.proofs.lemmas.List.{take_all, length-drop, drop_all}
+use Rattle.std.proofs.lemmas.List.{take_all, length-drop}
 use Rattle.ln_cert.specs.declared.part.Entry.{Entry}
 use Rattle.ln_cert.specs.declared.part.Part.{Part}
 use Rattle.ln_cert.specs.declared.part.State.{State}
-use Rattle.ln_cert.specs.declared.part.State.TheVariants.{Top}
 use Rattle.ln_cert.specs.Lines.{joined, lines, onto}
 use Rattle.ln_cert.specs.Words.{is_plain, parted, span_to, words}
 use Rattle.ln_cert.specs.Text.{Each, IsLine, args_of, kind_of, text_of, word_of, words_of}
 use Rattle.ln_cert.specs.Listing.{AreNumbered, IsFormFault, IsWhole, ListText, first_line, parts_of, texts_of}
-use Rattle.ln_cert.specs.Loop.{TextsSo}
 use Rattle.ln_cert.specs.Stop.{Stops}
 use Rattle.ln_cert.specs.declared.read.ListStop.TheVariants.{Form}
-use Rattle.ln_cert.specs.Reading.{Refuses, is_end, next_of}
+use Rattle.ln_cert.specs.Reading.{Refuses}
 use Rattle.ln_cert.proofs.Reading.Parting.{ArePlain, lines_first}
 use Rattle.ln_cert.proofs.Texts.Plain.{args_plain, first_plain}
-use Rattle.ln_cert.proofs.Reading.Walk.{goes, goes_append, is_form, next_at, start}
-use Rattle.ln_cert.proofs.Reading.OneLine.{line_words, words_line}
-use Rattle.ln_cert.proofs.Reading.Fault.{Known, RefusesText, each_append, fault_at, fault_end, fault_first, map_append, one_list}
+use Rattle.ln_cert.proofs.Reading.OneLine.{line_words}
+use Rattle.ln_cert.proofs.Reading.Fault.{Known, RefusesText, fault_first, one_list}
 
 pub line_at : (bs : List ℕ) (at end : ℕ) → at < length bs → end ≡ at + span_to 10 (drop at bs) → lines (drop at bs) ≡ take (suc (end - at)) (drop at bs) ∷ lines (drop (end + 1) bs)
 line_at bs at end h e =
@@ -63,39 +60,6 @@ no_feed v s xs n e f p u r g q =
 pub refuses : (v : ℕ) (s : State) (body t : List ℕ) → t ≡ body ++ (10 ∷ []) → Refuses v s (words body) → RefusesText v s t
 refuses v s body t e f p u r g q = f p u (record { spelled = line_words body p r (sym e ∙ q); range = r; goes = g })
 
--- ---- the loop
-pub texts_more : (bs : List ℕ) (v at end : ℕ) (body : List ℕ) (done : List Part) (p : Part) → TextsSo v bs done at → at < length bs → end ≡ at + span_to 10 (drop at bs) → end < length bs → body ≡ take (end - at) (drop at bs) → words body ≡ words_of p → TextsSo v bs (done ++ (p ∷ [])) (end + 1)
-texts_more bs v at end body done p t h e g q w =
-    let a : take (suc (end - at)) (drop at bs) ≡ text_of p = with_feed bs at end body e g q ∙ words_line body p w in
-    let b : lines (drop at bs) ≡ text_of p ∷ lines (drop (end + 1) bs) = line_at bs at end h e ∙ ap (λ x. x ∷ lines (drop (end + 1) bs)) a in
-    t ∙ ap (λ x. texts_of v done ++ x) b
-    ∙ ap (λ x. first_line v ∷ x) (sym (append_assoc (map text_of done) (text_of p ∷ []) (lines (drop (end + 1) bs))) ∙ ap (λ x. x ++ lines (drop (end + 1) bs)) (sym (map_append done (p ∷ []))))
-
-pub walked_more : (v : ℕ) (done : List Part) (p : Part) (s t : State) → goes v start done ≡ Some s → next_of v s p ≡ Some t → goes v start (done ++ (p ∷ [])) ≡ Some t
-walked_more v done p s t e f = goes_append v start done (p ∷ []) ∙ ap (λ o. next_at v o p) e ∙ f
-
-pub ranges_more : (done : List Part) (p : Part) → Each IsLine done → IsLine p → Each IsLine (done ++ (p ∷ []))
-ranges_more done p q r = each_append done (p ∷ []) q (r, tt)
-
--- the line has no line feed
-pub fault_open : (bs : List ℕ) (v at end : ℕ) (done : List Part) (s : State) (n : ℕ) → Known v → TextsSo v bs done at → Each IsLine done → goes v start done ≡ Some s → at < length bs → end ≡ at + span_to 10 (drop at bs) → end ≡ length bs → n ≡ length done + 2 → IsFormFault bs n
-fault_open bs v at end done s n known t p w h e g k =
-    let l : length (drop at bs) ≡ length bs - at = simp length-drop in
-    fault_at bs v done s (take (suc (end - at)) (drop at bs)) (lines (drop (end + 1) bs)) n known (t ∙ ap (λ x. texts_of v done ++ x) (line_at bs at end h e)) p w (no_feed v s (drop at bs) (end - at) (omega arith) (omega arith)) k
-
--- the state refuses the line
-pub fault_here : (bs : List ℕ) (v at end : ℕ) (body : List ℕ) (done : List Part) (s : State) (n : ℕ) → Known v → TextsSo v bs done at → Each IsLine done → goes v start done ≡ Some s → at < length bs → end ≡ at + span_to 10 (drop at bs) → end < length bs → body ≡ take (end - at) (drop at bs) → Refuses v s (words body) → n ≡ length done + 2 → IsFormFault bs n
-fault_here bs v at end body done s n known t p w h e g q f k =
-    fault_at bs v done s (take (suc (end - at)) (drop at bs)) (lines (drop (end + 1) bs)) n known (t ∙ ap (λ x. texts_of v done ++ x) (line_at bs at end h e)) p w (refuses v s body _ (with_feed bs at end body e g q) f) k
-
-all_read : (bs : List ℕ) (v at : ℕ) (done : List Part) → TextsSo v bs done at → length bs ≤ at → lines bs ≡ texts_of v done
-all_read bs v at done t h =
-    let e : drop at bs ≡ [] = drop_all at bs h in
-    t ∙ ap (λ x. texts_of v done ++ lines x) e ∙ append-nil (texts_of v done)
-
-pub fault_short : (bs : List ℕ) (v at : ℕ) (done : List Part) (s : State) (n : ℕ) → Known v → TextsSo v bs done at → Each IsLine done → goes v start done ≡ Some s → length bs ≤ at → is_end s ≡ false → n ≡ length done + 2 → IsFormFault bs n
-fault_short bs v at done s n known t p w h f k = fault_end bs v done s n known (all_read bs v at done t h) p w f k
-
 -- ---- bytes and lines
 onto_joined : (b : ℕ) (ts : List (List ℕ)) → joined (onto b ts) ≡ b ∷ joined ts
 onto_joined b [] = refl
@@ -108,16 +72,6 @@ joined_lines (b ∷ bs) = by (b == 10) (joined_lines bs)
     by : (t : Bool) → joined (lines bs) ≡ bs → joined (if t then (b ∷ []) ∷ lines bs else onto b (lines bs)) ≡ b ∷ bs
     by true h = ap (λ x. b ∷ x) h
     by false h = onto_joined b (lines bs) ∙ ap (λ x. b ∷ x) h
-
-pub is_text : (bs : List ℕ) (v at : ℕ) (done : List Part) (s : State) → Known v → TextsSo v bs done at → Each IsLine done → goes v start done ≡ Some s → length bs ≤ at → is_end s ≡ true → ListText bs v done
-is_text bs v at done s known t p w h f = record {
-  listing = record { known = known; form = is_form v done known (w ∙ top s f); ranges = p };
-  text = sym (joined_lines bs) ∙ ap joined (all_read bs v at done t h);
-}
-  where
-    top : (s : State) → is_end s ≡ true → Some s ≡ Some Top
-    top Top f = refl
-    top s f = absurd (cc)
 
 -- ---- entries
 pub parts_more : (es : List Entry) (e : Entry) → parts_of (es ++ (e ∷ [])) ≡ parts_of es ++ (e.part ∷ [])
@@ -133,7 +87,7 @@ numbered_more n [] e a l = (omega arith, tt)
 numbered_more n (x ∷ es) e a l = (a.0, numbered_more (n + 1) es e a.1 (omega arith))
 
 -- ---- the first line
-pub first_is : (bs : List ℕ) (v end : ℕ) (body : List ℕ) → 0 < length bs → end ≡ 0 + span_to 10 (drop 0 bs) → body ≡ take ((end + 1) - 0) (drop 0 bs) → body ≡ first_line v → TextsSo v bs [] (end + 1)
+pub first_is : (bs : List ℕ) (v end : ℕ) (body : List ℕ) → 0 < length bs → end ≡ 0 + span_to 10 (drop 0 bs) → body ≡ take ((end + 1) - 0) (drop 0 bs) → body ≡ first_line v → lines bs ≡ first_line v ∷ lines (drop (end + 1) bs)
 first_is bs v end body h e q f =
     let n : suc (end - 0) ≡ (end + 1) - 0 = omega arith in
     line_at bs 0 end h e ∙ ap (λ x. x ∷ lines (drop (end + 1) bs)) (ap (λ m. take m (drop 0 bs)) n ∙ sym q ∙ f)

@@ -1,10 +1,10 @@
--- Answers to the goals of `read_listing` in src/read.rt.
+-- Answers to the goals of `listing_lines` in src/read.rt.
 use Rattle.std.proofs.Common.{◌≡◌, arith, List, ℕ, [], ◌∷◌, length}
 use Rattle.ln_cert.specs.declared.read.ListStop.TheVariants.{Form}
 use Rattle.ln_cert.specs.Stop.{Stops}
 use Rattle.ln_cert.proofs.Reading.Fault.{fault_empty}
 use Rattle.ln_cert.proofs.Reading.Whole.{no_first, no_first_feed, stops_at}
-use Rattle.ln_cert.proofs.read.read_listing.Goals as goal
+use Rattle.ln_cert.proofs.read.listing_lines.Goals as goal
 
 no_bytes : (bs : List ℕ) → length bs ≡ 0 → Stops bs (Form 1)
 no_bytes [] e = stops_at [] 1 fault_empty

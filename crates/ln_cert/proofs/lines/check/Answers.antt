@@ -1,0 +1,30 @@
+-- Answers to the goals of `check` in src/lines.rt.
+use Rattle.std.proofs.Common.{arith, sym, ◌∙◌}
+use Rattle.ln_cert.proofs.Reading.Left.{so_far_fault, so_far_first, so_far_more, so_far_short, so_far_whole}
+use Rattle.ln_cert.proofs.Reading.Whole.{stops_at}
+use Rattle.ln_cert.proofs.lines.check.Goals as goal
+
+pub lines-init : goal.lines-init
+lines-init c = so_far_first c.args.bytes.now c.args.version c.args.behind _ c.requires.first c.after-text.ensures
+
+pub returns-in_default-clause-err : goal.returns-in_default-clause-err
+returns-in_default-clause-err c = stops_at c.args.bytes.now c.lines.number (so_far_fault c.args.bytes.now c.args.version c.lines.state c.lines.text.now c.lines.number c.requires.known c.lines.invariant (rw c.in_default.is at c.in_ok-read.ensures))
+
+-- the line that was read is dropped by its kind, and each way goes on alike
+pub lines-preserved : goal.lines-preserved
+lines-preserved c = so_far_more c.args.bytes.now c.args.version c.lines.state c.lines.text.now c.lines.number c.in-Some._part c.in-Some.next c.in-Some.count c.after-text-in-lines.result.now c.lines.invariant (rw c.in-Some.is at c.in_ok-read.ensures) c.after-text-in-lines.ensures
+
+pub lines-preserved-in-Some : goal.lines-preserved-in-Some
+lines-preserved-in-Some c = so_far_more c.args.bytes.now c.args.version c.lines.state c.lines.text.now c.lines.number c.in-Some._part c.in-Some.next c.in-Some.count c.after-text-in-lines.result.now c.lines.invariant (rw c.in-Some.is at c.in_ok-read.ensures) c.after-text-in-lines.ensures
+
+pub lines-preserved-in-Some-2 : goal.lines-preserved-in-Some-2
+lines-preserved-in-Some-2 c = so_far_more c.args.bytes.now c.args.version c.lines.state c.lines.text.now c.lines.number c.in-Some._part c.in-Some.next c.in-Some.count c.after-text-in-lines.result.now c.lines.invariant (rw c.in-Some.is at c.in_ok-read.ensures) c.after-text-in-lines.ensures
+
+pub lines-preserved-in-Some-3 : goal.lines-preserved-in-Some-3
+lines-preserved-in-Some-3 c = so_far_more c.args.bytes.now c.args.version c.lines.state c.lines.text.now c.lines.number c.in-Some._part c.in-Some.next c.in-Some.count c.after-text-in-lines.result.now c.lines.invariant (rw c.in-Some.is at c.in_ok-read.ensures) c.after-text-in-lines.ensures
+
+pub returns-then-is_end-clause-ok : goal.returns-then-is_end-clause-ok
+returns-then-is_end-clause-ok c = so_far_whole c.args.bytes.now c.args.version c.args.behind c.lines.state c.lines.text.now c.lines.number c.requires.known c.requires.first c.lines.invariant (omega arith) (sym c.is_end.ensures ∙ c.if-is_end.true)
+
+pub returns-else-is_end-clause-err : goal.returns-else-is_end-clause-err
+returns-else-is_end-clause-err c = stops_at c.args.bytes.now c.lines.number (so_far_short c.args.bytes.now c.args.version c.lines.state c.lines.text.now c.lines.number c.requires.known c.lines.invariant (omega arith) (sym c.is_end.ensures ∙ c.if-is_end.false))
