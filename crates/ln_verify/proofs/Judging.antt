@@ -7,3 +7,4 @@ pub mod Walk
 pub mod Wholes
 pub mod Entries
 pub mod Subjects
+pub mod Texts

@@ -4,7 +4,7 @@ use Rattle.ln_tree.specs.declared.pred.Pred.{Pred}
 use Rattle.ln_tree.specs.Row.{InRange, Row}
 use Rattle.ln_tree.specs.Table.{PredOf, pred_of}
 use Rattle.ln_poly.specs.Expansion.{IsNormal}
-use Rattle.ln_cert.specs.Listing.{Listed, parts_of}
+use Rattle.ln_cert.specs.Listing.{IsFormFault, ListText, Listed, parts_of}
 use Rattle.ln_verify.specs.Accepted.{AreAccepted, root_of}
 use Rattle.ln_verify.specs.AsPart.{GivesSign}
 use Rattle.ln_verify.specs.BlockRules.{Version, version_1, version_2}
@@ -41,6 +41,18 @@ pub record IsFaultFor (ps : List PredOf) (l : Listed) (line : ℕ) : Type 0 wher
   pub subjects : List Subject
   pub those : AreSubjectsOf ps subjects
   pub fault : IsFirstFault (rules_of l.version) subjects (parts_of l.entries) line
+
+-- ---- of bytes
+-- the bytes are a listing, which is valid for these predicates
+pub record IsValidTextFor (ps : List PredOf) (bytes : List ℕ) : Type 0 where
+  pub listing : Listed
+  pub text : ListText bytes listing.version (parts_of listing.entries)
+  pub valid : IsValidFor ps listing
+
+-- the first fault of the bytes: the line at which they stop being a listing; or, of a listing, the first line whose rule fails
+pub data IsTextFaultFor (ps : List PredOf) (bytes : List ℕ) (line : ℕ) : Type 0 where
+  form : IsFormFault bytes line → IsTextFaultFor ps bytes line
+  rule : (l : Listed) → ListText bytes l.version (parts_of l.entries) → IsFaultFor ps l line → IsTextFaultFor ps bytes line
 
 -- ---- the promise
 -- a listing that is valid for accepted predicates, whoever made it, has a part of each, and on each row in range the machine of

@@ -1,14 +1,16 @@
 //! The judge: a line at its place, and the loop over the lines.
-ghost use Rattle.std.specs.Prelude.{◌≡◌, ◌↔◌, ◌<◌, All, IfOk, IsTrue, OnSome, length, slice_get};
+ghost use Rattle.std.specs.Prelude.{◌≡◌, ◌↔◌, ◌<◌, All, IfOk, IsTrue, List, OnSome, length, slice_get};
 ghost use Rattle.std.specs.Option.{option_copied};
 ghost use Rattle.ln_verify.specs.BlockRules.{Version};
 ghost use Rattle.ln_verify.specs.Line.{Place};
+ghost use Rattle.ln_cert.specs.declared.part.Part.{Part as AnyPart};
 ghost use Rattle.ln_cert.specs.declared.part.Part.TheVariants.{Done, Predicate};
 ghost use Rattle.ln_verify.specs.declared.desk.At.TheVariants.{Away};
 ghost use Rattle.ln_verify.specs.Here.{Finished, Gone, IsAnswer, IsHere, IsCase, Leads, subject_of, subjects_of};
 ghost use Rattle.ln_verify.specs.Versions.{version_of};
 ghost use Rattle.ln_tree.specs.Names.{name_bytes};
 ghost use Rattle.ln_cert.specs.Listing.{AreNumbered, parts_of};
+ghost use Rattle.ln_cert.specs.Unread.{AreLeft};
 
 use crate::case::Case;
 use crate::desk::{At, Desk, is_at};
@@ -16,7 +18,7 @@ use crate::form::Form;
 use crate::kinds::{block, block_op, decide, end, filter, filter_op, no_filter, order, range_op};
 use crate::stacks::{empty_bench, empty_tray};
 use ln_base::{NoMemory, Seq};
-use ln_cert::{Entry, Part};
+use ln_cert::{Entry, Lines, Part};
 use std::alloc::Global;
 
 // A line within the part of a predicate, but for the last.
@@ -182,6 +184,48 @@ pub fn judge(
     }
     if desk.parts != cases.len() {
         return Ok(Some(entries.len() as u32 + 2));
+    }
+    Ok(None)
+}
+
+// A line at its place, which is dropped then.
+fn entry(
+    alloc: Global,
+    cases: &[Case],
+    form: Form,
+    desk: &mut Desk,
+    e: Entry,
+) -> Result<bool, NoMemory>
+    requires { All IsCase cases.now }
+    ensures { IfOk result (λ ok. (here : Place) → IsHere (subjects_of cases.now) desk.old here →
+        Gone (version_of form) (subjects_of cases.now) here e.part ok desk.new) }
+{
+    line(alloc, cases, form, desk, &e.part)
+}
+
+/// The first line that fails, or none fails, of the lines that are left of a listing. Each is judged as it is read, and none is kept.
+pub fn judge_lines(
+    alloc: Global,
+    cases: &[Case],
+    form: Form,
+    lines: &mut Lines<'_>,
+) -> Result<Option<u32>, NoMemory>
+    requires cases { All IsCase cases.now }
+    requires second { lines.old.line ≡ 2 }
+    ensures { IfOk result (λ o. (ps : List AnyPart) → AreLeft lines.old ps → IsAnswer (version_of form) (subjects_of cases.now) ps o) }
+{
+    let mut desk = fresh_desk(alloc)?;
+    'lines: while let Some(e) = lines.next(alloc)? {
+        let number = e.line;
+        if !entry(alloc, cases, form, &mut desk, e)? {
+            return Ok(Some(number));
+        }
+    }
+    if !is_at(desk.at, At::Away) {
+        return Ok(Some(lines.number()));
+    }
+    if desk.parts != cases.len() {
+        return Ok(Some(lines.number()));
     }
     Ok(None)
 }

@@ -27,4 +27,4 @@ pub mod tray;
 pub mod triple;
 pub mod value;
 
-pub use listings::{Judged, verify};
+pub use listings::{Judged, verify, verify_text};

@@ -1,19 +1,19 @@
 //! The exact judge of listings.
-ghost use Rattle.std.specs.Prelude.{◌≡◌, ◌↔◌, ◌<◌, ℕ, All, IfOk, length, map};
+ghost use Rattle.std.specs.Prelude.{◌≡◌, ◌↔◌, ◌<◌, ◌≤◌, ℕ, All, IfOk, length, map};
 ghost use Rattle.ln_tree.specs.Table.{pred_of};
 ghost use Rattle.ln_cert.specs.Listing.{AreNumbered};
 ghost use Rattle.ln_verify.specs.Accepted.{AreAccepted};
 ghost use Rattle.ln_verify.specs.Here.{IsCase, subjects_of};
-ghost use Rattle.ln_verify.specs.Verified.{AreSubjectsOf, IsFaultFor, IsValidFor, rules_of};
+ghost use Rattle.ln_verify.specs.Verified.{AreSubjectsOf, IsFaultFor, IsTextFaultFor, IsValidFor, IsValidTextFor, rules_of};
 ghost use Rattle.ln_verify.specs.Versions.{version_of};
 ghost use Rattle.ln_verify.specs.declared.listings.Judged.TheVariants.{Valid, Invalid};
 
 use crate::case::Case;
 use crate::cases::case_of;
 use crate::form::Form;
-use crate::judge::judge;
+use crate::judge::{judge, judge_lines};
 use ln_base::NoMemory;
-use ln_cert::{Entry, Listing};
+use ln_cert::{Entry, ListStop, Listing, listing_lines};
 use ln_tree::{Pred, Table};
 use std::alloc::Global;
 
@@ -40,11 +40,11 @@ fn cases_of(alloc: Global, preds: &[Pred]) -> Result<Vec<Case>, NoMemory>
     Ok(cases)
 }
 
-// The version of a listing.
-fn form_of(l: &Listing) -> Form
-    ensures { version_of result ≡ rules_of l.now.version }
+// The form of the listings of a version.
+fn form_of(version: u8) -> Form
+    ensures { version_of result ≡ rules_of version }
 {
-    if l.version() == 1 {
+    if version == 1 {
         return Form::One;
     }
     Form::Two
@@ -70,8 +70,32 @@ pub fn verify(alloc: Global, t: &Table, l: &Listing) -> Result<Judged, NoMemory>
     ensures invalid { IfOk result (λ j. (line : ℕ) → (j ≡ Invalid line) ↔ IsFaultFor (map pred_of t.now.preds) l.now line) }
 {
     let cases = cases_of(alloc, t.preds.as_slice())?;
-    let form = form_of(l);
+    let form = form_of(l.version());
     match judge(alloc, cases.as_slice(), form, lines_of(l))? {
+        Some(line) => Ok(Judged::Invalid(line)),
+        None => Ok(Judged::Valid),
+    }
+}
+
+/// Are the bytes a listing that is valid for the table, and if not, at which line do they fail first? A line at which they stop being a
+/// listing comes before any line whose rule fails. The table's predicates are such as compile.
+///
+/// The form of the whole text is checked first; then each line is read once more, judged and dropped. So it takes the memory of one line
+/// beside that of `verify`, and the time of `verify` and of two readings.
+pub fn verify_text(alloc: Global, t: &Table, bytes: &[u8]) -> Result<Judged, NoMemory>
+    requires accepted { AreAccepted (map pred_of t.now.preds) }
+    requires short { length bytes.now ≤ 67108864 }
+    ensures valid { IfOk result (λ j. (j ≡ Valid) ↔ IsValidTextFor (map pred_of t.now.preds) bytes.now) }
+    ensures invalid { IfOk result (λ j. (line : ℕ) → (j ≡ Invalid line) ↔ IsTextFaultFor (map pred_of t.now.preds) bytes.now line) }
+{
+    let mut lines = match listing_lines(alloc, bytes) {
+        Ok(lines) => lines,
+        Err(ListStop::Form(line)) => return Ok(Judged::Invalid(line)),
+        Err(ListStop::NoMemory) => return Err(NoMemory),
+    };
+    let cases = cases_of(alloc, t.preds.as_slice())?;
+    let form = form_of(lines.version());
+    match judge_lines(alloc, cases.as_slice(), form, &mut lines)? {
         Some(line) => Ok(Judged::Invalid(line)),
         None => Ok(Judged::Valid),
     }

@@ -1,0 +1,30 @@
+-- What is left to show of `judge_lines`.
+use Rattle.std.proofs.Common.{Bool, true, false, sym, ◌∙◌, subst}
+use Rattle.std.proofs.lemmas.List.{length-map}
+use Rattle.ln_verify.specs.Line.{Place}
+use Rattle.ln_verify.specs.Here.{Gone, IsHere, subject_of, subjects_of}
+use Rattle.ln_verify.specs.Versions.{version_of}
+use Rattle.ln_verify.proofs.Judging.Texts.{midway-first, midway-more, midway-stops, midway-whole}
+use Rattle.ln_verify.proofs.judge.judge_lines.Goals as goal
+
+pub lines-init : goal.lines-init
+lines-init c =
+    λ ps h. midway-first (version_of c.args.form) (subjects_of c.args.cases.now) ps c.in_ok-desk.desk c.args.lines.now c.requires.second c.in_ok-desk.ensures.0 c.in_ok-desk.ensures.1 h
+
+pub lines-preserved : goal.lines-preserved
+lines-preserved c =
+    let v = version_of c.args.form in
+    let ss = subjects_of c.args.cases.now in
+    let g : (here : Place) → IsHere ss c.lines.desk here → Gone v ss here c.in-Some.e.part true c.entry.new.desk = subst (λ (ok : Bool). (here : Place) → IsHere ss c.lines.desk here → Gone v ss here c.in-Some.e.part ok c.entry.new.desk) c.if-not-branch.false c.in_ok-entry.ensures in
+    λ ps h. midway-more v ss ps c.lines.desk c.lines.lines c.in-Some.e c.next.new.self c.entry.new.desk (c.lines.invariant ps h) (rw c.in-Some.is at c.in_ok-e.ensures.takes) g
+
+pub returns-then-not-branch : goal.returns-then-not-branch
+returns-then-not-branch c =
+    let v = version_of c.args.form in
+    let ss = subjects_of c.args.cases.now in
+    let g : (here : Place) → IsHere ss c.lines.desk here → Gone v ss here c.in-Some.e.part false c.entry.new.desk = subst (λ (ok : Bool). (here : Place) → IsHere ss c.lines.desk here → Gone v ss here c.in-Some.e.part ok c.entry.new.desk) c.if-not-branch.true c.in_ok-entry.ensures in
+    λ ps h. midway-stops v ss ps c.lines.desk c.lines.lines c.in-Some.e c.next.new.self c.entry.new.desk (c.lines.invariant ps h) (rw c.in-Some.is at c.in_ok-e.ensures.takes) g
+
+pub returns : goal.returns
+returns c =
+    λ ps h. midway-whole (version_of c.args.form) (subjects_of c.args.cases.now) ps c.lines.desk c.lines.lines c.next.new.self (c.lines.invariant ps h) (rw c.in_default.is at c.in_ok-e.ensures.takes) (c.is_at.ensures.0 c.if-not-is_at.false) (c.if-desk-cases.false ∙ sym (length-map c.args.cases.now subject_of))
