@@ -165,7 +165,10 @@ fn product(alloc: Global, a: Triple, x: Cut, y: Cut) -> Result<Option<Cut>, NoMe
     if !all_fit(x.poly.terms(), y.poly.terms()) {
         return Ok(None);
     }
-    let h = mul(alloc, &x.poly, &y.poly)?;
+    let found = mul(alloc, &x.poly, &y.poly, 1024)?;
+    let Some(h) = found else {
+        return Ok(None);
+    };
     Ok(kept(a, size, h))
 }
 

@@ -2,10 +2,12 @@
 //!
 //! A `get` puts a local onto the stack once more. Were its terms copied then, a short line could cost a thousand copies; so a
 //! polynomial on the stack has owners, and its terms go with the last one.
-ghost use Rattle.std.specs.Prelude.{◌≡◌, ◌≢◌, ℕ, List, [], ◌∷◌, ◌+◌, ◌*◌, ◌<◌, ◌≤◌, ◌^◌, ◌+ℤ◌, All, pos, IfOk, length, unsigned_abs};
+ghost use Rattle.std.specs.Prelude.{◌≡◌, ◌≢◌, ℕ, List, [], ◌∷◌, ◌+◌, ◌*◌, ◌<◌, ◌≤◌, ◌^◌, ◌+ℤ◌, All, pos, length, unsigned_abs};
+ghost use Rattle.std.specs.Prelude.{IfOk, IfSome, IfNone};
 ghost use Rattle.ln_algebra.specs.Coefficient.{product};
 ghost use Rattle.ln_poly.specs.Rows.{PowersFit};
 ghost use Rattle.ln_poly.specs.Sparse.{IsPoly, AreBelow, coefficient_at, negated, size_of};
+ghost use Rattle.ln_poly.specs.Within.{TakesMore};
 
 use ln_base::NoMemory;
 use ln_poly::{Poly, sum};
@@ -143,17 +145,21 @@ pub fn add(alloc: Global, f: Held, g: Held) -> Result<Held, NoMemory>
     Ok(h)
 }
 
-/// The product of two polynomials.
-pub fn mul(alloc: Global, f: &Held, g: &Held) -> Result<Held, NoMemory>
+/// The product of two polynomials, where it has at most `most` terms; None where it has more.
+pub fn mul(alloc: Global, f: &Held, g: &Held, most: usize) -> Result<Option<Held>, NoMemory>
     requires room { size_of f.now * size_of g.now < 2 ^ 127 }
     requires powers { All (λ s. PowersFit s g.now) f.now }
-    ensures coefficients { IfOk result (λ h. (n : ℕ) (m : List ℕ) → length m ≡ n →
-        coefficient_at n h m ≡ product (coefficient_at n f.now) (coefficient_at n g.now) m) }
-    ensures size { IfOk result (λ h. size_of h ≤ size_of f.now * size_of g.now) }
-    ensures form { IfOk result IsPoly }
-    ensures below { IfOk result (λ h. (n : ℕ) → AreBelow n f.now → AreBelow n g.now → AreBelow n h) }
+    ensures coefficients { IfOk result (λ o. IfSome o (λ h. (n : ℕ) (m : List ℕ) → length m ≡ n →
+        coefficient_at n h m ≡ product (coefficient_at n f.now) (coefficient_at n g.now) m)) }
+    ensures size { IfOk result (λ o. IfSome o (λ h. size_of h ≤ size_of f.now * size_of g.now)) }
+    ensures form { IfOk result (λ o. IfSome o IsPoly) }
+    ensures below { IfOk result (λ o. IfSome o (λ h. (n : ℕ) → AreBelow n f.now → AreBelow n g.now → AreBelow n h)) }
+    ensures none { IfOk result (λ o. IfNone o (TakesMore f.now g.now most)) }
 {
-    let p = ln_poly::mul(alloc, f.lent(), g.lent())?;
+    let found = ln_poly::mul_within(alloc, f.lent(), g.lent(), most)?;
+    let Some(p) = found else {
+        return Ok(None);
+    };
     let h = Held::of(alloc, p)?;
-    Ok(h)
+    Ok(Some(h))
 }

@@ -143,7 +143,10 @@ fn product(alloc: Global, w: Width, b: Pair, x: Value, y: Value) -> Result<Optio
     if !all_fit(x.poly.terms(), y.poly.terms()) {
         return Ok(None);
     }
-    let h = mul(alloc, &x.poly, &y.poly)?;
+    let found = mul(alloc, &x.poly, &y.poly, 1024)?;
+    let Some(h) = found else {
+        return Ok(None);
+    };
     Ok(kept(b, w, size, h))
 }
 

@@ -8,6 +8,8 @@ use Rattle.ln_tree.specs.Exps.{Pairs, exponent, vector}
 use Rattle.ln_tree.proofs.Powers.{vector-get}
 use Rattle.ln_poly.specs.Expansion.{IsNormal}
 use Rattle.ln_poly.specs.Sparse.{Sparse, coefficient_at}
+use Rattle.ln_poly.specs.Within.{TakesMore}
+use Rattle.ln_poly.proofs.Expansions.Normals.{mul-many}
 use Rattle.ln_poly.proofs.TermLists.Counting.{few-terms, many-terms}
 use Rattle.ln_stage.specs.Kept.{all_rows}
 use Rattle.ln_stage.specs.StageList.{IsMonomialOf}
@@ -54,3 +56,7 @@ too-high n d e f g p q i j v x l k b h s =
     let r = products-reach n v d e (all_rows n f) (all_rows n g) (vector n (get_or f i x).0) (vector n (get_or g j x).0) (in-rows n d f p) (in-rows n e g q) b' c' in
     let a : get_or r.0 v 0 < 128 = s.low r.0 v r.1 in
     omega (arith, r.2, a, h, vector-get n v (get_or f i x).0 b, vector-get n v (get_or g j x).0 b)
+
+-- a product that takes more than 1,024 terms isn't small either
+pub product-large : (n : ℕ) (d e : Tree) (f g : Sparse) → IsNormal n d f → IsNormal n e g → TakesMore f g 1024 → IsSmall n (Mul d e) → ⊥
+product-large n d e f g p q t s = s.few (mul-many n d e f g p q t)
