@@ -11,8 +11,7 @@ use crate::status::{Early, End};
 use crate::stop::{number, put_text};
 use crate::words::Command;
 use ln_base::{Console, NoMemory};
-use ln_cert::{ListStop, read_listing};
-use ln_verify::{Judged, verify};
+use ln_verify::{Judged, verify_text};
 use std::alloc::Global;
 
 // The first fault of the listing, of its form or of its rules; none where it is valid.
@@ -20,12 +19,7 @@ fn first_fault(alloc: Global, ready: &Ready) -> Result<Option<u32>, NoMemory>
     requires { IsReadyFor Command.Verify ready.now }
     ensures { IfOk result (λ o. (g : Given) → StandsFor ready.now g → MatchOption o (HasValid g) (λ at. HasFault g at)) }
 {
-    let listing = match read_listing(alloc, short_text(ready)) {
-        Ok(listing) => listing,
-        Err(ListStop::Form(at)) => return Ok(Some(at)),
-        Err(ListStop::NoMemory) => return Err(NoMemory),
-    };
-    match verify(alloc, sound_table(ready), &listing)? {
+    match verify_text(alloc, sound_table(ready), short_text(ready))? {
         Judged::Valid => Ok(None),
         Judged::Invalid(at) => Ok(Some(at)),
     }

@@ -137,7 +137,7 @@ fn listings_by_hand_are_judged(rt: HostRuntime) -> Result<(), Fail> {
     let alloc = rt.alloc();
     assert!(rt; says(alloc, BOUNDS, Status::Done, "valid\n")?);
     assert!(rt; says(alloc, ENDS, Status::Done, "valid\n")?);
-    let cases: [(&str, &[(usize, &str)], Status, &str); 9] = [
+    let cases: [(&str, &[(usize, &str)], Status, &str); 10] = [
         (BOUNDS, &[(28, "mul64 19")], Status::Invalid, "invalid 28\n"),
         (BOUNDS, &[(28, "mul128 20")], Status::Done, "valid\n"),
         // The polynomial is three times the variable, and not twice.
@@ -164,6 +164,13 @@ fn listings_by_hand_are_judged(rt: HostRuntime) -> Result<(), Fail> {
             "invalid 41\n",
         ),
         (ENDS, &[(2, "predicate t")], Status::Invalid, "invalid 2\n"),
+        // A form fault comes before any line whose rule fails.
+        (
+            ENDS,
+            &[(2, "predicate t"), (42, "order 1 0 :")],
+            Status::Invalid,
+            "invalid 42\n",
+        ),
     ];
     for (listing, news, status, out) in cases {
         let text = with_lines(alloc, listing, news)?;

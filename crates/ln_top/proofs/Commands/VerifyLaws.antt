@@ -1,18 +1,16 @@
 -- `verify`: what it owes is carried out by a whole text; a listing is valid or has one fault, and where it ends.
 use Rattle.std.proofs.Common.{◌≡◌, ℕ, List, [], ◌∷◌, ◌++◌, refl, ap, sym, ◌∙◌, subst, Option, Some, None}
-use Rattle.std.specs.Prelude.{IfErr, MatchOption, Result, Ok, Err, codes, decimal}
+use Rattle.std.specs.Prelude.{MatchOption, Result, codes, decimal}
 use Rattle.ln_base.specs.Outside.{Shown}
 use Rattle.ln_tree.specs.Table.{PredOf}
 use Rattle.ln_cert.specs.declared.part.Part.{Part}
-use Rattle.ln_cert.specs.declared.read.ListStop.{ListStop}
-use Rattle.ln_cert.specs.declared.read.ListStop.TheVariants.{Form}
-use Rattle.ln_cert.specs.Stop.{Stops}
 use Rattle.ln_cert.specs.Listing.{IsFormFault, ListText, Listed, parts_of}
 use Rattle.ln_cert.proofs.Reading.OneFault.{one_fault}
 use Rattle.ln_cert.proofs.Reading.Whole.{no_text, one_text}
 use Rattle.ln_verify.specs.Judge.{IsFirstFault}
 use Rattle.ln_verify.specs.Line.{Subject}
-use Rattle.ln_verify.specs.Verified.{IsFaultFor, IsValidFor, rules_of}
+use Rattle.ln_verify.specs.Verified.{IsFaultFor, IsTextFaultFor, IsValidFor, IsValidTextFor, rules_of}
+use Rattle.ln_verify.specs.Verified as of_text
 use Rattle.ln_verify.proofs.Judging.Subjects.{subjects-one}
 use Rattle.ln_verify.proofs.Validity.One.{one-answer}
 use Rattle.ln_top.specs.declared.status.End.{End}
@@ -104,23 +102,20 @@ pub lawful : IsLawful (λ boxes. VerifySaid) VerifyEnds
 lawful = record { tells = λ boxes. tells; one = one; kind = kind }
 
 -- ---- from the code
--- the listing that was read is that of the file
-pub listed : (g : Given) (bytes : List ℕ) (l : Listed) → g.texts ≡ bytes ∷ []
-    → ListText bytes l.version (parts_of l.entries) → IsListed g l
-listed g bytes l e t = record { bytes = bytes; file = e; text = t }
-
--- and was judged
-pub judged_valid : (g : Given) (bytes : List ℕ) (ps : List PredOf) (l : Listed) → g.texts ≡ bytes ∷ []
-    → ps ≡ g.table.preds → ListText bytes l.version (parts_of l.entries) → IsValidFor ps l → HasValid g
-judged_valid g bytes ps l e q t h = record {
-  listing = l;
-  listed = listed g bytes l e t;
-  valid = subst (λ (x : List PredOf). IsValidFor x l) q h;
+-- what was judged are the bytes of the file
+pub text_valid : (g : Given) (bytes : List ℕ) (ps : List PredOf) → g.texts ≡ bytes ∷ [] → ps ≡ g.table.preds
+    → IsValidTextFor ps bytes → HasValid g
+text_valid g bytes ps e q h = record {
+  listing = h.listing;
+  listed = record { bytes = bytes; file = e; text = h.text };
+  valid = subst (λ (x : List PredOf). IsValidFor x h.listing) q h.valid;
 }
 
-pub judged_fault : (g : Given) (bytes : List ℕ) (ps : List PredOf) (l : Listed) (at : ℕ) → g.texts ≡ bytes ∷ []
-    → ps ≡ g.table.preds → ListText bytes l.version (parts_of l.entries) → IsFaultFor ps l at → HasFault g at
-judged_fault g bytes ps l at e q t h = rule l (listed g bytes l e t) (subst (λ (x : List PredOf). IsFaultFor x l at) q h)
+pub text_fault : (g : Given) (bytes : List ℕ) (ps : List PredOf) (at : ℕ) → g.texts ≡ bytes ∷ [] → ps ≡ g.table.preds
+    → IsTextFaultFor ps bytes at → HasFault g at
+text_fault g bytes ps at e q (of_text.form f) = form bytes e f
+text_fault g bytes ps at e q (of_text.rule l t f) =
+    rule l (record { bytes = bytes; file = e; text = t }) (subst (λ (x : List PredOf). IsFaultFor x l at) q f)
 
 -- what was found is what is said
 none_of : (g : Given) (o : Option ℕ) → ((at : ℕ) → o ≡ Some at → ⊥)
@@ -144,9 +139,3 @@ pub fault_carried : (g : Given) (o : Option ℕ) (at : ℕ) (text : List ℕ) (p
 fault_carried g o at text puts result was now e h t p =
     text_carried (VerifySaid g) NoPart ⊥ ⊥ puts Invalid (line (codes "invalid " ++ decimal at)) result was now
     (invalid at (some_of g o at e h)) (subst (λ (x : List ℕ). PutsText x Invalid puts result was now) t p)
-
--- what stops the reader of listings is a form fault
-pub form_there : {L : Type 0} (bytes : List ℕ) (r : Result L ListStop) (e : ListStop) (at : ℕ) → r ≡ Err e → e ≡ Form at
-    → IfErr r (λ x. Stops bytes x) → IsFormFault bytes at
-form_there bytes (Ok l) e at i j h = cc
-form_there bytes (Err x) e at i j h = let k : x ≡ Form at = cc in (subst (Stops bytes) k h).0
