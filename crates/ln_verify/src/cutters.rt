@@ -144,7 +144,7 @@ fn difference(alloc: Global, a: Triple, x: Cut, y: Cut) -> Result<Option<Cut>, N
         return Ok(None);
     }
     let g = opposite(alloc, y.poly)?;
-    let h = add(alloc, x.poly, g)?;
+    let h = add(alloc, g, x.poly)?;
     Ok(kept(a, size, h))
 }
 

@@ -128,7 +128,7 @@ fn add_to(alloc: Global, f: Held, g: &Held) -> Result<Held, NoMemory>
     Ok(h)
 }
 
-/// The sum of two polynomials, in place of the longer one. Its terms are copied only where it has other owners.
+/// The sum of two polynomials, in place of the longer one, or of the first. Its terms are copied only where it has other owners.
 pub fn add(alloc: Global, f: Held, g: Held) -> Result<Held, NoMemory>
     requires { size_of f + size_of g < 2 ^ 127 }
     ensures coefficients { IfOk result (λ h. (n : ℕ) (m : List ℕ) →

@@ -125,7 +125,7 @@ fn difference(
         return Ok(None);
     }
     let g = opposite(alloc, y.poly)?;
-    let h = add(alloc, x.poly, g)?;
+    let h = add(alloc, g, x.poly)?;
     Ok(kept(b, w, size, h))
 }
 

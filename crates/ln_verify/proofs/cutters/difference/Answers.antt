@@ -2,6 +2,7 @@
 use Rattle.std.proofs.Common.{◌≡◌, ◌≤◌, ◌+◌, ◌∙◌, ◌==◌, ℕ, ap, arith, sym, true, false}
 use Rattle.std.proofs.lemmas.Bool.{leb-true}
 use Rattle.std.proofs.lemmas.Bool.Decides.{nat_tests}
+use Rattle.std.proofs.lemmas.Int.{ints}
 use Rattle.ln_algebra.specs.Tree.{Sub}
 use Rattle.ln_bound.specs.declared.fitted.Two.TheVariants.{Minus}
 use Rattle.ln_interval.specs.Range.{most}
@@ -31,4 +32,4 @@ kept-requires-clause-heavy c =
 pub returns : goal.returns
 returns c n j k f g =
     added-yes n c.args.x c.args.y j k c.args.a f g Minus c.kept.result (same _ _ c.if-x-y.false) (sym c.sum_covered.ensures ∙ c.if-not-sum_covered.false) (sym c.is_small.ensures ∙ c.if-not-is_small.false)
-    (c.kept.ensures n (Sub j.tree k.tree) (difference-normal n j.tree k.tree c.args.x.poly c.args.y.poly c.in_ok-g.g c.in_ok-h.h f.normal g.normal c.in_ok-g.ensures c.in_ok-h.ensures.form (c.in_ok-h.ensures.below n f.normal.below (below-of n c.args.y.poly c.in_ok-g.g c.in_ok-g.ensures g.normal.below)) (λ m. c.in_ok-h.ensures.coefficients n m)))
+    (c.kept.ensures n (Sub j.tree k.tree) (difference-normal n j.tree k.tree c.args.x.poly c.args.y.poly c.in_ok-g.g c.in_ok-h.h f.normal g.normal c.in_ok-g.ensures c.in_ok-h.ensures.form (c.in_ok-h.ensures.below n (below-of n c.args.y.poly c.in_ok-g.g c.in_ok-g.ensures g.normal.below) f.normal.below) (λ m. omega (arith, ints, c.in_ok-h.ensures.coefficients n m))))

@@ -1,5 +1,6 @@
 -- What is left to show of `difference`.
 use Rattle.std.proofs.Common.{◌≡◌, ◌∙◌, ap, arith, sym}
+use Rattle.std.proofs.lemmas.Int.{ints}
 use Rattle.ln_algebra.specs.Tree.{Sub}
 use Rattle.ln_bound.specs.declared.fitted.Two.TheVariants.{Minus}
 use Rattle.ln_interval.specs.Range.{difference}
@@ -32,4 +33,4 @@ pub returns : goal.returns
 returns c n j k f g =
     two-yes n Minus c.args.x c.args.y j k (range c.args.b) c.args.w f g c.kept.result
     ((c.is_allowed.ensures.value (difference (range c.args.x.pair) (range c.args.y.pair)) (c.is_covered.ensures (difference (range c.args.x.pair) (range c.args.y.pair)) (difference_ordered (range c.args.x.pair) (range c.args.y.pair) c.args.x.pair.ordered c.args.y.pair.ordered) c.sub.ensures)).0 c.if-not-is_allowed.false)
-    (c.kept.ensures n (Sub j.tree k.tree) (difference-normal n j.tree k.tree c.args.x.poly c.args.y.poly c.in_ok-g.g c.in_ok-h.h f.normal g.normal c.in_ok-g.ensures c.in_ok-h.ensures.form (c.in_ok-h.ensures.below n f.normal.below (below-of n c.args.y.poly c.in_ok-g.g c.in_ok-g.ensures g.normal.below)) (λ m. c.in_ok-h.ensures.coefficients n m)))
+    (c.kept.ensures n (Sub j.tree k.tree) (difference-normal n j.tree k.tree c.args.x.poly c.args.y.poly c.in_ok-g.g c.in_ok-h.h f.normal g.normal c.in_ok-g.ensures c.in_ok-h.ensures.form (c.in_ok-h.ensures.below n (below-of n c.args.y.poly c.in_ok-g.g c.in_ok-g.ensures g.normal.below) f.normal.below) (λ m. omega (arith, ints, c.in_ok-h.ensures.coefficients n m))))
