@@ -30,7 +30,7 @@ pub fn is_derivative(alloc: Global, case: &Case, a: &Exps, g: &Poly) -> Result<b
     requires { IsCase case.now }
     ensures { IfOk result (λ ok. IsAbove a.now (length case.now.shape.vars) → (t : Tree) → IsNormal (length case.now.shape.vars) t g.now →
         IsTrue ok ↔ IsNormalOf (length case.now.shape.vars) t
-            (derived (vector (length case.now.shape.vars) a.now) (terms_of (length case.now.shape.vars) case.now.poly))) }
+        (derived (vector (length case.now.shape.vars) a.now) (terms_of (length case.now.shape.vars) case.now.poly))) }
 {
     if !are_below(a.pairs(), case.shape.vars.len()) {
         return Ok(false);
