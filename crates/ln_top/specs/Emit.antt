@@ -1,14 +1,17 @@
 -- `emit FILE`: C for the predicates of a source.
-use Rattle.std.specs.Prelude.{◌≡◌, ℕ, List, [], ◌∷◌, Some}
+use Rattle.std.specs.Prelude.{◌≡◌, ◌≤◌, ℕ, All, List, [], ◌∷◌, length, take, Some}
 use Rattle.ln_tree.specs.Row.{InRange, Row}
 use Rattle.ln_tree.specs.Table.{PredOf}
 use Rattle.ln_code.specs.declared.verdict.Verdict.{Verdict}
 use Rattle.ln_code.specs.declared.verdict.By.TheVariants.{Filter}
+use Rattle.ln_code.specs.Part.{Part}
 use Rattle.ln_due.specs.Due.{sign_number}
+use Rattle.ln_compile.specs.Compiled.{AreProgramsOf}
 use Rattle.ln_compile.specs.Filtered.{IsDue}
 use Rattle.ln_csyn.specs.Tree.{Fun}
 use Rattle.ln_csyn.specs.Text.{CText}
 use Rattle.ln_csyn.specs.Meaning.{CCall, Counts, Signed}
+use Rattle.ln_cemit.specs.Emitted.{BeginsFile}
 use Rattle.ln_cemit.specs.Names.{call_name}
 use Rattle.ln_top.specs.declared.status.End.{End}
 use Rattle.ln_top.specs.declared.status.End.TheVariants.{Done}
@@ -35,6 +38,13 @@ pub record IsCOf (preds : List PredOf) (bytes : List ℕ) : Type 0 where
   pub file : List Fun
   pub text : CText bytes file
   pub due : AllAreDue file preds
+
+-- the bytes begin the C of programs of the first i predicates, one for each in order, each with at most 65,536 blocks
+pub record BeginsCOfFirst (preds : List PredOf) (i : ℕ) (bytes : List ℕ) : Type 0 where
+  pub programs : List Part
+  pub are_programs : AreProgramsOf (take i preds) programs
+  pub small : All (λ (p : Part). length p.blocks ≤ 65536) programs
+  pub begins : BeginsFile bytes programs
 
 -- what may be said: C for the predicates of the source
 pub data EmitSaid (g : Given) : Said → Type 0 where

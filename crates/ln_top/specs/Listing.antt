@@ -1,5 +1,5 @@
 -- `list FILE`: the listing of the programs of a source.
-use Rattle.std.specs.Prelude.{◌≡◌, ℕ, ◌≤◌, List, [], ◌∷◌, IfSome}
+use Rattle.std.specs.Prelude.{◌≡◌, ℕ, ◌≤◌, List, [], ◌∷◌, take, IfSome}
 use Rattle.ln_tree.specs.declared.shape.Shape.{Shape}
 use Rattle.ln_tree.specs.Exps.{IsRising}
 use Rattle.ln_tree.specs.Names.{name_bytes}
@@ -77,6 +77,14 @@ pub record IsListingOf (preds : List PredOf) (bytes : List ℕ) : Type 0 where
   pub are_programs : AreProgramsOf preds programs
   pub kept : AreKept programs
   pub lines : parts_of listing.entries ≡ listing_of programs
+
+-- the bytes are the listing of programs of the first i predicates, one for each in order, which follow the rules and can be listed
+pub record IsListingOfFirst (preds : List PredOf) (i : ℕ) (bytes : List ℕ) : Type 0 where
+  pub programs : List Part
+  pub are_programs : AreProgramsOf (take i preds) programs
+  pub kept : AreKept programs
+  pub listable : AreListable programs
+  pub text : ListText bytes 2 (listing_of programs)
 
 -- what may be said: such a listing of the source's predicates
 pub data ListSaid (g : Given) : Said → Type 0 where

@@ -1,27 +1,54 @@
 //! The work of `emit`: C for the predicates of a source.
+ghost use Rattle.std.specs.Prelude.{◌<◌, ◌+◌, IfOk, length, map};
+ghost use Rattle.ln_tree.specs.Table.{pred_of};
 ghost use Rattle.ln_top.specs.Carried.{CarriesOut, NoPart};
-ghost use Rattle.ln_top.specs.Emit.{EmitSaid};
+ghost use Rattle.ln_top.specs.Emit.{BeginsCOfFirst, EmitSaid, IsCOf};
 ghost use Rattle.ln_top.specs.Ready.{StandsFor};
 ghost use Rattle.ln_top.specs.Said.{count};
 ghost use Rattle.ln_top.specs.Steps.{Given};
 
-use crate::prepare::{Ready, kept_programs};
+use crate::prepare::Ready;
 use crate::status::{Early, End};
 use crate::stop::put_text;
-use ln_base::Console;
-use ln_cemit::emit;
+use ln_base::{Console, NoMemory};
+use ln_cemit::{begin_file, end_file, put_program};
+use ln_compile::Checked;
 use std::alloc::Global;
+
+// Puts the functions of the program of predicate number i behind those of the predicates before it. It is made here, and dropped.
+fn put_emitted(
+    alloc: Global,
+    text: &mut Vec<u8>,
+    source: &Checked,
+    i: usize,
+) -> Result<(), NoMemory>
+    requires { i < length source.now.table.preds }
+    ensures { IfOk result (λ x. BeginsCOfFirst (map pred_of source.now.table.preds) i text.old.items
+        → BeginsCOfFirst (map pred_of source.now.table.preds) (i + 1) text.new.items) }
+{
+    let program = source.program(alloc, i)?;
+    put_program(alloc, text, &program)?;
+    Ok(())
+}
+
+// C for the predicates of a source, of whose programs no two are there at once.
+fn emitted(alloc: Global, source: &Checked) -> Result<Vec<u8>, NoMemory>
+    ensures { IfOk result (λ v. IsCOf (map pred_of source.now.table.preds) v.items) }
+{
+    let mut text = begin_file(alloc)?;
+    'each: for i in 0..source.table().preds.as_slice().len() {
+        put_emitted(alloc, &mut text, source, i)?;
+    }
+    end_file(&mut text)?;
+    Ok(text)
+}
 
 /// Puts C for the predicates, all of it made before the first byte is put.
 pub(crate) fn work<C: Console>(alloc: Global, con: &mut C, ready: &Ready) -> Result<End, Early>
     ensures { (g : Given) → StandsFor ready.now g → CarriesOut (EmitSaid g) NoPart ⊥ ⊥
         (count (C.faults con.old) (C.faults con.new)) result (C.shown con.old) (C.shown con.new) }
 {
-    let Ok(made) = ready.compiled.programs(alloc) else {
-        return Err(Early::Memory);
-    };
-    let programs = kept_programs(&made);
-    let Ok(text) = emit(alloc, programs) else {
+    let Ok(text) = emitted(alloc, &ready.compiled) else {
         return Err(Early::Memory);
     };
     put_text(con, &text, End::Done)

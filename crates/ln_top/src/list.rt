@@ -1,27 +1,51 @@
 //! The work of `list`: the listing of the programs of a source.
+ghost use Rattle.std.specs.Prelude.{◌<◌, ◌+◌, IfOk, length, map};
+ghost use Rattle.ln_tree.specs.Table.{pred_of};
 ghost use Rattle.ln_top.specs.Carried.{CarriesOut, NoPart};
-ghost use Rattle.ln_top.specs.Listing.{ListSaid};
+ghost use Rattle.ln_top.specs.Listing.{IsListingOf, IsListingOfFirst, ListSaid};
 ghost use Rattle.ln_top.specs.Ready.{StandsFor};
 ghost use Rattle.ln_top.specs.Said.{count};
 ghost use Rattle.ln_top.specs.Steps.{Given};
 
-use crate::prepare::{Ready, kept_programs};
+use crate::listable::{kept, listable};
+use crate::prepare::Ready;
 use crate::status::{Early, End};
 use crate::stop::put_text;
-use ln_base::Console;
-use ln_cert::write_listing;
+use ln_base::{Console, NoMemory};
+use ln_cert::{begin_listing, put_program};
+use ln_compile::Checked;
 use std::alloc::Global;
+
+// Puts the program of predicate number i behind those of the predicates before it. It is made here, and dropped.
+fn put_listed(alloc: Global, text: &mut Vec<u8>, source: &Checked, i: usize) -> Result<(), NoMemory>
+    requires { i < length source.now.table.preds }
+    ensures { IfOk result (λ x. IsListingOfFirst (map pred_of source.now.table.preds) i text.old.items
+        → IsListingOfFirst (map pred_of source.now.table.preds) (i + 1) text.new.items) }
+{
+    let program = source.program(alloc, i)?;
+    let _kept = kept(&program);
+    let _listable = listable(&program);
+    put_program(alloc, text, &program)?;
+    Ok(())
+}
+
+// The listing of the programs of a source, of which no two are there at once.
+fn listing(alloc: Global, source: &Checked) -> Result<Vec<u8>, NoMemory>
+    ensures { IfOk result (λ v. IsListingOf (map pred_of source.now.table.preds) v.items) }
+{
+    let mut text = begin_listing(alloc)?;
+    'each: for i in 0..source.table().preds.as_slice().len() {
+        put_listed(alloc, &mut text, source, i)?;
+    }
+    Ok(text)
+}
 
 /// Puts the listing of the programs, all of it made before the first byte is put.
 pub(crate) fn work<C: Console>(alloc: Global, con: &mut C, ready: &Ready) -> Result<End, Early>
     ensures { (g : Given) → StandsFor ready.now g → CarriesOut (ListSaid g) NoPart ⊥ ⊥
         (count (C.faults con.old) (C.faults con.new)) result (C.shown con.old) (C.shown con.new) }
 {
-    let Ok(made) = ready.compiled.programs(alloc) else {
-        return Err(Early::Memory);
-    };
-    let programs = kept_programs(&made);
-    let Ok(text) = write_listing(alloc, programs) else {
+    let Ok(text) = listing(alloc, &ready.compiled) else {
         return Err(Early::Memory);
     };
     put_text(con, &text, End::Done)

@@ -2,8 +2,6 @@
 ghost use Rattle.std.specs.Prelude.{◌≡◌, ◌≢◌, ◌≤◌, Err, [], ◌∷◌, map, length, IfOk, IfErr, string_bytes};
 ghost use Rattle.ln_base.specs.Outside.{Rose};
 ghost use Rattle.ln_tree.specs.Table.{pred_of};
-ghost use Rattle.ln_cemit.specs.Emitted.{AreKept};
-ghost use Rattle.ln_top.specs.Listing.{AreListable};
 ghost use Rattle.ln_top.specs.Plan.{with_bytes};
 ghost use Rattle.ln_top.specs.Source.{view};
 ghost use Rattle.ln_top.specs.Steps.{Compiles, Each, Finds, Given, Prepares, Reads, Then, gives, most_source, most_file};
@@ -12,13 +10,11 @@ ghost use Rattle.ln_top.specs.Target.{IsGivenBy};
 ghost use Rattle.ln_verify.specs.Accepted.{AreAccepted};
 ghost use Rattle.ln_top.specs.Ready.{HasNumbers, HasStanding, IsReady, IsSource, StandsFor};
 
-use crate::listable::{kept, listable};
 use crate::source::compiled;
 use crate::stop::{Stop, Why};
 use crate::target::Target;
 use crate::words::Plan;
 use ln_base::{Files, NoMemory, ReadStop, read_whole};
-use ln_code::Programs;
 use ln_compile::Checked;
 use ln_tree::Table;
 use std::alloc::Global;
@@ -151,19 +147,6 @@ pub fn one_target(alloc: Global, ready: &Ready) -> Result<Target<'_>, NoMemory>
 {
     let target = Target::new(alloc, &ready.compiled, ready.numbers.as_slice()[0])?;
     Ok(target)
-}
-
-/// Programs, each with what its type keeps.
-pub fn kept_programs(programs: &Programs) -> &Programs
-    ensures value { result.now ≡ programs.now }
-    ensures kept { AreKept programs.now }
-    ensures listable { AreListable programs.now }
-{
-    'programs: for p in programs.as_slice() {
-        let _kept = kept(p);
-        let _listable = listable(p);
-    }
-    programs
 }
 
 /// The one further file.

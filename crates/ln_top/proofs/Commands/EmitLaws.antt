@@ -1,20 +1,25 @@
 -- `emit`: the calls of the C say what rows are owed; what it owes is carried out by a whole text, and where it ends.
-use Rattle.std.proofs.Common.{◌≡◌, ℕ, List, [], ◌∷◌, map, refl, ap, sym, ◌∙◌, subst, Option, Some}
-use Rattle.std.specs.Prelude.{Result}
+use Rattle.std.proofs.Common.{◌≡◌, ℕ, suc, ◌+◌, ◌<◌, ◌≤◌, List, [], ◌∷◌, ◌++◌, length, take, map, refl, ap, sym, ◌∙◌, subst, arith, Option, Some}
+use Rattle.std.specs.Prelude.{All, Result}
+use Rattle.std.proofs.lemmas.List.{length-map, take_all}
+use Rattle.std.proofs.lemmas.List.Elements.{All-cons, All-nil}
 use Rattle.ln_base.specs.Outside.{Shown}
 use Rattle.ln_base.specs.declared.sign.Sign.{Sign}
 use Rattle.ln_base.specs.declared.sign.Sign.TheVariants.{Minus, Zero, Plus}
+use Rattle.ln_tree.specs.declared.pred.Pred.{Pred}
+use Rattle.ln_tree.specs.declared.table.Table.{Table}
 use Rattle.ln_tree.specs.Row.{InRange, Row}
 use Rattle.ln_tree.specs.Table.{PredOf, pred_of}
-use Rattle.ln_code.specs.Kept.{IsProgram}
+use Rattle.ln_code.specs.Kept.{ArePrograms, IsProgram}
 use Rattle.ln_code.specs.Part.{Part}
 use Rattle.ln_due.specs.Due.{sign_number}
-use Rattle.ln_compile.specs.Compiled.{AreProgramsOf, IsProgramOf}
+use Rattle.ln_compile.specs.Compiled.{AreProgramsOf, IsProgramAt, IsProgramOf}
+use Rattle.ln_compile.proofs.Making.BuildingLemmas.{program-more, programs-of-table}
 use Rattle.ln_compile.proofs.Listing.FilteredLemmas.{programs_answer}
 use Rattle.ln_csyn.specs.Tree.{Fun}
 use Rattle.ln_csyn.specs.Meaning.{CCall, Signed}
 use Rattle.ln_cemit.specs.Names.{call_name}
-use Rattle.ln_cemit.specs.Emitted.{AllSay, AreKept, CallSays, IsEmitted, number_of}
+use Rattle.ln_cemit.specs.Emitted.{AllSay, AreKept, BeginsFile, CallSays, IsEmitted, number_of}
 use Rattle.ln_top.specs.declared.status.End.{End}
 use Rattle.ln_top.specs.declared.status.End.TheVariants.{Done}
 use Rattle.ln_top.specs.declared.status.Early.{Early}
@@ -25,7 +30,7 @@ use Rattle.ln_top.specs.Work.{IsLawful, IsWorkEnd}
 use Rattle.ln_top.specs.Work as kind_of
 use Rattle.ln_top.specs.Carried.{CarriesOut, NoPart, PutsText}
 use Rattle.ln_top.specs.Ready.{StandsFor}
-use Rattle.ln_top.specs.Emit.{AllAreDue, CallIsDue, IsCOf, EmitSaid, emitted, EmitEnds, done}
+use Rattle.ln_top.specs.Emit.{AllAreDue, BeginsCOfFirst, CallIsDue, IsCOf, EmitSaid, emitted, EmitEnds, done}
 use Rattle.ln_top.proofs.Steps.Carry.{text_carried}
 
 -- a sign is one number
@@ -68,13 +73,43 @@ c_of : (ps : List PredOf) (parts : List Part) (text : List ℕ) → AreProgramsO
     → IsEmitted parts text → IsCOf ps text
 c_of ps parts text a k e = record { file = e.file; text = e.text; due = all_due e.file ps parts a k e.says }
 
+-- ---- the C, program by program
+small_more : (cs : List Part) (c : Part) → All (λ (p : Part). length p.blocks ≤ 65536) cs → length c.blocks ≤ 65536 → All (λ (p : Part). length p.blocks ≤ 65536) (cs ++ c ∷ [])
+small_more [] c a h = All-cons (λ (p : Part). length p.blocks ≤ 65536) c [] h a
+small_more (d ∷ cs) c a h = All-cons (λ (p : Part). length p.blocks ≤ 65536) d (cs ++ c ∷ []) (a 0 d (omega arith)) (small_more cs c (λ k e l. a (suc k) e (omega (arith, l))) h)
+
+-- no program yet
+pub begun : (preds : List PredOf) (text : List ℕ) → BeginsFile text [] → BeginsCOfFirst preds 0 text
+begun preds text b = record { programs = []; are_programs = none preds; small = All-nil (λ (p : Part). length p.blocks ≤ 65536); begins = b } where
+  none : (preds : List PredOf) → AreProgramsOf (take 0 preds) []
+  none [] = tt
+  none (p ∷ ps) = tt
+
+-- one program behind others
+pub more : (preds : List Pred) (i : ℕ) (c : Part) (old new : List ℕ) → i < length preds → IsProgramAt (map pred_of preds) i c → length c.blocks ≤ 65536
+    → ((cs : List Part) → BeginsFile old cs → BeginsFile new (cs ++ c ∷ []))
+    → BeginsCOfFirst (map pred_of preds) i old → BeginsCOfFirst (map pred_of preds) (i + 1) new
+more preds i c old new h a l t f = record {
+  programs = f.programs ++ c ∷ [];
+  are_programs = program-more (map pred_of preds) i f.programs c (omega (arith, length-map preds pred_of)) a f.are_programs;
+  small = small_more f.programs c f.small l;
+  begins = t f.programs f.begins;
+}
+
+-- all of them
+pub all : (t : Table) (i : ℕ) (old new : List ℕ) → length t.preds ≤ i → ((cs : List Part) → ArePrograms cs → BeginsFile old cs → IsEmitted cs new)
+    → BeginsCOfFirst (map pred_of t.preds) i old → IsCOf (map pred_of t.preds) new
+all t i old new h ends f =
+    let e : take i (map pred_of t.preds) ≡ map pred_of t.preds = take_all i (map pred_of t.preds) (omega (arith, length-map t.preds pred_of)) in
+    let a : AreProgramsOf (map pred_of t.preds) f.programs = subst (λ ps. AreProgramsOf ps f.programs) e f.are_programs in
+    c_of (map pred_of t.preds) f.programs new a f.begins.kept (ends f.programs (programs-of-table t f.programs a f.small) f.begins)
+
 -- the C was put as a whole text
-pub carried : (r : Ready) (cs : List Part) (g : Given) (text : List ℕ) (puts : Count) (result : Result End Early) (was now : Option Shown)
-    → StandsFor r g → AreProgramsOf (map pred_of r.compiled.table.preds) cs → AreKept cs → IsEmitted cs text
-    → PutsText text Done puts result was now → CarriesOut (EmitSaid g) NoPart ⊥ ⊥ puts result was now
-carried r cs g text puts result was now s a k e p = text_carried (EmitSaid g) NoPart ⊥ ⊥ puts Done text result was now
-    (emitted text (subst (λ t. IsCOf t text) (sym (ap (λ t. t.preds) s.table))
-    (c_of (map pred_of r.compiled.table.preds) cs text a k e))) p
+pub carried : (r : Ready) (g : Given) (text : List ℕ) (puts : Count) (result : Result End Early) (was now : Option Shown)
+    → StandsFor r g → IsCOf (map pred_of r.compiled.table.preds) text → PutsText text Done puts result was now
+    → CarriesOut (EmitSaid g) NoPart ⊥ ⊥ puts result was now
+carried r g text puts result was now s c p = text_carried (EmitSaid g) NoPart ⊥ ⊥ puts Done text result was now
+    (emitted text (subst (λ t. IsCOf t text) (sym (ap (λ t. t.preds) s.table)) c)) p
 
 tells : (g : Given) (a : Said) → EmitSaid g a → EmitEnds g a.end
 tells g a (emitted text h) = done

@@ -1,11 +1,15 @@
 -- `list`: what it owes is carried out by a whole text, and where it ends.
-use Rattle.std.proofs.Common.{◌≡◌, ℕ, List, map, refl, ap, sym, subst, Option}
+use Rattle.std.proofs.Common.{◌≡◌, ℕ, ◌+◌, ◌<◌, ◌≤◌, List, [], ◌∷◌, ◌++◌, length, take, map, refl, ap, sym, subst, arith, Option}
+use Rattle.std.proofs.lemmas.List.{length-map, take_all}
 use Rattle.std.specs.Prelude.{Result}
 use Rattle.ln_base.specs.Outside.{Shown}
-use Rattle.ln_tree.specs.Table.{pred_of}
+use Rattle.ln_tree.specs.declared.pred.Pred.{Pred}
+use Rattle.ln_tree.specs.Table.{PredOf, pred_of}
+use Rattle.ln_code.specs.Kept.{IsProgram}
 use Rattle.ln_code.specs.Part.{Part}
-use Rattle.ln_compile.specs.Compiled.{AreProgramsOf}
-use Rattle.ln_cemit.specs.Emitted.{AreKept}
+use Rattle.ln_compile.specs.Compiled.{AreProgramsOf, IsProgramAt}
+use Rattle.ln_compile.proofs.Making.BuildingLemmas.{program-more}
+use Rattle.ln_cemit.proofs.Writing.Loops.{kept_more}
 use Rattle.ln_cert.specs.Listing.{ListText}
 use Rattle.ln_cert.specs.Written.{listing_of}
 use Rattle.ln_top.specs.declared.status.End.{End}
@@ -18,18 +22,45 @@ use Rattle.ln_top.specs.Work.{IsLawful, IsWorkEnd}
 use Rattle.ln_top.specs.Work as kind_of
 use Rattle.ln_top.specs.Carried.{CarriesOut, NoPart, PutsText}
 use Rattle.ln_top.specs.Ready.{StandsFor}
-use Rattle.ln_top.specs.Listing.{AreListable, IsListingOf, ListSaid, listed, ListEnds, done}
+use Rattle.ln_top.specs.Listing.{AreListable, IsListable, IsListingOf, IsListingOfFirst, ListSaid, listed, ListEnds, done}
 use Rattle.ln_top.proofs.Steps.Carry.{text_carried}
 use Rattle.ln_top.proofs.Theorem.GoodLines.{listing_is}
 
+listable_more : (cs : List Part) (c : Part) → AreListable cs → IsListable c → AreListable (cs ++ c ∷ [])
+listable_more [] c l h = (h, tt)
+listable_more (d ∷ cs) c l h = (l.0, listable_more cs c l.1 h)
+
+-- the listing of no program
+pub begun : (preds : List PredOf) (text : List ℕ) → ListText text 2 (listing_of []) → IsListingOfFirst preds 0 text
+begun preds text t = record { programs = []; are_programs = none preds; kept = tt; listable = tt; text = t } where
+  none : (preds : List PredOf) → AreProgramsOf (take 0 preds) []
+  none [] = tt
+  none (p ∷ ps) = tt
+
+-- one program behind others
+pub more : (preds : List Pred) (i : ℕ) (c : Part) (old new : List ℕ) → i < length preds → IsProgramAt (map pred_of preds) i c → IsProgram c → IsListable c
+    → ((cs : List Part) → ListText old 2 (listing_of cs) → ListText new 2 (listing_of (cs ++ c ∷ [])))
+    → IsListingOfFirst (map pred_of preds) i old → IsListingOfFirst (map pred_of preds) (i + 1) new
+more preds i c old new h a k l t f = record {
+  programs = f.programs ++ c ∷ [];
+  are_programs = program-more (map pred_of preds) i f.programs c (omega (arith, length-map preds pred_of)) a f.are_programs;
+  kept = kept_more f.programs c f.kept k;
+  listable = listable_more f.programs c f.listable l;
+  text = t f.programs f.text;
+}
+
+-- all of them
+pub all : (preds : List Pred) (i : ℕ) (text : List ℕ) → length preds ≤ i → IsListingOfFirst (map pred_of preds) i text → IsListingOf (map pred_of preds) text
+all preds i text h f =
+    let e : take i (map pred_of preds) ≡ map pred_of preds = take_all i (map pred_of preds) (omega (arith, length-map preds pred_of)) in
+    listing_is (map pred_of preds) f.programs text (subst (λ ps. AreProgramsOf ps f.programs) e f.are_programs) f.kept f.listable f.text
+
 -- the listing was put as a whole text
-pub carried : (r : Ready) (cs : List Part) (g : Given) (text : List ℕ) (puts : Count) (result : Result End Early) (was now : Option Shown)
-    → StandsFor r g → AreProgramsOf (map pred_of r.compiled.table.preds) cs → AreKept cs → AreListable cs
-    → ListText text 2 (listing_of cs) → PutsText text Done puts result was now
+pub carried : (r : Ready) (g : Given) (text : List ℕ) (puts : Count) (result : Result End Early) (was now : Option Shown)
+    → StandsFor r g → IsListingOf (map pred_of r.compiled.table.preds) text → PutsText text Done puts result was now
     → CarriesOut (ListSaid g) NoPart ⊥ ⊥ puts result was now
-carried r cs g text puts result was now s a k m l p = text_carried (ListSaid g) NoPart ⊥ ⊥ puts Done text result was now
-    (listed text (subst (λ t. IsListingOf t text) (sym (ap (λ t. t.preds) s.table))
-    (listing_is (map pred_of r.compiled.table.preds) cs text a k m l))) p
+carried r g text puts result was now s l p = text_carried (ListSaid g) NoPart ⊥ ⊥ puts Done text result was now
+    (listed text (subst (λ t. IsListingOf t text) (sym (ap (λ t. t.preds) s.table)) l)) p
 
 tells : (g : Given) (a : Said) → ListSaid g a → ListEnds g a.end
 tells g a (listed text h) = done
