@@ -1,5 +1,6 @@
 //! A sum in place of the first polynomial: no term of it is copied.
-ghost use Rattle.std.specs.Prelude.{◌≡◌, ℕ, List, true, ◌+◌, ◌<◌, ◌≤◌, ◌^◌, ◌+ℤ◌, IfOk, OnOk, length, slice_index_or, unsigned_abs};
+ghost use Rattle.std.specs.Prelude.{◌≡◌, ℕ, List, true, ◌+◌, ◌<◌, ◌≤◌, ◌^◌, ◌+ℤ◌};
+ghost use Rattle.std.specs.Prelude.{IfOk, OnOk, length, slice_index_or, unsigned_abs};
 ghost use Rattle.std.specs.List.{AllWithin};
 ghost use Rattle.std.specs.Ordering.{is_lt};
 ghost use Rattle.ln_tree.specs.Exps.{pairs_cmp};
@@ -35,22 +36,41 @@ fn stands_at(f: &[(Exps, i128)], at: usize, t: &(Exps, i128)) -> bool
     at < f.len() && f[at].0 == t.0
 }
 
-// Adds a term to that of f at a place, where it has the same exponents, or else puts a copy at the end of `more`.
-fn put_in(
+// Adds a term to that of f at a place, where it has the same exponents, or else puts a copy at the end of `more`. Answers the place
+// at which the next one is looked for.
+fn put_at(
     f: &mut Vec<(Exps, i128)>,
     more: &mut Vec<(Exps, i128)>,
     at: usize,
     t: &(Exps, i128),
-) -> Result<(), NoMemory>
+) -> Result<usize, NoMemory>
     requires { size_of f.old.items + unsigned_abs t.now.1 < 2 ^ 127 }
     ensures { OnOk result (IsPutIn f.new.items more.new.items f.old.items more.old.items t.now) }
 {
     if stands_at(f.as_slice(), at, t) {
         add_at(f, at, t);
-        return Ok(());
+        return Ok(at + 1);
     }
     push(more, t)?;
-    Ok(())
+    Ok(at)
+}
+
+// The same, where the term of f is looked for from the place on.
+fn put_in(
+    f: &mut Vec<(Exps, i128)>,
+    more: &mut Vec<(Exps, i128)>,
+    at: usize,
+    t: &(Exps, i128),
+) -> Result<usize, NoMemory>
+    requires { size_of f.old.items + unsigned_abs t.now.1 < 2 ^ 127 }
+    ensures { OnOk result (IsPutIn f.new.items more.new.items f.old.items more.old.items t.now) }
+{
+    if stands_at(f.as_slice(), at, t) {
+        add_at(f, at, t);
+        return Ok(at + 1);
+    }
+    let next = reached(f.as_slice(), at, t);
+    put_at(f, more, next, t)
 }
 
 // Adds the terms of g to those of f with the same exponents. What f has none for comes out.
@@ -65,8 +85,7 @@ fn spread(
     let mut more = Vec::new(alloc);
     let mut at = 0;
     for t in g {
-        at = reached(f.as_slice(), at, t);
-        put_in(f, &mut more, at, t)?;
+        at = put_in(f, &mut more, at, t)?;
     }
     Ok(more)
 }

@@ -8,4 +8,5 @@ pub mod Kept
 pub mod Row
 pub mod Table
 pub mod Exps
+pub mod Listed
 pub mod Whole

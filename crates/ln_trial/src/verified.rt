@@ -4,7 +4,6 @@ use crate::support::{said_within, shelf, tells};
 use ln_base::{NoMemory, Port};
 use ln_top::Status;
 use std::alloc::Global;
-use std::process::Abort;
 use std::test::Fail;
 
 const SQUARES: &str = "site num { t: -10 .. 10; }

@@ -10,4 +10,4 @@ pub put_in-requires : goal.put_in-requires
 put_in-requires c = spread-room _ _ _ _ _ _ _ c.loop-t.invariant (omega arith) c.t-item.is c.requires
 
 pub loop-t-preserved : goal.loop-t-preserved
-loop-t-preserved c = spread-step _ _ _ _ _ _ _ _ c.loop-t.invariant (omega arith) c.t-item.is c.in_ok-put_in.ensures
+loop-t-preserved c = spread-step _ _ _ _ _ _ _ _ c.loop-t.invariant (omega arith) c.t-item.is c.in_ok-at.ensures
