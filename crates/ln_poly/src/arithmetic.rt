@@ -1,5 +1,5 @@
 //! Sums and products of polynomials.
-ghost use Rattle.std.specs.Prelude.{◌≡◌, ℕ, List, ◌+◌, ◌*◌, ◌<◌, ◌≤◌, ◌^◌, ◌++◌, ◌+ℤ◌, ◌-ℤ◌, ◌*ℤ◌, All, IfOk, OnOk, length, unsigned_abs};
+ghost use Rattle.std.specs.Prelude.{◌≡◌, ℕ, List, [], ◌∷◌, ◌+◌, ◌*◌, ◌<◌, ◌≤◌, ◌^◌, ◌++◌, ◌+ℤ◌, ◌-ℤ◌, ◌*ℤ◌, All, IfOk, OnOk, length, unsigned_abs};
 ghost use Rattle.ln_algebra.specs.Coefficient.{product};
 ghost use Rattle.ln_tree.specs.Exps.{exponent};
 ghost use Rattle.ln_poly.specs.Sparse.{IsFactor, IsPoly, AreBelow, coefficient_at, negated, size_of};
@@ -69,6 +69,15 @@ pub fn sub(alloc: Global, f: &Poly, g: &Poly) -> Result<Poly, NoMemory>
     Ok(h)
 }
 
+// Puts a term at the end, with a product as its factor.
+fn push_product(out: &mut Vec<(Exps, i128)>, exps: Exps, a: i128, b: i128) -> Result<(), NoMemory>
+    requires { unsigned_abs (a *ℤ b) < 2 ^ 127 }
+    ensures { OnOk result (out.new.items ≡ out.old.items ++ (exps, a *ℤ b) ∷ []) }
+{
+    out.push((exps, a * b))?;
+    Ok(())
+}
+
 // Puts the product of two terms at the end.
 fn put_product(
     alloc: Global,
@@ -81,7 +90,7 @@ fn put_product(
     ensures { OnOk result (IsProductPut out.new.items out.old.items s.now t.now) }
 {
     let exps = times(alloc, &s.0, &t.0)?;
-    out.push((exps, s.1 * t.1))?;
+    push_product(out, exps, s.1, t.1)?;
     Ok(())
 }
 
