@@ -6,6 +6,7 @@ pub mod Judge
 pub mod Stands
 pub mod Good
 pub mod Products
+pub mod Signed
 pub mod Versions
 pub mod Values
 pub mod Cuts

@@ -46,7 +46,7 @@ fn kept(a: Triple, size: u128, poly: Held) -> Option<Cut>
     ensures { (n : ℕ) (t : Tree) → IsNormal n t poly →
         IsMade (IsCut n) filter_tree_of n result (Some (record { triple = a; tree = t; size = size })) }
 {
-    if poly.terms().len() > 1024 {
+    if poly.count() > 1024 {
         return None;
     }
     Some(Cut {
@@ -143,7 +143,7 @@ fn difference(alloc: Global, a: Triple, x: Cut, y: Cut) -> Result<Option<Cut>, N
     if !is_small(size) {
         return Ok(None);
     }
-    let g = opposite(alloc, y.poly)?;
+    let g = opposite(y.poly);
     let h = add(alloc, g, x.poly)?;
     Ok(kept(a, size, h))
 }
@@ -162,10 +162,12 @@ fn product(alloc: Global, a: Triple, x: Cut, y: Cut) -> Result<Option<Cut>, NoMe
     if !is_small(size) {
         return Ok(None);
     }
-    if !all_fit(x.poly.terms(), y.poly.terms()) {
+    let f = x.poly.plain(alloc)?;
+    let g = y.poly.plain(alloc)?;
+    if !all_fit(f.terms(), g.terms()) {
         return Ok(None);
     }
-    let found = mul(alloc, &x.poly, &y.poly, 1024)?;
+    let found = mul(alloc, &f, &g, 1024)?;
     let Some(h) = found else {
         return Ok(None);
     };
@@ -212,7 +214,7 @@ pub fn minus(alloc: Global, w: Width, a: Triple, x: Cut) -> Result<Option<Cut>, 
     if !same_covered(x.triple, a) {
         return Ok(None);
     }
-    let h = opposite(alloc, x.poly)?;
+    let h = opposite(x.poly);
     Ok(kept(a, x.size, h))
 }
 

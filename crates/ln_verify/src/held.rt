@@ -1,36 +1,52 @@
 //! Polynomials that have several owners.
 //!
 //! A `get` puts a local onto the stack once more. Were its terms copied then, a short line could cost a thousand copies; so a
-//! polynomial on the stack has owners, and its terms go with the last one.
+//! polynomial on the stack has owners, and its terms go with the last one. Nor does a `neg` touch the terms: a sign stands beside them.
 ghost use Rattle.std.specs.Prelude.{◌≡◌, ◌≢◌, ℕ, List, [], ◌∷◌, ◌+◌, ◌*◌, ◌<◌, ◌≤◌, ◌^◌, ◌+ℤ◌, All, pos, length, unsigned_abs};
 ghost use Rattle.std.specs.Prelude.{IfOk, IfSome, IfNone};
 ghost use Rattle.ln_algebra.specs.Coefficient.{product};
 ghost use Rattle.ln_poly.specs.Rows.{PowersFit};
 ghost use Rattle.ln_poly.specs.Sparse.{IsPoly, AreBelow, coefficient_at, negated, size_of};
 ghost use Rattle.ln_poly.specs.Within.{TakesMore};
+ghost use Rattle.ln_verify.specs.Signed.{signed};
 
 use ln_base::NoMemory;
 use ln_poly::{Poly, sum};
-use ln_tree::Exps;
 use std::alloc::Global;
 use std::marker::Model;
 use std::rc::Rc;
 
-/// A polynomial, of which there may be several owners. Contracts see the list of its terms, as those of a `Poly`.
+/// A polynomial, of which there may be several owners: its terms, or minus them. Contracts see the list of its terms, as those of a
+/// `Poly`.
 #[derive(Drop)]
 pub struct Held {
+    minus: bool,
     poly: Rc<Poly>,
 }
 
 impl Model for Held {
     ghost use Rattle.std.specs.Prelude.{ℕ, ℤ, List};
     ghost use Rattle.ln_poly.specs.Sparse.{IsPoly};
+    ghost use Rattle.ln_verify.specs.Signed.{signed};
 
     ghost Value = { List (List (ℕ × ℕ) × ℤ) };
 
-    ghost view = { λ h. h.poly.value };
+    ghost view = { λ h. signed h.minus h.poly.value };
 
     ghost invariant = { λ h. IsPoly h.poly.value };
+}
+
+// The polynomial behind a handle, alone. Where this is the last owner, no term is copied.
+fn alone(alloc: Global, poly: Rc<Poly>) -> Result<Poly, NoMemory>
+    ensures { IfOk result (λ f. f ≡ poly.value) }
+{
+    match Rc::try_unwrap(poly) {
+        Ok(f) => Ok(f),
+        Err(shared) => {
+            let f = shared.as_ref().copy(alloc)?;
+            Ok(f)
+        }
+    }
 }
 
 impl Held {
@@ -39,36 +55,45 @@ impl Held {
         ensures { IfOk result (λ h. h ≡ f) }
     {
         let poly = Rc::new(alloc, f)?;
-        Ok(Held { poly })
+        Ok(Held { minus: false, poly })
     }
 
-    /// The polynomial, lent.
-    pub fn lent(&self) -> &Poly
-        ensures { result.now ≡ self.now }
+    /// How many terms it has.
+    pub fn count(&self) -> usize
+        ensures { result ≡ length self.now }
     {
-        self.poly.as_ref()
+        self.poly.as_ref().terms().len()
     }
 
-    /// The terms, lent.
-    pub fn terms(&self) -> &[(Exps, i128)]
-        ensures value { result.now ≡ self.now }
-        ensures form { IsPoly self.now }
+    /// A copy of the polynomial.
+    pub fn settled(&self, alloc: Global) -> Result<Poly, NoMemory>
+        ensures { IfOk result (λ f. f ≡ self.now) }
     {
-        self.lent().terms()
+        let f = self.poly.as_ref().copy(alloc)?;
+        if self.minus {
+            return Ok(f.negated());
+        }
+        Ok(f)
     }
 
-    // The polynomial alone, without other owners. Where this is the last one, no term is copied.
-    fn owned(self, alloc: Global) -> Result<Poly, NoMemory>
+    // The polynomial alone, or minus it.
+    fn taken(self, alloc: Global, minus: bool) -> Result<Poly, NoMemory>
+        ensures { IfOk result (λ f. signed minus f ≡ self) }
+    {
+        let own = self.minus;
+        let f = alone(alloc, self.poly)?;
+        if own == minus {
+            return Ok(f);
+        }
+        Ok(f.negated())
+    }
+
+    /// The polynomial alone, without other owners. Where this is the last one, no term is copied.
+    pub fn plain(self, alloc: Global) -> Result<Poly, NoMemory>
         ensures { IfOk result (λ f. f ≡ self) }
     {
-        let Held { poly } = self;
-        match Rc::try_unwrap(poly) {
-            Ok(f) => Ok(f),
-            Err(shared) => {
-                let f = shared.as_ref().copy(alloc)?;
-                Ok(f)
-            }
-        }
+        let f = self.taken(alloc, false)?;
+        Ok(f)
     }
 
     /// One more owner. No term is copied.
@@ -76,7 +101,10 @@ impl Held {
         ensures { IfOk result (λ h. h ≡ self.now) }
     {
         let poly = self.poly.clone()?;
-        Ok(Held { poly })
+        Ok(Held {
+            minus: self.minus,
+            poly,
+        })
     }
 }
 
@@ -104,13 +132,14 @@ pub fn number(alloc: Global, c: i128) -> Result<Held, NoMemory>
     Ok(h)
 }
 
-/// Minus a polynomial. Where it has no other owner, no term is copied.
-pub fn opposite(alloc: Global, f: Held) -> Result<Held, NoMemory>
-    ensures { IfOk result (λ h. h ≡ negated f) }
+/// Minus a polynomial. No term is copied.
+pub fn opposite(f: Held) -> Held
+    ensures { result ≡ negated f }
 {
-    let own = f.owned(alloc)?;
-    let h = Held::of(alloc, own.negated())?;
-    Ok(h)
+    Held {
+        minus: !f.minus,
+        poly: f.poly,
+    }
 }
 
 // The sum of two polynomials, in place of the first.
@@ -122,10 +151,13 @@ fn add_to(alloc: Global, f: Held, g: &Held) -> Result<Held, NoMemory>
     ensures form { IfOk result IsPoly }
     ensures below { IfOk result (λ h. (n : ℕ) → AreBelow n f → AreBelow n g.now → AreBelow n h) }
 {
-    let own = f.owned(alloc)?;
-    let s = sum(alloc, own, g.lent())?;
-    let h = Held::of(alloc, s)?;
-    Ok(h)
+    let own = f.taken(alloc, g.minus)?;
+    let s = sum(alloc, own, g.poly.as_ref())?;
+    let poly = Rc::new(alloc, s)?;
+    Ok(Held {
+        minus: g.minus,
+        poly,
+    })
 }
 
 /// The sum of two polynomials, in place of the longer one, or of the first. Its terms are copied only where it has other owners.
@@ -137,7 +169,7 @@ pub fn add(alloc: Global, f: Held, g: Held) -> Result<Held, NoMemory>
     ensures form { IfOk result IsPoly }
     ensures below { IfOk result (λ h. (n : ℕ) → AreBelow n f → AreBelow n g → AreBelow n h) }
 {
-    if f.terms().len() < g.terms().len() {
+    if f.count() < g.count() {
         let h = add_to(alloc, g, &f)?;
         return Ok(h);
     }
@@ -146,7 +178,7 @@ pub fn add(alloc: Global, f: Held, g: Held) -> Result<Held, NoMemory>
 }
 
 /// The product of two polynomials, where it has at most `most` terms; None where it has more.
-pub fn mul(alloc: Global, f: &Held, g: &Held, most: usize) -> Result<Option<Held>, NoMemory>
+pub fn mul(alloc: Global, f: &Poly, g: &Poly, most: usize) -> Result<Option<Held>, NoMemory>
     requires room { size_of f.now * size_of g.now < 2 ^ 127 }
     requires powers { All (λ s. PowersFit s g.now) f.now }
     ensures coefficients { IfOk result (λ o. IfSome o (λ h. (n : ℕ) (m : List ℕ) → length m ≡ n →
@@ -156,7 +188,7 @@ pub fn mul(alloc: Global, f: &Held, g: &Held, most: usize) -> Result<Option<Held
     ensures below { IfOk result (λ o. IfSome o (λ h. (n : ℕ) → AreBelow n f.now → AreBelow n g.now → AreBelow n h)) }
     ensures none { IfOk result (λ o. IfNone o (TakesMore f.now g.now most)) }
 {
-    let found = ln_poly::mul_within(alloc, f.lent(), g.lent(), most)?;
+    let found = ln_poly::mul_within(alloc, f, g, most)?;
     let Some(p) = found else {
         return Ok(None);
     };

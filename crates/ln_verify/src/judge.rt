@@ -37,7 +37,7 @@ fn within(
         Part::NoFilter => Ok(no_filter(alloc, desk)),
         Part::Filter => filter(alloc, desk),
         Part::FilterOp(op, a) => filter_op(alloc, case, form, desk, *op, *a),
-        Part::Decide => Ok(decide(alloc, case, desk)),
+        Part::Decide => decide(alloc, case, desk),
         Part::Block(k, a) => block(alloc, case, desk, *k, a.as_slice()),
         Part::BlockOp(op, b) => block_op(alloc, case, form, desk, *op, *b),
         Part::RangeOp(op, low, high) => range_op(alloc, case, form, desk, *op, *low, *high),

@@ -185,35 +185,36 @@ pub fn order(
 }
 
 // Is there one value, whose polynomial is the predicate's, with an E that fits 64 bits?
-fn decides(case: &Case, tray: &Tray) -> bool
+fn decides(alloc: Global, case: &Case, tray: &Tray) -> Result<bool, NoMemory>
     requires { IsCase case.now }
-    ensures { (s : State FilterKnown (ℕ → Option FilterKnown)) → IsTray (length case.now.shape.vars) tray.now s →
-        IsTrue result ↔ TrayDecides (subject_of case.now) s }
+    ensures { IfOk result (λ ok. (s : State FilterKnown (ℕ → Option FilterKnown)) → IsTray (length case.now.shape.vars) tray.now s →
+        IsTrue ok ↔ TrayDecides (subject_of case.now) s) }
 {
     if tray.stack.len() != 1 {
-        return false;
+        return Ok(false);
     }
     let x = &tray.stack[0];
     if x.triple.e > 9223372036854775807 {
-        return false;
+        return Ok(false);
     }
-    is_whole(case, x.poly.lent())
+    let f = x.poly.settled(alloc)?;
+    Ok(is_whole(case, &f))
 }
 
 /// `decide`.
-pub fn decide(alloc: Global, case: &Case, desk: &mut Desk) -> bool
+pub fn decide(alloc: Global, case: &Case, desk: &mut Desk) -> Result<bool, NoMemory>
     requires { IsCase case.now }
-    ensures { (v : Version) → Leads v (subject_of case.now) desk.old Decide result desk.new }
+    ensures { IfOk result (λ ok. (v : Version) → Leads v (subject_of case.now) desk.old Decide ok desk.new) }
 {
     if !is_at(desk.at, At::AtFilter) {
-        return false;
+        return Ok(false);
     }
-    if !decides(case, &desk.tray) {
-        return false;
+    if !decides(alloc, case, &desk.tray)? {
+        return Ok(false);
     }
     desk.at = At::AtGap;
     desk.exps = Seq::new(alloc);
-    true
+    Ok(true)
 }
 
 // Is there one value, whose polynomial is the scaled derivative by the last of the exponents?
@@ -229,12 +230,8 @@ fn ends(alloc: Global, case: &Case, exps: &[Exps], bench: &Bench) -> Result<bool
     if bench.stack.len() != 1 {
         return Ok(false);
     }
-    let ok = is_derivative(
-        alloc,
-        case,
-        &exps[exps.len() - 1],
-        bench.stack[0].poly.lent(),
-    )?;
+    let f = bench.stack[0].poly.settled(alloc)?;
+    let ok = is_derivative(alloc, case, &exps[exps.len() - 1], &f)?;
     Ok(ok)
 }
 

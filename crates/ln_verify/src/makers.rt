@@ -35,7 +35,7 @@ fn kept(b: Pair, width: Width, size: u128, poly: Held) -> Option<Value>
     ensures { (n : ℕ) (t : Tree) → IsNormal n t poly →
         IsMade (IsFor n) tree_of n result (Some (record { range = range b; width = width; tree = t; size = size })) }
 {
-    if poly.terms().len() > 1024 {
+    if poly.count() > 1024 {
         return None;
     }
     Some(Value {
@@ -124,7 +124,7 @@ fn difference(
     if !is_allowed(is_covered(b, x.pair.sub(y.pair)), b, w, size) {
         return Ok(None);
     }
-    let g = opposite(alloc, y.poly)?;
+    let g = opposite(y.poly);
     let h = add(alloc, g, x.poly)?;
     Ok(kept(b, w, size, h))
 }
@@ -140,10 +140,12 @@ fn product(alloc: Global, w: Width, b: Pair, x: Value, y: Value) -> Result<Optio
     if !is_allowed(is_covered(b, x.pair.mul(y.pair)), b, w, size) {
         return Ok(None);
     }
-    if !all_fit(x.poly.terms(), y.poly.terms()) {
+    let f = x.poly.plain(alloc)?;
+    let g = y.poly.plain(alloc)?;
+    if !all_fit(f.terms(), g.terms()) {
         return Ok(None);
     }
-    let found = mul(alloc, &x.poly, &y.poly, 1024)?;
+    let found = mul(alloc, &f, &g, 1024)?;
     let Some(h) = found else {
         return Ok(None);
     };
@@ -196,6 +198,6 @@ pub fn minus(alloc: Global, w: Width, b: Pair, x: Value) -> Result<Option<Value>
     if !is_allowed(b.covers(x.pair.neg()), b, w, x.size) {
         return Ok(None);
     }
-    let h = opposite(alloc, x.poly)?;
+    let h = opposite(x.poly);
     Ok(kept(b, w, x.size, h))
 }

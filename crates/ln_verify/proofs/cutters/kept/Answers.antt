@@ -1,10 +1,10 @@
 -- What is left to show of `kept`.
-use Rattle.std.proofs.Common.{ap, arith, length, refl}
+use Rattle.std.proofs.Common.{arith, refl}
 use Rattle.ln_verify.proofs.Polynomials.Small.{few-small, many-large}
 use Rattle.ln_verify.proofs.cutters.kept.Goals as goal
 
-pub returns-then-terms-gt1024 : goal.returns-then-terms-gt1024
-returns-then-terms-gt1024 c n t h = many-large n t c.args.poly h (omega (arith, c.if-terms-gt1024.true, ap length c.terms.ensures.value))
+pub returns-then-count-gt1024 : goal.returns-then-count-gt1024
+returns-then-count-gt1024 c n t h = many-large n t c.args.poly h (omega (arith, c.if-count-gt1024.true, c.count.ensures))
 
 pub returns : goal.returns
-returns c n t h = (record { triple = refl; size = refl; normal = h }, few-small n t c.args.poly h (omega (arith, c.if-terms-gt1024.false, ap length c.terms.ensures.value)))
+returns c n t h = (record { triple = refl; size = refl; normal = h }, few-small n t c.args.poly h (omega (arith, c.if-count-gt1024.false, c.count.ensures)))

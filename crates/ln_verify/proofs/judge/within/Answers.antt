@@ -4,7 +4,7 @@ use Rattle.std.proofs.lemmas.Result.{IfOk-weaker}
 use Rattle.ln_verify.specs.BlockRules.{Version}
 use Rattle.ln_verify.specs.Line.{Subject}
 use Rattle.ln_cert.specs.declared.part.Part.{Part}
-use Rattle.ln_cert.specs.declared.part.Part.TheVariants.{Filter, Block, End, Order}
+use Rattle.ln_cert.specs.declared.part.Part.TheVariants.{Filter, Decide, Block, End, Order}
 use Rattle.ln_verify.specs.Here.{Leads, subject_of}
 use Rattle.ln_verify.specs.Versions.{version_of}
 use Rattle.ln_verify.proofs.judge.within.Goals as goal
@@ -26,7 +26,8 @@ pub returns-in-Decide : goal.returns-in-Decide
 returns-in-Decide c =
     let v = version_of c.args.form in
     let p = subject_of c.args.case.now in
-    subst (λ (x : Part). Leads v p c.args.desk.now x c.decide.result c.decide.new.desk) (sym c.in-Decide.is) (c.decide.ensures v)
+    IfOk-weaker c.decide.result (λ (ok : Bool). (v : Version) → Leads v p c.args.desk.now Decide ok c.decide.new.desk) (λ (ok : Bool). Leads v p c.args.desk.now c.args.line.now ok c.decide.new.desk)
+    (λ ok h. subst (λ (x : Part). Leads v p c.args.desk.now x ok c.decide.new.desk) (sym c.in-Decide.is) (h v)) c.decide.ensures
 
 pub returns-in-Block : goal.returns-in-Block
 returns-in-Block c =

@@ -12,4 +12,4 @@ pub returns-then-x-gt9223372036854775807 : goal.returns-then-x-gt922337203685477
 returns-then-x-gt9223372036854775807 c s i = (λ t. not-true _ t, λ q. absurd (tray-wide (subject_of c.args.case.now) c.args.tray.now s c.index-x.result.now c.index-x.result.now (omega (arith, c.len.ensures, c.if-len-ne1.false)) c.index-x.ensures i c.if-x-gt9223372036854775807.true q))
 
 pub returns : goal.returns
-returns c s i = tray-decides (subject_of c.args.case.now) c.args.tray.now s c.index-x.result.now c.index-x.result.now c.is_whole.result (omega (arith, c.len.ensures, c.if-len-ne1.false)) c.index-x.ensures i c.if-x-gt9223372036854775807.false (rw c.lent.ensures at c.is_whole.ensures)
+returns c s i = tray-decides (subject_of c.args.case.now) c.args.tray.now s c.index-x.result.now c.index-x.result.now c.is_whole.result (omega (arith, c.len.ensures, c.if-len-ne1.false)) c.index-x.ensures i c.if-x-gt9223372036854775807.false (rw c.in_ok-f.ensures at c.is_whole.ensures)

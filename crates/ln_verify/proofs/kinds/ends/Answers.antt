@@ -21,4 +21,4 @@ returns c es a s e m i =
     let f : c.index-exps-exps.result ≡ a = c.index-exps-exps.is ∙ last-is c.args.exps.now es a c.index-exps-exps.result e in
     let above : IsAbove c.index-exps-exps.result n = subst (λ (x : Pairs). IsAbove x n) (sym f) (last-above n c.args.exps.now es a e m) in
     bench-ends p a c.args.bench.now s c.index.result.now c.index.result.now c.in_ok-ok.ok (omega (arith, c.len.ensures, c.if-len-ne1.false)) c.index.ensures i
-    (subst (λ (x : Pairs). (t : Tree) → IsNormal n t c.index.result.now.poly → IsTrue c.in_ok-ok.ok ↔ IsNormalOf n t (derived (vector n x) (terms_of n p.poly))) f (rw c.lent.ensures at c.in_ok-ok.ensures above))
+    (subst (λ (x : Pairs). (t : Tree) → IsNormal n t c.index.result.now.poly → IsTrue c.in_ok-ok.ok ↔ IsNormalOf n t (derived (vector n x) (terms_of n p.poly))) f (rw c.in_ok-f.ensures at c.in_ok-ok.ensures above))

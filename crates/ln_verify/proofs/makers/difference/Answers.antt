@@ -20,17 +20,17 @@ returns-then-not-is_allowed c n j k f g =
 
 pub add-requires : goal.add-requires
 add-requires c =
-    let e : size_of c.in_ok-g.g ≡ size_of c.args.y.poly = ap (λ (z : Sparse). size_of z) c.in_ok-g.ensures ∙ size-negated c.args.y.poly in
+    let e : size_of c.opposite-g.result ≡ size_of c.args.y.poly = ap (λ (z : Sparse). size_of z) c.opposite-g.ensures ∙ size-negated c.args.y.poly in
     let m = c.is_allowed.ensures.small c.if-not-is_allowed.false in
     omega (arith, e, m, c.args.x.heavy, c.args.y.heavy)
 
 pub kept-requires-clause-heavy : goal.kept-requires-clause-heavy
 kept-requires-clause-heavy c =
-    let e : size_of c.in_ok-g.g ≡ size_of c.args.y.poly = ap (λ (z : Sparse). size_of z) c.in_ok-g.ensures ∙ size-negated c.args.y.poly in
+    let e : size_of c.opposite-g.result ≡ size_of c.args.y.poly = ap (λ (z : Sparse). size_of z) c.opposite-g.ensures ∙ size-negated c.args.y.poly in
     omega (arith, e, c.in_ok-h.ensures.size, c.args.x.heavy, c.args.y.heavy)
 
 pub returns : goal.returns
 returns c n j k f g =
     two-yes n Minus c.args.x c.args.y j k (range c.args.b) c.args.w f g c.kept.result
     ((c.is_allowed.ensures.value (difference (range c.args.x.pair) (range c.args.y.pair)) (c.is_covered.ensures (difference (range c.args.x.pair) (range c.args.y.pair)) (difference_ordered (range c.args.x.pair) (range c.args.y.pair) c.args.x.pair.ordered c.args.y.pair.ordered) c.sub.ensures)).0 c.if-not-is_allowed.false)
-    (c.kept.ensures n (Sub j.tree k.tree) (difference-normal n j.tree k.tree c.args.x.poly c.args.y.poly c.in_ok-g.g c.in_ok-h.h f.normal g.normal c.in_ok-g.ensures c.in_ok-h.ensures.form (c.in_ok-h.ensures.below n (below-of n c.args.y.poly c.in_ok-g.g c.in_ok-g.ensures g.normal.below) f.normal.below) (λ m. omega (arith, ints, c.in_ok-h.ensures.coefficients n m))))
+    (c.kept.ensures n (Sub j.tree k.tree) (difference-normal n j.tree k.tree c.args.x.poly c.args.y.poly c.opposite-g.result c.in_ok-h.h f.normal g.normal c.opposite-g.ensures c.in_ok-h.ensures.form (c.in_ok-h.ensures.below n (below-of n c.args.y.poly c.opposite-g.result c.opposite-g.ensures g.normal.below) f.normal.below) (λ m. omega (arith, ints, c.in_ok-h.ensures.coefficients n m))))

@@ -21,11 +21,11 @@ returns-then-not-is_allowed c v vars n k f =
 
 pub kept-requires-clause-heavy : goal.kept-requires-clause-heavy
 kept-requires-clause-heavy c =
-    let e : size_of c.in_ok-h.h ≡ size_of c.args.x.poly = ap (λ (z : Sparse). size_of z) c.in_ok-h.ensures ∙ size-negated c.args.x.poly in
+    let e : size_of c.opposite-h.result ≡ size_of c.args.x.poly = ap (λ (z : Sparse). size_of z) c.opposite-h.ensures ∙ size-negated c.args.x.poly in
     omega (arith, e, c.args.x.heavy)
 
 pub returns : goal.returns
 returns c v vars n k f =
     minus-yes n c.args.x k (range c.args.b) c.args.w f c.kept.result (sym c.no_wider.ensures ∙ c.if-not-no_wider.false)
     ((c.is_allowed.ensures.value (opposite (range c.args.x.pair)) (subst (λ (r : Range). IsTrue c.covers.result ↔ Covers (range c.args.b) r) c.neg.ensures c.covers.ensures)).0 c.if-not-is_allowed.false)
-    (c.kept.ensures n (Neg k.tree) (negated-normal n k.tree c.args.x.poly c.in_ok-h.h f.normal c.in_ok-h.ensures))
+    (c.kept.ensures n (Neg k.tree) (negated-normal n k.tree c.args.x.poly c.opposite-h.result f.normal c.opposite-h.ensures))
