@@ -1,7 +1,7 @@
 //! The list of the calls that files in memory were asked, which tests read.
 
 /// A read that files in memory were asked for.
-#[derive(Clone, Copy, PartialEq, Eq)]
+#[derive(Clone, Copy)]
 pub struct Call {
     /// The place of the first file of that name among the files, from 0; none where the name isn't there.
     pub file: Option<usize>,

@@ -32,17 +32,3 @@ pub fn line_col(bytes: &[u8], at: u32) -> (u32, u32)
     let before = &bytes[..at as usize];
     (line_feeds(before) as u32 + 1, since_line_feed(before) + 1)
 }
-
-#[cfg(test)]
-mod tests {
-    use super::*;
-
-    #[test]
-    fn places_count_from_one(rt: HostRuntime) {
-        let text = b"site a { }\nsite b\n\n";
-        assert!(rt; line_col(text, 0) == (1, 1));
-        assert!(rt; line_col(text, 9) == (1, 10));
-        assert!(rt; line_col(text, 11) == (2, 1));
-        assert!(rt; line_col(text, 19) == (4, 1));
-    }
-}

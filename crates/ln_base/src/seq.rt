@@ -1,5 +1,5 @@
 //! Lists.
-ghost use Rattle.std.specs.Prelude.{◌≡◌, ◌↔◌, ◌<◌, [], ◌∷◌, ◌++◌, length, slice_get, IsTrue, IfOk, OnOk, OnErr, OnSome};
+ghost use Rattle.std.specs.Prelude.{◌≡◌, ◌↔◌, ◌<◌, [], ◌∷◌, ◌++◌, length, slice_get, IsTrue, OnOk, OnErr, OnSome};
 ghost use Rattle.std.specs.Option.{option_copied};
 
 use crate::outside::NoMemory;
@@ -7,7 +7,7 @@ use std::alloc::Global;
 use std::marker::Model;
 
 /// A `Vec` that contracts see as the list of its items, so that a struct with a `Seq` is known by what stands in it.
-#[derive(Debug, Drop)]
+#[derive(Drop)]
 pub struct Seq<T> {
     items: Vec<T>,
 }
@@ -85,61 +85,6 @@ impl<T: Drop> Seq<T> {
         ensures err { OnErr result (self.new ≡ self.old) }
     {
         self.items.push(item)?;
-        Ok(())
-    }
-}
-
-#[cfg(test)]
-mod tests {
-    use super::*;
-    use crate::span::Span;
-    use std::test::Fail;
-
-    // A chain of numbers, each with the chain below it.
-    #[derive(Drop)]
-    struct Chain {
-        top: u8,
-        below: Option<Box<Chain>>,
-    }
-
-    // A struct that is known by the items of its list.
-    #[derive(Drop)]
-    struct Named {
-        spans: Seq<Span>,
-        at: u8,
-    }
-
-    fn on_top(alloc: Global, top: u8, below: Chain) -> Result<Chain, NoMemory> {
-        let below = Some(Box::new(alloc, below)?);
-        Ok(Chain { top, below })
-    }
-
-    fn with_span(alloc: Global, span: Span) -> Result<Named, NoMemory>
-        ensures { IfOk result (λ n. n ≡ record { spans = span ∷ []; at = 3 }) }
-    {
-        let mut spans = Seq::new(alloc);
-        spans.push(span)?;
-        Ok(Named { spans, at: 3 })
-    }
-
-    #[test]
-    fn lists_hold_what_was_pushed(rt: HostRuntime) -> Result<(), Fail> {
-        let alloc = rt.alloc();
-        let mut names = Seq::new(alloc);
-        names.push(with_span(alloc, Span { start: 1, end: 4 })?)?;
-        assert!(rt; names.len() == 1);
-        assert!(rt; names.as_slice()[0].spans.as_slice()[0] == Span { start: 1, end: 4 });
-        assert!(rt; names.as_slice()[0].at == 3);
-        let mut chains = Seq::new(alloc);
-        let low = Chain {
-            top: 1,
-            below: None,
-        };
-        chains.push(on_top(alloc, 2, low)?)?;
-        let chains = Seq::from_vec(chains.into_vec());
-        assert!(rt; chains.get(0).map(|c| c.top) == Some(2));
-        assert!(rt; chains.get(1).is_none());
-        assert!(rt; !chains.is_empty());
         Ok(())
     }
 }

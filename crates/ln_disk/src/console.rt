@@ -12,9 +12,9 @@ use std::io::{ErrorKind, Write};
 /// its bytes. Of writers whose bytes are known, `put` says which bytes they took.
 #[derive(Drop)]
 pub struct StdConsole<O, E> {
-    pub(crate) out: O,
-    pub(crate) err: E,
-    pub(crate) faults: u64,
+    out: O,
+    err: E,
+    faults: u64,
 }
 
 impl<O: Write, E: Write> StdConsole<O, E> {

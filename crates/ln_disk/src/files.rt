@@ -32,7 +32,7 @@ impl<T> Open<T> {
 pub struct DiskFiles<'a, R: rt::Files> {
     rt: &'a R,
     open: Option<Open<R::File>>,
-    pub(crate) faults: u64,
+    faults: u64,
 }
 
 impl<'a, R: rt::Files> DiskFiles<'a, R> {

@@ -14,7 +14,7 @@ use std::alloc::Global;
 
 /// Why a source has no list of tokens: at this byte begins neither blank, comment nor token; at this byte begins one
 /// token too many; or memory ran out.
-#[derive(Clone, Copy, Debug, PartialEq, Eq)]
+#[derive(Clone, Copy)]
 pub enum LexStop {
     Lexical(u32),
     Limit(u32),
@@ -156,93 +156,3 @@ pub fn one_answer()
 pub fn all_are_answered()
     ensures { (bytes : List ℕ) → IsAnswered bytes }
 {}
-
-#[cfg(test)]
-mod tests {
-    use super::*;
-    use std::test::Fail;
-
-    #[test]
-    fn tokens_of_a_source(rt: HostRuntime) {
-        let source = b"p.x..2 // end".as_slice();
-        let want = [
-            (Kind::Name, 0, 1),
-            (Kind::Dot, 1, 2),
-            (Kind::Name, 2, 3),
-            (Kind::Dots, 3, 5),
-            (Kind::Number, 5, 6),
-        ];
-        match tokens(rt.alloc(), source) {
-            Ok(found) => {
-                assert!(rt; found.len() == want.len());
-                for (token, (kind, start, end)) in found.as_slice().iter().zip(want) {
-                    assert!(rt; token.kind == kind);
-                    assert!(rt; token.span == Span { start, end });
-                }
-            }
-            Err(stop) => assert!(rt; false, "{stop:?}"),
-        }
-    }
-
-    #[test]
-    fn kinds_of_tokens(rt: HostRuntime) {
-        for (source, want) in [
-            (b"site".as_slice(), Kind::Site),
-            (b"param", Kind::Param),
-            (b"predicate", Kind::Predicate),
-            (b"let", Kind::Let),
-            (b"sign", Kind::Sign),
-            (b"Sign", Kind::Name),
-            (b"sites", Kind::Name),
-            (b"_a9", Kind::Name),
-            (b"007", Kind::Number),
-            (b"{", Kind::BraceL),
-            (b"}", Kind::BraceR),
-            (b"(", Kind::ParL),
-            (b")", Kind::ParR),
-            (b":", Kind::Colon),
-            (b";", Kind::Semi),
-            (b",", Kind::Comma),
-            (b".", Kind::Dot),
-            (b"..", Kind::Dots),
-            (b"+", Kind::Plus),
-            (b"-", Kind::Minus),
-            (b"*", Kind::Star),
-            (b"^", Kind::Caret),
-            (b"=", Kind::Equals),
-            (b"// a\rb\n\t\r x", Kind::Name),
-        ] {
-            let found = tokens(rt.alloc(), source).ok();
-            let kind = found.and_then(|ts| ts.get(0).map(|t| t.kind));
-            assert!(rt; kind == Some(want));
-        }
-    }
-
-    #[test]
-    fn faults_and_their_places(rt: HostRuntime) {
-        for (source, at) in [
-            (b"a / b".as_slice(), 2),
-            (b"/", 0),
-            (b"a // \xC3\xA9", 5),
-            (b"x\n#", 2),
-            (b"\xFF", 0),
-        ] {
-            let stop = tokens(rt.alloc(), source).err();
-            assert!(rt; stop == Some(LexStop::Lexical(at)));
-        }
-    }
-
-    #[test]
-    fn large_sources(rt: HostRuntime) -> Result<(), Fail> {
-        let alloc = rt.alloc();
-        let blanks = vec![in alloc; b' '; 1_048_576]?;
-        assert!(rt; tokens(alloc, blanks.as_slice()).map(|ts| ts.len()) == Ok(0));
-        let comment = vec![in alloc; b'/'; 1_048_576]?;
-        assert!(rt; tokens(alloc, comment.as_slice()).map(|ts| ts.len()) == Ok(0));
-        let many = vec![in alloc; b';'; 65_536]?;
-        assert!(rt; tokens(alloc, many.as_slice()).map(|ts| ts.len()) == Ok(65_536));
-        let more = vec![in alloc; b';'; 65_537]?;
-        assert!(rt; tokens(alloc, more.as_slice()).err() == Some(LexStop::Limit(65_536)));
-        Ok(())
-    }
-}

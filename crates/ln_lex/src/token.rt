@@ -2,7 +2,7 @@
 use ln_base::Span;
 
 /// What a token is: a name, a number, one of the five keywords, or a sign.
-#[derive(Clone, Copy, Debug, PartialEq, Eq)]
+#[derive(Clone, Copy, PartialEq, Eq)]
 pub enum Kind {
     Name,
     Number,
@@ -28,7 +28,7 @@ pub enum Kind {
 }
 
 /// A token and where its text stands in the source.
-#[derive(Clone, Copy, Debug)]
+#[derive(Clone, Copy)]
 pub struct Token {
     pub kind: Kind,
     pub span: Span,

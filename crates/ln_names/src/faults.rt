@@ -44,14 +44,14 @@ pub enum NameWhat {
 }
 
 /// A fault of names or limits.
-#[derive(Clone, Copy, Debug, PartialEq, Eq)]
+#[derive(Clone, Copy)]
 pub enum Fault {
     Limit(LimitWhat),
     Named(NameWhat),
 }
 
 /// A fault, and the token that has it.
-#[derive(Clone, Copy, Debug, PartialEq, Eq)]
+#[derive(Clone, Copy)]
 pub struct Found {
     pub fault: Fault,
     pub at: Span,

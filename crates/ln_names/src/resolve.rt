@@ -109,38 +109,3 @@ pub fn end_of(bytes: &[u8], e: RawEnd) -> i64
 {
     signed_end(e.negative, number(bytes, e.at))
 }
-
-#[cfg(test)]
-mod tests {
-    use super::*;
-
-    const fn span(start: u32, end: u32) -> Span
-        ensures { result ≡ record { start = start; end = end } }
-    {
-        Span { start, end }
-    }
-
-    #[test]
-    fn a_name_may_be_a_site_and_a_param(rt: HostRuntime) {
-        let bytes = b"p: param, p: num";
-        let param = RawArg {
-            name: span(0, 1),
-            kind: span(3, 8),
-            is_param: true,
-        };
-        let site = RawArg {
-            name: span(10, 11),
-            kind: span(13, 16),
-            is_param: false,
-        };
-        assert!(rt; site_at(bytes, &[param, site], span(0, 1)) == Some(1));
-        assert!(rt; param_at(bytes, &[param, site], span(0, 1)) == Some(0));
-    }
-
-    #[test]
-    fn numbers_have_leading_zeros(rt: HostRuntime) {
-        let at = span(0, 3);
-        assert!(rt; literal(b"012", at) == 12);
-        assert!(rt; end_of(b"012", RawEnd { negative: true, at }) == -12);
-    }
-}

@@ -7,7 +7,7 @@ use ln_base::Span;
 use ln_lex::{Kind, Token};
 
 /// What a token of an expression is; parentheses and the dot are nothing.
-#[derive(Clone, Copy, Debug, PartialEq, Eq)]
+#[derive(Clone, Copy)]
 pub enum Role {
     /// A NUMBER that is a node.
     Value,

@@ -9,8 +9,6 @@ pub mod items;
 pub mod nesting;
 pub mod place;
 pub mod raw;
-#[cfg(test)]
-mod tests;
 pub mod unique;
 
 pub use items::read_items;

@@ -7,21 +7,21 @@ ghost use Rattle.ln_syntax.specs.Automaton.{next_of, behind, closed, ended, rang
 use ln_lex::{Kind, Token};
 
 /// Whose range it is.
-#[derive(Clone, Copy, Debug)]
+#[derive(Clone, Copy)]
 enum Ranged {
     Coordinate,
     Parameter,
 }
 
 /// Which expression it is: the value of a let, or the root behind `sign`.
-#[derive(Clone, Copy, Debug)]
+#[derive(Clone, Copy)]
 enum Part {
     Value,
     Root,
 }
 
 /// The operand that ended last: a name, which a dot may follow, another atom, or a power.
-#[derive(Clone, Copy, Debug)]
+#[derive(Clone, Copy)]
 enum Last {
     Named,
     Whole,
@@ -29,7 +29,7 @@ enum Last {
 }
 
 /// What the tokens so far end in, named for what is read next.
-#[derive(Clone, Copy, Debug)]
+#[derive(Clone, Copy)]
 enum State {
     AnItem,
     SiteName,

@@ -5,28 +5,28 @@ ghost use Rattle.ln_syntax.specs.Raw.{item, item_name, is_site, is_param, is_pre
 use ln_base::Span;
 
 /// An end of a range: a NUMBER, with a minus sign before it or without.
-#[derive(Clone, Copy, Debug)]
+#[derive(Clone, Copy)]
 pub struct RawEnd {
     pub negative: bool,
     pub at: Span,
 }
 
 /// A range, both ends included.
-#[derive(Clone, Copy, Debug)]
+#[derive(Clone, Copy)]
 pub struct RawRange {
     pub low: RawEnd,
     pub high: RawEnd,
 }
 
 /// A coordinate of a site type.
-#[derive(Clone, Copy, Debug)]
+#[derive(Clone, Copy)]
 pub struct RawCoord {
     pub name: Span,
     pub range: RawRange,
 }
 
 /// An argument of a predicate: `kind` is the NAME or `param` behind the colon.
-#[derive(Clone, Copy, Debug)]
+#[derive(Clone, Copy)]
 pub struct RawArg {
     pub name: Span,
     pub kind: Span,
@@ -34,14 +34,14 @@ pub struct RawArg {
 }
 
 /// The tokens of an expression, from place `from` up to place `to`.
-#[derive(Clone, Copy, Debug)]
+#[derive(Clone, Copy)]
 pub struct Places {
     pub from: usize,
     pub to: usize,
 }
 
 /// A let of a predicate, and the places of its expression.
-#[derive(Clone, Copy, Debug)]
+#[derive(Clone, Copy)]
 pub struct RawLet {
     pub name: Span,
     pub value: Places,

@@ -12,27 +12,27 @@ fn error(kind: ErrorKind) -> io::Error {
 
 /// When a fake is slow or fails: what it takes or gives at once, and the numbers, from 1, of the calls that fail.
 #[derive(Clone, Copy)]
-pub(crate) struct Habit {
+pub struct Habit {
     /// The most bytes at once.
-    pub(crate) most: usize,
+    pub most: usize,
     /// The call that fails; 0 is none.
-    pub(crate) fails: usize,
+    pub fails: usize,
     /// Every second call, the first among them, is interrupted by a signal.
-    pub(crate) interrupted: bool,
+    pub interrupted: bool,
 }
 
 /// A writer that keeps what it takes.
 #[derive(Drop)]
-pub(crate) struct Paper {
-    pub(crate) held: Vec<u8>,
-    pub(crate) habit: Habit,
-    pub(crate) calls: usize,
-    pub(crate) flushes: usize,
-    pub(crate) bad_flush: usize,
+pub struct Paper {
+    pub held: Vec<u8>,
+    pub habit: Habit,
+    pub calls: usize,
+    pub flushes: usize,
+    pub bad_flush: usize,
 }
 
 impl Paper {
-    pub(crate) fn new(alloc: Global, habit: Habit, bad_flush: usize) -> Paper {
+    pub fn new(alloc: Global, habit: Habit, bad_flush: usize) -> Paper {
         Paper {
             held: Vec::new(alloc),
             habit,
@@ -74,13 +74,13 @@ impl Write for Paper {
 
 /// Files of one length, of each name but "none". Their bytes depend on all bytes of the name.
 #[derive(Drop)]
-pub(crate) struct Shelf {
-    pub(crate) len: usize,
-    pub(crate) habit: Habit,
+pub struct Shelf {
+    pub len: usize,
+    pub habit: Habit,
 }
 
 /// The byte of a file at a place.
-pub(crate) fn byte_at(name: &[u8], at: usize) -> u8 {
+pub fn byte_at(name: &[u8], at: usize) -> u8 {
     let turns = at / name.len().max(1);
     match name.get(at % name.len().max(1)) {
         Some(byte) => *byte ^ (turns % 251) as u8,
@@ -90,7 +90,7 @@ pub(crate) fn byte_at(name: &[u8], at: usize) -> u8 {
 
 /// An open file of a shelf.
 #[derive(Drop)]
-pub(crate) struct Page {
+pub struct Page {
     name: [u8; 255],
     size: usize,
     len: usize,
@@ -208,8 +208,8 @@ impl rt::Files for Shelf {
 
 /// A command line, the program's name first.
 #[derive(Drop)]
-pub(crate) struct Line<'a> {
-    pub(crate) words: &'a [&'a [u8]],
+pub struct Line<'a> {
+    pub words: &'a [&'a [u8]],
 }
 
 impl Env for Line<'_> {
