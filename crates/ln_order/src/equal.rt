@@ -5,7 +5,7 @@ ghost use Rattle.std.specs.Ordering.{int_eq};
 ghost use Rattle.ln_order.specs.Order.{first_equal, IsFirstEqual};
 
 /// Two sites of a row have one index: the first place whose index an earlier place has.
-#[derive(Clone, Copy, Debug, PartialEq, Eq)]
+#[derive(Clone, Copy)]
 pub struct Equal(pub u8);
 
 // Does the index stand among these?

@@ -1,6 +1,6 @@
 //! The order of exponents, and the variables of sites by rising infinitesimal.
 ghost use Rattle.std.specs.Ordering.{nat_cmp};
-ghost use Rattle.std.specs.Prelude.{neg_ℤ, pos, Some, ◌≡◌, ◌↔◌, ◌<◌, ◌≤◌, ◌+◌, ◌++◌, length, IsTrue, IfOk, OnOk};
+ghost use Rattle.std.specs.Prelude.{◌≡◌, ◌↔◌, ◌<◌, ◌≤◌, ◌+◌, ◌++◌, length, IsTrue, IfOk, OnOk};
 ghost use Rattle.ln_algebra.specs.Earlier.{Earlier};
 ghost use Rattle.ln_algebra.specs.Walk.{IsRanking};
 ghost use Rattle.ln_tree.specs.Exps.{IsRising, exponent, vector};
@@ -121,61 +121,3 @@ pub fn vars_of_site(alloc: Global, s: &Shape, site: u8) -> Result<Seq<u8>, NoMem
 pub fn orders_are_those_of_rows()
     ensures { OrdersAreThoseOfRows }
 {}
-
-#[cfg(test)]
-mod tests {
-    use super::*;
-    use crate::rank::order_of;
-    use ln_tree::Name;
-    use std::test::Fail;
-
-    // Coordinate number k of the one site.
-    fn coord(k: u8) -> VarInfo
-        ensures { result ≡ record { arg = 0; site = Some 0; coord = k; lo = neg_ℤ (pos 9); hi = pos 9 } }
-    {
-        VarInfo {
-            arg: 0,
-            site: Some(0),
-            coord: k,
-            lo: -9,
-            hi: 9,
-        }
-    }
-
-    // A shape with one site of two coordinates.
-    fn plane(alloc: Global) -> Result<Shape, NoMemory>
-        ensures { IfOk result (λ s. s.sites ≡ 1) }
-    {
-        let mut vars = Seq::new(alloc);
-        vars.push(coord(0))?;
-        vars.push(coord(1))?;
-        Ok(Shape {
-            name: Name::of(b"plane"),
-            sites: 1,
-            vars,
-        })
-    }
-
-    // The exponents of variable v alone.
-    fn alone(alloc: Global, v: u8) -> Result<Exps, NoMemory> {
-        let mut e = Exps::new(alloc);
-        e.push(v, 1)?;
-        Ok(e)
-    }
-
-    #[test]
-    fn the_last_coordinate_is_the_largest(rt: HostRuntime) -> Result<(), Fail> {
-        let s = plane(rt.alloc())?;
-        let x = alone(rt.alloc(), 0)?;
-        let y = alone(rt.alloc(), 1)?;
-        match order_of(&[7]) {
-            Ok(o) => {
-                assert!(rt; earlier(&o, &s, &y, &x));
-                assert!(rt; !earlier(&o, &s, &x, &y));
-                assert!(rt; ranking(rt.alloc(), &o, &s)?.as_slice() == [0u8, 1].as_slice());
-            }
-            Err(_) => assert!(rt; false),
-        }
-        Ok(())
-    }
-}

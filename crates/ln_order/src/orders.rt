@@ -85,24 +85,3 @@ impl Order {
 pub fn orders_are_all()
     ensures { OrdersAreAll }
 {}
-
-#[cfg(test)]
-mod tests {
-    use super::*;
-    use std::test::Fail;
-
-    #[test]
-    fn two_sites_have_two_orders(rt: HostRuntime) -> Result<(), Fail> {
-        let all = all_orders(rt.alloc(), 2)?;
-        match all.as_slice() {
-            [a, b] => {
-                assert!(rt; a.places() == [0u8, 1].as_slice());
-                assert!(rt; b.places() == [1u8, 0].as_slice());
-                assert!(rt; a.number() == 0);
-                assert!(rt; b.number() == 1);
-            }
-            _ => assert!(rt; false),
-        }
-        Ok(())
-    }
-}

@@ -99,34 +99,3 @@ pub fn fronts_are_prefixes()
 pub fn fronts_follow()
     ensures { FrontsFollow }
 {}
-
-#[cfg(test)]
-mod tests {
-    use super::*;
-    use std::test::Fail;
-
-    #[test]
-    fn five_sites_have_326_prefixes(rt: HostRuntime) -> Result<(), Fail> {
-        let all = all_prefixes(rt.alloc(), 5)?;
-        assert!(rt; all.len() == 326);
-        let last = all_prefixes(rt.alloc(), 2)?;
-        match last.as_slice() {
-            [none, a, ab, b, ba] => {
-                assert!(rt; none.places().is_empty());
-                assert!(rt; a.places() == [0u8].as_slice() && ab.places() == [0u8, 1].as_slice());
-                assert!(rt; b.places() == [1u8].as_slice() && ba.places() == [1u8, 0].as_slice());
-            }
-            _ => assert!(rt; false),
-        }
-        Ok(())
-    }
-
-    #[test]
-    fn sites_are_found_one_by_one(rt: HostRuntime) {
-        let indices = [2i64, 1, 3];
-        let one = Order::of_arguments(3).found(0, &indices);
-        let two = one.found(1, &indices);
-        assert!(rt; two.places() == [1u8, 0, 2].as_slice());
-        assert!(rt; prefix_number(&two, 0) == 0 && prefix_number(&two, 2) == 7);
-    }
-}

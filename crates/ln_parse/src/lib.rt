@@ -17,10 +17,6 @@ mod place;
 mod predicate;
 pub mod printer;
 pub mod source;
-#[cfg(test)]
-mod tests;
-#[cfg(test)]
-mod tests_faults;
 
 pub use ln_names::{LimitWhat, NameWhat};
 pub use printer::print;

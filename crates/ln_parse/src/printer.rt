@@ -19,7 +19,7 @@ use std::alloc::Global;
 
 /// What may stand at a place without parentheses: anything, as between parentheses; a product, a negation or a power, as
 /// to the right of `+`; a negation or a power, as to the right of `*`; only a number, a name or an input, as before `^`.
-#[derive(Clone, Copy, Debug)]
+#[derive(Clone, Copy)]
 pub enum Room {
     OfSum,
     OfProduct,
@@ -373,48 +373,4 @@ fn put_expr(out: &mut Vec<u8>, t: &Table, p: &Pred, room: Room, e: &Expr) -> Res
         }
     }
     close(out, plain)
-}
-
-#[cfg(test)]
-mod tests {
-    use super::*;
-    use crate::parse;
-    use std::process::Abort;
-    use std::str::from_utf8;
-    use std::test::Fail;
-
-    const TWO_LINES: &str = "site num { t: -10 .. 10; }
-predicate s(a: num, b: num) { sign a.t^2 - b.t^2; }
-";
-
-    // The canonical text of every construct, and the same written otherwise.
-    const ALL: &str = "site point { x: -5 .. 7; y: 0 .. 0; }
-site other { t: -9 .. -1; }
-param c: 0 .. 5;
-param d: 1 .. 2;
-predicate f(p: point, c: param, q: other) { let k = -p.x + 7; let m = k*(c - 3); \
-        sign k - m - (p.y - (q.t + c))*-k^2 - (-(2*m*(k*k)))^3*(2^4)^5; }
-predicate g(p: other) { sign -(p.t - 1) + --p.t; }
-";
-
-    const OTHERWISE: &str = "param c:00..05;param d:01..2;site point{x:-5..007;y:-0..0;}
-        site other { t: -9 .. -1; } // the second site type
-        predicate f(p:point,c:param,q:other){let k=(-(p.x))+(7);let m=((k))*(c-3);
-            sign ((k-m))-((p.y-(q.t+c))*(-(k^2)))-(-((2*m)*(k*k)))^03*(2^4)^5;}
-        predicate g(p: other) { sign (-(p.t - 1)) + (-(-p.t)); }";
-
-    fn read(rt: &impl Abort, alloc: Global, source: &str) -> Result<Table, Fail> {
-        assert!(rt; source.len() <= 1 << 20);
-        Ok(parse(alloc, source.as_bytes())?)
-    }
-
-    #[test]
-    fn a_table_has_its_canonical_text(rt: HostRuntime) -> Result<(), Fail> {
-        for (source, want) in [(TWO_LINES, TWO_LINES), (ALL, ALL), (OTHERWISE, ALL)] {
-            let table = read(&rt, rt.alloc(), source)?;
-            let text = print(rt.alloc(), &table)?;
-            assert!(rt; from_utf8(text.as_slice()) == Ok(want));
-        }
-        Ok(())
-    }
 }

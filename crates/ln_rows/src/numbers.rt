@@ -6,7 +6,7 @@ use ln_base::Reading;
 use ln_base::decimal::{integer, unsigned};
 
 /// Why a field isn't a number of its column.
-#[derive(Clone, Copy, Debug, PartialEq, Eq)]
+#[derive(Clone, Copy)]
 pub enum NumberStop {
     /// It isn't an optional `-` and one or more digits.
     Number,
@@ -48,28 +48,6 @@ pub fn number(field: &[u8], lo: i64, hi: i64) -> Result<i64, NumberStop>
             } else {
                 Err(NumberStop::Range)
             }
-        }
-    }
-}
-
-#[cfg(test)]
-mod tests {
-    use super::*;
-
-    #[test]
-    fn numbers_stand_within_their_ranges(rt: HostRuntime) {
-        for (field, lo, hi, want) in [
-            (b"-7".as_slice(), -9, 9, Ok(-7)),
-            (b"007", 7, 7, Ok(7)),
-            (b"10", -9, 9, Err(NumberStop::Range)),
-            (b"-10", -9, 9, Err(NumberStop::Range)),
-            (b"-9223372036854775808", i64::MIN, 0, Ok(i64::MIN)),
-            (b"-9223372036854775809", i64::MIN, 0, Err(NumberStop::Range)),
-            (b"1e3", -9, 9, Err(NumberStop::Number)),
-            (b"+5", -9, 9, Err(NumberStop::Number)),
-            (b"", -9, 9, Err(NumberStop::Number)),
-        ] {
-            assert!(rt; number(field, lo, hi) == want);
         }
     }
 }

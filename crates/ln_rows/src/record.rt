@@ -15,7 +15,7 @@ use ln_order::first_equal;
 use ln_tree::{Pred, VarInfo};
 
 /// Why a record isn't a row: the first of these that it has. A column is named by its number, from 0.
-#[derive(Clone, Copy, Debug, PartialEq, Eq)]
+#[derive(Clone, Copy)]
 pub enum RowStop {
     /// The number of its fields isn't that of the columns.
     Fields,
@@ -167,57 +167,4 @@ pub fn row(p: &Pred, fields: &ByteRecord, into: &mut Row) -> Result<(), RowStop>
     ensures in_range { OnOk result (InRange p.now.shape.sites p.now.shape.vars (row_of p.now.shape.sites p.now.shape.vars into.new)) }
 {
     row_over(p.shape.vars.as_slice(), p.shape.sites, fields, into)
-}
-
-#[cfg(test)]
-mod tests {
-    use super::*;
-    use crate::rows::Rows;
-    use ln_tree::is_shape;
-    use std::test::Fail;
-
-    fn coord(arg: u8, coord: u8) -> VarInfo {
-        VarInfo {
-            arg,
-            site: Some(arg),
-            coord,
-            lo: -1000,
-            hi: 1000,
-        }
-    }
-
-    #[test]
-    fn records_say_rows_or_their_first_fault(rt: HostRuntime) -> Result<(), Fail> {
-        let alloc = rt.alloc();
-        let vars = [
-            coord(0, 0),
-            coord(0, 1),
-            coord(1, 0),
-            coord(1, 1),
-            coord(2, 0),
-            coord(2, 1),
-        ];
-        assert!(rt; is_shape(3, &vars));
-        let text = b"1,0,0,1,1,0,3,0,1\n1,1001,0,2,1,0,3,0,1\n1,1e3,0,2,1,0,3,0,1\n\
-              1,0,0,2,1,0,3,0\n-1,0,0,2,1,0,3,0,x\n\"1\",-0,007,2,1,0,3,0,1\n";
-        let mut rows = Rows::new(alloc, text);
-        let mut record = ByteRecord::new(alloc);
-        let mut row = Row {
-            index: [9; 5],
-            values: [9; 168],
-        };
-        for want in [
-            Err(RowStop::Index(3)),
-            Err(RowStop::Range(1)),
-            Err(RowStop::Number(1)),
-            Err(RowStop::Fields),
-            Err(RowStop::Range(0)),
-            Ok(()),
-        ] {
-            assert!(rt; rows.next(&mut record)?);
-            assert!(rt; row_over(&vars, 3, &record, &mut row) == want);
-        }
-        assert!(rt; row.values[1] == 7 && row.values[6] == 9 && row.index[3] == 9);
-        Ok(())
-    }
 }

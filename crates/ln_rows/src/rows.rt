@@ -166,23 +166,3 @@ impl<'a> Rows<'a> {
         }
     }
 }
-
-#[cfg(test)]
-mod tests {
-    use super::*;
-    use std::test::Fail;
-
-    #[test]
-    fn records_come_in_order(rt: HostRuntime) -> Result<(), Fail> {
-        let alloc = rt.alloc();
-        let mut rows = Rows::new(alloc, b"a\nb,c\n");
-        let mut record = ByteRecord::new(alloc);
-        assert!(rt; rows.next(&mut record)?);
-        assert!(rt; record.len() == 1);
-        assert!(rt; rows.next(&mut record)?);
-        assert!(rt; record.len() == 2);
-        assert!(rt; !rows.next(&mut record)?);
-        assert!(rt; !rows.next(&mut record)?);
-        Ok(())
-    }
-}

@@ -7,8 +7,12 @@ mod base;
 #[cfg(test)]
 mod disk;
 #[cfg(test)]
+mod faults;
+#[cfg(test)]
 mod lex;
 #[cfg(test)]
 mod names;
+#[cfg(test)]
+mod parse;
 #[cfg(test)]
 mod syntax;

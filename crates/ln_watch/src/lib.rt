@@ -20,6 +20,3 @@ pub use first_watch::FirstWatch;
 pub use line::Line;
 pub use sign_watch::SignWatch;
 pub use watch::{Keep, Watch};
-
-#[cfg(test)]
-mod tests;

@@ -1,11 +1,7 @@
 //! What each watcher says of verdicts that it has seen.
-use crate::decider_watch::DeciderWatch;
-use crate::first_watch::FirstWatch;
-use crate::line::Line;
-use crate::sign_watch::SignWatch;
-use crate::watch::{Keep, Watch};
 use ln_base::Sign;
 use ln_code::{By, Verdict};
+use ln_watch::{DeciderWatch, FirstWatch, Keep, Line, SignWatch, Watch};
 
 fn verdict(sign: Sign, by: By) -> Verdict {
     Verdict {

@@ -1,9 +1,8 @@
 //! Sources that are refused: what is wrong, and at which token.
-use crate::{LimitWhat, NameWhat, ParseStop, parse};
-use ln_base::Span;
+use ln_base::{NoMemory, Span};
 use ln_names::Fault;
+use ln_parse::{LimitWhat, NameWhat, ParseStop, parse};
 use std::alloc::Global;
-use std::process::Abort;
 use std::test::Fail;
 
 /// Sources up to the token of a fault, that token, the rest, and the fault.
@@ -160,16 +159,26 @@ const ONE_TOO_MANY: &[(&str, &str, &str, u32, &str, &str, LimitWhat)] = &[
     ),
 ];
 
-/// The answer to a source.
-fn refusal(rt: &impl Abort, alloc: Global, source: &str) -> Option<ParseStop> {
-    assert!(rt; source.len() <= 1 << 20);
-    parse(alloc, source.as_bytes()).err()
-}
+/// Sources with a fault of tokens, nesting or syntax, which comes before all others, and the fault.
+const FIRST: &[(&str, ParseStop)] = &[
+    ("site # {", ParseStop::Lexical(Span { start: 5, end: 6 })),
+    ("site a b", ParseStop::Syntax(Span { start: 7, end: 8 })),
+    ("site a \n", ParseStop::Syntax(Span { start: 8, end: 8 })),
+    (
+        "param c: 2 .. 1; /",
+        ParseStop::Lexical(Span { start: 17, end: 18 }),
+    ),
+    (
+        "param c: 2 .. 1; c",
+        ParseStop::Syntax(Span { start: 17, end: 18 }),
+    ),
+];
 
-/// The span of a token behind this text.
-fn span_behind(rt: &impl Abort, front: &str, token: &str) -> Span {
-    let (start, len) = (front.len(), token.len());
-    assert!(rt; start <= 1 << 20 && len <= 1 << 20);
+/// The span of a token of so many bytes behind so many.
+fn span_of(start: usize, len: usize) -> Span {
+    if start > 1 << 20 || len > 1 << 20 {
+        return Span { start: 0, end: 0 };
+    }
     Span {
         start: start as u32,
         end: (start + len) as u32,
@@ -184,48 +193,78 @@ fn stop(fault: Fault, at: Span) -> ParseStop {
     }
 }
 
-/// The text up to one more than the limit allows, the token that is one too many, and the rest.
-fn one_more(
+/// Is the source refused with this answer?
+fn is_refused(alloc: Global, source: &str, want: ParseStop) -> bool {
+    if source.len() > 1 << 20 {
+        return false;
+    }
+    match parse(alloc, source.as_bytes()) {
+        Ok(_) => false,
+        Err(stop) => stop == want,
+    }
+}
+
+/// Is the source of these three parts refused with this fault at the second part?
+fn is_refused_at(
+    alloc: Global,
+    front: &str,
+    token: &str,
+    rest: &str,
+    fault: Fault,
+) -> Result<bool, NoMemory> {
+    let mut source = String::from_str(alloc, front)?;
+    source.push_str(token)?;
+    source.push_str(rest)?;
+    let at = span_of(front.len(), token.len());
+    Ok(is_refused(alloc, source.as_str(), stop(fault, at)))
+}
+
+/// The letter and the number, as one name.
+fn named(alloc: Global, letter: &str, n: u32) -> Result<String, NoMemory> {
+    let name = format!(in alloc; "{letter}{n}")?;
+    Ok(name)
+}
+
+/// The head, and so many of the counted.
+fn most_of(
     alloc: Global,
     head: &str,
     before: &str,
     letter: &str,
     most: u32,
     behind: &str,
-    tail: &str,
-) -> Result<(String, String, String), Fail> {
+) -> Result<String, NoMemory> {
     let mut front = String::from_str(alloc, head)?;
     for n in 0..most {
-        let name = format!(in alloc; "{letter}{n}")?;
         front.push_str(before)?;
-        front.push_str(name.as_str())?;
+        front.push_str(named(alloc, letter, n)?.as_str())?;
         front.push_str(behind)?;
     }
     front.push_str(before)?;
-    let token = format!(in alloc; "{letter}{most}")?;
-    let rest = format!(in alloc; "{behind}{tail}")?;
-    Ok((front, token, rest))
+    Ok(front)
 }
 
 #[test]
 fn each_fault_of_names_and_limits_stands_at_its_token(rt: HostRuntime) -> Result<(), Fail> {
-    let alloc = rt.alloc();
     for (front, token, rest, fault) in AT_A_TOKEN {
-        let source = format!(in alloc; "{front}{token}{rest}")?;
-        let at = span_behind(&rt, front, token);
         assert!(rt;
-            refusal(&rt, alloc, source.as_str()) == Some(stop(*fault, at)),
-            "{source}"
+            is_refused_at(rt.alloc(), front, token, rest, *fault)?,
+            "{front}{token}"
         );
     }
+    Ok(())
+}
+
+#[test]
+fn one_more_than_a_limit_allows_is_refused(rt: HostRuntime) -> Result<(), Fail> {
+    let alloc = rt.alloc();
     for (head, before, letter, most, behind, tail, what) in ONE_TOO_MANY {
-        let (front, token, rest) = one_more(alloc, head, before, letter, *most, behind, tail)?;
-        let source = format!(in alloc; "{front}{token}{rest}")?;
-        let at = span_behind(&rt, front.as_str(), token.as_str());
-        assert!(rt;
-            refusal(&rt, alloc, source.as_str()) == Some(ParseStop::Limit(*what, at)),
-            "{source}"
-        );
+        let front = most_of(alloc, head, before, letter, *most, behind)?;
+        let token = named(alloc, letter, *most)?;
+        let mut rest = String::from_str(alloc, behind)?;
+        rest.push_str(tail)?;
+        let fault = Fault::Limit(*what);
+        assert!(rt; is_refused_at(alloc, front.as_str(), token.as_str(), rest.as_str(), fault)?);
     }
     Ok(())
 }
@@ -233,36 +272,15 @@ fn each_fault_of_names_and_limits_stands_at_its_token(rt: HostRuntime) -> Result
 #[test]
 fn faults_of_tokens_nesting_and_syntax_come_first(rt: HostRuntime) -> Result<(), Fail> {
     let alloc = rt.alloc();
-    let rows = [
-        ("site # {", ParseStop::Lexical(Span { start: 5, end: 6 })),
-        ("site a b", ParseStop::Syntax(Span { start: 7, end: 8 })),
-        ("site a \n", ParseStop::Syntax(Span { start: 8, end: 8 })),
-        (
-            "param c: 2 .. 1; /",
-            ParseStop::Lexical(Span { start: 17, end: 18 }),
-        ),
-        (
-            "param c: 2 .. 1; c",
-            ParseStop::Syntax(Span { start: 17, end: 18 }),
-        ),
-    ];
-    for (source, stop) in rows {
-        assert!(rt; refusal(&rt, alloc, source) == Some(stop), "{source}");
+    for (source, want) in FIRST {
+        assert!(rt; is_refused(alloc, source, *want));
     }
     // 65,536 semicolons and one more; 64 open parentheses and one more.
-    for (part, most, what) in [
-        (";", 65_536, LimitWhat::Tokens),
-        ("(", 64, LimitWhat::Nesting),
-    ] {
-        let source = part.repeat(alloc, most + 1)?;
-        let at = Span {
-            start: most as u32,
-            end: most as u32 + 1,
-        };
-        assert!(rt;
-            refusal(&rt, alloc, source.as_str()) == Some(ParseStop::Limit(what, at)),
-            "{part}"
-        );
-    }
+    let tokens = ";".repeat(alloc, 65_537)?;
+    let want = ParseStop::Limit(LimitWhat::Tokens, span_of(65_536, 1));
+    assert!(rt; is_refused(alloc, tokens.as_str(), want));
+    let nested = "(".repeat(alloc, 65)?;
+    let want = ParseStop::Limit(LimitWhat::Nesting, span_of(64, 1));
+    assert!(rt; is_refused(alloc, nested.as_str(), want));
     Ok(())
 }
