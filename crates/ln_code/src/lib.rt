@@ -30,6 +30,3 @@ pub use row::Row;
 pub use run::run_row;
 pub use scratch::Scratch;
 pub use verdict::{By, Verdict};
-
-#[cfg(test)]
-mod tests;

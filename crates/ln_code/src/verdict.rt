@@ -2,7 +2,7 @@
 use ln_base::Sign;
 
 /// What decided: the filter, the block at this place of the row's list, from 0, or nothing, where all blocks are 0.
-#[derive(Clone, Copy, Debug, PartialEq, Eq)]
+#[derive(Clone, Copy)]
 pub enum By {
     Filter,
     Stage(u32),
@@ -11,7 +11,7 @@ pub enum By {
 
 /// The sign of a row and what decided it. `wide` counts the sums, differences, products and negations done at 128 bits, `calls`
 /// the filter and the blocks that were entered.
-#[derive(Clone, Copy, Debug, PartialEq, Eq)]
+#[derive(Clone, Copy)]
 pub struct Verdict {
     pub sign: Sign,
     pub by: By,

@@ -7,4 +7,3 @@ pub mod Lines
 pub mod Wrote
 pub mod Nodes
 pub mod Planned
-pub mod Worked

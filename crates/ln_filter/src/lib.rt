@@ -12,6 +12,3 @@ pub mod filters;
 pub mod laws;
 
 pub use filters::plan;
-
-#[cfg(test)]
-mod tests;

@@ -3,4 +3,3 @@ pub mod Lowered
 pub mod Distinct
 pub mod Written
 pub mod Wrote
-pub mod Worked

@@ -40,3 +40,15 @@ pub record PutsLets (ks : List Key) (after : Draft) (ts : List Typed) : Type 0 w
   pub ops : after.ops ≡ ops_in lines
   pub pairs : map range after.pairs ≡ pairs_in lines
   pub written : LetsWritten ks ts lines after.kept
+
+-- the second draft has an operation more, and its value may be kept as that of number k, whose range is p
+pub record PutsLast (before after : Draft) (x : Line Range) (k : ℕ) (p : Range) : Type 0 where
+  pub mid : Draft
+  pub wrote : Wrote before mid (x ∷ []) []
+  pub keeps : MayKeep mid after k p
+
+-- the draft has the operations of these lets and of a tree behind them, and nothing else
+pub record Drafted (ks : List Key) (ts : List Typed) (t : Typed) (after : Draft) : Type 0 where
+  pub mid : Draft
+  pub lets : PutsLets ks mid ts
+  pub root : Puts ks mid after t

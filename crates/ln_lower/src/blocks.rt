@@ -14,9 +14,9 @@ ghost use Rattle.ln_code.specs.Part.{block_value, known_of};
 ghost use Rattle.ln_code.specs.Kept.{AreOfSites, FollowsRules};
 ghost use Rattle.ln_code.specs.Nodes.{IsNodeOf};
 ghost use Rattle.ln_lower.specs.Nodes.{KeepsLets, PushNodes, pushed_by};
-ghost use Rattle.ln_lower.specs.Lowered.{factors, power_of, PowersFit};
+ghost use Rattle.ln_lower.specs.Lowered.{factors, line, power_of, PowersFit};
 ghost use Rattle.ln_lower.specs.Distinct.{AllStand, Stands};
-ghost use Rattle.ln_lower.specs.Wrote.{MayKeep, Puts, PutsLet, PutsLets, Wrote};
+ghost use Rattle.ln_lower.specs.Wrote.{Drafted, MayKeep, Puts, PutsLast, PutsLet, PutsLets, Wrote};
 
 use crate::distinct::{Distinct, number};
 use crate::draft::{Draft, nothing};
@@ -86,6 +86,20 @@ fn put_kept(draft: &mut Draft, is_shared: bool, k: usize, pair: Pair) -> Result<
     }
 }
 
+// The last operation of a tree, whose number is k and whose range is this.
+fn put_done(
+    draft: &mut Draft,
+    distinct: &Distinct,
+    op: Op,
+    pair: Pair,
+    k: usize,
+) -> Result<(), NoMemory>
+    ensures { OnOk result (PutsLast draft.old draft.new (line op (range pair)) k (range pair)) }
+{
+    draft.push(op, pair)?;
+    put_kept(draft, distinct.is_shared(k), k, pair)
+}
+
 // The operations of a tree, whose number is k.
 fn put_tree(draft: &mut Draft, distinct: &Distinct, t: &Fitted, k: usize) -> Result<(), NoMemory>
     requires powers { PowersFit (typed t.now) }
@@ -101,31 +115,26 @@ fn put_tree(draft: &mut Draft, distinct: &Distinct, t: &Fitted, k: usize) -> Res
         FitOp::Let(j) => draft.push(Op::Get(*j), t.pair),
         FitOp::Neg(x) => {
             put_tree(draft, distinct, x, distinct.operand(k))?;
-            draft.push(Op::Neg(t.width), t.pair)?;
-            put_kept(draft, distinct.is_shared(k), k, t.pair)
+            put_done(draft, distinct, Op::Neg(t.width), t.pair, k)
         }
         FitOp::Add(x, y) => {
             put_tree(draft, distinct, x, distinct.operand(k))?;
             put_tree(draft, distinct, y, distinct.right(k))?;
-            draft.push(Op::Add(t.width), t.pair)?;
-            put_kept(draft, distinct.is_shared(k), k, t.pair)
+            put_done(draft, distinct, Op::Add(t.width), t.pair, k)
         }
         FitOp::Sub(x, y) => {
             put_tree(draft, distinct, x, distinct.operand(k))?;
             put_tree(draft, distinct, y, distinct.right(k))?;
-            draft.push(Op::Sub(t.width), t.pair)?;
-            put_kept(draft, distinct.is_shared(k), k, t.pair)
+            put_done(draft, distinct, Op::Sub(t.width), t.pair, k)
         }
         FitOp::Mul(x, y) => {
             put_tree(draft, distinct, x, distinct.operand(k))?;
             put_tree(draft, distinct, y, distinct.right(k))?;
-            draft.push(Op::Mul(t.width), t.pair)?;
-            put_kept(draft, distinct.is_shared(k), k, t.pair)
+            put_done(draft, distinct, Op::Mul(t.width), t.pair, k)
         }
         FitOp::Pow(x, n) => {
             if *n == 0 {
-                draft.push(Op::Push(1), t.pair)?;
-                put_kept(draft, distinct.is_shared(k), k, t.pair)
+                put_done(draft, distinct, Op::Push(1), t.pair, k)
             } else {
                 put_tree(draft, distinct, x, distinct.operand(k))?;
                 put_power(draft, x.pair, t.width, *n - 1)?;
@@ -189,6 +198,32 @@ fn put_lets(
     Ok(())
 }
 
+// The operations of the lets and of a tree behind them, whose subtrees have these numbers.
+fn drafted(
+    alloc: Global,
+    distinct: &Distinct,
+    lets: &[Fitted],
+    numbers: &[usize],
+    t: &Fitted,
+    k: usize,
+) -> Result<Draft, NoMemory>
+    requires few { length lets.now ≤ 64 }
+    requires powers { All (λ u. PowersFit (typed u)) lets.now }
+    requires stand { AllStand distinct.now.keys numbers.now (map typed lets.now) }
+    requires root { PowersFit (typed t.now) }
+    requires stands { Stands distinct.now.keys k (typed t.now) }
+    ensures { IfOk result (λ d. Drafted distinct.now.keys (map typed lets.now) (typed t.now) d) }
+{
+    let mut draft = Draft {
+        ops: Seq::new(alloc),
+        pairs: Seq::new(alloc),
+        kept: Seq::new(alloc),
+    };
+    put_lets(&mut draft, distinct, lets, numbers)?;
+    put_tree(&mut draft, distinct, t, k)?;
+    Ok(draft)
+}
+
 /// The block of a tree with its lets, which computes the derivative of these exponents. The exponents are of coordinates of
 /// sites; there are at most 64 lets, each sound over the variables and the lets before it, and the tree is sound over all.
 ///
@@ -225,13 +260,7 @@ pub fn lower(
     let numbers = number_all(alloc, &mut distinct, lets.as_slice())?;
     let k = number(&mut distinct, t)?;
     distinct.place(k);
-    let mut draft = Draft {
-        ops: Seq::new(alloc),
-        pairs: Seq::new(alloc),
-        kept: Seq::new(alloc),
-    };
-    put_lets(&mut draft, &distinct, lets.as_slice(), numbers.as_slice())?;
-    put_tree(&mut draft, &distinct, t, k)?;
+    let draft = drafted(alloc, &distinct, lets.as_slice(), numbers.as_slice(), t, k)?;
     let exps = a.copy()?;
     Ok(Block::seal(exps, draft.ops, draft.pairs, 2048))
 }

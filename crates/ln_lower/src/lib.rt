@@ -10,6 +10,3 @@ pub(crate) mod draft;
 pub(crate) mod hints;
 
 pub use blocks::lower;
-
-#[cfg(test)]
-mod tests;

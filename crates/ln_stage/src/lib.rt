@@ -27,8 +27,3 @@ pub use segments::{
 };
 pub use stop::StageStop;
 pub use table::Stages;
-
-#[cfg(test)]
-mod spheres;
-#[cfg(test)]
-mod tests;

@@ -3,7 +3,7 @@ use ln_base::NoMemory;
 use std::alloc::AllocFailed;
 
 /// Why a polynomial has no stages.
-#[derive(Clone, Copy, Debug, PartialEq, Eq)]
+#[derive(Clone, Copy)]
 pub enum StageStop {
     /// The polynomial is 0, without any term.
     Zero,

@@ -23,6 +23,11 @@ use Rattle.ln_code.proofs.Verdicts.Stages.{Turn, rest_is, settled_other, block_t
 use Rattle.ln_code.proofs.Verdicts.Sums.{list_few}
 
 -- ---- the segment at a number
+pub number_within : (part : Part) (p : List ℕ) (k n : ℕ) → k ≡ part.shape.sites → length part.segments ≡ length (prefixes_of part.shape.sites) → slice_get (prefixes_of k) n ≡ Some p → n < length part.segments
+number_within part p k n e size h =
+    let f : slice_get (prefixes_of part.shape.sites) n ≡ Some p = rw (← e) h in
+    omega (arith, slice_get_within (prefixes_of part.shape.sites) n p f, size)
+
 pub segment_is : (part : Part) (p : List ℕ) (k n : ℕ) (s : List ℕ) → k ≡ part.shape.sites → part.shape.sites ≤ 5 → length part.segments ≡ length (prefixes_of part.shape.sites) → slice_get (prefixes_of k) n ≡ Some p → s ≡ get_or part.segments n s → s ≡ segment_of part p
 segment_is part p k n s e few size h i =
     let f : slice_get (prefixes_of part.shape.sites) n ≡ Some p = rw (← e) h in

@@ -50,40 +50,40 @@ returns-in-Let t c =
     let e : typed c.args.t.now ≡ TLet c.in-Let.j (range c.args.t.now.pair) c.args.t.now.width = rw c.in-Let.is refl in
     ok_then c.push-in-Let.result _ _ c.push-in-Let.ensures (λ q. puts_leaf c.args.distinct.now.keys _ _ (TLet c.in-Let.j p w) (typed c.args.t.now) (line (Get c.in-Let.j) p) e q (name c.in-Let.j p w))
 
-pub returns-in_ok-push-in-Neg : goal.returns-in_ok-push-in-Neg
-returns-in_ok-push-in-Neg t c =
+pub returns-in_ok-put_tree-in-Neg : goal.returns-in_ok-put_tree-in-Neg
+returns-in_ok-put_tree-in-Neg t c =
     let p : Range = range c.args.t.now.pair in
     let w : Width = c.args.t.now.width in
     let e : typed c.args.t.now ≡ TNeg (typed c.deref.result.now) (range c.args.t.now.pair) c.args.t.now.width = rw (c.in-Neg.is, c.deref.ensures) refl in
-    ok_then c.put_kept.result _ _ c.put_kept.ensures (λ q. puts_kept c.args.distinct.now.keys _ _ _ (typed c.args.t.now) c.args.k p (sym (pair_typed c.args.t.now)) c.requires.stands (done_neg c.args.distinct.now.keys _ _ _ (typed c.deref.result.now) (typed c.args.t.now) p w e c.in_ok-put_tree-in-Neg.ensures c.in_ok-push-in-Neg.ensures) q)
+    ok_then c.put_done.result _ _ c.put_done.ensures (λ q. puts_kept c.args.distinct.now.keys _ _ _ (typed c.args.t.now) c.args.k p (sym (pair_typed c.args.t.now)) c.requires.stands (done_neg c.args.distinct.now.keys _ _ _ (typed c.deref.result.now) (typed c.args.t.now) p w e c.in_ok-put_tree-in-Neg.ensures q.wrote) q.keeps)
 
-pub returns-in_ok-push-in-Add : goal.returns-in_ok-push-in-Add
-returns-in_ok-push-in-Add t c =
+pub returns-in_ok-put_tree-in-Add-2 : goal.returns-in_ok-put_tree-in-Add-2
+returns-in_ok-put_tree-in-Add-2 t c =
     let p : Range = range c.args.t.now.pair in
     let w : Width = c.args.t.now.width in
     let e : typed c.args.t.now ≡ TTwo Plus (typed c.deref-in-Add.result.now) (typed c.deref-in-Add-2.result.now) (range c.args.t.now.pair) c.args.t.now.width = rw (c.in-Add.is, c.deref-in-Add.ensures, c.deref-in-Add-2.ensures) refl in
-    ok_then c.put_kept-in-Add.result _ _ c.put_kept-in-Add.ensures (λ q. puts_kept c.args.distinct.now.keys _ _ _ (typed c.args.t.now) c.args.k p (sym (pair_typed c.args.t.now)) c.requires.stands (done_two c.args.distinct.now.keys _ _ _ _ Plus (typed c.deref-in-Add.result.now) (typed c.deref-in-Add-2.result.now) (typed c.args.t.now) p w e c.in_ok-put_tree-in-Add.ensures c.in_ok-put_tree-in-Add-2.ensures c.in_ok-push-in-Add.ensures) q)
+    ok_then c.put_done-in-Add.result _ _ c.put_done-in-Add.ensures (λ q. puts_kept c.args.distinct.now.keys _ _ _ (typed c.args.t.now) c.args.k p (sym (pair_typed c.args.t.now)) c.requires.stands (done_two c.args.distinct.now.keys _ _ _ _ Plus (typed c.deref-in-Add.result.now) (typed c.deref-in-Add-2.result.now) (typed c.args.t.now) p w e c.in_ok-put_tree-in-Add.ensures c.in_ok-put_tree-in-Add-2.ensures q.wrote) q.keeps)
 
-pub returns-in_ok-push-in-Sub : goal.returns-in_ok-push-in-Sub
-returns-in_ok-push-in-Sub t c =
+pub returns-in_ok-put_tree-in-Sub-2 : goal.returns-in_ok-put_tree-in-Sub-2
+returns-in_ok-put_tree-in-Sub-2 t c =
     let p : Range = range c.args.t.now.pair in
     let w : Width = c.args.t.now.width in
     let e : typed c.args.t.now ≡ TTwo Minus (typed c.deref-in-Sub.result.now) (typed c.deref-in-Sub-2.result.now) (range c.args.t.now.pair) c.args.t.now.width = rw (c.in-Sub.is, c.deref-in-Sub.ensures, c.deref-in-Sub-2.ensures) refl in
-    ok_then c.put_kept-in-Sub.result _ _ c.put_kept-in-Sub.ensures (λ q. puts_kept c.args.distinct.now.keys _ _ _ (typed c.args.t.now) c.args.k p (sym (pair_typed c.args.t.now)) c.requires.stands (done_two c.args.distinct.now.keys _ _ _ _ Minus (typed c.deref-in-Sub.result.now) (typed c.deref-in-Sub-2.result.now) (typed c.args.t.now) p w e c.in_ok-put_tree-in-Sub.ensures c.in_ok-put_tree-in-Sub-2.ensures c.in_ok-push-in-Sub.ensures) q)
+    ok_then c.put_done-in-Sub.result _ _ c.put_done-in-Sub.ensures (λ q. puts_kept c.args.distinct.now.keys _ _ _ (typed c.args.t.now) c.args.k p (sym (pair_typed c.args.t.now)) c.requires.stands (done_two c.args.distinct.now.keys _ _ _ _ Minus (typed c.deref-in-Sub.result.now) (typed c.deref-in-Sub-2.result.now) (typed c.args.t.now) p w e c.in_ok-put_tree-in-Sub.ensures c.in_ok-put_tree-in-Sub-2.ensures q.wrote) q.keeps)
 
-pub returns-in_ok-push-in-Mul : goal.returns-in_ok-push-in-Mul
-returns-in_ok-push-in-Mul t c =
+pub returns-in_ok-put_tree-in-Mul-2 : goal.returns-in_ok-put_tree-in-Mul-2
+returns-in_ok-put_tree-in-Mul-2 t c =
     let p : Range = range c.args.t.now.pair in
     let w : Width = c.args.t.now.width in
     let e : typed c.args.t.now ≡ TTwo Times (typed c.deref-in-Mul.result.now) (typed c.deref-in-Mul-2.result.now) (range c.args.t.now.pair) c.args.t.now.width = rw (c.in-Mul.is, c.deref-in-Mul.ensures, c.deref-in-Mul-2.ensures) refl in
-    ok_then c.put_kept-in-Mul.result _ _ c.put_kept-in-Mul.ensures (λ q. puts_kept c.args.distinct.now.keys _ _ _ (typed c.args.t.now) c.args.k p (sym (pair_typed c.args.t.now)) c.requires.stands (done_two c.args.distinct.now.keys _ _ _ _ Times (typed c.deref-in-Mul.result.now) (typed c.deref-in-Mul-2.result.now) (typed c.args.t.now) p w e c.in_ok-put_tree-in-Mul.ensures c.in_ok-put_tree-in-Mul-2.ensures c.in_ok-push-in-Mul.ensures) q)
+    ok_then c.put_done-in-Mul.result _ _ c.put_done-in-Mul.ensures (λ q. puts_kept c.args.distinct.now.keys _ _ _ (typed c.args.t.now) c.args.k p (sym (pair_typed c.args.t.now)) c.requires.stands (done_two c.args.distinct.now.keys _ _ _ _ Times (typed c.deref-in-Mul.result.now) (typed c.deref-in-Mul-2.result.now) (typed c.args.t.now) p w e c.in_ok-put_tree-in-Mul.ensures c.in_ok-put_tree-in-Mul-2.ensures q.wrote) q.keeps)
 
-pub returns-in_ok-push-in-Pow : goal.returns-in_ok-push-in-Pow
-returns-in_ok-push-in-Pow t c =
+pub returns-then-n-eq0 : goal.returns-then-n-eq0
+returns-then-n-eq0 t c =
     let p : Range = range c.args.t.now.pair in
     let w : Width = c.args.t.now.width in
     let e : typed c.args.t.now ≡ TPow (typed c.in-Pow.x.value) c.in-Pow.n (range c.args.t.now.pair) c.args.t.now.width = rw c.in-Pow.is refl in
-    ok_then c.put_kept-then-n-eq0.result _ _ c.put_kept-then-n-eq0.ensures (λ q. puts_kept c.args.distinct.now.keys _ _ _ (typed c.args.t.now) c.args.k p (sym (pair_typed c.args.t.now)) c.requires.stands (done_zeroth c.args.distinct.now.keys _ _ (typed c.in-Pow.x.value) (typed c.args.t.now) c.in-Pow.n p w e c.if-n-eq0.true c.in_ok-push-in-Pow.ensures) q)
+    ok_then c.put_done-then-n-eq0.result _ _ c.put_done-then-n-eq0.ensures (λ q. puts_kept c.args.distinct.now.keys _ _ _ (typed c.args.t.now) c.args.k p (sym (pair_typed c.args.t.now)) c.requires.stands (done_zeroth c.args.distinct.now.keys _ _ (typed c.in-Pow.x.value) (typed c.args.t.now) c.in-Pow.n p w e c.if-n-eq0.true q.wrote) q.keeps)
 
 pub returns-in_ok-put_power-in-Pow : goal.returns-in_ok-put_power-in-Pow
 returns-in_ok-put_power-in-Pow t c =
@@ -91,4 +91,4 @@ returns-in_ok-put_power-in-Pow t c =
     let w : Width = c.args.t.now.width in
     let e : typed c.args.t.now ≡ TPow (typed c.deref-else-n-eq0.result.now) c.in-Pow.n (range c.args.t.now.pair) c.args.t.now.width = rw (c.in-Pow.is, c.deref-else-n-eq0.ensures) refl in
     let f : range c.deref-else-n-eq0-2.result.now.pair ≡ pair (typed c.deref-else-n-eq0.result.now) = rw (c.deref-else-n-eq0-2.ensures, c.deref-else-n-eq0.ensures) (sym (pair_typed c.in-Pow.x.value)) in
-    ok_then c.put_kept-else-n-eq0.result _ _ c.put_kept-else-n-eq0.ensures (λ q. puts_kept c.args.distinct.now.keys _ _ _ (typed c.args.t.now) c.args.k p (sym (pair_typed c.args.t.now)) c.requires.stands (done_power c.args.distinct.now.keys _ _ _ (typed c.deref-else-n-eq0.result.now) (typed c.args.t.now) c.in-Pow.n (c.in-Pow.n - 1) p (range c.deref-else-n-eq0-2.result.now.pair) w e c.if-n-eq0.false refl f c.in_ok-put_tree-in-Pow.ensures c.in_ok-put_power-in-Pow.ensures) q)
+    ok_then c.put_kept.result _ _ c.put_kept.ensures (λ q. puts_kept c.args.distinct.now.keys _ _ _ (typed c.args.t.now) c.args.k p (sym (pair_typed c.args.t.now)) c.requires.stands (done_power c.args.distinct.now.keys _ _ _ (typed c.deref-else-n-eq0.result.now) (typed c.args.t.now) c.in-Pow.n (c.in-Pow.n - 1) p (range c.deref-else-n-eq0-2.result.now.pair) w e c.if-n-eq0.false refl f c.in_ok-put_tree-in-Pow.ensures c.in_ok-put_power-in-Pow.ensures) q)
