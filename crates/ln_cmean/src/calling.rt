@@ -16,7 +16,7 @@ use ln_csyn::{CFile, CFun, CType};
 
 /// What a call gives: its sign, how many `+`, `-`, `*`, `/` and unary `-` were evaluated in `__int128`, and how many functions the called
 /// one called. Both counts stay at 4,294,967,295 once there.
-#[derive(Clone, Copy, Debug, PartialEq, Eq)]
+#[derive(Clone, Copy, PartialEq, Eq)]
 pub struct CAnswer {
     pub sign: i32,
     pub wide: u32,
@@ -24,7 +24,7 @@ pub struct CAnswer {
 }
 
 /// Why a call gives nothing.
-#[derive(Clone, Copy, Debug, PartialEq, Eq)]
+#[derive(Clone, Copy, PartialEq, Eq)]
 pub enum CFault {
     /// No function with two parameters has the name.
     NoFunction,

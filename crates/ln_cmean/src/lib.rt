@@ -16,6 +16,3 @@ mod scratch;
 
 pub use calling::{CAnswer, CFault, call};
 pub use scratch::CScratch;
-
-#[cfg(test)]
-mod tests;

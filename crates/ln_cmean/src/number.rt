@@ -63,8 +63,8 @@ pub fn enter(counts: &mut Counts)
     counts.calls = counts.calls.saturating_add(1);
 }
 
-/// A further operation in this type.
-pub(crate) fn count(kind: CType, counts: &mut Counts)
+// A further operation in this type.
+fn count(kind: CType, counts: &mut Counts)
     ensures { tally counts.new ≡ counted kind (tally counts.old) }
 {
     match kind {

@@ -55,12 +55,16 @@ ReadExpr = List Token → Option (Expr × List Token)
 abbrev pub cast_at : List Token → Option (CType × List Token)
 cast_at ts = go_on (eat (codes "(") ts) (λ us. go_on (type_at us) (λ t. go_on (eat (codes ")") t.1) (λ r. Some (t.0, r))))
 
+-- an expression, and what is behind a token with this text behind it
+abbrev pub closed : List ℕ → ReadExpr → ReadExpr
+closed text go ts = go_on (go ts) (λ e. go_on (eat text e.1) (λ r. Some (e.0, r)))
+
 abbrev pub minus_rest : ReadExpr → ReadExpr
-minus_rest go ts = go_on (go ts) (λ a. go_on (eat (codes ")") a.1) (λ r. Some (Minus a.0, r)))
+minus_rest go ts = go_on (closed (codes ")") go ts) (λ a. Some (Minus a.0, a.1))
 
 abbrev pub two_rest : ReadExpr → ReadExpr
 two_rest go ts = go_on (go ts)
-    (λ a. go_on (op_at a.1) (λ o. go_on (go o.1) (λ b. go_on (eat (codes ")") b.1) (λ r. Some (Two o.0 a.0 b.0, r)))))
+    (λ a. go_on (op_at a.1) (λ o. go_on (closed (codes ")") go o.1) (λ b. Some (Two o.0 a.0 b.0, b.1))))
 
 -- `v[N]` or `x[N]`
 abbrev pub place_of : CType → List ℕ → ℕ → Option Expr
@@ -111,14 +115,14 @@ line_at (t ∷ ts) = t.line
 
 abbrev pub decl_rest : ReadExpr → ℕ → CType → ReadStmt
 decl_rest go l t ts = go_on (name_at ts)
-    (λ x. go_on (eat (codes "=") x.1) (λ us. go_on (go us) (λ e. go_on (eat (codes ";") e.1) (λ r. Some (Decl l t x.0 e.0, r)))))
+    (λ x. go_on (eat (codes "=") x.1) (λ us. go_on (closed (codes ";") go us) (λ e. Some (Decl l t x.0 e.0, e.1))))
 
 abbrev pub if_rest : ReadExpr → ReadBlock → ℕ → ReadStmt
 if_rest go block l ts = go_on (eat (codes "(") ts)
-    (λ us. go_on (go us) (λ e. go_on (eat (codes ")") e.1) (λ ws. go_on (block ws) (λ b. Some (If l e.0 b.0, b.2)))))
+    (λ us. go_on (closed (codes ")") go us) (λ e. go_on (block e.1) (λ b. Some (If l e.0 b.0, b.2))))
 
 abbrev pub return_rest : ReadExpr → ℕ → ReadStmt
-return_rest go l ts = go_on (go ts) (λ e. go_on (eat (codes ";") e.1) (λ r. Some (Return l e.0, r)))
+return_rest go l ts = go_on (closed (codes ";") go ts) (λ e. Some (Return l e.0, e.1))
 
 abbrev pub group_rest : ReadBlock → ℕ → ReadStmt
 group_rest block l ts = go_on (block ts) (λ b. Some (Group l b.0, b.2))
@@ -157,14 +161,18 @@ both_rest ts = go_on (eat (codes "x") ts)
 abbrev pub parameters_at : List Token → Option (Bool × List Token)
 parameters_at ts = go_on (pointer_at ts) (λ us. choose (eat (codes "v") us) (λ r. Some (false, r)) (both_rest us))
 
-abbrev pub head_at : ReadBlock → Bool → List Token → Option (Fun × List Token)
-head_at block own ts =
+-- what stands before a body: the name, and whether there is the parameter x
+abbrev pub words_at : List Token → Option (List ℕ × Bool × List Token)
+words_at ts =
     go_on (eat (codes "int") ts) (λ us.
     go_on (name_at us) (λ x.
     go_on (eat (codes "(") x.1) (λ ws.
     go_on (parameters_at ws) (λ i.
-    go_on (eat (codes ")") i.1) (λ vs.
-    go_on (block vs) (λ b. Some (record { own = own; name = x.0; indexed = i.0; body = b.0; end = b.1 }, b.2)))))))
+    go_on (eat (codes ")") i.1) (λ r. Some (x.0, i.0, r))))))
+
+abbrev pub head_at : ReadBlock → Bool → List Token → Option (Fun × List Token)
+head_at block own ts = go_on (words_at ts)
+    (λ h. go_on (block h.2) (λ b. Some (record { own = own; name = h.0; indexed = h.1; body = b.0; end = b.1 }, b.2)))
 
 abbrev pub fun_at : ReadBlock → List Token → Option (Fun × List Token)
 fun_at block ts = choose (eat (codes "static") ts) (head_at block true) (head_at block false ts)

@@ -6,7 +6,7 @@ ghost use Rattle.ln_csyn.specs.View.{expr_tree, stmt_front, body_tree};
 ghost use Rattle.ln_csyn.specs.declared.stop.CStop.TheVariants.{NotSubset};
 ghost use Rattle.ln_csyn.specs.Reading.{expr_at, decl_rest, if_rest, return_rest, group_rest, stmt_at, stmts_at, block_at};
 
-use crate::expr::{copied, expr};
+use crate::expr::{closed, copied};
 use crate::stop::CStop;
 use crate::token::{Token, begins, eat, from, line_at, name_at, type_at};
 use crate::tree::{CExpr, CForm, CStmt, CType};
@@ -43,11 +43,8 @@ fn decl_rest<'t, 'a>(
     let Some(rest) = eat(rest, b"=".as_slice()) else {
         return Err(CStop::NotSubset);
     };
-    let (e, rest) = expr(alloc, rest, depth)?;
-    let Some(rest) = eat(rest, b";".as_slice()) else {
-        return Err(CStop::NotSubset);
-    };
     let name = copied(alloc, name)?;
+    let (e, rest) = closed(alloc, rest, depth, b";".as_slice())?;
     Ok((declared(line, kind, name, e), rest))
 }
 
@@ -60,10 +57,7 @@ fn return_rest<'t, 'a>(
     ensures ok { IfOk result (λ y. return_rest (expr_at depth) line (tokens_of tokens.now) ≡ Some (stmt_front y.0, tokens_of y.1.now)) }
     ensures err { IfErr result (λ e. e ≡ NotSubset → return_rest (expr_at depth) line (tokens_of tokens.now) ≡ None) }
 {
-    let (e, rest) = expr(alloc, tokens, depth)?;
-    let Some(rest) = eat(rest, b";".as_slice()) else {
-        return Err(CStop::NotSubset);
-    };
+    let (e, rest) = closed(alloc, tokens, depth, b";".as_slice())?;
     let form = CForm::Return(e);
     Ok((CStmt { line, form }, rest))
 }
@@ -85,10 +79,7 @@ fn if_rest<'t, 'a>(
     let Some(rest) = eat(tokens, b"(".as_slice()) else {
         return Err(CStop::NotSubset);
     };
-    let (e, rest) = expr(alloc, rest, depths.inner)?;
-    let Some(rest) = eat(rest, b")".as_slice()) else {
-        return Err(CStop::NotSubset);
-    };
+    let (e, rest) = closed(alloc, rest, depths.inner, b")".as_slice())?;
     let (body, _, rest) = block(alloc, rest, depths, braces)?;
     let form = CForm::If(e, body);
     Ok((CStmt { line, form }, rest))

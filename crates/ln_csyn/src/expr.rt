@@ -3,12 +3,13 @@ ghost use Rattle.std.specs.Prelude.{◌≡◌, None, Some, IfOk, IfErr, Option, 
 ghost use Rattle.ln_csyn.specs.Seen.{tokens_of};
 ghost use Rattle.ln_csyn.specs.View.{expr_tree};
 ghost use Rattle.ln_csyn.specs.declared.stop.CStop.TheVariants.{NotSubset, NoMemory as OutOfMemory};
-ghost use Rattle.ln_csyn.specs.Reading.{eat, cast_at, minus_rest, two_rest, place_of, place_rest};
+ghost use Rattle.ln_csyn.specs.Tree.{Two};
+ghost use Rattle.ln_csyn.specs.Reading.{eat, cast_at, closed, minus_rest, two_rest, place_of, place_rest};
 ghost use Rattle.ln_csyn.specs.Reading.{call_rest, named, primary, cast_rest, inside, expr_at};
 
 use crate::stop::CStop;
 use crate::token::{Token, eat, name_at, number_at, op_at, type_at};
-use crate::tree::{CExpr, CPrim, CType};
+use crate::tree::{CExpr, COp, CPrim, CType};
 use ln_base::Seq;
 use std::alloc::Global;
 
@@ -159,12 +160,19 @@ fn minus_rest<'t, 'a>(
     ensures ok { IfOk result (λ y. minus_rest (expr_at depth) (tokens_of tokens.now) ≡ Some (expr_tree y.0, tokens_of y.1.now)) }
     ensures err { IfErr result (λ e. e ≡ NotSubset → minus_rest (expr_at depth) (tokens_of tokens.now) ≡ None) }
 {
-    let (a, rest) = expr(alloc, tokens, depth)?;
-    let Some(rest) = eat(rest, b")".as_slice()) else {
-        return Err(CStop::NotSubset);
-    };
+    let (a, rest) = closed(alloc, tokens, depth, b")".as_slice())?;
     let a = Box::new(alloc, a)?;
     Ok((CExpr::Minus(a), rest))
+}
+
+// An operation on two operands.
+fn both(alloc: Global, op: COp, a: CExpr, b: CExpr) -> Result<CExpr, CStop>
+    ensures ok { IfOk result (λ e. expr_tree e ≡ Two op (expr_tree a) (expr_tree b)) }
+    ensures err { IfErr result (λ e. e ≡ OutOfMemory) }
+{
+    let a = Box::new(alloc, a)?;
+    let b = Box::new(alloc, b)?;
+    Ok(CExpr::Two(op, a, b))
 }
 
 #[cycle(expr)]
@@ -180,13 +188,9 @@ fn two_rest<'t, 'a>(
     let Some((op, rest)) = op_at(rest) else {
         return Err(CStop::NotSubset);
     };
-    let (b, rest) = expr(alloc, rest, depth)?;
-    let Some(rest) = eat(rest, b")".as_slice()) else {
-        return Err(CStop::NotSubset);
-    };
-    let a = Box::new(alloc, a)?;
-    let b = Box::new(alloc, b)?;
-    Ok((CExpr::Two(op, a, b), rest))
+    let (b, rest) = closed(alloc, rest, depth, b")".as_slice())?;
+    let e = both(alloc, op, a, b)?;
+    Ok((e, rest))
 }
 
 #[cycle(expr)]
@@ -205,6 +209,24 @@ fn inside<'t, 'a>(
         return cast_rest(alloc, kind, rest, depth);
     }
     two_rest(alloc, tokens, depth)
+}
+
+/// The expression at the front, and what is behind the token of this text that stands behind it.
+#[cycle(expr)]
+pub fn closed<'t, 'a>(
+    alloc: Global,
+    tokens: &'t [Token<'a>],
+    depth: u32,
+    text: &[u8],
+) -> Result<(CExpr, &'t [Token<'a>]), CStop>
+    ensures ok { IfOk result (λ y. closed text.now (expr_at depth) (tokens_of tokens.now) ≡ Some (expr_tree y.0, tokens_of y.1.now)) }
+    ensures err { IfErr result (λ e. e ≡ NotSubset → closed text.now (expr_at depth) (tokens_of tokens.now) ≡ None) }
+{
+    let (e, rest) = expr(alloc, tokens, depth)?;
+    match eat(rest, text) {
+        Some(rest) => Ok((e, rest)),
+        None => Err(CStop::NotSubset),
+    }
 }
 
 /// The expression at the front, and what is behind it.

@@ -3,7 +3,7 @@ ghost use Rattle.std.specs.Prelude.{◌≡◌, ◌<◌, suc, None, Some, IfOk, I
 ghost use Rattle.ln_csyn.specs.Seen.{tokens_of};
 ghost use Rattle.ln_csyn.specs.View.{fun_tree};
 ghost use Rattle.ln_csyn.specs.declared.stop.CStop.TheVariants.{NotSubset};
-ghost use Rattle.ln_csyn.specs.Reading.{block_at, pointer_at, both_rest, parameters_at, head_at, fun_at, funs_at};
+ghost use Rattle.ln_csyn.specs.Reading.{block_at, pointer_at, both_rest, parameters_at, words_at, head_at, fun_at, funs_at};
 
 use crate::body::{Depths, block};
 use crate::expr::copied;
@@ -54,6 +54,28 @@ fn parameters_at<'t, 'a>(tokens: &'t [Token<'a>]) -> Option<(bool, &'t [Token<'a
     both_rest(rest)
 }
 
+// What stands before a body: the name, and whether there is the parameter `x`.
+fn words_at<'t, 'a>(tokens: &'t [Token<'a>]) -> Option<(&'a [u8], bool, &'t [Token<'a>])>
+    ensures { option_map (λ y. (y.0.now, y.1, tokens_of y.2.now)) result ≡ words_at (tokens_of tokens.now) }
+{
+    let Some(rest) = eat(tokens, b"int".as_slice()) else {
+        return None;
+    };
+    let Some((name, rest)) = name_at(rest) else {
+        return None;
+    };
+    let Some(rest) = eat(rest, b"(".as_slice()) else {
+        return None;
+    };
+    let Some((indexed, rest)) = parameters_at(rest) else {
+        return None;
+    };
+    match eat(rest, b")".as_slice()) {
+        Some(rest) => Some((name, indexed, rest)),
+        None => None,
+    }
+}
+
 fn head_at<'t, 'a>(
     alloc: Global,
     own: bool,
@@ -67,23 +89,11 @@ fn head_at<'t, 'a>(
     ensures err { IfErr result (λ e. e ≡ NotSubset →
         head_at (block_at depths.outer depths.inner braces) own (tokens_of tokens.now) ≡ None) }
 {
-    let Some(rest) = eat(tokens, b"int".as_slice()) else {
+    let Some((name, indexed, rest)) = words_at(tokens) else {
         return Err(CStop::NotSubset);
     };
-    let Some((name, rest)) = name_at(rest) else {
-        return Err(CStop::NotSubset);
-    };
-    let Some(rest) = eat(rest, b"(".as_slice()) else {
-        return Err(CStop::NotSubset);
-    };
-    let Some((indexed, rest)) = parameters_at(rest) else {
-        return Err(CStop::NotSubset);
-    };
-    let Some(rest) = eat(rest, b")".as_slice()) else {
-        return Err(CStop::NotSubset);
-    };
-    let (body, end, rest) = block(alloc, rest, depths, braces)?;
     let name = copied(alloc, name)?;
+    let (body, end, rest) = block(alloc, rest, depths, braces)?;
     let f = CFun {
         own,
         name,

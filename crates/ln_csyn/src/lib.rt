@@ -16,8 +16,6 @@ pub mod read;
 pub mod scan;
 pub mod spell;
 pub mod stop;
-#[cfg(test)]
-mod tests;
 pub mod token;
 pub mod tree;
 pub mod word;

@@ -4,7 +4,7 @@ ghost use Rattle.ln_csyn.specs.View.{expr_tree, stmt_front, body_tree, fun_tree}
 ghost use Rattle.ln_csyn.specs.Tree.{Body, Fun, Two, Minus, Number, Name, Value, Index, Call, Inner};
 ghost use Rattle.ln_csyn.specs.Spelling.{Puts, lexeme, type_text, op_text, cast_before, place_before, spell, Goes, spell_body};
 ghost use Rattle.ln_csyn.specs.Spelling.{spell_parameters, spell_own, spell_fun, spell_file, written, flat_file};
-ghost use Rattle.ln_csyn.specs.Text.{CText};
+ghost use Rattle.ln_csyn.specs.Text.{CText, first_line};
 ghost use Rattle.ln_csyn.specs.Lines.{SameUpToLines};
 
 use crate::read::CFile;
@@ -24,9 +24,16 @@ pub fn write_c(alloc: Global, f: &CFile) -> Result<Vec<u8>, NoMemory>
     ensures back { IfOk result (λ v. (gs : List Fun) → CText v.items gs → SameUpToLines gs (map fun_tree f.now.funs)) }
 {
     let mut out = Vec::new(alloc);
-    out.extend_from_slice(b"#include <stdint.h>\n".as_slice())?;
-    put_funs(&mut out, f.funs.as_slice())?;
+    put_file(&mut out, f.funs.as_slice())?;
     Ok(out)
+}
+
+fn put_file(out: &mut Vec<u8>, funs: &[CFun]) -> Result<(), NoMemory>
+    ensures { IfOk result (λ x. out.new.items ≡ (out.old.items ++ first_line) ++ written (spell_file (map fun_tree funs.now))) }
+{
+    out.extend_from_slice(b"#include <stdint.h>\n".as_slice())?;
+    put_funs(out, funs)?;
+    Ok(())
 }
 
 fn put_funs(out: &mut Vec<u8>, funs: &[CFun]) -> Result<(), NoMemory>

@@ -10,8 +10,8 @@ use Rattle.ln_csyn.specs.Grammar.{Token, Sort, Derives, IsBody}
 use Rattle.ln_csyn.specs.Grammar as g
 use Rattle.ln_csyn.specs.declared.tree.CStmt.{CStmt}
 use Rattle.ln_csyn.specs.View.{Front, joined, stmt_front, body_tree}
-use Rattle.ln_csyn.specs.Reading.{begins as begins_text, eat, go_on, type_at, stmt_at, stmts_at, block_at, expr_at, name_at, ReadStmt}
-use Rattle.ln_csyn.proofs.Reading.Sound.{went, chose, some_same, ate, took_type, was_named, expr_sound}
+use Rattle.ln_csyn.specs.Reading.{begins as begins_text, eat, go_on, type_at, stmt_at, stmts_at, block_at, closed, expr_at, name_at, ReadStmt}
+use Rattle.ln_csyn.proofs.Reading.Sound.{went, chose, some_same, ate, took_type, was_named, closes, expr_sound}
 use Rattle.ln_csyn.proofs.Reading.SoundFile.{block_sound}
 
 -- these fronts before a body
@@ -146,8 +146,8 @@ typed ts y h = let a = took_type ts y h in first_of a.t ts y.1 a.is
 called : (ts : List Token) (y : List ℕ × List Token) → name_at ts ≡ Some y → Leaves ts y.1
 called ts y h = let a = was_named ts y h in first_of a.t ts y.1 a.is
 
-exprs : (d : ℕ) (ts : List Token) (y : Expr × List Token) → expr_at d ts ≡ Some y → Leaves ts y.1
-exprs d ts y h = leaves_expr (expr_sound d ts y h).is
+exprs : (u : List ℕ) (d : ℕ) (ts : List Token) (y : Expr × List Token) → closed u (expr_at d) ts ≡ Some y → Leaves ts y.1
+exprs u d ts y h = let c = closes u d (expr_at d) (expr_sound d) ts y h in after (leaves_expr c.is) one
 
 blocks : (p k : ℕ) (ts : List Token) (y : Body × ℕ × List Token) → block_at (suc p) p k ts ≡ Some y → Leaves ts y.2
 blocks p k ts y h = let s = block_sound p k ts y h in after (first_of s.o ts s.us s.at) (leaves_body s.is s.q y.2 refl)
@@ -158,22 +158,19 @@ leaves p k ts s h =
     elim (chose (type_at ts) _ _ s h) [
       | inl w ↦ (let x = went (name_at w.x.1) _ s w.next in
           let q = went (eat (codes "=") x.x.1) _ s x.next in
-          let e = went (expr_at (suc p) q.x) _ s q.next in
-          let z = went (eat (codes ";") e.x.1) _ s e.next in
-          let l = after (typed ts w.x w.found) (after (called w.x.1 x.x x.found) (after (eaten (codes "=") x.x.1 q.x q.found) (after (exprs (suc p) q.x e.x e.found) (eaten (codes ";") e.x.1 z.x z.found)))) in
-          subst (λ (y : (Body → Body) × List Token). Leaves ts y.1) (some_same _ s z.next) l)
+          let e = went (closed (codes ";") (expr_at (suc p)) q.x) _ s q.next in
+          let l = after (typed ts w.x w.found) (after (called w.x.1 x.x x.found) (after (eaten (codes "=") x.x.1 q.x q.found) (exprs (codes ";") (suc p) q.x e.x e.found))) in
+          subst (λ (y : (Body → Body) × List Token). Leaves ts y.1) (some_same _ s e.next) l)
       | inr j ↦ elim (chose (eat (codes "if") ts) _ _ s j) [
         | inl w ↦ (let a = went (eat (codes "(") w.x) _ s w.next in
-            let e = went (expr_at p a.x) _ s a.next in
-            let r = went (eat (codes ")") e.x.1) _ s e.next in
-            let b = went (block_at (suc p) p k r.x) _ s r.next in
-            let l = after (eaten (codes "if") ts w.x w.found) (after (eaten (codes "(") w.x a.x a.found) (after (exprs p a.x e.x e.found) (after (eaten (codes ")") e.x.1 r.x r.found) (blocks p k r.x b.x b.found)))) in
+            let e = went (closed (codes ")") (expr_at p) a.x) _ s a.next in
+            let b = went (block_at (suc p) p k e.x.1) _ s e.next in
+            let l = after (eaten (codes "if") ts w.x w.found) (after (eaten (codes "(") w.x a.x a.found) (after (exprs (codes ")") p a.x e.x e.found) (blocks p k e.x.1 b.x b.found))) in
             subst (λ (y : (Body → Body) × List Token). Leaves ts y.1) (some_same _ s b.next) l)
         | inr i ↦ elim (chose (eat (codes "return") ts) _ _ s i) [
-          | inl w ↦ (let e = went (expr_at (suc p) w.x) _ s w.next in
-              let z = went (eat (codes ";") e.x.1) _ s e.next in
-              let l = after (eaten (codes "return") ts w.x w.found) (after (exprs (suc p) w.x e.x e.found) (eaten (codes ";") e.x.1 z.x z.found)) in
-              subst (λ (y : (Body → Body) × List Token). Leaves ts y.1) (some_same _ s z.next) l)
+          | inl w ↦ (let e = went (closed (codes ";") (expr_at (suc p)) w.x) _ s w.next in
+              let l = after (eaten (codes "return") ts w.x w.found) (exprs (codes ";") (suc p) w.x e.x e.found) in
+              subst (λ (y : (Body → Body) × List Token). Leaves ts y.1) (some_same _ s e.next) l)
           | inr f ↦ (let b = went (block_at (suc p) p k ts) _ s f in
               subst (λ (y : (Body → Body) × List Token). Leaves ts y.1) (some_same _ s b.next) (blocks p k ts b.x b.found))
         ]

@@ -8,7 +8,7 @@ use Rattle.ln_csyn.specs.declared.tree.COp.{COp}
 use Rattle.ln_csyn.specs.Tree.{Expr, Number, Value, Index, Call, Inner}
 use Rattle.ln_csyn.specs.Words.{is_c_name, number_of, type_of, op_of}
 use Rattle.ln_csyn.specs.Grammar.{Token, Sort, Whole, Primary, Derives, two, minus, cast, number, name, value, index, call, inner}
-use Rattle.ln_csyn.specs.Reading.{go_on, choose, eat, with_rest, type_at, number_at, op_at, name_at, cast_at, cast_rest, minus_rest, two_rest, primary, named, place_rest, place_of, call_rest, inside, expr_at, ReadExpr}
+use Rattle.ln_csyn.specs.Reading.{go_on, choose, eat, with_rest, type_at, number_at, op_at, name_at, cast_at, cast_rest, closed, minus_rest, two_rest, primary, named, place_rest, place_of, call_rest, inside, expr_at, ReadExpr}
 use Rattle.ln_csyn.specs.Keeps.{parens}
 
 -- it went on with this
@@ -102,28 +102,38 @@ pub record Sound (s : Sort) (d : ℕ) (ts : List Token) (y : Expr × List Token)
 abbrev pub IsSound : ℕ → ReadExpr → Type 0
 IsSound d go = (ts : List Token) (y : Expr × List Token) → go ts ≡ Some y → Sound Whole d ts y
 
-minus_sound : (d : ℕ) (go : ReadExpr) → IsSound d go → (p q : Token) → p.text ≡ codes "(" → q.text ≡ codes "-" → (ts : List Token) (y : Expr × List Token) → minus_rest go ts ≡ Some y → Sound Whole (suc d) (p ∷ q ∷ ts) y
-minus_sound d go hyp p q hp hq ts y h =
+-- an expression, with a token of this text behind it
+pub record Closes (u : List ℕ) (d : ℕ) (ts : List Token) (y : Expr × List Token) : Type 0 where
+  pub t : Token
+  pub text : t.text ≡ u
+  pub is : Derives Whole ts (t ∷ y.1) y.0
+  pub within : parens y.0 ≤ d
+
+pub closes : (u : List ℕ) (d : ℕ) (go : ReadExpr) → IsSound d go → (ts : List Token) (y : Expr × List Token) → closed u go ts ≡ Some y → Closes u d ts y
+closes u d go hyp ts y h =
     let w = went (go ts) _ y h in
-    let v = went (eat (codes ")") w.x.1) _ y w.next in
-    let a = ate (codes ")") w.x.1 v.x v.found in
+    let v = went (eat u w.x.1) _ y w.next in
+    let a = ate u w.x.1 v.x v.found in
     let s = hyp ts w.x w.found in
     let m : Derives Whole ts (a.t ∷ v.x) w.x.0 = subst (λ (z : List Token). Derives Whole ts z w.x.0) a.is s.is in
-    subst (λ (z : Expr × List Token). Sound Whole (suc d) (p ∷ q ∷ ts) z) (some_same _ y v.next) (record { is = minus hp hq m a.text; within = omega (arith, s.within) })
+    subst (λ (z : Expr × List Token). Closes u d ts z) (some_same _ y v.next) (record { t = a.t; text = a.text; is = m; within = s.within })
+
+minus_sound : (d : ℕ) (go : ReadExpr) → IsSound d go → (p q : Token) → p.text ≡ codes "(" → q.text ≡ codes "-" → (ts : List Token) (y : Expr × List Token) → minus_rest go ts ≡ Some y → Sound Whole (suc d) (p ∷ q ∷ ts) y
+minus_sound d go hyp p q hp hq ts y h =
+    let w = went (closed (codes ")") go ts) _ y h in
+    let s = closes (codes ")") d go hyp ts w.x w.found in
+    subst (λ (z : Expr × List Token). Sound Whole (suc d) (p ∷ q ∷ ts) z) (some_same _ y w.next) (record { is = minus hp hq s.is s.text; within = omega (arith, s.within) })
 
 two_sound : (d : ℕ) (go : ReadExpr) → IsSound d go → (p : Token) → p.text ≡ codes "(" → (ts : List Token) (y : Expr × List Token) → two_rest go ts ≡ Some y → Sound Whole (suc d) (p ∷ ts) y
 two_sound d go hyp p hp ts y h =
     let w = went (go ts) _ y h in
     let o = went (op_at w.x.1) _ y w.next in
-    let u = went (go o.x.1) _ y o.next in
-    let v = went (eat (codes ")") u.x.1) _ y u.next in
-    let a = ate (codes ")") u.x.1 v.x v.found in
+    let u = went (closed (codes ")") go o.x.1) _ y o.next in
     let k = took_op w.x.1 o.x o.found in
     let s = hyp ts w.x w.found in
-    let r = hyp o.x.1 u.x u.found in
+    let r = closes (codes ")") d go hyp o.x.1 u.x u.found in
     let m : Derives Whole ts (k.t ∷ o.x.1) w.x.0 = subst (λ (z : List Token). Derives Whole ts z w.x.0) k.is s.is in
-    let n : Derives Whole o.x.1 (a.t ∷ v.x) u.x.0 = subst (λ (z : List Token). Derives Whole o.x.1 z u.x.0) a.is r.is in
-    subst (λ (z : Expr × List Token). Sound Whole (suc d) (p ∷ ts) z) (some_same _ y v.next) (record { is = two hp m k.reads n a.text; within = omega (arith, max-le s.within r.within) })
+    subst (λ (z : Expr × List Token). Sound Whole (suc d) (p ∷ ts) z) (some_same _ y u.next) (record { is = two hp m k.reads r.is r.text; within = omega (arith, max-le s.within r.within) })
 
 -- the `( TYPE )` of a cast stood there
 record Casts (ts : List Token) (y : CType × List Token) : Type 0 where

@@ -8,9 +8,9 @@ use Rattle.ln_csyn.specs.Tree.{Body, End, Decl, Group, If, Fun}
 use Rattle.ln_csyn.specs.Words.{type_of}
 use Rattle.ln_csyn.specs.Grammar.{Token, IsExpr, IsBody, end, decl, group, when, return, IsPointer, pointer, IsParameters, one, both, IsHead, head, IsFun, own, shared, IsFile}
 use Rattle.ln_csyn.specs.Grammar as g
-use Rattle.ln_csyn.specs.Reading.{eat, type_at, name_at, line_at, expr_at, decl_rest, if_rest, return_rest, group_rest, stmt_at, stmts_at, block_at, pointer_at, both_rest, parameters_at, head_at, fun_at, funs_at, ReadStmt, ReadBlock}
+use Rattle.ln_csyn.specs.Reading.{eat, type_at, name_at, line_at, expr_at, closed, decl_rest, if_rest, return_rest, group_rest, stmt_at, stmts_at, block_at, pointer_at, both_rest, parameters_at, words_at, head_at, fun_at, funs_at, ReadStmt, ReadBlock}
 use Rattle.ln_csyn.specs.Keeps.{parens, parens_in, braces_in, is_small, each_fun}
-use Rattle.ln_csyn.proofs.Reading.Sound.{went, chose, some_same, ate, took_type, was_named, expr_sound}
+use Rattle.ln_csyn.proofs.Reading.Sound.{went, chose, some_same, ate, took_type, was_named, closes, expr_sound}
 use Rattle.ln_csyn.proofs.Reading.CompleteFile.{Within, AllWithin}
 use Rattle.ln_csyn.specs.Laws.{FileIsSound}
 
@@ -49,17 +49,14 @@ decl_sound : (p k : ℕ) (m : Token) (t : CType) → type_of m.text ≡ Some t �
 decl_sound p k m t hm ts s h =
     let x = went (name_at ts) _ s h in
     let q = went (eat (codes "=") x.x.1) _ s x.next in
-    let e = went (expr_at (suc p) q.x) _ s q.next in
-    let z = went (eat (codes ";") e.x.1) _ s e.next in
+    let e = went (closed (codes ";") (expr_at (suc p)) q.x) _ s q.next in
     let n = was_named ts x.x x.found in
     let a = ate (codes "=") x.x.1 q.x q.found in
-    let b = ate (codes ";") e.x.1 z.x z.found in
-    let v = expr_sound (suc p) q.x e.x e.found in
-    let d : IsExpr q.x (b.t ∷ z.x) e.x.0 = subst (λ (w : List Token). IsExpr q.x w e.x.0) b.is v.is in
+    let v = closes (codes ";") (suc p) (expr_at (suc p)) (expr_sound (suc p)) q.x e.x e.found in
     let f : n.t ∷ a.t ∷ q.x ≡ ts = sym (n.is ∙ ap (λ (w : List Token). n.t ∷ w) a.is) in
-    subst (λ (w : (Body → Body) × List Token). SoundStmt p k (m ∷ ts) w) (some_same _ s z.next)
+    subst (λ (w : (Body → Body) × List Token). SoundStmt p k (m ∷ ts) w) (some_same _ s e.next)
     (λ y c.
-    let r : IsBody (m ∷ n.t ∷ a.t ∷ q.x) y.1 (Decl m.line t n.t.text e.x.0 y.0) = decl hm n.name a.text d b.text c.is in
+    let r : IsBody (m ∷ n.t ∷ a.t ∷ q.x) y.1 (Decl m.line t n.t.text e.x.0 y.0) = decl hm n.name a.text v.is v.text c.is in
     let r2 : IsBody (m ∷ ts) y.1 (Decl m.line t n.t.text e.x.0 y.0) = subst (λ (w : List Token). IsBody (m ∷ w) y.1 (Decl m.line t n.t.text e.x.0 y.0)) f r in
     let r3 : IsBody (m ∷ ts) y.1 (Decl m.line t x.x.0 e.x.0 y.0) = subst (λ (w : List ℕ). IsBody (m ∷ ts) y.1 (Decl m.line t w e.x.0 y.0)) n.text r2 in
     record { is = r3; parens = omega (arith, max-le v.within c.parens); braces = c.braces })
@@ -67,18 +64,15 @@ decl_sound p k m t hm ts s h =
 if_sound : (p k : ℕ) (block : ReadBlock) → IsBlockSound p k block → (m : Token) → m.text ≡ codes "if" → (ts : List Token) (s : (Body → Body) × List Token) → if_rest (expr_at p) block m.line ts ≡ Some s → SoundStmt p k (m ∷ ts) s
 if_sound p k block hyp m hm ts s h =
     let l = went (eat (codes "(") ts) _ s h in
-    let e = went (expr_at p l.x) _ s l.next in
-    let r = went (eat (codes ")") e.x.1) _ s e.next in
-    let b = went (block r.x) _ s r.next in
+    let e = went (closed (codes ")") (expr_at p) l.x) _ s l.next in
+    let b = went (block e.x.1) _ s e.next in
     let a = ate (codes "(") ts l.x l.found in
-    let c = ate (codes ")") e.x.1 r.x r.found in
-    let v = expr_sound p l.x e.x e.found in
-    let w = hyp r.x b.x b.found in
-    let f : e.x.1 ≡ c.t ∷ w.o ∷ w.us = c.is ∙ ap (λ (z : List Token). c.t ∷ z) w.at in
-    let d : IsExpr l.x (c.t ∷ w.o ∷ w.us) e.x.0 = subst (λ (z : List Token). IsExpr l.x z e.x.0) f v.is in
+    let v = closes (codes ")") p (expr_at p) (expr_sound p) l.x e.x e.found in
+    let w = hyp e.x.1 b.x b.found in
+    let d : IsExpr l.x (v.t ∷ w.o ∷ w.us) e.x.0 = subst (λ (z : List Token). IsExpr l.x (v.t ∷ z) e.x.0) w.at v.is in
     subst (λ (z : (Body → Body) × List Token). SoundStmt p k (m ∷ ts) z) (some_same _ s b.next)
     (λ y q.
-    let j : IsBody (m ∷ a.t ∷ l.x) y.1 (If m.line e.x.0 b.x.0 y.0) = when hm a.text d c.text w.left w.is q.is in
+    let j : IsBody (m ∷ a.t ∷ l.x) y.1 (If m.line e.x.0 b.x.0 y.0) = when hm a.text d v.text w.left w.is q.is in
     record {
       is = subst (λ (z : List Token). IsBody (m ∷ z) y.1 (If m.line e.x.0 b.x.0 y.0)) (sym a.is) j;
       parens = (let one : suc (parens e.x.0) ≤ suc p = omega (arith, v.within) in let two : max (parens_in b.x.0) (parens_in y.0) ≤ suc p = max-le w.parens q.parens in max-le one two);
@@ -87,13 +81,10 @@ if_sound p k block hyp m hm ts s h =
 
 return_sound : (p k : ℕ) (m : Token) → m.text ≡ codes "return" → (ts : List Token) (s : (Body → Body) × List Token) → return_rest (expr_at (suc p)) m.line ts ≡ Some s → SoundStmt p k (m ∷ ts) s
 return_sound p k m hm ts s h =
-    let e = went (expr_at (suc p) ts) _ s h in
-    let z = went (eat (codes ";") e.x.1) _ s e.next in
-    let b = ate (codes ";") e.x.1 z.x z.found in
-    let v = expr_sound (suc p) ts e.x e.found in
-    let d : IsExpr ts (b.t ∷ z.x) e.x.0 = subst (λ (w : List Token). IsExpr ts w e.x.0) b.is v.is in
-    subst (λ (w : (Body → Body) × List Token). SoundStmt p k (m ∷ ts) w) (some_same _ s z.next)
-    (λ y c. record { is = return hm d b.text c.is; parens = max-le v.within c.parens; braces = c.braces })
+    let e = went (closed (codes ";") (expr_at (suc p)) ts) _ s h in
+    let v = closes (codes ";") (suc p) (expr_at (suc p)) (expr_sound (suc p)) ts e.x e.found in
+    subst (λ (w : (Body → Body) × List Token). SoundStmt p k (m ∷ ts) w) (some_same _ s e.next)
+    (λ y c. record { is = return hm v.is v.text c.is; parens = max-le v.within c.parens; braces = c.braces })
 
 group_sound : (p k : ℕ) (block : ReadBlock) → IsBlockSound p k block → (ts : List Token) (s : (Body → Body) × List Token) → group_rest block (line_at ts) ts ≡ Some s → SoundStmt p k ts s
 group_sound p k block hyp ts s h =
@@ -196,31 +187,39 @@ parameters_sound ts y h =
       | inr g ↦ both_sound ts u.x d y g
     ]
 
+-- what stands before a body
+words_sound : (ts : List Token) (h : List ℕ × Bool × List Token) → words_at ts ≡ Some h → (t : Token) (us rest : List Token) (o : Bool) (b : Body) (q : Token) → h.2 ≡ t ∷ us → t.text ≡ codes "{" → IsBody us (q ∷ rest) b → IsHead ts rest o (record { own = o; name = h.0; indexed = h.1; body = b; end = q.line })
+words_sound ts h e t us rest o b z at left is =
+    let i = went (eat (codes "int") ts) _ h e in
+    let x = went (name_at i.x) _ h i.next in
+    let l = went (eat (codes "(") x.x.1) _ h x.next in
+    let q = went (parameters_at l.x) _ h l.next in
+    let r = went (eat (codes ")") q.x.1) _ h q.next in
+    let a1 = ate (codes "int") ts i.x i.found in
+    let n = was_named i.x x.x x.found in
+    let a2 = ate (codes "(") x.x.1 l.x l.found in
+    let d = parameters_sound l.x q.x q.found in
+    let a3 = ate (codes ")") q.x.1 r.x r.found in
+    let s : (x.x.0, q.x.0, r.x) ≡ h = some_same _ h r.next in
+    let g : a1.t ∷ n.t ∷ a2.t ∷ l.x ≡ ts = sym (a1.is ∙ ap (λ (w : List Token). a1.t ∷ w) (n.is ∙ ap (λ (w : List Token). n.t ∷ w) a2.is)) in
+    let f : q.x.1 ≡ a3.t ∷ t ∷ us = a3.is ∙ ap (λ (w : List Token). a3.t ∷ w) (ap (λ (w : List ℕ × Bool × List Token). w.2) s ∙ at) in
+    let d2 : IsParameters l.x (a3.t ∷ t ∷ us) q.x.0 = subst (λ (w : List Token). IsParameters l.x w q.x.0) f d in
+    let j : IsHead (a1.t ∷ n.t ∷ a2.t ∷ l.x) rest o (record { own = o; name = n.t.text; indexed = q.x.0; body = b; end = z.line }) = head a1.text n.name a2.text d2 a3.text left is in
+    let j2 : IsHead ts rest o (record { own = o; name = n.t.text; indexed = q.x.0; body = b; end = z.line }) = subst (λ (w : List Token). IsHead w rest o (record { own = o; name = n.t.text; indexed = q.x.0; body = b; end = z.line })) g j in
+    let j3 : IsHead ts rest o (record { own = o; name = x.x.0; indexed = q.x.0; body = b; end = z.line }) = subst (λ (w : List ℕ). IsHead ts rest o (record { own = o; name = w; indexed = q.x.0; body = b; end = z.line })) n.text j2 in
+    subst (λ (w : List ℕ × Bool × List Token). IsHead ts rest o (record { own = o; name = w.0; indexed = w.1; body = b; end = z.line })) s j3
+
 pub record SoundHead (p k : ℕ) (o : Bool) (ts : List Token) (y : Fun × List Token) : Type 0 where
   pub is : IsHead ts y.1 o y.0
   pub within : Within p k y.0
 
 head_sound : (p k : ℕ) (o : Bool) (ts : List Token) (y : Fun × List Token) → head_at (block_at (suc p) p (suc k)) o ts ≡ Some y → SoundHead p k o ts y
 head_sound p k o ts y h =
-    let i = went (eat (codes "int") ts) _ y h in
-    let x = went (name_at i.x) _ y i.next in
-    let l = went (eat (codes "(") x.x.1) _ y x.next in
-    let q = went (parameters_at l.x) _ y l.next in
-    let r = went (eat (codes ")") q.x.1) _ y q.next in
-    let b = went (block_at (suc p) p (suc k) r.x) _ y r.next in
-    let a1 = ate (codes "int") ts i.x i.found in
-    let n = was_named i.x x.x x.found in
-    let a2 = ate (codes "(") x.x.1 l.x l.found in
-    let d = parameters_sound l.x q.x q.found in
-    let a3 = ate (codes ")") q.x.1 r.x r.found in
-    let w = block_sound p (suc k) r.x b.x b.found in
-    let e : a1.t ∷ n.t ∷ a2.t ∷ l.x ≡ ts = sym (a1.is ∙ ap (λ (z : List Token). a1.t ∷ z) (n.is ∙ ap (λ (z : List Token). n.t ∷ z) a2.is)) in
-    let f : q.x.1 ≡ a3.t ∷ w.o ∷ w.us = a3.is ∙ ap (λ (z : List Token). a3.t ∷ z) w.at in
-    let d2 : IsParameters l.x (a3.t ∷ w.o ∷ w.us) q.x.0 = subst (λ (z : List Token). IsParameters l.x z q.x.0) f d in
-    let j : IsHead (a1.t ∷ n.t ∷ a2.t ∷ l.x) b.x.2 o (record { own = o; name = n.t.text; indexed = q.x.0; body = b.x.0; end = w.q.line }) = head a1.text n.name a2.text d2 a3.text w.left w.is in
-    let j2 : IsHead ts b.x.2 o (record { own = o; name = n.t.text; indexed = q.x.0; body = b.x.0; end = w.q.line }) = subst (λ (z : List Token). IsHead z b.x.2 o (record { own = o; name = n.t.text; indexed = q.x.0; body = b.x.0; end = w.q.line })) e j in
-    let j3 : IsHead ts b.x.2 o (record { own = o; name = x.x.0; indexed = q.x.0; body = b.x.0; end = w.q.line }) = subst (λ (z : List ℕ). IsHead ts b.x.2 o (record { own = o; name = z; indexed = q.x.0; body = b.x.0; end = w.q.line })) n.text j2 in
-    let j4 : IsHead ts b.x.2 o (record { own = o; name = x.x.0; indexed = q.x.0; body = b.x.0; end = b.x.1 }) = subst (λ (z : ℕ). IsHead ts b.x.2 o (record { own = o; name = x.x.0; indexed = q.x.0; body = b.x.0; end = z })) w.line j3 in
+    let c = went (words_at ts) _ y h in
+    let b = went (block_at (suc p) p (suc k) c.x.2) _ y c.next in
+    let w = block_sound p (suc k) c.x.2 b.x b.found in
+    let j = words_sound ts c.x c.found w.o w.us b.x.2 o b.x.0 w.q w.at w.left w.is in
+    let j4 : IsHead ts b.x.2 o (record { own = o; name = c.x.0; indexed = c.x.1; body = b.x.0; end = b.x.1 }) = subst (λ (z : ℕ). IsHead ts b.x.2 o (record { own = o; name = c.x.0; indexed = c.x.1; body = b.x.0; end = z })) w.line j in
     subst (λ (z : Fun × List Token). SoundHead p k o ts z) (some_same _ y b.next) (record { is = j4; within = record { parens = w.parens; braces = omega (arith, w.braces) } })
 
 pub record SoundFun (p k : ℕ) (ts : List Token) (y : Fun × List Token) : Type 0 where

@@ -9,10 +9,13 @@ abbrev pub decreases-inside : goal.decreases-inside
 decreases-inside l = 4 * l.depth + 3
 
 abbrev pub decreases-two_rest : goal.decreases-two_rest
-decreases-two_rest l = 4 * l.depth + 1
+decreases-two_rest l = 4 * l.depth + 2
 
 abbrev pub decreases-minus_rest : goal.decreases-minus_rest
-decreases-minus_rest l = 4 * l.depth + 1
+decreases-minus_rest l = 4 * l.depth + 2
+
+abbrev pub decreases-closed : goal.decreases-closed
+decreases-closed l = 4 * l.depth + 1
 
 abbrev pub decreases-cast_rest : goal.decreases-cast_rest
 decreases-cast_rest l = 4 * l.depth + 2

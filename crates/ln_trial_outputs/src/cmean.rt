@@ -1,0 +1,302 @@
+//! Files of the C subset, read and called: their signs, the lines at which they have no meaning, and what is counted.
+use ln_cmean::{CAnswer, CFault, CScratch, call};
+use ln_csyn::{CFile, read_c};
+use std::alloc::Global;
+use std::process::Abort;
+use std::test::Fail;
+
+const DOUBLE: &str = "#include <stdint.h>
+static int f(const int64_t *v) {
+  int64_t t = (((int64_t)v[0]) * ((int64_t)2));
+  if ((((int64_t)t) > ((int64_t)0))) { return ((int)1); }
+  return ((int)0);
+}
+int g(const int64_t *x, const int64_t *v) {
+  if ((((int64_t)x[0]) < ((int64_t)x[1]))) { return ((int)f(v)); }
+  return (-((int)1));
+}
+";
+
+// Functions that a body can call; the body begins on line 9.
+const HEAD: &str = "#include <stdint.h>
+static int one(const int64_t *v) { return ((int)1); }
+static int none(const int64_t *v) {
+  int n = ((int)2);
+}
+static int place(const int64_t *v) { return (((int)1)
+  == ((int)x[0])); }
+int g(const int64_t *x, const int64_t *v) {
+";
+
+const TAIL: &str = "
+}
+static int later(const int64_t *v) { return ((int)1); }
+";
+
+const VALUES: [i64; 4] = [-9223372036854775808, 9223372036854775807, -7, 40000];
+
+/// A body of the function `g`, with its sign or the line at which it has no meaning.
+type Body = (&'static str, Result<i32, u32>);
+
+fn read(rt: &impl Abort, alloc: Global, text: &[u8]) -> Result<CFile, Fail> {
+    assert!(rt; text.len() <= 1 << 20);
+    Ok(read_c(alloc, text)?)
+}
+
+fn put_body(out: &mut Vec<u8>, body: &str) -> Result<(), Fail> {
+    out.extend_from_slice(HEAD.as_bytes())?;
+    out.extend_from_slice(body.as_bytes())?;
+    out.extend_from_slice(TAIL.as_bytes())?;
+    Ok(())
+}
+
+/// The file whose function g has this body.
+fn file_of(rt: &impl Abort, alloc: Global, body: &str) -> Result<CFile, Fail> {
+    let mut text = Vec::new(alloc);
+    put_body(&mut text, body)?;
+    read(rt, alloc, text.as_slice())
+}
+
+/// What its function g gives.
+fn called(rt: &impl Abort, alloc: Global, body: &str) -> Result<Result<CAnswer, CFault>, Fail> {
+    let file = file_of(rt, alloc, body)?;
+    let mut s = CScratch::new(alloc, &file)?;
+    Ok(call(&file, "g", &[1, 2], &VALUES, &mut s))
+}
+
+/// Whether this is the sign, or the line.
+fn tells(was: Result<CAnswer, CFault>, want: Result<i32, u32>) -> bool {
+    match (was, want) {
+        (Ok(answer), Ok(sign)) => answer.sign == sign,
+        (Err(CFault::Undefined(line)), Err(wanted)) => line == wanted,
+        _ => false,
+    }
+}
+
+fn all_give(rt: &impl Abort, alloc: Global, bodies: &[Body]) -> Result<(), Fail> {
+    for (body, want) in bodies {
+        assert!(rt; tells(called(rt, alloc, body)?, *want), "{body}");
+    }
+    Ok(())
+}
+
+/// A call of a function of `DOUBLE`: its name, the indices, the values, and what it gives.
+type Call = (
+    &'static str,
+    [i64; 2],
+    &'static [i64],
+    Result<CAnswer, CFault>,
+);
+
+const RIGHT: CAnswer = CAnswer {
+    sign: 1,
+    wide: 0,
+    calls: 1,
+};
+
+const LEFT: CAnswer = CAnswer {
+    sign: -1,
+    wide: 0,
+    calls: 0,
+};
+
+const CALLS: &[Call] = &[
+    ("g", [1, 2], &[5], Ok(RIGHT)),
+    ("g", [2, 1], &[5], Ok(LEFT)),
+    (
+        "g",
+        [1, 2],
+        &[4611686018427387904],
+        Err(CFault::Undefined(3)),
+    ),
+    ("g", [1, 2], &[], Err(CFault::Undefined(3))),
+    ("f", [1, 2], &[5], Err(CFault::NoFunction)),
+];
+
+/// Whether the call gives what it should, and gives it again with the same scratch.
+fn answers(alloc: Global, file: &CFile, wanted: &Call) -> Result<bool, Fail> {
+    let mut s = CScratch::new(alloc, file)?;
+    let first = call(file, wanted.0, &wanted.1, wanted.2, &mut s);
+    let again = call(file, wanted.0, &wanted.1, wanted.2, &mut s);
+    Ok(first == wanted.3 && again == wanted.3)
+}
+
+fn all_answer(rt: &impl Abort, alloc: Global, file: &CFile) -> Result<(), Fail> {
+    for wanted in CALLS {
+        assert!(rt; answers(alloc, file, wanted)?, "{}", wanted.0);
+    }
+    Ok(())
+}
+
+#[test]
+fn a_file_of_two_functions_is_called(rt: HostRuntime) -> Result<(), Fail> {
+    let file = read(&rt, rt.alloc(), DOUBLE.as_bytes())?;
+    all_answer(&rt, rt.alloc(), &file)
+}
+
+const NARROW: &[Body] = &[
+    // An `int` at both ends, and past them.
+    ("return ((int)32767);", Ok(32767)),
+    ("return (-((int)32767));", Ok(-32767)),
+    ("return ((int)32768);", Err(9)),
+    ("return ((int)v[3]);", Err(9)),
+    ("return (((int)32767) + ((int)1));", Err(9)),
+    ("return ((-((int)32767)) - ((int)1));", Err(9)),
+    // An `int64_t`.
+    (
+        "return ((((int64_t)v[1]) - ((int64_t)1)) > ((int64_t)0));",
+        Ok(1),
+    ),
+    (
+        "int64_t a = ((int64_t)v[1]);\nint64_t b = (((int64_t)a) + ((int64_t)1));",
+        Err(10),
+    ),
+    (
+        "return ((((int64_t)v[0]) - ((int64_t)1)) < ((int64_t)0));",
+        Err(9),
+    ),
+    (
+        "return ((((int64_t)v[1]) * ((int64_t)2)) > ((int64_t)0));",
+        Err(9),
+    ),
+    ("return ((-((int64_t)v[0])) > ((int64_t)0));", Err(9)),
+];
+
+// p is 2^126.
+const WIDE: &[Body] = &[
+    (
+        "__int128 p = (((__int128)v[0]) * ((__int128)v[0]));
+return (((((__int128)p) - ((__int128)1)) + ((__int128)p)) > ((__int128)0));",
+        Ok(1),
+    ),
+    (
+        "__int128 p = (((__int128)v[0]) * ((__int128)v[0]));
+return ((((__int128)p) + ((__int128)p)) > ((__int128)0));",
+        Err(10),
+    ),
+    (
+        "__int128 p = (((__int128)v[0]) * ((__int128)v[0]));
+__int128 q = ((-((__int128)p)) - ((__int128)p));
+__int128 r = (((__int128)q) - ((__int128)1));",
+        Err(11),
+    ),
+    (
+        "__int128 p = (((__int128)v[0]) * ((__int128)v[0]));
+__int128 q = ((-((__int128)p)) - ((__int128)p));
+__int128 r = (-((__int128)q));",
+        Err(11),
+    ),
+    (
+        "__int128 p = (((__int128)v[0]) * ((__int128)v[0]));
+__int128 q = (((__int128)p) * ((__int128)2));",
+        Err(10),
+    ),
+    (
+        "__int128 p = ((__int128)v[1]);\nreturn ((((int64_t)p) + ((int64_t)0)) == ((int64_t)v[1]));",
+        Ok(1),
+    ),
+];
+
+#[test]
+fn numbers_stay_within_their_type(rt: HostRuntime) -> Result<(), Fail> {
+    all_give(&rt, rt.alloc(), NARROW)?;
+    all_give(&rt, rt.alloc(), WIDE)
+}
+
+const OPERATIONS: &[Body] = &[
+    // `/` truncates towards zero; its divisor has to be one of its type.
+    (
+        "return ((((int64_t)v[2]) / ((int64_t)2)) == (-((int64_t)3)));",
+        Ok(1),
+    ),
+    ("return (((int)1) / ((int)40000));", Err(9)),
+    // Comparisons.
+    ("return (((int)1) != ((int)2));", Ok(1)),
+    ("return (((int)2) < ((int)2));", Ok(0)),
+    // Types that differ.
+    ("return ((((int64_t)1) + ((int)1)) > ((int64_t)0));", Err(9)),
+    ("int a = ((int64_t)1);", Err(9)),
+    ("if (((int64_t)1)) { }\nreturn ((int)1);", Err(9)),
+    ("return ((int64_t)1);", Err(9)),
+];
+
+#[test]
+fn operands_have_one_type(rt: HostRuntime) -> Result<(), Fail> {
+    all_give(&rt, rt.alloc(), OPERATIONS)
+}
+
+const NAMES: &[Body] = &[
+    // A name before its declaration, within it, behind its braces; the innermost of two.
+    ("int a = ((int)b);\nint b = ((int)1);", Err(9)),
+    ("int a = ((int)1);\n{\nint a = ((int)a); }", Err(11)),
+    ("{ int a = ((int)1); }\nreturn ((int)a);", Err(10)),
+    (
+        "int a = ((int)1); { int a = ((int)2); return ((int)a); }",
+        Ok(2),
+    ),
+    (
+        "int a = ((int)1); { int a = ((int)2); } return ((int)a);",
+        Ok(1),
+    ),
+    ("return ((int)v);", Err(9)),
+    // Places past the end, and `x` where the function hasn't it.
+    ("return ((int)v[2]);", Ok(-7)),
+    ("return ((int)v[4]);", Err(9)),
+    ("return ((int)x[1]);", Ok(2)),
+    ("return ((int)x[2]);", Err(9)),
+    ("return ((int)place(v));", Err(6)),
+    // Functions that are unknown, later, have two parameters, or don't return.
+    ("return ((int)one(v));", Ok(1)),
+    ("return ((int)two(v));", Err(9)),
+    ("return ((int)later(v));", Err(9)),
+    ("return ((int)g(v));", Err(9)),
+    ("return ((int)none(v));", Err(5)),
+    // The left operand comes first, and types last.
+    ("return (((int)none(v)) + ((int)place(v)));", Err(5)),
+    ("return (((int)place(v)) + ((int)none(v)));", Err(6)),
+    ("return (((int64_t)one(v)) + ((int)none(v)));", Err(5)),
+    // The innermost statement; braces that aren't entered; no `return`.
+    ("if (((int)1)) {\nint a = ((int)40000);\n}", Err(10)),
+    (
+        "if (((int)0)) {\nint a = ((int)40000);\n}\nreturn ((int)3);",
+        Ok(3),
+    ),
+    ("{ int a = ((int)1);\n}", Err(11)),
+];
+
+#[test]
+fn names_calls_and_places_have_a_number_or_none(rt: HostRuntime) -> Result<(), Fail> {
+    all_give(&rt, rt.alloc(), NAMES)
+}
+
+/// Bodies with the sign 1: how many operations are wide, and how many calls there are.
+const COUNTED: &[(&str, u32, u32)] = &[
+    (
+        "return ((((__int128)1) + (-((__int128)2))) < (((__int128)6) / ((__int128)3)));",
+        3,
+        0,
+    ),
+    (
+        "return (((((int64_t)1) + ((int64_t)2)) * ((int64_t)3)) > (-((int64_t)1)));",
+        0,
+        0,
+    ),
+    (
+        "int a = (((int)one(v)) + ((int)one(v))); return (((int)a) - ((int)one(v)));",
+        0,
+        3,
+    ),
+];
+
+#[test]
+fn wide_operations_and_calls_are_counted(rt: HostRuntime) -> Result<(), Fail> {
+    for (body, wide, calls) in COUNTED {
+        let want = CAnswer {
+            sign: 1,
+            wide: *wide,
+            calls: *calls,
+        };
+        assert!(rt; called(&rt, rt.alloc(), body)? == Ok(want), "{body}");
+    }
+    Ok(())
+}
