@@ -14,8 +14,6 @@ pub mod file;
 pub mod laws;
 pub(crate) mod put;
 pub(crate) mod slot;
-#[cfg(test)]
-mod tests;
 pub(crate) mod title;
 pub mod two;
 pub(crate) mod walk;

@@ -1,3 +1,8 @@
 //! Tests of C and of listings: each calls public functions alone, so that none of these crates is proved once more with tests of its own.
 //! There is nothing else in this crate.
 #![tactic(auto)]
+
+#[cfg(test)]
+mod emitted;
+#[cfg(test)]
+mod listings;
