@@ -4,5 +4,4 @@ pub mod Blocks
 pub mod Follows
 pub mod Filters
 pub mod Means
-pub mod Sample
 pub mod LocalCells

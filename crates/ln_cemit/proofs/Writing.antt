@@ -1,4 +1,5 @@
 -- How the text is put, piece by piece.
 pub mod Constants
 pub mod Parts
+pub mod Gathers
 pub mod Loops

@@ -1,6 +1,6 @@
 -- What one operation puts, whatever comes behind it.
 use Rattle.std.specs.Prelude.{◌≡◌, ℕ, zero, suc, ◌/◌, ◌^◌, Bool, true, false, ◌||◌, ◌≤◌, length, take}
-use Rattle.std.specs.Prelude.{nat_le, List, [], ◌∷◌, codes, reverse, Option, Some, None, slice_get}
+use Rattle.std.specs.Prelude.{nat_le, List, [], ◌∷◌, ◌++◌, ◌==◌, if◌then◌else◌, codes, reverse, Option, Some, None, slice_get}
 use Rattle.ln_bound.specs.declared.fitted.Width.{Width}
 use Rattle.ln_code.specs.Engine.{next}
 use Rattle.ln_csyn.specs.Words.{most_number}
@@ -91,3 +91,8 @@ filter_funs x (Some f) = one_fun (filter_name x) (filter_body f) ∷ []
 abbrev pub filter_tried : List ℕ → Option FilterCode → Body → Body
 filter_tried x None b = b
 filter_tried x (Some f) b = Group 2 (attempt answer_name (filter_name x)) b
+
+-- the tokens of a text that parts them by blanks, where some of the first one was read already
+abbrev pub tokens_in : List ℕ → List ℕ → List Token → List Token
+tokens_in w [] r = lexeme w ∷ r
+tokens_in w (c ∷ cs) r = if c == 32 then lexeme w ∷ tokens_in [] cs r else tokens_in (w ++ c ∷ []) cs r

@@ -18,23 +18,19 @@ ghost use Rattle.ln_cemit.specs.Ways.{block_way, filter_way};
 
 use crate::put::{put_decl_name, put_number_of, put_operand, put_operation};
 use crate::slot::{Slot, Way};
+use crate::tokens::put_tokens;
 use ln_base::NoMemory;
 use ln_bound::Width;
 use ln_code::{Block, FilterBlock, Op, Triple};
-use ln_csyn::spell::{
-    brace_left, brace_right, comma, dash, indices, left, put, put_op, put_type, right, semi,
-    values, word_if, word_return, word_static,
-};
-use ln_csyn::write::{put_cast, put_constant, put_index, put_pointer, put_value};
-use ln_csyn::{COp, CType};
+use ln_csyn::COp;
+use ln_csyn::spell::{brace_left, brace_right, left, put, put_op, right, semi, word_return};
 use ln_interval::Pair;
 use std::alloc::Global;
 
 fn put_minus(out: &mut Vec<u8>, width: Width, e: u64) -> Result<(), NoMemory>
     ensures { IfOk result (λ x. Puts out.old.items out.new.items (spell (Minus (Number (type_of width) e)))) }
 {
-    left(out)?;
-    dash(out)?;
+    put_tokens(out, b"( -")?;
     put_number_of(out, width, e)?;
     right(out)?;
     Ok(())
@@ -56,13 +52,11 @@ fn put_above(out: &mut Vec<u8>, e: u64, slot: Slot) -> Result<(), NoMemory>
     ensures { IfOk result (λ x. Puts out.old.items out.new.items
         (spell (Inner Int (Two More (operand decl_name slot.width slot) (Number (type_of slot.width) e))))) }
 {
-    put_cast(out, CType::Int)?;
-    left(out)?;
+    put_tokens(out, b"( ( int ) (")?;
     put_operand(out, slot.width, slot)?;
     put_op(out, COp::More)?;
     put_number_of(out, slot.width, e)?;
-    right(out)?;
-    right(out)?;
+    put_tokens(out, b") )")?;
     Ok(())
 }
 
@@ -71,13 +65,11 @@ fn put_below(out: &mut Vec<u8>, e: u64, slot: Slot) -> Result<(), NoMemory>
     ensures { IfOk result (λ x. Puts out.old.items out.new.items
         (spell (Inner Int (Two Less (operand decl_name slot.width slot) (lowest (type_of slot.width) e))))) }
 {
-    put_cast(out, CType::Int)?;
-    left(out)?;
+    put_tokens(out, b"( ( int ) (")?;
     put_operand(out, slot.width, slot)?;
     put_op(out, COp::Less)?;
     put_lowest(out, slot.width, e)?;
-    right(out)?;
-    right(out)?;
+    put_tokens(out, b") )")?;
     Ok(())
 }
 
@@ -203,14 +195,9 @@ fn behind(ops: &[Op], i: usize) -> &[Op]
 fn put_name(out: &mut Vec<u8>, n: usize) -> Result<(), NoMemory>
     ensures { IfOk result (λ x. Puts out.old.items out.new.items (spell_body (naming decl_name (Some n) End))) }
 {
-    put_never(out)?;
-    brace_left(out)?;
-    word_return(out)?;
-    put_cast(out, CType::Int)?;
+    put_tokens(out, b"if ( ( ( int ) 0 ) ) { return ( ( int )")?;
     put_decl_name(out, n)?;
-    right(out)?;
-    semi(out)?;
-    brace_right(out)?;
+    put_tokens(out, b") ; }")?;
     Ok(())
 }
 
@@ -281,28 +268,14 @@ fn reads_row(ops: &[Op]) -> bool
     false
 }
 
-// A test that never holds.
-fn put_never(out: &mut Vec<u8>) -> Result<(), NoMemory>
-    ensures { IfOk result (λ x. Puts out.old.items out.new.items (λ r. lexeme (codes "if") ∷ lexeme (codes "(")
-        ∷ spell (Number Int 0) (lexeme (codes ")") ∷ r))) }
-{
-    word_if(out)?;
-    left(out)?;
-    put_constant(out, CType::Int, 0)?;
-    right(out)?;
-    Ok(())
-}
-
 // A statement that names the values and is never reached.
 fn put_touch(out: &mut Vec<u8>) -> Result<(), NoMemory>
     ensures { IfOk result (λ x. Puts out.old.items out.new.items (spell_body (touching false End))) }
 {
-    put_never(out)?;
-    brace_left(out)?;
-    word_return(out)?;
-    put_value(out, CType::Int, 0)?;
-    semi(out)?;
-    brace_right(out)?;
+    put_tokens(
+        out,
+        b"if ( ( ( int ) 0 ) ) { return ( ( int ) v [ 0 ] ) ; }",
+    )?;
     Ok(())
 }
 
@@ -310,12 +283,10 @@ fn put_touch(out: &mut Vec<u8>) -> Result<(), NoMemory>
 fn put_touch_index(out: &mut Vec<u8>) -> Result<(), NoMemory>
     ensures { IfOk result (λ x. Puts out.old.items out.new.items (spell_body (touching_index false End))) }
 {
-    put_never(out)?;
-    brace_left(out)?;
-    word_return(out)?;
-    put_index(out, CType::Int, 0)?;
-    semi(out)?;
-    brace_right(out)?;
+    put_tokens(
+        out,
+        b"if ( ( ( int ) 0 ) ) { return ( ( int ) x [ 0 ] ) ; }",
+    )?;
     Ok(())
 }
 
@@ -363,13 +334,9 @@ fn put_one_head(out: &mut Vec<u8>, title: &[u8]) -> Result<(), NoMemory>
         (λ r. spell_own true (lexeme (codes "int") ∷ lexeme title.now ∷ lexeme (codes "(")
         ∷ spell_parameters false (lexeme (codes ")") ∷ r)))) }
 {
-    word_static(out)?;
-    put_type(out, CType::Int)?;
+    put_tokens(out, b"static int")?;
     put(out, title)?;
-    left(out)?;
-    put_pointer(out)?;
-    values(out)?;
-    right(out)?;
+    put_tokens(out, b"( const int64_t * v )")?;
     Ok(())
 }
 
@@ -378,15 +345,9 @@ pub(crate) fn put_two_head(out: &mut Vec<u8>, title: &[u8]) -> Result<(), NoMemo
     ensures { IfOk result (λ x. Puts out.old.items out.new.items (λ r. lexeme (codes "int") ∷ lexeme title.now
         ∷ lexeme (codes "(") ∷ spell_parameters true (lexeme (codes ")") ∷ r))) }
 {
-    put_type(out, CType::Int)?;
+    put_tokens(out, b"int")?;
     put(out, title)?;
-    left(out)?;
-    put_pointer(out)?;
-    indices(out)?;
-    comma(out)?;
-    put_pointer(out)?;
-    values(out)?;
-    right(out)?;
+    put_tokens(out, b"( const int64_t * x , const int64_t * v )")?;
     Ok(())
 }
 

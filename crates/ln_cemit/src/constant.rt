@@ -5,8 +5,9 @@ ghost use Rattle.ln_csyn.specs.Tree.{Inner};
 ghost use Rattle.ln_cemit.specs.Emit.{constant, in_parts, natural};
 ghost use Rattle.ln_cemit.specs.Puts.{parts_fit};
 
+use crate::tokens::put_tokens;
 use ln_base::NoMemory;
-use ln_csyn::spell::{dash, left, put_op, right};
+use ln_csyn::spell::{put_op, right};
 use ln_csyn::write::{put_cast, put_constant};
 use ln_csyn::{COp, CType};
 
@@ -18,13 +19,11 @@ fn put_parts(out: &mut Vec<u8>, k: u8, n: u128) -> Result<(), NoMemory>
     if k == 0 {
         return put_constant(out, CType::Int128, n as u64);
     }
-    left(out)?;
-    left(out)?;
+    put_tokens(out, b"( (")?;
     put_parts(out, k - 1, n / 2147483648)?;
     put_op(out, COp::Mul)?;
     put_constant(out, CType::Int128, 2147483648)?;
-    right(out)?;
-    put_op(out, COp::Add)?;
+    put_tokens(out, b") +")?;
     put_constant(out, CType::Int128, (n % 2147483648) as u64)?;
     right(out)?;
     Ok(())
@@ -45,8 +44,7 @@ fn put_negative(out: &mut Vec<u8>, size: u128) -> Result<(), NoMemory>
     ensures { IfOk result (λ x. Puts out.old.items out.new.items (λ r. lexeme (codes "(") ∷ lexeme (codes "-")
         ∷ spell (natural size) (lexeme (codes ")") ∷ r))) }
 {
-    left(out)?;
-    dash(out)?;
+    put_tokens(out, b"( -")?;
     put_natural(out, size)?;
     right(out)?;
     Ok(())

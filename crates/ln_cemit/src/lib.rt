@@ -14,9 +14,8 @@ pub mod file;
 pub mod laws;
 pub(crate) mod put;
 pub(crate) mod slot;
-#[cfg(test)]
-mod tests;
 pub(crate) mod title;
+pub(crate) mod tokens;
 pub mod two;
 pub(crate) mod walk;
 

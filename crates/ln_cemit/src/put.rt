@@ -1,6 +1,6 @@
 //! The declaration of each operation, put straight to the text with no tree.
-ghost use Rattle.std.specs.Prelude.{◌≡◌, ◌≤◌, ◌<◌, ◌^◌, ◌∷◌, true, IfOk, length, reverse};
-ghost use Rattle.ln_csyn.specs.Spelling.{Puts, lexeme, spell, type_text};
+ghost use Rattle.std.specs.Prelude.{◌≡◌, ◌≤◌, ◌<◌, ◌^◌, ◌∷◌, true, IfOk, codes, length, reverse};
+ghost use Rattle.ln_csyn.specs.Spelling.{Puts, cast_before, lexeme, spell, type_text};
 ghost use Rattle.ln_csyn.specs.Tree.{Inner, Minus, Number, Two, Value};
 ghost use Rattle.ln_cemit.specs.Emit.{constant, cut_expr, operand, pushing, type_of, put_cut, put_get, put_neg, put_op, put_set, put_two};
 ghost use Rattle.ln_cemit.specs.Names.{decl_name};
@@ -12,12 +12,13 @@ ghost use Rattle.ln_csyn.specs.declared.tree.COp.TheVariants.{Div};
 
 use crate::constant::put_inner;
 use crate::slot::{Slot, Way};
+use crate::tokens::put_tokens;
 use itoa::Buffer;
 use ln_base::NoMemory;
 use ln_bound::Width;
 use ln_code::{Op, cut};
-use ln_csyn::spell::{dash, equals, left, put_op, put_type, right, semi};
-use ln_csyn::write::{put_constant, put_value};
+use ln_csyn::spell::{equals, left, put_op, put_type, right, semi};
+use ln_csyn::write::{put_cast, put_constant, put_value};
 use ln_csyn::{COp, CType};
 
 pub(crate) fn type_of(width: Width) -> CType
@@ -46,6 +47,17 @@ pub(crate) fn put_decl_name(out: &mut Vec<u8>, n: usize) -> Result<(), NoMemory>
     Ok(())
 }
 
+// Puts the front of a declaration, up to the `=`.
+fn put_decl_head(out: &mut Vec<u8>, n: usize, width: Width) -> Result<(), NoMemory>
+    ensures { IfOk result (λ x. Puts out.old.items out.new.items
+        (λ r. lexeme (type_text (type_of width)) ∷ lexeme (decl_name n) ∷ lexeme (codes "=") ∷ r)) }
+{
+    put_width(out, width)?;
+    put_decl_name(out, n)?;
+    equals(out)?;
+    Ok(())
+}
+
 fn put_value_of(out: &mut Vec<u8>, width: Width, v: u64) -> Result<(), NoMemory>
     ensures { IfOk result (λ x. Puts out.old.items out.new.items (spell (Value (type_of width) v))) }
 {
@@ -65,13 +77,16 @@ fn put_inner_of(out: &mut Vec<u8>, width: Width, z: i128) -> Result<(), NoMemory
     put_inner(out, type_of(width), z)
 }
 
+fn put_cast_of(out: &mut Vec<u8>, width: Width) -> Result<(), NoMemory>
+    ensures { IfOk result (λ x. Puts out.old.items out.new.items (cast_before (type_of width))) }
+{
+    put_cast(out, type_of(width))
+}
+
 pub(crate) fn put_operand(out: &mut Vec<u8>, width: Width, slot: Slot) -> Result<(), NoMemory>
     ensures { IfOk result (λ x. Puts out.old.items out.new.items (spell (operand decl_name width slot))) }
 {
-    left(out)?;
-    left(out)?;
-    put_width(out, width)?;
-    right(out)?;
+    put_cast_of(out, width)?;
     put_decl_name(out, slot.at)?;
     right(out)?;
     Ok(())
@@ -80,8 +95,7 @@ pub(crate) fn put_operand(out: &mut Vec<u8>, width: Width, slot: Slot) -> Result
 fn put_opposite(out: &mut Vec<u8>, width: Width, slot: Slot) -> Result<(), NoMemory>
     ensures { IfOk result (λ x. Puts out.old.items out.new.items (spell (Minus (operand decl_name width slot)))) }
 {
-    left(out)?;
-    dash(out)?;
+    put_tokens(out, b"( -")?;
     put_operand(out, width, slot)?;
     right(out)?;
     Ok(())
@@ -90,9 +104,7 @@ fn put_opposite(out: &mut Vec<u8>, width: Width, slot: Slot) -> Result<(), NoMem
 fn put_opposite_decl(out: &mut Vec<u8>, n: usize, width: Width, slot: Slot) -> Result<(), NoMemory>
     ensures { IfOk result (λ x. Puts out.old.items out.new.items (decl_before n width (Minus (operand decl_name width slot)))) }
 {
-    put_width(out, width)?;
-    put_decl_name(out, n)?;
-    equals(out)?;
+    put_decl_head(out, n, width)?;
     put_opposite(out, width, slot)?;
     semi(out)?;
     Ok(())
@@ -132,9 +144,7 @@ fn put_both_decl(
     ensures { IfOk result (λ z. Puts out.old.items out.new.items
         (decl_before n width (Two op (operand decl_name width x) (operand decl_name width y)))) }
 {
-    put_width(out, width)?;
-    put_decl_name(out, n)?;
-    equals(out)?;
+    put_decl_head(out, n, width)?;
     put_both(out, op, width, x, y)?;
     semi(out)?;
     Ok(())
@@ -162,9 +172,7 @@ fn combine(
 fn put_value_decl(out: &mut Vec<u8>, n: usize, width: Width, v: u64) -> Result<(), NoMemory>
     ensures { IfOk result (λ z. Puts out.old.items out.new.items (decl_before n width (Value (type_of width) v))) }
 {
-    put_width(out, width)?;
-    put_decl_name(out, n)?;
-    equals(out)?;
+    put_decl_head(out, n, width)?;
     put_value_of(out, width, v)?;
     semi(out)?;
     Ok(())
@@ -189,9 +197,7 @@ fn read(
 fn put_same_decl(out: &mut Vec<u8>, n: usize, width: Width, slot: Slot) -> Result<(), NoMemory>
     ensures { IfOk result (λ x. Puts out.old.items out.new.items (decl_before n width (operand decl_name width slot))) }
 {
-    put_width(out, width)?;
-    put_decl_name(out, n)?;
-    equals(out)?;
+    put_decl_head(out, n, width)?;
     put_operand(out, width, slot)?;
     semi(out)?;
     Ok(())
@@ -239,9 +245,7 @@ fn load(
 fn put_pushed_decl(out: &mut Vec<u8>, n: usize, width: Width, z: i128) -> Result<(), NoMemory>
     ensures { IfOk result (λ x. Puts out.old.items out.new.items (decl_before n width (Inner (type_of width) (constant z)))) }
 {
-    put_width(out, width)?;
-    put_decl_name(out, n)?;
-    equals(out)?;
+    put_decl_head(out, n, width)?;
     put_inner_of(out, width, z)?;
     semi(out)?;
     Ok(())
@@ -295,9 +299,7 @@ fn put_quotient(out: &mut Vec<u8>, m: u8, slot: Slot) -> Result<(), NoMemory>
 fn put_quotient_decl(out: &mut Vec<u8>, n: usize, m: u8, slot: Slot) -> Result<(), NoMemory>
     ensures { IfOk result (λ x. Puts out.old.items out.new.items (decl_before n W64 (cut_expr m (operand decl_name W64 slot)))) }
 {
-    put_width(out, Width::W64)?;
-    put_decl_name(out, n)?;
-    equals(out)?;
+    put_decl_head(out, n, Width::W64)?;
     put_quotient(out, m, slot)?;
     semi(out)?;
     Ok(())

@@ -3,9 +3,8 @@ ghost use Rattle.std.specs.Prelude.{◌≡◌, ◌≢◌, ◌<◌, ◌+◌, ◌�
 ghost use Rattle.ln_order.specs.Orders.{orders_of};
 ghost use Rattle.ln_order.specs.Places.{order_places};
 ghost use Rattle.ln_csyn.specs.Spelling.{Puts, Goes, lexeme, spell, spell_body};
-ghost use Rattle.ln_csyn.specs.Tree.{Body, Call, Group, Index, Name, Number, Two};
-ghost use Rattle.ln_csyn.specs.declared.tree.CType.TheVariants.{Int, Int64};
-ghost use Rattle.ln_csyn.specs.declared.tree.COp.TheVariants.{Differ};
+ghost use Rattle.ln_csyn.specs.Tree.{Body, Group, Index};
+ghost use Rattle.ln_csyn.specs.declared.tree.CType.TheVariants.{Int64};
 ghost use Rattle.ln_code.specs.Lists.{segment_of};
 ghost use Rattle.ln_cemit.specs.Names.{block_name, answer_name};
 ghost use Rattle.ln_cemit.specs.Puts.{Begins, close_braces, open_guards};
@@ -13,80 +12,24 @@ ghost use Rattle.ln_cemit.specs.Walked.{attempt, less, picks, says_nothing, trie
 ghost use Rattle.ln_cemit.specs.Whole.{part_name};
 
 use crate::title::block_title;
+use crate::tokens::put_tokens;
 use ln_base::NoMemory;
 use ln_code::Program;
-use ln_csyn::spell::{
-    brace_left, brace_right, equals, left, put, put_op, put_type, right, semi, word_if, word_return,
-};
-use ln_csyn::write::{put_call, put_constant, put_index, put_name};
+use ln_csyn::spell::{brace_left, brace_right, put, put_op};
+use ln_csyn::write::put_index;
 use ln_csyn::{COp, CType};
 use ln_order::Order;
 use std::alloc::Global;
 
-fn put_answer_name(out: &mut Vec<u8>) -> Result<(), NoMemory>
-    ensures { IfOk result (λ x. Puts out.old.items out.new.items (λ r. lexeme answer_name ∷ r)) }
-{
-    put(out, b"answer".as_slice())
-}
-
-fn put_answer(out: &mut Vec<u8>) -> Result<(), NoMemory>
-    ensures { IfOk result (λ x. Puts out.old.items out.new.items (spell (Name Int answer_name))) }
-{
-    put_name(out, CType::Int, b"answer".as_slice())
-}
-
-fn put_answer_decl(out: &mut Vec<u8>, title: &[u8]) -> Result<(), NoMemory>
-    ensures { IfOk result (λ x. Puts out.old.items out.new.items (λ r. lexeme (codes "int") ∷ lexeme answer_name
-        ∷ lexeme (codes "=") ∷ spell (Call Int title.now) (lexeme (codes ";") ∷ r))) }
-{
-    put_type(out, CType::Int)?;
-    put_answer_name(out)?;
-    equals(out)?;
-    put_call(out, CType::Int, title)?;
-    semi(out)?;
-    Ok(())
-}
-
-fn put_answer_test(out: &mut Vec<u8>) -> Result<(), NoMemory>
-    ensures { IfOk result (λ x. Puts out.old.items out.new.items (spell (Two Differ (Name Int answer_name) (Number Int 0)))) }
-{
-    left(out)?;
-    put_answer(out)?;
-    put_op(out, COp::Differ)?;
-    put_constant(out, CType::Int, 0)?;
-    right(out)?;
-    Ok(())
-}
-
-fn put_answer_if(out: &mut Vec<u8>) -> Result<(), NoMemory>
-    ensures { IfOk result (λ x. Puts out.old.items out.new.items (λ r. lexeme (codes "if") ∷ lexeme (codes "(")
-        ∷ spell (Two Differ (Name Int answer_name) (Number Int 0)) (lexeme (codes ")") ∷ r))) }
-{
-    word_if(out)?;
-    left(out)?;
-    put_answer_test(out)?;
-    right(out)?;
-    Ok(())
-}
-
-fn put_answer_return(out: &mut Vec<u8>) -> Result<(), NoMemory>
-    ensures { IfOk result (λ x. Puts out.old.items out.new.items (λ r. lexeme (codes "return") ∷ spell (Name Int answer_name)
-        (lexeme (codes ";") ∷ r))) }
-{
-    word_return(out)?;
-    put_answer(out)?;
-    semi(out)?;
-    Ok(())
-}
-
 fn put_attempt(out: &mut Vec<u8>, title: &[u8]) -> Result<(), NoMemory>
     ensures { IfOk result (λ x. Puts out.old.items out.new.items (spell_body (attempt answer_name title.now))) }
 {
-    put_answer_decl(out, title)?;
-    put_answer_if(out)?;
-    brace_left(out)?;
-    put_answer_return(out)?;
-    brace_right(out)?;
+    put_tokens(out, b"int answer = ( ( int )")?;
+    put(out, title)?;
+    put_tokens(
+        out,
+        b"( v ) ) ; if ( ( ( ( int ) answer ) != ( ( int ) 0 ) ) ) { return ( ( int ) answer ) ; }",
+    )?;
     Ok(())
 }
 
@@ -128,9 +71,7 @@ fn put_tries(alloc: Global, out: &mut Vec<u8>, name: &[u8], numbers: &[u32]) -> 
 fn put_nothing(out: &mut Vec<u8>) -> Result<(), NoMemory>
     ensures { IfOk result (λ x. Puts out.old.items out.new.items (spell_body says_nothing)) }
 {
-    word_return(out)?;
-    put_constant(out, CType::Int, 0)?;
-    semi(out)?;
+    put_tokens(out, b"return ( ( int ) 0 ) ;")?;
     Ok(())
 }
 
@@ -140,27 +81,16 @@ fn put_index_at(out: &mut Vec<u8>, i: u8) -> Result<(), NoMemory>
     put_index(out, CType::Int64, u64::from(i))
 }
 
-// Is the index at place i below that at place j?
-fn put_less(out: &mut Vec<u8>, i: u8, j: u8) -> Result<(), NoMemory>
-    ensures { IfOk result (λ x. Puts out.old.items out.new.items (spell (less i j))) }
-{
-    left(out)?;
-    put_index_at(out, i)?;
-    put_op(out, COp::Less)?;
-    put_index_at(out, j)?;
-    right(out)?;
-    Ok(())
-}
-
+// Opens the statements where the index at place i is below that at place j.
 fn put_guard(out: &mut Vec<u8>, i: u8, j: u8) -> Result<(), NoMemory>
     ensures { IfOk result (λ x. Puts out.old.items out.new.items (λ r. lexeme (codes "if") ∷ lexeme (codes "(") ∷ spell (less i j)
         (lexeme (codes ")") ∷ lexeme (codes "{") ∷ r))) }
 {
-    word_if(out)?;
-    left(out)?;
-    put_less(out, i, j)?;
-    right(out)?;
-    brace_left(out)?;
+    put_tokens(out, b"if ( (")?;
+    put_index_at(out, i)?;
+    put_op(out, COp::Less)?;
+    put_index_at(out, j)?;
+    put_tokens(out, b") ) {")?;
     Ok(())
 }
 

@@ -3,8 +3,9 @@ ghost use Rattle.std.specs.Prelude.{◌≡◌, ◌<◌, ◌≤◌, ◌^◌, ◌�
 ghost use Rattle.std.specs.Fmt.{signed_decimal};
 ghost use Rattle.ln_code.specs.declared.op.Triple.{Triple as AnyTriple};
 ghost use Rattle.ln_cert.specs.Words.{words_from};
-ghost use Rattle.ln_cert.specs.Text.{IsBound, IsRange, IsTriple, certificate, range_words, takes_off, triple_words};
+ghost use Rattle.ln_cert.specs.Text.{IsBound, IsRange, IsTriple, certificate, range_words, triple_words};
 
+use crate::operation::takes_off;
 use crate::part::Verb;
 use crate::scan::{integer, number, word};
 use ln_code::Triple;
@@ -108,22 +109,6 @@ fn ends_at(bytes: &[u8], at: usize) -> Option<(i128, i128)>
         Some((low, high))
     } else {
         None
-    }
-}
-
-fn takes_off(verb: Verb) -> bool
-    ensures { result ≡ takes_off verb }
-{
-    match verb {
-        Verb::Set => true,
-        Verb::Push
-        | Verb::Input
-        | Verb::Get
-        | Verb::Add(_)
-        | Verb::Sub(_)
-        | Verb::Mul(_)
-        | Verb::Neg(_)
-        | Verb::Cut => false,
     }
 }
 

@@ -7,62 +7,101 @@ ghost use Rattle.ln_cert.specs.declared.part.State.TheVariants.{InFilter, InBloc
 use crate::part::{Kind, State, Verb};
 use ln_bound::Width;
 
+/// The word of an operation in a filter, where all are 64 bits wide.
+pub fn filter_word(verb: Verb) -> &'static [u8]
+    ensures { result.now ≡ filter_word verb }
+{
+    match verb {
+        Verb::Push => b"push",
+        Verb::Input => b"input",
+        Verb::Get => b"get",
+        Verb::Set => b"set",
+        Verb::Add(_) => b"add",
+        Verb::Sub(_) => b"sub",
+        Verb::Mul(_) => b"mul",
+        Verb::Neg(_) => b"neg",
+        Verb::Cut => b"cut",
+    }
+}
+
+/// The word of an operation in a block.
+pub fn block_word(verb: Verb) -> &'static [u8]
+    ensures { result.now ≡ block_word verb }
+{
+    match verb {
+        Verb::Push => b"push",
+        Verb::Input => b"input",
+        Verb::Get => b"get",
+        Verb::Set => b"set",
+        Verb::Add(Width::W64) => b"add64",
+        Verb::Add(Width::W128) => b"add128",
+        Verb::Sub(Width::W64) => b"sub64",
+        Verb::Sub(Width::W128) => b"sub128",
+        Verb::Mul(Width::W64) => b"mul64",
+        Verb::Mul(Width::W128) => b"mul128",
+        Verb::Neg(Width::W64) => b"neg64",
+        Verb::Neg(Width::W128) => b"neg128",
+        Verb::Cut => b"cut",
+    }
+}
+
+fn found_in_filter(w: &[u8], verbs: &[Verb]) -> Option<Verb>
+    ensures { result ≡ found filter_word w.now verbs.now }
+{
+    'verbs: for verb in verbs {
+        if w == filter_word(*verb) {
+            return Some(*verb);
+        }
+    }
+    None
+}
+
+fn found_in_block(w: &[u8], verbs: &[Verb]) -> Option<Verb>
+    ensures { result ≡ found block_word w.now verbs.now }
+{
+    'verbs: for verb in verbs {
+        if w == block_word(*verb) {
+            return Some(*verb);
+        }
+    }
+    None
+}
+
 fn filter_verb(w: &[u8]) -> Option<Verb>
     ensures { result ≡ found filter_word w.now filter_verbs }
 {
-    if w == b"push".as_slice() {
-        Some(Verb::Push)
-    } else if w == b"input".as_slice() {
-        Some(Verb::Input)
-    } else if w == b"get".as_slice() {
-        Some(Verb::Get)
-    } else if w == b"set".as_slice() {
-        Some(Verb::Set)
-    } else if w == b"add".as_slice() {
-        Some(Verb::Add(Width::W64))
-    } else if w == b"sub".as_slice() {
-        Some(Verb::Sub(Width::W64))
-    } else if w == b"mul".as_slice() {
-        Some(Verb::Mul(Width::W64))
-    } else if w == b"neg".as_slice() {
-        Some(Verb::Neg(Width::W64))
-    } else if w == b"cut".as_slice() {
-        Some(Verb::Cut)
-    } else {
-        None
-    }
+    let verbs = [
+        Verb::Push,
+        Verb::Input,
+        Verb::Get,
+        Verb::Set,
+        Verb::Add(Width::W64),
+        Verb::Sub(Width::W64),
+        Verb::Mul(Width::W64),
+        Verb::Neg(Width::W64),
+        Verb::Cut,
+    ];
+    found_in_filter(w, &verbs)
 }
 
 fn block_verb(w: &[u8]) -> Option<Verb>
     ensures { result ≡ found block_word w.now block_verbs }
 {
-    if w == b"push".as_slice() {
-        Some(Verb::Push)
-    } else if w == b"input".as_slice() {
-        Some(Verb::Input)
-    } else if w == b"get".as_slice() {
-        Some(Verb::Get)
-    } else if w == b"set".as_slice() {
-        Some(Verb::Set)
-    } else if w == b"add64".as_slice() {
-        Some(Verb::Add(Width::W64))
-    } else if w == b"add128".as_slice() {
-        Some(Verb::Add(Width::W128))
-    } else if w == b"sub64".as_slice() {
-        Some(Verb::Sub(Width::W64))
-    } else if w == b"sub128".as_slice() {
-        Some(Verb::Sub(Width::W128))
-    } else if w == b"mul64".as_slice() {
-        Some(Verb::Mul(Width::W64))
-    } else if w == b"mul128".as_slice() {
-        Some(Verb::Mul(Width::W128))
-    } else if w == b"neg64".as_slice() {
-        Some(Verb::Neg(Width::W64))
-    } else if w == b"neg128".as_slice() {
-        Some(Verb::Neg(Width::W128))
-    } else {
-        None
-    }
+    let verbs = [
+        Verb::Push,
+        Verb::Input,
+        Verb::Get,
+        Verb::Set,
+        Verb::Add(Width::W64),
+        Verb::Add(Width::W128),
+        Verb::Sub(Width::W64),
+        Verb::Sub(Width::W128),
+        Verb::Mul(Width::W64),
+        Verb::Mul(Width::W128),
+        Verb::Neg(Width::W64),
+        Verb::Neg(Width::W128),
+    ];
+    found_in_block(w, &verbs)
 }
 
 fn block_kind(version: u8, verb: Verb) -> Kind

@@ -18,8 +18,6 @@ pub mod part;
 pub mod put;
 pub mod read;
 pub mod scan;
-#[cfg(test)]
-mod tests;
 pub mod write;
 
 pub use lines::Lines;

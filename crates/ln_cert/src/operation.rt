@@ -1,12 +1,47 @@
-//! An operation with its number.
-ghost use Rattle.std.specs.Prelude.{IfSome, IfNone};
+//! An operation with its number, and without it.
+ghost use Rattle.std.specs.Prelude.{◌≡◌, IfSome, IfNone};
 ghost use Rattle.ln_cert.specs.declared.part.Verb.TheVariants as verb;
 ghost use Rattle.ln_cert.specs.Words.{words_from};
 ghost use Rattle.ln_cert.specs.Reading.{OpAt, NoOpAt};
+ghost use Rattle.ln_cert.specs.Text.{takes_off, verb_of};
 
 use crate::args::{field, signed_field};
 use crate::part::Verb;
 use ln_code::Op;
+
+/// An operation without its number.
+pub fn verb_of(op: Op) -> Verb
+    ensures { result ≡ verb_of op }
+{
+    match op {
+        Op::Push(_) => Verb::Push,
+        Op::Input(_) => Verb::Input,
+        Op::Get(_) => Verb::Get,
+        Op::Set(_) => Verb::Set,
+        Op::Add(width) => Verb::Add(width),
+        Op::Sub(width) => Verb::Sub(width),
+        Op::Mul(width) => Verb::Mul(width),
+        Op::Neg(width) => Verb::Neg(width),
+        Op::Cut(_) => Verb::Cut,
+    }
+}
+
+/// Whether it takes a value off the stack into a local: then no certificate stands behind it.
+pub fn takes_off(verb: Verb) -> bool
+    ensures { result ≡ takes_off verb }
+{
+    match verb {
+        Verb::Set => true,
+        Verb::Push
+        | Verb::Input
+        | Verb::Get
+        | Verb::Add(_)
+        | Verb::Sub(_)
+        | Verb::Mul(_)
+        | Verb::Neg(_)
+        | Verb::Cut => false,
+    }
+}
 
 fn push(bytes: &[u8], at: usize) -> Option<(Op, usize)>
     ensures some { IfSome result (λ x. OpAt verb.Push (words_from at bytes.now) x.0 (words_from x.1 bytes.now)) }

@@ -38,7 +38,7 @@ pub struct Entry {
 }
 
 /// An operation without its number.
-#[derive(Clone, Copy, Debug, PartialEq, Eq)]
+#[derive(Clone, Copy)]
 pub enum Verb {
     Push,
     Input,
@@ -52,7 +52,7 @@ pub enum Verb {
 }
 
 /// What the first word of a line says, at its place.
-#[derive(Clone, Copy, Debug, PartialEq, Eq)]
+#[derive(Clone, Copy)]
 pub enum Kind {
     Predicate,
     NoFilter,
@@ -69,7 +69,7 @@ pub enum Kind {
 
 /// What the lines so far end in: the end of a predicate or the first line, a predicate's name, operations of a filter, a filter's
 /// end, operations of a block, a block's end, an order.
-#[derive(Clone, Copy, Debug, PartialEq, Eq)]
+#[derive(Clone, Copy)]
 pub enum State {
     Top,
     Opened,

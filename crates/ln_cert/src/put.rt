@@ -2,12 +2,14 @@
 ghost use Rattle.std.specs.Prelude.{◌≡◌, ◌∷◌, ◌++◌, [], IfOk, decimal, map};
 ghost use Rattle.std.specs.Fmt.{signed_decimal};
 ghost use Rattle.ln_cert.specs.declared.part.Part.TheVariants as part;
-ghost use Rattle.ln_cert.specs.Text.{block_word, certificate, exponent_word, filter_word, number_words, range_words, triple_words, verb_of};
+ghost use Rattle.ln_cert.specs.Text.{certificate, exponent_word, number_words, range_words, triple_words};
 ghost use Rattle.ln_cert.specs.Writing.{Puts, PutsLine};
 
+use crate::kinds::{block_word, filter_word};
+use crate::operation::{takes_off, verb_of};
+use crate::part::Verb;
 use itoa::Buffer;
 use ln_base::NoMemory;
-use ln_bound::Width;
 use ln_code::{Op, Triple};
 
 /// Puts bytes.
@@ -115,87 +117,28 @@ fn put_ends(out: &mut Vec<u8>, low: i128, high: i128) -> Result<(), NoMemory>
     Ok(())
 }
 
-fn put_certificate_triple(out: &mut Vec<u8>, op: Op, t: Triple) -> Result<(), NoMemory>
-    ensures { IfOk result (λ x. Puts out.old.items out.new.items (λ r. certificate (verb_of op) (triple_words t) ++ r)) }
+fn put_certificate_triple(out: &mut Vec<u8>, verb: Verb, t: Triple) -> Result<(), NoMemory>
+    ensures { IfOk result (λ x. Puts out.old.items out.new.items (λ r. certificate verb (triple_words t) ++ r)) }
 {
-    match op {
-        Op::Set(_) => Ok(()),
-        Op::Push(_)
-        | Op::Input(_)
-        | Op::Get(_)
-        | Op::Add(_)
-        | Op::Sub(_)
-        | Op::Mul(_)
-        | Op::Neg(_)
-        | Op::Cut(_) => put_triple(out, t),
+    if takes_off(verb) {
+        Ok(())
+    } else {
+        put_triple(out, t)
     }
 }
 
-fn put_certificate_bound(out: &mut Vec<u8>, op: Op, b: u128) -> Result<(), NoMemory>
-    ensures { IfOk result (λ x. Puts out.old.items out.new.items (λ r. certificate (verb_of op) (decimal b ∷ []) ++ r)) }
+fn put_certificate_ends(
+    out: &mut Vec<u8>,
+    verb: Verb,
+    low: i128,
+    high: i128,
+) -> Result<(), NoMemory>
+    ensures { IfOk result (λ x. Puts out.old.items out.new.items (λ r. certificate verb (range_words low high) ++ r)) }
 {
-    match op {
-        Op::Set(_) => Ok(()),
-        Op::Push(_)
-        | Op::Input(_)
-        | Op::Get(_)
-        | Op::Add(_)
-        | Op::Sub(_)
-        | Op::Mul(_)
-        | Op::Neg(_)
-        | Op::Cut(_) => put_number(out, b),
-    }
-}
-
-fn put_certificate_ends(out: &mut Vec<u8>, op: Op, low: i128, high: i128) -> Result<(), NoMemory>
-    ensures { IfOk result (λ x. Puts out.old.items out.new.items (λ r. certificate (verb_of op) (range_words low high) ++ r)) }
-{
-    match op {
-        Op::Set(_) => Ok(()),
-        Op::Push(_)
-        | Op::Input(_)
-        | Op::Get(_)
-        | Op::Add(_)
-        | Op::Sub(_)
-        | Op::Mul(_)
-        | Op::Neg(_)
-        | Op::Cut(_) => put_ends(out, low, high),
-    }
-}
-
-fn filter_text(op: Op) -> &'static [u8]
-    ensures { result.now ≡ filter_word (verb_of op) }
-{
-    match op {
-        Op::Push(_) => b"push",
-        Op::Input(_) => b"input",
-        Op::Get(_) => b"get",
-        Op::Set(_) => b"set",
-        Op::Add(_) => b"add",
-        Op::Sub(_) => b"sub",
-        Op::Mul(_) => b"mul",
-        Op::Neg(_) => b"neg",
-        Op::Cut(_) => b"cut",
-    }
-}
-
-fn block_text(op: Op) -> &'static [u8]
-    ensures { result.now ≡ block_word (verb_of op) }
-{
-    match op {
-        Op::Push(_) => b"push",
-        Op::Input(_) => b"input",
-        Op::Get(_) => b"get",
-        Op::Set(_) => b"set",
-        Op::Add(Width::W64) => b"add64",
-        Op::Add(Width::W128) => b"add128",
-        Op::Sub(Width::W64) => b"sub64",
-        Op::Sub(Width::W128) => b"sub128",
-        Op::Mul(Width::W64) => b"mul64",
-        Op::Mul(Width::W128) => b"mul128",
-        Op::Neg(Width::W64) => b"neg64",
-        Op::Neg(Width::W128) => b"neg128",
-        Op::Cut(_) => b"cut",
+    if takes_off(verb) {
+        Ok(())
+    } else {
+        put_ends(out, low, high)
     }
 }
 
@@ -222,20 +165,10 @@ pub fn put_bare(out: &mut Vec<u8>, word: &[u8]) -> Result<(), NoMemory>
 pub fn put_filter_op(out: &mut Vec<u8>, op: Op, t: Triple) -> Result<(), NoMemory>
     ensures { IfOk result (λ x. PutsLine out.old.items out.new.items (part.FilterOp op t)) }
 {
-    put(out, filter_text(op))?;
+    let verb = verb_of(op);
+    put(out, filter_word(verb))?;
     put_op_number(out, op)?;
-    put_certificate_triple(out, op, t)?;
-    out.push(b'\n')?;
-    Ok(())
-}
-
-/// Puts an operation of a block of version 1.
-pub fn put_bound_op(out: &mut Vec<u8>, op: Op, b: u128) -> Result<(), NoMemory>
-    ensures { IfOk result (λ x. PutsLine out.old.items out.new.items (part.BlockOp op b)) }
-{
-    put(out, block_text(op))?;
-    put_op_number(out, op)?;
-    put_certificate_bound(out, op, b)?;
+    put_certificate_triple(out, verb, t)?;
     out.push(b'\n')?;
     Ok(())
 }
@@ -244,9 +177,10 @@ pub fn put_bound_op(out: &mut Vec<u8>, op: Op, b: u128) -> Result<(), NoMemory>
 pub fn put_range_op(out: &mut Vec<u8>, op: Op, low: i128, high: i128) -> Result<(), NoMemory>
     ensures { IfOk result (λ x. PutsLine out.old.items out.new.items (part.RangeOp op low high)) }
 {
-    put(out, block_text(op))?;
+    let verb = verb_of(op);
+    put(out, block_word(verb))?;
     put_op_number(out, op)?;
-    put_certificate_ends(out, op, low, high)?;
+    put_certificate_ends(out, verb, low, high)?;
     out.push(b'\n')?;
     Ok(())
 }
@@ -258,18 +192,6 @@ pub fn put_block(out: &mut Vec<u8>, n: u32, exps: &[(u8, u8)]) -> Result<(), NoM
     put(out, b"block".as_slice())?;
     put_number(out, u128::from(n))?;
     put_exponents(out, exps)?;
-    out.push(b'\n')?;
-    Ok(())
-}
-
-/// Puts an `order` line.
-pub fn put_order(out: &mut Vec<u8>, places: &[u8], list: &[u32]) -> Result<(), NoMemory>
-    ensures { IfOk result (λ x. PutsLine out.old.items out.new.items (part.Order places.now list.now)) }
-{
-    put(out, b"order".as_slice())?;
-    put_places(out, places)?;
-    put_word(out, b":".as_slice())?;
-    put_numbers(out, list)?;
     out.push(b'\n')?;
     Ok(())
 }

@@ -13,7 +13,7 @@ use ln_base::{NoMemory, Seq};
 use std::alloc::{AllocFailed, Global};
 
 /// Why bytes are no listing.
-#[derive(Clone, Copy, Debug, PartialEq, Eq)]
+#[derive(Clone, Copy)]
 pub enum ListStop {
     /// The bytes are no listing: the first line, from 1, at which the lines so far are no prefix of a listing. A last line without a
     /// line feed is such a line; where the bytes end too early it is the number of lines plus 1.

@@ -6,3 +6,7 @@
 mod cmean;
 #[cfg(test)]
 mod csyn;
+#[cfg(test)]
+mod emitted;
+#[cfg(test)]
+mod listings;

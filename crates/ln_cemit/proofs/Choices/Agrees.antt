@@ -90,10 +90,6 @@ decided-map : (s : ℕ → ℤ) (ns : List ℕ) → decided s (map suc ns) ≡ d
 decided-map s [] = refl
 decided-map s (n ∷ ns) = ap (λ (d : ℤ × ℕ). if is_zero (s (suc n)) then (d.0, suc d.1) else (s (suc n), 1)) (decided-map s ns)
 
-pub decided-moved : (zs : List ℤ) (f : Option FilterCode) (cs : List Code) (ns : List ℕ) → decided (signs zs f cs) (moved f ns) ≡ decided (sign_at zs cs) ns
-decided-moved zs None cs ns = refl
-decided-moved zs (Some f) cs ns = decided-map (signs zs (Some f) cs) ns
-
 -- ---- the filter
 is-zero-sign : (z : ℤ) (e : ℕ) → nat_lt e (unsigned_abs z) ≡ true → is_zero (sign_of z) ≡ false
 is-zero-sign (pos zero) e h = absurd (never e h) where

@@ -10,7 +10,7 @@ use Rattle.ln_cemit.specs.Choose.{IndexGives, first_of_signs}
 use Rattle.ln_cemit.specs.Checked.{ups}
 use Rattle.ln_cemit.proofs.Conditions.Names.{name_self}
 use Rattle.ln_cemit.specs.Walked.{guarded, picks, says_nothing, tries, walked, without}
-use Rattle.ln_cemit.specs.Chosen.{Answers, AreNumbers, CallsAreCounted, OrientCalls, decided}
+use Rattle.ln_cemit.specs.Chosen.{Answers, AreNumbers, CallsAreCounted, decided}
 
 zero_same : (x : ℤ) → same_number x (pos 0) ≡ is_zero x
 zero_same (pos zero) = refl
@@ -46,13 +46,6 @@ in-without x (y ∷ js) j m = go (not (eqb y x)) m (in-without x js j) where
   go true (inl e) ih = inl e
   go true (inr k) ih = inr (ih k)
   go false k ih = inr (ih k)
-
-least-in : (at : ℕ → ℤ) (i : ℕ) (js : List ℕ) → Member (i ∷ js) (least at i js)
-least-in at i [] = inl refl
-least-in at i (j ∷ js) = go (below_all at i (j ∷ js)) (least-in at j js) where
-  go : (b : Bool) → Member (j ∷ js) (least at j js) → Member (i ∷ j ∷ js) (cond b i (least at j js))
-  go true ih = inl refl
-  go false ih = inr ih
 
 -- ---- what blocks answer, before something else
 abbrev first_then : (ℕ → ℤ) → (ℕ → Counts → Counts) → List ℕ → Counts → (Counts → Outcome) → Outcome
@@ -146,6 +139,3 @@ calls-are-counted sign after (b ∷ bs) k h = by_case (is_zero (sign b)) refl (c
       → (j : Counts) × (first_of_signs sign after (b ∷ bs) k ≡ Said (decided sign (b ∷ bs)).0 j) × (j.calls ≡ ups (decided sign (b ∷ bs)).1 k.calls)
   by_case true e r = rw e (r.0, r.1, r.2 ∙ ap (ups (decided sign bs).1) (h b (inl refl) (entered k)) ∙ ups-next (decided sign bs).1 k.calls)
   by_case false e r = rw e (after b (entered k), refl, h b (inl refl) (entered k))
-
-pub orient-calls : OrientCalls
-orient-calls block own = refl

@@ -17,9 +17,6 @@ use Rattle.ln_cemit.specs.Chosen.{FindsTheOrder, list_of_order}
 use Rattle.ln_cemit.proofs.Choices.Finds.{along_row, below_all, least, tries_then, walked_is}
 
 -- ---- the least one
-not-below : (x : ℤ) → int_lt x x ≡ false
-not-below x = grind (arith, ints)
-
 is-less : (x y : ℤ) → x <ℤ y → int_lt x y ≡ true
 is-less x y h = grind (arith, ints)
 

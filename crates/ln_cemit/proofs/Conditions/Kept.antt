@@ -286,8 +286,3 @@ file_kept ps h d =
 
 pub file_stands : (ps : List Part) → AllFacts ps → flat_file (file_of ps) ≡ file_of ps
 file_stands ps h = file_flat (names_of (file_of ps)) (file_begins ps) ps h
-
--- what the list of programs keeps
-pub facts_of : (ps : List Part) → ((k : ℕ) (d : Part) → k < length ps → IsProgram (get_or ps k d)) → All (λ (p : Part). length p.blocks ≤ 65536) ps → AllFacts ps
-facts_of [] h s = tt
-facts_of (p ∷ ps) h s = (record { kept = h 0 p (omega arith); small = s 0 p (omega arith) }, facts_of ps (λ k d l. h (suc k) d (omega (arith, l))) (λ k d l. s (suc k) d (omega (arith, l))))

@@ -4,7 +4,7 @@ use Rattle.std.specs.Prelude.{Option, Some, None, Contains, codes, reverse, nat_
 use Rattle.std.specs.List.{range_with_len}
 use Rattle.std.proofs.Math.ListN.{replicate}
 use Rattle.std.proofs.Math.Path.{fun_ext}
-use Rattle.std.proofs.lemmas.List.{drop_all, length-map, length-reverse, get_or-map, get_or-reverse, reverse-append, take_all, take_more}
+use Rattle.std.proofs.lemmas.List.{drop_all, length-map, get_or-map, reverse-append, take_all, take_more}
 use Rattle.std.proofs.lemmas.Option.{slice_get-get_or}
 use Rattle.std.proofs.lemmas.Bool.{and_parts, eqb-true}
 use Rattle.ln_algebra.specs.Vector.{same_vector}
@@ -16,8 +16,6 @@ use Rattle.ln_code.specs.Numbers.{cut_by, no_locals}
 use Rattle.ln_code.specs.Kept.{IsProgram}
 use Rattle.ln_code.specs.Lists.{segment_of}
 use Rattle.ln_code.specs.Part.{Code, FilterCode, Part, lines_of}
-use Rattle.ln_csyn.specs.declared.tree.COp.{COp}
-use Rattle.ln_csyn.specs.declared.tree.CType.{CType}
 use Rattle.ln_csyn.specs.Tree as c
 use Rattle.ln_csyn.specs.Tree.{Body, Fun}
 use Rattle.ln_csyn.specs.Grammar.{Token}
@@ -32,7 +30,7 @@ use Rattle.ln_order.proofs.Listing.OrdersLemmas.{is-member}
 use Rattle.ln_order.proofs.Listing.PrefixLemmas.{prefix-is}
 use Rattle.ln_cemit.specs.declared.slot.Slot.{Slot}
 use Rattle.ln_cemit.specs.declared.slot.Way.{Way}
-use Rattle.ln_cemit.specs.Emit.{Rest, body_of, constant, emitted, touching_index, lowest, pushing, put_cut, put_get, slot, type_of, put_neg, put_op, put_set, put_sign, put_two, cut_away, naming, ops_of, unread, reads, reads_row, touching}
+use Rattle.ln_cemit.specs.Emit.{Rest, body_of, constant, emitted, touching_index, pushing, put_get, slot, type_of, put_op, put_sign, naming, ops_of, unread, reads, reads_row, touching}
 use Rattle.ln_cemit.specs.Emitted.{AreKept, BeginsFile}
 use Rattle.ln_cemit.specs.File.{one_fun, one_funs, two_fun}
 use Rattle.ln_cemit.specs.Names.{answer_name, block_name, call_name, decl_name, filter_name}
@@ -41,32 +39,6 @@ use Rattle.ln_cemit.specs.Walked.{attempt, body_for, guarded, less, picks, says_
 use Rattle.ln_cemit.proofs.Meanings.Numbers.{lt_from, lt_not}
 use Rattle.ln_cemit.specs.Ways.{ways}
 use Rattle.ln_cemit.specs.Whole.{block_body, bodies_of, call_body, file_of, filter_body, first_of, funs_before, moved, numbered, part_name}
-
--- ---- the stack is too short
-short-one : (xs : List Slot) → length xs < 1 → xs ≡ []
-short-one [] h = refl
-short-one (x ∷ xs) h = absurd (omega (arith, h))
-
-pub neg_ends : (w : Width) (n : ℕ) (st : List Slot) (ls : ℕ → Option Slot) (go : Rest) → length st < 1 → put_neg decl_name w n (reverse st) ls go ≡ c.End
-neg_ends w n st ls go h = let e = short-one st h in rw e refl
-
-pub cut_ends : (m n : ℕ) (st : List Slot) (ls : ℕ → Option Slot) (go : Rest) → length st < 1 → put_cut decl_name m n (reverse st) ls go ≡ c.End
-cut_ends m n st ls go h = let e = short-one st h in rw e refl
-
-pub set_ends : (j n : ℕ) (st : List Slot) (ls : ℕ → Option Slot) (go : Rest) → length st < 1 → put_set decl_name j n (reverse st) ls go ≡ c.End
-set_ends j n st ls go h = let e = short-one st h in rw e refl
-
-pub two_ends : (o : COp) (w : Width) (n : ℕ) (st : List Slot) (ls : ℕ → Option Slot) (go : Rest) → length st < 2 → put_two decl_name o w n (reverse st) ls go ≡ c.End
-two_ends o w n [] ls go h = refl
-two_ends o w n (x ∷ []) ls go h = refl
-two_ends o w n (x ∷ y ∷ st) ls go h = absurd (omega (arith, h))
-
--- nothing was put, and nothing follows
-pub nothing_moved : (out : List ℕ) (st : List Slot) (body : (ℕ → Option Slot) → Rest → Body) → ((ls : ℕ → Option Slot) (go : Rest) → body ls go ≡ c.End) → MayMove false out out st body
-nothing_moved out st body h = record { goes = λ ls go. record { is = λ r. ap (λ (b : Body). out ++ written (spell_body b r)) (sym (h ls go)) } }
-
-pub nothing_done : (out : List ℕ) (st : List Slot) (os : List (Option Slot)) (body : Rest → Body) → ((go : Rest) → body go ≡ c.End) → Does false out out st os body
-nothing_done out st os body h = record { goes = λ go. record { is = λ r. ap (λ (b : Body). out ++ written (spell_body b r)) (sym (h go)) } }
 
 -- ---- one operation
 -- a constant is pushed
@@ -123,12 +95,6 @@ loop_step {start} {old} {new} {all} more e xs ys i o w st su os os' u q v g d =
 pub loop_named : {start mid new : List ℕ} {all : List Token → List Token} (u : Option ℕ) (b : Body) → Goes start mid (spell_body (naming decl_name u b)) all → ((b : Body) → Goes mid new (spell_body b) (spell_body (naming decl_name u b))) → Goes start new (spell_body b) all
 loop_named u b g h = record { is = λ r. (h b).is r ∙ g.is r }
 
-pub named_none : {a : List ℕ} (u : Option ℕ) → u ≡ None → (b : Body) → Goes a a (spell_body b) (spell_body (naming decl_name u b))
-named_none u e b = rw e (record { is = λ r. refl })
-
-pub named_put : {a n : List ℕ} (u : Option ℕ) (i : ℕ) → u ≡ Some i → Puts a n (spell_body (naming decl_name (Some i) c.End)) → (b : Body) → Goes a n (spell_body b) (spell_body (naming decl_name u b))
-named_put u i e p b = rw e (record { is = λ r. p.is (spell_body b r) })
-
 -- the operations behind one
 ops_behind : (ops : List Op) (ws : List Way) (i : ℕ) → length ops ≡ length ws → ops_of (drop i (lines_of ops ws)) ≡ drop i ops
 ops_behind [] ws zero e = refl
@@ -139,18 +105,6 @@ ops_behind (o ∷ os) (w ∷ ws) (suc i) e = ops_behind os ws i (omega (arith, e
 
 pub unread_is : (o : Op) (ops left : List Op) (ws : List Way) (i : ℕ) (st : List Slot) (u : Option ℕ) → length ops ≡ length ws → left ≡ drop (i + 1) ops → u ≡ unread o left i (reverse st) → unread o (ops_of (drop (i + 1) (lines_of ops ws))) i (reverse st) ≡ u
 unread_is o ops left ws i st u e f g = ap (λ z. unread o z i (reverse st)) (ops_behind ops ws (i + 1) e ∙ sym f) ∙ sym g
-
--- the top of the stack is last in the code
-pub top_is : (d : Slot) (st : List Slot) (m : ℕ) (u : Option ℕ) → 1 ≤ length st → u ≡ cut_away m (get_or st (length st - 1) d ∷ []) → u ≡ cut_away m (reverse st)
-top_is d st m u h e = by_case (reverse st) refl where
-  by_case : (rs : List Slot) → reverse st ≡ rs → u ≡ cut_away m (reverse st)
-  by_case [] f = let l : length (reverse st) ≡ length st = length-reverse st in let z : length (reverse st) ≡ 0 = ap length f in absurd (omega (arith, h, l, z))
-  by_case (y ∷ ys) f =
-      let a : get_or (reverse st) 0 d ≡ get_or st (length st - 1 - 0) d = get_or-reverse st 0 d (omega (arith, h)) in
-      let b : get_or (reverse st) 0 d ≡ y = ap (λ z. get_or z 0 d) f in
-      let n : length st - 1 - 0 ≡ length st - 1 = omega arith in
-      let s : get_or st (length st - 1) d ≡ y = ap (λ z. get_or st z d) (sym n) ∙ sym a ∙ b in
-      e ∙ ap (λ z. cut_away m (z ∷ [])) s ∙ sym (ap (λ z. cut_away m z) f)
 
 pub loop_end : {start old new : List ℕ} {all : List Token → List Token} (e : ℕ) (xs : List (Line Way)) (i : ℕ) (st : List Slot) (os : List (Option Slot)) → xs ≡ [] → Goes start old (spell_body (emitted decl_name e xs i (reverse st) (locals_of os))) all → Puts old new (spell_body (put_sign decl_name e (reverse st))) → Puts start new all
 loop_end {start} {old} {new} {all} e xs i st os q g p =
@@ -179,10 +133,6 @@ pub reads_lines : (ops : List Op) (ws : List Way) → length ops ≡ length ws �
 reads_lines [] ws e = refl
 reads_lines (o ∷ os) [] e = absurd (omega (arith, e))
 reads_lines (o ∷ os) (w ∷ ws) e = ap (λ v. reads o || v) (reads_lines os ws (omega (arith, e)))
-
-pub lowest_more : (t : CType) (e : ℕ) → e ≢ 0 → c.Minus (c.Number t e) ≡ lowest t e
-lowest_more t zero h = absurd (h refl)
-lowest_more t (suc e) h = refl
 
 pub ways_map : {B : Type 0} (g : B → Way) (ops : List Op) (bs : List B) → ways g (lines_of ops bs) ≡ lines_of ops (map g bs)
 ways_map g [] bs = refl
@@ -241,10 +191,6 @@ pick_spelled go i (j ∷ js) r =
     ap (λ z. lexeme (codes "if") ∷ lexeme (codes "(") ∷ spell (less i j) (lexeme (codes ")") ∷ lexeme (codes "{") ∷ z))
     (guarded_spelled i js (go i) (lexeme (codes "}") ∷ spell_body (picks go (j ∷ js)) r) ∙ ap (λ z. open_guards i js (spell_body (go i) z)) (brace_past (length js) (spell_body (picks go (j ∷ js)) r)))
 
-pub picks_first : {a : List ℕ} (go : ℕ → Body) (left : List ℕ) → (left ≡ [] → ⊥) → Goes a a (spell_body (picks_on go left)) (spell_body (picks go left))
-picks_first go [] h = absurd (h refl)
-picks_first go (i ∷ js) h = record { is = λ r. refl }
-
 pub picks_next : {start cur new : List ℕ} {all : List Token → List Token} (go : ℕ → Body) (left others : List ℕ) (k place d : ℕ) → k < length left → place ≡ get_or left k d → others ≡ drop (k + 1) left
     → Goes start cur (spell_body (picks_on go (drop k left))) all → Puts cur new (λ r. open_guards place others (spell_body (go place) (close_braces (length others) r))) → Goes start new (spell_body (picks_on go (drop (k + 1) left))) all
 picks_next {start} {cur} {new} {all} go left others k place d l e o g p =
@@ -275,9 +221,6 @@ tries-moved x None [] a b e = e
 tries-moved x (Some f) [] a b e = e
 tries-moved x None (n ∷ ns) a b e = ap (λ z. c.Group 2 (attempt answer_name (block_name x n)) z) (tries-moved x None ns a b e)
 tries-moved x (Some f) (n ∷ ns) a b e = ap (λ z. c.Group 2 (attempt answer_name (block_name x n)) z) (tries-moved x (Some f) ns a b e)
-
-guarded-same : (i : ℕ) (js : List ℕ) (a b : Body) → a ≡ b → guarded i js a ≡ guarded i js b
-guarded-same i js a b e = ap (guarded i js) e
 
 picks-same : (go to : ℕ → Body) (left : List ℕ) → ((i : ℕ) → go i ≡ to i) → picks go left ≡ picks to left
 picks-same go to [] h = refl

@@ -1,5 +1,5 @@
 -- The line at the front of a text, the loop over the lines, and what is left behind some of them.
-use Rattle.std.proofs.Common.{◌≡◌, ℕ, ◌+◌, ◌-◌, ◌≤◌, ◌<◌, suc, true, false, List, [], ◌∷◌, ◌++◌, length, take, drop, map, Option, Some, None, refl, sym, ap, ◌∙◌, subst, arith, append_assoc, append-nil, length-append, length-drop}
+use Rattle.std.proofs.Common.{◌≡◌, ℕ, ◌+◌, ◌-◌, ◌≤◌, ◌<◌, suc, true, false, List, [], ◌∷◌, ◌++◌, length, take, drop, map, Option, Some, refl, sym, ap, ◌∙◌, subst, arith, append_assoc, append-nil, length-append, length-drop}
 use Rattle.ln_cert.specs.declared.part.Entry.{Entry}
 use Rattle.ln_cert.specs.declared.part.Part.{Part}
 use Rattle.ln_cert.specs.declared.part.State.{State}
@@ -8,7 +8,7 @@ use Rattle.ln_cert.specs.Lines.{joined, lines}
 use Rattle.ln_cert.specs.Listing.{AreNumbered, IsFormFault, first_line, parts_of, texts_of}
 use Rattle.ln_cert.specs.Reading.{IsRead, Refuses, goes, is_end, next_at, next_of}
 use Rattle.ln_cert.specs.Text.{Each, IsLine, text_of}
-use Rattle.ln_cert.specs.Unread.{AreLeft, Begins, GoesOn, IsOpened, IsTaken, IsUnread, NoneBegins, Takes, Unread}
+use Rattle.ln_cert.specs.Unread.{AreLeft, Begins, GoesOn, IsOpened, IsTaken, IsUnread, NoneBegins, Unread}
 use Rattle.ln_cert.specs.Words.{span_to, words}
 use Rattle.ln_cert.proofs.Reading.Fault.{Known, each_append, fault_at, fault_end, map_append, some_next}
 use Rattle.ln_cert.proofs.Reading.OneLine.{one_line, words_line}
@@ -165,19 +165,12 @@ still_unread u w p t k h b m a c d =
     let l : length w.text ≡ length u.text - k = ap length d ∙ length-drop k u.text in
     record { parts = r.behind; left = r.left; few = omega (arith, h.few, b.some, b.within) }
 
-pub opened_unread : (bs : List ℕ) (u : Unread) → length bs ≤ 67108864 → length u.text ≤ length bs → IsOpened bs u → IsUnread u
-opened_unread bs u l m h = record { parts = h.parts; left = h.left; few = omega (arith, h.second) }
-
 -- ---- all lines
 -- what the loop over them keeps
 pub record Gathered (old now : Unread) (es : List Entry) : Type 0 where
   pub parts : (ps : List Part) → AreLeft old ps → (behind : List Part) × (ps ≡ parts_of es ++ behind) × AreLeft now behind
   pub numbered : AreNumbered old.line es
   pub counted : now.line ≡ old.line + length es
-
-pub gathered_none : (u : Unread) (es : List Entry) → es ≡ [] → Gathered u u es
-gathered_none u [] e = record { parts = λ ps h. (ps, refl, h); numbered = tt; counted = omega arith }
-gathered_none u (x ∷ es) e = absurd (cc)
 
 pub gathered_more : (old u w : Unread) (es ds : List Entry) (e : Entry) → Gathered old u es → IsTaken u e w → ds ≡ es ++ (e ∷ []) → Gathered old w ds
 gathered_more old u w es ds e g t q =
@@ -188,8 +181,3 @@ gathered_more old u w es ds e g t q =
       numbered = subst (AreNumbered old.line) (sym q) (numbered_more old.line es e g.numbered (t.number ∙ g.counted));
       counted = omega (arith, t.next, g.counted);
     }
-
-pub gathered_all : (old u w : Unread) (es : List Entry) → Gathered old u es → Takes u None w → (ps : List Part) → AreLeft old ps → parts_of es ≡ ps
-gathered_all old u w es g t ps h =
-    let p = g.parts ps h in
-    sym (p.1 ∙ ap (λ x. parts_of es ++ x) (t.0 p.0 p.2) ∙ append-nil (parts_of es))

@@ -28,9 +28,6 @@ word_at at end bs w h e q =
     let d : end - at ≡ s = omega arith in
     a ∙ words_first (drop at bs) ∙ sym (rw (q, d, c) refl)
 
-pub some_word : (bs : List ℕ) (at : ℕ) → at ≤ length bs → words_from at bs ≡ [] → ⊥
-some_word bs at h e = let p = word_at at (at + span_to 32 (drop at bs)) bs (take ((at + span_to 32 (drop at bs)) - at) (drop at bs)) h refl refl in cc
-
 pub past_words : (bs : List ℕ) (at : ℕ) → length bs < at → words_from at bs ≡ []
 past_words bs zero h = absurd (omega arith)
 past_words [] (suc at) h = refl

@@ -87,11 +87,6 @@ numbered_more n [] e a l = (omega arith, tt)
 numbered_more n (x ∷ es) e a l = (a.0, numbered_more (n + 1) es e a.1 (omega arith))
 
 -- ---- the first line
-pub first_is : (bs : List ℕ) (v end : ℕ) (body : List ℕ) → 0 < length bs → end ≡ 0 + span_to 10 (drop 0 bs) → body ≡ take ((end + 1) - 0) (drop 0 bs) → body ≡ first_line v → lines bs ≡ first_line v ∷ lines (drop (end + 1) bs)
-first_is bs v end body h e q f =
-    let n : suc (end - 0) ≡ (end + 1) - 0 = omega arith in
-    line_at bs 0 end h e ∙ ap (λ x. x ∷ lines (drop (end + 1) bs)) (ap (λ m. take m (drop 0 bs)) n ∙ sym q ∙ f)
-
 pub no_first : (bs : List ℕ) (end : ℕ) (body : List ℕ) → 0 < length bs → end ≡ 0 + span_to 10 (drop 0 bs) → body ≡ take ((end + 1) - 0) (drop 0 bs) → ((v : ℕ) → Known v → body ≡ first_line v → ⊥) → IsFormFault bs 1
 no_first bs end body h e q f =
     let n : suc (end - 0) ≡ (end + 1) - 0 = omega arith in

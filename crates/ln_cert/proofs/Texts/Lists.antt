@@ -13,18 +13,6 @@ head e = cc
 pub rest : {A : Type 0} {a b : A} {x y : List A} → a ∷ x ≡ b ∷ y → x ≡ y
 rest e = cc
 
-pub each_more : {A : Type 0} (P : A → Type 0) (xs : List A) (x : A) → Each P xs → P x → Each P (xs ++ x ∷ [])
-each_more P [] x p q = (q, tt)
-each_more P (y ∷ ys) x p q = (p.0, each_more P ys x p.1 q)
-
-pub map_more : {A B : Type 0} (f : A → B) (xs : List A) (x : A) (ws : List B) → map f (xs ++ x ∷ []) ++ ws ≡ map f xs ++ f x ∷ ws
-map_more f [] x ws = refl
-map_more f (y ∷ ys) x ws = ap (λ z. f y ∷ z) (map_more f ys x ws)
-
--- one word more has been read
-pub words_more : {A B : Type 0} (f : A → B) (all : List B) (xs : List A) (x : A) (w : B) (here next : List B) → all ≡ map f xs ++ here → here ≡ w ∷ next → w ≡ f x → all ≡ map f (xs ++ x ∷ []) ++ next
-words_more f all xs x w here next e g h = e ∙ ap (λ z. map f xs ++ z) (g ∙ ap (λ z. z ∷ next) h) ∙ sym (map_more f xs x next)
-
 -- all words have been read
 pub words_all : {A B : Type 0} (f : A → B) (all : List B) (xs : List A) (here : List B) → all ≡ map f xs ++ here → here ≡ [] → all ≡ map f xs
 words_all f all xs here e g = e ∙ ap (λ z. map f xs ++ z) g ∙ append-nil (map f xs)

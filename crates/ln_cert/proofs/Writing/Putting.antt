@@ -1,8 +1,8 @@
 -- Words put to a text.
-use Rattle.std.proofs.Common.{◌≡◌, ℕ, ℤ, suc, ◌<◌, ◌≤◌, List, [], ◌∷◌, ◌++◌, length, get_or, drop, map, sym, ap, ◌∙◌, append_assoc, append-nil, subst, drop-cons}
+use Rattle.std.proofs.Common.{◌≡◌, ℕ, suc, ℤ, ◌+◌, ◌<◌, ◌≤◌, List, [], ◌∷◌, ◌++◌, length, get_or, drop, map, sym, ap, ◌∙◌, append_assoc, append-nil, subst, arith, drop-cons}
+use Rattle.std.proofs.lemmas.List.{drop_all}
 use Rattle.std.specs.Prelude.{codes, decimal}
 use Rattle.std.specs.Fmt.{signed_decimal}
-use Rattle.std.proofs.lemmas.List.{drop_all}
 use Rattle.ln_code.specs.declared.op.Triple.{Triple}
 use Rattle.ln_cert.specs.declared.part.Part.TheVariants.{Order}
 use Rattle.ln_cert.specs.declared.part.Verb.{Verb}
@@ -22,10 +22,6 @@ line_is old a b new w f e p n =
     n ∙ ap (λ z. z ++ (10 ∷ [])) (s ∙ ap (λ z. z ++ spaced (f [])) e ∙ append_assoc old w (spaced (f [])))
     ∙ append_assoc old (w ++ spaced (f [])) (10 ∷ [])
     ∙ ap (λ z. old ++ (z ++ (10 ∷ []))) (sym (parted_spaced w (f [])))
-
--- one word
-pub word_is : (old a new : List ℕ) (w : List ℕ) → a ≡ old ++ (32 ∷ []) → new ≡ a ++ w → Puts old new (λ r. w ∷ r)
-word_is old a new w e f = record { is = λ r. ap (λ z. z ++ spaced r) (f ∙ ap (λ z. z ++ w) e ∙ append_assoc old (32 ∷ []) w) ∙ append_assoc old (32 ∷ w) (spaced r) }
 
 pub then_puts : (old a new : List ℕ) (f g : List (List ℕ) → List (List ℕ)) → Puts old a f → Puts a new g → Puts old new (λ r. f (g r))
 then_puts old a new f g p q = record { is = λ r. q.is r ∙ p.is (g r) }
@@ -72,10 +68,13 @@ order_line old a b c d new t u ps xs e f p q g s n =
 abbrev pub Going : {A : Type 0} → (A → List ℕ) → List ℕ → List ℕ → List A → List A → Type 0
 Going f start now left all = (r : List (List ℕ)) → now ++ spaced (map f left ++ r) ≡ start ++ spaced (map f all ++ r)
 
-pub going_more : {A : Type 0} (f : A → List ℕ) (start now new : List ℕ) (xs all : List A) (i : ℕ) (x : A) (w : List ℕ) → i < length xs → x ≡ get_or xs i x → w ≡ f x → Going f start now (drop i xs) all → Puts now new (λ r. w ∷ r) → Going f start new (drop (suc i) xs) all
-going_more f start now new xs all i x w h e q g p r =
-    let d : drop i xs ≡ x ∷ drop (suc i) xs = drop-cons xs i x h ∙ ap (λ z. z ∷ drop (suc i) xs) (sym e) in
-    p.is (map f (drop (suc i) xs) ++ r) ∙ ap (λ z. now ++ spaced (z ∷ (map f (drop (suc i) xs) ++ r))) q ∙ ap (λ z. now ++ spaced (map f z ++ r)) (sym d) ∙ g r
+-- a word more was put
+pub going_more : {A : Type 0} (f : A → List ℕ) (start now new : List ℕ) (xs : List A) (i : ℕ) (x : A) (w : List ℕ) → i < length xs → w ≡ f (get_or xs i x) → Going f start now (drop i xs) xs → Puts now new (λ r. w ∷ r) → Going f start new (drop (i + 1) xs) xs
+going_more f start now new xs i x w h e g p r =
+    let n : suc i ≡ i + 1 = omega arith in
+    let d : drop i xs ≡ get_or xs i x ∷ drop (i + 1) xs = drop-cons xs i x h ∙ ap (λ m. get_or xs i x ∷ drop m xs) n in
+    p.is (map f (drop (i + 1) xs) ++ r) ∙ ap (λ z. now ++ spaced (z ∷ (map f (drop (i + 1) xs) ++ r))) e ∙ ap (λ z. now ++ spaced (map f z ++ r)) (sym d) ∙ g r
 
+-- all were
 pub going_end : {A : Type 0} (f : A → List ℕ) (start now : List ℕ) (xs : List A) (i : ℕ) → length xs ≤ i → Going f start now (drop i xs) xs → Puts start now (λ r. map f xs ++ r)
 going_end f start now xs i h g = record { is = λ r. ap (λ z. now ++ spaced (map f z ++ r)) (sym (drop_all i xs h)) ∙ g r }

@@ -3,4 +3,4 @@ use Rattle.ln_csyn.proofs.Writing.PutLemmas.{puts_then}
 use Rattle.ln_cemit.proofs.body.put_below.Goals as goal
 
 pub returns : goal.returns
-returns c = puts_then c.in_ok-put_cast.ensures (puts_then c.in_ok-left.ensures (puts_then c.in_ok-put_operand.ensures (puts_then c.in_ok-put_op.ensures (puts_then c.in_ok-put_lowest.ensures (puts_then c.in_ok-right.ensures c.in_ok-right-2.ensures)))))
+returns c = puts_then c.in_ok-put_tokens.ensures (puts_then c.in_ok-put_operand.ensures (puts_then c.in_ok-put_op.ensures (puts_then c.in_ok-put_lowest.ensures c.in_ok-put_tokens-2.ensures)))

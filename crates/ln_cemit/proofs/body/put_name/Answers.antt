@@ -1,6 +1,7 @@
 -- Answers to the goals of `put_name` in src/body.rt.
 use Rattle.ln_csyn.proofs.Writing.PutLemmas.{puts_then}
+use Rattle.ln_cemit.proofs.Writing.Parts.{name_put}
 use Rattle.ln_cemit.proofs.body.put_name.Goals as goal
 
 pub returns : goal.returns
-returns c = puts_then c.in_ok-put_never.ensures (puts_then c.in_ok-brace_left.ensures (puts_then c.in_ok-word_return.ensures (puts_then c.in_ok-put_cast.ensures (puts_then c.in_ok-put_decl_name.ensures (puts_then c.in_ok-right.ensures (puts_then c.in_ok-semi.ensures c.in_ok-brace_right.ensures))))))
+returns c = name_put c.args.n (puts_then c.in_ok-put_tokens.ensures (puts_then c.in_ok-put_decl_name.ensures c.in_ok-put_tokens-2.ensures))

@@ -3,4 +3,4 @@ use Rattle.ln_csyn.proofs.Writing.PutLemmas.{puts_then}
 use Rattle.ln_cemit.proofs.put.put_operand.Goals as goal
 
 pub returns : goal.returns
-returns c = puts_then c.in_ok-left.ensures (puts_then c.in_ok-left-2.ensures (puts_then c.in_ok-put_width.ensures (puts_then c.in_ok-right.ensures (puts_then c.in_ok-put_decl_name.ensures c.in_ok-right-2.ensures))))
+returns c = puts_then c.in_ok-put_cast_of.ensures (puts_then c.in_ok-put_decl_name.ensures c.in_ok-right.ensures)

@@ -3,4 +3,4 @@ use Rattle.ln_csyn.proofs.Writing.PutLemmas.{puts_then}
 use Rattle.ln_cemit.proofs.put.put_opposite.Goals as goal
 
 pub returns : goal.returns
-returns c = puts_then c.in_ok-left.ensures (puts_then c.in_ok-dash.ensures (puts_then c.in_ok-put_operand.ensures c.in_ok-right.ensures))
+returns c = puts_then c.in_ok-put_tokens.ensures (puts_then c.in_ok-put_operand.ensures c.in_ok-right.ensures)

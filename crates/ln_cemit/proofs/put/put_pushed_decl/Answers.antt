@@ -13,4 +13,4 @@ pub returns : goal.returns
 returns c =
     let f : FitsSigned w128 c.args.z = search rules in
     subst (λ (z : ℤ). Puts c.args.out.now.items c.semi.new.out.items (decl_before c.args.n c.args.width (Inner (type_of c.args.width) (constant z)))) (to_z-of_z w128 c.args.z f)
-    (puts_then c.in_ok-put_width.ensures (puts_then c.in_ok-put_decl_name.ensures (puts_then c.in_ok-equals.ensures (puts_then c.in_ok-put_inner_of.ensures c.in_ok-semi.ensures))))
+    (puts_then c.in_ok-put_decl_head.ensures (puts_then c.in_ok-put_inner_of.ensures c.in_ok-semi.ensures))

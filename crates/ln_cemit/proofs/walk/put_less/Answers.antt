@@ -1,6 +1,0 @@
--- Answers to the goals of `put_less` in src/walk.rt.
-use Rattle.ln_csyn.proofs.Writing.PutLemmas.{puts_then}
-use Rattle.ln_cemit.proofs.walk.put_less.Goals as goal
-
-pub returns : goal.returns
-returns c = puts_then c.in_ok-left.ensures (puts_then c.in_ok-put_index_at.ensures (puts_then c.in_ok-put_op.ensures (puts_then c.in_ok-put_index_at-2.ensures c.in_ok-right.ensures)))

@@ -1,0 +1,8 @@
+-- The loop of `found_in_block` in src/kinds.rt.
+use Rattle.std.proofs.Common.{◌≡◌, drop}
+use Rattle.ln_cert.specs.Text.{block_word}
+use Rattle.ln_cert.specs.Reading.{found}
+use Rattle.ln_cert.proofs.kinds.found_in_block.Given as goal
+
+abbrev pub invariant-verbs : goal.invariant-verbs
+invariant-verbs l = found block_word l.w (drop l.verb-index l.verbs) ≡ found block_word l.w l.verbs
