@@ -4,6 +4,7 @@ pub mod Closes
 pub mod Closing
 pub mod Domain
 pub mod Fitting
+pub mod Joins
 pub mod Negations
 pub mod SamePoly
 pub mod Signs

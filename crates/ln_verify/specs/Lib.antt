@@ -6,6 +6,7 @@ pub mod Judge
 pub mod Stands
 pub mod Good
 pub mod Products
+pub mod Joined
 pub mod Signed
 pub mod Versions
 pub mod Values
@@ -13,6 +14,7 @@ pub mod Cuts
 pub mod Works
 pub mod Orders
 pub mod Here
+pub mod Cases
 pub mod AsPart
 pub mod Accepted
 pub mod Verified

@@ -1,14 +1,15 @@
 //! The tests of the rules on ranges.
-ghost use Rattle.std.specs.Prelude.{◌≡◌, ◌↔◌, ◌≤◌, ◌<◌, ◌≤ℤ◌, IsTrue, MatchOption, slice_get};
+ghost use Rattle.std.specs.Prelude.{◌≡◌, ◌↔◌, ◌≤◌, ◌<◌, ◌-◌, ◌^◌, ◌≤ℤ◌, IsTrue, MatchOption, min, slice_get};
 ghost use Rattle.ln_interval.specs.Range.{Covers, IsOrdered, Range, magnitude, most, point};
 ghost use Rattle.ln_interval.specs.View.{range};
+ghost use Rattle.ln_bound.specs.Typed.{bound_of, range_of};
 ghost use Rattle.ln_bound.specs.Value.{size_of};
 ghost use Rattle.ln_code.specs.Rules.{declared};
 ghost use Rattle.ln_verify.specs.BlockRules.{balanced};
 ghost use Rattle.ln_verify.specs.Versions.{Allows, version_of};
 
 use crate::form::Form;
-use ln_bound::Width;
+use ln_bound::{Two, Width};
 use ln_interval::Pair;
 use ln_interval::pair::MOST;
 use ln_tree::VarInfo;
@@ -20,6 +21,28 @@ pub fn is_covered(b: Pair, enough: Option<Pair>) -> bool
     match enough {
         Some(p) => b.covers(p),
         None => false,
+    }
+}
+
+/// The pair of a sum, a difference or a product, if it isn't past the limit.
+pub fn joined_pair(t: Two, x: Pair, y: Pair) -> Option<Pair>
+    ensures { MatchOption result (most < magnitude (range_of t (range x) (range y))) (λ p. range p ≡ range_of t (range x) (range y)) }
+{
+    match t {
+        Two::Plus => x.add(y),
+        Two::Minus => x.sub(y),
+        Two::Times => x.mul(y),
+    }
+}
+
+/// The running size of a sum, a difference or a product, or `2^128 - 1` where it is larger.
+pub fn joined_size(t: Two, x: u128, y: u128) -> u128
+    ensures { result ≡ min (bound_of t x y) (2 ^ 128 - 1) }
+{
+    match t {
+        Two::Plus => x.saturating_add(y),
+        Two::Minus => x.saturating_add(y),
+        Two::Times => x.saturating_mul(y),
     }
 }
 

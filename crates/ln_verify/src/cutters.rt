@@ -1,30 +1,29 @@
 //! What the operations of a filter make: a truncated number with its triple, where the rule of the line holds and what it would
 //! push is small.
-ghost use Rattle.std.specs.Prelude.{◌≡◌, ◌≤◌, ℕ, List, IfOk, length, nat_le, Some};
+ghost use Rattle.std.specs.Prelude.{◌≡◌, ◌≤◌, ℕ, List, IfOk, MatchOption, length, nat_le, Some};
 ghost use Rattle.ln_algebra.specs.Tree.{Tree};
-ghost use Rattle.ln_bound.specs.declared.fitted.Two.TheVariants.{Minus, Plus, Times};
 ghost use Rattle.ln_bound.specs.declared.fitted.Width.TheVariants.{W64};
+ghost use Rattle.ln_bound.specs.Typed.{bound_of};
 ghost use Rattle.ln_bound.specs.Widths.{no_wider};
 ghost use Rattle.ln_interval.specs.Range.{most};
 ghost use Rattle.ln_tree.specs.declared.shape.VarInfo.{VarInfo as Info};
 ghost use Rattle.ln_poly.specs.Expansion.{IsNormal};
 ghost use Rattle.ln_poly.specs.Sparse.{size_of};
-ghost use Rattle.ln_code.specs.FilterRules.{FilterKnown, two_known};
+ghost use Rattle.ln_code.specs.FilterRules.{FilterKnown};
 ghost use Rattle.ln_verify.specs.BlockRules.{Version, triple_rules};
 ghost use Rattle.ln_verify.specs.Cuts.{IsCut};
+ghost use Rattle.ln_verify.specs.Joined.{IsAllowedCut};
 ghost use Rattle.ln_verify.specs.Line.{filter_tree_of};
 ghost use Rattle.ln_verify.specs.Values.{IsMade};
 ghost use Rattle.ln_verify.specs.Versions.{version_of};
 
-use crate::allowed::{input_size, variable};
+use crate::allowed::{input_size, joined_size, variable};
 use crate::cut::Cut;
-use crate::fits::all_fit;
 use crate::form::Form;
 use crate::held;
-use crate::held::{Held, add, mul, opposite, power};
-use crate::triple::{
-    cut_covered, input_covered, number_covered, product_covered, same_covered, sum_covered,
-};
+use crate::held::{Held, opposite, power};
+use crate::joined::joined;
+use crate::triple::{cut_covered, input_covered, number_covered, same_covered, two_covered};
 use ln_base::NoMemory;
 use ln_bound::{Two, Width};
 use ln_code::Triple;
@@ -109,76 +108,29 @@ pub fn again(x: &Cut, a: Triple) -> Result<Option<Cut>, NoMemory>
     Ok(kept(a, x.size, h))
 }
 
-// A sum.
-fn sum(alloc: Global, a: Triple, x: Cut, y: Cut) -> Result<Option<Cut>, NoMemory>
-    ensures { IfOk result (λ o. (n : ℕ) (j k : FilterKnown) → IsCut n x j → IsCut n y k →
-        IsMade (IsCut n) filter_tree_of n o (two_known Plus a j k)) }
-{
-    let size = x.size + y.size;
-    if x.triple.k != y.triple.k {
-        return Ok(None);
-    }
-    if !sum_covered(x.triple, y.triple, a) {
-        return Ok(None);
-    }
-    if !is_small(size) {
-        return Ok(None);
-    }
-    let h = add(alloc, x.poly, y.poly)?;
-    Ok(kept(a, size, h))
-}
-
-// A difference.
-fn difference(alloc: Global, a: Triple, x: Cut, y: Cut) -> Result<Option<Cut>, NoMemory>
-    ensures { IfOk result (λ o. (n : ℕ) (j k : FilterKnown) → IsCut n x j → IsCut n y k →
-        IsMade (IsCut n) filter_tree_of n o (two_known Minus a j k)) }
-{
-    let size = x.size + y.size;
-    if x.triple.k != y.triple.k {
-        return Ok(None);
-    }
-    if !sum_covered(x.triple, y.triple, a) {
-        return Ok(None);
-    }
-    if !is_small(size) {
-        return Ok(None);
-    }
-    let g = opposite(y.poly);
-    let h = add(alloc, g, x.poly)?;
-    Ok(kept(a, size, h))
-}
-
-// A product. Where exponents pass the limit it isn't worked out.
-fn product(alloc: Global, a: Triple, x: Cut, y: Cut) -> Result<Option<Cut>, NoMemory>
-    ensures { IfOk result (λ o. (n : ℕ) (j k : FilterKnown) → IsCut n x j → IsCut n y k →
-        IsMade (IsCut n) filter_tree_of n o (two_known Times a j k)) }
-{
-    if !product_covered(x.triple, y.triple, a) {
-        return Ok(None);
-    }
-    let Some(size) = x.size.checked_mul(y.size) else {
-        return Ok(None);
-    };
-    if !is_small(size) {
-        return Ok(None);
-    }
-    let f = x.poly.plain(alloc)?;
-    let g = y.poly.plain(alloc)?;
-    if !all_fit(f.terms(), g.terms()) {
-        return Ok(None);
-    }
-    let found = mul(alloc, &f, &g, 1024)?;
-    let Some(h) = found else {
-        return Ok(None);
-    };
-    Ok(kept(a, size, h))
-}
-
 // Is it 64 bits?
 fn is_64(w: Width) -> bool
     ensures { result ≡ no_wider w W64 }
 {
     matches!(w, Width::W64)
+}
+
+// The running size of what an operation makes of two numbers, where the rule of its line holds.
+fn allowed_size(t: Two, w: Width, a: Triple, x: &Cut, y: &Cut) -> Option<u128>
+    ensures { MatchOption result (IsAllowedCut t w a x.now y.now → ⊥)
+        (λ s. (s ≡ bound_of t x.now.size y.now.size) × IsAllowedCut t w a x.now y.now) }
+{
+    if !is_64(w) {
+        return None;
+    }
+    if !two_covered(t, x.triple, y.triple, a) {
+        return None;
+    }
+    let size = joined_size(t, x.size, y.size);
+    if size > MOST {
+        return None;
+    }
+    Some(size)
 }
 
 /// Of two values.
@@ -193,14 +145,14 @@ pub fn two(
     ensures { IfOk result (λ o. (v : Version) (vars : List Info) (n : ℕ) (j k : FilterKnown) → IsCut n x j → IsCut n y k →
         IsMade (IsCut n) filter_tree_of n o ((triple_rules v vars).two t w a j k)) }
 {
-    if !is_64(w) {
+    let Some(size) = allowed_size(t, w, a, &x, &y) else {
         return Ok(None);
-    }
-    match t {
-        Two::Plus => sum(alloc, a, x, y),
-        Two::Minus => difference(alloc, a, x, y),
-        Two::Times => product(alloc, a, x, y),
-    }
+    };
+    let found = joined(alloc, t, x.poly, y.poly)?;
+    let Some(h) = found else {
+        return Ok(None);
+    };
+    Ok(kept(a, size, h))
 }
 
 /// Of one value.

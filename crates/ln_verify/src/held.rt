@@ -2,12 +2,9 @@
 //!
 //! A `get` puts a local onto the stack once more. Were its terms copied then, a short line could cost a thousand copies; so a
 //! polynomial on the stack has owners, and its terms go with the last one. Nor does a `neg` touch the terms: a sign stands beside them.
-ghost use Rattle.std.specs.Prelude.{◌≡◌, ◌≢◌, ℕ, List, [], ◌∷◌, ◌+◌, ◌*◌, ◌<◌, ◌≤◌, ◌^◌, ◌+ℤ◌, All, pos, length, unsigned_abs};
-ghost use Rattle.std.specs.Prelude.{IfOk, IfSome, IfNone};
-ghost use Rattle.ln_algebra.specs.Coefficient.{product};
-ghost use Rattle.ln_poly.specs.Rows.{PowersFit};
-ghost use Rattle.ln_poly.specs.Sparse.{IsPoly, AreBelow, coefficient_at, negated, size_of};
-ghost use Rattle.ln_poly.specs.Within.{TakesMore};
+ghost use Rattle.std.specs.Prelude.{◌≡◌, ◌≢◌, [], ◌∷◌, ◌+◌, ◌<◌, ◌^◌, IfOk, pos, length, unsigned_abs};
+ghost use Rattle.ln_poly.specs.Sparse.{negated, size_of};
+ghost use Rattle.ln_verify.specs.Joined.{IsSum};
 ghost use Rattle.ln_verify.specs.Signed.{signed};
 
 use ln_base::NoMemory;
@@ -145,11 +142,7 @@ pub fn opposite(f: Held) -> Held
 // The sum of two polynomials, in place of the first.
 fn add_to(alloc: Global, f: Held, g: &Held) -> Result<Held, NoMemory>
     requires { size_of f + size_of g.now < 2 ^ 127 }
-    ensures coefficients { IfOk result (λ h. (n : ℕ) (m : List ℕ) →
-        coefficient_at n h m ≡ coefficient_at n f m +ℤ coefficient_at n g.now m) }
-    ensures size { IfOk result (λ h. size_of h ≤ size_of f + size_of g.now) }
-    ensures form { IfOk result IsPoly }
-    ensures below { IfOk result (λ h. (n : ℕ) → AreBelow n f → AreBelow n g.now → AreBelow n h) }
+    ensures { IfOk result (λ h. IsSum f g.now h) }
 {
     let own = f.taken(alloc, g.minus)?;
     let s = sum(alloc, own, g.poly.as_ref())?;
@@ -163,11 +156,7 @@ fn add_to(alloc: Global, f: Held, g: &Held) -> Result<Held, NoMemory>
 /// The sum of two polynomials, in place of the longer one, or of the first. Its terms are copied only where it has other owners.
 pub fn add(alloc: Global, f: Held, g: Held) -> Result<Held, NoMemory>
     requires { size_of f + size_of g < 2 ^ 127 }
-    ensures coefficients { IfOk result (λ h. (n : ℕ) (m : List ℕ) →
-        coefficient_at n h m ≡ coefficient_at n f m +ℤ coefficient_at n g m) }
-    ensures size { IfOk result (λ h. size_of h ≤ size_of f + size_of g) }
-    ensures form { IfOk result IsPoly }
-    ensures below { IfOk result (λ h. (n : ℕ) → AreBelow n f → AreBelow n g → AreBelow n h) }
+    ensures { IfOk result (λ h. IsSum f g h) }
 {
     if f.count() < g.count() {
         let h = add_to(alloc, g, &f)?;
@@ -175,23 +164,4 @@ pub fn add(alloc: Global, f: Held, g: Held) -> Result<Held, NoMemory>
     }
     let h = add_to(alloc, f, &g)?;
     Ok(h)
-}
-
-/// The product of two polynomials, where it has at most `most` terms; None where it has more.
-pub fn mul(alloc: Global, f: &Poly, g: &Poly, most: usize) -> Result<Option<Held>, NoMemory>
-    requires room { size_of f.now * size_of g.now < 2 ^ 127 }
-    requires powers { All (λ s. PowersFit s g.now) f.now }
-    ensures coefficients { IfOk result (λ o. IfSome o (λ h. (n : ℕ) (m : List ℕ) → length m ≡ n →
-        coefficient_at n h m ≡ product (coefficient_at n f.now) (coefficient_at n g.now) m)) }
-    ensures size { IfOk result (λ o. IfSome o (λ h. size_of h ≤ size_of f.now * size_of g.now)) }
-    ensures form { IfOk result (λ o. IfSome o IsPoly) }
-    ensures below { IfOk result (λ o. IfSome o (λ h. (n : ℕ) → AreBelow n f.now → AreBelow n g.now → AreBelow n h)) }
-    ensures none { IfOk result (λ o. IfNone o (TakesMore f.now g.now most)) }
-{
-    let found = ln_poly::mul_within(alloc, f, g, most)?;
-    let Some(p) = found else {
-        return Ok(None);
-    };
-    let h = Held::of(alloc, p)?;
-    Ok(Some(h))
 }

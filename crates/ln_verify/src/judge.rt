@@ -161,6 +161,42 @@ fn fresh_desk(alloc: Global) -> Result<Desk, NoMemory>
     })
 }
 
+// Does the reader stand outside of parts, behind one for each predicate?
+fn is_over(cases: &[Case], desk: &Desk) -> bool
+    ensures { IsTrue result ↔ ((desk.now.at ≡ Away) × (desk.now.parts ≡ length cases.now)) }
+{
+    if !is_at(desk.at, At::Away) {
+        return false;
+    }
+    desk.parts == cases.len()
+}
+
+// The first line that fails, or none fails, where the reader stands in front of the first part.
+fn over_entries(
+    alloc: Global,
+    cases: &[Case],
+    form: Form,
+    entries: &[Entry],
+    desk: &mut Desk,
+) -> Result<Option<u32>, NoMemory>
+    requires cases { All IsCase cases.now }
+    requires numbered { AreNumbered 2 entries.now }
+    requires few { length entries.now < 4294967294 }
+    requires away { desk.old.at ≡ Away }
+    requires none { desk.old.parts ≡ 0 }
+    ensures { IfOk result (λ o. IsAnswer (version_of form) (subjects_of cases.now) (parts_of entries.now) o) }
+{
+    'lines: for (i, e) in entries.iter().enumerate() {
+        if !line(alloc, cases, form, desk, &e.part)? {
+            return Ok(Some(e.line));
+        }
+    }
+    if is_over(cases, desk) {
+        return Ok(None);
+    }
+    Ok(Some(entries.len() as u32 + 2))
+}
+
 /// The first line that fails, or none fails.
 pub fn judge(
     alloc: Global,
@@ -174,18 +210,8 @@ pub fn judge(
     ensures { IfOk result (λ o. IsAnswer (version_of form) (subjects_of cases.now) (parts_of entries.now) o) }
 {
     let mut desk = fresh_desk(alloc)?;
-    'lines: for (i, e) in entries.iter().enumerate() {
-        if !line(alloc, cases, form, &mut desk, &e.part)? {
-            return Ok(Some(e.line));
-        }
-    }
-    if !is_at(desk.at, At::Away) {
-        return Ok(Some(entries.len() as u32 + 2));
-    }
-    if desk.parts != cases.len() {
-        return Ok(Some(entries.len() as u32 + 2));
-    }
-    Ok(None)
+    let answer = over_entries(alloc, cases, form, entries, &mut desk)?;
+    Ok(answer)
 }
 
 // A line at its place, which is dropped then.
@@ -203,6 +229,32 @@ fn entry(
     line(alloc, cases, form, desk, &e.part)
 }
 
+// The first of the lines that are left that fails, or none fails, where the reader stands in front of the first part.
+fn over_lines(
+    alloc: Global,
+    cases: &[Case],
+    form: Form,
+    lines: &mut Lines<'_>,
+    desk: &mut Desk,
+) -> Result<Option<u32>, NoMemory>
+    requires cases { All IsCase cases.now }
+    requires second { lines.old.line ≡ 2 }
+    requires away { desk.old.at ≡ Away }
+    requires none { desk.old.parts ≡ 0 }
+    ensures { IfOk result (λ o. (ps : List AnyPart) → AreLeft lines.old ps → IsAnswer (version_of form) (subjects_of cases.now) ps o) }
+{
+    'lines: while let Some(e) = lines.next(alloc)? {
+        let number = e.line;
+        if !entry(alloc, cases, form, desk, e)? {
+            return Ok(Some(number));
+        }
+    }
+    if is_over(cases, desk) {
+        return Ok(None);
+    }
+    Ok(Some(lines.number()))
+}
+
 /// The first line that fails, or none fails, of the lines that are left of a listing. Each is judged as it is read, and none is kept.
 pub fn judge_lines(
     alloc: Global,
@@ -215,17 +267,6 @@ pub fn judge_lines(
     ensures { IfOk result (λ o. (ps : List AnyPart) → AreLeft lines.old ps → IsAnswer (version_of form) (subjects_of cases.now) ps o) }
 {
     let mut desk = fresh_desk(alloc)?;
-    'lines: while let Some(e) = lines.next(alloc)? {
-        let number = e.line;
-        if !entry(alloc, cases, form, &mut desk, e)? {
-            return Ok(Some(number));
-        }
-    }
-    if !is_at(desk.at, At::Away) {
-        return Ok(Some(lines.number()));
-    }
-    if desk.parts != cases.len() {
-        return Ok(Some(lines.number()));
-    }
-    Ok(None)
+    let answer = over_lines(alloc, cases, form, lines, &mut desk)?;
+    Ok(answer)
 }

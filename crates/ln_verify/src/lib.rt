@@ -16,6 +16,7 @@ pub mod fits;
 pub mod form;
 pub mod heads;
 pub mod held;
+pub mod joined;
 pub mod judge;
 pub mod kinds;
 pub mod laws;

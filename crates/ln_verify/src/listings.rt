@@ -18,7 +18,7 @@ use ln_tree::{Pred, Table};
 use std::alloc::Global;
 
 /// What a listing is for a table.
-#[derive(Clone, Copy, Debug, PartialEq, Eq)]
+#[derive(Clone, Copy)]
 pub enum Judged {
     /// No line fails, and each predicate has its part.
     Valid,

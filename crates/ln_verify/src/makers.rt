@@ -2,25 +2,30 @@
 //!
 //! The rules on ranges, widths and running sizes are tested first, then exponents; only then a polynomial is worked out, which
 //! is known to fit.
-ghost use Rattle.std.specs.Prelude.{◌≡◌, ◌≤◌, ◌+◌, ◌*◌, ℕ, List, IfOk, length, Some, unsigned_abs};
-ghost use Rattle.ln_algebra.specs.Tree.{Add, Mul, Sub, Tree};
-ghost use Rattle.ln_interval.specs.Range.{difference, most, product, sum};
+ghost use Rattle.std.specs.Prelude.{◌≡◌, ◌≤◌, ℕ, List, IfOk, MatchOption, length, Some, unsigned_abs};
+ghost use Rattle.ln_algebra.specs.Tree.{Tree};
+ghost use Rattle.ln_interval.specs.Range.{most};
 ghost use Rattle.ln_interval.specs.View.{range};
 ghost use Rattle.ln_tree.specs.declared.shape.VarInfo.{VarInfo as Info};
+ghost use Rattle.ln_bound.specs.Typed.{bound_of};
 ghost use Rattle.ln_bound.specs.Widths.{no_wider};
 ghost use Rattle.ln_poly.specs.Expansion.{IsNormal};
 ghost use Rattle.ln_poly.specs.Sparse.{size_of};
-ghost use Rattle.ln_code.specs.Rules.{Known, known};
+ghost use Rattle.ln_code.specs.Rules.{Known};
 ghost use Rattle.ln_verify.specs.BlockRules.{Version, block_rules};
+ghost use Rattle.ln_verify.specs.Joined.{IsAllowed};
 ghost use Rattle.ln_verify.specs.Line.{tree_of};
 ghost use Rattle.ln_verify.specs.Values.{IsFor, IsMade};
 ghost use Rattle.ln_verify.specs.Versions.{version_of};
 
-use crate::allowed::{covers_input, covers_number, input_size, is_allowed, is_covered, variable};
-use crate::fits::all_fit;
+use crate::allowed::{
+    covers_input, covers_number, input_size, is_allowed, is_covered, joined_pair, joined_size,
+    variable,
+};
 use crate::form::Form;
 use crate::held;
-use crate::held::{Held, add, mul, opposite, power};
+use crate::held::{Held, opposite, power};
+use crate::joined::joined;
 use crate::value::Value;
 use ln_base::NoMemory;
 use ln_bound::{Two, Width};
@@ -96,62 +101,6 @@ pub fn again(x: &Value, b: Pair) -> Result<Option<Value>, NoMemory>
     Ok(kept(b, width, x.size, h))
 }
 
-// A sum.
-fn sum(alloc: Global, w: Width, b: Pair, x: Value, y: Value) -> Result<Option<Value>, NoMemory>
-    ensures { IfOk result (λ o. (n : ℕ) (j k : Known) → IsFor n x j → IsFor n y k →
-        IsMade (IsFor n) tree_of n o (known (sum j.range k.range) (range b) w (j.size + k.size) (Add j.tree k.tree))) }
-{
-    let size = x.size + y.size;
-    if !is_allowed(is_covered(b, x.pair.add(y.pair)), b, w, size) {
-        return Ok(None);
-    }
-    let h = add(alloc, x.poly, y.poly)?;
-    Ok(kept(b, w, size, h))
-}
-
-// A difference.
-fn difference(
-    alloc: Global,
-    w: Width,
-    b: Pair,
-    x: Value,
-    y: Value,
-) -> Result<Option<Value>, NoMemory>
-    ensures { IfOk result (λ o. (n : ℕ) (j k : Known) → IsFor n x j → IsFor n y k →
-        IsMade (IsFor n) tree_of n o (known (difference j.range k.range) (range b) w (j.size + k.size) (Sub j.tree k.tree))) }
-{
-    let size = x.size + y.size;
-    if !is_allowed(is_covered(b, x.pair.sub(y.pair)), b, w, size) {
-        return Ok(None);
-    }
-    let g = opposite(y.poly);
-    let h = add(alloc, g, x.poly)?;
-    Ok(kept(b, w, size, h))
-}
-
-// A product. Where exponents pass the limit it isn't worked out.
-fn product(alloc: Global, w: Width, b: Pair, x: Value, y: Value) -> Result<Option<Value>, NoMemory>
-    ensures { IfOk result (λ o. (n : ℕ) (j k : Known) → IsFor n x j → IsFor n y k →
-        IsMade (IsFor n) tree_of n o (known (product j.range k.range) (range b) w (j.size * k.size) (Mul j.tree k.tree))) }
-{
-    let Some(size) = x.size.checked_mul(y.size) else {
-        return Ok(None);
-    };
-    if !is_allowed(is_covered(b, x.pair.mul(y.pair)), b, w, size) {
-        return Ok(None);
-    }
-    let f = x.poly.plain(alloc)?;
-    let g = y.poly.plain(alloc)?;
-    if !all_fit(f.terms(), g.terms()) {
-        return Ok(None);
-    }
-    let found = mul(alloc, &f, &g, 1024)?;
-    let Some(h) = found else {
-        return Ok(None);
-    };
-    Ok(kept(b, w, size, h))
-}
-
 // Is the first no wider than the second?
 fn no_wider(a: Width, w: Width) -> bool
     ensures { result ≡ no_wider a w }
@@ -160,6 +109,24 @@ fn no_wider(a: Width, w: Width) -> bool
         Width::W64 => true,
         Width::W128 => matches!(w, Width::W128),
     }
+}
+
+// The running size of what an operation makes of two values, where the rule of its line holds.
+fn allowed_size(t: Two, w: Width, b: Pair, x: &Value, y: &Value) -> Option<u128>
+    ensures { MatchOption result (IsAllowed t w (range b) x.now y.now → ⊥)
+        (λ s. (s ≡ bound_of t x.now.size y.now.size) × IsAllowed t w (range b) x.now y.now) }
+{
+    if !no_wider(x.width, w) {
+        return None;
+    }
+    if !no_wider(y.width, w) {
+        return None;
+    }
+    let size = joined_size(t, x.size, y.size);
+    if !is_allowed(is_covered(b, joined_pair(t, x.pair, y.pair)), b, w, size) {
+        return None;
+    }
+    Some(size)
 }
 
 /// Of two values.
@@ -174,17 +141,14 @@ pub fn two(
     ensures { IfOk result (λ o. (v : Version) (vars : List Info) (n : ℕ) (j k : Known) → IsFor n x j → IsFor n y k →
         IsMade (IsFor n) tree_of n o ((block_rules v vars).two t w (range b) j k)) }
 {
-    if !no_wider(x.width, w) {
+    let Some(size) = allowed_size(t, w, b, &x, &y) else {
         return Ok(None);
-    }
-    if !no_wider(y.width, w) {
+    };
+    let found = joined(alloc, t, x.poly, y.poly)?;
+    let Some(h) = found else {
         return Ok(None);
-    }
-    match t {
-        Two::Plus => sum(alloc, w, b, x, y),
-        Two::Minus => difference(alloc, w, b, x, y),
-        Two::Times => product(alloc, w, b, x, y),
-    }
+    };
+    Ok(kept(b, w, size, h))
 }
 
 /// Of one value.

@@ -1,5 +1,5 @@
 //! The rule on `order` lines.
-ghost use Rattle.std.specs.Prelude.{◌≡◌, ◌↔◌, ◌<◌, ◌++◌, ℕ, All, IfOk, IsTrue, OnOk, length};
+ghost use Rattle.std.specs.Prelude.{◌≡◌, ◌↔◌, ◌<◌, ℕ, All, IfOk, IsTrue, length};
 ghost use Rattle.ln_tree.specs.Exps.{IsAbove};
 ghost use Rattle.ln_order.specs.Places.{order_places};
 ghost use Rattle.ln_order.specs.Prefixes.{segments_from};
@@ -15,16 +15,6 @@ use ln_stage::Stages;
 use ln_tree::Exps;
 use std::alloc::Global;
 
-// Puts numbers at the end.
-fn put_all(out: &mut Vec<u32>, segment: &[u32]) -> Result<(), NoMemory>
-    ensures { OnOk result (out.new.items ≡ out.old.items ++ segment.now) }
-{
-    for n in segment {
-        out.push(*n)?;
-    }
-    Ok(())
-}
-
 // The stage list of an order, as numbers of stages: its segments one after the other.
 fn stage_list(alloc: Global, st: &Stages, o: &Order) -> Result<Vec<u32>, NoMemory>
     requires { length (order_places o.now) ≡ st.now.sites }
@@ -33,7 +23,7 @@ fn stage_list(alloc: Global, st: &Stages, o: &Order) -> Result<Vec<u32>, NoMemor
     let mut out = Vec::new(alloc);
     let k = o.places().len() as u8;
     'places: for j in 0..k + 1 {
-        put_all(&mut out, st.segment(o, j))?;
+        out.extend_from_slice(st.segment(o, j))?;
     }
     Ok(out)
 }

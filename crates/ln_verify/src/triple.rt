@@ -1,8 +1,10 @@
 //! The tests of the rules on triples, in exact arithmetic.
-ghost use Rattle.std.specs.Prelude.{◌≡◌, ◌≤◌, ◌<◌, ◌+◌, ◌*◌, ◌/◌, ◌^◌, MatchOption, unsigned_abs};
+ghost use Rattle.std.specs.Prelude.{◌≡◌, ◌==◌, ◌&&◌, ◌≤◌, ◌<◌, ◌+◌, ◌*◌, ◌/◌, ◌^◌, MatchOption, unsigned_abs};
 ghost use Rattle.ln_bound.specs.Value.{size_of};
 ghost use Rattle.ln_code.specs.FilterRules.{covers, error_after, push_error};
+ghost use Rattle.ln_verify.specs.Joined.{two_covers};
 
+use ln_bound::Two;
 use ln_code::{Triple, error_after, shifted};
 use ln_tree::VarInfo;
 
@@ -46,10 +48,13 @@ pub fn same_covered(x: Triple, a: Triple) -> bool
     covered(u32::from(x.k), u128::from(x.h), u128::from(x.e), a)
 }
 
-/// Does the triple cover a sum or a difference of two with the same k?
-pub fn sum_covered(x: Triple, y: Triple, a: Triple) -> bool
-    ensures { result ≡ covers x.k (x.h + y.h) (x.e + y.e) a }
+// Does the triple cover a sum or a difference of two? They have to have the same k.
+fn sum_covered(x: Triple, y: Triple, a: Triple) -> bool
+    ensures { result ≡ ((x.k == y.k) && covers x.k (x.h + y.h) (x.e + y.e) a) }
 {
+    if x.k != y.k {
+        return false;
+    }
     covered(
         u32::from(x.k),
         u128::from(x.h) + u128::from(y.h),
@@ -71,8 +76,8 @@ fn product_error(h: u64, e: u64, k: u64, d: u64) -> Option<u128>
     }
 }
 
-/// Does the triple cover a product of two?
-pub fn product_covered(x: Triple, y: Triple, a: Triple) -> bool
+// Does the triple cover a product of two?
+fn product_covered(x: Triple, y: Triple, a: Triple) -> bool
     ensures { result ≡ covers (x.k + y.k) (x.h * y.h) (x.h * y.e + y.h * x.e + x.e * y.e) a }
 {
     match product_error(x.h, x.e, y.h, y.e) {
@@ -83,6 +88,17 @@ pub fn product_covered(x: Triple, y: Triple, a: Triple) -> bool
             a,
         ),
         None => false,
+    }
+}
+
+/// Does the triple cover a sum, a difference or a product of two?
+pub fn two_covered(t: Two, x: Triple, y: Triple, a: Triple) -> bool
+    ensures { result ≡ two_covers t x y a }
+{
+    match t {
+        Two::Plus => sum_covered(x, y, a),
+        Two::Minus => sum_covered(x, y, a),
+        Two::Times => product_covered(x, y, a),
     }
 }
 

@@ -2,6 +2,8 @@
 use Rattle.std.proofs.Common.{◌≡◌, ℕ, ◌<◌, ◌+◌, Bool, true, false, List, [], ◌∷◌, ◌++◌, length, refl, sym, ap, arith, subst, ◌∙◌}
 use Rattle.std.proofs.lemmas.List.{length-map, map-append}
 use Rattle.std.specs.Prelude.{Option, Some, None, slice_get}
+use Rattle.std.proofs.lemmas.Option.{slice_get_within}
+use Rattle.ln_order.specs.Orders.{orders_of}
 use Rattle.std.proofs.Common.{zero, suc}
 use Rattle.ln_tree.specs.declared.shape.VarInfo.{VarInfo}
 use Rattle.ln_tree.specs.Exps.{IsAbove, IsRising, Pairs}
@@ -139,6 +141,14 @@ module _ (v : Version) (p : Subject) (d : Desk) where
   opened k a es b e l o r h z (InBlock f bs x lines s) i = cc
   opened k a es b e l o r h z (Ordering w) i = cc
 
+  -- where something that the head of a block needs doesn't hold
+  pub block-refused : (k : ℕ) (a : Pairs) → (d.at ≡ AtGap → k ≡ length d.exps → AreOfSites p.vars a → IsRising a → ⊥) → Leads v p d (Block k a) false d
+  block-refused k a h Named i = (refl, λ t r. r)
+  block-refused k a h (InFilter lines s) i = (refl, λ t r. r)
+  block-refused k a h (Between f bs) i = (refl, λ t r. h i.0 (r.number ∙ sym (ap length i.1 ∙ length-map bs (λ (x : Piece). x.exps))) r.of_sites r.rising)
+  block-refused k a h (InBlock f bs x lines s) i = (refl, λ t r. r)
+  block-refused k a h (Ordering w) i = (refl, λ t r. r)
+
   some-is : (m n : ℕ) → Some m ≡ Some n → m ≡ n
   some-is m n e = cc
 
@@ -165,6 +175,33 @@ module _ (v : Version) (p : Subject) (d : Desk) where
       let y : n ≡ length w.lists = sym z ∙ i.3 in
       let next : IsNextList p (exps_of w.blocks) (length w.lists) places list = subst (λ (m : ℕ). IsNextList p (exps_of w.blocks) m places list) y (subst (λ (es : List Pairs). IsNextList p es n places list) i.1 (k i.2)) in
       (refl, (Ordering (record { filter = w.filter; blocks = w.blocks; lists = w.lists ++ list ∷ [] }), record { next = next; to = refl }, (refl, i.1, i.2, ap (λ m. m + 1) y ∙ sym (length-more w.lists list))))
+
+module _ (v : Version) (p : Subject) (d : Desk) (places list : List ℕ) where
+  none-is : (m : ℕ) → None ≡ Some m → ⊥
+  none-is m q = cc
+
+  -- no `order` line may stand there
+  pub order-nowhere : before_of d.at d.lists ≡ None → Leads v p d (Order places list) false d
+  order-nowhere e Named i = (refl, λ t r. r)
+  order-nowhere e (InFilter lines s) i = (refl, λ t r. r)
+  order-nowhere e (Between f bs) i = absurd (none-is 0 (sym e ∙ ap (λ x. before_of x d.lists) i.0))
+  order-nowhere e (InBlock f bs x lines s) i = (refl, λ t r. r)
+  order-nowhere e (Ordering w) i = absurd (none-is d.lists (sym e ∙ ap (λ x. before_of x d.lists) i.0))
+
+  -- it isn't the next one
+  pub order-not : (n : ℕ) → before_of d.at d.lists ≡ Some n → (AreAbove (length p.vars) d.exps → IsNextList p d.exps n places list → ⊥) → Leads v p d (Order places list) false d
+  order-not n e k Named i = (refl, λ t r. r)
+  order-not n e k (InFilter lines s) i = (refl, λ t r. r)
+  order-not n e k (Between f bs) i =
+      let z : 0 ≡ n = some-is v p d 0 n (sym (ap (λ x. before_of x d.lists) i.0) ∙ e) in
+      (refl, λ t r. k i.2 (subst (λ (es : List Pairs). IsNextList p es n places list) (sym i.1) (subst (λ (m : ℕ). IsNextList p (exps_of bs) m places list) z r.next)))
+  order-not n e k (InBlock f bs x lines s) i = (refl, λ t r. r)
+  order-not n e k (Ordering w) i =
+      let z : d.lists ≡ n = some-is v p d d.lists n (sym (ap (λ x. before_of x d.lists) i.0) ∙ e) in
+      (refl, λ t r. k i.2 (subst (λ (es : List Pairs). IsNextList p es n places list) (sym i.1) (subst (λ (m : ℕ). IsNextList p (exps_of w.blocks) m places list) (sym i.3 ∙ z) r.next)))
+
+pub next-within : (p : Subject) (es : List Pairs) (n : ℕ) (places list : List ℕ) → IsNextList p es n places list → n < length (orders_of p.sites)
+next-within p es n places list h = slice_get_within (orders_of p.sites) n places h.order
 
 pub one-number : (f : Form) → f ≡ One → (version_of f).number ≡ 1
 one-number f e = ap (λ x. (version_of x).number) e

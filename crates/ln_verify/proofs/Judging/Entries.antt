@@ -13,7 +13,7 @@ use Rattle.ln_verify.specs.Judge.{IsFirstFault, IsValid}
 use Rattle.ln_verify.specs.Line.{Place, Subject}
 use Rattle.ln_verify.specs.declared.desk.Desk.{Desk}
 use Rattle.ln_verify.specs.declared.desk.At.TheVariants.{Away}
-use Rattle.ln_verify.proofs.Judging.Places.{Come, come-more, come-short, come-stops, come-whole, come-within}
+use Rattle.ln_verify.proofs.Judging.Places.{Come, come-more, come-stops, come-whole, come-lacks}
 
 part-at : (es : List Entry) (i : ℕ) (d : Entry) → get_or (parts_of es) i d.part ≡ (get_or es i d).part
 part-at [] i d = refl
@@ -43,17 +43,11 @@ module _ (v : Version) (ps : List Subject) (d : Desk) (es : List Entry) (i : ℕ
       let n : e.line ≡ i + 2 = omega (arith, ap (λ (x : Entry). x.line) q, number-at 2 es i e k l) in
       subst (IsFirstFault v ps (parts_of es)) (sym n) (come-stops v ps d (parts_of es) i e.part new (omega (arith, l, parts-many es)) c (subst (λ (x : Part). (here : Place) → IsHere ps d here → Gone v ps here x false new) p h))
 
-  -- the end of the file, within a part
-  pub entries-within : (n : ℕ) → i ≡ length es → n ≡ length es + 2 → Come v ps (take i (parts_of es)) d → (d.at ≡ Away → ⊥) → IsFirstFault v ps (parts_of es) n
-  entries-within n e q c a =
+  -- the end of the file, within a part or where a predicate lacks its part
+  pub entries-lack : (n : ℕ) → i ≡ length es → n ≡ length es + 2 → Come v ps (take i (parts_of es)) d → ((d.at ≡ Away) × (d.parts ≡ length ps) → ⊥) → IsFirstFault v ps (parts_of es) n
+  entries-lack n e q c a =
       let m : length (parts_of es) + 2 ≡ n = omega (arith, q, parts-many es) in
-      subst (IsFirstFault v ps (parts_of es)) m (come-within v ps d (parts_of es) i (omega (arith, e, parts-many es)) c a)
-
-  -- or where a predicate lacks its part
-  pub entries-short : (n : ℕ) → i ≡ length es → n ≡ length es + 2 → Come v ps (take i (parts_of es)) d → (d.parts ≡ length ps → ⊥) → IsFirstFault v ps (parts_of es) n
-  entries-short n e q c a =
-      let m : length (parts_of es) + 2 ≡ n = omega (arith, q, parts-many es) in
-      subst (IsFirstFault v ps (parts_of es)) m (come-short v ps d (parts_of es) i (omega (arith, e, parts-many es)) c a)
+      subst (IsFirstFault v ps (parts_of es)) m (come-lacks v ps d (parts_of es) i (omega (arith, e, parts-many es)) c a)
 
   pub entries-whole : i ≡ length es → Come v ps (take i (parts_of es)) d → d.at ≡ Away → d.parts ≡ length ps → IsValid v ps (parts_of es)
   entries-whole e c a h = come-whole v ps d (parts_of es) i (omega (arith, e, parts-many es)) c a h

@@ -3,14 +3,18 @@ use Rattle.std.proofs.Common.{◌≡◌, ℕ, ◌<◌, ◌≤◌, ◌+◌, Bool,
 use Rattle.ln_verify.proofs.Judging.Walk.{walk-ends, walk-lacks, walk-more, walk-stops}
 use Rattle.std.proofs.lemmas.Option.{get_or_from_slice_get, slice_get-map, slice_get_within}
 use Rattle.std.specs.Option.{option_map}
-use Rattle.std.specs.Prelude.{All, Some, slice_get}
+use Rattle.std.specs.Prelude.{All, None, Some, slice_get}
+use Rattle.std.proofs.lemmas.List.{length-map}
 use Rattle.ln_tree.specs.Names.{name_bytes}
+use Rattle.ln_order.specs.Orders.{orders_of}
+use Rattle.ln_order.specs.Places.{order_places}
 use Rattle.ln_verify.specs.BlockRules.{Version}
 use Rattle.ln_verify.specs.Judge.{FailsAt, Go, IsFirstFault, IsValid}
 use Rattle.ln_verify.specs.Line.{Between, InBlock, InFilter, LineRule, Named, Ordering, Outside, PartRule, Place, Spot, Subject, Within, Written}
 use Rattle.ln_cert.specs.declared.part.Part.{Part}
 use Rattle.ln_cert.specs.declared.part.Part.TheVariants.{Predicate, NoFilter, Filter, FilterOp, Decide, Block, BlockOp, RangeOp, End, Order, Done}
-use Rattle.ln_verify.specs.declared.desk.At.TheVariants.{Away, AtName}
+use Rattle.ln_verify.specs.declared.desk.At.{At}
+use Rattle.ln_verify.specs.declared.desk.At.TheVariants.{Away, AtName, AtFilter, AtGap, AtBlock, AtOrder}
 use Rattle.ln_verify.specs.declared.case.Case.{Case}
 use Rattle.ln_verify.specs.declared.desk.Desk.{Desk}
 use Rattle.ln_verify.specs.Here.{Finished, Gone, IsHere, IsSpot, IsCase, Leads, Over, subject_of, subjects_of}
@@ -38,6 +42,63 @@ named-one v cs d c name (Outside parts) a g e i =
     let there : slice_get (subjects_of cs) (length parts) ≡ Some (subject_of c) = subst (λ k. slice_get (subjects_of cs) k ≡ Some (subject_of c)) i.1 (subject-at cs d.parts c g) in
     (Within parts Named, record { subject = subject_of c; there = there; named = e; to = refl }, (i.1, subject_of c, there, refl))
 named-one v cs d c name (Within parts s) a g e i = absurd (away-none (length i.1.vars) d s a i.3)
+
+none-some : (x : Subject) → None ≡ Some x → ⊥
+none-some x e = cc
+
+subject-none : (cs : List Case) (i : ℕ) → slice_get cs i ≡ None → slice_get (subjects_of cs) i ≡ None
+subject-none cs i e = slice_get-map subject_of cs i ∙ ap (option_map subject_of) e
+
+pub named-none : (v : Version) (cs : List Case) (d new : Desk) (name : List ℕ) (here : Place) → d.at ≡ Away → slice_get cs d.parts ≡ None → IsHere (subjects_of cs) d here → Gone v (subjects_of cs) here (Predicate name) false new
+named-none v cs d new name (Outside parts) a g i =
+    let there = subst (λ k. slice_get (subjects_of cs) k ≡ None) i.1 (subject-none cs d.parts g) in
+    λ q r. none-some r.subject (sym there ∙ r.there)
+named-none v cs d new name (Within parts s) a g i = absurd (away-none (length i.1.vars) d s a i.3)
+
+pub named-other : (v : Version) (cs : List Case) (d new : Desk) (c : Case) (name : List ℕ) (here : Place) → d.at ≡ Away → slice_get cs d.parts ≡ Some c → (name_bytes c.shape.name ≡ name → ⊥) → IsHere (subjects_of cs) d here →
+    Gone v (subjects_of cs) here (Predicate name) false new
+named-other v cs d new c name (Outside parts) a g n i =
+    let there : slice_get (subjects_of cs) (length parts) ≡ Some (subject_of c) = subst (λ k. slice_get (subjects_of cs) k ≡ Some (subject_of c)) i.1 (subject-at cs d.parts c g) in
+    λ q r. n (ap (λ (x : Subject). x.name) (some-same (subject_of c) r.subject (sym there ∙ r.there)) ∙ r.named)
+named-other v cs d new c name (Within parts s) a g n i = absurd (away-none (length i.1.vars) d s a i.3)
+
+-- ---- `done`
+pub case-orders : (c : Case) → IsCase c → length c.orders ≡ length (orders_of c.shape.sites)
+case-orders c k = sym (length-map c.orders order_places) ∙ ap length k.ordered
+
+pub done-elsewhere : (p : Subject) (d : Desk) → (d.at ≡ AtOrder → ⊥) → Finished p d false d
+done-elsewhere p d h parts Named e i = tt
+done-elsewhere p d h parts (InFilter lines s) e i = tt
+done-elsewhere p d h parts (Between f bs) e i = tt
+done-elsewhere p d h parts (InBlock f bs x lines s) e i = tt
+done-elsewhere p d h parts (Ordering w) e i = λ q. h i.0
+
+pub done-lacks : (p : Subject) (d : Desk) → (d.lists ≡ length (orders_of p.sites) → ⊥) → Finished p d false d
+done-lacks p d h parts Named e i = tt
+done-lacks p d h parts (InFilter lines s) e i = tt
+done-lacks p d h parts (Between f bs) e i = tt
+done-lacks p d h parts (InBlock f bs x lines s) e i = tt
+done-lacks p d h parts (Ordering w) e i = λ q. h (i.3 ∙ q)
+
+apart-at : (x : At) → x ≡ AtName → x ≡ AtOrder → ⊥
+apart-at x e f = cc
+
+apart-filter : (x : At) → x ≡ AtFilter → x ≡ AtOrder → ⊥
+apart-filter x e f = cc
+
+apart-gap : (x : At) → x ≡ AtGap → x ≡ AtOrder → ⊥
+apart-gap x e f = cc
+
+apart-block : (x : At) → x ≡ AtBlock → x ≡ AtOrder → ⊥
+apart-block x e f = cc
+
+pub done-over : (p : Subject) (d : Desk) (n : ℕ) → d.at ≡ AtOrder → d.lists ≡ length (orders_of p.sites) → n ≡ d.parts + 1 →
+    Finished p d true (record { at = Away; parts = n; exps = d.exps; bench = d.bench; tray = d.tray; lists = d.lists })
+done-over p d n a h q parts Named e i = absurd (apart-at d.at i a)
+done-over p d n a h q parts (InFilter lines s) e i = absurd (apart-filter d.at i.0 a)
+done-over p d n a h q parts (Between f bs) e i = absurd (apart-gap d.at i.0 a)
+done-over p d n a h q parts (InBlock f bs x lines s) e i = absurd (apart-block d.at i.0 a)
+done-over p d n a h q parts (Ordering w) e i = (sym i.3 ∙ h, refl, omega (arith, q, e))
 
 -- ---- within a part
 -- the predicate at hand is that of the number of parts
@@ -130,19 +191,12 @@ module _ (v : Version) (ps : List Subject) (d : Desk) where
   pub come-first : d.at ≡ Away → d.parts ≡ 0 → Come v ps [] d
   come-first e h = (Outside [], refl, (e, h))
 
-  lacks-place : (here : Place) → (d.at ≡ Away → ⊥) → IsHere ps d here → FailsAt v ps here []
-  lacks-place (Outside parts) a i = absurd (a i.0)
-  lacks-place (Within parts s) a i = tt
+  lacks : (here : Place) → ((d.at ≡ Away) × (d.parts ≡ length ps) → ⊥) → IsHere ps d here → FailsAt v ps here []
+  lacks (Outside parts) a i = λ e. a (i.0, i.1 ∙ e)
+  lacks (Within parts s) a i = tt
 
-  lacks-part : (here : Place) → (d.parts ≡ length ps → ⊥) → IsHere ps d here → FailsAt v ps here []
-  lacks-part (Outside parts) a i = λ e. a (i.1 ∙ e)
-  lacks-part (Within parts s) a i = tt
-
-  pub come-within : (lines : List Part) (i : ℕ) → i ≡ length lines → Come v ps (take i lines) d → (d.at ≡ Away → ⊥) → IsFirstFault v ps lines (length lines + 2)
-  come-within lines i e c a = walk-lacks v ps lines i (length lines + 2) c.0 e (ap (λ k. k + 2) (sym e)) c.1 (lacks-place c.0 a c.2)
-
-  pub come-short : (lines : List Part) (i : ℕ) → i ≡ length lines → Come v ps (take i lines) d → (d.parts ≡ length ps → ⊥) → IsFirstFault v ps lines (length lines + 2)
-  come-short lines i e c a = walk-lacks v ps lines i (length lines + 2) c.0 e (ap (λ k. k + 2) (sym e)) c.1 (lacks-part c.0 a c.2)
+  pub come-lacks : (lines : List Part) (i : ℕ) → i ≡ length lines → Come v ps (take i lines) d → ((d.at ≡ Away) × (d.parts ≡ length ps) → ⊥) → IsFirstFault v ps lines (length lines + 2)
+  come-lacks lines i e c a = walk-lacks v ps lines i (length lines + 2) c.0 e (ap (λ k. k + 2) (sym e)) c.1 (lacks c.0 a c.2)
 
   whole : (lines : List Part) (i : ℕ) (here : Place) → length lines ≤ i → Go v ps (Outside []) (take i lines) here → IsHere ps d here → d.at ≡ Away → d.parts ≡ length ps → IsValid v ps lines
   whole lines i (Outside parts) l g h a e = walk-ends v ps lines i parts l g (sym h.1 ∙ e)

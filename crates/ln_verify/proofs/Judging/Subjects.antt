@@ -76,8 +76,7 @@ abbrev pub Made : List Pred → ℕ → List Case → Type 0
 Made ps i cs = All IsCase cs × AreSubjectsOf (map pred_of (take i ps)) (subjects_of cs)
 
 pub cases-first : (ps : List Pred) (cs : List Case) → cs ≡ [] → Made ps 0 cs
-cases-first ps [] e = (All-nil IsCase, tt)
-cases-first ps (c ∷ cs) e = cc
+cases-first ps cs e = subst (Made ps 0) (sym e) (All-nil IsCase, tt)
 
 pub cases-next : (ps : List Pred) (i : ℕ) (p : Pred) (cs ds : List Case) (c : Case) → i < length ps → p ≡ get_or ps i p → ds ≡ cs ++ c ∷ [] → Made ps i cs → IsCase c → IsSubjectOf (pred_of p) (subject_of c) → Made ps (i + 1) ds
 cases-next ps i p cs ds c l e q h k s = subst (Made ps (i + 1)) (sym q) (cases-more cs c h.0 k, subjects-next ps i p cs c l e h.1 s)
@@ -99,6 +98,12 @@ answered l v cs xs es o p e f q h =
     (subst (λ (ys : List Entry). IsAnswer v (subjects_of cs) (parts_of ys) o) f (subst (λ (ys : List Case). IsAnswer v (subjects_of ys) (parts_of es) o) e h))
 
 -- ---- the two answers
+number-same : (a b : ℕ) → Invalid a ≡ Invalid b → a ≡ b
+number-same a b q = cc
+
+not-valid : (n : ℕ) → Invalid n ≡ Valid → ⊥
+not-valid n q = cc
+
 module _ (ps : List PredOf) (l : Listed) (v : Version) (ss : List Subject) (e : v ≡ rules_of l.version) (those : AreSubjectsOf ps ss) where
   here-valid : IsValid v ss (parts_of l.entries) → IsValidFor ps l
   here-valid h = record { subjects = ss; those = those; valid = subst (λ (w : Version). IsValid w ss (parts_of l.entries)) e h }
@@ -116,14 +121,11 @@ module _ (ps : List PredOf) (l : Listed) (v : Version) (ss : List Subject) (e : 
   valid-there h = (λ q. here-valid h, λ k. refl)
 
   pub valid-not : (n : ℕ) → IsFirstFault v ss (parts_of l.entries) n → (Invalid n ≡ Valid) ↔ IsValidFor ps l
-  valid-not n h = (λ q. cc, λ k. absurd (one-answer.not_both v ss (parts_of l.entries) n (own-valid k) h))
+  valid-not n h = (λ q. absurd (not-valid n q), λ k. absurd (one-answer.not_both v ss (parts_of l.entries) n (own-valid k) h))
 
   pub fault-not : IsValid v ss (parts_of l.entries) → (n : ℕ) → (Valid ≡ Invalid n) ↔ IsFaultFor ps l n
-  fault-not h n = (λ q. cc, λ k. absurd (one-answer.not_both v ss (parts_of l.entries) n h (own-fault n k)))
+  fault-not h n = (λ q. absurd (not-valid n (sym q)), λ k. absurd (one-answer.not_both v ss (parts_of l.entries) n h (own-fault n k)))
 
   pub fault-there : (m : ℕ) → IsFirstFault v ss (parts_of l.entries) m → (n : ℕ) → (Invalid m ≡ Invalid n) ↔ IsFaultFor ps l n
   fault-there m h n =
       (λ q. here-fault n (subst (IsFirstFault v ss (parts_of l.entries)) (number-same m n q) h), λ k. ap Invalid (one-answer.one v ss (parts_of l.entries) m n h (own-fault n k)))
-    where
-      number-same : (a b : ℕ) → Invalid a ≡ Invalid b → a ≡ b
-      number-same a b q = cc

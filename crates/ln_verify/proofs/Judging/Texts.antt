@@ -21,7 +21,7 @@ use Rattle.ln_verify.specs.declared.desk.Desk.{Desk}
 use Rattle.ln_verify.specs.declared.desk.At.TheVariants.{Away}
 use Rattle.ln_verify.specs.declared.listings.Judged.{Judged}
 use Rattle.ln_verify.specs.declared.listings.Judged.TheVariants.{Valid, Invalid}
-use Rattle.ln_verify.proofs.Judging.Places.{Come, come-first, come-more, come-short, come-stops, come-whole, come-within}
+use Rattle.ln_verify.proofs.Judging.Places.{Come, come-first, come-more, come-stops, come-whole, come-lacks}
 use Rattle.ln_verify.proofs.Judging.Subjects.{fault-not, fault-there, valid-not, valid-there}
 
 -- the first of what is left
@@ -82,13 +82,9 @@ module _ (v : Version) (ss : List Subject) (ps : List Part) (d : Desk) (u : Unre
       let n : w.line ≡ u.line = ap (λ (x : Unread). x.line) t.1 in
       (e, omega (arith, e, n, m.number))
 
-  -- the end of the file, within a part
-  pub midway-within : (w : Unread) → Midway v ss ps d u → Takes u None w → (d.at ≡ Away → ⊥) → IsFirstFault v ss ps w.line
-  midway-within w m t a = let e = ended w m t in subst (IsFirstFault v ss ps) e.1 (come-within v ss d ps m.at e.0 m.come a)
-
-  -- or where a predicate lacks its part
-  pub midway-short : (w : Unread) → Midway v ss ps d u → Takes u None w → (d.parts ≡ length ss → ⊥) → IsFirstFault v ss ps w.line
-  midway-short w m t a = let e = ended w m t in subst (IsFirstFault v ss ps) e.1 (come-short v ss d ps m.at e.0 m.come a)
+  -- the end of the file, within a part or where a predicate lacks its part
+  pub midway-lacks : (w : Unread) → Midway v ss ps d u → Takes u None w → ((d.at ≡ Away) × (d.parts ≡ length ss) → ⊥) → IsFirstFault v ss ps w.line
+  midway-lacks w m t a = let e = ended w m t in subst (IsFirstFault v ss ps) e.1 (come-lacks v ss d ps m.at e.0 m.come a)
 
   pub midway-whole : (w : Unread) → Midway v ss ps d u → Takes u None w → d.at ≡ Away → d.parts ≡ length ss → IsValid v ss ps
   midway-whole w m t a b = let e = ended w m t in come-whole v ss d ps m.at e.0 m.come a b

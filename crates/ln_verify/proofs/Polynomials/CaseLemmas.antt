@@ -19,7 +19,9 @@ use Rattle.ln_stage.specs.Lists.{AreStageLists, Passes}
 use Rattle.ln_stage.specs.Staged.{AreStagesOf, Staged, StopsListing}
 use Rattle.ln_stage.specs.declared.stop.StageStop.TheVariants.{Stages}
 use Rattle.ln_verify.specs.Accepted.{IsAccepted, root_of}
+use Rattle.ln_verify.specs.Cases.{IsOrderedOf}
 use Rattle.ln_verify.specs.Here.{IsCase}
+use Rattle.ln_verify.specs.declared.case.Case.{Case}
 
 -- where no node has too many terms, none is the first that has
 few-part : (n : ℕ) (xs : List (Span × Tree)) (y : Span × Tree) (zs : List (Span × Tree)) → HaveFewTerms n (xs ++ y ∷ zs) → HasTooManyTerms n y.1 → ⊥
@@ -38,12 +40,18 @@ pub some_terms : (p : Pred) (f : Sparse) → IsAccepted (pred_of p) → (f ≡ [
 some_terms p f a z e = a.nonzero (z.0 e)
 
 -- the predicate with what its part is judged by
-pub case_is : (p : Pred) (s : Shape) (f : Sparse) (st : Staged) (os : List Order) → s ≡ p.shape → IsAccepted (pred_of p) → IsNormal (length p.shape.vars) (root_of (pred_of p)) f
+made-case : (p : Pred) (s : Shape) (f : Sparse) (st : Staged) (os : List Order) → s ≡ p.shape → IsAccepted (pred_of p) → IsNormal (length p.shape.vars) (root_of (pred_of p)) f
     → AreStagesOf p.shape.sites p.shape.vars f st → map order_places os ≡ orders_of p.shape.sites → IsCase (record { shape = s; poly = f; stages = st; orders = os })
-case_is p s f st os e a n g o = record {
+made-case p s f st os e a n g o = record {
   form = n.form;
   below = subst (λ (z : Shape). AreBelow (length z.vars) f) (sym e) n.below;
   light = subst (λ (z : Shape). weighted_sum (weights z.vars) (terms_of (length z.vars) f) ≤ most) (sym e) (a.whole f n);
   staged = subst (λ (z : Shape). AreStagesOf z.sites z.vars f st) (sym e) g;
   ordered = subst (λ (z : Shape). map order_places os ≡ orders_of z.sites) (sym e) o;
 }
+
+pub case_is : (p : Pred) (c : Case) (f : Sparse) (st : Staged) → IsOrderedOf p.shape f st c → IsAccepted (pred_of p) → IsNormal (length p.shape.vars) (root_of (pred_of p)) f
+    → AreStagesOf p.shape.sites p.shape.vars f st → IsCase c
+case_is p c f st i a n g =
+    made-case p c.shape c.poly c.stages c.orders i.shape a (subst (λ (z : Sparse). IsNormal (length p.shape.vars) (root_of (pred_of p)) z) (sym i.poly) n)
+    (subst (λ (z : Staged). AreStagesOf p.shape.sites p.shape.vars c.poly z) (sym i.stages) (subst (λ (z : Sparse). AreStagesOf p.shape.sites p.shape.vars z st) (sym i.poly) g)) i.ordered

@@ -1,7 +1,6 @@
 -- What is made of values in code, in a block: where a rule doesn't hold nothing is, where it holds the value that is kept.
-use Rattle.std.proofs.Common.{◌≡◌, ◌⊎◌, inl, inr, ℕ, ◌*◌, ◌≤◌, true, false, List, [], ◌∷◌, length, refl, sym, arith, subst, unsigned_abs, ◌&&◌, ◌≢◌}
+use Rattle.std.proofs.Common.{◌≡◌, ◌⊎◌, inl, inr, ℕ, ◌≤◌, Bool, true, false, List, [], ◌∷◌, length, refl, sym, arith, subst, unsigned_abs, ◌&&◌, ◌≢◌}
 use Rattle.std.specs.Prelude.{Option, Some, None, if◌then◌else◌, ℤ, pos, slice_get}
-use Rattle.std.proofs.Math.Nat.{mul-le-mul}
 use Rattle.ln_algebra.specs.Tree.{Input, Neg, Num, Tree}
 use Rattle.ln_algebra.proofs.Expanded.Normal.{zero_cases}
 use Rattle.ln_interval.specs.Range.{Range, magnitude, opposite, point}
@@ -17,6 +16,7 @@ use Rattle.ln_poly.proofs.TermLists.Coefficients.{size-cons, size-nil}
 use Rattle.ln_code.specs.Rules.{Known, known}
 use Rattle.ln_due.specs.Small.{IsSmall}
 use Rattle.ln_verify.specs.BlockRules.{Version, block_rules}
+use Rattle.ln_verify.specs.Joined.{IsAllowed}
 use Rattle.ln_verify.specs.Line.{tree_of}
 use Rattle.ln_verify.specs.Values.{IsFor, IsMade}
 use Rattle.ln_verify.specs.Versions.{Allows}
@@ -100,27 +100,41 @@ module _ (n : ℕ) (t : Two) (x y : Value) (j k : Known) (p : Range) (w : Width)
   abbrev TwoKnown : Option Known
   TwoKnown = known (range_of t j.range k.range) p w (bound_of t j.size k.size) (two_of t j.tree k.tree)
 
-  pub two-no : (Allows (range_of t (range x.pair) (range y.pair)) p w (bound_of t x.size y.size) → ⊥) → Makes n None TwoKnown
+  two-no : (Allows (range_of t (range x.pair) (range y.pair)) p w (bound_of t x.size y.size) → ⊥) → Makes n None TwoKnown
   two-no h = rw (f.range, g.range, f.size, g.size) (refused n (range_of t (range x.pair) (range y.pair)) p w (bound_of t x.size y.size) (two_of t j.tree k.tree) h)
 
-  pub two-large : (IsSmall n (two_of t j.tree k.tree) → ⊥) → Makes n None TwoKnown
+  two-large : (IsSmall n (two_of t j.tree k.tree) → ⊥) → Makes n None TwoKnown
   two-large h = large n (range_of t j.range k.range) p w (bound_of t j.size k.size) (two_of t j.tree k.tree) h
 
-  pub two-yes : (o : Option Value) → Allows (range_of t (range x.pair) (range y.pair)) p w (bound_of t x.size y.size) → Makes n o (Put p w (bound_of t x.size y.size) (two_of t j.tree k.tree)) → Makes n o TwoKnown
+  two-yes : (o : Option Value) → Allows (range_of t (range x.pair) (range y.pair)) p w (bound_of t x.size y.size) → Makes n o (Put p w (bound_of t x.size y.size) (two_of t j.tree k.tree)) → Makes n o TwoKnown
   two-yes o a m = rw (f.range, g.range, f.size, g.size) (allowed n (range_of t (range x.pair) (range y.pair)) p w (bound_of t x.size y.size) (two_of t j.tree k.tree) o a m)
 
   -- the rule of the line, with its widths
   abbrev TwoRule : Option Known
   TwoRule = if no_wider j.width w && no_wider k.width w then TwoKnown else None
 
-  pub two-left : no_wider x.width w ≡ false → Makes n None TwoRule
+  two-left : no_wider x.width w ≡ false → Makes n None TwoRule
   two-left e = let h : no_wider j.width w ≡ false = rw f.width e in rw h tt
 
-  pub two-right : no_wider x.width w ≡ true → no_wider y.width w ≡ false → Makes n None TwoRule
+  two-right : no_wider x.width w ≡ true → no_wider y.width w ≡ false → Makes n None TwoRule
   two-right d e = let h : no_wider j.width w ≡ true = rw f.width d in let i : no_wider k.width w ≡ false = rw g.width e in rw (h, i) tt
 
-  pub two-both : (o : Option Value) → no_wider x.width w ≡ true → no_wider y.width w ≡ true → Makes n o TwoKnown → Makes n o TwoRule
+  two-both : (o : Option Value) → no_wider x.width w ≡ true → no_wider y.width w ≡ true → Makes n o TwoKnown → Makes n o TwoRule
   two-both o d e m = let h : no_wider j.width w ≡ true = rw f.width d in let i : no_wider k.width w ≡ true = rw g.width e in rw (h, i) m
+
+  pub two-refused : (IsAllowed t w p x y → ⊥) → Makes n None TwoRule
+  two-refused h = go (no_wider x.width w) (no_wider y.width w) refl refl
+    where
+      go : (a b : Bool) → no_wider x.width w ≡ a → no_wider y.width w ≡ b → Makes n None TwoRule
+      go false b d e = two-left d
+      go true false d e = two-right d e
+      go true true d e = two-both None d e (two-no (λ a. h (record { left = d; right = e; allows = a })))
+
+  pub two-unmade : IsAllowed t w p x y → (IsSmall n (two_of t j.tree k.tree) → ⊥) → Makes n None TwoRule
+  two-unmade a h = two-both None a.left a.right (two-large h)
+
+  pub two-made : (o : Option Value) (s : ℕ) → s ≡ bound_of t x.size y.size → IsAllowed t w p x y → Makes n o (Put p w s (two_of t j.tree k.tree)) → Makes n o TwoRule
+  two-made o s e a m = two-both o a.left a.right (two-yes o a.allows (subst (λ (z : ℕ). Makes n o (Put p w z (two_of t j.tree k.tree))) e m))
 
 -- ---- one value
 module _ (n : ℕ) (x : Value) (k : Known) (p : Range) (w : Width) (f : IsFor n x k) where
@@ -135,7 +149,3 @@ module _ (n : ℕ) (x : Value) (k : Known) (p : Range) (w : Width) (f : IsFor n 
 
   pub minus-yes : (o : Option Value) → no_wider x.width w ≡ true → Allows (opposite (range x.pair)) p w x.size → Makes n o (Put p w x.size (Neg k.tree)) → Makes n o MinusRule
   minus-yes o e a m = let d : no_wider k.width w ≡ true = rw f.width e in rw (d, f.range, f.size) (allowed n (opposite (range x.pair)) p w x.size (Neg k.tree) o a m)
-
--- ---- running sizes
-pub times-heavy : (a b m n s : ℕ) → a ≤ m → b ≤ n → s ≡ m * n → a * b ≤ s
-times-heavy a b m n s h k e = let l : a * b ≤ m * n = mul-le-mul h k in omega (arith, l, e)

@@ -1,4 +1,9 @@
 -- What is left to show of `case_of`.
+use Rattle.std.proofs.Common.{length, subst, sym}
+use Rattle.ln_tree.specs.Table.{pred_of}
+use Rattle.ln_poly.specs.Expansion.{IsNormal}
+use Rattle.ln_poly.specs.Sparse.{Sparse}
+use Rattle.ln_verify.specs.Accepted.{root_of}
 use Rattle.ln_verify.proofs.Polynomials.CaseLemmas.{case_is, some_terms}
 use Rattle.ln_verify.proofs.cases.case_of.Goals as goal
 
@@ -11,5 +16,8 @@ staged-requires-clause-below c = c.in_ok-poly.ensures.normal.below
 pub staged-requires-clause-few : goal.staged-requires-clause-few
 staged-requires-clause-few c = λ lists l q. c.requires.staged c.in_ok-poly.poly lists c.in_ok-poly.ensures.normal l q
 
+pub returns-clause-normal : goal.returns-clause-normal
+returns-clause-normal c = subst (λ (f : Sparse). IsNormal (length c.args.p.now.shape.vars) (root_of (pred_of c.args.p.now)) f) (sym c.in_ok-case.ensures.poly) c.in_ok-poly.ensures.normal
+
 pub returns-clause-case : goal.returns-clause-case
-returns-clause-case c = case_is c.args.p.now c.in_ok-shape.shape c.in_ok-poly.poly c.in_ok-stages.stages c.in_ok-orders.orders c.in_ok-shape.ensures c.requires c.in_ok-poly.ensures.normal c.in_ok-stages.ensures c.in_ok-orders.ensures
+returns-clause-case c = case_is c.args.p.now c.in_ok-case.case c.in_ok-poly.poly c.in_ok-stages.stages c.in_ok-case.ensures c.requires c.in_ok-poly.ensures.normal c.in_ok-stages.ensures

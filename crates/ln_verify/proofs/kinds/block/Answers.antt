@@ -1,12 +1,29 @@
 -- What is left to show of `block`.
-use Rattle.std.proofs.Common.{◌∙◌, List, subst, ◌≡◌, ◌++◌, ◌∷◌, [], ap}
+use Rattle.std.proofs.Common.{◌∙◌, List, subst, ◌≡◌, ◌++◌, ◌∷◌, [], ap, sym}
 use Rattle.std.specs.Prelude.{MatchOption, Option}
 use Rattle.ln_tree.specs.declared.shape.VarInfo.{VarInfo}
 use Rattle.ln_tree.specs.Exps.{IsRising, Pairs}
 use Rattle.ln_code.specs.Kept.{AreOfSites}
 use Rattle.ln_verify.specs.Here.{subject_of}
-use Rattle.ln_verify.proofs.Engines.AtSpots.{opened}
+use Rattle.ln_verify.proofs.Engines.AtSpots.{block-refused, opened}
+use Rattle.ln_verify.proofs.Values.Ranges.{not-true}
 use Rattle.ln_verify.proofs.kinds.block.Goals as goal
+
+pub returns-then-not-is_at : goal.returns-then-not-is_at
+returns-then-not-is_at c v = block-refused v (subject_of c.args.case.now) c.args.desk.now c.args.k c.args.a.now (λ g l o r. not-true _ (sym c.if-not-is_at.true ∙ c.is_at.ensures.1 g))
+
+pub returns-then-k-len : goal.returns-then-k-len
+returns-then-k-len c v = block-refused v (subject_of c.args.case.now) c.args.desk.now c.args.k c.args.a.now (λ g l o r. c.if-k-len.true (l ∙ sym c.len.ensures))
+
+pub returns-then-not-are_of_sites : goal.returns-then-not-are_of_sites
+returns-then-not-are_of_sites c v =
+    block-refused v (subject_of c.args.case.now) c.args.desk.now c.args.k c.args.a.now
+    (λ g l o r. not-true _ (sym c.if-not-are_of_sites.true ∙ c.are_of_sites.ensures.1 (subst (λ (vs : List VarInfo). AreOfSites vs c.args.a.now) (sym c.as_slice.ensures) o)))
+
+pub returns-in_default : goal.returns-in_default
+returns-in_default c v =
+    let none = rw c.in_default.is at c.in_ok-e.ensures in
+    block-refused v (subject_of c.args.case.now) c.args.desk.now c.args.k c.args.a.now (λ g l o r. none r)
 
 pub returns : goal.returns
 returns c v =

@@ -23,10 +23,22 @@ past k m h = grind (arith, nat_tests)
 order-size : (sites before : ℕ) (o : List ℕ) → slice_get (orders_of sites) before ≡ Some o → length o ≡ sites
 order-size sites before o at = (member-is sites o (before, slice_get_within (orders_of sites) before o at, get_or_from_slice_get (orders_of sites) before o o at)).size
 
+one-order : (o p : List ℕ) → Some o ≡ Some p → o ≡ p
+one-order o p e = cc
+
 pub returns-in_default : goal.returns-in_default
 returns-in_default c a =
     let e = subst (λ (xs : List Order). map order_places xs ≡ orders_of c.args.case.now.shape.sites) (sym c.as_slice.ensures) c.requires.ordered in
     (λ h. not-true _ h, λ h. absurd (order-none c.as_slice.result.now c.args.case.now.shape.sites c.args.before c.args.places.now e (past _ _ c.in_default.ensures.lookup.0) h.order))
+
+pub returns-then-not-is_order : goal.returns-then-not-is_order
+returns-then-not-is_order c a =
+    let case = c.args.case.now in
+    let o = c.in-Some.o.now in
+    let l = c.in-Some.ensures.lookup in
+    let e = subst (λ (xs : List Order). map order_places xs ≡ orders_of c.args.case.now.shape.sites) (sym c.as_slice.ensures) c.requires.ordered in
+    let at = order-at c.as_slice.result.now case.shape.sites c.args.before o e (below _ _ l.0) (l.3.1 o) in
+    (λ h. not-true _ h, λ h. absurd (not-true _ (sym c.if-not-is_order.true ∙ c.is_order.ensures.1 (one-order (order_places o) c.args.places.now (sym at ∙ h.order)))))
 
 pub stage_list-requires : goal.stage_list-requires
 stage_list-requires c =

@@ -6,4 +6,4 @@ use Rattle.ln_verify.proofs.Judging.OrderLines.{list-more}
 use Rattle.ln_verify.proofs.orders.stage_list.Goals as goal
 
 pub places-preserved : goal.places-preserved
-places-preserved c = list-more (λ (i : ℕ). segment_of c.args.st.now (take i (order_places c.args.o.now))) c.places.j c.places.out.items c.put_all.new.out.items c.segment.result.now c.places.invariant c.in_ok-put_all.ensures c.segment.ensures
+places-preserved c = list-more (λ (i : ℕ). segment_of c.args.st.now (take i (order_places c.args.o.now))) c.places.j c.places.out.items c.extend_from_slice.new.self.items c.segment.result.now c.places.invariant c.in_ok-extend_from_slice.ensures.items c.segment.ensures

@@ -1,12 +1,16 @@
--- What is left to show of `judge`.
+-- What is left to show of `over_entries`.
 use Rattle.std.proofs.Common.{Bool, true, false, sym, ◌∙◌, arith, subst}
 use Rattle.std.proofs.lemmas.List.{length-map}
 use Rattle.ln_verify.specs.Line.{Place}
 use Rattle.ln_verify.proofs.Values.Ranges.{not-true}
 use Rattle.ln_verify.specs.Here.{Gone, IsHere, subject_of, subjects_of}
 use Rattle.ln_verify.specs.Versions.{version_of}
-use Rattle.ln_verify.proofs.Judging.Entries.{entries-short, entries-whole, entries-within, entry-more, entry-stops}
-use Rattle.ln_verify.proofs.judge.judge.Goals as goal
+use Rattle.ln_verify.proofs.Judging.Places.{come-first}
+use Rattle.ln_verify.proofs.Judging.Entries.{entries-lack, entries-whole, entry-more, entry-stops}
+use Rattle.ln_verify.proofs.judge.over_entries.Goals as goal
+
+pub lines-init : goal.lines-init
+lines-init c = come-first (version_of c.args.form) (subjects_of c.args.cases.now) c.args.desk.now c.requires.away c.requires.none
 
 pub lines-preserved : goal.lines-preserved
 lines-preserved c =
@@ -22,14 +26,12 @@ returns-then-not-branch c =
     let h : (here : Place) → IsHere ps c.lines.desk here → Gone v ps here c.index-entries-i.result.part false c.line.new.desk = subst (λ (ok : Bool). (here : Place) → IsHere ps c.lines.desk here → Gone v ps here c.index-entries-i.result.part ok c.line.new.desk) c.if-not-branch.true c.in_ok-line.ensures in
     entry-stops v ps c.lines.desk c.args.entries.now c.lines.i c.index-entries-i.result c.line.new.desk (omega (arith, c.lines-test.true)) c.index-entries-i.is c.requires.numbered c.lines.invariant h
 
-pub returns-then-not-is_at : goal.returns-then-not-is_at
-returns-then-not-is_at c =
-    entries-within (version_of c.args.form) (subjects_of c.args.cases.now) c.lines.desk c.args.entries.now c.lines.i _ (omega (arith, c.lines-test.false, c.lines.auto.i-end)) (omega (arith, c.requires.few)) c.lines.invariant (λ a. not-true _ (sym c.if-not-is_at.true ∙ c.is_at.ensures.1 a))
-
-pub returns-then-desk-cases : goal.returns-then-desk-cases
-returns-then-desk-cases c =
-    entries-short (version_of c.args.form) (subjects_of c.args.cases.now) c.lines.desk c.args.entries.now c.lines.i _ (omega (arith, c.lines-test.false, c.lines.auto.i-end)) (omega (arith, c.requires.few)) c.lines.invariant (λ a. c.if-desk-cases.true (a ∙ length-map c.args.cases.now subject_of))
+pub returns-then-is_over : goal.returns-then-is_over
+returns-then-is_over c =
+    let o = c.is_over.ensures.0 c.if-is_over.true in
+    entries-whole (version_of c.args.form) (subjects_of c.args.cases.now) c.lines.desk c.args.entries.now c.lines.i (omega (arith, c.lines-test.false, c.lines.auto.i-end)) c.lines.invariant o.0 (o.1 ∙ sym (length-map c.args.cases.now subject_of))
 
 pub returns : goal.returns
 returns c =
-    entries-whole (version_of c.args.form) (subjects_of c.args.cases.now) c.lines.desk c.args.entries.now c.lines.i (omega (arith, c.lines-test.false, c.lines.auto.i-end)) c.lines.invariant (c.is_at.ensures.0 c.if-not-is_at.false) (c.if-desk-cases.false ∙ sym (length-map c.args.cases.now subject_of))
+    entries-lack (version_of c.args.form) (subjects_of c.args.cases.now) c.lines.desk c.args.entries.now c.lines.i _ (omega (arith, c.lines-test.false, c.lines.auto.i-end)) (omega (arith, c.requires.few)) c.lines.invariant
+    (λ o. not-true _ (sym c.if-is_over.false ∙ c.is_over.ensures.1 (o.0, o.1 ∙ length-map c.args.cases.now subject_of)))

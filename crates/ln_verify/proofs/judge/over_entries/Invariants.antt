@@ -1,10 +1,10 @@
--- The loop of `judge`.
+-- The loop of `over_entries`.
 use Rattle.std.proofs.Common.{take}
 use Rattle.ln_cert.specs.Listing.{parts_of}
 use Rattle.ln_verify.specs.Here.{subjects_of}
 use Rattle.ln_verify.specs.Versions.{version_of}
 use Rattle.ln_verify.proofs.Judging.Places.{Come}
-use Rattle.ln_verify.proofs.judge.judge.Given as goal
+use Rattle.ln_verify.proofs.judge.over_entries.Given as goal
 
 abbrev pub invariant-lines : goal.invariant-lines
 invariant-lines l = Come (version_of l.form) (subjects_of l.cases) (take l.i (parts_of l.entries)) l.desk

@@ -1,11 +1,11 @@
--- The loop of `judge_lines`.
+-- The loop of `over_lines`.
 use Rattle.std.proofs.Common.{List, length}
 use Rattle.ln_cert.specs.declared.part.Part.{Part}
 use Rattle.ln_cert.specs.Unread.{AreLeft}
 use Rattle.ln_verify.specs.Here.{subjects_of}
 use Rattle.ln_verify.specs.Versions.{version_of}
 use Rattle.ln_verify.proofs.Judging.Texts.{Midway}
-use Rattle.ln_verify.proofs.judge.judge_lines.Given as goal
+use Rattle.ln_verify.proofs.judge.over_lines.Given as goal
 
 abbrev pub invariant-lines : goal.invariant-lines
 invariant-lines l = (ps : List Part) → AreLeft l.initial.lines ps → Midway (version_of l.form) (subjects_of l.cases) ps l.desk l.lines

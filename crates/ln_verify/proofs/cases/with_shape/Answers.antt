@@ -1,0 +1,6 @@
+-- What is left to show of `with_shape`.
+use Rattle.std.proofs.Common.{refl}
+use Rattle.ln_verify.proofs.cases.with_shape.Goals as goal
+
+pub returns : goal.returns
+returns c = record { shape = c.in_ok-shape.ensures; poly = refl; stages = refl; orders = refl }

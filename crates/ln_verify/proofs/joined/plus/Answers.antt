@@ -1,0 +1,6 @@
+-- What is left to show of `plus`.
+use Rattle.ln_verify.proofs.Polynomials.Joins.{plus-joined}
+use Rattle.ln_verify.proofs.joined.plus.Goals as goal
+
+pub returns : goal.returns
+returns c = plus-joined c.args.f c.args.g c.in_ok-h.h c.in_ok-h.ensures

@@ -1,0 +1,19 @@
+-- What is left to show of `done`.
+use Rattle.std.proofs.Common.{◌∙◌, arith, sym}
+use Rattle.ln_verify.proofs.Judging.Places.{case-orders, done-elsewhere, done-lacks, done-over}
+use Rattle.ln_verify.proofs.Values.Ranges.{not-true}
+use Rattle.ln_verify.specs.Here.{subject_of}
+use Rattle.ln_verify.proofs.judge.done.Goals as goal
+
+pub returns-then-not-is_at : goal.returns-then-not-is_at
+returns-then-not-is_at c = done-elsewhere (subject_of c.args.case.now) c.args.desk.now (λ e. not-true _ (sym c.if-not-is_at.true ∙ c.is_at.ensures.1 e))
+
+pub returns-then-desk-len : goal.returns-then-desk-len
+returns-then-desk-len c =
+    let o = case-orders c.args.case.now c.requires.case in
+    done-lacks (subject_of c.args.case.now) c.args.desk.now (λ e. c.if-desk-len.true (omega (arith, e, o, c.len.ensures)))
+
+pub returns : goal.returns
+returns c =
+    let o = case-orders c.args.case.now c.requires.case in
+    done-over (subject_of c.args.case.now) c.args.desk.now _ (c.is_at.ensures.0 c.if-not-is_at.false) (omega (arith, o, c.len.ensures, c.if-desk-len.false)) (omega arith)
