@@ -27,8 +27,7 @@ fn put_emitted(
         → BeginsCOfFirst (map pred_of source.now.table.preds) (i + 1) text.new.items) }
 {
     let program = source.program(alloc, i)?;
-    put_program(alloc, text, &program)?;
-    Ok(())
+    put_program(alloc, text, &program)
 }
 
 // C for the predicates of a source, of whose programs no two are there at once.

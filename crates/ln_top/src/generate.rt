@@ -1,5 +1,5 @@
 //! The work of `gen`: rows are made of a generator's words and run one at a time, and the watchers' lines go to Out.
-ghost use Rattle.std.specs.Prelude.{◌≡◌, length};
+ghost use Rattle.std.specs.Prelude.{◌≡◌, [], ◌∷◌, length};
 ghost use Rattle.ln_code.specs.Memory.{MadeFor};
 ghost use Rattle.ln_rows.specs.Record.{columns};
 ghost use Rattle.ln_top.specs.Carried.{CarriesOut, NoPart};
@@ -9,7 +9,7 @@ ghost use Rattle.ln_top.specs.Lines.{PutsAll, PutsOne};
 ghost use Rattle.ln_top.specs.Ready.{IsReadyFor, StandsFor};
 ghost use Rattle.ln_top.specs.Said.{count};
 ghost use Rattle.ln_top.specs.Steps.{Given};
-ghost use Rattle.ln_top.specs.Target.{pred_in};
+ghost use Rattle.ln_top.specs.Target.{Belongs, pred_in};
 ghost use Rattle.ln_watch.specs.Panel.{states_of};
 
 use crate::gen_row::gen_row;
@@ -73,6 +73,51 @@ fn put_rows<C: Console>(
     true
 }
 
+// Puts the lines of rows that are made of a seed, and the last ones of the watchers.
+fn put_made<C: Console>(
+    con: &mut C,
+    target: &Target<'_>,
+    s: &mut Scratch,
+    seed: u64,
+    rows: u64,
+    watchers: Vec<Box<dyn Watch>>,
+) -> Result<End, Early>
+    requires made { MadeFor target.now.program s.old }
+    requires belongs { Belongs target.now.pred target.now.program }
+    ensures { (g : Given) → g.preds ≡ pred_in target.now ∷ []
+        → CarriesOut (GenSaid seed rows (states_of kind_of tally_of watchers.items) g) NoPart ⊥ ⊥
+        (count (C.faults con.old) (C.faults con.new)) result (C.shown con.old) (C.shown con.new) }
+{
+    let mut panel = Panel::new(watchers);
+    let mut g = Lcg128Xsl64::seed_from_u64(seed);
+    if !put_rows(con, target, s, &mut g, rows, &mut panel) {
+        return Err(Early::Write);
+    }
+    if !close(con, Port::Out, panel) {
+        return Err(Early::Write);
+    }
+    Ok(End::Done)
+}
+
+// The same with memory to run the program in.
+fn run_made<C: Console>(
+    alloc: Global,
+    con: &mut C,
+    target: &Target<'_>,
+    seed: u64,
+    rows: u64,
+    watchers: Vec<Box<dyn Watch>>,
+) -> Result<End, Early>
+    ensures { (g : Given) → g.preds ≡ pred_in target.now ∷ []
+        → CarriesOut (GenSaid seed rows (states_of kind_of tally_of watchers.items) g) NoPart ⊥ ⊥
+        (count (C.faults con.old) (C.faults con.new)) result (C.shown con.old) (C.shown con.new) }
+{
+    let Ok(mut scratch) = target.scratch(alloc) else {
+        return Err(Early::Memory);
+    };
+    put_made(con, target, &mut scratch, seed, rows, watchers)
+}
+
 /// Makes so many rows of a seed, one at a time, and runs them; the lines of the watchers are put on Out. It takes memory before the
 /// first row alone.
 pub(crate) fn work<C: Console>(
@@ -91,16 +136,5 @@ pub(crate) fn work<C: Console>(
     let Ok(target) = one_target(alloc, ready) else {
         return Err(Early::Memory);
     };
-    let Ok(mut scratch) = target.scratch(alloc) else {
-        return Err(Early::Memory);
-    };
-    let mut panel = Panel::new(watchers);
-    let mut g = Lcg128Xsl64::seed_from_u64(seed);
-    if !put_rows(con, &target, &mut scratch, &mut g, rows, &mut panel) {
-        return Err(Early::Write);
-    }
-    if !close(con, Port::Out, panel) {
-        return Err(Early::Write);
-    }
-    Ok(End::Done)
+    run_made(alloc, con, &target, seed, rows, watchers)
 }

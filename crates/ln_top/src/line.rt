@@ -63,6 +63,20 @@ fn add_verdict(text: &mut Vec<u8>, v: Verdict)
     add_within(text, b"\n");
 }
 
+// Adds the line of these bytes and a name.
+fn add_named(text: &mut Vec<u8>, front: &[u8], name: &[u8]) -> Result<(), NoMemory>
+    requires { length front.now ≤ 16 }
+    ensures ok { OnOk result (text.new.items ≡ text.old.items ++ line (front.now ++ name.now)) }
+    ensures err { OnErr result (text.new.items ≡ text.old.items) }
+    ensures room { vec_capacity text.old ≤ vec_capacity text.new }
+{
+    text.reserve(front.len() + name.len() + 1)?;
+    add_within(text, front);
+    add_within(text, name);
+    add_within(text, b"\n");
+    Ok(())
+}
+
 // Adds the line of what is wrong with a column, by the column's name.
 fn add_column(
     alloc: Global,
@@ -77,11 +91,7 @@ fn add_column(
     ensures room { vec_capacity text.old ≤ vec_capacity text.new }
 {
     let name = target.column(alloc, k)?;
-    text.reserve(front.len() + name.len() + 1)?;
-    add_within(text, front);
-    add_within(text, &name);
-    add_within(text, b"\n");
-    Ok(())
+    add_named(text, front, &name)
 }
 
 /// Adds the line of what is said of a record. Only one that names a column takes memory.

@@ -25,8 +25,7 @@ fn put_listed(alloc: Global, text: &mut Vec<u8>, source: &Checked, i: usize) -> 
     let program = source.program(alloc, i)?;
     let _kept = kept(&program);
     let _listable = listable(&program);
-    put_program(alloc, text, &program)?;
-    Ok(())
+    put_program(alloc, text, &program)
 }
 
 // The listing of the programs of a source, of which no two are there at once.

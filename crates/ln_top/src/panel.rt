@@ -120,6 +120,3 @@ impl Panel {
         Ok(())
     }
 }
-
-#[cfg(test)]
-mod tests;

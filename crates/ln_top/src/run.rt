@@ -9,7 +9,7 @@ ghost use Rattle.ln_top.specs.Ready.{IsReadyFor, StandsFor};
 ghost use Rattle.ln_top.specs.Run.{HasRecords, RunPart, RunSaid, StepOf, end_of, piece, piece_room};
 ghost use Rattle.ln_top.specs.Said.{count, line};
 ghost use Rattle.ln_top.specs.Steps.{Given};
-ghost use Rattle.ln_top.specs.Target.{IsInRange, IsReadFor, pred_in};
+ghost use Rattle.ln_top.specs.Target.{IsGivenBy, IsInRange, IsReadFor, pred_in};
 ghost use Rattle.ln_top.specs.Watching.{watching};
 ghost use Rattle.ln_watch.specs.Panel.{last_lines, states_of};
 
@@ -233,6 +233,43 @@ fn run_rows<C: Console>(
     }
 }
 
+// The work on records, of which the first has to be the header.
+fn run_records<C: Console>(
+    alloc: Global,
+    con: &mut C,
+    target: &Target<'_>,
+    rows: &mut Rows<'_>,
+    watchers: Vec<Box<dyn Watch>>,
+) -> Result<End, Early>
+    ensures { (g : Given) → HasRecords g (pred_in target.now) target.now.names rows.old
+        → CarriesOut (RunSaid (states_of kind_of tally_of watchers.items) g)
+        (RunPart (states_of kind_of tally_of watchers.items) g) ⊥ ⊥
+        (count (C.faults con.old) (C.faults con.new)) result (C.shown con.old) (C.shown con.new) }
+{
+    match target.take_header(rows) {
+        Ok(true) => run_rows(alloc, con, target, rows, watchers),
+        Ok(false) => say(alloc, con, Stop::Tell(Why::Header)),
+        Err(_) => Err(Early::Memory),
+    }
+}
+
+// The work on the records of a rows file.
+fn run_text<C: Console>(
+    alloc: Global,
+    con: &mut C,
+    target: &Target<'_>,
+    text: &[u8],
+    watchers: Vec<Box<dyn Watch>>,
+) -> Result<End, Early>
+    ensures { (g : Given) → IsGivenBy g target.now → g.texts ≡ text.now ∷ []
+        → CarriesOut (RunSaid (states_of kind_of tally_of watchers.items) g)
+        (RunPart (states_of kind_of tally_of watchers.items) g) ⊥ ⊥
+        (count (C.faults con.old) (C.faults con.new)) result (C.shown con.old) (C.shown con.new) }
+{
+    let mut rows = Rows::new(alloc, text);
+    run_records(alloc, con, target, &mut rows, watchers)
+}
+
 /// Puts a line for each record behind the header, and the lines of the watchers on Err; or refuses the header.
 pub(crate) fn work<C: Console>(
     alloc: Global,
@@ -249,10 +286,5 @@ pub(crate) fn work<C: Console>(
     let Ok(target) = one_target(alloc, ready) else {
         return Err(Early::Memory);
     };
-    let mut rows = Rows::new(alloc, one_text(ready));
-    match target.take_header(&mut rows) {
-        Ok(true) => run_rows(alloc, con, &target, &mut rows, watchers),
-        Ok(false) => say(alloc, con, Stop::Tell(Why::Header)),
-        Err(_) => Err(Early::Memory),
-    }
+    run_text(alloc, con, &target, one_text(ready), watchers)
 }

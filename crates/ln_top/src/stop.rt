@@ -1,13 +1,14 @@
 //! Why a command stops before its work, and the puts of whole texts.
-ghost use Rattle.std.specs.Prelude.{◌≡◌, ◌≢◌, IfOk, decimal, string_bytes};
+ghost use Rattle.std.specs.Prelude.{◌≡◌, ◌≢◌, ◌++◌, IfOk};
 ghost use Rattle.ln_top.specs.Said.{count, line};
 ghost use Rattle.ln_top.specs.Stop.{refusal_text, why_end};
 ghost use Rattle.ln_top.specs.Carried.{PutsText, Says, stop_line, stop_result};
 
 use crate::status::{Early, End};
+use itoa::Buffer;
 use ln_base::{Console, NoMemory, Port, put_all};
 use ln_compile::Refusal;
-use std::alloc::{AllocError, Global};
+use std::alloc::Global;
 
 /// The line and the column of a byte of the source, from 1.
 #[derive(Clone, Copy)]
@@ -57,25 +58,27 @@ impl Why {
     }
 }
 
-pub(crate) fn number(alloc: Global, n: u32) -> Result<String, AllocError>
-    ensures { IfOk result (λ s. string_bytes s ≡ decimal n) }
+// Adds `error WORD LINE:COL` and a line feed.
+fn add_refusal(text: &mut Vec<u8>, r: Refusal, place: Place) -> Result<(), NoMemory>
+    ensures { IfOk result (λ x. text.new.items ≡ text.old.items ++ line (refusal_text r place)) }
 {
-    format!(in alloc; "{n}")
+    let mut row = Buffer::new();
+    let mut col = Buffer::new();
+    text.extend_from_slice(b"error ")?;
+    text.extend_from_slice(r.word().as_bytes())?;
+    text.extend_from_slice(b" ")?;
+    text.extend_from_slice(row.format(place.line).as_bytes())?;
+    text.extend_from_slice(b":")?;
+    text.extend_from_slice(col.format(place.col).as_bytes())?;
+    text.push(b'\n')?;
+    Ok(())
 }
 
 fn refusal_line(alloc: Global, r: Refusal, place: Place) -> Result<Vec<u8>, NoMemory>
     ensures { IfOk result (λ v. v.items ≡ line (refusal_text r place)) }
 {
-    let row = number(alloc, place.line)?;
-    let col = number(alloc, place.col)?;
     let mut text = Vec::new(alloc);
-    text.extend_from_slice(b"error ")?;
-    text.extend_from_slice(r.word().as_bytes())?;
-    text.extend_from_slice(b" ")?;
-    text.extend_from_slice(row.as_bytes())?;
-    text.extend_from_slice(b":")?;
-    text.extend_from_slice(col.as_bytes())?;
-    text.push(b'\n')?;
+    add_refusal(&mut text, r, place)?;
     Ok(text)
 }
 

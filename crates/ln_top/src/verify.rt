@@ -8,8 +8,9 @@ ghost use Rattle.ln_top.specs.Verify.{HasFault, HasValid, VerifySaid};
 
 use crate::prepare::{Ready, short_text, sound_table};
 use crate::status::{Early, End};
-use crate::stop::{number, put_text};
+use crate::stop::put_text;
 use crate::words::Command;
+use itoa::Buffer;
 use ln_base::{Console, NoMemory};
 use ln_verify::{Judged, verify_text};
 use std::alloc::Global;
@@ -29,10 +30,10 @@ fn first_fault(alloc: Global, ready: &Ready) -> Result<Option<u32>, NoMemory>
 fn fault_text(alloc: Global, at: u32) -> Result<Vec<u8>, NoMemory>
     ensures { IfOk result (λ v. v.items ≡ line (codes "invalid " ++ decimal at)) }
 {
-    let at = number(alloc, at)?;
+    let mut buffer = Buffer::new();
     let mut text = Vec::new(alloc);
     text.extend_from_slice(b"invalid ")?;
-    text.extend_from_slice(at.as_bytes())?;
+    text.extend_from_slice(buffer.format(at).as_bytes())?;
     text.push(b'\n')?;
     Ok(text)
 }

@@ -1,9 +1,10 @@
 //! The words, and what a command needs.
-ghost use Rattle.std.specs.Prelude.{◌≡◌, ◌≤◌, ◌+◌, map, option_map, string_bytes, IfSome};
-ghost use Rattle.ln_top.specs.Plan.{HasForm, command_of, form, named_command, number_of, with_bytes};
-ghost use Rattle.ln_top.specs.Plan.{gen_plan, plan_behind, plan_for, plan_of};
+ghost use Rattle.std.specs.Prelude.{◌≡◌, ◌≤◌, ◌+◌, map, option_map, string_bytes, bytes_eq, if◌then◌else◌, IfSome, Some};
+ghost use Rattle.ln_top.specs.Plan.{HasForm, command_of, form, is_count, named_command, number_of, with_bytes};
+ghost use Rattle.ln_top.specs.Plan.{gen_plan, gen_with, plan_behind, plan_for, plan_of};
 
 use ln_base::decimal::{all_digits, unsigned};
+use std::slice::from_ref;
 
 /// What is to be done.
 #[derive(Clone, Copy)]
@@ -50,56 +51,34 @@ fn form(command: Command) -> Counts
     ensures small { result.most + result.files ≤ 16 }
     ensures ordered { result.least ≤ result.most }
 {
-    match command {
-        Command::Check => Counts {
-            least: 0,
-            most: 0,
-            files: 0,
-        },
-        Command::List => Counts {
-            least: 0,
-            most: 0,
-            files: 0,
-        },
-        Command::Emit => Counts {
-            least: 0,
-            most: 0,
-            files: 0,
-        },
-        Command::Verify => Counts {
-            least: 0,
-            most: 0,
-            files: 1,
-        },
-        Command::Run => Counts {
-            least: 1,
-            most: 1,
-            files: 1,
-        },
-        Command::Gen(..) => Counts {
-            least: 1,
-            most: 1,
-            files: 0,
-        },
+    let (names, files) = match command {
+        Command::Check | Command::List | Command::Emit => (0, 0),
+        Command::Verify => (0, 1),
+        Command::Run => (1, 1),
+        Command::Gen(..) => (1, 0),
+    };
+    Counts {
+        least: names,
+        most: names,
+        files,
     }
+}
+
+// This command where the word is its name, else the other.
+fn or_named(word: &str, name: &str, command: Command, other: Option<Command>) -> Option<Command>
+    ensures { result ≡ (if bytes_eq word.now name.now then Some command else other) }
+{
+    if word == name { Some(command) } else { other }
 }
 
 fn named_command(word: &str) -> Option<Command>
     ensures { result ≡ named_command word.now }
 {
-    if word == "check" {
-        Some(Command::Check)
-    } else if word == "run" {
-        Some(Command::Run)
-    } else if word == "list" {
-        Some(Command::List)
-    } else if word == "emit" {
-        Some(Command::Emit)
-    } else if word == "verify" {
-        Some(Command::Verify)
-    } else {
-        None
-    }
+    let verify = or_named(word, "verify", Command::Verify, None);
+    let emit = or_named(word, "emit", Command::Emit, verify);
+    let list = or_named(word, "list", Command::List, emit);
+    let run = or_named(word, "run", Command::Run, list);
+    or_named(word, "check", Command::Check, run)
 }
 
 fn plan_for<'a>(command: Option<Command>, source: &'a str, rest: &'a [String]) -> Option<Plan<'a>>
@@ -134,25 +113,46 @@ fn number(word: &str) -> Option<u64>
     }
 }
 
+fn is_count(n: u64) -> bool
+    ensures { result ≡ is_count n }
+{
+    1 <= n && n <= 1_000_000
+}
+
+// The plan of `gen`, where there are a seed and a count.
+fn gen_with<'a>(
+    source: &'a str,
+    name: &'a String,
+    seed: Option<u64>,
+    count: Option<u64>,
+) -> Option<Plan<'a>>
+    ensures is { option_map with_bytes result ≡ gen_with source.now (string_bytes name.now) seed count }
+    ensures form { IfSome result (λ p. HasForm (with_bytes p)) }
+{
+    let seed = seed?;
+    let count = count?;
+    if is_count(count) {
+        Some(Plan {
+            source,
+            names: from_ref(name),
+            files: &[],
+            command: Command::Gen(seed, count),
+        })
+    } else {
+        None
+    }
+}
+
 // The plan of the words behind `gen`.
 fn gen_plan<'a>(source: &'a str, rest: &'a [String]) -> Option<Plan<'a>>
     ensures is { option_map with_bytes result ≡ gen_plan source.now (map string_bytes rest.now) }
     ensures form { IfSome result (λ p. HasForm (with_bytes p)) }
 {
-    let [_, seed, count] = rest else {
-        return None;
-    };
-    let seed = number(seed.as_str())?;
-    let count = number(count.as_str())?;
-    if 1 <= count && count <= 1_000_000 {
-        Some(Plan {
-            source,
-            names: &rest[..1],
-            files: &rest[3..],
-            command: Command::Gen(seed, count),
-        })
-    } else {
-        None
+    match rest {
+        [name, seed, count] => {
+            gen_with(source, name, number(seed.as_str()), number(count.as_str()))
+        }
+        _ => None,
     }
 }
 

@@ -8,11 +8,10 @@ use crate::compare::definition::{Part, Row, covered};
 use crate::compare::draw::Draw;
 use crate::compare::filter::decides;
 use crate::compare::text::{Column, Shape, put_header, put_record, repeats, source};
-use crate::support::{said, shelf, tells};
+use crate::support::are_answered;
 use ln_base::NoMemory;
 use ln_top::Status;
 use std::alloc::Global;
-use std::process::Abort;
 use std::test::Fail;
 
 const RUN: &[&str] = &["run", "s.ln", "f", "r.csv"];
@@ -77,27 +76,17 @@ struct Tally {
     undecided: u32,
 }
 
+// A random expression, and the vectors that it covers.
+#[derive(Clone, Copy)]
+struct Drawn<'a> {
+    shape: &'a Shape,
+    parts: &'a [Part],
+    covered: &'a [usize],
+}
+
 impl Tally {
-    // Puts the line that an expression is owed on a row, given the covered vectors of the expression.
-    fn put_line(
-        &mut self,
-        alloc: Global,
-        out: &mut String,
-        row: &Row,
-        parts: &[Part],
-        covered: &[usize],
-    ) -> Result<(), NoMemory> {
-        let Some((first, coefficient)) = row.first(alloc, parts)? else {
-            self.undecided = self.undecided.wrapping_add(1);
-            out.push_str("0 -\n")?;
-            return Ok(());
-        };
-        let sign = if coefficient > 0 { "+" } else { "-" };
-        if decides(alloc, parts, row)? {
-            write!(out, "{sign} F\n")?;
-            return Ok(());
-        }
-        let place = row.place(covered, first);
+    // Puts the line of a sign that is decided at this place.
+    fn put_place(&mut self, out: &mut String, sign: &str, place: usize) -> Result<(), NoMemory> {
         if place > 0 {
             self.perturbed = self.perturbed.wrapping_add(1);
         }
@@ -105,55 +94,117 @@ impl Tally {
         Ok(())
     }
 
-    // A rows file with a random row for each order of four sites, and the lines that the expression is owed on them.
-    fn rows(
+    // Puts the line that an expression is owed on a row.
+    fn put_line(
         &mut self,
         alloc: Global,
-        draw: &mut Draw,
-        shape: &Shape,
-        parts: &[Part],
-        covered: &[usize],
-    ) -> Result<(String, String), NoMemory> {
-        let mut records = String::new(alloc);
-        let mut lines = String::new(alloc);
-        put_header(&mut records, shape)?;
-        for order in 0..24 {
-            let row = draw.row(shape.sites, order);
-            put_record(&mut records, shape, &row)?;
-            self.put_line(alloc, &mut lines, &row, parts, covered)?;
-        }
-        Ok((records, lines))
-    }
-
-    // Compares what is said of a random predicate.
-    fn compare(
-        &mut self,
-        rt: &impl Abort,
-        alloc: Global,
-        draw: &mut Draw,
-        shape: &Shape,
+        out: &mut String,
+        row: &Row,
+        drawn: Drawn<'_>,
     ) -> Result<(), NoMemory> {
-        let parts = draw.expression(alloc)?;
-        let source = source(alloc, shape, &parts)?;
-        let covered = covered(alloc, &parts)?;
-        if covered.is_empty() {
-            let mut files = shelf(alloc, &source, "", &[])?;
-            let (status, con) = said(alloc, RUN, &mut files, &[])?;
-            assert!(rt; status == Status::Refused && tells(&con, "", "error zero 2:11\n"));
+        let Some((first, coefficient)) = row.first(alloc, drawn.parts)? else {
+            self.undecided = self.undecided.wrapping_add(1);
+            out.push_str("0 -\n")?;
+            return Ok(());
+        };
+        let sign = if coefficient > 0 { "+" } else { "-" };
+        if decides(alloc, drawn.parts, row)? {
+            out.push_str(sign)?;
+            out.push_str(" F\n")?;
             return Ok(());
         }
-        let (records, lines) = self.rows(alloc, draw, shape, &parts, &covered)?;
-        let mut files = shelf(alloc, &source, &records, &[])?;
-        let (status, con) = said(alloc, RUN, &mut files, &[])?;
-        assert!(rt;
-            status == Status::Done && tells(&con, &lines, ""),
-            "{source}{records}{lines}"
-        );
-        self.predicates = self.predicates.wrapping_add(1);
-        if repeats(alloc, &parts)? {
-            self.repeated = self.repeated.wrapping_add(1);
+        self.put_place(out, sign, row.place(drawn.covered, first))
+    }
+
+    // Puts a rows file with a random row for each order of four sites, and the lines that the expression is owed on them.
+    fn put_rows(
+        &mut self,
+        alloc: Global,
+        draw: &mut Draw,
+        drawn: Drawn<'_>,
+        records: &mut String,
+        lines: &mut String,
+    ) -> Result<(), NoMemory> {
+        put_header(records, drawn.shape)?;
+        for order in 0..24 {
+            let row = draw.row(drawn.shape.sites, order);
+            put_record(records, drawn.shape, &row)?;
+            self.put_line(alloc, lines, &row, drawn)?;
         }
         Ok(())
+    }
+
+    // Has each of these rows the line that the expression is owed?
+    fn are_owed(
+        &mut self,
+        alloc: Global,
+        draw: &mut Draw,
+        drawn: Drawn<'_>,
+        source: &str,
+    ) -> Result<bool, NoMemory> {
+        let mut records = String::new(alloc);
+        let mut lines = String::new(alloc);
+        self.put_rows(alloc, draw, drawn, &mut records, &mut lines)?;
+        let case = (
+            RUN,
+            source,
+            records.as_str(),
+            Status::Done,
+            lines.as_str(),
+            "",
+        );
+        are_answered(alloc, &[case])
+    }
+
+    // The same of an expression that isn't 0 everywhere; one that is has to be refused.
+    fn is_owed(
+        &mut self,
+        alloc: Global,
+        draw: &mut Draw,
+        drawn: Drawn<'_>,
+    ) -> Result<bool, NoMemory> {
+        let source = source(alloc, drawn.shape, drawn.parts)?;
+        if drawn.covered.is_empty() {
+            let case = (
+                RUN,
+                source.as_str(),
+                "",
+                Status::Refused,
+                "",
+                "error zero 2:11\n",
+            );
+            return are_answered(alloc, &[case]);
+        }
+        self.predicates = self.predicates.wrapping_add(1);
+        if repeats(alloc, drawn.parts)? {
+            self.repeated = self.repeated.wrapping_add(1);
+        }
+        self.are_owed(alloc, draw, drawn, &source)
+    }
+
+    // The same of a random expression.
+    fn compare(&mut self, alloc: Global, draw: &mut Draw, shape: &Shape) -> Result<bool, NoMemory> {
+        let parts = draw.expression(alloc)?;
+        let covered = covered(alloc, &parts)?;
+        let drawn = Drawn {
+            shape,
+            parts: &parts,
+            covered: &covered,
+        };
+        self.is_owed(alloc, draw, drawn)
+    }
+
+    // The same of so many of each shape.
+    fn compare_all(&mut self, alloc: Global, times: u32) -> Result<bool, NoMemory> {
+        let mut draw = Draw::new(1990);
+        for _ in 0..times {
+            for shape in [TWO_POINTS, FOUR_NUMBERS, MIXED] {
+                if !self.compare(alloc, &mut draw, &shape)? {
+                    return Ok(false);
+                }
+            }
+        }
+        Ok(true)
     }
 }
 
@@ -161,21 +212,14 @@ impl Tally {
 fn random_predicates_have_the_sign_and_place_of_the_definition(
     rt: HostRuntime,
 ) -> Result<(), Fail> {
-    let mut draw = Draw::new(1990);
     let mut tally = Tally {
         predicates: 0,
         repeated: 0,
         perturbed: 0,
         undecided: 0,
     };
-    for _ in 0..60 {
-        for shape in [TWO_POINTS, FOUR_NUMBERS, MIXED] {
-            tally.compare(&rt, rt.alloc(), &mut draw, &shape)?;
-        }
-    }
-    assert!(rt; tally.predicates >= 100, "{} predicates", tally.predicates);
-    assert!(rt; tally.repeated >= 100, "{} predicates", tally.repeated);
-    assert!(rt; tally.perturbed >= 1000, "{} lines", tally.perturbed);
-    assert!(rt; tally.undecided >= 20, "{} lines", tally.undecided);
+    assert!(rt; tally.compare_all(rt.alloc(), 60)?);
+    assert!(rt; tally.predicates >= 100 && tally.repeated >= 100);
+    assert!(rt; tally.perturbed >= 1000 && tally.undecided >= 20);
     Ok(())
 }

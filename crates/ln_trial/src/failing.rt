@@ -1,8 +1,9 @@
 //! Ports and files that fail at each of their calls, and input that is cut: what is out is the first bytes of what is owed.
-use crate::support::{said, said_watched, shelf, tells};
-use ln_base::{MemConsole, MemFiles, NoMemory, Port};
-use ln_top::{Status, lnc};
-use ln_watch::{FirstWatch, SignWatch, Watch};
+use crate::support::{
+    Case, Faults, NO_FAULTS, answered, are_answered, is_answered, shelf, three_boxes,
+};
+use ln_base::{MemConsole, NoMemory, Port};
+use ln_top::Status;
 use std::alloc::Global;
 use std::test::Fail;
 
@@ -26,26 +27,33 @@ const CHECK: &[&str] = &["check", "s.ln"];
 
 const RUN: &[&str] = &["run", "s.ln", "orient", "r.csv"];
 
-// What `check` says over a console of 100 bytes a port that takes one byte a put; the put in `fail` fails.
-fn checked_byte_by_byte(alloc: Global, fail: u64) -> Result<(Status, MemConsole), NoMemory> {
-    let mut words = Vec::new(alloc);
-    for word in CHECK {
-        words.push(String::from_str(alloc, word)?)?;
-    }
+const CHECKED: &str = "orient sites 3 stages 30\n";
+
+// Does `check` leave the bytes before put number k, if that fails? A port takes one byte a put.
+fn is_cut_at(alloc: Global, k: u64) -> Result<bool, NoMemory> {
+    let mut con = MemConsole::new(alloc, 100, 1, Vec::from_slice(alloc, &[k])?)?;
     let mut files = shelf(alloc, ORIENT, ONE, &[])?;
-    let mut con = MemConsole::new(alloc, 100, 1, Vec::from_slice(alloc, &[fail])?)?;
-    let status = lnc(alloc, &words, &mut files, &mut con, Vec::new(alloc));
-    Ok((status, con))
+    let was = answered(alloc, CHECK, &mut files, &mut con, Vec::new(alloc))?;
+    let status = if k < 26 { Status::Write } else { Status::Done };
+    let out = con.bytes(Port::Out);
+    let is_front = out.len() as u64 == k.saturating_sub(1) && CHECKED.as_bytes().starts_with(out);
+    Ok(was == status && is_front)
 }
 
-// What `run` says with two watchers of the first perturbed rows, and one of the signs between them.
-fn watched(alloc: Global, rows: &str, fails: &[u64]) -> Result<(Status, MemConsole), NoMemory> {
-    let mut boxes: Vec<Box<dyn Watch>> = Vec::new(alloc);
-    boxes.push(Box::new(alloc, FirstWatch::new(1))?)?;
-    boxes.push(Box::new(alloc, SignWatch::new())?)?;
-    boxes.push(Box::new(alloc, FirstWatch::new(2))?)?;
-    let mut files = shelf(alloc, ORIENT, rows, &[])?;
-    said_watched(alloc, RUN, &mut files, 4096, fails, boxes)
+// The same for each put, and for none.
+fn are_cut(alloc: Global) -> Result<bool, NoMemory> {
+    for k in 1..27 {
+        if !is_cut_at(alloc, k)? {
+            return Ok(false);
+        }
+    }
+    Ok(true)
+}
+
+#[test]
+fn a_put_that_fails_leaves_what_was_put_before(rt: HostRuntime) -> Result<(), Fail> {
+    assert!(rt; are_cut(rt.alloc())?);
+    Ok(())
 }
 
 // Are the bytes on each port the first of these?
@@ -54,72 +62,94 @@ fn begins(con: &MemConsole, out: &str, err: &str) -> bool {
         && err.as_bytes().starts_with(con.bytes(Port::Err))
 }
 
-#[test]
-fn a_put_that_fails_leaves_what_was_put_before(rt: HostRuntime) -> Result<(), Fail> {
-    let alloc = rt.alloc();
-    let line = b"orient sites 3 stages 30\n";
-    for k in 1..26 {
-        let (was, con) = checked_byte_by_byte(alloc, k)?;
-        let out = con.bytes(Port::Out);
-        assert!(rt; was == Status::Write && out.len() as u64 + 1 == k && line.starts_with(out));
+// What `run` with watchers comes to where put number k fails; none where the ports have other bytes than the first of what is owed.
+fn watched(alloc: Global, k: u64) -> Result<Option<Status>, NoMemory> {
+    let mut con = MemConsole::new(alloc, 4096, 7, Vec::from_slice(alloc, &[k])?)?;
+    let mut files = shelf(alloc, ORIENT, THREE, &[])?;
+    let was = answered(alloc, RUN, &mut files, &mut con, three_boxes(alloc)?)?;
+    let err = "first 1\nfirst 1 3\nsigns + 2 0 0 - 1\n";
+    if begins(&con, "+ 1\n+ F\n- 2\n", err) {
+        Ok(Some(was))
+    } else {
+        Ok(None)
     }
-    let (was, con) = checked_byte_by_byte(alloc, 26)?;
-    assert!(rt; was == Status::Done && con.bytes(Port::Out) == line.as_slice());
-    Ok(())
+}
+
+// The first number of a put that `run` doesn't come to; 0 where one that fails isn't told.
+fn first_unused(alloc: Global) -> Result<u64, NoMemory> {
+    for k in 1..100 {
+        match watched(alloc, k)? {
+            Some(Status::Write) => (),
+            Some(Status::Done) => return Ok(k),
+            _ => return Ok(0),
+        }
+    }
+    Ok(0)
 }
 
 #[test]
 fn each_failing_put_of_a_run_leaves_first_bytes_on_both_ports(rt: HostRuntime) -> Result<(), Fail> {
-    let alloc = rt.alloc();
-    let mut done = 0;
-    for k in 1..100 {
-        let (was, con) = watched(alloc, THREE, &[k])?;
-        assert!(rt;
-            begins(
-                &con,
-                "+ 1\n+ F\n- 2\n",
-                "first 1\nfirst 1 3\nsigns + 2 0 0 - 1\n"
-            )
-        );
-        if was == Status::Done {
-            done = k;
-            break;
-        }
-        assert!(rt; was == Status::Write);
-    }
-    assert!(rt; done > 5);
+    assert!(rt; first_unused(rt.alloc())? > 5);
     Ok(())
 }
 
-#[test]
-fn each_failing_read_of_a_run_is_told(rt: HostRuntime) -> Result<(), Fail> {
-    let alloc = rt.alloc();
-    let mut done = 0;
-    for k in 1..100 {
-        let mut files: MemFiles = shelf(alloc, ORIENT, ONE, &[k])?;
-        let (was, con) = said(alloc, RUN, &mut files, &[])?;
-        if was == Status::Done {
-            assert!(rt; tells(&con, "+ F\n", ""));
-            done = k;
-            break;
+// Is each of so many reads told that fails, and are the words answered where a later one would?
+fn are_reads_told(alloc: Global, words: &[&str], reads: u64, out: &str) -> Result<bool, NoMemory> {
+    for k in 1..=reads {
+        let case = (words, ORIENT, ONE, Status::Read, "", "error read\n");
+        if !is_answered(alloc, &case, failing(&[k]), Vec::new(alloc))? {
+            return Ok(false);
         }
-        assert!(rt; was == Status::Read && tells(&con, "", "error read\n"));
     }
-    assert!(rt; done == 5);
+    let case = (words, ORIENT, ONE, Status::Done, out, "");
+    is_answered(
+        alloc,
+        &case,
+        failing(&[reads.saturating_add(1)]),
+        Vec::new(alloc),
+    )
+}
+
+// These reads fail.
+fn failing(reads: &[u64]) -> Faults<'_> {
+    Faults {
+        reads,
+        puts: &[],
+        room: 4096,
+    }
+}
+
+#[test]
+fn each_failing_read_is_told(rt: HostRuntime) -> Result<(), Fail> {
+    assert!(rt; are_reads_told(rt.alloc(), RUN, 4, "+ F\n")?);
+    assert!(rt; are_reads_told(rt.alloc(), CHECK, 2, CHECKED)?);
     Ok(())
 }
+
+const WATCHED: Case<'static> = (
+    RUN,
+    ORIENT,
+    FOUR,
+    Status::Rows,
+    "! index q\n+ 1\n+ F\n- 2\n",
+    "first 2\nfirst 2 4\nsigns + 2 0 0 - 1\n",
+);
+
+const UNWATCHED: &[Case<'static>] = &[(RUN, ORIENT, CUT, Status::Rows, "! fields\n", "")];
+
+const REFUSED: Case<'static> = (CHECK, "#", ONE, Status::Write, "", "");
+
+const FIRST_PUT: Faults<'static> = Faults {
+    reads: &[],
+    puts: &[1],
+    room: 4096,
+};
 
 #[test]
 fn cut_input_gets_its_line(rt: HostRuntime) -> Result<(), Fail> {
     let alloc = rt.alloc();
-    let (was, con) = watched(alloc, FOUR, &[])?;
-    let err = "first 2\nfirst 2 4\nsigns + 2 0 0 - 1\n";
-    assert!(rt; was == Status::Rows && tells(&con, "! index q\n+ 1\n+ F\n- 2\n", err));
-    let mut files = shelf(alloc, ORIENT, CUT, &[])?;
-    let (was, con) = said(alloc, RUN, &mut files, &[])?;
-    assert!(rt; was == Status::Rows && tells(&con, "! fields\n", ""));
-    let mut files = shelf(alloc, "#", ONE, &[])?;
-    let (was, con) = said(alloc, CHECK, &mut files, &[1])?;
-    assert!(rt; was == Status::Write && tells(&con, "", ""));
+    assert!(rt; is_answered(alloc, &WATCHED, NO_FAULTS, three_boxes(alloc)?)?);
+    assert!(rt; are_answered(alloc, UNWATCHED)?);
+    assert!(rt; is_answered(alloc, &REFUSED, FIRST_PUT, Vec::new(alloc))?);
     Ok(())
 }

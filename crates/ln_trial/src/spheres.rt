@@ -4,7 +4,7 @@
 //! e is inside their sphere. Exchanging two points exchanges the sign. Where the plain value is 0 the point with the smallest index
 //! moves first, by its last coordinate: the stages of incircle begin with 1, a.y, a.y^2, a.x if that point is a, those of insphere
 //! with 1, a.z, a.z^2, a.y, a.y^2, a.x, a.x^2.
-use crate::support::{said, shelf, tells};
+use crate::support::{Case, are_answered};
 use ln_base::NoMemory;
 use ln_top::Status;
 use std::alloc::Global;
@@ -116,37 +116,55 @@ fn table(alloc: Global, header: &str, rows: &[(&str, &str)]) -> Result<(String, 
     Ok((records, lines))
 }
 
+// Has each row of the predicate of a name its line?
+fn have_lines(
+    alloc: Global,
+    source: &str,
+    name: &str,
+    header: &str,
+    rows: &[(&str, &str)],
+) -> Result<bool, NoMemory> {
+    let (records, lines) = table(alloc, header, rows)?;
+    let words = &["run", "s.ln", name, "r.csv"];
+    are_answered(
+        alloc,
+        &[(
+            words,
+            source,
+            records.as_str(),
+            Status::Done,
+            lines.as_str(),
+            "",
+        )],
+    )
+}
+
 #[test]
 fn incircle_says_what_geometry_says(rt: HostRuntime) -> Result<(), Fail> {
-    let alloc = rt.alloc();
     let header = "a,a.x,a.y,b,b.x,b.y,c,c.x,c.y,d,d.x,d.y";
-    let (records, lines) = table(alloc, header, IN_CIRCLE)?;
-    let mut files = shelf(alloc, CIRCLE, &records, &[])?;
-    let words = ["run", "s.ln", "incircle", "r.csv"];
-    let (status, con) = said(alloc, words.as_slice(), &mut files, &[])?;
-    assert!(rt; status == Status::Done && tells(&con, &lines, ""));
+    assert!(rt; have_lines(rt.alloc(), CIRCLE, "incircle", header, IN_CIRCLE)?);
     Ok(())
 }
 
 #[test]
 fn insphere_says_what_geometry_says(rt: HostRuntime) -> Result<(), Fail> {
-    let alloc = rt.alloc();
     let header = "a,a.x,a.y,a.z,b,b.x,b.y,b.z,c,c.x,c.y,c.z,d,d.x,d.y,d.z,e,e.x,e.y,e.z";
-    let (records, lines) = table(alloc, header, IN_SPHERE)?;
-    let mut files = shelf(alloc, SPHERE, &records, &[])?;
-    let words = ["run", "s.ln", "insphere", "r.csv"];
-    let (status, con) = said(alloc, words.as_slice(), &mut files, &[])?;
-    assert!(rt; status == Status::Done && tells(&con, &lines, ""));
+    assert!(rt; have_lines(rt.alloc(), SPHERE, "insphere", header, IN_SPHERE)?);
     Ok(())
 }
 
 // For each of the 120 orders there are 178 stages without the fourth site, and then 45 with it.
+const CHECKED: &[Case<'static>] = &[(
+    &["check", "s.ln"],
+    SPHERE,
+    "",
+    Status::Done,
+    "insphere sites 5 stages 26760\n",
+    "",
+)];
+
 #[test]
 fn insphere_has_223_stages_in_each_order(rt: HostRuntime) -> Result<(), Fail> {
-    let alloc = rt.alloc();
-    let mut files = shelf(alloc, SPHERE, "", &[])?;
-    let words = ["check", "s.ln"];
-    let (status, con) = said(alloc, words.as_slice(), &mut files, &[])?;
-    assert!(rt; status == Status::Done && tells(&con, "insphere sites 5 stages 26760\n", ""));
+    assert!(rt; are_answered(rt.alloc(), CHECKED)?);
     Ok(())
 }

@@ -1,17 +1,12 @@
 //! What watchers that are handed in say of the records, and what is left of them where a put fails.
 ghost use Rattle.std.specs.Prelude.{[]};
-ghost use Rattle.ln_code.specs.Memory.{MadeFor};
 
+use crate::emitted::wide_of;
 use crate::spheres::CIRCLE;
-use crate::support::{said_watched, shelf, tells};
-use csv::ByteRecord;
-use ln_base::{MemConsole, MemFiles, NoMemory};
-use ln_code::{Row, Scratch, Verdict};
-use ln_rows::{Rows, row};
+use crate::support::{Case, Faults, NO_FAULTS, is_answered, three_boxes};
+use ln_base::NoMemory;
+use ln_code::Verdict;
 use ln_top::Status;
-use ln_top::prepare::{one_target, prepare};
-use ln_top::target::Target;
-use ln_top::words::{Command, Plan};
 use ln_watch::{DeciderWatch, FirstWatch, Keep, Line, SignWatch, Watch};
 use std::alloc::Global;
 use std::cell::Cell;
@@ -64,129 +59,114 @@ impl Watch for WideWatch {
     }
 }
 
-// Two watchers of the first perturbed rows, and one of the signs between them.
-fn watched(alloc: Global, lines: &str, fails: &[u64]) -> Result<(Status, MemConsole), NoMemory> {
-    let mut boxes: Vec<Box<dyn Watch>> = Vec::new(alloc);
-    boxes.push(Box::new(alloc, FirstWatch::new(1))?)?;
-    boxes.push(Box::new(alloc, SignWatch::new())?)?;
-    boxes.push(Box::new(alloc, FirstWatch::new(2))?)?;
-    let mut files = shelf(alloc, ORIENT, lines, &[])?;
-    said_watched(alloc, RUN, &mut files, 4096, fails, boxes)
+// Have these rows their lines on Out and on Err, with two watchers of the first perturbed rows, and one of the signs between them?
+fn are_watched(
+    alloc: Global,
+    rows: &str,
+    status: Status,
+    out: &str,
+    err: &str,
+) -> Result<bool, NoMemory> {
+    let case = (RUN, ORIENT, rows, status, out, err);
+    is_answered(alloc, &case, NO_FAULTS, three_boxes(alloc)?)
 }
 
 #[test]
 fn a_box_that_is_done_leaves_with_its_line(rt: HostRuntime) -> Result<(), Fail> {
-    let (was, con) = watched(rt.alloc(), THREE, &[])?;
-    assert!(rt; was == Status::Done);
-    assert!(rt;
-        tells(
-            &con,
-            "+ 1\n+ F\n- 2\n",
-            "first 1\nfirst 1 3\nsigns + 2 0 0 - 1\n"
-        )
-    );
+    let err = "first 1\nfirst 1 3\nsigns + 2 0 0 - 1\n";
+    assert!(rt; are_watched(rt.alloc(), THREE, Status::Done, "+ 1\n+ F\n- 2\n", err)?);
     Ok(())
+}
+
+const BETWEEN: Case<'static> = (
+    RUN,
+    ORIENT,
+    THREE,
+    Status::Done,
+    "+ 1\n+ F\n- 2\n",
+    "first 1\nsigns + 2 0 0 - 1\ndeciders filter 1 plain 0 stages 2 none 0 deepest 2\n",
+);
+
+// A watcher of the first perturbed row between two that see all rows.
+fn between(alloc: Global) -> Result<Vec<Box<dyn Watch>>, NoMemory> {
+    let mut boxes: Vec<Box<dyn Watch>> = Vec::new(alloc);
+    boxes.push(Box::new(alloc, SignWatch::new())?)?;
+    boxes.push(Box::new(alloc, FirstWatch::new(1))?)?;
+    boxes.push(Box::new(alloc, DeciderWatch::new())?)?;
+    Ok(boxes)
 }
 
 #[test]
 fn a_box_leaves_at_its_first_row_between_two_that_stay(rt: HostRuntime) -> Result<(), Fail> {
     let alloc = rt.alloc();
-    let mut boxes: Vec<Box<dyn Watch>> = Vec::new(alloc);
-    boxes.push(Box::new(alloc, SignWatch::new())?)?;
-    boxes.push(Box::new(alloc, FirstWatch::new(1))?)?;
-    boxes.push(Box::new(alloc, DeciderWatch::new())?)?;
-    let mut files = shelf(alloc, ORIENT, THREE, &[])?;
-    let (was, con) = said_watched(alloc, RUN, &mut files, 4096, &[], boxes)?;
-    let err = "first 1\nsigns + 2 0 0 - 1\ndeciders filter 1 plain 0 stages 2 none 0 deepest 2\n";
-    assert!(rt; was == Status::Done && tells(&con, "+ 1\n+ F\n- 2\n", err));
+    assert!(rt; is_answered(alloc, &BETWEEN, NO_FAULTS, between(alloc)?)?);
     Ok(())
 }
 
 #[test]
 fn refused_records_are_counted_and_boxes_close(rt: HostRuntime) -> Result<(), Fail> {
-    let (was, con) = watched(rt.alloc(), REFUSED, &[])?;
-    assert!(rt; was == Status::Rows);
-    assert!(rt;
-        tells(
-            &con,
-            "! fields\n+ 1\n",
-            "first 2\nsigns + 1 0 0 - 0\nfirst 2\n"
-        )
-    );
-    let (was, con) = watched(rt.alloc(), HEAD, &[])?;
-    assert!(rt; was == Status::Done && tells(&con, "", "first\nsigns + 0 0 0 - 0\nfirst\n"));
+    let alloc = rt.alloc();
+    let second = "first 2\nsigns + 1 0 0 - 0\nfirst 2\n";
+    assert!(rt; are_watched(alloc, REFUSED, Status::Rows, "! fields\n+ 1\n", second)?);
+    let none = "first\nsigns + 0 0 0 - 0\nfirst\n";
+    assert!(rt; are_watched(alloc, HEAD, Status::Done, "", none)?);
     Ok(())
 }
 
 #[test]
 fn a_wrong_header_drops_the_boxes(rt: HostRuntime) -> Result<(), Fail> {
-    let (was, con) = watched(rt.alloc(), "p,p.x\n1,0\n", &[])?;
-    assert!(rt; was == Status::Rows && tells(&con, "", "error header\n"));
+    let rows = "p,p.x\n1,0\n";
+    assert!(rt; are_watched(rt.alloc(), rows, Status::Rows, "", "error header\n")?);
     Ok(())
 }
+
+const FAILED: Case<'static> = (RUN, ORIENT, THREE, Status::Write, "", "");
+
+const FIRST_PUT: Faults<'static> = Faults {
+    reads: &[],
+    puts: &[1],
+    room: 4096,
+};
 
 // The first put is of the line of the first box; the lines of records are put behind it.
 #[test]
 fn a_failed_put_of_a_watcher_ends_the_run(rt: HostRuntime) -> Result<(), Fail> {
-    let (was, con) = watched(rt.alloc(), THREE, &[1])?;
-    assert!(rt; was == Status::Write && tells(&con, "", ""));
+    let alloc = rt.alloc();
+    assert!(rt; is_answered(alloc, &FAILED, FIRST_PUT, three_boxes(alloc)?)?);
     Ok(())
 }
 
-// The operations in 128 bits that the program's own run of the next record does; 0 where it is no row.
-fn wide_of(
-    target: &Target<'_>,
-    s: &mut Scratch,
-    rows: &mut Rows<'_>,
-    record: &mut ByteRecord,
-) -> Result<u64, NoMemory>
-    requires { MadeFor target.now.program s.old }
-    ensures { MadeFor target.now.program s.new }
-{
-    rows.next(record)?;
-    let mut into = Row {
-        index: [0; 5],
-        values: [0; 168],
-    };
-    match row(target.pred(), record, &mut into) {
-        Ok(()) => Ok(u64::from(target.verdict(s, &into).wide)),
-        Err(_) => Ok(0),
-    }
-}
+const CORNERS_SAID: Case<'static> = (
+    &["run", "s.ln", "incircle", "r.csv"],
+    CIRCLE,
+    CORNERS,
+    Status::Done,
+    "- 1\n+ F\n",
+    "\n",
+);
 
-// The same for two records behind the header.
-fn wide_of_two(alloc: Global, files: &mut MemFiles, lines: &str) -> Result<u64, NoMemory> {
-    let names = [String::from_str(alloc, "incircle")?];
-    let plan = Plan {
-        source: "s.ln",
-        names: &names,
-        files: &[],
-        command: Command::Run,
-    };
-    let Ok(ready) = prepare(alloc, files, plan) else {
-        return Ok(0);
-    };
-    let target = one_target(alloc, &ready)?;
-    let mut scratch = target.scratch(alloc)?;
-    let mut rows = Rows::new(alloc, lines.as_bytes());
-    let mut record = ByteRecord::new(alloc);
-    rows.next(&mut record)?;
-    let first = wide_of(&target, &mut scratch, &mut rows, &mut record)?;
-    let second = wide_of(&target, &mut scratch, &mut rows, &mut record)?;
-    Ok(first.wrapping_add(second))
+// The same rows, and what the calls of the C give on them.
+const CORNERS_CALLED: &[(&[i64], &[i64], i32, u32)] = &[
+    (&[1, 2, 3, 4], &[0, 0, 1, 0, 1, 1, 0, 1], -1, 3),
+    (&[1, 2, 3, 4], &[0, 0, 1048576, 0, 0, 1048576, 5, 5], 1, 1),
+];
+
+// The wide operations that a watcher saw; none where the lines aren't those that are owed.
+fn wide_seen(alloc: Global) -> Result<Option<u64>, NoMemory> {
+    let sum = Rc::new(alloc, Cell::new(0u64))?;
+    let mut boxes: Vec<Box<dyn Watch>> = Vec::new(alloc);
+    boxes.push(Box::new(alloc, WideWatch { sum: sum.clone()? })?)?;
+    if is_answered(alloc, &CORNERS_SAID, NO_FAULTS, boxes)? {
+        Ok(Some(sum.get()))
+    } else {
+        Ok(None)
+    }
 }
 
 #[test]
 fn a_watcher_of_the_callers_own_adds_up_wide_operations(rt: HostRuntime) -> Result<(), Fail> {
     let alloc = rt.alloc();
-    let sum = Rc::new(alloc, Cell::new(0u64))?;
-    let mut boxes: Vec<Box<dyn Watch>> = Vec::new(alloc);
-    boxes.push(Box::new(alloc, WideWatch { sum: sum.clone()? })?)?;
-    let mut files = shelf(alloc, CIRCLE, CORNERS, &[])?;
-    let wide = wide_of_two(alloc, &mut files, CORNERS)?;
-    let words = &["run", "s.ln", "incircle", "r.csv"];
-    let (was, con) = said_watched(alloc, words, &mut files, 4096, &[], boxes)?;
-    assert!(rt; was == Status::Done && tells(&con, "- 1\n+ F\n", "\n"));
-    assert!(rt; wide > 0 && sum.get() == wide);
+    let wide = wide_of(alloc, CIRCLE, "ln_incircle", CORNERS_CALLED)?;
+    assert!(rt; wide.is_some_and(|n| n > 0) && wide_seen(alloc)? == wide);
     Ok(())
 }

@@ -1,6 +1,10 @@
 -- Answers to the goals of `put_listed` in src/list.rt.
+use Rattle.std.proofs.lemmas.Result.{IfOk-weaker}
 use Rattle.ln_top.proofs.Commands.ListLaws.{more}
 use Rattle.ln_top.proofs.list.put_listed.Goals as goal
 
 pub returns : goal.returns
-returns c = more c.args.source.now.table.preds c.args.i c.in_ok-program.program c.args.text.now.items c.put_program.new.out.items c.requires c.in_ok-program.ensures.program c.kept-kept.ensures.kept c.listable-listable.ensures.listable c.in_ok-put_program.ensures
+returns c =
+    IfOk-weaker c.put_program.result _ _ (λ x h. more c.args.source.now.table.preds c.args.i c.in_ok-program.program
+    c.args.text.now.items c.put_program.new.out.items c.requires c.in_ok-program.ensures.program c.kept-kept.ensures.kept
+    c.listable-listable.ensures.listable h) c.put_program.ensures
