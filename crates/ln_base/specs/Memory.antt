@@ -1,6 +1,6 @@
 -- What files and ports in memory hold, and when their calls fail.
 use Rattle.std.specs.Prelude.{◌≡◌, ℕ, ◌-◌, ◌<◌, min, List, length}
-use Rattle.ln_base.specs.Outside.{Shelf, port_bytes}
+use Rattle.ln_base.specs.Outside.{Shelf, Shown, port_bytes}
 use Rattle.ln_base.specs.declared.outside.Port.{Port}
 
 -- files in memory: names with their bytes, the numbers of the calls that fail, and how many calls and faults there were
@@ -28,6 +28,10 @@ handed content at room = min room (length content - at)
 -- what stands on a port
 abbrev pub held : Port → PortsHeld → List ℕ
 held port ports = port_bytes port ports.out ports.err
+
+-- what stands on both ports
+abbrev pub shown_of : PortsHeld → Shown
+shown_of ports = record { out = ports.out; err = ports.err }
 
 -- what is left of a port's room
 abbrev pub room_left : Port → PortsHeld → ℕ

@@ -1,8 +1,9 @@
 -- What stands while the scanner goes from token to token.
-use Rattle.std.proofs.Common.{◌≡◌, ℕ, ◌+◌, ◌-◌, ◌<◌, ◌≤◌, List, [], ◌∷◌, ◌++◌, length, drop, refl, sym, arith, subst, length-drop, length-append}
+use Rattle.std.proofs.Common.{◌≡◌, ◌∙◌, ℕ, ◌+◌, ◌-◌, ◌<◌, ◌≤◌, false, List, [], ◌∷◌, ◌++◌, length, drop, refl, ap, sym, arith, subst, length-drop, length-append}
+use Rattle.std.proofs.lemmas.List.{drop-drop}
 use Rattle.ln_lex.specs.declared.token.Kind.{Kind}
 use Rattle.ln_lex.specs.declared.token.Token.{Token}
-use Rattle.ln_lex.specs.Tokens.{IsFirst, Skips, Stand}
+use Rattle.ln_lex.specs.Tokens.{Behind, BeginsNone, IsFirst, IsLexFault, IsLexLimit, Lexed, Skips, Stand, begins_blank, begins_comment}
 
 -- the bytes before this place are these tokens
 pub record Scanned (bytes : List ℕ) (ts : List Token) (at : ℕ) : Type 0 where
@@ -30,3 +31,37 @@ scanned_more {bytes = bytes} {ts = ts} {at = at} {g = g} {n = n} {k = k} {t = t}
     let u : Token = record { kind = k; span = record { start = at + g; end = at + g + n } } in
     let more : Stand bytes 0 (ts ++ u ∷ []) (at + g + n) = stand_more bytes 0 ts at u s.tokens (omega arith) d3 (omega arith) f3 in
     record { within = omega (arith, f2.within, f2.some, length-drop (at + g) bytes); few = omega (arith, w, length-append ts (t ∷ [])); tokens = rw q more }
+
+-- where a gap ends with the bytes, all of them are tokens
+pub lexed_all : {bytes gap_bytes : List ℕ} {ts : List Token} {at g : ℕ} → Scanned bytes ts at → gap_bytes ≡ drop at bytes → Skips gap_bytes g → at + g ≡ length bytes → Lexed bytes ts
+lexed_all {bytes = bytes} {at = at} {g = g} s e d q =
+    let d2 : Skips (drop at bytes) g = rw (← e) d in
+    let n : g ≡ length bytes - at = omega (arith, q) in
+    record { to = at; tokens = s.tokens; within = s.within; rest = subst (λ (v : ℕ). Skips (drop at bytes) v) n d2 }
+
+-- behind a gap that doesn't end with the bytes stands a byte of neither blank nor comment
+behind_gap : (bytes gap_bytes : List ℕ) (ts : List Token) (at g : ℕ) → Scanned bytes ts at → gap_bytes ≡ drop at bytes → g ≤ length gap_bytes → Skips gap_bytes g → begins_blank (drop g gap_bytes) ≡ false → begins_comment (drop g gap_bytes) ≡ false → (at + g ≡ length bytes → ⊥) → Behind bytes ts (at + g)
+behind_gap bytes gap_bytes ts at g s e l d b c q =
+    let d2 : Skips (drop at bytes) g = rw (← e) d in
+    let n : g ≡ (at + g) - at = omega arith in
+    let place : drop g gap_bytes ≡ drop (at + g) bytes = ap (drop g) e ∙ drop-drop g at bytes in
+    let long : length gap_bytes ≡ length bytes - at = ap length e ∙ length-drop at bytes in
+    record {
+      to = at;
+      tokens = s.tokens;
+      gap = subst (λ (v : ℕ). Skips (drop at bytes) v) n d2;
+      order = omega arith;
+      within = omega (arith, long, l, q, s.within);
+      no_blank = subst (λ (xs : List ℕ). begins_blank xs ≡ false) place b;
+      no_comment = subst (λ (xs : List ℕ). begins_comment xs ≡ false) place c;
+    }
+
+-- where no token begins behind a gap, there is the fault
+pub fault_behind : {bytes gap_bytes rest : List ℕ} {ts : List Token} {at g : ℕ} → Scanned bytes ts at → gap_bytes ≡ drop at bytes → g ≤ length gap_bytes → Skips gap_bytes g → begins_blank (drop g gap_bytes) ≡ false → begins_comment (drop g gap_bytes) ≡ false → (at + g ≡ length bytes → ⊥) → rest ≡ drop (at + g) bytes → BeginsNone rest → IsLexFault bytes (at + g)
+fault_behind {ts = ts} s e l d b c q r f =
+    record { before = ts; few = s.few; behind = behind_gap _ _ _ _ _ s e l d b c q; no_token = subst BeginsNone r f }
+
+-- the token behind a gap and as many tokens as there may be is one too many
+pub limit_behind : {bytes gap_bytes rest : List ℕ} {ts : List Token} {at g n : ℕ} {k : Kind} → Scanned bytes ts at → gap_bytes ≡ drop at bytes → g ≤ length gap_bytes → Skips gap_bytes g → begins_blank (drop g gap_bytes) ≡ false → begins_comment (drop g gap_bytes) ≡ false → (at + g ≡ length bytes → ⊥) → rest ≡ drop (at + g) bytes → IsFirst rest n k → length ts ≡ 65536 → IsLexLimit bytes (at + g)
+limit_behind {ts = ts} {n = n} {k = k} s e l d b c q r f m =
+    record { before = ts; many = m; behind = behind_gap _ _ _ _ _ s e l d b c q; n = n; kind = k; token = subst (λ (xs : List ℕ). IsFirst xs n k) r f }

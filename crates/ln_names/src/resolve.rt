@@ -22,7 +22,12 @@ pub fn let_place(bytes: &[u8], lets: &[RawLet], at: Span) -> Option<usize>
     ensures place { result ≡ let_place bytes.now lets.now at }
     ensures below { IfSome result (λ i. i < length lets.now) }
 {
-    lets.iter().position(|l| same(bytes, l.name, at))
+    'each: for (i, l) in lets.iter().enumerate() {
+        if same(bytes, l.name, at) {
+            return Some(i);
+        }
+    }
+    None
 }
 
 /// The place of the param argument of this name, among all arguments.
@@ -30,8 +35,12 @@ pub fn param_at(bytes: &[u8], args: &[RawArg], at: Span) -> Option<usize>
     ensures place { result ≡ param_place bytes.now args.now at }
     ensures below { IfSome result (λ i. i < length args.now) }
 {
-    args.iter()
-        .position(|a| a.is_param && same(bytes, a.name, at))
+    'each: for (i, a) in args.iter().enumerate() {
+        if a.is_param && same(bytes, a.name, at) {
+            return Some(i);
+        }
+    }
+    None
 }
 
 /// The place of the site argument of this name, among all arguments.
@@ -39,8 +48,12 @@ pub fn site_at(bytes: &[u8], args: &[RawArg], at: Span) -> Option<usize>
     ensures place { result ≡ site_place bytes.now args.now at }
     ensures below { IfSome result (λ i. i < length args.now) }
 {
-    args.iter()
-        .position(|a| !a.is_param && same(bytes, a.name, at))
+    'each: for (i, a) in args.iter().enumerate() {
+        if !a.is_param && same(bytes, a.name, at) {
+            return Some(i);
+        }
+    }
+    None
 }
 
 /// The place of the coordinate of this name, among the coordinates of a site type.
@@ -48,7 +61,12 @@ pub fn coord_at(bytes: &[u8], coords: &[RawCoord], at: Span) -> Option<usize>
     ensures place { result ≡ coord_place bytes.now coords.now at }
     ensures below { IfSome result (λ i. i < length coords.now) }
 {
-    coords.iter().position(|c| same(bytes, c.name, at))
+    'each: for (i, c) in coords.iter().enumerate() {
+        if same(bytes, c.name, at) {
+            return Some(i);
+        }
+    }
+    None
 }
 
 fn coords_in_items<'a>(bytes: &[u8], its: &'a [RawItem], kind: Span) -> &'a [RawCoord]

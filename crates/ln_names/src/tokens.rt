@@ -23,7 +23,12 @@ fn long_name(bytes: &[u8], at: Span) -> bool
 fn any_named(bytes: &[u8], before: &[RawItem], at: Span) -> bool
     ensures { result ≡ list_any (λ i. same bytes.now (item_name (item i)) at) before.now }
 {
-    before.iter().any(|i| same(bytes, i.name(), at))
+    'each: for i in before {
+        if same(bytes, i.name(), at) {
+            return true;
+        }
+    }
+    false
 }
 
 fn item_twice(bytes: &[u8], before: &[RawItem], at: Span) -> bool
@@ -35,17 +40,23 @@ fn item_twice(bytes: &[u8], before: &[RawItem], at: Span) -> bool
 fn any_site(bytes: &[u8], before: &[RawItem], at: Span) -> bool
     ensures { result ≡ list_any (λ i. is_site (item i) && same bytes.now (item_name (item i)) at) before.now }
 {
-    before
-        .iter()
-        .any(|i| i.is_site() && same(bytes, i.name(), at))
+    'each: for i in before {
+        if i.is_site() && same(bytes, i.name(), at) {
+            return true;
+        }
+    }
+    false
 }
 
 fn any_param(bytes: &[u8], before: &[RawItem], at: Span) -> bool
     ensures { result ≡ list_any (λ i. is_param (item i) && same bytes.now (item_name (item i)) at) before.now }
 {
-    before
-        .iter()
-        .any(|i| i.is_param() && same(bytes, i.name(), at))
+    'each: for i in before {
+        if i.is_param() && same(bytes, i.name(), at) {
+            return true;
+        }
+    }
+    false
 }
 
 fn sites(before: &[RawItem]) -> usize
@@ -81,7 +92,12 @@ fn known_param(bytes: &[u8], before: &[RawItem], at: Span) -> bool
 fn coord_twice(bytes: &[u8], before: &[RawCoord], at: Span) -> bool
     ensures { result ≡ list_any (λ c. same bytes.now c.name at) before.now }
 {
-    before.iter().any(|c| same(bytes, c.name, at))
+    'each: for c in before {
+        if same(bytes, c.name, at) {
+            return true;
+        }
+    }
+    false
 }
 
 /// The fault of a site type's name behind the items `before`: over 32 letters, a seventeenth site type, or the name of an item before.
@@ -218,7 +234,12 @@ pub fn high_end(bytes: &[u8], range: RawRange) -> Option<Fault>
 fn arg_twice(bytes: &[u8], before: &[RawArg], at: Span) -> bool
     ensures { result ≡ list_any (λ a. same bytes.now a.name at) before.now }
 {
-    before.iter().any(|a| same(bytes, a.name, at))
+    'each: for a in before {
+        if same(bytes, a.name, at) {
+            return true;
+        }
+    }
+    false
 }
 
 fn site_args(before: &[RawArg]) -> usize
@@ -283,7 +304,12 @@ pub fn arg_param(
 fn known_let(bytes: &[u8], before: &[RawLet], at: Span) -> bool
     ensures { result ≡ has_let bytes.now before.now at }
 {
-    before.iter().any(|l| same(bytes, l.name, at))
+    'each: for l in before {
+        if same(bytes, l.name, at) {
+            return true;
+        }
+    }
+    false
 }
 
 /// The fault of a let's name behind the lets `before`: over 32 letters, a sixty-fifth let, or the name of an argument or a let before.
@@ -304,13 +330,23 @@ pub fn let_name(bytes: &[u8], args: &[RawArg], before: &[RawLet], at: Span) -> O
 fn known_site_arg(bytes: &[u8], args: &[RawArg], at: Span) -> bool
     ensures { result ≡ has_site_arg bytes.now args.now at }
 {
-    args.iter().any(|a| !a.is_param && same(bytes, a.name, at))
+    'each: for a in args {
+        if !a.is_param && same(bytes, a.name, at) {
+            return true;
+        }
+    }
+    false
 }
 
 fn known_param_arg(bytes: &[u8], args: &[RawArg], at: Span) -> bool
     ensures { result ≡ has_param_arg bytes.now args.now at }
 {
-    args.iter().any(|a| a.is_param && same(bytes, a.name, at))
+    'each: for a in args {
+        if a.is_param && same(bytes, a.name, at) {
+            return true;
+        }
+    }
+    false
 }
 
 /// The fault of a number in an expression behind so many nodes: 2^127 or more, or one node too many (2,048).

@@ -1,9 +1,9 @@
 -- The parts of an item, one behind the other: what a part is, where it stands, and where the next one begins.
-use Rattle.std.proofs.Common.{◌≡◌, ℕ, zero, suc, ◌+◌, ◌<◌, ◌≤◌, inl, inr, List, [], ◌∷◌, ◌++◌, length, refl, ap, sym, ◌∙◌, subst, arith, append_assoc}
+use Rattle.std.proofs.Common.{◌≡◌, true, false, ℕ, zero, suc, ◌+◌, ◌<◌, ◌≤◌, inl, inr, List, [], ◌∷◌, ◌++◌, length, refl, ap, sym, ◌∙◌, subst, arith, append_assoc}
 use Rattle.ln_base.specs.declared.span.Span.{Span}
 use Rattle.ln_lex.specs.declared.token.Token.{Token}
 use Rattle.ln_lex.specs.declared.token.Kind.{Kind}
-use Rattle.ln_lex.specs.declared.token.Kind.TheVariants.{Name, Site, Param, Let, Sign, BraceR, ParR, Colon, Semi, Comma, Dots}
+use Rattle.ln_lex.specs.declared.token.Kind.TheVariants.{Name, Site, Param, Let, Sign, BraceR, ParR, Colon, Semi, Comma, Dots, Minus}
 use Rattle.ln_syntax.specs.declared.raw.RawEnd.{RawEnd}
 use Rattle.ln_syntax.specs.declared.raw.RawRange.{RawRange}
 use Rattle.ln_syntax.specs.declared.raw.RawCoord.{RawCoord}
@@ -12,7 +12,7 @@ use Rattle.ln_syntax.specs.declared.raw.RawLet.{RawLet}
 use Rattle.ln_syntax.specs.Raw.{Item, SiteItem, ParamItem, PredItem, Is, span_at}
 use Rattle.ln_syntax.specs.Expression.{IsExpr}
 use Rattle.ln_syntax.specs.File.{End, plain, minus, Range, range, Coords, no_coord, coord, Arg, Args, last_arg, more_args, Lets, no_let, a_let, IsItem, site, param, predicate, Items, no_item, an_item, Spelt}
-use Rattle.ln_syntax.specs.Reading.{HasEnd, HasRange, HasCoords, HasArgs, HasLets, HasExpr, HasItem}
+use Rattle.ln_syntax.specs.Reading.{HasEnd, HasRange, HasCoords, HasArg, HasArgs, HasLets, HasExpr, HasItem}
 use Rattle.ln_syntax.proofs.Recognising.Ahead.{NoSemi, before, no_semi, one_end}
 use Rattle.ln_syntax.proofs.Spellings.OneSpelling.{end_same, range_same, coords_same, args_same, lets_same, item_same, no_more}
 
@@ -131,10 +131,55 @@ pub coord_more : {ts : List Token} {at i j : ℕ} {cs : List RawCoord} {r : RawR
     → CoordsRead ts at (j + 1) (cs ++ (record { name = sp; range = r } ∷ []))
 coord_more a n q x = coord_more_by a.done a.rest.derives a.rest.stops n q x
 
+end_minus_by : {ts : List Token} {i k : ℕ} {r : RawEnd} → End ts i k r → Is ts i Minus → End ts i (i + 2) (record { negative = true; at = span_at ts (i + 1) })
+end_minus_by (plain p) m = absurd (cc)
+end_minus_by {ts = ts} {i = i} (minus p q) m =
+    let e : suc (suc i) ≡ i + 2 = omega arith in
+    let f : suc i ≡ i + 1 = omega arith in
+    subst (λ (w : ℕ). End ts i w (record { negative = true; at = span_at ts (i + 1) })) e (subst (λ (w : ℕ). End ts i (suc (suc i)) (record { negative = true; at = span_at ts w })) f (minus p q))
+
+-- an end of a range with a minus sign
+pub end_minus : {ts : List Token} {i : ℕ} → HasEnd ts i → Is ts i Minus → End ts i (i + 2) (record { negative = true; at = span_at ts (i + 1) })
+end_minus h m = end_minus_by h.derives m
+
+end_plain_by : {ts : List Token} {i k : ℕ} {r : RawEnd} → End ts i k r → (Is ts i Minus → ⊥) → End ts i (i + 1) (record { negative = false; at = span_at ts i })
+end_plain_by {ts = ts} {i = i} (plain p) n =
+    let f : suc i ≡ i + 1 = omega arith in
+    subst (λ (w : ℕ). End ts i w (record { negative = false; at = span_at ts i })) f (plain p)
+end_plain_by (minus p q) n = absurd (n p)
+
+-- an end of a range without a minus sign
+pub end_plain : {ts : List Token} {i : ℕ} → HasEnd ts i → (Is ts i Minus → ⊥) → End ts i (i + 1) (record { negative = false; at = span_at ts i })
+end_plain h n = end_plain_by h.derives n
+
 -- the arguments before place i, at which one more begins
 pub record ArgsRead (ts : List Token) (at i : ℕ) (as' : List RawArg) : Type 0 where
   pub joins : (k : ℕ) (bs : List RawArg) → Args ts i k bs → Args ts at k (as' ++ bs)
   pub rest : HasArgs ts i
+
+-- no argument is read at the start
+pub args_begin : {ts : List Token} {at : ℕ} → HasArgs ts at → ArgsRead ts at at []
+args_begin h = record { joins = λ k bs r. r; rest = h }
+
+arg_first_by : {ts : List Token} {i k : ℕ} {as' : List RawArg} → Args ts i k as' → HasArg ts i
+arg_first_by (last_arg {a = a} d) = record { value = a; derives = d }
+arg_first_by (more_args {a = a} d c r) = record { value = a; derives = d }
+
+-- arguments begin with an argument
+pub arg_first : {ts : List Token} {i : ℕ} → HasArgs ts i → HasArg ts i
+arg_first h = arg_first_by h.derives
+
+args_stop_by : {ts : List Token} {i k : ℕ} {as' : List RawArg} → Args ts i k as' → Is ts k ParR → (Is ts (i + 3) Comma → ⊥) → Is ts (i + 3) ParR
+args_stop_by {ts = ts} {i = i} (last_arg d) p n =
+    let e : suc (suc (suc i)) ≡ i + 3 = omega arith in
+    subst (λ (w : ℕ). Is ts w ParR) e p
+args_stop_by {ts = ts} {i = i} (more_args d c r) p n =
+    let e : suc (suc (suc i)) ≡ i + 3 = omega arith in
+    absurd (n (subst (λ (w : ℕ). Is ts w Comma) e c))
+
+-- where no comma stands behind an argument, the parenthesis does
+pub args_stop : {ts : List Token} {i : ℕ} → HasArgs ts i → (Is ts (i + 3) Comma → ⊥) → Is ts (i + 3) ParR
+args_stop h n = args_stop_by h.derives h.stops n
 
 -- the last argument
 pub args_last : {ts : List Token} {at i : ℕ} {as' : List RawArg} {a : RawArg} → ArgsRead ts at i as' → Arg ts i a → Args ts at (i + 3) (as' ++ (a ∷ []))
@@ -167,6 +212,24 @@ pub record LetsRead (ts : List Token) (at i : ℕ) (ls : List RawLet) : Type 0 w
 
 pub lets_begin : {ts : List Token} {at : ℕ} → HasLets ts at → LetsRead ts at at []
 lets_begin h = record { done = no_let; rest = h }
+
+let_expr_by : {ts : List Token} {i k : ℕ} {ls : List RawLet} → Lets ts i k ls → Is ts k Sign → Is ts i Let → HasExpr ts (i + 3)
+let_expr_by no_let s n = absurd (cc)
+let_expr_by {ts = ts} {i = i} (a_let {j = j} p c r e m t) s n =
+    let o : suc (suc (suc i)) ≡ i + 3 = omega arith in
+    record { to = j; derives = subst (λ (w : ℕ). IsExpr ts w j) o e; stops = m }
+
+-- behind the name of a let and `=` stands an expression
+pub let_expr : {ts : List Token} {i : ℕ} → HasLets ts i → Is ts i Let → HasExpr ts (i + 3)
+let_expr h n = let_expr_by h.derives h.stops n
+
+lets_stop_by : {ts : List Token} {i k : ℕ} {ls : List RawLet} → Lets ts i k ls → Is ts k Sign → (Is ts i Let → ⊥) → Is ts i Sign
+lets_stop_by no_let s n = s
+lets_stop_by (a_let p c r e m t) s n = absurd (n p)
+
+-- where no let begins, `sign` does
+pub lets_stop : {ts : List Token} {i : ℕ} → HasLets ts i → (Is ts i Let → ⊥) → Is ts i Sign
+lets_stop h n = lets_stop_by h.derives h.stops n
 
 -- one more let behind the others
 lets_with : {ts : List Token} {i j k : ℕ} {ls : List RawLet} {x : RawLet} → Lets ts i j ls → Lets ts j k (x ∷ []) → Lets ts i k (ls ++ (x ∷ []))

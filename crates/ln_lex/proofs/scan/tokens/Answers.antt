@@ -1,5 +1,5 @@
-use Rattle.std.proofs.Common.{◌<◌, length, rules, refl}
-use Rattle.ln_lex.proofs.Scanned.{scanned_more}
+use Rattle.std.proofs.Common.{◌≡◌, ◌<◌, length, rules, refl}
+use Rattle.ln_lex.proofs.Scanned.{fault_behind, lexed_all, limit_behind, scanned_more}
 use Rattle.ln_lex.proofs.Slices.{stand_slices, stand_rises}
 use Rattle.ln_lex.proofs.scan.tokens.Goals as goal
 
@@ -13,3 +13,15 @@ pub tokens-preserved : goal.tokens-preserved
 tokens-preserved c =
     let few : length c.tokens.tokens < 65536 = search rules in
     rw c.in_ok-push.ensures.ok (scanned_more c.tokens.invariant few c.after.ensures c.gap.ensures.skips c.after-in-tokens.ensures c.in-Some.ensures.some refl)
+
+pub returns-then-start-bytes-clause-ok : goal.returns-then-start-bytes-clause-ok
+returns-then-start-bytes-clause-ok c = lexed_all c.tokens.invariant c.after.ensures c.gap.ensures.skips c.if-start-bytes.true
+
+pub returns-in_default-clause-err : goal.returns-in_default-clause-err
+returns-in_default-clause-err c =
+    fault_behind c.tokens.invariant c.after.ensures c.gap.ensures.within c.gap.ensures.skips c.gap.ensures.no_blank c.gap.ensures.no_comment c.if-start-bytes.false c.after-in-tokens.ensures c.in_default.ensures.none
+
+pub returns-then-len-eq-MOST_TOKENS-clause-err : goal.returns-then-len-eq-MOST_TOKENS-clause-err
+returns-then-len-eq-MOST_TOKENS-clause-err c =
+    let many : length c.tokens.tokens ≡ 65536 = search rules in
+    limit_behind c.tokens.invariant c.after.ensures c.gap.ensures.within c.gap.ensures.skips c.gap.ensures.no_blank c.gap.ensures.no_comment c.if-start-bytes.false c.after-in-tokens.ensures c.in-Some.ensures.some many

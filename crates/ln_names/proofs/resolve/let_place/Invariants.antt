@@ -1,0 +1,7 @@
+use Rattle.std.proofs.Common.{◌≡◌, drop}
+use Rattle.std.specs.List.{position_from}
+use Rattle.ln_syntax.specs.Raw.{same}
+use Rattle.ln_names.proofs.resolve.let_place.Given as goal
+
+abbrev pub invariant-each : goal.invariant-each
+invariant-each l = position_from (λ x. same l.bytes x.name l.at) l.i (drop l.i l.lets) ≡ position_from (λ x. same l.bytes x.name l.at) 0 l.lets
