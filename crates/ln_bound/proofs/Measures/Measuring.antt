@@ -10,7 +10,6 @@ use Rattle.ln_tree.specs.declared.shape.VarInfo.{VarInfo}
 use Rattle.ln_tree.specs.Formula.{Formula, FNum, FInput, FName, FNeg, FAdd, FSub, FMul, FPow, tree}
 use Rattle.ln_tree.specs.Variables.{has_range, in_order, is_laid_out, is_param, no_var, starts_site}
 use Rattle.ln_interval.specs.Range.{IsOrdered, Range}
-use Rattle.ln_interval.specs.View.{range}
 use Rattle.ln_bound.specs.declared.measure.Measure.{Measure}
 use Rattle.ln_bound.specs.declared.weigh.BoundStop.{BoundStop}
 use Rattle.ln_bound.specs.Light.{AreLight}
@@ -22,10 +21,6 @@ use Rattle.ln_bound.proofs.Measures.Weighing.{Nodes, light_both, stop_before, st
 
 abbrev pub Seen : Type 0
 Seen = Range × ℕ
-
--- a range with a size
-abbrev pub made : Range → ℕ → Seen
-made p n = (p, n)
 
 -- ---- lets
 -- some lets are measured; the rest stand behind
