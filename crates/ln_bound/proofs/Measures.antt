@@ -5,3 +5,4 @@ pub mod LoadLaws
 pub mod Measuring
 pub mod RoomLaws
 pub mod Weighing
+pub mod Nodes

@@ -11,3 +11,4 @@ pub mod UpTo
 pub mod Ranges
 pub mod Loads
 pub mod Measures
+pub mod Weighed

@@ -2,6 +2,8 @@
 use Rattle.std.specs.Prelude.{ℕ, ◌+◌, ◌*◌, max, ℤ, List, [], ◌∷◌, map}
 use Rattle.ln_algebra.specs.Tree.{Tree, Num, Input, Name, Neg, Add, Sub, Mul, Pow, inlined, inlined_after}
 use Rattle.ln_algebra.specs.Coefficient.{Series, normal_coefficient}
+use Rattle.ln_base.specs.declared.span.Span.{Span}
+use Rattle.ln_tree.specs.Formula.{Formula, FNum, FInput, FName, FNeg, FAdd, FSub, FMul, FPow}
 use Rattle.ln_bound.specs.declared.fitted.Width.{Width}
 use Rattle.ln_interval.specs.Range.{Range, sum, difference, product}
 use Rattle.ln_bound.specs.declared.fitted.Two.{Two}
@@ -33,6 +35,23 @@ width (TLet j p w) = w
 width (TNeg t p w) = w
 width (TTwo k s t p w) = w
 width (TPow t n p w) = w
+
+-- which operation on two a formula is, where it is one
+abbrev pub kind_of : Formula → Two
+kind_of (FNum at c) = Plus
+kind_of (FInput at a c) = Plus
+kind_of (FName at j) = Plus
+kind_of (FNeg at e) = Plus
+kind_of (FAdd at e f) = Plus
+kind_of (FSub at e f) = Minus
+kind_of (FMul at e f) = Times
+kind_of (FPow at e n) = Plus
+
+-- the formula of an operation on two
+abbrev pub formula_of : Two → Span → Formula → Formula → Formula
+formula_of Plus at e f = FAdd at e f
+formula_of Minus at e f = FSub at e f
+formula_of Times at e f = FMul at e f
 
 -- the expression of an operation on two
 abbrev pub two_of : Two → Tree → Tree → Tree

@@ -45,7 +45,7 @@ impl Width {
 }
 
 /// The operations on two operands: sum, difference, product.
-#[derive(Clone, Copy, Debug, PartialEq, Eq)]
+#[derive(Clone, Copy, PartialEq, Eq)]
 pub enum Two {
     Plus,
     Minus,

@@ -20,6 +20,3 @@ pub use fitted::{FitOp, Fitted, Two, Width};
 pub use fitted_pred::FittedPred;
 pub use measure::Measure;
 pub use weigh::{BoundStop, Weights};
-
-#[cfg(test)]
-mod tests;

@@ -8,7 +8,7 @@ ghost use Rattle.ln_tree.specs.Formula.{formula, tree_of};
 ghost use Rattle.ln_bound.specs.Light.{AreLight};
 ghost use Rattle.ln_bound.specs.Loads.{loaded_pred};
 ghost use Rattle.ln_bound.specs.Exact.{AreExact, IsExact};
-ghost use Rattle.ln_bound.specs.Typed.{TInput, TNeg, TNum, TPow, TTwo, pair, range_of, untyped, width};
+ghost use Rattle.ln_bound.specs.Typed.{TInput, TNeg, TNum, TPow, TTwo, kind_of, pair, range_of, untyped, width};
 ghost use Rattle.ln_bound.specs.View.{typed};
 ghost use Rattle.ln_bound.specs.Ranges.{HaveRange, LetsHaveRange, ranges};
 ghost use Rattle.ln_bound.specs.Widths.{least, wider};
@@ -78,8 +78,9 @@ pub fn negated(alloc: Global, x: Fitted) -> Result<Fitted, NoMemory>
 {
     let pair = x.pair.neg();
     let width = x.width.wider(least_for(pair));
+    let x = Box::new(alloc, x)?;
     Ok(Fitted {
-        op: FitOp::Neg(Box::new(alloc, x)?),
+        op: FitOp::Neg(x),
         pair,
         width,
     })
@@ -127,19 +128,39 @@ pub fn two(alloc: Global, kind: Two, x: Fitted, y: Fitted) -> Result<Fitted, NoM
     }
 }
 
+// The pair of a power, where it is within the limit.
+fn pair_of_power(p: Pair, n: u8) -> Pair
+    requires { magnitude (power (range p) n) ≤ most }
+    ensures { range result ≡ power (range p) n }
+{
+    p.power(n).unwrap()
+}
+
 // The power of a tree, whose range has to be within the limit.
 fn raised(alloc: Global, x: Fitted, n: u8) -> Result<Fitted, NoMemory>
     requires { magnitude (power (pair (typed x)) n) ≤ most }
     ensures { IfOk result (λ t. typed t ≡ TPow (typed x) n (power (pair (typed x)) n)
         (wider (width (typed x)) (least (magnitude (power (pair (typed x)) n))))) }
 {
-    let pair = x.pair.power(n).unwrap();
+    let pair = pair_of_power(x.pair, n);
     let width = x.width.wider(least_for(pair));
+    let x = Box::new(alloc, x)?;
     Ok(Fitted {
-        op: FitOp::Pow(Box::new(alloc, x)?, n),
+        op: FitOp::Pow(x, n),
         pair,
         width,
     })
+}
+
+/// Which operation on two an expression is, where it is one; else a sum.
+pub fn kind_of(e: &Expr) -> Two
+    ensures { result ≡ kind_of (formula e.now) }
+{
+    match &e.node {
+        Node::Sub(_, _) => Two::Minus,
+        Node::Mul(_, _) => Two::Times,
+        _ => Two::Plus,
+    }
 }
 
 // The tree of an expression behind lets of these trees.
@@ -159,20 +180,10 @@ fn fit(alloc: Global, e: &Expr, vars: &[VarInfo], lets: &[Fitted]) -> Result<Fit
             let x = fit(alloc, x, vars, lets)?;
             negated(alloc, x)
         }
-        Node::Add(x, y) => {
+        Node::Add(x, y) | Node::Sub(x, y) | Node::Mul(x, y) => {
             let x = fit(alloc, x, vars, lets)?;
             let y = fit(alloc, y, vars, lets)?;
-            two(alloc, Two::Plus, x, y)
-        }
-        Node::Sub(x, y) => {
-            let x = fit(alloc, x, vars, lets)?;
-            let y = fit(alloc, y, vars, lets)?;
-            two(alloc, Two::Minus, x, y)
-        }
-        Node::Mul(x, y) => {
-            let x = fit(alloc, x, vars, lets)?;
-            let y = fit(alloc, y, vars, lets)?;
-            two(alloc, Two::Times, x, y)
+            two(alloc, kind_of(e), x, y)
         }
         Node::Pow(x, n) => {
             let x = fit(alloc, x, vars, lets)?;

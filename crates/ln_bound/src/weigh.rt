@@ -1,6 +1,6 @@
 //! The ranges and sizes of a predicate's nodes.
 ghost use Rattle.std.specs.Prelude.{◌≡◌, ◌≤◌, ◌<◌, ◌++◌, ◌∷◌, [], ◌+◌, ◌-◌, ◌*◌, ◌^◌, ℕ, IfOk, IfErr, OnOk};
-ghost use Rattle.std.specs.Prelude.{MatchOption, Some, length, map, max, slice_index_or, unsigned_abs, pos};
+ghost use Rattle.std.specs.Prelude.{MatchOption, MatchResult, Some, length, map, max, slice_index_or, unsigned_abs, pos};
 ghost use Rattle.ln_tree.specs.Formula.{formula, tree};
 ghost use Rattle.ln_tree.specs.Variables.{number_or_end};
 ghost use Rattle.ln_interval.specs.Range.{IsOrdered, magnitude, most, opposite, point, product, power, sum, difference};
@@ -12,9 +12,11 @@ ghost use Rattle.ln_bound.specs.Measures.{IsMeasure, range_in, seen, size_in, te
 ghost use Rattle.ln_bound.specs.Typed.{range_of, bound_of};
 ghost use Rattle.ln_bound.specs.Ranges.{range_over, ranges, size_over};
 ghost use Rattle.ln_bound.specs.Stop.{StopsWeighing, IsHeavyOrNoMemory};
+ghost use Rattle.ln_bound.specs.Weighed.{IsWeighed};
 
 use crate::fitted::Two;
 use crate::measure::{Measure, declared};
+use crate::size::kind_of;
 use ln_base::{NoMemory, Seq, Span};
 use ln_interval::Pair;
 use ln_interval::pair::MOST;
@@ -24,7 +26,7 @@ use std::alloc::Global;
 use std::marker::Model;
 
 /// Why a predicate has no ranges and sizes.
-#[derive(Clone, Copy, Debug, PartialEq, Eq)]
+#[derive(Clone, Copy)]
 pub enum BoundStop {
     /// The first node in order of evaluation whose range or size passes `2^127 - 1`.
     Bound(Span),
@@ -238,28 +240,7 @@ fn two_of(kind: Two, a: Measure, b: Measure) -> Option<Measure>
     }
 }
 
-// Puts the measure of a sum, difference or product behind the others.
-fn put_two(
-    at: Span,
-    kind: Two,
-    a: Measure,
-    b: Measure,
-    all: &mut Seq<Measure>,
-) -> Result<Measure, BoundStop>
-    requires left { a.size ≤ most }
-    requires right { b.size ≤ most }
-    ensures ok { IfOk result (λ w. IsMeasure w (range_of kind (range a.pair) (range b.pair)) (bound_of kind a.size b.size)) }
-    ensures nodes { OnOk result (map seen all.new ≡ map seen all.old
-        ++ (range_of kind (range a.pair) (range b.pair), bound_of kind a.size b.size) ∷ []) }
-    ensures light { OnOk result (max (magnitude (range_of kind (range a.pair) (range b.pair))) (bound_of kind a.size b.size) ≤ most) }
-    ensures heavy { IfErr result (λ e. IsHeavyOrNoMemory at
-        (Some (max (magnitude (range_of kind (range a.pair) (range b.pair))) (bound_of kind a.size b.size))) e) }
-{
-    put(at, two_of(kind, a, b), all)
-}
-
 // The measure of a formula behind lets of these measures; the measures of its nodes come behind the others.
-#[tactic(auto, using(crate::proofs::Measures::Weighing::stop_alone, crate::proofs::Measures::Weighing::stop_before, crate::proofs::Measures::Weighing::stop_behind, crate::proofs::Measures::Weighing::stop_here, crate::proofs::Measures::Weighing::light_both, crate::proofs::Measures::Weighing::light_behind))]
 fn weigh_in(
     e: &Expr,
     vars: &[VarInfo],
@@ -267,12 +248,8 @@ fn weigh_in(
     all: &mut Seq<Measure>,
 ) -> Result<Measure, BoundStop>
     requires { (k : ℕ) → IsOrdered (ranges vars.now k) }
-    ensures measure { IfOk result (λ w. IsMeasure w (range_over (ranges vars.now) (map range_in lets.now)
-        (tree vars.now (formula e.now))) (size_over (map size_in lets.now) (tree vars.now (formula e.now)))) }
-    ensures nodes { OnOk result (map seen all.new ≡ map seen all.old
-        ++ node_measures (measured vars.now (map range_in lets.now) (map size_in lets.now) (formula e.now))) }
-    ensures light { OnOk result (AreLight (loaded vars.now (map range_in lets.now) (map size_in lets.now) (formula e.now))) }
-    ensures err { IfErr result (λ s. StopsWeighing (loaded vars.now (map range_in lets.now) (map size_in lets.now) (formula e.now)) s) }
+    ensures { MatchResult result (IsWeighed vars.now lets.now (formula e.now) all.old all.new)
+        (StopsWeighing (loaded vars.now (map range_in lets.now) (map size_in lets.now) (formula e.now))) }
 {
     match &e.node {
         Node::Num(c) => put(e.at, of_number(*c), all),
@@ -282,20 +259,10 @@ fn weigh_in(
             let a = weigh_in(x, vars, lets, all)?;
             put(e.at, Some(opposite_of(a)), all)
         }
-        Node::Add(x, y) => {
+        Node::Add(x, y) | Node::Sub(x, y) | Node::Mul(x, y) => {
             let a = weigh_in(x, vars, lets, all)?;
             let b = weigh_in(y, vars, lets, all)?;
-            put_two(e.at, Two::Plus, a, b, all)
-        }
-        Node::Sub(x, y) => {
-            let a = weigh_in(x, vars, lets, all)?;
-            let b = weigh_in(y, vars, lets, all)?;
-            put_two(e.at, Two::Minus, a, b, all)
-        }
-        Node::Mul(x, y) => {
-            let a = weigh_in(x, vars, lets, all)?;
-            let b = weigh_in(y, vars, lets, all)?;
-            put_two(e.at, Two::Times, a, b, all)
+            put(e.at, two_of(kind_of(e), a, b), all)
         }
         Node::Pow(x, n) => {
             let a = weigh_in(x, vars, lets, all)?;
@@ -351,7 +318,6 @@ fn weigh_lets(
 
 /// The ranges and sizes of a predicate's nodes, or the first node in order of evaluation that has an end of its range, or
 /// its size, past `2^127 - 1` in absolute value.
-#[tactic(auto, using(crate::proofs::Measures::Weighing::stop_before, crate::proofs::Measures::Weighing::stop_behind, crate::proofs::Measures::Weighing::light_both))]
 pub fn weigh(alloc: Global, p: &Pred) -> Result<Weights, BoundStop>
     ensures ok { IfOk result (λ w. w ≡ node_measures (measured_pred p.now.shape.vars (map formula p.now.lets) (formula p.now.root))) }
     ensures light { OnOk result (AreLight (loaded_pred p.now.shape.vars (map formula p.now.lets) (formula p.now.root))) }

@@ -48,15 +48,43 @@ max_which a b = by_case (int_lt b a)
     by_case true = inl refl
     by_case false = inr refl
 
+le_then : (a b c : ℤ) → a ≤ℤ b → b ≤ℤ c → a ≤ℤ c
+le_then a b c h g = omega (arith, ints, h, g)
+
+-- a number between two has no larger absolute value than both
+between : (l u z : ℤ) → l ≤ℤ z → z ≤ℤ u → unsigned_abs z ≤ max (unsigned_abs l) (unsigned_abs u)
+between l u z h g = omega (arith, ints, h, g)
+
+-- the largest of four
+all_below : (w x y z m : ℕ) → w ≤ m → x ≤ m → y ≤ m → z ≤ m → max (max w x) (max y z) ≤ m
+all_below w x y z m a b c d = omega (arith, a, b, c, d)
+
+one_below : (w x y z : ℕ) → (w ≤ max (max w x) (max y z)) × (x ≤ max (max w x) (max y z)) × (y ≤ max (max w x) (max y z)) × (z ≤ max (max w x) (max y z))
+one_below w x y z = (omega arith, omega arith, omega arith, omega arith)
+
+both_ways : (m n r : ℕ) → m ≤ r → n ≤ r → r ≤ max m n → max m n ≡ r
+both_ways m n r a b c = omega (arith, a, b, c)
+
+-- a number that is one of two has an absolute value that is one of theirs
+one_abs : (l a c : ℤ) (r : ℕ) → (l ≡ a) ⊎ (l ≡ c) → unsigned_abs a ≤ r → unsigned_abs c ≤ r → unsigned_abs l ≤ r
+one_abs l a c r (inl e) h g = rw e h
+one_abs l a c r (inr e) h g = rw e g
+
 -- of two ranges one after the other
 joined_abs : (a b c d : ℤ) → a ≤ℤ b → c ≤ℤ d → max (unsigned_abs (int_min a c)) (unsigned_abs (int_max b d)) ≡ max (max (unsigned_abs a) (unsigned_abs b)) (max (unsigned_abs c) (unsigned_abs d))
-joined_abs a b c d h g = by_case (int_min a c) (int_max b d) (omega (arith, ints, clamps)) (omega (arith, ints, clamps)) (omega (arith, ints, clamps)) (omega (arith, ints, clamps)) (min_which a c) (max_which b d)
+joined_abs a b c d h g = by_ends (int_min a c) (int_max b d) (omega (arith, ints, clamps)) (omega (arith, ints, clamps)) (omega (arith, ints, clamps)) (omega (arith, ints, clamps)) (min_which a c) (max_which b d)
   where
-    by_case : (l u : ℤ) → l ≤ℤ a → l ≤ℤ c → b ≤ℤ u → d ≤ℤ u → (l ≡ a) ⊎ (l ≡ c) → (u ≡ b) ⊎ (u ≡ d) → max (unsigned_abs l) (unsigned_abs u) ≡ max (max (unsigned_abs a) (unsigned_abs b)) (max (unsigned_abs c) (unsigned_abs d))
-    by_case l u la lc bu du (inl e) (inl f) = omega (arith, ints, la, lc, bu, du, e, f, h, g)
-    by_case l u la lc bu du (inl e) (inr f) = omega (arith, ints, la, lc, bu, du, e, f, h, g)
-    by_case l u la lc bu du (inr e) (inl f) = omega (arith, ints, la, lc, bu, du, e, f, h, g)
-    by_case l u la lc bu du (inr e) (inr f) = omega (arith, ints, la, lc, bu, du, e, f, h, g)
+    by_ends : (l u : ℤ) → l ≤ℤ a → l ≤ℤ c → b ≤ℤ u → d ≤ℤ u → (l ≡ a) ⊎ (l ≡ c) → (u ≡ b) ⊎ (u ≡ d) → max (unsigned_abs l) (unsigned_abs u) ≡ max (max (unsigned_abs a) (unsigned_abs b)) (max (unsigned_abs c) (unsigned_abs d))
+    by_ends l u la lc bu du e f =
+        let o = one_below (unsigned_abs a) (unsigned_abs b) (unsigned_abs c) (unsigned_abs d) in
+        both_ways (unsigned_abs l) (unsigned_abs u) _ (one_abs l a c _ e o.0 o.2) (one_abs u b d _ f o.1 o.3)
+        (all_below (unsigned_abs a) (unsigned_abs b) (unsigned_abs c) (unsigned_abs d) _ (between l u a la (le_then a b u h bu)) (between l u b (le_then l a b la h) bu) (between l u c lc (le_then c d u g du)) (between l u d (le_then l c d lc g) du))
+
+min_left : (a b : ℤ) → int_min a b ≤ℤ a
+min_left a b = omega (arith, ints, clamps)
+
+max_left : (a b : ℤ) → a ≤ℤ int_max a b
+max_left a b = omega (arith, ints, clamps)
 
 min_max : (a b : ℤ) → int_min a b ≤ℤ int_max a b
 min_max a b = omega (arith, ints, clamps)
@@ -112,7 +140,10 @@ pub product_ordered : (p q : Range) → IsOrdered (product p q)
 product_ordered p q = four (p.low *ℤ q.low) (p.low *ℤ q.high) (p.high *ℤ q.low) (p.high *ℤ q.high)
   where
     four : (a b c d : ℤ) → least_of a b c d ≤ℤ greatest_of a b c d
-    four a b c d = omega (arith, ints, clamps)
+    four a b c d =
+        le_then (least_of a b c d) (int_max a b) (greatest_of a b c d)
+        (le_then (least_of a b c d) (int_min a b) (int_max a b) (min_left (int_min a b) (int_min c d)) (min_max a b))
+        (max_left (int_max a b) (int_max c d))
 
 pub power_ordered : (p : Range) (n : ℕ) → IsOrdered (power p n)
 power_ordered p zero = omega (arith, ints)

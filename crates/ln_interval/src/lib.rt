@@ -10,6 +10,3 @@ pub mod operations;
 pub mod pair;
 
 pub use pair::Pair;
-
-#[cfg(test)]
-mod tests;

@@ -2,5 +2,4 @@
 pub mod Parts
 pub mod Scaled
 pub mod Vectors
-pub mod Doubled
 pub mod Shortest

@@ -11,6 +11,3 @@ pub mod work;
 
 pub use horner::nest;
 pub use laws::{lean_polynomials_are_short, nested_forms_stay_within};
-
-#[cfg(test)]
-mod tests;

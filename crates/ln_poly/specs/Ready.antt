@@ -1,10 +1,13 @@
 -- When an expression may be expanded in 128 bits.
-use Rattle.std.specs.Prelude.{ℕ, ◌<◌, ◌≤◌, ◌^◌, List, [], ◌∷◌, ◌++◌, length}
+use Rattle.std.specs.Prelude.{All, ℕ, ◌+◌, ◌*◌, ◌<◌, ◌≤◌, ◌^◌, List, [], ◌∷◌, ◌++◌, length}
 use Rattle.ln_base.specs.declared.span.Span.{Span}
 use Rattle.ln_algebra.specs.Tree.{InputsBelow, Tree, Num, Input, Name, Neg, Add, Sub, Mul, Pow, inlined}
 use Rattle.ln_algebra.specs.Weights.{weight}
 use Rattle.ln_bound.specs.Light.{most}
-use Rattle.ln_poly.specs.Sparse.{Sparse}
+use Rattle.ln_bound.specs.declared.fitted.Two.{Two}
+use Rattle.ln_bound.specs.declared.fitted.Two.TheVariants.{Plus, Minus, Times}
+use Rattle.ln_poly.specs.Rows.{PowersFit}
+use Rattle.ln_poly.specs.Sparse.{Sparse, size_of}
 use Rattle.ln_poly.specs.Expansion.{HaveFewTerms, IsNormal}
 
 -- a closed tree over n variables, whose weight is at most 2^127 - 1
@@ -50,3 +53,9 @@ pub record HasPower (f : Sparse) (k : ℕ) : Type 0 where
   pub inputs : InputsBelow n tree
   pub light : weight w tree ^ k ≤ most
   pub normal : IsNormal n tree f
+
+-- there is room for the sum, the difference or the product of two polynomials
+abbrev pub HaveRoom : Two → Sparse → Sparse → Type 0
+HaveRoom Plus f g = size_of f + size_of g < 2 ^ 127
+HaveRoom Minus f g = size_of f + size_of g < 2 ^ 127
+HaveRoom Times f g = (size_of f * size_of g < 2 ^ 127) × All (λ s. PowersFit s g) f

@@ -14,19 +14,22 @@ ghost use Rattle.ln_poly.specs.Sparse.{size_of};
 ghost use Rattle.ln_poly.specs.Rows.{PowersFit};
 ghost use Rattle.ln_poly.specs.Expansion.{IsNormal, HaveFewTerms, IsZeroFault, closed_lets, closed_root};
 ghost use Rattle.ln_poly.specs.Expansion.{expanded, expanded_lets, expanded_pred, powers};
-ghost use Rattle.ln_poly.specs.Ready.{AreLight, AreNormal, Expands, HasPower, LetsAreLight};
+ghost use Rattle.ln_bound.specs.Typed.{two_of};
+ghost use Rattle.ln_poly.specs.Ready.{AreLight, AreNormal, Expands, HasPower, HaveRoom, LetsAreLight};
 ghost use Rattle.ln_poly.specs.Stop.{StopsExpanding};
 
 use crate::arithmetic::{add, mul, sub};
 use crate::leaf::{number, power};
 use crate::poly::Poly;
 use ln_base::{NoMemory, Seq, Span};
+use ln_bound::Two;
+use ln_bound::size::kind_of;
 use ln_tree::layout::number_in;
 use ln_tree::{Expr, Node, Pred, Var, VarInfo};
 use std::alloc::Global;
 
 /// Why a predicate has no normal polynomial.
-#[derive(Clone, Copy, Debug, PartialEq, Eq)]
+#[derive(Clone, Copy)]
 pub enum PolyStop {
     /// The first node in order of evaluation that has more than 1,024 terms, or a power of which a lower one has.
     Terms(Span),
@@ -132,6 +135,21 @@ fn product(alloc: Global, at: Span, f: &Poly, g: &Poly) -> Result<Poly, PolyStop
     counted(at, h)
 }
 
+// The sum, the difference or the product of two polynomials, at the place of its node.
+fn both(alloc: Global, at: Span, kind: Two, f: Poly, g: Poly) -> Result<Poly, PolyStop>
+    requires { HaveRoom kind f g }
+    ensures ok { IfOk result (λ h. (n : ℕ) (d e : Tree) → IsNormal n d f → IsNormal n e g →
+        Expands n ((at, two_of kind d e) ∷ []) (two_of kind d e) h) }
+    ensures err { IfErr result (λ s. (n : ℕ) (d e : Tree) → IsNormal n d f → IsNormal n e g →
+        StopsExpanding n ((at, two_of kind d e) ∷ []) s) }
+{
+    match kind {
+        Two::Plus => sum(alloc, at, &f, &g),
+        Two::Minus => difference(alloc, at, &f, &g),
+        Two::Times => product(alloc, at, &f, &g),
+    }
+}
+
 // The polynomial with the other sign.
 fn negation(alloc: Global, at: Span, f: &Poly) -> Result<Poly, PolyStop>
     requires { size_of f.now < 2 ^ 127 }
@@ -182,20 +200,10 @@ fn expand(
             let f = expand(alloc, x, vars, lets, polys)?;
             negation(alloc, e.at, &f)
         }
-        Node::Add(x, y) => {
+        Node::Add(x, y) | Node::Sub(x, y) | Node::Mul(x, y) => {
             let f = expand(alloc, x, vars, lets, polys)?;
             let g = expand(alloc, y, vars, lets, polys)?;
-            sum(alloc, e.at, &f, &g)
-        }
-        Node::Sub(x, y) => {
-            let f = expand(alloc, x, vars, lets, polys)?;
-            let g = expand(alloc, y, vars, lets, polys)?;
-            difference(alloc, e.at, &f, &g)
-        }
-        Node::Mul(x, y) => {
-            let f = expand(alloc, x, vars, lets, polys)?;
-            let g = expand(alloc, y, vars, lets, polys)?;
-            product(alloc, e.at, &f, &g)
+            both(alloc, e.at, kind_of(e), f, g)
         }
         Node::Pow(x, n) => {
             let f = expand(alloc, x, vars, lets, polys)?;

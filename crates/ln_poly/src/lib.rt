@@ -26,8 +26,3 @@ pub use poly::Poly;
 pub use sums::sum;
 pub use weights::{heft, weight};
 pub use within::mul_within;
-
-#[cfg(test)]
-mod tests;
-#[cfg(test)]
-mod tests_normal;

@@ -3,4 +3,14 @@
 #![tactic(auto)]
 
 #[cfg(test)]
+mod bound;
+#[cfg(test)]
+mod interval;
+#[cfg(test)]
+mod nest;
+#[cfg(test)]
 mod orders;
+#[cfg(test)]
+mod poly;
+#[cfg(test)]
+mod sources;

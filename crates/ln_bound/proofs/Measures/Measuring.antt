@@ -1,74 +1,26 @@
 -- The nodes of a predicate with their ranges, sizes and loads, one after the other.
-use Rattle.std.proofs.Common.{◌≡◌, ℕ, true, zero, suc, ◌≤◌, ◌<◌, max, List, [], ◌∷◌, ◌++◌, length, map, refl, ap, arith, ◌∙◌, append_assoc}
-use Rattle.std.specs.Prelude.{Some, not, int_lt, nat_le, ◌&&◌, ◌==◌, ◌≤ℤ◌}
+use Rattle.std.proofs.Common.{◌≡◌, ℕ, true, zero, suc, ◌≤◌, ◌<◌, List, [], ◌∷◌, ◌++◌, length, map, refl, ap, arith, ◌∙◌, append_assoc}
+use Rattle.std.specs.Prelude.{not, int_lt, nat_le, ◌&&◌, ◌==◌, ◌≤ℤ◌}
 use Rattle.std.specs.List.{count_by, list_all}
 use Rattle.std.proofs.lemmas.Bool.{and_parts}
 use Rattle.std.proofs.lemmas.Int.{ints}
 use Rattle.std.proofs.lemmas.List.{map-append}
 use Rattle.ln_base.specs.declared.span.Span.{Span}
-use Rattle.ln_algebra.specs.Tree.{Tree}
 use Rattle.ln_tree.specs.declared.shape.VarInfo.{VarInfo}
 use Rattle.ln_tree.specs.Formula.{Formula, FNum, FInput, FName, FNeg, FAdd, FSub, FMul, FPow, tree}
 use Rattle.ln_tree.specs.Variables.{has_range, in_order, is_laid_out, is_param, no_var, starts_site}
-use Rattle.ln_interval.specs.Range.{IsOrdered, Range, magnitude}
-use Rattle.ln_interval.specs.View.{range}
-use Rattle.ln_bound.specs.declared.fitted.Two.{Two}
-use Rattle.ln_bound.specs.declared.fitted.Two.TheVariants.{Plus, Minus, Times}
+use Rattle.ln_interval.specs.Range.{IsOrdered, Range}
 use Rattle.ln_bound.specs.declared.measure.Measure.{Measure}
 use Rattle.ln_bound.specs.declared.weigh.BoundStop.{BoundStop}
-use Rattle.ln_bound.specs.Light.{most, AreLight}
+use Rattle.ln_bound.specs.Light.{AreLight}
 use Rattle.ln_bound.specs.Loads.{loaded, loaded_lets, loaded_pred, measured, measured_lets, node_measures, nodes_by, ranges_of_lets, sizes_of_lets}
-use Rattle.ln_bound.specs.Measures.{IsMeasure, range_in, seen, size_in}
-use Rattle.ln_bound.specs.Typed.{range_of, bound_of, two_of}
-use Rattle.ln_bound.specs.Ranges.{range_over, ranges, size_over, load_over}
-use Rattle.ln_bound.specs.Stop.{StopsWeighing, IsHeavyOrNoMemory}
-use Rattle.ln_bound.proofs.Measures.Weighing.{Nodes, light_behind, light_both, stop_before, stop_behind, stop_here}
+use Rattle.ln_bound.specs.Measures.{range_in, seen, size_in}
+use Rattle.ln_bound.specs.Ranges.{range_over, ranges, size_over}
+use Rattle.ln_bound.specs.Stop.{StopsWeighing}
+use Rattle.ln_bound.proofs.Measures.Weighing.{Nodes, light_both, stop_before, stop_behind}
 
 abbrev pub Seen : Type 0
 Seen = Range × ℕ
-
--- a range with a size
-abbrev pub made : Range → ℕ → Seen
-made p n = (p, n)
-
-four : (b x y : List Seen) (w : Seen) → ((b ++ x) ++ y) ++ w ∷ [] ≡ b ++ ((x ++ y) ++ w ∷ [])
-four b x y w = rw (append_assoc b x y) (append_assoc b (x ++ y) (w ∷ []))
-
--- ---- the nodes of an operation on two
-module _ (vars : List VarInfo) (ps : List Range) (ss : List ℕ) where
-  -- the load of an operation, from the ranges and sizes of its operands
-  two_load : (k : Two) (e f : Tree) (p q : Range) (a b : ℕ) → p ≡ range_over (ranges vars) ps e → q ≡ range_over (ranges vars) ps f → a ≡ size_over ss e → b ≡ size_over ss f → max (magnitude (range_of k p q)) (bound_of k a b) ≡ load_over (ranges vars) ps ss (two_of k e f)
-  two_load Plus e f p q a b ep eq ea eb = rw (ep, eq, ea, eb) refl
-  two_load Minus e f p q a b ep eq ea eb = rw (ep, eq, ea, eb) refl
-  two_load Times e f p q a b ep eq ea eb = rw (ep, eq, ea, eb) refl
-
-  -- the load of an operation on measures
-  pub two_loaded : (k : Two) (e f : Tree) (m n : Measure) → IsMeasure m (range_over (ranges vars) ps e) (size_over ss e) → IsMeasure n (range_over (ranges vars) ps f) (size_over ss f) → max (magnitude (range_of k (range m.pair) (range n.pair))) (bound_of k m.size n.size) ≡ load_over (ranges vars) ps ss (two_of k e f)
-  two_loaded k e f m n a b = two_load k e f (range m.pair) (range n.pair) m.size n.size a.same_range b.same_range a.same_size b.same_size
-
-  -- the nodes of both operands are light, and the operation isn't
-  pub two_stops : (e x y : Formula) (at : Span) (w v : ℕ) (s : BoundStop) → loaded vars ps ss e ≡ loaded vars ps ss x ++ loaded vars ps ss y ++ (at, w) ∷ [] → v ≡ w → AreLight (loaded vars ps ss x) → AreLight (loaded vars ps ss y) → IsHeavyOrNoMemory at (Some v) s → StopsWeighing (loaded vars ps ss e) s
-  two_stops e x y at w v s q z l m h = rw q (stop_here (loaded vars ps ss x ++ loaded vars ps ss y) at w (Some v) s (light_both (loaded vars ps ss x) (loaded vars ps ss y) l m) (λ g. let f : most < v = g in omega (arith, f, z)) h)
-
-  -- the nodes of both operands are light, and the operation is
-  pub two_light : (e x y : Formula) (at : Span) (w v : ℕ) → loaded vars ps ss e ≡ loaded vars ps ss x ++ loaded vars ps ss y ++ (at, w) ∷ [] → v ≡ w → AreLight (loaded vars ps ss x) → AreLight (loaded vars ps ss y) → v ≤ most → AreLight (loaded vars ps ss e)
-  two_light e x y at w v q z l m h = rw q (light_behind (loaded vars ps ss x ++ loaded vars ps ss y) at w (light_both (loaded vars ps ss x) (loaded vars ps ss y) l m) (omega (arith, z, h)))
-
-  -- the range and the size of an operation, from those of its operands
-  two_measure : (k : Two) (e f : Tree) (p q : Range) (a b : ℕ) → p ≡ range_over (ranges vars) ps e → q ≡ range_over (ranges vars) ps f → a ≡ size_over ss e → b ≡ size_over ss f → made (range_of k p q) (bound_of k a b) ≡ made (range_over (ranges vars) ps (two_of k e f)) (size_over ss (two_of k e f))
-  two_measure Plus e f p q a b ep eq ea eb = rw (ep, eq, ea, eb) refl
-  two_measure Minus e f p q a b ep eq ea eb = rw (ep, eq, ea, eb) refl
-  two_measure Times e f p q a b ep eq ea eb = rw (ep, eq, ea, eb) refl
-
-  -- the same of measures
-  pub two_measured : (k : Two) (e f : Tree) (m n : Measure) → IsMeasure m (range_over (ranges vars) ps e) (size_over ss e) → IsMeasure n (range_over (ranges vars) ps f) (size_over ss f) → made (range_of k (range m.pair) (range n.pair)) (bound_of k m.size n.size) ≡ made (range_over (ranges vars) ps (two_of k e f)) (size_over ss (two_of k e f))
-  two_measured k e f m n a b = two_measure k e f (range m.pair) (range n.pair) m.size n.size a.same_range b.same_range a.same_size b.same_size
-
-  -- what was put behind the others
-  pub two_nodes : (e x y : Formula) (at : Span) (w v : Seen) (before first second after : List Seen) → measured vars ps ss e ≡ measured vars ps ss x ++ measured vars ps ss y ++ (at, w) ∷ [] → v ≡ w
-      → first ≡ before ++ node_measures (measured vars ps ss x) → second ≡ first ++ node_measures (measured vars ps ss y) → after ≡ second ++ v ∷ [] → after ≡ before ++ node_measures (measured vars ps ss e)
-  two_nodes e x y at w v before first second after q z f g h =
-      rw (q, map-append, map-append) (h ∙ rw (g, f, z) (four before (node_measures (measured vars ps ss x)) (node_measures (measured vars ps ss y)) w))
 
 -- ---- lets
 -- some lets are measured; the rest stand behind

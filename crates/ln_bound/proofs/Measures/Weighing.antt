@@ -32,7 +32,3 @@ stop_behind xs ys NoMemory l f = tt
 pub stop_here : (xs : Nodes) (at : Span) (w : ℕ) (o : Option ℕ) (s : BoundStop) → AreLight xs → (IsHeavy o → most < w) → IsHeavyOrNoMemory at o s → StopsWeighing (xs ++ (at, w) ∷ []) s
 stop_here xs at w o (Bound t) l h e = record { before = xs; weight = w; after = []; stands = ap (λ (u : Span). xs ++ (u, w) ∷ []) (sym e.0); light = l; heavy = h e.1 }
 stop_here xs at w o NoMemory l h e = tt
-
--- a node alone that is too heavy
-pub stop_alone : (at : Span) (w : ℕ) (o : Option ℕ) (s : BoundStop) → (IsHeavy o → most < w) → IsHeavyOrNoMemory at o s → StopsWeighing ((at, w) ∷ []) s
-stop_alone at w o s h e = stop_here [] at w o s tt h e

@@ -187,5 +187,9 @@ two_range vars lets Plus e f s t r p q h g = let a = exact_range vars lets s h i
 two_range vars lets Minus e f s t r p q h g = let a = exact_range vars lets s h in let b = exact_range vars lets t g in rw (a, b, p, q) r.2
 two_range vars lets Times e f s t r p q h g = let a = exact_range vars lets s h in let b = exact_range vars lets t g in rw (a, b, p, q) r.2
 
+-- an operation on two trees has the expression of the operation on theirs
+pub two_untyped : (k j : Two) (s t r : Typed) (p : Range) (w : Width) (e f g : Tree) → j ≡ k → r ≡ TTwo j s t p w → untyped s ≡ e → untyped t ≡ f → g ≡ two_of k e f → untyped r ≡ g
+two_untyped k j s t r p w e f g i h a b q = ap untyped h ∙ rw (i, a, b, q) refl
+
 pub power_range : (vars : List VarInfo) (lets : List Typed) (e : Tree) (n : ℕ) (t : Typed) → HaveRange vars (map pair lets) (Pow e n) → untyped t ≡ e → IsExact vars lets t → magnitude (power (pair t) n) ≤ most
 power_range vars lets e n t r p h = let a = exact_range vars lets t h in rw (a, p) r.1

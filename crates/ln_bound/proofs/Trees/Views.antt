@@ -8,9 +8,9 @@ use Rattle.ln_bound.specs.Widths.{least, wider}
 use Rattle.ln_bound.specs.declared.fitted.Fitted.{Fitted}
 use Rattle.ln_bound.specs.declared.fitted.FitOp.{FitOp}
 use Rattle.ln_bound.specs.declared.fitted.FitOp.TheVariants.{Num, Input, Let, Neg', Add', Sub', Mul', Pow'}
-use Rattle.ln_interval.specs.Range.{Range, magnitude}
+use Rattle.ln_interval.specs.Range.{Range, magnitude, opposite, power}
 use Rattle.ln_interval.specs.View.{range}
-use Rattle.ln_bound.specs.Typed.{Typed, TTwo, pair, width, range_of}
+use Rattle.ln_bound.specs.Typed.{Typed, TNeg, TPow, TTwo, pair, width, range_of}
 use Rattle.ln_bound.specs.View.{op_typed, typed}
 
 pub pair_here : (op : FitOp) (p : Range) (w : Width) → pair (op_typed op p w) ≡ p
@@ -56,6 +56,30 @@ two_made k m x y s t p w u l ek es et ep ew eu el =
         let e : p ≡ range_of k (pair a) (pair b) = ep ∙ ap₂ (range_of k) (sym px) (sym py) in
         let f : w ≡ wider (wider (width a) (width b)) (least (magnitude p)) = ew ∙ ap₂ (λ c d. wider (wider c d) (least (magnitude p))) (sym wx) (sym wy) in
         rw (← ek, es, et, f, e) refl
+
+-- the node of an opposite
+pub opposite_made : (x : Fitted) (s : Typed) (p : Range) (w l : Width) → s ≡ typed x → p ≡ opposite (range x.pair) → w ≡ wider x.width l → l ≡ least (magnitude p)
+    → TNeg s p w ≡ TNeg (typed x) (opposite (pair (typed x))) (wider (width (typed x)) (least (magnitude (opposite (pair (typed x))))))
+opposite_made x s p w l es ep ew el = same (typed x) s p w (range x.pair) x.width l es ep ew el (pair_typed x) (width_typed x)
+  where
+    same : (a s : Typed) (p : Range) (w : Width) (q : Range) (v l : Width) → s ≡ a → p ≡ opposite q → w ≡ wider v l → l ≡ least (magnitude p) → pair a ≡ q → width a ≡ v
+        → TNeg s p w ≡ TNeg a (opposite (pair a)) (wider (width a) (least (magnitude (opposite (pair a)))))
+    same a s p w q v l es ep ew el pa wa =
+        let e : p ≡ opposite (pair a) = ep ∙ ap opposite (sym pa) in
+        let f : w ≡ wider (width a) (least (magnitude p)) = ew ∙ ap₂ wider (sym wa) el in
+        rw (es, f, e) refl
+
+-- the node of a power
+pub power_made : (x : Fitted) (n : ℕ) (s : Typed) (p : Range) (w l : Width) → s ≡ typed x → p ≡ power (range x.pair) n → w ≡ wider x.width l → l ≡ least (magnitude p)
+    → TPow s n p w ≡ TPow (typed x) n (power (pair (typed x)) n) (wider (width (typed x)) (least (magnitude (power (pair (typed x)) n))))
+power_made x n s p w l es ep ew el = same (typed x) s p w (range x.pair) x.width l es ep ew el (pair_typed x) (width_typed x)
+  where
+    same : (a s : Typed) (p : Range) (w : Width) (q : Range) (v l : Width) → s ≡ a → p ≡ power q n → w ≡ wider v l → l ≡ least (magnitude p) → pair a ≡ q → width a ≡ v
+        → TPow s n p w ≡ TPow a n (power (pair a) n) (wider (width a) (least (magnitude (power (pair a) n))))
+    same a s p w q v l es ep ew el pa wa =
+        let e : p ≡ power (pair a) n = ep ∙ ap (λ (r : Range). power r n) (sym pa) in
+        let f : w ≡ wider (width a) (least (magnitude p)) = ew ∙ ap₂ wider (sym wa) el in
+        rw (es, f, e) refl
 
 -- the tree of let number j
 pub let_typed : (lets : List Fitted) (j : ℕ) (d : Fitted) → j < length lets → slice_get (map typed lets) j ≡ Some (typed (get_or lets j d))

@@ -240,6 +240,3 @@ one-larger (i ∷ vars) (suc v) h = one-larger vars v (omega arith)
 pub derived-light : (vars : List VarInfo) (a : List ℕ) (f : Sparse) → weighted_sum (weights vars) (terms_of (length vars) f) ≤ most → weighted_sum (sizes vars) (derived a (terms_of (length vars) f)) ≤ most
 derived-light vars a f h =
     omega (arith, h, weighted-derived (sizes vars) a (terms_of (length vars) f), same-weight (length vars) (λ u. sizes vars u + 1) (weights vars) f (one-larger vars))
-
-pub derivative-light : (vars : List VarInfo) (v n : ℕ) (f : Sparse) → weighted_sum (weights vars) (terms_of (length vars) f) ≤ most → weighted_sum (sizes vars) (derivative (length vars) v n f) ≤ most
-derivative-light vars v n f h = derived-light vars (vector (length vars) ((v, n) ∷ [])) f h

@@ -1,126 +1,116 @@
--- What the search leaves open in `weigh_in`, or finds slowly.
-use Rattle.std.proofs.Common.{◌≡◌, ◌++◌, ◌∷◌, [], map, refl, rules}
-use Rattle.std.proofs.lemmas.Result.{IfErr-weaker, on_ok_weaker}
-use Rattle.ln_bound.specs.declared.fitted.Two.TheVariants.{Plus, Minus, Times}
-use Rattle.ln_tree.specs.Formula.{FAdd, FSub, FMul, formula, tree}
-use Rattle.ln_bound.specs.Loads.{loaded, load_of, measure_of, measured}
-use Rattle.ln_bound.specs.Measures.{range_in, seen, size_in}
-use Rattle.ln_bound.proofs.Measures.Measuring.{two_light, two_stops, two_nodes, two_loaded, two_measured}
+-- Each arm is weighed as its formula.
+use Rattle.std.proofs.Common.{FitsSigned, ◌≡◌, ap, arith, map, refl, rules, subst, sym}
+use Rattle.std.proofs.lemmas.Int.{to_z-of_z}
+use mir.Syntax.{w128}
+use Rattle.std.proofs.lemmas.Result.{err_from_is_err_and}
+use Rattle.ln_bound.specs.Loads.{loaded}
+use Rattle.ln_bound.specs.Measures.{range_in, size_in}
+use Rattle.ln_bound.specs.Stop.{StopsWeighing}
+use Rattle.ln_bound.specs.Typed.{formula_of, kind_of}
+use Rattle.ln_tree.specs.Formula.{FInput, FName, FNeg, FNum, FPow, Formula, formula, node_count, node_formula}
+use Rattle.ln_bound.proofs.Measures.Nodes.{first_stops, leaf_weighed, operand_stops, opposite_weighed, power_weighed, second_stops, two_weighed, weighed_as}
+use Rattle.ln_bound.proofs.Trees.Operands.{count_two, operands}
 use Rattle.ln_bound.proofs.weigh.+weigh_in.Goals as goal
 
-pub returns-in_ok-b-in-Add-clause-err : goal.returns-in_ok-b-in-Add-clause-err
-returns-in_ok-b-in-Add-clause-err t c =
+pub returns-in-Num : goal.returns-in-Num
+returns-in-Num t c =
+    let q : formula c.args.e.now ≡ FNum c.args.e.now.at c.in-Num.c = ap (node_formula c.args.e.now.at) c.in-Num.is in
+    let fits : FitsSigned w128 c.in-Num.c = search rules in
+    let h = rw (to_z-of_z w128 c.in-Num.c fits) at c.of_number.ensures in
+    weighed_as c.args.vars.now c.args.lets.now (formula c.args.e.now) _ _ _ _ q (leaf_weighed c.args.vars.now c.args.lets.now (FNum c.args.e.now.at c.in-Num.c) c.args.e.now.at c.of_number.result c.args.all.now c.put.new.all c.put.result refl refl h c.put.ensures.ok c.put.ensures.heavy)
+
+pub returns-in-Input : goal.returns-in-Input
+returns-in-Input t c =
+    let q : formula c.args.e.now ≡ FInput c.args.e.now.at c.in-Input.v.arg c.in-Input.v.coord = ap (node_formula c.args.e.now.at) c.in-Input.is in
+    weighed_as c.args.vars.now c.args.lets.now (formula c.args.e.now) _ _ _ _ q (leaf_weighed c.args.vars.now c.args.lets.now (FInput c.args.e.now.at c.in-Input.v.arg c.in-Input.v.coord) c.args.e.now.at _ c.args.all.now c.put-in-Input.new.all c.put-in-Input.result refl refl c.input_measure.ensures c.put-in-Input.ensures.ok c.put-in-Input.ensures.heavy)
+
+pub returns-in-Name : goal.returns-in-Name
+returns-in-Name t c =
+    let q : formula c.args.e.now ≡ FName c.args.e.now.at c.in-Name.j = ap (node_formula c.args.e.now.at) c.in-Name.is in
+    weighed_as c.args.vars.now c.args.lets.now (formula c.args.e.now) _ _ _ _ q (leaf_weighed c.args.vars.now c.args.lets.now (FName c.args.e.now.at c.in-Name.j) c.args.e.now.at c.let_measure.result c.args.all.now c.put-in-Name.new.all c.put-in-Name.result refl refl c.let_measure.ensures c.put-in-Name.ensures.ok c.put-in-Name.ensures.heavy)
+
+pub weigh_in-requires : goal.weigh_in-requires
+weigh_in-requires t c =
+    let x = formula c.deref.result.now in
+    let q : formula c.args.e.now ≡ FNeg c.args.e.now.at x = rw c.deref.ensures (ap (node_formula c.args.e.now.at) c.in-Neg.is) in
+    (omega (arith, ap node_count q, c.decreases), c.requires)
+
+pub weigh_in-requires-in-Add : goal.weigh_in-requires-in-Add
+weigh_in-requires-in-Add t c =
+    let k = kind_of (formula c.args.e.now) in
+    let at = c.args.e.now.at in
+    let x = formula c.deref-in-Add.result.now in
+    let y = formula c.in-Add.y.value in
+    let q : formula c.args.e.now ≡ formula_of k at x y = rw c.deref-in-Add.ensures (operands at c.args.e.now.node _ _ _ (formula c.in-Add.x.value) (formula c.in-Add.y.value) c.in-Add.is refl refl refl) in
+    (omega (arith, ap node_count q, count_two k at x y, c.decreases), c.requires)
+
+pub weigh_in-requires-in-Add-2 : goal.weigh_in-requires-in-Add-2
+weigh_in-requires-in-Add-2 t c =
+    let k = kind_of (formula c.args.e.now) in
+    let at = c.args.e.now.at in
     let x = formula c.deref-in-Add.result.now in
     let y = formula c.deref-in-Add-2.result.now in
-    let at = c.args.e.now.at in
-    let vars = c.args.vars.now in
-    let ps = map range_in c.args.lets.now in
-    let ss = map size_in c.args.lets.now in
-    let q : formula c.args.e.now ≡ FAdd at x y = search rules in
-    let l : loaded vars ps ss (formula c.args.e.now) ≡ loaded vars ps ss x ++ loaded vars ps ss y ++ (at, load_of vars ps ss (FAdd at x y)) ∷ [] = rw q refl in
-    let m = two_loaded vars ps ss Plus (tree vars x) (tree vars y) c.in_ok-a-in-Add.a c.in_ok-b-in-Add.b c.in_ok-a-in-Add.ensures.measure c.in_ok-b-in-Add.ensures.measure in
-    IfErr-weaker _ _ _ (λ s h. two_stops vars ps ss (formula c.args.e.now) x y at _ _ s l m c.in_ok-a-in-Add.ensures.light c.in_ok-b-in-Add.ensures.light h) c.put_two.ensures.heavy
+    let q : formula c.args.e.now ≡ formula_of k at x y = rw (c.deref-in-Add.ensures, c.deref-in-Add-2.ensures) (operands at c.args.e.now.node _ _ _ (formula c.in-Add.x.value) (formula c.in-Add.y.value) c.in-Add.is refl refl refl) in
+    (omega (arith, ap node_count q, count_two k at x y, c.decreases), c.requires)
 
-pub returns-in_ok-b-in-Add-clause-light : goal.returns-in_ok-b-in-Add-clause-light
-returns-in_ok-b-in-Add-clause-light t c =
+pub weigh_in-requires-in-Pow : goal.weigh_in-requires-in-Pow
+weigh_in-requires-in-Pow t c =
+    let x = formula c.deref-in-Pow.result.now in
+    let q : formula c.args.e.now ≡ FPow c.args.e.now.at x c.in-Pow.n = rw c.deref-in-Pow.ensures (ap (node_formula c.args.e.now.at) c.in-Pow.is) in
+    (omega (arith, ap node_count q, c.decreases), c.requires)
+
+pub returns-in_err-a-in-Neg : goal.returns-in_err-a-in-Neg
+returns-in_err-a-in-Neg t c =
+    let x = formula c.deref.result.now in
+    let q : formula c.args.e.now ≡ FNeg c.args.e.now.at x = rw c.deref.ensures (ap (node_formula c.args.e.now.at) c.in-Neg.is) in
+    let p = err_from_is_err_and c.from_residual.result c.from_residual.ensures.1 in
+    rw (p.1, p.2) (subst (λ (z : Formula). StopsWeighing (loaded c.args.vars.now (map range_in c.args.lets.now) (map size_in c.args.lets.now) z) c.in_err-a-in-Neg.field-0.0) (sym q) (operand_stops c.args.vars.now c.args.lets.now (FNeg c.args.e.now.at x) x c.args.e.now.at c.in_err-a-in-Neg.field-0.0 refl c.in_err-a-in-Neg.ensures))
+
+pub returns-in_err-a-in-Add : goal.returns-in_err-a-in-Add
+returns-in_err-a-in-Add t c =
+    let k = kind_of (formula c.args.e.now) in
+    let at = c.args.e.now.at in
+    let x = formula c.deref-in-Add.result.now in
+    let y = formula c.in-Add.y.value in
+    let q : formula c.args.e.now ≡ formula_of k at x y = rw c.deref-in-Add.ensures (operands at c.args.e.now.node _ _ _ (formula c.in-Add.x.value) (formula c.in-Add.y.value) c.in-Add.is refl refl refl) in
+    let p = err_from_is_err_and c.from_residual-in_err-a-in-Add.result c.from_residual-in_err-a-in-Add.ensures.1 in
+    rw (p.1, p.2) (subst (λ (z : Formula). StopsWeighing (loaded c.args.vars.now (map range_in c.args.lets.now) (map size_in c.args.lets.now) z) c.in_err-a-in-Add.field-0.0) (sym q) (first_stops c.args.vars.now c.args.lets.now k at x y c.in_err-a-in-Add.field-0.0 c.in_err-a-in-Add.ensures))
+
+pub returns-in_err-b-in-Add : goal.returns-in_err-b-in-Add
+returns-in_err-b-in-Add t c =
+    let k = kind_of (formula c.args.e.now) in
+    let at = c.args.e.now.at in
     let x = formula c.deref-in-Add.result.now in
     let y = formula c.deref-in-Add-2.result.now in
-    let at = c.args.e.now.at in
-    let vars = c.args.vars.now in
-    let ps = map range_in c.args.lets.now in
-    let ss = map size_in c.args.lets.now in
-    let q : formula c.args.e.now ≡ FAdd at x y = search rules in
-    let l : loaded vars ps ss (formula c.args.e.now) ≡ loaded vars ps ss x ++ loaded vars ps ss y ++ (at, load_of vars ps ss (FAdd at x y)) ∷ [] = rw q refl in
-    let m = two_loaded vars ps ss Plus (tree vars x) (tree vars y) c.in_ok-a-in-Add.a c.in_ok-b-in-Add.b c.in_ok-a-in-Add.ensures.measure c.in_ok-b-in-Add.ensures.measure in
-    on_ok_weaker c.put_two.result (λ h. two_light vars ps ss (formula c.args.e.now) x y at _ _ l m c.in_ok-a-in-Add.ensures.light c.in_ok-b-in-Add.ensures.light h) c.put_two.ensures.light
+    let q : formula c.args.e.now ≡ formula_of k at x y = rw (c.deref-in-Add.ensures, c.deref-in-Add-2.ensures) (operands at c.args.e.now.node _ _ _ (formula c.in-Add.x.value) (formula c.in-Add.y.value) c.in-Add.is refl refl refl) in
+    let p = err_from_is_err_and c.from_residual-in_err-b-in-Add.result c.from_residual-in_err-b-in-Add.ensures.1 in
+    rw (p.1, p.2) (subst (λ (z : Formula). StopsWeighing (loaded c.args.vars.now (map range_in c.args.lets.now) (map size_in c.args.lets.now) z) c.in_err-b-in-Add.field-0.0) (sym q) (second_stops c.args.vars.now c.args.lets.now k at x y c.in_err-b-in-Add.field-0.0 c.in_ok-a-in-Add.ensures.light c.in_err-b-in-Add.ensures))
 
-pub returns-in_ok-b-in-Add-clause-nodes : goal.returns-in_ok-b-in-Add-clause-nodes
-returns-in_ok-b-in-Add-clause-nodes t c =
+pub returns-in_err-a-in-Pow : goal.returns-in_err-a-in-Pow
+returns-in_err-a-in-Pow t c =
+    let x = formula c.deref-in-Pow.result.now in
+    let q : formula c.args.e.now ≡ FPow c.args.e.now.at x c.in-Pow.n = rw c.deref-in-Pow.ensures (ap (node_formula c.args.e.now.at) c.in-Pow.is) in
+    let p = err_from_is_err_and c.from_residual-in_err-a-in-Pow.result c.from_residual-in_err-a-in-Pow.ensures.1 in
+    rw (p.1, p.2) (subst (λ (z : Formula). StopsWeighing (loaded c.args.vars.now (map range_in c.args.lets.now) (map size_in c.args.lets.now) z) c.in_err-a-in-Pow.field-0.0) (sym q) (operand_stops c.args.vars.now c.args.lets.now (FPow c.args.e.now.at x c.in-Pow.n) x c.args.e.now.at c.in_err-a-in-Pow.field-0.0 refl c.in_err-a-in-Pow.ensures))
+
+pub returns-in_ok-a-in-Neg : goal.returns-in_ok-a-in-Neg
+returns-in_ok-a-in-Neg t c =
+    let x = formula c.deref.result.now in
+    let q : formula c.args.e.now ≡ FNeg c.args.e.now.at x = rw c.deref.ensures (ap (node_formula c.args.e.now.at) c.in-Neg.is) in
+    weighed_as c.args.vars.now c.args.lets.now (formula c.args.e.now) _ _ _ _ q (opposite_weighed c.args.vars.now c.args.lets.now x c.args.e.now.at c.in_ok-a-in-Neg.a c.opposite_of.result c.args.all.now c.weigh_in.new.all c.put-in-Neg.new.all c.put-in-Neg.result c.in_ok-a-in-Neg.ensures c.opposite_of.ensures c.put-in-Neg.ensures.ok c.put-in-Neg.ensures.heavy)
+
+pub returns-in_ok-b-in-Add : goal.returns-in_ok-b-in-Add
+returns-in_ok-b-in-Add t c =
+    let k = kind_of (formula c.args.e.now) in
+    let at = c.args.e.now.at in
     let x = formula c.deref-in-Add.result.now in
     let y = formula c.deref-in-Add-2.result.now in
-    let at = c.args.e.now.at in
-    let vars = c.args.vars.now in
-    let ps = map range_in c.args.lets.now in
-    let ss = map size_in c.args.lets.now in
-    let q : formula c.args.e.now ≡ FAdd at x y = search rules in
-    let l : measured vars ps ss (formula c.args.e.now) ≡ measured vars ps ss x ++ measured vars ps ss y ++ (at, measure_of vars ps ss (FAdd at x y)) ∷ [] = rw q refl in
-    let m = two_measured vars ps ss Plus (tree vars x) (tree vars y) c.in_ok-a-in-Add.a c.in_ok-b-in-Add.b c.in_ok-a-in-Add.ensures.measure c.in_ok-b-in-Add.ensures.measure in
-    on_ok_weaker c.put_two.result (λ h. two_nodes vars ps ss (formula c.args.e.now) x y at _ _ (map seen c.args.all.now) _ _ (map seen c.put_two.new.all) l m c.in_ok-a-in-Add.ensures.nodes c.in_ok-b-in-Add.ensures.nodes h) c.put_two.ensures.nodes
+    let q : formula c.args.e.now ≡ formula_of k at x y = rw (c.deref-in-Add.ensures, c.deref-in-Add-2.ensures) (operands at c.args.e.now.node _ _ _ (formula c.in-Add.x.value) (formula c.in-Add.y.value) c.in-Add.is refl refl refl) in
+    let o = rw c.kind_of.ensures at c.two_of.ensures in
+    weighed_as c.args.vars.now c.args.lets.now (formula c.args.e.now) _ _ _ _ q (two_weighed c.args.vars.now c.args.lets.now k x y at c.in_ok-a-in-Add.a c.in_ok-b-in-Add.b c.two_of.result c.args.all.now c.weigh_in-in-Add.new.all c.weigh_in-in-Add-2.new.all c.put-in-Add.new.all c.put-in-Add.result c.in_ok-a-in-Add.ensures c.in_ok-b-in-Add.ensures o c.put-in-Add.ensures.ok c.put-in-Add.ensures.heavy)
 
-pub returns-in_ok-b-in-Sub-clause-err : goal.returns-in_ok-b-in-Sub-clause-err
-returns-in_ok-b-in-Sub-clause-err t c =
-    let x = formula c.deref-in-Sub.result.now in
-    let y = formula c.deref-in-Sub-2.result.now in
-    let at = c.args.e.now.at in
-    let vars = c.args.vars.now in
-    let ps = map range_in c.args.lets.now in
-    let ss = map size_in c.args.lets.now in
-    let q : formula c.args.e.now ≡ FSub at x y = search rules in
-    let l : loaded vars ps ss (formula c.args.e.now) ≡ loaded vars ps ss x ++ loaded vars ps ss y ++ (at, load_of vars ps ss (FSub at x y)) ∷ [] = rw q refl in
-    let m = two_loaded vars ps ss Minus (tree vars x) (tree vars y) c.in_ok-a-in-Sub.a c.in_ok-b-in-Sub.b c.in_ok-a-in-Sub.ensures.measure c.in_ok-b-in-Sub.ensures.measure in
-    IfErr-weaker _ _ _ (λ s h. two_stops vars ps ss (formula c.args.e.now) x y at _ _ s l m c.in_ok-a-in-Sub.ensures.light c.in_ok-b-in-Sub.ensures.light h) c.put_two-in-Sub.ensures.heavy
-
-pub returns-in_ok-b-in-Sub-clause-light : goal.returns-in_ok-b-in-Sub-clause-light
-returns-in_ok-b-in-Sub-clause-light t c =
-    let x = formula c.deref-in-Sub.result.now in
-    let y = formula c.deref-in-Sub-2.result.now in
-    let at = c.args.e.now.at in
-    let vars = c.args.vars.now in
-    let ps = map range_in c.args.lets.now in
-    let ss = map size_in c.args.lets.now in
-    let q : formula c.args.e.now ≡ FSub at x y = search rules in
-    let l : loaded vars ps ss (formula c.args.e.now) ≡ loaded vars ps ss x ++ loaded vars ps ss y ++ (at, load_of vars ps ss (FSub at x y)) ∷ [] = rw q refl in
-    let m = two_loaded vars ps ss Minus (tree vars x) (tree vars y) c.in_ok-a-in-Sub.a c.in_ok-b-in-Sub.b c.in_ok-a-in-Sub.ensures.measure c.in_ok-b-in-Sub.ensures.measure in
-    on_ok_weaker c.put_two-in-Sub.result (λ h. two_light vars ps ss (formula c.args.e.now) x y at _ _ l m c.in_ok-a-in-Sub.ensures.light c.in_ok-b-in-Sub.ensures.light h) c.put_two-in-Sub.ensures.light
-
-pub returns-in_ok-b-in-Sub-clause-nodes : goal.returns-in_ok-b-in-Sub-clause-nodes
-returns-in_ok-b-in-Sub-clause-nodes t c =
-    let x = formula c.deref-in-Sub.result.now in
-    let y = formula c.deref-in-Sub-2.result.now in
-    let at = c.args.e.now.at in
-    let vars = c.args.vars.now in
-    let ps = map range_in c.args.lets.now in
-    let ss = map size_in c.args.lets.now in
-    let q : formula c.args.e.now ≡ FSub at x y = search rules in
-    let l : measured vars ps ss (formula c.args.e.now) ≡ measured vars ps ss x ++ measured vars ps ss y ++ (at, measure_of vars ps ss (FSub at x y)) ∷ [] = rw q refl in
-    let m = two_measured vars ps ss Minus (tree vars x) (tree vars y) c.in_ok-a-in-Sub.a c.in_ok-b-in-Sub.b c.in_ok-a-in-Sub.ensures.measure c.in_ok-b-in-Sub.ensures.measure in
-    on_ok_weaker c.put_two-in-Sub.result (λ h. two_nodes vars ps ss (formula c.args.e.now) x y at _ _ (map seen c.args.all.now) _ _ (map seen c.put_two-in-Sub.new.all) l m c.in_ok-a-in-Sub.ensures.nodes c.in_ok-b-in-Sub.ensures.nodes h) c.put_two-in-Sub.ensures.nodes
-
-pub returns-in_ok-b-in-Mul-clause-err : goal.returns-in_ok-b-in-Mul-clause-err
-returns-in_ok-b-in-Mul-clause-err t c =
-    let x = formula c.deref-in-Mul.result.now in
-    let y = formula c.deref-in-Mul-2.result.now in
-    let at = c.args.e.now.at in
-    let vars = c.args.vars.now in
-    let ps = map range_in c.args.lets.now in
-    let ss = map size_in c.args.lets.now in
-    let q : formula c.args.e.now ≡ FMul at x y = search rules in
-    let l : loaded vars ps ss (formula c.args.e.now) ≡ loaded vars ps ss x ++ loaded vars ps ss y ++ (at, load_of vars ps ss (FMul at x y)) ∷ [] = rw q refl in
-    let m = two_loaded vars ps ss Times (tree vars x) (tree vars y) c.in_ok-a-in-Mul.a c.in_ok-b-in-Mul.b c.in_ok-a-in-Mul.ensures.measure c.in_ok-b-in-Mul.ensures.measure in
-    IfErr-weaker _ _ _ (λ s h. two_stops vars ps ss (formula c.args.e.now) x y at _ _ s l m c.in_ok-a-in-Mul.ensures.light c.in_ok-b-in-Mul.ensures.light h) c.put_two-in-Mul.ensures.heavy
-
-pub returns-in_ok-b-in-Mul-clause-light : goal.returns-in_ok-b-in-Mul-clause-light
-returns-in_ok-b-in-Mul-clause-light t c =
-    let x = formula c.deref-in-Mul.result.now in
-    let y = formula c.deref-in-Mul-2.result.now in
-    let at = c.args.e.now.at in
-    let vars = c.args.vars.now in
-    let ps = map range_in c.args.lets.now in
-    let ss = map size_in c.args.lets.now in
-    let q : formula c.args.e.now ≡ FMul at x y = search rules in
-    let l : loaded vars ps ss (formula c.args.e.now) ≡ loaded vars ps ss x ++ loaded vars ps ss y ++ (at, load_of vars ps ss (FMul at x y)) ∷ [] = rw q refl in
-    let m = two_loaded vars ps ss Times (tree vars x) (tree vars y) c.in_ok-a-in-Mul.a c.in_ok-b-in-Mul.b c.in_ok-a-in-Mul.ensures.measure c.in_ok-b-in-Mul.ensures.measure in
-    on_ok_weaker c.put_two-in-Mul.result (λ h. two_light vars ps ss (formula c.args.e.now) x y at _ _ l m c.in_ok-a-in-Mul.ensures.light c.in_ok-b-in-Mul.ensures.light h) c.put_two-in-Mul.ensures.light
-
-pub returns-in_ok-b-in-Mul-clause-nodes : goal.returns-in_ok-b-in-Mul-clause-nodes
-returns-in_ok-b-in-Mul-clause-nodes t c =
-    let x = formula c.deref-in-Mul.result.now in
-    let y = formula c.deref-in-Mul-2.result.now in
-    let at = c.args.e.now.at in
-    let vars = c.args.vars.now in
-    let ps = map range_in c.args.lets.now in
-    let ss = map size_in c.args.lets.now in
-    let q : formula c.args.e.now ≡ FMul at x y = search rules in
-    let l : measured vars ps ss (formula c.args.e.now) ≡ measured vars ps ss x ++ measured vars ps ss y ++ (at, measure_of vars ps ss (FMul at x y)) ∷ [] = rw q refl in
-    let m = two_measured vars ps ss Times (tree vars x) (tree vars y) c.in_ok-a-in-Mul.a c.in_ok-b-in-Mul.b c.in_ok-a-in-Mul.ensures.measure c.in_ok-b-in-Mul.ensures.measure in
-    on_ok_weaker c.put_two-in-Mul.result (λ h. two_nodes vars ps ss (formula c.args.e.now) x y at _ _ (map seen c.args.all.now) _ _ (map seen c.put_two-in-Mul.new.all) l m c.in_ok-a-in-Mul.ensures.nodes c.in_ok-b-in-Mul.ensures.nodes h) c.put_two-in-Mul.ensures.nodes
+pub returns-in_ok-a-in-Pow : goal.returns-in_ok-a-in-Pow
+returns-in_ok-a-in-Pow t c =
+    let x = formula c.deref-in-Pow.result.now in
+    let q : formula c.args.e.now ≡ FPow c.args.e.now.at x c.in-Pow.n = rw c.deref-in-Pow.ensures (ap (node_formula c.args.e.now.at) c.in-Pow.is) in
+    weighed_as c.args.vars.now c.args.lets.now (formula c.args.e.now) _ _ _ _ q (power_weighed c.args.vars.now c.args.lets.now x c.in-Pow.n c.args.e.now.at c.in_ok-a-in-Pow.a c.power_of.result c.args.all.now c.weigh_in-in-Pow.new.all c.put-in-Pow.new.all c.put-in-Pow.result c.in_ok-a-in-Pow.ensures c.power_of.ensures c.put-in-Pow.ensures.ok c.put-in-Pow.ensures.heavy)

@@ -4,6 +4,18 @@ use Rattle.ln_interval.specs.View.{range}
 use Rattle.ln_interval.proofs.Ends.{corner, plain, corners, small, of_both}
 use Rattle.ln_interval.proofs.operations.product_of.Goals as goal
 
+pub times-a-requires : goal.times-a-requires
+times-a-requires c =
+    let f = plain c.args.p.low c.args.p.low_small in
+    let g = plain c.args.q.low c.args.q.low_small in
+    rw (f, g) (corner _ _ _ _ (omega arith) (omega arith) c.requires)
+
+pub times-b-requires : goal.times-b-requires
+times-b-requires c =
+    let f = plain c.args.p.low c.args.p.low_small in
+    let g = plain c.args.q.high c.args.q.high_small in
+    rw (f, g) (corner _ _ _ _ (omega arith) (omega arith) c.requires)
+
 pub times-c-requires : goal.times-c-requires
 times-c-requires c =
     let f = plain c.args.p.high c.args.p.high_small in

@@ -2,7 +2,7 @@ use Rattle.std.proofs.Common.{◌≡◌, [], ◌∷◌, arith}
 use Rattle.std.proofs.Math.IntN.{pos}
 use Rattle.ln_poly.specs.Sparse.{size_of}
 use Rattle.ln_poly.proofs.TermLists.Coefficients.{size-cons, size-nil}
-use Rattle.ln_poly.proofs.tests.twice.Goals as goal
+use Rattle.ln_trial_bounds.proofs.poly.twice.Goals as goal
 
 pub add-requires : goal.add-requires
 add-requires c =

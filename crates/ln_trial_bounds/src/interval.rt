@@ -1,5 +1,6 @@
-//! Pairs made by hand.
-use crate::pair::{MOST, Pair};
+//! Pairs of ends, and what their operations answer.
+use ln_interval::Pair;
+use ln_interval::pair::MOST;
 use std::process::Abort;
 use std::test::Fail;
 

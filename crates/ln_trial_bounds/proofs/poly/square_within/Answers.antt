@@ -1,0 +1,10 @@
+use Rattle.std.proofs.Common.{◌≡◌, [], ◌∷◌, arith}
+use Rattle.std.proofs.Math.IntN.{pos}
+use Rattle.ln_poly.specs.Sparse.{size_of}
+use Rattle.ln_poly.proofs.TermLists.Coefficients.{size-cons, size-nil}
+use Rattle.ln_trial_bounds.proofs.poly.square_within.Goals as goal
+
+pub mul_within-requires-clause-room : goal.mul_within-requires-clause-room
+mul_within-requires-clause-room c =
+    let e : size_of c.in_ok-x.x ≡ 1 = rw c.in_ok-x.ensures (omega (arith, size-cons ((0, 1) ∷ [], pos 1) [], size-nil)) in
+    rw e (omega arith)
