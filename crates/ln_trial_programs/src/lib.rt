@@ -1,3 +1,12 @@
 //! Tests of programs and how they are compiled, of rows and of watchers: each calls public functions alone, so that none of these crates is
 //! proved once more with tests of its own. There is nothing else in this crate.
 #![tactic(auto)]
+
+#[cfg(test)]
+mod code;
+#[cfg(test)]
+mod compile;
+#[cfg(test)]
+mod filter;
+#[cfg(test)]
+mod lower;
