@@ -1,3 +1,8 @@
 //! Tests of ranges, polynomials, orders and stages: each calls public functions alone, so that none of these crates is proved once more with
 //! tests of its own. There is nothing else in this crate.
 #![tactic(auto)]
+
+#[cfg(test)]
+mod spheres;
+#[cfg(test)]
+mod stages;
