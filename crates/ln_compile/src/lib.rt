@@ -25,6 +25,3 @@ pub mod source;
 pub use checked::{Checked, check};
 pub use refusal::Refusal;
 pub use source::{Compiled, compile};
-
-#[cfg(test)]
-mod tests;

@@ -5,12 +5,10 @@ ghost use Rattle.ln_compile.specs.Refused.{refusal_of, span_of, word_of};
 use ln_base::{NoMemory, Span};
 use ln_names::{LimitWhat, NameWhat};
 use ln_parse::ParseStop;
-use thiserror::Error;
 
 /// Why a source is refused, and where: a fault of its text; a fault of one of its predicates, which are numbered from 0; or
-/// there was no memory. It is shown as its word.
-#[derive(Clone, Copy, Debug, PartialEq, Eq, Error)]
-#[error("{}", self.word())]
+/// there was no memory.
+#[derive(Clone, Copy)]
 pub enum Refusal {
     /// The first byte that begins neither blank, comment nor token.
     Lexical(Span),

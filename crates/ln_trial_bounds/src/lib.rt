@@ -14,3 +14,7 @@ mod orders;
 mod poly;
 #[cfg(test)]
 mod sources;
+#[cfg(test)]
+mod spheres;
+#[cfg(test)]
+mod stages;

@@ -3,6 +3,14 @@
 #![tactic(auto)]
 
 #[cfg(test)]
+mod code;
+#[cfg(test)]
+mod compile;
+#[cfg(test)]
+mod filter;
+#[cfg(test)]
+mod lower;
+#[cfg(test)]
 mod rows;
 #[cfg(test)]
 mod watch;

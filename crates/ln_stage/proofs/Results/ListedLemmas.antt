@@ -1,5 +1,5 @@
 -- The segments of all prefixes, one after the other.
-use Rattle.std.proofs.Common.{◌≡◌, ◌⊎◌, inl, inr, ℕ, ◌+◌, ◌-◌, ◌*◌, ◌<◌, ◌≤◌, Bool, List, [], ◌∷◌, ◌++◌, append_assoc, length, length-append, map, get_or, drop, refl, sym, ◌∙◌, ap, subst, arith}
+use Rattle.std.proofs.Common.{◌≡◌, ◌⊎◌, inl, inr, zero, suc, ℕ, ◌+◌, ◌-◌, ◌*◌, ◌<◌, ◌≤◌, Bool, List, [], ◌∷◌, ◌++◌, append_assoc, length, length-append, map, get_or, drop, refl, sym, ◌∙◌, ap, subst, arith}
 use Rattle.std.specs.Prelude.{Some, slice_get}
 use Rattle.std.proofs.lemmas.List.{append-nil, drop-map, drop_all, drop_more}
 use Rattle.std.proofs.lemmas.Option.{slice_get-get_or, slice_get_within}
@@ -94,6 +94,14 @@ module _ (L : List ℕ → List (List ℕ)) (n : ℕ) (f : Sparse) where
 
     pub count-ends : (k S c : ℕ) → c + shared_count k L (map front_places (drop i all)) ≡ S → c ≡ S
     count-ends k S c h = omega (arith, h, ap (shared_count k L) none-left)
+
+-- nothing comes before the first prefix
+cuts-first : (vars : List VarInfo) (f : Sparse) (k : ℕ) (cuts : List Bool) → AreCutsFor vars f (prefixes_of k) cuts
+cuts-first vars f zero cuts = λ j l. absurd (omega (arith, l))
+cuts-first vars f (suc k) cuts = λ j l. absurd (omega (arith, l))
+
+pub cuts-begin : (vars : List VarInfo) (f : Sparse) (ps : List (List ℕ)) (k : ℕ) (cuts : List Bool) → ps ≡ prefixes_of k → AreCutsFor vars f ps cuts
+cuts-begin vars f ps k cuts e = subst (λ z. AreCutsFor vars f z cuts) (sym e) (cuts-first vars f k cuts)
 
 -- the cuts of the prefix that follows
 pub cuts-follow : (vars : List VarInfo) (f : Sparse) (all : List Front) (k i : ℕ) (p : Front) (cuts : List Bool) → k ≤ 5 → map front_places all ≡ prefixes_of k → i < length all → p ≡ get_or all i p → AreCuts vars f (length (front_places p) + 1) (front_places p) cuts → AreCutsFor vars f (map front_places (drop (i + 1) all)) cuts

@@ -1,4 +1,4 @@
-use Rattle.std.proofs.Common.{◌∙◌, ◌+◌, ◌-◌, ◌<◌, ◌*◌, ap, arith, drop, length, map}
+use Rattle.std.proofs.Common.{◌∙◌, ◌+◌, ◌-◌, ◌<◌, ◌*◌, ap, arith, drop, length, map, refl}
 use Rattle.std.proofs.lemmas.Result.{err_from_is_err_and}
 use Rattle.ln_order.proofs.Listing.FrontLemmas.{prefix-size}
 use Rattle.ln_order.proofs.Signs.SitesLemmas.{kept}
@@ -9,8 +9,18 @@ use Rattle.ln_stage.specs.FirstSight.{shared_count}
 use Rattle.ln_stage.specs.Kept.{numbers_by, tallied_by}
 use Rattle.ln_stage.specs.Tally.{IsOver, Tallied}
 use Rattle.ln_stage.specs.Visit.{segment_at}
-use Rattle.ln_stage.proofs.Results.ListedLemmas.{at-prefix, count-passes, cuts-follow, more-prefixes, over-goes, segments-end, segments-go, shares-here, tally-ends, tally-goes}
+use Rattle.ln_stage.proofs.Results.ListedLemmas.{at-prefix, count-passes, cuts-begin, cuts-follow, more-prefixes, over-goes, segments-end, segments-go, shares-here, tally-ends, tally-goes}
 use Rattle.ln_stage.proofs.lists.listed.Goals as goal
+
+pub prefixes-init : goal.prefixes-init
+prefixes-init c = record {
+  tally = refl;
+  segments = rw c.new-segments.ensures refl;
+  count = omega arith;
+  within = omega arith;
+  empty = c.requires.empty;
+  cuts = cuts-begin c.args.s.now.vars c.args.f.now _ c.args.s.now.sites _ c.requires.prefixes;
+}
 
 pub segment-requires-clause-prefix : goal.segment-requires-clause-prefix
 segment-requires-clause-prefix c = at-prefix c.args.prefixes.now c.args.s.now.sites c.prefixes.p-index c.p-item.result c.requires.prefixes (omega arith) c.p-item.is

@@ -19,6 +19,9 @@ returns-in_err-found-clause-err c =
     let p = err_from_is_err_and c.from_residual-in_err-found.result c.from_residual-in_err-found.ensures.1 in
     rw (p.1, p.2, ← f) (stops s.sites s.vars c.terms-terms.result.now (kept s.sites s.vars s.kept).few_sites s.kept poly below c.args.most c.args.heavy c.in_err-found.field-0.0 some (rw c.new-tally.ensures at c.in_err-found.ensures.err))
 
+pub all_prefixes-requires : goal.all_prefixes-requires
+all_prefixes-requires c = let s = c.args.s.now in (kept s.sites s.vars s.kept).few_sites
+
 pub of-requires-clause-few : goal.of-requires-clause-few
 of-requires-clause-few c = let s = c.args.s.now in (kept s.sites s.vars s.kept).few_sites
 

@@ -1,0 +1,152 @@
+//! Stages of polynomials: the difference of two squares over two sites of one coordinate each, and the product of the sixteen
+//! coordinates of one site.
+ghost use Rattle.std.specs.Prelude.{◌≡◌, ◌≤◌, IfOk, length};
+
+use ln_bound::weigh::weigh;
+use ln_order::order_of;
+use ln_parse::parse;
+use ln_poly::normal;
+use ln_stage::{StageStop, Stages, stages};
+use ln_tree::{Pred, Table};
+use std::alloc::Global;
+use std::test::Fail;
+
+const SQUARES: &str =
+    "site num { t: -10 .. 10; } predicate s(a: num, b: num) { sign a.t^2 - b.t^2; }";
+
+const NOTHING: &str = "site num { t: -10 .. 10; } predicate s(a: num, b: num) { sign a.t - a.t; }";
+
+const CUBE: &str =
+    "site cube { a: -1 .. 1; b: -1 .. 1; c: -1 .. 1; d: -1 .. 1; e: -1 .. 1; f: -1 .. 1; g: -1 .. 1; h: -1 .. 1;
+i: -1 .. 1; j: -1 .. 1; k: -1 .. 1; l: -1 .. 1; m: -1 .. 1; n: -1 .. 1; o: -1 .. 1; p: -1 .. 1; }
+predicate all(x: cube) { sign x.a*x.b*x.c*x.d*x.e*x.f*x.g*x.h*x.i*x.j*x.k*x.l*x.m*x.n*x.o*x.p; }";
+
+// The stages of a predicate over so many sites.
+fn staged(alloc: Global, p: &Pred, sites: u8, most: u64, heavy: u32) -> Result<Stages, StageStop>
+    ensures { IfOk result (λ st. st.sites ≡ sites) }
+{
+    if p.shape.sites != sites || weigh(alloc, p).is_err() {
+        return Err(StageStop::NoMemory);
+    }
+    match normal(alloc, p) {
+        Ok(f) => stages(alloc, &f, &p.shape, most, u64::from(heavy)),
+        Err(_) => Err(StageStop::NoMemory),
+    }
+}
+
+fn staged_first(
+    alloc: Global,
+    t: &Table,
+    sites: u8,
+    most: u64,
+    heavy: u32,
+) -> Result<Stages, StageStop>
+    ensures { IfOk result (λ st. st.sites ≡ sites) }
+{
+    match t.preds.as_slice().first() {
+        Some(p) => staged(alloc, p, sites, most, heavy),
+        None => Err(StageStop::NoMemory),
+    }
+}
+
+/// The stages of the first predicate of a source, which has so many sites, within these limits. A source without such a predicate
+/// counts as want of memory.
+pub(crate) fn stages_of(
+    alloc: Global,
+    source: &str,
+    sites: u8,
+    most: u64,
+    heavy: u32,
+) -> Result<Stages, StageStop>
+    ensures { IfOk result (λ st. st.sites ≡ sites) }
+{
+    let bytes = source.as_bytes();
+    if bytes.len() > 1_048_576 {
+        return Err(StageStop::NoMemory);
+    }
+    match parse(alloc, bytes) {
+        Ok(t) => staged_first(alloc, &t, sites, most, heavy),
+        Err(_) => Err(StageStop::NoMemory),
+    }
+}
+
+// Has the block with this number the one pair of variable v and exponent e?
+fn is_power(st: &Stages, i: usize, v: u8, e: u8) -> bool {
+    i < st.blocks() && st.exps(i).pairs() == [(v, e)].as_slice()
+}
+
+// Is the segment of an order of two sites at its first j places this?
+fn is_segment(st: &Stages, indices: &[i64], j: u8, numbers: &[u32]) -> bool
+    requires sites { st.now.sites ≡ 2 }
+    requires indices { length indices.now ≡ 2 }
+    requires within { j ≤ 2 }
+{
+    match order_of(indices) {
+        Ok(o) => st.segment(&o, j) == numbers,
+        Err(_) => false,
+    }
+}
+
+// Each second segment stands behind the cut.
+fn have_segments(st: &Stages) -> bool
+    requires { st.now.sites ≡ 2 }
+{
+    st.segments().len() == 5
+        && is_segment(st, &[5, 8], 0, &[0])
+        && is_segment(st, &[5, 8], 1, &[1, 2])
+        && is_segment(st, &[8, 5], 1, &[3, 4])
+        && is_segment(st, &[8, 5], 2, &[])
+}
+
+// Are the blocks behind block 0 those of a.t, a.t^2, b.t and b.t^2?
+fn have_powers(st: &Stages) -> bool {
+    st.blocks() == 5
+        && is_power(st, 1, 0, 1)
+        && is_power(st, 2, 0, 2)
+        && is_power(st, 3, 1, 1)
+        && is_power(st, 4, 1, 2)
+}
+
+fn are_of_squares(alloc: Global) -> bool {
+    match stages_of(alloc, SQUARES, 2, 6, 6) {
+        Ok(st) => st.count() == 6 && have_powers(&st) && have_segments(&st),
+        Err(_) => false,
+    }
+}
+
+#[test]
+fn two_lists_of_three_have_five_blocks(rt: HostRuntime) -> Result<(), Fail> {
+    assert!(rt; are_of_squares(rt.alloc()));
+    Ok(())
+}
+
+// How many stages a source has within these limits.
+fn count(alloc: Global, source: &str, sites: u8, most: u64, heavy: u32) -> Result<u64, StageStop> {
+    let st = stages_of(alloc, source, sites, most, heavy)?;
+    Ok(st.count())
+}
+
+// Does a limit stop the stages of a source?
+fn is_past(alloc: Global, source: &str, sites: u8, most: u64, heavy: u32) -> bool {
+    matches!(
+        count(alloc, source, sites, most, heavy),
+        Err(StageStop::Stages)
+    )
+}
+
+#[test]
+fn a_limit_that_is_passed_stops(rt: HostRuntime) -> Result<(), Fail> {
+    let alloc = rt.alloc();
+    assert!(rt; is_past(alloc, SQUARES, 2, 5, 6));
+    assert!(rt; is_past(alloc, SQUARES, 2, 6, 5));
+    assert!(rt; matches!(count(alloc, NOTHING, 2, 6, 6), Err(StageStop::Zero)));
+    Ok(())
+}
+
+#[test]
+fn sixteen_coordinates_have_65536_stages(rt: HostRuntime) -> Result<(), Fail> {
+    let alloc = rt.alloc();
+    assert!(rt; matches!(count(alloc, CUBE, 1, 65_536, 131_072), Ok(65_536)));
+    assert!(rt; is_past(alloc, CUBE, 1, 65_535, 131_072));
+    Ok(())
+}

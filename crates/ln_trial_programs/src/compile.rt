@@ -1,0 +1,84 @@
+//! Sources compiled and refused.
+use ln_base::Span;
+use ln_compile::{Compiled, Refusal, compile};
+use std::alloc::Global;
+use std::test::Fail;
+
+pub(crate) const ORIENT: &str = "site point { x: -1000 .. 1000; y: -1000 .. 1000; }
+predicate orient(p: point, q: point, r: point) { sign (p.x - r.x)*(q.y - r.y) - (p.y - r.y)*(q.x - r.x); }
+";
+
+pub(crate) const SQUARES: &str =
+    "site num { t: -10 .. 10; }\npredicate s(a: num, b: num) { sign a.t^2 - b.t^2; }\n";
+
+const LIGHT: &str = "site num { t: -9223372036854775806 .. 9223372036854775806; }
+predicate big(a: num, b: num, c: num, d: num) { sign a.t*b.t + c.t*d.t; }
+";
+
+const HEAVY: &str = "site num { t: -9223372036854775807 .. 9223372036854775807; }
+predicate big(a: num, b: num, c: num, d: num) { sign a.t*b.t + c.t*d.t; }
+";
+
+const NONE: &str = "site point { x: 0 .. 9; }\npredicate none(p: point) { sign p.x - p.x; }\n";
+
+/// Compiles a source. One that is too long counts as want of memory.
+pub(crate) fn compiled(alloc: Global, source: &str) -> Result<Compiled, Refusal> {
+    let bytes = source.as_bytes();
+    if bytes.len() > 1_048_576 {
+        return Err(Refusal::NoMemory);
+    }
+    compile(alloc, bytes)
+}
+
+// The stage count of the predicate of this name, if there is one.
+fn count_in(c: &Compiled, name: &str) -> Option<u64> {
+    let i = c.find(name)?;
+    if i < c.table().preds.len() && i < c.programs().as_slice().len() {
+        Some(c.stage_count(i))
+    } else {
+        None
+    }
+}
+
+fn count(alloc: Global, source: &str, name: &str) -> Option<u64> {
+    match compiled(alloc, source) {
+        Ok(c) => count_in(&c, name),
+        Err(_) => None,
+    }
+}
+
+#[test]
+fn sources_are_compiled_and_their_predicates_found(rt: HostRuntime) -> Result<(), Fail> {
+    let rows = [
+        (ORIENT, "orient", Some(30)),
+        (ORIENT, "x", None),
+        (SQUARES, "s", Some(6)),
+        // A sum of products that is just light enough.
+        (LIGHT, "big", Some(112)),
+    ];
+    for (source, name, stages) in rows {
+        assert!(rt; count(rt.alloc(), source, name) == stages);
+    }
+    Ok(())
+}
+
+// The word for which a source is refused, and the place.
+fn refused(alloc: Global, source: &str) -> Option<(&'static str, Span)> {
+    match compiled(alloc, source) {
+        Ok(_) => None,
+        Err(r) => Some((r.word(), r.span()?)),
+    }
+}
+
+#[test]
+fn a_predicate_is_refused_at_its_name_or_at_its_root(rt: HostRuntime) -> Result<(), Fail> {
+    let name = Span { start: 36, end: 40 };
+    let root = Span {
+        start: 122,
+        end: 123,
+    };
+    assert!(rt; refused(rt.alloc(), NONE) == Some(("zero", name)));
+    // A sum of products that is just too heavy.
+    assert!(rt; refused(rt.alloc(), HEAVY) == Some(("bound", root)));
+    Ok(())
+}
