@@ -1,11 +1,12 @@
 -- Steps one after the other: the room that they leave, and what they mean together.
 use Rattle.std.proofs.Common.{◌≡◌, ℕ, ◌+◌, ◌<◌, ◌≤◌, List, [], ◌∷◌, ◌++◌, length, take, drop, get_or, Result, Ok, Err, refl, sym, ap, ◌∙◌, arith, length-append, length-take}
 use Rattle.std.specs.Prelude.{OnOk}
-use Rattle.std.proofs.lemmas.List.{at_drop_more, take_all, take-take, take-append-le}
+use Rattle.std.proofs.lemmas.List.{at_drop_more, drop_all, take_all, take-take, take-append-le}
 use Rattle.ln_csyn.specs.declared.tree.CStmt.{CStmt}
 use Rattle.ln_csyn.specs.Tree.{Body}
 use Rattle.ln_csyn.specs.View.{stmt_front, body_tree}
 use Rattle.ln_csyn.specs.Meaning.{Scene, Seen, Counts, Outcome, runs}
+use Rattle.ln_csyn.specs.Meaning as m
 use Rattle.ln_cmean.specs.declared.body.Flow.{Flow}
 use Rattle.ln_cmean.specs.declared.body.Flow.TheVariants.{Went}
 use Rattle.ln_cmean.specs.declared.scratch.Slot.{Slot}
@@ -78,3 +79,24 @@ going_on sc ss i s all here next k j r f l g h m o w =
 pub left_on : (need : Body → ℕ) (ss : List CStmt) (i : ℕ) (s : CStmt) (a b all : ℕ) → i < length ss → s ≡ get_or ss i s →
     a + need (body_tree (drop i ss)) ≤ all → ((rest : Body) → b + need rest ≤ a + need (stmt_front s rest)) → b + need (body_tree (drop (i + 1) ss)) ≤ all
 left_on need ss i s a b all l g h r = omega (arith, h, r (body_tree (drop (i + 1) ss)), ap need (next_body ss i s l g))
+
+-- what was there is all that is left
+pub left_same : (old at new : CScratch) (n m : ℕ) → n ≡ length old.slots.items → m ≡ length old.names.items → IsFront old at → new.base ≡ at.base →
+    new.slots.items ≡ take n at.slots.items → new.names.items ≡ take m at.names.items → IsSame old new
+left_same old at new n m e f p b s t = record {
+  base_same = b ∙ p.base_front;
+  slots_same = s ∙ ap (λ i. take i at.slots.items) e ∙ p.slots_front;
+  names_same = t ∙ ap (λ i. take i at.names.items) f ∙ p.names_front;
+}
+
+-- the same declarations are a front
+pub same_front : (old new : CScratch) → IsSame old new → IsFront old new
+same_front old new p = record {
+  base_front = p.base_same;
+  slots_front = ap (λ ys. take (length old.slots.items) ys) p.slots_same ∙ take_all (length old.slots.items) old.slots.items (omega arith);
+  names_front = ap (λ ys. take (length old.names.items) ys) p.names_same ∙ take_all (length old.names.items) old.names.items (omega arith);
+}
+
+-- behind the last statement
+pub went_all : (sc : Scene) (ss : List CStmt) (i : ℕ) (all : Outcome) (here : List Seen) (k : Counts) → length ss ≤ i → all ≡ runs sc here (body_tree (drop i ss)) k → all ≡ m.Went k
+went_all sc ss i all here k l h = h ∙ ap (λ b. runs sc here (body_tree b) k) (drop_all i ss l)
