@@ -3,3 +3,4 @@ pub mod Slots
 pub mod Funs
 pub mod Within
 pub mod Named
+pub mod Runs

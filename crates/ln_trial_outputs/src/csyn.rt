@@ -444,15 +444,15 @@ fn sixteen_parentheses_and_sixty_four_braces(rt: HostRuntime) -> Result<(), Fail
 }
 
 const DEEP: &[Nest] = &[
-    ("return", "(", 2_000_000, "", "", ""),
-    ("return", "{", 2_000_000, "", "", ""),
-    ("return", "a", 2_000_000, "", "", ""),
-    ("return", "1", 2_000_000, "", "", ""),
+    ("return", "(", 200_000, "", "", ""),
+    ("return", "{", 200_000, "", "", ""),
+    ("return", "a", 200_000, "", "", ""),
+    ("return", "1", 200_000, "", "", ""),
 ];
 
 // What is read recurses no deeper than the limits.
 #[test]
-fn two_million_parentheses(rt: HostRuntime) -> Result<(), Fail> {
+fn two_hundred_thousand_parentheses(rt: HostRuntime) -> Result<(), Fail> {
     for nest in DEEP {
         assert!(rt; !is_nested(&rt, rt.alloc(), nest, nest.2)?);
     }

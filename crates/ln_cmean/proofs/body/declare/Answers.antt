@@ -9,6 +9,7 @@ use Rattle.ln_cmean.specs.Slots.{seen}
 use Rattle.ln_cmean.specs.Scene.{scene_of}
 use Rattle.ln_csyn.specs.View.{expr_tree}
 use Rattle.ln_cmean.proofs.Slots.{seen_more, declared, not_declared}
+use Rattle.ln_cmean.proofs.Runs.{no_smaller_then, opened, front_more, room_more}
 use Rattle.ln_cmean.proofs.body.declare.Goals as goal
 
 pub returns-in-Ok-clause-meaning : goal.returns-in-Ok-clause-meaning
@@ -30,3 +31,25 @@ returns-in-Err-clause-meaning g c = λ rest.
     let d : Slot = record { start = length old.names.items; kind = c.args.kind; number = None } in
     let i = seen_more old c.open.new.s c.args.name.now d c.requires.based c.open.ensures.base refl c.open.ensures.slots c.open.ensures.names in
     not_declared (scene_of (g.C.Calls.given c.args.calls.now) c.args.inputs.now) c.args.line c.in-Err.l c.args.kind c.args.name.now (expr_tree c.args.e.now) rest (seen old) (seen c.open.new.s) (tally c.args.counts.now) i c.in-Err.ensures.meaning
+
+pub wanted_value-requires : goal.wanted_value-requires
+wanted_value-requires g c = opened c.args.s.now c.open.new.s _ c.args.name.now _ _ c.requires c.open.ensures.base c.open.ensures.slots c.open.ensures.names c.open.ensures.capacity
+
+pub returns-in-Ok-clause-capacity : goal.returns-in-Ok-clause-capacity
+returns-in-Ok-clause-capacity g c =
+    no_smaller_then c.args.s.now c.open.new.s c.settle.new.s c.open.ensures.capacity (no_smaller_then c.open.new.s c.wanted_value.new.s c.settle.new.s c.wanted_value.ensures.capacity c.settle.ensures.capacity)
+
+pub returns-in-Ok-clause-front : goal.returns-in-Ok-clause-front
+returns-in-Ok-clause-front g c =
+    let e = c.in-Ok.ensures.same.slots_same ∙ c.open.ensures.slots in
+    let n = c.settle.ensures.names ∙ c.in-Ok.ensures.same.names_same ∙ c.open.ensures.names in
+    front_more c.args.s.now c.settle.new.s _ c.args.name.now (c.settle.ensures.base ∙ c.in-Ok.ensures.same.base_same ∙ c.open.ensures.base) (c.settle.ensures.slots _ _ e) n
+
+pub returns-in-Ok-clause-room : goal.returns-in-Ok-clause-room
+returns-in-Ok-clause-room g c =
+    let e = c.in-Ok.ensures.same.slots_same ∙ c.open.ensures.slots in
+    let n = c.settle.ensures.names ∙ c.in-Ok.ensures.same.names_same ∙ c.open.ensures.names in
+    room_more c.args.s.now c.settle.new.s _ c.args.name.now (c.settle.ensures.slots _ _ e) n
+
+pub returns-in-Err-clause-capacity : goal.returns-in-Err-clause-capacity
+returns-in-Err-clause-capacity g c = no_smaller_then c.args.s.now c.open.new.s c.wanted_value.new.s c.open.ensures.capacity c.wanted_value.ensures.capacity
