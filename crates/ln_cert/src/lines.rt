@@ -55,6 +55,9 @@ fn front(
     Ok(Some((part, next, end + 1)))
 }
 
+// A line that isn't kept.
+fn dropped(_part: Part) {}
+
 // Reads a listing from behind its first line to the end, and keeps nothing of it.
 fn check(alloc: Global, bytes: &[u8], behind: usize, version: u8) -> Result<(), ListStop>
     requires short { length bytes.now ≤ 67108864 }
@@ -70,9 +73,10 @@ fn check(alloc: Global, bytes: &[u8], behind: usize, version: u8) -> Result<(), 
     let mut number = 2u32;
     'lines: while text.len() > 0 {
         let read = front(alloc, version, state, text)?;
-        let Some((_part, next, count)) = read else {
+        let Some((part, next, count)) = read else {
             return Err(ListStop::Form(number));
         };
+        dropped(part);
         state = next;
         text = after(text, count);
         number += 1;

@@ -1,6 +1,6 @@
 -- Loops that put operations, functions and statements.
 use Rattle.std.proofs.Common.{◌≡◌, ◌≢◌, ℕ, zero, suc, ◌+◌, ◌-◌, ◌<◌, ◌≤◌, ◌||◌, Bool, true, false, cond, List, [], ◌∷◌, ◌++◌, append_assoc, append-nil, length, map, drop, get_or, take, refl, sym, ap, ◌∙◌, subst, arith, ℤ}
-use Rattle.std.specs.Prelude.{Option, Some, None, Contains, codes, reverse, nat_le, nat_lt}
+use Rattle.std.specs.Prelude.{◌==◌, Option, Some, None, Contains, codes, reverse, nat_le, nat_lt}
 use Rattle.std.specs.List.{range_with_len}
 use Rattle.std.proofs.Math.ListN.{replicate}
 use Rattle.std.proofs.Math.Path.{fun_ext}
@@ -190,6 +190,10 @@ pick_spelled go i [] r = refl
 pick_spelled go i (j ∷ js) r =
     ap (λ z. lexeme (codes "if") ∷ lexeme (codes "(") ∷ spell (less i j) (lexeme (codes ")") ∷ lexeme (codes "{") ∷ z))
     (guarded_spelled i js (go i) (lexeme (codes "}") ∷ spell_body (picks go (j ∷ js)) r) ∙ ap (λ z. open_guards i js (spell_body (go i) z)) (brace_past (length js) (spell_body (picks go (j ∷ js)) r)))
+
+pub picks_first : {a : List ℕ} (go : ℕ → Body) (left : List ℕ) → false ≡ (length left == 0) → Goes a a (spell_body (picks_on go left)) (spell_body (picks go left))
+picks_first go [] h = absurd (cc)
+picks_first go (i ∷ js) h = record { is = λ r. refl }
 
 pub picks_next : {start cur new : List ℕ} {all : List Token → List Token} (go : ℕ → Body) (left others : List ℕ) (k place d : ℕ) → k < length left → place ≡ get_or left k d → others ≡ drop (k + 1) left
     → Goes start cur (spell_body (picks_on go (drop k left))) all → Puts cur new (λ r. open_guards place others (spell_body (go place) (close_braces (length others) r))) → Goes start new (spell_body (picks_on go (drop (k + 1) left))) all

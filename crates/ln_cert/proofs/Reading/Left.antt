@@ -165,6 +165,9 @@ still_unread u w p t k h b m a c d =
     let l : length w.text ≡ length u.text - k = ap length d ∙ length-drop k u.text in
     record { parts = r.behind; left = r.left; few = omega (arith, h.few, b.some, b.within) }
 
+pub opened_unread : (bs : List ℕ) (u : Unread) → length bs ≤ 67108864 → length u.text ≤ length bs → IsOpened bs u → IsUnread u
+opened_unread bs u l m h = record { parts = h.parts; left = h.left; few = omega (arith, h.second) }
+
 -- ---- all lines
 -- what the loop over them keeps
 pub record Gathered (old now : Unread) (es : List Entry) : Type 0 where

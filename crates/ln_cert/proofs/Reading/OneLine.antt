@@ -186,6 +186,12 @@ found v s k w args ws p e g h =
       goes = ap (λ (b : Bool). if b then Some (after (kind_of p)) else None) (subst (λ x. may v s x ≡ true) (sym h.kind) r.may) ∙ ap (λ x. Some (after x)) h.kind;
     }
 
+pub no_kind : (v : ℕ) (s : State) (w : List ℕ) (args ws : List (List ℕ)) → ws ≡ w ∷ args → kind_in v s w ≡ None → Refuses v s ws
+no_kind v s w args ws e g p t r =
+    let a : w ≡ word_of (kind_of p) = head (sym e ∙ r.spelled) in
+    let b = complete v s (kind_of p) (live v s p t r.goes).0 (good_line p r.range) in
+    let c : None ≡ Some (kind_of p) = sym g ∙ ap (kind_in v s) a ∙ b in absurd (cc)
+
 pub no_args : (v : ℕ) (s : State) (k : Kind) (w : List ℕ) (args ws : List (List ℕ)) → ws ≡ w ∷ args → kind_in v s w ≡ Some k → NoArgs k args → Refuses v s ws
 no_args v s k w args ws e g h p t r =
     let a : w ≡ word_of (kind_of p) = head (sym e ∙ r.spelled) in

@@ -68,6 +68,14 @@ for_block p few (c ∷ cs) f s = (record { vars = p.shape.vars; few = few; rules
 pub for_blocks : (p : Program) → IsProgram p → length p.shape.vars ≤ 168 → Each ForBlock p.blocks
 for_blocks p k few = for_block p few p.blocks (all_each (FollowsRules p.shape.vars) p.blocks k.blocks) (all_each (λ c. AreOfSites p.shape.vars c.exps) p.blocks k.of_sites)
 
+each_get : {A : Type 0} (P : A → Type 0) (xs : List A) (i : ℕ) (x : A) → i < length xs → x ≡ get_or xs i x → Each P xs → P x
+each_get P [] i x h e p = absurd (omega arith)
+each_get P (y ∷ ys) zero x h e p = subst P (sym e) p.0
+each_get P (y ∷ ys) (suc i) x h e p = each_get P ys i x (omega arith) e p.1
+
+pub block_at : (cs : List Code) (i : ℕ) (c : Code) → i < length cs → c ≡ get_or cs i c → Each ForBlock cs → ForBlock c
+block_at cs i c h e p = each_get ForBlock cs i c h e p
+
 more_block : (start now new : List ℕ) (cs : List Code) (i : ℕ) (c : Code) → i < length cs → c ≡ get_or cs i c → Left start now (blocks_lines i (drop i cs)) (blocks_lines 0 cs) → Wrote now new (block_lines i c) → Left start new (blocks_lines (suc i) (drop (suc i) cs)) (blocks_lines 0 cs)
 more_block start now new cs i c h e left w =
     let d : drop i cs ≡ c ∷ drop (suc i) cs = drop-cons cs i c h ∙ ap (λ z. z ∷ drop (suc i) cs) (sym e) in

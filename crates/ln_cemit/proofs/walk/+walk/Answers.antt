@@ -4,8 +4,11 @@ use Rattle.ln_code.specs.Lists.{segment_of}
 use Rattle.ln_cemit.specs.Names.{answer_name, block_name}
 use Rattle.ln_cemit.specs.Walked.{walked, without}
 use Rattle.ln_cemit.specs.Whole.{part_name}
-use Rattle.ln_cemit.proofs.Writing.Loops.{picks_done, picks_next, walked_end, walked_on}
+use Rattle.ln_cemit.proofs.Writing.Loops.{picks_done, picks_first, picks_next, walked_end, walked_on}
 use Rattle.ln_cemit.proofs.walk.+walk.Goals as goal
+
+pub put_picks-left-init : goal.put_picks-left-init
+put_picks-left-init t c = picks_first (λ i. walked (block_name (part_name c.args.p.now)) answer_name (segment_of c.args.p.now) c.args.d (c.args.front.now ++ i ∷ []) (without i c.args.left.now)) c.args.left.now c.if-is_empty.ensures
 
 pub put_picks-returns : goal.put_picks-returns
 put_picks-returns t c = picks_done (λ i. walked (block_name (part_name c.args.p.now)) answer_name (segment_of c.args.p.now) c.args.d (c.args.front.now ++ i ∷ []) (without i c.args.left.now)) c.args.left.now c.left.k (omega arith) c.left.invariant

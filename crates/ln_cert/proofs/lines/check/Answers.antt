@@ -10,18 +10,8 @@ lines-init c = so_far_first c.args.bytes.now c.args.version c.args.behind _ c.re
 pub returns-in_default-clause-err : goal.returns-in_default-clause-err
 returns-in_default-clause-err c = stops_at c.args.bytes.now c.lines.number (so_far_fault c.args.bytes.now c.args.version c.lines.state c.lines.text.now c.lines.number c.requires.known c.lines.invariant (rw c.in_default.is at c.in_ok-read.ensures))
 
--- the line that was read is dropped by its kind, and each way goes on alike
 pub lines-preserved : goal.lines-preserved
-lines-preserved c = so_far_more c.args.bytes.now c.args.version c.lines.state c.lines.text.now c.lines.number c.in-Some._part c.in-Some.next c.in-Some.count c.after-text-in-lines.result.now c.lines.invariant (rw c.in-Some.is at c.in_ok-read.ensures) c.after-text-in-lines.ensures
-
-pub lines-preserved-in-Some : goal.lines-preserved-in-Some
-lines-preserved-in-Some c = so_far_more c.args.bytes.now c.args.version c.lines.state c.lines.text.now c.lines.number c.in-Some._part c.in-Some.next c.in-Some.count c.after-text-in-lines.result.now c.lines.invariant (rw c.in-Some.is at c.in_ok-read.ensures) c.after-text-in-lines.ensures
-
-pub lines-preserved-in-Some-2 : goal.lines-preserved-in-Some-2
-lines-preserved-in-Some-2 c = so_far_more c.args.bytes.now c.args.version c.lines.state c.lines.text.now c.lines.number c.in-Some._part c.in-Some.next c.in-Some.count c.after-text-in-lines.result.now c.lines.invariant (rw c.in-Some.is at c.in_ok-read.ensures) c.after-text-in-lines.ensures
-
-pub lines-preserved-in-Some-3 : goal.lines-preserved-in-Some-3
-lines-preserved-in-Some-3 c = so_far_more c.args.bytes.now c.args.version c.lines.state c.lines.text.now c.lines.number c.in-Some._part c.in-Some.next c.in-Some.count c.after-text-in-lines.result.now c.lines.invariant (rw c.in-Some.is at c.in_ok-read.ensures) c.after-text-in-lines.ensures
+lines-preserved c = so_far_more c.args.bytes.now c.args.version c.lines.state c.lines.text.now c.lines.number c.in-Some.part c.in-Some.next c.in-Some.count c.after-text-in-lines.result.now c.lines.invariant (rw c.in-Some.is at c.in_ok-read.ensures) c.after-text-in-lines.ensures
 
 pub returns-then-is_end-clause-ok : goal.returns-then-is_end-clause-ok
 returns-then-is_end-clause-ok c = so_far_whole c.args.bytes.now c.args.version c.args.behind c.lines.state c.lines.text.now c.lines.number c.requires.known c.requires.first c.lines.invariant (omega arith) (sym c.is_end.ensures ∙ c.if-is_end.true)

@@ -1,0 +1,18 @@
+-- Answers to the goals of `put_all_orders` in src/write.rt.
+use Rattle.std.proofs.Common.{◌∙◌, ap, subst}
+use Rattle.ln_tree.specs.declared.shape.Shape.{Shape}
+use Rattle.ln_order.specs.Orders.{orders_of}
+use Rattle.ln_cert.specs.Written.{Wrote, order_lines}
+use Rattle.ln_cert.proofs.write.put_all_orders.Goals as goal
+
+pub put_orders-requires-clause-all : goal.put_orders-requires-clause-all
+put_orders-requires-clause-all c = rw c.as_slice.ensures (c.in_ok-orders.ensures ∙ ap (λ (s : Shape). orders_of s.sites) c.shape.ensures)
+
+pub put_orders-requires-clause-few : goal.put_orders-requires-clause-few
+put_orders-requires-clause-few c = c.requires.few
+
+pub put_orders-requires-clause-kept : goal.put_orders-requires-clause-kept
+put_orders-requires-clause-kept c = c.requires.kept
+
+pub returns : goal.returns
+returns c = subst (λ os. Wrote c.args.out.now.items c.put_orders.new.out.items (order_lines c.args.p.now os)) (rw c.as_slice.ensures (c.in_ok-orders.ensures ∙ ap (λ (s : Shape). orders_of s.sites) c.shape.ensures)) c.in_ok-put_orders.ensures
