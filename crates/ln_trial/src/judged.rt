@@ -450,8 +450,6 @@ pub const RULES: &[(u32, u32, &str, u128)] = &[
 
 // Each rule of version 1.
 pub const RULES_OF_BOUNDS: &[(u32, u32, &str, u128)] = &[
-    // ends in place of a bound are wanted from the first line of a block on
-    (1, 1, "listing 2", 17),
     // B of push
     (26, 1, "push 2 1", 26),
     // B of push
@@ -585,8 +583,6 @@ pub const RULES_OF_BOUNDS: &[(u32, u32, &str, u128)] = &[
     ),
     // form: two blanks
     (41, 1, "block 5 0^1\npush 2 2 \nend\norder 0 1 : 0 1 2", 42),
-    // form: before a line whose rule fails
-    (41, 1, "block 6 0^1\npush 2 2 \nend\norder 0 1 : 0 1 2", 42),
 ];
 
 // Each rule of version 2.
@@ -602,13 +598,8 @@ pub const RULES_OF_RANGES: &[(u32, u32, &str, u128)] = &[
     (26, 1, "push 2 3 3", 26),
     // high of push
     (26, 1, "push 2 1 1", 26),
-    // a bound in place of ends is wanted from the first line of a block on
-    (1, 1, "listing 1", 17),
     // a wider pair
     (26, 1, "push 2 -2 2", 0),
-    (31, 1, "push 1 -1 1", 0),
-    (34, 1, "push -2 -2 2", 0),
-    (39, 1, "push -1 -1 1", 0),
     // a wide operand
     (
         26,
@@ -1001,52 +992,22 @@ pub const NUMBERS_OF_TURNS: &[(u32, u32, &str, u128)] = &[
     (21, 1, "input 0 -1001 1000", 23),
 ];
 
-// Of line 1, 2, .. of either listing of the squares: the line that fails where it is left out, where it stands twice, and where it
-// changes places with the next one. The last one has no next.
-pub const MOVES: &[(u128, u128, u128)] = &[
-    (1, 2, 1),
-    (2, 3, 2),
-    (3, 4, 3),
-    (4, 16, 4),
-    (5, 6, 5),
-    (7, 16, 0),
-    (7, 16, 7),
-    (14, 9, 11),
-    (10, 16, 11),
-    (14, 12, 15),
-    (12, 16, 0),
-    (12, 16, 12),
-    (14, 14, 14),
-    (14, 15, 15),
-    (15, 16, 15),
-    (16, 17, 16),
-    (18, 25, 0),
-    (18, 25, 18),
-    (23, 20, 22),
-    (21, 25, 0),
-    (21, 25, 21),
-    (23, 23, 23),
-    (23, 24, 24),
-    (24, 25, 24),
-    (25, 26, 25),
-    (27, 30, 0),
-    (27, 29, 27),
-    (28, 29, 29),
-    (29, 30, 29),
-    (30, 31, 30),
-    (31, 33, 32),
-    (32, 33, 32),
-    (33, 34, 33),
-    (35, 38, 0),
-    (35, 37, 35),
-    (36, 37, 37),
-    (37, 38, 37),
-    (38, 39, 38),
-    (39, 41, 40),
-    (40, 41, 40),
-    (41, 42, 41),
-    (42, 43, 43),
-    (43, 44, 0),
+// The line that fails where line 1, 2, .. of either listing of the squares is left out.
+pub const DELETED: &[u128] = &[
+    1, 2, 3, 4, 5, 7, 7, 14, 10, 14, 12, 12, 14, 14, 15, 16, 18, 18, 23, 21, 21, 23, 23, 24, 25,
+    27, 27, 28, 29, 30, 31, 32, 33, 35, 35, 36, 37, 38, 39, 40, 41, 42, 43,
+];
+
+// Where it stands twice.
+pub const DOUBLED: &[u128] = &[
+    2, 3, 4, 16, 6, 16, 16, 9, 16, 12, 16, 16, 14, 15, 16, 17, 25, 25, 20, 25, 25, 23, 24, 25, 26,
+    30, 29, 29, 30, 31, 33, 33, 34, 38, 37, 37, 38, 39, 41, 41, 42, 43, 44,
+];
+
+// Where it changes places with the next one.
+pub const EXCHANGED: &[u128] = &[
+    1, 2, 3, 4, 5, 0, 7, 11, 11, 15, 0, 12, 14, 15, 15, 16, 0, 18, 22, 0, 21, 23, 24, 24, 25, 0,
+    27, 29, 29, 30, 32, 32, 33, 0, 35, 37, 37, 38, 40, 40, 41, 43,
 ];
 
 // Lines of a block of version 1 that make a polynomial of 1,024 terms, of at most 1,024, and store it.

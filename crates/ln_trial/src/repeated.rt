@@ -1,19 +1,23 @@
 //! Equal parts of a predicate are computed once, while there are locals.
-use crate::listings::listing_of;
-use crate::support::{said, shelf, tells};
-use ln_base::NoMemory;
-use ln_cert::{Entry, Part};
+use crate::support::{said, said_within, shelf, tells};
+use ln_base::{NoMemory, Port};
+use ln_cert::{Entry, Part, read_listing};
 use ln_code::Op;
 use ln_top::Status;
 use std::alloc::Global;
+use std::process::Abort;
 use std::test::Fail;
 
 const CHECK: &[&str] = &["check", "s.ln"];
 
 const RUN: &[&str] = &["run", "s.ln", "rep", "r.csv"];
 
+const LIST: &[&str] = &["list", "s.ln"];
+
+const ROOM: usize = 1 << 20;
+
 /// How many operations a block has, how many of them are products, and how many put a value into a local.
-#[derive(Clone, Copy)]
+#[derive(Drop)]
 struct Counts {
     all: u32,
     products: u32,
@@ -49,32 +53,37 @@ impl Counts {
     }
 }
 
-/// Has block 0 of a source's one program so many operations, so many of them products, and so many that put a value into a local?
-fn has(
-    alloc: Global,
-    source: &str,
-    all: u32,
-    products: u32,
-    stores: u32,
-) -> Result<bool, NoMemory> {
-    let Some(listing) = listing_of(alloc, source)? else {
-        return Ok(false);
-    };
-    let counts = Counts::of_first(listing.entries());
-    Ok(counts.all == all && counts.products == products && counts.stores == stores)
+/// How many operations block 0 of a source's one program has.
+fn count(rt: &impl Abort, alloc: Global, source: &str) -> Result<Counts, Fail> {
+    let mut files = shelf(alloc, source, "", &[])?;
+    let (status, con) = said_within(alloc, LIST, &mut files, ROOM, &[])?;
+    let text = con.bytes(Port::Out);
+    assert!(rt; status == Status::Done && text.len() <= 67_108_864);
+    match read_listing(alloc, text) {
+        Ok(listing) => Ok(Counts::of_first(listing.entries())),
+        Err(_) => {
+            assert!(rt; false);
+            Ok(Counts::of_first(&[]))
+        }
+    }
 }
 
-/// Is this said of a source and records?
-fn says(
+/// What `check` and `run` say of a source.
+fn compare(
+    rt: &impl Abort,
     alloc: Global,
-    words: &[&str],
     source: &str,
+    checked: &str,
     records: &str,
-    out: &str,
-) -> Result<bool, NoMemory> {
+    lines: &str,
+) -> Result<(), Fail> {
     let mut files = shelf(alloc, source, records, &[])?;
-    let (status, con) = said(alloc, words, &mut files, &[])?;
-    Ok(status == Status::Done && tells(&con, out, ""))
+    let (status, con) = said(alloc, CHECK, &mut files, &[])?;
+    assert!(rt; status == Status::Done && tells(&con, checked, ""));
+    let mut files = shelf(alloc, source, records, &[])?;
+    let (status, con) = said(alloc, RUN, &mut files, &[])?;
+    assert!(rt; status == Status::Done && tells(&con, lines, ""));
+    Ok(())
 }
 
 // A predicate whose sign is so many copies of a square, one added to the other.
@@ -97,9 +106,17 @@ fn copies(alloc: Global, count: u32) -> Result<String, NoMemory> {
 fn a_hundred_copies_of_a_square_take_207_operations(rt: HostRuntime) -> Result<(), Fail> {
     let alloc = rt.alloc();
     let source = copies(alloc, 100)?;
-    assert!(rt; says(alloc, CHECK, &source, "", "rep sites 2 stages 6\n")?);
-    assert!(rt; says(alloc, RUN, &source, "a,a.t,b,b.t\n1,3,2,-3\n", "+ 2\n")?);
-    assert!(rt; has(alloc, &source, 207, 1, 2)?);
+    let records = "a,a.t,b,b.t\n1,3,2,-3\n";
+    compare(
+        &rt,
+        alloc,
+        &source,
+        "rep sites 2 stages 6\n",
+        records,
+        "+ 2\n",
+    )?;
+    let counts = count(&rt, alloc, &source)?;
+    assert!(rt; counts.all == 207 && counts.products == 1 && counts.stores == 2);
     Ok(())
 }
 
@@ -123,20 +140,26 @@ fn products(alloc: Global, count: u32) -> Result<String, NoMemory> {
 
 // 250 of them are 1,999 nodes; the locals from 65 to 255 hold 191. The sign is that of 31250 a.t + 31500 b.t, which the filter
 // leaves open where it is small.
-const FAR: &str = "a,a.t,b,b.t
+#[test]
+fn past_local_255_products_are_computed_anew(rt: HostRuntime) -> Result<(), Fail> {
+    let alloc = rt.alloc();
+    let source = products(alloc, 250)?;
+    let records = "a,a.t,b,b.t
 1,1,2,-1
 1,3,2,5
 1,126,2,-125
 2,126,1,-125
 1,1000000000000,2,1000000000000
 ";
-
-#[test]
-fn past_local_255_products_are_computed_anew(rt: HostRuntime) -> Result<(), Fail> {
-    let alloc = rt.alloc();
-    let source = products(alloc, 250)?;
-    assert!(rt; says(alloc, CHECK, &source, "", "rep sites 2 stages 4\n")?);
-    assert!(rt; says(alloc, RUN, &source, FAR, "- 0\n+ 0\n+ 1\n+ 1\n+ F\n")?);
-    assert!(rt; has(alloc, &source, 1999, 309, 191)?);
+    compare(
+        &rt,
+        alloc,
+        &source,
+        "rep sites 2 stages 4\n",
+        records,
+        "- 0\n+ 0\n+ 1\n+ 1\n+ F\n",
+    )?;
+    let counts = count(&rt, alloc, &source)?;
+    assert!(rt; counts.all == 1999 && counts.products == 309 && counts.stores == 191);
     Ok(())
 }

@@ -159,9 +159,7 @@ pub fn add(alloc: Global, f: Held, g: Held) -> Result<Held, NoMemory>
     ensures { IfOk result (λ h. IsSum f g h) }
 {
     if f.count() < g.count() {
-        let h = add_to(alloc, g, &f)?;
-        return Ok(h);
+        return add_to(alloc, g, &f);
     }
-    let h = add_to(alloc, f, &g)?;
-    Ok(h)
+    add_to(alloc, f, &g)
 }

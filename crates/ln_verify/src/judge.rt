@@ -210,8 +210,7 @@ pub fn judge(
     ensures { IfOk result (λ o. IsAnswer (version_of form) (subjects_of cases.now) (parts_of entries.now) o) }
 {
     let mut desk = fresh_desk(alloc)?;
-    let answer = over_entries(alloc, cases, form, entries, &mut desk)?;
-    Ok(answer)
+    over_entries(alloc, cases, form, entries, &mut desk)
 }
 
 // A line at its place, which is dropped then.
@@ -267,6 +266,5 @@ pub fn judge_lines(
     ensures { IfOk result (λ o. (ps : List AnyPart) → AreLeft lines.old ps → IsAnswer (version_of form) (subjects_of cases.now) ps o) }
 {
     let mut desk = fresh_desk(alloc)?;
-    let answer = over_lines(alloc, cases, form, lines, &mut desk)?;
-    Ok(answer)
+    over_lines(alloc, cases, form, lines, &mut desk)
 }

@@ -1,10 +1,9 @@
 -- Polynomials with a sign beside them.
-use Rattle.std.proofs.Common.{◌≡◌, ℕ, ◌+◌, ◌≤◌, List, [], ◌∷◌, refl, sym, ◌∙◌, ap, subst, arith, Bool, true, false, not}
+use Rattle.std.proofs.Common.{◌≡◌, ℕ, List, [], ◌∷◌, refl, sym, ◌∙◌, ap, subst, arith, Bool, true, false, not}
 use Rattle.std.proofs.Math.IntN.{ℤ, ◌+ℤ◌}
 use Rattle.std.specs.Prelude.{neg_ℤ}
 use mathlib.Core.Bool.{beq}
 use Rattle.std.proofs.lemmas.Int.{ints}
-use Rattle.ln_tree.specs.Exps.{Pairs}
 use Rattle.ln_poly.specs.Sparse.{AreBelow, IsPoly, Sparse, coefficient_at, negated, size_of}
 use Rattle.ln_poly.proofs.TermLists.Negating.{below-negated, coefficient-negated, poly-negated, size-negated}
 use Rattle.ln_verify.specs.Signed.{signed}

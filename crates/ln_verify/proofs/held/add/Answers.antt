@@ -1,5 +1,8 @@
 -- What is left to show of `add`.
 use Rattle.std.proofs.Common.{arith}
+use Rattle.std.proofs.lemmas.Result.{IfOk-weaker}
+use Rattle.ln_poly.specs.Sparse.{Sparse}
+use Rattle.ln_verify.specs.Joined.{IsSum}
 use Rattle.ln_verify.proofs.Polynomials.Joins.{sum-turned}
 use Rattle.ln_verify.proofs.held.add.Goals as goal
 
@@ -7,7 +10,5 @@ pub add_to-requires : goal.add_to-requires
 add_to-requires c = omega (arith, c.requires)
 
 pub returns-then-count : goal.returns-then-count
-returns-then-count c = sum-turned c.args.f c.args.g c.in_ok-h.h c.in_ok-h.ensures
-
-pub returns : goal.returns
-returns c = c.in_ok-h-2.ensures
+returns-then-count c =
+    IfOk-weaker c.add_to.result (λ (h : Sparse). IsSum c.args.g c.args.f h) (λ (h : Sparse). IsSum c.args.f c.args.g h) (λ h s. sum-turned c.args.f c.args.g h s) c.add_to.ensures

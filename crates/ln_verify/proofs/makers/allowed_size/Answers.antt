@@ -1,7 +1,7 @@
 -- What is left to show of `allowed_size`.
-use Rattle.std.proofs.Common.{◌∙◌, arith, subst, sym, ℕ}
+use Rattle.std.proofs.Common.{◌∙◌, subst, sym, ℕ}
 use Rattle.ln_interval.specs.View.{range}
-use Rattle.ln_bound.specs.Typed.{bound_of, range_of}
+use Rattle.ln_bound.specs.Typed.{range_of}
 use Rattle.ln_verify.specs.Versions.{Allows}
 use Rattle.ln_verify.proofs.Values.Ranges.{not-most, range-ordered, not-true, under-most}
 use Rattle.ln_verify.proofs.makers.allowed_size.Goals as goal
