@@ -2,6 +2,7 @@
 pub mod Places
 pub mod Lists
 pub mod Said
+pub mod Turns
 pub mod LaidOut
 pub mod Arguments
 pub mod Readiness

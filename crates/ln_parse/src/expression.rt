@@ -1,6 +1,6 @@
 //! The expressions of tokens, with their names resolved on the way.
-ghost use Rattle.std.specs.Prelude.{◌≡◌, ◌+◌, ◌^◌, ◌<◌, ◌≤◌, pos, length, IfOk, IfSome, Some, None, unwrap_or};
-ghost use Rattle.ln_syntax.specs.Raw.{items, Is};
+ghost use Rattle.std.specs.Prelude.{◌≡◌, ◌↔◌, ◌⊎◌, ◌+◌, ◌^◌, ◌<◌, ◌≤◌, pos, length, IsTrue, IfOk, IfSome, Some, None, unwrap_or};
+ghost use Rattle.ln_syntax.specs.Raw.{items, Is, span_at};
 ghost use Rattle.ln_syntax.specs.Expression.{Atom, Power, Unary, Term, Sum, TName, TInput};
 ghost use Rattle.ln_names.specs.Numbers.{number};
 ghost use Rattle.ln_names.specs.Rules.{scope};
@@ -58,24 +58,13 @@ fn sum(alloc: Global, s: &Scene, at: usize) -> Result<Read, NoMemory>
         (scope (items s.now.items.now) s.now.args.now s.now.lets.now) Sum at x.end (formula x.expr)) }
 {
     let first = term(alloc, s, at)?;
-    let mut left = first.expr;
-    let mut place = first.end;
-    'terms: loop {
-        if is(s.ts, place, Kind::Plus) {
-            let right = term(alloc, s, place + 1)?;
-            left = added(alloc, span_of(s.ts, place), left, right.expr)?;
-            place = right.end;
-        } else if is(s.ts, place, Kind::Minus) {
-            let right = term(alloc, s, place + 1)?;
-            left = taken_off(alloc, span_of(s.ts, place), left, right.expr)?;
-            place = right.end;
-        } else {
-            return Ok(Read {
-                expr: left,
-                end: place,
-            });
-        }
+    let mut left = first;
+    'terms: while is_sign(s.ts, left.end) {
+        let right = term(alloc, s, left.end + 1)?;
+        let next = joined(alloc, s.ts, left, right)?;
+        left = next;
     }
+    Ok(left)
 }
 
 #[cycle(expression)]
@@ -88,17 +77,13 @@ fn term(alloc: Global, s: &Scene, at: usize) -> Result<Read, NoMemory>
         (scope (items s.now.items.now) s.now.args.now s.now.lets.now) Term at x.end (formula x.expr)) }
 {
     let first = unary(alloc, s, at)?;
-    let mut left = first.expr;
-    let mut place = first.end;
-    'factors: while is(s.ts, place, Kind::Star) {
-        let right = unary(alloc, s, place + 1)?;
-        left = multiplied(alloc, span_of(s.ts, place), left, right.expr)?;
-        place = right.end;
+    let mut left = first;
+    'factors: while is(s.ts, left.end, Kind::Star) {
+        let right = unary(alloc, s, left.end + 1)?;
+        let next = product(alloc, s.ts, left, right)?;
+        left = next;
     }
-    Ok(Read {
-        expr: left,
-        end: place,
-    })
+    Ok(left)
 }
 
 #[cycle(expression)]
@@ -114,10 +99,8 @@ fn unary(alloc: Global, s: &Scene, at: usize) -> Result<Read, NoMemory>
         return power(alloc, s, at);
     }
     let of = unary(alloc, s, at + 1)?;
-    Ok(Read {
-        expr: negated(alloc, span_of(s.ts, at), of.expr)?,
-        end: of.end,
-    })
+    let read = opposite(alloc, s.ts, at, of)?;
+    Ok(read)
 }
 
 #[cycle(expression)]
@@ -130,15 +113,11 @@ fn power(alloc: Global, s: &Scene, at: usize) -> Result<Read, NoMemory>
         (scope (items s.now.items.now) s.now.args.now s.now.lets.now) Power at x.end (formula x.expr)) }
 {
     let base = atom(alloc, s, at)?;
-    let place = base.end;
-    if !is(s.ts, place, Kind::Caret) {
+    if !is(s.ts, base.end, Kind::Caret) {
         return Ok(base);
     }
-    let by = exponent(s.bytes, span_of(s.ts, place + 1));
-    Ok(Read {
-        expr: raised(alloc, span_of(s.ts, place), base.expr, by)?,
-        end: place + 2,
-    })
+    let read = to_power(alloc, s.bytes, s.ts, base)?;
+    Ok(read)
 }
 
 #[cycle(expression)]
@@ -157,10 +136,86 @@ fn atom(alloc: Global, s: &Scene, at: usize) -> Result<Read, NoMemory>
         return Ok(name_atom(s, at));
     }
     let inner = sum(alloc, s, at + 1)?;
+    Ok(closed(inner))
+}
+
+// Is the token at this place one that joins terms?
+fn is_sign(ts: &[Token], i: usize) -> bool
+    ensures { IsTrue result ↔ (Is ts.now i Kind.Plus ⊎ Is ts.now i Kind.Minus) }
+{
+    is(ts, i, Kind::Plus) || is(ts, i, Kind::Minus)
+}
+
+// What is left of a sign and what is right of it, as one expression.
+fn joined(alloc: Global, ts: &[Token], left: Read, right: Read) -> Result<Read, NoMemory>
+    ensures end { IfOk result (λ x. x.end ≡ right.end) }
+    ensures plus { IfOk result (λ x. Is ts.now left.end Kind.Plus →
+        formula x.expr ≡ FAdd (span_at ts.now left.end) (formula left.expr) (formula right.expr)) }
+    ensures minus { IfOk result (λ x. (Is ts.now left.end Kind.Plus → ⊥) →
+        formula x.expr ≡ FSub (span_at ts.now left.end) (formula left.expr) (formula right.expr)) }
+{
+    let at = span_of(ts, left.end);
+    if is(ts, left.end, Kind::Plus) {
+        let expr = added(alloc, at, left.expr, right.expr)?;
+        return Ok(Read {
+            expr,
+            end: right.end,
+        });
+    }
+    let expr = taken_off(alloc, at, left.expr, right.expr)?;
     Ok(Read {
+        expr,
+        end: right.end,
+    })
+}
+
+// The product of what is left of a star and what is right of it.
+fn product(alloc: Global, ts: &[Token], left: Read, right: Read) -> Result<Read, NoMemory>
+    ensures end { IfOk result (λ x. x.end ≡ right.end) }
+    ensures value { IfOk result (λ x. formula x.expr ≡ FMul (span_at ts.now left.end) (formula left.expr) (formula right.expr)) }
+{
+    let expr = multiplied(alloc, span_of(ts, left.end), left.expr, right.expr)?;
+    Ok(Read {
+        expr,
+        end: right.end,
+    })
+}
+
+// What stands behind the minus at a place, with it.
+fn opposite(alloc: Global, ts: &[Token], at: usize, of: Read) -> Result<Read, NoMemory>
+    ensures end { IfOk result (λ x. x.end ≡ of.end) }
+    ensures value { IfOk result (λ x. formula x.expr ≡ FNeg (span_at ts.now at) (formula of.expr)) }
+{
+    let expr = negated(alloc, span_of(ts, at), of.expr)?;
+    Ok(Read { expr, end: of.end })
+}
+
+// What stands before a caret, to the power of the number behind it.
+fn to_power(alloc: Global, bytes: &[u8], ts: &[Token], base: Read) -> Result<Read, NoMemory>
+    requires small { base.end < 2 ^ 32 }
+    requires limit { number bytes.now (span_at ts.now (base.end + 1)) ≤ 16 }
+    ensures end { IfOk result (λ x. x.end ≡ base.end + 2) }
+    ensures value { IfOk result (λ x. formula x.expr
+        ≡ FPow (span_at ts.now base.end) (formula base.expr) (number bytes.now (span_at ts.now (base.end + 1)))) }
+{
+    let by = exponent(bytes, span_of(ts, base.end + 1));
+    let expr = raised(alloc, span_of(ts, base.end), base.expr, by)?;
+    Ok(Read {
+        expr,
+        end: base.end + 2,
+    })
+}
+
+// What stands between parentheses, with the one that closes.
+fn closed(inner: Read) -> Read
+    requires { inner.end < 2 ^ 32 }
+    ensures end { result.end ≡ inner.end + 1 }
+    ensures value { formula result.expr ≡ formula inner.expr }
+{
+    Read {
         expr: inner.expr,
         end: inner.end + 1,
-    })
+    }
 }
 
 // A literal.

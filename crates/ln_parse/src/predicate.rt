@@ -7,8 +7,9 @@ ghost use Rattle.ln_tree.specs.Names.{name_bytes};
 ghost use Rattle.ln_tree.specs.Formula.{formula};
 ghost use Rattle.ln_tree.specs.Variables.{is_laid_out};
 ghost use Rattle.ln_tree.specs.Table.{TableOf, site_of, param_of, pred_of, pred_fits};
-ghost use Rattle.ln_parse.specs.Says.{LetsSay, PredSays};
-ghost use Rattle.ln_parse.specs.Ready.{ReadyLet, ReadyPred, Declares, is_few};
+ghost use Rattle.ln_names.specs.Rules.{scope};
+ghost use Rattle.ln_parse.specs.Says.{LetsSay, PredSays, Says};
+ghost use Rattle.ln_parse.specs.Ready.{ReadyLet, ReadyPred, ReadyValue, Declares, is_few};
 
 use crate::expression::{Scene, expression};
 use crate::layout::{Layout, args, laid_out};
@@ -17,6 +18,14 @@ use ln_base::{NoMemory, Seq, Span};
 use ln_syntax::{Places, RawLet};
 use ln_tree::{Expr, Name, Param, Pred, Shape, Site};
 use std::alloc::Global;
+
+// The lets of a predicate, their names, and the expression of its sign.
+#[derive(Drop)]
+struct Body {
+    lets: Seq<Expr>,
+    let_names: Seq<Name>,
+    root: Expr,
+}
 
 /// The predicate of this name, with the arguments and lets of the scene and this sign expression, in a table with these
 /// site types and params.
@@ -37,9 +46,7 @@ pub fn predicate(
 {
     let args = args(alloc, s)?;
     let layout = laid_out(alloc, sites, params, args.as_slice())?;
-    let lets = lets(alloc, s)?;
-    let let_names = let_names(alloc, s, s.lets)?;
-    let root = expression(alloc, s, root)?;
+    let body = body_of(alloc, s, root)?;
     let named = name_at(s.bytes, name);
     let shape = shape(named, layout);
     Ok(Pred {
@@ -47,6 +54,30 @@ pub fn predicate(
         at: name,
         args,
         shape,
+        lets: body.lets,
+        let_names: body.let_names,
+        root: body.root,
+    })
+}
+
+// What stands between the braces of a predicate.
+fn body_of(alloc: Global, s: &Scene, sign: Places) -> Result<Body, NoMemory>
+    requires small { length s.now.ts.now < 2 ^ 32 }
+    requires ready { Each (ReadyLet s.now.bytes.now s.now.ts.now (items s.now.items.now) s.now.args.now) [] s.now.lets.now }
+    requires sign { ReadyValue s.now.bytes.now s.now.ts.now (scope (items s.now.items.now) s.now.args.now s.now.lets.now) sign }
+    requires args { length s.now.args.now < 256 }
+    requires lets { length s.now.lets.now < 256 }
+    requires few { list_all is_few (items s.now.items.now) ≡ true }
+    ensures lets { IfOk result (λ b. LetsSay s.now.bytes.now s.now.ts.now (items s.now.items.now) s.now.args.now [] s.now.lets.now
+        (map formula b.lets)) }
+    ensures names { IfOk result (λ b. map name_bytes b.let_names ≡ map (λ l. text s.now.bytes.now l.name) s.now.lets.now) }
+    ensures root { IfOk result (λ b. Says s.now.bytes.now s.now.ts.now (scope (items s.now.items.now) s.now.args.now s.now.lets.now)
+        sign (formula b.root)) }
+{
+    let lets = lets(alloc, s)?;
+    let let_names = let_names(alloc, s, s.lets)?;
+    let root = expression(alloc, s, sign)?;
+    Ok(Body {
         lets,
         let_names,
         root,

@@ -3,7 +3,7 @@ use ln_base::Span;
 
 /// An input of a predicate: the place of its argument among all arguments, and the place of its coordinate in the
 /// argument's site type, from 0; for a param the coordinate is 0.
-#[derive(Clone, Copy, Debug, PartialEq, Eq)]
+#[derive(Clone, Copy)]
 pub struct Var {
     pub arg: u8,
     pub coord: u8,

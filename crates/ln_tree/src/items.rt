@@ -3,7 +3,7 @@ use crate::name::Name;
 use ln_base::Seq;
 
 /// A coordinate of a site type, and its range, ends included.
-#[derive(Clone, Copy, Debug)]
+#[derive(Clone, Copy)]
 pub struct Coord {
     pub name: Name,
     pub lo: i64,
@@ -18,7 +18,7 @@ pub struct Site {
 }
 
 /// A param, and its range, ends included.
-#[derive(Clone, Copy, Debug)]
+#[derive(Clone, Copy)]
 pub struct Param {
     pub name: Name,
     pub lo: i64,
@@ -26,7 +26,7 @@ pub struct Param {
 }
 
 /// An argument of a predicate: a site with its name and the number of its type, or the param of this number.
-#[derive(Clone, Copy, Debug)]
+#[derive(Clone, Copy)]
 pub enum Arg {
     Site(Name, u8),
     Param(u8),

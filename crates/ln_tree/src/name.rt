@@ -3,7 +3,7 @@ ghost use Rattle.std.specs.Prelude.{◌≡◌, ◌≤◌, length, take, true};
 ghost use Rattle.ln_base.specs.Words.{is_name};
 
 /// A name of the source language: a letter or `_`, then letters, digits and `_`, no keyword, 1 to 32 bytes.
-#[derive(Clone, Copy, Debug)]
+#[derive(Clone, Copy)]
 pub struct Name {
     bytes: [u8; 32],
     len: u8,

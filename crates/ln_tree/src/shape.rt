@@ -8,7 +8,7 @@ use std::alloc::Global;
 
 /// A variable of a predicate: the place of its argument among all arguments, that of its site among the site
 /// arguments (none for a param), that of its coordinate in the site (0 for a param), and its range, ends included.
-#[derive(Clone, Copy, Debug)]
+#[derive(Clone, Copy)]
 pub struct VarInfo {
     pub arg: u8,
     pub site: Option<u8>,

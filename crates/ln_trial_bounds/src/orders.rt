@@ -2,7 +2,7 @@
 ghost use Rattle.std.specs.Prelude.{◌≡◌, IfOk};
 
 use ln_base::{NoMemory, Seq};
-use ln_order::{Order, all_orders, all_prefixes, earlier, order_of, prefix_number, ranking};
+use ln_order::{Front, Order, all_orders, all_prefixes, earlier, order_of, prefix_number, ranking};
 use ln_tree::{Exps, Name, Shape, VarInfo, is_shape};
 use std::alloc::Global;
 use std::test::Fail;
@@ -55,6 +55,34 @@ fn is_of_two(order: &Order, places: [u8; 2], number: usize) -> bool {
     order.places() == places.as_slice() && order.number() == number
 }
 
+/// Are these the prefixes of the orders of two sites?
+fn are_of_two(all: &[Front]) -> bool {
+    match all {
+        [none, a, ab, b, ba] => {
+            none.places().is_empty()
+                && a.places() == [0u8].as_slice()
+                && ab.places() == [0u8, 1].as_slice()
+                && b.places() == [1u8].as_slice()
+                && ba.places() == [1u8, 0].as_slice()
+        }
+        _ => false,
+    }
+}
+
+/// Has the second coordinate of the one site the larger infinitesimal?
+fn is_largest_last(alloc: Global, s: &Shape) -> Result<bool, NoMemory>
+    requires { s.now.sites ≡ 1 }
+{
+    let o = Order::of_arguments(1);
+    let x = alone(alloc, 0)?;
+    let y = alone(alloc, 1)?;
+    if !earlier(&o, s, &y, &x) || earlier(&o, s, &x, &y) {
+        return Ok(false);
+    }
+    let vars = ranking(alloc, &o, s)?;
+    Ok(vars.as_slice() == [0u8, 1].as_slice())
+}
+
 #[test]
 fn places_stand_by_rising_index(rt: HostRuntime) {
     assert!(rt; is_order([2, 1, 3], [1, 0, 2]));
@@ -66,12 +94,8 @@ fn places_stand_by_rising_index(rt: HostRuntime) {
 
 #[test]
 fn the_last_coordinate_is_the_largest(rt: HostRuntime) -> Result<(), Fail> {
-    let alloc = rt.alloc();
-    let s = plane(alloc)?;
-    let (x, y) = (alone(alloc, 0)?, alone(alloc, 1)?);
-    let o = Order::of_arguments(1);
-    assert!(rt; earlier(&o, &s, &y, &x) && !earlier(&o, &s, &x, &y));
-    assert!(rt; ranking(alloc, &o, &s)?.as_slice() == [0u8, 1].as_slice());
+    let s = plane(rt.alloc())?;
+    assert!(rt; is_largest_last(rt.alloc(), &s)?);
     Ok(())
 }
 
@@ -89,14 +113,7 @@ fn two_sites_have_two_orders(rt: HostRuntime) -> Result<(), Fail> {
 fn five_sites_have_326_prefixes(rt: HostRuntime) -> Result<(), Fail> {
     assert!(rt; all_prefixes(rt.alloc(), 5)?.len() == 326);
     let two = all_prefixes(rt.alloc(), 2)?;
-    match two.as_slice() {
-        [none, a, ab, b, ba] => {
-            assert!(rt; none.places().is_empty());
-            assert!(rt; a.places() == [0u8].as_slice() && ab.places() == [0u8, 1].as_slice());
-            assert!(rt; b.places() == [1u8].as_slice() && ba.places() == [1u8, 0].as_slice());
-        }
-        _ => assert!(rt; false),
-    }
+    assert!(rt; are_of_two(two.as_slice()));
     Ok(())
 }
 

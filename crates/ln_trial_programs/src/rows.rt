@@ -1,5 +1,6 @@
 //! The records of a rows file, and the numbers of fields.
 use csv::ByteRecord;
+use ln_base::NoMemory;
 use ln_rows::{NumberStop, Rows, number};
 use std::test::Fail;
 
@@ -20,30 +21,55 @@ const OUTSIDE: &[(&[u8], i64, i64)] = &[
 /// Fields that say none: they aren't numbers.
 const NO_NUMBERS: &[&[u8]] = &[b"1e3", b"+5", b""];
 
+/// Is this the number that the field says?
+fn is_said(field: &[u8], lo: i64, hi: i64, want: i64) -> bool {
+    match number(field, lo, hi) {
+        Ok(z) => z == want,
+        Err(_) => false,
+    }
+}
+
+/// Is the field a number outside the range?
+fn is_outside(field: &[u8], lo: i64, hi: i64) -> bool {
+    matches!(number(field, lo, hi), Err(NumberStop::Range))
+}
+
+/// Is the field no number?
+fn is_none(field: &[u8]) -> bool {
+    matches!(number(field, -9, 9), Err(NumberStop::Number))
+}
+
+/// Have the records that are left these numbers of fields, and are they all?
+fn have_fields(
+    rows: &mut Rows<'_>,
+    record: &mut ByteRecord,
+    counts: &[usize],
+) -> Result<bool, NoMemory> {
+    for count in counts {
+        if !rows.next(record)? || record.len() != *count {
+            return Ok(false);
+        }
+    }
+    Ok(!rows.next(record)? && !rows.next(record)?)
+}
+
 #[test]
 fn numbers_stand_within_their_ranges(rt: HostRuntime) {
     for (field, lo, hi, want) in NUMBERS {
-        match number(field, *lo, *hi) {
-            Ok(z) => assert!(rt; z == *want),
-            Err(_) => assert!(rt; false),
-        }
+        assert!(rt; is_said(field, *lo, *hi, *want));
     }
     for (field, lo, hi) in OUTSIDE {
-        assert!(rt; matches!(number(field, *lo, *hi), Err(NumberStop::Range)));
+        assert!(rt; is_outside(field, *lo, *hi));
     }
     for field in NO_NUMBERS {
-        assert!(rt; matches!(number(field, -9, 9), Err(NumberStop::Number)));
+        assert!(rt; is_none(field));
     }
 }
 
 #[test]
 fn records_come_in_order(rt: HostRuntime) -> Result<(), Fail> {
-    let alloc = rt.alloc();
-    let mut rows = Rows::new(alloc, b"a\nb,c\n");
-    let mut record = ByteRecord::new(alloc);
-    assert!(rt; rows.next(&mut record)? && record.len() == 1);
-    assert!(rt; rows.next(&mut record)? && record.len() == 2);
-    assert!(rt; !rows.next(&mut record)?);
-    assert!(rt; !rows.next(&mut record)?);
+    let mut rows = Rows::new(rt.alloc(), b"a\nb,c\n");
+    let mut record = ByteRecord::new(rt.alloc());
+    assert!(rt; have_fields(&mut rows, &mut record, &[1, 2])?);
     Ok(())
 }

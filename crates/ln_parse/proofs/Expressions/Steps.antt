@@ -1,5 +1,5 @@
 -- What each step of the reader of expressions keeps.
-use Rattle.std.proofs.Common.{◌≡◌, ℕ, zero, suc, [], ◌∷◌, ◌+◌, ◌≤◌, ◌<◌, ◌^◌, List, length, refl, ap, sym, ◌∙◌, subst, arith}
+use Rattle.std.proofs.Common.{◌≡◌, ◌⊎◌, inl, inr, ℕ, zero, suc, [], ◌∷◌, ◌+◌, ◌≤◌, ◌<◌, ◌^◌, List, length, refl, ap, sym, ◌∙◌, subst, arith}
 use Rattle.std.specs.Prelude.{pos}
 use Rattle.ln_base.specs.declared.span.Span.{Span}
 use Rattle.ln_lex.specs.declared.token.Token.{Token}
@@ -374,6 +374,25 @@ sums_less {bytes = bytes} {ts = ts} {s = s} {end = end} l h r p q =
       within = r.within;
       later = omega (arith, l.later, r.later);
     }
+
+-- a place with a sign is within the tokens
+pub sign_within : (ts : List Token) (i : ℕ) → Is ts i Plus ⊎ Is ts i Minus → i < length ts
+sign_within ts i (inl p) = is_within ts i Plus p
+sign_within ts i (inr m) = is_within ts i Minus m
+
+-- behind a sign stands a term
+pub sign_tree : {bytes : List ℕ} {ts : List Token} {s : Scope} {at i : ℕ} {x : Formula} → HasTree bytes ts s Sum at → Sums bytes ts s at i x → Is ts i Plus ⊎ Is ts i Minus → HasTree bytes ts s Term (i + 1)
+sign_tree t p (inl h) = plus_tree t p h
+sign_tree t p (inr h) = less_tree t p h
+
+not_both : (ts : List Token) (i : ℕ) → Is ts i Minus → Is ts i Plus → ⊥
+not_both ts i h p = absurd (cc)
+
+-- a sum that goes on by a sign and a term
+pub sums_next : {bytes : List ℕ} {ts : List Token} {s : Scope} {at i end e : ℕ} {x y z : Formula}
+    → Sums bytes ts s at i x → Is ts i Plus ⊎ Is ts i Minus → Reads bytes ts s Term (i + 1) end y → (Is ts i Plus → z ≡ FAdd (span_at ts i) x y) → ((Is ts i Plus → ⊥) → z ≡ FSub (span_at ts i) x y) → e ≡ end → Sums bytes ts s at e z
+sums_next l (inl h) r p m q = rw q (sums_plus l h r refl (p h))
+sums_next {ts = ts} {i = i} l (inr h) r p m q = rw q (sums_less l h r refl (m (not_both ts i h)))
 
 end_sum : (bytes : List ℕ) (s : Scope) {ts : List Token} {i to : ℕ} {e f : Tree} {x : Formula} → Derives ts (Terms f) i to e → (Is ts i Plus → ⊥) → (Is ts i Minus → ⊥) → resolved bytes s f ≡ x → (i ≡ to) × (resolved bytes s e ≡ x)
 end_sum bytes s no_term n m q = (refl, q)

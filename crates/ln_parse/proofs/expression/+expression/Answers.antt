@@ -1,9 +1,7 @@
-use Rattle.std.proofs.Common.{◌≤◌, subst, sym, arith}
-use Rattle.ln_base.specs.declared.span.Span.{Span}
-use Rattle.ln_names.specs.Numbers.{number}
+use Rattle.std.proofs.Common.{inl, inr, refl, arith}
 use Rattle.std.proofs.lemmas.Result.{IfOk-weaker}
-use Rattle.ln_lex.specs.declared.token.Kind.TheVariants.{ParL, Plus, Minus, Star}
-use Rattle.ln_parse.proofs.Expressions.Steps.{is_within, par_here, par_tree, parens_read, atom_tree, power_plain, exponent_fit, power_read, power_tree, unary_tree, unary_plain, unary_minus, unary_first, factor_tree, term_first, plus_tree, less_tree, sums_begin, sums_plus, sums_less, sums_end, products_begin, products_times, products_end}
+use Rattle.ln_lex.specs.declared.token.Kind.TheVariants.{ParL, Minus, Star}
+use Rattle.ln_parse.proofs.Expressions.Steps.{is_within, par_here, par_tree, parens_read, atom_tree, power_plain, exponent_fit, power_read, power_tree, unary_tree, unary_plain, unary_minus, unary_first, factor_tree, term_first, sign_within, sign_tree, sums_begin, sums_next, sums_end, products_begin, products_times, products_end}
 use Rattle.ln_parse.proofs.expression.+expression.Goals as goal
 
 pub atom-sum-requires : goal.atom-sum-requires
@@ -15,41 +13,32 @@ atom-sum-requires t c =
 pub atom-returns : goal.atom-returns
 atom-returns t c =
     let p = par_here c.requires.there (λ h. let y = c.is.ensures.1 h in let n = c.if-is.false in cc) (λ h. let y = c.is-2.ensures.1 h in let n = c.if-is-2.false in cc) in
-    parens_read c.requires.there p c.in_ok-inner.ensures
+    rw (c.closed.ensures.end, c.closed.ensures.value) (parens_read c.requires.there p c.in_ok-inner.ensures)
 
 pub power-returns-then-not-is : goal.power-returns-then-not-is
 power-returns-then-not-is t c = power_plain c.in_ok-base.ensures (λ h. let y = c.is.ensures.1 h in let n = c.if-not-is.true in cc)
 
 pub power-returns : goal.power-returns
 power-returns t c =
-    power_read c.requires.there c.in_ok-base.ensures (c.is.ensures.0 c.if-not-is.false) c.span_of-2.ensures c.span_of.ensures c.exponent-by.ensures c.in_ok-raised.ensures
+    rw c.in_ok-read.ensures.end (power_read c.requires.there c.in_ok-base.ensures (c.is.ensures.0 c.if-not-is.false) refl refl refl c.in_ok-read.ensures.value)
 
 pub sum-terms-init : goal.sum-terms-init
 sum-terms-init t c = sums_begin c.in_ok-first.ensures
 
-pub sum-term-requires-then-is : goal.sum-term-requires-then-is
-sum-term-requires-then-is t c =
-    let h = c.is.ensures.0 c.if-is.true in
-    let w = is_within c.args.s.now.ts.now c.terms.place Plus h in
-    (omega (arith, c.terms.invariant.later), (omega arith, (c.requires.small, (c.requires.narrow, plus_tree c.requires.there c.terms.invariant h))))
-
-pub sum-terms-preserved-then-is : goal.sum-terms-preserved-then-is
-sum-terms-preserved-then-is t c =
-    sums_plus c.terms.invariant (c.is.ensures.0 c.if-is.true) c.in_ok-right.ensures c.span_of.ensures c.in_ok-left.ensures
-
-pub sum-term-requires-then-is-2 : goal.sum-term-requires-then-is-2
-sum-term-requires-then-is-2 t c =
-    let h = c.is-else-is.ensures.0 c.if-is-2.true in
-    let w = is_within c.args.s.now.ts.now c.terms.place Minus h in
-    (omega (arith, c.terms.invariant.later), (omega arith, (c.requires.small, (c.requires.narrow, less_tree c.requires.there c.terms.invariant h))))
+pub sum-term-requires-in-terms : goal.sum-term-requires-in-terms
+sum-term-requires-in-terms t c =
+    let h = c.is_sign.ensures.0 c.terms-test.true in
+    let w = sign_within c.args.s.now.ts.now c.terms.left.end h in
+    (omega (arith, c.terms.invariant.later), (omega arith, (c.requires.small, (c.requires.narrow, sign_tree c.requires.there c.terms.invariant h))))
 
 pub sum-terms-preserved : goal.sum-terms-preserved
 sum-terms-preserved t c =
-    sums_less c.terms.invariant (c.is-else-is.ensures.0 c.if-is-2.true) c.in_ok-right-2.ensures c.span_of-then-is-2.ensures c.in_ok-left-2.ensures
+    let next = c.in_ok-next.ensures in
+    sums_next c.terms.invariant (c.is_sign.ensures.0 c.terms-test.true) c.in_ok-right.ensures next.plus next.minus next.end
 
-pub sum-returns-else-is-2 : goal.sum-returns-else-is-2
-sum-returns-else-is-2 t c =
-    sums_end c.terms.invariant (λ h. let y = c.is.ensures.1 h in let n = c.if-is.false in cc) (λ h. let y = c.is-else-is.ensures.1 h in let n = c.if-is-2.false in cc)
+pub sum-returns : goal.sum-returns
+sum-returns t c =
+    sums_end c.terms.invariant (λ h. let y = c.is_sign.ensures.1 (inl h) in let n = c.terms-test.false in cc) (λ h. let y = c.is_sign.ensures.1 (inr h) in let n = c.terms-test.false in cc)
 
 pub term-factors-init : goal.term-factors-init
 term-factors-init t c = products_begin c.in_ok-first.ensures
@@ -57,12 +46,12 @@ term-factors-init t c = products_begin c.in_ok-first.ensures
 pub term-unary-requires-in-factors : goal.term-unary-requires-in-factors
 term-unary-requires-in-factors t c =
     let h = c.is.ensures.0 c.factors-test.true in
-    let w = is_within c.args.s.now.ts.now c.factors.place Star h in
+    let w = is_within c.args.s.now.ts.now c.factors.left.end Star h in
     (omega (arith, c.factors.invariant.later), (omega arith, (c.requires.small, (c.requires.narrow, factor_tree c.requires.there c.factors.invariant h))))
 
 pub term-factors-preserved : goal.term-factors-preserved
 term-factors-preserved t c =
-    products_times c.factors.invariant (c.is.ensures.0 c.factors-test.true) c.in_ok-right.ensures c.span_of.ensures c.in_ok-left.ensures
+    rw c.in_ok-next.ensures.end (products_times c.factors.invariant (c.is.ensures.0 c.factors-test.true) c.in_ok-right.ensures refl c.in_ok-next.ensures.value)
 
 pub term-returns : goal.term-returns
 term-returns t c = products_end c.factors.invariant (λ h. let y = c.is.ensures.1 h in let n = c.factors-test.false in cc)
@@ -78,14 +67,20 @@ unary-unary-requires t c =
     (omega arith, (omega arith, (c.requires.small, (c.requires.narrow, unary_tree c.requires.there h))))
 
 pub unary-returns : goal.unary-returns
-unary-returns t c = unary_minus (c.is.ensures.0 c.if-not-is.false) c.in_ok-of.ensures c.span_of.ensures c.in_ok-negated.ensures
+unary-returns t c = rw c.in_ok-read.ensures.end (unary_minus (c.is.ensures.0 c.if-not-is.false) c.in_ok-of.ensures refl c.in_ok-read.ensures.value)
 
 pub power-atom-requires : goal.power-atom-requires
 power-atom-requires t c = (omega arith, (c.requires.within, (c.requires.small, (c.requires.narrow, atom_tree c.requires.there))))
 
-pub power-exponent-by-requires : goal.power-exponent-by-requires
-power-exponent-by-requires t c =
-    subst (λ (w : Span). number c.args.s.now.bytes.now w ≤ 16) (sym c.span_of.ensures) (exponent_fit c.requires.there c.in_ok-base.ensures (c.is.ensures.0 c.if-not-is.false))
+pub power-to_power-requires : goal.power-to_power-requires
+power-to_power-requires t c =
+    record {
+      small = omega (arith, c.in_ok-base.ensures.within, c.requires.small);
+      limit = exponent_fit c.requires.there c.in_ok-base.ensures (c.is.ensures.0 c.if-not-is.false);
+    }
+
+pub atom-closed-requires : goal.atom-closed-requires
+atom-closed-requires t c = omega (arith, c.in_ok-inner.ensures.within, c.requires.small)
 
 pub sum-term-requires : goal.sum-term-requires
 sum-term-requires t c = (omega arith, (c.requires.within, (c.requires.small, (c.requires.narrow, term_first c.requires.there))))

@@ -21,13 +21,13 @@ abbrev pub decreases-sum : goal.decreases-sum
 decreases-sum l = 5 * (length l.s.now.ts.now - l.at) + 4
 
 abbrev pub invariant-sum-terms : goal.invariant-sum-terms
-invariant-sum-terms l = Sums l.s.bytes.now l.s.ts.now (scope (items l.s.items.now) l.s.args.now l.s.lets.now) l.at l.place (formula l.left)
+invariant-sum-terms l = Sums l.s.bytes.now l.s.ts.now (scope (items l.s.items.now) l.s.args.now l.s.lets.now) l.at l.left.end (formula l.left.expr)
 
 abbrev pub decreases-sum-terms : goal.decreases-sum-terms
-decreases-sum-terms l = length l.s.ts.now - l.place
+decreases-sum-terms l = length l.s.ts.now - l.left.end
 
 abbrev pub invariant-term-factors : goal.invariant-term-factors
-invariant-term-factors l = Products l.s.bytes.now l.s.ts.now (scope (items l.s.items.now) l.s.args.now l.s.lets.now) l.at l.place (formula l.left)
+invariant-term-factors l = Products l.s.bytes.now l.s.ts.now (scope (items l.s.items.now) l.s.args.now l.s.lets.now) l.at l.left.end (formula l.left.expr)
 
 abbrev pub decreases-term-factors : goal.decreases-term-factors
-decreases-term-factors l = length l.s.ts.now - l.place
+decreases-term-factors l = length l.s.ts.now - l.left.end

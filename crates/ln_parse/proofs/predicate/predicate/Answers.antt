@@ -5,7 +5,6 @@ use Rattle.ln_tree.specs.declared.items.Arg.{Arg}
 use Rattle.ln_tree.specs.Table.{arg_of, site_of, param_of}
 use Rattle.ln_parse.specs.Says.{vars_behind, is_site_said}
 use Rattle.ln_parse.proofs.Building.Kept.{few_args, shape_kept, pred_kept, args_kept, as_many}
-use Rattle.ln_parse.proofs.Building.Loops.{is_narrow}
 use Rattle.ln_parse.proofs.predicate.predicate.Goals as goal
 
 pub laid_out-requires-clause-few : goal.laid_out-requires-clause-few
@@ -20,18 +19,11 @@ laid_out-requires-clause-site_args c =
     let f = (few_args s.bytes.now (items s.items.now) s.args.now c.in_ok-args.args c.in_ok-args.ensures c.requires.ready.site_args c.requires.ready.param_args).sites in
     rw c.as_slice.ensures f
 
-pub lets-requires-clause-args : goal.lets-requires-clause-args
-lets-requires-clause-args c =
+pub body_of-requires-clause-args : goal.body_of-requires-clause-args
+body_of-requires-clause-args c =
     let s = c.args.s.now in
     let f = (few_args s.bytes.now (items s.items.now) s.args.now c.in_ok-args.args c.in_ok-args.ensures c.requires.ready.site_args c.requires.ready.param_args).raw in
     omega arith
-
-pub expression-requires-clause-narrow : goal.expression-requires-clause-narrow
-expression-requires-clause-narrow c =
-    let s = c.args.s.now in
-    let f = (few_args s.bytes.now (items s.items.now) s.args.now c.in_ok-args.args c.in_ok-args.ensures c.requires.ready.site_args c.requires.ready.param_args).raw in
-    let l = c.requires.ready.let_count in
-    is_narrow s.bytes.now (items s.items.now) s.args.now s.lets.now c.requires.ready.few (omega arith) (omega arith)
 
 pub shape-shape-requires : goal.shape-shape-requires
 shape-shape-requires c =
@@ -44,10 +36,10 @@ pub invariant_of-result : goal.invariant_of-result
 invariant_of-result c =
     let s = c.args.s.now in
     record {
-      kept = pred_kept s.bytes.now s.ts.now (items s.items.now) c.args.name s.args.now s.lets.now c.args.root c.in_ok-args.args c.shape-shape.result.vars c.in_ok-lets.lets _ c.in_ok-root.root (map site_of c.args.sites.now) (map param_of c.args.params.now)
+      kept = pred_kept s.bytes.now s.ts.now (items s.items.now) c.args.name s.args.now s.lets.now c.args.root c.in_ok-args.args c.shape-shape.result.vars c.in_ok-body.body.lets _ c.in_ok-body.body.root (map site_of c.args.sites.now) (map param_of c.args.params.now)
           c.requires.ready c.requires.declared c.in_ok-args.ensures
           (c.shape-shape.ensures.same.1 ∙ c.in_ok-layout.ensures.vars ∙ ap (λ (w : List Arg). vars_behind (map site_of c.args.sites.now) (map param_of c.args.params.now) 0 0 (map arg_of w)) c.as_slice.ensures)
-          c.in_ok-lets.ensures c.in_ok-root.ensures (as_many s.bytes.now s.lets.now c.in_ok-let_names.let_names c.in_ok-let_names.ensures);
+          c.in_ok-body.ensures.lets c.in_ok-body.ensures.root (as_many s.bytes.now s.lets.now c.in_ok-body.body.let_names c.in_ok-body.ensures.names);
     }
 
 pub returns-clause-fits : goal.returns-clause-fits
