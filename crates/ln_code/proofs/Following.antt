@@ -3,5 +3,4 @@ pub mod Known
 pub mod NodeLists
 pub mod Means
 pub mod Together
-pub mod WorkedLaws
 pub mod Same

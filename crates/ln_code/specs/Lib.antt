@@ -18,4 +18,3 @@ pub mod Errors
 pub mod Law
 pub mod Memory
 pub mod RowOf
-pub mod Worked
