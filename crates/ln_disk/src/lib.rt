@@ -3,7 +3,8 @@
 //! `DiskFiles` meets the contract of `Files` and `StdConsole` that of `Console`: a refusal comes only where the count of
 //! faults rose or stands at `2^64 - 1`, and they tell nothing of their bytes, since no clause says which bytes reach or
 //! leave the system; that is what is trusted. What they do with a reader or a writer whose bytes are known has clauses: what
-//! was put is what the writer took (`put`), and what stands before a place in a file is passed over. Tests of `ln_trial_language` show the rest.
+//! was put is what the writer took (`put`), and what stands before a place in a file is passed over. Tests of
+//! `ln_trial_language` show the rest.
 #![tactic(auto)]
 
 pub mod console;

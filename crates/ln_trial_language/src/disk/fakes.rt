@@ -32,6 +32,7 @@ pub struct Paper {
 }
 
 impl Paper {
+    /// An empty paper with this habit, whose flush of this number fails, counted from 1; 0 for none.
     pub fn new(alloc: Global, habit: Habit, bad_flush: usize) -> Paper {
         Paper {
             held: Vec::new(alloc),
