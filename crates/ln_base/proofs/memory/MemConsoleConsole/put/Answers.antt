@@ -1,4 +1,4 @@
-use Rattle.std.proofs.Common.{rules, ◌⊎◌, refl, sym, true≢false}
+use Rattle.std.proofs.Common.{rules, arith, ◌≡◌, ◌⊎◌, inr, true, refl, sym, true≢false}
 use Rattle.std.specs.List.{Contains}
 use Rattle.ln_base.specs.Memory.{IsFull}
 use Rattle.ln_base.proofs.Kept.{neither}
@@ -47,3 +47,8 @@ returns-clause-cause c = tt
 
 pub returns-clause-step : goal.returns-clause-step
 returns-clause-step c = tt
+
+pub returns-clause-some : goal.returns-clause-some
+returns-clause-some c h =
+    let roomy : c.saturating_sub-left.result ≡ 0 → ⊥ = λ e. let t : c.is_refused.result ≡ true = c.is_refused.ensures.1 (inr (h, e)) in cc in
+    omega (arith, roomy, h, c.self.invariant)
