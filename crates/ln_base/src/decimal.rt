@@ -52,7 +52,12 @@ fn unsigned_64(digits: &[u8]) -> u64
 fn every_digit(bytes: &[u8]) -> bool
     ensures { result ≡ list_all is_ascii_digit bytes.now }
 {
-    bytes.iter().all(|b| b.is_ascii_digit())
+    'bytes: for b in bytes {
+        if !b.is_ascii_digit() {
+            return false;
+        }
+    }
+    true
 }
 
 /// Are the bytes one or more digits from 0 to 9?

@@ -6,7 +6,11 @@ fn line_feeds(bytes: &[u8]) -> usize
     ensures count { result ≡ count_by (λ b. b == 10) bytes.now }
     ensures within { result ≤ length bytes.now }
 {
-    bytes.iter().filter(|b| **b == 10).count()
+    let mut n = 0usize;
+    'each: for b in bytes {
+        n += usize::from(*b == 10);
+    }
+    n
 }
 
 fn since_line_feed(bytes: &[u8]) -> u32

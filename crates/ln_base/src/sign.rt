@@ -1,7 +1,7 @@
 //! Signs.
 
 /// The sign of a number.
-#[derive(Clone, Copy, Debug, PartialEq, Eq)]
+#[derive(Clone, Copy, PartialEq, Eq)]
 pub enum Sign {
     Minus,
     Zero,

@@ -1,5 +1,5 @@
 -- What stands while the scanner goes from token to token.
-use Rattle.std.proofs.Common.{◌≡◌, ◌∙◌, ℕ, ◌+◌, ◌-◌, ◌<◌, ◌≤◌, false, List, [], ◌∷◌, ◌++◌, length, drop, refl, ap, sym, arith, subst, length-drop, length-append}
+use Rattle.std.proofs.Common.{◌≡◌, ◌∙◌, ℕ, ◌+◌, ◌-◌, ◌<◌, ◌≤◌, false, List, [], ◌∷◌, ◌++◌, length, drop, refl, ap, sym, arith, subst, length-drop, length-append, Fits, w32, w64}
 use Rattle.std.proofs.lemmas.List.{drop-drop}
 use Rattle.ln_lex.specs.declared.token.Kind.{Kind}
 use Rattle.ln_lex.specs.declared.token.Token.{Token}
@@ -65,3 +65,26 @@ fault_behind {ts = ts} s e l d b c q r f =
 pub limit_behind : {bytes gap_bytes rest : List ℕ} {ts : List Token} {at g n : ℕ} {k : Kind} → Scanned bytes ts at → gap_bytes ≡ drop at bytes → g ≤ length gap_bytes → Skips gap_bytes g → begins_blank (drop g gap_bytes) ≡ false → begins_comment (drop g gap_bytes) ≡ false → (at + g ≡ length bytes → ⊥) → rest ≡ drop (at + g) bytes → IsFirst rest n k → length ts ≡ 65536 → IsLexLimit bytes (at + g)
 limit_behind {ts = ts} {n = n} {k = k} s e l d b c q r f m =
     record { before = ts; many = m; behind = behind_gap _ _ _ _ _ s e l d b c q; n = n; kind = k; token = subst (λ (xs : List ℕ). IsFirst xs n k) r f }
+
+-- a gap ends within the bytes
+pub gap_within : {bytes gap_bytes : List ℕ} {ts : List Token} {at g : ℕ} → Scanned bytes ts at → gap_bytes ≡ drop at bytes → g ≤ length gap_bytes → at + g ≤ length bytes
+gap_within {bytes = bytes} {at = at} s e l =
+    let long = ap length e ∙ length-drop at bytes in
+    omega (arith, long, l, s.within)
+
+-- so does a token behind it
+pub token_within : (bytes : List ℕ) (start : ℕ) {rest : List ℕ} {n : ℕ} {k : Kind} → start ≤ length bytes → rest ≡ drop start bytes → IsFirst rest n k → start + n ≤ length bytes
+token_within bytes start w r f =
+    let long = ap length r ∙ length-drop start bytes in
+    omega (arith, long, f.within, w)
+
+-- the place behind a token is nearer to the end
+pub token_nearer : (bytes : List ℕ) (at g : ℕ) {rest : List ℕ} {n : ℕ} {k : Kind} → at + g ≤ length bytes → rest ≡ drop (at + g) bytes → IsFirst rest n k → length bytes - (at + g + n) < length bytes - at
+token_nearer bytes at g w r f = omega (arith, w, f.some, token_within bytes (at + g) w r f)
+
+-- places within a source are small
+pub fits_32 : (bytes : List ℕ) (n : ℕ) → n ≤ length bytes → length bytes ≤ 1048576 → Fits w32 n
+fits_32 bytes n w s = omega (arith, w, s)
+
+pub fits_64 : (bytes : List ℕ) (n : ℕ) → n ≤ length bytes → length bytes ≤ 1048576 → Fits w64 n
+fits_64 bytes n w s = omega (arith, w, s)

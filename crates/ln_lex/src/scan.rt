@@ -1,5 +1,5 @@
 //! The scanner.
-ghost use Rattle.std.specs.Prelude.{◌≡◌, ℕ, ◌+◌, ◌<◌, ◌≤◌, ◌^◌, false, List, All, IfErr, IfNone, IfOk, IfSome, drop, length};
+ghost use Rattle.std.specs.Prelude.{◌≡◌, ℕ, ◌+◌, ◌<◌, ◌≤◌, ◌^◌, false, if◌then◌else◌, bytes_eq, List, All, IfErr, IfNone, IfOk, IfSome, drop, length};
 ghost use Rattle.ln_lex.specs.Answers.{IsAnswered};
 ghost use Rattle.ln_lex.specs.Tokens.{BeginsNone, IsFirst, IsLexFault, IsLexLimit, IsSlice, Lexed, RiseFrom};
 ghost use Rattle.ln_lex.specs.Tokens.{Skips, StopsLexing, begins_blank, begins_comment, comment_len, word_kind};
@@ -120,23 +120,22 @@ fn first(bytes: &[u8]) -> Option<(Kind, usize)>
     }
 }
 
+// The kind of a keyword where the text is that keyword, or else the other.
+fn or_keyword(text: &[u8], keyword: &[u8], kind: Kind, other: Kind) -> Kind
+    ensures { result ≡ (if bytes_eq text.now keyword.now then kind else other) }
+{
+    if text == keyword { kind } else { other }
+}
+
 // What a word is: a keyword, or else a name.
 fn word(text: &[u8]) -> Kind
     ensures { result ≡ word_kind text.now }
 {
-    if text == b"site".as_slice() {
-        Kind::Site
-    } else if text == b"param".as_slice() {
-        Kind::Param
-    } else if text == b"predicate".as_slice() {
-        Kind::Predicate
-    } else if text == b"let".as_slice() {
-        Kind::Let
-    } else if text == b"sign".as_slice() {
-        Kind::Sign
-    } else {
-        Kind::Name
-    }
+    let kind = or_keyword(text, b"sign", Kind::Sign, Kind::Name);
+    let kind = or_keyword(text, b"let", Kind::Let, kind);
+    let kind = or_keyword(text, b"predicate", Kind::Predicate, kind);
+    let kind = or_keyword(text, b"param", Kind::Param, kind);
+    or_keyword(text, b"site", Kind::Site, kind)
 }
 
 /// No bytes have two answers. Two lists of tokens are one; two faults, or two places of a token too many, are at one

@@ -1,5 +1,5 @@
 -- A file without a fault is within the limits: the table's tests, turned round.
-use Rattle.std.proofs.Common.{◌≡◌, ℕ, zero, suc, ◌+◌, ◌-◌, ◌<◌, ◌≤◌, ◌==◌, Bool, true, false, cond, not, ◌||◌, nat_lt, List, [], ◌∷◌, ◌++◌, length, Option, Some, None, refl, subst, arith}
+use Rattle.std.proofs.Common.{◌≡◌, ℕ, zero, suc, ◌+◌, ◌-◌, ◌<◌, ◌≤◌, ◌==◌, Bool, true, false, cond, not, ◌||◌, nat_lt, List, [], ◌∷◌, ◌++◌, length, Option, Some, None, refl, sym, true≢false, subst, arith}
 use Rattle.std.specs.Prelude.{count_by, int_lt, ℤ, pos, negsuc, ◌≤ℤ◌}
 use Rattle.std.specs.List.{list_any}
 use Rattle.std.proofs.lemmas.List.{length-append, append_assoc, append-nil}
@@ -119,8 +119,8 @@ coord_within bytes before c h =
 
 kind_within : (bytes : List ℕ) (is : List Item) (before : List RawArg) (a : RawArg) (b : Bool) → fault_at bytes (cond b (ArgParam is before a.name) (ArgSite is before)) a.kind ≡ None →
     IsKnown bytes is a b × (b ≡ true → (count_by is_param_arg before == 8) ≡ false) × (not b ≡ true → (count_by is_site_arg before == 5) ≡ false)
-kind_within bytes is before a true h = let r = rows_two (count_by is_param_arg before == 8) (not (has_param bytes is a.name)) _ _ h in (not_false _ r.1, λ q. r.0, λ q. absurd (cc))
-kind_within bytes is before a false h = let r = rows_three (nat_lt 32 (length (text bytes a.kind))) (count_by is_site_arg before == 5) (not (has_site bytes is a.kind)) _ _ _ h in (not_false _ r.2, λ q. absurd (cc), λ q. r.1)
+kind_within bytes is before a true h = let r = rows_two (count_by is_param_arg before == 8) (not (has_param bytes is a.name)) _ _ h in (not_false _ r.1, λ q. r.0, λ q. absurd (true≢false (sym q)))
+kind_within bytes is before a false h = let r = rows_three (nat_lt 32 (length (text bytes a.kind))) (count_by is_site_arg before == 5) (not (has_site bytes is a.kind)) _ _ _ h in (not_false _ r.2, λ q. absurd (true≢false (sym q)), λ q. r.1)
 
 arg_within : (bytes : List ℕ) (is : List Item) (before : List RawArg) (a : RawArg) → Clean bytes (arg_visits is before a) → ArgWithin bytes is before a
 arg_within bytes is before a h =

@@ -1,9 +1,15 @@
 -- Lists of items, and digits.
-use Rattle.std.proofs.Common.{◌≡◌, ℕ, suc, ◌+◌, ◌-◌, ◌*◌, ◌<◌, ◌≤◌, min, Bool, true, false, cond, ◌||◌, ◌⊎◌, inl, inr, List, [], ◌∷◌, length, get_or, drop, Some, refl, ap, arith, drop-cons, add-one}
+use Rattle.std.proofs.Common.{◌≡◌, ℕ, zero, suc, ◌+◌, ◌-◌, ◌*◌, ◌<◌, ◌≤◌, min, Bool, true, false, cond, ◌||◌, ◌⊎◌, inl, inr, List, [], ◌∷◌, length, get_or, take, drop, Some, refl, ap, sym, ◌∙◌, arith, drop-cons, add-one}
 use Rattle.std.specs.Prelude.{option_map}
-use Rattle.std.specs.List.{list_any, find, position_from}
+use Rattle.std.specs.List.{list_any, find, position_from, count_by}
+use Rattle.std.specs.Int.{from_bool}
+use Rattle.std.proofs.Math.ListN.{get_or-map}
+use Rattle.std.proofs.lemmas.List.{take_all, drop_all}
+use Rattle.ln_base.proofs.Counting.{counted_more, counted_fits}
 use Rattle.ln_syntax.specs.declared.raw.RawItem.{RawItem}
-use Rattle.ln_syntax.specs.Raw.{Item, item, items}
+use Rattle.ln_lex.specs.declared.token.Kind.{Kind}
+use Rattle.ln_lex.specs.declared.token.Token.{Token}
+use Rattle.ln_syntax.specs.Raw.{Item, item, items, kind_at}
 use Rattle.ln_names.specs.Numbers.{decimal}
 
 pub any_items : (p : Item → Bool) (is : List RawItem) → list_any p (items is) ≡ list_any (λ i. p (item i)) is
@@ -40,3 +46,41 @@ below_by false p i xs n h on = let q = on h in omega arith
 pub place_below : {A : Type 0} (p : A → Bool) (i : ℕ) (xs : List A) (n : ℕ) → position_from p i xs ≡ Some n → n < i + length xs
 place_below p i [] n h = absurd (cc)
 place_below p i (x ∷ xs) n h = below_by (p x) p i xs n h (place_below p (i + 1) xs n)
+
+item_at : (is : List RawItem) (i : ℕ) (x : RawItem) → i < length is → x ≡ get_or is i x → get_or (items is) i (item x) ≡ item x
+item_at is i x l e = get_or-map item is i x ∙ ap item (sym e)
+
+items_long : (is : List RawItem) → length (items is) ≡ length is
+items_long [] = refl
+items_long (i ∷ is) = ap suc (items_long is)
+
+-- one item more is counted
+pub items_counted : (p : Item → Bool) (is : List RawItem) (i n m : ℕ) (x : RawItem) → i < length is → x ≡ get_or is i x → n ≡ count_by p (take i (items is)) → m ≡ from_bool (p (item x)) → n + m ≡ count_by p (take (i + 1) (items is))
+items_counted p is i n m x l e c h =
+    counted_more p (items is) i n m (item x) (omega (arith, l, items_long is)) c (h ∙ ap (λ (w : Item). from_bool (p w)) (sym (item_at is i x l e)))
+
+-- so many items there are
+pub items_fit : (p : Item → Bool) (is : List RawItem) (i n m : ℕ) (x : RawItem) → i < length is → x ≡ get_or is i x → n ≡ count_by p (take i (items is)) → m ≡ from_bool (p (item x)) → n + m ≤ length is
+items_fit p is i n m x l e c h =
+    let most = counted_fits p (items is) i n m (item x) (omega (arith, l, items_long is)) c (h ∙ ap (λ (w : Item). from_bool (p w)) (sym (item_at is i x l e))) in
+    omega (arith, most, items_long is)
+
+-- all items are counted
+pub items_all : (p : Item → Bool) (is : List RawItem) (i n : ℕ) → length is ≤ i → n ≡ count_by p (take i (items is)) → n ≡ count_by p (items is)
+items_all p is i n l e = e ∙ ap (count_by p) (take_all i (items is) (omega (arith, l, items_long is)))
+
+-- a token that has a kind is there
+pub kind_within : (ts : List Token) (i : ℕ) (k : Kind) → kind_at ts i ≡ Some k → i < length ts
+kind_within [] i k h = absurd (cc)
+kind_within (t ∷ ts) zero k h = omega arith
+kind_within (t ∷ ts) (suc i) k h = let r = kind_within ts i k h in omega arith
+
+-- a loop that looks for an element: it is found, it isn't this one, there is none
+pub any_found : {X : Type 0} (p : X → Bool) (xs : List X) (i : ℕ) (d : X) → i < length xs → p (get_or xs i d) ≡ true → list_any p (drop i xs) ≡ list_any p xs → true ≡ list_any p xs
+any_found p xs i d l h e = sym (rw (drop-cons xs i d, h) refl) ∙ e
+
+pub any_on : {X : Type 0} (p : X → Bool) (xs : List X) (i : ℕ) (d : X) → i < length xs → p (get_or xs i d) ≡ false → list_any p (drop i xs) ≡ list_any p xs → list_any p (drop (i + 1) xs) ≡ list_any p xs
+any_on p xs i d l h e = rw add-one (sym (rw (drop-cons xs i d, h) refl) ∙ e)
+
+pub any_none : {X : Type 0} (p : X → Bool) (xs : List X) (i : ℕ) → length xs ≤ i → list_any p (drop i xs) ≡ list_any p xs → false ≡ list_any p xs
+any_none p xs i l e = sym (ap (list_any p) (drop_all i xs l)) ∙ e

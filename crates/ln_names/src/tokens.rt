@@ -62,19 +62,31 @@ fn any_param(bytes: &[u8], before: &[RawItem], at: Span) -> bool
 fn sites(before: &[RawItem]) -> usize
     ensures { result ≡ count_by is_site (items before.now) }
 {
-    before.iter().filter(|i| i.is_site()).count()
+    let mut n = 0usize;
+    'each: for i in before {
+        n += usize::from(i.is_site());
+    }
+    n
 }
 
 fn params(before: &[RawItem]) -> usize
     ensures { result ≡ count_by is_param (items before.now) }
 {
-    before.iter().filter(|i| i.is_param()).count()
+    let mut n = 0usize;
+    'each: for i in before {
+        n += usize::from(i.is_param());
+    }
+    n
 }
 
 fn preds(before: &[RawItem]) -> usize
     ensures { result ≡ count_by is_pred (items before.now) }
 {
-    before.iter().filter(|i| i.is_pred()).count()
+    let mut n = 0usize;
+    'each: for i in before {
+        n += usize::from(i.is_pred());
+    }
+    n
 }
 
 fn known_site(bytes: &[u8], before: &[RawItem], at: Span) -> bool
@@ -245,13 +257,21 @@ fn arg_twice(bytes: &[u8], before: &[RawArg], at: Span) -> bool
 fn site_args(before: &[RawArg]) -> usize
     ensures { result ≡ count_by is_site_arg before.now }
 {
-    before.iter().filter(|a| !a.is_param).count()
+    let mut n = 0usize;
+    'each: for a in before {
+        n += usize::from(!a.is_param);
+    }
+    n
 }
 
 fn param_args(before: &[RawArg]) -> usize
     ensures { result ≡ count_by is_param_arg before.now }
 {
-    before.iter().filter(|a| a.is_param).count()
+    let mut n = 0usize;
+    'each: for a in before {
+        n += usize::from(a.is_param);
+    }
+    n
 }
 
 /// The fault of an argument's name behind those `before` of its predicate: over 32 letters, or a name before.

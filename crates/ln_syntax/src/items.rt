@@ -241,7 +241,7 @@ fn end_at(ts: &[Token], at: usize) -> Read<RawEnd>
 }
 
 /// Is the token at this place of this kind?
-fn is(ts: &[Token], i: usize, kind: Kind) -> bool
+pub fn is(ts: &[Token], i: usize, kind: Kind) -> bool
     ensures { IsTrue result ↔ Is ts.now i kind }
 {
     match ts.get(i) {
@@ -250,8 +250,8 @@ fn is(ts: &[Token], i: usize, kind: Kind) -> bool
     }
 }
 
-/// The span of the token at this place.
-fn span_of(ts: &[Token], i: usize) -> Span
+/// The span of the token at this place; the empty span at 0, where there is none.
+pub fn span_of(ts: &[Token], i: usize) -> Span
     ensures { result ≡ span_at ts.now i }
 {
     match ts.get(i) {

@@ -125,7 +125,11 @@ fn all_are_of(args: &[Arg], vars: &[VarInfo]) -> bool
 fn starting_args(vars: &[VarInfo]) -> usize
     ensures { result ≡ count_by starts_arg vars.now }
 {
-    vars.iter().filter(|i| i.coord == 0).count()
+    let mut n = 0usize;
+    'each: for i in vars {
+        n += usize::from(i.coord == 0);
+    }
+    n
 }
 
 // Are the variables those of the arguments, and has each argument some?
@@ -163,7 +167,11 @@ fn coords_of(sites: &[Site], t: usize) -> usize
 fn vars_of(vars: &[VarInfo], k: usize) -> usize
     ensures { result ≡ count_by (λ i. i.arg == k) vars.now }
 {
-    vars.iter().filter(|i| usize::from(i.arg) == k).count()
+    let mut n = 0usize;
+    'each: for i in vars {
+        n += usize::from(usize::from(i.arg) == k);
+    }
+    n
 }
 
 fn arg_fits(sites: &[Site], params: &[Param], vars: &[VarInfo], k: usize, arg: &Arg) -> bool

@@ -7,11 +7,21 @@ ghost use Rattle.ln_tree.specs.Variables.{sites_behind, in_order, no_var, starts
 use crate::expr::Var;
 use crate::shape::VarInfo;
 
+fn is_var(i: &VarInfo, v: Var) -> bool
+    ensures { result ≡ is_var v.arg v.coord i.now }
+{
+    i.arg == v.arg && i.coord == v.coord
+}
+
 fn place_in(vars: &[VarInfo], v: Var) -> Option<usize>
     ensures { result ≡ position (is_var v.arg v.coord) vars.now }
 {
-    vars.iter()
-        .position(|i| i.arg == v.arg && i.coord == v.coord)
+    'each: for (k, i) in vars.iter().enumerate() {
+        if is_var(i, v) {
+            return Some(k);
+        }
+    }
+    None
 }
 
 /// The number of a variable, from 0; where there is no such variable, how many there are.
@@ -95,24 +105,41 @@ fn in_order(vars: &[VarInfo]) -> bool
     true
 }
 
+fn starts_site(i: &VarInfo) -> bool
+    ensures { result ≡ starts_site i.now }
+{
+    i.site.is_some() && i.coord == 0
+}
+
 fn starting_sites(vars: &[VarInfo]) -> usize
     ensures { result ≡ count_by starts_site vars.now }
 {
-    vars.iter()
-        .filter(|i| i.site.is_some() && i.coord == 0)
-        .count()
+    let mut n = 0usize;
+    'each: for i in vars {
+        n += usize::from(starts_site(i));
+    }
+    n
 }
 
 fn params(vars: &[VarInfo]) -> usize
     ensures { result ≡ count_by is_param vars.now }
 {
-    vars.iter().filter(|i| i.site.is_none()).count()
+    let mut n = 0usize;
+    'each: for i in vars {
+        n += usize::from(i.site.is_none());
+    }
+    n
 }
 
 fn have_ranges(vars: &[VarInfo]) -> bool
     ensures { result ≡ list_all has_range vars.now }
 {
-    vars.iter().all(|i| has_range(i))
+    'each: for i in vars {
+        if !has_range(i) {
+            return false;
+        }
+    }
+    true
 }
 
 /// Are these the variables of a shape with this many sites? They are in order of the arguments, for a site its

@@ -1,9 +1,9 @@
 -- The parts of an item, one behind the other: what a part is, where it stands, and where the next one begins.
-use Rattle.std.proofs.Common.{◌≡◌, true, false, ℕ, zero, suc, ◌+◌, ◌<◌, ◌≤◌, inl, inr, List, [], ◌∷◌, ◌++◌, length, refl, ap, sym, ◌∙◌, subst, arith, append_assoc}
+use Rattle.std.proofs.Common.{◌≡◌, true, false, ℕ, zero, suc, ◌+◌, ◌<◌, ◌≤◌, inl, inr, List, [], ◌∷◌, ◌++◌, length, refl, ap, sym, ◌∙◌, subst, arith, append_assoc, ◌^◌, Fits, w64}
 use Rattle.ln_base.specs.declared.span.Span.{Span}
 use Rattle.ln_lex.specs.declared.token.Token.{Token}
 use Rattle.ln_lex.specs.declared.token.Kind.{Kind}
-use Rattle.ln_lex.specs.declared.token.Kind.TheVariants.{Name, Site, Param, Let, Sign, BraceR, ParR, Colon, Semi, Comma, Dots, Minus}
+use Rattle.ln_lex.specs.declared.token.Kind.TheVariants.{Name, Number, Site, Param, Let, Sign, BraceR, ParR, Colon, Semi, Comma, Dots, Minus}
 use Rattle.ln_syntax.specs.declared.raw.RawEnd.{RawEnd}
 use Rattle.ln_syntax.specs.declared.raw.RawRange.{RawRange}
 use Rattle.ln_syntax.specs.declared.raw.RawCoord.{RawCoord}
@@ -11,7 +11,7 @@ use Rattle.ln_syntax.specs.declared.raw.RawArg.{RawArg}
 use Rattle.ln_syntax.specs.declared.raw.RawLet.{RawLet}
 use Rattle.ln_syntax.specs.Raw.{Item, SiteItem, ParamItem, PredItem, Is, span_at}
 use Rattle.ln_syntax.specs.Expression.{IsExpr}
-use Rattle.ln_syntax.specs.File.{End, plain, minus, Range, range, Coords, no_coord, coord, Arg, Args, last_arg, more_args, Lets, no_let, a_let, IsItem, site, param, predicate, Items, no_item, an_item, Spelt}
+use Rattle.ln_syntax.specs.File.{End, plain, minus, Range, range, Coords, no_coord, coord, Arg, site_arg, param_arg, Args, last_arg, more_args, Lets, no_let, a_let, IsItem, site, param, predicate, Items, no_item, an_item, Spelt}
 use Rattle.ln_syntax.specs.Reading.{HasEnd, HasRange, HasCoords, HasArg, HasArgs, HasLets, HasExpr, HasItem}
 use Rattle.ln_syntax.proofs.Recognising.Ahead.{NoSemi, before, no_semi, one_end}
 use Rattle.ln_syntax.proofs.Spellings.OneSpelling.{end_same, range_same, coords_same, args_same, lets_same, item_same, no_more}
@@ -21,6 +21,10 @@ pub is_within : (ts : List Token) (i : ℕ) (k : Kind) → Is ts i k → i < len
 is_within [] i k h = absurd (cc)
 is_within (t ∷ ts) zero k h = omega arith
 is_within (t ∷ ts) (suc i) k h = let r = is_within ts i k h in omega arith
+
+-- a place behind a token that is there, and the next few, are small
+pub near_fits : (ts : List Token) (i m : ℕ) (k : Kind) → Is ts i k → length ts < 2 ^ 32 → m ≤ 4 → Fits w64 (i + m)
+near_fits ts i m k t s l = omega (arith, is_within ts i k t, s, l)
 
 -- where no semicolon has come yet, an expression's end is still ahead
 pub end_ahead : {ts : List Token} {i k : ℕ} → HasExpr ts i → NoSemi ts i k → k < length ts
@@ -67,6 +71,29 @@ high_by {ts = ts} {j = j} {k = k} (range {j = q} {b = b} l m h) d =
 
 pub high_there : {ts : List Token} {i j : ℕ} {a : RawEnd} → HasRange ts i → End ts i j a → HasEnd ts (j + 1)
 high_there h d = high_by h.derives d
+
+end_fits_by : {i j : ℕ} {e : RawEnd} (ts : List Token) → End ts i j e → length ts < 2 ^ 32 → Fits w64 (i + 1)
+end_fits_by {i = i} ts (plain m) s = near_fits ts i 1 Number m s (omega arith)
+end_fits_by {i = i} ts (minus m n) s = near_fits ts i 1 Minus m s (omega arith)
+
+-- so is the place behind the first token of an end
+pub end_fits : {ts : List Token} {i : ℕ} → HasEnd ts i → length ts < 2 ^ 32 → Fits w64 (i + 1)
+end_fits {ts = ts} h s = end_fits_by ts h.derives s
+
+low_fits_by : {i j k : ℕ} {a : RawEnd} {r : RawRange} (ts : List Token) → Range ts i k r → End ts i j a → length ts < 2 ^ 32 → Fits w64 (j + 1)
+low_fits_by {j = j} ts (range l d h) x s = near_fits ts j 1 Dots (subst (λ (w : ℕ). Is ts w Dots) (end_same l x).place d) s (omega arith)
+
+-- the place behind the dots of a range is small
+pub low_fits : {ts : List Token} {i j : ℕ} {a : RawEnd} → HasRange ts i → End ts i j a → length ts < 2 ^ 32 → Fits w64 (j + 1)
+low_fits {ts = ts} h x s = low_fits_by ts h.derives x s
+
+arg_fits_by : {i : ℕ} {a : RawArg} (ts : List Token) (m : ℕ) → Arg ts i a → length ts < 2 ^ 32 → m ≤ 4 → Fits w64 (i + m)
+arg_fits_by {i = i} ts m (site_arg n c k) s l = near_fits ts i m Name n s l
+arg_fits_by {i = i} ts m (param_arg n c k) s l = near_fits ts i m Name n s l
+
+-- the places of an argument are small
+pub arg_fits : {ts : List Token} {i : ℕ} (m : ℕ) → HasArg ts i → length ts < 2 ^ 32 → m ≤ 4 → Fits w64 (i + m)
+arg_fits {ts = ts} m h s l = arg_fits_by ts m h.derives s l
 
 range_by : {ts : List Token} {i j k m : ℕ} {a b : RawEnd} {r : RawRange} → Range ts i k r → End ts i j a → End ts (j + 1) m b → Range ts i m (record { low = a; high = b })
 range_by {ts = ts} {j = j} {m = m} {b = b} (range l d h) x y =

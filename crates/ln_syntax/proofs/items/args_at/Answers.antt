@@ -1,6 +1,6 @@
 use Rattle.std.proofs.Common.{◌≡◌, true, arith, ◌+◌}
 use Rattle.ln_lex.specs.declared.token.Kind.TheVariants.{Comma}
-use Rattle.ln_syntax.proofs.Spellings.Parts.{is_within, arg_first, args_begin, args_last, args_more, args_stop}
+use Rattle.ln_syntax.proofs.Spellings.Parts.{is_within, arg_first, arg_fits, args_begin, args_last, args_more, args_stop}
 use Rattle.ln_syntax.proofs.items.args_at.Goals as goal
 
 pub returns-then-not-is-clause-ok : goal.returns-then-not-is-clause-ok
@@ -27,3 +27,6 @@ arguments-init c = rw c.new-args.ensures.items (args_begin c.requires.there)
 
 pub returns-then-not-is-clause-stops : goal.returns-then-not-is-clause-stops
 returns-then-not-is-clause-stops c = args_stop c.arguments.invariant.rest (λ q. let h : c.is.result ≡ true = c.is.ensures.1 q in cc)
+
+pub overflow_add-place : goal.overflow_add-place
+overflow_add-place c = arg_fits 3 (arg_first c.arguments.invariant.rest) c.requires.small (omega arith)

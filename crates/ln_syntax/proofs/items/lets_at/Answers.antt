@@ -1,4 +1,4 @@
-use Rattle.std.proofs.Common.{◌≡◌, true, arith}
+use Rattle.std.proofs.Common.{sym, ◌∙◌, true≢false, arith}
 use Rattle.ln_lex.specs.declared.token.Kind.TheVariants.{Let, Semi}
 use Rattle.ln_syntax.proofs.Recognising.Ahead.{no_semi}
 use Rattle.ln_syntax.proofs.Spellings.Parts.{is_within, let_expr, let_more, lets_begin, lets_stop}
@@ -35,4 +35,4 @@ pub expression_end-to-requires-clause-there : goal.expression_end-to-requires-cl
 expression_end-to-requires-clause-there c = let_expr c.lets.invariant.rest (c.is.ensures.0 c.lets-test.true)
 
 pub returns-clause-stops : goal.returns-clause-stops
-returns-clause-stops c = lets_stop c.lets.invariant.rest (λ q. let h : c.is.result ≡ true = c.is.ensures.1 q in cc)
+returns-clause-stops c = lets_stop c.lets.invariant.rest (λ q. true≢false (sym (c.is.ensures.1 q) ∙ c.lets-test.false))

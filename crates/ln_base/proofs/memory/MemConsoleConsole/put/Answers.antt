@@ -1,4 +1,4 @@
-use Rattle.std.proofs.Common.{rules, ◌⊎◌, refl, sym, true≢false}
+use Rattle.std.proofs.Common.{rules, arith, ◌≡◌, ◌⊎◌, inr, true, refl, sym, true≢false}
 use Rattle.std.specs.List.{Contains}
 use Rattle.ln_base.specs.Memory.{IsFull}
 use Rattle.ln_base.proofs.Kept.{neither}
@@ -14,3 +14,41 @@ returns-clause-exact c =
     let unlisted : Contains c.args.self.now.fails c.add.new.self.calls → ⊥ = search rules in
     let roomy : IsFull c.args.port c.args.self.now c.args.bytes.now → ⊥ = search rules in
     (λ e. absurd (true≢false (sym e)), neither unlisted roomy)
+
+pub returns-then-is_refused-clause-bound : goal.returns-then-is_refused-clause-bound
+returns-then-is_refused-clause-bound c = tt
+
+pub returns-then-is_refused-clause-some : goal.returns-then-is_refused-clause-some
+returns-then-is_refused-clause-some c = tt
+
+pub returns-then-is_refused-clause-ok : goal.returns-then-is_refused-clause-ok
+returns-then-is_refused-clause-ok c = tt
+
+pub returns-then-is_refused-clause-fine : goal.returns-then-is_refused-clause-fine
+returns-then-is_refused-clause-fine c = tt
+
+pub returns-then-is_refused-clause-taken : goal.returns-then-is_refused-clause-taken
+returns-then-is_refused-clause-taken c = tt
+
+pub returns-then-is_refused-clause-err : goal.returns-then-is_refused-clause-err
+returns-then-is_refused-clause-err c = rw (← c.self.view_is) refl
+
+pub returns-then-is_refused-clause-limits : goal.returns-then-is_refused-clause-limits
+returns-then-is_refused-clause-limits c = rw (← c.self.view_is) (refl, refl, refl)
+
+pub returns-then-is_refused-clause-calls : goal.returns-then-is_refused-clause-calls
+returns-then-is_refused-clause-calls c = rw (← c.self.view_is) c.saturating_add-self-inside.ensures
+
+pub returns-clause-err : goal.returns-clause-err
+returns-clause-err c = tt
+
+pub returns-clause-cause : goal.returns-clause-cause
+returns-clause-cause c = tt
+
+pub returns-clause-step : goal.returns-clause-step
+returns-clause-step c = tt
+
+pub returns-clause-some : goal.returns-clause-some
+returns-clause-some c h =
+    let roomy : c.saturating_sub-left.result ≡ 0 → ⊥ = λ e. let t : c.is_refused.result ≡ true = c.is_refused.ensures.1 (inr (h, e)) in cc in
+    omega (arith, roomy, h, c.self.invariant)
