@@ -2,6 +2,7 @@
 pub mod Lands
 pub mod Leaves
 pub mod Lets
+pub mod Operands
 pub mod Pushing
 pub mod Costs
 pub mod Writes

@@ -2,6 +2,8 @@
 use Rattle.std.specs.Prelude.{ℕ, zero, suc, ◌-◌, pos, unsigned_abs, List, [], ◌∷◌, ◌++◌, slice_index_or}
 use Rattle.ln_algebra.specs.Tree.{Tree, Num, Input, Name, Neg, Add, Sub, Mul, Pow}
 use Rattle.ln_tree.specs.declared.shape.VarInfo.{VarInfo}
+use Rattle.ln_bound.specs.declared.fitted.Two.{Two}
+use Rattle.ln_bound.specs.declared.fitted.Two.TheVariants.{Plus, Minus, Times}
 use Rattle.ln_bound.specs.declared.fitted.Width.TheVariants.{W64}
 use Rattle.ln_bound.specs.Value.{sizes}
 use Rattle.ln_code.specs.declared.op.Op.{Op}
@@ -27,6 +29,18 @@ trim_lines o a = line o a ∷ cut_lines (excess a.h) a
 -- a sum or a difference of operands with the triples a and b
 abbrev pub sum_lines : Op → List (Line Triple) → List (Line Triple) → Triple → Triple → List (Line Triple)
 sum_lines o xs ys a b = xs ++ (cut_lines (b.k - a.k) a ++ (ys ++ (cut_lines (a.k - b.k) b ++ trim_lines o (sum_of a b))))
+
+-- of an operation on two with operands of triples a and b, what follows the left operand
+abbrev pub left_lines : Two → Triple → Triple → List (Line Triple)
+left_lines Plus a b = cut_lines (b.k - a.k) a
+left_lines Minus a b = cut_lines (b.k - a.k) a
+left_lines Times a b = []
+
+-- and what follows the right one
+abbrev pub right_lines : Two → Triple → Triple → List (Line Triple)
+right_lines Plus a b = cut_lines (a.k - b.k) b ++ trim_lines (AddOp W64) (sum_of a b)
+right_lines Minus a b = cut_lines (a.k - b.k) b ++ trim_lines (SubOp W64) (sum_of a b)
+right_lines Times a b = trim_lines (MulOp W64) (product_of a b)
 
 -- one more factor: local 64 has the base, of triple a, and the power so far has the triple p
 abbrev pub factor_lines : Triple → Triple → List (Line Triple)

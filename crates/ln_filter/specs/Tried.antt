@@ -1,6 +1,6 @@
 -- Triples as they are worked out, node by node, up to the first that isn't steady.
 use Rattle.std.specs.Prelude.{ℕ, zero, suc, ◌^◌, ◌<◌, ◌≤◌, ◌&&◌, nat_le, Bool, unsigned_abs}
-use Rattle.std.specs.Prelude.{List, [], ◌∷◌, ◌++◌, Option, Some, slice_index_or}
+use Rattle.std.specs.Prelude.{◌≡◌, List, [], ◌∷◌, ◌++◌, Option, Some, IfSome, slice_index_or}
 use Rattle.ln_algebra.specs.Tree.{Tree, Num, Input, Name, Neg, Add, Sub, Mul, Pow}
 use Rattle.ln_tree.specs.declared.shape.VarInfo.{VarInfo}
 use Rattle.ln_bound.specs.Value.{sizes}
@@ -62,3 +62,9 @@ AreNarrow vars (Pow e n) = AreNarrow vars e
 abbrev pub AllNarrow : List VarInfo → List Tree → Type 0
 AllNarrow vars [] = Unit {0}
 AllNarrow vars (t ∷ ts) = AreNarrow vars t × AllNarrow vars ts
+
+-- what is told of a tree: its triple, or none where a node isn't steady
+pub record IsTried (vars : List VarInfo) (lets : List Triple) (t : Tree) (o : Option Triple) : Type 0 where
+  pub value : o ≡ tried vars lets t
+  pub small : IfSome o (λ a. IsSmall a)
+  pub narrow : IfSome o (λ a. AreNarrow vars t)

@@ -3,6 +3,8 @@ use Rattle.std.specs.Prelude.{ℕ, zero, suc, ◌+◌, ◌-◌, ◌*◌, ◌/◌
 use Rattle.std.specs.Prelude.{List, [], ◌∷◌, ◌++◌, slice_index_or, if◌then◌else◌}
 use Rattle.ln_algebra.specs.Tree.{Tree, Num, Input, Name, Neg, Add, Sub, Mul, Pow}
 use Rattle.ln_tree.specs.declared.shape.VarInfo.{VarInfo}
+use Rattle.ln_bound.specs.declared.fitted.Two.{Two}
+use Rattle.ln_bound.specs.declared.fitted.Two.TheVariants.{Plus, Minus, Times}
 use Rattle.ln_bound.specs.Value.{sizes}
 use Rattle.ln_code.specs.declared.op.Triple.{Triple}
 use Rattle.ln_code.specs.FilterRules.{error_after}
@@ -54,6 +56,23 @@ added a b = trimmed (sum_of a b)
 
 abbrev pub multiplied : Triple → Triple → Triple
 multiplied a b = trimmed (product_of a b)
+
+-- of a sum, a difference or a product
+abbrev pub both : Two → Triple → Triple → Triple
+both Plus a b = added a b
+both Minus a b = added a b
+both Times a b = multiplied a b
+
+-- which operation on two an expression is, where it is one
+abbrev pub kind_of : Tree → Two
+kind_of (Num c) = Plus
+kind_of (Input v) = Plus
+kind_of (Name j) = Plus
+kind_of (Neg e) = Plus
+kind_of (Add e f) = Plus
+kind_of (Sub e f) = Minus
+kind_of (Mul e f) = Times
+kind_of (Pow e n) = Plus
 
 -- of the n-th power: the number 1, the base, or the power before it times the base
 abbrev pub powered : Triple → ℕ → Triple

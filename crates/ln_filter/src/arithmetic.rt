@@ -5,12 +5,13 @@ ghost use Rattle.ln_tree.specs.Variables.{has_range};
 ghost use Rattle.ln_bound.specs.Typed.{untyped};
 ghost use Rattle.ln_bound.specs.Value.{sizes};
 ghost use Rattle.ln_bound.specs.View.{typed};
+ghost use Rattle.ln_code.specs.Engine.{next};
 ghost use Rattle.ln_code.specs.FilterRules.{error_after};
 ghost use Rattle.ln_code.specs.Kept.{no_triple};
-ghost use Rattle.ln_filter.specs.Triples.{cut, excess, leaf, product_of, sum_of, trimmed, whole};
-ghost use Rattle.ln_filter.specs.Tried.{AreNarrow, IsSmall, of_raw, power_tried, settled, tried};
+ghost use Rattle.ln_filter.specs.Triples.{both, cut, excess, kind_of, leaf, product_of, sum_of, trimmed, whole};
+ghost use Rattle.ln_filter.specs.Tried.{IsSmall, IsTried, of_raw, power_tried, settled};
 
-use ln_bound::{FitOp, Fitted};
+use ln_bound::{FitOp, Fitted, Two};
 use ln_code::{Triple, error_after, shifted};
 use ln_tree::VarInfo;
 
@@ -156,37 +157,61 @@ pub(crate) fn let_triple(lets: &[Triple], j: u8) -> Triple
     }
 }
 
+/// Which operation on two a tree is, where it is one; else a sum.
+pub(crate) fn kind_of(t: &Fitted) -> Two
+    ensures { result ≡ kind_of (untyped (typed t.now)) }
+{
+    match &t.op {
+        FitOp::Sub(_, _) => Two::Minus,
+        FitOp::Mul(_, _) => Two::Times,
+        _ => Two::Plus,
+    }
+}
+
+// The triple of an operation on two, where both operands have one.
+fn both(kind: Two, a: Option<Triple>, b: Option<Triple>) -> Option<Triple>
+    requires left { IfSome a (λ x. IsSmall x) }
+    requires right { IfSome b (λ x. IsSmall x) }
+    ensures value { result ≡ next a (λ x. next b (λ y. settled (both kind x y))) }
+    ensures small { IfSome result (λ x. IsSmall x) }
+{
+    let a = a?;
+    let b = b?;
+    match kind {
+        Two::Plus | Two::Minus => trimmed(sum(a, b)),
+        Two::Times => trimmed(product(a, b)),
+    }
+}
+
+// The triple of a power, where the base has one.
+fn raised(a: Option<Triple>, n: u8) -> Option<Triple>
+    requires { IfSome a (λ x. IsSmall x) }
+    ensures value { result ≡ next a (λ x. power_tried x n) }
+    ensures small { IfSome result (λ x. IsSmall x) }
+{
+    let a = a?;
+    powered(a, n)
+}
+
 /// The triple of a tree, or none where one of its nodes has too large an error or exponent.
 pub(crate) fn tried(vars: &[VarInfo], lets: &[Triple], t: &Fitted) -> Option<Triple>
     requires ranges { list_all has_range vars.now ≡ true }
     requires lets { All IsSmall lets.now }
-    ensures value { result ≡ tried vars.now lets.now (untyped (typed t.now)) }
-    ensures small { IfSome result (λ a. IsSmall a) }
-    ensures narrow { IfSome result (λ a. AreNarrow vars.now (untyped (typed t.now))) }
+    ensures { IsTried vars.now lets.now (untyped (typed t.now)) result }
 {
     match &t.op {
         FitOp::Num(c) => Some(leaf(c.unsigned_abs())),
         FitOp::Input(v) => Some(leaf(u128::from(size_at(vars, *v)))),
         FitOp::Let(j) => Some(let_triple(lets, *j)),
         FitOp::Neg(x) => tried(vars, lets, x),
-        FitOp::Add(x, y) => {
-            let a = tried(vars, lets, x)?;
-            let b = tried(vars, lets, y)?;
-            trimmed(sum(a, b))
-        }
-        FitOp::Sub(x, y) => {
-            let a = tried(vars, lets, x)?;
-            let b = tried(vars, lets, y)?;
-            trimmed(sum(a, b))
-        }
-        FitOp::Mul(x, y) => {
-            let a = tried(vars, lets, x)?;
-            let b = tried(vars, lets, y)?;
-            trimmed(product(a, b))
+        FitOp::Add(x, y) | FitOp::Sub(x, y) | FitOp::Mul(x, y) => {
+            let a = tried(vars, lets, x);
+            let b = tried(vars, lets, y);
+            both(kind_of(t), a, b)
         }
         FitOp::Pow(x, n) => {
-            let a = tried(vars, lets, x)?;
-            powered(a, *n)
+            let a = tried(vars, lets, x);
+            raised(a, *n)
         }
     }
 }

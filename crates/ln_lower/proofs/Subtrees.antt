@@ -1,4 +1,5 @@
 -- Equal subtrees, kept in locals.
 pub mod Bounding
 pub mod Numbering
+pub mod Operands
 pub mod Sharing

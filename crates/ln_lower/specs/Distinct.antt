@@ -2,6 +2,8 @@
 use Rattle.std.specs.Prelude.{◌≡◌, ℕ, List, [], ◌∷◌, Option, Some, None, slice_get}
 use Rattle.ln_interval.specs.Range.{Range}
 use Rattle.ln_bound.specs.declared.fitted.Width.{Width}
+use Rattle.ln_bound.specs.declared.fitted.Two.{Two}
+use Rattle.ln_bound.specs.declared.fitted.Two.TheVariants.{Plus}
 use Rattle.ln_bound.specs.Typed.{Typed, TNum, TInput, TLet, TNeg, TTwo, TPow}
 use Rattle.ln_lower.specs.declared.distinct.Key.{Key}
 use Rattle.ln_lower.specs.declared.distinct.KeyOp.{KeyOp}
@@ -9,6 +11,15 @@ use Rattle.ln_lower.specs.declared.distinct.KeyOp.TheVariants.{Number, Variable,
 
 abbrev pub key : KeyOp → Range → Width → Key
 key o p w = record { op = o; low = p.low; high = p.high; width = w }
+
+-- which operation on two a tree is, where it is one
+abbrev pub kind_of : Typed → Two
+kind_of (TNum c p w) = Plus
+kind_of (TInput v p w) = Plus
+kind_of (TLet j p w) = Plus
+kind_of (TNeg t p w) = Plus
+kind_of (TTwo o s t p w) = o
+kind_of (TPow t n p w) = Plus
 
 -- number k is this tree
 abbrev pub Stands : List Key → ℕ → Typed → Type 0

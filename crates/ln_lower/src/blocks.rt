@@ -11,17 +11,18 @@ ghost use Rattle.ln_bound.specs.Sound.{AreSound, Sound};
 ghost use Rattle.ln_bound.specs.View.{typed};
 ghost use Rattle.ln_code.specs.Rules.{Known};
 ghost use Rattle.ln_code.specs.Part.{block_value, known_of};
-ghost use Rattle.ln_code.specs.Kept.{AreOfSites, FollowsRules};
+ghost use Rattle.ln_code.specs.Kept.{AreOfSites, FollowsRules, IsBlock};
 ghost use Rattle.ln_code.specs.Nodes.{IsNodeOf};
 ghost use Rattle.ln_lower.specs.Nodes.{KeepsLets, PushNodes, pushed_by};
-ghost use Rattle.ln_lower.specs.Lowered.{factors, line, power_of, PowersFit};
-ghost use Rattle.ln_lower.specs.Distinct.{AllStand, Stands};
+ghost use Rattle.ln_lower.specs.Lowered.{factors, line, op_of, power_of, PowersFit};
+ghost use Rattle.ln_lower.specs.declared.distinct.Key.{Key};
+ghost use Rattle.ln_lower.specs.Distinct.{AllStand, Stands, kind_of};
 ghost use Rattle.ln_lower.specs.Wrote.{Drafted, MayKeep, Puts, PutsLast, PutsLet, PutsLets, Wrote};
 
-use crate::distinct::{Distinct, number};
+use crate::distinct::{Distinct, kind_of, number};
 use crate::draft::{Draft, nothing};
 use ln_base::{NoMemory, Seq};
-use ln_bound::{FitOp, Fitted, Width};
+use ln_bound::{FitOp, Fitted, Two, Width};
 use ln_code::{Block, Op};
 use ln_interval::Pair;
 use ln_tree::{Exps, Shape};
@@ -100,6 +101,17 @@ fn put_done(
     put_kept(draft, distinct.is_shared(k), k, pair)
 }
 
+// The operation on two that a tree is.
+fn op_of(t: &Fitted) -> Op
+    ensures { result ≡ op_of (kind_of (typed t.now)) t.now.width }
+{
+    match kind_of(t) {
+        Two::Plus => Op::Add(t.width),
+        Two::Minus => Op::Sub(t.width),
+        Two::Times => Op::Mul(t.width),
+    }
+}
+
 // The operations of a tree, whose number is k.
 fn put_tree(draft: &mut Draft, distinct: &Distinct, t: &Fitted, k: usize) -> Result<(), NoMemory>
     requires powers { PowersFit (typed t.now) }
@@ -117,20 +129,10 @@ fn put_tree(draft: &mut Draft, distinct: &Distinct, t: &Fitted, k: usize) -> Res
             put_tree(draft, distinct, x, distinct.operand(k))?;
             put_done(draft, distinct, Op::Neg(t.width), t.pair, k)
         }
-        FitOp::Add(x, y) => {
+        FitOp::Add(x, y) | FitOp::Sub(x, y) | FitOp::Mul(x, y) => {
             put_tree(draft, distinct, x, distinct.operand(k))?;
             put_tree(draft, distinct, y, distinct.right(k))?;
-            put_done(draft, distinct, Op::Add(t.width), t.pair, k)
-        }
-        FitOp::Sub(x, y) => {
-            put_tree(draft, distinct, x, distinct.operand(k))?;
-            put_tree(draft, distinct, y, distinct.right(k))?;
-            put_done(draft, distinct, Op::Sub(t.width), t.pair, k)
-        }
-        FitOp::Mul(x, y) => {
-            put_tree(draft, distinct, x, distinct.operand(k))?;
-            put_tree(draft, distinct, y, distinct.right(k))?;
-            put_done(draft, distinct, Op::Mul(t.width), t.pair, k)
+            put_done(draft, distinct, op_of(t), t.pair, k)
         }
         FitOp::Pow(x, n) => {
             if *n == 0 {
@@ -198,30 +200,88 @@ fn put_lets(
     Ok(())
 }
 
-// The operations of the lets and of a tree behind them, whose subtrees have these numbers.
-fn drafted(
-    alloc: Global,
+// Puts the operations of the lets and of a tree behind them, whose subtrees have these numbers.
+fn put_all(
+    draft: &mut Draft,
     distinct: &Distinct,
     lets: &[Fitted],
     numbers: &[usize],
     t: &Fitted,
     k: usize,
-) -> Result<Draft, NoMemory>
+) -> Result<(), NoMemory>
     requires few { length lets.now ≤ 64 }
     requires powers { All (λ u. PowersFit (typed u)) lets.now }
     requires stand { AllStand distinct.now.keys numbers.now (map typed lets.now) }
     requires root { PowersFit (typed t.now) }
     requires stands { Stands distinct.now.keys k (typed t.now) }
-    ensures { IfOk result (λ d. Drafted distinct.now.keys (map typed lets.now) (typed t.now) d) }
+    requires ops { draft.now.ops ≡ [] }
+    requires pairs { draft.now.pairs ≡ [] }
+    requires kept { draft.now.kept ≡ [] }
+    ensures { OnOk result (Drafted distinct.now.keys (map typed lets.now) (typed t.now) draft.new) }
 {
+    put_lets(draft, distinct, lets, numbers)?;
+    put_tree(draft, distinct, t, k)
+}
+
+// The operations of the lets, whose subtrees have these numbers, and of a tree behind them.
+fn drafted(
+    alloc: Global,
+    distinct: &mut Distinct,
+    lets: &[Fitted],
+    numbers: &[usize],
+    t: &Fitted,
+) -> Result<Draft, NoMemory>
+    requires few { length lets.now ≤ 64 }
+    requires powers { All (λ u. PowersFit (typed u)) lets.now }
+    requires stand { AllStand distinct.old.keys numbers.now (map typed lets.now) }
+    requires root { PowersFit (typed t.now) }
+    ensures { IfOk result (λ d. Drafted distinct.new.keys (map typed lets.now) (typed t.now) d) }
+{
+    let k = number(distinct, t)?;
+    distinct.place(k);
     let mut draft = Draft {
         ops: Seq::new(alloc),
         pairs: Seq::new(alloc),
         kept: Seq::new(alloc),
     };
-    put_lets(&mut draft, distinct, lets, numbers)?;
-    put_tree(&mut draft, distinct, t, k)?;
+    put_all(&mut draft, distinct, lets, numbers, t, k)?;
     Ok(draft)
+}
+
+// The operations of the lets and of a tree behind them, whose subtrees get their numbers.
+fn numbered(
+    alloc: Global,
+    distinct: &mut Distinct,
+    lets: &[Fitted],
+    t: &Fitted,
+) -> Result<Draft, NoMemory>
+    requires few { length lets.now ≤ 64 }
+    requires powers { All (λ u. PowersFit (typed u)) lets.now }
+    requires root { PowersFit (typed t.now) }
+    ensures { IfOk result (λ d. Drafted distinct.new.keys (map typed lets.now) (typed t.now) d) }
+{
+    let numbers = number_all(alloc, distinct, lets)?;
+    drafted(alloc, distinct, lets, numbers.as_slice(), t)
+}
+
+// The operations of the lets and of a tree behind them.
+fn written(alloc: Global, lets: &[Fitted], t: &Fitted) -> Result<Draft, NoMemory>
+    requires few { length lets.now ≤ 64 }
+    requires powers { All (λ u. PowersFit (typed u)) lets.now }
+    requires root { PowersFit (typed t.now) }
+    ensures { IfOk result (λ d. (ks : List Key) × Drafted ks (map typed lets.now) (typed t.now) d) }
+{
+    let mut distinct = Distinct::new(alloc)?;
+    numbered(alloc, &mut distinct, lets, t)
+}
+
+// The block of what was drafted, which computes the derivative of these exponents.
+fn finished(a: &Exps, draft: Draft) -> Result<Block, NoMemory>
+    requires { IsBlock (record { exps = a.now; ops = draft.ops; pairs = map range draft.pairs; depth = 2048 }) }
+    ensures { IfOk result (λ b. b ≡ record { exps = a.now; ops = draft.ops; pairs = map range draft.pairs; depth = 2048 }) }
+{
+    let exps = a.copy()?;
+    Ok(Block::seal(exps, draft.ops, draft.pairs, 2048))
 }
 
 /// The block of a tree with its lets, which computes the derivative of these exponents. The exponents are of coordinates of
@@ -256,11 +316,6 @@ pub fn lower(
     ensures locals { IfOk result (λ b. KeepsLets s.now.vars b (map typed lets.now)) }
     ensures small { IfOk result (λ b. length b.ops ≤ 4 * (cost (typed t.now) + costs (map typed lets.now)) + 64) }
 {
-    let mut distinct = Distinct::new(alloc)?;
-    let numbers = number_all(alloc, &mut distinct, lets.as_slice())?;
-    let k = number(&mut distinct, t)?;
-    distinct.place(k);
-    let draft = drafted(alloc, &distinct, lets.as_slice(), numbers.as_slice(), t, k)?;
-    let exps = a.copy()?;
-    Ok(Block::seal(exps, draft.ops, draft.pairs, 2048))
+    let draft = written(alloc, lets.as_slice(), t)?;
+    finished(a, draft)
 }

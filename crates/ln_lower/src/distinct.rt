@@ -2,7 +2,7 @@
 ghost use Rattle.std.specs.Prelude.{◌≡◌, IfOk, IfSome, IsTrue, Some, slice_get};
 ghost use Rattle.ln_interval.specs.View.{range};
 ghost use Rattle.ln_bound.specs.View.{typed};
-ghost use Rattle.ln_lower.specs.Distinct.{Added, Numbered, key, operand_or, right_or};
+ghost use Rattle.ln_lower.specs.Distinct.{Added, Numbered, key, kind_of, operand_or, right_or};
 
 use crate::hints::{Hints, hash_of};
 use ln_base::{NoMemory, Seq};
@@ -198,36 +198,44 @@ fn key_of(op: KeyOp, t: &Fitted) -> Key
     }
 }
 
+/// Which operation on two a tree is, where it is one; else a sum.
+pub(crate) fn kind_of(t: &Fitted) -> Two
+    ensures { result ≡ kind_of (typed t.now) }
+{
+    match &t.op {
+        FitOp::Sub(_, _) => Two::Minus,
+        FitOp::Mul(_, _) => Two::Times,
+        _ => Two::Plus,
+    }
+}
+
+// The number of a tree with this operation over its operands' numbers, a new one where it isn't there.
+fn noted(distinct: &mut Distinct, op: KeyOp, t: &Fitted) -> Result<usize, NoMemory>
+    ensures { IfOk result (λ k. Added distinct.old.keys distinct.new.keys k (key op (range t.now.pair) t.now.width)) }
+{
+    distinct.add(key_of(op, t))
+}
+
 /// The number of a tree, which is put behind its subtrees where it isn't there.
 pub(crate) fn number(distinct: &mut Distinct, t: &Fitted) -> Result<usize, NoMemory>
     ensures { IfOk result (λ k. Numbered distinct.old.keys distinct.new.keys k (typed t.now)) }
 {
     match &t.op {
-        FitOp::Num(c) => distinct.add(key_of(KeyOp::Number(*c), t)),
-        FitOp::Input(v) => distinct.add(key_of(KeyOp::Variable(*v), t)),
-        FitOp::Let(j) => distinct.add(key_of(KeyOp::Name(*j), t)),
+        FitOp::Num(c) => noted(distinct, KeyOp::Number(*c), t),
+        FitOp::Input(v) => noted(distinct, KeyOp::Variable(*v), t),
+        FitOp::Let(j) => noted(distinct, KeyOp::Name(*j), t),
         FitOp::Neg(x) => {
             let a = number(distinct, x)?;
-            distinct.add(key_of(KeyOp::Opposite(a), t))
+            noted(distinct, KeyOp::Opposite(a), t)
         }
-        FitOp::Add(x, y) => {
+        FitOp::Add(x, y) | FitOp::Sub(x, y) | FitOp::Mul(x, y) => {
             let a = number(distinct, x)?;
             let b = number(distinct, y)?;
-            distinct.add(key_of(KeyOp::Both(Two::Plus, a, b), t))
-        }
-        FitOp::Sub(x, y) => {
-            let a = number(distinct, x)?;
-            let b = number(distinct, y)?;
-            distinct.add(key_of(KeyOp::Both(Two::Minus, a, b), t))
-        }
-        FitOp::Mul(x, y) => {
-            let a = number(distinct, x)?;
-            let b = number(distinct, y)?;
-            distinct.add(key_of(KeyOp::Both(Two::Times, a, b), t))
+            noted(distinct, KeyOp::Both(kind_of(t), a, b), t)
         }
         FitOp::Pow(x, n) => {
             let a = number(distinct, x)?;
-            distinct.add(key_of(KeyOp::Raised(a, *n), t))
+            noted(distinct, KeyOp::Raised(a, *n), t)
         }
     }
 }

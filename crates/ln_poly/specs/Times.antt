@@ -1,6 +1,7 @@
 -- The exponents of a product.
 use Rattle.std.specs.Prelude.{◌≡◌, ℕ, ◌+◌, ◌<◌, ◌≤◌, eqb, [], ◌∷◌, length, drop, if◌then◌else◌}
 use Rattle.ln_tree.specs.Exps.{AllAbove, IsRising, Pairs, exponent}
+use Rattle.ln_poly.specs.declared.times.Pick.{Pick}
 
 -- what one pair adds to the exponent of v
 abbrev pub power_at : ℕ → ℕ × ℕ → ℕ
@@ -17,6 +18,22 @@ pub record Picks (la lb la' lb' : Pairs) (v e : ℕ) : Type 0 where
   pub kept_right : (w : ℕ) → AllAbove w lb → AllAbove w lb'
   pub rising_left : IsRising la'
   pub rising_right : IsRising lb'
+
+-- what is left from i and j on, some of it, is to be merged
+pub record MayPick (a b : Pairs) (i j : ℕ) : Type 0 where
+  pub left : i ≤ length a
+  pub right : j ≤ length b
+  pub some : i + j < length a + length b
+  pub rising_left : IsRising (drop i a)
+  pub rising_right : IsRising (drop j b)
+  pub small : (v : ℕ) → exponent v (drop i a) + exponent v (drop j b) < 128
+
+-- p is picked there, and stands before what is left behind it
+pub record IsPicked (a b : Pairs) (i j : ℕ) (p : Pick) : Type 0 where
+  pub picks : Picks (drop i a) (drop j b) (drop p.i a) (drop p.j b) p.v p.e
+  pub left : p.i ≤ length a
+  pub right : p.j ≤ length b
+  pub further : i + j < p.i + p.j
 
 -- each variable of the first is below each of the second
 abbrev pub AreLow : Pairs → Pairs → Type 0

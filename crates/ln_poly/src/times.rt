@@ -1,7 +1,7 @@
 //! Products of monomials.
-ghost use Rattle.std.specs.Prelude.{◌≡◌, ℕ, ◌+◌, ◌<◌, ◌≤◌, IfOk, length, drop, slice_index_or};
+ghost use Rattle.std.specs.Prelude.{◌≡◌, ℕ, ◌+◌, ◌<◌, IfOk, length, slice_index_or};
 ghost use Rattle.ln_tree.specs.Exps.{IsRising, exponent};
-ghost use Rattle.ln_poly.specs.Times.{Picks};
+ghost use Rattle.ln_poly.specs.Times.{IsPicked, MayPick};
 
 use ln_base::NoMemory;
 use ln_tree::Exps;
@@ -36,16 +36,8 @@ fn second(b: &[(u8, u8)], i: usize, j: usize) -> Pick
 
 // The pair of the lowest variable from two places on; where both lists have it, with the sum of its exponents.
 fn lowest(a: &[(u8, u8)], b: &[(u8, u8)], i: usize, j: usize) -> Pick
-    requires left { i ≤ length a.now }
-    requires right { j ≤ length b.now }
-    requires some { i + j < length a.now + length b.now }
-    requires rising_left { IsRising (drop i a.now) }
-    requires rising_right { IsRising (drop j b.now) }
-    requires small { (v : ℕ) → exponent v (drop i a.now) + exponent v (drop j b.now) < 128 }
-    ensures picks { Picks (drop i a.now) (drop j b.now) (drop result.i a.now) (drop result.j b.now) result.v result.e }
-    ensures left { result.i ≤ length a.now }
-    ensures right { result.j ≤ length b.now }
-    ensures further { i + j < result.i + result.j }
+    requires { MayPick a.now b.now i j }
+    ensures { IsPicked a.now b.now i j result }
 {
     if j == b.len() {
         return first(a, i, j);

@@ -1,23 +1,26 @@
 -- Drafts, one piece after the other.
 use Rattle.std.proofs.Common.{◌≡◌, ℕ, ◌+◌, ◌-◌, ◌≤◌, ◌<◌, List, [], ◌∷◌, ◌++◌, length, map, drop, get_or, refl, zero, suc, ap, arith, ◌∙◌, sym, subst, append_assoc, append-nil}
-use Rattle.std.specs.Prelude.{Option, Some, None, All, IfSome, ◌≢◌}
-use Rattle.ln_algebra.specs.Tree.{Tree, Neg, Add, Sub, Mul, Pow}
+use Rattle.std.specs.Prelude.{Option, Some, None, All, IfSome, ◌≢◌, pos}
+use mathlib.Core.Logic.{◌⊎◌, inl, inr}
+use Rattle.ln_algebra.specs.Tree.{Tree, Neg, Pow}
 use Rattle.ln_tree.specs.declared.shape.VarInfo.{VarInfo}
 use Rattle.ln_bound.specs.declared.fitted.Fitted.{Fitted}
-use Rattle.ln_bound.specs.Typed.{untyped}
+use Rattle.ln_bound.specs.declared.fitted.Two.{Two}
+use Rattle.ln_bound.specs.declared.fitted.Two.TheVariants.{Plus, Minus, Times}
+use Rattle.ln_bound.specs.Typed.{two_of, untyped}
 use Rattle.ln_bound.specs.View.{typed}
 use Rattle.ln_bound.specs.declared.fitted.Width.TheVariants.{W64}
 use Rattle.ln_code.specs.declared.op.Op.{Op}
-use Rattle.ln_code.specs.declared.op.Op.TheVariants.{Set, Add as AddOp, Sub as SubOp, Mul as MulOp, Neg as NegOp}
+use Rattle.ln_code.specs.declared.op.Op.TheVariants.{Push, Get, Set, Neg as NegOp, Cut}
 use Rattle.ln_code.specs.declared.op.Triple.{Triple}
 use Rattle.ln_code.specs.Engine.{Line, next}
 use Rattle.ln_code.specs.Kept.{no_triple}
 use Rattle.ln_filter.specs.declared.draft.Draft.{Draft}
-use Rattle.ln_filter.specs.Triples.{cut, excess, trimmed, triple, sum_of, product_of, multiplied, powered}
+use Rattle.ln_filter.specs.Triples.{added, both, cut, excess, leaf, sum_of, trimmed, triple, multiplied, powered}
 use Rattle.ln_filter.specs.Steady.{IsSteady, ArePowersSteady, AreSteady}
 use Rattle.ln_filter.specs.Tried.{IsSmall, tried, lets_tried, AreNarrow, AllNarrow}
-use Rattle.ln_filter.specs.Lines.{line, cut_lines, trim_lines, sum_lines, factor_lines, factors, power_of, powers, filter_lines, let_lines}
-use Rattle.ln_filter.specs.Wrote.{Wrote, ops_in, triples_in}
+use Rattle.ln_filter.specs.Lines.{line, cut_lines, trim_lines, left_lines, right_lines, factor_lines, factors, power_of, powers, filter_lines, let_lines}
+use Rattle.ln_filter.specs.Wrote.{Gives, LetsPut, Wrote, ops_in, triples_in}
 use Rattle.ln_filter.proofs.Truncation.Steady.{steady_tried, tried_steady, trimmed_small, all_snoc}
 
 ops_append : (a b : List (Line Triple)) → ops_in (a ++ b) ≡ ops_in a ++ ops_in b
@@ -81,44 +84,100 @@ continues_next vars start a b c j done ts us t x all e h p q f d w =
     let y : let_lines vars j done ts ≡ filter_lines vars done t ++ (line (Set j) no_triple ∷ let_lines vars (suc j) (done ++ (triple vars done t ∷ [])) us) = rw e refl in
     f d (wrote_then a b d _ _ _ y p (wrote_then b c d (line (Set j) no_triple ∷ []) _ _ refl q v))
 
+-- ---- what leaves a triple
+
+-- more operations in front
+pub gives_then : (d e f : Draft) (l m n : List (Line Triple)) (want a : Triple) → n ≡ l ++ m → Wrote d e l → Gives e f m want a → Gives d f n want a
+gives_then d e f l m n want a i w g = record { triple = g.triple; small = g.small; wrote = wrote_then d e f l m n i w g.wrote }
+
+-- nothing is left to write
+pub gives_self : (d : Draft) (a : Triple) → IsSmall a → Gives d d [] a a
+gives_self d a s = record { triple = refl; small = s; wrote = nothing_written d }
+
+-- the operations and the triple by other names
+pub gives_as : (d e : Draft) (l m : List (Line Triple)) (want is a : Triple) → l ≡ m → want ≡ is → Gives d e l want a → Gives d e m is a
+gives_as d e l m want is a i h g = record { triple = g.triple ∙ h; small = g.small; wrote = subst (Wrote d e) i g.wrote }
+
+pub cut_written : (n : ℕ) (a : Triple) → n ≢ 0 → cut_lines n a ≡ line (Cut n) (cut n a) ∷ []
+cut_written zero a z = absurd (z refl)
+cut_written (suc n) a z = refl
+
+pub cut_none : (d : Draft) (n : ℕ) (a : Triple) → n ≡ 0 → Wrote d d (cut_lines n a)
+cut_none d n a z = rw z (nothing_written d)
+
+-- an operation, and the division that leaves 31 binary digits
+pub gives_trimmed : (d e f : Draft) (o : Op) (n : ℕ) (a x : Triple) → n ≡ excess a.h → IsSteady (trimmed a) → Wrote d e (line o a ∷ []) → (x ≡ cut n a) × Wrote e f (cut_lines n a) → Gives d f (trim_lines o a) (trimmed a) x
+gives_trimmed d e f o n a x i s w h =
+    let t : x ≡ trimmed a = h.0 ∙ ap (λ k. cut k a) i in
+    record { triple = t; small = rw t (trimmed_small a s); wrote = wrote_then d e f (line o a ∷ []) (cut_lines n a) (trim_lines o a) (ap (λ k. line o a ∷ cut_lines k a) (sym i)) w h.1 }
+
+-- the division that a sum or a difference wants of its left operand
+pub left_cut : (d e : Draft) (k : Two) (a b w : Triple) (n : ℕ) → (k ≡ Plus) ⊎ (k ≡ Minus) → n ≡ b.k - a.k → b ≡ w → Wrote d e (cut_lines n a) → Wrote d e (left_lines k a w)
+left_cut d e k a b w n (inl q) i h x = rw (q, ← h, ← i) x
+left_cut d e k a b w n (inr q) i h x = rw (q, ← h, ← i) x
+
+-- the division of the right operand, and the sum or the difference
+pub gives_sum : (d e f : Draft) (o : Op) (a b x : Triple) (n : ℕ) → n ≡ a.k - b.k → Wrote d e (cut_lines n b) → Gives e f (trim_lines o (sum_of a b)) (added a b) x → Gives d f (cut_lines (a.k - b.k) b ++ trim_lines o (sum_of a b)) (added a b) x
+gives_sum d e f o a b x n i w g = gives_then d e f (cut_lines (a.k - b.k) b) (trim_lines o (sum_of a b)) _ (added a b) x refl (rw i at w) g
+
 -- ---- nodes of a tree
 
-pub wrote_neg : (vars : List VarInfo) (lets : List Triple) (d e f : Draft) (t x : Tree) (a : Triple) → t ≡ Neg x → a ≡ triple vars lets x → Wrote d e (filter_lines vars lets x) → Wrote e f (line (NegOp W64) a ∷ []) → Wrote d f (filter_lines vars lets t)
-wrote_neg vars lets d e f t x a i h p q = rw i (wrote_then d e f (filter_lines vars lets x) (line (NegOp W64) (triple vars lets x) ∷ []) _ refl p (rw h at q))
+two_lines : (vars : List VarInfo) (lets : List Triple) (k : Two) (x y : Tree) →
+    filter_lines vars lets (two_of k x y) ≡ filter_lines vars lets x ++ (left_lines k (triple vars lets x) (triple vars lets y) ++ (filter_lines vars lets y ++ right_lines k (triple vars lets x) (triple vars lets y)))
+two_lines vars lets Plus x y = refl
+two_lines vars lets Minus x y = refl
+two_lines vars lets Times x y = refl
 
--- what is written for a sum or a difference
-sum_written : (o : Op) (d e f g k : Draft) (xs ys : List (Line Triple)) (a b : Triple) (n : ℕ) → n ≡ b.k - a.k → Wrote d e xs → Wrote e f (cut_lines n a) → Wrote f g ys → Wrote g k (cut_lines (a.k - b.k) b ++ trim_lines o (sum_of a b)) → Wrote d k (sum_lines o xs ys a b)
-sum_written o d e f g k xs ys a b n i p q r s =
-    let q' : Wrote e f (cut_lines (b.k - a.k) a) = rw i at q in
-    wrote_then d e k xs _ _ refl p (wrote_then e f k (cut_lines (b.k - a.k) a) _ _ refl q' (wrote_then f g k ys (cut_lines (a.k - b.k) b ++ trim_lines o (sum_of a b)) _ refl r s))
+two_triple : (vars : List VarInfo) (lets : List Triple) (k : Two) (x y : Tree) → triple vars lets (two_of k x y) ≡ both k (triple vars lets x) (triple vars lets y)
+two_triple vars lets Plus x y = refl
+two_triple vars lets Minus x y = refl
+two_triple vars lets Times x y = refl
 
-pub wrote_add : (vars : List VarInfo) (lets : List Triple) (d e f g k : Draft) (t x y : Tree) (a b : Triple) (n : ℕ) → t ≡ Add x y → a ≡ triple vars lets x → b ≡ triple vars lets y → n ≡ b.k - a.k →
-    Wrote d e (filter_lines vars lets x) → Wrote e f (cut_lines n a) → Wrote f g (filter_lines vars lets y) → Wrote g k (cut_lines (a.k - b.k) b ++ trim_lines (AddOp W64) (sum_of a b)) → Wrote d k (filter_lines vars lets t)
-wrote_add vars lets d e f g k t x y a b n i h j z p q r s =
-    let w : Wrote d k (sum_lines (AddOp W64) (filter_lines vars lets x) (filter_lines vars lets y) a b) = sum_written (AddOp W64) d e f g k (filter_lines vars lets x) (filter_lines vars lets y) a b n z p q r s in
-    rw i (rw (h, j) at w)
+-- what is known of an operation is known of both operands
+pub record SteadyOperands (vars : List VarInfo) (lets : List Triple) (k : Two) (x y : Tree) : Type 0 where
+  pub left : AreSteady vars lets x
+  pub right : AreSteady vars lets y
+  pub whole : IsSteady (both k (triple vars lets x) (triple vars lets y))
 
-pub wrote_sub : (vars : List VarInfo) (lets : List Triple) (d e f g k : Draft) (t x y : Tree) (a b : Triple) (n : ℕ) → t ≡ Sub x y → a ≡ triple vars lets x → b ≡ triple vars lets y → n ≡ b.k - a.k →
-    Wrote d e (filter_lines vars lets x) → Wrote e f (cut_lines n a) → Wrote f g (filter_lines vars lets y) → Wrote g k (cut_lines (a.k - b.k) b ++ trim_lines (SubOp W64) (sum_of a b)) → Wrote d k (filter_lines vars lets t)
-wrote_sub vars lets d e f g k t x y a b n i h j z p q r s =
-    let w : Wrote d k (sum_lines (SubOp W64) (filter_lines vars lets x) (filter_lines vars lets y) a b) = sum_written (SubOp W64) d e f g k (filter_lines vars lets x) (filter_lines vars lets y) a b n z p q r s in
-    rw i (rw (h, j) at w)
+pub steady_operands : (vars : List VarInfo) (lets : List Triple) (t : Tree) (k : Two) (x y : Tree) → t ≡ two_of k x y → AreSteady vars lets t → SteadyOperands vars lets k x y
+steady_operands vars lets t k x y e s = by_kind k (subst (AreSteady vars lets) e s)
+  where
+    by_kind : (o : Two) → AreSteady vars lets (two_of o x y) → SteadyOperands vars lets o x y
+    by_kind Plus h = record { left = h.0; right = h.1; whole = h.2 }
+    by_kind Minus h = record { left = h.0; right = h.1; whole = h.2 }
+    by_kind Times h = record { left = h.0; right = h.1; whole = h.2 }
 
-pub wrote_mul : (vars : List VarInfo) (lets : List Triple) (d e f k : Draft) (t x y : Tree) (a b : Triple) → t ≡ Mul x y → a ≡ triple vars lets x → b ≡ triple vars lets y →
-    Wrote d e (filter_lines vars lets x) → Wrote e f (filter_lines vars lets y) → Wrote f k (trim_lines (MulOp W64) (product_of a b)) → Wrote d k (filter_lines vars lets t)
-wrote_mul vars lets d e f k t x y a b i h j p q r =
-    let w : Wrote d k (filter_lines vars lets x ++ (filter_lines vars lets y ++ trim_lines (MulOp W64) (product_of a b))) = wrote_then d e k (filter_lines vars lets x) _ _ refl p (wrote_then e f k (filter_lines vars lets y) (trim_lines (MulOp W64) (product_of a b)) _ refl q r) in
-    rw i (rw (h, j) at w)
+pub gives_two : (vars : List VarInfo) (lets : List Triple) (k : Two) (d e f g h : Draft) (t x y : Tree) (a b c : Triple) → t ≡ two_of k x y → Gives d e (filter_lines vars lets x) (triple vars lets x) a → Wrote e f (left_lines k a (triple vars lets y)) →
+    Gives f g (filter_lines vars lets y) (triple vars lets y) b → Gives g h (right_lines k a b) (both k a b) c → Gives d h (filter_lines vars lets t) (triple vars lets t) c
+gives_two vars lets k d e f g h t x y a b c i p q r s =
+    let q' : Wrote e f (left_lines k (triple vars lets x) (triple vars lets y)) = rw p.triple at q in
+    let s' : Gives g h (right_lines k (triple vars lets x) (triple vars lets y)) (both k (triple vars lets x) (triple vars lets y)) c = rw (p.triple, r.triple) at s in
+    let v = gives_then f g h (filter_lines vars lets y) (right_lines k (triple vars lets x) (triple vars lets y)) _ _ c refl r.wrote s' in
+    let w = gives_then d e h (filter_lines vars lets x) _ _ _ c refl p.wrote (gives_then e f h (left_lines k (triple vars lets x) (triple vars lets y)) _ _ _ c refl q' v) in
+    gives_as d h _ (filter_lines vars lets t) _ (triple vars lets t) c (sym (ap (filter_lines vars lets) i ∙ two_lines vars lets k x y)) (sym (ap (triple vars lets) i ∙ two_triple vars lets k x y)) w
 
-pub wrote_pow : (vars : List VarInfo) (lets : List Triple) (d e f : Draft) (t x : Tree) (a : Triple) (n : ℕ) → t ≡ Pow x n → a ≡ triple vars lets x → n ≢ 0 → Wrote d e (filter_lines vars lets x) → Wrote e f (power_of a (n - 1)) → Wrote d f (filter_lines vars lets t)
-wrote_pow vars lets d e f t x a n i h z p q =
-    let q' : Wrote e f (power_of (triple vars lets x) (n - 1)) = rw h at q in
-    rw i (wrote_then d e f (filter_lines vars lets x) (power_of (triple vars lets x) (n - 1)) _ (powers_more (filter_lines vars lets x) (triple vars lets x) n z) p q')
+pub gives_neg : (vars : List VarInfo) (lets : List Triple) (d e f : Draft) (t x : Tree) (a c : Triple) → t ≡ Neg x → Gives d e (filter_lines vars lets x) (triple vars lets x) a → Gives e f (line (NegOp W64) a ∷ []) a c → Gives d f (filter_lines vars lets t) (triple vars lets t) c
+gives_neg vars lets d e f t x a c i p q =
+    let q' : Gives e f (line (NegOp W64) (triple vars lets x) ∷ []) (triple vars lets x) c = rw p.triple at q in
+    rw i (gives_then d e f (filter_lines vars lets x) (line (NegOp W64) (triple vars lets x) ∷ []) _ _ c refl p.wrote q')
+
+pub gives_zeroth : (vars : List VarInfo) (lets : List Triple) (d e : Draft) (t x : Tree) (n : ℕ) (c : Triple) → t ≡ Pow x n → n ≡ 0 → Gives d e (line (Push (pos 1)) (leaf 1) ∷ []) (leaf 1) c → Gives d e (filter_lines vars lets t) (triple vars lets t) c
+gives_zeroth vars lets d e t x n c i z g = rw (i, z) g
+
+pub gives_power : (vars : List VarInfo) (lets : List Triple) (d e f : Draft) (t x : Tree) (n : ℕ) (a c : Triple) → t ≡ Pow x n → n ≢ 0 → Gives d e (filter_lines vars lets x) (triple vars lets x) a → Gives e f (power_of a (n - 1)) (powered a (n - 1 + 1)) c → Gives d f (filter_lines vars lets t) (triple vars lets t) c
+gives_power vars lets d e f t x n a c i z p q =
+    let y : n - 1 + 1 ≡ n = omega arith in
+    let q' : Gives e f (power_of (triple vars lets x) (n - 1)) (powered (triple vars lets x) n) c = rw (p.triple, y) at q in
+    rw i (gives_then d e f (filter_lines vars lets x) (power_of (triple vars lets x) (n - 1)) _ _ c (powers_more (filter_lines vars lets x) (triple vars lets x) n z) p.wrote q')
+
+-- the powers of a base are steady
+pub base_steady : (vars : List VarInfo) (lets : List Triple) (t x : Tree) (n : ℕ) (a : Triple) → t ≡ Pow x n → n ≢ 0 → a ≡ triple vars lets x → AreSteady vars lets t → ArePowersSteady a (n - 1 + 1)
+base_steady vars lets t x n a i z e s =
+    let y : n - 1 + 1 ≡ n = omega arith in
+    let h : AreSteady vars lets (Pow x n) = subst (AreSteady vars lets) i s in
+    rw (e, y) h.1
 
 -- ---- factors
-
-pub cut_small : (n : ℕ) (a x : Triple) → n ≡ excess a.h → IsSteady (trimmed a) → x ≡ cut n a → IsSmall x
-cut_small n a x e s h = let z = trimmed_small a s in rw (h, e) z
 
 pub next_steady : (a p : Triple) (n i : ℕ) → p ≡ powered a (i + 1) → i < n → ArePowersSteady a (n + 1) → IsSteady (multiplied p a)
 next_steady a p n i h l s =
@@ -141,6 +200,25 @@ next_factor a p i h =
     let f : factors a (i + 1) ≡ factors a (suc i) = ap (factors a) z in
     let g : factors a (suc i) ≡ factors a i ++ factor_lines p a = rw j refl in
     f ∙ g
+
+-- one more factor behind those so far
+pub gives_factor : (a p q : Triple) (i : ℕ) (d e f : Draft) → Gives d e (factors a i) (powered a (i + 1)) p → Gives e f (factor_lines p a) (multiplied p a) q → Gives d f (factors a (i + 1)) (powered a (i + 1 + 1)) q
+gives_factor a p q i d e f g h = record {
+  triple = next_power a p q i g.triple h.triple;
+  small = h.small;
+  wrote = wrote_then d e f (factors a i) (factor_lines p a) (factors a (i + 1)) (next_factor a p i g.triple) g.wrote h.wrote;
+}
+
+-- none of the factors of a power
+pub first_power : (a : Triple) (n : ℕ) (d : Draft) → n ≡ 0 → IsSmall a → Gives d d (power_of a n) (powered a (n + 1)) a
+first_power a n d z s = rw z (gives_self d a s)
+
+-- the base is kept, and put again, in front of the other factors
+pub later_power : (a z c : Triple) (n : ℕ) (d e f g : Draft) → n ≢ 0 → z ≡ no_triple → Wrote d e (line (Set 64) z ∷ []) → Wrote e f (line (Get 64) a ∷ []) → Gives f g (factors a n) (powered a (n + 1)) c → Gives d g (power_of a n) (powered a (n + 1)) c
+later_power a z c zero d e f g m q v w h = absurd (m refl)
+later_power a z c (suc n) d e f g m q v w h =
+    let v' : Wrote d e (line (Set 64) no_triple ∷ []) = rw q at v in
+    gives_then d e g (line (Set 64) no_triple ∷ []) _ (power_of a (suc n)) _ c refl v' (gives_then e f g (line (Get 64) a ∷ []) (factors a (suc n)) _ _ c refl w h)
 
 pub known_is : (vars : List VarInfo) (lets : List Triple) (t : Tree) (a : Triple) → AreSteady vars lets t → Some a ≡ tried vars lets t → a ≡ triple vars lets t
 known_is vars lets t a s h = let e : Some a ≡ Some (triple vars lets t) = h ∙ steady_tried vars lets t s in cc
@@ -181,8 +259,28 @@ dropped_all [] (suc j) h = refl
 dropped_all (x ∷ xs) zero h = absurd (omega arith)
 dropped_all (x ∷ xs) (suc j) h = dropped_all xs j (omega arith)
 
-pub wrote_all : (vars : List VarInfo) (lets : List Fitted) (start now : Draft) (j : ℕ) (done : List Triple) (all : List (Line Triple)) → length lets ≤ j → Continues start now (let_lines vars j done (lets_from j lets)) all → Wrote start now all
+wrote_all : (vars : List VarInfo) (lets : List Fitted) (start now : Draft) (j : ℕ) (done : List Triple) (all : List (Line Triple)) → length lets ≤ j → Continues start now (let_lines vars j done (lets_from j lets)) all → Wrote start now all
 wrote_all vars lets start now j done all h f =
     let e : lets_from j lets ≡ [] = ap (λ l. map untyped (map typed l)) (dropped_all lets j h) in
     let q : let_lines vars j done (lets_from j lets) ≡ [] = ap (let_lines vars j done) e in
     f now (subst (Wrote now now) (sym q) (nothing_written now))
+
+-- a let that isn't steady
+pub let_none : (vars : List VarInfo) (lets : List Fitted) (j : ℕ) (u : Fitted) (done given : List Triple) (o : Option Triple) → j < length lets → u ≡ get_or lets j u → given ≡ done → o ≡ None → o ≡ tried vars given (untyped (typed u)) →
+    lets_tried vars done (lets_from j lets) ≡ lets_tried vars [] (map untyped (map typed lets)) → None ≡ lets_tried vars [] (map untyped (map typed lets))
+let_none vars lets j u done given o h i g q tr k =
+    let n = next_let lets j u h i in
+    let tr' : None ≡ tried vars done (untyped (typed u)) = sym q ∙ (rw g at tr) in
+    let f : None ≡ lets_tried vars done (untyped (typed u) ∷ lets_from (j + 1) lets) = rw (← tr') refl in
+    f ∙ ap (lets_tried vars done) (sym n) ∙ k
+
+-- all lets
+pub lets_put : (vars : List VarInfo) (lets : List Fitted) (start now : Draft) (j : ℕ) (done : List Triple) → length lets ≤ j → LetsKept vars lets start now j done → LetsPut vars start now (map untyped (map typed lets)) (Some done)
+lets_put vars lets start now j done h k =
+    let e : lets_from j lets ≡ [] = ap (λ l. map untyped (map typed l)) (dropped_all lets j h) in
+    record {
+      tried = ap (lets_tried vars done) (sym e) ∙ k.tried;
+      small = k.small;
+      narrow = k.narrow (rw e tt);
+      wrote = wrote_all vars lets start now j done _ h k.wrote;
+    }

@@ -1,17 +1,21 @@
 -- Triples that are worked out: where there is an answer each node is steady, and where each is there is one.
-use Rattle.std.proofs.Common.{◌≡◌, ◌⊎◌, inl, inr, ℕ, ◌≤◌, ◌<◌, true, List, [], ◌∷◌, ◌++◌, refl, zero, suc, ap, arith, sym, ◌∙◌, nat_le, ◌-◌}
-use Rattle.std.specs.Prelude.{Option, Some, None, All, slice_index_or, ◌≢◌}
+use Rattle.std.proofs.Common.{◌≡◌, ◌⊎◌, inl, inr, ℕ, ◌≤◌, ◌<◌, true, List, [], ◌∷◌, ◌++◌, refl, zero, suc, ap, arith, ap₂, subst, ℤ, ◌^◌, sym, ◌∙◌, nat_le, ◌-◌}
+use Rattle.std.specs.Prelude.{Option, Some, None, All, IfSome, slice_index_or, unsigned_abs, ◌≢◌}
 use Rattle.std.proofs.lemmas.Bool.{leb-true, le-leb, and_parts, cases_lt}
 use Rattle.ln_algebra.specs.Tree.{Tree, Num, Input, Name, Neg, Add, Sub, Mul, Pow}
 use Rattle.ln_tree.specs.declared.shape.VarInfo.{VarInfo}
+use Rattle.ln_bound.specs.declared.fitted.Two.{Two}
+use Rattle.ln_bound.specs.declared.fitted.Two.TheVariants.{Plus, Minus, Times}
+use Rattle.ln_bound.specs.Typed.{two_of}
+use Rattle.ln_bound.specs.Value.{sizes}
 use Rattle.ln_code.specs.declared.op.Triple.{Triple}
 use Rattle.ln_code.specs.Engine.{next}
 use Rattle.ln_code.specs.Kept.{no_triple}
 use Rattle.ln_code.proofs.Engines.Follow.{when_some}
 use Rattle.ln_code.proofs.Following.Known.{next_some}
-use Rattle.ln_filter.specs.Triples.{bits, whole, leaf, trimmed, added, multiplied, powered, triple, let_triples}
+use Rattle.ln_filter.specs.Triples.{bits, both, whole, leaf, trimmed, added, multiplied, powered, triple, let_triples}
 use Rattle.ln_filter.specs.Steady.{IsSteady, ArePowersSteady, AreSteady, AreLetsSteady, HasFilter}
-use Rattle.ln_filter.specs.Tried.{is_steady, settled, power_tried, tried, lets_tried, IsSmall}
+use Rattle.ln_filter.specs.Tried.{is_steady, settled, power_tried, tried, lets_tried, AreNarrow, IsSmall, IsTried}
 use Rattle.ln_filter.proofs.Truncation.Bits.{excess_leaves}
 
 pub test_of : (a : Triple) → IsSteady a → is_steady a ≡ true
@@ -226,3 +230,61 @@ all_snoc [] a s p zero d h = p
 all_snoc [] a s p (suc k) d h = absurd (omega arith)
 all_snoc (b ∷ ts) a s p zero d h = s 0 b (omega arith)
 all_snoc (b ∷ ts) a s p (suc k) d h = all_snoc ts a (λ i e l. s (suc i) e (omega arith)) p k d (omega arith)
+
+-- ---- a tree from its operands
+
+pub settled_small : (a : Triple) → IsSmall a → settled a ≡ Some a
+settled_small a s =
+    let e = s.error in
+    let k = s.power in
+    settled_is a (record { error = omega arith; power = omega arith })
+
+pub tried_num : (vars : List VarInfo) (lets : List Triple) (t : Tree) (c : ℤ) (a : Triple) → t ≡ Num c → a ≡ leaf (unsigned_abs c) → IsSmall a → IsTried vars lets t (Some a)
+tried_num vars lets t c a e h s = record { value = sym (settled_small a s) ∙ ap settled h ∙ ap (tried vars lets) (sym e); small = s; narrow = rw e tt }
+
+pub tried_input : (vars : List VarInfo) (lets : List Triple) (t : Tree) (v : ℕ) (a : Triple) → t ≡ Input v → a ≡ leaf (sizes vars v) → IsSmall a → sizes vars v < 2 ^ 63 → IsTried vars lets t (Some a)
+tried_input vars lets t v a e h s n = record { value = sym (settled_small a s) ∙ ap settled h ∙ ap (tried vars lets) (sym e); small = s; narrow = rw e n }
+
+pub tried_let : (vars : List VarInfo) (lets : List Triple) (t : Tree) (j : ℕ) (a : Triple) → t ≡ Name j → a ≡ slice_index_or lets j no_triple → IsSmall a → IsTried vars lets t (Some a)
+tried_let vars lets t j a e h s = record { value = ap Some h ∙ ap (tried vars lets) (sym e); small = s; narrow = rw e tt }
+
+pub tried_neg : (vars : List VarInfo) (lets : List Triple) (t x : Tree) (o : Option Triple) → t ≡ Neg x → IsTried vars lets x o → IsTried vars lets t o
+tried_neg vars lets t x o e h = rw e (record { value = h.value; small = h.small; narrow = h.narrow })
+
+two_tries : (vars : List VarInfo) (lets : List Triple) (k : Two) (x y : Tree) → tried vars lets (two_of k x y) ≡ next (tried vars lets x) (λ a. next (tried vars lets y) (λ b. settled (both k a b)))
+two_tries vars lets Plus x y = refl
+two_tries vars lets Minus x y = refl
+two_tries vars lets Times x y = refl
+
+two_narrow : (vars : List VarInfo) (k : Two) (x y : Tree) → AreNarrow vars x → AreNarrow vars y → AreNarrow vars (two_of k x y)
+two_narrow vars Plus x y p q = (p, q)
+two_narrow vars Minus x y p q = (p, q)
+two_narrow vars Times x y p q = (p, q)
+
+if_there : (o : Option Triple) (P : Type 0) → P → IfSome o (λ a. P)
+if_there None P h = tt
+if_there (Some a) P h = h
+
+both_narrow : (vars : List VarInfo) (k : Two) (x y : Tree) (o p r : Option Triple) → r ≡ next o (λ a. next p (λ b. settled (both k a b))) → IfSome o (λ a. AreNarrow vars x) → IfSome p (λ a. AreNarrow vars y) → IfSome r (λ a. AreNarrow vars (two_of k x y))
+both_narrow vars k x y None p r e m n = rw e tt
+both_narrow vars k x y (Some a) None r e m n = rw e tt
+both_narrow vars k x y (Some a) (Some b) r e m n = if_there r (AreNarrow vars (two_of k x y)) (two_narrow vars k x y m n)
+
+pub tried_both : (vars : List VarInfo) (lets : List Triple) (t : Tree) (k : Two) (x y : Tree) (o p r : Option Triple) → t ≡ two_of k x y → IsTried vars lets x o → IsTried vars lets y p →
+    r ≡ next o (λ a. next p (λ b. settled (both k a b))) → IfSome r (λ a. IsSmall a) → IsTried vars lets t r
+tried_both vars lets t k x y o p r e u v i s = record {
+  value = i ∙ ap₂ (λ (m n : Option Triple). next m (λ a. next n (λ b. settled (both k a b)))) u.value v.value ∙ sym (two_tries vars lets k x y) ∙ ap (tried vars lets) (sym e);
+  small = s;
+  narrow = subst (λ z. IfSome r (λ a. AreNarrow vars z)) (sym e) (both_narrow vars k x y o p r i u.narrow v.narrow);
+}
+
+raised_narrow : (vars : List VarInfo) (x : Tree) (n : ℕ) (o r : Option Triple) → r ≡ next o (λ a. power_tried a n) → IfSome o (λ a. AreNarrow vars x) → IfSome r (λ a. AreNarrow vars x)
+raised_narrow vars x n None r e m = rw e tt
+raised_narrow vars x n (Some a) r e m = if_there r (AreNarrow vars x) m
+
+pub tried_raised : (vars : List VarInfo) (lets : List Triple) (t x : Tree) (n : ℕ) (o r : Option Triple) → t ≡ Pow x n → IsTried vars lets x o → r ≡ next o (λ a. power_tried a n) → IfSome r (λ a. IsSmall a) → IsTried vars lets t r
+tried_raised vars lets t x n o r e u i s = record {
+  value = i ∙ ap (λ (m : Option Triple). next m (λ a. power_tried a n)) u.value ∙ ap (tried vars lets) (sym e);
+  small = s;
+  narrow = subst (λ z. IfSome r (λ a. AreNarrow vars z)) (sym e) (raised_narrow vars x n o r i u.narrow);
+}

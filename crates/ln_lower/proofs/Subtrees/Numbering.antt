@@ -227,21 +227,21 @@ added_there ks k x h = record { there = h; more = λ j y g. g }
 pub numbered_num : (ks ls : List Key) (k : ℕ) (t : Typed) (x : Key) (o : KeyOp) (p : Range) (w : Width) → x ≡ key o p w → (slice_get ls k ≡ Some (key o p w) → Stands ls k t) → Added ks ls k x → Numbered ks ls k t
 numbered_num ks ls k t x o p w e f a = record { stands = f (a.there ∙ ap Some e); more = a.more }
 
-pub numbered_neg : (ks ls ms : List Key) (a k : ℕ) (t u : Typed) (x : Key) (p : Range) (w : Width) → u ≡ TNeg t p w → x ≡ key (Opposite a) p w → Numbered ks ls a t → Added ls ms k x → Numbered ks ms k u
-numbered_neg ks ls ms a k t u x p w e f n d = rw e (record {
-  stands = (a, d.there ∙ ap Some f, stands_more ls ms t a d.more n.stands);
+pub numbered_neg : (ks ls ms : List Key) (a k : ℕ) (t u : Typed) (p : Range) (w : Width) → u ≡ TNeg t p w → Numbered ks ls a t → Added ls ms k (key (Opposite a) p w) → Numbered ks ms k u
+numbered_neg ks ls ms a k t u p w e n d = rw e (record {
+  stands = (a, d.there, stands_more ls ms t a d.more n.stands);
   more = extends_then ks ls ms n.more d.more;
 })
 
-pub numbered_pow : (ks ls ms : List Key) (a k : ℕ) (t u : Typed) (n : ℕ) (x : Key) (p : Range) (w : Width) → u ≡ TPow t n p w → x ≡ key (Raised a n) p w → Numbered ks ls a t → Added ls ms k x → Numbered ks ms k u
-numbered_pow ks ls ms a k t u n x p w e f m d = rw e (record {
-  stands = (a, d.there ∙ ap Some f, stands_more ls ms t a d.more m.stands);
+pub numbered_pow : (ks ls ms : List Key) (a k : ℕ) (t u : Typed) (n : ℕ) (p : Range) (w : Width) → u ≡ TPow t n p w → Numbered ks ls a t → Added ls ms k (key (Raised a n) p w) → Numbered ks ms k u
+numbered_pow ks ls ms a k t u n p w e m d = rw e (record {
+  stands = (a, d.there, stands_more ls ms t a d.more m.stands);
   more = extends_then ks ls ms m.more d.more;
 })
 
-pub numbered_two : (ks ls ms ns : List Key) (a b k : ℕ) (o : Two) (s t u : Typed) (x : Key) (p : Range) (w : Width) → u ≡ TTwo o s t p w → x ≡ key (Both o a b) p w → Numbered ks ls a s → Numbered ls ms b t → Added ms ns k x → Numbered ks ns k u
-numbered_two ks ls ms ns a b k o s t u x p w e f m n d = rw e (record {
-  stands = (a, b, d.there ∙ ap Some f, stands_more ls ns s a (extends_then ls ms ns n.more d.more) m.stands, stands_more ms ns t b d.more n.stands);
+pub numbered_two : (ks ls ms ns : List Key) (a b k : ℕ) (o : Two) (s t u : Typed) (p : Range) (w : Width) → u ≡ TTwo o s t p w → Numbered ks ls a s → Numbered ls ms b t → Added ms ns k (key (Both o a b) p w) → Numbered ks ns k u
+numbered_two ks ls ms ns a b k o s t u p w e m n d = rw e (record {
+  stands = (a, b, d.there, stands_more ls ns s a (extends_then ls ms ns n.more d.more) m.stands, stands_more ms ns t b d.more n.stands);
   more = extends_then ks ls ns m.more (extends_then ls ms ns n.more d.more);
 })
 

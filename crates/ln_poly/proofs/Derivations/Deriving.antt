@@ -3,6 +3,7 @@ use Rattle.std.proofs.Common.{◌≡◌, ℕ, ◌+◌, ◌-◌, ◌*◌, ◌<◌
 use Rattle.std.proofs.lemmas.Bool.{cases_lt}
 use Rattle.std.proofs.lemmas.Bool.Decides.{nat_tests}
 use Rattle.std.proofs.lemmas.Int.{ints}
+use Rattle.std.proofs.lemmas.List.{take_all}
 use Rattle.std.proofs.lemmas.List.Elements.{All-nil, All-push}
 use Rattle.std.proofs.lemmas.List.Sums.{get_or-le-sum_by, sum_by-cons, sum_by_more}
 use Rattle.std.specs.List.{sum_by}
@@ -186,6 +187,19 @@ deriving-step vars f' f out out' v n i t q l b h e r x y = by_case (cases_lt (ex
         rising = subst AreRising (sym p.put) (All-push (λ z. IsRising z.0) out (p.exps, c) r.rising p.lowered.rising);
         below = subst (AreBelow (length vars)) (sym p.put) (All-push (λ z. IsAbove z.0 (length vars)) out (p.exps, c) r.below (lowered-below (length vars) v n p.exps t.0 p.lowered above));
       }
+
+-- the derivatives of all terms
+pub record AreDerived (out f : Sparse) (k v n : ℕ) (w : ℕ → ℕ) : Type 0 where
+  pub coefficients : (m : List ℕ) → coefficient_at k out m ≡ factor_at (derivative k v n f) m
+  pub size : size_of out ≤ weighted_sum w (derivative k v n f)
+
+pub deriving-end : (out f' f : Sparse) (k v n i : ℕ) (w : ℕ → ℕ) → f' ≡ f → length f' ≤ i → IsDeriving out f' k v n i w → AreDerived out f k v n w
+deriving-end out f' f k v n i w q h r =
+    let a : take i f' ≡ f = take_all i f' h ∙ q in
+    record {
+      coefficients = λ m. r.coefficients m ∙ ap (λ z. factor_at (derivative k v n z) m) a;
+      size = omega (arith, r.size, ap (λ z. weighted_sum w (derivative k v n z)) a);
+    }
 
 -- ---- room for one term more
 length-minus : (m a : List ℕ) → length (minus m a) ≤ length m

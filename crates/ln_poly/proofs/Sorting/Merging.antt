@@ -6,7 +6,8 @@ use mathlib.Core.Logic.{◌⊎◌, inl, inr}
 use Rattle.std.proofs.lemmas.List.{drop_more, drop_all}
 use Rattle.ln_tree.specs.Exps.{AllAbove, IsAbove, IsRising, Pairs, exponent}
 use Rattle.ln_tree.proofs.Pairs.{rising-push}
-use Rattle.ln_poly.specs.Times.{AreLow, IsMerged, Picks, power_at}
+use Rattle.ln_poly.specs.declared.times.Pick.{Pick}
+use Rattle.ln_poly.specs.Times.{AreLow, IsMerged, IsPicked, MayPick, Picks, power_at}
 
 -- what is above w is above what is below w
 above-lower : (v w : ℕ) (ps : Pairs) → v < w → AllAbove w ps → AllAbove v ps
@@ -96,6 +97,31 @@ lower-at v [] (suc j) h = tt
 lower-at v (q ∷ b) zero h = h (omega arith)
 lower-at v (q ∷ b) (suc j) h = lower-at v b j (λ l. h (omega arith))
 
+-- the pair of the first list, of the second, or of both
+pub first-picked : (a b : Pairs) (i j : ℕ) (p : Pick) → MayPick a b i j → i < length a → (j < length b → (get_or a i (0, 0)).0 < (get_or b j (0, 0)).0) → p ≡ record { v = (get_or a i (0, 0)).0; e = (get_or a i (0, 0)).1; i = i + 1; j = j } → IsPicked a b i j p
+first-picked a b i j p m h l e = rw e (record {
+  picks = left-at a (drop j b) i h m.rising_left m.rising_right (lower-at (get_or a i (0, 0)).0 b j l);
+  left = omega (arith, h);
+  right = m.right;
+  further = omega arith;
+})
+
+pub second-picked : (a b : Pairs) (i j : ℕ) (p : Pick) → MayPick a b i j → j < length b → (i < length a → (get_or b j (0, 0)).0 < (get_or a i (0, 0)).0) → p ≡ record { v = (get_or b j (0, 0)).0; e = (get_or b j (0, 0)).1; i = i; j = j + 1 } → IsPicked a b i j p
+second-picked a b i j p m h l e = rw e (record {
+  picks = right-at (drop i a) b j h m.rising_left m.rising_right (lower-at (get_or b j (0, 0)).0 a i l);
+  left = m.left;
+  right = omega (arith, h);
+  further = omega arith;
+})
+
+pub both-picked : (a b : Pairs) (i j : ℕ) (p : Pick) → MayPick a b i j → i < length a → j < length b → (get_or a i (0, 0)).0 ≡ (get_or b j (0, 0)).0 → p ≡ record { v = (get_or a i (0, 0)).0; e = (get_or a i (0, 0)).1 + (get_or b j (0, 0)).1; i = i + 1; j = j + 1 } → IsPicked a b i j p
+both-picked a b i j p m h k l e = rw e (record {
+  picks = both-at a b i j h k m.rising_left m.rising_right l;
+  left = omega (arith, h);
+  right = omega (arith, k);
+  further = omega arith;
+})
+
 -- a picked exponent is one of the lists'
 pub picked-small : (la lb la' lb' : Pairs) (v e : ℕ) → Picks la lb la' lb' v e → e ≤ exponent v la + exponent v lb
 picked-small la lb la' lb' v e p =
@@ -141,6 +167,9 @@ merged-end out a b i j m h k w =
 -- what is left has no more than 127 either
 pub merged-small : (out a b : Pairs) (i j : ℕ) → IsMerged out a b i j → ((v : ℕ) → exponent v a + exponent v b < 128) → (v : ℕ) → exponent v (drop i a) + exponent v (drop j b) < 128
 merged-small out a b i j m h v = omega (arith, m.exponents v, h v)
+
+pub may-pick : (out a b : Pairs) (i j : ℕ) → IsMerged out a b i j → i + j < length a + length b → ((v : ℕ) → exponent v a + exponent v b < 128) → MayPick a b i j
+may-pick out a b i j m h s = record { left = m.left; right = m.right; some = h; rising_left = m.rising_left; rising_right = m.rising_right; small = merged-small out a b i j m s }
 
 -- ---- variables
 pub above-none : (k v : ℕ) (ps : Pairs) → IsAbove ps k → k ≤ v → exponent v ps ≡ 0

@@ -1,8 +1,8 @@
 -- Sums of products of terms.
-use Rattle.std.proofs.Common.{◌≡◌, ℕ, ◌+◌, ◌*◌, ◌<◌, ◌≤◌, ◌^◌, zero, suc, refl, sym, ◌∙◌, ap, subst, arith, List, [], ◌∷◌, length, take, get_or, if◌then◌else◌, unsigned_abs, add-one}
+use Rattle.std.proofs.Common.{◌≡◌, ℕ, ◌+◌, ◌*◌, ◌<◌, ◌≤◌, ◌^◌, zero, suc, refl, sym, ◌∙◌, ap, subst, arith, List, [], ◌∷◌, ◌++◌, length, take, append_assoc, get_or, if◌then◌else◌, unsigned_abs, add-one}
 use Rattle.std.proofs.Math.Nat.{mul-le-mul_left}
 use Rattle.std.proofs.lemmas.Int.{ints, unsigned_abs-mul}
-use Rattle.std.proofs.lemmas.List.{take_all}
+use Rattle.std.proofs.lemmas.List.{take_all, take_more}
 use Rattle.std.proofs.lemmas.List.Elements.{All-nil, All-push}
 use Rattle.std.proofs.Math.IntN.{ℤ, pos, ◌+ℤ◌, ◌*ℤ◌}
 use Rattle.ln_algebra.specs.Vector.{plus, same_vector, sum_over}
@@ -13,7 +13,7 @@ use Rattle.ln_algebra.proofs.Expanded.Expansion.{times, times_term}
 use Rattle.ln_algebra.proofs.Expanded.Product.{factor_at-times}
 use Rattle.ln_tree.specs.Exps.{IsAbove, IsRising, Pairs, exponent, exponents_from}
 use Rattle.ln_poly.specs.Sparse.{AreBelow, AreRising, Sparse, coefficient_at, part_at, size_of, term_of, terms_of}
-use Rattle.ln_poly.specs.Rows.{IsProductPut, IsRow, IsRows, cell_at, row_at}
+use Rattle.ln_poly.specs.Rows.{IsProductPut, IsRow, IsRows, PowersFit, cell_at, row_at}
 use Rattle.ln_poly.proofs.TermLists.Coefficients.{coefficient_at-nil, coefficient_at-push, item-small, size-more, size-nil, size-push, size-take}
 use Rattle.ln_poly.proofs.Sorting.Merging.{above-none, none-above}
 
@@ -23,6 +23,14 @@ sum_over-more f (x ∷ xs) zero d h = omega (arith, ints)
 sum_over-more f (x ∷ xs) (suc i) d h =
     let ih : sum_over f (take (suc i) xs) ≡ sum_over f (take i xs) +ℤ f (get_or xs i d) = rw add-one at (sum_over-more f xs i d (omega arith)) in
     rw add-one (omega (arith, ints, ih))
+
+-- ---- copies of terms
+pub copies-more : (old now now' f : Sparse) (i : ℕ) (t : Pairs × ℤ) → i < length f → t ≡ get_or f i t → now ≡ old ++ take i f → now' ≡ now ++ (t ∷ []) → now' ≡ old ++ take (i + 1) f
+copies-more old now now' f i t h e p q =
+    q ∙ ap (λ z. z ++ (t ∷ [])) p ∙ append_assoc old (take i f) (t ∷ []) ∙ ap (λ z. old ++ z) (ap (λ z. take i f ++ (z ∷ [])) e ∙ sym (take_more f i t h))
+
+pub copies-end : (old now f : Sparse) (i : ℕ) → length f ≤ i → now ≡ old ++ take i f → now ≡ old ++ f
+copies-end old now f i h p = p ∙ ap (λ z. old ++ z) (take_all i f h)
 
 -- ---- the exponents of a product
 pub vector-plus : (v n : ℕ) (a b c : Pairs) → ((u : ℕ) → exponent u c ≡ exponent u a + exponent u b) → exponents_from v n c ≡ plus (exponents_from v n a) (exponents_from v n b)
@@ -124,3 +132,10 @@ rows-size out f g r = omega (arith, r.size, ap (λ q. size_of q * size_of g) (ta
 -- the end of the loop, whatever the lists are called
 pub rows-end : (out f g f' g' : Sparse) (i : ℕ) → IsRows out f g i → i ≡ length f → f ≡ f' → g ≡ g' → IsRows out f' g' (length f')
 rows-end out f g f' g' i r h p q = subst (λ z. IsRows out z g' (length z)) p (subst (λ z. IsRows out f z (length f)) q (subst (IsRows out f g) h r))
+
+-- no exponent of a product of s with a term of g passes 127
+pub powers-at : (s : Pairs × ℤ) (g : Sparse) (i : ℕ) (t : Pairs × ℤ) → PowersFit s g → i < length g → t ≡ get_or g i t → (v : ℕ) → exponent v s.0 + exponent v t.0 < 128
+powers-at s g i t f h e = subst (λ z. (v : ℕ) → exponent v s.0 + exponent v z.0 < 128) (sym e) (f i t h)
+
+pub row-end : (out old : Sparse) (s : Pairs × ℤ) (g : Sparse) (i : ℕ) → i ≡ length g → IsRow out old s g i → IsRow out old s g (length g)
+row-end out old s g i h r = subst (IsRow out old s g) h r

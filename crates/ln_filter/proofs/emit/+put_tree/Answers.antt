@@ -1,37 +1,86 @@
-use Rattle.std.proofs.Common.{◌≡◌, ◌-◌, ◌≢◌, arith, refl}
-use Rattle.std.proofs.lemmas.Result.{on_ok_weaker}
-use Rattle.ln_algebra.specs.Tree.{Neg, Add, Sub, Mul, Pow}
+use Rattle.std.proofs.Common.{◌≡◌, [], ◌∷◌, refl, rules, unsigned_abs}
+use Rattle.std.specs.Prelude.{IfOk}
+use Rattle.std.proofs.lemmas.Result.{IfOk-weaker}
+use Rattle.ln_algebra.specs.Tree.{Neg, Pow}
+use Rattle.ln_interval.specs.View.{range}
 use Rattle.ln_bound.specs.Typed.{untyped}
 use Rattle.ln_bound.specs.View.{typed}
-use Rattle.ln_filter.proofs.Operations.Writes.{wrote_neg, wrote_add, wrote_sub, wrote_mul, wrote_pow}
+use Rattle.ln_code.specs.declared.op.Op.TheVariants.{Push}
+use Rattle.ln_filter.specs.Triples.{kind_of, leaf}
+use Rattle.ln_filter.specs.Lines.{line}
+use Rattle.ln_filter.specs.Wrote.{Gives}
+use Rattle.ln_filter.proofs.Operations.Operands.{Operands, operands}
+use Rattle.ln_filter.proofs.Operations.Writes.{base_steady, gives_neg, gives_power, gives_two, gives_zeroth, steady_operands}
 use Rattle.ln_filter.proofs.emit.+put_tree.Goals as goal
 
-pub returns-in_ok-push-in-Neg-clause-wrote : goal.returns-in_ok-push-in-Neg-clause-wrote
-returns-in_ok-push-in-Neg-clause-wrote t c =
-    let e : untyped (typed c.args.t.now) ≡ Neg (untyped (typed c.deref.result.now)) = rw (c.in-Neg.is, c.deref.ensures) refl in
-    wrote_neg c.args.vars.now c.args.lets.now _ _ _ (untyped (typed c.args.t.now)) (untyped (typed c.deref.result.now)) c.in_ok-a-in-Neg.a e c.in_ok-a-in-Neg.ensures.triple c.in_ok-a-in-Neg.ensures.wrote c.in_ok-push-in-Neg.ensures
+pub returns-in-Num : goal.returns-in-Num
+returns-in-Num t c =
+    let h : IfOk c.put_number.result (Gives c.args.draft.now c.put_number.new.draft (line (Push c.in-Num.c) (leaf (unsigned_abs c.in-Num.c)) ∷ []) (leaf (unsigned_abs c.in-Num.c))) = search rules in
+    rw c.in-Num.is h
 
-pub returns-in_ok-put_tree-in-Add-clause-wrote : goal.returns-in_ok-put_tree-in-Add-clause-wrote
-returns-in_ok-put_tree-in-Add-clause-wrote t c =
-    let e : untyped (typed c.args.t.now) ≡ Add (untyped (typed c.deref-in-Add-2.result.now)) (untyped (typed c.deref-in-Add-3.result.now)) = rw (c.in-Add.is, c.deref-in-Add-2.ensures, c.deref-in-Add-3.ensures) refl in
-    let y : untyped (typed c.deref-in-Add.result.now) ≡ untyped (typed c.deref-in-Add-3.result.now) = rw (c.deref-in-Add.ensures, c.deref-in-Add-3.ensures) refl in
-    let n : c.from-in-Add.result ≡ c.known-b.result.k - c.in_ok-a-in-Add.a.k = omega (arith, c.from-in-Add.ensures, c.saturating_sub.ensures) in
-    on_ok_weaker c.put_sum.result (λ q. wrote_add c.args.vars.now c.args.lets.now _ _ _ _ _ (untyped (typed c.args.t.now)) (untyped (typed c.deref-in-Add-2.result.now)) (untyped (typed c.deref-in-Add-3.result.now)) c.in_ok-a-in-Add.a c.known-b.result c.from-in-Add.result e c.in_ok-a-in-Add.ensures.triple (rw y at c.known-b.ensures.value) n c.in_ok-a-in-Add.ensures.wrote c.in_ok-put_cut-in-Add.ensures.wrote c.in_ok-put_tree-in-Add.ensures.wrote q) c.put_sum.ensures.wrote
+pub put_input-requires-clause-steady : goal.put_input-requires-clause-steady
+put_input-requires-clause-steady t c = rw c.in-Input.is at c.requires.steady
 
-pub returns-in_ok-put_tree-in-Sub-clause-wrote : goal.returns-in_ok-put_tree-in-Sub-clause-wrote
-returns-in_ok-put_tree-in-Sub-clause-wrote t c =
-    let e : untyped (typed c.args.t.now) ≡ Sub (untyped (typed c.deref-in-Sub-2.result.now)) (untyped (typed c.deref-in-Sub-3.result.now)) = rw (c.in-Sub.is, c.deref-in-Sub-2.ensures, c.deref-in-Sub-3.ensures) refl in
-    let y : untyped (typed c.deref-in-Sub.result.now) ≡ untyped (typed c.deref-in-Sub-3.result.now) = rw (c.deref-in-Sub.ensures, c.deref-in-Sub-3.ensures) refl in
-    let n : c.from-in-Sub.result ≡ c.known-b-in-Sub.result.k - c.in_ok-a-in-Sub.a.k = omega (arith, c.from-in-Sub.ensures, c.saturating_sub-in-Sub.ensures) in
-    on_ok_weaker c.put_sum-in-Sub.result (λ q. wrote_sub c.args.vars.now c.args.lets.now _ _ _ _ _ (untyped (typed c.args.t.now)) (untyped (typed c.deref-in-Sub-2.result.now)) (untyped (typed c.deref-in-Sub-3.result.now)) c.in_ok-a-in-Sub.a c.known-b-in-Sub.result c.from-in-Sub.result e c.in_ok-a-in-Sub.ensures.triple (rw y at c.known-b-in-Sub.ensures.value) n c.in_ok-a-in-Sub.ensures.wrote c.in_ok-put_cut-in-Sub.ensures.wrote c.in_ok-put_tree-in-Sub.ensures.wrote q) c.put_sum-in-Sub.ensures.wrote
+pub returns-in-Input : goal.returns-in-Input
+returns-in-Input t c = rw c.in-Input.is c.put_input.ensures
 
-pub returns-in_ok-b-in-Mul-clause-wrote : goal.returns-in_ok-b-in-Mul-clause-wrote
-returns-in_ok-b-in-Mul-clause-wrote t c =
-    let e : untyped (typed c.args.t.now) ≡ Mul (untyped (typed c.deref-in-Mul.result.now)) (untyped (typed c.deref-in-Mul-2.result.now)) = rw (c.in-Mul.is, c.deref-in-Mul.ensures, c.deref-in-Mul-2.ensures) refl in
-    on_ok_weaker c.put_product.result (λ q. wrote_mul c.args.vars.now c.args.lets.now _ _ _ _ (untyped (typed c.args.t.now)) (untyped (typed c.deref-in-Mul.result.now)) (untyped (typed c.deref-in-Mul-2.result.now)) c.in_ok-a-in-Mul.a c.in_ok-b-in-Mul.b e c.in_ok-a-in-Mul.ensures.triple c.in_ok-b-in-Mul.ensures.triple c.in_ok-a-in-Mul.ensures.wrote c.in_ok-b-in-Mul.ensures.wrote q) c.put_product.ensures.wrote
+pub returns-in-Let : goal.returns-in-Let
+returns-in-Let t c = rw c.in-Let.is c.put_name.ensures
 
-pub returns-in_ok-a-in-Pow-clause-wrote : goal.returns-in_ok-a-in-Pow-clause-wrote
-returns-in_ok-a-in-Pow-clause-wrote t c =
-    let e : untyped (typed c.args.t.now) ≡ Pow (untyped (typed c.deref-else-n-eq0.result.now)) c.in-Pow.n = rw (c.in-Pow.is, c.deref-else-n-eq0.ensures) refl in
-    let z : c.in-Pow.n ≢ 0 = c.if-n-eq0.false in
-    on_ok_weaker c.put_power.result (λ q. wrote_pow c.args.vars.now c.args.lets.now _ _ _ (untyped (typed c.args.t.now)) (untyped (typed c.deref-else-n-eq0.result.now)) c.in_ok-a-in-Pow.a c.in-Pow.n e c.in_ok-a-in-Pow.ensures.triple z c.in_ok-a-in-Pow.ensures.wrote q) c.put_power.ensures.wrote
+pub returns-in_ok-a-in-Neg : goal.returns-in_ok-a-in-Neg
+returns-in_ok-a-in-Neg t c =
+    let e : (untyped (typed c.args.t.now)) ≡ Neg (untyped (typed c.deref.result.now)) = rw (c.in-Neg.is, c.deref.ensures) refl in
+    IfOk-weaker c.put_op.result _ _ (λ x g. gives_neg c.args.vars.now c.args.lets.now _ _ _ (untyped (typed c.args.t.now)) (untyped (typed c.deref.result.now)) c.in_ok-a-in-Neg.a x e c.in_ok-a-in-Neg.ensures g) c.put_op.ensures
+
+pub put_tree-requires-in-Add : goal.put_tree-requires-in-Add
+put_tree-requires-in-Add t c =
+    let x = typed c.deref-in-Add.result.now in
+    let y = typed c.in-Add.y.value in
+    let o : Operands t (typed c.args.t.now) x y = rw c.deref-in-Add.ensures (operands t c.args.t.now.op _ _ _ (typed c.in-Add.x.value) (typed c.in-Add.y.value) (range c.args.t.now.pair) c.args.t.now.width c.in-Add.is refl refl refl c.decreases) in
+    let s = steady_operands c.args.vars.now c.args.lets.now (untyped (typed c.args.t.now)) (kind_of (untyped (typed c.args.t.now))) (untyped x) (untyped y) o.form c.requires.steady in
+    (o.first_falls, (c.requires.ranges, (c.requires.lets, s.left)))
+
+pub put_left-requires-clause-steady : goal.put_left-requires-clause-steady
+put_left-requires-clause-steady t c =
+    let x = typed c.deref-in-Add.result.now in
+    let y = typed c.deref-in-Add-2.result.now in
+    let o : Operands t (typed c.args.t.now) x y = rw (c.deref-in-Add.ensures, c.deref-in-Add-2.ensures) (operands t c.args.t.now.op _ _ _ (typed c.in-Add.x.value) (typed c.in-Add.y.value) (range c.args.t.now.pair) c.args.t.now.width c.in-Add.is refl refl refl c.decreases) in
+    (steady_operands c.args.vars.now c.args.lets.now (untyped (typed c.args.t.now)) (kind_of (untyped (typed c.args.t.now))) (untyped x) (untyped y) o.form c.requires.steady).right
+
+pub put_tree-requires-in-Add-2 : goal.put_tree-requires-in-Add-2
+put_tree-requires-in-Add-2 t c =
+    let x = typed c.deref-in-Add.result.now in
+    let y = typed c.deref-in-Add-3.result.now in
+    let o : Operands t (typed c.args.t.now) x y = rw (c.deref-in-Add.ensures, c.deref-in-Add-3.ensures) (operands t c.args.t.now.op _ _ _ (typed c.in-Add.x.value) (typed c.in-Add.y.value) (range c.args.t.now.pair) c.args.t.now.width c.in-Add.is refl refl refl c.decreases) in
+    let s = steady_operands c.args.vars.now c.args.lets.now (untyped (typed c.args.t.now)) (kind_of (untyped (typed c.args.t.now))) (untyped x) (untyped y) o.form c.requires.steady in
+    (o.second_falls, (c.requires.ranges, (c.requires.lets, s.right)))
+
+pub put_right-requires-clause-steady : goal.put_right-requires-clause-steady
+put_right-requires-clause-steady t c =
+    let x = typed c.deref-in-Add.result.now in
+    let y = typed c.deref-in-Add-3.result.now in
+    let o : Operands t (typed c.args.t.now) x y = rw (c.deref-in-Add.ensures, c.deref-in-Add-3.ensures) (operands t c.args.t.now.op _ _ _ (typed c.in-Add.x.value) (typed c.in-Add.y.value) (range c.args.t.now.pair) c.args.t.now.width c.in-Add.is refl refl refl c.decreases) in
+    rw (c.kind_of-in-Add.ensures, c.in_ok-a-in-Add.ensures.triple, c.in_ok-b-in-Add.ensures.triple) (steady_operands c.args.vars.now c.args.lets.now (untyped (typed c.args.t.now)) (kind_of (untyped (typed c.args.t.now))) (untyped x) (untyped y) o.form c.requires.steady).whole
+
+pub returns-in_ok-b-in-Add : goal.returns-in_ok-b-in-Add
+returns-in_ok-b-in-Add t c =
+    let x = typed c.deref-in-Add.result.now in
+    let y = typed c.deref-in-Add-3.result.now in
+    let o : Operands t (typed c.args.t.now) x y = rw (c.deref-in-Add.ensures, c.deref-in-Add-3.ensures) (operands t c.args.t.now.op _ _ _ (typed c.in-Add.x.value) (typed c.in-Add.y.value) (range c.args.t.now.pair) c.args.t.now.width c.in-Add.is refl refl refl c.decreases) in
+    let l = rw (c.kind_of.ensures, c.deref-in-Add-2.ensures, ← c.deref-in-Add-3.ensures) at c.in_ok-put_left-in-Add.ensures in
+    IfOk-weaker c.put_right.result _ _ (λ r g. gives_two c.args.vars.now c.args.lets.now (kind_of (untyped (typed c.args.t.now))) _ _ _ _ _ (untyped (typed c.args.t.now)) (untyped x) (untyped y) c.in_ok-a-in-Add.a c.in_ok-b-in-Add.b r o.form c.in_ok-a-in-Add.ensures l c.in_ok-b-in-Add.ensures (rw c.kind_of-in-Add.ensures at g)) c.put_right.ensures
+
+pub returns-then-n-eq0 : goal.returns-then-n-eq0
+returns-then-n-eq0 t c =
+    let e : (untyped (typed c.args.t.now)) ≡ Pow (untyped (typed c.in-Pow.x.value)) c.in-Pow.n = rw c.in-Pow.is refl in
+    IfOk-weaker c.put_number-then-n-eq0.result _ _ (λ x g. gives_zeroth c.args.vars.now c.args.lets.now _ _ (untyped (typed c.args.t.now)) (untyped (typed c.in-Pow.x.value)) c.in-Pow.n x e c.if-n-eq0.true g) c.put_number-then-n-eq0.ensures
+
+pub put_power-requires-clause-steady : goal.put_power-requires-clause-steady
+put_power-requires-clause-steady t c =
+    let e : (untyped (typed c.args.t.now)) ≡ Pow (untyped (typed c.deref-else-n-eq0.result.now)) c.in-Pow.n = rw (c.in-Pow.is, c.deref-else-n-eq0.ensures) refl in
+    base_steady c.args.vars.now c.args.lets.now (untyped (typed c.args.t.now)) (untyped (typed c.deref-else-n-eq0.result.now)) c.in-Pow.n c.in_ok-a-in-Pow.a e c.if-n-eq0.false c.in_ok-a-in-Pow.ensures.triple c.requires.steady
+
+pub returns-in_ok-a-in-Pow : goal.returns-in_ok-a-in-Pow
+returns-in_ok-a-in-Pow t c =
+    let e : (untyped (typed c.args.t.now)) ≡ Pow (untyped (typed c.deref-else-n-eq0.result.now)) c.in-Pow.n = rw (c.in-Pow.is, c.deref-else-n-eq0.ensures) refl in
+    IfOk-weaker c.put_power.result _ _ (λ x g. gives_power c.args.vars.now c.args.lets.now _ _ _ (untyped (typed c.args.t.now)) (untyped (typed c.deref-else-n-eq0.result.now)) c.in-Pow.n c.in_ok-a-in-Pow.a x e c.if-n-eq0.false c.in_ok-a-in-Pow.ensures g) c.put_power.ensures

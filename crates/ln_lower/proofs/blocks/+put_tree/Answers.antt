@@ -2,12 +2,13 @@ use Rattle.std.proofs.Common.{rules, ◌≡◌, ◌+◌, ◌-◌, ◌≤◌, [],
 use Rattle.ln_interval.specs.Range.{Range, magnitude, most, power}
 use Rattle.ln_interval.specs.View.{range}
 use Rattle.ln_bound.specs.declared.fitted.Width.{Width}
-use Rattle.ln_bound.specs.declared.fitted.Two.TheVariants.{Plus, Minus, Times}
 use Rattle.ln_bound.specs.Typed.{TNum, TInput, TLet, TNeg, TTwo, TPow, pair}
 use Rattle.ln_bound.specs.View.{typed}
 use Rattle.ln_bound.proofs.Trees.Views.{pair_typed}
 use Rattle.ln_code.specs.declared.op.Op.TheVariants.{Push, Input, Get}
+use Rattle.ln_lower.specs.Distinct.{kind_of}
 use Rattle.ln_lower.specs.Lowered.{line}
+use Rattle.ln_lower.proofs.Subtrees.Operands.{are_operands, two_typed}
 use Rattle.std.specs.Prelude.{OnOk}
 use Rattle.ln_lower.specs.Wrote.{Wrote}
 use Rattle.ln_lower.specs.Written.{number, variable, name}
@@ -57,26 +58,37 @@ returns-in_ok-put_tree-in-Neg t c =
     let e : typed c.args.t.now ≡ TNeg (typed c.deref.result.now) (range c.args.t.now.pair) c.args.t.now.width = rw (c.in-Neg.is, c.deref.ensures) refl in
     ok_then c.put_done.result _ _ c.put_done.ensures (λ q. puts_kept c.args.distinct.now.keys _ _ _ (typed c.args.t.now) c.args.k p (sym (pair_typed c.args.t.now)) c.requires.stands (done_neg c.args.distinct.now.keys _ _ _ (typed c.deref.result.now) (typed c.args.t.now) p w e c.in_ok-put_tree-in-Neg.ensures q.wrote) q.keeps)
 
+pub put_tree-requires-in-Add : goal.put_tree-requires-in-Add
+put_tree-requires-in-Add t c =
+    let o = kind_of (typed c.args.t.now) in
+    let p : Range = range c.args.t.now.pair in
+    let w : Width = c.args.t.now.width in
+    let x = typed c.deref-in-Add.result.now in
+    let y = typed c.in-Add.y.value in
+    let e : typed c.args.t.now ≡ TTwo (kind_of (typed c.args.t.now)) x y (range c.args.t.now.pair) c.args.t.now.width = rw c.deref-in-Add.ensures (two_typed c.args.t.now.op _ _ _ (typed c.in-Add.x.value) (typed c.in-Add.y.value) (range c.args.t.now.pair) c.args.t.now.width c.in-Add.is refl refl refl) in
+    let r = are_operands c.args.distinct.now.keys t c.args.k (typed c.args.t.now) o x y p w e c.decreases c.requires.powers c.requires.stands in
+    (r.first_falls, (r.first_powers, rw c.operand-in-Add.ensures r.first_stands))
+
+pub put_tree-requires-in-Add-2 : goal.put_tree-requires-in-Add-2
+put_tree-requires-in-Add-2 t c =
+    let o = kind_of (typed c.args.t.now) in
+    let p : Range = range c.args.t.now.pair in
+    let w : Width = c.args.t.now.width in
+    let x = typed c.deref-in-Add.result.now in
+    let y = typed c.deref-in-Add-2.result.now in
+    let e : typed c.args.t.now ≡ TTwo (kind_of (typed c.args.t.now)) x y (range c.args.t.now.pair) c.args.t.now.width = rw (c.deref-in-Add.ensures, c.deref-in-Add-2.ensures) (two_typed c.args.t.now.op _ _ _ (typed c.in-Add.x.value) (typed c.in-Add.y.value) (range c.args.t.now.pair) c.args.t.now.width c.in-Add.is refl refl refl) in
+    let r = are_operands c.args.distinct.now.keys t c.args.k (typed c.args.t.now) o x y p w e c.decreases c.requires.powers c.requires.stands in
+    (r.second_falls, (r.second_powers, rw c.right.ensures r.second_stands))
+
 pub returns-in_ok-put_tree-in-Add-2 : goal.returns-in_ok-put_tree-in-Add-2
 returns-in_ok-put_tree-in-Add-2 t c =
+    let o = kind_of (typed c.args.t.now) in
     let p : Range = range c.args.t.now.pair in
     let w : Width = c.args.t.now.width in
-    let e : typed c.args.t.now ≡ TTwo Plus (typed c.deref-in-Add.result.now) (typed c.deref-in-Add-2.result.now) (range c.args.t.now.pair) c.args.t.now.width = rw (c.in-Add.is, c.deref-in-Add.ensures, c.deref-in-Add-2.ensures) refl in
-    ok_then c.put_done-in-Add.result _ _ c.put_done-in-Add.ensures (λ q. puts_kept c.args.distinct.now.keys _ _ _ (typed c.args.t.now) c.args.k p (sym (pair_typed c.args.t.now)) c.requires.stands (done_two c.args.distinct.now.keys _ _ _ _ Plus (typed c.deref-in-Add.result.now) (typed c.deref-in-Add-2.result.now) (typed c.args.t.now) p w e c.in_ok-put_tree-in-Add.ensures c.in_ok-put_tree-in-Add-2.ensures q.wrote) q.keeps)
-
-pub returns-in_ok-put_tree-in-Sub-2 : goal.returns-in_ok-put_tree-in-Sub-2
-returns-in_ok-put_tree-in-Sub-2 t c =
-    let p : Range = range c.args.t.now.pair in
-    let w : Width = c.args.t.now.width in
-    let e : typed c.args.t.now ≡ TTwo Minus (typed c.deref-in-Sub.result.now) (typed c.deref-in-Sub-2.result.now) (range c.args.t.now.pair) c.args.t.now.width = rw (c.in-Sub.is, c.deref-in-Sub.ensures, c.deref-in-Sub-2.ensures) refl in
-    ok_then c.put_done-in-Sub.result _ _ c.put_done-in-Sub.ensures (λ q. puts_kept c.args.distinct.now.keys _ _ _ (typed c.args.t.now) c.args.k p (sym (pair_typed c.args.t.now)) c.requires.stands (done_two c.args.distinct.now.keys _ _ _ _ Minus (typed c.deref-in-Sub.result.now) (typed c.deref-in-Sub-2.result.now) (typed c.args.t.now) p w e c.in_ok-put_tree-in-Sub.ensures c.in_ok-put_tree-in-Sub-2.ensures q.wrote) q.keeps)
-
-pub returns-in_ok-put_tree-in-Mul-2 : goal.returns-in_ok-put_tree-in-Mul-2
-returns-in_ok-put_tree-in-Mul-2 t c =
-    let p : Range = range c.args.t.now.pair in
-    let w : Width = c.args.t.now.width in
-    let e : typed c.args.t.now ≡ TTwo Times (typed c.deref-in-Mul.result.now) (typed c.deref-in-Mul-2.result.now) (range c.args.t.now.pair) c.args.t.now.width = rw (c.in-Mul.is, c.deref-in-Mul.ensures, c.deref-in-Mul-2.ensures) refl in
-    ok_then c.put_done-in-Mul.result _ _ c.put_done-in-Mul.ensures (λ q. puts_kept c.args.distinct.now.keys _ _ _ (typed c.args.t.now) c.args.k p (sym (pair_typed c.args.t.now)) c.requires.stands (done_two c.args.distinct.now.keys _ _ _ _ Times (typed c.deref-in-Mul.result.now) (typed c.deref-in-Mul-2.result.now) (typed c.args.t.now) p w e c.in_ok-put_tree-in-Mul.ensures c.in_ok-put_tree-in-Mul-2.ensures q.wrote) q.keeps)
+    let x = typed c.deref-in-Add.result.now in
+    let y = typed c.deref-in-Add-2.result.now in
+    let e : typed c.args.t.now ≡ TTwo (kind_of (typed c.args.t.now)) x y (range c.args.t.now.pair) c.args.t.now.width = rw (c.deref-in-Add.ensures, c.deref-in-Add-2.ensures) (two_typed c.args.t.now.op _ _ _ (typed c.in-Add.x.value) (typed c.in-Add.y.value) (range c.args.t.now.pair) c.args.t.now.width c.in-Add.is refl refl refl) in
+    ok_then c.put_done-in-Add.result _ _ c.put_done-in-Add.ensures (λ q. puts_kept c.args.distinct.now.keys _ _ _ (typed c.args.t.now) c.args.k p (sym (pair_typed c.args.t.now)) c.requires.stands (done_two c.args.distinct.now.keys _ _ _ _ o x y (typed c.args.t.now) p w e c.in_ok-put_tree-in-Add.ensures c.in_ok-put_tree-in-Add-2.ensures (rw c.op_of.ensures at q.wrote)) q.keeps)
 
 pub returns-then-n-eq0 : goal.returns-then-n-eq0
 returns-then-n-eq0 t c =

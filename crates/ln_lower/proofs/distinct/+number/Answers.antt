@@ -3,10 +3,11 @@ use Rattle.std.proofs.lemmas.Result.{IfOk-weaker}
 use Rattle.ln_interval.specs.Range.{Range}
 use Rattle.ln_interval.specs.View.{range}
 use Rattle.ln_bound.specs.declared.fitted.Width.{Width}
-use Rattle.ln_bound.specs.declared.fitted.Two.TheVariants.{Plus, Minus, Times}
 use Rattle.ln_bound.specs.Typed.{TNeg, TTwo, TPow}
 use Rattle.ln_bound.specs.View.{typed}
+use Rattle.ln_lower.specs.Distinct.{kind_of}
 use Rattle.ln_lower.proofs.Subtrees.Numbering.{numbered_neg, numbered_two, numbered_pow}
+use Rattle.ln_lower.proofs.Subtrees.Operands.{two_costs, two_typed}
 use Rattle.ln_lower.proofs.distinct.+number.Goals as goal
 
 pub returns-in_ok-a-in-Neg : goal.returns-in_ok-a-in-Neg
@@ -14,32 +15,32 @@ returns-in_ok-a-in-Neg t c =
     let p : Range = range c.args.t.now.pair in
     let w : Width = c.args.t.now.width in
     let e : typed c.args.t.now ≡ TNeg (typed c.deref.result.now) (range c.args.t.now.pair) c.args.t.now.width = rw (c.in-Neg.is, c.deref.ensures) refl in
-    IfOk-weaker c.add-in-Neg.result _ _ (λ k h. numbered_neg _ _ _ c.in_ok-a-in-Neg.a k (typed c.deref.result.now) (typed c.args.t.now) c.key_of-in-Neg.result p w e c.key_of-in-Neg.ensures c.in_ok-a-in-Neg.ensures h) c.add-in-Neg.ensures
+    IfOk-weaker c.noted-in-Neg.result _ _ (λ k h. numbered_neg _ _ _ c.in_ok-a-in-Neg.a k (typed c.deref.result.now) (typed c.args.t.now) p w e c.in_ok-a-in-Neg.ensures h) c.noted-in-Neg.ensures
+
+pub number-requires-in-Add : goal.number-requires-in-Add
+number-requires-in-Add t c =
+    let x = typed c.deref-in-Add.result.now in
+    let y = typed c.in-Add.y.value in
+    let e : typed c.args.t.now ≡ TTwo (kind_of (typed c.args.t.now)) x y (range c.args.t.now.pair) c.args.t.now.width = rw c.deref-in-Add.ensures (two_typed c.args.t.now.op _ _ _ (typed c.in-Add.x.value) (typed c.in-Add.y.value) (range c.args.t.now.pair) c.args.t.now.width c.in-Add.is refl refl refl) in
+    ((two_costs t (typed c.args.t.now) (kind_of (typed c.args.t.now)) x y (range c.args.t.now.pair) c.args.t.now.width e c.decreases).0, tt)
+
+pub number-requires-in-Add-2 : goal.number-requires-in-Add-2
+number-requires-in-Add-2 t c =
+    let x = typed c.deref-in-Add.result.now in
+    let y = typed c.deref-in-Add-2.result.now in
+    let e : typed c.args.t.now ≡ TTwo (kind_of (typed c.args.t.now)) x y (range c.args.t.now.pair) c.args.t.now.width = rw (c.deref-in-Add.ensures, c.deref-in-Add-2.ensures) (two_typed c.args.t.now.op _ _ _ (typed c.in-Add.x.value) (typed c.in-Add.y.value) (range c.args.t.now.pair) c.args.t.now.width c.in-Add.is refl refl refl) in
+    ((two_costs t (typed c.args.t.now) (kind_of (typed c.args.t.now)) x y (range c.args.t.now.pair) c.args.t.now.width e c.decreases).1, tt)
 
 pub returns-in_ok-b-in-Add : goal.returns-in_ok-b-in-Add
 returns-in_ok-b-in-Add t c =
-    let p : Range = range c.args.t.now.pair in
-    let w : Width = c.args.t.now.width in
-    let e : typed c.args.t.now ≡ TTwo Plus (typed c.deref-in-Add.result.now) (typed c.deref-in-Add-2.result.now) (range c.args.t.now.pair) c.args.t.now.width = rw (c.in-Add.is, c.deref-in-Add.ensures, c.deref-in-Add-2.ensures) refl in
-    IfOk-weaker c.add-in-Add.result _ _ (λ k h. numbered_two _ _ _ _ c.in_ok-a-in-Add.a c.in_ok-b-in-Add.b k Plus (typed c.deref-in-Add.result.now) (typed c.deref-in-Add-2.result.now) (typed c.args.t.now) c.key_of-in-Add.result p w e c.key_of-in-Add.ensures c.in_ok-a-in-Add.ensures c.in_ok-b-in-Add.ensures h) c.add-in-Add.ensures
-
-pub returns-in_ok-b-in-Sub : goal.returns-in_ok-b-in-Sub
-returns-in_ok-b-in-Sub t c =
-    let p : Range = range c.args.t.now.pair in
-    let w : Width = c.args.t.now.width in
-    let e : typed c.args.t.now ≡ TTwo Minus (typed c.deref-in-Sub.result.now) (typed c.deref-in-Sub-2.result.now) (range c.args.t.now.pair) c.args.t.now.width = rw (c.in-Sub.is, c.deref-in-Sub.ensures, c.deref-in-Sub-2.ensures) refl in
-    IfOk-weaker c.add-in-Sub.result _ _ (λ k h. numbered_two _ _ _ _ c.in_ok-a-in-Sub.a c.in_ok-b-in-Sub.b k Minus (typed c.deref-in-Sub.result.now) (typed c.deref-in-Sub-2.result.now) (typed c.args.t.now) c.key_of-in-Sub.result p w e c.key_of-in-Sub.ensures c.in_ok-a-in-Sub.ensures c.in_ok-b-in-Sub.ensures h) c.add-in-Sub.ensures
-
-pub returns-in_ok-b-in-Mul : goal.returns-in_ok-b-in-Mul
-returns-in_ok-b-in-Mul t c =
-    let p : Range = range c.args.t.now.pair in
-    let w : Width = c.args.t.now.width in
-    let e : typed c.args.t.now ≡ TTwo Times (typed c.deref-in-Mul.result.now) (typed c.deref-in-Mul-2.result.now) (range c.args.t.now.pair) c.args.t.now.width = rw (c.in-Mul.is, c.deref-in-Mul.ensures, c.deref-in-Mul-2.ensures) refl in
-    IfOk-weaker c.add-in-Mul.result _ _ (λ k h. numbered_two _ _ _ _ c.in_ok-a-in-Mul.a c.in_ok-b-in-Mul.b k Times (typed c.deref-in-Mul.result.now) (typed c.deref-in-Mul-2.result.now) (typed c.args.t.now) c.key_of-in-Mul.result p w e c.key_of-in-Mul.ensures c.in_ok-a-in-Mul.ensures c.in_ok-b-in-Mul.ensures h) c.add-in-Mul.ensures
+    let x = typed c.deref-in-Add.result.now in
+    let y = typed c.deref-in-Add-2.result.now in
+    let e : typed c.args.t.now ≡ TTwo (kind_of (typed c.args.t.now)) x y (range c.args.t.now.pair) c.args.t.now.width = rw (c.deref-in-Add.ensures, c.deref-in-Add-2.ensures) (two_typed c.args.t.now.op _ _ _ (typed c.in-Add.x.value) (typed c.in-Add.y.value) (range c.args.t.now.pair) c.args.t.now.width c.in-Add.is refl refl refl) in
+    IfOk-weaker c.noted-in-Add.result _ _ (λ k h. numbered_two _ _ _ _ c.in_ok-a-in-Add.a c.in_ok-b-in-Add.b k _ x y (typed c.args.t.now) (range c.args.t.now.pair) c.args.t.now.width e c.in_ok-a-in-Add.ensures c.in_ok-b-in-Add.ensures (rw c.kind_of.ensures at h)) c.noted-in-Add.ensures
 
 pub returns-in_ok-a-in-Pow : goal.returns-in_ok-a-in-Pow
 returns-in_ok-a-in-Pow t c =
     let p : Range = range c.args.t.now.pair in
     let w : Width = c.args.t.now.width in
     let e : typed c.args.t.now ≡ TPow (typed c.deref-in-Pow.result.now) c.in-Pow.n (range c.args.t.now.pair) c.args.t.now.width = rw (c.in-Pow.is, c.deref-in-Pow.ensures) refl in
-    IfOk-weaker c.add-in-Pow.result _ _ (λ k h. numbered_pow _ _ _ c.in_ok-a-in-Pow.a k (typed c.deref-in-Pow.result.now) (typed c.args.t.now) c.in-Pow.n c.key_of-in-Pow.result p w e c.key_of-in-Pow.ensures c.in_ok-a-in-Pow.ensures h) c.add-in-Pow.ensures
+    IfOk-weaker c.noted-in-Pow.result _ _ (λ k h. numbered_pow _ _ _ c.in_ok-a-in-Pow.a k (typed c.deref-in-Pow.result.now) (typed c.args.t.now) c.in-Pow.n p w e c.in_ok-a-in-Pow.ensures h) c.noted-in-Pow.ensures

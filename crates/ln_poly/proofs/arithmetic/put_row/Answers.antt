@@ -1,5 +1,5 @@
 use Rattle.std.proofs.Common.{arith}
-use Rattle.ln_poly.proofs.TermLists.Products.{row-init, row-room, row-step}
+use Rattle.ln_poly.proofs.TermLists.Products.{powers-at, row-end, row-init, row-room, row-step}
 use Rattle.ln_poly.proofs.arithmetic.put_row.Goals as goal
 
 pub loop-t-init : goal.loop-t-init
@@ -10,3 +10,9 @@ put_product-requires-clause-room c = row-room c.args.out.now.items c.args.g.now 
 
 pub loop-t-preserved : goal.loop-t-preserved
 loop-t-preserved c = row-step _ _ _ _ _ _ _ c.loop-t.invariant (omega arith) c.t-item.is c.in_ok-put_product.ensures
+
+pub put_product-requires-clause-powers : goal.put_product-requires-clause-powers
+put_product-requires-clause-powers c = powers-at c.args.s.now c.args.g.now c.loop-t.t-index c.t-item.result c.requires.powers c.loop-t-test.true c.t-item.is
+
+pub returns : goal.returns
+returns c = row-end _ _ _ _ _ (omega arith) c.loop-t.invariant

@@ -1,5 +1,6 @@
-use Rattle.std.proofs.Common.{arith}
-use Rattle.ln_poly.proofs.Derivations.Deriving.{deriving-init, deriving-room, deriving-step}
+use Rattle.std.proofs.Common.{◌∙◌, arith, length}
+use Rattle.ln_bound.specs.Value.{sizes}
+use Rattle.ln_poly.proofs.Derivations.Deriving.{AreDerived, deriving-end, deriving-init, deriving-room, deriving-step}
 use Rattle.ln_poly.proofs.derivatives.derive.Goals as goal
 
 pub terms-init : goal.terms-init
@@ -10,3 +11,22 @@ put_derived-requires-clause-room c = deriving-room c.args.s.now.vars _ c.args.f.
 
 pub terms-preserved : goal.terms-preserved
 terms-preserved c = deriving-step c.args.s.now.vars _ c.args.f.now _ _ c.args.v c.args.n c.terms.t-index c.t-item.result c.terms-f.ensures.value c.requires.variable c.requires.below (omega arith) c.t-item.is c.terms.invariant c.in_ok-put_derived.ensures.none c.in_ok-put_derived.ensures.some
+
+pub gather-requires-clause-small : goal.gather-requires-clause-small
+gather-requires-clause-small c =
+    let d : AreDerived c.terms.out.items c.args.f.now (length c.args.s.now.vars) c.args.v c.args.n (sizes c.args.s.now.vars) = deriving-end _ _ _ _ _ _ _ _ c.terms-f.ensures.value c.terms-test.false c.terms.invariant in
+    omega (arith, d.size, c.requires.small)
+
+pub gather-requires-clause-rising : goal.gather-requires-clause-rising
+gather-requires-clause-rising c = c.terms.invariant.rising
+
+pub returns-clause-coefficients : goal.returns-clause-coefficients
+returns-clause-coefficients c =
+    let d : AreDerived c.terms.out.items c.args.f.now (length c.args.s.now.vars) c.args.v c.args.n (sizes c.args.s.now.vars) = deriving-end _ _ _ _ _ _ _ _ c.terms-f.ensures.value c.terms-test.false c.terms.invariant in
+    λ m. c.in_ok-h.ensures.coefficients (length c.args.s.now.vars) m ∙ d.coefficients m
+
+pub returns-clause-form : goal.returns-clause-form
+returns-clause-form c = c.in_ok-h.ensures.form
+
+pub returns-clause-below : goal.returns-clause-below
+returns-clause-below c = c.in_ok-h.ensures.below (length c.args.s.now.vars) c.terms.invariant.below
