@@ -74,20 +74,9 @@ impl<'a> Rows<'a> {
         ensures err { OnErr result (self.new ≡ []) }
     {
         let most = self.rest.len() + 1;
-        match first_record(self.rest, most, &mut self.held, into) {
-            Ok(Some(rest)) => {
-                self.rest = rest;
-                Ok(true)
-            }
-            Ok(None) => {
-                self.rest = &[];
-                Ok(false)
-            }
-            Err(_) => {
-                self.rest = &[];
-                Err(NoMemory)
-            }
-        }
+        let (found, rest) = first_record(self.rest, most, &mut self.held, into);
+        self.rest = rest;
+        found
     }
 
     /// Takes the first record, if there is one, and says whether its fields are the names of the predicate's columns. It keeps no more
@@ -99,20 +88,13 @@ impl<'a> Rows<'a> {
         ensures err { OnErr result (self.new ≡ []) }
     {
         let most = room(t, p).min(self.rest.len() + 1);
-        match first_record(self.rest, most, &mut self.held, &mut self.record) {
-            Ok(Some(rest)) => {
-                self.rest = rest;
-                Ok(header(t, p, &self.record))
-            }
-            Ok(None) => {
-                self.rest = &[];
-                Ok(false)
-            }
-            Err(_) => {
-                self.rest = &[];
-                Err(NoMemory)
-            }
+        let (found, rest) = first_record(self.rest, most, &mut self.held, &mut self.record);
+        self.rest = rest;
+        let some = found?;
+        if !some {
+            return Ok(false);
         }
+        Ok(header(t, p, &self.record))
     }
 
     // The same as `next_row`, byte by byte.
@@ -127,20 +109,13 @@ impl<'a> Rows<'a> {
         ensures err { OnErr result (self.new ≡ []) }
     {
         let most = column_count(p.shape.vars.as_slice(), p.shape.sites) + 1;
-        match first_record(self.rest, most, &mut self.held, &mut self.record) {
-            Ok(Some(rest)) => {
-                self.rest = rest;
-                Ok(Some(row(p, &self.record, into)))
-            }
-            Ok(None) => {
-                self.rest = &[];
-                Ok(None)
-            }
-            Err(_) => {
-                self.rest = &[];
-                Err(NoMemory)
-            }
+        let (found, rest) = first_record(self.rest, most, &mut self.held, &mut self.record);
+        self.rest = rest;
+        let some = found?;
+        if !some {
+            return Ok(None);
         }
+        Ok(Some(row(p, &self.record, into)))
     }
 
     /// Takes the next record, if there is one, and reads the row that it says into `into`, or tells the first fault that it has. Places
