@@ -1,5 +1,6 @@
 //! The scanner.
-ghost use Rattle.std.specs.Prelude.{◌≡◌, ℕ, ◌+◌, ◌<◌, ◌≤◌, ◌^◌, false, if◌then◌else◌, bytes_eq, List, All, IfErr, IfNone, IfOk, IfSome, drop, length};
+ghost use Rattle.std.specs.Prelude.{◌≡◌, ℕ, ◌+◌, ◌<◌, ◌≤◌, ◌^◌, false, if◌then◌else◌, bytes_eq};
+ghost use Rattle.std.specs.Prelude.{List, All, IfErr, IfNone, IfOk, IfSome, drop, length};
 ghost use Rattle.ln_lex.specs.Answers.{IsAnswered};
 ghost use Rattle.ln_lex.specs.Tokens.{BeginsNone, IsFirst, IsLexFault, IsLexLimit, IsSlice, Lexed, RiseFrom};
 ghost use Rattle.ln_lex.specs.Tokens.{Skips, StopsLexing, begins_blank, begins_comment, comment_len, word_kind};

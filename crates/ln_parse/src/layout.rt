@@ -57,10 +57,17 @@ fn arg(bytes: &[u8], before: &[RawItem], a: RawArg) -> Arg
 fn site_number(bytes: &[u8], before: &[RawItem], at: Span) -> Option<usize>
     ensures { result ≡ position_from (λ n. same bytes.now n at) 0 (filter_map (λ i. site_name (item i)) before.now) }
 {
-    before
-        .iter()
-        .filter_map(|it| site_name(it))
-        .position(|n| same(bytes, n, at))
+    let mut n = 0usize;
+    'items: for it in before {
+        let Some(name) = site_name(it) else {
+            continue;
+        };
+        if same(bytes, name, at) {
+            return Some(n);
+        }
+        n += 1;
+    }
+    None
 }
 
 fn site_name(it: &RawItem) -> Option<Span>
@@ -76,10 +83,17 @@ fn site_name(it: &RawItem) -> Option<Span>
 fn param_number(bytes: &[u8], before: &[RawItem], at: Span) -> Option<usize>
     ensures { result ≡ position_from (λ n. same bytes.now n at) 0 (filter_map (λ i. param_name (item i)) before.now) }
 {
-    before
-        .iter()
-        .filter_map(|it| param_name(it))
-        .position(|n| same(bytes, n, at))
+    let mut n = 0usize;
+    'items: for it in before {
+        let Some(name) = param_name(it) else {
+            continue;
+        };
+        if same(bytes, name, at) {
+            return Some(n);
+        }
+        n += 1;
+    }
+    None
 }
 
 fn param_name(it: &RawItem) -> Option<Span>

@@ -13,7 +13,6 @@ mod build;
 mod expression;
 mod layout;
 mod name;
-mod place;
 mod predicate;
 pub mod printer;
 pub mod source;

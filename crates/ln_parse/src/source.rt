@@ -8,17 +8,17 @@ ghost use Rattle.ln_parse.specs.Text.{TextOf};
 ghost use Rattle.ln_parse.specs.Fault.{one_byte, place_of, stop_of, TextFault, IsFaultless, IsRefusal, IsWithoutTable};
 
 use crate::build::build;
-use crate::place::span_of;
 use ln_base::{NoMemory, Seq, Span};
 use ln_lex::{LexStop, Token, tokens};
 use ln_names::{Fault, Found, LimitWhat, NameWhat, check_names};
+use ln_syntax::items::span_of;
 use ln_syntax::{RawItem, nesting_fault, read_items, syntax_fault};
 use ln_tree::Table;
 use std::alloc::Global;
 
 /// Why a source has no table, and where: a byte that begins no token, a limit that it breaks, a token with which no
 /// file goes on, a name; or memory ran out.
-#[derive(Clone, Copy, Debug, PartialEq, Eq)]
+#[derive(Clone, Copy, PartialEq, Eq)]
 pub enum ParseStop {
     Lexical(Span),
     Limit(LimitWhat, Span),

@@ -9,12 +9,13 @@ use Rattle.ln_syntax.specs.declared.raw.RawCoord.{RawCoord}
 use Rattle.ln_syntax.specs.declared.raw.RawRange.{RawRange}
 use Rattle.ln_syntax.specs.declared.raw.Places.{Places}
 use Rattle.ln_syntax.specs.declared.raw.RawItem.{RawItem}
-use Rattle.ln_syntax.specs.Raw.{Item, SiteItem, ParamItem, PredItem, item, items, is_site, text}
+use Rattle.ln_syntax.specs.Raw.{Item, SiteItem, ParamItem, PredItem, item, items, is_site, is_param, text}
 use Rattle.ln_names.specs.Rules.{scope}
 use Rattle.ln_tree.specs.Formula.{Formula}
 use Rattle.ln_tree.specs.declared.items.Site.{Site}
-use Rattle.ln_tree.specs.Table.{SiteOf, TableOf, PredOf, site_of}
-use Rattle.ln_parse.specs.Says.{Says, LetsSay, ranged, sites_said, PredSays, PredsSay}
+use Rattle.ln_tree.specs.declared.items.Param.{Param}
+use Rattle.ln_tree.specs.Table.{SiteOf, CoordOf, TableOf, PredOf, site_of, param_of}
+use Rattle.ln_parse.specs.Says.{Says, LetsSay, ranged, sites_said, params_said, PredSays, PredsSay}
 use Rattle.ln_parse.proofs.Building.Lists.{drop_item, take_item}
 
 -- the lets from place i on, behind these formulas
@@ -69,6 +70,29 @@ pub sites_skip : (bytes : List ℕ) (its : List RawItem) (i : ℕ) (x : RawItem)
     → map site_of done ++ sites_said bytes (items (drop i its)) ≡ all → map site_of more ++ sites_said bytes (items (drop (i + 1) its)) ≡ all
 sites_skip bytes its i x done more all h e n m on =
     let b : sites_said bytes (items (drop i its)) ≡ sites_said bytes (items (drop (i + 1) its)) = ap (λ (w : List Item). sites_said bytes w) (items_back its i x (item x) h e refl) ∙ no_site bytes (item x) (items (drop (i + 1) its)) n in
+    rw (m, ← b) on
+
+-- one more param is said
+pub params_more : (bytes : List ℕ) (its : List RawItem) (i : ℕ) (x : RawItem) (name : Span) (range : RawRange) (done more : List Param) (p : Param) (all : List CoordOf)
+    → i < length its → x ≡ get_or its i x → item x ≡ ParamItem name range → param_of p ≡ ranged bytes name range → more ≡ done ++ (p ∷ [])
+    → map param_of done ++ params_said bytes (items (drop i its)) ≡ all → map param_of more ++ params_said bytes (items (drop (i + 1) its)) ≡ all
+params_more bytes its i x name range done more p all h e q r m on =
+    let rest = params_said bytes (items (drop (i + 1) its)) in
+    let a : map param_of more ≡ map param_of done ++ (param_of p ∷ []) = ap (λ (w : List Param). map param_of w) m ∙ map_push param_of done p in
+    let b : params_said bytes (items (drop i its)) ≡ param_of p ∷ rest = ap (λ (w : List Item). params_said bytes w) (items_back its i x (ParamItem name range) h e q) ∙ ap (λ (w : CoordOf). w ∷ rest) (sym r) in
+    ap (λ (w : List CoordOf). w ++ rest) a ∙ append_assoc (map param_of done) (param_of p ∷ []) rest ∙ sym (ap (λ (w : List CoordOf). map param_of done ++ w) b) ∙ on
+
+no_param : (bytes : List ℕ) (y : Item) (is : List Item) → is_param y ≡ false → params_said bytes (y ∷ is) ≡ params_said bytes is
+no_param bytes (SiteItem name coords) is h = refl
+no_param bytes (ParamItem name range) is h = absurd (cc)
+no_param bytes (PredItem name args ls root) is h = refl
+
+-- an item that is no param adds none
+pub params_skip : (bytes : List ℕ) (its : List RawItem) (i : ℕ) (x : RawItem) (done more : List Param) (all : List CoordOf)
+    → i < length its → x ≡ get_or its i x → is_param (item x) ≡ false → more ≡ done
+    → map param_of done ++ params_said bytes (items (drop i its)) ≡ all → map param_of more ++ params_said bytes (items (drop (i + 1) its)) ≡ all
+params_skip bytes its i x done more all h e n m on =
+    let b : params_said bytes (items (drop i its)) ≡ params_said bytes (items (drop (i + 1) its)) = ap (λ (w : List Item). params_said bytes w) (items_back its i x (item x) h e refl) ∙ no_param bytes (item x) (items (drop (i + 1) its)) n in
     rw (m, ← b) on
 
 -- the predicates among the items from place i on, behind these predicates

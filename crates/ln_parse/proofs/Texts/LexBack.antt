@@ -141,6 +141,9 @@ if_some : (v : Bool) (k l : Kind) → cond v (Some k) None ≡ Some l → (v ≡
 if_some true k l h = (refl, cc)
 if_some false k l h = absurd (cc)
 
+no_some : {A : Type 0} {x : A} → None ≡ Some x → ⊥
+no_some h = cc
+
 first_by : (b : ℕ) (bs rest : List ℕ) (k : Kind) (v w : Bool) → is_letter b ≡ v → is_digit b ≡ w → cond v (cond (every is_name_byte bs) (Some (word_kind (b ∷ bs))) None) (cond w (cond (every is_digit bs) (Some Number) None) (sign_kind b bs)) ≡ Some k → Apart k rest → IsFirst (b ∷ (bs ++ rest)) (length (b ∷ bs)) k
 first_by b bs rest k true w l d h a =
     let p = if_some (every is_name_byte bs) (word_kind (b ∷ bs)) k h in
@@ -152,7 +155,7 @@ first_by b bs rest k false true l d h a =
     subst (λ (x : Kind). IsFirst (b ∷ (bs ++ rest)) (length (b ∷ bs)) x) p.1 (number_first b bs rest l d p.0 a2)
 first_by b [] rest k false false l d h a = sign_first b rest k l d h a
 first_by b (c ∷ []) rest k false false l d h a = dots_first b c rest k l d h
-first_by b (c ∷ x ∷ cs) rest k false false l d h a = absurd (cc)
+first_by b (c ∷ x ∷ cs) rest k false false l d h a = absurd (no_some h)
 
 pub word_first : (t rest : List ℕ) (k : Kind) → kind_of t ≡ Some k → Apart k rest → IsFirst (t ++ rest) (length t) k
 word_first [] rest k h a = absurd (cc)

@@ -1,5 +1,5 @@
 -- The text of a NAME is a name.
-use Rattle.std.proofs.Common.{◌≡◌, ℕ, zero, suc, ◌==◌, ◌&&◌, ◌||◌, not, Bool, true, false, cond, List, [], ◌∷◌, Option, Some, None, refl, ap, ◌∙◌}
+use Rattle.std.proofs.Common.{◌≡◌, ℕ, zero, suc, ◌==◌, ◌&&◌, ◌||◌, not, Bool, true, false, cond, List, [], ◌∷◌, Option, Some, None, refl, ap, sym, ◌∙◌, true≢false}
 use Rattle.std.specs.Prelude.{codes, bytes_eq}
 use Rattle.ln_base.specs.Words.{is_digit, is_letter, is_name_byte, every, is_keyword, is_name}
 use Rattle.ln_lex.specs.declared.token.Token.{Token}
@@ -43,8 +43,8 @@ no_keyword w h = word_by (bytes_eq w (codes "site")) (bytes_eq w (codes "param")
 name_by : (l g : Bool) (b : ℕ) (bs : List ℕ) → is_letter b ≡ l → every is_name_byte bs ≡ g → (o : Option Kind) → is_named o ≡ false
     → is_named (cond l (cond g (Some (word_kind (b ∷ bs))) None) o) ≡ true → is_name (b ∷ bs) ≡ true
 name_by true true b bs p q o n h = let k = no_keyword (b ∷ bs) h in rw (p, q) k
-name_by true false b bs p q o n h = absurd (cc)
-name_by false g b bs p q o n h = absurd (cc)
+name_by true false b bs p q o n h = absurd (true≢false (sym h))
+name_by false g b bs p q o n h = absurd (true≢false (sym h ∙ n))
 
 digits_or_sign : (d g : Bool) (o : Option Kind) → is_named o ≡ false → is_named (cond d (cond g (Some Number) None) o) ≡ false
 digits_or_sign true true o h = refl

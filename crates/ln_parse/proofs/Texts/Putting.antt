@@ -1,8 +1,8 @@
 -- What the printer puts.
-use Rattle.std.proofs.Common.{drop, map, length, get_or, ◌<◌, ◌+◌, ◌≡◌, ℕ, Bool, true, false, List, [], ◌∷◌, ◌++◌, refl, ap, sym, ◌∙◌, append_assoc, subst, codes, decimal, Some, ◌⊎◌, inl, inr, arith}
+use Rattle.std.proofs.Common.{drop, map, length, get_or, ◌<◌, ◌≤◌, ◌+◌, ◌≡◌, ℕ, Bool, true, false, List, [], ◌∷◌, ◌++◌, refl, ap, sym, ◌∙◌, append_assoc, subst, codes, decimal, Some, None, ◌⊎◌, inl, inr, arith}
 use Rattle.std.specs.Prelude.{slice_get, option_map}
 use Rattle.std.proofs.lemmas.Option.{slice_get-map}
-use Rattle.std.proofs.lemmas.List.{append-nil, drop_more}
+use Rattle.std.proofs.lemmas.List.{append-nil, drop_all, drop_more}
 use Rattle.ln_lex.specs.declared.token.Kind.{Kind}
 use Rattle.ln_lex.specs.declared.token.Kind.TheVariants.{ParR}
 use Rattle.ln_tree.specs.Formula.{Formula}
@@ -76,6 +76,16 @@ each_more f g xs i x h q p s = record {
       let e : drop i xs ≡ x ∷ drop (i + 1) xs = drop_more xs i x h ∙ ap (λ w. w ∷ drop (i + 1) xs) (sym q) in
       s.on (each f (map g (drop (i + 1) xs)) rest) ∙ simp e at (p.on rest);
 }
+
+-- all elements are put
+pub each_done : {A B : Type 0} {a b : List ℕ} (f : B → List Lexeme → List Lexeme) (g : A → B) (xs ys : List A) (i : ℕ) → length xs ≤ i → xs ≡ ys → EachPut a b f g xs i → Puts a b (each f (map g ys))
+each_done {a = a} {b = b} f g xs ys i l q p =
+    let e : drop i xs ≡ [] = drop_all i xs l in
+    record { on = λ rest. simp e at (p.on rest) ∙ ap (λ (w : List _). a ++ text_of (each f (map g w) rest)) q }
+
+-- no element was found at a place
+pub missing : {A B : Type 0} (f : A → B) (xs : List A) (i k : ℕ) → k ≡ i → None ≡ slice_get xs k → slice_get (map f xs) i ≡ None
+missing f xs i k q e = slice_get-map f xs i ∙ ap (λ o. option_map f o) (sym (e ∙ ap (λ (j : ℕ). slice_get xs j) q))
 
 -- the lets but for these last ones are put
 pub record LetsPut {A B : Type 0} (old new : List ℕ) (n : Naming) (f : A → List ℕ) (g : B → Formula) (ts us : List A) (es fs : List B) : Type 0 where

@@ -1,4 +1,4 @@
-use Rattle.std.proofs.Common.{inl, inr, refl, arith}
+use Rattle.std.proofs.Common.{inl, inr, refl, sym, ◌∙◌, true≢false, arith}
 use Rattle.std.proofs.lemmas.Result.{IfOk-weaker}
 use Rattle.ln_lex.specs.declared.token.Kind.TheVariants.{ParL, Minus, Star}
 use Rattle.ln_parse.proofs.Expressions.Steps.{is_within, par_here, par_tree, parens_read, atom_tree, power_plain, exponent_fit, power_read, power_tree, unary_tree, unary_plain, unary_minus, unary_first, factor_tree, term_first, sign_within, sign_tree, sums_begin, sums_next, sums_end, products_begin, products_times, products_end}
@@ -6,17 +6,17 @@ use Rattle.ln_parse.proofs.expression.+expression.Goals as goal
 
 pub atom-sum-requires : goal.atom-sum-requires
 atom-sum-requires t c =
-    let p = par_here c.requires.there (λ h. let y = c.is.ensures.1 h in let n = c.if-is.false in cc) (λ h. let y = c.is-2.ensures.1 h in let n = c.if-is-2.false in cc) in
+    let p = par_here c.requires.there (λ h. true≢false (sym (c.is.ensures.1 h) ∙ c.if-is.false)) (λ h. true≢false (sym (c.is-2.ensures.1 h) ∙ c.if-is-2.false)) in
     let w = is_within c.args.s.now.ts.now c.args.at ParL p in
     (omega arith, (omega arith, (c.requires.small, (c.requires.narrow, par_tree c.requires.there p))))
 
 pub atom-returns : goal.atom-returns
 atom-returns t c =
-    let p = par_here c.requires.there (λ h. let y = c.is.ensures.1 h in let n = c.if-is.false in cc) (λ h. let y = c.is-2.ensures.1 h in let n = c.if-is-2.false in cc) in
+    let p = par_here c.requires.there (λ h. true≢false (sym (c.is.ensures.1 h) ∙ c.if-is.false)) (λ h. true≢false (sym (c.is-2.ensures.1 h) ∙ c.if-is-2.false)) in
     rw (c.closed.ensures.end, c.closed.ensures.value) (parens_read c.requires.there p c.in_ok-inner.ensures)
 
 pub power-returns-then-not-is : goal.power-returns-then-not-is
-power-returns-then-not-is t c = power_plain c.in_ok-base.ensures (λ h. let y = c.is.ensures.1 h in let n = c.if-not-is.true in cc)
+power-returns-then-not-is t c = power_plain c.in_ok-base.ensures (λ h. true≢false (sym (c.is.ensures.1 h) ∙ c.if-not-is.true))
 
 pub power-returns : goal.power-returns
 power-returns t c =
@@ -38,7 +38,7 @@ sum-terms-preserved t c =
 
 pub sum-returns : goal.sum-returns
 sum-returns t c =
-    sums_end c.terms.invariant (λ h. let y = c.is_sign.ensures.1 (inl h) in let n = c.terms-test.false in cc) (λ h. let y = c.is_sign.ensures.1 (inr h) in let n = c.terms-test.false in cc)
+    sums_end c.terms.invariant (λ h. true≢false (sym (c.is_sign.ensures.1 (inl h)) ∙ c.terms-test.false)) (λ h. true≢false (sym (c.is_sign.ensures.1 (inr h)) ∙ c.terms-test.false))
 
 pub term-factors-init : goal.term-factors-init
 term-factors-init t c = products_begin c.in_ok-first.ensures
@@ -54,11 +54,11 @@ term-factors-preserved t c =
     rw c.in_ok-next.ensures.end (products_times c.factors.invariant (c.is.ensures.0 c.factors-test.true) c.in_ok-right.ensures refl c.in_ok-next.ensures.value)
 
 pub term-returns : goal.term-returns
-term-returns t c = products_end c.factors.invariant (λ h. let y = c.is.ensures.1 h in let n = c.factors-test.false in cc)
+term-returns t c = products_end c.factors.invariant (λ h. true≢false (sym (c.is.ensures.1 h) ∙ c.factors-test.false))
 
 pub unary-returns-then-not-is : goal.unary-returns-then-not-is
 unary-returns-then-not-is t c =
-    IfOk-weaker c.power.result _ _ (λ x h. unary_plain h (λ m. let y = c.is.ensures.1 m in let n = c.if-not-is.true in cc)) c.power.ensures
+    IfOk-weaker c.power.result _ _ (λ x h. unary_plain h (λ m. true≢false (sym (c.is.ensures.1 m) ∙ c.if-not-is.true))) c.power.ensures
 
 pub unary-unary-requires : goal.unary-unary-requires
 unary-unary-requires t c =
@@ -90,4 +90,4 @@ term-unary-requires t c = (omega arith, (c.requires.within, (c.requires.small, (
 
 pub unary-power-requires : goal.unary-power-requires
 unary-power-requires t c =
-    (omega arith, (c.requires.within, (c.requires.small, (c.requires.narrow, power_tree c.requires.there (λ m. let y = c.is.ensures.1 m in let n = c.if-not-is.true in cc)))))
+    (omega arith, (c.requires.within, (c.requires.small, (c.requires.narrow, power_tree c.requires.there (λ m. true≢false (sym (c.is.ensures.1 m) ∙ c.if-not-is.true))))))

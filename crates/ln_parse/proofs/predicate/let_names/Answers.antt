@@ -1,10 +1,19 @@
-use Rattle.std.proofs.Common.{arith}
-use Rattle.ln_syntax.specs.Raw.{items}
+use Rattle.std.proofs.Common.{◌∙◌, arith}
+use Rattle.ln_syntax.specs.Raw.{items, text}
+use Rattle.ln_tree.specs.Names.{name_bytes}
 use Rattle.ln_parse.specs.Ready.{ReadyLet}
 use Rattle.ln_parse.proofs.Building.Loops.{each_or}
+use Rattle.ln_parse.proofs.Building.Turns.{all_mapped, one_mapped}
 use Rattle.ln_parse.proofs.predicate.let_names.Goals as goal
 
 pub name_at-requires : goal.name_at-requires
 name_at-requires c =
     let s = c.args.s.now in
     (each_or (ReadyLet s.bytes.now s.ts.now (items s.items.now) s.args.now) c.args.lets.now c.lets.l-index _ c.requires (omega arith)).name
+
+pub lets-preserved : goal.lets-preserved
+lets-preserved c =
+    one_mapped name_bytes (λ x. text c.args.s.now.bytes.now x.name) c.args.lets.now c.lets.l-index _ c.name_at.result c.lets.names c.push.new.self c.lets-test.true c.name_at.ensures c.in_ok-push.ensures.ok c.lets.invariant
+
+pub returns : goal.returns
+returns c = c.lets.invariant ∙ all_mapped (λ x. text c.args.s.now.bytes.now x.name) c.args.lets.now c.lets.l-index c.lets-test.false

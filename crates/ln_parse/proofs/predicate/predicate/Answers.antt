@@ -1,4 +1,4 @@
-use Rattle.std.proofs.Common.{List, map, ◌∙◌, ap, arith}
+use Rattle.std.proofs.Common.{List, map, refl, ◌∙◌, ap, arith}
 use Rattle.std.specs.Prelude.{count_by}
 use Rattle.ln_syntax.specs.Raw.{items}
 use Rattle.ln_tree.specs.declared.items.Arg.{Arg}
@@ -47,3 +47,17 @@ returns-clause-fits c =
     let s = c.args.s.now in
     args_kept s.bytes.now s.ts.now (items s.items.now) c.args.name s.args.now s.lets.now c.args.root c.in_ok-args.args c.args.sites.now c.args.params.now c.shape-shape.result.vars c.requires.ready c.requires.declared c.in_ok-args.ensures
     (c.shape-shape.ensures.same.1 ∙ c.in_ok-layout.ensures.vars ∙ ap (λ (w : List Arg). vars_behind (map site_of c.args.sites.now) (map param_of c.args.params.now) 0 0 (map arg_of w)) c.as_slice.ensures)
+
+pub returns-clause-says : goal.returns-clause-says
+returns-clause-says c t s p =
+    record {
+      name_is = c.name_at-named.ensures;
+      at_is = refl;
+      args_are = c.in_ok-args.ensures;
+      shape_is = c.shape-shape.ensures.name ∙ c.name_at-named.ensures;
+      sites_are = c.shape-shape.ensures.same.0 ∙ c.in_ok-layout.ensures.sites ∙ ap (λ (w : List Arg). count_by is_site_said (map arg_of w)) c.as_slice.ensures;
+      vars_are = rw (s, p) (c.shape-shape.ensures.same.1 ∙ c.in_ok-layout.ensures.vars ∙ ap (λ (w : List Arg). vars_behind (map site_of c.args.sites.now) (map param_of c.args.params.now) 0 0 (map arg_of w)) c.as_slice.ensures);
+      names_are = c.in_ok-body.ensures.names;
+      lets_are = c.in_ok-body.ensures.lets;
+      root_is = c.in_ok-body.ensures.root;
+    }

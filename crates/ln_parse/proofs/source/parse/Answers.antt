@@ -2,10 +2,11 @@ use Rattle.std.proofs.Common.{◌≡◌, true, List, sym, subst}
 use Rattle.std.proofs.lemmas.Result.{err_from_is_err_and}
 use Rattle.std.specs.Prelude.{All}
 use Rattle.ln_lex.specs.declared.token.Token.{Token}
-use Rattle.ln_lex.specs.Tokens.{IsSlice}
+use Rattle.ln_lex.specs.Tokens.{IsSlice, Lexed}
 use Rattle.ln_syntax.specs.declared.raw.RawItem.{RawItem}
 use Rattle.ln_syntax.specs.Raw.{items}
 use Rattle.ln_names.proofs.Faultless.{faultless_is_within}
+use Rattle.ln_tree.specs.Table.{table_of}
 use Rattle.ln_tree.specs.Whole.{is_whole}
 use Rattle.ln_parse.specs.Says.{ItemsSay}
 use Rattle.ln_parse.specs.Ready.{ReadyFile}
@@ -40,3 +41,23 @@ pub returns-in_err-its-clause-no_table : goal.returns-in_err-its-clause-no_table
 returns-in_err-its-clause-no_table c =
     let p = err_from_is_err_and c.from_residual-in_err-its.result c.from_residual-in_err-its.ensures.1 in
     rw (p.1, p.2) (memory_alone c.args.bytes.now _ c.in_err-its.ensures.err)
+
+pub checked-requires-clause-lexed : goal.checked-requires-clause-lexed
+checked-requires-clause-lexed c = subst (λ (w : List Token). Lexed c.args.bytes.now w) (sym c.as_slice-ts.ensures) c.in_ok-list.ensures.lexed
+
+pub returns-in-Ok-clause-ok : goal.returns-in-Ok-clause-ok
+returns-in-Ok-clause-ok c =
+    let f = c.in_ok-its.ensures.ok in
+    let bytes = c.args.bytes.now in
+    let ts = c.as_slice-ts.result.now in
+    let t = c.in-Ok.table in
+    record {
+      tokens = ts;
+      lexed = f.lexed;
+      few = f.few;
+      shallow = f.shallow;
+      items = items c.in_ok-its.its.items;
+      spelt = f.spelt;
+      clean = f.clean;
+      says = subst (λ (w : List RawItem). ItemsSay bytes ts (items w) (table_of t.sites t.params t.preds)) c.deref.ensures.value c.in-Ok.ensures;
+    }
