@@ -32,8 +32,7 @@ fn put_file(out: &mut Vec<u8>, funs: &[CFun]) -> Result<(), NoMemory>
     ensures { IfOk result (λ x. out.new.items ≡ (out.old.items ++ first_line) ++ written (spell_file (map fun_tree funs.now))) }
 {
     out.extend_from_slice(b"#include <stdint.h>\n".as_slice())?;
-    put_funs(out, funs)?;
-    Ok(())
+    put_funs(out, funs)
 }
 
 fn put_funs(out: &mut Vec<u8>, funs: &[CFun]) -> Result<(), NoMemory>
@@ -55,19 +54,13 @@ fn put_fun(out: &mut Vec<u8>, f: &CFun) -> Result<(), NoMemory>
     left(out)?;
     put_parameters(out, f.indexed)?;
     right(out)?;
-    put_fun_body(out, f)?;
-    Ok(())
+    put_fun_body(out, f)
 }
 
 fn put_static(out: &mut Vec<u8>, own: bool) -> Result<(), NoMemory>
     ensures { IfOk result (λ x. Puts out.old.items out.new.items (spell_own own)) }
 {
-    if own {
-        word_static(out)?;
-        Ok(())
-    } else {
-        Ok(())
-    }
+    if own { word_static(out) } else { Ok(()) }
 }
 
 fn put_own_name(out: &mut Vec<u8>, f: &CFun) -> Result<(), NoMemory>
@@ -86,8 +79,7 @@ fn put_one(out: &mut Vec<u8>) -> Result<(), NoMemory>
     ensures { IfOk result (λ x. Puts out.old.items out.new.items (spell_parameters false)) }
 {
     put_pointer(out)?;
-    values(out)?;
-    Ok(())
+    values(out)
 }
 
 fn put_both(out: &mut Vec<u8>) -> Result<(), NoMemory>
@@ -97,8 +89,7 @@ fn put_both(out: &mut Vec<u8>) -> Result<(), NoMemory>
     indices(out)?;
     comma(out)?;
     put_pointer(out)?;
-    values(out)?;
-    Ok(())
+    values(out)
 }
 
 /// Puts `const int64_t *`.
@@ -108,8 +99,7 @@ pub fn put_pointer(out: &mut Vec<u8>) -> Result<(), NoMemory>
 {
     word_const(out)?;
     put_type(out, CType::Int64)?;
-    star(out)?;
-    Ok(())
+    star(out)
 }
 
 fn put_fun_body(out: &mut Vec<u8>, f: &CFun) -> Result<(), NoMemory>
@@ -126,8 +116,7 @@ fn put_block(out: &mut Vec<u8>, body: &[CStmt]) -> Result<(), NoMemory>
 {
     brace_left(out)?;
     put_body(out, body)?;
-    brace_right(out)?;
-    Ok(())
+    brace_right(out)
 }
 
 #[cycle(body)]
@@ -174,8 +163,7 @@ fn put_decl(out: &mut Vec<u8>, kind: CType, name: &[u8], e: &CExpr) -> Result<()
     put(out, name)?;
     equals(out)?;
     put_expr(out, e)?;
-    semi(out)?;
-    Ok(())
+    semi(out)
 }
 
 fn put_test(out: &mut Vec<u8>, e: &CExpr) -> Result<(), NoMemory>
@@ -185,8 +173,7 @@ fn put_test(out: &mut Vec<u8>, e: &CExpr) -> Result<(), NoMemory>
     word_if(out)?;
     left(out)?;
     put_expr(out, e)?;
-    right(out)?;
-    Ok(())
+    right(out)
 }
 
 fn put_return(out: &mut Vec<u8>, e: &CExpr) -> Result<(), NoMemory>
@@ -195,8 +182,7 @@ fn put_return(out: &mut Vec<u8>, e: &CExpr) -> Result<(), NoMemory>
 {
     word_return(out)?;
     put_expr(out, e)?;
-    semi(out)?;
-    Ok(())
+    semi(out)
 }
 
 /// Puts an expression.
@@ -208,8 +194,7 @@ pub fn put_expr(out: &mut Vec<u8>, e: &CExpr) -> Result<(), NoMemory>
         CExpr::Two(op, a, b) => {
             left(out)?;
             put_expr(out, a)?;
-            put_right(out, *op, b)?;
-            Ok(())
+            put_right(out, *op, b)
         }
         CExpr::Minus(a) => put_minus(out, a),
         CExpr::Cast(kind, CPrim::Number(n)) => put_constant(out, *kind, *n),
@@ -229,8 +214,7 @@ fn put_right(out: &mut Vec<u8>, op: COp, b: &CExpr) -> Result<(), NoMemory>
 {
     put_op(out, op)?;
     put_expr(out, b)?;
-    right(out)?;
-    Ok(())
+    right(out)
 }
 
 #[cycle(put)]
@@ -240,8 +224,7 @@ fn put_minus(out: &mut Vec<u8>, e: &CExpr) -> Result<(), NoMemory>
     left(out)?;
     dash(out)?;
     put_expr(out, e)?;
-    right(out)?;
-    Ok(())
+    right(out)
 }
 
 #[cycle(put)]
@@ -250,8 +233,7 @@ fn put_inner(out: &mut Vec<u8>, kind: CType, e: &CExpr) -> Result<(), NoMemory>
 {
     put_cast(out, kind)?;
     put_expr(out, e)?;
-    right(out)?;
-    Ok(())
+    right(out)
 }
 
 /// Puts `((TYPE)`, the front of an expression that is a cast.
@@ -261,8 +243,7 @@ pub fn put_cast(out: &mut Vec<u8>, kind: CType) -> Result<(), NoMemory>
     left(out)?;
     left(out)?;
     put_type(out, kind)?;
-    right(out)?;
-    Ok(())
+    right(out)
 }
 
 /// Puts `((TYPE)NUMBER)`.
@@ -271,8 +252,7 @@ pub fn put_constant(out: &mut Vec<u8>, kind: CType, n: u64) -> Result<(), NoMemo
 {
     put_cast(out, kind)?;
     put_number(out, n)?;
-    right(out)?;
-    Ok(())
+    right(out)
 }
 
 /// Puts `((TYPE)NAME)`.
@@ -281,8 +261,7 @@ pub fn put_name(out: &mut Vec<u8>, kind: CType, name: &[u8]) -> Result<(), NoMem
 {
     put_cast(out, kind)?;
     put(out, name)?;
-    right(out)?;
-    Ok(())
+    right(out)
 }
 
 /// Puts `((TYPE)v[N])`.
@@ -290,8 +269,7 @@ pub fn put_value(out: &mut Vec<u8>, kind: CType, n: u64) -> Result<(), NoMemory>
     ensures { IfOk result (λ x. Puts out.old.items out.new.items (spell (Value kind n))) }
 {
     put_cast(out, kind)?;
-    put_v(out, n)?;
-    Ok(())
+    put_v(out, n)
 }
 
 fn put_v(out: &mut Vec<u8>, n: u64) -> Result<(), NoMemory>
@@ -305,8 +283,7 @@ pub fn put_index(out: &mut Vec<u8>, kind: CType, n: u64) -> Result<(), NoMemory>
     ensures { IfOk result (λ x. Puts out.old.items out.new.items (spell (Index kind n))) }
 {
     put_cast(out, kind)?;
-    put_x(out, n)?;
-    Ok(())
+    put_x(out, n)
 }
 
 fn put_x(out: &mut Vec<u8>, n: u64) -> Result<(), NoMemory>
@@ -322,8 +299,7 @@ fn put_place(out: &mut Vec<u8>, name: &[u8], n: u64) -> Result<(), NoMemory>
     square_left(out)?;
     put_number(out, n)?;
     square_right(out)?;
-    right(out)?;
-    Ok(())
+    right(out)
 }
 
 /// Puts `((TYPE)NAME(v))`.
@@ -335,6 +311,5 @@ pub fn put_call(out: &mut Vec<u8>, kind: CType, name: &[u8]) -> Result<(), NoMem
     left(out)?;
     values(out)?;
     right(out)?;
-    right(out)?;
-    Ok(())
+    right(out)
 }

@@ -1,6 +1,7 @@
 -- Tokens put one behind the other.
 use Rattle.std.proofs.Common.{◌≡◌, ℕ, zero, suc, ◌+◌, ◌<◌, length, drop, get_or, arith, List, [], ◌∷◌, ◌++◌, map, append_assoc, refl, sym, ap, ◌∙◌}
-use Rattle.std.specs.Prelude.{codes}
+use Rattle.std.specs.Prelude.{codes, Result, IfOk}
+use Rattle.std.proofs.lemmas.Result.{IfOk-weaker}
 use Rattle.ln_csyn.specs.declared.tree.CType.{CType}
 use Rattle.ln_csyn.specs.Tree.{Expr, Body, Decl, Group, If, Return, Fun}
 use Rattle.ln_csyn.specs.Grammar.{Token}
@@ -21,6 +22,12 @@ puts_none old = record { is = λ r. refl }
 -- one behind the other
 pub puts_then : {a b c : List ℕ} {f g : List Token → List Token} → Puts a b f → Puts b c g → Puts a c (λ r. f (g r))
 puts_then {g = g} p q = record { is = λ r. q.is r ∙ p.is (g r) }
+
+-- one behind the other, where the last call is handed on
+pub puts_last : {X Y : Type 0} {a b : List ℕ} {f : List Token → List Token} (r : Result X Y) (c : List ℕ) (g : List Token → List Token)
+    → Puts a b f → IfOk r (λ _. Puts b c g) → IfOk r (λ _. Puts a c (λ t. f (g t)))
+puts_last {a = a} {b = b} {f = f} r c g p h =
+    IfOk-weaker r (λ _. Puts b c g) (λ _. Puts a c (λ t. f (g t))) (λ _ q. puts_then p q) h
 
 -- nothing was put
 pub goes_same : (old : List ℕ) (f : List Token → List Token) → Goes old old f f
