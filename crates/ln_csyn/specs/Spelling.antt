@@ -1,5 +1,6 @@
 -- The tokens that are written for a file, each in front of a rest, and their text: one blank behind each.
 use Rattle.std.specs.Prelude.{◌≡◌, ℕ, Bool, true, false, List, [], ◌∷◌, ◌++◌, codes, decimal}
+use Rattle.std.specs.Prelude.{if◌then◌else◌, Option, Some, None, bytes_eq}
 use Rattle.ln_csyn.specs.declared.tree.CType.{CType}
 use Rattle.ln_csyn.specs.declared.tree.CType.TheVariants.{Int, Int64, Int128}
 use Rattle.ln_csyn.specs.declared.tree.COp.{COp}
@@ -22,6 +23,11 @@ op_text op.Less = codes "<"
 op_text op.More = codes ">"
 op_text op.Same = codes "=="
 op_text op.Differ = codes "!="
+
+-- the one of these operations that has this text
+abbrev pub op_among : List ℕ → List COp → Option COp
+op_among text [] = None
+op_among text (o ∷ os) = if bytes_eq text (op_text o) then Some o else op_among text os
 
 -- a token of the one line that is written
 abbrev pub lexeme : List ℕ → Token

@@ -4,6 +4,7 @@ ghost use Rattle.std.specs.Prelude.{◌∷◌, IfOk, decimal, codes};
 ghost use Rattle.ln_csyn.specs.Spelling.{Puts, lexeme, type_text, op_text};
 
 use crate::tree::{COp, CType};
+use crate::word::op_word;
 use itoa::Buffer;
 use ln_base::NoMemory;
 
@@ -39,16 +40,7 @@ pub fn put_type(out: &mut Vec<u8>, kind: CType) -> Result<(), NoMemory>
 pub fn put_op(out: &mut Vec<u8>, op: COp) -> Result<(), NoMemory>
     ensures { IfOk result (λ x. Puts out.old.items out.new.items (λ r. lexeme (op_text op) ∷ r)) }
 {
-    match op {
-        COp::Add => put(out, b"+".as_slice()),
-        COp::Sub => put(out, b"-".as_slice()),
-        COp::Mul => put(out, b"*".as_slice()),
-        COp::Div => put(out, b"/".as_slice()),
-        COp::Less => put(out, b"<".as_slice()),
-        COp::More => put(out, b">".as_slice()),
-        COp::Same => put(out, b"==".as_slice()),
-        COp::Differ => put(out, b"!=".as_slice()),
-    }
+    put(out, op_word(op))
 }
 
 /// Puts `(`.

@@ -1,6 +1,7 @@
 //! Words, numbers and operators by their text.
 ghost use Rattle.std.specs.Prelude.{◌≡◌, ◌-◌, ◌&&◌, ◌==◌, ◌<◌, map};
 ghost use Rattle.ln_csyn.specs.Words.{among, reserved, is_c_name, is_numeral, number_of, type_of, op_of};
+ghost use Rattle.ln_csyn.specs.Spelling.{op_text, op_among};
 
 use crate::tree::{COp, CType};
 use ln_base::decimal::unsigned;
@@ -114,27 +115,47 @@ pub fn type_word(text: &[u8]) -> Option<CType>
     }
 }
 
+/// The text of an operation.
+pub(crate) fn op_word(op: COp) -> &'static [u8]
+    ensures { result.now ≡ op_text op }
+{
+    match op {
+        COp::Add => b"+",
+        COp::Sub => b"-",
+        COp::Mul => b"*",
+        COp::Div => b"/",
+        COp::Less => b"<",
+        COp::More => b">",
+        COp::Same => b"==",
+        COp::Differ => b"!=",
+    }
+}
+
+// The one of these operations that has this text.
+fn op_among(text: &[u8], ops: &[COp]) -> Option<COp>
+    ensures { result ≡ op_among text.now ops.now }
+{
+    'ops: for op in ops {
+        if text == op_word(*op) {
+            return Some(*op);
+        }
+    }
+    None
+}
+
 /// The operation of a text, if it is one.
 pub fn operation(text: &[u8]) -> Option<COp>
     ensures { result ≡ op_of text.now }
 {
-    if text == b"+".as_slice() {
-        Some(COp::Add)
-    } else if text == b"-".as_slice() {
-        Some(COp::Sub)
-    } else if text == b"*".as_slice() {
-        Some(COp::Mul)
-    } else if text == b"/".as_slice() {
-        Some(COp::Div)
-    } else if text == b"<".as_slice() {
-        Some(COp::Less)
-    } else if text == b">".as_slice() {
-        Some(COp::More)
-    } else if text == b"==".as_slice() {
-        Some(COp::Same)
-    } else if text == b"!=".as_slice() {
-        Some(COp::Differ)
-    } else {
-        None
-    }
+    let ops = [
+        COp::Add,
+        COp::Sub,
+        COp::Mul,
+        COp::Div,
+        COp::Less,
+        COp::More,
+        COp::Same,
+        COp::Differ,
+    ];
+    op_among(text, &ops)
 }
