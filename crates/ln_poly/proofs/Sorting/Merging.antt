@@ -129,6 +129,10 @@ picked-small la lb la' lb' v e p =
     let x : power_at v (v, e) ≡ e = rw t refl in
     omega (arith, x, p.exponents v)
 
+-- the exponents of one variable, picked of both lists, have room
+pub both-small : (a b : Pairs) (i j : ℕ) → MayPick a b i j → i < length a → j < length b → (get_or a i (0, 0)).0 ≡ (get_or b j (0, 0)).0 → (get_or a i (0, 0)).1 + (get_or b j (0, 0)).1 < 128
+both-small a b i j m h k l = omega (arith, picked-small _ _ _ _ _ _ (both-at a b i j h k m.rising_left m.rising_right l), m.small (get_or a i (0, 0)).0)
+
 -- ---- the loop
 pub merged-init : (a b : Pairs) → IsRising a → IsRising b → IsMerged [] a b 0 0
 merged-init a b r s = record { left = omega arith; right = omega arith; exponents = λ w. omega arith; rising_left = r; rising_right = s; low_left = tt; low_right = tt; rising = tt }

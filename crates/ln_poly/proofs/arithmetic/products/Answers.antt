@@ -1,7 +1,7 @@
 use Rattle.std.proofs.Common.{arith, length, refl}
 use Rattle.ln_poly.specs.Rows.{IsRows}
 use Rattle.ln_poly.proofs.TermLists.Bounded.{rows-gathered}
-use Rattle.ln_poly.proofs.TermLists.Products.{rows-begin, rows-end, rows-room, rows-size, rows-step}
+use Rattle.ln_poly.proofs.TermLists.Products.{rows-begin, rows-end, rows-powers, rows-room, rows-size, rows-step}
 use Rattle.ln_poly.proofs.arithmetic.products.Goals as goal
 
 pub rows-init : goal.rows-init
@@ -25,3 +25,6 @@ pub returns : goal.returns
 returns c =
     let r : IsRows c.rows.out.items c.args.f.now c.args.g.now (length c.args.f.now) = rows-end _ _ _ _ _ _ c.rows.invariant (omega arith) refl refl in
     rows-gathered _ _ _ _ _ r c.in_ok-h.ensures.coefficients c.in_ok-h.ensures.size c.in_ok-h.ensures.form c.in_ok-h.ensures.below
+
+pub put_row-requires-clause-powers : goal.put_row-requires-clause-powers
+put_row-requires-clause-powers c = rows-powers c.args.f.now c.args.g.now c.rows.s-index c.s-item.result c.requires.powers c.rows-test.true c.s-item.is

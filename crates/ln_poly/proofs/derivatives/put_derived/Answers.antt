@@ -1,4 +1,7 @@
-use Rattle.std.proofs.Common.{◌≡◌, ◌<◌, arith, get_or}
+use Rattle.std.proofs.Common.{◌≡◌, ◌<◌, ◌∙◌, FitsSigned, ap, arith, get_or, refl, rules}
+use Rattle.std.proofs.lemmas.Int.{to_z-of_z}
+use mir.Syntax.{w128}
+use Rattle.ln_tree.specs.Exps.{exponent}
 use Rattle.ln_algebra.specs.Terms.{binomial}
 use Rattle.ln_poly.proofs.Derivations.Lowering.{binomial-small}
 use Rattle.ln_poly.proofs.derivatives.put_derived.Goals as goal
@@ -8,3 +11,35 @@ push_times-requires-clause-times c =
     let small : c.exponent_of-e.result < 128 = c.exponent_of-e.ensures.small in
     let b : get_or c.args.column.now c.exponent_of-e.result 0 ≡ binomial c.exponent_of-e.result c.args.n = c.requires.column c.exponent_of-e.result small in
     rw c.from.ensures (omega (arith, b, binomial-small c.exponent_of-e.result c.args.n small))
+
+pub push_times-requires-clause-room : goal.push_times-requires-clause-room
+push_times-requires-clause-room c =
+    let e : c.exponent_of-e.result ≡ exponent c.args.v c.args.t.now.0 = c.exponent_of-e.ensures.value ∙ ap (exponent c.args.v) c.pairs.ensures.value in
+    let b : get_or c.args.column.now c.exponent_of-e.result 0 ≡ binomial c.exponent_of-e.result c.args.n = c.requires.column c.exponent_of-e.result c.exponent_of-e.ensures.small in
+    let f : FitsSigned w128 c.args.t.now.1 = search rules in
+    rw (to_z-of_z w128 c.args.t.now.1 f, c.from.ensures, b, e) (c.requires.room (omega (arith, c.if-e-n.false, e)))
+
+pub lowered-requires : goal.lowered-requires
+lowered-requires c =
+    let e : c.exponent_of-e.result ≡ exponent c.args.v c.args.t.now.0 = c.exponent_of-e.ensures.value ∙ ap (exponent c.args.v) c.pairs.ensures.value in
+    omega (arith, c.if-e-n.false, e)
+
+pub returns-then-e-n-clause-none : goal.returns-then-e-n-clause-none
+returns-then-e-n-clause-none c = λ h. refl
+
+pub returns-then-e-n-clause-some : goal.returns-then-e-n-clause-some
+returns-then-e-n-clause-some c =
+    let e : c.exponent_of-e.result ≡ exponent c.args.v c.args.t.now.0 = c.exponent_of-e.ensures.value ∙ ap (exponent c.args.v) c.pairs.ensures.value in
+    λ h. absurd (omega (arith, h, e, c.if-e-n.true))
+
+pub returns-clause-none : goal.returns-clause-none
+returns-clause-none c =
+    let e : c.exponent_of-e.result ≡ exponent c.args.v c.args.t.now.0 = c.exponent_of-e.ensures.value ∙ ap (exponent c.args.v) c.pairs.ensures.value in
+    λ h. absurd (omega (arith, h, e, c.if-e-n.false))
+
+pub returns-clause-some : goal.returns-clause-some
+returns-clause-some c =
+    let e : c.exponent_of-e.result ≡ exponent c.args.v c.args.t.now.0 = c.exponent_of-e.ensures.value ∙ ap (exponent c.args.v) c.pairs.ensures.value in
+    let b : get_or c.args.column.now c.exponent_of-e.result 0 ≡ binomial c.exponent_of-e.result c.args.n = c.requires.column c.exponent_of-e.result c.exponent_of-e.ensures.small in
+    let f : FitsSigned w128 c.args.t.now.1 = search rules in
+    λ h. record { exps = c.in_ok-exps.exps; put = rw (to_z-of_z w128 c.args.t.now.1 f, c.from.ensures, b, e) at c.in_ok-push_times.ensures; lowered = c.in_ok-exps.ensures }
