@@ -8,9 +8,9 @@ ghost use Rattle.ln_top.specs.Said.{count, line};
 ghost use Rattle.ln_top.specs.Steps.{Given};
 
 use crate::prepare::Ready;
+use crate::put::add_number;
 use crate::status::{Early, End};
 use crate::stop::put_text;
-use itoa::Buffer;
 use ln_base::{Console, NoMemory};
 use ln_compile::Checked;
 use ln_tree::Pred;
@@ -20,13 +20,9 @@ use std::alloc::Global;
 fn add_count(text: &mut Vec<u8>, p: &Pred, count: u64) -> Result<(), NoMemory>
     ensures { IfOk result (λ x. text.new.items ≡ text.old.items ++ line (count_text (pred_of p.now) count)) }
 {
-    let mut sites = Buffer::new();
-    let mut stages = Buffer::new();
     text.extend_from_slice(p.name.bytes())?;
-    text.extend_from_slice(b" sites ")?;
-    text.extend_from_slice(sites.format(p.shape.sites).as_bytes())?;
-    text.extend_from_slice(b" stages ")?;
-    text.extend_from_slice(stages.format(count).as_bytes())?;
+    add_number(text, b" sites ", u64::from(p.shape.sites))?;
+    add_number(text, b" stages ", count)?;
     text.push(b'\n')?;
     Ok(())
 }

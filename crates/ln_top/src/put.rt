@@ -1,10 +1,21 @@
 //! Puts on a port.
-ghost use Rattle.std.specs.Prelude.{◌≡◌, ◌↔◌, [], Err, IsTrue};
+ghost use Rattle.std.specs.Prelude.{◌≡◌, ◌++◌, ◌↔◌, [], Err, IfOk, IsTrue, decimal};
 ghost use Rattle.ln_top.specs.Said.{count};
 ghost use Rattle.ln_top.specs.Lines.{Sends, Wrote};
 
 use crate::status::Early;
-use ln_base::{Console, Port, put_all};
+use itoa::Buffer;
+use ln_base::{Console, NoMemory, Port, put_all};
+
+// Adds bytes and a number behind them.
+pub(crate) fn add_number(text: &mut Vec<u8>, front: &[u8], n: u64) -> Result<(), NoMemory>
+    ensures { IfOk result (λ x. text.new.items ≡ text.old.items ++ (front.now ++ decimal n)) }
+{
+    let mut buffer = Buffer::new();
+    text.extend_from_slice(front)?;
+    text.extend_from_slice(buffer.format(n).as_bytes())?;
+    Ok(())
+}
 
 /// Puts a text on Out, and says whether all of it was put.
 pub fn put_out<C: Console>(con: &mut C, text: &[u8]) -> bool

@@ -4,8 +4,8 @@ ghost use Rattle.ln_top.specs.Said.{count, line};
 ghost use Rattle.ln_top.specs.Stop.{refusal_text, why_end};
 ghost use Rattle.ln_top.specs.Carried.{PutsText, Says, stop_line, stop_result};
 
+use crate::put::add_number;
 use crate::status::{Early, End};
-use itoa::Buffer;
 use ln_base::{Console, NoMemory, Port, put_all};
 use ln_compile::Refusal;
 use std::alloc::Global;
@@ -62,14 +62,10 @@ impl Why {
 fn add_refusal(text: &mut Vec<u8>, r: Refusal, place: Place) -> Result<(), NoMemory>
     ensures { IfOk result (λ x. text.new.items ≡ text.old.items ++ line (refusal_text r place)) }
 {
-    let mut row = Buffer::new();
-    let mut col = Buffer::new();
     text.extend_from_slice(b"error ")?;
     text.extend_from_slice(r.word().as_bytes())?;
-    text.extend_from_slice(b" ")?;
-    text.extend_from_slice(row.format(place.line).as_bytes())?;
-    text.extend_from_slice(b":")?;
-    text.extend_from_slice(col.format(place.col).as_bytes())?;
+    add_number(text, b" ", u64::from(place.line))?;
+    add_number(text, b":", u64::from(place.col))?;
     text.push(b'\n')?;
     Ok(())
 }

@@ -7,10 +7,10 @@ ghost use Rattle.ln_top.specs.Steps.{Given};
 ghost use Rattle.ln_top.specs.Verify.{HasFault, HasValid, VerifySaid};
 
 use crate::prepare::{Ready, short_text, sound_table};
+use crate::put::add_number;
 use crate::status::{Early, End};
 use crate::stop::put_text;
 use crate::words::Command;
-use itoa::Buffer;
 use ln_base::{Console, NoMemory};
 use ln_verify::{Judged, verify_text};
 use std::alloc::Global;
@@ -30,10 +30,8 @@ fn first_fault(alloc: Global, ready: &Ready) -> Result<Option<u32>, NoMemory>
 fn fault_text(alloc: Global, at: u32) -> Result<Vec<u8>, NoMemory>
     ensures { IfOk result (λ v. v.items ≡ line (codes "invalid " ++ decimal at)) }
 {
-    let mut buffer = Buffer::new();
     let mut text = Vec::new(alloc);
-    text.extend_from_slice(b"invalid ")?;
-    text.extend_from_slice(buffer.format(at).as_bytes())?;
+    add_number(&mut text, b"invalid ", u64::from(at))?;
     text.push(b'\n')?;
     Ok(text)
 }

@@ -2,10 +2,12 @@
 use Rattle.std.proofs.Common.{◌≡◌, ◌≢◌, ℕ, zero, suc, ◌+◌, ◌-◌, ◌*◌, ◌%◌, ◌^◌, ◌<◌, ◌≤◌}
 use Rattle.std.proofs.Common.{Bool, true, false, ◌&&◌, List, [], ◌∷◌, length, take, ℤ, pos, neg_ℤ, ◌+ℤ◌}
 use Rattle.std.proofs.Common.{◌-ℤ◌, ◌≤ℤ◌, refl, ap, arith}
-use Rattle.std.specs.Prelude.{int_le, int_lt, not, unsigned_abs, if◌then◌else◌, All, AllPairs, count_by, ◌==◌, nat_le}
+use Rattle.std.specs.Prelude.{int_le, int_lt, not, unsigned_abs, ◌<ℤ◌, if◌then◌else◌, All, AllPairs, count_by, ◌==◌, nat_le}
 use Rattle.std.specs.List.{list_all}
 use Rattle.std.proofs.lemmas.Bool.{and_parts}
 use Rattle.std.proofs.lemmas.Int.{ints}
+use Rattle.std.specs.Int.{w64, w128}
+use mir.Val.{SFits}
 use Rattle.std.proofs.Math.Nat.{mod-lt}
 use Rattle.std.proofs.lemmas.List.Elements.{All-nil, All-cons}
 use Rattle.std.proofs.lemmas.List.Kept.{AllPairs-cons}
@@ -59,6 +61,34 @@ are_ends n lo hi h = go (is_narrowed n lo hi) refl where
       ordered a b q = grind (arith, ints, q)
   go false e = record { first = grind (arith, ints); order = h; last = grind (arith, ints) }
 
+in_order_of : (lo hi : ℤ) → not (int_lt hi lo) ≡ true → lo ≤ℤ hi
+in_order_of lo hi q = grind (arith, ints, q)
+
+above_of : (lo low : ℤ) → int_lt (neg_ℤ (pos (2 ^ 63))) lo ≡ true → lo ≤ℤ low → neg_ℤ (pos (2 ^ 63)) <ℤ low
+above_of lo low q h = grind (arith, ints, q, h)
+
+pub ends_in_order : (n : ℕ) (i : VarInfo) → has_range i ≡ true → low_end n i.lo i.hi ≤ℤ high_end n i.lo i.hi
+ends_in_order n i h = (are_ends n i.lo i.hi (in_order_of i.lo i.hi (and_parts (not (int_lt i.hi i.lo)) (int_lt (neg_ℤ (pos (2 ^ 63))) i.lo) h).0)).order
+
+pub low_above : (n : ℕ) (i : VarInfo) → has_range i ≡ true → neg_ℤ (pos (2 ^ 63)) <ℤ low_end n i.lo i.hi
+low_above n i h =
+    let p = and_parts (not (int_lt i.hi i.lo)) (int_lt (neg_ℤ (pos (2 ^ 63))) i.lo) h in
+    above_of i.lo (low_end n i.lo i.hi) p.1 (are_ends n i.lo i.hi (in_order_of i.lo i.hi p.0)).first
+
+-- what `between` computes with fits
+pub width_fits : (lo hi : ℤ) (d : ℕ) → neg_ℤ (pos (2 ^ 63)) <ℤ lo → lo ≤ℤ hi → SFits w64 hi → d ≡ unsigned_abs (hi -ℤ lo) → d + 1 < 2 ^ 64
+width_fits lo hi d l h b e = grind (arith, ints, l, h, b, e)
+
+pub sum_fits : (lo : ℤ) (w d : ℕ) → SFits w64 lo → d + 1 < 2 ^ 64 → SFits w128 (lo +ℤ pos (w % (d + 1)))
+sum_fits lo w d a h = go (w % (d + 1)) (omega (arith, h)) where
+  go : (r : ℕ) → r < 2 ^ 64 → SFits w128 (lo +ℤ pos r)
+  go r k = grind (arith, ints, a, k)
+
+pub value_fits : (lo hi : ℤ) (w d : ℕ) → lo ≤ℤ hi → SFits w64 lo → SFits w64 hi → d ≡ unsigned_abs (hi -ℤ lo) → SFits w64 (lo +ℤ pos (w % (d + 1)))
+value_fits lo hi w d h a b e = rw e (go (value_by lo hi w) (value_between lo hi w h)) where
+  go : (z : ℤ) → (lo ≤ℤ z) × (z ≤ℤ hi) → SFits w64 z
+  go z p = grind (arith, ints, p.0, p.1, a, b)
+
 below_and : (a b c d e : ℤ) → a ≤ℤ b → b ≤ℤ c → c ≤ℤ d → d ≤ℤ e → (a ≤ℤ c) × (c ≤ℤ e)
 below_and a b c d e p q r s = (grind (arith, ints, p, q), grind (arith, ints, r, s))
 
@@ -69,9 +99,6 @@ variable_within n i w h =
     let e = are_ends n i.lo i.hi (in_order_of i.lo i.hi (and_parts (not (int_lt i.hi i.lo)) (int_lt (neg_ℤ (pos (2 ^ 63))) i.lo) h).0) in
     let v = value_between (low_end n i.lo i.hi) (high_end n i.lo i.hi) w e.order in
     below_and i.lo (low_end n i.lo i.hi) (variable_by n i w) (high_end n i.lo i.hi) i.hi e.first v.0 v.1 e.last
-  where
-    in_order_of : (lo hi : ℤ) → not (int_lt hi lo) ≡ true → lo ≤ℤ hi
-    in_order_of lo hi q = grind (arith, ints, q)
 
 -- how many words there are
 pub words_length : (k : ℕ) (g : Lcg) → length (words k g) ≡ k

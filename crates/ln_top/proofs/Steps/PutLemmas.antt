@@ -1,6 +1,6 @@
 -- Puts one behind the other, and where one of them fails.
 use Rattle.std.proofs.Common.{◌≡◌, ℕ, ◌+◌, ◌≤◌, List, [], ◌++◌, length, take, refl, ◌∙◌, arith, Option}
-use Rattle.std.proofs.Common.{Some, None, Result, Ok, Err, OnErr, append_assoc, length-append}
+use Rattle.std.proofs.Common.{Some, None, Result, Ok, Err, OnErr, OnOk, append_assoc, length-append}
 use Rattle.std.proofs.lemmas.List.{append-nil, take-append-le}
 use Rattle.std.proofs.Math.Seq.{take-append-add}
 use Rattle.ln_base.specs.Outside.{Shown, appended}
@@ -38,6 +38,11 @@ fails_behind port xs ys was between now e f =
       within = omega (arith, length-append xs ys, f.within);
       shown = f.shown ∙ rw (e, appended_twice, ← take-append-add xs ys f.n) refl;
     }
+
+pub puts_second : {T E : Type 0} (r : Result T E) (port : Port) (xs ys : List ℕ) (was between now : Option Shown)
+    → between ≡ appended port xs was → OnOk r (now ≡ appended port ys between) → OnOk r (now ≡ appended port (xs ++ ys) was)
+puts_second (Ok x) port xs ys was between now e f = f ∙ rw (e, appended_twice) refl
+puts_second (Err x) port xs ys was between now e f = tt
 
 -- what a put says of its failing, as a fact of what went out
 pub fails_second : {T E : Type 0} (r : Result T E) (port : Port) (xs ys : List ℕ) (was between now : Option Shown)

@@ -4,6 +4,9 @@ use Rattle.ln_top.proofs.check.counts.Goals as goal
 pub preds-init : goal.preds-init
 preds-init c = rw c.new-text.ensures.items (counts_start c.args.c.now.table.preds)
 
+pub stage_count-requires : goal.stage_count-requires
+stage_count-requires c = rw (c.as_slice-p-items.ensures, c.table.ensures) at c.preds-test.true
+
 pub preds-preserved : goal.preds-preserved
 preds-preserved c =
     let few = rw (c.as_slice-p-items.ensures, c.table.ensures) at c.preds-test.true in
