@@ -12,7 +12,9 @@ pub fn table(rt: &impl Abort, alloc: Global, source: &str) -> Result<Table, Fail
     ensures { IfOk result (λ t. 0 < length t.preds) }
 {
     assert!(rt; source.len() <= 1048576);
-    let t = parse(alloc, source.as_bytes())?;
+    let Ok(t) = parse(alloc, source.as_bytes()) else {
+        return Err(Fail::new("the source is refused"));
+    };
     assert!(rt; t.preds.len() > 0);
     Ok(t)
 }
