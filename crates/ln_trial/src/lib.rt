@@ -2,10 +2,10 @@
 //!
 //! `commands` has sources, rows and words with the lines and statuses that they are owed, `failing` ports and files that fail at each
 //! of their calls, `watchers` what boxes that are handed in say of records, `panel` what they say of verdicts, `generated` what they
-//! say of rows that `gen` makes, `listings` what `list` puts, read back, `emitted` what `emit` puts, read back and called, `verified`
-//! what `verify` says of listings, `rules` the same of listings that are changed in one place, with their texts and lines in `judged`,
-//! `repeated` predicates whose equal parts are computed once, `spheres` rows of incircle and insphere whose lines geometry tells,
-//! `compare` random predicates against the definition of the perturbed sign.
+//! say of rows that `gen` makes, `listings` what `list` puts, read back, `emitted` what `emit` puts, read back and called, `rules`
+//! what `verify` says of listings, most of them changed in one place, with their texts and lines in `judged`, `repeated` predicates
+//! whose equal parts are computed once, `spheres` rows of incircle and insphere whose lines geometry tells, `compare` random
+//! predicates against the definition of the perturbed sign.
 //!
 //! One function of `support` calls `lnc`, and the others call that: each caller of `lnc` takes the check long.
 #![tactic(auto)]
@@ -34,7 +34,5 @@ mod rules;
 mod spheres;
 #[cfg(test)]
 mod support;
-#[cfg(test)]
-mod verified;
 #[cfg(test)]
 mod watchers;

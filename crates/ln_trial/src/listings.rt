@@ -1,72 +1,84 @@
 //! What `list` puts is read back, and is what its source says.
+use crate::judged::SQUARES;
 use crate::spheres::CIRCLE;
-use crate::support::{said_within, shelf, tells};
-use ln_base::Port;
-use ln_cert::{Part, read_listing};
+use crate::support::{Case, Faults, NO_FAULTS, are_answered, is_answered, said_within, shelf};
+use ln_base::{NoMemory, Port};
+use ln_cert::{Entry, ListStop, Part, read_listing};
 use ln_top::Status;
 use std::alloc::Global;
-use std::process::Abort;
 use std::test::Fail;
-
-const SQUARES: &str = "site num { t: -10 .. 10; }
-predicate s(a: num, b: num) { sign a.t^2 - b.t^2; }
-";
 
 const LIST: &[&str] = &["list", "s.ln"];
 
 const ROOM: usize = 1 << 20;
 
-/// How many entries the listing of a source has, how many blocks, and how many orders.
-fn counts(rt: &impl Abort, alloc: Global, source: &str) -> Result<(u32, u32, u32), Fail> {
-    let mut files = shelf(alloc, source, "", &[])?;
-    let (status, con) = said_within(alloc, LIST, &mut files, ROOM, &[])?;
-    assert!(rt; status == Status::Done);
-    assert!(rt; con.bytes(Port::Err).is_empty());
-    let text = con.bytes(Port::Out);
-    assert!(rt; text.len() <= 67_108_864);
+/// How many entries a listing has, how many blocks, and how many orders.
+fn counts(all: &[Entry]) -> (u32, u32, u32) {
     let mut entries = 0u32;
     let mut blocks = 0u32;
     let mut orders = 0u32;
-    match read_listing(alloc, text) {
-        Ok(listing) => {
-            assert!(rt; listing.version() == 2);
-            for entry in listing.entries() {
-                entries = entries.saturating_add(1);
-                match &entry.part {
-                    Part::Block(..) => blocks = blocks.saturating_add(1),
-                    Part::Order(..) => orders = orders.saturating_add(1),
-                    _ => {}
-                }
-            }
+    for entry in all {
+        entries = entries.saturating_add(1);
+        match &entry.part {
+            Part::Block(..) => blocks = blocks.saturating_add(1),
+            Part::Order(..) => orders = orders.saturating_add(1),
+            _ => {}
         }
-        Err(_) => assert!(rt; false),
     }
-    Ok((entries, blocks, orders))
+    (entries, blocks, orders)
+}
+
+/// The counts of a text that is a listing of version 2; none where it is no such listing.
+fn read_back(alloc: Global, text: &[u8]) -> Result<Option<(u32, u32, u32)>, NoMemory> {
+    if text.len() > ROOM {
+        return Ok(None);
+    }
+    match read_listing(alloc, text) {
+        Ok(listing) if listing.version() == 2 => Ok(Some(counts(listing.entries()))),
+        Err(ListStop::NoMemory) => Err(NoMemory),
+        _ => Ok(None),
+    }
+}
+
+/// The counts of the listing of a source.
+fn listed(alloc: Global, source: &str) -> Result<Option<(u32, u32, u32)>, NoMemory> {
+    let mut files = shelf(alloc, source, "", &[])?;
+    let (_, con) = said_within(alloc, LIST, &mut files, ROOM, &[])?;
+    read_back(alloc, con.bytes(Port::Out))
 }
 
 #[test]
 fn listings_are_read_back(rt: HostRuntime) -> Result<(), Fail> {
     let alloc = rt.alloc();
-    let (entries, blocks, orders) = counts(&rt, alloc, SQUARES)?;
-    assert!(rt; entries > 20 && blocks == 5 && orders == 2);
-    let (_, blocks, orders) = counts(&rt, alloc, CIRCLE)?;
-    assert!(rt; blocks > 1 && orders == 24);
+    let squares = listed(alloc, SQUARES)?;
+    assert!(rt; matches!(squares, Some((entries, 5, 2)) if entries > 20));
+    let circle = listed(alloc, CIRCLE)?;
+    assert!(rt; matches!(circle, Some((_, blocks, 24)) if blocks > 1));
     Ok(())
 }
+
+const OF_NOTHING: &[Case<'_>] = &[
+    (LIST, "", "", Status::Done, "listing 2\n", ""),
+    (LIST, "#", "", Status::Refused, "", "error lexical 1:1\n"),
+    (
+        &["list", "s.ln", "s"],
+        SQUARES,
+        "",
+        Status::Usage,
+        "",
+        "error usage\n",
+    ),
+];
 
 #[test]
 fn listings_of_nothing(rt: HostRuntime) -> Result<(), Fail> {
     let alloc = rt.alloc();
-    let mut files = shelf(alloc, "", "", &[])?;
-    let (status, con) = said_within(alloc, LIST, &mut files, 64, &[])?;
-    assert!(rt; status == Status::Done && tells(&con, "listing 2\n", ""));
-    let mut files = shelf(alloc, "#", "", &[])?;
-    let (status, con) = said_within(alloc, LIST, &mut files, 64, &[])?;
-    assert!(rt; status == Status::Refused && tells(&con, "", "error lexical 1:1\n"));
-    let mut files = shelf(alloc, SQUARES, "", &[])?;
-    let (status, con) = said_within(alloc, LIST, &mut files, 5, &[])?;
-    assert!(rt; status == Status::Write && tells(&con, "listi", ""));
-    let (status, con) = said_within(alloc, &["list", "s.ln", "s"], &mut files, 64, &[])?;
-    assert!(rt; status == Status::Usage);
+    assert!(rt; are_answered(alloc, OF_NOTHING)?);
+    let cut = (LIST, SQUARES, "", Status::Write, "listi", "");
+    let narrow = Faults {
+        room: 5,
+        ..NO_FAULTS
+    };
+    assert!(rt; is_answered(alloc, &cut, narrow, Vec::new(alloc))?);
     Ok(())
 }

@@ -7,16 +7,20 @@ use crate::judged::{
     SCALED_BOUNDS, SQUARES, TURNS, UNITS,
 };
 use crate::spheres::CIRCLE;
-use crate::support::{said, said_within, shelf, tells};
-use ln_base::{MemFiles, NoMemory, Port, decimal};
+use crate::support::{
+    Case, Faults, NO_FAULTS, are_answered, is_answered, is_said, said_within, shelf,
+};
+use ln_base::{MemFiles, NoMemory, Port};
 use ln_top::Status;
 use std::alloc::Global;
-use std::process::Abort;
 use std::test::Fail;
 
 const VERIFY: &[&str] = &["verify", "s.ln", "listing"];
 
 const LIST: &[&str] = &["list", "s.ln"];
+
+/// From a line on so many lines of a listing, the text in their place, and the first line that fails then, 0 where none does.
+type Change<'a> = (u32, u32, &'a str, u128);
 
 /// A source file and a listing.
 fn both_files(alloc: Global, source: &str, listing: &[u8]) -> Result<MemFiles, NoMemory> {
@@ -28,20 +32,26 @@ fn both_files(alloc: Global, source: &str, listing: &[u8]) -> Result<MemFiles, N
     Ok(MemFiles::new(files, Vec::new(alloc)))
 }
 
-/// The first line of a listing that fails, 0 where none does.
-fn fault(rt: &impl Abort, alloc: Global, source: &str, listing: &[u8]) -> Result<u128, Fail> {
-    let mut files = both_files(alloc, source, listing)?;
-    let (status, con) = said(alloc, VERIFY, &mut files, &[])?;
-    assert!(rt; con.bytes(Port::Err).is_empty());
-    let out = con.bytes(Port::Out);
-    if status == Status::Done {
-        assert!(rt; out == b"valid\n".as_slice());
-        return Ok(0);
+/// What `verify` is to say where this is the first line that fails, 0 where none does.
+fn verdict(alloc: Global, line: u128) -> Result<String, NoMemory> {
+    if line == 0 {
+        Ok(String::from_str(alloc, "valid\n")?)
+    } else {
+        Ok(format!(in alloc; "invalid {line}\n")?)
     }
-    assert!(rt; status == Status::Invalid);
-    assert!(rt; out.starts_with(b"invalid ".as_slice()));
-    assert!(rt; out.len() > 9);
-    Ok(decimal::unsigned(&out[8..out.len() - 1]))
+}
+
+/// Is this the first line of a listing that fails? 0 where none does.
+fn fails_at(alloc: Global, source: &str, listing: &[u8], line: u128) -> Result<bool, NoMemory> {
+    let status = if line == 0 {
+        Status::Done
+    } else {
+        Status::Invalid
+    };
+    let out = verdict(alloc, line)?;
+    let case = (VERIFY, "", "", status, out.as_str(), "");
+    let mut files = both_files(alloc, source, listing)?;
+    is_said(alloc, &case, &mut files)
 }
 
 /// Puts a text and a line feed, where there is a text.
@@ -90,133 +100,164 @@ fn line_at(alloc: Global, base: &[u8], at: u32) -> Result<Vec<u8>, NoMemory> {
     Ok(out)
 }
 
-/// Each change of a listing has its line.
-fn changes(
-    rt: &impl Abort,
+/// Has each change of a listing its line?
+fn changes_fail(
     alloc: Global,
     source: &str,
     base: &str,
-    table: &[(u32, u32, &str, u128)],
-) -> Result<(), Fail> {
+    table: &[Change<'_>],
+) -> Result<bool, NoMemory> {
     for (at, cut, new, line) in table {
         let text = changed(alloc, base.as_bytes(), *at, *cut, new.as_bytes())?;
-        let found = fault(rt, alloc, source, &text)?;
-        assert!(rt; found == *line);
+        if !fails_at(alloc, source, &text, *line)? {
+            return Ok(false);
+        }
     }
-    Ok(())
+    Ok(true)
 }
 
 #[test]
 fn each_rule_of_either_version_fails_alone(rt: HostRuntime) -> Result<(), Fail> {
     let alloc = rt.alloc();
-    changes(&rt, alloc, SQUARES, BOUNDS, RULES)?;
-    changes(&rt, alloc, SQUARES, RANGES, RULES)?;
+    assert!(rt; changes_fail(alloc, SQUARES, BOUNDS, RULES)?);
+    assert!(rt; changes_fail(alloc, SQUARES, RANGES, RULES)?);
     Ok(())
 }
 
 #[test]
 fn each_rule_of_one_version_fails_alone(rt: HostRuntime) -> Result<(), Fail> {
     let alloc = rt.alloc();
-    changes(&rt, alloc, SQUARES, BOUNDS, RULES_OF_BOUNDS)?;
-    changes(&rt, alloc, SQUARES, RANGES, RULES_OF_RANGES)?;
-    changes(&rt, alloc, SCALED, SCALED_BOUNDS, RULES_OF_PARAMS)?;
+    assert!(rt; changes_fail(alloc, SQUARES, BOUNDS, RULES_OF_BOUNDS)?);
+    assert!(rt; changes_fail(alloc, SQUARES, RANGES, RULES_OF_RANGES)?);
+    assert!(rt; changes_fail(alloc, SCALED, SCALED_BOUNDS, RULES_OF_PARAMS)?);
     Ok(())
 }
 
 #[test]
 fn numbers_that_are_changed(rt: HostRuntime) -> Result<(), Fail> {
     let alloc = rt.alloc();
-    changes(&rt, alloc, SQUARES, BOUNDS, NUMBERS_OF_BOUNDS)?;
-    changes(&rt, alloc, SQUARES, RANGES, NUMBERS_OF_RANGES)?;
-    changes(&rt, alloc, ORIENT, TURNS, NUMBERS_OF_TURNS)?;
+    assert!(rt; changes_fail(alloc, SQUARES, BOUNDS, NUMBERS_OF_BOUNDS)?);
+    assert!(rt; changes_fail(alloc, SQUARES, RANGES, NUMBERS_OF_RANGES)?);
+    assert!(rt; changes_fail(alloc, ORIENT, TURNS, NUMBERS_OF_TURNS)?);
     Ok(())
 }
 
-/// Each line left out.
-fn lines_go(rt: &impl Abort, alloc: Global, base: &[u8]) -> Result<(), Fail> {
+/// Has the listing its line without each of its lines?
+fn lines_go(alloc: Global, base: &[u8]) -> Result<bool, NoMemory> {
     let mut at = 0u32;
     for without in DELETED {
         at = at.saturating_add(1);
         let text = changed(alloc, base, at, 1, b"".as_slice())?;
-        let found = fault(rt, alloc, SQUARES, &text)?;
-        assert!(rt; found == *without);
+        if !fails_at(alloc, SQUARES, &text, *without)? {
+            return Ok(false);
+        }
     }
-    Ok(())
+    Ok(true)
 }
 
-/// Each line twice.
-fn lines_double(rt: &impl Abort, alloc: Global, base: &[u8]) -> Result<(), Fail> {
+/// The listing with a line twice.
+fn doubled(alloc: Global, base: &[u8], at: u32) -> Result<Vec<u8>, NoMemory> {
+    let line = line_at(alloc, base, at)?;
+    changed(alloc, base, at, 0, &line)
+}
+
+/// Has the listing its line with each of its lines twice?
+fn lines_double(alloc: Global, base: &[u8]) -> Result<bool, NoMemory> {
     let mut at = 0u32;
     for twice in DOUBLED {
         at = at.saturating_add(1);
-        let line = line_at(alloc, base, at)?;
-        let text = changed(alloc, base, at, 0, &line)?;
-        let found = fault(rt, alloc, SQUARES, &text)?;
-        assert!(rt; found == *twice);
+        let text = doubled(alloc, base, at)?;
+        if !fails_at(alloc, SQUARES, &text, *twice)? {
+            return Ok(false);
+        }
     }
-    Ok(())
+    Ok(true)
 }
 
-/// Each line behind the next one.
-fn lines_change_places(rt: &impl Abort, alloc: Global, base: &[u8]) -> Result<(), Fail> {
+/// The listing with a line behind the next one.
+fn exchanged(alloc: Global, base: &[u8], at: u32) -> Result<Vec<u8>, NoMemory> {
+    let next = at.saturating_add(1);
+    let second = line_at(alloc, base, next)?;
+    let text = changed(alloc, base, at, 1, &second)?;
+    let first = line_at(alloc, base, at)?;
+    changed(alloc, &text, next, 1, &first)
+}
+
+/// Has the listing its line with each of its lines behind the next one?
+fn lines_change_places(alloc: Global, base: &[u8]) -> Result<bool, NoMemory> {
     let mut at = 0u32;
     for behind in EXCHANGED {
         at = at.saturating_add(1);
-        let next = at.saturating_add(1);
-        let first = line_at(alloc, base, at)?;
-        let second = line_at(alloc, base, next)?;
-        let text = changed(alloc, base, at, 1, &second)?;
-        let text = changed(alloc, &text, next, 1, &first)?;
-        let found = fault(rt, alloc, SQUARES, &text)?;
-        assert!(rt; found == *behind);
+        let text = exchanged(alloc, base, at)?;
+        if !fails_at(alloc, SQUARES, &text, *behind)? {
+            return Ok(false);
+        }
+    }
+    Ok(true)
+}
+
+#[test]
+fn lines_that_move(rt: HostRuntime) -> Result<(), Fail> {
+    let alloc = rt.alloc();
+    for base in [BOUNDS.as_bytes(), RANGES.as_bytes()] {
+        assert!(rt; lines_go(alloc, base)?);
+        assert!(rt; lines_double(alloc, base)?);
+        assert!(rt; lines_change_places(alloc, base)?);
     }
     Ok(())
 }
 
-#[test]
-fn lines_of_version_1_move(rt: HostRuntime) -> Result<(), Fail> {
-    let alloc = rt.alloc();
-    lines_go(&rt, alloc, BOUNDS.as_bytes())?;
-    lines_double(&rt, alloc, BOUNDS.as_bytes())?;
-    lines_change_places(&rt, alloc, BOUNDS.as_bytes())?;
-    Ok(())
-}
-
-#[test]
-fn lines_of_version_2_move(rt: HostRuntime) -> Result<(), Fail> {
-    let alloc = rt.alloc();
-    lines_go(&rt, alloc, RANGES.as_bytes())?;
-    lines_double(&rt, alloc, RANGES.as_bytes())?;
-    lines_change_places(&rt, alloc, RANGES.as_bytes())?;
-    Ok(())
-}
-
-#[test]
-fn listings_that_are_cut(rt: HostRuntime) -> Result<(), Fail> {
-    let alloc = rt.alloc();
-    let base = BOUNDS.as_bytes();
+/// Whether a listing is cut in a line or in front of it, this is the first that isn't there.
+fn cuts_fail(alloc: Global, base: &[u8]) -> Result<bool, NoMemory> {
     let mut line = 1u128;
     let mut front = Vec::new(alloc);
     for b in base {
-        // Whether it is cut in this line or in front of it, this is the first that isn't there.
-        let found = fault(&rt, alloc, SQUARES, &front)?;
-        assert!(rt; found == line);
+        if !fails_at(alloc, SQUARES, &front, line)? {
+            return Ok(false);
+        }
         front.push(*b)?;
         if *b == b'\n' {
             line = line.saturating_add(1);
         }
     }
-    let found = fault(&rt, alloc, SQUARES, &front)?;
-    assert!(rt; found == 0);
+    fails_at(alloc, SQUARES, &front, 0)
+}
+
+#[test]
+fn listings_that_are_cut(rt: HostRuntime) -> Result<(), Fail> {
+    let alloc = rt.alloc();
+    assert!(rt; cuts_fail(alloc, BOUNDS.as_bytes())?);
     Ok(())
 }
 
-/// What `list` puts for a source, judged.
-fn listed(rt: &impl Abort, alloc: Global, source: &str) -> Result<u128, Fail> {
+/// A change behind another one, and the first line that fails then.
+fn two_changes_fail(
+    alloc: Global,
+    base: &str,
+    first: (u32, &str),
+    second: (u32, &str),
+    line: u128,
+) -> Result<bool, NoMemory> {
+    let text = changed(alloc, base.as_bytes(), first.0, 1, first.1.as_bytes())?;
+    let text = changed(alloc, &text, second.0, 1, second.1.as_bytes())?;
+    fails_at(alloc, SQUARES, &text, line)
+}
+
+#[test]
+fn two_lines_that_are_changed(rt: HostRuntime) -> Result<(), Fail> {
+    let alloc = rt.alloc();
+    // The polynomial is three times the variable, and not twice.
+    assert!(rt; two_changes_fail(alloc, BOUNDS, (26, "push 3 3"), (28, "mul64 30"), 29)?);
+    // A form fault comes before any line whose rule fails.
+    assert!(rt; two_changes_fail(alloc, RANGES, (2, "predicate t"), (42, "order 1 0 :"), 42)?);
+    Ok(())
+}
+
+/// Is what `list` puts for a source valid?
+fn is_listed_well(alloc: Global, source: &str) -> Result<bool, NoMemory> {
     let mut files = shelf(alloc, source, "", &[])?;
     let (status, con) = said_within(alloc, LIST, &mut files, 1 << 20, &[])?;
-    assert!(rt; status == Status::Done);
-    fault(rt, alloc, source, con.bytes(Port::Out))
+    Ok(status == Status::Done && fails_at(alloc, source, con.bytes(Port::Out), 0)?)
 }
 
 const NOTHING_ADDED: &str = "site num { t: -10 .. 10; }
@@ -238,35 +279,36 @@ fn what_is_listed_is_valid(rt: HostRuntime) -> Result<(), Fail> {
         BOTH,
         CIRCLE,
     ] {
-        let found = listed(&rt, alloc, source)?;
-        assert!(rt; found == 0);
+        assert!(rt; is_listed_well(alloc, source)?);
     }
     Ok(())
 }
 
+/// Sources, listings, and the first line that fails.
+const OF_SOURCES: &[(&str, &str, u128)] = &[
+    (SQUARES, BOUNDS, 0),
+    (SQUARES, RANGES, 0),
+    (UNITS, BOUNDS, 0),
+    (ORIENT, TURNS, 0),
+    // Another polynomial, another name, a predicate that hasn't stood, one that isn't there.
+    (OPPOSITE, BOUNDS, 15),
+    (ORIENT, RANGES, 2),
+    (CIRCLE, BOUNDS, 2),
+    (BOTH, RANGES, 44),
+    ("", BOUNDS, 2),
+    ("", "listing 1\n", 0),
+    ("", "listing 2\n", 0),
+    (SQUARES, "listing 2\n", 2),
+    (SQUARES, "listing 3\n", 1),
+    (NOUGHT, NOUGHT_RANGES, 0),
+    (NOUGHT, NOUGHT_BOUNDS, 5),
+];
+
 #[test]
 fn listings_are_of_their_sources(rt: HostRuntime) -> Result<(), Fail> {
     let alloc = rt.alloc();
-    let rows = [
-        (SQUARES, BOUNDS, 0),
-        (SQUARES, RANGES, 0),
-        (UNITS, BOUNDS, 0),
-        (ORIENT, TURNS, 0),
-        // Another polynomial, another name, a predicate that hasn't stood, one that isn't there.
-        (OPPOSITE, BOUNDS, 15),
-        (ORIENT, RANGES, 2),
-        (BOTH, RANGES, 44),
-        ("", BOUNDS, 2),
-        ("", "listing 1\n", 0),
-        ("", "listing 2\n", 0),
-        (SQUARES, "listing 2\n", 2),
-        (SQUARES, "listing 3\n", 1),
-        (NOUGHT, NOUGHT_RANGES, 0),
-        (NOUGHT, NOUGHT_BOUNDS, 5),
-    ];
-    for (source, listing, line) in rows {
-        let found = fault(&rt, alloc, source, listing.as_bytes())?;
-        assert!(rt; found == line);
+    for (source, listing, line) in OF_SOURCES {
+        assert!(rt; fails_at(alloc, source, listing.as_bytes(), *line)?);
     }
     Ok(())
 }
@@ -280,7 +322,8 @@ fn polynomials_have_their_limits(rt: HostRuntime) -> Result<(), Fail> {
         (29, 0, HIGH_POWER, 0),
         (29, 0, HIGHER_POWER, 69),
     ];
-    changes(&rt, alloc, UNITS, BOUNDS, &rows)
+    assert!(rt; changes_fail(alloc, UNITS, BOUNDS, &rows)?);
+    Ok(())
 }
 
 /// So many zeros put onto a stack and taken off.
@@ -297,30 +340,60 @@ fn zeros(alloc: Global, count: usize) -> Result<Vec<u8>, NoMemory> {
     Ok(text)
 }
 
+/// The listing with so many zeros put onto a stack and taken off.
+fn with_zeros(alloc: Global, count: usize) -> Result<Vec<u8>, NoMemory> {
+    let new = zeros(alloc, count)?;
+    changed(alloc, BOUNDS.as_bytes(), 29, 0, &new)
+}
+
 #[test]
 fn stacks_have_their_limit(rt: HostRuntime) -> Result<(), Fail> {
     let alloc = rt.alloc();
     for (count, line) in [(2047, 0), (2048, 2076)] {
-        let new = zeros(alloc, count)?;
-        let text = changed(alloc, BOUNDS.as_bytes(), 29, 0, &new)?;
-        let found = fault(&rt, alloc, SQUARES, &text)?;
-        assert!(rt; found == line);
+        let text = with_zeros(alloc, count)?;
+        assert!(rt; fails_at(alloc, SQUARES, &text, line)?);
     }
     Ok(())
 }
 
+/// Words over a source and a listing, with what they are owed.
+const WORDS: &[Case<'_>] = &[
+    (
+        &["verify", "s.ln"],
+        SQUARES,
+        RANGES,
+        Status::Usage,
+        "",
+        "error usage\n",
+    ),
+    (
+        &["verify", "s.ln", "none"],
+        SQUARES,
+        RANGES,
+        Status::Read,
+        "",
+        "error read\n",
+    ),
+    (
+        &["verify", "s.ln", "r.csv"],
+        "#",
+        RANGES,
+        Status::Refused,
+        "",
+        "error lexical 1:1\n",
+    ),
+];
+
 #[test]
 fn words_and_files_of_verify(rt: HostRuntime) -> Result<(), Fail> {
     let alloc = rt.alloc();
-    let mut files = both_files(alloc, SQUARES, RANGES.as_bytes())?;
-    let (status, con) = said(alloc, &["verify", "s.ln"], &mut files, &[])?;
-    assert!(rt; status == Status::Usage && tells(&con, "", "error usage\n"));
-    let (status, con) = said(alloc, &["verify", "s.ln", "none"], &mut files, &[])?;
-    assert!(rt; status == Status::Read && tells(&con, "", "error read\n"));
-    let (status, con) = said_within(alloc, VERIFY, &mut files, 3, &[])?;
-    assert!(rt; status == Status::Write && tells(&con, "val", ""));
-    let mut files = both_files(alloc, "#", RANGES.as_bytes())?;
-    let (status, con) = said(alloc, VERIFY, &mut files, &[])?;
-    assert!(rt; status == Status::Refused && tells(&con, "", "error lexical 1:1\n"));
+    assert!(rt; are_answered(alloc, WORDS)?);
+    let words: &[&str] = &["verify", "s.ln", "r.csv"];
+    let cut = (words, SQUARES, RANGES, Status::Write, "val", "");
+    let narrow = Faults {
+        room: 3,
+        ..NO_FAULTS
+    };
+    assert!(rt; is_answered(alloc, &cut, narrow, Vec::new(alloc))?);
     Ok(())
 }
