@@ -12,7 +12,8 @@ ghost use Rattle.ln_code.specs.Kept.{no_triple};
 ghost use Rattle.ln_filter.specs.Triples.{added, both, cut, excess, leaf, multiplied, powered, product_of, sum_of, triple, trimmed, whole};
 ghost use Rattle.ln_filter.specs.Steady.{ArePowersSteady, AreSteady, IsSteady};
 ghost use Rattle.ln_filter.specs.Tried.{IsSmall, of_raw};
-ghost use Rattle.ln_filter.specs.Lines.{cut_lines, factor_lines, factors, filter_lines, left_lines, line, power_of, right_lines, trim_lines};
+ghost use Rattle.ln_filter.specs.Lines.{cut_lines, factor_lines, factors, filter_lines, line, power_of, trim_lines};
+ghost use Rattle.ln_filter.specs.Lines.{left_lines, right_lines};
 ghost use Rattle.ln_filter.specs.Wrote.{Gives, LetsPut, SteadyPut, Wrote};
 
 use crate::arithmetic::{

@@ -1,6 +1,8 @@
 -- A block and the filter of a program, on a row in range.
 use Rattle.std.proofs.Common.{◌≡◌, ℕ, ℤ, ◌≤◌, ◌<◌, List, [], ◌∷◌, length, refl, zero, suc, ap, arith, get_or, ◌∙◌, sym, subst}
-use Rattle.std.specs.Prelude.{Option, Some, None, IsSome, slice_get, IfSome}
+use Rattle.std.specs.Prelude.{All, Option, Some, None, IsSome, slice_get, IfSome}
+use Rattle.std.specs.Vec.{with_items}
+use Rattle.std.proofs.lemmas.List.{with_items_is}
 use Rattle.ln_tree.specs.Row.{AreWithin}
 use Rattle.ln_code.specs.declared.op.Op.{Op}
 use Rattle.ln_code.specs.declared.op.Triple.{Triple}
@@ -20,6 +22,17 @@ there (x ∷ xs) (suc k) d h = there xs k d (omega arith)
 if_at : {X : Type 0} (P : X → Type 0) (o : Option X) (x : X) → IfSome o P → o ≡ Some x → P x
 if_at P None x h e = cc
 if_at P (Some y) x h e = let r : y ≡ x = cc in subst P r h
+
+-- what is made for a program stays so while its stack and its locals keep their lengths
+pub made_again : (p : Part) (s : Scratch) (stack locals : List ℤ) → MadeFor p s → length stack ≡ length s.stack.items → length locals ≡ length s.locals.items → MadeFor p (record { stack = with_items s.stack stack; locals = with_items s.locals locals })
+made_again p s stack locals m e f =
+    let a : length (with_items s.stack stack).items ≡ length s.stack.items = ap length (with_items_is s.stack stack (e ∙ sym s.stack.ok.0)) ∙ e in
+    let b : length (with_items s.locals locals).items ≡ length s.locals.items = ap length (with_items_is s.locals locals (f ∙ sym s.locals.ok.0)) ∙ f in
+    record {
+      locals = omega (arith, m.locals, b);
+      blocks = subst (λ n. All (λ (c : Code). c.depth ≤ n) p.blocks) (sym a) m.blocks;
+      filter = subst (λ n. IfSome p.filter (λ (g : FilterCode). g.depth ≤ n)) (sym a) m.filter;
+    }
 
 -- what a call of a block has
 pub record BlockCall (p : Part) (number : ℕ) (block : Code) (zs : List ℤ) (ops : List Op) (stack : List ℤ) (s : Scratch) : Type 0 where

@@ -1,10 +1,10 @@
 -- Steps of the listing: the terms that are left, and what is listed.
-use Rattle.std.proofs.Common.{◌≡◌, inl, inr, ℕ, zero, suc, ◌+◌, ◌<◌, Bool, true, false, cond, leb, List, [], ◌∷◌, ◌++◌, length, get_or, set, refl, sym, ◌∙◌, ap, arith, if◌then◌else◌, ◌&&◌}
+use Rattle.std.proofs.Common.{◌≡◌, inl, inr, ℕ, zero, suc, ◌+◌, ◌<◌, ◌≤◌, ℤ, Bool, true, false, take, cond, leb, List, [], ◌∷◌, ◌++◌, length, get_or, set, refl, sym, ◌∙◌, ap, arith, if◌then◌else◌, ◌&&◌}
 use Rattle.std.specs.Prelude.{All, filter, nat_le, ◌==◌}
 use Rattle.std.proofs.lemmas.Bool.Decides.{nat_tests}
-use Rattle.std.proofs.lemmas.List.{length-map, get_or-set_other}
+use Rattle.std.proofs.lemmas.List.{append-nil, length-map, get_or-set_other, take_more}
 use Rattle.std.proofs.Math.ListN.{length-set}
-use Rattle.std.proofs.lemmas.List.Elements.{All-filter, All-head, All-tail, All-set}
+use Rattle.std.proofs.lemmas.List.Elements.{All-filter, All-head, All-tail, All-set, filter-append}
 use Rattle.std.proofs.lemmas.List.Sums.{sum_by-cons}
 use Rattle.ln_algebra.specs.Vector.{covers}
 use Rattle.ln_algebra.specs.Walk.{Found, Member, all_same, at_least, before, steps, unless_none, walk}
@@ -17,6 +17,27 @@ use Rattle.ln_stage.specs.Tally.{IsOver, Tallied, number_in, pairs_of, see, see_
 use Rattle.ln_stage.proofs.Walks.PairsLemmas.{tests-same}
 
 -- ---- the terms that are left
+-- one place more is kept, or not
+pub place-is : (f : Sparse) (k : ℕ) (t : Pairs × ℤ) → k < length f → t ≡ get_or f k t → t ≡ term_at f k
+place-is [] k t h e = absurd (omega (arith, h))
+place-is (x ∷ f) zero t h e = e
+place-is (x ∷ f) (suc k) t h e = place-is f k t (omega (arith, h)) e
+
+high-more : (f : Sparse) (v e i : ℕ) (kept : List ℕ) → i < length kept → high f v e (take (i + 1) kept) ≡ high f v e (take i kept) ++ high f v e (get_or kept i 0 ∷ [])
+high-more f v e i kept h = ap (high f v e) (take_more kept i 0 h) ∙ filter-append (λ k. nat_le e (exponent v (term_at f k).0)) (take i kept) (get_or kept i 0 ∷ [])
+
+pub high-takes : (f : Sparse) (v e i : ℕ) (kept now after : List ℕ) → i < length kept → now ≡ high f v e (take i kept) → e ≤ exponent v (term_at f (get_or kept i 0)).0 → after ≡ now ++ (get_or kept i 0 ∷ []) → after ≡ high f v e (take (i + 1) kept)
+high-takes f v e i kept now after h n l a =
+    let s : nat_le e (exponent v (term_at f (get_or kept i 0)).0) ≡ true = grind (arith, nat_tests) in
+    let one : high f v e (get_or kept i 0 ∷ []) ≡ get_or kept i 0 ∷ [] = rw s refl in
+    a ∙ ap (λ z. z ++ (get_or kept i 0 ∷ [])) n ∙ ap (λ z. high f v e (take i kept) ++ z) (sym one) ∙ sym (high-more f v e i kept h)
+
+pub high-leaves : (f : Sparse) (v e i : ℕ) (kept now : List ℕ) → i < length kept → now ≡ high f v e (take i kept) → exponent v (term_at f (get_or kept i 0)).0 < e → now ≡ high f v e (take (i + 1) kept)
+high-leaves f v e i kept now h n l =
+    let s : nat_le e (exponent v (term_at f (get_or kept i 0)).0) ≡ false = grind (arith, nat_tests) in
+    let none : high f v e (get_or kept i 0 ∷ []) ≡ [] = rw s refl in
+    n ∙ sym (append-nil (high f v e (take i kept))) ∙ ap (λ z. high f v e (take i kept) ++ z) (sym none) ∙ sym (high-more f v e i kept h)
+
 -- those with a high exponent
 pub rows-high : (n : ℕ) (f : Sparse) (v e : ℕ) (kept : List ℕ) → v < n → rows n f (high f v e kept) ≡ at_least v e (rows n f kept)
 rows-high n f v e [] h = refl

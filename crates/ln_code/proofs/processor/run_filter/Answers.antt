@@ -1,4 +1,4 @@
-use Rattle.std.proofs.Common.{FitsSigned, rules, slice_index_or, pos, length}
+use Rattle.std.proofs.Common.{FitsSigned, arith, refl, rules, slice_index_or, pos, length}
 use Rattle.std.proofs.lemmas.Int.{to_z-of_z}
 use mir.Syntax.{w128}
 use Rattle.ln_code.specs.Bare.{bare}
@@ -11,3 +11,6 @@ returns-clause-value c =
     let f : FitsSigned w128 (slice_index_or c.ops.stack 0 (pos 0)) = search rules in
     rw (to_z-of_z w128 (slice_index_or c.ops.stack 0 (pos 0)) f)
     (filter_ends (bare c.args.values.now (length c.args.stack.now)) c.args.ops.now c.args.triples.now c.ops.i c.ops.stack c.ops.top (at c.args.locals.now) (at c.ops.locals) c.ops-test.false c.ops.invariant.rest c.requires.answers)
+
+pub ops-init : goal.ops-init
+ops-init c = record { room = omega arith; locals = c.requires.locals; size = refl; same_locals = refl; rest = refl }

@@ -1,7 +1,7 @@
-use Rattle.std.proofs.Common.{FitsSigned, rules}
+use Rattle.std.proofs.Common.{◌∙◌, FitsSigned, ap, length, rules}
 use Rattle.std.proofs.lemmas.Int.{to_z-of_z}
 use mir.Syntax.{w128}
-use Rattle.ln_code.proofs.Verdicts.Calls.{FilterCall, filter_answers, filter_gives}
+use Rattle.ln_code.proofs.Verdicts.Calls.{FilterCall, filter_answers, filter_gives, made_again}
 use Rattle.ln_code.proofs.run.filter_number.Goals as goal
 
 pub run_filter-requires-clause-answers : goal.run_filter-requires-clause-answers
@@ -30,3 +30,13 @@ returns-clause-value c =
     } in
     let f : FitsSigned w128 c.run_filter.result = search rules in
     rw (to_z-of_z w128 c.run_filter.result f) (filter_gives c.args.p.now c.args.f.now c.args.values.now c.ops.result.now c.triples.result.now c.as_mut_slice.result.now c.as_mut_slice-2.result.now c.args.s.now c.run_filter.result call c.run_filter.ensures.value)
+
+pub returns-clause-made : goal.returns-clause-made
+returns-clause-made c =
+    made_again c.args.p.now c.args.s.now _ _ c.requires.made (c.run_filter.ensures.size ∙ ap length c.as_mut_slice.ensures.value) (c.run_filter.ensures.locals ∙ ap length c.as_mut_slice-2.ensures.value)
+
+pub run_filter-requires-clause-locals : goal.run_filter-requires-clause-locals
+run_filter-requires-clause-locals c = rw c.as_mut_slice-2.ensures.value c.requires.made.locals
+
+pub run_filter-requires-clause-bounded : goal.run_filter-requires-clause-bounded
+run_filter-requires-clause-bounded c = rw (c.ops.ensures, c.triples.ensures.value) c.triples.ensures.kept.rules.bounded

@@ -67,14 +67,3 @@ returns-clause-err c =
     let k = rw (c.as_slice-vars.ensures, c.as_slice-lets.ensures) at c.expand.ensures.err in
     let a = rw (c.as_slice-vars.ensures, c.as_slice-lets.ensures) at c.in_ok-polys.ensures.few in
     MatchResult-weaker c.expand.result k (λ f t. tt) (λ s q. stop-behind (length p.shape.vars) (expanded_lets p.shape.vars [] (map formula p.lets)) (expanded p.shape.vars (closed_lets p.shape.vars (map formula p.lets)) (formula p.root)) s a q)
-
-pub expand-requires-clause-polys : goal.expand-requires-clause-polys
-expand-requires-clause-polys c = rw c.as_slice.ensures c.in_ok-polys.ensures.polys
-
-pub returns-clause-normal : goal.returns-clause-normal
-returns-clause-normal c =
-    let k = rw (c.as_slice-vars.ensures, c.as_slice-lets.ensures) at c.expand.ensures.ok in
-    IfOk-weaker c.expand.result _ _ (λ f q. q.normal) k
-
-pub returns-clause-terms : goal.returns-clause-terms
-returns-clause-terms c = IfOk-weaker c.expand.result _ _ (λ f q. q.terms) c.expand.ensures.ok

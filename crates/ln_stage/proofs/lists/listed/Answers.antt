@@ -1,4 +1,4 @@
-use Rattle.std.proofs.Common.{◌∙◌, ◌+◌, ◌-◌, ◌<◌, ◌*◌, ap, arith, drop, length, map, refl}
+use Rattle.std.proofs.Common.{◌∙◌, ◌+◌, ◌-◌, ◌<◌, ◌*◌, ap, arith, drop, length, map, refl, subst}
 use Rattle.std.proofs.lemmas.Result.{err_from_is_err_and}
 use Rattle.ln_order.proofs.Listing.FrontLemmas.{prefix-size}
 use Rattle.ln_order.proofs.Signs.SitesLemmas.{kept}
@@ -8,8 +8,8 @@ use Rattle.ln_order.specs.Prefixes.{prefixes_of}
 use Rattle.ln_stage.specs.FirstSight.{shared_count}
 use Rattle.ln_stage.specs.Kept.{numbers_by, tallied_by}
 use Rattle.ln_stage.specs.Tally.{IsOver, Tallied}
-use Rattle.ln_stage.specs.Visit.{segment_at}
-use Rattle.ln_stage.proofs.Results.ListedLemmas.{at-prefix, count-passes, cuts-begin, cuts-follow, more-prefixes, over-goes, segments-end, segments-go, shares-here, tally-ends, tally-goes}
+use Rattle.ln_stage.specs.Visit.{AreCuts, AreCutsFor, segment_at}
+use Rattle.ln_stage.proofs.Results.ListedLemmas.{at-prefix, count-ends, count-passes, cuts-begin, cuts-follow, more-prefixes, over-goes, segments-end, segments-go, shares-here, tally-ends, tally-goes}
 use Rattle.ln_stage.proofs.lists.listed.Goals as goal
 
 pub prefixes-init : goal.prefixes-init
@@ -63,3 +63,15 @@ returns-clause-segments c = segments-end (segment_at c.args.s.now.vars c.args.f.
 
 pub returns-clause-rest : goal.returns-clause-rest
 returns-clause-rest c = tally-ends (segment_at c.args.s.now.vars c.args.f.now) (length c.args.s.now.vars) c.args.f.now c.args.prefixes.now c.prefixes.p-index (omega arith) c.prefixes.tally _ c.prefixes.invariant.tally ∙ ap (tallied_by (segment_at c.args.s.now.vars c.args.f.now) (length c.args.s.now.vars) c.args.f.now c.args.tally.now) c.requires.prefixes
+
+pub segment-requires-clause-cuts : goal.segment-requires-clause-cuts
+segment-requires-clause-cuts c =
+    let m = more-prefixes c.args.prefixes.now c.prefixes.p-index c.p-item.result (omega arith) c.p-item.is in
+    let cuts : AreCuts c.args.s.now.vars c.args.f.now (length (front_places c.p-item.result)) (front_places c.p-item.result) c.prefixes.cuts = subst (λ z. AreCutsFor c.args.s.now.vars c.args.f.now z c.prefixes.cuts) m c.prefixes.invariant.cuts in
+    cuts
+
+pub returns-clause-count : goal.returns-clause-count
+returns-clause-count c = count-ends (segment_at c.args.s.now.vars c.args.f.now) (length c.args.s.now.vars) c.args.f.now c.args.prefixes.now c.prefixes.p-index (omega arith) c.args.s.now.sites _ c.prefixes.count c.prefixes.invariant.count ∙ ap (shared_count c.args.s.now.sites (segment_at c.args.s.now.vars c.args.f.now)) c.requires.prefixes
+
+pub returns-clause-within : goal.returns-clause-within
+returns-clause-within c = c.prefixes.invariant.within

@@ -5,8 +5,9 @@ use Rattle.ln_order.specs.Prefixes.{prefixes_of}
 use Rattle.ln_poly.specs.Sparse.{AreBelow, IsPoly}
 use Rattle.ln_stage.specs.Kept.{numbers_by, tallied_by}
 use Rattle.ln_stage.specs.Staged.{lists_in}
+use Rattle.ln_stage.specs.Tally.{Tallied}
 use Rattle.ln_stage.specs.Visit.{segment_at}
-use Rattle.ln_stage.proofs.Results.ResultLemmas.{counted-is, final-count, final-is, final-weight, result-stages, segments-size, some-terms, stops, weighed-is}
+use Rattle.ln_stage.proofs.Results.ResultLemmas.{counted-is, final-count, final-is, final-weight, result-stages, segments-size, some-count, some-terms, stops, weighed-is}
 use Rattle.ln_stage.proofs.lists.stages.Goals as goal
 
 pub returns-in_err-found-clause-err : goal.returns-in_err-found-clause-err
@@ -75,3 +76,30 @@ returns-clause-weight c =
     let tally = c.in_ok-found.ensures.rest ∙ ap (λ t. tallied_by (segment_at s.vars c.terms-terms.result.now) (length s.vars) c.terms-terms.result.now t (prefixes_of s.sites)) c.new-tally.ensures in
     let q = final-is s.sites s.vars c.terms-terms.result.now (kept s.sites s.vars s.kept).few_sites s.kept poly below c.args.most c.args.heavy c.of.result _ c.in_ok-found.found.0 (lists_in s.sites c.in_ok-found.found.0) c.listed.new.tally c.of.ensures c.into_blocks-blocks.ensures.blocks tally segs refl in
     rw (← f, q) (final-weight s.sites s.vars c.terms-terms.result.now (kept s.sites s.vars s.kept).few_sites s.kept poly below c.args.most c.args.heavy (weighed-is s.sites s.vars c.terms-terms.result.now (kept s.sites s.vars s.kept).few_sites s.kept poly below c.args.most c.args.heavy c.listed.new.tally tally c.into_blocks-blocks.ensures.within.1))
+
+pub returns-clause-some : goal.returns-clause-some
+returns-clause-some c = λ z. some-terms c.is_zero.result c.args.f.now c.if-is_zero.false c.is_zero.ensures z
+
+pub listed-requires-clause-prefixes : goal.listed-requires-clause-prefixes
+listed-requires-clause-prefixes c = rw c.as_slice.ensures c.in_ok-prefixes.ensures
+
+pub listed-requires-clause-below : goal.listed-requires-clause-below
+listed-requires-clause-below c =
+    let below : AreBelow (length c.args.s.now.vars) c.terms-terms.result.now = rw c.terms-terms.ensures.value c.requires.below in
+    below
+
+pub listed-requires-clause-rising : goal.listed-requires-clause-rising
+listed-requires-clause-rising c =
+    let poly : IsPoly c.terms-terms.result.now = rw c.terms-terms.ensures.value c.terms-terms.ensures.form in
+    poly.rising
+
+pub listed-requires-clause-some : goal.listed-requires-clause-some
+listed-requires-clause-some c =
+    let f = c.terms-terms.ensures.value in
+    some-count c.terms-terms.result.now (λ z. some-terms c.is_zero.result c.args.f.now c.if-is_zero.false c.is_zero.ensures (sym f ∙ z))
+
+pub listed-requires-clause-empty : goal.listed-requires-clause-empty
+listed-requires-clause-empty c = ap (λ (t : Tallied). t.list) c.new-tally.ensures
+
+pub returns-then-is_zero-clause-err : goal.returns-then-is_zero-clause-err
+returns-then-is_zero-clause-err c = c.is_zero.ensures.0 c.if-is_zero.true
