@@ -1,4 +1,4 @@
-use Rattle.std.proofs.Common.{◌≡◌, true, arith, ◌+◌}
+use Rattle.std.proofs.Common.{◌+◌, sym, ◌∙◌, true≢false, arith}
 use Rattle.ln_lex.specs.declared.token.Kind.TheVariants.{Comma}
 use Rattle.ln_syntax.proofs.Spellings.Parts.{is_within, arg_first, arg_fits, args_begin, args_last, args_more, args_stop}
 use Rattle.ln_syntax.proofs.items.args_at.Goals as goal
@@ -26,7 +26,10 @@ pub arguments-init : goal.arguments-init
 arguments-init c = rw c.new-args.ensures.items (args_begin c.requires.there)
 
 pub returns-then-not-is-clause-stops : goal.returns-then-not-is-clause-stops
-returns-then-not-is-clause-stops c = args_stop c.arguments.invariant.rest (λ q. let h : c.is.result ≡ true = c.is.ensures.1 q in cc)
+returns-then-not-is-clause-stops c = args_stop c.arguments.invariant.rest (λ q. true≢false (sym (c.is.ensures.1 q) ∙ c.if-not-is.true))
 
 pub overflow_add-place : goal.overflow_add-place
 overflow_add-place c = arg_fits 3 (arg_first c.arguments.invariant.rest) c.requires.small (omega arith)
+
+pub overflow_add-result : goal.overflow_add-result
+overflow_add-result c = arg_fits 3 (arg_first c.arguments.invariant.rest) c.requires.small (omega arith)

@@ -1,7 +1,7 @@
-use Rattle.std.proofs.Common.{rules, arith, ◌≡◌, ◌⊎◌, inr, true, refl, sym, true≢false}
+use Rattle.std.proofs.Common.{rules, ◌⊎◌, inr, refl, sym, ◌∙◌, true≢false}
 use Rattle.std.specs.List.{Contains}
 use Rattle.ln_base.specs.Memory.{IsFull}
-use Rattle.ln_base.proofs.Kept.{neither}
+use Rattle.ln_base.proofs.Kept.{neither, some_taken}
 use Rattle.ln_base.proofs.memory.MemConsoleConsole.put.Goals as goal
 
 pub returns-then-is_refused-clause-exact : goal.returns-then-is_refused-clause-exact
@@ -50,5 +50,5 @@ returns-clause-step c = tt
 
 pub returns-clause-some : goal.returns-clause-some
 returns-clause-some c h =
-    let roomy : c.saturating_sub-left.result ≡ 0 → ⊥ = λ e. let t : c.is_refused.result ≡ true = c.is_refused.ensures.1 (inr (h, e)) in cc in
-    omega (arith, roomy, h, c.self.invariant)
+    some_taken _ _ _ _ _ c.min.ensures c.min-n.ensures c.self.invariant.2 h
+    (λ e. true≢false (sym (c.is_refused.ensures.1 (inr (h, e))) ∙ c.if-is_refused.false))
