@@ -5,7 +5,8 @@ use Rattle.ln_top.proofs.Steps.Prepared.{halts_behind, left_more, left_none, ros
 use Rattle.ln_top.proofs.prepare.add_texts.Goals as goal
 
 pub names-init : goal.names-init
-names-init g c = (refl, refl, rw c.requires (behind_none (Reads (g.F.Files.told c.args.files.now) most_file) (map string_bytes c.args.names.now)))
+names-init g c =
+    (refl, refl, rw c.requires (behind_none (Reads (g.F.Files.told c.args.files.now) most_file) (map string_bytes c.args.names.now)))
 
 pub returns-in-Err-clause-err : goal.returns-in-Err-clause-err
 returns-in-Err-clause-err g c =
