@@ -1,16 +1,11 @@
 //! Predicates, judged one after the other, and compiled.
-ghost use Rattle.std.specs.Prelude.{◌≡◌, ◌≢◌, ◌≤◌, true, All, [], length, map, IfErr, IfOk, OnOk};
+ghost use Rattle.std.specs.Prelude.{◌≡◌, ◌≤◌, true, All, length, map, IfErr, IfOk, OnOk};
 ghost use Rattle.ln_algebra.specs.Vector.{total_degree};
-ghost use Rattle.ln_algebra.specs.Weights.{weighted_sum};
 ghost use Rattle.ln_tree.specs.Exps.{vector};
 ghost use Rattle.ln_tree.specs.Table.{pred_of};
 ghost use Rattle.ln_tree.specs.Whole.{differ};
-ghost use Rattle.ln_bound.specs.Light.{AreLight, most};
-ghost use Rattle.ln_bound.specs.Value.{weights};
+ghost use Rattle.ln_bound.specs.Light.{AreLight};
 ghost use Rattle.ln_poly.specs.Expansion.{HaveFewTerms, IsNormal};
-ghost use Rattle.ln_poly.specs.Sparse.{terms_of};
-ghost use Rattle.ln_stage.specs.Lists.{stage_count, stage_weight};
-ghost use Rattle.ln_stage.specs.Staged.{AreStagesOf, vectors_of};
 ghost use Rattle.ln_compile.specs.Accepted.{AreSound, IsSound, expanded_of, loaded_of, root_of};
 ghost use Rattle.ln_compile.specs.Compiled.{AreProgramsOf, IsProgramOf, IsStageCount};
 ghost use Rattle.ln_compile.specs.Made.{AreCounted};
@@ -22,38 +17,8 @@ use crate::refusal::Refusal;
 use ln_base::{NoMemory, Seq};
 use ln_code::{Program, Programs};
 use ln_poly::Poly;
-use ln_stage::Stages;
 use ln_tree::Pred;
 use std::alloc::Global;
-
-// The normal polynomial of predicate number k.
-fn normal_of(alloc: Global, k: u8, p: &Pred) -> Result<Poly, Refusal>
-    ensures light { OnOk result (AreLight (loaded_of (pred_of p.now))) }
-    ensures few { OnOk result (HaveFewTerms (length p.now.shape.vars) (expanded_of (pred_of p.now))) }
-    ensures normal { IfOk result (λ f. IsNormal (length p.now.shape.vars) (root_of (pred_of p.now)) f) }
-    ensures degrees { IfOk result (λ f. All (λ t. total_degree (vector (length p.now.shape.vars) t.0) ≤ 126) f) }
-    ensures err { IfErr result (λ r. StopsPred k (pred_of p.now) r) }
-{
-    measured(alloc, k, p)?;
-    expanded(alloc, k, p)
-}
-
-// The stages of predicate number k, whose normal polynomial is f.
-fn stages_of(alloc: Global, k: u8, p: &Pred, f: &Poly) -> Result<Stages, Refusal>
-    requires light { AreLight (loaded_of (pred_of p.now)) }
-    requires few { HaveFewTerms (length p.now.shape.vars) (expanded_of (pred_of p.now)) }
-    requires normal { IsNormal (length p.now.shape.vars) (root_of (pred_of p.now)) f.now }
-    ensures weight { OnOk result (weighted_sum (weights p.now.shape.vars) (terms_of (length p.now.shape.vars) f.now) ≤ most) }
-    ensures sound { OnOk result (IsSound (pred_of p.now)) }
-    ensures some { OnOk result (f.now ≢ []) }
-    ensures stages { IfOk result (λ st. AreStagesOf p.now.shape.sites p.now.shape.vars f.now st) }
-    ensures count { IfOk result (λ st. stage_count (vectors_of (length p.now.shape.vars) st) ≤ 65536) }
-    ensures stage_weight { IfOk result (λ st. stage_weight (length p.now.shape.vars) f.now (vectors_of (length p.now.shape.vars) st) ≤ 131072) }
-    ensures err { IfErr result (λ r. StopsPred k (pred_of p.now) r) }
-{
-    weighed(k, p, f)?;
-    staged(alloc, k, p, f)
-}
 
 // The stage count of predicate number k, whose normal polynomial is f. Its stages are dropped before it is answered.
 fn counted_of(alloc: Global, k: u8, p: &Pred, f: &Poly) -> Result<u64, Refusal>
@@ -64,10 +29,9 @@ fn counted_of(alloc: Global, k: u8, p: &Pred, f: &Poly) -> Result<u64, Refusal>
     ensures count { IfOk result (λ n. IsStageCount (pred_of p.now) n) }
     ensures err { IfErr result (λ r. StopsPred k (pred_of p.now) r) }
 {
-    match stages_of(alloc, k, p, f) {
-        Ok(st) => Ok(st.count()),
-        Err(r) => Err(r),
-    }
+    weighed(k, p, f)?;
+    let st = staged(alloc, k, p, f)?;
+    Ok(st.count())
 }
 
 // The stage count of predicate number k.
@@ -76,10 +40,9 @@ fn counted(alloc: Global, k: u8, p: &Pred) -> Result<u64, Refusal>
     ensures count { IfOk result (λ n. IsStageCount (pred_of p.now) n) }
     ensures err { IfErr result (λ r. StopsPred k (pred_of p.now) r) }
 {
-    match normal_of(alloc, k, p) {
-        Ok(f) => counted_of(alloc, k, p, &f),
-        Err(r) => Err(r),
-    }
+    measured(alloc, k, p)?;
+    let f = expanded(alloc, k, p)?;
+    counted_of(alloc, k, p, &f)
 }
 
 /// The stage counts of the predicates of a table; else the fault of the first that has one.
@@ -96,8 +59,8 @@ pub(crate) fn counts(alloc: Global, preds: &[Pred]) -> Result<Seq<u64>, Refusal>
     Ok(counts)
 }
 
-// The program of a predicate with this normal polynomial.
-fn compiled_of(alloc: Global, p: &Pred, f: &Poly) -> Result<Program, NoMemory>
+// The program of a predicate with this normal polynomial, or why there is none.
+fn compiled_of(alloc: Global, p: &Pred, f: &Poly) -> Result<Program, Refusal>
     requires light { AreLight (loaded_of (pred_of p.now)) }
     requires few { HaveFewTerms (length p.now.shape.vars) (expanded_of (pred_of p.now)) }
     requires normal { IsNormal (length p.now.shape.vars) (root_of (pred_of p.now)) f.now }
@@ -106,10 +69,21 @@ fn compiled_of(alloc: Global, p: &Pred, f: &Poly) -> Result<Program, NoMemory>
     ensures name { IfOk result (λ c. c.shape.name ≡ p.now.shape.name) }
     ensures small { IfOk result (λ c. length c.blocks ≤ 65536) }
 {
-    match stages_of(alloc, 0, p, f) {
-        Ok(st) => program(alloc, p, f, &st),
-        Err(_) => Err(NoMemory),
-    }
+    weighed(0, p, f)?;
+    let st = staged(alloc, 0, p, f)?;
+    let program = program(alloc, p, f, &st)?;
+    Ok(program)
+}
+
+// The program of a predicate, or why there is none.
+fn compiled(alloc: Global, p: &Pred) -> Result<Program, Refusal>
+    ensures program { IfOk result (λ c. IsProgramOf (pred_of p.now) c) }
+    ensures name { IfOk result (λ c. c.shape.name ≡ p.now.shape.name) }
+    ensures small { IfOk result (λ c. length c.blocks ≤ 65536) }
+{
+    measured(alloc, 0, p)?;
+    let f = expanded(alloc, 0, p)?;
+    compiled_of(alloc, p, &f)
 }
 
 /// The program of a predicate that has no fault.
@@ -119,8 +93,8 @@ pub(crate) fn program_of(alloc: Global, p: &Pred) -> Result<Program, NoMemory>
     ensures name { IfOk result (λ c. c.shape.name ≡ p.now.shape.name) }
     ensures small { IfOk result (λ c. length c.blocks ≤ 65536) }
 {
-    match normal_of(alloc, 0, p) {
-        Ok(f) => compiled_of(alloc, p, &f),
+    match compiled(alloc, p) {
+        Ok(program) => Ok(program),
         Err(_) => Err(NoMemory),
     }
 }

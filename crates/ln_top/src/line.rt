@@ -108,16 +108,11 @@ pub fn add_line(
     ensures steady { is_bare said ≡ true → IsOk result }
 {
     match said {
-        Ok(v) => {
-            add_verdict(text, v);
-            Ok(())
-        }
-        Err(RowStop::Fields) => {
-            add_within(text, b"! fields\n");
-            Ok(())
-        }
-        Err(RowStop::Number(k)) => add_column(alloc, text, b"! number ", target, k),
-        Err(RowStop::Range(k)) => add_column(alloc, text, b"! range ", target, k),
-        Err(RowStop::Index(k)) => add_column(alloc, text, b"! index ", target, k),
+        Ok(v) => add_verdict(text, v),
+        Err(RowStop::Fields) => add_within(text, b"! fields\n"),
+        Err(RowStop::Number(k)) => add_column(alloc, text, b"! number ", target, k)?,
+        Err(RowStop::Range(k)) => add_column(alloc, text, b"! range ", target, k)?,
+        Err(RowStop::Index(k)) => add_column(alloc, text, b"! index ", target, k)?,
     }
+    Ok(())
 }
