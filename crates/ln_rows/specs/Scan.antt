@@ -1,6 +1,6 @@
 -- One record, byte by byte: the states and the actions of csv's own machine.
-use Rattle.std.specs.Prelude.{◌≡◌, ◌≢◌, ℕ, ◌<◌, Bool, true, false, List, [], ◌∷◌, ◌++◌, length, take, None, Result, Ok, Err}
-use Rattle.csv.specs.Machine.{step, is_end, fields_after, field_after}
+use Rattle.std.specs.Prelude.{◌≡◌, ℕ, ◌<◌, true, false, List, length, take}
+use Rattle.csv.specs.Machine.{step, is_end}
 use Rattle.csv.specs.Reading.{default_config}
 use Rattle.csv.specs.declared.parser.State.{State}
 use Rattle.csv.specs.declared.parser.State.TheVariants as st
@@ -10,7 +10,7 @@ use Rattle.ln_rows.specs.declared.scan.Stand.{Stand}
 use Rattle.ln_rows.specs.declared.scan.Stand.TheVariants as stand
 use Rattle.ln_rows.specs.declared.scan.Deed.{Deed}
 use Rattle.ln_rows.specs.declared.scan.Deed.TheVariants as deed
-use Rattle.ln_rows.specs.Left.{IsBetween, Gives, first_of}
+use Rattle.ln_rows.specs.Left.{IsBetween}
 
 -- where csv's machine stands
 abbrev pub state_of : Stand → State
@@ -37,26 +37,3 @@ pub record IsStep (from : State) (c : ℕ) (to : Stand) (done : Deed) : Type 0 w
 pub record Keeps (most : ℕ) (all : List (List ℕ)) (field : List ℕ) (kept : List (List ℕ)) (held : List ℕ) : Type 0 where
   pub first : kept ≡ take most all
   pub at_hand : length all < most → held ≡ field
-
--- a read that stood in a record takes a byte, and stands elsewhere
-pub record HasStepped (most : ℕ) (from : Stand) (c : ℕ) (to : Stand) (done : Deed)
-    (kept : List (List ℕ)) (held : List ℕ) (kept2 : List (List ℕ)) (held2 : List ℕ) : Type 0 where
-  pub step : IsStep (state_of from) c to done
-  pub keeps : (all : List (List ℕ)) → (field : List ℕ) → Keeps most all field kept held
-      → Keeps most (fields_after (action_of done) all field) (field_after (action_of done) c field) kept2 held2
-
--- at the end of the text a record ends, with the field at hand as its last one; or none has begun
-abbrev pub EndsSo : ℕ → Stand → Bool → List (List ℕ) → List ℕ → List (List ℕ) → List ℕ → Type 0
-EndsSo most from false kept held kept2 held2 = from ≡ stand.Record
-EndsSo most from true kept held kept2 held2 = (from ≢ stand.Record)
-    × ((all : List (List ℕ)) → (field : List ℕ) → Keeps most all field kept held → Keeps most (all ++ field ∷ []) [] kept2 held2)
-
--- the first record of a text, of which at most so many fields are kept, and what is left behind it
-abbrev pub Ended : List ℕ → ℕ → List ℕ → List (List ℕ) → Type 0
-Ended text most rest kept = (all : List (List ℕ)) × Gives text all rest × (kept ≡ take most all)
-
--- it was taken; or there is none, and nothing is left; or there was no memory, and nothing is left
-abbrev pub Took : {E : Type 0} → List ℕ → ℕ → Result Bool E → List ℕ → List (List ℕ) → Type 0
-Took text most (Ok true) rest kept = Ended text most rest kept
-Took text most (Ok false) rest kept = (first_of text ≡ None) × (rest ≡ [])
-Took text most (Err e) rest kept = rest ≡ []

@@ -74,9 +74,20 @@ impl<'a> Rows<'a> {
         ensures err { OnErr result (self.new ≡ []) }
     {
         let most = self.rest.len() + 1;
-        let (found, rest) = first_record(self.rest, most, &mut self.held, into);
-        self.rest = rest;
-        found
+        match first_record(self.rest, most, &mut self.held, into) {
+            Ok(Some(rest)) => {
+                self.rest = rest;
+                Ok(true)
+            }
+            Ok(None) => {
+                self.rest = &[];
+                Ok(false)
+            }
+            Err(_) => {
+                self.rest = &[];
+                Err(NoMemory)
+            }
+        }
     }
 
     /// Takes the first record, if there is one, and says whether its fields are the names of the predicate's columns. It keeps no more
@@ -88,13 +99,20 @@ impl<'a> Rows<'a> {
         ensures err { OnErr result (self.new ≡ []) }
     {
         let most = room(t, p).min(self.rest.len() + 1);
-        let (found, rest) = first_record(self.rest, most, &mut self.held, &mut self.record);
-        self.rest = rest;
-        let some = found?;
-        if !some {
-            return Ok(false);
+        match first_record(self.rest, most, &mut self.held, &mut self.record) {
+            Ok(Some(rest)) => {
+                self.rest = rest;
+                Ok(header(t, p, &self.record))
+            }
+            Ok(None) => {
+                self.rest = &[];
+                Ok(false)
+            }
+            Err(_) => {
+                self.rest = &[];
+                Err(NoMemory)
+            }
         }
-        Ok(header(t, p, &self.record))
     }
 
     // The same as `next_row`, byte by byte.
@@ -109,13 +127,20 @@ impl<'a> Rows<'a> {
         ensures err { OnErr result (self.new ≡ []) }
     {
         let most = column_count(p.shape.vars.as_slice(), p.shape.sites) + 1;
-        let (found, rest) = first_record(self.rest, most, &mut self.held, &mut self.record);
-        self.rest = rest;
-        let some = found?;
-        if !some {
-            return Ok(None);
+        match first_record(self.rest, most, &mut self.held, &mut self.record) {
+            Ok(Some(rest)) => {
+                self.rest = rest;
+                Ok(Some(row(p, &self.record, into)))
+            }
+            Ok(None) => {
+                self.rest = &[];
+                Ok(None)
+            }
+            Err(_) => {
+                self.rest = &[];
+                Err(NoMemory)
+            }
         }
-        Ok(Some(row(p, &self.record, into)))
     }
 
     /// Takes the next record, if there is one, and reads the row that it says into `into`, or tells the first fault that it has. Places

@@ -1,16 +1,16 @@
 //! One record of a text, by csv's own definition.
-ghost use Rattle.std.specs.Prelude.{◌≡◌, ◌++◌, ◌∷◌, ℕ, [], List, None, IfOk, MatchOption, OnOk};
+ghost use Rattle.std.specs.Prelude.{◌≡◌, ◌++◌, ◌∷◌, ℕ, [], List, None, take, IfOk, IfSome, OnOk};
 ghost use Rattle.csv.specs.Machine.{fields_after, field_after, is_end};
 ghost use Rattle.csv.specs.Records.{fields_of, partial_of};
 ghost use Rattle.csv.specs.declared.parser.State.TheVariants as st;
-ghost use Rattle.ln_rows.specs.Left.{first_of};
-ghost use Rattle.ln_rows.specs.Scan.{state_of, action_of, IsStep, Keeps, HasStepped, EndsSo, Ended, Took};
+ghost use Rattle.ln_rows.specs.Left.{first_of, Gives};
+ghost use Rattle.ln_rows.specs.Scan.{state_of, action_of, IsStep, Keeps};
 
 use csv::ByteRecord;
 use ln_base::NoMemory;
 
 // Where a read stands in a record.
-#[derive(Clone, Copy)]
+#[derive(Clone, Copy, PartialEq, Eq)]
 pub(crate) enum Stand {
     Record,
     Field,
@@ -20,7 +20,7 @@ pub(crate) enum Stand {
 }
 
 // What a byte does: nothing, it joins its field, or it ends the field or the record.
-#[derive(Clone, Copy)]
+#[derive(Clone, Copy, PartialEq, Eq)]
 pub(crate) enum Deed {
     Skip,
     Copy,
@@ -153,87 +153,35 @@ fn is_record(deed: Deed) -> bool
     }
 }
 
-// A byte is taken where a read stands: where it stands then, and what the byte did.
-fn take_byte(
-    most: usize,
-    stand: Stand,
-    c: u8,
-    held: &mut Vec<u8>,
-    into: &mut ByteRecord,
-) -> Result<(Stand, Deed), NoMemory>
-    requires { partial_of into.old ≡ [] }
-    ensures step { IfOk result (λ r. HasStepped most stand c r.0 r.1 (fields_of into.old) held.old.items
-        (fields_of into.new) held.new.items) }
-    ensures partial { OnOk result (partial_of into.new ≡ []) }
-{
-    let (next, deed) = step(stand, c);
-    carry(most, deed, c, held, into)?;
-    Ok((next, deed))
-}
-
-// The text ends where a read stands: whether a record ends there, whose last field is kept where there is room for it.
-fn at_end(
-    most: usize,
-    stand: Stand,
-    held: &mut Vec<u8>,
-    into: &mut ByteRecord,
-) -> Result<bool, NoMemory>
-    requires { partial_of into.old ≡ [] }
-    ensures { IfOk result (λ some. EndsSo most stand some (fields_of into.old) held.old.items (fields_of into.new) held.new.items) }
-{
-    match stand {
-        Stand::Record => return Ok(false),
-        Stand::Field | Stand::Plain | Stand::Quoted | Stand::Quote => (),
-    }
-    end_field(most, held, into)?;
-    Ok(true)
-}
-
-// The same as `first_record`, where no field and no byte is kept yet.
-fn scanned<'a>(
+/// The first record of a text: the first `most` of its fields into `into`, and what is left of the text behind it. `held` is room for
+/// a field.
+pub(crate) fn first_record<'a>(
     text: &'a [u8],
     most: usize,
     held: &mut Vec<u8>,
     into: &mut ByteRecord,
 ) -> Result<Option<&'a [u8]>, NoMemory>
-    requires fields { fields_of into.old ≡ [] }
-    requires partial { partial_of into.old ≡ [] }
-    requires held { held.old.items ≡ [] }
-    ensures { IfOk result (λ o. MatchOption o (first_of text.now ≡ None) (λ rest. Ended text.now most rest.now (fields_of into.new))) }
+    ensures none { IfOk result (λ o. o ≡ None → first_of text.now ≡ None) }
+    ensures some { IfOk result (λ o. IfSome o (λ rest. (all : List (List ℕ)) × Gives text.now all rest.now
+        × (fields_of into.new ≡ take most all))) }
 {
+    into.clear();
+    held.clear();
     let mut stand = Stand::Record;
     let mut at = 0usize;
     'bytes: while at < text.len() {
-        let (next, deed) = take_byte(most, stand, text[at], held, into)?;
+        let c = text[at];
+        let (next, deed) = step(stand, c);
+        carry(most, deed, c, held, into)?;
         at += 1;
         if is_record(deed) {
             return Ok(Some(&text[at..]));
         }
         stand = next;
     }
-    let some = at_end(most, stand, held, into)?;
-    if some {
-        Ok(Some(&text[at..]))
-    } else {
-        Ok(None)
+    if stand == Stand::Record {
+        return Ok(None);
     }
-}
-
-/// Whether a text has a first record, and what is left of the text behind it: nothing where there is none and after `NoMemory`. The
-/// first `most` of its fields go into `into`. `held` is room for a field.
-pub(crate) fn first_record<'a>(
-    text: &'a [u8],
-    most: usize,
-    held: &mut Vec<u8>,
-    into: &mut ByteRecord,
-) -> (Result<bool, NoMemory>, &'a [u8])
-    ensures { Took text.now most result.0 result.1.now (fields_of into.new) }
-{
-    into.clear();
-    held.clear();
-    match scanned(text, most, held, into) {
-        Ok(Some(rest)) => (Ok(true), rest),
-        Ok(None) => (Ok(false), &[]),
-        Err(_) => (Err(NoMemory), &[]),
-    }
+    end_field(most, held, into)?;
+    Ok(Some(&text[at..]))
 }

@@ -1,13 +1,10 @@
 -- What a part of the program has done of what it owes: the one contract of every level.
 use Rattle.std.specs.Prelude.{◌≡◌, ◌≢◌, ◌⊎◌, ℕ, List, [], codes, Option, Result, Ok, Err}
 use Rattle.ln_base.specs.Outside.{Shown}
-use Rattle.ln_base.specs.declared.whole.ReadStop.{ReadStop}
-use Rattle.ln_base.specs.declared.whole.ReadStop.TheVariants as read
 use Rattle.ln_top.specs.declared.status.End.{End}
 use Rattle.ln_top.specs.declared.status.Early.{Early}
 use Rattle.ln_top.specs.declared.status.Early.TheVariants.{Read, Write, Memory}
 use Rattle.ln_top.specs.declared.stop.Why.{Why}
-use Rattle.ln_top.specs.declared.stop.Why.TheVariants.{TooLong}
 use Rattle.ln_top.specs.declared.stop.Stop.{Stop}
 use Rattle.ln_top.specs.declared.stop.Stop.TheVariants as stop
 use Rattle.ln_top.specs.Said.{Said, Count, Rises, IsCalm, line, put_both, IsFront}
@@ -51,12 +48,6 @@ pub data Halts {A : Type 0} (step : Outcome A → Type 0) (reads : Type 0) : Sto
   tells : (why : Why) → step (stops why) → Halts step reads (stop.Tell why)
   unread : reads ⊎ step missing → Halts step reads stop.Read
   short : Halts step reads stop.Memory
-
--- the stop for what the reading of a file answers
-abbrev pub read_stop : ReadStop → Stop
-read_stop read.Fault = stop.Read
-read_stop read.TooLong = stop.Tell TooLong
-read_stop read.NoMemory = stop.Memory
 
 -- the line of a stop was put, or cut off by a fault of writing; of want of memory there is none
 abbrev pub stop_line : Stop → List ℕ

@@ -1,5 +1,5 @@
 -- What the program has ready for the work, and what it stands for.
-use Rattle.std.specs.Prelude.{◌≡◌, ℕ, ◌≤◌, List, [], ◌∷◌, ◌++◌, map, length, slice_get, Option, Some}
+use Rattle.std.specs.Prelude.{◌≡◌, ℕ, ◌≤◌, List, [], ◌∷◌, map, length, slice_get, Option, Some}
 use Rattle.ln_base.specs.Outside.{Shelf}
 use Rattle.ln_tree.specs.Table.{PredOf, TableOf, pred_of}
 use Rattle.ln_compile.specs.Accepted.{AreSound}
@@ -26,17 +26,6 @@ pub record HasNumbers (table : List PredOf) (names : List (List ℕ)) (numbers :
 abbrev pub AreShort : List (List ℕ) → Type 0
 AreShort [] = Unit {0}
 AreShort (t ∷ ts) = (length t ≤ most_file) × AreShort ts
-
--- a further file was read, behind others
-pub record IsReadBehind (told : Option Shelf) (name : List ℕ) (old new : List (List ℕ)) : Type 0 where
-  pub bytes : List ℕ
-  pub read : Reads told most_file name (gives bytes)
-  pub behind : new ≡ old ++ bytes ∷ []
-
--- the names of a plan were found in a table, at these numbers, and its further files read
-pub record HasNamed (plan : Plan) (told : Option Shelf) (table : List PredOf) (numbers : List ℕ) (texts : List (List ℕ)) : Type 0 where
-  pub named : HasNumbers table plan.names numbers
-  pub read : Each (Reads told most_file) plan.files (gives texts)
 
 -- what is ready stands for this
 pub record StandsFor (r : Ready) (g : Given) : Type 0 where

@@ -1,14 +1,14 @@
 //! The steps before the work: the source is read and compiled, the names are looked for, the further files are read.
-ghost use Rattle.std.specs.Prelude.{◌≡◌, ◌≢◌, ◌≤◌, Err, [], ◌∷◌, map, length, IfOk, IfErr, OnOk, string_bytes};
+ghost use Rattle.std.specs.Prelude.{◌≡◌, ◌≢◌, ◌≤◌, Err, [], ◌∷◌, map, length, IfOk, IfErr, string_bytes};
 ghost use Rattle.ln_base.specs.Outside.{Rose};
 ghost use Rattle.ln_tree.specs.Table.{pred_of};
 ghost use Rattle.ln_top.specs.Plan.{with_bytes};
 ghost use Rattle.ln_top.specs.Source.{view};
 ghost use Rattle.ln_top.specs.Steps.{Compiles, Each, Finds, Given, Prepares, Reads, Then, gives, most_source, most_file};
-ghost use Rattle.ln_top.specs.Carried.{Halts, read_stop};
+ghost use Rattle.ln_top.specs.Carried.{Halts};
 ghost use Rattle.ln_top.specs.Target.{IsGivenBy};
 ghost use Rattle.ln_verify.specs.Accepted.{AreAccepted};
-ghost use Rattle.ln_top.specs.Ready.{HasNamed, HasNumbers, HasStanding, IsReadBehind, IsReady, IsSource, StandsFor};
+ghost use Rattle.ln_top.specs.Ready.{HasNumbers, HasStanding, IsReady, IsSource, StandsFor};
 
 use crate::source::compiled;
 use crate::stop::{Stop, Why};
@@ -36,16 +36,6 @@ pub struct Ready {
     pub texts: Vec<Vec<u8>>,
 }
 
-fn read_stop(stop: ReadStop) -> Stop
-    ensures { result ≡ read_stop stop }
-{
-    match stop {
-        ReadStop::Fault => Stop::Read,
-        ReadStop::TooLong => Stop::Tell(Why::TooLong),
-        ReadStop::NoMemory => Stop::Memory,
-    }
-}
-
 // The bytes of a file within its limit.
 fn file<F: Files>(alloc: Global, files: &mut F, name: &str, limit: usize) -> Result<Vec<u8>, Stop>
     ensures told { F.told files.new ≡ F.told files.old }
@@ -56,7 +46,9 @@ fn file<F: Files>(alloc: Global, files: &mut F, name: &str, limit: usize) -> Res
 {
     match read_whole(alloc, files, name, limit) {
         Ok(bytes) => Ok(bytes),
-        Err(stop) => Err(read_stop(stop)),
+        Err(ReadStop::Fault) => Err(Stop::Read),
+        Err(ReadStop::TooLong) => Err(Stop::Tell(Why::TooLong)),
+        Err(ReadStop::NoMemory) => Err(Stop::Memory),
     }
 }
 
@@ -64,6 +56,7 @@ fn file<F: Files>(alloc: Global, files: &mut F, name: &str, limit: usize) -> Res
 fn numbers(alloc: Global, c: &Checked, names: &[String]) -> Result<Vec<usize>, Stop>
     ensures ok { IfOk result (λ v. HasNumbers (map pred_of c.now.table.preds) (map string_bytes names.now) v.items) }
     ensures err { IfErr result (Halts (Each (Finds (map pred_of c.now.table.preds)) (map string_bytes names.now)) ⊥) }
+    ensures count { IfOk result (λ v. length v.items ≡ length names.now) }
 {
     let mut numbers = Vec::new(alloc);
     'names: for name in names {
@@ -77,54 +70,6 @@ fn numbers(alloc: Global, c: &Checked, names: &[String]) -> Result<Vec<usize>, S
     Ok(numbers)
 }
 
-// Reads one further file behind those before it.
-fn add_text<F: Files>(
-    alloc: Global,
-    files: &mut F,
-    name: &str,
-    texts: &mut Vec<Vec<u8>>,
-) -> Result<(), Stop>
-    ensures told { F.told files.new ≡ F.told files.old }
-    ensures ok { OnOk result (IsReadBehind (F.told files.old) name.now (map (λ t. t.items) texts.old.items)
-        (map (λ t. t.items) texts.new.items)) }
-    ensures err { IfErr result (Halts (Reads (F.told files.old) most_file name.now) (Rose (F.faults files.old) (F.faults files.new))) }
-    ensures quiet { result ≢ Err Stop.Read → F.faults files.new ≡ F.faults files.old }
-{
-    match file(alloc, files, name, FILE_LIMIT) {
-        Ok(text) => {
-            let Ok(()) = texts.push(text) else {
-                return Err(Stop::Memory);
-            };
-            Ok(())
-        }
-        Err(stop) => Err(stop),
-    }
-}
-
-// Reads the further files in order, behind none.
-fn add_texts<F: Files>(
-    alloc: Global,
-    files: &mut F,
-    names: &[String],
-    texts: &mut Vec<Vec<u8>>,
-) -> Result<(), Stop>
-    requires { texts.old.items ≡ [] }
-    ensures told { F.told files.new ≡ F.told files.old }
-    ensures ok { OnOk result (Each (Reads (F.told files.old) most_file) (map string_bytes names.now)
-        (gives (map (λ t. t.items) texts.new.items))) }
-    ensures err { IfErr result (Halts (Each (Reads (F.told files.old) most_file) (map string_bytes names.now))
-        (Rose (F.faults files.old) (F.faults files.new))) }
-    ensures quiet { result ≢ Err Stop.Read → F.faults files.new ≡ F.faults files.old }
-{
-    'names: for name in names {
-        match add_text(alloc, files, name.as_str(), texts) {
-            Ok(()) => (),
-            Err(stop) => return Err(stop),
-        }
-    }
-    Ok(())
-}
-
 // The bytes of the further files.
 fn texts<F: Files>(alloc: Global, files: &mut F, names: &[String]) -> Result<Vec<Vec<u8>>, Stop>
     ensures told { F.told files.new ≡ F.told files.old }
@@ -132,13 +77,21 @@ fn texts<F: Files>(alloc: Global, files: &mut F, names: &[String]) -> Result<Vec
         (gives (map (λ t. t.items) v.items))) }
     ensures err { IfErr result (Halts (Each (Reads (F.told files.old) most_file) (map string_bytes names.now))
         (Rose (F.faults files.old) (F.faults files.new))) }
+    ensures count { IfOk result (λ v. length v.items ≡ length names.now) }
     ensures quiet { result ≢ Err Stop.Read → F.faults files.new ≡ F.faults files.old }
 {
     let mut texts = Vec::new(alloc);
-    match add_texts(alloc, files, names, &mut texts) {
-        Ok(()) => Ok(texts),
-        Err(stop) => Err(stop),
+    'names: for name in names {
+        match file(alloc, files, name.as_str(), FILE_LIMIT) {
+            Ok(text) => {
+                let Ok(()) = texts.push(text) else {
+                    return Err(Stop::Memory);
+                };
+            }
+            Err(stop) => return Err(stop),
+        }
     }
+    Ok(texts)
 }
 
 // The source file, which is accepted.
@@ -159,52 +112,6 @@ fn source<F: Files>(alloc: Global, files: &mut F, name: &str) -> Result<Checked,
     }
 }
 
-// The named predicates and the further files, of a source that was read.
-fn named<F: Files>(
-    alloc: Global,
-    files: &mut F,
-    c: &Checked,
-    plan: Plan<'_>,
-) -> Result<(Vec<usize>, Vec<Vec<u8>>), Stop>
-    ensures ok { IfOk result (λ r. HasNamed (with_bytes plan.entry) (F.told files.old) (map pred_of c.now.table.preds) r.0.items
-        (map (λ t. t.items) r.1.items)) }
-    ensures err { IfErr result (λ s. IsSource (F.told files.old) plan.entry.source.now (view c.now.table)
-        → Halts (Prepares (with_bytes plan.entry) (F.told files.old)) (Rose (F.faults files.old) (F.faults files.new)) s) }
-    ensures quiet { result ≢ Err Stop.Read → F.faults files.new ≡ F.faults files.old }
-{
-    let numbers = match numbers(alloc, c, plan.names) {
-        Ok(numbers) => numbers,
-        Err(stop) => return Err(stop),
-    };
-    match texts(alloc, files, plan.files) {
-        Ok(texts) => Ok((numbers, texts)),
-        Err(stop) => Err(stop),
-    }
-}
-
-// What the work is done on, of a source that was read.
-fn readied<F: Files>(
-    alloc: Global,
-    files: &mut F,
-    compiled: Checked,
-    plan: Plan<'_>,
-) -> Result<Ready, Stop>
-    requires { IsSource (F.told files.old) plan.source.now (view compiled.table) }
-    ensures ok { IfOk result (λ r. IsReady (with_bytes plan.entry) (F.told files.old) r) }
-    ensures err { IfErr result (Halts (Prepares (with_bytes plan.entry) (F.told files.old))
-        (Rose (F.faults files.old) (F.faults files.new))) }
-    ensures quiet { result ≢ Err Stop.Read → F.faults files.new ≡ F.faults files.old }
-{
-    match named(alloc, files, &compiled, plan) {
-        Ok((numbers, texts)) => Ok(Ready {
-            compiled,
-            numbers,
-            texts,
-        }),
-        Err(stop) => Err(stop),
-    }
-}
-
 /// Takes the steps of a plan.
 pub fn prepare<F: Files>(alloc: Global, files: &mut F, plan: Plan<'_>) -> Result<Ready, Stop>
     ensures ok { IfOk result (λ r. IsReady (with_bytes plan.entry) (F.told files.old) r) }
@@ -214,8 +121,20 @@ pub fn prepare<F: Files>(alloc: Global, files: &mut F, plan: Plan<'_>) -> Result
     ensures texts { IfOk result (λ r. length r.texts.items ≡ length plan.entry.files.now) }
     ensures quiet { result ≢ Err Stop.Read → F.faults files.new ≡ F.faults files.old }
 {
-    match source(alloc, files, plan.source) {
-        Ok(compiled) => readied(alloc, files, compiled, plan),
+    let compiled = match source(alloc, files, plan.source) {
+        Ok(compiled) => compiled,
+        Err(stop) => return Err(stop),
+    };
+    let numbers = match numbers(alloc, &compiled, plan.names) {
+        Ok(numbers) => numbers,
+        Err(stop) => return Err(stop),
+    };
+    match texts(alloc, files, plan.files) {
+        Ok(texts) => Ok(Ready {
+            compiled,
+            numbers,
+            texts,
+        }),
         Err(stop) => Err(stop),
     }
 }

@@ -1,4 +1,4 @@
-//! Puts on a port.
+//! Puts on a port, and numbers in texts.
 ghost use Rattle.std.specs.Prelude.{◌≡◌, ◌++◌, ◌↔◌, [], Err, IfOk, IsTrue, decimal};
 ghost use Rattle.ln_top.specs.Said.{count};
 ghost use Rattle.ln_top.specs.Lines.{Sends, Wrote};
@@ -7,7 +7,7 @@ use crate::status::Early;
 use itoa::Buffer;
 use ln_base::{Console, NoMemory, Port, put_all};
 
-// Adds bytes and a number behind them.
+/// Adds bytes, and the digits of a number behind them.
 pub(crate) fn add_number(text: &mut Vec<u8>, front: &[u8], n: u64) -> Result<(), NoMemory>
     ensures { IfOk result (λ x. text.new.items ≡ text.old.items ++ (front.now ++ decimal n)) }
 {

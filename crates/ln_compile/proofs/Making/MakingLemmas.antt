@@ -143,9 +143,7 @@ filter-of p lets root o l r w v =
     let t : untyped (typed root) ≡ own_root (pred_of p) = r in
     filter-here (pred_of p) o (rw (sym ts, sym t) w) (rw (sym ts, sym t) v)
 
-pub filter-small : (ops cost costs : ℕ) → ops ≤ 8 * (cost + costs) + 64 → costs + cost ≤ 131072 → ops ≤ 1048640
-filter-small ops cost costs h k = omega (arith, h, k)
-
-pub filter-few : (o : Option FilterCode) (n : ℕ) → IfSome o (λ c. length c.ops ≤ n) → ops_in_filter o ≤ n
-filter-few None n h = omega arith
-filter-few (Some c) n h = h
+-- a filter has few operations where its expression is cheap
+pub filter-small : (o : Option FilterCode) (k : ℕ) → IfSome o (λ f. length f.ops ≤ 8 * k + 64) → k ≤ 131072 → ops_in_filter o ≤ 1048640
+filter-small None k h l = omega arith
+filter-small (Some f) k h l = omega (arith, h, l)

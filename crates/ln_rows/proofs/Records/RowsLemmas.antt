@@ -1,14 +1,13 @@
 -- What is left behind a record, and what a few of its fields say.
-use Rattle.std.proofs.Common.{◌≡◌, ◌≢◌, ℕ, ◌+◌, ◌-◌, ◌^◌, ◌<◌, ◌≤◌, min, Bool, true, false, true≢false, List, [], ◌∷◌, length, get_or, take, drop, Option, Some, None, Ok, Err, ap, sym, subst, refl, ◌∙◌, arith, inl, inr}
-use Rattle.std.specs.Prelude.{if◌then◌else◌, ◌⊎◌, Result, IfSome, IfOk, OnErr}
+use Rattle.std.proofs.Common.{◌≡◌, ◌≢◌, ℕ, ◌+◌, ◌-◌, ◌^◌, ◌<◌, ◌≤◌, min, Bool, List, [], ◌∷◌, length, get_or, take, drop, Option, Some, None, Ok, Err, refl, ap, sym, subst, ◌∙◌, arith, inl, inr}
+use Rattle.std.specs.Prelude.{if◌then◌else◌, ◌⊎◌, Result, IfSome}
 use Rattle.std.proofs.lemmas.Bool.{cases_lt}
 use Rattle.std.proofs.lemmas.List.{take_all, length-take}
 use Rattle.csv.specs.Machine.{next_record}
 use Rattle.csv.specs.Reading.{is_bom, strip_bom}
 use Rattle.ln_tree.specs.declared.shape.VarInfo.{VarInfo}
 use Rattle.ln_code.specs.declared.row.Row as code
-use Rattle.ln_rows.specs.Left.{Records, records_of, first_of, Gives, Takes}
-use Rattle.ln_rows.specs.Scan.{Took}
+use Rattle.ln_rows.specs.Left.{Records, records_of, first_of, Gives}
 use Rattle.ln_rows.specs.Record.{columns, read_row, IsReadAs}
 use Rattle.ln_rows.specs.declared.record.RowStop.{RowStop}
 use Rattle.ln_rows.proofs.Fields.ExactLemmas.{not_fields}
@@ -49,34 +48,8 @@ mark_by (a ∷ b ∷ c ∷ rest) m h e = ap (λ (t : Bool). if t then rest else 
 pub all_kept : (text : List ℕ) (all kept : List (List ℕ)) (rest : List ℕ) → Gives text all rest → kept ≡ take (length text + 1) all → kept ≡ all
 all_kept text all kept rest g k = k ∙ take_all (length text + 1) all (few_fields text all rest g)
 
-pub next_takes : {E : Type 0} (text rest : List ℕ) (kept : List (List ℕ)) (found : Result Bool E) → Took text (length text + 1) found rest kept → IfOk found (λ f. Takes f (records_of text) (records_of rest) kept)
-next_takes text rest kept (Ok true) t = gives_records text t.0 rest t.1 ∙ ap (λ (f : List (List ℕ)). f ∷ records_of rest) (sym (all_kept text t.0 kept rest t.1 t.2))
-next_takes text rest kept (Ok false) t = none_records text t.0
-next_takes text rest kept (Err e) t = tt
-
--- where none was taken, none is left
-left_none : (rest : List ℕ) → rest ≡ [] → records_of rest ≡ []
-left_none rest e = ap records_of e ∙ no_records
-
-pub none_left : (text rest : List ℕ) → first_of text ≡ None → rest ≡ [] → (records_of text ≡ []) × (records_of rest ≡ [])
-none_left text rest n e = (none_records text n, left_none rest e)
-
-pub next_end : {E : Type 0} (text rest : List ℕ) (most : ℕ) (kept : List (List ℕ)) (found : Result Bool E) → Took text most found rest kept → IfOk found (λ f. f ≡ false → (records_of text ≡ []) × (records_of rest ≡ []))
-next_end text rest most kept (Ok true) t = λ e. absurd (true≢false e)
-next_end text rest most kept (Ok false) t = λ e. none_left text rest t.0 t.1
-next_end text rest most kept (Err e) t = tt
-
-pub lost : {E : Type 0} (text rest : List ℕ) (most : ℕ) (kept : List (List ℕ)) (found : Result Bool E) → Took text most found rest kept → OnErr found (records_of rest ≡ [])
-lost text rest most kept (Ok f) t = tt
-lost text rest most kept (Err e) t = left_none rest t
-
-pub gone : {T E : Type 0} (r : Result T E) (rest : List ℕ) → rest ≡ [] → OnErr r (records_of rest ≡ [])
-gone (Ok x) rest e = tt
-gone (Err x) rest e = left_none rest e
-
--- what was taken, by what was found
-pub took : {E : Type 0} (text rest : List ℕ) (most : ℕ) (kept : List (List ℕ)) (found r : Result Bool E) → Took text most found rest kept → found ≡ r → Took text most r rest kept
-took text rest most kept found r t e = subst (λ x. Took text most x rest kept) e t
+pub next_takes : (text : List ℕ) (all kept : List (List ℕ)) (rest : List ℕ) → Gives text all rest → kept ≡ take (length text + 1) all → records_of text ≡ kept ∷ records_of rest
+next_takes text all kept rest g k = gives_records text all rest g ∙ ap (λ (f : List (List ℕ)). f ∷ records_of rest) (sym (all_kept text all kept rest g k))
 
 -- the first fields are the names just where all are
 pub names_cut : (text : List ℕ) (all kept names : List (List ℕ)) (rest : List ℕ) (most room : ℕ) → Gives text all rest → kept ≡ take most all → room ≡ min (length names + 1) (2 ^ 64 - 1) → most ≡ min room (length text + 1) → length text + 1 < 2 ^ 64 - 1

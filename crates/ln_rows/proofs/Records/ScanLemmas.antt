@@ -1,5 +1,5 @@
 -- A record, byte by byte.
-use Rattle.std.proofs.Common.{◌≡◌, ℕ, zero, suc, ◌+◌, ◌-◌, ◌<◌, ◌≤◌, Bool, true, false, List, [], ◌∷◌, ◌++◌, length, take, drop, get_or, Some, None, refl, ap, sym, ◌∙◌, subst, arith, add-one, cond, inl, drop-cons, length-append}
+use Rattle.std.proofs.Common.{◌≡◌, ℕ, zero, suc, ◌+◌, ◌-◌, ◌<◌, ◌≤◌, true, false, List, [], ◌∷◌, ◌++◌, length, take, drop, get_or, Some, None, refl, ap, sym, ◌∙◌, subst, arith, add-one, cond, inl, drop-cons, length-append}
 use Rattle.std.proofs.lemmas.List.{take_all, drop_all, take_rest}
 use Rattle.csv.specs.Machine.{next_record, step, is_end, fields_after, field_after, ends_at_end}
 use Rattle.csv.specs.Reading.{default_config}
@@ -9,8 +9,8 @@ use Rattle.csv.specs.declared.parser.Action.{Action}
 use Rattle.ln_rows.specs.declared.scan.Stand.{Stand}
 use Rattle.ln_rows.specs.declared.scan.Stand.TheVariants as stand
 use Rattle.ln_rows.specs.declared.scan.Deed.{Deed}
-use Rattle.ln_rows.specs.Left.{first_of}
-use Rattle.ln_rows.specs.Scan.{state_of, action_of, Keeps, HasStepped, EndsSo, Ended}
+use Rattle.ln_rows.specs.Left.{first_of, Gives}
+use Rattle.ln_rows.specs.Scan.{state_of, action_of, IsStep, Keeps}
 
 -- how far a read has come
 pub record Standing (text : List ℕ) (most : ℕ) (from : Stand) (at : ℕ) (kept : List (List ℕ)) (held : List ℕ) : Type 0 where
@@ -19,11 +19,19 @@ pub record Standing (text : List ℕ) (most : ℕ) (from : Stand) (at : ℕ) (ke
   pub goes : first_of text ≡ next_record default_config (state_of from) all field (drop at text)
   pub keeps : Keeps most all field kept held
 
+-- what a read comes to
+abbrev pub Ended : List ℕ → ℕ → List ℕ → List (List ℕ) → Type 0
+Ended text most rest kept = (all : List (List ℕ)) × Gives text all rest × (kept ≡ take most all)
+
 pub standing_none : (text : List ℕ) (most : ℕ) (kept : List (List ℕ)) (held : List ℕ) → kept ≡ [] → held ≡ [] → Standing text most stand.Record 0 kept held
 standing_none text most kept held k h = record { all = []; field = []; goes = refl; keeps = record { first = k ∙ sym (take_nil most); at_hand = λ l. h } } where
   take_nil : (n : ℕ) → take {A = List ℕ} n [] ≡ []
   take_nil zero = refl
   take_nil (suc n) = refl
+
+-- what a step makes of what is kept
+abbrev pub Carries : ℕ → Deed → ℕ → List (List ℕ) → List ℕ → List (List ℕ) → List ℕ → Type 0
+Carries most deed c kept held kept2 held2 = (all : List (List ℕ)) → (field : List ℕ) → Keeps most all field kept held → Keeps most (fields_after (action_of deed) all field) (field_after (action_of deed) c field) kept2 held2
 
 -- a step of csv's machine, unfolded
 goes_on : (s : State) (c : ℕ) (all : List (List ℕ)) (field xs : List ℕ) → is_end (step default_config s c).1 ≡ false
@@ -52,38 +60,33 @@ comes_out s a c all field xs f n =
 from_here : (text : List ℕ) (at c : ℕ) → at < length text → c ≡ get_or text at 0 → drop at text ≡ c ∷ drop (suc at) text
 from_here text at c l e = drop-cons text at 0 l ∙ ap (λ (b : ℕ). b ∷ drop (suc at) text) (sym e)
 
-pub standing_more : (text : List ℕ) (most : ℕ) (from to : Stand) (done : Deed) (at : ℕ) (kept kept2 : List (List ℕ)) (held held2 : List ℕ) → at < length text → Standing text most from at kept held
-    → HasStepped most from (get_or text at 0) to done kept held kept2 held2 → is_end (action_of done) ≡ false → Standing text most to (at + 1) kept2 held2
-standing_more text most from to done at kept kept2 held held2 l h s n =
-    let c = get_or text at 0 in
-    record {
-      all = fields_after (action_of done) h.all h.field;
-      field = field_after (action_of done) c h.field;
-      goes = h.goes ∙ ap (next_record default_config (state_of from) h.all h.field) (from_here text at c l refl) ∙ moves (state_of from) (state_of to) (action_of done) c h.all h.field (drop (suc at) text) (s.step.state n) s.step.action n
-          ∙ ap (λ (m : ℕ). next_record default_config (state_of to) (fields_after (action_of done) h.all h.field) (field_after (action_of done) c h.field) (drop m text)) (sym (add-one at));
-      keeps = s.keeps h.all h.field h.keeps;
-    }
+pub standing_more : (text : List ℕ) (most : ℕ) (from to : Stand) (done : Deed) (at c : ℕ) (kept kept2 : List (List ℕ)) (held held2 : List ℕ) → at < length text → c ≡ get_or text at 0 → Standing text most from at kept held
+    → IsStep (state_of from) c to done → is_end (action_of done) ≡ false → Carries most done c kept held kept2 held2 → Standing text most to (at + 1) kept2 held2
+standing_more text most from to done at c kept kept2 held held2 l e h s n k = record {
+  all = fields_after (action_of done) h.all h.field;
+  field = field_after (action_of done) c h.field;
+  goes = h.goes ∙ ap (next_record default_config (state_of from) h.all h.field) (from_here text at c l e) ∙ moves (state_of from) (state_of to) (action_of done) c h.all h.field (drop (suc at) text) (s.state n) s.action n
+      ∙ ap (λ (m : ℕ). next_record default_config (state_of to) (fields_after (action_of done) h.all h.field) (field_after (action_of done) c h.field) (drop m text)) (sym (add-one at));
+  keeps = k h.all h.field h.keeps;
+}
 
-pub standing_ends : (text : List ℕ) (most : ℕ) (from to : Stand) (done : Deed) (at : ℕ) (kept kept2 : List (List ℕ)) (held held2 : List ℕ) → at < length text → Standing text most from at kept held
-    → HasStepped most from (get_or text at 0) to done kept held kept2 held2 → is_end (action_of done) ≡ true → Ended text most (take (length text - (at + 1)) (drop (at + 1) text)) kept2
-standing_ends text most from to done at kept kept2 held held2 l h s n =
-    let c = get_or text at 0 in
-    let keeps = s.keeps h.all h.field h.keeps in
+pub standing_ends : (text : List ℕ) (most : ℕ) (from to : Stand) (done : Deed) (at c : ℕ) (kept kept2 : List (List ℕ)) (held held2 : List ℕ) → at < length text → c ≡ get_or text at 0 → Standing text most from at kept held
+    → IsStep (state_of from) c to done → is_end (action_of done) ≡ true → Carries most done c kept held kept2 held2 → Ended text most (take (length text - (at + 1)) (drop (at + 1) text)) kept2
+standing_ends text most from to done at c kept kept2 held held2 l e h s n k =
+    let keeps = k h.all h.field h.keeps in
     let first : first_of text ≡ Some (fields_after (action_of done) h.all h.field, (step default_config (state_of from) c).0, drop (at + 1) text) =
-    h.goes ∙ ap (next_record default_config (state_of from) h.all h.field) (from_here text at c l refl) ∙ comes_out (state_of from) (action_of done) c h.all h.field (drop (suc at) text) s.step.action n
+    h.goes ∙ ap (next_record default_config (state_of from) h.all h.field) (from_here text at c l e) ∙ comes_out (state_of from) (action_of done) c h.all h.field (drop (suc at) text) s.action n
     ∙ ap (λ (m : ℕ). Some (fields_after (action_of done) h.all h.field, (step default_config (state_of from) c).0, drop m text)) (sym (add-one at)) in
-    subst (λ (r : List ℕ). Ended text most r kept2) (sym (take_rest text (at + 1))) (fields_after (action_of done) h.all h.field, record { state = (step default_config (state_of from) c).0; between = s.step.between n; first = first }, keeps.first)
+    subst (λ (r : List ℕ). Ended text most r kept2) (sym (take_rest text (at + 1))) (fields_after (action_of done) h.all h.field, record { state = (step default_config (state_of from) c).0; between = s.between n; first = first }, keeps.first)
 
 -- the end of the text
 pub at_end : (s : State) (all : List (List ℕ)) (field : List ℕ) → next_record default_config s all field [] ≡ cond (ends_at_end s) (Some (all ++ (field ∷ []), st.StartRecord, [])) None
 unfolding next_record
 at_end s all field = refl
 
-pub standing_out : (text : List ℕ) (most : ℕ) (from : Stand) (some : Bool) (at : ℕ) (kept kept2 : List (List ℕ)) (held held2 : List ℕ) → length text ≤ at → Standing text most from at kept held
-    → EndsSo most from some kept held kept2 held2 → some ≡ false → first_of text ≡ None
-standing_out text most from some at kept kept2 held held2 l h e t =
-    let none = subst (λ b. EndsSo most from b kept held kept2 held2) t e in
-    h.goes ∙ ap (next_record default_config (state_of from) h.all h.field) (drop_all at text l) ∙ at_end (state_of from) h.all h.field ∙ ap (λ (f : Stand). cond (ends_at_end (state_of f)) (Some (h.all ++ (h.field ∷ []), st.StartRecord, [])) None) none
+pub standing_out : (text : List ℕ) (most : ℕ) (from : Stand) (at : ℕ) (kept : List (List ℕ)) (held : List ℕ) → length text ≤ at → Standing text most from at kept held → from ≡ stand.Record → first_of text ≡ None
+standing_out text most from at kept held l h e =
+    h.goes ∙ ap (next_record default_config (state_of from) h.all h.field) (drop_all at text l) ∙ at_end (state_of from) h.all h.field ∙ ap (λ (f : Stand). cond (ends_at_end (state_of f)) (Some (h.all ++ (h.field ∷ []), st.StartRecord, [])) None) e
 
 ends_there : (from : Stand) → (from ≡ stand.Record → ⊥) → ends_at_end (state_of from) ≡ true
 ends_there stand.Record h = absurd (h refl)
@@ -92,14 +95,13 @@ ends_there stand.Plain h = refl
 ends_there stand.Quoted h = refl
 ends_there stand.Quote h = refl
 
-pub standing_last : (text : List ℕ) (most : ℕ) (from : Stand) (some : Bool) (at : ℕ) (kept kept2 : List (List ℕ)) (held held2 : List ℕ) → length text ≤ at → Standing text most from at kept held
-    → EndsSo most from some kept held kept2 held2 → some ≡ true → Ended text most (take (length text - at) (drop at text)) kept2
-standing_last text most from some at kept kept2 held held2 l h e t =
-    let ends = subst (λ b. EndsSo most from b kept held kept2 held2) t e in
-    let keeps = ends.1 h.all h.field h.keeps in
+pub standing_last : (text : List ℕ) (most : ℕ) (from : Stand) (at : ℕ) (kept kept2 : List (List ℕ)) (held held2 : List ℕ) → length text ≤ at → Standing text most from at kept held → (from ≡ stand.Record → ⊥)
+    → ((all : List (List ℕ)) → (field : List ℕ) → Keeps most all field kept held → Keeps most (all ++ field ∷ []) [] kept2 held2) → Ended text most (take (length text - at) (drop at text)) kept2
+standing_last text most from at kept kept2 held held2 l h e k =
+    let keeps = k h.all h.field h.keeps in
     let first : first_of text ≡ Some (h.all ++ (h.field ∷ []), st.StartRecord, drop at text) =
     h.goes ∙ ap (next_record default_config (state_of from) h.all h.field) (drop_all at text l) ∙ at_end (state_of from) h.all h.field
-    ∙ ap (λ b. cond b (Some (h.all ++ (h.field ∷ []), st.StartRecord, [])) None) (ends_there from ends.0)
+    ∙ ap (λ b. cond b (Some (h.all ++ (h.field ∷ []), st.StartRecord, [])) None) (ends_there from e)
     ∙ ap (λ (r : List ℕ). Some (h.all ++ (h.field ∷ []), st.StartRecord, r)) (sym (drop_all at text l)) in
     subst (λ (r : List ℕ). Ended text most r kept2) (sym (take_rest text at)) (h.all ++ (h.field ∷ []), record { state = st.StartRecord; between = inl refl; first = first }, keeps.first)
 

@@ -68,7 +68,9 @@ above_of : (lo low : ℤ) → int_lt (neg_ℤ (pos (2 ^ 63))) lo ≡ true → lo
 above_of lo low q h = grind (arith, ints, q, h)
 
 pub ends_in_order : (n : ℕ) (i : VarInfo) → has_range i ≡ true → low_end n i.lo i.hi ≤ℤ high_end n i.lo i.hi
-ends_in_order n i h = (are_ends n i.lo i.hi (in_order_of i.lo i.hi (and_parts (not (int_lt i.hi i.lo)) (int_lt (neg_ℤ (pos (2 ^ 63))) i.lo) h).0)).order
+ends_in_order n i h =
+    let p = and_parts (not (int_lt i.hi i.lo)) (int_lt (neg_ℤ (pos (2 ^ 63))) i.lo) h in
+    (are_ends n i.lo i.hi (in_order_of i.lo i.hi p.0)).order
 
 pub low_above : (n : ℕ) (i : VarInfo) → has_range i ≡ true → neg_ℤ (pos (2 ^ 63)) <ℤ low_end n i.lo i.hi
 low_above n i h =
@@ -76,7 +78,8 @@ low_above n i h =
     above_of i.lo (low_end n i.lo i.hi) p.1 (are_ends n i.lo i.hi (in_order_of i.lo i.hi p.0)).first
 
 -- what `between` computes with fits
-pub width_fits : (lo hi : ℤ) (d : ℕ) → neg_ℤ (pos (2 ^ 63)) <ℤ lo → lo ≤ℤ hi → SFits w64 hi → d ≡ unsigned_abs (hi -ℤ lo) → d + 1 < 2 ^ 64
+pub width_fits : (lo hi : ℤ) (d : ℕ) → neg_ℤ (pos (2 ^ 63)) <ℤ lo → lo ≤ℤ hi → SFits w64 hi → d ≡ unsigned_abs (hi -ℤ lo)
+    → d + 1 < 2 ^ 64
 width_fits lo hi d l h b e = grind (arith, ints, l, h, b, e)
 
 pub sum_fits : (lo : ℤ) (w d : ℕ) → SFits w64 lo → d + 1 < 2 ^ 64 → SFits w128 (lo +ℤ pos (w % (d + 1)))
@@ -84,7 +87,8 @@ sum_fits lo w d a h = go (w % (d + 1)) (omega (arith, h)) where
   go : (r : ℕ) → r < 2 ^ 64 → SFits w128 (lo +ℤ pos r)
   go r k = grind (arith, ints, a, k)
 
-pub value_fits : (lo hi : ℤ) (w d : ℕ) → lo ≤ℤ hi → SFits w64 lo → SFits w64 hi → d ≡ unsigned_abs (hi -ℤ lo) → SFits w64 (lo +ℤ pos (w % (d + 1)))
+pub value_fits : (lo hi : ℤ) (w d : ℕ) → lo ≤ℤ hi → SFits w64 lo → SFits w64 hi → d ≡ unsigned_abs (hi -ℤ lo)
+    → SFits w64 (lo +ℤ pos (w % (d + 1)))
 value_fits lo hi w d h a b e = rw e (go (value_by lo hi w) (value_between lo hi w h)) where
   go : (z : ℤ) → (lo ≤ℤ z) × (z ≤ℤ hi) → SFits w64 z
   go z p = grind (arith, ints, p.0, p.1, a, b)

@@ -1,5 +1,5 @@
 -- Chains: one lemma on what they come to, and one for each way to run through a list.
-use Rattle.std.proofs.Common.{◌≡◌, ℕ, suc, ◌<◌, Bool, true, false, List, [], ◌∷◌, ◌++◌, length, refl, ap, sym}
+use Rattle.std.proofs.Common.{◌≡◌, ℕ, ◌<◌, Bool, true, false, List, [], ◌∷◌, ◌++◌, length, refl, ap, sym}
 use Rattle.std.proofs.Common.{◌∙◌, subst, arith, Some, None, append_assoc}
 use Rattle.std.proofs.lemmas.List.{append-nil}
 use Rattle.std.proofs.lemmas.Option.{none-some}
@@ -159,9 +159,3 @@ pub behind_all : {A B : Type 0} (step : A → Outcome B → Type 0) (all left : 
     → Behind step all left done → left ≡ [] → Each step all (gives done)
 behind_all step all left done h l =
     subst (λ d. Each step all (gives d)) (append-nil done) (h (gives []) (subst (λ xs. Each step xs (gives [])) (sym l) refl))
-
--- what a list gives is as long
-pub each_length : {A B : Type 0} (step : A → Outcome B → Type 0) (all : List A) (bs : List B) → Each step all (gives bs)
-    → length bs ≡ length all
-each_length step [] bs e = ap length (ap (value_or []) e)
-each_length step (a ∷ rest) bs (goes b s (goes more t e)) = ap length (ap (value_or []) e) ∙ ap suc (each_length step rest more t)

@@ -1,11 +1,9 @@
 -- The steps of a plan, taken one behind the other.
-use Rattle.std.proofs.Common.{◌≡◌, ◌⊎◌, inl, inr, ℕ, suc, ◌+◌, ◌≤◌, ◌<◌, List, [], ◌∷◌, ◌++◌}
+use Rattle.std.proofs.Common.{◌≡◌, ◌⊎◌, inl, inr, ℕ, ◌+◌, ◌≤◌, ◌<◌, List, [], ◌∷◌, ◌++◌}
 use Rattle.std.proofs.Common.{length, map, drop, refl, ap, sym, ◌∙◌, subst, arith, Option, Some, None, get_or}
 use Rattle.std.specs.Prelude.{slice_get, slice_index_or, IfSome}
-use Rattle.std.proofs.lemmas.List.{drop_more, drop_all, length-map}
+use Rattle.std.proofs.lemmas.List.{drop_more, drop_all}
 use Rattle.ln_base.specs.Outside.{Shelf, bytes_of, IsAbsent, Rose}
-use Rattle.ln_base.specs.declared.whole.ReadStop.{ReadStop}
-use Rattle.ln_base.specs.declared.whole.ReadStop.TheVariants as read
 use Rattle.ln_tree.specs.declared.pred.Pred.{Pred}
 use Rattle.ln_tree.specs.Table.{PredOf, TableOf, pred_of}
 use Rattle.ln_compile.specs.Compiled.{number_of}
@@ -17,10 +15,10 @@ use Rattle.ln_top.specs.declared.prepare.Ready.{Ready}
 use Rattle.ln_top.specs.Plan.{Plan}
 use Rattle.ln_top.specs.Source.{view}
 use Rattle.ln_top.specs.Steps.{Outcome, stops, missing, gives, Then, stopped, lacks, goes, Each, Reads, there, long, absent, Finds}
-use Rattle.ln_top.specs.Steps.{found, none, Compiles, Given, Prepares, most_source, most_file}
-use Rattle.ln_top.specs.Carried.{Halts, tells, unread, short, read_stop}
-use Rattle.ln_top.specs.Ready.{AreNumbered, HasNamed, HasNumbers, IsReady, IsSource}
-use Rattle.ln_top.proofs.Steps.Chain.{Behind, behind_none, behind_more, behind_all, each_length, value_or}
+use Rattle.ln_top.specs.Steps.{found, none, Compiles, Prepares, most_source, most_file}
+use Rattle.ln_top.specs.Carried.{Halts, tells, unread, short}
+use Rattle.ln_top.specs.Ready.{AreNumbered, HasNumbers, IsReady, IsSource}
+use Rattle.ln_top.proofs.Steps.Chain.{Behind, behind_none, behind_more, behind_all}
 use Rattle.ln_top.proofs.Steps.FindLaws.{found_at, none_at, within_at, same_at}
 
 pub halts_first : {A B : Type 0} (first : Outcome A → Type 0) (next : A → Outcome B → Type 0) (r q : Type 0) (s : Stop)
@@ -65,7 +63,7 @@ pub read_there : (told : Option Shelf) (limit : ℕ) (name bytes : List ℕ)
 read_there None limit name bytes e l = there bytes tt l
 read_there (Some shelf) limit name bytes e l = there bytes e l
 
-read_fault : (told : Option Shelf) (limit : ℕ) (name : List ℕ) (r : Type 0) → r ⊎ IsAbsent name told
+pub read_fault : (told : Option Shelf) (limit : ℕ) (name : List ℕ) (r : Type 0) → r ⊎ IsAbsent name told
     → Halts (Reads told limit name) r stop.Read
 read_fault told limit name r (inl u) = unread (inl u)
 read_fault told limit name r (inr a) = unread (inr (absent a))
@@ -75,23 +73,11 @@ long_told : (o : Option (List ℕ)) (limit : ℕ) → IfSome o (λ bytes. limit 
 long_told None limit l n = absurd (n refl)
 long_told (Some bytes) limit l n = (bytes, refl, l)
 
-read_long : (told : Option Shelf) (limit : ℕ) (name : List ℕ) (r : Type 0)
+pub read_long : (told : Option Shelf) (limit : ℕ) (name : List ℕ) (r : Type 0)
     → IfSome told (λ shelf. IfSome (bytes_of name shelf) (λ bytes. limit < length bytes)) → (IsAbsent name told → ⊥)
     → Halts (Reads told limit name) r (stop.Tell TooLong)
 read_long None limit name r l n = tells TooLong (long tt)
 read_long (Some shelf) limit name r l n = tells TooLong (long (long_told (bytes_of name shelf) limit l n))
-
-pub read_halts : (told : Option Shelf) (limit : ℕ) (name : List ℕ) (r : Type 0) (e : ReadStop)
-    → (e ≡ read.Fault → r ⊎ IsAbsent name told)
-    → (e ≡ read.TooLong → IfSome told (λ shelf. IfSome (bytes_of name shelf) (λ bytes. limit < length bytes)))
-    → (IsAbsent name told → e ≡ read.Fault) → Halts (Reads told limit name) r (read_stop e)
-read_halts told limit name r read.Fault f l a = read_fault told limit name r (f refl)
-read_halts told limit name r read.TooLong f l a = read_long told limit name r (l refl) (λ x. let e = a x in cc)
-read_halts told limit name r read.NoMemory f l a = short
-
--- only a fault is told so
-pub fault_told : (e : ReadStop) (s : Stop) → s ≡ read_stop e → e ≡ read.Fault → s ≡ stop.Read
-fault_told e s q h = q ∙ ap read_stop h
 
 -- the names before a place were found, at these numbers
 pub record Looking (table : List PredOf) (names left : List (List ℕ)) (numbers : List ℕ) : Type 0 where
@@ -193,40 +179,15 @@ files_stop plan told table numbers r q s src n h f =
 
 -- all is ready
 pub is_ready : (plan : Plan) (told : Option Shelf) (r : Ready) → IsSource told plan.source (view r.compiled.table)
-    → HasNamed plan told (map pred_of r.compiled.table.preds) r.numbers.items (map (λ v. v.items) r.texts.items)
-    → IsReady plan told r
-is_ready plan told r src n = record {
-  given = record { table = view r.compiled.table; preds = n.named.preds; texts = map (λ v. v.items) r.texts.items };
+    → HasNumbers (map pred_of r.compiled.table.preds) plan.names r.numbers.items
+    → Each (Reads told most_file) plan.files (gives (map (λ v. v.items) r.texts.items)) → IsReady plan told r
+is_ready plan told r src n t = record {
+  given = record { table = view r.compiled.table; preds = n.preds; texts = map (λ v. v.items) r.texts.items };
   prepared =
       goes src.bytes src.read (goes (view r.compiled.table) src.accepted
-      (goes n.named.preds n.named.found (goes (map (λ v. v.items) r.texts.items) n.read refl)));
-  stands = record { table = refl; numbered = n.named.numbered; texts = refl };
+      (goes n.preds n.found (goes (map (λ v. v.items) r.texts.items) t refl)));
+  stands = record { table = refl; numbered = n.numbered; texts = refl };
 }
-
--- as many names were found and as many files read as the plan has
-numbered_length : (table : List PredOf) (is : List ℕ) (ps : List PredOf) → AreNumbered table is ps → length is ≡ length ps
-numbered_length table [] [] h = refl
-numbered_length table [] (p ∷ ps) h = absurd h
-numbered_length table (i ∷ is) [] h = absurd h
-numbered_length table (i ∷ is) (p ∷ ps) h = ap suc (numbered_length table is ps h.1)
-
-preds_length : (plan : Plan) (told : Option Shelf) (g : Given) → Prepares plan told (gives g) → length g.preds ≡ length plan.names
-preds_length plan told g (goes bytes r (goes table c (goes preds f (goes texts t e)))) =
-    ap (λ (x : Given). length x.preds) (ap (value_or g) e) ∙ each_length (Finds table.preds) plan.names preds f
-
-texts_length : (plan : Plan) (told : Option Shelf) (g : Given) → Prepares plan told (gives g) → length g.texts ≡ length plan.files
-texts_length plan told g (goes bytes r (goes table c (goes preds f (goes texts t e)))) =
-    ap (λ (x : Given). length x.texts) (ap (value_or g) e) ∙ each_length (Reads told most_file) plan.files texts t
-
-pub ready_numbers : (plan : Plan) (told : Option Shelf) (r : Ready) → IsReady plan told r
-    → length r.numbers.items ≡ length plan.names
-ready_numbers plan told r h =
-    numbered_length (map pred_of r.compiled.table.preds) r.numbers.items h.given.preds h.stands.numbered
-    ∙ preds_length plan told h.given h.prepared
-
-pub ready_texts : (plan : Plan) (told : Option Shelf) (r : Ready) → IsReady plan told r → length r.texts.items ≡ length plan.files
-ready_texts plan told r h =
-    sym (length-map r.texts.items (λ v. v.items)) ∙ ap length (sym h.stands.texts) ∙ texts_length plan told h.given h.prepared
 
 -- one further file
 pub one_text : {A : Type 0} (f : A → List ℕ) (xs : List A) (x : A) → length xs ≡ 1 → x ≡ get_or xs 0 x

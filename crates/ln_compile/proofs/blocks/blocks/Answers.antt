@@ -1,6 +1,6 @@
 use Rattle.std.proofs.Common.{arith}
 use Rattle.ln_tree.specs.Table.{pred_of}
-use Rattle.ln_compile.proofs.Making.GatheringLemmas.{blocks-begin, blocks-more}
+use Rattle.ln_compile.proofs.Making.GatheringLemmas.{blocks-begin, blocks-end, blocks-more}
 use Rattle.ln_compile.proofs.Smallness.SmallBlocks.{root-terms}
 use Rattle.ln_compile.proofs.blocks.blocks.Goals as goal
 
@@ -16,3 +16,7 @@ pub blocks-2-preserved : goal.blocks-2-preserved
 blocks-2-preserved c =
     let e = c.in_ok-block.ensures in
     blocks-more (pred_of c.args.p.now) c.args.f.now c.args.st.now.exps c.blocks-2.i c.blocks-2.blocks c.push-in-blocks-2.new.self c.in_ok-block.block c.exps.result.now (omega (arith, c.blocks-2-test.true, c.blocks-i-end.ensures)) c.exps.ensures c.in_ok-push-2.ensures.ok e.exps e.block e.few c.blocks-2.invariant
+
+pub returns : goal.returns
+returns c =
+    blocks-end (pred_of c.args.p.now) c.args.f.now c.args.st.now.exps c.blocks-2.i c.blocks-2.blocks (omega (arith, c.blocks-i-end.ensures)) c.blocks-2.invariant

@@ -1,4 +1,7 @@
-use Rattle.ln_compile.proofs.Making.MakingLemmas.{filter-carries, filter-of}
+use Rattle.std.proofs.Common.{◌+◌, arith, map}
+use Rattle.ln_bound.specs.Typed.{cost, costs}
+use Rattle.ln_bound.specs.View.{typed}
+use Rattle.ln_compile.proofs.Making.MakingLemmas.{filter-carries, filter-of, filter-small}
 use Rattle.ln_compile.proofs.Smallness.SmallBlocks.{filter-pushes}
 use Rattle.ln_compile.proofs.program.filter.Goals as goal
 
@@ -27,3 +30,8 @@ returns-clause-pushes c = λ few.
     let e = c.in_ok-sized.ensures in
     let nodes = rw e.shape at c.in_ok-filter.ensures.nodes in
     filter-pushes c.args.p.now s.lets s.root e.lets e.root c.requires.light few c.in_ok-filter.filter nodes
+
+pub returns-clause-small : goal.returns-clause-small
+returns-clause-small c =
+    let s = c.in_ok-sized.sized in
+    filter-small c.in_ok-filter.filter (cost (typed s.root) + costs (map typed s.lets)) c.in_ok-filter.ensures.small (omega (arith, s.cheap))

@@ -6,16 +6,18 @@ use Rattle.ln_top.proofs.prepare.numbers.Goals as goal
 pub returns-in_default-clause-err : goal.returns-in_default-clause-err
 returns-in_default-clause-err c =
     let l = left_more string_bytes c.args.names.now c.names.name-index c.name-item.result c.names-test.true c.name-item.is in
-    looking_stops c.args.c.now.table.preds _ _ _ _ _ c.names.invariant l (sym (rw c.as_str.ensures.value at c.in_default.ensures))
+    looking_stops c.args.c.now.table.preds _ _ _ _ _ c.names.invariant.0 l (sym (rw c.as_str.ensures.value at c.in_default.ensures))
 
 pub names-preserved : goal.names-preserved
 names-preserved c =
-    let l = left_more string_bytes c.args.names.now c.names.name-index c.name-item.result c.names-test.true c.name-item.is in
-    looking_more c.args.c.now.table.preds _ _ _ _ _ _ _ c.names.invariant l
-    (sym (rw c.as_str.ensures.value at c.in-Some.ensures)) (search rules)
+    let l = left_more string_bytes c.args.names.now c.names.name-index c.name-item.result c.names-test.true c.name-item.is in (
+      looking_more c.args.c.now.table.preds _ _ _ _ _ _ _ c.names.invariant.0 l
+          (sym (rw c.as_str.ensures.value at c.in-Some.ensures)) (search rules),
+      search rules,
+    )
 
 pub returns-clause-ok : goal.returns-clause-ok
-returns-clause-ok c = looking_all _ _ _ _ c.names.invariant (left_none string_bytes c.args.names.now c.names.name-index (search rules))
+returns-clause-ok c = looking_all _ _ _ _ c.names.invariant.0 (left_none string_bytes c.args.names.now c.names.name-index (search rules))
 
 pub returns-in_default-push-clause-err : goal.returns-in_default-push-clause-err
 returns-in_default-push-clause-err c = short

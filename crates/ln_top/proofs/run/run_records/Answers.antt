@@ -1,4 +1,4 @@
-use Rattle.std.proofs.Common.{subst, sym}
+use Rattle.std.proofs.Common.{subst}
 use Rattle.ln_top.proofs.Commands.RunLaws.{header_carried}
 use Rattle.ln_top.specs.Target.{pred_in}
 use Rattle.ln_top.specs.Run.{HasRecords}

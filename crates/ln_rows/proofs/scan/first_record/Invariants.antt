@@ -1,7 +1,7 @@
 use Rattle.std.proofs.Common.{◌≡◌, ◌≤◌, ◌-◌, [], length}
 use Rattle.csv.specs.Records.{fields_of, partial_of}
 use Rattle.ln_rows.proofs.Records.ScanLemmas.{Standing}
-use Rattle.ln_rows.proofs.scan.scanned.Given as goal
+use Rattle.ln_rows.proofs.scan.first_record.Given as goal
 
 abbrev pub invariant-bytes : goal.invariant-bytes
 invariant-bytes l = Standing l.text l.most l.stand l.at (fields_of l.into) l.held.items × (partial_of l.into ≡ []) × (l.at ≤ length l.text)
