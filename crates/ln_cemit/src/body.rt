@@ -32,8 +32,7 @@ fn put_minus(out: &mut Vec<u8>, width: Width, e: u64) -> Result<(), NoMemory>
 {
     put_tokens(out, b"( -")?;
     put_number_of(out, width, e)?;
-    right(out)?;
-    Ok(())
+    right(out)
 }
 
 // The least number that isn't below -e.
@@ -56,8 +55,7 @@ fn put_above(out: &mut Vec<u8>, e: u64, slot: Slot) -> Result<(), NoMemory>
     put_operand(out, slot.width, slot)?;
     put_op(out, COp::More)?;
     put_number_of(out, slot.width, e)?;
-    put_tokens(out, b") )")?;
-    Ok(())
+    put_tokens(out, b") )")
 }
 
 // Is it below -e?
@@ -69,8 +67,7 @@ fn put_below(out: &mut Vec<u8>, e: u64, slot: Slot) -> Result<(), NoMemory>
     put_operand(out, slot.width, slot)?;
     put_op(out, COp::Less)?;
     put_lowest(out, slot.width, e)?;
-    put_tokens(out, b") )")?;
-    Ok(())
+    put_tokens(out, b") )")
 }
 
 // The sign of a value above e in absolute value, else 0.
@@ -81,8 +78,7 @@ fn put_sign_expr(out: &mut Vec<u8>, e: u64, slot: Slot) -> Result<(), NoMemory>
     put_above(out, e, slot)?;
     put_op(out, COp::Sub)?;
     put_below(out, e, slot)?;
-    right(out)?;
-    Ok(())
+    right(out)
 }
 
 fn put_answer(out: &mut Vec<u8>, e: u64, slot: Slot) -> Result<(), NoMemory>
@@ -91,8 +87,7 @@ fn put_answer(out: &mut Vec<u8>, e: u64, slot: Slot) -> Result<(), NoMemory>
 {
     word_return(out)?;
     put_sign_expr(out, e, slot)?;
-    semi(out)?;
-    Ok(())
+    semi(out)
 }
 
 // The return of the sign of the one value that is left.
@@ -297,8 +292,7 @@ fn put_may_touch(out: &mut Vec<u8>, reads: bool) -> Result<(), NoMemory>
     if reads {
         return Ok(());
     }
-    put_touch(out)?;
-    Ok(())
+    put_touch(out)
 }
 
 /// The same for the indices.
@@ -308,8 +302,7 @@ pub(crate) fn put_may_touch_index(out: &mut Vec<u8>, reads: bool) -> Result<(), 
     if reads {
         return Ok(());
     }
-    put_touch_index(out)?;
-    Ok(())
+    put_touch_index(out)
 }
 
 fn put_body(
@@ -324,8 +317,7 @@ fn put_body(
 {
     let reads = reads_row(ops);
     put_may_touch(out, reads)?;
-    put_lines(alloc, out, e, ops, ways)?;
-    Ok(())
+    put_lines(alloc, out, e, ops, ways)
 }
 
 /// Puts the front of a function with one parameter.
@@ -336,8 +328,7 @@ fn put_one_head(out: &mut Vec<u8>, title: &[u8]) -> Result<(), NoMemory>
 {
     put_tokens(out, b"static int")?;
     put(out, title)?;
-    put_tokens(out, b"( const int64_t * v )")?;
-    Ok(())
+    put_tokens(out, b"( const int64_t * v )")
 }
 
 /// Puts the front of the function with two parameters.
@@ -347,8 +338,7 @@ pub(crate) fn put_two_head(out: &mut Vec<u8>, title: &[u8]) -> Result<(), NoMemo
 {
     put_tokens(out, b"int")?;
     put(out, title)?;
-    put_tokens(out, b"( const int64_t * x , const int64_t * v )")?;
-    Ok(())
+    put_tokens(out, b"( const int64_t * x , const int64_t * v )")
 }
 
 // Puts a function of lines: e is 0 in a block, in a filter the error of what is left.
@@ -367,8 +357,7 @@ fn put_fun(
     put_one_head(out, title)?;
     brace_left(out)?;
     put_body(alloc, out, e, ops, ways)?;
-    brace_right(out)?;
-    Ok(())
+    brace_right(out)
 }
 
 fn block_ways(alloc: Global, pairs: &[Pair]) -> Result<Vec<Way>, NoMemory>
@@ -407,8 +396,7 @@ pub(crate) fn put_block_fun(
     ensures { IfOk result (λ x. Puts out.old.items out.new.items (spell_fun (one_fun title.now (block_body block.now)))) }
 {
     let ways = block_ways(alloc, block.pairs())?;
-    put_fun(alloc, out, title, 0, block.ops(), ways.as_slice())?;
-    Ok(())
+    put_fun(alloc, out, title, 0, block.ops(), ways.as_slice())
 }
 
 /// Puts the function of a filter.
@@ -422,6 +410,5 @@ pub(crate) fn put_filter_fun(
 {
     let ways = filter_ways(alloc, filter.triples())?;
     let e = filter.error();
-    put_fun(alloc, out, title, e, filter.ops(), ways.as_slice())?;
-    Ok(())
+    put_fun(alloc, out, title, e, filter.ops(), ways.as_slice())
 }

@@ -25,8 +25,7 @@ fn put_parts(out: &mut Vec<u8>, k: u8, n: u128) -> Result<(), NoMemory>
     put_constant(out, CType::Int128, 2147483648)?;
     put_tokens(out, b") +")?;
     put_constant(out, CType::Int128, (n % 2147483648) as u64)?;
-    right(out)?;
-    Ok(())
+    right(out)
 }
 
 // A number from 0 up: as it is below 2^63, else in parts.
@@ -46,8 +45,7 @@ fn put_negative(out: &mut Vec<u8>, size: u128) -> Result<(), NoMemory>
 {
     put_tokens(out, b"( -")?;
     put_natural(out, size)?;
-    right(out)?;
-    Ok(())
+    right(out)
 }
 
 fn put_whole(out: &mut Vec<u8>, z: i128) -> Result<(), NoMemory>
@@ -66,6 +64,5 @@ pub(crate) fn put_inner(out: &mut Vec<u8>, kind: CType, z: i128) -> Result<(), N
 {
     put_cast(out, kind)?;
     put_whole(out, z)?;
-    right(out)?;
-    Ok(())
+    right(out)
 }

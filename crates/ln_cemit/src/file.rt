@@ -119,8 +119,7 @@ fn put_all_sites(alloc: Global, out: &mut Vec<u8>, p: &Program, sites: u8) -> Re
 {
     let orders = all_orders(alloc, sites)?;
     let all = Order::of_arguments(sites);
-    put_walked(alloc, out, p, orders.as_slice(), sites, &[], all.places())?;
-    Ok(())
+    put_walked(alloc, out, p, orders.as_slice(), sites, &[], all.places())
 }
 
 // The body of the function with two parameters.
@@ -130,8 +129,7 @@ fn put_call_body(alloc: Global, out: &mut Vec<u8>, p: &Program) -> Result<(), No
     let sites = p.shape().sites;
     put_may_touch_index(out, 2 <= sites)?;
     put_may_filter(alloc, out, p)?;
-    put_all_sites(alloc, out, p, sites)?;
-    Ok(())
+    put_all_sites(alloc, out, p, sites)
 }
 
 fn put_call_head(alloc: Global, out: &mut Vec<u8>, p: &Program) -> Result<(), NoMemory>
@@ -140,8 +138,7 @@ fn put_call_head(alloc: Global, out: &mut Vec<u8>, p: &Program) -> Result<(), No
 {
     let name = name_of(p);
     let title = call_title(alloc, name)?;
-    put_two_head(out, title.as_slice())?;
-    Ok(())
+    put_two_head(out, title.as_slice())
 }
 
 fn put_call(alloc: Global, out: &mut Vec<u8>, p: &Program) -> Result<(), NoMemory>
@@ -150,8 +147,7 @@ fn put_call(alloc: Global, out: &mut Vec<u8>, p: &Program) -> Result<(), NoMemor
     put_call_head(alloc, out, p)?;
     brace_left(out)?;
     put_call_body(alloc, out, p)?;
-    brace_right(out)?;
-    Ok(())
+    brace_right(out)
 }
 
 /// The C of no programs, as far as its functions begin: the text behind which programs are put.
@@ -169,8 +165,7 @@ pub fn put_program(alloc: Global, out: &mut Vec<u8>, p: &Program) -> Result<(), 
 {
     put_filter_of(alloc, out, p)?;
     put_blocks_of(alloc, out, p)?;
-    put_call(alloc, out, p)?;
-    Ok(())
+    put_call(alloc, out, p)
 }
 
 /// Ends the C of programs whose names differ, each with at most 65,536 blocks: it is what `emit` gives for them.

@@ -54,8 +54,7 @@ fn put_decl_head(out: &mut Vec<u8>, n: usize, width: Width) -> Result<(), NoMemo
 {
     put_width(out, width)?;
     put_decl_name(out, n)?;
-    equals(out)?;
-    Ok(())
+    equals(out)
 }
 
 fn put_value_of(out: &mut Vec<u8>, width: Width, v: u64) -> Result<(), NoMemory>
@@ -88,8 +87,7 @@ pub(crate) fn put_operand(out: &mut Vec<u8>, width: Width, slot: Slot) -> Result
 {
     put_cast_of(out, width)?;
     put_decl_name(out, slot.at)?;
-    right(out)?;
-    Ok(())
+    right(out)
 }
 
 fn put_opposite(out: &mut Vec<u8>, width: Width, slot: Slot) -> Result<(), NoMemory>
@@ -97,8 +95,7 @@ fn put_opposite(out: &mut Vec<u8>, width: Width, slot: Slot) -> Result<(), NoMem
 {
     put_tokens(out, b"( -")?;
     put_operand(out, width, slot)?;
-    right(out)?;
-    Ok(())
+    right(out)
 }
 
 fn put_opposite_decl(out: &mut Vec<u8>, n: usize, width: Width, slot: Slot) -> Result<(), NoMemory>
@@ -106,8 +103,7 @@ fn put_opposite_decl(out: &mut Vec<u8>, n: usize, width: Width, slot: Slot) -> R
 {
     put_decl_head(out, n, width)?;
     put_opposite(out, width, slot)?;
-    semi(out)?;
-    Ok(())
+    semi(out)
 }
 
 // Puts the declaration of the opposite of the last value, which takes its place on the stack.
@@ -129,8 +125,7 @@ fn put_both(out: &mut Vec<u8>, op: COp, width: Width, x: Slot, y: Slot) -> Resul
     put_operand(out, width, x)?;
     put_op(out, op)?;
     put_operand(out, width, y)?;
-    right(out)?;
-    Ok(())
+    right(out)
 }
 
 fn put_both_decl(
@@ -146,8 +141,7 @@ fn put_both_decl(
 {
     put_decl_head(out, n, width)?;
     put_both(out, op, width, x, y)?;
-    semi(out)?;
-    Ok(())
+    semi(out)
 }
 
 // Puts the declaration of an operation on the last two values, which takes their place on the stack.
@@ -174,8 +168,7 @@ fn put_value_decl(out: &mut Vec<u8>, n: usize, width: Width, v: u64) -> Result<(
 {
     put_decl_head(out, n, width)?;
     put_value_of(out, width, v)?;
-    semi(out)?;
-    Ok(())
+    semi(out)
 }
 
 // Puts the declaration of a value of the row, and pushes it.
@@ -199,8 +192,7 @@ fn put_same_decl(out: &mut Vec<u8>, n: usize, width: Width, slot: Slot) -> Resul
 {
     put_decl_head(out, n, width)?;
     put_operand(out, width, slot)?;
-    semi(out)?;
-    Ok(())
+    semi(out)
 }
 
 // Puts the declaration of the last value, which is taken off the stack into a local.
@@ -247,8 +239,7 @@ fn put_pushed_decl(out: &mut Vec<u8>, n: usize, width: Width, z: i128) -> Result
 {
     put_decl_head(out, n, width)?;
     put_inner_of(out, width, z)?;
-    semi(out)?;
-    Ok(())
+    semi(out)
 }
 
 // Puts the declaration of a number, and pushes it.
@@ -274,8 +265,7 @@ fn put_division(out: &mut Vec<u8>, slot: Slot, n: u64) -> Result<(), NoMemory>
     put_operand(out, Width::W64, slot)?;
     put_op(out, COp::Div)?;
     put_constant(out, CType::Int64, n)?;
-    right(out)?;
-    Ok(())
+    right(out)
 }
 
 fn power(m: u8) -> u64
@@ -301,8 +291,7 @@ fn put_quotient_decl(out: &mut Vec<u8>, n: usize, m: u8, slot: Slot) -> Result<(
 {
     put_decl_head(out, n, Width::W64)?;
     put_quotient(out, m, slot)?;
-    semi(out)?;
-    Ok(())
+    semi(out)
 }
 
 // Puts the declaration of a quotient by 2^m of the last value, which takes its place on the stack.

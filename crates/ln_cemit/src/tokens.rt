@@ -10,6 +10,5 @@ use ln_csyn::spell::put;
 pub(crate) fn put_tokens(out: &mut Vec<u8>, text: &[u8]) -> Result<(), NoMemory>
     ensures { IfOk result (λ x. Puts out.old.items out.new.items (tokens_in [] text.now)) }
 {
-    put(out, text)?;
-    Ok(())
+    put(out, text)
 }

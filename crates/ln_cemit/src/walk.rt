@@ -40,8 +40,7 @@ pub(crate) fn put_try(out: &mut Vec<u8>, title: &[u8]) -> Result<(), NoMemory>
 {
     brace_left(out)?;
     put_attempt(out, title)?;
-    brace_right(out)?;
-    Ok(())
+    brace_right(out)
 }
 
 fn put_block_try(

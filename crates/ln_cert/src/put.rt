@@ -55,8 +55,7 @@ fn put_exponent(out: &mut Vec<u8>, v: u8, e: u8) -> Result<(), NoMemory>
 {
     put_number(out, u128::from(v))?;
     out.push(b'^')?;
-    put_digits(out, u128::from(e))?;
-    Ok(())
+    put_digits(out, u128::from(e))
 }
 
 /// Puts exponents.
@@ -105,8 +104,7 @@ fn put_triple(out: &mut Vec<u8>, t: Triple) -> Result<(), NoMemory>
 {
     put_number(out, u128::from(t.k))?;
     put_number(out, u128::from(t.h))?;
-    put_number(out, u128::from(t.e))?;
-    Ok(())
+    put_number(out, u128::from(t.e))
 }
 
 fn put_ends(out: &mut Vec<u8>, low: i128, high: i128) -> Result<(), NoMemory>

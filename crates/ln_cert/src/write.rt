@@ -106,8 +106,7 @@ fn put_some_filter(out: &mut Vec<u8>, f: &FilterBlock) -> Result<(), NoMemory>
     let triples = f.triples();
     put_filter_head(out)?;
     put_filter_lines(out, f.ops(), triples)?;
-    put_decide(out)?;
-    Ok(())
+    put_decide(out)
 }
 
 fn put_filter(out: &mut Vec<u8>, p: &Program) -> Result<(), NoMemory>
@@ -125,8 +124,7 @@ fn put_block_head(out: &mut Vec<u8>, n: u32, exps: &Exps) -> Result<(), NoMemory
     requires of_vars { Each (λ p. p.0 ≤ 167) exps.now }
     ensures { IfOk result (λ x. Wrote out.old.items out.new.items (part.Block n exps.now ∷ [])) }
 {
-    put_block(out, n, exps.pairs())?;
-    Ok(())
+    put_block(out, n, exps.pairs())
 }
 
 fn put_block_lines(out: &mut Vec<u8>, n: u32, b: &Block) -> Result<(), NoMemory>
@@ -137,8 +135,7 @@ fn put_block_lines(out: &mut Vec<u8>, n: u32, b: &Block) -> Result<(), NoMemory>
     let pairs = b.pairs();
     put_block_head(out, n, b.exps())?;
     put_range_lines(out, b.ops(), pairs)?;
-    put_end(out)?;
-    Ok(())
+    put_end(out)
 }
 
 fn put_blocks(out: &mut Vec<u8>, blocks: &[Block]) -> Result<(), NoMemory>
@@ -197,8 +194,7 @@ fn put_all_orders(alloc: Global, out: &mut Vec<u8>, p: &Program) -> Result<(), N
     ensures { IfOk result (λ x. Wrote out.old.items out.new.items (order_lines p.now (orders_of p.now.shape.sites))) }
 {
     let orders = all_orders(alloc, p.shape().sites)?;
-    put_orders(out, p, orders.as_slice())?;
-    Ok(())
+    put_orders(out, p, orders.as_slice())
 }
 
 /// The listing of no programs, of version 2: the text behind which programs are put.
@@ -222,8 +218,7 @@ pub fn put_program(alloc: Global, out: &mut Vec<u8>, p: &Program) -> Result<(), 
     put_filter(out, p)?;
     put_blocks(out, blocks)?;
     put_all_orders(alloc, out, p)?;
-    put_done(out)?;
-    Ok(())
+    put_done(out)
 }
 
 /// The text of the listing of the programs, of version 2.

@@ -85,10 +85,6 @@ primary go t ts =
     (choose (name_at ts) (λ x. named t x.0 x.1)
     (go_on (go ts) (λ e. Some (Inner t e.0, e.1))))
 
--- a NUMBER or a NAME stands at the front
-abbrev pub is_leaf : List Token → Bool
-is_leaf ts = choose (number_at ts) (λ _. true) (choose (name_at ts) (λ _. true) false)
-
 -- a cast behind its type; the parentheses of the type need one that is left
 abbrev pub cast_rest : ℕ → ReadExpr → CType → ReadExpr
 cast_rest zero go t ts = None
@@ -144,10 +140,6 @@ abbrev pub stmts_at : ReadStmt → ℕ → List Token → Option (Body × List T
 stmts_at stmt zero ts = None
 stmts_at stmt (suc n) ts = choose (eat (codes "}") ts) (λ r. Some (End, ts))
     (go_on (stmt ts) (λ s. go_on (stmts_at stmt n s.1) (λ b. Some (s.0 b.0, b.1))))
-
--- the second brace behind statements
-abbrev pub braced : Body × List Token → Option (Body × ℕ × List Token)
-braced x = go_on (eat (codes "}") x.1) (λ r. Some (x.0, line_at x.1, r))
 
 -- a pair of braces, with at most this many round a place
 abbrev pub block_at : ℕ → ℕ → ℕ → ReadBlock

@@ -1,11 +1,10 @@
 //! The reader of statements: one function for each function of specs/Reading.antt.
-ghost use Rattle.std.specs.Prelude.{◌≡◌, ◌<◌, suc, None, Some, IfOk, IfErr, codes, length};
+ghost use Rattle.std.specs.Prelude.{◌≡◌, ◌<◌, suc, None, Some, IfOk, IfErr, length};
 ghost use Rattle.ln_csyn.specs.Seen.{tokens_of};
-ghost use Rattle.ln_csyn.specs.Tree.{Decl, Group, If, Return};
+ghost use Rattle.ln_csyn.specs.Tree.{Decl};
 ghost use Rattle.ln_csyn.specs.View.{expr_tree, stmt_front, body_tree};
 ghost use Rattle.ln_csyn.specs.declared.stop.CStop.TheVariants.{NotSubset};
-ghost use Rattle.ln_csyn.specs.Reading.{go_on, eat, closed, expr_at, line_at, decl_rest, if_rest, return_rest, group_rest};
-ghost use Rattle.ln_csyn.specs.Reading.{stmt_at, stmts_at, braced, block_at};
+ghost use Rattle.ln_csyn.specs.Reading.{expr_at, decl_rest, if_rest, return_rest, group_rest, stmt_at, stmts_at, block_at};
 
 use crate::expr::{closed, copied, stopped};
 use crate::stop::CStop;
@@ -21,45 +20,11 @@ pub struct Depths {
     pub inner: u32,
 }
 
-fn declared<'t, 'a>(
-    line: u32,
-    kind: CType,
-    name: Seq<u8>,
-    found: (CExpr, &'t [Token<'a>]),
-) -> (CStmt, &'t [Token<'a>])
-    ensures front { stmt_front result.0 ≡ (λ rest. Decl line kind name (expr_tree found.entry.0) rest) }
-    ensures rest { result.1.now ≡ found.entry.1.now }
+fn declared(line: u32, kind: CType, name: Seq<u8>, e: CExpr) -> CStmt
+    ensures { stmt_front result ≡ (λ rest. Decl line kind name (expr_tree e) rest) }
 {
-    let form = CForm::Decl(kind, name, found.0);
-    (CStmt { line, form }, found.1)
-}
-
-fn returned<'t, 'a>(line: u32, found: (CExpr, &'t [Token<'a>])) -> (CStmt, &'t [Token<'a>])
-    ensures front { stmt_front result.0 ≡ (λ rest. Return line (expr_tree found.entry.0) rest) }
-    ensures rest { result.1.now ≡ found.entry.1.now }
-{
-    let form = CForm::Return(found.0);
-    (CStmt { line, form }, found.1)
-}
-
-fn grouped<'t, 'a>(line: u32, body: (Vec<CStmt>, u32, &'t [Token<'a>])) -> (CStmt, &'t [Token<'a>])
-    ensures front { stmt_front result.0 ≡ (λ rest. Group line (body_tree body.entry.0.items) rest) }
-    ensures rest { result.1.now ≡ body.entry.2.now }
-{
-    let form = CForm::Group(body.0);
-    (CStmt { line, form }, body.2)
-}
-
-fn tested<'t, 'a>(
-    line: u32,
-    found: (CExpr, &'t [Token<'a>]),
-    body: (Vec<CStmt>, u32, &'t [Token<'a>]),
-) -> (CStmt, &'t [Token<'a>])
-    ensures front { stmt_front result.0 ≡ (λ rest. If line (expr_tree found.entry.0) (body_tree body.entry.0.items) rest) }
-    ensures rest { result.1.now ≡ body.entry.2.now }
-{
-    let form = CForm::If(found.0, body.0);
-    (CStmt { line, form }, body.2)
+    let form = CForm::Decl(kind, name, e);
+    CStmt { line, form }
 }
 
 fn decl_rest<'t, 'a>(
@@ -79,8 +44,8 @@ fn decl_rest<'t, 'a>(
         return Err(CStop::NotSubset);
     };
     let name = copied(alloc, name)?;
-    let found = closed(alloc, rest, depth, b";".as_slice())?;
-    Ok(declared(line, kind, name, found))
+    let (e, rest) = closed(alloc, rest, depth, b";".as_slice())?;
+    Ok((declared(line, kind, name, e), rest))
 }
 
 fn return_rest<'t, 'a>(
@@ -92,25 +57,9 @@ fn return_rest<'t, 'a>(
     ensures ok { IfOk result (λ y. return_rest (expr_at depth) line (tokens_of tokens.now) ≡ Some (stmt_front y.0, tokens_of y.1.now)) }
     ensures err { IfErr result (λ e. e ≡ NotSubset → return_rest (expr_at depth) line (tokens_of tokens.now) ≡ None) }
 {
-    let found = closed(alloc, tokens, depth, b";".as_slice())?;
-    Ok(returned(line, found))
-}
-
-// The expression in parentheses that an if tests.
-fn test_at<'t, 'a>(
-    alloc: Global,
-    tokens: &'t [Token<'a>],
-    depth: u32,
-) -> Result<(CExpr, &'t [Token<'a>]), CStop>
-    ensures ok { IfOk result (λ y. go_on (eat (codes "(") (tokens_of tokens.now)) (closed (codes ")") (expr_at depth))
-        ≡ Some (expr_tree y.0, tokens_of y.1.now)) }
-    ensures err { IfErr result (λ e. e ≡ NotSubset →
-        go_on (eat (codes "(") (tokens_of tokens.now)) (closed (codes ")") (expr_at depth)) ≡ None) }
-{
-    match eat(tokens, b"(".as_slice()) {
-        Some(rest) => closed(alloc, rest, depth, b")".as_slice()),
-        None => Err(CStop::NotSubset),
-    }
+    let (e, rest) = closed(alloc, tokens, depth, b";".as_slice())?;
+    let form = CForm::Return(e);
+    Ok((CStmt { line, form }, rest))
 }
 
 #[cycle(stmt)]
@@ -127,10 +76,16 @@ fn if_rest<'t, 'a>(
     ensures err { IfErr result (λ e. e ≡ NotSubset →
         if_rest (expr_at depths.inner) (block_at depths.outer depths.inner braces) line (tokens_of tokens.now) ≡ None) }
 {
-    let found = test_at(alloc, tokens, depths.inner)?;
-    match block(alloc, found.1, depths, braces) {
-        Ok(body) => Ok(tested(line, found, body)),
-        Err(e) => Err(stopped(found, e)),
+    let Some(rest) = eat(tokens, b"(".as_slice()) else {
+        return Err(CStop::NotSubset);
+    };
+    let (e, rest) = closed(alloc, rest, depths.inner, b")".as_slice())?;
+    match block(alloc, rest, depths, braces) {
+        Ok((body, _, rest)) => {
+            let form = CForm::If(e, body);
+            Ok((CStmt { line, form }, rest))
+        }
+        Err(s) => Err(stopped(e, s)),
     }
 }
 
@@ -148,8 +103,9 @@ fn group_rest<'t, 'a>(
     ensures err { IfErr result (λ e. e ≡ NotSubset →
         group_rest (block_at depths.outer depths.inner braces) line (tokens_of tokens.now) ≡ None) }
 {
-    let body = block(alloc, tokens, depths, braces)?;
-    Ok(grouped(line, body))
+    let (body, _, rest) = block(alloc, tokens, depths, braces)?;
+    let form = CForm::Group(body);
+    Ok((CStmt { line, form }, rest))
 }
 
 #[cycle(stmt)]
@@ -205,21 +161,6 @@ fn stmts<'t, 'a>(
     }
 }
 
-// What was read up to a second brace, with the line of that brace and what is behind it.
-fn ended<'t, 'a>(
-    found: (Vec<CStmt>, &'t [Token<'a>]),
-) -> Result<(Vec<CStmt>, u32, &'t [Token<'a>]), CStop>
-    ensures ok { IfOk result (λ y. braced (body_tree found.entry.0.items, tokens_of found.entry.1.now)
-        ≡ Some (body_tree y.0.items, y.1, tokens_of y.2.now)) }
-    ensures err { IfErr result (λ e. e ≡ NotSubset → braced (body_tree found.entry.0.items, tokens_of found.entry.1.now) ≡ None) }
-{
-    let line = line_at(found.1);
-    match eat(found.1, b"}".as_slice()) {
-        Some(rest) => Ok((found.0, line, rest)),
-        None => Err(CStop::NotSubset),
-    }
-}
-
 /// The statements of the pair of braces at the front, the line of the second brace, and what is behind it.
 #[cycle(stmt)]
 pub fn block<'t, 'a>(
@@ -239,6 +180,10 @@ pub fn block<'t, 'a>(
     let Some(rest) = eat(tokens, b"{".as_slice()) else {
         return Err(CStop::NotSubset);
     };
-    let found = stmts(alloc, rest, depths, braces - 1)?;
-    ended(found)
+    let (body, rest) = stmts(alloc, rest, depths, braces - 1)?;
+    let line = line_at(rest);
+    match eat(rest, b"}".as_slice()) {
+        Some(rest) => Ok((body, line, rest)),
+        None => Err(CStop::NotSubset),
+    }
 }

@@ -1,11 +1,11 @@
 //! The reader of expressions: one function for each function of specs/Reading.antt.
-ghost use Rattle.std.specs.Prelude.{◌≡◌, [], None, Some, IfOk, IfErr, Option, codes, option_map};
+ghost use Rattle.std.specs.Prelude.{◌≡◌, None, Some, IfOk, IfErr, Option, option_map};
 ghost use Rattle.ln_csyn.specs.Seen.{tokens_of};
 ghost use Rattle.ln_csyn.specs.View.{expr_tree};
 ghost use Rattle.ln_csyn.specs.declared.stop.CStop.TheVariants.{NotSubset, NoMemory as OutOfMemory};
-ghost use Rattle.ln_csyn.specs.Tree.{Inner, Minus, Two};
+ghost use Rattle.ln_csyn.specs.Tree.{Two};
 ghost use Rattle.ln_csyn.specs.Reading.{eat, cast_at, closed, minus_rest, two_rest, place_of, place_rest};
-ghost use Rattle.ln_csyn.specs.Reading.{call_rest, named, is_leaf, primary, cast_rest, inside, expr_at};
+ghost use Rattle.ln_csyn.specs.Reading.{call_rest, named, primary, cast_rest, inside, expr_at};
 
 use crate::stop::CStop;
 use crate::token::{Token, eat, name_at, number_at, op_at, type_at};
@@ -110,129 +110,32 @@ fn named<'t, 'a>(
     Ok((CExpr::Cast(kind, CPrim::Name(name)), tokens))
 }
 
-// What was read is let go, and the stop stays.
-pub(crate) fn stopped(_found: (CExpr, &[Token<'_>]), stop: CStop) -> CStop
+/// The stop; what was read before it is let go.
+pub(crate) fn stopped(_read: CExpr, stop: CStop) -> CStop
     ensures { result ≡ stop }
 {
     stop
 }
 
-// What was read, and what is behind the token of this text that stands behind it.
-fn shut<'t, 'a>(
-    found: (CExpr, &'t [Token<'a>]),
-    text: &[u8],
-) -> Result<(CExpr, &'t [Token<'a>]), CStop>
-    ensures ok { IfOk result (λ y. closed text.now (λ _. Some (expr_tree found.entry.0, tokens_of found.entry.1.now)) []
-        ≡ Some (expr_tree y.0, tokens_of y.1.now)) }
-    ensures err { IfErr result (λ e. closed text.now (λ _. Some (expr_tree found.entry.0, tokens_of found.entry.1.now)) [] ≡ None) }
-{
-    match eat(found.1, text) {
-        Some(rest) => Ok((found.0, rest)),
-        None => Err(stopped(found, CStop::NotSubset)),
-    }
-}
-
-// Whether a NUMBER or a NAME stands at the front.
-fn is_leaf(tokens: &[Token<'_>]) -> bool
-    ensures { result ≡ is_leaf (tokens_of tokens.now) }
-{
-    if let Some(_) = number_at(tokens) {
-        return true;
-    }
-    match name_at(tokens) {
-        Some(_) => true,
-        None => false,
-    }
-}
-
-// What begins with a NUMBER or a NAME behind a cast.
-fn leaf<'t, 'a>(
+#[cycle(expr)]
+fn primary<'t, 'a>(
     alloc: Global,
     kind: CType,
     tokens: &'t [Token<'a>],
+    depth: u32,
 ) -> Result<(CExpr, &'t [Token<'a>]), CStop>
-    ensures ok { IfOk result (λ y. primary (λ _. None) kind (tokens_of tokens.now) ≡ Some (expr_tree y.0, tokens_of y.1.now)) }
-    ensures err { IfErr result (λ e. e ≡ NotSubset → primary (λ _. None) kind (tokens_of tokens.now) ≡ None) }
+    ensures ok { IfOk result (λ y. primary (expr_at depth) kind (tokens_of tokens.now) ≡ Some (expr_tree y.0, tokens_of y.1.now)) }
+    ensures err { IfErr result (λ e. e ≡ NotSubset → primary (expr_at depth) kind (tokens_of tokens.now) ≡ None) }
 {
     if let Some((n, rest)) = number_at(tokens) {
         return Ok((CExpr::Cast(kind, CPrim::Number(n)), rest));
     }
-    match name_at(tokens) {
-        Some((name, rest)) => named(alloc, kind, name, rest),
-        None => Err(CStop::NotSubset),
+    if let Some((name, rest)) = name_at(tokens) {
+        return named(alloc, kind, name, rest);
     }
-}
-
-fn leaf_rest<'t, 'a>(
-    alloc: Global,
-    kind: CType,
-    tokens: &'t [Token<'a>],
-) -> Result<(CExpr, &'t [Token<'a>]), CStop>
-    ensures ok { IfOk result (λ y. closed (codes ")") (primary (λ _. None) kind) (tokens_of tokens.now)
-        ≡ Some (expr_tree y.0, tokens_of y.1.now)) }
-    ensures err { IfErr result (λ e. e ≡ NotSubset → closed (codes ")") (primary (λ _. None) kind) (tokens_of tokens.now) ≡ None) }
-{
-    let found = leaf(alloc, kind, tokens)?;
-    shut(found, b")".as_slice())
-}
-
-// A cast of what was read.
-fn inner<'t, 'a>(
-    alloc: Global,
-    kind: CType,
-    found: (CExpr, &'t [Token<'a>]),
-) -> Result<(CExpr, &'t [Token<'a>]), CStop>
-    ensures ok { IfOk result (λ y. closed (codes ")") (λ _. Some (Inner kind (expr_tree found.entry.0), tokens_of found.entry.1.now)) []
-        ≡ Some (expr_tree y.0, tokens_of y.1.now)) }
-    ensures err { IfErr result (λ e. e ≡ NotSubset →
-        closed (codes ")") (λ _. Some (Inner kind (expr_tree found.entry.0), tokens_of found.entry.1.now)) [] ≡ None) }
-{
-    let e = Box::new(alloc, found.0)?;
-    shut(
-        (CExpr::Cast(kind, CPrim::Inner(e)), found.1),
-        b")".as_slice(),
-    )
-}
-
-// The opposite of what was read.
-fn opposite<'t, 'a>(
-    alloc: Global,
-    found: (CExpr, &'t [Token<'a>]),
-) -> Result<(CExpr, &'t [Token<'a>]), CStop>
-    ensures ok { IfOk result (λ y. closed (codes ")") (λ _. Some (Minus (expr_tree found.entry.0), tokens_of found.entry.1.now)) []
-        ≡ Some (expr_tree y.0, tokens_of y.1.now)) }
-    ensures err { IfErr result (λ e. e ≡ NotSubset →
-        closed (codes ")") (λ _. Some (Minus (expr_tree found.entry.0), tokens_of found.entry.1.now)) [] ≡ None) }
-{
-    let a = Box::new(alloc, found.0)?;
-    shut((CExpr::Minus(a), found.1), b")".as_slice())
-}
-
-// An operation on two operands.
-fn both(alloc: Global, op: COp, a: CExpr, b: CExpr) -> Result<CExpr, CStop>
-    ensures ok { IfOk result (λ e. expr_tree e ≡ Two op (expr_tree a) (expr_tree b)) }
-    ensures err { IfErr result (λ e. e ≡ OutOfMemory) }
-{
-    let a = Box::new(alloc, a)?;
-    let b = Box::new(alloc, b)?;
-    Ok(CExpr::Two(op, a, b))
-}
-
-// An operation on what was read first and what was read behind the operator.
-fn joined<'t, 'a>(
-    alloc: Global,
-    op: COp,
-    a: (CExpr, &'t [Token<'a>]),
-    b: (CExpr, &'t [Token<'a>]),
-) -> Result<(CExpr, &'t [Token<'a>]), CStop>
-    ensures ok { IfOk result (λ y. closed (codes ")")
-        (λ _. Some (Two op (expr_tree a.entry.0) (expr_tree b.entry.0), tokens_of b.entry.1.now)) []
-        ≡ Some (expr_tree y.0, tokens_of y.1.now)) }
-    ensures err { IfErr result (λ e. e ≡ NotSubset → closed (codes ")")
-        (λ _. Some (Two op (expr_tree a.entry.0) (expr_tree b.entry.0), tokens_of b.entry.1.now)) [] ≡ None) }
-{
-    let e = both(alloc, op, a.0, b.0)?;
-    shut((e, b.1), b")".as_slice())
+    let (e, rest) = expr(alloc, tokens, depth)?;
+    let e = Box::new(alloc, e)?;
+    Ok((CExpr::Cast(kind, CPrim::Inner(e)), rest))
 }
 
 #[cycle(expr)]
@@ -248,11 +151,11 @@ fn cast_rest<'t, 'a>(
     if depth == 0 {
         return Err(CStop::NotSubset);
     }
-    if is_leaf(tokens) {
-        return leaf_rest(alloc, kind, tokens);
+    let (e, rest) = primary(alloc, kind, tokens, depth)?;
+    match eat(rest, b")".as_slice()) {
+        Some(rest) => Ok((e, rest)),
+        None => Err(stopped(e, CStop::NotSubset)),
     }
-    let found = expr(alloc, tokens, depth)?;
-    inner(alloc, kind, found)
 }
 
 #[cycle(expr)]
@@ -264,8 +167,19 @@ fn minus_rest<'t, 'a>(
     ensures ok { IfOk result (λ y. minus_rest (expr_at depth) (tokens_of tokens.now) ≡ Some (expr_tree y.0, tokens_of y.1.now)) }
     ensures err { IfErr result (λ e. e ≡ NotSubset → minus_rest (expr_at depth) (tokens_of tokens.now) ≡ None) }
 {
-    let found = expr(alloc, tokens, depth)?;
-    opposite(alloc, found)
+    let (a, rest) = closed(alloc, tokens, depth, b")".as_slice())?;
+    let a = Box::new(alloc, a)?;
+    Ok((CExpr::Minus(a), rest))
+}
+
+// An operation on two operands.
+fn both(alloc: Global, op: COp, a: CExpr, b: CExpr) -> Result<CExpr, CStop>
+    ensures ok { IfOk result (λ e. expr_tree e ≡ Two op (expr_tree a) (expr_tree b)) }
+    ensures err { IfErr result (λ e. e ≡ OutOfMemory) }
+{
+    let a = Box::new(alloc, a)?;
+    let b = Box::new(alloc, b)?;
+    Ok(CExpr::Two(op, a, b))
 }
 
 #[cycle(expr)]
@@ -277,13 +191,16 @@ fn two_rest<'t, 'a>(
     ensures ok { IfOk result (λ y. two_rest (expr_at depth) (tokens_of tokens.now) ≡ Some (expr_tree y.0, tokens_of y.1.now)) }
     ensures err { IfErr result (λ e. e ≡ NotSubset → two_rest (expr_at depth) (tokens_of tokens.now) ≡ None) }
 {
-    let a = expr(alloc, tokens, depth)?;
-    match op_at(a.1) {
-        Some((op, rest)) => match expr(alloc, rest, depth) {
-            Ok(b) => joined(alloc, op, a, b),
-            Err(e) => Err(stopped(a, e)),
-        },
-        None => Err(stopped(a, CStop::NotSubset)),
+    let (a, rest) = expr(alloc, tokens, depth)?;
+    let Some((op, rest)) = op_at(rest) else {
+        return Err(stopped(a, CStop::NotSubset));
+    };
+    match closed(alloc, rest, depth, b")".as_slice()) {
+        Ok((b, rest)) => {
+            let e = both(alloc, op, a, b)?;
+            Ok((e, rest))
+        }
+        Err(e) => Err(stopped(a, e)),
     }
 }
 
@@ -306,6 +223,7 @@ fn inside<'t, 'a>(
 }
 
 /// The expression at the front, and what is behind the token of this text that stands behind it.
+#[cycle(expr)]
 pub fn closed<'t, 'a>(
     alloc: Global,
     tokens: &'t [Token<'a>],
@@ -315,8 +233,11 @@ pub fn closed<'t, 'a>(
     ensures ok { IfOk result (λ y. closed text.now (expr_at depth) (tokens_of tokens.now) ≡ Some (expr_tree y.0, tokens_of y.1.now)) }
     ensures err { IfErr result (λ e. e ≡ NotSubset → closed text.now (expr_at depth) (tokens_of tokens.now) ≡ None) }
 {
-    let found = expr(alloc, tokens, depth)?;
-    shut(found, text)
+    let (e, rest) = expr(alloc, tokens, depth)?;
+    match eat(rest, text) {
+        Some(rest) => Ok((e, rest)),
+        None => Err(stopped(e, CStop::NotSubset)),
+    }
 }
 
 /// The expression at the front, and what is behind it.

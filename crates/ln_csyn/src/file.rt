@@ -1,34 +1,42 @@
 //! The reader of functions: one function for each function of specs/Reading.antt.
 ghost use Rattle.std.specs.Prelude.{◌≡◌, ◌<◌, suc, None, Some, IfOk, IfErr, Option, option_map, length, map};
 ghost use Rattle.ln_csyn.specs.Seen.{tokens_of};
-ghost use Rattle.ln_csyn.specs.View.{body_tree, fun_tree};
+ghost use Rattle.ln_csyn.specs.View.{fun_tree};
 ghost use Rattle.ln_csyn.specs.declared.stop.CStop.TheVariants.{NotSubset};
 ghost use Rattle.ln_csyn.specs.Reading.{block_at, pointer_at, both_rest, parameters_at, words_at, head_at, fun_at, funs_at};
 
 use crate::body::{Depths, block};
 use crate::expr::copied;
 use crate::stop::CStop;
-use crate::token::{Token, eat, from, name_at, then};
-use crate::tree::{CFun, CStmt};
-use ln_base::Seq;
+use crate::token::{Token, eat, from, name_at};
+use crate::tree::CFun;
 use std::alloc::Global;
 
 fn pointer_at<'t, 'a>(tokens: &'t [Token<'a>]) -> Option<&'t [Token<'a>]>
     ensures { option_map (λ r. tokens_of r.now) result ≡ pointer_at (tokens_of tokens.now) }
 {
-    let behind = eat(tokens, b"const".as_slice());
-    let behind = then(behind, b"int64_t".as_slice());
-    then(behind, b"*".as_slice())
+    let Some(rest) = eat(tokens, b"const".as_slice()) else {
+        return None;
+    };
+    let Some(rest) = eat(rest, b"int64_t".as_slice()) else {
+        return None;
+    };
+    eat(rest, b"*".as_slice())
 }
 
 fn both_rest<'t, 'a>(tokens: &'t [Token<'a>]) -> Option<(bool, &'t [Token<'a>])>
     ensures { option_map (λ y. (y.0, tokens_of y.1.now)) result ≡ both_rest (tokens_of tokens.now) }
 {
-    let behind = then(eat(tokens, b"x".as_slice()), b",".as_slice());
-    let Some(rest) = behind else {
+    let Some(rest) = eat(tokens, b"x".as_slice()) else {
         return None;
     };
-    match then(pointer_at(rest), b"v".as_slice()) {
+    let Some(rest) = eat(rest, b",".as_slice()) else {
+        return None;
+    };
+    let Some(rest) = pointer_at(rest) else {
+        return None;
+    };
+    match eat(rest, b"v".as_slice()) {
         Some(rest) => Some((true, rest)),
         None => None,
     }
@@ -68,26 +76,6 @@ fn words_at<'t, 'a>(tokens: &'t [Token<'a>]) -> Option<(&'a [u8], bool, &'t [Tok
     }
 }
 
-fn made<'t, 'a>(
-    own: bool,
-    name: Seq<u8>,
-    indexed: bool,
-    body: (Vec<CStmt>, u32, &'t [Token<'a>]),
-) -> (CFun, &'t [Token<'a>])
-    ensures tree { fun_tree result.0
-        ≡ record { own = own; name = name; indexed = indexed; body = body_tree body.entry.0.items; end = body.entry.1 } }
-    ensures rest { result.1.now ≡ body.entry.2.now }
-{
-    let f = CFun {
-        own,
-        name,
-        indexed,
-        body: body.0,
-        end: body.1,
-    };
-    (f, body.2)
-}
-
 fn head_at<'t, 'a>(
     alloc: Global,
     own: bool,
@@ -105,8 +93,15 @@ fn head_at<'t, 'a>(
         return Err(CStop::NotSubset);
     };
     let name = copied(alloc, name)?;
-    let body = block(alloc, rest, depths, braces)?;
-    Ok(made(own, name, indexed, body))
+    let (body, end, rest) = block(alloc, rest, depths, braces)?;
+    let f = CFun {
+        own,
+        name,
+        indexed,
+        body,
+        end,
+    };
+    Ok((f, rest))
 }
 
 fn fun_at<'t, 'a>(

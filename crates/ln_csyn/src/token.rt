@@ -1,7 +1,7 @@
 //! Tokens of the C subset, and what stands at the front of a list of them.
 ghost use Rattle.std.specs.Prelude.{◌≡◌, ◌≤◌, Option, option_map, length, drop};
 ghost use Rattle.ln_csyn.specs.Seen.{tokens_of};
-ghost use Rattle.ln_csyn.specs.Reading.{go_on, begins, eat, type_at, op_at, name_at, number_at, line_at};
+ghost use Rattle.ln_csyn.specs.Reading.{begins, eat, type_at, op_at, name_at, number_at, line_at};
 
 use crate::tree::{COp, CType};
 use crate::word::{c_name, number, operation, type_word};
@@ -20,16 +20,6 @@ pub fn eat<'t, 'a>(tokens: &'t [Token<'a>], text: &[u8]) -> Option<&'t [Token<'a
     match tokens {
         [t, rest @ ..] => { if t.text == text { Some(rest) } else { None } }
         [] => None,
-    }
-}
-
-/// What is behind a token with this text, where any tokens were found.
-pub(crate) fn then<'t, 'a>(tokens: Option<&'t [Token<'a>]>, text: &[u8]) -> Option<&'t [Token<'a>]>
-    ensures { option_map (λ r. tokens_of r.now) result ≡ go_on (option_map (λ r. tokens_of r.now) tokens.entry) (eat text.now) }
-{
-    match tokens {
-        Some(rest) => eat(rest, text),
-        None => None,
     }
 }
 

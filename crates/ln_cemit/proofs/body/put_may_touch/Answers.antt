@@ -1,4 +1,5 @@
 -- Answers to the goals of `put_may_touch` in src/body.rt.
+use Rattle.std.proofs.lemmas.Result.{IfOk-weaker}
 use Rattle.std.proofs.Common.{rules, ◌≡◌, true, false}
 use Rattle.ln_cemit.proofs.Writing.Loops.{touched_none, touched_put}
 use Rattle.ln_cemit.proofs.body.put_may_touch.Goals as goal
@@ -7,4 +8,4 @@ pub returns-then-reads : goal.returns-then-reads
 returns-then-reads c = let e : c.args.reads ≡ true = search rules in touched_none c.args.reads e
 
 pub returns : goal.returns
-returns c = let e : c.args.reads ≡ false = search rules in touched_put c.args.reads e c.in_ok-put_touch.ensures
+returns c = let e : c.args.reads ≡ false = search rules in IfOk-weaker c.put_touch.result _ _ (λ _ p. touched_put c.args.reads e p) c.put_touch.ensures

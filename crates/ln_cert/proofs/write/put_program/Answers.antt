@@ -1,4 +1,5 @@
 -- Answers to the goals of `put_program` in src/write.rt.
+use Rattle.std.proofs.lemmas.Result.{IfOk-weaker}
 use Rattle.ln_code.proofs.Verdicts.Differ.{few_vars}
 use Rattle.ln_cert.proofs.Writing.Programmed.{for_blocks, one_behind, program_wrote}
 use Rattle.ln_cert.proofs.write.put_program.Goals as goal
@@ -19,4 +20,4 @@ pub put_all_orders-requires-clause-kept : goal.put_all_orders-requires-clause-ke
 put_all_orders-requires-clause-kept c = c.blocks-blocks.ensures.kept
 
 pub returns : goal.returns
-returns c = one_behind c.args.out.now.items c.put_done.new.out.items c.args.p.now (program_wrote c.args.p.now c.args.out.now.items c.put_name.new.out.items c.put_filter.new.out.items c.put_blocks.new.out.items c.put_all_orders.new.out.items c.put_done.new.out.items c.shape.result.now c.blocks-blocks.result.now c.blocks-blocks.ensures.kept c.shape.ensures c.blocks-blocks.ensures.value c.in_ok-put_name.ensures c.in_ok-put_filter.ensures c.in_ok-put_blocks.ensures c.in_ok-put_all_orders.ensures c.in_ok-put_done.ensures)
+returns c = IfOk-weaker c.put_done.result _ _ (λ _ p. one_behind c.args.out.now.items c.put_done.new.out.items c.args.p.now (program_wrote c.args.p.now c.args.out.now.items c.put_name.new.out.items c.put_filter.new.out.items c.put_blocks.new.out.items c.put_all_orders.new.out.items c.put_done.new.out.items c.shape.result.now c.blocks-blocks.result.now c.blocks-blocks.ensures.kept c.shape.ensures c.blocks-blocks.ensures.value c.in_ok-put_name.ensures c.in_ok-put_filter.ensures c.in_ok-put_blocks.ensures c.in_ok-put_all_orders.ensures p)) c.put_done.ensures

@@ -14,5 +14,11 @@ decreases-two_rest l = 4 * l.depth + 2
 abbrev pub decreases-minus_rest : goal.decreases-minus_rest
 decreases-minus_rest l = 4 * l.depth + 2
 
+abbrev pub decreases-closed : goal.decreases-closed
+decreases-closed l = 4 * l.depth + 1
+
 abbrev pub decreases-cast_rest : goal.decreases-cast_rest
 decreases-cast_rest l = 4 * l.depth + 2
+
+abbrev pub decreases-primary : goal.decreases-primary
+decreases-primary l = 4 * l.depth + 1
