@@ -33,5 +33,12 @@ returns c =
     let low : SFits w128 c.from.result = search rules in
     let offset : SFits w128 c.from-2.result = search rules in
     let from = rw (to_z-of_z c.ranges.lo) at c.from.ensures in
-    rw (to_z-of_z (overflow_cast-result c), to_z-of_z (overflow_add-result c), to_z-of_z low, to_z-of_z offset, from, c.from-2.ensures,
-    width) refl
+    rw (
+      to_z-of_z (overflow_cast-result c),
+      to_z-of_z (overflow_add-result c),
+      to_z-of_z low,
+      to_z-of_z offset,
+      from,
+      c.from-2.ensures,
+      width,
+    ) refl

@@ -11,8 +11,14 @@ between-requires-clause-order c =
     let hi : SFits w64 c.args.i.now.hi = search rules in
     let low : SFits w64 c.ends-lo.result.0 = search rules in
     let high : SFits w64 c.ends-lo.result.1 = search rules in
-    rw (to_z-of_z low, to_z-of_z high, c.ends-lo.ensures.low, c.ends-lo.ensures.high,
-    to_z-of_z lo, to_z-of_z hi) (ends_in_order c.args.n c.args.i.now c.requires)
+    rw (
+      to_z-of_z low,
+      to_z-of_z high,
+      c.ends-lo.ensures.low,
+      c.ends-lo.ensures.high,
+      to_z-of_z lo,
+      to_z-of_z hi,
+    ) (ends_in_order c.args.n c.args.i.now c.requires)
 
 pub between-requires-clause-size : goal.between-requires-clause-size
 between-requires-clause-size c =
@@ -28,6 +34,14 @@ returns-clause-value c =
     let low : SFits w64 c.ends-lo.result.0 = search rules in
     let high : SFits w64 c.ends-lo.result.1 = search rules in
     let value : SFits w64 c.between.result = search rules in
-    rw (to_z-of_z value, c.between.ensures, to_z-of_z low, to_z-of_z high, c.ends-lo.ensures.low, c.ends-lo.ensures.high,
-    to_z-of_z lo, to_z-of_z hi)
+    rw (
+      to_z-of_z value,
+      c.between.ensures,
+      to_z-of_z low,
+      to_z-of_z high,
+      c.ends-lo.ensures.low,
+      c.ends-lo.ensures.high,
+      to_z-of_z lo,
+      to_z-of_z hi,
+    )
     (ap (variable_by c.args.n c.args.i.now) (ap (λ (p : ℕ × Lcg). p.0) c.next_word-word.ensures))
