@@ -1,5 +1,6 @@
 -- What loops over variables find.
-use Rattle.std.proofs.Common.{◌≡◌, ℕ, ◌+◌, ◌<◌, ◌≤◌, Bool, true, false, not, List, [], ◌∷◌, length, get_or, drop, Option, Some, None, refl, ap, sym, ◌∙◌, true≢false, drop-cons, add-one}
+use Rattle.std.proofs.Common.{◌≡◌, ℕ, ◌+◌, ◌<◌, ◌≤◌, Bool, true, false, not, List, length, get_or, drop, Option, Some, None}
+use Rattle.std.proofs.Common.{refl, ap, sym, ◌∙◌, true≢false, drop-cons, add-one}
 use Rattle.std.specs.Prelude.{position, is_some, is_none}
 use Rattle.std.specs.List.{position_from, list_all}
 use Rattle.std.proofs.lemmas.List.{drop_all}
