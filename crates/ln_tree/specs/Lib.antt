@@ -8,5 +8,4 @@ pub mod Kept
 pub mod Row
 pub mod Table
 pub mod Exps
-pub mod Listed
 pub mod Whole

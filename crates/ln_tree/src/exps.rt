@@ -2,8 +2,8 @@
 ghost use Rattle.std.specs.Prelude.{◌≡◌, ◌<◌, ◌++◌, [], ◌∷◌, IfOk, OnOk, OnErr};
 ghost use Rattle.ln_tree.specs.Exps.{IsRising, exponent};
 
-use crate::pair_list::{PairList, again, none, pairs_in, push};
 use ln_base::NoMemory;
+use smallvec::SmallVec;
 use std::alloc::Global;
 use std::cmp::Ordering;
 use std::hash::{Hash, Hasher};
@@ -13,29 +13,30 @@ use std::marker::Model;
 /// Contracts see the list of pairs. Equality, order and hash are the list's.
 #[derive(Drop)]
 pub struct Exps {
-    pairs: PairList,
+    pairs: SmallVec<(u8, u8), 8>,
 }
 
 impl Model for Exps {
     ghost use Rattle.std.specs.Prelude.{ℕ, List};
     ghost use Rattle.ln_tree.specs.Exps.{IsRising};
-    ghost use Rattle.ln_tree.specs.Listed.{listed};
 
     ghost Value = { List (ℕ × ℕ) };
 
-    ghost view = { λ e. listed e.pairs };
+    ghost view = { λ e. e.pairs.items };
 
-    ghost invariant = { λ e. IsRising (listed e.pairs) };
+    ghost invariant = { λ e. IsRising e.pairs.items };
 }
 
 impl Exps {
     ghost use Rattle.ln_tree.specs.Exps.{IsAbove, IsRising};
 
-    /// No pair: the exponents of the monomial 1. It takes no memory.
+    /// Makes the empty list: the exponents of the monomial 1. It allocates nothing.
     pub fn new(alloc: Global) -> Exps
         ensures { result ≡ [] }
     {
-        Exps { pairs: none(alloc) }
+        Exps {
+            pairs: SmallVec::new(alloc),
+        }
     }
 
     /// Puts the pair of a further variable, above those that are there, at the end. A refusal changes nothing.
@@ -46,16 +47,17 @@ impl Exps {
         ensures ok { OnOk result (self.new ≡ self.old ++ (v, e) ∷ []) }
         ensures err { OnErr result (self.new ≡ self.old) }
     {
-        push(&mut self.pairs, (v, e))?;
+        self.pairs.push((v, e))?;
         Ok(())
     }
 
-    /// The same pairs once more. It takes no memory.
+    /// Copies the pairs. Up to eight pairs are kept in the value, and a longer list allocates.
     pub fn copy(&self) -> Result<Exps, NoMemory>
         ensures { IfOk result (λ e. e ≡ self.now) }
     {
-        let pairs = again(&self.pairs)?;
-        Ok(Exps { pairs })
+        Ok(Exps {
+            pairs: SmallVec::from_slice(*self.pairs.allocator(), self.pairs.as_slice())?,
+        })
     }
 
     /// The pairs, lent.
@@ -63,7 +65,7 @@ impl Exps {
         ensures value { result.now ≡ self.now }
         ensures rising { IsRising self.now }
     {
-        pairs_in(&self.pairs)
+        self.pairs.as_slice()
     }
 }
 
@@ -91,7 +93,7 @@ impl PartialEq for Exps {
     ghost laws = { Prim.search (comparing, rules) };
 
     fn eq(&self, other: &Exps) -> bool {
-        self.pairs() == other.pairs()
+        self.pairs.as_slice() == other.pairs.as_slice()
     }
 }
 
@@ -116,7 +118,7 @@ impl Ord for Exps {
     ghost matches_eq = { same_pairs-ties };
 
     fn cmp(&self, other: &Exps) -> Ordering {
-        self.pairs().cmp(other.pairs())
+        self.pairs.as_slice().cmp(other.pairs.as_slice())
     }
 }
 
@@ -149,6 +151,6 @@ impl Hash for Exps {
     ghost respects_eq = { λ x y h. ap (fed.slice (λ (p : ℕ × ℕ). fed.u8 p.0 ++ fed.u8 p.1)) (same_pairs-is x y h) };
 
     fn hash<H: Hasher>(&self, state: &mut H) {
-        self.pairs().hash(state);
+        self.pairs.as_slice().hash(state);
     }
 }

@@ -7,13 +7,11 @@
 
 pub mod expr;
 pub mod exps;
-mod few;
 pub mod fits;
 pub mod items;
 pub mod laws;
 pub mod layout;
 pub mod name;
-mod pair_list;
 pub mod pred;
 pub mod shape;
 pub mod table;
