@@ -9,3 +9,4 @@ pub mod WordsLaws
 pub mod PutLemmas
 pub mod TopLaws
 pub mod OneAnswer
+pub mod AlikeLaws

@@ -1,5 +1,5 @@
 -- When each status comes.
-use Rattle.std.specs.Prelude.{◌≡◌, ◌≢◌, ◌⊎◌, ℕ, List, [], Option, Some, None, IfSome}
+use Rattle.std.specs.Prelude.{◌≡◌, ◌≢◌, ◌⊎◌, ℕ, List, [], Option, Some, None}
 use Rattle.ln_base.specs.Outside.{Shelf, Shown}
 use Rattle.ln_tree.specs.Table.{PredOf, TableOf}
 use Rattle.ln_compile.specs.declared.refusal.Refusal.{Refusal}
@@ -14,6 +14,7 @@ use Rattle.ln_top.specs.Said.{Said, line, put_both, end_status}
 use Rattle.ln_top.specs.Stop.{why_end, why_text}
 use Rattle.ln_top.specs.Plan.{Plan, plan_of}
 use Rattle.ln_top.specs.Source.{IsRefusedAt}
+use Rattle.ln_top.specs.Suits.{Asks, objection}
 use Rattle.ln_top.specs.Steps.{stops, gives, Given, Prepares, Reads, Compiles, Finds, Each, MayPass, most_source, most_file}
 use Rattle.ln_top.specs.Work.{WorkEnds}
 
@@ -52,9 +53,14 @@ pub data Ends (words : List (List ℕ)) (told : Option Shelf) (e : End) : Type 0
   no_predicate : (plan : Plan) (table : TableOf) → HasTable words told plan table
       → Each (Finds table.preds) plan.names (stops NoPredicate)
       → e ≡ end.NoPredicate → Ends words told e
+  -- the named predicates don't suit the command
+  unsuited : (plan : Plan) (table : TableOf) (preds : List PredOf) (h : HasTable words told plan table)
+      → Each (Finds table.preds) plan.names (gives preds) → (Asks plan.command preds → ⊥)
+      → e ≡ why_end (objection plan.command h.bytes preds) → Ends words told e
   -- a further file is over its limit
   long_file : (plan : Plan) (table : TableOf) (preds : List PredOf) → HasTable words told plan table
-      → Each (Finds table.preds) plan.names (gives preds) → Each (Reads told most_file) plan.files (stops TooLong)
+      → Each (Finds table.preds) plan.names (gives preds) → Asks plan.command preds
+      → Each (Reads told most_file) plan.files (stops TooLong)
       → e ≡ end.TooLong → Ends words told e
   -- the work ends so, by the command's own file
   worked : (plan : Plan) (g : Given) → plan_of words ≡ Some plan → Prepares plan told (gives g)
@@ -72,11 +78,6 @@ pub record ExactlyWhere (s : Status) (cause : Type 0) (result : Status) (reads p
 -- each status that says what was owed comes exactly where the steps end so
 abbrev pub EndsExactly : List (List ℕ) → Shelf → Status → Type 0 → Type 0 → Type 0
 EndsExactly words shelf result reads puts = (e : End) → ExactlyWhere (end_status e) (Ends words (Some shelf) e) result reads puts
-
--- over files that tell their bytes, the status of one end does
-abbrev pub EndsAt : End → List (List ℕ) → Option Shelf → Status → Type 0 → Type 0 → Type 0
-EndsAt e words told result reads puts =
-    IfSome told (λ shelf. ExactlyWhere (end_status e) (Ends words (Some shelf) e) result reads puts)
 
 -- an end that no work has came with the line of its stop alone
 pub record SaysLine (e : End) (was now : Option Shown) : Type 0 where

@@ -2,6 +2,8 @@ pub mod Said
 pub mod Stop
 pub mod Plan
 pub mod Source
+pub mod Alike
+pub mod Suits
 pub mod Steps
 pub mod Carried
 pub mod Lines
@@ -23,5 +25,6 @@ pub mod Headline
 pub mod Work
 pub mod Answer
 pub mod Causes
+pub mod Call
 pub mod GenRow
 pub mod Gen

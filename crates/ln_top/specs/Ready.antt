@@ -1,13 +1,14 @@
 -- What the program has ready for the work, and what it stands for.
 use Rattle.std.specs.Prelude.{◌≡◌, ℕ, ◌≤◌, List, [], ◌∷◌, map, length, slice_get, Option, Some}
 use Rattle.ln_base.specs.Outside.{Shelf}
-use Rattle.ln_tree.specs.Table.{PredOf, TableOf, pred_of}
+use Rattle.ln_tree.specs.Table.{PredOf, pred_of}
 use Rattle.ln_compile.specs.Accepted.{AreSound}
 use Rattle.ln_top.specs.declared.words.Command.{Command}
 use Rattle.ln_top.specs.declared.prepare.Ready.{Ready}
 use Rattle.ln_top.specs.Plan.{Plan, form}
 use Rattle.ln_top.specs.Source.{view}
-use Rattle.ln_top.specs.Steps.{Reads, Compiles, Each, Finds, Given, Prepares, gives, most_file, most_source}
+use Rattle.ln_top.specs.Suits.{Asks}
+use Rattle.ln_top.specs.Steps.{Each, Finds, Given, Prepares, gives, most_file}
 
 -- the predicates with these numbers
 abbrev pub AreNumbered : List PredOf → List ℕ → List PredOf → Type 0
@@ -52,13 +53,8 @@ pub record HasStanding (r : Ready) : Type 0 where
   pub sound : AreSound (map pred_of r.compiled.table.preds)
   pub short : AreShort given.texts
 
--- and is as much as the command takes: what each work asks of the steps before it
+-- and is as much as the command takes and suits it: what each work asks of the steps before it
 pub record IsReadyFor (c : Command) (r : Ready) : Type 0 where
   pub stands : HasStanding r
   pub fit : IsFit c (length r.numbers.items) (length r.texts.items)
-
--- a source file is read and has this table
-pub record IsSource (told : Option Shelf) (name : List ℕ) (t : TableOf) : Type 0 where
-  pub bytes : List ℕ
-  pub read : Reads told most_source name (gives bytes)
-  pub accepted : Compiles bytes (gives t)
+  pub suited : Asks c stands.given.preds

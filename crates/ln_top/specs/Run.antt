@@ -50,9 +50,10 @@ piece = 65536
 abbrev pub piece_room : ℕ
 piece_room = 65600
 
--- the one predicate, the names of its columns, and the records of the one rows file
+-- the first predicate, the names of its columns, and the records of the one rows file
 pub record HasRecords (g : Given) (p : PredOf) (names : List (List ℕ)) (records : Records) : Type 0 where
-  pub pred : g.preds ≡ p ∷ []
+  pub others : List PredOf
+  pub pred : g.preds ≡ p ∷ others
   pub columns : names ≡ columns_of g.table p
   pub rows : List ℕ
   pub text : g.texts ≡ rows ∷ []

@@ -45,6 +45,8 @@ end_status end.Rows = status.Rows
 end_status end.NoPredicate = status.NoPredicate
 end_status end.Invalid = status.Invalid
 end_status end.TooLong = status.TooLong
+end_status end.Shape = status.Shape
+end_status end.Many = status.Many
 
 abbrev pub early_status : Early → Status
 early_status early.Read = status.Read
@@ -67,6 +69,8 @@ code_of status.Read = 6
 code_of status.Write = 7
 code_of status.TooLong = 8
 code_of status.Memory = 9
+code_of status.Shape = 10
+code_of status.Many = 11
 
 -- a count of faults, before and after
 pub record Count : Type 0 where

@@ -9,6 +9,7 @@ use Rattle.ln_top.specs.declared.stop.Why.TheVariants.{TooLong, Refused, NoPredi
 use Rattle.ln_top.specs.declared.words.Command.{Command}
 use Rattle.ln_top.specs.Plan.{Plan, plan_of}
 use Rattle.ln_top.specs.Source.{IsAccepted, IsRefusedAt}
+use Rattle.ln_top.specs.Suits.{Asks, objection}
 
 -- what a step comes to: it stops the command, or a file that it wants isn't there, or it gives a value to go on with
 pub data Outcome (A : Type 0) : Type 0 where
@@ -61,6 +62,11 @@ pub data Finds (preds : List PredOf) (name : List ℕ) : Outcome PredOf → Type
   found : (p : PredOf) → named name preds ≡ Some p → Finds preds name (gives p)
   none : named name preds ≡ None → Finds preds name (stops NoPredicate)
 
+-- the named predicates suit the command, or it objects
+pub data Suits (c : Command) (bytes : List ℕ) (preds : List PredOf) : Outcome (Unit {0}) → Type 0 where
+  suited : Asks c preds → Suits c bytes preds (gives tt)
+  unsuited : (Asks c preds → ⊥) → Suits c bytes preds (stops (objection c bytes preds))
+
 -- a source file has at most 1,048,576 bytes
 abbrev pub most_source : ℕ
 most_source = 1048576
@@ -75,14 +81,15 @@ pub record Given : Type 0 where
   pub preds : List PredOf
   pub texts : List (List ℕ)
 
--- the source is read and compiled, the names are looked for, the further files are read
+-- the source is read and compiled, the names are looked for, their predicates suit the command, the further files are read
 abbrev pub Prepares : Plan → Option Shelf → Outcome Given → Type 0
 Prepares plan told =
     Then (Reads told most_source plan.source) (λ bytes.
     Then (Compiles bytes) (λ table.
     Then (Each (Finds table.preds) plan.names) (λ preds.
+    Then (Suits plan.command bytes preds) (λ fine.
     Then (Each (Reads told most_file) plan.files) (λ texts.
-    Gives (record { table = table; preds = preds; texts = texts })))))
+    Gives (record { table = table; preds = preds; texts = texts }))))))
 
 -- a claim on what is given where these words are this command and prepare it over the told files
 abbrev pub WhereGiven : List (List ℕ) → Shelf → Command → (Given → Type 0) → Type 0

@@ -7,7 +7,7 @@ use Rattle.ln_top.specs.declared.status.End.{End}
 use Rattle.ln_top.specs.declared.status.End.TheVariants as end
 use Rattle.ln_top.specs.declared.stop.Place.{Place}
 use Rattle.ln_top.specs.declared.stop.Why.{Why}
-use Rattle.ln_top.specs.declared.stop.Why.TheVariants.{Usage, TooLong, Refused, NoPredicate, Header}
+use Rattle.ln_top.specs.declared.stop.Why.TheVariants.{Usage, TooLong, Refused, NoPredicate, Header, Shape, Many}
 use Rattle.ln_top.specs.declared.stop.Stop.{Stop}
 use Rattle.ln_top.specs.declared.stop.Stop.TheVariants.{Tell, Memory}
 use Rattle.ln_top.specs.Said.{Said, error_line}
@@ -24,6 +24,8 @@ why_end TooLong = end.TooLong
 why_end (Refused r place) = end.Refused
 why_end NoPredicate = end.NoPredicate
 why_end Header = end.Rows
+why_end Shape = end.Shape
+why_end Many = end.Many
 
 -- and its line, without its end
 abbrev pub why_text : Why → List ℕ
@@ -32,6 +34,8 @@ why_text TooLong = codes "error long"
 why_text (Refused r place) = refusal_text r place
 why_text NoPredicate = codes "error predicate"
 why_text Header = codes "error header"
+why_text Shape = codes "error shape"
+why_text Many = codes "error many"
 
 -- what is said of a stop
 abbrev pub said_of : Why → Said

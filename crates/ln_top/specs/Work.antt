@@ -46,6 +46,7 @@ pub data IsWorkEnd : End → Type 0 where
   done : IsWorkEnd end.Done
   rows : IsWorkEnd end.Rows
   invalid : IsWorkEnd end.Invalid
+  many : IsWorkEnd end.Many
 
 -- works that say one thing: all but `list` and `emit`, for which more than one text may be true of a source
 abbrev pub IsOneValued : Command → Type 0

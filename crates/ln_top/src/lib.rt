@@ -28,6 +28,7 @@ mod run;
 pub mod source;
 pub mod status;
 pub mod stop;
+pub mod suits;
 pub mod target;
 pub mod top;
 mod verify;

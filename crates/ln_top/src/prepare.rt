@@ -1,19 +1,21 @@
-//! The steps before the work: the source is read and compiled, the names are looked for, the further files are read.
-ghost use Rattle.std.specs.Prelude.{◌≡◌, ◌≢◌, ◌≤◌, Err, [], ◌∷◌, map, length, IfOk, IfErr, string_bytes};
+//! The steps before the work: the source is read and compiled, the names are looked for, their predicates suit the command,
+//! the further files are read.
+ghost use Rattle.std.specs.Prelude.{◌≡◌, ◌≢◌, ◌≤◌, ◌<◌, All, Err, List, [], ◌∷◌, map, length, IfOk, IfErr, string_bytes, true, false};
 ghost use Rattle.ln_base.specs.Outside.{Rose};
-ghost use Rattle.ln_tree.specs.Table.{pred_of};
+ghost use Rattle.ln_tree.specs.Table.{PredOf, pred_of};
 ghost use Rattle.ln_top.specs.Plan.{with_bytes};
 ghost use Rattle.ln_top.specs.Source.{view};
-ghost use Rattle.ln_top.specs.Steps.{Compiles, Each, Finds, Given, Prepares, Reads, Then, gives, most_source, most_file};
+ghost use Rattle.ln_top.specs.Suits.{Asks};
+ghost use Rattle.ln_top.specs.Steps.{Each, Finds, Given, Prepares, Reads, gives, most_file};
 ghost use Rattle.ln_top.specs.Carried.{Halts};
 ghost use Rattle.ln_top.specs.Target.{IsGivenBy};
 ghost use Rattle.ln_verify.specs.Accepted.{AreAccepted};
-ghost use Rattle.ln_top.specs.Ready.{HasNumbers, HasStanding, IsReady, IsSource, StandsFor};
+ghost use Rattle.ln_top.specs.Ready.{AreNumbered, HasNumbers, HasStanding, IsReady, StandsFor};
 
 use crate::source::compiled;
 use crate::stop::{Stop, Why};
 use crate::target::Target;
-use crate::words::Plan;
+use crate::words::{Command, Plan};
 use ln_base::{Files, NoMemory, ReadStop, read_whole};
 use ln_compile::Checked;
 use ln_tree::Table;
@@ -94,21 +96,21 @@ fn texts<F: Files>(alloc: Global, files: &mut F, names: &[String]) -> Result<Vec
     Ok(texts)
 }
 
-// The source file, which is accepted.
-fn source<F: Files>(alloc: Global, files: &mut F, name: &str) -> Result<Checked, Stop>
-    ensures told { F.told files.new ≡ F.told files.old }
-    ensures ok { IfOk result (λ c. IsSource (F.told files.old) name.now (view c.table)) }
-    ensures err { IfErr result (Halts (Then (Reads (F.told files.old) most_source name.now) Compiles)
-        (Rose (F.faults files.old) (F.faults files.new))) }
-    ensures quiet { result ≢ Err Stop.Read → F.faults files.new ≡ F.faults files.old }
+// Returns whether the named predicates suit the command.
+fn suits(command: Command, _c: &Checked, _numbers: &[usize]) -> bool
+    requires { All (λ i. i < length _c.now.table.preds) _numbers.now }
+    ensures yes { result ≡ true → (preds : List PredOf) → AreNumbered (map pred_of _c.now.table.preds) _numbers.now preds
+        → Asks command preds }
+    ensures no { result ≡ false → (preds : List PredOf) → AreNumbered (map pred_of _c.now.table.preds) _numbers.now preds
+        → Asks command preds → ⊥ }
 {
-    let bytes = match file(alloc, files, name, SOURCE_LIMIT) {
-        Ok(bytes) => bytes,
-        Err(stop) => return Err(stop),
-    };
-    match compiled(alloc, &bytes) {
-        Ok(compiled) => Ok(compiled),
-        Err(stop) => Err(stop),
+    match command {
+        Command::Check
+        | Command::Run
+        | Command::List
+        | Command::Emit
+        | Command::Verify
+        | Command::Gen(..) => true,
     }
 }
 
@@ -121,7 +123,11 @@ pub fn prepare<F: Files>(alloc: Global, files: &mut F, plan: Plan<'_>) -> Result
     ensures texts { IfOk result (λ r. length r.texts.items ≡ length plan.entry.files.now) }
     ensures quiet { result ≢ Err Stop.Read → F.faults files.new ≡ F.faults files.old }
 {
-    let compiled = match source(alloc, files, plan.source) {
+    let bytes = match file(alloc, files, plan.source, SOURCE_LIMIT) {
+        Ok(bytes) => bytes,
+        Err(stop) => return Err(stop),
+    };
+    let compiled = match compiled(alloc, &bytes) {
         Ok(compiled) => compiled,
         Err(stop) => return Err(stop),
     };
@@ -129,6 +135,9 @@ pub fn prepare<F: Files>(alloc: Global, files: &mut F, plan: Plan<'_>) -> Result
         Ok(numbers) => numbers,
         Err(stop) => return Err(stop),
     };
+    if !suits(plan.command, &compiled, &numbers) {
+        return Err(Stop::Tell(Why::Shape));
+    }
     match texts(alloc, files, plan.files) {
         Ok(texts) => Ok(Ready {
             compiled,
@@ -155,6 +164,15 @@ pub fn one_text(ready: &Ready) -> &[u8]
     ensures { (g : Given) → StandsFor ready.now g → g.texts ≡ result.now ∷ [] }
 {
     ready.texts.as_slice()[0].as_slice()
+}
+
+/// Returns the bytes of the two further files, in order.
+pub fn two_texts(ready: &Ready) -> (&[u8], &[u8])
+    requires two { length ready.now.texts.items ≡ 2 }
+    ensures { (g : Given) → StandsFor ready.now g → g.texts ≡ result.0.now ∷ result.1.now ∷ [] }
+{
+    let texts = ready.texts.as_slice();
+    (texts[0].as_slice(), texts[1].as_slice())
 }
 
 /// The one further file, which is within its limit.

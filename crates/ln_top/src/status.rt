@@ -19,6 +19,10 @@ pub enum End {
     Invalid,
     /// A file is over its limit.
     TooLong,
+    /// The arguments of the named predicates are not those that the command takes.
+    Shape,
+    /// There are too many records.
+    Many,
 }
 
 /// An early end.
@@ -55,10 +59,14 @@ pub enum Status {
     TooLong,
     /// 9: there was no memory.
     Memory,
+    /// 10: the arguments of the named predicates are not those that the command takes.
+    Shape,
+    /// 11: there are too many records.
+    Many,
 }
 
 impl Status {
-    /// The exit code, from 0 to 9.
+    /// The exit code, from 0 to 11.
     pub fn code(self) -> u8
         ensures { result ≡ code_of self }
     {
@@ -73,6 +81,8 @@ impl Status {
             Status::Write => 7,
             Status::TooLong => 8,
             Status::Memory => 9,
+            Status::Shape => 10,
+            Status::Many => 11,
         }
     }
 }
@@ -90,6 +100,8 @@ impl End {
             End::NoPredicate => Status::NoPredicate,
             End::Invalid => Status::Invalid,
             End::TooLong => Status::TooLong,
+            End::Shape => Status::Shape,
+            End::Many => Status::Many,
         }
     }
 }

@@ -30,6 +30,10 @@ pub enum Why {
     NoPredicate,
     /// The first record isn't the columns' names.
     Header,
+    /// The arguments of the named predicates are not those that the command takes.
+    Shape,
+    /// There are too many records.
+    Many,
 }
 
 /// Why a command stops.
@@ -54,6 +58,8 @@ impl Why {
             Why::Refused(..) => End::Refused,
             Why::NoPredicate => End::NoPredicate,
             Why::Header => End::Rows,
+            Why::Shape => End::Shape,
+            Why::Many => End::Many,
         }
     }
 }
@@ -114,6 +120,8 @@ pub fn say<C: Console>(alloc: Global, con: &mut C, stop: Stop) -> Result<End, Ea
         Stop::Tell(Why::TooLong) => put_line(con, stop, b"error long\n"),
         Stop::Tell(Why::NoPredicate) => put_line(con, stop, b"error predicate\n"),
         Stop::Tell(Why::Header) => put_line(con, stop, b"error header\n"),
+        Stop::Tell(Why::Shape) => put_line(con, stop, b"error shape\n"),
+        Stop::Tell(Why::Many) => put_line(con, stop, b"error many\n"),
         Stop::Tell(Why::Refused(r, place)) => match refusal_line(alloc, r, place) {
             Ok(text) => put_line(con, stop, &text),
             Err(_) => Err(Early::Memory),

@@ -1,18 +1,19 @@
 //! The top call: the words become a plan, the plan is prepared, and the work is done.
-ghost use Rattle.std.specs.Prelude.{◌≡◌, ◌≢◌, ◌⊎◌, [], map, string_bytes, IfSome, Some, None, Err};
-ghost use Rattle.ln_base.specs.Outside.{Rose, counted};
+ghost use Rattle.std.specs.Prelude.{◌≡◌, ◌≢◌, map, string_bytes, IfSome, Err};
+ghost use Rattle.ln_base.specs.Outside.{Rose};
 ghost use Rattle.ln_top.specs.Answer.{Answer, IsMissing, Part, PlanOwes, PlanPart, PlanLacks};
-ghost use Rattle.ln_top.specs.Carried.{CarriesOut, LeavesFronts, LeavesPart, read_line};
-ghost use Rattle.ln_top.specs.Causes.{Answered, Ends, EndsAt, EndsExactly, ExactlyWhere, IsSettled, SaysLine};
+ghost use Rattle.ln_top.specs.Call.{Keeps, call};
+ghost use Rattle.ln_top.specs.Carried.{CarriesOut};
+ghost use Rattle.ln_top.specs.Causes.{IsSettled};
 ghost use Rattle.ln_top.specs.Emitted.{CallsArePerturbed};
 ghost use Rattle.ln_top.specs.Headline.{SignsArePerturbed};
 ghost use Rattle.ln_top.specs.Listed.{ListingGivesSigns};
-ghost use Rattle.ln_top.specs.Plan.{HasForm, plan_of, with_bytes};
+ghost use Rattle.ln_top.specs.Plan.{HasForm, with_bytes};
 ghost use Rattle.ln_top.specs.Ready.{IsReadyFor, StandsFor};
-ghost use Rattle.ln_top.specs.Said.{count, end_status, put_both};
+ghost use Rattle.ln_top.specs.Said.{count};
 ghost use Rattle.ln_top.specs.Steps.{Given};
 ghost use Rattle.ln_top.specs.Trusted.{ValidTellsSigns};
-ghost use Rattle.ln_top.specs.Work.{IsWorkEnd, WorkOwes, WorkPart};
+ghost use Rattle.ln_top.specs.Work.{WorkOwes, WorkPart};
 ghost use Rattle.ln_watch.specs.Panel.{states_of};
 
 use crate::prepare::{Ready, prepare};
@@ -101,7 +102,7 @@ fn carry_out<F: Files, C: Console>(
 /// of the seed, runs each as it is made and puts the watchers' lines on Out. `check`, `list`, `emit` and `verify` show them nothing.
 ///
 /// Each status has its cause, of which the first in the order of the steps decides: the words, the source file, the source, the
-/// names, the further files, the work. A failed put decides before all of them.
+/// names, what the command asks of their predicates, the further files, the work. A failed put decides before all of them.
 pub fn lnc<F: Files, C: Console>(
     alloc: Global,
     words: &[String],
@@ -109,51 +110,11 @@ pub fn lnc<F: Files, C: Console>(
     con: &mut C,
     watchers: Vec<Box<dyn Watch>>,
 ) -> Status
-    // What the words are owed over the files was answered, to the byte, whatever the counts of faults did. Files that tell nothing
-    // may hold anything.
-    ensures exact { IsSettled result → Answered
-        (Answer (map string_bytes words.now) (F.told files.old) (states_of kind_of tally_of watchers.items)) result
-        (C.shown con.old) (C.shown con.new) }
-    // Valid input is carried out, where neither count of faults rises and memory is there.
-    ensures complete { IfSome (F.told files.old) (λ shelf. Ends (map string_bytes words.now) (Some shelf) End.Done
-        → (Rose (F.faults files.old) (F.faults files.new) → ⊥) → (Rose (C.faults con.old) (C.faults con.new) → ⊥)
-        → (result ≡ Status.Done) ⊎ (result ≡ Status.Memory)) }
-    // Each status that says what was owed comes exactly where the steps end so; and the same for each one by its name.
-    ensures ends { IfSome (F.told files.old) (λ shelf. EndsExactly (map string_bytes words.now) shelf result
-        (Rose (F.faults files.old) (F.faults files.new)) (Rose (C.faults con.old) (C.faults con.new))) }
-    ensures done { EndsAt End.Done (map string_bytes words.now) (F.told files.old) result
-        (Rose (F.faults files.old) (F.faults files.new)) (Rose (C.faults con.old) (C.faults con.new)) }
-    ensures refused { EndsAt End.Refused (map string_bytes words.now) (F.told files.old) result
-        (Rose (F.faults files.old) (F.faults files.new)) (Rose (C.faults con.old) (C.faults con.new)) }
-    ensures usage { ExactlyWhere Status.Usage (plan_of (map string_bytes words.now) ≡ None) result
-        (Rose (F.faults files.old) (F.faults files.new)) (Rose (C.faults con.old) (C.faults con.new)) }
-    ensures rows { EndsAt End.Rows (map string_bytes words.now) (F.told files.old) result
-        (Rose (F.faults files.old) (F.faults files.new)) (Rose (C.faults con.old) (C.faults con.new)) }
-    ensures no_predicate { EndsAt End.NoPredicate (map string_bytes words.now) (F.told files.old) result
-        (Rose (F.faults files.old) (F.faults files.new)) (Rose (C.faults con.old) (C.faults con.new)) }
-    ensures invalid { EndsAt End.Invalid (map string_bytes words.now) (F.told files.old) result
-        (Rose (F.faults files.old) (F.faults files.new)) (Rose (C.faults con.old) (C.faults con.new)) }
-    ensures too_long { EndsAt End.TooLong (map string_bytes words.now) (F.told files.old) result
-        (Rose (F.faults files.old) (F.faults files.new)) (Rose (C.faults con.old) (C.faults con.new)) }
-    ensures read { result ≡ Status.Read
-        → Rose (F.faults files.old) (F.faults files.new) ⊎ IsMissing (map string_bytes words.now) (F.told files.old) }
-    ensures write { result ≡ Status.Write → Rose (C.faults con.old) (C.faults con.new) }
-    // A failed put decides: behind it nothing is put, so one fault was counted; and where no fault of writing is told, none was.
-    ensures once { result ≡ Status.Write → C.faults con.new ≡ counted (C.faults con.old) }
-    ensures calm { result ≢ Status.Write → C.faults con.new ≡ C.faults con.old }
-    // Where neither a fault of reading nor one of writing is told, no fault of reading was counted.
-    ensures quiet { result ≢ Status.Read → result ≢ Status.Write → F.faults files.new ≡ F.faults files.old }
-    // A fault of writing leaves the first bytes of what is owed on each port; or, where a file wasn't read, on Err those of the
-    // line that says so, and on Out nothing.
-    ensures fronts { result ≡ Status.Write → LeavesFronts
-        (Answer (map string_bytes words.now) (F.told files.old) (states_of kind_of tally_of watchers.items))
-        (Rose (F.faults files.old) (F.faults files.new) ⊎ IsMissing (map string_bytes words.now) (F.told files.old))
-        (C.shown con.old) (C.shown con.new) }
-    // Want of memory leaves nothing, or a part that the command names: in the work on rows, the whole lines of the first records.
-    ensures part { result ≡ Status.Memory → LeavesPart
-        (Answer (map string_bytes words.now) (F.told files.old) (states_of kind_of tally_of watchers.items))
-        (Part (map string_bytes words.now) (F.told files.old) (states_of kind_of tally_of watchers.items))
-        (C.shown con.old) (C.shown con.new) }
+    // The promises that hold for every command: the answer to the byte, the cause of each status, what a fault or an allocation that
+    // fails leaves.
+    ensures kept { Keeps (call (map string_bytes words.now) (F.told files.old) (states_of kind_of tally_of watchers.items)
+        (count (F.faults files.old) (F.faults files.new)) (count (C.faults con.old) (C.faults con.new)) result
+        (C.shown con.old) (C.shown con.new)) }
     // The headline: where records behind the right header were worked on to their end, there is one line for each, and that of
     // each that is a row in range begins with the perturbed sign of the predicate on it: the sign of the first coefficient that
     // isn't 0, in the order of infinitesimals by the row's own indices, of the predicate at perturbed inputs.
@@ -171,10 +132,6 @@ pub fn lnc<F: Files, C: Console>(
     // And any listing: where `verify` came to done, the listing has a part for each predicate, and on each row in its declared ranges
     // the machine of the part has a verdict, so no operation leaves its certified width; its sign is the perturbed sign.
     ensures trusted { IfSome (F.told files.old) (λ shelf. ValidTellsSigns (map string_bytes words.now) shelf result) }
-    // After a fault of reading its line stands alone, and so does that of each status that no work ends with; also where files
-    // tell nothing.
-    ensures unread { result ≡ Status.Read → C.shown con.new ≡ put_both [] read_line (C.shown con.old) }
-    ensures line { (e : End) → result ≡ end_status e → (IsWorkEnd e → ⊥) → SaysLine e (C.shown con.old) (C.shown con.new) }
 {
     status_of(carry_out(alloc, words, files, con, watchers))
 }

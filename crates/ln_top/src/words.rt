@@ -51,17 +51,13 @@ fn form(command: Command) -> Counts
     ensures small { result.most + result.files ≤ 16 }
     ensures ordered { result.least ≤ result.most }
 {
-    let (names, files) = match command {
-        Command::Check | Command::List | Command::Emit => (0, 0),
-        Command::Verify => (0, 1),
-        Command::Run => (1, 1),
-        Command::Gen(..) => (1, 0),
+    let (least, most, files) = match command {
+        Command::Check | Command::List | Command::Emit => (0, 0, 0),
+        Command::Verify => (0, 0, 1),
+        Command::Run => (1, 1, 1),
+        Command::Gen(..) => (1, 1, 0),
     };
-    Counts {
-        least: names,
-        most: names,
-        files,
-    }
+    Counts { least, most, files }
 }
 
 // This command where the word is its name, else the other.

@@ -40,7 +40,7 @@ use Rattle.ln_top.proofs.Gathering.LinesCarry.{IsByLines}
 -- what stands ready for this has these records
 pub has_records : (g : Given) (t : TargetOf) (rows : List ℕ) (records : Records) → IsGivenBy g t → g.texts ≡ rows ∷ []
     → records ≡ records_in rows → HasRecords g (pred_in t) t.names records
-has_records g t rows records h text r = record { pred = h.pred; columns = h.names; rows = rows; text = text; are = sym r }
+has_records g t rows records h text r = record { others = []; pred = h.pred; columns = h.names; rows = rows; text = text; are = sym r }
 
 -- the first record is the columns' names or not
 pub header_is : (names : List (List ℕ)) (old new : Records) (right : Bool) → (right ≡ true → old ≡ names ∷ new)
@@ -195,15 +195,20 @@ not_all p (f ∷ fs) after fields n = and_false (is_row p f) (all_good (is_row p
     and_false true b e = e
     and_false false b e = refl
 
-tells : (boxes : List State) (g : Given) (a : Said) → RunSaid boxes g a → RunEnds g a.end
-tells boxes g a (run.header p names records h x) = run.wrong p names records h x
-tells boxes g a (run.ran p names records out err z h x) = by_good (all_good (is_row p) records) refl
+-- records behind the right header end so
+pub ends_by : (p : PredOf) (names : List (List ℕ)) (records : Records) (g : Given) → HasRecords g p names (names ∷ records)
+    → RunEnds g (end_of (all_good (is_row p) records))
+ends_by p names records g h = by_good (all_good (is_row p) records) refl
   where
     by_good : (b : Bool) → all_good (is_row p) records ≡ b → RunEnds g (end_of b)
     by_good true e = run.done p names records h (all_are p records e)
     by_good false e =
         let s = some_is_none p records e in
         run.refused p names s.before s.after s.fields (subst (λ (rs : Records). HasRecords g p names (names ∷ rs)) s.stands h) s.none
+
+tells : (boxes : List State) (g : Given) (a : Said) → RunSaid boxes g a → RunEnds g a.end
+tells boxes g a (run.header p names records h x) = run.wrong p names records h x
+tells boxes g a (run.ran p names records out err z h x) = ends_by p names records g h
 
 -- two ways to see what is given are one
 pub same_pred : (g : Given) (p q : PredOf) (names others : List (List ℕ)) (rs ss : Records) → HasRecords g p names rs

@@ -12,10 +12,11 @@ use Rattle.ln_compile.proofs.Refusing.OneRefusal.{accepted_alone, refused_one}
 use Rattle.ln_top.specs.declared.stop.Why.{Why}
 use Rattle.ln_top.specs.declared.stop.Why.TheVariants.{Refused}
 use Rattle.ln_top.specs.declared.stop.Place.{Place}
+use Rattle.ln_top.specs.declared.words.Command.{Command}
 use Rattle.ln_top.specs.Plan.{Plan}
 use Rattle.ln_top.specs.Source.{IsRefusedAt, place_at}
 use Rattle.ln_top.specs.Steps.{Outcome, stops, missing, gives, Then, stopped, lacks, goes, Gives, Each, Reads, there, long, absent}
-use Rattle.ln_top.specs.Steps.{Compiles, accepted, refused, Finds, found, none, Prepares, most_source, most_file}
+use Rattle.ln_top.specs.Steps.{Compiles, accepted, refused, Finds, found, none, Suits, suited, unsuited, Prepares, most_source, most_file}
 
 -- a step comes to one thing
 abbrev pub One : {A : Type 0} → (Outcome A → Type 0) → Type 0
@@ -71,7 +72,7 @@ one_each step f (a ∷ rest) =
     one_then (step a) (λ b. Then (Each step rest) (λ bs. Gives (b ∷ bs))) (f a)
     (λ b. one_then (Each step rest) (λ bs. Gives (b ∷ bs)) (one_each step f rest) (λ bs. one_gives (b ∷ bs)))
 
-some_same : {A : Type 0} (a b : A) → Some a ≡ Some b → a ≡ b
+pub some_same : {A : Type 0} (a b : A) → Some a ≡ Some b → a ≡ b
 some_same a b e = ap (λ o. elim o [ Some x ↦ x | None ↦ a ]) e
 
 -- the told bytes of a file are one
@@ -111,14 +112,21 @@ one_finds preds name o p (found a e) (none f) = absurd (none-some a (sym f ∙ e
 one_finds preds name o p (none e) (found b f) = absurd (none-some b (sym e ∙ f))
 one_finds preds name o p (none e) (none f) = refl
 
+one_suits : (c : Command) (bytes : List ℕ) (preds : List PredOf) → One (Suits c bytes preds)
+one_suits c bytes preds o p (suited a) (suited b) = refl
+one_suits c bytes preds o p (suited a) (unsuited n) = absurd (n a)
+one_suits c bytes preds o p (unsuited n) (suited a) = absurd (n a)
+one_suits c bytes preds o p (unsuited n) (unsuited m) = refl
+
 -- the steps of a plan come to one thing over told files
 pub one_prepares : (plan : Plan) (shelf : Shelf) → One (Prepares plan (Some shelf))
 one_prepares plan shelf =
     one_then _ _ (one_reads shelf most_source plan.source) (λ bytes.
     one_then _ _ (one_compiles bytes) (λ table.
     one_then _ _ (one_each (Finds table.preds) (one_finds table.preds) plan.names) (λ preds.
+    one_then _ _ (one_suits plan.command bytes preds) (λ fine.
     one_then _ _ (one_each (Reads (Some shelf) most_file) (one_reads shelf most_file) plan.files) (λ texts.
-    one_gives (record { table = table; preds = preds; texts = texts })))))
+    one_gives (record { table = table; preds = preds; texts = texts }))))))
 
 -- values in front of what a list comes to
 abbrev pub before : {B : Type 0} → List B → Outcome (List B) → Outcome (List B)

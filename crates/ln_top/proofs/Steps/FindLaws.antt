@@ -56,7 +56,7 @@ number_named name ps i p e f =
     let test = λ (q : Pred). bytes_eq (name_bytes q.name) name in
     found_by test ps ∙ ap (slice_get ps) (sym (some_position test ps i e).0) ∙ f
 
-there_at : {A : Type 0} (xs : List A) (i : ℕ) → i < length xs → (x : A) × (slice_get xs i ≡ Some x)
+pub there_at : {A : Type 0} (xs : List A) (i : ℕ) → i < length xs → (x : A) × (slice_get xs i ≡ Some x)
 there_at [] i l = absurd (omega (arith, l))
 there_at (x ∷ xs) zero l = (x, refl)
 there_at (x ∷ xs) (suc i) l = there_at xs i (omega (arith, l))

@@ -66,7 +66,7 @@ grounded_as table preds texts bytes a f = record { table = a.table; is = a.is; s
 
 -- what the steps give is grounded
 pub grounded : (plan : Plan) (shelf : Shelf) (g : Given) → Prepares plan (Some shelf) (gives g) → IsGrounded g
-grounded plan shelf g (step.goes bytes r (step.goes table c (step.goes preds n (step.goes texts t h)))) =
+grounded plan shelf g (step.goes bytes r (step.goes table c (step.goes preds n (step.goes _ y (step.goes texts t h))))) =
     subst IsGrounded (sym (ap (value_or g) h)) (grounded_as table preds texts bytes (accepted_of bytes table c)
     (found_each table.preds plan.names preds n))
 
@@ -122,7 +122,7 @@ run_one boxes g i a b (run.header p names rs h x) (run.header q others ss k y) =
 run_one boxes g i a b (run.header p names rs h x) (run.ran q others ss out err z k y) = wrong_right g p q names others rs ss h x k
 run_one boxes g i a b (run.ran p names rs out err z h x) (run.header q others ss k y) = wrong_right g q p others names ss rs k y h
 run_one boxes g i a b (run.ran p names rs o e m h x) (run.ran r others ss out err z k y) =
-    let q = in_memory g r [] i k.pred in
+    let q = in_memory g r k.others i k.pred in
     run_same boxes q.0 p r names others rs ss o e out err m z q.1 (same_pred g p r names others (names ∷ rs) (others ∷ ss) h k)
     (same_names g p r names others (names ∷ rs) (others ∷ ss) h k)
     (tail_same (same_records g p r names others (names ∷ rs) (others ∷ ss) h k)) x y

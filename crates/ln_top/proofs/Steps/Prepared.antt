@@ -1,23 +1,24 @@
 -- The steps of a plan, taken one behind the other.
 use Rattle.std.proofs.Common.{◌≡◌, ◌⊎◌, inl, inr, ℕ, ◌+◌, ◌≤◌, ◌<◌, List, [], ◌∷◌, ◌++◌}
 use Rattle.std.proofs.Common.{length, map, drop, refl, ap, sym, ◌∙◌, subst, arith, Option, Some, None, get_or}
-use Rattle.std.specs.Prelude.{slice_get, slice_index_or, IfSome}
+use Rattle.std.specs.Prelude.{All, slice_get, slice_index_or, IfSome}
+use Rattle.std.proofs.lemmas.List.Elements.{All-nil, All-cons}
 use Rattle.std.proofs.lemmas.List.{drop_more, drop_all}
 use Rattle.ln_base.specs.Outside.{Shelf, bytes_of, IsAbsent, Rose}
 use Rattle.ln_tree.specs.declared.pred.Pred.{Pred}
 use Rattle.ln_tree.specs.Table.{PredOf, TableOf, pred_of}
 use Rattle.ln_compile.specs.Compiled.{number_of}
-use Rattle.ln_top.specs.declared.stop.Why.{Why}
 use Rattle.ln_top.specs.declared.stop.Why.TheVariants.{TooLong, NoPredicate}
 use Rattle.ln_top.specs.declared.stop.Stop.{Stop}
 use Rattle.ln_top.specs.declared.stop.Stop.TheVariants as stop
 use Rattle.ln_top.specs.declared.prepare.Ready.{Ready}
 use Rattle.ln_top.specs.Plan.{Plan}
 use Rattle.ln_top.specs.Source.{view}
+use Rattle.ln_top.specs.Suits.{Asks, objection}
 use Rattle.ln_top.specs.Steps.{Outcome, stops, missing, gives, Then, stopped, lacks, goes, Each, Reads, there, long, absent, Finds}
-use Rattle.ln_top.specs.Steps.{found, none, Compiles, Prepares, most_source, most_file}
+use Rattle.ln_top.specs.Steps.{found, none, Compiles, suited, unsuited, Prepares, most_source, most_file}
 use Rattle.ln_top.specs.Carried.{Halts, tells, unread, short}
-use Rattle.ln_top.specs.Ready.{AreNumbered, HasNumbers, IsReady, IsSource}
+use Rattle.ln_top.specs.Ready.{AreNumbered, HasNumbers, IsReady}
 use Rattle.ln_top.proofs.Steps.Chain.{Behind, behind_none, behind_more, behind_all}
 use Rattle.ln_top.proofs.Steps.FindLaws.{found_at, none_at, within_at, same_at}
 
@@ -136,56 +137,52 @@ map_behind {A = A} f xs ys x e = ap (map f) e ∙ go xs
     go [] = refl
     go (y ∷ rest) = ap (λ zs. f y ∷ zs) (go rest)
 
--- what stops the source, and a plan, step by step
-pub file_stops : (told : Option Shelf) (name : List ℕ) (r : Type 0) (s : Stop) → Halts (Reads told most_source name) r s
-    → Halts (Then (Reads told most_source name) Compiles) r s
-file_stops told name r s h = halts_first _ _ r r s h (λ x. x)
+-- what stops a plan, step by step
+pub file_stops : (plan : Plan) (told : Option Shelf) (r : Type 0) (s : Stop) → Halts (Reads told most_source plan.source) r s
+    → Halts (Prepares plan told) r s
+file_stops plan told r s h = halts_first _ _ r r s h (λ x. x)
 
-pub compiler_stops : (told : Option Shelf) (name bytes : List ℕ) (r : Type 0) (s : Stop)
-    → Reads told most_source name (gives bytes) → Halts (Compiles bytes) ⊥ s
-    → Halts (Then (Reads told most_source name) Compiles) r s
-compiler_stops told name bytes r s a h = halts_next _ _ bytes ⊥ r s a h (λ x. absurd x)
+pub compiler_stops : (plan : Plan) (told : Option Shelf) (bytes : List ℕ) (r : Type 0) (s : Stop)
+    → Reads told most_source plan.source (gives bytes) → Halts (Compiles bytes) ⊥ s → Halts (Prepares plan told) r s
+compiler_stops plan told bytes r s a h = halts_next _ _ bytes r r s a (halts_first _ _ ⊥ r s h (λ x. absurd x)) (λ x. x)
 
--- what the source comes to, the plan comes to
-source_why : (plan : Plan) (told : Option Shelf) (why : Why) → Then (Reads told most_source plan.source) Compiles (stops why)
-    → Prepares plan told (stops why)
-source_why plan told why (stopped w a) = stopped w a
-source_why plan told why (goes bytes a c) = goes bytes a (stopped why c)
-
-source_lacks : (plan : Plan) (told : Option Shelf) → Then (Reads told most_source plan.source) Compiles missing
-    → Prepares plan told missing
-source_lacks plan told (lacks a) = lacks a
-source_lacks plan told (goes bytes a c) = goes bytes a (lacks c)
-
-pub source_stops : (plan : Plan) (told : Option Shelf) (r : Type 0) (s : Stop)
-    → Halts (Then (Reads told most_source plan.source) Compiles) r s → Halts (Prepares plan told) r s
-source_stops plan told r s (tells why h) = tells why (source_why plan told why h)
-source_stops plan told r s (unread (inl u)) = unread (inl u)
-source_stops plan told r s (unread (inr h)) = unread (inr (source_lacks plan told h))
-source_stops plan told r s short = short
-
-pub names_stop : (plan : Plan) (told : Option Shelf) (table : TableOf) (r : Type 0) (s : Stop) → IsSource told plan.source table
+pub names_stop : (plan : Plan) (told : Option Shelf) (bytes : List ℕ) (table : TableOf) (r : Type 0) (s : Stop)
+    → Reads told most_source plan.source (gives bytes) → Compiles bytes (gives table)
     → Halts (Each (Finds table.preds) plan.names) ⊥ s → Halts (Prepares plan told) r s
-names_stop plan told table r s src h =
-    halts_next _ _ src.bytes r r s src.read (halts_next _ _ table r r s src.accepted (halts_first _ _ ⊥ r s h (λ x. absurd x))
-    (λ x. x)) (λ x. x)
+names_stop plan told bytes table r s a c h =
+    halts_next _ _ bytes r r s a (halts_next _ _ table r r s c (halts_first _ _ ⊥ r s h (λ x. absurd x)) (λ x. x)) (λ x. x)
 
-pub files_stop : (plan : Plan) (told : Option Shelf) (table : TableOf) (numbers : List ℕ) (r q : Type 0) (s : Stop)
-    → IsSource told plan.source table → HasNumbers table.preds plan.names numbers
+pub objects : (plan : Plan) (told : Option Shelf) (bytes : List ℕ) (table : TableOf) (preds : List PredOf) (r : Type 0)
+    → Reads told most_source plan.source (gives bytes) → Compiles bytes (gives table)
+    → Each (Finds table.preds) plan.names (gives preds) → (Asks plan.command preds → ⊥)
+    → Halts (Prepares plan told) r (stop.Tell (objection plan.command bytes preds))
+objects plan told bytes table preds r a c n o =
+    tells _ (goes bytes a (goes table c (goes preds n (stopped (objection plan.command bytes preds) (unsuited o)))))
+
+pub files_stop : (plan : Plan) (told : Option Shelf) (bytes : List ℕ) (table : TableOf) (preds : List PredOf) (r q : Type 0)
+    (s : Stop) → Reads told most_source plan.source (gives bytes) → Compiles bytes (gives table)
+    → Each (Finds table.preds) plan.names (gives preds) → Asks plan.command preds
     → Halts (Each (Reads told most_file) plan.files) r s → (r → q) → Halts (Prepares plan told) q s
-files_stop plan told table numbers r q s src n h f =
-    halts_next _ _ src.bytes q q s src.read (halts_next _ _ table q q s src.accepted
-    (halts_next _ _ n.preds q q s n.found (halts_first _ _ r q s h f) (λ x. x)) (λ x. x)) (λ x. x)
+files_stop plan told bytes table preds r q s a c n y h f =
+    halts_next _ _ bytes q q s a (halts_next _ _ table q q s c (halts_next _ _ preds q q s n (halts_next _ _ tt q q s (suited y)
+    (halts_first _ _ r q s h f) (λ x. x)) (λ x. x)) (λ x. x)) (λ x. x)
+
+-- the numbers are within
+pub numbers_within : (ps : List Pred) (is : List ℕ) (preds : List PredOf) → AreNumbered (map pred_of ps) is preds
+    → All (λ i. i < length ps) is
+numbers_within ps [] preds h = All-nil (λ i. i < length ps)
+numbers_within ps (i ∷ is) [] h = absurd h
+numbers_within ps (i ∷ is) (p ∷ preds) h = All-cons (λ i. i < length ps) i is (within_at ps i p h.0) (numbers_within ps is preds h.1)
 
 -- all is ready
-pub is_ready : (plan : Plan) (told : Option Shelf) (r : Ready) → IsSource told plan.source (view r.compiled.table)
-    → HasNumbers (map pred_of r.compiled.table.preds) plan.names r.numbers.items
+pub is_ready : (plan : Plan) (told : Option Shelf) (bytes : List ℕ) (r : Ready) → Reads told most_source plan.source (gives bytes)
+    → Compiles bytes (gives (view r.compiled.table))
+    → (n : HasNumbers (map pred_of r.compiled.table.preds) plan.names r.numbers.items) → Asks plan.command n.preds
     → Each (Reads told most_file) plan.files (gives (map (λ v. v.items) r.texts.items)) → IsReady plan told r
-is_ready plan told r src n t = record {
+is_ready plan told bytes r a c n y t = record {
   given = record { table = view r.compiled.table; preds = n.preds; texts = map (λ v. v.items) r.texts.items };
-  prepared =
-      goes src.bytes src.read (goes (view r.compiled.table) src.accepted
-      (goes n.preds n.found (goes (map (λ v. v.items) r.texts.items) t refl)));
+  prepared = goes bytes a (goes (view r.compiled.table) c (goes n.preds n.found (goes tt (suited y)
+      (goes (map (λ v. v.items) r.texts.items) t refl))));
   stands = record { table = refl; numbered = n.numbered; texts = refl };
 }
 
@@ -195,6 +192,14 @@ pub one_text : {A : Type 0} (f : A → List ℕ) (xs : List A) (x : A) → lengt
 one_text f [] x l e = absurd (omega (arith, l))
 one_text f (y ∷ []) x l e = ap (λ z. f z ∷ []) (sym e)
 one_text f (y ∷ z ∷ rest) x l e = absurd (omega (arith, l))
+
+-- two of them
+pub two_texts : {A : Type 0} (f : A → List ℕ) (xs : List A) (x y : A) → length xs ≡ 2 → x ≡ get_or xs 0 x → y ≡ get_or xs 1 y
+    → map f xs ≡ f x ∷ f y ∷ []
+two_texts f [] x y l e g = absurd (omega (arith, l))
+two_texts f (z ∷ []) x y l e g = absurd (omega (arith, l))
+two_texts f (z ∷ w ∷ []) x y l e g = ap (λ a. f a ∷ f w ∷ []) (sym e) ∙ ap (λ b. f x ∷ f b ∷ []) (sym g)
+two_texts f (z ∷ w ∷ v ∷ rest) x y l e g = absurd (omega (arith, l))
 
 -- the one number is within, and is that of the one predicate
 pub one_within : (ps : List Pred) (numbers : List ℕ) (preds : List PredOf) → AreNumbered (map pred_of ps) numbers preds

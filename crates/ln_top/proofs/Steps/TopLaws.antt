@@ -21,6 +21,7 @@ use Rattle.ln_top.specs.declared.words.Command.TheVariants as command
 use Rattle.ln_top.specs.Said.{Said, Count, Rises, IsCalm, put_both, end_status, status_of}
 use Rattle.ln_top.specs.Stop.{why_end}
 use Rattle.ln_top.specs.Plan.{Plan, plan_of}
+use Rattle.ln_top.specs.Suits.{objection}
 use Rattle.ln_top.specs.Steps as step
 use Rattle.ln_top.specs.Steps.{Outcome, stops, missing, gives, Given, Prepares, Each, Finds, Reads, most_file}
 use Rattle.ln_top.specs.Carried as c
@@ -28,6 +29,7 @@ use Rattle.ln_top.specs.Carried.{CarriesOut, Halts, Says, LeavesFronts, LeavesPa
 use Rattle.ln_top.specs.Work.{WorkOwes, WorkPart, WorkEnds, IsLawful, IsWorkEnd}
 use Rattle.ln_top.specs.Work as kind_of
 use Rattle.ln_top.specs.Answer.{PlanOwes, stopped, worked, PlanPart, PlanLacks, Answer, usage, planned, Part, IsMissing}
+use Rattle.ln_top.specs.Call.{HasRisen, Keeps, call}
 use Rattle.ln_top.specs.Causes as cause
 use Rattle.ln_top.specs.Causes.{SaysLine, IsSettled, Answered, Ends, Yields, ExactlyWhere, EndsExactly}
 use Rattle.ln_top.proofs.Steps.Carry.{lift, says_carried, told_carried}
@@ -144,9 +146,14 @@ by_cause words told e (cause.refused p bytes r place f a h i) =
 by_cause words told e (cause.no_predicate p table h n i) =
     subst (EndsBy words told) (sym i) (stopped_by p NoPredicate h.form
     (step.goes h.bytes h.read (step.goes table h.accepted (step.stopped NoPredicate n))))
-by_cause words told e (cause.long_file p table preds h n l i) =
+by_cause words told e (cause.unsuited p table preds h n o i) =
+    subst (EndsBy words told) (sym i) (stopped_by p (objection p.command h.bytes preds) h.form
+    (step.goes h.bytes h.read (step.goes table h.accepted (step.goes preds n
+    (step.stopped (objection p.command h.bytes preds) (step.unsuited o))))))
+by_cause words told e (cause.long_file p table preds h n y l i) =
     subst (EndsBy words told) (sym i) (stopped_by p TooLong h.form
-    (step.goes h.bytes h.read (step.goes table h.accepted (step.goes preds n (step.stopped TooLong l)))))
+    (step.goes h.bytes h.read (step.goes table h.accepted (step.goes preds n (step.goes tt (step.suited y)
+    (step.stopped TooLong l))))))
 by_cause words told e (cause.worked p g f x h) = worked_by p g e f x h
 
 stop_cause : (words : List (List ℕ)) (told : Option Shelf) (p : Plan) → plan_of words ≡ Some p → (why : Why)
@@ -157,11 +164,14 @@ stop_cause words told p e why (step.goes bytes r (step.goes table c (step.stoppe
     let is = only_no_predicate table.preds p.names w h in
     cause.no_predicate p table (record { form = e; bytes = bytes; read = r; accepted = c })
     (subst (λ v. Each (Finds table.preds) p.names (stops v)) is h) (ap why_end is)
-stop_cause words told p e why (step.goes bytes r (step.goes table c (step.goes preds n (step.stopped w h)))) =
+stop_cause words told p e why (step.goes bytes r (step.goes table c (step.goes preds n (step.stopped w (step.unsuited o))))) =
+    cause.unsuited p table preds (record { form = e; bytes = bytes; read = r; accepted = c }) n o refl
+stop_cause words told p e why (step.goes bytes r (step.goes table c (step.goes preds n (step.goes _ (step.suited y) (step.stopped w h))))) =
     let is = only_too_long told p.files w h in
-    cause.long_file p table preds (record { form = e; bytes = bytes; read = r; accepted = c }) n
+    cause.long_file p table preds (record { form = e; bytes = bytes; read = r; accepted = c }) n y
     (subst (λ v. Each (Reads told most_file) p.files (stops v)) is h) (ap why_end is)
-stop_cause words told p e why (step.goes bytes r (step.goes table c (step.goes preds n (step.goes texts t h)))) = stops_gives h
+stop_cause words told p e why (step.goes bytes r (step.goes table c (step.goes preds n (step.goes _ y (step.goes texts t h))))) =
+    stops_gives h
 
 -- what is owed ends as the steps end
 pub ends_so : (words : List (List ℕ)) (told : Option Shelf) (boxes : List State) (a : Said) → Answer words told boxes a
@@ -212,6 +222,8 @@ back status.Rows = Ok end.Rows
 back status.NoPredicate = Ok end.NoPredicate
 back status.Invalid = Ok end.Invalid
 back status.TooLong = Ok end.TooLong
+back status.Shape = Ok end.Shape
+back status.Many = Ok end.Many
 back status.Read = Err early.Read
 back status.Write = Err early.Write
 back status.Memory = Err early.Memory
@@ -224,6 +236,8 @@ back_and_forth (Ok end.Rows) = refl
 back_and_forth (Ok end.NoPredicate) = refl
 back_and_forth (Ok end.Invalid) = refl
 back_and_forth (Ok end.TooLong) = refl
+back_and_forth (Ok end.Shape) = refl
+back_and_forth (Ok end.Many) = refl
 back_and_forth (Err early.Read) = refl
 back_and_forth (Err early.Write) = refl
 back_and_forth (Err early.Memory) = refl
@@ -288,14 +302,6 @@ pub exactly_told : (words : List (List ℕ)) (told : Option Shelf) (boxes : List
     → IfSome told (λ shelf. EndsExactly words shelf result reads (Rose puts.before puts.after))
 exactly_told words None boxes reads puts r result was now e h = tt
 exactly_told words (Some shelf) boxes reads puts r result was now e h = exactly words shelf boxes reads puts r result was now e h
-
--- the same for one end
-pub exactly_at : (k : End) (words : List (List ℕ)) (told : Option Shelf) (boxes : List State) (reads : Type 0) (puts : Count)
-    (r : Result End Early) (result : Status) (was now : Option Shown) → result ≡ status_of r
-    → Carried words told boxes reads puts r was now
-    → IfSome told (λ shelf. ExactlyWhere (end_status k) (Ends words (Some shelf) k) result reads (Rose puts.before puts.after))
-exactly_at k words None boxes reads puts r result was now e h = tt
-exactly_at k words (Some shelf) boxes reads puts r result was now e h = exactly words shelf boxes reads puts r result was now e h k
 
 -- a fault of reading has its cause, and its line stands alone
 early_same : {a b : Early} → (let q : Result End Early = Err a in q ≡ Err b) → a ≡ b
@@ -429,6 +435,8 @@ IsOther end.Rows = Unit {0}
 IsOther end.NoPredicate = Unit {0}
 IsOther end.Invalid = Unit {0}
 IsOther end.TooLong = Unit {0}
+IsOther end.Shape = Unit {0}
+IsOther end.Many = Unit {0}
 
 usage_other : {e : End} → e ≡ end.Usage → IsOther e → ⊥
 usage_other i h = subst IsOther i h
@@ -441,13 +449,19 @@ not_work P h = absurd (no_usage h refl)
     no_usage kind_of.done i = usage_other i tt
     no_usage kind_of.rows i = usage_other i tt
     no_usage kind_of.invalid i = usage_other i tt
+    no_usage kind_of.many i = usage_other i tt
+
+-- no command objects with the usage
+no_objection : (c : Command) (bytes : List ℕ) (preds : List PredOf) → why_end (objection c bytes preds) ≡ end.Usage → ⊥
+no_objection c bytes preds i = usage_other i tt
 
 usage_cause : (words : List (List ℕ)) (told : Option Shelf) (e : End) → e ≡ end.Usage → Ends words told e → plan_of words ≡ None
 usage_cause words told e i (cause.usage f j) = f
 usage_cause words told e i (cause.long_source p f h j) = absurd (usage_other (sym j ∙ i) tt)
 usage_cause words told e i (cause.refused p bytes r place f a h j) = absurd (usage_other (sym j ∙ i) tt)
 usage_cause words told e i (cause.no_predicate p table h n j) = absurd (usage_other (sym j ∙ i) tt)
-usage_cause words told e i (cause.long_file p table preds h n l j) = absurd (usage_other (sym j ∙ i) tt)
+usage_cause words told e i (cause.unsuited p table preds h n o j) = absurd (no_objection p.command h.bytes preds (sym j ∙ i))
+usage_cause words told e i (cause.long_file p table preds h n y l j) = absurd (usage_other (sym j ∙ i) tt)
 usage_cause words told e i (cause.worked p g f x h) = not_work (plan_of words ≡ None) (subst IsWorkEnd i ((lawful p.command).kind g e h))
 
 usage_alone : (words : List (List ℕ)) (told : Option Shelf) (boxes : List State) (a : Said) → plan_of words ≡ None
@@ -477,3 +491,23 @@ usage_where words told boxes reads puts r result was now e h = record {
     comes (c.unread q (inr m) x s) n = absurd (none-some m.plan (sym n ∙ m.form))
     comes (c.cut p l x) n = inr (inr (inr (e ∙ ap status_of x, counted_rose puts p)))
     comes (c.short q l x) n = inr (inl (e ∙ ap status_of x))
+
+-- All that a call keeps.
+pub keeps : (words : List (List ℕ)) (told : Option Shelf) (boxes : List State) (reads puts : Count) (r : Result End Early)
+    (result : Status) (was now : Option Shown) → result ≡ status_of r
+    → Carried words told boxes (HasRisen reads) puts r was now
+    → (r ≢ Err early.Read → r ≢ Err early.Write → IsCalm reads) → Keeps (call words told boxes reads puts result was now)
+keeps words told boxes reads puts r result was now e h q =
+    let ends = exactly_told words told boxes (HasRisen reads) puts r result was now e h in
+    record {
+      exact = exact words told boxes (HasRisen reads) puts r result was now e h;
+      ends = ends;
+      usage = usage_where words told boxes (HasRisen reads) puts r result was now e h;
+      complete = complete words told result (HasRisen reads) (HasRisen puts) ends;
+      line = says_line words told boxes (HasRisen reads) puts r result was now e h;
+      read = read_cause words told boxes (HasRisen reads) puts r result was now e h;
+      write = write_cause words told boxes (HasRisen reads) puts r result was now e h;
+      memory = memory_leaves words told boxes (HasRisen reads) puts r result was now e h;
+      calm = calm words told boxes (HasRisen reads) puts r result was now e h;
+      quiet = λ n m. q (λ i. n (e ∙ ap status_of i)) (λ i. m (e ∙ ap status_of i));
+    }

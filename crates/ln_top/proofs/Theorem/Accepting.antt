@@ -9,8 +9,8 @@ use Rattle.ln_poly.specs.Sparse.{terms_of}
 use Rattle.ln_compile.specs.Accepted.{AreSound, IsSound}
 use Rattle.ln_verify.specs.Accepted.{AreAccepted, IsAccepted}
 use Rattle.ln_top.specs.declared.prepare.Ready.{Ready}
-use Rattle.ln_top.specs.declared.words.Command.{Command}
-use Rattle.ln_top.specs.Plan.{Plan, form}
+use Rattle.ln_top.specs.Plan.{HasForm, Plan, form}
+use Rattle.ln_top.specs.Suits.{Asks}
 use Rattle.ln_top.specs.Steps as step
 use Rattle.ln_top.specs.Steps.{gives, Given, Prepares, Each, Reads, most_file}
 use Rattle.ln_top.specs.Ready.{AreShort, HasStanding, IsReady, IsReadyFor}
@@ -50,15 +50,20 @@ pub record IsFine (g : Given) : Type 0 where
   pub sound : AreSound g.table.preds
   pub short : AreShort g.texts
 
-pub fine : (plan : Plan) (told : Option Shelf) (g : Given) → Prepares plan told (gives g) → IsFine g
-fine plan told g (step.goes bytes r (step.goes table c (step.goes preds n (step.goes texts t h)))) =
+fine : (plan : Plan) (told : Option Shelf) (g : Given) → Prepares plan told (gives g) → IsFine g
+fine plan told g (step.goes bytes r (step.goes table c (step.goes preds n (step.goes _ y (step.goes texts t h))))) =
     subst IsFine (sym (ap (value_or g) h)) (record {
       sound = (accepted_of bytes table c).accepted.sound;
       short = short_each told plan.files texts t;
     })
 
+-- and suits the command
+asked : (plan : Plan) (told : Option Shelf) (g : Given) → Prepares plan told (gives g) → Asks plan.command g.preds
+asked plan told g (step.goes bytes r (step.goes table c (step.goes preds n (step.goes _ (step.suited y) (step.goes texts t h))))) =
+    subst (λ (k : Given). Asks plan.command k.preds) (sym (ap (value_or g) h)) y
+
 -- so what is ready has its standing
-pub standing : (plan : Plan) (told : Option Shelf) (r : Ready) → IsReady plan told r → HasStanding r
+standing : (plan : Plan) (told : Option Shelf) (r : Ready) → IsReady plan told r → HasStanding r
 standing plan told r h =
     let f : IsFine h.given = fine plan told h.given h.prepared in
     record {
@@ -72,15 +77,17 @@ standing plan told r h =
 pub one_short : (texts : List (List ℕ)) (bytes : List ℕ) → texts ≡ bytes ∷ [] → AreShort texts → length bytes ≤ most_file
 one_short texts bytes e h = (subst AreShort e h).0
 
--- and it is as much as the command takes
-pub ready_for : (k : Command) (r : Ready) (n m : ℕ) → HasStanding r → (form k).least ≤ n → n ≤ (form k).most
-    → m ≡ (form k).files → length r.numbers.items ≡ n → length r.texts.items ≡ m → IsReadyFor k r
-ready_for k r n m s least most_ files a b = record {
-  stands = s;
+-- and it is as much as the command takes, and suits it
+pub ready_for : (plan : Plan) (told : Option Shelf) (r : Ready) → IsReady plan told r → HasForm plan
+    → length r.numbers.items ≡ length plan.names → length r.texts.items ≡ length plan.files → IsReadyFor plan.command r
+unfolding standing
+ready_for plan told r h f a b = record {
+  stands = standing plan told r h;
   fit =
       record {
-        least = subst (λ (x : ℕ). (form k).least ≤ x) (sym a) least;
-        most = subst (λ (x : ℕ). x ≤ (form k).most) (sym a) most_;
-        files = b ∙ files;
+        least = subst (λ (x : ℕ). (form plan.command).least ≤ x) (sym a) f.least;
+        most = subst (λ (x : ℕ). x ≤ (form plan.command).most) (sym a) f.most;
+        files = b ∙ f.files;
       };
+  suited = asked plan told h.given h.prepared;
 }

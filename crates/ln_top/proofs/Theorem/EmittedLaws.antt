@@ -49,7 +49,7 @@ said_named bytes ts before t (PredItem n args ls root ∷ is) (p ∷ ps) h =
 
 -- so it is of what the steps give
 pub names_given : (plan : Plan) (shelf : Shelf) (g : Given) → Prepares plan (Some shelf) (gives g) → AreNamed g.table.preds
-names_given plan shelf g (step.goes bytes r (step.goes table c (step.goes preds n (step.goes texts t h)))) =
+names_given plan shelf g (step.goes bytes r (step.goes table c (step.goes preds n (step.goes _ y (step.goes texts t h))))) =
     let text = (accepted_of bytes table c).accepted.text in
     subst (λ (k : Given). AreNamed k.table.preds) (sym (ap (value_or g) h))
     (said_named bytes text.tokens [] table text.items table.preds text.says.preds_are)

@@ -161,8 +161,8 @@ found_sound name [] p s f = absurd (none-some p f)
 found_sound name (x ∷ ps) p s f =
     sound_if (λ q. bytes_eq q.name name) p x ps (bytes_eq x.name name) refl s.0 (found_sound name ps p s.1) f
 
-head_sound : (g : Given) (p : PredOf) → IsGrounded g → g.preds ≡ p ∷ [] → IsSound p
-head_sound g p h e = let found = subst (AreFound g.table.preds) e h.found in found_sound found.0.0 g.table.preds p h.sound found.0.1
+head_sound : (g : Given) (p : PredOf) (others : List PredOf) → IsGrounded g → g.preds ≡ p ∷ others → IsSound p
+head_sound g p others h e = let found = subst (AreFound g.table.preds) e h.found in found_sound found.0.0 g.table.preds p h.sound found.0.1
 
 -- lines of a predicate in memory have the perturbed signs
 signs_of : (boxes : List State) (q : Pred) (p : PredOf) (names : List (List ℕ)) (records : Records) (out err : List ℕ)
@@ -186,14 +186,14 @@ run_signs : (boxes : List State) (g : Given) (p : PredOf) (names : List (List �
     → now ≡ put_both a.out a.err was → PutSigns p records boxes was now
 run_signs boxes g p names records a was now i (run.header q others ss h x) k e = wrong_right g q p others names ss records h x k
 run_signs boxes g p names records a was now i (run.ran r others ss out err z h x) k e =
-    let q = in_memory g p [] i k.pred in
+    let q = in_memory g p k.others i k.pred in
     let x1 = subst (λ t. Lines (RunStep t others) (watching 0 boxes) ss out err z)
     (same_pred g r p others names (others ∷ ss) (names ∷ records) h k) x in
     let x2 = subst (λ (ns : List (List ℕ)). Lines (RunStep p ns) (watching 0 boxes) ss out err z)
     (same_names g r p others names (others ∷ ss) (names ∷ records) h k) x1 in
     let x3 = subst (λ (zs : Records). Lines (RunStep p names) (watching 0 boxes) zs out err z)
     (tail_same (same_records g r p others names (others ∷ ss) (names ∷ records) h k)) x2 in
-    signs_of boxes q.0 p names records out err z was now q.1 (head_sound g p i k.pred)
+    signs_of boxes q.0 p names records out err z was now q.1 (head_sound g p k.others i k.pred)
     (columns_no_feed g q.0 p names i.table i.is q.1 k.columns) x3 e
 
 -- what is owed has the perturbed signs

@@ -2,7 +2,7 @@ use Rattle.std.proofs.Common.{sym, ◌∙◌}
 use Rattle.std.specs.Prelude.{string_bytes}
 use Rattle.std.proofs.lemmas.List.{length-map}
 use Rattle.ln_top.specs.Plan.{with_bytes}
-use Rattle.ln_top.proofs.Theorem.Accepting.{ready_for, standing}
+use Rattle.ln_top.proofs.Theorem.Accepting.{ready_for}
 use Rattle.ln_top.proofs.Steps.TopLaws.{work_carried, stop_carried, says_read, err_same}
 use Rattle.ln_top.proofs.top.carry_plan.Goals as goal
 
@@ -21,7 +21,6 @@ returns-in-Err-clause-quiet g c n m =
 
 pub work-requires : goal.work-requires
 work-requires g c =
-    ready_for c.args.plan.command c.in-Ok.ready _ _ (standing (with_bytes c.args.plan)
-    (g.F.Files.told c.args.files.now) c.in-Ok.ready c.in-Ok.ensures.ok) c.requires.least c.requires.most c.requires.files
+    ready_for (with_bytes c.args.plan) (g.F.Files.told c.args.files.now) c.in-Ok.ready c.in-Ok.ensures.ok c.requires
     (c.in-Ok.ensures.numbers ∙ sym (length-map c.args.plan.names.now string_bytes))
     (c.in-Ok.ensures.texts ∙ sym (length-map c.args.plan.files.now string_bytes))

@@ -1,0 +1,14 @@
+-- What a command asks of its named predicates together, after the names are found and before the further files are read.
+use Rattle.std.specs.Prelude.{ℕ, List}
+use Rattle.ln_tree.specs.Table.{PredOf}
+use Rattle.ln_top.specs.declared.stop.Why.{Why}
+use Rattle.ln_top.specs.declared.stop.Why.TheVariants.{Shape}
+use Rattle.ln_top.specs.declared.words.Command.{Command}
+
+-- what it asks: a line for each command that asks something, and one for all others
+abbrev pub Asks : Command → List PredOf → Type 0
+Asks c preds = Unit {0}
+
+-- how it stops where they don't suit it; a place in the source is told by the source's bytes
+abbrev pub objection : Command → List ℕ → List PredOf → Why
+objection c bytes preds = Shape
