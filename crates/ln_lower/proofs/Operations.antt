@@ -5,4 +5,5 @@ pub mod Keeping
 pub mod Lets
 pub mod Writes
 pub mod Costs
+pub mod Coding
 pub mod Sealed

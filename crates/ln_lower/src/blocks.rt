@@ -10,10 +10,11 @@ ghost use Rattle.ln_bound.specs.Typed.{cost, costs, pair, polynomial, untyped};
 ghost use Rattle.ln_bound.specs.Sound.{AreSound, Sound};
 ghost use Rattle.ln_bound.specs.View.{typed};
 ghost use Rattle.ln_code.specs.Rules.{Known};
-ghost use Rattle.ln_code.specs.Part.{block_value, known_of};
+ghost use Rattle.ln_code.specs.Part.{block_value, known_of, lines_of};
 ghost use Rattle.ln_code.specs.Kept.{AreOfSites, FollowsRules, IsBlock};
 ghost use Rattle.ln_code.specs.Nodes.{IsNodeOf};
 ghost use Rattle.ln_lower.specs.Nodes.{KeepsLets, PushNodes, pushed_by};
+ghost use Rattle.ln_lower.specs.StackCode.{IsCodeOf};
 ghost use Rattle.ln_lower.specs.Lowered.{factors, line, op_of, power_of, PowersFit};
 ghost use Rattle.ln_lower.specs.declared.distinct.Key.{Key};
 ghost use Rattle.ln_lower.specs.Distinct.{AllStand, Stands, kind_of};
@@ -287,9 +288,10 @@ fn finished(a: &Exps, draft: Draft) -> Result<Block, NoMemory>
 /// The block of a tree with its lets, which computes the derivative of these exponents. The exponents are of coordinates of
 /// sites; there are at most 64 lets, each sound over the variables and the lets before it, and the tree is sound over all.
 ///
-/// On every row in range the block has the tree's value. What its operations push are polynomials of nodes of the tree and its
-/// lets, a power with the lower powers on its way, and the value that is left has the root's polynomial and a pair within the root's;
-/// each sum, difference, product and negation has its node's width. It has at most four times as many operations as the costs of
+/// On every row in range the block has the tree's value. Its operations are the stack code of the lets and of the tree, and no other:
+/// each comes from one node and carries that node's range, within a power that of the lower power. What they push are polynomials of
+/// nodes of the tree and its lets, a power with the lower powers on its way, and the value that is left has the root's polynomial and a
+/// pair within the root's; each sum, difference, product and negation has its node's width. It has at most four times as many operations as the costs of
 /// tree and lets together, and 64 more. A let is kept in the local of its number; local 64 serves powers;
 /// locals 65 to 255 hold shared subtrees: of equal subtrees that are used at two or more places the first is computed, and the
 /// later ones are taken from its local. Numbers, variables and names of lets are put anew.
@@ -314,6 +316,7 @@ pub fn lower(
         normal_coefficient k.tree m ≡ polynomial (map typed lets.now) (typed t.now) m) }
     ensures nodes { IfOk result (λ b. PushNodes (IsNodeOf (map typed lets.now) (typed t.now)) (pushed_by s.now.vars b)) }
     ensures locals { IfOk result (λ b. KeepsLets s.now.vars b (map typed lets.now)) }
+    ensures code { IfOk result (λ b. IsCodeOf (map typed lets.now) (typed t.now) (lines_of b.ops b.pairs)) }
     ensures small { IfOk result (λ b. length b.ops ≤ 4 * (cost (typed t.now) + costs (map typed lets.now)) + 64) }
 {
     let draft = written(alloc, lets.as_slice(), t)?;

@@ -27,8 +27,10 @@ use Rattle.ln_lower.specs.Nodes.{PushNodes, pushed_by, HasPolynomial, KeepsLets}
 use Rattle.ln_lower.specs.declared.distinct.Key.{Key}
 use Rattle.ln_lower.specs.Lowered.{nothing, ops_in, pairs_in, PowersFit}
 use Rattle.ln_lower.specs.Written.{Written, LetsWritten}
+use Rattle.ln_lower.specs.StackCode.{IsCodeOf}
 use Rattle.ln_lower.specs.Wrote.{Puts, PutsLets}
 use Rattle.ln_code.proofs.Following.Same.{Same}
+use Rattle.ln_lower.proofs.Operations.Coding.{block_coded}
 use Rattle.ln_lower.proofs.Operations.Costs.{tree_cost, lets_cost, stores_append, tree_stores, lets_store}
 use Rattle.ln_lower.proofs.Operations.Lets.{block_lands}
 use Rattle.ln_lower.proofs.Operations.Lands.{LetKnown, LetsKnown}
@@ -96,6 +98,7 @@ pub record IsLowered (vars : List VarInfo) (code : Code) (t : Typed) (lets : Lis
   pub same : Same top.tree (inlined (inlined_after [] (map untyped lets)) (untyped t))
   pub each : PushNodes (IsNodeOf lets t) (pushed_by vars code)
   pub locals : KeepsLets vars code lets
+  pub lines : IsCodeOf lets t (lines_of code.ops code.pairs)
   pub few : length code.ops ≤ 4 * (cost t + costs lets) + 64
 
 lowered_is : (vars : List VarInfo) (code : Code) (ks : List Key) (t : Typed) (lets : List Typed) (first last : List (Line Range)) (kept new : List ℕ) (spare : ℕ) → LetsWritten ks lets first kept → Written ks kept t last new spare → length lets ≤ 64 → AreSound vars [] lets → Sound vars lets t → code.depth ≡ 2048 →
@@ -119,6 +122,7 @@ lowered_is vars code ks t lets first last kept new spare h w few s r d o b =
       same = x.same;
       each = rw e x.each;
       locals = rw (e, x.ends) (lets_are_kept lets (inlined_after [] (map untyped lets)) (running lets) x.locals x.known);
+      lines = block_coded ks lets t (lines_of code.ops code.pairs) first last kept new spare h w e;
       few = omega (arith, n, la, tc, lc, few);
     }
 

@@ -253,7 +253,7 @@ all_more ks ls [] (t ∷ ts) e a = a
 all_more ks ls (n ∷ ns) [] e a = a
 all_more ks ls (n ∷ ns) (t ∷ ts) e a = (stands_more ks ls t n e a.0, all_more ks ls ns ts e a.1)
 
-all_last : (ks : List Key) (ns : List ℕ) (ts : List Typed) (n : ℕ) (t : Typed) → AllStand ks ns ts → Stands ks n t → AllStand ks (ns ++ (n ∷ [])) (ts ++ (t ∷ []))
+pub all_last : (ks : List Key) (ns : List ℕ) (ts : List Typed) (n : ℕ) (t : Typed) → AllStand ks ns ts → Stands ks n t → AllStand ks (ns ++ (n ∷ [])) (ts ++ (t ∷ []))
 all_last ks [] [] n t a s = (s, tt)
 all_last ks [] (u ∷ us) n t a s = absurd a
 all_last ks (m ∷ ms) [] n t a s = absurd a

@@ -71,3 +71,10 @@ returns-clause-small c =
     IfOk-weaker c.finished.result _ _ (λ b e.
     let x = sealed c.args.s.now.vars b d.0 (typed c.args.t.now) (map typed c.args.lets.now) d.1.mid c.in_ok-draft.draft (simp length-map c.requires.few) c.requires.lets c.requires.root (rw c.as_slice.ensures at d.1.lets) d.1.root (ap (λ (k : Code). k.ops) e) (ap (λ (k : Code). k.pairs) e) (ap (λ (k : Code). k.depth) e) in
     x.few) c.finished.ensures
+
+pub returns-clause-code : goal.returns-clause-code
+returns-clause-code c =
+    let d = c.in_ok-draft.ensures in
+    IfOk-weaker c.finished.result _ _ (λ b e.
+    let x = sealed c.args.s.now.vars b d.0 (typed c.args.t.now) (map typed c.args.lets.now) d.1.mid c.in_ok-draft.draft (simp length-map c.requires.few) c.requires.lets c.requires.root (rw c.as_slice.ensures at d.1.lets) d.1.root (ap (λ (k : Code). k.ops) e) (ap (λ (k : Code). k.pairs) e) (ap (λ (k : Code). k.depth) e) in
+    x.lines) c.finished.ensures
