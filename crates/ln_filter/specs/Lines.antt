@@ -12,7 +12,7 @@ use Rattle.ln_code.specs.declared.op.Op.TheVariants.{Sub as SubOp, Mul as MulOp,
 use Rattle.ln_code.specs.declared.op.Triple.{Triple}
 use Rattle.ln_code.specs.Engine.{Line}
 use Rattle.ln_code.specs.Kept.{no_triple}
-use Rattle.ln_filter.specs.Triples.{cut, excess, whole, leaf, sum_of, product_of, powered, triple}
+use Rattle.ln_filter.specs.Triples.{cut, excess, whole, leaf, sum_of, product_of, powered, triple, let_triples}
 
 abbrev pub line : Op → Triple → Line Triple
 line o a = record { op = o; bound = a }
@@ -80,3 +80,7 @@ abbrev pub let_lines : List VarInfo → ℕ → List Triple → List Tree → Li
 let_lines vars j done [] = []
 let_lines vars j done (t ∷ ts) =
     filter_lines vars done t ++ (line (Set j) no_triple ∷ let_lines vars (suc j) (done ++ triple vars done t ∷ []) ts)
+
+-- the operations of a predicate: those of its lets, each into the local of its number, then those of the sign expression
+abbrev pub all_lines : List VarInfo → List Tree → Tree → List (Line Triple)
+all_lines vars lets root = let_lines vars 0 [] lets ++ filter_lines vars (let_triples vars [] lets) root

@@ -5,9 +5,10 @@ ghost use Rattle.ln_tree.specs.Row.{AreWithin};
 ghost use Rattle.ln_bound.specs.Typed.{cost, costs, polynomial, untyped};
 ghost use Rattle.ln_bound.specs.View.{typed};
 ghost use Rattle.ln_code.specs.FilterRules.{FilterKnown};
-ghost use Rattle.ln_code.specs.Part.{filter_known_of, filter_value};
+ghost use Rattle.ln_code.specs.Part.{filter_known_of, filter_value, lines_of};
 ghost use Rattle.ln_code.specs.Kept.{FollowsFilterRules};
 ghost use Rattle.ln_code.specs.Nodes.{IsNodeOf};
+ghost use Rattle.ln_filter.specs.Lines.{all_lines};
 ghost use Rattle.ln_filter.specs.Nodes.{PushNodes, pushed_by};
 ghost use Rattle.ln_filter.specs.Planned.{IsPlan};
 ghost use Rattle.ln_filter.specs.Steady.{HasFilter};
@@ -42,7 +43,8 @@ fn written(alloc: Global, p: &FittedPred) -> Result<Option<FilterBlock>, NoMemor
 /// an exponent past 255. It is LN's first stage (Fortune and Van Wyk 1996) on truncated high bits in place of floating point.
 ///
 /// On every row in range it leaves the truncated number of the sign expression, whose error is the error of its triple; its
-/// polynomial is the predicate's. What its operations push are polynomials of nodes of the sign expression and its lets, a power
+/// polynomial is the predicate's. Its operations are those of the lets, each into the local of its number, then those of the sign
+/// expression, and each carries its node's triple. What they push are polynomials of nodes of the sign expression and its lets, a power
 /// with the lower powers on its way. It has at most eight times as many operations as the costs of lets and root together, and 64
 /// more. A let is kept in the local of its number; local 64 serves powers.
 pub fn plan(alloc: Global, p: &FittedPred) -> Result<Option<FilterBlock>, NoMemory>
@@ -53,6 +55,8 @@ pub fn plan(alloc: Global, p: &FittedPred) -> Result<Option<FilterBlock>, NoMemo
         k.triple ≡ root_triple p.now.shape.vars (map untyped (map typed p.now.lets)) (untyped (typed p.now.root)))) }
     ensures whole { IfOk result (λ o. IfSome o (λ f. (k : FilterKnown) → filter_known_of p.now.shape.vars f ≡ Some k →
         (m : List ℕ) → normal_coefficient k.tree m ≡ polynomial (map typed p.now.lets) (typed p.now.root) m)) }
+    ensures lines { IfOk result (λ o. IfSome o (λ f. lines_of f.ops f.triples ≡
+        all_lines p.now.shape.vars (map untyped (map typed p.now.lets)) (untyped (typed p.now.root)))) }
     ensures nodes { IfOk result (λ o. IfSome o (λ f. PushNodes (IsNodeOf (map typed p.now.lets) (typed p.now.root))
         (pushed_by p.now.shape.vars f))) }
     ensures value { IfOk result (λ o. IfSome o (λ f. (zs : List ℤ) → AreWithin p.now.shape.vars zs →

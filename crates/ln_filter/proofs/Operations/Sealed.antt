@@ -33,7 +33,7 @@ use Rattle.ln_filter.specs.Triples.{triple, let_triples}
 use Rattle.ln_filter.specs.Truncated.{let_numbers, root_triple, root_number}
 use Rattle.ln_filter.specs.Steady.{HasFilter}
 use Rattle.ln_filter.specs.Tried.{AreNarrow, AllNarrow, tried, lets_tried}
-use Rattle.ln_filter.specs.Lines.{filter_lines, let_lines}
+use Rattle.ln_filter.specs.Lines.{all_lines, filter_lines, let_lines}
 use Rattle.ln_filter.specs.Wrote.{Wrote, ops_in, triples_in}
 use Rattle.ln_filter.specs.Nodes.{PushNodes}
 use Rattle.ln_filter.specs.Planned.{IsPlanned, IsPlan}
@@ -74,19 +74,15 @@ ops_length : (lines : List (Line Triple)) → length (ops_in lines) ≡ length l
 ops_length [] = refl
 ops_length (x ∷ xs) = ap suc (ops_length xs)
 
--- the operations of a predicate
-abbrev pub all_lines : List VarInfo → List Typed → Typed → List (Line Triple)
-all_lines vars lets root = let_lines vars 0 [] (map untyped lets) ++ filter_lines vars (let_triples vars [] (map untyped lets)) (untyped root)
-
 -- by the rules
 record RootLands (vars : List VarInfo) (depth : ℕ) (lets : List Typed) (root : Typed) : Type 0 where
   top : FilterKnown
   locals : ℕ → Option FilterKnown
-  ends : run (filter_rules vars depth) (all_lines vars lets root) (record { stack = []; locals = no_locals }) ≡ Some (record { stack = top ∷ []; locals = locals })
+  ends : run (filter_rules vars depth) (all_lines vars (map untyped lets) (untyped root)) (record { stack = []; locals = no_locals }) ≡ Some (record { stack = top ∷ []; locals = locals })
   triple_is : top.triple ≡ root_triple vars (map untyped lets) (untyped root)
   same : Same top.tree (inlined (inlined_after [] (map untyped lets)) (untyped root))
   error : top.triple.e ≤ limit W64
-  each : PushNodes (IsNodeOf lets root) (pushes (filter_rules vars depth) (all_lines vars lets root) (record { stack = []; locals = no_locals }))
+  each : PushNodes (IsNodeOf lets root) (pushes (filter_rules vars depth) (all_lines vars (map untyped lets) (untyped root)) (record { stack = []; locals = no_locals }))
 
 root_lands : (vars : List VarInfo) (depth : ℕ) (lets : List Typed) (root : Typed) → 2048 ≤ depth → length lets ≤ 64 → AreSound vars [] lets → Sound vars lets root → HasFilter vars (map untyped lets) (untyped root) → AllNarrow vars (map untyped lets) → AreNarrow vars (untyped root) → RootLands vars depth lets root
 root_lands vars depth lets root d few s r f w n =
@@ -113,7 +109,7 @@ root_lands vars depth lets root d few s r f w n =
     }
 
 -- without any test
-root_leaves : (vars : List VarInfo) (zs : List ℤ) (lets : List Typed) (root : Typed) → AreWithin vars zs → length lets ≤ 64 → AreSound vars [] lets → Sound vars lets root → answer (loose zs) no_locals (all_lines vars lets root) ≡ Some (root_number vars zs (map untyped lets) (untyped root))
+root_leaves : (vars : List VarInfo) (zs : List ℤ) (lets : List Typed) (root : Typed) → AreWithin vars zs → length lets ≤ 64 → AreSound vars [] lets → Sound vars lets root → answer (loose zs) no_locals (all_lines vars (map untyped lets) (untyped root)) ≡ Some (root_number vars zs (map untyped lets) (untyped root))
 root_leaves vars zs lets root h few s r =
     let ls : List Tree = map untyped lets in
     let ts : List Triple = let_triples vars [] ls in
@@ -138,13 +134,13 @@ same_top : (vars : List VarInfo) (code : FilterCode) (top m : FilterKnown) → f
 same_top vars code top m p q = let e : Some m ≡ Some top = sym q ∙ p in cc
 
 value_is : (vars : List VarInfo) (zs : List ℤ) (code : FilterCode) (lets : List Typed) (root : Typed) → AreWithin vars zs → length lets ≤ 64 → AreSound vars [] lets → Sound vars lets root → FollowsFilterRules vars code → (x : RootLands vars code.depth lets root) →
-    lines_of code.ops code.triples ≡ all_lines vars lets root → filter_known_of vars code ≡ Some x.top → filter_value zs code ≡ Some (record { number = root_number vars zs (map untyped lets) (untyped root); error = (root_triple vars (map untyped lets) (untyped root)).e })
+    lines_of code.ops code.triples ≡ all_lines vars (map untyped lets) (untyped root) → filter_known_of vars code ≡ Some x.top → filter_value zs code ≡ Some (record { number = root_number vars zs (map untyped lets) (untyped root); error = (root_triple vars (map untyped lets) (untyped root)).e })
 value_is vars zs code lets root h few s r g x e k =
     let m = filters_mean vars zs code h g in
     let t : m.what ≡ x.top = same_top vars code x.top m.what k m.known in
     let err : m.left.error ≡ (root_triple vars (map untyped lets) (untyped root)).e = m.error ∙ ap (λ (y : FilterKnown). y.triple.e) t ∙ ap (λ (z : Triple). z.e) x.triple_is in
-    let p : answer (exact_filter zs) no_locals (all_lines vars lets root) ≡ Some m.left = rw e at m.answer in
-    let num : m.left.number ≡ root_number vars zs (map untyped lets) (untyped root) = number_is zs (all_lines vars lets root) m.left (root_number vars zs (map untyped lets) (untyped root)) p (root_leaves vars zs lets root h few s r) in
+    let p : answer (exact_filter zs) no_locals (all_lines vars (map untyped lets) (untyped root)) ≡ Some m.left = rw e at m.answer in
+    let num : m.left.number ≡ root_number vars zs (map untyped lets) (untyped root) = number_is zs (all_lines vars (map untyped lets) (untyped root)) m.left (root_number vars zs (map untyped lets) (untyped root)) p (root_leaves vars zs lets root h few s r) in
     m.answer ∙ ap Some (held_is m.left (root_number vars zs (map untyped lets) (untyped root)) (root_triple vars (map untyped lets) (untyped root)).e num err)
 
 pub record Sealed (vars : List VarInfo) (lets : List Typed) (root : Typed) (code : FilterCode) : Type 0 where
@@ -152,9 +148,9 @@ pub record Sealed (vars : List VarInfo) (lets : List Typed) (root : Typed) (code
   pub planned : IsPlanned vars lets root code
 
 filter_is : (vars : List VarInfo) (code : FilterCode) (lets : List Typed) (root : Typed) → length lets ≤ 64 → AreSound vars [] lets → Sound vars lets root → HasFilter vars (map untyped lets) (untyped root) → AllNarrow vars (map untyped lets) → AreNarrow vars (untyped root) →
-    code.depth ≡ 2048 → code.ops ≡ ops_in (all_lines vars lets root) → code.triples ≡ triples_in (all_lines vars lets root) → Sealed vars lets root code
+    code.depth ≡ 2048 → code.ops ≡ ops_in (all_lines vars (map untyped lets) (untyped root)) → code.triples ≡ triples_in (all_lines vars (map untyped lets) (untyped root)) → Sealed vars lets root code
 filter_is vars code lets root few s r f w n d o b =
-    let all : List (Line Triple) = all_lines vars lets root in
+    let all : List (Line Triple) = all_lines vars (map untyped lets) (untyped root) in
     let ls : List Tree = map untyped lets in
     let ts : List Triple = let_triples vars [] ls in
     let x = root_lands vars code.depth lets root (let h : 2048 ≤ code.depth = omega arith in h) few s r f w n in
@@ -173,6 +169,7 @@ filter_is vars code lets root few s r f w n d o b =
         rules = g;
         triple = λ m h. ap (λ (y : FilterKnown). y.triple) (same_top vars code x.top m k h) ∙ x.triple_is;
         whole = λ m h i. ap (λ (y : FilterKnown). normal_coefficient y.tree i) (same_top vars code x.top m k h) ∙ ap (λ (z : Series). z i) x.same.series;
+        lines = e;
         nodes = rw e x.each;
         value = λ zs h. value_is vars zs code lets root h few s r g x e k;
         small = omega (arith, l, lc, tc, parts);
@@ -188,9 +185,9 @@ sealed vars code lets root ts t a b c few s r lt rt w n o p v y eo eb d =
     let ls : List Tree = map untyped lets in
     let z : let_triples vars [] ls ≡ ts = (lets_tried_steady vars [] ls ts (sym lt)).is in
     let y' : Wrote b c (filter_lines vars (let_triples vars [] ls) (untyped root)) = rw z y in
-    let x : Wrote a c (all_lines vars lets root) = wrote_then a b c _ _ _ refl v y' in
-    let i : c.ops ≡ ops_in (all_lines vars lets root) = x.ops ∙ ap (λ l. l ++ ops_in (all_lines vars lets root)) o in
-    let j : c.triples ≡ triples_in (all_lines vars lets root) = x.triples ∙ ap (λ l. l ++ triples_in (all_lines vars lets root)) p in
+    let x : Wrote a c (all_lines vars (map untyped lets) (untyped root)) = wrote_then a b c _ _ _ refl v y' in
+    let i : c.ops ≡ ops_in (all_lines vars (map untyped lets) (untyped root)) = x.ops ∙ ap (λ l. l ++ ops_in (all_lines vars (map untyped lets) (untyped root))) o in
+    let j : c.triples ≡ triples_in (all_lines vars (map untyped lets) (untyped root)) = x.triples ∙ ap (λ l. l ++ triples_in (all_lines vars (map untyped lets) (untyped root))) p in
     filter_is vars code lets root few s r (has_filter vars ls (untyped root) ts t lt rt) w n d (eo ∙ i) (eb ∙ j)
 
 -- the same over what the code has

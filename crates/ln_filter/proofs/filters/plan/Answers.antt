@@ -16,6 +16,9 @@ returns-clause-triple c = IfOk-weaker c.written.result _ _ (λ o h. gives c.args
 pub returns-clause-whole : goal.returns-clause-whole
 returns-clause-whole c = IfOk-weaker c.written.result _ _ (λ o h. gives c.args.p.now.shape.vars (map typed c.args.p.now.lets) (typed c.args.p.now.root) _ (λ f g. g.whole) o h) c.written.ensures
 
+pub returns-clause-lines : goal.returns-clause-lines
+returns-clause-lines c = IfOk-weaker c.written.result _ _ (λ o h. gives c.args.p.now.shape.vars (map typed c.args.p.now.lets) (typed c.args.p.now.root) _ (λ f g. g.lines) o h) c.written.ensures
+
 pub returns-clause-value : goal.returns-clause-value
 returns-clause-value c = IfOk-weaker c.written.result _ _ (λ o h. gives c.args.p.now.shape.vars (map typed c.args.p.now.lets) (typed c.args.p.now.root) _ (λ f g. g.value) o h) c.written.ensures
 
