@@ -67,3 +67,7 @@ horner inner v (suc d) f = joined v (horner inner v d (divided v f)) (inner (fre
 abbrev pub nested : ℕ → ℕ → ℕ → List Term → Tree
 nested d zero v f = Num (total f)
 nested d (suc k) v f = horner (nested d k (suc v)) v d f
+
+-- the nested form of terms over n variables with exponents of at most 126
+abbrev pub nested_form : ℕ → List Term → Tree
+nested_form n f = nested 126 n 0 f

@@ -13,7 +13,7 @@ ghost use Rattle.ln_bound.specs.Ranges.{ranges};
 ghost use Rattle.ln_bound.specs.Value.{sizes};
 ghost use Rattle.ln_poly.specs.Sparse.{AreBelow, coefficient_at, terms_of};
 ghost use Rattle.ln_nest.specs.Lean.{AreLean, largest};
-ghost use Rattle.ln_nest.specs.Nested.{horner, is_number, nested};
+ghost use Rattle.ln_nest.specs.Nested.{horner, is_number, nested, nested_form};
 ghost use Rattle.ln_nest.specs.View.{Has, product_of, scale, terms_in};
 
 use crate::work::{Work, constant, parted, work_of};
@@ -110,7 +110,7 @@ fn by_powers(
     Ok(sum)
 }
 
-/// A tree with the polynomial f, whose terms have a degree of at most 126, in nested form: by powers of the first variable,
+/// The nested form of the polynomial f, whose terms have a degree of at most 126, as a tree: by powers of the first variable,
 /// each factor of them by powers of the next. Each range is exactly its operation over the operands' ranges, of a variable
 /// the declared one; each width is the least that fits it and is no narrower than an operand. Each range is within `-W .. W`,
 /// W being the sum of f's absolute factors, each times its monomial at the largest absolute values of the variables, and at
@@ -122,6 +122,7 @@ pub fn nest(alloc: Global, f: &Poly, s: &Shape) -> Result<Fitted, NoMemory>
     requires small { weighted_sum (sizes s.now.vars) (terms_of (length s.now.vars) f.now) ≤ most }
     ensures same { IfOk result (λ t. (m : List ℕ) → length m ≡ length s.now.vars →
         polynomial [] (typed t) m ≡ coefficient_at (length s.now.vars) f.now m) }
+    ensures form { IfOk result (λ t. untyped (typed t) ≡ nested_form (length s.now.vars) (terms_of (length s.now.vars) f.now)) }
     ensures sound { IfOk result (λ t. Sound s.now.vars [] (typed t)) }
     ensures exact { IfOk result (λ t. IsExact s.now.vars [] (typed t)) }
     ensures within { IfOk result (λ t. AreWithinPairs (weighted_sum (sizes s.now.vars) (terms_of (length s.now.vars) f.now)) (typed t)) }

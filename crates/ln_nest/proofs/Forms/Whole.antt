@@ -20,7 +20,7 @@ use Rattle.ln_bound.specs.Value.{sizes}
 use Rattle.ln_poly.specs.Sparse.{IsFactor, IsPoly, Sparse, coefficient_at, term_of, terms_of}
 use Rattle.ln_poly.proofs.TermLists.Products.{over-terms}
 use Rattle.ln_nest.specs.Lean.{AreLean, AreUnder, HasNoZero, largest}
-use Rattle.ln_nest.specs.Nested.{exponent_of, divided, free_of, joined, horner, nested}
+use Rattle.ln_nest.specs.Nested.{exponent_of, divided, free_of, joined, horner, nested, nested_form}
 use Rattle.ln_nest.specs.declared.work.Work.{Work}
 use Rattle.ln_nest.specs.View.{Has, scale, terms_in}
 use Rattle.ln_nest.proofs.Terms.Parts.{AllFit}
@@ -108,6 +108,10 @@ coefficient-is n f m = refl
 -- the tree of a polynomial over n variables, with degrees of at most d
 abbrev pub tree_of : ℕ → ℕ → Sparse → Tree
 tree_of d n f = nested d (n - 0) 0 (terms_of n f)
+
+-- it is the nested form
+pub whole_form : (n : ℕ) (f : Sparse) (t : Typed) → untyped t ≡ tree_of 126 n f → untyped t ≡ nested_form n (terms_of n f)
+whole_form n f t h = let e : n - 0 ≡ n = omega arith in subst (λ k. untyped t ≡ nested 126 k 0 (terms_of n f)) e h
 
 -- the tree has the polynomial
 pub whole_same : (d n : ℕ) (f : Sparse) (t : Typed) → All (λ u. degree (vector n u.0) ≤ d) f → untyped t ≡ tree_of d n f → (m : List ℕ) → length m ≡ n → polynomial [] t m ≡ coefficient_at n f m
