@@ -3,5 +3,6 @@ pub mod AloudLemmas
 pub mod AlongLemmas
 pub mod Composition
 pub mod DueLemmas
+pub mod PlainLemmas
 pub mod SeveralLemmas
 pub mod UniqueLemmas

@@ -2,6 +2,7 @@
 pub mod Aloud
 pub mod Due
 pub mod DueLaw
+pub mod Plain
 pub mod Run
 pub mod Several
 pub mod Small

@@ -1,6 +1,7 @@
 //! What the verdict of a part is, in either order of infinitesimals: the perturbed sign.
 ghost use Rattle.ln_due.specs.DueLaw.{BlocksRun, CutLosesNothing, DueIsUnique, PlainBlocksCarryTheWhole};
 ghost use Rattle.ln_due.specs.DueLaw.{SignsArePerturbed, StagesAreCoefficients, VerdictsAreDue, WithoutParamsNeverZero};
+ghost use Rattle.ln_due.specs.Plain.{PlainValuesDecide, ZerosHaveTheValue};
 ghost use Rattle.ln_due.specs.Several.{SignsMultiply};
 
 /// In a part that carries an expression each block has, on every row in range, the perturbed coefficient at its stage; and the
@@ -34,6 +35,15 @@ pub fn verdicts_are_due()
 /// On it rests that a degenerate row is decided all the same, as long as the predicate has no params.
 pub fn without_params_never_zero()
     ensures { WithoutParamsNeverZero }
+{}
+
+/// Where the value of the expression on a row in range isn't 0, that value decides: the verdict that is due has its sign, and comes
+/// from the filter or from the first stage. It is the coefficient at the vector of zeros.
+///
+/// On it rests that only degenerate rows are decided by an infinitesimal.
+pub fn plain_values_decide()
+    ensures zeros { ZerosHaveTheValue }
+    ensures due { PlainValuesDecide }
 {}
 
 /// A row in range is owed at most one sign, by one decider, with one number of calls.

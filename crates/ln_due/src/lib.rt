@@ -16,7 +16,7 @@ pub mod run;
 
 pub use aloud::verdicts_are_told;
 pub use due::{
-    blocks_run, due_is_unique, signs_multiply, stages_are_coefficients, verdicts_are_due,
-    without_params_never_zero,
+    blocks_run, due_is_unique, plain_values_decide, signs_multiply, stages_are_coefficients,
+    verdicts_are_due, without_params_never_zero,
 };
 pub use run::run_is_due;

@@ -53,14 +53,14 @@ sign-agrees (negsuc n) v e h p m = negative v (m h (omega (arith, ints)))
 -- ---- a plain value that isn't 0 decides
 module _ (n : ℕ) (sites : Sites) (before : List ℕ → List ℕ → Type 0) (order : IsAdmissible n sites before) where
   -- no vector is earlier than that of zeros
-  none-earlier : (b : List ℕ) → IsOver n sites b → before b (zeros n) → ⊥
+  pub none-earlier : (b : List ℕ) → IsOver n sites b → before b (zeros n) → ⊥
   none-earlier b o l = by_case (order.zero_first b o) where
     by_case : (b ≡ zeros n) ⊎ before (zeros n) b → ⊥
     by_case (inl q) = order.irreflexive (zeros n) (subst (λ (c : List ℕ). before c (zeros n)) q l)
     by_case (inr k) = asymmetric n sites before order b (zeros n) l k
 
   -- so it is the first where its coefficient isn't 0
-  zeros-first : (x : ℕ → ℤ) (e : Tree) → perturbed sites x e (zeros n) ≢ pos 0 → IsFirstIn before n sites x e (zeros n)
+  pub zeros-first : (x : ℕ → ℤ) (e : Tree) → perturbed sites x e (zeros n) ≢ pos 0 → IsFirstIn before n sites x e (zeros n)
   zeros-first x e d = record {
     over = record { size = length-zeros n; of_sites = λ v h. zeros-get n v };
     small = degree-small sites x e (zeros n) d;

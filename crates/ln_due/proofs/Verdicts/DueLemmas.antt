@@ -44,7 +44,7 @@ later-after order [] after here a o i = o.0 a i
 later-after order (b ∷ front) after here a o i = later-after order front after here a o.1 i
 
 -- no member is earlier: the position is 0
-position-none : (order : List ℕ → List ℕ → Type 0) (list : List (List ℕ)) (a : List ℕ) → ((b : List ℕ) → In list b → order b a → ⊥) → IsPositionIn order list a 0
+pub position-none : (order : List ℕ → List ℕ → Type 0) (list : List (List ℕ)) (a : List ℕ) → ((b : List ℕ) → In list b → order b a → ⊥) → IsPositionIn order list a 0
 position-none order [] a h = refl
 position-none order (b ∷ list) a h = inr (h b (inl refl), position-none order list a (λ c i. h c (inr i)))
 

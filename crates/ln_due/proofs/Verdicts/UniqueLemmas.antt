@@ -39,7 +39,7 @@ sign-number-same Plus Zero e = cc
 sign-number-same Plus Plus e = refl
 
 -- a vector has one position
-position-unique : (before : List ℕ → List ℕ → Type 0) (list : List (List ℕ)) (a : List ℕ) (i j : ℕ) → IsPositionIn before list a i → IsPositionIn before list a j → i ≡ j
+pub position-unique : (before : List ℕ → List ℕ → Type 0) (list : List (List ℕ)) (a : List ℕ) (i j : ℕ) → IsPositionIn before list a i → IsPositionIn before list a j → i ≡ j
 position-unique before [] a i j h k = h ∙ sym k
 position-unique before (b ∷ list) a i j (inl h) (inl k) = h.1.2 ∙ ap (λ m. m + 1) (position-unique before list a h.1.0 k.1.0 h.1.1 k.1.1) ∙ sym k.1.2
 position-unique before (b ∷ list) a i j (inl h) (inr k) = absurd (k.0 h.0)

@@ -1,5 +1,6 @@
 use Rattle.ln_algebra.specs.Orders.{BySmallest}
 use Rattle.ln_due.proofs.Verdicts.Composition.{signs-perturbed, verdicts-due}
+use Rattle.ln_due.proofs.Verdicts.PlainLemmas.{plain-decides}
 use Rattle.ln_due.proofs.Verdicts.UniqueLemmas.{due-sign, due-unique, never-zero}
 use Rattle.ln_due.proofs.run.run_is_due.Goals as goal
 
@@ -17,3 +18,6 @@ returns-clause-never_zero c = never-zero BySmallest
 
 pub returns-clause-unique : goal.returns-clause-unique
 returns-clause-unique c = due-unique BySmallest
+
+pub returns-clause-plain : goal.returns-clause-plain
+returns-clause-plain c = plain-decides BySmallest
