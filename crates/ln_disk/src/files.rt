@@ -1,5 +1,5 @@
 //! Files on a disk.
-ghost use Rattle.std.specs.Prelude.{◌≡◌, ◌<◌, None, length, take, IfOk, OnOk};
+ghost use Rattle.std.specs.Prelude.{◌≡◌, ◌<◌, None, true, length, take, IfOk, OnOk};
 ghost use Rattle.std.specs.Io.{ReadsAtMost};
 ghost use Rattle.std.specs.Io.KnownBytes.{Consumes, IsAtEnd};
 ghost use Rattle.ln_disk.specs.Flow.{Passes};
@@ -21,9 +21,14 @@ struct Open<T> {
 }
 
 impl<T> Open<T> {
-    // Whether the next byte is that of this file at this place.
-    fn is_at(&self, name: &str, at: u64) -> bool {
-        self.at == at && self.name.get(..self.len) == Some(name.as_bytes())
+    // Whether the next byte is that of the file of this name at this place.
+    fn is_at(&self, name: &str, at: u64) -> bool
+        ensures { result ≡ true → (self.now.at ≡ at) × (take self.now.len self.now.name ≡ name.now) }
+    {
+        match self.name.get(..self.len) {
+            Some(own) if self.at == at => own == name.as_bytes(),
+            _ => false,
+        }
     }
 }
 
