@@ -45,26 +45,27 @@ impl From<NoMemory> for BoundStop {
 
 /// The ranges and sizes of all nodes of a predicate, in order of evaluation: its lets in order, then its root; in each the
 /// left operand, the right operand, the node. The ends of ranges and the sizes are at most `2^127 - 1` in absolute value.
-/// Contracts see the list.
+/// There is at least one, the root's. Contracts see the list.
 #[derive(Drop)]
 pub struct Weights {
     all: Seq<Measure>,
 }
 
 impl Model for Weights {
-    ghost use Rattle.std.specs.Prelude.{ℕ, List, map};
+    ghost use Rattle.std.specs.Prelude.{ℕ, ◌<◌, List, length, map};
     ghost use Rattle.ln_bound.specs.Measures.{seen};
     ghost use Rattle.ln_interval.specs.Range.{Range};
 
     ghost Value = { List (Range × ℕ) };
 
     ghost view = { λ w. map seen w.all };
+
+    ghost invariant = { λ w. 0 < length w.all };
 }
 
 impl Weights {
     /// The size of the root.
     pub fn root(&self) -> u128
-        requires { 0 < length self.now }
         ensures { result ≡ (slice_index_or self.now (length self.now - 1) (point (pos 0), 0)).1 }
     {
         let all = self.all.as_slice();

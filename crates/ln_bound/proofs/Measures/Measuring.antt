@@ -84,6 +84,11 @@ pub some_behind : (xs ys : List Seen) → 0 < length ys → 0 < length (xs ++ ys
 some_behind [] ys h = h
 some_behind (x ∷ xs) ys h = omega arith
 
+-- of these there are as many as there are measures
+pub some_seen : (ms : List Measure) → 0 < length (map seen ms) → 0 < length ms
+some_seen [] h = h
+some_seen (m ∷ ms) h = omega arith
+
 -- ---- variables
 ordered_here : (i : VarInfo) → has_range i ≡ true → i.lo ≤ℤ i.hi
 ordered_here i h = let e = (and_parts (not (int_lt i.hi i.lo)) _ h).0 in grind (arith, ints, e)

@@ -1,9 +1,9 @@
-use Rattle.std.proofs.Common.{map, ap}
+use Rattle.std.proofs.Common.{◌<◌, length, map, ap}
 use Rattle.std.proofs.lemmas.Result.{err_from_is_err_and}
 use Rattle.ln_tree.specs.Formula.{formula}
 use Rattle.ln_bound.specs.Loads.{measure_of, measured, node_measures}
 use Rattle.ln_bound.specs.Measures.{range_in, seen, size_in}
-use Rattle.ln_bound.proofs.Measures.Measuring.{ordered, pred_stops, some_behind, some_measured}
+use Rattle.ln_bound.proofs.Measures.Measuring.{ordered, pred_stops, some_behind, some_measured, some_seen}
 use Rattle.ln_bound.proofs.Measures.Nodes.{lets_stop_pred, pred_light, pred_nodes}
 use Rattle.ln_bound.proofs.weigh.weigh.Goals as goal
 
@@ -48,3 +48,12 @@ returns-clause-some c =
     let root = formula c.args.p.now.root in
     let by = measure_of vars (map range_in lets) (map size_in lets) in
     rw c.in_ok-weigh_in.ensures.nodes (some_behind (map seen c.weigh_lets.new.all) (node_measures (measured vars (map range_in lets) (map size_in lets) root)) (some_measured by root))
+
+pub invariant_of-result : goal.invariant_of-result
+invariant_of-result c =
+    let vars = c.as_slice-vars.result.now in
+    let lets = c.as_slice-2.result.now in
+    let root = formula c.args.p.now.root in
+    let by = measure_of vars (map range_in lets) (map size_in lets) in
+    let h : 0 < length (map seen c.weigh_in.new.all) = rw c.in_ok-weigh_in.ensures.nodes (some_behind (map seen c.weigh_lets.new.all) (node_measures (measured vars (map range_in lets) (map size_in lets) root)) (some_measured by root)) in
+    some_seen c.weigh_in.new.all h
