@@ -73,3 +73,8 @@ abbrev pub RowSignIsUnique : Type 0
 RowSignIsUnique =
     (rank : Rank) (s : Shape) (e : Tree) (row : Row) (y z : ℤ) → InRange s.sites s.vars row →
     RowSign rank s.vars e row y → RowSign rank s.vars e row z → y ≡ z
+
+-- and one there is
+abbrev pub RowSignExists : Type 0
+RowSignExists =
+    (rank : Rank) (s : Shape) (e : Tree) (row : Row) → InRange s.sites s.vars row → (y : ℤ) × RowSign rank s.vars e row y

@@ -23,4 +23,7 @@ pub use prefix::{
     all_prefixes, fronts_are_prefixes, fronts_follow, prefix_number, prefixes_are_all,
 };
 pub use rank::order_of;
-pub use rows::{row_sign_is_unique, rows_have_one_order, sites_differ, stages_are_those_of_rows};
+pub use rows::{
+    row_sign_exists, row_sign_is_unique, rows_have_one_order, sites_differ,
+    stages_are_those_of_rows,
+};

@@ -1,6 +1,6 @@
 //! Laws of rows: their order, their stages and their sign.
 ghost use Rattle.ln_order.specs.Rows.{OrderExists, OrderIsUnique, OrdersDiffer, RowFirstIsUnique};
-ghost use Rattle.ln_order.specs.Rows.{RowSignIsUnique, RowsDiffer, StagesAreThoseOfRows};
+ghost use Rattle.ln_order.specs.Rows.{RowSignExists, RowSignIsUnique, RowsDiffer, StagesAreThoseOfRows};
 
 /// Indices that differ have exactly one order.
 ///
@@ -31,4 +31,11 @@ pub fn stages_are_those_of_rows()
 pub fn row_sign_is_unique()
     ensures vector { RowFirstIsUnique }
     ensures sign { RowSignIsUnique }
+{}
+
+/// A row in range has a perturbed sign, in either order of infinitesimals.
+///
+/// On it rests that there is a right answer for each row in range: with the law before it, exactly one.
+pub fn row_sign_exists()
+    ensures { RowSignExists }
 {}

@@ -1,17 +1,19 @@
 -- A row in range: its indices differ, its stages are those of the order of its sites, and it has one sign.
-use Rattle.std.proofs.Common.{◌≡◌, ◌⊎◌, inl, inr, ℕ, ◌<◌, List, [], ◌∷◌, length, sym, arith, ℤ, pos, ◌≤ℤ◌, unsigned_abs, Option}
+use Rattle.std.proofs.Common.{◌≡◌, ◌⊎◌, inl, inr, ℕ, ◌<◌, List, [], ◌∷◌, length, refl, sym, arith, ℤ, pos, ◌≤ℤ◌, unsigned_abs, Option}
 use Rattle.std.specs.Prelude.{All, Some}
 use Rattle.std.proofs.lemmas.Bool.{cases_order}
 use Rattle.std.proofs.lemmas.Int.{ints}
 use Rattle.ln_algebra.proofs.Ordering.Admissible.{both-admissible}
+use Rattle.ln_algebra.proofs.Ordering.First.{first-or-zero}
 use Rattle.ln_algebra.proofs.Ordering.Unique.{first-unique-in, sign-unique-in}
 use Rattle.ln_algebra.specs.Earlier.{Earlier, IsOver, IsSortedIn, Sites}
 use Rattle.ln_algebra.specs.Orders.{Before, ByDegree, BySmallest, Rank}
+use Rattle.ln_algebra.specs.Sign.{IsFirstIn, IsSignIn, perturbed, sign_of}
 use Rattle.ln_algebra.specs.Stage.{IsStageIn, IsStageListIn}
 use Rattle.ln_algebra.specs.Tree.{Tree}
 use Rattle.ln_tree.specs.Row.{values}
 use Rattle.ln_order.specs.Order.{index_at}
-use Rattle.ln_order.specs.Rows.{OrdersDiffer, RowFirstIsUnique, RowSignIsUnique, RowsDiffer, StagesAreThoseOfRows}
+use Rattle.ln_order.specs.Rows.{OrdersDiffer, RowFirstIsUnique, RowSignExists, RowSignIsUnique, RowsDiffer, StagesAreThoseOfRows}
 use Rattle.ln_order.specs.Sites.{row_sites, site_of, sites_of}
 use Rattle.ln_order.proofs.Signs.RowsLemmas.{orders-rows}
 use Rattle.ln_order.proofs.Signs.SitesLemmas.{each-there, kept, place-one}
@@ -103,3 +105,17 @@ pub row_sign-unique : RowSignIsUnique
 row_sign-unique rank s e row y z r =
     let sites : Sites = row_sites s.vars row.index in
     sign-unique-in (length s.vars) sites (Before rank sites) (both-admissible rank (length s.vars) sites (rows-differ s row r)) (values row.values) e y z
+
+-- an expression has a sign in any order: that of the first coefficient that isn't 0, or 0 where all are
+sign-exists : (n : ℕ) (sites : Sites) (before : List ℕ → List ℕ → Type 0) (x : ℕ → ℤ) (e : Tree) →
+    ((a : List ℕ) × IsFirstIn before n sites x e a) ⊎ ((b : List ℕ) → IsOver n sites b → perturbed sites x e b ≡ pos 0) →
+    (y : ℤ) × IsSignIn before n sites x e y
+sign-exists n sites before x e (inl f) = (sign_of (perturbed sites x e f.0), inl (f.0, f.1, refl))
+sign-exists n sites before x e (inr all) = (pos 0, inr ((λ a f. f.nonzero (all a f.over)), refl))
+
+-- so a row in range has one
+pub row_sign-exists : RowSignExists
+row_sign-exists rank s e row r =
+    let sites : Sites = row_sites s.vars row.index in
+    sign-exists (length s.vars) sites (Before rank sites) (values row.values) e
+    (first-or-zero (length s.vars) sites (Before rank sites) (both-admissible rank (length s.vars) sites (rows-differ s row r)) (values row.values) e)
