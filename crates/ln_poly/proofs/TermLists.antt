@@ -5,3 +5,5 @@ pub mod Bounded
 pub mod Leaves
 pub mod Counting
 pub mod Negating
+pub mod Walks
+pub mod Turned

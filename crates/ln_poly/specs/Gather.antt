@@ -7,11 +7,11 @@ use Rattle.std.specs.declared.cmp.Ordering.{Ordering}
 use Rattle.ln_tree.specs.Exps.{Pairs, pairs_cmp, same_pairs}
 use Rattle.ln_poly.specs.Sparse.{Sparse, coefficient_at, exps_of, size_of}
 
--- the order of terms: by their exponents, and then by their factors
+-- the order of terms: by their monomials, and then by their factors
 abbrev pub term_cmp : Pairs × ℤ → Pairs × ℤ → Ordering
 term_cmp = then_cmp (on (λ (t : Pairs × ℤ). t.0) pairs_cmp) (on (λ (t : Pairs × ℤ). t.1) int_cmp)
 
--- the exponents rise as lists of pairs, so no two terms have the same
+-- the monomials rise in their lexicographic order, so no two terms have the same
 abbrev pub AreSorted : Sparse → Type 0
 AreSorted f = IsStrictlySortedBy (on (λ t. t.0) pairs_cmp) f
 

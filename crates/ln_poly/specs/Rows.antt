@@ -16,12 +16,26 @@ cell_at n m s t = if same_vector (plus (vector n s.0) (vector n t.0)) m then s.1
 unfoldable pub row_at : ℕ → List ℕ → Pairs × ℤ → Sparse → ℤ
 row_at n m s g = sum_over (cell_at n m s) g
 
+-- x is the product of the terms s and t
+pub record IsProduct (x s t : Pairs × ℤ) : Type 0 where
+  pub exponents : (v : ℕ) → exponent v x.0 ≡ exponent v s.0 + exponent v t.0
+  pub rising : IsRising x.0
+  pub factor : x.1 ≡ s.1 *ℤ t.1
+
+-- each is the product of s with a term of g, in the order of g
+abbrev pub AreProducts : Pairs × ℤ → Sparse → Sparse → Type 0
+AreProducts s [] [] = Unit {0}
+AreProducts s [] (x ∷ xs) = ⊥
+AreProducts s (t ∷ g) [] = ⊥
+AreProducts s (t ∷ g) (x ∷ xs) = IsProduct x s t × AreProducts s g xs
+
 -- out is old with the products of s and the first i terms of g
 pub record IsRow (out old : Sparse) (s : Pairs × ℤ) (g : Sparse) (i : ℕ) : Type 0 where
   pub coefficients : (n : ℕ) (m : List ℕ) → coefficient_at n out m ≡ coefficient_at n old m +ℤ row_at n m s (take i g)
   pub size : size_of out ≤ size_of old + unsigned_abs s.1 * size_of (take i g)
   pub rising : AreRising old → AreRising out
   pub below : (k : ℕ) → IsAbove s.0 k → AreBelow k g → AreBelow k old → AreBelow k out
+  pub alone : old ≡ [] → AreProducts s (take i g) out
 
 -- out has the products of the first i terms of f with those of g
 pub record IsRows (out f g : Sparse) (i : ℕ) : Type 0 where

@@ -1,15 +1,15 @@
 //! Sums and products of polynomials.
-ghost use Rattle.std.specs.Prelude.{◌≡◌, ℕ, List, [], ◌∷◌, ◌+◌, ◌*◌, ◌<◌, ◌≤◌, ◌^◌, ◌++◌, ◌+ℤ◌, ◌-ℤ◌, ◌*ℤ◌, All, IfOk, OnOk, length, unsigned_abs};
+ghost use Rattle.std.specs.Prelude.{◌≡◌, ℕ, List, [], ◌∷◌, ◌+◌, ◌*◌, ◌<◌, ◌≤◌, ◌^◌, ◌++◌, ◌+ℤ◌, ◌-ℤ◌, ◌*ℤ◌, All, IfOk, OnOk, length, pos, unsigned_abs, ◌≢◌};
 ghost use Rattle.ln_algebra.specs.Coefficient.{product};
 ghost use Rattle.ln_tree.specs.Exps.{exponent};
 ghost use Rattle.ln_poly.specs.Sparse.{IsFactor, IsPoly, AreBelow, coefficient_at, negated, size_of};
 ghost use Rattle.ln_poly.specs.Rows.{IsProductPut, IsRow, IsRows, PowersFit};
 
-use crate::gather::{gather, push};
+use crate::gather::{merge, push};
 use crate::poly::Poly;
 use crate::sums::sum;
 use crate::times::times;
-use ln_base::NoMemory;
+use ln_base::{NoMemory, Seq};
 use ln_tree::Exps;
 use std::alloc::Global;
 
@@ -111,7 +111,21 @@ fn put_row(
     Ok(())
 }
 
-// The products of the terms of f with those of g, gathered.
+// The product of one term and a polynomial, whose terms stand in the order of those of g.
+fn walk(alloc: Global, s: &(Exps, i128), g: &[(Exps, i128)]) -> Result<Poly, NoMemory>
+    requires room { unsigned_abs s.now.1 * size_of g.now < 2 ^ 127 }
+    requires powers { PowersFit s.now g.now }
+    requires factor { s.now.1 ≢ pos 0 }
+    requires form { IsPoly g.now }
+    ensures row { IfOk result (λ h. IsRow h [] s.now g.now (length g.now)) }
+    ensures form { IfOk result IsPoly }
+{
+    let mut out = Vec::with_capacity(alloc, g.len())?;
+    put_row(alloc, &mut out, s, g)?;
+    Ok(Poly::seal(Seq::from_vec(out)))
+}
+
+// The products of the terms of f with those of g, row by row, with like terms collected.
 pub(crate) fn products(
     alloc: Global,
     f: &[(Exps, i128)],
@@ -119,13 +133,38 @@ pub(crate) fn products(
 ) -> Result<Poly, NoMemory>
     requires room { size_of f.now * size_of g.now < 2 ^ 127 }
     requires powers { All (λ s. PowersFit s g.now) f.now }
-    ensures { IfOk result (λ h. IsRows h f.now g.now (length f.now)) }
+    requires factors { All (λ s. IsFactor s.1) f.now }
+    requires form { IsPoly g.now }
+    ensures rows { IfOk result (λ h. IsRows h f.now g.now (length f.now)) }
+    ensures form { IfOk result IsPoly }
 {
+    if f.len() == 1 {
+        let s = &f[0];
+        let h = walk(alloc, s, g)?;
+        return Ok(h);
+    }
     let mut out = Vec::new(alloc);
     'rows: for s in f {
         put_row(alloc, &mut out, s, g)?;
     }
-    let h = gather(alloc, out)?;
+    let h = merge(alloc, out)?;
+    Ok(h)
+}
+
+// The product of two polynomials, with a row for each term of the one that has fewer.
+fn rows_of(alloc: Global, f: &Poly, g: &Poly) -> Result<Poly, NoMemory>
+    requires room { size_of f.now * size_of g.now < 2 ^ 127 }
+    requires powers { All (λ s. PowersFit s g.now) f.now }
+    ensures rows { IfOk result (λ h. IsRows h f.now g.now (length f.now)) }
+    ensures form { IfOk result IsPoly }
+{
+    let f = f.terms();
+    let g = g.terms();
+    if g.len() < f.len() {
+        let h = products(alloc, g, f)?;
+        return Ok(h);
+    }
+    let h = products(alloc, f, g)?;
     Ok(h)
 }
 
@@ -139,6 +178,6 @@ pub fn mul(alloc: Global, f: &Poly, g: &Poly) -> Result<Poly, NoMemory>
     ensures form { IfOk result IsPoly }
     ensures below { IfOk result (λ h. (n : ℕ) → AreBelow n f.now → AreBelow n g.now → AreBelow n h) }
 {
-    let h = products(alloc, f.terms(), g.terms())?;
+    let h = rows_of(alloc, f, g)?;
     Ok(h)
 }

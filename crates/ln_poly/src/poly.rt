@@ -8,7 +8,7 @@ use ln_tree::Exps;
 use std::alloc::Global;
 use std::marker::Model;
 
-/// A polynomial: its terms, sorted by their exponents as lists of pairs, distinct, with factors that aren't 0 and are
+/// A polynomial: its terms, in the lexicographic order of their monomials, distinct, with factors that aren't 0 and are
 /// within `2^127 - 1` in absolute value. Contracts see the list of terms, each its pairs and its factor.
 #[derive(Drop)]
 pub struct Poly {

@@ -2,7 +2,7 @@
 ghost use Rattle.std.specs.Prelude.{◌≡◌, ℕ, List, ◌+◌, ◌-◌, ◌*◌, ◌<◌, ◌≤◌, ◌^◌, ◌+ℤ◌, ◌↔◌};
 ghost use Rattle.std.specs.Prelude.{All, IfOk, IfSome, IfNone, IsTrue, drop, length, take};
 ghost use Rattle.ln_algebra.specs.Coefficient.{product};
-ghost use Rattle.ln_poly.specs.Sparse.{IsPoly, AreBelow, coefficient_at, size_of};
+ghost use Rattle.ln_poly.specs.Sparse.{IsFactor, IsPoly, AreBelow, coefficient_at, size_of};
 ghost use Rattle.ln_poly.specs.Rows.{IsRows, PowersFit};
 ghost use Rattle.ln_poly.specs.Within.{TakesMore};
 
@@ -48,6 +48,8 @@ fn with_rows(
 ) -> Result<Poly, NoMemory>
     requires room { size_of f.now * size_of g.now < 2 ^ 127 }
     requires powers { All (λ s. PowersFit s g.now) f.now }
+    requires factors { All (λ s. IsFactor s.1) f.now }
+    requires form { IsPoly g.now }
     requires order { i ≤ j }
     requires within { j ≤ length f.now }
     requires done { IsRows done f.now g.now i }
@@ -66,20 +68,12 @@ fn are_too_many(terms: usize, left: usize, width: usize, most: usize) -> bool
     terms.saturating_sub(most) > left.saturating_mul(width)
 }
 
-/// The product of two polynomials, where it has at most `most` terms; None where it has more.
-///
-/// The terms of f are multiplied 64 at a time. Each product of two terms that is still to come takes away at most one term of what
-/// there is; so None is answered as soon as there are more terms than `most` and those products. Beside the products of 64 terms of
-/// f, which are then collected, at most about half of all products of two terms are held at once. It takes the time of `mul`, and
-/// that of a sum for each 64 terms of f.
-pub fn mul_within(alloc: Global, f: &Poly, g: &Poly, most: usize) -> Result<Option<Poly>, NoMemory>
+// The product of two polynomials, with a row for each term of the first, where it has at most `most` terms.
+fn parts_of(alloc: Global, f: &Poly, g: &Poly, most: usize) -> Result<Option<Poly>, NoMemory>
     requires room { size_of f.now * size_of g.now < 2 ^ 127 }
     requires powers { All (λ s. PowersFit s g.now) f.now }
-    ensures coefficients { IfOk result (λ o. IfSome o (λ h. (n : ℕ) (m : List ℕ) → length m ≡ n →
-        coefficient_at n h m ≡ product (coefficient_at n f.now) (coefficient_at n g.now) m)) }
-    ensures size { IfOk result (λ o. IfSome o (λ h. size_of h ≤ size_of f.now * size_of g.now)) }
+    ensures rows { IfOk result (λ o. IfSome o (λ h. IsRows h f.now g.now (length f.now))) }
     ensures form { IfOk result (λ o. IfSome o IsPoly) }
-    ensures below { IfOk result (λ o. IfSome o (λ h. (n : ℕ) → AreBelow n f.now → AreBelow n g.now → AreBelow n h)) }
     ensures few { IfOk result (λ o. IfSome o (λ h. length h ≤ most)) }
     ensures none { IfOk result (λ o. IfNone o (TakesMore f.now g.now most)) }
 {
@@ -97,4 +91,42 @@ pub fn mul_within(alloc: Global, f: &Poly, g: &Poly, most: usize) -> Result<Opti
         }
     }
     Ok(Some(done))
+}
+
+// The same, with a row for each term of the one that has fewer.
+fn fewer_rows(alloc: Global, f: &Poly, g: &Poly, most: usize) -> Result<Option<Poly>, NoMemory>
+    requires room { size_of f.now * size_of g.now < 2 ^ 127 }
+    requires powers { All (λ s. PowersFit s g.now) f.now }
+    ensures rows { IfOk result (λ o. IfSome o (λ h. IsRows h f.now g.now (length f.now))) }
+    ensures form { IfOk result (λ o. IfSome o IsPoly) }
+    ensures few { IfOk result (λ o. IfSome o (λ h. length h ≤ most)) }
+    ensures none { IfOk result (λ o. IfNone o (TakesMore f.now g.now most)) }
+{
+    if g.terms().len() < f.terms().len() {
+        let h = parts_of(alloc, g, f, most)?;
+        return Ok(h);
+    }
+    let h = parts_of(alloc, f, g, most)?;
+    Ok(h)
+}
+
+/// The product of two polynomials, where it has at most `most` terms; None where it has more.
+///
+/// The terms of the polynomial with fewer are multiplied 64 at a time. Each product of two terms that is still to come takes away at
+/// most one term of what there is; so None is answered as soon as there are more terms than `most` and those products. Beside the
+/// products of 64 terms, which are then collected, at most about half of all products of two terms are held at once. It takes the time
+/// of `mul`, and that of a sum for each 64 terms.
+pub fn mul_within(alloc: Global, f: &Poly, g: &Poly, most: usize) -> Result<Option<Poly>, NoMemory>
+    requires room { size_of f.now * size_of g.now < 2 ^ 127 }
+    requires powers { All (λ s. PowersFit s g.now) f.now }
+    ensures coefficients { IfOk result (λ o. IfSome o (λ h. (n : ℕ) (m : List ℕ) → length m ≡ n →
+        coefficient_at n h m ≡ product (coefficient_at n f.now) (coefficient_at n g.now) m)) }
+    ensures size { IfOk result (λ o. IfSome o (λ h. size_of h ≤ size_of f.now * size_of g.now)) }
+    ensures form { IfOk result (λ o. IfSome o IsPoly) }
+    ensures below { IfOk result (λ o. IfSome o (λ h. (n : ℕ) → AreBelow n f.now → AreBelow n g.now → AreBelow n h)) }
+    ensures few { IfOk result (λ o. IfSome o (λ h. length h ≤ most)) }
+    ensures none { IfOk result (λ o. IfNone o (TakesMore f.now g.now most)) }
+{
+    let h = fewer_rows(alloc, f, g, most)?;
+    Ok(h)
 }

@@ -12,9 +12,8 @@ use mathlib.Core.Logic.{◌⊎◌, inl, inr}
 use Rattle.ln_algebra.proofs.Expanded.Normal.{same_vector-is}
 use Rattle.ln_algebra.specs.Terms.{IsCollected, Lacks}
 use Rattle.ln_algebra.specs.Vector.{same_vector}
-use Rattle.ln_tree.specs.Exps.{AllAbove, IsAbove, IsRising, Pairs, exponent, exponents_from, pairs_cmp, vector}
+use Rattle.ln_tree.specs.Exps.{AllAbove, IsAbove, IsRising, Pairs, exponent, exponents_from, pairs_cmp, pairs_cmp-total, vector}
 use Rattle.ln_poly.specs.Sparse.{AreBelow, AreRising, IsPoly, Sparse, terms_of}
-use Rattle.ln_poly.proofs.Sorting.Gathering.{pairs_cmp-total}
 use Rattle.ln_poly.proofs.Sorting.Merging.{above-none}
 
 -- ---- pairs with equal exponents

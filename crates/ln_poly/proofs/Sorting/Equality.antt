@@ -5,9 +5,9 @@ use Rattle.std.proofs.lemmas.Bool.{and_parts}
 use Rattle.std.proofs.lemmas.Cmp.{tied_itself, int_eq_equiv}
 use Rattle.std.specs.Ordering.{int_eq, is_eq}
 use lib.Pointwise.{pointwise}
-use Rattle.ln_tree.specs.Exps.{Pairs, same_pairs, same_pairs-is, same_pairs-ties}
+use Rattle.ln_tree.specs.Exps.{Pairs, pairs_cmp-total, same_pairs, same_pairs-is, same_pairs-ties}
 use Rattle.ln_poly.specs.Sparse.{Sparse}
-use Rattle.ln_poly.proofs.Sorting.Gathering.{pairs_cmp-total, int_eq-is}
+use Rattle.ln_poly.proofs.Sorting.Gathering.{int_eq-is}
 
 -- the test of one term
 abbrev pub same_term : Pairs × ℤ → Pairs × ℤ → Bool

@@ -6,15 +6,14 @@ use lib.Signed.{◌<ℤ◌}
 use Rattle.std.proofs.lemmas.List.{get_or-map, length-map, map_more, map-append}
 use Rattle.std.specs.List.{dedup, dedup_from, filter, All, AllByRecursion}
 use Rattle.std.specs.List.Sorted.{IsSorted, IsStrictlySortedBy}
-use Rattle.std.specs.Cmp.{IsTotalOrder}
 use Rattle.std.specs.Ordering.{int_cmp, int_eq, is_lt, on, ordering_then}
 use Rattle.std.specs.declared.cmp.Ordering.{Ordering}
 use Rattle.std.specs.declared.cmp.Ordering.TheVariants.{Less, Equal, Greater}
-use Rattle.std.proofs.lemmas.Cmp.{by_ranked, int_ranked, lists_total, nat_cmp_total, on_total, then_total}
+use Rattle.std.proofs.lemmas.Cmp.{by_ranked, int_ranked}
 use Rattle.std.proofs.lemmas.List.Elements.{All-cons, All-filter, All-nil}
 use Rattle.std.proofs.lemmas.List.Filters.{All-dedup}
 use Rattle.std.proofs.lemmas.List.Kept.{IsStrictlySortedBy-dedup, IsStrictlySortedBy-filter}
-use Rattle.ln_tree.specs.Exps.{Pairs, IsRising, pairs_cmp, same_pairs, same_pairs-ties}
+use Rattle.ln_tree.specs.Exps.{Pairs, IsRising, pairs_cmp, pairs_cmp-total, same_pairs, same_pairs-ties}
 use Rattle.ln_poly.specs.Sparse.{AreRising, IsFactor, IsPoly, Sparse, coefficient_at, exps_of, part_at, size_of}
 use Rattle.ln_poly.specs.Gather.{AreSorted, put_behind, put_exps, term_cmp, IsCollected}
 use Rattle.ln_poly.proofs.TermLists.Coefficients.{coefficient_at-cons, coefficient_at-more, part-zero, size-cons, size-more, size-next}
@@ -174,9 +173,6 @@ sorted-exps xs h = λ k d l r.
     let a : get_or (exps_of xs) (k + 1) d ≡ (get_or xs (k + 1) (d, pos 0)).0 = get_or-map (λ (z : Pairs × ℤ). z.0) xs (k + 1) (d, pos 0) d (omega arith) in
     let b : get_or (exps_of xs) k d ≡ (get_or xs k (d, pos 0)).0 = get_or-map (λ (z : Pairs × ℤ). z.0) xs k (d, pos 0) d (omega arith) in
     rw (a, b) (less-then (pairs_cmp (get_or xs (k + 1) (d, pos 0)).0 (get_or xs k (d, pos 0)).0) (int_cmp (get_or xs (k + 1) (d, pos 0)).1 (get_or xs k (d, pos 0)).1) (h k (d, pos 0) l (omega arith)))
-
-pub pairs_cmp-total : IsTotalOrder pairs_cmp
-pairs_cmp-total = lists_total (then_total (on_total (λ (p : ℕ × ℕ). p.0) nat_cmp_total) (on_total (λ (p : ℕ × ℕ). p.1) nat_cmp_total))
 
 strict-terms : (xs : Sparse) → IsStrictlySortedBy pairs_cmp (exps_of xs) → IsStrictlySortedBy (on (λ (t : Pairs × ℤ). t.0) pairs_cmp) xs
 unfolding IsStrictlySortedBy

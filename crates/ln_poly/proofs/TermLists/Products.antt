@@ -14,7 +14,7 @@ use Rattle.ln_algebra.proofs.Expanded.Expansion.{times, times_term}
 use Rattle.ln_algebra.proofs.Expanded.Product.{factor_at-times}
 use Rattle.ln_tree.specs.Exps.{IsAbove, IsRising, Pairs, exponent, exponents_from}
 use Rattle.ln_poly.specs.Sparse.{AreBelow, AreRising, Sparse, coefficient_at, part_at, size_of, term_of, terms_of}
-use Rattle.ln_poly.specs.Rows.{IsProductPut, IsRow, IsRows, PowersFit, cell_at, row_at}
+use Rattle.ln_poly.specs.Rows.{AreProducts, IsProduct, IsProductPut, IsRow, IsRows, PowersFit, cell_at, row_at}
 use Rattle.ln_poly.proofs.TermLists.Coefficients.{coefficient_at-nil, coefficient_at-push, item-small, size-more, size-nil, size-push, size-take}
 use Rattle.ln_poly.proofs.Sorting.Merging.{above-none, none-above}
 
@@ -56,7 +56,7 @@ unfolding row_at
 row_at-nil n m s = refl
 
 pub row-init : (old g : Sparse) (s : Pairs × ℤ) → IsRow old old s g 0
-row-init old g s = record { coefficients = λ n m. omega (arith, ints, row_at-nil n m s); size = omega (arith, size-nil); rising = λ r. r; below = λ k a b c. c }
+row-init old g s = record { coefficients = λ n m. omega (arith, ints, row_at-nil n m s); size = omega (arith, size-nil); rising = λ r. r; below = λ k a b c. c; alone = λ e. subst (AreProducts s []) (sym e) tt }
 
 abs-is : (s t : Pairs × ℤ) → unsigned_abs (s.1 *ℤ t.1) ≡ unsigned_abs s.1 * unsigned_abs t.1
 abs-is s t = unsigned_abs-mul s.1 t.1
@@ -70,6 +70,20 @@ put-rising out old s t p r = subst AreRising (sym p.put) (All-push (λ z. IsRisi
 put-below : (out old : Sparse) (s t : Pairs × ℤ) (k : ℕ) → IsProductPut out old s t → IsAbove s.0 k → IsAbove t.0 k → AreBelow k old → AreBelow k out
 put-below out old s t k p a b r = subst (AreBelow k) (sym p.put) (All-push (λ z. IsAbove z.0 k) old (p.exps, s.1 *ℤ t.1) r (none-above k p.exps p.rising (λ v l. omega (arith, p.exponents v, above-none k v s.0 a l, above-none k v t.0 b l))))
 
+-- one product more
+products-push : (s x t : Pairs × ℤ) (g xs : Sparse) → AreProducts s g xs → IsProduct x s t → AreProducts s (g ++ (t ∷ [])) (xs ++ (x ∷ []))
+products-push s x t [] [] a p = (p, tt)
+products-push s x t [] (y ∷ xs) a p = absurd a
+products-push s x t (u ∷ g) [] a p = absurd a
+products-push s x t (u ∷ g) (y ∷ xs) a p = (a.0, products-push s x t g xs a.1 p)
+
+alone-step : (out out' g : Sparse) (s t : Pairs × ℤ) (i : ℕ) → i < length g → t ≡ get_or g i t → IsProductPut out' out s t → AreProducts s (take i g) out → AreProducts s (take (i + 1) g) out'
+alone-step out out' g s t i h e p a =
+    let more : take (i + 1) g ≡ take i g ++ (t ∷ []) = take_more g i t h ∙ ap (λ z. take i g ++ (z ∷ [])) (sym e) in
+    let x : Pairs × ℤ = (p.exps, s.1 *ℤ t.1) in
+    let all : AreProducts s (take i g ++ (t ∷ [])) (out ++ (x ∷ [])) = products-push s x t (take i g) out a (record { exponents = p.exponents; rising = p.rising; factor = refl }) in
+    subst (λ z. AreProducts s z out') (sym more) (subst (AreProducts s (take i g ++ (t ∷ []))) (sym p.put) all)
+
 pub row-step : (out out' old g : Sparse) (s t : Pairs × ℤ) (i : ℕ) → IsRow out old s g i → i < length g → t ≡ get_or g i t → IsProductPut out' out s t → IsRow out' old s g (i + 1)
 row-step out out' old g s t i r h e p = record {
   coefficients = λ n m. omega (arith, ints, ap (λ z. coefficient_at n z m) p.put, r.coefficients n m, coefficient_at-push n m out (p.exps, s.1 *ℤ t.1), cell_is n m s t p.exps p.exponents, row_at-more n m s g i t h, ap (cell_at n m s) e);
@@ -79,6 +93,7 @@ row-step out out' old g s t i r h e p = record {
       omega (arith, r.size, ap size_of p.put, size-push out (p.exps, s.1 *ℤ t.1), abs-is s t, ap (λ q. unsigned_abs s.1 * q) k);
   rising = λ w. put-rising out' out s t p (r.rising w);
   below = λ k a b w. put-below out' out s t k p a (subst (λ z. IsAbove z.0 k) (sym e) (b i t h)) (r.below k a b w);
+  alone = λ o. alone-step out out' g s t i h e p (r.alone o);
 }
 
 -- ---- all rows
