@@ -4,3 +4,4 @@ pub mod Equality
 pub mod Merging
 pub mod Collected
 pub mod Summing
+pub mod Rising

@@ -1,8 +1,10 @@
 -- Scaled derivatives, by one variable and by several.
-use Rattle.std.specs.Prelude.{◌≡◌, ℕ, ◌+◌, ◌-◌, ◌<◌, ◌≤◌, ◌*ℤ◌, ℤ, pos, List, [], ◌∷◌, ◌++◌, length, slice_index, take}
+use Rattle.std.specs.Prelude.{◌≡◌, ℕ, ◌+◌, ◌-◌, ◌<◌, ◌≤◌, ◌*ℤ◌, ℤ, pos, List, [], ◌∷◌, ◌++◌, length, slice_index, slice_index_or, take, All}
+use Rattle.std.specs.declared.cmp.Ordering.TheVariants.{Less}
 use Rattle.ln_algebra.specs.Terms.{Term, binomial, derived, factor_at}
 use Rattle.ln_algebra.specs.Weights.{weighted_sum}
-use Rattle.ln_tree.specs.Exps.{IsRising, Pairs, exponent, vector}
+use Rattle.ln_tree.specs.Exps.{IsRising, Pairs, exponent, pairs_cmp, vector}
+use Rattle.ln_poly.specs.Gather.{AreSorted}
 use Rattle.ln_poly.specs.Sparse.{AreBelow, AreRising, IsPoly, Sparse, coefficient_at, size_of, terms_of}
 use Rattle.ln_poly.specs.Times.{power_at}
 
@@ -30,12 +32,15 @@ pub record IsDerivedPut (out old : Sparse) (t : Pairs × ℤ) (v n : ℕ) : Type
   pub put : out ≡ old ++ ((exps, t.1 *ℤ pos (binomial (exponent v t.0) n)) ∷ [])
   pub lowered : IsLowered exps t.0 v n
 
--- out has the derivatives of the first i terms
+-- out has the derivatives of the first i terms, in order, and before the derivative of what comes behind these terms
 pub record IsDeriving (out f : Sparse) (k v n i : ℕ) (w : ℕ → ℕ) : Type 0 where
   pub coefficients : (m : List ℕ) → coefficient_at k out m ≡ factor_at (derivative k v n (take i f)) m
   pub size : size_of out ≤ weighted_sum w (derivative k v n (take i f))
   pub rising : AreRising out
   pub below : AreBelow k out
+  pub sorted : AreSorted out
+  pub before : (a e : Pairs) → IsRising a → ((j : ℕ) (d : Pairs × ℤ) → j < i → pairs_cmp (slice_index_or f j d).0 a ≡ Less) →
+      IsLowered e a v n → All (λ y. pairs_cmp y.0 e ≡ Less) out
 
 -- h is the scaled derivative of f by the exponents a, over n variables
 pub record IsDerivative (n : ℕ) (f : Sparse) (a : Pairs) (h : Sparse) : Type 0 where

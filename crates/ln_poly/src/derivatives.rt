@@ -8,7 +8,7 @@ ghost use Rattle.ln_tree.specs.Exps.{IsAbove, IsRising, exponent};
 ghost use Rattle.ln_poly.specs.Sparse.{AreBelow, IsPoly, coefficient_at, terms_of};
 ghost use Rattle.ln_poly.specs.Derivative.{IsColumn, IsDerivative, IsDerivedPut, IsLowered, derivative};
 
-use crate::gather::gather;
+use crate::gather::nonzero;
 use crate::poly::Poly;
 use ln_base::NoMemory;
 use ln_tree::{Exps, Shape, exponent_of};
@@ -120,7 +120,7 @@ pub fn derive(alloc: Global, f: &Poly, s: &Shape, v: u8, n: u8) -> Result<Poly, 
     'terms: for t in f {
         put_derived(alloc, &mut out, t, v, n, &column)?;
     }
-    let h = gather(alloc, out)?;
+    let h = nonzero(out);
     Ok(h)
 }
 
@@ -133,9 +133,15 @@ pub fn derive_by(alloc: Global, f: &Poly, s: &Shape, a: &Exps) -> Result<Poly, N
     ensures derivative { IfOk result (IsDerivative (length s.now.vars) f.now a.now) }
     ensures rising { OnOk result (IsRising a.now) }
 {
-    let mut h = f.copy(alloc)?;
     let pairs = a.pairs();
-    'pairs: for p in pairs {
+    if pairs.is_empty() {
+        let h = f.copy(alloc)?;
+        return Ok(h);
+    }
+    let (v, n) = pairs[0];
+    let mut h = derive(alloc, f, s, v, n)?;
+    'pairs: for i in 1..pairs.len() {
+        let p = pairs[i];
         h = derive(alloc, &h, s, p.0, p.1)?;
     }
     Ok(h)

@@ -1,5 +1,5 @@
 -- The terms of a scaled derivative.
-use Rattle.std.proofs.Common.{◌≡◌, ℕ, ◌+◌, ◌-◌, ◌*◌, ◌<◌, ◌≤◌, ◌^◌, zero, suc, refl, sym, ◌∙◌, ap, subst, arith, List, [], ◌∷◌, length, take, get_or, Bool, true, false, leb, unsigned_abs, ◌&&◌}
+use Rattle.std.proofs.Common.{◌≡◌, All, Less, ℕ, ◌+◌, ◌-◌, ◌*◌, ◌<◌, ◌≤◌, ◌^◌, zero, suc, refl, sym, ◌∙◌, ap, subst, arith, List, [], ◌∷◌, length, take, get_or, Bool, true, false, leb, unsigned_abs, ◌&&◌}
 use Rattle.std.proofs.lemmas.Bool.{cases_lt}
 use Rattle.std.proofs.lemmas.Bool.Decides.{nat_tests}
 use Rattle.std.proofs.lemmas.Int.{ints}
@@ -16,9 +16,12 @@ use Rattle.ln_algebra.specs.Weights.{monomial_weight, weighted_sum}
 use Rattle.ln_bound.specs.Light.{most}
 use Rattle.ln_bound.specs.Value.{sizes, weights}
 use Rattle.ln_tree.specs.declared.shape.VarInfo.{VarInfo}
-use Rattle.ln_tree.specs.Exps.{IsAbove, IsRising, Pairs, exponent, exponents_from, vector}
+use Rattle.ln_tree.specs.Exps.{IsAbove, IsRising, Pairs, exponent, exponents_from, pairs_cmp, vector}
+use Rattle.ln_tree.proofs.Monomials.{order-kept}
+use Rattle.ln_poly.specs.Gather.{AreSorted}
+use Rattle.ln_poly.proofs.Sorting.Rising.{none-sorted, sorted-at, sorted-push}
 use Rattle.ln_poly.specs.Times.{power_at}
-use Rattle.ln_poly.specs.Sparse.{AreBelow, AreRising, Sparse, coefficient_at, part_at, size_of, terms_of}
+use Rattle.ln_poly.specs.Sparse.{AreBelow, AreRising, IsPoly, Sparse, coefficient_at, part_at, size_of, terms_of}
 use Rattle.ln_poly.specs.Derivative.{IsDerivedPut, IsDeriving, IsLowered, derivative}
 use Rattle.ln_poly.proofs.TermLists.Coefficients.{coefficient_at-nil, coefficient_at-push, size-nil, size-push}
 use Rattle.ln_tree.proofs.Powers.{power-apart, power-here}
@@ -164,12 +167,22 @@ kept-light vars v n t e l h r a =
 
 -- ---- the loop
 pub deriving-init : (f : Sparse) (k v n : ℕ) (w : ℕ → ℕ) → IsDeriving [] f k v n 0 w
-deriving-init f k v n w = record { coefficients = λ m. coefficient_at-nil k m; size = omega (arith, size-nil); rising = All-nil (λ z. IsRising z.0); below = All-nil (λ z. IsAbove z.0 k) }
+deriving-init f k v n w = record { coefficients = λ m. coefficient_at-nil k m; size = omega (arith, size-nil); rising = All-nil (λ z. IsRising z.0); below = All-nil (λ z. IsAbove z.0 k); sorted = none-sorted; before = λ a e r p l. All-nil (λ y. pairs_cmp y.0 e ≡ Less) }
 
-pub deriving-step : (vars : List VarInfo) (f' f out out' : Sparse) (v n i : ℕ) (t : Pairs × ℤ) → f' ≡ f → v < length vars → AreBelow (length vars) f → i < length f' → t ≡ get_or f' i t → IsDeriving out f' (length vars) v n i (sizes vars) → (exponent v t.0 < n → out' ≡ out) → (n ≤ exponent v t.0 → IsDerivedPut out' out t v n) → IsDeriving out' f' (length vars) v n (i + 1) (sizes vars)
-deriving-step vars f' f out out' v n i t q l b h e r x y = by_case (cases_lt (exponent v t.0) n) where
+-- derivatives stand as the terms do
+lowered-kept : (a b x y : Pairs) (v n : ℕ) → IsRising a → IsRising b → IsLowered x a v n → IsLowered y b v n → pairs_cmp a b ≡ Less → pairs_cmp x y ≡ Less
+lowered-kept a b x y v n r s p q h = order-kept a b x y r s p.rising q.rising (λ u e. omega (arith, p.exponents u, q.exponents u, e)) (λ u l. omega (arith, p.exponents u, q.exponents u, l)) h
+
+pub deriving-step : (vars : List VarInfo) (f' f out out' : Sparse) (v n i : ℕ) (t : Pairs × ℤ) → f' ≡ f → v < length vars → IsPoly f → AreBelow (length vars) f → i < length f' → t ≡ get_or f' i t → IsDeriving out f' (length vars) v n i (sizes vars) → (exponent v t.0 < n → out' ≡ out) → (n ≤ exponent v t.0 → IsDerivedPut out' out t v n) → IsDeriving out' f' (length vars) v n (i + 1) (sizes vars)
+deriving-step vars f' f out out' v n i t q l poly b h e r x y = by_case (cases_lt (exponent v t.0) n) where
   above : IsAbove t.0 (length vars)
   above = subst (λ z. IsAbove z.0 (length vars)) (sym e) (subst (AreBelow (length vars)) (sym q) b i t h)
+
+  rises : IsRising t.0
+  rises = subst (λ z. IsRising z.0) (sym e) (subst AreRising (sym q) poly.rising i t h)
+
+  earlier : (j : ℕ) (d : Pairs × ℤ) → j < i → pairs_cmp (get_or f' j d).0 t.0 ≡ Less
+  earlier j d k = subst (λ z. pairs_cmp (get_or f' j d).0 z.0 ≡ Less) (sym e) (sorted-at f' j i d t k h (subst AreSorted (sym q) poly.sorted))
 
   by_case : (exponent v t.0 < n) ⊎ (n ≤ exponent v t.0) → IsDeriving out' f' (length vars) v n (i + 1) (sizes vars)
   by_case (inl g) = record {
@@ -177,6 +190,8 @@ deriving-step vars f' f out out' v n i t q l b h e r x y = by_case (cases_lt (ex
     size = omega (arith, ap size_of (x g), r.size, weight-more (length vars) v n (sizes vars) f' i t h e);
     rising = subst AreRising (sym (x g)) r.rising;
     below = subst (AreBelow (length vars)) (sym (x g)) r.below;
+    sorted = subst AreSorted (sym (x g)) r.sorted;
+    before = λ a z w p k. subst (All (λ s. pairs_cmp s.0 z ≡ Less)) (sym (x g)) (r.before a z w (λ j d m. p j d (omega arith)) k);
   }
   by_case (inr g) =
       let p : IsDerivedPut out' out t v n = y g in
@@ -186,6 +201,10 @@ deriving-step vars f' f out out' v n i t q l b h e r x y = by_case (cases_lt (ex
         size = omega (arith, ap size_of p.put, size-push out (p.exps, c), r.size, weight-more (length vars) v n (sizes vars) f' i t h e, kept-light vars v n t p.exps l g p.lowered above);
         rising = subst AreRising (sym p.put) (All-push (λ z. IsRising z.0) out (p.exps, c) r.rising p.lowered.rising);
         below = subst (AreBelow (length vars)) (sym p.put) (All-push (λ z. IsAbove z.0 (length vars)) out (p.exps, c) r.below (lowered-below (length vars) v n p.exps t.0 p.lowered above));
+        sorted = subst AreSorted (sym p.put) (sorted-push out (p.exps, c) r.sorted (r.before t.0 p.exps rises earlier p.lowered));
+        before = λ a z w k m.
+            let last : pairs_cmp t.0 a ≡ Less = subst (λ s. pairs_cmp s.0 a ≡ Less) (sym e) (k i t (omega arith)) in
+            subst (All (λ s. pairs_cmp s.0 z ≡ Less)) (sym p.put) (All-push (λ s. pairs_cmp s.0 z ≡ Less) out (p.exps, c) (r.before a z w (λ j d o. k j d (omega arith)) m) (lowered-kept t.0 a p.exps z v n rises w p.lowered m last));
       }
 
 -- the derivatives of all terms

@@ -1,6 +1,7 @@
 -- Scaled derivatives by several variables, one variable after the other.
-use Rattle.std.proofs.Common.{◌≡◌, ℕ, ◌+◌, ◌<◌, ◌≤◌, zero, suc, List, [], ◌∷◌, ◌++◌, length, take, get_or, sym, ◌∙◌, ap, subst, arith, ◌⊎◌, inl, inr}
-use Rattle.std.proofs.lemmas.Bool.{cases_eq}
+use Rattle.std.proofs.Common.{◌≡◌, ℕ, ◌+◌, ◌<◌, ◌≤◌, zero, suc, List, [], ◌∷◌, ◌++◌, length, take, get_or, refl, sym, ◌∙◌, ap, subst, arith, ◌⊎◌, inl, inr}
+use Rattle.std.proofs.lemmas.Bool.{cases_eq, eqb-true}
+use Rattle.std.specs.Prelude.{◌==◌, Bool, true, false}
 use Rattle.std.proofs.lemmas.List.{take_all, take_more}
 use Rattle.ln_algebra.proofs.Vectors.Zeros.{derived-zeros}
 use Rattle.ln_algebra.proofs.Bounding.Weights.{weighted-least}
@@ -93,3 +94,23 @@ several-light vars f h ps i r l d w =
 
 pub several-end : (n : ℕ) (f h : Sparse) (ps a : Pairs) (i : ℕ) → length ps ≤ i → ps ≡ a → IsDerivative n f (take i ps) h → IsDerivative n f a h
 several-end n f h ps a i l e d = subst (λ (q : Pairs). IsDerivative n f q h) (take_all i ps l ∙ e) d
+
+-- ---- the first variable
+pub first-light : (vars : List VarInfo) (f : Sparse) (ps : Pairs) → IsPoly f → AreBelow (length vars) f → IsRising ps → 0 < length ps → weighted_sum (weights vars) (terms_of (length vars) f) ≤ most
+    → weighted_sum (sizes vars) (derivative (length vars) (get_or ps 0 (0, 0)).0 (get_or ps 0 (0, 0)).1 f) ≤ most
+first-light vars f ps p b r l w = several-light vars f f ps 0 r l (several-init (length vars) f f p b refl) w
+
+pub first-step : (n : ℕ) (f g : Sparse) (ps : Pairs) → IsPoly f → AreBelow n f → IsRising ps → 0 < length ps → IsPoly g → AreBelow n g → ((m : List ℕ) → coefficient_at n g m ≡ factor_at (derivative n (get_or ps 0 (0, 0)).0 (get_or ps 0 (0, 0)).1 f) m) → IsDerivative n f (take 1 ps) g
+first-step n f g ps p b r l q c e = several-step n f f ps 0 r l (several-init n f f p b refl) g q c e
+
+-- without a variable
+pub none-derived : (n : ℕ) (f h : Sparse) (ps a : Pairs) → IsPoly f → AreBelow n f → h ≡ f → length ps ≡ 0 → ps ≡ a → IsDerivative n f a h
+none-derived n f h ps a p b e l q = several-end n f h ps a 0 (omega (arith, l)) q (several-init n f h p b e)
+
+-- ---- is there a variable?
+pub no-length : (n : ℕ) (b : Bool) → b ≡ (n == 0) → b ≡ true → n ≡ 0
+no-length n b e t = eqb-true n 0 (sym e ∙ t)
+
+pub some-length : (n : ℕ) (b : Bool) → b ≡ (n == 0) → b ≡ false → 0 < n
+some-length zero b e f = let t : true ≡ false = sym e ∙ f in cc
+some-length (suc n) b e f = omega arith

@@ -10,23 +10,26 @@ pub put_derived-requires-clause-room : goal.put_derived-requires-clause-room
 put_derived-requires-clause-room c = deriving-room c.args.s.now.vars _ c.args.f.now c.args.v c.args.n c.terms.t-index c.t-item.result c.terms-f.ensures.value c.requires.variable c.requires.small (omega arith) c.t-item.is
 
 pub terms-preserved : goal.terms-preserved
-terms-preserved c = deriving-step c.args.s.now.vars _ c.args.f.now _ _ c.args.v c.args.n c.terms.t-index c.t-item.result c.terms-f.ensures.value c.requires.variable c.requires.below (omega arith) c.t-item.is c.terms.invariant c.in_ok-put_derived.ensures.none c.in_ok-put_derived.ensures.some
+terms-preserved c = deriving-step c.args.s.now.vars _ c.args.f.now _ _ c.args.v c.args.n c.terms.t-index c.t-item.result c.terms-f.ensures.value c.requires.variable c.terms-f.ensures.form c.requires.below (omega arith) c.t-item.is c.terms.invariant c.in_ok-put_derived.ensures.none c.in_ok-put_derived.ensures.some
 
-pub gather-requires-clause-small : goal.gather-requires-clause-small
-gather-requires-clause-small c =
+pub nonzero-h-requires-clause-small : goal.nonzero-h-requires-clause-small
+nonzero-h-requires-clause-small c =
     let d : AreDerived c.terms.out.items c.args.f.now (length c.args.s.now.vars) c.args.v c.args.n (sizes c.args.s.now.vars) = deriving-end _ _ _ _ _ _ _ _ c.terms-f.ensures.value c.terms-test.false c.terms.invariant in
     omega (arith, d.size, c.requires.small)
 
-pub gather-requires-clause-rising : goal.gather-requires-clause-rising
-gather-requires-clause-rising c = c.terms.invariant.rising
+pub nonzero-h-requires-clause-rising : goal.nonzero-h-requires-clause-rising
+nonzero-h-requires-clause-rising c = c.terms.invariant.rising
 
 pub returns-clause-coefficients : goal.returns-clause-coefficients
 returns-clause-coefficients c =
     let d : AreDerived c.terms.out.items c.args.f.now (length c.args.s.now.vars) c.args.v c.args.n (sizes c.args.s.now.vars) = deriving-end _ _ _ _ _ _ _ _ c.terms-f.ensures.value c.terms-test.false c.terms.invariant in
-    λ m. c.in_ok-h.ensures.coefficients (length c.args.s.now.vars) m ∙ d.coefficients m
+    λ m. c.nonzero-h.ensures.coefficients (length c.args.s.now.vars) m ∙ d.coefficients m
 
 pub returns-clause-form : goal.returns-clause-form
-returns-clause-form c = c.in_ok-h.ensures.form
+returns-clause-form c = c.nonzero-h.ensures.form
 
 pub returns-clause-below : goal.returns-clause-below
-returns-clause-below c = c.in_ok-h.ensures.below (length c.args.s.now.vars) c.terms.invariant.below
+returns-clause-below c = c.nonzero-h.ensures.below (length c.args.s.now.vars) c.terms.invariant.below
+
+pub nonzero-h-requires-clause-sorted : goal.nonzero-h-requires-clause-sorted
+nonzero-h-requires-clause-sorted c = c.terms.invariant.sorted

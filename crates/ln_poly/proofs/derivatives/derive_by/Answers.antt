@@ -1,23 +1,39 @@
 use Rattle.std.proofs.Common.{arith, length}
 use Rattle.ln_tree.specs.Exps.{IsAbove, IsRising}
-use Rattle.ln_poly.proofs.Derivations.Several.{several-init, several-light, several-step, variable-at}
+use Rattle.ln_poly.proofs.Derivations.Several.{first-light, first-step, no-length, none-derived, several-light, several-step, some-length, variable-at}
 use Rattle.ln_poly.proofs.derivatives.derive_by.Goals as goal
 
-pub pairs-init : goal.pairs-init
-pairs-init c = several-init _ _ _ c.requires.form c.requires.below c.in_ok-h.ensures
+pub returns-then-is_empty-clause-derivative : goal.returns-then-is_empty-clause-derivative
+returns-then-is_empty-clause-derivative c = none-derived _ _ _ _ _ c.requires.form c.requires.below c.in_ok-h.ensures (no-length _ _ c.is_empty.ensures c.if-is_empty.true) c.pairs-pairs.ensures.value
 
 pub derive-requires-clause-variable : goal.derive-requires-clause-variable
 derive-requires-clause-variable c =
     let a : IsAbove c.pairs-pairs.result.now (length c.args.s.now.vars) = rw c.pairs-pairs.ensures.value c.requires.exps in
-    variable-at (length c.args.s.now.vars) c.pairs-pairs.result.now c.pairs.p-index a (omega (arith, c.pairs-test.true))
+    variable-at (length c.args.s.now.vars) c.pairs-pairs.result.now 0 a (some-length _ _ c.is_empty.ensures c.if-is_empty.false)
 
 pub derive-requires-clause-small : goal.derive-requires-clause-small
 derive-requires-clause-small c =
     let r : IsRising c.pairs-pairs.result.now = rw c.pairs-pairs.ensures.value c.pairs-pairs.ensures.rising in
-    several-light c.args.s.now.vars c.args.f.now c.pairs.h c.pairs-pairs.result.now c.pairs.p-index r (omega (arith, c.pairs-test.true)) c.pairs.invariant c.requires.weight
+    first-light c.args.s.now.vars c.args.f.now c.pairs-pairs.result.now c.requires.form c.requires.below r (some-length _ _ c.is_empty.ensures c.if-is_empty.false) c.requires.weight
+
+pub pairs-init : goal.pairs-init
+pairs-init c =
+    let r : IsRising c.pairs-pairs.result.now = rw c.pairs-pairs.ensures.value c.pairs-pairs.ensures.rising in
+    let e = c.in_ok-h-2.ensures in
+    first-step (length c.args.s.now.vars) c.args.f.now c.in_ok-h-2.h c.pairs-pairs.result.now c.requires.form c.requires.below r (some-length _ _ c.is_empty.ensures c.if-is_empty.false) e.form e.below e.coefficients
+
+pub derive-requires-in-pairs-clause-variable : goal.derive-requires-in-pairs-clause-variable
+derive-requires-in-pairs-clause-variable c =
+    let a : IsAbove c.pairs-pairs.result.now (length c.args.s.now.vars) = rw c.pairs-pairs.ensures.value c.requires.exps in
+    variable-at (length c.args.s.now.vars) c.pairs-pairs.result.now c.pairs.i a (omega (arith, c.pairs-test.true))
+
+pub derive-requires-in-pairs-clause-small : goal.derive-requires-in-pairs-clause-small
+derive-requires-in-pairs-clause-small c =
+    let r : IsRising c.pairs-pairs.result.now = rw c.pairs-pairs.ensures.value c.pairs-pairs.ensures.rising in
+    several-light c.args.s.now.vars c.args.f.now c.pairs.h c.pairs-pairs.result.now c.pairs.i r (omega (arith, c.pairs-test.true)) c.pairs.invariant c.requires.weight
 
 pub pairs-preserved : goal.pairs-preserved
 pairs-preserved c =
     let r : IsRising c.pairs-pairs.result.now = rw c.pairs-pairs.ensures.value c.pairs-pairs.ensures.rising in
-    let e = c.in_ok-h-2.ensures in
-    several-step (length c.args.s.now.vars) c.args.f.now c.pairs.h c.pairs-pairs.result.now c.pairs.p-index r (omega (arith, c.pairs-test.true)) c.pairs.invariant c.in_ok-h-2.h e.form e.below e.coefficients
+    let e = c.in_ok-h-3.ensures in
+    several-step (length c.args.s.now.vars) c.args.f.now c.pairs.h c.pairs-pairs.result.now c.pairs.i r (omega (arith, c.pairs-test.true)) c.pairs.invariant c.in_ok-h-3.h e.form e.below e.coefficients
