@@ -5,3 +5,5 @@ pub mod Merging
 pub mod Collected
 pub mod Summing
 pub mod Rising
+pub mod Ends
+pub mod Joining

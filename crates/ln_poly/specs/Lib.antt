@@ -10,3 +10,4 @@ pub mod Within
 pub mod Stop
 pub mod Ready
 pub mod OfPred
+pub mod Merge

@@ -11,6 +11,7 @@ pub mod derivatives;
 pub mod expansion;
 pub mod gather;
 pub mod leaf;
+pub mod merge;
 pub mod poly;
 pub mod sizes;
 pub mod sums;

@@ -42,7 +42,7 @@ coefficient_at-set n m (x ∷ xs) zero t d h = omega (arith, ints, coefficient_a
 coefficient_at-set n m (x ∷ xs) (suc i) t d h = omega (arith, ints, coefficient_at-set n m xs i t d (omega arith), coefficient_at-cons n m x xs, coefficient_at-cons n m x (set xs i t))
 
 -- two terms with the same exponents add up to one
-part-sum : (n : ℕ) (m : List ℕ) (e : Pairs) (a b : ℤ) → part_at n (e, a +ℤ b) m ≡ part_at n (e, a) m +ℤ part_at n (e, b) m
+pub part-sum : (n : ℕ) (m : List ℕ) (e : Pairs) (a b : ℤ) → part_at n (e, a +ℤ b) m ≡ part_at n (e, a) m +ℤ part_at n (e, b) m
 unfolding part_at
 part-sum n m e a b = by_case (same_vector (vector n e) m) where
   by_case : (z : Bool) → (if z then a +ℤ b else pos 0) ≡ (if z then a else pos 0) +ℤ (if z then b else pos 0)
