@@ -7,3 +7,4 @@ pub mod Counting
 pub mod Negating
 pub mod Walks
 pub mod Turned
+pub mod Halves

@@ -4,8 +4,7 @@ use Rattle.std.specs.declared.cmp.Ordering.TheVariants.{Less}
 use Rattle.ln_algebra.specs.Terms.{Term, binomial, derived, factor_at}
 use Rattle.ln_algebra.specs.Weights.{weighted_sum}
 use Rattle.ln_tree.specs.Exps.{IsRising, Pairs, exponent, pairs_cmp, vector}
-use Rattle.ln_poly.specs.Gather.{AreSorted}
-use Rattle.ln_poly.specs.Sparse.{AreBelow, AreRising, IsPoly, Sparse, coefficient_at, size_of, terms_of}
+use Rattle.ln_poly.specs.Sparse.{AreBelow, AreRising, AreSorted, IsPoly, Sparse, coefficient_at, size_of, terms_of}
 use Rattle.ln_poly.specs.Times.{power_at}
 
 -- the scaled derivative by variable v, n times, over k variables

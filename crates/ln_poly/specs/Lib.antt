@@ -1,5 +1,5 @@
 pub mod Sparse
-pub mod Gather
+pub mod Merge
 pub mod Sums
 pub mod Times
 pub mod Rows
@@ -10,4 +10,3 @@ pub mod Within
 pub mod Stop
 pub mod Ready
 pub mod OfPred
-pub mod Merge

@@ -3,8 +3,7 @@ use Rattle.std.specs.Prelude.{◌≡◌, ℕ, ℤ, ◌+◌, ◌-◌, ◌<◌, �
 use Rattle.std.specs.List.{AllByRecursion}
 use Rattle.std.specs.declared.cmp.Ordering.TheVariants.{Less}
 use Rattle.ln_tree.specs.Exps.{IsAbove, IsRising, Pairs, pairs_cmp}
-use Rattle.ln_poly.specs.Gather.{AreSorted}
-use Rattle.ln_poly.specs.Sparse.{AreBelow, AreRising, IsFactor, Sparse, coefficient_at, part_at, size_of}
+use Rattle.ln_poly.specs.Sparse.{AreBelow, AreRising, AreSorted, IsFactor, Sparse, coefficient_at, part_at, size_of}
 
 -- e stands before each of these terms
 abbrev pub IsBeforeAll : Pairs → Sparse → Type 0

@@ -50,8 +50,12 @@ AreBelow n f = All (λ t. IsAbove t.0 n) f
 abbrev pub IsFactor : ℤ → Type 0
 IsFactor z = (z ≢ pos 0) × (unsigned_abs z < 2 ^ 127)
 
+-- the monomials rise in their lexicographic order, so no two terms have the same
+abbrev pub AreSorted : Sparse → Type 0
+AreSorted f = IsStrictlySortedBy (on (λ t. t.0) pairs_cmp) f
+
 -- a polynomial: the monomials rise in their lexicographic order, so no two terms have the same, and each factor is one
 pub record IsPoly (f : Sparse) : Type 0 where
-  pub sorted : IsStrictlySortedBy (on (λ t. t.0) pairs_cmp) f
+  pub sorted : AreSorted f
   pub rising : AreRising f
   pub factors : All (λ t. IsFactor t.1) f

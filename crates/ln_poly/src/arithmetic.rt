@@ -1,13 +1,15 @@
 //! Sums and products of polynomials.
 ghost use Rattle.std.specs.Prelude.{◌≡◌, ℕ, List, [], ◌∷◌, ◌+◌, ◌*◌, ◌<◌, ◌≤◌, ◌^◌, ◌++◌, ◌+ℤ◌, ◌-ℤ◌, ◌*ℤ◌, All, IfOk, OnOk, length, pos, unsigned_abs, ◌≢◌};
+ghost use Rattle.std.specs.Prelude.{◌-◌, drop, take};
 ghost use Rattle.ln_algebra.specs.Coefficient.{product};
 ghost use Rattle.ln_tree.specs.Exps.{exponent};
 ghost use Rattle.ln_poly.specs.Sparse.{IsFactor, IsPoly, AreBelow, coefficient_at, negated, size_of};
 ghost use Rattle.ln_poly.specs.Rows.{IsProductPut, IsRow, IsRows, PowersFit};
 
-use crate::gather::{merge, push};
+use crate::merge::merge;
 use crate::poly::Poly;
 use crate::sums::sum;
+use crate::terms::push;
 use crate::times::times;
 use ln_base::{NoMemory, Seq};
 use ln_tree::Exps;
@@ -125,7 +127,16 @@ fn walk(alloc: Global, s: &(Exps, i128), g: &[(Exps, i128)]) -> Result<Poly, NoM
     Ok(Poly::seal(Seq::from_vec(out)))
 }
 
-// The products of the terms of f with those of g, row by row, with like terms collected.
+// Some terms of a polynomial.
+pub(crate) fn between(f: &[(Exps, i128)], i: usize, j: usize) -> &[(Exps, i128)]
+    requires order { i ≤ j }
+    requires within { j ≤ length f.now }
+    ensures { result.now ≡ take (j - i) (drop i f.now) }
+{
+    &f[i..j]
+}
+
+// The products of the terms of f with those of g: a row for each term of f, and the rows merged, two halves at a time.
 pub(crate) fn products(
     alloc: Global,
     f: &[(Exps, i128)],
@@ -138,16 +149,18 @@ pub(crate) fn products(
     ensures rows { IfOk result (λ h. IsRows h f.now g.now (length f.now)) }
     ensures form { IfOk result IsPoly }
 {
+    if f.is_empty() {
+        return Ok(Poly::seal(Seq::new(alloc)));
+    }
     if f.len() == 1 {
         let s = &f[0];
         let h = walk(alloc, s, g)?;
         return Ok(h);
     }
-    let mut out = Vec::new(alloc);
-    'rows: for s in f {
-        put_row(alloc, &mut out, s, g)?;
-    }
-    let h = merge(alloc, out)?;
+    let k = f.len() / 2;
+    let low = products(alloc, between(f, 0, k), g)?;
+    let high = products(alloc, between(f, k, f.len()), g)?;
+    let h = merge(alloc, low.into_terms(), high.into_terms())?;
     Ok(h)
 }
 

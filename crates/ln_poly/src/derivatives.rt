@@ -8,8 +8,8 @@ ghost use Rattle.ln_tree.specs.Exps.{IsAbove, IsRising, exponent};
 ghost use Rattle.ln_poly.specs.Sparse.{AreBelow, IsPoly, coefficient_at, terms_of};
 ghost use Rattle.ln_poly.specs.Derivative.{IsColumn, IsDerivative, IsDerivedPut, IsLowered, derivative};
 
-use crate::gather::nonzero;
 use crate::poly::Poly;
+use crate::terms::nonzero;
 use ln_base::NoMemory;
 use ln_tree::{Exps, Shape, exponent_of};
 use std::alloc::Global;

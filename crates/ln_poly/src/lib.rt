@@ -9,12 +9,12 @@
 pub mod arithmetic;
 pub mod derivatives;
 pub mod expansion;
-pub mod gather;
 pub mod leaf;
 pub mod merge;
 pub mod poly;
 pub mod sizes;
 pub mod sums;
+pub mod terms;
 pub mod times;
 pub mod weights;
 pub mod within;

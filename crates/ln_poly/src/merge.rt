@@ -2,9 +2,8 @@
 ghost use Rattle.std.specs.Prelude.{◌≡◌, ◌≢◌, ℕ, List, [], ◌∷◌, ◌++◌, ◌+◌, ◌<◌, ◌≤◌, ◌^◌, ◌+ℤ◌, pos, unsigned_abs};
 ghost use Rattle.std.specs.Prelude.{IfOk, IfSome, OnOk, MatchOption, length};
 ghost use Rattle.std.specs.Ordering.{MatchOrdering};
-ghost use Rattle.ln_poly.specs.Gather.{AreSorted};
 ghost use Rattle.ln_poly.specs.Merge.{EndAlike, EndsLater, IsSumOf, IsTaken};
-ghost use Rattle.ln_poly.specs.Sparse.{IsPoly, AreBelow, AreRising, coefficient_at, size_of};
+ghost use Rattle.ln_poly.specs.Sparse.{AreBelow, AreRising, AreSorted, IsPoly, coefficient_at, size_of};
 
 use crate::poly::Poly;
 use ln_base::{NoMemory, Seq};

@@ -4,12 +4,12 @@ ghost use Rattle.std.specs.Prelude.{IfOk, OnOk, length, slice_index_or, unsigned
 ghost use Rattle.std.specs.List.{AllWithin};
 ghost use Rattle.std.specs.Ordering.{is_lt};
 ghost use Rattle.ln_tree.specs.Exps.{pairs_cmp};
-ghost use Rattle.ln_poly.specs.Gather.{AreSorted};
-ghost use Rattle.ln_poly.specs.Sparse.{IsPoly, AreBelow, AreRising, coefficient_at, size_of};
+ghost use Rattle.ln_poly.specs.Sparse.{AreBelow, AreRising, AreSorted, IsPoly, coefficient_at, size_of};
 ghost use Rattle.ln_poly.specs.Sums.{IsPutIn, IsSpread};
 
-use crate::gather::{add_at, merge, nonzero, push};
+use crate::merge::merge;
 use crate::poly::Poly;
+use crate::terms::{add_at, nonzero, push};
 use ln_base::NoMemory;
 use ln_tree::Exps;
 use std::alloc::Global;
@@ -90,10 +90,11 @@ fn spread(
     Ok(more)
 }
 
-// The polynomial of sorted terms and of more terms in any order.
+// The polynomial of terms in order and of more terms in order.
 fn joined(alloc: Global, f: Vec<(Exps, i128)>, more: Vec<(Exps, i128)>) -> Result<Poly, NoMemory>
     requires small { size_of f.items + size_of more.items < 2 ^ 127 }
     requires sorted { AreSorted f.items }
+    requires more_sorted { AreSorted more.items }
     requires rising { AreRising f.items }
     requires more_rising { AreRising more.items }
     ensures coefficients { IfOk result (λ h. (n : ℕ) (m : List ℕ) →
@@ -105,10 +106,7 @@ fn joined(alloc: Global, f: Vec<(Exps, i128)>, more: Vec<(Exps, i128)>) -> Resul
     if more.is_empty() {
         return Ok(nonzero(f));
     }
-    let mut all = f;
-    let mut more = more;
-    all.append(&mut more)?;
-    let h = merge(alloc, all)?;
+    let h = merge(alloc, f, more)?;
     Ok(h)
 }
 

@@ -6,7 +6,7 @@ ghost use Rattle.ln_poly.specs.Sparse.{IsFactor, IsPoly, AreBelow, coefficient_a
 ghost use Rattle.ln_poly.specs.Rows.{IsRows, PowersFit};
 ghost use Rattle.ln_poly.specs.Within.{TakesMore};
 
-use crate::arithmetic::products;
+use crate::arithmetic::{between, products};
 use crate::poly::Poly;
 use crate::sums::sum;
 use ln_base::{NoMemory, Seq};
@@ -26,15 +26,6 @@ fn end_of(i: usize, n: usize) -> usize
         return n;
     }
     i + ROWS
-}
-
-// The terms from one place to another.
-fn between(f: &[(Exps, i128)], i: usize, j: usize) -> &[(Exps, i128)]
-    requires order { i ≤ j }
-    requires within { j ≤ length f.now }
-    ensures { result.now ≡ take (j - i) (drop i f.now) }
-{
-    &f[i..j]
 }
 
 // What there is of the first i rows, with the rows from there up to j.

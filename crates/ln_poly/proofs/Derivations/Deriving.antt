@@ -18,10 +18,9 @@ use Rattle.ln_bound.specs.Value.{sizes, weights}
 use Rattle.ln_tree.specs.declared.shape.VarInfo.{VarInfo}
 use Rattle.ln_tree.specs.Exps.{IsAbove, IsRising, Pairs, exponent, exponents_from, pairs_cmp, vector}
 use Rattle.ln_tree.proofs.Monomials.{order-kept}
-use Rattle.ln_poly.specs.Gather.{AreSorted}
 use Rattle.ln_poly.proofs.Sorting.Rising.{none-sorted, sorted-at, sorted-push}
 use Rattle.ln_poly.specs.Times.{power_at}
-use Rattle.ln_poly.specs.Sparse.{AreBelow, AreRising, IsPoly, Sparse, coefficient_at, part_at, size_of, terms_of}
+use Rattle.ln_poly.specs.Sparse.{AreBelow, AreRising, AreSorted, IsPoly, Sparse, coefficient_at, part_at, size_of, terms_of}
 use Rattle.ln_poly.specs.Derivative.{IsDerivedPut, IsDeriving, IsLowered, derivative}
 use Rattle.ln_poly.proofs.TermLists.Coefficients.{coefficient_at-nil, coefficient_at-push, size-nil, size-push}
 use Rattle.ln_tree.proofs.Powers.{power-apart, power-here}

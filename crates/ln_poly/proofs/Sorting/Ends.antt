@@ -12,9 +12,8 @@ use Rattle.std.specs.List.Sorted.{IsStrictlySortedBy}
 use Rattle.std.specs.Ordering.{MatchOrdering, is_eq, on, ordering_reverse}
 use Rattle.std.specs.declared.cmp.Ordering.{Ordering}
 use Rattle.ln_tree.specs.Exps.{IsAbove, IsRising, Pairs, pairs_cmp, pairs_cmp-total, same_pairs-is, same_pairs-ties}
-use Rattle.ln_poly.specs.Gather.{AreSorted}
 use Rattle.ln_poly.specs.Merge.{AllBefore, AreBefore, EndAlike, EndsLater, IsBeforeAll, IsSumOf, IsTaken}
-use Rattle.ln_poly.specs.Sparse.{AreBelow, AreRising, Sparse, coefficient_at, part_at, size_of}
+use Rattle.ln_poly.specs.Sparse.{AreBelow, AreRising, AreSorted, Sparse, coefficient_at, part_at, size_of}
 use Rattle.ln_poly.proofs.Sorting.Rising.{sorted-at}
 use Rattle.ln_poly.proofs.TermLists.Coefficients.{coefficient_at-push, part-sum, size-push}
 

@@ -8,9 +8,8 @@ use Rattle.std.specs.List.Sorted.{IsStrictlySortedBy}
 use Rattle.std.specs.Ordering.{on}
 use Rattle.ln_algebra.proofs.Expanded.Normal.{zero_cases}
 use Rattle.ln_tree.specs.Exps.{IsAbove, IsRising, Pairs, pairs_cmp}
-use Rattle.ln_poly.specs.Gather.{AreSorted}
 use Rattle.ln_poly.specs.Merge.{AreBefore, IsBeforeAll, IsMerging, IsTaken}
-use Rattle.ln_poly.specs.Sparse.{AreBelow, AreRising, IsFactor, IsPoly, Sparse, coefficient_at, part_at, size_of}
+use Rattle.ln_poly.specs.Sparse.{AreBelow, AreRising, AreSorted, IsFactor, IsPoly, Sparse, coefficient_at, part_at, size_of}
 use Rattle.ln_poly.proofs.Sorting.Rising.{none-sorted}
 use Rattle.ln_poly.proofs.TermLists.Coefficients.{coefficient_at-cons, coefficient_at-nil, part-zero, size-cons, size-nil}
 

@@ -6,8 +6,7 @@ use Rattle.std.specs.List.{AllByRecursion}
 use Rattle.std.specs.List.Sorted.{IsStrictlySortedBy}
 use Rattle.std.specs.Ordering.{on}
 use Rattle.ln_tree.specs.Exps.{Pairs, pairs_cmp}
-use Rattle.ln_poly.specs.Gather.{AreSorted}
-use Rattle.ln_poly.specs.Sparse.{Sparse}
+use Rattle.ln_poly.specs.Sparse.{AreSorted, Sparse}
 
 pub none-sorted : AreSorted []
 unfolding IsStrictlySortedBy

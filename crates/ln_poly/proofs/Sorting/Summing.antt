@@ -1,12 +1,14 @@
 -- A sum in place of the first polynomial.
-use Rattle.std.proofs.Common.{◌≡◌, ℕ, ◌+◌, ◌<◌, ◌≤◌, refl, sym, ◌∙◌, ap, subst, arith, List, [], ◌∷◌, ◌++◌, length, get_or, unsigned_abs, Bool, true, eqb}
+use Rattle.std.proofs.Common.{◌≡◌, ℕ, ◌+◌, ◌<◌, ◌≤◌, refl, sym, ◌∙◌, ap, subst, arith, List, [], ◌∷◌, ◌++◌, length, get_or, unsigned_abs, Bool, true, eqb, Less, ◌⊎◌, inl, inr}
 use Rattle.std.proofs.lemmas.Int.{ints}
 use Rattle.std.proofs.Math.IntN.{ℤ, ◌+ℤ◌}
 use Rattle.std.proofs.lemmas.Bool.{eqb-true}
 use Rattle.std.proofs.lemmas.List.{get_or_default, take_all}
 use Rattle.std.proofs.lemmas.List.Elements.{All-nil, All-push}
-use Rattle.ln_tree.specs.Exps.{IsAbove, IsRising, Pairs, same_pairs, same_pairs-is}
-use Rattle.ln_poly.specs.Sparse.{Sparse, coefficient_at, exps_of, part_at, size_of}
+use Rattle.ln_poly.specs.Merge.{AllBefore}
+use Rattle.ln_poly.proofs.Sorting.Rising.{none-sorted, sorted-at, sorted-push}
+use Rattle.ln_tree.specs.Exps.{IsAbove, IsRising, Pairs, pairs_cmp, same_pairs, same_pairs-is}
+use Rattle.ln_poly.specs.Sparse.{AreSorted, Sparse, coefficient_at, exps_of, part_at, size_of}
 use Rattle.ln_poly.specs.Sums.{IsPutIn, IsSpread}
 use Rattle.ln_poly.proofs.TermLists.Coefficients.{coefficient_at-more, coefficient_at-nil, coefficient_at-push, size-more, size-next, size-nil, size-push}
 
@@ -21,6 +23,7 @@ put_in-added f' f more t e a s = record {
   size = omega (arith, s);
   rising = λ _ h. h;
   below = λ k _ h. h;
+  put = inl refl;
 }
 
 pub put_in-pushed : (f more : Sparse) (t : Pairs × ℤ) → IsPutIn f (more ++ (t ∷ [])) f more t
@@ -30,6 +33,7 @@ put_in-pushed f more t = record {
   size = omega (arith, size-push more t);
   rising = λ a h. All-push (λ z. IsRising z.0) more t h a;
   below = λ k a h. All-push (λ z. IsAbove z.0 k) more t h a;
+  put = inr refl;
 }
 
 -- ---- all terms
@@ -40,10 +44,21 @@ spread-init f g = record {
   size = omega (arith, size-nil);
   rising = λ _. All-nil (λ z. IsRising z.0);
   below = λ k _. All-nil (λ z. IsAbove z.0 k);
+  sorted = λ _. none-sorted;
+  before = λ e _. All-nil (λ y. pairs_cmp y.0 e ≡ Less);
 }
 
 pub spread-room : (f more old g : Sparse) (i : ℕ) (t : Pairs × ℤ) (k : ℕ) → IsSpread f more old g i → i < length g → t ≡ get_or g i t → size_of old + size_of g < k → size_of f + unsigned_abs t.1 < k
 spread-room f more old g i t k r h e room = omega (arith, r.size, size-next g i t h e, room)
+
+-- what is put is in order
+more-sorted : (more' more g : Sparse) (i : ℕ) (t : Pairs × ℤ) → i < length g → t ≡ get_or g i t → (more' ≡ more) ⊎ (more' ≡ more ++ (t ∷ [])) → AreSorted g → AreSorted more → ((e : Pairs) → ((j : ℕ) (d : Pairs × ℤ) → j < i → pairs_cmp (get_or g j d).0 e ≡ Less) → AllBefore more e) → AreSorted more'
+more-sorted more' more g i t h e (inl p) s r b = subst AreSorted (sym p) r
+more-sorted more' more g i t h e (inr p) s r b = subst AreSorted (sym p) (sorted-push more t r (b t.0 (λ j d l. subst (λ z. pairs_cmp (get_or g j d).0 z.0 ≡ Less) (sym e) (sorted-at g j i d t l h s))))
+
+more-before : (more' more g : Sparse) (i : ℕ) (t : Pairs × ℤ) → t ≡ get_or g i t → (more' ≡ more) ⊎ (more' ≡ more ++ (t ∷ [])) → ((e : Pairs) → ((j : ℕ) (d : Pairs × ℤ) → j < i → pairs_cmp (get_or g j d).0 e ≡ Less) → AllBefore more e) → (e : Pairs) → ((j : ℕ) (d : Pairs × ℤ) → j < i + 1 → pairs_cmp (get_or g j d).0 e ≡ Less) → AllBefore more' e
+more-before more' more g i t q (inl p) b e k = subst (λ z. AllBefore z e) (sym p) (b e (λ j d l. k j d (omega arith)))
+more-before more' more g i t q (inr p) b e k = subst (λ z. AllBefore z e) (sym p) (All-push (λ y. pairs_cmp y.0 e ≡ Less) more t (b e (λ j d l. k j d (omega arith))) (subst (λ z. pairs_cmp z.0 e ≡ Less) (sym q) (k i t (omega arith))))
 
 pub spread-step : (f' more' f more old g : Sparse) (i : ℕ) (t : Pairs × ℤ) → IsSpread f more old g i → i < length g → t ≡ get_or g i t → IsPutIn f' more' f more t → IsSpread f' more' old g (i + 1)
 spread-step f' more' f more old g i t r h e p = record {
@@ -52,6 +67,8 @@ spread-step f' more' f more old g i t r h e p = record {
   size = let a : unsigned_abs t.1 ≡ unsigned_abs (get_or g i t).1 = ap (λ w. unsigned_abs w.1) e in omega (arith, r.size, p.size, size-more g i t h, a);
   rising = λ a. p.rising (subst (λ z. IsRising z.0) (sym e) (a i t h)) (r.rising a);
   below = λ k a. p.below k (subst (λ z. IsAbove z.0 k) (sym e) (a i t h)) (r.below k a);
+  sorted = λ s. more-sorted more' more g i t h e p.put s (r.sorted s) r.before;
+  before = more-before more' more g i t e p.put r.before;
 }
 
 pub spread-coefficient : (f more old g : Sparse) → IsSpread f more old g (length g) → (n : ℕ) (m : List ℕ) → coefficient_at n f m +ℤ coefficient_at n more m ≡ coefficient_at n old m +ℤ coefficient_at n g m

@@ -9,9 +9,8 @@ use Rattle.std.specs.Ordering.{on}
 use Rattle.ln_algebra.proofs.Ordering.Products.{times-zero}
 use Rattle.ln_tree.specs.Exps.{IsRising, Pairs, pairs_cmp}
 use Rattle.ln_tree.proofs.Monomials.{products-kept}
-use Rattle.ln_poly.specs.Gather.{AreSorted}
 use Rattle.ln_poly.specs.Rows.{AreProducts, IsProduct, IsRow, IsRows}
-use Rattle.ln_poly.specs.Sparse.{AreRising, IsFactor, IsPoly, Sparse, size_of}
+use Rattle.ln_poly.specs.Sparse.{AreRising, AreSorted, IsFactor, IsPoly, Sparse, size_of}
 use Rattle.ln_poly.proofs.TermLists.Coefficients.{size-cons, size-nil}
 use Rattle.ln_poly.proofs.TermLists.Products.{rows-begin, rows-step}
 

@@ -14,7 +14,7 @@ use Rattle.ln_tree.specs.Exps.{IsAbove, IsRising, Pairs, pairs_cmp, same_pairs-t
 use Rattle.ln_tree.proofs.Powers.{vector-length}
 use Rattle.ln_poly.specs.Expansion.{IsNormal}
 use Rattle.ln_poly.specs.Sparse.{AreBelow, AreRising, IsFactor, IsPoly, Sparse, coefficient_at}
-use Rattle.ln_poly.proofs.Sorting.Gathering.{pairs_cmp-total}
+use Rattle.ln_tree.specs.Exps.{pairs_cmp-total}
 use Rattle.ln_stage.specs.Kept.{all_rows}
 use Rattle.ln_stage.proofs.Monomials.MonomialLemmas.{IsTerms, rows-monomials}
 use Rattle.ln_stage.proofs.Walks.PairsLemmas.{same-pairs, same_pairs-refl}

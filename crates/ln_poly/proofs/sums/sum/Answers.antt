@@ -1,8 +1,7 @@
 -- What is left to show of `sum`.
 use Rattle.std.proofs.Common.{subst, sym}
 use Rattle.ln_tree.specs.Exps.{IsAbove, IsRising}
-use Rattle.ln_poly.specs.Gather.{AreSorted}
-use Rattle.ln_poly.specs.Sparse.{AreBelow, AreRising}
+use Rattle.ln_poly.specs.Sparse.{AreBelow, AreRising, AreSorted}
 use Rattle.ln_poly.proofs.Sorting.Gathering.{same-all, same-sorted}
 use Rattle.ln_poly.proofs.sums.sum.Goals as goal
 
@@ -17,3 +16,6 @@ returns-clause-below c = λ n a b.
     c.in_ok-h.ensures.below n
     (same-all (λ e. IsAbove e n) c.into_terms-terms.result.items c.spread.new.f.items c.in_ok-more.ensures.exps (subst (AreBelow n) (sym c.into_terms-terms.ensures.value) a))
     (c.in_ok-more.ensures.below n (subst (AreBelow n) (sym c.terms.ensures.value) b))
+
+pub joined-requires-clause-more_sorted : goal.joined-requires-clause-more_sorted
+joined-requires-clause-more_sorted c = c.in_ok-more.ensures.sorted (subst AreSorted (sym c.terms.ensures.value) c.terms.ensures.form.sorted)

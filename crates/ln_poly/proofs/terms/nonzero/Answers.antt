@@ -4,7 +4,7 @@ use Rattle.std.specs.List.{filter}
 use Rattle.std.proofs.lemmas.List.Elements.{All-filter, filter_from_retain}
 use Rattle.ln_tree.specs.Exps.{IsAbove}
 use Rattle.ln_poly.proofs.Sorting.Gathering.{has_factor, filtered-coefficient, filtered-size, is_poly}
-use Rattle.ln_poly.proofs.gather.nonzero.Goals as goal
+use Rattle.ln_poly.proofs.terms.nonzero.Goals as goal
 
 pub seal-requires : goal.seal-requires
 seal-requires c =

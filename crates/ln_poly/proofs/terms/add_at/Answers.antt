@@ -2,7 +2,7 @@ use Rattle.std.proofs.Common.{arith}
 use Rattle.std.proofs.lemmas.Int.{ints}
 use Rattle.ln_poly.proofs.TermLists.Coefficients.{adds-term, size-set, item-small}
 use Rattle.ln_poly.proofs.Sorting.Gathering.{exps-set}
-use Rattle.ln_poly.proofs.gather.add_at.Goals as goal
+use Rattle.ln_poly.proofs.terms.add_at.Goals as goal
 
 pub overflow_add-index_mut : goal.overflow_add-index_mut
 overflow_add-index_mut c =

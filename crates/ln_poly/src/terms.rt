@@ -1,0 +1,47 @@
+//! Steps on lists of terms.
+ghost use Rattle.std.specs.Prelude.{◌≡◌, ℕ, List, [], ◌∷◌, ◌++◌, false, ◌+◌, ◌-◌, ◌<◌, ◌≤◌, ◌^◌};
+ghost use Rattle.std.specs.Prelude.{◌+ℤ◌, IfOk, OnOk, unsigned_abs, length, slice_index_or};
+ghost use Rattle.std.specs.List.{dedup};
+ghost use Rattle.std.specs.List.Sorted.{IsSorted};
+ghost use Rattle.ln_tree.specs.Exps.{same_pairs};
+ghost use Rattle.ln_poly.specs.Sparse.{AreBelow, AreRising, AreSorted, IsPoly, coefficient_at, exps_of, part_at, size_of};
+
+use crate::poly::Poly;
+use ln_base::{NoMemory, Seq};
+use ln_tree::Exps;
+use std::alloc::Global;
+
+// Adds the factor of a term to the one at a place, which has the same exponents.
+pub(crate) fn add_at(out: &mut Vec<(Exps, i128)>, at: usize, t: &(Exps, i128))
+    requires in_bounds { at < length out.old.items }
+    requires same { (slice_index_or out.old.items at t.now).0 ≡ t.now.0 }
+    requires room { size_of out.old.items + unsigned_abs t.now.1 < 2 ^ 127 }
+    ensures exps { exps_of out.new.items ≡ exps_of out.old.items }
+    ensures coefficients { (n : ℕ) (m : List ℕ) → coefficient_at n out.new.items m ≡ coefficient_at n out.old.items m +ℤ part_at n t.now m }
+    ensures size { size_of out.new.items ≤ size_of out.old.items + unsigned_abs t.now.1 }
+{
+    out[at].1 += t.1;
+}
+
+// Puts a term at the end.
+pub(crate) fn push(out: &mut Vec<(Exps, i128)>, t: &(Exps, i128)) -> Result<(), NoMemory>
+    ensures { OnOk result (out.new.items ≡ out.old.items ++ t.now ∷ []) }
+{
+    out.push((t.0.copy()?, t.1))?;
+    Ok(())
+}
+
+// The polynomial of terms in order: zeros are left out. It takes no memory.
+pub(crate) fn nonzero(terms: Vec<(Exps, i128)>) -> Poly
+    requires small { size_of terms.items < 2 ^ 127 }
+    requires rising { AreRising terms.items }
+    requires sorted { AreSorted terms.items }
+    ensures coefficients { (n : ℕ) (m : List ℕ) → coefficient_at n result m ≡ coefficient_at n terms.items m }
+    ensures size { size_of result ≤ size_of terms.items }
+    ensures form { IsPoly result }
+    ensures below { (n : ℕ) → AreBelow n terms.items → AreBelow n result }
+{
+    let mut out = terms;
+    out.retain(|t| t.1 != 0);
+    Poly::seal(Seq::from_vec(out))
+}
