@@ -3,3 +3,6 @@ pub mod Cut
 pub mod Walk
 pub mod Stages
 pub mod Along
+pub mod Listings
+pub mod Layers
+pub mod GradedStages

@@ -32,7 +32,9 @@ pub use orders::{
 };
 pub use sizing::{coefficients_are_within_sizes, sizes_are_within_weights};
 pub use splitting::{covered_by_is_all, splits_are_all_sums, ways_are_all_sums};
-pub use staging::{cut_loses_nothing, there_is_a_first, walk_lists_the_stages};
+pub use staging::{
+    cut_loses_nothing, layers_list_the_stages, there_is_a_first, walk_lists_the_stages,
+};
 pub use weighing::{
     derivatives_weigh_the_whole, normal_weighs_at_most_the_tree, values_are_within_weights,
 };

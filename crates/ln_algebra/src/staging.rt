@@ -1,5 +1,6 @@
 //! Laws of stages and of the cut.
 
+ghost use Rattle.ln_algebra.specs.Layers.{LayersListTheStages, OutOfReachIsEmpty};
 ghost use Rattle.ln_algebra.specs.StageLaw.{FirstIsStage, FirstNonzeroStageIsFirst, LastIsConstant};
 ghost use Rattle.ln_algebra.specs.StageLaw.{NonzeroHasFirst, SignAlongTheStages, UncoveredIsZero};
 ghost use Rattle.ln_algebra.specs.StageLaw.{WalkListsTheStages, WithoutParamsThereIsFirst, ZeroStagesHaveNoFirst};
@@ -32,4 +33,13 @@ pub fn there_is_a_first()
 /// a listing.
 pub fn walk_lists_the_stages()
     ensures { WalkListsTheStages }
+{}
+
+/// The walk over total degrees, layer by layer, with its cut, gives the stage list by total degree first; and where no monomial
+/// reaches a degree it lists nothing, so a way that leads nowhere may be passed by.
+///
+/// On it rest the lists of a program by total degree.
+pub fn layers_list_the_stages()
+    ensures stages { LayersListTheStages }
+    ensures reach { OutOfReachIsEmpty }
 {}

@@ -14,7 +14,7 @@ use Rattle.ln_algebra.specs.Walk.{AllBelow, AreMonomials, AreMonomialsBy, IsRank
 
 -- ---- covers, variable by variable
 -- then each exponent is at least the other's
-covers-get : (m a : List ℕ) → covers m a ≡ true → (v : ℕ) → get_or a v 0 ≤ get_or m v 0
+pub covers-get : (m a : List ℕ) → covers m a ≡ true → (v : ℕ) → get_or a v 0 ≤ get_or m v 0
 covers-get [] [] c v = omega arith
 covers-get [] (k ∷ a) c v = cc
 covers-get (n ∷ m) [] c v = cc
@@ -22,20 +22,20 @@ covers-get (n ∷ m) (k ∷ a) c zero = leb-true k n (and_parts (leb k n) (cover
 covers-get (n ∷ m) (k ∷ a) c (suc v) = covers-get m a (and_parts (leb k n) (covers m a) c).1 v
 
 -- and the other way
-covers-from : (m a : List ℕ) → length m ≡ length a → ((v : ℕ) → get_or a v 0 ≤ get_or m v 0) → covers m a ≡ true
+pub covers-from : (m a : List ℕ) → length m ≡ length a → ((v : ℕ) → get_or a v 0 ≤ get_or m v 0) → covers m a ≡ true
 covers-from [] [] e h = refl
 covers-from [] (k ∷ a) e h = absurd (omega arith)
 covers-from (n ∷ m) [] e h = absurd (omega arith)
 covers-from (n ∷ m) (k ∷ a) e h = rw (le-leb k n (h 0)) (covers-from m a (omega arith) (λ v. h (suc v)))
 
 -- the same on some variables alone
-CoversOn-get : (vs m a : List ℕ) → CoversOn vs m a → (v : ℕ) → Member vs v → get_or a v 0 ≤ get_or m v 0
+pub CoversOn-get : (vs m a : List ℕ) → CoversOn vs m a → (v : ℕ) → Member vs v → get_or a v 0 ≤ get_or m v 0
 CoversOn-get [] m a c v i = absurd i
 CoversOn-get (u ∷ vs) m a c v (inl e) = rw e c.0
 CoversOn-get (u ∷ vs) m a c v (inr i) = CoversOn-get vs m a c.1 v i
 
 -- and the other way
-CoversOn-from : (vs m a : List ℕ) → ((v : ℕ) → get_or a v 0 ≤ get_or m v 0) → CoversOn vs m a
+pub CoversOn-from : (vs m a : List ℕ) → ((v : ℕ) → get_or a v 0 ≤ get_or m v 0) → CoversOn vs m a
 CoversOn-from [] m a h = tt
 CoversOn-from (v ∷ vs) m a h = (h v, CoversOn-from vs m a h)
 
@@ -47,29 +47,29 @@ zeros-get (suc n) zero = refl
 zeros-get (suc n) (suc v) = zeros-get n v
 
 -- a variable that isn't a member is none of them
-fresh_from : (vs : List ℕ) (v : ℕ) → (Member vs v → ⊥) → Fresh v vs
+pub fresh_from : (vs : List ℕ) (v : ℕ) → (Member vs v → ⊥) → Fresh v vs
 fresh_from [] v h = tt
 fresh_from (u ∷ vs) v h = (λ e. h (inl e), fresh_from vs v (λ i. h (inr i)))
 
 -- and the other way
-fresh-not : (vs : List ℕ) (v : ℕ) → Fresh v vs → Member vs v → ⊥
+pub fresh-not : (vs : List ℕ) (v : ℕ) → Fresh v vs → Member vs v → ⊥
 fresh-not [] v f i = i
 fresh-not (u ∷ vs) v f (inl e) = f.0 e
 fresh-not (u ∷ vs) v f (inr i) = fresh-not vs v f.1 i
 
 -- each variable of the list has a site
-ranked-site : (sites : Sites) (vs : List ℕ) → IsRanked sites vs → (v : ℕ) → Member vs v → (s : ℕ) × Of sites v s
+pub ranked-site : (sites : Sites) (vs : List ℕ) → IsRanked sites vs → (v : ℕ) → Member vs v → (s : ℕ) × Of sites v s
 ranked-site sites [] r v i = absurd i
 ranked-site sites (u ∷ vs) r v (inl e) = (r.0, rw e r.1)
 ranked-site sites (u ∷ vs) r v (inr i) = ranked-site sites vs r.3 v i
 
 -- no variable stands twice in a ranking
-ranked-distinct : (sites : Sites) (vs : List ℕ) → IsRanked sites vs → Distinct vs
+pub ranked-distinct : (sites : Sites) (vs : List ℕ) → IsRanked sites vs → Distinct vs
 ranked-distinct sites [] r = tt
 ranked-distinct sites (v ∷ vs) r = (fresh_from vs v (λ i. before-irreflexive sites v (r.2 v i)), ranked-distinct sites vs r.3)
 
 -- each is below n
-inside_from : (n : ℕ) (vs : List ℕ) → ((v : ℕ) → Member vs v → v < n) → Inside vs n
+pub inside_from : (n : ℕ) (vs : List ℕ) → ((v : ℕ) → Member vs v → v < n) → Inside vs n
 inside_from n [] h = tt
 inside_from n (v ∷ vs) h = (h v (inl refl), inside_from n vs (λ u i. h u (inr i)))
 

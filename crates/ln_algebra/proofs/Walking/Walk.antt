@@ -20,13 +20,13 @@ In-append_right [] ys m h = h
 In-append_right (x ∷ xs) ys m h = inr (In-append_right xs ys m h)
 
 -- and there are no others
-In-append : (xs ys : List (List ℕ)) (m : List ℕ) → In (xs ++ ys) m → In xs m ⊎ In ys m
+pub In-append : (xs ys : List (List ℕ)) (m : List ℕ) → In (xs ++ ys) m → In xs m ⊎ In ys m
 In-append [] ys m h = inr h
 In-append (x ∷ xs) ys m (inl e) = inl (inl e)
 In-append (x ∷ xs) ys m (inr h) = elim (In-append xs ys m h) [ inl k ↦ inl (inr k) | inr k ↦ inr k ]
 
 -- what is kept was there and has the exponent
-at_least-in : (v e : ℕ) (ms : List (List ℕ)) (m : List ℕ) → In (at_least v e ms) m → In ms m × (e ≤ get_or m v 0)
+pub at_least-in : (v e : ℕ) (ms : List (List ℕ)) (m : List ℕ) → In (at_least v e ms) m → In ms m × (e ≤ get_or m v 0)
 at_least-in v e [] m h = absurd h
 at_least-in v e (x ∷ ms) m h = by_case (leb e (get_or x v 0)) refl (at_least-in v e ms m) where
   by_case : (b : Bool) → leb e (get_or x v 0) ≡ b → (In (at_least v e ms) m → In ms m × (e ≤ get_or m v 0)) → In (x ∷ ms) m × (e ≤ get_or m v 0)
@@ -34,7 +34,7 @@ at_least-in v e (x ∷ ms) m h = by_case (leb e (get_or x v 0)) refl (at_least-i
   by_case false d ih = (let k : In (at_least v e ms) m = rw d at h in (inr (ih k).0, (ih k).1))
 
 -- and the other way
-in-at_least : (v e : ℕ) (ms : List (List ℕ)) (m : List ℕ) → In ms m → e ≤ get_or m v 0 → In (at_least v e ms) m
+pub in-at_least : (v e : ℕ) (ms : List (List ℕ)) (m : List ℕ) → In ms m → e ≤ get_or m v 0 → In (at_least v e ms) m
 in-at_least v e [] m h l = absurd h
 in-at_least v e (x ∷ ms) m (inl q) l = let d : leb e (get_or x v 0) ≡ true = le-leb e (get_or x v 0) (rw (← q) l) in rw d (inl q)
 in-at_least v e (x ∷ ms) m (inr h) l = by_case (leb e (get_or x v 0)) refl (in-at_least v e ms m h l) where
@@ -98,18 +98,18 @@ From v vs p e a = Region (v ∷ vs) p a × (e ≤ get_or a v 0)
 
 module _ (v : ℕ) (vs : List ℕ) (fresh : Fresh v vs) (p : List ℕ) (inside_p : v < length p) (e : ℕ) where
   -- where v has the exponent e, the region of the others
-  down : (a : List ℕ) → Region (v ∷ vs) p a → get_or a v 0 ≡ e → Region vs (set p v e) a
+  pub down : (a : List ℕ) → Region (v ∷ vs) p a → get_or a v 0 ≡ e → Region vs (set p v e) a
   down a r q = record { size = r.size ∙ sym (length-set p v e); off = λ u f. by_case u f (cases_eq u v) } where
     by_case : (u : ℕ) → Fresh u vs → (u ≡ v) ⊎ (u ≡ v → ⊥) → get_or a u 0 ≡ get_or (set p v e) u 0
     by_case u f (inl d) = rw d (q ∙ sym (get_or-set_same p v e 0 inside_p))
     by_case u f (inr d) = r.off u (d, f) ∙ sym (get_or-set_other p v u e 0 d)
 
   -- and the other way
-  up : (a : List ℕ) → Region vs (set p v e) a → Region (v ∷ vs) p a
+  pub up : (a : List ℕ) → Region vs (set p v e) a → Region (v ∷ vs) p a
   up a r = record { size = r.size ∙ length-set p v e; off = λ u f. r.off u f.1 ∙ get_or-set_other p v u e 0 f.0 }
 
   -- there v has the exponent e
-  fixed : (a : List ℕ) → Region vs (set p v e) a → get_or a v 0 ≡ e
+  pub fixed : (a : List ℕ) → Region vs (set p v e) a → get_or a v 0 ≡ e
   fixed a r = r.off v fresh ∙ get_or-set_same p v e 0 inside_p
 
 module _ (v : ℕ) (vs : List ℕ) (ms : List (List ℕ)) (e : ℕ) where
@@ -226,18 +226,18 @@ module _ (v : ℕ) (vs : List ℕ) (fresh : Fresh v vs) (p : List ℕ) (inside_p
 
 -- ---- the walk
 -- then each is
-all_same-is : (ms : List (List ℕ)) (a m : List ℕ) → all_same ms a ≡ true → In ms m → m ≡ a
+pub all_same-is : (ms : List (List ℕ)) (a m : List ℕ) → all_same ms a ≡ true → In ms m → m ≡ a
 all_same-is [] a m h i = absurd i
 all_same-is (x ∷ ms) a m h (inl q) = q ∙ same_vector-is x a (and_parts (same_vector x a) (all_same ms a) h).0
 all_same-is (x ∷ ms) a m h (inr i) = all_same-is ms a m (and_parts (same_vector x a) (all_same ms a) h).1 i
 
 -- and the other way
-is-all_same : (ms : List (List ℕ)) (a : List ℕ) → ((m : List ℕ) → In ms m → m ≡ a) → all_same ms a ≡ true
+pub is-all_same : (ms : List (List ℕ)) (a : List ℕ) → ((m : List ℕ) → In ms m → m ≡ a) → all_same ms a ≡ true
 is-all_same [] a h = refl
 is-all_same (x ∷ ms) a h = let q : x ≡ a = h x (inl refl) in let s : same_vector x a ≡ true = rw q (same_vector-refl a) in rw s (is-all_same ms a (λ m i. h m (inr i)))
 
 -- where no variable is left the region is one vector
-region-end : (p a : List ℕ) → Region [] p a → a ≡ p
+pub region-end : (p a : List ℕ) → Region [] p a → a ≡ p
 region-end p a r = same_number_lists a p r.size (λ k l. r.off k tt)
 
 -- and the list is that vector
@@ -261,17 +261,17 @@ Inside [] n = Unit {0}
 Inside (v ∷ vs) n = (v < n) × Inside vs n
 
 -- nothing, where there are no vectors
-unless_none-nil : (l : List (List ℕ)) (r : Found) → l ≡ [] → unless_none l r ≡ ([], false)
+pub unless_none-nil : (l : List (List ℕ)) (r : Found) → l ≡ [] → unless_none l r ≡ ([], false)
 unless_none-nil [] r d = refl
 unless_none-nil (m ∷ l) r d = cc
 
 -- and all, where there is one
-unless_none-cons : (l : List (List ℕ)) (m : List ℕ) (k : List (List ℕ)) (r : Found) → l ≡ m ∷ k → unless_none l r ≡ r
+pub unless_none-cons : (l : List (List ℕ)) (m : List ℕ) (k : List (List ℕ)) (r : Found) → l ≡ m ∷ k → unless_none l r ≡ r
 unless_none-cons [] m k r d = cc
 unless_none-cons (x ∷ l) m k r d = refl
 
 -- an empty list has no member
-no_member : (l : List (List ℕ)) (m : List ℕ) → l ≡ [] → In l m → ⊥
+pub no_member : (l : List (List ℕ)) (m : List ℕ) → l ≡ [] → In l m → ⊥
 no_member [] m d i = i
 no_member (x ∷ l) m d i = cc
 
@@ -301,7 +301,7 @@ below_at_least : (bound v e : ℕ) (ms : List (List ℕ)) → AllBelow bound ms 
 below_at_least bound v e ms h m u i = h m u (at_least-in v e ms m i).0
 
 -- a vector with one exponent changed is as long
-inside_set : (vs : List ℕ) (p : List ℕ) (v e : ℕ) → Inside vs (length p) → Inside vs (length (set p v e))
+pub inside_set : (vs : List ℕ) (p : List ℕ) (v e : ℕ) → Inside vs (length p) → Inside vs (length (set p v e))
 inside_set vs p v e h = rw length-set h
 
 -- from the exponent 0 on is all
