@@ -14,6 +14,7 @@ pub mod MachineLaw
 pub mod Pushes
 pub mod NodeList
 pub mod Nodes
+pub mod NodePushes
 pub mod Errors
 pub mod Law
 pub mod Memory

@@ -1,14 +1,15 @@
 //! Blocks.
-ghost use Rattle.std.specs.Prelude.{◌≡◌, ◌<◌, map};
+ghost use Rattle.std.specs.Prelude.{◌≡◌, ◌<◌, map, IfOk};
 ghost use Rattle.ln_interval.specs.View.{range};
 ghost use Rattle.ln_code.specs.Part.{Code, is_wide, wide_in};
 ghost use Rattle.ln_code.specs.Kept.{IsBlock};
 
 use crate::op::Op;
-use ln_base::Seq;
+use ln_base::{NoMemory, Seq};
 use ln_bound::Width;
 use ln_interval::Pair;
 use ln_tree::Exps;
+use std::alloc::Global;
 use std::marker::Model;
 
 /// A block: the exponents of its derivative, and the operations that compute it, each with the pair of the values that it may
@@ -98,6 +99,22 @@ impl Block {
         ensures kept { IsBlock self.now }
     {
         self.pairs.as_slice()
+    }
+
+    /// An equal block.
+    pub fn copy(&self, alloc: Global) -> Result<Block, NoMemory>
+        ensures { IfOk result (λ b. b ≡ self.now) }
+    {
+        let exps = self.exps.copy()?;
+        let ops = self.ops.as_slice().to_vec(alloc)?;
+        let pairs = self.pairs.as_slice().to_vec(alloc)?;
+        Ok(Block {
+            exps,
+            ops: Seq::from_vec(ops),
+            pairs: Seq::from_vec(pairs),
+            depth: self.depth,
+            wide: self.wide,
+        })
     }
 
     // How many places its stack may take.

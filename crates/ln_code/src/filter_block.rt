@@ -1,11 +1,12 @@
 //! Filters.
-ghost use Rattle.std.specs.Prelude.{◌≡◌, ◌≤◌, ◌<◌, ◌^◌, ◌+◌, length};
+ghost use Rattle.std.specs.Prelude.{◌≡◌, ◌≤◌, ◌<◌, ◌^◌, ◌+◌, length, IfOk};
 ghost use Rattle.ln_code.specs.Part.{FilterCode};
 ghost use Rattle.ln_code.specs.Kept.{IsFilter};
 ghost use Rattle.ln_code.specs.Errors.{size_after, error_behind, left_error};
 
 use crate::op::{Op, Triple};
-use ln_base::Seq;
+use ln_base::{NoMemory, Seq};
+use std::alloc::Global;
 use std::marker::Model;
 
 /// A filter: operations on truncated numbers, each with the triple of what it pushes. It needs a stack of at most 2,048
@@ -105,6 +106,20 @@ impl FilterBlock {
         ensures kept { IsFilter self.now }
     {
         self.triples.as_slice()
+    }
+
+    /// An equal filter.
+    pub fn copy(&self, alloc: Global) -> Result<FilterBlock, NoMemory>
+        ensures { IfOk result (λ f. f ≡ self.now) }
+    {
+        let ops = self.ops.as_slice().to_vec(alloc)?;
+        let triples = self.triples.as_slice().to_vec(alloc)?;
+        Ok(FilterBlock {
+            ops: Seq::from_vec(ops),
+            triples: Seq::from_vec(triples),
+            depth: self.depth,
+            error: self.error,
+        })
     }
 
     // How many places its stack may take.

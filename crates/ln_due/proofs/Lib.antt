@@ -1,3 +1,4 @@
 -- The files of this folder.
 pub mod Verdicts
 pub mod Parts
+pub mod Derivatives

@@ -1,5 +1,6 @@
 -- The files of this folder.
 pub mod Aloud
+pub mod Derivative
 pub mod Due
 pub mod DueLaw
 pub mod Plain

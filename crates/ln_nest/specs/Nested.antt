@@ -2,14 +2,9 @@
 use Rattle.std.specs.Prelude.{ℕ, zero, suc, ◌-◌, Bool, true, false, ℤ, pos, ◌+ℤ◌, List, [], ◌∷◌, if◌then◌else◌}
 use Rattle.ln_algebra.specs.Terms.{Term}
 use Rattle.std.specs.Prelude.{negsuc}
+pub use Rattle.ln_poly.specs.Lean.{exponent_of}
 use Rattle.std.specs.Ordering.{int_eq}
 use Rattle.ln_algebra.specs.Tree.{Tree, Num, Input, Name, Neg, Add, Sub, Mul, Pow}
-
--- the exponent of variable v
-abbrev pub exponent_of : ℕ → List ℕ → ℕ
-exponent_of v [] = 0
-exponent_of zero (n ∷ m) = n
-exponent_of (suc v) (n ∷ m) = exponent_of v m
 
 abbrev pub is_positive : ℕ → Bool
 is_positive zero = false

@@ -8,3 +8,4 @@ pub mod Negating
 pub mod Walks
 pub mod Turned
 pub mod Halves
+pub mod Exponents

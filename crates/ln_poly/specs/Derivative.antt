@@ -1,7 +1,8 @@
 -- Scaled derivatives, by one variable and by several.
-use Rattle.std.specs.Prelude.{◌≡◌, ℕ, ◌+◌, ◌-◌, ◌<◌, ◌≤◌, ◌*ℤ◌, ℤ, pos, List, [], ◌∷◌, ◌++◌, length, slice_index, slice_index_or, take, All}
+use Rattle.std.specs.Prelude.{◌≡◌, ℕ, ◌+◌, ◌-◌, ◌<◌, ◌≤◌, ◌*ℤ◌, ℤ, pos, List, [], ◌∷◌, ◌++◌, length, slice_index, slice_index_or, take, All, count_by}
 use Rattle.std.specs.declared.cmp.Ordering.TheVariants.{Less}
 use Rattle.ln_algebra.specs.Terms.{Term, binomial, derived, factor_at}
+use Rattle.ln_algebra.specs.Vector.{covers}
 use Rattle.ln_algebra.specs.Weights.{weighted_sum}
 use Rattle.ln_tree.specs.Exps.{IsRising, Pairs, exponent, pairs_cmp, vector}
 use Rattle.ln_poly.specs.Sparse.{AreBelow, AreRising, AreSorted, IsPoly, Sparse, coefficient_at, size_of, terms_of}
@@ -46,3 +47,7 @@ pub record IsDerivative (n : ℕ) (f : Sparse) (a : Pairs) (h : Sparse) : Type 0
   pub form : IsPoly h
   pub below : AreBelow n h
   pub coefficients : (m : List ℕ) → length m ≡ n → coefficient_at n h m ≡ factor_at (derived (vector n a) (terms_of n f)) m
+
+-- how many terms cover a; the terms of a polynomial are its monomials, each once
+abbrev pub covering : ℕ → Sparse → List ℕ → ℕ
+covering n f a = count_by (λ t. covers (vector n t.0) a) f

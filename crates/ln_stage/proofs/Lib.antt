@@ -2,3 +2,4 @@ pub mod Results
 pub mod Monomials
 pub mod Walks
 pub mod Sights
+pub mod Degrees

@@ -1,5 +1,6 @@
 -- What is found: segments, numbers, count and weight.
 pub mod FoldLemmas
+pub mod KeptLemmas
 pub mod ResultLemmas
 pub mod TallyLemmas
 pub mod SegmentLemmas

@@ -8,3 +8,5 @@ pub mod SiteWalk
 pub mod FirstSight
 pub mod Visit
 pub mod Sighted
+pub mod Degrees
+pub mod Graded

@@ -1,18 +1,25 @@
 -- The stage lists of all orders of the sites, their count and their weight.
-use Rattle.std.specs.Prelude.{◌≡◌, ℕ, ◌+◌, ◌<◌, ◌⊎◌, List, [], ◌∷◌, length, slice_index_or, count_by, if◌then◌else◌}
-use Rattle.ln_algebra.specs.Vector.{covers, same_vector}
+use Rattle.std.specs.Prelude.{◌≡◌, ℕ, ◌+◌, ◌<◌, ◌⊎◌, List, [], ◌∷◌, length, slice_index_or, if◌then◌else◌}
+use Rattle.ln_algebra.specs.Orders.{Before, BySmallest, Rank}
+use Rattle.ln_algebra.specs.Stage.{IsStageListBy}
+use Rattle.ln_algebra.specs.Vector.{same_vector}
 use Rattle.ln_tree.specs.declared.shape.VarInfo.{VarInfo}
-use Rattle.ln_tree.specs.Exps.{vector}
 use Rattle.ln_order.specs.Orders.{orders_of}
 use Rattle.ln_order.specs.Sites.{sites_of}
+pub use Rattle.ln_poly.specs.Derivative.{covering}
 use Rattle.ln_poly.specs.Sparse.{Sparse}
-use Rattle.ln_stage.specs.StageList.{IsStageListOf}
+use Rattle.ln_stage.specs.StageList.{IsMonomialOf}
 
--- a stage list for each order of the sites, in the order of the orders
-pub record AreStageLists (sites : ℕ) (vars : List VarInfo) (f : Sparse) (lists : List (List (List ℕ))) : Type 0 where
+-- a stage list for each order of the sites, in the order of the orders, by an order of infinitesimals
+pub record AreStageListsIn (rank : Rank) (sites : ℕ) (vars : List VarInfo) (f : Sparse) (lists : List (List (List ℕ))) : Type 0 where
   pub size : length lists ≡ length (orders_of sites)
   pub each : (j : ℕ) → j < length lists →
-      IsStageListOf (length vars) (sites_of vars (slice_index_or (orders_of sites) j [])) f (slice_index_or lists j [])
+      IsStageListBy (Before rank (sites_of vars (slice_index_or (orders_of sites) j []))) (length vars)
+      (sites_of vars (slice_index_or (orders_of sites) j [])) (IsMonomialOf (length vars) f) (slice_index_or lists j [])
+
+-- the same by the smallest infinitesimal in which two vectors differ
+abbrev pub AreStageLists : ℕ → List VarInfo → Sparse → List (List (List ℕ)) → Type 0
+AreStageLists sites vars f lists = AreStageListsIn BySmallest sites vars f lists
 
 -- the stage count: the sum of the lengths
 abbrev pub stage_count : List (List (List ℕ)) → ℕ
@@ -37,10 +44,6 @@ all_seen_behind bs (list ∷ lists) = all_seen_behind (seen_behind bs list) list
 -- the distinct vectors of the lists, in order of first sight
 abbrev pub first_seen : List (List (List ℕ)) → List (List ℕ)
 first_seen lists = all_seen_behind [] lists
-
--- how many terms cover a; the terms of a polynomial are its monomials, each once
-abbrev pub covering : ℕ → Sparse → List ℕ → ℕ
-covering n f a = count_by (λ t. covers (vector n t.0) a) f
 
 -- how many terms cover each of the vectors, taken together
 abbrev pub all_covering : ℕ → Sparse → List (List ℕ) → ℕ

@@ -8,7 +8,9 @@
 //! numbered in order of first sight, or says exactly why there is none; `Stages` has its five readers.
 #![tactic(auto)]
 
+pub mod graded;
 pub mod laws;
+pub(crate) mod layers;
 pub mod lists;
 pub mod segments;
 pub mod stop;
@@ -16,6 +18,7 @@ pub mod table;
 pub(crate) mod tally;
 pub(crate) mod walk;
 
+pub use graded::graded_stages;
 pub use laws::{
     cut_loses_nothing, derivatives_are_coefficients, first_seen_are_sighted, list_is_unique,
     lists_are_those_of_trees, product_rule, there_is_a_first,

@@ -23,7 +23,7 @@ use ln_tree::{Exps, Shape};
 use std::alloc::Global;
 
 // The places of so many terms.
-fn places(alloc: Global, n: usize) -> Result<Vec<usize>, NoMemory>
+pub(crate) fn places(alloc: Global, n: usize) -> Result<Vec<usize>, NoMemory>
     ensures { IfOk result (λ r. r.items ≡ range_with_len 0 n) }
 {
     let mut places = Vec::new(alloc);
@@ -34,7 +34,7 @@ fn places(alloc: Global, n: usize) -> Result<Vec<usize>, NoMemory>
 }
 
 // The vector of n exponents that are all 0.
-fn zeros(alloc: Global, n: usize) -> Result<Vec<u8>, NoMemory>
+pub(crate) fn zeros(alloc: Global, n: usize) -> Result<Vec<u8>, NoMemory>
     ensures { IfOk result (λ r. r.items ≡ replicate n 0) }
 {
     Ok(vec![in alloc; 0u8; n]?)
@@ -132,7 +132,7 @@ fn segment(
 }
 
 // How many orders so many sites have.
-fn orders(k: u8) -> u64
+pub(crate) fn orders(k: u8) -> u64
     requires { k ≤ 5 }
     ensures value { result ≡ length (orders_of k) }
     ensures few { result ≤ 120 }
@@ -147,7 +147,12 @@ fn orders(k: u8) -> u64
 }
 
 // The count with the stages of one segment more, which stands in so many lists.
-fn with_segment(count: u64, stages: usize, lists: u64, most: u64) -> Result<u64, StageStop>
+pub(crate) fn with_segment(
+    count: u64,
+    stages: usize,
+    lists: u64,
+    most: u64,
+) -> Result<u64, StageStop>
     requires few { lists ≤ 120 }
     ensures ok { IfOk result (λ n. n ≡ count + lists * stages) }
     ensures within { IfOk result (λ n. n ≤ most) }

@@ -102,4 +102,11 @@ impl Stages {
     {
         self.segments.as_slice()
     }
+
+    /// The segments of all prefixes, in the order of `all_prefixes`, handed over. It takes no memory.
+    pub fn into_segments(self) -> Seq<Seq<u32>>
+        ensures { result ≡ self.segments }
+    {
+        self.segments
+    }
 }

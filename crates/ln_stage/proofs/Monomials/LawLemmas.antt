@@ -11,11 +11,11 @@ use Rattle.ln_poly.specs.Sparse.{Sparse, coefficient_at, terms_of}
 use Rattle.ln_stage.specs.StageList.{IsMonomialOf, ListIsUnique, ListsAreThoseOfTrees}
 
 module _ (n : ℕ) (e : Tree) (f : Sparse) (h : IsNormalOf n e (terms_of n f)) where
-  to_tree : (m : List ℕ) → IsMonomialOf n f m → IsMonomial n e m
+  pub to_tree : (m : List ℕ) → IsMonomialOf n f m → IsMonomial n e m
   unfolding coefficient_at
   to_tree m k = record { size = k.size; nonzero = λ z. k.nonzero (h.coefficients m k.size ∙ z) }
 
-  of_tree : (m : List ℕ) → IsMonomial n e m → IsMonomialOf n f m
+  pub of_tree : (m : List ℕ) → IsMonomial n e m → IsMonomialOf n f m
   unfolding coefficient_at
   of_tree m k = record { size = k.size; nonzero = λ z. k.nonzero (sym (h.coefficients m k.size) ∙ z) }
 

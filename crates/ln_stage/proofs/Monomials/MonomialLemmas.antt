@@ -5,7 +5,7 @@ use Rattle.std.specs.List.{AllByRecursion}
 use Rattle.std.specs.List.Sorted.{IsStrictlySortedBy}
 use Rattle.std.specs.Ordering.{is_eq, on}
 use Rattle.std.specs.declared.cmp.Ordering.TheVariants.{Less}
-use Rattle.std.proofs.lemmas.Bool.{cases_eq, cases_lt}
+use Rattle.std.proofs.lemmas.Bool.{cases_lt}
 use Rattle.std.proofs.lemmas.Int.{ints}
 use Rattle.std.proofs.lemmas.List.{get_or_past}
 use Rattle.std.proofs.lemmas.List.Elements.{All-head, All-tail}
@@ -13,7 +13,8 @@ use Rattle.ln_algebra.specs.Vector.{In, same_vector}
 use Rattle.ln_algebra.specs.Walk.{AllBelow}
 use Rattle.ln_algebra.proofs.Expanded.Normal.{same_vector-is, same_vector-refl}
 use Rattle.ln_tree.specs.Exps.{IsAbove, IsRising, Pairs, exponent, pairs_cmp, same_pairs, same_pairs-ties, vector}
-use Rattle.ln_tree.proofs.Powers.{all_above-none, power-apart, power-here, vector-get, vector-length}
+use Rattle.ln_tree.proofs.Powers.{vector-get, vector-length}
+use Rattle.ln_poly.proofs.TermLists.Exponents.{exponent-small}
 use Rattle.ln_poly.specs.Sparse.{AreBelow, AreRising, IsFactor, IsPoly, Sparse, coefficient_at}
 use Rattle.ln_stage.specs.Kept.{all_rows}
 use Rattle.ln_stage.proofs.Walks.PairsLemmas.{same-pairs, same_pairs-refl}
@@ -107,14 +108,7 @@ rows-monomials n f p b = record {
 }
 
 -- ---- exponents are small
-exponent-small : (ps : Pairs) (v : ℕ) → IsRising ps → exponent v ps < 128
-exponent-small [] v r = omega arith
-exponent-small (p ∷ ps) v r = by_case (cases_eq p.0 v) (exponent-small ps v r.3) where
-  by_case : (p.0 ≡ v) ⊎ (p.0 ≡ v → ⊥) → exponent v ps < 128 → exponent v (p ∷ ps) < 128
-  by_case (inl e) ih = omega (arith, power-here v p e, all_above-none v ps (rw e at r.2), r.1)
-  by_case (inr ne) ih = omega (arith, power-apart v p ne, ih)
-
-vector-small : (n : ℕ) (ps : Pairs) (v : ℕ) → IsRising ps → get_or (vector n ps) v 0 < 128
+pub vector-small : (n : ℕ) (ps : Pairs) (v : ℕ) → IsRising ps → get_or (vector n ps) v 0 < 128
 vector-small n ps v r = elim (cases_lt v n) [ inl l ↦ omega (arith, vector-get n v ps l, exponent-small ps v r) | inr l ↦ omega (arith, get_or_past (vector n ps) v 0 (omega (arith, l, vector-length n ps))) ]
 
 pub rows-small : (n : ℕ) (f : Sparse) → AreRising f → AllBelow 128 (all_rows n f)

@@ -30,8 +30,10 @@ use Rattle.ln_stage.specs.Tally.{IsOver as IsPast, IsStoppedBy, Tallied, pairs_o
 use Rattle.ln_stage.specs.Visit.{segment_at}
 use Rattle.ln_stage.specs.declared.stop.StageStop.{StageStop}
 use Rattle.ln_stage.specs.declared.stop.StageStop.TheVariants.{Zero, Stages, NoMemory}
-use Rattle.ln_stage.proofs.Sights.FirstSightLemmas.{list-along, segments-are-fewer, stages-by-prefixes}
-use Rattle.ln_stage.proofs.Results.FoldLemmas.{AllSized, IsAllSeenBy, Sized, all-sized, extends-refl, seen-by}
+use Rattle.ln_stage.proofs.Sights.FirstSightLemmas.{list-along}
+use Rattle.ln_stage.proofs.Results.FoldLemmas.{Sized}
+use Rattle.ln_stage.proofs.Results.KeptLemmas.{AreAlong, sized-in}
+use Rattle.ln_stage.proofs.Results.KeptLemmas as by_lists
 pub use Rattle.ln_stage.proofs.Monomials.MonomialLemmas.{poly-terms}
 use Rattle.ln_stage.proofs.Monomials.MonomialLemmas.{IsTerms, rows-monomials, rows-small}
 use Rattle.ln_stage.proofs.Walks.PairsLemmas.{above-pairs, vector-pairs_of}
@@ -47,11 +49,6 @@ list-stages k vars f o h p t b =
     let m : rows (length (zeros (length vars))) f (range_with_len 0 (length f)) ≡ all_rows (length vars) f = ap (λ z. rows z f (range_with_len 0 (length f))) (length-zeros (length vars)) ∙ rows-all (length vars) f in
     let e : list_of vars f o ≡ (walk 128 (ranking_of vars o) (all_rows (length vars) f) (zeros (length vars))).0 = ap (λ z. (walk 128 (ranking_of vars o) z (zeros (length vars))).0) m in
     subst (λ l. IsStageListOf (length vars) (sites_of vars o) f l) (sym e) w
-
--- each of its vectors has all variables
-sized-in : (n : ℕ) (xs : List (List ℕ)) → ((a : List ℕ) → In xs a → length a ≡ n) → Sized n xs
-sized-in n [] h = tt
-sized-in n (x ∷ xs) h = (h x (inl refl), sized-in n xs (λ a i. h a (inr i)))
 
 -- ---- the segment of each prefix
 segments-at : (n : ℕ) (vars : List VarInfo) (o : List ℕ) (f : Sparse) (i : ℕ) (ls : List (List (List ℕ))) (j m : ℕ) → m ≡ i + j → AreSegments n (sites_of vars o) f i ls → j < length ls → IsSegmentOf n (sites_of vars o) f m (get_or ls j [])
@@ -73,57 +70,6 @@ walks-at b vars ms (s ∷ o) (suc j) h = site-walks-at b vars ms [] o s j (omega
 walks-length : (b : ℕ) (vars : List VarInfo) (ms : List (List ℕ)) (q o : List ℕ) → length (site_walks b vars ms q o) ≡ length o
 walks-length b vars ms q [] = refl
 walks-length b vars ms q (s ∷ o) = ap suc (walks-length b vars ms (q ++ s ∷ []) o)
-
--- ---- the list of an order from its segments
-range-suc : {A : Type 0} (g : ℕ → A) (a m : ℕ) → map g (range_with_len (suc a) m) ≡ map (λ i. g (suc i)) (range_with_len a m)
-range-suc g a zero = refl
-range-suc g a (suc m) = let e : suc a + 1 ≡ suc (a + 1) = omega arith in ap (λ z. g (suc a) ∷ map g (range_with_len z m)) e ∙ ap (λ z. g (suc a) ∷ z) (range-suc g (a + 1) m)
-
-along-from : (S : List ℕ → List (List ℕ)) (o : List ℕ) → list_along S o ≡ joined (map (λ i. S (take i o)) (range_with_len 0 (suc (length o))))
-along-from S [] = sym (append-nil (S []))
-along-from S (x ∷ o) = ap (λ z. S [] ++ z) (along-from (λ p. S (x ∷ p)) o ∙ ap joined (sym (range-suc (λ i. S (take i (x ∷ o))) 0 (suc (length o)))))
-
-map-joined : {A B : Type 0} (g : A → B) (ls : List (List A)) → map g (joined ls) ≡ joined (map (map g) ls)
-map-joined g [] = refl
-map-joined g (l ∷ ls) = map-append g l (joined ls) ∙ ap (λ z. map g l ++ z) (map-joined g ls)
-
--- the same at each of the first places
-range-same : (F G : ℕ → List (List ℕ)) (a n : ℕ) → ((i : ℕ) → a ≤ i → i < a + n → F i ≡ G i) → map F (range_with_len a n) ≡ map G (range_with_len a n)
-range-same F G a zero h = refl
-range-same F G a (suc n) h =
-    let ih = range-same F G (a + 1) n (λ i l m. h i (omega (arith, l)) (omega (arith, m))) in
-    ap (λ z. z ∷ map F (range_with_len (a + 1) n)) (h a (omega arith) (omega arith)) ∙ ap (λ z. G a ∷ z) ih
-
-map-map : {A B C : Type 0} (g : B → C) (h : A → B) (xs : List A) → map g (map h xs) ≡ map (λ x. g (h x)) xs
-map-map g h [] = refl
-map-map g h (x ∷ xs) = ap (λ z. g (h x) ∷ z) (map-map g h xs)
-
-maps-agree : {A B : Type 0} (F G : A → B) (xs : List A) → ((x : A) → Contains xs x → F x ≡ G x) → map F xs ≡ map G xs
-maps-agree F G [] h = refl
-maps-agree F G (x ∷ xs) h =
-    let ih = maps-agree F G xs (λ y c. h y (suc c.0, omega (arith, c.1), c.2)) in
-    ap (λ z. z ∷ map F xs) (h x (0, omega arith, refl)) ∙ ap (λ z. G x ∷ z) ih
-
--- a claim on all numbers of all segments is one on those of a list
-beside-all : (P : ℕ → Type 0) (ps ss : List (List ℕ)) (p : List ℕ) → All (λ l. All P l) ss → All P (beside ps ss p)
-beside-all P [] ss p h = All-nil P
-beside-all P (q ∷ ps) [] p h = All-nil P
-beside-all P (q ∷ ps) (s ∷ ss) p h = go (same_vector q p) (beside-all P ps ss p (All-tail (λ l. All P l) s ss h)) where
-  go : (b : Bool) → All P (beside ps ss p) → All P (if b then s else beside ps ss p)
-  go true ih = All-head (λ l. All P l) s ss h
-  go false ih = ih
-
-joined-all : (P : ℕ → Type 0) (F : ℕ → List ℕ) (is : List ℕ) → ((i : ℕ) → All P (F i)) → All P (joined (map F is))
-joined-all P F [] h = All-nil P
-joined-all P F (i ∷ is) h = All-append P (F i) (joined (map F is)) (h i) (joined-all P F is h)
-
-maps-all : (P : ℕ → Type 0) (F : List ℕ → List ℕ) (os : List (List ℕ)) → ((o : List ℕ) → All P (F o)) → All (λ l. All P l) (map F os)
-maps-all P F [] h = All-nil (λ l. All P l)
-maps-all P F (o ∷ os) h = All-cons (λ l. All P l) (F o) (map F os) (h o) (maps-all P F os h)
-
-count-map : (g : ℕ → List ℕ) (ls : List (List ℕ)) → count_numbers ls ≡ stage_count (map (map g) ls)
-count-map g [] = refl
-count-map g (l ∷ ls) = omega (arith, count-map g ls, length-map l g)
 
 module _ (k : ℕ) (vars : List VarInfo) (f : Sparse) (few : k ≤ 5) (laid : is_laid_out k vars ≡ true) (poly : IsPoly f) (b : AreBelow (length vars) f) where
   the-list : (o : List ℕ) → Contains (orders_of k) o → IsStageListOf (length vars) (sites_of vars o) f (list_of vars f o)
@@ -151,173 +97,36 @@ module _ (k : ℕ) (vars : List VarInfo) (f : Sparse) (few : k ≤ 5) (laid : is
       let s : IsSegmentOf (length vars) (sites_of vars o) f j (get_or (prefix_walks 127 vars (all_rows (length vars) f) o) j []) = segments-at (length vars) vars o f 0 (prefix_walks 127 vars (all_rows (length vars) f) o) j j (omega arith) a l in
       subst (IsSegmentOf (length vars) (sites_of vars o) f j) (walks-at 127 vars (all_rows (length vars) f) o j (omega (arith, h, p.size))) s
 
-  -- the segments of all prefixes
-  abbrev pub parts : List (List (List ℕ))
-  parts = map (segment_at vars f) (prefixes_of k)
-
-  sized-part : (p : List ℕ) → IsPrefixOf k p → Sized (length vars) (segment_at vars f p)
-  sized-part p r = subst (λ q. Sized (length vars) (segment_at vars f q)) (sym r.front) (sized-in (length vars) (segment_at vars f (take r.places r.order)) (λ a i. ((the-segment r.order r.places r.full r.within).stages a i).0.over.size))
-
-  sized-parts : (ps : List (List ℕ)) → ((p : List ℕ) → Contains ps p → Contains (prefixes_of k) p) → AllSized (length vars) (map (segment_at vars f) ps)
-  sized-parts [] h = tt
-  sized-parts (p ∷ ps) h = (sized-part p (prefix-is k p (h p (0, omega arith, refl))), sized-parts ps (λ u c. h u (suc c.0, omega (arith, c.1), c.2)))
-
-  -- numbers and count, through the lists and through the segments
-  same-first : first_seen (map (list_of vars f) (orders_of k)) ≡ all_seen_behind [] (map (segment_at vars f) (prefixes_of k))
+  -- the lists are along the segments
+  pub by-prefixes : AreAlong k (length vars) (list_of vars f) (segment_at vars f)
   unfolding segment_at
-  same-first = (stages-by-prefixes k vars f).0
-
-  same-count : stage_count (map (list_of vars f) (orders_of k)) ≡ shared_count k (segment_at vars f) (prefixes_of k)
-  unfolding segment_at
-  same-count = (stages-by-prefixes k vars f).1
-
-  list-from : (o : List ℕ) → list_of vars f o ≡ joined (map (λ i. segment_at vars f (take i o)) (range_with_len 0 (suc (length o))))
-  unfolding segment_at
-  list-from o = list-along vars f o ∙ along-from (prefix_walk 127 vars (all_rows (length vars) f)) o
+  by-prefixes = record {
+    few = few;
+    sized = λ p r. subst (λ q. Sized (length vars) (segment_at vars f q)) (sym r.front) (sized-in (length vars) (segment_at vars f (take r.places r.order)) (λ a i. ((the-segment r.order r.places r.full r.within).stages a i).0.over.size));
+    along = λ o p. list-along vars f o;
+  }
 
   module _ (most heavy : ℕ) where
-    -- nothing yet
-    abbrev pub start : Tallied
-    start = record { exps = []; list = []; count = 0; weight = 0; most = most; heavy = heavy }
-
-    -- what is kept at the end
-    abbrev pub kept : Tallied
-    kept = tallied_by (segment_at vars f) (length vars) f start (prefixes_of k)
-
-    abbrev pub segments : List (List ℕ)
-    segments = numbers_by (segment_at vars f) (length vars) f start (prefixes_of k)
-
-    seen : IsAllSeenBy (segment_at vars f) (length vars) f [] start (prefixes_of k)
-    seen = seen-by (segment_at vars f) (length vars) f [] start (prefixes_of k) refl refl tt (sized-parts (prefixes_of k) (λ p c. c))
-
-    pub past-passes : IsPast kept ⊎ (most < shared_count k (segment_at vars f) (prefixes_of k)) → Passes (length vars) f most heavy found
-    past-passes (inl (inl l)) = inl (omega (arith, l, seen.count, seen.most, segments-are-fewer k (segment_at vars f), same-count))
-    past-passes (inl (inr l)) = inr (omega (arith, l, seen.weight, seen.heavy, ap (all_covering (length vars) f) same-first))
-    past-passes (inr l) = inl (omega (arith, l, same-count))
-
     -- why listing stops
-    pub stops : (x : StageStop) → (f ≡ [] → ⊥) → IsStoppedBy x (IsPast kept ⊎ (most < shared_count k (segment_at vars f) (prefixes_of k))) → StopsListing k vars f most heavy x
+    pub stops : (x : StageStop) → (f ≡ [] → ⊥) → IsStoppedBy x (IsPast (by_lists.kept k vars f (list_of vars f) (segment_at vars f) by-prefixes most heavy) ⊎ (most < shared_count k (segment_at vars f) (prefixes_of k))) → StopsListing k vars f most heavy x
     stops Zero n s = absurd s
-    stops Stages n s = (n, (found, found-lists, past-passes s))
+    stops Stages n s = (n, (found, found-lists, by_lists.past-passes k vars f (list_of vars f) (segment_at vars f) by-prefixes most heavy s))
     stops NoMemory n s = tt
 
-    abbrev blocks : List (List ℕ)
-    blocks = all_seen_behind [] parts
-
-    blocks-sized : Sized (length vars) blocks
-    blocks-sized = all-sized (length vars) [] parts tt (sized-parts (prefixes_of k) (λ p c. c))
-
-    -- the vector of a block
-    at-block : (cs : List (List ℕ)) (i : ℕ) → Sized (length vars) cs → i < length cs → block_vector (length vars) (map pairs_of cs) i ≡ get_or cs i []
-    at-block cs i s h = ap (vector (length vars)) (get_or-map pairs_of cs i [] [] h) ∙ vector-pairs_of (length vars) (get_or cs i []) (size cs i s h) where
-      size : (cs : List (List ℕ)) (i : ℕ) → Sized (length vars) cs → i < length cs → length (get_or cs i []) ≡ length vars
-      size [] i s h = absurd (omega arith)
-      size (c ∷ cs) zero s h = s.0
-      size (c ∷ cs) (suc i) s h = size cs i s.1 (omega (arith, h))
-
-    at-blocks : (cs : List (List ℕ)) (l : List ℕ) → Sized (length vars) cs → All (λ i. i < length cs) l → map (block_vector (length vars) (map pairs_of cs)) l ≡ map (λ i. get_or cs i []) l
-    at-blocks cs [] s h = refl
-    at-blocks cs (i ∷ l) s h = rw (at-block cs i s (All-head (λ i. i < length cs) i l h), at-blocks cs l s (All-tail (λ i. i < length cs) i l h)) refl
-
-    at-lists : (cs : List (List ℕ)) (ls : List (List ℕ)) → Sized (length vars) cs → All (λ l. All (λ i. i < length cs) l) ls
-        → map (λ l. map (block_vector (length vars) (map pairs_of cs)) l) ls ≡ map (λ l. map (λ i. get_or cs i []) l) ls
-    at-lists cs [] s h = refl
-    at-lists cs (l ∷ ls) s h = rw (at-blocks cs l s (All-head (λ l. All (λ i. i < length cs) l) l ls h), at-lists cs ls s (All-tail (λ l. All (λ i. i < length cs) l) l ls h)) refl
-
-    vectors-back : (cs : List (List ℕ)) → Sized (length vars) cs → map (vector (length vars)) (map pairs_of cs) ≡ cs
-    vectors-back [] s = refl
-    vectors-back (c ∷ cs) s = rw (vector-pairs_of (length vars) c s.0, vectors-back cs s.1) refl
-
-    all-below : (cs : List (List ℕ)) → Sized (length vars) cs → All (λ e. IsAbove e (length vars)) (map pairs_of cs)
-    all-below [] s = All-nil (λ e. IsAbove e (length vars))
-    all-below (c ∷ cs) s = All-cons (λ e. IsAbove e (length vars)) (pairs_of c) (map pairs_of cs) (above-pairs c (length vars) s.0) (all-below cs s.1)
-
-    numbers-within : All (λ l. All (λ i. i < length blocks) l) segments
-    numbers-within = seen.within blocks (extends-refl blocks)
-
-    vectors-parts : map (λ l. map (block_vector (length vars) kept.exps) l) segments ≡ parts
-    vectors-parts =
-        ap (λ es. map (λ l. map (block_vector (length vars) es) l) segments) seen.exps
-        ∙ at-lists blocks segments blocks-sized numbers-within
-        ∙ seen.lists blocks (extends-refl blocks)
-
-    pub segments-size : length segments ≡ length (prefixes_of k)
-    segments-size = sym (length-map segments (λ l. map (block_vector (length vars) kept.exps) l)) ∙ ap length vectors-parts ∙ length-map (prefixes_of k) (segment_at vars f)
-
-    -- the vectors of a segment
-    part-vectors : (o : List ℕ) (j : ℕ) → IsOrderOf k o → j ≤ k → map (block_vector (length vars) kept.exps) (beside (prefixes_of k) segments (take j o)) ≡ segment_at vars f (take j o)
-    part-vectors o j p h =
-        let i : ℕ = number_of_front o j in
-        let g : slice_get (prefixes_of k) (number_of_front o j) ≡ Some (take j o) = front_number k o j few p h in
-        let m : number_of_front o j < length (prefixes_of k) = slice_get_within (prefixes_of k) (number_of_front o j) (take j o) g in
-        let l : number_of_front o j < length segments = omega (arith, m, segments-size) in
-        let e : beside (prefixes_of k) segments (take j o) ≡ get_or segments (number_of_front o j) [] = beside_at k segments (take j o) (number_of_front o j) (get_or segments (number_of_front o j) []) few g (slice_get-get_or segments (number_of_front o j) [] l) in
-        let x : get_or (prefixes_of k) (number_of_front o j) [] ≡ take j o = get_or_from_slice_get (prefixes_of k) (number_of_front o j) (take j o) [] g in
-        ap (map (block_vector (length vars) kept.exps)) e
-        ∙ sym (get_or-map (λ l. map (block_vector (length vars) kept.exps) l) segments (number_of_front o j) [] [] l)
-        ∙ ap (λ z. get_or z (number_of_front o j) []) vectors-parts
-        ∙ get_or-map (segment_at vars f) (prefixes_of k) (number_of_front o j) [] [] m
-        ∙ ap (segment_at vars f) x
-
-    -- the list of an order
-    abbrev pub list_at : List ℕ → List ℕ
-    list_at o = segments_from (beside (prefixes_of k) segments) o 0
-
-    list-vectors : (o : List ℕ) → IsOrderOf k o → map (block_vector (length vars) kept.exps) (list_at o) ≡ list_of vars f o
-    list-vectors o p =
-        let q : suc (length o) - 0 ≡ suc (length o) = omega arith in
-        ap (λ n. map (block_vector (length vars) kept.exps) (joined (map (λ i. beside (prefixes_of k) segments (take i o)) (range_with_len 0 n)))) q
-        ∙ map-joined (block_vector (length vars) kept.exps) (map (λ i. beside (prefixes_of k) segments (take i o)) (range_with_len 0 (suc (length o))))
-        ∙ ap joined (map-map (map (block_vector (length vars) kept.exps)) (λ i. beside (prefixes_of k) segments (take i o)) (range_with_len 0 (suc (length o))))
-        ∙ ap joined (range-same (λ i. map (block_vector (length vars) kept.exps) (beside (prefixes_of k) segments (take i o))) (λ i. segment_at vars f (take i o)) 0 (suc (length o)) (λ i l m. part-vectors o i p (omega (arith, m, p.size))))
-        ∙ sym (list-from o)
-
-    -- what is kept at the end, as stages
-    abbrev pub result : Staged
-    result = record { sites = k; exps = kept.exps; segments = segments; lists = lists_in k segments }
-
-    pub result-vectors : vectors_of (length vars) result ≡ found
-    result-vectors = map-map (map (block_vector (length vars) kept.exps)) list_at (orders_of k) ∙ maps-agree (λ o. map (block_vector (length vars) kept.exps) (list_at o)) (list_of vars f) (orders_of k) (λ o c. list-vectors o (member-is k o c))
-
-    segments-within : All (λ l. All (λ i. i < length kept.exps) l) segments
-    segments-within = rw (seen.exps, length-map blocks pairs_of) numbers-within
-
-    pub result-stages : AreStagesOf k vars f result
+    pub result-stages : AreStagesOf k vars f (by_lists.result k vars f (list_of vars f) (segment_at vars f) by-prefixes most heavy)
     result-stages = record {
       sites = refl;
-      lists = rw result-vectors found-lists;
-      first_sight = rw (result-vectors, seen.exps) (vectors-back blocks blocks-sized ∙ sym same-first);
-      below = rw seen.exps (all-below blocks blocks-sized);
-      numbers = maps-all (λ i. i < length kept.exps) list_at (orders_of k) (λ o. joined-all (λ i. i < length kept.exps) (λ i. beside (prefixes_of k) segments (take i o)) (range_with_len 0 (suc (length o) - 0)) (λ i. beside-all (λ i. i < length kept.exps) (prefixes_of k) segments (take i o) segments-within));
+      lists = rw (by_lists.result-vectors k vars f (list_of vars f) (segment_at vars f) by-prefixes most heavy) found-lists;
+      first_sight = by_lists.result-first k vars f (list_of vars f) (segment_at vars f) by-prefixes most heavy;
+      below = by_lists.result-below k vars f (list_of vars f) (segment_at vars f) by-prefixes most heavy;
+      numbers = by_lists.result-numbers k vars f (list_of vars f) (segment_at vars f) by-prefixes most heavy;
       segments = record {
-        size = segments-size;
-        each = λ o j p h. subst (IsSegmentOf (length vars) (sites_of vars o) f j) (sym (part-vectors o j p h)) (the-segment o j p h);
+        size = by_lists.segments-size k vars f (list_of vars f) (segment_at vars f) by-prefixes most heavy;
+        each = λ o j p h. subst (IsSegmentOf (length vars) (sites_of vars o) f j) (sym (by_lists.part-vectors k vars f (list_of vars f) (segment_at vars f) by-prefixes most heavy o j p h)) (the-segment o j p h);
         make = refl;
-        numbers = segments-within;
+        numbers = by_lists.segments-within k vars f (list_of vars f) (segment_at vars f) by-prefixes most heavy;
       };
     }
-
-    pub lists-count : count_numbers (lists_in k segments) ≡ shared_count k (segment_at vars f) (prefixes_of k)
-    lists-count = count-map (block_vector (length vars) kept.exps) (map list_at (orders_of k)) ∙ ap stage_count result-vectors ∙ same-count
-
-    pub final-count : (c : ℕ) → c ≡ shared_count k (segment_at vars f) (prefixes_of k) → c ≤ most → stage_count (vectors_of (length vars) result) ≤ most
-    final-count c e h = omega (arith, h, e, same-count, ap stage_count result-vectors)
-
-    pub final-weight : kept.weight ≤ kept.heavy → stage_weight (length vars) f (vectors_of (length vars) result) ≤ heavy
-    final-weight h = omega (arith, h, seen.weight, seen.heavy, ap (all_covering (length vars) f) same-first, ap (stage_weight (length vars) f) result-vectors)
-
-    -- ---- what the program has at its end
-    pub final-is : (st : Staged) (exps : List Pairs) (segs lists : List (List ℕ)) (u : Tallied) → st ≡ record { sites = k; exps = exps; segments = segs; lists = lists } → exps ≡ u.exps → u ≡ kept → segs ≡ segments → lists ≡ lists_in k segs → st ≡ result
-    final-is st exps segs lists u e x q s l =
-        let y : exps ≡ kept.exps = x ∙ ap (λ (z : Tallied). z.exps) q in
-        let z : lists ≡ lists_in k segments = l ∙ ap (lists_in k) s in
-        e ∙ rw (y, s, z) refl
-
-    pub counted-is : (c : ℕ) (segs lists : List (List ℕ)) → segs ≡ segments → lists ≡ lists_in k segs → c ≡ shared_count k (segment_at vars f) (prefixes_of k) → c ≡ count_numbers lists
-    counted-is c segs lists s l e = e ∙ sym lists-count ∙ ap count_numbers (sym (l ∙ ap (lists_in k) s))
-
-    pub weighed-is : (u : Tallied) → u ≡ kept → u.weight ≤ u.heavy → kept.weight ≤ kept.heavy
-    weighed-is u e h = omega (arith, h, ap (λ (z : Tallied). z.weight) e, ap (λ (z : Tallied). z.heavy) e)
 
 -- ---- a polynomial that isn't 0
 pub some-terms : (b : Bool) (f : Sparse) → b ≡ false → (IsTrue b ↔ (f ≡ [])) → f ≡ [] → ⊥

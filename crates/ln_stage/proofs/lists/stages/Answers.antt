@@ -3,11 +3,12 @@ use Rattle.std.proofs.lemmas.Result.{err_from_is_err_and}
 use Rattle.ln_order.proofs.Signs.SitesLemmas.{kept}
 use Rattle.ln_order.specs.Prefixes.{prefixes_of}
 use Rattle.ln_poly.specs.Sparse.{AreBelow, IsPoly}
-use Rattle.ln_stage.specs.Kept.{numbers_by, tallied_by}
+use Rattle.ln_stage.specs.Kept.{list_of, numbers_by, tallied_by}
 use Rattle.ln_stage.specs.Staged.{lists_in}
 use Rattle.ln_stage.specs.Tally.{Tallied}
 use Rattle.ln_stage.specs.Visit.{segment_at}
-use Rattle.ln_stage.proofs.Results.ResultLemmas.{counted-is, final-count, final-is, final-weight, result-stages, segments-size, some-count, some-terms, stops, weighed-is}
+use Rattle.ln_stage.proofs.Results.KeptLemmas as by_lists
+use Rattle.ln_stage.proofs.Results.ResultLemmas.{by-prefixes, result-stages, some-count, some-terms, stops}
 use Rattle.ln_stage.proofs.lists.stages.Goals as goal
 
 pub returns-in_err-found-clause-err : goal.returns-in_err-found-clause-err
@@ -33,7 +34,7 @@ of-requires-clause-each c =
     let poly : IsPoly c.terms-terms.result.now = rw f c.terms-terms.ensures.form in
     let below : AreBelow (length s.vars) c.terms-terms.result.now = rw f c.requires.below in
     let segs = c.in_ok-found.ensures.segments ∙ ap (λ t. numbers_by (segment_at s.vars c.terms-terms.result.now) (length s.vars) c.terms-terms.result.now t (prefixes_of s.sites)) c.new-tally.ensures in
-    ap length segs ∙ segments-size s.sites s.vars c.terms-terms.result.now (kept s.sites s.vars s.kept).few_sites s.kept poly below c.args.most c.args.heavy
+    ap length segs ∙ by_lists.segments-size s.sites s.vars c.terms-terms.result.now (list_of s.vars c.terms-terms.result.now) (segment_at s.vars c.terms-terms.result.now) (by-prefixes s.sites s.vars c.terms-terms.result.now (kept s.sites s.vars s.kept).few_sites s.kept poly below) c.args.most c.args.heavy
 
 pub of-requires-clause-counted : goal.of-requires-clause-counted
 of-requires-clause-counted c =
@@ -42,7 +43,7 @@ of-requires-clause-counted c =
     let poly : IsPoly c.terms-terms.result.now = rw f c.terms-terms.ensures.form in
     let below : AreBelow (length s.vars) c.terms-terms.result.now = rw f c.requires.below in
     let segs = c.in_ok-found.ensures.segments ∙ ap (λ t. numbers_by (segment_at s.vars c.terms-terms.result.now) (length s.vars) c.terms-terms.result.now t (prefixes_of s.sites)) c.new-tally.ensures in
-    counted-is s.sites s.vars c.terms-terms.result.now (kept s.sites s.vars s.kept).few_sites s.kept poly below c.args.most c.args.heavy c.in_ok-found.found.1 c.in_ok-found.found.0 (lists_in s.sites c.in_ok-found.found.0) segs refl c.in_ok-found.ensures.count
+    by_lists.counted-is s.sites s.vars c.terms-terms.result.now (list_of s.vars c.terms-terms.result.now) (segment_at s.vars c.terms-terms.result.now) (by-prefixes s.sites s.vars c.terms-terms.result.now (kept s.sites s.vars s.kept).few_sites s.kept poly below) c.args.most c.args.heavy c.in_ok-found.found.1 c.in_ok-found.found.0 (lists_in s.sites c.in_ok-found.found.0) segs refl c.in_ok-found.ensures.count
 
 pub returns-clause-stages : goal.returns-clause-stages
 returns-clause-stages c =
@@ -52,7 +53,7 @@ returns-clause-stages c =
     let below : AreBelow (length s.vars) c.terms-terms.result.now = rw f c.requires.below in
     let segs = c.in_ok-found.ensures.segments ∙ ap (λ t. numbers_by (segment_at s.vars c.terms-terms.result.now) (length s.vars) c.terms-terms.result.now t (prefixes_of s.sites)) c.new-tally.ensures in
     let tally = c.in_ok-found.ensures.rest ∙ ap (λ t. tallied_by (segment_at s.vars c.terms-terms.result.now) (length s.vars) c.terms-terms.result.now t (prefixes_of s.sites)) c.new-tally.ensures in
-    let q = final-is s.sites s.vars c.terms-terms.result.now (kept s.sites s.vars s.kept).few_sites s.kept poly below c.args.most c.args.heavy c.of.result _ c.in_ok-found.found.0 (lists_in s.sites c.in_ok-found.found.0) c.listed.new.tally c.of.ensures c.into_blocks-blocks.ensures.blocks tally segs refl in
+    let q = by_lists.final-is s.sites s.vars c.terms-terms.result.now (list_of s.vars c.terms-terms.result.now) (segment_at s.vars c.terms-terms.result.now) (by-prefixes s.sites s.vars c.terms-terms.result.now (kept s.sites s.vars s.kept).few_sites s.kept poly below) c.args.most c.args.heavy c.of.result _ c.in_ok-found.found.0 (lists_in s.sites c.in_ok-found.found.0) c.listed.new.tally c.of.ensures c.into_blocks-blocks.ensures.blocks tally segs refl in
     rw (← f, q) (result-stages s.sites s.vars c.terms-terms.result.now (kept s.sites s.vars s.kept).few_sites s.kept poly below c.args.most c.args.heavy)
 
 pub returns-clause-count : goal.returns-clause-count
@@ -63,8 +64,8 @@ returns-clause-count c =
     let below : AreBelow (length s.vars) c.terms-terms.result.now = rw f c.requires.below in
     let segs = c.in_ok-found.ensures.segments ∙ ap (λ t. numbers_by (segment_at s.vars c.terms-terms.result.now) (length s.vars) c.terms-terms.result.now t (prefixes_of s.sites)) c.new-tally.ensures in
     let tally = c.in_ok-found.ensures.rest ∙ ap (λ t. tallied_by (segment_at s.vars c.terms-terms.result.now) (length s.vars) c.terms-terms.result.now t (prefixes_of s.sites)) c.new-tally.ensures in
-    let q = final-is s.sites s.vars c.terms-terms.result.now (kept s.sites s.vars s.kept).few_sites s.kept poly below c.args.most c.args.heavy c.of.result _ c.in_ok-found.found.0 (lists_in s.sites c.in_ok-found.found.0) c.listed.new.tally c.of.ensures c.into_blocks-blocks.ensures.blocks tally segs refl in
-    rw q (final-count s.sites s.vars c.terms-terms.result.now (kept s.sites s.vars s.kept).few_sites s.kept poly below c.args.most c.args.heavy c.in_ok-found.found.1 c.in_ok-found.ensures.count c.in_ok-found.ensures.within)
+    let q = by_lists.final-is s.sites s.vars c.terms-terms.result.now (list_of s.vars c.terms-terms.result.now) (segment_at s.vars c.terms-terms.result.now) (by-prefixes s.sites s.vars c.terms-terms.result.now (kept s.sites s.vars s.kept).few_sites s.kept poly below) c.args.most c.args.heavy c.of.result _ c.in_ok-found.found.0 (lists_in s.sites c.in_ok-found.found.0) c.listed.new.tally c.of.ensures c.into_blocks-blocks.ensures.blocks tally segs refl in
+    rw q (by_lists.final-count s.sites s.vars c.terms-terms.result.now (list_of s.vars c.terms-terms.result.now) (segment_at s.vars c.terms-terms.result.now) (by-prefixes s.sites s.vars c.terms-terms.result.now (kept s.sites s.vars s.kept).few_sites s.kept poly below) c.args.most c.args.heavy c.in_ok-found.found.1 c.in_ok-found.ensures.count c.in_ok-found.ensures.within)
 
 pub returns-clause-weight : goal.returns-clause-weight
 returns-clause-weight c =
@@ -74,8 +75,8 @@ returns-clause-weight c =
     let below : AreBelow (length s.vars) c.terms-terms.result.now = rw f c.requires.below in
     let segs = c.in_ok-found.ensures.segments ∙ ap (λ t. numbers_by (segment_at s.vars c.terms-terms.result.now) (length s.vars) c.terms-terms.result.now t (prefixes_of s.sites)) c.new-tally.ensures in
     let tally = c.in_ok-found.ensures.rest ∙ ap (λ t. tallied_by (segment_at s.vars c.terms-terms.result.now) (length s.vars) c.terms-terms.result.now t (prefixes_of s.sites)) c.new-tally.ensures in
-    let q = final-is s.sites s.vars c.terms-terms.result.now (kept s.sites s.vars s.kept).few_sites s.kept poly below c.args.most c.args.heavy c.of.result _ c.in_ok-found.found.0 (lists_in s.sites c.in_ok-found.found.0) c.listed.new.tally c.of.ensures c.into_blocks-blocks.ensures.blocks tally segs refl in
-    rw (← f, q) (final-weight s.sites s.vars c.terms-terms.result.now (kept s.sites s.vars s.kept).few_sites s.kept poly below c.args.most c.args.heavy (weighed-is s.sites s.vars c.terms-terms.result.now (kept s.sites s.vars s.kept).few_sites s.kept poly below c.args.most c.args.heavy c.listed.new.tally tally c.into_blocks-blocks.ensures.within.1))
+    let q = by_lists.final-is s.sites s.vars c.terms-terms.result.now (list_of s.vars c.terms-terms.result.now) (segment_at s.vars c.terms-terms.result.now) (by-prefixes s.sites s.vars c.terms-terms.result.now (kept s.sites s.vars s.kept).few_sites s.kept poly below) c.args.most c.args.heavy c.of.result _ c.in_ok-found.found.0 (lists_in s.sites c.in_ok-found.found.0) c.listed.new.tally c.of.ensures c.into_blocks-blocks.ensures.blocks tally segs refl in
+    rw (← f, q) (by_lists.final-weight s.sites s.vars c.terms-terms.result.now (list_of s.vars c.terms-terms.result.now) (segment_at s.vars c.terms-terms.result.now) (by-prefixes s.sites s.vars c.terms-terms.result.now (kept s.sites s.vars s.kept).few_sites s.kept poly below) c.args.most c.args.heavy (by_lists.weighed-is s.sites s.vars c.terms-terms.result.now (list_of s.vars c.terms-terms.result.now) (segment_at s.vars c.terms-terms.result.now) (by-prefixes s.sites s.vars c.terms-terms.result.now (kept s.sites s.vars s.kept).few_sites s.kept poly below) c.args.most c.args.heavy c.listed.new.tally tally c.into_blocks-blocks.ensures.within.1))
 
 pub returns-clause-some : goal.returns-clause-some
 returns-clause-some c = λ z. some-terms c.is_zero.result c.args.f.now c.if-is_zero.false c.is_zero.ensures z

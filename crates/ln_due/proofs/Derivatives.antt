@@ -1,0 +1,6 @@
+-- The block of a scaled derivative.
+pub mod Fewest
+pub mod Deriving
+pub mod NodesIn
+pub mod LeanNodes
+pub mod Blocks

@@ -1,0 +1,3 @@
+-- Stage lists by total degree first.
+pub mod DegreeLemmas
+pub mod GradedLists

@@ -1,0 +1,255 @@
+-- What is kept of the lists of all orders: blocks by first sight, numbers of segments and lists, count and weight.
+use Rattle.std.proofs.Common.{◌≡◌, ◌⊎◌, inl, inr, Bool, false, ℕ, zero, suc, ◌+◌, ◌-◌, ◌<◌, ◌≤◌, true, List, [], ◌∷◌, length, map, get_or, take, ◌++◌, refl, sym, ◌∙◌, ap, subst, arith, if◌then◌else◌}
+use Rattle.std.specs.Prelude.{◌↔◌, All, Contains, IsTrue, Some, slice_get}
+use Rattle.std.proofs.lemmas.List.{append-nil, get_or-map, length-map, map-append}
+use Rattle.std.proofs.lemmas.List.Elements.{All-append, All-cons, All-head, All-nil, All-tail, Contains-get_or}
+use Rattle.std.proofs.lemmas.Option.{get_or_from_slice_get, slice_get-get_or, slice_get_within}
+use Rattle.std.specs.List.{range_with_len}
+use Rattle.ln_algebra.specs.Vector.{In, same_vector, zeros}
+use Rattle.ln_algebra.specs.Walk.{walk}
+use Rattle.ln_algebra.proofs.Expanded.Expansion.{length-zeros}
+use Rattle.ln_tree.specs.declared.shape.VarInfo.{VarInfo}
+use Rattle.ln_tree.specs.Exps.{IsAbove, Pairs, vector}
+use Rattle.ln_tree.specs.Variables.{is_laid_out}
+use Rattle.ln_order.specs.Orders.{IsOrderOf, orders_of}
+use Rattle.ln_order.specs.Prefixes.{IsPrefixOf, beside, joined, prefixes_of, segments_from}
+use Rattle.ln_order.specs.Sites.{ranking_of, sites_of}
+use Rattle.ln_order.proofs.Listing.OrdersLemmas.{member-is}
+use Rattle.ln_order.proofs.Listing.PrefixLemmas.{beside_at, front_number, prefix-is}
+use Rattle.ln_order.specs.Prefixes.{number_of_front}
+use Rattle.ln_order.proofs.Signs.RankingLemmas.{ranking-is}
+use Rattle.ln_poly.specs.Sparse.{AreBelow, IsPoly, Sparse}
+use Rattle.ln_stage.specs.FirstSight.{last_walk, list_along, prefix_walk, shared_count}
+use Rattle.ln_stage.specs.Kept.{all_rows, list_of, listed, numbers_by, rows, tallied_by}
+use Rattle.ln_stage.specs.Lists.{AreStageLists, Passes, all_covering, all_seen_behind, first_seen, stage_count, stage_weight}
+use Rattle.ln_stage.specs.Segments.{AreSegments, IsSegmentOf}
+use Rattle.ln_stage.specs.SiteWalk.{prefix_walks, site_walk, site_walks}
+use Rattle.ln_stage.specs.StageList.{IsStageListOf}
+use Rattle.ln_stage.specs.Staged.{AreStagesOf, Staged, StopsListing, block_vector, count_numbers, lists_in, vectors_of}
+use Rattle.ln_stage.specs.Tally.{IsOver as IsPast, IsStoppedBy, Tallied, pairs_of}
+use Rattle.ln_stage.specs.declared.stop.StageStop.{StageStop}
+use Rattle.ln_stage.specs.declared.stop.StageStop.TheVariants.{Zero, Stages, NoMemory}
+use Rattle.ln_stage.proofs.Sights.FirstSightLemmas.{first-sight-by-prefixes, segments-are-fewer}
+use Rattle.ln_stage.proofs.Results.FoldLemmas.{AllSized, IsAllSeenBy, Sized, all-sized, extends-refl, seen-by}
+use Rattle.ln_stage.proofs.Monomials.MonomialLemmas.{IsTerms, rows-monomials, rows-small}
+use Rattle.ln_stage.proofs.Walks.PairsLemmas.{above-pairs, vector-pairs_of}
+use Rattle.ln_stage.proofs.Walks.SiteWalkLemmas.{walks-are-segments}
+use Rattle.ln_stage.proofs.Monomials.StageLemmas.{walk-stages}
+use Rattle.ln_stage.proofs.Walks.StartLemmas.{rows-all}
+
+-- each of its vectors has all variables
+pub sized-in : (n : ℕ) (xs : List (List ℕ)) → ((a : List ℕ) → In xs a → length a ≡ n) → Sized n xs
+sized-in n [] h = tt
+sized-in n (x ∷ xs) h = (h x (inl refl), sized-in n xs (λ a i. h a (inr i)))
+
+-- ---- the list of an order from its segments
+range-suc : {A : Type 0} (g : ℕ → A) (a m : ℕ) → map g (range_with_len (suc a) m) ≡ map (λ i. g (suc i)) (range_with_len a m)
+range-suc g a zero = refl
+range-suc g a (suc m) = let e : suc a + 1 ≡ suc (a + 1) = omega arith in ap (λ z. g (suc a) ∷ map g (range_with_len z m)) e ∙ ap (λ z. g (suc a) ∷ z) (range-suc g (a + 1) m)
+
+along-from : (S : List ℕ → List (List ℕ)) (o : List ℕ) → list_along S o ≡ joined (map (λ i. S (take i o)) (range_with_len 0 (suc (length o))))
+along-from S [] = sym (append-nil (S []))
+along-from S (x ∷ o) = ap (λ z. S [] ++ z) (along-from (λ p. S (x ∷ p)) o ∙ ap joined (sym (range-suc (λ i. S (take i (x ∷ o))) 0 (suc (length o)))))
+
+map-joined : {A B : Type 0} (g : A → B) (ls : List (List A)) → map g (joined ls) ≡ joined (map (map g) ls)
+map-joined g [] = refl
+map-joined g (l ∷ ls) = map-append g l (joined ls) ∙ ap (λ z. map g l ++ z) (map-joined g ls)
+
+-- the same at each of the first places
+range-same : (F G : ℕ → List (List ℕ)) (a n : ℕ) → ((i : ℕ) → a ≤ i → i < a + n → F i ≡ G i) → map F (range_with_len a n) ≡ map G (range_with_len a n)
+range-same F G a zero h = refl
+range-same F G a (suc n) h =
+    let ih = range-same F G (a + 1) n (λ i l m. h i (omega (arith, l)) (omega (arith, m))) in
+    ap (λ z. z ∷ map F (range_with_len (a + 1) n)) (h a (omega arith) (omega arith)) ∙ ap (λ z. G a ∷ z) ih
+
+map-map : {A B C : Type 0} (g : B → C) (h : A → B) (xs : List A) → map g (map h xs) ≡ map (λ x. g (h x)) xs
+map-map g h [] = refl
+map-map g h (x ∷ xs) = ap (λ z. g (h x) ∷ z) (map-map g h xs)
+
+maps-agree : {A B : Type 0} (F G : A → B) (xs : List A) → ((x : A) → Contains xs x → F x ≡ G x) → map F xs ≡ map G xs
+maps-agree F G [] h = refl
+maps-agree F G (x ∷ xs) h =
+    let ih = maps-agree F G xs (λ y c. h y (suc c.0, omega (arith, c.1), c.2)) in
+    ap (λ z. z ∷ map F xs) (h x (0, omega arith, refl)) ∙ ap (λ z. G x ∷ z) ih
+
+-- a claim on all numbers of all segments is one on those of a list
+beside-all : (P : ℕ → Type 0) (ps ss : List (List ℕ)) (p : List ℕ) → All (λ l. All P l) ss → All P (beside ps ss p)
+beside-all P [] ss p h = All-nil P
+beside-all P (q ∷ ps) [] p h = All-nil P
+beside-all P (q ∷ ps) (s ∷ ss) p h = go (same_vector q p) (beside-all P ps ss p (All-tail (λ l. All P l) s ss h)) where
+  go : (b : Bool) → All P (beside ps ss p) → All P (if b then s else beside ps ss p)
+  go true ih = All-head (λ l. All P l) s ss h
+  go false ih = ih
+
+joined-all : (P : ℕ → Type 0) (F : ℕ → List ℕ) (is : List ℕ) → ((i : ℕ) → All P (F i)) → All P (joined (map F is))
+joined-all P F [] h = All-nil P
+joined-all P F (i ∷ is) h = All-append P (F i) (joined (map F is)) (h i) (joined-all P F is h)
+
+maps-all : (P : ℕ → Type 0) (F : List ℕ → List ℕ) (os : List (List ℕ)) → ((o : List ℕ) → All P (F o)) → All (λ l. All P l) (map F os)
+maps-all P F [] h = All-nil (λ l. All P l)
+maps-all P F (o ∷ os) h = All-cons (λ l. All P l) (F o) (map F os) (h o) (maps-all P F os h)
+
+count-map : (g : ℕ → List ℕ) (ls : List (List ℕ)) → count_numbers ls ≡ stage_count (map (map g) ls)
+count-map g [] = refl
+count-map g (l ∷ ls) = omega (arith, count-map g ls, length-map l g)
+
+-- ---- what is kept of lists that are along what stands at prefixes
+-- the list of each order is what stands at its prefixes, one after the other, over all n variables
+pub record AreAlong (k n : ℕ) (L S : List ℕ → List (List ℕ)) : Type 0 where
+  pub few : k ≤ 5
+  pub sized : (p : List ℕ) → IsPrefixOf k p → Sized n (S p)
+  pub along : (o : List ℕ) → IsOrderOf k o → L o ≡ list_along S o
+
+module _ (k : ℕ) (vars : List VarInfo) (f : Sparse) (L S : List ℕ → List (List ℕ)) (x : AreAlong k (length vars) L S) where
+  -- the segments of all prefixes
+  abbrev pub parts : List (List (List ℕ))
+  parts = map S (prefixes_of k)
+
+  sized-parts : (ps : List (List ℕ)) → ((p : List ℕ) → Contains ps p → Contains (prefixes_of k) p) → AllSized (length vars) (map S ps)
+  sized-parts [] h = tt
+  sized-parts (p ∷ ps) h = (x.sized p (prefix-is k p (h p (0, omega arith, refl))), sized-parts ps (λ u c. h u (suc c.0, omega (arith, c.1), c.2)))
+
+  -- numbers and count, through the lists and through the segments
+  same-first : first_seen (map L (orders_of k)) ≡ all_seen_behind [] (map S (prefixes_of k))
+  same-first = ap first_seen (maps-agree L (list_along S) (orders_of k) (λ o c. x.along o (member-is k o c))) ∙ (first-sight-by-prefixes k S).0
+
+  same-count : stage_count (map L (orders_of k)) ≡ shared_count k S (prefixes_of k)
+  same-count = ap stage_count (maps-agree L (list_along S) (orders_of k) (λ o c. x.along o (member-is k o c))) ∙ (first-sight-by-prefixes k S).1
+
+  list-from : (o : List ℕ) → IsOrderOf k o → L o ≡ joined (map (λ i. S (take i o)) (range_with_len 0 (suc (length o))))
+  list-from o p = x.along o p ∙ along-from S o
+
+  -- the lists of all orders
+  abbrev pub found : List (List (List ℕ))
+  found = map L (orders_of k)
+
+  module _ (most heavy : ℕ) where
+    -- nothing yet
+    abbrev pub start : Tallied
+    start = record { exps = []; list = []; count = 0; weight = 0; most = most; heavy = heavy }
+
+    -- what is kept at the end
+    abbrev pub kept : Tallied
+    kept = tallied_by S (length vars) f start (prefixes_of k)
+
+    abbrev pub segments : List (List ℕ)
+    segments = numbers_by S (length vars) f start (prefixes_of k)
+
+    seen : IsAllSeenBy S (length vars) f [] start (prefixes_of k)
+    seen = seen-by S (length vars) f [] start (prefixes_of k) refl refl tt (sized-parts (prefixes_of k) (λ p c. c))
+
+    pub past-passes : IsPast kept ⊎ (most < shared_count k S (prefixes_of k)) → Passes (length vars) f most heavy found
+    past-passes (inl (inl l)) = inl (omega (arith, l, seen.count, seen.most, segments-are-fewer k (S), same-count))
+    past-passes (inl (inr l)) = inr (omega (arith, l, seen.weight, seen.heavy, ap (all_covering (length vars) f) same-first))
+    past-passes (inr l) = inl (omega (arith, l, same-count))
+
+    abbrev blocks : List (List ℕ)
+    blocks = all_seen_behind [] parts
+
+    blocks-sized : Sized (length vars) blocks
+    blocks-sized = all-sized (length vars) [] parts tt (sized-parts (prefixes_of k) (λ p c. c))
+
+    -- the vector of a block
+    at-block : (cs : List (List ℕ)) (i : ℕ) → Sized (length vars) cs → i < length cs → block_vector (length vars) (map pairs_of cs) i ≡ get_or cs i []
+    at-block cs i s h = ap (vector (length vars)) (get_or-map pairs_of cs i [] [] h) ∙ vector-pairs_of (length vars) (get_or cs i []) (size cs i s h) where
+      size : (cs : List (List ℕ)) (i : ℕ) → Sized (length vars) cs → i < length cs → length (get_or cs i []) ≡ length vars
+      size [] i s h = absurd (omega arith)
+      size (c ∷ cs) zero s h = s.0
+      size (c ∷ cs) (suc i) s h = size cs i s.1 (omega (arith, h))
+
+    at-blocks : (cs : List (List ℕ)) (l : List ℕ) → Sized (length vars) cs → All (λ i. i < length cs) l → map (block_vector (length vars) (map pairs_of cs)) l ≡ map (λ i. get_or cs i []) l
+    at-blocks cs [] s h = refl
+    at-blocks cs (i ∷ l) s h = rw (at-block cs i s (All-head (λ i. i < length cs) i l h), at-blocks cs l s (All-tail (λ i. i < length cs) i l h)) refl
+
+    at-lists : (cs : List (List ℕ)) (ls : List (List ℕ)) → Sized (length vars) cs → All (λ l. All (λ i. i < length cs) l) ls
+        → map (λ l. map (block_vector (length vars) (map pairs_of cs)) l) ls ≡ map (λ l. map (λ i. get_or cs i []) l) ls
+    at-lists cs [] s h = refl
+    at-lists cs (l ∷ ls) s h = rw (at-blocks cs l s (All-head (λ l. All (λ i. i < length cs) l) l ls h), at-lists cs ls s (All-tail (λ l. All (λ i. i < length cs) l) l ls h)) refl
+
+    vectors-back : (cs : List (List ℕ)) → Sized (length vars) cs → map (vector (length vars)) (map pairs_of cs) ≡ cs
+    vectors-back [] s = refl
+    vectors-back (c ∷ cs) s = rw (vector-pairs_of (length vars) c s.0, vectors-back cs s.1) refl
+
+    all-below : (cs : List (List ℕ)) → Sized (length vars) cs → All (λ e. IsAbove e (length vars)) (map pairs_of cs)
+    all-below [] s = All-nil (λ e. IsAbove e (length vars))
+    all-below (c ∷ cs) s = All-cons (λ e. IsAbove e (length vars)) (pairs_of c) (map pairs_of cs) (above-pairs c (length vars) s.0) (all-below cs s.1)
+
+    numbers-within : All (λ l. All (λ i. i < length blocks) l) segments
+    numbers-within = seen.within blocks (extends-refl blocks)
+
+    vectors-parts : map (λ l. map (block_vector (length vars) kept.exps) l) segments ≡ parts
+    vectors-parts =
+        ap (λ es. map (λ l. map (block_vector (length vars) es) l) segments) seen.exps
+        ∙ at-lists blocks segments blocks-sized numbers-within
+        ∙ seen.lists blocks (extends-refl blocks)
+
+    pub segments-size : length segments ≡ length (prefixes_of k)
+    segments-size = sym (length-map segments (λ l. map (block_vector (length vars) kept.exps) l)) ∙ ap length vectors-parts ∙ length-map (prefixes_of k) (S)
+
+    -- the vectors of a segment
+    pub part-vectors : (o : List ℕ) (j : ℕ) → IsOrderOf k o → j ≤ k → map (block_vector (length vars) kept.exps) (beside (prefixes_of k) segments (take j o)) ≡ S (take j o)
+    part-vectors o j p h =
+        let g : slice_get (prefixes_of k) (number_of_front o j) ≡ Some (take j o) = front_number k o j x.few p h in
+        let m : number_of_front o j < length (prefixes_of k) = slice_get_within (prefixes_of k) (number_of_front o j) (take j o) g in
+        let l : number_of_front o j < length segments = omega (arith, m, segments-size) in
+        let e : beside (prefixes_of k) segments (take j o) ≡ get_or segments (number_of_front o j) [] = beside_at k segments (take j o) (number_of_front o j) (get_or segments (number_of_front o j) []) x.few g (slice_get-get_or segments (number_of_front o j) [] l) in
+        let at : get_or (prefixes_of k) (number_of_front o j) [] ≡ take j o = get_or_from_slice_get (prefixes_of k) (number_of_front o j) (take j o) [] g in
+        ap (map (block_vector (length vars) kept.exps)) e
+        ∙ sym (get_or-map (λ l. map (block_vector (length vars) kept.exps) l) segments (number_of_front o j) [] [] l)
+        ∙ ap (λ z. get_or z (number_of_front o j) []) vectors-parts
+        ∙ get_or-map S (prefixes_of k) (number_of_front o j) [] [] m
+        ∙ ap S at
+
+    -- the list of an order
+    abbrev pub list_at : List ℕ → List ℕ
+    list_at o = segments_from (beside (prefixes_of k) segments) o 0
+
+    list-vectors : (o : List ℕ) → IsOrderOf k o → map (block_vector (length vars) kept.exps) (list_at o) ≡ L o
+    list-vectors o p =
+        let q : suc (length o) - 0 ≡ suc (length o) = omega arith in
+        ap (λ n. map (block_vector (length vars) kept.exps) (joined (map (λ i. beside (prefixes_of k) segments (take i o)) (range_with_len 0 n)))) q
+        ∙ map-joined (block_vector (length vars) kept.exps) (map (λ i. beside (prefixes_of k) segments (take i o)) (range_with_len 0 (suc (length o))))
+        ∙ ap joined (map-map (map (block_vector (length vars) kept.exps)) (λ i. beside (prefixes_of k) segments (take i o)) (range_with_len 0 (suc (length o))))
+        ∙ ap joined (range-same (λ i. map (block_vector (length vars) kept.exps) (beside (prefixes_of k) segments (take i o))) (λ i. S (take i o)) 0 (suc (length o)) (λ i l m. part-vectors o i p (omega (arith, m, p.size))))
+        ∙ sym (list-from o p)
+
+    -- what is kept at the end, as stages
+    abbrev pub result : Staged
+    result = record { sites = k; exps = kept.exps; segments = segments; lists = lists_in k segments }
+
+    pub result-vectors : vectors_of (length vars) result ≡ found
+    result-vectors = map-map (map (block_vector (length vars) kept.exps)) list_at (orders_of k) ∙ maps-agree (λ o. map (block_vector (length vars) kept.exps) (list_at o)) L (orders_of k) (λ o c. list-vectors o (member-is k o c))
+
+    pub segments-within : All (λ l. All (λ i. i < length kept.exps) l) segments
+    segments-within = rw (seen.exps, length-map blocks pairs_of) numbers-within
+
+    pub result-first : map (vector (length vars)) result.exps ≡ first_seen (vectors_of (length vars) result)
+    result-first = rw (result-vectors, seen.exps) (vectors-back blocks blocks-sized ∙ sym same-first)
+
+    pub result-below : All (λ e. IsAbove e (length vars)) result.exps
+    result-below = rw seen.exps (all-below blocks blocks-sized)
+
+    pub result-numbers : All (λ l. All (λ i. i < length result.exps) l) result.lists
+    result-numbers = maps-all (λ i. i < length kept.exps) list_at (orders_of k) (λ o. joined-all (λ i. i < length kept.exps) (λ i. beside (prefixes_of k) segments (take i o)) (range_with_len 0 (suc (length o) - 0)) (λ i. beside-all (λ i. i < length kept.exps) (prefixes_of k) segments (take i o) segments-within))
+
+    pub lists-count : count_numbers (lists_in k segments) ≡ shared_count k S (prefixes_of k)
+    lists-count = count-map (block_vector (length vars) kept.exps) (map list_at (orders_of k)) ∙ ap stage_count result-vectors ∙ same-count
+
+    pub final-count : (c : ℕ) → c ≡ shared_count k S (prefixes_of k) → c ≤ most → stage_count (vectors_of (length vars) result) ≤ most
+    final-count c e h = omega (arith, h, e, same-count, ap stage_count result-vectors)
+
+    pub final-weight : kept.weight ≤ kept.heavy → stage_weight (length vars) f (vectors_of (length vars) result) ≤ heavy
+    final-weight h = omega (arith, h, seen.weight, seen.heavy, ap (all_covering (length vars) f) same-first, ap (stage_weight (length vars) f) result-vectors)
+
+    -- ---- what the program has at its end
+    pub final-is : (st : Staged) (exps : List Pairs) (segs lists : List (List ℕ)) (u : Tallied) → st ≡ record { sites = k; exps = exps; segments = segs; lists = lists } → exps ≡ u.exps → u ≡ kept → segs ≡ segments → lists ≡ lists_in k segs → st ≡ result
+    final-is st exps segs lists u e i q s l =
+        let y : exps ≡ kept.exps = i ∙ ap (λ (z : Tallied). z.exps) q in
+        let z : lists ≡ lists_in k segments = l ∙ ap (lists_in k) s in
+        e ∙ rw (y, s, z) refl
+
+    pub counted-is : (c : ℕ) (segs lists : List (List ℕ)) → segs ≡ segments → lists ≡ lists_in k segs → c ≡ shared_count k S (prefixes_of k) → c ≡ count_numbers lists
+    counted-is c segs lists s l e = e ∙ sym lists-count ∙ ap count_numbers (sym (l ∙ ap (lists_in k) s))
+
+    pub weighed-is : (u : Tallied) → u ≡ kept → u.weight ≤ u.heavy → kept.weight ≤ kept.heavy
+    weighed-is u e h = omega (arith, h, ap (λ (z : Tallied). z.weight) e, ap (λ (z : Tallied). z.heavy) e)
