@@ -1,5 +1,6 @@
 pub mod KeptLemmas
 pub mod LaidLemmas
+pub mod Monomials
 pub mod Pairs
 pub mod Powers
 pub mod Searching

@@ -4,10 +4,11 @@ use Rattle.std.proofs.lemmas.Bool.{and_parts, eqb-true}
 use Rattle.std.specs.Cmp.Lexicographic.{slice_cmp}
 use Rattle.std.proofs.Common.{arith}
 use Rattle.std.proofs.lemmas.Bool.Decides.{nat_tests}
-use Rattle.std.proofs.lemmas.Cmp.{by_ranked, ranked}
+use Rattle.std.proofs.lemmas.Cmp.{back_total, by_ranked, lists_total, nat_cmp_total, on_total, ranked, then_total}
+use Rattle.std.specs.Cmp.{IsTotalOrder}
 use Rattle.std.specs.declared.cmp.Ordering.{Ordering}
 use Rattle.std.specs.declared.cmp.Ordering.TheVariants.{Less, Equal, Greater}
-use Rattle.std.specs.Ordering.{eq_of_both, is_eq, nat_cmp, on, ordering_then, then_cmp}
+use Rattle.std.specs.Ordering.{eq_of_both, flip_args, is_eq, nat_cmp, on, ordering_then, then_cmp}
 use lib.Pointwise.{pointwise}
 
 -- the pairs of a monomial
@@ -47,9 +48,18 @@ same_pairs-is (x ∷ xs) (y ∷ ys) h =
     let e : (x.0, x.1) ∷ xs ≡ (y.0, y.1) ∷ ys = rw (p, q, r) refl in
     e
 
--- the order of lists of pairs, by the first pair that differs: by its variable, then by its exponent
+-- the order of two pairs: the one with the lower variable comes last, since the other list has exponent 0 there; where both have the same
+-- variable, their exponents decide
+abbrev pub pair_cmp : ℕ × ℕ → ℕ × ℕ → Ordering
+pair_cmp = then_cmp (flip_args (on (λ p. p.0) nat_cmp)) (on (λ p. p.1) nat_cmp)
+
+-- the lexicographic order of monomials, as lists of pairs: the first pair in which they differ decides, and a list comes before a longer one
+-- that begins with it
 abbrev pub pairs_cmp : Pairs → Pairs → Ordering
-pairs_cmp = slice_cmp (then_cmp (on (λ p. p.0) nat_cmp) (on (λ p. p.1) nat_cmp))
+pairs_cmp = slice_cmp pair_cmp
+
+pub pairs_cmp-total : IsTotalOrder pairs_cmp
+pairs_cmp-total = lists_total (then_total (back_total (on_total (λ (p : ℕ × ℕ). p.0) nat_cmp_total)) (on_total (λ (p : ℕ × ℕ). p.1) nat_cmp_total))
 
 -- the order of a pair of numbers finds the same pair alone
 is_eq-then : (a b : Ordering) → is_eq (ordering_then a b) ≡ (is_eq a && is_eq b)
@@ -61,6 +71,10 @@ eqb-cmp : (x y : ℕ) → (x == y) ≡ is_eq (nat_cmp x y)
 eqb-cmp x y = by_ranked (x < y) (x ≡ y) (y < x) (nat_cmp x y) (ranked x y (nat_cmp x y) refl)
     (λ e h. rw e (grind (arith, nat_tests))) (λ e h. rw e (grind (arith, nat_tests))) (λ e h. rw e (grind (arith, nat_tests)))
 
+eqb-back : (x y : ℕ) → (x == y) ≡ is_eq (nat_cmp y x)
+eqb-back x y = by_ranked (y < x) (y ≡ x) (x < y) (nat_cmp y x) (ranked y x (nat_cmp y x) refl)
+    (λ e h. rw e (grind (arith, nat_tests))) (λ e h. rw e (grind (arith, nat_tests))) (λ e h. rw e (grind (arith, nat_tests)))
+
 -- the order has no other ties than equal lists
 pub same_pairs-ties : (xs ys : Pairs) → same_pairs xs ys ≡ is_eq (pairs_cmp xs ys)
 same_pairs-ties [] [] = refl
@@ -68,10 +82,10 @@ same_pairs-ties [] (y ∷ ys) = refl
 same_pairs-ties (x ∷ xs) [] = refl
 same_pairs-ties (x ∷ xs) (y ∷ ys) =
     rw (
-      is_eq-then (ordering_then (nat_cmp x.0 y.0) (nat_cmp x.1 y.1)) (pairs_cmp xs ys),
-      is_eq-then (nat_cmp x.0 y.0)
+      is_eq-then (ordering_then (nat_cmp y.0 x.0) (nat_cmp x.1 y.1)) (pairs_cmp xs ys),
+      is_eq-then (nat_cmp y.0 x.0)
           (nat_cmp x.1 y.1),
-      ← eqb-cmp x.0 y.0,
+      ← eqb-back x.0 y.0,
       ← eqb-cmp x.1 y.1,
       ← same_pairs-ties xs ys,
     ) refl
@@ -80,6 +94,12 @@ same_pairs-ties (x ∷ xs) (y ∷ ys) =
 abbrev pub exponent : ℕ → Pairs → ℕ
 exponent v [] = 0
 exponent v (p ∷ ps) = (if eqb p.0 v then p.1 else 0) + exponent v ps
+
+-- b has the larger exponent at the first variable in which the two differ
+pub record IsBefore (a b : Pairs) : Type 0 where
+  pub variable : ℕ
+  pub same : (u : ℕ) → u < variable → exponent u a ≡ exponent u b
+  pub less : exponent variable a < exponent variable b
 
 -- the exponents of n variables from number v on
 abbrev pub exponents_from : ℕ → ℕ → Pairs → List ℕ

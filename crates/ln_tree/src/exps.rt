@@ -1,6 +1,6 @@
 //! Exponents of a monomial.
 ghost use Rattle.std.specs.Prelude.{◌≡◌, ◌<◌, ◌++◌, [], ◌∷◌, IfOk, OnOk, OnErr};
-ghost use Rattle.ln_tree.specs.Exps.{IsRising, exponent};
+ghost use Rattle.ln_tree.specs.Exps.{IsRising, exponent, pair_cmp, pairs_cmp};
 
 use ln_base::NoMemory;
 use smallvec::SmallVec;
@@ -10,7 +10,8 @@ use std::hash::{Hash, Hasher};
 use std::marker::Model;
 
 /// The exponents of a monomial: pairs of a variable's number and its exponent, variables rising, exponents from 1 to 127.
-/// Contracts see the list of pairs. Equality, order and hash are the list's.
+/// Contracts see the list of pairs. Equality and hash are the list's. The order is the lexicographic order of monomials: at the first
+/// variable in which two differ, the one with the larger exponent is the larger, where a variable that isn't listed has exponent 0.
 #[derive(Drop)]
 pub struct Exps {
     pairs: SmallVec<(u8, u8), 8>,
@@ -83,6 +84,27 @@ pub fn exponent_of(pairs: &[(u8, u8)], v: u8) -> u8
     0
 }
 
+// The order of two pairs at one place of two lists.
+fn cmp_pair(p: (u8, u8), q: (u8, u8)) -> Ordering
+    ensures { result ≡ pair_cmp p q }
+{
+    q.0.cmp(&p.0).then(p.1.cmp(&q.1))
+}
+
+// The order of two lists of pairs.
+fn cmp_pairs(a: &[(u8, u8)], b: &[(u8, u8)]) -> Ordering
+    ensures { result ≡ pairs_cmp a.now b.now }
+{
+    let n = a.len().min(b.len());
+    'pairs: for i in 0..n {
+        let o = cmp_pair(a[i], b[i]);
+        if o.is_ne() {
+            return o;
+        }
+    }
+    a.len().cmp(&b.len())
+}
+
 impl PartialEq for Exps {
     ghost use Rattle.std.proofs.Common.{rules};
     ghost use Rattle.std.specs.Cmp.Rules.{comparing};
@@ -107,32 +129,30 @@ impl Eq for Exps {
 impl Ord for Exps {
     ghost use Rattle.std.proofs.Common.{rules};
     ghost use Rattle.std.specs.Cmp.Rules.{comparing};
-    ghost use Rattle.ln_tree.specs.Exps.{pairs_cmp, same_pairs-ties};
+    ghost use Rattle.ln_tree.specs.Exps.{pairs_cmp, pairs_cmp-total, same_pairs-ties};
 
     ghost cmp = { pairs_cmp };
 
-    ghost total = { Prim.search (comparing, rules) };
+    ghost total = { pairs_cmp-total };
 
     ghost matches_partial_cmp = { Prim.search (comparing, rules) };
 
     ghost matches_eq = { same_pairs-ties };
 
     fn cmp(&self, other: &Exps) -> Ordering {
-        self.pairs.as_slice().cmp(other.pairs.as_slice())
+        cmp_pairs(self.pairs.as_slice(), other.pairs.as_slice())
     }
 }
 
 impl PartialOrd for Exps {
-    ghost use Rattle.std.proofs.Common.{rules};
-    ghost use Rattle.std.specs.Cmp.{partial_order_from_own_ties};
-    ghost use Rattle.std.specs.Cmp.Rules.{comparing};
+    ghost use Rattle.std.proofs.Common.{refl};
+    ghost use Rattle.std.specs.Cmp.{partial_order_from_agreeing_total};
     ghost use Rattle.std.specs.Ordering.{as_partial_cmp};
-    ghost use Rattle.ln_tree.specs.Exps.{pairs_cmp, same_pairs-ties};
+    ghost use Rattle.ln_tree.specs.Exps.{pairs_cmp, pairs_cmp-total, same_pairs-ties};
 
     ghost partial_cmp = { as_partial_cmp pairs_cmp };
 
-    ghost laws = { partial_order_from_own_ties (Prim.search (comparing, rules))
-        same_pairs-ties };
+    ghost laws = { partial_order_from_agreeing_total pairs_cmp pairs_cmp-total (λ x y. refl) same_pairs-ties };
 
     fn partial_cmp(&self, other: &Exps) -> Option<Ordering> {
         Some(self.cmp(other))
