@@ -15,7 +15,7 @@ names=$(sed -n 's/^predicate \([a-z0-9_]*\).*/\1/p' "$full" | sed -n '1p;8p;16p'
 for name in $names; do
   python3 $plain rows "$full" "$name" 400 >"$scratch/made.csv"
   case_ "rows of $name" 0 'equal' '' "$held 20 $program run $full $name $scratch/made.csv | sed 's/F\$/0/' >$scratch/once; python3 $plain run $full $name $scratch/made.csv >$scratch/twice;
-    cmp $scratch/once $scratch/twice && [ \$(wc -l <$scratch/once) = 400 ] && [ \$(grep -c '[1-9]' $scratch/once) -ge 70 ] && echo equal"
+    cmp $scratch/once $scratch/twice && [ \$(wc -l <$scratch/once) = 400 ] && [ \$(grep -c '[1-9]' $scratch/once) -ge 50 ] && echo equal"
   case_ "the C of $name" 0 'equal' '' "gcc -std=gnu99 -DCALL=ln_$name examples/signs.c $scratch/long.o -o $scratch/it && $scratch/it <$scratch/made.csv >$scratch/once; cut -c1 $scratch/twice | cmp - $scratch/once && echo equal"
   case_ "rows of $name that are made" 0 'equal' '' "$held 20 $program gen $full $name 1 2000 | awk '\$1 == \"deciders\" { \$0 = \"deciders plain \" \$3 + \$5 \" stages \" \$7 \" none \" \$9 \" deepest \" \$11 } { print }' >$scratch/once
     python3 $plain gen $full $name 1 2000 >$scratch/twice; cmp $scratch/once $scratch/twice && echo equal"
