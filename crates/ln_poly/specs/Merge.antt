@@ -1,5 +1,5 @@
 -- Two lists of terms in order, merged from their ends.
-use Rattle.std.specs.Prelude.{◌≡◌, ℕ, ℤ, ◌+◌, ◌-◌, ◌<◌, ◌≤◌, ◌^◌, ◌+ℤ◌, All, List, Option, Some, None, ⊤, length, slice_index_or, unsigned_abs}
+use Rattle.std.specs.Prelude.{◌≡◌, ℕ, ℤ, ◌+◌, ◌-◌, ◌<◌, ◌≤◌, ◌+ℤ◌, All, List, Option, Some, None, ⊤, length, slice_index_or, unsigned_abs}
 use Rattle.std.specs.List.{AllByRecursion}
 use Rattle.std.specs.declared.cmp.Ordering.TheVariants.{Less}
 use Rattle.ln_tree.specs.Exps.{IsAbove, IsRising, Pairs, pairs_cmp}
@@ -24,7 +24,8 @@ EndsLater f g = 0 < length g → (0 < length f)
 
 -- both have a term, and their last ones are like
 abbrev pub EndAlike : Sparse → Sparse → Type 0
-EndAlike f g = (0 < length f) × (0 < length g) × ((d e : Pairs × ℤ) → (slice_index_or f (length f - 1) d).0 ≡ (slice_index_or g (length g - 1) e).0)
+EndAlike f g = (0 < length f) × (0 < length g)
+    × ((d e : Pairs × ℤ) → (slice_index_or f (length f - 1) d).0 ≡ (slice_index_or g (length g - 1) e).0)
 
 -- where there are two terms, o has the exponents of the first and the sum of both factors
 abbrev pub IsSumOf : Option (Pairs × ℤ) → Option (Pairs × ℤ) → Option (Pairs × ℤ) → Type 0

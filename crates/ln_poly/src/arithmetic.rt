@@ -1,6 +1,6 @@
 //! Sums and products of polynomials.
-ghost use Rattle.std.specs.Prelude.{◌≡◌, ℕ, List, [], ◌∷◌, ◌+◌, ◌*◌, ◌<◌, ◌≤◌, ◌^◌, ◌++◌, ◌+ℤ◌, ◌-ℤ◌, ◌*ℤ◌, All, IfOk, OnOk, length, pos, unsigned_abs, ◌≢◌};
-ghost use Rattle.std.specs.Prelude.{◌-◌, drop, take};
+ghost use Rattle.std.specs.Prelude.{◌≡◌, ℕ, List, [], ◌∷◌, ◌+◌, ◌*◌, ◌<◌, ◌≤◌, ◌^◌, ◌++◌, ◌+ℤ◌, ◌-ℤ◌, ◌*ℤ◌, All, IfOk, OnOk, length, unsigned_abs};
+ghost use Rattle.std.specs.Prelude.{◌-◌, ◌≢◌, drop, pos, take};
 ghost use Rattle.ln_algebra.specs.Coefficient.{product};
 ghost use Rattle.ln_tree.specs.Exps.{exponent};
 ghost use Rattle.ln_poly.specs.Sparse.{IsFactor, IsPoly, AreBelow, coefficient_at, negated, size_of};

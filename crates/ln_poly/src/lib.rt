@@ -1,4 +1,5 @@
-//! Polynomials with whole coefficients: terms sorted, distinct and without zeros.
+//! Polynomials with whole coefficients: terms in the lexicographic order of their monomials, distinct and without zeros. Products keep that
+//! order, so sums and products of polynomials are merges, and nothing sorts terms.
 //!
 //! What the crates above use: `normal` is the normal polynomial of a predicate's root, or the first node that has more
 //! than 1,024 terms. `add`, `sum`, `sub` and `mul` have the coefficients of the sum, the difference and the product, `derive`

@@ -105,8 +105,8 @@ fn fewer_rows(alloc: Global, f: &Poly, g: &Poly, most: usize) -> Result<Option<P
 ///
 /// The terms of the polynomial with fewer are multiplied 64 at a time. Each product of two terms that is still to come takes away at
 /// most one term of what there is; so None is answered as soon as there are more terms than `most` and those products. Beside the
-/// products of 64 terms, which are then collected, at most about half of all products of two terms are held at once. It takes the time
-/// of `mul`, and that of a sum for each 64 terms.
+/// products of 64 terms, whose rows are merged two halves at a time, at most about half of all products of two terms are held at
+/// once. It takes the time of `mul`, and that of a sum for each 64 terms.
 pub fn mul_within(alloc: Global, f: &Poly, g: &Poly, most: usize) -> Result<Option<Poly>, NoMemory>
     requires room { size_of f.now * size_of g.now < 2 ^ 127 }
     requires powers { All (λ s. PowersFit s g.now) f.now }

@@ -2,7 +2,7 @@
 use Rattle.std.proofs.Common.{◌≡◌, ℕ, ◌+◌, ◌<◌, ◌≤◌, refl, sym, ◌∙◌, ap, arith, zero, suc, [], ◌∷◌, length, drop, Less, Equal, Greater}
 use Rattle.std.proofs.lemmas.Bool.{cases_lt}
 use Rattle.std.proofs.lemmas.Cmp.{by_ranked, ranked}
-use Rattle.std.specs.Ordering.{is_eq, nat_cmp, on, ordering_reverse, ordering_then}
+use Rattle.std.specs.Ordering.{is_eq, nat_cmp, ordering_reverse}
 use Rattle.std.specs.declared.cmp.Ordering.{Ordering}
 use mathlib.Core.Logic.{◌⊎◌, inl, inr}
 use Rattle.ln_tree.specs.Exps.{AllAbove, IsBefore, IsRising, Pairs, exponent, pairs_cmp, pairs_cmp-total, same_pairs-is, same_pairs-ties}
@@ -37,34 +37,34 @@ is-before [] (q ∷ b) r s h = record { variable = q.0; same = λ u l. sym (none
 is-before (p ∷ a) [] r s h = cc
 is-before (p ∷ a) (q ∷ b) r s h =
     by_ranked (q.0 < p.0) (q.0 ≡ p.0) (p.0 < q.0) (nat_cmp q.0 p.0) (ranked q.0 p.0 (nat_cmp q.0 p.0) refl)
-        (λ e l. lower l)
-        (λ e l. by_ranked (p.1 < q.1) (p.1 ≡ q.1) (q.1 < p.1) (nat_cmp p.1 q.1) (ranked p.1 q.1 (nat_cmp p.1 q.1) refl)
-            (λ f k. larger l k)
-            (λ f k. before-more p q a b (sym l) k (is-before a b r.3 s.3 (rest e f)))
-            (λ f k. absurd (smaller e f)))
-        (λ e l. absurd (higher e)) where
-  lower : q.0 < p.0 → IsBefore (p ∷ a) (q ∷ b)
-  lower l = record {
-    variable = q.0;
-    same = λ u k. none-before u p a (omega arith) r.2 ∙ sym (none-before u q b k s.2);
-    less = omega (arith, none-before q.0 p a l r.2, first-here q b s.2, s.0);
-  }
+    (λ e l. lower l)
+    (λ e l. by_ranked (p.1 < q.1) (p.1 ≡ q.1) (q.1 < p.1) (nat_cmp p.1 q.1) (ranked p.1 q.1 (nat_cmp p.1 q.1) refl)
+    (λ f k. larger l k)
+    (λ f k. before-more p q a b (sym l) k (is-before a b r.3 s.3 (rest e f)))
+    (λ f k. absurd (smaller e f)))
+    (λ e l. absurd (higher e)) where
+      lower : q.0 < p.0 → IsBefore (p ∷ a) (q ∷ b)
+      lower l = record {
+        variable = q.0;
+        same = λ u k. none-before u p a (omega arith) r.2 ∙ sym (none-before u q b k s.2);
+        less = omega (arith, none-before q.0 p a l r.2, first-here q b s.2, s.0);
+      }
 
-  larger : q.0 ≡ p.0 → p.1 < q.1 → IsBefore (p ∷ a) (q ∷ b)
-  larger l k = record {
-    variable = q.0;
-    same = λ u m. none-before u p a (omega arith) r.2 ∙ sym (none-before u q b m s.2);
-    less = omega (arith, ap (λ z. exponent z (p ∷ a)) l, first-here p a r.2, first-here q b s.2);
-  }
+      larger : q.0 ≡ p.0 → p.1 < q.1 → IsBefore (p ∷ a) (q ∷ b)
+      larger l k = record {
+        variable = q.0;
+        same = λ u m. none-before u p a (omega arith) r.2 ∙ sym (none-before u q b m s.2);
+        less = omega (arith, ap (λ z. exponent z (p ∷ a)) l, first-here p a r.2, first-here q b s.2);
+      }
 
-  rest : nat_cmp q.0 p.0 ≡ Equal → nat_cmp p.1 q.1 ≡ Equal → pairs_cmp a b ≡ Less
-  rest e f = rw (e, f) at h
+      rest : nat_cmp q.0 p.0 ≡ Equal → nat_cmp p.1 q.1 ≡ Equal → pairs_cmp a b ≡ Less
+      rest e f = rw (e, f) at h
 
-  smaller : nat_cmp q.0 p.0 ≡ Equal → nat_cmp p.1 q.1 ≡ Greater → ⊥
-  smaller e f = let z : Greater ≡ Less = rw (e, f) at h in cc
+      smaller : nat_cmp q.0 p.0 ≡ Equal → nat_cmp p.1 q.1 ≡ Greater → ⊥
+      smaller e f = let z : Greater ≡ Less = rw (e, f) at h in cc
 
-  higher : nat_cmp q.0 p.0 ≡ Greater → ⊥
-  higher e = let z : Greater ≡ Less = rw e at h in cc
+      higher : nat_cmp q.0 p.0 ≡ Greater → ⊥
+      higher e = let z : Greater ≡ Less = rw e at h in cc
 
 -- two monomials don't come before each other
 not-both : (a b : Pairs) → IsBefore a b → IsBefore b a → ⊥

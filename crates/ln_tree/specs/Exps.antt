@@ -48,13 +48,13 @@ same_pairs-is (x ∷ xs) (y ∷ ys) h =
     let e : (x.0, x.1) ∷ xs ≡ (y.0, y.1) ∷ ys = rw (p, q, r) refl in
     e
 
--- the order of two pairs: the one with the lower variable comes last, since the other list has exponent 0 there; where both have the same
--- variable, their exponents decide
+-- the order of two pairs: the one with the lower variable comes last, since the other list has exponent 0 there; where both have
+-- the same variable, their exponents decide
 abbrev pub pair_cmp : ℕ × ℕ → ℕ × ℕ → Ordering
 pair_cmp = then_cmp (flip_args (on (λ p. p.0) nat_cmp)) (on (λ p. p.1) nat_cmp)
 
--- the lexicographic order of monomials, as lists of pairs: the first pair in which they differ decides, and a list comes before a longer one
--- that begins with it
+-- the lexicographic order of monomials, as lists of pairs: the first pair in which they differ decides, and a list comes before a
+-- longer one that begins with it
 abbrev pub pairs_cmp : Pairs → Pairs → Ordering
 pairs_cmp = slice_cmp pair_cmp
 

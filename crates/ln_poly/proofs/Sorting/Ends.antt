@@ -1,19 +1,18 @@
 -- The last term of two lists in order.
-use Rattle.std.proofs.Common.{◌≡◌, ◌⊎◌, inl, inr, ℕ, ◌+◌, ◌-◌, ◌<◌, ◌≤◌, ◌^◌, refl, sym, ◌∙◌, ap, subst, arith, All, List, [], ◌∷◌, ◌++◌, length, length-append, get_or, Less, Equal, Greater, Option, Some, None, unsigned_abs}
+use Rattle.std.proofs.Common.{◌≡◌, ◌⊎◌, inl, inr, ℕ, ◌+◌, ◌-◌, ◌<◌, ◌≤◌, ◌^◌, refl, sym, ◌∙◌, ap, subst, arith, All, [], ◌∷◌, ◌++◌, length, get_or, Less, Equal, Greater, Option, Some, None, unsigned_abs}
 use Rattle.std.proofs.lemmas.Bool.{cases_lt}
 use Rattle.std.proofs.lemmas.Int.{ints}
 use Rattle.std.proofs.lemmas.List.{get_or_append_left, get_or_default, get_or_push, length_push}
-use Rattle.std.proofs.lemmas.List.Elements.{All-nil}
 use Rattle.std.proofs.Math.IntN.{ℤ, ◌+ℤ◌}
 use Rattle.std.specs.Option.{option_to_list}
-use Rattle.std.specs.Prelude.{◌↔◌, IfSome, IsSome, MatchOption, true}
+use Rattle.std.specs.Prelude.{◌↔◌, IfSome, IsSome, MatchOption}
 use Rattle.std.specs.List.{AllByRecursion}
 use Rattle.std.specs.List.Sorted.{IsStrictlySortedBy}
 use Rattle.std.specs.Ordering.{MatchOrdering, is_eq, on, ordering_reverse}
 use Rattle.std.specs.declared.cmp.Ordering.{Ordering}
 use Rattle.ln_tree.specs.Exps.{IsAbove, IsRising, Pairs, pairs_cmp, pairs_cmp-total, same_pairs-is, same_pairs-ties}
-use Rattle.ln_poly.specs.Merge.{AllBefore, AreBefore, EndAlike, EndsLater, IsBeforeAll, IsSumOf, IsTaken}
-use Rattle.ln_poly.specs.Sparse.{AreBelow, AreRising, AreSorted, Sparse, coefficient_at, part_at, size_of}
+use Rattle.ln_poly.specs.Merge.{AllBefore, EndAlike, EndsLater, IsBeforeAll, IsSumOf, IsTaken}
+use Rattle.ln_poly.specs.Sparse.{AreSorted, Sparse, part_at, size_of}
 use Rattle.ln_poly.proofs.Sorting.Rising.{sorted-at}
 use Rattle.ln_poly.proofs.TermLists.Coefficients.{coefficient_at-push, part-sum, size-push}
 
@@ -120,11 +119,11 @@ taken-alike f f' g g' (Some a) (Some b) o k l e p v w i j h s =
     let left : IsTaken f (g' ++ (b ∷ [])) f' g' t = subst (λ z. IsTaken z (g' ++ (b ∷ [])) f' g' t) (sym e) both in
     let whole : IsTaken f g f' g' t = subst (λ z. IsTaken f z f' g' t) (sym p) left in
     subst (λ z. MatchOption z ((f ≡ []) × (g ≡ [])) (λ x. IsTaken f g f' g' x)) (sym s) whole where
-  ends-like : a.0 ≡ b.0
-  ends-like =
-      let x : get_or f (length f - 1) a ≡ a = subst (λ z. get_or z (length z - 1) a ≡ a) (sym e) (last-at f' a a) in
-      let y : get_or g (length g - 1) b ≡ b = subst (λ z. get_or z (length z - 1) b ≡ b) (sym p) (last-at g' b b) in
-      sym (ap (λ (z : Pairs × ℤ). z.0) x) ∙ h.2 a b ∙ ap (λ (z : Pairs × ℤ). z.0) y
+      ends-like : a.0 ≡ b.0
+      ends-like =
+          let x : get_or f (length f - 1) a ≡ a = subst (λ z. get_or z (length z - 1) a ≡ a) (sym e) (last-at f' a a) in
+          let y : get_or g (length g - 1) b ≡ b = subst (λ z. get_or z (length z - 1) b ≡ b) (sym p) (last-at g' b b) in
+          sym (ap (λ (z : Pairs × ℤ). z.0) x) ∙ h.2 a b ∙ ap (λ (z : Pairs × ℤ). z.0) y
 
 -- room for the sum of the two last factors
 pub both-room : (f f' g g' : Sparse) (r q : Option (Pairs × ℤ)) → f ≡ f' ++ option_to_list r → g ≡ g' ++ option_to_list q → size_of f + size_of g < 2 ^ 127 → IfSome r (λ a. IfSome q (λ b. unsigned_abs a.1 + unsigned_abs b.1 < 2 ^ 127))

@@ -1,21 +1,19 @@
 -- Terms sorted, with like ones collected and zeros left out.
-use Rattle.std.proofs.Common.{◌≡◌, ℕ, ◌+◌, ◌<◌, ◌≤◌, ◌-◌, ◌^◌, ◌≢◌, zero, suc, refl, sym, ◌∙◌, ap, subst, arith, List, [], ◌∷◌, ◌++◌, length, take, set, get_or, Bool, true, false, cond, not, unsigned_abs}
+use Rattle.std.proofs.Common.{◌≡◌, ℕ, ◌<◌, ◌≤◌, ◌^◌, ◌≢◌, zero, suc, refl, sym, ap, subst, arith, List, [], ◌∷◌, set, get_or, Bool, true, false, cond, not}
 use Rattle.std.proofs.lemmas.Int.{ints}
-use Rattle.std.proofs.Math.IntN.{ℤ, pos, ◌+ℤ◌}
+use Rattle.std.proofs.Math.IntN.{ℤ, pos}
 use lib.Signed.{◌<ℤ◌}
-use Rattle.std.proofs.lemmas.List.{get_or-map, length-map, map_more, map-append}
-use Rattle.std.specs.List.{dedup, dedup_from, filter, All, AllByRecursion}
-use Rattle.std.specs.List.Sorted.{IsSorted, IsStrictlySortedBy}
-use Rattle.std.specs.Ordering.{int_cmp, int_eq, is_lt, on, ordering_then}
-use Rattle.std.specs.declared.cmp.Ordering.{Ordering}
-use Rattle.std.specs.declared.cmp.Ordering.TheVariants.{Less, Equal, Greater}
+use Rattle.std.proofs.lemmas.List.{get_or-map, length-map}
+use Rattle.std.specs.List.{filter, All, AllByRecursion}
+use Rattle.std.specs.List.Sorted.{IsStrictlySortedBy}
+use Rattle.std.specs.Ordering.{int_cmp, int_eq, on}
+use Rattle.std.specs.declared.cmp.Ordering.TheVariants.{Less, Greater}
 use Rattle.std.proofs.lemmas.Cmp.{by_ranked, int_ranked}
 use Rattle.std.proofs.lemmas.List.Elements.{All-cons, All-filter, All-nil}
-use Rattle.std.proofs.lemmas.List.Filters.{All-dedup}
-use Rattle.std.proofs.lemmas.List.Kept.{IsStrictlySortedBy-dedup, IsStrictlySortedBy-filter}
-use Rattle.ln_tree.specs.Exps.{Pairs, IsRising, pairs_cmp, pairs_cmp-total, same_pairs, same_pairs-ties}
+use Rattle.std.proofs.lemmas.List.Kept.{IsStrictlySortedBy-filter}
+use Rattle.ln_tree.specs.Exps.{Pairs, IsRising, pairs_cmp}
 use Rattle.ln_poly.specs.Sparse.{AreRising, AreSorted, IsFactor, IsPoly, Sparse, coefficient_at, exps_of, part_at, size_of}
-use Rattle.ln_poly.proofs.TermLists.Coefficients.{coefficient_at-cons, coefficient_at-more, part-zero, size-cons, size-more, size-next}
+use Rattle.ln_poly.proofs.TermLists.Coefficients.{coefficient_at-cons, part-zero, size-cons}
 
 -- a factor is set, the exponents stay
 pub exps-set : (xs : Sparse) (i : ℕ) (e : Pairs) (a c : ℤ) → (e, a) ≡ get_or xs i (e, a) → exps_of (set xs i (e, c)) ≡ exps_of xs

@@ -1,5 +1,5 @@
 -- Two lists of terms in order, merged.
-use Rattle.std.proofs.Common.{◌≡◌, ◌≢◌, ◌⊎◌, inl, inr, ℕ, ◌+◌, ◌<◌, ◌≤◌, ◌^◌, refl, sym, ◌∙◌, ap, subst, arith, All, List, [], ◌∷◌, ◌++◌, length, unsigned_abs, reverse}
+use Rattle.std.proofs.Common.{◌≡◌, ◌≢◌, ◌⊎◌, inl, inr, ℕ, ◌+◌, ◌<◌, ◌≤◌, ◌^◌, sym, ◌∙◌, ap, subst, arith, List, [], ◌∷◌, ◌++◌, reverse}
 use Rattle.std.proofs.lemmas.Int.{ints}
 use Rattle.std.proofs.lemmas.List.{reverse-append}
 use Rattle.std.proofs.lemmas.List.Elements.{All-cons, All-nil}
@@ -8,7 +8,7 @@ use Rattle.std.specs.List.Sorted.{IsStrictlySortedBy}
 use Rattle.std.specs.Ordering.{on}
 use Rattle.ln_algebra.proofs.Expanded.Normal.{zero_cases}
 use Rattle.ln_tree.specs.Exps.{IsAbove, IsRising, Pairs, pairs_cmp}
-use Rattle.ln_poly.specs.Merge.{AreBefore, IsBeforeAll, IsMerging, IsTaken}
+use Rattle.ln_poly.specs.Merge.{IsBeforeAll, IsMerging, IsTaken}
 use Rattle.ln_poly.specs.Sparse.{AreBelow, AreRising, AreSorted, IsFactor, IsPoly, Sparse, coefficient_at, part_at, size_of}
 use Rattle.ln_poly.proofs.Sorting.Rising.{none-sorted}
 use Rattle.ln_poly.proofs.TermLists.Coefficients.{coefficient_at-cons, coefficient_at-nil, part-zero, size-cons, size-nil}

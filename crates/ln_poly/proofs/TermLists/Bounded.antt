@@ -151,12 +151,3 @@ parts-step acc part out f f' g i j r p e h c s q b = record {
   rising = q.rising;
   below = λ k x y. b k (r.below k x y) (p.below k (subst (AreBelow k) (sym e) (All-take (λ z. IsAbove z.0 k) (j - i) (drop i f) (All-drop (λ z. IsAbove z.0 k) i f x))) y);
 }
-
--- the rows put one behind the other, gathered
-pub rows-gathered : (out f g h : Sparse) (i : ℕ) → IsRows out f g i → ((n : ℕ) (m : List ℕ) → coefficient_at n h m ≡ coefficient_at n out m) → size_of h ≤ size_of out → IsPoly h → ((n : ℕ) → AreBelow n out → AreBelow n h) → IsRows h f g i
-rows-gathered out f g h i r c s q b = record {
-  coefficients = λ n m. c n m ∙ r.coefficients n m;
-  size = omega (arith, s, r.size);
-  rising = q.rising;
-  below = λ k x y. b k (r.below k x y);
-}

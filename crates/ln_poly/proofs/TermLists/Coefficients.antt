@@ -2,13 +2,8 @@
 use Rattle.std.proofs.Common.{◌≡◌, ℕ, ◌+◌, ◌<◌, ◌≤◌, zero, suc, refl, ◌∙◌, ap, arith, List, [], ◌∷◌, ◌++◌, length, take, set, get_or, Bool, true, false, if◌then◌else◌, unsigned_abs, add-one}
 use Rattle.std.proofs.lemmas.Int.{ints}
 use Rattle.std.proofs.Math.IntN.{ℤ, pos, ◌+ℤ◌}
-use Rattle.std.proofs.lemmas.List.{get_or_default, length-set, get_or-set_same, get_or-set_other}
+use Rattle.std.proofs.lemmas.List.{get_or_default}
 use Rattle.std.proofs.lemmas.List.Sums.{get_or-le-sum_by, sum_by-set, sum_by_push, sum_by_more, sum_by-take-le, sum_by-append, sum_by-cons}
-use Rattle.std.specs.List.Sorted.{IsPermutation}
-use Rattle.std.proofs.lemmas.List.Sorted.{IsPermutation-keeps, sum_by-IsPermutation}
-use Rattle.std.proofs.lemmas.Bool.{cases_eq}
-use Rattle.std.specs.List.{swap}
-use mathlib.Core.Logic.{⊎_elim}
 use Rattle.ln_algebra.specs.Vector.{same_vector}
 use Rattle.ln_tree.specs.Exps.{Pairs, vector}
 use Rattle.ln_poly.specs.Sparse.{Sparse, coefficient_at, part_at, size_of}
@@ -106,26 +101,6 @@ size-set xs i e a b c h at' s =
 -- the first n terms weigh no more with the next than the whole
 pub size-next : (xs : Sparse) (i : ℕ) (x : Pairs × ℤ) → i < length xs → x ≡ get_or xs i x → size_of (take i xs) + unsigned_abs x.1 ≤ size_of xs
 size-next xs i x h e = let f : unsigned_abs x.1 ≡ unsigned_abs (get_or xs i x).1 = ap (λ z. unsigned_abs z.1) e in omega (arith, f, size-more xs i x h, size-take xs (i + 1))
-
--- ---- the order of the terms doesn't count
-swapped-coefficient : (n : ℕ) (m : List ℕ) (l : Sparse) (i j : ℕ) → i < length l → j < length l → coefficient_at n (swap l i j) m ≡ coefficient_at n l m
-swapped-coefficient n m [] i j p q = absurd (omega arith)
-swapped-coefficient n m (d ∷ xs) i j p q =
-    let l : Sparse = d ∷ xs in
-    let w : Sparse = set l i (get_or l j d) in
-    let long = length-set l i (get_or l j d) in
-    let there : get_or w j d ≡ get_or l j d = ⊎_elim (λ e. ap (λ k. get_or w k d) e ∙ get_or-set_same l i (get_or l j d) d p) (λ k. get_or-set_other l i j (get_or l j d) d k) (cases_eq j i) in
-    let read = ap (λ z. part_at n z m) there in
-    let first = coefficient_at-set n m l i (get_or l j d) d p in
-    let second = coefficient_at-set n m w j (get_or l i d) d (omega arith) in
-    omega (arith, ints, read, first, second)
-
-pub permuted-coefficient : (n : ℕ) (m : List ℕ) (xs ys : Sparse) → IsPermutation xs ys → coefficient_at n ys m ≡ coefficient_at n xs m
-permuted-coefficient n m xs ys = IsPermutation-keeps xs (λ l. coefficient_at n l m ≡ coefficient_at n xs m) refl (λ l i j p q h. swapped-coefficient n m l i j p q ∙ h) ys
-
-pub permuted-size : (xs ys : Sparse) → IsPermutation xs ys → size_of ys ≡ size_of xs
-unfolding size_of
-permuted-size xs ys h = sum_by-IsPermutation (λ t. unsigned_abs t.1) xs ys h
 
 -- ---- a term added where one with its exponents stands
 alike : (xs : Sparse) (i : ℕ) (x t : Pairs × ℤ) → i < length xs → x ≡ get_or xs i x → (get_or xs i t).0 ≡ t.0 → x.0 ≡ t.0

@@ -5,7 +5,6 @@ use Rattle.std.proofs.lemmas.Int.{ints, unsigned_abs-mul}
 use Rattle.std.proofs.lemmas.List.{take_all, take_more}
 use Rattle.std.proofs.lemmas.List.Elements.{All-nil, All-push}
 use Rattle.std.proofs.Math.IntN.{ℤ, pos, ◌+ℤ◌, ◌*ℤ◌}
-use Rattle.std.specs.Prelude.{All}
 use Rattle.ln_algebra.specs.Vector.{plus, same_vector, sum_over}
 use Rattle.ln_algebra.specs.Coefficient.{product}
 use Rattle.ln_algebra.specs.Terms.{Over, factor_at}
@@ -155,6 +154,3 @@ powers-at s g i t f h e = subst (λ z. (v : ℕ) → exponent v s.0 + exponent v
 
 pub row-end : (out old : Sparse) (s : Pairs × ℤ) (g : Sparse) (i : ℕ) → i ≡ length g → IsRow out old s g i → IsRow out old s g (length g)
 row-end out old s g i h r = subst (IsRow out old s g) h r
-
-pub rows-powers : (f g : Sparse) (i : ℕ) (s : Pairs × ℤ) → All (λ t. PowersFit t g) f → i < length f → s ≡ get_or f i s → PowersFit s g
-rows-powers f g i s a h e = subst (λ z. PowersFit z g) (sym e) (a i s h)

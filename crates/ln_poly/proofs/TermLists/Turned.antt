@@ -1,5 +1,5 @@
 -- Products with the two polynomials in turn.
-use Rattle.std.proofs.Common.{◌≡◌, ℕ, ◌+◌, ◌*◌, ◌<◌, ◌≤◌, ◌^◌, refl, sym, ◌∙◌, ap, arith, All, List, [], ◌∷◌, length, take, if◌then◌else◌}
+use Rattle.std.proofs.Common.{◌≡◌, ℕ, ◌*◌, ◌<◌, ◌≤◌, ◌^◌, refl, sym, ◌∙◌, ap, arith, List, [], ◌∷◌, length, if◌then◌else◌}
 use Rattle.std.specs.Prelude.{IfNone, IfSome, Option, None, Some}
 use Rattle.std.proofs.lemmas.Int.{ints}
 use Rattle.std.proofs.lemmas.List.{take_all}
@@ -9,8 +9,8 @@ use Rattle.ln_algebra.proofs.Expanded.Ring.{mul_comm}
 use Rattle.ln_algebra.proofs.Ordering.Products.{plus-comm}
 use Rattle.ln_algebra.specs.Coefficient.{product}
 use Rattle.ln_algebra.specs.Vector.{plus, same_vector, sum_over}
-use Rattle.ln_tree.specs.Exps.{Pairs, exponent, vector}
-use Rattle.ln_poly.specs.Rows.{IsRows, PowersFit, cell_at, row_at}
+use Rattle.ln_tree.specs.Exps.{Pairs, vector}
+use Rattle.ln_poly.specs.Rows.{IsRows, cell_at, row_at}
 use Rattle.ln_poly.specs.Sparse.{AreBelow, Sparse, coefficient_at, size_of, terms_of}
 use Rattle.ln_poly.specs.Within.{HasMoreTerms, TakesMore}
 use Rattle.ln_poly.proofs.TermLists.Products.{length-vector, over-terms, rows-product, rows-size, rows_times}
@@ -49,9 +49,6 @@ rows-turned out f g r = record {
   rising = r.rising;
   below = λ k a b. r.below k b a;
 }
-
-pub powers-turned : (f g : Sparse) → All (λ s. PowersFit s g) f → All (λ t. PowersFit t f) g
-powers-turned f g a = λ j t l. λ i s k. λ v. omega (arith, a i s k j t l v)
 
 product-turned : (n : ℕ) (f g : Sparse) (m : List ℕ) → length m ≡ n → product (coefficient_at n g) (coefficient_at n f) m ≡ product (coefficient_at n f) (coefficient_at n g) m
 unfolding coefficient_at

@@ -1,5 +1,5 @@
 -- Products of one term with a polynomial, which stand in the order of its terms.
-use Rattle.std.proofs.Common.{◌≡◌, ◌≢◌, ◌⊎◌, inl, inr, ℕ, ◌+◌, ◌*◌, ◌<◌, ◌≤◌, ◌^◌, sym, ◌∙◌, ap, subst, arith, All, List, [], ◌∷◌, length, take, get_or, unsigned_abs, Less}
+use Rattle.std.proofs.Common.{◌≡◌, ◌≢◌, ◌⊎◌, inl, inr, ◌*◌, ◌<◌, ◌^◌, sym, ◌∙◌, ap, subst, arith, All, [], ◌∷◌, length, take, get_or, unsigned_abs, Less}
 use Rattle.std.proofs.lemmas.List.{take_all}
 use Rattle.std.proofs.lemmas.List.Elements.{All-cons, All-head, All-nil, All-tail}
 use Rattle.std.proofs.Math.IntN.{ℤ, pos, ◌*ℤ◌}
@@ -10,7 +10,7 @@ use Rattle.ln_algebra.proofs.Ordering.Products.{times-zero}
 use Rattle.ln_tree.specs.Exps.{IsRising, Pairs, pairs_cmp}
 use Rattle.ln_tree.proofs.Monomials.{products-kept}
 use Rattle.ln_poly.specs.Rows.{AreProducts, IsProduct, IsRow, IsRows}
-use Rattle.ln_poly.specs.Sparse.{AreRising, AreSorted, IsFactor, IsPoly, Sparse, size_of}
+use Rattle.ln_poly.specs.Sparse.{AreRising, IsFactor, IsPoly, Sparse, size_of}
 use Rattle.ln_poly.proofs.TermLists.Coefficients.{size-cons, size-nil}
 use Rattle.ln_poly.proofs.TermLists.Products.{rows-begin, rows-step}
 

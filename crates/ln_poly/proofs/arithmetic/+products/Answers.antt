@@ -23,26 +23,36 @@ returns-then-f-eq1-clause-rows r c = one-row _ _ _ _ _ _ (omega (arith, c.if-f-e
 pub products-requires : goal.products-requires
 products-requires r c =
     let k : ℕ = length c.args.f.now / 2 in
-    let some : 0 < length c.args.f.now = some-length _ _ c.is_empty.ensures c.if-is_empty.false in
-    (
+    let some : 0 < length c.args.f.now = some-length _ _ c.is_empty.ensures c.if-is_empty.false in (
       first-shorter c.args.f.now c.between.result.now r some c.if-f-eq1.false c.between.ensures c.decreases,
-      (part-room 0 k c.args.f.now c.between.result.now c.args.g.now c.between.ensures (omega arith) c.requires.room,
-      (part-powers 0 k c.args.f.now c.between.result.now c.args.g.now c.between.ensures c.requires.powers,
-      (part-factors 0 k c.args.f.now c.between.result.now c.between.ensures c.requires.factors,
-      c.requires.form))),
+      (
+        part-room 0 k c.args.f.now c.between.result.now c.args.g.now c.between.ensures (omega arith) c.requires.room,
+        (
+          part-powers 0 k c.args.f.now c.between.result.now c.args.g.now c.between.ensures c.requires.powers,
+          (
+            part-factors 0 k c.args.f.now c.between.result.now c.between.ensures c.requires.factors,
+            c.requires.form,
+          ),
+        ),
+      ),
     )
 
 pub products-requires-2 : goal.products-requires-2
 products-requires-2 r c =
     let k : ℕ = length c.args.f.now / 2 in
     let n : ℕ = length c.args.f.now in
-    let some : 0 < length c.args.f.now = some-length _ _ c.is_empty.ensures c.if-is_empty.false in
-    (
+    let some : 0 < length c.args.f.now = some-length _ _ c.is_empty.ensures c.if-is_empty.false in (
       second-shorter c.args.f.now c.between-2.result.now r some c.if-f-eq1.false c.between-2.ensures c.decreases,
-      (part-room k n c.args.f.now c.between-2.result.now c.args.g.now c.between-2.ensures (omega arith) c.requires.room,
-      (part-powers k n c.args.f.now c.between-2.result.now c.args.g.now c.between-2.ensures c.requires.powers,
-      (part-factors k n c.args.f.now c.between-2.result.now c.between-2.ensures c.requires.factors,
-      c.requires.form))),
+      (
+        part-room k n c.args.f.now c.between-2.result.now c.args.g.now c.between-2.ensures (omega arith) c.requires.room,
+        (
+          part-powers k n c.args.f.now c.between-2.result.now c.args.g.now c.between-2.ensures c.requires.powers,
+          (
+            part-factors k n c.args.f.now c.between-2.result.now c.between-2.ensures c.requires.factors,
+            c.requires.form,
+          ),
+        ),
+      ),
     )
 
 pub merge-requires-clause-small : goal.merge-requires-clause-small

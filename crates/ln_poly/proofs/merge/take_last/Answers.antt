@@ -1,4 +1,3 @@
-use Rattle.std.proofs.Common.{arith}
 use Rattle.ln_poly.proofs.Sorting.Ends.{both-room, taken-alike, taken-first, taken-second}
 use Rattle.ln_poly.proofs.merge.take_last.Goals as goal
 

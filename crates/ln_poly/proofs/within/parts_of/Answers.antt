@@ -1,5 +1,4 @@
-use Rattle.std.proofs.Common.{arith, length}
-use Rattle.ln_poly.specs.Rows.{IsRows}
+use Rattle.std.proofs.Common.{arith}
 use Rattle.ln_poly.proofs.TermLists.Bounded.{takes-more}
 use Rattle.ln_poly.proofs.TermLists.Leaves.{no-terms}
 use Rattle.ln_poly.proofs.TermLists.Products.{rows-begin, rows-end}

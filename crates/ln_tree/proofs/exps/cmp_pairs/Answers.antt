@@ -1,4 +1,4 @@
-use Rattle.std.proofs.Common.{◌∙◌, sym, arith, rules}
+use Rattle.std.proofs.Common.{◌∙◌, sym, arith}
 use Rattle.ln_tree.proofs.Monomials.{ended}
 use Rattle.ln_tree.proofs.exps.cmp_pairs.Goals as goal
 
