@@ -2,7 +2,7 @@
 //!
 //! A `get` puts a local onto the stack once more. Were its terms copied then, a short line could cost a thousand copies; so a
 //! polynomial on the stack has owners, and its terms go with the last one. Nor does a `neg` touch the terms: a sign stands beside them.
-ghost use Rattle.std.specs.Prelude.{◌≡◌, ◌≢◌, [], ◌∷◌, ◌+◌, ◌<◌, ◌^◌, IfOk, pos, length, unsigned_abs};
+ghost use Rattle.std.specs.Prelude.{◌≡◌, ◌≢◌, [], ◌∷◌, ◌+◌, ◌<◌, ◌^◌, IfOk, IfSome, pos, length, unsigned_abs};
 ghost use Rattle.ln_poly.specs.Sparse.{negated, size_of};
 ghost use Rattle.ln_verify.specs.Joined.{IsSum};
 ghost use Rattle.ln_verify.specs.Signed.{signed};
@@ -60,6 +60,16 @@ impl Held {
         ensures { result ≡ length self.now }
     {
         self.poly.as_ref().terms().len()
+    }
+
+    /// The polynomial, lent, where no minus stands beside its terms.
+    pub fn lent(&self) -> Option<&Poly>
+        ensures { IfSome result (λ f. f.now ≡ self.now) }
+    {
+        if !self.minus {
+            return Some(self.poly.as_ref());
+        }
+        None
     }
 
     /// A copy of the polynomial.

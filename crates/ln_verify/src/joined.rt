@@ -46,13 +46,27 @@ fn within(alloc: Global, f: &Poly, g: &Poly) -> Result<Option<Held>, NoMemory>
     Ok(Some(h))
 }
 
+// The product with a second polynomial, whose terms are copied only where a minus stands beside them and it has other owners.
+fn times_by(alloc: Global, f: &Poly, g: Held) -> Result<Option<Held>, NoMemory>
+    requires { size_of f.now * size_of g < 2 ^ 127 }
+    ensures { IfOk result (λ o. Joined Times f.now g o) }
+{
+    if let Some(second) = g.lent() {
+        return within(alloc, f, second);
+    }
+    let own = g.plain(alloc)?;
+    within(alloc, f, &own)
+}
+
 fn times(alloc: Global, f: Held, g: Held) -> Result<Option<Held>, NoMemory>
     requires { size_of f * size_of g < 2 ^ 127 }
     ensures { IfOk result (λ o. Joined Times f g o) }
 {
-    let first = f.plain(alloc)?;
-    let second = g.plain(alloc)?;
-    within(alloc, &first, &second)
+    if let Some(first) = f.lent() {
+        return times_by(alloc, first, g);
+    }
+    let own = f.plain(alloc)?;
+    times_by(alloc, &own, g)
 }
 
 /// The polynomial of a sum, a difference or a product; none where it isn't small. A product whose exponents pass the limit isn't
