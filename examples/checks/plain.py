@@ -230,7 +230,7 @@ def largest_predicate(k, inputs, draw):
     while 2 * len(parts) + 1 < singles:
         i = draw.randrange(32)
         parts.append(f"{lets[2 * i][0]}*{lets[2 * draw.randrange(32) + 1][0]}")
-    sign = "-" + parts[0] + "".join(draw.choice([" + ", " - "]) + part for part in parts[1:]) + (" + 7" if singles % 2 else "")
+    sign = "-" + parts[0] + "".join(draw.choice([" + ", " - "]) + part for part in parts[1:]) + (" + 0" if singles % 2 else "")
     head = ", ".join([f"{a}: {t}" for a, t in arguments] + [f"{c}: param" for c in params])
     return f"predicate {long_name('predicate', k)}({head}) {{\n" + "".join(f"let {name} = {body};\n" for name, body in lets) + f"sign {sign};\n}}\n"
 
