@@ -1,7 +1,6 @@
 -- Blocks and programs as they are made.
 pub mod BuildingLemmas
 pub mod CopyLemmas
-pub mod DerivingLemmas
 pub mod GatheringLemmas
 pub mod MakingLemmas
 pub mod ProgramLemmas

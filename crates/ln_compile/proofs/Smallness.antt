@@ -1,7 +1,5 @@
 -- What operations push is small.
-pub mod FewestLemmas
-pub mod LeanNodes
-pub mod NodesIn
 pub mod Pushing
 pub mod SourceNodes
 pub mod SmallBlocks
+pub mod Polynomials

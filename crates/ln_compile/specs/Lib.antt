@@ -5,3 +5,4 @@ pub mod Made
 pub mod Refused
 pub mod Weighed
 pub mod Faultless
+pub mod Polynomial

@@ -3,22 +3,16 @@ use Rattle.std.specs.Prelude.{◌≡◌, ℕ, ◌+◌, ◌*◌, ◌≤◌, All, 
 use Rattle.ln_tree.specs.declared.shape.VarInfo.{VarInfo}
 use Rattle.ln_tree.specs.Exps.{Pairs, vector}
 use Rattle.ln_tree.specs.Table.{PredOf}
-use Rattle.ln_poly.specs.Sparse.{Sparse, terms_of}
+use Rattle.ln_poly.specs.Sparse.{Sparse}
 use Rattle.ln_stage.specs.Lists.{all_covering}
-use Rattle.ln_code.specs.Carried.{CarriesDerivative}
-use Rattle.ln_code.specs.Kept.{AreOfSites, FollowsRules}
 use Rattle.ln_code.specs.Part.{Code, ops_in_blocks}
-use Rattle.ln_due.specs.Small.{BlockPushesSmall}
+use Rattle.ln_due.specs.Derivative.{IsDerivativeBlock}
 use Rattle.ln_compile.specs.Compiled.{AreStageCounts, IsFromExact, IsOwn}
 use Rattle.ln_compile.specs.Accepted.{AreSound}
 
--- the block follows the rules, has exponents of coordinates of sites, computes the scaled derivative of f by them, pushes small
--- polynomials alone, and is made from an exact tree
+-- the block is one of the scaled derivative of f by its exponents, and is made from an exact tree
 pub record IsBlockOf (vars : List VarInfo) (f : Sparse) (c : Code) : Type 0 where
-  pub rules : FollowsRules vars c
-  pub of_sites : AreOfSites vars c.exps
-  pub carries : CarriesDerivative vars (terms_of (length vars) f) c
-  pub small : BlockPushesSmall vars c
+  pub block : IsDerivativeBlock vars f c
   pub exact : IsFromExact vars c
 
 -- blocks for these exponents, with at most 524,352 operations in the first and in each other 4,096 for each term that covers its

@@ -3,13 +3,16 @@ ghost use Rattle.std.specs.Prelude.{◌≡◌, ◌≤◌, ◌<◌, length, map, 
 ghost use Rattle.ln_tree.specs.Table.{pred_of, table_of};
 ghost use Rattle.ln_compile.specs.Accepted.{Accepted};
 ghost use Rattle.ln_compile.specs.Compiled.{AreProgramsOf, IsProgramAt, IsStageCountAt, number_of};
+ghost use Rattle.ln_compile.specs.Polynomial.{IsPolynomialAt};
 ghost use Rattle.ln_compile.specs.Refused.{IsRefusal, IsTheOne, IsUnaccepted};
 
+use crate::polynomial::polynomial_of;
 use crate::programs::{counts, program_of, programs};
 use crate::refusal::{Refusal, refusal_of};
 use ln_base::{NoMemory, Seq};
 use ln_code::{Program, Programs};
 use ln_parse::parse;
+use ln_poly::Poly;
 use ln_tree::Table;
 use std::alloc::Global;
 use std::marker::Model;
@@ -78,6 +81,16 @@ impl Checked {
     {
         let program = program_of(alloc, &self.table.preds.as_slice()[i])?;
         Ok(program)
+    }
+
+    /// The normal polynomial of a predicate, by its number: that of its sign expression with the lets in place of their names. It is
+    /// made anew from the table.
+    pub fn polynomial(&self, alloc: Global, i: usize) -> Result<Poly, NoMemory>
+        requires { i < length self.now.table.preds }
+        ensures { IfOk result (IsPolynomialAt (map pred_of self.now.table.preds) i) }
+    {
+        let f = polynomial_of(alloc, &self.table.preds.as_slice()[i])?;
+        Ok(f)
     }
 
     /// The programs of all predicates, in order.

@@ -1,11 +1,12 @@
 //! What the verdict of a predicate's program is: the one that the row is owed.
-ghost use Rattle.ln_compile.specs.Filtered.{OneIsDue, ProgramsAnswerDue};
+ghost use Rattle.ln_compile.specs.Filtered.{OneIsDueIn, PartsAnswerDue, ProgramsAnswerDue};
 
 /// The verdict of a predicate's program on a row in range is the one that the row is owed by what the predicate's filter does on it, and
-/// there is no other.
+/// there is no other. So is that of any part that carries the predicate's root in either order of infinitesimals, in that order.
 ///
 /// On it rests whether the decider is the filter or a stage.
 pub fn programs_answer_due()
     ensures due { ProgramsAnswerDue }
-    ensures one { OneIsDue }
+    ensures parts { PartsAnswerDue }
+    ensures one { OneIsDueIn }
 {}

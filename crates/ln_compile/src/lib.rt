@@ -17,6 +17,7 @@ pub mod checked;
 pub mod due;
 pub(crate) mod judge;
 pub mod laws;
+pub(crate) mod polynomial;
 pub(crate) mod program;
 pub(crate) mod programs;
 pub mod refusal;

@@ -15,8 +15,8 @@ use Rattle.ln_due.proofs.Verdicts.Composition.{verdicts-due}
 use Rattle.ln_due.proofs.Verdicts.UniqueLemmas.{due-unique}
 use Rattle.ln_filter.specs.Truncated.{root_number, root_triple}
 use Rattle.ln_compile.specs.Accepted.{lets_of, own_root, root_of}
-use Rattle.ln_compile.specs.Compiled.{IsFilterOf}
-use Rattle.ln_compile.specs.Filtered.{Does, ProgramsAnswerDue, OneIsDue}
+use Rattle.ln_compile.specs.Compiled.{IsFilterOf, IsProgramOf}
+use Rattle.ln_compile.specs.Filtered.{AnswersFor, Does, OneIsDue, OneIsDueIn, PartsAnswerDue, ProgramsAnswerDue}
 
 -- what the predicate's filter leaves on a row
 abbrev left_on : PredOf → Row → Held
@@ -31,11 +31,18 @@ does_both p part row r (Some f) e own = by_size (cases_lt (left_on p row).error 
     by_size (inl h) = (Decided, record { has = own.0; above = h }, (f, left_on p row, e, own.1 row.values r.values, h))
     by_size (inr h) = (Undecided, (own.0, λ d. absurd (omega (arith, h, d.above))), (f, left_on p row, e, own.1 row.values r.values, h))
 
-pub programs_answer : ProgramsAnswerDue
-programs_answer p part row v k o range verdict =
+pub parts_answer : PartsAnswerDue
+parts_answer rank p part row v k o range verdict =
     let there : InRange part.shape.sites part.shape.vars row = rw (o.sites, o.vars) range in
     let d = does_both p part row range part.filter refl o.filter in
-    record { filtering = d.0; does = d.1; due = subst (λ (vs : List VarInfo). Due BySmallest d.0 vs (root_of p) row v) o.vars (verdicts-due BySmallest part (root_of p) (terms_of (length p.vars) o.poly) row d.0 v (programs-run part k) o.carries there d.2 verdict) }
+    record { filtering = d.0; does = d.1; due = subst (λ (vs : List VarInfo). Due rank d.0 vs (root_of p) row v) o.vars (verdicts-due rank part (root_of p) (terms_of (length p.vars) o.poly) row d.0 v (programs-run part k) o.carries there d.2 verdict) }
+
+-- a predicate's program answers for it
+pub answers_for : (p : PredOf) (part : Part) → IsProgramOf p part → AnswersFor BySmallest p part
+answers_for p part o = record { sites = o.sites; vars = o.vars; filter = o.filter; poly = o.poly; carries = o.carries }
+
+pub programs_answer : ProgramsAnswerDue
+programs_answer p part row v k o range verdict = parts_answer BySmallest p part row v k (answers_for p part o) range verdict
 
 -- it does one thing on a row
 one_does : (p : PredOf) (row : Row) (a b : Filtering) → Does p row a → Does p row b → a ≡ b
@@ -49,9 +56,12 @@ one_does p row Undecided NoFilter h k = absurd (k h.0)
 one_does p row Undecided Decided h k = absurd (h.1 k)
 one_does p row Undecided Undecided h k = refl
 
-pub one_due : OneIsDue
-one_due s p row v w e f range a b =
+pub one_due_in : OneIsDueIn
+one_due_in rank s p row v w e f range a b =
     let same : a.filtering ≡ b.filtering = one_does p row a.filtering b.filtering a.does b.does in
     let there : InRange s.sites s.vars row = rw (sym e, sym f) range in
-    let left : Due BySmallest b.filtering s.vars (root_of p) row v = subst (λ (vs : List VarInfo). Due BySmallest b.filtering vs (root_of p) row v) e (subst (λ (d : Filtering). Due BySmallest d p.vars (root_of p) row v) same a.due) in
-    due-unique BySmallest s (root_of p) row b.filtering v w there left (subst (λ (vs : List VarInfo). Due BySmallest b.filtering vs (root_of p) row w) e b.due)
+    let left : Due rank b.filtering s.vars (root_of p) row v = subst (λ (vs : List VarInfo). Due rank b.filtering vs (root_of p) row v) e (subst (λ (d : Filtering). Due rank d p.vars (root_of p) row v) same a.due) in
+    due-unique rank s (root_of p) row b.filtering v w there left (subst (λ (vs : List VarInfo). Due rank b.filtering vs (root_of p) row w) e b.due)
+
+pub one_due : OneIsDue
+one_due = one_due_in BySmallest

@@ -5,9 +5,9 @@ use Rattle.std.proofs.Math.IntN.{ℤ, pos, ◌*ℤ◌}
 use Rattle.std.proofs.lemmas.Bool.{and_parts, cases_eq}
 use Rattle.std.proofs.lemmas.Bool.Decides.{nat_tests}
 use Rattle.std.proofs.lemmas.Int.{ints, unsigned_abs-mul}
-use Rattle.std.proofs.lemmas.List.{get_or_default}
 use Rattle.std.specs.Prelude.{unsigned_abs}
 use Rattle.std.proofs.lemmas.List.Elements.{All-head, All-tail}
+use Rattle.ln_algebra.specs.Orders.{BySmallest}
 use Rattle.ln_algebra.specs.Terms.{IsNormalOf, Over, binomial, binomials, covers, derived, factor_at, minus}
 use Rattle.ln_algebra.specs.Tree.{Tree}
 use Rattle.ln_algebra.specs.Vector.{plus}
@@ -19,8 +19,6 @@ use Rattle.ln_tree.specs.Variables.{is_laid_out}
 use Rattle.ln_bound.specs.Light.{AreLight}
 use Rattle.ln_order.specs.Orders.{IsOrderOf, orders_of}
 use Rattle.ln_order.specs.Sites.{sites_of}
-use Rattle.ln_order.proofs.Listing.OrdersLemmas.{member-is}
-use Rattle.ln_order.proofs.Signs.RowSigns.{orders-differ}
 use Rattle.ln_poly.specs.Expansion.{HaveFewTerms, IsNormal}
 use Rattle.ln_poly.specs.Sparse.{IsFactor, Sparse, terms_of}
 use Rattle.ln_poly.proofs.Sorting.Collected.{collected}
@@ -29,25 +27,14 @@ use Rattle.ln_poly.proofs.TermLists.Products.{length-vector, over-terms}
 use Rattle.ln_nest.specs.Lean.{HasNoZero}
 use Rattle.ln_stage.specs.Lists.{AreStageLists, Passes, all_covering, covering, first_seen, stage_count, stage_weight}
 use Rattle.ln_stage.specs.StageList.{IsStageListOf}
-use Rattle.ln_stage.proofs.Monomials.LawLemmas.{list-unique, lists-of-trees}
+use Rattle.ln_stage.proofs.Monomials.LawLemmas.{lists-of-trees}
+use Rattle.ln_stage.proofs.Sights.Members.{lists-one}
 use Rattle.ln_compile.specs.declared.refusal.Refusal.TheVariants.{Stages}
 use Rattle.ln_compile.specs.Accepted.{IsHeavyFault, IsSound, IsStagesFault, expanded_of, loaded_of, root_of}
 use Rattle.ln_compile.specs.Refused.{StopsPred, stages}
 use Rattle.ln_poly.proofs.Derivations.Combined.{everywhere, once, once-derived, over-derived}
-use Rattle.ln_compile.proofs.Making.DerivingLemmas.{length-derived}
-use Rattle.ln_compile.proofs.Smallness.FewestLemmas.{shortest}
-
--- ---- two lists of lists
-same-places : {A : Type 0} (xs ys : List A) (d : A) → length xs ≡ length ys → ((j : ℕ) → j < length xs → get_or xs j d ≡ get_or ys j d) → xs ≡ ys
-same-places [] [] d l h = refl
-same-places [] (y ∷ ys) d l h = absurd (omega arith)
-same-places (x ∷ xs) [] d l h = absurd (omega arith)
-same-places (x ∷ xs) (y ∷ ys) d l h =
-    let r : xs ≡ ys = same-places xs ys d (omega arith) (λ j g. h (suc j) (omega arith)) in
-    ap (λ z. z ∷ xs) (h 0 (omega arith)) ∙ ap (λ z. y ∷ z) r
-
-pub order-at : (k j : ℕ) → j < length (orders_of k) → IsOrderOf k (get_or (orders_of k) j [])
-order-at k j h = member-is k (get_or (orders_of k) j []) (j, h, get_or_default (orders_of k) j (get_or (orders_of k) j []) [] h)
+use Rattle.ln_due.proofs.Derivatives.Deriving.{length-derived}
+use Rattle.ln_due.proofs.Derivatives.Fewest.{shortest}
 
 -- the stage lists of one polynomial are those of another with the same expression
 moved : (n k : ℕ) (vars : List VarInfo) (e : Tree) (f g : Sparse) (ls : List (List (List ℕ))) → length vars ≡ n → IsNormal n e f → IsNormal n e g → AreStageLists k vars g ls → AreStageLists k vars f ls
@@ -58,9 +45,6 @@ moved n k vars e f g ls q p r a = record { size = a.size; each = λ j h. one j (
       let pg : IsNormalOf (length vars) e (terms_of (length vars) g) = subst (λ m. IsNormalOf m e (terms_of m g)) (sym q) r.normal in
       (lists-of-trees (length vars) (sites_of vars (get_or (orders_of k) j [])) e f (get_or ls j []) pf).1
       ((lists-of-trees (length vars) (sites_of vars (get_or (orders_of k) j [])) e g (get_or ls j []) pg).0 l)
-
-lists-one : (k : ℕ) (vars : List VarInfo) (f : Sparse) (ls ms : List (List (List ℕ))) → is_laid_out k vars ≡ true → AreStageLists k vars f ls → AreStageLists k vars f ms → ls ≡ ms
-lists-one k vars f ls ms h a b = same-places ls ms [] (a.size ∙ sym b.size) (λ j l. list-unique (length vars) (sites_of vars (get_or (orders_of k) j [])) f (get_or ls j []) (get_or ms j []) (orders-differ k vars (get_or (orders_of k) j []) h (order-at k j (omega (arith, l, a.size)))) (a.each j l) (b.each j (omega (arith, l, a.size, b.size))))
 
 -- ---- how many terms cover a vector
 binomial-some : (n k : ℕ) → k ≤ n → 0 < binomial n k
@@ -134,7 +118,7 @@ all-same n e f g p q (a ∷ as') = let r : covering n f a ≡ covering n g a = c
 pub within-limits : (p : PredOf) (f : Sparse) (ls : List (List (List ℕ))) → is_laid_out p.sites p.vars ≡ true → IsNormal (length p.vars) (root_of p) f → AreStageLists p.sites p.vars f ls
     → stage_count ls ≤ 65536 → stage_weight (length p.vars) f ls ≤ 131072 → IsStagesFault p → ⊥
 within-limits p f ls h n a c w z =
-    let e : z.lists ≡ ls = lists-one p.sites p.vars f z.lists ls h (moved (length p.vars) p.sites p.vars (root_of p) f z.poly z.lists refl n z.normal z.are_lists) a in
+    let e : z.lists ≡ ls = lists-one BySmallest p.sites p.vars f z.lists ls h (moved (length p.vars) p.sites p.vars (root_of p) f z.poly z.lists refl n z.normal z.are_lists) a in
     go z.passes e where
       go : Passes (length p.vars) z.poly 65536 131072 z.lists → z.lists ≡ ls → ⊥
       go (inl l) e = absurd (omega (arith, l, c, ap stage_count e))

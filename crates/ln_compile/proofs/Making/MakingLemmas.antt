@@ -31,6 +31,7 @@ use Rattle.ln_code.specs.Part.{Code, FilterCode, filter_known_of, filter_value, 
 use Rattle.ln_code.specs.Rules.{Known}
 use Rattle.ln_code.specs.Nodes.{IsNodeOf}
 use Rattle.ln_due.specs.Small.{BlockPushesSmall}
+use Rattle.ln_due.proofs.Derivatives.Blocks.{carrying, derivative-block}
 use Rattle.ln_lower.specs.Nodes.{PushNodes, pushed_by}
 use Rattle.ln_filter.specs.Steady.{HasFilter}
 use Rattle.ln_filter.specs.Truncated.{root_number, root_triple}
@@ -41,52 +42,14 @@ use Rattle.ln_compile.specs.Made.{IsBlockOf}
 use Rattle.ln_poly.proofs.Derivations.Several.{over-vector}
 use Rattle.ln_poly.proofs.Expansions.Normals.{vector-none}
 
--- a block whose value has the coefficients of the derivative carries it
-carrying : (vars : List VarInfo) (f : Sparse) (c : Code) → FollowsRules vars c → ((k : Known) → known_of vars c ≡ Some k → IsNormalOf (length vars) k.tree (derived (vector (length vars) c.exps) (terms_of (length vars) f))) → CarriesDerivative vars (terms_of (length vars) f) c
-carrying vars f c r h = let s = some_is (known_of vars c) r.answers in record { what = s.0; known = s.1; derivative = h s.0 s.1 }
-
 -- ---- a derivative's block
 pub derivative-made : (vars : List VarInfo) (f h : Sparse) (a : Pairs) (lets : List Fitted) (t : Typed) (c : Code) → IsDerivative (length vars) f a h → lets ≡ [] → c.exps ≡ a → AreOfSites vars a → FollowsRules vars c
     → ((m : List ℕ) → length m ≡ length vars → polynomial [] t m ≡ coefficient_at (length vars) h m)
     → ((k : Known) → known_of vars c ≡ Some k → (m : List ℕ) → normal_coefficient k.tree m ≡ polynomial (map typed lets) t m) → BlockPushesSmall vars c → IsExact vars [] t → PushNodes (IsNodeOf (map typed lets) t) (pushed_by vars c) → IsBlockOf vars f c
 derivative-made vars f h a lets t c d z e o r p q s x ns = record {
-  rules = r;
-  of_sites = rw e o;
-  carries = carrying vars f c r normal;
-  small = s;
+  block = derivative-block vars f h a lets t c d z e o r p q s;
   exact = record { lets = []; root = t; exact_lets = tt; exact_root = x; nodes = subst (λ (us : List Fitted). PushNodes (IsNodeOf (map typed us) t) (pushed_by vars c)) z ns };
-} where
-  coefficients : (k : Known) → known_of vars c ≡ Some k → (m : List ℕ) → length m ≡ length vars → factor_at (derived (vector (length vars) a) (terms_of (length vars) f)) m ≡ normal_coefficient k.tree m
-  coefficients k g m l = sym (q k g m ∙ ap (λ (us : List Fitted). polynomial (map typed us) t m) z ∙ p m l ∙ d.coefficients m l)
-
-  normal : (k : Known) → known_of vars c ≡ Some k → IsNormalOf (length vars) k.tree (derived (vector (length vars) c.exps) (terms_of (length vars) f))
-  normal k g = rw e (record { over = over-vector (length vars) a (terms_of (length vars) f) (over-terms (length vars) f); coefficients = coefficients k g })
-
--- its operations
-pub derivative-ops : (ops cost costs terms cover : ℕ) → ops ≤ 4 * (cost + costs) + 64 → costs ≡ 0 → cost ≤ max 1 (1024 * terms) → terms ≤ cover → ops ≤ 4096 * cover + 68
-derivative-ops ops cost costs terms cover h z l k = omega (arith, h, z, l, k)
-
-pub no-costs : (lets : List Fitted) → lets ≡ [] → costs (map typed lets) ≡ 0
-no-costs lets e = ap (λ (us : List Fitted). costs (map typed us)) e
-
--- ---- exponents of coordinates of sites
-site-there : (vars : List VarInfo) (v : ℕ) → v < length vars → (site_of vars v ≡ None → ⊥) → is_of_site (slice_get vars v) ≡ true
-site-there [] v h n = absurd (omega arith)
-site-there (i ∷ is) zero h n = go i.site n where
-  go : (o : Option ℕ) → (o ≡ None → ⊥) → is_some o ≡ true
-  go None k = absurd (k refl)
-  go (Some s) k = refl
-site-there (i ∷ is) (suc v) h n = site-there is v (omega arith) n
-
-pub of-sites : (vars : List VarInfo) (a : Pairs) → IsRising a → IsAbove a (length vars) → ((v : ℕ) → site_of vars v ≡ None → get_or (vector (length vars) a) v 0 ≡ 0) → AreOfSites vars a
-of-sites vars [] r b h = tt
-of-sites vars (p ∷ ps) r b h = (here, of-sites vars ps r.3 b.1 (λ v e. rest v (cases_lt v (length vars)) e)) where
-  here : is_of_site (slice_get vars p.0) ≡ true
-  here = site-there vars p.0 b.0 (λ e. absurd (omega (arith, h p.0 e, vector-get (length vars) p.0 (p ∷ ps) b.0, found p.0 (p ∷ ps) 0 r (omega arith) refl, r.0)))
-
-  rest : (v : ℕ) → (v < length vars) ⊎ (length vars ≤ v) → site_of vars v ≡ None → get_or (vector (length vars) ps) v 0 ≡ 0
-  rest v (inl l) e = omega (arith, h v e, vector-get (length vars) v (p ∷ ps) l, vector-get (length vars) v ps l)
-  rest v (inr l) e = get_or_past (vector (length vars) ps) v 0 (omega (arith, l, length-vector 0 (length vars) ps))
+}
 
 -- ---- the source's own block
 pub own-made : (p : Pred) (lets : List Fitted) (root : Fitted) (c : Code) (a : Pairs) → a ≡ [] → c.exps ≡ a → map untyped (map typed lets) ≡ map (tree_of p.shape.vars) p.lets → untyped (typed root) ≡ tree_of p.shape.vars p.root
@@ -97,10 +60,7 @@ pub own-carries : (p : Pred) (lets : List Fitted) (root : Fitted) (c : Code) (a 
     → FollowsRules p.shape.vars c → ((k : Known) → known_of p.shape.vars c ≡ Some k → (m : List ℕ) → normal_coefficient k.tree m ≡ polynomial (map typed lets) (typed root) m)
     → IsNormal (length p.shape.vars) (root_of (pred_of p)) f → BlockPushesSmall p.shape.vars c → IsOwn (pred_of p) c → IsBlockOf p.shape.vars f c
 own-carries p lets root c a f z e l r fr q h b o = record {
-  rules = fr;
-  of_sites = rw (e ∙ z) tt;
-  carries = carrying p.shape.vars f c fr normal;
-  small = b;
+  block = record { rules = fr; of_sites = rw (e ∙ z) tt; carries = carrying p.shape.vars f c fr normal; small = b };
   exact = record { lets = o.lets; root = o.root; exact_lets = o.exact_lets; exact_root = o.exact_root; nodes = o.nodes };
 } where
   whole : (m : List ℕ) → polynomial (map typed lets) (typed root) m ≡ normal_coefficient (root_of (pred_of p)) m

@@ -76,10 +76,10 @@ module _ (p : Pred) (f : Sparse) (st : Staged) (blocks : List Code) (light : Are
 
   pub is-program : IsProgram part
   is-program = record {
-    blocks = λ k d l. (made.each k d l).rules;
+    blocks = λ k d l. (made.each k d l).block.rules;
     filter = rules;
     few = omega (arith, few-ops (ops_in_filter filter) (ops_in_blocks blocks) (all_covering (length p.shape.vars) f (map (vector (length p.shape.vars)) st.exps)) (length st.exps) short made.few (omega (arith, heavy, ap (all_covering (length p.shape.vars) f) stages.first_sight)) (omega (arith, stages-few p.shape.sites p.shape.vars f st stages, count)));
-    of_sites = λ k d l. (made.each k d l).of_sites;
+    of_sites = λ k d l. (made.each k d l).block.of_sites;
     prefixes = stages.segments.size;
     named = subst (λ n. All (λ segment. All (λ i. i < n) segment) st.segments) (sym as-many) stages.segments.numbers;
     lists = λ o h. of-each p.shape.sites (list_of part) st.lists (IsList (length blocks)) o (sym own-lists) (subst (λ n. All (IsList n) st.lists) (sym as-many) (lists-are p.shape.sites p.shape.vars f st stages normal.form normal.below some)) h;
@@ -97,11 +97,11 @@ module _ (p : Pred) (f : Sparse) (st : Staged) (blocks : List Code) (light : Are
       inputs = (root-light (length p.shape.vars) two (closed_lets p.shape.vars (map formula p.lets)) (tree p.shape.vars (formula p.root)) (pred-expands p.args p.shape.vars p.lets (length p.let_names) p.root p.kept light).1).inputs;
       normal = normal.normal;
       lists = λ places list l. order-stages part (root_of (pred_of p)) f places list normal.normal (subst (AreStageLists p.shape.sites p.shape.vars f) (sym own-vectors) stages.lists) l;
-      blocks = λ k d l. (made.each k d l).carries;
+      blocks = λ k d l. (made.each k d l).block.carries;
       filter = whole;
     };
     exact = λ k d l. (made.each k d l).exact;
     sight = made.vectors ∙ stages.first_sight ∙ ap first_seen (sym own-vectors);
-    small = record { blocks = λ k d l. (made.each k d l).small; filter = pushes };
+    small = record { blocks = λ k d l. (made.each k d l).block.small; filter = pushes };
     begins = record { block = made.own; first = made.first; own = made.is_own; short = omega (arith, made.small, short) };
   }

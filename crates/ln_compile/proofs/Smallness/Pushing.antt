@@ -10,11 +10,6 @@ use Rattle.ln_filter.specs.Nodes as filter
 use Rattle.ln_due.specs.Small.{AreSmall, IsSmall, filter_tree, known_tree}
 use Rattle.ln_due.proofs.Parts.Smallness.{small-same}
 
--- in a block
-pub pushes-small : (n : ℕ) (is_node : Tree → Width → Type 0) (ps : List (Pushed Known)) → ((e : Tree) (v : Width) → is_node e v → IsSmall n e) → lower.PushNodes is_node ps → AreSmall known_tree n ps
-pushes-small n is_node [] h ns = tt
-pushes-small n is_node (p ∷ ps) h ns = (small-same n p.value.tree ns.0.node ns.0.same (h ns.0.node ns.0.width ns.0.there), pushes-small n is_node ps h ns.1)
-
 -- in a filter
 pub filter-pushes-small : (n : ℕ) (is_node : Tree → Width → Type 0) (ps : List (Pushed FilterKnown)) → ((e : Tree) (v : Width) → is_node e v → IsSmall n e) → filter.PushNodes is_node ps → AreSmall filter_tree n ps
 filter-pushes-small n is_node [] h ns = tt

@@ -4,8 +4,6 @@ use Rattle.std.specs.Prelude.{IfSome}
 use Rattle.std.proofs.Math.IntN.{pos}
 use Rattle.std.proofs.lemmas.Bool.{cases_lt}
 use Rattle.std.proofs.lemmas.List.Elements.{All-cons, All-head, All-nil, All-tail}
-use Rattle.std.proofs.lemmas.List.Sums.{count_by-le-length}
-use Rattle.ln_algebra.specs.Vector.{covers}
 use Rattle.ln_algebra.specs.Tree.{Tree, Num, Input, Name, Neg, Add, Sub, Mul, Pow, inlined}
 use Rattle.ln_tree.specs.declared.pred.Pred.{Pred}
 use Rattle.ln_tree.specs.declared.shape.VarInfo.{VarInfo}
@@ -16,25 +14,19 @@ use Rattle.ln_bound.specs.declared.fitted.Fitted.{Fitted}
 use Rattle.ln_bound.specs.Light.{AreLight}
 use Rattle.ln_bound.specs.Typed.{Typed, untyped}
 use Rattle.ln_bound.specs.View.{typed}
-use Rattle.ln_tree.proofs.Powers.{vector-get}
 use Rattle.ln_poly.specs.Expansion.{HaveFewTerms, IsNormal, closed_lets, expanded, expanded_lets}
 use Rattle.ln_poly.specs.Sparse.{AreRising, Sparse}
 use Rattle.ln_poly.proofs.TermLists.Counting.{many-terms}
 use Rattle.ln_poly.proofs.Expansions.Lets.{trees-of}
-use Rattle.ln_stage.specs.Lists.{covering}
-use Rattle.ln_stage.proofs.Monomials.MonomialLemmas.{rows-small}
-use Rattle.ln_nest.specs.Lean.{AreLean, largest}
 use Rattle.ln_code.specs.Nodes.{IsNodeOf}
 use Rattle.ln_code.specs.Part.{Code, FilterCode}
 use Rattle.ln_due.specs.Small.{BlockPushesSmall, FilterPushesSmall}
 use Rattle.ln_lower.specs.Nodes as lower
 use Rattle.ln_filter.specs.Nodes as filter
 use Rattle.ln_compile.specs.Accepted.{expanded_of, root_of, loaded_of}
-use Rattle.ln_poly.specs.Derivative.{IsDerivative}
-use Rattle.ln_compile.proofs.Making.DerivingLemmas.{derivative-few}
-use Rattle.ln_compile.proofs.Smallness.LeanNodes.{lean-nodes}
-use Rattle.ln_compile.proofs.Smallness.NodesIn.{NodeIn}
-use Rattle.ln_compile.proofs.Smallness.Pushing.{filter-pushes-small, pushes-small}
+use Rattle.ln_due.proofs.Derivatives.NodesIn.{NodeIn}
+use Rattle.ln_due.proofs.Derivatives.Blocks.{pushes-small}
+use Rattle.ln_compile.proofs.Smallness.Pushing.{filter-pushes-small}
 use Rattle.ln_compile.proofs.Smallness.SourceNodes.{few-right, node-few, source-small}
 
 -- ---- the root
@@ -58,29 +50,6 @@ root-terms p f few normal = by_case (cases_lt 1024 (length f)) where
       (few-right (length p.shape.vars) (expanded_lets p.shape.vars [] (map formula p.lets)) (expanded p.shape.vars (closed_lets p.shape.vars (map formula p.lets)) (formula p.root)) few)
       (root-in (closed_lets p.shape.vars (map formula p.lets)) (tree p.shape.vars (formula p.root))) (many-terms (length p.shape.vars) (root_of (pred_of p)) f normal l))
   by_case (inr l) = l
-
--- ---- a derivative's block
--- no exponent of rising pairs is above 127
-exponent-small : (ps : Pairs) (v : ℕ) → IsRising ps → exponent v ps < 128
-exponent-small ps v r = omega (arith, rows-small (suc v) ((ps, pos 0) ∷ []) (All-cons (λ t. IsRising t.0) (ps, pos 0) [] r (All-nil (λ t. IsRising t.0))) (vector (suc v) ps) v (inl refl), vector-get (suc v) v ps (omega arith))
-
--- so none of a polynomial
-largest-small : (f : Sparse) (v : ℕ) → AreRising f → largest f v < 128
-largest-small [] v r = omega arith
-largest-small (t ∷ f) v r = omega (arith, exponent-small t.0 v (All-head (λ u. IsRising u.0) t f r), largest-small f v (All-tail (λ u. IsRising u.0) t f r))
-
--- no more terms cover a vector than there are
-covering-most : (n : ℕ) (f : Sparse) (a : List ℕ) → covering n f a ≤ length f
-covering-most n f a = count_by-le-length (λ t. covers (vector n t.0) a) f
-
--- so what a derivative's block pushes is small
-pub derivative-pushes : (vars : List VarInfo) (f h : Sparse) (a : Pairs) (lets : List Fitted) (t : Typed) (c : Code) → IsDerivative (length vars) f a h → length f ≤ 1024 → lets ≡ [] → AreLean (length vars) (max 1 (length h)) (largest h) (untyped t)
-    → lower.PushNodes (IsNodeOf (map typed lets) t) (lower.pushed_by vars c) → BlockPushesSmall vars c
-derivative-pushes vars f h a lets t c d few z lean nodes =
-    let l : length h ≤ covering (length vars) f (vector (length vars) a) = derivative-few (length vars) f h a d in
-    pushes-small (length vars) (IsNodeOf [] t) (lower.pushed_by vars c)
-    (λ e w i. lean-nodes (length vars) (max 1 (length h)) (largest h) (omega (arith, l, covering-most (length vars) f (vector (length vars) a), few)) (λ v. largest-small h v d.form.rising) t e w lean i)
-    (subst (λ (us : List Fitted). lower.PushNodes (IsNodeOf (map typed us) t) (lower.pushed_by vars c)) z nodes)
 
 -- ---- the source's own block, and the filter
 module _ (p : Pred) (lets : List Fitted) (root : Fitted) (l : map untyped (map typed lets) ≡ map (tree_of p.shape.vars) p.lets) (r : untyped (typed root) ≡ tree_of p.shape.vars p.root) (light : AreLight (loaded_of (pred_of p))) (few : HaveFewTerms (length p.shape.vars) (expanded_of (pred_of p))) where

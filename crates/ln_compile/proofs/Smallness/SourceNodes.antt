@@ -21,7 +21,7 @@ use Rattle.ln_code.specs.Nodes.{IsLetNode, IsNodeOf}
 use Rattle.ln_due.specs.Small.{IsSmall}
 use Rattle.ln_due.proofs.Parts.Smallness.{light-low, zeroth-few}
 use Rattle.ln_compile.specs.Accepted.{expanded_of, loaded_of}
-use Rattle.ln_compile.proofs.Smallness.NodesIn.{NodeIn, node-in}
+use Rattle.ln_due.proofs.Derivatives.NodesIn.{NodeIn, node-in}
 
 -- ---- few terms
 -- of two lists

@@ -3,9 +3,9 @@ use Rattle.ln_bound.specs.Typed.{cost, costs}
 use Rattle.ln_bound.specs.View.{typed}
 use Rattle.ln_tree.specs.Exps.{vector}
 use Rattle.ln_stage.specs.Lists.{covering}
-use Rattle.ln_compile.proofs.Making.DerivingLemmas.{derivative-degrees, derivative-few, derivative-light}
-use Rattle.ln_compile.proofs.Making.MakingLemmas.{derivative-made, derivative-ops, no-costs, of-sites}
-use Rattle.ln_compile.proofs.Smallness.SmallBlocks.{derivative-pushes}
+use Rattle.ln_due.proofs.Derivatives.Deriving.{derivative-degrees, derivative-few, derivative-light}
+use Rattle.ln_due.proofs.Derivatives.Blocks.{derivative-ops, derivative-pushes, no-costs, of-sites}
+use Rattle.ln_compile.proofs.Making.MakingLemmas.{derivative-made}
 use Rattle.ln_compile.proofs.blocks.derivative_block.Goals as goal
 
 pub nest-requires-clause-degrees : goal.nest-requires-clause-degrees

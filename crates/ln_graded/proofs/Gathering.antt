@@ -1,0 +1,61 @@
+-- The blocks of stages, one after the other.
+use Rattle.std.proofs.Common.{◌≡◌, ℕ, ◌+◌, ◌*◌, ◌<◌, ◌≤◌, List, [], ◌∷◌, ◌++◌, length, map, take, get_or, refl, sym, ◌∙◌, ap, subst, arith, Some}
+use Rattle.std.specs.Prelude.{slice_get}
+use Rattle.std.proofs.lemmas.List.{length-append, map-append, take_all, take_more}
+use Rattle.std.proofs.lemmas.List.Elements.{All-nil, All-push}
+use Rattle.ln_algebra.specs.Vector.{zeros}
+use Rattle.ln_tree.specs.Exps.{Pairs, vector}
+use Rattle.ln_tree.specs.declared.shape.VarInfo.{VarInfo}
+use Rattle.ln_poly.specs.Sparse.{Sparse}
+use Rattle.ln_stage.specs.Lists.{all_covering, covering}
+use Rattle.ln_code.specs.Part.{Code, ops_in_blocks}
+use Rattle.ln_due.specs.Derivative.{IsDerivativeBlock}
+use Rattle.ln_graded.specs.Made.{AreBlocksOf}
+use Rattle.ln_poly.proofs.Expansions.Normals.{vector-none}
+
+ops-append : (xs ys : List Code) → ops_in_blocks (xs ++ ys) ≡ ops_in_blocks xs + ops_in_blocks ys
+ops-append [] ys = omega arith
+ops-append (x ∷ xs) ys = omega (arith, ops-append xs ys)
+
+covering-append : (n : ℕ) (f : Sparse) (xs ys : List (List ℕ)) → all_covering n f (xs ++ ys) ≡ all_covering n f xs + all_covering n f ys
+covering-append n f [] ys = omega arith
+covering-append n f (x ∷ xs) ys = omega (arith, covering-append n f xs ys)
+
+first-stays : (xs ys : List Code) (c : Code) → slice_get xs 0 ≡ Some c → slice_get (xs ++ ys) 0 ≡ Some c
+first-stays [] ys c h = cc
+first-stays (x ∷ xs) ys c h = h
+
+-- the first block
+pub blocks-begin : (vars : List VarInfo) (f : Sparse) (exps : List Pairs) (old blocks : List Code) (own c : Code) → old ≡ [] → c ≡ own → blocks ≡ old ++ c ∷ [] → 0 < length exps → vector (length vars) (get_or exps 0 []) ≡ zeros (length vars)
+    → own.exps ≡ [] → IsDerivativeBlock vars f own → AreBlocksOf vars f own (take 1 exps) blocks
+blocks-begin vars f [] old blocks own c a q e l z o b = absurd (omega arith)
+blocks-begin vars f (x ∷ xs) old blocks own c a q e l z o b =
+    let g : own ∷ [] ≡ blocks = sym (e ∙ ap (λ bs. bs ++ c ∷ []) a ∙ ap (λ (d : Code). d ∷ []) q) in
+    let v : vector (length vars) own.exps ≡ vector (length vars) x = ap (vector (length vars)) o ∙ vector-none 0 (length vars) ∙ sym z in
+    let one : AreBlocksOf vars f own (x ∷ []) (own ∷ []) = record {
+      first = refl;
+      vectors = ap (λ y. y ∷ []) v;
+      each = All-push (IsDerivativeBlock vars f) [] own (All-nil (IsDerivativeBlock vars f)) b;
+      few = omega arith;
+    } in
+    subst (λ (bs : List Code). AreBlocksOf vars f own (x ∷ []) bs) g one
+
+-- one block more
+pub blocks-more : (vars : List VarInfo) (f : Sparse) (own : Code) (exps : List Pairs) (i : ℕ) (old blocks : List Code) (c : Code) (a : Pairs) → i < length exps → a ≡ get_or exps i [] → blocks ≡ old ++ c ∷ [] → c.exps ≡ a
+    → IsDerivativeBlock vars f c → length c.ops ≤ 4096 * covering (length vars) f (vector (length vars) a) + 68 → AreBlocksOf vars f own (take i exps) old → AreBlocksOf vars f own (take (i + 1) exps) blocks
+blocks-more vars f own exps i old blocks c a l q e x b s h =
+    let t : take i exps ++ a ∷ [] ≡ take (i + 1) exps = sym (take_more exps i [] l ∙ ap (λ y. take i exps ++ y ∷ []) (sym q)) in
+    let m : map (vector (length vars)) (take i exps ++ a ∷ []) ≡ map (vector (length vars)) (take i exps) ++ vector (length vars) a ∷ [] = map-append (vector (length vars)) (take i exps) (a ∷ []) in
+    let k : map (λ (d : Code). vector (length vars) d.exps) (old ++ c ∷ []) ≡ map (λ (d : Code). vector (length vars) d.exps) old ++ vector (length vars) c.exps ∷ [] = map-append (λ (d : Code). vector (length vars) d.exps) old (c ∷ []) in
+    let w : all_covering (length vars) f (map (vector (length vars)) (take i exps ++ a ∷ [])) ≡ all_covering (length vars) f (map (vector (length vars)) (take i exps)) + (covering (length vars) f (vector (length vars) a) + 0) =
+    ap (all_covering (length vars) f) m ∙ covering-append (length vars) f (map (vector (length vars)) (take i exps)) (vector (length vars) a ∷ []) in
+    let one : AreBlocksOf vars f own (take i exps ++ a ∷ []) (old ++ c ∷ []) = record {
+      first = first-stays old (c ∷ []) own h.first;
+      vectors = k ∙ ap (λ y. map (λ (d : Code). vector (length vars) d.exps) old ++ vector (length vars) y ∷ []) x ∙ ap (λ y. y ++ vector (length vars) a ∷ []) h.vectors ∙ sym m;
+      each = All-push (IsDerivativeBlock vars f) old c h.each b;
+      few = omega (arith, h.few, s, w, ops-append old (c ∷ []), length-append (take i exps) (a ∷ []));
+    } in
+    subst (λ (ys : List Pairs). AreBlocksOf vars f own ys blocks) t (subst (λ (bs : List Code). AreBlocksOf vars f own (take i exps ++ a ∷ []) bs) (sym e) one)
+
+pub blocks-end : (vars : List VarInfo) (f : Sparse) (own : Code) (exps : List Pairs) (i : ℕ) (blocks : List Code) → length exps ≤ i → AreBlocksOf vars f own (take i exps) blocks → AreBlocksOf vars f own exps blocks
+blocks-end vars f own exps i blocks l h = subst (λ (ys : List Pairs). AreBlocksOf vars f own ys blocks) (take_all i exps l) h

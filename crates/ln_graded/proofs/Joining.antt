@@ -1,0 +1,107 @@
+-- The program by total degree, from its blocks and its stages.
+use Rattle.std.proofs.Common.{◌≡◌, ℕ, ◌+◌, ◌*◌, ◌^◌, ◌<◌, ◌≤◌, List, [], ◌∷◌, length, map, take, refl, sym, ◌∙◌, ap, subst, arith, Option, Some, None}
+use Rattle.std.specs.Prelude.{◌≢◌, All, IfSome, slice_get}
+use Rattle.std.proofs.lemmas.Option.{get_or_from_slice_get, same_Some, slice_get_within}
+use Rattle.ln_algebra.specs.Orders.{ByDegree}
+use Rattle.ln_tree.specs.declared.shape.Shape.{Shape}
+use Rattle.ln_tree.specs.Exps.{vector}
+use Rattle.ln_order.specs.Orders.{orders_of}
+use Rattle.ln_order.specs.Prefixes.{beside, prefixes_of, segments_from}
+use Rattle.ln_poly.specs.Sparse.{Sparse, terms_of}
+use Rattle.ln_stage.specs.Graded.{AreGradedStagesOf}
+use Rattle.ln_stage.specs.Lists.{AreStageListsIn, all_covering, first_seen, stage_count, stage_weight}
+use Rattle.ln_stage.specs.Staged.{Staged, vectors_of}
+use Rattle.ln_stage.proofs.Sights.Members as members
+use Rattle.ln_code.specs.Carried.{vectors}
+use Rattle.ln_code.specs.Kept.{AreOfSites, FollowsFilterRules, FollowsRules, IsProgram}
+use Rattle.ln_code.specs.Lists.{lists_of}
+use Rattle.ln_code.specs.Part.{Code, Part, ops_in_blocks, ops_in_filter}
+use Rattle.ln_due.specs.Derivative.{IsDerivativeBlock}
+use Rattle.ln_due.specs.Small.{BlockPushesSmall, FilterPushesSmall}
+use Rattle.ln_graded.specs.Graded.{Begins, IsGradable, IsGraded, IsWithin}
+use Rattle.ln_graded.specs.Made.{AreBlocksOf, IsMadeOf}
+use Rattle.ln_graded.proofs.Carrying.{as-many, graded-carries, is-list, own-vectors}
+
+-- what holds of all blocks holds of that at a place
+pub all-at : {A : Type 0} (P : A → Type 0) (xs : List A) (i : ℕ) (x : A) → slice_get xs i ≡ Some x → All P xs → P x
+all-at P xs i x e a = subst P (get_or_from_slice_get xs i x x e) (a i x (slice_get_within xs i x e))
+
+-- block 0 of the program is the one that it begins with
+pub own-is : (s : Shape) (f : Sparse) (p : Part) (own : Code) → (b : Begins s f p) → slice_get p.blocks 0 ≡ Some own → own ≡ b.own
+own-is s f p own b e = same_Some own b.own (sym e ∙ b.first)
+
+pub some-block : (s : Shape) (f : Sparse) (p : Part) → Begins s f p → 0 < length p.blocks
+some-block s f p b = slice_get_within p.blocks 0 b.own b.first
+
+-- and computes the whole
+pub own-block : (s : Shape) (f : Sparse) (p : Part) (b : Begins s f p) → IsProgram p → IsDerivativeBlock s.vars f b.own
+own-block s f p b k = record {
+  rules = subst (λ (z : Shape). FollowsRules z.vars b.own) b.shape (all-at (λ (c : Code). FollowsRules p.shape.vars c) p.blocks 0 b.own b.first k.blocks);
+  of_sites = subst (λ (z : Shape). AreOfSites z.vars b.own.exps) b.shape (all-at (λ (c : Code). AreOfSites p.shape.vars c.exps) p.blocks 0 b.own b.first k.of_sites);
+  carries = b.carries;
+  small = subst (λ (z : Shape). BlockPushesSmall z.vars b.own) b.shape (all-at (BlockPushesSmall p.shape.vars) p.blocks 0 b.own b.first b.small.blocks);
+}
+
+few-ops : (filter own ops cover len heavy : ℕ) → filter + own < 2 ^ 21 → ops ≤ own + 4096 * cover + 68 * len → cover ≤ heavy → len ≤ heavy → heavy ≤ 131072 → filter + ops < 2 ^ 32
+few-ops filter own ops cover len heavy h k l m n = omega (arith, h, k, l, m, n)
+
+module _ (s : Shape) (f : Sparse) (p : Part) (st : Staged) (blocks : List Code) (poly : IsGradable s.vars f) (b : Begins s f p) (k : IsProgram p) (stages : AreGradedStagesOf s.sites s.vars f st)
+    (light : stage_weight (length s.vars) f (vectors_of (length s.vars) st) ≤ 131072) (made : AreBlocksOf s.vars f b.own st.exps blocks) where
+  abbrev pub part : Part
+  part = record { shape = s; filter = p.filter; blocks = blocks; segments = st.segments }
+
+  made-of : IsMadeOf s f st part
+  made-of = record {
+    shape = refl;
+    segments = refl;
+    vectors = made.vectors;
+    rules = λ j d l. (made.each j d l).rules;
+    derivatives = λ j d l. (made.each j d l).carries;
+    filter = subst (λ (z : Shape). IfSome p.filter (FollowsFilterRules z.vars)) b.shape k.filter;
+    whole = b.whole;
+  }
+
+  cover : all_covering (length s.vars) f (map (vector (length s.vars)) st.exps) ≤ stage_weight (length s.vars) f (vectors_of (length s.vars) st)
+  cover = omega (arith, ap (all_covering (length s.vars) f) stages.first_sight)
+
+  lighter : length st.exps ≤ stage_weight (length s.vars) f (vectors_of (length s.vars) st)
+  lighter = members.light-blocks ByDegree s.sites s.vars f (vectors_of (length s.vars) st) stages.lists st.exps stages.first_sight poly.form poly.below
+
+  pub is-program : IsProgram part
+  is-program = record {
+    blocks = λ j d l. (made.each j d l).rules;
+    filter = subst (λ (z : Shape). IfSome p.filter (FollowsFilterRules z.vars)) b.shape k.filter;
+    few = few-ops (ops_in_filter p.filter) (length b.own.ops) (ops_in_blocks blocks) (all_covering (length s.vars) f (map (vector (length s.vars)) st.exps)) (length st.exps) (stage_weight (length s.vars) f (vectors_of (length s.vars) st)) b.short made.few cover lighter light;
+    of_sites = λ j d l. (made.each j d l).of_sites;
+    prefixes = stages.size;
+    named = subst (λ n. All (λ segment. All (λ i. i < n) segment) st.segments) (sym (as-many s.sites s.vars f st blocks stages made.vectors)) stages.named;
+    lists = λ o h. is-list s.sites s.vars f st blocks stages made.vectors poly.form poly.below poly.some o h;
+  }
+
+  its-vectors : map (vectors part) (lists_of part) ≡ vectors_of (length s.vars) st
+  its-vectors = own-vectors s.sites s.vars f st blocks stages made.vectors
+
+  pub is-graded : IsGraded s f p part
+  is-graded = record {
+    shape = refl;
+    filter = refl;
+    first = made.first ∙ sym b.first;
+    lists = subst (AreStageListsIn ByDegree s.sites s.vars f) (sym its-vectors) stages.lists;
+    sight = made.vectors ∙ stages.first_sight ∙ ap first_seen (sym its-vectors);
+    carries = λ e i n. graded-carries s f st part e stages made-of i n;
+    small = record {
+      blocks = λ j d l. (made.each j d l).small;
+      filter = subst (λ (z : Shape). IfSome p.filter (FilterPushesSmall z.vars)) b.shape b.small.filter;
+    };
+    whole = λ o j q l. ap (λ n. beside (prefixes_of n) st.segments (take j o)) (sym stages.sites) ∙ stages.whole o j q l;
+  }
+
+  pub is-within : IsWithin s f (stage_count (vectors_of (length s.vars) st)) (stage_weight (length s.vars) f (vectors_of (length s.vars) st)) part
+  is-within = record {
+    count = omega (arith, ap stage_count its-vectors);
+    weight = omega (arith, ap (stage_weight (length s.vars) f) its-vectors);
+  }
+
+-- fewer are within more
+pub within-more : (s : Shape) (f : Sparse) (count heavy most light : ℕ) (q : Part) → count ≤ most → heavy ≤ light → IsWithin s f count heavy q → IsWithin s f most light q
+within-more s f count heavy most light q h k w = record { count = omega (arith, w.count, h); weight = omega (arith, w.weight, k) }

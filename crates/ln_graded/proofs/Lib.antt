@@ -1,0 +1,4 @@
+pub mod Carrying
+pub mod Gathering
+pub mod Joining
+pub mod Answering

@@ -1,0 +1,2 @@
+pub mod Graded
+pub mod Made
