@@ -1,31 +1,32 @@
 -- What a source is compiled to: the program and the stage count of each predicate.
-use Rattle.std.specs.Prelude.{◌≡◌, All, ℕ, ◌+◌, ◌<◌, ◌^◌, List, [], ◌∷◌, length, map, slice_get, ℤ, Option, Some, None, position, bytes_eq}
+use Rattle.std.specs.Prelude.{◌≡◌, ◌≢◌, All, ℕ, ◌+◌, ◌<◌, ◌^◌, List, [], ◌∷◌, length, map, slice_get, ℤ, Option, Some, None, position, bytes_eq}
 use Rattle.ln_algebra.specs.Orders.{BySmallest}
 use Rattle.ln_tree.specs.declared.pred.Pred.{Pred}
 use Rattle.ln_tree.specs.declared.table.Table.{Table}
 use Rattle.ln_tree.specs.declared.shape.VarInfo.{VarInfo}
-use Rattle.ln_tree.specs.Exps.{vector}
+use Rattle.ln_tree.specs.Exps.{Pairs, vector}
 use Rattle.ln_tree.specs.Formula.{tree}
 use Rattle.ln_tree.specs.Names.{name_bytes}
 use Rattle.ln_tree.specs.Row.{AreWithin}
 use Rattle.ln_tree.specs.Table.{PredOf}
 use Rattle.ln_bound.specs.Exact.{AreExact, IsExact}
 use Rattle.ln_bound.specs.Typed.{Typed, untyped}
+use Rattle.ln_poly.specs.Derivative.{IsDerivative}
 use Rattle.ln_poly.specs.Expansion.{IsNormal}
 use Rattle.ln_poly.specs.Sparse.{Sparse, terms_of}
 use Rattle.ln_stage.specs.Lists.{AreStageLists, first_seen, stage_count}
 use Rattle.ln_code.specs.Carried.{Carries, vectors}
 use Rattle.ln_code.specs.Lists.{lists_of}
-use Rattle.ln_code.specs.Nodes.{IsNodeOf}
-use Rattle.ln_code.specs.Part.{Code, FilterCode, Part, filter_value, ops_in_filter}
+use Rattle.ln_code.specs.Part.{Code, FilterCode, Part, filter_value, lines_of, ops_in_filter}
 use Rattle.ln_due.specs.Small.{PushesSmall}
 use Rattle.ln_filter.specs.Steady.{HasFilter}
 use Rattle.ln_filter.specs.Truncated.{root_number, root_triple}
-use Rattle.ln_lower.specs.Nodes.{PushNodes, pushed_by}
+use Rattle.ln_lower.specs.StackCode.{IsCodeOf}
+use Rattle.ln_nest.specs.Nested.{nested_form}
 use Rattle.ln_compile.specs.Accepted.{lets_of, own_root, root_of}
 
--- the block has no exponents and is made from the source's own lets and root, with ranges and widths: what its operations push
--- are polynomials of their nodes, each range is exactly its operation over the operands' ranges, and each width the least
+-- the block has no exponents, and its operations are the stack code of the source's own lets and root, where each range is exactly
+-- its operation over the operands' ranges, and each width the least
 pub record IsOwn (p : PredOf) (block : Code) : Type 0 where
   pub plain : block.exps ≡ []
   pub lets : List Typed
@@ -34,16 +35,24 @@ pub record IsOwn (p : PredOf) (block : Code) : Type 0 where
   pub of_root : untyped root ≡ tree p.vars p.root
   pub exact_lets : AreExact p.vars [] lets
   pub exact_root : IsExact p.vars lets root
-  pub nodes : PushNodes (IsNodeOf lets root) (pushed_by p.vars block)
+  pub code : IsCodeOf lets root (lines_of block.ops block.pairs)
 
--- the block is made from a tree with ranges and widths, and lets: what its operations push are polynomials of their nodes, each
--- range is exactly its operation over the operands' ranges, and each width the least
-pub record IsFromExact (vars : List VarInfo) (block : Code) : Type 0 where
+-- there are no lets, and the root is the nested form of the scaled derivative of f by these exponents
+pub record IsNestedDerivative (vars : List VarInfo) (f : Sparse) (exps : Pairs) (lets : List Typed) (root : Typed) : Type 0 where
+  pub no_lets : lets ≡ []
+  pub poly : Sparse
+  pub derivative : IsDerivative (length vars) f exps poly
+  pub form : untyped root ≡ nested_form (length vars) (terms_of (length vars) poly)
+
+-- the block's operations are the stack code of lets and a root, where each range is exactly its operation over the operands' ranges,
+-- and each width the least; where the block has exponents, of the nested form of the scaled derivative of f by them
+pub record IsFromExact (vars : List VarInfo) (f : Sparse) (block : Code) : Type 0 where
   pub lets : List Typed
   pub root : Typed
   pub exact_lets : AreExact vars [] lets
   pub exact_root : IsExact vars lets root
-  pub nodes : PushNodes (IsNodeOf lets root) (pushed_by vars block)
+  pub code : IsCodeOf lets root (lines_of block.ops block.pairs)
+  pub nested : block.exps ≢ [] → IsNestedDerivative vars f block.exps lets root
 
 -- block 0 is the source's own; with the filter it has fewer than 2^21 operations
 pub record BeginsWith (p : PredOf) (part : Part) : Type 0 where
@@ -66,8 +75,9 @@ IsFilterOf p (Some f) =
 
 -- the part is the program of the predicate: it is over the predicate's variables, with the predicate's filter; it carries the
 -- predicate's root, with the lets in place of their names, by the smallest infinitesimal that differs; it begins with the
--- source's own tree; and whatever its blocks and its filter push has at most 1,024 terms and no exponent above 127; each block is
--- made from an exact tree; and the blocks' exponents are the distinct members of the lists in order of first sight
+-- source's own tree, and each other block is made from the nested form of its derivative, both with exact ranges and the least
+-- widths; whatever its blocks and its filter push has at most 1,024 terms and no exponent above 127; and the blocks' exponents are
+-- the distinct members of the lists in order of first sight
 pub record IsProgramOf (p : PredOf) (part : Part) : Type 0 where
   pub name : name_bytes part.shape.name ≡ p.shape_name
   pub sites : part.shape.sites ≡ p.sites
@@ -78,7 +88,7 @@ pub record IsProgramOf (p : PredOf) (part : Part) : Type 0 where
   pub carries : Carries BySmallest part (root_of p) (terms_of (length p.vars) poly)
   pub begins : BeginsWith p part
   pub small : PushesSmall part
-  pub exact : All (IsFromExact p.vars) part.blocks
+  pub exact : All (IsFromExact p.vars poly) part.blocks
   pub sight : map (λ c. vector (length p.vars) c.exps) part.blocks ≡ first_seen (map (vectors part) (lists_of part))
 
 -- one program for each predicate, in order

@@ -13,7 +13,7 @@ use Rattle.ln_compile.specs.Accepted.{AreSound}
 -- the block is one of the scaled derivative of f by its exponents, and is made from an exact tree
 pub record IsBlockOf (vars : List VarInfo) (f : Sparse) (c : Code) : Type 0 where
   pub block : IsDerivativeBlock vars f c
-  pub exact : IsFromExact vars c
+  pub exact : IsFromExact vars f c
 
 -- blocks for these exponents, with at most 524,352 operations in the first and in each other 4,096 for each term that covers its
 -- exponents and 68 more

@@ -101,3 +101,7 @@ IsUnaccepted bytes r = (t : TableOf) → Accepted bytes t → r ≡ NoMemory
 -- what a source is refused for is the answer, but for want of memory
 abbrev pub IsTheOne : List ℕ → Refusal → Type 0
 IsTheOne bytes r = (s : Refusal) → IsRefusedFor bytes s → (r ≡ s) ⊎ (r ≡ NoMemory)
+
+-- there was no memory
+abbrev pub IsNoMemory : Refusal → Type 0
+IsNoMemory r = r ≡ NoMemory

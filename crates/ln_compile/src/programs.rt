@@ -9,7 +9,7 @@ ghost use Rattle.ln_poly.specs.Expansion.{HaveFewTerms, IsNormal};
 ghost use Rattle.ln_compile.specs.Accepted.{AreSound, IsSound, expanded_of, loaded_of, root_of};
 ghost use Rattle.ln_compile.specs.Compiled.{AreProgramsOf, IsProgramOf, IsStageCount};
 ghost use Rattle.ln_compile.specs.Made.{AreCounted};
-ghost use Rattle.ln_compile.specs.Refused.{StopsPred, StopsPreds};
+ghost use Rattle.ln_compile.specs.Refused.{IsNoMemory, StopsPred, StopsPreds};
 
 use crate::judge::{expanded, measured, staged, weighed};
 use crate::program::program;
@@ -68,6 +68,7 @@ fn compiled_of(alloc: Global, p: &Pred, f: &Poly) -> Result<Program, Refusal>
     ensures program { IfOk result (λ c. IsProgramOf (pred_of p.now) c) }
     ensures name { IfOk result (λ c. c.shape.name ≡ p.now.shape.name) }
     ensures small { IfOk result (λ c. length c.blocks ≤ 65536) }
+    ensures err { IfErr result (λ r. StopsPred 0 (pred_of p.now) r) }
 {
     weighed(0, p, f)?;
     let st = staged(alloc, 0, p, f)?;
@@ -80,10 +81,18 @@ fn compiled(alloc: Global, p: &Pred) -> Result<Program, Refusal>
     ensures program { IfOk result (λ c. IsProgramOf (pred_of p.now) c) }
     ensures name { IfOk result (λ c. c.shape.name ≡ p.now.shape.name) }
     ensures small { IfOk result (λ c. length c.blocks ≤ 65536) }
+    ensures err { IfErr result (λ r. StopsPred 0 (pred_of p.now) r) }
 {
     measured(alloc, 0, p)?;
     let f = expanded(alloc, 0, p)?;
     compiled_of(alloc, p, &f)
+}
+
+// What a refusal says that is want of memory.
+fn memory_of(_r: Refusal) -> NoMemory
+    requires { IsNoMemory _r }
+{
+    NoMemory
 }
 
 /// The program of a predicate that has no fault.
@@ -95,7 +104,7 @@ pub(crate) fn program_of(alloc: Global, p: &Pred) -> Result<Program, NoMemory>
 {
     match compiled(alloc, p) {
         Ok(program) => Ok(program),
-        Err(_) => Err(NoMemory),
+        Err(r) => Err(memory_of(r)),
     }
 }
 

@@ -27,12 +27,12 @@ use Rattle.ln_code.proofs.Engines.Runs.{some_is}
 use Rattle.ln_code.specs.Carried.{CarriesDerivative, CarriesWhole}
 use Rattle.ln_code.specs.FilterRules.{FilterKnown}
 use Rattle.ln_code.specs.Kept.{AreOfSites, FollowsFilterRules, FollowsRules, is_of_site}
-use Rattle.ln_code.specs.Part.{Code, FilterCode, filter_known_of, filter_value, known_of, ops_in_filter}
+use Rattle.ln_code.specs.Part.{Code, FilterCode, filter_known_of, filter_value, known_of, lines_of, ops_in_filter}
 use Rattle.ln_code.specs.Rules.{Known}
-use Rattle.ln_code.specs.Nodes.{IsNodeOf}
 use Rattle.ln_due.specs.Small.{BlockPushesSmall}
 use Rattle.ln_due.proofs.Derivatives.Blocks.{carrying, derivative-block}
-use Rattle.ln_lower.specs.Nodes.{PushNodes, pushed_by}
+use Rattle.ln_lower.specs.StackCode.{IsCodeOf}
+use Rattle.ln_nest.specs.Nested.{nested_form}
 use Rattle.ln_filter.specs.Steady.{HasFilter}
 use Rattle.ln_filter.specs.Truncated.{root_number, root_triple}
 use Rattle.ln_compile.specs.Accepted.{lets_of, own_root, root_of}
@@ -45,23 +45,30 @@ use Rattle.ln_poly.proofs.Expansions.Normals.{vector-none}
 -- ---- a derivative's block
 pub derivative-made : (vars : List VarInfo) (f h : Sparse) (a : Pairs) (lets : List Fitted) (t : Typed) (c : Code) → IsDerivative (length vars) f a h → lets ≡ [] → c.exps ≡ a → AreOfSites vars a → FollowsRules vars c
     → ((m : List ℕ) → length m ≡ length vars → polynomial [] t m ≡ coefficient_at (length vars) h m)
-    → ((k : Known) → known_of vars c ≡ Some k → (m : List ℕ) → normal_coefficient k.tree m ≡ polynomial (map typed lets) t m) → BlockPushesSmall vars c → IsExact vars [] t → PushNodes (IsNodeOf (map typed lets) t) (pushed_by vars c) → IsBlockOf vars f c
-derivative-made vars f h a lets t c d z e o r p q s x ns = record {
+    → ((k : Known) → known_of vars c ≡ Some k → (m : List ℕ) → normal_coefficient k.tree m ≡ polynomial (map typed lets) t m) → BlockPushesSmall vars c → IsExact vars [] t → untyped t ≡ nested_form (length vars) (terms_of (length vars) h) → IsCodeOf (map typed lets) t (lines_of c.ops c.pairs) → IsBlockOf vars f c
+derivative-made vars f h a lets t c d z e o r p q s x w ls = record {
   block = derivative-block vars f h a lets t c d z e o r p q s;
-  exact = record { lets = []; root = t; exact_lets = tt; exact_root = x; nodes = subst (λ (us : List Fitted). PushNodes (IsNodeOf (map typed us) t) (pushed_by vars c)) z ns };
+  exact = record {
+    lets = [];
+    root = t;
+    exact_lets = tt;
+    exact_root = x;
+    code = subst (λ (us : List Fitted). IsCodeOf (map typed us) t (lines_of c.ops c.pairs)) z ls;
+    nested = λ n. record { no_lets = refl; poly = h; derivative = subst (λ (b : Pairs). IsDerivative (length vars) f b h) (sym e) d; form = w };
+  };
 }
 
 -- ---- the source's own block
 pub own-made : (p : Pred) (lets : List Fitted) (root : Fitted) (c : Code) (a : Pairs) → a ≡ [] → c.exps ≡ a → map untyped (map typed lets) ≡ map (tree_of p.shape.vars) p.lets → untyped (typed root) ≡ tree_of p.shape.vars p.root
-    → AreExact p.shape.vars [] (map typed lets) → IsExact p.shape.vars (map typed lets) (typed root) → PushNodes (IsNodeOf (map typed lets) (typed root)) (pushed_by p.shape.vars c) → IsOwn (pred_of p) c
-own-made p lets root c a z e l r x y n = record { plain = e ∙ z; lets = map typed lets; of_lets = l ∙ sym (trees-of p.shape.vars p.lets); root = typed root; of_root = r; exact_lets = x; exact_root = y; nodes = n }
+    → AreExact p.shape.vars [] (map typed lets) → IsExact p.shape.vars (map typed lets) (typed root) → IsCodeOf (map typed lets) (typed root) (lines_of c.ops c.pairs) → IsOwn (pred_of p) c
+own-made p lets root c a z e l r x y n = record { plain = e ∙ z; lets = map typed lets; of_lets = l ∙ sym (trees-of p.shape.vars p.lets); root = typed root; of_root = r; exact_lets = x; exact_root = y; code = n }
 
 pub own-carries : (p : Pred) (lets : List Fitted) (root : Fitted) (c : Code) (a : Pairs) (f : Sparse) → a ≡ [] → c.exps ≡ a → map untyped (map typed lets) ≡ map (tree_of p.shape.vars) p.lets → untyped (typed root) ≡ tree_of p.shape.vars p.root
     → FollowsRules p.shape.vars c → ((k : Known) → known_of p.shape.vars c ≡ Some k → (m : List ℕ) → normal_coefficient k.tree m ≡ polynomial (map typed lets) (typed root) m)
     → IsNormal (length p.shape.vars) (root_of (pred_of p)) f → BlockPushesSmall p.shape.vars c → IsOwn (pred_of p) c → IsBlockOf p.shape.vars f c
 own-carries p lets root c a f z e l r fr q h b o = record {
   block = record { rules = fr; of_sites = rw (e ∙ z) tt; carries = carrying p.shape.vars f c fr normal; small = b };
-  exact = record { lets = o.lets; root = o.root; exact_lets = o.exact_lets; exact_root = o.exact_root; nodes = o.nodes };
+  exact = record { lets = o.lets; root = o.root; exact_lets = o.exact_lets; exact_root = o.exact_root; code = o.code; nested = λ n. absurd (n (e ∙ z)) };
 } where
   whole : (m : List ℕ) → polynomial (map typed lets) (typed root) m ≡ normal_coefficient (root_of (pred_of p)) m
   whole m = ap (λ ts. normal_coefficient (inlined (inlined_after [] ts) (untyped (typed root))) m) (l ∙ sym (trees-of p.shape.vars p.lets)) ∙ ap (λ t. normal_coefficient (inlined (inlined_after [] (map (tree p.shape.vars) (map formula p.lets))) t) m) r

@@ -10,7 +10,7 @@ use Rattle.ln_parse.proofs.Settling.OneAnswer.{no_fault, one_fault, one_table}
 use Rattle.ln_compile.specs.declared.refusal.Refusal.{Refusal}
 use Rattle.ln_compile.specs.declared.refusal.Refusal.TheVariants.{Bound, Terms}
 use Rattle.ln_compile.specs.Accepted.{Accepted, AreSound, IsSound, expanded_of, loaded_of}
-use Rattle.ln_compile.specs.Refused.{IsFirstFault, IsPredFault, IsRefusal, IsRefusedFor, IsTheOne, IsUnaccepted, bound, heavy, of_pred, of_text, refusal_of, stages, terms, zero}
+use Rattle.ln_compile.specs.Refused.{IsFirstFault, IsNoMemory, IsPredFault, IsRefusal, IsRefusedFor, IsTheOne, IsUnaccepted, StopsPred, bound, heavy, of_pred, of_text, refusal_of, stages, terms, zero}
 
 -- ---- the first that isn't good
 heads : {A : Type 0} (x y : A) (xs ys : List A) → x ∷ xs ≡ y ∷ ys → (x ≡ y) × (xs ≡ ys)
@@ -94,6 +94,11 @@ no_pred k p r (terms {at} l f) s = no_terms (length p.vars) (expanded_of p) at s
 no_pred k p r (heavy l t h) s = s.whole h
 no_pred k p r (zero l t w z) s = s.nonzero z
 no_pred k p r (stages l t w z f) s = s.staged f
+
+-- a predicate without a fault stops for want of memory alone
+pub memory_alone : (k : ℕ) (p : PredOf) (r : Refusal) → StopsPred k p r → IsSound p → IsNoMemory r
+memory_alone k p r (inl f) s = absurd (no_pred k p r f s)
+memory_alone k p r (inr e) s = e
 
 sounds : (ps : List PredOf) → AreSound ps → AllByRecursion IsSound ps
 sounds [] s = tt

@@ -23,7 +23,7 @@ returns-clause-block c =
     let o = of-sites c.args.s.now.vars c.args.a.now c.in_ok-h.ensures.rising c.requires.exps c.requires.sites in
     derivative-made c.args.s.now.vars c.args.f.now c.in_ok-h.h c.args.a.now _ (typed c.in_ok-t.t) c.in_ok-block.block c.in_ok-h.ensures.derivative c.new.ensures b.exps o b.rules c.in_ok-t.ensures.same b.root
     (derivative-pushes c.args.s.now.vars c.args.f.now c.in_ok-h.h c.args.a.now _ (typed c.in_ok-t.t) c.in_ok-block.block c.in_ok-h.ensures.derivative c.requires.terms c.new.ensures c.in_ok-t.ensures.lean b.nodes)
-    c.in_ok-t.ensures.exact b.nodes
+    c.in_ok-t.ensures.exact c.in_ok-t.ensures.form b.code
 
 pub returns-clause-few : goal.returns-clause-few
 returns-clause-few c =
