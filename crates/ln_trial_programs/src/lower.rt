@@ -5,17 +5,107 @@ use ln_code::{Block, Op, Programs};
 use std::alloc::Global;
 use std::test::Fail;
 
-const TOTAL: &str =
-    "site num { t: -10 .. 10; } predicate t(a: num, b: num) { sign (a.t + b.t)*(a.t + b.t); }";
-
-const TOTAL_OPS: &[Op] = &[
-    Op::Input(0),
-    Op::Input(1),
-    Op::Add(Width::W64),
-    Op::Set(65),
-    Op::Get(65),
-    Op::Get(65),
-    Op::Mul(Width::W64),
+// Sources with the operations of their first block: an operand of a product twice; one of a minus and of a product; one of a power
+// and of a product; two sums, each twice; and four sums, each twice, which take the locals 65 to 68.
+const SHARED: &[(&str, &[Op])] = &[
+    (
+        "site num { t: -10 .. 10; } predicate t(a: num, b: num) { sign (a.t + b.t)*(a.t + b.t); }",
+        &[
+            Op::Input(0),
+            Op::Input(1),
+            Op::Add(Width::W64),
+            Op::Set(65),
+            Op::Get(65),
+            Op::Get(65),
+            Op::Mul(Width::W64),
+        ],
+    ),
+    (
+        "site num { t: -10 .. 10; } predicate t(a: num, b: num) { sign (-(a.t + b.t))*(a.t + b.t); }",
+        &[
+            Op::Input(0),
+            Op::Input(1),
+            Op::Add(Width::W64),
+            Op::Set(65),
+            Op::Get(65),
+            Op::Neg(Width::W64),
+            Op::Get(65),
+            Op::Mul(Width::W64),
+        ],
+    ),
+    (
+        "site num { t: -10 .. 10; } predicate t(a: num, b: num) { sign (a.t + b.t)^2*(a.t + b.t); }",
+        &[
+            Op::Input(0),
+            Op::Input(1),
+            Op::Add(Width::W64),
+            Op::Set(65),
+            Op::Get(65),
+            Op::Set(64),
+            Op::Get(64),
+            Op::Get(64),
+            Op::Mul(Width::W64),
+            Op::Get(65),
+            Op::Mul(Width::W64),
+        ],
+    ),
+    (
+        "site num { t: -10 .. 10; } predicate t(a: num, b: num) { sign (a.t + b.t)*(a.t - b.t)*(a.t + b.t)*(a.t - b.t); }",
+        &[
+            Op::Input(0),
+            Op::Input(1),
+            Op::Add(Width::W64),
+            Op::Set(65),
+            Op::Get(65),
+            Op::Input(0),
+            Op::Input(1),
+            Op::Sub(Width::W64),
+            Op::Set(66),
+            Op::Get(66),
+            Op::Mul(Width::W64),
+            Op::Get(65),
+            Op::Mul(Width::W64),
+            Op::Get(66),
+            Op::Mul(Width::W64),
+        ],
+    ),
+    (
+        "site num { t: -10 .. 10; } predicate t(a: num) { \
+         sign (a.t + 1)*(a.t + 2)*(a.t + 3)*(a.t + 4)*(a.t + 1)*(a.t + 2)*(a.t + 3)*(a.t + 4); }",
+        &[
+            Op::Input(0),
+            Op::Push(1),
+            Op::Add(Width::W64),
+            Op::Set(65),
+            Op::Get(65),
+            Op::Input(0),
+            Op::Push(2),
+            Op::Add(Width::W64),
+            Op::Set(66),
+            Op::Get(66),
+            Op::Mul(Width::W64),
+            Op::Input(0),
+            Op::Push(3),
+            Op::Add(Width::W64),
+            Op::Set(67),
+            Op::Get(67),
+            Op::Mul(Width::W64),
+            Op::Input(0),
+            Op::Push(4),
+            Op::Add(Width::W64),
+            Op::Set(68),
+            Op::Get(68),
+            Op::Mul(Width::W64),
+            Op::Get(65),
+            Op::Mul(Width::W64),
+            Op::Get(66),
+            Op::Mul(Width::W64),
+            Op::Get(67),
+            Op::Mul(Width::W64),
+            Op::Get(68),
+            Op::Mul(Width::W64),
+        ],
+    ),
 ];
 
 fn block(programs: &Programs, i: usize) -> Option<&Block> {
@@ -29,16 +119,18 @@ fn has_ops(programs: &Programs, ops: &[Op]) -> bool {
     }
 }
 
-fn is_shared(alloc: Global) -> bool {
-    match compiled(alloc, TOTAL) {
-        Ok(c) => has_ops(c.programs(), TOTAL_OPS),
+fn is_shared(alloc: Global, source: &str, ops: &[Op]) -> bool {
+    match compiled(alloc, source) {
+        Ok(c) => has_ops(c.programs(), ops),
         Err(_) => false,
     }
 }
 
 #[test]
-fn a_sum_is_computed_once(rt: HostRuntime) -> Result<(), Fail> {
-    assert!(rt; is_shared(rt.alloc()));
+fn equal_parts_are_computed_once(rt: HostRuntime) -> Result<(), Fail> {
+    for (source, ops) in SHARED {
+        assert!(rt; is_shared(rt.alloc(), source, ops));
+    }
     Ok(())
 }
 
