@@ -7,3 +7,5 @@ pub mod VerifyLaws
 pub mod SaysLaws
 pub mod RunLaws
 pub mod GenLaws
+pub mod FactorsLaws
+pub mod ProductLaws

@@ -4,6 +4,7 @@ pub mod LinesCarry
 pub mod BoxLemmas
 pub mod WatchingLaws
 pub mod OneLine
+pub mod OneProduct
 pub mod Feeds
 pub mod MadeLemmas
 pub mod MadeRangeLemmas

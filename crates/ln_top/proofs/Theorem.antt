@@ -8,3 +8,4 @@ pub mod EmittedLaws
 pub mod Accepting
 pub mod TrustedLaws
 pub mod ListedLaws
+pub mod ProductsLaws

@@ -19,9 +19,12 @@ pub mod Trusted
 pub mod Listed
 pub mod Line
 pub mod Run
+pub mod Factors
+pub mod Product
 pub mod Perturbed
 pub mod Watching
 pub mod Headline
+pub mod Products
 pub mod Work
 pub mod Answer
 pub mod Causes

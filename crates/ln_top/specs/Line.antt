@@ -56,18 +56,21 @@ is_read (Err stop) = false
 abbrev pub is_row : PredOf → List (List ℕ) → Bool
 is_row p fields = is_read (read_row p.sites p.vars fields)
 
--- is this a verdict?
-abbrev pub is_said : Result Verdict RowStop → Bool
+-- is something said of a row, as a verdict?
+abbrev pub is_said : {T : Type 0} → Result T RowStop → Bool
 is_said (Ok v) = true
 is_said (Err stop) = false
 
 -- a line names no column: that of a verdict, or of another number of fields
+abbrev pub is_bare_stop : RowStop → Bool
+is_bare_stop Fields = true
+is_bare_stop (Number k) = false
+is_bare_stop (Range k) = false
+is_bare_stop (Index k) = false
+
 abbrev pub is_bare : {T : Type 0} → Result T RowStop → Bool
 is_bare (Ok v) = true
-is_bare (Err Fields) = true
-is_bare (Err (Number k)) = false
-is_bare (Err (Range k)) = false
-is_bare (Err (Index k)) = false
+is_bare (Err stop) = is_bare_stop stop
 
 -- the line of a record names none
 abbrev pub is_bare_record : PredOf → List (List ℕ) → Bool

@@ -21,13 +21,15 @@ pub record Form : Type 0 where
   pub most : ℕ
   pub files : ℕ
 
--- `check FILE`, `list FILE`, `emit FILE`, `verify FILE LISTING`, `run FILE NAME ROWS`, `gen FILE NAME SEED COUNT`
+-- `check FILE`, `list FILE`, `emit FILE`, `verify FILE LISTING`, `run FILE NAME ROWS`, `gen FILE NAME SEED COUNT`,
+-- `product FILE NAME NAME.. ROWS`
 abbrev pub form : Command → Form
 form Check = record { least = 0; most = 0; files = 0 }
 form command.List = record { least = 0; most = 0; files = 0 }
 form command.Emit = record { least = 0; most = 0; files = 0 }
 form command.Verify = record { least = 0; most = 0; files = 1 }
 form Run = record { least = 1; most = 1; files = 1 }
+form command.Product = record { least = 2; most = 8; files = 1 }
 form (Gen seed count) = record { least = 1; most = 1; files = 0 }
 
 -- the command that a first word names; that of `gen` has numbers of its own
@@ -35,6 +37,7 @@ abbrev pub named_command : List ℕ → Option Command
 named_command word =
     if bytes_eq word (codes "check") then Some Check
     else if bytes_eq word (codes "run") then Some Run
+    else if bytes_eq word (codes "product") then Some command.Product
     else if bytes_eq word (codes "list") then Some command.List
     else if bytes_eq word (codes "emit") then Some command.Emit
     else if bytes_eq word (codes "verify") then Some command.Verify

@@ -1,12 +1,15 @@
 -- What a command asks of its named predicates together, after the names are found and before the further files are read.
-use Rattle.std.specs.Prelude.{ℕ, List}
+use Rattle.std.specs.Prelude.{◌≡◌, true, ℕ, List}
 use Rattle.ln_tree.specs.Table.{PredOf}
 use Rattle.ln_top.specs.declared.stop.Why.{Why}
 use Rattle.ln_top.specs.declared.stop.Why.TheVariants.{Shape}
 use Rattle.ln_top.specs.declared.words.Command.{Command}
+use Rattle.ln_top.specs.declared.words.Command.TheVariants as command
+use Rattle.ln_top.specs.Alike.{are_alike}
 
 -- what it asks: a line for each command that asks something, and one for all others
 abbrev pub Asks : Command → List PredOf → Type 0
+Asks command.Product preds = are_alike preds ≡ true
 Asks c preds = Unit {0}
 
 -- how it stops where they don't suit it; a place in the source is told by the source's bytes

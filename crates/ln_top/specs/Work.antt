@@ -15,6 +15,7 @@ use Rattle.ln_top.specs.Listing.{ListSaid, ListEnds}
 use Rattle.ln_top.specs.Emit.{EmitSaid, EmitEnds}
 use Rattle.ln_top.specs.Verify.{VerifySaid, VerifyEnds}
 use Rattle.ln_top.specs.Run.{RunSaid, RunPart, RunEnds}
+use Rattle.ln_top.specs.Product.{ProductSaid, ProductPart}
 use Rattle.ln_top.specs.Gen.{GenSaid, GenEnds}
 
 abbrev pub WorkOwes : Command → List State → Given → Said → Type 0
@@ -23,6 +24,7 @@ WorkOwes command.List = λ boxes. ListSaid
 WorkOwes command.Emit = λ boxes. EmitSaid
 WorkOwes command.Verify = λ boxes. VerifySaid
 WorkOwes command.Run = RunSaid
+WorkOwes command.Product = λ boxes. ProductSaid
 WorkOwes (command.Gen seed count) = GenSaid seed count
 
 abbrev pub WorkPart : Command → List State → Given → List ℕ → List ℕ → Type 0
@@ -31,6 +33,7 @@ WorkPart command.List = λ boxes g. NoPart
 WorkPart command.Emit = λ boxes g. NoPart
 WorkPart command.Verify = λ boxes g. NoPart
 WorkPart command.Run = RunPart
+WorkPart command.Product = λ boxes. ProductPart
 WorkPart (command.Gen seed count) = λ boxes g. NoPart
 
 abbrev pub WorkEnds : Command → Given → End → Type 0
@@ -39,6 +42,7 @@ WorkEnds command.List g = ListEnds g
 WorkEnds command.Emit g = EmitEnds g
 WorkEnds command.Verify g = VerifyEnds g
 WorkEnds command.Run g = RunEnds g
+WorkEnds command.Product g = RunEnds g
 WorkEnds (command.Gen seed count) g = GenEnds g
 
 -- an end that works have; any other comes with its line alone
@@ -55,6 +59,7 @@ IsOneValued command.List = ⊥
 IsOneValued command.Emit = ⊥
 IsOneValued command.Verify = Unit {0}
 IsOneValued command.Run = Unit {0}
+IsOneValued command.Product = Unit {0}
 IsOneValued (command.Gen seed count) = Unit {0}
 
 -- where these words are a command, it is one of those

@@ -1,14 +1,16 @@
 //! The line of a record.
 ghost use Rattle.std.specs.Prelude.{◌≡◌, ◌≤◌, ◌+◌, ◌++◌, ◌∷◌, [], length, slice_index_or};
 ghost use Rattle.std.specs.Prelude.{vec_len, vec_capacity, IsOk, OnOk, OnErr, true};
-ghost use Rattle.ln_top.specs.Line.{line_room, sign_text, decider_text, said_text, is_bare};
+ghost use Rattle.ln_top.specs.Columns.{names_of};
+ghost use Rattle.ln_top.specs.Line.{line_room, sign_text, decider_text, said_text, stop_text, is_bare, is_bare_stop};
 ghost use Rattle.ln_top.specs.Said.{line};
 
 use crate::target::Target;
 use itoa::Buffer;
 use ln_base::{NoMemory, Sign};
 use ln_code::{By, Verdict};
-use ln_rows::RowStop;
+use ln_rows::{RowStop, column};
+use ln_tree::{Pred, Table};
 use std::alloc::Global;
 
 /// The room that any line fits in that names no column, in bytes.
@@ -35,7 +37,8 @@ fn sign_text(sign: Sign) -> &'static [u8]
     }
 }
 
-fn add_decider(text: &mut Vec<u8>, by: By)
+/// Adds the decider of a verdict.
+pub(crate) fn add_decider(text: &mut Vec<u8>, by: By)
     requires { vec_len text.old + 40 ≤ vec_capacity text.old }
     ensures items { text.new.items ≡ text.old.items ++ decider_text by }
     ensures len { vec_len text.new ≤ vec_len text.old + 40 }
@@ -49,6 +52,26 @@ fn add_decider(text: &mut Vec<u8>, by: By)
         }
         By::Nothing => add_within(text, b"-"),
     }
+}
+
+/// Adds one byte.
+pub(crate) fn add_byte(text: &mut Vec<u8>, byte: u8)
+    requires { vec_len text.old + 1 ≤ vec_capacity text.old }
+    ensures items { text.new.items ≡ text.old.items ++ byte ∷ [] }
+    ensures len { vec_len text.new ≡ vec_len text.old + 1 }
+    ensures room { vec_capacity text.old ≤ vec_capacity text.new }
+{
+    text.push(byte).unwrap();
+}
+
+/// Adds a sign.
+pub(crate) fn add_sign(text: &mut Vec<u8>, sign: Sign)
+    requires { vec_len text.old + 1 ≤ vec_capacity text.old }
+    ensures items { text.new.items ≡ text.old.items ++ sign_text sign }
+    ensures len { vec_len text.new ≡ vec_len text.old + 1 }
+    ensures room { vec_capacity text.old ≤ vec_capacity text.new }
+{
+    add_within(text, sign_text(sign));
 }
 
 // Adds the line of a verdict: its sign, a space and its decider. There is room for it.
@@ -77,24 +100,49 @@ fn add_named(text: &mut Vec<u8>, front: &[u8], name: &[u8]) -> Result<(), NoMemo
     Ok(())
 }
 
-// Adds the line of what is wrong with a column, by the column's name.
+// Adds the line of what is wrong with a column of a predicate, by the column's name.
 fn add_column(
     alloc: Global,
     text: &mut Vec<u8>,
     front: &[u8],
-    target: &Target<'_>,
+    table: &Table,
+    pred: &Pred,
     k: u8,
 ) -> Result<(), NoMemory>
     requires { length front.now ≤ 16 }
-    ensures ok { OnOk result (text.new.items ≡ text.old.items ++ line (front.now ++ slice_index_or target.now.names k [])) }
+    ensures ok { OnOk result (text.new.items
+        ≡ text.old.items ++ line (front.now ++ slice_index_or (names_of table.now pred.now) k [])) }
     ensures err { OnErr result (text.new.items ≡ text.old.items) }
     ensures room { vec_capacity text.old ≤ vec_capacity text.new }
 {
-    let name = target.column(alloc, k)?;
+    let name = column(alloc, table, pred, usize::from(k))?;
     add_named(text, front, &name)
 }
 
-/// Adds the line of what is said of a record. Only one that names a column takes memory.
+/// Adds the line of why a record is no row of a predicate of a table. Only one that names a column allocates.
+pub fn add_stop(
+    alloc: Global,
+    text: &mut Vec<u8>,
+    table: &Table,
+    pred: &Pred,
+    stop: RowStop,
+) -> Result<(), NoMemory>
+    requires { vec_len text.old + line_room ≤ vec_capacity text.old }
+    ensures ok { OnOk result (text.new.items ≡ text.old.items ++ line (stop_text (names_of table.now pred.now) stop)) }
+    ensures err { OnErr result (text.new.items ≡ text.old.items) }
+    ensures room { vec_capacity text.old ≤ vec_capacity text.new }
+    ensures steady { is_bare_stop stop ≡ true → IsOk result }
+{
+    match stop {
+        RowStop::Fields => add_within(text, b"! fields\n"),
+        RowStop::Number(k) => add_column(alloc, text, b"! number ", table, pred, k)?,
+        RowStop::Range(k) => add_column(alloc, text, b"! range ", table, pred, k)?,
+        RowStop::Index(k) => add_column(alloc, text, b"! index ", table, pred, k)?,
+    }
+    Ok(())
+}
+
+/// Adds the line of what is said of a record. Only one that names a column allocates.
 pub fn add_line(
     alloc: Global,
     text: &mut Vec<u8>,
@@ -109,10 +157,7 @@ pub fn add_line(
 {
     match said {
         Ok(v) => add_verdict(text, v),
-        Err(RowStop::Fields) => add_within(text, b"! fields\n"),
-        Err(RowStop::Number(k)) => add_column(alloc, text, b"! number ", target, k)?,
-        Err(RowStop::Range(k)) => add_column(alloc, text, b"! range ", target, k)?,
-        Err(RowStop::Index(k)) => add_column(alloc, text, b"! index ", target, k)?,
+        Err(stop) => add_stop(alloc, text, target.table(), target.pred(), stop)?,
     }
     Ok(())
 }

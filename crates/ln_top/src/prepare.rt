@@ -10,10 +10,13 @@ ghost use Rattle.ln_top.specs.Steps.{Each, Finds, Given, Prepares, Reads, gives,
 ghost use Rattle.ln_top.specs.Carried.{Halts};
 ghost use Rattle.ln_top.specs.Target.{IsGivenBy};
 ghost use Rattle.ln_verify.specs.Accepted.{AreAccepted};
-ghost use Rattle.ln_top.specs.Ready.{AreNumbered, HasNumbers, HasStanding, IsReady, StandsFor};
+ghost use Rattle.ln_top.specs.Factors.{AreGivenBy};
+ghost use Rattle.ln_top.specs.Ready.{AreNumbered, HasNumbers, HasStanding, IsReady, IsReadyFor, StandsFor};
 
+use crate::factors::Factors;
 use crate::source::compiled;
 use crate::stop::{Stop, Why};
+use crate::suits::alike;
 use crate::target::Target;
 use crate::words::{Command, Plan};
 use ln_base::{Files, NoMemory, ReadStop, read_whole};
@@ -97,11 +100,11 @@ fn texts<F: Files>(alloc: Global, files: &mut F, names: &[String]) -> Result<Vec
 }
 
 // Returns whether the named predicates suit the command.
-fn suits(command: Command, _c: &Checked, _numbers: &[usize]) -> bool
-    requires { All (λ i. i < length _c.now.table.preds) _numbers.now }
-    ensures yes { result ≡ true → (preds : List PredOf) → AreNumbered (map pred_of _c.now.table.preds) _numbers.now preds
+fn suits(command: Command, c: &Checked, numbers: &[usize]) -> bool
+    requires { All (λ i. i < length c.now.table.preds) numbers.now }
+    ensures yes { result ≡ true → (preds : List PredOf) → AreNumbered (map pred_of c.now.table.preds) numbers.now preds
         → Asks command preds }
-    ensures no { result ≡ false → (preds : List PredOf) → AreNumbered (map pred_of _c.now.table.preds) _numbers.now preds
+    ensures no { result ≡ false → (preds : List PredOf) → AreNumbered (map pred_of c.now.table.preds) numbers.now preds
         → Asks command preds → ⊥ }
 {
     match command {
@@ -111,6 +114,7 @@ fn suits(command: Command, _c: &Checked, _numbers: &[usize]) -> bool
         | Command::Emit
         | Command::Verify
         | Command::Gen(..) => true,
+        Command::Product => alike(c.table().preds.as_slice(), numbers),
     }
 }
 
@@ -156,6 +160,15 @@ pub fn one_target(alloc: Global, ready: &Ready) -> Result<Target<'_>, NoMemory>
 {
     let target = Target::new(alloc, &ready.compiled, ready.numbers.as_slice()[0])?;
     Ok(target)
+}
+
+/// Returns the named predicates of a product, with their programs.
+pub fn product_factors(alloc: Global, ready: &Ready) -> Result<Factors<'_>, NoMemory>
+    requires { IsReadyFor Command.Product ready.now }
+    ensures { IfOk result (λ t. (g : Given) → StandsFor ready.now g → AreGivenBy g t) }
+{
+    let factors = Factors::new(alloc, &ready.compiled, ready.numbers.as_slice())?;
+    Ok(factors)
 }
 
 /// The one further file.

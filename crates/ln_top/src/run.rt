@@ -13,10 +13,11 @@ ghost use Rattle.ln_top.specs.Target.{IsGivenBy, IsInRange, IsReadFor, pred_in};
 ghost use Rattle.ln_top.specs.Watching.{watching};
 ghost use Rattle.ln_watch.specs.Panel.{last_lines, states_of};
 
+use crate::gather::{PIECE, both, end_of, put_piece};
 use crate::line::{LINE_ROOM, add_line};
 use crate::panel::Panel;
 use crate::prepare::{Ready, one_target, one_text};
-use crate::put::{put_out, put_rest};
+use crate::put::put_rest;
 use crate::status::{Early, End};
 use crate::stop::{Stop, Why, say};
 use crate::target::Target;
@@ -27,9 +28,6 @@ use ln_code::{Row, Scratch, Verdict};
 use ln_rows::{RowStop, Rows};
 use ln_watch::Watch;
 use std::alloc::Global;
-
-/// So many bytes are gathered before they are put.
-const PIECE: usize = 65_536;
 
 // What the predicate says of a record that was read: the verdict on its row, or why it is no row.
 fn verdict_of(
@@ -118,29 +116,6 @@ fn take_record<C: Console>(
     Ok(is_verdict(&said))
 }
 
-// Puts what is gathered, where that is a piece, and says whether all of it was put.
-fn put_piece<C: Console>(con: &mut C, text: &mut Vec<u8>) -> bool
-    ensures empties { Empties text.old.items text.new.items
-        (count (C.faults con.old) (C.faults con.new)) result (C.shown con.old) (C.shown con.new) }
-    ensures less { result ≡ true → vec_len text.new < piece }
-    ensures room { vec_capacity text.new ≡ vec_capacity text.old }
-{
-    if text.len() < PIECE {
-        return true;
-    }
-    if !put_out(con, text) {
-        return false;
-    }
-    text.clear();
-    true
-}
-
-fn both(a: bool, b: bool) -> bool
-    ensures { result ≡ (a && b) }
-{
-    a && b
-}
-
 // Gathers the lines of the records that are left and puts them in pieces; what is left in `text` at the end is still to be put. Says
 // whether each record is a row.
 fn put_records<C: Console>(
@@ -178,12 +153,6 @@ fn put_records<C: Console>(
             Err(_) => return Err(Early::Memory),
         }
     }
-}
-
-fn end_of(good: bool) -> End
-    ensures { result ≡ end_of good }
-{
-    if good { End::Done } else { End::Rows }
 }
 
 // Puts the lines of the watchers that are left behind the records.

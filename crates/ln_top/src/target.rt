@@ -10,7 +10,7 @@ use crate::listable::kept;
 use ln_base::NoMemory;
 use ln_code::{Program, Row, Scratch, Verdict, run_row};
 use ln_compile::Checked;
-use ln_rows::{Rows, column};
+use ln_rows::Rows;
 use ln_tree::{Pred, Table};
 use std::alloc::Global;
 use std::marker::Model;
@@ -62,12 +62,11 @@ impl<'a> Target<'a> {
         self.pred
     }
 
-    /// The name of column `k`, from 0; empty where there is no such column.
-    pub fn column(&self, alloc: Global, k: u8) -> Result<Vec<u8>, NoMemory>
-        ensures { IfOk result (λ v. v.items ≡ slice_index_or self.now.names k []) }
+    /// Returns the table that names the columns.
+    pub fn table(&self) -> &Table
+        ensures { self.now.names ≡ names_of result.now self.now.pred }
     {
-        let name = column(alloc, self.table, self.pred, usize::from(k))?;
-        Ok(name)
+        self.table
     }
 
     /// Takes the first record, if there is one: is it the names of the columns?

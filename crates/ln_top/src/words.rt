@@ -21,6 +21,8 @@ pub enum Command {
     Verify,
     /// `gen FILE NAME SEED COUNT`: so many rows are made of a seed, and what watchers say of the signs of a predicate on them.
     Gen(u64, u64),
+    /// `product FILE NAME NAME.. ROWS`: the signs of the product of two to eight predicates on the records of a rows file.
+    Product,
 }
 
 /// What a command needs: its source file, the names of predicates, further files.
@@ -56,6 +58,7 @@ fn form(command: Command) -> Counts
         Command::Verify => (0, 0, 1),
         Command::Run => (1, 1, 1),
         Command::Gen(..) => (1, 1, 0),
+        Command::Product => (2, 8, 1),
     };
     Counts { least, most, files }
 }
@@ -73,7 +76,8 @@ fn named_command(word: &str) -> Option<Command>
     let verify = or_named(word, "verify", Command::Verify, None);
     let emit = or_named(word, "emit", Command::Emit, verify);
     let list = or_named(word, "list", Command::List, emit);
-    let run = or_named(word, "run", Command::Run, list);
+    let product = or_named(word, "product", Command::Product, list);
+    let run = or_named(word, "run", Command::Run, product);
     or_named(word, "check", Command::Check, run)
 }
 

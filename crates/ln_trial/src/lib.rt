@@ -2,7 +2,7 @@
 //!
 //! `commands` has sources, rows and words with the lines and statuses that they are owed, `failing` ports and files that fail at each
 //! of their calls, `watchers` what boxes that are handed in say of records, `panel` what they say of verdicts, `generated` what they
-//! say of rows that `gen` makes, `listings` what `list` puts, read back, `emitted` what `emit` puts, read back and called, `rules`
+//! say of rows that `gen` makes, `products` what `product` says of several predicates, `listings` what `list` puts, read back, `emitted` what `emit` puts, read back and called, `rules`
 //! what `verify` says of listings, most of them changed in one place, with their texts and lines in `judged`, `repeated` predicates
 //! whose equal parts are computed once, `spheres` rows of incircle and insphere whose lines geometry tells, `compare` random
 //! predicates against the definition of the perturbed sign.
@@ -26,6 +26,8 @@ mod judged;
 mod listings;
 #[cfg(test)]
 mod panel;
+#[cfg(test)]
+mod products;
 #[cfg(test)]
 mod repeated;
 #[cfg(test)]

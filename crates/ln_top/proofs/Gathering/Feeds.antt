@@ -31,7 +31,7 @@ use Rattle.ln_top.specs.Headline.{NoFeed}
 use Rattle.ln_top.proofs.Steps.Likeness.{columns_like}
 
 -- one text behind another
-behind : (xs ys : List ℕ) → NoFeed xs → NoFeed ys → NoFeed (xs ++ ys)
+pub behind : (xs ys : List ℕ) → NoFeed xs → NoFeed ys → NoFeed (xs ++ ys)
 behind [] ys f g = g
 behind (x ∷ xs) ys f g = (f.0, behind xs ys f.1 g)
 
@@ -60,7 +60,7 @@ decimal_feed : (n : ℕ) → NoFeed (decimal n)
 decimal_feed n = subst NoFeed (digits_are n) (digits_feed 64 n [] tt)
 
 -- bytes above a line feed
-other : (b : ℕ) → nat_lt 10 b ≡ true → b ≢ 10
+pub other : (b : ℕ) → nat_lt 10 b ≡ true → b ≢ 10
 other b e f = true≢false (sym e ∙ ap (nat_lt 10) f)
 
 and_left : (a b : Bool) → (a && b) ≡ true → a ≡ true
@@ -76,12 +76,12 @@ above [] e = tt
 above (b ∷ bs) e =
     (other b (and_left (nat_lt 10 b) (every (nat_lt 10) bs) e), above bs (and_right (nat_lt 10 b) (every (nat_lt 10) bs) e))
 
-sign_feed : (s : Sign) → NoFeed (sign_text s)
+pub sign_feed : (s : Sign) → NoFeed (sign_text s)
 sign_feed Minus = above (codes "-") refl
 sign_feed Zero = above (codes "0") refl
 sign_feed Plus = above (codes "+") refl
 
-decider_feed : (by : By) → NoFeed (decider_text by)
+pub decider_feed : (by : By) → NoFeed (decider_text by)
 decider_feed Filter = above (codes "F") refl
 decider_feed (Stage place) = decimal_feed place
 decider_feed Nothing = above (codes "-") refl
@@ -154,7 +154,7 @@ nth [] k f = tt
 nth (n ∷ ns) zero f = f.0
 nth (n ∷ ns) (suc k) f = nth ns k f.1
 
-stop_feed : (names : List (List ℕ)) (s : RowStop) → HaveNoFeed names → NoFeed (stop_text names s)
+pub stop_feed : (names : List (List ℕ)) (s : RowStop) → HaveNoFeed names → NoFeed (stop_text names s)
 stop_feed names Fields f = above (codes "! fields") refl
 stop_feed names (Number k) f = behind (codes "! number ") (slice_index_or names k []) (above (codes "! number ") refl) (nth names k f)
 stop_feed names (Range k) f = behind (codes "! range ") (slice_index_or names k []) (above (codes "! range ") refl) (nth names k f)

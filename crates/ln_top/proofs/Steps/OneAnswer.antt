@@ -1,5 +1,6 @@
 -- Words and told files are owed one answer.
-use Rattle.std.proofs.Common.{◌≡◌, ℕ, List, [], ◌∷◌, ◌++◌, map, Option, Some, None, option_map, refl, ap, sym}
+use Rattle.std.proofs.Common.{◌≡◌, ℕ, Bool, true, false, cond, find, bytes_eq, List, [], ◌∷◌, ◌++◌, map, Option, Some, None}
+use Rattle.std.proofs.Common.{option_map, refl, ap, sym}
 use Rattle.std.proofs.Common.{◌∙◌, subst}
 use Rattle.std.proofs.lemmas.Option.{none-some, same_Some}
 use Rattle.ln_base.specs.Outside.{Shelf}
@@ -7,6 +8,8 @@ use Rattle.ln_watch.specs.Panel.{State, last_lines}
 use Rattle.ln_tree.specs.declared.table.Table.{Table}
 use Rattle.ln_tree.specs.declared.pred.Pred.{Pred}
 use Rattle.ln_tree.specs.Table.{TableOf, PredOf, pred_of}
+use Rattle.ln_parse.specs.ReadsBack.{Every}
+use Rattle.ln_parse.proofs.Wholes.WholeParts.{PredParts, table_parts}
 use Rattle.ln_rows.specs.Left.{Records}
 use Rattle.ln_compile.specs.Accepted.{AreSound}
 use Rattle.ln_top.specs.declared.words.Command.{Command}
@@ -23,6 +26,10 @@ use Rattle.ln_top.specs.Lines.{Lines, all_good}
 use Rattle.ln_top.specs.Line.{is_row}
 use Rattle.ln_top.specs.Run as run
 use Rattle.ln_top.specs.Run.{RunStep, RunSaid, end_of}
+use Rattle.ln_top.specs.Alike.{are_alike}
+use Rattle.ln_top.specs.Product as product
+use Rattle.ln_top.specs.Product.{ProductSaid, ProductStep}
+use Rattle.ln_top.specs.Suits.{Asks}
 use Rattle.ln_top.specs.Watching.{Watching, watching, last_of}
 use Rattle.ln_top.specs.Gen.{GenStep, GenSaid, made, draws, seeded}
 use Rattle.ln_top.specs.Work.{AreOneValued, IsOneValued, WorkOwes}
@@ -31,6 +38,8 @@ use Rattle.ln_top.proofs.Steps.Chain.{value_or, one_prepares}
 use Rattle.ln_top.proofs.Steps.Likeness.{named_in, named_like}
 use Rattle.ln_top.proofs.Gathering.LinesLaws.{one_lines, SameLines}
 use Rattle.ln_top.proofs.Gathering.OneLine.{one_line, one_counts, says_alike}
+use Rattle.ln_top.proofs.Gathering.OneProduct.{one_product}
+use Rattle.ln_top.proofs.Commands.FactorsLaws.{IsOver, alike_over}
 use Rattle.ln_top.proofs.Commands.RunLaws.{same_pred, same_names, same_records, tail_same, wrong_right}
 use Rattle.ln_top.proofs.Commands.GenLaws as gen_laws
 use Rattle.ln_top.proofs.Commands.VerifyLaws as verify_laws
@@ -69,6 +78,38 @@ pub grounded : (plan : Plan) (shelf : Shelf) (g : Given) → Prepares plan (Some
 grounded plan shelf g (step.goes bytes r (step.goes table c (step.goes preds n (step.goes _ y (step.goes texts t h))))) =
     subst IsGrounded (sym (ap (value_or g) h)) (grounded_as table preds texts bytes (accepted_of bytes table c)
     (found_each table.preds plan.names preds n))
+
+-- the predicates suit the command
+pub asked : (plan : Plan) (told : Option Shelf) (g : Given) → Prepares plan told (gives g) → Asks plan.command g.preds
+asked plan told g (step.goes bytes r (step.goes table c (step.goes preds n (step.goes _ (step.suited y) (step.goes texts t h))))) =
+    subst (λ (k : Given). Asks plan.command k.preds) (sym (ap (value_or g) h)) y
+
+-- what holds of each predicate of the table holds of those that were found
+found_if : (Q : PredOf → Type 0) (test : PredOf → Bool) (p x : PredOf) (ps : List PredOf) (v : Bool) → Q x
+    → (find test ps ≡ Some p → Q p) → cond v (Some x) (find test ps) ≡ Some p → Q p
+found_if Q test p x ps true q h f = subst Q (same_Some x p f) q
+found_if Q test p x ps false q h f = h f
+
+found_has : (Q : PredOf → Type 0) (name : List ℕ) (ps : List PredOf) (p : PredOf) → Every Q ps → named name ps ≡ Some p → Q p
+found_has Q name [] p h f = absurd (none-some p f)
+found_has Q name (x ∷ ps) p h f =
+    found_if Q (λ q. bytes_eq q.name name) p x ps (bytes_eq x.name name) h.0 (found_has Q name ps p h.1) f
+
+each_found : (Q : PredOf → Type 0) (table ps : List PredOf) → Every Q table → AreFound table ps → Every Q ps
+each_found Q table [] h f = tt
+each_found Q table (p ∷ ps) h f = (found_has Q f.0.0 table p h f.0.1, each_found Q table ps h f.1)
+
+-- predicates with the same arguments are over the variables of the first
+pub all_over : (g : Given) → IsGrounded g → are_alike g.preds ≡ true → (p : PredOf) (others : List PredOf) → g.preds ≡ p ∷ others
+    → Every (IsOver p.sites p.vars) (p ∷ others)
+all_over g i a p others e =
+    let t : TableOf = view i.table in
+    let whole : Every (PredParts t.sites t.params) t.preds = (table_parts t i.table.whole).preds in
+    let here : Every (PredParts t.sites t.params) g.table.preds =
+    subst (λ (u : TableOf). Every (PredParts t.sites t.params) u.preds) i.is whole in
+    let found : Every (PredParts t.sites t.params) g.preds = each_found (PredParts t.sites t.params) g.table.preds g.preds here i.found in
+    alike_over t.sites t.params p others (subst (λ (ps : List PredOf). Every (PredParts t.sites t.params) ps) e found)
+    (subst (λ (ps : List PredOf). are_alike ps ≡ true) e a)
 
 -- a predicate of it stands in memory
 by_named : (ps : List Pred) (name : List ℕ) (p : PredOf) (o : Option Pred) → option_map pred_of o ≡ Some p
@@ -145,15 +186,51 @@ gen_one seed count boxes g i a b (made p o y e x) (made r out z f k) =
     let q = in_memory g r [] i f in
     gen_same seed count boxes q.0 p r o out y z q.1 (ap (λ (xs : List PredOf). elim xs [ [] ↦ p | t ∷ rest ↦ t ]) (sym e ∙ f)) x k
 
+-- and so does `product`
+product_step : (q : Pred) (ps : List PredOf) → Every (IsOver q.shape.sites q.shape.vars) ps → (names : List (List ℕ)) (w : Unit {0})
+    (fields : List (List ℕ)) (o e out err : List ℕ) (y z : Unit {0}) → ProductStep (pred_of q) ps names w fields o e y
+    → ProductStep (pred_of q) ps names w fields out err z → SameLines o e out err y z
+product_step q ps over names w fields o e out err y z s t =
+    let same = one_product q ps over names fields o out e err w w y z s t in
+    record { outs = same.0; errs = same.1; lefts = refl }
+
+abbrev product_said : PredOf → Records → List ℕ → Said
+product_said p records out = record { end = end_of (all_good (is_row p) records); out = out; err = [] }
+
+product_same : (q : Pred) (p r : PredOf) (ps : List PredOf) (names others : List (List ℕ)) (rs ss : Records) (o out : List ℕ)
+    → Every (IsOver r.sites r.vars) ps → pred_of q ≡ r → p ≡ r → names ≡ others → rs ≡ ss
+    → Lines (ProductStep p ps names) tt rs o [] tt → Lines (ProductStep r ps others) tt ss out [] tt
+    → product_said p rs o ≡ product_said r ss out
+product_same q p r ps names others rs ss o out over i f n l x y =
+    let over1 = subst (λ (t : PredOf). Every (IsOver t.sites t.vars) ps) (sym i) over in
+    let x1 = subst (λ t. Lines (ProductStep t ps names) tt rs o [] tt) (f ∙ sym i) x in
+    let x2 = subst (λ (ns : List (List ℕ)). Lines (ProductStep (pred_of q) ps ns) tt rs o [] tt) n x1 in
+    let x3 = subst (λ (zs : Records). Lines (ProductStep (pred_of q) ps others) tt zs o [] tt) l x2 in
+    let y1 = subst (λ t. Lines (ProductStep t ps others) tt ss out [] tt) (sym i) y in
+    let same = one_lines (ProductStep (pred_of q) ps others) (product_step q ps over1 others) tt ss o [] out [] tt tt x3 y1 in
+    ap (λ t. product_said t rs o) f ∙ ap (λ (zs : Records). product_said r zs o) l ∙ ap (product_said r ss) same.outs
+
+product_one : (g : Given) → IsGrounded g → are_alike g.preds ≡ true → (a b : Said) → ProductSaid g a → ProductSaid g b → a ≡ b
+product_one g i v a b (product.header p names rs h x) (product.header q others ss k y) = refl
+product_one g i v a b (product.header p names rs h x) (product.ran q others ss out k y) = wrong_right g p q names others rs ss h x k
+product_one g i v a b (product.ran p names rs out h x) (product.header q others ss k y) = wrong_right g q p others names ss rs k y h
+product_one g i v a b (product.ran p names rs o h x) (product.ran r others ss out k y) =
+    let q = in_memory g r k.others i k.pred in
+    product_same q.0 p r g.preds names others rs ss o out
+    (subst (Every (IsOver r.sites r.vars)) (sym k.pred) (all_over g i v r k.others k.pred)) q.1
+    (same_pred g p r names others (names ∷ rs) (others ∷ ss) h k) (same_names g p r names others (names ∷ rs) (others ∷ ss) h k)
+    (tail_same (same_records g p r names others (names ∷ rs) (others ∷ ss) h k)) x y
+
 -- the works of which the bytes are one: a line a command
-work_one : (c : Command) (boxes : List State) (g : Given) → IsGrounded g → IsOneValued c → (a b : Said)
+work_one : (c : Command) (boxes : List State) (g : Given) → IsGrounded g → Asks c g.preds → IsOneValued c → (a b : Said)
     → WorkOwes c boxes g a → WorkOwes c boxes g b → a ≡ b
-work_one command.Check boxes g h v a b x y = check_one g h a b x y
-work_one command.List boxes g h v a b x y = absurd v
-work_one command.Emit boxes g h v a b x y = absurd v
-work_one command.Verify boxes g h v a b x y = verify_laws.one_said g a b x y
-work_one command.Run boxes g h v a b x y = run_one boxes g h a b x y
-work_one (command.Gen seed count) boxes g h v a b x y = gen_one seed count boxes g h a b x y
+work_one command.Check boxes g h k v a b x y = check_one g h a b x y
+work_one command.List boxes g h k v a b x y = absurd v
+work_one command.Emit boxes g h k v a b x y = absurd v
+work_one command.Verify boxes g h k v a b x y = verify_laws.one_said g a b x y
+work_one command.Run boxes g h k v a b x y = run_one boxes g h a b x y
+work_one command.Product boxes g h k v a b x y = product_one g h k a b x y
+work_one (command.Gen seed count) boxes g h k v a b x y = gen_one seed count boxes g h a b x y
 
 plan_one : (plan : Plan) (shelf : Shelf) (boxes : List State) → IsOneValued plan.command → (a b : Said)
     → PlanOwes plan (Some shelf) boxes a → PlanOwes plan (Some shelf) boxes b → a ≡ b
@@ -161,7 +238,7 @@ plan_one plan shelf boxes i a b (stopped why p) (stopped v q) = ap said_of (same
 plan_one plan shelf boxes i a b (stopped why p) (worked g q y) = stops_gives (one_prepares plan shelf _ _ p q)
 plan_one plan shelf boxes i a b (worked g p x) (stopped v q) = stops_gives (one_prepares plan shelf _ _ q p)
 plan_one plan shelf boxes i a b (worked g p x) (worked h q y) =
-    work_one plan.command boxes h (grounded plan shelf h q) i a b
+    work_one plan.command boxes h (grounded plan shelf h q) (asked plan (Some shelf) h q) i a b
     (subst (λ k. WorkOwes plan.command boxes k a) (same_given (one_prepares plan shelf _ _ p q)) x) y
 
 -- There is one answer.

@@ -40,6 +40,7 @@ use Rattle.ln_top.proofs.Commands.ListLaws as list_laws
 use Rattle.ln_top.proofs.Commands.EmitLaws as emit_laws
 use Rattle.ln_top.proofs.Commands.VerifyLaws as verify_laws
 use Rattle.ln_top.proofs.Commands.RunLaws as run_laws
+use Rattle.ln_top.proofs.Commands.ProductLaws as product_laws
 use Rattle.ln_top.proofs.Commands.GenLaws as gen_laws
 
 -- the work of a plan is carried out, or a stop of its steps was said
@@ -84,6 +85,7 @@ lawful command.List = list_laws.lawful
 lawful command.Emit = emit_laws.lawful
 lawful command.Verify = verify_laws.lawful
 lawful command.Run = run_laws.lawful
+lawful command.Product = product_laws.lawful
 lawful (command.Gen seed count) = gen_laws.lawful seed count
 
 abbrev IsStopsAny : {A : Type 0} → Outcome A → Type 0

@@ -15,7 +15,7 @@ use Rattle.ln_top.specs.Steps as step
 use Rattle.ln_top.specs.Steps.{gives, Given, Prepares, Each, Reads, most_file}
 use Rattle.ln_top.specs.Ready.{AreShort, HasStanding, IsReady, IsReadyFor}
 use Rattle.ln_top.proofs.Steps.Chain.{value_or}
-use Rattle.ln_top.proofs.Steps.OneAnswer.{accepted_of}
+use Rattle.ln_top.proofs.Steps.OneAnswer.{accepted_of, asked}
 
 light : (a b : ℕ) → (b < a → ⊥) → a ≤ b
 light a b h = omega (arith, h)
@@ -56,11 +56,6 @@ fine plan told g (step.goes bytes r (step.goes table c (step.goes preds n (step.
       sound = (accepted_of bytes table c).accepted.sound;
       short = short_each told plan.files texts t;
     })
-
--- and suits the command
-asked : (plan : Plan) (told : Option Shelf) (g : Given) → Prepares plan told (gives g) → Asks plan.command g.preds
-asked plan told g (step.goes bytes r (step.goes table c (step.goes preds n (step.goes _ (step.suited y) (step.goes texts t h))))) =
-    subst (λ (k : Given). Asks plan.command k.preds) (sym (ap (value_or g) h)) y
 
 -- so what is ready has its standing
 standing : (plan : Plan) (told : Option Shelf) (r : Ready) → IsReady plan told r → HasStanding r

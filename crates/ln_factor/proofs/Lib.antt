@@ -1,0 +1,4 @@
+-- The files of this folder.
+pub mod Places
+pub mod Answered
+pub mod Sums
