@@ -3,4 +3,5 @@ pub mod Orders
 pub mod Finds
 pub mod Files
 pub mod Agrees
+pub mod Heads
 pub mod Says

@@ -1,5 +1,5 @@
 -- What is promised of the bytes that are emitted.
-use Rattle.std.specs.Prelude.{◌≡◌, ℕ, ℤ, pos, negsuc, List, [], ◌∷◌, ◌++◌, Some}
+use Rattle.std.specs.Prelude.{◌≡◌, ℕ, ℤ, pos, negsuc, List, [], ◌∷◌, ◌++◌, map, Some}
 use Rattle.ln_base.specs.declared.sign.Sign.{Sign}
 use Rattle.ln_base.specs.declared.sign.Sign.TheVariants.{Minus, Zero, Plus}
 use Rattle.ln_tree.specs.Row as tree
@@ -12,6 +12,7 @@ use Rattle.ln_code.specs.Verdict.{IsVerdict}
 use Rattle.ln_csyn.specs.Tree.{Fun}
 use Rattle.ln_csyn.specs.Text.{CText}
 use Rattle.ln_csyn.specs.Meaning.{CCall, Counts, Signed}
+use Rattle.ln_cemit.specs.Heads.{head, heads_of}
 use Rattle.ln_cemit.specs.Names.{call_name}
 use Rattle.ln_csyn.specs.Spelling.{spell_file, text_of, written}
 use Rattle.ln_cemit.specs.Whole.{file_of, part_name}
@@ -37,10 +38,12 @@ abbrev pub AllSay : List Fun → List Part → Type 0
 AllSay file [] = Unit {0}
 AllSay file (p ∷ ps) = ((row : tree.Row) → InRange p.shape.sites p.shape.vars row → CallSays file p row) × AllSay file ps
 
--- the bytes are a file of the subset, whose calls say what the machine answers
+-- the bytes are a file of the subset, which has the functions of these programs and no other, and whose calls say what the machine
+-- answers
 pub record IsEmitted (parts : List Part) (bytes : List ℕ) : Type 0 where
   pub file : List Fun
   pub text : CText bytes file
+  pub heads : map head file ≡ heads_of parts
   pub says : AllSay file parts
 
 -- each of them is a program

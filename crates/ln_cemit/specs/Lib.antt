@@ -10,5 +10,6 @@ pub mod Walked
 pub mod Chosen
 pub mod File
 pub mod Whole
+pub mod Heads
 pub mod Emitted
 pub mod Puts

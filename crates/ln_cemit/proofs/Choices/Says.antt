@@ -39,6 +39,7 @@ use Rattle.ln_cemit.specs.Ways.{block_lines, block_way, filter_lines, filter_way
 use Rattle.ln_cemit.specs.Whole.{block_body, bodies_of, call_body, file_of, filter_body, first_of, funs_before, moved, numbered, part_name}
 use Rattle.ln_cemit.proofs.Choices.Agrees.{Leaves, Same, Valued, afters, block_sign, both_same, held_sign, signs, value_or, wide_of}
 use Rattle.ln_cemit.proofs.Choices.Files.{file-means}
+use Rattle.ln_cemit.proofs.Choices.Heads.{heads-file}
 use Rattle.ln_cemit.proofs.Conditions.Kept.{AllFacts, Facts, NamesDiffer, NoneHas, file_kept, file_stands, first_numbers, lines_short, segment_numbers, short_bodies}
 use Rattle.ln_cemit.proofs.Meanings.Means.{blocks_say, filters_say}
 use Rattle.ln_cemit.proofs.Conditions.Named.{names_serve}
@@ -260,5 +261,6 @@ file_is_emitted ps bytes a k e =
     record {
       file = file_of ps;
       text = subst (λ fs. CText bytes fs) (file_stands ps h) (text_is_file bytes (file_of ps) (file_kept ps h d) e);
+      heads = heads-file ps;
       says = all-say [] ps h d (none-apart ps);
     }

@@ -1,0 +1,37 @@
+-- The heads of the functions of the emitted file.
+use Rattle.std.proofs.Common.{◌≡◌, ℕ, suc, List, [], ◌∷◌, ◌++◌, length, map, refl, ap, ◌∙◌, sym, append_assoc, Option, Some, None}
+use Rattle.std.proofs.lemmas.List.{map-append}
+use Rattle.ln_code.specs.Part.{Code, FilterCode, Part}
+use Rattle.ln_cemit.specs.File.{one_funs, two_fun}
+use Rattle.ln_cemit.specs.Heads.{Head, block_heads, filter_heads, head, heads_of, inner, outer}
+use Rattle.ln_cemit.specs.Names.{block_name, call_name, filter_name}
+use Rattle.ln_cemit.specs.Whole.{block_body, bodies_of, call_body, file_of, numbered, part_name}
+
+-- those of blocks alone
+plain-heads : (x : List ℕ) (cs : List Code) (i : ℕ) → map head (one_funs (numbered x None) i (map block_body cs)) ≡ block_heads x i (length cs)
+plain-heads x [] i = refl
+plain-heads x (c ∷ cs) i = ap (λ (hs : List Head). inner (block_name x i) ∷ hs) (plain-heads x cs (suc i))
+
+-- those of blocks after a filter
+later-heads : (x : List ℕ) (f : FilterCode) (cs : List Code) (i : ℕ) → map head (one_funs (numbered x (Some f)) (suc i) (map block_body cs)) ≡ block_heads x i (length cs)
+later-heads x f [] i = refl
+later-heads x f (c ∷ cs) i = ap (λ (hs : List Head). inner (block_name x i) ∷ hs) (later-heads x f cs (suc i))
+
+inner-heads : (x : List ℕ) (o : Option FilterCode) (cs : List Code) → map head (one_funs (numbered x o) 0 (bodies_of o cs)) ≡ filter_heads x o ++ block_heads x 0 (length cs)
+inner-heads x None cs = plain-heads x cs 0
+inner-heads x (Some f) cs = ap (λ (hs : List Head). inner (filter_name x) ∷ hs) (later-heads x f cs 0)
+
+glued : (fs bs hs : List Head) (o : Head) → (fs ++ bs) ++ (o ∷ hs) ≡ (fs ++ (bs ++ (o ∷ []))) ++ hs
+glued fs bs hs o =
+    append_assoc fs bs (o ∷ hs)
+    ∙ ap (λ (z : List Head). fs ++ z) (sym (append_assoc bs (o ∷ []) hs))
+    ∙ sym (append_assoc fs (bs ++ (o ∷ [])) hs)
+
+-- those of the file
+pub heads-file : (ps : List Part) → map head (file_of ps) ≡ heads_of ps
+heads-file [] = refl
+heads-file (p ∷ ps) =
+    map-append head (one_funs (numbered (part_name p) p.filter) 0 (bodies_of p.filter p.blocks)) (two_fun (call_name (part_name p)) (call_body p) ∷ file_of ps)
+    ∙ ap (λ (hs : List Head). hs ++ (outer (call_name (part_name p)) ∷ map head (file_of ps))) (inner-heads (part_name p) p.filter p.blocks)
+    ∙ ap (λ (hs : List Head). (filter_heads (part_name p) p.filter ++ block_heads (part_name p) 0 (length p.blocks)) ++ (outer (call_name (part_name p)) ∷ hs)) (heads-file ps)
+    ∙ glued (filter_heads (part_name p) p.filter) (block_heads (part_name p) 0 (length p.blocks)) (heads_of ps) (outer (call_name (part_name p)))
