@@ -129,9 +129,11 @@ static void measure(const char *name, const char *kind, const Rows &rows, int (*
     if (theirs[i] == 0) zero++; else if (mine[i] != turn * theirs[i]) differ++;
     if (mine[i] == 0) differ++;
   }
-  printf("%-9s %-10s %8.1f ns  CGAL %8.1f ns  ratio %5.2f  (%d rows, %d of plain value 0, %d differ)\n", name, kind, best / count * 1e9,
-         best_other / count * 1e9, best / best_other, count, zero, differ);
-  if (differ) bad = 1;
+  bool slow = best > best_other;
+  printf("%-9s %-10s %8.1f ns  CGAL %8.1f ns  ratio %5.2f  (%d rows, %d of plain value 0, %d differ)%s\n", name, kind, best / count * 1e9,
+         best_other / count * 1e9, best / best_other, count, zero, differ, slow ? "  SLOWER" : "");
+  // the limit: no slower than CGAL
+  if (differ || slow) bad = 1;
 }
 
 static void orientation(const char *name, const char *kind, const Rows &rows, int (*call)(const int64_t *, const int64_t *)) {

@@ -19,7 +19,7 @@ compared() { # COMPILER SAMPLE NAME
   local strict='-std=gnu99 -Wall -Wextra -Werror -O2'
   [ "$3" = insphere ] && strict=${strict%2}0
   case_ "$3 of $2 by $1" 0 'equal' '' "$lnc emit examples/$2.ln >$scratch/it.c && $1 $strict -DCALL=ln_$3 examples/signs.c $scratch/it.c -o $scratch/it &&
-    $lnc run examples/$2.ln $3 $scratch/made.csv | cut -c1 >$scratch/once; $scratch/it <$scratch/made.csv >$scratch/twice;
+    $lnc run examples/$2.ln $3 $scratch/made.csv | cut -c1 >$scratch/once && $scratch/it <$scratch/made.csv >$scratch/twice &&
     cmp $scratch/once $scratch/twice && [ \$(wc -l <$scratch/once) = 600 ] && echo equal"
 }
 echo 'site num { t: -9 .. 9; } predicate f(a: num, b: num) { let d = a.t*b.t; sign a.t - b.t; }' >"$scratch/unused.ln"

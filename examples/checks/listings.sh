@@ -7,10 +7,10 @@ case_ 'the first line of C' 0 '#include <stdint.h>' '' "$lnc emit $orient | head
 case_ 'a listing of nothing' 0 'listing 2' '' "$lnc list $scratch/nothing.ln"
 case_ 'C of nothing' 0 $'#include <stdint.h>\n' '' "$lnc emit $scratch/nothing.ln"
 case_ 'the insphere listed within 10 seconds and 500 MB' 0 'done' '' "ulimit -v 500000; timeout 10 $lnc list $insphere >$scratch/long && tail -1 $scratch/long"
-case_ 'the C of the insphere below 6 MB' 0 'below' '' "$lnc emit $insphere >$scratch/long && [ \$(wc -c <$scratch/long) -lt 6000000 ] && echo below"
+case_ 'the C of the insphere below 6 MB' 0 'below' '' "$lnc emit $insphere >$scratch/long && [ \$(wc -c <$scratch/long) -lt 6000000 ] && [ \$(wc -c <$scratch/long) -gt 100000 ] && echo below"
 for sample in $samples; do
   for command in list emit; do
-    case_ "$command of $sample: the same bytes twice" 0 'same' '' "$lnc $command examples/$sample.ln >$scratch/once && $lnc $command examples/$sample.ln >$scratch/twice && cmp $scratch/once $scratch/twice && echo same"
+    case_ "$command of $sample: the same bytes twice" 0 'same' '' "$lnc $command examples/$sample.ln >$scratch/once && $lnc $command examples/$sample.ln >$scratch/twice && cmp $scratch/once $scratch/twice && [ -s $scratch/once ] && echo same"
   done
 done
 
