@@ -7,3 +7,4 @@ pub mod Summing
 pub mod Rising
 pub mod Ends
 pub mod Joining
+pub mod Behind

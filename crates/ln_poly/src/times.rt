@@ -1,7 +1,7 @@
 //! Products of monomials.
-ghost use Rattle.std.specs.Prelude.{◌≡◌, ℕ, ◌+◌, ◌<◌, IfOk, length, slice_index_or};
+ghost use Rattle.std.specs.Prelude.{◌≡◌, ℕ, ◌+◌, ◌++◌, ◌<◌, IfOk, length, slice_index_or, true};
 ghost use Rattle.ln_tree.specs.Exps.{IsRising, exponent};
-ghost use Rattle.ln_poly.specs.Times.{IsPicked, MayPick};
+ghost use Rattle.ln_poly.specs.Times.{AreLow, IsPicked, MayPick};
 
 use ln_base::NoMemory;
 use ln_tree::Exps;
@@ -59,14 +59,44 @@ fn lowest(a: &[(u8, u8)], b: &[(u8, u8)], i: usize, j: usize) -> Pick
     }
 }
 
-/// The exponents of the product of two monomials.
-pub fn times(alloc: Global, a: &Exps, b: &Exps) -> Result<Exps, NoMemory>
-    requires { (v : ℕ) → exponent v a.now + exponent v b.now < 128 }
+// Is each variable of the first below each of the second?
+fn are_low(a: &[(u8, u8)], b: &[(u8, u8)]) -> bool
+    requires left { IsRising a.now }
+    requires right { IsRising b.now }
+    ensures { result ≡ true → AreLow a.now b.now }
+{
+    let n = a.len();
+    if n == 0 {
+        return true;
+    }
+    let k = b.len();
+    if k == 0 {
+        return true;
+    }
+    a[n - 1].0 < b[0].0
+}
+
+// The pairs of the second behind those of the first.
+fn behind(a: &Exps, b: &[(u8, u8)]) -> Result<Exps, NoMemory>
+    requires low { AreLow a.now b.now }
+    requires rising { IsRising b.now }
+    ensures { IfOk result (λ e. e ≡ a.now ++ b.now) }
+{
+    let mut out = a.copy()?;
+    'pairs: for p in b {
+        out.push(p.0, p.1)?;
+    }
+    Ok(out)
+}
+
+// The pairs of both, merged.
+fn merged(alloc: Global, a: &[(u8, u8)], b: &[(u8, u8)]) -> Result<Exps, NoMemory>
+    requires left { IsRising a.now }
+    requires right { IsRising b.now }
+    requires small { (v : ℕ) → exponent v a.now + exponent v b.now < 128 }
     ensures exponents { IfOk result (λ e. (v : ℕ) → exponent v e ≡ exponent v a.now + exponent v b.now) }
     ensures rising { IfOk result IsRising }
 {
-    let a = a.pairs();
-    let b = b.pairs();
     let mut out = Exps::new(alloc);
     let mut i = 0;
     let mut j = 0;
@@ -76,5 +106,26 @@ pub fn times(alloc: Global, a: &Exps, b: &Exps) -> Result<Exps, NoMemory>
         i = p.i;
         j = p.j;
     }
+    Ok(out)
+}
+
+/// The exponents of the product of two monomials. Where the variables of one are all below those of the other, it is a copy with
+/// the other's pairs behind it.
+pub fn times(alloc: Global, a: &Exps, b: &Exps) -> Result<Exps, NoMemory>
+    requires { (v : ℕ) → exponent v a.now + exponent v b.now < 128 }
+    ensures exponents { IfOk result (λ e. (v : ℕ) → exponent v e ≡ exponent v a.now + exponent v b.now) }
+    ensures rising { IfOk result IsRising }
+{
+    let first = a.pairs();
+    let second = b.pairs();
+    if are_low(first, second) {
+        let out = behind(a, second)?;
+        return Ok(out);
+    }
+    if are_low(second, first) {
+        let out = behind(b, first)?;
+        return Ok(out);
+    }
+    let out = merged(alloc, first, second)?;
     Ok(out)
 }

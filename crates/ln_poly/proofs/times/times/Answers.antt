@@ -1,14 +1,8 @@
-use Rattle.std.proofs.Common.{◌<◌, arith}
-use Rattle.ln_poly.proofs.Sorting.Merging.{merged-small, merged-step, picked-above, picked-small}
+use Rattle.ln_poly.proofs.Sorting.Behind.{behind-exponents, turned-exponents}
 use Rattle.ln_poly.proofs.times.times.Goals as goal
 
-pub push-requires-clause-above : goal.push-requires-clause-above
-push-requires-clause-above c = picked-above _ _ _ _ _ _ _ c.pairs.invariant.low_left c.pairs.invariant.low_right c.lowest-p.ensures.picks
+pub returns-then-are_low-clause-exponents : goal.returns-then-are_low-clause-exponents
+returns-then-are_low-clause-exponents c = behind-exponents _ _ _ (rw c.pairs-second.ensures.value at c.in_ok-out.ensures)
 
-pub push-requires-clause-small : goal.push-requires-clause-small
-push-requires-clause-small c = omega (arith, picked-small _ _ _ _ _ _ c.lowest-p.ensures.picks, merged-small _ _ _ _ _ c.pairs.invariant (rw (c.pairs-a.ensures.value, c.pairs-b.ensures.value) c.requires) c.lowest-p.result.v)
-
-pub pairs-preserved : goal.pairs-preserved
-pairs-preserved c =
-    let small : c.lowest-p.result.e < 128 = omega (arith, picked-small _ _ _ _ _ _ c.lowest-p.ensures.picks, merged-small _ _ _ _ _ c.pairs.invariant (rw (c.pairs-a.ensures.value, c.pairs-b.ensures.value) c.requires) c.lowest-p.result.v) in
-    rw c.in_ok-push.ensures.ok (merged-step _ _ _ _ _ _ _ _ _ c.pairs.invariant c.lowest-p.ensures.picks c.lowest-p.ensures.left c.lowest-p.ensures.right small)
+pub returns-then-are_low-2-clause-exponents : goal.returns-then-are_low-2-clause-exponents
+returns-then-are_low-2-clause-exponents c = turned-exponents _ _ _ (rw c.pairs-first.ensures.value at c.in_ok-out-2.ensures)

@@ -1,6 +1,6 @@
 use Rattle.std.proofs.Common.{length, ◌-◌, ◌+◌}
 use Rattle.ln_poly.specs.Times.{IsMerged}
-use Rattle.ln_poly.proofs.times.times.Given as goal
+use Rattle.ln_poly.proofs.times.merged.Given as goal
 
 abbrev pub invariant-pairs : goal.invariant-pairs
 invariant-pairs l = IsMerged l.out l.a l.b l.i l.j

@@ -1,0 +1,90 @@
+-- Pairs behind others, all of whose variables are lower.
+use Rattle.std.proofs.Common.{◌≡◌, ℕ, ◌+◌, ◌-◌, ◌<◌, ◌≤◌, zero, suc, sym, ◌∙◌, ap, subst, arith, [], ◌∷◌, ◌++◌, length, take, get_or, append_assoc, true, nat_lt}
+use Rattle.std.proofs.lemmas.Bool.Decides.{nat_tests}
+use Rattle.std.proofs.lemmas.List.{take_all, take_more}
+use Rattle.ln_tree.specs.Exps.{AllAbove, IsAbove, IsRising, Pairs, exponent}
+use Rattle.ln_tree.proofs.Powers.{above-at}
+use Rattle.ln_poly.specs.Times.{AreLow}
+
+above-lower : (v w : ℕ) (ps : Pairs) → v < w → AllAbove w ps → AllAbove v ps
+above-lower v w [] h a = tt
+above-lower v w (p ∷ ps) h a = (omega (arith, a.0), above-lower v w ps h a.1)
+
+-- where one has no pair
+pub low-none : (a b : Pairs) → length b ≡ 0 → AreLow a b
+low-none [] b e = tt
+low-none (p ∷ a) [] e = (tt, low-none a [] e)
+low-none (p ∷ a) (q ∷ b) e = absurd (omega (arith, e))
+
+pub none-low : (a b : Pairs) → length a ≡ 0 → AreLow a b
+none-low [] b e = tt
+none-low (p ∷ a) b e = absurd (omega (arith, e))
+
+-- the last of the first is below the first of the second
+low-last : (a b : Pairs) (i : ℕ) → IsRising a → IsRising b → length a ≡ i + 1 → 0 < length b → (get_or a i (0, 0)).0 < (get_or b 0 (0, 0)).0 → AreLow a b
+low-last [] b i r s h k l = tt
+low-last (p ∷ a) [] i r s h k l = absurd (omega arith)
+low-last (p ∷ []) (q ∷ b) zero r s h k l = ((l, above-lower p.0 q.0 b l s.2), tt)
+low-last (p ∷ []) (q ∷ b) (suc i) r s h k l = absurd (omega (arith, h))
+low-last (p ∷ o ∷ a) (q ∷ b) zero r s h k l = absurd (omega (arith, h))
+low-last (p ∷ o ∷ a) (q ∷ b) (suc i) r s h k l =
+    let rest : AreLow (o ∷ a) (q ∷ b) = low-last (o ∷ a) (q ∷ b) i r.3 s (omega (arith, h)) k l in
+    let before : p.0 < q.0 = omega (arith, r.2.0, rest.0.0) in
+    ((before, above-lower p.0 q.0 b before s.2), rest)
+
+low-test : (x y : ℕ) → nat_lt x y ≡ true → x < y
+low-test x y e = grind (arith, nat_tests)
+
+pub low-tested : (a b : Pairs) → IsRising a → IsRising b → 0 < length a → 0 < length b → nat_lt (get_or a (length a - 1) (0, 0)).0 (get_or b 0 (0, 0)).0 ≡ true → AreLow a b
+low-tested a b r s h k t = low-last a b (length a - 1) r s (omega (arith, h)) k (low-test (get_or a (length a - 1) (0, 0)).0 (get_or b 0 (0, 0)).0 t)
+
+-- what is out so far stands below the next pair
+above-more : (a b : Pairs) (i : ℕ) → AreLow a b → IsRising b → i < length b → IsAbove a (get_or b i (0, 0)).0
+above-more [] b i l r h = tt
+above-more (p ∷ a) b i l r h = (above-at p.0 b i h l.0, above-more a b i l.1 r h)
+
+above-take : (ps : Pairs) (i : ℕ) → IsRising ps → i < length ps → IsAbove (take i ps) (get_or ps i (0, 0)).0
+above-take [] i r h = absurd (omega arith)
+above-take (p ∷ ps) zero r h = tt
+above-take (p ∷ ps) (suc i) r h = (above-at p.0 ps i (omega arith) r.2, above-take ps i r.3 (omega arith))
+
+above-append : (a b : Pairs) (v : ℕ) → IsAbove a v → IsAbove b v → IsAbove (a ++ b) v
+above-append [] b v h k = k
+above-append (p ∷ a) b v h k = (h.0, above-append a b v h.1 k)
+
+pub behind-above : (out a b : Pairs) (i : ℕ) → out ≡ a ++ take i b → AreLow a b → IsRising b → i < length b → IsAbove out (get_or b i (0, 0)).0
+behind-above out a b i e l r h = subst (λ z. IsAbove z (get_or b i (0, 0)).0) (sym e) (above-append a (take i b) (get_or b i (0, 0)).0 (above-more a b i l r h) (above-take b i r h))
+
+pub positive-at : (ps : Pairs) (i : ℕ) → IsRising ps → i < length ps → 0 < (get_or ps i (0, 0)).1
+positive-at [] i r h = absurd (omega arith)
+positive-at (p ∷ ps) zero r h = r.0
+positive-at (p ∷ ps) (suc i) r h = positive-at ps i r.3 (omega arith)
+
+pub behind-step : (out out' a b : Pairs) (i : ℕ) → out ≡ a ++ take i b → i < length b → out' ≡ out ++ (get_or b i (0, 0) ∷ []) → out' ≡ a ++ take (i + 1) b
+behind-step out out' a b i e h p =
+    p ∙ ap (λ z. z ++ (get_or b i (0, 0) ∷ [])) e ∙ append_assoc a (take i b) (get_or b i (0, 0) ∷ []) ∙ ap (λ z. a ++ z) (sym (take_more b i (0, 0) h))
+
+pub behind-end : (out a b : Pairs) (i : ℕ) → out ≡ a ++ take i b → length b ≤ i → out ≡ a ++ b
+behind-end out a b i e h = e ∙ ap (λ z. a ++ z) (take_all i b h)
+
+-- ---- the product
+exponent-append : (v : ℕ) (a b : Pairs) → exponent v (a ++ b) ≡ exponent v a + exponent v b
+exponent-append v [] b = omega arith
+exponent-append v (p ∷ a) b = omega (arith, exponent-append v a b)
+
+all-append : (v : ℕ) (a b : Pairs) → AllAbove v a → AllAbove v b → AllAbove v (a ++ b)
+all-append v [] b h k = k
+all-append v (p ∷ a) b h k = (h.0, all-append v a b h.1 k)
+
+rising-append : (a b : Pairs) → IsRising a → IsRising b → AreLow a b → IsRising (a ++ b)
+rising-append [] b r s l = s
+rising-append (p ∷ a) b r s l = (r.0, r.1, all-append p.0 a b r.2 l.0, rising-append a b r.3 s l.1)
+
+pub behind-exponents : (e a b : Pairs) → e ≡ a ++ b → (v : ℕ) → exponent v e ≡ exponent v a + exponent v b
+behind-exponents e a b q v = ap (exponent v) q ∙ exponent-append v a b
+
+pub turned-exponents : (e a b : Pairs) → e ≡ b ++ a → (v : ℕ) → exponent v e ≡ exponent v a + exponent v b
+turned-exponents e a b q v = omega (arith, behind-exponents e b a q v)
+
+pub behind-rising : (e a b : Pairs) → e ≡ a ++ b → IsRising a → IsRising b → AreLow a b → IsRising e
+behind-rising e a b q r s l = subst IsRising (sym q) (rising-append a b r s l)
