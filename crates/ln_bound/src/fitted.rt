@@ -5,7 +5,7 @@ ghost use Rattle.ln_bound.specs.Widths.{limit, least, wider};
 use ln_interval::Pair;
 
 /// How wide a value is: 64 or 128 bits with a sign.
-#[derive(Clone, Copy, Debug, PartialEq, Eq)]
+#[derive(Clone, Copy, Debug, PartialEq, Eq, Hash)]
 pub enum Width {
     W64,
     W128,
@@ -45,7 +45,7 @@ impl Width {
 }
 
 /// The operations on two operands: sum, difference, product.
-#[derive(Clone, Copy, PartialEq, Eq)]
+#[derive(Clone, Copy, PartialEq, Eq, Hash)]
 pub enum Two {
     Plus,
     Minus,

@@ -1,4 +1,5 @@
 -- Equal subtrees, kept in locals.
+pub mod KeyLaws
 pub mod Bounding
 pub mod Numbering
 pub mod Operands

@@ -1,16 +1,16 @@
 //! Distinct subtrees, by number.
-ghost use Rattle.std.specs.Prelude.{◌≡◌, IfOk, IfSome, IsTrue, Some, slice_get};
+ghost use Rattle.std.specs.Prelude.{◌≡◌, IfOk, slice_get};
 ghost use Rattle.ln_interval.specs.View.{range};
 ghost use Rattle.ln_bound.specs.View.{typed};
 ghost use Rattle.ln_lower.specs.Distinct.{Added, Numbered, key, kind_of, operand_or, right_or};
 
-use crate::hints::{Hints, hash_of};
-use ln_base::{NoMemory, Seq};
+use crate::keys::Keys;
+use ln_base::NoMemory;
 use ln_bound::{FitOp, Fitted, Two, Width};
 use std::alloc::Global;
 
 /// A subtree by its root: its operation over the numbers of its operands, the two ends of its range, and its width.
-#[derive(Clone, Copy)]
+#[derive(Clone, Copy, PartialEq, Eq, Hash)]
 pub(crate) struct Key {
     pub(crate) op: KeyOp,
     pub(crate) low: i128,
@@ -19,7 +19,7 @@ pub(crate) struct Key {
 }
 
 /// A number, a variable, a let, or an operation on subtrees of these numbers.
-#[derive(Clone, Copy)]
+#[derive(Clone, Copy, PartialEq, Eq, Hash)]
 pub(crate) enum KeyOp {
     Number(i128),
     Variable(u8),
@@ -29,130 +29,64 @@ pub(crate) enum KeyOp {
     Raised(usize, u8),
 }
 
-// Are the two operations one?
-fn is_same_op(a: KeyOp, b: KeyOp) -> bool
-    ensures { IsTrue result → a ≡ b }
-{
-    match a {
-        KeyOp::Number(c) => match b {
-            KeyOp::Number(d) => c == d,
-            _ => false,
-        },
-        KeyOp::Variable(v) => match b {
-            KeyOp::Variable(w) => v == w,
-            _ => false,
-        },
-        KeyOp::Name(i) => match b {
-            KeyOp::Name(j) => i == j,
-            _ => false,
-        },
-        KeyOp::Opposite(x) => match b {
-            KeyOp::Opposite(y) => x == y,
-            _ => false,
-        },
-        KeyOp::Both(kind, x, y) => match b {
-            KeyOp::Both(other, z, w) => is_same_kind(kind, other) && x == z && y == w,
-            _ => false,
-        },
-        KeyOp::Raised(x, m) => match b {
-            KeyOp::Raised(y, n) => x == y && m == n,
-            _ => false,
-        },
-    }
-}
-
-fn is_same_kind(a: Two, b: Two) -> bool
-    ensures { IsTrue result → a ≡ b }
-{
-    match a {
-        Two::Plus => b == Two::Plus,
-        Two::Minus => b == Two::Minus,
-        Two::Times => b == Two::Times,
-    }
-}
-
-fn is_same_width(a: Width, b: Width) -> bool
-    ensures { IsTrue result → a ≡ b }
-{
-    match a {
-        Width::W64 => b == Width::W64,
-        Width::W128 => b == Width::W128,
-    }
-}
-
-// Are the two subtrees one?
-fn is_same(a: Key, b: Key) -> bool
-    ensures { IsTrue result → a ≡ b }
-{
-    is_same_op(a.op, b.op) && a.low == b.low && a.high == b.high && is_same_width(a.width, b.width)
-}
-
 /// Subtrees, no two of them equal, each behind its operands, with the places at which each is used.
 #[derive(Drop)]
 pub(crate) struct Distinct {
-    pub(crate) keys: Seq<Key>,
-    pub(crate) hints: Hints,
+    pub(crate) keys: Keys,
+    places: Vec<u8>,
 }
 
 impl Distinct {
     /// No subtrees.
     pub(crate) fn new(alloc: Global) -> Result<Distinct, NoMemory> {
-        let keys = Vec::with_capacity(alloc, 32)?;
         Ok(Distinct {
-            keys: Seq::from_vec(keys),
-            hints: Hints::new(alloc),
+            keys: Keys::new(alloc)?,
+            places: Vec::new(alloc),
         })
-    }
-
-    // The number of a subtree that is there, given its hash.
-    fn find(&self, hash: u64, key: &Key) -> Option<usize>
-        ensures { IfSome result (λ k. slice_get self.now.keys k ≡ Some key.now) }
-    {
-        let mut next = self.hints.first(hash);
-        for _ in 0..self.keys.len() {
-            let k = next?;
-            if self.is_at(k, key) {
-                return Some(k);
-            }
-            next = self.hints.next(k);
-        }
-        None
-    }
-
-    // Is this the subtree with number k?
-    fn is_at(&self, k: usize, key: &Key) -> bool
-        ensures { IsTrue result → slice_get self.now.keys k ≡ Some key.now }
-    {
-        match self.keys.get(k) {
-            Some(x) => is_same(*x, *key),
-            None => false,
-        }
     }
 
     // The number of a subtree, a new one where it isn't there.
     fn add(&mut self, key: Key) -> Result<usize, NoMemory>
         ensures { IfOk result (λ k. Added self.old.keys self.new.keys k key) }
     {
-        let hash = hash_of(key.op);
-        if let Some(k) = self.find(hash, &key) {
-            return Ok(k);
+        let (k, is_new) = self.keys.insert(key)?;
+        if is_new {
+            self.note(key.op)?;
         }
-        let k = self.keys.len();
-        self.hints.note(hash, key.op, k)?;
-        self.keys.push(key)?;
         Ok(k)
+    }
+
+    // Notes a new subtree with this operation, and one place more of each of its operands.
+    fn note(&mut self, op: KeyOp) -> Result<(), NoMemory>
+        ensures { self.new.keys ≡ self.old.keys }
+    {
+        match op {
+            KeyOp::Opposite(a) | KeyOp::Raised(a, _) => self.place(a),
+            KeyOp::Both(_, a, b) => {
+                self.place(a);
+                self.place(b);
+            }
+            KeyOp::Number(_) | KeyOp::Variable(_) | KeyOp::Name(_) => {}
+        }
+        self.places.push(0)?;
+        Ok(())
     }
 
     /// Notes one place more of a subtree.
     pub(crate) fn place(&mut self, k: usize)
         ensures { self.new.keys ≡ self.old.keys }
     {
-        self.hints.place(k);
+        if let Some(places) = self.places.get_mut(k) {
+            *places = places.saturating_add(1);
+        }
     }
 
     /// Is a subtree used at two or more places?
     pub(crate) fn is_shared(&self, k: usize) -> bool {
-        self.hints.is_shared(k)
+        match self.places.get(k) {
+            Some(places) => *places > 1,
+            None => false,
+        }
     }
 
     /// The number of the operand, of two the left one.

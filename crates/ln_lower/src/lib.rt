@@ -7,6 +7,6 @@
 pub mod blocks;
 pub(crate) mod distinct;
 pub(crate) mod draft;
-pub(crate) mod hints;
+pub(crate) mod keys;
 
 pub use blocks::lower;
