@@ -1,7 +1,7 @@
 //! Places in a source.
 
 /// A stretch of a source's bytes: from byte `start` up to byte `end`, counted from 0; `end` is past the last.
-#[derive(Clone, Copy, PartialEq, Eq)]
+#[derive(Clone, Copy, PartialEq, Eq, Debug)]
 pub struct Span {
     pub start: u32,
     pub end: u32,

@@ -2,7 +2,7 @@
 use ln_base::Span;
 
 /// A limit of the language. Those of tokens and nesting are tested before names are.
-#[derive(Clone, Copy, PartialEq, Eq)]
+#[derive(Clone, Copy, PartialEq, Eq, Debug)]
 pub enum LimitWhat {
     /// 65,536 tokens of a source.
     Tokens,
@@ -35,7 +35,7 @@ pub enum LimitWhat {
 }
 
 /// What is wrong with a name.
-#[derive(Clone, Copy, PartialEq, Eq)]
+#[derive(Clone, Copy, PartialEq, Eq, Debug)]
 pub enum NameWhat {
     /// An earlier one of its kind has it.
     Twice,

@@ -11,6 +11,8 @@ mod filter;
 #[cfg(test)]
 mod lower;
 #[cfg(test)]
+mod refusal;
+#[cfg(test)]
 mod rows;
 #[cfg(test)]
 mod watch;
