@@ -1,5 +1,7 @@
 -- Records of a text, one behind the other.
 pub mod FirstLemmas
-pub mod ScanLemmas
+pub mod MachineLemmas
 pub mod PlainLemmas
+pub mod LineLemmas
+pub mod ReaderLemmas
 pub mod RowsLemmas

@@ -1,9 +1,14 @@
 -- The records of bytes in memory.
-use Rattle.std.specs.Prelude.{◌≡◌, ◌⊎◌, ℕ, ◌∷◌, Bool, true, false, List, [], Option, Some}
+use Rattle.std.specs.Prelude.{◌≡◌, ◌⊎◌, ℕ, ◌<◌, ◌^◌, ◌+◌, ◌∷◌, Bool, true, false, List, [], length, take, if◌then◌else◌, Option, Some, None, unwrap_or}
+use denote.Ref.{Bor}
+use Rattle.std.specs.Io.Chain.{chain_remaining}
+use Rattle.std.specs.declared.io.traits.Chain.{Chain}
 use Rattle.csv.specs.Machine.{Read, next_record}
-use Rattle.csv.specs.Reading.{records, default_config, strip_bom}
+use Rattle.csv.specs.Reading.{records, records_from, default_config, strip_bom, Ready, source_of, has_failed, is_flexible, reader_config, reader_trim, reader_state}
 use Rattle.csv.specs.declared.parser.State.{State}
 use Rattle.csv.specs.declared.parser.State.TheVariants as st
+use Rattle.csv.specs.declared.reader.Reader.{Reader}
+use Rattle.csv.specs.declared.reader.Trim.TheVariants as trim
 
 -- records, each with the bytes of its fields
 abbrev pub Records : Type 0
@@ -35,3 +40,46 @@ pub record Gives (text : List ℕ) (fields : List (List ℕ)) (rest : List ℕ) 
 abbrev pub Takes : Bool → Records → Records → List (List ℕ) → Type 0
 Takes true old new fields = old ≡ fields ∷ new
 Takes false old new fields = old ≡ []
+
+-- a read takes the next record and keeps the first of its fields, at most so many; or there is none
+pub record TakesFirst (most : ℕ) (old new : Records) (kept : List (List ℕ)) : Type 0 where
+  pub fields : List (List ℕ)
+  pub next : old ≡ fields ∷ new
+  pub first : kept ≡ take most fields
+  pub few : length fields < 2 ^ 64
+
+abbrev pub TakesWithin : ℕ → Bool → Records → Records → List (List ℕ) → Type 0
+TakesWithin most true old new kept = TakesFirst most old new kept
+TakesWithin most false old new kept = old ≡ []
+
+-- what a reader of csv's reads here: bytes in memory behind others
+abbrev pub Source : Type 0
+Source = Chain (Bor (List ℕ)) (Bor (List ℕ))
+
+abbrev pub bytes_of : Source → Option (List ℕ)
+bytes_of = chain_remaining (λ s. Some s.now) (λ s. Some s.now)
+
+-- the records of the bytes that a reader of csv's has left, from the state in which it stands; none where it has failed
+abbrev pub reader_bytes : Reader Source → List ℕ
+reader_bytes r = unwrap_or (source_of bytes_of r) []
+
+abbrev pub reader_records : Reader Source → Records
+reader_records r = if has_failed r then [] else records_from default_config (length (reader_bytes r) + 1) (reader_state r) (reader_bytes r)
+
+-- a reader with csv's default settings, but for lengths, which may differ; its next read gives a record as it stands in the bytes, which
+-- are known
+pub record IsReading (r : Reader Source) : Type 0 where
+  pub config : reader_config r ≡ default_config
+  pub trim : reader_trim r ≡ trim.None
+  pub flexible : is_flexible r ≡ true
+  pub ready : Ready r
+  pub bytes : List ℕ
+  pub known : source_of bytes_of r ≡ Some bytes
+
+abbrev pub MayRead : Reader Source → Type 0
+MayRead r = has_failed r ≡ false → IsReading r
+
+-- the records that are left: those of the bytes while no record had a quote, and then those of the reader
+abbrev pub left_of : List ℕ → Option Records → Records
+left_of rest None = records_of rest
+left_of rest (Some records) = records

@@ -1,6 +1,6 @@
 pub mod Number
 pub mod Record
 pub mod Left
-pub mod Scan
+pub mod Line
 pub mod Plain
 pub mod Columns

@@ -5,7 +5,7 @@ use Rattle.std.specs.Char.{is_ascii_digit}
 use Rattle.ln_base.specs.Decimal.{decimal_value}
 use Rattle.ln_tree.specs.declared.shape.VarInfo.{VarInfo}
 use Rattle.ln_code.specs.declared.row.Row.{Row}
-use Rattle.ln_rows.specs.Left.{Gives}
+use Rattle.ln_rows.specs.Left.{Records, Gives}
 use Rattle.ln_rows.specs.Number.{within, number_in}
 use Rattle.ln_rows.specs.Record.{columns, IsRead}
 
@@ -72,3 +72,14 @@ pub record IsPlainRow (vars : List VarInfo) (text rest : List ℕ) (r : Row) : T
   pub gives : Gives text fields rest
   pub size : length fields ≡ length (columns vars)
   pub read : IsRead vars fields r
+
+-- the next record is taken, which is such a row
+pub record TakenRow (vars : List VarInfo) (old new : Records) (r : Row) : Type 0 where
+  pub fields : List (List ℕ)
+  pub next : old ≡ fields ∷ new
+  pub size : length fields ≡ length (columns vars)
+  pub read : IsRead vars fields r
+
+abbrev pub TakesPlainRow : List VarInfo → Bool → Records → Records → Row → Type 0
+TakesPlainRow vars true old new r = TakenRow vars old new r
+TakesPlainRow vars false old new r = new ≡ old

@@ -1,15 +1,17 @@
 //! Rows files: CSV whose first record names the columns of a predicate. `Rows` gives the records, in order: its `header` compares
 //! the first one with the columns' names, and its `next_row` reads each other one: exactly the row that it says, which is in range,
-//! or the first fault that it has. Where the fields of a record are plain numbers they are read right from the bytes (`plain`), and
-//! else byte by byte by csv's own definition (`scan`), as much of the record as it takes.
+//! or the first fault that it has. Records without quotes are read right from the bytes: rows of plain numbers by `plain`, any
+//! other by `line`, which keeps no more fields than it takes. From the first record with a quote on csv's own reader reads (`quoted`).
 #![tactic(auto)]
 
+mod left;
+mod line;
 pub mod names;
 pub mod numbers;
 mod plain;
+mod quoted;
 pub mod record;
 pub mod rows;
-mod scan;
 
 pub use names::{column, header};
 pub use numbers::{NumberStop, number};

@@ -79,8 +79,8 @@ fn line_end(text: &[u8]) -> Option<&[u8]>
     }
 }
 
-// What is behind the end of a record.
-fn past_end(text: &[u8]) -> Option<&[u8]>
+/// What is behind the end of a record.
+pub(crate) fn past_end(text: &[u8]) -> Option<&[u8]>
     ensures { IfSome result (λ rest. PastEnd text.now rest.now) }
 {
     if text.is_empty() {

@@ -73,3 +73,55 @@ fn records_come_in_order(rt: HostRuntime) -> Result<(), Fail> {
     assert!(rt; have_fields(&mut rows, &mut record, &[1, 2])?);
     Ok(())
 }
+
+const RECORDS: &[(&[u8], &[&[&[u8]]])] = &[
+    (b"a,\"b,c\"\nd,e\n", &[&[b"a", b"b,c"], &[b"d", b"e"]]),
+    (
+        b"a,b\r\n\"c\"\"d\",\re",
+        &[&[b"a", b"b"], &[b"c\"d", b""], &[b"e"]],
+    ),
+    (b"\n\"a\nb\",c\n\nd", &[&[b"a\nb", b"c"], &[b"d"]]),
+    (b"\n\"\"\n,", &[&[b""], &[b"", b""]]),
+    // A quote within a field is a byte of it, and so is what would be a byte order mark at the start of the file.
+    (
+        b"\xEF\xBB\xBF\"a\"\n\xEF\xBB\xBF\"b\n",
+        &[&[b"a"], &[b"\xEF\xBB\xBF\"b"]],
+    ),
+    (
+        b"a\n\xEF\xBB\xBF\"b,c\n",
+        &[&[b"a"], &[b"\xEF\xBB\xBF\"b", b"c"]],
+    ),
+];
+
+/// Has the record these fields?
+fn has_fields(record: &ByteRecord, fields: &[&[u8]]) -> bool {
+    let mut same = record.len() == fields.len();
+    for (i, field) in fields.iter().enumerate() {
+        same = same && record.get(i) == Some(*field);
+    }
+    same
+}
+
+/// Are these the records of the text?
+fn are_records(
+    rows: &mut Rows<'_>,
+    record: &mut ByteRecord,
+    records: &[&[&[u8]]],
+) -> Result<bool, NoMemory> {
+    for fields in records {
+        if !rows.next(record)? || !has_fields(record, fields) {
+            return Ok(false);
+        }
+    }
+    Ok(!rows.next(record)? && !rows.next(record)?)
+}
+
+#[test]
+fn records_have_their_fields_with_quotes_or_without(rt: HostRuntime) -> Result<(), Fail> {
+    let mut record = ByteRecord::new(rt.alloc());
+    for (text, records) in RECORDS {
+        let mut rows = Rows::new(rt.alloc(), text);
+        assert!(rt; are_records(&mut rows, &mut record, records)?);
+    }
+    Ok(())
+}

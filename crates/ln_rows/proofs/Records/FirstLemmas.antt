@@ -1,5 +1,5 @@
 -- The first record of a text, and the records behind it.
-use Rattle.std.proofs.Common.{◌≡◌, ℕ, zero, suc, ◌+◌, ◌<◌, ◌≤◌, Bool, true, false, List, [], ◌∷◌, ◌++◌, length, Option, Some, None, refl, ap, ◌∙◌, subst, arith, add-one, cond, inl, inr, length-append}
+use Rattle.std.proofs.Common.{◌≡◌, ℕ, zero, suc, ◌+◌, ◌<◌, ◌≤◌, Bool, true, false, List, [], ◌∷◌, ◌++◌, length, Option, Some, None, refl, ap, sym, ◌∙◌, subst, arith, add-one, cond, inl, inr, length-append}
 use Rattle.std.specs.Prelude.{IfSome, ◌||◌, ◌==◌}
 use Rattle.csv.specs.Machine.{Read, next_record, step, start_field, is_end, fields_after, field_after, ends_at_end}
 use Rattle.csv.specs.Reading.{records_from, records_next, default_config}
@@ -85,18 +85,30 @@ records_between (suc n) s xs (inr e) = rw (e, behind_return xs) refl
 if_first : (o : Option Read) (p : Read) (P : Read → Type 0) → o ≡ Some p → IfSome o P → P p
 if_first o p P e h = subst (λ (q : Option Read). IfSome q P) e h
 
--- the first record, and those of what is left behind it
-pub gives_records : (text : List ℕ) (fields : List (List ℕ)) (rest : List ℕ) → Gives text fields rest → records_of text ≡ fields ∷ records_of rest
+-- the first record from a state, and those of what is left behind it
+pub next_gives : (s : State) (xs : List ℕ) (p : Read) → next_record default_config s [] [] xs ≡ Some p → records_from default_config (length xs + 1) s xs ≡ p.0 ∷ records_from default_config (length p.2 + 1) p.1 p.2
 unfolding records_from
-gives_records text fields rest g =
-    let p : Read = (fields, g.state, rest) in
-    let left : records_from default_config (length text) g.state rest ≡ records_from default_config (length rest + 1) g.state rest = next_left text p (if_first (first_of text) p (λ q. IsShorter text q) g.first (shorter st.StartRecord [] [] text)) in
-    rw (add-one (length text), g.first) (ap (λ (q : Records). fields ∷ q) (left ∙ records_between (length rest + 1) g.state rest g.between))
+next_gives s xs p e =
+    rw (add-one (length xs), e) (ap (λ (q : Records). p.0 ∷ q) (next_left xs p (if_first (next_record default_config s [] [] xs) p (λ q. IsShorter xs q) e (shorter s [] [] xs))))
+
+pub next_none : (s : State) (xs : List ℕ) → next_record default_config s [] [] xs ≡ None → records_from default_config (length xs + 1) s xs ≡ []
+unfolding records_from
+next_none s xs e = rw (add-one (length xs), e) refl
+
+-- the first record of a text
+pub gives_records : (text : List ℕ) (fields : List (List ℕ)) (rest : List ℕ) → Gives text fields rest → records_of text ≡ fields ∷ records_of rest
+gives_records text fields rest g = next_gives st.StartRecord text (fields, g.state, rest) g.first ∙ ap (λ (q : Records). fields ∷ q) (records_between (length rest + 1) g.state rest g.between)
 
 -- no first record, no records
 pub none_records : (text : List ℕ) → first_of text ≡ None → records_of text ≡ []
-unfolding records_from
-none_records text e = rw (add-one (length text), e) refl
+none_records text e = next_none st.StartRecord text e
+
+-- one first record, the same records
+pub same_first : (a b : List ℕ) → first_of a ≡ first_of b → records_of a ≡ records_of b
+same_first a b e = by (first_of b) refl where
+  by : (o : Option Read) → first_of b ≡ o → records_of a ≡ records_of b
+  by None f = none_records a (e ∙ f) ∙ sym (none_records b f)
+  by (Some p) f = next_gives st.StartRecord a p (e ∙ f) ∙ sym (next_gives st.StartRecord b p f)
 
 -- a record has no more fields than the text has bytes, and one
 count : (s : State) (all : List (List ℕ)) (field xs : List ℕ) → IfSome (next_record default_config s all field xs) (λ p. length p.0 ≤ length all + length xs + 1)

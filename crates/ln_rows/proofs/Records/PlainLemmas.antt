@@ -18,7 +18,7 @@ use Rattle.ln_rows.specs.Left.{first_of, IsBetween}
 use Rattle.ln_rows.specs.Number.{within}
 use Rattle.ln_rows.specs.Plain.{HasDigits, HasSigned, IsInner, AreInner, HasNumber, PastFeed, PastEnd}
 use Rattle.ln_rows.proofs.Records.FirstLemmas.{past_feed, past_return}
-use Rattle.ln_rows.proofs.Records.ScanLemmas.{moves, comes_out, at_end}
+use Rattle.ln_rows.proofs.Records.MachineLemmas.{moves, comes_out, at_end}
 
 -- a state in which a field begins
 abbrev pub IsFresh : State → Type 0

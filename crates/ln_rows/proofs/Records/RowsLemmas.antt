@@ -1,17 +1,18 @@
 -- What is left behind a record, and what a few of its fields say.
-use Rattle.std.proofs.Common.{◌≡◌, ◌≢◌, ℕ, ◌+◌, ◌-◌, ◌^◌, ◌<◌, ◌≤◌, min, Bool, List, [], ◌∷◌, length, get_or, take, drop, Option, Some, None, Ok, Err, refl, ap, sym, subst, ◌∙◌, arith, inl, inr}
-use Rattle.std.specs.Prelude.{if◌then◌else◌, ◌⊎◌, Result, IfSome}
-use Rattle.std.proofs.lemmas.Bool.{cases_lt}
+use Rattle.std.proofs.Common.{◌≡◌, ◌≢◌, ℕ, ◌+◌, ◌-◌, ◌^◌, ◌<◌, ◌≤◌, min, Bool, List, [], ◌∷◌, length, get_or, take, drop, Option, Some, None, Ok, Err, refl, ap, sym, subst, ◌∙◌, arith, inl, inr, true, false, true≢false}
+use Rattle.std.specs.Prelude.{if◌then◌else◌, ◌⊎◌, ◌==◌, Result, is_some}
+use Rattle.std.proofs.lemmas.Bool.{cases_lt, eqb-true}
 use Rattle.std.proofs.lemmas.List.{take_all, length-take}
 use Rattle.csv.specs.Machine.{next_record}
 use Rattle.csv.specs.Reading.{is_bom, strip_bom}
 use Rattle.ln_tree.specs.declared.shape.VarInfo.{VarInfo}
 use Rattle.ln_code.specs.declared.row.Row as code
-use Rattle.ln_rows.specs.Left.{Records, records_of, first_of, Gives}
+use Rattle.ln_rows.specs.Left.{Records, records_of, first_of, left_of, Gives, Takes, TakesFirst, TakesWithin}
+use Rattle.ln_rows.specs.Plain.{IsPlainRow, TakenRow}
 use Rattle.ln_rows.specs.Record.{columns, read_row, IsReadAs}
 use Rattle.ln_rows.specs.declared.record.RowStop.{RowStop}
 use Rattle.ln_rows.proofs.Fields.ExactLemmas.{not_fields}
-use Rattle.ln_rows.proofs.Records.FirstLemmas.{gives_records, few_fields, none_records}
+use Rattle.ln_rows.proofs.Records.FirstLemmas.{gives_records, few_fields, none_records, same_first}
 
 first_none : first_of [] ≡ None
 unfolding next_record
@@ -20,10 +21,6 @@ first_none = refl
 -- no bytes, no records
 pub no_records : records_of [] ≡ []
 no_records = none_records [] first_none
-
--- what some call gives, by what it is
-pub from_some : {X : Type 0} (o : Option X) (x : X) (P : X → Type 0) → IfSome o P → o ≡ Some x → P x
-from_some {X = X} o x P h e = subst (λ (q : Option X). IfSome q P) e h
 
 -- the first record behind what counts for nothing
 pub gives_past : (a b : List ℕ) (fields : List (List ℕ)) (rest : List ℕ) → first_of a ≡ first_of b → Gives b fields rest → Gives a fields rest
@@ -44,43 +41,82 @@ mark_by (a ∷ []) m h e = absurd (omega (arith, h))
 mark_by (a ∷ b ∷ []) m h e = absurd (omega (arith, h))
 mark_by (a ∷ b ∷ c ∷ rest) m h e = ap (λ (t : Bool). if t then rest else a ∷ b ∷ c ∷ rest) (sym e)
 
--- all the fields are kept where there is room for as many as bytes, and one
-pub all_kept : (text : List ℕ) (all kept : List (List ℕ)) (rest : List ℕ) → Gives text all rest → kept ≡ take (length text + 1) all → kept ≡ all
-all_kept text all kept rest g k = k ∙ take_all (length text + 1) all (few_fields text all rest g)
+-- while no record had a quote, the records left are those of the bytes
+pub none_quoted : (rest : List ℕ) (o : Option Records) → is_some o ≡ false → left_of rest o ≡ records_of rest
+none_quoted rest None h = refl
+none_quoted rest (Some r) h = absurd (true≢false h)
 
-pub next_takes : (text : List ℕ) (all kept : List (List ℕ)) (rest : List ℕ) → Gives text all rest → kept ≡ take (length text + 1) all → records_of text ≡ kept ∷ records_of rest
-next_takes text all kept rest g k = gives_records text all rest g ∙ ap (λ (f : List (List ℕ)). f ∷ records_of rest) (sym (all_kept text all kept rest g k))
+-- a row of plain numbers is taken
+pub row_taken : (vars : List VarInfo) (old : Records) (o : Option Records) (text behind rest : List ℕ) (r : code.Row) → left_of text o ≡ old → is_some o ≡ false → first_of text ≡ first_of behind → IsPlainRow vars behind rest r → TakenRow vars old (left_of rest o) r
+row_taken vars old o text behind rest r view none same h = record {
+  fields = h.fields;
+  next = sym view ∙ none_quoted text o none ∙ gives_records text h.fields rest (gives_past text behind h.fields rest same h.gives) ∙ ap (λ (rs : Records). h.fields ∷ rs) (sym (none_quoted rest o none));
+  size = h.size;
+  read = h.read;
+}
+
+pub no_bytes : (xs : List ℕ) → (length xs == 0) ≡ true → xs ≡ []
+no_bytes [] h = refl
+no_bytes (x ∷ xs) h = absurd (omega (arith, eqb-true (length (x ∷ xs)) 0 h))
+
+-- no bytes but line ends are left
+pub left_ends : (old : Records) (o : Option Records) (rest text : List ℕ) → left_of rest o ≡ old → o ≡ None → first_of rest ≡ first_of text → text ≡ [] → old ≡ []
+left_ends old o rest text view none same e = sym view ∙ ap (left_of rest) none ∙ none_records rest (same ∙ ap first_of e ∙ first_none)
+
+-- a record without quotes is taken
+pub left_takes : (most : ℕ) (old : Records) (o : Option Records) (rest text more : List ℕ) (kept : List (List ℕ)) → left_of rest o ≡ old → o ≡ None → first_of rest ≡ first_of text → length text + 1 < 2 ^ 64
+    → (all : List (List ℕ)) × Gives text all more × (kept ≡ take most all) → TakesFirst most old (left_of more o) kept
+left_takes most old o rest text more kept view none same small t = record {
+  fields = t.0;
+  next = sym view ∙ ap (left_of rest) none ∙ gives_records rest t.0 more (gives_past rest text t.0 more same t.1) ∙ ap (λ (p : Option Records). t.0 ∷ left_of more p) (sym none);
+  first = t.2;
+  few = let few = few_fields text t.0 more t.1 in omega (arith, few, small);
+}
+
+-- csv's own reader takes the next record
+pub left_reads : (most : ℕ) (found : Bool) (old quoted new : Records) (o : Option Records) (rest text : List ℕ) (kept : List (List ℕ)) → left_of rest o ≡ old → o ≡ None → first_of rest ≡ first_of text → quoted ≡ records_of text
+    → TakesWithin most found quoted new kept → TakesWithin most found old new kept
+left_reads most found old quoted new o rest text kept view none same q t =
+    subst (λ (rs : Records). TakesWithin most found rs new kept) (q ∙ sym (same_first rest text same) ∙ ap (left_of rest) (sym none) ∙ view) t
+
+-- what a read of some fields takes
+pub takes_none : (most : ℕ) (found : Bool) (old new : Records) (kept : List (List ℕ)) → TakesWithin most found old new kept → found ≡ false → old ≡ []
+takes_none most false old new kept t e = t
+takes_none most true old new kept t e = absurd (true≢false e)
+
+pub takes_some : (most : ℕ) (found : Bool) (old new : Records) (kept : List (List ℕ)) → TakesWithin most found old new kept → found ≡ true → TakesFirst most old new kept
+takes_some most true old new kept t e = t
+takes_some most false old new kept t e = absurd (true≢false (sym e))
+
+pub takes_all : (most : ℕ) (found : Bool) (old new : Records) (kept : List (List ℕ)) → TakesWithin most found old new kept → most ≡ 2 ^ 64 - 1 → Takes found old new kept
+takes_all most false old new kept t e = t
+takes_all most true old new kept t e =
+    let few : length t.fields ≤ most = omega (arith, t.few, e) in
+    t.next ∙ ap (λ (fs : List (List ℕ)). fs ∷ new) (sym (t.first ∙ take_all most t.fields few))
 
 -- the first fields are the names just where all are
-pub names_cut : (text : List ℕ) (all kept names : List (List ℕ)) (rest : List ℕ) (most room : ℕ) → Gives text all rest → kept ≡ take most all → room ≡ min (length names + 1) (2 ^ 64 - 1) → most ≡ min room (length text + 1) → length text + 1 < 2 ^ 64 - 1
-    → (kept ≡ names → all ≡ names) × (all ≡ names → kept ≡ names)
-names_cut text all kept names rest most room g k r m s = (λ e. one e, λ e. two e) where
-  few : length all ≤ length text + 1
-  few = few_fields text all rest g
-
+pub names_cut : (all kept names : List (List ℕ)) (most : ℕ) → kept ≡ take most all → most ≡ min (length names + 1) (2 ^ 64 - 1) → length all < 2 ^ 64 → (kept ≡ names → all ≡ names) × (all ≡ names → kept ≡ names)
+names_cut all kept names most k r few = (λ e. one e, λ e. two e) where
   one : kept ≡ names → all ≡ names
   one e =
       let size : min most (length all) ≡ length names = sym (length-take most all) ∙ ap length (sym k ∙ e) in
-      let small : length all ≤ most = omega (arith, size, r, m, s, few) in
+      let small : length all ≤ most = omega (arith, size, r, few) in
       sym (take_all most all small) ∙ sym k ∙ e
 
   two : all ≡ names → kept ≡ names
   two e =
       let size : length all ≡ length names = ap length e in
-      let small : length all ≤ most = omega (arith, size, r, m, s, few) in
+      let small : length all ≤ most = omega (arith, size, r, few) in
       k ∙ take_all most all small ∙ e
 
--- the header is right or wrong
-pub header_right : (text : List ℕ) (all names : List (List ℕ)) (rest : List ℕ) → Gives text all rest → all ≡ names → records_of text ≡ names ∷ records_of rest
-header_right text all names rest g e = gives_records text all rest g ∙ ap (λ (f : List (List ℕ)). f ∷ records_of rest) e
-
-pub header_wrong : (text : List ℕ) (all names : List (List ℕ)) (rest : List ℕ) (others : Records) → Gives text all rest → (all ≡ names → ⊥) → records_of text ≡ names ∷ others → ⊥
-header_wrong text all names rest others g ne e = ne (first_same (sym (gives_records text all rest g) ∙ e)) where
+-- a first record that isn't the header
+pub not_header : (all names : List (List ℕ)) (old new others : Records) → old ≡ all ∷ new → (all ≡ names → ⊥) → old ≡ names ∷ others → ⊥
+not_header all names old new others o ne e = ne (first_same (sym o ∙ e)) where
   first_same : {x y : List (List ℕ)} {xs ys : Records} → x ∷ xs ≡ y ∷ ys → x ≡ y
   first_same {x = x} q = ap (λ (zs : Records). elim zs [ [] ↦ x | z ∷ r ↦ z ]) q
 
-pub header_none : (text : List ℕ) (names : List (List ℕ)) (others : Records) → first_of text ≡ None → records_of text ≡ names ∷ others → ⊥
-header_none text names others n e = nil_cons (sym (none_records text n) ∙ e) where
+pub no_header : (names : List (List ℕ)) (old others : Records) → old ≡ [] → old ≡ names ∷ others → ⊥
+no_header names old others n e = nil_cons (sym n ∙ e) where
   nil_cons : {x : List (List ℕ)} {xs : Records} → [] ≡ x ∷ xs → ⊥
   nil_cons q = absurd (cc)
 

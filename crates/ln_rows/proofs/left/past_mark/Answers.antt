@@ -1,7 +1,7 @@
 use Rattle.std.proofs.Common.{true, false, rules, sym, ◌∙◌}
 use Rattle.std.proofs.lemmas.List.{take_rest}
 use Rattle.ln_rows.proofs.Records.RowsLemmas.{no_mark, mark_by}
-use Rattle.ln_rows.proofs.rows.past_mark.Goals as goal
+use Rattle.ln_rows.proofs.left.past_mark.Goals as goal
 
 pub returns-then-bytes-lt3 : goal.returns-then-bytes-lt3
 returns-then-bytes-lt3 c = sym (no_mark _ (search rules))

@@ -1,0 +1,60 @@
+//! Records by csv's own reader.
+ghost use Rattle.std.specs.Prelude.{◌≡◌, [], ◌∷◌, IfOk};
+ghost use Rattle.csv.specs.Records.{fields_of};
+ghost use Rattle.ln_rows.specs.Left.{records_of, TakesWithin};
+
+use csv::{ByteRecord, Reader, ReaderBuilder};
+use ln_base::NoMemory;
+use std::alloc::Global;
+use std::io::{Chain, Read};
+use std::marker::Model;
+
+/// The records of bytes in memory as csv's own reader gives them, with its default settings but for lengths, which may differ.
+#[derive(Drop)]
+pub(crate) struct Quoted<'a> {
+    reader: Reader<Chain<&'static [u8], &'a [u8]>>,
+}
+
+impl<'a> Model for Quoted<'a> {
+    ghost use Rattle.ln_rows.specs.Left.{Records, reader_records, MayRead};
+
+    ghost Value = { Records };
+
+    ghost view = { λ q. reader_records q.reader };
+
+    ghost invariant = { λ q. MayRead q.reader };
+}
+
+fn line_end() -> &'static [u8]
+    ensures { result.now ≡ 10 ∷ [] }
+{
+    b"\n"
+}
+
+impl<'a> Quoted<'a> {
+    /// The records of these bytes. A line end is put before them, which begins no record, since the reader takes a byte order mark off the
+    /// start of its bytes. An empty header is set, for which the reader reads and keeps none.
+    pub(crate) fn new(alloc: Global, bytes: &'a [u8]) -> Result<Quoted<'a>, NoMemory>
+        ensures { IfOk result (λ q. q ≡ records_of bytes.now) }
+    {
+        let mut reader = ReaderBuilder::new()
+            .flexible(true)
+            .from_reader(alloc, line_end().chain(bytes));
+        match reader.set_byte_headers(ByteRecord::new(alloc)) {
+            Ok(()) => Ok(Quoted { reader }),
+            Err(_) => Err(NoMemory),
+        }
+    }
+
+    /// The first `most` fields of the next record into `into`, and whether there was one. After false or `NoMemory` it isn't used again.
+    pub(crate) fn next(&mut self, most: usize, into: &mut ByteRecord) -> Result<bool, NoMemory>
+        ensures { IfOk result (λ found. TakesWithin most found self.old self.new (fields_of into.new)) }
+    {
+        let Ok(found) = self.reader.read_byte_record(into) else {
+            return Err(NoMemory);
+        };
+        let count = into.len().min(most);
+        into.truncate(count);
+        Ok(found)
+    }
+}
