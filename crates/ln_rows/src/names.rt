@@ -117,6 +117,17 @@ pub fn header(t: &Table, p: &Pred, fields: &ByteRecord) -> bool
     at == fields.len()
 }
 
+/// Are these fields the names of the columns of points of a type, in order: its index, named as the type, and its coordinates, each named
+/// as the type, a dot and the coordinate?
+pub fn point_header(s: &Site, fields: &ByteRecord) -> bool
+    ensures { IsTrue result ↔ (fields_of fields.now ≡ site_columns s.now.name (Some s.now)) }
+{
+    match past_site(fields, 0, &s.name, Some(s)) {
+        Some(to) => to == fields.len(),
+        None => false,
+    }
+}
+
 fn plain(alloc: Global, name: &Name) -> Result<Vec<u8>, NoMemory>
     ensures { IfOk result (λ v. v.items ≡ name_bytes name.now) }
 {

@@ -1,17 +1,17 @@
 //! The records of a rows file.
-ghost use Rattle.std.specs.Prelude.{◌≡◌, ◌+◌, ℕ, List, None, [], ◌∷◌, true, false, IfOk, IfSome, OnErr};
+ghost use Rattle.std.specs.Prelude.{◌≡◌, ◌+◌, ◌≤◌, ℕ, List, None, Some, [], ◌∷◌, true, false, length, take, IfOk, IfSome, OnErr};
 ghost use Rattle.csv.specs.Records.{fields_of};
-ghost use Rattle.ln_rows.specs.Columns.{column_names};
+ghost use Rattle.ln_rows.specs.Columns.{column_names, site_columns};
 ghost use Rattle.ln_rows.specs.Left.{Records, records_in, Takes};
 ghost use Rattle.ln_rows.specs.Record.{IsReadAs};
 
 use crate::left::Left;
-use crate::names::{header, room};
+use crate::names::{header, point_header, room};
 use crate::record::{RowStop, column_count, differ, row};
 use csv::ByteRecord;
 use ln_base::NoMemory;
 use ln_code::Row;
-use ln_tree::{Pred, Table};
+use ln_tree::{Pred, Site, Table};
 use std::alloc::Global;
 use std::marker::Model;
 
@@ -51,6 +51,35 @@ impl<'a> Rows<'a> {
     {
         let found = self.left.take(usize::MAX, into)?;
         Ok(found)
+    }
+
+    /// The first `most` fields of the next record into `into`, and whether there was one. Of a record without quotes no more are kept. At
+    /// the end no record is left, before and after. After `NoMemory` no record is left.
+    pub fn next_within(&mut self, most: usize, into: &mut ByteRecord) -> Result<bool, NoMemory>
+        ensures takes { IfOk result (λ found. found ≡ true → (fields : List (List ℕ)) × (self.old ≡ fields ∷ self.new)
+            × (fields_of into.new ≡ take most fields)) }
+        ensures end { IfOk result (λ found. found ≡ false → (self.old ≡ []) × (self.new ≡ [])) }
+        ensures err { OnErr result (self.new ≡ []) }
+    {
+        let found = self.left.take(most, into)?;
+        Ok(found)
+    }
+
+    /// Takes the first record, if there is one, and says whether its fields are the names of the columns of points of a type. After
+    /// `NoMemory` no record is left.
+    pub fn point_header(&mut self, s: &Site) -> Result<bool, NoMemory>
+        requires { length s.now.coords ≤ 32 }
+        ensures right { IfOk result (λ right. right ≡ true → self.old ≡ site_columns s.now.name (Some s.now) ∷ self.new) }
+        ensures wrong { IfOk result (λ right. right ≡ false → (rest : Records) →
+            self.old ≡ site_columns s.now.name (Some s.now) ∷ rest → ⊥) }
+        ensures err { OnErr result (self.new ≡ []) }
+    {
+        let most = s.coords.as_slice().len() + 2;
+        let found = self.left.take(most, &mut self.record)?;
+        if !found {
+            return Ok(false);
+        }
+        Ok(point_header(s, &self.record))
     }
 
     /// Takes the first record, if there is one, and says whether its fields are the names of the predicate's columns. After `NoMemory` no

@@ -1,7 +1,10 @@
 //! The records of a rows file, and the numbers of fields.
+use crate::compile::{ORIENT, compiled};
 use csv::ByteRecord;
 use ln_base::NoMemory;
 use ln_rows::{NumberStop, Rows, number};
+use ln_tree::Site;
+use std::alloc::Global;
 use std::test::Fail;
 
 /// Fields that say a number, the range of their column, and the number.
@@ -123,5 +126,49 @@ fn records_have_their_fields_with_quotes_or_without(rt: HostRuntime) -> Result<(
         let mut rows = Rows::new(rt.alloc(), text);
         assert!(rt; are_records(&mut rows, &mut record, records)?);
     }
+    Ok(())
+}
+
+#[test]
+fn no_more_fields_are_kept_than_there_is_room_for(rt: HostRuntime) -> Result<(), Fail> {
+    let mut rows = Rows::new(rt.alloc(), b"a,b,c\nd\n\"e\",f,g\n");
+    let mut record = ByteRecord::new(rt.alloc());
+    for fields in [&[b"a".as_slice(), b"b"].as_slice(), &[b"d"], &[b"e", b"f"]] {
+        assert!(rt; rows.next_within(2, &mut record)?);
+        assert!(rt; has_fields(&record, fields));
+    }
+    assert!(rt; !rows.next_within(2, &mut record)?);
+    Ok(())
+}
+
+/// Does the text begin with the columns of points of the type?
+fn is_for(alloc: Global, site: &Site, text: &[u8]) -> bool {
+    if site.coords.as_slice().len() > 32 {
+        return false;
+    }
+    let mut rows = Rows::new(alloc, text);
+    matches!(rows.point_header(site), Ok(true))
+}
+
+/// Does the text begin with the columns of points of the first type of a source?
+fn is_for_points(alloc: Global, source: &str, text: &[u8]) -> bool {
+    match compiled(alloc, source) {
+        Ok(c) => match c.table().sites.get(0) {
+            Some(site) => is_for(alloc, site, text),
+            None => false,
+        },
+        Err(_) => false,
+    }
+}
+
+#[test]
+fn a_points_file_begins_with_the_columns_of_its_type(rt: HostRuntime) -> Result<(), Fail> {
+    let alloc = rt.alloc();
+    assert!(rt; is_for_points(alloc, ORIENT, b"point,point.x,point.y\n1,2,3\n"));
+    assert!(rt; is_for_points(alloc, ORIENT, b"\"point\",point.x,\"point.y\""));
+    assert!(rt; !is_for_points(alloc, ORIENT, b"point,point.y,point.x\n"));
+    assert!(rt; !is_for_points(alloc, ORIENT, b"point,point.x\n"));
+    assert!(rt; !is_for_points(alloc, ORIENT, b"point,point.x,point.y,point.z\n"));
+    assert!(rt; !is_for_points(alloc, ORIENT, b""));
     Ok(())
 }

@@ -138,3 +138,12 @@ read_cut {T = T} sites vars all kept most read r k h s =
     by_read : (o : Result T RowStop) → IsReadAs sites vars kept o r → read_row sites vars kept ≡ read_row sites vars all → IsReadAs sites vars all o r
     by_read (Ok u) t e = record { ok = sym e ∙ t.ok; err = tt; in_range = t.in_range }
     by_read (Err stop) t e = record { ok = tt; err = sym e ∙ t.err; in_range = tt }
+
+-- the same where there is room for one field more than there are names
+pub point_cut : (all kept names : List (List ℕ)) (most : ℕ) → kept ≡ take most all → length names < most
+    → (kept ≡ names → all ≡ names) × (all ≡ names → kept ≡ names)
+point_cut all kept names most k h = (λ e. one e, λ e. k ∙ take_all most all (omega (arith, ap length e, h)) ∙ e) where
+  one : kept ≡ names → all ≡ names
+  one e =
+      let size : min most (length all) ≡ length names = sym (length-take most all) ∙ ap length (sym k ∙ e) in
+      sym (take_all most all (omega (arith, size, h))) ∙ sym k ∙ e
