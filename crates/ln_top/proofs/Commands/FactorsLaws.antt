@@ -1,6 +1,6 @@
 -- The factors of a product: their programs, the places of these, and their common variables.
 use Rattle.std.proofs.Common.{◌≡◌, ◌≢◌, ℕ, zero, suc, ◌+◌, ◌<◌, ◌≤◌, true, false, true≢false, List, [], ◌∷◌, ◌++◌, map, length, take}
-use Rattle.std.proofs.Common.{Some, None, refl, ap, sym, ◌∙◌, subst, arith, All, ◌⊎◌, inl, inr, length-append}
+use Rattle.std.proofs.Common.{Some, refl, ap, sym, ◌∙◌, subst, arith, All, ◌⊎◌, inl, inr, length-append}
 use Rattle.std.specs.Prelude.{bytes_eq, nat_eq, slice_get, slice_index_or, count_by}
 use Rattle.std.proofs.lemmas.Bool.{and_parts}
 use Rattle.std.proofs.lemmas.Bool.Decides.{nat_tests}

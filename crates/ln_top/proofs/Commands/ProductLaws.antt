@@ -1,5 +1,5 @@
 -- `product`: what it owes is carried out by lines, and where it ends.
-use Rattle.std.proofs.Common.{◌≡◌, ◌≢◌, ℕ, zero, suc, ◌<◌, Bool, List, [], ◌∷◌, ◌++◌, length, take, refl, ap, sym, ◌∙◌}
+use Rattle.std.proofs.Common.{◌≡◌, ℕ, zero, suc, ◌<◌, Bool, List, [], ◌∷◌, ◌++◌, length, take, refl, ap, sym, ◌∙◌}
 use Rattle.std.proofs.Common.{subst, arith, Some, Result, Ok, Err, Option, All}
 use Rattle.std.specs.Prelude.{slice_get, ◌*ℤ◌}
 use Rattle.std.proofs.lemmas.List.{append-nil}
@@ -8,7 +8,6 @@ use Rattle.ln_base.specs.Outside.{Shown}
 use Rattle.ln_base.specs.declared.sign.Sign.{Sign}
 use Rattle.ln_base.specs.declared.sign.Sign.TheVariants.{Minus, Zero, Plus}
 use Rattle.ln_algebra.specs.Product.{multiplied_numbers}
-use Rattle.ln_tree.specs.declared.pred.Pred.{Pred}
 use Rattle.ln_tree.specs.declared.shape.VarInfo.{VarInfo}
 use Rattle.ln_tree.specs.Row.{InRange, Row}
 use Rattle.ln_tree.specs.Table.{PredOf, pred_of}
@@ -22,7 +21,6 @@ use Rattle.ln_code.proofs.Verdicts.Machine.{programs-run, rows-have}
 use Rattle.ln_due.specs.Due.{sign_number}
 use Rattle.ln_factor.specs.Factors.{AreOver, AreVerdicts, IsFactor, IsRowOfFactors, numbers_of}
 use Rattle.ln_compile.specs.Compiled.{IsProgramOf}
-use Rattle.ln_compile.specs.Filtered.{IsDue}
 use Rattle.ln_compile.proofs.Listing.FilteredLemmas.{programs_answer}
 use Rattle.ln_rows.specs.Left.{Records, records_in}
 use Rattle.ln_rows.specs.Record.{read_row}
@@ -31,7 +29,7 @@ use Rattle.ln_rows.proofs.Fields.RangeLemmas.{row_in_range}
 use Rattle.ln_watch.specs.Panel.{State}
 use Rattle.ln_top.specs.declared.status.End.{End}
 use Rattle.ln_top.specs.declared.status.Early.{Early}
-use Rattle.ln_top.specs.declared.status.Early.TheVariants.{Write, Memory}
+use Rattle.ln_top.specs.declared.status.Early.TheVariants.{Memory}
 use Rattle.ln_top.specs.declared.stop.Stop.TheVariants as stop
 use Rattle.ln_top.specs.declared.stop.Why.TheVariants.{Header}
 use Rattle.ln_top.specs.Said.{Said, Count, count, line}

@@ -10,7 +10,6 @@ use Rattle.ln_compile.specs.Accepted.{AreSound, IsSound}
 use Rattle.ln_verify.specs.Accepted.{AreAccepted, IsAccepted}
 use Rattle.ln_top.specs.declared.prepare.Ready.{Ready}
 use Rattle.ln_top.specs.Plan.{HasForm, Plan, form}
-use Rattle.ln_top.specs.Suits.{Asks}
 use Rattle.ln_top.specs.Steps as step
 use Rattle.ln_top.specs.Steps.{gives, Given, Prepares, Each, Reads, most_file}
 use Rattle.ln_top.specs.Ready.{AreShort, HasStanding, IsReady, IsReadyFor}

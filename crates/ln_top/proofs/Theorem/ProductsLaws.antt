@@ -1,16 +1,15 @@
 -- The lines of products that were put begin with the perturbed signs of the products, and each is one line.
-use Rattle.std.proofs.Common.{◌≡◌, ◌≢◌, ◌⊎◌, inl, inr, ℕ, zero, suc, true, List, [], ◌∷◌, ◌++◌, map, length, Option, Some, None}
+use Rattle.std.proofs.Common.{◌≡◌, ◌≢◌, inl, inr, ℕ, zero, suc, true, List, [], ◌∷◌, map, length, Option, Some, None}
 use Rattle.std.proofs.Common.{Result, Ok, Err, refl, ap, sym, ◌∙◌, subst}
 use Rattle.std.specs.Prelude.{IfSome, slice_get}
-use Rattle.std.proofs.Math.IntN.{ℤ, pos}
+use Rattle.std.proofs.Math.IntN.{ℤ}
 use Rattle.std.proofs.lemmas.Option.{none-some}
 use Rattle.ln_base.specs.Outside.{Shelf, Shown}
 use Rattle.ln_base.specs.declared.sign.Sign.{Sign}
 use Rattle.ln_base.specs.declared.sign.Sign.TheVariants.{Zero}
 use Rattle.ln_algebra.specs.Orders.{BySmallest}
-use Rattle.ln_algebra.specs.Product.{OneIsZero, multiplied_numbers}
+use Rattle.ln_algebra.specs.Product.{OneIsZero}
 use Rattle.ln_algebra.specs.Sign.{IsFirst}
-use Rattle.ln_algebra.specs.Tree.{Tree}
 use Rattle.ln_tree.specs.declared.pred.Pred.{Pred}
 use Rattle.ln_tree.specs.declared.shape.Shape.{Shape}
 use Rattle.ln_tree.specs.declared.shape.VarInfo.{VarInfo}
