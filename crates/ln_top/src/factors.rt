@@ -1,9 +1,8 @@
 //! The predicates of a product as they are run: with the names of their columns and their programs.
-ghost use Rattle.std.specs.Prelude.{◌≡◌, ◌≢◌, ◌≤◌, ◌<◌, ◌++◌, [], ◌∷◌, ℕ, All, List, length, map, slice_get, slice_index_or};
+ghost use Rattle.std.specs.Prelude.{◌≡◌, ◌≢◌, ◌≤◌, ◌<◌, ◌++◌, [], ◌∷◌, All, List, length, map, slice_get, slice_index_or};
 ghost use Rattle.std.specs.Prelude.{Some, None, IfOk, IfSome, OnOk};
 ghost use Rattle.ln_algebra.specs.Product.{multiplied_numbers};
 ghost use Rattle.ln_tree.specs.Table.{PredOf, pred_of};
-ghost use Rattle.ln_code.specs.Part.{Part};
 ghost use Rattle.ln_code.specs.RowOf.{row_of};
 ghost use Rattle.ln_due.specs.Due.{sign_number};
 ghost use Rattle.ln_factor.specs.Factors.{AreMadeFor, numbers_of};

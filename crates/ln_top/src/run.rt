@@ -1,12 +1,12 @@
 //! The work of `run`: a line for each record behind the header, and the lines of the watchers.
-ghost use Rattle.std.specs.Prelude.{◌&&◌, ◌≡◌, ◌≤◌, ◌<◌, ◌+◌, ◌++◌, [], ◌∷◌, ℕ, List, true};
+ghost use Rattle.std.specs.Prelude.{◌≡◌, ◌≤◌, ◌+◌, ◌++◌, [], ◌∷◌, ℕ, List, true};
 ghost use Rattle.std.specs.Prelude.{vec_len, vec_capacity, IfOk, IsOk, OnOk, OnErr};
 ghost use Rattle.ln_code.specs.Memory.{MadeFor};
 ghost use Rattle.ln_top.specs.Carried.{CarriesOut};
 ghost use Rattle.ln_top.specs.Line.{Says, is_bare_record, is_row, is_said, line_room, said_text};
-ghost use Rattle.ln_top.specs.Lines.{Closes, Gathers, Empties, Takes};
+ghost use Rattle.ln_top.specs.Lines.{Closes, Gathers, Takes};
 ghost use Rattle.ln_top.specs.Ready.{IsReadyFor, StandsFor};
-ghost use Rattle.ln_top.specs.Run.{HasRecords, RunPart, RunSaid, StepOf, end_of, piece, piece_room};
+ghost use Rattle.ln_top.specs.Run.{HasRecords, RunPart, RunSaid, StepOf, end_of, piece_room};
 ghost use Rattle.ln_top.specs.Said.{count, line};
 ghost use Rattle.ln_top.specs.Steps.{Given};
 ghost use Rattle.ln_top.specs.Target.{IsGivenBy, IsInRange, IsReadFor, pred_in};

@@ -1,5 +1,5 @@
 //! A predicate of a source as it is run: with the names of its columns and its program.
-ghost use Rattle.std.specs.Prelude.{◌≡◌, ◌<◌, [], length, slice_get, slice_index_or, Some, IfOk};
+ghost use Rattle.std.specs.Prelude.{◌≡◌, ◌<◌, length, slice_get, Some, IfOk};
 ghost use Rattle.ln_code.specs.Memory.{MadeFor};
 ghost use Rattle.ln_compile.specs.Filtered.{IsDue};
 ghost use Rattle.ln_top.specs.Columns.{names_of};
