@@ -1,11 +1,12 @@
 # shellcheck shell=bash disable=SC2154  # examples/check, which reads this file, gives the names that stand for nothing here
-# cases: 42
+# cases: 43
 # listings and C
 case_ 'the first line of a listing' 0 'listing 2' '' "$lnc list $orient | head -1"
 case_ 'the first line of C' 0 '#include <stdint.h>' '' "$lnc emit $orient | head -1"
 : >"$scratch/nothing.ln"
+case_ 'the C of the orientation, byte for byte' 0 '' '' "$lnc emit $orient | cmp - examples/orientation/orient.c"
 case_ 'a listing of nothing' 0 'listing 2' '' "$lnc list $scratch/nothing.ln"
-case_ 'C of nothing' 0 $'#include <stdint.h>\n' '' "$lnc emit $scratch/nothing.ln"
+case_ 'C of nothing' 0 '#include <stdint.h>' '' "$lnc emit $scratch/nothing.ln"
 case_ 'the insphere listed within 10 seconds and 500 MB' 0 'done' '' "ulimit -v 500000; timeout 10 $lnc list $insphere >$scratch/long && tail -1 $scratch/long"
 case_ 'the C of the insphere below 6 MB' 0 'below' '' "$lnc emit $insphere >$scratch/long && [ \$(wc -c <$scratch/long) -lt 6000000 ] && [ \$(wc -c <$scratch/long) -gt 100000 ] && echo below"
 for sample in $samples; do

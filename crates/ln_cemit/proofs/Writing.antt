@@ -3,3 +3,4 @@ pub mod Constants
 pub mod Parts
 pub mod Gathers
 pub mod Loops
+pub mod Whole

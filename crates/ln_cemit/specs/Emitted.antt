@@ -1,5 +1,5 @@
 -- What is promised of the bytes that are emitted.
-use Rattle.std.specs.Prelude.{◌≡◌, ℕ, ℤ, pos, negsuc, List, [], ◌∷◌, ◌++◌, map, Some}
+use Rattle.std.specs.Prelude.{◌≡◌, ℕ, ℤ, pos, negsuc, true, List, [], ◌∷◌, ◌++◌, map, Some}
 use Rattle.ln_base.specs.declared.sign.Sign.{Sign}
 use Rattle.ln_base.specs.declared.sign.Sign.TheVariants.{Minus, Zero, Plus}
 use Rattle.ln_tree.specs.Row as tree
@@ -14,7 +14,7 @@ use Rattle.ln_csyn.specs.Text.{CText}
 use Rattle.ln_csyn.specs.Meaning.{CCall, Counts, Signed}
 use Rattle.ln_cemit.specs.Heads.{head, heads_of}
 use Rattle.ln_cemit.specs.Names.{call_name}
-use Rattle.ln_csyn.specs.Spelling.{spell_file, text_of, written}
+use Rattle.ln_csyn.specs.Layout.{laid_funs, laid_text, lines_end}
 use Rattle.ln_cemit.specs.Whole.{file_of, part_name}
 
 -- -1, 0 or 1
@@ -39,12 +39,14 @@ AllSay file [] = Unit {0}
 AllSay file (p ∷ ps) = ((row : tree.Row) → InRange p.shape.sites p.shape.vars row → CallSays file p row) × AllSay file ps
 
 -- the bytes are a file of the subset, which has the functions of these programs and no other, and whose calls say what the machine
--- answers
+-- answers; it is laid out: after each ; { and } a line ends
 pub record IsEmitted (parts : List Part) (bytes : List ℕ) : Type 0 where
   pub file : List Fun
   pub text : CText bytes file
   pub heads : map head file ≡ heads_of parts
   pub says : AllSay file parts
+  pub layout : bytes ≡ laid_text (file_of parts)
+  pub lines : lines_end bytes ≡ true
 
 -- each of them is a program
 abbrev pub AreKept : List Part → Type 0
@@ -53,10 +55,13 @@ AreKept (p ∷ ps) = IsProgram p × AreKept ps
 
 -- the text of the file of programs is one
 abbrev pub FileIsEmitted : Type 0
-FileIsEmitted = (ps : List Part) (bytes : List ℕ) → ArePrograms ps → AreKept ps → bytes ≡ text_of (file_of ps) → IsEmitted ps bytes
+FileIsEmitted = (ps : List Part) (bytes : List ℕ) → ArePrograms ps → AreKept ps → bytes ≡ laid_text (file_of ps) → IsEmitted ps bytes
 
--- the bytes are the text of the file of these programs but for its end: with the functions of any further programs and the end behind
--- them, they are the text of the file of all
+-- the bytes are the text of the file of these programs: with the functions of any further programs after them, they are the text of all
 pub record BeginsFile (bytes : List ℕ) (ps : List Part) : Type 0 where
-  pub text : (more : List Part) → bytes ++ written (spell_file (file_of more)) ≡ text_of (file_of (ps ++ more))
+  pub text : (more : List Part) → bytes ++ laid_funs (file_of more) [] ≡ laid_text (file_of (ps ++ more))
   pub kept : AreKept ps
+
+-- so it is what is promised of their C
+abbrev pub BegunIsEmitted : Type 0
+BegunIsEmitted = (ps : List Part) (bytes : List ℕ) → ArePrograms ps → BeginsFile bytes ps → IsEmitted ps bytes

@@ -6,7 +6,7 @@ use Rattle.ln_code.specs.Engine.{next}
 use Rattle.ln_csyn.specs.Words.{most_number}
 use Rattle.ln_csyn.specs.Tree.{Expr, Body, End, Group, Fun}
 use Rattle.ln_csyn.specs.Grammar.{Token}
-use Rattle.ln_csyn.specs.Spelling.{lexeme, type_text, spell, spell_body, spell_fun, Goes}
+use Rattle.ln_csyn.specs.Spelling.{lexeme, type_text, spell, spell_body, Goes}
 use Rattle.ln_cemit.specs.declared.slot.Slot.{Slot}
 use Rattle.ln_cemit.specs.Emit.{Rest, reads, type_of}
 use Rattle.ln_cemit.specs.Names.{answer_name, decl_name, filter_name}
@@ -54,11 +54,6 @@ pub record Does (more : Bool) (old new : List ℕ) (stack : List Slot) (locals :
 abbrev pub any_reads : List Op → Bool
 any_reads [] = false
 any_reads (o ∷ os) = reads o || any_reads os
-
--- functions, in front of a rest
-abbrev pub spell_funs : List Fun → List Token → List Token
-spell_funs [] r = r
-spell_funs (f ∷ fs) r = spell_fun f (spell_funs fs r)
 
 -- the statements of the sites that are left, without the end where none is left
 abbrev pub picks_on : (ℕ → Body) → List ℕ → Body

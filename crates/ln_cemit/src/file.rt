@@ -1,15 +1,16 @@
 //! The whole file.
 ghost use Rattle.std.specs.Prelude.{◌≡◌, ◌≤◌, ◌++◌, ◌∷◌, [], true, IfOk, List, codes, map};
 ghost use Rattle.std.specs.List.{range_with_len};
+ghost use Rattle.ln_csyn.specs.Layout.{Lays};
 ghost use Rattle.ln_csyn.specs.Spelling.{Puts, Goes, lexeme, spell_body, spell_parameters, spell_fun};
 ghost use Rattle.ln_csyn.specs.Tree.{Body, Group};
-ghost use Rattle.ln_code.specs.Kept.{ArePrograms, IsProgram};
+ghost use Rattle.ln_code.specs.Kept.{IsProgram};
 ghost use Rattle.ln_code.specs.Lists.{segment_of};
 ghost use Rattle.ln_code.specs.Part.{Part};
 ghost use Rattle.ln_cemit.specs.Emitted.{BeginsFile, IsEmitted};
 ghost use Rattle.ln_cemit.specs.File.{one_fun, one_funs, two_fun};
 ghost use Rattle.ln_cemit.specs.Names.{answer_name, block_name, call_name, filter_name};
-ghost use Rattle.ln_cemit.specs.Puts.{filter_funs, filter_tried, spell_funs};
+ghost use Rattle.ln_cemit.specs.Puts.{filter_funs, filter_tried};
 ghost use Rattle.ln_cemit.specs.Walked.{attempt, walked};
 ghost use Rattle.ln_cemit.specs.Whole.{block_body, call_body, filter_body, part_name};
 
@@ -18,6 +19,7 @@ use crate::title::{block_title, call_title, filter_title};
 use crate::walk::{name_of, put_try, put_walked};
 use ln_base::NoMemory;
 use ln_code::{Block, FilterBlock, Program, Programs};
+use ln_csyn::layout::lay_fun;
 use ln_csyn::spell::{brace_left, brace_right};
 use ln_order::{Order, all_orders};
 use std::alloc::Global;
@@ -29,11 +31,12 @@ fn put_numbered_block(
     number: usize,
     block: &Block,
 ) -> Result<(), NoMemory>
-    ensures { IfOk result (λ x. Puts out.old.items out.new.items
-        (spell_fun (one_fun (block_name name.now number) (block_body block.now)))) }
+    ensures { IfOk result (λ x. Lays out.old.items out.new.items (one_fun (block_name name.now number) (block_body block.now) ∷ [])) }
 {
     let title = block_title(alloc, name, number)?;
-    put_block_fun(alloc, out, title.as_slice(), block)
+    let mut tokens = Vec::new(alloc);
+    put_block_fun(alloc, &mut tokens, title.as_slice(), block)?;
+    lay_fun(out, &mut tokens)
 }
 
 // The functions of the blocks, by number.
@@ -43,8 +46,7 @@ fn put_blocks(
     name: &[u8],
     blocks: &[Block],
 ) -> Result<(), NoMemory>
-    ensures { IfOk result (λ x. Puts out.old.items out.new.items
-        (spell_funs (one_funs (block_name name.now) 0 (map block_body blocks.now)))) }
+    ensures { IfOk result (λ x. Lays out.old.items out.new.items (one_funs (block_name name.now) 0 (map block_body blocks.now))) }
 {
     'all: for (number, block) in blocks.iter().enumerate() {
         put_numbered_block(alloc, out, name, number, block)?;
@@ -58,15 +60,17 @@ fn put_filter(
     name: &[u8],
     filter: &FilterBlock,
 ) -> Result<(), NoMemory>
-    ensures { IfOk result (λ x. Puts out.old.items out.new.items (spell_fun (one_fun (filter_name name.now) (filter_body filter.now)))) }
+    ensures { IfOk result (λ x. Lays out.old.items out.new.items (one_fun (filter_name name.now) (filter_body filter.now) ∷ [])) }
 {
     let title = filter_title(alloc, name)?;
-    put_filter_fun(alloc, out, title.as_slice(), filter)
+    let mut tokens = Vec::new(alloc);
+    put_filter_fun(alloc, &mut tokens, title.as_slice(), filter)?;
+    lay_fun(out, &mut tokens)
 }
 
 // The function of the filter, if there is one.
 fn put_filter_of(alloc: Global, out: &mut Vec<u8>, p: &Program) -> Result<(), NoMemory>
-    ensures put { IfOk result (λ x. Puts out.old.items out.new.items (spell_funs (filter_funs (part_name p.now) p.now.filter))) }
+    ensures put { IfOk result (λ x. Lays out.old.items out.new.items (filter_funs (part_name p.now) p.now.filter)) }
     ensures kept { IfOk result (λ x. IsProgram p.now) }
 {
     let name = name_of(p);
@@ -80,8 +84,8 @@ fn put_filter_of(alloc: Global, out: &mut Vec<u8>, p: &Program) -> Result<(), No
 }
 
 fn put_blocks_of(alloc: Global, out: &mut Vec<u8>, p: &Program) -> Result<(), NoMemory>
-    ensures { IfOk result (λ x. Puts out.old.items out.new.items
-        (spell_funs (one_funs (block_name (part_name p.now)) 0 (map block_body p.now.blocks)))) }
+    ensures { IfOk result (λ x. Lays out.old.items out.new.items
+        (one_funs (block_name (part_name p.now)) 0 (map block_body p.now.blocks))) }
 {
     let name = name_of(p);
     put_blocks(alloc, out, name, p.blocks())
@@ -141,7 +145,7 @@ fn put_call_head(alloc: Global, out: &mut Vec<u8>, p: &Program) -> Result<(), No
     put_two_head(out, title.as_slice())
 }
 
-fn put_call(alloc: Global, out: &mut Vec<u8>, p: &Program) -> Result<(), NoMemory>
+fn put_call_fun(alloc: Global, out: &mut Vec<u8>, p: &Program) -> Result<(), NoMemory>
     ensures { IfOk result (λ x. Puts out.old.items out.new.items (spell_fun (two_fun (call_name (part_name p.now)) (call_body p.now)))) }
 {
     put_call_head(alloc, out, p)?;
@@ -150,7 +154,15 @@ fn put_call(alloc: Global, out: &mut Vec<u8>, p: &Program) -> Result<(), NoMemor
     brace_right(out)
 }
 
-/// The C of no programs, as far as its functions begin: the text behind which programs are put.
+fn put_call(alloc: Global, out: &mut Vec<u8>, p: &Program) -> Result<(), NoMemory>
+    ensures { IfOk result (λ x. Lays out.old.items out.new.items (two_fun (call_name (part_name p.now)) (call_body p.now) ∷ [])) }
+{
+    let mut tokens = Vec::new(alloc);
+    put_call_fun(alloc, &mut tokens, p)?;
+    lay_fun(out, &mut tokens)
+}
+
+/// Returns the C of no programs, its first line.
 pub fn begin_file(alloc: Global) -> Result<Vec<u8>, NoMemory>
     ensures { IfOk result (λ v. BeginsFile v.items []) }
 {
@@ -159,7 +171,8 @@ pub fn begin_file(alloc: Global) -> Result<Vec<u8>, NoMemory>
     Ok(out)
 }
 
-/// Puts the functions of a program behind those of others. Where there is no memory, what is put begins no file.
+/// Appends the functions of a program to the C of others. For programs whose names differ, each with at most 65,536 blocks, the text is
+/// then what `emit` returns for all of them (`laws::file_is_emitted`). Where allocation fails, the text begins no file.
 pub fn put_program(alloc: Global, out: &mut Vec<u8>, p: &Program) -> Result<(), NoMemory>
     ensures { IfOk result (λ x. (ps : List Part) → BeginsFile out.old.items ps → BeginsFile out.new.items (ps ++ p.now ∷ [])) }
 {
@@ -168,18 +181,10 @@ pub fn put_program(alloc: Global, out: &mut Vec<u8>, p: &Program) -> Result<(), 
     put_call(alloc, out, p)
 }
 
-/// Ends the C of programs whose names differ, each with at most 65,536 blocks: it is what `emit` gives for them.
-pub fn end_file(out: &mut Vec<u8>) -> Result<(), NoMemory>
-    ensures { IfOk result (λ x. (ps : List Part) → ArePrograms ps → BeginsFile out.old.items ps → IsEmitted ps out.new.items) }
-{
-    out.push(b'\n')?;
-    Ok(())
-}
-
-/// The C of these programs: a text of the subset in which each program `NAME` has the function
+/// Returns the C of these programs: a text of the subset in which each program `NAME` has the function
 /// `int ln_NAME(const int64_t *x, const int64_t *v)`. On each row in range, its indices in `x` and its values in `v`, the call has a
 /// meaning: the sign -1, 0 or 1 of the verdict of `run_row`, with as many calls of other functions as the verdict has, and no operation
-/// in `__int128` where the filter decides. The text goes straight into one buffer.
+/// in `__int128` where the filter decides. The text has a statement a line, indented by its braces.
 pub fn emit(alloc: Global, p: &Programs) -> Result<Vec<u8>, NoMemory>
     ensures { IfOk result (λ v. IsEmitted p.now v.items) }
 {
@@ -187,6 +192,5 @@ pub fn emit(alloc: Global, p: &Programs) -> Result<Vec<u8>, NoMemory>
     'programs: for program in p.as_slice() {
         put_program(alloc, &mut out, program)?;
     }
-    end_file(&mut out)?;
     Ok(out)
 }

@@ -3,7 +3,7 @@ ghost use Rattle.ln_cemit.specs.Checked.{EmittedMeans};
 ghost use Rattle.ln_cemit.specs.Law.{BlocksSay, FiltersSay};
 ghost use Rattle.ln_cemit.specs.Conditions.{FunsKeep, BlocksKeep, FiltersKeep};
 ghost use Rattle.ln_cemit.specs.Names.{NamesServe};
-ghost use Rattle.ln_cemit.specs.Emitted.{FileIsEmitted};
+ghost use Rattle.ln_cemit.specs.Emitted.{BegunIsEmitted, FileIsEmitted};
 
 /// Where the machine as C has it has an answer, the emitted body answers its sign, and no line fails.
 pub fn emitted_means()
@@ -31,5 +31,6 @@ pub fn names_serve()
 
 /// The text of the file of programs is of the subset, and its calls say what the machine answers.
 pub fn file_is_emitted()
-    ensures { FileIsEmitted }
+    ensures file { FileIsEmitted }
+    ensures begun { BegunIsEmitted }
 {}

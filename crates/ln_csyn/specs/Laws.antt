@@ -1,11 +1,13 @@
 -- What the laws of the text say.
-use Rattle.std.specs.Prelude.{◌≡◌, ◌≤◌, ◌<◌, ℕ, suc, true, ◌&&◌, [], List, Some, length}
+use Rattle.std.specs.Prelude.{◌≡◌, ◌≤◌, ◌<◌, ℕ, suc, true, ◌&&◌, [], List, ℤ, Some, length}
 use Rattle.ln_csyn.specs.Tree.{Expr, Body, Fun}
 use Rattle.ln_csyn.specs.Grammar.{Token, IsExpr, IsBody, IsFile}
 use Rattle.ln_csyn.specs.Reading.{expr_at, stmts_at, stmt_at, block_at, funs_at}
 use Rattle.ln_csyn.specs.Text.{IsFirst, Lexed, CText, fun_words, is_file}
 use Rattle.ln_csyn.specs.Spelling.{spell_file, flat_file, text_of}
 use Rattle.ln_csyn.specs.Lines.{SameUpToLines}
+use Rattle.ln_csyn.specs.Layout.{IsTextOf, laid_text, lines_end}
+use Rattle.ln_csyn.specs.Meaning.{CCall, Counts, Signed}
 use Rattle.ln_csyn.specs.Keeps.{parens, parens_in, braces_in, keeps, each_fun, is_small, fresh_on, names_of, rest_keeps}
 
 -- an expression that is derived within the depth is read
@@ -61,10 +63,24 @@ SpelledIsDerived = (fs : List Fun) → each_fun fun_words fs ≡ true → IsFile
 abbrev pub WrittenIsFile : Type 0
 WrittenIsFile = (fs : List Fun) → is_file fs ≡ true → CText (text_of fs) (flat_file fs)
 
+-- what is laid out for a file is that file, up to lines
+abbrev pub LaidIsFile : Type 0
+LaidIsFile = (fs : List Fun) → is_file fs ≡ true → IsTextOf (laid_text fs) fs
+
+-- in it a line ends behind each ; { and }
+abbrev pub LaidEndsLines : Type 0
+LaidEndsLines = (fs : List Fun) → is_file fs ≡ true → lines_end (laid_text fs) ≡ true
+
 -- two files are the same up to lines exactly where their flat files are one
 abbrev pub FlatIsSame : Type 0
 FlatIsSame = (fs gs : List Fun) →
     (SameUpToLines fs gs → flat_file fs ≡ flat_file gs) × (flat_file fs ≡ flat_file gs → SameUpToLines fs gs)
+
+-- a call says the same in files that are the same up to lines, where it says anything
+abbrev pub LinesSayNothing : Type 0
+LinesSayNothing = (fs gs : List Fun) → SameUpToLines fs gs → (x : List ℕ) (index values : List ℤ) (z : ℤ) (k : Counts) →
+    (CCall fs x index values ≡ Some (Signed z k) → CCall gs x index values ≡ Some (Signed z k))
+    × (CCall gs x index values ≡ Some (Signed z k) → CCall fs x index values ≡ Some (Signed z k))
 
 -- what is read of a text of the flat file is the file, up to lines
 abbrev pub ReadBack : Type 0

@@ -10,5 +10,6 @@ pub mod Seen
 pub mod Text
 pub mod Sets
 pub mod Spelling
+pub mod Layout
 pub mod Lines
 pub mod Laws

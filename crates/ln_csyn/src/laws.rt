@@ -1,5 +1,5 @@
 //! Laws of the text: contracts of functions with nothing to do.
-ghost use Rattle.ln_csyn.specs.Laws.{BodyIsComplete, FileIsComplete, FileIsSound, FlatIsSame, KeepsIs};
+ghost use Rattle.ln_csyn.specs.Laws.{BodyIsComplete, FileIsComplete, FileIsSound, FlatIsSame, KeepsIs, LaidEndsLines, LaidIsFile, LinesSayNothing};
 ghost use Rattle.ln_csyn.specs.Laws.{OneFile, OneFirst, OneLexed, OneText, ReadBack, ReadIsComplete};
 ghost use Rattle.ln_csyn.specs.Laws.{ReadIsSound, SpelledIsDerived, TextIsKept, WrittenIsFile};
 
@@ -11,17 +11,21 @@ pub fn one_text()
     ensures text { OneText }
 {}
 
-/// The file of a text keeps all conditions; each file that keeps them has a text, with all tokens on line 2.
+/// The file of a text keeps all conditions; each file that keeps them has a text with all tokens on line 2, and one
+/// that is laid out, in which a line ends behind each `;`, `{` and `}`.
 pub fn files_have_texts()
     ensures kept { TextIsKept }
     ensures derived { SpelledIsDerived }
     ensures text { WrittenIsFile }
+    ensures laid { LaidIsFile }
+    ensures lines { LaidEndsLines }
 {}
 
 /// Two files are the same up to lines exactly where their flat files are one; so what is read of a written file is that file, up to
-/// lines.
+/// lines, and its calls say the same.
 pub fn lines_alone()
     ensures same { FlatIsSame }
+    ensures calls { LinesSayNothing }
     ensures back { ReadBack }
 {}
 

@@ -2,8 +2,8 @@
 //!
 //! `CText bytes file` says that the bytes are this file: the grammar with all side conditions, as a relation (`specs/Text.antt`,
 //! `specs/Grammar.antt`, `specs/Keeps.antt`). `read_c` answers it both ways: the file of the bytes, and `NotSubset` exactly where they
-//! are no file. `write_c` gives a text of a file, up to lines. By `laws::one_text` no bytes have two files. The type `CFile` keeps all
-//! conditions.
+//! are no file. `write_c` gives a text of a file, up to lines, laid out (`specs/Layout.antt`). By `laws::one_text` no bytes have two
+//! files. The type `CFile` keeps all conditions.
 #![tactic(auto)]
 
 pub mod body;
@@ -11,6 +11,7 @@ pub mod expr;
 pub mod file;
 pub mod keep;
 pub mod laws;
+pub mod layout;
 pub mod names;
 pub mod read;
 pub mod scan;

@@ -1,12 +1,14 @@
-//! The writer: each token of a file, and a blank behind it.
-ghost use Rattle.std.specs.Prelude.{◌≡◌, true, false, ◌++◌, ◌∷◌, IfOk, List, codes, map};
+//! Writes a file: the tokens of one function after the other, each with a blank after it, which are then laid out.
+ghost use Rattle.std.specs.Prelude.{◌≡◌, true, false, ◌++◌, ◌∷◌, [], IfOk, List, codes, map};
 ghost use Rattle.ln_csyn.specs.View.{expr_tree, stmt_front, body_tree, fun_tree};
 ghost use Rattle.ln_csyn.specs.Tree.{Body, Fun, Two, Minus, Number, Name, Value, Index, Call, Inner};
 ghost use Rattle.ln_csyn.specs.Spelling.{Puts, lexeme, type_text, op_text, cast_before, place_before, spell, Goes, spell_body};
-ghost use Rattle.ln_csyn.specs.Spelling.{spell_parameters, spell_own, spell_fun, spell_file, written, flat_file};
-ghost use Rattle.ln_csyn.specs.Text.{CText, first_line};
+ghost use Rattle.ln_csyn.specs.Spelling.{spell_parameters, spell_own, spell_fun};
+ghost use Rattle.ln_csyn.specs.Layout.{IsTextOf, Lays, laid_text};
+ghost use Rattle.ln_csyn.specs.Text.{CText};
 ghost use Rattle.ln_csyn.specs.Lines.{SameUpToLines};
 
+use crate::layout::lay_fun;
 use crate::read::CFile;
 use crate::spell::{
     brace_left, brace_right, comma, dash, equals, indices, left, put, put_number, put_op, put_type,
@@ -17,32 +19,34 @@ use crate::tree::{CExpr, CForm, CFun, COp, CPrim, CStmt, CType};
 use ln_base::NoMemory;
 use std::alloc::Global;
 
-/// A text of the file: the first line, and behind it all tokens on one line, a blank behind each, and a line feed. Its file is f with all
-/// lines at 2, so whatever file is read of it is f up to lines.
+/// Returns a text of the file, laid out: a statement a line, indented by its braces. Its file is f up to lines, and so is whatever file
+/// is read of it.
 pub fn write_c(alloc: Global, f: &CFile) -> Result<Vec<u8>, NoMemory>
-    ensures text { IfOk result (λ v. CText v.items (flat_file (map fun_tree f.now.funs))) }
+    ensures text { IfOk result (λ v. IsTextOf v.items (map fun_tree f.now.funs)) }
     ensures back { IfOk result (λ v. (gs : List Fun) → CText v.items gs → SameUpToLines gs (map fun_tree f.now.funs)) }
+    ensures layout { IfOk result (λ v. v.items ≡ laid_text (map fun_tree f.now.funs)) }
 {
     let mut out = Vec::new(alloc);
-    put_file(&mut out, f.funs.as_slice())?;
+    out.extend_from_slice(b"#include <stdint.h>\n".as_slice())?;
+    put_funs(alloc, &mut out, f.funs.as_slice())?;
     Ok(out)
 }
 
-fn put_file(out: &mut Vec<u8>, funs: &[CFun]) -> Result<(), NoMemory>
-    ensures { IfOk result (λ x. out.new.items ≡ (out.old.items ++ first_line) ++ written (spell_file (map fun_tree funs.now))) }
-{
-    out.extend_from_slice(b"#include <stdint.h>\n".as_slice())?;
-    put_funs(out, funs)
-}
-
-fn put_funs(out: &mut Vec<u8>, funs: &[CFun]) -> Result<(), NoMemory>
-    ensures { IfOk result (λ x. out.new.items ≡ out.old.items ++ written (spell_file (map fun_tree funs.now))) }
+fn put_funs(alloc: Global, out: &mut Vec<u8>, funs: &[CFun]) -> Result<(), NoMemory>
+    ensures { IfOk result (λ x. Lays out.old.items out.new.items (map fun_tree funs.now)) }
 {
     'funs: for f in funs {
-        put_fun(out, f)?;
+        put_laid(alloc, out, f)?;
     }
-    out.push(b'\n')?;
     Ok(())
+}
+
+fn put_laid(alloc: Global, out: &mut Vec<u8>, f: &CFun) -> Result<(), NoMemory>
+    ensures { IfOk result (λ x. Lays out.old.items out.new.items (fun_tree f.now ∷ [])) }
+{
+    let mut tokens = Vec::new(alloc);
+    put_fun(&mut tokens, f)?;
+    lay_fun(out, &mut tokens)
 }
 
 fn put_fun(out: &mut Vec<u8>, f: &CFun) -> Result<(), NoMemory>

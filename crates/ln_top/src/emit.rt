@@ -11,7 +11,7 @@ use crate::prepare::Ready;
 use crate::status::{Early, End};
 use crate::stop::put_text;
 use ln_base::{Console, NoMemory};
-use ln_cemit::{begin_file, end_file, put_program};
+use ln_cemit::{begin_file, put_program};
 use ln_compile::Checked;
 use std::alloc::Global;
 
@@ -38,7 +38,6 @@ fn emitted(alloc: Global, source: &Checked) -> Result<Vec<u8>, NoMemory>
     'each: for i in 0..source.table().preds.as_slice().len() {
         put_emitted(alloc, &mut text, source, i)?;
     }
-    end_file(&mut text)?;
     Ok(text)
 }
 

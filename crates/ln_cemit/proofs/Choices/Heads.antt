@@ -2,6 +2,8 @@
 use Rattle.std.proofs.Common.{◌≡◌, ℕ, suc, List, [], ◌∷◌, ◌++◌, length, map, refl, ap, ◌∙◌, sym, append_assoc, Option, Some, None}
 use Rattle.std.proofs.lemmas.List.{map-append}
 use Rattle.ln_code.specs.Part.{Code, FilterCode, Part}
+use Rattle.ln_csyn.specs.Tree.{Fun}
+use Rattle.ln_csyn.specs.Lines.{SameFun, SameUpToLines, none, one}
 use Rattle.ln_cemit.specs.File.{one_funs, two_fun}
 use Rattle.ln_cemit.specs.Heads.{Head, block_heads, filter_heads, head, heads_of, inner, outer}
 use Rattle.ln_cemit.specs.Names.{block_name, call_name, filter_name}
@@ -35,3 +37,11 @@ heads-file (p ∷ ps) =
     ∙ ap (λ (hs : List Head). hs ++ (outer (call_name (part_name p)) ∷ map head (file_of ps))) (inner-heads (part_name p) p.filter p.blocks)
     ∙ ap (λ (hs : List Head). (filter_heads (part_name p) p.filter ++ block_heads (part_name p) 0 (length p.blocks)) ++ (outer (call_name (part_name p)) ∷ hs)) (heads-file ps)
     ∙ glued (filter_heads (part_name p) p.filter) (block_heads (part_name p) 0 (length p.blocks)) (heads_of ps) (outer (call_name (part_name p)))
+
+same-head : (f g : Fun) → SameFun f g → head f ≡ head g
+same-head f g s = rw (s.own, s.name, s.indexed) refl
+
+-- files that are the same up to lines have the same heads
+pub same-heads : {fs gs : List Fun} → SameUpToLines fs gs → map head fs ≡ map head gs
+same-heads none = refl
+same-heads (one {f = f} {g = g} {fs = fs} {gs = gs} s r) = ap (λ (h : Head). h ∷ map head fs) (same-head f g s) ∙ ap (λ (hs : List Head). head g ∷ hs) (same-heads r)

@@ -24,8 +24,11 @@ use Rattle.ln_code.proofs.Verdicts.Sums.{list_few}
 use Rattle.ln_csyn.specs.declared.tree.CType.TheVariants.{Int64}
 use Rattle.ln_csyn.specs.Tree.{End, Fun}
 use Rattle.ln_csyn.specs.Meaning.{CCall, Counts, Said, Signed, has, is_zero}
-use Rattle.ln_csyn.specs.Text.{CText}
-use Rattle.ln_csyn.proofs.Writing.Writes.{text_is_file}
+use Rattle.ln_csyn.specs.Lines.{SameUpToLines}
+use Rattle.ln_csyn.proofs.Writing.Calls.{lines_say_nothing}
+use Rattle.ln_csyn.specs.Layout.{lines_end}
+use Rattle.ln_csyn.proofs.Writing.Laying.{text_is_laid}
+use Rattle.ln_csyn.proofs.Writing.LineEnds.{laid_ends_lines}
 use Rattle.ln_cemit.specs.Checked.{plus, sign_of, ups}
 use Rattle.ln_cemit.specs.Choose.{first_of_signs}
 use Rattle.ln_cemit.specs.Chosen.{decided, list_of_order}
@@ -39,8 +42,8 @@ use Rattle.ln_cemit.specs.Ways.{block_lines, block_way, filter_lines, filter_way
 use Rattle.ln_cemit.specs.Whole.{block_body, bodies_of, call_body, file_of, filter_body, first_of, funs_before, moved, numbered, part_name}
 use Rattle.ln_cemit.proofs.Choices.Agrees.{Leaves, Same, Valued, afters, block_sign, both_same, held_sign, signs, value_or, wide_of}
 use Rattle.ln_cemit.proofs.Choices.Files.{file-means}
-use Rattle.ln_cemit.proofs.Choices.Heads.{heads-file}
-use Rattle.ln_cemit.proofs.Conditions.Kept.{AllFacts, Facts, NamesDiffer, NoneHas, file_kept, file_stands, first_numbers, lines_short, segment_numbers, short_bodies}
+use Rattle.ln_cemit.proofs.Choices.Heads.{heads-file, same-heads}
+use Rattle.ln_cemit.proofs.Conditions.Kept.{AllFacts, Facts, NamesDiffer, NoneHas, file_kept, first_numbers, lines_short, segment_numbers, short_bodies}
 use Rattle.ln_cemit.proofs.Meanings.Means.{blocks_say, filters_say}
 use Rattle.ln_cemit.proofs.Conditions.Named.{names_serve}
 use Rattle.ln_cemit.proofs.Meanings.Numbers.{lt_true}
@@ -254,13 +257,35 @@ differ-of [] h = tt
 differ-of (p ∷ ps) h =
     (none-has (part_name p) ps (λ i d l e. h 0 (suc i) d (omega arith) (omega (arith, l)) (sym e)), differ-of ps (λ i j d l m. h (suc i) (suc j) d (omega (arith, l)) (omega (arith, m))))
 
+-- what is said of a file is said of the same on other lines
+says_too : (fs gs : List Fun) (ps : List Part) → SameUpToLines gs fs → AllSay fs ps → AllSay gs ps
+says_too fs gs [] e a = tt
+says_too fs gs (p ∷ ps) e a = (
+  (
+      λ row r.
+      let s = a.0 row r in
+      record {
+        verdict = s.verdict;
+        counts = s.counts;
+        machine = s.machine;
+        called = (lines_say_nothing gs fs e (call_name (part_name p)) row.index row.values (number_of s.verdict.sign) s.counts).1 s.called;
+        calls = s.calls;
+        narrow = s.narrow;
+      }
+      ),
+  says_too fs gs ps e a.1,
+)
+
 pub file_is_emitted : FileIsEmitted
 file_is_emitted ps bytes a k e =
     let h = facts-of ps k a.small in
     let d = differ-of ps a.names in
+    let t = text_is_laid bytes (file_of ps) (file_kept ps h d) e in
     record {
-      file = file_of ps;
-      text = subst (λ fs. CText bytes fs) (file_stands ps h) (text_is_file bytes (file_of ps) (file_kept ps h d) e);
-      heads = heads-file ps;
-      says = all-say [] ps h d (none-apart ps);
+      file = t.file;
+      text = t.text;
+      heads = same-heads t.same ∙ heads-file ps;
+      says = says_too (file_of ps) t.file ps t.same (all-say [] ps h d (none-apart ps));
+      layout = e;
+      lines = subst (λ z. lines_end z ≡ true) (sym e) (laid_ends_lines (file_of ps) (file_kept ps h d));
     }

@@ -271,18 +271,8 @@ module _ (names : List (List ℕ)) (begin : all_begin names ≡ true) where
       both : {u v : Bool} → u ≡ true → v ≡ true → (u && v) ≡ true
       both {u} {v} e f = rw (e, f) refl
 
-  file_flat : (ps : List Part) → AllFacts ps → flat_file (file_of ps) ≡ file_of ps
-  file_flat [] h = refl
-  file_flat (p ∷ ps) h =
-      let f : Fun = two_fun (call_name (part_name p)) (call_body p) in
-      flat_one (numbered (part_name p) p.filter) 0 (bodies_of p.filter p.blocks) (f ∷ file_of ps) (λ j n e l. (one_stands p h.0 j n e l).flat)
-      (ap (λ (g : Fun). g ∷ flat_file (file_of ps)) (call_stands names begin p h.0).flat ∙ ap (λ (gs : List Fun). f ∷ gs) (file_flat ps h.1))
-
 pub file_kept : (ps : List Part) → AllFacts ps → NamesDiffer ps → is_file (file_of ps) ≡ true
 file_kept ps h d =
     let names : List (List ℕ) = names_of (file_of ps) in
     let b = file_begins ps in
     rw (file_distinct ps h d, each_kept names b ps h, each_words names b ps h) refl
-
-pub file_stands : (ps : List Part) → AllFacts ps → flat_file (file_of ps) ≡ file_of ps
-file_stands ps h = file_flat (names_of (file_of ps)) (file_begins ps) ps h

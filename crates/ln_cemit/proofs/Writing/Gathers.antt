@@ -4,10 +4,12 @@ use Rattle.std.specs.Prelude.{Option, Some, None, codes, eqb, not}
 use Rattle.std.proofs.lemmas.List.{drop_all}
 use Rattle.std.proofs.lemmas.List.Elements.{filter-append}
 use Rattle.ln_code.specs.Part.{FilterCode}
-use Rattle.ln_csyn.specs.Spelling.{Goes, Puts, lexeme, spell, spell_fun, written}
+use Rattle.ln_csyn.specs.Layout.{Lays}
+use Rattle.ln_csyn.specs.Spelling.{Goes, Puts, lexeme, spell, written}
+use Rattle.ln_csyn.proofs.Writing.Lays.{lays_none}
 use Rattle.ln_cemit.specs.File.{one_fun}
 use Rattle.ln_cemit.specs.Names.{filter_name}
-use Rattle.ln_cemit.specs.Puts.{filter_funs, open_guards, spell_funs}
+use Rattle.ln_cemit.specs.Puts.{filter_funs, open_guards}
 use Rattle.ln_cemit.specs.Walked.{less, without}
 use Rattle.ln_cemit.specs.Whole.{filter_body}
 
@@ -43,8 +45,8 @@ pub guards_all : {start now : List ℕ} (i : ℕ) (js : List ℕ) (k : ℕ) → 
 guards_all {start} {now} i js k h g = record { is = λ r. ap (λ z. now ++ written (open_guards i z r)) (sym (drop_all k js h)) ∙ g.is r }
 
 -- ---- the function of a filter, if there is one
-pub filter_some : {a b : List ℕ} (name x : List ℕ) (o : Option FilterCode) (f : FilterCode) → name ≡ x → o ≡ Some f → Puts a b (spell_fun (one_fun (filter_name name) (filter_body f))) → Puts a b (spell_funs (filter_funs x o))
-filter_some {a} {b} name x o f e g p = rw g (record { is = λ r. (subst (λ y. Puts a b (spell_fun (one_fun (filter_name y) (filter_body f)))) e p).is r })
+pub filter_some : {a b : List ℕ} (name x : List ℕ) (o : Option FilterCode) (f : FilterCode) → name ≡ x → o ≡ Some f → Lays a b (one_fun (filter_name name) (filter_body f) ∷ []) → Lays a b (filter_funs x o)
+filter_some {a} {b} name x o f e g p = rw g (subst (λ y. Lays a b (one_fun (filter_name y) (filter_body f) ∷ [])) e p)
 
-pub filter_none : {a : List ℕ} (x : List ℕ) (o : Option FilterCode) → o ≡ None → Puts a a (spell_funs (filter_funs x o))
-filter_none x o g = rw g (record { is = λ r. refl })
+pub filter_none : {a : List ℕ} (x : List ℕ) (o : Option FilterCode) → o ≡ None → Lays a a (filter_funs x o)
+filter_none {a} x o g = rw g (lays_none a)

@@ -13,14 +13,14 @@ use Rattle.ln_code.specs.declared.op.Op.{Op}
 use Rattle.ln_code.specs.declared.op.Op.TheVariants.{Get, Push}
 use Rattle.ln_code.specs.Engine.{Line, next}
 use Rattle.ln_code.specs.Numbers.{cut_by, no_locals}
-use Rattle.ln_code.specs.Kept.{IsProgram}
 use Rattle.ln_code.specs.Lists.{segment_of}
 use Rattle.ln_code.specs.Part.{Code, FilterCode, Part, lines_of}
 use Rattle.ln_csyn.specs.Tree as c
 use Rattle.ln_csyn.specs.Tree.{Body, Fun}
 use Rattle.ln_csyn.specs.Grammar.{Token}
-use Rattle.ln_csyn.specs.Text.{first_line}
-use Rattle.ln_csyn.specs.Spelling.{Goes, Puts, lexeme, spell, spell_body, spell_file, spell_fun, text_of, written}
+use Rattle.ln_csyn.specs.Layout.{Lays}
+use Rattle.ln_csyn.specs.Spelling.{Goes, Puts, lexeme, spell, spell_body, spell_fun, written}
+use Rattle.ln_csyn.proofs.Writing.Lays.{LaysRest, all_laid, lays_then, one_laid}
 use Rattle.ln_csyn.proofs.Writing.PutLemmas.{drop_more}
 use Rattle.ln_order.specs.declared.order.Order.{Order}
 use Rattle.ln_order.specs.Orders.{orders_of}
@@ -31,10 +31,9 @@ use Rattle.ln_order.proofs.Listing.PrefixLemmas.{prefix-is}
 use Rattle.ln_cemit.specs.declared.slot.Slot.{Slot}
 use Rattle.ln_cemit.specs.declared.slot.Way.{Way}
 use Rattle.ln_cemit.specs.Emit.{Rest, body_of, constant, emitted, touching_index, pushing, put_get, slot, type_of, put_op, put_sign, naming, ops_of, unread, reads, reads_row, touching}
-use Rattle.ln_cemit.specs.Emitted.{AreKept, BeginsFile}
 use Rattle.ln_cemit.specs.File.{one_fun, one_funs, two_fun}
 use Rattle.ln_cemit.specs.Names.{answer_name, block_name, call_name, decl_name, filter_name}
-use Rattle.ln_cemit.specs.Puts.{Does, MayMove, Moves, any_reads, decl_before, filter_funs, filter_tried, close_braces, locals_of, open_guards, picks_on, rest_or, spell_funs}
+use Rattle.ln_cemit.specs.Puts.{Does, MayMove, Moves, any_reads, decl_before, filter_funs, filter_tried, close_braces, locals_of, open_guards, picks_on, rest_or}
 use Rattle.ln_cemit.specs.Walked.{attempt, body_for, guarded, less, picks, says_nothing, tries, walked, without}
 use Rattle.ln_cemit.proofs.Meanings.Numbers.{lt_from, lt_not}
 use Rattle.ln_cemit.specs.Ways.{ways}
@@ -264,64 +263,29 @@ ones-are : (x : List ℕ) (f : Option FilterCode) (cs : List Code) → one_funs 
 ones-are x None cs = one-by-number x 0 (map block_body cs)
 ones-are x (Some f) cs = ap (λ z. one_fun (filter_name x) (filter_body f) ∷ z) (one-by-block x f 0 (map block_body cs))
 
-spelled-more : (fs gs : List Fun) → spell_file (fs ++ gs) ≡ spell_funs fs (spell_file gs)
-spelled-more [] gs = refl
-spelled-more (f ∷ fs) gs = ap (spell_fun f) (spelled-more fs gs)
+-- the tokens of a function with one parameter were laid out
+pub named_laid : {old new tokens empty : List ℕ} (x y : List ℕ) (b : Body) → empty ≡ [] → x ≡ y → Puts empty tokens (spell_fun (one_fun x b)) → ((f : Fun) → Puts [] tokens (spell_fun f) → Lays old new (f ∷ []))
+    → Lays old new (one_fun y b ∷ [])
+named_laid {tokens = tokens} x y b e q p h =
+    let p2 : Puts [] tokens (spell_fun (one_fun x b)) = subst (λ z. Puts z tokens (spell_fun (one_fun x b))) e p in
+    h (one_fun y b) (subst (λ z. Puts [] tokens (spell_fun (one_fun z b))) q p2)
 
--- the functions of a program were put, whatever functions come behind
-pub record PutsFuns (old new : List ℕ) (p : Part) : Type 0 where
-  pub is : (rest : List Fun) → new ++ written (spell_file rest) ≡ old ++ written (spell_file (funs_before p rest))
+-- the functions of a program were written
+pub program_put : {a l m n : List ℕ} (p : Part) → Lays a l (filter_funs (part_name p) p.filter) → Lays l m (one_funs (block_name (part_name p)) 0 (map block_body p.blocks)) → Lays m n (two_fun (call_name (part_name p)) (call_body p) ∷ []) → Lays a n (funs_before p [])
+program_put {a} {n = n} p g h u =
+    let e = ap (λ z. z ++ two_fun (call_name (part_name p)) (call_body p) ∷ []) (ones-are (part_name p) p.filter p.blocks) in
+    subst (λ z. Lays a n z) (sym e) (lays_then (lays_then g h) u)
 
-pub program_put : {a l m n : List ℕ} (p : Part) → Puts a l (spell_funs (filter_funs (part_name p) p.filter)) → Puts l m (spell_funs (one_funs (block_name (part_name p)) 0 (map block_body p.blocks))) → Puts m n (spell_fun (two_fun (call_name (part_name p)) (call_body p))) → PutsFuns a n p
-program_put {a} {l} {m} {n} p g h u =
-    let x : List ℕ = part_name p in
-    let fs : List Fun = filter_funs x p.filter in
-    let os : List Fun = one_funs (block_name x) 0 (map block_body p.blocks) in
-    let t : Fun = two_fun (call_name x) (call_body p) in
-    let e : (rest : List Fun) → funs_before p rest ≡ fs ++ (os ++ t ∷ rest) = λ rest. ap (λ z. z ++ t ∷ rest) (ones-are x p.filter p.blocks) ∙ append_assoc fs os (t ∷ rest) in
-    let s : (rest : List Fun) → spell_file (funs_before p rest) ≡ spell_funs fs (spell_funs os (spell_fun t (spell_file rest))) = λ rest. ap spell_file (e rest) ∙ spelled-more fs (os ++ t ∷ rest) ∙ ap (spell_funs fs) (spelled-more os (t ∷ rest)) in
-    record {
-      is = λ rest. u.is (spell_file rest) ∙ h.is (spell_fun t (spell_file rest)) ∙ g.is (spell_funs os (spell_fun t (spell_file rest))) ∙ sym (ap (λ z. a ++ written z) (s rest));
-    }
-
-pub blocks_next : {start cur new : List ℕ} {all : List Token → List Token} (name : List ℕ) (cs : List Code) (k : ℕ) (b d : Code) → k < length cs → b ≡ get_or cs k d
-    → Goes start cur (spell_funs (one_funs (block_name name) k (map block_body (drop k cs)))) all → Puts cur new (spell_fun (one_fun (block_name name k) (block_body b))) → Goes start new (spell_funs (one_funs (block_name name) (k + 1) (map block_body (drop (k + 1) cs)))) all
+pub blocks_next : {start cur new : List ℕ} {all : List Fun} (name : List ℕ) (cs : List Code) (k : ℕ) (b d : Code) → k < length cs → b ≡ get_or cs k d
+    → LaysRest start cur (one_funs (block_name name) k (map block_body (drop k cs))) all → Lays cur new (one_fun (block_name name k) (block_body b) ∷ []) → LaysRest start new (one_funs (block_name name) (k + 1) (map block_body (drop (k + 1) cs))) all
 blocks_next {start} {cur} {new} {all} name cs k b d l e g p =
     let q : drop k cs ≡ b ∷ drop (k + 1) cs = drop_more cs k d l ∙ ap (λ z. z ∷ drop (k + 1) cs) (sym e) in
-    let f : Goes start cur (spell_funs (one_funs (block_name name) k (map block_body (b ∷ drop (k + 1) cs)))) all = subst (λ z. Goes start cur (spell_funs (one_funs (block_name name) k (map block_body z))) all) q g in
+    let f : LaysRest start cur (one_funs (block_name name) k (map block_body (b ∷ drop (k + 1) cs))) all = subst (λ z. LaysRest start cur (one_funs (block_name name) k (map block_body z)) all) q g in
     let n : suc k ≡ k + 1 = omega arith in
-    subst (λ z. Goes start new (spell_funs (one_funs (block_name name) z (map block_body (drop (k + 1) cs)))) all) n (record { is = λ r. p.is (spell_funs (one_funs (block_name name) (suc k) (map block_body (drop (k + 1) cs))) r) ∙ f.is r })
+    subst (λ z. LaysRest start new (one_funs (block_name name) z (map block_body (drop (k + 1) cs))) all) n (one_laid f p)
 
-pub blocks_done : {start cur : List ℕ} {all : List Token → List Token} (name : List ℕ) (cs : List Code) (k : ℕ) → length cs ≤ k → Goes start cur (spell_funs (one_funs (block_name name) k (map block_body (drop k cs)))) all → Puts start cur all
-blocks_done {start} {cur} {all} name cs k l g =
-    let f : Goes start cur (spell_funs (one_funs (block_name name) k [])) all = subst (λ z. Goes start cur (spell_funs (one_funs (block_name name) k (map block_body z))) all) (drop_all k cs l) g in
-    record { is = f.is }
-
--- ---- programs put one behind the other
-pub kept_more : (ps : List Part) (p : Part) → AreKept ps → IsProgram p → AreKept (ps ++ p ∷ [])
-kept_more [] p k h = (h, tt)
-kept_more (q ∷ ps) p k h = (k.0, kept_more ps p k.1 h)
-
-pub begun : (a b d : List ℕ) → a ≡ b ++ d → b ≡ [] → d ≡ first_line → BeginsFile a []
-begun a b d e f g =
-    let h : a ≡ first_line = e ∙ ap (λ z. z ++ d) f ∙ g in
-    record { text = λ more. ap (λ z. z ++ written (spell_file (file_of more))) h; kept = tt }
-
-pub one_behind : (old new : List ℕ) (p : Part) → PutsFuns old new p → IsProgram p → (ps : List Part) → BeginsFile old ps → BeginsFile new (ps ++ p ∷ [])
-one_behind old new p h k ps b = record {
-  text = λ more. h.is (file_of more) ∙ b.text (p ∷ more) ∙ ap (λ z. text_of (file_of z)) (sym (append_assoc ps (p ∷ []) more));
-  kept = kept_more ps p b.kept k;
-}
-
-pub whole_file : (old new : List ℕ) → new ≡ old ++ 10 ∷ [] → (ps : List Part) → BeginsFile old ps → new ≡ text_of (file_of ps)
-whole_file old new e ps b = e ∙ b.text [] ∙ ap (λ z. text_of (file_of z)) (append-nil ps)
-
--- a loop over programs, by those that are put
-pub more_begun : (now : List ℕ) (ps : List Part) (i : ℕ) (p : Part) → i < length ps → p ≡ get_or ps i p → BeginsFile now (take i ps ++ p ∷ []) → BeginsFile now (take (i + 1) ps)
-more_begun now ps i p h e b = subst (λ z. BeginsFile now z) (ap (λ q. take i ps ++ q ∷ []) e ∙ sym (take_more ps i p h)) b
-
-pub all_begun : (now : List ℕ) (ps : List Part) (i : ℕ) → length ps ≤ i → BeginsFile now (take i ps) → BeginsFile now ps
-all_begun now ps i h b = subst (λ z. BeginsFile now z) (take_all i ps h) b
+pub blocks_done : {start cur : List ℕ} {all : List Fun} (name : List ℕ) (cs : List Code) (k : ℕ) → length cs ≤ k → LaysRest start cur (one_funs (block_name name) k (map block_body (drop k cs))) all → Lays start cur all
+blocks_done {start} {cur} {all} name cs k l g = all_laid (subst (λ z. LaysRest start cur (one_funs (block_name name) k (map block_body z)) all) (drop_all k cs l) g)
 
 -- ---- segments
 same-is : (a b : List ℕ) → same_vector a b ≡ true → a ≡ b

@@ -1,11 +1,11 @@
 -- Tokens put one behind the other.
-use Rattle.std.proofs.Common.{◌≡◌, ℕ, zero, suc, ◌+◌, ◌<◌, length, drop, get_or, arith, List, [], ◌∷◌, ◌++◌, map, append_assoc, refl, sym, ap, ◌∙◌}
+use Rattle.std.proofs.Common.{◌≡◌, ℕ, zero, suc, ◌+◌, ◌<◌, length, drop, get_or, arith, List, [], ◌∷◌, ◌++◌, append_assoc, refl, sym, ap, ◌∙◌}
 use Rattle.std.specs.Prelude.{codes, Result, IfOk}
 use Rattle.std.proofs.lemmas.Result.{IfOk-weaker}
 use Rattle.ln_csyn.specs.declared.tree.CType.{CType}
-use Rattle.ln_csyn.specs.Tree.{Expr, Body, Decl, Group, If, Return, Fun}
+use Rattle.ln_csyn.specs.Tree.{Expr, Body, Decl, Group, If, Return}
 use Rattle.ln_csyn.specs.Grammar.{Token}
-use Rattle.ln_csyn.specs.Spelling.{lexeme, type_text, spell, spell_body, spell_fun, spell_file, written, Puts, Goes}
+use Rattle.ln_csyn.specs.Spelling.{lexeme, type_text, spell, spell_body, written, Puts, Goes}
 
 -- a token and a blank
 pub puts_one : (old mid new text : List ℕ) → mid ≡ old ++ text → new ≡ mid ++ 32 ∷ [] → Puts old new (λ r. lexeme text ∷ r)
@@ -65,9 +65,3 @@ drop_suc (x ∷ xs) (suc i) d l = drop_suc xs i d (omega (arith, l))
 -- the item at a place, and what is behind it
 pub drop_more : {X : Type 0} (xs : List X) (i : ℕ) (d : X) → i < length xs → drop i xs ≡ get_or xs i d ∷ drop (i + 1) xs
 drop_more xs i d l = let q : suc i ≡ i + 1 = omega arith in drop_suc xs i d l ∙ ap (λ (z : ℕ). get_or xs i d ∷ drop z xs) q
-
--- one function more
-pub funs_go : {X : Type 0} (g : X → Fun) (xs : List X) (i : ℕ) (f : X) (mid new all : List ℕ) → i < length xs → f ≡ get_or xs i f → Puts mid new (spell_fun (g f)) → mid ++ written (spell_file (map g (drop i xs))) ≡ all → new ++ written (spell_file (map g (drop (i + 1) xs))) ≡ all
-funs_go g xs i f mid new all l e p h =
-    let d : drop i xs ≡ f ∷ drop (i + 1) xs = drop_more xs i f l ∙ ap (λ z. z ∷ drop (i + 1) xs) (sym e) in
-    p.is (spell_file (map g (drop (i + 1) xs))) ∙ ap (λ z. mid ++ written (spell_file (map g z))) (sym d) ∙ h

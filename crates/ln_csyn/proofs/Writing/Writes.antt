@@ -11,16 +11,14 @@ use Rattle.ln_csyn.specs.Tree.{Expr, Number, Name, Value, Index, Call, Inner, Mi
 use Rattle.ln_csyn.specs.Words.{is_c_name, is_numeral, number_of, most_number, among, reserved}
 use Rattle.ln_csyn.specs.Grammar.{Token}
 use Rattle.ln_csyn.specs.Keeps.{parens_in, braces_in, each_expr, each_name, each_fun, direct, distinct, differ_within, divides, calls_none, is_own, fun_keeps, names_of, keeps}
-use Rattle.ln_csyn.specs.Text.{is_double, is_sign_text, is_token, IsFirst, Lexed, CText, is_file, none, blank, token, has_words, fun_words}
-use Rattle.ln_csyn.specs.Spelling.{type_text, op_text, lexeme, spell, spell_body, spell_parameters, spell_own, spell_fun, spell_file, written, text_of, flat, flat_fun, flat_file}
-use Rattle.ln_csyn.specs.Lines.{SameUpToLines}
+use Rattle.ln_csyn.specs.Text.{is_double, is_sign_text, is_token, IsFirst, Lexed, none, blank, token, has_words, fun_words}
+use Rattle.ln_csyn.specs.Spelling.{type_text, op_text, lexeme, spell, spell_body, spell_parameters, spell_own, spell_fun, spell_file, written, flat, flat_fun, flat_file}
 use Rattle.ln_csyn.specs.Laws.{WrittenIsFile}
-use Rattle.ln_csyn.proofs.Writing.LinesLemmas.{read_back}
 use Rattle.ln_csyn.proofs.Writing.Spells.{left, right, mid, number_is_read, derives_file}
 
 -- ---- a token before a blank is the longest
 
-and_false : (b : Bool) → (b && false) ≡ false
+pub and_false : (b : Bool) → (b && false) ≡ false
 and_false true = refl
 and_false false = refl
 
@@ -50,15 +48,15 @@ past [] ys (suc m) l = (m, refl)
 past (b ∷ bs) ys zero l = absurd (omega arith)
 past (b ∷ bs) ys (suc m) l = let r = past bs ys m (omega (arith, l)) in (r.0, ap (λ (z : List ℕ). b ∷ z) r.1)
 
-some_token : (t : List ℕ) → is_token t ≡ true → 0 < length t
+pub some_token : (t : List ℕ) → is_token t ≡ true → 0 < length t
 some_token [] h = absurd (cc)
 some_token (b ∷ bs) h = omega arith
 
-front_of : (t ys : List ℕ) → take (length t) (t ++ ys) ≡ t
+pub front_of : (t ys : List ℕ) → take (length t) (t ++ ys) ≡ t
 front_of [] ys = refl
 front_of (b ∷ bs) ys = ap (λ (z : List ℕ). b ∷ z) (front_of bs ys)
 
-back_of : (t ys : List ℕ) → drop (length t) (t ++ ys) ≡ ys
+pub back_of : (t ys : List ℕ) → drop (length t) (t ++ ys) ≡ ys
 back_of [] ys = refl
 back_of (b ∷ bs) ys = back_of bs ys
 
@@ -178,7 +176,7 @@ tokens_own : (o : Bool) (r : List Token) → AllTokens r → AllTokens (spell_ow
 tokens_own false r k = k
 tokens_own true r k = (refl, refl, k)
 
-tokens_fun : (f : Fun) (r : List Token) → fun_words f ≡ true → AllTokens r → AllTokens (spell_fun f r)
+pub tokens_fun : (f : Fun) (r : List Token) → fun_words f ≡ true → AllTokens r → AllTokens (spell_fun f r)
 tokens_fun f r h k =
     let w = right (is_c_name f.name) (each_expr has_words f.body && each_name is_c_name f.body) h in
     let b : AllTokens (spell_body f.body (lexeme (codes "}") ∷ r)) = tokens_body f.body (lexeme (codes "}") ∷ r) (left (each_expr has_words f.body) (each_name is_c_name f.body) w) (right (each_expr has_words f.body) (each_name is_c_name f.body) w) (refl, refl, k) in
@@ -245,7 +243,7 @@ flat_names_of : (fs : List Fun) → names_of (flat_file fs) ≡ names_of fs
 flat_names_of [] = refl
 flat_names_of (f ∷ fs) = ap (λ (z : List (List ℕ)). f.name ∷ z) (flat_names_of fs)
 
-flat_file_keeps : (fs : List Fun) → keeps (flat_file fs) ≡ keeps fs
+pub flat_file_keeps : (fs : List Fun) → keeps (flat_file fs) ≡ keeps fs
 flat_file_keeps fs =
     ap (λ (z : List (List ℕ)). distinct z && each_fun (fun_keeps z) (flat_file fs)) (flat_names_of fs)
     ∙ ap (λ (v : Bool). distinct (names_of fs) && v) (flat_each (names_of fs) fs)
@@ -261,10 +259,3 @@ written_is_file fs h =
       lexed = lexes (spell_file fs) (tokens_file fs w);
       spelt = record { file = derives_file fs w; kept = flat_file_keeps fs ∙ left (keeps fs) (each_fun fun_words fs) h };
     }
-
--- what is out at the end
-pub text_is_file : (text : List ℕ) (fs : List Fun) → is_file fs ≡ true → text ≡ text_of fs → CText text (flat_file fs)
-text_is_file text fs h e = subst (λ (z : List ℕ). CText z (flat_file fs)) (sym e) (written_is_file fs h)
-
-pub text_reads_back : (text : List ℕ) (fs : List Fun) → is_file fs ≡ true → text ≡ text_of fs → (gs : List Fun) → CText text gs → SameUpToLines gs fs
-text_reads_back text fs h e gs c = read_back text fs gs (text_is_file text fs h e) c

@@ -97,12 +97,12 @@ more preds i c old new h a l t f = record {
 }
 
 -- all of them
-pub all : (t : Table) (i : ℕ) (old new : List ℕ) → length t.preds ≤ i → ((cs : List Part) → ArePrograms cs → BeginsFile old cs → IsEmitted cs new)
-    → BeginsCOfFirst (map pred_of t.preds) i old → IsCOf (map pred_of t.preds) new
-all t i old new h ends f =
+pub all : (t : Table) (i : ℕ) (text : List ℕ) → length t.preds ≤ i → ((cs : List Part) → ArePrograms cs → BeginsFile text cs → IsEmitted cs text)
+    → BeginsCOfFirst (map pred_of t.preds) i text → IsCOf (map pred_of t.preds) text
+all t i text h ends f =
     let e : take i (map pred_of t.preds) ≡ map pred_of t.preds = take_all i (map pred_of t.preds) (omega (arith, length-map t.preds pred_of)) in
     let a : AreProgramsOf (map pred_of t.preds) f.programs = subst (λ ps. AreProgramsOf ps f.programs) e f.are_programs in
-    c_of (map pred_of t.preds) f.programs new a f.begins.kept (ends f.programs (programs-of-table t f.programs a f.small) f.begins)
+    c_of (map pred_of t.preds) f.programs text a f.begins.kept (ends f.programs (programs-of-table t f.programs a f.small) f.begins)
 
 -- the C was put as a whole text
 pub carried : (r : Ready) (g : Given) (text : List ℕ) (puts : Count) (result : Result End Early) (was now : Option Shown)

@@ -1,5 +1,5 @@
 -- Answers to the goals of `begin_file` in src/file.rt.
-use Rattle.ln_cemit.proofs.Writing.Loops.{begun}
+use Rattle.ln_cemit.proofs.Writing.Whole.{begun}
 use Rattle.ln_cemit.proofs.file.begin_file.Goals as goal
 
 pub returns : goal.returns

@@ -1,6 +1,6 @@
 -- Answers to the goals of `emit` in src/file.rt.
 use Rattle.std.proofs.Common.{◌≡◌, ◌<◌, ap, arith, get_or, length, subst, take}
-use Rattle.ln_cemit.proofs.Writing.Loops.{all_begun, more_begun}
+use Rattle.ln_cemit.proofs.Writing.Whole.{all_begun, begun_is_emitted, more_begun}
 use Rattle.ln_cemit.proofs.file.emit.Goals as goal
 
 pub programs-preserved : goal.programs-preserved
@@ -13,4 +13,4 @@ programs-preserved c =
 pub returns : goal.returns
 returns c =
     let l = ap length c.as_slice-program-items.ensures.value in
-    c.in_ok-end_file.ensures c.args.p.now c.as_slice-program-items.ensures.kept (all_begun c.programs.out.items c.args.p.now c.programs.program-index (omega (arith, l)) c.programs.invariant)
+    begun_is_emitted c.args.p.now c.programs.out.items c.as_slice-program-items.ensures.kept (all_begun c.programs.out.items c.args.p.now c.programs.program-index (omega (arith, l)) c.programs.invariant)

@@ -1,6 +1,13 @@
 -- Answers to the goals of `put_call` in src/file.rt.
-use Rattle.ln_csyn.proofs.Writing.PutLemmas.{puts_last, puts_then}
+use Rattle.std.proofs.Common.{subst}
+use Rattle.std.proofs.lemmas.Result.{IfOk-weaker}
+use Rattle.ln_csyn.specs.Spelling.{Puts, spell_fun}
+use Rattle.ln_cemit.specs.File.{two_fun}
+use Rattle.ln_cemit.specs.Names.{call_name}
+use Rattle.ln_cemit.specs.Whole.{call_body, part_name}
 use Rattle.ln_cemit.proofs.file.put_call.Goals as goal
 
 pub returns : goal.returns
-returns c = puts_last c.brace_right.result _ _ (puts_then c.in_ok-put_call_head.ensures (puts_then c.in_ok-brace_left.ensures c.in_ok-put_call_body.ensures)) c.brace_right.ensures
+returns c =
+    let f = two_fun (call_name (part_name c.args.p.now)) (call_body c.args.p.now) in
+    IfOk-weaker c.lay_fun.result _ _ (λ _ h. h f (subst (λ z. Puts z c.put_call_fun.new.out.items (spell_fun f)) c.new-tokens.ensures.items c.in_ok-put_call_fun.ensures)) c.lay_fun.ensures

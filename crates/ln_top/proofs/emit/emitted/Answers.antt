@@ -1,6 +1,7 @@
 -- Answers to the goals of `emitted` in src/emit.rt.
 use Rattle.std.proofs.Common.{ap, arith, length, map}
 use Rattle.ln_tree.specs.Table.{pred_of}
+use Rattle.ln_cemit.proofs.Writing.Whole.{begun_is_emitted}
 use Rattle.ln_top.proofs.Commands.EmitLaws.{all, begun}
 use Rattle.ln_top.proofs.emit.emitted.Goals as goal
 
@@ -13,4 +14,4 @@ each-preserved c = c.in_ok-put_emitted.ensures c.each.invariant
 pub returns : goal.returns
 returns c =
     let n = rw c.table.ensures at (ap length c.as_slice-i-end.ensures) in
-    all c.args.source.now.table c.each.i c.each.text.items c.end_file.new.out.items (omega (arith, n)) c.in_ok-end_file.ensures c.each.invariant
+    all c.args.source.now.table c.each.i c.each.text.items (omega (arith, n)) (λ cs a b. begun_is_emitted cs c.each.text.items a b) c.each.invariant
