@@ -6,6 +6,6 @@ use std::test::Fail;
 #[test]
 fn no_programs_have_the_first_line_alone(rt: HostRuntime) -> Result<(), Fail> {
     let text = emit(rt.alloc(), &Programs::new(rt.alloc()))?;
-    assert!(rt; text.as_slice() == b"#include <stdint.h>\n\n".as_slice());
+    assert!(rt; text.as_slice() == b"#include <stdint.h>\n".as_slice());
     Ok(())
 }
