@@ -129,11 +129,14 @@ fn records_have_their_fields_with_quotes_or_without(rt: HostRuntime) -> Result<(
     Ok(())
 }
 
+/// The first two fields of records.
+const FIRST_TWO: &[&[&[u8]]] = &[&[b"a", b"b"], &[b"d"], &[b"e", b"f"]];
+
 #[test]
 fn no_more_fields_are_kept_than_there_is_room_for(rt: HostRuntime) -> Result<(), Fail> {
     let mut rows = Rows::new(rt.alloc(), b"a,b,c\nd\n\"e\",f,g\n");
     let mut record = ByteRecord::new(rt.alloc());
-    for fields in [&[b"a".as_slice(), b"b"].as_slice(), &[b"d"], &[b"e", b"f"]] {
+    for fields in FIRST_TWO {
         assert!(rt; rows.next_within(2, &mut record)?);
         assert!(rt; has_fields(&record, fields));
     }

@@ -115,11 +115,6 @@ not_header all names old new others o ne e = ne (first_same (sym o ∙ e)) where
   first_same : {x y : List (List ℕ)} {xs ys : Records} → x ∷ xs ≡ y ∷ ys → x ≡ y
   first_same {x = x} q = ap (λ (zs : Records). elim zs [ [] ↦ x | z ∷ r ↦ z ]) q
 
-pub no_header : (names : List (List ℕ)) (old others : Records) → old ≡ [] → old ≡ names ∷ others → ⊥
-no_header names old others n e = nil_cons (sym n ∙ e) where
-  nil_cons : {x : List (List ℕ)} {xs : Records} → [] ≡ x ∷ xs → ⊥
-  nil_cons q = absurd (cc)
-
 -- a record's first fields, one more than there are columns, say what it says
 row_cut : (sites : ℕ) (vars : List VarInfo) (all : List (List ℕ)) (most : ℕ) → length (columns vars) < most → read_row sites vars (take most all) ≡ read_row sites vars all
 row_cut sites vars all most h = by_size (cases_lt most (length all)) where
