@@ -6,7 +6,6 @@ use Rattle.std.specs.Prelude.{int_le, if◌then◌else◌, All}
 use Rattle.std.proofs.lemmas.Bool.{and_parts}
 use Rattle.std.proofs.lemmas.Bool.Decides.{nat_tests}
 use Rattle.std.proofs.lemmas.Int.{ints}
-use Rattle.std.proofs.lemmas.List.{length-map}
 use Rattle.std.proofs.lemmas.List.Elements.{All-nil, All-cons}
 use Rattle.ln_base.specs.Decimal.{integer_value}
 use Rattle.ln_tree.specs.Table.{CoordOf}

@@ -1,13 +1,13 @@
 -- What a table knows of a predicate of three sites of one type.
-use Rattle.std.proofs.Common.{◌≡◌, ℕ, zero, suc, ◌≤◌, true, List, [], ◌∷◌, length, Option, Some, None, refl, ap, sym}
+use Rattle.std.proofs.Common.{◌≡◌, ℕ, zero, suc, List, [], ◌∷◌, Option, Some, refl, ap}
 use Rattle.std.proofs.Common.{◌∙◌, subst}
 use Rattle.std.specs.Prelude.{slice_get, count_by}
-use Rattle.ln_tree.specs.Table.{CoordOf, PredOf, SiteArg, SiteOf, TableOf, ArgOf}
-use Rattle.ln_tree.specs.Whole.{coords_or, is_site_said, is_whole, vars_behind}
+use Rattle.ln_tree.specs.Table.{SiteOf}
+use Rattle.ln_tree.specs.Whole.{coords_or, is_site_said, vars_behind}
 use Rattle.ln_parse.proofs.Wholes.WholeParts.{PredParts, SiteParts, table_parts}
 use Rattle.ln_parse.specs.ReadsBack.{Every}
 use Rattle.ln_edges.specs.Edges.{three_of}
-use Rattle.ln_edges.specs.Three.{IsOfThree, TablesGiveThree}
+use Rattle.ln_edges.specs.Three.{TablesGiveThree}
 
 every_at : {A : Type 0} (P : A → Type 0) (xs : List A) (i : ℕ) (x : A) → slice_get xs i ≡ Some x → Every P xs → P x
 every_at P [] i x e h = absurd (cc)

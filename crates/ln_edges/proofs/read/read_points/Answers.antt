@@ -1,4 +1,4 @@
-use Rattle.std.proofs.Common.{◌≡◌, ◌∙◌, ap, sym, true, rules, length, List, ℕ}
+use Rattle.std.proofs.Common.{◌≡◌, sym, true, rules, length}
 use Rattle.std.proofs.lemmas.List.{length-map}
 use Rattle.ln_tree.specs.Table.{coord_of}
 use Rattle.ln_edges.specs.Read.{coords_of}
