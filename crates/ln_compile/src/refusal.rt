@@ -14,7 +14,8 @@ fn limit_text(what: LimitWhat) -> &'static str {
         LimitWhat::Nesting => "more than 64 open parentheses",
         LimitWhat::NameLength => "a name of more than 32 bytes",
         LimitWhat::Literal => "a number above 2^127 - 1",
-        LimitWhat::RangeEnd => "a range whose low end is above its high end, or an end beyond 2^63 - 1",
+        LimitWhat::RangeEnd =>
+            "a range whose low end is above its high end, or an end beyond 2^63 - 1",
         LimitWhat::Sites => "more than 16 site types",
         LimitWhat::Coords => "more than 32 coordinates of a site type",
         LimitWhat::Params => "more than 16 params",
