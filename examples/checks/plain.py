@@ -3,6 +3,7 @@
 
 plain.py largest                        a source at its limits: 1,048,576 bytes, 65,536 tokens, 16 predicates, each of 2,048 nodes
 plain.py rows FILE NAME COUNT           so many rows for a predicate, of which most are degenerate
+plain.py product SEED                   a source of three random predicates f, g and h, and last their product, `whole`
 plain.py check FILE                     the lines of `check`
 plain.py run FILE NAME ROWS             the lines of `run`; where the plain value isn't 0 it stands as decided by 0, also where a filter does
 plain.py gen FILE NAME SEED COUNT       the lines of `gen`; what the filter decides counts as decided by the plain value"""
@@ -200,6 +201,32 @@ def rows(path, name, count):
         print(",".join(str(z) for a, _ in p.arguments for z in ([at[a]] if a in at else []) + values[a]))
 
 
+def product(seed):
+    """a source of three predicates over two sites and a param, and of their product"""
+    draw = random.Random(int(seed))
+    inputs = ["a.x", "a.y", "b.x", "b.y", "c"]
+
+    def factor():
+        low = lambda: draw.choice(inputs + [f"({draw.randint(1, 4)})"])
+        return draw.choice([low(), low(), f"{draw.choice(inputs[:4])}^2", f"({low()} {draw.choice('+-')} {low()})"])
+
+    def predicate(name, body):
+        return f"predicate {name}(a: point, b: point, c: param) {{ sign {body}; }}"
+
+    bodies = []
+    while len(bodies) < 3:
+        body = "*".join(factor() for _ in range(draw.randint(1, 2)))
+        for _ in range(draw.randint(0, 2)):
+            body += f" {draw.choice('+-')} " + "*".join(factor() for _ in range(draw.randint(1, 2)))
+        arguments = "a: point, b: point, c: param"
+        if Predicate("f", arguments, f"sign {body};", {"point": {"x": (-3, 3), "y": (-3, 3)}}, {"c": (-2, 2)}).poly:
+            bodies.append(body)
+    print("site point { x: -3 .. 3; y: -3 .. 3; }\nparam c: -2 .. 2;")
+    for name, body in zip("fgh", bodies):
+        print(predicate(name, body))
+    print(predicate("whole", "*".join(f"({body})" for body in bodies)))
+
+
 TOKEN = re.compile(r"\s+|//[^\n]*|(\w+|\.\.|[{}():;,.+*^=-])")
 count_tokens = lambda text: sum(t.group(1) is not None for t in TOKEN.finditer(text))
 LONG = 32
@@ -259,4 +286,4 @@ def largest():
 
 
 if __name__ == "__main__":
-    {"largest": largest, "check": check, "run": run, "gen": gen, "rows": rows}[sys.argv[1]](*sys.argv[2:])
+    {"largest": largest, "product": product, "check": check, "run": run, "gen": gen, "rows": rows}[sys.argv[1]](*sys.argv[2:])
