@@ -9,3 +9,4 @@ pub mod RunLaws
 pub mod GenLaws
 pub mod FactorsLaws
 pub mod ProductLaws
+pub mod GradedLaws

@@ -1,25 +1,26 @@
--- The signs that `run` prints are the perturbed signs.
+-- The signs that `run` and `graded` print are the perturbed signs, each in its own order of infinitesimals.
 use Rattle.std.specs.Prelude.{◌≡◌, ◌≢◌, ℕ, List, [], ◌∷◌, ◌++◌, Option, Ok}
 use Rattle.ln_base.specs.Outside.{Shelf, Shown}
 use Rattle.ln_base.specs.declared.sign.Sign.{Sign}
+use Rattle.ln_algebra.specs.Orders.{BySmallest, ByDegree, Rank}
 use Rattle.ln_tree.specs.Row.{InRange, Row}
 use Rattle.ln_tree.specs.Table.{PredOf}
 use Rattle.ln_rows.specs.Left.{Records}
 use Rattle.ln_watch.specs.Panel.{State}
 use Rattle.ln_rows.specs.Record.{read_row}
-use Rattle.ln_top.specs.declared.words.Command.TheVariants.{Run}
+use Rattle.ln_top.specs.declared.words.Command.TheVariants.{Graded, Run}
 use Rattle.ln_top.specs.Said.{line, put_both}
-use Rattle.ln_top.specs.Perturbed.{IsSignOn, NotZeroWithoutParams}
+use Rattle.ln_top.specs.Perturbed.{IsSignIn, NotZeroWithoutParams}
 use Rattle.ln_top.specs.Steps.{WhereGiven}
 use Rattle.ln_top.specs.Line.{sign_text}
 use Rattle.ln_top.specs.Run.{HasRecords}
 
 -- the line begins with the perturbed sign of the predicate on the row, which is in range. A predicate without params has no row with the
 -- sign 0
-pub record HasPerturbedSign (p : PredOf) (row : Row) (text : List ℕ) : Type 0 where
+pub record HasPerturbedSign (rank : Rank) (p : PredOf) (row : Row) (text : List ℕ) : Type 0 where
   pub range : InRange p.sites p.vars row
   pub sign : Sign
-  pub perturbed : IsSignOn p row sign
+  pub perturbed : IsSignIn rank p row sign
   pub never_zero : NotZeroWithoutParams p sign
   pub behind : List ℕ
   pub text_is : text ≡ line (sign_text sign ++ 32 ∷ behind)
@@ -36,16 +37,16 @@ pub record IsOneLine (text : List ℕ) : Type 0 where
   pub none : NoFeed body
 
 -- one line behind the other, exactly one for each record: that of a row has its perturbed sign
-pub data HavePerturbedSigns (p : PredOf) : Records → List ℕ → Type 0 where
-  none : HavePerturbedSigns p [] []
+pub data HavePerturbedSigns (rank : Rank) (p : PredOf) : Records → List ℕ → Type 0 where
+  none : HavePerturbedSigns rank p [] []
   more : {fields : List (List ℕ)} {rest : Records} (text texts : List ℕ) → IsOneLine text
-      → ((row : Row) → read_row p.sites p.vars fields ≡ Ok row → HasPerturbedSign p row text)
-      → HavePerturbedSigns p rest texts → HavePerturbedSigns p (fields ∷ rest) (text ++ texts)
+      → ((row : Row) → read_row p.sites p.vars fields ≡ Ok row → HasPerturbedSign rank p row text)
+      → HavePerturbedSigns rank p rest texts → HavePerturbedSigns rank p (fields ∷ rest) (text ++ texts)
 
 -- what came to Out is such lines; on Err are the lines of watchers alone, and so nothing where none is handed in
-pub record PutSigns (p : PredOf) (records : Records) (boxes : List State) (was now : Option Shown) : Type 0 where
+pub record PutSigns (rank : Rank) (p : PredOf) (records : Records) (boxes : List State) (was now : Option Shown) : Type 0 where
   pub lines : List ℕ
-  pub signs : HavePerturbedSigns p records lines
+  pub signs : HavePerturbedSigns rank p records lines
   pub err : List ℕ
   pub none : boxes ≡ [] → err ≡ []
   pub shown : now ≡ put_both lines err was
@@ -54,4 +55,9 @@ pub record PutSigns (p : PredOf) (records : Records) (boxes : List State) (was n
 -- came to Out
 abbrev pub SignsArePerturbed : List (List ℕ) → Shelf → List State → Option Shown → Option Shown → Type 0
 SignsArePerturbed words shelf boxes was now = WhereGiven words shelf Run (λ g. (p : PredOf) (names : List (List ℕ)) (records : Records)
-    → HasRecords g p names (names ∷ records) → PutSigns p records boxes was now)
+    → HasRecords g p names (names ∷ records) → PutSigns BySmallest p records boxes was now)
+
+-- where the words are `graded FILE NAME ROWS`, the same by total degree first; watchers are shown nothing
+abbrev pub GradedSignsArePerturbed : List (List ℕ) → Shelf → Option Shown → Option Shown → Type 0
+GradedSignsArePerturbed words shelf was now = WhereGiven words shelf Graded (λ g. (p : PredOf) (names : List (List ℕ)) (records : Records)
+    → HasRecords g p names (names ∷ records) → PutSigns ByDegree p records [] was now)

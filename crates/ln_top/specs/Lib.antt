@@ -3,6 +3,7 @@ pub mod Stop
 pub mod Plan
 pub mod Source
 pub mod Alike
+pub mod Graded
 pub mod Suits
 pub mod Steps
 pub mod Carried

@@ -3,6 +3,7 @@ use Rattle.std.specs.Prelude.{◌≡◌, ℕ, Bool, true, false, List, [], ◌�
 use Rattle.std.specs.Prelude.{codes, decimal, Result, Ok, Err}
 use Rattle.ln_base.specs.declared.sign.Sign.{Sign}
 use Rattle.ln_base.specs.declared.sign.Sign.TheVariants.{Minus, Zero, Plus}
+use Rattle.ln_algebra.specs.Orders.{Rank}
 use Rattle.ln_tree.specs.Row.{Row}
 use Rattle.ln_tree.specs.Table.{PredOf}
 use Rattle.ln_code.specs.declared.verdict.Verdict.{Verdict}
@@ -11,7 +12,7 @@ use Rattle.ln_code.specs.declared.verdict.By.TheVariants.{Filter, Stage, Nothing
 use Rattle.ln_rows.specs.declared.record.RowStop.{RowStop}
 use Rattle.ln_rows.specs.declared.record.RowStop.TheVariants.{Fields, Number, Range, Index}
 use Rattle.ln_rows.specs.Record.{read_row}
-use Rattle.ln_compile.specs.Filtered.{IsDue}
+use Rattle.ln_compile.specs.Filtered.{IsDueIn}
 use Rattle.ln_top.specs.Said.{line}
 
 abbrev pub sign_text : Sign → List ℕ
@@ -37,15 +38,16 @@ abbrev pub said_text : List (List ℕ) → Result Verdict RowStop → List ℕ
 said_text names (Ok v) = sign_text v.sign ++ 32 ∷ decider_text v.by
 said_text names (Err stop) = stop_text names stop
 
--- what a predicate says of a record: a verdict that the record's row is owed, or why the record is no row
-pub data Says (p : PredOf) (fields : List (List ℕ)) : Result Verdict RowStop → Type 0 where
-  due : (row : Row) (v : Verdict) → read_row p.sites p.vars fields ≡ Ok row → IsDue p row v → Says p fields (Ok v)
-  refused_ : (stop : RowStop) → read_row p.sites p.vars fields ≡ Err stop → Says p fields (Err stop)
+-- what a predicate says of a record in an order of infinitesimals: a verdict that the record's row is owed, or why the record is no
+-- row
+pub data Says (rank : Rank) (p : PredOf) (fields : List (List ℕ)) : Result Verdict RowStop → Type 0 where
+  due : (row : Row) (v : Verdict) → read_row p.sites p.vars fields ≡ Ok row → IsDueIn rank p row v → Says rank p fields (Ok v)
+  refused_ : (stop : RowStop) → read_row p.sites p.vars fields ≡ Err stop → Says rank p fields (Err stop)
 
 -- the line of a record
-pub record IsLineOf (p : PredOf) (names fields : List (List ℕ)) (text : List ℕ) : Type 0 where
+pub record IsLineOf (rank : Rank) (p : PredOf) (names fields : List (List ℕ)) (text : List ℕ) : Type 0 where
   pub said : Result Verdict RowStop
-  pub says : Says p fields said
+  pub says : Says rank p fields said
   pub is : text ≡ line (said_text names said)
 
 abbrev pub is_read : Result Row RowStop → Bool

@@ -1,5 +1,7 @@
--- `run FILE NAME ROWS`: a line on Out for each record behind the header, and the watchers' lines on Err.
+-- `run FILE NAME ROWS`: a line on Out for each record behind the header, and the watchers' lines on Err. `graded FILE NAME ROWS` is the
+-- same in the other order of infinitesimals, without watchers.
 use Rattle.std.specs.Prelude.{◌≡◌, ◌≢◌, ℕ, Bool, true, false, List, [], ◌∷◌, ◌++◌, All, Ok, Err}
+use Rattle.ln_algebra.specs.Orders.{Rank}
 use Rattle.ln_tree.specs.Row.{Row}
 use Rattle.ln_tree.specs.Table.{PredOf}
 use Rattle.ln_rows.specs.Left.{Records, records_in}
@@ -19,15 +21,15 @@ use Rattle.ln_top.specs.Target.{TargetOf, pred_in}
 use Rattle.ln_top.specs.Watching.{Watching, watching, next_lines, next, last_of}
 
 -- what a record puts: its line on Out, and on Err the lines of the boxes that are done behind its verdict
-pub record RunStep (p : PredOf) (names : List (List ℕ))
+pub record RunStep (rank : Rank) (p : PredOf) (names : List (List ℕ))
     (before : Watching) (fields : List (List ℕ)) (out err : List ℕ) (after : Watching) : Type 0 where
-  pub line : IsLineOf p names fields out
+  pub line : IsLineOf rank p names fields out
   pub told : err ≡ next_lines line.said before
   pub left : after ≡ next line.said before
 
 -- the step of a predicate that is run
 abbrev pub StepOf : TargetOf → Watching → List (List ℕ) → List ℕ → List ℕ → Watching → Type 0
-StepOf t = RunStep (pred_in t) t.names
+StepOf t = RunStep t.rank (pred_in t) t.names
 
 abbrev pub end_of : Bool → End
 end_of true = Done
@@ -65,18 +67,18 @@ said_of_run p records out err z = record { end = end_of (all_good (is_row p) rec
 
 -- what is owed: the error line of a wrong header; or behind the header a line for each record, in order, and the lines of the watchers,
 -- at the end those of the boxes that are left, also where records are refused
-pub data RunSaid (boxes : List State) (g : Given) : Said → Type 0 where
+pub data RunSaid (rank : Rank) (boxes : List State) (g : Given) : Said → Type 0 where
   header : (p : PredOf) (names : List (List ℕ)) (records : Records)
-      → HasRecords g p names records → IsWrongHeader names records → RunSaid boxes g (said_of Header)
+      → HasRecords g p names records → IsWrongHeader names records → RunSaid rank boxes g (said_of Header)
   ran : (p : PredOf) (names : List (List ℕ)) (records : Records) (out err : List ℕ) (z : Watching)
-      → HasRecords g p names (names ∷ records) → Lines (RunStep p names) (watching 0 boxes) records out err z
-      → RunSaid boxes g (said_of_run p records out err z)
+      → HasRecords g p names (names ∷ records) → Lines (RunStep rank p names) (watching 0 boxes) records out err z
+      → RunSaid rank boxes g (said_of_run p records out err z)
 
 -- what want of memory leaves: the whole lines of the first records
-pub data RunPart (boxes : List State) (g : Given) (out err : List ℕ) : Type 0 where
+pub data RunPart (rank : Rank) (boxes : List State) (g : Given) (out err : List ℕ) : Type 0 where
   first : (p : PredOf) (names : List (List ℕ)) (done left : Records) (z : Watching)
-      → HasRecords g p names (names ∷ done ++ left) → Lines (RunStep p names) (watching 0 boxes) done out err z
-      → RunPart boxes g out err
+      → HasRecords g p names (names ∷ done ++ left) → Lines (RunStep rank p names) (watching 0 boxes) done out err z
+      → RunPart rank boxes g out err
 
 -- a record is a row in range, or none
 pub record IsRow (p : PredOf) (fields : List (List ℕ)) : Type 0 where

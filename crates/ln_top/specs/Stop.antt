@@ -7,21 +7,25 @@ use Rattle.ln_top.specs.declared.status.End.{End}
 use Rattle.ln_top.specs.declared.status.End.TheVariants as end
 use Rattle.ln_top.specs.declared.stop.Place.{Place}
 use Rattle.ln_top.specs.declared.stop.Why.{Why}
-use Rattle.ln_top.specs.declared.stop.Why.TheVariants.{Usage, TooLong, Refused, NoPredicate, Header, Shape, Many}
+use Rattle.ln_top.specs.declared.stop.Why.TheVariants.{Usage, TooLong, Refused, Stages, NoPredicate, Header, Shape, Many}
 use Rattle.ln_top.specs.declared.stop.Stop.{Stop}
 use Rattle.ln_top.specs.declared.stop.Stop.TheVariants.{Tell, Memory}
 use Rattle.ln_top.specs.Said.{Said, error_line}
 use Rattle.ln_top.specs.Source.{place_at}
 
 -- `error KIND LINE:COL`
+abbrev pub placed_text : List ℕ → Place → List ℕ
+placed_text word place = codes "error " ++ word ++ codes " " ++ decimal place.line ++ codes ":" ++ decimal place.col
+
 abbrev pub refusal_text : Refusal → Place → List ℕ
-refusal_text r place = codes "error " ++ word_of r ++ codes " " ++ decimal place.line ++ codes ":" ++ decimal place.col
+refusal_text r place = placed_text (word_of r) place
 
 -- how a command ends that stops so
 abbrev pub why_end : Why → End
 why_end Usage = end.Usage
 why_end TooLong = end.TooLong
 why_end (Refused r place) = end.Refused
+why_end (Stages place) = end.Refused
 why_end NoPredicate = end.NoPredicate
 why_end Header = end.Rows
 why_end Shape = end.Shape
@@ -32,6 +36,7 @@ abbrev pub why_text : Why → List ℕ
 why_text Usage = codes "error usage"
 why_text TooLong = codes "error long"
 why_text (Refused r place) = refusal_text r place
+why_text (Stages place) = placed_text (codes "stages") place
 why_text NoPredicate = codes "error predicate"
 why_text Header = codes "error header"
 why_text Shape = codes "error shape"

@@ -1,5 +1,6 @@
--- A predicate of a source as it is run.
+-- A predicate of a source as it is run, in an order of infinitesimals.
 use Rattle.std.specs.Prelude.{◌≡◌, ℕ, List, [], ◌∷◌, Result}
+use Rattle.ln_algebra.specs.Orders.{BySmallest, ByDegree, Rank}
 use Rattle.ln_tree.specs.declared.pred.Pred.{Pred}
 use Rattle.ln_tree.specs.Row.{InRange, Row}
 use Rattle.ln_tree.specs.Table.{PredOf, pred_of}
@@ -7,22 +8,30 @@ use Rattle.ln_code.specs.declared.row.Row as code
 use Rattle.ln_code.specs.Kept.{IsProgram}
 use Rattle.ln_code.specs.Part.{Part}
 use Rattle.ln_code.specs.RowOf.{row_of}
-use Rattle.ln_compile.specs.Compiled.{IsProgramOf}
+use Rattle.ln_compile.specs.Filtered.{AnswersFor}
 use Rattle.ln_rows.specs.Record.{IsReadAs}
 use Rattle.ln_rows.specs.declared.record.RowStop.{RowStop}
+use Rattle.ln_top.specs.declared.target.Order.{Order}
+use Rattle.ln_top.specs.declared.target.Order.TheVariants.{Smallest, Degree}
 use Rattle.ln_top.specs.Columns.{columns_of}
 use Rattle.ln_top.specs.Steps.{Given}
 
--- the predicate, the names of its columns and its program
+-- the order, the predicate, the names of its columns and its program
 pub record TargetOf : Type 0 where
+  pub rank : Rank
   pub pred : Pred
   pub names : List (List ℕ)
   pub program : Part
 
--- the program follows the rules and is the predicate's
-pub record Belongs (pred : Pred) (program : Part) : Type 0 where
+-- the order that the program's type names
+abbrev pub rank_of : Order → Rank
+rank_of Smallest = BySmallest
+rank_of Degree = ByDegree
+
+-- the program follows the rules and answers for the predicate in this order
+pub record Belongs (rank : Rank) (pred : Pred) (program : Part) : Type 0 where
   pub kept : IsProgram program
-  pub carries : IsProgramOf (pred_of pred) program
+  pub answers : AnswersFor rank (pred_of pred) program
 
 -- what the predicate is
 abbrev pub pred_in : TargetOf → PredOf

@@ -1,6 +1,7 @@
 -- The works of the commands, each by its own file and over the watchers that are handed in: what is owed, what want of memory may
 -- leave, and how and where it ends.
-use Rattle.std.specs.Prelude.{◌≡◌, ℕ, List, Some}
+use Rattle.std.specs.Prelude.{◌≡◌, ℕ, List, [], Some}
+use Rattle.ln_algebra.specs.Orders.{BySmallest, ByDegree}
 use Rattle.ln_watch.specs.Panel.{State}
 use Rattle.ln_top.specs.declared.status.End.{End}
 use Rattle.ln_top.specs.declared.status.End.TheVariants as end
@@ -23,8 +24,9 @@ WorkOwes command.Check = λ boxes. CheckSaid
 WorkOwes command.List = λ boxes. ListSaid
 WorkOwes command.Emit = λ boxes. EmitSaid
 WorkOwes command.Verify = λ boxes. VerifySaid
-WorkOwes command.Run = RunSaid
+WorkOwes command.Run = RunSaid BySmallest
 WorkOwes command.Product = λ boxes. ProductSaid
+WorkOwes command.Graded = λ boxes. RunSaid ByDegree []
 WorkOwes (command.Gen seed count) = GenSaid seed count
 
 abbrev pub WorkPart : Command → List State → Given → List ℕ → List ℕ → Type 0
@@ -32,8 +34,9 @@ WorkPart command.Check = λ boxes g. NoPart
 WorkPart command.List = λ boxes g. NoPart
 WorkPart command.Emit = λ boxes g. NoPart
 WorkPart command.Verify = λ boxes g. NoPart
-WorkPart command.Run = RunPart
+WorkPart command.Run = RunPart BySmallest
 WorkPart command.Product = λ boxes. ProductPart
+WorkPart command.Graded = λ boxes. RunPart ByDegree []
 WorkPart (command.Gen seed count) = λ boxes g. NoPart
 
 abbrev pub WorkEnds : Command → Given → End → Type 0
@@ -43,6 +46,7 @@ WorkEnds command.Emit g = EmitEnds g
 WorkEnds command.Verify g = VerifyEnds g
 WorkEnds command.Run g = RunEnds g
 WorkEnds command.Product g = RunEnds g
+WorkEnds command.Graded g = RunEnds g
 WorkEnds (command.Gen seed count) g = GenEnds g
 
 -- an end that works have; any other comes with its line alone
@@ -60,6 +64,7 @@ IsOneValued command.Emit = ⊥
 IsOneValued command.Verify = Unit {0}
 IsOneValued command.Run = Unit {0}
 IsOneValued command.Product = Unit {0}
+IsOneValued command.Graded = Unit {0}
 IsOneValued (command.Gen seed count) = Unit {0}
 
 -- where these words are a command, it is one of those

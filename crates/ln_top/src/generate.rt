@@ -1,5 +1,6 @@
 //! The work of `gen`: rows are made of a generator's words and run one at a time, and the watchers' lines go to Out.
 ghost use Rattle.std.specs.Prelude.{◌≡◌, [], ◌∷◌, length};
+ghost use Rattle.ln_algebra.specs.Orders.{BySmallest};
 ghost use Rattle.ln_code.specs.Memory.{MadeFor};
 ghost use Rattle.ln_rows.specs.Record.{columns};
 ghost use Rattle.ln_top.specs.Carried.{CarriesOut, NoPart};
@@ -35,7 +36,8 @@ fn put_row<C: Console>(
     n: u64,
     panel: &mut Panel,
 ) -> bool
-    requires { MadeFor target.now.program s.old }
+    requires made { MadeFor target.now.program s.old }
+    requires rank { target.now.rank ≡ BySmallest }
     ensures puts { PutsOne (GenStep (pred_in target.now)) (states_of kind_of tally_of panel.old.watchers.items)
         (draw n g.old)
         (count (C.faults con.old) (C.faults con.new)) result (C.shown con.old) (C.shown con.new)
@@ -57,7 +59,8 @@ fn put_rows<C: Console>(
     rows: u64,
     panel: &mut Panel,
 ) -> bool
-    requires { MadeFor target.now.program s.old }
+    requires made { MadeFor target.now.program s.old }
+    requires rank { target.now.rank ≡ BySmallest }
     ensures { PutsAll (GenStep (pred_in target.now)) (states_of kind_of tally_of panel.old.watchers.items)
         (draws rows 0 target.now.pred.shape.vars g.old)
         (count (C.faults con.old) (C.faults con.new)) result (C.shown con.old) (C.shown con.new)
@@ -83,7 +86,8 @@ fn put_made<C: Console>(
     watchers: Vec<Box<dyn Watch>>,
 ) -> Result<End, Early>
     requires made { MadeFor target.now.program s.old }
-    requires belongs { Belongs target.now.pred target.now.program }
+    requires rank { target.now.rank ≡ BySmallest }
+    requires belongs { Belongs target.now.rank target.now.pred target.now.program }
     ensures { (g : Given) → g.preds ≡ pred_in target.now ∷ []
         → CarriesOut (GenSaid seed rows (states_of kind_of tally_of watchers.items) g) NoPart ⊥ ⊥
         (count (C.faults con.old) (C.faults con.new)) result (C.shown con.old) (C.shown con.new) }
@@ -108,6 +112,7 @@ fn run_made<C: Console>(
     rows: u64,
     watchers: Vec<Box<dyn Watch>>,
 ) -> Result<End, Early>
+    requires { target.now.rank ≡ BySmallest }
     ensures { (g : Given) → g.preds ≡ pred_in target.now ∷ []
         → CarriesOut (GenSaid seed rows (states_of kind_of tally_of watchers.items) g) NoPart ⊥ ⊥
         (count (C.faults con.old) (C.faults con.new)) result (C.shown con.old) (C.shown con.new) }

@@ -20,6 +20,7 @@ pub mod factors;
 mod gather;
 pub mod gen_row;
 mod generate;
+pub mod graded;
 pub mod laws;
 pub mod line;
 mod list;

@@ -1,12 +1,13 @@
 //! The steps before the work: the source is read and compiled, the names are looked for, their predicates suit the command,
 //! the further files are read.
-ghost use Rattle.std.specs.Prelude.{◌≡◌, ◌≢◌, ◌≤◌, ◌<◌, All, Err, List, [], ◌∷◌, map, length, IfOk, IfErr, string_bytes, true, false};
+ghost use Rattle.std.specs.Prelude.{◌≡◌, ◌≢◌, ◌≤◌, ◌<◌, All, Err, List, [], ◌∷◌, map, length, IfOk, IfErr, OnOk, Ok, string_bytes, true, false};
+ghost use Rattle.ln_algebra.specs.Orders.{ByDegree, BySmallest};
 ghost use Rattle.ln_base.specs.Outside.{Rose};
 ghost use Rattle.ln_tree.specs.Table.{PredOf, pred_of};
 ghost use Rattle.ln_top.specs.Plan.{with_bytes};
 ghost use Rattle.ln_top.specs.Source.{view};
-ghost use Rattle.ln_top.specs.Suits.{Asks};
-ghost use Rattle.ln_top.specs.Steps.{Each, Finds, Given, Prepares, Reads, gives, most_file};
+ghost use Rattle.ln_top.specs.Suits.{Asks, objection};
+ghost use Rattle.ln_top.specs.Steps.{Each, Finds, Given, Prepares, Reads, Suits, gives, most_file};
 ghost use Rattle.ln_top.specs.Carried.{Halts};
 ghost use Rattle.ln_top.specs.Target.{IsGivenBy};
 ghost use Rattle.ln_verify.specs.Accepted.{AreAccepted};
@@ -14,6 +15,7 @@ ghost use Rattle.ln_top.specs.Factors.{AreGivenBy};
 ghost use Rattle.ln_top.specs.Ready.{AreNumbered, HasNumbers, HasStanding, IsReady, IsReadyFor, StandsFor};
 
 use crate::factors::Factors;
+use crate::graded::{few_first, graded_objection};
 use crate::source::compiled;
 use crate::stop::{Stop, Why};
 use crate::suits::alike;
@@ -100,11 +102,11 @@ fn texts<F: Files>(alloc: Global, files: &mut F, names: &[String]) -> Result<Vec
 }
 
 // Returns whether the named predicates suit the command.
-fn suits(command: Command, c: &Checked, numbers: &[usize]) -> bool
+fn suits(alloc: Global, command: Command, c: &Checked, numbers: &[usize]) -> Result<bool, NoMemory>
     requires { All (λ i. i < length c.now.table.preds) numbers.now }
-    ensures yes { result ≡ true → (preds : List PredOf) → AreNumbered (map pred_of c.now.table.preds) numbers.now preds
+    ensures yes { result ≡ Ok true → (preds : List PredOf) → AreNumbered (map pred_of c.now.table.preds) numbers.now preds
         → Asks command preds }
-    ensures no { result ≡ false → (preds : List PredOf) → AreNumbered (map pred_of c.now.table.preds) numbers.now preds
+    ensures no { result ≡ Ok false → (preds : List PredOf) → AreNumbered (map pred_of c.now.table.preds) numbers.now preds
         → Asks command preds → ⊥ }
 {
     match command {
@@ -113,8 +115,51 @@ fn suits(command: Command, c: &Checked, numbers: &[usize]) -> bool
         | Command::List
         | Command::Emit
         | Command::Verify
-        | Command::Gen(..) => true,
-        Command::Product => alike(c.table().preds.as_slice(), numbers),
+        | Command::Gen(..) => Ok(true),
+        Command::Product => Ok(alike(c.table().preds.as_slice(), numbers)),
+        Command::Graded => few_first(alloc, c, numbers),
+    }
+}
+
+// Returns why the named predicates don't suit the command.
+fn objection(command: Command, bytes: &[u8], c: &Checked, numbers: &[usize]) -> Why
+    requires within { All (λ i. i < length c.now.table.preds) numbers.now }
+    requires short { length bytes.now ≤ 1048576 }
+    ensures { (preds : List PredOf) → AreNumbered (map pred_of c.now.table.preds) numbers.now preds
+        → result ≡ objection command bytes.now preds }
+{
+    match command {
+        Command::Check
+        | Command::Run
+        | Command::List
+        | Command::Emit
+        | Command::Verify
+        | Command::Product
+        | Command::Gen(..) => Why::Shape,
+        Command::Graded => graded_objection(bytes, c, numbers),
+    }
+}
+
+// Takes the step at which a command looks at its named predicates together.
+fn suited(
+    alloc: Global,
+    command: Command,
+    bytes: &[u8],
+    c: &Checked,
+    numbers: &[usize],
+) -> Result<(), Stop>
+    requires within { All (λ i. i < length c.now.table.preds) numbers.now }
+    requires short { length bytes.now ≤ 1048576 }
+    ensures ok { OnOk result ((preds : List PredOf) → AreNumbered (map pred_of c.now.table.preds) numbers.now preds
+        → Asks command preds) }
+    ensures err { IfErr result (λ s. (preds : List PredOf) → AreNumbered (map pred_of c.now.table.preds) numbers.now preds
+        → Halts (Suits command bytes.now preds) ⊥ s) }
+    ensures quiet { result ≢ Err Stop.Read }
+{
+    match suits(alloc, command, c, numbers) {
+        Ok(true) => Ok(()),
+        Ok(false) => Err(Stop::Tell(objection(command, bytes, c, numbers))),
+        Err(_) => Err(Stop::Memory),
     }
 }
 
@@ -139,9 +184,10 @@ pub fn prepare<F: Files>(alloc: Global, files: &mut F, plan: Plan<'_>) -> Result
         Ok(numbers) => numbers,
         Err(stop) => return Err(stop),
     };
-    if !suits(plan.command, &compiled, &numbers) {
-        return Err(Stop::Tell(Why::Shape));
-    }
+    let _suited = match suited(alloc, plan.command, &bytes, &compiled, &numbers) {
+        Ok(suited) => suited,
+        Err(stop) => return Err(stop),
+    };
     match texts(alloc, files, plan.files) {
         Ok(texts) => Ok(Ready {
             compiled,
@@ -156,9 +202,20 @@ pub fn prepare<F: Files>(alloc: Global, files: &mut F, plan: Plan<'_>) -> Result
 pub fn one_target(alloc: Global, ready: &Ready) -> Result<Target<'_>, NoMemory>
     requires stands { HasStanding ready.now }
     requires one { length ready.now.numbers.items ≡ 1 }
-    ensures { IfOk result (λ t. (g : Given) → StandsFor ready.now g → IsGivenBy g t) }
+    ensures given { IfOk result (λ t. (g : Given) → StandsFor ready.now g → IsGivenBy g t) }
+    ensures rank { IfOk result (λ t. t.rank ≡ BySmallest) }
 {
     let target = Target::new(alloc, &ready.compiled, ready.numbers.as_slice()[0])?;
+    Ok(target)
+}
+
+/// The one named predicate, with its program by total degree.
+pub fn degree_target(alloc: Global, ready: &Ready) -> Result<Target<'_>, NoMemory>
+    requires { IsReadyFor Command.Graded ready.now }
+    ensures given { IfOk result (λ t. (g : Given) → StandsFor ready.now g → IsGivenBy g t) }
+    ensures rank { IfOk result (λ t. t.rank ≡ ByDegree) }
+{
+    let target = Target::graded(alloc, &ready.compiled, ready.numbers.as_slice()[0])?;
     Ok(target)
 }
 

@@ -1,6 +1,7 @@
 //! The work of `run`: a line for each record behind the header, and the lines of the watchers.
 ghost use Rattle.std.specs.Prelude.{◌≡◌, ◌≤◌, ◌+◌, ◌++◌, [], ◌∷◌, ℕ, List, true};
 ghost use Rattle.std.specs.Prelude.{vec_len, vec_capacity, IfOk, IsOk, OnOk, OnErr};
+ghost use Rattle.ln_algebra.specs.Orders.{BySmallest};
 ghost use Rattle.ln_code.specs.Memory.{MadeFor};
 ghost use Rattle.ln_top.specs.Carried.{CarriesOut};
 ghost use Rattle.ln_top.specs.Line.{Says, is_bare_record, is_row, is_said, line_room, said_text};
@@ -39,7 +40,7 @@ fn verdict_of(
     requires made { MadeFor target.now.program s.old }
     requires range { OnOk read (IsInRange target.now row.now) }
     ensures says { (fields : List (List ℕ)) → IsReadFor target.now fields read row.now
-        → Says (pred_in target.now) fields result }
+        → Says target.now.rank (pred_in target.now) fields result }
     ensures made { MadeFor target.now.program s.new }
 {
     match read {
@@ -70,7 +71,7 @@ fn add_record(
     requires range { OnOk read (IsInRange target.now row.now) }
     requires room { vec_len text.old + line_room ≤ vec_capacity text.old }
     ensures says { IfOk result (λ said. (fields : List (List ℕ)) → IsReadFor target.now fields read row.now
-        → Says (pred_in target.now) fields said) }
+        → Says target.now.rank (pred_in target.now) fields said) }
     ensures line { IfOk result (λ said. text.new.items ≡ text.old.items ++ line (said_text target.now.names said)) }
     ensures err { OnErr result (text.new.items ≡ text.old.items) }
     ensures made { MadeFor target.now.program s.new }
@@ -175,8 +176,8 @@ fn run_rows<C: Console>(
     watchers: Vec<Box<dyn Watch>>,
 ) -> Result<End, Early>
     ensures { (g : Given) → HasRecords g (pred_in target.now) target.now.names (target.now.names ∷ rows.old)
-        → CarriesOut (RunSaid (states_of kind_of tally_of watchers.items) g)
-        (RunPart (states_of kind_of tally_of watchers.items) g) ⊥ ⊥
+        → CarriesOut (RunSaid target.now.rank (states_of kind_of tally_of watchers.items) g)
+        (RunPart target.now.rank (states_of kind_of tally_of watchers.items) g) ⊥ ⊥
         (count (C.faults con.old) (C.faults con.new)) result (C.shown con.old) (C.shown con.new) }
 {
     let Ok(mut scratch) = target.scratch(alloc) else {
@@ -211,8 +212,8 @@ fn run_records<C: Console>(
     watchers: Vec<Box<dyn Watch>>,
 ) -> Result<End, Early>
     ensures { (g : Given) → HasRecords g (pred_in target.now) target.now.names rows.old
-        → CarriesOut (RunSaid (states_of kind_of tally_of watchers.items) g)
-        (RunPart (states_of kind_of tally_of watchers.items) g) ⊥ ⊥
+        → CarriesOut (RunSaid target.now.rank (states_of kind_of tally_of watchers.items) g)
+        (RunPart target.now.rank (states_of kind_of tally_of watchers.items) g) ⊥ ⊥
         (count (C.faults con.old) (C.faults con.new)) result (C.shown con.old) (C.shown con.new) }
 {
     match target.take_header(rows) {
@@ -222,8 +223,8 @@ fn run_records<C: Console>(
     }
 }
 
-// The work on the records of a rows file.
-fn run_text<C: Console>(
+/// The work on the records of a rows file.
+pub(crate) fn run_text<C: Console>(
     alloc: Global,
     con: &mut C,
     target: &Target<'_>,
@@ -231,8 +232,8 @@ fn run_text<C: Console>(
     watchers: Vec<Box<dyn Watch>>,
 ) -> Result<End, Early>
     ensures { (g : Given) → IsGivenBy g target.now → g.texts ≡ text.now ∷ []
-        → CarriesOut (RunSaid (states_of kind_of tally_of watchers.items) g)
-        (RunPart (states_of kind_of tally_of watchers.items) g) ⊥ ⊥
+        → CarriesOut (RunSaid target.now.rank (states_of kind_of tally_of watchers.items) g)
+        (RunPart target.now.rank (states_of kind_of tally_of watchers.items) g) ⊥ ⊥
         (count (C.faults con.old) (C.faults con.new)) result (C.shown con.old) (C.shown con.new) }
 {
     let mut rows = Rows::new(alloc, text);
@@ -248,8 +249,8 @@ pub(crate) fn work<C: Console>(
 ) -> Result<End, Early>
     requires { IsReadyFor Command.Run ready.now }
     ensures { (g : Given) → StandsFor ready.now g
-        → CarriesOut (RunSaid (states_of kind_of tally_of watchers.items) g)
-        (RunPart (states_of kind_of tally_of watchers.items) g) ⊥ ⊥
+        → CarriesOut (RunSaid BySmallest (states_of kind_of tally_of watchers.items) g)
+        (RunPart BySmallest (states_of kind_of tally_of watchers.items) g) ⊥ ⊥
         (count (C.faults con.old) (C.faults con.new)) result (C.shown con.old) (C.shown con.new) }
 {
     let Ok(target) = one_target(alloc, ready) else {

@@ -10,8 +10,8 @@ use ln_base::{Span, line_col};
 use ln_compile::{Checked, Refusal, check};
 use std::alloc::Global;
 
-// The place of the start of a span.
-fn place_at(bytes: &[u8], at: Span) -> Place
+/// Returns the place of the start of a span, both from 1. Allocates nothing.
+pub fn place_at(bytes: &[u8], at: Span) -> Place
     requires { length bytes.now ≤ 1048576 }
     ensures { result ≡ place_at bytes.now at }
 {

@@ -1,7 +1,7 @@
 //! Why a command stops before its work, and the puts of whole texts.
 ghost use Rattle.std.specs.Prelude.{◌≡◌, ◌≢◌, ◌++◌, IfOk};
 ghost use Rattle.ln_top.specs.Said.{count, line};
-ghost use Rattle.ln_top.specs.Stop.{refusal_text, why_end};
+ghost use Rattle.ln_top.specs.Stop.{placed_text, why_end};
 ghost use Rattle.ln_top.specs.Carried.{PutsText, Says, stop_line, stop_result};
 
 use crate::put::add_number;
@@ -26,6 +26,8 @@ pub enum Why {
     TooLong,
     /// The source is refused for this, at this place.
     Refused(Refusal, Place),
+    /// The named predicate, whose name is at this place, has too many stages by total degree.
+    Stages(Place),
     /// The source has no predicate of a name.
     NoPredicate,
     /// The first record isn't the columns' names.
@@ -56,6 +58,7 @@ impl Why {
             Why::Usage => End::Usage,
             Why::TooLong => End::TooLong,
             Why::Refused(..) => End::Refused,
+            Why::Stages(_) => End::Refused,
             Why::NoPredicate => End::NoPredicate,
             Why::Header => End::Rows,
             Why::Shape => End::Shape,
@@ -65,22 +68,22 @@ impl Why {
 }
 
 // Adds `error WORD LINE:COL` and a line feed.
-fn add_refusal(text: &mut Vec<u8>, r: Refusal, place: Place) -> Result<(), NoMemory>
-    ensures { IfOk result (λ x. text.new.items ≡ text.old.items ++ line (refusal_text r place)) }
+fn add_placed(text: &mut Vec<u8>, word: &str, place: Place) -> Result<(), NoMemory>
+    ensures { IfOk result (λ x. text.new.items ≡ text.old.items ++ line (placed_text word.now place)) }
 {
     text.extend_from_slice(b"error ")?;
-    text.extend_from_slice(r.word().as_bytes())?;
+    text.extend_from_slice(word.as_bytes())?;
     add_number(text, b" ", u64::from(place.line))?;
     add_number(text, b":", u64::from(place.col))?;
     text.push(b'\n')?;
     Ok(())
 }
 
-fn refusal_line(alloc: Global, r: Refusal, place: Place) -> Result<Vec<u8>, NoMemory>
-    ensures { IfOk result (λ v. v.items ≡ line (refusal_text r place)) }
+fn placed_line(alloc: Global, word: &str, place: Place) -> Result<Vec<u8>, NoMemory>
+    ensures { IfOk result (λ v. v.items ≡ line (placed_text word.now place)) }
 {
     let mut text = Vec::new(alloc);
-    add_refusal(&mut text, r, place)?;
+    add_placed(&mut text, word, place)?;
     Ok(text)
 }
 
@@ -108,7 +111,26 @@ fn put_line<C: Console>(con: &mut C, stop: Stop, text: &[u8]) -> Result<End, Ear
     }
 }
 
-/// Puts the line of a stop on Err. Only that of a refused source takes memory.
+// Puts the line of a stop with a place.
+fn say_placed<C: Console>(
+    alloc: Global,
+    con: &mut C,
+    stop: Stop,
+    word: &str,
+    place: Place,
+) -> Result<End, Early>
+    requires line { stop_line stop ≡ line (placed_text word.now place) }
+    requires some { stop ≢ Stop.Memory }
+    ensures { Says stop
+        (count (C.faults con.old) (C.faults con.new)) result (C.shown con.old) (C.shown con.new) }
+{
+    match placed_line(alloc, word, place) {
+        Ok(text) => put_line(con, stop, &text),
+        Err(_) => Err(Early::Memory),
+    }
+}
+
+/// Puts the line of a stop on Err. Only one with a place takes memory.
 pub fn say<C: Console>(alloc: Global, con: &mut C, stop: Stop) -> Result<End, Early>
     ensures { Says stop
         (count (C.faults con.old) (C.faults con.new)) result (C.shown con.old) (C.shown con.new) }
@@ -122,10 +144,8 @@ pub fn say<C: Console>(alloc: Global, con: &mut C, stop: Stop) -> Result<End, Ea
         Stop::Tell(Why::Header) => put_line(con, stop, b"error header\n"),
         Stop::Tell(Why::Shape) => put_line(con, stop, b"error shape\n"),
         Stop::Tell(Why::Many) => put_line(con, stop, b"error many\n"),
-        Stop::Tell(Why::Refused(r, place)) => match refusal_line(alloc, r, place) {
-            Ok(text) => put_line(con, stop, &text),
-            Err(_) => Err(Early::Memory),
-        },
+        Stop::Tell(Why::Refused(r, place)) => say_placed(alloc, con, stop, r.word(), place),
+        Stop::Tell(Why::Stages(place)) => say_placed(alloc, con, stop, "stages", place),
     }
 }
 

@@ -1,11 +1,15 @@
 //! A predicate of a source as it is run: with the names of its columns and its program.
-ghost use Rattle.std.specs.Prelude.{◌≡◌, ◌<◌, length, slice_get, Some, IfOk};
+ghost use Rattle.std.specs.Prelude.{◌≡◌, ◌<◌, length, map, slice_get, Some, IfOk};
 ghost use Rattle.ln_code.specs.Memory.{MadeFor};
-ghost use Rattle.ln_compile.specs.Filtered.{IsDue};
+ghost use Rattle.ln_algebra.specs.Orders.{ByDegree, BySmallest};
+ghost use Rattle.ln_compile.specs.Filtered.{IsDueIn};
+ghost use Rattle.ln_tree.specs.Table.{PredOf, pred_of};
 ghost use Rattle.ln_top.specs.Columns.{names_of};
+ghost use Rattle.ln_top.specs.Graded.{HasFewGraded};
 ghost use Rattle.ln_top.specs.Run.{HeaderIs};
 ghost use Rattle.ln_top.specs.Target.{Belongs, IsInRange, pred_in, row_in};
 
+use crate::graded::graded_program;
 use crate::listable::kept;
 use ln_base::NoMemory;
 use ln_code::{Program, Row, Scratch, Verdict, run_row};
@@ -15,28 +19,43 @@ use ln_tree::{Pred, Table};
 use std::alloc::Global;
 use std::marker::Model;
 
+/// The order of infinitesimals in which a predicate is run.
+#[derive(Clone, Copy)]
+pub enum Order {
+    /// By the smallest infinitesimal that differs.
+    Smallest,
+    /// By total degree first.
+    Degree,
+}
+
 /// A predicate of a source with its table and its program. Contracts see the predicate, the names of its columns and the program; the
-/// type keeps that the program follows the rules and is the predicate's.
+/// type keeps that the program follows the rules and answers for the predicate in its order of infinitesimals.
 #[derive(Drop)]
 pub struct Target<'a> {
     table: &'a Table,
     pred: &'a Pred,
     program: Program,
+    order: Order,
 }
 
 impl<'a> Model for Target<'a> {
     ghost use Rattle.std.specs.Coded.{codes};
     ghost use Rattle.ln_tree.specs.contracts.expr.Node as node;
     ghost use Rattle.ln_top.specs.Columns.{names_of};
-    ghost use Rattle.ln_top.specs.Target.{Belongs, TargetOf};
+    ghost use Rattle.ln_top.specs.Target.{Belongs, TargetOf, rank_of};
 
     ghost Value = { TargetOf };
 
     ghost coded = { Prim.hlevel (codes, node.the_row.coded) };
 
-    ghost view = { λ t. record { pred = t.pred.now; names = names_of t.table.now t.pred.now; program = t.program } };
+    ghost view = { λ t. record {
+      rank = rank_of t.order;
+      pred = t.pred.now;
+      names = names_of t.table.now t.pred.now;
+      program = t.program;
+    } };
 
-    ghost invariant = { λ t. Belongs t.pred.now t.program };
+    ghost invariant = { λ t. Belongs (rank_of t.order) t.pred.now t.program };
 }
 
 impl<'a> Target<'a> {
@@ -45,6 +64,7 @@ impl<'a> Target<'a> {
         requires { i < length c.now.table.preds }
         ensures pred { IfOk result (λ t. slice_get c.now.table.preds i ≡ Some t.pred) }
         ensures names { IfOk result (λ t. t.names ≡ names_of c.now.table t.pred) }
+        ensures rank { IfOk result (λ t. t.rank ≡ BySmallest) }
     {
         let program = c.program(alloc, i)?;
         let _kept = kept(&program);
@@ -52,6 +72,26 @@ impl<'a> Target<'a> {
             table: c.table(),
             pred: &c.table().preds.as_slice()[i],
             program,
+            order: Order::Smallest,
+        })
+    }
+
+    /// The predicate of a source with this number, from 0, and its program by total degree first, which is made here: its lists are
+    /// within both limits.
+    pub fn graded(alloc: Global, c: &'a Checked, i: usize) -> Result<Target<'a>, NoMemory>
+        requires within { i < length c.now.table.preds }
+        requires few { (p : PredOf) → slice_get (map pred_of c.now.table.preds) i ≡ Some p → HasFewGraded p }
+        ensures pred { IfOk result (λ t. slice_get c.now.table.preds i ≡ Some t.pred) }
+        ensures names { IfOk result (λ t. t.names ≡ names_of c.now.table t.pred) }
+        ensures rank { IfOk result (λ t. t.rank ≡ ByDegree) }
+    {
+        let program = graded_program(alloc, c, i)?;
+        let _kept = kept(&program);
+        Ok(Target {
+            table: c.table(),
+            pred: &c.table().preds.as_slice()[i],
+            program,
+            order: Order::Degree,
         })
     }
 
@@ -80,17 +120,17 @@ impl<'a> Target<'a> {
     /// Memory in which the program is run.
     pub fn scratch(&self, alloc: Global) -> Result<Scratch, NoMemory>
         ensures made { IfOk result (λ s. MadeFor self.now.program s) }
-        ensures belongs { Belongs self.now.pred self.now.program }
+        ensures belongs { Belongs self.now.rank self.now.pred self.now.program }
     {
         let scratch = Scratch::new(alloc, &self.program)?;
         Ok(scratch)
     }
 
-    /// The verdict that a row in range is owed. It takes no memory and refuses nothing.
+    /// The verdict that a row in range is owed in its order. It takes no memory and refuses nothing.
     pub fn verdict(&self, s: &mut Scratch, row: &Row) -> Verdict
         requires made { MadeFor self.now.program s.old }
         requires range { IsInRange self.now row.now }
-        ensures due { IsDue (pred_in self.now) (row_in self.now row.now) result }
+        ensures due { IsDueIn self.now.rank (pred_in self.now) (row_in self.now row.now) result }
         ensures made { MadeFor self.now.program s.new }
     {
         run_row(&self.program, s, row)

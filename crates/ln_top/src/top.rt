@@ -6,7 +6,7 @@ ghost use Rattle.ln_top.specs.Call.{Keeps, call};
 ghost use Rattle.ln_top.specs.Carried.{CarriesOut};
 ghost use Rattle.ln_top.specs.Causes.{IsSettled};
 ghost use Rattle.ln_top.specs.Emitted.{CallsArePerturbed};
-ghost use Rattle.ln_top.specs.Headline.{SignsArePerturbed};
+ghost use Rattle.ln_top.specs.Headline.{GradedSignsArePerturbed, SignsArePerturbed};
 ghost use Rattle.ln_top.specs.Listed.{ListingGivesSigns};
 ghost use Rattle.ln_top.specs.Plan.{HasForm, with_bytes};
 ghost use Rattle.ln_top.specs.Products.{ProductsArePerturbed};
@@ -21,7 +21,7 @@ use crate::prepare::{Ready, prepare};
 use crate::status::{Early, End, Status, status_of};
 use crate::stop::{Stop, Why, say};
 use crate::words::{Command, Plan, plan_of};
-use crate::{check, emit, generate, list, product, run, verify};
+use crate::{check, emit, generate, graded, list, product, run, verify};
 use ln_base::{Console, Files};
 use ln_watch::Watch;
 use std::alloc::Global;
@@ -46,6 +46,7 @@ fn work<C: Console>(
         Command::Emit => emit::work(alloc, con, ready),
         Command::Verify => verify::work(alloc, con, ready),
         Command::Run => run::work(alloc, con, ready, watchers),
+        Command::Graded => graded::work(alloc, con, ready),
         Command::Gen(seed, rows) => { generate::work(alloc, con, ready, seed, rows, watchers) }
         Command::Product => product::work(alloc, con, ready),
     }
@@ -100,7 +101,8 @@ fn carry_out<F: Files, C: Console>(
 /// it, is valid for them, or the first line at which it isn't. `run FILE NAME ROWS` puts, for each record behind the
 /// header of the rows file, the perturbed sign of the predicate on that row, and the place of the stage that decides it. There the
 /// watchers see each verdict, with the record's number from 1 behind the header, and their lines go to Err: that of a box that is done
-/// at once, those of the boxes that are left at the end, also where records are refused. `gen FILE NAME SEED COUNT` makes so many rows
+/// at once, those of the boxes that are left at the end, also where records are refused. `graded FILE NAME ROWS` does
+/// as `run` by total degree first, and refuses a predicate that has too many stages so. `gen FILE NAME SEED COUNT` makes so many rows
 /// of the seed, runs each as it is made and puts the watchers' lines on Out. `product FILE NAME NAME.. ROWS` writes, for each record after
 /// the header, the perturbed sign of the product of two to eight predicates with the same arguments on that row, and what decides each
 /// of them. All other commands drop the watchers without a line.
@@ -124,6 +126,10 @@ pub fn lnc<F: Files, C: Console>(
     // isn't 0, in the order of infinitesimals by the row's own indices, of the predicate at perturbed inputs.
     ensures headline { IsSettled result → IfSome (F.told files.old) (λ shelf. SignsArePerturbed (map string_bytes words.now) shelf
         (states_of kind_of tally_of watchers.items) (C.shown con.old) (C.shown con.new)) }
+    // And in the other order of infinitesimals: where `graded` came to its end, each line of a row in range begins with the sign of the
+    // first coefficient that isn't 0 by total degree first.
+    ensures graded { IsSettled result → IfSome (F.told files.old) (λ shelf. GradedSignsArePerturbed (map string_bytes words.now) shelf
+        (C.shown con.old) (C.shown con.new)) }
     // The same of products: where `product` worked on records after the right header to their end, there is one line for each, and
     // that of each that is a row in range begins with the perturbed sign of the product of the predicates on it, and goes on with what
     // decides each of them; it is 0 exactly where one of their signs is.

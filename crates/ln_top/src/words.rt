@@ -19,6 +19,8 @@ pub enum Command {
     Emit,
     /// `verify FILE LISTING`: is a listing valid for the predicates?
     Verify,
+    /// `graded FILE NAME ROWS`: the same as `run` by total degree first.
+    Graded,
     /// `gen FILE NAME SEED COUNT`: so many rows are made of a seed, and what watchers say of the signs of a predicate on them.
     Gen(u64, u64),
     /// `product FILE NAME NAME.. ROWS`: the signs of the product of two to eight predicates on the records of a rows file.
@@ -56,7 +58,7 @@ fn form(command: Command) -> Counts
     let (least, most, files) = match command {
         Command::Check | Command::List | Command::Emit => (0, 0, 0),
         Command::Verify => (0, 0, 1),
-        Command::Run => (1, 1, 1),
+        Command::Run | Command::Graded => (1, 1, 1),
         Command::Gen(..) => (1, 1, 0),
         Command::Product => (2, 8, 1),
     };
@@ -73,7 +75,8 @@ fn or_named(word: &str, name: &str, command: Command, other: Option<Command>) ->
 fn named_command(word: &str) -> Option<Command>
     ensures { result ≡ named_command word.now }
 {
-    let verify = or_named(word, "verify", Command::Verify, None);
+    let graded = or_named(word, "graded", Command::Graded, None);
+    let verify = or_named(word, "verify", Command::Verify, graded);
     let emit = or_named(word, "emit", Command::Emit, verify);
     let list = or_named(word, "list", Command::List, emit);
     let product = or_named(word, "product", Command::Product, list);

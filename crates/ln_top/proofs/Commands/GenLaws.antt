@@ -13,7 +13,8 @@ use Rattle.ln_code.specs.declared.row.Row as code
 use Rattle.ln_code.specs.declared.verdict.Verdict.{Verdict}
 use Rattle.ln_rows.specs.Record.{columns}
 use Rattle.ln_watch.specs.Panel.{State, left_after, lines_at, last_lines}
-use Rattle.ln_compile.specs.Filtered.{IsDue}
+use Rattle.ln_algebra.specs.Orders.{BySmallest}
+use Rattle.ln_compile.specs.Filtered.{IsDue, IsDueIn}
 use Rattle.ln_compile.proofs.Listing.FilteredLemmas.{one_due}
 use Rattle.ln_top.specs.declared.status.End.{End}
 use Rattle.ln_top.specs.declared.status.End.TheVariants.{Done}
@@ -91,11 +92,12 @@ no_part owes puts result was now n (c.unread q u r e) = c.unread q u r e
 no_part owes puts result was now n (c.cut p l r) = c.cut p l r
 no_part owes puts result was now n (c.short q l r) = absurd (n r)
 
-module _ (t : TargetOf) (belongs : Belongs t.pred t.program) where
+module _ (t : TargetOf) (rank : t.rank ≡ BySmallest) (belongs : Belongs t.rank t.pred t.program) where
   has : (s : List State) (d : Draw) → (out : List ℕ) × (err : List ℕ) × (z : List State) × GenStep (pred_in t) s d out err z
   has s d =
-      let v = owed_there t.pred t.program (drawn t.pred.shape.vars d) belongs (drawn_in_range t.pred d) in
-      (lines_at d.number v.0 s, [], left_after d.number v.0 s, record { verdict = v.0; due = v.1; told = refl; silent = refl; left = refl })
+      let v = owed_there t.rank t.pred t.program (drawn t.pred.shape.vars d) belongs (drawn_in_range t.pred d) in
+      let due = subst (λ k. IsDueIn k (pred_in t) (drawn t.pred.shape.vars d) v.0) rank v.1 in
+      (lines_at d.number v.0 s, [], left_after d.number v.0 s, record { verdict = v.0; due = due; told = refl; silent = refl; left = refl })
 
   module _ (seed count : ℕ) (boxes : List State) (g : Given) (e : g.preds ≡ pred_in t ∷ []) where
     abbrev rows : List Draw

@@ -4,6 +4,7 @@ use Rattle.std.proofs.Common.{sym, ◌∙◌, subst, Option, Result, Ok, Err, Al
 use Rattle.std.proofs.lemmas.List.{append-nil}
 use Rattle.std.proofs.lemmas.List.Elements.{All-nil, All-cons, All-head, All-tail}
 use Rattle.ln_base.specs.Outside.{Shown}
+use Rattle.ln_algebra.specs.Orders.{BySmallest, ByDegree, Rank}
 use Rattle.ln_tree.specs.Row.{Row}
 use Rattle.ln_tree.specs.Table.{PredOf}
 use Rattle.ln_code.specs.declared.verdict.Verdict.{Verdict}
@@ -50,22 +51,22 @@ header_is names [] new false h w = tt
 header_is names (first ∷ rest) new false h w = λ e. w refl rest (ap (λ (f : List (List ℕ)). f ∷ rest) e)
 
 -- the header is wrong
-pub header_carried : (boxes : List State) (g : Given) (p : PredOf) (names : List (List ℕ)) (records : Records) (puts : Count)
+pub header_carried : (rank : Rank) (boxes : List State) (g : Given) (p : PredOf) (names : List (List ℕ)) (records : Records) (puts : Count)
     (result : Result End Early) (was now : Option Shown) → HasRecords g p names records → IsWrongHeader names records
     → carried.Says (stop.Tell Header) puts result was now
-    → CarriesOut (RunSaid boxes g) (RunPart boxes g) ⊥ ⊥ puts result was now
-header_carried boxes g p names records puts result was now h w s =
-    told_carried (RunSaid boxes g) (RunPart boxes g) ⊥ ⊥ puts Header result was now (run.header p names records h w) s
+    → CarriesOut (RunSaid rank boxes g) (RunPart rank boxes g) ⊥ ⊥ puts result was now
+header_carried rank boxes g p names records puts result was now h w s =
+    told_carried (RunSaid rank boxes g) (RunPart rank boxes g) ⊥ ⊥ puts Header result was now (run.header p names records h w) s
 
 -- each record has a line
-module _ (t : TargetOf) (belongs : Belongs t.pred t.program) where
-  line_there : (fields : List (List ℕ)) → (text : List ℕ) × IsLineOf (pred_in t) t.names fields text
+module _ (t : TargetOf) (belongs : Belongs t.rank t.pred t.program) where
+  line_there : (fields : List (List ℕ)) → (text : List ℕ) × IsLineOf t.rank (pred_in t) t.names fields text
   line_there fields = by_read (read_row t.pred.shape.sites t.pred.shape.vars fields) refl
     where
       by_read : (r : Result Row RowStop) → read_row t.pred.shape.sites t.pred.shape.vars fields ≡ r
-          → (text : List ℕ) × IsLineOf (pred_in t) t.names fields text
+          → (text : List ℕ) × IsLineOf t.rank (pred_in t) t.names fields text
       by_read (Ok row) e =
-          let v = owed_there t.pred t.program row belongs
+          let v = owed_there t.rank t.pred t.program row belongs
           (row_in_range t.pred.shape.sites t.pred.shape.vars fields row t.pred.shape.kept e) in
           (_, record { said = Ok v.0; says = due row v.0 e v.1; is = refl })
       by_read (Err stop) e = (_, record { said = Err stop; says = refused_ stop e; is = refl })
@@ -76,11 +77,11 @@ module _ (t : TargetOf) (belongs : Belongs t.pred t.program) where
   -- what it owes is by lines
   pub by_lines : (boxes : List State) (g : Given) (records : Records) → HasRecords g (pred_in t) t.names (t.names ∷ records)
       → IsByLines (StepOf t) no_last last_of (end_of (all_good (is_row (pred_in t)) records))
-      (watching 0 boxes) records (RunSaid boxes g) (RunPart boxes g)
+      (watching 0 boxes) records (RunSaid t.rank boxes g) (RunPart t.rank boxes g)
   by_lines boxes g records h = record {
     has = has;
     whole = λ out err z d.
-        subst (λ x. RunSaid boxes g (record {
+        subst (λ x. RunSaid t.rank boxes g (record {
           end = end_of (all_good (is_row (pred_in t)) records);
           out = x;
           err = err ++ last_of z;
@@ -91,31 +92,31 @@ module _ (t : TargetOf) (belongs : Belongs t.pred t.program) where
   }
 
 -- a record was taken, or a put was cut off, or its line took memory
-pub takes_all : (p : PredOf) (names fields : List (List ℕ)) (w z : Watching) (said : Result Verdict RowStop) (right : Bool)
+pub takes_all : (rank : Rank) (p : PredOf) (names fields : List (List ℕ)) (w z : Watching) (said : Result Verdict RowStop) (right : Bool)
     (held grown : List ℕ) (a b : ℕ) (was now : Option Shown)
-    → of_record.Says p fields said → grown ≡ held ++ line (said_text names said)
+    → of_record.Says rank p fields said → grown ≡ held ++ line (said_text names said)
     → Wrote [] (next_lines said w) (count a b) true was now → z ≡ next said w → right ≡ is_said said
-    → Takes (RunStep p names) (is_row p) w fields (count a b) (Ok right) held grown was now z
-takes_all p names fields w z said right held grown a b was now s g h l r =
+    → Takes (RunStep rank p names) (is_row p) w fields (count a b) (Ok right) held grown was now z
+takes_all rank p names fields w z said right held grown a b was now s g h l r =
     let e = wrote_all [] (next_lines said w) (count a b) was now h in
     took (line (said_text names said)) (next_lines said w) e.0
     (record { line = record { said = said; says = s; is = refl }; told = refl; left = l })
-    (ap Ok (said_row p fields said right s r)) g e.1
+    (ap Ok (said_row rank p fields said right s r)) g e.1
 
-pub takes_cut : (p : PredOf) (names fields : List (List ℕ)) (w z : Watching) (said : Result Verdict RowStop)
+pub takes_cut : (rank : Rank) (p : PredOf) (names fields : List (List ℕ)) (w z : Watching) (said : Result Verdict RowStop)
     (held grown : List ℕ) (a b : ℕ) (was now : Option Shown)
-    → of_record.Says p fields said → grown ≡ held ++ line (said_text names said)
+    → of_record.Says rank p fields said → grown ≡ held ++ line (said_text names said)
     → Wrote [] (next_lines said w) (count a b) false was now
-    → Takes (RunStep p names) (is_row p) w fields (count a b) (Err Write) held grown was now z
-takes_cut p names fields w z said held grown a b was now s g h =
+    → Takes (RunStep rank p names) (is_row p) w fields (count a b) (Err Write) held grown was now z
+takes_cut rank p names fields w z said held grown a b was now s g h =
     let e = broke_off [] (next_lines said w) (count a b) was now h in
     tore (line (said_text names said)) (next_lines said w) (next said w)
     (record { line = record { said = said; says = s; is = refl }; told = refl; left = refl }) e.0 refl e.1
 
-pub takes_none : (p : PredOf) (names fields : List (List ℕ)) (w z : Watching) (held grown : List ℕ) (a : ℕ)
+pub takes_none : (rank : Rank) (p : PredOf) (names fields : List (List ℕ)) (w z : Watching) (held grown : List ℕ) (a : ℕ)
     (was : Option Shown) → grown ≡ held
-    → Takes (RunStep p names) (is_row p) w fields (count a a) (Err Memory) held grown was was z
-takes_none p names fields w z held grown a was e = left_off refl refl e refl
+    → Takes (RunStep rank p names) (is_row p) w fields (count a a) (Err Memory) held grown was was z
+takes_none rank p names fields w z held grown a was e = left_off refl refl e refl
 
 -- a record that is a row in range, and one that isn't
 as_row : (p : PredOf) (fields : List (List ℕ)) (o : Result Row RowStop) → read_row p.sites p.vars fields ≡ o
@@ -206,9 +207,9 @@ ends_by p names records g h = by_good (all_good (is_row p) records) refl
         let s = some_is_none p records e in
         run.refused p names s.before s.after s.fields (subst (λ (rs : Records). HasRecords g p names (names ∷ rs)) s.stands h) s.none
 
-tells : (boxes : List State) (g : Given) (a : Said) → RunSaid boxes g a → RunEnds g a.end
-tells boxes g a (run.header p names records h x) = run.wrong p names records h x
-tells boxes g a (run.ran p names records out err z h x) = ends_by p names records g h
+tells : (rank : Rank) (boxes : List State) (g : Given) (a : Said) → RunSaid rank boxes g a → RunEnds g a.end
+tells rank boxes g a (run.header p names records h x) = run.wrong p names records h x
+tells rank boxes g a (run.ran p names records out err z h x) = ends_by p names records g h
 
 -- two ways to see what is given are one
 pub same_pred : (g : Given) (p q : PredOf) (names others : List (List ℕ)) (rs ss : Records) → HasRecords g p names rs
@@ -263,5 +264,15 @@ kind g e (run.done p names rs h x) = kind_of.done
 kind g e (run.wrong p names rs h x) = kind_of.rows
 kind g e (run.refused p names bs as' fields h x) = kind_of.rows
 
-pub lawful : IsLawful RunSaid RunEnds
-lawful = record { tells = tells; one = one; kind = kind }
+pub lawful : IsLawful (RunSaid BySmallest) RunEnds
+lawful = record { tells = tells BySmallest; one = one; kind = kind }
+
+pub lawful_graded : IsLawful (λ boxes. RunSaid ByDegree []) RunEnds
+lawful_graded = record { tells = λ boxes g a o. tells ByDegree [] g a o; one = one; kind = kind }
+
+-- what is carried out for boxes that are none
+pub no_boxes : (rank : Rank) (boxes : List State) (g : Given) (puts : Count) (result : Result End Early) (was now : Option Shown) → boxes ≡ []
+    → CarriesOut (RunSaid rank boxes g) (RunPart rank boxes g) ⊥ ⊥ puts result was now
+    → CarriesOut (RunSaid rank [] g) (RunPart rank [] g) ⊥ ⊥ puts result was now
+no_boxes rank boxes g puts result was now e o =
+    subst (λ (bs : List State). CarriesOut (RunSaid rank bs g) (RunPart rank bs g) ⊥ ⊥ puts result was now) e o

@@ -1,6 +1,7 @@
 -- What the machine answers on a record's row is owed to the record.
 use Rattle.std.proofs.Common.{true≢false, ◌≡◌, ℕ, Bool, List, Result, Ok, Err, refl, ap, sym, ◌∙◌, subst}
 use Rattle.std.specs.Prelude.{IsOk}
+use Rattle.ln_algebra.specs.Orders.{Rank}
 use Rattle.ln_tree.specs.declared.shape.VarInfo.{VarInfo}
 use Rattle.ln_tree.specs.Row.{InRange}
 use Rattle.ln_tree.specs.Table.{PredOf}
@@ -24,11 +25,11 @@ pub read_not : {T : Type 0} (sites : ℕ) (vars : List VarInfo) (fields : List (
 read_not {T = T} sites vars fields read stop r e h = let k = subst (λ (o : Result T RowStop). IsReadAs sites vars fields o r) e h in k.err
 
 -- a verdict is said of a row
-pub said_row : (p : PredOf) (fields : List (List ℕ)) (said : Result Verdict RowStop) (right : Bool) → Says p fields said
+pub said_row : (rank : Rank) (p : PredOf) (fields : List (List ℕ)) (said : Result Verdict RowStop) (right : Bool) → Says rank p fields said
     → right ≡ is_said said → right ≡ is_row p fields
-said_row p fields said right s e = e ∙ by_cases s
+said_row rank p fields said right s e = e ∙ by_cases s
   where
-    by_cases : {said : Result Verdict RowStop} → Says p fields said → is_said said ≡ is_row p fields
+    by_cases : {said : Result Verdict RowStop} → Says rank p fields said → is_said said ≡ is_row p fields
     by_cases (due row v read d) = sym (ap is_read read)
     by_cases (refused_ stop read) = sym (ap is_read read)
 
@@ -38,10 +39,10 @@ not_refused (Ok x) h n = absurd (n x refl)
 not_refused (Err e) h n = absurd (true≢false (sym h))
 
 -- what is said of a record names a column where the record's fault does
-pub bare_same : (p : PredOf) (fields : List (List ℕ)) (said : Result Verdict RowStop) → Says p fields said
+pub bare_same : (rank : Rank) (p : PredOf) (fields : List (List ℕ)) (said : Result Verdict RowStop) → Says rank p fields said
     → is_bare said ≡ is_bare (read_row p.sites p.vars fields)
-bare_same p fields said (due row v read d) = sym (ap is_bare read)
-bare_same p fields said (refused_ stop read) = sym (ap is_bare read)
+bare_same rank p fields said (due row v read d) = sym (ap is_bare read)
+bare_same rank p fields said (refused_ stop read) = sym (ap is_bare read)
 
 -- what was refused isn't Ok
 pub bare_refused : {T E P : Type 0} (r : Result T E) (e : E) → IsOk r → r ≡ Err e → P

@@ -1,5 +1,6 @@
 -- What a predicate that is run keeps: the verdict of its program is owed, on each row in range there is one, and it is what is given.
 use Rattle.std.proofs.Common.{◌≡◌, [], ◌∷◌, refl, ap, sym, ◌∙◌, subst}
+use Rattle.ln_algebra.specs.Orders.{Rank}
 use Rattle.ln_tree.specs.declared.pred.Pred.{Pred}
 use Rattle.ln_tree.specs.declared.table.Table.{Table}
 use Rattle.ln_tree.specs.Row.{InRange, Row}
@@ -10,8 +11,8 @@ use Rattle.ln_code.specs.Part.{Part}
 use Rattle.ln_code.specs.RowOf.{row_of}
 use Rattle.ln_code.specs.Verdict.{IsVerdict}
 use Rattle.ln_code.proofs.Verdicts.Machine.{programs-run, rows-have}
-use Rattle.ln_compile.specs.Filtered.{IsDue}
-use Rattle.ln_compile.proofs.Listing.FilteredLemmas.{programs_answer}
+use Rattle.ln_compile.specs.Filtered.{IsDueIn}
+use Rattle.ln_compile.proofs.Listing.FilteredLemmas.{parts_answer}
 use Rattle.ln_top.specs.Columns.{columns_of, names_of}
 use Rattle.ln_top.specs.Source.{view}
 use Rattle.ln_top.specs.Steps.{Given}
@@ -19,28 +20,28 @@ use Rattle.ln_top.specs.Target.{Belongs, IsGivenBy, TargetOf, pred_in}
 use Rattle.ln_top.proofs.Steps.Likeness.{columns_like}
 
 -- a row in range is in range for the program
-pub row_for : (p : Pred) (part : Part) (r : code.Row) → Belongs p part
+pub row_for : (rank : Rank) (p : Pred) (part : Part) (r : code.Row) → Belongs rank p part
     → InRange p.shape.sites p.shape.vars (row_of p.shape.sites p.shape.vars r)
     → InRange part.shape.sites part.shape.vars (row_of part.shape.sites part.shape.vars r)
-row_for p part r b range = rw (b.carries.sites, b.carries.vars) range
+row_for rank p part r b range = rw (b.answers.sites, b.answers.vars) range
 
 -- what the program's machine answers on it is owed to it
-pub answer_due : (p : Pred) (part : Part) (r : code.Row) (v : Verdict) → Belongs p part
+pub answer_due : (rank : Rank) (p : Pred) (part : Part) (r : code.Row) (v : Verdict) → Belongs rank p part
     → InRange p.shape.sites p.shape.vars (row_of p.shape.sites p.shape.vars r)
-    → IsVerdict part (row_of part.shape.sites part.shape.vars r) v → IsDue (pred_of p) (row_of p.shape.sites p.shape.vars r) v
-answer_due p part r v b range verdict =
+    → IsVerdict part (row_of part.shape.sites part.shape.vars r) v → IsDueIn rank (pred_of p) (row_of p.shape.sites p.shape.vars r) v
+answer_due rank p part r v b range verdict =
     let same : row_of part.shape.sites part.shape.vars r ≡ row_of p.shape.sites p.shape.vars
-    r = rw (b.carries.sites, b.carries.vars) refl in
+    r = rw (b.answers.sites, b.answers.vars) refl in
     let there = subst (λ (row : Row). IsVerdict part row v) same verdict in
-    programs_answer (pred_of p) part (row_of p.shape.sites p.shape.vars r) v b.kept b.carries range there
+    parts_answer rank (pred_of p) part (row_of p.shape.sites p.shape.vars r) v b.kept b.answers range there
 
 -- each row in range is owed a verdict
-pub owed_there : (p : Pred) (part : Part) (row : Row) → Belongs p part → InRange p.shape.sites p.shape.vars row
-    → (v : Verdict) × IsDue (pred_of p) row v
-owed_there p part row b range =
-    let there : InRange part.shape.sites part.shape.vars row = rw (b.carries.sites, b.carries.vars) range in
+pub owed_there : (rank : Rank) (p : Pred) (part : Part) (row : Row) → Belongs rank p part → InRange p.shape.sites p.shape.vars row
+    → (v : Verdict) × IsDueIn rank (pred_of p) row v
+owed_there rank p part row b range =
+    let there : InRange part.shape.sites part.shape.vars row = rw (b.answers.sites, b.answers.vars) range in
     let v = rows-have part row (programs-run part b.kept) there in
-    (v.0, programs_answer (pred_of p) part row v.0 b.kept b.carries range v.1)
+    (v.0, parts_answer rank (pred_of p) part row v.0 b.kept b.answers range v.1)
 
 -- the one predicate of what the table stands for is what is given
 pub given_by : (g : Given) (t : TargetOf) (table : Table) → g.table ≡ view table → g.preds ≡ pred_in t ∷ []

@@ -4,6 +4,7 @@ use Rattle.std.proofs.Common.{◌∙◌, subst, get_or, true}
 use Rattle.std.specs.Prelude.{slice_index_or}
 use Rattle.std.proofs.lemmas.List.{ext_get_or}
 use Rattle.std.proofs.lemmas.List.Elements.{Contains-get_or}
+use Rattle.ln_algebra.specs.Orders.{Rank}
 use Rattle.ln_algebra.specs.Earlier.{IndicesDiffer}
 use Rattle.ln_algebra.proofs.Ordering.Unique.{stage_list-unique}
 use Rattle.ln_tree.specs.declared.pred.Pred.{Pred}
@@ -27,9 +28,9 @@ use Rattle.ln_top.specs.Watching.{Watching, next_lines, next}
 use Rattle.ln_top.proofs.Gathering.WatchingLaws.{alike_lines, alike_next}
 use Rattle.ln_compile.specs.Accepted.{root_of}
 use Rattle.ln_compile.specs.Compiled.{IsStageCount}
-use Rattle.ln_compile.specs.Filtered.{IsDue}
+use Rattle.ln_compile.specs.Filtered.{IsDueIn}
 use Rattle.ln_due.specs.DueLaw.{Agree}
-use Rattle.ln_compile.proofs.Listing.FilteredLemmas.{one_due}
+use Rattle.ln_compile.proofs.Listing.FilteredLemmas.{one_due_in}
 use Rattle.ln_top.specs.Line.{sign_text, decider_text, said_text, Says, due, refused_, IsLineOf}
 use Rattle.ln_top.specs.Said.{line}
 use Rattle.ln_top.specs.Check.{AreCounts, count_text}
@@ -49,32 +50,32 @@ same_stop r s o e f = cc
 not_both : (r : Row) (s : RowStop) (o : Result Row RowStop) → o ≡ Ok r → o ≡ Err s → ⊥
 not_both r s o e f = cc
 
-says_one : (p : Pred) (names fields : List (List ℕ)) {x y : Result Verdict RowStop} → Says (pred_of p) fields x
-    → Says (pred_of p) fields y → said_text names x ≡ said_text names y
-says_one p names fields (due r v e d) (due s w f g) =
+says_one : (rank : Rank) (p : Pred) (names fields : List (List ℕ)) {x y : Result Verdict RowStop} → Says rank (pred_of p) fields x
+    → Says rank (pred_of p) fields y → said_text names x ≡ said_text names y
+says_one rank p names fields (due r v e d) (due s w f g) =
     let q : s ≡ r = same_row s r (read_row p.shape.sites p.shape.vars fields) f e in
-    agree_text names v w (one_due p.shape (pred_of p) r v w refl refl
-    (row_in_range p.shape.sites p.shape.vars fields r p.shape.kept e) d (subst (λ (z : Row). IsDue (pred_of p) z w) q g))
-says_one p names fields (due r v e d) (refused_ s f) = absurd (not_both r s (read_row p.shape.sites p.shape.vars fields) e f)
-says_one p names fields (refused_ s f) (due r v e d) = absurd (not_both r s (read_row p.shape.sites p.shape.vars fields) e f)
-says_one p names fields (refused_ s e) (refused_ t f) =
+    agree_text names v w (one_due_in rank p.shape (pred_of p) r v w refl refl
+    (row_in_range p.shape.sites p.shape.vars fields r p.shape.kept e) d (subst (λ (z : Row). IsDueIn rank (pred_of p) z w) q g))
+says_one rank p names fields (due r v e d) (refused_ s f) = absurd (not_both r s (read_row p.shape.sites p.shape.vars fields) e f)
+says_one rank p names fields (refused_ s f) (due r v e d) = absurd (not_both r s (read_row p.shape.sites p.shape.vars fields) e f)
+says_one rank p names fields (refused_ s e) (refused_ t f) =
     ap (λ (z : RowStop). said_text names (Err z)) (same_stop s t (read_row p.shape.sites p.shape.vars fields) e f)
 
-pub one_line : (p : Pred) (names fields : List (List ℕ)) (a b : List ℕ) → IsLineOf (pred_of p) names fields a
-    → IsLineOf (pred_of p) names fields b → a ≡ b
-one_line p names fields a b l k = l.is ∙ ap line (says_one p names fields l.says k.says) ∙ sym k.is
+pub one_line : (rank : Rank) (p : Pred) (names fields : List (List ℕ)) (a b : List ℕ) → IsLineOf rank (pred_of p) names fields a
+    → IsLineOf rank (pred_of p) names fields b → a ≡ b
+one_line rank p names fields a b l k = l.is ∙ ap line (says_one rank p names fields l.says k.says) ∙ sym k.is
 
 -- watchers put the same and are left the same
-pub says_alike : (p : Pred) (fields : List (List ℕ)) {x y : Result Verdict RowStop} → Says (pred_of p) fields x
-    → Says (pred_of p) fields y → (w : Watching) → (next_lines x w ≡ next_lines y w) × (next x w ≡ next y w)
-says_alike p fields (due r v e d) (due s u f g) w =
+pub says_alike : (rank : Rank) (p : Pred) (fields : List (List ℕ)) {x y : Result Verdict RowStop} → Says rank (pred_of p) fields x
+    → Says rank (pred_of p) fields y → (w : Watching) → (next_lines x w ≡ next_lines y w) × (next x w ≡ next y w)
+says_alike rank p fields (due r v e d) (due s u f g) w =
     let q : s ≡ r = same_row s r (read_row p.shape.sites p.shape.vars fields) f e in
-    let a = one_due p.shape (pred_of p) r v u refl refl (row_in_range p.shape.sites p.shape.vars fields r p.shape.kept e) d
-    (subst (λ (z : Row). IsDue (pred_of p) z u) q g) in
+    let a = one_due_in rank p.shape (pred_of p) r v u refl refl (row_in_range p.shape.sites p.shape.vars fields r p.shape.kept e) d
+    (subst (λ (z : Row). IsDueIn rank (pred_of p) z u) q g) in
     (alike_lines v u w a.sign a.by, alike_next v u w a.sign a.by)
-says_alike p fields (due r v e d) (refused_ s f) w = absurd (not_both r s (read_row p.shape.sites p.shape.vars fields) e f)
-says_alike p fields (refused_ s f) (due r v e d) w = absurd (not_both r s (read_row p.shape.sites p.shape.vars fields) e f)
-says_alike p fields (refused_ s e) (refused_ t f) w = (refl, refl)
+says_alike rank p fields (due r v e d) (refused_ s f) w = absurd (not_both r s (read_row p.shape.sites p.shape.vars fields) e f)
+says_alike rank p fields (refused_ s f) (due r v e d) w = absurd (not_both r s (read_row p.shape.sites p.shape.vars fields) e f)
+says_alike rank p fields (refused_ s e) (refused_ t f) w = (refl, refl)
 
 -- ---- stage counts
 -- the sites of an order differ in their places

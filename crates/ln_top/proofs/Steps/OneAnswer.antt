@@ -3,6 +3,7 @@ use Rattle.std.proofs.Common.{◌≡◌, ℕ, Bool, true, false, cond, find, byt
 use Rattle.std.proofs.Common.{option_map, refl, ap, sym}
 use Rattle.std.proofs.Common.{◌∙◌, subst}
 use Rattle.std.proofs.lemmas.Option.{none-some, same_Some}
+use Rattle.ln_algebra.specs.Orders.{BySmallest, ByDegree, Rank}
 use Rattle.ln_base.specs.Outside.{Shelf}
 use Rattle.ln_watch.specs.Panel.{State, last_lines}
 use Rattle.ln_tree.specs.declared.table.Table.{Table}
@@ -132,12 +133,12 @@ check_one g h a b (counted x c) (counted y d) =
     ap (whole Done) (one_counts h.table.preds (subst (λ ps. AreCounts ps x) preds c) (subst (λ ps. AreCounts ps y) preds d))
 
 -- and so does `run`
-one_step : (q : Pred) (names : List (List ℕ)) (w : Watching) (fields : List (List ℕ)) (o e out err : List ℕ) (y z : Watching)
-    → RunStep (pred_of q) names w fields o e y → RunStep (pred_of q) names w fields out err z → SameLines o e out err y z
-one_step q names w fields o e out err y z s t =
-    let same = says_alike q fields s.line.says t.line.says w in
+one_step : (rank : Rank) (q : Pred) (names : List (List ℕ)) (w : Watching) (fields : List (List ℕ)) (o e out err : List ℕ) (y z : Watching)
+    → RunStep rank (pred_of q) names w fields o e y → RunStep rank (pred_of q) names w fields out err z → SameLines o e out err y z
+one_step rank q names w fields o e out err y z s t =
+    let same = says_alike rank q fields s.line.says t.line.says w in
     record {
-      outs = one_line q names fields o out s.line t.line;
+      outs = one_line rank q names fields o out s.line t.line;
       errs = s.told ∙ same.0 ∙ sym t.told;
       lefts = s.left ∙ same.1 ∙ sym t.left;
     }
@@ -145,26 +146,26 @@ one_step q names w fields o e out err y z s t =
 abbrev ran_said : PredOf → Records → List ℕ → List ℕ → Watching → Said
 ran_said p records out err z = record { end = end_of (all_good (is_row p) records); out = out; err = err ++ last_of z }
 
-run_same : (boxes : List State) (q : Pred) (p r : PredOf) (names others : List (List ℕ)) (rs ss : Records)
+run_same : (rank : Rank) (boxes : List State) (q : Pred) (p r : PredOf) (names others : List (List ℕ)) (rs ss : Records)
     (o e out err : List ℕ) (m z : Watching) → pred_of q ≡ r → p ≡ r → names ≡ others → rs ≡ ss
-    → Lines (RunStep p names) (watching 0 boxes) rs o e m → Lines (RunStep r others) (watching 0 boxes) ss out err z
+    → Lines (RunStep rank p names) (watching 0 boxes) rs o e m → Lines (RunStep rank r others) (watching 0 boxes) ss out err z
     → ran_said p rs o e m ≡ ran_said r ss out err z
-run_same boxes q p r names others rs ss o e out err m z i f n l x y =
-    let x1 = subst (λ t. Lines (RunStep t names) (watching 0 boxes) rs o e m) (f ∙ sym i) x in
-    let x2 = subst (λ (ns : List (List ℕ)). Lines (RunStep (pred_of q) ns) (watching 0 boxes) rs o e m) n x1 in
-    let x3 = subst (λ (zs : Records). Lines (RunStep (pred_of q) others) (watching 0 boxes) zs o e m) l x2 in
-    let y1 = subst (λ t. Lines (RunStep t others) (watching 0 boxes) ss out err z) (sym i) y in
-    let same = one_lines (RunStep (pred_of q) others) (one_step q others) (watching 0 boxes) ss o e out err m z x3 y1 in
+run_same rank boxes q p r names others rs ss o e out err m z i f n l x y =
+    let x1 = subst (λ t. Lines (RunStep rank t names) (watching 0 boxes) rs o e m) (f ∙ sym i) x in
+    let x2 = subst (λ (ns : List (List ℕ)). Lines (RunStep rank (pred_of q) ns) (watching 0 boxes) rs o e m) n x1 in
+    let x3 = subst (λ (zs : Records). Lines (RunStep rank (pred_of q) others) (watching 0 boxes) zs o e m) l x2 in
+    let y1 = subst (λ t. Lines (RunStep rank t others) (watching 0 boxes) ss out err z) (sym i) y in
+    let same = one_lines (RunStep rank (pred_of q) others) (one_step rank q others) (watching 0 boxes) ss o e out err m z x3 y1 in
     ap (λ t. ran_said t rs o e m) f ∙ ap (λ (zs : Records). ran_said r zs o e m) l ∙ ap (λ t. ran_said r ss t e m) same.outs
     ∙ ap (λ t. ran_said r ss out t m) same.errs ∙ ap (ran_said r ss out err) same.lefts
 
-run_one : (boxes : List State) (g : Given) → IsGrounded g → (a b : Said) → RunSaid boxes g a → RunSaid boxes g b → a ≡ b
-run_one boxes g i a b (run.header p names rs h x) (run.header q others ss k y) = refl
-run_one boxes g i a b (run.header p names rs h x) (run.ran q others ss out err z k y) = wrong_right g p q names others rs ss h x k
-run_one boxes g i a b (run.ran p names rs out err z h x) (run.header q others ss k y) = wrong_right g q p others names ss rs k y h
-run_one boxes g i a b (run.ran p names rs o e m h x) (run.ran r others ss out err z k y) =
+run_one : (rank : Rank) (boxes : List State) (g : Given) → IsGrounded g → (a b : Said) → RunSaid rank boxes g a → RunSaid rank boxes g b → a ≡ b
+run_one rank boxes g i a b (run.header p names rs h x) (run.header q others ss k y) = refl
+run_one rank boxes g i a b (run.header p names rs h x) (run.ran q others ss out err z k y) = wrong_right g p q names others rs ss h x k
+run_one rank boxes g i a b (run.ran p names rs out err z h x) (run.header q others ss k y) = wrong_right g q p others names ss rs k y h
+run_one rank boxes g i a b (run.ran p names rs o e m h x) (run.ran r others ss out err z k y) =
     let q = in_memory g r k.others i k.pred in
-    run_same boxes q.0 p r names others rs ss o e out err m z q.1 (same_pred g p r names others (names ∷ rs) (others ∷ ss) h k)
+    run_same rank boxes q.0 p r names others rs ss o e out err m z q.1 (same_pred g p r names others (names ∷ rs) (others ∷ ss) h k)
     (same_names g p r names others (names ∷ rs) (others ∷ ss) h k)
     (tail_same (same_records g p r names others (names ∷ rs) (others ∷ ss) h k)) x y
 
@@ -228,7 +229,8 @@ work_one command.Check boxes g h k v a b x y = check_one g h a b x y
 work_one command.List boxes g h k v a b x y = absurd v
 work_one command.Emit boxes g h k v a b x y = absurd v
 work_one command.Verify boxes g h k v a b x y = verify_laws.one_said g a b x y
-work_one command.Run boxes g h k v a b x y = run_one boxes g h a b x y
+work_one command.Run boxes g h k v a b x y = run_one BySmallest boxes g h a b x y
+work_one command.Graded boxes g h k v a b x y = run_one ByDegree [] g h a b x y
 work_one command.Product boxes g h k v a b x y = product_one g h k a b x y
 work_one (command.Gen seed count) boxes g h k v a b x y = gen_one seed count boxes g h a b x y
 

@@ -12,11 +12,12 @@ use Rattle.ln_top.specs.declared.stop.Why.TheVariants.{TooLong, NoPredicate}
 use Rattle.ln_top.specs.declared.stop.Stop.{Stop}
 use Rattle.ln_top.specs.declared.stop.Stop.TheVariants as stop
 use Rattle.ln_top.specs.declared.prepare.Ready.{Ready}
+use Rattle.ln_top.specs.declared.words.Command.{Command}
 use Rattle.ln_top.specs.Plan.{Plan}
 use Rattle.ln_top.specs.Source.{view}
 use Rattle.ln_top.specs.Suits.{Asks, objection}
 use Rattle.ln_top.specs.Steps.{Outcome, stops, missing, gives, Then, stopped, lacks, goes, Each, Reads, there, long, absent, Finds}
-use Rattle.ln_top.specs.Steps.{found, none, Compiles, suited, unsuited, Prepares, most_source, most_file}
+use Rattle.ln_top.specs.Steps.{found, none, Compiles, Suits, suited, unsuited, Prepares, most_source, most_file}
 use Rattle.ln_top.specs.Carried.{Halts, tells, unread, short}
 use Rattle.ln_top.specs.Ready.{AreNumbered, HasNumbers, IsReady}
 use Rattle.ln_top.proofs.Steps.Chain.{Behind, behind_none, behind_more, behind_all}
@@ -152,12 +153,17 @@ pub names_stop : (plan : Plan) (told : Option Shelf) (bytes : List ℕ) (table :
 names_stop plan told bytes table r s a c h =
     halts_next _ _ bytes r r s a (halts_next _ _ table r r s c (halts_first _ _ ⊥ r s h (λ x. absurd x)) (λ x. x)) (λ x. x)
 
-pub objects : (plan : Plan) (told : Option Shelf) (bytes : List ℕ) (table : TableOf) (preds : List PredOf) (r : Type 0)
+pub objects : (c : Command) (bytes : List ℕ) (preds : List PredOf) → (Asks c preds → ⊥)
+    → Halts (Suits c bytes preds) ⊥ (stop.Tell (objection c bytes preds))
+objects c bytes preds o = tells _ (unsuited o)
+
+pub suits_stop : (plan : Plan) (told : Option Shelf) (bytes : List ℕ) (table : TableOf) (preds : List PredOf) (r : Type 0) (s : Stop)
     → Reads told most_source plan.source (gives bytes) → Compiles bytes (gives table)
-    → Each (Finds table.preds) plan.names (gives preds) → (Asks plan.command preds → ⊥)
-    → Halts (Prepares plan told) r (stop.Tell (objection plan.command bytes preds))
-objects plan told bytes table preds r a c n o =
-    tells _ (goes bytes a (goes table c (goes preds n (stopped (objection plan.command bytes preds) (unsuited o)))))
+    → Each (Finds table.preds) plan.names (gives preds) → Halts (Suits plan.command bytes preds) ⊥ s
+    → Halts (Prepares plan told) r s
+suits_stop plan told bytes table preds r s a c n h =
+    halts_next _ _ bytes r r s a (halts_next _ _ table r r s c (halts_next _ _ preds r r s n
+    (halts_first _ _ ⊥ r s h (λ x. absurd x)) (λ x. x)) (λ x. x)) (λ x. x)
 
 pub files_stop : (plan : Plan) (told : Option Shelf) (bytes : List ℕ) (table : TableOf) (preds : List PredOf) (r q : Type 0)
     (s : Stop) → Reads told most_source plan.source (gives bytes) → Compiles bytes (gives table)

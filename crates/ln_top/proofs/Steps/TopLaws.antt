@@ -86,6 +86,7 @@ lawful command.Emit = emit_laws.lawful
 lawful command.Verify = verify_laws.lawful
 lawful command.Run = run_laws.lawful
 lawful command.Product = product_laws.lawful
+lawful command.Graded = run_laws.lawful_graded
 lawful (command.Gen seed count) = gen_laws.lawful seed count
 
 abbrev IsStopsAny : {A : Type 0} → Outcome A → Type 0
@@ -455,7 +456,15 @@ not_work P h = absurd (no_usage h refl)
 
 -- no command objects with the usage
 no_objection : (c : Command) (bytes : List ℕ) (preds : List PredOf) → why_end (objection c bytes preds) ≡ end.Usage → ⊥
-no_objection c bytes preds i = usage_other i tt
+no_objection command.Check bytes preds i = usage_other i tt
+no_objection command.List bytes preds i = usage_other i tt
+no_objection command.Emit bytes preds i = usage_other i tt
+no_objection command.Verify bytes preds i = usage_other i tt
+no_objection command.Run bytes preds i = usage_other i tt
+no_objection command.Product bytes preds i = usage_other i tt
+no_objection command.Graded bytes [] i = usage_other i tt
+no_objection command.Graded bytes (p ∷ ps) i = usage_other i tt
+no_objection (command.Gen seed count) bytes preds i = usage_other i tt
 
 usage_cause : (words : List (List ℕ)) (told : Option Shelf) (e : End) → e ≡ end.Usage → Ends words told e → plan_of words ≡ None
 usage_cause words told e i (cause.usage f j) = f

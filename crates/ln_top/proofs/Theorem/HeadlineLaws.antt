@@ -9,12 +9,13 @@ use Rattle.std.proofs.lemmas.Option.{none-some}
 use Rattle.ln_base.specs.Outside.{Shelf, Shown, counted}
 use Rattle.ln_base.specs.declared.sign.Sign.{Sign}
 use Rattle.ln_base.specs.declared.sign.Sign.TheVariants.{Zero}
-use Rattle.ln_algebra.proofs.Ordering.First.{all-first}
+use Rattle.ln_algebra.proofs.Ordering.Admissible.{both-admissible}
+use Rattle.ln_algebra.proofs.Ordering.First.{all-first-in}
 use Rattle.ln_algebra.proofs.Expanded.Normal.{zero_cases}
 use Rattle.ln_algebra.specs.Coefficient.{normal_coefficient}
 use Rattle.ln_algebra.specs.Earlier.{Sites}
 use Rattle.ln_algebra.specs.Sign as algebra
-use Rattle.ln_algebra.specs.Sign.{IsFirst, IsPerturbedSign, perturbed}
+use Rattle.ln_algebra.specs.Sign.{perturbed}
 use Rattle.ln_algebra.specs.Sizes.{two}
 use Rattle.ln_algebra.specs.Tree.{InputsBelow, Tree}
 use Rattle.ln_tree.specs.declared.pred.Pred.{Pred}
@@ -23,6 +24,7 @@ use Rattle.ln_tree.specs.Formula.{formula, tree}
 use Rattle.ln_tree.specs.Row.{InRange, Row}
 use Rattle.ln_tree.specs.Table.{PredOf, pred_of}
 use Rattle.ln_bound.specs.Value.{values}
+use Rattle.ln_order.specs.Rows.{RowFirst, RowSign}
 use Rattle.ln_order.specs.Sites.{row_sites, site_of}
 use Rattle.ln_poly.specs.Expansion.{closed_lets}
 use Rattle.ln_poly.proofs.Expansions.Lets.{root-light}
@@ -35,8 +37,8 @@ use Rattle.ln_rows.specs.declared.record.RowStop.{RowStop}
 use Rattle.ln_code.specs.declared.verdict.Verdict.{Verdict}
 use Rattle.ln_compile.specs.Accepted.{AreSound, IsSound, root_of}
 use Rattle.ln_due.specs.Due.{sign_number}
-use Rattle.ln_compile.specs.Filtered.{IsDue}
-use Rattle.ln_algebra.specs.Orders.{BySmallest}
+use Rattle.ln_compile.specs.Filtered.{IsDueIn}
+use Rattle.ln_algebra.specs.Orders.{Before, BySmallest, ByDegree, Rank}
 use Rattle.ln_order.proofs.Signs.RowSigns.{rows-differ}
 use Rattle.ln_due.proofs.Verdicts.UniqueLemmas.{due-sign}
 use Rattle.ln_top.specs.declared.status.Status.{Status}
@@ -51,7 +53,8 @@ use Rattle.ln_top.specs.Watching.{Watching, watching, last_of}
 use Rattle.ln_top.specs.Work.{WorkOwes}
 use Rattle.ln_top.specs.Answer.{Answer}
 use Rattle.ln_top.specs.Causes.{Answered}
-use Rattle.ln_top.specs.Headline.{HasPerturbedSign, HavePerturbedSigns, none, more, PutSigns, SignsArePerturbed}
+use Rattle.ln_top.specs.Headline.{GradedSignsArePerturbed, HasPerturbedSign, HavePerturbedSigns, none, more, PutSigns, SignsArePerturbed}
+use Rattle.ln_top.specs.Perturbed.{IsSignOn}
 use Rattle.ln_top.proofs.Gathering.Feeds.{HaveNoFeed, said_no_feed, columns_no_feed}
 use Rattle.ln_top.proofs.Steps.OneAnswer.{AreFound, IsGrounded, grounded, in_memory}
 use Rattle.ln_top.proofs.Commands.RunLaws.{same_pred, same_names, same_records, tail_same, wrong_right}
@@ -73,35 +76,41 @@ sign_nonzero (pos zero) h e = h refl
 sign_nonzero (pos (suc n)) h e = cc
 sign_nonzero (negsuc n) h e = cc
 
-module _ (p : Pred) (row : Row) where
+module _ (rank : Rank) (p : Pred) (row : Row) where
   abbrev sites : Sites
   sites = row_sites p.shape.vars row.index
 
   abbrev root : Tree
   root = root_of (pred_of p)
 
-  pub never_zero : InRange p.shape.sites p.shape.vars row → IsSound (pred_of p) → All (λ i. i.site ≢ None) p.shape.vars
-      → (s : Sign) → IsPerturbedSign (length p.shape.vars) sites (values row.values) root (sign_number s) → s ≢ Zero
-  never_zero range sound all s d q = by_sign d
+  pub never_zero_in : InRange p.shape.sites p.shape.vars row → IsSound (pred_of p) → All (λ i. i.site ≢ None) p.shape.vars
+      → (s : Sign) → RowSign rank p.shape.vars root row (sign_number s) → s ≢ Zero
+  never_zero_in range sound all s d q = by_sign d
     where
       inputs : InputsBelow (length p.shape.vars) root
       inputs =
           (root-light (length p.shape.vars) two (closed_lets p.shape.vars (map formula p.lets)) (tree p.shape.vars (formula p.root))
           (pred-expands p.args p.shape.vars p.lets (length p.let_names) p.root p.kept sound.light).1).inputs
 
-      none_first : ((b : List ℕ) → IsFirst (length p.shape.vars) sites (values row.values) root b → ⊥) → (m : List ℕ)
+      none_first : ((b : List ℕ) → RowFirst rank p.shape.vars root row b → ⊥) → (m : List ℕ)
           → length m ≡ length p.shape.vars
           → (normal_coefficient root m ≡ pos 0) ⊎ (normal_coefficient root m ≡ pos 0 → ⊥)
           → normal_coefficient root m ≡ pos 0
       none_first lacks m l (inl z) = z
       none_first lacks m l (inr z) =
-          let first = all-first (length p.shape.vars) sites root (values row.values) m inputs (rows-differ p.shape row range)
-          (λ u k. all_sites p.shape.vars u all k) (record { size = l; nonzero = z }) in
+          let order = both-admissible rank (length p.shape.vars) sites (rows-differ p.shape row range) in
+          let first = all-first-in (length p.shape.vars) sites (Before rank sites) order (values row.values) root inputs
+          (λ u k. all_sites p.shape.vars u all k) m (record { size = l; nonzero = z }) in
           absurd (lacks first.0 first.1)
 
-      by_sign : IsPerturbedSign (length p.shape.vars) sites (values row.values) root (sign_number s) → ⊥
+      by_sign : RowSign rank p.shape.vars root row (sign_number s) → ⊥
       by_sign (inl t) = sign_nonzero (perturbed sites (values row.values) root t.0) t.1.nonzero (sym t.2 ∙ ap sign_number q)
       by_sign (inr t) = sound.nonzero (λ m l k. none_first t.0 m l (zero_cases (normal_coefficient root m)))
+
+-- the same by the smallest infinitesimal in which two vectors differ
+pub never_zero : (p : Pred) (row : Row) → InRange p.shape.sites p.shape.vars row → IsSound (pred_of p)
+    → All (λ i. i.site ≢ None) p.shape.vars → (s : Sign) → IsSignOn (pred_of p) row s → s ≢ Zero
+never_zero p row = never_zero_in BySmallest p row
 
 -- ---- lines
 same_row : (r s : Row) (o : Result Row RowStop) → o ≡ Ok r → o ≡ Ok s → r ≡ s
@@ -110,32 +119,32 @@ same_row r s o e f = cc
 not_both : (r : Row) (s : RowStop) (o : Result Row RowStop) → o ≡ Ok r → o ≡ Err s → ⊥
 not_both r s o e f = cc
 
-module _ (p : Pred) (sound : IsSound (pred_of p)) (names : List (List ℕ)) where
+module _ (rank : Rank) (p : Pred) (sound : IsSound (pred_of p)) (names : List (List ℕ)) where
   due_sign : (row : Row) (v : Verdict) (text : List ℕ) (fields : List (List ℕ))
-      → read_row p.shape.sites p.shape.vars fields ≡ Ok row → IsDue (pred_of p) row v
-      → text ≡ line (said_text names (Ok v)) → HasPerturbedSign (pred_of p) row text
+      → read_row p.shape.sites p.shape.vars fields ≡ Ok row → IsDueIn rank (pred_of p) row v
+      → text ≡ line (said_text names (Ok v)) → HasPerturbedSign rank (pred_of p) row text
   due_sign row v text fields e d t =
       let range = row_in_range p.shape.sites p.shape.vars fields row p.shape.kept e in
-      let sign = due-sign BySmallest p.shape.vars (root_of (pred_of p)) row d.filtering v d.due in
+      let sign = due-sign rank p.shape.vars (root_of (pred_of p)) row d.filtering v d.due in
       record {
         range = range;
         sign = v.sign;
         perturbed = sign;
-        never_zero = λ all. never_zero p row range sound all v.sign sign;
+        never_zero = λ all. never_zero_in rank p row range sound all v.sign sign;
         behind = decider_text v.by;
         text_is = t;
       }
 
-  line_sign : (fields : List (List ℕ)) (text : List ℕ) {said : Result Verdict RowStop} → Says (pred_of p) fields said
+  line_sign : (fields : List (List ℕ)) (text : List ℕ) {said : Result Verdict RowStop} → Says rank (pred_of p) fields said
       → text ≡ line (said_text names said) → (row : Row) → read_row p.shape.sites p.shape.vars fields ≡ Ok row
-      → HasPerturbedSign (pred_of p) row text
+      → HasPerturbedSign rank (pred_of p) row text
   line_sign fields text (due r v e d) t row f =
       let q : r ≡ row = same_row r row (read_row p.shape.sites p.shape.vars fields) e f in
-      subst (λ (z : Row). HasPerturbedSign (pred_of p) z text) q (due_sign r v text fields e d t)
+      subst (λ (z : Row). HasPerturbedSign rank (pred_of p) z text) q (due_sign r v text fields e d t)
   line_sign fields text (refused_ s e) t row f = absurd (not_both row s (read_row p.shape.sites p.shape.vars fields) f e)
 
   lines_signs : HaveNoFeed names → (records : Records) (out err : List ℕ) (w z : Watching)
-      → Lines (RunStep (pred_of p) names) w records out err z → HavePerturbedSigns (pred_of p) records out
+      → Lines (RunStep rank (pred_of p) names) w records out err z → HavePerturbedSigns rank (pred_of p) records out
   lines_signs n [] out err w z (l.none _) = none
   lines_signs n (fields ∷ rest) out err w z (l.more {out = o2} {err = e2} _ o e m t k) =
       more o o2 (record { body = said_text names t.line.said; is = t.line.is; none = said_no_feed names t.line.said n })
@@ -143,7 +152,7 @@ module _ (p : Pred) (sound : IsSound (pred_of p)) (names : List (List ℕ)) wher
 
   -- where no box is handed in, none is left and nothing comes to Err
   lines_err : (records : Records) (out err : List ℕ) (w z : Watching) → w.boxes ≡ []
-      → Lines (RunStep (pred_of p) names) w records out err z → err ++ last_of z ≡ []
+      → Lines (RunStep rank (pred_of p) names) w records out err z → err ++ last_of z ≡ []
   lines_err [] out err w z b (l.none _) = ap last_lines b
   lines_err (fields ∷ rest) out err w z b (l.more {out = o2} {err = e2} _ o e m t k) =
       let blank : e ≡ [] = t.told ∙ none_told (counted w.seen) t.line.said w.boxes b in
@@ -165,35 +174,35 @@ head_sound : (g : Given) (p : PredOf) (others : List PredOf) → IsGrounded g �
 head_sound g p others h e = let found = subst (AreFound g.table.preds) e h.found in found_sound found.0.0 g.table.preds p h.sound found.0.1
 
 -- lines of a predicate in memory have the perturbed signs
-signs_of : (boxes : List State) (q : Pred) (p : PredOf) (names : List (List ℕ)) (records : Records) (out err : List ℕ)
+signs_of : (rank : Rank) (boxes : List State) (q : Pred) (p : PredOf) (names : List (List ℕ)) (records : Records) (out err : List ℕ)
     (z : Watching) (was now : Option Shown) → pred_of q ≡ p → IsSound p → HaveNoFeed names
-    → Lines (RunStep p names) (watching 0 boxes) records out err z → now ≡ put_both out (err ++ last_of z) was
-    → PutSigns p records boxes was now
-signs_of boxes q p names records out err z was now i s n x e =
+    → Lines (RunStep rank p names) (watching 0 boxes) records out err z → now ≡ put_both out (err ++ last_of z) was
+    → PutSigns rank p records boxes was now
+signs_of rank boxes q p names records out err z was now i s n x e =
     let sound = subst IsSound (sym i) s in
-    let x1 = subst (λ t. Lines (RunStep t names) (watching 0 boxes) records out err z) (sym i) x in
+    let x1 = subst (λ t. Lines (RunStep rank t names) (watching 0 boxes) records out err z) (sym i) x in
     record {
       lines = out;
-      signs = subst (λ t. HavePerturbedSigns t records out) i (lines_signs q sound names n records out err (watching 0 boxes) z x1);
+      signs = subst (λ t. HavePerturbedSigns rank t records out) i (lines_signs rank q sound names n records out err (watching 0 boxes) z x1);
       err = err ++ last_of z;
-      none = λ b. lines_err q sound names records out err (watching 0 boxes) z b x1;
+      none = λ b. lines_err rank q sound names records out err (watching 0 boxes) z b x1;
       shown = e;
     }
 
 -- what is owed to records behind the right header
-run_signs : (boxes : List State) (g : Given) (p : PredOf) (names : List (List ℕ)) (records : Records) (a : Said)
-    (was now : Option Shown) → IsGrounded g → RunSaid boxes g a → HasRecords g p names (names ∷ records)
-    → now ≡ put_both a.out a.err was → PutSigns p records boxes was now
-run_signs boxes g p names records a was now i (run.header q others ss h x) k e = wrong_right g q p others names ss records h x k
-run_signs boxes g p names records a was now i (run.ran r others ss out err z h x) k e =
+run_signs : (rank : Rank) (boxes : List State) (g : Given) (p : PredOf) (names : List (List ℕ)) (records : Records) (a : Said)
+    (was now : Option Shown) → IsGrounded g → RunSaid rank boxes g a → HasRecords g p names (names ∷ records)
+    → now ≡ put_both a.out a.err was → PutSigns rank p records boxes was now
+run_signs rank boxes g p names records a was now i (run.header q others ss h x) k e = wrong_right g q p others names ss records h x k
+run_signs rank boxes g p names records a was now i (run.ran r others ss out err z h x) k e =
     let q = in_memory g p k.others i k.pred in
-    let x1 = subst (λ t. Lines (RunStep t others) (watching 0 boxes) ss out err z)
+    let x1 = subst (λ t. Lines (RunStep rank t others) (watching 0 boxes) ss out err z)
     (same_pred g r p others names (others ∷ ss) (names ∷ records) h k) x in
-    let x2 = subst (λ (ns : List (List ℕ)). Lines (RunStep p ns) (watching 0 boxes) ss out err z)
+    let x2 = subst (λ (ns : List (List ℕ)). Lines (RunStep rank p ns) (watching 0 boxes) ss out err z)
     (same_names g r p others names (others ∷ ss) (names ∷ records) h k) x1 in
-    let x3 = subst (λ (zs : Records). Lines (RunStep p names) (watching 0 boxes) zs out err z)
+    let x3 = subst (λ (zs : Records). Lines (RunStep rank p names) (watching 0 boxes) zs out err z)
     (tail_same (same_records g r p others names (others ∷ ss) (names ∷ records) h k)) x2 in
-    signs_of boxes q.0 p names records out err z was now q.1 (head_sound g p k.others i k.pred)
+    signs_of rank boxes q.0 p names records out err z was now q.1 (head_sound g p k.others i k.pred)
     (columns_no_feed g q.0 p names i.table i.is q.1 k.columns) x3 e
 
 -- what is owed has the perturbed signs
@@ -201,6 +210,15 @@ pub headline : (words : List (List ℕ)) (told : Option Shelf) (boxes : List Sta
     → Answered (Answer words told boxes) result was now → IfSome told (λ shelf. SignsArePerturbed words shelf boxes was now)
 headline words None boxes result was now h = tt
 headline words (Some shelf) boxes result was now h = λ plan g f r x p names records k.
-    let owed : RunSaid boxes g h.said = subst (λ c. WorkOwes c boxes g h.said) r
+    let owed : RunSaid BySmallest boxes g h.said = subst (λ c. WorkOwes c boxes g h.said) r
     (work_of_words words shelf boxes plan g h.said f x h.owed) in
-    run_signs boxes g p names records h.said was now (grounded plan shelf g x) owed k h.shown
+    run_signs BySmallest boxes g p names records h.said was now (grounded plan shelf g x) owed k h.shown
+
+-- and so it has by total degree first
+pub graded_headline : (words : List (List ℕ)) (told : Option Shelf) (boxes : List State) (result : Status) (was now : Option Shown)
+    → Answered (Answer words told boxes) result was now → IfSome told (λ shelf. GradedSignsArePerturbed words shelf was now)
+graded_headline words None boxes result was now h = tt
+graded_headline words (Some shelf) boxes result was now h = λ plan g f r x p names records k.
+    let owed : RunSaid ByDegree [] g h.said = subst (λ c. WorkOwes c boxes g h.said) r
+    (work_of_words words shelf boxes plan g h.said f x h.owed) in
+    run_signs ByDegree [] g p names records h.said was now (grounded plan shelf g x) owed k h.shown

@@ -4,4 +4,5 @@ use Rattle.ln_top.proofs.generate.put_row.Goals as goal
 pub returns-clause-puts : goal.returns-clause-puts
 returns-clause-puts g c =
     let row = rw c.pred.ensures at c.gen_row-row.ensures.row in
-    row_put c.args.target.now.pred c.args.n _ _ _ _ _ _ _ _ _ row c.verdict-v.ensures.due c.show.ensures.wrote c.show.ensures.left
+    let due = rw c.requires.rank at c.verdict-v.ensures.due in
+    row_put c.args.target.now.pred c.args.n _ _ _ _ _ _ _ _ _ row due c.show.ensures.wrote c.show.ensures.left

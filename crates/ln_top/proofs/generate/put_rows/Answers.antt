@@ -6,7 +6,7 @@ use Rattle.ln_top.proofs.Commands.GenLaws.{none_made, draws_more, draws_none}
 use Rattle.ln_top.proofs.generate.put_rows.Goals as goal
 
 pub rows-init : goal.rows-init
-rows-init g c = (none_made (pred_in c.args.target.now) _ _ _ _ _ _, c.requires, search rules)
+rows-init g c = (none_made (pred_in c.args.target.now) _ _ _ _ _ _, c.requires.made, search rules)
 
 pub returns-then-not-put_row : goal.returns-then-not-put_row
 returns-then-not-put_row g c =

@@ -6,4 +6,4 @@ use Rattle.ln_top.proofs.run.add_record.Goals as goal
 pub returns-in_err-add_line-clause-steady : goal.returns-in_err-add_line-clause-steady
 returns-in_err-add_line-clause-steady c fields r t =
     bare_refused c.add_line.result _ (c.add_line.ensures.steady
-    (bare_same (pred_in c.args.target.now) _ _ (c.verdict_of-said.ensures.says fields r) ∙ t)) c.in_err-add_line.was
+    (bare_same c.args.target.now.rank (pred_in c.args.target.now) _ _ (c.verdict_of-said.ensures.says fields r) ∙ t)) c.in_err-add_line.was

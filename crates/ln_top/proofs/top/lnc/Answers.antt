@@ -1,6 +1,6 @@
 use Rattle.ln_top.specs.Said.{count}
 use Rattle.ln_top.proofs.Steps.TopLaws.{exact, keeps}
-use Rattle.ln_top.proofs.Theorem.HeadlineLaws.{headline}
+use Rattle.ln_top.proofs.Theorem.HeadlineLaws.{graded_headline, headline}
 use Rattle.ln_top.proofs.Theorem.ProductsLaws.{products}
 use Rattle.ln_top.proofs.Theorem.EmittedLaws.{emitted}
 use Rattle.ln_top.proofs.Theorem.ListedLaws.{listed}
@@ -15,6 +15,11 @@ returns-clause-kept g c =
 pub returns-clause-headline : goal.returns-clause-headline
 returns-clause-headline g c s =
     headline _ (g.F.Files.told c.args.files.now) _ _ _ _
+    (exact _ (g.F.Files.told c.args.files.now) _ _ _ _ _ _ _ c.status_of.ensures c.carry_out.ensures.done s)
+
+pub returns-clause-graded : goal.returns-clause-graded
+returns-clause-graded g c s =
+    graded_headline _ (g.F.Files.told c.args.files.now) _ _ _ _
     (exact _ (g.F.Files.told c.args.files.now) _ _ _ _ _ _ _ c.status_of.ensures c.carry_out.ensures.done s)
 
 pub returns-clause-products : goal.returns-clause-products

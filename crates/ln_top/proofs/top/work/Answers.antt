@@ -15,6 +15,9 @@ returns-in-Verify g c = λ given s. rw c.in-Verify.is (c.work-in-Verify.ensures 
 pub returns-in-Run : goal.returns-in-Run
 returns-in-Run g c = λ given s. rw c.in-Run.is (c.work-in-Run.ensures given s)
 
+pub returns-in-Graded : goal.returns-in-Graded
+returns-in-Graded g c = λ given s. rw c.in-Graded.is (c.work-in-Graded.ensures given s)
+
 pub returns-in-Product : goal.returns-in-Product
 returns-in-Product g c = λ given s. rw c.in-Product.is (c.work-in-Product.ensures given s)
 

@@ -1,6 +1,7 @@
 use Rattle.std.proofs.Common.{ap, length, option_map, ◌∙◌, refl}
 use Rattle.std.proofs.lemmas.Option.{slice_get-map, slice_get_read}
 use Rattle.ln_tree.specs.Table.{pred_of}
+use Rattle.ln_compile.proofs.Listing.FilteredLemmas.{answers_for}
 use Rattle.ln_top.proofs.target.Target.new.Goals as goal
 
 pub returns-clause-pred : goal.returns-clause-pred
@@ -17,5 +18,5 @@ invariant_of-result c =
     let read = slice_get_read c.args.c.now.table.preds (length c.args.c.now.table.preds) c.args.i _ refl c.requires there in
     record {
       kept = c.kept-kept.ensures.kept;
-      carries = c.in_ok-program.ensures.program _ (slice_get-map pred_of c.args.c.now.table.preds _ ∙ ap (option_map pred_of) read);
+      answers = answers_for _ _ (c.in_ok-program.ensures.program _ (slice_get-map pred_of c.args.c.now.table.preds _ ∙ ap (option_map pred_of) read));
     }
