@@ -1,10 +1,10 @@
-//! What `run` says of random predicates, compared with the definition of the perturbed sign.
+//! What `run` and `graded` say of random predicates, compared with the definition of the perturbed sign in either order of infinitesimals.
 mod definition;
 mod draw;
 mod filter;
 mod text;
 
-use crate::compare::definition::{Part, Row, covered};
+use crate::compare::definition::{Order, Part, Row, covered};
 use crate::compare::draw::Draw;
 use crate::compare::filter::decides;
 use crate::compare::text::{Column, Shape, put_header, put_record, repeats, source};
@@ -15,6 +15,8 @@ use std::alloc::Global;
 use std::test::Fail;
 
 const RUN: &[&str] = &["run", "s.ln", "f", "r.csv"];
+
+const GRADED: &[&str] = &["graded", "s.ln", "f", "r.csv"];
 
 const TWO_POINTS: Shape = Shape {
     head: "param c: -2 .. 2; site point { x: -1000000 .. 1000000; y: -1000000 .. 1000000; }
@@ -67,13 +69,15 @@ predicate f(c: param, p: num, q: point, r: num)",
     sites: [0, 1, 1, 2],
 };
 
-/// How many predicates were compared, and how many of them have equal parts; how many lines had a place above 0, or `0 -`.
+/// How many predicates were compared, and how many of them have equal parts; how many lines had a place above 0, or `0 -`; of how many
+/// predicates the lines differ in the two orders.
 #[derive(Drop)]
 struct Tally {
     predicates: u32,
     repeated: u32,
     perturbed: u32,
     undecided: u32,
+    differ: u32,
 }
 
 // A random expression, and the vectors that it covers.
@@ -94,15 +98,16 @@ impl Tally {
         Ok(())
     }
 
-    // Puts the line that an expression is owed on a row.
+    // Puts the line that an expression is owed on a row in this order.
     fn put_line(
         &mut self,
         alloc: Global,
+        order: Order,
         out: &mut String,
         row: &Row,
         drawn: Drawn<'_>,
     ) -> Result<(), NoMemory> {
-        let Some((first, coefficient)) = row.first(alloc, drawn.parts)? else {
+        let Some((first, coefficient)) = row.first(alloc, order, drawn.parts)? else {
             self.undecided = self.undecided.wrapping_add(1);
             out.push_str("0 -\n")?;
             return Ok(());
@@ -113,10 +118,11 @@ impl Tally {
             out.push_str(" F\n")?;
             return Ok(());
         }
-        self.put_place(out, sign, row.place(drawn.covered, first))
+        self.put_place(out, sign, row.place(order, drawn.covered, first))
     }
 
-    // Puts a rows file with a random row for each order of four sites, and the lines that the expression is owed on them.
+    // Puts a rows file with a random row for each order of four sites, and the lines that the expression is owed on them in both orders
+    // of infinitesimals.
     fn put_rows(
         &mut self,
         alloc: Global,
@@ -124,12 +130,14 @@ impl Tally {
         drawn: Drawn<'_>,
         records: &mut String,
         lines: &mut String,
+        graded: &mut String,
     ) -> Result<(), NoMemory> {
         put_header(records, drawn.shape)?;
         for order in 0..24 {
             let row = draw.row(drawn.shape.sites, order);
             put_record(records, drawn.shape, &row)?;
-            self.put_line(alloc, lines, &row, drawn)?;
+            self.put_line(alloc, Order::Smallest, lines, &row, drawn)?;
+            self.put_line(alloc, Order::Degree, graded, &row, drawn)?;
         }
         Ok(())
     }
@@ -144,8 +152,12 @@ impl Tally {
     ) -> Result<bool, NoMemory> {
         let mut records = String::new(alloc);
         let mut lines = String::new(alloc);
-        self.put_rows(alloc, draw, drawn, &mut records, &mut lines)?;
-        let case = (
+        let mut graded = String::new(alloc);
+        self.put_rows(alloc, draw, drawn, &mut records, &mut lines, &mut graded)?;
+        if lines.as_str() != graded.as_str() {
+            self.differ = self.differ.wrapping_add(1);
+        }
+        let run = (
             RUN,
             source,
             records.as_str(),
@@ -153,7 +165,15 @@ impl Tally {
             lines.as_str(),
             "",
         );
-        are_answered(alloc, &[case])
+        let by_degree = (
+            GRADED,
+            source,
+            records.as_str(),
+            Status::Done,
+            graded.as_str(),
+            "",
+        );
+        are_answered(alloc, &[run, by_degree])
     }
 
     // The same of an expression that isn't 0 everywhere; one that is has to be refused.
@@ -217,9 +237,10 @@ fn random_predicates_have_the_sign_and_place_of_the_definition(
         repeated: 0,
         perturbed: 0,
         undecided: 0,
+        differ: 0,
     };
     assert!(rt; tally.compare_all(rt.alloc(), 60)?);
     assert!(rt; tally.predicates >= 100 && tally.repeated >= 100);
-    assert!(rt; tally.perturbed >= 1000 && tally.undecided >= 20);
+    assert!(rt; tally.perturbed >= 1000 && tally.undecided >= 20 && tally.differ >= 20);
     Ok(())
 }

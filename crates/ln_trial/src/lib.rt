@@ -4,7 +4,7 @@
 //! of their calls, `watchers` what boxes that are handed in say of records, `panel` what they say of verdicts, `generated` what they
 //! say of rows that `gen` makes, `products` what `product` says of several predicates, `listings` what `list` puts, read back, `emitted` what `emit` puts, read back and called, `rules`
 //! what `verify` says of listings, most of them changed in one place, with their texts and lines in `judged`, `repeated` predicates
-//! whose equal parts are computed once, `spheres` rows of incircle and insphere whose lines geometry tells, `compare` random
+//! whose equal parts are computed once, `spheres` rows of incircle and insphere whose lines geometry tells, `graded` the order by total degree, `compare` random
 //! predicates against the definition of the perturbed sign.
 //!
 //! One function of `support` calls `lnc`, and the others call that: each caller of `lnc` takes the check long.
@@ -20,6 +20,8 @@ mod emitted;
 mod failing;
 #[cfg(test)]
 mod generated;
+#[cfg(test)]
+mod graded;
 #[cfg(test)]
 mod judged;
 #[cfg(test)]

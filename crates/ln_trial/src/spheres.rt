@@ -20,7 +20,7 @@ predicate incircle(a: point, b: point, c: point, d: point) {
 }
 ";
 
-const SPHERE: &str =
+pub const SPHERE: &str =
     "site point { x: -1048576 .. 1048576; y: -1048576 .. 1048576; z: -1048576 .. 1048576; }
 predicate insphere(a: point, b: point, c: point, d: point, e: point) {
   let ax = a.x - e.x; let ay = a.y - e.y; let az = a.z - e.z;

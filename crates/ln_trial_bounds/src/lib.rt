@@ -5,6 +5,8 @@
 #[cfg(test)]
 mod bound;
 #[cfg(test)]
+mod graded;
+#[cfg(test)]
 mod interval;
 #[cfg(test)]
 mod nest;

@@ -8,7 +8,7 @@ use ln_stage::Stages;
 use std::alloc::Global;
 use std::test::Fail;
 
-const SPHERE: &str = "site point { x: -9 .. 9; y: -9 .. 9; z: -9 .. 9; }
+pub(crate) const SPHERE: &str = "site point { x: -9 .. 9; y: -9 .. 9; z: -9 .. 9; }
 predicate insphere(a: point, b: point, c: point, d: point, e: point) {
   let ax = a.x - e.x; let ay = a.y - e.y; let az = a.z - e.z;
   let bx = b.x - e.x; let by = b.y - e.y; let bz = b.z - e.z;

@@ -51,11 +51,22 @@ pub struct Row {
     pub values: [i64; 5],
 }
 
+/// An order of infinitesimals: by the smallest one in which two vectors differ, or by total degree first.
+#[derive(Clone, Copy)]
+pub enum Order {
+    Smallest,
+    Degree,
+}
+
 /// For each vector the coefficient there.
 type Coefficients = Vec<i128>;
 
 fn exponent(vector: usize, v: usize) -> usize {
     (0..v).fold(vector, |digits, _| digits / 5) % 5
+}
+
+fn degree(vector: usize) -> usize {
+    (0..5).fold(0, |sum, v| exponent(vector, v).wrapping_add(sum))
 }
 
 fn covers(m: usize, a: usize) -> bool {
@@ -205,23 +216,41 @@ impl Row {
         smallest.is_some_and(|v| exponent(a, v) < exponent(b, v))
     }
 
-    /// The earliest vector at which the coefficient on this row isn't 0, and that coefficient.
-    pub fn first(&self, alloc: Global, parts: &[Part]) -> Result<Option<(usize, i128)>, NoMemory> {
+    // Is a before b in this order?
+    fn is_before(&self, order: Order, a: usize, b: usize) -> bool {
+        match order {
+            Order::Smallest => self.is_earlier(a, b),
+            Order::Degree => {
+                degree(a) < degree(b) || (degree(a) == degree(b) && self.is_earlier(a, b))
+            }
+        }
+    }
+
+    /// The first vector in this order at which the coefficient on this row isn't 0, and that coefficient.
+    pub fn first(
+        &self,
+        alloc: Global,
+        order: Order,
+        parts: &[Part],
+    ) -> Result<Option<(usize, i128)>, NoMemory> {
         let point = Point {
             values: self.values,
             perturbed: 4,
         };
         let mut first = None;
         for (a, c) in coefficients(alloc, parts, &point)?.iter().enumerate() {
-            if *c != 0 && first.is_none_or(|(b, _)| self.is_earlier(a, b)) {
+            if *c != 0 && first.is_none_or(|(b, _)| self.is_before(order, a, b)) {
                 first = Some((a, *c));
             }
         }
         Ok(first)
     }
 
-    /// The number of vectors that are earlier than this one.
-    pub fn place(&self, vectors: &[usize], a: usize) -> usize {
-        vectors.iter().filter(|b| self.is_earlier(**b, a)).count()
+    /// The number of vectors that are before this one in this order.
+    pub fn place(&self, order: Order, vectors: &[usize], a: usize) -> usize {
+        vectors
+            .iter()
+            .filter(|b| self.is_before(order, **b, a))
+            .count()
     }
 }
