@@ -14,12 +14,14 @@ predicate orient(p: point, q: point, r: point) { sign (p.x - r.x)*(q.y - r.y) - 
 const NOTHING: &str = "site num { t: -9 .. 9; } predicate s(a: num, b: num) { sign a.t - a.t; }";
 
 // 17 coordinates of two sites: 131,072 stages in each of the two lists, each covered by the one monomial.
-const PRODUCT: &str = "site nine { a: -1 .. 1; b: -1 .. 1; c: -1 .. 1; d: -1 .. 1; e: -1 .. 1; f: -1 .. 1; g: -1 .. 1; h: -1 .. 1; i: -1 .. 1; }
+const PRODUCT: &str =
+    "site nine { a: -1 .. 1; b: -1 .. 1; c: -1 .. 1; d: -1 .. 1; e: -1 .. 1; f: -1 .. 1; g: -1 .. 1; h: -1 .. 1; i: -1 .. 1; }
 site eight { a: -1 .. 1; b: -1 .. 1; c: -1 .. 1; d: -1 .. 1; e: -1 .. 1; f: -1 .. 1; g: -1 .. 1; h: -1 .. 1; }
 predicate all(x: nine, y: eight) { sign x.a*x.b*x.c*x.d*x.e*x.f*x.g*x.h*x.i*y.a*y.b*y.c*y.d*y.e*y.f*y.g*y.h; }";
 
 // 124 coordinates of four sites.
-const LONG: &str = "site wide { a: -1 .. 1; b: -1 .. 1; c: -1 .. 1; d: -1 .. 1; e: -1 .. 1; f: -1 .. 1; g: -1 .. 1; h: -1 .. 1; i: -1 .. 1;
+const LONG: &str =
+    "site wide { a: -1 .. 1; b: -1 .. 1; c: -1 .. 1; d: -1 .. 1; e: -1 .. 1; f: -1 .. 1; g: -1 .. 1; h: -1 .. 1; i: -1 .. 1;
 j: -1 .. 1; k: -1 .. 1; l: -1 .. 1; m: -1 .. 1; n: -1 .. 1; o: -1 .. 1; p: -1 .. 1; q: -1 .. 1; r: -1 .. 1; s: -1 .. 1; t: -1 .. 1;
 u: -1 .. 1; v: -1 .. 1; w: -1 .. 1; x: -1 .. 1; y: -1 .. 1; z: -1 .. 1; a1: -1 .. 1; b1: -1 .. 1; c1: -1 .. 1; d1: -1 .. 1; e1: -1 .. 1; }
 predicate all(k: wide, l: wide, m: wide, n: wide) {
@@ -45,12 +47,7 @@ fn counts(alloc: Global, p: &Pred, most: u64, heavy: u32) -> Result<(u64, usize)
 }
 
 // The same of the first predicate of a source. A source without one counts as want of memory.
-fn counted(
-    alloc: Global,
-    source: &str,
-    most: u64,
-    heavy: u32,
-) -> Result<(u64, usize), StageStop> {
+fn counted(alloc: Global, source: &str, most: u64, heavy: u32) -> Result<(u64, usize), StageStop> {
     let bytes = source.as_bytes();
     if bytes.len() > 1_048_576 {
         return Err(StageStop::NoMemory);
@@ -89,11 +86,14 @@ fn insphere_has_151440_stages(rt: HostRuntime) -> Result<(), Fail> {
 }
 
 #[test]
-fn the_last_within_the_limits_is_passed_and_the_next_refused(
-    rt: HostRuntime,
-) -> Result<(), Fail> {
+fn the_last_within_the_limits_is_passed_and_the_next_refused(rt: HostRuntime) -> Result<(), Fail> {
     let alloc = rt.alloc();
-    assert!(rt; matches!(counted(alloc, PRODUCT, 262_144, 131_072), Ok((262_144, 131_072))));
+    assert!(rt;
+        matches!(
+            counted(alloc, PRODUCT, 262_144, 131_072),
+            Ok((262_144, 131_072))
+        )
+    );
     assert!(rt; is_past(alloc, PRODUCT, 262_143, 131_072));
     assert!(rt; is_past(alloc, PRODUCT, 262_144, 131_071));
     // Refused after as many stages as the limit allows, of 2^124.
