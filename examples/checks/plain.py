@@ -6,6 +6,7 @@ plain.py rows FILE NAME COUNT           so many rows for a predicate, of which m
 plain.py product SEED                   a source of three random predicates f, g and h, and last their product, `whole`
 plain.py check FILE                     the lines of `check`
 plain.py run FILE NAME ROWS             the lines of `run`; where the plain value isn't 0 it stands as decided by 0, also where a filter does
+plain.py graded FILE NAME ROWS          the lines of `graded`, with 0 in place of F as well
 plain.py gen FILE NAME SEED COUNT       the lines of `gen`; what the filter decides counts as decided by the plain value"""
 import functools, itertools, math, random, re, sys
 
@@ -89,27 +90,28 @@ class Predicate:
                 out.setdefault(vector, []).append((product, [(v, e - k) for (v, e), k in zip(pairs, a) if e > k]))
         return out
 
-    def stages(self, order):
-        """the stage list of an order of the sites, the one with the smallest index first"""
-        if order not in self.lists:
+    def stages(self, order, graded=False):
+        """the stage list of an order of the sites, the one with the smallest index first; graded is by total degree first"""
+        if (order, graded) not in self.lists:
             # the weight of a variable's exponent: the site with the larger index, then the coordinate that is declared first, is looked at first
             weight = {v: (order.index(site) << 5) + 31 - place for v, (_, site, place, _) in enumerate(self.variables) if site}
-            key = lambda a: sum(e << BITS * weight[v] for v, e in exponents(a))
+            degree = lambda a: sum(e for _, e in exponents(a)) if graded else 0
+            key = lambda a: (degree(a), sum(e << BITS * weight[v] for v, e in exponents(a)))
             keys = {key(a): a for a in self.covered}
             ends = [key(a) for a, terms in self.covered.items() if len(terms) == 1 and not terms[0][1]]
             last = min(ends, default=max(keys))
-            self.lists[order] = [keys[k] for k in sorted(keys) if k <= last]
-        return self.lists[order]
+            self.lists[order, graded] = [keys[k] for k in sorted(keys) if k <= last]
+        return self.lists[order, graded]
 
     def coefficient(self, vector, values):
         return sum(c * math.prod(values[v] ** e for v, e in rest) for c, rest in self.covered.get(vector, []))
 
-    def answer(self, index, values):
+    def answer(self, index, values, graded=False):
         """the sign, and the place of the stage that decides it"""
         value = self.coefficient(0, values)
         if value:
             return value, 0
-        for place, a in enumerate(self.stages(tuple(sorted(self.sites, key=index.get)))):
+        for place, a in enumerate(self.stages(tuple(sorted(self.sites, key=index.get)), graded)):
             value = self.coefficient(a, values)
             if value:
                 return value, place
@@ -131,14 +133,18 @@ def check(path):
         print(p.name, "sites", len(p.sites), "stages", sum(len(p.stages(o)) for o in itertools.permutations(p.sites)))
 
 
-def run(path, name, table):
+def run(path, name, table, graded=False):
     p = read(path)[name]
     lines = open(table).read().split("\n")
     assert lines[0] == ",".join(p.columns) and lines[-1] == ""
     for line in lines[1:-1]:
         row = dict(zip(p.columns, map(int, line.split(","))))
-        sign, place = p.answer({a: row[a] for a in p.sites}, [z for c, z in row.items() if c not in p.sites])
+        sign, place = p.answer({a: row[a] for a in p.sites}, [z for c, z in row.items() if c not in p.sites], graded)
         print("+" if sign > 0 else "-" if sign < 0 else "0", "-" if place is None else place)
+
+
+def graded(path, name, table):
+    run(path, name, table, True)
 
 
 def words(seed):
@@ -286,4 +292,4 @@ def largest():
 
 
 if __name__ == "__main__":
-    {"largest": largest, "product": product, "check": check, "run": run, "gen": gen, "rows": rows}[sys.argv[1]](*sys.argv[2:])
+    {"largest": largest, "product": product, "check": check, "run": run, "graded": graded, "gen": gen, "rows": rows}[sys.argv[1]](*sys.argv[2:])
