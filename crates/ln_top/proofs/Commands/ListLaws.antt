@@ -9,7 +9,7 @@ use Rattle.ln_code.specs.Kept.{IsProgram}
 use Rattle.ln_code.specs.Part.{Part}
 use Rattle.ln_compile.specs.Compiled.{AreProgramsOf, IsProgramAt}
 use Rattle.ln_compile.proofs.Making.BuildingLemmas.{program-more}
-use Rattle.ln_cemit.proofs.Writing.Loops.{kept_more}
+use Rattle.ln_cemit.specs.Emitted.{AreKept}
 use Rattle.ln_cert.specs.Listing.{ListText}
 use Rattle.ln_cert.specs.Written.{listing_of}
 use Rattle.ln_top.specs.declared.status.End.{End}
@@ -29,6 +29,10 @@ use Rattle.ln_top.proofs.Theorem.GoodLines.{listing_is}
 listable_more : (cs : List Part) (c : Part) → AreListable cs → IsListable c → AreListable (cs ++ c ∷ [])
 listable_more [] c l h = (h, tt)
 listable_more (d ∷ cs) c l h = (l.0, listable_more cs c l.1 h)
+
+kept_more : (cs : List Part) (c : Part) → AreKept cs → IsProgram c → AreKept (cs ++ c ∷ [])
+kept_more [] c k h = (h, tt)
+kept_more (d ∷ cs) c k h = (k.0, kept_more cs c k.1 h)
 
 -- the listing of no program
 pub begun : (preds : List PredOf) (text : List ℕ) → ListText text 2 (listing_of []) → IsListingOfFirst preds 0 text

@@ -1,7 +1,7 @@
 -- Work on records, one behind the other: once for all commands that put lines as they come.
 use Rattle.std.proofs.Common.{◌≡◌, ◌≢◌, ℕ, ◌≤◌, length, take, Bool, true, false, ◌&&◌, List, [], ◌∷◌}
 use Rattle.std.proofs.Common.{◌++◌, refl, ap, sym, ◌∙◌, subst, Option, Some, None, Ok, Err, append_assoc}
-use Rattle.std.specs.Prelude.{Result}
+use Rattle.std.specs.Prelude.{IfSome, Result}
 use Rattle.std.proofs.lemmas.List.{append-nil}
 use Rattle.ln_base.specs.Outside.{Shown, appended}
 use Rattle.ln_base.specs.declared.outside.Port.TheVariants.{Out, Err as ErrPort}
@@ -16,6 +16,10 @@ use Rattle.ln_top.specs.Lines as l
 use Rattle.ln_top.specs.Lines.{Lines, none, more, all_good, PutsFronts, PutsAll, PutsOne, every, Wrote, wrote, broke, Takes, took}
 use Rattle.ln_top.specs.Lines.{tore, left_off, Gathers, worked, torn, given_up, Empties, held_on, emptied, stuck, Sends, broken}
 use Rattle.ln_top.specs.Lines.{failed, Ran, all, cut, short}
+
+-- what is known of a value that is there
+pub from_some : {X : Type 0} (o : Option X) (x : X) (P : X → Type 0) → IfSome o P → o ≡ Some x → P x
+from_some {X = X} o x P h e = subst (λ (q : Option X). IfSome q P) e h
 
 -- both ports, twice
 pub both_twice : (o e out err : List ℕ) (was : Option Shown)

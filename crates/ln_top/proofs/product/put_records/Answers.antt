@@ -1,8 +1,8 @@
 use Rattle.std.proofs.Common.{refl, rules}
 use Rattle.ln_tree.specs.Table.{pred_of}
-use Rattle.ln_rows.proofs.Records.RowsLemmas.{from_some}
 use Rattle.ln_top.specs.Line.{is_row}
 use Rattle.ln_top.specs.Product.{StepOf}
+use Rattle.ln_top.proofs.Gathering.LinesLaws.{from_some}
 use Rattle.ln_top.proofs.Gathering.LinesLaws.{running_none, running_takes, running_stops, running_empties, running_breaks}
 use Rattle.ln_top.proofs.Gathering.LinesLaws.{running_all, running_gives_up}
 use Rattle.ln_top.proofs.product.put_records.Goals as goal

@@ -1,8 +1,8 @@
 use Rattle.std.proofs.Common.{refl, rules}
 use Rattle.ln_top.specs.Target.{pred_in}
-use Rattle.ln_rows.proofs.Records.RowsLemmas.{from_some}
 use Rattle.ln_top.specs.Line.{is_row}
 use Rattle.ln_top.specs.Run.{StepOf}
+use Rattle.ln_top.proofs.Gathering.LinesLaws.{from_some}
 use Rattle.ln_top.proofs.Gathering.LinesLaws.{running_none, running_takes, running_stops, running_empties, running_breaks, running_gives_up}
 use Rattle.ln_top.proofs.Gathering.LinesLaws.{running_all}
 use Rattle.ln_top.proofs.run.put_records.Goals as goal
