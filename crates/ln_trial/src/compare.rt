@@ -239,8 +239,8 @@ fn random_predicates_have_the_sign_and_place_of_the_definition(
         undecided: 0,
         differ: 0,
     };
-    assert!(rt; tally.compare_all(rt.alloc(), 60)?);
-    assert!(rt; tally.predicates >= 100 && tally.repeated >= 100);
-    assert!(rt; tally.perturbed >= 1000 && tally.undecided >= 20 && tally.differ >= 20);
+    assert!(rt; tally.compare_all(rt.alloc(), 40)?);
+    assert!(rt; tally.predicates >= 80 && tally.repeated >= 60);
+    assert!(rt; tally.perturbed >= 600 && tally.undecided >= 12 && tally.differ >= 12);
     Ok(())
 }
