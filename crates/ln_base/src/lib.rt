@@ -1,6 +1,7 @@
 //! What every crate of the product stands on: files and ports with their counts of faults (`outside`), in memory
 //! (`memory`), whole files and whole texts (`whole`), lists that contracts see as lists (`seq`), decimal numbers
-//! (`decimal`), places in a source (`span`, `place`), names (`word`) and signs (`sign`).
+//! (`decimal`), places in a source (`span`, `place`), names (`word`) and signs (`sign`). Of texts of lines, as listings
+//! and traces are: the words of a line (`scan`), the numbers that words are (`numeral`), and words appended (`put`).
 //!
 //! What the crates above use: `read_whole` answers the told bytes of a file, `put_all` appends all bytes to a port, and a
 //! refusal has its cause, a count of faults that rose or a name that isn't there.
@@ -9,8 +10,11 @@
 pub mod calls;
 pub mod decimal;
 pub mod memory;
+pub mod numeral;
 pub mod outside;
 pub mod place;
+pub mod put;
+pub mod scan;
 pub mod seq;
 pub mod sign;
 pub mod span;

@@ -1,5 +1,5 @@
 //! The whole file.
-ghost use Rattle.std.specs.Prelude.{◌≡◌, ◌≤◌, ◌++◌, ◌∷◌, [], true, IfOk, List, codes, map};
+ghost use Rattle.std.specs.Prelude.{◌≡◌, ◌≤◌, ◌++◌, ◌∷◌, [], true, IfOk, OnErr, List, codes, map};
 ghost use Rattle.std.specs.List.{range_with_len};
 ghost use Rattle.ln_csyn.specs.Layout.{Lays};
 ghost use Rattle.ln_csyn.specs.Spelling.{Puts, Goes, lexeme, spell_body, spell_parameters, spell_fun};
@@ -23,6 +23,7 @@ use ln_csyn::layout::lay_fun;
 use ln_csyn::spell::{brace_left, brace_right};
 use ln_order::{Order, all_orders};
 use std::alloc::Global;
+use std::mem::replace;
 
 fn put_numbered_block(
     alloc: Global,
@@ -171,14 +172,25 @@ pub fn begin_file(alloc: Global) -> Result<Vec<u8>, NoMemory>
     Ok(out)
 }
 
-/// Appends the functions of a program to the C of others. For programs whose names differ, each with at most 65,536 blocks, the text is
-/// then what `emit` returns for all of them (`laws::file_is_emitted`). Where allocation fails, the text begins no file.
-pub fn put_program(alloc: Global, out: &mut Vec<u8>, p: &Program) -> Result<(), NoMemory>
+// Appends the functions of a program.
+fn put_funs(alloc: Global, out: &mut Vec<u8>, p: &Program) -> Result<(), NoMemory>
     ensures { IfOk result (λ x. (ps : List Part) → BeginsFile out.old.items ps → BeginsFile out.new.items (ps ++ p.now ∷ [])) }
 {
     put_filter_of(alloc, out, p)?;
     put_blocks_of(alloc, out, p)?;
     put_call(alloc, out, p)
+}
+
+/// Appends the functions of a program to the C of others. For programs whose names differ, each with at most 65,536 blocks, the text is
+/// then what `emit` returns for all of them (`laws::file_is_emitted`). Where allocation fails, the text is dropped, and `out` is empty.
+pub fn put_program(alloc: Global, out: &mut Vec<u8>, p: &Program) -> Result<(), NoMemory>
+    ensures ok { IfOk result (λ x. (ps : List Part) → BeginsFile out.old.items ps → BeginsFile out.new.items (ps ++ p.now ∷ [])) }
+    ensures err { OnErr result (out.new.items ≡ []) }
+{
+    let mut text = replace(out, Vec::new(alloc));
+    put_funs(alloc, &mut text, p)?;
+    *out = text;
+    Ok(())
 }
 
 /// Returns the C of these programs: a text of the subset in which each program `NAME` has the function

@@ -1,5 +1,4 @@
 -- Lines and listings read, and where reading stops.
-pub mod Parting
 pub mod FirstWords
 pub mod OneLine
 pub mod OrderLines

@@ -1,6 +1,4 @@
--- Words and numbers of a line.
-pub mod Numbers
-pub mod Halves
+-- Words of a line of a listing.
 pub mod Lists
 pub mod Plain
 pub mod Certificates

@@ -1,6 +1,4 @@
 -- The files of this folder.
-pub mod Lines
-pub mod Words
 pub mod Text
 pub mod Listing
 pub mod Reading

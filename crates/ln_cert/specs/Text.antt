@@ -2,6 +2,8 @@
 use Rattle.std.specs.Prelude.{◌≡◌, ℕ, ℤ, ◌^◌, ◌<◌, ◌≤◌, Bool, true, false, if◌then◌else◌, List}
 use Rattle.std.specs.Prelude.{[], ◌∷◌, ◌++◌, length, map, codes, decimal, unsigned_abs}
 use Rattle.std.specs.Fmt.{signed_decimal}
+pub use Rattle.ln_base.specs.Exponents.{Each, IsExponent, exponent_word}
+use Rattle.ln_base.specs.Lines.{parted}
 use Rattle.ln_base.specs.Words.{is_name}
 use Rattle.ln_bound.specs.declared.fitted.Width.{Width}
 use Rattle.ln_bound.specs.declared.fitted.Width.TheVariants.{W64, W128}
@@ -15,7 +17,6 @@ use Rattle.ln_cert.specs.declared.part.Part.TheVariants.{Predicate, NoFilter, Fi
 use Rattle.ln_cert.specs.declared.part.Part.TheVariants.{Block, BlockOp, RangeOp, End, Order, Done}
 use Rattle.ln_cert.specs.declared.part.Verb.{Verb}
 use Rattle.ln_cert.specs.declared.part.Verb.TheVariants as verb
-use Rattle.ln_cert.specs.Words.{parted}
 
 -- ---- operations
 -- an operation without its number
@@ -131,19 +132,6 @@ abbrev pub IsRange : Verb → ℤ → ℤ → Type 0
 IsRange v l u = (unsigned_abs l < 2 ^ 127) × (unsigned_abs u < 2 ^ 127) × (takes_off v ≡ true → (unsigned_abs l ≡ 0) × (unsigned_abs u ≡ 0))
 
 -- ---- exponents, places and numbers of blocks
--- V^E
-abbrev pub exponent_word : ℕ × ℕ → List ℕ
-exponent_word p = decimal p.0 ++ 94 ∷ decimal p.1
-
--- V is at most 167, E from 1 to 127
-abbrev pub IsExponent : ℕ × ℕ → Type 0
-IsExponent p = (p.0 ≤ 167) × (0 < p.1) × (p.1 ≤ 127)
-
--- each of a list
-abbrev pub Each : {A : Type 0} → (A → Type 0) → List A → Type 0
-Each P [] = Unit {0}
-Each P (x ∷ xs) = P x × Each P xs
-
 -- a place is at most 4
 abbrev pub IsPlace : ℕ → Type 0
 IsPlace s = s ≤ 4

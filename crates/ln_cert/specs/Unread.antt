@@ -4,7 +4,7 @@ use Rattle.ln_cert.specs.declared.part.Entry.{Entry}
 use Rattle.ln_cert.specs.declared.part.Part.{Part}
 use Rattle.ln_cert.specs.declared.part.State.{State}
 use Rattle.ln_cert.specs.declared.part.State.TheVariants.{Top}
-use Rattle.ln_cert.specs.Lines.{lines}
+use Rattle.ln_base.specs.Lines.{lines}
 use Rattle.ln_cert.specs.Listing.{ListText}
 use Rattle.ln_cert.specs.Reading.{RefusesText, goes, next_of}
 use Rattle.ln_cert.specs.Text.{Each, IsLine, text_of}

@@ -14,7 +14,7 @@ use Rattle.ln_code.specs.Part.{Code, FilterCode, lines_of}
 use Rattle.ln_code.specs.Part.{Part as Program}
 use Rattle.ln_cert.specs.declared.part.Part.{Part}
 use Rattle.ln_cert.specs.declared.part.Part.TheVariants.{Predicate, NoFilter, Filter, FilterOp, Decide, Block, RangeOp, End, Order, Done}
-use Rattle.ln_cert.specs.Lines.{joined}
+use Rattle.ln_base.specs.Lines.{joined}
 use Rattle.ln_cert.specs.Text.{Each, IsLine, of_block, of_filter, takes_off, text_of, verb_of}
 
 -- an operation of a filter with its triple

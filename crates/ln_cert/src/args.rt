@@ -1,63 +1,14 @@
 //! The words behind the first word of a line.
-ghost use Rattle.std.specs.Prelude.{◌≡◌, ◌<◌, ◌≤◌, ◌^◌, ◌∷◌, [], ℕ, ℤ, List, IfSome, IfNone, decimal, unsigned_abs, IsTrue, ◌↔◌};
-ghost use Rattle.std.specs.Fmt.{signed_decimal};
+ghost use Rattle.std.specs.Prelude.{◌≡◌, ◌<◌, ◌≤◌, ◌^◌, ◌∷◌, [], ℕ, ℤ, IfSome, IfNone, decimal, unsigned_abs};
 ghost use Rattle.ln_code.specs.declared.op.Triple.{Triple as AnyTriple};
-ghost use Rattle.ln_cert.specs.Words.{words_from};
+ghost use Rattle.ln_base.specs.Lines.{words_from};
 ghost use Rattle.ln_cert.specs.Text.{IsBound, IsRange, IsTriple, certificate, range_words, triple_words};
 
 use crate::operation::takes_off;
 use crate::part::Verb;
-use crate::scan::{integer, number, word};
+use ln_base::numeral::{field, signed_field};
+use ln_base::scan::ended;
 use ln_code::Triple;
-
-/// The word at a place, and the place of the next one; none behind the last.
-pub fn next_word(bytes: &[u8], at: usize) -> Option<(&[u8], usize)>
-    ensures some { IfSome result (λ x. words_from at bytes.now ≡ x.0.now ∷ words_from x.1 bytes.now) }
-    ensures none { IfNone result (words_from at bytes.now ≡ []) }
-{
-    if at > bytes.len() {
-        None
-    } else {
-        Some(word(bytes, at))
-    }
-}
-
-/// The number that stands at a place, and the place of the next word.
-pub fn field(bytes: &[u8], at: usize, most: u128) -> Option<(u128, usize)>
-    ensures some { IfSome result (λ x. (x.0 ≤ most) × (words_from at bytes.now ≡ decimal x.0 ∷ words_from x.1 bytes.now)) }
-    ensures none { IfNone result ((n : ℕ) (ws : List (List ℕ)) → n ≤ most → words_from at bytes.now ≡ decimal n ∷ ws → ⊥) }
-{
-    let Some((w, next)) = next_word(bytes, at) else {
-        return None;
-    };
-    let Some(n) = number(w, most) else {
-        return None;
-    };
-    Some((n, next))
-}
-
-/// The signed number that stands at a place, and the place of the next word.
-pub fn signed_field(bytes: &[u8], at: usize) -> Option<(i128, usize)>
-    ensures some { IfSome result (λ x. (unsigned_abs x.0 < 2 ^ 127)
-        × (words_from at bytes.now ≡ signed_decimal x.0 ∷ words_from x.1 bytes.now)) }
-    ensures none { IfNone result ((z : ℤ) (ws : List (List ℕ)) → unsigned_abs z < 2 ^ 127 →
-        words_from at bytes.now ≡ signed_decimal z ∷ ws → ⊥) }
-{
-    let Some((w, next)) = next_word(bytes, at) else {
-        return None;
-    };
-    let Some(z) = integer(w) else {
-        return None;
-    };
-    Some((z, next))
-}
-
-/// Whether no word stands from the place on.
-pub fn ended(bytes: &[u8], at: usize) -> bool
-    ensures { IsTrue result ↔ (words_from at bytes.now ≡ []) }
-{
-    next_word(bytes, at).is_none()
-}
 
 // The one number that stands from the place on.
 fn one(bytes: &[u8], at: usize, most: u128) -> Option<u128>

@@ -17,7 +17,6 @@ pub mod operation;
 pub mod part;
 pub mod put;
 pub mod read;
-pub mod scan;
 pub mod write;
 
 pub use lines::Lines;

@@ -1,15 +1,16 @@
 //! One line.
 ghost use Rattle.std.specs.Prelude.{◌≡◌, true, ◌<◌, ℕ, ◌∷◌, ◌++◌, List, IfOk, MatchOption, decimal, codes, map};
 ghost use Rattle.ln_cert.specs.declared.part.Kind.TheVariants as kind;
-ghost use Rattle.ln_cert.specs.Words.{words, words_from};
+ghost use Rattle.ln_base.specs.Lines.{words, words_from};
 ghost use Rattle.ln_cert.specs.Text.{Each, IsExponent, IsNumber, IsPlace, exponent_word, of_block, of_filter};
 ghost use Rattle.ln_cert.specs.Reading.{HasArgs, IsRead, NoArgs, Refuses, good};
 
-use crate::args::{bound, ended, ends, field, next_word, triple};
+use crate::args::{bound, ends, triple};
 use crate::kinds::{after, kind};
 use crate::operation::operation;
 use crate::part::{Kind, Part, State, Verb};
-use crate::scan::{exponent, number, word};
+use ln_base::numeral::{exponent, field, number};
+use ln_base::scan::{ended, next_word, word};
 use ln_base::word::is_name;
 use ln_base::{NoMemory, Seq};
 use std::alloc::Global;

@@ -1,6 +1,6 @@
 //! The lines of a listing, one after the other.
 ghost use Rattle.std.specs.Prelude.{◌≡◌, ◌⊎◌, ◌<◌, ◌≤◌, ◌∷◌, IfOk, IfErr, MatchOption, OnErr, drop, length};
-ghost use Rattle.ln_cert.specs.Lines.{lines};
+ghost use Rattle.ln_base.specs.Lines.{lines};
 ghost use Rattle.ln_cert.specs.Listing.{first_line};
 ghost use Rattle.ln_cert.specs.Stop.{Stops};
 ghost use Rattle.ln_cert.specs.Unread.{Begins, IsOpened, NoneBegins, Takes};
@@ -10,8 +10,8 @@ use crate::kinds::is_end;
 use crate::line::line;
 use crate::part::{Entry, Part, State};
 use crate::read::ListStop;
-use crate::scan::{after, between, find};
 use ln_base::NoMemory;
+use ln_base::scan::{after, between, find};
 use std::alloc::Global;
 use std::marker::Model;
 

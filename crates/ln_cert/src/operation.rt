@@ -1,12 +1,12 @@
 //! An operation with its number, and without it.
 ghost use Rattle.std.specs.Prelude.{◌≡◌, IfSome, IfNone};
 ghost use Rattle.ln_cert.specs.declared.part.Verb.TheVariants as verb;
-ghost use Rattle.ln_cert.specs.Words.{words_from};
+ghost use Rattle.ln_base.specs.Lines.{words_from};
 ghost use Rattle.ln_cert.specs.Reading.{OpAt, NoOpAt};
 ghost use Rattle.ln_cert.specs.Text.{takes_off, verb_of};
 
-use crate::args::{field, signed_field};
 use crate::part::Verb;
+use ln_base::numeral::{field, signed_field};
 use ln_code::Op;
 
 /// An operation without its number.

@@ -1,73 +1,15 @@
 //! Putting lines to a text.
 ghost use Rattle.std.specs.Prelude.{◌≡◌, ◌∷◌, ◌++◌, [], IfOk, decimal, map};
-ghost use Rattle.std.specs.Fmt.{signed_decimal};
 ghost use Rattle.ln_cert.specs.declared.part.Part.TheVariants as part;
-ghost use Rattle.ln_cert.specs.Text.{certificate, exponent_word, number_words, range_words, triple_words};
+ghost use Rattle.ln_cert.specs.Text.{certificate, number_words, range_words, triple_words};
 ghost use Rattle.ln_cert.specs.Writing.{Puts, PutsLine};
 
 use crate::kinds::{block_word, filter_word};
 use crate::operation::{takes_off, verb_of};
 use crate::part::Verb;
-use itoa::Buffer;
 use ln_base::NoMemory;
+use ln_base::put::{put, put_exponents, put_number, put_signed, put_word};
 use ln_code::{Op, Triple};
-
-/// Puts bytes.
-pub fn put(out: &mut Vec<u8>, text: &[u8]) -> Result<(), NoMemory>
-    ensures { IfOk result (λ x. out.new.items ≡ out.old.items ++ text.now) }
-{
-    out.extend_from_slice(text)?;
-    Ok(())
-}
-
-/// Puts a space and a word.
-pub fn put_word(out: &mut Vec<u8>, text: &[u8]) -> Result<(), NoMemory>
-    ensures { IfOk result (λ x. Puts out.old.items out.new.items (λ r. text.now ∷ r)) }
-{
-    out.push(b' ')?;
-    out.extend_from_slice(text)?;
-    Ok(())
-}
-
-fn put_number(out: &mut Vec<u8>, n: u128) -> Result<(), NoMemory>
-    ensures { IfOk result (λ x. Puts out.old.items out.new.items (λ r. decimal n ∷ r)) }
-{
-    let mut buffer = Buffer::new();
-    put_word(out, buffer.format(n).as_bytes())
-}
-
-fn put_signed(out: &mut Vec<u8>, z: i128) -> Result<(), NoMemory>
-    ensures { IfOk result (λ x. Puts out.old.items out.new.items (λ r. signed_decimal z ∷ r)) }
-{
-    let mut buffer = Buffer::new();
-    put_word(out, buffer.format(z).as_bytes())
-}
-
-fn put_digits(out: &mut Vec<u8>, n: u128) -> Result<(), NoMemory>
-    ensures { IfOk result (λ x. out.new.items ≡ out.old.items ++ decimal n) }
-{
-    let mut buffer = Buffer::new();
-    put(out, buffer.format(n).as_bytes())
-}
-
-fn put_exponent(out: &mut Vec<u8>, v: u8, e: u8) -> Result<(), NoMemory>
-    ensures { IfOk result (λ x. Puts out.old.items out.new.items (λ r. exponent_word (v, e) ∷ r)) }
-{
-    put_number(out, u128::from(v))?;
-    out.push(b'^')?;
-    put_digits(out, u128::from(e))
-}
-
-/// Puts exponents.
-pub fn put_exponents(out: &mut Vec<u8>, exps: &[(u8, u8)]) -> Result<(), NoMemory>
-    ensures { IfOk result (λ x. Puts out.old.items out.new.items (λ r. map exponent_word exps.now ++ r)) }
-{
-    'exps: for pair in exps {
-        let (v, e) = *pair;
-        put_exponent(out, v, e)?;
-    }
-    Ok(())
-}
 
 /// Puts places.
 pub fn put_places(out: &mut Vec<u8>, places: &[u8]) -> Result<(), NoMemory>

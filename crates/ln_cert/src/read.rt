@@ -8,7 +8,7 @@ ghost use Rattle.ln_cert.specs.declared.part.Part.{Part as AnyPart};
 use crate::lines::{Lines, opened};
 use crate::listing::Listing;
 use crate::part::Entry;
-use crate::scan::{between, find};
+use ln_base::scan::{between, find};
 use ln_base::{NoMemory, Seq};
 use std::alloc::{AllocFailed, Global};
 

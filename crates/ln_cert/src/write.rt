@@ -1,5 +1,5 @@
 //! Writing the listing of programs.
-ghost use Rattle.std.specs.Prelude.{◌≡◌, ◌<◌, ◌≤◌, ◌∷◌, ◌++◌, [], ℕ, List, Some, IfOk, decimal, length, map};
+ghost use Rattle.std.specs.Prelude.{◌≡◌, ◌<◌, ◌≤◌, ◌∷◌, ◌++◌, [], ℕ, List, Some, IfOk, OnErr, decimal, length, map};
 ghost use Rattle.ln_interval.specs.View.{range};
 ghost use Rattle.ln_order.specs.Orders.{IsOrderOf, orders_of};
 ghost use Rattle.ln_order.specs.Places.{order_places};
@@ -17,15 +17,16 @@ ghost use Rattle.ln_cert.specs.Written.{ForBlock, ForFilter, InBlock, InFilter, 
 ghost use Rattle.ln_cert.specs.Written.{filter_line, filter_lines, listing_of, order_lines, range_line};
 
 use crate::put::{
-    put, put_bare, put_block, put_filter_op, put_numbers, put_places, put_predicate, put_range_op,
-    put_word,
+    put_bare, put_block, put_filter_op, put_numbers, put_places, put_predicate, put_range_op,
 };
 use ln_base::NoMemory;
+use ln_base::put::{put, put_word};
 use ln_code::{Block, FilterBlock, Op, Program, Programs, Triple};
 use ln_interval::Pair;
 use ln_order::{Order, all_orders};
 use ln_tree::{Exps, Name};
 use std::alloc::Global;
+use std::mem::replace;
 
 fn put_filter_line(out: &mut Vec<u8>, op: Op, t: Triple) -> Result<(), NoMemory>
     requires { InFilter (record { op = op; bound = t }) }
@@ -206,9 +207,8 @@ pub fn begin_listing(alloc: Global) -> Result<Vec<u8>, NoMemory>
     Ok(out)
 }
 
-/// Puts a program behind the listing of programs: it is the listing of these and of this one. Where there is no memory, what is put
-/// is no listing.
-pub fn put_program(alloc: Global, out: &mut Vec<u8>, p: &Program) -> Result<(), NoMemory>
+// Appends the lines of a program.
+fn put_part(alloc: Global, out: &mut Vec<u8>, p: &Program) -> Result<(), NoMemory>
     requires few { length p.now.blocks ≤ 65536 }
     ensures { IfOk result (λ x. (ps : List AnyProgram) → ListText out.old.items 2 (listing_of ps)
         → ListText out.new.items 2 (listing_of (ps ++ p.now ∷ []))) }
@@ -219,6 +219,20 @@ pub fn put_program(alloc: Global, out: &mut Vec<u8>, p: &Program) -> Result<(), 
     put_blocks(out, blocks)?;
     put_all_orders(alloc, out, p)?;
     put_done(out)
+}
+
+/// Appends a program of at most 65,536 blocks to the listing of programs: it is the listing of these and of this one. Where allocation
+/// fails, the text is dropped, and `out` is empty.
+pub fn put_program(alloc: Global, out: &mut Vec<u8>, p: &Program) -> Result<(), NoMemory>
+    requires few { length p.now.blocks ≤ 65536 }
+    ensures ok { IfOk result (λ x. (ps : List AnyProgram) → ListText out.old.items 2 (listing_of ps)
+        → ListText out.new.items 2 (listing_of (ps ++ p.now ∷ []))) }
+    ensures err { OnErr result (out.new.items ≡ []) }
+{
+    let mut text = replace(out, Vec::new(alloc));
+    put_part(alloc, &mut text, p)?;
+    *out = text;
+    Ok(())
 }
 
 /// The text of the listing of the programs, of version 2.

@@ -4,12 +4,12 @@ use Rattle.ln_cert.specs.declared.part.Part.{Part}
 use Rattle.ln_cert.specs.declared.part.Part.TheVariants.{NoFilter, Decide, Block, End, Order, Done}
 use Rattle.ln_cert.specs.declared.part.State.{State}
 use Rattle.ln_cert.specs.declared.part.State.TheVariants.{Top, Opened, InFilter, Planned, InBlock, Blocks, Orders}
-use Rattle.ln_cert.specs.Lines.{lines}
+use Rattle.ln_base.specs.Lines.{lines}
 use Rattle.ln_cert.specs.Text.{Each, IsLine, text_of}
 use Rattle.ln_cert.specs.Listing.{IsFormFault, IsFront, IsListing, IsWhole, first_line, texts_of}
 use Rattle.ln_cert.specs.Reading.{is_end, next_of}
 pub use Rattle.ln_cert.specs.Reading.{RefusesText}
-use Rattle.ln_cert.proofs.Texts.Lists.{head, rest}
+use Rattle.ln_base.proofs.Texts.Lists.{head, rest}
 use Rattle.ln_cert.proofs.Reading.OneLine.{one_line}
 use Rattle.ln_cert.proofs.Reading.Walk.{goes, goes_append, goes_none, is_form, start, whole}
 

@@ -1,7 +1,7 @@
 -- First words: which kind of line begins with a word in a state, both ways.
-use Rattle.std.proofs.Common.{◌≡◌, ℕ, ◌==◌, not, Bool, true, false, List, [], ◌∷◌, Option, Some, None, refl, sym, ap, ◌∙◌, subst, rules}
+use Rattle.std.proofs.Common.{◌≡◌, ℕ, ◌==◌, not, Bool, true, false, List, [], ◌∷◌, Option, Some, None, refl, sym, ap, ◌∙◌, subst}
 use Rattle.std.specs.Prelude.{if◌then◌else◌, bytes_eq, codes, option_map}
-use Rattle.std.proofs.lemmas.Slice.Eq.{bytes_eq-Decides}
+use Rattle.ln_base.proofs.Texts.Lists.{equal_bytes}
 use Rattle.ln_bound.specs.declared.fitted.Width.TheVariants.{W64, W128}
 use Rattle.ln_cert.specs.declared.part.Kind.{Kind}
 use Rattle.ln_cert.specs.declared.part.Kind.TheVariants as kind
@@ -17,9 +17,6 @@ pub record Stands (v : ℕ) (s : State) (w : List ℕ) (k : Kind) : Type 0 where
   pub word : w ≡ word_of k
   pub may : may v s k ≡ true
   pub good : good k ≡ true
-
-pub equal_bytes : (x y : List ℕ) → bytes_eq x y ≡ true → x ≡ y
-equal_bytes x y h = let d = bytes_eq-Decides x y in search (rules, d)
 
 some : {A : Type 0} {a b : A} → Some a ≡ Some b → a ≡ b
 some e = cc

@@ -4,17 +4,18 @@ use Rattle.ln_cert.specs.declared.part.Entry.{Entry}
 use Rattle.ln_cert.specs.declared.part.Part.{Part}
 use Rattle.ln_cert.specs.declared.part.State.{State}
 use Rattle.ln_cert.specs.declared.part.State.TheVariants.{Top}
-use Rattle.ln_cert.specs.Lines.{joined, lines}
+use Rattle.ln_base.specs.Lines.{joined, lines}
 use Rattle.ln_cert.specs.Listing.{AreNumbered, IsFormFault, first_line, parts_of, texts_of}
 use Rattle.ln_cert.specs.Reading.{IsRead, Refuses, goes, is_end, next_at, next_of}
 use Rattle.ln_cert.specs.Text.{Each, IsLine, text_of}
 use Rattle.ln_cert.specs.Unread.{AreLeft, Begins, GoesOn, IsOpened, IsTaken, IsUnread, NoneBegins, Unread}
-use Rattle.ln_cert.specs.Words.{span_to, words}
+use Rattle.ln_base.specs.Lines.{span_to, words}
 use Rattle.ln_cert.proofs.Reading.Fault.{Known, each_append, fault_at, fault_end, map_append, some_next}
 use Rattle.ln_cert.proofs.Reading.OneLine.{one_line, words_line}
 use Rattle.ln_cert.proofs.Reading.Walk.{goes_append, is_form, start}
-use Rattle.ln_cert.proofs.Reading.Whole.{joined_lines, line_at, no_feed, numbered_more, parts_more, refuses, with_feed}
-use Rattle.ln_cert.proofs.Texts.Lists.{head}
+use Rattle.ln_cert.proofs.Reading.Whole.{no_feed, numbered_more, parts_more, refuses}
+use Rattle.ln_base.proofs.Texts.Lines.{joined_lines, line_at, with_feed}
+use Rattle.ln_base.proofs.Texts.Lists.{head}
 
 -- ---- the front of a text
 pub begins : (v : ℕ) (s : State) (text : List ℕ) (end : ℕ) (body : List ℕ) (p : Part) (t : State) → 0 < length text → end ≡ 0 + span_to 10 (drop 0 text) → end < length text → body ≡ take (end - 0) (drop 0 text) → IsRead v s (words body) p t → Begins v s text p t (end + 1)

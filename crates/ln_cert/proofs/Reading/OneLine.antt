@@ -1,7 +1,6 @@
 -- No line has two readings, and what is read of a line.
-use Rattle.std.proofs.Common.{◌≡◌, ℕ, suc, ◌≤◌, ◌<◌, ◌^◌, Bool, true, false, ℤ, pos, negsuc, unsigned_abs, List, [], ◌∷◌, ◌++◌, map, Some, None, refl, sym, ap, ◌∙◌, subst, arith}
+use Rattle.std.proofs.Common.{◌≡◌, ℕ, ◌≤◌, Bool, true, false, ℤ, pos, negsuc, unsigned_abs, List, [], ◌∷◌, ◌++◌, map, Some, None, refl, sym, ap, ◌∙◌, subst, arith}
 use Rattle.std.specs.Prelude.{if◌then◌else◌, decimal}
-use Rattle.std.specs.Fmt.{signed_decimal}
 use Rattle.ln_code.specs.declared.op.Op.{Op}
 use Rattle.ln_code.specs.declared.op.Op.TheVariants as op
 use Rattle.ln_code.specs.declared.op.Triple.{Triple}
@@ -11,24 +10,17 @@ use Rattle.ln_cert.specs.declared.part.Part.{Part}
 use Rattle.ln_cert.specs.declared.part.Part.TheVariants.{Predicate, NoFilter, Filter, FilterOp, Decide, Block, BlockOp, RangeOp, End, Order, Done}
 use Rattle.ln_cert.specs.declared.part.State.{State}
 use Rattle.ln_cert.specs.declared.part.Verb.{Verb}
-use Rattle.ln_cert.specs.Words.{parted, words}
+use Rattle.ln_base.specs.Lines.{parted, words}
 use Rattle.ln_cert.specs.Text.{IsBound, IsExponent, IsLine, IsNumber, IsOp, IsRange, IsTriple, args_of, certificate, exponent_word, kind_of, number_words, range_words, takes_off, text_of, triple_words, verb_of, word_of, words_of}
 use Rattle.ln_cert.specs.Reading.{HasArgs, IsRead, NoArgs, Refuses, after, good, kind_in, may, next_of}
-use Rattle.ln_cert.proofs.Texts.Halves.{same_exponent}
+use Rattle.ln_base.proofs.Texts.Halves.{same_exponent}
 use Rattle.ln_cert.proofs.Reading.FirstWords.{complete, one_kind, sound}
-use Rattle.ln_cert.proofs.Texts.Lists.{head, rest, same_front, same_map}
-use Rattle.ln_cert.proofs.Texts.Numbers.{decimal_injective, no_minus}
-use Rattle.ln_cert.proofs.Reading.Parting.{parted_words}
+use Rattle.ln_cert.proofs.Texts.Lists.{same_front}
+use Rattle.ln_base.proofs.Texts.Lists.{head, rest, same_map}
+use Rattle.ln_base.proofs.Texts.Lines.{snoc_same}
+use Rattle.ln_base.proofs.Texts.Numbers.{decimal_injective, signed_injective}
+use Rattle.ln_base.proofs.Texts.Words.{parted_words}
 use Rattle.ln_cert.proofs.Texts.Plain.{read_words}
-
-signed_injective : (y z : ℤ) → unsigned_abs y < 2 ^ 127 → unsigned_abs z < 2 ^ 127 → signed_decimal y ≡ signed_decimal z → y ≡ z
-signed_injective (pos m) (pos n) p q e = ap pos (decimal_injective m n (omega arith) (omega arith) e)
-signed_injective (pos m) (negsuc n) p q e = absurd (no_minus m _ (omega arith) e)
-signed_injective (negsuc m) (pos n) p q e = absurd (no_minus n _ (omega arith) (sym e))
-signed_injective (negsuc m) (negsuc n) p q e =
-    let f : decimal (suc m) ≡ decimal (suc n) = cc in
-    let g = decimal_injective (suc m) (suc n) (omega arith) (omega arith) f in
-    let h : m ≡ n = omega arith in ap negsuc h
 
 -- ---- operations
 pub same_op : (o u : Op) (r s : List (List ℕ)) → verb_of o ≡ verb_of u → IsOp o → IsOp u → number_words o ++ r ≡ number_words u ++ s → (o ≡ u) × (r ≡ s)
@@ -157,14 +149,6 @@ pub same_line : (v : ℕ) (s : State) (x y : Part) (t u : State) → next_of v s
 same_line v s x y t u a b p q e =
     let k = one_kind v s (kind_of x) (kind_of y) (live v s x t a).0 (good_line x p) (live v s y u b).0 (good_line y q) (head e) in
     same_args x y k p q (rest e)
-
-snoc_same : (a b : List ℕ) → a ++ (10 ∷ []) ≡ b ++ (10 ∷ []) → a ≡ b
-snoc_same [] [] e = refl
-snoc_same [] (y ∷ []) e = absurd (cc)
-snoc_same [] (y ∷ (z ∷ b)) e = absurd (cc)
-snoc_same (x ∷ []) [] e = absurd (cc)
-snoc_same (x ∷ (z ∷ a)) [] e = absurd (cc)
-snoc_same (x ∷ a) (y ∷ b) e = let h = head e in let r = snoc_same a b (rest e) in λ i. h i ∷ r i
 
 -- the bytes in front of a line feed are this line
 pub line_words : (body : List ℕ) (p : Part) → IsLine p → body ++ (10 ∷ []) ≡ text_of p → words body ≡ words_of p

@@ -11,7 +11,7 @@ use Rattle.ln_code.specs.Engine.{Line}
 use Rattle.ln_code.specs.Part.{Code, FilterCode, lines_of}
 use Rattle.ln_cert.specs.declared.part.Part.{Part}
 use Rattle.ln_cert.specs.declared.part.Part.TheVariants.{Filter, Decide, Block, RangeOp, End}
-use Rattle.ln_cert.specs.Lines.{joined}
+use Rattle.ln_base.specs.Lines.{joined}
 use Rattle.ln_cert.specs.Text.{Each, IsLine, text_of}
 use Rattle.ln_cert.specs.Writing.{PutsLine}
 use Rattle.ln_cert.specs.Written.{InBlock, Wrote, block_lines, filter_line, filter_lines, range_line}

@@ -8,7 +8,7 @@ programs-preserved c =
     let e = c.as_slice-program-items.ensures.value in
     more_begun c.put_program.new.out.items c.args.p.now c.programs.program-index c.program-item.result
     (subst (λ z. c.programs.program-index < length z) e c.programs-test.true) (subst (λ z. c.program-item.result ≡ get_or z c.programs.program-index c.program-item.result) e c.program-item.is)
-    (c.in_ok-put_program.ensures (take c.programs.program-index c.args.p.now) c.programs.invariant)
+    (c.in_ok-put_program.ensures.ok (take c.programs.program-index c.args.p.now) c.programs.invariant)
 
 pub returns : goal.returns
 returns c =

@@ -1,9 +1,9 @@
 -- Answers to the goals of `exponents` in src/line.rt.
 use Rattle.std.proofs.Common.{◌≡◌, arith, map, subst, sym}
-use Rattle.ln_cert.specs.Words.{words_from}
+use Rattle.ln_base.specs.Lines.{words_from}
 use Rattle.ln_cert.specs.Text.{Each, IsExponent, exponent_word}
-use Rattle.ln_cert.proofs.Texts.Lists.{stops_here, words_all}
-use Rattle.ln_cert.proofs.Reading.Parting.{past_words}
+use Rattle.ln_base.proofs.Texts.Lists.{stops_here, words_all}
+use Rattle.ln_base.proofs.Texts.Words.{past_words}
 use Rattle.ln_cert.proofs.line.exponents.Goals as goal
 
 pub returns-in_default : goal.returns-in_default

@@ -1,6 +1,6 @@
 -- Invariants and measures of `exponents` in src/line.rt.
 use Rattle.std.proofs.Common.{◌≡◌, ◌+◌, ◌-◌, ◌++◌, length, map}
-use Rattle.ln_cert.specs.Words.{words_from}
+use Rattle.ln_base.specs.Lines.{words_from}
 use Rattle.ln_cert.specs.Text.{Each, IsExponent, exponent_word}
 use Rattle.ln_cert.proofs.line.exponents.Given as goal
 

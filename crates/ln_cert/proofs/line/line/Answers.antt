@@ -1,6 +1,6 @@
 -- Answers to the goals of `line` in src/line.rt.
 use Rattle.std.proofs.Common.{sym, ◌∙◌}
-use Rattle.ln_cert.specs.Words.{words, words_from}
+use Rattle.ln_base.specs.Lines.{words, words_from}
 use Rattle.ln_cert.proofs.Reading.OneLine.{found, no_args, no_kind}
 use Rattle.ln_cert.proofs.line.line.Goals as goal
 

@@ -1,6 +1,6 @@
 -- Invariants and measures of `numbers` in src/line.rt.
 use Rattle.std.proofs.Common.{◌≡◌, ◌+◌, ◌-◌, ◌++◌, length, map, decimal}
-use Rattle.ln_cert.specs.Words.{words_from}
+use Rattle.ln_base.specs.Lines.{words_from}
 use Rattle.ln_cert.specs.Text.{Each, IsNumber}
 use Rattle.ln_cert.proofs.line.numbers.Given as goal
 

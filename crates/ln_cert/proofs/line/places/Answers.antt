@@ -1,8 +1,9 @@
 -- Answers to the goals of `places` in src/line.rt.
 use Rattle.std.proofs.Common.{arith}
-use Rattle.ln_cert.specs.Words.{words_from}
-use Rattle.ln_cert.proofs.Texts.Lists.{differs, no_place_here, no_colon_left}
-use Rattle.ln_cert.proofs.Reading.Parting.{past_words}
+use Rattle.ln_base.specs.Lines.{words_from}
+use Rattle.ln_cert.proofs.Texts.Lists.{no_place_here, no_colon_left}
+use Rattle.ln_base.proofs.Texts.Lists.{differs}
+use Rattle.ln_base.proofs.Texts.Words.{past_words}
 use Rattle.ln_cert.proofs.line.places.Goals as goal
 
 pub returns-in_default : goal.returns-in_default

@@ -1,6 +1,6 @@
 -- Invariants and measures of `places` in src/line.rt.
 use Rattle.std.proofs.Common.{◌≡◌, ◌+◌, ◌-◌, ◌++◌, length, map, decimal}
-use Rattle.ln_cert.specs.Words.{words_from}
+use Rattle.ln_base.specs.Lines.{words_from}
 use Rattle.ln_cert.specs.Text.{Each, IsPlace}
 use Rattle.ln_cert.proofs.line.places.Given as goal
 

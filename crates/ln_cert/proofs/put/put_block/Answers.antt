@@ -1,7 +1,7 @@
 -- Answers to the goals of `put_block` in src/put.rt.
 use Rattle.std.proofs.Common.{codes, decimal, map, ◌∷◌, []}
 use Rattle.ln_cert.specs.Text.{exponent_word}
-use Rattle.ln_cert.proofs.Writing.Putting.{line_two, number_put}
+use Rattle.ln_base.proofs.Texts.Putting.{line_two, number_put}
 use Rattle.ln_cert.proofs.put.put_block.Goals as goal
 
 pub returns : goal.returns

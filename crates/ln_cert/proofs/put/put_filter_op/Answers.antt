@@ -1,8 +1,8 @@
 -- Answers to the goals of `put_filter_op` in src/put.rt.
 use Rattle.std.proofs.Common.{◌≡◌, [], ◌∷◌, ◌++◌, subst}
 use Rattle.ln_cert.specs.Text.{certificate, filter_word, number_words, triple_words}
-use Rattle.ln_cert.specs.Words.{parted}
-use Rattle.ln_cert.proofs.Writing.Putting.{line_two}
+use Rattle.ln_base.specs.Lines.{parted}
+use Rattle.ln_base.proofs.Texts.Putting.{line_two}
 use Rattle.ln_cert.proofs.put.put_filter_op.Goals as goal
 
 pub returns : goal.returns

@@ -1,6 +1,6 @@
 -- Answers to the goals of `put_numbers` in src/put.rt.
 use Rattle.std.proofs.Common.{ap, arith, decimal}
-use Rattle.ln_cert.proofs.Writing.Putting.{going_end, going_more}
+use Rattle.ln_base.proofs.Texts.Putting.{going_end, going_more}
 use Rattle.ln_cert.proofs.put.put_numbers.Goals as goal
 
 pub list-preserved : goal.list-preserved

@@ -1,6 +1,6 @@
 -- Answers to the goals of `put_places` in src/put.rt.
 use Rattle.std.proofs.Common.{ap, arith, decimal}
-use Rattle.ln_cert.proofs.Writing.Putting.{going_end, going_more}
+use Rattle.ln_base.proofs.Texts.Putting.{going_end, going_more}
 use Rattle.ln_cert.proofs.put.put_places.Goals as goal
 
 pub places-preserved : goal.places-preserved

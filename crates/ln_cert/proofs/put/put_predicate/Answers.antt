@@ -1,6 +1,6 @@
 -- Answers to the goals of `put_predicate` in src/put.rt.
 use Rattle.std.proofs.Common.{ap, codes, ◌∙◌, ◌∷◌, ◌++◌}
-use Rattle.ln_cert.proofs.Writing.Putting.{line_is}
+use Rattle.ln_base.proofs.Texts.Putting.{line_is}
 use Rattle.ln_cert.proofs.put.put_predicate.Goals as goal
 
 pub returns : goal.returns

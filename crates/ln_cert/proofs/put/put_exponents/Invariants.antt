@@ -1,8 +1,0 @@
--- The loop of `put_exponents` in src/put.rt.
-use Rattle.std.proofs.Common.{drop}
-use Rattle.ln_cert.specs.Text.{exponent_word}
-use Rattle.ln_cert.proofs.Writing.Putting.{Going}
-use Rattle.ln_cert.proofs.put.put_exponents.Given as goal
-
-abbrev pub invariant-exps : goal.invariant-exps
-invariant-exps l = Going exponent_word l.fn.out.items l.out.items (drop l.pair-index l.exps) l.exps
