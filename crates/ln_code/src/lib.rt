@@ -3,6 +3,7 @@
 //! A block or a filter is a list of operations on a stack; `Program` keeps that each follows the rules on pairs and widths, and
 //! so `run_row` checks nothing when it runs: on every row in range it answers what the machine over whole numbers answers, the
 //! sign, what decided it, and how many wide operations and calls it took, and each value stays in its pair and its width.
+//! `block_value` answers the value of one block on a row.
 #![tactic(auto)]
 
 pub(crate) mod arithmetic;
@@ -27,6 +28,6 @@ pub use op::{Op, Triple};
 pub use program::Program;
 pub use programs::Programs;
 pub use row::Row;
-pub use run::run_row;
+pub use run::{block_value, decided, run_row};
 pub use scratch::Scratch;
 pub use verdict::{By, Verdict};

@@ -1,6 +1,6 @@
 //! Rows, run.
 ghost use Rattle.std.specs.Prelude.{◌≡◌, ◌≢◌, ◌<◌, ◌+◌, ◌++◌, ◌^◌, ℕ, List, Option, pos, MatchOption};
-ghost use Rattle.std.specs.Prelude.{IfOk, IfErr, All, AllPairs, Some, length, slice_get, take};
+ghost use Rattle.std.specs.Prelude.{IfOk, IfErr, All, AllPairs, Contains, Some, length, slice_get, take};
 ghost use Rattle.ln_tree.specs.Row.{InRange, AreWithin};
 ghost use Rattle.ln_code.specs.Part.{Code, block_value, filter_value, ops_in_blocks};
 ghost use Rattle.ln_code.specs.Errors.{left_error};
@@ -14,6 +14,7 @@ ghost use Rattle.ln_code.specs.Memory.{MadeFor};
 ghost use Rattle.ln_code.specs.RowOf.{row_of};
 ghost use Rattle.ln_code.specs.declared.verdict.By.TheVariants.{Filter};
 
+use crate::block::Block;
 use crate::filter_block::FilterBlock;
 use crate::processor::{run_block, run_filter};
 use crate::program::Program;
@@ -43,8 +44,8 @@ fn sign_of(z: i128) -> Sign
     }
 }
 
-// The sign of what isn't 0.
-fn decided(z: i128) -> Option<Sign>
+/// The sign of what isn't 0.
+pub fn decided(z: i128) -> Option<Sign>
     ensures { MatchOption result (z ≡ pos 0) (λ s. (z ≢ pos 0) × (s ≡ sign_of z)) }
 {
     if z > 0 {
@@ -57,20 +58,31 @@ fn decided(z: i128) -> Option<Sign>
 }
 
 // The value of a block of the program on a row with these values.
-fn block_value(p: &Program, number: usize, values: &[i64], s: &mut Scratch) -> i128
-    requires number { number < length p.now.blocks }
+fn value_of(p: &Program, block: &Block, values: &[i64], s: &mut Scratch) -> i128
+    requires program { IsProgram p.now }
+    requires block { Contains p.now.blocks block.now }
     requires row { AreWithin p.now.shape.vars values.now }
     requires made { MadeFor p.now s.old }
-    ensures value { (c : Code) → slice_get p.now.blocks number ≡ Some c → block_value values.now c ≡ Some result }
+    ensures value { block_value values.now block.now ≡ Some result }
     ensures made { MadeFor p.now s.new }
 {
-    let block = &p.blocks()[number];
     run_block(
         block.ops(),
         values,
         s.stack.as_mut_slice(),
         s.locals.as_mut_slice(),
     )
+}
+
+// The value of the block with this number on a row with these values.
+fn numbered_value(p: &Program, number: usize, values: &[i64], s: &mut Scratch) -> i128
+    requires number { number < length p.now.blocks }
+    requires row { AreWithin p.now.shape.vars values.now }
+    requires made { MadeFor p.now s.old }
+    ensures value { (c : Code) → slice_get p.now.blocks number ≡ Some c → block_value values.now c ≡ Some result }
+    ensures made { MadeFor p.now s.new }
+{
+    value_of(p, &p.blocks()[number], values, s)
 }
 
 // The number that the filter of the program leaves on a row with these values.
@@ -115,7 +127,7 @@ fn run_segment(
     let mut calls = met.calls;
     'stages: for number in segment {
         let number = *number as usize;
-        let z = block_value(p, number, values, s);
+        let z = numbered_value(p, number, values, s);
         wide += p.blocks()[number].wide() as u32;
         calls += 1;
         if let Some(sign) = decided(z) {
@@ -245,4 +257,19 @@ pub fn run_row(p: &Program, s: &mut Scratch, r: &Row) -> Verdict
     let shape = p.shape();
     let values = &r.values[..shape.vars.len()];
     run_through(p, &r.index[..usize::from(shape.sites)], values, s)
+}
+
+/// The value of a block of the program on a row in range, by a scratch made for the program: what the machine over whole numbers
+/// answers, exactly. No filter is asked. It takes no memory.
+pub fn block_value(b: &Block, p: &Program, s: &mut Scratch, r: &Row) -> i128
+    requires block { Contains p.now.blocks b.now }
+    requires made { MadeFor p.now s.old }
+    requires row { InRange p.now.shape.sites p.now.shape.vars (row_of p.now.shape.sites p.now.shape.vars r.now) }
+    ensures value { block_value (row_of p.now.shape.sites p.now.shape.vars r.now).values b.now ≡ Some result }
+    ensures made { MadeFor p.now s.new }
+{
+    let _kept = p.blocks();
+    let shape = p.shape();
+    let values = &r.values[..shape.vars.len()];
+    value_of(p, b, values, s)
 }

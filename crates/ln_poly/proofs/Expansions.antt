@@ -3,3 +3,4 @@ pub mod Normals
 pub mod Expanding
 pub mod Nodes
 pub mod Lets
+pub mod Existing

@@ -7,4 +7,5 @@ pub mod Summing
 pub mod Rising
 pub mod Ends
 pub mod Joining
+pub mod Added
 pub mod Behind

@@ -3,6 +3,7 @@ pub mod Coefficients
 pub mod Products
 pub mod Bounded
 pub mod Leaves
+pub mod Vectors
 pub mod Counting
 pub mod Negating
 pub mod Walks

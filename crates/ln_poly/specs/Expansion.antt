@@ -16,6 +16,10 @@ pub record IsNormal (n : ℕ) (e : Tree) (f : Sparse) : Type 0 where
   pub form : IsPoly f
   pub below : AreBelow n f
 
+-- there is one
+abbrev pub HasNormal : ℕ → Tree → Type 0
+HasNormal n e = (f : Sparse) × IsNormal n e f
+
 -- no vector stands twice in the list
 abbrev pub AreDistinct : List (List ℕ) → Type 0
 AreDistinct [] = Unit {0}

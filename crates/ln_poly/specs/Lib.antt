@@ -5,6 +5,7 @@ pub mod Times
 pub mod Rows
 pub mod Weight
 pub mod Derivative
+pub mod Values
 pub mod Lean
 pub mod Expansion
 pub mod Within

@@ -8,6 +8,7 @@ ghost use Rattle.ln_tree.specs.Exps.{IsAbove, IsRising, exponent};
 ghost use Rattle.ln_poly.specs.Sparse.{AreBelow, IsPoly, coefficient_at, terms_of};
 ghost use Rattle.ln_poly.specs.Derivative.{IsColumn, IsDerivative, IsDerivedPut, IsLowered, derivative};
 
+use crate::binomials::column;
 use crate::poly::Poly;
 use crate::terms::nonzero;
 use ln_base::NoMemory;
@@ -37,31 +38,6 @@ fn lowered(alloc: Global, e: &Exps, v: u8, n: u8) -> Result<Exps, NoMemory>
         }
     }
     Ok(out)
-}
-
-// From the binomials of each number and k to those of each number and k + 1, by Pascal's rule.
-fn raise(c: &mut [u128], k: u8)
-    requires len { length c.old ≡ 128 }
-    requires column { IsColumn c.old k }
-    ensures { IsColumn c.new (k + 1) }
-{
-    let mut sum = 0u128;
-    'column: for x in c.iter_mut() {
-        let old = *x;
-        *x = sum;
-        sum += old;
-    }
-}
-
-// The binomials of each number below 128 and n.
-fn column(n: u8) -> [u128; 128]
-    ensures { IsColumn result n }
-{
-    let mut c = [1u128; 128];
-    'raises: for k in 0..n {
-        raise(&mut c, k);
-    }
-    c
 }
 
 // Puts the term with these exponents and this product as its factor at the end.

@@ -3,11 +3,13 @@
 //!
 //! What the crates above use: `normal` is the normal polynomial of a predicate's root, or the first node that has more
 //! than 1,024 terms. `add`, `sum`, `sub` and `mul` have the coefficients of the sum, the difference and the product, `derive`
-//! those of the scaled derivative by one variable, `derive_by` by several; `weight` and `heft` are weighted sums. `mul_within` is
-//! `mul` where the product has no more terms than are wanted, or tells that it has more.
+//! those of the scaled derivative by one variable, `derive_by` by several; `value_at` is the value of a scaled derivative on a row,
+//! without forming it. `weight` and `heft` are weighted sums. `mul_within` is `mul` where the product has no more terms than are
+//! wanted, or tells that it has more.
 #![tactic(auto)]
 
 pub mod arithmetic;
+pub mod binomials;
 pub mod derivatives;
 pub mod expansion;
 pub mod leaf;
@@ -17,14 +19,17 @@ pub mod sizes;
 pub mod sums;
 pub mod terms;
 pub mod times;
+pub mod values;
 pub mod weights;
 pub mod within;
 
 pub use arithmetic::{add, mul, negated, sub};
+pub use binomials::Binomials;
 pub use derivatives::{derive, derive_by};
 pub use expansion::{PolyStop, normal};
 pub use leaf::{number, power};
 pub use poly::Poly;
 pub use sums::sum;
+pub use values::value_at;
 pub use weights::{heft, weight};
 pub use within::mul_within;

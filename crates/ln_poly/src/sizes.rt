@@ -1,4 +1,4 @@
-//! Laws of sizes: room for the expansion, and what was accepted by weight.
+//! Laws of sizes: room for the expansion, that there is a normal polynomial, and what was accepted by weight.
 ghost use Rattle.std.specs.Prelude.{◌≡◌, ◌≤◌, ℕ, [], true, All, List, length, map};
 ghost use Rattle.ln_algebra.specs.Sizes.{two};
 ghost use Rattle.ln_algebra.specs.Tree.{Tree};
@@ -11,7 +11,7 @@ ghost use Rattle.ln_tree.specs.declared.shape.VarInfo.{VarInfo as Info};
 ghost use Rattle.ln_bound.specs.Light.{AreLight, most, weighed_pred};
 ghost use Rattle.ln_bound.specs.Loads.{loaded_pred};
 ghost use Rattle.ln_bound.specs.Value.{weights};
-ghost use Rattle.ln_poly.specs.Expansion.{IsNormal, closed_lets, closed_root};
+ghost use Rattle.ln_poly.specs.Expansion.{HasNormal, IsNormal, closed_lets, closed_root};
 ghost use Rattle.ln_poly.specs.Ready.{AreLight as MayExpand, IsLight, LetsAreLight as LetsMayExpand};
 ghost use Rattle.ln_poly.specs.Sparse.{Sparse, terms_of};
 
@@ -23,6 +23,18 @@ pub fn sizes_make_room()
         AreLight (loaded_pred vars lets root) → LetsMayExpand (length vars) two [] (map (tree vars) lets)
         × MayExpand (length vars) two (closed_lets vars lets) (tree vars root) }
     ensures degrees { (n : ℕ) (e : Tree) (f : Sparse) → IsLight n two e → IsNormal n e f → All (λ t. total_degree (vector n t.0) ≤ 126) f }
+{}
+
+/// Where the size of an expression is at most `2^127 - 1` it has a normal polynomial, all of whose factors fit 128 bits. So has
+/// the root of a predicate, with its lets put in, where no range and no size of a node passes the limit.
+///
+/// On it rest the refusals for the weight and for the stages of a predicate, which are said of its normal polynomial: where all
+/// nodes are light, there is one to say them of.
+pub fn normal_polynomial_exists()
+    ensures tree { (n : ℕ) (e : Tree) → IsLight n two e → HasNormal n e }
+    ensures root { (vars : List Info) (k : ℕ) (lets : List Formula) (root : Formula) →
+        lets_fit (length vars) 0 (map (tree vars) lets) ≡ true → is_fit (length vars) k (tree vars root) ≡ true →
+        AreLight (loaded_pred vars lets root) → HasNormal (length vars) (closed_root vars lets root) }
 {}
 
 /// What is accepted by weight is accepted by ranges, sizes and the weighted sum of the normal polynomial: where no node is too

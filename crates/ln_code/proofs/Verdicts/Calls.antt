@@ -1,6 +1,6 @@
 -- A block and the filter of a program, on a row in range.
 use Rattle.std.proofs.Common.{◌≡◌, ℕ, ℤ, ◌≤◌, ◌<◌, List, [], ◌∷◌, length, refl, zero, suc, ap, arith, get_or, ◌∙◌, sym, subst}
-use Rattle.std.specs.Prelude.{All, Option, Some, None, IsSome, slice_get, IfSome}
+use Rattle.std.specs.Prelude.{All, Contains, Option, Some, None, IsSome, slice_get, IfSome}
 use Rattle.std.specs.Vec.{with_items}
 use Rattle.std.proofs.lemmas.List.{with_items_is}
 use Rattle.ln_tree.specs.Row.{AreWithin}
@@ -35,35 +35,42 @@ made_again p s stack locals m e f =
     }
 
 -- what a call of a block has
-pub record BlockCall (p : Part) (number : ℕ) (block : Code) (zs : List ℤ) (ops : List Op) (stack : List ℤ) (s : Scratch) : Type 0 where
+pub record BlockCall (p : Part) (block : Code) (zs : List ℤ) (ops : List Op) (stack : List ℤ) (s : Scratch) : Type 0 where
   pub program : IsProgram p
   pub made : MadeFor p s
   pub row : AreWithin p.shape.vars zs
-  pub below : number < length p.blocks
-  pub block_is : block ≡ get_or p.blocks number block
+  pub its : Contains p.blocks block
   pub ops_is : ops ≡ block.ops
   pub stack_is : stack ≡ s.stack.items
 
-call_runs : (p : Part) (number : ℕ) (block : Code) (zs : List ℤ) (ops : List Op) (stack locals : List ℤ) (s : Scratch) → BlockCall p number block zs ops stack s → Runs p.shape.vars zs block (length stack) (at locals)
-call_runs p number block zs ops stack locals s c =
-    let f : FollowsRules p.shape.vars block = subst (FollowsRules p.shape.vars) (sym c.block_is) (c.program.blocks number block c.below) in
-    let d : block.depth ≤ length s.stack.items = subst (λ (b : Code). b.depth ≤ length s.stack.items) (sym c.block_is) (c.made.blocks number block c.below) in
+call_runs : (p : Part) (block : Code) (zs : List ℤ) (ops : List Op) (stack locals : List ℤ) (s : Scratch) → BlockCall p block zs ops stack s → Runs p.shape.vars zs block (length stack) (at locals)
+call_runs p block zs ops stack locals s c =
+    let f : FollowsRules p.shape.vars block = subst (FollowsRules p.shape.vars) c.its.2 (c.program.blocks c.its.0 block c.its.1) in
+    let d : block.depth ≤ length s.stack.items = subst (λ (b : Code). b.depth ≤ length s.stack.items) c.its.2 (c.made.blocks c.its.0 block c.its.1) in
     block_runs p.shape.vars zs block (length stack) (at locals) f c.row (rw c.stack_is d)
 
-pub block_answers : (p : Part) (number : ℕ) (block : Code) (zs : List ℤ) (ops : List Op) (stack locals : List ℤ) (s : Scratch) → BlockCall p number block zs ops stack s → IsSome (bare_value (plain ops) zs stack locals)
-block_answers p number block zs ops stack locals s c =
-    let r = call_runs p number block zs ops stack locals s c in
+pub block_answers : (p : Part) (block : Code) (zs : List ℤ) (ops : List Op) (stack locals : List ℤ) (s : Scratch) → BlockCall p block zs ops stack s → IsSome (bare_value (plain ops) zs stack locals)
+block_answers p block zs ops stack locals s c =
+    let r = call_runs p block zs ops stack locals s c in
     rw (c.ops_is, r.barely) refl
 
-pub block_gives : (p : Part) (number : ℕ) (block : Code) (zs : List ℤ) (ops : List Op) (stack locals : List ℤ) (s : Scratch) (z : ℤ) → BlockCall p number block zs ops stack s → bare_value (plain ops) zs stack locals ≡ Some z →
-    (b : Code) → slice_get p.blocks number ≡ Some b → block_value zs b ≡ Some z
-block_gives p number block zs ops stack locals s z c h b e =
-    let r = call_runs p number block zs ops stack locals s c in
+pub block_gives : (p : Part) (block : Code) (zs : List ℤ) (ops : List Op) (stack locals : List ℤ) (s : Scratch) (z : ℤ) → BlockCall p block zs ops stack s → bare_value (plain ops) zs stack locals ≡ Some z → block_value zs block ≡ Some z
+block_gives p block zs ops stack locals s z c h =
+    let r = call_runs p block zs ops stack locals s c in
     let g : bare_value (plain block.ops) zs stack locals ≡ Some z = rw c.ops_is at h in
-    let t : slice_get p.blocks number ≡ Some block = there p.blocks number block c.below ∙ ap Some (sym c.block_is) in
-    let q : Some b ≡ Some block = sym e ∙ t in
-    let i : b ≡ block = cc in
-    rw i (r.exactly ∙ sym r.barely ∙ g)
+    r.exactly ∙ sym r.barely ∙ g
+
+-- the block with this number is one of them, and no other has the number
+pub its_block : (cs : List Code) (number : ℕ) (block : Code) → number < length cs → block ≡ get_or cs number block → Contains cs block
+its_block cs number block h e = (number, h, sym e)
+
+pub the_block : (zs : List ℤ) (cs : List Code) (number : ℕ) (block : Code) (z : ℤ) → number < length cs → block ≡ get_or cs number block → block_value zs block ≡ Some z →
+    (c : Code) → slice_get cs number ≡ Some c → block_value zs c ≡ Some z
+the_block zs cs number block z h e v c q =
+    let t : slice_get cs number ≡ Some block = there cs number block h ∙ ap Some (sym e) in
+    let u : Some c ≡ Some block = sym q ∙ t in
+    let i : c ≡ block = cc in
+    rw i v
 
 -- what a call of the filter has
 pub record FilterCall (p : Part) (f : FilterCode) (zs : List ℤ) (ops : List Op) (triples : List Triple) (stack : List ℤ) (s : Scratch) : Type 0 where

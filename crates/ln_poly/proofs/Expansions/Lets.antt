@@ -155,7 +155,7 @@ pub root-weight : (n : ℕ) (w : ℕ → ℕ) (e : Tree) (f : Sparse) → IsLigh
 root-weight n w e f l p = omega (arith, l.light, weighted-normal n e (terms_of n f) w l.inputs p.normal (collected n f p.form p.below))
 
 -- 2 to the power of the degree is at most the weight of the monomial
-degree-weight : (n : ℕ) (w : ℕ → ℕ) (m : List ℕ) → AreTwo n w → length m ≡ n → 2 ^ total_degree m ≤ monomial_weight w m
+pub degree-weight : (n : ℕ) (w : ℕ → ℕ) (m : List ℕ) → AreTwo n w → length m ≡ n → 2 ^ total_degree m ≤ monomial_weight w m
 degree-weight n w [] t e = omega (arith, pow-zero 2)
 degree-weight zero w (k ∷ m) t e = absurd (omega arith)
 degree-weight (suc n) w (k ∷ m) t e = rw pow-add (mul-le _ _ _ _ (power_le 2 (w 0) k (t 0 (omega arith))) (degree-weight n (λ v. w (suc v)) m (λ v h. t (suc v) (omega arith)) (omega arith)))

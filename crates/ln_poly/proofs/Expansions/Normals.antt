@@ -43,7 +43,7 @@ vector-unit v (suc n) (suc u) x q = let f : eqb x v ≡ false = other x v u q in
 
 -- ---- leaves
 module _ (n : ℕ) where
-  normal-of : (e : Tree) (f : Sparse) → IsPoly f → AreBelow n f → ((m : List ℕ) → length m ≡ n → coefficient_at n f m ≡ normal_coefficient e m) → IsNormal n e f
+  pub normal-of : (e : Tree) (f : Sparse) → IsPoly f → AreBelow n f → ((m : List ℕ) → length m ≡ n → coefficient_at n f m ≡ normal_coefficient e m) → IsNormal n e f
   unfolding coefficient_at
   normal-of e f p b c = record { normal = record { over = over-terms n f; coefficients = c }; form = p; below = b }
 

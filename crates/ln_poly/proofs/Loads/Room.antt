@@ -36,7 +36,7 @@ product-some (suc a) (suc b) p q = omega arith
 product-some zero b p q = absurd (omega arith)
 product-some (suc a) zero p q = absurd (omega arith)
 
-times-le : (a b : ℕ) → 0 < b → a ≤ a * b
+pub times-le : (a b : ℕ) → 0 < b → a ≤ a * b
 times-le a zero h = absurd (omega arith)
 times-le a (suc b) h = omega arith
 

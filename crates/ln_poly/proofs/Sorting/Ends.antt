@@ -32,7 +32,7 @@ unfolding IsStrictlySortedBy
 front-sorted [] t s = tt
 front-sorted (y ∷ xs) t s = (before-front y.0 xs t s.0, front-sorted xs t s.1)
 
-last-at : (xs : Sparse) (t d : Pairs × ℤ) → get_or (xs ++ (t ∷ [])) (length (xs ++ (t ∷ [])) - 1) d ≡ t
+pub last-at : (xs : Sparse) (t d : Pairs × ℤ) → get_or (xs ++ (t ∷ [])) (length (xs ++ (t ∷ [])) - 1) d ≡ t
 last-at xs t d = get_or_push xs t d (length (xs ++ (t ∷ [])) - 1) (omega (arith, length_push xs t))
 
 front-before : (xs : Sparse) (t : Pairs × ℤ) → AreSorted (xs ++ (t ∷ [])) → AllBefore xs t.0
@@ -49,7 +49,7 @@ all-before g e s h = λ k d l. by_case k d l (cases_lt k (length g - 1)) where
   by_case k d l (inr b) = let q : length g - 1 ≡ k = omega arith in subst (λ z. pairs_cmp (get_or g z d).0 e ≡ Less) q (h (omega arith) d)
 
 -- ---- the last term of the first
-taken-one : (xs g : Sparse) (t : Pairs × ℤ) → EndsLater (xs ++ (t ∷ [])) g → IsTaken (xs ++ (t ∷ [])) g xs g t
+pub taken-one : (xs g : Sparse) (t : Pairs × ℤ) → EndsLater (xs ++ (t ∷ [])) g → IsTaken (xs ++ (t ∷ [])) g xs g t
 taken-one xs g t h = record {
   coefficients = λ n m. omega (arith, ints, coefficient_at-push n m xs t);
   size = omega (arith, size-push xs t);
@@ -62,7 +62,7 @@ taken-one xs g t h = record {
 }
 
 -- the same with the two in turn
-turned : (f g f' g' : Sparse) (t : Pairs × ℤ) → IsTaken g f g' f' t → IsTaken f g f' g' t
+pub turned : (f g f' g' : Sparse) (t : Pairs × ℤ) → IsTaken g f g' f' t → IsTaken f g f' g' t
 turned f g f' g' t r = record {
   coefficients = λ n m. omega (arith, ints, r.coefficients n m);
   size = omega (arith, r.size);
@@ -75,7 +75,7 @@ turned f g f' g' t r = record {
 }
 
 -- the last terms of both, where they are like
-taken-both : (xs ys : Sparse) (s u : Pairs × ℤ) (c : ℤ) → s.0 ≡ u.0 → c ≡ s.1 +ℤ u.1 → IsTaken (xs ++ (s ∷ [])) (ys ++ (u ∷ [])) xs ys (s.0, c)
+pub taken-both : (xs ys : Sparse) (s u : Pairs × ℤ) (c : ℤ) → s.0 ≡ u.0 → c ≡ s.1 +ℤ u.1 → IsTaken (xs ++ (s ∷ [])) (ys ++ (u ∷ [])) xs ys (s.0, c)
 taken-both xs ys s u c e q = record {
   coefficients = λ n m. omega (arith, ints, coefficient_at-push n m xs s, coefficient_at-push n m ys u, ap (λ z. part_at n (s.0, z) m) q, part-sum n m s.0 s.1 u.1, ap (λ z. part_at n (z, u.1) m) e);
   size = omega (arith, ints, size-push xs s, size-push ys u, q);

@@ -32,7 +32,7 @@ merging-init f g s r a b = record {
 }
 
 -- one term more, in front of those that are done
-merging-put : (f g f' g' done f0 g0 : Sparse) (t : Pairs × ℤ) → IsMerging f g done f0 g0 → IsTaken f g f' g' t → size_of f0 + size_of g0 < 2 ^ 127 → t.1 ≢ pos 0 → IsMerging f' g' (t ∷ done) f0 g0
+pub merging-put : (f g f' g' done f0 g0 : Sparse) (t : Pairs × ℤ) → IsMerging f g done f0 g0 → IsTaken f g f' g' t → size_of f0 + size_of g0 < 2 ^ 127 → t.1 ≢ pos 0 → IsMerging f' g' (t ∷ done) f0 g0
 merging-put f g f' g' done f0 g0 t m r room n =
     let b = r.before done m.behind_left m.behind_right in
     let l = r.later m.left m.right in
@@ -54,7 +54,7 @@ merging-put f g f' g' done f0 g0 t m r room n =
     }
 
 -- a term that has come to 0
-merging-drop : (f g f' g' done f0 g0 : Sparse) (t : Pairs × ℤ) → IsMerging f g done f0 g0 → IsTaken f g f' g' t → t.1 ≡ pos 0 → IsMerging f' g' done f0 g0
+pub merging-drop : (f g f' g' done f0 g0 : Sparse) (t : Pairs × ℤ) → IsMerging f g done f0 g0 → IsTaken f g f' g' t → t.1 ≡ pos 0 → IsMerging f' g' done f0 g0
 merging-drop f g f' g' done f0 g0 t m r e =
     let b = r.before done m.behind_left m.behind_right in
     let w = r.rising m.rising.0 m.rising.1 in

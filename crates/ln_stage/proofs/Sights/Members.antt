@@ -86,7 +86,7 @@ seen-length bs [] = omega arith
 seen-length bs (l ∷ ls) = omega (arith, seen-length (seen_behind bs l) ls, behind-length bs l)
 
 -- ---- the vector of zeros is the first
-zeros-at : (n v : ℕ) → get_or (zeros n) v 0 ≡ 0
+pub zeros-at : (n v : ℕ) → get_or (zeros n) v 0 ≡ 0
 zeros-at zero v = refl
 zeros-at (suc n) zero = refl
 zeros-at (suc n) (suc v) = zeros-at n v
@@ -95,7 +95,7 @@ zeros-degree : (n : ℕ) → total_degree (zeros n) ≡ 0
 zeros-degree zero = refl
 zeros-degree (suc n) = omega (arith, zeros-degree n)
 
-none-before : (rank : Rank) (n : ℕ) (sites : Sites) (b : List ℕ) → Before rank sites b (zeros n) → ⊥
+pub none-before : (rank : Rank) (n : ℕ) (sites : Sites) (b : List ℕ) → Before rank sites b (zeros n) → ⊥
 none-before BySmallest n sites b (v, s, o, l, r) = absurd (omega (arith, l, zeros-at n v))
 none-before ByDegree n sites b (inl l) = absurd (omega (arith, l, zeros-degree n))
 none-before ByDegree n sites b (inr (q, w)) = absurd (omega (arith, w.3, zeros-at n w.0))

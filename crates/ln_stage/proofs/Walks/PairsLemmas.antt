@@ -30,7 +30,7 @@ above-put [] v e h = (omega arith, tt)
 above-put (p ∷ a) v e h = (omega (arith, h.0), above-put a v e h.1)
 
 -- ---- a vector from its pairs
-pairs-above : (w v : ℕ) (p : List ℕ) → w < v → AllAbove w (pairs_from v p)
+pub pairs-above : (w v : ℕ) (p : List ℕ) → w < v → AllAbove w (pairs_from v p)
 pairs-above w v [] h = tt
 pairs-above w v (zero ∷ p) h = pairs-above w (suc v) p (omega arith)
 pairs-above w v (suc e ∷ p) h = (h, pairs-above w (suc v) p (omega arith))

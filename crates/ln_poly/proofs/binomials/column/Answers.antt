@@ -1,5 +1,5 @@
 use Rattle.std.proofs.lemmas.List.{get_or-replicate}
-use Rattle.ln_poly.proofs.derivatives.column.Goals as goal
+use Rattle.ln_poly.proofs.binomials.column.Goals as goal
 
 pub raises-init : goal.raises-init
 raises-init c = λ j h. get_or-replicate 128 j 1 0 h

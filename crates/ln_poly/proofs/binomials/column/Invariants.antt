@@ -1,5 +1,5 @@
 use Rattle.ln_poly.specs.Derivative.{IsColumn}
-use Rattle.ln_poly.proofs.derivatives.column.Given as goal
+use Rattle.ln_poly.proofs.binomials.column.Given as goal
 
 abbrev pub invariant-raises : goal.invariant-raises
 invariant-raises l = IsColumn l.c l.k

@@ -2,7 +2,7 @@ use Rattle.std.proofs.Common.{◌≡◌, ◌≤◌, ◌+◌, ◌^◌, ◌-◌, a
 use Rattle.ln_algebra.specs.Terms.{binomial}
 use Rattle.ln_poly.proofs.Derivations.Lowering.{binomial-pair}
 use Rattle.ln_poly.proofs.Loads.Weighing.{pow-le}
-use Rattle.ln_poly.proofs.derivatives.raise.Goals as goal
+use Rattle.ln_poly.proofs.binomials.raise.Goals as goal
 
 pub overflow_add-sum : goal.overflow_add-sum
 overflow_add-sum c =

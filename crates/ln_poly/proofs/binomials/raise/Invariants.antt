@@ -1,6 +1,6 @@
 use Rattle.std.proofs.Common.{◌≡◌, ℕ, ◌<◌, ◌≤◌, ◌+◌, get_or}
 use Rattle.ln_algebra.specs.Terms.{binomial}
-use Rattle.ln_poly.proofs.derivatives.raise.Given as goal
+use Rattle.ln_poly.proofs.binomials.raise.Given as goal
 
 abbrev pub invariant-column : goal.invariant-column
 invariant-column l = record {

@@ -1,0 +1,124 @@
+-- No number on the way to a value passes 127 bits.
+use Rattle.std.proofs.Common.{◌≡◌, ℕ, ◌+◌, ◌-◌, ◌*◌, ◌^◌, ◌<◌, ◌≤◌, zero, suc, refl, sym, ◌∙◌, ap, arith, List, [], ◌∷◌, length, max, unsigned_abs, true, leb}
+use Rattle.std.proofs.Math.IntN.{ℤ, pos, negsuc, ◌*ℤ◌}
+use Rattle.std.specs.Prelude.{◌≤ℤ◌}
+use Rattle.std.proofs.Math.Nat.{mul-le-mul_left, mul-le-mul_right, pow-suc}
+use Rattle.std.proofs.lemmas.Bool.Decides.{nat_tests}
+use Rattle.std.proofs.lemmas.Int.{ints, unsigned_abs-mul}
+use Rattle.ln_algebra.proofs.Bounding.Bounds.{weighted-derived}
+use Rattle.ln_algebra.proofs.Expanded.Ring.{mul_assoc}
+use Rattle.ln_algebra.specs.Terms.{binomial, derived, power_of}
+use Rattle.ln_algebra.specs.Weights.{weighted_sum}
+use Rattle.ln_bound.specs.Light.{most}
+use Rattle.ln_bound.specs.Value.{weights}
+use Rattle.ln_tree.specs.declared.shape.VarInfo.{VarInfo}
+use Rattle.ln_tree.specs.Row.{AreWithin, values}
+use Rattle.ln_poly.proofs.Loads.Weighing.{pow-some}
+
+-- ---- products
+times-le : (a b : ℕ) → 0 < b → a ≤ a * b
+times-le a zero h = absurd (omega arith)
+times-le a (suc b) h = omega arith
+
+times-assoc : (a b c : ℕ) → (a * b) * c ≡ a * (b * c)
+times-assoc a b c = omega arith
+
+-- one term of (m + 1)^n is at most the whole: a derivative of one monomial
+pub binomial-power : (m n k : ℕ) → k ≤ n → binomial n k * m ^ (n - k) ≤ (m + 1) ^ n
+binomial-power m n k h =
+    let t : leb k n ≡ true = below k n h in
+    let w : weighted_sum (λ v. m) (derived (k ∷ []) (record { exponents = n ∷ []; factor = pos 1 } ∷ [])) ≤ weighted_sum (λ v. m + 1) (record { exponents = n ∷ []; factor = pos 1 } ∷ []) = weighted-derived (λ v. m) (k ∷ []) (record { exponents = n ∷ []; factor = pos 1 } ∷ []) in
+    one (binomial n k) (m ^ (n - k)) ((m + 1) ^ n) (rw t at w) where
+      below : (k n : ℕ) → k ≤ n → leb k n ≡ true
+      below k n h = grind (arith, nat_tests)
+
+      one : (b p q : ℕ) → unsigned_abs (pos 1 *ℤ pos (b * 1)) * (p * 1) + 0 ≤ 1 * (q * 1) + 0 → b * p ≤ q
+      one b p q h = omega (arith, h, ap (λ z. z * (p * 1)) (unsigned_abs-mul (pos 1) (pos (b * 1))))
+
+-- ---- a power
+-- M of a number: its absolute value, and at least 1
+abbrev pub size : ℤ → ℕ
+size x = max 1 (unsigned_abs x)
+
+-- a number that has been multiplied by x some times, and n times are left
+pub record IsRaised (z y x : ℤ) (n k : ℕ) : Type 0 where
+  pub value : y *ℤ power_of x (n - k) ≡ z *ℤ power_of x n
+  pub room : unsigned_abs y * size x ^ (n - k) ≤ most
+
+pub raised-begin : (z x : ℤ) (n : ℕ) → unsigned_abs z * size x ^ n ≤ most → IsRaised z z x n 0
+raised-begin z x n h = let e : n - 0 ≡ n = omega arith in record { value = ap (λ k. z *ℤ power_of x k) e; room = rw e h }
+
+raised-left : (n k : ℕ) → k < n → n - k ≡ suc (n - (k + 1))
+raised-left n k h = omega arith
+
+pub raised-fits : (z y x : ℤ) (n k : ℕ) → k < n → IsRaised z y x n k → unsigned_abs (y *ℤ x) ≤ most
+raised-fits z y x n k h r =
+    let m : ℕ = size x in
+    let P : ℕ = m ^ (n - (k + 1)) in
+    let p : m ^ (n - k) ≡ P * m = ap (λ j. m ^ j) (raised-left n k h) ∙ pow-suc m (n - (k + 1)) in
+    let s : 0 < P = pow-some m (n - (k + 1)) (omega arith) in
+    let l : unsigned_abs x ≤ P * m = omega (arith, times-le m P s, (let c : P * m ≡ m * P = omega arith in c)) in
+    omega (arith, unsigned_abs-mul y x, mul-le-mul_left (unsigned_abs y) l, ap (λ j. unsigned_abs y * j) p, r.room)
+
+pub raised-on : (z y x : ℤ) (n k : ℕ) → k < n → IsRaised z y x n k → IsRaised z (y *ℤ x) x n (k + 1)
+raised-on z y x n k h r =
+    let m : ℕ = size x in
+    let P : ℕ = m ^ (n - (k + 1)) in
+    let e = raised-left n k h in
+    let p : m ^ (n - k) ≡ P * m = ap (λ j. m ^ j) e ∙ pow-suc m (n - (k + 1)) in
+    let v : (y *ℤ x) *ℤ power_of x (n - (k + 1)) ≡ y *ℤ power_of x (n - k) = mul_assoc y x (power_of x (n - (k + 1))) ∙ ap (λ j. y *ℤ power_of x j) (sym e) in
+    let q : unsigned_abs (y *ℤ x) * P ≤ (unsigned_abs y * m) * P = mul-le-mul_right P (let i : unsigned_abs (y *ℤ x) ≤ unsigned_abs y * m = omega (arith, unsigned_abs-mul y x, mul-le-mul_left (unsigned_abs y) (let j : unsigned_abs x ≤ m = omega arith in j)) in i) in
+    let c : (unsigned_abs y * m) * P ≡ unsigned_abs y * (P * m) = omega arith in
+    record { value = v ∙ r.value; room = omega (arith, q, c, ap (λ j. unsigned_abs y * j) p, r.room) }
+
+pub raised-end : (z y x : ℤ) (n k : ℕ) → n ≤ k → IsRaised z y x n k → y ≡ z *ℤ power_of x n
+raised-end z y x n k h r = let e : n - k ≡ 0 = omega arith in times-one y ∙ ap (λ j. y *ℤ power_of x j) (sym e) ∙ r.value where
+  times-one : (a : ℤ) → a ≡ a *ℤ pos 1
+  times-one a = omega (arith, ints)
+
+-- ---- a pair
+-- there is room for the binomial and the power of a pair
+pub pair-room : (z x : ℤ) (e k : ℕ) → k ≤ e → unsigned_abs z * (size x + 1) ^ e ≤ most → unsigned_abs (z *ℤ pos (binomial e k)) * size x ^ (e - k) ≤ most
+pair-room z x e k h r =
+    let m : ℕ = size x in
+    let B : ℕ = binomial e k in
+    let l : unsigned_abs z * (B * m ^ (e - k)) ≤ unsigned_abs z * (m + 1) ^ e = mul-le-mul_left (unsigned_abs z) (binomial-power m e k h) in
+    let c : (unsigned_abs z * B) * m ^ (e - k) ≡ unsigned_abs z * (B * m ^ (e - k)) = times-assoc (unsigned_abs z) B (m ^ (e - k)) in
+    omega (arith, l, c, ap (λ j. j * m ^ (e - k)) (unsigned_abs-mul z (pos B)), r)
+
+pub pair-fits : (z x : ℤ) (e k : ℕ) → k ≤ e → unsigned_abs z * (size x + 1) ^ e ≤ most → unsigned_abs (z *ℤ pos (binomial e k)) ≤ most
+pair-fits z x e k h r =
+    let m : ℕ = size x in
+    omega (arith, times-le (unsigned_abs (z *ℤ pos (binomial e k))) (m ^ (e - k)) (pow-some m (e - k) (omega arith)), pair-room z x e k h r)
+
+pub ways-fit : (z x : ℤ) (e k : ℕ) → k ≤ e → (z ≡ pos 0 → ⊥) → unsigned_abs z * (size x + 1) ^ e ≤ most → binomial e k ≤ most
+ways-fit z x e k h n r = omega (arith, pair-fits z x e k h r, unsigned_abs-mul z (pos (binomial e k)), some-times (unsigned_abs z) (binomial e k) (some z n)) where
+  some : (z : ℤ) → (z ≡ pos 0 → ⊥) → 0 < unsigned_abs z
+  some (pos zero) n = absurd (n refl)
+  some (pos (suc k)) n = omega arith
+  some (negsuc k) n = omega arith
+
+  some-times : (a b : ℕ) → 0 < a → b ≤ a * b
+  some-times zero b h = absurd (omega arith)
+  some-times (suc a) b h = omega arith
+
+pub pair-value : (z y x : ℤ) (e k w : ℕ) → w ≡ binomial e k → y ≡ (z *ℤ pos w) *ℤ power_of x (e - k) → y ≡ z *ℤ (pos (binomial e k) *ℤ power_of x (e - k))
+pair-value z y x e k w q h = h ∙ ap (λ j. (z *ℤ pos j) *ℤ power_of x (e - k)) q ∙ mul_assoc z (pos (binomial e k)) (power_of x (e - k))
+
+pub zero-times : (z y : ℤ) → z ≡ pos 0 → pos 0 ≡ z *ℤ y
+zero-times z y h = (let c : pos 0 ≡ pos 0 *ℤ y = omega (arith, ints) in c) ∙ ap (λ j. j *ℤ y) (sym h)
+
+-- ---- rows
+pub row-size : (vars : List VarInfo) (zs : List ℤ) (v : ℕ) → AreWithin vars zs → v < length vars → size (values zs v) + 1 ≤ weights vars v
+row-size [] zs v h l = absurd (omega arith)
+row-size (i ∷ is) [] v h l = absurd h
+row-size (i ∷ is) (z ∷ zs) zero h l = omega (arith, within i.lo z i.hi h.0 h.1) where
+  within : (a b c : ℤ) → a ≤ℤ b → b ≤ℤ c → unsigned_abs b ≤ max (unsigned_abs a) (unsigned_abs c)
+  within a b c l r = omega (arith, ints)
+row-size (i ∷ is) (z ∷ zs) (suc v) h l = row-size is zs v h.2 (omega (arith, l))
+
+pub row-long : (vars : List VarInfo) (zs : List ℤ) → AreWithin vars zs → length zs ≡ length vars
+row-long [] [] h = refl
+row-long [] (z ∷ zs) h = absurd h
+row-long (i ∷ is) [] h = absurd h
+row-long (i ∷ is) (z ∷ zs) h = omega (arith, row-long is zs h.2)
