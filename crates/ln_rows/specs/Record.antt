@@ -108,3 +108,12 @@ pub record IsReadAs {T : Type 0} (sites : ℕ) (vars : List VarInfo) (fields : L
 pub record StaysPast (sites vars : ℕ) (old new : code.Row) : Type 0 where
   pub index : (k : ℕ) → sites ≤ k → slice_index_or new.index k (pos 0) ≡ slice_index_or old.index k (pos 0)
   pub values : (k : ℕ) → vars ≤ k → slice_index_or new.values k (pos 0) ≡ slice_index_or old.values k (pos 0)
+
+-- what a refused record leaves: this many indices and this many values are those that its fields say, and every other place is as it was
+pub record IsBegun (vars : List VarInfo) (fields : List (List ℕ)) (old new : code.Row) : Type 0 where
+  pub sites_read : ℕ
+  pub vars_read : ℕ
+  pub index : take sites_read new.index ≡ take sites_read (indices (columns vars) fields)
+  pub value : take vars_read new.values ≡ take vars_read (values (columns vars) fields)
+  pub index_stays : (k : ℕ) → sites_read ≤ k → slice_index_or new.index k (pos 0) ≡ slice_index_or old.index k (pos 0)
+  pub value_stays : (k : ℕ) → vars_read ≤ k → slice_index_or new.values k (pos 0) ≡ slice_index_or old.values k (pos 0)

@@ -1,12 +1,12 @@
 //! Records as rows.
-ghost use Rattle.std.specs.Prelude.{◌≡◌, ◌+◌, ◌-◌, ◌<◌, ◌≤◌, ℕ, List, [], true, length, slice_index_or, Some, None, Ok, Err, IfErr, OnOk};
+ghost use Rattle.std.specs.Prelude.{◌≡◌, ◌+◌, ◌-◌, ◌<◌, ◌≤◌, ℕ, List, [], true, length, slice_index_or, Some, None, Ok, Err, IfErr, IfOk, OnErr, OnOk};
 ghost use Rattle.csv.specs.Records.{fields_of};
 ghost use Rattle.ln_tree.specs.Row.{InRange};
 ghost use Rattle.ln_code.specs.RowOf.{row_of, IsZeroPast};
 ghost use Rattle.ln_tree.specs.Variables.{starts_site, is_laid_out};
 ghost use Rattle.ln_rows.specs.Number.{number_in};
 ghost use Rattle.ln_rows.specs.Record.{SiteIndex, Variable, columns, number_of, in_column, first_fault};
-ghost use Rattle.ln_rows.specs.Record.{values, index_column, read_row, IsRead, IsReadAs, StaysPast};
+ghost use Rattle.ln_rows.specs.Record.{values, index_column, read_row, IsBegun, IsRead, IsReadAs, StaysPast};
 
 use crate::numbers::{NumberStop, number};
 use csv::ByteRecord;
@@ -81,6 +81,7 @@ fn read_columns(vars: &[VarInfo], fields: &ByteRecord, into: &mut Row) -> Result
     ensures ok { OnOk result (IsRead vars.now (fields_of fields.now) into.new) }
     ensures err { IfErr result (λ e. first_fault 0 (columns vars.now) (fields_of fields.now) ≡ Some e) }
     ensures past { StaysPast (length (columns vars.now) - length vars.now) (length vars.now) into.old into.new }
+    ensures begun { OnErr result (IsBegun vars.now (fields_of fields.now) into.old into.new) }
 {
     let mut at = 0usize;
     let mut site = 0usize;
@@ -146,6 +147,7 @@ fn row_over(vars: &[VarInfo], sites: u8, fields: &ByteRecord, into: &mut Row) ->
     ensures err { IfErr result (λ e. read_row sites vars.now (fields_of fields.now) ≡ Err e) }
     ensures past { StaysPast sites (length vars.now) into.old into.new }
     ensures in_range { OnOk result (InRange sites vars.now (row_of sites vars.now into.new)) }
+    ensures begun { OnErr result (IsBegun vars.now (fields_of fields.now) into.old into.new) }
 {
     if fields.len() != column_count(vars, sites) {
         return Err(RowStop::Fields);
@@ -154,10 +156,12 @@ fn row_over(vars: &[VarInfo], sites: u8, fields: &ByteRecord, into: &mut Row) ->
     differ(vars, sites, into)
 }
 
-/// Reads the row that a record says into `into`, or tells the first fault that it has. An index is from 0 to `2^63 - 1`, a
-/// variable in its declared range, and the indices differ. Places past those of the predicate stay as they are; so where they
-/// were 0 they are 0. With a fault the places of the predicate may hold what was read of the record.
-pub fn row(p: &Pred, fields: &ByteRecord, into: &mut Row) -> Result<(), RowStop>
+/// Reads the row that a record says into `into`, or returns the first fault that it has: `row` for a caller that keeps one `Row` for
+/// many records. An index is from 0 to `2^63 - 1`, a variable in its declared range, and the indices differ. Places past those of the
+/// predicate stay as they are; so where they were 0 they are 0. After a fault the row is that of no record: the first
+/// indices and values of the predicate, as far as they were read, are this record's, and all other places are as they were. A call that
+/// succeeds writes all places of the predicate. Allocates nothing.
+pub fn fill_row(p: &Pred, fields: &ByteRecord, into: &mut Row) -> Result<(), RowStop>
     ensures ok { OnOk result (read_row p.now.shape.sites p.now.shape.vars (fields_of fields.now)
         ≡ Ok (row_of p.now.shape.sites p.now.shape.vars into.new)) }
     ensures err { IfErr result (λ e. read_row p.now.shape.sites p.now.shape.vars (fields_of fields.now) ≡ Err e) }
@@ -165,6 +169,32 @@ pub fn row(p: &Pred, fields: &ByteRecord, into: &mut Row) -> Result<(), RowStop>
     ensures past { IsZeroPast p.now.shape.sites (length p.now.shape.vars) into.old →
         IsZeroPast p.now.shape.sites (length p.now.shape.vars) into.new }
     ensures in_range { OnOk result (InRange p.now.shape.sites p.now.shape.vars (row_of p.now.shape.sites p.now.shape.vars into.new)) }
+    ensures begun { OnErr result (IsBegun p.now.shape.vars (fields_of fields.now) into.old into.new) }
 {
     row_over(p.shape.vars.as_slice(), p.shape.sites, fields, into)
+}
+
+// A row of zeros.
+fn no_numbers() -> Row
+    ensures { IsZeroPast 0 0 result }
+{
+    Row {
+        index: [0; 5],
+        values: [0; 168],
+    }
+}
+
+/// Returns the row that a record says, or the first fault that it has: another number of fields than of columns; the first column from
+/// the left whose field is no number, or one out of range; the first site whose index an earlier site has. An index is from 0 to
+/// `2^63 - 1`, a variable in its declared range. Places past those of the predicate are 0. Allocates nothing.
+pub fn row(p: &Pred, fields: &ByteRecord) -> Result<Row, RowStop>
+    ensures ok { IfOk result (λ r. read_row p.now.shape.sites p.now.shape.vars (fields_of fields.now)
+        ≡ Ok (row_of p.now.shape.sites p.now.shape.vars r)) }
+    ensures err { IfErr result (λ e. read_row p.now.shape.sites p.now.shape.vars (fields_of fields.now) ≡ Err e) }
+    ensures past { IfOk result (λ r. IsZeroPast p.now.shape.sites (length p.now.shape.vars) r) }
+    ensures in_range { IfOk result (λ r. InRange p.now.shape.sites p.now.shape.vars (row_of p.now.shape.sites p.now.shape.vars r)) }
+{
+    let mut row = no_numbers();
+    fill_row(p, fields, &mut row)?;
+    Ok(row)
 }

@@ -7,7 +7,7 @@ ghost use Rattle.ln_rows.specs.Record.{IsReadAs};
 
 use crate::left::Left;
 use crate::names::{header, point_header, room};
-use crate::record::{RowStop, column_count, differ, row};
+use crate::record::{RowStop, column_count, differ, fill_row};
 use csv::ByteRecord;
 use ln_base::NoMemory;
 use ln_code::Row;
@@ -113,7 +113,7 @@ impl<'a> Rows<'a> {
         if !found {
             return Ok(None);
         }
-        Ok(Some(row(p, &self.record, into)))
+        Ok(Some(fill_row(p, &self.record, into)))
     }
 
     /// Takes the next record, if there is one, and reads the row that it says into `into`, or tells the first fault that it has. Places

@@ -1,4 +1,5 @@
 -- A valid listing gives the perturbed sign.
+pub mod Named
 pub mod One
 pub mod Signs
 pub mod Stand

@@ -1,8 +1,9 @@
 -- Listings that are valid for the predicates of a table, and the first line of a listing whose rule fails.
-use Rattle.std.specs.Prelude.{◌≡◌, ◌==◌, ℕ, List, [], ◌∷◌, length, map, slice_get, Some, if◌then◌else◌}
+use Rattle.std.specs.Prelude.{◌≡◌, ◌==◌, ℕ, true, List, [], ◌∷◌, length, map, slice_get, Some, if◌then◌else◌}
 use Rattle.ln_tree.specs.declared.pred.Pred.{Pred}
 use Rattle.ln_tree.specs.Row.{InRange, Row}
-use Rattle.ln_tree.specs.Table.{PredOf, pred_of}
+use Rattle.ln_tree.specs.Table.{PredOf, TableOf, pred_of}
+use Rattle.ln_tree.specs.Whole.{is_whole}
 use Rattle.ln_poly.specs.Expansion.{IsNormal}
 use Rattle.ln_cert.specs.Listing.{IsFormFault, ListText, Listed, parts_of}
 use Rattle.ln_verify.specs.Accepted.{AreAccepted, root_of}
@@ -11,7 +12,8 @@ use Rattle.ln_verify.specs.BlockRules.{Version, version_1, version_2}
 use Rattle.ln_verify.specs.Judge.{IsFirstFault, IsValid}
 use Rattle.ln_verify.specs.Line.{Subject, Written}
 
--- the predicate as its part is judged: its name, its sites, its variables and its normal polynomial
+-- the predicate as its part is judged: the name of its shape, which in a table is its own, its sites, its variables and its normal
+-- polynomial
 pub record IsSubjectOf (p : PredOf) (s : Subject) : Type 0 where
   pub name : s.name ≡ p.shape_name
   pub sites : s.sites ≡ p.sites
@@ -54,7 +56,12 @@ pub data IsTextFaultFor (ps : List PredOf) (bytes : List ℕ) (line : ℕ) : Typ
   form : IsFormFault bytes line → IsTextFaultFor ps bytes line
   rule : (l : Listed) → ListText bytes l.version (parts_of l.entries) → IsFaultFor ps l line → IsTextFaultFor ps bytes line
 
--- ---- the promise
+-- ---- the promises
+-- in a table the name by which a part is judged is that of its predicate
+abbrev pub PartsAreNamed : Type 0
+PartsAreNamed = (t : TableOf) (ss : List Subject) → is_whole t ≡ true → AreSubjectsOf t.preds ss →
+    map (λ (s : Subject). s.name) ss ≡ map (λ (p : PredOf). p.name) t.preds
+
 -- a listing that is valid for accepted predicates, whoever made it, has a part of each, and on each row in range the machine of
 -- the part has a verdict, whose sign is the perturbed sign of the predicate
 abbrev pub ValidListingsGiveSigns : Type 0

@@ -1,5 +1,5 @@
 //! What valid listings promise.
-ghost use Rattle.ln_verify.specs.Verified.{ValidListingsGiveSigns};
+ghost use Rattle.ln_verify.specs.Verified.{PartsAreNamed, ValidListingsGiveSigns};
 ghost use Rattle.ln_verify.specs.Law.{GoodPartsAreValid, OneAnswer, ValidPartsStand, Version1Follows, Version1IsOnBounds};
 ghost use Rattle.ln_verify.specs.Law.{Version2IsOfPrograms};
 
@@ -11,6 +11,11 @@ pub fn one_answer()
 /// Each part of a valid listing follows the rules, carries its predicate's polynomial, and has the stage lists of all orders.
 pub fn valid_parts_stand()
     ensures { ValidPartsStand }
+{}
+
+/// A part is judged by the name of its predicate: in a table a shape has its predicate's name.
+pub fn parts_are_named()
+    ensures { PartsAreNamed }
 {}
 
 /// A listing that is valid for the accepted predicates of a table, whoever made it, has a part of each, and on each row in range

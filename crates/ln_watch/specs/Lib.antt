@@ -1,3 +1,4 @@
 pub mod Fold
 pub mod Panel
+pub mod Watchers
 pub mod Worked

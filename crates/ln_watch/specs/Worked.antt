@@ -4,19 +4,11 @@ use Rattle.ln_base.specs.declared.sign.Sign.{Sign}
 use Rattle.ln_base.specs.declared.sign.Sign.TheVariants.{Minus, Plus}
 use Rattle.ln_code.specs.declared.verdict.By.{By}
 use Rattle.ln_code.specs.declared.verdict.By.TheVariants.{Filter, Stage}
-use Rattle.ln_watch.specs.Panel.{State, Numbered, panel_lines}
+use Rattle.ln_watch.specs.Panel.{Numbered, panel_lines}
+use Rattle.ln_watch.specs.Watchers.{signs, deciders, first, those_of_gen}
 
 abbrev pub on_row : ℕ → Sign → By → Numbered
 on_row row sign by = record { row = row; verdict = record { sign = sign; by = by; wide = 0; calls = 1 } }
-
-abbrev pub signs : State
-signs = record { kind = 1; tally = 0 ∷ 0 ∷ 0 ∷ [] }
-
-abbrev pub deciders : State
-deciders = record { kind = 2; tally = 0 ∷ 0 ∷ 0 ∷ 0 ∷ 0 ∷ [] }
-
-abbrev pub first : ℕ → State
-first n = record { kind = 3; tally = n ∷ [] }
 
 -- five rows at which the plain value is 0 and the first stage behind it is positive
 abbrev pub five_rows : List Numbered
@@ -24,7 +16,7 @@ five_rows = on_row 1 Plus (Stage 1) ∷ on_row 2 Plus (Stage 1) ∷ on_row 3 Plu
     ∷ on_row 5 Plus (Stage 1) ∷ []
 
 abbrev pub FiveRowsAre : Type 0
-FiveRowsAre = panel_lines five_rows (signs ∷ deciders ∷ first 3 ∷ [])
+FiveRowsAre = panel_lines five_rows those_of_gen
     ≡ codes "first 1 2 3\nsigns + 5 0 0 - 0\ndeciders filter 0 plain 0 stages 5 none 0 deepest 1\n"
 
 -- two perturbed rows round one that the filter decides: two boxes leave and one stays between them

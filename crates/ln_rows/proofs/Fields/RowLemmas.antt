@@ -1,7 +1,7 @@
 -- Reading the columns from the left.
-use Rattle.std.proofs.Common.{◌≡◌, ◌≢◌, ℕ, zero, suc, ◌+◌, ◌-◌, ◌^◌, ◌<◌, ◌≤◌, Bool, true, false, ◌&&◌, List, [], ◌∷◌, ◌++◌, length, get_or, take, drop, set, ℤ, pos, Option, Some, None, Ok, Err, refl, ap, sym, subst, ◌∙◌, arith, add-one, drop-cons, append_assoc, get_or-set_other}
-use Rattle.std.specs.Prelude.{unwrap_or, int_le, if◌then◌else◌}
-use Rattle.std.proofs.lemmas.List.{take_more_set, append-nil, length-set, length-drop, drop_all}
+use Rattle.std.proofs.Common.{◌≡◌, ◌≢◌, ℕ, zero, suc, ◌+◌, ◌-◌, ◌^◌, ◌<◌, ◌≤◌, Bool, true, false, ◌&&◌, List, [], ◌∷◌, ◌++◌, length, get_or, take, drop, set, ℤ, pos, Option, Some, None, Ok, Err, refl, ap, sym, subst, ◌∙◌, arith, add-one, drop-cons, append_assoc, get_or-set_other, replicate}
+use Rattle.std.specs.Prelude.{unwrap_or, int_le, if◌then◌else◌, OnErr, Result}
+use Rattle.std.proofs.lemmas.List.{take_more_set, append-nil, length-set, length-drop, length-take-le, drop_all}
 use Rattle.csv.specs.Records.{field_at}
 use Rattle.ln_base.specs.Decimal.{integer_value}
 use Rattle.ln_tree.specs.declared.shape.VarInfo.{VarInfo}
@@ -9,7 +9,7 @@ use Rattle.ln_tree.specs.Variables.{starts_site, no_var}
 use Rattle.ln_code.specs.declared.row.Row.{Row}
 use Rattle.ln_code.specs.RowOf.{IsZeroPast}
 use Rattle.ln_rows.specs.Number.{within, number_in}
-use Rattle.ln_rows.specs.Record.{Column, SiteIndex, Variable, columns, number_of, in_column, first_fault, said, indices, values, IsRead, StaysPast}
+use Rattle.ln_rows.specs.Record.{Column, SiteIndex, Variable, columns, number_of, in_column, first_fault, said, indices, values, IsBegun, IsRead, StaysPast}
 use Rattle.ln_rows.specs.declared.numbers.NumberStop.TheVariants as stop
 use Rattle.ln_rows.specs.declared.record.RowStop.{RowStop}
 
@@ -252,3 +252,100 @@ stays_same sites vars r = record { index = λ k h. refl; values = λ k h. refl }
 -- zeros stay zeros
 pub zero_stays : (sites vars : ℕ) (old new : Row) → StaysPast sites vars old new → IsZeroPast sites vars old → IsZeroPast sites vars new
 zero_stays sites vars old new s z = record { index = λ k h. s.index k h ∙ z.index k h; values = λ k h. s.values k h ∙ z.values k h }
+
+zeros : (n k : ℕ) → get_or (replicate n (pos 0)) k (pos 0) ≡ pos 0
+zeros zero k = refl
+zeros (suc n) zero = refl
+zeros (suc n) (suc k) = zeros n k
+
+-- a row of zeros
+pub all_zero : IsZeroPast 0 0 (record { index = replicate 5 (pos 0); values = replicate 168 (pos 0) })
+all_zero = record { index = λ k h. zeros 5 k; values = λ k h. zeros 168 k }
+
+-- is 0 past any places
+pub zero_past : (sites vars : ℕ) (r : Row) → IsZeroPast 0 0 r → IsZeroPast sites vars r
+zero_past sites vars r z = record { index = λ k h. z.index k (omega arith); values = λ k h. z.values k (omega arith) }
+
+-- ---- what a refused record leaves
+pub on_err : {A E : Type 0} (r : Result A E) (P : Type 0) → P → OnErr r P
+on_err (Ok x) P p = tt
+on_err (Err e) P p = p
+
+front_of : (xs rest all : List ℤ) (n : ℕ) → length xs ≡ n → xs ++ rest ≡ all → xs ≡ take n all
+front_of [] rest all zero e q = refl
+front_of [] rest all (suc n) e q = absurd (cc)
+front_of (x ∷ xs) rest all zero e q = absurd (cc)
+front_of (x ∷ xs) rest all (suc n) e q = rw (← q) (ap (λ l. x ∷ l) (front_of xs rest (xs ++ rest) n (omega (arith, e)) refl))
+
+-- nothing was read
+pub begun_none : (vars : List VarInfo) (fields : List (List ℕ)) (r : Row) → IsBegun vars fields r r
+begun_none vars fields r = record {
+  sites_read = 0;
+  vars_read = 0;
+  index = refl;
+  value = refl;
+  index_stays = λ k h. refl;
+  value_stays = λ k h. refl;
+}
+
+-- the columns before one with a fault
+pub begun_filled : {vars : List VarInfo} {fields : List (List ℕ)} {v site at : ℕ} (old new : Row) → Filled vars fields old.index old.values v site at new.index new.values
+    → length vars ≤ 168 → length (columns vars) ≤ length vars + 5 → IsBegun vars fields old new
+begun_filled {vars = vars} {v = v} {site = site} old new f few five =
+    let s = sites_below f in
+    record {
+      sites_read = site;
+      vars_read = v;
+      index = front_of _ _ _ site (length-take-le site new.index (omega (arith, s, five, f.index_size))) f.front.indices;
+      value = front_of _ _ _ v (length-take-le v new.values (omega (arith, f.within, few, f.value_size))) f.front.values;
+      index_stays = f.index_stays;
+      value_stays = f.value_stays;
+    }
+
+take_self : (k : ℕ) (xs : List ℤ) → take k (take k xs) ≡ take k xs
+take_self zero xs = refl
+take_self (suc k) [] = refl
+take_self (suc k) (x ∷ xs) = ap (λ l. x ∷ l) (take_self k xs)
+
+-- and the index of one more site, whose first coordinate has the fault
+pub begun_site : {vars : List VarInfo} {fields : List (List ℕ)} {v site at : ℕ} {index : List ℤ} (old new : Row) (z y : ℤ)
+    → Filled vars fields old.index old.values v site at index new.values → v < length vars → starts_site (var_at vars v) ≡ true
+    → length fields ≡ length (columns vars) → length vars ≤ 168 → length (columns vars) ≤ length vars + 5
+    → in_column at (number_in (pos 0) (pos (2 ^ 63 - 1)) (get_or fields at [])) ≡ Ok z → y ≡ z → new.index ≡ set index site y → IsBegun vars fields old new
+begun_site {vars = vars} {fields = fields} {v = v} {site = site} {at = at} {index = index} old new z y f h e size few five p q r =
+    let cols = at_site vars v h e in
+    let here = ap length cols in
+    let fits : site < 5 = site_fits f h e five in
+    let in_index : site < length index = omega (arith, f.index_size, fits) in
+    let one : Front (columns vars) fields at (SiteIndex ∷ Variable (var_at vars v) ∷ columns (drop (suc v) vars)) (take site index) (take v new.values) = rw cols at f.front in
+    let left = Variable (var_at vars v) ∷ columns (drop (suc v) vars) in
+    let two : Front (columns vars) fields (suc at) left (take site index ++ z ∷ []) (take v new.values) =
+    front_index (columns vars) fields at left _ _ z one (omega (arith, f.size, here, size)) p in
+    let front : take (site + 1) new.index ≡ take site index ++ z ∷ [] = rw (r, q) (take_more_set index site z in_index) in
+    let whole : take (site + 1) new.index ++ indices left (drop (suc at) fields) ≡ indices (columns vars) fields = rw front two.indices in
+    let long : length new.index ≡ 5 = rw r (length-set index site y ∙ f.index_size) in
+    record {
+      sites_read = site + 1;
+      vars_read = v;
+      index = front_of _ _ _ (site + 1) (length-take-le (site + 1) new.index (omega (arith, fits, long))) whole;
+      value = front_of _ _ _ v (length-take-le v new.values (omega (arith, f.within, few, f.value_size))) f.front.values;
+      index_stays = λ k l. let ne : k ≢ site = omega arith in rw (r, get_or-set_other index site k y (pos 0) ne) (f.index_stays k (omega (arith, l)));
+      value_stays = f.value_stays;
+    }
+
+-- all columns were read, and an index is that of an earlier site
+pub begun_read : (sites : ℕ) (vars : List VarInfo) (fields : List (List ℕ)) (old new : Row) → length (columns vars) ≡ length vars + sites → IsRead vars fields new
+    → StaysPast (length (columns vars) - length vars) (length vars) old new → IsBegun vars fields old new
+begun_read sites vars fields old new e r s =
+    let n : length (columns vars) - length vars ≡ sites = omega (arith, e) in
+    record {
+      sites_read = sites;
+      vars_read = length vars;
+      index = twice sites new.index _ (rw n at r.index);
+      value = twice (length vars) new.values _ r.values;
+      index_stays = rw n at s.index;
+      value_stays = s.values;
+    }
+  where
+    twice : (k : ℕ) (xs ys : List ℤ) → take k xs ≡ ys → take k xs ≡ take k ys
+    twice k xs ys q = rw (← q) (sym (take_self k xs))

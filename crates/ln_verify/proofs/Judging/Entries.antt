@@ -3,10 +3,9 @@ use Rattle.std.proofs.Common.{◌≡◌, ℕ, ◌<◌, ◌+◌, ◌≤◌, zero,
 use Rattle.std.proofs.lemmas.List.{length-append, length-map}
 use Rattle.ln_cert.specs.declared.part.Entry.{Entry}
 use Rattle.ln_cert.specs.declared.part.Part.{Part}
-use Rattle.ln_cert.specs.Lines.{joined}
+use Rattle.ln_base.specs.Lines.{joined, parted}
 use Rattle.ln_cert.specs.Listing.{AreNumbered, Kept, Listed, first_line, parts_of, texts_of}
 use Rattle.ln_cert.specs.Text.{text_of, words_of}
-use Rattle.ln_cert.specs.Words.{parted}
 use Rattle.ln_verify.specs.BlockRules.{Version}
 use Rattle.ln_verify.specs.Here.{Gone, IsHere}
 use Rattle.ln_verify.specs.Judge.{IsFirstFault, IsValid}

@@ -1,7 +1,7 @@
 use Rattle.std.proofs.Common.{refl, sym, rules, to_z-of_z, w64}
 use mir.Val.{SFits}
 use Rattle.std.proofs.lemmas.Result.{err_from_is_err_and}
-use Rattle.ln_rows.proofs.Fields.RowLemmas.{filled_site, filled_other, filled_stays, index_stays_past, value_fault, site_fits, site_room, other_room}
+use Rattle.ln_rows.proofs.Fields.RowLemmas.{begun_filled, begun_site, on_err, filled_site, filled_other, filled_stays, index_stays_past, value_fault, site_fits, site_room, other_room}
 use Rattle.ln_rows.proofs.record.read_columns.Goals as goal
 use Rattle.ln_rows.proofs.record.read_columns.Goals.{then-starts_site+in_ok-into+in_ok-into-2, else-starts_site+in_ok-into-3}
 
@@ -21,6 +21,18 @@ returns-in_err-into-2-clause-past c = index_stays_past c.args.into.now _ _ c.var
 
 pub returns-in_err-into-3-clause-past : goal.returns-in_err-into-3-clause-past
 returns-in_err-into-3-clause-past c = filled_stays c.args.into.now c.vars.into c.vars.invariant
+
+pub returns-in_err-into-clause-begun : goal.returns-in_err-into-clause-begun
+returns-in_err-into-clause-begun c = on_err c.from_residual.result _ (begun_filled c.args.into.now c.vars.into c.vars.invariant c.requires.few_vars c.requires.few_sites)
+
+pub returns-in_err-into-2-clause-begun : goal.returns-in_err-into-2-clause-begun
+returns-in_err-into-2-clause-begun c =
+    let fit : SFits w64 c.in_ok-into.field-0 = search rules in
+    on_err c.from_residual-in_err-into-2.result _
+    (begun_site c.args.into.now _ c.in_ok-into.field-0 _ c.vars.invariant c.vars-test.true (sym c.if-starts_site.ensures) c.requires.size c.requires.few_vars c.requires.few_sites (sym c.in_ok-into.ensures) (to_z-of_z fit) refl)
+
+pub returns-in_err-into-3-clause-begun : goal.returns-in_err-into-3-clause-begun
+returns-in_err-into-3-clause-begun c = on_err c.from_residual-in_err-into-3.result _ (begun_filled c.args.into.now c.vars.into c.vars.invariant c.requires.few_vars c.requires.few_sites)
 
 pub vars-preserved : goal.vars-preserved
 vars-preserved c =
