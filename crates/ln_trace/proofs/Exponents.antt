@@ -1,0 +1,106 @@
+-- The exponents of a line, pair by pair.
+use Rattle.std.proofs.Common.{◌≡◌, ◌↔◌, ℕ, ◌+◌, ◌<◌, ◌≤◌, zero, suc, true, false, List, [], ◌∷◌, ◌++◌, length, take, drop, get_or, refl, sym, ◌∙◌, ap, arith, subst}
+use Rattle.std.specs.Prelude.{IsTrue, MatchOption, Option, Some, slice_get}
+use Rattle.std.proofs.lemmas.List.{take_all, take_more}
+use Rattle.ln_tree.specs.declared.shape.VarInfo.{VarInfo}
+use Rattle.ln_tree.specs.Exps.{AllAbove, IsAbove, IsRising, Pairs}
+use Rattle.ln_code.specs.Kept.{AreOfSites, is_of_site}
+use Rattle.ln_trace.specs.Here.{MayFollow}
+
+-- ---- one pair more
+above-more : (ps : Pairs) (p : ℕ × ℕ) (v : ℕ) → AllAbove v ps → v < p.0 → AllAbove v (ps ++ p ∷ [])
+above-more [] p v h l = (l, tt)
+above-more (q ∷ ps) p v h l = (h.0, above-more ps p v h.1 l)
+
+rising-more : (ps : Pairs) (p : ℕ × ℕ) → IsRising ps → IsAbove ps p.0 → 0 < p.1 → p.1 < 128 → IsRising (ps ++ p ∷ [])
+rising-more [] p r a l h = (l, h, tt, tt)
+rising-more (q ∷ ps) p r a l h = (r.0, r.1, above-more ps p q.0 r.2 a.0, rising-more ps p r.3 a.1 l h)
+
+sites-more : (vars : List VarInfo) (ps : Pairs) (p : ℕ × ℕ) → AreOfSites vars ps → is_of_site (slice_get vars p.0) ≡ true → AreOfSites vars (ps ++ p ∷ [])
+sites-more vars [] p h e = (e, tt)
+sites-more vars (q ∷ ps) p h e = (h.0, sites-more vars ps p h.1 e)
+
+-- ---- a pair at its place
+above-at : (v : ℕ) (ps : Pairs) (i : ℕ) (d : ℕ × ℕ) → i < length ps → AllAbove v ps → v < (get_or ps i d).0
+above-at v [] i d h a = absurd (omega (arith, h))
+above-at v (p ∷ ps) zero d h a = a.0
+above-at v (p ∷ ps) (suc i) d h a = above-at v ps i d (omega (arith, h)) a.1
+
+pub follows-at : (vars : List VarInfo) (a : Pairs) (i : ℕ) (d : ℕ × ℕ) → IsRising a → AreOfSites vars a → i < length a → MayFollow vars (take i a) (get_or a i d)
+follows-at vars [] i d r s l = absurd (omega (arith, l))
+follows-at vars (p ∷ a) zero d r s l = record { some = r.0; small = r.1; of_site = s.0; above = tt }
+follows-at vars (p ∷ a) (suc i) d r s l =
+    let f = follows-at vars a i d r.3 s.1 (omega (arith, l)) in
+    record { some = f.some; small = f.small; of_site = f.of_site; above = (above-at p.0 a i d (omega (arith, l)) r.2, f.above) }
+
+-- ---- the loop
+-- what it keeps
+pub record Read (vars : List VarInfo) (a : Pairs) (i : ℕ) (out : Pairs) : Type 0 where
+  pub same : out ≡ take i a
+  pub rising : IsRising (take i a)
+  pub sites : AreOfSites vars (take i a)
+
+pub read-first : (vars : List VarInfo) (a out : Pairs) → out ≡ [] → Read vars a 0 out
+read-first vars a out e = record { same = e; rising = tt; sites = tt }
+
+pub read-more : (vars : List VarInfo) (a : Pairs) (i : ℕ) (out new : Pairs) (d : ℕ × ℕ) → Read vars a i out → i < length a → MayFollow vars out (get_or a i d) → new ≡ out ++ get_or a i d ∷ [] → Read vars a (i + 1) new
+read-more vars a i out new d h l f q =
+    let t : take (i + 1) a ≡ take i a ++ get_or a i d ∷ [] = take_more a i d l in
+    let g : IsAbove (take i a) (get_or a i d).0 = subst (λ (z : Pairs). IsAbove z (get_or a i d).0) h.same f.above in
+    record {
+      same = q ∙ ap (λ (z : Pairs). z ++ get_or a i d ∷ []) h.same ∙ sym t;
+      rising = subst IsRising (sym t) (rising-more (take i a) (get_or a i d) h.rising g f.some f.small);
+      sites = subst (AreOfSites vars) (sym t) (sites-more vars (take i a) (get_or a i d) h.sites f.of_site);
+    }
+
+pub read-stops : (vars : List VarInfo) (a : Pairs) (i : ℕ) (out : Pairs) (d : ℕ × ℕ) → Read vars a i out → i < length a → (MayFollow vars out (get_or a i d) → ⊥) → IsRising a → AreOfSites vars a → ⊥
+read-stops vars a i out d h l n r s = n (subst (λ (z : Pairs). MayFollow vars z (get_or a i d)) (sym h.same) (follows-at vars a i d r s l))
+
+pub read-end : (vars : List VarInfo) (a : Pairs) (i : ℕ) (out : Pairs) → length a ≤ i → Read vars a i out → (out ≡ a) × IsRising a × AreOfSites vars a
+read-end vars a i out l h = let t : take i a ≡ a = take_all i a l in (h.same ∙ t, subst IsRising t h.rising, subst (AreOfSites vars) t h.sites)
+
+-- ---- variables below another
+-- whether those from place i on are decides
+abbrev pub BelowDecides : Pairs → ℕ → ℕ → Type 0
+BelowDecides a v i = IsAbove (drop i a) v ↔ IsAbove a v
+
+below-turn : (a : Pairs) (v i : ℕ) (d : ℕ × ℕ) → i < length a → IsAbove (drop i a) v ↔ ((get_or a i d).0 < v) × IsAbove (drop (suc i) a) v
+below-turn [] v i d l = absurd (omega (arith, l))
+below-turn (p ∷ a) v zero d l = (λ h. h, λ h. h)
+below-turn (p ∷ a) v (suc i) d l = below-turn a v i d (omega (arith, l))
+
+pub below-stop : (a : Pairs) (v i : ℕ) (d : ℕ × ℕ) → i < length a → BelowDecides a v i → v ≤ (get_or a i d).0 → IsTrue false ↔ IsAbove a v
+below-stop a v i d l t n = (λ e. cc, λ h. absurd (omega (arith, n, ((below-turn a v i d l).0 (t.1 h)).0)))
+
+pub below-next : (a : Pairs) (v i : ℕ) (d : ℕ × ℕ) → i < length a → BelowDecides a v i → (get_or a i d).0 < v → BelowDecides a v (i + 1)
+below-next a v i d l t y =
+    let u = below-turn a v i d l in
+    let w : suc i ≡ i + 1 = omega arith in
+    subst (BelowDecides a v) w (λ h. t.0 (u.1 (y, h)), λ h. (u.0 (t.1 h)).1)
+
+below-past : (a : Pairs) (v i : ℕ) → length a ≤ i → IsAbove (drop i a) v
+below-past [] v zero l = tt
+below-past [] v (suc i) l = tt
+below-past (p ∷ a) v zero l = absurd (omega (arith, l))
+below-past (p ∷ a) v (suc i) l = below-past a v i (omega (arith, l))
+
+pub below-end : (a : Pairs) (v i : ℕ) → length a ≤ i → BelowDecides a v i → IsTrue true ↔ IsAbove a v
+below-end a v i l t = (λ e. t.0 (below-past a v i l), λ h. refl)
+
+-- ---- what was read
+pub record WasRead (vars : List VarInfo) (a e : Pairs) : Type 0 where
+  pub same : e ≡ a
+  pub rising : IsRising e
+  pub sites : AreOfSites vars e
+
+some-in : (vars : List VarInfo) (a e : Pairs) (o : Option Pairs) → o ≡ Some e → MatchOption o (IsRising a → AreOfSites vars a → ⊥) (λ x. (x ≡ a) × IsRising a × AreOfSites vars a) → (e ≡ a) × IsRising a × AreOfSites vars a
+some-in vars a e o q h = subst (λ (x : Option Pairs). MatchOption x (IsRising a → AreOfSites vars a → ⊥) (λ y. (y ≡ a) × IsRising a × AreOfSites vars a)) q h
+
+pub was-read : (vs vars : List VarInfo) (a e : Pairs) (o : Option Pairs) → vs ≡ vars → o ≡ Some e → MatchOption o (IsRising a → AreOfSites vs a → ⊥) (λ x. (x ≡ a) × IsRising a × AreOfSites vs a) → WasRead vars a e
+was-read vs vars a e o v q h =
+    let r = some-in vs a e o q h in
+    record {
+      same = r.0;
+      rising = subst IsRising (sym r.0) r.1;
+      sites = subst (λ (x : Pairs). AreOfSites vars x) (sym r.0) (subst (λ (ws : List VarInfo). AreOfSites ws a) v r.2);
+    }

@@ -1,0 +1,212 @@
+-- First words, lines that have one reading, and what is read of a line.
+use Rattle.std.proofs.Common.{◌≡◌, ℕ, ◌<◌, ◌^◌, Bool, true, false, List, [], ◌∷◌, ◌++◌, map, Option, Some, None, refl, sym, ap, ◌∙◌, subst, arith, append-nil}
+use Rattle.std.specs.Prelude.{if◌then◌else◌, bytes_eq, codes, decimal}
+use Rattle.std.specs.Fmt.{signed_decimal}
+use Rattle.ln_base.specs.Exponents.{Each, IsExponent, exponent_word}
+use Rattle.ln_base.specs.Lines.{is_plain, parted, words}
+use Rattle.ln_base.specs.declared.sign.Sign.{Sign}
+use Rattle.ln_base.specs.declared.sign.Sign.TheVariants.{Minus, Zero, Plus}
+use Rattle.ln_base.proofs.Texts.Halves.{same_exponent}
+use Rattle.ln_base.proofs.Texts.Lines.{snoc_same}
+use Rattle.ln_base.proofs.Texts.Lists.{equal_bytes, head, rest}
+use Rattle.ln_base.proofs.Texts.Numbers.{decimal_injective, no_byte, signed_injective}
+use Rattle.ln_base.proofs.Texts.Plain.{decimal_plain, exponent_plain, plain_append, plain_map, signed_plain}
+use Rattle.ln_base.proofs.Texts.Words.{ArePlain, parted_words, words_parted}
+use Rattle.ln_trace.specs.declared.line.TraceLine.{TraceLine}
+use Rattle.ln_trace.specs.declared.line.TraceLine.TheVariants as line
+use Rattle.ln_trace.specs.declared.state.Kind.{Kind}
+use Rattle.ln_trace.specs.declared.state.Kind.TheVariants as kind
+use Rattle.ln_trace.specs.declared.state.State.{State}
+use Rattle.ln_trace.specs.declared.state.State.TheVariants.{Between, Opened, Within}
+use Rattle.ln_trace.specs.Reading.{HasArgs, IsRead, NoArgs, Refuses, after, kind_in, kind_of, may, next_of, word_of}
+use Rattle.ln_trace.specs.Text.{IsLine, sign_word, text_of_line, words_of}
+
+-- ---- first words
+pub record Stands (s : State) (w : List ℕ) (k : Kind) : Type 0 where
+  pub word : w ≡ word_of k
+  pub may : may s k ≡ true
+
+some : {A : Type 0} {a b : A} → Some a ≡ Some b → a ≡ b
+some e = cc
+
+-- one word out of two
+pick : {A : Type 0} (P : A → Type 0) (t : Bool) (a b : Option A) (k : A) → (t ≡ true → a ≡ Some k → P k) → (b ≡ Some k → P k) → (if t then a else b) ≡ Some k → P k
+pick P true a b k f g e = f refl e
+pick P false a b k f g e = g e
+
+none : {A : Type 0} (P : A → Type 0) (k : A) → None ≡ Some k → P k
+none P k e = absurd (cc)
+
+is_word : (s : State) (w : List ℕ) (j k : Kind) → may s j ≡ true → bytes_eq w (word_of j) ≡ true → Some j ≡ Some k → Stands s w k
+is_word s w j k m t e = subst (λ x. Stands s w x) (some e) (record { word = equal_bytes w (word_of j) t; may = m })
+
+pub sound : (s : State) (w : List ℕ) (k : Kind) → kind_in s w ≡ Some k → Stands s w k
+sound Between w k e =
+    pick (Stands Between w) (bytes_eq w (codes "refused")) (Some kind.Refused) (if bytes_eq w (codes "row") then Some kind.Row else None) k (is_word Between w kind.Refused k refl)
+    (pick (Stands Between w) (bytes_eq w (codes "row")) (Some kind.Row) None k (is_word Between w kind.Row k refl) (none (Stands Between w) k)) e
+sound Opened w k e = pick (Stands Opened w) (bytes_eq w (codes "at")) (Some kind.At) None k (is_word Opened w kind.At k refl) (none (Stands Opened w) k) e
+sound Within w k e =
+    pick (Stands Within w) (bytes_eq w (codes "at")) (Some kind.At) (if bytes_eq w (codes "sign") then Some kind.Sign else None) k (is_word Within w kind.At k refl)
+    (pick (Stands Within w) (bytes_eq w (codes "sign")) (Some kind.Sign) None k (is_word Within w kind.Sign k refl) (none (Stands Within w) k)) e
+
+pub complete : (s : State) (k : Kind) → may s k ≡ true → kind_in s (word_of k) ≡ Some k
+complete Between kind.Refused m = refl
+complete Between kind.Row m = refl
+complete Opened kind.At m = refl
+complete Within kind.At m = refl
+complete Within kind.Sign m = refl
+complete s k m = absurd (cc)
+
+one_kind : (s : State) (j k : Kind) → may s j ≡ true → may s k ≡ true → word_of j ≡ word_of k → j ≡ k
+one_kind s j k m n e = some (sym (complete s j m) ∙ ap (kind_in s) e ∙ complete s k n)
+
+-- ---- exponents up to a colon
+-- words that begin with different bytes
+differ : (a b : ℕ) (x y : List ℕ) → (a ≡ b → ⊥) → a ∷ x ≡ b ∷ y → ⊥
+differ a b x y f e = f (head e)
+
+-- what has a hat and is a colon begins with the colon
+hat_after : (ds y : List ℕ) → ds ++ (94 ∷ y) ≡ 58 ∷ [] → (more : List ℕ) × (ds ≡ 58 ∷ more)
+hat_after [] y e = absurd (differ 94 58 y [] (λ q. omega arith) e)
+hat_after (b ∷ ds) y e = let h : b ≡ 58 = head e in (ds, ap (λ x. x ∷ ds) h)
+
+-- a number and a hat are no colon
+no_colon : (p : ℕ × ℕ) → IsExponent p → exponent_word p ≡ codes ":" → ⊥
+no_colon p q e =
+    let r = hat_after (decimal p.0) (decimal p.1) e in
+    omega (arith, (no_byte p.0 58 r.0 (omega (arith, q.0)) r.1).1)
+
+-- the exponents before a colon, and what follows it, are known
+pub same_exponents : (ps qs : List (ℕ × ℕ)) (r s : List (List ℕ)) → Each IsExponent ps → Each IsExponent qs → map exponent_word ps ++ codes ":" ∷ r ≡ map exponent_word qs ++ codes ":" ∷ s → (ps ≡ qs) × (r ≡ s)
+same_exponents [] [] r s p q e = (refl, rest e)
+same_exponents [] (y ∷ ys) r s p q e = absurd (no_colon y q.0 (sym (head e)))
+same_exponents (x ∷ xs) [] r s p q e = absurd (no_colon x p.0 (head e))
+same_exponents (x ∷ xs) (y ∷ ys) r s p q e =
+    let h = same_exponent x y p.0 q.0 (head e) in
+    let t = same_exponents xs ys r s p.1 q.1 (rest e) in
+    ((λ i. h i ∷ t.0 i), t.1)
+
+-- after some exponents there is a word that is neither an exponent nor a colon
+no_exponent : (done : List (ℕ × ℕ)) (w : List ℕ) (next : List (List ℕ)) (ps : List (ℕ × ℕ)) (r : List (List ℕ)) → Each IsExponent done → Each IsExponent ps → map exponent_word done ++ w ∷ next ≡ map exponent_word ps ++ codes ":" ∷ r → (w ≡ codes ":" → ⊥) → ((p : ℕ × ℕ) → IsExponent p → w ≡ exponent_word p → ⊥) → ⊥
+no_exponent [] w next [] r d p e f g = f (head e)
+no_exponent [] w next (x ∷ xs) r d p e f g = g x p.0 (head e)
+no_exponent (y ∷ ys) w next [] r d p e f g = no_colon y d.0 (head e)
+no_exponent (y ∷ ys) w next (x ∷ xs) r d p e f g = no_exponent ys w next xs r d.1 p.1 (rest e) f g
+
+-- exponents alone have no colon
+no_end : (done : List (ℕ × ℕ)) (ps : List (ℕ × ℕ)) (r : List (List ℕ)) → Each IsExponent done → map exponent_word done ≡ map exponent_word ps ++ codes ":" ∷ r → ⊥
+no_end [] [] r d e = absurd (cc)
+no_end [] (x ∷ xs) r d e = absurd (cc)
+no_end (y ∷ ys) [] r d e = no_colon y d.0 (head e)
+no_end (y ∷ ys) (x ∷ xs) r d e = no_end ys xs r d.1 (rest e)
+
+-- what the loop over exponents has read
+pub no_exponent_here : (all : List (List ℕ)) (done : List (ℕ × ℕ)) (w : List ℕ) (here next : List (List ℕ)) → all ≡ map exponent_word done ++ here → here ≡ w ∷ next → Each IsExponent done → (w ≡ codes ":" → ⊥) → ((p : ℕ × ℕ) → IsExponent p → w ≡ exponent_word p → ⊥) → (ps : List (ℕ × ℕ)) (r : List (List ℕ)) → Each IsExponent ps → all ≡ map exponent_word ps ++ codes ":" ∷ r → ⊥
+no_exponent_here all done w here next e g d f k ps r p q = no_exponent done w next ps r d p (sym (e ∙ ap (λ z. map exponent_word done ++ z) g) ∙ q) f k
+
+pub no_colon_left : (all : List (List ℕ)) (done : List (ℕ × ℕ)) (here : List (List ℕ)) → all ≡ map exponent_word done ++ here → here ≡ [] → Each IsExponent done → (ps : List (ℕ × ℕ)) (r : List (List ℕ)) → Each IsExponent ps → all ≡ map exponent_word ps ++ codes ":" ∷ r → ⊥
+no_colon_left all done here e g d ps r p q = no_end done ps r d (sym (e ∙ ap (λ z. map exponent_word done ++ z) g ∙ append-nil (map exponent_word done)) ∙ q)
+
+-- ---- one reading
+number : (m n : ℕ) → m < 2 ^ 32 → n < 2 ^ 32 → decimal m ≡ decimal n → m ≡ n
+number m n p q e = decimal_injective m n (omega arith) (omega arith) e
+
+same_sign : (t u : Sign) → sign_word t ≡ sign_word u → t ≡ u
+same_sign Minus Minus e = refl
+same_sign Minus Zero e = absurd (differ 45 48 [] [] (λ q. omega arith) e)
+same_sign Minus Plus e = absurd (differ 45 43 [] [] (λ q. omega arith) e)
+same_sign Zero Minus e = absurd (differ 48 45 [] [] (λ q. omega arith) e)
+same_sign Zero Zero e = refl
+same_sign Zero Plus e = absurd (differ 48 43 [] [] (λ q. omega arith) e)
+same_sign Plus Minus e = absurd (differ 43 45 [] [] (λ q. omega arith) e)
+same_sign Plus Zero e = absurd (differ 43 48 [] [] (λ q. omega arith) e)
+same_sign Plus Plus e = refl
+
+same_words : (x y : TraceLine) → kind_of x ≡ kind_of y → IsLine x → IsLine y → words_of x ≡ words_of y → x ≡ y
+same_words (line.Refused m) (line.Refused n) k p q e = ap line.Refused (number m n p.1 q.1 (head (rest e)))
+same_words (line.Row m) (line.Row n) k p q e = ap line.Row (number m n p.1 q.1 (head (rest e)))
+same_words (line.At a y) (line.At b z) k p q e =
+    let f = same_exponents a b (signed_decimal y ∷ []) (signed_decimal z ∷ []) p.0 q.0 (rest e) in
+    let g = signed_injective y z p.1 q.1 (head f.1) in
+    λ i. line.At (f.0 i) (g i)
+same_words (line.Sign t) (line.Sign u) k p q e = ap line.Sign (same_sign t u (head (rest e)))
+same_words x y k p q e = absurd (cc)
+
+-- ---- words without blanks
+first_plain : (k : Kind) → is_plain (word_of k) ≡ true
+first_plain kind.Refused = refl
+first_plain kind.Row = refl
+first_plain kind.At = refl
+first_plain kind.Sign = refl
+
+sign_plain : (t : Sign) → is_plain (sign_word t) ≡ true
+sign_plain Minus = refl
+sign_plain Zero = refl
+sign_plain Plus = refl
+
+pub words_plain : (l : TraceLine) → IsLine l → ArePlain (words_of l)
+words_plain (line.Refused n) p = (refl, (decimal_plain n (omega (arith, p.1)), tt))
+words_plain (line.Row n) p = (refl, (decimal_plain n (omega (arith, p.1)), tt))
+words_plain (line.At exps z) p = (refl, plain_append (map exponent_word exps) (codes ":" ∷ signed_decimal z ∷ []) (plain_map exponent_word IsExponent exponent_plain exps p.0) (refl, (signed_plain z p.1, tt)))
+words_plain (line.Sign t) p = (refl, (sign_plain t, tt))
+
+-- the words of a line are its kind's word and some more
+pub words_split : (l : TraceLine) → (ws : List (List ℕ)) × (words_of l ≡ word_of (kind_of l) ∷ ws)
+words_split (line.Refused n) = (decimal n ∷ [], refl)
+words_split (line.Row n) = (decimal n ∷ [], refl)
+words_split (line.At exps z) = (map exponent_word exps ++ codes ":" ∷ signed_decimal z ∷ [], refl)
+words_split (line.Sign t) = (sign_word t ∷ [], refl)
+
+-- the words of a line are read from its text
+pub read_words : (l : TraceLine) → IsLine l → words (parted (words_of l)) ≡ words_of l
+read_words l p =
+    let s = words_split l in
+    subst (λ (ws : List (List ℕ)). words (parted ws) ≡ ws) (sym s.1) (words_parted (word_of (kind_of l)) s.0 (subst ArePlain s.1 (words_plain l p)))
+
+-- ---- one line
+-- a line that leads on may stand in the state, and leads where its kind leads
+pub live : (s : State) (l : TraceLine) (t : State) → next_of s l ≡ Some t → (may s (kind_of l) ≡ true) × (t ≡ after (kind_of l))
+live s l t e = by (may s (kind_of l)) e
+  where
+    by : (b : Bool) → (if b then Some (after (kind_of l)) else None) ≡ Some t → (b ≡ true) × (t ≡ after (kind_of l))
+    by true e = (refl, cc)
+    by false e = absurd (cc)
+
+first_of : (l : TraceLine) (w : List ℕ) (ws : List (List ℕ)) → w ∷ ws ≡ words_of l → w ≡ word_of (kind_of l)
+first_of l w ws e = head (e ∙ (words_split l).1)
+
+same_line : (s : State) (x y : TraceLine) (t u : State) → next_of s x ≡ Some t → next_of s y ≡ Some u → IsLine x → IsLine y → words_of x ≡ words_of y → x ≡ y
+same_line s x y t u a b p q e =
+    let k = one_kind s (kind_of x) (kind_of y) (live s x t a).0 (live s y u b).0 (first_of y (word_of (kind_of x)) (words_split x).0 (sym (words_split x).1 ∙ e)) in
+    same_words x y k p q e
+
+-- the bytes before a line feed are this line
+pub line_words : (body : List ℕ) (l : TraceLine) → IsLine l → body ++ (10 ∷ []) ≡ text_of_line l → words body ≡ words_of l
+line_words body l q e = ap words (snoc_same body (parted (words_of l)) e) ∙ read_words l q
+
+pub words_line : (body : List ℕ) (l : TraceLine) → words body ≡ words_of l → body ++ (10 ∷ []) ≡ text_of_line l
+words_line body l e = ap (λ (x : List ℕ). x ++ (10 ∷ [])) (sym (parted_words body) ∙ ap parted e)
+
+pub one_line : (s : State) (x y : TraceLine) (t u : State) → next_of s x ≡ Some t → next_of s y ≡ Some u → IsLine x → IsLine y → text_of_line x ≡ text_of_line y → x ≡ y
+one_line s x y t u a b p q e = same_line s x y t u a b p q (sym (read_words x p) ∙ line_words (parted (words_of x)) y q e)
+
+-- ---- what the reader of a line finds
+pub found : (s : State) (k : Kind) (w : List ℕ) (args ws : List (List ℕ)) (l : TraceLine) → ws ≡ w ∷ args → kind_in s w ≡ Some k → HasArgs k args l → IsRead s ws l (after k)
+found s k w args ws l e g h =
+    let r = sound s w k g in
+    record {
+      spelled = e ∙ ap (λ x. x ∷ args) r.word ∙ h.words;
+      range = h.range;
+      goes = ap (λ (b : Bool). if b then Some (after (kind_of l)) else None) (subst (λ x. may s x ≡ true) (sym h.kind) r.may) ∙ ap (λ x. Some (after x)) h.kind;
+    }
+
+pub no_kind : (s : State) (w : List ℕ) (args ws : List (List ℕ)) → ws ≡ w ∷ args → kind_in s w ≡ None → Refuses s ws
+no_kind s w args ws e g l t r =
+    let a : w ≡ word_of (kind_of l) = first_of l w args (sym e ∙ r.spelled) in
+    let c : None ≡ Some (kind_of l) = sym g ∙ ap (kind_in s) a ∙ complete s (kind_of l) (live s l t r.goes).0 in absurd (cc)
+
+pub no_args : (s : State) (k : Kind) (w : List ℕ) (args ws : List (List ℕ)) → ws ≡ w ∷ args → kind_in s w ≡ Some k → NoArgs k args → Refuses s ws
+no_args s k w args ws e g h l t r =
+    let a : w ≡ word_of (kind_of l) = first_of l w args (sym e ∙ r.spelled) in
+    let c : kind_of l ≡ k = some (sym (complete s (kind_of l) (live s l t r.goes).0) ∙ ap (kind_in s) (sym a) ∙ g) in
+    h l (record { kind = c; words = ap (λ x. x ∷ args) (sym (a ∙ ap word_of c)) ∙ sym e ∙ r.spelled; range = r.range })

@@ -1,0 +1,6 @@
+-- The loop of `are_below`.
+use Rattle.ln_trace.proofs.Exponents.{BelowDecides}
+use Rattle.ln_trace.proofs.exps.are_below.Given as goal
+
+abbrev pub invariant-pairs : goal.invariant-pairs
+invariant-pairs l = BelowDecides l.a l.v l.p-index

@@ -1,0 +1,17 @@
+-- The loop of `over_lines`.
+use Rattle.std.proofs.Common.{List, length}
+use Rattle.ln_algebra.specs.Tree.{Tree}
+use Rattle.ln_trace.specs.declared.line.TraceLine.{TraceLine}
+use Rattle.ln_trace.specs.Here.{HasPoly, Holds}
+use Rattle.ln_trace.specs.Unread.{AreLeft}
+use Rattle.ln_trace.proofs.Midway.{Midway}
+use Rattle.ln_trace.proofs.judging.over_lines.Given as goal
+
+abbrev pub invariant-lines : goal.invariant-lines
+invariant-lines l = record {
+  holds : Holds l.p.shape l.st l.desk;
+  midway : (e : Tree) (ls : List TraceLine) → HasPoly l.p.shape e l.f → AreLeft l.initial.lines ls → Midway l.p.shape e l.st l.initial.rows ls l.rows l.desk l.lines;
+}
+
+abbrev pub decreases-lines : goal.decreases-lines
+decreases-lines l = length l.lines.text

@@ -1,0 +1,11 @@
+-- The loop of `over_trace`.
+use Rattle.ln_algebra.specs.Tree.{Tree}
+use Rattle.ln_trace.specs.Here.{HasPoly, Holds}
+use Rattle.ln_trace.proofs.Midway.{Stands}
+use Rattle.ln_trace.proofs.judging.over_trace.Given as goal
+
+abbrev pub invariant-lines : goal.invariant-lines
+invariant-lines l = record {
+  holds : Holds l.p.shape l.st l.desk;
+  stands : (e : Tree) → HasPoly l.p.shape e l.f → Stands l.p.shape e l.st l.initial.rows l.read l.rows l.desk l.i;
+}

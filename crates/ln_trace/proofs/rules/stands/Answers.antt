@@ -1,0 +1,65 @@
+-- What is left to show of `stands`.
+use Rattle.std.proofs.Common.{FitsSigned, ap, false, length, rules, subst, sym, take, true, ◌∙◌}
+use Rattle.std.proofs.lemmas.Int.{to_z-of_z}
+use mir.Syntax.{w128}
+use Rattle.ln_algebra.specs.Sign.{sign_of}
+use Rattle.ln_tree.specs.Row.{AreWithin}
+use Rattle.ln_order.specs.Places.{order_places}
+use Rattle.ln_trace.proofs.Premises.{case-above, case-numbers, sites-above, size-at, size-staged}
+use Rattle.ln_trace.proofs.Steps.{at-goes, at-refused, tests-of}
+use Rattle.ln_trace.proofs.rules.stands.Goals as goal
+
+pub goes-requires-clause-sites : goal.goes-requires-clause-sites
+goes-requires-clause-sites c = size-at c.args.s.now c.args.st.now c.args.desk.now c.requires.at
+
+pub goes-requires-clause-order : goal.goes-requires-clause-order
+goes-requires-clause-order c = size-staged c.args.s.now c.args.f.now c.args.st.now c.args.desk.now c.requires.case c.requires.at
+
+pub goes-requires-clause-spot : goal.goes-requires-clause-spot
+goes-requires-clause-spot c = c.requires.at.spot
+
+pub goes-requires-clause-numbers : goal.goes-requires-clause-numbers
+goes-requires-clause-numbers c = case-numbers c.args.s.now c.args.f.now c.args.st.now c.requires.case
+
+pub goes-requires-clause-above : goal.goes-requires-clause-above
+goes-requires-clause-above c = sites-above c.args.s.now.vars c.args.a c.requires.of_sites
+
+pub goes-requires-clause-below : goal.goes-requires-clause-below
+goes-requires-clause-below c = c.requires.case.below
+
+pub goes-requires-clause-light : goal.goes-requires-clause-light
+goes-requires-clause-light c = c.requires.case.light
+
+pub goes-requires-clause-row : goal.goes-requires-clause-row
+goes-requires-clause-row c = subst (AreWithin c.args.s.now.vars) (sym c.values_of-row.ensures) c.requires.at.range.values
+
+pub returns-then-not-goes : goal.returns-then-not-goes
+returns-then-not-goes c =
+    let fits : FitsSigned w128 c.args.z = search rules in
+    λ rows. at-refused c.args.s.now c.args.f.now c.args.st.now rows c.args.desk.now c.args.a c.args.z rows _ c.requires.at c.requires.of_sites
+    (tests-of c.args.s.now c.args.f.now c.args.st.now rows c.args.desk.now c.goes.result false c.args.a _ c.args.z c.values_of-row.result.now (take (length c.args.s.now.vars) c.args.desk.now.row.values) c.if-not-goes.true (to_z-of_z w128 c.args.z fits) c.values_of-row.ensures c.goes.ensures)
+
+pub passed-spot-requires-clause-sites : goal.passed-spot-requires-clause-sites
+passed-spot-requires-clause-sites c = size-at c.args.s.now c.args.st.now c.args.desk.now c.requires.at
+
+pub passed-spot-requires-clause-order : goal.passed-spot-requires-clause-order
+passed-spot-requires-clause-order c = size-staged c.args.s.now c.args.f.now c.args.st.now c.args.desk.now c.requires.case c.requires.at
+
+pub passed-spot-requires-clause-spot : goal.passed-spot-requires-clause-spot
+passed-spot-requires-clause-spot c = c.requires.at.spot
+
+pub passed-spot-requires-clause-numbers : goal.passed-spot-requires-clause-numbers
+passed-spot-requires-clause-numbers c = case-numbers c.args.s.now c.args.f.now c.args.st.now c.requires.case
+
+pub passed-spot-requires-clause-above : goal.passed-spot-requires-clause-above
+passed-spot-requires-clause-above c = sites-above c.args.s.now.vars c.args.a c.requires.of_sites
+
+pub passed-spot-requires-clause-all : goal.passed-spot-requires-clause-all
+passed-spot-requires-clause-all c = case-above c.args.s.now c.args.f.now c.args.st.now c.requires.case (order_places c.args.desk.now.order)
+
+pub returns : goal.returns
+returns c =
+    let fits : FitsSigned w128 c.args.z = search rules in
+    λ rows. at-goes c.args.s.now c.args.f.now c.args.st.now rows c.args.desk.now c.args.a c.args.z c.passed-spot.result c.stood.new.desk.last.zero c.stood.new.desk.sign c.stood.new.desk c.requires.at c.requires.rising c.requires.of_sites
+    (tests-of c.args.s.now c.args.f.now c.args.st.now rows c.args.desk.now c.goes.result true c.args.a _ c.args.z c.values_of-row.result.now (take (length c.args.s.now.vars) c.args.desk.now.row.values) c.if-not-goes.false (to_z-of_z w128 c.args.z fits) c.values_of-row.ensures c.goes.ensures)
+    c.passed-spot.ensures.spot c.passed-spot.ensures.left c.stood.ensures.zero (c.stood.ensures.sign ∙ ap sign_of (to_z-of_z w128 c.args.z fits)) c.requires.inside c.stood.ensures.held

@@ -1,0 +1,17 @@
+pub mod Told
+pub mod ToldLaw
+pub mod Trace
+pub mod Judge
+pub mod Signs
+pub mod WalkLaw
+pub mod Left
+pub mod Stand
+pub mod Text
+pub mod Form
+pub mod FormLaw
+pub mod Reading
+pub mod Stop
+pub mod Unread
+pub mod Here
+pub mod Judged
+pub mod Explain

@@ -1,0 +1,88 @@
+-- Which line may stand where, and what its words say: for the reader, which goes line by line. That this is the grammar is the
+-- matter of proofs/Reading/Walk.
+use Rattle.std.specs.Prelude.{◌≡◌, ℕ, Bool, true, false, if◌then◌else◌, List, [], ◌∷◌, Option, Some, None, bytes_eq, codes}
+use Rattle.ln_trace.specs.declared.line.TraceLine.{TraceLine}
+use Rattle.ln_trace.specs.declared.line.TraceLine.TheVariants as line
+use Rattle.ln_trace.specs.declared.state.Kind.{Kind}
+use Rattle.ln_trace.specs.declared.state.Kind.TheVariants as kind
+use Rattle.ln_trace.specs.declared.state.State.{State}
+use Rattle.ln_trace.specs.declared.state.State.TheVariants.{Between, Opened, Within}
+use Rattle.ln_trace.specs.Text.{IsLine, text_of_line, words_of}
+
+-- ---- kinds
+abbrev pub kind_of : TraceLine → Kind
+kind_of (line.Refused n) = kind.Refused
+kind_of (line.Row n) = kind.Row
+kind_of (line.At exps z) = kind.At
+kind_of (line.Sign t) = kind.Sign
+
+-- the first word of a line
+abbrev pub word_of : Kind → List ℕ
+word_of kind.Refused = codes "refused"
+word_of kind.Row = codes "row"
+word_of kind.At = codes "at"
+word_of kind.Sign = codes "sign"
+
+-- the kind of the line that begins with this word, in this state; none where no line does
+abbrev pub kind_in : State → List ℕ → Option Kind
+kind_in Between w = if bytes_eq w (codes "refused") then Some kind.Refused else if bytes_eq w (codes "row") then Some kind.Row else None
+kind_in Opened w = if bytes_eq w (codes "at") then Some kind.At else None
+kind_in Within w = if bytes_eq w (codes "at") then Some kind.At else if bytes_eq w (codes "sign") then Some kind.Sign else None
+
+-- ---- states
+-- a line of this kind may stand in this state
+abbrev pub may : State → Kind → Bool
+may Between kind.Refused = true
+may Between kind.Row = true
+may Opened kind.At = true
+may Within kind.At = true
+may Within kind.Sign = true
+may s k = false
+
+-- what the lines end in after a line of this kind
+abbrev pub after : Kind → State
+after kind.Refused = Between
+after kind.Row = Opened
+after kind.At = Within
+after kind.Sign = Between
+
+abbrev pub next_of : State → TraceLine → Option State
+next_of s l = if may s (kind_of l) then Some (after (kind_of l)) else None
+
+abbrev pub is_end : State → Bool
+is_end Between = true
+is_end s = false
+
+-- one line more, if the lines so far lead anywhere
+abbrev pub next_at : Option State → TraceLine → Option State
+next_at None l = None
+next_at (Some s) l = next_of s l
+
+-- where lines lead
+abbrev pub goes : Option State → List TraceLine → Option State
+goes o [] = o
+goes o (l ∷ ls) = goes (next_at o l) ls
+
+-- ---- lines
+-- the words are this line, which may stand in the state and leads to the next
+pub record IsRead (s : State) (ws : List (List ℕ)) (l : TraceLine) (t : State) : Type 0 where
+  pub spelled : ws ≡ words_of l
+  pub range : IsLine l
+  pub goes : next_of s l ≡ Some t
+
+-- no line of these words may stand in the state
+abbrev pub Refuses : State → List (List ℕ) → Type 0
+Refuses s ws = (l : TraceLine) (t : State) → IsRead s ws l t → ⊥
+
+-- this text is no line that may stand in the state
+abbrev pub RefusesText : State → List ℕ → Type 0
+RefusesText s t = (l : TraceLine) (u : State) → IsLine l → next_of s l ≡ Some u → t ≡ text_of_line l → ⊥
+
+-- the words follow the first word of this line of a kind
+pub record HasArgs (k : Kind) (ws : List (List ℕ)) (l : TraceLine) : Type 0 where
+  pub kind : kind_of l ≡ k
+  pub words : word_of k ∷ ws ≡ words_of l
+  pub range : IsLine l
+
+abbrev pub NoArgs : Kind → List (List ℕ) → Type 0
+NoArgs k ws = (l : TraceLine) → HasArgs k ws l → ⊥

@@ -1,0 +1,86 @@
+//! What the judge holds while it reads.
+ghost use Rattle.std.specs.Prelude.{◌≡◌, ◌↔◌, ◌+◌, false, IfOk, IsTrue};
+ghost use Rattle.ln_trace.specs.Here.{IsNextOf};
+
+use crate::pointer::Spot;
+use crate::stand::Last;
+use ln_base::{NoMemory, Sign};
+use ln_code::Row;
+use ln_order::Order;
+use ln_rows::Rows;
+use ln_tree::Pred;
+
+/// What is held: whether a row is open, how many records stood, the last row that was read and the order of its sites, where the
+/// members of the list of that order begin that haven't stood, the vector that stood last, and the sign of its value.
+#[derive(Drop)]
+pub struct Desk {
+    pub inside: bool,
+    pub seen: u32,
+    pub row: Row,
+    pub order: Order,
+    pub spot: Spot,
+    pub last: Last,
+    pub sign: Sign,
+}
+
+/// What the next record is: there is none, it is no row, or it is one.
+#[derive(Clone, Copy, PartialEq, Eq)]
+pub enum Next {
+    Nothing,
+    Fault,
+    Read,
+}
+
+/// What is held before the first line.
+pub fn fresh_desk() -> Desk
+    ensures inside { result.inside ≡ false }
+    ensures seen { result.seen ≡ 0 }
+{
+    Desk {
+        inside: false,
+        seen: 0,
+        row: Row {
+            index: [0; 5],
+            values: [0; 168],
+        },
+        order: Order::of_arguments(0),
+        spot: Spot { sites: 0, at: 0 },
+        last: Last {
+            exps: None,
+            zero: true,
+        },
+        sign: Sign::Zero,
+    }
+}
+
+/// Is no row open, and is it the number of the next record?
+pub fn is_next(desk: &Desk, n: u32) -> bool
+    ensures { IsTrue result ↔ ((desk.now.inside ≡ false) × (n ≡ desk.now.seen + 1)) }
+{
+    if desk.inside {
+        return false;
+    }
+    if n == 0 {
+        return false;
+    }
+    n - 1 == desk.seen
+}
+
+/// Takes the next record, and reads the row that it says.
+pub fn taken(p: &Pred, rows: &mut Rows<'_>, row: &mut Row) -> Result<Next, NoMemory>
+    ensures { IfOk result (λ x. IsNextOf p.now.shape.sites p.now.shape.vars x rows.old rows.new row.new) }
+{
+    let next = rows.next_row(p, row)?;
+    match next {
+        None => Ok(Next::Nothing),
+        Some(Ok(())) => Ok(Next::Read),
+        Some(Err(_)) => Ok(Next::Fault),
+    }
+}
+
+/// Is it this?
+pub fn is(next: Next, x: Next) -> bool
+    ensures { IsTrue result ↔ (next ≡ x) }
+{
+    next == x
+}

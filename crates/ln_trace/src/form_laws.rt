@@ -1,0 +1,23 @@
+//! Laws of the text of traces.
+ghost use Rattle.ln_trace.specs.FormLaw.{ExplainedIsTrace, FaultsAreNoTraces, OneFormFault, OneTrace, RecordsAreTraces};
+
+/// No bytes are two traces.
+///
+/// On it rests that a reader gives the one trace of the bytes, and that what was written is read back.
+pub fn one_trace()
+    ensures { OneTrace }
+{}
+
+/// Bytes that have a form fault are no trace, and they have one form fault at most.
+///
+/// On it rests that the line of a fault is decided by the bytes alone.
+pub fn one_form_fault()
+    ensures none { FaultsAreNoTraces }
+    ensures one { OneFormFault }
+{}
+
+/// The first line and whole records after it are the text of a trace, and so is what is explained.
+pub fn records_are_traces()
+    ensures records { RecordsAreTraces }
+    ensures explained { ExplainedIsTrace }
+{}

@@ -1,0 +1,191 @@
+//! The judge: a line at its place, and the loop over the lines.
+ghost use Rattle.std.specs.Prelude.{◌≡◌, ◌↔◌, ◌<◌, [], ℕ, List, None, false, length, IfOk, IsTrue};
+ghost use Rattle.ln_algebra.specs.Tree.{Tree};
+ghost use Rattle.ln_trace.specs.declared.judged.Judged.TheVariants.{Agreed};
+ghost use Rattle.ln_trace.specs.declared.line.TraceLine.{TraceLine as AnyLine};
+ghost use Rattle.ln_trace.specs.Here.{HasPoly, Holds, IsCase, Led, subject_of};
+ghost use Rattle.ln_trace.specs.Judge.{IsAnswer};
+ghost use Rattle.ln_trace.specs.Judged.{IsJudged, fault_of};
+ghost use Rattle.ln_trace.specs.Signs.{AreRight, signs_in};
+ghost use Rattle.ln_trace.specs.Unread.{AreLeft};
+
+use crate::desk::{Desk, Next, fresh_desk, is, taken};
+use crate::judged::Judged;
+use crate::line::TraceLine;
+use crate::lines::TraceLines;
+use crate::rules::{at, refused, row, sign};
+use crate::trace::Trace;
+use ln_base::NoMemory;
+use ln_poly::{Binomials, Poly};
+use ln_rows::Rows;
+use ln_stage::Stages;
+use ln_tree::Pred;
+use std::alloc::Global;
+
+// A line at its place.
+fn line(
+    alloc: Global,
+    b: &Binomials,
+    p: &Pred,
+    f: &Poly,
+    st: &Stages,
+    rows: &mut Rows<'_>,
+    desk: &mut Desk,
+    line: &TraceLine,
+) -> Result<bool, NoMemory>
+    requires case { IsCase p.now.shape f.now st.now }
+    requires holds { Holds p.now.shape st.now desk.old }
+    ensures { IfOk result (λ ok. Led p.now.shape f.now st.now rows.old desk.old line.now ok rows.new desk.new) }
+{
+    match line {
+        TraceLine::Refused(n) => refused(p, rows, desk, *n),
+        TraceLine::Row(n) => row(p, rows, desk, *n),
+        TraceLine::At(a, z) => at(alloc, b, f, st, &p.shape, desk, a.as_slice(), *z),
+        TraceLine::Sign(t) => Ok(sign(f, st, &p.shape, desk, *t)),
+    }
+}
+
+// Is no row open, and no record left?
+fn is_over(p: &Pred, rows: &mut Rows<'_>, desk: &mut Desk) -> Result<bool, NoMemory>
+    ensures over { IfOk result (λ ok. IsTrue ok ↔ ((desk.old.inside ≡ false) × (rows.old ≡ []))) }
+    ensures seen { desk.new.seen ≡ desk.old.seen }
+{
+    if desk.inside {
+        return Ok(false);
+    }
+    let next = taken(p, rows, &mut desk.row)?;
+    Ok(is(next, Next::Nothing))
+}
+
+// A line at its place, which is dropped then.
+fn entry(
+    alloc: Global,
+    b: &Binomials,
+    p: &Pred,
+    f: &Poly,
+    st: &Stages,
+    rows: &mut Rows<'_>,
+    desk: &mut Desk,
+    l: TraceLine,
+) -> Result<bool, NoMemory>
+    requires case { IsCase p.now.shape f.now st.now }
+    requires holds { Holds p.now.shape st.now desk.old }
+    ensures { IfOk result (λ ok. Led p.now.shape f.now st.now rows.old desk.old l ok rows.new desk.new) }
+{
+    line(alloc, b, p, f, st, rows, desk, &l)
+}
+
+// What the lines that are left are judged, where none has stood.
+fn over_lines(
+    alloc: Global,
+    b: &Binomials,
+    p: &Pred,
+    f: &Poly,
+    st: &Stages,
+    rows: &mut Rows<'_>,
+    lines: &mut TraceLines<'_>,
+    desk: &mut Desk,
+) -> Result<Judged, NoMemory>
+    requires case { IsCase p.now.shape f.now st.now }
+    requires second { lines.old.line ≡ 2 }
+    requires inside { desk.old.inside ≡ false }
+    requires none { desk.old.seen ≡ 0 }
+    ensures { IfOk result (λ j. (e : Tree) (ls : List AnyLine) → HasPoly p.now.shape e f.now → AreLeft lines.old ls →
+        IsJudged (subject_of p.now.shape e) rows.old ls j) }
+{
+    'lines: while let Some(l) = lines.next(alloc)? {
+        if !entry(alloc, b, p, f, st, rows, desk, l)? {
+            return Ok(Judged::Wrong(lines.number() - 1));
+        }
+    }
+    if !is_over(p, rows, desk)? {
+        return Ok(Judged::Wrong(lines.number()));
+    }
+    Ok(Judged::Agreed(desk.seen))
+}
+
+/// What the lines that are left of a trace are judged by the polynomial of a predicate and the stages of that, over the records that
+/// are left: agreed, or the first line whose rule fails. Each line is judged as it is read, and none is kept. An agreed trace
+/// gives each record that is a row its perturbed sign. After `NoMemory` lines and records may be lost.
+pub fn judge_lines(
+    alloc: Global,
+    p: &Pred,
+    f: &Poly,
+    st: &Stages,
+    rows: &mut Rows<'_>,
+    lines: &mut TraceLines<'_>,
+) -> Result<Judged, NoMemory>
+    requires case { IsCase p.now.shape f.now st.now }
+    requires second { lines.old.line ≡ 2 }
+    ensures answer { IfOk result (λ j. (e : Tree) (ls : List AnyLine) → HasPoly p.now.shape e f.now → AreLeft lines.old ls →
+        IsAnswer (subject_of p.now.shape e) rows.old ls (fault_of j)) }
+    ensures count { IfOk result (λ j. (e : Tree) (ls : List AnyLine) (n : ℕ) → HasPoly p.now.shape e f.now → AreLeft lines.old ls →
+        j ≡ Agreed n → n ≡ length rows.old) }
+    ensures signs { IfOk result (λ j. (e : Tree) (ls : List AnyLine) (n : ℕ) → HasPoly p.now.shape e f.now → AreLeft lines.old ls →
+        j ≡ Agreed n → AreRight (subject_of p.now.shape e) rows.old (signs_in ls)) }
+{
+    let b = Binomials::new(alloc)?;
+    let mut desk = fresh_desk();
+    let j = over_lines(alloc, &b, p, f, st, rows, lines, &mut desk)?;
+    Ok(j)
+}
+
+// What these lines are judged, where none has stood.
+fn over_trace(
+    alloc: Global,
+    b: &Binomials,
+    p: &Pred,
+    f: &Poly,
+    st: &Stages,
+    rows: &mut Rows<'_>,
+    read: &[TraceLine],
+    desk: &mut Desk,
+) -> Result<Judged, NoMemory>
+    requires case { IsCase p.now.shape f.now st.now }
+    requires few { length read.now < 4294967294 }
+    requires inside { desk.old.inside ≡ false }
+    requires none { desk.old.seen ≡ 0 }
+    ensures { IfOk result (λ j. (e : Tree) → HasPoly p.now.shape e f.now → IsJudged (subject_of p.now.shape e) rows.old read.now j) }
+{
+    'lines: for (i, l) in read.iter().enumerate() {
+        if !line(alloc, b, p, f, st, rows, desk, l)? {
+            return Ok(Judged::Wrong(i as u32 + 2));
+        }
+    }
+    if !is_over(p, rows, desk)? {
+        return Ok(Judged::Wrong(read.len() as u32 + 2));
+    }
+    Ok(Judged::Agreed(desk.seen))
+}
+
+// The first line that fails, if there is one.
+fn fault_of(j: Judged) -> Option<u32>
+    ensures { result ≡ fault_of j }
+{
+    match j {
+        Judged::Agreed(_n) => None,
+        Judged::Wrong(n) => Some(n),
+    }
+}
+
+/// The first line of a trace, from 1, whose rule fails by the polynomial of a predicate and the stages of that, over the records that
+/// are left; or none, where the trace is agreed. An agreed trace gives each record that is a row its perturbed sign. After
+/// `NoMemory` records may be lost.
+pub fn judge(
+    alloc: Global,
+    p: &Pred,
+    f: &Poly,
+    st: &Stages,
+    rows: &mut Rows<'_>,
+    t: &Trace,
+) -> Result<Option<u32>, NoMemory>
+    requires { IsCase p.now.shape f.now st.now }
+    ensures answer { IfOk result (λ o. (e : Tree) → HasPoly p.now.shape e f.now → IsAnswer (subject_of p.now.shape e) rows.old t.now o) }
+    ensures signs { IfOk result (λ o. (e : Tree) → HasPoly p.now.shape e f.now → o ≡ None →
+        AreRight (subject_of p.now.shape e) rows.old (signs_in t.now)) }
+{
+    let b = Binomials::new(alloc)?;
+    let mut desk = fresh_desk();
+    let j = over_trace(alloc, &b, p, f, st, rows, t.lines(), &mut desk)?;
+    Ok(fault_of(j))
+}

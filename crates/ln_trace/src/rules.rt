@@ -1,0 +1,250 @@
+//! One function for each kind of line.
+ghost use Rattle.std.specs.Prelude.{◌≡◌, ◌↔◌, ◌<◌, ◌≤◌, ◌∷◌, [], ℕ, List, All, None, Some, true, IfOk, IsTrue, length, take};
+ghost use Rattle.ln_base.specs.declared.sign.Sign.TheVariants.{Zero};
+ghost use Rattle.ln_algebra.specs.Sign.{sign_of};
+ghost use Rattle.ln_tree.specs.Exps.{IsRising};
+ghost use Rattle.ln_tree.specs.Row.{AreWithin, InRange};
+ghost use Rattle.ln_code.specs.Kept.{AreOfSites};
+ghost use Rattle.ln_code.specs.RowOf.{row_of};
+ghost use Rattle.ln_due.specs.Due.{sign_number};
+ghost use Rattle.ln_order.specs.Order.{IsOrder};
+ghost use Rattle.ln_order.specs.Places.{order_places};
+ghost use Rattle.ln_poly.specs.Sparse.{Sparse};
+ghost use Rattle.ln_rows.specs.Left.{Records};
+ghost use Rattle.ln_stage.specs.Staged.{Staged, segment_of};
+ghost use Rattle.ln_trace.specs.declared.line.TraceLine.TheVariants as line;
+ghost use Rattle.ln_trace.specs.Here.{Holds, IsAtRow, IsCase, Led};
+ghost use Rattle.ln_trace.specs.Left.{IsSpot, left_at};
+
+use crate::desk::{Desk, Next, is, is_next, taken};
+use crate::exps::exps_of;
+use crate::goes::goes;
+use crate::pointer::{Spot, first_left};
+use crate::stand::{Last, passed};
+use ln_base::{NoMemory, Sign};
+use ln_code::Row;
+use ln_order::{Order, order_of};
+use ln_poly::{Binomials, Poly};
+use ln_rows::Rows;
+use ln_stage::Stages;
+use ln_tree::{Exps, Pred, Shape};
+use std::alloc::Global;
+
+/// `refused`.
+pub fn refused(p: &Pred, rows: &mut Rows<'_>, desk: &mut Desk, n: u32) -> Result<bool, NoMemory>
+    ensures { IfOk result (λ ok. (f : Sparse) (st : Staged) →
+        Led p.now.shape f st rows.old desk.old (line.Refused n) ok rows.new desk.new) }
+{
+    if !is_next(desk, n) {
+        return Ok(false);
+    }
+    let next = taken(p, rows, &mut desk.row)?;
+    if !is(next, Next::Fault) {
+        return Ok(false);
+    }
+    desk.seen = n;
+    Ok(true)
+}
+
+// The order of the sites of a row in range.
+fn order_at(p: &Pred, row: &Row) -> Order
+    requires { InRange p.now.shape.sites p.now.shape.vars (row_of p.now.shape.sites p.now.shape.vars row.now) }
+    ensures { IsOrder (take p.now.shape.sites row.now.index) (order_places result) }
+{
+    match order_of(&row.index[..usize::from(p.shape.sites)]) {
+        Ok(o) => o,
+        Err(_) => unreachable!(),
+    }
+}
+
+// Opens the row that is held, which is the record of this number.
+fn open(desk: &mut Desk, o: Order, n: u32)
+    ensures { desk.new ≡ record {
+      inside = true;
+      seen = n;
+      row = desk.old.row;
+      order = o;
+      spot = record { sites = 0; at = 0 };
+      last = record { exps = None; zero = true };
+      sign = desk.old.sign;
+    } }
+{
+    desk.order = o;
+    desk.spot = Spot { sites: 0, at: 0 };
+    desk.last = Last {
+        exps: None,
+        zero: true,
+    };
+    desk.seen = n;
+    desk.inside = true;
+}
+
+/// `row`.
+pub fn row(p: &Pred, rows: &mut Rows<'_>, desk: &mut Desk, n: u32) -> Result<bool, NoMemory>
+    ensures { IfOk result (λ ok. (f : Sparse) (st : Staged) → IsCase p.now.shape f st →
+        Led p.now.shape f st rows.old desk.old (line.Row n) ok rows.new desk.new) }
+{
+    if !is_next(desk, n) {
+        return Ok(false);
+    }
+    let next = taken(p, rows, &mut desk.row)?;
+    if !is(next, Next::Read) {
+        return Ok(false);
+    }
+    let o = order_at(p, &desk.row);
+    open(desk, o, n);
+    Ok(true)
+}
+
+// The values of a row.
+fn values_of<'a>(s: &Shape, row: &'a Row) -> &'a [i64]
+    ensures { result.now ≡ take (length s.now.vars) row.now.values }
+{
+    &row.values[..s.vars.len()]
+}
+
+// The sign of a value.
+fn sign_of(z: i128) -> Sign
+    ensures { sign_number result ≡ sign_of z }
+{
+    if z > 0 {
+        Sign::Plus
+    } else if z < 0 {
+        Sign::Minus
+    } else {
+        Sign::Zero
+    }
+}
+
+fn is_sign(t: Sign, u: Sign) -> bool
+    ensures { IsTrue result ↔ (t ≡ u) }
+{
+    t == u
+}
+
+// Holds that a stood with the value z, behind which the members begin here.
+fn stood(desk: &mut Desk, spot: Spot, a: Exps, z: i128)
+    ensures held { desk.new ≡ record {
+      inside = desk.old.inside;
+      seen = desk.old.seen;
+      row = desk.old.row;
+      order = desk.old.order;
+      spot = spot;
+      last = record { exps = Some a; zero = desk.new.last.zero };
+      sign = desk.new.sign;
+    } }
+    ensures sign { sign_number desk.new.sign ≡ sign_of z }
+    ensures zero { IsTrue desk.new.last.zero ↔ (desk.new.sign ≡ Zero) }
+{
+    let sign = sign_of(z);
+    let zero = is_sign(sign, Sign::Zero);
+    desk.spot = spot;
+    desk.sign = sign;
+    desk.last = Last {
+        exps: Some(a),
+        zero,
+    };
+}
+
+// Lets a with the value z stand, or refuses it.
+fn stands(
+    b: &Binomials,
+    f: &Poly,
+    st: &Stages,
+    s: &Shape,
+    desk: &mut Desk,
+    a: Exps,
+    z: i128,
+) -> bool
+    requires case { IsCase s.now f.now st.now }
+    requires at { IsAtRow s.now st.now desk.old }
+    requires inside { desk.old.inside ≡ true }
+    requires rising { IsRising a }
+    requires of_sites { AreOfSites s.now.vars a }
+    ensures { (rows : Records) → Led s.now f.now st.now rows desk.old (line.At a z) result rows desk.new }
+{
+    let row = values_of(s, &desk.row);
+    if !goes(b, f, st, s, &desk.order, &desk.last, desk.spot, &a, z, row) {
+        return false;
+    }
+    let spot = passed(st, &desk.order, s, desk.spot, &a);
+    stood(desk, spot, a, z);
+    true
+}
+
+/// `at`.
+pub fn at(
+    alloc: Global,
+    b: &Binomials,
+    f: &Poly,
+    st: &Stages,
+    s: &Shape,
+    desk: &mut Desk,
+    a: &[(u8, u8)],
+    z: i128,
+) -> Result<bool, NoMemory>
+    requires case { IsCase s.now f.now st.now }
+    requires holds { Holds s.now st.now desk.old }
+    ensures { IfOk result (λ ok. (rows : Records) → Led s.now f.now st.now rows desk.old (line.At a.now z) ok rows desk.new) }
+{
+    if !desk.inside {
+        return Ok(false);
+    }
+    let Some(e) = exps_of(alloc, s.vars.as_slice(), a)? else {
+        return Ok(false);
+    };
+    let ok = stands(b, f, st, s, desk, e, z);
+    Ok(ok)
+}
+
+// Is none of the members left?
+fn is_none_left(st: &Stages, o: &Order, spot: Spot) -> bool
+    requires order { length (order_places o.now) ≡ st.now.sites }
+    requires spot { IsSpot st.now (order_places o.now) spot }
+    requires numbers { (q : List ℕ) → All (λ i. i < length st.now.exps) (segment_of st.now q) }
+    ensures { IsTrue result ↔ (left_at st.now (order_places o.now) spot ≡ []) }
+{
+    first_left(st, o, spot).is_none()
+}
+
+// Did a vector stand, and is it the sign of the last value?
+fn is_said(desk: &Desk, t: Sign) -> bool
+    ensures { IsTrue result ↔ ((desk.now.last.exps ≡ None → ⊥) × (t ≡ desk.now.sign)) }
+{
+    if desk.last.exps.is_none() {
+        return false;
+    }
+    is_sign(t, desk.sign)
+}
+
+// Where the last value is 0, is none of the members left?
+fn is_whole(st: &Stages, desk: &Desk) -> bool
+    requires order { length (order_places desk.now.order) ≡ st.now.sites }
+    requires spot { IsSpot st.now (order_places desk.now.order) desk.now.spot }
+    requires numbers { (q : List ℕ) → All (λ i. i < length st.now.exps) (segment_of st.now q) }
+    ensures { IsTrue result ↔ (desk.now.last.zero ≡ true → left_at st.now (order_places desk.now.order) desk.now.spot ≡ []) }
+{
+    if !desk.last.zero {
+        return true;
+    }
+    is_none_left(st, &desk.order, desk.spot)
+}
+
+/// `sign`.
+pub fn sign(f: &Poly, st: &Stages, s: &Shape, desk: &mut Desk, t: Sign) -> bool
+    requires case { IsCase s.now f.now st.now }
+    requires holds { Holds s.now st.now desk.old }
+    ensures { (rows : Records) → Led s.now f.now st.now rows desk.old (line.Sign t) result rows desk.new }
+{
+    if !desk.inside {
+        return false;
+    }
+    if !is_said(desk, t) {
+        return false;
+    }
+    if !is_whole(st, desk) {
+        return false;
+    }
+    desk.inside = false;
+    true
+}
