@@ -7,6 +7,10 @@ pub mod VerifyLaws
 pub mod SaysLaws
 pub mod RunLaws
 pub mod GenLaws
+pub mod EdgesLaws
+pub mod ExplainLaws
+pub mod ExplainedRows
+pub mod AuditLaws
 pub mod FactorsLaws
 pub mod ProductLaws
 pub mod GradedLaws

@@ -1,6 +1,8 @@
 -- Lines and rows, one behind the other, and the watchers.
 pub mod LinesLaws
 pub mod LinesCarry
+pub mod HeadCarry
+pub mod FewRecords
 pub mod BoxLemmas
 pub mod WatchingLaws
 pub mod OneLine

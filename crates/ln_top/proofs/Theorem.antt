@@ -3,9 +3,13 @@ pub mod Room
 pub mod GoodParts
 pub mod ListedParts
 pub mod GoodLines
+pub mod Lightness
 pub mod HeadlineLaws
 pub mod EmittedLaws
 pub mod Accepting
 pub mod TrustedLaws
 pub mod ListedLaws
+pub mod EdgedLaws
+pub mod ExplainedLaws
+pub mod AuditedLaws
 pub mod ProductsLaws

@@ -38,3 +38,8 @@ one_type a b c = false
 abbrev pub is_three : List ArgOf → Bool
 is_three (a ∷ b ∷ c ∷ []) = one_type (type_of a) (type_of b) (type_of c)
 is_three args = false
+
+-- exactly one predicate, of exactly three sites of one type
+abbrev pub is_one_of_three : List PredOf → Bool
+is_one_of_three (p ∷ []) = is_three p.args
+is_one_of_three preds = false

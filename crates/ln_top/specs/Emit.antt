@@ -1,5 +1,5 @@
 -- `emit FILE`: C for the predicates of a source.
-use Rattle.std.specs.Prelude.{◌≡◌, ◌≤◌, ℕ, All, List, [], ◌∷◌, length, take, Some}
+use Rattle.std.specs.Prelude.{◌≡◌, ◌≤◌, ℕ, All, List, [], ◌∷◌, length, map, take, Some}
 use Rattle.ln_tree.specs.Row.{InRange, Row}
 use Rattle.ln_tree.specs.Table.{PredOf}
 use Rattle.ln_code.specs.declared.verdict.Verdict.{Verdict}
@@ -12,7 +12,9 @@ use Rattle.ln_csyn.specs.Tree.{Fun}
 use Rattle.ln_csyn.specs.Text.{CText}
 use Rattle.ln_csyn.specs.Meaning.{CCall, Counts, Signed}
 use Rattle.ln_cemit.specs.Emitted.{BeginsFile}
+use Rattle.ln_cemit.specs.Heads.{head, heads_of}
 use Rattle.ln_cemit.specs.Names.{call_name}
+use Rattle.ln_cemit.specs.Whole.{part_name}
 use Rattle.ln_top.specs.declared.status.End.{End}
 use Rattle.ln_top.specs.declared.status.End.TheVariants.{Done}
 use Rattle.ln_top.specs.Said.{Said, whole}
@@ -24,7 +26,7 @@ pub record CallIsDue (file : List Fun) (p : PredOf) (row : Row) : Type 0 where
   pub verdict : Verdict
   pub due : IsDue p row verdict
   pub counts : Counts
-  pub called : CCall file (call_name p.shape_name) row.index row.values ≡ Some (Signed (sign_number verdict.sign) counts)
+  pub called : CCall file (call_name p.name) row.index row.values ≡ Some (Signed (sign_number verdict.sign) counts)
   pub calls : counts.calls ≡ verdict.calls
   pub narrow : verdict.by ≡ Filter → counts.wide ≡ 0
 
@@ -33,11 +35,16 @@ abbrev pub AllAreDue : List Fun → List PredOf → Type 0
 AllAreDue file [] = Unit {0}
 AllAreDue file (p ∷ ps) = ((row : Row) → InRange p.sites p.vars row → CallIsDue file p row) × AllAreDue file ps
 
--- the bytes are a file of the C subset, whose calls say what rows of these predicates are owed
+-- the bytes are a file of the C subset, whose calls say what rows of these predicates are owed. Its functions are those of programs of
+-- the predicates, one for each in order, and no other; each is named after its predicate, whose name the program's shape has
 pub record IsCOf (preds : List PredOf) (bytes : List ℕ) : Type 0 where
   pub file : List Fun
   pub text : CText bytes file
   pub due : AllAreDue file preds
+  pub programs : List Part
+  pub are_programs : AreProgramsOf preds programs
+  pub names : map part_name programs ≡ map (λ (p : PredOf). p.name) preds
+  pub heads : map head file ≡ heads_of programs
 
 -- the bytes begin the C of programs of the first i predicates, one for each in order, each with at most 65,536 blocks
 pub record BeginsCOfFirst (preds : List PredOf) (i : ℕ) (bytes : List ℕ) : Type 0 where

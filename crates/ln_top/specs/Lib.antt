@@ -15,6 +15,7 @@ pub mod Check
 pub mod Listing
 pub mod Emit
 pub mod Emitted
+pub mod Exit
 pub mod Verify
 pub mod Trusted
 pub mod Listed
@@ -26,6 +27,12 @@ pub mod Perturbed
 pub mod Watching
 pub mod Headline
 pub mod Products
+pub mod Edges
+pub mod Edged
+pub mod Explain
+pub mod Explained
+pub mod Audit
+pub mod Audited
 pub mod Work
 pub mod Answer
 pub mod Causes

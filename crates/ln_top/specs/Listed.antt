@@ -14,18 +14,19 @@ use Rattle.ln_verify.specs.Line.{Written}
 use Rattle.ln_verify.specs.Verified.{IsValidFor}
 use Rattle.ln_top.specs.declared.status.End.TheVariants.{Done}
 use Rattle.ln_top.specs.declared.words.Command.TheVariants as command
-use Rattle.ln_top.specs.Perturbed.{IsSignOn, NotZeroWithoutParams}
+use Rattle.ln_top.specs.Perturbed.{FilterDecides, IsSignOn, NotZeroWithoutParams}
 use Rattle.ln_top.specs.Said.{line, put_both, whole}
 use Rattle.ln_top.specs.Steps.{Given, WhereGiven}
 use Rattle.ln_top.specs.Verify.{VerifySaid}
 
 -- on this row the machine of the part has a verdict, so no operation leaves its certified width; whatever verdict it has, its sign is
--- the perturbed sign of the predicate. Without params it isn't 0
+-- the perturbed sign of the predicate. Without params it isn't 0. Where the filter decides, no operation is done in 128 bits
 pub record GivesPerturbedSign (p : PredOf) (part : Part) (row : Row) : Type 0 where
   pub verdict : Verdict
   pub answers : IsVerdict part row verdict
   pub perturbed : (v : Verdict) → IsVerdict part row v → IsSignOn p row v.sign
   pub never_zero : (v : Verdict) → IsVerdict part row v → NotZeroWithoutParams p v.sign
+  pub narrow : FilterDecides p row → (v : Verdict) → IsVerdict part row v → v.wide ≡ 0
 
 -- the machine's part over the predicate's sites and variables, of what the listing writes for it, gives so on each row in its declared
 -- ranges

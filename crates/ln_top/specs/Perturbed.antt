@@ -9,8 +9,9 @@ use Rattle.ln_tree.specs.Table.{PredOf}
 use Rattle.ln_bound.specs.Value.{values}
 use Rattle.ln_order.specs.Rows.{RowSign}
 use Rattle.ln_order.specs.Sites.{row_sites}
-use Rattle.ln_due.specs.Due.{sign_number}
+use Rattle.ln_due.specs.Due.{Decided, sign_number}
 use Rattle.ln_compile.specs.Accepted.{root_of}
+use Rattle.ln_compile.specs.Filtered.{Does}
 
 -- it is the sign of the first coefficient that isn't 0, in this order of infinitesimals by the row's own indices
 abbrev pub IsSignIn : Rank → PredOf → Row → Sign → Type 0
@@ -24,3 +25,7 @@ IsSignOn p row sign =
 -- a predicate without params has no row with the sign 0
 abbrev pub NotZeroWithoutParams : PredOf → Sign → Type 0
 NotZeroWithoutParams p sign = All (λ i. i.site ≢ None) p.vars → sign ≢ Zero
+
+-- the predicate has a filter, which decides the row
+abbrev pub FilterDecides : PredOf → Row → Type 0
+FilterDecides p row = Does p row Decided

@@ -21,8 +21,8 @@ pub record Form : Type 0 where
   pub most : ℕ
   pub files : ℕ
 
--- `check FILE`, `list FILE`, `emit FILE`, `verify FILE LISTING`, `run FILE NAME ROWS`, `graded FILE NAME ROWS`, `gen FILE
--- NAME SEED COUNT`, `product FILE NAME NAME.. ROWS`
+-- `check FILE`, `list FILE`, `emit FILE`, `verify FILE LISTING`, `run FILE NAME ROWS`, `graded FILE NAME ROWS`, `edges FILE NAME
+-- POINTS`, `explain FILE NAME ROWS`, `audit FILE NAME ROWS TRACE`, `gen FILE NAME SEED COUNT`, `product FILE NAME NAME.. ROWS`
 abbrev pub form : Command → Form
 form Check = record { least = 0; most = 0; files = 0 }
 form command.List = record { least = 0; most = 0; files = 0 }
@@ -31,6 +31,9 @@ form command.Verify = record { least = 0; most = 0; files = 1 }
 form Run = record { least = 1; most = 1; files = 1 }
 form command.Graded = record { least = 1; most = 1; files = 1 }
 form command.Product = record { least = 2; most = 8; files = 1 }
+form command.Edges = record { least = 1; most = 1; files = 1 }
+form command.Explain = record { least = 1; most = 1; files = 1 }
+form command.Audit = record { least = 1; most = 1; files = 2 }
 form (Gen seed count) = record { least = 1; most = 1; files = 0 }
 
 -- the command that a first word names; that of `gen` has numbers of its own
@@ -43,6 +46,9 @@ named_command word =
     else if bytes_eq word (codes "emit") then Some command.Emit
     else if bytes_eq word (codes "verify") then Some command.Verify
     else if bytes_eq word (codes "graded") then Some command.Graded
+    else if bytes_eq word (codes "edges") then Some command.Edges
+    else if bytes_eq word (codes "explain") then Some command.Explain
+    else if bytes_eq word (codes "audit") then Some command.Audit
     else None
 
 -- a plan has as many names and files as its command takes

@@ -7,7 +7,7 @@ use Rattle.ln_top.specs.declared.status.End.{End}
 use Rattle.ln_top.specs.declared.status.End.TheVariants as end
 use Rattle.ln_top.specs.declared.stop.Place.{Place}
 use Rattle.ln_top.specs.declared.stop.Why.{Why}
-use Rattle.ln_top.specs.declared.stop.Why.TheVariants.{Usage, TooLong, Refused, Stages, NoPredicate, Header, Shape, Many}
+use Rattle.ln_top.specs.declared.stop.Why.TheVariants.{Usage, TooLong, Refused, Stages, NoPredicate, Header, Shape, Many, Point}
 use Rattle.ln_top.specs.declared.stop.Stop.{Stop}
 use Rattle.ln_top.specs.declared.stop.Stop.TheVariants.{Tell, Memory}
 use Rattle.ln_top.specs.Said.{Said, error_line}
@@ -20,6 +20,10 @@ placed_text word place = codes "error " ++ word ++ codes " " ++ decimal place.li
 abbrev pub refusal_text : Refusal → Place → List ℕ
 refusal_text r place = placed_text (word_of r) place
 
+-- `error point N`
+abbrev pub point_text : ℕ → List ℕ
+point_text n = codes "error point " ++ decimal n
+
 -- how a command ends that stops so
 abbrev pub why_end : Why → End
 why_end Usage = end.Usage
@@ -30,6 +34,7 @@ why_end NoPredicate = end.NoPredicate
 why_end Header = end.Rows
 why_end Shape = end.Shape
 why_end Many = end.Many
+why_end (Point n) = end.Rows
 
 -- and its line, without its end
 abbrev pub why_text : Why → List ℕ
@@ -41,6 +46,7 @@ why_text NoPredicate = codes "error predicate"
 why_text Header = codes "error header"
 why_text Shape = codes "error shape"
 why_text Many = codes "error many"
+why_text (Point n) = point_text n
 
 -- what is said of a stop
 abbrev pub said_of : Why → Said

@@ -5,7 +5,7 @@ use Rattle.ln_top.specs.declared.stop.Why.{Why}
 use Rattle.ln_top.specs.declared.stop.Why.TheVariants.{Shape, Stages}
 use Rattle.ln_top.specs.declared.words.Command.{Command}
 use Rattle.ln_top.specs.declared.words.Command.TheVariants as command
-use Rattle.ln_top.specs.Alike.{are_alike}
+use Rattle.ln_top.specs.Alike.{are_alike, is_one_of_three}
 use Rattle.ln_top.specs.Graded.{FirstHasFew}
 use Rattle.ln_top.specs.Source.{place_at}
 
@@ -13,6 +13,7 @@ use Rattle.ln_top.specs.Source.{place_at}
 abbrev pub Asks : Command → List PredOf → Type 0
 Asks command.Product preds = are_alike preds ≡ true
 Asks command.Graded preds = FirstHasFew preds
+Asks command.Edges preds = is_one_of_three preds ≡ true
 Asks c preds = Unit {0}
 
 -- how it stops where they don't suit it; a place in the source is told by the source's bytes

@@ -17,6 +17,9 @@ use Rattle.ln_top.specs.Emit.{EmitSaid, EmitEnds}
 use Rattle.ln_top.specs.Verify.{VerifySaid, VerifyEnds}
 use Rattle.ln_top.specs.Run.{RunSaid, RunPart, RunEnds}
 use Rattle.ln_top.specs.Product.{ProductSaid, ProductPart}
+use Rattle.ln_top.specs.Edges.{EdgesSaid, EdgesEnds}
+use Rattle.ln_top.specs.Audit.{AuditEnds, AuditSaid}
+use Rattle.ln_top.specs.Explain.{ExplainPart, ExplainSaid}
 use Rattle.ln_top.specs.Gen.{GenSaid, GenEnds}
 
 abbrev pub WorkOwes : Command → List State → Given → Said → Type 0
@@ -27,6 +30,9 @@ WorkOwes command.Verify = λ boxes. VerifySaid
 WorkOwes command.Run = RunSaid BySmallest
 WorkOwes command.Product = λ boxes. ProductSaid
 WorkOwes command.Graded = λ boxes. RunSaid ByDegree []
+WorkOwes command.Edges = λ boxes. EdgesSaid
+WorkOwes command.Explain = λ boxes. ExplainSaid
+WorkOwes command.Audit = λ boxes. AuditSaid
 WorkOwes (command.Gen seed count) = GenSaid seed count
 
 abbrev pub WorkPart : Command → List State → Given → List ℕ → List ℕ → Type 0
@@ -37,6 +43,9 @@ WorkPart command.Verify = λ boxes g. NoPart
 WorkPart command.Run = RunPart BySmallest
 WorkPart command.Product = λ boxes. ProductPart
 WorkPart command.Graded = λ boxes. RunPart ByDegree []
+WorkPart command.Edges = λ boxes g. NoPart
+WorkPart command.Explain = λ boxes. ExplainPart
+WorkPart command.Audit = λ boxes g. NoPart
 WorkPart (command.Gen seed count) = λ boxes g. NoPart
 
 abbrev pub WorkEnds : Command → Given → End → Type 0
@@ -47,6 +56,9 @@ WorkEnds command.Verify g = VerifyEnds g
 WorkEnds command.Run g = RunEnds g
 WorkEnds command.Product g = RunEnds g
 WorkEnds command.Graded g = RunEnds g
+WorkEnds command.Edges g = EdgesEnds g
+WorkEnds command.Explain g = RunEnds g
+WorkEnds command.Audit g = AuditEnds g
 WorkEnds (command.Gen seed count) g = GenEnds g
 
 -- an end that works have; any other comes with its line alone
@@ -65,6 +77,9 @@ IsOneValued command.Verify = Unit {0}
 IsOneValued command.Run = Unit {0}
 IsOneValued command.Product = Unit {0}
 IsOneValued command.Graded = Unit {0}
+IsOneValued command.Edges = Unit {0}
+IsOneValued command.Explain = Unit {0}
+IsOneValued command.Audit = Unit {0}
 IsOneValued (command.Gen seed count) = Unit {0}
 
 -- where these words are a command, it is one of those

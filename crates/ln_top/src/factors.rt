@@ -147,8 +147,8 @@ fn places(
     Ok(which)
 }
 
-// Returns predicate number `i`.
-fn pred_at(c: &Checked, i: usize) -> &Pred
+/// Returns predicate number `i`.
+pub(crate) fn pred_at(c: &Checked, i: usize) -> &Pred
     requires { i < length c.now.table.preds }
     ensures { slice_get c.now.table.preds i ≡ Some result.now }
 {

@@ -14,8 +14,12 @@
 //! the contract of every level name no command.
 #![tactic(auto)]
 
+mod audit;
 mod check;
+mod edges;
 mod emit;
+pub mod exit;
+mod explain;
 pub mod factors;
 mod gather;
 pub mod gen_row;
@@ -40,6 +44,7 @@ mod verify;
 mod watching;
 pub mod words;
 
+pub use exit::{exit_code, has_watchers};
 pub use status::Status;
 pub use top::lnc;
 pub use words::{Command, check_words};

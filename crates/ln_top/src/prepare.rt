@@ -18,7 +18,7 @@ use crate::factors::Factors;
 use crate::graded::{few_first, graded_objection};
 use crate::source::compiled;
 use crate::stop::{Stop, Why};
-use crate::suits::alike;
+use crate::suits::{alike, one_of_three};
 use crate::target::Target;
 use crate::words::{Command, Plan};
 use ln_base::{Files, NoMemory, ReadStop, read_whole};
@@ -115,8 +115,11 @@ fn suits(alloc: Global, command: Command, c: &Checked, numbers: &[usize]) -> Res
         | Command::List
         | Command::Emit
         | Command::Verify
+        | Command::Explain
+        | Command::Audit
         | Command::Gen(..) => Ok(true),
         Command::Product => Ok(alike(c.table().preds.as_slice(), numbers)),
+        Command::Edges => Ok(one_of_three(c.table().preds.as_slice(), numbers)),
         Command::Graded => few_first(alloc, c, numbers),
     }
 }
@@ -135,6 +138,9 @@ fn objection(command: Command, bytes: &[u8], c: &Checked, numbers: &[usize]) -> 
         | Command::Emit
         | Command::Verify
         | Command::Product
+        | Command::Edges
+        | Command::Explain
+        | Command::Audit
         | Command::Gen(..) => Why::Shape,
         Command::Graded => graded_objection(bytes, c, numbers),
     }

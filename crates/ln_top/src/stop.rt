@@ -1,7 +1,7 @@
 //! Why a command stops before its work, and the puts of whole texts.
 ghost use Rattle.std.specs.Prelude.{◌≡◌, ◌≢◌, ◌++◌, IfOk};
 ghost use Rattle.ln_top.specs.Said.{count, line};
-ghost use Rattle.ln_top.specs.Stop.{placed_text, why_end};
+ghost use Rattle.ln_top.specs.Stop.{placed_text, point_text, why_end};
 ghost use Rattle.ln_top.specs.Carried.{PutsText, Says, stop_line, stop_result};
 
 use crate::put::add_number;
@@ -36,6 +36,8 @@ pub enum Why {
     Shape,
     /// There are too many records.
     Many,
+    /// The record of this number, from 1, is the first that is no point.
+    Point(u32),
 }
 
 /// Why a command stops.
@@ -63,6 +65,7 @@ impl Why {
             Why::Header => End::Rows,
             Why::Shape => End::Shape,
             Why::Many => End::Many,
+            Why::Point(_) => End::Rows,
         }
     }
 }
@@ -84,6 +87,15 @@ fn placed_line(alloc: Global, word: &str, place: Place) -> Result<Vec<u8>, NoMem
 {
     let mut text = Vec::new(alloc);
     add_placed(&mut text, word, place)?;
+    Ok(text)
+}
+
+fn point_line(alloc: Global, n: u32) -> Result<Vec<u8>, NoMemory>
+    ensures { IfOk result (λ v. v.items ≡ line (point_text n)) }
+{
+    let mut text = Vec::new(alloc);
+    add_number(&mut text, b"error point ", u64::from(n))?;
+    text.push(b'\n')?;
     Ok(text)
 }
 
@@ -130,7 +142,7 @@ fn say_placed<C: Console>(
     }
 }
 
-/// Puts the line of a stop on Err. Only one with a place takes memory.
+/// Puts the line of a stop on Err. Only one with a place or a number takes memory.
 pub fn say<C: Console>(alloc: Global, con: &mut C, stop: Stop) -> Result<End, Early>
     ensures { Says stop
         (count (C.faults con.old) (C.faults con.new)) result (C.shown con.old) (C.shown con.new) }
@@ -144,6 +156,10 @@ pub fn say<C: Console>(alloc: Global, con: &mut C, stop: Stop) -> Result<End, Ea
         Stop::Tell(Why::Header) => put_line(con, stop, b"error header\n"),
         Stop::Tell(Why::Shape) => put_line(con, stop, b"error shape\n"),
         Stop::Tell(Why::Many) => put_line(con, stop, b"error many\n"),
+        Stop::Tell(Why::Point(n)) => match point_line(alloc, n) {
+            Ok(text) => put_line(con, stop, &text),
+            Err(_) => Err(Early::Memory),
+        },
         Stop::Tell(Why::Refused(r, place)) => say_placed(alloc, con, stop, r.word(), place),
         Stop::Tell(Why::Stages(place)) => say_placed(alloc, con, stop, "stages", place),
     }

@@ -2,7 +2,7 @@
 ghost use Rattle.std.specs.Prelude.{◌≡◌, ◌<◌, All, List, length, map, slice_get, Some};
 ghost use Rattle.ln_tree.specs.declared.pred.Pred.{Pred as pred};
 ghost use Rattle.ln_tree.specs.Table.{PredOf, arg_of, pred_of};
-ghost use Rattle.ln_top.specs.Alike.{are_alike, is_three, one_type, same_arg, same_args, type_of};
+ghost use Rattle.ln_top.specs.Alike.{are_alike, is_one_of_three, is_three, one_type, same_arg, same_args, type_of};
 ghost use Rattle.ln_top.specs.Ready.{AreNumbered};
 
 use ln_tree::{Arg, Pred};
@@ -63,8 +63,8 @@ pub fn alike(preds: &[Pred], numbers: &[usize]) -> bool
     true
 }
 
-// Returns the number of a site's type, from 0; none for a param.
-fn type_of(a: &Arg) -> Option<u8>
+/// Returns the number of a site's type, from 0; none for a param.
+pub(crate) fn type_of(a: &Arg) -> Option<u8>
     ensures { result ≡ type_of (arg_of a.now) }
 {
     match a {
@@ -84,11 +84,22 @@ fn one_type(a: Option<u8>, b: Option<u8>, c: Option<u8>) -> bool
 }
 
 /// Returns whether the arguments of a predicate are exactly three sites of one type. Allocates nothing.
-pub fn three_of_one(p: &Pred) -> bool
+fn three_of_one(p: &Pred) -> bool
     ensures { result ≡ is_three (map arg_of p.now.args) }
 {
     match p.args.as_slice() {
         [a, b, c] => one_type(type_of(a), type_of(b), type_of(c)),
+        _ => false,
+    }
+}
+
+/// Is there exactly one predicate with these numbers, and are its arguments exactly three sites of one type?
+pub fn one_of_three(preds: &[Pred], numbers: &[usize]) -> bool
+    requires { All (λ i. i < length preds.now) numbers.now }
+    ensures { (ps : List PredOf) → AreNumbered (map pred_of preds.now) numbers.now ps → result ≡ is_one_of_three ps }
+{
+    match numbers {
+        [i] => three_of_one(&preds[*i]),
         _ => false,
     }
 }

@@ -109,6 +109,13 @@ impl<'a> Target<'a> {
         self.table
     }
 
+    /// Returns the program.
+    pub fn program(&self) -> &Program
+        ensures { result.now ≡ self.now.program }
+    {
+        &self.program
+    }
+
     /// Takes the first record, if there is one: is it the names of the columns?
     pub fn take_header(&self, rows: &mut Rows<'_>) -> Result<bool, NoMemory>
         ensures { IfOk result (λ right. HeaderIs self.now.names rows.old rows.new right) }

@@ -2,10 +2,13 @@
 ghost use Rattle.std.specs.Prelude.{◌≡◌, ◌≢◌, map, string_bytes, IfSome, Err};
 ghost use Rattle.ln_base.specs.Outside.{Rose};
 ghost use Rattle.ln_top.specs.Answer.{Answer, IsMissing, Part, PlanOwes, PlanPart, PlanLacks};
+ghost use Rattle.ln_top.specs.Audited.{AgreedTracesTellSigns};
 ghost use Rattle.ln_top.specs.Call.{Keeps, call};
 ghost use Rattle.ln_top.specs.Carried.{CarriesOut};
 ghost use Rattle.ln_top.specs.Causes.{IsSettled};
+ghost use Rattle.ln_top.specs.Edged.{EdgesAreListed};
 ghost use Rattle.ln_top.specs.Emitted.{CallsArePerturbed};
+ghost use Rattle.ln_top.specs.Explained.{TracesExplain};
 ghost use Rattle.ln_top.specs.Headline.{GradedSignsArePerturbed, SignsArePerturbed};
 ghost use Rattle.ln_top.specs.Listed.{ListingGivesSigns};
 ghost use Rattle.ln_top.specs.Plan.{HasForm, with_bytes};
@@ -21,7 +24,7 @@ use crate::prepare::{Ready, prepare};
 use crate::status::{Early, End, Status, status_of};
 use crate::stop::{Stop, Why, say};
 use crate::words::{Command, Plan, plan_of};
-use crate::{check, emit, generate, graded, list, product, run, verify};
+use crate::{audit, check, edges, emit, explain, generate, graded, list, product, run, verify};
 use ln_base::{Console, Files};
 use ln_watch::Watch;
 use std::alloc::Global;
@@ -47,6 +50,9 @@ fn work<C: Console>(
         Command::Verify => verify::work(alloc, con, ready),
         Command::Run => run::work(alloc, con, ready, watchers),
         Command::Graded => graded::work(alloc, con, ready),
+        Command::Edges => edges::work(alloc, con, ready),
+        Command::Explain => explain::work(alloc, con, ready),
+        Command::Audit => audit::work(alloc, con, ready),
         Command::Gen(seed, rows) => { generate::work(alloc, con, ready, seed, rows, watchers) }
         Command::Product => product::work(alloc, con, ready),
     }
@@ -144,6 +150,17 @@ pub fn lnc<F: Files, C: Console>(
     // leaves its certified width, and its sign is the perturbed sign.
     ensures listed { IsSettled result → IfSome (F.told files.old) (λ shelf. ListingGivesSigns (map string_bytes words.now) shelf
         (C.shown con.old) (C.shown con.new)) }
+    // And the edges: where `edges` came to its end, what stands on Out is exactly one line for each ordered pair of points that is an edge,
+    // in order of the first record and then of the second: every other point is on the plus side of the two by the perturbed sign.
+    ensures edged { IsSettled result → IfSome (F.told files.old) (λ shelf. EdgesAreListed (map string_bytes words.now) shelf
+        (C.shown con.old) (C.shown con.new)) }
+    // And the trace: where `explain` came to its end, what stands on Out is the text of a trace whose lines tell for each row in range the
+    // coefficients of its stages in order, up to and with the first that isn't 0, and the perturbed sign.
+    ensures explained { IsSettled result → IfSome (F.told files.old) (λ shelf. TracesExplain (map string_bytes words.now) shelf
+        (C.shown con.old) (C.shown con.new)) }
+    // And any trace: where `audit` came to done, what the trace says of each record is right: none is said of one that is no row, and of a
+    // row its perturbed sign.
+    ensures audited { IfSome (F.told files.old) (λ shelf. AgreedTracesTellSigns (map string_bytes words.now) shelf result) }
     // And any listing: where `verify` came to done, the listing has a part for each predicate, and on each row in its declared ranges
     // the machine of the part has a verdict, so no operation leaves its certified width; its sign is the perturbed sign.
     ensures trusted { IfSome (F.told files.old) (λ shelf. ValidTellsSigns (map string_bytes words.now) shelf result) }

@@ -21,6 +21,12 @@ pub enum Command {
     Verify,
     /// `graded FILE NAME ROWS`: the same as `run` by total degree first.
     Graded,
+    /// `edges FILE NAME POINTS`: the ordered pairs of points that have every other point on the plus side of a predicate of three sites.
+    Edges,
+    /// `explain FILE NAME ROWS`: a trace of the stages of each row, up to the one that decides.
+    Explain,
+    /// `audit FILE NAME ROWS TRACE`: is a trace agreed by the predicate's polynomial and the records?
+    Audit,
     /// `gen FILE NAME SEED COUNT`: so many rows are made of a seed, and what watchers say of the signs of a predicate on them.
     Gen(u64, u64),
     /// `product FILE NAME NAME.. ROWS`: the signs of the product of two to eight predicates on the records of a rows file.
@@ -58,7 +64,8 @@ fn form(command: Command) -> Counts
     let (least, most, files) = match command {
         Command::Check | Command::List | Command::Emit => (0, 0, 0),
         Command::Verify => (0, 0, 1),
-        Command::Run | Command::Graded => (1, 1, 1),
+        Command::Run | Command::Graded | Command::Edges | Command::Explain => (1, 1, 1),
+        Command::Audit => (1, 1, 2),
         Command::Gen(..) => (1, 1, 0),
         Command::Product => (2, 8, 1),
     };
@@ -75,7 +82,10 @@ fn or_named(word: &str, name: &str, command: Command, other: Option<Command>) ->
 fn named_command(word: &str) -> Option<Command>
     ensures { result ≡ named_command word.now }
 {
-    let graded = or_named(word, "graded", Command::Graded, None);
+    let audit = or_named(word, "audit", Command::Audit, None);
+    let explain = or_named(word, "explain", Command::Explain, audit);
+    let edges = or_named(word, "edges", Command::Edges, explain);
+    let graded = or_named(word, "graded", Command::Graded, edges);
     let verify = or_named(word, "verify", Command::Verify, graded);
     let emit = or_named(word, "emit", Command::Emit, verify);
     let list = or_named(word, "list", Command::List, emit);

@@ -4,27 +4,19 @@
 
 use ln_base::NoMemory;
 use ln_disk::{DiskFiles, StdConsole, words_of};
-use ln_top::{Status, lnc};
-use ln_watch::{DeciderWatch, FirstWatch, SignWatch, Watch};
+use ln_top::{Status, exit_code, has_watchers, lnc};
+use ln_watch::{Watch, Watcher};
 use std::process::ExitCode;
 
-fn is_gen(words: &[String]) -> bool {
-    match words {
-        [first, ..] => first.as_str() == "gen",
-        [] => false,
-    }
-}
-
-// The words, the disk and the ports are those of this program. For `gen` the watchers of signs, of deciders and of the first three
-// perturbed rows look on.
+// The words, the disk and the ports are those of this program.
 fn carry_out(rt: &HostRuntime) -> Result<Status, NoMemory> {
     let alloc = rt.alloc();
     let words = words_of(rt)?;
     let mut watchers: Vec<Box<dyn Watch>> = Vec::new(alloc);
-    if is_gen(words.as_slice()) {
-        watchers.push(Box::new(alloc, SignWatch::new())?)?;
-        watchers.push(Box::new(alloc, DeciderWatch::new())?)?;
-        watchers.push(Box::new(alloc, FirstWatch::new(3))?)?;
+    if has_watchers(words.as_slice()) {
+        for watcher in Watcher::those_of_gen() {
+            watchers.push(Box::new(alloc, watcher)?)?;
+        }
     }
     let mut files = DiskFiles::new(rt);
     let mut con = StdConsole::new(rt.stdout(), rt.stderr());
@@ -32,9 +24,5 @@ fn carry_out(rt: &HostRuntime) -> Result<Status, NoMemory> {
 }
 
 fn main(rt: HostRuntime) -> ExitCode {
-    let status = match carry_out(&rt) {
-        Ok(status) => status,
-        Err(_) => Status::Memory,
-    };
-    ExitCode::from(status.code())
+    ExitCode::from(exit_code(carry_out(&rt)))
 }

@@ -9,7 +9,9 @@ use Rattle.ln_base.specs.declared.sign.Sign.TheVariants.{Minus, Zero, Plus}
 use Rattle.ln_tree.specs.declared.pred.Pred.{Pred}
 use Rattle.ln_tree.specs.declared.table.Table.{Table}
 use Rattle.ln_tree.specs.Row.{InRange, Row}
-use Rattle.ln_tree.specs.Table.{PredOf, pred_of}
+use Rattle.ln_tree.specs.Table.{CoordOf, PredOf, SiteOf, TableOf, pred_of, table_of}
+use Rattle.ln_parse.specs.ReadsBack.{Every}
+use Rattle.ln_parse.proofs.Wholes.WholeParts.{PredParts, table_parts}
 use Rattle.ln_code.specs.Kept.{ArePrograms, IsProgram}
 use Rattle.ln_code.specs.Part.{Part}
 use Rattle.ln_due.specs.Due.{sign_number}
@@ -19,6 +21,7 @@ use Rattle.ln_compile.proofs.Listing.FilteredLemmas.{programs_answer}
 use Rattle.ln_csyn.specs.Tree.{Fun}
 use Rattle.ln_csyn.specs.Meaning.{CCall, Signed}
 use Rattle.ln_cemit.specs.Names.{call_name}
+use Rattle.ln_cemit.specs.Whole.{part_name}
 use Rattle.ln_cemit.specs.Emitted.{AllSay, AreKept, BeginsFile, CallSays, IsEmitted, number_of}
 use Rattle.ln_top.specs.declared.status.End.{End}
 use Rattle.ln_top.specs.declared.status.End.TheVariants.{Done}
@@ -33,6 +36,21 @@ use Rattle.ln_top.specs.Ready.{StandsFor}
 use Rattle.ln_top.specs.Emit.{AllAreDue, BeginsCOfFirst, CallIsDue, IsCOf, EmitSaid, emitted, EmitEnds, done}
 use Rattle.ln_top.proofs.Steps.Carry.{text_carried}
 
+-- the shape of each predicate has the predicate's name
+abbrev pub AreNamed : List PredOf → Type 0
+AreNamed [] = Unit {0}
+AreNamed (p ∷ ps) = (p.shape_name ≡ p.name) × AreNamed ps
+
+-- so it is in a table
+named : (sites : List SiteOf) (params : List CoordOf) (ps : List PredOf) → Every (PredParts sites params) ps → AreNamed ps
+named sites params [] e = tt
+named sites params (p ∷ ps) e = (e.0.shape_name, named sites params ps e.1)
+
+names_there : (t : Table) → AreNamed (map pred_of t.preds)
+names_there t =
+    let u : TableOf = table_of t.sites t.params t.preds in
+    named u.sites u.params u.preds (table_parts u t.whole).preds
+
 -- a sign is one number
 same_number : (s : Sign) → number_of s ≡ sign_number s
 same_number Minus = refl
@@ -41,15 +59,15 @@ same_number Plus = refl
 
 -- the call on a row gives what the row is owed
 call_due : (file : List Fun) (p : PredOf) (part : Part) (row : Row) → IsProgram part → IsProgramOf p part
-    → InRange p.sites p.vars row → CallSays file part row → CallIsDue file p row
-call_due file p part row k o range s =
+    → p.shape_name ≡ p.name → InRange p.sites p.vars row → CallSays file part row → CallIsDue file p row
+call_due file p part row k o n range s =
     record {
       verdict = s.verdict;
       due = programs_answer p part row s.verdict k o range s.machine;
       counts = s.counts;
       called =
           subst (λ (x : List ℕ). CCall file (call_name x) row.index row.values ≡ Some
-          (Signed (sign_number s.verdict.sign) s.counts)) o.name
+          (Signed (sign_number s.verdict.sign) s.counts)) (o.name ∙ n)
           (s.called ∙ ap (λ z. Some (Signed z s.counts)) (same_number s.verdict.sign));
       calls = s.calls;
       narrow = s.narrow;
@@ -60,18 +78,37 @@ row_there : (p : PredOf) (part : Part) (row : Row) → IsProgramOf p part → In
 row_there p part row o range = rw (o.sites, o.vars) range
 
 -- so for all predicates
-all_due : (file : List Fun) (ps : List PredOf) (parts : List Part) → AreProgramsOf ps parts → AreKept parts
+all_due : (file : List Fun) (ps : List PredOf) (parts : List Part) → AreProgramsOf ps parts → AreNamed ps → AreKept parts
     → AllSay file parts → AllAreDue file ps
-all_due file [] [] a k s = tt
-all_due file [] (c ∷ cs) a k s = absurd a
-all_due file (p ∷ ps) [] a k s = absurd a
-all_due file (p ∷ ps) (c ∷ cs) a k s =
-    (λ row range. call_due file p c row k.0 a.0 range (s.0 row (row_there p c row a.0 range)), all_due file ps cs a.1 k.1 s.1)
+all_due file [] [] a n k s = tt
+all_due file [] (c ∷ cs) a n k s = absurd a
+all_due file (p ∷ ps) [] a n k s = absurd a
+all_due file (p ∷ ps) (c ∷ cs) a n k s =
+    (λ row range. call_due file p c row k.0 a.0 n.0 range (s.0 row (row_there p c row a.0 range)), all_due file ps cs a.1 n.1 k.1 s.1)
+
+-- programs have the names of their predicates
+names_of : (ps : List PredOf) (parts : List Part) → AreProgramsOf ps parts → AreNamed ps
+    → map part_name parts ≡ map (λ (p : PredOf). p.name) ps
+names_of [] [] a n = refl
+names_of [] (c ∷ cs) a n = absurd a
+names_of (p ∷ ps) [] a n = absurd a
+names_of (p ∷ ps) (c ∷ cs) a n =
+    let here : part_name c ≡ p.name = a.0.name ∙ n.0 in
+    let rest = names_of ps cs a.1 n.1 in
+    λ i. here i ∷ rest i
 
 -- what is emitted of programs is C for their predicates
-c_of : (ps : List PredOf) (parts : List Part) (text : List ℕ) → AreProgramsOf ps parts → AreKept parts
+c_of : (ps : List PredOf) (parts : List Part) (text : List ℕ) → AreProgramsOf ps parts → AreNamed ps → AreKept parts
     → IsEmitted parts text → IsCOf ps text
-c_of ps parts text a k e = record { file = e.file; text = e.text; due = all_due e.file ps parts a k e.says }
+c_of ps parts text a n k e = record {
+  file = e.file;
+  text = e.text;
+  due = all_due e.file ps parts a n k e.says;
+  programs = parts;
+  are_programs = a;
+  names = names_of ps parts a n;
+  heads = e.heads;
+}
 
 -- ---- the C, program by program
 small_more : (cs : List Part) (c : Part) → All (λ (p : Part). length p.blocks ≤ 65536) cs → length c.blocks ≤ 65536 → All (λ (p : Part). length p.blocks ≤ 65536) (cs ++ c ∷ [])
@@ -102,7 +139,7 @@ pub all : (t : Table) (i : ℕ) (text : List ℕ) → length t.preds ≤ i → (
 all t i text h ends f =
     let e : take i (map pred_of t.preds) ≡ map pred_of t.preds = take_all i (map pred_of t.preds) (omega (arith, length-map t.preds pred_of)) in
     let a : AreProgramsOf (map pred_of t.preds) f.programs = subst (λ ps. AreProgramsOf ps f.programs) e f.are_programs in
-    c_of (map pred_of t.preds) f.programs text a f.begins.kept (ends f.programs (programs-of-table t f.programs a f.small) f.begins)
+    c_of (map pred_of t.preds) f.programs text a (names_there t) f.begins.kept (ends f.programs (programs-of-table t f.programs a f.small) f.begins)
 
 -- the C was put as a whole text
 pub carried : (r : Ready) (g : Given) (text : List ℕ) (puts : Count) (result : Result End Early) (was now : Option Shown)

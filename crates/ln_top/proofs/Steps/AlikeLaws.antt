@@ -7,7 +7,7 @@ use Rattle.std.proofs.lemmas.List.{drop_all}
 use Rattle.ln_tree.specs.declared.items.Arg.{Arg}
 use Rattle.ln_tree.specs.declared.pred.Pred.{Pred}
 use Rattle.ln_tree.specs.Table.{PredOf, arg_of, pred_of}
-use Rattle.ln_top.specs.Alike.{is_three, like_first, same_arg, same_args}
+use Rattle.ln_top.specs.Alike.{is_one_of_three, is_three, like_first, same_arg, same_args}
 use Rattle.ln_top.specs.Ready.{AreNumbered}
 use Rattle.ln_top.proofs.Steps.Chain.{some_same}
 use Rattle.ln_top.proofs.Steps.FindLaws.{there_at, within_at, same_at}
@@ -90,3 +90,15 @@ not_three (x ∷ []) h = refl
 not_three (x ∷ y ∷ []) h = refl
 not_three (x ∷ y ∷ z ∷ []) h = absurd (h refl)
 not_three (x ∷ y ∷ z ∷ w ∷ rest) h = refl
+
+-- one number: its predicate is tested
+pub one_tested : (preds : List Pred) (numbers : List ℕ) (ps : List PredOf) (p : Pred) (r : Bool) → length numbers ≡ 1
+    → AreNumbered (map pred_of preds) numbers ps → p ≡ slice_index_or preds (slice_index_or numbers 0 0) p
+    → r ≡ is_three (map arg_of p.args) → r ≡ is_one_of_three ps
+one_tested preds [] ps p r l h e t = absurd (omega (arith, l))
+one_tested preds (i ∷ []) [] p r l h e t = absurd h
+one_tested preds (i ∷ []) (q ∷ []) p r l h e t =
+    let there : slice_get preds i ≡ Some p = slice_get_read preds (length preds) i p refl (within_at preds i q h.0) e in
+    t ∙ ap (λ (x : PredOf). is_three x.args) (sym (same_at preds i p q there h.0))
+one_tested preds (i ∷ []) (q ∷ w ∷ rest) p r l h e t = absurd h.1
+one_tested preds (i ∷ j ∷ rest) ps p r l h e t = absurd (omega (arith, l))

@@ -19,7 +19,8 @@ coords_like : (n : Name) (cs : List Coord) → map (coord_column n) cs ≡ map (
 coords_like n [] = refl
 coords_like n (c ∷ cs) = ap (λ xs. coord_column n c ∷ xs) (coords_like n cs)
 
-site_like : (n : Name) (o : Option Site) → site_columns n o ≡ site_names (name_bytes n) (option_map site_of o)
+-- the columns of a site are those of what its type stands for
+pub site_like : (n : Name) (o : Option Site) → site_columns n o ≡ site_names (name_bytes n) (option_map site_of o)
 site_like n None = refl
 site_like n (Some t) = ap (λ xs. name_bytes n ∷ xs) (coords_like n t.coords)
 

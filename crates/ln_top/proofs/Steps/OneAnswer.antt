@@ -1,5 +1,5 @@
 -- Words and told files are owed one answer.
-use Rattle.std.proofs.Common.{◌≡◌, ℕ, Bool, true, false, cond, find, bytes_eq, List, [], ◌∷◌, ◌++◌, map, Option, Some, None}
+use Rattle.std.proofs.Common.{◌≡◌, ℕ, ◌+◌, Bool, true, false, cond, find, bytes_eq, List, [], ◌∷◌, ◌++◌, map, Option, Some, None}
 use Rattle.std.proofs.Common.{option_map, refl, ap, sym}
 use Rattle.std.proofs.Common.{◌∙◌, subst}
 use Rattle.std.proofs.lemmas.Option.{none-some, same_Some}
@@ -13,8 +13,11 @@ use Rattle.ln_parse.specs.ReadsBack.{Every}
 use Rattle.ln_parse.proofs.Wholes.WholeParts.{PredParts, table_parts}
 use Rattle.ln_rows.specs.Left.{Records}
 use Rattle.ln_compile.specs.Accepted.{AreSound}
+use Rattle.ln_trace.proofs.OneTelling.{explains-one}
+use Rattle.ln_trace.specs.Text.{first_line, text_of_lines}
 use Rattle.ln_top.specs.declared.words.Command.{Command}
 use Rattle.ln_top.specs.declared.words.Command.TheVariants as command
+use Rattle.ln_top.specs.declared.status.End.{End}
 use Rattle.ln_top.specs.declared.status.End.TheVariants.{Done}
 use Rattle.ln_top.specs.Said.{Said, whole}
 use Rattle.ln_top.specs.Stop.{said_of}
@@ -28,6 +31,8 @@ use Rattle.ln_top.specs.Line.{is_row}
 use Rattle.ln_top.specs.Run as run
 use Rattle.ln_top.specs.Run.{RunStep, RunSaid, end_of}
 use Rattle.ln_top.specs.Alike.{are_alike}
+use Rattle.ln_top.specs.Explain as explain
+use Rattle.ln_top.specs.Explain.{ExplainSaid, ExplainStep, subject_of}
 use Rattle.ln_top.specs.Product as product
 use Rattle.ln_top.specs.Product.{ProductSaid, ProductStep}
 use Rattle.ln_top.specs.Suits.{Asks}
@@ -42,6 +47,9 @@ use Rattle.ln_top.proofs.Gathering.OneLine.{one_line, one_counts, says_alike}
 use Rattle.ln_top.proofs.Gathering.OneProduct.{one_product}
 use Rattle.ln_top.proofs.Commands.FactorsLaws.{IsOver, alike_over}
 use Rattle.ln_top.proofs.Commands.RunLaws.{same_pred, same_names, same_records, tail_same, wrong_right}
+use Rattle.ln_top.proofs.Commands.EdgesLaws as edges_laws
+use Rattle.ln_top.proofs.Commands.ExplainLaws.{rows_differ}
+use Rattle.ln_top.proofs.Commands.AuditLaws as audit_laws
 use Rattle.ln_top.proofs.Commands.GenLaws as gen_laws
 use Rattle.ln_top.proofs.Commands.VerifyLaws as verify_laws
 use Rattle.ln_top.proofs.Steps.TopLaws.{some_plan, stops_gives, same_why, same_given}
@@ -222,6 +230,34 @@ product_one g i v a b (product.ran p names rs o h x) (product.ran r others ss ou
     (same_pred g p r names others (names ∷ rs) (others ∷ ss) h k) (same_names g p r names others (names ∷ rs) (others ∷ ss) h k)
     (tail_same (same_records g p r names others (names ∷ rs) (others ∷ ss) h k)) x y
 
+-- `explain` puts one text
+explain_step : (q : Pred) (s : ℕ) (fields : List (List ℕ)) (o e out err : List ℕ) (y z : ℕ) → ExplainStep (pred_of q) s fields o e y
+    → ExplainStep (pred_of q) s fields out err z → SameLines o e out err y z
+explain_step q s fields o e out err y z a b = record {
+  outs = a.text_is ∙ ap text_of_lines (explains-one (subject_of (pred_of q)) (s + 1) fields (rows_differ q) a.lines b.lines a.explains b.explains)
+      ∙ sym b.text_is;
+  errs = a.none ∙ sym b.none;
+  lefts = a.counted ∙ sym b.counted;
+}
+
+explain_one : (g : Given) → IsGrounded g → (a b : Said) → ExplainSaid g a → ExplainSaid g b → a ≡ b
+explain_one g i a b (explain.header p names rs h x) (explain.header q others ss k y) = refl
+explain_one g i a b (explain.header p names rs h x) (explain.ran q others ss out n k y) = wrong_right g p q names others rs ss h x k
+explain_one g i a b (explain.ran p names rs out n h x) (explain.header q others ss k y) = wrong_right g q p others names ss rs k y h
+explain_one g i a b (explain.ran p names rs o m h x) (explain.ran r others ss out n k y) =
+    let q = in_memory g r k.others i k.pred in
+    let l : rs ≡ ss = tail_same (same_records g p r names others (names ∷ rs) (others ∷ ss) h k) in
+    let f : p ≡ pred_of q.0 = same_pred g p r names others (names ∷ rs) (others ∷ ss) h k ∙ sym q.1 in
+    let x1 = subst (λ (t : PredOf). Lines (ExplainStep t) 0 rs o [] m) f x in
+    let x2 = subst (λ (zs : Records). Lines (ExplainStep (pred_of q.0)) 0 zs o [] m) l x1 in
+    let y1 = subst (λ (t : PredOf). Lines (ExplainStep t) 0 ss out [] n) (sym q.1) y in
+    let same = one_lines (ExplainStep (pred_of q.0)) (explain_step q.0) 0 ss o [] out [] m n x2 y1 in
+    let ends : end_of (all_good (is_row p) rs) ≡ end_of (all_good (is_row r) ss) =
+    ap (λ (zs : Records). end_of (all_good (is_row p) zs)) l
+    ∙ ap (λ (t : PredOf). end_of (all_good (is_row t) ss)) (same_pred g p r names others (names ∷ rs) (others ∷ ss) h k) in
+    ap (λ (t : End). record { end = t; out = first_line ++ o; err = [] }) ends
+    ∙ ap (λ (t : List ℕ). record { end = end_of (all_good (is_row r) ss); out = first_line ++ t; err = [] }) same.outs
+
 -- the works of which the bytes are one: a line a command
 work_one : (c : Command) (boxes : List State) (g : Given) → IsGrounded g → Asks c g.preds → IsOneValued c → (a b : Said)
     → WorkOwes c boxes g a → WorkOwes c boxes g b → a ≡ b
@@ -232,6 +268,9 @@ work_one command.Verify boxes g h k v a b x y = verify_laws.one_said g a b x y
 work_one command.Run boxes g h k v a b x y = run_one BySmallest boxes g h a b x y
 work_one command.Graded boxes g h k v a b x y = run_one ByDegree [] g h a b x y
 work_one command.Product boxes g h k v a b x y = product_one g h k a b x y
+work_one command.Edges boxes g h k v a b x y = edges_laws.one_said g a b x y
+work_one command.Explain boxes g h k v a b x y = explain_one g h a b x y
+work_one command.Audit boxes g h k v a b x y = audit_laws.one_said g a b x y
 work_one (command.Gen seed count) boxes g h k v a b x y = gen_one seed count boxes g h a b x y
 
 plan_one : (plan : Plan) (shelf : Shelf) (boxes : List State) → IsOneValued plan.command → (a b : Said)

@@ -41,6 +41,9 @@ use Rattle.ln_top.proofs.Commands.EmitLaws as emit_laws
 use Rattle.ln_top.proofs.Commands.VerifyLaws as verify_laws
 use Rattle.ln_top.proofs.Commands.RunLaws as run_laws
 use Rattle.ln_top.proofs.Commands.ProductLaws as product_laws
+use Rattle.ln_top.proofs.Commands.EdgesLaws as edges_laws
+use Rattle.ln_top.proofs.Commands.ExplainLaws as explain_laws
+use Rattle.ln_top.proofs.Commands.AuditLaws as audit_laws
 use Rattle.ln_top.proofs.Commands.GenLaws as gen_laws
 
 -- the work of a plan is carried out, or a stop of its steps was said
@@ -87,6 +90,9 @@ lawful command.Verify = verify_laws.lawful
 lawful command.Run = run_laws.lawful
 lawful command.Product = product_laws.lawful
 lawful command.Graded = run_laws.lawful_graded
+lawful command.Edges = edges_laws.lawful
+lawful command.Explain = explain_laws.lawful
+lawful command.Audit = audit_laws.lawful
 lawful (command.Gen seed count) = gen_laws.lawful seed count
 
 abbrev IsStopsAny : {A : Type 0} → Outcome A → Type 0
@@ -464,6 +470,9 @@ no_objection command.Run bytes preds i = usage_other i tt
 no_objection command.Product bytes preds i = usage_other i tt
 no_objection command.Graded bytes [] i = usage_other i tt
 no_objection command.Graded bytes (p ∷ ps) i = usage_other i tt
+no_objection command.Edges bytes preds i = usage_other i tt
+no_objection command.Explain bytes preds i = usage_other i tt
+no_objection command.Audit bytes preds i = usage_other i tt
 no_objection (command.Gen seed count) bytes preds i = usage_other i tt
 
 usage_cause : (words : List (List ℕ)) (told : Option Shelf) (e : End) → e ≡ end.Usage → Ends words told e → plan_of words ≡ None

@@ -1,12 +1,12 @@
 -- The plan of words, whatever the commands are.
-use Rattle.std.proofs.Common.{◌≡◌, ℕ, ◌+◌, ◌-◌, ◌^◌, ◌<◌, ◌≤◌, min, nat_le, true, List, length, map}
-use Rattle.std.proofs.Common.{take, drop, refl, ap, sym, ◌∙◌, arith, Some, length-drop}
+use Rattle.std.proofs.Common.{◌≡◌, ℕ, ◌+◌, ◌-◌, ◌^◌, ◌<◌, ◌≤◌, min, nat_le, true, List, [], ◌∷◌, length, map}
+use Rattle.std.proofs.Common.{take, drop, refl, ap, sym, ◌∙◌, arith, Some, None, length-drop}
 use Rattle.std.proofs.Math.Seq.{take-length}
 use Rattle.std.proofs.lemmas.Bool.{le-leb}
 use Rattle.std.proofs.lemmas.List.{length-map, take-map, drop-map}
 use Rattle.ln_top.specs.declared.words.Command.{Command}
 use Rattle.ln_base.specs.Decimal.{is_digits, decimal_value}
-use Rattle.ln_top.specs.Plan.{Plan, form, plan_for, number_of}
+use Rattle.ln_top.specs.Plan.{Plan, form, plan_for, plan_of, number_of}
 use Rattle.ln_base.proofs.DecimalLemmas.{value_within}
 
 -- the further files are what is left
@@ -39,3 +39,9 @@ number_fits ds n h l e = (number_is ds n h l e).1
 pub number_there : (ds : List ℕ) (n : ℕ) → is_digits ds ≡ true → length ds ≤ 18
     → n ≡ min (decimal_value ds) (2 ^ 128 - 1) → Some n ≡ number_of ds
 number_there ds n h l e = rw (h, le-leb (length ds) 18 l) (ap Some (number_is ds n h l e).0)
+
+-- fewer than two words are no command
+pub plan_short : {A : Type 0} (f : A → List ℕ) (xs : List A) → length xs < 2 → None ≡ plan_of (map f xs)
+plan_short f [] h = refl
+plan_short f (x ∷ []) h = refl
+plan_short f (x ∷ y ∷ xs) h = absurd (omega (arith, h))

@@ -10,12 +10,13 @@ use Rattle.ln_tree.specs.declared.pred.Pred.{Pred}
 use Rattle.ln_tree.specs.Row.{InRange, Row}
 use Rattle.ln_tree.specs.Table.{PredOf, TableOf, pred_of}
 use Rattle.ln_parse.specs.Says.{PredsSay}
-use Rattle.ln_due.specs.Due.{sign_number}
+use Rattle.ln_code.specs.declared.verdict.Verdict.{Verdict}
+use Rattle.ln_code.specs.declared.verdict.By.TheVariants.{Filter}
+use Rattle.ln_due.specs.Due.{Filtering, NoFilter, Decided, Undecided, Due}
 use Rattle.ln_due.proofs.Verdicts.UniqueLemmas.{due-sign}
 use Rattle.ln_compile.specs.Accepted.{AreSound, IsSound, root_of}
+use Rattle.ln_compile.specs.Filtered.{Does}
 use Rattle.ln_csyn.specs.Tree.{Fun}
-use Rattle.ln_csyn.specs.Meaning.{CCall, Signed}
-use Rattle.ln_cemit.specs.Names.{call_name}
 use Rattle.ln_top.specs.declared.status.Status.{Status}
 use Rattle.ln_top.specs.Said.{Said, put_both}
 use Rattle.ln_top.specs.Plan.{Plan}
@@ -27,15 +28,12 @@ use Rattle.ln_top.specs.Causes.{Answered}
 use Rattle.ln_top.specs.Emit as e
 use Rattle.ln_top.specs.Emit.{AllAreDue, CallIsDue, EmitSaid}
 use Rattle.ln_top.specs.Emitted.{CallsPerturbedSign, CallPerturbedSigns, PutC, CallsArePerturbed}
+use Rattle.ln_top.specs.Perturbed.{FilterDecides}
+use Rattle.ln_top.proofs.Commands.EmitLaws.{AreNamed}
 use Rattle.ln_top.proofs.Steps.Chain.{value_or}
 use Rattle.ln_top.proofs.Theorem.HeadlineLaws.{never_zero}
 use Rattle.ln_top.proofs.Steps.OneAnswer.{IsGrounded, accepted_of, grounded}
 use Rattle.ln_top.proofs.Steps.TopLaws.{work_of_words}
-
--- the shape of each predicate has the predicate's name
-abbrev pub AreNamed : List PredOf → Type 0
-AreNamed [] = Unit {0}
-AreNamed (p ∷ ps) = (p.shape_name ≡ p.name) × AreNamed ps
 
 said_named : (bytes : List ℕ) (ts : List Token) (before : List Item) (t : TableOf) (is : List Item) (ps : List PredOf)
     → PredsSay bytes ts before t is ps → AreNamed ps
@@ -54,39 +52,45 @@ names_given plan shelf g (step.goes bytes r (step.goes table c (step.goes preds 
     subst (λ (k : Given). AreNamed k.table.preds) (sym (ap (value_or g) h))
     (said_named bytes text.tokens [] table text.items table.preds text.says.preds_are)
 
+-- where the filter decides, the verdict that a row is owed is the filter's
+pub by_filter : (p : PredOf) (row : Row) (f : Filtering) (v : Verdict) → Does p row f → Due BySmallest f p.vars (root_of p) row v
+    → FilterDecides p row → v.by ≡ Filter
+by_filter p row NoFilter v d o h = absurd (d h.has)
+by_filter p row Decided v d o h = o.by
+by_filter p row Undecided v d o h = absurd (d.1 h)
+
 -- the call on a row means the perturbed sign
-call_signed : (file : List Fun) (p : Pred) (row : Row) → IsSound (pred_of p)
-    → (let q : PredOf = pred_of p in q.shape_name ≡ q.name) → InRange p.shape.sites p.shape.vars row
+call_signed : (file : List Fun) (p : Pred) (row : Row) → IsSound (pred_of p) → InRange p.shape.sites p.shape.vars row
     → CallIsDue file (pred_of p) row → CallsPerturbedSign file (pred_of p) row
-call_signed file p row sound named range d =
+call_signed file p row sound range d =
     let sign = due-sign BySmallest p.shape.vars (root_of (pred_of p)) row d.due.filtering d.verdict d.due.due in
     record {
       sign = d.verdict.sign;
       counts = d.counts;
-      called =
-          subst (λ (x : List ℕ). CCall file (call_name x) row.index row.values ≡ Some
-          (Signed (sign_number d.verdict.sign) d.counts)) named d.called;
+      called = d.called;
       perturbed = sign;
       never_zero = λ all. never_zero p row range sound all d.verdict.sign sign;
+      narrow = λ h. d.narrow (by_filter (pred_of p) row d.due.filtering d.verdict d.due.does d.due.due h);
     }
 
-all_signed : (file : List Fun) (ps : List Pred) → AreSound (map pred_of ps) → AreNamed (map pred_of ps)
-    → AllAreDue file (map pred_of ps) → CallPerturbedSigns file (map pred_of ps)
-all_signed file [] s n d = tt
-all_signed file (p ∷ ps) s n d = (λ row range. call_signed file p row s.0 n.0 range (d.0 row range), all_signed file ps s.1 n.1 d.1)
+all_signed : (file : List Fun) (ps : List Pred) → AreSound (map pred_of ps) → AllAreDue file (map pred_of ps)
+    → CallPerturbedSigns file (map pred_of ps)
+all_signed file [] s d = tt
+all_signed file (p ∷ ps) s d = (λ row range. call_signed file p row s.0 range (d.0 row range), all_signed file ps s.1 d.1)
 
 -- what is owed to a source's predicates
-put_c : (g : Given) (a : Said) (was now : Option Shown) → IsGrounded g → AreNamed g.table.preds → EmitSaid g a
+put_c : (g : Given) (a : Said) (was now : Option Shown) → IsGrounded g → EmitSaid g a
     → now ≡ put_both a.out a.err was → PutC g.table.preds was now
-put_c g a was now i n (e.emitted text c) q =
+put_c g a was now i (e.emitted text c) q =
     let preds : map pred_of i.table.preds ≡ g.table.preds = ap (λ (t : TableOf). t.preds) i.is in
     record {
       bytes = text;
       file = c.file;
       text = c.text;
+      functions = record { programs = c.programs; names = c.names; heads = c.heads };
       signs =
           subst (CallPerturbedSigns c.file) preds (all_signed c.file i.table.preds (subst AreSound (sym preds) i.sound)
-          (subst AreNamed (sym preds) n) (subst (AllAreDue c.file) (sym preds) c.due));
+          (subst (AllAreDue c.file) (sym preds) c.due));
       shown = q;
     }
 
@@ -96,4 +100,4 @@ pub emitted : (words : List (List ℕ)) (told : Option Shelf) (boxes : List Stat
 emitted words None boxes result was now h = tt
 emitted words (Some shelf) boxes result was now h = λ plan g f r x.
     let owed : EmitSaid g h.said = subst (λ c. WorkOwes c boxes g h.said) r (work_of_words words shelf boxes plan g h.said f x h.owed) in
-    put_c g h.said was now (grounded plan shelf g x) (names_given plan shelf g x) owed h.shown
+    put_c g h.said was now (grounded plan shelf g x) owed h.shown

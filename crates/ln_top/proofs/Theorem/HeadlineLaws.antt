@@ -16,19 +16,14 @@ use Rattle.ln_algebra.specs.Coefficient.{normal_coefficient}
 use Rattle.ln_algebra.specs.Earlier.{Sites}
 use Rattle.ln_algebra.specs.Sign as algebra
 use Rattle.ln_algebra.specs.Sign.{perturbed}
-use Rattle.ln_algebra.specs.Sizes.{two}
 use Rattle.ln_algebra.specs.Tree.{InputsBelow, Tree}
 use Rattle.ln_tree.specs.declared.pred.Pred.{Pred}
 use Rattle.ln_tree.specs.declared.shape.VarInfo.{VarInfo}
-use Rattle.ln_tree.specs.Formula.{formula, tree}
 use Rattle.ln_tree.specs.Row.{InRange, Row}
 use Rattle.ln_tree.specs.Table.{PredOf, pred_of}
 use Rattle.ln_bound.specs.Value.{values}
 use Rattle.ln_order.specs.Rows.{RowFirst, RowSign}
 use Rattle.ln_order.specs.Sites.{row_sites, site_of}
-use Rattle.ln_poly.specs.Expansion.{closed_lets}
-use Rattle.ln_poly.proofs.Expansions.Lets.{root-light}
-use Rattle.ln_poly.proofs.Loads.Sizing.{pred-expands}
 use Rattle.ln_rows.specs.Left.{Records}
 use Rattle.ln_watch.specs.Panel.{State, last_lines}
 use Rattle.ln_rows.specs.Record.{read_row}
@@ -59,6 +54,7 @@ use Rattle.ln_top.proofs.Gathering.Feeds.{HaveNoFeed, said_no_feed, columns_no_f
 use Rattle.ln_top.proofs.Steps.OneAnswer.{AreFound, IsGrounded, grounded, in_memory}
 use Rattle.ln_top.proofs.Commands.RunLaws.{same_pred, same_names, same_records, tail_same, wrong_right}
 use Rattle.ln_top.proofs.Steps.TopLaws.{work_of_words}
+use Rattle.ln_top.proofs.Theorem.Lightness.{light_of}
 use Rattle.ln_top.proofs.Gathering.WatchingLaws.{none_told, none_left}
 
 -- ---- without params no row has the sign 0
@@ -88,9 +84,7 @@ module _ (rank : Rank) (p : Pred) (row : Row) where
   never_zero_in range sound all s d q = by_sign d
     where
       inputs : InputsBelow (length p.shape.vars) root
-      inputs =
-          (root-light (length p.shape.vars) two (closed_lets p.shape.vars (map formula p.lets)) (tree p.shape.vars (formula p.root))
-          (pred-expands p.args p.shape.vars p.lets (length p.let_names) p.root p.kept sound.light).1).inputs
+      inputs = (light_of p sound).inputs
 
       none_first : ((b : List ℕ) → RowFirst rank p.shape.vars root row b → ⊥) → (m : List ℕ)
           → length m ≡ length p.shape.vars
@@ -170,7 +164,7 @@ found_sound name [] p s f = absurd (none-some p f)
 found_sound name (x ∷ ps) p s f =
     sound_if (λ q. bytes_eq q.name name) p x ps (bytes_eq x.name name) refl s.0 (found_sound name ps p s.1) f
 
-head_sound : (g : Given) (p : PredOf) (others : List PredOf) → IsGrounded g → g.preds ≡ p ∷ others → IsSound p
+pub head_sound : (g : Given) (p : PredOf) (others : List PredOf) → IsGrounded g → g.preds ≡ p ∷ others → IsSound p
 head_sound g p others h e = let found = subst (AreFound g.table.preds) e h.found in found_sound found.0.0 g.table.preds p h.sound found.0.1
 
 -- lines of a predicate in memory have the perturbed signs

@@ -29,7 +29,8 @@ use Rattle.ln_top.specs.Listing as l
 use Rattle.ln_top.specs.Listing.{AnswersDue, IsListingOf, ListSaid, PartIsDue, PartsAreDue}
 use Rattle.ln_top.specs.Listed.{GivesPerturbedSign, ListingGivesSigns, PartGivesSigns, PartsGiveSigns, PutListing}
 use Rattle.ln_top.specs.Verify as v
-use Rattle.ln_top.proofs.Theorem.EmittedLaws.{AreNamed, names_given}
+use Rattle.ln_top.proofs.Commands.EmitLaws.{AreNamed}
+use Rattle.ln_top.proofs.Theorem.EmittedLaws.{by_filter, names_given}
 use Rattle.ln_top.proofs.Theorem.HeadlineLaws.{never_zero}
 use Rattle.ln_top.proofs.Steps.OneAnswer.{IsGrounded, grounded}
 use Rattle.ln_top.proofs.Steps.TopLaws.{work_of_words}
@@ -42,6 +43,7 @@ row_signed p part row sound range d = record {
   answers = d.answers;
   perturbed = sign;
   never_zero = λ x m all. never_zero p row range sound all x.sign (sign x m);
+  narrow = λ h x m. let o = d.due x m in d.narrow x m (by_filter (pred_of p) row o.filtering x o.does o.due h);
 }
   where
     sign : (x : Verdict) → IsVerdict part row x

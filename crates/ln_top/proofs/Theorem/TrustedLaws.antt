@@ -40,7 +40,7 @@ told_signs g i h =
     }
 
 -- done is settled
-settled_done : (result : Status) → result ≡ Done → IsSettled result
+pub settled_done : (result : Status) → result ≡ Done → IsSettled result
 settled_done result h = record {
   read = λ e. no_read (sym h ∙ e);
   write = λ e. no_write (sym h ∙ e);

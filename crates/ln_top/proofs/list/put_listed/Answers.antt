@@ -7,4 +7,4 @@ pub returns : goal.returns
 returns c =
     IfOk-weaker c.put_program.result _ _ (λ x h. more c.args.source.now.table.preds c.args.i c.in_ok-program.program
     c.args.text.now.items c.put_program.new.out.items c.requires c.in_ok-program.ensures.program c.kept-kept.ensures.kept
-    c.listable-listable.ensures.listable h) c.put_program.ensures
+    c.listable-listable.ensures.listable h) c.put_program.ensures.ok

@@ -2,6 +2,9 @@ use Rattle.ln_top.specs.Said.{count}
 use Rattle.ln_top.proofs.Steps.TopLaws.{exact, keeps}
 use Rattle.ln_top.proofs.Theorem.HeadlineLaws.{graded_headline, headline}
 use Rattle.ln_top.proofs.Theorem.ProductsLaws.{products}
+use Rattle.ln_top.proofs.Theorem.EdgedLaws.{edged}
+use Rattle.ln_top.proofs.Theorem.ExplainedLaws.{explained}
+use Rattle.ln_top.proofs.Theorem.AuditedLaws.{audited}
 use Rattle.ln_top.proofs.Theorem.EmittedLaws.{emitted}
 use Rattle.ln_top.proofs.Theorem.ListedLaws.{listed}
 use Rattle.ln_top.proofs.Theorem.TrustedLaws.{trusted}
@@ -36,6 +39,21 @@ pub returns-clause-listed : goal.returns-clause-listed
 returns-clause-listed g c s =
     listed _ (g.F.Files.told c.args.files.now) _ _ _ _
     (exact _ (g.F.Files.told c.args.files.now) _ _ _ _ _ _ _ c.status_of.ensures c.carry_out.ensures.done s)
+
+pub returns-clause-edged : goal.returns-clause-edged
+returns-clause-edged g c s =
+    edged _ (g.F.Files.told c.args.files.now) _ _ _ _
+    (exact _ (g.F.Files.told c.args.files.now) _ _ _ _ _ _ _ c.status_of.ensures c.carry_out.ensures.done s)
+
+pub returns-clause-explained : goal.returns-clause-explained
+returns-clause-explained g c s =
+    explained _ (g.F.Files.told c.args.files.now) _ _ _ _
+    (exact _ (g.F.Files.told c.args.files.now) _ _ _ _ _ _ _ c.status_of.ensures c.carry_out.ensures.done s)
+
+pub returns-clause-audited : goal.returns-clause-audited
+returns-clause-audited g c =
+    audited _ (g.F.Files.told c.args.files.now) _ _ _ _
+    (exact _ (g.F.Files.told c.args.files.now) _ _ _ _ _ _ _ c.status_of.ensures c.carry_out.ensures.done)
 
 pub returns-clause-trusted : goal.returns-clause-trusted
 returns-clause-trusted g c =

@@ -21,5 +21,14 @@ returns-in-Graded g c = λ given s. rw c.in-Graded.is (c.work-in-Graded.ensures 
 pub returns-in-Product : goal.returns-in-Product
 returns-in-Product g c = λ given s. rw c.in-Product.is (c.work-in-Product.ensures given s)
 
+pub returns-in-Edges : goal.returns-in-Edges
+returns-in-Edges g c = λ given s. rw c.in-Edges.is (c.work-in-Edges.ensures given s)
+
 pub returns-in-Gen : goal.returns-in-Gen
 returns-in-Gen g c = λ given s. rw c.in-Gen.is (c.work-in-Gen.ensures given s)
+
+pub returns-in-Explain : goal.returns-in-Explain
+returns-in-Explain g c = λ given s. rw c.in-Explain.is (c.work-in-Explain.ensures given s)
+
+pub returns-in-Audit : goal.returns-in-Audit
+returns-in-Audit g c = λ given s. rw c.in-Audit.is (c.work-in-Audit.ensures given s)

@@ -1,0 +1,185 @@
+-- `explain`: what it owes is carried out by lines after the first one, and where it ends.
+use Rattle.std.proofs.Common.{◌≡◌, ◌≤◌, ◌<◌, ◌^◌, ℕ, zero, suc, ◌+◌, Bool, true, false, List, [], ◌∷◌, ◌++◌, length, take, refl, ap, sym}
+use Rattle.std.proofs.Common.{◌∙◌, subst, arith, Option, Ok, Err, Result}
+use Rattle.std.proofs.lemmas.List.{append-nil}
+use Rattle.ln_base.specs.Outside.{Shown}
+use Rattle.ln_tree.specs.Row.{Row}
+use Rattle.ln_order.proofs.Signs.RowSigns.{rows-differ}
+use Rattle.ln_tree.specs.declared.pred.Pred.{Pred}
+use Rattle.ln_tree.specs.Table.{PredOf, pred_of}
+use Rattle.ln_rows.specs.Left.{Records, records_in}
+use Rattle.ln_rows.specs.Record.{read_row}
+use Rattle.ln_rows.specs.declared.record.RowStop.{RowStop}
+use Rattle.ln_rows.proofs.Fields.RangeLemmas.{row_in_range}
+use Rattle.ln_trace.specs.declared.line.TraceLine.{TraceLine}
+use Rattle.ln_trace.specs.declared.line.TraceLine.TheVariants as traced
+use Rattle.ln_trace.specs.Signs.{Explains, RowsDiffer, no_row}
+use Rattle.ln_trace.specs.Text.{first_line, text_of_lines}
+use Rattle.ln_watch.specs.Panel.{State}
+use Rattle.ln_top.specs.declared.status.End.{End}
+use Rattle.ln_top.specs.declared.status.Early.{Early}
+use Rattle.ln_top.specs.declared.status.Early.TheVariants.{Memory}
+use Rattle.ln_top.specs.declared.stop.Stop.TheVariants as stop
+use Rattle.ln_top.specs.declared.stop.Why.TheVariants.{Header}
+use Rattle.ln_top.specs.Said.{Said, Count, count}
+use Rattle.ln_top.specs.Steps.{Given}
+use Rattle.ln_top.specs.Line.{is_row}
+use Rattle.ln_top.specs.Lines as l
+use Rattle.ln_top.specs.Lines.{Lines, Ran, Takes, all_good, took, left_off}
+use Rattle.ln_top.specs.Carried as carried
+use Rattle.ln_top.specs.Carried.{CarriesOut}
+use Rattle.ln_top.specs.Work.{IsLawful}
+use Rattle.ln_top.specs.Run as run
+use Rattle.ln_top.specs.Run.{HasRecords, IsWrongHeader, RunEnds, end_of}
+use Rattle.ln_top.specs.Target.{IsGivenBy, TargetOf, pred_in}
+use Rattle.ln_top.specs.Explain as explain
+use Rattle.ln_top.specs.Explain.{ExplainPart, ExplainRest, ExplainRestPart, ExplainSaid, ExplainStep, SaysLines, subject_of}
+use Rattle.ln_top.proofs.Steps.Carry.{told_carried}
+use Rattle.ln_top.proofs.Gathering.HeadCarry.{IsHeaded}
+use Rattle.ln_top.proofs.Gathering.LinesLaws.{HasLines, both_nothing, lines_have, no_last, wrote_nothing}
+use Rattle.ln_top.proofs.Gathering.LinesCarry.{IsByLines, early_carried, end_carried}
+use Rattle.ln_top.proofs.Commands.RunLaws as run_laws
+
+-- the records of the predicate that is run
+pub records_for : (g : Given) (t : TargetOf) (rows : List ℕ) (records : Records) → IsGivenBy g t → g.texts ≡ rows ∷ []
+    → records ≡ records_in rows → HasRecords g (pred_in t) t.names records
+records_for g t rows records h text r =
+    record { others = []; pred = h.pred; columns = h.names; rows = rows; text = text; are = sym r }
+
+-- the sites of a row that is read have indices of their own
+pub rows_differ : (q : Pred) → RowsDiffer (subject_of (pred_of q))
+rows_differ q fields row read =
+    rows-differ q.shape row (row_in_range q.shape.sites q.shape.vars fields row q.shape.kept read)
+
+-- the header is wrong
+pub header_carried : (g : Given) (p : PredOf) (names : List (List ℕ)) (records : Records) (puts : Count)
+    (result : Result End Early) (was now : Option Shown) → HasRecords g p names records → IsWrongHeader names records
+    → carried.Says (stop.Tell Header) puts result was now
+    → CarriesOut (ExplainSaid g) (ExplainPart g) ⊥ ⊥ puts result was now
+header_carried g p names records puts result was now h w s =
+    told_carried (ExplainSaid g) (ExplainPart g) ⊥ ⊥ puts Header result was now (explain.header p names records h w) s
+
+-- a record was taken, or its lines were given up
+pub takes_all : (p : PredOf) (seen number : ℕ) (fields : List (List ℕ)) (right : Bool) (held grown : List ℕ) (n : ℕ)
+    (was : Option Shown) → number ≡ seen + 1 → SaysLines p number fields right held grown
+    → Takes (ExplainStep p) (is_row p) seen fields (count n n) (Ok right) held grown was was (seen + 1)
+takes_all p seen number fields right held grown n was e s =
+    took (text_of_lines s.lines) [] refl
+    (record {
+      lines = s.lines;
+      explains = subst (λ (k : ℕ). Explains (subject_of p) k fields s.lines) e s.explains;
+      text_is = refl;
+      none = refl;
+      counted = refl;
+    }) (ap Ok s.right_is) s.text_is (sym (both_nothing was))
+
+pub takes_none : (p : PredOf) (seen : ℕ) (fields : List (List ℕ)) (held grown : List ℕ) (n : ℕ) (was : Option Shown) → grown ≡ held
+    → Takes (ExplainStep p) (is_row p) seen fields (count n n) (Err Memory) held grown was was (seen + 1)
+takes_none p seen fields held grown n was e = left_off refl refl e refl
+
+-- nothing comes to Err
+silent : (p : PredOf) (s z : ℕ) (records : Records) (out err : List ℕ) → Lines (ExplainStep p) s records out err z → err ≡ []
+silent p s z [] out err (l.none _) = refl
+silent p s z (fields ∷ rest) out err (l.more {out = o2} {err = e2} _ o e m t k) =
+    ap (λ x. x ++ e2) t.none ∙ silent p m z rest o2 e2 k
+
+-- each row of the predicate has lines that explain it
+abbrev pub AreTold : PredOf → Type 0
+AreTold p = (seen : ℕ) (fields : List (List ℕ)) (row : Row) → read_row p.sites p.vars fields ≡ Ok row
+    → (lines : List TraceLine) × Explains (subject_of p) (seen + 1) fields lines
+
+module _ (t : TargetOf) (g : Given) (given : IsGivenBy g t) (told : AreTold (pred_in t)) where
+  -- each record has lines
+  has : (s : ℕ) (fields : List (List ℕ)) → (out : List ℕ) × (err : List ℕ) × (z : ℕ) × ExplainStep (pred_in t) s fields out err z
+  has s fields = by_read (read_row t.pred.shape.sites t.pred.shape.vars fields) refl
+    where
+      by_lines : (lines : List TraceLine) → Explains (subject_of (pred_in t)) (s + 1) fields lines
+          → (out : List ℕ) × (err : List ℕ) × (z : ℕ) × ExplainStep (pred_in t) s fields out err z
+      by_lines lines e = (
+        text_of_lines lines,
+        [],
+        s + 1,
+        record { lines = lines; explains = e; text_is = refl; none = refl; counted = refl },
+      )
+
+      by_read : (r : Result Row RowStop) → read_row t.pred.shape.sites t.pred.shape.vars fields ≡ r
+          → (out : List ℕ) × (err : List ℕ) × (z : ℕ) × ExplainStep (pred_in t) s fields out err z
+      by_read (Ok row) e = let d = told s fields row e in by_lines d.0 d.1
+      by_read (Err x) e = by_lines (traced.Refused (s + 1) ∷ []) (no_row x e)
+
+  -- after the header of the records stands what is owed
+  whole : (records : Records) → HasRecords g (pred_in t) t.names (t.names ∷ records) → (out err : List ℕ) (z : ℕ)
+      → Lines (ExplainStep (pred_in t)) 0 records out err z
+      → ExplainRest g (record { end = end_of (all_good (is_row (pred_in t)) records); out = out ++ []; err = err ++ [] })
+  whole records h out err z d =
+      let none : err ≡ [] = silent (pred_in t) 0 z records out err d in
+      let d1 : Lines (ExplainStep (pred_in t)) 0 records out [] z =
+      subst (λ (x : List ℕ). Lines (ExplainStep (pred_in t)) 0 records out x z) none d in
+      let end : End = end_of (all_good (is_row (pred_in t)) records) in
+      subst (λ (x : List ℕ). ExplainRest g (record { end = end; out = x; err = err ++ [] })) (sym (append-nil out))
+      (subst (λ (x : List ℕ). ExplainRest g (record { end = end; out = out; err = x })) (sym (append-nil err ∙ none))
+      (explain.ran (pred_in t) t.names records out z h d1))
+
+  -- what it owes after the first line is by lines
+  pub by_lines : (records : Records) → HasRecords g (pred_in t) t.names (t.names ∷ records)
+      → IsByLines (ExplainStep (pred_in t)) no_last no_last (end_of (all_good (is_row (pred_in t)) records)) 0 records
+      (ExplainRest g) (ExplainRestPart g)
+  by_lines records h = record { has = has; whole = whole records h; first = first }
+    where
+      first : (done left : Records) (out err : List ℕ) (z : ℕ) → records ≡ done ++ left
+          → Lines (ExplainStep (pred_in t)) 0 done out err z → ExplainRestPart g out err
+      first done left out err z e d =
+          explain.first (pred_in t) t.names done left out z
+          (subst (λ (rs : Records). HasRecords g (pred_in t) t.names (t.names ∷ rs)) e h) d refl
+
+  -- the first line stands before it
+  pub headed : (records : Records) → HasRecords g (pred_in t) t.names (t.names ∷ records)
+      → IsHeaded first_line (ExplainSaid g) (ExplainRest g) (ExplainPart g) (ExplainRestPart g)
+  headed records h =
+      let all = lines_have (ExplainStep (pred_in t)) has 0 records in record {
+        whole = λ said r. r;
+        parts = λ out err p. p;
+        alone = explain.first (pred_in t) t.names [] records [] 0 h (l.none 0) (sym (append-nil first_line));
+        said = record {
+          end = end_of (all_good (is_row (pred_in t)) records);
+          out = all.out ++ [];
+          err = all.err ++ [];
+        };
+        owed = whole records h all.out all.err all.left all.lines;
+      }
+
+  -- the lines of all records stand, or the work ended early
+  pub ends_carried : (records : Records) (right : Bool) (a b z : ℕ) (was now : Option Shown)
+      → HasRecords g (pred_in t) t.names (t.names ∷ records)
+      → Ran (ExplainStep (pred_in t)) (is_row (pred_in t)) 0 records (count a b) (Ok right) was now z
+      → CarriesOut (ExplainRest g) (ExplainRestPart g) ⊥ ⊥ (count a b) (Ok (end_of right)) was now
+  ends_carried records right a b z was now h r =
+      end_carried (ExplainStep (pred_in t)) (is_row (pred_in t)) no_last no_last end_of 0 z records (ExplainRest g) (ExplainRestPart g)
+      right a b b was now now (by_lines records h) r (wrote_nothing b now now refl)
+
+  pub stops_carried : (records : Records) (early : Early) (puts : Count) (z : ℕ) (was now : Option Shown)
+      → HasRecords g (pred_in t) t.names (t.names ∷ records)
+      → Ran (ExplainStep (pred_in t)) (is_row (pred_in t)) 0 records puts (Err early) was now z
+      → CarriesOut (ExplainRest g) (ExplainRestPart g) ⊥ ⊥ puts (Err early) was now
+  stops_carried records early puts z was now h r =
+      early_carried (ExplainStep (pred_in t)) (is_row (pred_in t)) no_last no_last
+      (end_of (all_good (is_row (pred_in t)) records)) 0 z records (ExplainRest g) (ExplainRestPart g) early puts was now
+      (by_lines records h) r
+
+-- ---- where it ends
+tells : (boxes : List State) (g : Given) (a : Said) → ExplainSaid g a → RunEnds g a.end
+tells boxes g a (explain.header p names records h x) = run.wrong p names records h x
+tells boxes g a (explain.ran p names records out seen h x) = run_laws.ends_by p names records g h
+
+pub lawful : IsLawful (λ boxes. ExplainSaid) RunEnds
+lawful = record { tells = tells; one = run_laws.lawful.one; kind = run_laws.lawful.kind }
+
+-- fewer records are left behind the first
+pub fewer : (first : List (List ℕ)) (records rest : Records) → records ≡ first ∷ rest → length records < 4294967296
+    → length rest < 4294967296
+fewer first records rest e h = omega (arith, ap length e, h)
+
+-- a record more was seen
+pub counted_on : (seen all : ℕ) (fields : List (List ℕ)) (left rest : Records) → seen + length left ≡ all → left ≡ fields ∷ rest
+    → seen + 1 + length rest ≡ all
+counted_on seen all fields left rest e h = omega (arith, e, ap length h)

@@ -1,0 +1,128 @@
+-- The trace that was put explains the records, and a judge agrees to it.
+use Rattle.std.proofs.Common.{◌≡◌, ◌<◌, ◌⊎◌, inl, inr, List, [], ◌∷◌, ◌++◌, ℕ, zero, suc, ◌+◌, map, length, get_or, Option, Some, None}
+use Rattle.std.proofs.Common.{refl, ap, sym, ◌∙◌, subst, append_assoc, arith}
+use Rattle.std.proofs.Math.IntN.{pos}
+use Rattle.std.specs.Prelude.{IfSome}
+use Rattle.ln_base.specs.Outside.{Shelf, Shown}
+use Rattle.ln_base.specs.Lines.{joined}
+use Rattle.ln_algebra.proofs.Expanded.Expansion.{length-zeros}
+use Rattle.ln_algebra.proofs.Expanded.Normal.{zero_cases}
+use Rattle.ln_algebra.proofs.Vectors.Zeros.{covers-zeros}
+use Rattle.ln_algebra.specs.Coefficient.{normal_coefficient}
+use Rattle.ln_algebra.specs.Earlier.{Earlier}
+use Rattle.ln_algebra.specs.Orders.{BySmallest}
+use Rattle.ln_algebra.specs.Stage.{IsStage}
+use Rattle.ln_algebra.specs.Tree.{InputsBelow}
+use Rattle.ln_algebra.specs.Vector.{zeros}
+use Rattle.ln_compile.specs.Accepted.{IsSound, root_of}
+use Rattle.ln_order.specs.Rows.{RowStages}
+use Rattle.ln_order.specs.Sites.{row_sites}
+use Rattle.ln_stage.proofs.Sights.Members.{none-before, zeros-at}
+use Rattle.ln_tree.specs.declared.pred.Pred.{Pred}
+use Rattle.ln_tree.specs.Row.{Row}
+use Rattle.ln_tree.specs.Table.{PredOf, pred_of}
+use Rattle.ln_rows.specs.Left.{Records}
+use Rattle.ln_trace.specs.declared.line.TraceLine.{TraceLine}
+use Rattle.ln_trace.specs.Judge.{IsAgreed}
+use Rattle.ln_trace.specs.Signs.{AreExplained, AreRight, HaveStages, RowsDiffer, signs_in}
+use Rattle.ln_trace.proofs.Agreeing.{agreed-right, explained-agreed}
+use Rattle.ln_trace.specs.Text.{first_line, text_of_line, text_of_lines}
+use Rattle.ln_watch.specs.Panel.{State}
+use Rattle.ln_top.specs.declared.status.Status.{Status}
+use Rattle.ln_top.specs.Answer.{Answer}
+use Rattle.ln_top.specs.Causes.{Answered}
+use Rattle.ln_top.specs.Explain as explain
+use Rattle.ln_top.specs.Explain.{ExplainSaid, ExplainStep, subject_of}
+use Rattle.ln_top.specs.Explained.{PutTrace, TracesExplain}
+use Rattle.ln_top.specs.Lines as l
+use Rattle.ln_top.specs.Lines.{Lines}
+use Rattle.ln_top.specs.Run.{HasRecords}
+use Rattle.ln_top.specs.Said.{Said, put_both}
+use Rattle.ln_top.specs.Steps.{Given}
+use Rattle.ln_top.specs.Work.{WorkOwes}
+use Rattle.ln_top.proofs.Commands.ExplainLaws.{rows_differ}
+use Rattle.ln_top.proofs.Commands.RunLaws.{same_names, same_pred, same_records, tail_same, wrong_right}
+use Rattle.ln_top.proofs.Steps.OneAnswer.{IsGrounded, grounded, in_memory}
+use Rattle.ln_top.proofs.Steps.TopLaws.{work_of_words}
+use Rattle.ln_top.proofs.Theorem.HeadlineLaws.{head_sound}
+use Rattle.ln_top.proofs.Theorem.Lightness.{light_of}
+
+-- the texts of lines, one after the other
+pub texts_join : (xs ys : List TraceLine) → text_of_lines (xs ++ ys) ≡ text_of_lines xs ++ text_of_lines ys
+texts_join [] ys = refl
+texts_join (x ∷ xs) ys = ap (λ t. text_of_line x ++ t) (texts_join xs ys) ∙ sym (append_assoc (text_of_line x) (text_of_lines xs) (text_of_lines ys))
+
+-- steps one after the other explain all records
+pub record Told (p : PredOf) (seen : ℕ) (records : Records) (out : List ℕ) : Type 0 where
+  pub lines : List TraceLine
+  pub are : AreExplained (subject_of p) (seen + 1) records lines
+  pub text : out ≡ text_of_lines lines
+
+pub all_told : (p : PredOf) (s z : ℕ) (records : Records) (out err : List ℕ) → Lines (ExplainStep p) s records out err z
+    → Told p s records out
+all_told p s z [] out err (l.none _) = record { lines = []; are = refl; text = refl }
+all_told p s z (fields ∷ rest) out err (l.more {out = o2} {err = e2} _ o e m t k) =
+    let k1 : Lines (ExplainStep p) (s + 1) rest o2 e2 z = subst (λ (n : ℕ). Lines (ExplainStep p) n rest o2 e2 z) t.counted k in
+    let u = all_told p (s + 1) z rest o2 e2 k1 in record {
+      lines = t.lines ++ u.lines;
+      are = (t.lines, u.lines, t.explains, u.are, refl);
+      text = ap (λ x. x ++ o2) t.text_is ∙ ap (λ x. text_of_lines t.lines ++ x) u.text ∙ sym (texts_join t.lines u.lines);
+    }
+
+-- ---- a predicate of an accepted source
+-- a row has some stage
+pub have_stages : (q : Pred) → IsSound (pred_of q) → HaveStages (subject_of (pred_of q))
+have_stages q sound row list h e = sound.nonzero (λ m l k. none m l (zero_cases (normal_coefficient (root_of (pred_of q)) m)))
+  where
+    stage : (m : List ℕ) → length m ≡ length q.shape.vars → (normal_coefficient (root_of (pred_of q)) m ≡ pos 0 → ⊥)
+        → IsStage (length q.shape.vars) (row_sites q.shape.vars row.index) (root_of (pred_of q)) (zeros (length q.shape.vars))
+    stage m l z = record {
+      over = record { size = length-zeros (length q.shape.vars); of_sites = λ v f. zeros-at (length q.shape.vars) v };
+      covered = (m, record { size = l; nonzero = z }, covers-zeros m (length q.shape.vars) l);
+      before_cut = λ b o c f. none-before BySmallest (length q.shape.vars) (row_sites q.shape.vars row.index) b f;
+    }
+
+    none : (m : List ℕ) → length m ≡ length q.shape.vars
+        → (normal_coefficient (root_of (pred_of q)) m ≡ pos 0) ⊎ (normal_coefficient (root_of (pred_of q)) m ≡ pos 0 → ⊥)
+        → normal_coefficient (root_of (pred_of q)) m ≡ pos 0
+    none m l (inl z) = z
+    none m l (inr z) = absurd (rw e at (h.all (zeros (length q.shape.vars)) (stage m l z)))
+
+-- what is put for records
+trace_of : (q : Pred) (p : PredOf) (records : Records) (out : List ℕ) (seen : ℕ) (was now : Option Shown) → pred_of q ≡ p → IsSound p
+    → Lines (ExplainStep p) 0 records out [] seen → now ≡ put_both (first_line ++ out) [] was → PutTrace p records was now
+trace_of q p records out seen was now i s x e =
+    let t = all_told p 0 seen records out [] x in
+    let differ : RowsDiffer (subject_of p) = subst (λ (r : PredOf). RowsDiffer (subject_of r)) i (rows_differ q) in
+    let some : HaveStages (subject_of p) = subst (λ (r : PredOf). HaveStages (subject_of r)) i (have_stages q (subst IsSound (sym i) s)) in
+    let below : InputsBelow (length p.vars) (root_of p) =
+    subst (λ (r : PredOf). InputsBelow (length r.vars) (root_of r)) i (light_of q (subst IsSound (sym i) s)).inputs in
+    let agreed : IsAgreed (subject_of p) records t.lines = explained-agreed (subject_of p) differ some records t.lines t.are in
+    record {
+      lines = t.lines;
+      explained = t.are;
+      agreed = agreed;
+      right = agreed-right (subject_of p) records t.lines below differ agreed;
+      shown = e ∙ ap (λ (z : List ℕ). put_both (first_line ++ z) [] was) t.text;
+    }
+
+-- what is owed to records after the right header
+put_trace : (g : Given) (p : PredOf) (names : List (List ℕ)) (records : Records) (a : Said) (was now : Option Shown) → IsGrounded g
+    → ExplainSaid g a → HasRecords g p names (names ∷ records) → now ≡ put_both a.out a.err was → PutTrace p records was now
+put_trace g p names records a was now i (explain.header q others ss h x) k e = wrong_right g q p others names ss records h x k
+put_trace g p names records a was now i (explain.ran r others ss out seen h x) k e =
+    let q = in_memory g p k.others i k.pred in
+    let x1 = subst (λ (t : PredOf). Lines (ExplainStep t) 0 ss out [] seen)
+    (same_pred g r p others names (others ∷ ss) (names ∷ records) h k) x in
+    let x2 = subst (λ (zs : Records). Lines (ExplainStep p) 0 zs out [] seen)
+    (tail_same (same_records g r p others names (others ∷ ss) (names ∷ records) h k)) x1 in
+    trace_of q.0 p records out seen was now q.1 (head_sound g p k.others i k.pred) x2 e
+
+-- what is owed explains the records
+pub explained : (words : List (List ℕ)) (told : Option Shelf) (boxes : List State) (result : Status) (was now : Option Shown)
+    → Answered (Answer words told boxes) result was now → IfSome told (λ shelf. TracesExplain words shelf was now)
+explained words None boxes result was now h = tt
+explained words (Some shelf) boxes result was now h = λ plan g f r x p names records k.
+    let owed : ExplainSaid g h.said = subst (λ c. WorkOwes c boxes g h.said) r
+    (work_of_words words shelf boxes plan g h.said f x h.owed) in
+    put_trace g p names records h.said was now (grounded plan shelf g x) owed k h.shown

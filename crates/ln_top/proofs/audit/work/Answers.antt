@@ -1,0 +1,14 @@
+use Rattle.ln_top.proofs.Commands.AuditLaws.{accepted_in, has_trace, one_name}
+use Rattle.ln_top.proofs.Theorem.Accepting.{accepted_all}
+use Rattle.ln_top.proofs.audit.work.Goals as goal
+
+pub audit_records-requires-clause-accepted : goal.audit_records-requires-clause-accepted
+audit_records-requires-clause-accepted g c =
+    accepted_in c.args.ready.now.compiled.table.preds _ _ (accepted_all _ c.requires.stands.sound) c.named.ensures
+
+pub returns : goal.returns
+returns g c = λ given s.
+    let said = rw c.table.ensures at c.audit_records.ensures in
+    said given
+    (has_trace c.args.ready.now given c.named.result.now _ _ _ s (one_name _ _ c.requires.fit) c.named.ensures (c.two_texts.ensures given s)
+    c.new-rows.ensures)

@@ -1,0 +1,16 @@
+use Rattle.std.proofs.Common.{◌≡◌, ◌+◌, length}
+use Rattle.ln_code.specs.Memory.{MadeFor}
+use Rattle.ln_top.specs.Explain.{ExplainStep}
+use Rattle.ln_top.specs.Line.{is_row}
+use Rattle.ln_top.specs.Target.{pred_in}
+use Rattle.ln_top.proofs.Gathering.LinesLaws.{Running}
+use Rattle.ln_top.proofs.explain.put_records.Given as goal
+
+abbrev pub invariant-rows : goal.invariant-rows
+invariant-rows g l =
+    Running (ExplainStep (pred_in l.target)) (is_row (pred_in l.target)) 0 l.initial.rows l.rows l.good l.text.items
+    (g.C.Console.shown l.initial.con) (g.C.Console.shown l.con) l.seen (g.C.Console.faults l.initial.con) (g.C.Console.faults l.con)
+    × MadeFor l.target.program l.s × (l.seen + length l.rows ≡ length l.initial.rows)
+
+abbrev pub decreases-rows : goal.decreases-rows
+decreases-rows g l = length l.rows

@@ -1,0 +1,29 @@
+-- What `explain` puts is the text of a trace that tells the stages of each row and its perturbed sign.
+use Rattle.std.specs.Prelude.{◌≡◌, ℕ, List, [], ◌∷◌, ◌++◌, Option}
+use Rattle.ln_base.specs.Outside.{Shelf, Shown}
+use Rattle.ln_tree.specs.Table.{PredOf}
+use Rattle.ln_rows.specs.Left.{Records}
+use Rattle.ln_trace.specs.declared.line.TraceLine.{TraceLine}
+use Rattle.ln_trace.specs.Judge.{IsAgreed}
+use Rattle.ln_trace.specs.Signs.{AreExplained, AreRight, signs_in}
+use Rattle.ln_trace.specs.Text.{first_line, text_of_lines}
+use Rattle.ln_top.specs.declared.words.Command.TheVariants as command
+use Rattle.ln_top.specs.Explain.{subject_of}
+use Rattle.ln_top.specs.Run.{HasRecords}
+use Rattle.ln_top.specs.Said.{put_both}
+use Rattle.ln_top.specs.Steps.{WhereGiven}
+
+-- what came to Out is the text of lines that explain these records, in order; a judge agrees to them, and the sign that they say of each
+-- row is its perturbed sign. Nothing came to Err
+pub record PutTrace (p : PredOf) (records : Records) (was now : Option Shown) : Type 0 where
+  pub lines : List TraceLine
+  pub explained : AreExplained (subject_of p) 1 records lines
+  pub agreed : IsAgreed (subject_of p) records lines
+  pub right : AreRight (subject_of p) records (signs_in lines)
+  pub shown : now ≡ put_both (first_line ++ text_of_lines lines) [] was
+
+-- where the words are `explain FILE NAME ROWS`, and over the told files have a predicate and records after the right header, their trace
+-- came to Out
+abbrev pub TracesExplain : List (List ℕ) → Shelf → Option Shown → Option Shown → Type 0
+TracesExplain words shelf was now = WhereGiven words shelf command.Explain (λ g. (p : PredOf) (names : List (List ℕ)) (records : Records)
+    → HasRecords g p names (names ∷ records) → PutTrace p records was now)
