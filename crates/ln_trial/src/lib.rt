@@ -15,6 +15,8 @@ mod commands;
 #[cfg(test)]
 mod compare;
 #[cfg(test)]
+mod edges;
+#[cfg(test)]
 mod emitted;
 #[cfg(test)]
 mod failing;
@@ -38,5 +40,7 @@ mod rules;
 mod spheres;
 #[cfg(test)]
 mod support;
+#[cfg(test)]
+mod traces;
 #[cfg(test)]
 mod watchers;
