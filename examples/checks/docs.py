@@ -1,0 +1,73 @@
+"""What is said of the repository in its documents, by the repository: lines of docs/ are no longer than 200 letters; each link leads to a file
+and a heading that are there; each name `ln_crate::name` is in that crate, and of the pages on code each name in code font in some crate; each
+file of definitions or lemmas that is named is there. Prints what is wrong. Usage, at the top of the repository: docs.py"""
+import re
+from pathlib import Path
+
+PAGES = [Path("README.md"), Path("CONTRIBUTING.md"), Path("CHANGELOG.md"), Path("examples/README.md"), *sorted(Path("docs").glob("*.md"))]
+
+
+def anchors(text):
+    """The names of a page's headings in links."""
+    heads = re.findall(r"^#+ (.*)$", re.sub(r"```.*?```", "", text, flags=re.S), flags=re.M)
+    return {re.sub(r"[^\w\- ]", "", head.strip().lower()).replace(" ", "-") for head in heads}
+
+
+def links(page, text):
+    for target in re.findall(r"\]\(([^)\s]+)\)", text):
+        if "://" in target:
+            continue
+        path, _, head = target.partition("#")
+        file = (page.parent / path) if path else page
+        if not file.exists():
+            yield f"no file {target}"
+        elif head and head not in anchors(file.read_text()):
+            yield f"no heading {target}"
+
+
+def sources(crate):
+    """The text of a crate's code and definitions."""
+    files = [*Path("crates", crate, "src").rglob("*.rt"), *Path("crates", crate, "specs").rglob("*.antt")]
+    return "\n".join(file.read_text() for file in files)
+
+
+def names(text, held={}):
+    for crate, path in set(re.findall(r"\b(ln_[a-z_]+)((?:::[A-Za-z_]+)+)", text)):
+        if crate not in held:
+            held[crate] = sources(crate)
+        for name in path.strip(":").split("::"):
+            if not re.search(rf"\b{name}\b", held[crate]) and not Path("crates", crate, "src", name + ".rt").exists():
+                yield f"no {name} in {crate}: {crate}{path}"
+
+
+def files(text):
+    """A file of definitions is of the crate named before it in the same brackets, or of any."""
+    for crate, path in re.findall(r"(?:\b(ln_[a-z_]+), )?\b((?:specs|proofs)/[A-Za-z/_]+\.antt)", text):
+        if re.search(r"NAME|FILE", path):
+            continue
+        if not (Path("crates", crate, path).exists() if crate else list(Path("crates").glob("*/" + path))):
+            yield f"no file {crate} {path}"
+
+
+def identifiers(text):
+    """Names in code font with a `_` or a capital inside are somewhere in the crates."""
+    for name in set(re.findall(r"`([A-Za-z]+(?:_[A-Za-z]+)+|[A-Z][a-z]+(?:[A-Z][A-Za-z]+)+)`", text)):
+        if name not in WORDS:
+            yield f"no {name} in the crates"
+
+
+WORDS = set()
+for file in [*Path("crates").rglob("*.rt"), *Path("crates").rglob("*.antt")]:
+    if "out" not in file.parts:
+        WORDS.update(re.findall(r"[A-Za-z_][A-Za-z0-9_]*", file.read_text()))
+
+for page in PAGES:
+    text = page.read_text()
+    joined = re.sub(r"\s+", " ", text)
+    wrong = [*links(page, text), *names(joined), *files(joined)]
+    if page.name in ("SEMANTICS.md", "COMPILER.md", "THEOREM.md", "MAP.md", "LISTING.md", "C.md", "DECISIONS.md"):
+        wrong += identifiers(joined)
+    if page.parent.name == "docs":
+        wrong += [f"line {n} has {len(line)} letters" for n, line in enumerate(text.splitlines(), 1) if len(line) > 200]
+    for fault in wrong:
+        print(f"{page}: {fault}")
