@@ -1,4 +1,4 @@
--- Whole numbers and sums; the coefficients of an expression, from the terms of its expansion.
+-- Integers and sums; the coefficients of an expression, from the terms of its expansion.
 pub mod Ring
 pub mod Sums
 pub mod Expansion

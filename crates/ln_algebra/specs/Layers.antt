@@ -1,6 +1,8 @@
 -- The graded list as a function on the monomials of a polynomial: a depth-first walk for each total degree in turn, with the cut.
--- Within a degree it goes from the smallest infinitesimal to the largest, takes each exponent in turn, and keeps the monomials that have at least it, as the walk without degrees does. What is left of the degree goes down with it.
--- Where no monomial that is kept can still reach what is left (`NoneReaches`), nothing is listed, so code may pass such a way by; every other way down lists something or is cut.
+-- Within a degree it goes from the smallest infinitesimal to the largest, takes each exponent in turn, and keeps the monomials that have at least
+-- it, as the walk without degrees does. The remaining degree is passed down with it.
+-- Where no monomial that is kept can still reach the remaining degree (`NoneReaches`), nothing is listed, so code may skip that branch; every
+-- other branch lists something or is cut.
 use Rattle.std.specs.Prelude.{◌≡◌, ℕ, ◌+◌, ◌<◌, false, List, [], ◌∷◌, set, slice_index}
 use Rattle.std.proofs.Common.{zero, suc}
 use Rattle.ln_algebra.specs.Earlier.{Sites}
@@ -15,12 +17,12 @@ abbrev pub degree_on : List ℕ → List ℕ → ℕ
 degree_on [] a = 0
 degree_on (v ∷ vs) a = slice_index a v + degree_on vs a
 
--- Where no variable is left: the vector p, where nothing is left of the degree either.
+-- Where no variable remains: the vector p, where nothing of the degree remains either.
 abbrev pub ending : ℕ → List (List ℕ) → List ℕ → Found
 ending zero ms p = unless_none ms (p ∷ [], all_same ms p)
 ending (suc d) ms p = ([], false)
 
--- The exponents e, e + 1, .. of v in turn, k of them, each with what go lists for it where k - 1, k - 2, .. of the degree is left.
+-- The exponents e, e + 1, .. of v in turn, k of them, each with what go lists for it where k - 1, k - 2, .. of the degree remains.
 abbrev pub steps_at : (ℕ → List (List ℕ) → List ℕ → Found) → ℕ → List (List ℕ) → List ℕ → ℕ → ℕ → Found
 steps_at go v ms p zero e = ([], false)
 steps_at go v ms p (suc k) e = unless_none (at_least v e ms) (before (go k (at_least v e ms) (set p v e)) (steps_at go v ms p k (suc e)))
@@ -50,7 +52,7 @@ LayersListTheStages =
     IsRanking n sites vs → AreMonomials n e ms → DegreesBelow limit vs ms →
     IsStageListIn (GradedEarlier sites) n sites e (layers limit 0 vs ms (zeros n)).0
 
--- Where no monomial reaches a degree in the variables that are left, the walk lists nothing and isn't cut.
+-- Where no monomial reaches a degree in the remaining variables, the walk lists nothing and isn't cut.
 abbrev pub OutOfReachIsEmpty : Type 0
 OutOfReachIsEmpty =
     (vs : List ℕ) (d : ℕ) (ms : List (List ℕ)) (p : List ℕ) → NoneReaches d vs ms → walk_at vs d ms p ≡ ([], false)

@@ -23,7 +23,7 @@ pub record IsStageBy (before : List ℕ → List ℕ → Type 0) (n : ℕ) (site
   pub covered : CoveredBy monomial a
   pub before_cut : (b : List ℕ) → IsOver n sites b → IsCutOf monomial b → before b a → ⊥
 
--- The stage list: all stages, each before the ones behind it in this order, and so each once.
+-- The stage list: all stages, each before those that follow it in this order, and so each once.
 pub record IsStageListBy (before : List ℕ → List ℕ → Type 0) (n : ℕ) (sites : Sites) (monomial : List ℕ → Type 0)
     (list : List (List ℕ)) : Type 0 where
   pub stages : (a : List ℕ) → In list a → IsStageBy before n sites monomial a

@@ -6,7 +6,7 @@ pub use Rattle.ln_algebra.specs.Vector.{same_vector, covers, minus}
 use Rattle.ln_algebra.specs.Coefficient.{normal_coefficient, product}
 use Rattle.ln_algebra.specs.Tree.{Tree}
 
--- A whole number times the monomial of these exponents.
+-- An integer times the monomial of these exponents.
 pub record Term : Type 0 where
   pub exponents : List ℕ
   pub factor : ℤ

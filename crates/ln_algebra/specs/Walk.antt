@@ -26,7 +26,7 @@ abbrev pub Member : List ℕ → ℕ → Type 0
 Member [] w = ⊥
 Member (v ∷ vs) w = (w ≡ v) ⊎ Member vs w
 
--- Each variable of the list is one of a site, and has a smaller infinitesimal than those behind it.
+-- Each variable of the list is one of a site, and has a smaller infinitesimal than those after it.
 abbrev pub IsRanked : Sites → List ℕ → Type 0
 IsRanked sites [] = Unit {0}
 IsRanked sites (v ∷ vs) = (s : ℕ) × Of sites v s × ((w : ℕ) → Member vs w → RanksBefore sites w v) × IsRanked sites vs

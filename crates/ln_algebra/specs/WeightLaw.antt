@@ -1,4 +1,4 @@
--- The laws of weights.
+-- States how weighted sums bound the values of a polynomial, and those of all its scaled derivatives together.
 use Rattle.std.specs.Prelude.{◌≡◌, ℕ, ◌+◌, ◌≤◌, true, ℤ, pos, unsigned_abs, List, [], ◌∷◌, length}
 use Rattle.ln_algebra.specs.Vector.{covered_by, covers, sum_over}
 use Rattle.ln_algebra.specs.Terms.{IsCollected, IsNormalOf, Over, Term, derived, value}

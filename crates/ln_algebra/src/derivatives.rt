@@ -1,4 +1,4 @@
-//! Laws of scaled derivatives.
+//! States the laws of scaled derivatives, whose values on a row are the perturbed coefficients.
 
 ghost use Rattle.ln_algebra.specs.Law.{DerivativesAreCoefficients, DerivativesOnRows};
 ghost use Rattle.ln_algebra.specs.Law.{DerivedCoefficients, ProductRule, ProductRuleOfValues};

@@ -26,8 +26,7 @@ pub fn first_is_unique()
     ensures sign { PerturbedSignIsUnique }
 {}
 
-/// An order of sites has at most one stage list, and each stage stands in it
-/// once.
+/// An order of sites has at most one stage list, and each stage is in it once.
 ///
 /// On it rests that counts of stages, and the place at which a row is decided,
 /// are those of any list that has the stages in order.

@@ -1,11 +1,11 @@
 //! The mathematics of the perturbed sign, and its laws.
 //!
-//! Definitions stand in `specs/`: exponent vectors, expressions, their
+//! The definitions are in `specs/`: exponent vectors, expressions, their
 //! coefficients at a perturbed point, polynomials with their scaled
 //! derivatives, the orders of infinitesimals, stages and the cut, the
 //! perturbed sign, products of signs, weights. Sources are Simulation of Simplicity
 //! (Edelsbrunner and Mücke 1990) and Yap's admissible orders (1990);
-//! `docs/SEMANTICS.md` tells it in prose.
+//! `docs/SEMANTICS.md` describes it in prose.
 //!
 //! The public contract is the laws. Each is the clause of a function with an
 //! empty body: a caller that calls it has the law as a fact. Nothing runs.

@@ -2,7 +2,7 @@
 //! by total degree first.
 //!
 //! A clause can't range over a relation, so the laws range over the two orders
-//! by name; the lemmas behind them hold for any relation that is admissible.
+//! by name; the lemmas that prove them hold for any relation that is admissible.
 
 ghost use Rattle.ln_algebra.specs.RankLaw.{BothAreAdmissible, FirstIsStageIn, FirstIsUniqueIn, FirstNonzeroStageIsFirstIn};
 ghost use Rattle.ln_algebra.specs.RankLaw.{FirstOfProduct, FirstOfProductIsSum, NoFirstOfProduct, NonzeroHasFirstIn};

@@ -1,4 +1,4 @@
-//! Laws of sizes.
+//! States how the size of an expression bounds the coefficients of its polynomial.
 
 ghost use Rattle.ln_algebra.specs.Sizes.{CoefficientsAreWithinTheRunningSize, CoefficientsAreWithinTheSize};
 ghost use Rattle.ln_algebra.specs.Sizes.{RunningSizesAreWithinSizes, SizesAreWithinWeights};
@@ -6,8 +6,7 @@ ghost use Rattle.ln_algebra.specs.Sizes.{RunningSizesAreWithinSizes, SizesAreWit
 /// The absolute coefficients of the normal polynomial are together at most
 /// the expression's running size, and so at most its size.
 ///
-/// On it rests that the coefficients of every node fit their width, which
-/// no range of a value says.
+/// On it rests that the coefficients of every node fit their width, which doesn't follow from the range of a value.
 pub fn coefficients_are_within_sizes()
     ensures running { CoefficientsAreWithinTheRunningSize }
     ensures size { CoefficientsAreWithinTheSize }

@@ -10,7 +10,7 @@ pub fn splits_are_all_sums()
     ensures { SplitsAreAllSums }
 {}
 
-/// `ways` has each list of so many vectors with a given sum exactly once.
+/// `ways` has each list of n vectors with a given sum exactly once.
 ///
 /// On it rests the law of products of any number of factors, and so the sign
 /// of a product of several predicates.

@@ -27,7 +27,7 @@ pub fn there_is_a_first()
     ensures without_params { WithoutParamsThereIsFirst }
 {}
 
-/// The depth-first walk over the exponents, with its cut, gives the stage list.
+/// The depth-first walk over the exponents, with its cut, returns the stage list.
 ///
 /// On it rest the lists of a compiled predicate, and the check of the lists of
 /// a listing.
@@ -35,8 +35,8 @@ pub fn walk_lists_the_stages()
     ensures { WalkListsTheStages }
 {}
 
-/// The walk over total degrees, layer by layer, with its cut, gives the stage list by total degree first; and where no monomial
-/// reaches a degree it lists nothing, so a way that leads nowhere may be passed by.
+/// The walk over total degrees, layer by layer, with its cut, returns the stage list by total degree first; and where no monomial
+/// reaches a degree it lists nothing, so a branch without stages may be skipped.
 ///
 /// On it rest the lists of a program by total degree.
 pub fn layers_list_the_stages()

@@ -1,4 +1,4 @@
-//! Laws of weights.
+//! States how the weight of an expression bounds the values of every stage.
 
 ghost use Rattle.ln_algebra.specs.WeightLaw.{DerivativesWeighTheWhole, EachDerivativeWeighsLess};
 ghost use Rattle.ln_algebra.specs.WeightLaw.{NormalWeighsAtMostTheTree, ValuesAreWithinWeights};

@@ -13,16 +13,14 @@ pub fn worked_coefficients()
     ensures weight { WeightOfOrientation }
 {}
 
-/// Scaled derivatives: a derivative without the scaling gives another one of
-/// the cube.
+/// Scaled derivatives: without the scaling, the derivative of the cube is another one.
 pub fn worked_derivatives()
     ensures cube { DerivativeOfCube }
     ensures orientation { DerivativeOfOrientation }
 {}
 
-/// The order: one with the first coordinate as the largest, one by the order
-/// of the arguments, and one that compares from the largest infinitesimal are
-/// each told apart.
+/// The order: one with the first coordinate as the largest, one by the order of the arguments, and one that compares from the largest
+/// infinitesimal are each distinguished from it.
 pub fn worked_orders()
     ensures last_coordinate { LastCoordinateIsLargest }
     ensures indices { IndicesDecide }

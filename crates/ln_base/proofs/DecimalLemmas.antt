@@ -1,5 +1,7 @@
 -- The value of digits, and the text of a number.
-use Rattle.std.proofs.Common.{◌≡◌, ℕ, suc, ◌+◌, ◌-◌, ◌*◌, ◌%◌, ◌^◌, ◌<◌, ◌≤◌, min, Bool, true, false, ◌&&◌, nat_lt, List, [], ◌∷◌, ◌++◌, length, get_or, take, decimal, ℤ, pos, negsuc, unsigned_abs, Some, refl, ap, sym, subst, ◌∙◌, arith, length-append, lt-ltb, pow-suc, ne_eqb, true≢false}
+use Rattle.std.proofs.Common.{◌≡◌, ℕ, suc, ◌+◌, ◌-◌, ◌*◌, ◌%◌, ◌^◌, ◌<◌, ◌≤◌, min, Bool, true, false, ◌&&◌, nat_lt, List, [], ◌∷◌, ◌++◌}
+use Rattle.std.proofs.Common.{length, get_or, take, decimal, ℤ, pos, negsuc, unsigned_abs, Some, refl, ap, sym, subst, ◌∙◌, arith}
+use Rattle.std.proofs.Common.{length-append, lt-ltb, pow-suc, ne_eqb, true≢false}
 use Rattle.std.specs.Fmt.{signed_decimal}
 use Rattle.std.specs.List.{list_all}
 use Rattle.std.specs.Char.{is_ascii_digit}
@@ -12,11 +14,11 @@ use Rattle.std.proofs.Math.Nat.{mul-le-mul_right, pow-le-pow_right}
 use Rattle.std.proofs.lemmas.Bool.Decides.{nat_tests}
 use Rattle.ln_base.specs.Decimal.{is_digits, decimal_value, natural_value, integer_value, IsPlain}
 
--- a running value that stands still at c takes one more digit
+-- a running value that stays at c takes one more digit
 pub capped_digit : (v d c : ℕ) → min (min (min v c * 10) c + d) c ≡ min (10 * v + d) c
 capped_digit v d c = grind arith
 
--- one more digit behind digits
+-- one more digit after digits
 pub value_behind : (ds : List ℕ) (d : ℕ) → decimal_value (ds ++ d ∷ []) ≡ 10 * decimal_value ds + (d - 48)
 value_behind [] d = omega arith
 value_behind (x ∷ xs) d =
@@ -24,7 +26,8 @@ value_behind (x ∷ xs) d =
     rw (long, pow-suc 10 (length xs), value_behind xs d) (omega arith)
 
 -- the value of one digit more of a list
-pub value_more : (xs : List ℕ) (i c n : ℕ) → i < length xs → n ≡ min (decimal_value (take i xs)) c → min (min (n * 10) c + (get_or xs i 0 - 48)) c ≡ min (decimal_value (take (i + 1) xs)) c
+pub value_more : (xs : List ℕ) (i c n : ℕ) → i < length xs → n ≡ min (decimal_value (take i xs)) c
+    → min (min (n * 10) c + (get_or xs i 0 - 48)) c ≡ min (decimal_value (take (i + 1) xs)) c
 value_more xs i c n h e = rw (take_more xs i 0 h, value_behind (take i xs) (get_or xs i 0), e) (capped_digit _ _ c)
 
 -- all of these digits are digits in std's word
@@ -48,7 +51,7 @@ both_true : (a b : Bool) → (a && b) ≡ true → (a ≡ true) × (b ≡ true)
 both_true true b h = (refl, h)
 both_true false b h = absurd (cc)
 
--- so many digits write a number below that power of ten
+-- n digits write a number below 10^n
 digit_most : (d : ℕ) → is_ascii_digit d ≡ true → d - 48 ≤ 9
 digit_most d h = grind (arith, nat_tests, h)
 
@@ -63,7 +66,7 @@ value_below (d ∷ ds) h =
     let k = both_true (is_ascii_digit d) (list_all is_ascii_digit ds) h in
     one_place (d - 48) (10 ^ length ds) (decimal_value ds) (10 ^ suc (length ds)) (digit_most d k.0) (value_below ds k.1) (pow-suc 10 (length ds))
 
--- at most so many digits
+-- at most n digits
 pub value_within : (ds : List ℕ) (n : ℕ) → is_digits ds ≡ true → length ds ≤ n → decimal_value ds < 10 ^ n
 value_within ds n h l =
     let k = both_true (list_all is_ascii_digit ds) (nat_lt 0 (length ds)) h in
@@ -84,7 +87,10 @@ text_of_value ds h small =
 -- a text that begins with a zero is that of zero
 by_zero : (n : ℕ) → n < 10 ^ 64 → (0 < length (decimal n)) × (get_or (decimal n) 0 0 ≡ 48 → n ≡ 0)
 by_zero = decimal_by_steps_wide (λ m ds. (0 < length ds) × (get_or ds 0 0 ≡ 48 → m ≡ 0)) (λ m l. (omega arith, λ a. omega arith))
-    (λ m ds l h. (omega (arith, length-append ds ((48 + m % 10) ∷ [])), λ a. let z = h.1 (sym (get_or-append ds ((48 + m % 10) ∷ []) 0 0 h.0) ∙ a) in omega arith))
+    (λ m ds l h. (
+      omega (arith, length-append ds ((48 + m % 10) ∷ [])),
+      λ a. let z = h.1 (sym (get_or-append ds ((48 + m % 10) ∷ []) 0 0 h.0) ∙ a) in omega arith,
+    ))
 
 pub text_is_plain : (n : ℕ) → n < 10 ^ 64 → IsPlain (decimal n)
 text_is_plain n h = (text_is_digits n h, λ a. ap (λ m. length (decimal m)) ((by_zero n h).1 a) ∙ ap length (decimal_digit 0 (omega arith)))

@@ -4,7 +4,8 @@ use Rattle.ln_base.specs.Words.{every}
 use Rattle.ln_base.specs.Runs.{run_len}
 
 -- by cases of the first byte: each byte of the run passes
-every_front_by : (p : ℕ → Bool) (b : ℕ) (bs : List ℕ) (v : Bool) → p b ≡ v → every p (take (run_len p bs) bs) ≡ true → every p (take (cond v (suc (run_len p bs)) 0) (b ∷ bs)) ≡ true
+every_front_by : (p : ℕ → Bool) (b : ℕ) (bs : List ℕ) (v : Bool) → p b ≡ v → every p (take (run_len p bs) bs) ≡ true
+    → every p (take (cond v (suc (run_len p bs)) 0) (b ∷ bs)) ≡ true
 every_front_by p b bs true e h = rw e h
 every_front_by p b bs false e h = refl
 
@@ -14,7 +15,8 @@ every_front p [] = refl
 every_front p (b ∷ bs) = every_front_by p b bs (p b) refl (every_front p bs)
 
 -- by cases of the first byte: of more bytes than the run has, one doesn't pass
-every_more_by : (p : ℕ → Bool) (b : ℕ) (bs : List ℕ) (m : ℕ) (v : Bool) → p b ≡ v → cond v (suc (run_len p bs)) 0 < suc m → (run_len p bs < m → every p (take m bs) ≡ false) → every p (b ∷ take m bs) ≡ false
+every_more_by : (p : ℕ → Bool) (b : ℕ) (bs : List ℕ) (m : ℕ) (v : Bool) → p b ≡ v → cond v (suc (run_len p bs)) 0 < suc m
+    → (run_len p bs < m → every p (take m bs) ≡ false) → every p (b ∷ take m bs) ≡ false
 every_more_by p b bs m true e l h = rw e (h (omega arith))
 every_more_by p b bs m false e l h = rw e refl
 

@@ -36,7 +36,7 @@ most_integer = 9223372036854775807
 abbrev pub is_within : ℤ → Bool
 is_within z = int_le (neg_ℤ (pos most_integer)) z && int_le z (pos most_integer)
 
--- what a field says that is this number, if any
+-- the reading of a field whose number is this, if it is a number
 abbrev pub reading_of : Option ℤ → Reading
 reading_of None = NotANumber
 reading_of (Some z) = if is_within z then Value z else Outside

@@ -1,4 +1,4 @@
--- What files and ports in memory hold, and when their calls fail.
+-- What files and streams in memory hold, and when their calls fail.
 use Rattle.std.specs.Prelude.{◌≡◌, ℕ, ◌-◌, ◌<◌, min, List, length}
 use Rattle.ln_base.specs.Outside.{Shelf, Shown, port_bytes}
 use Rattle.ln_base.specs.declared.outside.Port.{Port}
@@ -10,7 +10,7 @@ pub record FilesHeld : Type 0 where
   pub calls : ℕ
   pub faults : ℕ
 
--- two ports in memory: their bytes, the room of each, the most that one put takes, the numbers of the calls that fail, and how
+-- two streams in memory: their bytes, the room of each, the most that one `put` takes, the numbers of the calls that fail, and how
 -- many calls and faults there were
 pub record PortsHeld : Type 0 where
   pub out : List ℕ
@@ -25,15 +25,15 @@ pub record PortsHeld : Type 0 where
 abbrev pub handed : List ℕ → ℕ → ℕ → ℕ
 handed content at room = min room (length content - at)
 
--- what stands on a port
+-- the bytes that were written to a stream
 abbrev pub held : Port → PortsHeld → List ℕ
 held port ports = port_bytes port ports.out ports.err
 
--- what stands on both ports
+-- the bytes that were written to both streams
 abbrev pub shown_of : PortsHeld → Shown
 shown_of ports = record { out = ports.out; err = ports.err }
 
--- what is left of a port's room
+-- the remaining room of a stream
 abbrev pub room_left : Port → PortsHeld → ℕ
 room_left port ports = ports.room - length (held port ports)
 
@@ -41,7 +41,7 @@ room_left port ports = ports.room - length (held port ports)
 abbrev pub IsFull : Port → PortsHeld → List ℕ → Type 0
 IsFull port ports bytes = (0 < length bytes) × (room_left port ports ≡ 0)
 
--- how many of these bytes one put takes
+-- how many of these bytes one `put` takes
 abbrev pub taken : Port → PortsHeld → List ℕ → ℕ
 taken port ports bytes = min (min (length bytes) ports.most) (room_left port ports)
 

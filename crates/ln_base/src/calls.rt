@@ -12,7 +12,7 @@ pub struct Call {
 // How many calls are kept.
 const KEPT: usize = 64;
 
-// The first 64 calls. The list stands in place, so that a call takes no memory.
+// The first 64 calls. The list is kept in place, so a call allocates nothing.
 #[derive(Drop)]
 pub(crate) struct Calls {
     kept: [Call; KEPT],

@@ -1,11 +1,11 @@
-//! Decimal numbers: `specs/Decimal.antt` says which text is which number, for every reader and writer of the product.
+//! Decimal numbers: `specs/Decimal.antt` defines which text is which number, for every reader and writer of the product.
 ghost use Rattle.std.specs.Prelude.{◌≡◌, ℕ, ℤ, ◌+◌, ◌-◌, ◌*◌, ◌^◌, ◌<◌, List, true, Some, min, ◌&&◌, decimal, unsigned_abs};
 ghost use Rattle.std.specs.Fmt.{signed_decimal};
 ghost use Rattle.std.specs.List.{list_all};
 ghost use Rattle.std.specs.Char.{is_ascii_digit};
 ghost use Rattle.ln_base.specs.Decimal.{is_digits, decimal_value, integer_value, IsPlain, reading_of};
 
-/// What a field says that should be a number: an optional `-` and one or more digits.
+/// The reading of a field that should be a number: an optional `-` and one or more digits.
 #[derive(Clone, Copy)]
 pub enum Reading {
     /// It isn't of that form.
@@ -67,7 +67,7 @@ pub fn all_digits(bytes: &[u8]) -> bool
     every_digit(bytes) && !bytes.is_empty()
 }
 
-/// What a field says as a signed number of 64 bits; `-0` is 0, and leading zeros count for nothing.
+/// Reads a field as a signed number of 64 bits; `-0` is 0, and leading zeros are ignored.
 pub fn integer(field: &[u8]) -> Reading
     ensures { result ≡ reading_of (integer_value field.now) }
 {

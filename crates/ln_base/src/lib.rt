@@ -1,10 +1,10 @@
-//! What every crate of the product stands on: files and ports with their counts of faults (`outside`), in memory
-//! (`memory`), whole files and whole texts (`whole`), lists that contracts see as lists (`seq`), decimal numbers
-//! (`decimal`), places in a source (`span`, `place`), names (`word`) and signs (`sign`). Of texts of lines, as listings
-//! and traces are: the words of a line (`scan`), the numbers that words are (`numeral`), and words appended (`put`).
+//! The base of every crate: files and streams with their counts of faults (`outside`), in memory (`memory`), whole files and whole texts
+//! (`whole`), lists that contracts see as lists (`seq`), decimal numbers (`decimal`), places in a source (`span`, `place`), names (`word`) and
+//! signs (`sign`). For texts of lines, such as listings and traces: the words of a line (`scan`), the numbers that words are (`numeral`), and
+//! words appended (`put`).
 //!
-//! What the crates above use: `read_whole` answers the told bytes of a file, `put_all` appends all bytes to a port, and a
-//! refusal has its cause, a count of faults that rose or a name that isn't there.
+//! What the crates above use: `read_whole` returns the bytes that a file contains, `put_all` writes all bytes to a stream, and a refusal has its
+//! cause, a count of faults that rose or a name that isn't there.
 #![tactic(auto)]
 
 pub mod calls;

@@ -1,4 +1,4 @@
-//! Lines and columns.
+//! Finds the line and the column of a byte in a source.
 ghost use Rattle.std.specs.Prelude.{◌≡◌, ◌==◌, ◌+◌, ◌-◌, ◌<◌, ◌≤◌, ◌^◌, length, count_by};
 ghost use Rattle.ln_base.specs.Place.{line_of, column_of, behind_line_feed};
 

@@ -58,7 +58,7 @@ pub fn next_word(bytes: &[u8], at: usize) -> Option<(&[u8], usize)>
     }
 }
 
-/// Whether no word stands from the place on.
+/// Whether no word follows from the place on.
 pub fn ended(bytes: &[u8], at: usize) -> bool
     ensures { IsTrue result ↔ (words_from at bytes.now ≡ []) }
 {

@@ -1,4 +1,4 @@
-//! Lists.
+//! Defines a vector that contracts see as the list of its items.
 ghost use Rattle.std.specs.Prelude.{◌≡◌, ◌↔◌, ◌<◌, [], ◌∷◌, ◌++◌, length, slice_get, IsTrue, OnOk, OnErr, OnSome};
 ghost use Rattle.std.specs.Option.{option_copied};
 
@@ -6,7 +6,7 @@ use crate::outside::NoMemory;
 use std::alloc::Global;
 use std::marker::Model;
 
-/// A `Vec` that contracts see as the list of its items, so that a struct with a `Seq` is known by what stands in it.
+/// A `Vec` that contracts see as the list of its items, so that a struct with a `Seq` is known by its items.
 #[derive(Drop)]
 pub struct Seq<T> {
     items: Vec<T>,
@@ -24,7 +24,7 @@ impl<T> Model for Seq<T> {
 }
 
 impl<T> Seq<T> {
-    /// The empty list, which takes no memory.
+    /// The empty list, which allocates nothing.
     pub fn new(alloc: Global) -> Seq<T>
         ensures { result ≡ [] }
     {
@@ -79,7 +79,7 @@ impl<T> Seq<T> {
 }
 
 impl<T: Drop> Seq<T> {
-    /// Puts an item at the end. Where there is no memory, the item is dropped and the list stays.
+    /// Appends an item. Where the allocation fails, the item is dropped and the list is unchanged.
     pub fn push(&mut self, item: T) -> Result<(), NoMemory>
         ensures ok { OnOk result (self.new ≡ self.old ++ item ∷ []) }
         ensures err { OnErr result (self.new ≡ self.old) }

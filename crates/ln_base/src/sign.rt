@@ -1,4 +1,4 @@
-//! Signs.
+//! Defines the sign of a number: minus, zero or plus.
 
 /// The sign of a number.
 #[derive(Clone, Copy, PartialEq, Eq)]

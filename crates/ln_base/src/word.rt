@@ -16,7 +16,7 @@ pub fn letter(b: u8) -> bool
     (b'a' <= b && b <= b'z') || (b'A' <= b && b <= b'Z') || b == b'_'
 }
 
-/// What may stand in a name behind its first letter.
+/// Returns whether a byte may follow the first letter of a name.
 pub fn name_byte(b: u8) -> bool
     ensures { result ≡ is_name_byte b }
 {

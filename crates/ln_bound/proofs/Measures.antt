@@ -6,3 +6,4 @@ pub mod Measuring
 pub mod RoomLaws
 pub mod Weighing
 pub mod Nodes
+pub use Measuring.{lets_begin, lets_more, lets_stop}

@@ -5,3 +5,4 @@ pub mod RangeLaws
 pub mod SoundLaws
 pub mod SoundTests
 pub mod WidthLaws
+pub use ExactLaws.{lets_start, next_fit, next_range}

@@ -1,7 +1,8 @@
--- Values of trees, and lets put in place of their names.
+-- Values of trees, and lets substituted for their names.
 pub mod LetLists
 pub mod Operands
 pub mod Plain
+pub mod TypedOperands
 pub mod Values
 pub mod Views
 pub mod Whole

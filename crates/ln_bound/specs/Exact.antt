@@ -23,7 +23,7 @@ IsExact vars lets (TTwo k s t p w) = IsExact vars lets s × IsExact vars lets t 
     × (w ≡ wider (wider (width s) (width t)) (least (magnitude p)))
 IsExact vars lets (TPow t n p w) = IsExact vars lets t × (p ≡ power (pair t) n) × (w ≡ wider (width t) (least (magnitude p)))
 
--- so in each let, over the lets before it, behind these
+-- so in each let, over the lets before it, after these
 abbrev pub AreExact : List VarInfo → List Typed → List Typed → Type 0
 AreExact vars done [] = Unit {0}
 AreExact vars done (t ∷ ts) = IsExact vars done t × AreExact vars (done ++ t ∷ []) ts

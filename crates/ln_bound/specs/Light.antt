@@ -10,7 +10,7 @@ use Rattle.ln_bound.specs.Value.{power, value, weight_over, weights}
 abbrev pub most : ℕ
 most = 170141183460469231731687303715884105727
 
--- the weight of a formula over variables, behind lets of these weights
+-- the weight of a formula over variables, after lets of these weights
 abbrev pub weight_of : List VarInfo → List ℕ → Formula → ℕ
 weight_of vars lets f = weight_over (weights vars) lets (tree vars f)
 
@@ -25,7 +25,7 @@ weighed vars lets (FSub at e f) = weighed vars lets e ++ weighed vars lets f ++ 
 weighed vars lets (FMul at e f) = weighed vars lets e ++ weighed vars lets f ++ (at, weight_of vars lets (FMul at e f)) ∷ []
 weighed vars lets (FPow at e n) = weighed vars lets e ++ (at, weight_of vars lets (FPow at e n)) ∷ []
 
--- the weights of lets, each over the lets before it, behind these
+-- the weights of lets, each over the lets before it, after these
 abbrev pub let_weights : List VarInfo → List ℕ → List Formula → List ℕ
 let_weights vars done [] = done
 let_weights vars done (f ∷ fs) = let_weights vars (done ++ weight_of vars done f ∷ []) fs
@@ -39,12 +39,12 @@ weighed_lets vars done (f ∷ fs) = weighed vars done f ++ weighed_lets vars (do
 abbrev pub weighed_pred : List VarInfo → List Formula → Formula → List (Span × ℕ)
 weighed_pred vars lets root = weighed_lets vars [] lets ++ weighed vars (let_weights vars [] lets) root
 
--- no node is too heavy
+-- no node's weight is too large
 abbrev pub AreLight : List (Span × ℕ) → Type 0
 AreLight [] = Unit {0}
 AreLight (n ∷ ns) = (n.1 ≤ most) × AreLight ns
 
--- the first node that is too heavy, in order of evaluation
+-- the first node whose weight is too large, in order of evaluation
 pub record IsBoundFault (nodes : List (Span × ℕ)) (at : Span) : Type 0 where
   pub before : List (Span × ℕ)
   pub weight : ℕ
@@ -64,7 +64,7 @@ ValuesFit x lets (Sub e f) = ValuesFit x lets e × ValuesFit x lets f × (unsign
 ValuesFit x lets (Mul e f) = ValuesFit x lets e × ValuesFit x lets f × (unsigned_abs (value x lets (Mul e f)) ≤ most)
 ValuesFit x lets (Pow e n) = ValuesFit x lets e × ((k : ℕ) → k ≤ n → unsigned_abs (power (value x lets e) k) ≤ most)
 
--- the values of lets, each over the lets before it, behind these
+-- the values of lets, each over the lets before it, after these
 abbrev pub let_values : (ℕ → ℤ) → List ℤ → List Tree → List ℤ
 let_values x done [] = done
 let_values x done (t ∷ ts) = let_values x (done ++ value x done t ∷ []) ts

@@ -18,11 +18,11 @@ nodes_by by (FSub at e f) = nodes_by by e ++ nodes_by by f ++ (at, by (FSub at e
 nodes_by by (FMul at e f) = nodes_by by e ++ nodes_by by f ++ (at, by (FMul at e f)) ∷ []
 nodes_by by (FPow at e n) = nodes_by by e ++ (at, by (FPow at e n)) ∷ []
 
--- the load of a formula behind lets of these ranges and sizes
+-- the load of a formula after lets of these ranges and sizes
 abbrev pub load_of : List VarInfo → List Range → List ℕ → Formula → ℕ
 load_of vars ps ss f = load_over (ranges vars) ps ss (tree vars f)
 
--- the range and the size of a formula behind such lets
+-- the range and the size of a formula after such lets
 abbrev pub measure_of : List VarInfo → List Range → List ℕ → Formula → Range × ℕ
 measure_of vars ps ss f = (range_over (ranges vars) ps (tree vars f), size_over ss (tree vars f))
 
@@ -36,7 +36,7 @@ loaded_lets vars ps ss [] = []
 loaded_lets vars ps ss (f ∷ fs) = loaded vars ps ss f ++ loaded_lets vars (ps ++ range_over (ranges vars) ps (tree vars f) ∷ [])
     (ss ++ size_over ss (tree vars f) ∷ []) fs
 
--- the ranges and the sizes of lets, each over the lets before it, behind these
+-- the ranges and the sizes of lets, each over the lets before it, after these
 abbrev pub ranges_of_lets : List VarInfo → List Range → List Formula → List Range
 ranges_of_lets vars ps [] = ps
 ranges_of_lets vars ps (f ∷ fs) = ranges_of_lets vars (ps ++ range_over (ranges vars) ps (tree vars f) ∷ []) fs
@@ -69,7 +69,7 @@ measured_pred vars lets root = measured_lets vars [] [] lets ++ measured vars (r
 abbrev pub node_measures : List (Span × (Range × ℕ)) → List (Range × ℕ)
 node_measures nodes = map (λ n. n.1) nodes
 
--- the root of a predicate with its lets put in place of their names
+-- the root of a predicate with its lets substituted for their names
 abbrev pub whole : List VarInfo → List Formula → Formula → Tree
 whole vars lets root = inlined (inlined_after [] (map (tree vars) lets)) (tree vars root)
 

@@ -4,9 +4,11 @@ use Rattle.ln_bound.specs.declared.measure.Measure.{Measure}
 use Rattle.ln_interval.specs.Range.{Range, magnitude, most}
 use Rattle.ln_interval.specs.View.{range}
 
+-- the range of a measure
 abbrev pub range_in : Measure → Range
 range_in m = range m.pair
 
+-- the size of a measure
 abbrev pub size_in : Measure → ℕ
 size_in m = m.size
 

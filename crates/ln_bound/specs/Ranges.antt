@@ -35,7 +35,7 @@ range_or (Some i) = record { low = i.lo; high = i.hi }
 abbrev pub ranges : List VarInfo → ℕ → Range
 ranges vars v = range_or (slice_get vars v)
 
--- the ranges of lets, each over the lets before it, behind these
+-- the ranges of lets, each over the lets before it, after these
 abbrev pub let_ranges : (ℕ → Range) → List Range → List Tree → List Range
 let_ranges r done [] = done
 let_ranges r done (e ∷ es) = let_ranges r (done ++ range_over r done e ∷ []) es
@@ -51,16 +51,16 @@ AreHeld x zs r ps (Sub e f) = AreHeld x zs r ps e × AreHeld x zs r ps f × Hold
 AreHeld x zs r ps (Mul e f) = AreHeld x zs r ps e × AreHeld x zs r ps f × Holds (range_over r ps (Mul e f)) (value x zs (Mul e f))
 AreHeld x zs r ps (Pow e n) = AreHeld x zs r ps e × Holds (range_over r ps (Pow e n)) (value x zs (Pow e n))
 
--- so in each let, over the lets before it, behind these
+-- so in each let, over the lets before it, after these
 abbrev pub LetsAreHeld : (ℕ → ℤ) → List ℤ → (ℕ → Range) → List Range → List Tree → Type 0
 LetsAreHeld x zs r ps [] = Unit {0}
 LetsAreHeld x zs r ps (e ∷ es) = AreHeld x zs r ps e × LetsAreHeld x (zs ++ value x zs e ∷ []) r (ps ++ range_over r ps e ∷ []) es
 
--- the range of each node is within 2^127 - 1, behind lets of these ranges
+-- the range of each node is within 2^127 - 1, after lets of these ranges
 abbrev pub HaveRange : List VarInfo → List Range → Tree → Type 0
 HaveRange vars ps e = AreUpTo (λ n. magnitude (range_over (ranges vars) ps n)) most e
 
--- so in each let, over the lets before it, behind these
+-- so in each let, over the lets before it, after these
 abbrev pub LetsHaveRange : List VarInfo → List Range → List Tree → Type 0
 LetsHaveRange vars ps [] = Unit {0}
 LetsHaveRange vars ps (e ∷ es) = HaveRange vars ps e × LetsHaveRange vars (ps ++ range_over (ranges vars) ps e ∷ []) es

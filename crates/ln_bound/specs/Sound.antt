@@ -36,31 +36,36 @@ SoundNodes vars lets (TPow t n p w) = SoundNodes vars lets t × Covers p (power 
 abbrev pub running : List Typed → List ℕ
 running lets = let_bounds one [] (map untyped lets)
 
--- a tree is sound over variables, behind these lets
+-- a tree is sound over variables, after these lets
 pub record Sound (vars : List VarInfo) (lets : List Typed) (t : Typed) : Type 0 where
   pub nodes : SoundNodes vars lets t
   pub sizes : HasRoom one (running lets) (untyped t)
   pub deep : need t ≤ 2048
 
--- each let is sound over the lets before it, behind these
+-- each let is sound over the lets before it, after these
 abbrev pub AreSound : List VarInfo → List Typed → List Typed → Type 0
 AreSound vars done [] = Unit {0}
 AreSound vars done (t ∷ ts) = Sound vars done t × AreSound vars (done ++ t ∷ []) ts
 
 -- ---- the same as tests
+-- is the integer in the range?
 abbrev pub holds : Range → ℤ → Bool
 holds p z = int_le p.low z && int_le z p.high
 
+-- does the range p cover the range q?
 abbrev pub covers : Range → Range → Bool
 covers p q = int_le p.low q.low && int_le q.high p.high
 
+-- is the range in order, and does it fit the width?
 abbrev pub is_in : Range → Width → Bool
 is_in p w = int_le p.low p.high && nat_le (magnitude p) (limit w)
 
+-- is there such a let, does p cover its range, and is it no wider than w?
 abbrev pub covers_let : Option Typed → Range → Width → Bool
 covers_let None p w = false
 covers_let (Some u) p w = covers p (pair u) && no_wider (width u) w
 
+-- does each node of the tree have a range and a width that are sound over these variables and lets?
 abbrev pub sound_nodes : List VarInfo → List Typed → Typed → Bool
 sound_nodes vars lets (TNum c p w) = holds p c && is_in p w
 sound_nodes vars lets (TInput v p w) = nat_lt v (length vars) && covers p (ranges vars v) && is_in p w
@@ -81,9 +86,11 @@ has_room ss (Sub e f) = has_room ss e && has_room ss f && nat_le (weight_over on
 has_room ss (Mul e f) = has_room ss e && has_room ss f && nat_le (weight_over one ss (Mul e f)) most
 has_room ss (Pow e n) = has_room ss e && nat_le (weight_over one ss (Pow e n)) most
 
+-- is the tree sound over the variables, after these lets?
 abbrev pub is_sound : List VarInfo → List Typed → Typed → Bool
 is_sound vars lets t = sound_nodes vars lets t && has_room (running lets) (untyped t) && nat_le (need t) 2048
 
+-- is each let sound over the lets before it, after these?
 abbrev pub are_sound : List VarInfo → List Typed → List Typed → Bool
 are_sound vars done [] = true
 are_sound vars done (t ∷ ts) = is_sound vars done t && are_sound vars (done ++ t ∷ []) ts
@@ -102,7 +109,7 @@ IsBounded x lets (TNeg t p w) = IsBounded x lets t × Fits (value x lets (untype
 IsBounded x lets (TTwo k s t p w) = IsBounded x lets s × IsBounded x lets t × Fits (value x lets (untyped (TTwo k s t p w))) p w
 IsBounded x lets (TPow t n p w) = IsBounded x lets t × Fits (value x lets (untyped (TPow t n p w))) p w
 
--- so in each let, with the values of the lets before it, behind these
+-- so in each let, with the values of the lets before it, after these
 abbrev pub AreBounded : (ℕ → ℤ) → List ℤ → List Typed → Type 0
 AreBounded x done [] = Unit {0}
 AreBounded x done (t ∷ ts) = IsBounded x done t × AreBounded x (done ++ value x done (untyped t) ∷ []) ts

@@ -27,6 +27,15 @@ pair (TNeg t p w) = p
 pair (TTwo k s t p w) = p
 pair (TPow t n p w) = p
 
+-- which operation on two a tree is, where it is one
+abbrev pub operation : Typed → Two
+operation (TNum c p w) = Plus
+operation (TInput v p w) = Plus
+operation (TLet j p w) = Plus
+operation (TNeg t p w) = Plus
+operation (TTwo k s t p w) = k
+operation (TPow t n p w) = Plus
+
 -- the width of the root
 abbrev pub width : Typed → Width
 width (TNum c p w) = w
@@ -68,7 +77,7 @@ untyped (TNeg t p w) = Neg (untyped t)
 untyped (TTwo k s t p w) = two_of k (untyped s) (untyped t)
 untyped (TPow t n p w) = Pow (untyped t) n
 
--- the coefficients of its polynomial, behind these lets
+-- the coefficients of its polynomial, after these lets
 abbrev pub polynomial : List Typed → Typed → Series
 polynomial lets t = normal_coefficient (inlined (inlined_after [] (map untyped lets)) (untyped t))
 

@@ -32,6 +32,7 @@ weight_over w lets (Pow e n) = weight_over w lets e ^ n
 abbrev pub size_of : VarInfo → ℕ
 size_of i = max 1 (max (unsigned_abs i.lo) (unsigned_abs i.hi))
 
+-- M of a variable; 0 where there is none
 abbrev pub size_or : Option VarInfo → ℕ
 size_or None = 0
 size_or (Some i) = size_of i
@@ -40,6 +41,7 @@ size_or (Some i) = size_of i
 abbrev pub sizes : List VarInfo → ℕ → ℕ
 sizes vars v = size_or (slice_get vars v)
 
+-- w of a variable, one more than its M; 0 where there is none
 abbrev pub weight_or : Option VarInfo → ℕ
 weight_or None = 0
 weight_or (Some i) = size_of i + 1

@@ -8,6 +8,7 @@ use Rattle.ln_interval.specs.Range.{Range}
 use Rattle.ln_interval.specs.View.{range}
 use Rattle.ln_bound.specs.Typed.{Typed, TNum, TInput, TLet, TNeg, TTwo, TPow}
 
+-- the tree with this operation of the program at its root, this range and this width
 abbrev pub op_typed : FitOp → Range → Width → Typed
 op_typed (Num c) b w = TNum c b w
 op_typed (Input v) b w = TInput v b w

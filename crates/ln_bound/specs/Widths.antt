@@ -1,4 +1,4 @@
--- Widths.
+-- Defines what fits a width of 64 or 128 bits, and which of two widths is the wider.
 use Rattle.std.specs.Prelude.{ℕ, Bool, true, false, nat_le, if◌then◌else◌}
 use Rattle.ln_bound.specs.declared.fitted.Width.{Width}
 use Rattle.ln_bound.specs.declared.fitted.Width.TheVariants.{W64, W128}

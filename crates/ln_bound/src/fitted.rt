@@ -1,5 +1,7 @@
 //! Trees whose nodes carry the two ends and the width of their values.
 ghost use Rattle.std.specs.Prelude.{◌≡◌};
+ghost use Rattle.ln_bound.specs.Typed.{operation};
+ghost use Rattle.ln_bound.specs.View.{typed};
 ghost use Rattle.ln_bound.specs.Widths.{limit, least, wider};
 
 use ln_interval::Pair;
@@ -74,4 +76,17 @@ pub enum FitOp {
     Sub(Box<Fitted>, Box<Fitted>),
     Mul(Box<Fitted>, Box<Fitted>),
     Pow(Box<Fitted>, u8),
+}
+
+impl Fitted {
+    /// Which operation on two the tree is, where it is one; else a sum.
+    pub fn operation(&self) -> Two
+        ensures { result ≡ operation (typed self.now) }
+    {
+        match &self.op {
+            FitOp::Sub(_, _) => Two::Minus,
+            FitOp::Mul(_, _) => Two::Times,
+            _ => Two::Plus,
+        }
+    }
 }

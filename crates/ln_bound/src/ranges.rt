@@ -12,8 +12,8 @@ ghost use Rattle.ln_bound.specs.Room.{let_bounds};
 ghost use Rattle.ln_bound.specs.Ranges.{AreHeld, LetsAreHeld, let_ranges, range_over, ranges};
 ghost use Rattle.ln_bound.specs.Value.{value, values, weight_over};
 
-/// On every row in range the value of each node of lets, and of an expression behind them, is in its range. Lets may be put
-/// in place of their names.
+/// On every row in range the value of each node of lets, and of an expression after them, is in its range. Lets may be substituted for their
+/// names.
 pub fn values_are_in_ranges()
     ensures lets { (vars : List Info) (zs : List ℤ) (es : List Tree) → AreWithin vars zs → LetsAreHeld (values zs) [] (ranges vars) [] es }
     ensures tree { (vars : List Info) (zs : List ℤ) (es : List Tree) (e : Tree) → AreWithin vars zs →
@@ -26,16 +26,16 @@ pub fn values_are_in_ranges()
     ensures in_range { (vars : List Info) (zs : List ℤ) → AreWithin vars zs → (v : ℕ) → Holds (ranges vars v) (values zs v) }
 {}
 
-/// Where no node is too heavy by weight, no range and no size of a node passes the limit: what is accepted by weight is
-/// accepted by ranges and sizes.
+/// Where no node's weight is too large, no range and no size of a node exceeds the limit: what is accepted by weight is accepted by ranges and
+/// sizes.
 pub fn light_nodes_stay_light()
     ensures { (vars : List Info) (k : ℕ) (lets : List Formula) (root : Formula) →
         lets_fit (length vars) 0 (map (tree vars) lets) ≡ true → is_fit (length vars) k (tree vars root) ≡ true →
         AreLight (weighed_pred vars lets root) → AreLight (loaded_pred vars lets root) }
 {}
 
-/// What is measured of a predicate's root behind its lets is what is measured of the root with the lets put in place of their
-/// names: the weight, whatever each variable weighs, the value, the range, and the size. The last node that is measured is the root.
+/// The measures of a predicate's root after its lets are those of the root with the lets substituted for their names: the weight, whatever each
+/// variable weighs, the value, the range, and the size. The last node that is measured is the root.
 pub fn roots_measure_the_whole()
     ensures value { (x : ℕ → ℤ) (lets : List Tree) (root : Tree) →
         value x (let_values x [] lets) root ≡ value x [] (inlined (inlined_after [] lets) root) }

@@ -1,4 +1,4 @@
-//! Trees that are one.
+//! Compares two trees: their operations, leaves, ranges and widths.
 ghost use Rattle.std.specs.Prelude.{◌≡◌, ◌↔◌, IsTrue};
 ghost use Rattle.ln_bound.specs.View.{typed};
 
@@ -14,7 +14,7 @@ fn is_same_width(a: Width, b: Width) -> bool
 }
 
 impl Fitted {
-    /// Are the two trees equal in operations, leaves, pairs and widths? It takes no memory.
+    /// Are the two trees equal in operations, leaves, pairs and widths? It allocates nothing.
     pub fn same(&self, other: &Fitted) -> bool
         ensures { IsTrue result ↔ (typed self.now ≡ typed other.now) }
     {

@@ -163,7 +163,7 @@ pub fn kind_of(e: &Expr) -> Two
     }
 }
 
-// The tree of an expression behind lets of these trees.
+// The tree of an expression after lets of these trees.
 fn fit(alloc: Global, e: &Expr, vars: &[VarInfo], lets: &[Fitted]) -> Result<Fitted, NoMemory>
     requires few { length vars.now ≤ 168 }
     requires ordered { (k : ℕ) → IsOrdered (ranges vars.now k) }
@@ -192,8 +192,8 @@ fn fit(alloc: Global, e: &Expr, vars: &[VarInfo], lets: &[Fitted]) -> Result<Fit
     }
 }
 
-// The trees of the lets, each behind those before it.
-#[tactic(auto, using(crate::proofs::Soundness::ExactLaws::lets_start, crate::proofs::Soundness::ExactLaws::next_fit, crate::proofs::Soundness::ExactLaws::next_range))]
+// The trees of the lets, each after those before it.
+#[tactic(auto, using(crate::proofs::Soundness::lets_start, crate::proofs::Soundness::next_fit, crate::proofs::Soundness::next_range))]
 fn fit_lets(alloc: Global, lets: &[Expr], vars: &[VarInfo]) -> Result<Seq<Fitted>, NoMemory>
     requires few { length vars.now ≤ 168 }
     requires ordered { (k : ℕ) → IsOrdered (ranges vars.now k) }
@@ -212,7 +212,7 @@ fn fit_lets(alloc: Global, lets: &[Expr], vars: &[VarInfo]) -> Result<Seq<Fitted
 
 /// The trees of a predicate's lets and root with the range and the width of each node. Each range is exactly its operation
 /// over the ranges of its operands, of a variable the declared one; each width is the least that fits the range and is no
-/// narrower than an operand. No range and no size of a node may pass `2^127 - 1`, as `weigh` answers.
+/// narrower than an operand. No range and no size of a node may exceed `2^127 - 1`, which `weigh` tests.
 pub fn size(alloc: Global, p: &Pred) -> Result<FittedPred, NoMemory>
     requires { AreLight (loaded_pred p.now.shape.vars (map formula p.now.lets) (formula p.now.root)) }
     ensures shape { IfOk result (λ f. f.shape ≡ p.now.shape) }

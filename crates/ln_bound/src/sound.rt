@@ -11,8 +11,8 @@ ghost use Rattle.ln_bound.specs.Exact.{IsExact};
 ghost use Rattle.ln_bound.specs.Typed.{Typed, pair, untyped};
 ghost use Rattle.ln_bound.specs.Sound.{Sound, AreSound, SoundNodes, is_sound, are_sound, IsBounded, AreBounded};
 
-/// On every row in range the value of each node of a sound tree is in its range and fits its width, in sound lets and
-/// behind them. What the tests of soundness test is soundness.
+/// On every row in range the value of each node of a sound tree is in its range and fits its width, in sound lets and after them. So the tests
+/// of soundness do test soundness.
 pub fn sound_trees_hold_their_values()
     ensures lets { (vars : List Info) (zs : List ℤ) (lets : List Typed) → AreWithin vars zs → AreSound vars [] lets →
         AreBounded (values zs) [] lets }

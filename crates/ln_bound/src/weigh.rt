@@ -28,7 +28,7 @@ use std::marker::Model;
 /// Why a predicate has no ranges and sizes.
 #[derive(Clone, Copy)]
 pub enum BoundStop {
-    /// The first node in order of evaluation whose range or size passes `2^127 - 1`.
+    /// The first node in order of evaluation whose range or size exceeds `2^127 - 1`.
     Bound(Span),
     NoMemory,
 }
@@ -213,7 +213,7 @@ fn input_measure(vars: &[VarInfo], v: Var) -> Measure
     Measure { pair, size: 2 }
 }
 
-// Puts a node's measure behind the others, where there is one.
+// Appends a node's measure to the others, where there is one.
 fn put(at: Span, m: Option<Measure>, all: &mut Seq<Measure>) -> Result<Measure, BoundStop>
     ensures ok { IfOk result (λ w. (m ≡ Some w) × (all.new ≡ all.old ++ w ∷ [])) }
     ensures heavy { IfErr result (λ e. IsHeavyOrNoMemory at (tested m) e) }
@@ -241,7 +241,7 @@ fn two_of(kind: Two, a: Measure, b: Measure) -> Option<Measure>
     }
 }
 
-// The measure of a formula behind lets of these measures; the measures of its nodes come behind the others.
+// The measure of a formula after lets of these measures; the measures of its nodes are appended to the others.
 fn weigh_in(
     e: &Expr,
     vars: &[VarInfo],
@@ -272,7 +272,7 @@ fn weigh_in(
     }
 }
 
-// The measure of a further let comes behind those of the lets before it.
+// The measure of a further let is appended to those of the lets before it.
 fn weigh_next(
     e: &Expr,
     vars: &[VarInfo],
@@ -294,8 +294,8 @@ fn weigh_next(
     Ok(())
 }
 
-// The measures of the lets; those of their nodes come behind the others.
-#[tactic(auto, using(crate::proofs::Measures::Measuring::lets_begin, crate::proofs::Measures::Measuring::lets_more, crate::proofs::Measures::Measuring::lets_stop))]
+// The measures of the lets; those of their nodes are appended to the others.
+#[tactic(auto, using(crate::proofs::Measures::lets_begin, crate::proofs::Measures::lets_more, crate::proofs::Measures::lets_stop))]
 fn weigh_lets(
     alloc: Global,
     lets: &[Expr],

@@ -1,5 +1,6 @@
--- What known bytes do over several writes and reads.
-use Rattle.std.proofs.Common.{◌≡◌, ℕ, ◌+◌, ◌-◌, ◌≤◌, List, [], ◌++◌, length, take, drop, refl, ap, sym, subst, ◌∙◌, arith, Some, None, Option, append-nil, length-drop, drop_of_length-le}
+-- Proves what known bytes do over several writes and reads.
+use Rattle.std.proofs.Common.{◌≡◌, ℕ, ◌+◌, ◌-◌, ◌≤◌, List, [], ◌++◌, length, take, drop, refl, ap, sym, subst, ◌∙◌, arith, Some, None}
+use Rattle.std.proofs.Common.{Option, append-nil, length-drop, drop_of_length-le}
 use Rattle.std.proofs.Math.Seq.{take-add, take-length, drop-append_seam}
 use Rattle.std.proofs.lemmas.List.{drop-drop}
 use Rattle.std.proofs.KnownBytes.{Appends-trans}
@@ -27,8 +28,9 @@ kept_none (Some xs) (Some ys) k = k ∙ sym (append-nil xs)
 take_part : (bytes : List ℕ) (done n : ℕ) → take done bytes ++ take n (drop done bytes) ≡ take (done + n) bytes
 take_part bytes done n = rw take-add refl
 
--- one more write behind the first `done` bytes
-pub writes_more : (a b c : Option (List ℕ)) (bytes : List ℕ) (done n : ℕ) → Appends a b (take done bytes) → Appends b c (take n (take (length bytes - done) (drop done bytes))) → Appends a c (take (done + n) bytes)
+-- one more write after the first `done` bytes
+pub writes_more : (a b c : Option (List ℕ)) (bytes : List ℕ) (done n : ℕ) → Appends a b (take done bytes)
+    → Appends b c (take n (take (length bytes - done) (drop done bytes))) → Appends a c (take (done + n) bytes)
 writes_more a b c bytes done n f w =
     let all : take (length bytes - done) (drop done bytes) ≡ drop done bytes = rw (← length-drop done bytes) (take-length (drop done bytes)) in
     let v : Appends b c (take n (drop done bytes)) = subst (λ (r : List ℕ). Appends b c (take n r)) all w in
@@ -39,7 +41,7 @@ short xs i e =
     let l : length xs - i ≡ 0 = sym (length-drop i xs) ∙ ap length e in
     omega (arith, l)
 
--- one more read behind the bytes that are passed over
+-- one more read after the bytes that are passed over
 pub passes_more : (a b c : Option (List ℕ)) (bs : List ℕ) (done n : ℕ) → length bs ≡ n → Passes a b done → Consumes b c bs → Passes a c (done + n)
 passes_more None b c bs done n e p w = tt
 passes_more (Some xs) None c bs done n e p w = absurd p

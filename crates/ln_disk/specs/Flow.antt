@@ -1,4 +1,4 @@
--- What goes through a port, and what is passed over in a file, where the bytes of a writer or a reader are known.
+-- Defines what goes to a stream, and what is passed over in a file, where the bytes of a writer or a reader are known.
 use Rattle.std.specs.Prelude.{◌≡◌, ℕ, ◌≤◌, List, length, take, drop, Option, None, Some, Result, MatchResult}
 use Rattle.std.specs.Io.KnownBytes.{Appends, Keeps}
 use Rattle.ln_base.specs.declared.outside.Port.{Port}
@@ -19,7 +19,7 @@ abbrev pub OnPort : (Option (List ℕ) → Option (List ℕ) → Type 0) → Por
 OnPort Does Out out out_now err err_now = Does out out_now × Keeps err err_now
 OnPort Does ErrPort out out_now err err_now = Keeps out out_now × Does err err_now
 
--- the bytes that were answered are appended to the port's writer; at a fault some first part of them is
+-- as many bytes as were returned are appended to the stream's writer; at a fault a prefix of the bytes is
 abbrev pub Goes : {E : Type 0} → Result ℕ E → List ℕ → Port → (out out_now err err_now : Option (List ℕ)) → Type 0
 Goes result bs port out out_now err err_now =
     MatchResult result

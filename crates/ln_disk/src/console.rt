@@ -1,4 +1,4 @@
-//! The two ports of a process.
+//! The two streams of a process, standard output and standard error.
 ghost use Rattle.std.specs.Prelude.{◌≡◌, ◌≤◌, ◌<◌, None, length, take, IfOk, OnOk, OnErr};
 ghost use Rattle.std.specs.Io.{WritesAtMost};
 ghost use Rattle.std.specs.Io.KnownBytes.{Appends};
@@ -8,8 +8,8 @@ ghost use Rattle.ln_disk.specs.Flow.{AppendsFront, Goes};
 use ln_base::{Console, Failed, Port};
 use std::io::{ErrorKind, Write};
 
-/// Two writers, one for each port. A put is written and flushed; where its flush fails, it failed, though the writer took
-/// its bytes. Of writers whose bytes are known, `put` says which bytes they took.
+/// Two writers, one for each stream. A `put` writes and flushes; where the flush fails, the `put` fails, though the writer took its bytes. Of writers
+/// whose bytes are known, the contract of `put` has which bytes they took.
 #[derive(Drop)]
 pub struct StdConsole<O, E> {
     out: O,
@@ -18,7 +18,7 @@ pub struct StdConsole<O, E> {
 }
 
 impl<O: Write, E: Write> StdConsole<O, E> {
-    /// The ports that write to these; no fault is counted yet.
+    /// Returns the streams that write to these; no fault is counted yet.
     pub fn new(out: O, err: E) -> Self
         ensures { result.faults ≡ 0 }
     {
@@ -45,7 +45,7 @@ fn write_once<W: Write>(to: &mut W, bytes: &[u8]) -> usize
     0
 }
 
-// Writes until the bytes are at their end or a write takes none of them, and answers how many were taken.
+// Writes until the bytes are at their end or a write takes none of them, and returns how many were taken.
 fn write_some<W: Write>(to: &mut W, bytes: &[u8]) -> usize
     ensures bound { result ≤ length bytes.now }
     ensures bytes { Appends (W.contents to.old) (W.contents to.new) (take result bytes.now) }
@@ -61,7 +61,7 @@ fn write_some<W: Write>(to: &mut W, bytes: &[u8]) -> usize
     done
 }
 
-// Writes and flushes. That nothing is taken of some bytes is a fault, and so is a flush that fails.
+// Writes and flushes. It is a fault that nothing is taken of some bytes, and so is a flush that fails.
 fn put_on<W: Write>(to: &mut W, bytes: &[u8]) -> Result<usize, Failed>
     ensures bound { WritesAtMost result bytes.now }
     ensures some { IfOk result (λ n. 0 < length bytes.now → 0 < n) }

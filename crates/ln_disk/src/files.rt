@@ -1,4 +1,4 @@
-//! Files on a disk.
+//! Reads the files on a disk by their names, and counts each read that fails.
 ghost use Rattle.std.specs.Prelude.{◌≡◌, ◌<◌, None, true, length, take, IfOk, OnOk};
 ghost use Rattle.std.specs.Io.{ReadsAtMost};
 ghost use Rattle.std.specs.Io.KnownBytes.{Consumes, IsAtEnd};
@@ -11,7 +11,7 @@ use std::{fs, rt};
 // How long a name may be. The system opens no file by a longer one.
 const LONGEST: usize = 4_096;
 
-// A file by its name, of which the bytes before `at` are read. The name stands in place, so that a read takes no memory.
+// A file by its name, of which the bytes before `at` are read. The name is held in place, so that a read allocates nothing.
 #[derive(Drop)]
 struct Open<T> {
     name: [u8; LONGEST],
@@ -32,7 +32,7 @@ impl<T> Open<T> {
     }
 }
 
-/// The files of a runtime. The last file stays open, so that reads one behind the other go through it once.
+/// The files of a runtime. The last file stays open, so that successive reads go through it once.
 #[derive(Drop)]
 pub struct DiskFiles<'a, R: rt::Files> {
     rt: &'a R,
@@ -86,7 +86,7 @@ fn skip<T: Read>(file: &mut T, count: u64) -> Result<(), Failed>
     Ok(())
 }
 
-// Opens a file and reads past what stands before the place.
+// Opens a file and reads past what is before the place.
 fn open_at<R: rt::Files>(rt: &R, name: &str, at: u64) -> Result<Open<R::File>, Failed> {
     let len = name.len();
     if len > LONGEST {

@@ -18,7 +18,8 @@ pub product_fits : (a b : ℤ) → unsigned_abs a * unsigned_abs b ≤ most → 
 product_fits a b h = fits_signed_from_abs w128 (a *ℤ b) (let e = unsigned_abs-mul a b in omega (arith, e, h))
 
 -- the ends of a product whose magnitude is within the limit
-pub product_ends : (p q : Range) → magnitude p * magnitude q ≤ most → (l u : ℤ) → l ≡ (product p q).low → u ≡ (product p q).high → (l ≤ℤ u) × (unsigned_abs l ≤ most) × (unsigned_abs u ≤ most)
+pub product_ends : (p q : Range) → magnitude p * magnitude q ≤ most → (l u : ℤ) → l ≡ (product p q).low → u ≡ (product p q).high
+    → (l ≤ℤ u) × (unsigned_abs l ≤ most) × (unsigned_abs u ≤ most)
 product_ends p q h l u e f =
     let m = product_magnitude p q in
     let o = product_ordered p q in
@@ -67,7 +68,9 @@ one_corner x y a h g l e =
     let f : kept x ≡ x = plain x h in
     let k : kept y ≡ y = plain y g in
     let q : a ≡ x *ℤ y = rw (f, k) at e in
-    let s : unsigned_abs a ≤ most = let u = unsigned_abs-mul x y in let v : unsigned_abs a ≡ unsigned_abs (x *ℤ y) = ap unsigned_abs q in omega (arith, u, v, l) in
+    let s : unsigned_abs a ≤ most = let u = unsigned_abs-mul x y in
+    let v : unsigned_abs a ≡ unsigned_abs (x *ℤ y) = ap unsigned_abs q in
+    omega (arith, u, v, l) in
     plain a s ∙ q
 
 -- the ends of a product, as the code finds them

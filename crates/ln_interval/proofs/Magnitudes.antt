@@ -71,14 +71,18 @@ one_abs l a c r (inl e) h g = rw e h
 one_abs l a c r (inr e) h g = rw e g
 
 -- of two ranges one after the other
-joined_abs : (a b c d : ℤ) → a ≤ℤ b → c ≤ℤ d → max (unsigned_abs (int_min a c)) (unsigned_abs (int_max b d)) ≡ max (max (unsigned_abs a) (unsigned_abs b)) (max (unsigned_abs c) (unsigned_abs d))
-joined_abs a b c d h g = by_ends (int_min a c) (int_max b d) (omega (arith, ints, clamps)) (omega (arith, ints, clamps)) (omega (arith, ints, clamps)) (omega (arith, ints, clamps)) (min_which a c) (max_which b d)
+joined_abs : (a b c d : ℤ) → a ≤ℤ b → c ≤ℤ d
+    → max (unsigned_abs (int_min a c)) (unsigned_abs (int_max b d)) ≡ max (max (unsigned_abs a) (unsigned_abs b)) (max (unsigned_abs c) (unsigned_abs d))
+joined_abs a b c d h g = by_ends (int_min a c) (int_max b d) (omega (arith, ints, clamps)) (omega (arith, ints, clamps))
+    (omega (arith, ints, clamps)) (omega (arith, ints, clamps)) (min_which a c) (max_which b d)
   where
-    by_ends : (l u : ℤ) → l ≤ℤ a → l ≤ℤ c → b ≤ℤ u → d ≤ℤ u → (l ≡ a) ⊎ (l ≡ c) → (u ≡ b) ⊎ (u ≡ d) → max (unsigned_abs l) (unsigned_abs u) ≡ max (max (unsigned_abs a) (unsigned_abs b)) (max (unsigned_abs c) (unsigned_abs d))
+    by_ends : (l u : ℤ) → l ≤ℤ a → l ≤ℤ c → b ≤ℤ u → d ≤ℤ u → (l ≡ a) ⊎ (l ≡ c) → (u ≡ b) ⊎ (u ≡ d)
+        → max (unsigned_abs l) (unsigned_abs u) ≡ max (max (unsigned_abs a) (unsigned_abs b)) (max (unsigned_abs c) (unsigned_abs d))
     by_ends l u la lc bu du e f =
         let o = one_below (unsigned_abs a) (unsigned_abs b) (unsigned_abs c) (unsigned_abs d) in
         both_ways (unsigned_abs l) (unsigned_abs u) _ (one_abs l a c _ e o.0 o.2) (one_abs u b d _ f o.1 o.3)
-        (all_below (unsigned_abs a) (unsigned_abs b) (unsigned_abs c) (unsigned_abs d) _ (between l u a la (le_then a b u h bu)) (between l u b (le_then l a b la h) bu) (between l u c lc (le_then c d u g du)) (between l u d (le_then l c d lc g) du))
+        (all_below (unsigned_abs a) (unsigned_abs b) (unsigned_abs c) (unsigned_abs d) _ (between l u a la (le_then a b u h bu))
+        (between l u b (le_then l a b la h) bu) (between l u c lc (le_then c d u g du)) (between l u d (le_then l c d lc g) du))
 
 min_left : (a b : ℤ) → int_min a b ≤ℤ a
 min_left a b = omega (arith, ints, clamps)
@@ -90,7 +94,8 @@ min_max : (a b : ℤ) → int_min a b ≤ℤ int_max a b
 min_max a b = omega (arith, ints, clamps)
 
 -- the larger absolute value of the least and the greatest of four is the largest absolute value of the four
-four_abs : (a b c d : ℤ) → max (unsigned_abs (least_of a b c d)) (unsigned_abs (greatest_of a b c d)) ≡ max (max (unsigned_abs a) (unsigned_abs b)) (max (unsigned_abs c) (unsigned_abs d))
+four_abs : (a b c d : ℤ) → max (unsigned_abs (least_of a b c d)) (unsigned_abs (greatest_of a b c d))
+    ≡ max (max (unsigned_abs a) (unsigned_abs b)) (max (unsigned_abs c) (unsigned_abs d))
 four_abs a b c d = joined_abs (int_min a b) (int_max a b) (int_min c d) (int_max c d) (min_max a b) (min_max c d) ∙ rw (two_abs a b, two_abs c d) refl
 
 -- the larger of two is one of them
@@ -120,7 +125,8 @@ four_max a b c d =
 pub product_magnitude : (p q : Range) → magnitude (product p q) ≡ magnitude p * magnitude q
 product_magnitude p q =
     four_abs (p.low *ℤ q.low) (p.low *ℤ q.high) (p.high *ℤ q.low) (p.high *ℤ q.high)
-    ∙ rw (unsigned_abs-mul p.low q.low, unsigned_abs-mul p.low q.high, unsigned_abs-mul p.high q.low, unsigned_abs-mul p.high q.high) (four_max (unsigned_abs p.low) (unsigned_abs p.high) (unsigned_abs q.low) (unsigned_abs q.high))
+    ∙ rw (unsigned_abs-mul p.low q.low, unsigned_abs-mul p.low q.high, unsigned_abs-mul p.high q.low, unsigned_abs-mul p.high q.high)
+    (four_max (unsigned_abs p.low) (unsigned_abs p.high) (unsigned_abs q.low) (unsigned_abs q.high))
 
 pub power_magnitude : (p : Range) (n : ℕ) → magnitude (power p n) ≡ magnitude p ^ n
 power_magnitude p zero = rw pow-zero (omega (arith, ints))

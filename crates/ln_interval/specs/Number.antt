@@ -1,4 +1,4 @@
--- Whole numbers.
+-- This file defines the powers of an integer, which lie in the powers of each range that holds it.
 use Rattle.std.specs.Prelude.{ℕ, suc, zero, ℤ, pos, ◌*ℤ◌}
 
 -- z to the power of n

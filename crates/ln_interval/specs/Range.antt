@@ -1,5 +1,5 @@
--- Ranges: pairs of whole numbers, low and high, with the values between them; and the operations on them.
--- The operations are those of interval arithmetic (Moore 1966), on whole numbers, with no rounding.
+-- Ranges: pairs of integers, low and high, with the values between them; and the operations on them.
+-- The operations are those of interval arithmetic (Moore 1966), on integers, with no rounding.
 use Rattle.std.specs.Prelude.{ℕ, zero, suc, max, ℤ, pos, ◌+ℤ◌, ◌-ℤ◌, ◌*ℤ◌, neg_ℤ, ◌≤ℤ◌, ◌<ℤ◌, ◌<◌, ◌⊎◌, unsigned_abs}
 use Rattle.std.specs.Int.{int_min, int_max}
 

@@ -1,4 +1,4 @@
-//! Laws of ranges, over all whole numbers.
+//! Laws of ranges, over all integers.
 ghost use Rattle.std.specs.Prelude.{◌≡◌, ◌≤◌, ◌+◌, ◌*◌, ◌^◌, ℕ, ℤ, ◌+ℤ◌, ◌-ℤ◌, ◌*ℤ◌, neg_ℤ, unsigned_abs};
 ghost use Rattle.ln_interval.specs.Number.{power as power_of};
 ghost use Rattle.ln_interval.specs.Range.{Range, Covers, Holds, IsOrdered, difference, magnitude, opposite, power, product, sum};
@@ -14,7 +14,7 @@ pub fn operations_hold_values()
     ensures power { (p : Range) (n : ℕ) (x : ℤ) → Holds p x → Holds (power p n) (power_of x n) }
 {}
 
-/// Operations on covered ranges are covered, and no lower power of a range passes a limit that the power keeps.
+/// Operations on covered ranges are covered, and no lower power of a range exceeds a limit that the power keeps.
 ///
 /// On it rests that a range may be replaced by a wider one at any step, and that a power may be computed factor by factor.
 pub fn operations_are_monotone()

@@ -1,4 +1,4 @@
-//! Operations on pairs: interval arithmetic (Moore 1966) on whole numbers, without rounding.
+//! Operations on pairs: interval arithmetic (Moore 1966) on integers, without rounding.
 ghost use Rattle.std.specs.Prelude.{◌≡◌, ◌≤◌, ◌*◌, ◌<◌, ◌≤ℤ◌, ◌+ℤ◌, ◌-ℤ◌, ◌*ℤ◌, unsigned_abs, MatchOption, IsTrue, ◌↔◌};
 ghost use Rattle.ln_interval.specs.Range.{most, magnitude, sum, difference, opposite, product};
 ghost use Rattle.ln_interval.specs.Range.{power, Covers, IsNoPair, least_of, greatest_of};
@@ -154,7 +154,7 @@ impl Pair {
         self.low <= o.low && o.high <= self.high
     }
 
-    /// The larger absolute value of the two ends, which no value of the range passes.
+    /// The larger absolute value of the two ends, which no value of the range exceeds.
     pub fn magnitude(self) -> u128
         ensures value { result ≡ magnitude (range self) }
         ensures small { result ≤ most }

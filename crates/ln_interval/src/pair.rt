@@ -1,4 +1,4 @@
-//! Pairs of ends.
+//! Defines pairs: ranges of integers by their two ends, which are at most 2^127 - 1 in absolute value.
 ghost use Rattle.std.specs.Prelude.{◌≤◌, ◌≤ℤ◌, unsigned_abs};
 ghost use Rattle.ln_interval.specs.Range.{most};
 

@@ -3,7 +3,7 @@ use Rattle.std.proofs.Common.{◌≡◌, ℕ, suc, ◌+◌, ◌-◌, ◌<◌, �
 use Rattle.std.proofs.lemmas.List.{drop-drop}
 use Rattle.ln_lex.specs.Tokens.{comment_len, begins_comment, begins_blank, Skips, nothing, blank, comment}
 
--- the first `at` bytes are passed: what skips from there skips from the front
+-- the first `at` bytes are passed: what skips from there skips from the beginning
 pub record Skipped (bytes : List ℕ) (at : ℕ) : Type 0 where
   pub within : at ≤ length bytes
   pub on : (m : ℕ) → Skips (drop at bytes) m → Skips bytes (at + m)
@@ -20,7 +20,8 @@ skipped_blank {bytes = bytes} {at = at} s w b = record {
 }
 
 -- a comment at the place reached is passed
-skipped_comment : {bytes : List ℕ} {at n : ℕ} → Skipped bytes at → n ≡ comment_len (drop at bytes) → n ≤ length (drop at bytes) → begins_comment (drop at bytes) ≡ true → Skipped bytes (at + n)
+skipped_comment : {bytes : List ℕ} {at n : ℕ} → Skipped bytes at → n ≡ comment_len (drop at bytes) → n ≤ length (drop at bytes)
+    → begins_comment (drop at bytes) ≡ true → Skipped bytes (at + n)
 skipped_comment {bytes = bytes} {at = at} {n = n} s q w b = record {
   within = omega (arith, length-drop at bytes, s.within);
   on = λ m d.
@@ -36,34 +37,38 @@ skipped_comment {bytes = bytes} {at = at} {n = n} s q w b = record {
 pub skipped_all : {bytes : List ℕ} {at : ℕ} → Skipped bytes at → Skips bytes at
 skipped_all {bytes = bytes} {at = at} s = let e : at + 0 ≡ at = omega arith in subst (λ (q : ℕ). Skips bytes q) e (s.on 0 nothing)
 
--- where a blank stands there is a byte
+-- where a blank is there is a byte
 blank_some : (xs : List ℕ) → begins_blank xs ≡ true → 0 < length xs
 blank_some [] h = absurd (cc)
 blank_some (x ∷ xs) h = omega arith
 
 -- one blank more is passed
-pub after_blank : {bytes rest : List ℕ} {at : ℕ} {b : Bool} → Skipped bytes at → rest ≡ drop at bytes → b ≡ begins_blank rest → b ≡ true → Skipped bytes (at + 1)
+pub after_blank : {bytes rest : List ℕ} {at : ℕ} {b : Bool} → Skipped bytes at → rest ≡ drop at bytes → b ≡ begins_blank rest → b ≡ true
+    → Skipped bytes (at + 1)
 after_blank {bytes = bytes} {rest = rest} {at = at} s r e t =
     let h : begins_blank (drop at bytes) ≡ true = rw (← r) (sym e ∙ t) in
     skipped_blank s (omega (arith, blank_some (drop at bytes) h, length-drop at bytes)) h
 
 -- one comment more is passed
-pub after_comment : {bytes rest : List ℕ} {at n : ℕ} {b : Bool} → Skipped bytes at → rest ≡ drop at bytes → b ≡ begins_comment rest → b ≡ true → n ≡ comment_len rest → n ≤ length rest → Skipped bytes (at + n)
+pub after_comment : {bytes rest : List ℕ} {at n : ℕ} {b : Bool} → Skipped bytes at → rest ≡ drop at bytes → b ≡ begins_comment rest
+    → b ≡ true → n ≡ comment_len rest → n ≤ length rest → Skipped bytes (at + n)
 after_comment s r e t q w = skipped_comment s (rw (← r) q) (rw (← r) w) (rw (← r) (sym e ∙ t))
 
--- what is behind a place is no longer than the bytes
+-- what follows a place is no longer than the bytes
 pub rest_small : (bytes : List ℕ) (at : ℕ) {rest : List ℕ} {n : ℕ} → rest ≡ drop at bytes → length bytes < n → length rest < n
 rest_small bytes at r s =
     let long = ap length r ∙ length-drop at bytes in
     omega (arith, long, s)
 
 -- a comment has its two slashes
-pub comment_nearer : {bytes rest : List ℕ} {at n : ℕ} → Skipped bytes at → rest ≡ drop at bytes → n ≡ comment_len rest → n ≤ length rest → length bytes - (at + n) < length bytes - at
+pub comment_nearer : {bytes rest : List ℕ} {at n : ℕ} → Skipped bytes at → rest ≡ drop at bytes → n ≡ comment_len rest → n ≤ length rest
+    → length bytes - (at + n) < length bytes - at
 comment_nearer {bytes = bytes} {rest = rest} {at = at} s r e w =
     let long = ap length r ∙ length-drop at bytes in
     omega (arith, long, e, w, s.within)
 
-pub blank_nearer : (bytes : List ℕ) (at : ℕ) {rest : List ℕ} {b : Bool} → rest ≡ drop at bytes → b ≡ begins_blank rest → b ≡ true → length bytes - (at + 1) < length bytes - at
+pub blank_nearer : (bytes : List ℕ) (at : ℕ) {rest : List ℕ} {b : Bool} → rest ≡ drop at bytes → b ≡ begins_blank rest → b ≡ true
+    → length bytes - (at + 1) < length bytes - at
 blank_nearer bytes at {rest = rest} r e t =
     let long = ap length r ∙ length-drop at bytes in
     omega (arith, long, blank_some rest (sym e ∙ t))

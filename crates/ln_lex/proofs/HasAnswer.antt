@@ -1,5 +1,6 @@
--- All bytes have an answer: tokens, a fault, or a token too many.
-use Rattle.std.proofs.Common.{◌≡◌, ℕ, zero, suc, ◌+◌, ◌-◌, ◌<◌, ◌≤◌, ◌⊎◌, inl, inr, Bool, true, false, List, [], ◌∷◌, ◌++◌, length, take, drop, Option, Some, None, refl, ap, sym, arith, subst, length-drop}
+-- All bytes have a result: tokens, a fault, or a token too many.
+use Rattle.std.proofs.Common.{◌≡◌, ℕ, zero, suc, ◌+◌, ◌-◌, ◌<◌, ◌≤◌, ◌⊎◌, inl, inr, Bool, true, false, List, [], ◌∷◌, ◌++◌, length, take}
+use Rattle.std.proofs.Common.{drop, Option, Some, None, refl, ap, sym, arith, subst, length-drop}
 use Rattle.std.proofs.lemmas.List.{drop-drop}
 use Rattle.ln_base.specs.Words.{is_digit, is_letter, is_name_byte}
 use Rattle.ln_lex.specs.declared.token.Kind.{Kind}
@@ -7,13 +8,14 @@ use Rattle.ln_lex.specs.declared.token.Kind.TheVariants.{Number, Dots}
 use Rattle.ln_lex.specs.declared.token.Token.{Token}
 use Rattle.ln_lex.specs.Answers as answer
 use Rattle.ln_lex.specs.Answers.{IsAnswered}
-use Rattle.ln_lex.specs.Tokens.{word_kind, sign_of, kind_of, in_comment, comment_len, begins_twice, begins_comment, begins_blank, IsFirst, BeginsNone, Skips, nothing, blank, comment, Behind}
+use Rattle.ln_lex.specs.Tokens.{word_kind, sign_of, kind_of, in_comment, comment_len, begins_twice, begins_comment, begins_blank, IsFirst}
+use Rattle.ln_lex.specs.Tokens.{BeginsNone, Skips, nothing, blank, comment, Behind}
 use Rattle.ln_base.specs.Runs.{run_len}
 use Rattle.ln_lex.proofs.Longest.{name_first, number_first, one_first, two_first, no_sign, no_dot}
 use Rattle.ln_base.proofs.Runs.{run_within}
 use Rattle.ln_lex.proofs.Scanned.{Scanned, scanned_more}
 
--- what stands at the front of some bytes: a token, or none
+-- what some bytes begin with: a token, or none
 data Front (bytes : List ℕ) : Type 0 where
   a_token : (n : ℕ) (k : Kind) → IsFirst bytes n k → Front bytes
   no_token : BeginsNone bytes → Front bytes
@@ -22,13 +24,16 @@ none_empty : (m : ℕ) → m ≤ 0 → kind_of (take m []) ≡ None
 none_empty zero w = refl
 none_empty (suc m) w = absurd (omega arith)
 
-sign_front : (b : ℕ) (bs : List ℕ) → is_letter b ≡ false → is_digit b ≡ false → (v : Bool) → begins_twice 46 (b ∷ bs) ≡ v → (s : Option Kind) → sign_of b ≡ s → Front (b ∷ bs)
+sign_front : (b : ℕ) (bs : List ℕ) → is_letter b ≡ false → is_digit b ≡ false → (v : Bool) → begins_twice 46 (b ∷ bs) ≡ v
+    → (s : Option Kind) → sign_of b ≡ s → Front (b ∷ bs)
 sign_front b bs l d true t s e = a_token 2 Dots (two_first (b ∷ bs) t)
 sign_front b bs l d false t (Some k) e = a_token 1 k (one_first b bs k l d e t)
 sign_front b bs l d false t None e = no_token (λ m w. no_sign b bs l d e (no_dot b e) m)
 
 front_by : (b : ℕ) (bs : List ℕ) (v w : Bool) → is_letter b ≡ v → is_digit b ≡ w → Front (b ∷ bs)
-front_by b bs true w l d = let n = suc (run_len is_name_byte bs) in a_token n (word_kind (take n (b ∷ bs))) (name_first b bs n (word_kind (take n (b ∷ bs))) l refl refl)
+front_by b bs true w l d =
+    let n = suc (run_len is_name_byte bs) in
+    a_token n (word_kind (take n (b ∷ bs))) (name_first b bs n (word_kind (take n (b ∷ bs))) l refl refl)
 front_by b bs false true l d = a_token (suc (run_len is_digit bs)) Number (number_first b bs (suc (run_len is_digit bs)) l d refl)
 front_by b bs false false l d = sign_front b bs l d (begins_twice 46 (b ∷ bs)) refl (sign_of b) refl
 
@@ -46,7 +51,8 @@ record Gap (bytes : List ℕ) : Type 0 where
 
 blank_gap : (bytes : List ℕ) → begins_blank bytes ≡ true → Gap (drop 1 bytes) → Gap bytes
 blank_gap [] b g = absurd (cc)
-blank_gap (x ∷ xs) b g = record { len = suc g.len; within = let w = g.within in omega arith; skips = blank b g.skips; no_blank = g.no_blank; no_comment = g.no_comment }
+blank_gap (x ∷ xs) b g =
+    record { len = suc g.len; within = let w = g.within in omega arith; skips = blank b g.skips; no_blank = g.no_blank; no_comment = g.no_comment }
 
 comment_within : (bytes : List ℕ) → begins_comment bytes ≡ true → comment_len bytes ≤ length bytes
 comment_within [] c = absurd (cc)
@@ -66,7 +72,8 @@ comment_gap bytes n q h c g =
       no_comment = subst (λ (xs : List ℕ). begins_comment xs ≡ false) e g.no_comment;
     }
 
-gap_by : (n : ℕ) (bytes : List ℕ) → length bytes ≤ suc n → ((ys : List ℕ) → length ys ≤ n → Gap ys) → (v w : Bool) → begins_blank bytes ≡ v → begins_comment bytes ≡ w → Gap bytes
+gap_by : (n : ℕ) (bytes : List ℕ) → length bytes ≤ suc n → ((ys : List ℕ) → length ys ≤ n → Gap ys) → (v w : Bool) → begins_blank bytes ≡ v
+    → begins_comment bytes ≡ w → Gap bytes
 gap_by n [] h on v w b c = record { len = 0; within = omega arith; skips = nothing; no_blank = refl; no_comment = refl }
 gap_by n (x ∷ xs) h on true w b c = blank_gap (x ∷ xs) b (on xs (omega arith))
 gap_by n (x ∷ xs) h on false true b c =
@@ -82,7 +89,7 @@ gap (suc n) bytes h = gap_by n bytes h (gap n) (begins_blank bytes) (begins_comm
 below : (m n : ℕ) → (m < n) ⊎ (n ≤ m)
 below m n = grind arith
 
--- what comes behind some tokens and a gap: the end, a byte that begins no token, a token too many, or one more
+-- what comes after some tokens and a gap: the end, a byte that begins no token, a token too many, or one more
 token_step : (bytes : List ℕ) (ts : List Token) (at : ℕ) → Scanned bytes ts at → (g : Gap (drop at bytes)) → at + g.len < length bytes
     → ((us : List Token) (to : ℕ) → Scanned bytes us to → at < to → IsAnswered bytes) → Front (drop (at + g.len) bytes) → IsAnswered bytes
 token_step bytes ts at s g h on f =
@@ -100,12 +107,15 @@ token_step bytes ts at s g h on f =
     elim f [
       | no_token n ↦ answer.fault (at + g.len) (record { before = ts; few = s.few; behind = b; no_token = n })
       | a_token n kind i ↦ elim (below (length ts) 65536) [
-        | inl w ↦ let p = i.some in on (ts ++ (record { kind = kind; span = record { start = at + g.len; end = at + g.len + n } }) ∷ []) (at + g.len + n) (scanned_more s w refl g.skips refl i refl) (omega arith)
+        | inl w ↦ let p = i.some in
+            on (ts ++ (record { kind = kind; span = record { start = at + g.len; end = at + g.len + n } }) ∷ []) (at + g.len + n)
+            (scanned_more s w refl g.skips refl i refl) (omega arith)
         | inr w ↦ let v = s.few in answer.limit (at + g.len) (record { before = ts; many = omega arith; behind = b; n = n; kind = kind; token = i })
       ]
     ]
 
-step : (bytes : List ℕ) (ts : List Token) (at : ℕ) → Scanned bytes ts at → ((us : List Token) (to : ℕ) → Scanned bytes us to → at < to → IsAnswered bytes) → IsAnswered bytes
+step : (bytes : List ℕ) (ts : List Token) (at : ℕ) → Scanned bytes ts at
+    → ((us : List Token) (to : ℕ) → Scanned bytes us to → at < to → IsAnswered bytes) → IsAnswered bytes
 step bytes ts at s on =
     let g = gap (length (drop at bytes)) (drop at bytes) (omega arith) in
     elim (below (at + g.len) (length bytes)) [

@@ -1,5 +1,6 @@
--- What stands while the scanner goes from token to token.
-use Rattle.std.proofs.Common.{◌≡◌, ◌∙◌, ℕ, ◌+◌, ◌-◌, ◌<◌, ◌≤◌, false, List, [], ◌∷◌, ◌++◌, length, drop, refl, ap, sym, arith, subst, length-drop, length-append, Fits, w32, w64}
+-- What holds while the scanner goes from token to token.
+use Rattle.std.proofs.Common.{◌≡◌, ◌∙◌, ℕ, ◌+◌, ◌-◌, ◌<◌, ◌≤◌, false, List, [], ◌∷◌, ◌++◌, length, drop, refl, ap, sym, arith, subst}
+use Rattle.std.proofs.Common.{length-drop, length-append, Fits, w32, w64}
 use Rattle.std.proofs.lemmas.List.{drop-drop}
 use Rattle.ln_lex.specs.declared.token.Kind.{Kind}
 use Rattle.ln_lex.specs.declared.token.Token.{Token}
@@ -11,8 +12,10 @@ pub record Scanned (bytes : List ℕ) (ts : List Token) (at : ℕ) : Type 0 wher
   pub few : length ts ≤ 65536
   pub tokens : Stand bytes 0 ts at
 
--- one token more stands behind the last
-stand_more : (bytes : List ℕ) (at : ℕ) (ts : List Token) (to : ℕ) (t : Token) → Stand bytes at ts to → to ≤ t.span.start → Skips (drop to bytes) (t.span.start - to) → t.span.start ≤ t.span.end → IsFirst (drop t.span.start bytes) (t.span.end - t.span.start) t.kind → Stand bytes at (ts ++ t ∷ []) t.span.end
+-- one token more comes after the last
+stand_more : (bytes : List ℕ) (at : ℕ) (ts : List Token) (to : ℕ) (t : Token) → Stand bytes at ts to
+    → to ≤ t.span.start → Skips (drop to bytes) (t.span.start - to) → t.span.start ≤ t.span.end
+    → IsFirst (drop t.span.start bytes) (t.span.end - t.span.start) t.kind → Stand bytes at (ts ++ t ∷ []) t.span.end
 stand_more bytes at [] to t s a g b f =
     let a2 : at ≤ t.span.start = omega (arith, s, a) in
     let g2 : Skips (drop at bytes) (t.span.start - at) = subst (λ (w : ℕ). Skips (drop w bytes) (t.span.start - w)) (sym s) g in
@@ -20,7 +23,9 @@ stand_more bytes at [] to t s a g b f =
 stand_more bytes at (u ∷ us) to t s a g b f = (s.0, s.1, s.2, s.3, stand_more bytes u.span.end us to t s.4 a g b f)
 
 -- a gap and a token more are scanned
-pub scanned_more : {bytes gap_bytes rest : List ℕ} {ts : List Token} {at g n : ℕ} {k : Kind} {t : Token} → Scanned bytes ts at → length ts < 65536 → gap_bytes ≡ drop at bytes → Skips gap_bytes g → rest ≡ drop (at + g) bytes → IsFirst rest n k → t ≡ record { kind = k; span = record { start = at + g; end = at + g + n } } → Scanned bytes (ts ++ t ∷ []) (at + g + n)
+pub scanned_more : {bytes gap_bytes rest : List ℕ} {ts : List Token} {at g n : ℕ} {k : Kind} {t : Token} → Scanned bytes ts at
+    → length ts < 65536 → gap_bytes ≡ drop at bytes → Skips gap_bytes g → rest ≡ drop (at + g) bytes → IsFirst rest n k
+    → t ≡ record { kind = k; span = record { start = at + g; end = at + g + n } } → Scanned bytes (ts ++ t ∷ []) (at + g + n)
 scanned_more {bytes = bytes} {ts = ts} {at = at} {g = g} {n = n} {k = k} {t = t} s w e d r f q =
     let f2 : IsFirst (drop (at + g) bytes) n k = rw (← r) f in
     let d2 : Skips (drop at bytes) g = rw (← e) d in
@@ -33,14 +38,17 @@ scanned_more {bytes = bytes} {ts = ts} {at = at} {g = g} {n = n} {k = k} {t = t}
     record { within = omega (arith, f2.within, f2.some, length-drop (at + g) bytes); few = omega (arith, w, length-append ts (t ∷ [])); tokens = rw q more }
 
 -- where a gap ends with the bytes, all of them are tokens
-pub lexed_all : {bytes gap_bytes : List ℕ} {ts : List Token} {at g : ℕ} → Scanned bytes ts at → gap_bytes ≡ drop at bytes → Skips gap_bytes g → at + g ≡ length bytes → Lexed bytes ts
+pub lexed_all : {bytes gap_bytes : List ℕ} {ts : List Token} {at g : ℕ} → Scanned bytes ts at → gap_bytes ≡ drop at bytes
+    → Skips gap_bytes g → at + g ≡ length bytes → Lexed bytes ts
 lexed_all {bytes = bytes} {at = at} {g = g} s e d q =
     let d2 : Skips (drop at bytes) g = rw (← e) d in
     let n : g ≡ length bytes - at = omega (arith, q) in
     record { to = at; tokens = s.tokens; within = s.within; rest = subst (λ (v : ℕ). Skips (drop at bytes) v) n d2 }
 
--- behind a gap that doesn't end with the bytes stands a byte of neither blank nor comment
-behind_gap : (bytes gap_bytes : List ℕ) (ts : List Token) (at g : ℕ) → Scanned bytes ts at → gap_bytes ≡ drop at bytes → g ≤ length gap_bytes → Skips gap_bytes g → begins_blank (drop g gap_bytes) ≡ false → begins_comment (drop g gap_bytes) ≡ false → (at + g ≡ length bytes → ⊥) → Behind bytes ts (at + g)
+-- after a gap that doesn't end with the bytes comes a byte of neither blank nor comment
+behind_gap : (bytes gap_bytes : List ℕ) (ts : List Token) (at g : ℕ) → Scanned bytes ts at → gap_bytes ≡ drop at bytes
+    → g ≤ length gap_bytes → Skips gap_bytes g → begins_blank (drop g gap_bytes) ≡ false → begins_comment (drop g gap_bytes) ≡ false
+    → (at + g ≡ length bytes → ⊥) → Behind bytes ts (at + g)
 behind_gap bytes gap_bytes ts at g s e l d b c q =
     let d2 : Skips (drop at bytes) g = rw (← e) d in
     let n : g ≡ (at + g) - at = omega arith in
@@ -56,30 +64,37 @@ behind_gap bytes gap_bytes ts at g s e l d b c q =
       no_comment = subst (λ (xs : List ℕ). begins_comment xs ≡ false) place c;
     }
 
--- where no token begins behind a gap, there is the fault
-pub fault_behind : {bytes gap_bytes rest : List ℕ} {ts : List Token} {at g : ℕ} → Scanned bytes ts at → gap_bytes ≡ drop at bytes → g ≤ length gap_bytes → Skips gap_bytes g → begins_blank (drop g gap_bytes) ≡ false → begins_comment (drop g gap_bytes) ≡ false → (at + g ≡ length bytes → ⊥) → rest ≡ drop (at + g) bytes → BeginsNone rest → IsLexFault bytes (at + g)
+-- where no token begins after a gap, there is the fault
+pub fault_behind : {bytes gap_bytes rest : List ℕ} {ts : List Token} {at g : ℕ} → Scanned bytes ts at → gap_bytes ≡ drop at bytes
+    → g ≤ length gap_bytes → Skips gap_bytes g → begins_blank (drop g gap_bytes) ≡ false → begins_comment (drop g gap_bytes) ≡ false
+    → (at + g ≡ length bytes → ⊥) → rest ≡ drop (at + g) bytes → BeginsNone rest → IsLexFault bytes (at + g)
 fault_behind {ts = ts} s e l d b c q r f =
     record { before = ts; few = s.few; behind = behind_gap _ _ _ _ _ s e l d b c q; no_token = subst BeginsNone r f }
 
--- the token behind a gap and as many tokens as there may be is one too many
-pub limit_behind : {bytes gap_bytes rest : List ℕ} {ts : List Token} {at g n : ℕ} {k : Kind} → Scanned bytes ts at → gap_bytes ≡ drop at bytes → g ≤ length gap_bytes → Skips gap_bytes g → begins_blank (drop g gap_bytes) ≡ false → begins_comment (drop g gap_bytes) ≡ false → (at + g ≡ length bytes → ⊥) → rest ≡ drop (at + g) bytes → IsFirst rest n k → length ts ≡ 65536 → IsLexLimit bytes (at + g)
+-- the token after a gap and as many tokens as there may be is one too many
+pub limit_behind : {bytes gap_bytes rest : List ℕ} {ts : List Token} {at g n : ℕ} {k : Kind} → Scanned bytes ts at → gap_bytes ≡ drop at bytes
+    → g ≤ length gap_bytes → Skips gap_bytes g → begins_blank (drop g gap_bytes) ≡ false → begins_comment (drop g gap_bytes) ≡ false
+    → (at + g ≡ length bytes → ⊥) → rest ≡ drop (at + g) bytes → IsFirst rest n k → length ts ≡ 65536 → IsLexLimit bytes (at + g)
 limit_behind {ts = ts} {n = n} {k = k} s e l d b c q r f m =
     record { before = ts; many = m; behind = behind_gap _ _ _ _ _ s e l d b c q; n = n; kind = k; token = subst (λ (xs : List ℕ). IsFirst xs n k) r f }
 
 -- a gap ends within the bytes
-pub gap_within : {bytes gap_bytes : List ℕ} {ts : List Token} {at g : ℕ} → Scanned bytes ts at → gap_bytes ≡ drop at bytes → g ≤ length gap_bytes → at + g ≤ length bytes
+pub gap_within : {bytes gap_bytes : List ℕ} {ts : List Token} {at g : ℕ} → Scanned bytes ts at → gap_bytes ≡ drop at bytes
+    → g ≤ length gap_bytes → at + g ≤ length bytes
 gap_within {bytes = bytes} {at = at} s e l =
     let long = ap length e ∙ length-drop at bytes in
     omega (arith, long, l, s.within)
 
--- so does a token behind it
-pub token_within : (bytes : List ℕ) (start : ℕ) {rest : List ℕ} {n : ℕ} {k : Kind} → start ≤ length bytes → rest ≡ drop start bytes → IsFirst rest n k → start + n ≤ length bytes
+-- so does a token after it
+pub token_within : (bytes : List ℕ) (start : ℕ) {rest : List ℕ} {n : ℕ} {k : Kind} → start ≤ length bytes → rest ≡ drop start bytes
+    → IsFirst rest n k → start + n ≤ length bytes
 token_within bytes start w r f =
     let long = ap length r ∙ length-drop start bytes in
     omega (arith, long, f.within, w)
 
--- the place behind a token is nearer to the end
-pub token_nearer : (bytes : List ℕ) (at g : ℕ) {rest : List ℕ} {n : ℕ} {k : Kind} → at + g ≤ length bytes → rest ≡ drop (at + g) bytes → IsFirst rest n k → length bytes - (at + g + n) < length bytes - at
+-- the place after a token is nearer to the end
+pub token_nearer : (bytes : List ℕ) (at g : ℕ) {rest : List ℕ} {n : ℕ} {k : Kind} → at + g ≤ length bytes → rest ≡ drop (at + g) bytes
+    → IsFirst rest n k → length bytes - (at + g + n) < length bytes - at
 token_nearer bytes at g w r f = omega (arith, w, f.some, token_within bytes (at + g) w r f)
 
 -- places within a source are small

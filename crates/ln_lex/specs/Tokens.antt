@@ -69,7 +69,7 @@ pub record IsFirst (bytes : List ℕ) (n : ℕ) (k : Kind) : Type 0 where
 abbrev pub BeginsNone : List ℕ → Type 0
 BeginsNone bytes = (m : ℕ) → m ≤ length bytes → kind_of (take m bytes) ≡ None
 
--- the bytes that a comment may hold behind its slashes: 0 to 127 but for the line feed
+-- the bytes that a comment may hold after its slashes: 0 to 127 but for the line feed
 abbrev pub in_comment : ℕ → Bool
 in_comment b = nat_lt b 128 && not (b == 10)
 
@@ -77,7 +77,7 @@ in_comment b = nat_lt b 128 && not (b == 10)
 abbrev pub comment_len : List ℕ → ℕ
 comment_len bytes = 2 + run_len in_comment (drop 2 bytes)
 
--- this byte stands twice at the front
+-- the first two bytes are both this one
 abbrev pub begins_twice : ℕ → List ℕ → Bool
 begins_twice b [] = false
 begins_twice b (c ∷ []) = false
@@ -89,11 +89,11 @@ in_class InName = is_name_byte
 in_class Digits = is_digit
 in_class InComment = in_comment
 
--- two slashes stand at the front
+-- the first two bytes are slashes
 abbrev pub begins_comment : List ℕ → Bool
 begins_comment bytes = begins_twice 47 bytes
 
--- a blank stands at the front
+-- the first byte is a blank
 abbrev pub begins_blank : List ℕ → Bool
 begins_blank [] = false
 begins_blank (b ∷ bs) = is_blank b
@@ -105,21 +105,21 @@ pub data Skips : List ℕ → ℕ → Type 0 where
   comment : {bytes : List ℕ} {n k : ℕ} → begins_comment bytes ≡ true → k ≡ comment_len bytes + n →
       Skips (drop (comment_len bytes) bytes) n → Skips bytes k
 
--- from place `at` to place `to` stand these tokens, each the longest at its place, behind blanks and comments
+-- from place `at` to place `to` there are these tokens, each the longest at its place, after blanks and comments
 abbrev pub Stand : List ℕ → ℕ → List Token → ℕ → Type 0
 Stand bytes at [] to = at ≡ to
 Stand bytes at (t ∷ ts) to =
     (at ≤ t.span.start) × Skips (drop at bytes) (t.span.start - at) × (t.span.start ≤ t.span.end)
     × IsFirst (drop t.span.start bytes) (t.span.end - t.span.start) t.kind × Stand bytes t.span.end ts to
 
--- the bytes are these tokens, and what is behind the last is blanks and comments
+-- the bytes are these tokens, and only blanks and comments follow the last
 pub record Lexed (bytes : List ℕ) (ts : List Token) : Type 0 where
   pub to : ℕ
   pub tokens : Stand bytes 0 ts to
   pub within : to ≤ length bytes
   pub rest : Skips (drop to bytes) (length bytes - to)
 
--- behind these tokens, blanks and comments, a byte stands at this place that is neither blank nor comment
+-- after these tokens, blanks and comments there is a byte at this place that is neither blank nor comment
 pub record Behind (bytes : List ℕ) (before : List Token) (at : ℕ) : Type 0 where
   pub to : ℕ
   pub tokens : Stand bytes 0 before to
@@ -145,7 +145,7 @@ pub record IsLexLimit (bytes : List ℕ) (at : ℕ) : Type 0 where
   pub kind : Kind
   pub token : IsFirst (drop at bytes) n kind
 
--- what each refusal says of the bytes
+-- what each refusal means for the bytes
 abbrev pub StopsLexing : List ℕ → LexStop → Type 0
 StopsLexing bytes (Lexical at) = IsLexFault bytes at
 StopsLexing bytes (Limit at) = IsLexLimit bytes at

@@ -6,7 +6,7 @@ ghost use Rattle.ln_base.specs.Runs.{run_len};
 use crate::token::Kind;
 use ln_base::word::{digit, letter};
 
-/// A class of bytes that run on: what goes on with a name, digits, and what a comment may hold behind its slashes.
+/// A class of bytes that run on: what goes on with a name, digits, and what a comment may hold after its slashes.
 #[derive(Clone, Copy)]
 pub enum Class {
     InName,
@@ -47,7 +47,7 @@ pub fn sign(b: u8) -> Option<Kind>
     }
 }
 
-/// Whether a blank stands at the front: space, tab, line feed or carriage return.
+/// Whether the first byte is a blank: space, tab, line feed or carriage return.
 pub fn blank_at(bytes: &[u8]) -> bool
     ensures { result ≡ begins_blank bytes.now }
 {
@@ -57,7 +57,7 @@ pub fn blank_at(bytes: &[u8]) -> bool
     }
 }
 
-/// Whether a byte stands twice at the front.
+/// Whether the first two bytes are both this byte.
 pub fn twice_at(bytes: &[u8], b: u8) -> bool
     ensures { result ≡ begins_twice b bytes.now }
 {
@@ -75,7 +75,7 @@ pub fn after(bytes: &[u8], at: usize) -> &[u8]
     &bytes[at..]
 }
 
-/// How many bytes at the front are of the class.
+/// How many bytes at the beginning are of the class.
 pub fn run(bytes: &[u8], class: Class) -> usize
     ensures len { result ≡ run_len (in_class class) bytes.now }
     ensures within { result ≤ length bytes.now }

@@ -1,4 +1,4 @@
-//! The scanner.
+//! Splits the bytes of a source into tokens, or returns the byte at which the first fault is.
 ghost use Rattle.std.specs.Prelude.{◌≡◌, ℕ, ◌+◌, ◌<◌, ◌≤◌, ◌^◌, false, if◌then◌else◌, bytes_eq};
 ghost use Rattle.std.specs.Prelude.{List, All, IfErr, IfNone, IfOk, IfSome, drop, length};
 ghost use Rattle.ln_lex.specs.Answers.{IsAnswered};
@@ -14,7 +14,7 @@ use ln_base::{NoMemory, Seq, Span};
 use std::alloc::Global;
 
 /// Why a source has no list of tokens: at this byte begins neither blank, comment nor token; at this byte begins one
-/// token too many; or memory ran out.
+/// token too many; or out of memory.
 #[derive(Clone, Copy)]
 pub enum LexStop {
     Lexical(u32),
@@ -64,7 +64,7 @@ pub fn tokens(alloc: Global, bytes: &[u8]) -> Result<Seq<Token>, LexStop>
     }
 }
 
-// How many bytes at the front are blanks and comments.
+// How many bytes at the beginning are blanks and comments.
 fn gap(bytes: &[u8]) -> usize
     requires { length bytes.now < 2 ^ 32 }
     ensures within { result ≤ length bytes.now }
@@ -85,7 +85,7 @@ fn gap(bytes: &[u8]) -> usize
     }
 }
 
-// How many bytes the comment at the front has.
+// How many bytes the comment at the beginning has.
 fn comment(bytes: &[u8]) -> usize
     requires small { length bytes.now < 2 ^ 32 }
     requires two { 2 ≤ length bytes.now }
@@ -95,7 +95,7 @@ fn comment(bytes: &[u8]) -> usize
     2 + run(after(bytes, 2), Class::InComment)
 }
 
-// The token at the front and its length; none where no token begins there.
+// The token at the beginning and its length; none where no token begins there.
 fn first(bytes: &[u8]) -> Option<(Kind, usize)>
     requires { length bytes.now < 2 ^ 32 }
     ensures some { IfSome result (λ x. IsFirst bytes.now x.1 x.0) }
@@ -139,8 +139,8 @@ fn word(text: &[u8]) -> Kind
     or_keyword(text, b"site", Kind::Site, kind)
 }
 
-/// No bytes have two answers. Two lists of tokens are one; two faults, or two places of a token too many, are at one
-/// place; and of a list of at most 65,536 tokens, a fault and a token too many, no two stand together.
+/// No bytes have two results. Two lists of tokens are one; two faults, or two places of a token too many, are at one
+/// place; and of a list of at most 65,536 tokens, a fault and a token too many, no two hold together.
 pub fn one_answer()
     ensures one_list { (bytes : List ℕ) (ts us : List Tok) → Lexed bytes ts → Lexed bytes us → ts ≡ us }
     ensures one_fault { (bytes : List ℕ) (i j : ℕ) → IsLexFault bytes i → IsLexFault bytes j → i ≡ j }

@@ -27,7 +27,7 @@ pub enum Kind {
     Equals,
 }
 
-/// A token and where its text stands in the source.
+/// A token and where its text is in the source.
 #[derive(Clone, Copy)]
 pub struct Token {
     pub kind: Kind,

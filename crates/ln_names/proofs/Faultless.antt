@@ -1,5 +1,6 @@
 -- A file without a fault is within the limits: the table's tests, turned round.
-use Rattle.std.proofs.Common.{◌≡◌, ℕ, zero, suc, ◌+◌, ◌-◌, ◌<◌, ◌≤◌, ◌==◌, Bool, true, false, cond, not, ◌||◌, nat_lt, List, [], ◌∷◌, ◌++◌, length, Option, Some, None, refl, sym, true≢false, subst, arith}
+use Rattle.std.proofs.Common.{◌≡◌, ℕ, zero, suc, ◌+◌, ◌-◌, ◌<◌, ◌≤◌, ◌==◌, Bool, true, false, cond, not, ◌||◌, nat_lt, List, [], ◌∷◌, ◌++◌}
+use Rattle.std.proofs.Common.{length, Option, Some, None, refl, sym, true≢false, subst, arith}
 use Rattle.std.specs.Prelude.{count_by, int_lt, ℤ, pos, negsuc, ◌≤ℤ◌}
 use Rattle.std.specs.List.{list_any}
 use Rattle.std.proofs.lemmas.List.{length-append, append_assoc, append-nil}
@@ -18,12 +19,14 @@ use Rattle.ln_names.specs.declared.faults.Fault.{Fault}
 use Rattle.ln_names.specs.declared.roles.Role.{Role}
 use Rattle.ln_names.specs.declared.roles.Role.TheVariants.{Value, AfterCaret, Bare, Input, AfterDot, Operator}
 use Rattle.ln_names.specs.Numbers.{number, end_value, most_literal, most_end}
-use Rattle.ln_names.specs.Rules.{Scope, scope, ArgSite, ArgParam, is_site_arg, is_param_arg, has_site, has_param, has_site_arg, has_param_arg, has_let, coords_at, fault_at}
-use Rattle.ln_names.specs.Visits.{Visit, visits_by, range_visits, coord_visits, arg_visits, role_at, is_node_at, token_visits, expr_visits, nodes, value_visits, value_nodes, nodes_before, let_visits, pred_visits, item_visits}
+use Rattle.ln_names.specs.Rules.{Scope, scope, ArgSite, ArgParam, is_site_arg, is_param_arg, has_site, has_param, has_site_arg}
+use Rattle.ln_names.specs.Rules.{has_param_arg, has_let, coords_at, fault_at}
+use Rattle.ln_names.specs.Visits.{Visit, visits_by, range_visits, coord_visits, arg_visits, role_at, is_node_at, token_visits, expr_visits}
+use Rattle.ln_names.specs.Visits.{nodes, value_visits, value_nodes, nodes_before, let_visits, pred_visits, item_visits}
 use Rattle.ln_names.specs.First.{Clean, NoFault}
 use Rattle.ln_names.specs.Limits.{Each, RangeWithin, CoordWithin, IsKnown, ArgWithin, TokenWithin, ValueWithin, LetWithin, PredWithin, ItemWithin, FileWithin}
 
--- where no row's test holds, the first one's doesn't, and none behind it
+-- where no row's test holds, the first one's doesn't, and none after it
 no_row : (a : Bool) (f : Fault) (o : Option Fault) → cond a (Some f) o ≡ None → (a ≡ false) × (o ≡ None)
 no_row true f o h = absurd (cc)
 no_row false f o h = (refl, h)
@@ -52,7 +55,8 @@ pub clean_append : (bytes : List ℕ) (vs ws : List Visit) → Clean bytes (vs +
 clean_append bytes [] ws c = (tt, c)
 clean_append bytes (v ∷ vs) ws c = let r = clean_append bytes vs ws c.1 in ((c.0, r.0), r.1)
 
-pub clean_each : {A : Type 0} (bytes : List ℕ) (f : List A → A → List Visit) (before xs : List A) → Clean bytes (visits_by f before xs) → Each (λ b x. Clean bytes (f b x)) before xs
+pub clean_each : {A : Type 0} (bytes : List ℕ) (f : List A → A → List Visit) (before xs : List A) → Clean bytes (visits_by f before xs)
+    → Each (λ b x. Clean bytes (f b x)) before xs
 clean_each bytes f before [] c = tt
 clean_each bytes f before (x ∷ xs) c =
     let p = clean_append bytes (f before x) (visits_by f (before ++ (x ∷ [])) xs) c in
@@ -62,7 +66,7 @@ each_weaker : {A : Type 0} (P Q : List A → A → Type 0) (before xs : List A) 
 each_weaker P Q before [] f e = tt
 each_weaker P Q before (x ∷ xs) f e = (f before x e.0, each_weaker P Q (before ++ (x ∷ [])) xs f e.1)
 
--- no element stands behind n others, so there are at most n
+-- no element comes after n others, so there are at most n
 at_most : {A : Type 0} (n : ℕ) (before xs : List A) → length before ≤ n → Each (λ b x. (length b == n) ≡ false) before xs → length before + length xs ≤ n
 at_most n before [] l e = omega (arith, l)
 at_most n before (x ∷ xs) l e =
@@ -72,7 +76,8 @@ at_most n before (x ∷ xs) l e =
     omega (arith, a, r)
 
 -- a list with one more element that is counted, or not
-one_more : {A : Type 0} (p : A → Bool) (n : ℕ) (before : List A) (x : A) (b : Bool) → p x ≡ b → count_by p before ≤ n → (p x ≡ true → (count_by p before == n) ≡ false) → count_by p (before ++ (x ∷ [])) ≤ n
+one_more : {A : Type 0} (p : A → Bool) (n : ℕ) (before : List A) (x : A) (b : Bool) → p x ≡ b → count_by p before ≤ n
+    → (p x ≡ true → (count_by p before == n) ≡ false) → count_by p (before ++ (x ∷ [])) ≤ n
 one_more p n before x true q l e =
     let a : count_by p (before ++ (x ∷ [])) ≡ count_by p before + (0 + cond (p x) 1 0) = sum_by-append (λ y. cond (p y) 1 0) before (x ∷ []) in
     let b = rw q at a in
@@ -83,8 +88,9 @@ one_more p n before x false q l e =
     let b = rw q at a in
     omega (arith, b, l)
 
--- no element that is counted stands behind n that are, so at most n are
-at_most_of : {A : Type 0} (p : A → Bool) (n : ℕ) (before xs : List A) → count_by p before ≤ n → Each (λ b x. p x ≡ true → (count_by p b == n) ≡ false) before xs → count_by p (before ++ xs) ≤ n
+-- no element that is counted comes after n that are, so at most n are
+at_most_of : {A : Type 0} (p : A → Bool) (n : ℕ) (before xs : List A) → count_by p before ≤ n
+    → Each (λ b x. p x ≡ true → (count_by p b == n) ≡ false) before xs → count_by p (before ++ xs) ≤ n
 at_most_of p n before [] l e = rw (append-nil before) l
 at_most_of {A} p n before (x ∷ xs) l e =
     let r = at_most_of p n (before ++ (x ∷ [])) xs (one_more p n before x (p x) refl l e.0) e.1 in
@@ -112,15 +118,21 @@ range_within bytes r c =
     let b = not_above most_end (number bytes r.high.at) h1.0 in
     record { low = omega (arith, a); high = omega (arith, b); order = in_order (end_value bytes r.low) (end_value bytes r.high) h1.1 }
 
-coord_within : (bytes : List ℕ) (before : List RawCoord) (c : RawCoord) → Clean bytes (coord_visits before c) → CoordWithin bytes before c × ((length before == 32) ≡ false)
+coord_within : (bytes : List ℕ) (before : List RawCoord) (c : RawCoord) → Clean bytes (coord_visits before c)
+    → CoordWithin bytes before c × ((length before == 32) ≡ false)
 coord_within bytes before c h =
     let n = rows_three _ _ _ _ _ _ h.0 in
     (record { short = not_above 32 _ n.0; new = n.2; range = range_within bytes c.range h.1 }, n.1)
 
-kind_within : (bytes : List ℕ) (is : List Item) (before : List RawArg) (a : RawArg) (b : Bool) → fault_at bytes (cond b (ArgParam is before a.name) (ArgSite is before)) a.kind ≡ None →
+kind_within : (bytes : List ℕ) (is : List Item) (before : List RawArg) (a : RawArg) (b : Bool) →
+    fault_at bytes (cond b (ArgParam is before a.name) (ArgSite is before)) a.kind ≡ None →
     IsKnown bytes is a b × (b ≡ true → (count_by is_param_arg before == 8) ≡ false) × (not b ≡ true → (count_by is_site_arg before == 5) ≡ false)
-kind_within bytes is before a true h = let r = rows_two (count_by is_param_arg before == 8) (not (has_param bytes is a.name)) _ _ h in (not_false _ r.1, λ q. r.0, λ q. absurd (true≢false (sym q)))
-kind_within bytes is before a false h = let r = rows_three (nat_lt 32 (length (text bytes a.kind))) (count_by is_site_arg before == 5) (not (has_site bytes is a.kind)) _ _ _ h in (not_false _ r.2, λ q. absurd (true≢false (sym q)), λ q. r.1)
+kind_within bytes is before a true h =
+    let r = rows_two (count_by is_param_arg before == 8) (not (has_param bytes is a.name)) _ _ h in
+    (not_false _ r.1, λ q. r.0, λ q. absurd (true≢false (sym q)))
+kind_within bytes is before a false h =
+    let r = rows_three (nat_lt 32 (length (text bytes a.kind))) (count_by is_site_arg before == 5) (not (has_site bytes is a.kind)) _ _ _ h in
+    (not_false _ r.2, λ q. absurd (true≢false (sym q)), λ q. r.1)
 
 arg_within : (bytes : List ℕ) (is : List Item) (before : List RawArg) (a : RawArg) → Clean bytes (arg_visits is before a) → ArgWithin bytes is before a
 arg_within bytes is before a h =
@@ -128,19 +140,31 @@ arg_within bytes is before a h =
     let k = kind_within bytes is before a a.is_param h.1.0 in
     record { short = not_above 32 _ n.0; new = n.1; known = k.0 }
 
-token_within : (bytes : List ℕ) (ts : List Token) (s : Scope) (n k : ℕ) (o : Option Role) → Clean bytes (token_visits ts s n k o) → TokenWithin bytes ts s k o × (n ≤ 2048 → n + is_node_at o ≤ 2048)
+token_within : (bytes : List ℕ) (ts : List Token) (s : Scope) (n k : ℕ) (o : Option Role) → Clean bytes (token_visits ts s n k o)
+    → TokenWithin bytes ts s k o × (n ≤ 2048 → n + is_node_at o ≤ 2048)
 token_within bytes ts s n k None c = (tt, λ l. omega (arith, l))
 token_within bytes ts s n k (Some Value) c =
     let r : (nat_lt most_literal (number bytes (span_at ts k)) ≡ false) × ((n == 2048) ≡ false) = rows_two _ _ _ _ c.0 in
     let a = not_above most_literal (number bytes (span_at ts k)) r.0 in
     (omega (arith, a), λ l. let m = not_there n 2048 r.1 l in omega (arith, m))
-token_within bytes ts s n k (Some AfterCaret) c = let r = rows_two (nat_lt most_literal (number bytes (span_at ts k))) (nat_lt 16 (number bytes (span_at ts k))) _ _ c.0 in (not_above 16 _ r.1, λ l. omega (arith, l))
-token_within bytes ts s n k (Some Bare) c = let r = rows_three (nat_lt 32 (length (text bytes (span_at ts k)))) (n == 2048) (not (has_let bytes s.lets (span_at ts k) || has_param_arg bytes s.args (span_at ts k))) _ _ _ c.0 in (not_false _ r.2, λ l. let m = not_there n 2048 r.1 l in omega (arith, m))
-token_within bytes ts s n k (Some Input) c = let r = rows_three (nat_lt 32 (length (text bytes (span_at ts k)))) (n == 2048) (not (has_site_arg bytes s.args (span_at ts k))) _ _ _ c.0 in (not_false _ r.2, λ l. let m = not_there n 2048 r.1 l in omega (arith, m))
-token_within bytes ts s n k (Some AfterDot) c = let r = rows_two (nat_lt 32 (length (text bytes (span_at ts k)))) (not (list_any (λ c. same bytes c.name (span_at ts k)) (coords_at bytes s (span_at ts (k - 2))))) _ _ c.0 in (not_false _ r.1, λ l. omega (arith, l))
+token_within bytes ts s n k (Some AfterCaret) c =
+    let r = rows_two (nat_lt most_literal (number bytes (span_at ts k))) (nat_lt 16 (number bytes (span_at ts k))) _ _ c.0 in
+    (not_above 16 _ r.1, λ l. omega (arith, l))
+token_within bytes ts s n k (Some Bare) c =
+    let r = rows_three (nat_lt 32 (length (text bytes (span_at ts k)))) (n == 2048)
+    (not (has_let bytes s.lets (span_at ts k) || has_param_arg bytes s.args (span_at ts k))) _ _ _ c.0 in
+    (not_false _ r.2, λ l. let m = not_there n 2048 r.1 l in omega (arith, m))
+token_within bytes ts s n k (Some Input) c =
+    let r = rows_three (nat_lt 32 (length (text bytes (span_at ts k)))) (n == 2048) (not (has_site_arg bytes s.args (span_at ts k))) _ _ _ c.0 in
+    (not_false _ r.2, λ l. let m = not_there n 2048 r.1 l in omega (arith, m))
+token_within bytes ts s n k (Some AfterDot) c =
+    let r = rows_two (nat_lt 32 (length (text bytes (span_at ts k))))
+    (not (list_any (λ c. same bytes c.name (span_at ts k)) (coords_at bytes s (span_at ts (k - 2))))) _ _ c.0 in
+    (not_false _ r.1, λ l. omega (arith, l))
 token_within bytes ts s n k (Some Operator) c = let r = row _ _ c.0 in (tt, λ l. let m = not_there n 2048 r l in omega (arith, m))
 
-tokens_within : (bytes : List ℕ) (ts : List Token) (s : Scope) (n k m : ℕ) → Clean bytes (expr_visits ts s n k m) → (d : ℕ) → d < m → TokenWithin bytes ts s (k + d) (role_at ts (k + d))
+tokens_within : (bytes : List ℕ) (ts : List Token) (s : Scope) (n k m : ℕ) → Clean bytes (expr_visits ts s n k m) → (d : ℕ) → d < m
+    → TokenWithin bytes ts s (k + d) (role_at ts (k + d))
 tokens_within bytes ts s n k zero c d l = let f : ⊥ = omega (arith, l) in absurd f
 tokens_within bytes ts s n k (suc m) c zero l =
     let p = clean_append bytes (token_visits ts s n k (role_at ts k)) (expr_visits ts s (n + is_node_at (role_at ts k)) (k + 1) m) c in
@@ -164,34 +188,43 @@ value_within bytes ts s n p c = λ k l h.
     let q : p.from + (k - p.from) ≡ k = omega (arith, l) in
     subst (λ (w : ℕ). TokenWithin bytes ts s w (role_at ts w)) q (tokens_within bytes ts s n p.from (p.to - p.from) c (k - p.from) (omega (arith, l, h)))
 
-let_within : (bytes : List ℕ) (ts : List Token) (is : List Item) (args : List RawArg) (before : List RawLet) (l : RawLet) → Clean bytes (let_visits ts is args before l) →
+let_within : (bytes : List ℕ) (ts : List Token) (is : List Item) (args : List RawArg) (before : List RawLet) (l : RawLet) →
+    Clean bytes (let_visits ts is args before l) →
     LetWithin bytes ts is args before l × ((length before == 64) ≡ false)
 let_within bytes ts is args before l c =
     let n = rows_three _ _ _ _ _ _ c.0 in
     (record { short = not_above 32 _ n.0; new = n.2; value = value_within bytes ts (scope is args before) (nodes_before ts before) l.value c.1 }, n.1)
 
-lets_few : (bytes : List ℕ) (ts : List Token) (is : List Item) (args : List RawArg) (before ls : List RawLet) → Each (λ b l. Clean bytes (let_visits ts is args b l)) before ls → nodes_before ts before ≤ 2048 → nodes_before ts (before ++ ls) ≤ 2048
+lets_few : (bytes : List ℕ) (ts : List Token) (is : List Item) (args : List RawArg) (before ls : List RawLet)
+    → Each (λ b l. Clean bytes (let_visits ts is args b l)) before ls → nodes_before ts before ≤ 2048 → nodes_before ts (before ++ ls) ≤ 2048
 lets_few bytes ts is args before [] e h = rw (append-nil before) h
 lets_few bytes ts is args before (l ∷ ls) e h =
     let a = tokens_few bytes ts (scope is args before) (nodes_before ts before) l.value.from (l.value.to - l.value.from) e.0.1 h in
-    let b : nodes_before ts (before ++ (l ∷ [])) ≡ nodes_before ts before + (0 + value_nodes ts l.value) = sum_by-append (λ (m : RawLet). value_nodes ts m.value) before (l ∷ []) in
+    let b : nodes_before ts (before ++ (l ∷ [])) ≡ nodes_before ts before + (0 + value_nodes ts l.value) =
+    sum_by-append (λ (m : RawLet). value_nodes ts m.value) before (l ∷ []) in
     let r = lets_few bytes ts is args (before ++ (l ∷ [])) ls e.1 (omega (arith, a, b)) in
     subst (λ (ms : List RawLet). nodes_before ts ms ≤ 2048) (append_assoc before (l ∷ []) ls) r
 
-pred_within : (bytes : List ℕ) (ts : List Token) (is : List Item) (args : List RawArg) (ls : List RawLet) (root : Places) → Clean bytes (pred_visits ts is args ls root) → PredWithin bytes ts is args ls root
+pred_within : (bytes : List ℕ) (ts : List Token) (is : List Item) (args : List RawArg) (ls : List RawLet) (root : Places)
+    → Clean bytes (pred_visits ts is args ls root) → PredWithin bytes ts is args ls root
 pred_within bytes ts is args ls root c =
-    let p = clean_append bytes (visits_by (arg_visits is) [] args) (visits_by (let_visits ts is args) [] ls ++ value_visits ts (scope is args ls) (nodes_before ts ls) root) c in
+    let p = clean_append bytes (visits_by (arg_visits is) [] args)
+    (visits_by (let_visits ts is args) [] ls ++ value_visits ts (scope is args ls) (nodes_before ts ls) root) c in
     let q = clean_append bytes (visits_by (let_visits ts is args) [] ls) (value_visits ts (scope is args ls) (nodes_before ts ls) root) p.1 in
     let a = clean_each bytes (arg_visits is) [] args p.0 in
     let l = clean_each bytes (let_visits ts is args) [] ls q.0 in
     let few = lets_few bytes ts is args [] ls l (omega arith) in
-    let counted = at_most 64 [] ls (omega arith) (each_weaker (λ b x. Clean bytes (let_visits ts is args b x)) (λ b x. (length b == 64) ≡ false) [] ls (λ b x h. (let_within bytes ts is args b x h).1) l) in
+    let counted = at_most 64 [] ls (omega arith) (each_weaker (λ b x. Clean bytes (let_visits ts is args b x))
+    (λ b x. (length b == 64) ≡ false) [] ls (λ b x h. (let_within bytes ts is args b x h).1) l) in
     record {
-      site_args = at_most_of is_site_arg 5 [] args (omega arith) (each_weaker (λ b x. Clean bytes (arg_visits is b x)) (λ b x. is_site_arg x ≡ true → (count_by is_site_arg b == 5) ≡ false) [] args (λ b x h. (kind_within bytes is b x x.is_param h.1.0).2) a);
-      param_args = at_most_of is_param_arg 8 [] args (omega arith) (each_weaker (λ b x. Clean bytes (arg_visits is b x)) (λ b x. is_param_arg x ≡ true → (count_by is_param_arg b == 8) ≡ false) [] args (λ b x h. (kind_within bytes is b x x.is_param h.1.0).1) a);
+      site_args = at_most_of is_site_arg 5 [] args (omega arith) (each_weaker (λ b x. Clean bytes (arg_visits is b x))
+          (λ b x. is_site_arg x ≡ true → (count_by is_site_arg b == 5) ≡ false) [] args (λ b x h. (kind_within bytes is b x x.is_param h.1.0).2) a);
+      param_args = at_most_of is_param_arg 8 [] args (omega arith) (each_weaker (λ b x. Clean bytes (arg_visits is b x))
+          (λ b x. is_param_arg x ≡ true → (count_by is_param_arg b == 8) ≡ false) [] args (λ b x h. (kind_within bytes is b x x.is_param h.1.0).1) a);
       args_each = each_weaker (λ b x. Clean bytes (arg_visits is b x)) (ArgWithin bytes is) [] args (arg_within bytes is) a;
       let_count = omega (arith, counted);
-      lets_each = each_weaker (λ b x. Clean bytes (let_visits ts is args b x)) (LetWithin bytes ts is args) [] ls (λ b x h. (let_within bytes ts is args b x h).0) l;
+      lets_each = each_weaker (λ b x. Clean bytes (let_visits ts is args b x)) (LetWithin bytes ts is args) [] ls
+          (λ b x h. (let_within bytes ts is args b x h).0) l;
       root_value = value_within bytes ts (scope is args ls) (nodes_before ts ls) root q.1;
       node_count = tokens_few bytes ts (scope is args ls) (nodes_before ts ls) root.from (root.to - root.from) q.1 few;
     }
@@ -199,25 +232,35 @@ pred_within bytes ts is args ls root c =
 coords_within : (bytes : List ℕ) (cs : List RawCoord) → Clean bytes (visits_by coord_visits [] cs) → (length cs ≤ 32) × Each (CoordWithin bytes) [] cs
 coords_within bytes cs c =
     let e = clean_each bytes coord_visits [] cs c in
-    let counted = at_most 32 [] cs (omega arith) (each_weaker (λ b x. Clean bytes (coord_visits b x)) (λ b x. (length b == 32) ≡ false) [] cs (λ b x h. (coord_within bytes b x h).1) e) in
+    let counted = at_most 32 [] cs (omega arith)
+    (each_weaker (λ b x. Clean bytes (coord_visits b x)) (λ b x. (length b == 32) ≡ false) [] cs (λ b x h. (coord_within bytes b x h).1) e) in
     (omega (arith, counted), each_weaker (λ b x. Clean bytes (coord_visits b x)) (CoordWithin bytes) [] cs (λ b x h. (coord_within bytes b x h).0) e)
 
 item_within : (bytes : List ℕ) (ts : List Token) (before : List Item) (i : Item) → Clean bytes (item_visits ts before i) → ItemWithin bytes ts before i
-item_within bytes ts before (SiteItem name cs) c = let n = rows_three _ _ _ _ _ _ c.0 in record { short = not_above 32 _ n.0; new = n.2; parts = coords_within bytes cs c.1 }
-item_within bytes ts before (ParamItem name r) c = let n = rows_three _ _ _ _ _ _ c.0 in record { short = not_above 32 _ n.0; new = n.2; parts = range_within bytes r c.1 }
-item_within bytes ts before (PredItem name args ls root) c = let n = rows_three _ _ _ _ _ _ c.0 in record { short = not_above 32 _ n.0; new = n.2; parts = pred_within bytes ts before args ls root c.1 }
+item_within bytes ts before (SiteItem name cs) c =
+    let n = rows_three _ _ _ _ _ _ c.0 in
+    record { short = not_above 32 _ n.0; new = n.2; parts = coords_within bytes cs c.1 }
+item_within bytes ts before (ParamItem name r) c =
+    let n = rows_three _ _ _ _ _ _ c.0 in
+    record { short = not_above 32 _ n.0; new = n.2; parts = range_within bytes r c.1 }
+item_within bytes ts before (PredItem name args ls root) c =
+    let n = rows_three _ _ _ _ _ _ c.0 in
+    record { short = not_above 32 _ n.0; new = n.2; parts = pred_within bytes ts before args ls root c.1 }
 
-site_counted : (bytes : List ℕ) (ts : List Token) (before : List Item) (i : Item) → Clean bytes (item_visits ts before i) → is_site i ≡ true → (count_by is_site before == 16) ≡ false
+site_counted : (bytes : List ℕ) (ts : List Token) (before : List Item) (i : Item) → Clean bytes (item_visits ts before i) → is_site i ≡ true
+    → (count_by is_site before == 16) ≡ false
 site_counted bytes ts before (SiteItem name cs) c q = (rows_three _ _ _ _ _ _ c.0).1
 site_counted bytes ts before (ParamItem name r) c q = absurd (cc)
 site_counted bytes ts before (PredItem name args ls root) c q = absurd (cc)
 
-param_counted : (bytes : List ℕ) (ts : List Token) (before : List Item) (i : Item) → Clean bytes (item_visits ts before i) → is_param i ≡ true → (count_by is_param before == 16) ≡ false
+param_counted : (bytes : List ℕ) (ts : List Token) (before : List Item) (i : Item) → Clean bytes (item_visits ts before i)
+    → is_param i ≡ true → (count_by is_param before == 16) ≡ false
 param_counted bytes ts before (SiteItem name cs) c q = absurd (cc)
 param_counted bytes ts before (ParamItem name r) c q = (rows_three _ _ _ _ _ _ c.0).1
 param_counted bytes ts before (PredItem name args ls root) c q = absurd (cc)
 
-pred_counted : (bytes : List ℕ) (ts : List Token) (before : List Item) (i : Item) → Clean bytes (item_visits ts before i) → is_pred i ≡ true → (count_by is_pred before == 16) ≡ false
+pred_counted : (bytes : List ℕ) (ts : List Token) (before : List Item) (i : Item) → Clean bytes (item_visits ts before i) → is_pred i ≡ true
+    → (count_by is_pred before == 16) ≡ false
 pred_counted bytes ts before (SiteItem name cs) c q = absurd (cc)
 pred_counted bytes ts before (ParamItem name r) c q = absurd (cc)
 pred_counted bytes ts before (PredItem name args ls root) c q = (rows_three _ _ _ _ _ _ c.0).1
@@ -226,8 +269,11 @@ pub faultless_is_within : (bytes : List ℕ) (ts : List Token) (is : List Item) 
 faultless_is_within bytes ts is c =
     let e = clean_each bytes (item_visits ts) [] is c in
     record {
-      sites = at_most_of is_site 16 [] is (omega arith) (each_weaker (λ b x. Clean bytes (item_visits ts b x)) (λ b x. is_site x ≡ true → (count_by is_site b == 16) ≡ false) [] is (site_counted bytes ts) e);
-      params = at_most_of is_param 16 [] is (omega arith) (each_weaker (λ b x. Clean bytes (item_visits ts b x)) (λ b x. is_param x ≡ true → (count_by is_param b == 16) ≡ false) [] is (param_counted bytes ts) e);
-      preds = at_most_of is_pred 16 [] is (omega arith) (each_weaker (λ b x. Clean bytes (item_visits ts b x)) (λ b x. is_pred x ≡ true → (count_by is_pred b == 16) ≡ false) [] is (pred_counted bytes ts) e);
+      sites = at_most_of is_site 16 [] is (omega arith) (each_weaker (λ b x. Clean bytes (item_visits ts b x))
+          (λ b x. is_site x ≡ true → (count_by is_site b == 16) ≡ false) [] is (site_counted bytes ts) e);
+      params = at_most_of is_param 16 [] is (omega arith) (each_weaker (λ b x. Clean bytes (item_visits ts b x))
+          (λ b x. is_param x ≡ true → (count_by is_param b == 16) ≡ false) [] is (param_counted bytes ts) e);
+      preds = at_most_of is_pred 16 [] is (omega arith) (each_weaker (λ b x. Clean bytes (item_visits ts b x))
+          (λ b x. is_pred x ≡ true → (count_by is_pred b == 16) ≡ false) [] is (pred_counted bytes ts) e);
       each = each_weaker (λ b x. Clean bytes (item_visits ts b x)) (ItemWithin bytes ts) [] is (item_within bytes ts) e;
     }

@@ -7,15 +7,24 @@ use Rattle.ln_names.specs.Visits.{Visit, visit, first_fault, or_later}
 use Rattle.ln_names.specs.First.{Clean, IsFirst}
 use Rattle.ln_names.proofs.Walking.{first_append}
 
-here : (bytes : List ℕ) (v : Visit) (vs : List Visit) (a : Fault) (f : Found) → fault_at bytes v.use_of v.at ≡ Some a → or_later (Some a) v.at (first_fault bytes vs) ≡ Some f → IsFirst bytes (v ∷ vs) f
+here : (bytes : List ℕ) (v : Visit) (vs : List Visit) (a : Fault) (f : Found) → fault_at bytes v.use_of v.at ≡ Some a
+    → or_later (Some a) v.at (first_fault bytes vs) ≡ Some f → IsFirst bytes (v ∷ vs) f
 here bytes v vs a f e h =
     let q : record { fault = a; at = v.at } ≡ f = cc in
     subst (λ (g : Found). IsFirst bytes (v ∷ vs) g) q (record { before = []; use_of = v.use_of; after = vs; stands = refl; clean = tt; fault = e })
 
 later : (bytes : List ℕ) (v : Visit) (vs : List Visit) (f : Found) → fault_at bytes v.use_of v.at ≡ None → IsFirst bytes vs f → IsFirst bytes (v ∷ vs) f
-later bytes v vs f e r = record { before = v ∷ r.before; use_of = r.use_of; after = r.after; stands = ap (λ (w : List Visit). v ∷ w) r.stands; clean = (e, r.clean); fault = r.fault }
+later bytes v vs f e r = record {
+  before = v ∷ r.before;
+  use_of = r.use_of;
+  after = r.after;
+  stands = ap (λ (w : List Visit). v ∷ w) r.stands;
+  clean = (e, r.clean);
+  fault = r.fault;
+}
 
-found : (bytes : List ℕ) (v : Visit) (vs : List Visit) (f : Found) (o : Option Fault) → fault_at bytes v.use_of v.at ≡ o → or_later o v.at (first_fault bytes vs) ≡ Some f → (first_fault bytes vs ≡ Some f → IsFirst bytes vs f) → IsFirst bytes (v ∷ vs) f
+found : (bytes : List ℕ) (v : Visit) (vs : List Visit) (f : Found) (o : Option Fault) → fault_at bytes v.use_of v.at ≡ o
+    → or_later o v.at (first_fault bytes vs) ≡ Some f → (first_fault bytes vs ≡ Some f → IsFirst bytes vs f) → IsFirst bytes (v ∷ vs) f
 found bytes v vs f None e h on = later bytes v vs f e (on h)
 found bytes v vs f (Some a) e h on = here bytes v vs a f e h
 
@@ -23,7 +32,8 @@ pub is_first : (bytes : List ℕ) (vs : List Visit) (f : Found) → first_fault 
 is_first bytes [] f h = absurd (cc)
 is_first bytes (v ∷ vs) f h = found bytes v vs f (fault_at bytes v.use_of v.at) refl h (is_first bytes vs f)
 
-clean_at : (bytes : List ℕ) (v : Visit) (vs : List Visit) (o : Option Fault) → fault_at bytes v.use_of v.at ≡ o → or_later o v.at (first_fault bytes vs) ≡ None → (first_fault bytes vs ≡ None → Clean bytes vs) → Clean bytes (v ∷ vs)
+clean_at : (bytes : List ℕ) (v : Visit) (vs : List Visit) (o : Option Fault) → fault_at bytes v.use_of v.at ≡ o
+    → or_later o v.at (first_fault bytes vs) ≡ None → (first_fault bytes vs ≡ None → Clean bytes vs) → Clean bytes (v ∷ vs)
 clean_at bytes v vs None e h on = (e, on h)
 clean_at bytes v vs (Some a) e h on = absurd (cc)
 

@@ -1,5 +1,6 @@
 -- Lists of items, and digits.
-use Rattle.std.proofs.Common.{◌≡◌, ℕ, zero, suc, ◌+◌, ◌-◌, ◌*◌, ◌<◌, ◌≤◌, min, Bool, true, false, cond, ◌||◌, ◌⊎◌, inl, inr, List, [], ◌∷◌, length, get_or, take, drop, Some, refl, ap, sym, ◌∙◌, arith, drop-cons, add-one}
+use Rattle.std.proofs.Common.{◌≡◌, ℕ, zero, suc, ◌+◌, ◌-◌, ◌*◌, ◌<◌, ◌≤◌, min, Bool, true, false, cond, ◌||◌, ◌⊎◌, inl, inr, List, [], ◌∷◌}
+use Rattle.std.proofs.Common.{length, get_or, take, drop, Some, refl, ap, sym, ◌∙◌, arith, drop-cons, add-one}
 use Rattle.std.specs.Prelude.{option_map}
 use Rattle.std.specs.List.{list_any, find, position_from, count_by}
 use Rattle.std.specs.Int.{from_bool}
@@ -20,7 +21,10 @@ pub find_items : (p : Item → Bool) (is : List RawItem) → find p (items is) �
 find_items p [] = refl
 find_items p (i ∷ is) =
     let rest = find_items p is in
-    elim (p (item i)) as (λ b. cond b (Some (item i)) (find p (items is)) ≡ option_map item (cond b (Some i) (find (λ i. p (item i)) is))) [ true ↦ refl | false ↦ rest ]
+    elim (p (item i)) as (λ b. cond b (Some (item i)) (find p (items is)) ≡ option_map item (cond b (Some i) (find (λ i. p (item i)) is))) [
+      | true ↦ refl
+      | false ↦ rest
+    ]
 
 grows : (n : ℕ) (ds : List ℕ) → n ≤ decimal n ds
 grows n [] = omega arith
@@ -35,10 +39,12 @@ capped n c ds = elim (one_of n c) [
   | inr e ↦ rw e.0 (omega (arith, grows c ds, grows n ds, e.1))
 ]
 
-pub one_digit : (n c i : ℕ) (xs : List ℕ) → i < length xs → min (decimal (min (10 * n + (get_or xs i 0 - 48)) c) (drop (i + 1) xs)) c ≡ min (decimal n (drop i xs)) c
+pub one_digit : (n c i : ℕ) (xs : List ℕ) → i < length xs
+    → min (decimal (min (10 * n + (get_or xs i 0 - 48)) c) (drop (i + 1) xs)) c ≡ min (decimal n (drop i xs)) c
 one_digit n c i xs h = rw (add-one, drop-cons xs i 0) (capped (10 * n + (get_or xs i 0 - 48)) c (drop (suc i) xs))
 
-below_by : {A : Type 0} (b : Bool) (p : A → Bool) (i : ℕ) (xs : List A) (n : ℕ) → cond b (Some i) (position_from p (i + 1) xs) ≡ Some n → (position_from p (i + 1) xs ≡ Some n → n < (i + 1) + length xs) → n < i + suc (length xs)
+below_by : {A : Type 0} (b : Bool) (p : A → Bool) (i : ℕ) (xs : List A) (n : ℕ) → cond b (Some i) (position_from p (i + 1) xs) ≡ Some n
+    → (position_from p (i + 1) xs ≡ Some n → n < (i + 1) + length xs) → n < i + suc (length xs)
 below_by true p i xs n h on = let q : i ≡ n = cc in omega arith
 below_by false p i xs n h on = let q = on h in omega arith
 
@@ -55,14 +61,17 @@ items_long [] = refl
 items_long (i ∷ is) = ap suc (items_long is)
 
 -- one item more is counted
-pub items_counted : (p : Item → Bool) (is : List RawItem) (i n m : ℕ) (x : RawItem) → i < length is → x ≡ get_or is i x → n ≡ count_by p (take i (items is)) → m ≡ from_bool (p (item x)) → n + m ≡ count_by p (take (i + 1) (items is))
+pub items_counted : (p : Item → Bool) (is : List RawItem) (i n m : ℕ) (x : RawItem) → i < length is → x ≡ get_or is i x
+    → n ≡ count_by p (take i (items is)) → m ≡ from_bool (p (item x)) → n + m ≡ count_by p (take (i + 1) (items is))
 items_counted p is i n m x l e c h =
     counted_more p (items is) i n m (item x) (omega (arith, l, items_long is)) c (h ∙ ap (λ (w : Item). from_bool (p w)) (sym (item_at is i x l e)))
 
--- so many items there are
-pub items_fit : (p : Item → Bool) (is : List RawItem) (i n m : ℕ) (x : RawItem) → i < length is → x ≡ get_or is i x → n ≡ count_by p (take i (items is)) → m ≡ from_bool (p (item x)) → n + m ≤ length is
+-- there are this many items
+pub items_fit : (p : Item → Bool) (is : List RawItem) (i n m : ℕ) (x : RawItem) → i < length is → x ≡ get_or is i x
+    → n ≡ count_by p (take i (items is)) → m ≡ from_bool (p (item x)) → n + m ≤ length is
 items_fit p is i n m x l e c h =
-    let most = counted_fits p (items is) i n m (item x) (omega (arith, l, items_long is)) c (h ∙ ap (λ (w : Item). from_bool (p w)) (sym (item_at is i x l e))) in
+    let most =
+    counted_fits p (items is) i n m (item x) (omega (arith, l, items_long is)) c (h ∙ ap (λ (w : Item). from_bool (p w)) (sym (item_at is i x l e))) in
     omega (arith, most, items_long is)
 
 -- all items are counted
@@ -76,10 +85,12 @@ kind_within (t ∷ ts) zero k h = omega arith
 kind_within (t ∷ ts) (suc i) k h = let r = kind_within ts i k h in omega arith
 
 -- a loop that looks for an element: it is found, it isn't this one, there is none
-pub any_found : {X : Type 0} (p : X → Bool) (xs : List X) (i : ℕ) (d : X) → i < length xs → p (get_or xs i d) ≡ true → list_any p (drop i xs) ≡ list_any p xs → true ≡ list_any p xs
+pub any_found : {X : Type 0} (p : X → Bool) (xs : List X) (i : ℕ) (d : X) → i < length xs → p (get_or xs i d) ≡ true
+    → list_any p (drop i xs) ≡ list_any p xs → true ≡ list_any p xs
 any_found p xs i d l h e = sym (rw (drop-cons xs i d, h) refl) ∙ e
 
-pub any_on : {X : Type 0} (p : X → Bool) (xs : List X) (i : ℕ) (d : X) → i < length xs → p (get_or xs i d) ≡ false → list_any p (drop i xs) ≡ list_any p xs → list_any p (drop (i + 1) xs) ≡ list_any p xs
+pub any_on : {X : Type 0} (p : X → Bool) (xs : List X) (i : ℕ) (d : X) → i < length xs → p (get_or xs i d) ≡ false
+    → list_any p (drop i xs) ≡ list_any p xs → list_any p (drop (i + 1) xs) ≡ list_any p xs
 any_on p xs i d l h e = rw add-one (sym (rw (drop-cons xs i d, h) refl) ∙ e)
 
 pub any_none : {X : Type 0} (p : X → Bool) (xs : List X) (i : ℕ) → length xs ≤ i → list_any p (drop i xs) ≡ list_any p xs → false ≡ list_any p xs

@@ -1,5 +1,6 @@
 -- Each NAME and each NUMBER of a file is judged, in order of the text: rule by rule of the grammar.
-use Rattle.std.proofs.Common.{◌≡◌, ℕ, zero, suc, ◌+◌, ◌-◌, Bool, true, false, if◌then◌else◌, List, [], ◌∷◌, ◌++◌, length, Option, Some, None, refl, subst, arith, add-one}
+use Rattle.std.proofs.Common.{◌≡◌, ℕ, zero, suc, ◌+◌, ◌-◌, Bool, true, false, if◌then◌else◌, List, [], ◌∷◌, ◌++◌, length, Option, Some}
+use Rattle.std.proofs.Common.{None, refl, subst, arith, add-one}
 use Rattle.ln_lex.specs.declared.token.Token.{Token}
 use Rattle.ln_lex.specs.declared.token.Kind.{Kind}
 use Rattle.ln_lex.specs.declared.token.Kind.TheVariants.{Name, Number, Plus, Minus, Star, Caret}
@@ -10,20 +11,23 @@ use Rattle.ln_syntax.specs.declared.raw.RawArg.{RawArg}
 use Rattle.ln_syntax.specs.declared.raw.RawLet.{RawLet}
 use Rattle.ln_syntax.specs.Raw.{Item, Is, kind_at}
 use Rattle.ln_syntax.specs.Expression.{IsExpr}
-use Rattle.ln_syntax.specs.File.{End, plain, minus, Range, range, Coords, no_coord, coord, Arg, site_arg, param_arg, Args, last_arg, more_args, Lets, no_let, a_let, IsItem, site, param, predicate, Items, no_item, an_item, Spelt}
+use Rattle.ln_syntax.specs.File.{End, plain, minus, Range, range, Coords, no_coord, coord, Arg, site_arg, param_arg, Args, last_arg}
+use Rattle.ln_syntax.specs.File.{more_args, Lets, no_let, a_let, IsItem, site, param, predicate, Items, no_item, an_item, Spelt}
 use Rattle.ln_names.specs.declared.roles.Role.TheVariants.{Value, AfterCaret, Bare, Input, AfterDot}
 use Rattle.ln_names.specs.Rules.{Scope, scope, Use, LowEnd, HighEnd, is_number}
-use Rattle.ln_names.specs.Visits.{Visit, visit, visits_by, range_visits, coord_visits, arg_visits, role_of, role_at, is_node_at, token_visits, expr_visits, value_visits, let_visits, item_visits, nodes_before}
+use Rattle.ln_names.specs.Visits.{Visit, visit, visits_by, range_visits, coord_visits, arg_visits, role_of, role_at, is_node_at}
+use Rattle.ln_names.specs.Visits.{token_visits, expr_visits, value_visits, let_visits, item_visits, nodes_before}
 use Rattle.ln_names.specs.Along.{is_other, Along, done, passed, judged}
 use Rattle.ln_names.proofs.Within.{within}
 
--- one stretch behind another
+-- one stretch after another
 join : {ts : List Token} {i j k : ℕ} {vs ws : List Visit} → Along ts i j vs → Along ts j k ws → Along ts i k (vs ++ ws)
 join done b = b
 join (passed q a) b = passed q (join a b)
 join (judged q a) b = judged q (join a b)
 
-end_along : {ts : List Token} {i j k : ℕ} {a : RawEnd} {vs : List Visit} → End ts i j a → (u : Use) → is_number u ≡ true → Along ts j k vs → Along ts i k (visit u a.at ∷ vs)
+end_along : {ts : List Token} {i j k : ℕ} {a : RawEnd} {vs : List Visit} → End ts i j a → (u : Use) → is_number u ≡ true → Along ts j k vs
+    → Along ts i k (visit u a.at ∷ vs)
 end_along (plain n) u q rest = judged (rw n q) rest
 end_along (minus m n) u q rest = passed (rw m refl) (judged (rw n q) rest)
 
@@ -36,24 +40,26 @@ coords_along before (coord {r = r} {cs = cs} n c d s rest) =
     let e = coords_along (before ++ (_ ∷ [])) rest in
     join (judged (rw n refl) (passed (rw c refl) (range_along d (passed (rw s refl) done)))) e
 
-arg_along : {ts : List Token} {i : ℕ} {a : RawArg} (is : List Item) (before : List RawArg) → Arg ts i a → Along ts i (suc (suc (suc i))) (arg_visits is before a)
+arg_along : {ts : List Token} {i : ℕ} {a : RawArg} (is : List Item) (before : List RawArg) → Arg ts i a
+    → Along ts i (suc (suc (suc i))) (arg_visits is before a)
 arg_along is before (site_arg n c t) = judged (rw n refl) (passed (rw c refl) (judged (rw t refl) done))
 arg_along is before (param_arg n c t) = judged (rw n refl) (passed (rw c refl) (judged (rw t refl) done))
 
-args_along : {ts : List Token} {i j : ℕ} {args : List RawArg} (is : List Item) (before : List RawArg) → Args ts i j args → Along ts i j (visits_by (arg_visits is) before args)
+args_along : {ts : List Token} {i j : ℕ} {args : List RawArg} (is : List Item) (before : List RawArg) → Args ts i j args
+    → Along ts i j (visits_by (arg_visits is) before args)
 args_along is before (last_arg a) = join (arg_along is before a) done
 args_along is before (more_args {a = a} d c rest) =
     let e = args_along is (before ++ (a ∷ [])) rest in
     join (arg_along is before d) (passed (rw c refl) e)
 
--- a NAME of an expression, by whether dots stand at its sides
+-- a NAME of an expression, by whether dots are at its sides
 name_along : (ts : List Token) (s : Scope) (n k j : ℕ) (vs : List Visit) (a b : Bool) → Is ts k Name → Along ts (suc k) j vs →
     Along ts k j (token_visits ts s n k (if a then Some AfterDot else if b then Some Input else Some Bare) ++ vs)
 name_along ts s n k j vs true b h rest = judged (rw h refl) rest
 name_along ts s n k j vs false true h rest = judged (rw h refl) rest
 name_along ts s n k j vs false false h rest = judged (rw h refl) rest
 
--- a NUMBER of an expression, by whether a caret stands before it
+-- a NUMBER of an expression, by whether a caret comes before it
 number_along : (ts : List Token) (s : Scope) (n k j : ℕ) (vs : List Visit) (a : Bool) → Is ts k Number → Along ts (suc k) j vs →
     Along ts k j (token_visits ts s n k (if a then Some AfterCaret else Some Value) ++ vs)
 number_along ts s n k j vs true h rest = judged (rw h refl) rest
@@ -77,14 +83,17 @@ expr_along ts s n k (suc m) to j e rest =
     let r = subst (λ (w : ℕ). Along ts w j (expr_visits ts s (n + is_node_at (role_at ts k)) (k + 1) m)) (add-one k) d in
     token_along ts s n k j (expr_visits ts s (n + is_node_at (role_at ts k)) (k + 1) m) (kind_at ts k) refl r
 
-value_along : {ts : List Token} {i j k : ℕ} (s : Scope) (n : ℕ) → IsExpr ts i j → Along ts j k [] → Along ts i k (value_visits ts s n (record { from = i; to = j }))
+value_along : {ts : List Token} {i j k : ℕ} (s : Scope) (n : ℕ) → IsExpr ts i j → Along ts j k []
+    → Along ts i k (value_visits ts s n (record { from = i; to = j }))
 value_along {ts = ts} {i = i} {j = j} {k = k} s n x rest = let w = within x.1 in expr_along ts s n i (j - i) j k (omega arith) rest
 
-lets_along : {ts : List Token} {i j : ℕ} {ls : List RawLet} (is : List Item) (args : List RawArg) (before : List RawLet) → Lets ts i j ls → Along ts i j (visits_by (let_visits ts is args) before ls)
+lets_along : {ts : List Token} {i j : ℕ} {ls : List RawLet} (is : List Item) (args : List RawArg) (before : List RawLet) → Lets ts i j ls
+    → Along ts i j (visits_by (let_visits ts is args) before ls)
 lets_along is args before no_let = done
 lets_along {ts = ts} is args before (a_let l n e x s rest) =
     let r = lets_along is args (before ++ (_ ∷ [])) rest in
-    join (passed (rw l refl) (judged (rw n refl) (passed (rw e refl) (value_along (scope is args before) (nodes_before ts before) x (passed (rw s refl) done))))) r
+    join (passed (rw l refl)
+    (judged (rw n refl) (passed (rw e refl) (value_along (scope is args before) (nodes_before ts before) x (passed (rw s refl) done))))) r
 
 item_along : {ts : List Token} {i j : ℕ} {x : Item} (before : List Item) → IsItem ts i j x → Along ts i j (item_visits ts before x)
 item_along before (site s n b cs e) = passed (rw s refl) (judged (rw n refl) (passed (rw b refl) (extended (coords_along [] cs) (rw e refl))))
@@ -96,7 +105,8 @@ item_along before (site s n b cs e) = passed (rw s refl) (judged (rw n refl) (pa
 item_along before (param p n c r s) = passed (rw p refl) (judged (rw n refl) (passed (rw c refl) (range_along r (passed (rw s refl) done))))
 item_along {ts = ts} before (predicate {args = args} {ls = ls} p n l as' r b lets s x e c) =
     passed (rw p refl) (judged (rw n refl) (passed (rw l refl) (join (args_along before [] as') (passed (rw r refl) (passed (rw b refl)
-    (join (lets_along before args [] lets) (passed (rw s refl) (value_along (scope before args ls) (nodes_before ts ls) x (passed (rw e refl) (passed (rw c refl) done))))))))))
+    (join (lets_along before args [] lets)
+    (passed (rw s refl) (value_along (scope before args ls) (nodes_before ts ls) x (passed (rw e refl) (passed (rw c refl) done))))))))))
 
 items_along : {ts : List Token} {i j : ℕ} {xs : List Item} (before : List Item) → Items ts i j xs → Along ts i j (visits_by (item_visits ts) before xs)
 items_along before no_item = done

@@ -28,6 +28,6 @@ pub data Along (ts : List Token) : ℕ → ℕ → List Visit → Type 0 where
   judged : {i j : ℕ} {u : Use} {vs : List Visit} → fits (kind_at ts i) u ≡ true → Along ts (suc i) j vs →
       Along ts i j (visit u (span_at ts i) ∷ vs)
 
--- the tokens that the rules speak of stand in order of the text, and no NAME and no NUMBER is left out
+-- the tokens that the rules speak of are in order of the text, and no NAME and no NUMBER is left out
 abbrev pub JudgesInOrder : Type 0
 JudgesInOrder = (ts : List Token) (xs : List Item) → Spelt ts xs → Along ts 0 (length ts) (file_visits ts xs)

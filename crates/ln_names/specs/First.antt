@@ -1,4 +1,4 @@
--- The first fault of a file: a token that has one, behind tokens that have none.
+-- The first fault of a file: a token that has one, after tokens that have none.
 use Rattle.std.specs.Prelude.{◌≡◌, ℕ, List, [], ◌∷◌, ◌++◌, Some, None}
 use Rattle.ln_lex.specs.declared.token.Token.{Token}
 use Rattle.ln_syntax.specs.Raw.{Item}

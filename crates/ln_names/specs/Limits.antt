@@ -39,7 +39,7 @@ pub record CoordWithin (bytes : List ℕ) (before : List RawCoord) (c : RawCoord
   pub new : list_any (λ d. same bytes d.name c.name) before ≡ false
   pub range : RangeWithin bytes c.range
 
--- what stands behind an argument's colon was declared before
+-- what follows an argument's colon was declared before
 abbrev pub IsKnown : List ℕ → List Item → RawArg → Bool → Type 0
 IsKnown bytes is a true = has_param bytes is a.name ≡ true
 IsKnown bytes is a false = has_site bytes is a.kind ≡ true

@@ -18,7 +18,7 @@ abbrev pub signed : Bool → ℕ → ℤ
 signed false n = pos n
 signed true n = neg_ℤ (pos n)
 
--- the whole number that an end of a range is
+-- the integer that an end of a range is
 abbrev pub end_value : List ℕ → RawEnd → ℤ
 end_value bytes e = signed e.negative (number bytes e.at)
 

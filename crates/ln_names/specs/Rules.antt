@@ -21,11 +21,12 @@ pub record Scope : Type 0 where
   pub args : List RawArg
   pub lets : List RawLet
 
+-- the scope with these items, arguments and lets
 abbrev pub scope : List Item → List RawArg → List RawLet → Scope
 scope items args lets = record { items = items; args = args; lets = lets }
 
--- What a token is, with what stands before it: items before an item, coordinates of its site before a
--- coordinate, and so on. A node has how many nodes of its predicate stand before it.
+-- What a token is, with what comes before it: items before an item, coordinates of its site before a coordinate, and so on. A node has the count
+-- of the nodes of its predicate before it.
 pub data Use : Type 0 where
   -- the name of a site type, a param, a predicate, a coordinate
   SiteName : List Item → Use
@@ -35,7 +36,7 @@ pub data Use : Type 0 where
   -- the first and the second NUMBER of a range
   LowEnd : Use
   HighEnd : RawRange → Use
-  -- the name of an argument; behind its colon the name of a site type, or `param`, with the argument's name
+  -- the name of an argument; after its colon the name of a site type, or `param`, with the argument's name
   ArgName : List RawArg → Use
   ArgSite : List Item → List RawArg → Use
   ArgParam : List Item → List RawArg → Span → Use
@@ -86,27 +87,27 @@ abbrev pub is_exponent : Use → Bool
 is_exponent ExponentOf = true
 is_exponent u = false
 
--- the name of a site type behind n others
+-- the name of a site type after n others
 abbrev pub is_site_past : ℕ → Use → Bool
 is_site_past n (SiteName before) = count_by is_site before == n
 is_site_past n u = false
 
--- the name of a param behind n others
+-- the name of a param after n others
 abbrev pub is_param_past : ℕ → Use → Bool
 is_param_past n (ParamName before) = count_by is_param before == n
 is_param_past n u = false
 
--- the name of a predicate behind n others
+-- the name of a predicate after n others
 abbrev pub is_pred_past : ℕ → Use → Bool
 is_pred_past n (PredName before) = count_by is_pred before == n
 is_pred_past n u = false
 
--- the name of a coordinate behind n others of its site
+-- the name of a coordinate after n others of its site
 abbrev pub is_coord_past : ℕ → Use → Bool
 is_coord_past n (CoordName before) = length before == n
 is_coord_past n u = false
 
--- the name of a let behind n others of its predicate
+-- the name of a let after n others of its predicate
 abbrev pub is_let_past : ℕ → Use → Bool
 is_let_past n (LetName args before) = length before == n
 is_let_past n u = false
@@ -119,17 +120,17 @@ is_site_arg a = not a.is_param
 abbrev pub is_param_arg : RawArg → Bool
 is_param_arg a = a.is_param
 
--- the NAME behind the colon of a site argument behind n others
+-- the NAME after the colon of a site argument after n others
 abbrev pub is_site_arg_past : ℕ → Use → Bool
 is_site_arg_past n (ArgSite items before) = count_by is_site_arg before == n
 is_site_arg_past n u = false
 
--- the `param` behind the colon of a param argument behind n others
+-- the `param` after the colon of a param argument after n others
 abbrev pub is_param_arg_past : ℕ → Use → Bool
 is_param_arg_past n (ArgParam items before name) = count_by is_param_arg before == n
 is_param_arg_past n u = false
 
--- the token of a node behind n others of its predicate
+-- the token of a node after n others of its predicate
 abbrev pub is_node_past : ℕ → Use → Bool
 is_node_past n (NumberNode before) = before == n
 is_node_past n (NameNode before s) = before == n

@@ -18,15 +18,16 @@ use Rattle.ln_names.specs.Rules.{Scope, scope, Use, SiteName, ParamName, PredNam
 use Rattle.ln_names.specs.Rules.{HighEnd, ArgName, ArgSite, ArgParam, LetName, NumberNode, NameNode}
 use Rattle.ln_names.specs.Rules.{InputNode, InputCoord, OperatorNode, ExponentOf, fault_at}
 
--- a token: what it is, and where it stands
+-- a token: what it is, and where it is
 pub record Visit : Type 0 where
   pub use_of : Use
   pub at : Span
 
+-- the token that has this use, at this span
 abbrev pub visit : Use → Span → Visit
 visit u at = record { use_of = u; at = at }
 
--- the tokens of each element of a list, which are told what stands before it in the list
+-- the tokens of each element of a list, which depend on the elements before it
 abbrev pub visits_by : {A : Type 0} → (List A → A → List Visit) → List A → List A → List Visit
 visits_by visits before [] = []
 visits_by visits before (x ∷ xs) = visits before x ++ visits_by visits (before ++ (x ∷ [])) xs
@@ -39,18 +40,20 @@ range_visits r = visit LowEnd r.low.at ∷ (visit (HighEnd r) r.high.at ∷ [])
 abbrev pub coord_visits : List RawCoord → RawCoord → List Visit
 coord_visits before c = visit (CoordName before) c.name ∷ range_visits c.range
 
--- what the token behind an argument's colon is
+-- what the token after an argument's colon is
 abbrev pub kind_use : List Item → List RawArg → RawArg → Use
 kind_use items before a = if a.is_param then ArgParam items before a.name else ArgSite items before
 
--- an argument's name and what stands behind its colon
+-- an argument's name and what follows its colon
 abbrev pub arg_visits : List Item → List RawArg → RawArg → List Visit
 arg_visits items before a = visit (ArgName before) a.name ∷ (visit (kind_use items before a) a.kind ∷ [])
 
+-- is there a token, and is it a dot?
 abbrev pub is_dot : Option Kind → Bool
 is_dot (Some Dot) = true
 is_dot o = false
 
+-- is there a token, and is it a `^`?
 abbrev pub is_caret : Option Kind → Bool
 is_caret (Some Caret) = true
 is_caret o = false
@@ -77,11 +80,12 @@ is_node AfterCaret = 0
 is_node AfterDot = 0
 is_node r = 1
 
+-- 1 for a token that is the one of a node, and 0 for any other
 abbrev pub is_node_at : Option Role → ℕ
 is_node_at None = 0
 is_node_at (Some r) = is_node r
 
--- what token k is for the rules, behind n nodes; the first NAME of an input stands two places before the second
+-- what token k is for the rules, after n nodes; the first NAME of an input is two places before the second
 abbrev pub role_use : List Token → Scope → ℕ → ℕ → Role → Use
 role_use ts s n k Value = NumberNode n
 role_use ts s n k AfterCaret = ExponentOf
@@ -90,11 +94,12 @@ role_use ts s n k Input = InputNode n s
 role_use ts s n k AfterDot = InputCoord s (span_at ts (k - 2))
 role_use ts s n k Operator = OperatorNode n
 
+-- token k, after n nodes, with what it is for the rules; nothing where they don't speak of it
 abbrev pub token_visits : List Token → Scope → ℕ → ℕ → Option Role → List Visit
 token_visits ts s n k None = []
 token_visits ts s n k (Some r) = visit (role_use ts s n k r) (span_at ts k) ∷ []
 
--- m tokens of an expression from place k on, behind n nodes
+-- m tokens of an expression from place k on, after n nodes
 abbrev pub expr_visits : List Token → Scope → ℕ → ℕ → ℕ → List Visit
 expr_visits ts s n k zero = []
 expr_visits ts s n k (suc m) = token_visits ts s n k (role_at ts k) ++ expr_visits ts s (n + is_node_at (role_at ts k)) (k + 1) m
@@ -104,7 +109,7 @@ abbrev pub nodes : List Token → ℕ → ℕ → ℕ
 nodes ts k zero = 0
 nodes ts k (suc m) = is_node_at (role_at ts k) + nodes ts (k + 1) m
 
--- the tokens of an expression, behind n nodes
+-- the tokens of an expression, after n nodes
 abbrev pub value_visits : List Token → Scope → ℕ → Places → List Visit
 value_visits ts s n p = expr_visits ts s n p.from (p.to - p.from)
 
@@ -127,7 +132,7 @@ pred_visits ts before args lets root =
     visits_by (arg_visits before) [] args
     ++ (visits_by (let_visits ts before args) [] lets ++ value_visits ts (scope before args lets) (nodes_before ts lets) root)
 
--- an item behind others
+-- an item after others
 abbrev pub item_visits : List Token → List Item → Item → List Visit
 item_visits ts before (SiteItem name coords) = visit (SiteName before) name ∷ visits_by coord_visits [] coords
 item_visits ts before (ParamItem name range) = visit (ParamName before) name ∷ range_visits range

@@ -39,7 +39,7 @@ pub enum LimitWhat {
 pub enum NameWhat {
     /// An earlier one of its kind has it.
     Twice,
-    /// Nothing that may stand here has it.
+    /// Nothing that may be named here has it.
     Unknown,
 }
 

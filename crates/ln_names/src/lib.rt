@@ -1,8 +1,7 @@
 //! The rules on names and limits of a source whose tokens are a file of the grammar.
 //!
-//! `check_names` answers whether no token breaks one, or the first token that does, with its fault: the
-//! first one of the table of `specs/Rules.antt`. Behind a file without a fault, the calls of `resolve`
-//! find what names stand for and what numbers are.
+//! `check_names` returns the first token that breaks a rule, with its fault, which is the first one of the table of `specs/Rules.antt`; or none,
+//! where no token breaks one. For a file without a fault, the calls of `resolve` find what names stand for and what numbers are.
 #![tactic(auto)]
 
 pub mod faults;

@@ -1,9 +1,8 @@
 //! What the tokens of an expression are, by their kinds and their neighbours'.
 ghost use Rattle.std.specs.Prelude.{◌≡◌, ◌<◌};
-ghost use Rattle.ln_syntax.specs.Raw.{kind_at, span_at};
+ghost use Rattle.ln_syntax.specs.Raw.{kind_at};
 ghost use Rattle.ln_names.specs.Visits.{is_dot, is_caret, role_at, is_node};
 
-use ln_base::Span;
 use ln_lex::{Kind, Token};
 
 /// What a token of an expression is; parentheses and the dot are nothing.
@@ -68,16 +67,6 @@ fn kind_at(ts: &[Token], i: usize) -> Option<Kind>
     match ts.get(i) {
         Some(t) => Some(t.kind),
         None => None,
-    }
-}
-
-/// Where token `i` of the file stands; the empty span at 0, where there is none.
-pub fn span_at(ts: &[Token], i: usize) -> Span
-    ensures { result ≡ span_at ts.now i }
-{
-    match ts.get(i) {
-        Some(t) => t.span,
-        None => Span { start: 0, end: 0 },
     }
 }
 

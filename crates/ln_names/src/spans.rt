@@ -5,7 +5,7 @@ ghost use Rattle.ln_names.specs.Numbers.{number};
 
 use ln_base::Span;
 
-/// The bytes of a span, as far as the source has them.
+/// The bytes of a span, up to the end of the source.
 pub fn text(bytes: &[u8], at: Span) -> &[u8]
     ensures { result.now ≡ text bytes.now at }
 {

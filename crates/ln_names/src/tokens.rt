@@ -112,7 +112,7 @@ fn coord_twice(bytes: &[u8], before: &[RawCoord], at: Span) -> bool
     false
 }
 
-/// The fault of a site type's name behind the items `before`: over 32 letters, a seventeenth site type, or the name of an item before.
+/// The fault of a site type's name after the items `before`: over 32 letters, a seventeenth site type, or the name of an item before.
 pub fn site_name(bytes: &[u8], before: &[RawItem], at: Span) -> Option<Fault>
     ensures { result ≡ fault_at bytes.now (SiteName (items before.now)) at }
 {
@@ -127,7 +127,7 @@ pub fn site_name(bytes: &[u8], before: &[RawItem], at: Span) -> Option<Fault>
     }
 }
 
-/// The fault of a coordinate's name behind those `before` of its site type: over 32 letters, a thirty-third coordinate, or a name before.
+/// The fault of a coordinate's name after those `before` of its site type: over 32 letters, a thirty-third coordinate, or a name before.
 pub fn coord_name(bytes: &[u8], before: &[RawCoord], at: Span) -> Option<Fault>
     ensures { result ≡ fault_at bytes.now (CoordName before.now) at }
 {
@@ -142,7 +142,7 @@ pub fn coord_name(bytes: &[u8], before: &[RawCoord], at: Span) -> Option<Fault>
     }
 }
 
-/// The fault of a param's name behind the items `before`: over 32 letters, a seventeenth param, or the name of an item before.
+/// The fault of a param's name after the items `before`: over 32 letters, a seventeenth param, or the name of an item before.
 pub fn param_name(bytes: &[u8], before: &[RawItem], at: Span) -> Option<Fault>
     ensures { result ≡ fault_at bytes.now (ParamName (items before.now)) at }
 {
@@ -157,7 +157,7 @@ pub fn param_name(bytes: &[u8], before: &[RawItem], at: Span) -> Option<Fault>
     }
 }
 
-/// The fault of a predicate's name behind the items `before`: over 32 letters, a seventeenth predicate, or the name of an item before.
+/// The fault of a predicate's name after the items `before`: over 32 letters, a seventeenth predicate, or the name of an item before.
 pub fn pred_name(bytes: &[u8], before: &[RawItem], at: Span) -> Option<Fault>
     ensures { result ≡ fault_at bytes.now (PredName (items before.now)) at }
 {
@@ -274,7 +274,7 @@ fn param_args(before: &[RawArg]) -> usize
     n
 }
 
-/// The fault of an argument's name behind those `before` of its predicate: over 32 letters, or a name before.
+/// The fault of an argument's name after those `before` of its predicate: over 32 letters, or a name before.
 pub fn arg_name(bytes: &[u8], before: &[RawArg], at: Span) -> Option<Fault>
     ensures { result ≡ fault_at bytes.now (ArgName before.now) at }
 {
@@ -332,7 +332,7 @@ fn known_let(bytes: &[u8], before: &[RawLet], at: Span) -> bool
     false
 }
 
-/// The fault of a let's name behind the lets `before`: over 32 letters, a sixty-fifth let, or the name of an argument or a let before.
+/// The fault of a let's name after the lets `before`: over 32 letters, a sixty-fifth let, or the name of an argument or a let before.
 pub fn let_name(bytes: &[u8], args: &[RawArg], before: &[RawLet], at: Span) -> Option<Fault>
     ensures { result ≡ fault_at bytes.now (LetName args.now before.now) at }
 {
@@ -369,7 +369,7 @@ fn known_param_arg(bytes: &[u8], args: &[RawArg], at: Span) -> bool
     false
 }
 
-/// The fault of a number in an expression behind so many nodes: 2^127 or more, or one node too many (2,048).
+/// The fault of a number in an expression after `before` nodes: 2^127 or more, or one node too many (2,048).
 pub fn number_node(bytes: &[u8], before: usize, at: Span) -> Option<Fault>
     ensures { result ≡ fault_at bytes.now (NumberNode before) at }
 {
@@ -382,7 +382,7 @@ pub fn number_node(bytes: &[u8], before: usize, at: Span) -> Option<Fault>
     }
 }
 
-/// The fault of an operator behind so many nodes: one node too many (2,048).
+/// The fault of an operator after `before` nodes: one node too many (2,048).
 pub fn operator_node(bytes: &[u8], before: usize, at: Span) -> Option<Fault>
     ensures { result ≡ fault_at bytes.now (OperatorNode before) at }
 {
@@ -406,7 +406,7 @@ pub fn exponent(bytes: &[u8], at: Span) -> Option<Fault>
     }
 }
 
-/// The fault of a name in an expression behind so many nodes: over 32 letters, one node too many (2,048), or no let and no param
+/// The fault of a name in an expression after `before` nodes: over 32 letters, one node too many (2,048), or no let and no param
 /// of this name.
 pub fn name_node(bytes: &[u8], seen: Visible, before: usize, at: Span) -> Option<Fault>
     ensures { result ≡ fault_at bytes.now (NameNode before (visible seen.entry)) at }
@@ -422,7 +422,7 @@ pub fn name_node(bytes: &[u8], seen: Visible, before: usize, at: Span) -> Option
     }
 }
 
-/// The fault of an argument whose coordinate is read, behind so many nodes: over 32 letters, one node too many (2,048), or no
+/// The fault of an argument whose coordinate is read, after `before` nodes: over 32 letters, one node too many (2,048), or no
 /// site of this name.
 pub fn input_node(bytes: &[u8], seen: Visible, before: usize, at: Span) -> Option<Fault>
     ensures { result ≡ fault_at bytes.now (InputNode before (visible seen.entry)) at }

@@ -14,10 +14,11 @@ ghost use Rattle.ln_names.specs.Visits.{value_nodes, nodes_before, let_visits, i
 
 use crate::faults::{Fault, Found};
 use crate::resolve::Visible;
-use crate::roles::{Role, node_of, role_at, span_at};
+use crate::roles::{Role, node_of, role_at};
 use crate::tokens;
 use ln_base::Span;
 use ln_lex::Token;
+use ln_syntax::items::span_of;
 use ln_syntax::{Places, RawArg, RawCoord, RawItem, RawLet, RawRange};
 
 /// The first fault of names and limits.
@@ -38,7 +39,7 @@ pub fn one_fault()
     ensures none { (bytes : List ℕ) (ts : List Tok) (is : List Item) (f : Fnd) → FirstFault bytes ts is f → NoFault bytes ts is → ⊥ }
 {}
 
-/// The tokens that are judged stand in order of the text, and no NAME and no NUMBER is left out.
+/// The tokens that are judged are in order of the text, and no NAME and no NUMBER is left out.
 pub fn judges_in_order()
     ensures { JudgesInOrder }
 {}
@@ -186,7 +187,7 @@ fn let_fault(bytes: &[u8], ts: &[Token], seen: Visible, n: usize, l: RawLet) -> 
     value_fault(bytes, ts, seen, n, l.value)
 }
 
-// How many nodes stand before the end, or the first fault.
+// The count of nodes before the end, or the first fault.
 fn value_fault(
     bytes: &[u8],
     ts: &[Token],
@@ -207,7 +208,7 @@ fn value_fault(
     Ok(m)
 }
 
-// How many nodes stand behind the token, or its fault.
+// The count of nodes once the token is read, or its fault.
 fn token_fault(
     bytes: &[u8],
     ts: &[Token],
@@ -228,7 +229,7 @@ fn token_fault(
     match role_fault(bytes, ts, seen, n, k, role) {
         Some(fault) => Err(Found {
             fault,
-            at: span_at(ts, k),
+            at: span_of(ts, k),
         }),
         None => Ok(n + node_of(role)),
     }
@@ -246,13 +247,13 @@ fn role_fault(
     ensures fault { result ≡ fault_at bytes.now (role_use ts.now (visible seen.entry) n k role) (span_at ts.now k) }
     ensures fine { IfNone result (n + is_node role ≤ 2048) }
 {
-    let at = span_at(ts, k);
+    let at = span_of(ts, k);
     match role {
         Role::Value => tokens::number_node(bytes, n, at),
         Role::AfterCaret => tokens::exponent(bytes, at),
         Role::Bare => tokens::name_node(bytes, seen, n, at),
         Role::Input => tokens::input_node(bytes, seen, n, at),
-        Role::AfterDot => { tokens::input_coord(bytes, seen, span_at(ts, k.saturating_sub(2)), at) }
+        Role::AfterDot => { tokens::input_coord(bytes, seen, span_of(ts, k.saturating_sub(2)), at) }
         Role::Operator => tokens::operator_node(bytes, n, at),
     }
 }

@@ -6,6 +6,7 @@ pub use Rattle.ln_poly.specs.Lean.{exponent_of}
 use Rattle.std.specs.Ordering.{int_eq}
 use Rattle.ln_algebra.specs.Tree.{Tree, Num, Input, Name, Neg, Add, Sub, Mul, Pow}
 
+-- is the exponent above 0?
 abbrev pub is_positive : ℕ → Bool
 is_positive zero = false
 is_positive (suc n) = true

@@ -12,9 +12,11 @@ use Rattle.ln_bound.specs.declared.fitted.Two.TheVariants.{Plus, Times}
 use Rattle.ln_nest.specs.Nested.{is_number}
 use Rattle.ln_nest.specs.declared.work.Work.{Work}
 
+-- a working term of the code, seen as a term
 abbrev pub term_in : Work → Term
 term_in w = record { exponents = w.exponents.items; factor = w.factor }
 
+-- working terms of the code, seen as terms
 abbrev pub terms_in : List Work → List Term
 terms_in ws = map term_in ws
 

@@ -1,4 +1,4 @@
--- Prefixes of the program.
+-- Defines the places of a prefix of an order, as the program holds it.
 use Rattle.std.specs.Prelude.{ℕ, List, take}
 use Rattle.ln_order.specs.declared.front.Front.{Front}
 

@@ -8,7 +8,7 @@ use Rattle.std.specs.Ordering.{int_eq}
 abbrev pub index_at : List ℤ → ℕ → ℤ
 index_at indices k = slice_index_or indices k (pos 0)
 
--- the first place, from place k on, whose index is among those before it, of which `before` stand before place k
+-- the first place, from place k on, whose index is among those before it, of which `before` are before place k
 abbrev pub equal_behind : List ℤ → ℕ → List ℤ → Option ℕ
 equal_behind before k [] = None
 equal_behind before k (z ∷ zs) = if list_any (λ y. int_eq y z) before then Some k else equal_behind (before ++ z ∷ []) (suc k) zs

@@ -1,4 +1,4 @@
--- Orders of the program.
+-- Defines the places of an order, as the program holds it.
 use Rattle.std.specs.Prelude.{ℕ, List, take}
 use Rattle.ln_order.specs.declared.order.Order.{Order}
 

@@ -1,4 +1,4 @@
--- The sites of a shape, with the indices that an order or a row gives them, and their variables by rising infinitesimal.
+-- The sites of a shape, with their indices in an order or a row, and their variables by rising infinitesimal.
 use Rattle.std.specs.Prelude.{◌≡◌, ◌↔◌, ℕ, ◌≤ℤ◌, eqb, true, List, [], ◌∷◌, ◌++◌, length, All}
 use Rattle.std.specs.Prelude.{ℤ, pos, unsigned_abs, Option, Some, None, if◌then◌else◌}
 use Rattle.std.proofs.Common.{zero, suc}
@@ -17,7 +17,7 @@ site_of [] v = None
 site_of (i ∷ is) zero = i.site
 site_of (i ∷ is) (suc v) = site_of is v
 
--- how many sites stand before s in an order
+-- how many sites are before s in an order
 abbrev pub place_in : List ℕ → ℕ → ℕ
 place_in [] s = 0
 place_in (t ∷ o) s = if eqb t s then 0 else suc (place_in o s)

@@ -1,4 +1,4 @@
-//! Equal indices.
+//! Finds the first site of a row whose index an earlier site has.
 ghost use Rattle.std.specs.Prelude.{◌≡◌, ◌≢◌, ◌≤◌, length, AllPairs, MatchOption};
 ghost use Rattle.std.specs.List.{list_any};
 ghost use Rattle.std.specs.Ordering.{int_eq};
@@ -8,7 +8,7 @@ ghost use Rattle.ln_order.specs.Order.{first_equal, IsFirstEqual};
 #[derive(Clone, Copy)]
 pub struct Equal(pub u8);
 
-// Does the index stand among these?
+// Is the index among these?
 fn is_among(before: &[i64], z: &i64) -> bool
     ensures { result ≡ list_any (λ y. int_eq y z.now) before.now }
 {

@@ -1,4 +1,4 @@
-//! Prefixes of orders.
+//! Defines a prefix of an order of at most five sites.
 ghost use Rattle.std.specs.Prelude.{◌≤◌};
 
 /// The first places of an order of at most five sites.

@@ -44,7 +44,7 @@ fn at_site(vars: &[VarInfo], site: u8, a: &[(u8, u8)], b: &[(u8, u8)]) -> Orderi
 }
 
 /// Is a earlier than b in this order of the sites? It is where a has the smaller exponent at the smallest infinitesimal
-/// in which the two differ. It takes no memory.
+/// in which the two differ. It allocates nothing.
 pub fn earlier(o: &Order, s: &Shape, a: &Exps, b: &Exps) -> bool
     requires { length (order_places o.now) ≡ s.now.sites }
     ensures { IsTrue result
@@ -62,7 +62,7 @@ pub fn earlier(o: &Order, s: &Shape, a: &Exps, b: &Exps) -> bool
     false
 }
 
-// Puts the variables of a site at the end.
+// Appends the variables of a site.
 fn put_vars(out: &mut Vec<u8>, vars: &[VarInfo], site: u8) -> Result<(), NoMemory>
     requires { length vars.now ≤ 168 }
     ensures { OnOk result (out.new.items ≡ out.old.items ++ vars_of site vars.now 0) }
@@ -115,7 +115,7 @@ pub fn vars_of_site(alloc: Global, s: &Shape, site: u8) -> Result<Seq<u8>, NoMem
     Ok(Seq::from_vec(vars))
 }
 
-/// The order of a row's sites gives the same order of exponents as the row's own indices.
+/// The order of a row's sites implies the same order of exponents as the row's own indices.
 ///
 /// On it rests that a row is decided by the stage list of its order.
 pub fn orders_are_those_of_rows()

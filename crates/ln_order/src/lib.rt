@@ -1,5 +1,5 @@
 //! The order of the sites of a row by their indices: `order_of` lists the places of the sites by rising index, the largest
-//! infinitesimals first, or says which site has the index of an earlier one. `all_orders` lists all orders of so many
+//! infinitesimals first, or returns the site that has the index of an earlier one. `all_orders` lists all orders of n
 //! sites, and `earlier` compares exponents in one. The laws of `rows` say of the perturbed sign of a row that it is one, and
 //! that it may be looked for along the stage list of the row's order.
 #![tactic(auto)]

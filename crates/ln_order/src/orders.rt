@@ -1,4 +1,4 @@
-//! All orders of so many sites.
+//! All orders of n sites.
 ghost use Rattle.std.specs.Prelude.{◌≡◌, ◌<◌, ◌≤◌, ◌+◌, Some, IfOk, length, map, slice_get, All};
 ghost use Rattle.ln_order.specs.Orders.{OrdersAreAll, behind, firsts, orders_of, past, smaller_behind};
 ghost use Rattle.ln_order.specs.Places.{order_places};
@@ -65,7 +65,7 @@ pub(crate) fn smaller(first: u8, others: &[u8]) -> usize
 }
 
 impl Order {
-    /// The place of the order, from 0, among all orders of as many sites. It takes no memory.
+    /// The place of the order, from 0, among all orders of as many sites. It allocates nothing.
     pub fn number(&self) -> usize
         ensures { slice_get (orders_of (length (order_places self.now))) result ≡ Some (order_places self.now) }
     {
@@ -79,7 +79,7 @@ impl Order {
     }
 }
 
-/// The orders that `all_orders` gives are all, each once.
+/// The orders that `all_orders` returns are all, each once.
 ///
 /// On it rests that a row, whatever its indices, has a list of stages of its own.
 pub fn orders_are_all()

@@ -1,4 +1,4 @@
-//! All prefixes of orders of so many sites, and their numbers.
+//! All prefixes of orders of n sites, and their numbers.
 ghost use Rattle.std.specs.Prelude.{◌≡◌, ◌<◌, ◌≤◌, ◌∷◌, [], All, IfOk, Some, length, map, slice_get, take};
 ghost use Rattle.ln_order.specs.Fronts.{front_places};
 ghost use Rattle.ln_order.specs.Orders.{behind, firsts};
@@ -70,7 +70,7 @@ fn tree_size(k: usize) -> u32
 }
 
 /// The number of the prefix of the first j places, from 0, among all prefixes of orders of as many sites, sorted as lists. It
-/// takes no memory.
+/// allocates nothing.
 pub fn prefix_number(o: &Order, j: u8) -> u32
     requires { j ≤ length (order_places o.now) }
     ensures value { slice_get (prefixes_of (length (order_places o.now))) result ≡ Some (take j (order_places o.now)) }

@@ -35,7 +35,7 @@ pub fn row_sign_is_unique()
 
 /// A row in range has a perturbed sign, in either order of infinitesimals.
 ///
-/// On it rests that there is a right answer for each row in range: with the law before it, exactly one.
+/// On it rests that each row in range has a right sign: with the law before it, exactly one.
 pub fn row_sign_exists()
     ensures { RowSignExists }
 {}

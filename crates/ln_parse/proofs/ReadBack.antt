@@ -1,4 +1,4 @@
--- What canonical text says when it is read.
+-- What canonical text means when it is read.
 pub mod NamePlaces
 pub mod InputsThere
 pub mod ScopeNames

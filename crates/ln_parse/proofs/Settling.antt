@@ -1,3 +1,3 @@
--- A text has one answer.
+-- A text has one result.
 pub mod Either
 pub mod OneAnswer

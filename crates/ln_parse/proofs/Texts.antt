@@ -1,4 +1,4 @@
--- Canonical text: how it is put, and its tokens and items.
+-- Canonical text: how it is written, and its tokens and items.
 pub mod Putting
 pub mod LexBack
 pub mod WordTokens

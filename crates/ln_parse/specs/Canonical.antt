@@ -10,7 +10,7 @@ use Rattle.ln_parse.specs.Lexemes.{Lexeme, gap, line, word, text_of, name, numbe
 use Rattle.ln_parse.specs.Written.{Written, WNum, WName, WInput, WNeg, WAdd, WSub, WMul}
 use Rattle.ln_parse.specs.Written.{WPow, Naming, naming, written, range_name, site_name}
 
--- may the expression stand in this room without parentheses? A sum or difference may only where a sum may, a product where a sum
+-- may the expression be written in this room without parentheses? A sum or difference may only where a sum may, a product where a sum
 -- or product may, a negation or power everywhere but under ^
 abbrev pub fits : Room → Written → Bool
 fits r (WNum n) = true
@@ -28,7 +28,7 @@ fits r (WAdd e f) = false
 fits OfSum (WSub e f) = true
 fits r (WSub e f) = false
 
--- what f gives, in parentheses but where the expression stands without them
+-- the lexemes of f, in parentheses unless the expression needs none in this room
 abbrev pub wrap : Room → Written → (List Lexeme → List Lexeme) → List Lexeme → List Lexeme
 wrap r e f rest = if fits r e then f rest else word ParL (codes "(") ∷ f (word ParR (codes ")") ∷ rest)
 
@@ -53,7 +53,7 @@ abbrev pub ranged : CoordOf → List Lexeme → List Lexeme
 ranged c rest = name c.name (word Colon (codes ":") ∷ gap
     ∷ signed c.lo (gap ∷ word Dots (codes "..") ∷ gap ∷ signed c.hi (word Semi (codes ";") ∷ rest)))
 
--- a coordinate, behind which one space stands
+-- a coordinate and one space after it
 abbrev pub coord : CoordOf → List Lexeme → List Lexeme
 coord c rest = ranged c (gap ∷ rest)
 

@@ -24,7 +24,7 @@ one_byte at = record { start = at; end = suc at }
 abbrev pub place_of : List ℕ → List Token → ℕ → Span
 place_of bytes ts k = if nat_lt k (length ts) then span_at ts k else record { start = length bytes; end = length bytes }
 
--- the answer to a fault of names and limits
+-- the refusal for a fault of names and limits
 abbrev pub stop_of : Fault → Span → ParseStop
 stop_of (OfLimit what) at = Limit what at
 stop_of (OfName what) at = Name what at
@@ -53,10 +53,10 @@ pub record IsFaultless (bytes : List ℕ) (ts : List Token) (is : List Item) : T
   pub spelt : Spelt ts is
   pub clean : NoFault bytes ts is
 
--- a refusal is the fault of the text, or want of memory
+-- a refusal is the fault of the text, or out of memory
 abbrev pub IsRefusal : List ℕ → ParseStop → Type 0
 IsRefusal bytes e = TextFault bytes e ⊎ (e ≡ NoMemory)
 
--- a text with a table is refused for want of memory alone
+-- a text with a table is refused only when out of memory
 abbrev pub IsWithoutTable : List ℕ → ParseStop → Type 0
 IsWithoutTable bytes e = (t : TableOf) → TextOf bytes t → e ≡ NoMemory

@@ -16,7 +16,7 @@ text_of (gap ∷ xs) = 32 ∷ text_of xs
 text_of (line ∷ xs) = 10 ∷ text_of xs
 text_of (word k t ∷ xs) = t ++ text_of xs
 
--- The lexemes of a part of a text are given in front of those that follow it.
+-- The lexemes of a part of a text are prepended to those that follow it.
 
 -- a name
 abbrev pub name : List ℕ → List Lexeme → List Lexeme
@@ -26,29 +26,30 @@ name t rest = word Name t ∷ rest
 abbrev pub number : ℕ → List Lexeme → List Lexeme
 number n rest = word Number (decimal n) ∷ rest
 
+-- a minus sign where the test holds, and else nothing
 abbrev pub minus_if : Bool → List Lexeme → List Lexeme
 minus_if false rest = rest
 minus_if true rest = word Minus (codes "-") ∷ rest
 
--- a whole number: a minus sign where it is below 0, and its digits
+-- an integer: a minus sign where it is below 0, and its digits
 abbrev pub signed : ℤ → List Lexeme → List Lexeme
 signed z rest = minus_if (int_lt z (pos 0)) (number (unsigned_abs z) rest)
 
--- one element behind the other
+-- one element after the other
 abbrev pub each : {A : Type 0} → (A → List Lexeme → List Lexeme) → List A → List Lexeme → List Lexeme
 each f [] rest = rest
 each f (x ∷ xs) rest = f x (each f xs rest)
 
--- the new bytes are the old ones and the lexemes that f gives, whatever follows
+-- the new bytes are the old ones and the lexemes that f returns, whatever follows
 pub record Puts (old new : List ℕ) (f : List Lexeme → List Lexeme) : Type 0 where
   pub on : (rest : List Lexeme) → new ++ text_of rest ≡ old ++ text_of (f rest)
 
--- the parenthesis before an expression that doesn't stand without
+-- the parenthesis before an expression that needs one
 abbrev pub opening : Bool → List ℕ
 opening true = []
 opening false = codes "("
 
--- the parenthesis behind it
+-- the parenthesis after it
 abbrev pub closing : Bool → List ℕ
 closing true = []
 closing false = codes ")"

@@ -1,4 +1,4 @@
--- What the reader of an expression answers.
+-- What the reader of an expression returns.
 use Rattle.std.specs.Prelude.{◌≡◌, ℕ, ◌≤◌, List, length, Option, Some, None}
 use Rattle.ln_base.specs.declared.span.Span.{Span}
 use Rattle.ln_lex.specs.declared.token.Token.{Token}
@@ -9,7 +9,7 @@ use Rattle.ln_names.specs.Rules.{Scope}
 use Rattle.ln_tree.specs.Formula.{Formula}
 use Rattle.ln_parse.specs.Says.{resolved}
 
--- each expression of this sort that begins at place i and stops ends at place j and says this formula
+-- each expression of this sort that begins at place i and stops ends at place j and means this formula
 pub record Reads (bytes : List ℕ) (ts : List Token) (s : Scope) (o : Sort) (i j : ℕ) (x : Formula) : Type 0 where
   pub same : (to : ℕ) (e : Tree) → Derives ts o i to e → Stops ts o to → (j ≡ to) × (resolved bytes s e ≡ x)
   pub within : j ≤ length ts

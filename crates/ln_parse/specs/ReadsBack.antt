@@ -64,6 +64,7 @@ abbrev pub ArgWritten : List ℕ → TableOf → RawArg → ArgOf → Type 0
 ArgWritten bytes t r (SiteArg a s) = (r.is_param ≡ false) × (text bytes r.name ≡ a) × (text bytes r.kind ≡ site_name (slice_get t.sites s))
 ArgWritten bytes t r (ParamArg p) = (r.is_param ≡ true) × (text bytes r.name ≡ range_name (slice_get t.params p))
 
+-- arguments are written with these names, one by one
 abbrev pub ArgsWritten : List ℕ → TableOf → List RawArg → List ArgOf → Type 0
 ArgsWritten bytes t [] [] = Unit {0}
 ArgsWritten bytes t [] (a ∷ more) = ⊥

@@ -1,4 +1,4 @@
--- What a source without a fault gives to those who build its table: names are names, numbers fit, and what names stand for is there.
+-- What holds of a source without a fault, for the code that builds its table: names are names, numbers fit, and what names stand for is there.
 use Rattle.std.specs.Prelude.{◌≡◌, ◌+◌, ℕ, pos, neg_ℤ, int_lt, nat_lt, nat_le, not, ◌&&◌, ◌<◌}
 use Rattle.std.specs.Prelude.{◌≤◌, ◌^◌, ◌||◌, Bool, true, List, [], ◌++◌, length, count_by}
 use Rattle.std.specs.List.{list_any, list_all}
@@ -38,7 +38,7 @@ Fit bytes s (TSub at e f) = Fit bytes s e × Fit bytes s f
 Fit bytes s (TMul at e f) = Fit bytes s e × Fit bytes s f
 Fit bytes s (TPow at e n) = Fit bytes s e × (number bytes n ≤ 16)
 
--- some fit expression of a sort begins at place i, and what is behind it doesn't go on with it
+-- some fit expression of a sort begins at place i, and what follows doesn't go on with it
 pub record HasTree (bytes : List ℕ) (ts : List Token) (s : Scope) (o : Sort) (i : ℕ) : Type 0 where
   pub to : ℕ
   pub tree : Tree
@@ -68,7 +68,7 @@ is_ranged c = not (int_lt c.hi c.lo) && int_lt (neg_ℤ (pos (2 ^ 63))) c.lo
 abbrev pub is_good_site : SiteOf → Bool
 is_good_site s = nat_lt 0 (length s.coords) && nat_le (length s.coords) 32 && list_all is_ranged s.coords
 
--- one of so many site types, or of so many params
+-- one of this many site types, or of this many params
 abbrev pub is_known : ℕ → ℕ → ArgOf → Bool
 is_known sites params (SiteArg n t) = nat_lt t sites
 is_known sites params (ParamArg p) = nat_lt p params
@@ -115,7 +115,7 @@ abbrev pub is_few : Item → Bool
 is_few (SiteItem name cs) = nat_le (length cs) 32
 is_few i = true
 
--- a predicate behind these items, whose parts fit
+-- a predicate after these items, whose parts fit
 pub record ReadyPred (bytes : List ℕ) (ts : List Token) (is : List Item) (at : Span) (as' : List RawArg) (ls : List RawLet)
     (p : Places) : Type 0 where
   pub name : IsNamed bytes at
@@ -130,7 +130,7 @@ pub record ReadyPred (bytes : List ℕ) (ts : List Token) (is : List Item) (at :
   pub sites : length (site_names is) ≤ 16
   pub params : length (param_names is) ≤ 16
 
--- an item behind others, whose parts fit
+-- an item after others, whose parts fit
 abbrev pub ReadyItem : List ℕ → List Token → List Item → Item → Type 0
 ReadyItem bytes ts before (SiteItem at cs) = ReadySite bytes at cs
 ReadyItem bytes ts before (ParamItem at r) = ReadyParam bytes at r

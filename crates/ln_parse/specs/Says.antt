@@ -60,7 +60,7 @@ pub record Says (bytes : List ℕ) (ts : List Token) (s : Scope) (p : Places) (x
   pub ends : Is ts p.to Semi
   pub means : resolved bytes s tree ≡ x
 
--- the lets say these formulas, each behind the lets before it
+-- the lets say these formulas, each after the lets before it
 abbrev pub LetsSay : List ℕ → List Token → List Item → List RawArg → List RawLet → List RawLet → List Formula → Type 0
 LetsSay bytes ts is args before [] [] = Unit {0}
 LetsSay bytes ts is args before [] (x ∷ xs) = ⊥
@@ -68,12 +68,12 @@ LetsSay bytes ts is args before (l ∷ ls) [] = ⊥
 LetsSay bytes ts is args before (l ∷ ls) (x ∷ xs) = Says bytes ts (scope is args before) l.value x
     × LetsSay bytes ts is args (before ++ (l ∷ [])) ls xs
 
--- an argument: the param of its name, or a site of the type behind its colon
+-- an argument: the param of its name, or a site of the type after its colon
 abbrev pub arg_said : List ℕ → List Item → RawArg → Bool → ArgOf
 arg_said bytes is a true = ParamArg (place (λ n. same bytes n a.name) (param_names is))
 arg_said bytes is a false = SiteArg (text bytes a.name) (place (λ n. same bytes n a.kind) (site_names is))
 
--- the tokens of a predicate, behind these items, say this predicate of the table
+-- the tokens of a predicate, after these items, say this predicate of the table
 pub record PredSays (bytes : List ℕ) (ts : List Token) (is : List Item) (t : TableOf) (name : Span) (args : List RawArg)
     (ls : List RawLet) (root : Places) (p : PredOf) : Type 0 where
   pub name_is : p.name ≡ text bytes name
@@ -99,7 +99,7 @@ params_said bytes [] = []
 params_said bytes (ParamItem name range ∷ is) = ranged bytes name range ∷ params_said bytes is
 params_said bytes (i ∷ is) = params_said bytes is
 
--- the predicates among the items, behind others
+-- the predicates among the items, after others
 abbrev pub PredsSay : List ℕ → List Token → List Item → TableOf → List Item → List PredOf → Type 0
 PredsSay bytes ts before t [] [] = Unit {0}
 PredsSay bytes ts before t [] (p ∷ ps) = ⊥

@@ -1,10 +1,11 @@
--- Tables up to spans.
+-- Defines when bytes are the text of a table up to its spans.
 use Rattle.std.specs.Prelude.{◌≡◌, ℕ, List, map}
 use Rattle.ln_base.specs.declared.span.Span.{Span}
 use Rattle.ln_tree.specs.Formula.{Formula, FNum, FInput, FName, FNeg, FAdd, FSub, FMul, FPow}
 use Rattle.ln_tree.specs.Table.{PredOf, TableOf}
 use Rattle.ln_parse.specs.Text.{TextOf}
 
+-- the span that replaces each span of a table, where spans don't count
 abbrev pub no_span : Span
 no_span = record { start = 0; end = 0 }
 

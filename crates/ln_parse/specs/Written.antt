@@ -26,6 +26,7 @@ pub record Naming : Type 0 where
   pub args : List ArgOf
   pub lets : List (List ℕ)
 
+-- what the names in a predicate of the table are taken from
 abbrev pub naming : TableOf → PredOf → Naming
 naming t p = record { sites = t.sites; params = t.params; args = p.args; lets = p.let_names }
 

@@ -1,4 +1,4 @@
-//! Tables from items.
+//! Builds the table of a source from its items, once these have no fault.
 ghost use Rattle.std.specs.Prelude.{◌≡◌, true, ◌<◌, ◌^◌, [], length, map, IfOk};
 ghost use Rattle.ln_syntax.specs.Raw.{items, text};
 ghost use Rattle.ln_tree.specs.Table.{TableOf, coord_of, site_of, param_of, pred_of, table_of, pred_fits};

@@ -29,7 +29,7 @@ pub struct Scene<'a> {
     pub lets: &'a [RawLet],
 }
 
-/// An expression, and the place behind its tokens.
+/// An expression, and the place after its tokens.
 #[derive(Drop)]
 struct Read {
     expr: Expr,
@@ -146,7 +146,7 @@ fn is_sign(ts: &[Token], i: usize) -> bool
     is(ts, i, Kind::Plus) || is(ts, i, Kind::Minus)
 }
 
-// What is left of a sign and what is right of it, as one expression.
+// The two sides of a sign, as one expression.
 fn joined(alloc: Global, ts: &[Token], left: Read, right: Read) -> Result<Read, NoMemory>
     ensures end { IfOk result (λ x. x.end ≡ right.end) }
     ensures plus { IfOk result (λ x. Is ts.now left.end Kind.Plus →
@@ -169,7 +169,7 @@ fn joined(alloc: Global, ts: &[Token], left: Read, right: Read) -> Result<Read, 
     })
 }
 
-// The product of what is left of a star and what is right of it.
+// The product of the two sides of a star.
 fn product(alloc: Global, ts: &[Token], left: Read, right: Read) -> Result<Read, NoMemory>
     ensures end { IfOk result (λ x. x.end ≡ right.end) }
     ensures value { IfOk result (λ x. formula x.expr ≡ FMul (span_at ts.now left.end) (formula left.expr) (formula right.expr)) }
@@ -181,7 +181,7 @@ fn product(alloc: Global, ts: &[Token], left: Read, right: Read) -> Result<Read,
     })
 }
 
-// What stands behind the minus at a place, with it.
+// The operand after the minus at a place, with the minus.
 fn opposite(alloc: Global, ts: &[Token], at: usize, of: Read) -> Result<Read, NoMemory>
     ensures end { IfOk result (λ x. x.end ≡ of.end) }
     ensures value { IfOk result (λ x. formula x.expr ≡ FNeg (span_at ts.now at) (formula of.expr)) }
@@ -190,7 +190,7 @@ fn opposite(alloc: Global, ts: &[Token], at: usize, of: Read) -> Result<Read, No
     Ok(Read { expr, end: of.end })
 }
 
-// What stands before a caret, to the power of the number behind it.
+// The base before a caret, to the power of the number after it.
 fn to_power(alloc: Global, bytes: &[u8], ts: &[Token], base: Read) -> Result<Read, NoMemory>
     requires small { base.end < 2 ^ 32 }
     requires limit { number bytes.now (span_at ts.now (base.end + 1)) ≤ 16 }
@@ -206,7 +206,7 @@ fn to_power(alloc: Global, bytes: &[u8], ts: &[Token], base: Read) -> Result<Rea
     })
 }
 
-// What stands between parentheses, with the one that closes.
+// The expression between parentheses, with the one that closes.
 fn closed(inner: Read) -> Read
     requires { inner.end < 2 ^ 32 }
     ensures end { result.end ≡ inner.end + 1 }
@@ -302,7 +302,7 @@ fn input_leaf(s: &Scene, at: Span, coord: Span) -> Expr
     }
 }
 
-// The number behind a caret.
+// The number after a caret.
 fn exponent(bytes: &[u8], at: Span) -> u8
     requires { number bytes.now at ≤ 16 }
     ensures { result ≡ number bytes.now at }

@@ -126,7 +126,7 @@ pub fn laid_out(
     Ok(Layout { vars, sites: seen })
 }
 
-// Puts the variables of one argument, and answers how many sites there are behind it.
+// Appends the variables of one argument, and returns how many sites there are with it.
 fn arg_vars(
     vars: &mut Seq<VarInfo>,
     sites: &[Site],

@@ -1,12 +1,12 @@
 //! Sources to tables, and tables to their canonical text.
 //!
-//! `parse` answers the table of a source: its bytes are tokens, the tokens are a file of the grammar, no rule of names
+//! `parse` returns the table of a source: its bytes are tokens, the tokens are a file of the grammar, no rule of names
 //! and limits has a fault, and the table is what the items say. A refusal is the fault of the first pass that finds
 //! one, with its place, and then no table has the text; or memory ran out. By `one_answer` no text has two tables, two
-//! faults, or a table and a fault. `print` gives the canonical text of a table.
+//! faults, or a table and a fault. `print` returns the canonical text of a table.
 //!
-//! The passes stand below (`tokens`, `nesting_fault`, `syntax_fault`, `read_items`, `check_names`). The table is built
-//! last, from the places of the items' tokens, where nothing is left to refuse but want of memory.
+//! The passes are in the crates below (`tokens`, `nesting_fault`, `syntax_fault`, `read_items`, `check_names`). The table is built last, from
+//! the places of the items' tokens, where nothing but an allocation can fail.
 #![tactic(auto)]
 
 mod build;

@@ -8,7 +8,7 @@ use ln_base::Span;
 use ln_names::spans::text;
 use ln_tree::Name;
 
-/// The name that stands at a place.
+/// The name at a place.
 pub fn name_at(bytes: &[u8], at: Span) -> Name
     requires { IsNamed bytes.now at }
     ensures { name_bytes result ≡ text bytes.now at }

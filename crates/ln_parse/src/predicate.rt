@@ -1,4 +1,4 @@
-//! Predicates from items.
+//! Builds one predicate of a table from its item: its arguments, its lets and its sign expression.
 ghost use Rattle.std.specs.Prelude.{◌≡◌, ◌^◌, ◌<◌, true, [], length, map, IfOk};
 ghost use Rattle.std.specs.List.{list_all};
 ghost use Rattle.ln_syntax.specs.Raw.{items, text};
@@ -60,7 +60,7 @@ pub fn predicate(
     })
 }
 
-// What stands between the braces of a predicate.
+// The parts between the braces of a predicate.
 fn body_of(alloc: Global, s: &Scene, sign: Places) -> Result<Body, NoMemory>
     requires small { length s.now.ts.now < 2 ^ 32 }
     requires ready { Each (ReadyLet s.now.bytes.now s.now.ts.now (items s.now.items.now) s.now.args.now) [] s.now.lets.now }

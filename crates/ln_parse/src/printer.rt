@@ -17,7 +17,7 @@ use ln_base::NoMemory;
 use ln_tree::{Arg, Coord, Expr, Name, Node, Param, Pred, Site, Table, Var};
 use std::alloc::Global;
 
-/// What may stand at a place without parentheses: anything, as between parentheses; a product, a negation or a power, as
+/// What may be written at a place without parentheses: anything, as between parentheses; a product, a negation or a power, as
 /// to the right of `+`; a negation or a power, as to the right of `*`; only a number, a name or an input, as before `^`.
 #[derive(Clone, Copy)]
 pub enum Room {
@@ -28,7 +28,7 @@ pub enum Room {
 }
 
 /// The canonical text of a table: its site types, then its params, then its predicates, each on a line. It is a text of
-/// this table but for its spans, so that by `printed_text_has_one_table` what `parse` answers to it is the table again.
+/// this table but for its spans, so that by `printed_text_has_one_table` `parse` returns the table again.
 pub fn print(alloc: Global, t: &Table) -> Result<Vec<u8>, NoMemory>
     ensures exact { IfOk result (λ v. v.items ≡ canonical (table_of t.now.sites t.now.params t.now.preds)) }
     ensures table { IfOk result (λ v. IsTextUpToSpans v.items (table_of t.now.sites t.now.params t.now.preds)) }
@@ -312,7 +312,7 @@ fn put_input(out: &mut Vec<u8>, t: &Table, p: &Pred, v: Var) -> Result<(), NoMem
     }
 }
 
-// May the expression stand here without parentheses?
+// May the expression be written here without parentheses?
 fn stands(room: Room, e: &Expr) -> bool
     ensures { (n : Naming) → result ≡ fits room (written n (formula e.now)) }
 {

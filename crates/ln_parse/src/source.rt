@@ -1,4 +1,4 @@
-//! Sources to tables.
+//! Parses a source: it returns the table, or the first fault of the text and its place.
 ghost use Rattle.std.specs.Prelude.{◌≡◌, ◌≤◌, ◌<◌, ◌^◌, ◌⊎◌, ℕ, List, All, length, IfOk, IfErr};
 ghost use Rattle.ln_lex.specs.Tokens.{IsSlice, Lexed};
 ghost use Rattle.ln_syntax.specs.Raw.{items};
@@ -17,7 +17,7 @@ use ln_tree::Table;
 use std::alloc::Global;
 
 /// Why a source has no table, and where: a byte that begins no token, a limit that it breaks, a token with which no
-/// file goes on, a name; or memory ran out.
+/// file goes on, a name; or out of memory.
 #[derive(Clone, Copy, PartialEq, Eq)]
 pub enum ParseStop {
     Lexical(Span),
@@ -83,7 +83,7 @@ fn checked(alloc: Global, bytes: &[u8], ts: &[Token]) -> Result<Vec<RawItem>, Pa
     }
 }
 
-// The answer to a fault of names and limits.
+// The refusal for a fault of names and limits.
 fn stop_of(found: Found) -> ParseStop
     ensures { result ≡ stop_of found.fault found.at }
 {

@@ -26,13 +26,13 @@ pub record IsLowering (out ps : Pairs) (v n i : ℕ) : Type 0 where
 abbrev pub IsColumn : List ℕ → ℕ → Type 0
 IsColumn c k = (j : ℕ) → j < 128 → slice_index c j ≡ binomial j k
 
--- out is old with the derivative of the term t behind it
+-- out is old with the derivative of the term t appended
 pub record IsDerivedPut (out old : Sparse) (t : Pairs × ℤ) (v n : ℕ) : Type 0 where
   pub exps : Pairs
   pub put : out ≡ old ++ ((exps, t.1 *ℤ pos (binomial (exponent v t.0) n)) ∷ [])
   pub lowered : IsLowered exps t.0 v n
 
--- out has the derivatives of the first i terms, in order, and before the derivative of what comes behind these terms
+-- out has the derivatives of the first i terms, in order, and is before the derivative of what comes after these terms
 pub record IsDeriving (out f : Sparse) (k v n i : ℕ) (w : ℕ → ℕ) : Type 0 where
   pub coefficients : (m : List ℕ) → coefficient_at k out m ≡ factor_at (derivative k v n (take i f)) m
   pub size : size_of out ≤ weighted_sum w (derivative k v n (take i f))

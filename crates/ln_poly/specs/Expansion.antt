@@ -20,7 +20,7 @@ pub record IsNormal (n : ℕ) (e : Tree) (f : Sparse) : Type 0 where
 abbrev pub HasNormal : ℕ → Tree → Type 0
 HasNormal n e = (f : Sparse) × IsNormal n e f
 
--- no vector stands twice in the list
+-- no vector occurs twice in the list
 abbrev pub AreDistinct : List (List ℕ) → Type 0
 AreDistinct [] = Unit {0}
 AreDistinct (m ∷ ms) = (In ms m → ⊥) × AreDistinct ms
@@ -45,7 +45,7 @@ abbrev pub powers : Span → Tree → ℕ → List (Span × Tree)
 powers at e zero = []
 powers at e (suc n) = powers at e n ++ (at, Pow e (suc n)) ∷ []
 
--- what is expanded of a formula behind closed lets, and where: each node in order of evaluation, and for a power e^n each of e^1 to e^n
+-- what is expanded of a formula after closed lets, and where: each node in order of evaluation, and for a power e^n each of e^1 to e^n
 abbrev pub expanded : List VarInfo → List Tree → Formula → List (Span × Tree)
 expanded vars lets (FNum at c) = (at, inlined lets (tree vars (FNum at c))) ∷ []
 expanded vars lets (FInput at a c) = (at, inlined lets (tree vars (FInput at a c))) ∷ []
@@ -56,7 +56,7 @@ expanded vars lets (FSub at e f) = expanded vars lets e ++ expanded vars lets f 
 expanded vars lets (FMul at e f) = expanded vars lets e ++ expanded vars lets f ++ (at, inlined lets (tree vars (FMul at e f))) ∷ []
 expanded vars lets (FPow at e n) = expanded vars lets e ++ powers at (inlined lets (tree vars e)) n
 
--- the same of lets, each behind the closed lets before it
+-- the same of lets, each after the closed lets before it
 abbrev pub expanded_lets : List VarInfo → List Tree → List Formula → List (Span × Tree)
 expanded_lets vars done [] = []
 expanded_lets vars done (f ∷ fs) = expanded vars done f ++ expanded_lets vars (done ++ inlined done (tree vars f) ∷ []) fs

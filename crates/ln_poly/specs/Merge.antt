@@ -5,19 +5,19 @@ use Rattle.std.specs.declared.cmp.Ordering.TheVariants.{Less}
 use Rattle.ln_tree.specs.Exps.{IsAbove, IsRising, Pairs, pairs_cmp}
 use Rattle.ln_poly.specs.Sparse.{AreBelow, AreRising, AreSorted, IsFactor, Sparse, coefficient_at, part_at, size_of}
 
--- e stands before each of these terms
+-- e is before each of these terms
 abbrev pub IsBeforeAll : Pairs → Sparse → Type 0
 IsBeforeAll e zs = AllByRecursion (λ (z : Pairs × ℤ). pairs_cmp e z.0 ≡ Less) zs
 
--- each term of f stands before each of these
+-- each term of f is before each of these
 abbrev pub AreBefore : Sparse → Sparse → Type 0
 AreBefore f zs = All (λ y. IsBeforeAll y.0 zs) f
 
--- each term of f stands before e
+-- each term of f is before e
 abbrev pub AllBefore : Sparse → Pairs → Type 0
 AllBefore f e = All (λ y. pairs_cmp y.0 e ≡ Less) f
 
--- where g has a term, f has one, and its last stands behind that of g
+-- where g has a term, f has one, and its last comes after that of g
 abbrev pub EndsLater : Sparse → Sparse → Type 0
 EndsLater f g = 0 < length g → (0 < length f)
     × ((d e : Pairs × ℤ) → pairs_cmp (slice_index_or g (length g - 1) d).0 (slice_index_or f (length f - 1) e).0 ≡ Less)
@@ -33,7 +33,7 @@ IsSumOf None q o = ⊤
 IsSumOf (Some a) None o = ⊤
 IsSumOf (Some a) (Some b) o = o ≡ Some (a.0, a.1 +ℤ b.1)
 
--- t is the last term of f and g, with what both have for its exponents, and f' and g' are left
+-- t is the last term of f and g, with what both have for its exponents, and f' and g' remain
 pub record IsTaken (f g f' g' : Sparse) (t : Pairs × ℤ) : Type 0 where
   pub coefficients : (n : ℕ) (m : List ℕ) →
       (coefficient_at n f' m +ℤ coefficient_at n g' m) +ℤ part_at n t m ≡ coefficient_at n f m +ℤ coefficient_at n g m
@@ -45,7 +45,7 @@ pub record IsTaken (f g f' g' : Sparse) (t : Pairs × ℤ) : Type 0 where
   pub below : (k : ℕ) → AreBelow k f → AreBelow k g → IsAbove t.0 k × AreBelow k f' × AreBelow k g'
   pub before : (zs : Sparse) → AreBefore f zs → AreBefore g zs → IsBeforeAll t.0 zs × AreBefore f' zs × AreBefore g' zs
 
--- f, g and done, in order, have together what f0 and g0 have, and done stands behind f and g
+-- f, g and done, in order, have together what f0 and g0 have, and done comes after f and g
 pub record IsMerging (f g done f0 g0 : Sparse) : Type 0 where
   pub coefficients : (n : ℕ) (m : List ℕ) →
       (coefficient_at n f m +ℤ coefficient_at n g m) +ℤ coefficient_at n done m ≡ coefficient_at n f0 m +ℤ coefficient_at n g0 m

@@ -1,4 +1,4 @@
--- What a predicate of a table is made of, where its lets stand in their places.
+-- What a predicate of a table is made of, with its lets substituted for their names.
 use Rattle.std.specs.Prelude.{ℕ, List}
 use Rattle.ln_base.specs.declared.span.Span.{Span}
 use Rattle.ln_algebra.specs.Tree.{Tree}

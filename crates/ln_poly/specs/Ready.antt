@@ -26,7 +26,7 @@ AreLight n w lets (Sub e f) = AreLight n w lets e × AreLight n w lets f × IsLi
 AreLight n w lets (Mul e f) = AreLight n w lets e × AreLight n w lets f × IsLight n w (inlined lets (Mul e f))
 AreLight n w lets (Pow e k) = AreLight n w lets e × IsLight n w (inlined lets (Pow e k))
 
--- so in each let, behind these closed lets
+-- so in each let, after these closed lets
 abbrev pub LetsAreLight : ℕ → (ℕ → ℕ) → List Tree → List Tree → Type 0
 LetsAreLight n w done [] = Unit {0}
 LetsAreLight n w done (e ∷ es) = AreLight n w done e × LetsAreLight n w (done ++ inlined done e ∷ []) es

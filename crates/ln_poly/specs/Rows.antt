@@ -4,7 +4,7 @@ use Rattle.ln_algebra.specs.Vector.{plus, same_vector, sum_over}
 use Rattle.ln_tree.specs.Exps.{IsAbove, IsRising, Pairs, exponent, vector}
 use Rattle.ln_poly.specs.Sparse.{AreBelow, AreRising, Sparse, coefficient_at, size_of}
 
--- no exponent of a product of s with a term of g passes 127
+-- no exponent of a product of s with a term of g exceeds 127
 abbrev pub PowersFit : Pairs × ℤ → Sparse → Type 0
 PowersFit s g = All (λ t. (v : ℕ) → exponent v s.0 + exponent v t.0 < 128) g
 
@@ -44,7 +44,7 @@ pub record IsRows (out f g : Sparse) (i : ℕ) : Type 0 where
   pub rising : AreRising out
   pub below : (k : ℕ) → AreBelow k f → AreBelow k g → AreBelow k out
 
--- out is old with the product of s and t behind it
+-- out is old with the product of s and t appended
 pub record IsProductPut (out old : Sparse) (s t : Pairs × ℤ) : Type 0 where
   pub exps : Pairs
   pub put : out ≡ old ++ ((exps, s.1 *ℤ t.1) ∷ [])

@@ -7,7 +7,7 @@ use Rattle.ln_poly.specs.declared.times.Pick.{Pick}
 abbrev pub power_at : ℕ → ℕ × ℕ → ℕ
 power_at v p = if eqb p.0 v then p.1 else 0
 
--- the pair of v and e is taken from la and lb, of which la' and lb' are left; v is the lowest variable
+-- the pair of v and e is taken from la and lb, of which la' and lb' remain; v is the lowest variable
 pub record Picks (la lb la' lb' : Pairs) (v e : ℕ) : Type 0 where
   pub exponents : (w : ℕ) → power_at w (v, e) + (exponent w la' + exponent w lb') ≡ exponent w la + exponent w lb
   pub positive : 0 < e
@@ -19,7 +19,7 @@ pub record Picks (la lb la' lb' : Pairs) (v e : ℕ) : Type 0 where
   pub rising_left : IsRising la'
   pub rising_right : IsRising lb'
 
--- what is left from i and j on, some of it, is to be merged
+-- the remaining pairs from i and j on, at least one, are to be merged
 pub record MayPick (a b : Pairs) (i j : ℕ) : Type 0 where
   pub left : i ≤ length a
   pub right : j ≤ length b
@@ -28,7 +28,7 @@ pub record MayPick (a b : Pairs) (i j : ℕ) : Type 0 where
   pub rising_right : IsRising (drop j b)
   pub small : (v : ℕ) → exponent v (drop i a) + exponent v (drop j b) < 128
 
--- p is picked there, and stands before what is left behind it
+-- p is picked there, and comes before the remaining pairs
 pub record IsPicked (a b : Pairs) (i j : ℕ) (p : Pick) : Type 0 where
   pub picks : Picks (drop i a) (drop j b) (drop p.i a) (drop p.j b) p.v p.e
   pub left : p.i ≤ length a
@@ -40,7 +40,7 @@ abbrev pub AreLow : Pairs → Pairs → Type 0
 AreLow [] ps = Unit {0}
 AreLow (p ∷ out) ps = AllAbove p.0 ps × AreLow out ps
 
--- out has the exponents of a and b but for what is left from i and j on, which is above out
+-- out has the exponents of a and b but for the remaining pairs from i and j on, which are above out
 pub record IsMerged (out a b : Pairs) (i j : ℕ) : Type 0 where
   pub left : i ≤ length a
   pub right : j ≤ length b

@@ -15,7 +15,7 @@ use ln_base::{NoMemory, Seq};
 use ln_tree::Exps;
 use std::alloc::Global;
 
-// Puts copies of terms at the end.
+// Appends copies of terms.
 pub(crate) fn put_all(out: &mut Vec<(Exps, i128)>, f: &[(Exps, i128)]) -> Result<(), NoMemory>
     ensures { OnOk result (out.new.items ≡ out.old.items ++ f.now) }
 {
@@ -36,7 +36,7 @@ pub(crate) fn negate(out: &mut Vec<(Exps, i128)>)
     }
 }
 
-/// Minus a polynomial that is lent. Where it is owned, `Poly::negated` takes no memory.
+/// Minus a polynomial that is lent. Where it is owned, `Poly::negated` allocates nothing.
 pub fn negated(alloc: Global, f: &Poly) -> Result<Poly, NoMemory>
     ensures { IfOk result (λ g. g ≡ negated f.now) }
 {
@@ -71,7 +71,7 @@ pub fn sub(alloc: Global, f: &Poly, g: &Poly) -> Result<Poly, NoMemory>
     Ok(h)
 }
 
-// Puts a term at the end, with a product as its factor.
+// Appends a term, with a product as its factor.
 fn push_product(out: &mut Vec<(Exps, i128)>, exps: Exps, a: i128, b: i128) -> Result<(), NoMemory>
     requires { unsigned_abs (a *ℤ b) < 2 ^ 127 }
     ensures { OnOk result (out.new.items ≡ out.old.items ++ (exps, a *ℤ b) ∷ []) }
@@ -80,7 +80,7 @@ fn push_product(out: &mut Vec<(Exps, i128)>, exps: Exps, a: i128, b: i128) -> Re
     Ok(())
 }
 
-// Puts the product of two terms at the end.
+// Appends the product of two terms.
 fn put_product(
     alloc: Global,
     out: &mut Vec<(Exps, i128)>,
@@ -96,7 +96,7 @@ fn put_product(
     Ok(())
 }
 
-// Puts the products of s with the terms of g at the end.
+// Appends the products of s with the terms of g.
 fn put_row(
     alloc: Global,
     out: &mut Vec<(Exps, i128)>,
@@ -113,7 +113,7 @@ fn put_row(
     Ok(())
 }
 
-// The product of one term and a polynomial, whose terms stand in the order of those of g.
+// The product of one term and a polynomial, whose terms are in the order of those of g.
 fn walk(alloc: Global, s: &(Exps, i128), g: &[(Exps, i128)]) -> Result<Poly, NoMemory>
     requires room { unsigned_abs s.now.1 * size_of g.now < 2 ^ 127 }
     requires powers { PowersFit s.now g.now }

@@ -1,5 +1,5 @@
 //! Binomials of numbers below 128.
-ghost use Rattle.std.specs.Prelude.{◌≡◌, ◌<◌, ◌≤◌, ◌+◌, length};
+ghost use Rattle.std.specs.Prelude.{◌≡◌, ◌<◌, ◌+◌, length};
 ghost use Rattle.ln_algebra.specs.Terms.{binomial};
 ghost use Rattle.ln_poly.specs.Derivative.{IsColumn};
 ghost use Rattle.ln_poly.specs.Values.{IsTriangle};
@@ -54,7 +54,7 @@ impl Binomials {
         Ok(Binomials { columns })
     }
 
-    /// How many ways there are to choose k of n. It takes no memory.
+    /// How many ways there are to choose k of n. It allocates nothing.
     pub fn of(&self, n: u8, k: u8) -> u128
         requires n { n < 128 }
         requires k { k < 128 }

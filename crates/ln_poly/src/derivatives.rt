@@ -1,4 +1,4 @@
-//! Scaled derivatives.
+//! Computes scaled derivatives of a polynomial, by one variable or by several.
 ghost use Rattle.std.specs.Prelude.{◌≡◌, ℕ, List, [], ◌∷◌, ◌++◌, ◌+◌, ◌<◌, ◌≤◌, ◌^◌, ◌*ℤ◌, pos, IfOk, OnOk, length, unsigned_abs};
 ghost use Rattle.ln_algebra.specs.Terms.{binomial, factor_at};
 ghost use Rattle.ln_algebra.specs.Weights.{weighted_sum};
@@ -40,7 +40,7 @@ fn lowered(alloc: Global, e: &Exps, v: u8, n: u8) -> Result<Exps, NoMemory>
     Ok(out)
 }
 
-// Puts the term with these exponents and this product as its factor at the end.
+// Appends the term with these exponents and this product as its factor.
 fn push_times(
     out: &mut Vec<(Exps, i128)>,
     exps: Exps,
@@ -56,7 +56,7 @@ fn push_times(
     Ok(())
 }
 
-// Puts the derivative of a term at the end, where it has one.
+// Appends the derivative of a term, where it has one.
 fn put_derived(
     alloc: Global,
     out: &mut Vec<(Exps, i128)>,

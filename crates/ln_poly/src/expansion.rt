@@ -1,4 +1,4 @@
-//! Normal polynomials of predicates.
+//! Expands the sign expression of a predicate to its normal polynomial, or finds the first node with too many terms.
 ghost use Rattle.std.specs.Prelude.{◌≡◌, ℕ, ◌+◌, ◌*◌, ◌<◌, ◌≤◌, ◌^◌, [], ◌∷◌, true, pos, unsigned_abs, All};
 ghost use Rattle.std.specs.Prelude.{List, IfOk, IfErr, OnOk, nat_lt, length, map, slice_index_or, ◌↔◌};
 ghost use Rattle.ln_algebra.specs.Tree.{Tree, Num, Input, Neg, Add, Sub, Mul, Pow};
@@ -174,7 +174,7 @@ fn raised(alloc: Global, at: Span, f: &Poly, k: u8) -> Result<Poly, PolyStop>
     Ok(p)
 }
 
-// The polynomial of an expression behind lets of these polynomials.
+// The polynomial of an expression after lets of these polynomials.
 fn expand(
     alloc: Global,
     e: &Expr,
@@ -212,7 +212,7 @@ fn expand(
     }
 }
 
-// The polynomials of the lets, each behind those before it.
+// The polynomials of the lets, each after those before it.
 fn expand_lets(alloc: Global, lets: &[Expr], vars: &[VarInfo]) -> Result<Seq<Poly>, PolyStop>
     requires few { length vars.now ≤ 168 }
     requires fit { lets_fit (length vars.now) 0 (map (tree vars.now) (map formula lets.now)) ≡ true }
@@ -229,9 +229,9 @@ fn expand_lets(alloc: Global, lets: &[Expr], vars: &[VarInfo]) -> Result<Seq<Pol
     Ok(done)
 }
 
-/// The normal polynomial of a predicate's root, with its lets put in; or the first node in order of evaluation that has
+/// The normal polynomial of a predicate's root, with its lets substituted; or the first node in order of evaluation that has
 /// more than 1,024 terms, where for a power each of its lower powers counts too. It may have no term. No range and no size of
-/// a node may pass `2^127 - 1`: so no coefficient does on the way.
+/// a node may exceed `2^127 - 1`: so no coefficient does on the way.
 pub fn normal(alloc: Global, p: &Pred) -> Result<Poly, PolyStop>
     requires { HaveWeights (loaded_pred p.now.shape.vars (map formula p.now.lets) (formula p.now.root)) }
     ensures normal { IfOk result (λ f. IsNormal (length p.now.shape.vars)

@@ -1,11 +1,11 @@
-//! Polynomials with whole coefficients: terms in the lexicographic order of their monomials, distinct and without zeros. Products keep that
+//! Polynomials with integer coefficients: terms in the lexicographic order of their monomials, distinct and without zeros. Products keep that
 //! order, so sums and products of polynomials are merges, and nothing sorts terms.
 //!
 //! What the crates above use: `normal` is the normal polynomial of a predicate's root, or the first node that has more
 //! than 1,024 terms. `add`, `sum`, `sub` and `mul` have the coefficients of the sum, the difference and the product, `derive`
 //! those of the scaled derivative by one variable, `derive_by` by several; `value_at` is the value of a scaled derivative on a row,
 //! without forming it. `weight` and `heft` are weighted sums. `mul_within` is `mul` where the product has no more terms than are
-//! wanted, or tells that it has more.
+//! wanted, or none where it has more.
 #![tactic(auto)]
 
 pub mod arithmetic;

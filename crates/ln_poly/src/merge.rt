@@ -1,6 +1,6 @@
 //! Two lists of terms in order, merged from their ends.
 ghost use Rattle.std.specs.Prelude.{◌≡◌, ◌≢◌, ℕ, List, [], ◌∷◌, ◌++◌, ◌+◌, ◌<◌, ◌≤◌, ◌^◌, ◌+ℤ◌, pos, unsigned_abs};
-ghost use Rattle.std.specs.Prelude.{IfOk, IfSome, OnOk, MatchOption, length};
+ghost use Rattle.std.specs.Prelude.{IfOk, IfSome, OnOk, MatchOption};
 ghost use Rattle.std.specs.Ordering.{MatchOrdering};
 ghost use Rattle.ln_poly.specs.Merge.{EndAlike, EndsLater, IsSumOf, IsTaken};
 ghost use Rattle.ln_poly.specs.Sparse.{AreBelow, AreRising, AreSorted, IsPoly, coefficient_at, size_of};
@@ -11,7 +11,7 @@ use ln_tree::Exps;
 use std::alloc::Global;
 use std::cmp::Ordering;
 
-// How the last term of f stands to that of g; a list without a term stands before any other, and f last where neither has one.
+// Compares the last term of f with that of g; a list without a term is before any other, and f is last where neither has one.
 fn later_end(f: &[(Exps, i128)], g: &[(Exps, i128)]) -> Ordering
     ensures { MatchOrdering result (EndsLater g.now f.now) (EndAlike f.now g.now) (EndsLater f.now g.now) }
 {
@@ -53,7 +53,7 @@ fn take_last(f: &mut Vec<(Exps, i128)>, g: &mut Vec<(Exps, i128)>) -> Option<(Ex
     }
 }
 
-// Puts a term at the end, unless it has come to 0.
+// Appends a term, unless it has come to 0.
 fn put_nonzero(out: &mut Vec<(Exps, i128)>, t: (Exps, i128)) -> Result<(), NoMemory>
     ensures zero { OnOk result (t.1 ≡ pos 0 → out.new.items ≡ out.old.items) }
     ensures some { OnOk result (t.1 ≢ pos 0 → out.new.items ≡ out.old.items ++ t ∷ []) }

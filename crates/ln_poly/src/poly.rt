@@ -1,4 +1,4 @@
-//! Polynomials.
+//! Defines polynomials: lists of terms in the lexicographic order of their monomials, no two equal and none 0.
 ghost use Rattle.std.specs.Prelude.{◌≡◌, ◌↔◌, All, [], IfOk, IsTrue};
 ghost use Rattle.ln_poly.specs.Sparse.{IsPoly, negated};
 
@@ -27,7 +27,7 @@ impl Model for Poly {
 }
 
 impl Poly {
-    /// The polynomial of these terms. It takes no memory.
+    /// The polynomial of these terms. It allocates nothing.
     pub fn seal(terms: Seq<(Exps, i128)>) -> Poly
         requires { IsPoly terms }
         ensures { result ≡ terms }
@@ -61,7 +61,7 @@ impl Poly {
         Ok(Poly::seal(Seq::from_vec(out)))
     }
 
-    /// Minus the polynomial. It takes no memory.
+    /// Minus the polynomial. It allocates nothing.
     pub fn negated(self) -> Poly
         ensures { result ≡ negated self }
     {

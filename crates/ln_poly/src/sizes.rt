@@ -15,7 +15,7 @@ ghost use Rattle.ln_poly.specs.Expansion.{HasNormal, IsNormal, closed_lets, clos
 ghost use Rattle.ln_poly.specs.Ready.{AreLight as MayExpand, IsLight, LetsAreLight as LetsMayExpand};
 ghost use Rattle.ln_poly.specs.Sparse.{Sparse, terms_of};
 
-/// Where no range and no size of a predicate's nodes passes the limit, each node may be expanded in 128 bits; and where the
+/// Where no range and no size of a predicate's nodes exceeds the limit, each node may be expanded in 128 bits; and where the
 /// size of an expression is at most `2^127 - 1`, no degree of its normal polynomial is above 126.
 pub fn sizes_make_room()
     ensures expand { (vars : List Info) (k : ℕ) (lets : List Formula) (root : Formula) →
@@ -26,7 +26,7 @@ pub fn sizes_make_room()
 {}
 
 /// Where the size of an expression is at most `2^127 - 1` it has a normal polynomial, all of whose factors fit 128 bits. So has
-/// the root of a predicate, with its lets put in, where no range and no size of a node passes the limit.
+/// the root of a predicate, with its lets substituted, where no range and no size of a node exceeds the limit.
 ///
 /// On it rest the refusals for the weight and for the stages of a predicate, which are said of its normal polynomial: where all
 /// nodes are light, there is one to say them of.
@@ -37,8 +37,8 @@ pub fn normal_polynomial_exists()
         AreLight (loaded_pred vars lets root) → HasNormal (length vars) (closed_root vars lets root) }
 {}
 
-/// What is accepted by weight is accepted by ranges, sizes and the weighted sum of the normal polynomial: where no node is too
-/// heavy, no range and no size passes the limit, and the w-weighted sum of the root's normal polynomial doesn't.
+/// What is accepted by weight is accepted by ranges, sizes and the weighted sum of the normal polynomial: where no node's
+/// weight is too large, no range and no size exceeds the limit, and the w-weighted sum of the root's normal polynomial doesn't.
 pub fn what_was_accepted_stays_accepted()
     ensures nodes { (vars : List Info) (k : ℕ) (lets : List Formula) (root : Formula) →
         lets_fit (length vars) 0 (map (tree vars) lets) ≡ true → is_fit (length vars) k (tree vars root) ≡ true →

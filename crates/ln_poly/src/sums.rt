@@ -36,8 +36,8 @@ fn stands_at(f: &[(Exps, i128)], at: usize, t: &(Exps, i128)) -> bool
     at < f.len() && f[at].0 == t.0
 }
 
-// Adds a term to that of f at a place, where it has the same exponents, or else puts a copy at the end of `more`. Answers the place
-// at which the next one is looked for.
+// Adds a term to that of f at a place, where it has the same exponents, or else appends a copy to `more`. Returns the place at which the next
+// one is looked for.
 fn put_at(
     f: &mut Vec<(Exps, i128)>,
     more: &mut Vec<(Exps, i128)>,

@@ -1,15 +1,11 @@
 //! Steps on lists of terms.
-ghost use Rattle.std.specs.Prelude.{◌≡◌, ℕ, List, [], ◌∷◌, ◌++◌, false, ◌+◌, ◌-◌, ◌<◌, ◌≤◌, ◌^◌};
-ghost use Rattle.std.specs.Prelude.{◌+ℤ◌, IfOk, OnOk, unsigned_abs, length, slice_index_or};
-ghost use Rattle.std.specs.List.{dedup};
-ghost use Rattle.std.specs.List.Sorted.{IsSorted};
-ghost use Rattle.ln_tree.specs.Exps.{same_pairs};
+ghost use Rattle.std.specs.Prelude.{◌≡◌, ℕ, List, [], ◌∷◌, ◌++◌, ◌+◌, ◌-◌, ◌<◌, ◌≤◌, ◌^◌};
+ghost use Rattle.std.specs.Prelude.{◌+ℤ◌, OnOk, unsigned_abs, length, slice_index_or};
 ghost use Rattle.ln_poly.specs.Sparse.{AreBelow, AreRising, AreSorted, IsPoly, coefficient_at, exps_of, part_at, size_of};
 
 use crate::poly::Poly;
 use ln_base::{NoMemory, Seq};
 use ln_tree::Exps;
-use std::alloc::Global;
 
 // Adds the factor of a term to the one at a place, which has the same exponents.
 pub(crate) fn add_at(out: &mut Vec<(Exps, i128)>, at: usize, t: &(Exps, i128))
@@ -23,7 +19,7 @@ pub(crate) fn add_at(out: &mut Vec<(Exps, i128)>, at: usize, t: &(Exps, i128))
     out[at].1 += t.1;
 }
 
-// Puts a term at the end.
+// Appends a term.
 pub(crate) fn push(out: &mut Vec<(Exps, i128)>, t: &(Exps, i128)) -> Result<(), NoMemory>
     ensures { OnOk result (out.new.items ≡ out.old.items ++ t.now ∷ []) }
 {
@@ -31,7 +27,7 @@ pub(crate) fn push(out: &mut Vec<(Exps, i128)>, t: &(Exps, i128)) -> Result<(), 
     Ok(())
 }
 
-// The polynomial of terms in order: zeros are left out. It takes no memory.
+// The polynomial of terms in order: zeros are left out. It allocates nothing.
 pub(crate) fn nonzero(terms: Vec<(Exps, i128)>) -> Poly
     requires small { size_of terms.items < 2 ^ 127 }
     requires rising { AreRising terms.items }

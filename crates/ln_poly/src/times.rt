@@ -1,4 +1,4 @@
-//! Products of monomials.
+//! Computes the exponents of the product of two monomials.
 ghost use Rattle.std.specs.Prelude.{◌≡◌, ℕ, ◌+◌, ◌++◌, ◌<◌, IfOk, length, slice_index_or, true};
 ghost use Rattle.ln_tree.specs.Exps.{IsRising, exponent};
 ghost use Rattle.ln_poly.specs.Times.{AreLow, IsPicked, MayPick};
@@ -7,7 +7,7 @@ use ln_base::NoMemory;
 use ln_tree::Exps;
 use std::alloc::Global;
 
-// The pair of the lowest variable, and the places behind it in two lists.
+// The pair of the lowest variable, and the places after it in two lists.
 #[derive(Clone, Copy)]
 struct Pick {
     v: u8,
@@ -76,7 +76,7 @@ fn are_low(a: &[(u8, u8)], b: &[(u8, u8)]) -> bool
     a[n - 1].0 < b[0].0
 }
 
-// The pairs of the second behind those of the first.
+// The pairs of the second after those of the first.
 fn behind(a: &Exps, b: &[(u8, u8)]) -> Result<Exps, NoMemory>
     requires low { AreLow a.now b.now }
     requires rising { IsRising b.now }
@@ -109,8 +109,8 @@ fn merged(alloc: Global, a: &[(u8, u8)], b: &[(u8, u8)]) -> Result<Exps, NoMemor
     Ok(out)
 }
 
-/// The exponents of the product of two monomials. Where the variables of one are all below those of the other, it is a copy with
-/// the other's pairs behind it.
+/// The exponents of the product of two monomials. Where the variables of one are all below those of the other, it is a copy with the other's
+/// pairs appended.
 pub fn times(alloc: Global, a: &Exps, b: &Exps) -> Result<Exps, NoMemory>
     requires { (v : ℕ) → exponent v a.now + exponent v b.now < 128 }
     ensures exponents { IfOk result (λ e. (v : ℕ) → exponent v e ≡ exponent v a.now + exponent v b.now) }

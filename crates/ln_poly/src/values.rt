@@ -1,12 +1,12 @@
-//! Values of scaled derivatives.
-ghost use Rattle.std.specs.Prelude.{◌≡◌, ◌≢◌, ◌<◌, ◌≤◌, ◌+◌, ◌-◌, ◌*◌, ◌^◌, ◌*ℤ◌, pos, true, length, max, unsigned_abs};
+//! Computes the value of a scaled derivative on a row, without forming the derivative.
+ghost use Rattle.std.specs.Prelude.{◌≡◌, ◌<◌, ◌≤◌, ◌+◌, ◌-◌, ◌*◌, ◌^◌, ◌*ℤ◌, pos, true, length, max, unsigned_abs};
 ghost use Rattle.ln_algebra.specs.Terms.{binomial, covers, derived, power_of, value};
 ghost use Rattle.ln_algebra.specs.Weights.{weighted_sum};
 ghost use Rattle.ln_bound.specs.Light.{most};
 ghost use Rattle.ln_bound.specs.Value.{weights};
-ghost use Rattle.ln_tree.specs.Exps.{IsAbove, IsRising, exponent, vector};
+ghost use Rattle.ln_tree.specs.Exps.{IsAbove, IsRising, vector};
 ghost use Rattle.ln_tree.specs.Row.{AreWithin, values};
-ghost use Rattle.ln_poly.specs.Sparse.{AreBelow, IsFactor, terms_of};
+ghost use Rattle.ln_poly.specs.Sparse.{AreBelow, terms_of};
 ghost use Rattle.ln_poly.specs.Weight.{term_weight};
 ghost use Rattle.ln_poly.specs.Values.{parts, term_value};
 
@@ -91,7 +91,7 @@ fn term(b: &Binomials, t: &(Exps, i128), s: &Shape, a: &[(u8, u8)], row: &[i64])
 }
 
 /// The value, on a row in range, of the scaled derivative of a polynomial by these exponents. The derivative isn't formed, no
-/// sum on the way passes `2^127 - 1`, and it takes no memory.
+/// sum on the way exceeds `2^127 - 1`, and it allocates nothing.
 pub fn value_at(b: &Binomials, f: &Poly, s: &Shape, a: &[(u8, u8)], row: &[i64]) -> i128
     requires rising { IsRising a.now }
     requires above { IsAbove a.now (length s.now.vars) }

@@ -1,4 +1,4 @@
-//! Weights of polynomials.
+//! Computes the weighted sums of a polynomial that bound its values and those of all its scaled derivatives.
 ghost use Rattle.std.specs.Prelude.{◌≡◌, ◌*◌, ◌<◌, ◌≤◌, ◌^◌, length, unsigned_abs, MatchOption};
 ghost use Rattle.ln_algebra.specs.Weights.{weighted_sum};
 ghost use Rattle.ln_bound.specs.Light.{most};
@@ -74,7 +74,7 @@ fn total(f: &Poly, s: &Shape, more: u8) -> Option<u128>
 }
 
 /// The sum of the absolute factors, each times the value of its monomial where every variable has the largest absolute
-/// value of its range, and at least 1. None where it passes `2^127 - 1`. It takes no memory.
+/// value of its range, and at least 1. None where it exceeds `2^127 - 1`. It allocates nothing.
 pub fn weight(f: &Poly, s: &Shape) -> Option<u128>
     requires { AreBelow (length s.now.vars) f.now }
     ensures { MatchOption result (most < weighted_sum (sizes s.now.vars) (terms_of (length s.now.vars) f.now))
@@ -84,7 +84,7 @@ pub fn weight(f: &Poly, s: &Shape) -> Option<u128>
 }
 
 /// The same sum where every variable has 1 more than that: all scaled derivatives of the polynomial together weigh as much.
-/// None where it passes `2^127 - 1`. It takes no memory.
+/// None where it exceeds `2^127 - 1`. It allocates nothing.
 pub fn heft(f: &Poly, s: &Shape) -> Option<u128>
     requires { AreBelow (length s.now.vars) f.now }
     ensures { MatchOption result (most < weighted_sum (weights s.now.vars) (terms_of (length s.now.vars) f.now))

@@ -1,6 +1,6 @@
 //! A product that is given up where it has too many terms.
-ghost use Rattle.std.specs.Prelude.{◌≡◌, ℕ, List, ◌+◌, ◌-◌, ◌*◌, ◌<◌, ◌≤◌, ◌^◌, ◌+ℤ◌, ◌↔◌};
-ghost use Rattle.std.specs.Prelude.{All, IfOk, IfSome, IfNone, IsTrue, drop, length, take};
+ghost use Rattle.std.specs.Prelude.{◌≡◌, ℕ, List, ◌+◌, ◌-◌, ◌*◌, ◌<◌, ◌≤◌, ◌^◌, ◌↔◌};
+ghost use Rattle.std.specs.Prelude.{All, IfOk, IfSome, IfNone, IsTrue, length};
 ghost use Rattle.ln_algebra.specs.Coefficient.{product};
 ghost use Rattle.ln_poly.specs.Sparse.{IsFactor, IsPoly, AreBelow, coefficient_at, size_of};
 ghost use Rattle.ln_poly.specs.Rows.{IsRows, PowersFit};
@@ -52,7 +52,7 @@ fn with_rows(
     Ok(h)
 }
 
-// Are there so many terms that more than `most` stay, whatever the rows that are left take away? Each has `width` terms.
+// Do more than `most` of the terms stay, whatever the remaining rows take away? Each row has `width` terms.
 fn are_too_many(terms: usize, left: usize, width: usize, most: usize) -> bool
     ensures { IsTrue result ↔ (most + left * width < terms) }
 {
@@ -104,7 +104,7 @@ fn fewer_rows(alloc: Global, f: &Poly, g: &Poly, most: usize) -> Result<Option<P
 /// The product of two polynomials, where it has at most `most` terms; None where it has more.
 ///
 /// The terms of the polynomial with fewer are multiplied 64 at a time. Each product of two terms that is still to come takes away at
-/// most one term of what there is; so None is answered as soon as there are more terms than `most` and those products. Beside the
+/// most one term of what there is; so None is returned as soon as there are more terms than `most` and those products. Beside the
 /// products of 64 terms, whose rows are merged two halves at a time, at most about half of all products of two terms are held at
 /// once. It takes the time of `mul`, and that of a sum for each 64 terms.
 pub fn mul_within(alloc: Global, f: &Poly, g: &Poly, most: usize) -> Result<Option<Poly>, NoMemory>

@@ -4,7 +4,7 @@ use Rattle.ln_algebra.specs.Walk.{Found}
 use Rattle.ln_algebra.specs.Layers.{layers, steps_at, walk_at}
 use Rattle.ln_tree.specs.Exps.{Pairs, exponent}
 use Rattle.ln_poly.specs.Sparse.{Sparse}
-use Rattle.ln_stage.specs.Kept.{listed, rows, term_at}
+use Rattle.ln_stage.specs.Kept.{rows, term_at}
 
 -- the sum of the exponents of these variables
 abbrev pub pairs_degree : List ℕ → Pairs → ℕ

@@ -14,22 +14,23 @@ abbrev pub list_along : (List ℕ → List (List ℕ)) → List ℕ → List (Li
 list_along segment [] = segment []
 list_along segment (x ∷ o) = segment [] ++ list_along (λ p. segment (x ∷ p)) o
 
--- how many stages there are in all lists: a segment of j sites stands in as many lists as the sites that are left have orders
+-- how many stages there are in all lists: a segment of j sites is in as many lists as the remaining sites have orders
 abbrev pub shared_count : ℕ → (List ℕ → List (List ℕ)) → List (List ℕ) → ℕ
 shared_count k segment [] = 0
 shared_count k segment (p ∷ ps) = length (orders_of (k - length p)) * length (segment p) + shared_count k segment ps
 
--- what the walk lists at a prefix: behind q the site s, and then these
+-- what the walk lists at a prefix: after q the site s, and then these
 abbrev pub last_walk : ℕ → List VarInfo → List (List ℕ) → List ℕ → ℕ → List ℕ → List (List ℕ)
 last_walk b vars ms q s [] = (site_walk b vars ms q s).0
 last_walk b vars ms q s (t ∷ p) = last_walk b vars ms (q ++ s ∷ []) t p
 
+-- what the walk lists at a prefix, which may be empty
 abbrev pub prefix_walk : ℕ → List VarInfo → List (List ℕ) → List ℕ → List (List ℕ)
 prefix_walk b vars ms [] = (front_walk b vars ms []).0
 prefix_walk b vars ms (s ∷ p) = last_walk b vars ms [] s p
 
 -- ---- laws
--- vectors that are numbered in order of first sight have the same numbers either way, whatever stands at the prefixes
+-- vectors that are numbered in order of first sight have the same numbers either way, whatever is at the prefixes
 abbrev pub FirstSightByPrefixes : Type 0
 FirstSightByPrefixes =
     (k : ℕ) (segment : List ℕ → List (List ℕ)) →
@@ -43,7 +44,7 @@ StagesByPrefixes =
     (first_seen (map (list_of vars f) (orders_of k)) ≡ first_seen (map (prefix_walk 127 vars (all_rows (length vars) f)) (prefixes_of k)))
     × (stage_count (map (list_of vars f) (orders_of k)) ≡ shared_count k (prefix_walk 127 vars (all_rows (length vars) f)) (prefixes_of k))
 
--- what stands at the prefixes, each counted once, is at most what stands in all lists: where that passes a limit, so does the stage count
+-- the stages at the prefixes, each counted once, are at most those in all lists: where their count exceeds a limit, so does the stage count
 abbrev pub SegmentsAreFewer : Type 0
 SegmentsAreFewer = (k : ℕ) (segment : List ℕ → List (List ℕ)) →
     stage_count (map segment (prefixes_of k)) ≤ shared_count k segment (prefixes_of k)

@@ -1,5 +1,5 @@
 -- The stage lists of all orders of the sites by total degree first, and how they are kept: each list whole, where its order is.
-use Rattle.std.specs.Prelude.{◌≡◌, ◌≢◌, ℕ, ◌<◌, eqb, All, List, [], ◌∷◌, length, map, slice_index_or, take, if◌then◌else◌}
+use Rattle.std.specs.Prelude.{◌≡◌, ◌≢◌, ℕ, ◌<◌, eqb, All, List, [], length, map, take, if◌then◌else◌}
 use Rattle.std.specs.List.{range_with_len}
 use Rattle.ln_algebra.specs.Orders.{ByDegree}
 use Rattle.ln_algebra.specs.Vector.{zeros}
@@ -19,7 +19,7 @@ use Rattle.ln_stage.specs.declared.stop.StageStop.TheVariants.{Zero, Stages, NoM
 unfoldable pub graded_list : List VarInfo → Sparse → List ℕ → List (List ℕ)
 graded_list vars f o = (listed_graded f (ranking_of vars o) (range_with_len 0 (length f)) (zeros (length vars))).0
 
--- what stands at a prefix of the orders of k sites: at a whole order its list, at any other nothing
+-- what is at a prefix of the orders of k sites: at a whole order its list, at any other nothing
 unfoldable pub graded_at : ℕ → List VarInfo → Sparse → List ℕ → List (List ℕ)
 graded_at k vars f p = if eqb (length p) k then graded_list vars f p else []
 
@@ -36,7 +36,7 @@ pub record AreGradedStagesOf (k : ℕ) (vars : List VarInfo) (f : Sparse) (st : 
   pub named : All (λ segment. All (λ i. i < length st.exps) segment) st.segments
   pub whole : (o : List ℕ) (j : ℕ) → IsOrderOf k o → j < k → segment_of st (take j o) ≡ []
 
--- why there are none: f is 0, or it isn't and the count or the weight of these lists passes its limit; nothing is said of want of memory
+-- why there are none: f is 0, or it isn't and the count or the weight of these lists exceeds its limit; out of memory isn't described here
 abbrev pub StopsGraded : ℕ → List VarInfo → Sparse → ℕ → ℕ → StageStop → Type 0
 StopsGraded k vars f most heavy Zero = f ≡ []
 StopsGraded k vars f most heavy Stages = (f ≢ [])

@@ -54,6 +54,6 @@ all_covering n f (a ∷ as') = covering n f a + all_covering n f as'
 abbrev pub stage_weight : ℕ → Sparse → List (List (List ℕ)) → ℕ
 stage_weight n f lists = all_covering n f (first_seen lists)
 
--- the stage count passes `most`, or the stage weight passes `heavy`
+-- the stage count exceeds `most`, or the stage weight exceeds `heavy`
 abbrev pub Passes : ℕ → Sparse → ℕ → ℕ → List (List (List ℕ)) → Type 0
 Passes n f most heavy lists = (most < stage_count lists) ⊎ (heavy < stage_weight n f lists)

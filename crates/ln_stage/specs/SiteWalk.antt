@@ -16,7 +16,7 @@ use Rattle.ln_stage.specs.Segments.{AreSegments}
 abbrev pub front_walk : ℕ → List VarInfo → List (List ℕ) → List ℕ → Found
 front_walk b vars ms p = walk (suc b) (ranking_of vars p) ms (zeros (length vars))
 
--- behind the cut there is nothing
+-- after the cut there is nothing
 abbrev pub unless_cut : Found → Found → Found
 unless_cut r t = if r.1 then ([], true) else t
 

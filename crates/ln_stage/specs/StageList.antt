@@ -1,4 +1,4 @@
--- The stage list of a polynomial in an order of its sites: a set of exponent vectors, cut and put in order.
+-- The stage list of a polynomial in an order of its sites: a set of exponent vectors, cut and sorted.
 -- Source: the staged evaluation of Simulation of Simplicity (Edelsbrunner and Mücke 1990), which ends at the first coefficient
 -- that is a constant.
 use Rattle.std.specs.Prelude.{◌≡◌, ◌≢◌, ◌↔◌, ℕ, pos, List, length}

@@ -36,7 +36,7 @@ block_vector n exps i = vector n (slice_index_or exps i [])
 abbrev pub vectors_of : ℕ → Staged → List (List (List ℕ))
 vectors_of n st = map (λ list. map (block_vector n st.exps) list) st.lists
 
--- the segment of a prefix, which stands at the number of the prefix among all
+-- the segment of a prefix, which is at the number of the prefix among all
 abbrev pub segment_of : Staged → List ℕ → List ℕ
 segment_of st p = beside (prefixes_of st.sites) st.segments p
 
@@ -58,8 +58,8 @@ pub record AreStagesOf (k : ℕ) (vars : List VarInfo) (f : Sparse) (st : Staged
   pub numbers : All (λ list. All (λ i. i < length st.exps) list) st.lists
   pub segments : AreSegmentsOf k vars f st
 
--- why there are no stages: f is 0, or it isn't and the stage count or the stage weight of its lists passes its limit; nothing is
--- said of want of memory
+-- why there are no stages: f is 0, or it isn't and the stage count or the stage weight of its lists exceeds its limit; out of memory isn't
+-- described here
 abbrev pub StopsListing : ℕ → List VarInfo → Sparse → ℕ → ℕ → StageStop → Type 0
 StopsListing k vars f most heavy Zero = f ≡ []
 StopsListing k vars f most heavy Stages = (f ≢ [])

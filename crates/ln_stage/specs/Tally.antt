@@ -27,7 +27,7 @@ abbrev pub put_exps : List Pairs → Pairs → List Pairs
 put_exps [] a = a ∷ []
 put_exps (b ∷ bs) a = if same_pairs a b then b ∷ bs else b ∷ put_exps bs a
 
--- one stage more, which so many monomials cover
+-- one stage more, which this many monomials cover
 abbrev pub see : ℕ → Tallied → Pairs → Tallied
 see cover t a = record {
   exps = put_exps t.exps a;
@@ -38,7 +38,7 @@ see cover t a = record {
   heavy = t.heavy;
 }
 
--- the count passes its limit, or the weight does
+-- the count exceeds its limit, or the weight does
 abbrev pub IsOver : Tallied → Type 0
 IsOver t = (t.most < t.count) ⊎ (t.heavy < t.weight)
 
@@ -61,7 +61,7 @@ see_all n f t (a ∷ as') = see_all n f (see (covering n f a) t (pairs_of a)) as
 abbrev pub next_list : Tallied → Tallied
 next_list t = record { exps = t.exps; list = []; count = t.count; weight = t.weight; most = t.most; heavy = t.heavy }
 
--- listing stopped: only for want of memory, or where this is so
+-- listing stopped: only because memory ran out, or where this is so
 abbrev pub IsStoppedBy : StageStop → Type 0 → Type 0
 IsStoppedBy Zero P = ⊥
 IsStoppedBy Stages P = P

@@ -11,16 +11,16 @@ use Rattle.ln_stage.specs.SiteWalk.{front_walk}
 unfoldable pub segment_at : List VarInfo → Sparse → List ℕ → List (List ℕ)
 segment_at vars f p = prefix_walk 127 vars (all_rows (length vars) f) p
 
--- does the cut stand in the segment of the prefix or in one before it?
+-- is the cut in the segment of the prefix or in one before it?
 unfoldable pub is_cut_at : List VarInfo → Sparse → List ℕ → Bool
 is_cut_at vars f p = (front_walk 127 vars (all_rows (length vars) f) p).1
 
--- does it stand in one before it?
+-- is it in one before it?
 abbrev pub cut_before : List VarInfo → Sparse → List ℕ → Bool
 cut_before vars f [] = false
 cut_before vars f (x ∷ p) = is_cut_at vars f (take (length p) (x ∷ p))
 
--- what is kept by length says so for the first n fronts of p
+-- what is kept by length has this for the first n prefixes of p
 abbrev pub AreCuts : List VarInfo → Sparse → ℕ → List ℕ → List Bool → Type 0
 AreCuts vars f n p cuts = (j : ℕ) → j < n → slice_index_or cuts j false ≡ is_cut_at vars f (take j p)
 
@@ -29,7 +29,7 @@ abbrev pub cut_in : List Bool → ℕ → Bool
 cut_in cuts zero = false
 cut_in cuts (suc n) = slice_index_or cuts n false
 
--- it says so at the first of these prefixes
+-- and at the first of these prefixes
 abbrev pub AreCutsFor : List VarInfo → Sparse → List (List ℕ) → List Bool → Type 0
 AreCutsFor vars f [] cuts = Unit {0}
 AreCutsFor vars f (p ∷ ps) cuts = AreCuts vars f (length p) p cuts

@@ -50,7 +50,7 @@ fn graded_list(
     )
 }
 
-// The stages that stand at a prefix: at a whole order its list, at any other nothing.
+// The stages at a prefix: at a whole order its list, at any other nothing.
 fn graded_visit(
     alloc: Global,
     f: &[(Exps, i128)],
@@ -73,7 +73,7 @@ fn graded_visit(
     graded_list(alloc, f, s, p, tally)
 }
 
-// What stands at a prefix, as numbers of blocks.
+// The stages at a prefix, as numbers of blocks.
 fn graded_segment(
     alloc: Global,
     f: &[(Exps, i128)],
@@ -96,7 +96,7 @@ fn graded_segment(
     Ok(tally.take_list(alloc))
 }
 
-// What stands at these prefixes, and how many stages there are in all lists.
+// The stages at these prefixes, and how many there are in all lists.
 fn graded_segments(
     alloc: Global,
     f: &[(Exps, i128)],
@@ -132,12 +132,11 @@ fn graded_segments(
     Ok((segments, count))
 }
 
-/// The stages of a polynomial over a shape by total degree first: for each order of the sites its stage list in that order of
-/// infinitesimals, with the blocks numbered in order of first sight. A list stands whole where its order is; nothing stands at shorter
-/// prefixes.
+/// The stages of a polynomial over a shape by total degree first: for each order of the sites its stage list in that order of infinitesimals,
+/// with the blocks numbered in order of first sight. A list is kept whole at its order; shorter prefixes have nothing.
 ///
-/// `Zero` says that the polynomial has no term, `Stages` that it has one and the count of these stages passes `most` or their weight
-/// passes `heavy`.
+/// `Zero` says that the polynomial has no term, `Stages` that it has one and the count of these stages exceeds `most` or their weight exceeds
+/// `heavy`.
 pub fn graded_stages(
     alloc: Global,
     f: &Poly,

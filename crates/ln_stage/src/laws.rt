@@ -9,7 +9,7 @@ ghost use Rattle.ln_stage.specs.StageList.{ListIsUnique, ListsAreThoseOfTrees};
 
 /// The stage lists of a polynomial are those of each expression whose normal polynomial it is.
 ///
-/// On it rests that the laws of stages, which speak of expressions, hold for the lists that `stages` gives.
+/// On it rests that the laws of stages, which speak of expressions, hold for the lists that `stages` returns.
 pub fn lists_are_those_of_trees()
     ensures { ListsAreThoseOfTrees }
 {}
@@ -31,7 +31,7 @@ pub fn first_seen_are_sighted()
 /// The scaled derivative of a normal polynomial by a vector has at every point the perturbed coefficient of the vector, and on
 /// a row that of the row; no vector above the syntactic degree has one that isn't 0.
 ///
-/// On it rests that a block, which computes one derivative, gives the coefficient at its stage.
+/// On it rests that the value of a block, which computes one derivative, is the coefficient at its stage.
 pub fn derivatives_are_coefficients()
     ensures points { DerivativesAreCoefficients }
     ensures rows { DerivativesOnRows }

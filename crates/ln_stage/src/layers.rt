@@ -1,5 +1,5 @@
 //! Stages of one total degree, listed depth first, from the smallest infinitesimal to the largest.
-ghost use Rattle.std.specs.Prelude.{◌≡◌, ◌<◌, ◌≤◌, ◌*◌, All, IfOk, IfErr, length, [], OnOk};
+ghost use Rattle.std.specs.Prelude.{◌≡◌, ◌<◌, ◌≤◌, ◌*◌, All, IfOk, IfErr, length, OnOk};
 ghost use Rattle.ln_tree.specs.Exps.{IsRising};
 ghost use Rattle.ln_poly.specs.Sparse.{AreRising};
 ghost use Rattle.ln_stage.specs.Degrees.{any_reaches, largest_degree, listed_degree, listed_graded, pairs_degree};
@@ -59,8 +59,8 @@ fn largest_degree(f: &[(Exps, i128)], vs: &[u8], kept: &[usize]) -> u64
     largest
 }
 
-// The stages from p on in the variables vs whose exponents there sum up to d, depth first, with the terms at these
-// places, which are those that cover p; answers whether the cut ended them.
+// The stages from p on in the variables vs whose exponents there sum up to d, depth first, with the terms at these places, which are those that
+// cover p. Returns whether the cut ended them.
 pub(crate) fn walk_at(
     alloc: Global,
     f: &[(Exps, i128)],

@@ -1,11 +1,11 @@
 //! Stage lists: for each order of the sites of a predicate the exponents at which a derivative has to be looked at, in
 //! turn, on a row whose plain value is 0.
 //!
-//! A list goes site by site: its segment at a prefix of the order has what needs the last site of the prefix and none behind
+//! A list goes site by site: its segment at a prefix of the order has what needs the last site of the prefix and none after
 //! it, so it is the same for all orders that begin so. Each prefix is walked once.
 //!
-//! What the crates above use: `stages` gives the segment of each prefix and the stage list of each order, with the blocks
-//! numbered in order of first sight, or says exactly why there is none; `Stages` has its five readers.
+//! What the crates above use: `stages` returns the segment of each prefix and the stage list of each order, with the blocks
+//! numbered in order of first sight, or exactly why there is none; `Stages` has its five readers.
 #![tactic(auto)]
 
 pub mod graded;

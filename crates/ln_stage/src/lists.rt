@@ -22,7 +22,7 @@ use ln_poly::Poly;
 use ln_tree::{Exps, Shape};
 use std::alloc::Global;
 
-// The places of so many terms.
+// The places of n terms.
 pub(crate) fn places(alloc: Global, n: usize) -> Result<Vec<usize>, NoMemory>
     ensures { IfOk result (λ r. r.items ≡ range_with_len 0 n) }
 {
@@ -40,8 +40,8 @@ pub(crate) fn zeros(alloc: Global, n: usize) -> Result<Vec<u8>, NoMemory>
     Ok(vec![in alloc; 0u8; n]?)
 }
 
-// The stages at a prefix of the orders, in order: those that need its last site and none behind it. Nothing is listed where
-// the cut stands before; answers whether the cut stands here or before.
+// The stages at a prefix of the orders, in order: those that need its last site and none after it. Nothing is listed where the cut is before;
+// returns whether the cut is here or before.
 fn visit(
     alloc: Global,
     f: &[(Exps, i128)],
@@ -91,7 +91,7 @@ fn visit(
     )
 }
 
-// Does the cut stand before the prefix of this length?
+// Is the cut before the prefix of this length?
 fn before(cuts: &[bool], n: usize) -> bool
     requires { n ≤ length cuts.now }
     ensures { result ≡ cut_in cuts.now n }
@@ -131,7 +131,7 @@ fn segment(
     Ok(tally.take_list(alloc))
 }
 
-// How many orders so many sites have.
+// How many orders k sites have.
 pub(crate) fn orders(k: u8) -> u64
     requires { k ≤ 5 }
     ensures value { result ≡ length (orders_of k) }
@@ -146,7 +146,7 @@ pub(crate) fn orders(k: u8) -> u64
     }
 }
 
-// The count with the stages of one segment more, which stands in so many lists.
+// The count with the stages of one segment more, which is in `lists` lists.
 pub(crate) fn with_segment(
     count: u64,
     stages: usize,
@@ -206,8 +206,8 @@ fn listed(
 /// numbered in order of first sight.
 ///
 /// The stage list of an order is all exponents over the variables of sites that some monomial covers, from the earliest
-/// on, up to the first that is a monomial which no other covers. `Zero` says that the polynomial has no term, `Stages`
-/// that it has one and its stage count passes `most` or its stage weight passes `heavy`.
+/// on, up to the first that is a monomial which no other covers. `Zero` says that the polynomial has no term, `Stages` that it has one and its
+/// stage count exceeds `most` or its stage weight exceeds `heavy`.
 pub fn stages(
     alloc: Global,
     f: &Poly,

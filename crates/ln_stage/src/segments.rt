@@ -1,4 +1,4 @@
-//! Laws of segments.
+//! States how the segments of the prefixes of an order make up its stage list.
 ghost use Rattle.ln_stage.specs.FirstSight.{FirstSightByPrefixes, SegmentsAreFewer};
 ghost use Rattle.ln_stage.specs.Segments.{ListHasItsSegments, SegmentIsOfThePrefix, SegmentIsUnique, SegmentsMakeTheList};
 ghost use Rattle.ln_stage.specs.SiteWalk.{ListsAreWalkedByPrefixes, WalkGoesSiteBySite, WalksAreSegments};
@@ -41,7 +41,7 @@ pub fn walk_goes_site_by_site()
 {}
 
 /// Blocks that are numbered in order of first sight through the segments of all prefixes have the numbers that they have
-/// through the lists of all orders, and the stage count is the sum over the segments, each as often as it stands in a list.
+/// through the lists of all orders, and the stage count is the sum over the segments, each as often as it occurs in a list.
 ///
 /// On it rests that one pass over the prefixes serves for numbers, count and weight.
 pub fn first_sight_by_prefixes()

@@ -7,9 +7,9 @@ use std::alloc::AllocFailed;
 pub enum StageStop {
     /// The polynomial is 0, without any term.
     Zero,
-    /// The stage count passes its limit, or the stage weight does.
+    /// The stage count exceeds its limit, or the stage weight does.
     Stages,
-    /// There was no memory.
+    /// Out of memory.
     NoMemory,
 }
 

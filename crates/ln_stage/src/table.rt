@@ -87,7 +87,7 @@ impl Stages {
 
     /// The segment of an order of the sites at its first j places, as numbers of blocks: the members of its list, in order,
     /// whose last site with an exponent is the j-th, and with j = 0 the member 0. It is that of every order with these
-    /// first places, and the segments for j = 0, 1, .. are the list. It takes no memory.
+    /// first places, and the segments for j = 0, 1, .. are the list. It allocates nothing.
     pub fn segment(&self, o: &Order, j: u8) -> &[u32]
         requires order { length (order_places o.now) ≡ self.now.sites }
         requires within { j ≤ length (order_places o.now) }
@@ -96,14 +96,14 @@ impl Stages {
         self.segments.as_slice()[prefix_number(o, j) as usize].as_slice()
     }
 
-    /// The segments of all prefixes, in the order of `all_prefixes`. It takes no memory.
+    /// The segments of all prefixes, in the order of `all_prefixes`. It allocates nothing.
     pub fn segments(&self) -> &[Seq<u32>]
         ensures { result.now ≡ self.now.segments }
     {
         self.segments.as_slice()
     }
 
-    /// The segments of all prefixes, in the order of `all_prefixes`, handed over. It takes no memory.
+    /// The segments of all prefixes, in the order of `all_prefixes`, handed over. It allocates nothing.
     pub fn into_segments(self) -> Seq<Seq<u32>>
         ensures { result ≡ self.segments }
     {

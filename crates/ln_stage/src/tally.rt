@@ -62,7 +62,7 @@ impl Tally {
         }
     }
 
-    // The number of the block with these exponents, which so many monomials cover; a new block is put at the end.
+    // The number of the block with these exponents, which `cover` monomials cover; a new block is appended.
     fn number(&mut self, a: Exps, cover: usize) -> Result<u32, StageStop>
         requires { 0 < cover }
         ensures ok { IfOk result (λ i. i ≡ number_in self.old.exps a) }
@@ -86,7 +86,7 @@ impl Tally {
         Ok(i as u32)
     }
 
-    // Puts a stage with these exponents, which so many monomials cover, at the end of the list at hand.
+    // Appends a stage with these exponents, which `cover` monomials cover, to the current list.
     pub(crate) fn see(&mut self, a: Exps, cover: usize) -> Result<(), StageStop>
         requires { 0 < cover }
         ensures ok { OnOk result (self.new ≡ see cover self.old a) }

@@ -17,27 +17,27 @@ use Rattle.ln_syntax.specs.declared.place.State.TheVariants.{HighNumber, RangeEn
 use Rattle.ln_syntax.specs.declared.place.State.TheVariants.{ArgColon, ArgKind, ArgEnd, BodyOpen, Body, LetName, LetEquals}
 use Rattle.ln_syntax.specs.declared.place.State.TheVariants.{Operand, InputName, Exponent, After, BodyEnd}
 
--- a state and the count of open parentheses; none behind a token with which no file goes on
+-- a state and the count of open parentheses; none after a token with which no file goes on
 abbrev pub Standing : Type 0
 Standing = Option (State × ℕ)
 
--- behind a ) in an expression
+-- after a ) in an expression
 abbrev pub closed : Part → ℕ → Standing
 closed p zero = None
 closed p (suc d) = Some (After p Whole, d)
 
--- behind a ; that ends an expression
+-- after a ; that ends an expression
 abbrev pub ended : Part → ℕ → Standing
 ended Value zero = Some (Body, 0)
 ended Root zero = Some (BodyEnd, 0)
 ended p (suc d) = None
 
--- behind a ; that ends a range
+-- after a ; that ends a range
 abbrev pub range_ended : Ranged → ℕ → Standing
 range_ended Coordinate d = Some (CoordOrEnd, d)
 range_ended Parameter d = Some (AnItem, d)
 
--- behind a token that follows an operand
+-- after a token that follows an operand
 abbrev pub behind : Part → Last → ℕ → Kind → Standing
 behind p l d Plus = Some (Operand p, d)
 behind p l d Minus = Some (Operand p, d)
@@ -49,7 +49,7 @@ behind p Named d Caret = Some (Exponent p, d)
 behind p Whole d Caret = Some (Exponent p, d)
 behind p l d k = None
 
--- behind a token
+-- after a token
 abbrev pub next_of : State → ℕ → Kind → Standing
 next_of AnItem d Site = Some (SiteName, d)
 next_of AnItem d Param = Some (ParamName, d)

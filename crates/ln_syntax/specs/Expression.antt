@@ -16,7 +16,7 @@ pub data Tree : Type 0 where
   TMul : Span → Tree → Tree → Tree
   TPow : Span → Tree → Span → Tree
 
--- ATOM, POWER, UNARY, TERM and EXPR; Factors f and Terms f are what may follow behind f, which they go on to the left of: (*
+-- ATOM, POWER, UNARY, TERM and EXPR; Factors f and Terms f are what may follow f, which they go on to the left of: (*
 -- UNARY)* and ((+ | -) TERM)*
 pub data Sort : Type 0 where
   Atom : Sort

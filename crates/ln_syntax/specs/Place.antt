@@ -1,4 +1,4 @@
--- Where tokens stop being the front of a file, and where parentheses are nested too deep.
+-- Where tokens stop being a prefix of a file, and where parentheses are nested too deep.
 use Rattle.std.specs.Prelude.{◌≡◌, ℕ, suc, ◌-◌, ◌<◌, ◌≤◌, ◌++◌, List, [], ◌∷◌, length, take}
 use Rattle.ln_lex.specs.declared.token.Token.{Token}
 use Rattle.ln_lex.specs.declared.token.Kind.{Kind}
@@ -10,11 +10,11 @@ use Rattle.ln_syntax.specs.File.{Spelt}
 abbrev pub IsText : List Token → Type 0
 IsText ts = (xs : List Item) × Spelt ts xs
 
--- the tokens are the front of a file
+-- the tokens are a prefix of a file
 abbrev pub IsFront : List Token → Type 0
 IsFront ts = (us : List Token) × IsText (ts ++ us)
 
--- the first token such that the tokens up to it and with it are no front of a file; the end, where all are a front and no file
+-- the first token such that the tokens up to it and with it are no prefix of a file; the end, where all are a prefix and no file
 pub record IsSyntaxFault (ts : List Token) (at : ℕ) : Type 0 where
   pub within : at ≤ length ts
   pub front : IsFront (take at ts)
@@ -27,7 +27,7 @@ depth_behind d ParL = suc d
 depth_behind d ParR = d - 1
 depth_behind d k = d
 
--- how many parentheses are open behind the tokens
+-- how many parentheses are open after the tokens
 abbrev pub depth_after : ℕ → List Token → ℕ
 depth_after d [] = d
 depth_after d (t ∷ ts) = depth_after (depth_behind d t.kind) ts

@@ -70,10 +70,11 @@ kind_at ts i = option_map (λ t. t.kind) (slice_get ts i)
 abbrev pub Is : List Token → ℕ → Kind → Type 0
 Is ts i k = kind_at ts i ≡ Some k
 
+-- the span of a token; the empty span at 0 where there is no token
 abbrev pub span_or : Option Token → Span
 span_or None = record { start = 0; end = 0 }
 span_or (Some t) = t.span
 
--- where token number i stands
+-- where token number i is
 abbrev pub span_at : List Token → ℕ → Span
 span_at ts i = span_or (slice_get ts i)

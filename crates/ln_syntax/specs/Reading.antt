@@ -1,4 +1,4 @@
--- What stands at a place, for the reader of items: some derivation begins there, and its token of an end stands behind it.
+-- What is at a place, for the reader of items: some derivation begins there, and its end token follows it.
 use Rattle.std.specs.Prelude.{ℕ, List}
 use Rattle.ln_lex.specs.declared.token.Token.{Token}
 use Rattle.ln_lex.specs.declared.token.Kind.TheVariants.{Sign, BraceR, ParR, Semi}

@@ -1,4 +1,4 @@
--- Where an expression stops: how tightly tokens bind to what stands before them.
+-- Where an expression stops: how tightly tokens bind to what comes before them.
 use Rattle.std.specs.Prelude.{ℕ, ◌<◌, List, Option, Some, None}
 use Rattle.ln_lex.specs.declared.token.Token.{Token}
 use Rattle.ln_lex.specs.declared.token.Kind.{Kind}
@@ -6,7 +6,7 @@ use Rattle.ln_lex.specs.declared.token.Kind.TheVariants.{Dot, Plus, Minus, Star,
 use Rattle.ln_syntax.specs.Raw.{kind_at}
 use Rattle.ln_syntax.specs.Expression.{Sort, Atom, Power, Unary, Term, Sum, Factors, Terms}
 
--- how tightly a token of this kind binds to what stands before it: a dot most, then ^, then *, then + and -
+-- how tightly a token of this kind binds to what comes before it: a dot most, then ^, then *, then + and -
 abbrev pub strength : Kind → ℕ
 strength Dot = 4
 strength Caret = 3
@@ -15,6 +15,7 @@ strength Plus = 1
 strength Minus = 1
 strength k = 0
 
+-- the strength of a token; 0 where there is no token
 abbrev pub strength_of : Option Kind → ℕ
 strength_of None = 0
 strength_of (Some k) = strength k

@@ -5,7 +5,7 @@ use Rattle.ln_syntax.specs.declared.raw.Places.{Places}
 use Rattle.ln_syntax.specs.declared.raw.RawItem.{RawItem}
 use Rattle.ln_syntax.specs.declared.raw.RawItem.TheVariants.{Site, Param, Pred}
 
--- the places of an expression are one token or more, and one more token of the n stands behind them
+-- the places of an expression are one token or more, and one more of the n tokens follows them
 abbrev pub AreWithin : ℕ → Places → Type 0
 AreWithin n p = (p.from < p.to) × (p.to < n)
 

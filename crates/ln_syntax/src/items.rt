@@ -13,7 +13,7 @@ use ln_base::{NoMemory, Span};
 use ln_lex::{Kind, Token};
 use std::alloc::Global;
 
-/// What was read, and the place of the token behind it.
+/// What was read, and the place of the token after it.
 #[derive(Drop)]
 struct Read<T> {
     value: T,
@@ -172,7 +172,7 @@ fn lets_at(alloc: Global, ts: &[Token], at: usize) -> Result<Read<Vec<RawLet>>, 
     })
 }
 
-/// The place of the semicolon behind the expression that begins here.
+/// The place of the semicolon after the expression that begins here.
 fn expression_end(ts: &[Token], from: usize) -> usize
     requires small { length ts.now < 2 ^ 32 }
     requires there { HasExpr ts.now from }

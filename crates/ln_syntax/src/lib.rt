@@ -1,6 +1,6 @@
 //! The syntax of sources: which tokens are a file, where they stop being one, and the places of its parts.
 //!
-//! `read_items` answers the items of a file with the spans of their names and numbers and the token places of
+//! `read_items` returns the items of a file with the spans of their names and numbers and the token places of
 //! their expressions, or the first fault: a parenthesis that is nested too deep, else the first token that
 //! no file goes on with.
 #![tactic(auto)]

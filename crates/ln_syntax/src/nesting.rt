@@ -9,7 +9,7 @@ use ln_lex::{Kind, Token};
 /// How deep parentheses may be nested.
 const DEEPEST: usize = 64;
 
-/// The depth behind a token; none behind a `(` that is nested too deep.
+/// The depth after a token; none after a `(` that is nested too deep.
 fn deeper(depth: usize, kind: Kind) -> Option<usize>
     requires { depth ≤ 64 }
     ensures step { IfSome result (λ d. d ≡ depth_behind depth kind) }

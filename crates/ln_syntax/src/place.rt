@@ -13,7 +13,7 @@ enum Ranged {
     Parameter,
 }
 
-/// Which expression it is: the value of a let, or the root behind `sign`.
+/// Which expression it is: the value of a let, or the root after `sign`.
 #[derive(Clone, Copy)]
 enum Part {
     Value,
@@ -62,7 +62,7 @@ enum State {
     BodyEnd,
 }
 
-/// The state behind a `)` in an expression.
+/// The state after a `)` in an expression.
 fn close(part: Part, depth: usize) -> Option<(State, usize)>
     ensures step { result ≡ closed part depth }
     ensures shallow { IfSome result (λ x. x.1 ≤ depth + 1) }
@@ -74,7 +74,7 @@ fn close(part: Part, depth: usize) -> Option<(State, usize)>
     }
 }
 
-/// The state behind a `;` that ends an expression.
+/// The state after a `;` that ends an expression.
 fn end(part: Part, depth: usize) -> Option<(State, usize)>
     ensures step { result ≡ ended part depth }
     ensures shallow { IfSome result (λ x. x.1 ≤ depth + 1) }
@@ -88,7 +88,7 @@ fn end(part: Part, depth: usize) -> Option<(State, usize)>
     }
 }
 
-/// The state behind a `;` that ends a range.
+/// The state after a `;` that ends a range.
 fn end_range(of: Ranged, depth: usize) -> Option<(State, usize)>
     ensures step { result ≡ range_ended of depth }
     ensures shallow { IfSome result (λ x. x.1 ≤ depth + 1) }
@@ -99,7 +99,7 @@ fn end_range(of: Ranged, depth: usize) -> Option<(State, usize)>
     }
 }
 
-/// The state behind a token that follows an operand.
+/// The state after a token that follows an operand.
 fn past_operand(part: Part, last: Last, depth: usize, kind: Kind) -> Option<(State, usize)>
     ensures step { result ≡ behind part last depth kind }
     ensures shallow { IfSome result (λ x. x.1 ≤ depth + 1) }
@@ -114,7 +114,7 @@ fn past_operand(part: Part, last: Last, depth: usize, kind: Kind) -> Option<(Sta
     }
 }
 
-/// The state behind a token, and how many parentheses of an expression are open there; none behind a token with
+/// The state after a token, and how many parentheses of an expression are open there; none after a token with
 /// which no file goes on.
 fn next(state: State, depth: usize, kind: Kind) -> Option<(State, usize)>
     requires { depth < 2 ^ 32 }
@@ -176,7 +176,7 @@ fn ends(state: State) -> bool
 }
 
 /// The place of the syntax fault: the number of the first token with which no file begins, or the count of the
-/// tokens where they are the front of a file and no file. None, where they are a file.
+/// tokens where they are a prefix of a file and no file. None, where they are a file.
 pub fn syntax_fault(ts: &[Token]) -> Option<usize>
     requires { length ts.now < 2 ^ 32 }
     ensures some { IfSome result (IsSyntaxFault ts.now) }

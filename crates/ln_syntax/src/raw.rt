@@ -1,4 +1,4 @@
-//! What a derivation gives: items whose names are unresolved, and expressions as ranges of token places.
+//! The result of a derivation: items whose names are unresolved, and expressions as ranges of token places.
 ghost use Rattle.std.specs.Prelude.{◌≡◌, Some};
 ghost use Rattle.ln_syntax.specs.Raw.{item, item_name, is_site, is_param, is_pred, coords_in};
 
@@ -25,7 +25,7 @@ pub struct RawCoord {
     pub range: RawRange,
 }
 
-/// An argument of a predicate: `kind` is the NAME or `param` behind the colon.
+/// An argument of a predicate: `kind` is the NAME or `param` after the colon.
 #[derive(Clone, Copy)]
 pub struct RawArg {
     pub name: Span,

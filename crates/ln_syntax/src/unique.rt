@@ -6,7 +6,7 @@ ghost use Rattle.ln_syntax.specs.Raw.{Item, Is};
 ghost use Rattle.ln_syntax.specs.Expression.{Tree, Sum, Derives};
 ghost use Rattle.ln_syntax.specs.File.{Spelt};
 
-/// A law: an expression that begins at one place and stands before a semicolon has one end and one tree.
+/// A law: an expression that begins at one place and ends before a semicolon has one end and one tree.
 pub fn one_tree()
     ensures end { (ts : List TokenOf) (i j k : ℕ) (e f : Tree) → Derives ts Sum i j e → Is ts j Semi → Derives ts Sum i k f →
         Is ts k Semi → j ≡ k }

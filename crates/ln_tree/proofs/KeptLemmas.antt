@@ -13,4 +13,5 @@ at_most n m h = grind (arith, nat_tests)
 -- a shape has at most 168 variables
 pub few_vars : (sites : ℕ) (vars : List VarInfo) → is_laid_out sites vars ≡ true → length vars ≤ 168
 few_vars sites vars h =
-    at_most _ _ (and_parts (in_order 0 0 no_var vars && list_all has_range vars && (count_by starts_site vars == sites) && nat_le sites 5 && nat_le (count_by is_param vars) 8) (nat_le (length vars) 168) h).1
+    at_most _ _ (and_parts (in_order 0 0 no_var vars && list_all has_range vars && (count_by starts_site vars == sites) && nat_le sites 5
+    && nat_le (count_by is_param vars) 8) (nat_le (length vars) 168) h).1

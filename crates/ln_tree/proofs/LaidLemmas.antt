@@ -1,18 +1,20 @@
 -- Variables in order are those of arguments.
-use Rattle.std.proofs.Common.{◌≡◌, ◌⊎◌, inl, inr, ℕ, ◌+◌, ◌*◌, ◌<◌, ◌≤◌, zero, suc, List, [], ◌∷◌, ◌++◌, length, length-append, refl, sym, ◌∙◌, ap, arith, Bool, true, false, cond}
+use Rattle.std.proofs.Common.{◌≡◌, ◌⊎◌, inl, inr, ℕ, ◌+◌, ◌*◌, ◌<◌, ◌≤◌, zero, suc, List, [], ◌∷◌, ◌++◌, length, length-append, refl, sym}
+use Rattle.std.proofs.Common.{◌∙◌, ap, arith, Bool, true, false, cond}
 use Rattle.std.specs.Prelude.{◌==◌, ◌&&◌, ◌||◌, Option, Some, None, count_by, is_some, is_none, nat_le, nat_lt}
 use Rattle.std.specs.List.{list_all}
 use Rattle.std.proofs.lemmas.List.Sums.{sum_by-cons}
 use Rattle.std.proofs.lemmas.Bool.{and_parts, eqb-true, eq-eqb, leb-true, le-leb, ltb-true, lt-ltb, ne_eqb}
 use Rattle.ln_tree.specs.declared.shape.VarInfo.{VarInfo}
-use Rattle.ln_tree.specs.Laid.{AParam, ASite, AreNarrow, AreOfArguments, Argument, Ends, VariablesAreOfArguments, coordinates_behind, first_of, is_a_param, is_a_site, next_of, variables_from}
+use Rattle.ln_tree.specs.Laid.{AParam, ASite, AreNarrow, AreOfArguments, Argument, Ends, VariablesAreOfArguments, coordinates_behind}
+use Rattle.ln_tree.specs.Laid.{first_of, is_a_param, is_a_site, next_of, variables_from}
 use Rattle.ln_tree.specs.Variables.{begins, goes_on, has_range, in_order, is_laid_out, is_param, no_var, same_site, sites_behind, starts_site}
 
--- further coordinates behind b: there are none, or b is of a site and has room for them
+-- further coordinates after b: there are none, or b is of a site and has room for them
 abbrev Fits : VarInfo → List Ends → Type 0
 Fits b rest = (rest ≡ []) ⊎ ((is_some b.site ≡ true) × (b.coord + length rest < 32))
 
--- what stands behind the variable b, a arguments and s sites
+-- what follows the variable b, a arguments and s sites
 record Split (a s : ℕ) (b : VarInfo) (vars : List VarInfo) : Type 0 where
   rest : List Ends
   args : List Argument
@@ -20,7 +22,7 @@ record Split (a s : ℕ) (b : VarInfo) (vars : List VarInfo) : Type 0 where
   fits : Fits b rest
   narrow : AreNarrow args
 
--- ---- tests and what they tell
+-- ---- tests and what they show
 itself : (n : ℕ) → (n == n) ≡ true
 itself n = eq-eqb n n refl
 
@@ -43,7 +45,7 @@ begun s None h = inl refl
 begun s (Some t) h = inr (ap Some (eqb-true t s h))
 
 -- ---- from the test
--- a variable that begins an argument, and what stands behind it
+-- a variable that begins an argument, and what follows it
 begins-split : (a s : ℕ) (b i : VarInfo) (is : List VarInfo) → i.coord ≡ 0 → begins a s i ≡ true → Split (suc a) (sites_behind s i) i is → Split a s b (i ∷ is)
 begins-split a s b i is z h x = by_site (begun s i.site (and_parts (i.arg == a) (is_none i.site || same_site i.site (Some s)) h).1) where
   arg : i.arg ≡ a
@@ -65,15 +67,30 @@ begins-split a s b i is z h x = by_site (begun s i.site (and_parts (i.arg == a) 
       let v : i ≡ first_of a None ends = var-is a 0 None i arg e z in
       let r : x.rest ≡ [] = none_behind e x.fits in
       let t : sites_behind s i ≡ s = rw e refl in
-      let all : is ≡ variables_from (suc a) s x.args = x.are ∙ ap (λ q. coordinates_behind i q ++ variables_from (suc a) (sites_behind s i) x.args) r ∙ ap (λ q. variables_from (suc a) q x.args) t in
-      record { rest = []; args = AParam ends ∷ x.args; are = ap (λ q. q ∷ is) v ∙ ap (λ q. first_of a None ends ∷ q) all; fits = inl refl; narrow = (tt, x.narrow) }
+      let all : is ≡ variables_from (suc a) s x.args =
+      x.are ∙ ap (λ q. coordinates_behind i q ++ variables_from (suc a) (sites_behind s i) x.args) r ∙ ap (λ q. variables_from (suc a) q x.args) t in
+      record {
+        rest = [];
+        args = AParam ends ∷ x.args;
+        are = ap (λ q. q ∷ is) v ∙ ap (λ q. first_of a None ends ∷ q) all;
+        fits = inl refl;
+        narrow = (tt, x.narrow);
+      }
   by_site (inr e) =
       let v : i ≡ first_of a (Some s) ends = var-is a 0 (Some s) i arg e z in
       let t : sites_behind s i ≡ suc s = rw e refl in
-      let all : is ≡ coordinates_behind (first_of a (Some s) ends) x.rest ++ variables_from (suc a) (suc s) x.args = x.are ∙ ap (λ q. coordinates_behind q x.rest ++ variables_from (suc a) (sites_behind s i) x.args) v ∙ ap (λ q. coordinates_behind (first_of a (Some s) ends) x.rest ++ variables_from (suc a) q x.args) t in
-      record { rest = []; args = ASite ends x.rest ∷ x.args; are = ap (λ q. q ∷ is) v ∙ ap (λ q. first_of a (Some s) ends ∷ q) all; fits = inl refl; narrow = (short x.fits, x.narrow) }
+      let all : is ≡ coordinates_behind (first_of a (Some s) ends) x.rest ++ variables_from (suc a) (suc s) x.args =
+      x.are ∙ ap (λ q. coordinates_behind q x.rest ++ variables_from (suc a) (sites_behind s i) x.args) v
+      ∙ ap (λ q. coordinates_behind (first_of a (Some s) ends) x.rest ++ variables_from (suc a) q x.args) t in
+      record {
+        rest = [];
+        args = ASite ends x.rest ∷ x.args;
+        are = ap (λ q. q ∷ is) v ∙ ap (λ q. first_of a (Some s) ends ∷ q) all;
+        fits = inl refl;
+        narrow = (short x.fits, x.narrow);
+      }
 
--- a further coordinate of b, and what stands behind it
+-- a further coordinate of b, and what follows it
 goes-split : (a s : ℕ) (b i : VarInfo) (is : List VarInfo) → goes_on b i ≡ true → Split a s i is → Split a s b (i ∷ is)
 goes-split a s b i is h x =
     let p = and_parts ((i.arg == b.arg) && is_some b.site && same_site i.site b.site && (i.coord == b.coord + 1)) (nat_lt i.coord 32) h in
@@ -82,11 +99,13 @@ goes-split a s b i is h x =
     let u = and_parts (i.arg == b.arg) (is_some b.site) r.0 in
     let c : i.coord ≡ b.coord + 1 = eqb-true i.coord (b.coord + 1) q.1 in
     let small : i.coord < 32 = ltb-true i.coord 32 p.1 in
-    let v : i ≡ next_of b (record { low = i.lo; high = i.hi }) = var-is b.arg (b.coord + 1) b.site i (eqb-true i.arg b.arg u.0) (same-site i.site b.site r.1) c in
+    let v : i ≡ next_of b (record { low = i.lo; high = i.hi }) =
+    var-is b.arg (b.coord + 1) b.site i (eqb-true i.arg b.arg u.0) (same-site i.site b.site r.1) c in
     record {
       rest = record { low = i.lo; high = i.hi } ∷ x.rest;
       args = x.args;
-      are = ap (λ q. q ∷ is) v ∙ ap (λ q. next_of b (record { low = i.lo; high = i.hi }) ∷ q) (x.are ∙ ap (λ q. coordinates_behind q x.rest ++ variables_from a s x.args) v);
+      are = ap (λ q. q ∷ is) v
+          ∙ ap (λ q. next_of b (record { low = i.lo; high = i.hi }) ∷ q) (x.are ∙ ap (λ q. coordinates_behind q x.rest ++ variables_from a s x.args) v);
       fits = inr (u.1, short small c x.fits);
       narrow = x.narrow;
     } where
@@ -97,7 +116,8 @@ goes-split a s b i is h x =
 split : (a s : ℕ) (b : VarInfo) (vars : List VarInfo) → in_order a s b vars ≡ true → Split a s b vars
 split a s b [] h = record { rest = []; args = []; are = refl; fits = inl refl; narrow = tt }
 split a s b (i ∷ is) h = by_case (i.coord == 0) refl (λ k. split (suc a) (sites_behind s i) i is k) (λ k. split a s i is k) where
-  by_case : (t : Bool) → (i.coord == 0) ≡ t → (in_order (suc a) (sites_behind s i) i is ≡ true → Split (suc a) (sites_behind s i) i is) → (in_order a s i is ≡ true → Split a s i is) → Split a s b (i ∷ is)
+  by_case : (t : Bool) → (i.coord == 0) ≡ t → (in_order (suc a) (sites_behind s i) i is ≡ true → Split (suc a) (sites_behind s i) i is)
+      → (in_order a s i is ≡ true → Split a s i is) → Split a s b (i ∷ is)
   by_case true e first behind =
       let g : (begins a s i && in_order (suc a) (sites_behind s i) i is) ≡ true = (let k : in_order a s b (i ∷ is) ≡ true = h in rw e at k) in
       let p = and_parts (begins a s i) (in_order (suc a) (sites_behind s i) i is) g in
@@ -114,7 +134,8 @@ goes-true b r e l = rw (itself b.arg, e, same-refl b.site, itself (b.coord + 1),
 not-first : (n : ℕ) → (n + 1 == 0) ≡ false
 not-first n = ne_eqb (n + 1) 0 (λ e. omega (arith, e))
 
-back : (args : List Argument) (rest : List Ends) (a s : ℕ) (b : VarInfo) → Fits b rest → AreNarrow args → in_order a s b (coordinates_behind b rest ++ variables_from a s args) ≡ true
+back : (args : List Argument) (rest : List Ends) (a s : ℕ) (b : VarInfo) → Fits b rest → AreNarrow args
+    → in_order a s b (coordinates_behind b rest ++ variables_from a s args) ≡ true
 back [] [] a s b f n = refl
 back (AParam r ∷ args) [] a s b f n = rw (itself a) (back args [] (suc a) s (first_of a None r) (inl refl) n.1)
 back (ASite r rs ∷ args) [] a s b f n = rw (itself a, itself s) (back args rs (suc a) (suc s) (first_of a (Some s) r) (inr (refl, omega (arith, n.0))) n.1)
@@ -140,21 +161,27 @@ counted p x xs e =
 
 further-sites : (rs : List Ends) (b : VarInfo) (ys : List VarInfo) → count_by starts_site (coordinates_behind b rs ++ ys) ≡ count_by starts_site ys
 further-sites [] b ys = refl
-further-sites (r ∷ rs) b ys = skip starts_site (next_of b r) (coordinates_behind (next_of b r) rs ++ ys) (and-false (is_some b.site) (b.coord + 1 == 0) (not-first b.coord)) ∙ further-sites rs (next_of b r) ys
+further-sites (r ∷ rs) b ys = skip starts_site (next_of b r) (coordinates_behind (next_of b r) rs ++ ys)
+    (and-false (is_some b.site) (b.coord + 1 == 0) (not-first b.coord)) ∙ further-sites rs (next_of b r) ys
 
 site-count : (args : List Argument) (a s : ℕ) → count_by starts_site (variables_from a s args) ≡ count_by is_a_site args
 site-count [] a s = refl
-site-count (ASite r rs ∷ args) a s = counted starts_site (first_of a (Some s) r) (coordinates_behind (first_of a (Some s) r) rs ++ variables_from (suc a) (suc s) args) refl ∙ ap suc (further-sites rs (first_of a (Some s) r) (variables_from (suc a) (suc s) args) ∙ site-count args (suc a) (suc s)) ∙ sym (counted is_a_site (ASite r rs) args refl)
+site-count (ASite r rs ∷ args) a s =
+    counted starts_site (first_of a (Some s) r) (coordinates_behind (first_of a (Some s) r) rs ++ variables_from (suc a) (suc s) args) refl
+    ∙ ap suc (further-sites rs (first_of a (Some s) r) (variables_from (suc a) (suc s) args) ∙ site-count args (suc a) (suc s))
+    ∙ sym (counted is_a_site (ASite r rs) args refl)
 site-count (AParam r ∷ args) a s = site-count args (suc a) s
 
-further-params : (rs : List Ends) (b : VarInfo) (ys : List VarInfo) → is_none b.site ≡ false → count_by is_param (coordinates_behind b rs ++ ys) ≡ count_by is_param ys
+further-params : (rs : List Ends) (b : VarInfo) (ys : List VarInfo) → is_none b.site ≡ false
+    → count_by is_param (coordinates_behind b rs ++ ys) ≡ count_by is_param ys
 further-params [] b ys e = refl
 further-params (r ∷ rs) b ys e = skip is_param (next_of b r) (coordinates_behind (next_of b r) rs ++ ys) e ∙ further-params rs (next_of b r) ys e
 
 param-count : (args : List Argument) (a s : ℕ) → count_by is_param (variables_from a s args) ≡ count_by is_a_param args
 param-count [] a s = refl
 param-count (ASite r rs ∷ args) a s = further-params rs (first_of a (Some s) r) (variables_from (suc a) (suc s) args) refl ∙ param-count args (suc a) (suc s)
-param-count (AParam r ∷ args) a s = counted is_param (first_of a None r) (variables_from (suc a) s args) refl ∙ ap suc (param-count args (suc a) s) ∙ sym (counted is_a_param (AParam r) args refl)
+param-count (AParam r ∷ args) a s = counted is_param (first_of a None r) (variables_from (suc a) s args) refl
+    ∙ ap suc (param-count args (suc a) s) ∙ sym (counted is_a_param (AParam r) args refl)
 
 behind-length : (rs : List Ends) (b : VarInfo) → length (coordinates_behind b rs) ≡ length rs
 behind-length [] b = refl
@@ -175,8 +202,10 @@ few (AParam r ∷ args) a s n =
 -- ---- both ways
 to : (sites : ℕ) (vars : List VarInfo) → is_laid_out sites vars ≡ true → AreOfArguments sites vars
 to sites vars h =
-    let p = and_parts (in_order 0 0 no_var vars && list_all has_range vars && (count_by starts_site vars == sites) && nat_le sites 5 && nat_le (count_by is_param vars) 8) (nat_le (length vars) 168) h in
-    let q = and_parts (in_order 0 0 no_var vars && list_all has_range vars && (count_by starts_site vars == sites) && nat_le sites 5) (nat_le (count_by is_param vars) 8) p.0 in
+    let p = and_parts (in_order 0 0 no_var vars && list_all has_range vars && (count_by starts_site vars == sites) && nat_le sites 5
+    && nat_le (count_by is_param vars) 8) (nat_le (length vars) 168) h in
+    let q = and_parts (in_order 0 0 no_var vars && list_all has_range vars && (count_by starts_site vars == sites) && nat_le sites 5)
+    (nat_le (count_by is_param vars) 8) p.0 in
     let r = and_parts (in_order 0 0 no_var vars && list_all has_range vars && (count_by starts_site vars == sites)) (nat_le sites 5) q.0 in
     let u = and_parts (in_order 0 0 no_var vars && list_all has_range vars) (count_by starts_site vars == sites) r.0 in
     let w = and_parts (in_order 0 0 no_var vars) (list_all has_range vars) u.0 in
@@ -185,7 +214,8 @@ to sites vars h =
       none_behind rest (inl e) = e
       none_behind rest (inr (e, l)) = absurd (let f : false ≡ true = e in cc)
 
-      made : Split 0 0 no_var vars → list_all has_range vars ≡ true → count_by starts_site vars ≡ sites → sites ≤ 5 → count_by is_param vars ≤ 8 → AreOfArguments sites vars
+      made : Split 0 0 no_var vars → list_all has_range vars ≡ true → count_by starts_site vars ≡ sites → sites ≤ 5
+          → count_by is_param vars ≤ 8 → AreOfArguments sites vars
       made x ranges number low lower =
           let are : vars ≡ variables_from 0 0 x.args = x.are ∙ ap (λ q. coordinates_behind no_var q ++ variables_from 0 0 x.args) (none_behind x.rest x.fits) in
           record {

@@ -83,23 +83,28 @@ before-less a b r s h = by_case (pairs_cmp a b) refl where
   by_case Greater e = absurd (not-both a b h (is-before b a s r (pairs_cmp-total.antisymm b a ∙ ap ordering_reverse e)))
 
 -- ---- kept where exponents change alike
-pub order-kept : (a b x y : Pairs) → IsRising a → IsRising b → IsRising x → IsRising y → ((v : ℕ) → exponent v a ≡ exponent v b → exponent v x ≡ exponent v y) → ((v : ℕ) → exponent v a < exponent v b → exponent v x < exponent v y) → pairs_cmp a b ≡ Less → pairs_cmp x y ≡ Less
+pub order-kept : (a b x y : Pairs) → IsRising a → IsRising b → IsRising x → IsRising y → ((v : ℕ) → exponent v a ≡ exponent v b → exponent v x ≡ exponent v y)
+    → ((v : ℕ) → exponent v a < exponent v b → exponent v x < exponent v y) → pairs_cmp a b ≡ Less → pairs_cmp x y ≡ Less
 order-kept a b x y r s t u same less h = let k : IsBefore a b = is-before a b r s h in
     before-less x y t u (record { variable = k.variable; same = λ v l. same v (k.same v l); less = less k.variable k.less })
 
 -- the products of two monomials with a third stand as the two do
-pub products-kept : (a b m x y : Pairs) → IsRising a → IsRising b → IsRising x → IsRising y → ((v : ℕ) → exponent v x ≡ exponent v m + exponent v a) → ((v : ℕ) → exponent v y ≡ exponent v m + exponent v b) → pairs_cmp a b ≡ Less → pairs_cmp x y ≡ Less
+pub products-kept : (a b m x y : Pairs) → IsRising a → IsRising b → IsRising x → IsRising y → ((v : ℕ) → exponent v x ≡ exponent v m + exponent v a)
+    → ((v : ℕ) → exponent v y ≡ exponent v m + exponent v b) → pairs_cmp a b ≡ Less → pairs_cmp x y ≡ Less
 products-kept a b m x y r s t u p q h = order-kept a b x y r s t u (λ v e. omega (arith, p v, q v, e)) (λ v l. omega (arith, p v, q v, l)) h
 
 -- ---- compared pair by pair
 cmp-less : (x y : ℕ) → x < y → Less ≡ nat_cmp x y
-cmp-less x y l = by_ranked (x < y) (x ≡ y) (y < x) (nat_cmp x y) (ranked x y (nat_cmp x y) refl) (λ e _. sym e) (λ _ k. absurd (omega arith)) (λ _ k. absurd (omega arith))
+cmp-less x y l = by_ranked (x < y) (x ≡ y) (y < x) (nat_cmp x y) (ranked x y (nat_cmp x y) refl) (λ e _. sym e)
+    (λ _ k. absurd (omega arith)) (λ _ k. absurd (omega arith))
 
 cmp-equal : (x y : ℕ) → x ≡ y → Equal ≡ nat_cmp x y
-cmp-equal x y l = by_ranked (x < y) (x ≡ y) (y < x) (nat_cmp x y) (ranked x y (nat_cmp x y) refl) (λ _ k. absurd (omega arith)) (λ e _. sym e) (λ _ k. absurd (omega arith))
+cmp-equal x y l = by_ranked (x < y) (x ≡ y) (y < x) (nat_cmp x y) (ranked x y (nat_cmp x y) refl) (λ _ k. absurd (omega arith))
+    (λ e _. sym e) (λ _ k. absurd (omega arith))
 
 cmp-greater : (x y : ℕ) → y < x → Greater ≡ nat_cmp x y
-cmp-greater x y l = by_ranked (x < y) (x ≡ y) (y < x) (nat_cmp x y) (ranked x y (nat_cmp x y) refl) (λ _ k. absurd (omega arith)) (λ _ k. absurd (omega arith)) (λ e _. sym e)
+cmp-greater x y l = by_ranked (x < y) (x ≡ y) (y < x) (nat_cmp x y) (ranked x y (nat_cmp x y) refl) (λ _ k. absurd (omega arith))
+    (λ _ k. absurd (omega arith)) (λ e _. sym e)
 
 cmp-suc : (x y : ℕ) → nat_cmp x y ≡ nat_cmp (x + 1) (y + 1)
 cmp-suc x y = by_ranked (x < y) (x ≡ y) (y < x) (nat_cmp x y) (ranked x y (nat_cmp x y) refl)
@@ -108,7 +113,8 @@ cmp-suc x y = by_ranked (x < y) (x ≡ y) (y < x) (nat_cmp x y) (ranked x y (nat
     (λ e l. e ∙ cmp-greater (x + 1) (y + 1) (omega arith))
 
 -- where one list has come to its end, the lengths decide
-pub ended : (a b : Pairs) (i : ℕ) → i ≤ length a → i ≤ length b → (i < length a → i < length b → ⊥) → pairs_cmp (drop i a) (drop i b) ≡ nat_cmp (length a) (length b)
+pub ended : (a b : Pairs) (i : ℕ) → i ≤ length a → i ≤ length b → (i < length a → i < length b → ⊥)
+    → pairs_cmp (drop i a) (drop i b) ≡ nat_cmp (length a) (length b)
 ended [] [] zero h k n = cmp-equal 0 0 refl
 ended [] b (suc i) h k n = absurd (omega arith)
 ended [] (q ∷ b) zero h k n = cmp-less 0 (length (q ∷ b)) (omega arith)

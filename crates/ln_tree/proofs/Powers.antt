@@ -1,5 +1,6 @@
 -- Exponents of pairs, one by one and as a vector.
-use Rattle.std.proofs.Common.{◌≡◌, ℕ, ◌+◌, ◌<◌, zero, suc, refl, ◌∙◌, ap, subst, arith, [], ◌∷◌, length, take, get_or, true, false, eqb, eq-eqb, add-one, if◌then◌else◌}
+use Rattle.std.proofs.Common.{◌≡◌, ℕ, ◌+◌, ◌<◌, zero, suc, refl, ◌∙◌, ap, subst, arith, [], ◌∷◌, length, take, get_or, true, false, eqb}
+use Rattle.std.proofs.Common.{eq-eqb, add-one, if◌then◌else◌}
 use Rattle.std.proofs.lemmas.Bool.Decides.{nat_tests}
 use Rattle.ln_tree.specs.Exps.{AllAbove, IsRising, Pairs, exponent, exponents_from, vector}
 
@@ -38,7 +39,8 @@ all_above-none v (p ∷ ps) a = omega (arith, power-apart v p (λ e. absurd (ome
 pub found : (v : ℕ) (ps : Pairs) (i : ℕ) → IsRising ps → i < length ps → (get_or ps i (0, 0)).0 ≡ v → exponent v ps ≡ (get_or ps i (0, 0)).1
 found v [] i r h e = absurd (omega arith)
 found v (p ∷ ps) zero r h e = omega (arith, power-here v p e, all_above-none v ps (subst (λ z. AllAbove z ps) e r.2))
-found v (p ∷ ps) (suc i) r h e = omega (arith, power-apart v p (λ q. absurd (omega (arith, above-at p.0 ps i (omega arith) r.2))), found v ps i r.3 (omega arith) e)
+found v (p ∷ ps) (suc i) r h e =
+    omega (arith, power-apart v p (λ q. absurd (omega (arith, above-at p.0 ps i (omega arith) r.2))), found v ps i r.3 (omega arith) e)
 
 pub small-at : (ps : Pairs) (i : ℕ) → IsRising ps → i < length ps → (get_or ps i (0, 0)).1 < 128
 small-at [] i r h = absurd (omega arith)

@@ -14,7 +14,8 @@ none_by (Some s) true e = absurd (true≢false e)
 none_by (Some s) false e = refl
 
 -- the first place is found
-pub place_found : {X : Type 0} (p : X → Bool) (xs : List X) (i : ℕ) (d : X) → i < length xs → p (get_or xs i d) ≡ true → position_from p i (drop i xs) ≡ position_from p 0 xs → Some i ≡ position p xs
+pub place_found : {X : Type 0} (p : X → Bool) (xs : List X) (i : ℕ) (d : X) → i < length xs → p (get_or xs i d) ≡ true
+    → position_from p i (drop i xs) ≡ position_from p 0 xs → Some i ≡ position p xs
 place_found p xs i d l h e = sym (rw (drop-cons xs i d, h) refl) ∙ e ∙ sym (position_from-zero p xs)
 
 -- there is no place
@@ -22,10 +23,12 @@ pub no_place : {X : Type 0} (p : X → Bool) (xs : List X) (i : ℕ) → length 
 no_place p xs i l e = sym (ap (position_from p i) (drop_all i xs l)) ∙ e ∙ sym (position_from-zero p xs)
 
 -- a test of all elements: one fails, this one passes, all pass
-pub all_broken : {X : Type 0} (p : X → Bool) (xs : List X) (i : ℕ) (d : X) → i < length xs → p (get_or xs i d) ≡ false → list_all p (drop i xs) ≡ list_all p xs → false ≡ list_all p xs
+pub all_broken : {X : Type 0} (p : X → Bool) (xs : List X) (i : ℕ) (d : X) → i < length xs → p (get_or xs i d) ≡ false
+    → list_all p (drop i xs) ≡ list_all p xs → false ≡ list_all p xs
 all_broken p xs i d l h e = sym (rw (drop-cons xs i d, h) refl) ∙ e
 
-pub all_on : {X : Type 0} (p : X → Bool) (xs : List X) (i : ℕ) (d : X) → i < length xs → p (get_or xs i d) ≡ true → list_all p (drop i xs) ≡ list_all p xs → list_all p (drop (i + 1) xs) ≡ list_all p xs
+pub all_on : {X : Type 0} (p : X → Bool) (xs : List X) (i : ℕ) (d : X) → i < length xs → p (get_or xs i d) ≡ true
+    → list_all p (drop i xs) ≡ list_all p xs → list_all p (drop (i + 1) xs) ≡ list_all p xs
 all_on p xs i d l h e = rw add-one (sym (rw (drop-cons xs i d, h) refl) ∙ e)
 
 pub all_passed : {X : Type 0} (p : X → Bool) (xs : List X) (i : ℕ) → length xs ≤ i → list_all p (drop i xs) ≡ list_all p xs → true ≡ list_all p xs

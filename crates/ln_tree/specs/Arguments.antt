@@ -8,7 +8,7 @@ use Rattle.ln_tree.specs.declared.items.Param.{Param}
 use Rattle.ln_tree.specs.declared.shape.VarInfo.{VarInfo}
 use Rattle.ln_tree.specs.Variables.{same_site, starts_arg}
 
--- the place of argument k among the sites, behind s sites; of a param none
+-- the place of argument k among the sites, after s sites; of a param none
 abbrev pub site_behind : ℕ → List Arg → ℕ → Option ℕ
 site_behind s [] k = None
 site_behind s (SiteArg n t ∷ args) zero = Some s
@@ -24,6 +24,7 @@ is_of args i = same_site i.site (site_behind 0 args i.arg)
 abbrev pub are_of : List Arg → List VarInfo → Bool
 are_of args vars = list_all (is_of args) vars && (count_by starts_arg vars == length args)
 
+-- how many coordinates a site type has; 0 where there is none
 abbrev pub coords_of : Option Site → ℕ
 coords_of None = 0
 coords_of (Some s) = length s.coords

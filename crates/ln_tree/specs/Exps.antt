@@ -58,6 +58,7 @@ pair_cmp = then_cmp (flip_args (on (λ p. p.0) nat_cmp)) (on (λ p. p.1) nat_cmp
 abbrev pub pairs_cmp : Pairs → Pairs → Ordering
 pairs_cmp = slice_cmp pair_cmp
 
+-- the lexicographic order of monomials is a total order
 pub pairs_cmp-total : IsTotalOrder pairs_cmp
 pairs_cmp-total = lists_total (then_total (back_total (on_total (λ (p : ℕ × ℕ). p.0) nat_cmp_total)) (on_total (λ (p : ℕ × ℕ). p.1) nat_cmp_total))
 

@@ -13,7 +13,7 @@ is_fit n j (Sub e f) = is_fit n j e && is_fit n j f
 is_fit n j (Mul e f) = is_fit n j e && is_fit n j f
 is_fit n j (Pow e k) = is_fit n j e && nat_le k 16
 
--- each let is fit behind the lets before it, of which there are j before the first
+-- each let is fit after the lets before it, of which there are j before the first
 abbrev pub lets_fit : ℕ → ℕ → List Tree → Bool
 lets_fit n j [] = true
 lets_fit n j (t ∷ ts) = is_fit n j t && lets_fit n (suc j) ts

@@ -20,6 +20,7 @@ pub data Formula : Type 0 where
   FMul : Span → Formula → Formula → Formula
   FPow : Span → Formula → ℕ → Formula
 
+-- the formula of a node of the program whose own token has this span
 abbrev pub node_formula : Span → Node → Formula
 node_formula at (Num c) = FNum at c
 node_formula at (Input v) = FInput at v.arg v.coord

@@ -1,4 +1,4 @@
--- What a predicate keeps.
+-- Defines the invariant that a predicate of a table holds.
 use Rattle.std.specs.Prelude.{ℕ, ◌+◌, ◌==◌, ◌&&◌, nat_le, Bool, List, length, map}
 use Rattle.ln_tree.specs.declared.items.Arg.{Arg}
 use Rattle.ln_tree.specs.declared.shape.VarInfo.{VarInfo}

@@ -19,16 +19,16 @@ pub data Argument : Type 0 where
 abbrev pub first_of : ℕ → Option ℕ → Ends → VarInfo
 first_of a site r = record { arg = a; site = site; coord = 0; lo = r.low; hi = r.high }
 
--- the coordinate behind b
+-- the coordinate after b
 abbrev pub next_of : VarInfo → Ends → VarInfo
 next_of b r = record { arg = b.arg; site = b.site; coord = b.coord + 1; lo = r.low; hi = r.high }
 
--- the coordinates behind b, one for each range
+-- the coordinates after b, one for each range
 abbrev pub coordinates_behind : VarInfo → List Ends → List VarInfo
 coordinates_behind b [] = []
 coordinates_behind b (r ∷ rs) = next_of b r ∷ coordinates_behind (next_of b r) rs
 
--- the variables of the arguments, where a arguments and s sites stand before them: arguments and sites count upwards, and so do
+-- the variables of the arguments, where a arguments and s sites come before them: arguments and sites count upwards, and so do
 -- the coordinates of a site
 abbrev pub variables_from : ℕ → ℕ → List Argument → List VarInfo
 variables_from a s [] = []
@@ -36,10 +36,12 @@ variables_from a s (ASite r rs ∷ args) =
     first_of a (Some s) r ∷ (coordinates_behind (first_of a (Some s) r) rs ++ variables_from (suc a) (suc s) args)
 variables_from a s (AParam r ∷ args) = first_of a None r ∷ variables_from (suc a) s args
 
+-- is the argument a site?
 abbrev pub is_a_site : Argument → Bool
 is_a_site (ASite r rs) = true
 is_a_site (AParam r) = false
 
+-- is the argument a param?
 abbrev pub is_a_param : Argument → Bool
 is_a_param (ASite r rs) = false
 is_a_param (AParam r) = true
@@ -49,11 +51,12 @@ abbrev pub IsNarrow : Argument → Type 0
 IsNarrow (ASite r rs) = length rs < 32
 IsNarrow (AParam r) = Unit {0}
 
+-- each site among the arguments has at most 32 coordinates
 abbrev pub AreNarrow : List Argument → Type 0
 AreNarrow [] = Unit {0}
 AreNarrow (x ∷ args) = IsNarrow x × AreNarrow args
 
--- the variables are those of arguments: so many sites, at most 5, each of at most 32 coordinates, and at most 8 params; each range in order
+-- the variables are those of arguments: this many sites, at most 5, each of at most 32 coordinates, and at most 8 params; each range in order
 pub record AreOfArguments (sites : ℕ) (vars : List VarInfo) : Type 0 where
   pub args : List Argument
   pub are : vars ≡ variables_from 0 0 args

@@ -1,4 +1,4 @@
--- Names.
+-- Defines the bytes that a name of the program stands for.
 use Rattle.std.specs.Prelude.{ℕ, List, take}
 use Rattle.ln_tree.specs.declared.name.Name.{Name}
 

@@ -1,4 +1,4 @@
--- Rows.
+-- Defines rows, and which of them are in the range of a predicate.
 use Rattle.std.specs.Prelude.{◌≡◌, ℕ, ◌^◌, ◌-◌, ℤ, pos, ◌≤ℤ◌, List, [], ◌∷◌, length, slice_index_or, All, AllPairs, ◌≢◌}
 use Rattle.ln_tree.specs.declared.shape.VarInfo.{VarInfo}
 

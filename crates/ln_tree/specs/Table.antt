@@ -29,7 +29,7 @@ pub data ArgOf : Type 0 where
   SiteArg : List ℕ → ℕ → ArgOf
   ParamArg : ℕ → ArgOf
 
--- a predicate: where its name stands, its arguments, the name, sites and variables of its shape, its lets, its sign expression
+-- a predicate: where its name is, its arguments, the name, sites and variables of its shape, its lets, its sign expression
 pub record PredOf : Type 0 where
   pub name : List ℕ
   pub at : Span
@@ -47,19 +47,24 @@ pub record TableOf : Type 0 where
   pub params : List CoordOf
   pub preds : List PredOf
 
+-- a coordinate of the program, without where it lies in memory
 abbrev pub coord_of : Coord → CoordOf
 coord_of c = record { name = name_bytes c.name; lo = c.lo; hi = c.hi }
 
+-- a site type of the program, without where it lies in memory
 abbrev pub site_of : Site → SiteOf
 site_of s = record { name = name_bytes s.name; coords = map coord_of s.coords }
 
+-- a param of the program, without where it lies in memory
 abbrev pub param_of : Param → CoordOf
 param_of p = record { name = name_bytes p.name; lo = p.lo; hi = p.hi }
 
+-- an argument of the program, without where it lies in memory
 abbrev pub arg_of : Arg → ArgOf
 arg_of (IsSite n t) = SiteArg (name_bytes n) t
 arg_of (IsParam p) = ParamArg p
 
+-- a predicate of the program, without where it lies in memory
 abbrev pub pred_of : Pred → PredOf
 pred_of p = record {
   name = name_bytes p.name;

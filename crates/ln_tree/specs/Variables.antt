@@ -1,4 +1,4 @@
--- The variables of a predicate: how they are numbered, and in which order they stand.
+-- The variables of a predicate: how they are numbered, and in which order they come.
 use Rattle.std.specs.Prelude.{ℕ, suc, ◌+◌, ◌==◌, ◌&&◌, not, nat_le, nat_lt, int_lt, Bool, true}
 use Rattle.std.specs.Prelude.{false, pos, neg_ℤ, ◌^◌, List, [], ◌∷◌, length, count_by, position}
 use Rattle.std.specs.Prelude.{unwrap_or, Option, Some, None, is_some, is_none, ◌||◌, if◌then◌else◌}
@@ -36,7 +36,7 @@ is_param i = is_none i.site
 abbrev pub has_range : VarInfo → Bool
 has_range i = not (int_lt i.hi i.lo) && int_lt (neg_ℤ (pos (2 ^ 63))) i.lo
 
--- does i begin argument a, behind s sites?
+-- does i begin argument a, after s sites?
 abbrev pub begins : ℕ → ℕ → VarInfo → Bool
 begins a s i = (i.arg == a) && (is_none i.site || same_site i.site (Some s))
 
@@ -44,11 +44,11 @@ begins a s i = (i.arg == a) && (is_none i.site || same_site i.site (Some s))
 abbrev pub goes_on : VarInfo → VarInfo → Bool
 goes_on b i = (i.arg == b.arg) && is_some b.site && same_site i.site b.site && (i.coord == b.coord + 1) && nat_lt i.coord 32
 
--- how many sites there are behind i, where s stand before it
+-- how many sites there are once i begins an argument, where s come before it
 abbrev pub sites_behind : ℕ → VarInfo → ℕ
 sites_behind s i = if is_some i.site then suc s else s
 
--- the variables stand in order behind a arguments, s sites and the variable b
+-- the variables are in order after a arguments, s sites and the variable b
 abbrev pub in_order : ℕ → ℕ → VarInfo → List VarInfo → Bool
 in_order a s b [] = true
 in_order a s b (i ∷ is) = if i.coord == 0 then begins a s i && in_order (suc a) (sites_behind s i) i is

@@ -28,15 +28,17 @@ abbrev pub site_whole : SiteOf → Bool
 site_whole s = nat_lt 0 (length s.coords) && nat_le (length s.coords) 32 && list_all is_range s.coords
     && differ (map (λ c. c.name) s.coords)
 
--- one of so many site types, or of so many params
+-- one of this many site types, or of this many params
 abbrev pub is_one_of : ℕ → ℕ → ArgOf → Bool
 is_one_of sites params (SiteArg n t) = nat_lt t sites
 is_one_of sites params (ParamArg p) = nat_lt p params
 
+-- is the argument a site?
 abbrev pub is_site_said : ArgOf → Bool
 is_site_said (SiteArg n t) = true
 is_site_said (ParamArg p) = false
 
+-- is the argument a param?
 abbrev pub is_param_said : ArgOf → Bool
 is_param_said (SiteArg n t) = false
 is_param_said (ParamArg p) = true
@@ -56,21 +58,24 @@ abbrev pub site_vars : ℕ → ℕ → ℕ → List CoordOf → List VarInfo
 site_vars k s c [] = []
 site_vars k s c (x ∷ xs) = record { arg = k; site = Some s; coord = c; lo = x.lo; hi = x.hi } ∷ site_vars k s (suc c) xs
 
+-- the coordinates of a site type; none where there is no such type
 abbrev pub coords_or : Option SiteOf → List CoordOf
 coords_or None = []
 coords_or (Some s) = s.coords
 
+-- the variable of a param that is argument k; none where there is no such param
 abbrev pub param_vars : ℕ → Option CoordOf → List VarInfo
 param_vars k None = []
 param_vars k (Some p) = record { arg = k; site = None; coord = 0; lo = p.lo; hi = p.hi } ∷ []
 
--- the variables of the arguments from number k on, behind s sites: in order of the arguments, for a site its coordinates in declared order
+-- the variables of the arguments from number k on, after s sites: in order of the arguments, for a site its coordinates in declared order
 abbrev pub vars_behind : List SiteOf → List CoordOf → ℕ → ℕ → List ArgOf → List VarInfo
 vars_behind sites params k s [] = []
 vars_behind sites params k s (SiteArg n t ∷ args) = site_vars k s 0 (coords_or (slice_get sites t))
     ++ vars_behind sites params (suc k) (suc s) args
 vars_behind sites params k s (ParamArg p ∷ args) = param_vars k (slice_get params p) ++ vars_behind sites params (suc k) s args
 
+-- do the two variables agree in argument, site, coordinate and range?
 abbrev pub same_var : VarInfo → VarInfo → Bool
 same_var i j = (i.arg == j.arg) && same_site i.site j.site && (i.coord == j.coord) && int_eq i.lo j.lo && int_eq i.hi j.hi
 

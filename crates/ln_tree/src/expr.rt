@@ -9,7 +9,7 @@ pub struct Var {
     pub coord: u8,
 }
 
-/// An expression. `at` is where the node's own token stands.
+/// An expression. `at` is where the node's own token is.
 #[cycle(tree)]
 #[derive(Drop)]
 pub struct Expr {

@@ -1,4 +1,4 @@
-//! Exponents of a monomial.
+//! Defines the exponents of a monomial, as pairs of a variable and its exponent, and their order.
 ghost use Rattle.std.specs.Prelude.{◌≡◌, ◌<◌, ◌++◌, [], ◌∷◌, IfOk, OnOk, OnErr};
 ghost use Rattle.ln_tree.specs.Exps.{IsRising, exponent, pair_cmp, pairs_cmp};
 
@@ -40,7 +40,7 @@ impl Exps {
         }
     }
 
-    /// Puts the pair of a further variable, above those that are there, at the end. A refusal changes nothing.
+    /// Appends the pair of a further variable, above those that are there. A refusal changes nothing.
     pub fn push(&mut self, v: u8, e: u8) -> Result<(), NoMemory>
         requires above { IsAbove self.old v }
         requires positive { 0 < e }

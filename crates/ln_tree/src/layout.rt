@@ -51,7 +51,7 @@ fn has_range(i: &VarInfo) -> bool
     i.lo <= i.hi && i.lo > i64::MIN
 }
 
-// Does i begin argument a, behind s sites?
+// Does i begin argument a, after s sites?
 fn begins(a: u8, s: u8, i: &VarInfo) -> bool
     ensures { result ≡ begins a s i.now }
 {
@@ -69,7 +69,7 @@ fn goes_on(b: &VarInfo, i: &VarInfo) -> bool
         && i.coord < 32
 }
 
-// How many sites there are behind i, where s stand before it.
+// How many sites there are once i begins an argument, where s come before it.
 fn sites_behind(s: u8, i: &VarInfo) -> u8
     requires { s < 255 }
     ensures { result ≡ sites_behind s i.now }
@@ -105,7 +105,8 @@ fn in_order(vars: &[VarInfo]) -> bool
     true
 }
 
-fn starts_site(i: &VarInfo) -> bool
+/// Is it the first coordinate of a site?
+pub fn starts_site(i: &VarInfo) -> bool
     ensures { result ≡ starts_site i.now }
 {
     i.site.is_some() && i.coord == 0

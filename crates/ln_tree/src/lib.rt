@@ -1,13 +1,12 @@
 //! The tables that sources are read into: site types, params, predicates and their expressions.
 //!
-//! The types keep the limits and rules of the source language that speak of them alone, so that a call on a
-//! predicate needs no table: `Pred` says that its inputs are variables of its own arguments, that a let's
-//! name in it is an earlier let, and how many nodes it has; `Shape` says how its variables are numbered.
+//! The types keep the limits and rules of the source language that speak of them alone, so that a call on a predicate needs no table: `Pred`
+//! keeps the invariants that its inputs are variables of its own arguments and that a let's name in it is an earlier let, and a limit on its
+//! nodes; `Shape` keeps the rule that numbers its variables.
 #![tactic(auto)]
 
 pub mod expr;
 pub mod exps;
-pub mod fits;
 pub mod items;
 pub mod laws;
 pub mod layout;
@@ -18,10 +17,9 @@ pub mod table;
 
 pub use expr::{Expr, Node, Var};
 pub use exps::{Exps, exponent_of};
-pub use fits::is_pred;
 pub use items::{Arg, Coord, Param, Site};
 pub use layout::is_shape;
 pub use name::Name;
 pub use pred::Pred;
 pub use shape::{Shape, VarInfo};
-pub use table::{Table, is_table};
+pub use table::Table;

@@ -1,4 +1,4 @@
-//! Names.
+//! Defines names of the source language, of 1 to 32 bytes, which are held without an allocation.
 ghost use Rattle.std.specs.Prelude.{◌≡◌, ◌≤◌, length, take, true};
 ghost use Rattle.ln_base.specs.Words.{is_name};
 

@@ -1,4 +1,4 @@
-//! Predicates.
+//! Defines a predicate of a table, with its arguments, its lets and the expression of its sign.
 ghost use Rattle.std.specs.Prelude.{◌≡◌, true, length};
 ghost use Rattle.ln_tree.specs.Kept.{is_pred};
 
@@ -9,7 +9,7 @@ use crate::name::Name;
 use crate::shape::Shape;
 use ln_base::{Seq, Span};
 
-/// A predicate. `at` is where its name stands; `shape` has its variables by number; `root` is the expression of its sign.
+/// A predicate. `at` is where its name is; `shape` has its variables by number; `root` is the expression of its sign.
 #[derive(Drop)]
 pub struct Pred {
     pub name: Name,

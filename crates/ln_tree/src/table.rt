@@ -1,10 +1,8 @@
 //! Tables: the site types, params and predicates of a source.
-ghost use Rattle.std.specs.Prelude.{◌≡◌, true, ◌&&◌};
-ghost use Rattle.std.specs.List.{list_all};
-ghost use Rattle.ln_tree.specs.Table.{is_table, pred_fits, table_of};
+ghost use Rattle.std.specs.Prelude.{◌≡◌, true};
+ghost use Rattle.ln_tree.specs.Table.{is_table, table_of};
 ghost use Rattle.ln_tree.specs.Whole.{is_whole};
 
-use crate::fits::args_fit;
 use crate::items::{Param, Site};
 use crate::pred::Pred;
 use ln_base::Seq;
@@ -19,29 +17,4 @@ pub struct Table {
     pub preds: Seq<Pred>,
     ghost kept: { is_table sites params preds ≡ true },
     ghost whole: { is_whole (table_of sites params preds) ≡ true },
-}
-
-fn pred_fits(sites: &[Site], params: &[Param], p: &Pred) -> bool
-    ensures { result ≡ pred_fits sites.now params.now p.now }
-{
-    args_fit(sites, params, p.shape.vars.as_slice(), p.args.as_slice())
-}
-
-fn all_fit(sites: &[Site], params: &[Param], preds: &[Pred]) -> bool
-    ensures { result ≡ list_all (pred_fits sites.now params.now) preds.now }
-{
-    'each: for p in preds {
-        if !pred_fits(sites, params, p) {
-            return false;
-        }
-    }
-    true
-}
-
-/// Do these make a table? There are at most 16 of each kind, and the predicates' arguments are of the site types and
-/// params.
-pub fn is_table(sites: &[Site], params: &[Param], preds: &[Pred]) -> bool
-    ensures { result ≡ is_table sites.now params.now preds.now }
-{
-    sites.len() <= 16 && params.len() <= 16 && preds.len() <= 16 && all_fit(sites, params, preds)
 }

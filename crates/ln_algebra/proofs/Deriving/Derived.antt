@@ -25,7 +25,8 @@ factor_at-length n (t ∷ f) k o h = by_case (same_vector t.exponents k) refl (f
   by_case false e ih = rw e (omega (arith, ints, ih))
 
 -- lists over n variables with the same coefficients at vectors of n exponents have the same sums
-pub total-same-over : (n : ℕ) (h : List ℕ → ℤ) (f g : List Term) → Over n f → Over n g → ((k : List ℕ) → length k ≡ n → factor_at f k ≡ factor_at g k) → total h f ≡ total h g
+pub total-same-over : (n : ℕ) (h : List ℕ → ℤ) (f g : List Term) → Over n f → Over n g
+    → ((k : List ℕ) → length k ≡ n → factor_at f k ≡ factor_at g k) → total h f ≡ total h g
 total-same-over n h f g o p e = total-same h f g (λ k. by_case k (eqb (length k) n) refl) where
   by_case : (k : List ℕ) (b : Bool) → eqb (length k) n ≡ b → factor_at f k ≡ factor_at g k
   by_case k true d = e k (grind (arith, nat_tests))
@@ -54,14 +55,24 @@ binomial-above zero (suc k) h = refl
 binomial-above (suc n) (suc k) h = omega (arith, binomial-above n (suc k) (omega arith), binomial-above n k (omega arith))
 
 -- one power of x and one of e more, by Pascal's rule
-taylor-step : (x : ℤ) (k j : ℕ) → taylor x (suc k + j) (suc k) ≡ pos (binomial (suc k + j) (suc k)) *ℤ power_of x j → taylor x (k + suc j) k ≡ pos (binomial (k + suc j) k) *ℤ power_of x (suc j) → taylor x (suc (k + suc j)) (suc k) ≡ pos (binomial (suc (k + suc j)) (suc k)) *ℤ power_of x (suc j)
+taylor-step : (x : ℤ) (k j : ℕ) → taylor x (suc k + j) (suc k) ≡ pos (binomial (suc k + j) (suc k)) *ℤ power_of x j
+    → taylor x (k + suc j) k ≡ pos (binomial (k + suc j) k) *ℤ power_of x (suc j)
+    → taylor x (suc (k + suc j)) (suc k) ≡ pos (binomial (suc (k + suc j)) (suc k)) *ℤ power_of x (suc j)
 taylor-step x k j a b =
     let n : ℕ = k + suc j in
     let m : suc k + j ≡ k + suc j = omega arith in
     let c : taylor x n (suc k) ≡ pos (binomial n (suc k)) *ℤ power_of x j = rw m at a in
     let P : ℤ = power_of x j in
-    let move : x *ℤ (pos (binomial n (suc k)) *ℤ P) ≡ pos (binomial n (suc k)) *ℤ (x *ℤ P) = sym (mul_assoc x (pos (binomial n (suc k))) P) ∙ ap (λ t. t *ℤ P) (mul_comm x (pos (binomial n (suc k)))) ∙ mul_assoc (pos (binomial n (suc k))) x P in
-    let spread : (pos (binomial n k) +ℤ pos (binomial n (suc k))) *ℤ (x *ℤ P) ≡ pos (binomial n k) *ℤ (x *ℤ P) +ℤ pos (binomial n (suc k)) *ℤ (x *ℤ P) = omega (arith, ints, mul_comm (pos (binomial n k) +ℤ pos (binomial n (suc k))) (x *ℤ P), mul_add (x *ℤ P) (pos (binomial n k)) (pos (binomial n (suc k))), mul_comm (x *ℤ P) (pos (binomial n k)), mul_comm (x *ℤ P) (pos (binomial n (suc k)))) in
+    let move : x *ℤ (pos (binomial n (suc k)) *ℤ P) ≡ pos (binomial n (suc k)) *ℤ (x *ℤ P) =
+    sym (mul_assoc x (pos (binomial n (suc k))) P) ∙ ap (λ t. t *ℤ P) (mul_comm x (pos (binomial n (suc k)))) ∙ mul_assoc (pos (binomial n (suc k))) x P in
+    let spread : (pos (binomial n k) +ℤ pos (binomial n (suc k))) *ℤ (x *ℤ P) ≡ pos (binomial n k) *ℤ (x *ℤ P) +ℤ pos (binomial n (suc k)) *ℤ (x *ℤ P) = omega (
+      arith,
+      ints,
+      mul_comm (pos (binomial n k) +ℤ pos (binomial n (suc k))) (x *ℤ P),
+      mul_add (x *ℤ P) (pos (binomial n k)) (pos (binomial n (suc k))),
+      mul_comm (x *ℤ P) (pos (binomial n k)),
+      mul_comm (x *ℤ P) (pos (binomial n (suc k))),
+    ) in
     ap (λ t. x *ℤ t +ℤ taylor x n k) c ∙ ap (λ t. x *ℤ (pos (binomial n (suc k)) *ℤ P) +ℤ t) b ∙ ap (λ t. t +ℤ pos (binomial n k) *ℤ (x *ℤ P)) move
     ∙ +ℤ_comm (pos (binomial n (suc k)) *ℤ (x *ℤ P)) (pos (binomial n k) *ℤ (x *ℤ P)) ∙ sym spread
 
@@ -71,7 +82,8 @@ taylor-at x zero j = rw zero-add (taylor-none x j ∙ sym (one_mul (power_of x j
 taylor-at x (suc k) zero = rw suc-add (
     let z : x *ℤ pos 0 ≡ pos 0 = omega (arith, ints) in
     let above : k + 0 < suc k = omega arith in
-    let w : (pos (binomial (k + 0) k) +ℤ pos (binomial (k + 0) (suc k))) *ℤ pos 1 ≡ pos (binomial (k + 0) k) = omega (arith, ints, binomial-above (k + 0) (suc k) above) in
+    let w : (pos (binomial (k + 0) k) +ℤ pos (binomial (k + 0) (suc k))) *ℤ pos 1 ≡ pos (binomial (k + 0) k) =
+    omega (arith, ints, binomial-above (k + 0) (suc k) above) in
     omega (arith, ints, ap (λ t. x *ℤ t) (taylor-above x (k + 0) (suc k) above), z, taylor-at x k zero, w, mul_one (pos (binomial (k + 0) k))))
 taylor-at x (suc k) (suc j) = rw suc-add (taylor-step x k j (taylor-at x (suc k) j) (taylor-at x k (suc j)))
 
@@ -117,7 +129,8 @@ taylor-covered x n k h =
     subst P e (taylor-at x k (n - k))
 
 -- a monomial that covers a has the binomials times the rest's value
-pub tau-covered : (p : ℕ → Bool) (x : ℕ → ℤ) (m a : List ℕ) → length m ≡ length a → Within p a → covers m a ≡ true → tau p x m a ≡ pos (binomials m a) *ℤ monomial x (minus m a)
+pub tau-covered : (p : ℕ → Bool) (x : ℕ → ℤ) (m a : List ℕ) → length m ≡ length a → Within p a → covers m a ≡ true
+    → tau p x m a ≡ pos (binomials m a) *ℤ monomial x (minus m a)
 tau-covered p x [] a e w c = refl
 tau-covered p x (n ∷ m) [] e w c = absurd (omega arith)
 tau-covered p x (n ∷ m) (k ∷ a) e w c =
@@ -136,13 +149,16 @@ value-derived p x a (t ∷ f) o w = by_case (covers t.exponents a) refl (value-d
   by_case : (b : Bool) → covers t.exponents a ≡ b → value x (derived a f) ≡ shifted p x a f → value x (derived a (t ∷ f)) ≡ shifted p x a (t ∷ f)
   by_case true c ih = rw c (
       ap (λ z. (t.factor *ℤ pos (binomials t.exponents a)) *ℤ monomial x (minus t.exponents a) +ℤ z) ih
-      ∙ ap (λ z. z +ℤ shifted p x a f) (mul_assoc t.factor (pos (binomials t.exponents a)) (monomial x (minus t.exponents a)) ∙ ap (λ z. t.factor *ℤ z) (sym (tau-covered p x t.exponents a o.0 w c))))
+      ∙ ap (λ z. z +ℤ shifted p x a f) (mul_assoc t.factor (pos (binomials t.exponents a)) (monomial x (minus t.exponents a))
+      ∙ ap (λ z. t.factor *ℤ z) (sym (tau-covered p x t.exponents a o.0 w c))))
   by_case false c ih =
       let z : t.factor *ℤ pos 0 ≡ pos 0 = omega (arith, ints) in
-      rw c (ih ∙ (let u : shifted p x a f ≡ pos 0 +ℤ shifted p x a f = omega (arith, ints) in u) ∙ ap (λ y. y +ℤ shifted p x a f) (sym (ap (λ y. t.factor *ℤ y) (tau-uncovered p x t.exponents a o.0 w c) ∙ z)))
+      rw c (ih ∙ (let u : shifted p x a f ≡ pos 0 +ℤ shifted p x a f = omega (arith, ints) in u)
+      ∙ ap (λ y. y +ℤ shifted p x a f) (sym (ap (λ y. t.factor *ℤ y) (tau-uncovered p x t.exponents a o.0 w c) ∙ z)))
 
 -- the value of the scaled derivative by a is the coefficient at a
-pub derivative-coefficient : (n : ℕ) (e : Tree) (f : List Term) (p : ℕ → Bool) (x : ℕ → ℤ) (a : List ℕ) → InputsBelow n e → IsNormalOf n e f → length a ≡ n → Within p a → value x (derived a f) ≡ coefficient p x e a
+pub derivative-coefficient : (n : ℕ) (e : Tree) (f : List Term) (p : ℕ → Bool) (x : ℕ → ℤ) (a : List ℕ) → InputsBelow n e → IsNormalOf n e f
+    → length a ≡ n → Within p a → value x (derived a f) ≡ coefficient p x e a
 derivative-coefficient n e f p x a i h l w =
     value-derived p x a f (rw l h.over) w
     ∙ total-same-over n (λ m. tau p x m a) f (expanded n e) h.over (Over-expanded n e) (λ k q. h.coefficients k q ∙ normal_is n e i k q)

@@ -30,20 +30,23 @@ sum_parts-zero (suc n) = omega (arith, ints, sum_parts-zero n)
 -- over vectors: sums of equal terms are equal
 pub sum_splits-same : (a : List ℕ) (f g : List ℕ → List ℕ → ℤ) → ((b c : List ℕ) → f b c ≡ g b c) → sum_splits a f ≡ sum_splits a g
 sum_splits-same [] f g h = h [] []
-sum_splits-same (n ∷ a) f g h = sum_parts-same n (λ i j. sum_splits a (λ b c. f (i ∷ b) (j ∷ c))) (λ i j. sum_splits a (λ b c. g (i ∷ b) (j ∷ c))) (λ i j. sum_splits-same a (λ b c. f (i ∷ b) (j ∷ c)) (λ b c. g (i ∷ b) (j ∷ c)) (λ b c. h (i ∷ b) (j ∷ c)))
+sum_splits-same (n ∷ a) f g h = sum_parts-same n (λ i j. sum_splits a (λ b c. f (i ∷ b) (j ∷ c))) (λ i j. sum_splits a (λ b c. g (i ∷ b) (j ∷ c)))
+    (λ i j. sum_splits-same a (λ b c. f (i ∷ b) (j ∷ c)) (λ b c. g (i ∷ b) (j ∷ c)) (λ b c. h (i ∷ b) (j ∷ c)))
 
 -- the sum of sums
 pub sum_splits-add : (a : List ℕ) (f g : List ℕ → List ℕ → ℤ) → sum_splits a (λ b c. f b c +ℤ g b c) ≡ sum_splits a f +ℤ sum_splits a g
 sum_splits-add [] f g = refl
 sum_splits-add (n ∷ a) f g =
-    sum_parts-same n (λ i j. sum_splits a (λ b c. f (i ∷ b) (j ∷ c) +ℤ g (i ∷ b) (j ∷ c))) (λ i j. sum_splits a (λ b c. f (i ∷ b) (j ∷ c)) +ℤ sum_splits a (λ b c. g (i ∷ b) (j ∷ c))) (λ i j. sum_splits-add a (λ b c. f (i ∷ b) (j ∷ c)) (λ b c. g (i ∷ b) (j ∷ c)))
+    sum_parts-same n (λ i j. sum_splits a (λ b c. f (i ∷ b) (j ∷ c) +ℤ g (i ∷ b) (j ∷ c))) (λ i j. sum_splits a (λ b c. f (i ∷ b) (j ∷ c))
+    +ℤ sum_splits a (λ b c. g (i ∷ b) (j ∷ c))) (λ i j. sum_splits-add a (λ b c. f (i ∷ b) (j ∷ c)) (λ b c. g (i ∷ b) (j ∷ c)))
     ∙ sum_parts-add n (λ i j. sum_splits a (λ b c. f (i ∷ b) (j ∷ c))) (λ i j. sum_splits a (λ b c. g (i ∷ b) (j ∷ c)))
 
 -- a common factor moves out
 pub sum_splits-scale : (a : List ℕ) (x : ℤ) (f : List ℕ → List ℕ → ℤ) → sum_splits a (λ b c. x *ℤ f b c) ≡ x *ℤ sum_splits a f
 sum_splits-scale [] x f = refl
 sum_splits-scale (n ∷ a) x f =
-    sum_parts-same n (λ i j. sum_splits a (λ b c. x *ℤ f (i ∷ b) (j ∷ c))) (λ i j. x *ℤ sum_splits a (λ b c. f (i ∷ b) (j ∷ c))) (λ i j. sum_splits-scale a x (λ b c. f (i ∷ b) (j ∷ c)))
+    sum_parts-same n (λ i j. sum_splits a (λ b c. x *ℤ f (i ∷ b) (j ∷ c))) (λ i j. x *ℤ sum_splits a (λ b c. f (i ∷ b) (j ∷ c)))
+    (λ i j. sum_splits-scale a x (λ b c. f (i ∷ b) (j ∷ c)))
     ∙ sum_parts-scale n x (λ i j. sum_splits a (λ b c. f (i ∷ b) (j ∷ c)))
 
 -- a sum of zeros is 0
@@ -63,7 +66,8 @@ taylor x (suc n) (suc k) = x *ℤ taylor x n (suc k) +ℤ taylor x n k
 taylor_none : (x : ℤ) (a k : ℕ) → sum_parts a (λ b c. taylor x 0 b *ℤ taylor x k c) ≡ taylor x k a
 taylor_none x zero k = one_mul (taylor x k 0)
 taylor_none x (suc a) k =
-    let z : sum_parts a (λ b c. pos 0 *ℤ taylor x k c) ≡ pos 0 = sum_parts-same a (λ b c. pos 0 *ℤ taylor x k c) (λ b c. pos 0) (λ b c. omega (arith, ints)) ∙ sum_parts-zero a in
+    let z : sum_parts a (λ b c. pos 0 *ℤ taylor x k c) ≡ pos 0 =
+    sum_parts-same a (λ b c. pos 0 *ℤ taylor x k c) (λ b c. pos 0) (λ b c. omega (arith, ints)) ∙ sum_parts-zero a in
     omega (arith, ints, z)
 
 -- Vandermonde's identity
@@ -75,7 +79,23 @@ vandermonde x (suc n) k (suc a) =
     let upper : ℕ → ℕ → ℤ = λ b c. taylor x n (suc b) *ℤ taylor x k c in
     let lower : ℕ → ℕ → ℤ = λ b c. taylor x n b *ℤ taylor x k c in
     let whole : sum_parts a (λ b c. taylor x (suc n) (suc b) *ℤ taylor x k c) ≡ x *ℤ sum_parts a upper +ℤ sum_parts a lower =
-    sum_parts-same a (λ b c. taylor x (suc n) (suc b) *ℤ taylor x k c) (λ b c. x *ℤ upper b c +ℤ lower b c) (λ b c. omega (arith, ints, mul_comm (taylor x k c) (x *ℤ taylor x n (suc b) +ℤ taylor x n b), mul_add (taylor x k c) (x *ℤ taylor x n (suc b)) (taylor x n b), mul_comm (taylor x k c) (x *ℤ taylor x n (suc b)), mul_comm (taylor x k c) (taylor x n b), mul_assoc x (taylor x n (suc b)) (taylor x k c)))
+    sum_parts-same a (λ b c. taylor x (suc n) (suc b) *ℤ taylor x k c) (λ b c. x *ℤ upper b c +ℤ lower b c) (λ b c. omega (
+      arith,
+      ints,
+      mul_comm (taylor x k c) (x *ℤ taylor x n (suc b) +ℤ taylor x n b),
+      mul_add (taylor x k c) (x *ℤ taylor x n (suc b)) (taylor x n b),
+      mul_comm (taylor x k c) (x *ℤ taylor x n (suc b)),
+      mul_comm (taylor x k c) (taylor x n b),
+      mul_assoc x (taylor x n (suc b)) (taylor x k c),
+    ))
     ∙ sum_parts-add a (λ b c. x *ℤ upper b c) lower
     ∙ ap (λ t. t +ℤ sum_parts a lower) (sum_parts-scale a x upper) in
-    rw suc-add (omega (arith, ints, whole, vandermonde x n k a, ap (λ t. x *ℤ t) (vandermonde x n k (suc a)), mul_add x (taylor x n 0 *ℤ taylor x k (suc a)) (sum_parts a upper), mul_assoc x (taylor x n 0) (taylor x k (suc a))))
+    rw suc-add (omega (
+      arith,
+      ints,
+      whole,
+      vandermonde x n k a,
+      ap (λ t. x *ℤ t) (vandermonde x n k (suc a)),
+      mul_add x (taylor x n 0 *ℤ taylor x k (suc a)) (sum_parts a upper),
+      mul_assoc x (taylor x n 0) (taylor x k (suc a)),
+    ))

@@ -1,5 +1,6 @@
 -- Tests by which the premises of worked values are computed: rankings, monomials, indices that differ.
-use Rattle.std.proofs.Common.{◌≡◌, ◌≢◌, ℕ, ◌<◌, ◌≤◌, zero, suc, refl, sym, ◌∙◌, ap, arith, List, [], ◌∷◌, length, get_or, Bool, true, false, not, ◌&&◌, ◌||◌, eqb, ltb, Option, Some, None, is_some, is_none, ◌⊎◌, inl, inr}
+use Rattle.std.proofs.Common.{◌≡◌, ◌≢◌, ℕ, ◌<◌, ◌≤◌, zero, suc, refl, sym, ◌∙◌, ap, arith, List, [], ◌∷◌, length, get_or, Bool, true, false}
+use Rattle.std.proofs.Common.{not, ◌&&◌, ◌||◌, eqb, ltb, Option, Some, None, is_some, is_none, ◌⊎◌, inl, inr}
 use Rattle.std.proofs.lemmas.Int.{ints}
 use Rattle.std.proofs.lemmas.Bool.{and_parts, cases_lt, or_cases, eq-eqb, eqb-true, ltb-true}
 use Rattle.std.proofs.Math.IntN.{ℤ, pos, negsuc}
@@ -31,7 +32,7 @@ all_under-at test (suc n) e v l = by_case (cases_lt v n) (all_under-at test n (a
   by_case (inl m) ih = ih m
   by_case (inr m) ih = let q : v ≡ n = omega arith in rw q (and_parts (test n) (all_under test n) e).0
 
--- what has an owner stands in the list
+-- what has an owner is in the list
 owner-below : (owners : List (Option ℕ)) (v s : ℕ) → owner_in owners v ≡ Some s → v < length owners
 owner-below [] v s e = cc
 owner-below (o ∷ os) zero s e = omega arith
@@ -62,11 +63,13 @@ rank_test sites v (w ∷ ws) = pair_test sites w v (sites.site w) (sites.site v)
 rank_test-ranks : (sites : Sites) (v : ℕ) (ws : List ℕ) → rank_test sites v ws ≡ true → (w : ℕ) → Member ws w → RanksBefore sites w v
 rank_test-ranks sites v [] t w i = absurd i
 rank_test-ranks sites v (u ∷ ws) t w (inl q) =
-    let r : RanksBefore sites u v = pair_test-ranks sites u v (sites.site u) (sites.site v) refl refl (and_parts (pair_test sites u v (sites.site u) (sites.site v)) (rank_test sites v ws) t).0 in
+    let r : RanksBefore sites u v = pair_test-ranks sites u v (sites.site u) (sites.site v) refl refl
+    (and_parts (pair_test sites u v (sites.site u) (sites.site v)) (rank_test sites v ws) t).0 in
     rw q r
-rank_test-ranks sites v (u ∷ ws) t w (inr i) = rank_test-ranks sites v ws (and_parts (pair_test sites u v (sites.site u) (sites.site v)) (rank_test sites v ws) t).1 w i
+rank_test-ranks sites v (u ∷ ws) t w (inr i) =
+    rank_test-ranks sites v ws (and_parts (pair_test sites u v (sites.site u) (sites.site v)) (rank_test sites v ws) t).1 w i
 
--- does each variable of the list have a site, and rank after those behind it?
+-- does each variable of the list have a site, and rank after those that follow it?
 abbrev pub ranked_test : Sites → List ℕ → Bool
 ranked_test sites [] = true
 ranked_test sites (v ∷ vs) = is_some (sites.site v) && (rank_test sites v vs && ranked_test sites vs)
@@ -112,11 +115,17 @@ all_test owners vs = all_under (λ v. is_none (owner_in owners v) || member_test
 
 -- then it is
 all_test-all : (owners : List (Option ℕ)) (vs : List ℕ) → all_test owners vs ≡ true → (v s : ℕ) → owner_in owners v ≡ Some s → Member vs v
-all_test-all owners vs t v s e = elim (or_cases (is_none (owner_in owners v)) (member_test vs v) (all_under-at (λ u. is_none (owner_in owners u) || member_test vs u) (length owners) t v (owner-below owners v s e))) [ inl q ↦ (let r : is_none (Some s) ≡ true = rw e at q in cc) | inr q ↦ member_test-member vs v q ]
+all_test-all owners vs t v s e = elim (or_cases (is_none (owner_in owners v)) (member_test vs v)
+    (all_under-at (λ u. is_none (owner_in owners u) || member_test vs u) (length owners) t v (owner-below owners v s e))) [
+      | inl q ↦ (let r : is_none (Some s) ≡ true = rw e at q in cc)
+      | inr q ↦ member_test-member vs v q
+    ]
 
 -- a ranking, by tests
-pub ranking-by : (n : ℕ) (owners : List (Option ℕ)) (indices vs : List ℕ) → ranked_test (sites_of owners indices) vs ≡ true → all_test owners vs ≡ true → below_test n vs ≡ true → IsRanking n (sites_of owners indices) vs
-ranking-by n owners indices vs r a b = record { ranked = ranked_test-ranked (sites_of owners indices) vs r; all = all_test-all owners vs a; below = below_test-below n vs b }
+pub ranking-by : (n : ℕ) (owners : List (Option ℕ)) (indices vs : List ℕ) → ranked_test (sites_of owners indices) vs ≡ true
+    → all_test owners vs ≡ true → below_test n vs ≡ true → IsRanking n (sites_of owners indices) vs
+ranking-by n owners indices vs r a b =
+    record { ranked = ranked_test-ranked (sites_of owners indices) vs r; all = all_test-all owners vs a; below = below_test-below n vs b }
 
 -- ---- indices that differ
 -- do two owners, if both are sites, differ in their indices or not at all?
@@ -127,10 +136,12 @@ differ_pair sites (Some s) (Some t) = not (eqb (sites.index s) (sites.index t)) 
 
 -- does that hold for any two variables?
 abbrev pub differ_test : List (Option ℕ) → List ℕ → Bool
-differ_test owners indices = all_under (λ v. all_under (λ w. differ_pair (sites_of owners indices) (owner_in owners v) (owner_in owners w)) (length owners)) (length owners)
+differ_test owners indices =
+    all_under (λ v. all_under (λ w. differ_pair (sites_of owners indices) (owner_in owners v) (owner_in owners w)) (length owners)) (length owners)
 
 -- the test at two owners that are known
-differ_pair-at : (sites : Sites) (s t : ℕ) (o p : Option ℕ) → o ≡ Some s → p ≡ Some t → differ_pair sites o p ≡ true → differ_pair sites (Some s) (Some t) ≡ true
+differ_pair-at : (sites : Sites) (s t : ℕ) (o p : Option ℕ) → o ≡ Some s → p ≡ Some t → differ_pair sites o p ≡ true
+    → differ_pair sites (Some s) (Some t) ≡ true
 differ_pair-at sites s t o p e f d = rw e at (rw f at d)
 
 -- the second of two tests, where the first fails to exclude it
@@ -146,9 +157,13 @@ differ-by owners indices d = record { differ = one } where
 
   one : (v w s t : ℕ) → Of sites v s → Of sites w t → sites.index s ≡ sites.index t → s ≡ t
   one v w s t a b e =
-      let row : all_under (λ u. differ_pair sites (owner_in owners v) (owner_in owners u)) (length owners) ≡ true = all_under-at (λ z. all_under (λ u. differ_pair sites (owner_in owners z) (owner_in owners u)) (length owners)) (length owners) d v (owner-below owners v s a) in
-      let pair : differ_pair sites (owner_in owners v) (owner_in owners w) ≡ true = all_under-at (λ u. differ_pair sites (owner_in owners v) (owner_in owners u)) (length owners) row w (owner-below owners w t b) in
-      eqb-true s t (not_same (eqb (sites.index s) (sites.index t)) (eqb s t) (eq-eqb (sites.index s) (sites.index t) e) (differ_pair-at sites s t (owner_in owners v) (owner_in owners w) a b pair))
+      let row : all_under (λ u. differ_pair sites (owner_in owners v) (owner_in owners u)) (length owners) ≡ true =
+      all_under-at (λ z. all_under (λ u. differ_pair sites (owner_in owners z) (owner_in owners u)) (length owners)) (length owners) d v
+      (owner-below owners v s a) in
+      let pair : differ_pair sites (owner_in owners v) (owner_in owners w) ≡ true =
+      all_under-at (λ u. differ_pair sites (owner_in owners v) (owner_in owners u)) (length owners) row w (owner-below owners w t b) in
+      eqb-true s t (not_same (eqb (sites.index s) (sites.index t)) (eqb s t) (eq-eqb (sites.index s) (sites.index t) e)
+      (differ_pair-at sites s t (owner_in owners v) (owner_in owners w) a b pair))
 
 -- ---- monomials
 -- is it 0?
@@ -192,7 +207,8 @@ monomials_test-monomials n e (k ∷ ms) t m (inl q) =
     let b = and_parts (eqb (length k) n) (not (zero_test (normal_coefficient e k))) a.0 in
     let r : IsMonomial n e k = record { size = eqb-true (length k) n b.0; nonzero = zero_test-not (normal_coefficient e k) b.1 } in
     rw q r
-monomials_test-monomials n e (k ∷ ms) t m (inr i) = monomials_test-monomials n e ms (and_parts (eqb (length k) n && not (zero_test (normal_coefficient e k))) (monomials_test n e ms) t).1 m i
+monomials_test-monomials n e (k ∷ ms) t m (inr i) =
+    monomials_test-monomials n e ms (and_parts (eqb (length k) n && not (zero_test (normal_coefficient e k))) (monomials_test n e ms) t).1 m i
 
 -- each term's vector has coefficient 0 or is in the list
 abbrev pub terms_test : Tree → List (List ℕ) → List Term → Bool
@@ -200,7 +216,8 @@ terms_test e ms [] = true
 terms_test e ms (t ∷ f) = (zero_test (normal_coefficient e t.exponents) || in_test ms t.exponents) && terms_test e ms f
 
 -- then each monomial is in the list
-terms_test-in : (e : Tree) (ms : List (List ℕ)) (f : List Term) → terms_test e ms f ≡ true → (m : List ℕ) → normal_coefficient e m ≢ pos 0 → factor_at f m ≢ pos 0 → In ms m
+terms_test-in : (e : Tree) (ms : List (List ℕ)) (f : List Term) → terms_test e ms f ≡ true → (m : List ℕ) → normal_coefficient e m ≢ pos 0
+    → factor_at f m ≢ pos 0 → In ms m
 terms_test-in e ms [] t m z h = absurd (h refl)
 terms_test-in e ms (s ∷ f) t m z h = by_case (same_vector s.exponents m) refl (terms_test-in e ms f rest m z) where
   here : (zero_test (normal_coefficient e s.exponents) || in_test ms s.exponents) ≡ true
@@ -218,7 +235,8 @@ terms_test-in e ms (s ∷ f) t m z h = by_case (same_vector s.exponents m) refl 
   by_case false q ih = ih (λ y. h (let p : factor_at (s ∷ f) m ≡ factor_at f m = rw q (omega (arith, ints)) in p ∙ y))
 
 -- the monomials, by tests
-monomials-by : (n : ℕ) (e : Tree) (ms : List (List ℕ)) → InputsBelow n e → monomials_test n e ms ≡ true → terms_test e ms (expanded n e) ≡ true → AreMonomials n e ms
+monomials-by : (n : ℕ) (e : Tree) (ms : List (List ℕ)) → InputsBelow n e → monomials_test n e ms ≡ true
+    → terms_test e ms (expanded n e) ≡ true → AreMonomials n e ms
 monomials-by n e ms below s t = record {
   monomials = monomials_test-monomials n e ms s;
   all = λ m k. terms_test-in e ms (expanded n e) t m k.nonzero (λ y. k.nonzero (normal_is n e below m k.size ∙ y));
@@ -239,7 +257,9 @@ get-below bound (k ∷ m) p t (suc v) = get-below bound m p (and_parts (ltb k bo
 -- and each of all vectors
 bound-by : (bound : ℕ) (ms : List (List ℕ)) → 0 < bound → bound_test bound ms ≡ true → AllBelow bound ms
 bound-by bound [] p t m v i = absurd i
-bound-by bound (k ∷ ms) p t m v (inl q) = let l : get_or k v 0 < bound = get-below bound k p (and_parts (below_test bound k) (bound_test bound ms) t).0 v in rw q l
+bound-by bound (k ∷ ms) p t m v (inl q) =
+    let l : get_or k v 0 < bound = get-below bound k p (and_parts (below_test bound k) (bound_test bound ms) t).0 v in
+    rw q l
 bound-by bound (k ∷ ms) p t m v (inr i) = bound-by bound ms p (and_parts (below_test bound k) (bound_test bound ms) t).1 m v i
 
 -- ---- the stage list of a small predicate, computed by the walk
@@ -249,17 +269,20 @@ stages_test n owners indices e bound vs ms =
     (ranked_test (sites_of owners indices) vs && (all_test owners vs && below_test n vs))
     && ((monomials_test n e ms && terms_test e ms (expanded n e)) && (ltb 0 bound && bound_test bound ms))
 
--- the stage list is what the walk gives, by tests
-pub stages-by : (n : ℕ) (owners : List (Option ℕ)) (indices : List ℕ) (e : Tree) (bound : ℕ) (vs : List ℕ) (ms : List (List ℕ)) → InputsBelow n e → stages_test n owners indices e bound vs ms ≡ true → IsStageList n (sites_of owners indices) e (walk bound vs ms (zeros n)).0
+-- the stage list is what the walk returns, by tests
+pub stages-by : (n : ℕ) (owners : List (Option ℕ)) (indices : List ℕ) (e : Tree) (bound : ℕ) (vs : List ℕ) (ms : List (List ℕ)) → InputsBelow n e
+    → stages_test n owners indices e bound vs ms ≡ true → IsStageList n (sites_of owners indices) e (walk bound vs ms (zeros n)).0
 stages-by n owners indices e bound vs ms below t =
     let sites : Sites = sites_of owners indices in
-    let a = and_parts (ranked_test sites vs && (all_test owners vs && below_test n vs)) ((monomials_test n e ms && terms_test e ms (expanded n e)) && (ltb 0 bound && bound_test bound ms)) t in
+    let a = and_parts (ranked_test sites vs && (all_test owners vs && below_test n vs))
+    ((monomials_test n e ms && terms_test e ms (expanded n e)) && (ltb 0 bound && bound_test bound ms)) t in
     let b = and_parts (ranked_test sites vs) (all_test owners vs && below_test n vs) a.0 in
     let c = and_parts (all_test owners vs) (below_test n vs) b.1 in
     let d = and_parts (monomials_test n e ms && terms_test e ms (expanded n e)) (ltb 0 bound && bound_test bound ms) a.1 in
     let f = and_parts (monomials_test n e ms) (terms_test e ms (expanded n e)) d.0 in
     let g = and_parts (ltb 0 bound) (bound_test bound ms) d.1 in
-    walk-stages n sites e bound vs ms (ranking-by n owners indices vs b.0 c.0 c.1) (monomials-by n e ms below f.0 f.1) (bound-by bound ms (ltb-true 0 bound g.0) g.1)
+    walk-stages n sites e bound vs ms (ranking-by n owners indices vs b.0 c.0 c.1) (monomials-by n e ms below f.0 f.1)
+    (bound-by bound ms (ltb-true 0 bound g.0) g.1)
 
 -- ---- the order along a ranking
 -- the first difference along a ranking decides

@@ -1,5 +1,6 @@
 -- The coefficients above the total_degree are 0; what the splits are.
-use Rattle.std.proofs.Common.{◌≡◌, ℕ, ◌+◌, ◌*◌, ◌<◌, ◌≤◌, zero, suc, refl, sym, ◌∙◌, ap, arith, List, [], ◌∷◌, length, Bool, true, false, ◌&&◌, ◌⊎◌, inl, inr, if◌then◌else◌}
+use Rattle.std.proofs.Common.{◌≡◌, ℕ, ◌+◌, ◌*◌, ◌<◌, ◌≤◌, zero, suc, refl, sym, ◌∙◌, ap, arith, List, [], ◌∷◌, length, Bool, true, false}
+use Rattle.std.proofs.Common.{◌&&◌, ◌⊎◌, inl, inr, if◌then◌else◌}
 use Rattle.std.proofs.Math.Nat.{zero-add}
 use Rattle.std.proofs.lemmas.Int.{ints}
 use Rattle.std.proofs.lemmas.Bool.{cases_lt}
@@ -14,14 +15,16 @@ use Rattle.ln_algebra.specs.Tree.{Tree, Num, Input, Name, Neg, Add, Sub, Mul, Po
 -- two sums over the parts of n agree where they agree on the parts
 pub sum_parts-on : (n : ℕ) (f g : ℕ → ℕ → ℤ) → ((i j : ℕ) → i + j ≡ n → f i j ≡ g i j) → sum_parts n f ≡ sum_parts n g
 sum_parts-on zero f g h = h 0 0 refl
-sum_parts-on (suc n) f g h = omega (arith, ints, h 0 (suc n) (zero-add (suc n)), sum_parts-on n (λ i j. f (suc i) j) (λ i j. g (suc i) j) (λ i j e. h (suc i) j (omega arith)))
+sum_parts-on (suc n) f g h =
+    omega (arith, ints, h 0 (suc n) (zero-add (suc n)), sum_parts-on n (λ i j. f (suc i) j) (λ i j. g (suc i) j) (λ i j e. h (suc i) j (omega arith)))
 
 -- two sums over the splits of a agree where they agree on the splits
 pub sum_splits-on : (a : List ℕ) (f g : List ℕ → List ℕ → ℤ) → ((b c : List ℕ) → IsSplit a b c → f b c ≡ g b c) → sum_splits a f ≡ sum_splits a g
 sum_splits-on [] f g h = h [] [] (record { left = refl; right = refl; sum = refl })
 sum_splits-on (n ∷ a) f g h =
     sum_parts-on n (λ i j. sum_splits a (λ b c. f (i ∷ b) (j ∷ c))) (λ i j. sum_splits a (λ b c. g (i ∷ b) (j ∷ c)))
-    (λ i j e. sum_splits-on a (λ b c. f (i ∷ b) (j ∷ c)) (λ b c. g (i ∷ b) (j ∷ c)) (λ b c s. h (i ∷ b) (j ∷ c) (record { left = ap suc s.left; right = ap suc s.right; sum = ap (λ z. z ∷ plus b c) e ∙ ap (λ z. n ∷ z) s.sum })))
+    (λ i j e. sum_splits-on a (λ b c. f (i ∷ b) (j ∷ c)) (λ b c. g (i ∷ b) (j ∷ c))
+    (λ b c s. h (i ∷ b) (j ∷ c) (record { left = ap suc s.left; right = ap suc s.right; sum = ap (λ z. z ∷ plus b c) e ∙ ap (λ z. n ∷ z) s.sum })))
 
 -- the total degree of a sum is the sum of the total degrees
 degree-plus : (b c : List ℕ) → length b ≡ length c → total_degree (plus b c) ≡ total_degree b + total_degree c
@@ -84,7 +87,8 @@ power-above d f h (suc n) a l = product-above (n * d) d (power f n) f (power-abo
 
 -- a variable has degree at most 1
 variable-above : (p : Bool) (v : ℕ) (x : ℤ) → Above 1 (variable p v x)
-variable-above p v x a l = rw (is_zero-degree a (omega arith)) (rw (is_unit-degree v a l) (elim p as (λ b. (if b && false then pos 1 else pos 0) ≡ pos 0) [ true ↦ refl | false ↦ refl ]))
+variable-above p v x a l = rw (is_zero-degree a (omega arith))
+    (rw (is_unit-degree v a l) (elim p as (λ b. (if b && false then pos 1 else pos 0) ≡ pos 0) [ true ↦ refl | false ↦ refl ]))
 
 -- the coefficients are 0 above the degree
 pub coefficient-above : (p : ℕ → Bool) (x : ℕ → ℤ) (e : Tree) → Above (degree_of e) (coefficient p x e)
@@ -94,5 +98,6 @@ coefficient-above p x (Name j) a l = constant-above (pos 0) a l
 coefficient-above p x (Neg e) a l = ap neg_ℤ (coefficient-above p x e a l)
 coefficient-above p x (Add e f) a l = omega (arith, ints, coefficient-above p x e a (omega arith), coefficient-above p x f a (omega arith))
 coefficient-above p x (Sub e f) a l = omega (arith, ints, coefficient-above p x e a (omega arith), coefficient-above p x f a (omega arith))
-coefficient-above p x (Mul e f) a l = product-above (degree_of e) (degree_of f) (coefficient p x e) (coefficient p x f) (coefficient-above p x e) (coefficient-above p x f) a l
+coefficient-above p x (Mul e f) a l =
+    product-above (degree_of e) (degree_of f) (coefficient p x e) (coefficient p x f) (coefficient-above p x e) (coefficient-above p x f) a l
 coefficient-above p x (Pow e n) a l = power-above (degree_of e) (coefficient p x e) (coefficient-above p x e) n a l

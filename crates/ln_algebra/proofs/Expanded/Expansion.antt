@@ -4,7 +4,8 @@ use Rattle.std.proofs.lemmas.Int.{ints}
 use Rattle.std.proofs.Math.IntN.{ℤ, pos, ◌+ℤ◌, ◌*ℤ◌, neg_ℤ}
 use Rattle.ln_algebra.proofs.Expanded.Ring.{mul_add, mul_comm, mul_neg, four, one_mul}
 use Rattle.ln_algebra.proofs.Expanded.Sums.{sum_parts, sum_splits, sum_over-append}
-use Rattle.ln_algebra.proofs.Deriving.Taylor.{taylor, vandermonde, sum_parts-same, sum_parts-zero, sum_parts-scale, sum_splits-same, sum_splits-scale, sum_splits-add, sum_splits-zero}
+use Rattle.ln_algebra.proofs.Deriving.Taylor.{taylor, vandermonde, sum_parts-same, sum_parts-zero, sum_parts-scale, sum_splits-same}
+use Rattle.ln_algebra.proofs.Deriving.Taylor.{sum_splits-scale, sum_splits-add, sum_splits-zero}
 use Rattle.ln_algebra.specs.Vector.{sum_over, plus, is_zero, is_zero_number, is_one_number}
 pub use Rattle.ln_algebra.specs.Vector.{zeros, unit_vector}
 use Rattle.ln_algebra.specs.Coefficient.{variable}
@@ -28,11 +29,13 @@ part_plus : (p : Bool) (x : ℤ) (n k a : ℕ) → part p x (n + k) a ≡ sum_pa
 part_plus true x n k a = vandermonde x n k a
 part_plus false x n k zero = vandermonde x n k 0
 part_plus false x n k (suc a) =
-    let z : sum_parts a (λ b c. pos 0 *ℤ part false x k c) ≡ pos 0 = sum_parts-same a (λ b c. pos 0 *ℤ part false x k c) (λ b c. pos 0) (λ b c. omega (arith, ints)) ∙ sum_parts-zero a in
+    let z : sum_parts a (λ b c. pos 0 *ℤ part false x k c) ≡ pos 0 =
+    sum_parts-same a (λ b c. pos 0 *ℤ part false x k c) (λ b c. pos 0) (λ b c. omega (arith, ints)) ∙ sum_parts-zero a in
     omega (arith, ints, z)
 
 -- the product rule of monomials
-pub tau_plus : (p : ℕ → Bool) (x : ℕ → ℤ) (m k a : List ℕ) → length m ≡ length a → length k ≡ length a → tau p x (plus m k) a ≡ sum_splits a (λ b c. tau p x m b *ℤ tau p x k c)
+pub tau_plus : (p : ℕ → Bool) (x : ℕ → ℤ) (m k a : List ℕ) → length m ≡ length a → length k ≡ length a
+    → tau p x (plus m k) a ≡ sum_splits a (λ b c. tau p x m b *ℤ tau p x k c)
 tau_plus p x [] [] [] e f = refl
 tau_plus p x [] (j ∷ k) [] e f = absurd (omega arith)
 tau_plus p x [] k (c ∷ a) e f = absurd (omega arith)
@@ -46,11 +49,14 @@ tau_plus p x (n ∷ m) (j ∷ k) (c ∷ a) e f =
     ∙ ap (λ t. t *ℤ S) (part_plus (p 0) (x 0) n j c)
     ∙ mul_comm (sum_parts c (λ b d. part (p 0) (x 0) n b *ℤ part (p 0) (x 0) j d)) S
     ∙ sym (sum_parts-scale c S (λ b d. part (p 0) (x 0) n b *ℤ part (p 0) (x 0) j d))
-    ∙ sum_parts-same c (λ b d. S *ℤ (part (p 0) (x 0) n b *ℤ part (p 0) (x 0) j d)) (λ i l. sum_splits a (λ b d. (part (p 0) (x 0) n i *ℤ tau q y m b) *ℤ (part (p 0) (x 0) j l *ℤ tau q y k d)))
+    ∙ sum_parts-same c (λ b d. S *ℤ (part (p 0) (x 0) n b *ℤ part (p 0) (x 0) j d))
+    (λ i l. sum_splits a (λ b d. (part (p 0) (x 0) n i *ℤ tau q y m b) *ℤ (part (p 0) (x 0) j l *ℤ tau q y k d)))
     (λ i l.
     mul_comm S (part (p 0) (x 0) n i *ℤ part (p 0) (x 0) j l)
     ∙ sym (sum_splits-scale a (part (p 0) (x 0) n i *ℤ part (p 0) (x 0) j l) (λ b d. tau q y m b *ℤ tau q y k d))
-    ∙ sum_splits-same a (λ b d. (part (p 0) (x 0) n i *ℤ part (p 0) (x 0) j l) *ℤ (tau q y m b *ℤ tau q y k d)) (λ b d. (part (p 0) (x 0) n i *ℤ tau q y m b) *ℤ (part (p 0) (x 0) j l *ℤ tau q y k d)) (λ b d. four (part (p 0) (x 0) n i) (part (p 0) (x 0) j l) (tau q y m b) (tau q y k d)))
+    ∙ sum_splits-same a (λ b d. (part (p 0) (x 0) n i *ℤ part (p 0) (x 0) j l) *ℤ (tau q y m b *ℤ tau q y k d))
+    (λ b d. (part (p 0) (x 0) n i *ℤ tau q y m b) *ℤ (part (p 0) (x 0) j l *ℤ tau q y k d))
+    (λ b d. four (part (p 0) (x 0) n i) (part (p 0) (x 0) j l) (tau q y m b) (tau q y k d)))
 
 -- ---- the leaves
 -- it has n exponents
@@ -82,13 +88,15 @@ pub tau-zeros : (p : ℕ → Bool) (x : ℕ → ℤ) (n : ℕ) (a : List ℕ) �
 tau-zeros p x zero [] h = refl
 tau-zeros p x zero (k ∷ a) h = absurd (omega arith)
 tau-zeros p x (suc n) [] h = absurd (omega arith)
-tau-zeros p x (suc n) (zero ∷ a) h = ap (λ t. t *ℤ tau (λ v. p (suc v)) (λ v. x (suc v)) (zeros n) a) (part_zero (p 0) (x 0) 0) ∙ one_mul (tau (λ v. p (suc v)) (λ v. x (suc v)) (zeros n) a) ∙ tau-zeros (λ v. p (suc v)) (λ v. x (suc v)) n a (omega arith)
+tau-zeros p x (suc n) (zero ∷ a) h = ap (λ t. t *ℤ tau (λ v. p (suc v)) (λ v. x (suc v)) (zeros n) a) (part_zero (p 0) (x 0) 0)
+    ∙ one_mul (tau (λ v. p (suc v)) (λ v. x (suc v)) (zeros n) a) ∙ tau-zeros (λ v. p (suc v)) (λ v. x (suc v)) n a (omega arith)
 tau-zeros p x (suc n) (suc k ∷ a) h =
     let T : ℤ = tau (λ v. p (suc v)) (λ v. x (suc v)) (zeros n) a in
     ap (λ t. t *ℤ T) (part_zero (p 0) (x 0) (suc k)) ∙ (let z : pos 0 *ℤ T ≡ pos 0 = omega (arith, ints) in z)
 
 -- the first power of a variable, beside other exponents
-one_variable : (q : Bool) (x : ℤ) (k : ℕ) (z : Bool) → part q x 1 k *ℤ (if z then pos 1 else pos 0) ≡ if is_zero_number k && z then x else (if q && (is_one_number k && z) then pos 1 else pos 0)
+one_variable : (q : Bool) (x : ℤ) (k : ℕ) (z : Bool)
+    → part q x 1 k *ℤ (if z then pos 1 else pos 0) ≡ if is_zero_number k && z then x else (if q && (is_one_number k && z) then pos 1 else pos 0)
 one_variable true x zero true = omega (arith, ints)
 one_variable true x zero false = omega (arith, ints)
 one_variable true x (suc zero) true = omega (arith, ints)
@@ -193,25 +201,37 @@ shifted p x a f = sum_over (λ t. t.factor *ℤ tau p x t.exponents a) f
 -- the coefficient of the other sign
 pub shifted-negated : (p : ℕ → Bool) (x : ℕ → ℤ) (a : List ℕ) (f : List Term) → shifted p x a (negated f) ≡ neg_ℤ (shifted p x a f)
 shifted-negated p x a [] = refl
-shifted-negated p x a (t ∷ f) = omega (arith, ints, shifted-negated p x a f, mul_comm (neg_ℤ t.factor) (tau p x t.exponents a), mul_neg (tau p x t.exponents a) t.factor, mul_comm (tau p x t.exponents a) t.factor)
+shifted-negated p x a (t ∷ f) = omega (
+  arith,
+  ints,
+  shifted-negated p x a f,
+  mul_comm (neg_ℤ t.factor) (tau p x t.exponents a),
+  mul_neg (tau p x t.exponents a) t.factor,
+  mul_comm (tau p x t.exponents a) t.factor,
+)
 
 module _ (p : ℕ → Bool) (x : ℕ → ℤ) where
   -- the coefficient of a product with a term
-  shifted-times_term : (a : List ℕ) (t : Term) (g : List Term) → length t.exponents ≡ length a → Over (length a) g → shifted p x a (times_term t g) ≡ sum_splits a (λ b c. (t.factor *ℤ tau p x t.exponents b) *ℤ shifted p x c g)
-  shifted-times_term a t [] e h = sym (sum_splits-zero a) ∙ sum_splits-same a (λ b c. pos 0) (λ b c. (t.factor *ℤ tau p x t.exponents b) *ℤ pos 0) (λ b c. omega (arith, ints))
+  shifted-times_term : (a : List ℕ) (t : Term) (g : List Term) → length t.exponents ≡ length a → Over (length a) g
+      → shifted p x a (times_term t g) ≡ sum_splits a (λ b c. (t.factor *ℤ tau p x t.exponents b) *ℤ shifted p x c g)
+  shifted-times_term a t [] e h =
+      sym (sum_splits-zero a) ∙ sum_splits-same a (λ b c. pos 0) (λ b c. (t.factor *ℤ tau p x t.exponents b) *ℤ pos 0) (λ b c. omega (arith, ints))
   shifted-times_term a t (s ∷ g) e h =
       let w : List ℕ → ℤ = λ b. t.factor *ℤ tau p x t.exponents b in
       let first : (t.factor *ℤ s.factor) *ℤ tau p x (plus t.exponents s.exponents) a ≡ sum_splits a (λ b c. w b *ℤ (s.factor *ℤ tau p x s.exponents c)) =
       ap (λ z. (t.factor *ℤ s.factor) *ℤ z) (tau_plus p x t.exponents s.exponents a e h.0)
       ∙ sym (sum_splits-scale a (t.factor *ℤ s.factor) (λ b c. tau p x t.exponents b *ℤ tau p x s.exponents c))
-      ∙ sum_splits-same a (λ b c. (t.factor *ℤ s.factor) *ℤ (tau p x t.exponents b *ℤ tau p x s.exponents c)) (λ b c. w b *ℤ (s.factor *ℤ tau p x s.exponents c)) (λ b c. four t.factor s.factor (tau p x t.exponents b) (tau p x s.exponents c)) in
+      ∙ sum_splits-same a (λ b c. (t.factor *ℤ s.factor) *ℤ (tau p x t.exponents b *ℤ tau p x s.exponents c))
+      (λ b c. w b *ℤ (s.factor *ℤ tau p x s.exponents c)) (λ b c. four t.factor s.factor (tau p x t.exponents b) (tau p x s.exponents c)) in
       ap (λ z. z +ℤ shifted p x a (times_term t g)) first
       ∙ ap (λ z. sum_splits a (λ b c. w b *ℤ (s.factor *ℤ tau p x s.exponents c)) +ℤ z) (shifted-times_term a t g e h.1)
       ∙ sym (sum_splits-add a (λ b c. w b *ℤ (s.factor *ℤ tau p x s.exponents c)) (λ b c. w b *ℤ shifted p x c g))
-      ∙ sum_splits-same a (λ b c. w b *ℤ (s.factor *ℤ tau p x s.exponents c) +ℤ w b *ℤ shifted p x c g) (λ b c. w b *ℤ shifted p x c (s ∷ g)) (λ b c. sym (mul_add (w b) (s.factor *ℤ tau p x s.exponents c) (shifted p x c g)))
+      ∙ sum_splits-same a (λ b c. w b *ℤ (s.factor *ℤ tau p x s.exponents c) +ℤ w b *ℤ shifted p x c g) (λ b c. w b *ℤ shifted p x c (s ∷ g))
+      (λ b c. sym (mul_add (w b) (s.factor *ℤ tau p x s.exponents c) (shifted p x c g)))
 
   -- the coefficient of a product is the sum over all splits
-  pub shifted-times : (a : List ℕ) (f g : List Term) → Over (length a) f → Over (length a) g → shifted p x a (times f g) ≡ sum_splits a (λ b c. shifted p x b f *ℤ shifted p x c g)
+  pub shifted-times : (a : List ℕ) (f g : List Term) → Over (length a) f → Over (length a) g
+      → shifted p x a (times f g) ≡ sum_splits a (λ b c. shifted p x b f *ℤ shifted p x c g)
   shifted-times a [] g h k = sym (sum_splits-zero a) ∙ sum_splits-same a (λ b c. pos 0) (λ b c. pos 0 *ℤ shifted p x c g) (λ b c. omega (arith, ints))
   shifted-times a (t ∷ f) g h k =
       let w : List ℕ → ℤ = λ b. t.factor *ℤ tau p x t.exponents b in
@@ -220,4 +240,11 @@ module _ (p : ℕ → Bool) (x : ℕ → ℤ) where
       ∙ ap (λ z. sum_splits a (λ b c. w b *ℤ shifted p x c g) +ℤ z) (shifted-times a f g h.1 k)
       ∙ sym (sum_splits-add a (λ b c. w b *ℤ shifted p x c g) (λ b c. shifted p x b f *ℤ shifted p x c g))
       ∙ sum_splits-same a (λ b c. w b *ℤ shifted p x c g +ℤ shifted p x b f *ℤ shifted p x c g) (λ b c. shifted p x b (t ∷ f) *ℤ shifted p x c g)
-      (λ b c. omega (arith, ints, mul_comm (w b) (shifted p x c g), mul_comm (shifted p x b f) (shifted p x c g), mul_add (shifted p x c g) (w b) (shifted p x b f), mul_comm (shifted p x c g) (w b +ℤ shifted p x b f)))
+      (λ b c. omega (
+        arith,
+        ints,
+        mul_comm (w b) (shifted p x c g),
+        mul_comm (shifted p x b f) (shifted p x c g),
+        mul_add (shifted p x c g) (w b) (shifted p x b f),
+        mul_comm (shifted p x c g) (w b +ℤ shifted p x b f),
+      ))

@@ -25,24 +25,28 @@ sum_parts-assoc (suc n) f =
     )
 
 -- the two sums change places
-pub sum_splits-parts : (a : List ℕ) (n : ℕ) (f : ℕ → ℕ → List ℕ → List ℕ → ℤ) → sum_splits a (λ b c. sum_parts n (λ i j. f i j b c)) ≡ sum_parts n (λ i j. sum_splits a (f i j))
+pub sum_splits-parts : (a : List ℕ) (n : ℕ) (f : ℕ → ℕ → List ℕ → List ℕ → ℤ)
+    → sum_splits a (λ b c. sum_parts n (λ i j. f i j b c)) ≡ sum_parts n (λ i j. sum_splits a (f i j))
 sum_splits-parts a zero f = refl
 sum_splits-parts a (suc n) f =
     sum_splits-add a (f 0 (suc n)) (λ b c. sum_parts n (λ i j. f (suc i) j b c))
     ∙ ap (λ z. sum_splits a (f 0 (suc n)) +ℤ z) (sum_splits-parts a n (λ i j. f (suc i) j))
 
 -- the two ways to sum over a vector as a sum of three
-sum_splits-assoc : (a : List ℕ) (f : List ℕ → List ℕ → List ℕ → ℤ) → sum_splits a (λ b c. sum_splits b (λ d e. f d e c)) ≡ sum_splits a (λ d r. sum_splits r (λ e c. f d e c))
+sum_splits-assoc : (a : List ℕ) (f : List ℕ → List ℕ → List ℕ → ℤ)
+    → sum_splits a (λ b c. sum_splits b (λ d e. f d e c)) ≡ sum_splits a (λ d r. sum_splits r (λ e c. f d e c))
 sum_splits-assoc [] f = refl
 sum_splits-assoc (n ∷ a) f =
     let left : ℕ → ℕ → ℕ → ℤ = λ u v j. sum_splits a (λ b c. sum_splits b (λ d e. f (u ∷ d) (v ∷ e) (j ∷ c))) in
     let right : ℕ → ℕ → ℕ → ℤ = λ u v j. sum_splits a (λ d r. sum_splits r (λ e c. f (u ∷ d) (v ∷ e) (j ∷ c))) in
-    sum_parts-same n (λ i j. sum_splits a (λ b c. sum_parts i (λ u v. sum_splits b (λ d e. f (u ∷ d) (v ∷ e) (j ∷ c))))) (λ i j. sum_parts i (λ u v. left u v j))
+    sum_parts-same n (λ i j. sum_splits a (λ b c. sum_parts i (λ u v. sum_splits b (λ d e. f (u ∷ d) (v ∷ e) (j ∷ c)))))
+    (λ i j. sum_parts i (λ u v. left u v j))
     (λ i j. sum_splits-parts a i (λ u v b c. sum_splits b (λ d e. f (u ∷ d) (v ∷ e) (j ∷ c))))
     ∙ sum_parts-same n (λ i j. sum_parts i (λ u v. left u v j)) (λ i j. sum_parts i (λ u v. right u v j))
     (λ i j. sum_parts-same i (λ u v. left u v j) (λ u v. right u v j) (λ u v. sum_splits-assoc a (λ d e c. f (u ∷ d) (v ∷ e) (j ∷ c))))
     ∙ sum_parts-assoc n right
-    ∙ sum_parts-same n (λ u r. sum_parts r (λ v j. right u v j)) (λ u r. sum_splits a (λ d s. sum_parts r (λ v j. sum_splits s (λ e c. f (u ∷ d) (v ∷ e) (j ∷ c)))))
+    ∙ sum_parts-same n (λ u r. sum_parts r (λ v j. right u v j))
+    (λ u r. sum_splits a (λ d s. sum_parts r (λ v j. sum_splits s (λ e c. f (u ∷ d) (v ∷ e) (j ∷ c)))))
     (λ u r. sym (sum_splits-parts a r (λ v j d s. sum_splits s (λ e c. f (u ∷ d) (v ∷ e) (j ∷ c)))))
 
 -- ---- the ring of series
@@ -76,9 +80,11 @@ sum_parts-last (suc n) g = omega (arith, ints, sum_parts-last n (λ i. g (suc i)
 sum_splits-last : (a : List ℕ) (g : List ℕ → ℤ) → sum_splits a (λ b c. if is_zero c then g b else pos 0) ≡ g a
 sum_splits-last [] g = refl
 sum_splits-last (n ∷ a) g =
-    sum_parts-same n (λ i j. sum_splits a (λ b c. if is_zero_number j && is_zero c then g (i ∷ b) else pos 0)) (λ i j. if is_zero_number j then g (i ∷ a) else pos 0) (λ i j. by_case i (is_zero_number j) (sum_splits-last a (λ b. g (i ∷ b))))
+    sum_parts-same n (λ i j. sum_splits a (λ b c. if is_zero_number j && is_zero c then g (i ∷ b) else pos 0))
+    (λ i j. if is_zero_number j then g (i ∷ a) else pos 0) (λ i j. by_case i (is_zero_number j) (sum_splits-last a (λ b. g (i ∷ b))))
     ∙ sum_parts-last n (λ i. g (i ∷ a)) where
-      by_case : (i : ℕ) (z : Bool) → sum_splits a (λ b c. if is_zero c then g (i ∷ b) else pos 0) ≡ g (i ∷ a) → sum_splits a (λ b c. if z && is_zero c then g (i ∷ b) else pos 0) ≡ if z then g (i ∷ a) else pos 0
+      by_case : (i : ℕ) (z : Bool) → sum_splits a (λ b c. if is_zero c then g (i ∷ b) else pos 0) ≡ g (i ∷ a)
+          → sum_splits a (λ b c. if z && is_zero c then g (i ∷ b) else pos 0) ≡ if z then g (i ∷ a) else pos 0
       by_case i true ih = ih
       by_case i false ih = sum_splits-zero a
 
@@ -113,14 +119,16 @@ product_of-ways (f ∷ fs) a =
     ∙ sym (sum_ways (product_at (f ∷ fs)) (length fs) a)
 
 -- the product of trees, grouped to the left, has the coefficients of the product of series
-multiplied-product_of : (p : ℕ → Bool) (x : ℕ → ℤ) (e : Tree) (es : List Tree) (a : List ℕ) → coefficient p x (multiplied e es) a ≡ product_of (map (coefficient p x) (e ∷ es)) a
+multiplied-product_of : (p : ℕ → Bool) (x : ℕ → ℤ) (e : Tree) (es : List Tree) (a : List ℕ)
+    → coefficient p x (multiplied e es) a ≡ product_of (map (coefficient p x) (e ∷ es)) a
 multiplied-product_of p x e [] a = sym (product-one (coefficient p x e) a)
 multiplied-product_of p x e (f ∷ fs) a =
     multiplied-product_of p x (Mul e f) fs a
     ∙ product-assoc (coefficient p x e) (coefficient p x f) (product_of (map (coefficient p x) fs)) a
 
 -- the coefficient of a product of factors is the sum over all ways
-pub factors-ways : (p : ℕ → Bool) (x : ℕ → ℤ) (e : Tree) (es : List Tree) (a : List ℕ) → coefficient p x (multiplied e es) a ≡ sum_over (product_at (map (coefficient p x) (e ∷ es))) (ways (length (e ∷ es)) a)
+pub factors-ways : (p : ℕ → Bool) (x : ℕ → ℤ) (e : Tree) (es : List Tree) (a : List ℕ)
+    → coefficient p x (multiplied e es) a ≡ sum_over (product_at (map (coefficient p x) (e ∷ es))) (ways (length (e ∷ es)) a)
 factors-ways p x e es a =
     multiplied-product_of p x e es a
     ∙ product_of-ways (map (coefficient p x) (e ∷ es)) a

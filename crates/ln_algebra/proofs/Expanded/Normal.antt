@@ -1,5 +1,6 @@
 -- Lists of terms with the same coefficients have the same sums.
-use Rattle.std.proofs.Common.{◌≡◌, ℕ, ◌≤◌, zero, suc, refl, sym, ◌∙◌, ap, arith, List, [], ◌∷◌, ◌++◌, length, Bool, true, false, ◌&&◌, if◌then◌else◌, eqb, ◌⊎◌, inl, inr}
+use Rattle.std.proofs.Common.{◌≡◌, ℕ, ◌≤◌, zero, suc, refl, sym, ◌∙◌, ap, arith, List, [], ◌∷◌, ◌++◌, length, Bool, true, false, ◌&&◌}
+use Rattle.std.proofs.Common.{if◌then◌else◌, eqb, ◌⊎◌, inl, inr}
 use Rattle.std.proofs.lemmas.Int.{ints}
 use Rattle.std.proofs.lemmas.Bool.Decides.{nat_tests}
 use Rattle.std.proofs.lemmas.Grind.{common_steps}
@@ -104,12 +105,26 @@ total h f = sum_over (λ t. t.factor *ℤ h t.exponents) f
 -- they aren't more
 length-without : (m : List ℕ) (f : List Term) → length (without m f) ≤ length f
 length-without m [] = omega arith
-length-without m (t ∷ f) = elim (same_vector t.exponents m) as (λ b. length (if b then without m f else (t ∷ without m f)) ≤ length (t ∷ f)) [ true ↦ omega (arith, length-without m f) | false ↦ omega (arith, length-without m f) ]
+length-without m (t ∷ f) = elim (same_vector t.exponents m) as (λ b. length (if b then without m f else (t ∷ without m f)) ≤ length (t ∷ f)) [
+  | true ↦ omega (arith, length-without m f)
+  | false ↦ omega (arith, length-without m f)
+]
 
 -- one term more, by its vector
-total-without-by : (h : List ℕ → ℤ) (m : List ℕ) (t : Term) (f : List Term) (b : Bool) → same_vector t.exponents m ≡ b → total h f ≡ factor_at f m *ℤ h m +ℤ total h (without m f) → total h (t ∷ f) ≡ factor_at (t ∷ f) m *ℤ h m +ℤ total h (without m (t ∷ f))
-total-without-by h m t f true e ih = rw e (omega (arith, ints, ih, ap (λ z. t.factor *ℤ h z) (same_vector-is t.exponents m e), mul_comm (t.factor +ℤ factor_at f m) (h m), mul_add (h m) t.factor (factor_at f m), mul_comm t.factor (h m), mul_comm (factor_at f m) (h m)))
-total-without-by h m t f false e ih = rw e (omega (arith, ints, ih, ap (λ z. z *ℤ h m) (let z : pos 0 +ℤ factor_at f m ≡ factor_at f m = omega (arith, ints) in z)))
+total-without-by : (h : List ℕ → ℤ) (m : List ℕ) (t : Term) (f : List Term) (b : Bool) → same_vector t.exponents m ≡ b
+    → total h f ≡ factor_at f m *ℤ h m +ℤ total h (without m f) → total h (t ∷ f) ≡ factor_at (t ∷ f) m *ℤ h m +ℤ total h (without m (t ∷ f))
+total-without-by h m t f true e ih = rw e (omega (
+  arith,
+  ints,
+  ih,
+  ap (λ z. t.factor *ℤ h z) (same_vector-is t.exponents m e),
+  mul_comm (t.factor +ℤ factor_at f m) (h m),
+  mul_add (h m) t.factor (factor_at f m),
+  mul_comm t.factor (h m),
+  mul_comm (factor_at f m) (h m),
+))
+total-without-by h m t f false e ih =
+    rw e (omega (arith, ints, ih, ap (λ z. z *ℤ h m) (let z : pos 0 +ℤ factor_at f m ≡ factor_at f m = omega (arith, ints) in z)))
 
 -- a sum is the part at m and the rest
 total-without : (h : List ℕ → ℤ) (m : List ℕ) (f : List Term) → total h f ≡ factor_at f m *ℤ h m +ℤ total h (without m f)
@@ -117,7 +132,8 @@ total-without h m [] = omega (arith, ints)
 total-without h m (t ∷ f) = total-without-by h m t f (same_vector t.exponents m) refl (total-without h m f)
 
 -- one term more, by its vector
-without-same-by : (m : List ℕ) (t : Term) (f : List Term) (b : Bool) → same_vector t.exponents m ≡ b → factor_at (without m f) m ≡ pos 0 → factor_at (without m (t ∷ f)) m ≡ pos 0
+without-same-by : (m : List ℕ) (t : Term) (f : List Term) (b : Bool) → same_vector t.exponents m ≡ b → factor_at (without m f) m ≡ pos 0
+    → factor_at (without m (t ∷ f)) m ≡ pos 0
 without-same-by m t f true e ih = rw e ih
 without-same-by m t f false e ih = rw e (rw e (omega (arith, ints, ih)))
 
@@ -127,7 +143,8 @@ without-same m [] = refl
 without-same m (t ∷ f) = without-same-by m t f (same_vector t.exponents m) refl (without-same m f)
 
 -- one term more, by its vector
-without-other-by : (m k : List ℕ) (t : Term) (f : List Term) (b : Bool) → same_vector t.exponents m ≡ b → same_vector m k ≡ false → factor_at (without m f) k ≡ factor_at f k → factor_at (without m (t ∷ f)) k ≡ factor_at (t ∷ f) k
+without-other-by : (m k : List ℕ) (t : Term) (f : List Term) (b : Bool) → same_vector t.exponents m ≡ b → same_vector m k ≡ false
+    → factor_at (without m f) k ≡ factor_at f k → factor_at (without m (t ∷ f)) k ≡ factor_at (t ∷ f) k
 without-other-by m k t f true d e ih =
     let s : same_vector t.exponents k ≡ false = ap (λ z. same_vector z k) (same_vector-is t.exponents m d) ∙ e in
     rw d (rw s (omega (arith, ints, ih)))
@@ -166,12 +183,14 @@ factor_at-negated (t ∷ f) k = omega (arith, ints, factor_at-negated f k, choos
 -- the sum of the other sign
 total-negated : (h : List ℕ → ℤ) (f : List Term) → total h (negated f) ≡ neg_ℤ (total h f)
 total-negated h [] = refl
-total-negated h (t ∷ f) = omega (arith, ints, total-negated h f, mul_comm (neg_ℤ t.factor) (h t.exponents), mul_neg (h t.exponents) t.factor, mul_comm (h t.exponents) t.factor)
+total-negated h (t ∷ f) =
+    omega (arith, ints, total-negated h f, mul_comm (neg_ℤ t.factor) (h t.exponents), mul_neg (h t.exponents) t.factor, mul_comm (h t.exponents) t.factor)
 
 -- two lists of terms with the same coefficients have the same sums
 pub total-same : (h : List ℕ → ℤ) (f g : List Term) → ((k : List ℕ) → factor_at f k ≡ factor_at g k) → total h f ≡ total h g
 total-same h f g e =
-    let z : total h (f ++ negated g) ≡ pos 0 = total-zero h (length (f ++ negated g)) (f ++ negated g) (omega arith) (λ k. omega (arith, ints, e k, factor_at-negated g k, sum_over-append (λ t. if same_vector t.exponents k then t.factor else pos 0) f (negated g))) in
+    let z : total h (f ++ negated g) ≡ pos 0 = total-zero h (length (f ++ negated g)) (f ++ negated g) (omega arith)
+    (λ k. omega (arith, ints, e k, factor_at-negated g k, sum_over-append (λ t. if same_vector t.exponents k then t.factor else pos 0) f (negated g))) in
     omega (arith, ints, z, total-negated h g, sum_over-append (λ t. t.factor *ℤ h t.exponents) f (negated g))
 
 -- ---- a sum that reads only some vectors
@@ -186,7 +205,8 @@ pub zero_cases : (z : ℤ) → (z ≡ pos 0) ⊎ (z ≡ pos 0 → ⊥)
 zero_cases z = zero-or_not z
 
 -- a product of 0 stays 0
-without-product : (h : List ℕ → ℤ) (m k : List ℕ) (f : List Term) → factor_at f k *ℤ h k ≡ pos 0 → (b : Bool) → same_vector m k ≡ b → factor_at (without m f) k *ℤ h k ≡ pos 0
+without-product : (h : List ℕ → ℤ) (m k : List ℕ) (f : List Term) → factor_at f k *ℤ h k ≡ pos 0 → (b : Bool) → same_vector m k ≡ b
+    → factor_at (without m f) k *ℤ h k ≡ pos 0
 without-product h m k f y true e =
     let z : pos 0 *ℤ h k ≡ pos 0 = omega (arith, ints) in
     ap (λ u. u *ℤ h k) (ap (factor_at (without m f)) (sym (same_vector-is m k e)) ∙ without-same m f) ∙ z
@@ -205,7 +225,8 @@ total-none h (suc n) (t ∷ f) l z =
     total-without h m (t ∷ f) ∙ ap (λ y. y +ℤ total h g) (z m) ∙ ap (λ y. pos 0 +ℤ y) rest
 
 -- where that holds at all vectors but m, the sum is its term at m
-pub total-one : (h : List ℕ → ℤ) (m : List ℕ) (f : List Term) → ((k : List ℕ) → same_vector m k ≡ false → factor_at f k *ℤ h k ≡ pos 0) → total h f ≡ factor_at f m *ℤ h m
+pub total-one : (h : List ℕ → ℤ) (m : List ℕ) (f : List Term) → ((k : List ℕ) → same_vector m k ≡ false → factor_at f k *ℤ h k ≡ pos 0)
+    → total h f ≡ factor_at f m *ℤ h m
 total-one h m f z =
     let rest : total h (without m f) ≡ pos 0 = total-none h (length (without m f)) (without m f) (omega arith) (λ k. by_case k (same_vector m k) refl) in
     omega (arith, ints, total-without h m f, rest) where

@@ -40,7 +40,8 @@ sum_over-zero [] = refl
 sum_over-zero (x ∷ xs) = omega (arith, ints, sum_over-zero xs)
 
 -- two sums change places
-pub sum_over-swap : {A B : Type 0} (f : A → B → ℤ) (xs : List A) (ys : List B) → sum_over (λ x. sum_over (f x) ys) xs ≡ sum_over (λ y. sum_over (λ x. f x y) xs) ys
+pub sum_over-swap : {A B : Type 0} (f : A → B → ℤ) (xs : List A) (ys : List B)
+    → sum_over (λ x. sum_over (f x) ys) xs ≡ sum_over (λ y. sum_over (λ x. f x y) xs) ys
 sum_over-swap f [] ys = sym (sum_over-zero ys)
 sum_over-swap f (x ∷ xs) ys = ap (λ t. sum_over (f x) ys +ℤ t) (sum_over-swap f xs ys) ∙ sym (sum_over-add (f x) (λ y. sum_over (λ x. f x y) xs) ys)
 
@@ -61,7 +62,8 @@ sum_parts_is zero f = omega (arith, ints)
 sum_parts_is (suc n) f = ap (λ t. f 0 (suc n) +ℤ t) (sum_over-map (λ p. f p.0 p.1) (λ p. (suc p.0, p.1)) (parts n) ∙ sum_parts_is n (λ i j. f (suc i) j))
 
 -- the sum over joined parts is a sum of sums
-sum_joined : (f : List ℕ → List ℕ → ℤ) (ps : List (ℕ × ℕ)) (rest : List (List ℕ × List ℕ)) → sum_over (λ s. f s.0 s.1) (joined ps rest) ≡ sum_over (λ p. sum_over (λ s. f (p.0 ∷ s.0) (p.1 ∷ s.1)) rest) ps
+sum_joined : (f : List ℕ → List ℕ → ℤ) (ps : List (ℕ × ℕ)) (rest : List (List ℕ × List ℕ))
+    → sum_over (λ s. f s.0 s.1) (joined ps rest) ≡ sum_over (λ p. sum_over (λ s. f (p.0 ∷ s.0) (p.1 ∷ s.1)) rest) ps
 sum_joined f [] rest = refl
 sum_joined f (p ∷ ps) rest =
     sum_over-append (λ s. f s.0 s.1) (map (λ s. (p.0 ∷ s.0, p.1 ∷ s.1)) rest) (joined ps rest)
@@ -73,5 +75,6 @@ pub sum_splits_is : (a : List ℕ) (f : List ℕ → List ℕ → ℤ) → sum_o
 sum_splits_is [] f = omega (arith, ints)
 sum_splits_is (n ∷ a) f =
     sum_joined f (parts n) (splits a)
-    ∙ sum_over-same (λ p. sum_over (λ s. f (p.0 ∷ s.0) (p.1 ∷ s.1)) (splits a)) (λ p. sum_splits a (λ b c. f (p.0 ∷ b) (p.1 ∷ c))) (parts n) (λ p. sum_splits_is a (λ b c. f (p.0 ∷ b) (p.1 ∷ c)))
+    ∙ sum_over-same (λ p. sum_over (λ s. f (p.0 ∷ s.0) (p.1 ∷ s.1)) (splits a)) (λ p. sum_splits a (λ b c. f (p.0 ∷ b) (p.1 ∷ c))) (parts n)
+    (λ p. sum_splits_is a (λ b c. f (p.0 ∷ b) (p.1 ∷ c)))
     ∙ sum_parts_is n (λ i j. sum_splits a (λ b c. f (i ∷ b) (j ∷ c)))

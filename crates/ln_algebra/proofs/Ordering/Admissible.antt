@@ -32,8 +32,13 @@ get_or-plus (n ∷ a) (k ∷ c) (suc v) e = get_or-plus a c v (omega arith)
 
 -- the order is kept where one vector is added to both sides
 pub earlier-plus : (sites : Sites) (a b c : List ℕ) → length a ≡ length c → length b ≡ length c → Earlier sites a b → Earlier sites (plus a c) (plus b c)
-earlier-plus sites a b c i j (v, s, o, l, h) =
-    (v, s, o, omega (arith, l, get_or-plus a c v i, get_or-plus b c v j), λ w r. get_or-plus a c w i ∙ ap (λ z. z + get_or c w 0) (h w r) ∙ sym (get_or-plus b c w j))
+earlier-plus sites a b c i j (v, s, o, l, h) = (
+  v,
+  s,
+  o,
+  omega (arith, l, get_or-plus a c v i, get_or-plus b c v j),
+  λ w r. get_or-plus a c w i ∙ ap (λ z. z + get_or c w 0) (h w r) ∙ sym (get_or-plus b c w j),
+)
 
 -- the vector of zeros is the earliest
 pub zeros-earliest : (n : ℕ) (sites : Sites) → IndicesDiffer sites → (a : List ℕ) → IsOver n sites a → (a ≡ zeros n) ⊎ Earlier sites (zeros n) a
@@ -65,12 +70,14 @@ module _ (n : ℕ) (sites : Sites) (d : IndicesDiffer sites) where
   -- of two vectors that differ one is before by total degree
   graded-total : (a b : List ℕ) → IsOver n sites a → IsOver n sites b → (a ≡ b) ⊎ (GradedEarlier sites a b ⊎ GradedEarlier sites b a)
   graded-total a b o p = by_degree (cases_order (total_degree a) (total_degree b)) where
-    by_order : total_degree a ≡ total_degree b → (a ≡ b) ⊎ (Earlier sites a b ⊎ Earlier sites b a) → (a ≡ b) ⊎ (GradedEarlier sites a b ⊎ GradedEarlier sites b a)
+    by_order : total_degree a ≡ total_degree b → (a ≡ b) ⊎ (Earlier sites a b ⊎ Earlier sites b a)
+        → (a ≡ b) ⊎ (GradedEarlier sites a b ⊎ GradedEarlier sites b a)
     by_order e (inl q) = inl q
     by_order e (inr (inl l)) = inr (inl (inr (e, l)))
     by_order e (inr (inr l)) = inr (inr (inr (sym e, l)))
 
-    by_degree : (total_degree a ≡ total_degree b) ⊎ ((total_degree a < total_degree b) ⊎ (total_degree b < total_degree a)) → (a ≡ b) ⊎ (GradedEarlier sites a b ⊎ GradedEarlier sites b a)
+    by_degree : (total_degree a ≡ total_degree b) ⊎ ((total_degree a < total_degree b) ⊎ (total_degree b < total_degree a))
+        → (a ≡ b) ⊎ (GradedEarlier sites a b ⊎ GradedEarlier sites b a)
     by_degree (inl e) = by_order e (earlier-total sites d n a b o p)
     by_degree (inr (inl l)) = inr (inl (inl l))
     by_degree (inr (inr l)) = inr (inr (inl l))
@@ -78,7 +85,8 @@ module _ (n : ℕ) (sites : Sites) (d : IndicesDiffer sites) where
   -- the vector of zeros is the first by total degree
   graded-zero : (a : List ℕ) → IsOver n sites a → (a ≡ zeros n) ⊎ GradedEarlier sites (zeros n) a
   graded-zero a o = by_case (zeros-earliest n sites d a o) (cases_order 0 (total_degree a)) where
-    by_case : (a ≡ zeros n) ⊎ Earlier sites (zeros n) a → (0 ≡ total_degree a) ⊎ ((0 < total_degree a) ⊎ (total_degree a < 0)) → (a ≡ zeros n) ⊎ GradedEarlier sites (zeros n) a
+    by_case : (a ≡ zeros n) ⊎ Earlier sites (zeros n) a → (0 ≡ total_degree a) ⊎ ((0 < total_degree a) ⊎ (total_degree a < 0))
+        → (a ≡ zeros n) ⊎ GradedEarlier sites (zeros n) a
     by_case (inl q) c = inl q
     by_case (inr l) (inl e) = inr (inr (degree-zeros n ∙ e, l))
     by_case (inr l) (inr (inl k)) = inr (inl (omega (arith, degree-zeros n, k)))

@@ -1,5 +1,6 @@
 -- Where any coefficient isn't 0 there is a first vector, in any order of infinitesimals.
-use Rattle.std.proofs.Common.{◌≡◌, ◌≢◌, ℕ, ◌+◌, ◌<◌, ◌≤◌, zero, suc, refl, sym, ◌∙◌, ap, arith, List, [], ◌∷◌, ◌++◌, map, length, get_or, Bool, true, false, not, ◌&&◌, leb, None, is_some, IsTrue, ◌⊎◌, inl, inr}
+use Rattle.std.proofs.Common.{◌≡◌, ◌≢◌, ℕ, ◌+◌, ◌<◌, ◌≤◌, zero, suc, refl, sym, ◌∙◌, ap, arith, List, [], ◌∷◌, ◌++◌, map, length, get_or}
+use Rattle.std.proofs.Common.{Bool, true, false, not, ◌&&◌, leb, None, is_some, IsTrue, ◌⊎◌, inl, inr}
 use Rattle.std.proofs.lemmas.Bool.{and_parts, cases_eq, cases_lt, leb-true}
 use Rattle.std.proofs.lemmas.List.{get_or_past}
 use Rattle.std.proofs.Math.IntN.{ℤ, pos}
@@ -92,7 +93,8 @@ record Best (before : List ℕ → List ℕ → Type 0) (n : ℕ) (sites : Sites
 
 module _ (n : ℕ) (sites : Sites) (before : List ℕ → List ℕ → Type 0) (order : IsAdmissible n sites before) (x : ℕ → ℤ) (e : Tree) where
   -- a vector more, whose coefficient is 0 or that isn't over the variables of sites
-  best_pass : (a : List ℕ) (xs : List (List ℕ)) → (IsOver n sites a → perturbed sites x e a ≡ pos 0) → AllZero n sites x e xs ⊎ Best before n sites x e xs → AllZero n sites x e (a ∷ xs) ⊎ Best before n sites x e (a ∷ xs)
+  best_pass : (a : List ℕ) (xs : List (List ℕ)) → (IsOver n sites a → perturbed sites x e a ≡ pos 0)
+      → AllZero n sites x e xs ⊎ Best before n sites x e xs → AllZero n sites x e (a ∷ xs) ⊎ Best before n sites x e (a ∷ xs)
   best_pass a xs z (inl all) = inl none where
     none : AllZero n sites x e (a ∷ xs)
     none b (inl q) o = ap (perturbed sites x e) q ∙ z (rw q at o)
@@ -103,7 +105,8 @@ module _ (n : ℕ) (sites : Sites) (before : List ℕ → List ℕ → Type 0) (
     at b (inr i) o l = best.zeros_before b i o l
 
   -- a vector more, whose coefficient isn't 0
-  best_take : (a : List ℕ) (xs : List (List ℕ)) → IsOver n sites a → perturbed sites x e a ≢ pos 0 → AllZero n sites x e xs ⊎ Best before n sites x e xs → Best before n sites x e (a ∷ xs)
+  best_take : (a : List ℕ) (xs : List (List ℕ)) → IsOver n sites a → perturbed sites x e a ≢ pos 0
+      → AllZero n sites x e xs ⊎ Best before n sites x e xs → Best before n sites x e (a ∷ xs)
   best_take a xs o z (inl all) = record { vector = a; over = o; nonzero = z; zeros_before = at } where
     at : (b : List ℕ) → In (a ∷ xs) b → IsOver n sites b → before b a → perturbed sites x e b ≡ pos 0
     at b (inl q) p l = absurd (order.irreflexive a (rw q at l))
@@ -127,7 +130,8 @@ module _ (n : ℕ) (sites : Sites) (before : List ℕ → List ℕ → Type 0) (
   best_of : (xs : List (List ℕ)) → AllZero n sites x e xs ⊎ Best before n sites x e xs
   best_of [] = inl (λ b i o. absurd i)
   best_of (a ∷ xs) = by_case (over_cases n sites a) (zero_cases (perturbed sites x e a)) (best_of xs) where
-    by_case : IsOver n sites a ⊎ (IsOver n sites a → ⊥) → (perturbed sites x e a ≡ pos 0) ⊎ (perturbed sites x e a ≡ pos 0 → ⊥) → AllZero n sites x e xs ⊎ Best before n sites x e xs → AllZero n sites x e (a ∷ xs) ⊎ Best before n sites x e (a ∷ xs)
+    by_case : IsOver n sites a ⊎ (IsOver n sites a → ⊥) → (perturbed sites x e a ≡ pos 0) ⊎ (perturbed sites x e a ≡ pos 0 → ⊥)
+        → AllZero n sites x e xs ⊎ Best before n sites x e xs → AllZero n sites x e (a ∷ xs) ⊎ Best before n sites x e (a ∷ xs)
     by_case (inl o) (inl z) r = best_pass a xs (λ p. z) r
     by_case (inr d) z r = best_pass a xs (λ p. absurd (d p)) r
     by_case (inl o) (inr z) r = inr (best_take a xs o z r)
@@ -135,13 +139,23 @@ module _ (n : ℕ) (sites : Sites) (before : List ℕ → List ℕ → Type 0) (
   -- there is a first vector, or all coefficients over the variables of sites are 0
   pub first-or-zero : ((a : List ℕ) × IsFirstIn before n sites x e a) ⊎ ((b : List ℕ) → IsOver n sites b → perturbed sites x e b ≡ pos 0)
   first-or-zero = by_case (best_of (vectors_up_to n (degree_of e))) where
-    none : AllZero n sites x e (vectors_up_to n (degree_of e)) → (b : List ℕ) → IsOver n sites b → (perturbed sites x e b ≡ pos 0) ⊎ (perturbed sites x e b ≡ pos 0 → ⊥) → perturbed sites x e b ≡ pos 0
+    none : AllZero n sites x e (vectors_up_to n (degree_of e)) → (b : List ℕ) → IsOver n sites b
+        → (perturbed sites x e b ≡ pos 0) ⊎ (perturbed sites x e b ≡ pos 0 → ⊥) → perturbed sites x e b ≡ pos 0
     none all b o (inl z) = z
     none all b o (inr z) = all b (In-vectors n (degree_of e) b o.size (degree-small sites x e b z)) o
 
-    by_case : AllZero n sites x e (vectors_up_to n (degree_of e)) ⊎ Best before n sites x e (vectors_up_to n (degree_of e)) → ((a : List ℕ) × IsFirstIn before n sites x e a) ⊎ ((b : List ℕ) → IsOver n sites b → perturbed sites x e b ≡ pos 0)
+    by_case : AllZero n sites x e (vectors_up_to n (degree_of e)) ⊎ Best before n sites x e (vectors_up_to n (degree_of e))
+        → ((a : List ℕ) × IsFirstIn before n sites x e a) ⊎ ((b : List ℕ) → IsOver n sites b → perturbed sites x e b ≡ pos 0)
     by_case (inl all) = inr (λ b o. none all b o (zero_cases (perturbed sites x e b)))
-    by_case (inr best) = inl (best.vector, record { over = best.over; small = degree-small sites x e best.vector best.nonzero; nonzero = best.nonzero; zero_before = λ c p s l. best.zeros_before c (In-vectors n (degree_of e) c p.size s) p l })
+    by_case (inr best) = inl (
+      best.vector,
+      record {
+        over = best.over;
+        small = degree-small sites x e best.vector best.nonzero;
+        nonzero = best.nonzero;
+        zero_before = λ c p s l. best.zeros_before c (In-vectors n (degree_of e) c p.size s) p l;
+      },
+    )
 
   -- where any coefficient isn't 0 there is a first vector
   pub nonzero-first-in : (b : List ℕ) → IsOver n sites b → perturbed sites x e b ≢ pos 0 → (a : List ℕ) × IsFirstIn before n sites x e a
@@ -157,34 +171,45 @@ covers-degree : (k m : List ℕ) → covers k m ≡ true → (k ≡ m) ⊎ (tota
 covers-degree [] [] c = inl refl
 covers-degree [] (j ∷ m) c = cc
 covers-degree (n ∷ k) [] c = cc
-covers-degree (n ∷ k) (j ∷ m) c = by_case (leb-true j n (and_parts (leb j n) (covers k m) c).0) (cases_eq n j) (covers-degree k m (and_parts (leb j n) (covers k m) c).1) where
-  by_case : j ≤ n → (n ≡ j) ⊎ (n ≡ j → ⊥) → (k ≡ m) ⊎ (total_degree m < total_degree k) → ((n ∷ k) ≡ (j ∷ m)) ⊎ (total_degree (j ∷ m) < total_degree (n ∷ k))
-  by_case l (inl e) (inl q) = inl (ap (λ z. z ∷ k) e ∙ ap (λ z. j ∷ z) q)
-  by_case l (inr d) (inl q) = inr (let r : total_degree k ≡ total_degree m = ap total_degree q in let ne : j < n = elim (cases_lt j n) [ inl s ↦ s | inr s ↦ absurd (d (omega arith)) ] in omega arith)
-  by_case l e (inr s) = inr (omega arith)
+covers-degree (n ∷ k) (j ∷ m) c =
+    by_case (leb-true j n (and_parts (leb j n) (covers k m) c).0) (cases_eq n j) (covers-degree k m (and_parts (leb j n) (covers k m) c).1)
+  where
+    by_case : j ≤ n → (n ≡ j) ⊎ (n ≡ j → ⊥) → (k ≡ m) ⊎ (total_degree m < total_degree k) → ((n ∷ k) ≡ (j ∷ m)) ⊎ (total_degree (j ∷ m) < total_degree (n ∷ k))
+    by_case l (inl e) (inl q) = inl (ap (λ z. z ∷ k) e ∙ ap (λ z. j ∷ z) q)
+    by_case l (inr d) (inl q) = inr (let r : total_degree k ≡ total_degree m = ap total_degree q in
+        let ne : j < n = elim (cases_lt j n) [ inl s ↦ s | inr s ↦ absurd (d (omega arith)) ] in omega arith)
+    by_case l e (inr s) = inr (omega arith)
 
 module _ (n : ℕ) (e : Tree) (below : InputsBelow n e) where
   -- no monomial is above the syntactic degree
   monomial-small : (m : List ℕ) → IsMonomial n e m → total_degree m ≤ degree_of e
-  monomial-small m mono = elim (cases_lt (degree_of e) (total_degree m)) [ inl l ↦ absurd (mono.nonzero (coefficient-above everywhere origin e m l)) | inr l ↦ l ]
+  monomial-small m mono =
+      elim (cases_lt (degree_of e) (total_degree m)) [ inl l ↦ absurd (mono.nonzero (coefficient-above everywhere origin e m l)) | inr l ↦ l ]
 
   -- no other covers m, or one of larger total degree does
-  last_or : (m : List ℕ) → IsMonomial n e m → ((k : List ℕ) → IsMonomial n e k → total_degree m < total_degree k → (a : List ℕ) × IsLast n e a) → (a : List ℕ) × IsLast n e a
+  last_or : (m : List ℕ) → IsMonomial n e m → ((k : List ℕ) → IsMonomial n e k → total_degree m < total_degree k → (a : List ℕ) × IsLast n e a)
+      → (a : List ℕ) × IsLast n e a
   last_or m mono more = by_case (monomial_in n e larger (expanded n e) (Over-expanded n e)) where
     larger : List ℕ → Bool
     larger k = covers k m && not (same_vector k m)
 
     differs : (k : List ℕ) → larger k ≡ true → k ≡ m → ⊥
-    differs k t q = let s : same_vector k m ≡ true = rw q (same_vector-refl m) in let u : not (same_vector k m) ≡ true = (and_parts (covers k m) (not (same_vector k m)) t).1 in (let v : not true ≡ true = rw s at u in cc)
+    differs k t q =
+        let s : same_vector k m ≡ true = rw q (same_vector-refl m) in
+        let u : not (same_vector k m) ≡ true = (and_parts (covers k m) (not (same_vector k m)) t).1 in
+        (let v : not true ≡ true = rw s at u in cc)
 
     up : (k : List ℕ) → IsMonomial n e k → larger k ≡ true → (a : List ℕ) × IsLast n e a
     up k mk t = elim (covers-degree k m (and_parts (covers k m) (not (same_vector k m)) t).0) [ inl q ↦ absurd (differs k t q) | inr l ↦ more k mk l ]
 
-    only : ((k : List ℕ) → normal_coefficient e k ≢ pos 0 → larger k ≡ true → factor_at (expanded n e) k ≡ pos 0) → (k : List ℕ) → IsMonomial n e k → covers k m ≡ true → (b : Bool) → same_vector k m ≡ b → k ≡ m
+    only : ((k : List ℕ) → normal_coefficient e k ≢ pos 0 → larger k ≡ true → factor_at (expanded n e) k ≡ pos 0) → (k : List ℕ)
+        → IsMonomial n e k → covers k m ≡ true → (b : Bool) → same_vector k m ≡ b → k ≡ m
     only h k mk c true s = same_vector-is k m s
-    only h k mk c false s = absurd (mk.nonzero (normal_is n e below k mk.size ∙ h k mk.nonzero (let t : (covers k m && not (same_vector k m)) ≡ true = rw c (rw s refl) in t)))
+    only h k mk c false s =
+        absurd (mk.nonzero (normal_is n e below k mk.size ∙ h k mk.nonzero (let t : (covers k m && not (same_vector k m)) ≡ true = rw c (rw s refl) in t)))
 
-    by_case : ((k : List ℕ) × IsMonomial n e k × (larger k ≡ true)) ⊎ ((k : List ℕ) → normal_coefficient e k ≢ pos 0 → larger k ≡ true → factor_at (expanded n e) k ≡ pos 0) → (a : List ℕ) × IsLast n e a
+    by_case : ((k : List ℕ) × IsMonomial n e k × (larger k ≡ true))
+        ⊎ ((k : List ℕ) → normal_coefficient e k ≢ pos 0 → larger k ≡ true → factor_at (expanded n e) k ≡ pos 0) → (a : List ℕ) × IsLast n e a
     by_case (inl (k, mk, t)) = up k mk t
     by_case (inr h) = (m, record { monomial = mono; only = λ k mk c. only h k mk c (same_vector k m) refl })
 
@@ -201,12 +226,16 @@ module _ (n : ℕ) (e : Tree) (below : InputsBelow n e) where
 over_all : (n : ℕ) (sites : Sites) (a : List ℕ) → ((v : ℕ) → v < n → IsTrue (is_some (sites.site v))) → length a ≡ n → IsOver n sites a
 over_all n sites a all e = record { size = e; of_sites = λ v h. by_case v h (cases_lt v n) } where
   by_case : (v : ℕ) → sites.site v ≡ None → (v < n) ⊎ (n ≤ v) → get_or a v 0 ≡ 0
-  by_case v h (inl l) = let t : IsTrue (is_some (sites.site v)) = all v l in let u : is_some (sites.site v) ≡ false = ap is_some h in (let w : IsTrue false = rw u at t in cc)
+  by_case v h (inl l) =
+      let t : IsTrue (is_some (sites.site v)) = all v l in
+      let u : is_some (sites.site v) ≡ false = ap is_some h in
+      (let w : IsTrue false = rw u at t in cc)
   by_case v h (inr l) = get_or_past a v 0 (omega (arith, e))
 
 module _ (n : ℕ) (sites : Sites) (before : List ℕ → List ℕ → Type 0) (order : IsAdmissible n sites before) (x : ℕ → ℤ) (e : Tree) where
   -- without params there always is one
-  pub all-first-in : InputsBelow n e → ((v : ℕ) → v < n → IsTrue (is_some (sites.site v))) → (m : List ℕ) → IsMonomial n e m → (a : List ℕ) × IsFirstIn before n sites x e a
+  pub all-first-in : InputsBelow n e → ((v : ℕ) → v < n → IsTrue (is_some (sites.site v))) → (m : List ℕ) → IsMonomial n e m
+      → (a : List ℕ) × IsFirstIn before n sites x e a
   all-first-in below all m mono = from_last (monomial-last n e below m mono) where
     from_last : (a : List ℕ) × IsLast n e a → (a : List ℕ) × IsFirstIn before n sites x e a
     from_last (a, last) =
@@ -220,5 +249,6 @@ module _ (n : ℕ) (sites : Sites) (x : ℕ → ℤ) (e : Tree) (differ : Indice
   nonzero-first b = nonzero-first-in n sites (Earlier sites) (earlier-admissible n sites differ) x e b
 
 -- without params there always is one
-pub all-first : (n : ℕ) (sites : Sites) (e : Tree) (x : ℕ → ℤ) (m : List ℕ) → InputsBelow n e → IndicesDiffer sites → ((v : ℕ) → v < n → IsTrue (is_some (sites.site v))) → IsMonomial n e m → (a : List ℕ) × IsFirst n sites x e a
+pub all-first : (n : ℕ) (sites : Sites) (e : Tree) (x : ℕ → ℤ) (m : List ℕ) → InputsBelow n e → IndicesDiffer sites
+    → ((v : ℕ) → v < n → IsTrue (is_some (sites.site v))) → IsMonomial n e m → (a : List ℕ) × IsFirst n sites x e a
 all-first n sites e x m below differ all = all-first-in n sites (Earlier sites) (earlier-admissible n sites differ) x e below all m

@@ -11,7 +11,10 @@ same_site sites v s t a b = let e : Some s ≡ Some t = sym a ∙ b in cc
 
 -- no variable ranks before itself
 pub before-irreflexive : (sites : Sites) (v : ℕ) → RanksBefore sites v v → ⊥
-before-irreflexive sites v (s, t, a, b, inl l) = let e : s ≡ t = same_site sites v s t a b in let f : sites.index s ≡ sites.index t = ap (λ z. sites.index z) e in omega arith
+before-irreflexive sites v (s, t, a, b, inl l) =
+    let e : s ≡ t = same_site sites v s t a b in
+    let f : sites.index s ≡ sites.index t = ap (λ z. sites.index z) e in
+    omega arith
 before-irreflexive sites v (s, t, a, b, inr l) = omega (arith, l.1)
 
 -- ranks go on
@@ -23,7 +26,8 @@ before-transitive sites u v w (r, s, a, b, h) (s', t, c, d, k) = (r, t, a, d, jo
   f : sites.index s ≡ sites.index s'
   f = ap (λ z. sites.index z) e
 
-  join : (sites.index r < sites.index s) ⊎ ((r ≡ s) × (v < u)) → (sites.index s' < sites.index t) ⊎ ((s' ≡ t) × (w < v)) → (sites.index r < sites.index t) ⊎ ((r ≡ t) × (w < u))
+  join : (sites.index r < sites.index s) ⊎ ((r ≡ s) × (v < u)) → (sites.index s' < sites.index t) ⊎ ((s' ≡ t) × (w < v))
+      → (sites.index r < sites.index t) ⊎ ((r ≡ t) × (w < u))
   join (inl x) (inl y) = inl (omega (arith, f))
   join (inl x) (inr y) = inl (omega (arith, f, ap (λ z. sites.index z) y.0))
   join (inr x) (inl y) = inl (omega (arith, f, ap (λ z. sites.index z) x.0))
@@ -37,7 +41,8 @@ before-total sites d v w s t a b = by_index (cases_order (sites.index s) (sites.
   by_number e (inr (inl l)) = inr (inr (t, s, b, a, inr (sym e, l)))
   by_number e (inr (inr l)) = inr (inl (s, t, a, b, inr (e, l)))
 
-  by_index : (sites.index s ≡ sites.index t) ⊎ ((sites.index s < sites.index t) ⊎ (sites.index t < sites.index s)) → (v ≡ w) ⊎ (RanksBefore sites v w ⊎ RanksBefore sites w v)
+  by_index : (sites.index s ≡ sites.index t) ⊎ ((sites.index s < sites.index t) ⊎ (sites.index t < sites.index s))
+      → (v ≡ w) ⊎ (RanksBefore sites v w ⊎ RanksBefore sites w v)
   by_index (inl e) = by_number (d.differ v w s t a b e) (cases_order v w)
   by_index (inr (inl l)) = inr (inl (s, t, a, b, inl l))
   by_index (inr (inr l)) = inr (inr (t, s, b, a, inl l))
@@ -87,10 +92,12 @@ module _ (sites : Sites) (distinct : IndicesDiffer sites) (n : ℕ) (a b : List 
     by_case : (v : ℕ) → (v < k) ⊎ (v ≡ k) → get_or a v 0 ≡ get_or b v 0
     by_case v (inl m) = same v m
     by_case v (inr q) = rw q e
-  found_same k e (inr last) = inr (record { variable = last.variable; site = last.site; of = last.of; differ = last.differ; after = λ w l. by_case w (below_suc k w l) }) where
-    by_case : (w : ℕ) → (w < k) ⊎ (w ≡ k) → RanksBefore sites last.variable w → get_or a w 0 ≡ get_or b w 0
-    by_case w (inl m) r = last.after w m r
-    by_case w (inr q) r = rw q e
+  found_same k e (inr last) =
+      inr (record { variable = last.variable; site = last.site; of = last.of; differ = last.differ; after = λ w l. by_case w (below_suc k w l) })
+    where
+      by_case : (w : ℕ) → (w < k) ⊎ (w ≡ k) → RanksBefore sites last.variable w → get_or a w 0 ≡ get_or b w 0
+      by_case w (inl m) r = last.after w m r
+      by_case w (inr q) r = rw q e
 
   -- variable k differs
   found_differ : (k s : ℕ) → Of sites k s → get_or a k 0 ≢ get_or b k 0 → Found sites a b k → LastDifferent sites a b (suc k)
@@ -114,7 +121,8 @@ module _ (sites : Sites) (distinct : IndicesDiffer sites) (n : ℕ) (a b : List 
     by_rank : (last.variable ≡ k) ⊎ (RanksBefore sites last.variable k ⊎ RanksBefore sites k last.variable) → LastDifferent sites a b (suc k)
     by_rank (inl f) = record { variable = last.variable; site = last.site; of = last.of; differ = last.differ; after = λ w l. equal f w (below_suc k w l) }
     by_rank (inr (inl f)) = record { variable = k; site = s; of = o; differ = d; after = λ w l. here f w (below_suc k w l) }
-    by_rank (inr (inr f)) = record { variable = last.variable; site = last.site; of = last.of; differ = last.differ; after = λ w l. there f w (below_suc k w l) }
+    by_rank (inr (inr f)) =
+        record { variable = last.variable; site = last.site; of = last.of; differ = last.differ; after = λ w l. there f w (below_suc k w l) }
 
   -- one variable more
   found_step : (k : ℕ) → Found sites a b k → Found sites a b (suc k)
@@ -142,7 +150,9 @@ module _ (sites : Sites) (distinct : IndicesDiffer sites) (n : ℕ) (a b : List 
       by_place w (inl l) r = last.after w l r
       by_place w (inr l) r = past w l
 
-      by_size : (get_or a last.variable 0 ≡ get_or b last.variable 0) ⊎ ((get_or a last.variable 0 < get_or b last.variable 0) ⊎ (get_or b last.variable 0 < get_or a last.variable 0)) → Earlier sites a b ⊎ Earlier sites b a
+      by_size : (get_or a last.variable 0 ≡ get_or b last.variable 0)
+          ⊎ ((get_or a last.variable 0 < get_or b last.variable 0) ⊎ (get_or b last.variable 0 < get_or a last.variable 0))
+          → Earlier sites a b ⊎ Earlier sites b a
       by_size (inl e) = absurd (last.differ e)
       by_size (inr (inl l)) = inl (last.variable, last.site, last.of, l, λ w r. by_place w (cases_lt w n) r)
       by_size (inr (inr l)) = inr (last.variable, last.site, last.of, l, λ w r. sym (by_place w (cases_lt w n) r))

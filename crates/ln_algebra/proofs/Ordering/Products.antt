@@ -1,5 +1,6 @@
 -- The first vector of a product is the sum of the factors' first vectors, in any order.
-use Rattle.std.proofs.Common.{◌≡◌, ℕ, ◌+◌, ◌*◌, ◌<◌, ◌≤◌, zero, suc, refl, sym, ◌∙◌, ap, arith, subst, List, [], ◌∷◌, map, length, get_or, true, false, ◌&&◌, ◌⊎◌, inl, inr}
+use Rattle.std.proofs.Common.{◌≡◌, ℕ, ◌+◌, ◌*◌, ◌<◌, ◌≤◌, zero, suc, refl, sym, ◌∙◌, ap, arith, subst, List, [], ◌∷◌, map, length, get_or}
+use Rattle.std.proofs.Common.{true, false, ◌&&◌, ◌⊎◌, inl, inr}
 use Rattle.std.proofs.lemmas.Int.{ints}
 use Rattle.std.proofs.lemmas.Bool.{cases_lt}
 use Rattle.std.proofs.Math.IntN.{ℤ, pos, negsuc, ◌*ℤ◌, neg_ℤ}
@@ -37,7 +38,9 @@ plus-assoc : (a b c : List ℕ) → plus (plus a b) c ≡ plus a (plus b c)
 plus-assoc [] b c = refl
 plus-assoc (x ∷ a) [] c = refl
 plus-assoc (x ∷ a) (y ∷ b) [] = refl
-plus-assoc (x ∷ a) (y ∷ b) (z ∷ c) = let h : (x + y) + z ≡ x + (y + z) = omega arith in ap (λ q. q ∷ plus (plus a b) c) h ∙ ap (λ q. (x + (y + z)) ∷ q) (plus-assoc a b c)
+plus-assoc (x ∷ a) (y ∷ b) (z ∷ c) =
+    let h : (x + y) + z ≡ x + (y + z) = omega arith in
+    ap (λ q. q ∷ plus (plus a b) c) h ∙ ap (λ q. (x + (y + z)) ∷ q) (plus-assoc a b c)
 
 -- adding zeros changes nothing
 plus-zeros : (a : List ℕ) → plus a (zeros (length a)) ≡ a
@@ -60,7 +63,10 @@ plus-left (x ∷ a) (y ∷ v) (z ∷ d) i j e =
 -- ---- vectors over the variables of sites
 -- a sum is over them
 over-plus : (n : ℕ) (sites : Sites) (a b : List ℕ) → IsOver n sites a → IsOver n sites b → IsOver n sites (plus a b)
-over-plus n sites a b o p = record { size = length-plus a b (o.size ∙ sym p.size) ∙ p.size; of_sites = λ v h. get_or-plus a b v (o.size ∙ sym p.size) ∙ omega (arith, o.of_sites v h, p.of_sites v h) }
+over-plus n sites a b o p = record {
+  size = length-plus a b (o.size ∙ sym p.size) ∙ p.size;
+  of_sites = λ v h. get_or-plus a b v (o.size ∙ sym p.size) ∙ omega (arith, o.of_sites v h, p.of_sites v h);
+}
 
 -- so is the first part of a sum
 over-left : (n : ℕ) (sites : Sites) (s u v : List ℕ) → IsOver n sites s → IsSplit s u v → IsOver n sites u
@@ -153,7 +159,8 @@ module _ (n : ℕ) (sites : Sites) (before : List ℕ → List ℕ → Type 0) (
       whole = elim h [ inl q ↦ subst (λ (z : List ℕ). before (plus a v) z) q up | inr k ↦ order.transitive (plus a v) (plus u v) (plus a d) up k ]
 
       shifted : before (plus v a) (plus d a)
-      shifted = subst (λ (z : List ℕ). before z (plus d a)) (plus-comm a v (o.size ∙ sym j.size)) (subst (λ (z : List ℕ). before (plus a v) z) (plus-comm a d (o.size ∙ sym p.size)) whole)
+      shifted = subst (λ (z : List ℕ). before z (plus d a)) (plus-comm a v (o.size ∙ sym j.size))
+          (subst (λ (z : List ℕ). before (plus a v) z) (plus-comm a d (o.size ∙ sym p.size)) whole)
 
     -- before the sum each part is 0
     part-before : (t : List ℕ) → IsOver n sites t → before t (plus a d) → (u v : List ℕ) → IsSplit t u v → f u *ℤ g v ≡ pos 0
@@ -170,7 +177,8 @@ module _ (n : ℕ) (sites : Sites) (before : List ℕ → List ℕ → Type 0) (
       same : u ≡ a → before v d
       same q =
           let m : before (plus a v) (plus a d) = subst (λ (z : List ℕ). before (plus z v) (plus a d)) q k in
-          cancels n sites before order v d a j p o.size (subst (λ (z : List ℕ). before z (plus d a)) (plus-comm a v (o.size ∙ sym j.size)) (subst (λ (z : List ℕ). before (plus a v) z) (plus-comm a d (o.size ∙ sym p.size)) m))
+          cancels n sites before order v d a j p o.size (subst (λ (z : List ℕ). before z (plus d a)) (plus-comm a v (o.size ∙ sym j.size))
+          (subst (λ (z : List ℕ). before (plus a v) z) (plus-comm a d (o.size ∙ sym p.size)) m))
 
       by_order : (u ≡ a) ⊎ (before u a ⊎ before a u) → f u *ℤ g v ≡ pos 0
       by_order (inl q) = right-zero (f u) (g v) (zg v j (same q))
@@ -210,7 +218,8 @@ module _ (n : ℕ) (sites : Sites) (before : List ℕ → List ℕ → Type 0) (
       by_order : (u ≡ a) ⊎ (before u a ⊎ before a u) → f u *ℤ g v ≡ (f a *ℤ g d) *ℤ one_if (same_vector u a && same_vector v d)
       by_order (inl q) = itself q
       by_order (inr (inl m)) = other (λ q. order.irreflexive a (subst (λ (z : List ℕ). before z a) q m)) (left-zero (f u) (g v) (zf u i m))
-      by_order (inr (inr m)) = other (λ q. order.irreflexive a (subst (λ (z : List ℕ). before a z) q m)) (right-zero (f u) (g v) (zg v j (right-before u v i j m (inl s.sum))))
+      by_order (inr (inr m)) = other (λ q. order.irreflexive a (subst (λ (z : List ℕ). before a z) q m))
+          (right-zero (f u) (g v) (zg v j (right-before u v i j m (inl s.sum))))
 
     -- the coefficient at the sum is the product of the two
     pub product-at : product f g (plus a d) ≡ f a *ℤ g d
@@ -224,16 +233,20 @@ module _ (n : ℕ) (sites : Sites) (before : List ℕ → List ℕ → Type 0) (
   -- ---- two factors
   module _ (x : ℕ → ℤ) where
     -- the coefficient at the sum of the first vectors
-    pub times-value : (e f : Tree) (a d : List ℕ) → IsFirstIn before n sites x e a → IsFirstIn before n sites x f d → perturbed sites x (Mul e f) (plus a d) ≡ perturbed sites x e a *ℤ perturbed sites x f d
+    pub times-value : (e f : Tree) (a d : List ℕ) → IsFirstIn before n sites x e a → IsFirstIn before n sites x f d
+        → perturbed sites x (Mul e f) (plus a d) ≡ perturbed sites x e a *ℤ perturbed sites x f d
     times-value e f a d i j = product-at (perturbed sites x e) (perturbed sites x f) a d i.over j.over (zero_before-all x e a i) (zero_before-all x f d j)
 
     -- the sum of the first vectors is the first
-    pub times-first : (e f : Tree) (a d : List ℕ) → IsFirstIn before n sites x e a → IsFirstIn before n sites x f d → IsFirstIn before n sites x (Mul e f) (plus a d)
+    pub times-first : (e f : Tree) (a d : List ℕ) → IsFirstIn before n sites x e a → IsFirstIn before n sites x f d
+        → IsFirstIn before n sites x (Mul e f) (plus a d)
     times-first e f a d i j = record {
       over = over-plus n sites a d i.over j.over;
       small = omega (arith, i.small, j.small, degree-plus a d (i.over.size ∙ sym j.over.size));
-      nonzero = λ z. elim (times-zero (perturbed sites x e a) (perturbed sites x f d) (sym (times-value e f a d i j) ∙ z)) [ inl q ↦ i.nonzero q | inr q ↦ j.nonzero q ];
-      zero_before = λ b o s l. product-before (perturbed sites x e) (perturbed sites x f) a d i.over j.over (zero_before-all x e a i) (zero_before-all x f d j) b o l;
+      nonzero = λ z. elim (times-zero (perturbed sites x e a) (perturbed sites x f d)
+          (sym (times-value e f a d i j) ∙ z)) [ inl q ↦ i.nonzero q | inr q ↦ j.nonzero q ];
+      zero_before =
+          λ b o s l. product-before (perturbed sites x e) (perturbed sites x f) a d i.over j.over (zero_before-all x e a i) (zero_before-all x f d j) b o l;
     }
 
     -- where one factor has no first vector, the product has none
@@ -242,22 +255,32 @@ module _ (n : ℕ) (sites : Sites) (before : List ℕ → List ℕ → Type 0) (
 
     -- so has the product of two
     times-lacks : (e f : Tree) → Lacks e ⊎ Lacks f → Lacks (Mul e f)
-    times-lacks e f h a i = i.nonzero (product_is (perturbed sites x e) (perturbed sites x f) a ∙ sum_splits-on a (λ u v. perturbed sites x e u *ℤ perturbed sites x f v) (λ u v. pos 0) (λ u v s. by_case u v s h) ∙ sum_splits-zero a) where
-      by_case : (u v : List ℕ) → IsSplit a u v → Lacks e ⊎ Lacks f → perturbed sites x e u *ℤ perturbed sites x f v ≡ pos 0
-      by_case u v s (inl k) = left-zero (perturbed sites x e u) (perturbed sites x f v) (no-first-zero n sites before order x e k u (over-left n sites a u v i.over s))
-      by_case u v s (inr k) = right-zero (perturbed sites x e u) (perturbed sites x f v) (no-first-zero n sites before order x f k v (over-right n sites a u v i.over s))
+    times-lacks e f h a i = i.nonzero (product_is (perturbed sites x e) (perturbed sites x f) a
+        ∙ sum_splits-on a (λ u v. perturbed sites x e u *ℤ perturbed sites x f v) (λ u v. pos 0) (λ u v s. by_case u v s h) ∙ sum_splits-zero a)
+      where
+        by_case : (u v : List ℕ) → IsSplit a u v → Lacks e ⊎ Lacks f → perturbed sites x e u *ℤ perturbed sites x f v ≡ pos 0
+        by_case u v s (inl k) =
+            left-zero (perturbed sites x e u) (perturbed sites x f v) (no-first-zero n sites before order x e k u (over-left n sites a u v i.over s))
+        by_case u v s (inr k) =
+            right-zero (perturbed sites x e u) (perturbed sites x f v) (no-first-zero n sites before order x f k v (over-right n sites a u v i.over s))
 
     -- the sign of a product of two
     times-sign : (e f : Tree) (s t : ℤ) → IsSignIn before n sites x e s → IsSignIn before n sites x f t → IsSignIn before n sites x (Mul e f) (s *ℤ t)
     times-sign e f s t (inl (a, i, q)) (inl (d, j, r)) =
-        inl (plus a d, times-first e f a d i j, ap (λ z. z *ℤ t) q ∙ ap (λ z. sign_of (perturbed sites x e a) *ℤ z) r ∙ sym (sign-times (perturbed sites x e a) (perturbed sites x f d)) ∙ ap sign_of (sym (times-value e f a d i j)))
+        inl (
+          plus a d,
+          times-first e f a d i j,
+          ap (λ z. z *ℤ t) q ∙ ap (λ z. sign_of (perturbed sites x e a) *ℤ z) r
+              ∙ sym (sign-times (perturbed sites x e a) (perturbed sites x f d)) ∙ ap sign_of (sym (times-value e f a d i j)),
+        )
     times-sign e f s t (inl i) (inr (k, r)) = inr (times-lacks e f (inr k), right-zero s t r)
     times-sign e f s t (inr (k, q)) j = inr (times-lacks e f (inl k), left-zero s t q)
 
     -- ---- any number of factors
     -- the first vector of a product, and its coefficient
     pub product-first : (e : Tree) (es : List Tree) (as' : List (List ℕ)) → AreFirsts before n sites x (e ∷ es) as' →
-        IsFirstIn before n sites x (multiplied e es) (sum_of n as') × (perturbed sites x (multiplied e es) (sum_of n as') ≡ product_at (map (perturbed sites x) (e ∷ es)) as')
+        IsFirstIn before n sites x (multiplied e es) (sum_of n as')
+        × (perturbed sites x (multiplied e es) (sum_of n as') ≡ product_at (map (perturbed sites x) (e ∷ es)) as')
     product-first e es [] h = absurd h
     product-first e [] (a ∷ b ∷ as') h = absurd h.1
     product-first e [] (a ∷ []) h =
@@ -269,7 +292,8 @@ module _ (n : ℕ) (sites : Sites) (before : List ℕ → List ℕ → Type 0) (
         let q : plus (plus a b) (sum_of n bs) ≡ plus a (plus b (sum_of n bs)) = plus-assoc a b (sum_of n bs) in
         let R : ℤ = product_at (map (perturbed sites x) fs) bs in (
           subst (λ (z : List ℕ). IsFirstIn before n sites x (multiplied (Mul e f) fs) z) q ih.0,
-          ap (perturbed sites x (multiplied (Mul e f) fs)) (sym q) ∙ ih.1 ∙ ap (λ z. z *ℤ R) (times-value e f a b h.0 h.1.0) ∙ mul_assoc (perturbed sites x e a) (perturbed sites x f b) R,
+          ap (perturbed sites x (multiplied (Mul e f) fs)) (sym q) ∙ ih.1 ∙ ap (λ z. z *ℤ R) (times-value e f a b h.0 h.1.0)
+              ∙ mul_assoc (perturbed sites x e a) (perturbed sites x f b) R,
         )
 
     -- where one factor has none, the product has none
@@ -292,17 +316,21 @@ module _ (n : ℕ) (sites : Sites) (before : List ℕ → List ℕ → Type 0) (
       by_case (inl f) (inr k) = inr (inr k)
 
     -- each first vector of a product is such a sum
-    pub product-first-sum : (e : Tree) (es : List Tree) (a : List ℕ) → IsFirstIn before n sites x (multiplied e es) a → (as' : List (List ℕ)) × AreFirsts before n sites x (e ∷ es) as' × (a ≡ sum_of n as')
+    pub product-first-sum : (e : Tree) (es : List Tree) (a : List ℕ) → IsFirstIn before n sites x (multiplied e es) a
+        → (as' : List (List ℕ)) × AreFirsts before n sites x (e ∷ es) as' × (a ≡ sum_of n as')
     product-first-sum e es a i = by_case (firsts-or-one (e ∷ es)) where
-      by_case : ((as' : List (List ℕ)) × AreFirsts before n sites x (e ∷ es) as') ⊎ OneLacksFirst before n sites x (e ∷ es) → (as' : List (List ℕ)) × AreFirsts before n sites x (e ∷ es) as' × (a ≡ sum_of n as')
+      by_case : ((as' : List (List ℕ)) × AreFirsts before n sites x (e ∷ es) as') ⊎ OneLacksFirst before n sites x (e ∷ es)
+          → (as' : List (List ℕ)) × AreFirsts before n sites x (e ∷ es) as' × (a ≡ sum_of n as')
       by_case (inl r) = (r.0, r.1, first-unique-in n sites before order x (multiplied e es) a (sum_of n r.0) i (product-first e es r.0 r.1).0)
       by_case (inr k) = absurd (product-lacks e es k a i)
 
     -- the sign of a product
-    pub product-sign : (e : Tree) (es : List Tree) (ss : List ℤ) → AreSigns before n sites x (e ∷ es) ss → IsSignIn before n sites x (multiplied e es) (multiplied_numbers ss)
+    pub product-sign : (e : Tree) (es : List Tree) (ss : List ℤ) → AreSigns before n sites x (e ∷ es) ss
+        → IsSignIn before n sites x (multiplied e es) (multiplied_numbers ss)
     product-sign e es [] h = absurd h
     product-sign e [] (s ∷ t ∷ ss) h = absurd h.1
     product-sign e [] (s ∷ []) h = subst (λ (z : ℤ). IsSignIn before n sites x e z) (sym (mul_one s)) h.0
     product-sign e (f ∷ fs) (s ∷ []) h = absurd h.1
     product-sign e (f ∷ fs) (s ∷ t ∷ ss) h =
-        subst (λ (z : ℤ). IsSignIn before n sites x (multiplied (Mul e f) fs) z) (mul_assoc s t (multiplied_numbers ss)) (product-sign (Mul e f) fs ((s *ℤ t) ∷ ss) (times-sign e f s t h.0 h.1.0, h.1.1))
+        subst (λ (z : ℤ). IsSignIn before n sites x (multiplied (Mul e f) fs) z) (mul_assoc s t (multiplied_numbers ss))
+        (product-sign (Mul e f) fs ((s *ℤ t) ∷ ss) (times-sign e f s t h.0 h.1.0, h.1.1))

@@ -9,7 +9,10 @@ use Rattle.ln_algebra.specs.Walk.{Member, IsRanked}
 -- a variable is in the list or not
 pub member : (vs : List ℕ) (w : ℕ) → Member vs w ⊎ (Member vs w → ⊥)
 member [] w = inr (λ h. h)
-member (v ∷ vs) w = elim (cases_eq w v) [ inl e ↦ inl (inl e) | inr d ↦ elim (member vs w) [ inl k ↦ inl (inr k) | inr k ↦ inr (λ h. elim h [ inl e ↦ d e | inr i ↦ k i ]) ] ]
+member (v ∷ vs) w = elim (cases_eq w v) [
+  | inl e ↦ inl (inl e)
+  | inr d ↦ elim (member vs w) [ inl k ↦ inl (inr k) | inr k ↦ inr (λ h. elim h [ inl e ↦ d e | inr i ↦ k i ]) ]
+]
 
 -- a and b agree on the variables of sites outside vs
 abbrev SameOff : Sites → List ℕ → List ℕ → List ℕ → Type 0
@@ -29,11 +32,14 @@ lex-earlier sites (v ∷ vs) a b r h (inr l) = lex-earlier sites vs a b r.3 (λ 
   off w s o n (inr d) = h w s o (λ m. elim m [ inl e ↦ d e | inr i ↦ n i ])
 
 -- and the other way
-earlier-lex : (sites : Sites) (vs a b : List ℕ) → IsRanked sites vs → (v s : ℕ) → Of sites v s → Member vs v → get_or a v 0 < get_or b v 0 → ((w : ℕ) → RanksBefore sites v w → get_or a w 0 ≡ get_or b w 0) → Lex vs a b
+earlier-lex : (sites : Sites) (vs a b : List ℕ) → IsRanked sites vs → (v s : ℕ) → Of sites v s → Member vs v → get_or a v 0 < get_or b v 0
+    → ((w : ℕ) → RanksBefore sites v w → get_or a w 0 ≡ get_or b w 0) → Lex vs a b
 earlier-lex sites [] a b r v s o i less h = absurd i
 earlier-lex sites (u ∷ vs) a b r v s o (inl e) less h = inl (rw e at less)
 earlier-lex sites (u ∷ vs) a b r v s o (inr i) less h = inr (h u (r.2 v i), earlier-lex sites vs a b r.3 v s o i less h)
 
 -- along a list of all variables of sites the two orders are one
-pub lex-is : (sites : Sites) (vs a b : List ℕ) → IsRanked sites vs → ((v s : ℕ) → Of sites v s → Member vs v) → (Lex vs a b → Earlier sites a b) × (Earlier sites a b → Lex vs a b)
-lex-is sites vs a b r all = (lex-earlier sites vs a b r (λ w s o n. absurd (n (all w s o))), λ k. earlier-lex sites vs a b r k.0 k.1 k.2 (all k.0 k.1 k.2) k.3 k.4)
+pub lex-is : (sites : Sites) (vs a b : List ℕ) → IsRanked sites vs → ((v s : ℕ) → Of sites v s → Member vs v)
+    → (Lex vs a b → Earlier sites a b) × (Earlier sites a b → Lex vs a b)
+lex-is sites vs a b r all =
+    (lex-earlier sites vs a b r (λ w s o n. absurd (n (all w s o))), λ k. earlier-lex sites vs a b r k.0 k.1 k.2 (all k.0 k.1 k.2) k.3 k.4)

@@ -31,7 +31,8 @@ module _ (n : ℕ) (sites : Sites) (before : List ℕ → List ℕ → Type 0) (
 -- ---- one list in order has given members
 module _ (n : ℕ) (sites : Sites) (before : List ℕ → List ℕ → Type 0) (order : IsAdmissible n sites before) where
   -- two lists in order with the same members are one
-  pub sorted-same : (xs ys : List (List ℕ)) → IsSortedIn before xs → IsSortedIn before ys → ((a : List ℕ) → In xs a → In ys a) → ((a : List ℕ) → In ys a → In xs a) → xs ≡ ys
+  pub sorted-same : (xs ys : List (List ℕ)) → IsSortedIn before xs → IsSortedIn before ys → ((a : List ℕ) → In xs a → In ys a)
+      → ((a : List ℕ) → In ys a → In xs a) → xs ≡ ys
   sorted-same [] [] s t h k = refl
   sorted-same [] (y ∷ ys) s t h k = absurd (k y (inl refl))
   sorted-same (x ∷ xs) [] s t h k = absurd (h x (inl refl))
@@ -55,10 +56,13 @@ module _ (n : ℕ) (sites : Sites) (before : List ℕ → List ℕ → Type 0) (
         up a i (inr j) = j
 
 -- two stage lists are one
-pub stage_list-unique-by : (n : ℕ) (sites : Sites) (before : List ℕ → List ℕ → Type 0) → IsAdmissible n sites before → (M : List ℕ → Type 0) (xs ys : List (List ℕ)) → IsStageListBy before n sites M xs → IsStageListBy before n sites M ys → xs ≡ ys
-stage_list-unique-by n sites before order M xs ys s t = sorted-same n sites before order xs ys s.in_order t.in_order (λ a i. t.all a (s.stages a i)) (λ a i. s.all a (t.stages a i))
+pub stage_list-unique-by : (n : ℕ) (sites : Sites) (before : List ℕ → List ℕ → Type 0) → IsAdmissible n sites before
+    → (M : List ℕ → Type 0) (xs ys : List (List ℕ)) → IsStageListBy before n sites M xs → IsStageListBy before n sites M ys → xs ≡ ys
+stage_list-unique-by n sites before order M xs ys s t =
+    sorted-same n sites before order xs ys s.in_order t.in_order (λ a i. t.all a (s.stages a i)) (λ a i. s.all a (t.stages a i))
 
-pub stage_list-unique-in : (n : ℕ) (sites : Sites) (before : List ℕ → List ℕ → Type 0) → IsAdmissible n sites before → (e : Tree) (xs ys : List (List ℕ)) → IsStageListIn before n sites e xs → IsStageListIn before n sites e ys → xs ≡ ys
+pub stage_list-unique-in : (n : ℕ) (sites : Sites) (before : List ℕ → List ℕ → Type 0) → IsAdmissible n sites before
+    → (e : Tree) (xs ys : List (List ℕ)) → IsStageListIn before n sites e xs → IsStageListIn before n sites e ys → xs ≡ ys
 stage_list-unique-in n sites before order e = stage_list-unique-by n sites before order (IsMonomial n e)
 
 -- ---- by the smallest infinitesimal
@@ -67,30 +71,36 @@ pub first-unique : (n : ℕ) (sites : Sites) (x : ℕ → ℤ) (e : Tree) (a b :
 first-unique n sites x e a b d = first-unique-in n sites (Earlier sites) (earlier-admissible n sites d) x e a b
 
 -- two perturbed signs are one
-pub sign-unique : (n : ℕ) (sites : Sites) (x : ℕ → ℤ) (e : Tree) (s t : ℤ) → IndicesDiffer sites → IsPerturbedSign n sites x e s → IsPerturbedSign n sites x e t → s ≡ t
+pub sign-unique : (n : ℕ) (sites : Sites) (x : ℕ → ℤ) (e : Tree) (s t : ℤ) → IndicesDiffer sites → IsPerturbedSign n sites x e s
+    → IsPerturbedSign n sites x e t → s ≡ t
 sign-unique n sites x e s t d = sign-unique-in n sites (Earlier sites) (earlier-admissible n sites d) x e s t
 
 -- two stage lists are one
-pub stage_list-unique : (n : ℕ) (sites : Sites) (e : Tree) (xs ys : List (List ℕ)) → IndicesDiffer sites → IsStageList n sites e xs → IsStageList n sites e ys → xs ≡ ys
+pub stage_list-unique : (n : ℕ) (sites : Sites) (e : Tree) (xs ys : List (List ℕ)) → IndicesDiffer sites → IsStageList n sites e xs
+    → IsStageList n sites e ys → xs ≡ ys
 stage_list-unique n sites e xs ys d = stage_list-unique-in n sites (Earlier sites) (earlier-admissible n sites d) e xs ys
 
 -- ---- each member once
 -- a list in order has each of its members once
-none_of : (before : List ℕ → List ℕ → Type 0) → ((a : List ℕ) → before a a → ⊥) → (a : List ℕ) (xs : List (List ℕ)) → ((b : List ℕ) → In xs b → before a b) → how_many (λ b. same_vector b a) xs ≡ pos 0
+none_of : (before : List ℕ → List ℕ → Type 0) → ((a : List ℕ) → before a a → ⊥) → (a : List ℕ) (xs : List (List ℕ))
+    → ((b : List ℕ) → In xs b → before a b) → how_many (λ b. same_vector b a) xs ≡ pos 0
 none_of before irreflexive a [] h = refl
 none_of before irreflexive a (x ∷ xs) h = by_case (same_vector x a) refl (none_of before irreflexive a xs (λ b i. h b (inr i))) where
-  by_case : (t : Bool) → same_vector x a ≡ t → how_many (λ b. same_vector b a) xs ≡ pos 0 → (if t then pos 1 else pos 0) +ℤ how_many (λ b. same_vector b a) xs ≡ pos 0
+  by_case : (t : Bool) → same_vector x a ≡ t → how_many (λ b. same_vector b a) xs ≡ pos 0
+      → (if t then pos 1 else pos 0) +ℤ how_many (λ b. same_vector b a) xs ≡ pos 0
   by_case true e ih = absurd (irreflexive a (let q : x ≡ a = same_vector-is x a e in let l : before a x = h x (inl refl) in rw q at l))
   by_case false e ih = omega (arith, ints, ih)
 
 -- a member of a list in order is there once
-pub in_order-once : (before : List ℕ → List ℕ → Type 0) → ((a : List ℕ) → before a a → ⊥) → (xs : List (List ℕ)) (a : List ℕ) → IsSortedIn before xs → In xs a → how_many (λ b. same_vector b a) xs ≡ pos 1
+pub in_order-once : (before : List ℕ → List ℕ → Type 0) → ((a : List ℕ) → before a a → ⊥) → (xs : List (List ℕ)) (a : List ℕ)
+    → IsSortedIn before xs → In xs a → how_many (λ b. same_vector b a) xs ≡ pos 1
 in_order-once before irreflexive [] a s i = absurd i
 in_order-once before irreflexive (x ∷ xs) a s (inl q) =
     let t : same_vector x a ≡ true = rw q (same_vector-refl x) in
     let n : how_many (λ b. same_vector b a) xs ≡ pos 0 = rw q (none_of before irreflexive x xs s.0) in
     rw t (omega (arith, ints, n))
 in_order-once before irreflexive (x ∷ xs) a s (inr i) = by_case (same_vector x a) refl (in_order-once before irreflexive xs a s.1 i) where
-  by_case : (t : Bool) → same_vector x a ≡ t → how_many (λ b. same_vector b a) xs ≡ pos 1 → (if t then pos 1 else pos 0) +ℤ how_many (λ b. same_vector b a) xs ≡ pos 1
+  by_case : (t : Bool) → same_vector x a ≡ t → how_many (λ b. same_vector b a) xs ≡ pos 1
+      → (if t then pos 1 else pos 0) +ℤ how_many (λ b. same_vector b a) xs ≡ pos 1
   by_case true e ih = absurd (irreflexive x (let q : x ≡ a = same_vector-is x a e in let l : before x a = s.0 a i in rw (sym q) at l))
   by_case false e ih = omega (arith, ints, ih)

@@ -33,7 +33,7 @@ length-minus [] a e = refl
 length-minus (n ∷ m) [] e = absurd (omega arith)
 length-minus (n ∷ m) (k ∷ a) e = ap suc (length-minus m a (omega arith))
 
--- adding the difference of two numbers gives the larger back
+-- k plus the difference n - k is n exactly where k is at most n
 eqb-add : (n k : ℕ) → eqb (k + (n - k)) n ≡ leb k n
 eqb-add n k = grind (arith, nat_tests)
 
@@ -41,7 +41,7 @@ eqb-add n k = grind (arith, nat_tests)
 eqb-minus : (n k i : ℕ) → leb k n ≡ true → eqb (n - k) i ≡ eqb n (i + k)
 eqb-minus n k i l = grind (arith, nat_tests)
 
--- adding the difference gives m back exactly where m covers a
+-- a plus the difference is m exactly where m covers a
 plus-minus : (m a : List ℕ) → length m ≡ length a → same_vector (plus a (minus m a)) m ≡ covers m a
 plus-minus [] [] e = refl
 plus-minus [] (k ∷ a) e = absurd (omega arith)
@@ -71,11 +71,13 @@ split-first bound a u v s true e =
     rw t refl
 
 -- each covered vector is there once, and no other
-pub covered_by-once : (bound a : List ℕ) → length a ≡ length bound → how_many (λ b. same_vector b a) (covered_by bound) ≡ if covers bound a then pos 1 else pos 0
+pub covered_by-once : (bound a : List ℕ) → length a ≡ length bound
+    → how_many (λ b. same_vector b a) (covered_by bound) ≡ if covers bound a then pos 1 else pos 0
 covered_by-once bound a e =
     sum_over-map (λ b. one_if (same_vector b a)) (λ s. s.0) (splits bound)
     ∙ sum_splits_is bound (λ u v. one_if (same_vector u a))
-    ∙ sum_splits-on bound (λ u v. one_if (same_vector u a)) (λ u v. one_if (same_vector u a && same_vector v (minus bound a))) (λ u v s. split-first bound a u v s (same_vector u a) refl)
+    ∙ sum_splits-on bound (λ u v. one_if (same_vector u a)) (λ u v. one_if (same_vector u a && same_vector v (minus bound a)))
+    (λ u v s. split-first bound a u v s (same_vector u a) refl)
     ∙ sym (sum_splits_is bound (λ u v. one_if (same_vector u a && same_vector v (minus bound a))))
     ∙ splits_count bound a (minus bound a) e (length-minus bound a (sym e))
     ∙ ap one_if (plus-minus bound a (sym e))
@@ -83,25 +85,39 @@ covered_by-once bound a e =
 -- ---- the coefficients of a scaled derivative
 
 -- one term more
-derived_step : (t : Term) (f : List Term) (m a : List ℕ) → length t.exponents ≡ length a → length m ≡ length a → factor_at (derived a f) m ≡ factor_at f (plus m a) *ℤ pos (binomials (plus m a) a) → (c : Bool) → covers t.exponents a ≡ c → (b : Bool) → same_vector t.exponents (plus m a) ≡ b → factor_at (derived a (t ∷ f)) m ≡ factor_at (t ∷ f) (plus m a) *ℤ pos (binomials (plus m a) a)
+derived_step : (t : Term) (f : List Term) (m a : List ℕ) → length t.exponents ≡ length a → length m ≡ length a
+    → factor_at (derived a f) m ≡ factor_at f (plus m a) *ℤ pos (binomials (plus m a) a) → (c : Bool) → covers t.exponents a ≡ c → (b : Bool)
+    → same_vector t.exponents (plus m a) ≡ b → factor_at (derived a (t ∷ f)) m ≡ factor_at (t ∷ f) (plus m a) *ℤ pos (binomials (plus m a) a)
 derived_step t f m a e h ih true c true b =
     let q : t.exponents ≡ plus m a = same_vector-is t.exponents (plus m a) b in
     let s : same_vector (minus t.exponents a) m ≡ true = minus-is t.exponents a m e h c ∙ b in
     let B : ℤ = pos (binomials (plus m a) a) in
     let w : pos (binomials t.exponents a) ≡ B = ap (λ z. pos (binomials z a)) q in
-    rw c (rw s (rw b (omega (arith, ints, ih, ap (λ z. t.factor *ℤ z) w, mul_comm (t.factor +ℤ factor_at f (plus m a)) B, mul_add B t.factor (factor_at f (plus m a)), mul_comm B t.factor, mul_comm B (factor_at f (plus m a))))))
+    rw c (rw s (rw b (omega (
+      arith,
+      ints,
+      ih,
+      ap (λ z. t.factor *ℤ z) w,
+      mul_comm (t.factor +ℤ factor_at f (plus m a)) B,
+      mul_add B t.factor (factor_at f (plus m a)),
+      mul_comm B t.factor,
+      mul_comm B (factor_at f (plus m a)),
+    ))))
 derived_step t f m a e h ih true c false b =
     let s : same_vector (minus t.exponents a) m ≡ false = minus-is t.exponents a m e h c ∙ b in
     let B : ℤ = pos (binomials (plus m a) a) in
     let z : pos 0 +ℤ factor_at f (plus m a) ≡ factor_at f (plus m a) = omega (arith, ints) in
     let y : pos 0 +ℤ factor_at (derived a f) m ≡ factor_at (derived a f) m = omega (arith, ints) in
     rw c (rw s (rw b (y ∙ ih ∙ ap (λ u. u *ℤ B) (sym z))))
-derived_step t f m a e h ih false c true b = absurd (let q : t.exponents ≡ plus m a = same_vector-is t.exponents (plus m a) b in let k : covers t.exponents a ≡ true = rw q (covers-plus m a h) in let n : false ≡ true = sym c ∙ k in cc)
+derived_step t f m a e h ih false c true b = absurd (let q : t.exponents ≡ plus m a = same_vector-is t.exponents (plus m a) b in
+    let k : covers t.exponents a ≡ true = rw q (covers-plus m a h) in let n : false ≡ true = sym c ∙ k in cc)
 derived_step t f m a e h ih false c false b =
     let z : pos 0 +ℤ factor_at f (plus m a) ≡ factor_at f (plus m a) = omega (arith, ints) in
     rw c (rw b (ih ∙ ap (λ u. u *ℤ pos (binomials (plus m a) a)) (sym z)))
 
 -- at m it is the coefficient at m + a, times the binomials
-pub factor_at-derived : (a : List ℕ) (f : List Term) (m : List ℕ) → Over (length a) f → length m ≡ length a → factor_at (derived a f) m ≡ factor_at f (plus m a) *ℤ pos (binomials (plus m a) a)
+pub factor_at-derived : (a : List ℕ) (f : List Term) (m : List ℕ) → Over (length a) f → length m ≡ length a
+    → factor_at (derived a f) m ≡ factor_at f (plus m a) *ℤ pos (binomials (plus m a) a)
 factor_at-derived a [] m o e = omega (arith, ints)
-factor_at-derived a (t ∷ f) m o e = derived_step t f m a o.0 e (factor_at-derived a f m o.1 e) (covers t.exponents a) refl (same_vector t.exponents (plus m a)) refl
+factor_at-derived a (t ∷ f) m o e =
+    derived_step t f m a o.0 e (factor_at-derived a f m o.1 e) (covers t.exponents a) refl (same_vector t.exponents (plus m a)) refl

@@ -1,5 +1,6 @@
 -- `ways k a` has each list of k vectors whose sum is a, once, and no other.
-use Rattle.std.proofs.Common.{◌≡◌, ℕ, zero, suc, refl, sym, ◌∙◌, ap, arith, List, [], ◌∷◌, map, length, Bool, true, false, ◌&&◌, if◌then◌else◌, eqb, ◌⊎◌, inl, inr}
+use Rattle.std.proofs.Common.{◌≡◌, ℕ, zero, suc, refl, sym, ◌∙◌, ap, arith, List, [], ◌∷◌, map, length, Bool, true, false, ◌&&◌}
+use Rattle.std.proofs.Common.{if◌then◌else◌, eqb, ◌⊎◌, inl, inr}
 use Rattle.std.proofs.lemmas.Int.{ints}
 use Rattle.std.proofs.lemmas.Bool.{cases_eq}
 use Rattle.std.proofs.lemmas.Bool.Decides.{nat_tests}
@@ -13,8 +14,9 @@ use Rattle.ln_algebra.proofs.Deriving.Taylor.{sum_splits-zero}
 use Rattle.ln_algebra.specs.Vector.{IsWay, OfSize, how_many, is_zero, same_vector, same_vectors, splits, spread, sum_of, sum_over, ways, zeros}
 
 -- ---- sums over all ways
--- the sum over the ways behind each split
-sum_spread : (h : List (List ℕ) → ℤ) (rest : List ℕ → List (List (List ℕ))) (ss : List (List ℕ × List ℕ)) → sum_over h (spread rest ss) ≡ sum_over (λ s. sum_over (λ bs. h (s.0 ∷ bs)) (rest s.1)) ss
+-- the sum over the ways after each split
+sum_spread : (h : List (List ℕ) → ℤ) (rest : List ℕ → List (List (List ℕ))) (ss : List (List ℕ × List ℕ))
+    → sum_over h (spread rest ss) ≡ sum_over (λ s. sum_over (λ bs. h (s.0 ∷ bs)) (rest s.1)) ss
 sum_spread h rest [] = refl
 sum_spread h rest (s ∷ ss) =
     sum_over-append h (map (λ bs. s.0 ∷ bs) (rest s.1)) (spread rest ss)
@@ -49,15 +51,19 @@ length-sum_of n [] o = length-zeros n
 length-sum_of n (b ∷ bs) o = let ih : length (sum_of n bs) ≡ n = length-sum_of n bs o.1 in length-plus b (sum_of n bs) (o.0 ∙ sym ih) ∙ ih
 
 -- the first vector and the others are compared apart
-count-first : (b : List ℕ) (bs : List (List ℕ)) (k : ℕ) (a : List ℕ) → how_many (λ cs. same_vectors cs (b ∷ bs)) (ways (suc k) a) ≡ sum_splits a (λ u r. one_if (same_vector u b) *ℤ how_many (λ cs. same_vectors cs bs) (ways k r))
+count-first : (b : List ℕ) (bs : List (List ℕ)) (k : ℕ) (a : List ℕ) → how_many (λ cs. same_vectors cs (b ∷ bs)) (ways (suc k) a)
+    ≡ sum_splits a (λ u r. one_if (same_vector u b) *ℤ how_many (λ cs. same_vectors cs bs) (ways k r))
 count-first b bs k a =
     sum_ways (λ cs. one_if (same_vectors cs (b ∷ bs))) k a
-    ∙ sum_splits-within a (λ u r. sum_over (λ cs. one_if (same_vector u b && same_vectors cs bs)) (ways k r)) (λ u r. one_if (same_vector u b) *ℤ how_many (λ cs. same_vectors cs bs) (ways k r))
-    (λ u r i j. sum_over-same (λ cs. one_if (same_vector u b && same_vectors cs bs)) (λ cs. one_if (same_vector u b) *ℤ one_if (same_vectors cs bs)) (ways k r) (λ cs. one_if-and (same_vector u b) (same_vectors cs bs))
+    ∙ sum_splits-within a (λ u r. sum_over (λ cs. one_if (same_vector u b && same_vectors cs bs)) (ways k r))
+    (λ u r. one_if (same_vector u b) *ℤ how_many (λ cs. same_vectors cs bs) (ways k r))
+    (λ u r i j. sum_over-same (λ cs. one_if (same_vector u b && same_vectors cs bs))
+    (λ cs. one_if (same_vector u b) *ℤ one_if (same_vectors cs bs)) (ways k r) (λ cs. one_if-and (same_vector u b) (same_vectors cs bs))
     ∙ sum_over-scale (one_if (same_vector u b)) (λ cs. one_if (same_vectors cs bs)) (ways k r))
 
 -- of k vectors of the right size: once where the sum is a, else not at all
-ways_count : (k : ℕ) (a : List ℕ) (bs : List (List ℕ)) → length bs ≡ k → OfSize (length a) bs → how_many (λ cs. same_vectors cs bs) (ways k a) ≡ one_if (same_vector (sum_of (length a) bs) a)
+ways_count : (k : ℕ) (a : List ℕ) (bs : List (List ℕ)) → length bs ≡ k → OfSize (length a) bs
+    → how_many (λ cs. same_vectors cs bs) (ways k a) ≡ one_if (same_vector (sum_of (length a) bs) a)
 ways_count zero a [] e o = by_case (is_zero a) ∙ ap one_if (zeros-is_zero a) where
   by_case : (z : Bool) → how_many (λ cs. same_vectors cs []) (if z then ([] ∷ []) else []) ≡ one_if z
   by_case true = refl
@@ -67,16 +73,19 @@ ways_count (suc k) a [] e o = absurd (omega arith)
 ways_count (suc k) a (b ∷ bs) e o =
     let S : List ℕ = sum_of (length a) bs in
     count-first b bs k a
-    ∙ sum_splits-within a (λ u r. one_if (same_vector u b) *ℤ how_many (λ cs. same_vectors cs bs) (ways k r)) (λ u r. one_if (same_vector u b && same_vector r S)) (λ u r i j. step u r j (ways_count k r bs (omega arith) (rw j o.1)))
+    ∙ sum_splits-within a (λ u r. one_if (same_vector u b) *ℤ how_many (λ cs. same_vectors cs bs) (ways k r))
+    (λ u r. one_if (same_vector u b && same_vector r S)) (λ u r i j. step u r j (ways_count k r bs (omega arith) (rw j o.1)))
     ∙ sym (sum_splits_is a (λ u r. one_if (same_vector u b && same_vector r S)))
     ∙ splits_count a b S o.0 (length-sum_of (length a) bs o.1) where
-      step : (u r : List ℕ) → length r ≡ length a → how_many (λ cs. same_vectors cs bs) (ways k r) ≡ one_if (same_vector (sum_of (length r) bs) r) → one_if (same_vector u b) *ℤ how_many (λ cs. same_vectors cs bs) (ways k r) ≡ one_if (same_vector u b && same_vector r (sum_of (length a) bs))
+      step : (u r : List ℕ) → length r ≡ length a → how_many (λ cs. same_vectors cs bs) (ways k r) ≡ one_if (same_vector (sum_of (length r) bs) r)
+          → one_if (same_vector u b) *ℤ how_many (λ cs. same_vectors cs bs) (ways k r) ≡ one_if (same_vector u b && same_vector r (sum_of (length a) bs))
       step u r j ih =
           ap (λ z. one_if (same_vector u b) *ℤ z) (ih ∙ ap (λ z. one_if (same_vector (sum_of z bs) r)) j ∙ ap one_if (same_vector-sym (sum_of (length a) bs) r))
           ∙ sym (one_if-and (same_vector u b) (same_vector r (sum_of (length a) bs)))
 
 -- lists of other lengths, or of vectors of other sizes, aren't there
-ways-bad : (n k : ℕ) (a : List ℕ) (bs : List (List ℕ)) → length a ≡ n → (length bs ≡ k → OfSize n bs → ⊥) → how_many (λ cs. same_vectors cs bs) (ways k a) ≡ pos 0
+ways-bad : (n k : ℕ) (a : List ℕ) (bs : List (List ℕ)) → length a ≡ n → (length bs ≡ k → OfSize n bs → ⊥)
+    → how_many (λ cs. same_vectors cs bs) (ways k a) ≡ pos 0
 ways-bad n zero a [] e h = absurd (h refl tt)
 ways-bad n zero a (b ∷ bs) e h = by_case (is_zero a) where
   by_case : (z : Bool) → how_many (λ cs. same_vectors cs (b ∷ bs)) (if z then ([] ∷ []) else []) ≡ pos 0
@@ -88,9 +97,11 @@ ways-bad n (suc k) a [] e h =
     ∙ sum_splits-zero a
 ways-bad n (suc k) a (b ∷ bs) e h =
     count-first b bs k a
-    ∙ sum_splits-within a (λ u r. one_if (same_vector u b) *ℤ how_many (λ cs. same_vectors cs bs) (ways k r)) (λ u r. pos 0) (λ u r i j. by_size u r (i ∙ e) (cases_eq (length b) n) (λ q. ways-bad n k r bs (j ∙ e) (λ l o. h (ap suc l) (q, o))))
+    ∙ sum_splits-within a (λ u r. one_if (same_vector u b) *ℤ how_many (λ cs. same_vectors cs bs) (ways k r)) (λ u r. pos 0)
+    (λ u r i j. by_size u r (i ∙ e) (cases_eq (length b) n) (λ q. ways-bad n k r bs (j ∙ e) (λ l o. h (ap suc l) (q, o))))
     ∙ sum_splits-zero a where
-      by_size : (u r : List ℕ) → length u ≡ n → (length b ≡ n) ⊎ (length b ≡ n → ⊥) → (length b ≡ n → how_many (λ cs. same_vectors cs bs) (ways k r) ≡ pos 0) → one_if (same_vector u b) *ℤ how_many (λ cs. same_vectors cs bs) (ways k r) ≡ pos 0
+      by_size : (u r : List ℕ) → length u ≡ n → (length b ≡ n) ⊎ (length b ≡ n → ⊥) → (length b ≡ n → how_many (λ cs. same_vectors cs bs) (ways k r) ≡ pos 0)
+          → one_if (same_vector u b) *ℤ how_many (λ cs. same_vectors cs bs) (ways k r) ≡ pos 0
       by_size u r i (inl q) ih = (let z : one_if (same_vector u b) *ℤ pos 0 ≡ pos 0 = omega (arith, ints) in ap (λ y. one_if (same_vector u b) *ℤ y) (ih q) ∙ z)
       by_size u r i (inr d) ih =
           let H : ℤ = how_many (λ cs. same_vectors cs bs) (ways k r) in
@@ -119,5 +130,6 @@ ways-none k a bs h = by_case (cases_eq (length bs) k) (of_size_cases (length a) 
   by_case (inl e) (inr d) = ways-bad (length a) k a bs refl (λ l s. d s)
 
 -- the ways are the lists of k vectors whose sum is a
-pub ways-all : (k : ℕ) (a : List ℕ) (bs : List (List ℕ)) → (IsWay k a bs → how_many (λ cs. same_vectors cs bs) (ways k a) ≡ pos 1) × ((IsWay k a bs → ⊥) → how_many (λ cs. same_vectors cs bs) (ways k a) ≡ pos 0)
+pub ways-all : (k : ℕ) (a : List ℕ) (bs : List (List ℕ))
+    → (IsWay k a bs → how_many (λ cs. same_vectors cs bs) (ways k a) ≡ pos 1) × ((IsWay k a bs → ⊥) → how_many (λ cs. same_vectors cs bs) (ways k a) ≡ pos 0)
 ways-all k a bs = (ways-once k a bs, ways-none k a bs)

@@ -1,5 +1,6 @@
 -- The stage list loses nothing.
-use Rattle.std.proofs.Common.{◌≡◌, ◌≢◌, ℕ, ◌-◌, ◌≤◌, zero, suc, refl, sym, ◌∙◌, ap, arith, List, [], ◌∷◌, length, get_or, Bool, true, false, Option, Some, None, is_some, ◌⊎◌, inl, inr}
+use Rattle.std.proofs.Common.{◌≡◌, ◌≢◌, ℕ, ◌-◌, ◌≤◌, zero, suc, refl, sym, ◌∙◌, ap, arith, List, [], ◌∷◌, length, get_or, Bool, true, false}
+use Rattle.std.proofs.Common.{Option, Some, None, is_some, ◌⊎◌, inl, inr}
 use Rattle.std.proofs.lemmas.Int.{ints}
 use Rattle.std.proofs.lemmas.Bool.{cases_eq, cases_lt}
 use Rattle.std.proofs.lemmas.Bool.Decides.{nat_tests}
@@ -57,14 +58,19 @@ binomials-same [] = refl
 binomials-same (k ∷ a) = let ih : binomials a a ≡ 1 = binomials-same a in rw (binomial-same, ih) refl
 
 -- some monomial passes the test, or no term has a monomial that does
-pub monomial_in : (n : ℕ) (e : Tree) (test : List ℕ → Bool) (g : List Term) → Over n g → ((k : List ℕ) × IsMonomial n e k × (test k ≡ true)) ⊎ ((k : List ℕ) → normal_coefficient e k ≢ pos 0 → test k ≡ true → factor_at g k ≡ pos 0)
+pub monomial_in : (n : ℕ) (e : Tree) (test : List ℕ → Bool) (g : List Term) → Over n g
+    → ((k : List ℕ) × IsMonomial n e k × (test k ≡ true)) ⊎ ((k : List ℕ) → normal_coefficient e k ≢ pos 0 → test k ≡ true → factor_at g k ≡ pos 0)
 monomial_in n e test [] o = inr (λ k z c. refl)
 monomial_in n e test (t ∷ g) o = step (monomial_in n e test g o.1) (zero_cases (normal_coefficient e t.exponents)) (test t.exponents) refl where
-  other : ((k : List ℕ) → normal_coefficient e k ≢ pos 0 → test k ≡ true → factor_at g k ≡ pos 0) → (normal_coefficient e t.exponents ≢ pos 0 → test t.exponents ≡ true → ⊥) → (k : List ℕ) → normal_coefficient e k ≢ pos 0 → test k ≡ true → (b : Bool) → same_vector t.exponents k ≡ b → factor_at (t ∷ g) k ≡ pos 0
+  other : ((k : List ℕ) → normal_coefficient e k ≢ pos 0 → test k ≡ true → factor_at g k ≡ pos 0)
+      → (normal_coefficient e t.exponents ≢ pos 0 → test t.exponents ≡ true → ⊥) → (k : List ℕ) → normal_coefficient e k ≢ pos 0
+      → test k ≡ true → (b : Bool) → same_vector t.exponents k ≡ b → factor_at (t ∷ g) k ≡ pos 0
   other ih hidden k z c true s = absurd (let q : t.exponents ≡ k = same_vector-is t.exponents k s in hidden (rw q z) (rw q c))
   other ih hidden k z c false s = rw s (omega (arith, ints, ih k z c))
 
-  step : ((k : List ℕ) × IsMonomial n e k × (test k ≡ true)) ⊎ ((k : List ℕ) → normal_coefficient e k ≢ pos 0 → test k ≡ true → factor_at g k ≡ pos 0) → (normal_coefficient e t.exponents ≡ pos 0) ⊎ (normal_coefficient e t.exponents ≡ pos 0 → ⊥) → (b : Bool) → test t.exponents ≡ b → ((k : List ℕ) × IsMonomial n e k × (test k ≡ true)) ⊎ ((k : List ℕ) → normal_coefficient e k ≢ pos 0 → test k ≡ true → factor_at (t ∷ g) k ≡ pos 0)
+  step : ((k : List ℕ) × IsMonomial n e k × (test k ≡ true)) ⊎ ((k : List ℕ) → normal_coefficient e k ≢ pos 0 → test k ≡ true → factor_at g k ≡ pos 0)
+      → (normal_coefficient e t.exponents ≡ pos 0) ⊎ (normal_coefficient e t.exponents ≡ pos 0 → ⊥) → (b : Bool) → test t.exponents ≡ b
+      → ((k : List ℕ) × IsMonomial n e k × (test k ≡ true)) ⊎ ((k : List ℕ) → normal_coefficient e k ≢ pos 0 → test k ≡ true → factor_at (t ∷ g) k ≡ pos 0)
   step (inl c) y b d = inl c
   step (inr ih) (inr z) true d = inl (t.exponents, record { size = o.0; nonzero = z }, d)
   step (inr ih) (inl z) b d = inr (λ k q c. other ih (λ y w. y z) k q c (same_vector t.exponents k) refl)
@@ -88,7 +94,8 @@ module _ (n : ℕ) (sites : Sites) (x : ℕ → ℤ) (e : Tree) (below : InputsB
   perturbed_is a o = coefficient_is (of_sites sites) x n e below a o.size
 
   -- a term that covers nothing of a adds nothing
-  product_zero : (a k : List ℕ) → IsOver n sites a → (normal_coefficient e k ≢ pos 0 → length k ≡ n → covers k a ≡ false) → factor_at (expanded n e) k *ℤ tau (of_sites sites) x k a ≡ pos 0
+  product_zero : (a k : List ℕ) → IsOver n sites a → (normal_coefficient e k ≢ pos 0 → length k ≡ n → covers k a ≡ false)
+      → factor_at (expanded n e) k *ℤ tau (of_sites sites) x k a ≡ pos 0
   product_zero a k o h = by_length (cases_eq (length k) n) where
     T : ℤ
     T = tau (of_sites sites) x k a
@@ -109,10 +116,12 @@ module _ (n : ℕ) (sites : Sites) (x : ℕ → ℤ) (e : Tree) (below : InputsB
   -- a vector that no monomial covers has coefficient 0
   pub perturbed-uncovered : (a : List ℕ) → IsOver n sites a → (Covered n e a → ⊥) → perturbed sites x e a ≡ pos 0
   perturbed-uncovered a o h =
-      perturbed_is a o ∙ total-none (λ m. tau (of_sites sites) x m a) (length (expanded n e)) (expanded n e) (omega arith) (λ k. product_zero a k o (λ z l. by_case k z l (covers k a) refl)) where
-        by_case : (k : List ℕ) → normal_coefficient e k ≢ pos 0 → length k ≡ n → (b : Bool) → covers k a ≡ b → covers k a ≡ false
-        by_case k z l true c = absurd (h (k, record { size = l; nonzero = z }, c))
-        by_case k z l false c = c
+      perturbed_is a o ∙ total-none (λ m. tau (of_sites sites) x m a) (length (expanded n e)) (expanded n e) (omega arith)
+      (λ k. product_zero a k o (λ z l. by_case k z l (covers k a) refl))
+    where
+      by_case : (k : List ℕ) → normal_coefficient e k ≢ pos 0 → length k ≡ n → (b : Bool) → covers k a ≡ b → covers k a ≡ false
+      by_case k z l true c = absurd (h (k, record { size = l; nonzero = z }, c))
+      by_case k z l false c = c
 
   -- at the last vector the coefficient is the monomial's own, on every row
   pub perturbed-last : (a : List ℕ) → IsOver n sites a → IsLast n e a → perturbed sites x e a ≡ normal_coefficient e a
@@ -123,11 +132,13 @@ module _ (n : ℕ) (sites : Sites) (x : ℕ → ℤ) (e : Tree) (below : InputsB
       ∙ mul_one (factor_at (expanded n e) a)
       ∙ sym (normal_is n e below a o.size) where
         by_case : (k : List ℕ) → same_vector a k ≡ false → normal_coefficient e k ≢ pos 0 → length k ≡ n → (b : Bool) → covers k a ≡ b → covers k a ≡ false
-        by_case k d z l true c = absurd (let s : k ≡ a = last.only k (record { size = l; nonzero = z }) c in let y : same_vector a k ≡ true = rw s (same_vector-refl a) in cc)
+        by_case k d z l true c =
+            absurd (let s : k ≡ a = last.only k (record { size = l; nonzero = z }) c in let y : same_vector a k ≡ true = rw s (same_vector-refl a) in cc)
         by_case k d z l false c = c
 
         one : tau (of_sites sites) x a a ≡ pos 1
-        one = tau-covered (of_sites sites) x a a refl (within a o) (covers-refl a) ∙ ap (λ u. pos u *ℤ monomial x (minus a a)) (binomials-same a) ∙ one_mul (monomial x (minus a a)) ∙ minus-same x a
+        one = tau-covered (of_sites sites) x a a refl (within a o) (covers-refl a)
+            ∙ ap (λ u. pos u *ℤ monomial x (minus a a)) (binomials-same a) ∙ one_mul (monomial x (minus a a)) ∙ minus-same x a
 
   -- a vector whose coefficient isn't 0 is covered
   pub nonzero-covered : (a : List ℕ) → IsOver n sites a → perturbed sites x e a ≢ pos 0 → Covered n e a
@@ -147,11 +158,16 @@ module _ (n : ℕ) (sites : Sites) (before : List ℕ → List ℕ → Type 0) (
         z (f.zero_before b o (degree-small sites x e b z) l)
 
   -- the first stage whose coefficient isn't 0 is the first vector: this asks that the order is transitive
-  pub stage-first-in : ((a b c : List ℕ) → before a b → before b c → before a c) → (a : List ℕ) → IsStageIn before n sites e a → perturbed sites x e a ≢ pos 0 → ((b : List ℕ) → IsStageIn before n sites e b → before b a → perturbed sites x e b ≡ pos 0) → IsFirstIn before n sites x e a
-  stage-first-in through a s z h = record { over = s.over; small = degree-small sites x e a z; nonzero = z; zero_before = λ b o l r. by_case b o r (zero_cases (perturbed sites x e b)) } where
-    by_case : (b : List ℕ) → IsOver n sites b → before b a → (perturbed sites x e b ≡ pos 0) ⊎ (perturbed sites x e b ≡ pos 0 → ⊥) → perturbed sites x e b ≡ pos 0
-    by_case b o r (inl q) = q
-    by_case b o r (inr q) = h b (record { over = o; covered = nonzero-covered n sites x e below b o q; before_cut = λ c oc last l. s.before_cut c oc last (through c b a l r) }) r
+  pub stage-first-in : ((a b c : List ℕ) → before a b → before b c → before a c) → (a : List ℕ) → IsStageIn before n sites e a → perturbed sites x e a ≢ pos 0
+      → ((b : List ℕ) → IsStageIn before n sites e b → before b a → perturbed sites x e b ≡ pos 0) → IsFirstIn before n sites x e a
+  stage-first-in through a s z h =
+      record { over = s.over; small = degree-small sites x e a z; nonzero = z; zero_before = λ b o l r. by_case b o r (zero_cases (perturbed sites x e b)) }
+    where
+      by_case : (b : List ℕ) → IsOver n sites b → before b a → (perturbed sites x e b ≡ pos 0) ⊎ (perturbed sites x e b ≡ pos 0 → ⊥)
+          → perturbed sites x e b ≡ pos 0
+      by_case b o r (inl q) = q
+      by_case b o r (inr q) =
+          h b (record { over = o; covered = nonzero-covered n sites x e below b o q; before_cut = λ c oc last l. s.before_cut c oc last (through c b a l r) }) r
 
 -- ---- and in that by the smallest infinitesimal
 module _ (n : ℕ) (sites : Sites) (x : ℕ → ℤ) (e : Tree) (below : InputsBelow n e) where
@@ -160,5 +176,6 @@ module _ (n : ℕ) (sites : Sites) (x : ℕ → ℤ) (e : Tree) (below : InputsB
   first-stage a = first-stage-in n sites (Earlier sites) x e below a
 
   -- the first stage whose coefficient isn't 0 is the first vector
-  pub stage-first : IndicesDiffer sites → (a : List ℕ) → IsStage n sites e a → perturbed sites x e a ≢ pos 0 → ((b : List ℕ) → IsStage n sites e b → Earlier sites b a → perturbed sites x e b ≡ pos 0) → IsFirst n sites x e a
+  pub stage-first : IndicesDiffer sites → (a : List ℕ) → IsStage n sites e a → perturbed sites x e a ≢ pos 0
+      → ((b : List ℕ) → IsStage n sites e b → Earlier sites b a → perturbed sites x e b ≡ pos 0) → IsFirst n sites x e a
   stage-first d a = stage-first-in n sites (Earlier sites) x e below (earlier-transitive sites d) a

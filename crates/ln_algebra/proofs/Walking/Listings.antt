@@ -1,10 +1,10 @@
--- Lists in order up to a cut, for any order and any cut: they move along, and go one behind the other.
+-- Lists in order up to a cut, for any order and any cut: they move along, and are joined one after the other.
 use Rattle.std.proofs.Common.{◌≡◌, ℕ, refl, List, [], ◌∷◌, ◌++◌, Bool, true, false, ◌⊎◌, inl, inr}
 use Rattle.ln_algebra.proofs.Walking.Walk.{In-append, In-append_left, In-append_right}
 use Rattle.ln_algebra.specs.Vector.{In}
 use Rattle.ln_algebra.specs.Earlier.{IsSortedIn}
 
--- the covered vectors of a region in order, up to the first last one; stop says that there is a last one
+-- the covered vectors of a region in order, up to the first last one; stop is whether there is a last one
 pub record Listing (before : List ℕ → List ℕ → Type 0) (here covered last : List ℕ → Type 0) (found : List (List ℕ)) (stop : Bool) : Type 0 where
   pub inside : (a : List ℕ) → In found a → here a
   pub are_covered : (a : List ℕ) → In found a → covered a
@@ -15,7 +15,8 @@ pub record Listing (before : List ℕ → List ℕ → Type 0) (here covered las
   pub sorted : IsSortedIn before found
 
 -- nothing here is covered, and a last vector is covered
-pub listing-none : (before : List ℕ → List ℕ → Type 0) (here covered last : List ℕ → Type 0) → ((a : List ℕ) → here a → covered a → ⊥) → ((a : List ℕ) → here a → last a → ⊥) → Listing before here covered last [] false
+pub listing-none : (before : List ℕ → List ℕ → Type 0) (here covered last : List ℕ → Type 0) → ((a : List ℕ) → here a → covered a → ⊥)
+    → ((a : List ℕ) → here a → last a → ⊥) → Listing before here covered last [] false
 listing-none before here covered last none no_last = record {
   inside = λ a i. absurd i;
   are_covered = λ a i. absurd i;
@@ -27,9 +28,11 @@ listing-none before here covered last none no_last = record {
 }
 
 -- sorted by one order on a region where another agrees
-sorted-moves : (before before' : List ℕ → List ℕ → Type 0) (here : List ℕ → Type 0) → ((a b : List ℕ) → here a → here b → before a b → before' a b) → (xs : List (List ℕ)) → ((a : List ℕ) → In xs a → here a) → IsSortedIn before xs → IsSortedIn before' xs
+sorted-moves : (before before' : List ℕ → List ℕ → Type 0) (here : List ℕ → Type 0) → ((a b : List ℕ) → here a → here b → before a b → before' a b)
+    → (xs : List (List ℕ)) → ((a : List ℕ) → In xs a → here a) → IsSortedIn before xs → IsSortedIn before' xs
 sorted-moves before before' here to [] i s = tt
-sorted-moves before before' here to (x ∷ xs) i s = (λ b k. to x b (i x (inl refl)) (i b (inr k)) (s.0 b k), sorted-moves before before' here to xs (λ a k. i a (inr k)) s.1)
+sorted-moves before before' here to (x ∷ xs) i s =
+    (λ b k. to x b (i x (inl refl)) (i b (inr k)) (s.0 b k), sorted-moves before before' here to xs (λ a k. i a (inr k)) s.1)
 
 -- the same region, said in two ways
 pub record Same (before before' : List ℕ → List ℕ → Type 0) (here here' covered covered' last last' : List ℕ → Type 0) : Type 0 where
@@ -42,7 +45,9 @@ pub record Same (before before' : List ℕ → List ℕ → Type 0) (here here' 
   pub order_to : (a b : List ℕ) → here a → here b → before a b → before' a b
   pub order_from : (a b : List ℕ) → here a → here b → before' a b → before a b
 
-pub listing-moves : (before before' : List ℕ → List ℕ → Type 0) (here here' covered covered' last last' : List ℕ → Type 0) (found : List (List ℕ)) (stop : Bool) → Same before before' here here' covered covered' last last' → Listing before here covered last found stop → Listing before' here' covered' last' found stop
+pub listing-moves : (before before' : List ℕ → List ℕ → Type 0) (here here' covered covered' last last' : List ℕ → Type 0)
+    (found : List (List ℕ)) (stop : Bool) → Same before before' here here' covered covered' last last'
+    → Listing before here covered last found stop → Listing before' here' covered' last' found stop
 listing-moves before before' here here' covered covered' last last' found stop s x = record {
   inside = λ a i. s.to a (x.inside a i);
   are_covered = λ a i. s.covered_to a (x.inside a i) (x.are_covered a i);
@@ -54,9 +59,11 @@ listing-moves before before' here here' covered covered' last last' found stop s
 }
 
 -- two sorted lists, all of one before all of the other
-sorted-append : (before : List ℕ → List ℕ → Type 0) (xs ys : List (List ℕ)) → IsSortedIn before xs → IsSortedIn before ys → ((x y : List ℕ) → In xs x → In ys y → before x y) → IsSortedIn before (xs ++ ys)
+sorted-append : (before : List ℕ → List ℕ → Type 0) (xs ys : List (List ℕ)) → IsSortedIn before xs → IsSortedIn before ys
+    → ((x y : List ℕ) → In xs x → In ys y → before x y) → IsSortedIn before (xs ++ ys)
 sorted-append before [] ys s t h = t
-sorted-append before (x ∷ xs) ys s t h = ((λ y i. elim (In-append xs ys y i) [ inl k ↦ s.0 y k | inr k ↦ h x y (inl refl) k ]), sorted-append before xs ys s.1 t (λ u w i j. h u w (inr i) j))
+sorted-append before (x ∷ xs) ys s t h =
+    ((λ y i. elim (In-append xs ys y i) [ inl k ↦ s.0 y k | inr k ↦ h x y (inl refl) k ]), sorted-append before xs ys s.1 t (λ u w i j. h u w (inr i) j))
 
 -- a region in two parts, one before the other
 pub record Parted (before : List ℕ → List ℕ → Type 0) (here first second : List ℕ → Type 0) : Type 0 where
@@ -83,7 +90,8 @@ module _ (before : List ℕ → List ℕ → Type 0) (here first second covered 
     complete a c u (inr s) = let b = x.cut refl in absurd (u b.0 (p.of_first b.0 b.1) b.2 (p.in_order b.0 a b.1 s))
 
   -- the first part's list goes before that of the second
-  pub listing-join : (L M : List (List ℕ)) (stop : Bool) → Listing before first covered last L false → Listing before second covered last M stop → Listing before here covered last (L ++ M) stop
+  pub listing-join : (L M : List (List ℕ)) (stop : Bool) → Listing before first covered last L false
+      → Listing before second covered last M stop → Listing before here covered last (L ++ M) stop
   listing-join L M stop x y = record {
     inside = λ a i. elim (In-append L M a i) [ inl k ↦ p.of_first a (x.inside a k) | inr k ↦ p.of_second a (y.inside a k) ];
     are_covered = λ a i. elim (In-append L M a i) [ inl k ↦ x.are_covered a k | inr k ↦ y.are_covered a k ];

@@ -1,5 +1,6 @@
--- The walk over the variables of sites, by rising infinitesimal, gives the stage list.
-use Rattle.std.proofs.Common.{◌≡◌, ℕ, ◌<◌, ◌≤◌, zero, suc, refl, sym, ◌∙◌, arith, List, [], ◌∷◌, length, get_or, Bool, true, leb, Option, Some, None, ◌⊎◌, inl, inr}
+-- The walk over the variables of sites, by rising infinitesimal, returns the stage list.
+use Rattle.std.proofs.Common.{◌≡◌, ℕ, ◌<◌, ◌≤◌, zero, suc, refl, sym, ◌∙◌, arith, List, [], ◌∷◌, length, get_or, Bool, true, leb, Option}
+use Rattle.std.proofs.Common.{Some, None, ◌⊎◌, inl, inr}
 use Rattle.std.proofs.lemmas.Bool.{and_parts, le-leb, leb-true}
 use Rattle.ln_algebra.proofs.Expanded.Expansion.{length-zeros}
 use Rattle.ln_algebra.proofs.Ordering.Order.{before-irreflexive}
@@ -63,7 +64,7 @@ ranked-site sites [] r v i = absurd i
 ranked-site sites (u ∷ vs) r v (inl e) = (r.0, rw e r.1)
 ranked-site sites (u ∷ vs) r v (inr i) = ranked-site sites vs r.3 v i
 
--- no variable stands twice in a ranking
+-- no variable occurs twice in a ranking
 pub ranked-distinct : (sites : Sites) (vs : List ℕ) → IsRanked sites vs → Distinct vs
 ranked-distinct sites [] r = tt
 ranked-distinct sites (v ∷ vs) r = (fresh_from vs v (λ i. before-irreflexive sites v (r.2 v i)), ranked-distinct sites vs r.3)
@@ -74,7 +75,8 @@ inside_from n [] h = tt
 inside_from n (v ∷ vs) h = (h v (inl refl), inside_from n vs (λ u i. h u (inr i)))
 
 -- ---- the walk's words and those of the stages
-module _ (n : ℕ) (sites : Sites) (M : List ℕ → Type 0) (sized : (m : List ℕ) → M m → length m ≡ n) (vs : List ℕ) (ms : List (List ℕ)) (rank : IsRanking n sites vs) (mono : AreMonomialsBy M ms) where
+module _ (n : ℕ) (sites : Sites) (M : List ℕ → Type 0) (sized : (m : List ℕ) → M m → length m ≡ n) (vs : List ℕ) (ms : List (List ℕ))
+    (rank : IsRanking n sites vs) (mono : AreMonomialsBy M ms) where
   -- earlier along the ranking is earlier
   earlier_of : (a b : List ℕ) → Lex vs a b → Earlier sites a b
   earlier_of a b = (lex-is sites vs a b rank.ranked rank.all).0
@@ -141,24 +143,33 @@ module _ (n : ℕ) (sites : Sites) (M : List ℕ → Type 0) (sized : (m : List 
   }
 
 -- the walk lists the stages
-pub walk-stages-by : (n : ℕ) (sites : Sites) (M : List ℕ → Type 0) → ((m : List ℕ) → M m → length m ≡ n) → (bound : ℕ) (vs : List ℕ) (ms : List (List ℕ)) → IsRanking n sites vs → AreMonomialsBy M ms → AllBelow bound ms → IsStageListBy (Earlier sites) n sites M (walk bound vs ms (zeros n)).0
+pub walk-stages-by : (n : ℕ) (sites : Sites) (M : List ℕ → Type 0) → ((m : List ℕ) → M m → length m ≡ n) → (bound : ℕ) (vs : List ℕ) (ms : List (List ℕ))
+    → IsRanking n sites vs → AreMonomialsBy M ms → AllBelow bound ms → IsStageListBy (Earlier sites) n sites M (walk bound vs ms (zeros n)).0
 walk-stages-by n sites M sized bound vs ms rank mono small =
     stage_list_of n sites M sized vs ms rank mono (walk bound vs ms (zeros n)).0 (walk bound vs ms (zeros n)).1
-    (listing-walk bound vs ms (zeros n) (ranked-distinct sites vs rank.ranked) (let z : length (zeros n) ≡ n = length-zeros n in rw z (inside_from n vs rank.below)) small)
+    (listing-walk bound vs ms (zeros n) (ranked-distinct sites vs rank.ranked)
+    (let z : length (zeros n) ≡ n = length-zeros n in rw z (inside_from n vs rank.below)) small)
 
 -- those of an expression
-pub walk-stages : (n : ℕ) (sites : Sites) (e : Tree) (bound : ℕ) (vs : List ℕ) (ms : List (List ℕ)) → IsRanking n sites vs → AreMonomials n e ms → AllBelow bound ms → IsStageList n sites e (walk bound vs ms (zeros n)).0
+pub walk-stages : (n : ℕ) (sites : Sites) (e : Tree) (bound : ℕ) (vs : List ℕ) (ms : List (List ℕ)) → IsRanking n sites vs
+    → AreMonomials n e ms → AllBelow bound ms → IsStageList n sites e (walk bound vs ms (zeros n)).0
 walk-stages n sites e = walk-stages-by n sites (IsMonomial n e) (λ m k. k.size)
 
 -- ---- two sets of monomials that are one have the same stages
-module _ (before : List ℕ → List ℕ → Type 0) (n : ℕ) (sites : Sites) (M N : List ℕ → Type 0) (to : (m : List ℕ) → M m → N m) (from : (m : List ℕ) → N m → M m) where
+module _ (before : List ℕ → List ℕ → Type 0) (n : ℕ) (sites : Sites) (M N : List ℕ → Type 0) (to : (m : List ℕ) → M m → N m)
+    (from : (m : List ℕ) → N m → M m) where
   cut-to : (a : List ℕ) → IsCutOf N a → IsCutOf M a
   cut-to a l = record { monomial = from a l.monomial; only = λ m k c. l.only m (to m k) c }
 
   pub stage-to : (a : List ℕ) → IsStageBy before n sites M a → IsStageBy before n sites N a
-  stage-to a s = record { over = s.over; covered = (s.covered.0, to s.covered.0 s.covered.1, s.covered.2); before_cut = λ b o l r. s.before_cut b o (cut-to b l) r }
+  stage-to a s = record {
+    over = s.over;
+    covered = (s.covered.0, to s.covered.0 s.covered.1, s.covered.2);
+    before_cut = λ b o l r. s.before_cut b o (cut-to b l) r;
+  }
 
-pub stage_list-to : (before : List ℕ → List ℕ → Type 0) (n : ℕ) (sites : Sites) (M N : List ℕ → Type 0) → ((m : List ℕ) → M m → N m) → ((m : List ℕ) → N m → M m) → (list : List (List ℕ)) → IsStageListBy before n sites M list → IsStageListBy before n sites N list
+pub stage_list-to : (before : List ℕ → List ℕ → Type 0) (n : ℕ) (sites : Sites) (M N : List ℕ → Type 0) → ((m : List ℕ) → M m → N m)
+    → ((m : List ℕ) → N m → M m) → (list : List (List ℕ)) → IsStageListBy before n sites M list → IsStageListBy before n sites N list
 stage_list-to before n sites M N to from list s = record {
   stages = λ a i. stage-to before n sites M N to from a (s.stages a i);
   all = λ a k. s.all a (stage-to before n sites N M from to a k);

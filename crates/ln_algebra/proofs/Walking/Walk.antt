@@ -1,5 +1,6 @@
--- The depth-first walk over the exponents gives the stage list.
-use Rattle.std.proofs.Common.{◌≡◌, ◌≢◌, ℕ, ◌+◌, ◌<◌, ◌≤◌, zero, suc, refl, sym, ◌∙◌, ap, arith, List, [], ◌∷◌, ◌++◌, length, get_or, set, Bool, true, false, leb, ◌⊎◌, inl, inr}
+-- The depth-first walk over the exponents returns the stage list.
+use Rattle.std.proofs.Common.{◌≡◌, ◌≢◌, ℕ, ◌+◌, ◌<◌, ◌≤◌, zero, suc, refl, sym, ◌∙◌, ap, arith, List, [], ◌∷◌, ◌++◌, length, get_or, set}
+use Rattle.std.proofs.Common.{Bool, true, false, leb, ◌⊎◌, inl, inr}
 use Rattle.std.proofs.lemmas.Bool.{cases_order, cases_eq, leb-true, le-leb, and_parts}
 use Rattle.std.proofs.lemmas.Grind.{same_number_lists}
 use Rattle.std.proofs.lemmas.List.{get_or-set_same, get_or-set_other}
@@ -30,7 +31,8 @@ pub at_least-in : (v e : ℕ) (ms : List (List ℕ)) (m : List ℕ) → In (at_l
 at_least-in v e [] m h = absurd h
 at_least-in v e (x ∷ ms) m h = by_case (leb e (get_or x v 0)) refl (at_least-in v e ms m) where
   by_case : (b : Bool) → leb e (get_or x v 0) ≡ b → (In (at_least v e ms) m → In ms m × (e ≤ get_or m v 0)) → In (x ∷ ms) m × (e ≤ get_or m v 0)
-  by_case true d ih = (let k : In (x ∷ at_least v e ms) m = rw d at h in elim k [ inl q ↦ (inl q, rw q (leb-true e (get_or x v 0) d)) | inr q ↦ (inr (ih q).0, (ih q).1) ])
+  by_case true d ih =
+      (let k : In (x ∷ at_least v e ms) m = rw d at h in elim k [ inl q ↦ (inl q, rw q (leb-true e (get_or x v 0) d)) | inr q ↦ (inr (ih q).0, (ih q).1) ])
   by_case false d ih = (let k : In (at_least v e ms) m = rw d at h in (inr (ih k).0, (ih k).1))
 
 -- and the other way
@@ -58,7 +60,7 @@ abbrev pub Fresh : ℕ → List ℕ → Type 0
 Fresh v [] = Unit {0}
 Fresh v (u ∷ vs) = (v ≢ u) × Fresh v vs
 
--- no variable stands twice
+-- no variable occurs twice
 abbrev pub Distinct : List ℕ → Type 0
 Distinct [] = Unit {0}
 Distinct (v ∷ vs) = Fresh v vs × Distinct vs
@@ -76,12 +78,12 @@ pub record Last (vs : List ℕ) (ms : List (List ℕ)) (a : List ℕ) : Type 0 w
   pub here : In ms a
   pub only : (m : List ℕ) → In ms m → CoversOn vs m a → m ≡ a
 
--- each is before all behind it
+-- each is before all that follow it
 abbrev pub Sorted : List ℕ → List (List ℕ) → Type 0
 Sorted vs [] = Unit {0}
 Sorted vs (x ∷ xs) = ((y : List ℕ) → In xs y → Lex vs x y) × Sorted vs xs
 
--- the list of a region, from the exponent e of its first variable on; stop says that it was cut
+-- the list of a region, from the exponent e of its first variable on; stop is whether it was cut
 pub record Listing (Here : List ℕ → Type 0) (vs : List ℕ) (ms : List (List ℕ)) (found : List (List ℕ)) (stop : Bool) : Type 0 where
   pub inside : (a : List ℕ) → In found a → Here a
   pub covered : (a : List ℕ) → In found a → Covered vs ms a
@@ -115,7 +117,10 @@ module _ (v : ℕ) (vs : List ℕ) (fresh : Fresh v vs) (p : List ℕ) (inside_p
 module _ (v : ℕ) (vs : List ℕ) (ms : List (List ℕ)) (e : ℕ) where
   -- the cut with v fixed
   last_down : (b : List ℕ) → Last (v ∷ vs) ms b → get_or b v 0 ≡ e → Last vs (at_least v e ms) b
-  last_down b l q = record { here = in-at_least v e ms b l.here (omega arith); only = λ m h c. (let k = at_least-in v e ms m h in l.only m k.0 (omega (arith, k.1), c)) }
+  last_down b l q = record {
+    here = in-at_least v e ms b l.here (omega arith);
+    only = λ m h c. (let k = at_least-in v e ms m h in l.only m k.0 (omega (arith, k.1), c));
+  }
 
   -- and the other way
   last_up : (b : List ℕ) → Last vs (at_least v e ms) b → get_or b v 0 ≡ e → Last (v ∷ vs) ms b
@@ -133,7 +138,8 @@ module _ (v : ℕ) (vs : List ℕ) (ms : List (List ℕ)) (e : ℕ) where
 -- two sorted lists, all of one before all of the other
 Sorted-append : (vs : List ℕ) (xs ys : List (List ℕ)) → Sorted vs xs → Sorted vs ys → ((x y : List ℕ) → In xs x → In ys y → Lex vs x y) → Sorted vs (xs ++ ys)
 Sorted-append vs [] ys s t h = t
-Sorted-append vs (x ∷ xs) ys s t h = ((λ y i. elim (In-append xs ys y i) [ inl k ↦ s.0 y k | inr k ↦ h x y (inl refl) k ]), Sorted-append vs xs ys s.1 t (λ u w i j. h u w (inr i) j))
+Sorted-append vs (x ∷ xs) ys s t h =
+    ((λ y i. elim (In-append xs ys y i) [ inl k ↦ s.0 y k | inr k ↦ h x y (inl refl) k ]), Sorted-append vs xs ys s.1 t (λ u w i j. h u w (inr i) j))
 
 -- a variable more, at which all are equal
 Sorted-more : (v : ℕ) (vs : List ℕ) (e : ℕ) (xs : List (List ℕ)) → Sorted vs xs → ((x : List ℕ) → In xs x → get_or x v 0 ≡ e) → Sorted (v ∷ vs) xs
@@ -171,11 +177,13 @@ module _ (v : ℕ) (vs : List ℕ) (fresh : Fresh v vs) (p : List ℕ) (inside_p
     at : (a : List ℕ) → In L a → get_or a v 0 ≡ e
     at a i = fixed v vs fresh p inside_p e a (x.inside a i)
 
-    uncut : (a : List ℕ) → In L a → (b : List ℕ) → From v vs p e b → Last (v ∷ vs) ms b → ((b : List ℕ) → Region vs (set p v e) b → Last vs (at_least v e ms) b → Lex vs b a → ⊥) → Lex (v ∷ vs) b a → ⊥
+    uncut : (a : List ℕ) → In L a → (b : List ℕ) → From v vs p e b → Last (v ∷ vs) ms b
+        → ((b : List ℕ) → Region vs (set p v e) b → Last vs (at_least v e ms) b → Lex vs b a → ⊥) → Lex (v ∷ vs) b a → ⊥
     uncut a i b h l k (inl less) = omega (arith, less, h.1, at a i)
     uncut a i b h l k (inr r) = let q : get_or b v 0 ≡ e = r.0 ∙ at a i in k b (down v vs fresh p inside_p e b h.0 q) (last_down v vs ms e b l q) r.1
 
-    complete : (a : List ℕ) → From v vs p e a → Covered (v ∷ vs) ms a → ((b : List ℕ) → From v vs p e b → Last (v ∷ vs) ms b → Lex (v ∷ vs) b a → ⊥) → (get_or a v 0 ≡ e) ⊎ ((get_or a v 0 < e) ⊎ (e < get_or a v 0)) → In L a
+    complete : (a : List ℕ) → From v vs p e a → Covered (v ∷ vs) ms a → ((b : List ℕ) → From v vs p e b → Last (v ∷ vs) ms b → Lex (v ∷ vs) b a → ⊥)
+        → (get_or a v 0 ≡ e) ⊎ ((get_or a v 0 < e) ⊎ (e < get_or a v 0)) → In L a
     complete a h c u (inl q) = x.complete a (down v vs fresh p inside_p e a h.0 q) (cov_down v vs ms e a c q)
         (λ b r l k. let z : get_or b v 0 ≡ e = fixed v vs fresh p inside_p e b r in u b (from_here b r) (last_up v vs ms e b l z) (inr (z ∙ sym q, k)))
     complete a h c u (inr (inl less)) = absurd (omega (arith, less, h.1))
@@ -185,7 +193,8 @@ module _ (v : ℕ) (vs : List ℕ) (fresh : Fresh v vs) (p : List ℕ) (inside_p
         absurd (u b.0 (from_here b.0 b.1) (last_up v vs ms e b.0 b.2 z) (inl (omega (arith, z, more))))
 
   -- the first exponent's list goes before the others
-  listing-join : (M : List (List ℕ)) (stop : Bool) → Listing (Region vs (set p v e)) vs (at_least v e ms) L false → Listing (From v vs p (suc e)) (v ∷ vs) ms M stop → Listing (From v vs p e) (v ∷ vs) ms (L ++ M) stop
+  listing-join : (M : List (List ℕ)) (stop : Bool) → Listing (Region vs (set p v e)) vs (at_least v e ms) L false
+      → Listing (From v vs p (suc e)) (v ∷ vs) ms M stop → Listing (From v vs p e) (v ∷ vs) ms (L ++ M) stop
   listing-join M stop x y = record {
     inside = λ a i. elim (In-append L M a i) [ inl k ↦ from_here a (x.inside a k) | inr k ↦ later a (y.inside a k) ];
     covered = λ a i. elim (In-append L M a i) [ inl k ↦ cov_up v vs ms e a (x.covered a k) (at a k) | inr k ↦ y.covered a k ];
@@ -213,7 +222,8 @@ module _ (v : ℕ) (vs : List ℕ) (fresh : Fresh v vs) (p : List ℕ) (inside_p
       by_case (inr (inl less)) = omega (arith, less, h.1)
       by_case (inr (inr more)) = y.uncut a i b (h.0, more) l k
 
-    complete : (a : List ℕ) → From v vs p e a → Covered (v ∷ vs) ms a → ((b : List ℕ) → From v vs p e b → Last (v ∷ vs) ms b → Lex (v ∷ vs) b a → ⊥) → (get_or a v 0 ≡ e) ⊎ ((get_or a v 0 < e) ⊎ (e < get_or a v 0)) → In (L ++ M) a
+    complete : (a : List ℕ) → From v vs p e a → Covered (v ∷ vs) ms a → ((b : List ℕ) → From v vs p e b → Last (v ∷ vs) ms b → Lex (v ∷ vs) b a → ⊥)
+        → (get_or a v 0 ≡ e) ⊎ ((get_or a v 0 < e) ⊎ (e < get_or a v 0)) → In (L ++ M) a
     complete a h c u (inl q) = In-append_left L M a (x.complete a (down v vs fresh p inside_p e a h.0 q) (cov_down v vs ms e a c q)
         (λ b r l k. let z : get_or b v 0 ≡ e = fixed v vs fresh p inside_p e b r in u b (from_here b r) (last_up v vs ms e b l z) (inr (z ∙ sym q, k))))
     complete a h c u (inr (inl less)) = absurd (omega (arith, less, h.1))
@@ -234,9 +244,12 @@ all_same-is (x ∷ ms) a m h (inr i) = all_same-is ms a m (and_parts (same_vecto
 -- and the other way
 pub is-all_same : (ms : List (List ℕ)) (a : List ℕ) → ((m : List ℕ) → In ms m → m ≡ a) → all_same ms a ≡ true
 is-all_same [] a h = refl
-is-all_same (x ∷ ms) a h = let q : x ≡ a = h x (inl refl) in let s : same_vector x a ≡ true = rw q (same_vector-refl a) in rw s (is-all_same ms a (λ m i. h m (inr i)))
+is-all_same (x ∷ ms) a h =
+    let q : x ≡ a = h x (inl refl) in
+    let s : same_vector x a ≡ true = rw q (same_vector-refl a) in
+    rw s (is-all_same ms a (λ m i. h m (inr i)))
 
--- where no variable is left the region is one vector
+-- where no variable remains the region is one vector
 pub region-end : (p a : List ℕ) → Region [] p a → a ≡ p
 region-end p a r = same_number_lists a p r.size (λ k l. r.off k tt)
 
@@ -247,8 +260,13 @@ listing-end m ms p = record {
   covered = λ a i. (m, inl refl, tt);
   uncut = λ a i b h l k. k;
   complete = λ a h c u. inl (region-end p a h);
-  cut = λ q. (p, record { size = refl; off = λ u f. refl }, record { here = (let z : m ≡ p = all_same-is (m ∷ ms) p m q (inl refl) in inl (sym z)); only = λ n i c. all_same-is (m ∷ ms) p n q i });
-  open_end = λ q b h l. (let z : b ≡ p = region-end p b h in let s : all_same (m ∷ ms) p ≡ true = is-all_same (m ∷ ms) p (λ n i. l.only n i tt ∙ z) in let f : true ≡ false = sym s ∙ q in cc);
+  cut = λ q. (
+    p,
+    record { size = refl; off = λ u f. refl },
+    record { here = (let z : m ≡ p = all_same-is (m ∷ ms) p m q (inl refl) in inl (sym z)); only = λ n i c. all_same-is (m ∷ ms) p n q i },
+  );
+  open_end = λ q b h l. (let z : b ≡ p = region-end p b h in
+      let s : all_same (m ∷ ms) p ≡ true = is-all_same (m ∷ ms) p (λ n i. l.only n i tt ∙ z) in let f : true ≡ false = sym s ∙ q in cc);
   sorted = ((λ y i. absurd i), tt);
 } where
   inside : (a : List ℕ) → In (p ∷ []) a → Region [] p a
@@ -279,21 +297,31 @@ no_member (x ∷ l) m d i = cc
 first_member : (l : List (List ℕ)) (m : List ℕ) (k : List (List ℕ)) → l ≡ m ∷ k → In l m
 first_member l m k d = rw d (inl refl)
 
-module _ (v : ℕ) (vs : List ℕ) (fresh : Fresh v vs) (p : List ℕ) (inside_p : v < length p) (ms : List (List ℕ)) (bound : ℕ) (small : AllBelow bound ms) (go : List (List ℕ) → List ℕ → Found) where
+module _ (v : ℕ) (vs : List ℕ) (fresh : Fresh v vs) (p : List ℕ) (inside_p : v < length p) (ms : List (List ℕ)) (bound : ℕ)
+    (small : AllBelow bound ms) (go : List (List ℕ) → List ℕ → Found) where
   -- the exponents from e on, one after the other
-  listing-steps : ((e : ℕ) (m : List ℕ) → In (at_least v e ms) m → Listing (Region vs (set p v e)) vs (at_least v e ms) (go (at_least v e ms) (set p v e)).0 (go (at_least v e ms) (set p v e)).1) → (k e : ℕ) → k + e ≡ bound → Listing (From v vs p e) (v ∷ vs) ms (steps go v ms p k e).0 (steps go v ms p k e).1
+  listing-steps : ((e : ℕ) (m : List ℕ) → In (at_least v e ms) m
+      → Listing (Region vs (set p v e)) vs (at_least v e ms) (go (at_least v e ms) (set p v e)).0 (go (at_least v e ms) (set p v e)).1)
+      → (k e : ℕ) → k + e ≡ bound → Listing (From v vs p e) (v ∷ vs) ms (steps go v ms p k e).0 (steps go v ms p k e).1
   listing-steps each zero e q = listing-none v vs p ms e (λ m i. (let k = at_least-in v e ms m i in omega (arith, k.1, small m v k.0)))
   listing-steps each (suc k) e q = by_list (at_least v e ms) refl (listing-steps each k (suc e) (omega arith)) where
-    by_stop : (b : Bool) → (go (at_least v e ms) (set p v e)).1 ≡ b → Listing (Region vs (set p v e)) vs (at_least v e ms) (go (at_least v e ms) (set p v e)).0 (go (at_least v e ms) (set p v e)).1 → Listing (From v vs p (suc e)) (v ∷ vs) ms (steps go v ms p k (suc e)).0 (steps go v ms p k (suc e)).1 → Listing (From v vs p e) (v ∷ vs) ms (before (go (at_least v e ms) (set p v e)) (steps go v ms p k (suc e))).0 (before (go (at_least v e ms) (set p v e)) (steps go v ms p k (suc e))).1
+    by_stop : (b : Bool) → (go (at_least v e ms) (set p v e)).1 ≡ b
+        → Listing (Region vs (set p v e)) vs (at_least v e ms) (go (at_least v e ms) (set p v e)).0 (go (at_least v e ms) (set p v e)).1
+        → Listing (From v vs p (suc e)) (v ∷ vs) ms (steps go v ms p k (suc e)).0 (steps go v ms p k (suc e)).1 → Listing (From v vs p e) (v ∷ vs) ms
+        (before (go (at_least v e ms) (set p v e)) (steps go v ms p k (suc e))).0 (before (go (at_least v e ms) (set p v e)) (steps go v ms p k (suc e))).1
     by_stop true d x y = rw d (listing-cut v vs fresh p inside_p ms e (go (at_least v e ms) (set p v e)).0 (rw d at x))
-    by_stop false d x y = rw d (listing-join v vs fresh p inside_p ms e (go (at_least v e ms) (set p v e)).0 (steps go v ms p k (suc e)).0 (steps go v ms p k (suc e)).1 (rw d at x) y)
+    by_stop false d x y = rw d
+        (listing-join v vs fresh p inside_p ms e (go (at_least v e ms) (set p v e)).0 (steps go v ms p k (suc e)).0 (steps go v ms p k (suc e)).1 (rw d at x) y)
 
-    by_list : (l : List (List ℕ)) → at_least v e ms ≡ l → Listing (From v vs p (suc e)) (v ∷ vs) ms (steps go v ms p k (suc e)).0 (steps go v ms p k (suc e)).1 → Listing (From v vs p e) (v ∷ vs) ms (steps go v ms p (suc k) e).0 (steps go v ms p (suc k) e).1
+    by_list : (l : List (List ℕ)) → at_least v e ms ≡ l → Listing (From v vs p (suc e)) (v ∷ vs) ms (steps go v ms p k (suc e)).0 (steps go v ms p k (suc e)).1
+        → Listing (From v vs p e) (v ∷ vs) ms (steps go v ms p (suc k) e).0 (steps go v ms p (suc k) e).1
     by_list [] d y =
-        let z : unless_none (at_least v e ms) (before (go (at_least v e ms) (set p v e)) (steps go v ms p k (suc e))) ≡ ([], false) = unless_none-nil (at_least v e ms) _ d in
+        let z : unless_none (at_least v e ms) (before (go (at_least v e ms) (set p v e)) (steps go v ms p k (suc e))) ≡ ([], false) =
+        unless_none-nil (at_least v e ms) _ d in
         rw z (listing-none v vs p ms e (λ m i. no_member (at_least v e ms) m d i))
     by_list (m ∷ l) d y =
-        let z : unless_none (at_least v e ms) (before (go (at_least v e ms) (set p v e)) (steps go v ms p k (suc e))) ≡ before (go (at_least v e ms) (set p v e)) (steps go v ms p k (suc e)) = unless_none-cons (at_least v e ms) m l _ d in
+        let z : unless_none (at_least v e ms) (before (go (at_least v e ms) (set p v e)) (steps go v ms p k (suc e)))
+        ≡ before (go (at_least v e ms) (set p v e)) (steps go v ms p k (suc e)) = unless_none-cons (at_least v e ms) m l _ d in
         rw z (by_stop (go (at_least v e ms) (set p v e)).1 refl (each e m (first_member (at_least v e ms) m l d)) y)
 
 -- what is kept stays below the bound
@@ -305,7 +333,8 @@ pub inside_set : (vs : List ℕ) (p : List ℕ) (v e : ℕ) → Inside vs (lengt
 inside_set vs p v e h = rw length-set h
 
 -- from the exponent 0 on is all
-region_from : (v : ℕ) (vs p : List ℕ) (ms found : List (List ℕ)) (stop : Bool) → Listing (From v vs p 0) (v ∷ vs) ms found stop → Listing (Region (v ∷ vs) p) (v ∷ vs) ms found stop
+region_from : (v : ℕ) (vs p : List ℕ) (ms found : List (List ℕ)) (stop : Bool) → Listing (From v vs p 0) (v ∷ vs) ms found stop
+    → Listing (Region (v ∷ vs) p) (v ∷ vs) ms found stop
 region_from v vs p ms found stop x = record {
   inside = λ a i. (x.inside a i).0;
   covered = x.covered;
@@ -328,8 +357,9 @@ listing-empty p = record {
   sorted = tt;
 }
 
--- the walk gives the list of its region
-pub listing-walk : (bound : ℕ) (vs : List ℕ) (ms : List (List ℕ)) (p : List ℕ) → Distinct vs → Inside vs (length p) → AllBelow bound ms → Listing (Region vs p) vs ms (walk bound vs ms p).0 (walk bound vs ms p).1
+-- the walk returns the list of its region
+pub listing-walk : (bound : ℕ) (vs : List ℕ) (ms : List (List ℕ)) (p : List ℕ) → Distinct vs → Inside vs (length p) → AllBelow bound ms
+    → Listing (Region vs p) vs ms (walk bound vs ms p).0 (walk bound vs ms p).1
 listing-walk bound [] [] p d i h = listing-empty p
 listing-walk bound [] (m ∷ ms) p d i h = listing-end m ms p
 listing-walk bound (v ∷ vs) ms p d i h =

@@ -14,14 +14,16 @@ rest e = cc
 pub words_all : {A B : Type 0} (f : A → B) (all : List B) (xs : List A) (here : List B) → all ≡ map f xs ++ here → here ≡ [] → all ≡ map f xs
 words_all f all xs here e g = e ∙ ap (λ z. map f xs ++ z) g ∙ append-nil (map f xs)
 
--- behind some words stands one that is none of these
-pub stops : {A B : Type 0} (f : A → B) (P : A → Type 0) (done : List B) (w : B) (next : List B) (xs : List A) → Each P xs → done ++ w ∷ next ≡ map f xs → ((x : A) → P x → w ≡ f x → ⊥) → ⊥
+-- after some words comes one that is none of these
+pub stops : {A B : Type 0} (f : A → B) (P : A → Type 0) (done : List B) (w : B) (next : List B) (xs : List A) → Each P xs
+    → done ++ w ∷ next ≡ map f xs → ((x : A) → P x → w ≡ f x → ⊥) → ⊥
 stops f P [] w next [] p e h = absurd (cc)
 stops f P [] w next (x ∷ xs) p e h = h x p.0 (head e)
 stops f P (d ∷ ds) w next [] p e h = absurd (cc)
 stops f P (d ∷ ds) w next (x ∷ xs) p e h = stops f P ds w next xs p.1 (rest e) h
 
-pub same_map : {A B : Type 0} (f : A → B) (P : A → Type 0) → ((x y : A) → P x → P y → f x ≡ f y → x ≡ y) → (xs ys : List A) → Each P xs → Each P ys → map f xs ≡ map f ys → xs ≡ ys
+pub same_map : {A B : Type 0} (f : A → B) (P : A → Type 0) → ((x y : A) → P x → P y → f x ≡ f y → x ≡ y) → (xs ys : List A) → Each P xs
+    → Each P ys → map f xs ≡ map f ys → xs ≡ ys
 same_map f P g [] [] p q e = refl
 same_map f P g [] (y ∷ ys) p q e = absurd (cc)
 same_map f P g (x ∷ xs) [] p q e = absurd (cc)
@@ -30,7 +32,8 @@ same_map f P g (x ∷ xs) (y ∷ ys) p q e =
     let t = same_map f P g xs ys p.1 q.1 (rest e) in
     λ i. h i ∷ t i
 
-pub stops_here : {A B : Type 0} (f : A → B) (P : A → Type 0) (all : List B) (done : List A) (w : B) (here next : List B) → all ≡ map f done ++ here → here ≡ w ∷ next → ((x : A) → P x → w ≡ f x → ⊥) → (xs : List A) → Each P xs → all ≡ map f xs → ⊥
+pub stops_here : {A B : Type 0} (f : A → B) (P : A → Type 0) (all : List B) (done : List A) (w : B) (here next : List B)
+    → all ≡ map f done ++ here → here ≡ w ∷ next → ((x : A) → P x → w ≡ f x → ⊥) → (xs : List A) → Each P xs → all ≡ map f xs → ⊥
 stops_here f P all done w here next e g h xs p q = stops f P (map f done) w next xs p (sym (e ∙ ap (λ z. map f done ++ z) g) ∙ q) h
 
 pub differs : (w x : List ℕ) → false ≡ bytes_eq w x → x ≡ codes ":" → w ≡ codes ":" → ⊥

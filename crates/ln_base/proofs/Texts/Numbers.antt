@@ -1,5 +1,6 @@
 -- Numbers of up to 128 bits in decimal.
-use Rattle.std.proofs.Common.{◌≡◌, ℕ, zero, suc, ◌+◌, ◌-◌, ◌*◌, ◌/◌, ◌%◌, ◌^◌, ◌<◌, ◌≤◌, ℤ, pos, negsuc, unsigned_abs, List, [], ◌∷◌, ◌++◌, length, get_or, drop, refl, sym, ap, ◌∙◌, subst, arith, append_assoc, append-nil, drop-cons, length-append}
+use Rattle.std.proofs.Common.{◌≡◌, ℕ, zero, suc, ◌+◌, ◌-◌, ◌*◌, ◌/◌, ◌%◌, ◌^◌, ◌<◌, ◌≤◌, ℤ, pos, negsuc, unsigned_abs, List, [], ◌∷◌, ◌++◌}
+use Rattle.std.proofs.Common.{length, get_or, drop, refl, sym, ap, ◌∙◌, subst, arith, append_assoc, append-nil, drop-cons, length-append}
 use Rattle.std.proofs.Math.ListN.{get_or-append}
 use Rattle.std.specs.Fmt.{decimal, signed_decimal}
 use Rattle.std.specs.Str.Parse.{AllDigits, digits_value_after, digits_value}
@@ -12,7 +13,8 @@ le_value_after : (n : ℕ) (ds : List ℕ) → n ≤ digits_value_after 10 n ds
 le_value_after n [] = omega arith
 le_value_after n (c ∷ cs) = omega (arith, le_value_after (n * 10 + digit_value c) cs)
 
-decimal_value_after : (n : ℕ) (ds : List ℕ) → 0 < n → AllDigits 10 ds → digits_value_after 10 n ds < 2 ^ 128 → decimal (digits_value_after 10 n ds) ≡ decimal n ++ ds
+decimal_value_after : (n : ℕ) (ds : List ℕ) → 0 < n → AllDigits 10 ds → digits_value_after 10 n ds < 2 ^ 128
+    → decimal (digits_value_after 10 n ds) ≡ decimal n ++ ds
 decimal_value_after n [] some d small = sym (append-nil (decimal n))
 decimal_value_after n (c ∷ cs) some d small =
     let m : ℕ = n * 10 + digit_value c in
@@ -23,7 +25,8 @@ decimal_value_after n (c ∷ cs) some d small =
     ∙ ap (λ x. x ++ cs) (decimal_step_wide m (omega arith) (omega (arith, le_value_after m cs)) ∙ (λ i. decimal (front i) ++ (end i ∷ [])))
     ∙ append_assoc (decimal n) (c ∷ []) cs
 
-decimal_value_digits : (ds : List ℕ) → AllDigits 10 ds → 0 < length ds → (get_or ds 0 0 ≡ 48 → length ds ≡ 1) → digits_value 10 ds < 2 ^ 128 → decimal (digits_value 10 ds) ≡ ds
+decimal_value_digits : (ds : List ℕ) → AllDigits 10 ds → 0 < length ds → (get_or ds 0 0 ≡ 48 → length ds ≡ 1) → digits_value 10 ds < 2 ^ 128
+    → decimal (digits_value 10 ds) ≡ ds
 decimal_value_digits [] d some lead small = absurd (omega arith)
 decimal_value_digits (c ∷ []) d some lead small =
     let k = digit_value_digit c (digit_from_value c d.0) in
@@ -38,7 +41,8 @@ decimal_value_digits (c ∷ e ∷ cs) d some lead small =
 wide : (n : ℕ) → n < 2 ^ 128 → n < 10 ^ 64
 wide n h = omega arith
 
-pub number_is : (w : List ℕ) (n : ℕ) → AllDigits 10 w → n ≡ digits_value_after 10 0 w → n < 2 ^ 128 → 0 < length w → (get_or w 0 0 ≡ 48 → length w ≡ 1) → w ≡ decimal n
+pub number_is : (w : List ℕ) (n : ℕ) → AllDigits 10 w → n ≡ digits_value_after 10 0 w → n < 2 ^ 128 → 0 < length w
+    → (get_or w 0 0 ≡ 48 → length w ≡ 1) → w ≡ decimal n
 number_is w n d e small some lead = sym (ap decimal e ∙ decimal_value_digits w d some lead (omega arith))
 
 pub empty : (w : List ℕ) (n : ℕ) → n < 2 ^ 128 → length w ≡ 0 → w ≡ decimal n → ⊥
@@ -50,7 +54,11 @@ Leads n ds = (0 < length ds) × (0 < n → 48 < get_or ds 0 0) × (n ≡ 0 → l
 leads : (n : ℕ) → n < 10 ^ 64 → Leads n (decimal n)
 leads n h = decimal_by_steps_wide Leads
     (λ m l. (omega arith, λ a. omega arith, λ z. refl))
-    (λ m ds l h. (omega (arith, length-append ds ((48 + m % 10) ∷ [])), λ a. let e : get_or (ds ++ ((48 + m % 10) ∷ [])) 0 0 ≡ get_or ds 0 0 = get_or-append ds ((48 + m % 10) ∷ []) 0 0 h.0 in omega (arith, h.1 (omega arith)), λ z. absurd (omega arith)))
+    (λ m ds l h. (
+      omega (arith, length-append ds ((48 + m % 10) ∷ [])),
+      λ a. let e : get_or (ds ++ ((48 + m % 10) ∷ [])) 0 0 ≡ get_or ds 0 0 = get_or-append ds ((48 + m % 10) ∷ []) 0 0 h.0 in omega (arith, h.1 (omega arith)),
+      λ z. absurd (omega arith),
+    ))
     n h
 
 pub leading : (w : List ℕ) (n : ℕ) → n < 2 ^ 128 → get_or w 0 0 ≡ 48 → 1 < length w → w ≡ decimal n → ⊥
@@ -69,7 +77,8 @@ no_digits w n most h l f e =
     let v : digits_value 10 w ≡ n = ap (digits_value 10) e ∙ p.1 in
     omega (arith, f d)
 
-pub too_large : (w : List ℕ) (i n most : ℕ) → i < length w → 48 ≤ get_or w i 0 → get_or w i 0 ≤ 57 → digits_value_after 10 n (drop i w) ≡ digits_value_after 10 0 w → most < n * 10 + (get_or w i 0 - 48) → most < digits_value_after 10 0 w
+pub too_large : (w : List ℕ) (i n most : ℕ) → i < length w → 48 ≤ get_or w i 0 → get_or w i 0 ≤ 57
+    → digits_value_after 10 n (drop i w) ≡ digits_value_after 10 0 w → most < n * 10 + (get_or w i 0 - 48) → most < digits_value_after 10 0 w
 too_large w i n most h a b same l =
     let e = drop-cons w i 0 h in
     let k = digit_value_digit (get_or w i 0) (a, b) in
@@ -82,12 +91,14 @@ decimal_injective m n p q e = sym (decimal_is_IsNumeral_wide m (wide m p)).1 ∙
 pub no_minus : (n : ℕ) (ds : List ℕ) → n < 2 ^ 128 → decimal n ≡ 45 ∷ ds → ⊥
 no_minus n ds h e = omega (arith, digit_from_value 45 (subst (AllDigits 10) e (decimal_is_IsNumeral_wide n (wide n h)).0.1).0)
 
-pub minus_word : (w : List ℕ) (z : ℤ) → 0 < length w → get_or w 0 0 ≡ 45 → unsigned_abs z < 2 ^ 127 → w ≡ signed_decimal z → (m : ℕ) × (m + 1 < 2 ^ 127) × (drop 1 w ≡ decimal (m + 1))
+pub minus_word : (w : List ℕ) (z : ℤ) → 0 < length w → get_or w 0 0 ≡ 45 → unsigned_abs z < 2 ^ 127 → w ≡ signed_decimal z
+    → (m : ℕ) × (m + 1 < 2 ^ 127) × (drop 1 w ≡ decimal (m + 1))
 minus_word [] z l e h s = absurd (omega arith)
 minus_word (b ∷ bs) (pos n) l e h s = absurd (no_minus n bs (omega arith) (let q : 45 ≡ b = sym e in cc))
 minus_word (b ∷ bs) (negsuc n) l e h s = let q : suc n ≡ n + 1 = omega arith in (n, omega arith, ap (drop 1) s ∙ ap decimal q)
 
-pub no_number : (w : List ℕ) (z : ℤ) → 0 < length w → get_or w 0 0 ≡ 45 → unsigned_abs z < 2 ^ 127 → ((n : ℕ) → n ≤ 170141183460469231731687303715884105727 → drop 1 w ≡ decimal n → ⊥) → w ≡ signed_decimal z → ⊥
+pub no_number : (w : List ℕ) (z : ℤ) → 0 < length w → get_or w 0 0 ≡ 45 → unsigned_abs z < 2 ^ 127
+    → ((n : ℕ) → n ≤ 170141183460469231731687303715884105727 → drop 1 w ≡ decimal n → ⊥) → w ≡ signed_decimal z → ⊥
 no_number w z l e h f s = let r = minus_word w z l e h s in f (r.0 + 1) (omega (arith, r.1)) r.2
 
 pub no_zero : (w : List ℕ) (z : ℤ) → 0 < length w → get_or w 0 0 ≡ 45 → unsigned_abs z < 2 ^ 127 → drop 1 w ≡ decimal 0 → w ≡ signed_decimal z → ⊥

@@ -27,7 +27,8 @@ pub append_plain : (a b : List ℕ) → is_plain a ≡ true → is_plain b ≡ t
 append_plain [] b p q = q
 append_plain (c ∷ cs) b p q = by (c == 32) (c == 10) p (λ r. append_plain cs b r q)
   where
-    by : (t u : Bool) → (if t then false else if u then false else is_plain cs) ≡ true → (is_plain cs ≡ true → is_plain (cs ++ b) ≡ true) → (if t then false else if u then false else is_plain (cs ++ b)) ≡ true
+    by : (t u : Bool) → (if t then false else if u then false else is_plain cs) ≡ true → (is_plain cs ≡ true → is_plain (cs ++ b) ≡ true)
+        → (if t then false else if u then false else is_plain (cs ++ b)) ≡ true
     by true u p f = absurd (cc)
     by false true p f = absurd (cc)
     by false false p f = f p

@@ -1,5 +1,6 @@
 -- The first line of a text, the words of a line, and words that are read as they were written.
-use Rattle.std.proofs.Common.{◌≡◌, ℕ, zero, suc, ◌+◌, ◌-◌, ◌≤◌, ◌<◌, ◌==◌, Bool, true, false, List, [], ◌∷◌, ◌++◌, length, take, drop, refl, sym, ap, ◌∙◌, arith}
+use Rattle.std.proofs.Common.{◌≡◌, ℕ, zero, suc, ◌+◌, ◌-◌, ◌≤◌, ◌<◌, ◌==◌, Bool, true, false, List, [], ◌∷◌, ◌++◌, length, take, drop, refl}
+use Rattle.std.proofs.Common.{sym, ap, ◌∙◌, arith}
 use Rattle.std.specs.Prelude.{if◌then◌else◌}
 use Rattle.std.proofs.lemmas.Bool.{eqb-true}
 use Rattle.ln_base.specs.Lines.{is_plain, lines, onto, parted, span_to, words, words_from}
@@ -9,7 +10,8 @@ words_first [] = refl
 words_first (b ∷ bs) = by (b == 32) (words_first bs)
   where
     by : (t : Bool) → words bs ≡ take (span_to 32 bs) bs ∷ words_from (suc (span_to 32 bs)) bs →
-        (if t then [] ∷ words bs else onto b (words bs)) ≡ take (if t then 0 else suc (span_to 32 bs)) (b ∷ bs) ∷ words_from (if t then 0 else suc (span_to 32 bs)) bs
+        (if t then [] ∷ words bs else onto b (words bs))
+        ≡ take (if t then 0 else suc (span_to 32 bs)) (b ∷ bs) ∷ words_from (if t then 0 else suc (span_to 32 bs)) bs
     by true e = refl
     by false e = ap (onto b) e
 
@@ -18,7 +20,8 @@ from_drop zero k bs h = let e : 0 + k ≡ k = omega arith in ap (λ n. words_fro
 from_drop (suc at) k [] h = absurd (omega arith)
 from_drop (suc at) k (b ∷ bs) h = let e : suc at + k ≡ suc (at + k) = omega arith in rw e (from_drop at k bs (omega arith))
 
-pub word_at : (at end : ℕ) (bs w : List ℕ) → at ≤ length bs → end ≡ at + span_to 32 (drop at bs) → w ≡ take (end - at) (drop at bs) → words_from at bs ≡ w ∷ words_from (end + 1) bs
+pub word_at : (at end : ℕ) (bs w : List ℕ) → at ≤ length bs → end ≡ at + span_to 32 (drop at bs) → w ≡ take (end - at) (drop at bs)
+    → words_from at bs ≡ w ∷ words_from (end + 1) bs
 word_at at end bs w h e q =
     let a : words_from at bs ≡ words (drop at bs) = let z : at ≡ at + 0 = omega arith in ap (λ n. words_from n bs) z ∙ from_drop at 0 bs h in
     let s : ℕ = span_to 32 (drop at bs) in
@@ -41,7 +44,8 @@ lines_first b [] = by (b == 10)
 lines_first b (c ∷ bs) = by (b == 10) (lines_first c bs)
   where
     by : (t : Bool) → lines (c ∷ bs) ≡ take (suc (span_to 10 (c ∷ bs))) (c ∷ bs) ∷ lines (drop (suc (span_to 10 (c ∷ bs))) (c ∷ bs)) →
-        (if t then (b ∷ []) ∷ lines (c ∷ bs) else onto b (lines (c ∷ bs))) ≡ take (suc (if t then 0 else suc (span_to 10 (c ∷ bs)))) (b ∷ c ∷ bs) ∷ lines (drop (suc (if t then 0 else suc (span_to 10 (c ∷ bs)))) (b ∷ c ∷ bs))
+        (if t then (b ∷ []) ∷ lines (c ∷ bs) else onto b (lines (c ∷ bs))) ≡ take (suc (if t then 0 else suc (span_to 10 (c ∷ bs)))) (b ∷ c ∷ bs)
+        ∷ lines (drop (suc (if t then 0 else suc (span_to 10 (c ∷ bs)))) (b ∷ c ∷ bs))
     by true e = refl
     by false e = ap (onto b) e
 

@@ -17,4 +17,8 @@ lower (suc b) k n h l = let m = pow-le-pow_right {n = suc b} (omega arith) {i = 
 
 -- a power is too large where a lower one is
 pub heavier : (b k n p : ℕ) → k < n → p ≡ b ^ k → most < p * b → most < b ^ n
-heavier b k n p h e l = elim (cases_lt most (b ^ n)) [ inl m ↦ m | inr m ↦ absurd (let f = lower b (suc k) n (omega arith) m in let g : b ^ suc k ≡ b ^ k * b = pow-suc b k in let t : p * b ≡ b ^ k * b = ap (λ z. z * b) e in omega (arith, l, f, g, t)) ]
+heavier b k n p h e l = elim (cases_lt most (b ^ n)) [
+  | inl m ↦ m
+  | inr m ↦ absurd (let f = lower b (suc k) n (omega arith) m in
+      let g : b ^ suc k ≡ b ^ k * b = pow-suc b k in let t : p * b ≡ b ^ k * b = ap (λ z. z * b) e in omega (arith, l, f, g, t))
+]

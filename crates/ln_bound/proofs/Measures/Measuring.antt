@@ -1,5 +1,5 @@
 -- The nodes of a predicate with their ranges, sizes and loads, one after the other.
-use Rattle.std.proofs.Common.{◌≡◌, ℕ, true, zero, suc, ◌≤◌, ◌<◌, List, [], ◌∷◌, ◌++◌, length, map, refl, ap, arith, ◌∙◌, append_assoc}
+use Rattle.std.proofs.Common.{◌≡◌, ℕ, true, zero, suc, ◌<◌, List, [], ◌∷◌, ◌++◌, length, map, refl, ap, arith, ◌∙◌, append_assoc}
 use Rattle.std.specs.Prelude.{not, int_lt, nat_le, ◌&&◌, ◌==◌, ◌≤ℤ◌}
 use Rattle.std.specs.List.{count_by, list_all}
 use Rattle.std.proofs.lemmas.Bool.{and_parts}
@@ -23,7 +23,7 @@ abbrev pub Seen : Type 0
 Seen = Range × ℕ
 
 -- ---- lets
--- some lets are measured; the rest stand behind
+-- some lets are measured; the rest follow
 pub record LetsMeasured (vars : List VarInfo) (whole rest : List Formula) (done all : List Measure) : Type 0 where
   pub front : Nodes
   pub stands : loaded_lets vars [] [] whole ≡ front ++ loaded_lets vars (map range_in done) (map size_in done) rest
@@ -35,9 +35,11 @@ pub record LetsMeasured (vars : List VarInfo) (whole rest : List Formula) (done 
   pub same_sizes : sizes_of_lets vars (map size_in done) rest ≡ sizes_of_lets vars [] whole
 
 pub lets_begin : (vars : List VarInfo) (whole : List Formula) (all : List Measure) → all ≡ [] → LetsMeasured vars whole whole [] all
-lets_begin vars whole all e = record { front = []; stands = refl; light = tt; before = []; follows = refl; nodes = ap (map seen) e; same_ranges = refl; same_sizes = refl }
+lets_begin vars whole all e =
+    record { front = []; stands = refl; light = tt; before = []; follows = refl; nodes = ap (map seen) e; same_ranges = refl; same_sizes = refl }
 
-pub lets_more : (vars : List VarInfo) (whole rest : List Formula) (f : Formula) (done all more after : List Measure) → LetsMeasured vars whole (f ∷ rest) done all → AreLight (loaded vars (map range_in done) (map size_in done) f)
+pub lets_more : (vars : List VarInfo) (whole rest : List Formula) (f : Formula) (done all more after : List Measure)
+    → LetsMeasured vars whole (f ∷ rest) done all → AreLight (loaded vars (map range_in done) (map size_in done) f)
     → map seen more ≡ map seen all ++ node_measures (measured vars (map range_in done) (map size_in done) f)
     → map range_in after ≡ map range_in done ++ range_over (ranges vars) (map range_in done) (tree vars f) ∷ []
     → map size_in after ≡ map size_in done ++ size_over (map size_in done) (tree vars f) ∷ []
@@ -53,12 +55,16 @@ lets_more vars whole rest f done all more after h l m a b = record {
   same_sizes = rw b h.same_sizes;
 }
 
-pub lets_stop : (vars : List VarInfo) (whole rest : List Formula) (f : Formula) (done all : List Measure) (s : BoundStop) → LetsMeasured vars whole (f ∷ rest) done all → StopsWeighing (loaded vars (map range_in done) (map size_in done) f) s → StopsWeighing (loaded_lets vars [] [] whole) s
-lets_stop vars whole rest f done all s h e = rw h.stands (stop_behind h.front (loaded vars (map range_in done) (map size_in done) f ++ _) s h.light (stop_before (loaded vars (map range_in done) (map size_in done) f) _ s e))
+pub lets_stop : (vars : List VarInfo) (whole rest : List Formula) (f : Formula) (done all : List Measure) (s : BoundStop)
+    → LetsMeasured vars whole (f ∷ rest) done all → StopsWeighing (loaded vars (map range_in done) (map size_in done) f) s
+    → StopsWeighing (loaded_lets vars [] [] whole) s
+lets_stop vars whole rest f done all s h e = rw h.stands (stop_behind h.front (loaded vars (map range_in done) (map size_in done) f ++ _) s
+    h.light (stop_before (loaded vars (map range_in done) (map size_in done) f) _ s e))
 
 -- ---- the predicate
--- the first node that is too heavy may stand in the root
-pub pred_stops : (vars v : List VarInfo) (lets ls : List Formula) (root : Formula) (ps : List Range) (ss : List ℕ) (s : BoundStop) → v ≡ vars → ls ≡ lets → ps ≡ ranges_of_lets v [] ls → ss ≡ sizes_of_lets v [] ls → AreLight (loaded_lets v [] [] ls)
+-- the first node whose weight is too large may be in the root
+pub pred_stops : (vars v : List VarInfo) (lets ls : List Formula) (root : Formula) (ps : List Range) (ss : List ℕ) (s : BoundStop)
+    → v ≡ vars → ls ≡ lets → ps ≡ ranges_of_lets v [] ls → ss ≡ sizes_of_lets v [] ls → AreLight (loaded_lets v [] [] ls)
     → StopsWeighing (loaded v ps ss root) s → StopsWeighing (loaded_pred vars lets root) s
 pred_stops vars v lets ls root ps ss s ev el ep es a h =
     let g : StopsWeighing (loaded v (ranges_of_lets v [] ls) (sizes_of_lets v [] ls) root) s = rw (ep, es) at h in
@@ -79,7 +85,7 @@ some_measured by (FSub at e f) = ends (nodes_by by e ++ nodes_by by f) at (by (F
 some_measured by (FMul at e f) = ends (nodes_by by e ++ nodes_by by f) at (by (FMul at e f))
 some_measured by (FPow at e n) = ends (nodes_by by e) at (by (FPow at e n))
 
--- there are measures where there are some behind others
+-- there are measures where there are some after others
 pub some_behind : (xs ys : List Seen) → 0 < length ys → 0 < length (xs ++ ys)
 some_behind [] ys h = h
 some_behind (x ∷ xs) ys h = omega arith
@@ -101,7 +107,8 @@ each_ordered (i ∷ vars) h (suc v) = each_ordered vars (and_parts (has_range i)
 -- the ranges of a shape's variables are in order
 pub ordered : (sites : ℕ) (vars v : List VarInfo) → is_laid_out sites vars ≡ true → v ≡ vars → (k : ℕ) → IsOrdered (ranges v k)
 ordered sites vars v h e =
-    let a = and_parts (in_order 0 0 no_var vars && list_all has_range vars && (count_by starts_site vars == sites) && nat_le sites 5 && nat_le (count_by is_param vars) 8) _ h in
+    let a = and_parts (in_order 0 0 no_var vars && list_all has_range vars && (count_by starts_site vars == sites) && nat_le sites 5
+    && nat_le (count_by is_param vars) 8) _ h in
     let b = and_parts (in_order 0 0 no_var vars && list_all has_range vars && (count_by starts_site vars == sites) && nat_le sites 5) _ a.0 in
     let c = and_parts (in_order 0 0 no_var vars && list_all has_range vars && (count_by starts_site vars == sites)) _ b.0 in
     let d = and_parts (in_order 0 0 no_var vars && list_all has_range vars) _ c.0 in

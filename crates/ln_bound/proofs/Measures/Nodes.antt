@@ -12,7 +12,8 @@ use Rattle.ln_bound.specs.declared.fitted.Two.TheVariants.{Plus, Minus, Times}
 use Rattle.ln_bound.specs.declared.measure.Measure.{Measure}
 use Rattle.ln_bound.specs.declared.weigh.BoundStop.{BoundStop}
 use Rattle.ln_bound.specs.Light.{most, AreLight}
-use Rattle.ln_bound.specs.Loads.{load_of, loaded, loaded_lets, loaded_pred, measure_of, measured, measured_lets, measured_pred, node_measures, ranges_of_lets, sizes_of_lets}
+use Rattle.ln_bound.specs.Loads.{load_of, loaded, loaded_lets, loaded_pred, measure_of, measured, measured_lets, measured_pred}
+use Rattle.ln_bound.specs.Loads.{node_measures, ranges_of_lets, sizes_of_lets}
 use Rattle.ln_bound.specs.Measures.{IsMeasure, range_in, seen, size_in, tested}
 use Rattle.ln_bound.specs.Ranges.{range_over, ranges, size_over}
 use Rattle.ln_bound.specs.Stop.{StopsWeighing, IsHeavy, IsHeavyOrNoMemory}
@@ -23,9 +24,10 @@ use Rattle.ln_bound.proofs.Measures.Weighing.{Nodes, light_behind, light_both, s
 
 -- a measure that a node has, or none where its load is too large
 abbrev pub HasMeasure : List VarInfo → List Measure → Formula → Option Measure → Type 0
-HasMeasure vars lets e o = MatchOption o (most < load_of vars (map range_in lets) (map size_in lets) e) (λ m. IsMeasure m (range_over (ranges vars) (map range_in lets) (tree vars e)) (size_over (map size_in lets) (tree vars e)))
+HasMeasure vars lets e o = MatchOption o (most < load_of vars (map range_in lets) (map size_in lets) e)
+    (λ m. IsMeasure m (range_over (ranges vars) (map range_in lets) (tree vars e)) (size_over (map size_in lets) (tree vars e)))
 
--- what weighing a formula answers
+-- what weighing a formula returns
 abbrev pub Answers : List VarInfo → List Measure → Formula → List Measure → List Measure → Result Measure BoundStop → Type 0
 Answers vars lets e old new r = MatchResult r (IsWeighed vars lets e old new) (StopsWeighing (loaded vars (map range_in lets) (map size_in lets) e))
 
@@ -34,33 +36,41 @@ too_heavy : (o : Option Measure) (l : ℕ) (P : Measure → Type 0) → MatchOpt
 too_heavy None l P m h = m
 too_heavy (Some x) l P m h = let f : most < 0 = h in omega (arith, f)
 
-more_nodes : (old mid new : List Measure) (ys : List (Span × Seen)) (at : Span) (w : Measure) (z : Seen) → map seen mid ≡ map seen old ++ node_measures ys → new ≡ mid ++ w ∷ [] → seen w ≡ z → map seen new ≡ map seen old ++ node_measures (ys ++ (at, z) ∷ [])
+more_nodes : (old mid new : List Measure) (ys : List (Span × Seen)) (at : Span) (w : Measure) (z : Seen) → map seen mid ≡ map seen old ++ node_measures ys
+    → new ≡ mid ++ w ∷ [] → seen w ≡ z → map seen new ≡ map seen old ++ node_measures (ys ++ (at, z) ∷ [])
 more_nodes old mid new ys at w z h e k = rw (e, map-append, map-append) (rw (h, k) (append_assoc (map seen old) (node_measures ys) (z ∷ [])))
 
 same_pair : (m : Measure) (p : Range) (s : ℕ) → range m.pair ≡ p → m.size ≡ s → seen m ≡ (p, s)
 same_pair m p s e f = rw (e, f) refl
 
--- a node behind light ones: its measure is put behind theirs, or it is the first that is too heavy
-pub weighed : (vars : List VarInfo) (lets : List Measure) (e : Formula) (xs : Nodes) (ys : List (Span × Seen)) (at : Span) (o : Option Measure) (old mid new : List Measure) (r : Result Measure BoundStop)
-    → loaded vars (map range_in lets) (map size_in lets) e ≡ xs ++ (at, load_of vars (map range_in lets) (map size_in lets) e) ∷ [] → measured vars (map range_in lets) (map size_in lets) e ≡ ys ++ (at, measure_of vars (map range_in lets) (map size_in lets) e) ∷ []
+-- a node after light ones: its measure is appended to theirs, or it is the first whose weight is too large
+pub weighed : (vars : List VarInfo) (lets : List Measure) (e : Formula) (xs : Nodes) (ys : List (Span × Seen)) (at : Span)
+    (o : Option Measure) (old mid new : List Measure) (r : Result Measure BoundStop)
+    → loaded vars (map range_in lets) (map size_in lets) e ≡ xs ++ (at, load_of vars (map range_in lets) (map size_in lets) e) ∷ []
+    → measured vars (map range_in lets) (map size_in lets) e ≡ ys ++ (at, measure_of vars (map range_in lets) (map size_in lets) e) ∷ []
     → AreLight xs → map seen mid ≡ map seen old ++ node_measures ys → HasMeasure vars lets e o
     → IfOk r (λ w. (o ≡ Some w) × (new ≡ mid ++ w ∷ [])) → IfErr r (IsHeavyOrNoMemory at (tested o)) → Answers vars lets e old new r
 weighed vars lets e xs ys at o old mid new (Ok w) ql qm l n h a b =
     let m : IsMeasure w (range_over (ranges vars) (map range_in lets) (tree vars e)) (size_over (map size_in lets) (tree vars e)) = rw a.0 at h in
     record {
       measure = m;
-      nodes = rw qm (more_nodes old mid new ys at w (measure_of vars (map range_in lets) (map size_in lets) e) n a.1 (same_pair w _ _ m.same_range m.same_size));
+      nodes =
+          rw qm (more_nodes old mid new ys at w (measure_of vars (map range_in lets) (map size_in lets) e) n a.1 (same_pair w _ _ m.same_range m.same_size));
       light = rw ql (light_behind xs at (load_of vars (map range_in lets) (map size_in lets) e) l m.small);
     }
-weighed vars lets e xs ys at o old mid new (Err s) ql qm l n h a b = rw ql (stop_here xs at (load_of vars (map range_in lets) (map size_in lets) e) (tested o) s l (too_heavy o (load_of vars (map range_in lets) (map size_in lets) e) _ h) b)
+weighed vars lets e xs ys at o old mid new (Err s) ql qm l n h a b = rw ql (stop_here xs at (load_of vars (map range_in lets) (map size_in lets) e)
+    (tested o) s l (too_heavy o (load_of vars (map range_in lets) (map size_in lets) e) _ h) b)
 
 -- a formula that is another is weighed as that
-pub weighed_as : (vars : List VarInfo) (lets : List Measure) (e f : Formula) (old new : List Measure) (r : Result Measure BoundStop) → e ≡ f → Answers vars lets f old new r → Answers vars lets e old new r
+pub weighed_as : (vars : List VarInfo) (lets : List Measure) (e f : Formula) (old new : List Measure) (r : Result Measure BoundStop) → e ≡ f
+    → Answers vars lets f old new r → Answers vars lets e old new r
 weighed_as vars lets e f old new r q h = subst (λ z. Answers vars lets z old new r) (sym q) h
 
 -- a leaf
-pub leaf_weighed : (vars : List VarInfo) (lets : List Measure) (e : Formula) (at : Span) (o : Option Measure) (old new : List Measure) (r : Result Measure BoundStop)
-    → loaded vars (map range_in lets) (map size_in lets) e ≡ (at, load_of vars (map range_in lets) (map size_in lets) e) ∷ [] → measured vars (map range_in lets) (map size_in lets) e ≡ (at, measure_of vars (map range_in lets) (map size_in lets) e) ∷ []
+pub leaf_weighed : (vars : List VarInfo) (lets : List Measure) (e : Formula) (at : Span) (o : Option Measure) (old new : List Measure)
+    (r : Result Measure BoundStop)
+    → loaded vars (map range_in lets) (map size_in lets) e ≡ (at, load_of vars (map range_in lets) (map size_in lets) e) ∷ []
+    → measured vars (map range_in lets) (map size_in lets) e ≡ (at, measure_of vars (map range_in lets) (map size_in lets) e) ∷ []
     → HasMeasure vars lets e o → IfOk r (λ w. (o ≡ Some w) × (new ≡ old ++ w ∷ [])) → IfErr r (IsHeavyOrNoMemory at (tested o)) → Answers vars lets e old new r
 leaf_weighed vars lets e at o old new r ql qm h a b = weighed vars lets e [] [] at o old old new r ql qm tt (sym (append-nil (map seen old))) h a b
 
@@ -68,74 +78,112 @@ leaf_weighed vars lets e at o old new r ql qm h a b = weighed vars lets e [] [] 
 opposite_measured : (p q : Range) (s t : ℕ) (m : Measure) → p ≡ q → s ≡ t → IsMeasure m (opposite p) s → IsMeasure m (opposite q) t
 opposite_measured p q s t m e f h = rw (e, f) at h
 
-power_measured : (p q : Range) (s t n : ℕ) (o : Option Measure) → p ≡ q → s ≡ t → MatchOption o (most < max (magnitude (power p n)) (s ^ n)) (λ m. IsMeasure m (power p n) (s ^ n)) → MatchOption o (most < max (magnitude (power q n)) (t ^ n)) (λ m. IsMeasure m (power q n) (t ^ n))
+power_measured : (p q : Range) (s t n : ℕ) (o : Option Measure) → p ≡ q → s ≡ t
+    → MatchOption o (most < max (magnitude (power p n)) (s ^ n)) (λ m. IsMeasure m (power p n) (s ^ n))
+    → MatchOption o (most < max (magnitude (power q n)) (t ^ n)) (λ m. IsMeasure m (power q n) (t ^ n))
 power_measured p q s t n o e f h = rw (e, f) at h
 
-pub opposite_weighed : (vars : List VarInfo) (lets : List Measure) (x : Formula) (at : Span) (a m : Measure) (old mid new : List Measure) (r : Result Measure BoundStop)
+pub opposite_weighed : (vars : List VarInfo) (lets : List Measure) (x : Formula) (at : Span) (a m : Measure) (old mid new : List Measure)
+    (r : Result Measure BoundStop)
     → IsWeighed vars lets x old mid a → IsMeasure m (opposite (range a.pair)) a.size
     → IfOk r (λ w. (Some m ≡ Some w) × (new ≡ mid ++ w ∷ [])) → IfErr r (IsHeavyOrNoMemory at (tested (Some m))) → Answers vars lets (FNeg at x) old new r
 opposite_weighed vars lets x at a m old mid new r h k i j =
-    weighed vars lets (FNeg at x) (loaded vars (map range_in lets) (map size_in lets) x) (measured vars (map range_in lets) (map size_in lets) x) at (Some m) old mid new r refl refl h.light h.nodes
+    weighed vars lets (FNeg at x) (loaded vars (map range_in lets) (map size_in lets) x)
+    (measured vars (map range_in lets) (map size_in lets) x) at (Some m) old mid new r refl refl h.light h.nodes
     (opposite_measured (range a.pair) _ a.size _ m h.measure.same_range h.measure.same_size k) i j
 
-pub power_weighed : (vars : List VarInfo) (lets : List Measure) (x : Formula) (n : ℕ) (at : Span) (a : Measure) (o : Option Measure) (old mid new : List Measure) (r : Result Measure BoundStop)
-    → IsWeighed vars lets x old mid a → MatchOption o (most < max (magnitude (power (range a.pair) n)) (a.size ^ n)) (λ m. IsMeasure m (power (range a.pair) n) (a.size ^ n))
+pub power_weighed : (vars : List VarInfo) (lets : List Measure) (x : Formula) (n : ℕ) (at : Span) (a : Measure) (o : Option Measure)
+    (old mid new : List Measure) (r : Result Measure BoundStop)
+    → IsWeighed vars lets x old mid a
+    → MatchOption o (most < max (magnitude (power (range a.pair) n)) (a.size ^ n)) (λ m. IsMeasure m (power (range a.pair) n) (a.size ^ n))
     → IfOk r (λ w. (o ≡ Some w) × (new ≡ mid ++ w ∷ [])) → IfErr r (IsHeavyOrNoMemory at (tested o)) → Answers vars lets (FPow at x n) old new r
 power_weighed vars lets x n at a o old mid new r h k i j =
-    weighed vars lets (FPow at x n) (loaded vars (map range_in lets) (map size_in lets) x) (measured vars (map range_in lets) (map size_in lets) x) at o old mid new r refl refl h.light h.nodes
+    weighed vars lets (FPow at x n) (loaded vars (map range_in lets) (map size_in lets) x)
+    (measured vars (map range_in lets) (map size_in lets) x) at o old mid new r refl refl h.light h.nodes
     (power_measured (range a.pair) _ a.size _ n o h.measure.same_range h.measure.same_size k) i j
 
 -- ---- two operands
-loaded_two : (vars : List VarInfo) (lets : List Measure) (k : Two) (at : Span) (x y : Formula) → loaded vars (map range_in lets) (map size_in lets) (formula_of k at x y) ≡ (loaded vars (map range_in lets) (map size_in lets) x ++ loaded vars (map range_in lets) (map size_in lets) y) ++ (at, load_of vars (map range_in lets) (map size_in lets) (formula_of k at x y)) ∷ []
+loaded_two : (vars : List VarInfo) (lets : List Measure) (k : Two) (at : Span) (x y : Formula)
+    → loaded vars (map range_in lets) (map size_in lets) (formula_of k at x y) ≡ (loaded vars (map range_in lets) (map size_in lets) x
+    ++ loaded vars (map range_in lets) (map size_in lets) y) ++ (at, load_of vars (map range_in lets) (map size_in lets) (formula_of k at x y)) ∷ []
 loaded_two vars lets Plus at x y = refl
 loaded_two vars lets Minus at x y = refl
 loaded_two vars lets Times at x y = refl
 
-measured_two : (vars : List VarInfo) (lets : List Measure) (k : Two) (at : Span) (x y : Formula) → measured vars (map range_in lets) (map size_in lets) (formula_of k at x y) ≡ (measured vars (map range_in lets) (map size_in lets) x ++ measured vars (map range_in lets) (map size_in lets) y) ++ (at, measure_of vars (map range_in lets) (map size_in lets) (formula_of k at x y)) ∷ []
+measured_two : (vars : List VarInfo) (lets : List Measure) (k : Two) (at : Span) (x y : Formula)
+    → measured vars (map range_in lets) (map size_in lets) (formula_of k at x y) ≡ (measured vars (map range_in lets) (map size_in lets) x
+    ++ measured vars (map range_in lets) (map size_in lets) y) ++ (at, measure_of vars (map range_in lets) (map size_in lets) (formula_of k at x y)) ∷ []
 measured_two vars lets Plus at x y = refl
 measured_two vars lets Minus at x y = refl
 measured_two vars lets Times at x y = refl
 
-has_two : (vars : List VarInfo) (lets : List Measure) (k : Two) (at : Span) (x y : Formula) (p q : Range) (s t : ℕ) (o : Option Measure) → p ≡ range_over (ranges vars) (map range_in lets) (tree vars x) → q ≡ range_over (ranges vars) (map range_in lets) (tree vars y) → s ≡ size_over (map size_in lets) (tree vars x) → t ≡ size_over (map size_in lets) (tree vars y)
-    → MatchOption o (most < max (magnitude (range_of k p q)) (bound_of k s t)) (λ m. IsMeasure m (range_of k p q) (bound_of k s t)) → HasMeasure vars lets (formula_of k at x y) o
+has_two : (vars : List VarInfo) (lets : List Measure) (k : Two) (at : Span) (x y : Formula) (p q : Range) (s t : ℕ) (o : Option Measure)
+    → p ≡ range_over (ranges vars) (map range_in lets) (tree vars x) → q ≡ range_over (ranges vars) (map range_in lets) (tree vars y)
+    → s ≡ size_over (map size_in lets) (tree vars x) → t ≡ size_over (map size_in lets) (tree vars y)
+    → MatchOption o (most < max (magnitude (range_of k p q)) (bound_of k s t)) (λ m. IsMeasure m (range_of k p q) (bound_of k s t))
+    → HasMeasure vars lets (formula_of k at x y) o
 has_two vars lets Plus at x y p q s t o ep eq es et h = rw (ep, eq, es, et) at h
 has_two vars lets Minus at x y p q s t o ep eq es et h = rw (ep, eq, es, et) at h
 has_two vars lets Times at x y p q s t o ep eq es et h = rw (ep, eq, es, et) at h
 
-both_nodes : (old first mid : List Measure) (xs ys : List (Span × Seen)) → map seen first ≡ map seen old ++ node_measures xs → map seen mid ≡ map seen first ++ node_measures ys → map seen mid ≡ map seen old ++ node_measures (xs ++ ys)
+both_nodes : (old first mid : List Measure) (xs ys : List (Span × Seen)) → map seen first ≡ map seen old ++ node_measures xs
+    → map seen mid ≡ map seen first ++ node_measures ys → map seen mid ≡ map seen old ++ node_measures (xs ++ ys)
 both_nodes old first mid xs ys g h = h ∙ rw (g, map-append) (append_assoc (map seen old) (node_measures xs) (node_measures ys))
 
-pub two_weighed : (vars : List VarInfo) (lets : List Measure) (k : Two) (x y : Formula) (at : Span) (a b : Measure) (o : Option Measure) (old first mid new : List Measure) (r : Result Measure BoundStop)
+pub two_weighed : (vars : List VarInfo) (lets : List Measure) (k : Two) (x y : Formula) (at : Span) (a b : Measure) (o : Option Measure)
+    (old first mid new : List Measure) (r : Result Measure BoundStop)
     → IsWeighed vars lets x old first a → IsWeighed vars lets y first mid b
-    → MatchOption o (most < max (magnitude (range_of k (range a.pair) (range b.pair))) (bound_of k a.size b.size)) (λ m. IsMeasure m (range_of k (range a.pair) (range b.pair)) (bound_of k a.size b.size))
+    → MatchOption o (most < max (magnitude (range_of k (range a.pair) (range b.pair))) (bound_of k a.size b.size))
+    (λ m. IsMeasure m (range_of k (range a.pair) (range b.pair)) (bound_of k a.size b.size))
     → IfOk r (λ w. (o ≡ Some w) × (new ≡ mid ++ w ∷ [])) → IfErr r (IsHeavyOrNoMemory at (tested o)) → Answers vars lets (formula_of k at x y) old new r
 two_weighed vars lets k x y at a b o old first mid new r g h z i j =
-    weighed vars lets (formula_of k at x y) (loaded vars (map range_in lets) (map size_in lets) x ++ loaded vars (map range_in lets) (map size_in lets) y) (measured vars (map range_in lets) (map size_in lets) x ++ measured vars (map range_in lets) (map size_in lets) y) at o old mid new r (loaded_two vars lets k at x y) (measured_two vars lets k at x y)
-    (light_both (loaded vars (map range_in lets) (map size_in lets) x) (loaded vars (map range_in lets) (map size_in lets) y) g.light h.light) (both_nodes old first mid (measured vars (map range_in lets) (map size_in lets) x) (measured vars (map range_in lets) (map size_in lets) y) g.nodes h.nodes)
-    (has_two vars lets k at x y (range a.pair) (range b.pair) a.size b.size o g.measure.same_range h.measure.same_range g.measure.same_size h.measure.same_size z) i j
+    weighed vars lets (formula_of k at x y) (loaded vars (map range_in lets) (map size_in lets) x ++ loaded vars (map range_in lets) (map size_in lets) y)
+    (measured vars (map range_in lets) (map size_in lets) x ++ measured vars (map range_in lets) (map size_in lets) y) at o old mid new r
+    (loaded_two vars lets k at x y) (measured_two vars lets k at x y)
+    (light_both (loaded vars (map range_in lets) (map size_in lets) x) (loaded vars (map range_in lets) (map size_in lets) y) g.light h.light) (both_nodes old
+    first mid (measured vars (map range_in lets) (map size_in lets) x) (measured vars (map range_in lets) (map size_in lets) y) g.nodes h.nodes)
+    (has_two vars lets k at x y (range a.pair) (range b.pair) a.size b.size o g.measure.same_range h.measure.same_range g.measure.same_size
+    h.measure.same_size z) i j
 
 -- ---- what stops in an operand
-pub first_stops : (vars : List VarInfo) (lets : List Measure) (k : Two) (at : Span) (x y : Formula) (s : BoundStop) → StopsWeighing (loaded vars (map range_in lets) (map size_in lets) x) s → StopsWeighing (loaded vars (map range_in lets) (map size_in lets) (formula_of k at x y)) s
-first_stops vars lets k at x y s h = rw (loaded_two vars lets k at x y) (stop_before (loaded vars (map range_in lets) (map size_in lets) x ++ loaded vars (map range_in lets) (map size_in lets) y) _ s (stop_before (loaded vars (map range_in lets) (map size_in lets) x) (loaded vars (map range_in lets) (map size_in lets) y) s h))
+pub first_stops : (vars : List VarInfo) (lets : List Measure) (k : Two) (at : Span) (x y : Formula) (s : BoundStop)
+    → StopsWeighing (loaded vars (map range_in lets) (map size_in lets) x) s
+    → StopsWeighing (loaded vars (map range_in lets) (map size_in lets) (formula_of k at x y)) s
+first_stops vars lets k at x y s h = rw (loaded_two vars lets k at x y)
+    (stop_before (loaded vars (map range_in lets) (map size_in lets) x ++ loaded vars (map range_in lets) (map size_in lets) y) _ s
+    (stop_before (loaded vars (map range_in lets) (map size_in lets) x) (loaded vars (map range_in lets) (map size_in lets) y) s h))
 
-pub second_stops : (vars : List VarInfo) (lets : List Measure) (k : Two) (at : Span) (x y : Formula) (s : BoundStop) → AreLight (loaded vars (map range_in lets) (map size_in lets) x) → StopsWeighing (loaded vars (map range_in lets) (map size_in lets) y) s → StopsWeighing (loaded vars (map range_in lets) (map size_in lets) (formula_of k at x y)) s
-second_stops vars lets k at x y s l h = rw (loaded_two vars lets k at x y) (stop_before (loaded vars (map range_in lets) (map size_in lets) x ++ loaded vars (map range_in lets) (map size_in lets) y) _ s (stop_behind (loaded vars (map range_in lets) (map size_in lets) x) (loaded vars (map range_in lets) (map size_in lets) y) s l h))
+pub second_stops : (vars : List VarInfo) (lets : List Measure) (k : Two) (at : Span) (x y : Formula) (s : BoundStop)
+    → AreLight (loaded vars (map range_in lets) (map size_in lets) x) → StopsWeighing (loaded vars (map range_in lets) (map size_in lets) y) s
+    → StopsWeighing (loaded vars (map range_in lets) (map size_in lets) (formula_of k at x y)) s
+second_stops vars lets k at x y s l h = rw (loaded_two vars lets k at x y)
+    (stop_before (loaded vars (map range_in lets) (map size_in lets) x ++ loaded vars (map range_in lets) (map size_in lets) y) _ s
+    (stop_behind (loaded vars (map range_in lets) (map size_in lets) x) (loaded vars (map range_in lets) (map size_in lets) y) s l h))
 
-pub operand_stops : (vars : List VarInfo) (lets : List Measure) (e x : Formula) (at : Span) (s : BoundStop) → loaded vars (map range_in lets) (map size_in lets) e ≡ loaded vars (map range_in lets) (map size_in lets) x ++ (at, load_of vars (map range_in lets) (map size_in lets) e) ∷ [] → StopsWeighing (loaded vars (map range_in lets) (map size_in lets) x) s → StopsWeighing (loaded vars (map range_in lets) (map size_in lets) e) s
+pub operand_stops : (vars : List VarInfo) (lets : List Measure) (e x : Formula) (at : Span) (s : BoundStop)
+    → loaded vars (map range_in lets) (map size_in lets) e ≡ loaded vars (map range_in lets) (map size_in lets) x ++ (
+      at,
+      load_of vars (map range_in lets) (map size_in lets) e,
+    ) ∷ [] → StopsWeighing (loaded vars (map range_in lets) (map size_in lets) x) s → StopsWeighing (loaded vars (map range_in lets) (map size_in lets) e) s
 operand_stops vars lets e x at s q h = rw q (stop_before (loaded vars (map range_in lets) (map size_in lets) x) _ s h)
 
 -- ---- the predicate
--- the first node that is too heavy may stand in the lets
-pub lets_stop_pred : (vars v : List VarInfo) (lets ls : List Formula) (root : Formula) (s : BoundStop) → v ≡ vars → ls ≡ lets → StopsWeighing (loaded_lets v [] [] ls) s → StopsWeighing (loaded_pred vars lets root) s
+-- the first node whose weight is too large may be in the lets
+pub lets_stop_pred : (vars v : List VarInfo) (lets ls : List Formula) (root : Formula) (s : BoundStop) → v ≡ vars → ls ≡ lets
+    → StopsWeighing (loaded_lets v [] [] ls) s → StopsWeighing (loaded_pred vars lets root) s
 lets_stop_pred vars v lets ls root s ev el h = rw (← ev, ← el) (stop_before (loaded_lets v [] [] ls) _ s h)
 
-pub pred_light : (vars v : List VarInfo) (lets ls : List Formula) (root : Formula) (rs : List Range) (zs : List ℕ) → v ≡ vars → ls ≡ lets → rs ≡ ranges_of_lets v [] ls → zs ≡ sizes_of_lets v [] ls → AreLight (loaded_lets v [] [] ls) → AreLight (loaded v rs zs root) → AreLight (loaded_pred vars lets root)
+pub pred_light : (vars v : List VarInfo) (lets ls : List Formula) (root : Formula) (rs : List Range) (zs : List ℕ) → v ≡ vars → ls ≡ lets
+    → rs ≡ ranges_of_lets v [] ls → zs ≡ sizes_of_lets v [] ls → AreLight (loaded_lets v [] [] ls) → AreLight (loaded v rs zs root)
+    → AreLight (loaded_pred vars lets root)
 pred_light vars v lets ls root rs zs ev el er es h g =
     let i : AreLight (loaded v (ranges_of_lets v [] ls) (sizes_of_lets v [] ls) root) = rw (er, es) at g in
     rw (← ev, ← el) (light_both (loaded_lets v [] [] ls) (loaded v (ranges_of_lets v [] ls) (sizes_of_lets v [] ls) root) h i)
 
-pub pred_nodes : (vars v : List VarInfo) (lets ls : List Formula) (root : Formula) (rs : List Range) (zs : List ℕ) (mid all : List Measure) → v ≡ vars → ls ≡ lets → rs ≡ ranges_of_lets v [] ls → zs ≡ sizes_of_lets v [] ls
-    → map seen mid ≡ node_measures (measured_lets v [] [] ls) → map seen all ≡ map seen mid ++ node_measures (measured v rs zs root) → map seen all ≡ node_measures (measured_pred vars lets root)
+pub pred_nodes : (vars v : List VarInfo) (lets ls : List Formula) (root : Formula) (rs : List Range) (zs : List ℕ) (mid all : List Measure)
+    → v ≡ vars → ls ≡ lets → rs ≡ ranges_of_lets v [] ls → zs ≡ sizes_of_lets v [] ls
+    → map seen mid ≡ node_measures (measured_lets v [] [] ls) → map seen all ≡ map seen mid ++ node_measures (measured v rs zs root)
+    → map seen all ≡ node_measures (measured_pred vars lets root)
 pred_nodes vars v lets ls root rs zs mid all ev el er es h g =
     let i : map seen all ≡ map seen mid ++ node_measures (measured v (ranges_of_lets v [] ls) (sizes_of_lets v [] ls) root) = rw (er, es) at g in
     rw (← ev, ← el) (i ∙ rw (h, map-append) refl)

@@ -31,7 +31,8 @@ power_le a b (suc n) h =
     omega (arith, pow-suc a n, pow-suc b n, m)
 
 -- a weight grows with those of the variables and lets
-pub weight_grows : (m w : ℕ → ℕ) (ms ws : List ℕ) → ((v : ℕ) → m v ≤ w v) → ((j : ℕ) → slice_index_or ms j 0 ≤ slice_index_or ws j 0) → (e : Tree) → weight_over m ms e ≤ weight_over w ws e
+pub weight_grows : (m w : ℕ → ℕ) (ms ws : List ℕ) → ((v : ℕ) → m v ≤ w v) → ((j : ℕ) → slice_index_or ms j 0 ≤ slice_index_or ws j 0)
+    → (e : Tree) → weight_over m ms e ≤ weight_over w ws e
 weight_grows m w ms ws h l (Num c) = omega arith
 weight_grows m w ms ws h l (Input v) = h v
 weight_grows m w ms ws h l (Name j) = l j
@@ -45,7 +46,8 @@ less : (a b : ℕ) → a ≤ b → b ≤ most → a ≤ most
 less a b h l = omega (arith, h, l)
 
 -- where the number of each node is at most what is tested of it, no number is too large where no node is
-up_to : (vars : List VarInfo) (num : Tree → ℕ) (by : Formula → ℕ) → ((f : Formula) → num (tree vars f) ≤ by f) → (f : Formula) → AreLight (nodes_by by f) → AreUpTo num most (tree vars f)
+up_to : (vars : List VarInfo) (num : Tree → ℕ) (by : Formula → ℕ) → ((f : Formula) → num (tree vars f) ≤ by f) → (f : Formula)
+    → AreLight (nodes_by by f) → AreUpTo num most (tree vars f)
 up_to vars num by h (FNum at c) l = less _ _ (h (FNum at c)) l.0
 up_to vars num by h (FInput at a c) l = less _ _ (h (FInput at a c)) l.0
 up_to vars num by h (FName at j) l = less _ _ (h (FName at j)) l.0
@@ -84,7 +86,8 @@ left a b = omega arith
 
 -- the range of each node is within the limit
 pub light_ranges : (vars : List VarInfo) (ps : List Range) (ss : List ℕ) (f : Formula) → AreLight (loaded vars ps ss f) → HaveRange vars ps (tree vars f)
-light_ranges vars ps ss f l = up_to vars (λ n. magnitude (range_over (ranges vars) ps n)) (load_of vars ps ss) (λ g. left (magnitude (range_over (ranges vars) ps (tree vars g))) (size_over ss (tree vars g))) f l
+light_ranges vars ps ss f l = up_to vars (λ n. magnitude (range_over (ranges vars) ps n)) (load_of vars ps ss)
+    (λ g. left (magnitude (range_over (ranges vars) ps (tree vars g))) (size_over ss (tree vars g))) f l
 
 right : (a b c : ℕ) → a ≤ c → a ≤ max b c
 right a b c h = omega (arith, h)
@@ -94,11 +97,15 @@ running_below : (rs ss : List ℕ) → ((j : ℕ) → slice_index_or rs j 0 ≤ 
 running_below rs ss l e = weight_grows one two rs ss (λ v. omega arith) l e
 
 -- and so is the running size of each node
-pub light_running : (vars : List VarInfo) (ps : List Range) (rs ss : List ℕ) → ((j : ℕ) → slice_index_or rs j 0 ≤ slice_index_or ss j 0) → (f : Formula) → AreLight (loaded vars ps ss f) → HasRoom one rs (tree vars f)
-light_running vars ps rs ss l f a = room_of one rs (tree vars f) (up_to vars (weight_over one rs) (load_of vars ps ss) (λ g. right (weight_over one rs (tree vars g)) (magnitude (range_over (ranges vars) ps (tree vars g))) (size_over ss (tree vars g)) (running_below rs ss l (tree vars g))) f a)
+pub light_running : (vars : List VarInfo) (ps : List Range) (rs ss : List ℕ) → ((j : ℕ) → slice_index_or rs j 0 ≤ slice_index_or ss j 0)
+    → (f : Formula) → AreLight (loaded vars ps ss f) → HasRoom one rs (tree vars f)
+light_running vars ps rs ss l f a =
+    room_of one rs (tree vars f) (up_to vars (weight_over one rs) (load_of vars ps ss) (λ g. right (weight_over one rs (tree vars g))
+    (magnitude (range_over (ranges vars) ps (tree vars g))) (size_over ss (tree vars g)) (running_below rs ss l (tree vars g))) f a)
 
 -- ---- lets
-lets_ranges : (vars : List VarInfo) (ps : List Range) (ss : List ℕ) (fs : List Formula) → AreLight (loaded_lets vars ps ss fs) → LetsHaveRange vars ps (map (tree vars) fs)
+lets_ranges : (vars : List VarInfo) (ps : List Range) (ss : List ℕ) (fs : List Formula) → AreLight (loaded_lets vars ps ss fs)
+    → LetsHaveRange vars ps (map (tree vars) fs)
 lets_ranges vars ps ss [] l = tt
 lets_ranges vars ps ss (f ∷ fs) l =
     let p = light_parts (loaded vars ps ss f) _ l in
@@ -109,13 +116,15 @@ record RunningLets (vars : List VarInfo) (rs ss : List ℕ) (fs : List Formula) 
   pub room : HaveRoom one rs (map (tree vars) fs)
   pub below : (j : ℕ) → slice_index_or (let_bounds one rs (map (tree vars) fs)) j 0 ≤ slice_index_or (sizes_of_lets vars ss fs) j 0
 
-lets_running : (vars : List VarInfo) (ps : List Range) (rs ss : List ℕ) → length rs ≡ length ss → ((j : ℕ) → slice_index_or rs j 0 ≤ slice_index_or ss j 0) → (fs : List Formula) → AreLight (loaded_lets vars ps ss fs) → RunningLets vars rs ss fs
+lets_running : (vars : List VarInfo) (ps : List Range) (rs ss : List ℕ) → length rs ≡ length ss
+    → ((j : ℕ) → slice_index_or rs j 0 ≤ slice_index_or ss j 0) → (fs : List Formula) → AreLight (loaded_lets vars ps ss fs) → RunningLets vars rs ss fs
 lets_running vars ps rs ss e l [] a = record { room = tt; below = l }
 lets_running vars ps rs ss e l (f ∷ fs) a =
     let p = light_parts (loaded vars ps ss f) _ a in
     let r = weight_over one rs (tree vars f) in
     let s = size_over ss (tree vars f) in
-    let ih = lets_running vars (ps ++ range_over (ranges vars) ps (tree vars f) ∷ []) (rs ++ r ∷ []) (ss ++ s ∷ []) (long_more rs ss r s e) (more_sizes rs ss r s e (running_below rs ss l (tree vars f)) l) fs p.1 in
+    let ih = lets_running vars (ps ++ range_over (ranges vars) ps (tree vars f) ∷ []) (rs ++ r ∷ []) (ss ++ s ∷ []) (long_more rs ss r s e)
+    (more_sizes rs ss r s e (running_below rs ss l (tree vars f)) l) fs p.1 in
     record { room = (light_running vars ps rs ss l f p.0, ih.room); below = ih.below }
 
 -- the ranges of lets are those of their trees
@@ -149,7 +158,8 @@ module _ (vars : List VarInfo) (x : ℕ → ℤ) (h : (v : ℕ) → Holds (range
   fits ps zs l e m = let a = holds_magnitude (range_over (ranges vars) ps e) (value x zs e) (value_held x (ranges vars) h zs ps l e) in omega (arith, a, m)
 
   -- so is each lower power
-  lower_fits : (ps : List Range) (zs : List ℤ) → AllHold ps zs → (e : Tree) (n k : ℕ) → magnitude (range_over (ranges vars) ps (Pow e n)) ≤ most → k ≤ n → unsigned_abs (plain.power (value x zs e) k) ≤ most
+  lower_fits : (ps : List Range) (zs : List ℤ) → AllHold ps zs → (e : Tree) (n k : ℕ)
+      → magnitude (range_over (ranges vars) ps (Pow e n)) ≤ most → k ≤ n → unsigned_abs (plain.power (value x zs e) k) ≤ most
   lower_fits ps zs l e n k m g =
       let p = range_over (ranges vars) ps e in
       let a = holds_magnitude (power p k) (plain.power (value x zs e) k) (power_holds p k (value x zs e) (value_held x (ranges vars) h zs ps l e)) in
@@ -173,18 +183,24 @@ module _ (vars : List VarInfo) (x : ℕ → ℤ) (h : (v : ℕ) → Holds (range
   lets_ranges_fit ps zs n l [] a = tt
   lets_ranges_fit ps zs n l (e ∷ es) a =
       let p = range_over (ranges vars) ps e in
-      let z = value x zs e in
-      (ranges_fit ps zs l e a.0, lets_ranges_fit (ps ++ p ∷ []) (zs ++ z ∷ []) (more_long ps zs p z n) (more_held ps zs p z n (value_held x (ranges vars) h zs ps l e) l) es a.1)
+      let z = value x zs e in (
+        ranges_fit ps zs l e a.0,
+        lets_ranges_fit (ps ++ p ∷ []) (zs ++ z ∷ []) (more_long ps zs p z n) (more_held ps zs p z n (value_held x (ranges vars) h zs ps l e) l) es a.1,
+      )
 
   nothing_held : AllHold [] []
   nothing_held j = (omega arith, omega arith)
 
-  all_fit : (lets : List Formula) (root : Formula) → AreLight (loaded_pred vars lets root) → LetsFit x [] (map (tree vars) lets) × ValuesFit x (let_values x [] (map (tree vars) lets)) (tree vars root)
+  all_fit : (lets : List Formula) (root : Formula) → AreLight (loaded_pred vars lets root)
+      → LetsFit x [] (map (tree vars) lets) × ValuesFit x (let_values x [] (map (tree vars) lets)) (tree vars root)
   all_fit lets root a =
       let r = pred_room vars lets root a in
-      let l = lets_hold x (ranges vars) h [] [] refl nothing_held (map (tree vars) lets) in
-      (lets_ranges_fit [] [] refl nothing_held (map (tree vars) lets) r.lets_ranges, ranges_fit (let_ranges (ranges vars) [] (map (tree vars) lets)) (let_values x [] (map (tree vars) lets)) l.all (tree vars root) r.root_range)
+      let l = lets_hold x (ranges vars) h [] [] refl nothing_held (map (tree vars) lets) in (
+        lets_ranges_fit [] [] refl nothing_held (map (tree vars) lets) r.lets_ranges,
+        ranges_fit (let_ranges (ranges vars) [] (map (tree vars) lets)) (let_values x [] (map (tree vars) lets)) l.all (tree vars root) r.root_range,
+      )
 
 -- the values of a predicate whose loads are within the limit fit
-pub pred_fits : (vars : List VarInfo) (x : ℕ → ℤ) (lets : List Formula) (root : Formula) → ((v : ℕ) → Holds (ranges vars v) (x v)) → AreLight (loaded_pred vars lets root) → LetsFit x [] (map (tree vars) lets) × ValuesFit x (let_values x [] (map (tree vars) lets)) (tree vars root)
+pub pred_fits : (vars : List VarInfo) (x : ℕ → ℤ) (lets : List Formula) (root : Formula) → ((v : ℕ) → Holds (ranges vars v) (x v))
+    → AreLight (loaded_pred vars lets root) → LetsFit x [] (map (tree vars) lets) × ValuesFit x (let_values x [] (map (tree vars) lets)) (tree vars root)
 pred_fits vars x lets root h a = all_fit vars x h lets root a

@@ -26,7 +26,8 @@ let_range [] j u h = cc
 let_range (t ∷ ts) zero u h = let e : t ≡ u = cc in ap pair e
 let_range (t ∷ ts) (suc j) u h = let_range ts j u h
 
-of_let : (lets : List Typed) (j : ℕ) (o : Option Typed) (p : Range) (w : Width) → slice_get lets j ≡ o → IsOfLet o p w → p ≡ slice_index_or (map pair lets) j (point (pos 0))
+of_let : (lets : List Typed) (j : ℕ) (o : Option Typed) (p : Range) (w : Width) → slice_get lets j ≡ o → IsOfLet o p w
+    → p ≡ slice_index_or (map pair lets) j (point (pos 0))
 of_let lets j None p w e h = absurd h
 of_let lets j (Some u) p w e h = h.0 ∙ sym (let_range lets j u e)
 
@@ -61,7 +62,8 @@ wider_in : (p q : Range) (v w : Width) → p ≡ q → IsOrdered q → magnitude
 wider_in p q v w e o m s = (rw e o, rw s (wider_fits v (magnitude p) m))
 
 -- an exact node is in order where variables and lets are
-pub exact_ordered : (vars : List VarInfo) (lets : List Typed) → ((v : ℕ) → IsOrdered (ranges vars v)) → ((j : ℕ) (u : Typed) → slice_get lets j ≡ Some u → IsOrdered (pair u)) → (t : Typed) → IsExact vars lets t → IsOrdered (pair t)
+pub exact_ordered : (vars : List VarInfo) (lets : List Typed) → ((v : ℕ) → IsOrdered (ranges vars v))
+    → ((j : ℕ) (u : Typed) → slice_get lets j ≡ Some u → IsOrdered (pair u)) → (t : Typed) → IsExact vars lets t → IsOrdered (pair t)
 exact_ordered vars lets h l (TNum c p w) x = let e : p ≡ point c = x.0 in rw e (omega (arith, ints))
 exact_ordered vars lets h l (TInput v p w) x = let e : p ≡ ranges vars v = x.0 in rw e (h v)
 exact_ordered vars lets h l (TLet j p w) x = by_let (slice_get lets j) refl x
@@ -69,42 +71,73 @@ exact_ordered vars lets h l (TLet j p w) x = by_let (slice_get lets j) refl x
     by_let : (o : Option Typed) → slice_get lets j ≡ o → IsOfLet o p w → IsOrdered p
     by_let None q y = absurd y
     by_let (Some u) q y = let e : p ≡ pair u = y.0 in rw e (l j u q)
-exact_ordered vars lets h l (TNeg t p w) x = let e : p ≡ opposite (pair t) = x.1 in let i = opposite_ordered (pair t) (exact_ordered vars lets h l t x.0) in rw e i
-exact_ordered vars lets h l (TTwo k s t p w) x = let e : p ≡ range_of k (pair s) (pair t) = x.2 in let i = two_ordered k (pair s) (pair t) (exact_ordered vars lets h l s x.0) (exact_ordered vars lets h l t x.1) in rw e i
+exact_ordered vars lets h l (TNeg t p w) x =
+    let e : p ≡ opposite (pair t) = x.1 in
+    let i = opposite_ordered (pair t) (exact_ordered vars lets h l t x.0) in
+    rw e i
+exact_ordered vars lets h l (TTwo k s t p w) x =
+    let e : p ≡ range_of k (pair s) (pair t) = x.2 in
+    let i = two_ordered k (pair s) (pair t) (exact_ordered vars lets h l s x.0) (exact_ordered vars lets h l t x.1) in
+    rw e i
 exact_ordered vars lets h l (TPow t n p w) x = let e : p ≡ power (pair t) n = x.1 in let i = power_ordered (pair t) n in rw e i
 
 small : (p q : Range) → p ≡ q → magnitude q ≤ most → magnitude p ≤ most
 small p q e l = rw e l
 
-let_sound : (o : Option Typed) (p : Range) (w : Width) → ((u : Typed) → o ≡ Some u → IsOrdered (pair u)) → IsOfLet o p w → magnitude p ≤ most → CoversLet o p w × IsIn p w
+let_sound : (o : Option Typed) (p : Range) (w : Width) → ((u : Typed) → o ≡ Some u → IsOrdered (pair u)) → IsOfLet o p w
+    → magnitude p ≤ most → CoversLet o p w × IsIn p w
 let_sound None p w l h m = absurd h
-let_sound (Some u) p w l h m = ((same_covers p (pair u) h.0, rw h.1 (left_no_wider (width u) (least (magnitude p)))), wider_in p (pair u) (width u) w h.0 (l u refl) m h.1)
+let_sound (Some u) p w l h m =
+    ((same_covers p (pair u) h.0, rw h.1 (left_no_wider (width u) (least (magnitude p)))), wider_in p (pair u) (width u) w h.0 (l u refl) m h.1)
 
 -- an operation on two exact nodes
-exact_two : (vars : List VarInfo) (lets : List Typed) → ((v : ℕ) → IsOrdered (ranges vars v)) → ((j : ℕ) (u : Typed) → slice_get lets j ≡ Some u → IsOrdered (pair u)) → (k : Two) (s t : Typed) (p : Range) (w : Width) → IsExact vars lets (TTwo k s t p w) → SoundNodes vars lets s → SoundNodes vars lets t → magnitude p ≤ most → SoundNodes vars lets (TTwo k s t p w)
+exact_two : (vars : List VarInfo) (lets : List Typed) → ((v : ℕ) → IsOrdered (ranges vars v))
+    → ((j : ℕ) (u : Typed) → slice_get lets j ≡ Some u → IsOrdered (pair u)) → (k : Two) (s t : Typed) (p : Range) (w : Width)
+    → IsExact vars lets (TTwo k s t p w) → SoundNodes vars lets s → SoundNodes vars lets t → magnitude p ≤ most → SoundNodes vars lets (TTwo k s t p w)
 exact_two vars lets h l k s t p w x a b m =
     let o = exact_ordered vars lets h l s x.0 in
-    let n = exact_ordered vars lets h l t x.1 in
-    (a, b, same_covers p (range_of k (pair s) (pair t)) x.2, wider_in p (range_of k (pair s) (pair t)) (wider (width s) (width t)) w x.2 (two_ordered k (pair s) (pair t) o n) m x.3, rw x.3 (first_no_wider (width s) (width t) (least (magnitude p))), rw x.3 (second_no_wider (width s) (width t) (least (magnitude p))))
+    let n = exact_ordered vars lets h l t x.1 in (
+      a,
+      b,
+      same_covers p (range_of k (pair s) (pair t)) x.2,
+      wider_in p (range_of k (pair s) (pair t)) (wider (width s) (width t)) w x.2 (two_ordered k (pair s) (pair t) o n) m x.3,
+      rw x.3 (first_no_wider (width s) (width t) (least (magnitude p))),
+      rw x.3 (second_no_wider (width s) (width t) (least (magnitude p))),
+    )
 
 -- exact nodes are sound where the ranges are within 2^127 - 1
-pub exact_nodes : (vars : List VarInfo) (lets : List Typed) → ((v : ℕ) → IsOrdered (ranges vars v)) → ((j : ℕ) (u : Typed) → slice_get lets j ≡ Some u → IsOrdered (pair u)) → (t : Typed) → InputsBelow (length vars) (untyped t) → IsExact vars lets t → HaveRange vars (map pair lets) (untyped t) → SoundNodes vars lets t
-exact_nodes vars lets h l (TNum c p w) f x r = (let e : p ≡ point c = x.0 in rw e (number_held c), least_in p (point c) w x.0 (omega (arith, ints)) (small p (point c) x.0 r) x.1)
-exact_nodes vars lets h l (TInput v p w) f x r = (f, same_covers p (ranges vars v) x.0, least_in p (ranges vars v) w x.0 (h v) (small p (ranges vars v) x.0 r) x.1)
+pub exact_nodes : (vars : List VarInfo) (lets : List Typed) → ((v : ℕ) → IsOrdered (ranges vars v))
+    → ((j : ℕ) (u : Typed) → slice_get lets j ≡ Some u → IsOrdered (pair u)) → (t : Typed) → InputsBelow (length vars) (untyped t)
+    → IsExact vars lets t → HaveRange vars (map pair lets) (untyped t) → SoundNodes vars lets t
+exact_nodes vars lets h l (TNum c p w) f x r =
+    (let e : p ≡ point c = x.0 in rw e (number_held c), least_in p (point c) w x.0 (omega (arith, ints)) (small p (point c) x.0 r) x.1)
+exact_nodes vars lets h l (TInput v p w) f x r =
+    (f, same_covers p (ranges vars v) x.0, least_in p (ranges vars v) w x.0 (h v) (small p (ranges vars v) x.0 r) x.1)
 exact_nodes vars lets h l (TLet j p w) f x r = let_sound (slice_get lets j) p w (λ u e. l j u e) x (small p _ (of_let lets j (slice_get lets j) p w refl x) r)
 exact_nodes vars lets h l (TNeg t p w) f x r =
     let m = small p _ (exact_range vars lets (TNeg t p w) x) r.1 in
-    let o = exact_ordered vars lets h l t x.0 in
-    (exact_nodes vars lets h l t f x.0 r.0, same_covers p (opposite (pair t)) x.1, wider_in p (opposite (pair t)) (width t) w x.1 (opposite_ordered (pair t) o) m x.2, rw x.2 (left_no_wider (width t) (least (magnitude p))))
+    let o = exact_ordered vars lets h l t x.0 in (
+      exact_nodes vars lets h l t f x.0 r.0,
+      same_covers p (opposite (pair t)) x.1,
+      wider_in p (opposite (pair t)) (width t) w x.1 (opposite_ordered (pair t) o) m x.2,
+      rw x.2 (left_no_wider (width t) (least (magnitude p))),
+    )
 exact_nodes vars lets h l (TTwo Plus s t p w) f x r =
-    exact_two vars lets h l Plus s t p w x (exact_nodes vars lets h l s f.0 x.0 r.0) (exact_nodes vars lets h l t f.1 x.1 r.1) (small p _ (exact_range vars lets (TTwo Plus s t p w) x) r.2)
+    exact_two vars lets h l Plus s t p w x (exact_nodes vars lets h l s f.0 x.0 r.0) (exact_nodes vars lets h l t f.1 x.1 r.1)
+    (small p _ (exact_range vars lets (TTwo Plus s t p w) x) r.2)
 exact_nodes vars lets h l (TTwo Minus s t p w) f x r =
-    exact_two vars lets h l Minus s t p w x (exact_nodes vars lets h l s f.0 x.0 r.0) (exact_nodes vars lets h l t f.1 x.1 r.1) (small p _ (exact_range vars lets (TTwo Minus s t p w) x) r.2)
+    exact_two vars lets h l Minus s t p w x (exact_nodes vars lets h l s f.0 x.0 r.0) (exact_nodes vars lets h l t f.1 x.1 r.1)
+    (small p _ (exact_range vars lets (TTwo Minus s t p w) x) r.2)
 exact_nodes vars lets h l (TTwo Times s t p w) f x r =
-    exact_two vars lets h l Times s t p w x (exact_nodes vars lets h l s f.0 x.0 r.0) (exact_nodes vars lets h l t f.1 x.1 r.1) (small p _ (exact_range vars lets (TTwo Times s t p w) x) r.2)
+    exact_two vars lets h l Times s t p w x (exact_nodes vars lets h l s f.0 x.0 r.0) (exact_nodes vars lets h l t f.1 x.1 r.1)
+    (small p _ (exact_range vars lets (TTwo Times s t p w) x) r.2)
 exact_nodes vars lets h l (TPow t n p w) f x r =
-    let m = small p _ (exact_range vars lets (TPow t n p w) x) r.1 in
-    (exact_nodes vars lets h l t f x.0 r.0, same_covers p (power (pair t) n) x.1, wider_in p (power (pair t) n) (width t) w x.1 (power_ordered (pair t) n) m x.2, rw x.2 (left_no_wider (width t) (least (magnitude p))))
+    let m = small p _ (exact_range vars lets (TPow t n p w) x) r.1 in (
+      exact_nodes vars lets h l t f x.0 r.0,
+      same_covers p (power (pair t) n) x.1,
+      wider_in p (power (pair t) n) (width t) w x.1 (power_ordered (pair t) n) m x.2,
+      rw x.2 (left_no_wider (width t) (least (magnitude p))),
+    )
 
 -- the inputs of a fit tree are variables
 pub inputs_below : (n k : ℕ) (e : Tree) → is_fit n k e ≡ true → InputsBelow n e
@@ -119,7 +152,8 @@ inputs_below n k (Pow e m) h = let p = and_parts (is_fit n k e) _ h in inputs_be
 
 -- ---- lets
 -- one more let among the ranges
-pub pairs_more : (vars : List VarInfo) (done : List Typed) (t : Typed) → IsExact vars done t → map pair (done ++ t ∷ []) ≡ map pair done ++ range_over (ranges vars) (map pair done) (untyped t) ∷ []
+pub pairs_more : (vars : List VarInfo) (done : List Typed) (t : Typed) → IsExact vars done t
+    → map pair (done ++ t ∷ []) ≡ map pair done ++ range_over (ranges vars) (map pair done) (untyped t) ∷ []
 pairs_more vars done t h = map-append pair done (t ∷ []) ∙ ap (λ (p : Range). map pair done ++ p ∷ []) (exact_range vars done t h)
 
 pub length_more : (done : List Typed) (t : Typed) → length (done ++ t ∷ []) ≡ suc (length done)
@@ -127,11 +161,13 @@ length_more [] t = refl
 length_more (u ∷ us) t = ap suc (length_more us t)
 
 -- the ranges of exact lets
-pub exact_lets : (vars : List VarInfo) (done ts : List Typed) → AreExact vars done ts → map pair (done ++ ts) ≡ let_ranges (ranges vars) (map pair done) (map untyped ts)
+pub exact_lets : (vars : List VarInfo) (done ts : List Typed) → AreExact vars done ts
+    → map pair (done ++ ts) ≡ let_ranges (ranges vars) (map pair done) (map untyped ts)
 exact_lets vars done [] h = ap (λ (us : List Typed). map pair us) (append-nil done)
 exact_lets vars done (t ∷ ts) h =
     let ih = exact_lets vars (done ++ t ∷ []) ts h.1 in
-    ap (λ (us : List Typed). map pair us) (sym (append_assoc done (t ∷ []) ts)) ∙ ih ∙ ap (λ (ps : List Range). let_ranges (ranges vars) ps (map untyped ts)) (pairs_more vars done t h.0)
+    ap (λ (us : List Typed). map pair us) (sym (append_assoc done (t ∷ []) ts)) ∙ ih
+    ∙ ap (λ (ps : List Range). let_ranges (ranges vars) ps (map untyped ts)) (pairs_more vars done t h.0)
 
 -- their ranges are in order where those of the variables are
 abbrev AllOrdered : List Typed → Type 0
@@ -143,13 +179,15 @@ more_ordered [] t h o (suc j) u e = cc
 more_ordered (s ∷ ts) t h o zero u e = h 0 u e
 more_ordered (s ∷ ts) t h o (suc j) u e = more_ordered ts t (λ i. h (suc i)) o j u e
 
-pub lets_ordered : (vars : List VarInfo) → ((v : ℕ) → IsOrdered (ranges vars v)) → (done ts : List Typed) → ((j : ℕ) (u : Typed) → slice_get done j ≡ Some u → IsOrdered (pair u)) → AreExact vars done ts → (j : ℕ) (u : Typed) → slice_get (done ++ ts) j ≡ Some u → IsOrdered (pair u)
+pub lets_ordered : (vars : List VarInfo) → ((v : ℕ) → IsOrdered (ranges vars v)) → (done ts : List Typed)
+    → ((j : ℕ) (u : Typed) → slice_get done j ≡ Some u → IsOrdered (pair u)) → AreExact vars done ts → (j : ℕ) (u : Typed)
+    → slice_get (done ++ ts) j ≡ Some u → IsOrdered (pair u)
 lets_ordered vars o done [] h x = let e : done ++ [] ≡ done = append-nil done in rw e h
 lets_ordered vars o done (t ∷ ts) h x =
     let e : done ++ t ∷ ts ≡ (done ++ t ∷ []) ++ ts = sym (append_assoc done (t ∷ []) ts) in
     rw e (lets_ordered vars o (done ++ t ∷ []) ts (more_ordered done t h (exact_ordered vars done o h t x.0)) x.1)
 
--- lets on the way: these are done, and the rest stands behind them
+-- lets on the way: these are done, and the rest follows
 pub record LetsSoFar (vars : List VarInfo) (whole rest : List Tree) (done : List Typed) : Type 0 where
   pub goes_on : (us : List Typed) → map untyped us ≡ rest → AreExact vars done us → (map untyped (done ++ us) ≡ whole) × AreExact vars [] (done ++ us)
   pub fit : lets_fit (length vars) (length done) rest ≡ true
@@ -158,7 +196,8 @@ pub record LetsSoFar (vars : List VarInfo) (whole rest : List Tree) (done : List
 pub lets_start : (vars : List VarInfo) (whole : List Tree) → lets_fit (length vars) 0 whole ≡ true → LetsHaveRange vars [] whole → LetsSoFar vars whole whole []
 lets_start vars whole f r = record { goes_on = λ us e h. (e, h); fit = f; small = r }
 
-pub lets_next : (vars : List VarInfo) (whole rest : List Tree) (e : Tree) (done : List Typed) (t : Typed) → LetsSoFar vars whole (e ∷ rest) done → untyped t ≡ e → IsExact vars done t → LetsSoFar vars whole rest (done ++ t ∷ [])
+pub lets_next : (vars : List VarInfo) (whole rest : List Tree) (e : Tree) (done : List Typed) (t : Typed)
+    → LetsSoFar vars whole (e ∷ rest) done → untyped t ≡ e → IsExact vars done t → LetsSoFar vars whole rest (done ++ t ∷ [])
 lets_next vars whole rest e done t s q h = record {
   goes_on = λ us p g. rw (append_assoc done (t ∷ []) us) (s.goes_on (t ∷ us) (both (untyped t) e (map untyped us) rest q p) (h, g));
   fit = rw (length_more done t) ((and_parts (is_fit (length vars) (length done) e) _ s.fit).1);
@@ -174,22 +213,27 @@ lets_end vars whole done s =
     let e : done ++ [] ≡ done = append-nil done in
     rw e at r
 
--- the next let may stand there, and its ranges are within the limit
-pub next_fit : (vars : List VarInfo) (whole rest : List Tree) (e : Tree) (done : List Typed) → LetsSoFar vars whole (e ∷ rest) done → is_fit (length vars) (length done) e ≡ true
+-- the next let may come next, and its ranges are within the limit
+pub next_fit : (vars : List VarInfo) (whole rest : List Tree) (e : Tree) (done : List Typed) → LetsSoFar vars whole (e ∷ rest) done
+    → is_fit (length vars) (length done) e ≡ true
 next_fit vars whole rest e done s = (and_parts (is_fit (length vars) (length done) e) _ s.fit).0
 
-pub next_range : (vars : List VarInfo) (whole rest : List Tree) (e : Tree) (done : List Typed) → LetsSoFar vars whole (e ∷ rest) done → HaveRange vars (map pair done) e
+pub next_range : (vars : List VarInfo) (whole rest : List Tree) (e : Tree) (done : List Typed) → LetsSoFar vars whole (e ∷ rest) done
+    → HaveRange vars (map pair done) e
 next_range vars whole rest e done s = s.small.0
 
 -- the range of a number, an opposite, a sum, difference, product or power of exact trees is within the limit where its node's is
-pub two_range : (vars : List VarInfo) (lets : List Typed) (k : Two) (e f : Tree) (s t : Typed) → HaveRange vars (map pair lets) (two_of k e f) → untyped s ≡ e → untyped t ≡ f → IsExact vars lets s → IsExact vars lets t → magnitude (range_of k (pair s) (pair t)) ≤ most
+pub two_range : (vars : List VarInfo) (lets : List Typed) (k : Two) (e f : Tree) (s t : Typed) → HaveRange vars (map pair lets) (two_of k e f)
+    → untyped s ≡ e → untyped t ≡ f → IsExact vars lets s → IsExact vars lets t → magnitude (range_of k (pair s) (pair t)) ≤ most
 two_range vars lets Plus e f s t r p q h g = let a = exact_range vars lets s h in let b = exact_range vars lets t g in rw (a, b, p, q) r.2
 two_range vars lets Minus e f s t r p q h g = let a = exact_range vars lets s h in let b = exact_range vars lets t g in rw (a, b, p, q) r.2
 two_range vars lets Times e f s t r p q h g = let a = exact_range vars lets s h in let b = exact_range vars lets t g in rw (a, b, p, q) r.2
 
 -- an operation on two trees has the expression of the operation on theirs
-pub two_untyped : (k j : Two) (s t r : Typed) (p : Range) (w : Width) (e f g : Tree) → j ≡ k → r ≡ TTwo j s t p w → untyped s ≡ e → untyped t ≡ f → g ≡ two_of k e f → untyped r ≡ g
+pub two_untyped : (k j : Two) (s t r : Typed) (p : Range) (w : Width) (e f g : Tree) → j ≡ k → r ≡ TTwo j s t p w → untyped s ≡ e
+    → untyped t ≡ f → g ≡ two_of k e f → untyped r ≡ g
 two_untyped k j s t r p w e f g i h a b q = ap untyped h ∙ rw (i, a, b, q) refl
 
-pub power_range : (vars : List VarInfo) (lets : List Typed) (e : Tree) (n : ℕ) (t : Typed) → HaveRange vars (map pair lets) (Pow e n) → untyped t ≡ e → IsExact vars lets t → magnitude (power (pair t) n) ≤ most
+pub power_range : (vars : List VarInfo) (lets : List Typed) (e : Tree) (n : ℕ) (t : Typed) → HaveRange vars (map pair lets) (Pow e n)
+    → untyped t ≡ e → IsExact vars lets t → magnitude (power (pair t) n) ≤ most
 power_range vars lets e n t r p h = let a = exact_range vars lets t h in rw (a, p) r.1

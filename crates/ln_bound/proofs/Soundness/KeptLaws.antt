@@ -69,9 +69,11 @@ pub record Parts (args : List Arg) (vars : List VarInfo) (lets : List Expr) (roo
   pub fit_root : is_fit (length vars) (length lets) (tree_of vars root) ≡ true
   pub small : node_counts (map formula lets) + node_count (formula root) ≤ 2048
 
-pub parts_of : (args : List Arg) (vars : List VarInfo) (lets : List Expr) (names : ℕ) (root : Expr) → is_pred args vars lets names root ≡ true → Parts args vars lets root
+pub parts_of : (args : List Arg) (vars : List VarInfo) (lets : List Expr) (names : ℕ) (root : Expr)
+    → is_pred args vars lets names root ≡ true → Parts args vars lets root
 parts_of args vars lets names root h =
-    let a = and_parts (are_of args vars && nat_le (length lets) 64 && (names == length lets) && lets_fit (length vars) 0 (map (tree_of vars) lets) && is_fit (length vars) (length lets) (tree_of vars root)) _ h in
+    let a = and_parts (are_of args vars && nat_le (length lets) 64 && (names == length lets)
+    && lets_fit (length vars) 0 (map (tree_of vars) lets) && is_fit (length vars) (length lets) (tree_of vars root)) _ h in
     let b = and_parts (are_of args vars && nat_le (length lets) 64 && (names == length lets) && lets_fit (length vars) 0 (map (tree_of vars) lets)) _ a.0 in
     let c = and_parts (are_of args vars && nat_le (length lets) 64 && (names == length lets)) _ b.0 in
     let d = and_parts (are_of args vars && nat_le (length lets) 64) _ c.0 in
@@ -114,32 +116,57 @@ cost_nodes n j (TNum c b w) f = omega arith
 cost_nodes n j (TInput v b w) f = omega arith
 cost_nodes n j (TLet k b w) f = omega arith
 cost_nodes n j (TNeg t b w) f = let p = cost_nodes n j t f in omega (arith, p)
-cost_nodes n j (TTwo Plus s t b w) f = let g = and_parts (is_fit n j (untyped s)) _ f in let p = cost_nodes n j s g.0 in let q = cost_nodes n j t g.1 in omega (arith, p, q)
-cost_nodes n j (TTwo Minus s t b w) f = let g = and_parts (is_fit n j (untyped s)) _ f in let p = cost_nodes n j s g.0 in let q = cost_nodes n j t g.1 in omega (arith, p, q)
-cost_nodes n j (TTwo Times s t b w) f = let g = and_parts (is_fit n j (untyped s)) _ f in let p = cost_nodes n j s g.0 in let q = cost_nodes n j t g.1 in omega (arith, p, q)
-cost_nodes n j (TPow t k b w) f = let g = and_parts (is_fit n j (untyped t)) _ f in let p = cost_nodes n j t g.0 in let q : k ≤ 16 = le_test k 16 g.1 in omega (arith, p, q)
+cost_nodes n j (TTwo Plus s t b w) f =
+    let g = and_parts (is_fit n j (untyped s)) _ f in
+    let p = cost_nodes n j s g.0 in
+    let q = cost_nodes n j t g.1 in
+    omega (arith, p, q)
+cost_nodes n j (TTwo Minus s t b w) f =
+    let g = and_parts (is_fit n j (untyped s)) _ f in
+    let p = cost_nodes n j s g.0 in
+    let q = cost_nodes n j t g.1 in
+    omega (arith, p, q)
+cost_nodes n j (TTwo Times s t b w) f =
+    let g = and_parts (is_fit n j (untyped s)) _ f in
+    let p = cost_nodes n j s g.0 in
+    let q = cost_nodes n j t g.1 in
+    omega (arith, p, q)
+cost_nodes n j (TPow t k b w) f =
+    let g = and_parts (is_fit n j (untyped t)) _ f in
+    let p = cost_nodes n j t g.0 in
+    let q : k ≤ 16 = le_test k 16 g.1 in
+    omega (arith, p, q)
 
 pub costs_nodes : (n j : ℕ) (ts : List Typed) → lets_fit n j (map untyped ts) ≡ true → costs ts ≤ 33 * nodes_of_all (map untyped ts)
 costs_nodes n j [] f = omega arith
-costs_nodes n j (t ∷ ts) f = let g = and_parts (is_fit n j (untyped t)) _ f in let p = cost_nodes n j t g.0 in let q = costs_nodes n (suc j) ts g.1 in omega (arith, p, q)
+costs_nodes n j (t ∷ ts) f =
+    let g = and_parts (is_fit n j (untyped t)) _ f in
+    let p = cost_nodes n j t g.0 in
+    let q = costs_nodes n (suc j) ts g.1 in
+    omega (arith, p, q)
 
 -- ---- soundness
 -- the running sizes of lets, and one more
 running_more : (done : List Typed) (t : Typed) → running (done ++ t ∷ []) ≡ running done ++ weight_over one (running done) (untyped t) ∷ []
 running_more done t = ap (let_bounds one []) (map-append untyped done (t ∷ [])) ∙ bounds_append [] (map untyped done) (untyped t)
   where
-    bounds_append : (ms : List ℕ) (es : List Tree) (e : Tree) → let_bounds one ms (es ++ e ∷ []) ≡ let_bounds one ms es ++ weight_over one (let_bounds one ms es) e ∷ []
+    bounds_append : (ms : List ℕ) (es : List Tree) (e : Tree)
+        → let_bounds one ms (es ++ e ∷ []) ≡ let_bounds one ms es ++ weight_over one (let_bounds one ms es) e ∷ []
     bounds_append ms [] e = refl
     bounds_append ms (f ∷ es) e = bounds_append (ms ++ weight_over one ms f ∷ []) es e
 
 module _ (vars : List VarInfo) (o : (v : ℕ) → IsOrdered (ranges vars v)) where
-  exact_sound : (lets : List Typed) (t : Typed) → ((j : ℕ) (u : Typed) → slice_get lets j ≡ Some u → IsOrdered (pair u)) → is_fit (length vars) (length lets) (untyped t) ≡ true → IsExact vars lets t → HaveRange vars (map pair lets) (untyped t) → HasRoom one (running lets) (untyped t) → nodes_of (untyped t) ≤ 2048 → Sound vars lets t
+  exact_sound : (lets : List Typed) (t : Typed) → ((j : ℕ) (u : Typed) → slice_get lets j ≡ Some u → IsOrdered (pair u))
+      → is_fit (length vars) (length lets) (untyped t) ≡ true → IsExact vars lets t → HaveRange vars (map pair lets) (untyped t)
+      → HasRoom one (running lets) (untyped t) → nodes_of (untyped t) ≤ 2048 → Sound vars lets t
   exact_sound lets t l f h r s n =
       let p = need_nodes t in
       record { nodes = exact_nodes vars lets o l t (inputs_below (length vars) (length lets) (untyped t) f) h r; sizes = s; deep = omega (arith, p, n) }
 
   -- exact lets whose ranges and running sizes are within the limit are sound
-  exact_lets_sound : (done ts : List Typed) → ((j : ℕ) (u : Typed) → slice_get done j ≡ Some u → IsOrdered (pair u)) → lets_fit (length vars) (length done) (map untyped ts) ≡ true → AreExact vars done ts → LetsHaveRange vars (map pair done) (map untyped ts) → HaveRoom one (running done) (map untyped ts) → nodes_of_all (map untyped ts) ≤ 2048 → AreSound vars done ts
+  exact_lets_sound : (done ts : List Typed) → ((j : ℕ) (u : Typed) → slice_get done j ≡ Some u → IsOrdered (pair u))
+      → lets_fit (length vars) (length done) (map untyped ts) ≡ true → AreExact vars done ts → LetsHaveRange vars (map pair done) (map untyped ts)
+      → HaveRoom one (running done) (map untyped ts) → nodes_of_all (map untyped ts) ≤ 2048 → AreSound vars done ts
   exact_lets_sound done [] l f h r s n = tt
   exact_lets_sound done (t ∷ ts) l f h r s n =
       let g = and_parts (is_fit (length vars) (length done) (untyped t)) _ f in
@@ -174,10 +201,16 @@ pub room_of : (vars : List VarInfo) (es : List Expr) (root : Expr) → AreLight 
 room_of vars es root a =
     let r = pred_room vars (map formula es) (formula root) a in
     let e = trees_of_formulas vars es in
-    record { lets_ranges = rw (← e) r.lets_ranges; root_range = rw (← e) r.root_range; lets_running = rw (← e) r.lets_running; root_running = rw (← e) r.root_running }
+    record {
+      lets_ranges = rw (← e) r.lets_ranges;
+      root_range = rw (← e) r.root_range;
+      lets_running = rw (← e) r.lets_running;
+      root_running = rw (← e) r.root_running;
+    }
 
--- the ranges of the root behind the exact lets
-pub root_range : (vars : List VarInfo) (es : List Expr) (root : Expr) (ts : List Typed) → Room vars es root → map untyped ts ≡ map (tree_of vars) es → AreExact vars [] ts → HaveRange vars (map pair ts) (tree_of vars root)
+-- the ranges of the root after the exact lets
+pub root_range : (vars : List VarInfo) (es : List Expr) (root : Expr) (ts : List Typed) → Room vars es root
+    → map untyped ts ≡ map (tree_of vars) es → AreExact vars [] ts → HaveRange vars (map pair ts) (tree_of vars root)
 root_range vars es root ts r p h =
     let m : map pair ts ≡ let_ranges (ranges vars) [] (map untyped ts) = exact_lets vars [] ts h in
     rw (m, p) r.root_range
@@ -186,7 +219,9 @@ nothing_ordered : (j : ℕ) (u : Typed) → slice_get [] j ≡ Some u → IsOrde
 nothing_ordered j u e = cc
 
 -- the exact trees of a predicate whose nodes are within the limit keep what they are to keep
-pub light_kept : (args : List Arg) (vars : List VarInfo) (es : List Expr) (names : ℕ) (root : Expr) (ts : List Typed) (t : Typed) → ((v : ℕ) → IsOrdered (ranges vars v)) → is_pred args vars es names root ≡ true → AreLight (loaded_pred vars (map formula es) (formula root)) → map untyped ts ≡ map (tree_of vars) es → untyped t ≡ tree_of vars root → AreExact vars [] ts → IsExact vars ts t → Kept vars ts t
+pub light_kept : (args : List Arg) (vars : List VarInfo) (es : List Expr) (names : ℕ) (root : Expr) (ts : List Typed) (t : Typed)
+    → ((v : ℕ) → IsOrdered (ranges vars v)) → is_pred args vars es names root ≡ true → AreLight (loaded_pred vars (map formula es) (formula root))
+    → map untyped ts ≡ map (tree_of vars) es → untyped t ≡ tree_of vars root → AreExact vars [] ts → IsExact vars ts t → Kept vars ts t
 light_kept args vars es names root ts t o b a p q h g =
     let k = parts_of args vars es names root b in
     let r = room_of vars es root a in
@@ -214,8 +249,9 @@ length_typed : (ts : List Fitted) → length (map typed ts) ≡ length ts
 length_typed [] = refl
 length_typed (t ∷ ts) = ap suc (length_typed ts)
 
--- the root may stand behind the exact lets
-pub root_fit : (args : List Arg) (vars : List VarInfo) (es : List Expr) (names : ℕ) (root : Expr) (ts : List Fitted) → is_pred args vars es names root ≡ true → map untyped (map typed ts) ≡ map (tree_of vars) es → is_fit (length vars) (length ts) (tree_of vars root) ≡ true
+-- the root may follow the exact lets
+pub root_fit : (args : List Arg) (vars : List VarInfo) (es : List Expr) (names : ℕ) (root : Expr) (ts : List Fitted) → is_pred args vars es names root ≡ true
+    → map untyped (map typed ts) ≡ map (tree_of vars) es → is_fit (length vars) (length ts) (tree_of vars root) ≡ true
 root_fit args vars es names root ts k p =
     let n : length ts ≡ length es = sym (length_typed ts) ∙ same_length vars (map typed ts) es p in
     rw n (parts_of args vars es names root k).fit_root

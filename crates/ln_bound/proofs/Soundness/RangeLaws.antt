@@ -24,7 +24,8 @@ module _ (x : ℕ → ℤ) (r : ℕ → Range) (h : (v : ℕ) → Holds (r v) (x
   value_held zs ps l (Neg e) = opposite_holds _ _ (value_held zs ps l e)
   value_held zs ps l (Add e f) = sum_holds _ _ _ _ (value_held zs ps l e) (value_held zs ps l f)
   value_held zs ps l (Sub e f) = difference_holds _ _ _ _ (value_held zs ps l e) (value_held zs ps l f)
-  value_held zs ps l (Mul e f) = product_holds (range_over r ps e) (range_over r ps f) (value x zs e) (value x zs f) (value_held zs ps l e) (value_held zs ps l f)
+  value_held zs ps l (Mul e f) =
+      product_holds (range_over r ps e) (range_over r ps f) (value x zs e) (value x zs f) (value_held zs ps l e) (value_held zs ps l f)
   value_held zs ps l (Pow e n) = power_holds (range_over r ps e) n (value x zs e) (value_held zs ps l e)
 
   -- so is that of each node
@@ -58,7 +59,8 @@ pub record LetsHold (x : ℕ → ℤ) (zs : List ℤ) (r : ℕ → Range) (ps : 
   pub nodes : LetsAreHeld x zs r ps es
   pub all : AllHold (let_ranges r ps es) (let_values x zs es)
 
-pub lets_hold : (x : ℕ → ℤ) (r : ℕ → Range) → ((v : ℕ) → Holds (r v) (x v)) → (zs : List ℤ) (ps : List Range) → length ps ≡ length zs → AllHold ps zs → (es : List Tree) → LetsHold x zs r ps es
+pub lets_hold : (x : ℕ → ℤ) (r : ℕ → Range) → ((v : ℕ) → Holds (r v) (x v)) → (zs : List ℤ) (ps : List Range) → length ps ≡ length zs
+    → AllHold ps zs → (es : List Tree) → LetsHold x zs r ps es
 lets_hold x r h zs ps n l [] = record { nodes = tt; all = l }
 lets_hold x r h zs ps n l (e ∷ es) =
     let p = range_over r ps e in
@@ -75,22 +77,24 @@ in_ranges (i ∷ is) [] h v = absurd h
 in_ranges (i ∷ is) (z ∷ zs) h zero = (h.0, h.1)
 in_ranges (i ∷ is) (z ∷ zs) h (suc v) = in_ranges is zs h.2 v
 
--- on a row in range the value of each node of lets, and of a tree behind them, is in its range
+-- on a row in range the value of each node of lets, and of a tree after them, is in its range
 pub row_lets : (vars : List VarInfo) (zs : List ℤ) (es : List Tree) → AreWithin vars zs → LetsAreHeld (values zs) [] (ranges vars) [] es
 row_lets vars zs es h = (lets_hold (values zs) (ranges vars) (in_ranges vars zs h) [] [] refl (λ j. (omega (arith, ints), omega (arith, ints))) es).nodes
 
-pub row_tree : (vars : List VarInfo) (zs : List ℤ) (es : List Tree) (e : Tree) → AreWithin vars zs → AreHeld (values zs) (let_values (values zs) [] es) (ranges vars) (let_ranges (ranges vars) [] es) e
+pub row_tree : (vars : List VarInfo) (zs : List ℤ) (es : List Tree) (e : Tree) → AreWithin vars zs
+    → AreHeld (values zs) (let_values (values zs) [] es) (ranges vars) (let_ranges (ranges vars) [] es) e
 row_tree vars zs es e h =
     let l = lets_hold (values zs) (ranges vars) (in_ranges vars zs h) [] [] refl (λ j. (omega (arith, ints), omega (arith, ints))) es in
     nodes_held (values zs) (ranges vars) (in_ranges vars zs h) (let_values (values zs) [] es) (let_ranges (ranges vars) [] es) l.all e
 
--- ---- lets may be put in place of their names
-named : (r : ℕ → Range) (ts : List Tree) (j : ℕ) → range_over r [] (slice_index_or ts j (Num (pos 0))) ≡ slice_index_or (map (range_over r []) ts) j (point (pos 0))
+-- ---- lets may be substituted for their names
+named : (r : ℕ → Range) (ts : List Tree) (j : ℕ)
+    → range_over r [] (slice_index_or ts j (Num (pos 0))) ≡ slice_index_or (map (range_over r []) ts) j (point (pos 0))
 named r [] j = refl
 named r (t ∷ ts) zero = refl
 named r (t ∷ ts) (suc j) = named r ts j
 
--- the range of a tree with its lets put in is its range over the ranges of the lets
+-- the range of a tree with its lets substituted is its range over the ranges of the lets
 pub range-inlined : (r : ℕ → Range) (ts : List Tree) (e : Tree) → range_over r [] (inlined ts e) ≡ range_over r (map (range_over r []) ts) e
 range-inlined r ts (Num c) = refl
 range-inlined r ts (Input v) = refl

@@ -7,7 +7,8 @@ use Rattle.ln_algebra.specs.Tree.{Tree, Num, Input, Name, Neg, Add, Sub, Mul, Po
 use Rattle.ln_tree.specs.declared.shape.VarInfo.{VarInfo}
 use Rattle.ln_interval.specs.Range.{Range, Holds, Covers, opposite, power}
 use Rattle.ln_bound.specs.declared.fitted.Width.{Width}
-use Rattle.ln_bound.specs.Sound.{AreSound, CoversLet, IsIn, Sound, SoundNodes, are_sound, covers, covers_let, has_room, holds, is_in, is_sound, running, sound_nodes}
+use Rattle.ln_bound.specs.Sound.{AreSound, CoversLet, IsIn, Sound, SoundNodes, are_sound, covers, covers_let, has_room, holds, is_in}
+use Rattle.ln_bound.specs.Sound.{is_sound, running, sound_nodes}
 use Rattle.ln_bound.specs.Typed.{Typed, TNum, TInput, TLet, TNeg, TTwo, TPow, pair, range_of, untyped}
 use Rattle.ln_bound.specs.Ranges.{ranges}
 use Rattle.ln_bound.specs.Room.{HasRoom}
@@ -34,9 +35,12 @@ test_nodes : (vars : List VarInfo) (lets : List Typed) (t : Typed) → SoundNode
 test_nodes vars lets (TNum c p w) h = both_true _ _ (test_holds p c h.0) (test_in p w h.1)
 test_nodes vars lets (TInput v p w) h = both_true _ _ (both_true _ _ (test_lt _ _ h.0) (test_covers p (ranges vars v) h.1)) (test_in p w h.2)
 test_nodes vars lets (TLet j p w) h = both_true _ _ (test_let (slice_get lets j) p w h.0) (test_in p w h.1)
-test_nodes vars lets (TNeg t p w) h = both_true _ _ (both_true _ _ (both_true _ _ (test_nodes vars lets t h.0) (test_covers p (opposite (pair t)) h.1)) (test_in p w h.2)) h.3
-test_nodes vars lets (TTwo k s t p w) h = both_true _ _ (both_true _ _ (both_true _ _ (both_true _ _ (both_true _ _ (test_nodes vars lets s h.0) (test_nodes vars lets t h.1)) (test_covers p (range_of k (pair s) (pair t)) h.2)) (test_in p w h.3)) h.4) h.5
-test_nodes vars lets (TPow t n p w) h = both_true _ _ (both_true _ _ (both_true _ _ (test_nodes vars lets t h.0) (test_covers p (power (pair t) n) h.1)) (test_in p w h.2)) h.3
+test_nodes vars lets (TNeg t p w) h =
+    both_true _ _ (both_true _ _ (both_true _ _ (test_nodes vars lets t h.0) (test_covers p (opposite (pair t)) h.1)) (test_in p w h.2)) h.3
+test_nodes vars lets (TTwo k s t p w) h = both_true _ _ (both_true _ _ (both_true _ _ (both_true _ _
+    (both_true _ _ (test_nodes vars lets s h.0) (test_nodes vars lets t h.1)) (test_covers p (range_of k (pair s) (pair t)) h.2)) (test_in p w h.3)) h.4) h.5
+test_nodes vars lets (TPow t n p w) h =
+    both_true _ _ (both_true _ _ (both_true _ _ (test_nodes vars lets t h.0) (test_covers p (power (pair t) n) h.1)) (test_in p w h.2)) h.3
 
 test_room : (ss : List ℕ) (e : Tree) → HasRoom one ss e → has_room ss e ≡ true
 test_room ss (Num c) h = test_le _ _ h

@@ -1,4 +1,4 @@
--- Widths in order.
+-- Proves that a bound fits its least width, and that what fits a width fits each that is no narrower.
 use Rattle.std.proofs.Common.{◌≡◌, ℕ, ◌≤◌, ◌<◌, Bool, true, false, refl, arith}
 use Rattle.std.specs.Prelude.{nat_le, nat_lt, ◌&&◌}
 use Rattle.std.proofs.lemmas.Bool.{leb-true, le-leb}

@@ -9,8 +9,9 @@ use Rattle.ln_bound.specs.Sound.{running}
 use Rattle.ln_bound.specs.Typed.{Typed, untyped}
 use Rattle.ln_bound.specs.Value.{weight_over}
 
--- what stands in a list with one more at its end
-pub get_snoc : {X : Type 0} (xs : List X) (y : X) (i : ℕ) (u : X) → slice_get (xs ++ (y ∷ [])) i ≡ Some u → ((i < length xs) × (slice_get xs i ≡ Some u)) ⊎ ((i ≡ length xs) × (y ≡ u))
+-- what is in a list with one more at its end
+pub get_snoc : {X : Type 0} (xs : List X) (y : X) (i : ℕ) (u : X) → slice_get (xs ++ (y ∷ [])) i ≡ Some u
+    → ((i < length xs) × (slice_get xs i ≡ Some u)) ⊎ ((i ≡ length xs) × (y ≡ u))
 get_snoc [] y zero u h = inr (refl, cc)
 get_snoc [] y (suc i) u h = cc
 get_snoc (x ∷ xs) y zero u h = inl (omega arith, h)
@@ -27,7 +28,8 @@ index_new (x ∷ xs) y d = index_new xs y d
 
 -- ---- running sizes
 
-bounds_more : (m : ℕ → ℕ) (ds : List ℕ) (es : List Tree) (e : Tree) → let_bounds m ds (es ++ (e ∷ [])) ≡ let_bounds m ds es ++ (weight_over m (let_bounds m ds es) e ∷ [])
+bounds_more : (m : ℕ → ℕ) (ds : List ℕ) (es : List Tree) (e : Tree)
+    → let_bounds m ds (es ++ (e ∷ [])) ≡ let_bounds m ds es ++ (weight_over m (let_bounds m ds es) e ∷ [])
 bounds_more m ds [] e = refl
 bounds_more m ds (x ∷ es) e = bounds_more m (ds ++ (weight_over m ds x ∷ [])) es e
 

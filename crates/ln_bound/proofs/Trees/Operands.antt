@@ -15,7 +15,8 @@ use Rattle.ln_bound.specs.Ranges.{HaveRange}
 use Rattle.ln_bound.specs.Typed.{formula_of, kind_of, two_of}
 
 -- what is a sum, a difference or a product has the formula of its operation
-pub operands : (at : Span) (n x y z : Node) (f g : Formula) → (n ≡ x) ⊎ ((n ≡ y) ⊎ (n ≡ z)) → node_formula at x ≡ FAdd at f g → node_formula at y ≡ FSub at f g → node_formula at z ≡ FMul at f g
+pub operands : (at : Span) (n x y z : Node) (f g : Formula) → (n ≡ x) ⊎ ((n ≡ y) ⊎ (n ≡ z)) → node_formula at x ≡ FAdd at f g
+    → node_formula at y ≡ FSub at f g → node_formula at z ≡ FMul at f g
     → node_formula at n ≡ formula_of (kind_of (node_formula at n)) at f g
 operands at n x y z f g (inl e) a b c = rw (e, a) refl
 operands at n x y z f g (inr (inl e)) a b c = rw (e, b) refl
@@ -53,7 +54,8 @@ pub record AreOperands (vars : List VarInfo) (ps : List Range) (n j : ℕ) (t : 
   pub first_range : HaveRange vars ps (tree vars f)
   pub second_range : HaveRange vars ps (tree vars g)
 
-pub are_operands : (vars : List VarInfo) (ps : List Range) (n j : ℕ) (t : ℕ) (k : Two) (at : Span) (e f g : Formula) → e ≡ formula_of k at f g → node_count e ≡ t
+pub are_operands : (vars : List VarInfo) (ps : List Range) (n j : ℕ) (t : ℕ) (k : Two) (at : Span) (e f g : Formula)
+    → e ≡ formula_of k at f g → node_count e ≡ t
     → is_fit n j (tree vars e) ≡ true → HaveRange vars ps (tree vars e) → AreOperands vars ps n j t k e f g
 are_operands vars ps n j t k at e f g q d h r =
     let q' : tree vars e ≡ two_of k (tree vars f) (tree vars g) = ap (tree vars) q ∙ tree_two vars k at f g in

@@ -1,4 +1,4 @@
--- The value of an expression is at most its weight; lets may be put in place of their names.
+-- The value of an expression is at most its weight; lets may be substituted for their names.
 use Rattle.std.proofs.Common.{◌≡◌, ℕ, ℤ, List, [], ◌∷◌, map, refl, zero, suc, ap, pos, neg_ℤ}
 use Rattle.std.specs.Prelude.{slice_index_or}
 use Rattle.ln_algebra.specs.Tree.{Tree, Num, Input, Name, Neg, Add, Sub, Mul, Pow, inlined}
@@ -9,7 +9,7 @@ named x [] j = refl
 named x (t ∷ ts) zero = refl
 named x (t ∷ ts) (suc j) = named x ts j
 
--- the value of a tree with its lets put in is its value over the values of the lets
+-- the value of a tree with its lets substituted is its value over the values of the lets
 pub value-inlined : (x : ℕ → ℤ) (ts : List Tree) (e : Tree) → value x [] (inlined ts e) ≡ value x (map (value x []) ts) e
 value-inlined x ts (Num c) = refl
 value-inlined x ts (Input v) = refl

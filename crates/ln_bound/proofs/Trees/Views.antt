@@ -41,8 +41,10 @@ pub width_typed : (t : Fitted) → width (typed t) ≡ t.width
 width_typed t = width_here t.op (range t.pair) t.width
 
 -- the node of an operation on two
-pub two_made : (k m : Two) (x y : Fitted) (s t : Typed) (p : Range) (w u l : Width) → k ≡ m → s ≡ typed x → t ≡ typed y → p ≡ range_of k (range x.pair) (range y.pair) → w ≡ wider u l → u ≡ wider x.width y.width → l ≡ least (magnitude p)
-    → TTwo m s t p w ≡ TTwo k (typed x) (typed y) (range_of k (pair (typed x)) (pair (typed y))) (wider (wider (width (typed x)) (width (typed y))) (least (magnitude (range_of k (pair (typed x)) (pair (typed y))))))
+pub two_made : (k m : Two) (x y : Fitted) (s t : Typed) (p : Range) (w u l : Width) → k ≡ m → s ≡ typed x → t ≡ typed y
+    → p ≡ range_of k (range x.pair) (range y.pair) → w ≡ wider u l → u ≡ wider x.width y.width → l ≡ least (magnitude p)
+    → TTwo m s t p w ≡ TTwo k (typed x) (typed y) (range_of k (pair (typed x)) (pair (typed y)))
+    (wider (wider (width (typed x)) (width (typed y))) (least (magnitude (range_of k (pair (typed x)) (pair (typed y))))))
 two_made k m x y s t p w u l ek es et ep ew eu el =
     let px = pair_typed x in
     let py = pair_typed y in
@@ -50,7 +52,8 @@ two_made k m x y s t p w u l ek es et ep ew eu el =
     let wy = width_typed y in
     same k m (typed x) (typed y) s t p w (range x.pair) (range y.pair) x.width y.width ek es et ep (ew ∙ ap₂ wider eu el) px py wx wy
   where
-    same : (k m : Two) (a b s t : Typed) (p : Range) (w : Width) (q r : Range) (v z : Width) → k ≡ m → s ≡ a → t ≡ b → p ≡ range_of k q r → w ≡ wider (wider v z) (least (magnitude p)) → pair a ≡ q → pair b ≡ r → width a ≡ v → width b ≡ z
+    same : (k m : Two) (a b s t : Typed) (p : Range) (w : Width) (q r : Range) (v z : Width) → k ≡ m → s ≡ a → t ≡ b → p ≡ range_of k q r
+        → w ≡ wider (wider v z) (least (magnitude p)) → pair a ≡ q → pair b ≡ r → width a ≡ v → width b ≡ z
         → TTwo m s t p w ≡ TTwo k a b (range_of k (pair a) (pair b)) (wider (wider (width a) (width b)) (least (magnitude (range_of k (pair a) (pair b)))))
     same k m a b s t p w q r v z ek es et ep ew px py wx wy =
         let e : p ≡ range_of k (pair a) (pair b) = ep ∙ ap₂ (range_of k) (sym px) (sym py) in
@@ -58,11 +61,13 @@ two_made k m x y s t p w u l ek es et ep ew eu el =
         rw (← ek, es, et, f, e) refl
 
 -- the node of an opposite
-pub opposite_made : (x : Fitted) (s : Typed) (p : Range) (w l : Width) → s ≡ typed x → p ≡ opposite (range x.pair) → w ≡ wider x.width l → l ≡ least (magnitude p)
+pub opposite_made : (x : Fitted) (s : Typed) (p : Range) (w l : Width) → s ≡ typed x → p ≡ opposite (range x.pair) → w ≡ wider x.width l
+    → l ≡ least (magnitude p)
     → TNeg s p w ≡ TNeg (typed x) (opposite (pair (typed x))) (wider (width (typed x)) (least (magnitude (opposite (pair (typed x))))))
 opposite_made x s p w l es ep ew el = same (typed x) s p w (range x.pair) x.width l es ep ew el (pair_typed x) (width_typed x)
   where
-    same : (a s : Typed) (p : Range) (w : Width) (q : Range) (v l : Width) → s ≡ a → p ≡ opposite q → w ≡ wider v l → l ≡ least (magnitude p) → pair a ≡ q → width a ≡ v
+    same : (a s : Typed) (p : Range) (w : Width) (q : Range) (v l : Width) → s ≡ a → p ≡ opposite q → w ≡ wider v l
+        → l ≡ least (magnitude p) → pair a ≡ q → width a ≡ v
         → TNeg s p w ≡ TNeg a (opposite (pair a)) (wider (width a) (least (magnitude (opposite (pair a)))))
     same a s p w q v l es ep ew el pa wa =
         let e : p ≡ opposite (pair a) = ep ∙ ap opposite (sym pa) in
@@ -70,11 +75,13 @@ opposite_made x s p w l es ep ew el = same (typed x) s p w (range x.pair) x.widt
         rw (es, f, e) refl
 
 -- the node of a power
-pub power_made : (x : Fitted) (n : ℕ) (s : Typed) (p : Range) (w l : Width) → s ≡ typed x → p ≡ power (range x.pair) n → w ≡ wider x.width l → l ≡ least (magnitude p)
+pub power_made : (x : Fitted) (n : ℕ) (s : Typed) (p : Range) (w l : Width) → s ≡ typed x → p ≡ power (range x.pair) n → w ≡ wider x.width l
+    → l ≡ least (magnitude p)
     → TPow s n p w ≡ TPow (typed x) n (power (pair (typed x)) n) (wider (width (typed x)) (least (magnitude (power (pair (typed x)) n))))
 power_made x n s p w l es ep ew el = same (typed x) s p w (range x.pair) x.width l es ep ew el (pair_typed x) (width_typed x)
   where
-    same : (a s : Typed) (p : Range) (w : Width) (q : Range) (v l : Width) → s ≡ a → p ≡ power q n → w ≡ wider v l → l ≡ least (magnitude p) → pair a ≡ q → width a ≡ v
+    same : (a s : Typed) (p : Range) (w : Width) (q : Range) (v l : Width) → s ≡ a → p ≡ power q n → w ≡ wider v l → l ≡ least (magnitude p)
+        → pair a ≡ q → width a ≡ v
         → TPow s n p w ≡ TPow a n (power (pair a) n) (wider (width a) (least (magnitude (power (pair a) n))))
     same a s p w q v l es ep ew el pa wa =
         let e : p ≡ power (pair a) n = ep ∙ ap (λ (r : Range). power r n) (sym pa) in
@@ -96,7 +103,8 @@ of_typed (Some t) u w e q =
     (sym a, q ∙ ap (λ (v : Width). wider v (least (magnitude (range u.pair)))) (sym b))
 
 -- a node that has the let's range, and the least width that is no narrower than the let
-pub named_exact : (lets : List Fitted) (j i : ℕ) (u : Fitted) (l w : Width) → j < length lets → i ≡ j → u ≡ get_or lets i u → l ≡ least (magnitude (range u.pair)) → w ≡ wider u.width l → IsOfLet (slice_get (map typed lets) j) (range u.pair) w
+pub named_exact : (lets : List Fitted) (j i : ℕ) (u : Fitted) (l w : Width) → j < length lets → i ≡ j → u ≡ get_or lets i u
+    → l ≡ least (magnitude (range u.pair)) → w ≡ wider u.width l → IsOfLet (slice_get (map typed lets) j) (range u.pair) w
 named_exact lets j i u l w h e g m n =
     let a : get_or lets j u ≡ u = sym (g ∙ ap (λ (k : ℕ). get_or lets k u) e) in
     of_typed (slice_get (map typed lets) j) u w (let_typed lets j u h ∙ ap (λ (t : Fitted). Some (typed t)) a) (n ∙ ap (λ (v : Width). wider u.width v) m)

@@ -1,5 +1,6 @@
--- A predicate with its lets put in place of their names: its value, its weight and its range.
-use Rattle.std.proofs.Common.{◌≡◌, ℕ, ℤ, ◌+◌, ◌*◌, ◌^◌, ◌-◌, List, [], ◌∷◌, ◌++◌, map, length, refl, zero, suc, ap, ap₂, arith, pos, ◌∙◌, sym, append_assoc, length-append}
+-- A predicate with its lets substituted for their names: its value, its weight and its range.
+use Rattle.std.proofs.Common.{◌≡◌, ℕ, ℤ, ◌+◌, ◌*◌, ◌^◌, ◌-◌, List, [], ◌∷◌, ◌++◌, map, length, refl, zero, suc, ap, ap₂, arith, pos, ◌∙◌}
+use Rattle.std.proofs.Common.{sym, append_assoc, length-append}
 use Rattle.std.specs.Prelude.{slice_index_or}
 use Rattle.std.proofs.lemmas.List.{map-append}
 use Rattle.ln_base.specs.declared.span.Span.{Span}
@@ -17,14 +18,14 @@ use Rattle.ln_bound.proofs.Trees.LetLists.{index_new}
 use Rattle.ln_bound.proofs.Trees.Values.{value-inlined}
 use Rattle.ln_bound.proofs.Soundness.RangeLaws.{range-inlined}
 
--- ---- whatever is said of a tree behind what is said of lets
+-- ---- whatever is said of a tree after what is said of lets
 
--- what is said of each of the lets, over those before it, behind these
+-- what is said of each of the lets, over those before it, after these
 abbrev behind : {A : Type 0} → (List A → Tree → A) → List A → List Tree → List A
 behind f done [] = done
 behind f done (t ∷ ts) = behind f (done ++ (f done t ∷ [])) ts
 
--- a tree with others put in is as the tree behind what is said of these
+-- a tree with others substituted is as the tree after what is said of these
 abbrev PutsIn : {A : Type 0} → (List A → Tree → A) → Type 0
 PutsIn f = (ts : List Tree) (e : Tree) → f [] (inlined ts e) ≡ f (map (f []) ts) e
 
@@ -91,9 +92,11 @@ sizes_of_trees vars ss [] = refl
 sizes_of_trees vars ss (f ∷ fs) = sizes_of_trees vars (ss ++ (size_over ss (tree vars f) ∷ [])) fs
 
 -- the root's measure is that of the whole
-root_measure : (vars : List VarInfo) (lets : List Formula) (root : Formula) → measure_of vars (ranges_of_lets vars [] lets) (sizes_of_lets vars [] lets) root ≡ measure_of_whole vars lets root
+root_measure : (vars : List VarInfo) (lets : List Formula) (root : Formula)
+    → measure_of vars (ranges_of_lets vars [] lets) (sizes_of_lets vars [] lets) root ≡ measure_of_whole vars lets root
 root_measure vars lets root =
-    let a = ap (λ l. range_over (ranges vars) l (tree vars root)) (ranges_of_trees vars [] lets) ∙ whole_range (ranges vars) (map (tree vars) lets) (tree vars root) in
+    let a = ap (λ l. range_over (ranges vars) l (tree vars root)) (ranges_of_trees vars [] lets)
+    ∙ whole_range (ranges vars) (map (tree vars) lets) (tree vars root) in
     let b = ap (λ l. weight_over two l (tree vars root)) (sizes_of_trees vars [] lets) ∙ whole_weight two (map (tree vars) lets) (tree vars root) in
     ap₂ (λ p s. (p, s)) a b
 
@@ -116,13 +119,16 @@ last_node by (FSub at e f) = record { front = nodes_by by e ++ nodes_by by f; at
 last_node by (FMul at e f) = record { front = nodes_by by e ++ nodes_by by f; at = at; ends = refl }
 last_node by (FPow at e n) = record { front = nodes_by by e; at = at; ends = refl }
 
-pub last_measure : (vars : List VarInfo) (lets : List Formula) (root : Formula) (d : Range × ℕ) → slice_index_or (node_measures (measured_pred vars lets root)) (length (node_measures (measured_pred vars lets root)) - 1) d ≡ measure_of_whole vars lets root
+pub last_measure : (vars : List VarInfo) (lets : List Formula) (root : Formula) (d : Range × ℕ)
+    → slice_index_or (node_measures (measured_pred vars lets root)) (length (node_measures (measured_pred vars lets root)) - 1) d
+    ≡ measure_of_whole vars lets root
 last_measure vars lets root d =
     let ps = ranges_of_lets vars [] lets in
     let ss = sizes_of_lets vars [] lets in
     let x = measure_of vars ps ss root in
     let e = ends_on (measured_lets vars [] [] lets) (measured vars ps ss root) x (last_node (measure_of vars ps ss) root) in
-    let m : node_measures (measured_pred vars lets root) ≡ node_measures e.front ++ (x ∷ []) = ap node_measures e.ends ∙ map-append (λ n. n.1) e.front ((e.at, x) ∷ []) in
+    let m : node_measures (measured_pred vars lets root) ≡ node_measures e.front ++ (x ∷ []) =
+    ap node_measures e.ends ∙ map-append (λ n. n.1) e.front ((e.at, x) ∷ []) in
     let l = length-append (node_measures e.front) (x ∷ []) in
     let n : length (node_measures e.front ++ (x ∷ [])) - 1 ≡ length (node_measures e.front) = omega (arith, l) in
     rw (m, n) (index_new (node_measures e.front) x d ∙ root_measure vars lets root)

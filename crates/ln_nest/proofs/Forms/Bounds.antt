@@ -19,7 +19,10 @@ parts_weight w v [] = omega arith
 parts_weight w v (t ∷ f) = by_case (is_positive (exponent_of v t.exponents)) refl (parts_weight w v f)
   where
     by_case : (b : Bool) → is_positive (exponent_of v t.exponents) ≡ b → w v * weighted_sum w (divided v f) + weighted_sum w (free_of v f) ≡ weighted_sum w f
-        → w v * weighted_sum w (if b then record { exponents = one_less v t.exponents; factor = t.factor } ∷ divided v f else divided v f) + weighted_sum w (if b then free_of v f else t ∷ free_of v f) ≡ weighted_sum w (t ∷ f)
+        → w v * weighted_sum w (if b then record {
+          exponents = one_less v t.exponents;
+          factor = t.factor;
+        } ∷ divided v f else divided v f) + weighted_sum w (if b then free_of v f else t ∷ free_of v f) ≡ weighted_sum w (t ∷ f)
     by_case true e ih = let q = one_less_weight w v t.exponents e in rw q (omega (arith, ih))
     by_case false e ih = omega (arith, ih)
 
@@ -34,5 +37,6 @@ sum_weight w o [] = omega arith
 sum_weight w o (t ∷ f) =
     let ih = sum_weight w o f in
     let a : unsigned_abs (t.factor +ℤ total f) ≤ unsigned_abs t.factor + unsigned_abs (total f) = omega (arith, ints) in
-    let m : unsigned_abs t.factor * 1 ≤ unsigned_abs t.factor * monomial_weight w t.exponents = mul-le-mul_left (unsigned_abs t.factor) (at_least w o t.exponents) in
+    let m : unsigned_abs t.factor * 1 ≤ unsigned_abs t.factor * monomial_weight w t.exponents =
+    mul-le-mul_left (unsigned_abs t.factor) (at_least w o t.exponents) in
     omega (arith, ih, a, m)

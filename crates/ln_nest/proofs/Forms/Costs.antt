@@ -70,8 +70,12 @@ parts_allowance : (v : ℕ) (f : List Term) → allowance (divided v f) + 2 * le
 parts_allowance v [] = refl
 parts_allowance v (t ∷ f) = by_case (is_positive (exponent_of v t.exponents)) refl (parts_allowance v f)
   where
-    by_case : (b : Bool) → is_positive (exponent_of v t.exponents) ≡ b → allowance (divided v f) + 2 * length (divided v f) + allowance (free_of v f) ≡ allowance f
-        → allowance (if b then record { exponents = one_less v t.exponents; factor = t.factor } ∷ divided v f else divided v f) + 2 * length (if b then record { exponents = one_less v t.exponents; factor = t.factor } ∷ divided v f else divided v f) + allowance (if b then free_of v f else t ∷ free_of v f) ≡ allowance (t ∷ f)
+    by_case : (b : Bool) → is_positive (exponent_of v t.exponents) ≡ b
+        → allowance (divided v f) + 2 * length (divided v f) + allowance (free_of v f) ≡ allowance f
+        → allowance (if b then record { exponents = one_less v t.exponents; factor = t.factor } ∷ divided v f else divided v f) + 2 * length (if b then record {
+          exponents = one_less v t.exponents;
+          factor = t.factor;
+        } ∷ divided v f else divided v f) + allowance (if b then free_of v f else t ∷ free_of v f) ≡ allowance (t ∷ f)
     by_case true e ih = let q = one_less_degree v t.exponents e in omega (arith, ih, q)
     by_case false e ih = omega (arith, ih)
 
@@ -84,7 +88,8 @@ cost_scaled : (v : ℕ) (h : Tree) → cost_of (scaled v h) ≤ cost_of h + 2
 cost_scaled v h = scaled_cases v h (λ t. cost_of t ≤ cost_of h + 2) (λ e. omega arith) (λ e. omega arith) (omega arith)
 
 -- so a step is cheap where its parts are
-joined_cheap : (v : ℕ) (h i : Tree) (p q : List Term) (n : ℕ) → Cheap h p → Cheap i q → allowance p + 2 * length p + allowance q ≡ n → cost_of (joined v h i p q) + 1 ≤ max 2 n
+joined_cheap : (v : ℕ) (h i : Tree) (p q : List Term) (n : ℕ) → Cheap h p → Cheap i q → allowance p + 2 * length p + allowance q ≡ n
+    → cost_of (joined v h i p q) + 1 ≤ max 2 n
 joined_cheap v h i [] q n a b e = omega (arith, b, e)
 joined_cheap v h i (x ∷ p) [] n a b e = let s = cost_scaled v h in omega (arith, a, e, s)
 joined_cheap v h i (x ∷ p) (y ∷ q) n a b e = let s = cost_scaled v h in omega (arith, a, b, e, s)
@@ -94,7 +99,10 @@ pub parts_length : (v : ℕ) (f : List Term) → length (divided v f) + length (
 parts_length v [] = refl
 parts_length v (t ∷ f) = by_case (is_positive (exponent_of v t.exponents)) (parts_length v f)
   where
-    by_case : (b : Bool) → length (divided v f) + length (free_of v f) ≡ length f → length (if b then record { exponents = one_less v t.exponents; factor = t.factor } ∷ divided v f else divided v f) + length (if b then free_of v f else t ∷ free_of v f) ≡ length (t ∷ f)
+    by_case : (b : Bool) → length (divided v f) + length (free_of v f) ≡ length f → length (if b then record {
+      exponents = one_less v t.exponents;
+      factor = t.factor;
+    } ∷ divided v f else divided v f) + length (if b then free_of v f else t ∷ free_of v f) ≡ length (t ∷ f)
     by_case true ih = omega (arith, ih)
     by_case false ih = omega (arith, ih)
 
@@ -102,7 +110,8 @@ parts_length v (t ∷ f) = by_case (is_positive (exponent_of v t.exponents)) (pa
 horner_cheap : (v : ℕ) (inner : List Term → Tree) → ((g : List Term) → Cheap (inner g) g) → (d : ℕ) (f : List Term) → Cheap (horner inner v d f) f
 horner_cheap v inner is zero f = is f
 horner_cheap v inner is (suc d) f =
-    joined_cheap v (horner inner v d (divided v f)) (inner (free_of v f)) (divided v f) (free_of v f) (allowance f) (horner_cheap v inner is d (divided v f)) (is (free_of v f)) (parts_allowance v f)
+    joined_cheap v (horner inner v d (divided v f)) (inner (free_of v f)) (divided v f) (free_of v f) (allowance f)
+    (horner_cheap v inner is d (divided v f)) (is (free_of v f)) (parts_allowance v f)
 
 -- the whole nested tree
 pub nested_cheap : (d k v : ℕ) (f : List Term) → Cheap (nested d k v f) f
@@ -131,7 +140,8 @@ divided_degrees : (v d : ℕ) (f : List Term) → AllDegrees (suc d) f → AllDe
 divided_degrees v d [] a = tt
 divided_degrees v d (t ∷ f) a = by_case (is_positive (exponent_of v t.exponents)) refl (divided_degrees v d f a.1)
   where
-    by_case : (b : Bool) → is_positive (exponent_of v t.exponents) ≡ b → AllDegrees d (divided v f) → AllDegrees d (if b then record { exponents = one_less v t.exponents; factor = t.factor } ∷ divided v f else divided v f)
+    by_case : (b : Bool) → is_positive (exponent_of v t.exponents) ≡ b → AllDegrees d (divided v f)
+        → AllDegrees d (if b then record { exponents = one_less v t.exponents; factor = t.factor } ∷ divided v f else divided v f)
     by_case true e ih = (let q = one_less_degree v t.exponents e in omega (arith, q, a.0), ih)
     by_case false e ih = ih
 
@@ -140,7 +150,8 @@ none_divided : (v : ℕ) (f : List Term) → AllDegrees 0 f → divided v f ≡ 
 none_divided v [] a = refl
 none_divided v (t ∷ f) a = by_case (is_positive (exponent_of v t.exponents)) refl (none_divided v f a.1)
   where
-    by_case : (b : Bool) → is_positive (exponent_of v t.exponents) ≡ b → divided v f ≡ [] → (if b then record { exponents = one_less v t.exponents; factor = t.factor } ∷ divided v f else divided v f) ≡ []
+    by_case : (b : Bool) → is_positive (exponent_of v t.exponents) ≡ b → divided v f ≡ []
+        → (if b then record { exponents = one_less v t.exponents; factor = t.factor } ∷ divided v f else divided v f) ≡ []
     by_case true e ih = let q = one_less_degree v t.exponents e in absurd (omega (arith, q, a.0))
     by_case false e ih = ih
 

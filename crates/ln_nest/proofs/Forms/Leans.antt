@@ -1,5 +1,6 @@
 -- No node of a nested tree has more terms than the list, or larger exponents.
-use Rattle.std.proofs.Common.{◌≡◌, ℕ, ◌+◌, ◌-◌, ◌≤◌, ◌<◌, max, Bool, true, false, eqb, List, [], ◌∷◌, ◌++◌, length, refl, zero, suc, ap, arith, pos, sym, ◌⊎◌, inl, inr, if◌then◌else◌, length-append}
+use Rattle.std.proofs.Common.{◌≡◌, ℕ, ◌+◌, ◌-◌, ◌≤◌, ◌<◌, max, Bool, true, false, eqb, List, [], ◌∷◌, ◌++◌, length, refl, zero, suc, ap}
+use Rattle.std.proofs.Common.{arith, pos, sym, ◌⊎◌, inl, inr, if◌then◌else◌, length-append}
 use Rattle.std.proofs.lemmas.Bool.{cases_eq}
 use Rattle.std.proofs.lemmas.Bool.Decides.{nat_tests}
 use Rattle.ln_algebra.specs.Terms.{Term}
@@ -21,9 +22,11 @@ joined_inputs n v h i (x ∷ p) [] l a b = inputs_scaled n v h l a
 joined_inputs n v h i (x ∷ p) (y ∷ q) l a b = (inputs_scaled n v h l a, b)
 
 -- by powers of v
-horner_inputs : (n v : ℕ) (inner : List Term → Tree) → v < n → ((g : List Term) → InputsBelow n (inner g)) → (d : ℕ) (f : List Term) → InputsBelow n (horner inner v d f)
+horner_inputs : (n v : ℕ) (inner : List Term → Tree) → v < n → ((g : List Term) → InputsBelow n (inner g)) → (d : ℕ) (f : List Term)
+    → InputsBelow n (horner inner v d f)
 horner_inputs n v inner l is zero f = is f
-horner_inputs n v inner l is (suc d) f = joined_inputs n v (horner inner v d (divided v f)) (inner (free_of v f)) (divided v f) (free_of v f) l (horner_inputs n v inner l is d (divided v f)) (is (free_of v f))
+horner_inputs n v inner l is (suc d) f = joined_inputs n v (horner inner v d (divided v f)) (inner (free_of v f)) (divided v f)
+    (free_of v f) l (horner_inputs n v inner l is d (divided v f)) (is (free_of v f))
 
 -- the whole nested tree
 pub nested_inputs : (n d k v : ℕ) → k + v ≡ n → (f : List Term) → InputsBelow n (nested d k v f)
@@ -126,7 +129,8 @@ under_divided : (v : ℕ) (top : ℕ → ℕ) (f : List Term) → AreUnder top f
 under_divided v top [] a = tt
 under_divided v top (t ∷ f) a = by_case (is_positive (exponent_of v t.exponents)) (under_divided v top f a.1)
   where
-    by_case : (b : Bool) → AreUnder (less_at v top) (divided v f) → AreUnder (less_at v top) (if b then record { exponents = one_less v t.exponents; factor = t.factor } ∷ divided v f else divided v f)
+    by_case : (b : Bool) → AreUnder (less_at v top) (divided v f)
+        → AreUnder (less_at v top) (if b then record { exponents = one_less v t.exponents; factor = t.factor } ∷ divided v f else divided v f)
     by_case true ih = (one_less_under v top t.exponents a.0, ih)
     by_case false ih = ih
 
@@ -139,7 +143,8 @@ some_power v top (t ∷ f) a l = by_case (is_positive (exponent_of v t.exponents
     positive zero q = cc
     positive (suc n) q = omega arith
 
-    by_case : (b : Bool) → is_positive (exponent_of v t.exponents) ≡ b → (0 < length (divided v f) → 1 ≤ top v) → 0 < length (if b then record { exponents = one_less v t.exponents; factor = t.factor } ∷ divided v f else divided v f) → 1 ≤ top v
+    by_case : (b : Bool) → is_positive (exponent_of v t.exponents) ≡ b → (0 < length (divided v f) → 1 ≤ top v)
+        → 0 < length (if b then record { exponents = one_less v t.exponents; factor = t.factor } ∷ divided v f else divided v f) → 1 ≤ top v
     by_case true e ih k = let q = positive (exponent_of v t.exponents) e in let r = a.0 v in omega (arith, q, r)
     by_case false e ih k = ih k
 
@@ -152,7 +157,8 @@ unit_under n v top l w = by_case (cases_eq w v)
     by_case (inr o) = let u = exponent-other w n v o in omega (arith, u)
 
 -- v times a monomial
-more_under : (n v : ℕ) (top : ℕ → ℕ) (m : List ℕ) → 1 ≤ top v → ((w : ℕ) → exponent_of w m ≤ less_at v top w) → (w : ℕ) → exponent_of w (plus (unit_vector n v) m) ≤ top w
+more_under : (n v : ℕ) (top : ℕ → ℕ) (m : List ℕ) → 1 ≤ top v → ((w : ℕ) → exponent_of w m ≤ less_at v top w) → (w : ℕ)
+    → exponent_of w (plus (unit_vector n v) m) ≤ top w
 more_under n v top m l a w = by_case (cases_eq w v)
   where
     by_case : (w ≡ v) ⊎ (w ≡ v → ⊥) → exponent_of w (plus (unit_vector n v) m) ≤ top w
@@ -185,10 +191,12 @@ lean_more n count low top l e s = record { terms = s.terms; normal = s.normal; f
 
 -- a node whose expansion has few terms, with small exponents
 lean_here : (n count : ℕ) (top : ℕ → ℕ) (e : Tree) → InputsBelow n e → length (expanded n e) ≤ count → AreUnder top (expanded n e) → IsLean n count top e
-lean_here n count top e i l u = record { terms = expanded n e; normal = record { over = Over-expanded n e; coefficients = λ m h. sym (normal_is n e i m h) }; few = l; under = u }
+lean_here n count top e i l u =
+    record { terms = expanded n e; normal = record { over = Over-expanded n e; coefficients = λ m h. sym (normal_is n e i m h) }; few = l; under = u }
 
 -- a node whose exponents are below smaller limits
-lean_below : (n count : ℕ) (top big : ℕ → ℕ) (e : Tree) → ((v : ℕ) → top v ≤ big v) → InputsBelow n e → length (expanded n e) ≤ count → AreUnder top (expanded n e) → IsLean n count big e
+lean_below : (n count : ℕ) (top big : ℕ → ℕ) (e : Tree) → ((v : ℕ) → top v ≤ big v) → InputsBelow n e → length (expanded n e) ≤ count
+    → AreUnder top (expanded n e) → IsLean n count big e
 lean_below n count top big e l i k u = lean_here n count big e i k (under_more top big l (expanded n e) u)
 
 -- a tree of a list: its expansion has no more terms than the list, nor exponents above top; its nodes are lean
@@ -198,7 +206,8 @@ pub record Slim (n count : ℕ) (top big : ℕ → ℕ) (e : Tree) (f : List Ter
   pub nodes : AreLean n count big e
 
 -- v times a tree
-scaled_slim : (n v count : ℕ) (top big : ℕ → ℕ) (h : Tree) (x : Term) (p : List Term) → v < n → length (x ∷ p) ≤ count → ((w : ℕ) → top w ≤ big w) → 1 ≤ top v → InputsBelow n h → Slim n count (less_at v top) big h (x ∷ p) → Slim n count top big (scaled v h) (x ∷ p)
+scaled_slim : (n v count : ℕ) (top big : ℕ → ℕ) (h : Tree) (x : Term) (p : List Term) → v < n → length (x ∷ p) ≤ count → ((w : ℕ) → top w ≤ big w)
+    → 1 ≤ top v → InputsBelow n h → Slim n count (less_at v top) big h (x ∷ p) → Slim n count top big (scaled v h) (x ∷ p)
 scaled_slim n v count top big h x p i c l s b a =
     let product = times (unit_term n v ∷ []) (expanded n h) in
     let e = length_times_one (unit_term n v) (expanded n h) in
@@ -214,7 +223,9 @@ scaled_slim n v count top big h x p i c l s b a =
     record { few = few; under = under; nodes = nodes (omega (arith, few, c)) under }
 
 -- a sum of two trees
-sum_slim : (n count : ℕ) (top big : ℕ → ℕ) (e g : Tree) (x y : Term) (p q : List Term) → length (x ∷ p) + length (y ∷ q) ≤ count → ((w : ℕ) → top w ≤ big w) → InputsBelow n e → InputsBelow n g → Slim n count top big e (x ∷ p) → Slim n count top big g (y ∷ q) → (f : List Term) → length f ≡ length (x ∷ p) + length (y ∷ q) → Slim n count top big (Add e g) f
+sum_slim : (n count : ℕ) (top big : ℕ → ℕ) (e g : Tree) (x y : Term) (p q : List Term) → length (x ∷ p) + length (y ∷ q) ≤ count
+    → ((w : ℕ) → top w ≤ big w) → InputsBelow n e → InputsBelow n g → Slim n count top big e (x ∷ p) → Slim n count top big g (y ∷ q)
+    → (f : List Term) → length f ≡ length (x ∷ p) + length (y ∷ q) → Slim n count top big (Add e g) f
 sum_slim n count top big e g x y p q c l i j a b f z =
     let k = length-append (expanded n e) (expanded n g) in
     let few : length (expanded n (Add e g)) ≤ max 1 (length f) = let r = a.few in let s = b.few in omega (arith, k, r, s, z) in
@@ -226,9 +237,12 @@ slim_for : (n count : ℕ) (top big : ℕ → ℕ) (e : Tree) (f g : List Term) 
 slim_for n count top big e f g z a = record { few = let k = a.few in omega (arith, k, z); under = a.under; nodes = a.nodes }
 
 -- a step is slim where its parts are
-joined_slim : (n v count : ℕ) (top big : ℕ → ℕ) (h i : Tree) (p q f : List Term) → v < n → length p + length q ≡ length f → length f ≤ count → ((w : ℕ) → top w ≤ big w) → (0 < length p → 1 ≤ top v) → InputsBelow n h → InputsBelow n i → Slim n count (less_at v top) big h p → Slim n count top big i q → Slim n count top big (joined v h i p q) f
+joined_slim : (n v count : ℕ) (top big : ℕ → ℕ) (h i : Tree) (p q f : List Term) → v < n → length p + length q ≡ length f → length f ≤ count
+    → ((w : ℕ) → top w ≤ big w) → (0 < length p → 1 ≤ top v) → InputsBelow n h → InputsBelow n i → Slim n count (less_at v top) big h p
+    → Slim n count top big i q → Slim n count top big (joined v h i p q) f
 joined_slim n v count top big h i [] q f u z c l s j k a b = slim_for n count top big i q f (omega (arith, z)) b
-joined_slim n v count top big h i (x ∷ p) [] f u z c l s j k a b = slim_for n count top big (scaled v h) (x ∷ p) f (omega (arith, z)) (scaled_slim n v count top big h x p u (omega (arith, z, c)) l (s (omega arith)) j a)
+joined_slim n v count top big h i (x ∷ p) [] f u z c l s j k a b = slim_for n count top big (scaled v h) (x ∷ p) f (omega (arith, z))
+    (scaled_slim n v count top big h x p u (omega (arith, z, c)) l (s (omega arith)) j a)
 joined_slim n v count top big h i (x ∷ p) (y ∷ q) f u z c l s j k a b =
     let m : Slim n count top big (scaled v h) (x ∷ p) = scaled_slim n v count top big h x p u (omega (arith, z, c)) l (s (omega arith)) j a in
     sum_slim n count top big (scaled v h) i x y p q (omega (arith, z, c)) l (inputs_scaled n v h u j) k m b f (omega (arith, z))
@@ -238,13 +252,15 @@ abbrev pub IsSlim : ℕ → ℕ → (ℕ → ℕ) → (List Term → Tree) → T
 IsSlim n count big inner = (top : ℕ → ℕ) (f : List Term) → ((w : ℕ) → top w ≤ big w) → AreUnder top f → length f ≤ count → Slim n count top big (inner f) f
 
 -- by powers of v
-horner_slim : (n v count : ℕ) (big : ℕ → ℕ) (inner : List Term → Tree) → v < n → ((g : List Term) → InputsBelow n (inner g)) → IsSlim n count big inner → (d : ℕ) → IsSlim n count big (horner inner v d)
+horner_slim : (n v count : ℕ) (big : ℕ → ℕ) (inner : List Term → Tree) → v < n → ((g : List Term) → InputsBelow n (inner g))
+    → IsSlim n count big inner → (d : ℕ) → IsSlim n count big (horner inner v d)
 horner_slim n v count big inner u j is zero top f l a c = is top f l a c
 horner_slim n v count big inner u j is (suc d) top f l a c =
     let z = parts_length v f in
     joined_slim n v count top big (horner inner v d (divided v f)) (inner (free_of v f)) (divided v f) (free_of v f) f u z c l (some_power v top f a)
     (horner_inputs n v inner u j d (divided v f)) (j (free_of v f))
-    (horner_slim n v count big inner u j is d (less_at v top) (divided v f) (λ w. omega (arith, l w, less_below v top w)) (under_divided v top f a) (omega (arith, z, c)))
+    (horner_slim n v count big inner u j is d (less_at v top) (divided v f) (λ w. omega (arith, l w, less_below v top w))
+    (under_divided v top f a) (omega (arith, z, c)))
     (is top (free_of v f) l (under_free v top f a) (omega (arith, z, c)))
 
 -- the whole nested tree

@@ -1,5 +1,7 @@
--- No node of the nested form weighs more than the terms, whatever the weights from 1 on: so its ranges are within the M-weighted sum, and its running sizes within the sum of the absolute factors.
-use Rattle.std.proofs.Common.{◌≡◌, ◌≢◌, ℕ, ℤ, ◌+◌, ◌*◌, ◌≤◌, length, Bool, true, false, List, [], ◌∷◌, refl, zero, suc, ap, arith, pos, negsuc, unsigned_abs, if◌then◌else◌}
+-- No node of the nested form weighs more than the terms, whatever the weights from 1 on: so its ranges are within the M-weighted sum, and
+-- its running sizes within the sum of the absolute factors.
+use Rattle.std.proofs.Common.{◌≡◌, ◌≢◌, ℕ, ℤ, ◌+◌, ◌*◌, ◌≤◌, length, Bool, true, false, List, [], ◌∷◌, refl, zero, suc, ap, arith, pos}
+use Rattle.std.proofs.Common.{negsuc, unsigned_abs, if◌then◌else◌}
 use Rattle.std.proofs.Math.Nat.{mul-le-mul_left}
 use Rattle.ln_algebra.specs.Terms.{Term}
 use Rattle.ln_algebra.specs.Tree.{Tree, Num, Input, Name, Neg, Add, Sub, Mul, Pow, InputsBelow}
@@ -76,7 +78,8 @@ pub divided_some : (v : ℕ) (f : List Term) → HasNoZero f → HasNoZero (divi
 divided_some v [] z = tt
 divided_some v (t ∷ f) z = by_case (is_positive (exponent_of v t.exponents)) (divided_some v f z.1)
   where
-    by_case : (b : Bool) → HasNoZero (divided v f) → HasNoZero (if b then record { exponents = one_less v t.exponents; factor = t.factor } ∷ divided v f else divided v f)
+    by_case : (b : Bool) → HasNoZero (divided v f)
+        → HasNoZero (if b then record { exponents = one_less v t.exponents; factor = t.factor } ∷ divided v f else divided v f)
     by_case true ih = (z.0, ih)
     by_case false ih = ih
 
@@ -98,7 +101,8 @@ module _ (w : ℕ → ℕ) (o : (v : ℕ) → 1 ≤ w v) where
   some_weight : (t : Term) (f : List Term) → HasNoZero (t ∷ f) → 1 ≤ weighted_sum w (t ∷ f)
   some_weight t f z =
       let a = nonzero t.factor z.0 in
-      let m : unsigned_abs t.factor * 1 ≤ unsigned_abs t.factor * monomial_weight w t.exponents = mul-le-mul_left (unsigned_abs t.factor) (at_least w o t.exponents) in
+      let m : unsigned_abs t.factor * 1 ≤ unsigned_abs t.factor * monomial_weight w t.exponents =
+      mul-le-mul_left (unsigned_abs t.factor) (at_least w o t.exponents) in
       omega (arith, a, m)
 
   -- v times a tree that is up to d, where d is at least 1
@@ -119,7 +123,8 @@ module _ (w : ℕ → ℕ) (o : (v : ℕ) → 1 ≤ w v) where
   scaled_root v h = scaled_cases v h (λ e. weighs w e ≤ w v * weighs w h) (λ e. rw e (omega arith)) (λ e. rw e (omega arith)) (omega arith)
 
   -- a step: v times a tree of the divided terms, and a tree of the others
-  joined_up : (v : ℕ) (h i : Tree) (ds fs : List Term) (n : ℕ) → HasNoZero ds → w v * weighted_sum w ds + weighted_sum w fs ≤ n → AreUpTo (weighs w) (weighted_sum w ds) h → AreUpTo (weighs w) (weighted_sum w fs) i → AreUpTo (weighs w) n (joined v h i ds fs)
+  joined_up : (v : ℕ) (h i : Tree) (ds fs : List Term) (n : ℕ) → HasNoZero ds → w v * weighted_sum w ds + weighted_sum w fs ≤ n
+      → AreUpTo (weighs w) (weighted_sum w ds) h → AreUpTo (weighs w) (weighted_sum w fs) i → AreUpTo (weighs w) n (joined v h i ds fs)
   joined_up v h i [] fs n z l a b = up_more (weighs w) (weighs w) (weighted_sum w fs) n (λ e. omega arith) (omega (arith, l)) i b
   joined_up v h i (t ∷ ds) [] n z l a b = scaled_up v (weighted_sum w (t ∷ ds)) n h (some_weight t ds z) (omega (arith, l)) a
   joined_up v h i (t ∷ ds) (s ∷ fs) n z l a b =
@@ -134,11 +139,13 @@ module _ (w : ℕ → ℕ) (o : (v : ℕ) → 1 ≤ w v) where
       (p, q, omega (arith, l, c, k, m))
 
   -- by powers of v
-  horner_up : (inner : List Term → Tree) → ((g : List Term) → HasNoZero g → AreUpTo (weighs w) (weighted_sum w g) (inner g)) → (v d : ℕ) (f : List Term) → HasNoZero f → AreUpTo (weighs w) (weighted_sum w f) (horner inner v d f)
+  horner_up : (inner : List Term → Tree) → ((g : List Term) → HasNoZero g → AreUpTo (weighs w) (weighted_sum w g) (inner g))
+      → (v d : ℕ) (f : List Term) → HasNoZero f → AreUpTo (weighs w) (weighted_sum w f) (horner inner v d f)
   horner_up inner is v zero f z = is f z
   horner_up inner is v (suc d) f z =
       let p = parts_weight w v f in
-      joined_up v (horner inner v d (divided v f)) (inner (free_of v f)) (divided v f) (free_of v f) (weighted_sum w f) (divided_some v f z) (omega (arith, p)) (horner_up inner is v d (divided v f) (divided_some v f z)) (is (free_of v f) (free_some v f z))
+      joined_up v (horner inner v d (divided v f)) (inner (free_of v f)) (divided v f) (free_of v f) (weighted_sum w f) (divided_some v f z)
+      (omega (arith, p)) (horner_up inner is v d (divided v f) (divided_some v f z)) (is (free_of v f) (free_some v f z))
 
   -- no node of the nested form weighs more than the terms
   pub nested_up : (d k v : ℕ) (f : List Term) → HasNoZero f → AreUpTo (weighs w) (weighted_sum w f) (nested d k v f)
@@ -148,12 +155,15 @@ module _ (w : ℕ → ℕ) (o : (v : ℕ) → 1 ≤ w v) where
       horner_up (nested d k (suc v)) is v d f z
 
 -- so the range of each node is within the M-weighted sum
-pub nested_ranges : (r : ℕ → Range) (m : ℕ → ℕ) → ((v : ℕ) → 1 ≤ m v) → ((v : ℕ) → magnitude (r v) ≤ m v) → (d k v : ℕ) (f : List Term) → HasNoZero f → AreUpTo (reaches r) (weighted_sum m f) (nested d k v f)
-nested_ranges r m o h d k v f z = up_more (weighs m) (reaches r) (weighted_sum m f) (weighted_sum m f) (λ e. range_weight r m [] [] h (λ j. omega arith) e) (omega arith) (nested d k v f) (nested_up m o d k v f z)
+pub nested_ranges : (r : ℕ → Range) (m : ℕ → ℕ) → ((v : ℕ) → 1 ≤ m v) → ((v : ℕ) → magnitude (r v) ≤ m v) → (d k v : ℕ) (f : List Term)
+    → HasNoZero f → AreUpTo (reaches r) (weighted_sum m f) (nested d k v f)
+nested_ranges r m o h d k v f z = up_more (weighs m) (reaches r) (weighted_sum m f) (weighted_sum m f)
+    (λ e. range_weight r m [] [] h (λ j. omega arith) e) (omega arith) (nested d k v f) (nested_up m o d k v f z)
 
 -- and its running size within the same sum
 pub nested_sizes : (m : ℕ → ℕ) → ((v : ℕ) → 1 ≤ m v) → (d k v : ℕ) (f : List Term) → HasNoZero f → AreUpTo (weighs one) (weighted_sum m f) (nested d k v f)
-nested_sizes m o d k v f z = up_more (weighs m) (weighs one) (weighted_sum m f) (weighted_sum m f) (λ e. weight_grows one m [] [] o (λ j. omega arith) e) (omega arith) (nested d k v f) (nested_up m o d k v f z)
+nested_sizes m o d k v f z = up_more (weighs m) (weighs one) (weighted_sum m f) (weighted_sum m f)
+    (λ e. weight_grows one m [] [] o (λ j. omega arith) e) (omega arith) (nested d k v f) (nested_up m o d k v f z)
 
 -- ---- the typed tree
 room_up : (e : Tree) → AreUpTo (weighs one) most e → HasRoom one [] e
@@ -167,7 +177,9 @@ room_up (Mul e f) a = (room_up e a.0, room_up f a.1, a.2)
 room_up (Pow e k) a = (room_up e a.0, a.1)
 
 -- an exact tree in nested form is sound, with its ranges within the M-weighted sum
-pub nested_sound : (vars : List VarInfo) (d : ℕ) (f : List Term) (t : Typed) → ((v : ℕ) → IsOrdered (ranges vars v)) → HasNoZero f → weighted_sum (scale vars) f ≤ most → untyped t ≡ nested d (length vars) 0 f → IsExact vars [] t → need t ≤ 2048 → Sound vars [] t × AreWithinPairs (weighted_sum (scale vars) f) t
+pub nested_sound : (vars : List VarInfo) (d : ℕ) (f : List Term) (t : Typed) → ((v : ℕ) → IsOrdered (ranges vars v)) → HasNoZero f
+    → weighted_sum (scale vars) f ≤ most → untyped t ≡ nested d (length vars) 0 f → IsExact vars [] t → need t ≤ 2048
+    → Sound vars [] t × AreWithinPairs (weighted_sum (scale vars) f) t
 nested_sound vars d f t o z l e x n =
     let scales = λ (v : ℕ). scale_some vars v in
     let r = nested_ranges (ranges vars) (scale vars) scales (range_scale vars) d (length vars) 0 f z in

@@ -1,5 +1,6 @@
 -- The steps of the nested form, with their ranges.
-use Rattle.std.proofs.Common.{◌≡◌, ℕ, ℤ, ◌+◌, ◌-◌, ◌*◌, ◌^◌, ◌≤◌, ◌<◌, max, true, false, List, [], ◌∷◌, length, refl, zero, suc, ap, arith, pos, ◌+ℤ◌, ◌∙◌, sym, unsigned_abs, slice_index_or, take}
+use Rattle.std.proofs.Common.{◌≡◌, ℕ, ℤ, ◌+◌, ◌-◌, ◌*◌, ◌^◌, ◌≤◌, ◌<◌, max, true, false, List, [], ◌∷◌, length, refl, zero, suc, ap, arith}
+use Rattle.std.proofs.Common.{pos, ◌+ℤ◌, ◌∙◌, sym, unsigned_abs, slice_index_or, take}
 use Rattle.std.specs.Prelude.{FitsSigned, Option, Some, None, negsuc, slice_get, ◌==◌}
 use mir.Syntax.{w128}
 use Rattle.std.proofs.Math.Nat.{mul-le-mul_left}
@@ -41,19 +42,21 @@ range_scale vars v = by_there (slice_get vars v)
     by_there None = omega arith
     by_there (Some i) = omega arith
 
--- what is left at a step has no more weight
+-- the remaining terms at a step have no more weight
 pub free_weight : (w : ℕ → ℕ) (v n : ℕ) (f : List Term) (q : List Work) → terms_in q ≡ free_of v f → weighted_sum w f ≤ n → weighted_sum w (terms_in q) ≤ n
 free_weight w v n f q e h = let s = parts_weight w v f in rw e (omega (arith, s, h))
 
 -- nor have the divided terms
-pub divided_weight : (w : ℕ → ℕ) (v n : ℕ) (f : List Term) (p : List Work) → 1 ≤ w v → terms_in p ≡ divided v f → weighted_sum w f ≤ n → weighted_sum w (terms_in p) ≤ n
+pub divided_weight : (w : ℕ → ℕ) (v n : ℕ) (f : List Term) (p : List Work) → 1 ≤ w v → terms_in p ≡ divided v f → weighted_sum w f ≤ n
+    → weighted_sum w (terms_in p) ≤ n
 divided_weight w v n f p o e h =
     let s = parts_weight w v f in
     let m : weighted_sum w (divided v f) * 1 ≤ weighted_sum w (divided v f) * w v = mul-le-mul_left (weighted_sum w (divided v f)) o in
     rw e (omega (arith, s, h, m))
 
 -- v times a tree of the divided terms, and a tree of the others, weigh no more than the terms
-pub product_bound : (w : ℕ → ℕ) (v : ℕ) (f : List Term) (p : List Work) (b : ℕ) → terms_in p ≡ divided v f → b ≤ weighted_sum w (terms_in p) → w v * b + weighted_sum w (free_of v f) ≤ weighted_sum w f
+pub product_bound : (w : ℕ → ℕ) (v : ℕ) (f : List Term) (p : List Work) (b : ℕ) → terms_in p ≡ divided v f → b ≤ weighted_sum w (terms_in p)
+    → w v * b + weighted_sum w (free_of v f) ≤ weighted_sum w f
 product_bound w v f p b e h =
     let s = parts_weight w v f in
     let g : b ≤ weighted_sum w (divided v f) = rw e at h in
@@ -80,13 +83,15 @@ opposite_has vars v x b e k =
     record { same = ap Neg i.same; exact = (i.exact, refl, refl); small = omega (arith, m, k) }
 
 -- a product
-pub times_has : (vars : List VarInfo) (x y : Typed) (e g : Tree) (a b : ℕ) → Has vars x e a → Has vars y g b → Has vars (times_of x y) (Mul e g) (magnitude (pair x) * magnitude (pair y))
+pub times_has : (vars : List VarInfo) (x y : Typed) (e g : Tree) (a b : ℕ) → Has vars x e a → Has vars y g b
+    → Has vars (times_of x y) (Mul e g) (magnitude (pair x) * magnitude (pair y))
 times_has vars x y e g a b h i =
     let m = product_magnitude (pair x) (pair y) in
     record { same = rw (h.same, i.same) refl; exact = (h.exact, i.exact, refl, refl); small = omega (arith, m) }
 
 -- a sum
-pub plus_has : (vars : List VarInfo) (x y : Typed) (e g : Tree) (a b : ℕ) → Has vars x e a → Has vars y g b → Has vars (plus_of x y) (Add e g) (magnitude (pair x) + magnitude (pair y))
+pub plus_has : (vars : List VarInfo) (x y : Typed) (e g : Tree) (a b : ℕ) → Has vars x e a → Has vars y g b
+    → Has vars (plus_of x y) (Add e g) (magnitude (pair x) + magnitude (pair y))
 plus_has vars x y e g a b h i =
     let m = sum_magnitude (pair x) (pair y) in
     record { same = rw (h.same, i.same) refl; exact = (h.exact, i.exact, refl, refl); small = omega (arith, m) }
@@ -107,7 +112,8 @@ unit_magnitude vars y z h e u =
     magnitude_of p = magnitude p
 
 -- variable v times a tree
-pub product_has : (vars : List VarInfo) (v : ℕ) (x y : Typed) (e : Tree) (b : ℕ) → x ≡ input_of vars v → Has vars y e b → Has vars (product_of x y) (scaled v e) (magnitude (pair x) * magnitude (pair y))
+pub product_has : (vars : List VarInfo) (v : ℕ) (x y : Typed) (e : Tree) (b : ℕ) → x ≡ input_of vars v → Has vars y e b
+    → Has vars (product_of x y) (scaled v e) (magnitude (pair x) * magnitude (pair y))
 product_has vars v x y e b i h =
     let input = input_has vars v x i in
     let own : Has vars x (Input v) (magnitude (pair x)) = record { same = input.same; exact = input.exact; small = omega arith } in
@@ -152,15 +158,20 @@ abbrev pub step : (List Term → Tree) → ℕ → ℕ → List Term → Tree
 step inner v b f = horner inner v (suc b) f
 
 -- the code ends a step with the tree of the others
-pub ends_free : (vars : List VarInfo) (inner : List Term → Tree) (v b : ℕ) (f : List Term) (p q : List Work) (t : Typed) → p ≡ [] → terms_in p ≡ divided v f → terms_in q ≡ free_of v f → Has vars t (inner (terms_in q)) (weighted_sum (scale vars) (terms_in q)) → Has vars t (step inner v b f) (weighted_sum (scale vars) f)
+pub ends_free : (vars : List VarInfo) (inner : List Term → Tree) (v b : ℕ) (f : List Term) (p q : List Work) (t : Typed) → p ≡ []
+    → terms_in p ≡ divided v f → terms_in q ≡ free_of v f → Has vars t (inner (terms_in q)) (weighted_sum (scale vars) (terms_in q))
+    → Has vars t (step inner v b f) (weighted_sum (scale vars) f)
 ends_free vars inner v b f p q t z e g h =
     let d : divided v f ≡ [] = sym e ∙ nothing_in p z in
     let s = parts_weight (scale vars) v f in
     let k : weighted_sum (scale vars) (terms_in q) ≡ weighted_sum (scale vars) (free_of v f) = ap (weighted_sum (scale vars)) g in
-    has_as vars t _ _ _ _ (ap inner g ∙ joined_free v (divided v f) (free_of v f) (horner inner v b (divided v f)) (inner (free_of v f)) d) (omega (arith, k, s)) h
+    has_as vars t _ _ _ _ (ap inner g ∙ joined_free v (divided v f) (free_of v f) (horner inner v b (divided v f)) (inner (free_of v f)) d)
+    (omega (arith, k, s)) h
 
 -- the magnitude of v times a tree of the divided terms
-pub product_small : (vars : List VarInfo) (v : ℕ) (f : List Term) (p : List Work) (x h : Typed) (e : Tree) → x ≡ input_of vars v → terms_in p ≡ divided v f → Has vars h e (weighted_sum (scale vars) (terms_in p)) → magnitude (pair x) * magnitude (pair h) + weighted_sum (scale vars) (free_of v f) ≤ weighted_sum (scale vars) f
+pub product_small : (vars : List VarInfo) (v : ℕ) (f : List Term) (p : List Work) (x h : Typed) (e : Tree)
+    → x ≡ input_of vars v → terms_in p ≡ divided v f → Has vars h e (weighted_sum (scale vars) (terms_in p))
+    → magnitude (pair x) * magnitude (pair h) + weighted_sum (scale vars) (free_of v f) ≤ weighted_sum (scale vars) f
 product_small vars v f p x h e i d k =
     let m = product_bound (scale vars) v f p (magnitude (pair h)) d k.small in
     let s : magnitude (pair x) ≤ scale vars v = rw i (range_scale vars v) in
@@ -168,14 +179,17 @@ product_small vars v f p x h e i d k =
     omega (arith, m, l)
 
 -- the product that a step makes is within 2^127 - 1
-pub product_fits : (vars : List VarInfo) (v : ℕ) (f : List Term) (p : List Work) (x h : Typed) (e : Tree) → x ≡ input_of vars v → terms_in p ≡ divided v f → Has vars h e (weighted_sum (scale vars) (terms_in p)) → weighted_sum (scale vars) f ≤ most → magnitude (product (pair x) (pair h)) ≤ most
+pub product_fits : (vars : List VarInfo) (v : ℕ) (f : List Term) (p : List Work) (x h : Typed) (e : Tree) → x ≡ input_of vars v → terms_in p ≡ divided v f
+    → Has vars h e (weighted_sum (scale vars) (terms_in p)) → weighted_sum (scale vars) f ≤ most → magnitude (product (pair x) (pair h)) ≤ most
 product_fits vars v f p x h e i d k o =
     let m = product_small vars v f p x h e i d k in
     let q = product_magnitude (pair x) (pair h) in
     omega (arith, m, o, q)
 
 -- the parts of the sum are within the weight of the terms
-parts_small : (vars : List VarInfo) (v : ℕ) (f : List Term) (p q : List Work) (x h s i : Typed) (e g : Tree) → x ≡ input_of vars v → terms_in p ≡ divided v f → terms_in q ≡ free_of v f → Has vars h e (weighted_sum (scale vars) (terms_in p)) → s ≡ product_of x h → Has vars i g (weighted_sum (scale vars) (terms_in q)) → magnitude (pair s) + magnitude (pair i) ≤ weighted_sum (scale vars) f
+parts_small : (vars : List VarInfo) (v : ℕ) (f : List Term) (p q : List Work) (x h s i : Typed) (e g : Tree) → x ≡ input_of vars v
+    → terms_in p ≡ divided v f → terms_in q ≡ free_of v f → Has vars h e (weighted_sum (scale vars) (terms_in p)) → s ≡ product_of x h
+    → Has vars i g (weighted_sum (scale vars) (terms_in q)) → magnitude (pair s) + magnitude (pair i) ≤ weighted_sum (scale vars) f
 parts_small vars v f p q x h s i e g y d r k z j =
     let m = product_small vars v f p x h e y d k in
     let w : weighted_sum (scale vars) (terms_in q) ≡ weighted_sum (scale vars) (free_of v f) = ap (weighted_sum (scale vars)) r in
@@ -185,28 +199,37 @@ parts_small vars v f p q x h s i e g y d r k z j =
     omega (arith, m, w, b, c)
 
 -- so the sum is within 2^127 - 1
-pub sum_fits_most : (vars : List VarInfo) (v : ℕ) (f : List Term) (p q : List Work) (x h s i : Typed) (e g : Tree) → x ≡ input_of vars v → terms_in p ≡ divided v f → terms_in q ≡ free_of v f → Has vars h e (weighted_sum (scale vars) (terms_in p)) → s ≡ product_of x h → Has vars i g (weighted_sum (scale vars) (terms_in q)) → weighted_sum (scale vars) f ≤ most → magnitude (sum (pair s) (pair i)) ≤ most
+pub sum_fits_most : (vars : List VarInfo) (v : ℕ) (f : List Term) (p q : List Work) (x h s i : Typed) (e g : Tree) → x ≡ input_of vars v
+    → terms_in p ≡ divided v f → terms_in q ≡ free_of v f → Has vars h e (weighted_sum (scale vars) (terms_in p)) → s ≡ product_of x h
+    → Has vars i g (weighted_sum (scale vars) (terms_in q)) → weighted_sum (scale vars) f ≤ most → magnitude (sum (pair s) (pair i)) ≤ most
 sum_fits_most vars v f p q x h s i e g y d r k z j o =
     let m = parts_small vars v f p q x h s i e g y d r k z j in
     let n = sum_magnitude (pair s) (pair i) in
     omega (arith, m, n, o)
 
 -- with the product
-pub ends_product : (vars : List VarInfo) (inner : List Term → Tree) (v b : ℕ) (f : List Term) (p q : List Work) (x h t : Typed) → (p ≡ [] → ⊥) → q ≡ [] → terms_in p ≡ divided v f → terms_in q ≡ free_of v f → x ≡ input_of vars v
-    → Has vars h (horner inner v b (terms_in p)) (weighted_sum (scale vars) (terms_in p)) → t ≡ product_of x h → Has vars t (step inner v b f) (weighted_sum (scale vars) f)
+pub ends_product : (vars : List VarInfo) (inner : List Term → Tree) (v b : ℕ) (f : List Term) (p q : List Work) (x h t : Typed)
+    → (p ≡ [] → ⊥) → q ≡ [] → terms_in p ≡ divided v f → terms_in q ≡ free_of v f → x ≡ input_of vars v
+    → Has vars h (horner inner v b (terms_in p)) (weighted_sum (scale vars) (terms_in p)) → t ≡ product_of x h
+    → Has vars t (step inner v b f) (weighted_sum (scale vars) f)
 ends_product vars inner v b f p q x h t y z e g i a j =
     let m = product_small vars v f p x h _ i e a in
     let n : Has vars t (scaled v (horner inner v b (terms_in p))) (magnitude (pair x) * magnitude (pair h)) = rw j (product_has vars v x h _ _ i a) in
-    has_as vars t _ _ _ _ (ap (λ u. scaled v (horner inner v b u)) e ∙ joined_product v (divided v f) (free_of v f) (horner inner v b (divided v f)) (inner (free_of v f)) (λ r. not_empty p y (e ∙ r)) (sym g ∙ nothing_in q z)) (omega (arith, m)) n
+    has_as vars t _ _ _ _ (ap (λ u. scaled v (horner inner v b u)) e ∙ joined_product v (divided v f) (free_of v f)
+    (horner inner v b (divided v f)) (inner (free_of v f)) (λ r. not_empty p y (e ∙ r)) (sym g ∙ nothing_in q z)) (omega (arith, m)) n
 
 -- with the sum
-pub ends_sum : (vars : List VarInfo) (inner : List Term → Tree) (v b : ℕ) (f : List Term) (p q : List Work) (x h i s t : Typed) → (p ≡ [] → ⊥) → (q ≡ [] → ⊥) → terms_in p ≡ divided v f → terms_in q ≡ free_of v f → x ≡ input_of vars v
-    → Has vars h (horner inner v b (terms_in p)) (weighted_sum (scale vars) (terms_in p)) → s ≡ product_of x h → Has vars i (inner (terms_in q)) (weighted_sum (scale vars) (terms_in q)) → t ≡ plus_of s i → Has vars t (step inner v b f) (weighted_sum (scale vars) f)
+pub ends_sum : (vars : List VarInfo) (inner : List Term → Tree) (v b : ℕ) (f : List Term) (p q : List Work) (x h i s t : Typed)
+    → (p ≡ [] → ⊥) → (q ≡ [] → ⊥) → terms_in p ≡ divided v f → terms_in q ≡ free_of v f → x ≡ input_of vars v
+    → Has vars h (horner inner v b (terms_in p)) (weighted_sum (scale vars) (terms_in p)) → s ≡ product_of x h
+    → Has vars i (inner (terms_in q)) (weighted_sum (scale vars) (terms_in q)) → t ≡ plus_of s i → Has vars t (step inner v b f) (weighted_sum (scale vars) f)
 ends_sum vars inner v b f p q x h i s t y z e g u a j c r =
     let m = parts_small vars v f p q x h s i _ _ u e g a j c in
     let n : Has vars s (scaled v (horner inner v b (terms_in p))) (magnitude (pair x) * magnitude (pair h)) = rw j (product_has vars v x h _ _ u a) in
-    let d : Has vars t (Add (scaled v (horner inner v b (terms_in p))) (inner (terms_in q))) (magnitude (pair s) + magnitude (pair i)) = rw r (plus_has vars s i _ _ _ _ n c) in
-    has_as vars t _ _ _ _ (both (ap (horner inner v b) e) (ap inner g) ∙ joined_sum v (divided v f) (free_of v f) (horner inner v b (divided v f)) (inner (free_of v f)) (λ a. not_empty p y (e ∙ a)) (λ a. not_empty q z (g ∙ a))) m d
+    let d : Has vars t (Add (scaled v (horner inner v b (terms_in p))) (inner (terms_in q))) (magnitude (pair s) + magnitude (pair i)) =
+    rw r (plus_has vars s i _ _ _ _ n c) in
+    has_as vars t _ _ _ _ (both (ap (horner inner v b) e) (ap inner g) ∙ joined_sum v (divided v f) (free_of v f)
+    (horner inner v b (divided v f)) (inner (free_of v f)) (λ a. not_empty p y (e ∙ a)) (λ a. not_empty q z (g ∙ a))) m d
   where
     both : {a c d g : Tree} → a ≡ c → d ≡ g → Add (scaled v a) d ≡ Add (scaled v c) g
     both p q = rw (p, q) refl
@@ -232,10 +255,11 @@ is_some n ws e l r = not_zero n e (let z : length ws ≡ 0 = ap length r in omeg
 
 -- ---- where the forms of the code and of the definition meet
 -- powers up to b + 1 are a step
-pub at_count : (vars : List VarInfo) (inner : List Term → Tree) (v b c n : ℕ) (f : List Term) (t : Typed) → c ≡ suc b → Has vars t (step inner v b f) n → Has vars t (horner inner v c f) n
+pub at_count : (vars : List VarInfo) (inner : List Term → Tree) (v b c n : ℕ) (f : List Term) (t : Typed) → c ≡ suc b
+    → Has vars t (step inner v b f) n → Has vars t (horner inner v c f) n
 at_count vars inner v b c n f t e h = rw e h
 
--- the variables from v on are powers of v with those behind v
+-- the variables from v on are powers of v with those after v
 pub from_powers : (d n v : ℕ) (f : List Term) → v < n → nested d (n - v) v f ≡ horner (nested d (n - (v + 1)) (v + 1)) v d f
 from_powers d n v f h = by_eq (n - v) (n - (v + 1)) (v + 1) (omega arith) (omega arith)
   where
@@ -247,7 +271,8 @@ pub few_weight : (w : ℕ → ℕ) → ((v : ℕ) → 1 ≤ w v) → (f : List T
 few_weight w o [] = omega arith
 few_weight w o (t ∷ f) =
     let ih = few_weight w o f in
-    let m : unsigned_abs t.factor * 1 ≤ unsigned_abs t.factor * monomial_weight w t.exponents = mul-le-mul_left (unsigned_abs t.factor) (at_least w o t.exponents) in
+    let m : unsigned_abs t.factor * 1 ≤ unsigned_abs t.factor * monomial_weight w t.exponents =
+    mul-le-mul_left (unsigned_abs t.factor) (at_least w o t.exponents) in
     omega (arith, ih, m)
 
 -- so the sum of the factors is within 2^127 - 1
@@ -257,8 +282,9 @@ total_fits vars f c g o =
     let k : unsigned_abs c ≡ unsigned_abs (total f) = ap unsigned_abs g in
     omega (arith, s, k, o)
 
--- where no variable is left the tree is a number
-pub constant_has : (vars : List VarInfo) (d n v : ℕ) (f : List Term) (t : Typed) (c : ℤ) → n ≡ v → c ≡ total f → t ≡ TNum c (point c) (least (magnitude (point c))) → Has vars t (nested d (n - v) v f) (weighted_sum (scale vars) f)
+-- where no variable remains the tree is a number
+pub constant_has : (vars : List VarInfo) (d n v : ℕ) (f : List Term) (t : Typed) (c : ℤ) → n ≡ v → c ≡ total f
+    → t ≡ TNum c (point c) (least (magnitude (point c))) → Has vars t (nested d (n - v) v f) (weighted_sum (scale vars) f)
 constant_has vars d n v f t c e g h =
     let z : n - v ≡ 0 = omega arith in
     let s = sum_weight (scale vars) (scale_some vars) f in
@@ -273,7 +299,8 @@ first x ws n e = rw e (turned x.factor)
     turned z = omega (arith, ints)
 
 -- one factor more
-pub sum_step : (ws : List Work) (i : ℕ) (w : Work) → i < length ws → w ≡ slice_index_or ws i w → total (terms_in (take (i + 1) ws)) ≡ total (terms_in (take i ws)) +ℤ w.factor
+pub sum_step : (ws : List Work) (i : ℕ) (w : Work) → i < length ws → w ≡ slice_index_or ws i w
+    → total (terms_in (take (i + 1) ws)) ≡ total (terms_in (take i ws)) +ℤ w.factor
 sum_step [] i w h e = absurd (omega arith)
 sum_step (x ∷ ws) zero w h e = let f : w ≡ x = e in rw f (first x ws (0 + 1) (omega arith))
 sum_step (x ∷ ws) (suc i) w h e =
@@ -282,12 +309,14 @@ sum_step (x ∷ ws) (suc i) w h e =
     rw g (omega (arith, ints, ih))
 
 -- a part of the sum and the next factor are within the absolute factors together
-pub sum_fits : (ws : List Work) (i : ℕ) (w : Work) → i < length ws → w ≡ slice_index_or ws i w → unsigned_abs (total (terms_in (take i ws))) + unsigned_abs w.factor ≤ abs_total (terms_in ws)
+pub sum_fits : (ws : List Work) (i : ℕ) (w : Work) → i < length ws → w ≡ slice_index_or ws i w
+    → unsigned_abs (total (terms_in (take i ws))) + unsigned_abs w.factor ≤ abs_total (terms_in ws)
 sum_fits [] i w h e = absurd (omega arith)
 sum_fits (x ∷ ws) zero w h e = let f : w ≡ x = e in rw f (omega arith)
 sum_fits (x ∷ ws) (suc i) w h e =
     let ih = sum_fits ws i w (omega arith) e in
-    let a : unsigned_abs (x.factor +ℤ total (terms_in (take i ws))) ≤ unsigned_abs x.factor + unsigned_abs (total (terms_in (take i ws))) = omega (arith, ints) in
+    let a : unsigned_abs (x.factor +ℤ total (terms_in (take i ws))) ≤ unsigned_abs x.factor + unsigned_abs (total (terms_in (take i ws))) =
+    omega (arith, ints) in
     omega (arith, ih, a)
 
 -- so the next sum fits 128 bits

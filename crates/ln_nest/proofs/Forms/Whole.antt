@@ -46,7 +46,10 @@ terms_degrees n d (t ∷ f) a = (All-head (λ u. degree (vector n u.0) ≤ d) t 
 -- terms over n variables with small degrees fit
 all_fit : (n d : ℕ) (f : List Term) → Over n f → AllDegrees d f → AllFit n 0 d f
 all_fit n d [] o a = tt
-all_fit n d (t ∷ f) o a = (record { long = o.0; clear = λ w l. absurd (omega arith); most = λ w. let e = exponent-degree w t.exponents in omega (arith, e, a.0) }, all_fit n d f o.1 a.1)
+all_fit n d (t ∷ f) o a = (
+  record { long = o.0; clear = λ w l. absurd (omega arith); most = λ w. let e = exponent-degree w t.exponents in omega (arith, e, a.0) },
+  all_fit n d f o.1 a.1,
+)
 
 -- the exponent in a part of a vector
 exponent-from : (v a n w : ℕ) (ps : Pairs) → w ≡ a + v → exponent_of v (exponents_from a n ps) ≤ exponent w ps
@@ -57,7 +60,10 @@ exponent-from (suc v) a (suc n) w ps e = exponent-from v (suc a) n w ps (omega (
 -- no exponent of a polynomial is above its largest
 terms_under : (n : ℕ) (top : ℕ → ℕ) (f : Sparse) → ((v : ℕ) → largest f v ≤ top v) → AreUnder top (terms_of n f)
 terms_under n top [] l = tt
-terms_under n top (t ∷ f) l = ((λ v. let e : exponent_of v (vector n t.0) ≤ exponent v t.0 = exponent-from v 0 n v t.0 (omega arith) in let g = l v in omega (arith, e, g)), terms_under n top f (λ v. let g = l v in omega (arith, g)))
+terms_under n top (t ∷ f) l = (
+  (λ v. let e : exponent_of v (vector n t.0) ≤ exponent v t.0 = exponent-from v 0 n v t.0 (omega arith) in let g = l v in omega (arith, e, g)),
+  terms_under n top f (λ v. let g = l v in omega (arith, g)),
+)
 
 -- ---- weights that are the same up to the last variable
 -- of one monomial
@@ -77,7 +83,8 @@ sum_same w u n (t ∷ f) o h =
     rw (e, ih) refl
 
 -- the sum with 1 past the last variable is the sum
-pub scaled_sum : (vars : List VarInfo) (f : Sparse) → weighted_sum (scale vars) (terms_of (length vars) f) ≡ weighted_sum (sizes vars) (terms_of (length vars) f)
+pub scaled_sum : (vars : List VarInfo) (f : Sparse)
+    → weighted_sum (scale vars) (terms_of (length vars) f) ≡ weighted_sum (sizes vars) (terms_of (length vars) f)
 scaled_sum vars f = sum_same (scale vars) (sizes vars) (length vars) (terms_of (length vars) f) (over-terms (length vars) f) (λ v l. scale_is vars v l)
 
 -- ---- a nested tree has no lets
@@ -88,9 +95,11 @@ joined_closed v h i (x ∷ p) [] a b = closed_scaled v h a
 joined_closed v h i (x ∷ p) (y ∷ q) a b = rw (closed_scaled v h a, b) refl
 
 -- by powers of v
-horner_closed : (v : ℕ) (inner : List Term → Tree) → ((g : List Term) → inlined [] (inner g) ≡ inner g) → (d : ℕ) (f : List Term) → inlined [] (horner inner v d f) ≡ horner inner v d f
+horner_closed : (v : ℕ) (inner : List Term → Tree) → ((g : List Term) → inlined [] (inner g) ≡ inner g) → (d : ℕ) (f : List Term)
+    → inlined [] (horner inner v d f) ≡ horner inner v d f
 horner_closed v inner is zero f = is f
-horner_closed v inner is (suc d) f = joined_closed v (horner inner v d (divided v f)) (inner (free_of v f)) (divided v f) (free_of v f) (horner_closed v inner is d (divided v f)) (is (free_of v f))
+horner_closed v inner is (suc d) f = joined_closed v (horner inner v d (divided v f)) (inner (free_of v f)) (divided v f) (free_of v f)
+    (horner_closed v inner is d (divided v f)) (is (free_of v f))
 
 -- the whole
 nested_closed : (d k v : ℕ) (f : List Term) → inlined [] (nested d k v f) ≡ nested d k v f
@@ -114,7 +123,8 @@ pub whole_form : (n : ℕ) (f : Sparse) (t : Typed) → untyped t ≡ tree_of 12
 whole_form n f t h = let e : n - 0 ≡ n = omega arith in subst (λ k. untyped t ≡ nested 126 k 0 (terms_of n f)) e h
 
 -- the tree has the polynomial
-pub whole_same : (d n : ℕ) (f : Sparse) (t : Typed) → All (λ u. degree (vector n u.0) ≤ d) f → untyped t ≡ tree_of d n f → (m : List ℕ) → length m ≡ n → polynomial [] t m ≡ coefficient_at n f m
+pub whole_same : (d n : ℕ) (f : Sparse) (t : Typed) → All (λ u. degree (vector n u.0) ≤ d) f → untyped t ≡ tree_of d n f → (m : List ℕ)
+    → length m ≡ n → polynomial [] t m ≡ coefficient_at n f m
 whole_same d n f t a e m h =
     let g = terms_of n f in
     let fit : AllFit n 0 d g = all_fit n d g (over-terms n f) (terms_degrees n d f a) in
@@ -130,7 +140,9 @@ terms_some n [] a = tt
 terms_some n (t ∷ f) a = ((All-head (λ u. IsFactor u.1) t f a).0, terms_some n f (All-tail (λ u. IsFactor u.1) t f a))
 
 -- it is sound, and its ranges are within the weight of the polynomial
-pub whole_sound : (vars : List VarInfo) (f : Sparse) (t : Typed) (b : ℕ) → length vars ≤ 168 → ((v : ℕ) → IsOrdered (ranges vars v)) → IsPoly f → All (λ u. degree (vector (length vars) u.0) ≤ 126) f → weighted_sum (sizes vars) (terms_of (length vars) f) ≤ most → Has vars t (tree_of 126 (length vars) f) b → Sound vars [] t × AreWithinPairs (weighted_sum (sizes vars) (terms_of (length vars) f)) t
+pub whole_sound : (vars : List VarInfo) (f : Sparse) (t : Typed) (b : ℕ) → length vars ≤ 168 → ((v : ℕ) → IsOrdered (ranges vars v))
+    → IsPoly f → All (λ u. degree (vector (length vars) u.0) ≤ 126) f → weighted_sum (sizes vars) (terms_of (length vars) f) ≤ most
+    → Has vars t (tree_of 126 (length vars) f) b → Sound vars [] t × AreWithinPairs (weighted_sum (sizes vars) (terms_of (length vars) f)) t
 whole_sound vars f t b l r p a o h =
     let n = length vars in
     let k : need_of (tree_of 126 n f) ≤ 126 + ((n - 0) + 1) = nested_need 126 (n - 0) 0 126 (terms_of n f) (terms_degrees n 126 f a) in
@@ -146,7 +158,8 @@ pub whole_lean : (d n : ℕ) (f : Sparse) (t : Typed) → untyped t ≡ tree_of 
 whole_lean d n f t e =
     let g = terms_of n f in
     let z : length g ≡ length f = length-map f (term_of n) in
-    let s = nested_slim n (max 1 (length f)) (largest f) (omega arith) d (n - 0) 0 (omega arith) (largest f) g (λ w. omega arith) (terms_under n (largest f) f (λ w. omega arith)) (omega (arith, z)) in
+    let s = nested_slim n (max 1 (length f)) (largest f) (omega arith) d (n - 0) 0 (omega arith) (largest f) g (λ w. omega arith)
+    (terms_under n (largest f) f (λ w. omega arith)) (omega (arith, z)) in
     rw e s.nodes
 
 -- 254 operations for each term, where degrees are at most 126
@@ -155,7 +168,8 @@ few_allowance d [] l a = omega arith
 few_allowance d (t ∷ f) l a = let ih = few_allowance d f l a.1 in omega (arith, ih, a.0, l)
 
 -- it is cheap
-pub whole_cheap : (d n : ℕ) (f : Sparse) (t : Typed) → d ≤ 126 → All (λ u. degree (vector n u.0) ≤ d) f → untyped t ≡ tree_of d n f → cost t ≤ max 1 (1024 * length f)
+pub whole_cheap : (d n : ℕ) (f : Sparse) (t : Typed) → d ≤ 126 → All (λ u. degree (vector n u.0) ≤ d) f → untyped t ≡ tree_of d n f
+    → cost t ≤ max 1 (1024 * length f)
 whole_cheap d n f t l a e =
     let g = terms_of n f in
     let z : length g ≡ length f = length-map f (term_of n) in
@@ -165,12 +179,16 @@ whole_cheap d n f t l a e =
     omega (arith, z, c, k, m)
 
 -- the same of the lists that the code has
-pub whole_weight : (vs vars : List VarInfo) (g f : Sparse) (ws : List Work) → vs ≡ vars → g ≡ f → terms_in ws ≡ terms_of (length vs) g → weighted_sum (sizes vars) (terms_of (length vars) f) ≤ most → weighted_sum (scale vs) (terms_in ws) ≤ most
+pub whole_weight : (vs vars : List VarInfo) (g f : Sparse) (ws : List Work) → vs ≡ vars → g ≡ f → terms_in ws ≡ terms_of (length vs) g
+    → weighted_sum (sizes vars) (terms_of (length vars) f) ≤ most → weighted_sum (scale vs) (terms_in ws) ≤ most
 whole_weight vs vars g f ws p q e l = rw (e, p, q) (omega (arith, scaled_sum vars f, l))
 
 -- the tree that the code built is that of the polynomial
-pub whole_has : (vs vars : List VarInfo) (g f : Sparse) (ws : List Work) (t : Typed) → vs ≡ vars → g ≡ f → terms_in ws ≡ terms_of (length vs) g → Has vs t (nested 126 (length vs - 0) 0 (terms_in ws)) (weighted_sum (scale vs) (terms_in ws)) → Has vars t (tree_of 126 (length vars) f) (weighted_sum (sizes vars) (terms_of (length vars) f))
+pub whole_has : (vs vars : List VarInfo) (g f : Sparse) (ws : List Work) (t : Typed) → vs ≡ vars → g ≡ f
+    → terms_in ws ≡ terms_of (length vs) g → Has vs t (nested 126 (length vs - 0) 0 (terms_in ws)) (weighted_sum (scale vs) (terms_in ws))
+    → Has vars t (tree_of 126 (length vars) f) (weighted_sum (sizes vars) (terms_of (length vars) f))
 whole_has vs vars g f ws t p q e h =
     let a : Has vs t (tree_of 126 (length vs) g) (weighted_sum (scale vs) (terms_of (length vs) g)) = rw (← e) h in
     let b : Has vars t (tree_of 126 (length vars) f) (weighted_sum (scale vars) (terms_of (length vars) f)) = rw (p, q) at a in
-    has_as vars t (tree_of 126 (length vars) f) (tree_of 126 (length vars) f) (weighted_sum (scale vars) (terms_of (length vars) f)) (weighted_sum (sizes vars) (terms_of (length vars) f)) refl (omega (arith, scaled_sum vars f)) b
+    has_as vars t (tree_of 126 (length vars) f) (tree_of 126 (length vars) f) (weighted_sum (scale vars) (terms_of (length vars) f))
+    (weighted_sum (sizes vars) (terms_of (length vars) f)) refl (omega (arith, scaled_sum vars f)) b

@@ -1,5 +1,6 @@
 -- A list of terms divided by a variable, and what is free of it.
-use Rattle.std.proofs.Common.{◌≡◌, ℕ, ℤ, ◌+◌, ◌-◌, ◌≤◌, ◌<◌, Bool, true, false, List, [], ◌∷◌, length, refl, zero, suc, ap, arith, pos, ◌+ℤ◌, ◌∙◌, ◌⊎◌, inl, inr, if◌then◌else◌}
+use Rattle.std.proofs.Common.{◌≡◌, ℕ, ℤ, ◌+◌, ◌-◌, ◌≤◌, ◌<◌, Bool, true, false, List, [], ◌∷◌, length, refl, zero, suc, ap, arith, pos}
+use Rattle.std.proofs.Common.{◌+ℤ◌, ◌∙◌, ◌⊎◌, inl, inr, if◌then◌else◌}
 use Rattle.std.proofs.lemmas.Int.{ints}
 use Rattle.std.proofs.lemmas.Bool.{cases_eq}
 use Rattle.ln_algebra.specs.Vector.{plus}
@@ -60,14 +61,18 @@ exponent-less (suc v) zero (n ∷ m) = omega arith
 exponent-less (suc v) (suc w) (n ∷ m) = exponent-less v w m
 
 -- ---- the two parts are the whole
-pub parts_sum : (n v d : ℕ) (m : List ℕ) (f : List Term) → AllFit n v d f → factor_at (times_term (record { exponents = unit_vector n v; factor = pos 1 }) (divided v f)) m +ℤ factor_at (free_of v f) m ≡ factor_at f m
+pub parts_sum : (n v d : ℕ) (m : List ℕ) (f : List Term) → AllFit n v d f
+    → factor_at (times_term (record { exponents = unit_vector n v; factor = pos 1 }) (divided v f)) m +ℤ factor_at (free_of v f) m ≡ factor_at f m
 parts_sum n v d m [] a = refl
 parts_sum n v d m (t ∷ f) a =
     by_case (is_positive (exponent_of v t.exponents)) refl (parts_sum n v d m f a.1)
   where
     by_case : (b : Bool) → is_positive (exponent_of v t.exponents) ≡ b
         → factor_at (times_term (record { exponents = unit_vector n v; factor = pos 1 }) (divided v f)) m +ℤ factor_at (free_of v f) m ≡ factor_at f m
-        → factor_at (times_term (record { exponents = unit_vector n v; factor = pos 1 }) (if b then record { exponents = one_less v t.exponents; factor = t.factor } ∷ divided v f else divided v f)) m +ℤ factor_at (if b then free_of v f else t ∷ free_of v f) m ≡ factor_at (t ∷ f) m
+        → factor_at (times_term (record { exponents = unit_vector n v; factor = pos 1 }) (if b then record {
+          exponents = one_less v t.exponents;
+          factor = t.factor;
+        } ∷ divided v f else divided v f)) m +ℤ factor_at (if b then free_of v f else t ∷ free_of v f) m ≡ factor_at (t ∷ f) m
     by_case true e ih =
         let p : plus (unit_vector n v) (one_less v t.exponents) ≡ t.exponents = plus_unit n v t.exponents a.0.long e in
         rw (p, one_mul t.factor) (regroup _ _ _ _ ih)
@@ -96,7 +101,8 @@ pub free_fit : (n v d : ℕ) (f : List Term) → AllFit n v d f → AllFit n (su
 free_fit n v d [] a = tt
 free_fit n v d (t ∷ f) a = by_case (is_positive (exponent_of v t.exponents)) refl (free_fit n v d f a.1)
   where
-    by_case : (b : Bool) → is_positive (exponent_of v t.exponents) ≡ b → AllFit n (suc v) d (free_of v f) → AllFit n (suc v) d (if b then free_of v f else t ∷ free_of v f)
+    by_case : (b : Bool) → is_positive (exponent_of v t.exponents) ≡ b → AllFit n (suc v) d (free_of v f)
+        → AllFit n (suc v) d (if b then free_of v f else t ∷ free_of v f)
     by_case true e ih = ih
     by_case false e ih = (record { long = a.0.long; clear = clear_more v t.exponents a.0.clear e; most = a.0.most }, ih)
 
@@ -113,7 +119,8 @@ pub divided_fit : (n v d : ℕ) (f : List Term) → AllFit n v d f → AllFit n 
 divided_fit n v d [] a = tt
 divided_fit n v d (t ∷ f) a = by_case (is_positive (exponent_of v t.exponents)) (divided_fit n v d f a.1)
   where
-    by_case : (b : Bool) → AllFit n v d (divided v f) → AllFit n v d (if b then record { exponents = one_less v t.exponents; factor = t.factor } ∷ divided v f else divided v f)
+    by_case : (b : Bool) → AllFit n v d (divided v f)
+        → AllFit n v d (if b then record { exponents = one_less v t.exponents; factor = t.factor } ∷ divided v f else divided v f)
     by_case true ih = (less_fit n v d t.exponents a.0, ih)
     by_case false ih = ih
 
@@ -122,7 +129,8 @@ pub divided_at : (v d : ℕ) (f : List Term) → AllAt v (suc d) f → AllAt v d
 divided_at v d [] a = tt
 divided_at v d (t ∷ f) a = by_case (is_positive (exponent_of v t.exponents)) (divided_at v d f a.1)
   where
-    by_case : (b : Bool) → AllAt v d (divided v f) → AllAt v d (if b then record { exponents = one_less v t.exponents; factor = t.factor } ∷ divided v f else divided v f)
+    by_case : (b : Bool) → AllAt v d (divided v f)
+        → AllAt v d (if b then record { exponents = one_less v t.exponents; factor = t.factor } ∷ divided v f else divided v f)
     by_case true ih = (let e = exponent-here v t.exponents in omega (arith, e, a.0), ih)
     by_case false ih = ih
 
@@ -145,7 +153,7 @@ pub fit_over : (n v d : ℕ) (f : List Term) → AllFit n v d f → Over n f
 fit_over n v d [] a = tt
 fit_over n v d (t ∷ f) a = (a.0.long, fit_over n v d f a.1)
 
--- ---- no variable is left
+-- ---- no variable remains
 pub all_zero : (n : ℕ) (m : List ℕ) → length m ≡ n → ((w : ℕ) → w < n → exponent_of w m ≡ 0) → m ≡ zeros n
 all_zero zero [] h c = refl
 all_zero zero (k ∷ m) h c = absurd (omega arith)
@@ -156,7 +164,8 @@ all_zero (suc n) (k ∷ m) h c =
     rw (z, r) refl
 
 -- terms without a variable are the number that is the sum of their factors
-pub constants_sum : (n d : ℕ) (m : List ℕ) (f : List Term) → AllFit n n d f → factor_at (record { exponents = zeros n; factor = total f } ∷ []) m ≡ factor_at f m
+pub constants_sum : (n d : ℕ) (m : List ℕ) (f : List Term) → AllFit n n d f
+    → factor_at (record { exponents = zeros n; factor = total f } ∷ []) m ≡ factor_at f m
 constants_sum n d m [] a = by_case (same_vector (zeros n) m)
   where
     by_case : (b : Bool) → (if b then pos 0 else pos 0) +ℤ pos 0 ≡ pos 0
@@ -166,6 +175,7 @@ constants_sum n d m (t ∷ f) a =
     let z : t.exponents ≡ zeros n = all_zero n t.exponents a.0.long a.0.clear in
     rw z (by_case (same_vector (zeros n) m) (factor_at f m) (constants_sum n d m f a.1))
   where
-    by_case : (b : Bool) (r : ℤ) → (if b then total f else pos 0) +ℤ pos 0 ≡ r → (if b then t.factor +ℤ total f else pos 0) +ℤ pos 0 ≡ (if b then t.factor else pos 0) +ℤ r
+    by_case : (b : Bool) (r : ℤ) → (if b then total f else pos 0) +ℤ pos 0 ≡ r
+        → (if b then t.factor +ℤ total f else pos 0) +ℤ pos 0 ≡ (if b then t.factor else pos 0) +ℤ r
     by_case true r h = omega (arith, ints, h)
     by_case false r h = omega (arith, ints, h)

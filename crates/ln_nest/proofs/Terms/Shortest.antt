@@ -33,16 +33,19 @@ fewer : (m : List ℕ) (g : List Term) → factor_at g m ≢ pos 0 → length (w
 fewer m [] h = absurd (h refl)
 fewer m (t ∷ g) h = by_case (same_vector t.exponents m) h (no_more m g) (λ k. fewer m g k)
   where
-    by_case : (b : Bool) → (if b then t.factor else pos 0) +ℤ factor_at g m ≢ pos 0 → length (without m g) ≤ length g → (factor_at g m ≢ pos 0 → length (without m g) + 1 ≤ length g) → length (if b then without m g else (t ∷ without m g)) + 1 ≤ length (t ∷ g)
+    by_case : (b : Bool) → (if b then t.factor else pos 0) +ℤ factor_at g m ≢ pos 0 → length (without m g) ≤ length g
+        → (factor_at g m ≢ pos 0 → length (without m g) + 1 ≤ length g) → length (if b then without m g else (t ∷ without m g)) + 1 ≤ length (t ∷ g)
     by_case true k l ih = omega (arith, l)
     by_case false k l ih = let r = ih (λ e. k (omega (arith, ints, e))) in omega (arith, r)
 
 -- the rest of a collected list has the coefficients of the other without the first vector
-rest_same : (t : Term) (f g : List Term) → Lacks f t.exponents → ((k : List ℕ) → factor_at (t ∷ f) k ≡ factor_at g k) → (k : List ℕ) → factor_at f k ≡ factor_at (without t.exponents g) k
+rest_same : (t : Term) (f g : List Term) → Lacks f t.exponents → ((k : List ℕ) → factor_at (t ∷ f) k ≡ factor_at g k) → (k : List ℕ)
+    → factor_at f k ≡ factor_at (without t.exponents g) k
 rest_same t f g l s k = by_case (same_vector t.exponents k) refl
   where
     by_case : (b : Bool) → same_vector t.exponents k ≡ b → factor_at f k ≡ factor_at (without t.exponents g) k
-    by_case true e = ap (factor_at f) (sym (same_vector-is t.exponents k e)) ∙ lacks_none f t.exponents l ∙ sym (without-same t.exponents g) ∙ ap (factor_at (without t.exponents g)) (same_vector-is t.exponents k e)
+    by_case true e = ap (factor_at f) (sym (same_vector-is t.exponents k e)) ∙ lacks_none f t.exponents l ∙ sym (without-same t.exponents g)
+        ∙ ap (factor_at (without t.exponents g)) (same_vector-is t.exponents k e)
     by_case false e =
         let q : (if same_vector t.exponents k then t.factor else pos 0) +ℤ factor_at f k ≡ factor_at g k = s k in
         let z : factor_at f k ≡ pos 0 +ℤ factor_at f k = omega (arith, ints) in
@@ -62,7 +65,8 @@ some_under : (top : ℕ → ℕ) (g : List Term) (m : List ℕ) → AreUnder top
 some_under top [] m a h = absurd (h refl)
 some_under top (t ∷ g) m a h = by_case (same_vector t.exponents m) refl h (λ k. some_under top g m a.1 k)
   where
-    by_case : (b : Bool) → same_vector t.exponents m ≡ b → (if b then t.factor else pos 0) +ℤ factor_at g m ≢ pos 0 → (factor_at g m ≢ pos 0 → (v : ℕ) → exponent_of v m ≤ top v) → (v : ℕ) → exponent_of v m ≤ top v
+    by_case : (b : Bool) → same_vector t.exponents m ≡ b → (if b then t.factor else pos 0) +ℤ factor_at g m ≢ pos 0
+        → (factor_at g m ≢ pos 0 → (v : ℕ) → exponent_of v m ≤ top v) → (v : ℕ) → exponent_of v m ≤ top v
     by_case true e k ih v = let q = same_vector-is t.exponents m e in rw (← q) (a.0 v)
     by_case false e k ih v = ih (λ z. k (omega (arith, ints, z))) v
 
@@ -70,8 +74,10 @@ some_under top (t ∷ g) m a h = by_case (same_vector t.exponents m) refl h (λ 
 all_under : (top : ℕ → ℕ) (f g : List Term) → IsCollected f → HasNoZero f → ((k : List ℕ) → factor_at f k ≡ factor_at g k) → AreUnder top g → AreUnder top f
 all_under top [] g c z s a = tt
 all_under top (t ∷ f) g c z s a =
-    let here : t.factor ≡ factor_at g t.exponents = sym (first_factor t f c.0) ∙ s t.exponents in
-    (some_under top g t.exponents a (λ e. z.0 (here ∙ e)), all_under top f (without t.exponents g) c.1 z.1 (rest_same t f g c.0 s) (under_without top t.exponents g a))
+    let here : t.factor ≡ factor_at g t.exponents = sym (first_factor t f c.0) ∙ s t.exponents in (
+      some_under top g t.exponents a (λ e. z.0 (here ∙ e)),
+      all_under top f (without t.exponents g) c.1 z.1 (rest_same t f g c.0 s) (under_without top t.exponents g a),
+    )
   where
     under_without : (top : ℕ → ℕ) (m : List ℕ) (g : List Term) → AreUnder top g → AreUnder top (without m g)
     under_without top m [] a = tt
@@ -90,12 +96,14 @@ everywhere n e f g a b k = by_length (cases_eq (length k) n)
     by_length (inr d) = factor_at-length n f k a.over d ∙ sym (factor_at-length n g k b.over d)
 
 -- the normal polynomial of a lean tree has few terms, with small exponents
-pub lean_count : (n count : ℕ) (top : ℕ → ℕ) (e : Tree) (f : List Term) → IsLean n count top e → IsNormalOf n e f → IsCollected f → HasNoZero f → length f ≤ count
+pub lean_count : (n count : ℕ) (top : ℕ → ℕ) (e : Tree) (f : List Term) → IsLean n count top e → IsNormalOf n e f → IsCollected f
+    → HasNoZero f → length f ≤ count
 lean_count n count top e f l a c z =
     let s = shortest f l.terms c z (everywhere n e f l.terms a l.normal) in
     let k = l.few in
     omega (arith, s, k)
 
 -- and small exponents
-pub lean_exponents : (n count : ℕ) (top : ℕ → ℕ) (e : Tree) (f : List Term) → IsLean n count top e → IsNormalOf n e f → IsCollected f → HasNoZero f → AreUnder top f
+pub lean_exponents : (n count : ℕ) (top : ℕ → ℕ) (e : Tree) (f : List Term) → IsLean n count top e → IsNormalOf n e f → IsCollected f
+    → HasNoZero f → AreUnder top f
 lean_exponents n count top e f l a c z = all_under top f l.terms c z (everywhere n e f l.terms a l.normal) l.under

@@ -1,5 +1,6 @@
 -- Vectors and lists of terms as the code has them.
-use Rattle.std.proofs.Common.{◌≡◌, ℕ, ◌+◌, ◌-◌, ◌≤◌, ◌<◌, Bool, true, false, List, [], ◌∷◌, ◌++◌, length, refl, zero, suc, ap, arith, ◌∙◌, sym, if◌then◌else◌, nat_lt, slice_set, slice_index_or}
+use Rattle.std.proofs.Common.{◌≡◌, ℕ, ◌+◌, ◌-◌, ◌≤◌, ◌<◌, Bool, true, false, List, [], ◌∷◌, ◌++◌, length, refl, zero, suc, ap, arith, ◌∙◌}
+use Rattle.std.proofs.Common.{sym, if◌then◌else◌, nat_lt, slice_set, slice_index_or}
 use Rattle.std.proofs.lemmas.Bool.Decides.{nat_tests}
 use Rattle.ln_nest.specs.declared.work.Work.{Work}
 use Rattle.ln_nest.specs.Nested.{exponent_of, is_positive, one_less, divided, free_of}
@@ -36,29 +37,42 @@ positive zero (zero ∷ m) d h = cc
 positive zero (suc n ∷ m) d h = omega arith
 positive (suc v) (n ∷ m) d h = positive v m d h
 
--- writing one less gives the vector with one less
+-- where the exponent is written as one less, the vector has one less
 pub set_is : (v : ℕ) (m : List ℕ) (x : ℕ) → x ≡ slice_index_or m v x → v < length m → slice_set m v (x - 1) ≡ one_less v m
 set_is v [] x e h = absurd (omega arith)
 set_is zero (n ∷ m) x e h = let f : x ≡ n = e in rw f refl
 set_is (suc v) (n ∷ m) x e h = ap (λ t. n ∷ t) (set_is v m x e (omega arith))
 
 -- the divided terms with one term more
-pub divided_one : (v : ℕ) (ws : List Work) (w : Work) (b : Bool) → is_positive (exponent_of v w.exponents.items) ≡ b → divided v (terms_in (ws ++ (w ∷ []))) ≡ divided v (terms_in ws) ++ (if b then record { exponents = one_less v w.exponents.items; factor = w.factor } ∷ [] else [])
+pub divided_one : (v : ℕ) (ws : List Work) (w : Work) (b : Bool) → is_positive (exponent_of v w.exponents.items) ≡ b → divided v (terms_in (ws ++ (w ∷ [])))
+    ≡ divided v (terms_in ws) ++ (if b then record { exponents = one_less v w.exponents.items; factor = w.factor } ∷ [] else [])
 divided_one v [] w true e = rw e refl
 divided_one v [] w false e = rw e refl
 divided_one v (x ∷ ws) w b e = by_case (is_positive (exponent_of v x.exponents.items)) (divided_one v ws w b e)
   where
-    by_case : (c : Bool) → divided v (terms_in (ws ++ (w ∷ []))) ≡ divided v (terms_in ws) ++ (if b then record { exponents = one_less v w.exponents.items; factor = w.factor } ∷ [] else []) → (if c then record { exponents = one_less v x.exponents.items; factor = x.factor } ∷ divided v (terms_in (ws ++ (w ∷ []))) else divided v (terms_in (ws ++ (w ∷ [])))) ≡ (if c then record { exponents = one_less v x.exponents.items; factor = x.factor } ∷ divided v (terms_in ws) else divided v (terms_in ws)) ++ (if b then record { exponents = one_less v w.exponents.items; factor = w.factor } ∷ [] else [])
+    by_case : (c : Bool) → divided v (terms_in (ws ++ (w ∷ []))) ≡ divided v (terms_in ws) ++ (if b then record {
+      exponents = one_less v w.exponents.items;
+      factor = w.factor;
+    } ∷ [] else []) → (if c then record {
+      exponents = one_less v x.exponents.items;
+      factor = x.factor;
+    } ∷ divided v (terms_in (ws ++ (w ∷ []))) else divided v (terms_in (ws ++ (w ∷ [])))) ≡ (if c then record {
+      exponents = one_less v x.exponents.items;
+      factor = x.factor;
+    } ∷ divided v (terms_in ws) else divided v (terms_in ws)) ++ (if b then record { exponents = one_less v w.exponents.items; factor = w.factor } ∷ [] else [])
     by_case true ih = rw ih refl
     by_case false ih = ih
 
 -- the others with one term more
-pub free_one : (v : ℕ) (ws : List Work) (w : Work) (b : Bool) → is_positive (exponent_of v w.exponents.items) ≡ b → free_of v (terms_in (ws ++ (w ∷ []))) ≡ free_of v (terms_in ws) ++ (if b then [] else term_in w ∷ [])
+pub free_one : (v : ℕ) (ws : List Work) (w : Work) (b : Bool) → is_positive (exponent_of v w.exponents.items) ≡ b
+    → free_of v (terms_in (ws ++ (w ∷ []))) ≡ free_of v (terms_in ws) ++ (if b then [] else term_in w ∷ [])
 free_one v [] w true e = rw e refl
 free_one v [] w false e = rw e refl
 free_one v (x ∷ ws) w b e = by_case (is_positive (exponent_of v x.exponents.items)) (free_one v ws w b e)
   where
-    by_case : (c : Bool) → free_of v (terms_in (ws ++ (w ∷ []))) ≡ free_of v (terms_in ws) ++ (if b then [] else term_in w ∷ []) → (if c then free_of v (terms_in (ws ++ (w ∷ []))) else term_in x ∷ free_of v (terms_in (ws ++ (w ∷ [])))) ≡ (if c then free_of v (terms_in ws) else term_in x ∷ free_of v (terms_in ws)) ++ (if b then [] else term_in w ∷ [])
+    by_case : (c : Bool) → free_of v (terms_in (ws ++ (w ∷ []))) ≡ free_of v (terms_in ws) ++ (if b then [] else term_in w ∷ [])
+        → (if c then free_of v (terms_in (ws ++ (w ∷ []))) else term_in x ∷ free_of v (terms_in (ws ++ (w ∷ []))))
+        ≡ (if c then free_of v (terms_in ws) else term_in x ∷ free_of v (terms_in ws)) ++ (if b then [] else term_in w ∷ [])
     by_case true ih = ih
     by_case false ih = rw ih refl
 
@@ -67,27 +81,32 @@ pub terms_append : (xs ys : List Work) → terms_in (xs ++ ys) ≡ terms_in xs +
 terms_append [] ys = refl
 terms_append (x ∷ xs) ys = ap (λ t. term_in x ∷ t) (terms_append xs ys)
 
--- nothing behind a list leaves it
+-- nothing after a list leaves it
 no_more : {A : Type 0} (xs : List A) → xs ++ [] ≡ xs
 no_more [] = refl
 no_more (x ∷ xs) = ap (λ t. x ∷ t) (no_more xs)
 
 -- a term with v goes to the divided ones
-pub with_step : (v : ℕ) (items news : List Work) (lower : Work) (seen : List Work) (term : Work) → news ≡ items ++ (lower ∷ []) → lower.exponents.items ≡ one_less v term.exponents.items → lower.factor ≡ term.factor → terms_in items ≡ divided v (terms_in seen) → is_positive (exponent_of v term.exponents.items) ≡ true → terms_in news ≡ divided v (terms_in (seen ++ (term ∷ [])))
+pub with_step : (v : ℕ) (items news : List Work) (lower : Work) (seen : List Work) (term : Work) → news ≡ items ++ (lower ∷ [])
+    → lower.exponents.items ≡ one_less v term.exponents.items → lower.factor ≡ term.factor → terms_in items ≡ divided v (terms_in seen)
+    → is_positive (exponent_of v term.exponents.items) ≡ true → terms_in news ≡ divided v (terms_in (seen ++ (term ∷ [])))
 with_step v items news lower seen term e p q i h =
     ap terms_in e ∙ terms_append items (lower ∷ []) ∙ rw (i, p, q) (sym (divided_one v seen term true h))
 
 -- a term without v leaves them
-pub with_same : (v : ℕ) (items seen : List Work) (term : Work) → terms_in items ≡ divided v (terms_in seen) → is_positive (exponent_of v term.exponents.items) ≡ false → terms_in items ≡ divided v (terms_in (seen ++ (term ∷ [])))
+pub with_same : (v : ℕ) (items seen : List Work) (term : Work) → terms_in items ≡ divided v (terms_in seen)
+    → is_positive (exponent_of v term.exponents.items) ≡ false → terms_in items ≡ divided v (terms_in (seen ++ (term ∷ [])))
 with_same v items seen term i h = i ∙ sym (divided_one v seen term false h ∙ no_more _)
 
 -- and goes to the others
-pub without_step : (v : ℕ) (items news seen : List Work) (term : Work) → news ≡ items ++ (term ∷ []) → terms_in items ≡ free_of v (terms_in seen) → is_positive (exponent_of v term.exponents.items) ≡ false → terms_in news ≡ free_of v (terms_in (seen ++ (term ∷ [])))
+pub without_step : (v : ℕ) (items news seen : List Work) (term : Work) → news ≡ items ++ (term ∷ []) → terms_in items ≡ free_of v (terms_in seen)
+    → is_positive (exponent_of v term.exponents.items) ≡ false → terms_in news ≡ free_of v (terms_in (seen ++ (term ∷ [])))
 without_step v items news seen term e i h =
     ap terms_in e ∙ terms_append items (term ∷ []) ∙ rw i (sym (free_one v seen term false h))
 
 -- which a term with v leaves
-pub without_same : (v : ℕ) (items seen : List Work) (term : Work) → terms_in items ≡ free_of v (terms_in seen) → is_positive (exponent_of v term.exponents.items) ≡ true → terms_in items ≡ free_of v (terms_in (seen ++ (term ∷ [])))
+pub without_same : (v : ℕ) (items seen : List Work) (term : Work) → terms_in items ≡ free_of v (terms_in seen)
+    → is_positive (exponent_of v term.exponents.items) ≡ true → terms_in items ≡ free_of v (terms_in (seen ++ (term ∷ [])))
 without_same v items seen term i h = i ∙ sym (free_one v seen term true h ∙ no_more _)
 
 -- ---- a polynomial's terms

@@ -1,5 +1,6 @@
 -- The order of a row, found site by site.
-use Rattle.std.proofs.Common.{◌≡◌, ◌⊎◌, inl, inr, ℕ, zero, suc, ◌+◌, ◌<◌, ◌≤◌, List, [], ◌∷◌, ◌++◌, length, set, get_or, take, ℤ, ◌<ℤ◌, ◌≤ℤ◌, refl, sym, ◌∙◌, ap, subst, arith, eqb, length-set}
+use Rattle.std.proofs.Common.{◌≡◌, ◌⊎◌, inl, inr, ℕ, zero, suc, ◌+◌, ◌<◌, ◌≤◌, List, [], ◌∷◌, ◌++◌, length, set, get_or, take, ℤ, ◌<ℤ◌}
+use Rattle.std.proofs.Common.{◌≤ℤ◌, refl, sym, ◌∙◌, ap, subst, arith, eqb, length-set}
 use Rattle.std.specs.Prelude.{IsPermutation}
 use Rattle.std.specs.List as holes
 use Rattle.std.proofs.lemmas.Bool.{cases_eq, cases_lt, cases_order}
@@ -36,14 +37,16 @@ pub least_first : (indices : List ℤ) (places : List ℕ) (j n : ℕ) → n ≡
 least_first indices places j n e k l m = let q : k ≡ j = omega (arith, l, m, e) in rw q (self (index_at indices (get_or places j 0)))
 
 -- the next is smaller
-pub least_next : (indices : List ℤ) (places : List ℕ) (j m n : ℕ) → LeastTo indices places j m n → index_at indices (get_or places n 0) <ℤ index_at indices (get_or places m 0) → LeastTo indices places j n (n + 1)
+pub least_next : (indices : List ℤ) (places : List ℕ) (j m n : ℕ) → LeastTo indices places j m n
+    → index_at indices (get_or places n 0) <ℤ index_at indices (get_or places m 0) → LeastTo indices places j n (n + 1)
 least_next indices places j m n h l k f w = go (cases_lt k n) where
   go : (k < n) ⊎ (n ≤ k) → index_at indices (get_or places n 0) ≤ℤ index_at indices (get_or places k 0)
   go (inl b) = less-over (index_at indices (get_or places n 0)) (index_at indices (get_or places m 0)) (index_at indices (get_or places k 0)) l (h k f b)
   go (inr b) = let q : k ≡ n = omega (arith, w, b) in rw q (self (index_at indices (get_or places n 0)))
 
 -- or it isn't
-pub least_stays : (indices : List ℤ) (places : List ℕ) (j m n : ℕ) → LeastTo indices places j m n → (index_at indices (get_or places n 0) <ℤ index_at indices (get_or places m 0) → ⊥) → LeastTo indices places j m (n + 1)
+pub least_stays : (indices : List ℤ) (places : List ℕ) (j m n : ℕ) → LeastTo indices places j m n
+    → (index_at indices (get_or places n 0) <ℤ index_at indices (get_or places m 0) → ⊥) → LeastTo indices places j m (n + 1)
 least_stays indices places j m n h l k f w = go (cases_lt k n) where
   go : (k < n) ⊎ (n ≤ k) → index_at indices (get_or places m 0) ≤ℤ index_at indices (get_or places k 0)
   go (inl b) = h k f b
@@ -98,7 +101,8 @@ once xs a b p h l e = go (cases_order a b) where
   go (inr (inl m)) = absurd (p.differ a b 0 m l e)
   go (inr (inr m)) = absurd (p.differ b a 0 m h (sym e))
 
-module _ (indices : List ℤ) (xs o : List ℕ) (j m : ℕ) (p : ArePlaces xs) (size : length xs ≡ length indices) (least : IsLeastFrom indices xs j m) (order : IsOrder indices o) (front : take j xs ≡ take j o) where
+module _ (indices : List ℤ) (xs o : List ℕ) (j m : ℕ) (p : ArePlaces xs) (size : length xs ≡ length indices)
+    (least : IsLeastFrom indices xs j m) (order : IsOrder indices o) (front : take j xs ≡ take j o) where
   placed : ArePlaces o
   placed = (order-places indices o order).each
 
@@ -108,7 +112,7 @@ module _ (indices : List ℤ) (xs o : List ℕ) (j m : ℕ) (p : ArePlaces xs) (
   abbrev the_next : ℕ
   the_next = get_or o j 0
 
-  -- the next site of the order stands behind the first j, and so it isn't below the least
+  -- the next site of the order comes after the first j, and so it isn't below the least
   next_over : index_at indices (get_or xs m 0) ≤ℤ index_at indices the_next
   next_over =
       let y : ℕ = the_next in
@@ -119,7 +123,7 @@ module _ (indices : List ℤ) (xs o : List ℕ) (j m : ℕ) (p : ArePlaces xs) (
         behind k l e (inl b) = absurd (omega (arith, b, once o k j placed (omega (arith, b, j_within)) j_within (sym (front_at xs o j k front b) ∙ e)))
         behind k l e (inr b) = subst (λ z. index_at indices (get_or xs m 0) ≤ℤ index_at indices z) e (least.least k b l)
 
-  -- the least stands in the order, and not before place j nor behind it
+  -- the least is in the order, and neither before place j nor after it
   least_is_next : get_or xs m 0 ≡ the_next
   least_is_next =
       let x : ℕ = get_or xs m 0 in
@@ -128,17 +132,21 @@ module _ (indices : List ℤ) (xs o : List ℕ) (j m : ℕ) (p : ArePlaces xs) (
       at c.0 c.1 e (cases_order c.0 j) where
         at : (k : ℕ) → k < length o → get_or o k 0 ≡ get_or xs m 0 → (k ≡ j) ⊎ ((k < j) ⊎ (j < k)) → get_or xs m 0 ≡ the_next
         at k l e (inl q) = sym e ∙ ap (λ z. get_or o z 0) q
-        at k l e (inr (inl b)) = absurd (omega (arith, b, least.from, once xs k m p (omega (arith, l, size, order.size)) least.within (front_at xs o j k front b ∙ e)))
-        at k l e (inr (inr b)) = absurd (never (index_at indices (get_or xs m 0)) (index_at indices the_next) next_over (subst (λ z. index_at indices the_next <ℤ index_at indices z) e (order.rising j k 0 b l)))
+        at k l e (inr (inl b)) =
+            absurd (omega (arith, b, least.from, once xs k m p (omega (arith, l, size, order.size)) least.within (front_at xs o j k front b ∙ e)))
+        at k l e (inr (inr b)) = absurd (never (index_at indices (get_or xs m 0)) (index_at indices the_next) next_over
+            (subst (λ z. index_at indices the_next <ℤ index_at indices z) e (order.rising j k 0 b l)))
 
   one_more_swapped : take (j + 1) (holes.swap xs j m) ≡ take (j + 1) o
   one_more_swapped =
       let within_xs : j < length xs = omega (arith, least.from, least.within) in
       let there : j < length (holes.swap xs j m) = omega (arith, length-swap xs j m, within_xs) in
-      let same : take j (holes.swap xs j m) ≡ take j xs = front_same (holes.swap xs j m) xs j (length-swap xs j m) (λ k b. swap_before xs j m k within_xs least.within b least.from) in
+      let same : take j (holes.swap xs j m) ≡ take j xs =
+      front_same (holes.swap xs j m) xs j (length-swap xs j m) (λ k b. swap_before xs j m k within_xs least.within b least.from) in
       take_more_same (holes.swap xs j m) o j 0 there j_within (same ∙ front) (swap_here xs j m within_xs least.within ∙ least_is_next)
 
-pub one_more : (indices : List ℤ) (xs ys : List ℕ) (j m : ℕ) → IsLeastFrom indices xs j m → ys ≡ holes.swap xs j m → (o : List ℕ) → ArePlaces xs → length xs ≡ length indices → IsOrder indices o → take j xs ≡ take j o → take (j + 1) ys ≡ take (j + 1) o
+pub one_more : (indices : List ℤ) (xs ys : List ℕ) (j m : ℕ) → IsLeastFrom indices xs j m → ys ≡ holes.swap xs j m → (o : List ℕ)
+    → ArePlaces xs → length xs ≡ length indices → IsOrder indices o → take j xs ≡ take j o → take (j + 1) ys ≡ take (j + 1) o
 one_more indices xs ys j m least e o p size order front = ap (take (j + 1)) e ∙ one_more_swapped indices xs o j m p size least order front
 
 -- ---- in the array
@@ -150,9 +158,12 @@ permuted_front n m array ys rest five few e p =
     let l : length ys ≡ length (take m array) = length_permutation (take m array) ys p in
     front_of n ys rest (omega (arith, l, length-take m array, five, few, e))
 
-pub permuted_places : (n m : ℕ) (array ys rest : List ℕ) → length array ≡ 5 → n ≤ 5 → m ≡ n → ArePlaces (take n array) → IsPermutation (take m array) ys → ArePlaces (take n (ys ++ rest))
+pub permuted_places : (n m : ℕ) (array ys rest : List ℕ) → length array ≡ 5 → n ≤ 5 → m ≡ n → ArePlaces (take n array)
+    → IsPermutation (take m array) ys → ArePlaces (take n (ys ++ rest))
 permuted_places n m array ys rest five few e places p =
     rw (permuted_front n m array ys rest five few e p) (places_permuted (take m array) ys (rw e places) p)
 
-pub permuted_size : (n m : ℕ) (array ys rest zs : List ℕ) → length array ≡ 5 → n ≤ 5 → m ≡ n → IsPermutation (take m array) ys → zs ≡ take n (ys ++ rest) → length zs ≡ length (take n array)
-permuted_size n m array ys rest zs five few e p q = ap length (q ∙ permuted_front n m array ys rest five few e p) ∙ length_permutation (take m array) ys p ∙ ap (λ z. length (take z array)) e
+pub permuted_size : (n m : ℕ) (array ys rest zs : List ℕ) → length array ≡ 5 → n ≤ 5 → m ≡ n → IsPermutation (take m array) ys
+    → zs ≡ take n (ys ++ rest) → length zs ≡ length (take n array)
+permuted_size n m array ys rest zs five few e p q =
+    ap length (q ∙ permuted_front n m array ys rest five few e p) ∙ length_permutation (take m array) ys p ∙ ap (λ z. length (take z array)) e

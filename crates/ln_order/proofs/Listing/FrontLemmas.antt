@@ -1,4 +1,4 @@
--- All prefixes, put down one after the other.
+-- All prefixes, written one after the other.
 use Rattle.std.proofs.Common.{◌≡◌, ℕ, zero, suc, ◌+◌, ◌<◌, ◌≤◌, List, [], ◌∷◌, length, map, get_or, take, refl, sym, ◌∙◌, ap, subst, arith}
 use Rattle.std.specs.Prelude.{All}
 use Rattle.std.proofs.lemmas.List.{get_or-map, length-map, length-take, take_all}
@@ -9,8 +9,9 @@ use Rattle.ln_order.specs.Fronts.{front_places}
 use Rattle.ln_order.specs.Prefixes.{IsPrefixOf, prefixes_of}
 use Rattle.ln_order.proofs.Listing.PrefixLemmas.{prefix-is}
 
--- what was put down behind the first, once all others are
-pub all_behind : (first i : ℕ) (others places : List ℕ) → length others ≤ i → take (i + 1) places ≡ first ∷ map (past first) (take i others) → i ≤ length others → take (length others + 1) places ≡ behind first others
+-- what was written after the first, once all others are
+pub all_behind : (first i : ℕ) (others places : List ℕ) → length others ≤ i → take (i + 1) places ≡ first ∷ map (past first) (take i others)
+    → i ≤ length others → take (length others + 1) places ≡ behind first others
 all_behind first i others places h e l = let q : i ≡ length others = omega arith in rw (← q) (e ∙ ap (λ z. first ∷ map (past first) z) (take_all i others h))
 
 at-front : (j : ℕ) (o : List ℕ) (i d : ℕ) → i < length (take j o) → (i < length o) × (get_or (take j o) i d ≡ get_or o i d)
@@ -23,7 +24,8 @@ pub prefix-size : (k : ℕ) (p : List ℕ) → IsPrefixOf k p → length p ≤ k
 prefix-size k p r = omega (arith, ap length r.front, length-take r.places r.order, r.full.size)
 
 prefix-below : (k : ℕ) (p : List ℕ) → IsPrefixOf k p → All (λ x. x < k) p
-prefix-below k p r = subst (λ z. All (λ x. x < k) z) (sym r.front) (λ i d h. (let a = at-front r.places r.order i d h in let b = r.full.each.within i d a.0 in omega (arith, a.1, b, r.full.size)))
+prefix-below k p r = subst (λ z. All (λ x. x < k) z) (sym r.front)
+    (λ i d h. (let a = at-front r.places r.order i d h in let b = r.full.each.within i d a.0 in omega (arith, a.1, b, r.full.size)))
 
 module _ (all : List Front) (k : ℕ) (e : map front_places all ≡ prefixes_of k) where
   pub front-is-prefix : (i : ℕ) (d : Front) → i < length all → IsPrefixOf k (front_places (get_or all i d))

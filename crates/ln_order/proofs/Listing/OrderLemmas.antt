@@ -1,5 +1,6 @@
 -- The first index that an earlier one equals, place by place.
-use Rattle.std.proofs.Common.{◌≡◌, ◌≢◌, ℕ, suc, ◌+◌, ◌<◌, ◌≤◌, Bool, true, false, List, [], ◌∷◌, ◌++◌, length, get_or, take, drop, ℤ, pos, Option, Some, None, refl, sym, subst, arith, add-one, drop-cons, append_assoc, length-append}
+use Rattle.std.proofs.Common.{◌≡◌, ◌≢◌, ℕ, suc, ◌+◌, ◌<◌, ◌≤◌, Bool, true, false, List, [], ◌∷◌, ◌++◌, length, get_or, take, drop, ℤ, pos}
+use Rattle.std.proofs.Common.{Option, Some, None, refl, sym, subst, arith, add-one, drop-cons, append_assoc, length-append}
 use Rattle.std.specs.Prelude.{MatchOption, Contains, All, AllPairs, if◌then◌else◌}
 use Rattle.std.proofs.Math.Seq.{take-append_seam}
 use Rattle.std.proofs.lemmas.Bool.{or_parts, both_ways}
@@ -12,15 +13,16 @@ use Rattle.std.specs.Ordering.{int_eq}
 use Rattle.std.proofs.lemmas.List.{take_more, append-nil, drop_all}
 use Rattle.ln_order.specs.Order.{equal_behind, first_equal, IsFirstEqual}
 
--- an index that stands before is the first such
-pub found_here : (zs : List ℤ) (k : ℕ) (d : ℤ) → k < length zs → list_any (λ y. int_eq y (get_or zs k d)) (take k zs) ≡ true → equal_behind (take k zs) k (drop k zs) ≡ Some k
+-- an index that comes before is the first such
+pub found_here : (zs : List ℤ) (k : ℕ) (d : ℤ) → k < length zs → list_any (λ y. int_eq y (get_or zs k d)) (take k zs) ≡ true
+    → equal_behind (take k zs) k (drop k zs) ≡ Some k
 found_here zs k d h e = rw (drop-cons zs k d, e) refl
 
--- behind the last index there is none
+-- after the last index there is none
 pub none_behind : (zs : List ℤ) (k : ℕ) → length zs ≤ k → equal_behind (take k zs) k (drop k zs) ≡ None
 none_behind zs k h = rw (drop_all k zs h) refl
 
--- one that doesn't stand before is passed by
+-- one that doesn't come before is skipped
 pub passed_by : (zs : List ℤ) (k : ℕ) (d : ℤ) → k < length zs → list_any (λ y. int_eq y (get_or zs k d)) (take k zs) ≡ false
     → equal_behind (take (k + 1) zs) (k + 1) (drop (k + 1) zs) ≡ equal_behind (take k zs) k (drop k zs)
 passed_by zs k d h e = rw (drop-cons zs k d, e, take_more zs k d h, add-one) refl
@@ -34,7 +36,9 @@ differs (y ∷ ys) z h =
 
 -- one that is among them is one of them
 among : (before : List ℤ) (z : ℤ) → list_any (λ y. int_eq y z) before ≡ true → Contains before z
-among before z h = let p = Any-from_list_any (λ y. int_eq y z) before h in (p.0, p.2, subst (λ (x : ℤ). get_or before p.0 x ≡ x) ((Decides-int_eq p.1 z).0 p.4) p.3)
+among before z h =
+    let p = Any-from_list_any (λ y. int_eq y z) before h in
+    (p.0, p.2, subst (λ (x : ℤ). get_or before p.0 x ≡ x) ((Decides-int_eq p.1 z).0 p.4) p.3)
 
 get_or_here : (before : List ℤ) (z : ℤ) (zs : List ℤ) → get_or (before ++ z ∷ zs) (length before) (pos 0) ≡ z
 get_or_here [] z zs = refl
@@ -44,8 +48,10 @@ get_or_here (y ∷ ys) z zs = get_or_here ys z zs
 Told : List ℤ → Option ℕ → Type 0
 Told zs o = MatchOption o (AllPairs (λ y z. y ≢ z) zs) (λ k. IsFirstEqual zs k)
 
-told_more : (before : List ℤ) (k : ℕ) (z : ℤ) (zs : List ℤ) (b : Bool) → length before ≡ k → AllPairs (λ y z. y ≢ z) before → list_any (λ y. int_eq y z) before ≡ b
-    → (b ≡ false → Told (before ++ z ∷ zs) (equal_behind (before ++ z ∷ []) (suc k) zs)) → Told (before ++ z ∷ zs) (if b then Some k else equal_behind (before ++ z ∷ []) (suc k) zs)
+told_more : (before : List ℤ) (k : ℕ) (z : ℤ) (zs : List ℤ) (b : Bool) → length before ≡ k → AllPairs (λ y z. y ≢ z) before
+    → list_any (λ y. int_eq y z) before ≡ b
+    → (b ≡ false → Told (before ++ z ∷ zs) (equal_behind (before ++ z ∷ []) (suc k) zs))
+    → Told (before ++ z ∷ zs) (if b then Some k else equal_behind (before ++ z ∷ []) (suc k) zs)
 unfolding Told
 told_more before k z zs true size differ e more =
     let here : get_or (before ++ z ∷ zs) (length before) (pos 0) ≡ z = get_or_here before z zs in

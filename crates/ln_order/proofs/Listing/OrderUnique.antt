@@ -1,4 +1,4 @@
--- Indices have one order.
+-- Proves that the indices of a row have at most one order.
 use Rattle.std.proofs.Common.{◌≡◌, ◌⊎◌, inl, inr, ℕ, suc, ◌<◌, List, [], ◌∷◌, length, get_or, refl, sym, ◌∙◌, ap, arith, subst, ℤ, ◌<ℤ◌}
 use Rattle.std.specs.Prelude.{AllPairs}
 use Rattle.std.proofs.lemmas.Int.{ints}
@@ -14,7 +14,7 @@ module _ (indices : List ℤ) where
   abbrev Below : ℕ → ℕ → Type 0
   Below a b = index_at indices a <ℤ index_at indices b
 
-  -- each place has a smaller index than all behind it
+  -- each place has a smaller index than all after it
   abbrev Rising : List ℕ → Type 0
   Rising [] = Unit {0}
   Rising (p ∷ ps) = ((q : ℕ) → Member ps q → Below p q) × Rising ps
@@ -58,7 +58,7 @@ module _ (indices : List ℤ) where
         up a i (inl q) = absurd (never y (subst (λ (z : ℕ). Below y z) (q ∙ heads) (t.0 a i)))
         up a i (inr j) = j
 
-  -- what stands in one order stands in each
+  -- what is in one order is in each
   stands : (xs ys : List ℕ) → IsOrder indices xs → IsOrder indices ys → (a : ℕ) → Member xs a → Member ys a
   stands xs ys x y a m =
       let at = member-at xs a m in
@@ -66,4 +66,5 @@ module _ (indices : List ℤ) where
       at-member ys a (each-there (length indices) ys a (order-places indices ys y) l)
 
 pub order-unique : OrderIsUnique
-order-unique indices xs ys x y = rising-same indices xs ys (rising-from indices xs x.rising) (rising-from indices ys y.rising) (stands indices xs ys x y) (stands indices ys xs y x)
+order-unique indices xs ys x y =
+    rising-same indices xs ys (rising-from indices xs x.rising) (rising-from indices ys y.rising) (stands indices xs ys x y) (stands indices ys xs y x)

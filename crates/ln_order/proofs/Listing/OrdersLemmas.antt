@@ -1,5 +1,6 @@
--- All orders of so many sites: each is there, and they are sorted.
-use Rattle.std.proofs.Common.{◌≡◌, ◌≢◌, ◌⊎◌, inl, inr, ℕ, zero, suc, ◌+◌, ◌*◌, ◌-◌, ◌<◌, ◌≤◌, Bool, true, false, ltb, eqb, List, [], ◌∷◌, length, map, get_or, take, drop, refl, sym, ◌∙◌, ap, arith, add-one, drop-cons, Some, ◌&&◌}
+-- All orders of n sites: each is there, and they are sorted.
+use Rattle.std.proofs.Common.{◌≡◌, ◌≢◌, ◌⊎◌, inl, inr, ℕ, zero, suc, ◌+◌, ◌*◌, ◌-◌, ◌<◌, ◌≤◌, Bool, true, false, ltb, eqb, List, [], ◌∷◌}
+use Rattle.std.proofs.Common.{length, map, get_or, take, drop, refl, sym, ◌∙◌, ap, arith, add-one, drop-cons, Some, ◌&&◌}
 use Rattle.std.specs.Prelude.{All, AllPairs, Contains, slice_get, nat_lt, if◌then◌else◌}
 use Rattle.std.specs.Cmp.Lexicographic.{slice_cmp}
 use Rattle.std.specs.List.{AllByRecursion}
@@ -64,7 +65,8 @@ map-in f xs x (k, l, e) = (k, omega (arith, l, length-map xs f), get_or-map f xs
 pub firsts-are : (n : ℕ) (os : List (List ℕ)) (y : List ℕ) → Contains (firsts n os) y → (x : ℕ) × (x < n) × ((o : List ℕ) × Contains os o × (y ≡ behind x o))
 firsts-are zero os y c = absurd (omega (arith, c.1))
 firsts-are (suc n) os y c = go (firsts-are n os y) (Contains-append_cases (firsts n os) (map (behind n) os) y c) where
-  go : (Contains (firsts n os) y → (x : ℕ) × (x < n) × ((o : List ℕ) × Contains os o × (y ≡ behind x o))) → Contains (firsts n os) y ⊎ Contains (map (behind n) os) y → (x : ℕ) × (x < suc n) × ((o : List ℕ) × Contains os o × (y ≡ behind x o))
+  go : (Contains (firsts n os) y → (x : ℕ) × (x < n) × ((o : List ℕ) × Contains os o × (y ≡ behind x o)))
+      → Contains (firsts n os) y ⊎ Contains (map (behind n) os) y → (x : ℕ) × (x < suc n) × ((o : List ℕ) × Contains os o × (y ≡ behind x o))
   go ih (inl h) = let r = ih h in (r.0, omega (arith, r.1), r.2)
   go ih (inr h) = (n, omega arith, in-map (behind n) os y h)
 
@@ -78,7 +80,8 @@ in-firsts (suc n) os x o h c = go (λ l. in-firsts n os x o l c) (cases_lt x n) 
 
 -- each member is an order
 pub member-is : (k : ℕ) (o : List ℕ) → Contains (orders_of k) o → IsOrderOf k o
-member-is zero o (zero, l, e) = rw (← e) (record { size = refl; each = record { within = λ k d h. absurd (omega arith); differ = λ i j d l h. absurd (omega arith) } })
+member-is zero o (zero, l, e) =
+    rw (← e) (record { size = refl; each = record { within = λ k d h. absurd (omega arith); differ = λ i j d l h. absurd (omega arith) } })
 member-is zero o (suc k, l, e) = absurd (omega arith)
 member-is (suc k) y c =
     let r = firsts-are (suc k) (orders_of k) y c in
@@ -112,14 +115,19 @@ module _ (x : ℕ) (o : List ℕ) (p : ArePlaces (x ∷ o)) where
   others-places = record {
     within = λ k d h.
         let l : k < length o = omega (arith, h, length-map o (back x)) in
-        rw (at_back x o k d l) (omega (arith, back-below x (get_or o k d) (length o) (other k d l) (p.within 0 d (omega arith)) (p.within (suc k) d (omega (arith, l))), length-map o (back x)));
+        rw (at_back x o k d l) (omega (
+          arith,
+          back-below x (get_or o k d) (length o) (other k d l) (p.within 0 d (omega arith)) (p.within (suc k) d (omega (arith, l))),
+          length-map o (back x),
+        ));
     differ = λ i j d l h.
         let m : j < length o = omega (arith, h, length-map o (back x)) in
         let n : i < length o = omega arith in
-        rw (at_back x o i d n, at_back x o j d m) (back-apart x (get_or o i d) (get_or o j d) (other i d n) (other j d m) (p.differ (suc i) (suc j) d (omega (arith, l)) (omega (arith, m))));
+        rw (at_back x o i d n, at_back x o j d m)
+        (back-apart x (get_or o i d) (get_or o j d) (other i d n) (other j d m) (p.differ (suc i) (suc j) d (omega (arith, l)) (omega (arith, m))));
   }
 
-  -- behind x they are the order
+  -- after x they are the order
   pub behind-back : behind x (map (back x) o) ≡ x ∷ o
   behind-back =
       ap (λ z. x ∷ z)
@@ -158,7 +166,9 @@ are_sorted (x ∷ xs) = before_all x xs && are_sorted xs
 
 before_all_is : (x : List ℕ) (ys : List (List ℕ)) → before_all x ys ≡ true → AllByRecursion (λ y. slice_cmp nat_cmp x y ≡ Less) ys
 before_all_is x [] h = tt
-before_all_is x (y ∷ ys) h = let p = and_parts (is_less (slice_cmp nat_cmp x y)) (before_all x ys) h in (less_is (slice_cmp nat_cmp x y) p.0, before_all_is x ys p.1)
+before_all_is x (y ∷ ys) h =
+    let p = and_parts (is_less (slice_cmp nat_cmp x y)) (before_all x ys) h in
+    (less_is (slice_cmp nat_cmp x y) p.0, before_all_is x ys p.1)
 
 pub are_sorted_is : (xs : List (List ℕ)) → are_sorted xs ≡ true → IsStrictlySortedBy (slice_cmp nat_cmp) xs
 unfolding IsStrictlySortedBy
@@ -174,7 +184,9 @@ have_numbers i (o ∷ os) = eqb (number_from 0 o) i && have_numbers (suc i) os
 have_number : (i : ℕ) (os : List (List ℕ)) (k : ℕ) (d : List ℕ) → have_numbers i os ≡ true → k < length os → number_from 0 (get_or os k d) ≡ i + k
 have_number i [] k d h l = absurd (omega arith)
 have_number i (o ∷ os) zero d h l = let p = and_parts (eqb (number_from 0 o) i) (have_numbers (suc i) os) h in omega (arith, eqb-true (number_from 0 o) i p.0)
-have_number i (o ∷ os) (suc k) d h l = let p = and_parts (eqb (number_from 0 o) i) (have_numbers (suc i) os) h in omega (arith, have_number (suc i) os k d p.1 (omega (arith, l)))
+have_number i (o ∷ os) (suc k) d h l =
+    let p = and_parts (eqb (number_from 0 o) i) (have_numbers (suc i) os) h in
+    omega (arith, have_number (suc i) os k d p.1 (omega (arith, l)))
 
 -- for up to five sites
 abbrev pub fits : ℕ → Bool
@@ -199,7 +211,7 @@ module _ (k : ℕ) (few : k ≤ 5) where
   pub orders_sorted : IsStrictlySortedBy (slice_cmp nat_cmp) (orders_of k)
   orders_sorted = are_sorted_is (orders_of k) the_fits.0
 
-  -- an order stands at its number
+  -- an order is at its number
   pub number_is : (o : List ℕ) → IsOrderOf k o → slice_get (orders_of k) (number_from 0 o) ≡ Some o
   number_is o p =
       let c = is-member k o p in
@@ -222,19 +234,23 @@ pub orders-are-all : OrdersAreAll
 orders-are-all k few = (λ o. (member-is k o, is-member k o), orders_sorted k few)
 
 -- ---- steps of the loops
--- what was put down behind the first, once all others are
-pub all_behind : (first i : ℕ) (others places : List ℕ) → length others ≤ i → take (i + 1) places ≡ first ∷ map (past first) (take i others) → i ≤ length others → take (length others + 1) places ≡ behind first others
+-- what was written after the first, once all others are
+pub all_behind : (first i : ℕ) (others places : List ℕ) → length others ≤ i → take (i + 1) places ≡ first ∷ map (past first) (take i others)
+    → i ≤ length others → take (length others + 1) places ≡ behind first others
 all_behind first i others places h e l = let q : i ≡ length others = omega arith in rw (← q) (e ∙ ap (λ z. first ∷ map (past first) z) (take_all i others h))
 
 -- the number of an order stays small at each step
-pub step_small : (places : List ℕ) (n i : ℕ) → length places ≤ 5 → ArePlaces places → i < length places → number_from n (drop i places) ≡ number_from 0 places → n * (length (drop (i + 1) places) + 1) + smaller_behind (get_or places i 0) (drop (i + 1) places) < 121
+pub step_small : (places : List ℕ) (n i : ℕ) → length places ≤ 5 → ArePlaces places → i < length places → number_from n (drop i places) ≡ number_from 0 places
+    → n * (length (drop (i + 1) places) + 1) + smaller_behind (get_or places i 0) (drop (i + 1) places) < 121
 step_small places n i few p h e =
     let small : number_from 0 places < 121 = number_small (length places) few places (record { size = refl; each = p }) in
     let q : number_from n (get_or places i 0 ∷ drop (suc i) places) ≡ number_from 0 places = ap (number_from n) (sym (drop-cons places i 0 h)) ∙ e in
-    rw (add-one, add-one) (omega (arith, q, small, number_grows (n * suc (length (drop (suc i) places)) + smaller_behind (get_or places i 0) (drop (suc i) places)) (drop (suc i) places)))
+    rw (add-one, add-one) (omega
+    (arith, q, small, number_grows (n * suc (length (drop (suc i) places)) + smaller_behind (get_or places i 0) (drop (suc i) places)) (drop (suc i) places)))
 
 -- at the end the number is the order's
-pub number_done : (places : List ℕ) (n i : ℕ) → length places ≤ 5 → ArePlaces places → length places ≤ i → number_from n (drop i places) ≡ number_from 0 places → slice_get (orders_of (length places)) n ≡ Some places
+pub number_done : (places : List ℕ) (n i : ℕ) → length places ≤ 5 → ArePlaces places → length places ≤ i
+    → number_from n (drop i places) ≡ number_from 0 places → slice_get (orders_of (length places)) n ≡ Some places
 number_done places n i few p h e =
     let z : n ≡ number_from 0 places = ap (number_from n) (sym (drop_all i places h)) ∙ e in
     rw z (number_is (length places) few places (record { size = refl; each = p }))
@@ -245,4 +261,5 @@ sizes_are all k e i d h =
     let at : get_or (map order_places all) i [] ≡ order_places (get_or all i d) = get_or-map order_places all i d [] h in
     let l : i < length (orders_of k) = omega (arith, h, length-map all order_places, ap length e) in
     let c : Contains (orders_of k) (get_or (orders_of k) i []) = Contains-get_or (orders_of k) i [] l in
-    (let q : get_or (orders_of k) i [] ≡ order_places (get_or all i d) = ap (λ z. get_or z i []) (sym e) ∙ at in rw q at (member-is k (get_or (orders_of k) i []) c)).size
+    (let q : get_or (orders_of k) i [] ≡ order_places (get_or all i d) = ap (λ z. get_or z i []) (sym e) ∙ at in
+    rw q at (member-is k (get_or (orders_of k) i []) c)).size

@@ -1,5 +1,6 @@
--- Prefixes of orders: each is there, they are sorted, and each stands at its number.
-use Rattle.std.proofs.Common.{◌≡◌, ◌⊎◌, inl, inr, ℕ, zero, suc, ◌+◌, ◌*◌, ◌-◌, ◌<◌, ◌≤◌, Bool, true, false, cond, eqb, eq-eqb, List, [], ◌∷◌, length, map, get_or, take, drop, refl, sym, ◌∙◌, ap, arith, add-one, drop-cons, Option, Some, None, ◌&&◌}
+-- Prefixes of orders: each is there, they are sorted, and each is at its number.
+use Rattle.std.proofs.Common.{◌≡◌, ◌⊎◌, inl, inr, ℕ, zero, suc, ◌+◌, ◌*◌, ◌-◌, ◌<◌, ◌≤◌, Bool, true, false, cond, eqb, eq-eqb, List, []}
+use Rattle.std.proofs.Common.{◌∷◌, length, map, get_or, take, drop, refl, sym, ◌∙◌, ap, arith, add-one, drop-cons, Option, Some, None, ◌&&◌}
 use Rattle.std.specs.Prelude.{Contains, nat_lt, slice_get}
 use Rattle.std.specs.Cmp.Lexicographic.{slice_cmp}
 use Rattle.std.specs.Ordering.{nat_cmp}
@@ -11,11 +12,12 @@ use Rattle.std.proofs.lemmas.Option.{slice_get_within}
 use Rattle.ln_algebra.specs.Vector.{same_vector}
 use Rattle.ln_order.specs.Order.{ArePlaces}
 use Rattle.ln_order.specs.Orders.{IsOrderOf, behind, orders_of, past, smaller_behind}
-use Rattle.ln_order.proofs.Listing.OrdersLemmas.{are_sorted, are_sorted_is, back, before_all, behind-back, behind-places, firsts-are, in-firsts, is-member, is_less, member-is, others-places}
+use Rattle.ln_order.proofs.Listing.OrdersLemmas.{are_sorted, are_sorted_is, back, before_all, behind-back, behind-places, firsts-are}
+use Rattle.ln_order.proofs.Listing.OrdersLemmas.{in-firsts, is-member, is_less, member-is, others-places}
 use Rattle.ln_order.specs.Prefixes.{Follows, FrontsFollow, FrontsArePrefixes, IsPrefixOf, PrefixesAreAll, beside, number_of_front, prefixes_of, tree_size}
 
 -- ---- by computing, for up to five sites
--- does this prefix stand at this number?
+-- is this prefix at this number?
 abbrev stands : Option (List ℕ) → List ℕ → Bool
 stands None p = false
 stands (Some q) p = same_vector q p
@@ -73,7 +75,7 @@ not_behind x (y ∷ ys) zero h e =
     let f : true ≡ false = sym r ∙ self_not x in cc
 not_behind x (y ∷ ys) (suc b) h e = not_behind x ys b (and_parts (is_less (slice_cmp nat_cmp x y)) (before_all x ys) h).1 e
 
--- so each stands at one place
+-- so each is at one place
 one_place : (xs : List (List ℕ)) (p : List ℕ) (a b : ℕ) → are_sorted xs ≡ true → slice_get xs a ≡ Some p → slice_get xs b ≡ Some p → a ≡ b
 one_place [] p a b s e f = cc
 one_place (x ∷ xs) p zero zero s e f = refl
@@ -89,7 +91,9 @@ one_place (x ∷ xs) p (suc a) (suc b) s e f = ap suc (one_place xs p a b (and_p
 -- there is an order of k sites
 some-order : (k : ℕ) → (o : List ℕ) × IsOrderOf k o
 some-order zero = ([], member-is zero [] (0, omega arith, refl))
-some-order (suc k) = let r = some-order k in (behind 0 r.0, record { size = omega (arith, length-map r.0 (past 0), r.1.size); each = behind-places 0 r.0 (omega arith) r.1.each })
+some-order (suc k) =
+    let r = some-order k in
+    (behind 0 r.0, record { size = omega (arith, length-map r.0 (past 0), r.1.size); each = behind-places 0 r.0 (omega arith) r.1.each })
 
 take-behind : (x j : ℕ) (o : List ℕ) → take (suc j) (behind x o) ≡ behind x (take j o)
 take-behind x j o = ap (λ z. x ∷ z) (take-map (past x) j o)
@@ -105,7 +109,10 @@ prefix-is (suc k) p (suc i, l, e) =
     let r = prefix-is k q f.2.1 in
     record {
       order = behind f.0 r.order;
-      full = record { size = omega (arith, length-map r.order (past f.0), r.full.size); each = behind-places f.0 r.order (omega (arith, f.1, r.full.size)) r.full.each };
+      full = record {
+        size = omega (arith, length-map r.order (past f.0), r.full.size);
+        each = behind-places f.0 r.order (omega (arith, f.1, r.full.size)) r.full.each;
+      };
       places = suc r.places;
       within = omega (arith, r.within);
       front = f.2.2 ∙ ap (behind f.0) r.front ∙ sym (take-behind f.0 r.places r.order);
@@ -146,19 +153,22 @@ stands-is (Some q) p h = ap (λ z. Some z) (same_vector-is q p h)
 
 front-at : (ps : List (List ℕ)) (o : List ℕ) (n j : ℕ) → fronts_stand ps o n ≡ true → j < n → slice_get ps (number_of_front o j) ≡ Some (take j o)
 front-at ps o zero j h l = absurd (omega arith)
-front-at ps o (suc n) j h l = go (front-at ps o n j) (cases_lt j n) (and_parts (stands (slice_get ps (number_of_front o n)) (take n o)) (fronts_stand ps o n) h) where
-  go : (fronts_stand ps o n ≡ true → j < n → slice_get ps (number_of_front o j) ≡ Some (take j o)) → (j < n) ⊎ (n ≤ j) → (stands (slice_get ps (number_of_front o n)) (take n o) ≡ true) × (fronts_stand ps o n ≡ true) → slice_get ps (number_of_front o j) ≡ Some (take j o)
-  go ih (inl k) p = ih p.1 k
-  go ih (inr k) p = let e : j ≡ n = omega arith in rw e (stands-is (slice_get ps (number_of_front o n)) (take n o) p.0)
+front-at ps o (suc n) j h l = go (front-at ps o n j) (cases_lt j n) (and_parts (stands (slice_get ps (number_of_front o n)) (take n o)) (fronts_stand ps o n) h)
+  where
+    go : (fronts_stand ps o n ≡ true → j < n → slice_get ps (number_of_front o j) ≡ Some (take j o)) → (j < n) ⊎ (n ≤ j)
+        → (stands (slice_get ps (number_of_front o n)) (take n o) ≡ true) × (fronts_stand ps o n ≡ true) → slice_get ps (number_of_front o j) ≡ Some (take j o)
+    go ih (inl k) p = ih p.1 k
+    go ih (inr k) p = let e : j ≡ n = omega arith in rw e (stands-is (slice_get ps (number_of_front o n)) (take n o) p.0)
 
 all-at : (ps os : List (List ℕ)) (n : ℕ) (o : List ℕ) → all_stand ps os n ≡ true → Contains os o → fronts_stand ps o n ≡ true
 all-at ps [] n o h c = absurd (omega (arith, c.1))
 all-at ps (u ∷ os) n o h (zero, l, e) = let p = and_parts (fronts_stand ps u n) (all_stand ps os n) h in rw e at p.0
 all-at ps (u ∷ os) n o h (suc k, l, e) = all-at ps os n o (and_parts (fronts_stand ps u n) (all_stand ps os n) h).1 (k, omega (arith, l), e)
 
--- a prefix stands at its number
+-- a prefix is at its number
 pub front_number : (k : ℕ) (o : List ℕ) (j : ℕ) → k ≤ 5 → IsOrderOf k o → j ≤ k → slice_get (prefixes_of k) (number_of_front o j) ≡ Some (take j o)
-front_number k o j few p h = front-at (prefixes_of k) o (suc k) j (all-at (prefixes_of k) (orders_of k) (suc k) o (stand_all k few) (is-member k o p)) (omega arith)
+front_number k o j few p h =
+    front-at (prefixes_of k) o (suc k) j (all-at (prefixes_of k) (orders_of k) (suc k) o (stand_all k few) (is-member k o p)) (omega arith)
 
 pub front_small : (k : ℕ) (o : List ℕ) (j : ℕ) → k ≤ 5 → IsOrderOf k o → j ≤ k → number_of_front o j < tree_size k
 front_small k o j few p h = omega (arith, slice_get_within (prefixes_of k) (number_of_front o j) (take j o) (front_number k o j few p h), size_all k few)
@@ -171,7 +181,8 @@ fronts-are-prefixes k i j o u few p q h l = (
   front_small k o i few p h,
   (
     λ e. some_same (take i o) (take j u) (sym (front_number k o i few p h) ∙ ap (slice_get (prefixes_of k)) e ∙ front_number k u j few q l),
-    λ e. one_place (prefixes_of k) (take j u) (number_of_front o i) (number_of_front u j) (sorted_all k few) (front_number k o i few p h ∙ ap (λ z. Some z) e) (front_number k u j few q l),
+    λ e. one_place (prefixes_of k) (take j u) (number_of_front o i) (number_of_front u j) (sorted_all k few)
+        (front_number k o i few p h ∙ ap (λ z. Some z) e) (front_number k u j few q l),
   ),
 )
 
@@ -189,7 +200,8 @@ few_prefixes (suc (suc (suc (suc (suc (suc k)))))) h = absurd (omega arith)
 abbrev pub added : List ℕ → ℕ → ℕ
 added xs i = smaller_behind (get_or xs i 0) (drop (i + 1) xs) * tree_size (length (drop (i + 1) xs))
 
-pub front_step : (xs : List ℕ) (i j : ℕ) → i < length xs → i < j → number_of_front (drop i xs) (j - i) ≡ suc (added xs i) + number_of_front (drop (i + 1) xs) (j - (i + 1))
+pub front_step : (xs : List ℕ) (i j : ℕ) → i < length xs → i < j
+    → number_of_front (drop i xs) (j - i) ≡ suc (added xs i) + number_of_front (drop (i + 1) xs) (j - (i + 1))
 front_step xs i j h l =
     let e : drop i xs ≡ get_or xs i 0 ∷ drop (suc i) xs = drop-cons xs i 0 h in
     let q : j - i ≡ suc (j - (i + 1)) = omega (arith, l) in
@@ -200,9 +212,11 @@ module _ (xs : List ℕ) (n i j : ℕ) (few : length xs ≤ 5) (p : ArePlaces xs
   the-order = record { size = refl; each = p }
 
   pub step_small : i < j → n + number_of_front (drop i xs) (j - i) ≡ number_of_front xs j → n + suc (added xs i) < 327
-  step_small l e = omega (arith, front_step xs i j (omega (arith, l, within)) l, e, front_small (length xs) xs j few the-order within, few_prefixes (length xs) few)
+  step_small l e =
+      omega (arith, front_step xs i j (omega (arith, l, within)) l, e, front_small (length xs) xs j few the-order within, few_prefixes (length xs) few)
 
-  pub step_kept : i < j → n + number_of_front (drop i xs) (j - i) ≡ number_of_front xs j → (n + (1 + added xs i)) + number_of_front (drop (i + 1) xs) (j - (i + 1)) ≡ number_of_front xs j
+  pub step_kept : i < j → n + number_of_front (drop i xs) (j - i) ≡ number_of_front xs j
+      → (n + (1 + added xs i)) + number_of_front (drop (i + 1) xs) (j - (i + 1)) ≡ number_of_front xs j
   step_kept l e = omega (arith, front_step xs i j (omega (arith, l, within)) l, e)
 
   front-zero : (o : List ℕ) → number_of_front o 0 ≡ 0
@@ -210,7 +224,10 @@ module _ (xs : List ℕ) (n i j : ℕ) (few : length xs ≤ 5) (p : ArePlaces xs
   front-zero (x ∷ o) = refl
 
   pub done_is : j ≤ i → n + number_of_front (drop i xs) (j - i) ≡ number_of_front xs j → n ≡ number_of_front xs j
-  done_is l e = let q : j - i ≡ 0 = omega (arith, l) in let z : number_of_front (drop i xs) (j - i) ≡ 0 = ap (number_of_front (drop i xs)) q ∙ front-zero (drop i xs) in omega (arith, e, z)
+  done_is l e =
+      let q : j - i ≡ 0 = omega (arith, l) in
+      let z : number_of_front (drop i xs) (j - i) ≡ 0 = ap (number_of_front (drop i xs)) q ∙ front-zero (drop i xs) in
+      omega (arith, e, z)
 
   pub done_there : j ≤ i → n + number_of_front (drop i xs) (j - i) ≡ number_of_front xs j → slice_get (prefixes_of (length xs)) n ≡ Some (take j xs)
   done_there l e = rw (done_is l e) (front_number (length xs) xs j few the-order within)
@@ -218,28 +235,32 @@ module _ (xs : List ℕ) (n i j : ℕ) (few : length xs ≤ 5) (p : ArePlaces xs
   pub done_small : j ≤ i → n + number_of_front (drop i xs) (j - i) ≡ number_of_front xs j → n < tree_size (length xs)
   done_small l e = rw (done_is l e) (front_small (length xs) xs j few the-order within)
 
--- a prefix stands at one number
+-- a prefix is at one number
 pub one_number : (k : ℕ) (p : List ℕ) (a b : ℕ) → k ≤ 5 → slice_get (prefixes_of k) a ≡ Some p → slice_get (prefixes_of k) b ≡ Some p → a ≡ b
 one_number k p a b few e f = one_place (prefixes_of k) p a b (sorted_all k few) e f
 
--- ---- what stands at a prefix
+-- ---- what is at a prefix
 same-self : (a : List ℕ) → same_vector a a ≡ true
 same-self [] = refl
 same-self (x ∷ a) = let r = same-self a in rw (eq-eqb x x refl) r
 
-beside-is : (qs ss : List (List ℕ)) (p : List ℕ) (n : ℕ) (s : List ℕ) → ((b : ℕ) → slice_get qs b ≡ Some p → b ≡ n) → slice_get qs n ≡ Some p → slice_get ss n ≡ Some s → beside qs ss p ≡ s
+beside-is : (qs ss : List (List ℕ)) (p : List ℕ) (n : ℕ) (s : List ℕ) → ((b : ℕ) → slice_get qs b ≡ Some p → b ≡ n)
+    → slice_get qs n ≡ Some p → slice_get ss n ≡ Some s → beside qs ss p ≡ s
 beside-is [] ss p n s one h k = cc
 beside-is (q ∷ qs) [] p n s one h k = cc
 beside-is (q ∷ qs) (t ∷ ss) p n s one h k = go (same_vector q p) refl n h k one (λ m f g o. beside-is qs ss p m s o f g) where
-  go : (b : Bool) → same_vector q p ≡ b → (n : ℕ) → slice_get (q ∷ qs) n ≡ Some p → slice_get (t ∷ ss) n ≡ Some s → ((b : ℕ) → slice_get (q ∷ qs) b ≡ Some p → b ≡ n)
-      → ((m : ℕ) → slice_get qs m ≡ Some p → slice_get ss m ≡ Some s → ((b : ℕ) → slice_get qs b ≡ Some p → b ≡ m) → beside qs ss p ≡ s) → cond b t (beside qs ss p) ≡ s
+  go : (b : Bool) → same_vector q p ≡ b → (n : ℕ) → slice_get (q ∷ qs) n ≡ Some p → slice_get (t ∷ ss) n ≡ Some s
+      → ((b : ℕ) → slice_get (q ∷ qs) b ≡ Some p → b ≡ n)
+      → ((m : ℕ) → slice_get qs m ≡ Some p → slice_get ss m ≡ Some s → ((b : ℕ) → slice_get qs b ≡ Some p → b ≡ m) → beside qs ss p ≡ s)
+      → cond b t (beside qs ss p) ≡ s
   go true e zero h k one ih = cc
   go true e (suc n) h k one ih = let z : 0 ≡ suc n = one 0 (ap (λ z. Some z) (same_vector-is q p e)) in absurd (omega (arith, z))
   go false e zero h k one ih = let z : q ≡ p = cc in let t : true ≡ false = sym (same-self p) ∙ ap (λ y. same_vector y p) (sym z) ∙ e in absurd cc
   go false e (suc n) h k one ih = ih n h k (λ b f. (let z : suc b ≡ suc n = one (suc b) f in omega (arith, z)))
 
--- what stands at the number of a prefix stands beside it
-pub beside_at : (k : ℕ) (ss : List (List ℕ)) (p : List ℕ) (n : ℕ) (s : List ℕ) → k ≤ 5 → slice_get (prefixes_of k) n ≡ Some p → slice_get ss n ≡ Some s → beside (prefixes_of k) ss p ≡ s
+-- `beside` returns what is at the number of a prefix
+pub beside_at : (k : ℕ) (ss : List (List ℕ)) (p : List ℕ) (n : ℕ) (s : List ℕ) → k ≤ 5 → slice_get (prefixes_of k) n ≡ Some p
+    → slice_get ss n ≡ Some s → beside (prefixes_of k) ss p ≡ s
 beside_at k ss p n s few h i = beside-is (prefixes_of k) ss p n s (λ b q. one_number k p b n few q h) h i
 
 -- ---- one prefix after the other

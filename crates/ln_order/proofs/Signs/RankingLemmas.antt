@@ -1,5 +1,6 @@
 -- The variables of sites by rising infinitesimal, and the order of exponents along them.
-use Rattle.std.proofs.Common.{◌≡◌, ◌≢◌, ◌⊎◌, inl, inr, ℕ, zero, suc, ◌+◌, ◌-◌, ◌<◌, ◌≤◌, Bool, true, false, eqb, List, [], ◌∷◌, ◌++◌, length, get_or, take, drop, append_assoc, refl, sym, ◌∙◌, ap, arith, drop-cons, Some}
+use Rattle.std.proofs.Common.{◌≡◌, ◌≢◌, ◌⊎◌, inl, inr, ℕ, zero, suc, ◌+◌, ◌-◌, ◌<◌, ◌≤◌, Bool, true, false, eqb, List, [], ◌∷◌, ◌++◌}
+use Rattle.std.proofs.Common.{length, get_or, take, drop, append_assoc, refl, sym, ◌∙◌, ap, arith, drop-cons, Some}
 use Rattle.std.specs.Prelude.{AllPairs, Contains, if◌then◌else◌, ◌==◌}
 use Rattle.std.specs.Ordering.{nat_cmp, ordering_index, ordering_then}
 use Rattle.std.specs.declared.cmp.Ordering.{Ordering}
@@ -65,7 +66,8 @@ module _ (sites : Sites) (s : ℕ) where
   vars-are : (is : List VarInfo) (v : ℕ) → Numbered is v → (w : ℕ) → Member (vars_of s is v) w → (v ≤ w) × (w < v + length is) × Of sites w s
   vars-are [] v h w m = absurd m
   vars-are (i ∷ is) v h w m = go (same_site i.site (Some s)) refl m (vars-are is (suc v) (numbered-next i is v h) w) where
-    go : (b : Bool) → same_site i.site (Some s) ≡ b → Member (if b then v ∷ vars_of s is (suc v) else vars_of s is (suc v)) w → (Member (vars_of s is (suc v)) w → (suc v ≤ w) × (w < suc v + length is) × Of sites w s) → (v ≤ w) × (w < v + suc (length is)) × Of sites w s
+    go : (b : Bool) → same_site i.site (Some s) ≡ b → Member (if b then v ∷ vars_of s is (suc v) else vars_of s is (suc v)) w
+        → (Member (vars_of s is (suc v)) w → (suc v ≤ w) × (w < suc v + length is) × Of sites w s) → (v ≤ w) × (w < v + suc (length is)) × Of sites w s
     go true e (inl q) ih = (omega (arith, q), omega (arith, q), ap sites.site q ∙ numbered-here i is v h ∙ same_site-is i.site (Some s) e)
     go true e (inr m) ih = let r = ih m in (omega (arith, r.0), omega (arith, r.1), r.2)
     go false e m ih = let r = ih m in (omega (arith, r.0), omega (arith, r.1), r.2)
@@ -74,26 +76,36 @@ module _ (sites : Sites) (s : ℕ) where
   are-vars : (is : List VarInfo) (v : ℕ) → Numbered is v → (w : ℕ) → w < length is → site_of is w ≡ Some s → Member (vars_of s is v) (v + w)
   are-vars [] v h w l o = absurd (omega arith)
   are-vars (i ∷ is) v h zero l o = let t : same_site i.site (Some s) ≡ true = rw o (same_site-refl s) in rw t (inl (omega arith))
-  are-vars (i ∷ is) v h (suc w) l o = go (same_site i.site (Some s)) (let e : suc v + w ≡ v + suc w = omega arith in rw e at (are-vars is (suc v) (numbered-next i is v h) w (omega (arith, l)) o)) where
-    go : (b : Bool) → Member (vars_of s is (suc v)) (v + suc w) → Member (if b then v ∷ vars_of s is (suc v) else vars_of s is (suc v)) (v + suc w)
-    go true m = inr m
-    go false m = m
+  are-vars (i ∷ is) v h (suc w) l o = go (same_site i.site (Some s))
+      (let e : suc v + w ≡ v + suc w = omega arith in rw e at (are-vars is (suc v) (numbered-next i is v h) w (omega (arith, l)) o))
+    where
+      go : (b : Bool) → Member (vars_of s is (suc v)) (v + suc w) → Member (if b then v ∷ vars_of s is (suc v) else vars_of s is (suc v)) (v + suc w)
+      go true m = inr m
+      go false m = m
 
   -- one declared later has the larger infinitesimal
   vars-ranked : (is : List VarInfo) (v : ℕ) → Numbered is v → IsRanked sites (vars_of s is v)
   vars-ranked [] v h = tt
-  vars-ranked (i ∷ is) v h = go (same_site i.site (Some s)) refl (vars-are is (suc v) (numbered-next i is v h)) (vars-ranked is (suc v) (numbered-next i is v h)) where
-    go : (b : Bool) → same_site i.site (Some s) ≡ b → ((w : ℕ) → Member (vars_of s is (suc v)) w → (suc v ≤ w) × (w < suc v + length is) × Of sites w s) → IsRanked sites (vars_of s is (suc v)) → IsRanked sites (if b then v ∷ vars_of s is (suc v) else vars_of s is (suc v))
-    go true e are r =
-        let o : Of sites v s = numbered-here i is v h ∙ same_site-is i.site (Some s) e in
-        (s, o, (λ w m. let k = are w m in (s, s, k.2, o, inr (refl, omega (arith, k.0)))), r)
-    go false e are r = r
+  vars-ranked (i ∷ is) v h =
+      go (same_site i.site (Some s)) refl (vars-are is (suc v) (numbered-next i is v h)) (vars-ranked is (suc v) (numbered-next i is v h))
+    where
+      go : (b : Bool) → same_site i.site (Some s) ≡ b → ((w : ℕ) → Member (vars_of s is (suc v)) w → (suc v ≤ w) × (w < suc v + length is) × Of sites w s)
+          → IsRanked sites (vars_of s is (suc v)) → IsRanked sites (if b then v ∷ vars_of s is (suc v) else vars_of s is (suc v))
+      go true e are r =
+          let o : Of sites v s = numbered-here i is v h ∙ same_site-is i.site (Some s) e in
+          (s, o, (λ w m. let k = are w m in (s, s, k.2, o, inr (refl, omega (arith, k.0)))), r)
+      go false e are r = r
 
 -- ---- the variables of all sites
-ranked-append : (sites : Sites) (xs ys : List ℕ) → IsRanked sites xs → IsRanked sites ys → ((x y : ℕ) → Member xs x → Member ys y → RanksBefore sites y x) → IsRanked sites (xs ++ ys)
+ranked-append : (sites : Sites) (xs ys : List ℕ) → IsRanked sites xs → IsRanked sites ys
+    → ((x y : ℕ) → Member xs x → Member ys y → RanksBefore sites y x) → IsRanked sites (xs ++ ys)
 ranked-append sites [] ys r q h = q
-ranked-append sites (x ∷ xs) ys r q h =
-    (r.0, r.1, (λ w m. elim (member-cases xs ys w m) [ inl k ↦ r.2 w k | inr k ↦ h x w (inl refl) k ]), ranked-append sites xs ys r.3 q (λ u w i j. h u w (inr i) j))
+ranked-append sites (x ∷ xs) ys r q h = (
+  r.0,
+  r.1,
+  (λ w m. elim (member-cases xs ys w m) [ inl k ↦ r.2 w k | inr k ↦ h x w (inl refl) k ]),
+  ranked-append sites xs ys r.3 q (λ u w i j. h u w (inr i) j),
+)
 
 -- the indices rise along the order
 abbrev Rises : (ℕ → ℕ) → List ℕ → Type 0
@@ -148,16 +160,20 @@ place-later s o t ne = rw (eqb-apart s t ne) refl
 -- the places rise along the order
 places-rise : (o : List ℕ) → AllPairs (λ j k. j ≢ k) o → Rises (place_in o) o
 places-rise [] h = tt
-places-rise (s ∷ o) h =
-    ((λ t m. omega (arith, place-first s o, place-later s o t (differs t m))), rises-up (place_in o) (place_in (s ∷ o)) o (λ t m. place-later s o t (differs t m)) (places-rise o (tail-apart s o h))) where
-      differs : (t : ℕ) → Member o t → s ≢ t
-      differs t m e = let r = member-at o t m in h 0 (suc r.0) 0 (omega arith) (omega (arith, r.1)) (e ∙ sym r.2)
+places-rise (s ∷ o) h = (
+  (λ t m. omega (arith, place-first s o, place-later s o t (differs t m))),
+  rises-up (place_in o) (place_in (s ∷ o)) o (λ t m. place-later s o t (differs t m)) (places-rise o (tail-apart s o h)),
+) where
+  differs : (t : ℕ) → Member o t → s ≢ t
+  differs t m e = let r = member-at o t m in h 0 (suc r.0) 0 (omega arith) (omega (arith, r.1)) (e ∙ sym r.2)
 
 -- the list is a ranking of the variables
-pub ranking-is : (sites : ℕ) (vars : List VarInfo) (o : List ℕ) → is_laid_out sites vars ≡ true → length o ≡ sites → ArePlaces o → IsRanking (length vars) (sites_of vars o) (ranking_of vars o)
+pub ranking-is : (sites : ℕ) (vars : List VarInfo) (o : List ℕ) → is_laid_out sites vars ≡ true → length o ≡ sites → ArePlaces o
+    → IsRanking (length vars) (sites_of vars o) (ranking_of vars o)
 ranking-is sites vars o h size p = record {
   ranked = ranking-ranked (sites_of vars o) vars (λ w. refl) o (places-rise o p.differ);
-  all = λ v s e. are-ranking (sites_of vars o) vars (λ w. refl) o v s (at-member o s (each-there (length o) o s (record { size = refl; each = p }) (omega (arith, (kept sites vars h).below v s e, size)))) e;
+  all = λ v s e. are-ranking (sites_of vars o) vars (λ w. refl) o v s
+      (at-member o s (each-there (length o) o s (record { size = refl; each = p }) (omega (arith, (kept sites vars h).below v s e, size)))) e;
   below = λ v m. let r = ranking-are (sites_of vars o) vars (λ w. refl) o v m in site-within vars v r.0 r.2;
 }
 
@@ -165,7 +181,8 @@ ranking-is sites vars o h size p = record {
 pub along-append : (xs ys : List ℕ) (a b : Pairs) → along (xs ++ ys) a b ≡ ordering_then (along xs a b) (along ys a b)
 along-append [] ys a b = refl
 along-append (x ∷ xs) ys a b = go (nat_cmp (exponent x a) (exponent x b)) (along-append xs ys a b) where
-  go : (r : Ordering) → along (xs ++ ys) a b ≡ ordering_then (along xs a b) (along ys a b) → ordering_then r (along (xs ++ ys) a b) ≡ ordering_then (ordering_then r (along xs a b)) (along ys a b)
+  go : (r : Ordering) → along (xs ++ ys) a b ≡ ordering_then (along xs a b) (along ys a b)
+      → ordering_then r (along (xs ++ ys) a b) ≡ ordering_then (ordering_then r (along xs a b)) (along ys a b)
   go Less e = refl
   go Equal e = e
   go Greater e = refl
@@ -203,12 +220,15 @@ along-lex n (v ∷ vs) a b h e =
 
 lex-along : (n : ℕ) (vs : List ℕ) (a b : Pairs) → Below vs n → Lex vs (vector n a) (vector n b) → along vs a b ≡ Less
 lex-along n [] a b h l = absurd l
-lex-along n (v ∷ vs) a b h (inl l) = less-then (exponent v a) (exponent v b) (along vs a b) (inl (omega (arith, l, vector-get n v a (h v (inl refl)), vector-get n v b (h v (inl refl)))))
-lex-along n (v ∷ vs) a b h (inr p) = less-then (exponent v a) (exponent v b) (along vs a b) (inr (omega (arith, p.0, vector-get n v a (h v (inl refl)), vector-get n v b (h v (inl refl))), lex-along n vs a b (λ w m. h w (inr m)) p.1))
+lex-along n (v ∷ vs) a b h (inl l) =
+    less-then (exponent v a) (exponent v b) (along vs a b) (inl (omega (arith, l, vector-get n v a (h v (inl refl)), vector-get n v b (h v (inl refl)))))
+lex-along n (v ∷ vs) a b h (inr p) = less-then (exponent v a) (exponent v b) (along vs a b)
+    (inr (omega (arith, p.0, vector-get n v a (h v (inl refl)), vector-get n v b (h v (inl refl))), lex-along n vs a b (λ w m. h w (inr m)) p.1))
 
 -- less along the ranking is earlier
 pub along-earlier : (sites : ℕ) (vars : List VarInfo) (o : List ℕ) (a b : Pairs) → is_laid_out sites vars ≡ true → length o ≡ sites → ArePlaces o
-    → (along (ranking_of vars o) a b ≡ Less → Earlier (sites_of vars o) (vector (length vars) a) (vector (length vars) b)) × (Earlier (sites_of vars o) (vector (length vars) a) (vector (length vars) b) → along (ranking_of vars o) a b ≡ Less)
+    → (along (ranking_of vars o) a b ≡ Less → Earlier (sites_of vars o) (vector (length vars) a) (vector (length vars) b))
+    × (Earlier (sites_of vars o) (vector (length vars) a) (vector (length vars) b) → along (ranking_of vars o) a b ≡ Less)
 along-earlier sites vars o a b h size p =
     let r = ranking-is sites vars o h size p in
     let q = lex-is (sites_of vars o) (ranking_of vars o) (vector (length vars) a) (vector (length vars) b) r.ranked r.all in
@@ -222,16 +242,18 @@ drop-before xs n k e h =
     let j : suc (n - 1 - k) ≡ n - k = omega arith in
     ap (λ z. drop z xs) i ∙ drop-cons xs (n - 1 - k) 0 (omega arith) ∙ ap (λ z. get_or xs (n - 1 - k) 0 ∷ drop z xs) j
 
--- once all sites are passed, what is left is all
+-- once all sites are passed, the remaining ones are all
 pub all-passed : (xs : List ℕ) (n k : ℕ) → n ≤ k → drop (n - k) xs ≡ xs
 all-passed xs n k h = let z : n - k ≡ 0 = omega arith in rw z refl
 
 ranking-append : (vars : List VarInfo) (xs ys : List ℕ) → ranking_of vars (xs ++ ys) ≡ ranking_of vars ys ++ ranking_of vars xs
 ranking-append vars [] ys = sym (append-nil (ranking_of vars ys))
-ranking-append vars (x ∷ xs) ys = ap (λ z. z ++ vars_of x vars 0) (ranking-append vars xs ys) ∙ append_assoc (ranking_of vars ys) (ranking_of vars xs) (vars_of x vars 0)
+ranking-append vars (x ∷ xs) ys =
+    ap (λ z. z ++ vars_of x vars 0) (ranking-append vars xs ys) ∙ append_assoc (ranking_of vars ys) (ranking_of vars xs) (vars_of x vars 0)
 
--- the exponents differ among the variables of the sites behind a place: that decides
-pub decided : (vars : List VarInfo) (places : List ℕ) (j : ℕ) (a b : Pairs) (r : Ordering) → along (ranking_of vars (drop j places)) a b ≡ r → (r ≡ Equal → ⊥) → along (ranking_of vars places) a b ≡ r
+-- the exponents differ among the variables of the sites after a place: that decides
+pub decided : (vars : List VarInfo) (places : List ℕ) (j : ℕ) (a b : Pairs) (r : Ordering) → along (ranking_of vars (drop j places)) a b ≡ r
+    → (r ≡ Equal → ⊥) → along (ranking_of vars places) a b ≡ r
 decided vars places j a b r e ne =
     ap (λ z. along (ranking_of vars z) a b) (sym (take-append-drop j places))
     ∙ ap (λ z. along z a b) (ranking-append vars (take j places) (drop j places))
@@ -244,7 +266,8 @@ decided vars places j a b r e ne =
       stays Greater n = refl
 
 -- one site more
-pub along-more : (vars : List VarInfo) (places : List ℕ) (n k : ℕ) (a b : Pairs) → length places ≡ n → k < n → along (ranking_of vars (drop (n - k) places)) a b ≡ Equal
+pub along-more : (vars : List VarInfo) (places : List ℕ) (n k : ℕ) (a b : Pairs) → length places ≡ n → k < n
+    → along (ranking_of vars (drop (n - k) places)) a b ≡ Equal
     → along (ranking_of vars (drop (n - (k + 1)) places)) a b ≡ along (vars_of (get_or places (n - 1 - k) 0) vars 0) a b
 along-more vars places n k a b size h e =
     ap (λ z. along (ranking_of vars z) a b) (drop-before places n k size h)
@@ -263,7 +286,8 @@ index-less r e = rw e refl
 -- what was found along the ranking decides whether a is earlier
 module _ (sites : ℕ) (vars : List VarInfo) (o : List ℕ) (a b : Pairs) (h : is_laid_out sites vars ≡ true) (size : length o ≡ sites) (p : ArePlaces o) where
   IsTested : Bool → Type 0
-  IsTested t = (t ≡ true → Earlier (sites_of vars o) (vector (length vars) a) (vector (length vars) b)) × (Earlier (sites_of vars o) (vector (length vars) a) (vector (length vars) b) → t ≡ true)
+  IsTested t = (t ≡ true → Earlier (sites_of vars o) (vector (length vars) a) (vector (length vars) b))
+      × (Earlier (sites_of vars o) (vector (length vars) a) (vector (length vars) b) → t ≡ true)
 
   tested : (r : Ordering) (t : Bool) → along (ranking_of vars o) a b ≡ r → t ≡ (ordering_index r == 0) → IsTested t
   unfolding IsTested
@@ -272,9 +296,12 @@ module _ (sites : ℕ) (vars : List VarInfo) (o : List ℕ) (a b : Pairs) (h : i
       ((λ z. both.0 (e ∙ less-index r (sym q ∙ z))), λ z. q ∙ index-less r (sym e ∙ both.1 z))
 
   -- the first site, from the last on, where the two differ
-  pub tested-here : (vars' : List VarInfo) (places : List ℕ) (a' b' : Pairs) (n k : ℕ) (r : Ordering) (t : Bool) → vars' ≡ vars → places ≡ o → a' ≡ a → b' ≡ b → length places ≡ n → k < n
-      → along (ranking_of vars' (drop (n - k) places)) a b ≡ Equal → r ≡ along (vars_of (get_or places (n - 1 - k) 0) vars' 0) a' b' → (r ≡ Equal → ⊥) → t ≡ (ordering_index r == 0)
-      → (t ≡ true → Earlier (sites_of vars o) (vector (length vars) a) (vector (length vars) b)) × (Earlier (sites_of vars o) (vector (length vars) a) (vector (length vars) b) → t ≡ true)
+  pub tested-here : (vars' : List VarInfo) (places : List ℕ) (a' b' : Pairs) (n k : ℕ) (r : Ordering) (t : Bool) → vars' ≡ vars → places ≡ o
+      → a' ≡ a → b' ≡ b → length places ≡ n → k < n
+      → along (ranking_of vars' (drop (n - k) places)) a b ≡ Equal → r ≡ along (vars_of (get_or places (n - 1 - k) 0) vars' 0) a' b'
+      → (r ≡ Equal → ⊥) → t ≡ (ordering_index r == 0)
+      → (t ≡ true → Earlier (sites_of vars o) (vector (length vars) a) (vector (length vars) b))
+      × (Earlier (sites_of vars o) (vector (length vars) a) (vector (length vars) b) → t ≡ true)
   unfolding IsTested
   tested-here vars' places a' b' n k r t ev ep ea eb en l inv e ne q =
       let f : r ≡ along (vars_of (get_or o (n - 1 - k) 0) vars 0) a b = rw (ev, ep, ea, eb) at e in
@@ -285,7 +312,8 @@ module _ (sites : ℕ) (vars : List VarInfo) (o : List ℕ) (a b : Pairs) (h : i
   -- none where the two differ
   pub tested-nowhere : (vars' : List VarInfo) (places : List ℕ) (n k : ℕ) → vars' ≡ vars → places ≡ o → n ≤ k
       → along (ranking_of vars' (drop (n - k) places)) a b ≡ Equal
-      → (false ≡ true → Earlier (sites_of vars o) (vector (length vars) a) (vector (length vars) b)) × (Earlier (sites_of vars o) (vector (length vars) a) (vector (length vars) b) → false ≡ true)
+      → (false ≡ true → Earlier (sites_of vars o) (vector (length vars) a) (vector (length vars) b))
+      × (Earlier (sites_of vars o) (vector (length vars) a) (vector (length vars) b) → false ≡ true)
   unfolding IsTested
   tested-nowhere vars' places n k ev ep l inv =
       let i : along (ranking_of vars (drop (n - k) o)) a b ≡ Equal = rw (ev, ep) at inv in

@@ -57,7 +57,8 @@ module _ (site : ℕ → Option ℕ) (i j : ℕ → ℕ) where
   before-moves h ByDegree a b (inr l) = inr (l.0, h a b l.1)
 
 -- lists in one order are lists in another that holds wherever it does
-order-moves : (order other : List ℕ → List ℕ → Type 0) → ((a b : List ℕ) → order a b → other a b) → (list : List (List ℕ)) → IsSortedIn order list → IsSortedIn other list
+order-moves : (order other : List ℕ → List ℕ → Type 0) → ((a b : List ℕ) → order a b → other a b) → (list : List (List ℕ))
+    → IsSortedIn order list → IsSortedIn other list
 order-moves order other h [] o = tt
 order-moves order other h (a ∷ list) o = (λ b k. h a b (o.0 b k), order-moves order other h list o.1)
 
@@ -92,7 +93,9 @@ row-stages rank s row places e list r p l =
 
 -- the sites of an order have places of their own
 pub orders-differ : OrdersDiffer
-orders-differ k vars o h p = record { differ = λ v w s t a b e. place-one o s t (each-there k o s p ((kept k vars h).below v s a)) (each-there k o t p ((kept k vars h).below w t b)) e }
+orders-differ k vars o h p = record {
+  differ = λ v w s t a b e. place-one o s t (each-there k o s p ((kept k vars h).below v s a)) (each-there k o t p ((kept k vars h).below w t b)) e;
+}
 
 -- a row in range has one first vector
 pub row_first-unique : RowFirstIsUnique

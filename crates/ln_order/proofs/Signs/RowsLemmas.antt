@@ -24,7 +24,8 @@ order-places indices order p = record {
   size = p.size;
   each = record {
     within = λ k d h. omega (arith, p.each k d h, p.size);
-    differ = λ i j d l h e. irreflexive (index_at indices (get_or order j d)) (let r : index_at indices (get_or order i d) <ℤ index_at indices (get_or order j d) = p.rising i j d l h in rw e at r);
+    differ = λ i j d l h e. irreflexive (index_at indices (get_or order j d))
+        (let r : index_at indices (get_or order i d) <ℤ index_at indices (get_or order j d) = p.rising i j d l h in rw e at r);
   };
 }
 
@@ -43,30 +44,36 @@ module _ (indices : List ℤ) (order : List ℕ) (p : IsOrder indices order) (wh
   rising s t hs ht l =
       let a = place-is order s (there s hs) in
       let b = place-is order t (there t ht) in
-      let r : index_at indices (get_or order (place_in order s) 0) <ℤ index_at indices (get_or order (place_in order t) 0) = p.rising (place_in order s) (place_in order t) 0 l b.0 in
+      let r : index_at indices (get_or order (place_in order s) 0) <ℤ index_at indices (get_or order (place_in order t) 0) =
+      p.rising (place_in order s) (place_in order t) 0 l b.0 in
       rw (a.1 0, b.1 0) at r
 
-  index-place : (s t : ℕ) → s < length indices → t < length indices → unsigned_abs (index_at indices s) < unsigned_abs (index_at indices t) → place_in order s < place_in order t
+  index-place : (s t : ℕ) → s < length indices → t < length indices → unsigned_abs (index_at indices s) < unsigned_abs (index_at indices t)
+      → place_in order s < place_in order t
   index-place s t hs ht l = go (cases_order (place_in order s) (place_in order t)) where
-    go : (place_in order s ≡ place_in order t) ⊎ ((place_in order s < place_in order t) ⊎ (place_in order t < place_in order s)) → place_in order s < place_in order t
+    go : (place_in order s ≡ place_in order t) ⊎ ((place_in order s < place_in order t) ⊎ (place_in order t < place_in order s))
+        → place_in order s < place_in order t
     go (inl e) =
         let q : s ≡ t = sym ((place-is order s (there s hs)).1 0) ∙ ap (λ z. get_or order z 0) e ∙ (place-is order t (there t ht)).1 0 in
         absurd (omega (arith, l, ap (λ z. unsigned_abs (index_at indices z)) q))
     go (inr (inl k)) = k
     go (inr (inr k)) = absurd (abs-not (index_at indices t) (index_at indices s) (from_0 t ht) (from_0 s hs) (rising t s ht hs k) l)
 
-  place-index : (s t : ℕ) → s < length indices → t < length indices → place_in order s < place_in order t → unsigned_abs (index_at indices s) < unsigned_abs (index_at indices t)
+  place-index : (s t : ℕ) → s < length indices → t < length indices → place_in order s < place_in order t
+      → unsigned_abs (index_at indices s) < unsigned_abs (index_at indices t)
   place-index s t hs ht l = abs-less (index_at indices s) (index_at indices t) (from_0 s hs) (from_0 t ht) (rising s t hs ht l)
 
 pub orders-rows : OrdersAreThoseOfRows
-orders-rows sites vars indices order a b h size whole p = ((λ e. (e.0, e.1, e.2, e.3, λ w r. e.4 w (to_row w r))), λ e. (e.0, e.1, e.2, e.3, λ w r. e.4 w (to_place w r))) where
-  below : (v s : ℕ) → Of (sites_of vars order) v s → s < length indices
-  below v s o = omega (arith, (kept sites vars h).below v s o, size)
+orders-rows sites vars indices order a b h size whole p =
+    ((λ e. (e.0, e.1, e.2, e.3, λ w r. e.4 w (to_row w r))), λ e. (e.0, e.1, e.2, e.3, λ w r. e.4 w (to_place w r)))
+  where
+    below : (v s : ℕ) → Of (sites_of vars order) v s → s < length indices
+    below v s o = omega (arith, (kept sites vars h).below v s o, size)
 
-  to_row : {v : ℕ} (w : ℕ) → RanksBefore (sites_of vars order) v w → RanksBefore (row_sites vars indices) v w
-  to_row {v = v} w (s, t, o, q, inl l) = (s, t, o, q, inl (place-index indices order p whole s t (below v s o) (below w t q) l))
-  to_row {v = v} w (s, t, o, q, inr l) = (s, t, o, q, inr l)
+    to_row : {v : ℕ} (w : ℕ) → RanksBefore (sites_of vars order) v w → RanksBefore (row_sites vars indices) v w
+    to_row {v = v} w (s, t, o, q, inl l) = (s, t, o, q, inl (place-index indices order p whole s t (below v s o) (below w t q) l))
+    to_row {v = v} w (s, t, o, q, inr l) = (s, t, o, q, inr l)
 
-  to_place : {v : ℕ} (w : ℕ) → RanksBefore (row_sites vars indices) v w → RanksBefore (sites_of vars order) v w
-  to_place {v = v} w (s, t, o, q, inl l) = (s, t, o, q, inl (index-place indices order p whole s t (below v s o) (below w t q) l))
-  to_place {v = v} w (s, t, o, q, inr l) = (s, t, o, q, inr l)
+    to_place : {v : ℕ} (w : ℕ) → RanksBefore (row_sites vars indices) v w → RanksBefore (sites_of vars order) v w
+    to_place {v = v} w (s, t, o, q, inl l) = (s, t, o, q, inl (index-place indices order p whole s t (below v s o) (below w t q) l))
+    to_place {v = v} w (s, t, o, q, inr l) = (s, t, o, q, inr l)

@@ -1,5 +1,6 @@
--- Sites of a shape: each is below their number, and an order gives each its place.
-use Rattle.std.proofs.Common.{◌≡◌, ◌⊎◌, inl, inr, ℕ, zero, suc, ◌+◌, ◌<◌, ◌≤◌, Bool, true, false, cond, eqb, eq-eqb, List, [], ◌∷◌, length, map, get_or, refl, sym, ◌∙◌, ap, arith, Option, Some, None, is_some, is_none}
+-- Sites of a shape: each is below their number, and each has its place in an order.
+use Rattle.std.proofs.Common.{◌≡◌, ◌⊎◌, inl, inr, ℕ, zero, suc, ◌+◌, ◌<◌, ◌≤◌, Bool, true, false, cond, eqb, eq-eqb, List, [], ◌∷◌, length}
+use Rattle.std.proofs.Common.{map, get_or, refl, sym, ◌∙◌, ap, arith, Option, Some, None, is_some, is_none}
 use Rattle.std.specs.Prelude.{Contains, if◌then◌else◌, ◌==◌, ◌&&◌, ◌||◌, nat_le, count_by}
 use Rattle.std.specs.List.{list_all}
 use Rattle.std.proofs.lemmas.Bool.{and_parts, cases_eq, eqb-true}
@@ -22,7 +23,7 @@ same_site-is (Some s) (Some t) h = ap (λ z. Some z) (eqb-true s t h)
 pub same_site-refl : (s : ℕ) → same_site (Some s) (Some s) ≡ true
 same_site-refl s = eq-eqb s s refl
 
--- a site that begins behind s others is number s
+-- a site that begins after s others is number s
 begins-site : (a s t : ℕ) (i : VarInfo) → begins a s i ≡ true → i.site ≡ Some t → t ≡ s
 begins-site a s t i h e =
     let p = and_parts (i.arg == a) (is_none i.site || same_site i.site (Some s)) h in
@@ -38,10 +39,11 @@ goes-site b i h =
     same_site-is i.site b.site r.1
 
 -- how many sites there are from here on
-counted : (i : VarInfo) (is : List VarInfo) (c : Bool) → (i.coord == 0) ≡ c → count_by starts_site (i ∷ is) ≡ cond (is_some i.site && c) 1 0 + count_by starts_site is
+counted : (i : VarInfo) (is : List VarInfo) (c : Bool) → (i.coord == 0) ≡ c
+    → count_by starts_site (i ∷ is) ≡ cond (is_some i.site && c) 1 0 + count_by starts_site is
 counted i is c e = sum_by-cons (λ x. cond (starts_site x) 1 0) i is ∙ ap (λ z. cond (is_some i.site && z) 1 0 + count_by starts_site is) e
 
--- the sites that begin here and behind are those that begin behind, and as many as lie between
+-- the sites that begin here and after are those that begin after, and as many as lie between
 behind-count : (s : ℕ) (i : VarInfo) (n : ℕ) → s + (cond (is_some i.site && true) 1 0 + n) ≡ sites_behind s i + n
 behind-count s i n = go i.site where
   go : (o : Option ℕ) → s + (cond (is_some o && true) 1 0 + n) ≡ (if is_some o then suc s else s) + n
@@ -63,21 +65,25 @@ below-cons : (i : VarInfo) (is : List VarInfo) (k : ℕ) → ((t : ℕ) → i.si
 below-cons i is k h r zero t e = h t e
 below-cons i is k h r (suc v) t e = r v t e
 
-sites-below : (a s : ℕ) (b : VarInfo) (vars : List VarInfo) → in_order a s b vars ≡ true → ((u : ℕ) → b.site ≡ Some u → u < s) → Below vars (s + count_by starts_site vars)
+sites-below : (a s : ℕ) (b : VarInfo) (vars : List VarInfo) → in_order a s b vars ≡ true → ((u : ℕ) → b.site ≡ Some u → u < s)
+    → Below vars (s + count_by starts_site vars)
 sites-below a s b [] h k = λ v t e. cc
 sites-below a s b (i ∷ is) h k = go (i.coord == 0) refl h (sites-below (suc a) (sites_behind s i) i is) (sites-below a s i is) where
   go : (c : Bool) → (i.coord == 0) ≡ c → (if c then begins a s i && in_order (suc a) (sites_behind s i) i is else goes_on b i && in_order a s i is) ≡ true
-      → (in_order (suc a) (sites_behind s i) i is ≡ true → ((u : ℕ) → i.site ≡ Some u → u < sites_behind s i) → Below is (sites_behind s i + count_by starts_site is))
+      → (in_order (suc a) (sites_behind s i) i is ≡ true → ((u : ℕ) → i.site ≡ Some u → u < sites_behind s i)
+      → Below is (sites_behind s i + count_by starts_site is))
       → (in_order a s i is ≡ true → ((u : ℕ) → i.site ≡ Some u → u < s) → Below is (s + count_by starts_site is))
       → Below (i ∷ is) (s + count_by starts_site (i ∷ is))
   go true e g one two =
       let p = and_parts (begins a s i) (in_order (suc a) (sites_behind s i) i is) g in
-      let n : s + count_by starts_site (i ∷ is) ≡ sites_behind s i + count_by starts_site is = omega (arith, counted i is true e, behind-count s i (count_by starts_site is)) in
+      let n : s + count_by starts_site (i ∷ is) ≡ sites_behind s i + count_by starts_site is =
+      omega (arith, counted i is true e, behind-count s i (count_by starts_site is)) in
       let here : (u : ℕ) → i.site ≡ Some u → u < sites_behind s i = λ u q. omega (arith, begins-site a s u i p.0 q, some-behind s u i q) in
       rw n (below-cons i is (sites_behind s i + count_by starts_site is) (λ t q. omega (arith, here t q)) (one p.1 here))
   go false e g one two =
       let p = and_parts (goes_on b i) (in_order a s i is) g in
-      let n : s + count_by starts_site (i ∷ is) ≡ s + count_by starts_site is = omega (arith, counted i is false e, no-count i.site (count_by starts_site is)) in
+      let n : s + count_by starts_site (i ∷ is) ≡ s + count_by starts_site is =
+      omega (arith, counted i is false e, no-count i.site (count_by starts_site is)) in
       let here : (u : ℕ) → i.site ≡ Some u → u < s = λ u q. k u (sym (goes-site b i p.0) ∙ q) in
       rw n (below-cons i is (s + count_by starts_site is) (λ t q. omega (arith, here t q)) (two p.1 here))
 
@@ -92,8 +98,10 @@ pub record Kept (sites : ℕ) (vars : List VarInfo) : Type 0 where
 
 pub kept : (sites : ℕ) (vars : List VarInfo) → is_laid_out sites vars ≡ true → Kept sites vars
 kept sites vars h =
-    let a = and_parts (in_order 0 0 no_var vars && list_all has_range vars && (count_by starts_site vars == sites) && nat_le sites 5 && nat_le (count_by is_param vars) 8) (nat_le (length vars) 168) h in
-    let b = and_parts (in_order 0 0 no_var vars && list_all has_range vars && (count_by starts_site vars == sites) && nat_le sites 5) (nat_le (count_by is_param vars) 8) a.0 in
+    let a = and_parts (in_order 0 0 no_var vars && list_all has_range vars && (count_by starts_site vars == sites) && nat_le sites 5
+    && nat_le (count_by is_param vars) 8) (nat_le (length vars) 168) h in
+    let b = and_parts (in_order 0 0 no_var vars && list_all has_range vars && (count_by starts_site vars == sites) && nat_le sites 5)
+    (nat_le (count_by is_param vars) 8) a.0 in
     let c = and_parts (in_order 0 0 no_var vars && list_all has_range vars && (count_by starts_site vars == sites)) (nat_le sites 5) b.0 in
     let d = and_parts (in_order 0 0 no_var vars && list_all has_range vars) (count_by starts_site vars == sites) c.0 in
     let e = and_parts (in_order 0 0 no_var vars) (list_all has_range vars) d.0 in
@@ -105,24 +113,27 @@ kept sites vars h =
     }
 
 -- ---- places in an order
--- each site stands in the order
+-- each site is in the order
 pub each-there : (k : ℕ) (o : List ℕ) (s : ℕ) → IsOrderOf k o → s < k → Contains o s
 each-there zero o s p h = absurd (omega arith)
 each-there (suc k) [] s p h = absurd (omega (arith, p.size))
-each-there (suc k) (x ∷ o) s p h = go (cases_eq s x) (each-there k (map (back x) o) (back x s) (record { size = omega (arith, length-map o (back x), p.size); each = others-places x o p.each })) where
-  go : (s ≡ x) ⊎ (s ≡ x → ⊥) → (back x s < k → Contains (map (back x) o) (back x s)) → Contains (x ∷ o) s
-  go (inl e) ih = (0, omega arith, sym e)
-  go (inr ne) ih =
-      let c = ih (back-below x s k ne (omega (arith, p.each.within 0 0 (omega arith), p.size)) h) in
-      let l : c.0 < length o = omega (arith, c.1, length-map o (back x)) in
-      let r : back x (get_or o c.0 s) ≡ back x s = sym (at_back x o c.0 s l) ∙ ap (λ z. z) (get_or_default (map (back x) o) c.0 s (back x s) c.1) ∙ c.2 in
-      (suc c.0, omega (arith, l), sym (back-past x (get_or o c.0 s) (other x o p.each c.0 s l)) ∙ ap (past x) r ∙ back-past x s ne)
+each-there (suc k) (x ∷ o) s p h = go (cases_eq s x)
+    (each-there k (map (back x) o) (back x s) (record { size = omega (arith, length-map o (back x), p.size); each = others-places x o p.each }))
+  where
+    go : (s ≡ x) ⊎ (s ≡ x → ⊥) → (back x s < k → Contains (map (back x) o) (back x s)) → Contains (x ∷ o) s
+    go (inl e) ih = (0, omega arith, sym e)
+    go (inr ne) ih =
+        let c = ih (back-below x s k ne (omega (arith, p.each.within 0 0 (omega arith), p.size)) h) in
+        let l : c.0 < length o = omega (arith, c.1, length-map o (back x)) in
+        let r : back x (get_or o c.0 s) ≡ back x s = sym (at_back x o c.0 s l) ∙ ap (λ z. z) (get_or_default (map (back x) o) c.0 s (back x s) c.1) ∙ c.2 in
+        (suc c.0, omega (arith, l), sym (back-past x (get_or o c.0 s) (other x o p.each c.0 s l)) ∙ ap (past x) r ∙ back-past x s ne)
 
--- the place of a site is where it stands
+-- the place of a site is where it is
 pub place-is : (o : List ℕ) (s : ℕ) → Contains o s → (place_in o s < length o) × ((d : ℕ) → get_or o (place_in o s) d ≡ s)
 place-is [] s c = absurd (omega (arith, c.1))
 place-is (t ∷ o) s (k, l, e) = go (eqb t s) refl k l e (place-is o s) where
-  go : (b : Bool) → eqb t s ≡ b → (k : ℕ) → k < suc (length o) → get_or (t ∷ o) k s ≡ s → (Contains o s → (place_in o s < length o) × ((d : ℕ) → get_or o (place_in o s) d ≡ s))
+  go : (b : Bool) → eqb t s ≡ b → (k : ℕ) → k < suc (length o) → get_or (t ∷ o) k s ≡ s
+      → (Contains o s → (place_in o s < length o) × ((d : ℕ) → get_or o (place_in o s) d ≡ s))
       → ((if b then 0 else suc (place_in o s)) < suc (length o)) × ((d : ℕ) → get_or (t ∷ o) (if b then 0 else suc (place_in o s)) d ≡ s)
   go true q k l e ih = (omega arith, λ d. eqb-true t s q)
   go false q zero l e ih = absurd (let z : true ≡ false = sym (eq-eqb t s e) ∙ q in cc)

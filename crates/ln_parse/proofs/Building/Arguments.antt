@@ -1,5 +1,6 @@
 -- Variables are of their arguments, and arguments are of their types.
-use Rattle.std.proofs.Common.{◌≡◌, ℕ, suc, ◌+◌, ◌<◌, ◌≤◌, ◌==◌, Bool, true, nat_lt, List, [], ◌∷◌, ◌++◌, length, map, Option, Some, None, refl, ap, ◌∙◌, subst, arith, append_assoc}
+use Rattle.std.proofs.Common.{◌≡◌, ℕ, suc, ◌+◌, ◌<◌, ◌≤◌, ◌==◌, Bool, true, nat_lt, List, [], ◌∷◌, ◌++◌, length, map, Option, Some, None}
+use Rattle.std.proofs.Common.{refl, ap, ◌∙◌, subst, arith, append_assoc}
 use Rattle.std.specs.Prelude.{slice_get, count_by, option_map}
 use Rattle.std.specs.List.{list_all}
 use Rattle.std.proofs.lemmas.Bool.{and_parts, and_from, eq-eqb, ne_eqb}
@@ -19,11 +20,13 @@ use Rattle.ln_parse.specs.Ready.{is_known}
 use Rattle.ln_parse.proofs.Building.LaidOut.{Known, all_numbers, count_cons, count_append}
 
 -- all coordinates of a site pass
-site_all : (p : VarInfo → Bool) (k s c : ℕ) (xs : List CoordOf) → ((n : ℕ) (x : CoordOf) → p (record { arg = k; site = Some s; coord = n; lo = x.lo; hi = x.hi }) ≡ true) → list_all p (site_vars k s c xs) ≡ true
+site_all : (p : VarInfo → Bool) (k s c : ℕ) (xs : List CoordOf)
+    → ((n : ℕ) (x : CoordOf) → p (record { arg = k; site = Some s; coord = n; lo = x.lo; hi = x.hi }) ≡ true) → list_all p (site_vars k s c xs) ≡ true
 site_all p k s c [] h = refl
 site_all p k s c (x ∷ xs) h = and_from _ _ (h c x) (site_all p k s (suc c) xs h)
 
-param_all : (p : VarInfo → Bool) (k : ℕ) (o : Option CoordOf) → ((x : CoordOf) → p (record { arg = k; site = None; coord = 0; lo = x.lo; hi = x.hi }) ≡ true) → list_all p (param_vars k o) ≡ true
+param_all : (p : VarInfo → Bool) (k : ℕ) (o : Option CoordOf)
+    → ((x : CoordOf) → p (record { arg = k; site = None; coord = 0; lo = x.lo; hi = x.hi }) ≡ true) → list_all p (param_vars k o) ≡ true
 param_all p k None h = refl
 param_all p k (Some x) h = and_from _ _ (h x) refl
 
@@ -34,14 +37,16 @@ none_as : (o : Option ℕ) → o ≡ None → same_site None o ≡ true
 none_as o h = rw h refl
 
 -- the variables of the arguments from number a on are of all the arguments
-of_all : (S : List SiteOf) (P : List CoordOf) (all : List Arg) (a s : ℕ) (args : List Arg) → ((d : ℕ) → site_behind 0 all (a + d) ≡ site_behind s args d) → list_all (is_of all) (vars_behind S P a s (map arg_of args)) ≡ true
+of_all : (S : List SiteOf) (P : List CoordOf) (all : List Arg) (a s : ℕ) (args : List Arg)
+    → ((d : ℕ) → site_behind 0 all (a + d) ≡ site_behind s args d) → list_all (is_of all) (vars_behind S P a s (map arg_of args)) ≡ true
 of_all S P all a s [] h = refl
 of_all S P all a s (IsSite n t ∷ args) h =
     let e : a + 0 ≡ a = omega arith in
     let here : site_behind 0 all a ≡ Some s = subst (λ (w : ℕ). site_behind 0 all w ≡ Some s) e (h 0) in
     let next = λ (d : ℕ). let q : a + suc d ≡ suc a + d = omega arith in subst (λ (w : ℕ). site_behind 0 all w ≡ site_behind (suc s) args d) q (h (suc d)) in
     list_all-append (is_of all) (site_vars a s 0 (coords_or (slice_get S t))) (vars_behind S P (suc a) (suc s) (map arg_of args))
-    ∙ and_from _ _ (site_all (is_of all) a s 0 (coords_or (slice_get S t)) (λ m x. same_as s (site_behind 0 all a) here)) (of_all S P all (suc a) (suc s) args next)
+    ∙ and_from _ _ (site_all (is_of all) a s 0 (coords_or (slice_get S t)) (λ m x. same_as s (site_behind 0 all a) here))
+    (of_all S P all (suc a) (suc s) args next)
 of_all S P all a s (IsParam p ∷ args) h =
     let e : a + 0 ≡ a = omega arith in
     let here : site_behind 0 all a ≡ None = subst (λ (w : ℕ). site_behind 0 all w ≡ None) e (h 0) in
@@ -50,13 +55,14 @@ of_all S P all a s (IsParam p ∷ args) h =
     ∙ and_from _ _ (param_all (is_of all) a (slice_get P p) (λ x. none_as (site_behind 0 all a) here)) (of_all S P all (suc a) s args next)
 
 -- the variables are those of the arguments, and each argument has some
-pub all_are_of : (S : List SiteOf) (P : List CoordOf) → Known S P → (args : List Arg) → list_all (is_known (length S) (length P)) (map arg_of args) ≡ true → are_of args (vars_behind S P 0 0 (map arg_of args)) ≡ true
+pub all_are_of : (S : List SiteOf) (P : List CoordOf) → Known S P → (args : List Arg)
+    → list_all (is_known (length S) (length P)) (map arg_of args) ≡ true → are_of args (vars_behind S P 0 0 (map arg_of args)) ≡ true
 all_are_of S P g args h =
     let n = (all_numbers S P g 0 0 (map arg_of args) h).args in
     let l = length-map args arg_of in
     and_from _ _ (of_all S P args 0 0 args (λ d. let e : 0 + d ≡ d = omega arith in ap (site_behind 0 args) e)) (eq-eqb _ _ (n ∙ l))
 
--- how many variables of an argument there are: those of one before have none behind
+-- how many variables of an argument there are: those of one before have none after
 abbrev of_arg : ℕ → VarInfo → Bool
 of_arg k i = i.arg == k
 
@@ -96,8 +102,10 @@ coords_length (Some s) = length-map s.coords coord_of
 coords_same : (sites : List Site) (t : ℕ) → length (coords_or (slice_get (map site_of sites) t)) ≡ coords_of (slice_get sites t)
 coords_same sites t = ap (λ (o : Option SiteOf). length (coords_or o)) (slice_get-map site_of sites t) ∙ coords_length (slice_get sites t)
 
-fit_from : (sites : List Site) (params : List Param) (a s : ℕ) (args : List Arg) (done : List VarInfo) → list_all (is_known (length sites) (length params)) (map arg_of args) ≡ true
-    → ((k : ℕ) → a ≤ k → count_by (of_arg k) done ≡ 0) → args_fit sites params (done ++ vars_behind (map site_of sites) (map param_of params) a s (map arg_of args)) a args ≡ true
+fit_from : (sites : List Site) (params : List Param) (a s : ℕ) (args : List Arg) (done : List VarInfo)
+    → list_all (is_known (length sites) (length params)) (map arg_of args) ≡ true
+    → ((k : ℕ) → a ≤ k → count_by (of_arg k) done ≡ 0)
+    → args_fit sites params (done ++ vars_behind (map site_of sites) (map param_of params) a s (map arg_of args)) a args ≡ true
 fit_from sites params a s [] done h z = refl
 fit_from sites params a s (IsSite n t ∷ args) done h z =
     let S = map site_of sites in
@@ -112,16 +120,25 @@ fit_from sites params a s (IsSite n t ∷ args) done h z =
     let c5 = z a (omega arith) in
     let c6 = coords_same sites t in
     let here : count_by (of_arg a) (done ++ (mine ++ rest)) ≡ coords_of (slice_get sites t) = omega arith in
-    let next = λ (k : ℕ) (l : suc a ≤ k). let d1 = count_append (of_arg k) done mine in let d2 = z k (omega arith) in let d3 = site_no_count k a s 0 (coords_or (slice_get S t)) (λ e. omega arith) in let d : count_by (of_arg k) (done ++ mine) ≡ 0 = omega arith in d in
+    let next = λ (k : ℕ) (l : suc a ≤ k). let d1 = count_append (of_arg k) done mine in
+    let d2 = z k (omega arith) in
+    let d3 = site_no_count k a s 0 (coords_or (slice_get S t)) (λ e. omega arith) in
+    let d : count_by (of_arg k) (done ++ mine) ≡ 0 = omega arith in
+    d in
     let r : args_fit sites params ((done ++ mine) ++ rest) (suc a) args ≡ true = fit_from sites params (suc a) (suc s) args (done ++ mine) q.1 next in
-    and_from _ _ (and_from _ _ q.0 (eq-eqb _ _ here)) (subst (λ (w : List VarInfo). args_fit sites params w (suc a) args ≡ true) (append_assoc done mine rest) r)
+    and_from _ _ (and_from _ _ q.0 (eq-eqb _ _ here))
+    (subst (λ (w : List VarInfo). args_fit sites params w (suc a) args ≡ true) (append_assoc done mine rest) r)
 fit_from sites params a s (IsParam p ∷ args) done h z =
     let S = map site_of sites in
     let P = map param_of params in
     let q = and_parts (nat_lt p (length params)) (list_all (is_known (length sites) (length params)) (map arg_of args)) h in
     let mine = param_vars a (slice_get P p) in
     let rest = vars_behind S P (suc a) s (map arg_of args) in
-    let next = λ (k : ℕ) (l : suc a ≤ k). let d1 = count_append (of_arg k) done mine in let d2 = z k (omega arith) in let d3 = param_no_count k a (slice_get P p) (λ e. omega arith) in let d : count_by (of_arg k) (done ++ mine) ≡ 0 = omega arith in d in
+    let next = λ (k : ℕ) (l : suc a ≤ k). let d1 = count_append (of_arg k) done mine in
+    let d2 = z k (omega arith) in
+    let d3 = param_no_count k a (slice_get P p) (λ e. omega arith) in
+    let d : count_by (of_arg k) (done ++ mine) ≡ 0 = omega arith in
+    d in
     let r : args_fit sites params ((done ++ mine) ++ rest) (suc a) args ≡ true = fit_from sites params (suc a) s args (done ++ mine) q.1 next in
     and_from _ _ q.0 (subst (λ (w : List VarInfo). args_fit sites params w (suc a) args ≡ true) (append_assoc done mine rest) r)
 

@@ -1,5 +1,6 @@
 -- What shapes, predicates and tables keep holds of what a ready file is built into.
-use Rattle.std.proofs.Common.{◌≡◌, ℕ, suc, ◌+◌, ◌<◌, ◌≤◌, ◌^◌, not, Bool, true, false, cond, List, [], ◌∷◌, ◌++◌, length, map, refl, ap, sym, ◌∙◌, subst, arith, length-append}
+use Rattle.std.proofs.Common.{◌≡◌, ℕ, suc, ◌+◌, ◌<◌, ◌≤◌, ◌^◌, not, Bool, true, false, cond, List, [], ◌∷◌, ◌++◌, length, map, refl, ap}
+use Rattle.std.proofs.Common.{sym, ◌∙◌, subst, arith, length-append}
 use Rattle.std.specs.Prelude.{pos, neg_ℤ, int_lt, count_by}
 use Rattle.std.specs.List.{list_all}
 use Rattle.std.proofs.lemmas.Bool.{and_from, le-leb, eq-eqb, lt-ltb}
@@ -52,29 +53,36 @@ ranged_good bytes name r w =
     let e = in_order (end_value bytes r.low) (end_value bytes r.high) w.order in
     and_from _ _ (ap not e) (above r.low.negative (number bytes r.low.at) w.low)
 
-coords_good : (bytes : List ℕ) (before cs : List RawCoord) → Each (λ before c. ReadyCoord bytes c) before cs → list_all is_ranged (map (λ c. ranged bytes c.name c.range) cs) ≡ true
+coords_good : (bytes : List ℕ) (before cs : List RawCoord) → Each (λ before c. ReadyCoord bytes c) before cs
+    → list_all is_ranged (map (λ c. ranged bytes c.name c.range) cs) ≡ true
 coords_good bytes before [] e = refl
 coords_good bytes before (c ∷ cs) e = and_from _ _ (ranged_good bytes c.name c.range e.0.range) (coords_good bytes (before ++ (c ∷ [])) cs e.1)
 
 -- the site types and params of ready items are good
-pub sites_good : (bytes : List ℕ) (ts : List Token) (before is : List Item) → Each (ReadyItem bytes ts) before is → list_all is_good_site (sites_said bytes is) ≡ true
+pub sites_good : (bytes : List ℕ) (ts : List Token) (before is : List Item) → Each (ReadyItem bytes ts) before is
+    → list_all is_good_site (sites_said bytes is) ≡ true
 sites_good bytes ts before [] e = refl
 sites_good bytes ts before (SiteItem n cs ∷ is) e =
     let l = length-map cs (λ (c : RawCoord). ranged bytes c.name c.range) in
     let s = e.0.some in let f = e.0.few in
-    and_from _ _ (and_from _ _ (and_from _ _ (lt-ltb 0 (length (map (λ (c : RawCoord). ranged bytes c.name c.range) cs)) (omega arith)) (le-leb (length (map (λ (c : RawCoord). ranged bytes c.name c.range) cs)) 32 (omega arith))) (coords_good bytes [] cs e.0.coords)) (sites_good bytes ts (before ++ (SiteItem n cs ∷ [])) is e.1)
+    and_from _ _ (and_from _ _ (and_from _ _ (lt-ltb 0 (length (map (λ (c : RawCoord). ranged bytes c.name c.range) cs)) (omega arith))
+    (le-leb (length (map (λ (c : RawCoord). ranged bytes c.name c.range) cs)) 32 (omega arith))) (coords_good bytes [] cs e.0.coords))
+    (sites_good bytes ts (before ++ (SiteItem n cs ∷ [])) is e.1)
 sites_good bytes ts before (ParamItem n r ∷ is) e = sites_good bytes ts (before ++ (ParamItem n r ∷ [])) is e.1
 sites_good bytes ts before (PredItem n as' ls p ∷ is) e = sites_good bytes ts (before ++ (PredItem n as' ls p ∷ [])) is e.1
 
-pub params_good : (bytes : List ℕ) (ts : List Token) (before is : List Item) → Each (ReadyItem bytes ts) before is → list_all is_ranged (params_said bytes is) ≡ true
+pub params_good : (bytes : List ℕ) (ts : List Token) (before is : List Item) → Each (ReadyItem bytes ts) before is
+    → list_all is_ranged (params_said bytes is) ≡ true
 params_good bytes ts before [] e = refl
 params_good bytes ts before (SiteItem n cs ∷ is) e = params_good bytes ts (before ++ (SiteItem n cs ∷ [])) is e.1
-params_good bytes ts before (ParamItem n r ∷ is) e = and_from _ _ (ranged_good bytes n r e.0.range) (params_good bytes ts (before ++ (ParamItem n r ∷ [])) is e.1)
+params_good bytes ts before (ParamItem n r ∷ is) e =
+    and_from _ _ (ranged_good bytes n r e.0.range) (params_good bytes ts (before ++ (ParamItem n r ∷ [])) is e.1)
 params_good bytes ts before (PredItem n as' ls p ∷ is) e = params_good bytes ts (before ++ (PredItem n as' ls p ∷ [])) is e.1
 
 pub sites_append : (bytes : List ℕ) (xs ys : List Item) → sites_said bytes (xs ++ ys) ≡ sites_said bytes xs ++ sites_said bytes ys
 sites_append bytes [] ys = refl
-sites_append bytes (SiteItem n cs ∷ xs) ys = ap (λ (w : List SiteOf). record { name = text bytes n; coords = map (λ c. ranged bytes c.name c.range) cs } ∷ w) (sites_append bytes xs ys)
+sites_append bytes (SiteItem n cs ∷ xs) ys =
+    ap (λ (w : List SiteOf). record { name = text bytes n; coords = map (λ c. ranged bytes c.name c.range) cs } ∷ w) (sites_append bytes xs ys)
 sites_append bytes (ParamItem n r ∷ xs) ys = sites_append bytes xs ys
 sites_append bytes (PredItem n as' ls p ∷ xs) ys = sites_append bytes xs ys
 
@@ -85,7 +93,8 @@ params_append bytes (ParamItem n r ∷ xs) ys = ap (λ (w : List CoordOf). range
 params_append bytes (PredItem n as' ls p ∷ xs) ys = params_append bytes xs ys
 
 -- the table of a file begins with what the items before a place declare
-pub declared : (bytes : List ℕ) (ts : List Token) (before rest is : List Item) (S : List SiteOf) (P : List CoordOf) → before ++ rest ≡ is → S ≡ sites_said bytes is → P ≡ params_said bytes is → Each (ReadyItem bytes ts) [] is → Declares bytes before S P
+pub declared : (bytes : List ℕ) (ts : List Token) (before rest is : List Item) (S : List SiteOf) (P : List CoordOf) → before ++ rest ≡ is
+    → S ≡ sites_said bytes is → P ≡ params_said bytes is → Each (ReadyItem bytes ts) [] is → Declares bytes before S P
 declared bytes ts before rest is S P q s p e =
     record {
       more_sites = sites_said bytes rest;
@@ -96,12 +105,14 @@ declared bytes ts before rest is S P q s p e =
       good_params = ap (list_all is_ranged) p ∙ params_good bytes ts [] is e;
     }
 
-known_args : (bytes : List ℕ) (is : List Item) (before args : List RawArg) → Each (λ before a. ReadyArg bytes is a) before args → Each (λ before a. IsKnown bytes is a a.is_param) before args
+known_args : (bytes : List ℕ) (is : List Item) (before args : List RawArg) → Each (λ before a. ReadyArg bytes is a) before args
+    → Each (λ before a. IsKnown bytes is a a.is_param) before args
 known_args bytes is before [] e = tt
 known_args bytes is before (a ∷ args) e = (e.0.known, known_args bytes is (before ++ (a ∷ [])) args e.1)
 
 -- the arguments of a ready predicate are declared
-pub sees : (bytes : List ℕ) (is : List Item) (args : List RawArg) (S : List SiteOf) (P : List CoordOf) → Declares bytes is S P → Each (λ before a. ReadyArg bytes is a) [] args → Sees bytes is args S P
+pub sees : (bytes : List ℕ) (is : List Item) (args : List RawArg) (S : List SiteOf) (P : List CoordOf) → Declares bytes is S P
+    → Each (λ before a. ReadyArg bytes is a) [] args → Sees bytes is args S P
 sees bytes is args S P d e = record { declares = d; known = known_args bytes is [] args e }
 
 -- how many site arguments there are, and how many arguments
@@ -128,17 +139,22 @@ args_are (a ∷ args) =
     let e = either a.is_param in
     let r = args_are args in omega arith
 
--- what tokens say is what the ready expression says
-value_fit : (bytes : List ℕ) (ts : List Token) (is : List Item) (args : List RawArg) (ls : List RawLet) (p : Places) (x : Formula) (S : List SiteOf) (P : List CoordOf) → Sees bytes is args S P
+-- what tokens mean is what the ready expression means
+value_fit : (bytes : List ℕ) (ts : List Token) (is : List Item) (args : List RawArg) (ls : List RawLet) (p : Places) (x : Formula)
+    (S : List SiteOf) (P : List CoordOf) → Sees bytes is args S P
     → Says bytes ts (scope is args ls) p x → ReadyValue bytes ts (scope is args ls) p
-    → (is_fit (length (vars_behind S P 0 0 (said bytes is args))) (length ls) (formulas.tree (vars_behind S P 0 0 (said bytes is args)) x) ≡ true) × (node_count x ≡ value_nodes ts p)
+    → (is_fit (length (vars_behind S P 0 0 (said bytes is args))) (length ls) (formulas.tree (vars_behind S P 0 0 (said bytes is args)) x) ≡ true)
+    × (node_count x ≡ value_nodes ts p)
 value_fit bytes ts is args ls p x S P g s v =
     let vars = vars_behind S P 0 0 (said bytes is args) in
     let t = (one_tree s.derives s.ends v.derives v.ends).tree in
-    let q : resolved bytes (scope is args ls) v.tree ≡ x = ap (resolved bytes (scope is args ls)) (sym t) ∙ s.means in
-    (subst (λ (w : Formula). is_fit (length vars) (length ls) (formulas.tree vars w) ≡ true) q (fits bytes is args ls S P v.tree g v.fit), ap node_count (sym q) ∙ v.counted)
+    let q : resolved bytes (scope is args ls) v.tree ≡ x = ap (resolved bytes (scope is args ls)) (sym t) ∙ s.means in (
+      subst (λ (w : Formula). is_fit (length vars) (length ls) (formulas.tree vars w) ≡ true) q (fits bytes is args ls S P v.tree g v.fit),
+      ap node_count (sym q) ∙ v.counted,
+    )
 
-lets_kept : (bytes : List ℕ) (ts : List Token) (is : List Item) (args : List RawArg) (before ls : List RawLet) (xs : List Expr) (S : List SiteOf) (P : List CoordOf) → Sees bytes is args S P
+lets_kept : (bytes : List ℕ) (ts : List Token) (is : List Item) (args : List RawArg) (before ls : List RawLet) (xs : List Expr)
+    (S : List SiteOf) (P : List CoordOf) → Sees bytes is args S P
     → LetsSay bytes ts is args before ls (map formula xs) → Each (ReadyLet bytes ts is args) before ls
     → (lets_fit (length (vars_behind S P 0 0 (said bytes is args))) (length before) (map (tree_of (vars_behind S P 0 0 (said bytes is args))) xs) ≡ true)
     × (node_counts (map formula xs) ≡ nodes_before ts ls) × (length xs ≡ length ls)
@@ -156,13 +172,16 @@ lets_kept bytes ts is args before (l ∷ ls) (x ∷ xs) S P g s e =
     (and_from _ _ a.0 b, omega arith, ap suc r.2)
 
 -- a ready predicate keeps what predicates keep
-pub pred_kept : (bytes : List ℕ) (ts : List Token) (is : List Item) (name : Span) (raws : List RawArg) (ls : List RawLet) (p : Places) (args : List Arg) (vars : List VarInfo) (xs : List Expr) (names : ℕ) (root : Expr) (S : List SiteOf) (P : List CoordOf)
-    → ReadyPred bytes ts is name raws ls p → Declares bytes is S P → map arg_of args ≡ said bytes is raws → vars ≡ vars_behind S P 0 0 (map arg_of args) → LetsSay bytes ts is raws [] ls (map formula xs) → Says bytes ts (scope is raws ls) p (formula root)
+pub pred_kept : (bytes : List ℕ) (ts : List Token) (is : List Item) (name : Span) (raws : List RawArg) (ls : List RawLet) (p : Places)
+    (args : List Arg) (vars : List VarInfo) (xs : List Expr) (names : ℕ) (root : Expr) (S : List SiteOf) (P : List CoordOf)
+    → ReadyPred bytes ts is name raws ls p → Declares bytes is S P → map arg_of args ≡ said bytes is raws → vars ≡ vars_behind S P 0 0 (map arg_of args)
+    → LetsSay bytes ts is raws [] ls (map formula xs) → Says bytes ts (scope is raws ls) p (formula root)
     → names ≡ length ls → keeps args vars xs names root ≡ true
 pred_kept bytes ts is name raws ls p args vars xs names root S P r d a v l s n =
     let g = sees bytes is raws S P d r.args in
     let k : Known S P = record { sites = d.good_sites; params = d.good_params } in
-    let h : list_all (is_known (length S) (length P)) (map arg_of args) ≡ true = ap (list_all (is_known (length S) (length P))) a ∙ all_known bytes is raws S P g in
+    let h : list_all (is_known (length S) (length P)) (map arg_of args) ≡ true =
+    ap (list_all (is_known (length S) (length P))) a ∙ all_known bytes is raws S P g in
     let w : vars_behind S P 0 0 (said bytes is raws) ≡ vars = ap (vars_behind S P 0 0) (sym a) ∙ sym v in
     let m = lets_kept bytes ts is raws [] ls xs S P g l r.lets in
     let f = value_fit bytes ts is raws ls p (formula root) S P g s r.root in
@@ -175,7 +194,8 @@ pred_kept bytes ts is name raws ls p args vars xs names root S P r d a v l s n =
     let c = r.let_count in
     let z = r.nodes in
     let o : are args vars ≡ true = subst (λ (u : List VarInfo). are args u ≡ true) (sym v) (all_are_of S P k args h) in
-    and_from _ _ (and_from _ _ (and_from _ _ (and_from _ _ (and_from _ _ o (le-leb (length xs) 64 (omega arith))) (eq-eqb names (length xs) (omega arith))) m0) f1) (le-leb (node_counts (map formula xs) + node_count (formula root)) 2048 (omega arith))
+    and_from _ _ (and_from _ _ (and_from _ _ (and_from _ _ (and_from _ _ o (le-leb (length xs) 64 (omega arith))) (eq-eqb names (length xs) (omega arith))) m0)
+    f1) (le-leb (node_counts (map formula xs) + node_count (formula root)) 2048 (omega arith))
 
 -- how many arguments a ready predicate has
 pub record FewArgs (raws : List RawArg) (xs : List Arg) : Type 0 where
@@ -184,7 +204,8 @@ pub record FewArgs (raws : List RawArg) (xs : List Arg) : Type 0 where
   pub sites : count_by is_site_said (map arg_of xs) ≤ 5
   pub others : length xs ≤ count_by is_site_said (map arg_of xs) + 8
 
-pub few_args : (bytes : List ℕ) (is : List Item) (raws : List RawArg) (xs : List Arg) → map arg_of xs ≡ said bytes is raws → count_by is_site_arg raws ≤ 5 → count_by is_param_arg raws ≤ 8 → FewArgs raws xs
+pub few_args : (bytes : List ℕ) (is : List Item) (raws : List RawArg) (xs : List Arg) → map arg_of xs ≡ said bytes is raws
+    → count_by is_site_arg raws ≤ 5 → count_by is_param_arg raws ≤ 8 → FewArgs raws xs
 few_args bytes is raws xs a m n =
     let l = length-map xs arg_of in
     let k = ap (λ (w : List ArgOf). length w) a in
@@ -195,13 +216,18 @@ few_args bytes is raws xs a m n =
     record { raw = omega arith; all = omega arith; sites = omega arith; others = omega arith }
 
 -- the arguments of a ready predicate are of the table's site types and params
-pub args_known : (bytes : List ℕ) (ts : List Token) (is : List Item) (name : Span) (raws : List RawArg) (ls : List RawLet) (p : Places) (xs : List Arg) (S : List SiteOf) (P : List CoordOf)
-    → ReadyPred bytes ts is name raws ls p → Declares bytes is S P → map arg_of xs ≡ said bytes is raws → list_all (is_known (length S) (length P)) (map arg_of xs) ≡ true
-args_known bytes ts is name raws ls p xs S P r d a = ap (list_all (is_known (length S) (length P))) a ∙ all_known bytes is raws S P (sees bytes is raws S P d r.args)
+pub args_known : (bytes : List ℕ) (ts : List Token) (is : List Item) (name : Span) (raws : List RawArg) (ls : List RawLet) (p : Places)
+    (xs : List Arg) (S : List SiteOf) (P : List CoordOf)
+    → ReadyPred bytes ts is name raws ls p → Declares bytes is S P → map arg_of xs ≡ said bytes is raws
+    → list_all (is_known (length S) (length P)) (map arg_of xs) ≡ true
+args_known bytes ts is name raws ls p xs S P r d a =
+    ap (list_all (is_known (length S) (length P))) a ∙ all_known bytes is raws S P (sees bytes is raws S P d r.args)
 
 -- the variables of a ready predicate are those of a shape
-pub shape_kept : (bytes : List ℕ) (ts : List Token) (is : List Item) (name : Span) (raws : List RawArg) (ls : List RawLet) (p : Places) (xs : List Arg) (S : List SiteOf) (P : List CoordOf) (sites : ℕ) (vars : List VarInfo)
-    → ReadyPred bytes ts is name raws ls p → Declares bytes is S P → map arg_of xs ≡ said bytes is raws → sites ≡ count_by is_site_said (map arg_of xs) → vars ≡ vars_behind S P 0 0 (map arg_of xs) → is_laid_out sites vars ≡ true
+pub shape_kept : (bytes : List ℕ) (ts : List Token) (is : List Item) (name : Span) (raws : List RawArg) (ls : List RawLet) (p : Places)
+    (xs : List Arg) (S : List SiteOf) (P : List CoordOf) (sites : ℕ) (vars : List VarInfo)
+    → ReadyPred bytes ts is name raws ls p → Declares bytes is S P → map arg_of xs ≡ said bytes is raws
+    → sites ≡ count_by is_site_said (map arg_of xs) → vars ≡ vars_behind S P 0 0 (map arg_of xs) → is_laid_out sites vars ≡ true
 shape_kept bytes ts is name raws ls p xs S P sites vars r d a s v =
     let k : Known S P = record { sites = d.good_sites; params = d.good_params } in
     let h = args_known bytes ts is name raws ls p xs S P r d a in
@@ -212,14 +238,18 @@ shape_kept bytes ts is name raws ls p xs S P sites vars r d a s v =
     rw (s, v) q
 
 -- a ready predicate fits the table
-pub args_kept : (bytes : List ℕ) (ts : List Token) (is : List Item) (name : Span) (raws : List RawArg) (ls : List RawLet) (p : Places) (xs : List Arg) (sites : List Site) (params : List Param) (vars : List VarInfo)
-    → ReadyPred bytes ts is name raws ls p → Declares bytes is (map site_of sites) (map param_of params) → map arg_of xs ≡ said bytes is raws → vars ≡ vars_behind (map site_of sites) (map param_of params) 0 0 (map arg_of xs)
+pub args_kept : (bytes : List ℕ) (ts : List Token) (is : List Item) (name : Span) (raws : List RawArg) (ls : List RawLet) (p : Places)
+    (xs : List Arg) (sites : List Site) (params : List Param) (vars : List VarInfo)
+    → ReadyPred bytes ts is name raws ls p → Declares bytes is (map site_of sites) (map param_of params)
+    → map arg_of xs ≡ said bytes is raws → vars ≡ vars_behind (map site_of sites) (map param_of params) 0 0 (map arg_of xs)
     → args_fit sites params vars 0 xs ≡ true
 args_kept bytes ts is name raws ls p xs sites params vars r d a v =
     let h = args_known bytes ts is name raws ls p xs (map site_of sites) (map param_of params) r d a in
     let m = length-map sites site_of in
     let n = length-map params param_of in
-    let g : list_all (is_known (length sites) (length params)) (map arg_of xs) ≡ true = subst (λ (u : ℕ). list_all (is_known u (length params)) (map arg_of xs) ≡ true) m (subst (λ (u : ℕ). list_all (is_known (length (map site_of sites)) u) (map arg_of xs) ≡ true) n h) in
+    let g : list_all (is_known (length sites) (length params)) (map arg_of xs) ≡ true =
+    subst (λ (u : ℕ). list_all (is_known u (length params)) (map arg_of xs) ≡ true) m
+    (subst (λ (u : ℕ). list_all (is_known (length (map site_of sites)) u) (map arg_of xs) ≡ true) n h) in
     rw v (all_fit sites params xs g)
 
 -- there are as many names as lets
@@ -232,34 +262,62 @@ as_many bytes ls names h =
 -- there are as many site types, params and predicates as items that are such
 said_sites : (bytes : List ℕ) (is : List Item) → length (sites_said bytes is) ≡ count_by is_site is
 said_sites bytes [] = refl
-said_sites bytes (SiteItem n cs ∷ is) = let r = said_sites bytes is in let c : count_by is_site (SiteItem n cs ∷ is) ≡ 1 + count_by is_site is = count_cons is_site (SiteItem n cs) is in omega arith
-said_sites bytes (ParamItem n q ∷ is) = let r = said_sites bytes is in let c : count_by is_site (ParamItem n q ∷ is) ≡ 0 + count_by is_site is = count_cons is_site (ParamItem n q) is in omega arith
-said_sites bytes (PredItem n as' ls q ∷ is) = let r = said_sites bytes is in let c : count_by is_site (PredItem n as' ls q ∷ is) ≡ 0 + count_by is_site is = count_cons is_site (PredItem n as' ls q) is in omega arith
+said_sites bytes (SiteItem n cs ∷ is) =
+    let r = said_sites bytes is in
+    let c : count_by is_site (SiteItem n cs ∷ is) ≡ 1 + count_by is_site is = count_cons is_site (SiteItem n cs) is in
+    omega arith
+said_sites bytes (ParamItem n q ∷ is) =
+    let r = said_sites bytes is in
+    let c : count_by is_site (ParamItem n q ∷ is) ≡ 0 + count_by is_site is = count_cons is_site (ParamItem n q) is in
+    omega arith
+said_sites bytes (PredItem n as' ls q ∷ is) =
+    let r = said_sites bytes is in
+    let c : count_by is_site (PredItem n as' ls q ∷ is) ≡ 0 + count_by is_site is = count_cons is_site (PredItem n as' ls q) is in
+    omega arith
 
 said_params : (bytes : List ℕ) (is : List Item) → length (params_said bytes is) ≡ count_by is_param is
 said_params bytes [] = refl
-said_params bytes (SiteItem n cs ∷ is) = let r = said_params bytes is in let c : count_by is_param (SiteItem n cs ∷ is) ≡ 0 + count_by is_param is = count_cons is_param (SiteItem n cs) is in omega arith
-said_params bytes (ParamItem n q ∷ is) = let r = said_params bytes is in let c : count_by is_param (ParamItem n q ∷ is) ≡ 1 + count_by is_param is = count_cons is_param (ParamItem n q) is in omega arith
-said_params bytes (PredItem n as' ls q ∷ is) = let r = said_params bytes is in let c : count_by is_param (PredItem n as' ls q ∷ is) ≡ 0 + count_by is_param is = count_cons is_param (PredItem n as' ls q) is in omega arith
+said_params bytes (SiteItem n cs ∷ is) =
+    let r = said_params bytes is in
+    let c : count_by is_param (SiteItem n cs ∷ is) ≡ 0 + count_by is_param is = count_cons is_param (SiteItem n cs) is in
+    omega arith
+said_params bytes (ParamItem n q ∷ is) =
+    let r = said_params bytes is in
+    let c : count_by is_param (ParamItem n q ∷ is) ≡ 1 + count_by is_param is = count_cons is_param (ParamItem n q) is in
+    omega arith
+said_params bytes (PredItem n as' ls q ∷ is) =
+    let r = said_params bytes is in
+    let c : count_by is_param (PredItem n as' ls q ∷ is) ≡ 0 + count_by is_param is = count_cons is_param (PredItem n as' ls q) is in
+    omega arith
 
-said_preds : (bytes : List ℕ) (ts : List Token) (before : List Item) (t : TableOf) (is : List Item) (ps : List PredOf) → PredsSay bytes ts before t is ps → length ps ≡ count_by is_pred is
+said_preds : (bytes : List ℕ) (ts : List Token) (before : List Item) (t : TableOf) (is : List Item) (ps : List PredOf)
+    → PredsSay bytes ts before t is ps → length ps ≡ count_by is_pred is
 said_preds bytes ts before t [] [] s = refl
 said_preds bytes ts before t [] (p ∷ ps) s = absurd s
-said_preds bytes ts before t (SiteItem n cs ∷ is) ps s = let r = said_preds bytes ts (before ++ (SiteItem n cs ∷ [])) t is ps s in let c : count_by is_pred (SiteItem n cs ∷ is) ≡ 0 + count_by is_pred is = count_cons is_pred (SiteItem n cs) is in omega arith
-said_preds bytes ts before t (ParamItem n q ∷ is) ps s = let r = said_preds bytes ts (before ++ (ParamItem n q ∷ [])) t is ps s in let c : count_by is_pred (ParamItem n q ∷ is) ≡ 0 + count_by is_pred is = count_cons is_pred (ParamItem n q) is in omega arith
+said_preds bytes ts before t (SiteItem n cs ∷ is) ps s =
+    let r = said_preds bytes ts (before ++ (SiteItem n cs ∷ [])) t is ps s in
+    let c : count_by is_pred (SiteItem n cs ∷ is) ≡ 0 + count_by is_pred is = count_cons is_pred (SiteItem n cs) is in
+    omega arith
+said_preds bytes ts before t (ParamItem n q ∷ is) ps s =
+    let r = said_preds bytes ts (before ++ (ParamItem n q ∷ [])) t is ps s in
+    let c : count_by is_pred (ParamItem n q ∷ is) ≡ 0 + count_by is_pred is = count_cons is_pred (ParamItem n q) is in
+    omega arith
 said_preds bytes ts before t (PredItem n as' ls q ∷ is) [] s = absurd s
 said_preds bytes ts before t (PredItem n as' ls q ∷ is) (p ∷ ps) s =
     let r = said_preds bytes ts (before ++ (PredItem n as' ls q ∷ [])) t is ps s.1 in
     let c : count_by is_pred (PredItem n as' ls q ∷ is) ≡ 1 + count_by is_pred is = count_cons is_pred (PredItem n as' ls q) is in omega arith
 
 -- the table of a ready file is a table
-pub table_kept : (bytes : List ℕ) (ts : List Token) (is : List Item) (sites : List Site) (params : List Param) (preds : List Pred) → ReadyFile bytes ts is → map site_of sites ≡ sites_said bytes is → map param_of params ≡ params_said bytes is
+pub table_kept : (bytes : List ℕ) (ts : List Token) (is : List Item) (sites : List Site) (params : List Param) (preds : List Pred)
+    → ReadyFile bytes ts is → map site_of sites ≡ sites_said bytes is → map param_of params ≡ params_said bytes is
     → list_all (pred_fits sites params) preds ≡ true
-    → ((t : TableOf) → t.sites ≡ map site_of sites → t.params ≡ map param_of params → PredsSay bytes ts [] t is (map pred_of preds)) → is_table sites params preds ≡ true
+    → ((t : TableOf) → t.sites ≡ map site_of sites → t.params ≡ map param_of params → PredsSay bytes ts [] t is (map pred_of preds))
+    → is_table sites params preds ≡ true
 table_kept bytes ts is sites params preds r s p f q =
     let t : TableOf = record { sites = map site_of sites; params = map param_of params; preds = [] } in
     let a = ap (λ (w : List SiteOf). length w) s in let b = length-map sites site_of in let c = said_sites bytes is in
     let d = ap (λ (w : List CoordOf). length w) p in let e = length-map params param_of in let g = said_params bytes is in
     let h = said_preds bytes ts [] t is (map pred_of preds) (q t refl refl) in let i = length-map preds pred_of in
     let x = r.sites in let y = r.params in let z = r.preds in
-    and_from _ _ (and_from _ _ (and_from _ _ (le-leb (length sites) 16 (omega arith)) (le-leb (length params) 16 (omega arith))) (le-leb (length preds) 16 (omega arith))) f
+    and_from _ _ (and_from _ _ (and_from _ _ (le-leb (length sites) 16 (omega arith)) (le-leb (length params) 16 (omega arith)))
+    (le-leb (length preds) 16 (omega arith))) f

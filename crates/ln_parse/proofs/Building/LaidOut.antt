@@ -1,5 +1,6 @@
 -- The variables of known arguments are laid out as a shape wants them.
-use Rattle.std.proofs.Common.{◌≡◌, ℕ, zero, suc, ◌+◌, ◌*◌, ◌<◌, ◌≤◌, ◌==◌, ◌&&◌, Bool, true, false, cond, nat_lt, nat_le, List, [], ◌∷◌, ◌++◌, length, Option, Some, None, refl, ap, sym, ◌∙◌, subst, arith, length-append}
+use Rattle.std.proofs.Common.{◌≡◌, ℕ, zero, suc, ◌+◌, ◌*◌, ◌<◌, ◌≤◌, ◌==◌, ◌&&◌, Bool, true, false, cond, nat_lt, nat_le, List, [], ◌∷◌}
+use Rattle.std.proofs.Common.{◌++◌, length, Option, Some, None, refl, ap, sym, ◌∙◌, subst, arith, length-append}
 use Rattle.std.specs.Prelude.{slice_get, count_by}
 use Rattle.std.specs.List.{list_all}
 use Rattle.std.proofs.lemmas.Bool.{and_parts, and_from, ltb-true, lt-ltb, le-leb, leb-true, eq-eqb}
@@ -36,30 +37,35 @@ var : ℕ → ℕ → ℕ → CoordOf → VarInfo
 var k s c x = record { arg = k; site = Some s; coord = c; lo = x.lo; hi = x.hi }
 
 -- a coordinate goes on with the one before
-goes : (a s n : ℕ) (x y : CoordOf) → suc n < 32 → goes_on (record { arg = a; site = Some s; coord = n; lo = x.lo; hi = x.hi }) (record { arg = a; site = Some s; coord = suc n; lo = y.lo; hi = y.hi }) ≡ true
+goes : (a s n : ℕ) (x y : CoordOf) → suc n < 32 → goes_on (record { arg = a; site = Some s; coord = n; lo = x.lo; hi = x.hi })
+    (record { arg = a; site = Some s; coord = suc n; lo = y.lo; hi = y.hi }) ≡ true
 goes a s n x y h =
     let p : suc n ≡ n + 1 = omega arith in
     and_from ((a == a) && true && (s == s) && (suc n == n + 1)) (nat_lt (suc n) 32)
-    (and_from ((a == a) && true && (s == s)) (suc n == n + 1) (and_from ((a == a) && true) (s == s) (and_from (a == a) true (same a) refl) (same s)) (eq-eqb (suc n) (n + 1) p))
+    (and_from ((a == a) && true && (s == s)) (suc n == n + 1)
+    (and_from ((a == a) && true) (s == s) (and_from (a == a) true (same a) refl) (same s)) (eq-eqb (suc n) (n + 1) p))
     (lt-ltb (suc n) 32 h)
 
--- coordinates behind coordinate n, and what follows them
+-- coordinates after coordinate n, and what follows them
 site_goes : (a s n : ℕ) (x : CoordOf) (xs : List CoordOf) (rest : List VarInfo) → n + length xs < 32 → ((b : VarInfo) → in_order (suc a) (suc s) b rest ≡ true)
     → in_order (suc a) (suc s) (record { arg = a; site = Some s; coord = n; lo = x.lo; hi = x.hi }) (site_vars a s (suc n) xs ++ rest) ≡ true
 site_goes a s n x [] rest h r = r (record { arg = a; site = Some s; coord = n; lo = x.lo; hi = x.hi })
 site_goes a s n x (y ∷ ys) rest h r =
-    let i : in_order (suc a) (suc s) (record { arg = a; site = Some s; coord = suc n; lo = y.lo; hi = y.hi }) (site_vars a s (suc (suc n)) ys ++ rest) ≡ true = site_goes a s (suc n) y ys rest (omega arith) r in
+    let i : in_order (suc a) (suc s) (record { arg = a; site = Some s; coord = suc n; lo = y.lo; hi = y.hi }) (site_vars a s (suc (suc n)) ys ++ rest) ≡ true =
+    site_goes a s (suc n) y ys rest (omega arith) r in
     let g = goes a s n x y (omega arith) in
     let z = not_first n in
     rw z (and_from _ _ g i)
 
 -- the coordinates of a site, and what follows them
-site_order : (a s : ℕ) (b : VarInfo) (x : CoordOf) (xs : List CoordOf) (rest : List VarInfo) → length xs < 32 → ((b : VarInfo) → in_order (suc a) (suc s) b rest ≡ true) → in_order a s b (site_vars a s 0 (x ∷ xs) ++ rest) ≡ true
+site_order : (a s : ℕ) (b : VarInfo) (x : CoordOf) (xs : List CoordOf) (rest : List VarInfo) → length xs < 32
+    → ((b : VarInfo) → in_order (suc a) (suc s) b rest ≡ true) → in_order a s b (site_vars a s 0 (x ∷ xs) ++ rest) ≡ true
 site_order a s b x xs rest h r =
     and_from _ _ (and_from (a == a) (s == s) (same a) (same s)) (site_goes a s 0 x xs rest (omega arith) r)
 
 -- a param, and what follows it
-param_order : (a s : ℕ) (b : VarInfo) (x : CoordOf) (rest : List VarInfo) → ((b : VarInfo) → in_order (suc a) s b rest ≡ true) → in_order a s b (param_vars a (Some x) ++ rest) ≡ true
+param_order : (a s : ℕ) (b : VarInfo) (x : CoordOf) (rest : List VarInfo) → ((b : VarInfo) → in_order (suc a) s b rest ≡ true)
+    → in_order a s b (param_vars a (Some x) ++ rest) ≡ true
 param_order a s b x rest r = and_from _ _ (and_from (a == a) true (same a) refl) (r (record { arg = a; site = None; coord = 0; lo = x.lo; hi = x.hi }))
 
 good_parts : (x : SiteOf) → is_good_site x ≡ true → (0 < length x.coords) × (length x.coords ≤ 32) × (list_all is_ranged x.coords ≡ true)
@@ -73,11 +79,13 @@ pub record Known (S : List SiteOf) (P : List CoordOf) : Type 0 where
   pub sites : list_all is_good_site S ≡ true
   pub params : list_all is_ranged P ≡ true
 
-coords_order : (a s : ℕ) (b : VarInfo) (xs : List CoordOf) (rest : List VarInfo) → 0 < length xs → length xs ≤ 32 → ((b : VarInfo) → in_order (suc a) (suc s) b rest ≡ true) → in_order a s b (site_vars a s 0 xs ++ rest) ≡ true
+coords_order : (a s : ℕ) (b : VarInfo) (xs : List CoordOf) (rest : List VarInfo) → 0 < length xs → length xs ≤ 32
+    → ((b : VarInfo) → in_order (suc a) (suc s) b rest ≡ true) → in_order a s b (site_vars a s 0 xs ++ rest) ≡ true
 coords_order a s b [] rest p q r = absurd (omega arith)
 coords_order a s b (x ∷ xs) rest p q r = site_order a s b x xs rest (omega arith) r
 
-pub all_order : (S : List SiteOf) (P : List CoordOf) → Known S P → (a s : ℕ) (b : VarInfo) (args : List ArgOf) → list_all (is_known (length S) (length P)) args ≡ true → in_order a s b (vars_behind S P a s args) ≡ true
+pub all_order : (S : List SiteOf) (P : List CoordOf) → Known S P → (a s : ℕ) (b : VarInfo) (args : List ArgOf)
+    → list_all (is_known (length S) (length P)) args ≡ true → in_order a s b (vars_behind S P a s args) ≡ true
 all_order S P g a s b [] h = refl
 all_order S P g a s b (SiteArg n t ∷ args) h =
     let q = and_parts (nat_lt t (length S)) (list_all (is_known (length S) (length P)) args) h in
@@ -95,29 +103,33 @@ site_ranges : (k s c : ℕ) (xs : List CoordOf) → list_all is_ranged xs ≡ tr
 site_ranges k s c [] h = refl
 site_ranges k s c (x ∷ xs) h = let q = and_parts (is_ranged x) (list_all is_ranged xs) h in and_from _ _ q.0 (site_ranges k s (suc c) xs q.1)
 
-pub all_ranges : (S : List SiteOf) (P : List CoordOf) → Known S P → (a s : ℕ) (args : List ArgOf) → list_all (is_known (length S) (length P)) args ≡ true → list_all has_range (vars_behind S P a s args) ≡ true
+pub all_ranges : (S : List SiteOf) (P : List CoordOf) → Known S P → (a s : ℕ) (args : List ArgOf)
+    → list_all (is_known (length S) (length P)) args ≡ true → list_all has_range (vars_behind S P a s args) ≡ true
 all_ranges S P g a s [] h = refl
 all_ranges S P g a s (SiteArg n t ∷ args) h =
     let q = and_parts (nat_lt t (length S)) (list_all (is_known (length S) (length P)) args) h in
     let x = get_all is_good_site S t g.sites (ltb-true t (length S) q.0) in
     let y = good_parts x.0 x.2 in
     let e = x.1 in
-    rw e (list_all-append has_range (site_vars a s 0 x.0.coords) (vars_behind S P (suc a) (suc s) args) ∙ and_from _ _ (site_ranges a s 0 x.0.coords y.2) (all_ranges S P g (suc a) (suc s) args q.1))
+    rw e (list_all-append has_range (site_vars a s 0 x.0.coords) (vars_behind S P (suc a) (suc s) args)
+    ∙ and_from _ _ (site_ranges a s 0 x.0.coords y.2) (all_ranges S P g (suc a) (suc s) args q.1))
 all_ranges S P g a s (ParamArg p ∷ args) h =
     let q = and_parts (nat_lt p (length P)) (list_all (is_known (length S) (length P)) args) h in
     let x = get_all is_ranged P p g.params (ltb-true p (length P) q.0) in
     let e = x.1 in
     rw e (and_from _ _ x.2 (all_ranges S P g (suc a) s args q.1))
 
--- how many of the variables behind the first one of a site start a site, start an argument, are params
-rest_none : (p : VarInfo → Bool) (k s c : ℕ) (xs : List CoordOf) → ((n : ℕ) (x : CoordOf) → p (record { arg = k; site = Some s; coord = suc n; lo = x.lo; hi = x.hi }) ≡ false) → count_by p (site_vars k s (suc c) xs) ≡ 0
+-- how many of the variables after the first one of a site start a site, start an argument, are params
+rest_none : (p : VarInfo → Bool) (k s c : ℕ) (xs : List CoordOf)
+    → ((n : ℕ) (x : CoordOf) → p (record { arg = k; site = Some s; coord = suc n; lo = x.lo; hi = x.hi }) ≡ false) → count_by p (site_vars k s (suc c) xs) ≡ 0
 rest_none p k s c [] h = refl
 rest_none p k s c (x ∷ xs) h =
     let e = h c x in
     let r = rest_none p k s (suc c) xs h in
     count_cons p (record { arg = k; site = Some s; coord = suc c; lo = x.lo; hi = x.hi }) (site_vars k s (suc (suc c)) xs) ∙ rw (e, r) refl
 
-site_one : (p : VarInfo → Bool) (k s : ℕ) (xs : List CoordOf) → 0 < length xs → ((x : CoordOf) → p (record { arg = k; site = Some s; coord = 0; lo = x.lo; hi = x.hi }) ≡ true)
+site_one : (p : VarInfo → Bool) (k s : ℕ) (xs : List CoordOf) → 0 < length xs
+    → ((x : CoordOf) → p (record { arg = k; site = Some s; coord = 0; lo = x.lo; hi = x.hi }) ≡ true)
     → ((n : ℕ) (x : CoordOf) → p (record { arg = k; site = Some s; coord = suc n; lo = x.lo; hi = x.hi }) ≡ false) → count_by p (site_vars k s 0 xs) ≡ 1
 site_one p k s [] l g h = absurd (omega arith)
 site_one p k s (x ∷ xs) l g h =
@@ -125,7 +137,8 @@ site_one p k s (x ∷ xs) l g h =
     let r = rest_none p k s 0 xs h in
     count_cons p (record { arg = k; site = Some s; coord = 0; lo = x.lo; hi = x.hi }) (site_vars k s 1 xs) ∙ rw (e, r) refl
 
-site_none : (p : VarInfo → Bool) (k s c : ℕ) (xs : List CoordOf) → ((n : ℕ) (x : CoordOf) → p (record { arg = k; site = Some s; coord = n; lo = x.lo; hi = x.hi }) ≡ false) → count_by p (site_vars k s c xs) ≡ 0
+site_none : (p : VarInfo → Bool) (k s c : ℕ) (xs : List CoordOf)
+    → ((n : ℕ) (x : CoordOf) → p (record { arg = k; site = Some s; coord = n; lo = x.lo; hi = x.hi }) ≡ false) → count_by p (site_vars k s c xs) ≡ 0
 site_none p k s c [] h = refl
 site_none p k s c (x ∷ xs) h =
     let e = h c x in
@@ -146,7 +159,8 @@ pub record Numbers (as' : List ArgOf) (vars : List VarInfo) : Type 0 where
 no_later : (n : ℕ) → (true && (suc n == 0)) ≡ false
 no_later n = not_first n
 
-pub all_numbers : (S : List SiteOf) (P : List CoordOf) → Known S P → (a s : ℕ) (args : List ArgOf) → list_all (is_known (length S) (length P)) args ≡ true → Numbers args (vars_behind S P a s args)
+pub all_numbers : (S : List SiteOf) (P : List CoordOf) → Known S P → (a s : ℕ) (args : List ArgOf)
+    → list_all (is_known (length S) (length P)) args ≡ true → Numbers args (vars_behind S P a s args)
 all_numbers S P g a s [] h = record { sites = refl; args = refl; params = refl; size = omega arith }
 all_numbers S P g a s (SiteArg n t ∷ args) h =
     let q = and_parts (nat_lt t (length S)) (list_all (is_known (length S) (length P)) args) h in
@@ -186,13 +200,15 @@ all_numbers S P g a s (ParamArg p ∷ args) h =
     (record { sites = omega arith; args = omega arith; params = omega arith; size = omega arith })
 
 -- the variables of known arguments are those of a shape
-pub laid_out : (S : List SiteOf) (P : List CoordOf) → Known S P → (args : List ArgOf) → list_all (is_known (length S) (length P)) args ≡ true → count_by is_site_said args ≤ 5 → length args ≤ count_by is_site_said args + 8
+pub laid_out : (S : List SiteOf) (P : List CoordOf) → Known S P → (args : List ArgOf) → list_all (is_known (length S) (length P)) args ≡ true
+    → count_by is_site_said args ≤ 5 → length args ≤ count_by is_site_said args + 8
     → is_laid_out (count_by is_site_said args) (vars_behind S P 0 0 args) ≡ true
 laid_out S P g args h sites params =
     let n = all_numbers S P g 0 0 args h in
     let vars = vars_behind S P 0 0 args in
     let a = n.sites in let b = n.params in let c = n.size in
-    and_from _ _ (and_from _ _ (and_from _ _ (and_from _ _ (and_from _ _ (all_order S P g 0 0 no_var args h) (all_ranges S P g 0 0 args h)) (eq-eqb (count_by starts_site vars) (count_by is_site_said args) a))
+    and_from _ _ (and_from _ _ (and_from _ _ (and_from _ _ (and_from _ _ (all_order S P g 0 0 no_var args h) (all_ranges S P g 0 0 args h))
+    (eq-eqb (count_by starts_site vars) (count_by is_site_said args) a))
     (le-leb (count_by is_site_said args) 5 sites)) (le-leb (count_by is_param vars) 8 (omega arith))) (le-leb (length vars) 168 (omega arith))
 
 -- a site type has at most 32 coordinates

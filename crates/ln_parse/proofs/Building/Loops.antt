@@ -1,5 +1,6 @@
 -- What a loop has at each element.
-use Rattle.std.proofs.Common.{◌≡◌, ℕ, suc, ◌<◌, ◌≤◌, ◌&&◌, Bool, true, false, cond, List, [], ◌∷◌, length, get_or, take, Option, Some, None, refl, ap, sym, ◌∙◌, subst, arith, length-take}
+use Rattle.std.proofs.Common.{◌≡◌, ℕ, suc, ◌<◌, ◌≤◌, ◌&&◌, Bool, true, false, cond, List, [], ◌∷◌, length, get_or, take, Option, Some, None}
+use Rattle.std.proofs.Common.{refl, ap, sym, ◌∙◌, subst, arith, length-take}
 use Rattle.std.specs.Prelude.{IfSome}
 use Rattle.std.specs.List.{list_all, find, position_from}
 use Rattle.std.proofs.lemmas.Bool.{and_parts, leb-true}
@@ -21,7 +22,8 @@ each_index P xs i x e l q =
     each_get P [] xs i x e (slice_get-get_or xs i x l ∙ ap (λ w. Some w) (sym q))
 
 -- the same of items that are seen without where they lie
-pub item_index : (P : List Item → Item → Type 0) (its : List RawItem) (i : ℕ) (x : RawItem) → Each P [] (items its) → i < length its → x ≡ get_or its i x → P (items (take i its)) (item x)
+pub item_index : (P : List Item → Item → Type 0) (its : List RawItem) (i : ℕ) (x : RawItem) → Each P [] (items its) → i < length its
+    → x ≡ get_or its i x → P (items (take i its)) (item x)
 item_index P its i x e l q =
     let m : get_or (items its) i (item x) ≡ item (get_or its i x) = get_or-map item its i x (item x) l in
     let n : length (items its) ≡ length its = lengths its in
@@ -38,7 +40,8 @@ pub below_byte : {A : Type 0} (p : A → Bool) (xs : List A) (o : Option ℕ) �
 below_byte p xs None h l = tt
 below_byte p xs (Some n) h l = let q = place_below p 0 xs n (sym h) in omega arith
 
-few_by : (p : Item → Bool) (x : Item) (is : List Item) (b : Bool) → p x ≡ b → is_few x ≡ true → length (coords_in (find p is)) ≤ 32 → length (coords_in (cond b (Some x) (find p is))) ≤ 32
+few_by : (p : Item → Bool) (x : Item) (is : List Item) (b : Bool) → p x ≡ b → is_few x ≡ true → length (coords_in (find p is)) ≤ 32
+    → length (coords_in (cond b (Some x) (find p is))) ≤ 32
 few_by p (SiteItem n cs) is true e f h = leb-true (length cs) 32 f
 few_by p (ParamItem n r) is true e f h = omega arith
 few_by p (PredItem n as' ls r) is true e f h = omega arith
@@ -53,7 +56,8 @@ few_of bytes is None h = omega arith
 few_of bytes is (Some a) h = few_coords (λ i. is_site i && same bytes (item_name i) a.kind) is h
 
 -- a byte counts what an expression can speak of
-pub is_narrow : (bytes : List ℕ) (is : List Item) (args : List RawArg) (ls : List RawLet) → list_all is_few is ≡ true → length args < 256 → length ls < 256 → IsNarrow bytes (scope is args ls)
+pub is_narrow : (bytes : List ℕ) (is : List Item) (args : List RawArg) (ls : List RawLet) → list_all is_few is ≡ true → length args < 256
+    → length ls < 256 → IsNarrow bytes (scope is args ls)
 is_narrow bytes is args ls f a l =
     record { args = a; lets = l; coords = λ at. let h = few_of bytes is (find (λ a. is_site_arg a && same bytes a.name at) args) f in omega arith }
 

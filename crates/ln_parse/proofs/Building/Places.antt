@@ -14,7 +14,7 @@ use Rattle.ln_parse.proofs.Building.Lists.{drop_item}
 use Rattle.ln_parse.specs.Says.{place, resolved, site_names, param_names}
 use Rattle.ln_parse.specs.Reading.{site_name, param_name}
 
--- the first place, looked for from the front on
+-- the first place, looked for from the beginning on
 pub position_is : {A : Type 0} (p : A → Bool) (xs : List A) (o : Option ℕ) → o ≡ position_from p 0 xs → position p xs ≡ o
 position_is p xs o h = position_from-zero p xs ∙ sym h
 
@@ -23,7 +23,8 @@ pub place_is : {A : Type 0} (p : A → Bool) (xs : List A) (o : Option ℕ) → 
 place_is p xs o h = sym (ap (λ (w : Option ℕ). unwrap_or w 0) (position_is p xs o h))
 
 -- a bare name that is a let
-pub name_is_let : (bytes : List ℕ) (s : Scope) (at : Span) (o : Option ℕ) (j n : ℕ) → o ≡ position_from (λ l. same bytes l.name at) 0 s.lets → o ≡ Some j → n ≡ j
+pub name_is_let : (bytes : List ℕ) (s : Scope) (at : Span) (o : Option ℕ) (j n : ℕ)
+    → o ≡ position_from (λ l. same bytes l.name at) 0 s.lets → o ≡ Some j → n ≡ j
     → FName at n ≡ resolved bytes s (TName at)
 name_is_let bytes s at o j n h is q = let p = position_is (λ l. same bytes l.name at) s.lets o h in rw (p, is, q) refl
 
@@ -49,18 +50,21 @@ params_named (Site name cs ∷ its) = params_named its
 params_named (Param name r ∷ its) = ap (λ (w : List Span). name ∷ w) (params_named its)
 params_named (Pred name as' ls p ∷ its) = params_named its
 
--- a loop that looks for a name's number among those that have a name: it has it, it goes on behind another, it passes one without
-pub number_found : {X Y : Type 0} (p : Y → Bool) (f : X → Option Y) (xs : List X) (i n : ℕ) (x : X) (y : Y) {r : Option ℕ} → i < length xs → x ≡ get_or xs i x → f x ≡ Some y → p y ≡ true → position_from p n (filter_map f (drop i xs)) ≡ r → Some n ≡ r
+-- a loop that looks for a name's number among those that have a name: it has it, it goes on after another, it passes one without
+pub number_found : {X Y : Type 0} (p : Y → Bool) (f : X → Option Y) (xs : List X) (i n : ℕ) (x : X) (y : Y) {r : Option ℕ} → i < length xs
+    → x ≡ get_or xs i x → f x ≡ Some y → p y ≡ true → position_from p n (filter_map f (drop i xs)) ≡ r → Some n ≡ r
 number_found p f xs i n x y l e s h q =
     let d : drop i xs ≡ x ∷ drop (i + 1) xs = drop_item xs i x l e in
     sym (rw (d, s, h) refl) ∙ q
 
-pub number_on : {X Y : Type 0} (p : Y → Bool) (f : X → Option Y) (xs : List X) (i n : ℕ) (x : X) (y : Y) {r : Option ℕ} → i < length xs → x ≡ get_or xs i x → f x ≡ Some y → p y ≡ false → position_from p n (filter_map f (drop i xs)) ≡ r → position_from p (n + 1) (filter_map f (drop (i + 1) xs)) ≡ r
+pub number_on : {X Y : Type 0} (p : Y → Bool) (f : X → Option Y) (xs : List X) (i n : ℕ) (x : X) (y : Y) {r : Option ℕ} → i < length xs → x ≡ get_or xs i x
+    → f x ≡ Some y → p y ≡ false → position_from p n (filter_map f (drop i xs)) ≡ r → position_from p (n + 1) (filter_map f (drop (i + 1) xs)) ≡ r
 number_on p f xs i n x y l e s h q =
     let d : drop i xs ≡ x ∷ drop (i + 1) xs = drop_item xs i x l e in
     sym (rw (d, s, h) refl) ∙ q
 
-pub number_skip : {X Y : Type 0} (p : Y → Bool) (f : X → Option Y) (xs : List X) (i n : ℕ) (x : X) {r : Option ℕ} → i < length xs → x ≡ get_or xs i x → f x ≡ None → position_from p n (filter_map f (drop i xs)) ≡ r → position_from p n (filter_map f (drop (i + 1) xs)) ≡ r
+pub number_skip : {X Y : Type 0} (p : Y → Bool) (f : X → Option Y) (xs : List X) (i n : ℕ) (x : X) {r : Option ℕ} → i < length xs
+    → x ≡ get_or xs i x → f x ≡ None → position_from p n (filter_map f (drop i xs)) ≡ r → position_from p n (filter_map f (drop (i + 1) xs)) ≡ r
 number_skip p f xs i n x l e s q =
     let d : drop i xs ≡ x ∷ drop (i + 1) xs = drop_item xs i x l e in
     sym (rw (d, s) refl) ∙ q

@@ -12,7 +12,8 @@ use Rattle.ln_syntax.specs.declared.raw.RawArg.{RawArg}
 use Rattle.ln_syntax.specs.declared.raw.RawLet.{RawLet}
 use Rattle.ln_syntax.specs.Raw.{Item, SiteItem, ParamItem, PredItem, Is, is_site, is_param, span_at}
 use Rattle.ln_syntax.specs.Expression.{IsExpr}
-use Rattle.ln_syntax.specs.File.{Coords, no_coord, coord, Arg, site_arg, param_arg, Args, last_arg, more_args, Lets, no_let, a_let, IsItem, site, param, predicate, Items, no_item, an_item, Spelt}
+use Rattle.ln_syntax.specs.File.{Coords, no_coord, coord, Arg, site_arg, param_arg, Args, last_arg, more_args, Lets, no_let, a_let, IsItem}
+use Rattle.ln_syntax.specs.File.{site, param, predicate, Items, no_item, an_item, Spelt}
 use Rattle.ln_names.specs.Rules.{Scope}
 use Rattle.ln_names.specs.Limits.{Each, CoordWithin, ArgWithin, LetWithin, ItemWithin, ValueWithin, FileWithin}
 use Rattle.ln_names.proofs.Faultless.{faultless_is_within}
@@ -25,24 +26,31 @@ use Rattle.ln_parse.proofs.Expressions.Counts.{node_count_is}
 use Rattle.ln_parse.proofs.Building.LaidOut.{count_cons, count_append}
 
 -- an expression whose tokens are within the limits
-value_ready : {bytes : List ℕ} {ts : List Token} {s : Scope} {i j : ℕ} → IsExpr ts i j → Is ts j Semi → Fresh ts i → ValueWithin bytes ts s (record { from = i; to = j }) → ReadyValue bytes ts s (record { from = i; to = j })
+value_ready : {bytes : List ℕ} {ts : List Token} {s : Scope} {i j : ℕ} → IsExpr ts i j → Is ts j Semi → Fresh ts i
+    → ValueWithin bytes ts s (record { from = i; to = j }) → ReadyValue bytes ts s (record { from = i; to = j })
 value_ready {bytes = bytes} {s = s} e m f w =
     record { tree = e.0; derives = e.1; ends = m; fit = is_fit {s = s} (record { each = w }) e.1 m f; counted = node_count_is bytes s e.1 m f }
 
-coords_ready : (bytes : List ℕ) (ts : List Token) (before : List RawCoord) {i j : ℕ} {cs : List RawCoord} → Sliced bytes ts → Coords ts i j cs → Each (CoordWithin bytes) before cs → Each (λ before c. ReadyCoord bytes c) before cs
+coords_ready : (bytes : List ℕ) (ts : List Token) (before : List RawCoord) {i j : ℕ} {cs : List RawCoord} → Sliced bytes ts
+    → Coords ts i j cs → Each (CoordWithin bytes) before cs → Each (λ before c. ReadyCoord bytes c) before cs
 coords_ready bytes ts before s no_coord w = tt
-coords_ready bytes ts before s (coord {i = i} {r = r} n c g m d) w =
-    (record { name = record { named = name_text bytes ts i s n; short = w.0.short }; range = w.0.range }, coords_ready bytes ts (before ++ (record { name = span_at ts i; range = r } ∷ [])) s d w.1)
+coords_ready bytes ts before s (coord {i = i} {r = r} n c g m d) w = (
+  record { name = record { named = name_text bytes ts i s n; short = w.0.short }; range = w.0.range },
+  coords_ready bytes ts (before ++ (record { name = span_at ts i; range = r } ∷ [])) s d w.1,
+)
 
-arg_ready : (bytes : List ℕ) (ts : List Token) (is : List Item) (before : List RawArg) {i : ℕ} {a : RawArg} → Sliced bytes ts → Arg ts i a → ArgWithin bytes is before a → ReadyArg bytes is a
+arg_ready : (bytes : List ℕ) (ts : List Token) (is : List Item) (before : List RawArg) {i : ℕ} {a : RawArg} → Sliced bytes ts → Arg ts i a
+    → ArgWithin bytes is before a → ReadyArg bytes is a
 arg_ready bytes ts is before s (site_arg {i = i} n c k) w = record { name = record { named = name_text bytes ts i s n; short = w.short }; known = w.known }
 arg_ready bytes ts is before s (param_arg {i = i} n c k) w = record { name = record { named = name_text bytes ts i s n; short = w.short }; known = w.known }
 
-args_ready : (bytes : List ℕ) (ts : List Token) (is : List Item) (before : List RawArg) {i j : ℕ} {args : List RawArg} → Sliced bytes ts → Args ts i j args → Each (ArgWithin bytes is) before args → Each (λ before a. ReadyArg bytes is a) before args
+args_ready : (bytes : List ℕ) (ts : List Token) (is : List Item) (before : List RawArg) {i j : ℕ} {args : List RawArg} → Sliced bytes ts
+    → Args ts i j args → Each (ArgWithin bytes is) before args → Each (λ before a. ReadyArg bytes is a) before args
 args_ready bytes ts is before s (last_arg d) w = (arg_ready bytes ts is before s d w.0, tt)
 args_ready bytes ts is before s (more_args {a = a} d m r) w = (arg_ready bytes ts is before s d w.0, args_ready bytes ts is (before ++ (a ∷ [])) s r w.1)
 
-lets_ready : (bytes : List ℕ) (ts : List Token) (is : List Item) (args : List RawArg) (before : List RawLet) {i j : ℕ} {ls : List RawLet} → Sliced bytes ts → Lets ts i j ls → Each (LetWithin bytes ts is args) before ls
+lets_ready : (bytes : List ℕ) (ts : List Token) (is : List Item) (args : List RawArg) (before : List RawLet) {i j : ℕ} {ls : List RawLet}
+    → Sliced bytes ts → Lets ts i j ls → Each (LetWithin bytes ts is args) before ls
     → Each (ReadyLet bytes ts is args) before ls
 lets_ready bytes ts is args before s no_let w = tt
 lets_ready bytes ts is args before s (a_let {i = i} {j = j} l n q e m r) w = (
@@ -50,10 +58,16 @@ lets_ready bytes ts is args before s (a_let {i = i} {j = j} l n q e m r) w = (
   lets_ready bytes ts is args (before ++ (record { name = span_at ts (suc i); value = record { from = suc (suc (suc i)); to = j } } ∷ [])) s r w.1,
 )
 
-item_ready : (bytes : List ℕ) (ts : List Token) (before : List Item) {i j : ℕ} {x : Item} → Sliced bytes ts → list_all is_few before ≡ true → length (site_names before) ≤ 16 → length (param_names before) ≤ 16 → IsItem ts i j x → ItemWithin bytes ts before x
+item_ready : (bytes : List ℕ) (ts : List Token) (before : List Item) {i j : ℕ} {x : Item} → Sliced bytes ts → list_all is_few before ≡ true
+    → length (site_names before) ≤ 16 → length (param_names before) ≤ 16 → IsItem ts i j x → ItemWithin bytes ts before x
     → ReadyItem bytes ts before x
 item_ready bytes ts before s f m n (site {i = i} {c = c} {cs = cs} k a o d e) w =
-    record { name = record { named = name_text bytes ts (suc i) s a; short = w.short }; some = omega arith; few = w.parts.0; coords = coords_ready bytes ts [] s d w.parts.1 }
+    record {
+      name = record { named = name_text bytes ts (suc i) s a; short = w.short };
+      some = omega arith;
+      few = w.parts.0;
+      coords = coords_ready bytes ts [] s d w.parts.1;
+    }
 item_ready bytes ts before s f m n (param {i = i} k a o d e) w =
     record { name = record { named = name_text bytes ts (suc i) s a; short = w.short }; range = w.parts }
 item_ready bytes ts before s f m n (predicate {i = i} {j = j} {k = k} {l = l} {args = args} {ls = ls} p a o d q b g h e t r) w =
@@ -79,30 +93,51 @@ few_item bytes ts before (PredItem name args ls root) w = refl
 -- there are as many names of site types, and of params, as such items
 pub sites_counted : (is : List Item) → length (site_names is) ≡ count_by is_site is
 sites_counted [] = refl
-sites_counted (SiteItem n cs ∷ is) = let r = sites_counted is in let c : count_by is_site (SiteItem n cs ∷ is) ≡ 1 + count_by is_site is = count_cons is_site (SiteItem n cs) is in omega arith
-sites_counted (ParamItem n r ∷ is) = let q = sites_counted is in let c : count_by is_site (ParamItem n r ∷ is) ≡ 0 + count_by is_site is = count_cons is_site (ParamItem n r) is in omega arith
-sites_counted (PredItem n as' ls r ∷ is) = let q = sites_counted is in let c : count_by is_site (PredItem n as' ls r ∷ is) ≡ 0 + count_by is_site is = count_cons is_site (PredItem n as' ls r) is in omega arith
+sites_counted (SiteItem n cs ∷ is) =
+    let r = sites_counted is in
+    let c : count_by is_site (SiteItem n cs ∷ is) ≡ 1 + count_by is_site is = count_cons is_site (SiteItem n cs) is in
+    omega arith
+sites_counted (ParamItem n r ∷ is) =
+    let q = sites_counted is in
+    let c : count_by is_site (ParamItem n r ∷ is) ≡ 0 + count_by is_site is = count_cons is_site (ParamItem n r) is in
+    omega arith
+sites_counted (PredItem n as' ls r ∷ is) =
+    let q = sites_counted is in
+    let c : count_by is_site (PredItem n as' ls r ∷ is) ≡ 0 + count_by is_site is = count_cons is_site (PredItem n as' ls r) is in
+    omega arith
 
 pub params_counted : (is : List Item) → length (param_names is) ≡ count_by is_param is
 params_counted [] = refl
-params_counted (SiteItem n cs ∷ is) = let r = params_counted is in let c : count_by is_param (SiteItem n cs ∷ is) ≡ 0 + count_by is_param is = count_cons is_param (SiteItem n cs) is in omega arith
-params_counted (ParamItem n r ∷ is) = let q = params_counted is in let c : count_by is_param (ParamItem n r ∷ is) ≡ 1 + count_by is_param is = count_cons is_param (ParamItem n r) is in omega arith
-params_counted (PredItem n as' ls r ∷ is) = let q = params_counted is in let c : count_by is_param (PredItem n as' ls r ∷ is) ≡ 0 + count_by is_param is = count_cons is_param (PredItem n as' ls r) is in omega arith
+params_counted (SiteItem n cs ∷ is) =
+    let r = params_counted is in
+    let c : count_by is_param (SiteItem n cs ∷ is) ≡ 0 + count_by is_param is = count_cons is_param (SiteItem n cs) is in
+    omega arith
+params_counted (ParamItem n r ∷ is) =
+    let q = params_counted is in
+    let c : count_by is_param (ParamItem n r ∷ is) ≡ 1 + count_by is_param is = count_cons is_param (ParamItem n r) is in
+    omega arith
+params_counted (PredItem n as' ls r ∷ is) =
+    let q = params_counted is in
+    let c : count_by is_param (PredItem n as' ls r ∷ is) ≡ 0 + count_by is_param is = count_cons is_param (PredItem n as' ls r) is in
+    omega arith
 
-moved : {A : Type 0} (p : A → Bool) (before : List A) (x : A) (xs : List A) (n : ℕ) → count_by p before + count_by p (x ∷ xs) ≤ n → count_by p (before ++ (x ∷ [])) + count_by p xs ≤ n
+moved : {A : Type 0} (p : A → Bool) (before : List A) (x : A) (xs : List A) (n : ℕ) → count_by p before + count_by p (x ∷ xs) ≤ n
+    → count_by p (before ++ (x ∷ [])) + count_by p xs ≤ n
 moved p before x xs n h =
     let a = count_cons p x xs in
     let b = count_append p before (x ∷ []) in
     let c = count_cons p x [] in
     let d : count_by p [] ≡ 0 = refl in omega arith
 
-items_ready : (bytes : List ℕ) (ts : List Token) (before : List Item) {i j : ℕ} {xs : List Item} → Sliced bytes ts → list_all is_few before ≡ true → count_by is_site before + count_by is_site xs ≤ 16 → count_by is_param before + count_by is_param xs ≤ 16
+items_ready : (bytes : List ℕ) (ts : List Token) (before : List Item) {i j : ℕ} {xs : List Item} → Sliced bytes ts
+    → list_all is_few before ≡ true → count_by is_site before + count_by is_site xs ≤ 16 → count_by is_param before + count_by is_param xs ≤ 16
     → Items ts i j xs → Each (ItemWithin bytes ts) before xs → Each (ReadyItem bytes ts) before xs
 items_ready bytes ts before s f m n no_item w = tt
 items_ready bytes ts before s f m n (an_item {x = x} {xs = xs} d r) w =
     let a = sites_counted before in
     let b = params_counted before in
-    let g : list_all is_few (before ++ (x ∷ [])) ≡ true = list_all-append is_few before (x ∷ []) ∙ and_from _ _ f (and_from _ _ (few_item bytes ts before x w.0) refl) in (
+    let g : list_all is_few (before ++ (x ∷ [])) ≡ true =
+    list_all-append is_few before (x ∷ []) ∙ and_from _ _ f (and_from _ _ (few_item bytes ts before x w.0) refl) in (
       item_ready bytes ts before s f (omega arith) (omega arith) d w.0,
       items_ready bytes ts (before ++ (x ∷ [])) s g (moved is_site before x xs 16 m) (moved is_param before x xs 16 n) r w.1,
     )

@@ -1,5 +1,6 @@
 -- What a turn of a loop keeps that builds a list.
-use Rattle.std.proofs.Common.{◌≡◌, ◌∙◌, ℕ, suc, ◌+◌, ◌<◌, ◌≤◌, List, [], ◌∷◌, ◌++◌, append_assoc, length, map, get_or, take, drop, drop-cons, add-one, Some, refl, ap, sym, arith}
+use Rattle.std.proofs.Common.{◌≡◌, ◌∙◌, ℕ, suc, ◌+◌, ◌<◌, ◌≤◌, List, [], ◌∷◌, ◌++◌, append_assoc, length, map, get_or, take, drop}
+use Rattle.std.proofs.Common.{drop-cons, add-one, Some, refl, ap, sym, arith}
 use Rattle.std.specs.Prelude.{slice_get, count_by}
 use Rattle.std.proofs.Math.Seq.{take-suc}
 use Rattle.std.proofs.lemmas.List.{append-nil, drop_all, map_push, take_all}
@@ -11,7 +12,8 @@ use Rattle.ln_parse.specs.Says.{coords_or, is_site_said, param_vars, site_vars, 
 
 -- ---- lists that are seen through a function
 -- one more element
-pub one_mapped : {A B C : Type 0} (f : A → C) (g : B → C) (xs : List B) (i : ℕ) (d : B) (y : A) (ys now : List A) → i < length xs → f y ≡ g (get_or xs i d) → now ≡ ys ++ y ∷ []
+pub one_mapped : {A B C : Type 0} (f : A → C) (g : B → C) (xs : List B) (i : ℕ) (d : B) (y : A) (ys now : List A) → i < length xs
+    → f y ≡ g (get_or xs i d) → now ≡ ys ++ y ∷ []
     → map f ys ≡ map g (take i xs) → map f now ≡ map g (take (i + 1) xs)
 one_mapped f g xs i d y ys now l e n inv =
     rw (n, map_push f ys y, inv, e, add-one i, take-suc xs i d l, map_push g (take i xs) (get_or xs i d)) refl
@@ -29,7 +31,8 @@ same_site_of n m cs ds p q = rw (p, q) refl
 
 -- ---- variables
 -- the variable of one more coordinate
-pub one_coord : (k s c : ℕ) (coords : List Coord) (x : Coord) (vars now all : List VarInfo) → c < length coords → x ≡ get_or coords c x → now ≡ vars ++ record { arg = k; site = Some s; coord = c; lo = x.lo; hi = x.hi } ∷ []
+pub one_coord : (k s c : ℕ) (coords : List Coord) (x : Coord) (vars now all : List VarInfo) → c < length coords → x ≡ get_or coords c x
+    → now ≡ vars ++ record { arg = k; site = Some s; coord = c; lo = x.lo; hi = x.hi } ∷ []
     → vars ++ site_vars k s c (map coord_of (drop c coords)) ≡ all → now ++ site_vars k s (c + 1) (map coord_of (drop (c + 1) coords)) ≡ all
 one_coord k s c coords x vars now all l q n inv =
     let e : drop c coords ≡ x ∷ drop (suc c) coords = drop-cons coords c x l ∙ ap (λ w. w ∷ drop (suc c) coords) (sym q) in
@@ -46,25 +49,30 @@ module _ (args : List Arg) (k : ℕ) where
       → vars ++ vars_behind sites params k s (map arg_of (drop k args)) ≡ all → now ++ vars_behind sites params (k + 1) n (map arg_of (drop (k + 1) args)) ≡ all
   one_arg sites params s n x vars now all l q h inv = rw (add-one k) (h (map arg_of (drop (suc k) args)) ∙ rw (here x l q) at inv)
 
-  -- and the sites behind it
-  pub one_seen : (s n all : ℕ) (x : Arg) → k < length args → x ≡ get_or args k x → ((rest : List ArgOf) → n + count_by is_site_said rest ≡ s + count_by is_site_said (arg_of x ∷ rest))
+  -- and the sites after it
+  pub one_seen : (s n all : ℕ) (x : Arg) → k < length args → x ≡ get_or args k x
+      → ((rest : List ArgOf) → n + count_by is_site_said rest ≡ s + count_by is_site_said (arg_of x ∷ rest))
       → s + count_by is_site_said (map arg_of (drop k args)) ≡ all → n + count_by is_site_said (map arg_of (drop (k + 1) args)) ≡ all
   one_seen s n all x l q h inv = rw (add-one k) (h (map arg_of (drop (suc k) args)) ∙ rw (here x l q) at inv)
 
-  -- behind the last argument
-  pub all_args : (sites : List SiteOf) (params : List CoordOf) (s : ℕ) (vars all : List VarInfo) → length args ≤ k → vars ++ vars_behind sites params k s (map arg_of (drop k args)) ≡ all → vars ≡ all
+  -- after the last argument
+  pub all_args : (sites : List SiteOf) (params : List CoordOf) (s : ℕ) (vars all : List VarInfo) → length args ≤ k
+      → vars ++ vars_behind sites params k s (map arg_of (drop k args)) ≡ all → vars ≡ all
   all_args sites params s vars all l inv = sym (append-nil vars) ∙ rw (drop_all k args l) at inv
 
   pub all_seen : (s all : ℕ) → length args ≤ k → s + count_by is_site_said (map arg_of (drop k args)) ≡ all → s ≡ all
   all_seen s all l inv = let e : s + count_by is_site_said [] ≡ all = rw (drop_all k args l) at inv in omega (arith, e)
 
 -- the variables of a site are those of its coordinates
-pub site_arg : (sites : List SiteOf) (params : List CoordOf) (k s t : ℕ) (cs : List CoordOf) (vars now : List VarInfo) → now ≡ vars ++ site_vars k s 0 cs → cs ≡ coords_or (slice_get sites t)
-    → (rest : List ArgOf) → now ++ vars_behind sites params (suc k) (s + 1) rest ≡ vars ++ (site_vars k s 0 (coords_or (slice_get sites t)) ++ vars_behind sites params (suc k) (suc s) rest)
+pub site_arg : (sites : List SiteOf) (params : List CoordOf) (k s t : ℕ) (cs : List CoordOf) (vars now : List VarInfo)
+    → now ≡ vars ++ site_vars k s 0 cs → cs ≡ coords_or (slice_get sites t)
+    → (rest : List ArgOf) → now ++ vars_behind sites params (suc k) (s + 1) rest
+    ≡ vars ++ (site_vars k s 0 (coords_or (slice_get sites t)) ++ vars_behind sites params (suc k) (suc s) rest)
 site_arg sites params k s t cs vars now n q rest =
     rw (n, q, add-one s) (append_assoc vars (site_vars k s 0 (coords_or (slice_get sites t))) (vars_behind sites params (suc k) (suc s) rest))
 
 -- and those of a param its own
 pub param_arg : (sites : List SiteOf) (params : List CoordOf) (k s p : ℕ) (vars now : List VarInfo) → now ≡ vars ++ param_vars k (slice_get params p)
-    → (rest : List ArgOf) → now ++ vars_behind sites params (suc k) s rest ≡ vars ++ (param_vars k (slice_get params p) ++ vars_behind sites params (suc k) s rest)
+    → (rest : List ArgOf)
+    → now ++ vars_behind sites params (suc k) s rest ≡ vars ++ (param_vars k (slice_get params p) ++ vars_behind sites params (suc k) s rest)
 param_arg sites params k s p vars now n rest = rw n (append_assoc vars (param_vars k (slice_get params p)) (vars_behind sites params (suc k) s rest))

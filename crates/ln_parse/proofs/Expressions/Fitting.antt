@@ -1,5 +1,6 @@
 -- Resolved expressions are fit for a predicate.
-use Rattle.std.proofs.Common.{◌≡◌, ℕ, ◌<◌, ◌^◌, ◌&&◌, ◌||◌, not, Bool, true, false, List, [], ◌∷◌, ◌++◌, length, map, Option, Some, None, refl, ap, ◌∙◌, subst, arith}
+use Rattle.std.proofs.Common.{◌≡◌, ℕ, ◌<◌, ◌^◌, ◌&&◌, ◌||◌, not, Bool, true, false, List, [], ◌∷◌, ◌++◌, length, map, Option, Some, None}
+use Rattle.std.proofs.Common.{refl, ap, ◌∙◌, subst, arith}
 use Rattle.std.specs.Prelude.{slice_get, position, option_map, int_lt, pos}
 use Rattle.std.specs.List.{list_any, list_all, find, position_or_len}
 use Rattle.std.proofs.lemmas.Bool.{and_parts, and_from, lt-ltb, le-leb, not-true}
@@ -21,9 +22,10 @@ use Rattle.ln_tree.specs.Fits.{is_fit}
 use Rattle.ln_tree.specs.Table.{CoordOf, SiteOf, ArgOf, SiteArg, ParamArg}
 use Rattle.ln_parse.specs.Says.{place, resolved, name_of, arg_said, site_names, param_names, sites_said, params_said, vars_behind}
 use Rattle.ln_parse.specs.Ready.{Declares, Fit, is_known}
-use Rattle.ln_parse.proofs.Expressions.Found.{found_at, place_len, position_below, no_position, number_from, coord_there, param_there, site_found, param_found, get_longer, each_get}
+use Rattle.ln_parse.proofs.Expressions.Found.{found_at, place_len, position_below, no_position, number_from, coord_there, param_there}
+use Rattle.ln_parse.proofs.Expressions.Found.{site_found, param_found, get_longer, each_get}
 
--- what stands behind the colons of arguments is declared
+-- what follows the colons of arguments is declared
 pub record Sees (bytes : List ℕ) (is : List Item) (raws : List RawArg) (S : List SiteOf) (P : List CoordOf) : Type 0 where
   pub declares : Declares bytes is S P
   pub known : Each (λ before a. IsKnown bytes is a a.is_param) [] raws
@@ -38,49 +40,66 @@ pub record TypeFound (bytes : List ℕ) (is : List Item) (S : List SiteOf) (kind
   pub there : slice_get S (place (λ n. same bytes n kind) (site_names is)) ≡ Some site
   pub size : length site.coords ≡ length (coords_in (find (λ i. is_site i && same bytes (item_name i) kind) is))
 
-pub type_found : (bytes : List ℕ) (is : List Item) (S : List SiteOf) (P : List CoordOf) (kind : Span) → Declares bytes is S P → list_any (λ i. is_site i && same bytes (item_name i) kind) is ≡ true → TypeFound bytes is S kind
+pub type_found : (bytes : List ℕ) (is : List Item) (S : List SiteOf) (P : List CoordOf) (kind : Span) → Declares bytes is S P
+    → list_any (λ i. is_site i && same bytes (item_name i) kind) is ≡ true → TypeFound bytes is S kind
 type_found bytes is S P kind d h =
     let q = λ (n : Span). same bytes n kind in
     let f = site_found bytes q is h in
     let e : place q (site_names is) ≡ position_or_len q (site_names is) = place_len q (site_names is) f.named in
-    let g : slice_get (sites_said bytes is ++ d.more_sites) (position_or_len q (site_names is)) ≡ Some f.site = get_longer (sites_said bytes is) d.more_sites (position_or_len q (site_names is)) f.site f.there in
-    record { site = f.site; there = ap (slice_get S) e ∙ ap (λ (w : List SiteOf). slice_get w (position_or_len q (site_names is))) d.sites_are ∙ g; size = f.size }
+    let g : slice_get (sites_said bytes is ++ d.more_sites) (position_or_len q (site_names is)) ≡ Some f.site =
+    get_longer (sites_said bytes is) d.more_sites (position_or_len q (site_names is)) f.site f.there in
+    record {
+      site = f.site;
+      there = ap (slice_get S) e ∙ ap (λ (w : List SiteOf). slice_get w (position_or_len q (site_names is))) d.sites_are ∙ g;
+      size = f.size;
+    }
 
-pub value_found : (bytes : List ℕ) (is : List Item) (S : List SiteOf) (P : List CoordOf) (name : Span) → Declares bytes is S P → list_any (λ i. is_param i && same bytes (item_name i) name) is ≡ true
+pub value_found : (bytes : List ℕ) (is : List Item) (S : List SiteOf) (P : List CoordOf) (name : Span) → Declares bytes is S P
+    → list_any (λ i. is_param i && same bytes (item_name i) name) is ≡ true
     → (x : CoordOf) × (slice_get P (place (λ n. same bytes n name) (param_names is)) ≡ Some x)
 value_found bytes is S P name d h =
     let q = λ (n : Span). same bytes n name in
     let f = param_found bytes q is h in
     let e : place q (param_names is) ≡ position_or_len q (param_names is) = place_len q (param_names is) f.named in
-    let g : slice_get (params_said bytes is ++ d.more_params) (position_or_len q (param_names is)) ≡ Some f.param = get_longer (params_said bytes is) d.more_params (position_or_len q (param_names is)) f.param f.there in
+    let g : slice_get (params_said bytes is ++ d.more_params) (position_or_len q (param_names is)) ≡ Some f.param =
+    get_longer (params_said bytes is) d.more_params (position_or_len q (param_names is)) f.param f.there in
     (f.param, ap (slice_get P) e ∙ ap (λ (w : List CoordOf). slice_get w (position_or_len q (param_names is))) d.params_are ∙ g)
 
-known_one : (bytes : List ℕ) (is : List Item) (S : List SiteOf) (P : List CoordOf) (a : RawArg) (b : Bool) → Declares bytes is S P → IsKnown bytes is a b → is_known (length S) (length P) (arg_said bytes is a b) ≡ true
+known_one : (bytes : List ℕ) (is : List Item) (S : List SiteOf) (P : List CoordOf) (a : RawArg) (b : Bool) → Declares bytes is S P
+    → IsKnown bytes is a b → is_known (length S) (length P) (arg_said bytes is a b) ≡ true
 known_one bytes is S P a true d k = let f = value_found bytes is S P a.name d k in lt-ltb _ (length P) (slice_get_within P _ f.0 f.1)
 known_one bytes is S P a false d k = let f = type_found bytes is S P a.kind d k in lt-ltb _ (length S) (slice_get_within S _ f.site f.there)
 
-known_from : (bytes : List ℕ) (is : List Item) (S : List SiteOf) (P : List CoordOf) (before raws : List RawArg) → Declares bytes is S P → Each (λ before a. IsKnown bytes is a a.is_param) before raws
+known_from : (bytes : List ℕ) (is : List Item) (S : List SiteOf) (P : List CoordOf) (before raws : List RawArg) → Declares bytes is S P
+    → Each (λ before a. IsKnown bytes is a a.is_param) before raws
     → list_all (is_known (length S) (length P)) (said bytes is raws) ≡ true
 known_from bytes is S P before [] d e = refl
-known_from bytes is S P before (a ∷ raws) d e = and_from _ _ (known_one bytes is S P a a.is_param d e.0) (known_from bytes is S P (before ++ (a ∷ [])) raws d e.1)
+known_from bytes is S P before (a ∷ raws) d e =
+    and_from _ _ (known_one bytes is S P a a.is_param d e.0) (known_from bytes is S P (before ++ (a ∷ [])) raws d e.1)
 
 -- the arguments are of the table's site types and params
-pub all_known : (bytes : List ℕ) (is : List Item) (raws : List RawArg) (S : List SiteOf) (P : List CoordOf) → Sees bytes is raws S P → list_all (is_known (length S) (length P)) (said bytes is raws) ≡ true
+pub all_known : (bytes : List ℕ) (is : List Item) (raws : List RawArg) (S : List SiteOf) (P : List CoordOf) → Sees bytes is raws S P
+    → list_all (is_known (length S) (length P)) (said bytes is raws) ≡ true
 all_known bytes is raws S P s = known_from bytes is S P [] raws s.declares s.known
 
-pub said_site : (bytes : List ℕ) (is : List Item) (a : RawArg) (b : Bool) → b ≡ false → arg_said bytes is a b ≡ SiteArg (text bytes a.name) (place (λ n. same bytes n a.kind) (site_names is))
+pub said_site : (bytes : List ℕ) (is : List Item) (a : RawArg) (b : Bool) → b ≡ false
+    → arg_said bytes is a b ≡ SiteArg (text bytes a.name) (place (λ n. same bytes n a.kind) (site_names is))
 said_site bytes is a b h = ap (arg_said bytes is a) h
 
-pub said_param : (bytes : List ℕ) (is : List Item) (a : RawArg) (b : Bool) → b ≡ true → arg_said bytes is a b ≡ ParamArg (place (λ n. same bytes n a.name) (param_names is))
+pub said_param : (bytes : List ℕ) (is : List Item) (a : RawArg) (b : Bool) → b ≡ true
+    → arg_said bytes is a b ≡ ParamArg (place (λ n. same bytes n a.name) (param_names is))
 said_param bytes is a b h = ap (arg_said bytes is a) h
 
-pub said_at : (bytes : List ℕ) (is : List Item) (raws : List RawArg) (k : ℕ) (a : RawArg) → slice_get raws k ≡ Some a → slice_get (said bytes is raws) k ≡ Some (arg_said bytes is a a.is_param)
+pub said_at : (bytes : List ℕ) (is : List Item) (raws : List RawArg) (k : ℕ) (a : RawArg) → slice_get raws k ≡ Some a
+    → slice_get (said bytes is raws) k ≡ Some (arg_said bytes is a a.is_param)
 said_at bytes is raws k a h = slice_get-map (λ a. arg_said bytes is a a.is_param) raws k ∙ ap (option_map (λ a. arg_said bytes is a a.is_param)) h
 
 -- an input is a variable
-pub input_number : (bytes : List ℕ) (is : List Item) (raws : List RawArg) (ls : List RawLet) (S : List SiteOf) (P : List CoordOf) (at x : Span) → Sees bytes is raws S P → has_site_arg bytes raws at ≡ true
+pub input_number : (bytes : List ℕ) (is : List Item) (raws : List RawArg) (ls : List RawLet) (S : List SiteOf) (P : List CoordOf) (at x : Span)
+    → Sees bytes is raws S P → has_site_arg bytes raws at ≡ true
     → list_any (λ c. same bytes c.name x) (coords_at bytes (scope is raws ls) at) ≡ true
-    → number_or_end (vars_behind S P 0 0 (said bytes is raws)) (place (λ a. is_site_arg a && same bytes a.name at) raws) (place (λ c. same bytes c.name x) (coords_at bytes (scope is raws ls) at))
+    → number_or_end (vars_behind S P 0 0 (said bytes is raws)) (place (λ a. is_site_arg a && same bytes a.name at) raws)
+    (place (λ c. same bytes c.name x) (coords_at bytes (scope is raws ls) at))
     < length (vars_behind S P 0 0 (said bytes is raws))
 input_number bytes is raws ls S P at x s h g =
     let p = λ (a : RawArg). is_site_arg a && same bytes a.name at in
@@ -93,16 +112,20 @@ input_number bytes is raws ls S P at x s h g =
     let kn : IsKnown bytes is a a.is_param = each_get (λ before a. IsKnown bytes is a a.is_param) [] raws k a s.known f.there in
     let ks : IsKnown bytes is a false = subst (λ (b : Bool). IsKnown bytes is a b) no kn in
     let t = type_found bytes is S P a.kind s.declares ks in
-    let here : slice_get (said bytes is raws) k ≡ Some (SiteArg (text bytes a.name) (place (λ n. same bytes n a.kind) (site_names is))) = said_at bytes is raws k a f.there ∙ ap (λ (w : ArgOf). Some w) (said_site bytes is a a.is_param no) in
-    let size : length cs ≡ length (coords_in (find (λ i. is_site i && same bytes (item_name i) a.kind) is)) = ap (λ (o : Option RawArg). length (coords_of bytes is o)) f.found in
+    let here : slice_get (said bytes is raws) k ≡ Some (SiteArg (text bytes a.name) (place (λ n. same bytes n a.kind) (site_names is))) =
+    said_at bytes is raws k a f.there ∙ ap (λ (w : ArgOf). Some w) (said_site bytes is a a.is_param no) in
+    let size : length cs ≡ length (coords_in (find (λ i. is_site i && same bytes (item_name i) a.kind) is)) =
+    ap (λ (o : Option RawArg). length (coords_of bytes is o)) f.found in
     let below = (found_at (λ (c : RawCoord). same bytes c.name x) cs g).below in
     let ts = t.size in
     number_from (vars_behind S P 0 0 (said bytes is raws)) k c
     (coord_there S P 0 0 k c (place (λ n. same bytes n a.kind) (site_names is)) (text bytes a.name) t.site (said bytes is raws) here t.there (omega arith))
 
 -- a param argument is a variable
-pub param_number : (bytes : List ℕ) (is : List Item) (raws : List RawArg) (S : List SiteOf) (P : List CoordOf) (at : Span) → Sees bytes is raws S P → has_param_arg bytes raws at ≡ true
-    → number_or_end (vars_behind S P 0 0 (said bytes is raws)) (place (λ a. is_param_arg a && same bytes a.name at) raws) 0 < length (vars_behind S P 0 0 (said bytes is raws))
+pub param_number : (bytes : List ℕ) (is : List Item) (raws : List RawArg) (S : List SiteOf) (P : List CoordOf) (at : Span)
+    → Sees bytes is raws S P → has_param_arg bytes raws at ≡ true
+    → number_or_end (vars_behind S P 0 0 (said bytes is raws)) (place (λ a. is_param_arg a && same bytes a.name at) raws) 0
+    < length (vars_behind S P 0 0 (said bytes is raws))
 param_number bytes is raws S P at s h =
     let p = λ (a : RawArg). is_param_arg a && same bytes a.name at in
     let k = place p raws in
@@ -112,15 +135,19 @@ param_number bytes is raws S P at s h =
     let kn : IsKnown bytes is a a.is_param = each_get (λ before a. IsKnown bytes is a a.is_param) [] raws k a s.known f.there in
     let ks : IsKnown bytes is a true = subst (λ (b : Bool). IsKnown bytes is a b) yes kn in
     let v = value_found bytes is S P a.name s.declares ks in
-    let here : slice_get (said bytes is raws) k ≡ Some (ParamArg (place (λ n. same bytes n a.name) (param_names is))) = said_at bytes is raws k a f.there ∙ ap (λ (w : ArgOf). Some w) (said_param bytes is a a.is_param yes) in
-    number_from (vars_behind S P 0 0 (said bytes is raws)) k 0 (param_there S P 0 0 k (place (λ n. same bytes n a.name) (param_names is)) v.0 (said bytes is raws) here v.1)
+    let here : slice_get (said bytes is raws) k ≡ Some (ParamArg (place (λ n. same bytes n a.name) (param_names is))) =
+    said_at bytes is raws k a f.there ∙ ap (λ (w : ArgOf). Some w) (said_param bytes is a a.is_param yes) in
+    number_from (vars_behind S P 0 0 (said bytes is raws)) k 0
+    (param_there S P 0 0 k (place (λ n. same bytes n a.name) (param_names is)) v.0 (said bytes is raws) here v.1)
 
 literal_fit : (n : ℕ) → n < 2 ^ 127 → (not (int_lt (pos n) (pos 0)) && int_lt (pos n) (pos (2 ^ 127))) ≡ true
 literal_fit n h = grind (arith, nat_tests, ints)
 
-name_fit : (bytes : List ℕ) (is : List Item) (raws : List RawArg) (ls : List RawLet) (S : List SiteOf) (P : List CoordOf) (at : Span) (o : Option ℕ) → Sees bytes is raws S P → position (λ l. same bytes l.name at) ls ≡ o
+name_fit : (bytes : List ℕ) (is : List Item) (raws : List RawArg) (ls : List RawLet) (S : List SiteOf) (P : List CoordOf) (at : Span)
+    (o : Option ℕ) → Sees bytes is raws S P → position (λ l. same bytes l.name at) ls ≡ o
     → (has_let bytes ls at || has_param_arg bytes raws at) ≡ true
-    → is_fit (length (vars_behind S P 0 0 (said bytes is raws))) (length ls) (formulas.tree (vars_behind S P 0 0 (said bytes is raws)) (name_of bytes (scope is raws ls) at o)) ≡ true
+    → is_fit (length (vars_behind S P 0 0 (said bytes is raws))) (length ls)
+    (formulas.tree (vars_behind S P 0 0 (said bytes is raws)) (name_of bytes (scope is raws ls) at o)) ≡ true
 name_fit bytes is raws ls S P at (Some j) s e h = lt-ltb j (length ls) (position_below (λ (l : RawLet). same bytes l.name at) ls j e)
 name_fit bytes is raws ls S P at None s e h =
     let n : has_let bytes ls at ≡ false = no_position (λ (l : RawLet). same bytes l.name at) ls e in
@@ -128,8 +155,10 @@ name_fit bytes is raws ls S P at None s e h =
     lt-ltb _ _ (param_number bytes is raws S P at s q)
 
 -- a fit expression is fit once its names are resolved
-pub fits : (bytes : List ℕ) (is : List Item) (raws : List RawArg) (ls : List RawLet) (S : List SiteOf) (P : List CoordOf) (e : Tree) → Sees bytes is raws S P → Fit bytes (scope is raws ls) e
-    → is_fit (length (vars_behind S P 0 0 (said bytes is raws))) (length ls) (formulas.tree (vars_behind S P 0 0 (said bytes is raws)) (resolved bytes (scope is raws ls) e)) ≡ true
+pub fits : (bytes : List ℕ) (is : List Item) (raws : List RawArg) (ls : List RawLet) (S : List SiteOf) (P : List CoordOf) (e : Tree)
+    → Sees bytes is raws S P → Fit bytes (scope is raws ls) e
+    → is_fit (length (vars_behind S P 0 0 (said bytes is raws))) (length ls)
+    (formulas.tree (vars_behind S P 0 0 (said bytes is raws)) (resolved bytes (scope is raws ls) e)) ≡ true
 fits bytes is raws ls S P (TNum at) s h = literal_fit (number bytes at) h
 fits bytes is raws ls S P (TName at) s h = name_fit bytes is raws ls S P at (position (λ l. same bytes l.name at) ls) s refl h
 fits bytes is raws ls S P (TInput at x) s h = lt-ltb _ _ (input_number bytes is raws ls S P at x s h.0 h.1)

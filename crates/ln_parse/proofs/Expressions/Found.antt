@@ -1,5 +1,6 @@
 -- What names stand for is there.
-use Rattle.std.proofs.Common.{◌≡◌, ℕ, zero, suc, ◌+◌, ◌<◌, ◌==◌, ◌&&◌, ◌||◌, Bool, true, false, cond, nat_lt, List, [], ◌∷◌, ◌++◌, length, take, map, Some, None, refl, ap, sym, ◌∙◌, subst, arith, append_assoc, append-nil}
+use Rattle.std.proofs.Common.{◌≡◌, ℕ, zero, suc, ◌+◌, ◌<◌, ◌==◌, ◌&&◌, ◌||◌, Bool, true, false, cond, nat_lt, List, [], ◌∷◌, ◌++◌, length}
+use Rattle.std.proofs.Common.{take, map, Some, None, refl, ap, sym, ◌∙◌, subst, arith, append_assoc, append-nil}
 use Rattle.std.specs.Prelude.{slice_get, position}
 use Rattle.std.specs.List.{list_any, find, position_or_len}
 use Rattle.std.proofs.lemmas.Bool.{and_from, or_left, or_right, ltb-true, lt-ltb, eq-eqb}
@@ -20,7 +21,7 @@ len_head p x xs h = rw h refl
 len_tail : {A : Type 0} (p : A → Bool) (x : A) (xs : List A) → p x ≡ false → position_or_len p (x ∷ xs) ≡ suc (position_or_len p xs)
 len_tail p x xs h = rw h (omega arith)
 
--- an element that passes: where it stands, and that it is found
+-- an element that passes: where it is, and that it is found
 pub record Found {A : Type 0} (p : A → Bool) (xs : List A) (n : ℕ) : Type 0 where
   pub element : A
   pub there : slice_get xs n ≡ Some element
@@ -28,7 +29,8 @@ pub record Found {A : Type 0} (p : A → Bool) (xs : List A) (n : ℕ) : Type 0 
   pub found : find p xs ≡ Some element
   pub below : n < length xs
 
-found_by : {A : Type 0} (p : A → Bool) (x : A) (xs : List A) (b : Bool) → p x ≡ b → (b || list_any p xs) ≡ true → (list_any p xs ≡ true → Found p xs (position_or_len p xs)) → Found p (x ∷ xs) (position_or_len p (x ∷ xs))
+found_by : {A : Type 0} (p : A → Bool) (x : A) (xs : List A) (b : Bool) → p x ≡ b → (b || list_any p xs) ≡ true
+    → (list_any p xs ≡ true → Found p xs (position_or_len p xs)) → Found p (x ∷ xs) (position_or_len p (x ∷ xs))
 found_by p x xs true e h on =
     let q = len_head p x xs e in
     record { element = x; there = rw q refl; passes = e; found = rw e refl; below = omega arith }
@@ -89,7 +91,8 @@ site_there k s n (suc c) (x ∷ xs) h =
     or_right _ _ (subst (λ (w : ℕ). list_any (is_var k w) (site_vars k s (suc n) xs) ≡ true) e (site_there k s (suc n) c xs (omega arith)))
 
 -- the coordinates of a site argument are variables
-pub coord_there : (S : List SiteOf) (P : List CoordOf) (a s d c t : ℕ) (nm : List ℕ) (x : SiteOf) (args : List ArgOf) → slice_get args d ≡ Some (SiteArg nm t) → slice_get S t ≡ Some x → c < length x.coords
+pub coord_there : (S : List SiteOf) (P : List CoordOf) (a s d c t : ℕ) (nm : List ℕ) (x : SiteOf) (args : List ArgOf)
+    → slice_get args d ≡ Some (SiteArg nm t) → slice_get S t ≡ Some x → c < length x.coords
     → list_any (is_var (a + d) c) (vars_behind S P a s args) ≡ true
 coord_there S P a s d c t nm x [] h e l = absurd (cc)
 coord_there S P a s zero c t nm x (SiteArg m u ∷ args) h e l =
@@ -97,7 +100,8 @@ coord_there S P a s zero c t nm x (SiteArg m u ∷ args) h e l =
     let f : slice_get S u ≡ Some x = ap (slice_get S) q ∙ e in
     let z : a + 0 ≡ a = omega arith in
     let w : 0 + c ≡ c = omega arith in
-    let r : list_any (is_var a c) (site_vars a s 0 x.coords) ≡ true = subst (λ (v : ℕ). list_any (is_var a v) (site_vars a s 0 x.coords) ≡ true) w (site_there a s 0 c x.coords l) in
+    let r : list_any (is_var a c) (site_vars a s 0 x.coords) ≡ true =
+    subst (λ (v : ℕ). list_any (is_var a v) (site_vars a s 0 x.coords) ≡ true) w (site_there a s 0 c x.coords l) in
     rw (z, f) (any_left (is_var a c) (site_vars a s 0 x.coords) (vars_behind S P (suc a) (suc s) args) r)
 coord_there S P a s zero c t nm x (ParamArg p ∷ args) h e l = absurd (cc)
 coord_there S P a s (suc d) c t nm x (SiteArg m u ∷ args) h e l =
@@ -110,7 +114,8 @@ coord_there S P a s (suc d) c t nm x (ParamArg p ∷ args) h e l =
     any_right (is_var (a + suc d) c) (param_vars a (slice_get P p)) (vars_behind S P (suc a) s args) r
 
 -- a param argument is a variable
-pub param_there : (S : List SiteOf) (P : List CoordOf) (a s d p : ℕ) (x : CoordOf) (args : List ArgOf) → slice_get args d ≡ Some (ParamArg p) → slice_get P p ≡ Some x
+pub param_there : (S : List SiteOf) (P : List CoordOf) (a s d p : ℕ) (x : CoordOf) (args : List ArgOf)
+    → slice_get args d ≡ Some (ParamArg p) → slice_get P p ≡ Some x
     → list_any (is_var (a + d) 0) (vars_behind S P a s args) ≡ true
 param_there S P a s d p x [] h e = absurd (cc)
 param_there S P a s zero p x (SiteArg m u ∷ args) h e = absurd (cc)
@@ -128,7 +133,7 @@ param_there S P a s (suc d) p x (ParamArg q ∷ args) h e =
     let r = subst (λ (w : ℕ). list_any (is_var w 0) (vars_behind S P (suc a) s args) ≡ true) z (param_there S P (suc a) s d p x args h e) in
     any_right (is_var (a + suc d) 0) (param_vars a (slice_get P q)) (vars_behind S P (suc a) s args) r
 
--- the site type of a name: where it stands, and how many coordinates it has
+-- the site type of a name: where it is, and how many coordinates it has
 pub record SiteFound (bytes : List ℕ) (q : Span → Bool) (is : List Item) : Type 0 where
   pub site : SiteOf
   pub there : slice_get (sites_said bytes is) (position_or_len q (site_names is)) ≡ Some site
@@ -139,11 +144,17 @@ map_length : (bytes : List ℕ) (cs : List RawCoord) → length (map (λ c. rang
 map_length bytes [] = refl
 map_length bytes (c ∷ cs) = ap suc (map_length bytes cs)
 
-site_by : (bytes : List ℕ) (q : Span → Bool) (n : Span) (cs : List RawCoord) (is : List Item) (b : Bool) → q n ≡ b → (b || list_any (λ i. is_site i && q (item_name i)) is) ≡ true
+site_by : (bytes : List ℕ) (q : Span → Bool) (n : Span) (cs : List RawCoord) (is : List Item) (b : Bool) → q n ≡ b
+    → (b || list_any (λ i. is_site i && q (item_name i)) is) ≡ true
     → (list_any (λ i. is_site i && q (item_name i)) is ≡ true → SiteFound bytes q is) → SiteFound bytes q (SiteItem n cs ∷ is)
 site_by bytes q n cs is true e h on =
     let l = len_head q n (site_names is) e in
-    record { site = record { name = text bytes n; coords = map (λ c. ranged bytes c.name c.range) cs }; there = rw l refl; size = rw e (map_length bytes cs); named = or_left _ _ e }
+    record {
+      site = record { name = text bytes n; coords = map (λ c. ranged bytes c.name c.range) cs };
+      there = rw l refl;
+      size = rw e (map_length bytes cs);
+      named = or_left _ _ e;
+    }
 site_by bytes q n cs is false e h on =
     let l = len_tail q n (site_names is) e in
     let r = on h in
@@ -161,7 +172,8 @@ pub record ParamFound (bytes : List ℕ) (q : Span → Bool) (is : List Item) : 
   pub there : slice_get (params_said bytes is) (position_or_len q (param_names is)) ≡ Some param
   pub named : list_any q (param_names is) ≡ true
 
-param_by : (bytes : List ℕ) (q : Span → Bool) (n : Span) (r : CoordOf) (is : List Item) (ps : List CoordOf) (ns : List Span) (b : Bool) → q n ≡ b → (b || list_any (λ i. is_param i && q (item_name i)) is) ≡ true
+param_by : (bytes : List ℕ) (q : Span → Bool) (n : Span) (r : CoordOf) (is : List Item) (ps : List CoordOf) (ns : List Span) (b : Bool)
+    → q n ≡ b → (b || list_any (λ i. is_param i && q (item_name i)) is) ≡ true
     → (list_any (λ i. is_param i && q (item_name i)) is ≡ true → (x : CoordOf) × (slice_get ps (position_or_len q ns) ≡ Some x) × (list_any q ns ≡ true))
     → (x : CoordOf) × (slice_get (r ∷ ps) (position_or_len q (n ∷ ns)) ≡ Some x) × (list_any q (n ∷ ns) ≡ true)
 param_by bytes q n r is ps ns true e h on = let l = len_head q n ns e in (r, rw l refl, or_left _ _ e)
@@ -171,20 +183,26 @@ param_found_by : (bytes : List ℕ) (q : Span → Bool) (is : List Item) → lis
     → (x : CoordOf) × (slice_get (params_said bytes is) (position_or_len q (param_names is)) ≡ Some x) × (list_any q (param_names is) ≡ true)
 param_found_by bytes q [] h = absurd (cc)
 param_found_by bytes q (SiteItem n cs ∷ is) h = param_found_by bytes q is h
-param_found_by bytes q (ParamItem n r ∷ is) h = param_by bytes q n (ranged bytes n r) is (params_said bytes is) (param_names is) (q n) refl h (param_found_by bytes q is)
+param_found_by bytes q (ParamItem n r ∷ is) h =
+    param_by bytes q n (ranged bytes n r) is (params_said bytes is) (param_names is) (q n) refl h (param_found_by bytes q is)
 param_found_by bytes q (PredItem n as' ls r ∷ is) h = param_found_by bytes q is h
 
 pub param_found : (bytes : List ℕ) (q : Span → Bool) (is : List Item) → list_any (λ i. is_param i && q (item_name i)) is ≡ true → ParamFound bytes q is
 param_found bytes q is h = let f = param_found_by bytes q is h in record { param = f.0; there = f.1; named = f.2 }
 
--- what stands in a list stands in a longer one
+-- what is in a list is in a longer one
 pub get_longer : {A : Type 0} (xs ys : List A) (k : ℕ) (x : A) → slice_get xs k ≡ Some x → slice_get (xs ++ ys) k ≡ Some x
 get_longer [] ys k x h = absurd (cc)
 get_longer (y ∷ xs) ys zero x h = h
 get_longer (y ∷ xs) ys (suc k) x h = get_longer xs ys k x h
 
 -- what holds of each element holds of the one at a place
-pub each_get : {A : Type 0} (P : List A → A → Type 0) (before xs : List A) (k : ℕ) (x : A) → Each P before xs → slice_get xs k ≡ Some x → P (before ++ take k xs) x
+pub each_get : {A : Type 0} (P : List A → A → Type 0) (before xs : List A) (k : ℕ) (x : A) → Each P before xs → slice_get xs k ≡ Some x
+    → P (before ++ take k xs) x
 each_get P before [] k x e h = absurd (cc)
-each_get {A} P before (y ∷ xs) zero x e h = let q : y ≡ x = cc in let z : before ≡ before ++ [] = sym (append-nil before) in subst (λ (w : A). P (before ++ []) w) q (subst (λ (w : List A). P w y) z e.0)
-each_get {A} P before (y ∷ xs) (suc k) x e h = subst (λ (w : List A). P w x) (append_assoc before (y ∷ []) (take k xs)) (each_get P (before ++ (y ∷ [])) xs k x e.1 h)
+each_get {A} P before (y ∷ xs) zero x e h =
+    let q : y ≡ x = cc in
+    let z : before ≡ before ++ [] = sym (append-nil before) in
+    subst (λ (w : A). P (before ++ []) w) q (subst (λ (w : List A). P w y) z e.0)
+each_get {A} P before (y ∷ xs) (suc k) x e h =
+    subst (λ (w : List A). P w x) (append_assoc before (y ∷ []) (take k xs)) (each_get P (before ++ (y ∷ [])) xs k x e.1 h)

@@ -26,7 +26,8 @@ abbrev pub meaning : List ℕ → Scope → Written → Formula
 meaning bytes s (WNum n) = FNum no_span (pos n)
 meaning bytes s (WName t) = name_meaning bytes s t (position (λ (l : RawLet). bytes_eq (text bytes l.name) t) s.lets)
 meaning bytes s (WInput t x) =
-    FInput no_span (place (arg_called bytes is_site_arg t) s.args) (place (λ (c : RawCoord). bytes_eq (text bytes c.name) x) (coords_of bytes s.items (find (arg_called bytes is_site_arg t) s.args)))
+    FInput no_span (place (arg_called bytes is_site_arg t) s.args)
+    (place (λ (c : RawCoord). bytes_eq (text bytes c.name) x) (coords_of bytes s.items (find (arg_called bytes is_site_arg t) s.args)))
 meaning bytes s (WNeg e) = FNeg no_span (meaning bytes s e)
 meaning bytes s (WAdd e f) = FAdd no_span (meaning bytes s e) (meaning bytes s f)
 meaning bytes s (WSub e f) = FSub no_span (meaning bytes s e) (meaning bytes s f)

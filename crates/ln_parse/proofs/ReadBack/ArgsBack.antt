@@ -1,5 +1,6 @@
 -- The arguments of a canonical text say those of the table, and their tokens have no fault.
-use Rattle.std.proofs.Common.{◌≡◌, ℕ, ◌+◌, ◌<◌, ◌≤◌, ◌==◌, not, Bool, true, false, cond, nat_lt, List, [], ◌∷◌, ◌++◌, length, map, Some, None, refl, ap, sym, ◌∙◌, subst, arith, append_assoc, zero-add}
+use Rattle.std.proofs.Common.{◌≡◌, ℕ, ◌+◌, ◌<◌, ◌≤◌, ◌==◌, not, Bool, true, false, cond, nat_lt, List, [], ◌∷◌, ◌++◌, length, map, Some}
+use Rattle.std.proofs.Common.{None, refl, ap, sym, ◌∙◌, subst, arith, append_assoc, zero-add}
 use Rattle.std.specs.Prelude.{slice_get, position, unwrap_or, bytes_eq, count_by}
 use Rattle.std.specs.List.{list_any, list_all}
 use Rattle.std.proofs.lemmas.Bool.{and_parts, ltb-true}
@@ -41,22 +42,29 @@ record ArgBack (bytes : List ℕ) (is : List Item) (t : TableOf) (r : RawArg) (a
   short : length (text bytes r.name) ≤ 32
   sites : is_site_arg r ≡ is_site_said a
   params : is_param_arg r ≡ is_param_said a
-  clean : (before : List RawArg) (b : Bool) → r.is_param ≡ b → (b ≡ false → count_by is_site_arg before < 5) → (b ≡ true → count_by is_param_arg before < 8) → fault_at bytes (cond b (ArgParam is before r.name) (ArgSite is before)) r.kind ≡ None
+  clean : (before : List RawArg) (b : Bool) → r.is_param ≡ b → (b ≡ false → count_by is_site_arg before < 5)
+      → (b ≡ true → count_by is_param_arg before < 8) → fault_at bytes (cond b (ArgParam is before r.name) (ArgSite is before)) r.kind ≡ None
 
-site_clean : (bytes : List ℕ) (is : List Item) (before : List RawArg) (at : Span) → length (text bytes at) ≤ 32 → count_by is_site_arg before < 5 → has_site bytes is at ≡ true → fault_at bytes (ArgSite is before) at ≡ None
+site_clean : (bytes : List ℕ) (is : List Item) (before : List RawArg) (at : Span) → length (text bytes at) ≤ 32
+    → count_by is_site_arg before < 5 → has_site bytes is at ≡ true → fault_at bytes (ArgSite is before) at ≡ None
 site_clean bytes is before at l c k =
-    none_three (nat_lt 32 (length (text bytes at))) (count_by is_site_arg before == 5) (not (has_site bytes is at)) _ _ _ (not_over 32 _ l) (not_at _ 5 c) (known_not _ k)
+    none_three (nat_lt 32 (length (text bytes at))) (count_by is_site_arg before == 5) (not (has_site bytes is at)) _ _ _ (not_over 32 _ l)
+    (not_at _ 5 c) (known_not _ k)
 
-param_clean : (bytes : List ℕ) (is : List Item) (before : List RawArg) (name at : Span) → count_by is_param_arg before < 8 → has_param bytes is name ≡ true → fault_at bytes (ArgParam is before name) at ≡ None
+param_clean : (bytes : List ℕ) (is : List Item) (before : List RawArg) (name at : Span) → count_by is_param_arg before < 8
+    → has_param bytes is name ≡ true → fault_at bytes (ArgParam is before name) at ≡ None
 param_clean bytes is before name at c k = none_two (count_by is_param_arg before == 8) (not (has_param bytes is name)) _ _ (not_at _ 8 c) (known_not _ k)
 
-of_site : (bytes : List ℕ) (is : List Item) (r : RawArg) (b : Bool) (n : List ℕ) (k : ℕ) → b ≡ false → text bytes r.name ≡ n → place (λ m. same bytes m r.kind) (site_names is) ≡ k → arg_said bytes is r b ≡ SiteArg n k
+of_site : (bytes : List ℕ) (is : List Item) (r : RawArg) (b : Bool) (n : List ℕ) (k : ℕ) → b ≡ false → text bytes r.name ≡ n
+    → place (λ m. same bytes m r.kind) (site_names is) ≡ k → arg_said bytes is r b ≡ SiteArg n k
 of_site bytes is r b n k e f g = rw e (rw (f, g) refl)
 
-of_param : (bytes : List ℕ) (is : List Item) (r : RawArg) (b : Bool) (k : ℕ) → b ≡ true → place (λ m. same bytes m r.name) (param_names is) ≡ k → arg_said bytes is r b ≡ ParamArg k
+of_param : (bytes : List ℕ) (is : List Item) (r : RawArg) (b : Bool) (k : ℕ) → b ≡ true
+    → place (λ m. same bytes m r.name) (param_names is) ≡ k → arg_said bytes is r b ≡ ParamArg k
 of_param bytes is r b k e g = rw e (rw g refl)
 
-arg_back : (bytes : List ℕ) (is : List Item) (t : TableOf) → Declared bytes is t → (r : RawArg) (a : ArgOf) → ArgWritten bytes t r a → is_one_of (length t.sites) (length t.params) a ≡ true → ArgNames a → ArgBack bytes is t r a
+arg_back : (bytes : List ℕ) (is : List Item) (t : TableOf) → Declared bytes is t → (r : RawArg) (a : ArgOf) → ArgWritten bytes t r a
+    → is_one_of (length t.sites) (length t.params) a ≡ true → ArgNames a → ArgBack bytes is t r a
 arg_back bytes is t d r (SiteArg n k) w o g =
     let e = at_place t.sites k (ltb-true k (length t.sites) o) in
     let s = e.0 in
@@ -64,7 +72,8 @@ arg_back bytes is t d r (SiteArg n k) w o g =
     let here : slice_get (sites_said bytes is) k ≡ Some s = ap (λ (x : List SiteOf). slice_get x k) d.sites ∙ e.1 in
     let df = subst (λ (x : List SiteOf). Differ (map (λ (y : SiteOf). y.name) x)) (sym d.sites) d.site_names in
     let b = type_there bytes is k s r.kind df here kind in
-    let pl : position (λ m. same bytes m r.kind) (site_names is) ≡ Some k = position_from-zero _ (site_names is) ∙ b.at 0 ∙ ap (λ (x : ℕ). Some x) (zero-add k) in
+    let pl : position (λ m. same bytes m r.kind) (site_names is) ≡ Some k =
+    position_from-zero _ (site_names is) ∙ b.at 0 ∙ ap (λ (x : ℕ). Some x) (zero-add k) in
     let known : has_site bytes is r.kind ≡ true = any_found _ is _ b.found in
     let short : IsShortName s.name = (every_at SiteNames t.sites k s d.short_sites e.1).name in
     let l : length (text bytes r.kind) ≤ 32 = subst (λ (x : List ℕ). length x ≤ 32) (sym kind) short.1 in
@@ -76,7 +85,8 @@ arg_back bytes is t d r (SiteArg n k) w o g =
       params = w.0;
       clean = λ before v q c1 c2.
           let z : v ≡ false = sym q ∙ w.0 in
-          subst (λ (y : Bool). fault_at bytes (cond y (ArgParam is before r.name) (ArgSite is before)) r.kind ≡ None) (sym z) (site_clean bytes is before r.kind l (c1 z) known);
+          subst (λ (y : Bool). fault_at bytes (cond y (ArgParam is before r.name) (ArgSite is before)) r.kind ≡ None) (sym z)
+          (site_clean bytes is before r.kind l (c1 z) known);
     }
 arg_back bytes is t d r (ParamArg p) w o g =
     let e = at_place t.params p (ltb-true p (length t.params) o) in
@@ -85,7 +95,8 @@ arg_back bytes is t d r (ParamArg p) w o g =
     let here : slice_get (params_said bytes is) p ≡ Some c = ap (λ (x : List CoordOf). slice_get x p) d.params ∙ e.1 in
     let df = subst (λ (x : List CoordOf). Differ (map (λ (y : CoordOf). y.name) x)) (sym d.params) d.param_names in
     let b = param_there bytes is p c r.name df here nm in
-    let pl : position (λ m. same bytes m r.name) (param_names is) ≡ Some p = position_from-zero _ (param_names is) ∙ b.at 0 ∙ ap (λ (x : ℕ). Some x) (zero-add p) in
+    let pl : position (λ m. same bytes m r.name) (param_names is) ≡ Some p =
+    position_from-zero _ (param_names is) ∙ b.at 0 ∙ ap (λ (x : ℕ). Some x) (zero-add p) in
     let short : IsShortName c.name = every_at (λ (y : CoordOf). IsShortName y.name) t.params p c d.short_params e.1 in
     record {
       says = of_param bytes is r r.is_param p w.0 (ap (λ o. unwrap_or o 0) pl);
@@ -95,7 +106,8 @@ arg_back bytes is t d r (ParamArg p) w o g =
       params = w.0;
       clean = λ before v q c1 c2.
           let z : v ≡ true = sym q ∙ w.0 in
-          subst (λ (y : Bool). fault_at bytes (cond y (ArgParam is before r.name) (ArgSite is before)) r.kind ≡ None) (sym z) (param_clean bytes is before r.name r.kind (c2 z) b.known);
+          subst (λ (y : Bool). fault_at bytes (cond y (ArgParam is before r.name) (ArgSite is before)) r.kind ≡ None) (sym z)
+          (param_clean bytes is before r.name r.kind (c2 z) b.known);
     }
 
 -- arguments that are written so say the table's
@@ -107,8 +119,10 @@ pub record ArgsBack (bytes : List ℕ) (is : List Item) (t : TableOf) (before ra
 counted : (v : Bool) → v ≡ true → one_if v ≡ 1
 counted v h = rw h refl
 
-pub args_back : (bytes : List ℕ) (is : List Item) (t : TableOf) → Declared bytes is t → (before raws : List RawArg) (names : List (List ℕ)) (xs : List ArgOf) → ArgsWritten bytes t raws xs → list_all (is_one_of (length t.sites) (length t.params)) xs ≡ true → Every ArgNames xs
-    → map (λ (a : RawArg). text bytes a.name) before ≡ names → Differ (names ++ map (arg_name t.params) xs) → count_by is_site_arg before + count_by is_site_said xs ≤ 5 → count_by is_param_arg before + count_by is_param_said xs ≤ 8
+pub args_back : (bytes : List ℕ) (is : List Item) (t : TableOf) → Declared bytes is t → (before raws : List RawArg) (names : List (List ℕ))
+    (xs : List ArgOf) → ArgsWritten bytes t raws xs → list_all (is_one_of (length t.sites) (length t.params)) xs ≡ true → Every ArgNames xs
+    → map (λ (a : RawArg). text bytes a.name) before ≡ names → Differ (names ++ map (arg_name t.params) xs)
+    → count_by is_site_arg before + count_by is_site_said xs ≤ 5 → count_by is_param_arg before + count_by is_param_said xs ≤ 8
     → ArgsBack bytes is t before raws xs
 args_back bytes is t d before [] names [] w o g bn df m n = record { say = refl; named = refl; clean = tt }
 args_back bytes is t d before [] names (a ∷ xs) w o g bn df m n = absurd w
@@ -117,8 +131,10 @@ args_back bytes is t d before (r ∷ raws) names (a ∷ xs) w o g bn df m n =
     let p = and_parts (is_one_of (length t.sites) (length t.params) a) (list_all (is_one_of (length t.sites) (length t.params)) xs) o in
     let b = arg_back bytes is t d r a w.0 p.0 g.0 in
     let nm = arg_name t.params a in
-    let bn2 : map (λ (a : RawArg). text bytes a.name) (before ++ (r ∷ [])) ≡ names ++ (nm ∷ []) = map-append (λ (a : RawArg). text bytes a.name) before (r ∷ []) ∙ (let nn = b.named in rw (bn, nn) refl) in
-    let df2 : Differ ((names ++ (nm ∷ [])) ++ map (arg_name t.params) xs) = subst (λ (w : List (List ℕ)). Differ w) (sym (append_assoc names (nm ∷ []) (map (arg_name t.params) xs))) df in
+    let bn2 : map (λ (a : RawArg). text bytes a.name) (before ++ (r ∷ [])) ≡ names ++ (nm ∷ []) =
+    map-append (λ (a : RawArg). text bytes a.name) before (r ∷ []) ∙ (let nn = b.named in rw (bn, nn) refl) in
+    let df2 : Differ ((names ++ (nm ∷ [])) ++ map (arg_name t.params) xs) =
+    subst (λ (w : List (List ℕ)). Differ w) (sym (append_assoc names (nm ∷ []) (map (arg_name t.params) xs))) df in
     let s1 = count_append is_site_arg before (r ∷ []) in
     let s2 = count_cons is_site_arg r [] in
     let s3 : count_by is_site_arg [] ≡ 0 = refl in
@@ -130,10 +146,17 @@ args_back bytes is t d before (r ∷ raws) names (a ∷ xs) w o g bn df m n =
     let p4 = count_cons is_param_said a xs in
     let p5 = ap one_if b.params in
     let y = args_back bytes is t d (before ++ (r ∷ [])) raws (names ++ (nm ∷ [])) xs w.1 p.1 g.1 bn2 df2 (omega arith) (omega arith) in
-    let k1 : list_any (λ (x : RawArg). bytes_eq (text bytes x.name) nm) before ≡ false = any_map (λ (a : RawArg). text bytes a.name) nm before ∙ ap (list_any (λ u. bytes_eq u nm)) bn ∙ new_behind names (map (arg_name t.params) xs) nm df in
-    let k2 : list_any (λ (x : RawArg). same bytes x.name r.name) before ≡ false = subst (λ (z : List ℕ). list_any (λ (x : RawArg). bytes_eq (text bytes x.name) z) before ≡ false) (sym b.named) k1 in
-    let c1 : fault_at bytes (ArgName before) r.name ≡ None = none_two (nat_lt 32 (length (text bytes r.name))) (list_any (λ (x : RawArg). same bytes x.name r.name) before) _ _ (not_over 32 _ b.short) k2 in
+    let k1 : list_any (λ (x : RawArg). bytes_eq (text bytes x.name) nm) before ≡ false =
+    any_map (λ (a : RawArg). text bytes a.name) nm before ∙ ap (list_any (λ u. bytes_eq u nm)) bn ∙ new_behind names (map (arg_name t.params) xs) nm df in
+    let k2 : list_any (λ (x : RawArg). same bytes x.name r.name) before ≡ false =
+    subst (λ (z : List ℕ). list_any (λ (x : RawArg). bytes_eq (text bytes x.name) z) before ≡ false) (sym b.named) k1 in
+    let c1 : fault_at bytes (ArgName before) r.name ≡ None =
+    none_two (nat_lt 32 (length (text bytes r.name))) (list_any (λ (x : RawArg). same bytes x.name r.name) before) _ _ (not_over 32 _ b.short) k2 in
     let c2 = b.clean before r.is_param refl
     (λ z. let v : is_site_arg r ≡ true = ap not z in let u = counted (is_site_arg r) v in omega arith)
     (λ z. let u = counted (is_param_arg r) z in omega arith) in
-    record { say = let sa = b.says in let sb = y.say in rw (sa, sb) refl; named = let na = b.named in let nb = y.named in rw (na, nb) refl; clean = (c1, (c2, y.clean)) }
+    record {
+      say = let sa = b.says in let sb = y.say in rw (sa, sb) refl;
+      named = let na = b.named in let nb = y.named in rw (na, nb) refl;
+      clean = (c1, (c2, y.clean));
+    }

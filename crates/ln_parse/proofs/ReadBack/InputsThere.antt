@@ -1,5 +1,6 @@
 -- The inputs of a fit expression are of arguments that there are, and their names are names.
-use Rattle.std.proofs.Common.{◌≡◌, ℕ, zero, suc, ◌+◌, ◌<◌, ◌≤◌, ◌^◌, ◌==◌, ◌&&◌, ◌||◌, not, Bool, true, false, nat_lt, List, [], ◌∷◌, length, Option, Some, None, refl, ap, sym, ◌∙◌, subst, arith}
+use Rattle.std.proofs.Common.{◌≡◌, ℕ, zero, suc, ◌+◌, ◌<◌, ◌≤◌, ◌^◌, ◌==◌, ◌&&◌, ◌||◌, not, Bool, true, false, nat_lt, List, [], ◌∷◌}
+use Rattle.std.proofs.Common.{length, Option, Some, None, refl, ap, sym, ◌∙◌, subst, arith}
 use Rattle.std.specs.Prelude.{ℤ, pos, int_lt, unsigned_abs, slice_get, position, unwrap_or, nat_le}
 use Rattle.std.specs.List.{list_any, position_from}
 use Rattle.std.proofs.lemmas.Bool.{and_parts}
@@ -20,7 +21,8 @@ use Rattle.ln_parse.proofs.Wholes.TestLemmas.{at_most, below, equal, neither, or
 
 -- argument d is a site whose type has coordinate c, or a param, where c is 0
 pub data InputThere (S : List SiteOf) (P : List CoordOf) (args : List ArgOf) (d c : ℕ) : Type 0 where
-  of_site : (n : List ℕ) (t : ℕ) (s : SiteOf) (x : CoordOf) → slice_get args d ≡ Some (SiteArg n t) → slice_get S t ≡ Some s → slice_get s.coords c ≡ Some x → InputThere S P args d c
+  of_site : (n : List ℕ) (t : ℕ) (s : SiteOf) (x : CoordOf) → slice_get args d ≡ Some (SiteArg n t) → slice_get S t ≡ Some s
+      → slice_get s.coords c ≡ Some x → InputThere S P args d c
   of_param : (p : ℕ) (x : CoordOf) → slice_get args d ≡ Some (ParamArg p) → slice_get P p ≡ Some x → c ≡ 0 → InputThere S P args d c
 
 pub at_place : {A : Type 0} (xs : List A) (j : ℕ) → j < length xs → (x : A) × (slice_get xs j ≡ Some x)
@@ -40,17 +42,20 @@ coord_there : (a c k s m : ℕ) (xs : List CoordOf) → list_any (is_var a c) (s
 coord_there a c k s m [] h = absurd (cc)
 coord_there a c k s m (x ∷ xs) h =
     or_cases ((k == a) && (m == c)) (list_any (is_var a c) (site_vars k s (suc m) xs)) h
-    (λ e. let p = and_parts (k == a) (m == c) e in let q = equal k a p.0 in let r = equal m c p.1 in record { d = 0; x = x; arg = omega arith; coord = omega arith; there = refl })
+    (λ e. let p = and_parts (k == a) (m == c) e in
+    let q = equal k a p.0 in let r = equal m c p.1 in record { d = 0; x = x; arg = omega arith; coord = omega arith; there = refl })
     (λ e. let r = coord_there a c k s (suc m) xs e in let q = r.coord in record { d = suc r.d; x = r.x; arg = r.arg; coord = omega arith; there = r.there })
 
-site_there : (S : List SiteOf) (P : List CoordOf) (a c k s t : ℕ) (n : List ℕ) (args : List ArgOf) (o : Option SiteOf) → slice_get S t ≡ o → list_any (is_var a c) (site_vars k s 0 (coords_or o)) ≡ true → (a ≡ k) × InputThere S P (SiteArg n t ∷ args) 0 c
+site_there : (S : List SiteOf) (P : List CoordOf) (a c k s t : ℕ) (n : List ℕ) (args : List ArgOf) (o : Option SiteOf) → slice_get S t ≡ o
+    → list_any (is_var a c) (site_vars k s 0 (coords_or o)) ≡ true → (a ≡ k) × InputThere S P (SiteArg n t ∷ args) 0 c
 site_there S P a c k s t n args None e h = absurd (cc)
 site_there S P a c k s t n args (Some x) e h =
     let r = coord_there a c k s 0 x.coords h in
     let q : r.d ≡ c = let z = r.coord in omega arith in
     (r.arg, of_site n t x r.x refl e (subst (λ (w : ℕ). slice_get x.coords w ≡ Some r.x) q r.there))
 
-param_there : (S : List SiteOf) (P : List CoordOf) (a c k p : ℕ) (args : List ArgOf) (o : Option CoordOf) → slice_get P p ≡ o → list_any (is_var a c) (param_vars k o) ≡ true → (a ≡ k) × InputThere S P (ParamArg p ∷ args) 0 c
+param_there : (S : List SiteOf) (P : List CoordOf) (a c k p : ℕ) (args : List ArgOf) (o : Option CoordOf) → slice_get P p ≡ o
+    → list_any (is_var a c) (param_vars k o) ≡ true → (a ≡ k) × InputThere S P (ParamArg p ∷ args) 0 c
 param_there S P a c k p args None e h = absurd (cc)
 param_there S P a c k p args (Some x) e h =
     or_cases ((k == a) && (0 == c)) false h
@@ -67,7 +72,8 @@ record VarThere (S : List SiteOf) (P : List CoordOf) (args : List ArgOf) (a k c 
   place : a ≡ k + d
   input : InputThere S P args d c
 
-var_there : (S : List SiteOf) (P : List CoordOf) (a c k s : ℕ) (args : List ArgOf) → list_any (is_var a c) (vars_behind S P k s args) ≡ true → VarThere S P args a k c
+var_there : (S : List SiteOf) (P : List CoordOf) (a c k s : ℕ) (args : List ArgOf) → list_any (is_var a c) (vars_behind S P k s args) ≡ true
+    → VarThere S P args a k c
 var_there S P a c k s [] h = absurd (cc)
 var_there S P a c k s (SiteArg n t ∷ args) h =
     let mine = site_vars k s 0 (coords_or (slice_get S t)) in
@@ -75,14 +81,16 @@ var_there S P a c k s (SiteArg n t ∷ args) h =
     let e : (list_any (is_var a c) mine || list_any (is_var a c) rest) ≡ true = sym (list_any-append (is_var a c) mine rest) ∙ h in
     or_cases (list_any (is_var a c) mine) (list_any (is_var a c) rest) e
     (λ g. let r = site_there S P a c k s t n args (slice_get S t) refl g in let q = r.0 in record { d = 0; place = omega arith; input = r.1 })
-    (λ g. let r = var_there S P a c (suc k) (suc s) args g in let q = r.place in record { d = suc r.d; place = omega arith; input = later S P (SiteArg n t) args r.d c r.input })
+    (λ g. let r = var_there S P a c (suc k) (suc s) args g in
+    let q = r.place in record { d = suc r.d; place = omega arith; input = later S P (SiteArg n t) args r.d c r.input })
 var_there S P a c k s (ParamArg p ∷ args) h =
     let mine = param_vars k (slice_get P p) in
     let rest = vars_behind S P (suc k) s args in
     let e : (list_any (is_var a c) mine || list_any (is_var a c) rest) ≡ true = sym (list_any-append (is_var a c) mine rest) ∙ h in
     or_cases (list_any (is_var a c) mine) (list_any (is_var a c) rest) e
     (λ g. let r = param_there S P a c k p args (slice_get P p) refl g in let q = r.0 in record { d = 0; place = omega arith; input = r.1 })
-    (λ g. let r = var_there S P a c (suc k) s args g in let q = r.place in record { d = suc r.d; place = omega arith; input = later S P (ParamArg p) args r.d c r.input })
+    (λ g. let r = var_there S P a c (suc k) s args g in
+    let q = r.place in record { d = suc r.d; place = omega arith; input = later S P (ParamArg p) args r.d c r.input })
 
 none_from : {A : Type 0} (p : A → Bool) (k : ℕ) (xs : List A) → list_any p xs ≡ false → position_from p k xs ≡ None
 none_from p k [] h = refl
@@ -97,7 +105,8 @@ numbered vars a c true e h = refl
 numbered vars a c false e h = let q = ap (λ (o : Option ℕ). unwrap_or o (length vars)) (no_place (is_var a c) vars e) in absurd (omega arith)
 
 -- a number below the count of variables is that of an input that is there
-pub input_there : (S : List SiteOf) (P : List CoordOf) (args : List ArgOf) (a c : ℕ) → nat_lt (number_or_end (vars_behind S P 0 0 args) a c) (length (vars_behind S P 0 0 args)) ≡ true → InputThere S P args a c
+pub input_there : (S : List SiteOf) (P : List CoordOf) (args : List ArgOf) (a c : ℕ)
+    → nat_lt (number_or_end (vars_behind S P 0 0 args) a c) (length (vars_behind S P 0 0 args)) ≡ true → InputThere S P args a c
 input_there S P args a c h =
     let vars = vars_behind S P 0 0 args in
     let l = below (number_or_end vars a c) (length vars) h in
@@ -139,16 +148,27 @@ pub literal : (c : ℤ) → (not (int_lt c (pos 0)) && int_lt c (pos (2 ^ 127)))
 literal c h = let p = and_parts (not (int_lt c (pos 0))) (int_lt c (pos (2 ^ 127))) h in (literal_same c p.0, literal_low c p.0 p.1)
 
 -- the names of a fit expression are NAMEs, and its numbers short
-pub named : (n : Naming) → NamesGood n → (vars : List VarInfo) (j : ℕ) → vars ≡ vars_behind n.sites n.params 0 0 n.args → j ≤ length n.lets → (f : Formula) → is_fit (length vars) j (tree vars f) ≡ true → IsNamed (written n f)
+pub named : (n : Naming) → NamesGood n → (vars : List VarInfo) (j : ℕ) → vars ≡ vars_behind n.sites n.params 0 0 n.args → j ≤ length n.lets
+    → (f : Formula) → is_fit (length vars) j (tree vars f) ≡ true → IsNamed (written n f)
 named n g vars j v l (FNum at c) h = let q = (literal c h).1 in omega arith
-named n g vars j v l (FInput at a c) h = input_named n g a c (input_there n.sites n.params n.args a c (subst (λ (w : List VarInfo). nat_lt (number_or_end w a c) (length w) ≡ true) v h))
+named n g vars j v l (FInput at a c) h =
+    input_named n g a c (input_there n.sites n.params n.args a c (subst (λ (w : List VarInfo). nat_lt (number_or_end w a c) (length w) ≡ true) v h))
 named n g vars j v l (FName at k) h =
     let b = below k j h in
     let e = at_place n.lets k (omega arith) in
     let q : IsShortName e.0 = every_at IsShortName n.lets k e.0 g.lets e.1 in
     rw e.1 q.0
 named n g vars j v l (FNeg at e) h = named n g vars j v l e h
-named n g vars j v l (FAdd at e f) h = let p = and_parts (is_fit (length vars) j (tree vars e)) (is_fit (length vars) j (tree vars f)) h in (named n g vars j v l e p.0, named n g vars j v l f p.1)
-named n g vars j v l (FSub at e f) h = let p = and_parts (is_fit (length vars) j (tree vars e)) (is_fit (length vars) j (tree vars f)) h in (named n g vars j v l e p.0, named n g vars j v l f p.1)
-named n g vars j v l (FMul at e f) h = let p = and_parts (is_fit (length vars) j (tree vars e)) (is_fit (length vars) j (tree vars f)) h in (named n g vars j v l e p.0, named n g vars j v l f p.1)
-named n g vars j v l (FPow at e k) h = let p = and_parts (is_fit (length vars) j (tree vars e)) (nat_le k 16) h in let q = at_most k 16 p.1 in (named n g vars j v l e p.0, omega arith)
+named n g vars j v l (FAdd at e f) h =
+    let p = and_parts (is_fit (length vars) j (tree vars e)) (is_fit (length vars) j (tree vars f)) h in
+    (named n g vars j v l e p.0, named n g vars j v l f p.1)
+named n g vars j v l (FSub at e f) h =
+    let p = and_parts (is_fit (length vars) j (tree vars e)) (is_fit (length vars) j (tree vars f)) h in
+    (named n g vars j v l e p.0, named n g vars j v l f p.1)
+named n g vars j v l (FMul at e f) h =
+    let p = and_parts (is_fit (length vars) j (tree vars e)) (is_fit (length vars) j (tree vars f)) h in
+    (named n g vars j v l e p.0, named n g vars j v l f p.1)
+named n g vars j v l (FPow at e k) h =
+    let p = and_parts (is_fit (length vars) j (tree vars e)) (nat_le k 16) h in
+    let q = at_most k 16 p.1 in
+    (named n g vars j v l e p.0, omega arith)

@@ -23,9 +23,14 @@ not_there u (x ∷ us) (suc j) t n e = not_there u us j t n.1 e
 pub same_bytes : (t : List ℕ) → bytes_eq t t ≡ true
 same_bytes t = (bytes_eq-Decides t t).1 refl
 
-place_from : {A : Type 0} (name : A → List ℕ) (k : ℕ) (xs : List A) (j : ℕ) (t : List ℕ) → Differ (map name xs) → slice_get (map name xs) j ≡ Some t → position_from (λ x. bytes_eq (name x) t) k xs ≡ Some (k + j)
+place_from : {A : Type 0} (name : A → List ℕ) (k : ℕ) (xs : List A) (j : ℕ) (t : List ℕ) → Differ (map name xs)
+    → slice_get (map name xs) j ≡ Some t → position_from (λ x. bytes_eq (name x) t) k xs ≡ Some (k + j)
 place_from name k [] j t d e = absurd (cc)
-place_from name k (x ∷ xs) zero t d e = let q : name x ≡ t = cc in let s = same_bytes t in let z : k ≡ k + 0 = omega arith in rw (q, s) (ap (λ (m : ℕ). Some m) z)
+place_from name k (x ∷ xs) zero t d e =
+    let q : name x ≡ t = cc in
+    let s = same_bytes t in
+    let z : k ≡ k + 0 = omega arith in
+    rw (q, s) (ap (λ (m : ℕ). Some m) z)
 place_from name k (x ∷ xs) (suc j) t d e =
     let n = not_there (name x) (map name xs) j t d.0 e in
     let r = place_from name (k + 1) xs j t d.1 e in
@@ -33,5 +38,6 @@ place_from name k (x ∷ xs) (suc j) t d e =
     rw n (r ∙ ap (λ (m : ℕ). Some m) s)
 
 -- the name at a place is found there
-pub place_of_name : {A : Type 0} (name : A → List ℕ) (xs : List A) (j : ℕ) (t : List ℕ) → Differ (map name xs) → slice_get (map name xs) j ≡ Some t → position (λ x. bytes_eq (name x) t) xs ≡ Some j
+pub place_of_name : {A : Type 0} (name : A → List ℕ) (xs : List A) (j : ℕ) (t : List ℕ) → Differ (map name xs)
+    → slice_get (map name xs) j ≡ Some t → position (λ x. bytes_eq (name x) t) xs ≡ Some j
 place_of_name name xs j t d e = position_from-zero (λ x. bytes_eq (name x) t) xs ∙ place_from name 0 xs j t d e ∙ ap (λ (m : ℕ). Some m) (zero-add j)

@@ -1,5 +1,6 @@
 -- What the names of a canonical text stand for.
-use Rattle.std.proofs.Common.{◌≡◌, ℕ, zero, suc, ◌+◌, ◌<◌, ◌&&◌, ◌||◌, not, Bool, true, false, cond, nat_lt, List, [], ◌∷◌, ◌++◌, length, map, Some, None, refl, ap, sym, ◌∙◌, subst, arith, zero-add}
+use Rattle.std.proofs.Common.{◌≡◌, ℕ, zero, suc, ◌+◌, ◌<◌, ◌&&◌, ◌||◌, not, Bool, true, false, cond, nat_lt, List, [], ◌∷◌, ◌++◌, length}
+use Rattle.std.proofs.Common.{map, Some, None, refl, ap, sym, ◌∙◌, subst, arith, zero-add}
 use Rattle.std.specs.Prelude.{slice_get, position, unwrap_or, bytes_eq, find, nat_le}
 use Rattle.std.specs.List.{list_any, position_from}
 use Rattle.std.proofs.lemmas.Bool.{and_parts, or_left, or_right, ltb-true}
@@ -55,7 +56,10 @@ apart (u ∷ us) vs (suc j) t h e = apart us vs j t h.1 e
 
 flip_by : (t u : List ℕ) (b : Bool) → bytes_eq u t ≡ b → bytes_eq t u ≡ false → b ≡ false
 flip_by t u false e h = refl
-flip_by t u true e h = let q = (bytes_eq-Decides u t).0 e in let s = same_bytes t in absurd (let r : bytes_eq t t ≡ false = subst (λ (w : List ℕ). bytes_eq t w ≡ false) q h in cc)
+flip_by t u true e h =
+    let q = (bytes_eq-Decides u t).0 e in
+    let s = same_bytes t in
+    absurd (let r : bytes_eq t t ≡ false = subst (λ (w : List ℕ). bytes_eq t w ≡ false) q h in cc)
 
 -- unequal both ways
 pub flip : (t u : List ℕ) → bytes_eq t u ≡ false → bytes_eq u t ≡ false
@@ -66,7 +70,8 @@ pub none_called : {A : Type 0} (name : A → List ℕ) (xs : List A) (t : List �
 none_called name [] t h = refl
 none_called name (x ∷ xs) t h = let a = flip t (name x) h.0 in let b = none_called name xs t h.1 in rw (a, b) refl
 
-found_by : {A : Type 0} (p : A → Bool) (y x : A) (xs : List A) (b : Bool) → p y ≡ b → cond b (Some y) (find p xs) ≡ Some x → (find p xs ≡ Some x → list_any p xs ≡ true) → (p y || list_any p xs) ≡ true
+found_by : {A : Type 0} (p : A → Bool) (y x : A) (xs : List A) (b : Bool) → p y ≡ b → cond b (Some y) (find p xs) ≡ Some x
+    → (find p xs ≡ Some x → list_any p xs ≡ true) → (p y || list_any p xs) ≡ true
 found_by p y x xs true e h on = or_left _ _ e
 found_by p y x xs false e h on = or_right _ _ (on h)
 
@@ -74,7 +79,8 @@ pub any_found : {A : Type 0} (p : A → Bool) (xs : List A) (x : A) → find p x
 any_found p [] x h = absurd (cc)
 any_found p (y ∷ xs) x h = found_by p y x xs (p y) refl h (any_found p xs x)
 
-place_by : {A : Type 0} (p : A → Bool) (y : A) (xs : List A) (k j : ℕ) (b : Bool) → p y ≡ b → cond b (Some k) (position_from p (k + 1) xs) ≡ Some j → (position_from p (k + 1) xs ≡ Some j → list_any p xs ≡ true) → (p y || list_any p xs) ≡ true
+place_by : {A : Type 0} (p : A → Bool) (y : A) (xs : List A) (k j : ℕ) (b : Bool) → p y ≡ b → cond b (Some k) (position_from p (k + 1) xs) ≡ Some j
+    → (position_from p (k + 1) xs ≡ Some j → list_any p xs ≡ true) → (p y || list_any p xs) ≡ true
 place_by p y xs k j true e h on = or_left _ _ e
 place_by p y xs k j false e h on = or_right _ _ (on h)
 
@@ -97,7 +103,8 @@ record ArgFound (bytes : List ℕ) (t : TableOf) (raws : List RawArg) (d : ℕ) 
   found : find (arg_called bytes p n) raws ≡ Some raw
   at : (j : ℕ) → position_from (arg_called bytes p n) j raws ≡ Some (j + d)
 
-arg_found : (bytes : List ℕ) (t : TableOf) (p : RawArg → Bool) (raws : List RawArg) (args : List ArgOf) (d : ℕ) (a : ArgOf) → ArgsWritten bytes t raws args → Differ (map (arg_name t.params) args) → slice_get args d ≡ Some a
+arg_found : (bytes : List ℕ) (t : TableOf) (p : RawArg → Bool) (raws : List RawArg) (args : List ArgOf) (d : ℕ) (a : ArgOf)
+    → ArgsWritten bytes t raws args → Differ (map (arg_name t.params) args) → slice_get args d ≡ Some a
     → ((r : RawArg) → ArgWritten bytes t r a → p r ≡ true) → ArgFound bytes t raws d a p (arg_name t.params a)
 arg_found bytes t p [] [] d a w f e q = absurd (cc)
 arg_found bytes t p [] (b ∷ args) d a w f e q = absurd w
@@ -113,9 +120,15 @@ arg_found bytes t p (r ∷ raws) (b ∷ args) (suc d) a w f e q =
     let g = arg_found bytes t p raws args d a w.1 f.1 e q in
     let n = written_name bytes t r b w.0 in
     let there : slice_get (map (arg_name t.params) args) d ≡ Some (arg_name t.params a) = get_map (arg_name t.params) args d a e in
-    let x : bytes_eq (text bytes r.name) (arg_name t.params a) ≡ false = rw n (not_there (arg_name t.params b) (map (arg_name t.params) args) d (arg_name t.params a) f.0 there) in
+    let x : bytes_eq (text bytes r.name) (arg_name t.params a) ≡ false =
+    rw n (not_there (arg_name t.params b) (map (arg_name t.params) args) d (arg_name t.params a) f.0 there) in
     let y : (p r && bytes_eq (text bytes r.name) (arg_name t.params a)) ≡ false = and_false (p r) _ x in
-    record { raw = g.raw; writes = g.writes; found = rw y g.found; at = λ j. let k : j + 1 + d ≡ j + suc d = omega arith in rw y (g.at (j + 1) ∙ ap (λ (m : ℕ). Some m) k) }
+    record {
+      raw = g.raw;
+      writes = g.writes;
+      found = rw y g.found;
+      at = λ j. let k : j + 1 + d ≡ j + suc d = omega arith in rw y (g.at (j + 1) ∙ ap (λ (m : ℕ). Some m) k);
+    }
 
 -- a site type is found by its name
 pub record TypeThere (bytes : List ℕ) (is : List Item) (k : ℕ) (s : SiteOf) (q : Span) : Type 0 where
@@ -125,27 +138,46 @@ pub record TypeThere (bytes : List ℕ) (is : List Item) (k : ℕ) (s : SiteOf) 
   pub says : map (λ (c : RawCoord). ranged bytes c.name c.range) raws ≡ s.coords
   pub at : (j : ℕ) → position_from (λ n. same bytes n q) j (site_names is) ≡ Some (j + k)
 
-pub type_there : (bytes : List ℕ) (is : List Item) (k : ℕ) (s : SiteOf) (q : Span) → Differ (map (λ (x : SiteOf). x.name) (sites_said bytes is)) → slice_get (sites_said bytes is) k ≡ Some s → text bytes q ≡ s.name → TypeThere bytes is k s q
+pub type_there : (bytes : List ℕ) (is : List Item) (k : ℕ) (s : SiteOf) (q : Span) → Differ (map (λ (x : SiteOf). x.name) (sites_said bytes is))
+    → slice_get (sites_said bytes is) k ≡ Some s → text bytes q ≡ s.name → TypeThere bytes is k s q
 type_there bytes [] k s q d e h = absurd (cc)
 type_there bytes (SiteItem n cs ∷ is) zero s q d e h =
     let z : record { name = text bytes n; coords = map (λ (c : RawCoord). ranged bytes c.name c.range) cs } ≡ s = cc in
     let m : text bytes q ≡ text bytes n = h ∙ sym (ap (λ (x : SiteOf). x.name) z) in
     let b : bytes_eq (text bytes n) (text bytes q) ≡ true = rw m (same_bytes (text bytes n)) in
-    record { name = n; raws = cs; found = rw b refl; says = ap (λ (x : SiteOf). x.coords) z; at = λ j. let k : j ≡ j + 0 = omega arith in rw b (ap (λ (m : ℕ). Some m) k) }
+    record {
+      name = n;
+      raws = cs;
+      found = rw b refl;
+      says = ap (λ (x : SiteOf). x.coords) z;
+      at = λ j. let k : j ≡ j + 0 = omega arith in rw b (ap (λ (m : ℕ). Some m) k);
+    }
 type_there bytes (SiteItem n cs ∷ is) (suc k) s q d e h =
     let g = type_there bytes is k s q d.1 e h in
     let there : slice_get (map (λ (x : SiteOf). x.name) (sites_said bytes is)) k ≡ Some s.name = get_map (λ (x : SiteOf). x.name) (sites_said bytes is) k s e in
-    let b : bytes_eq (text bytes n) (text bytes q) ≡ false = rw h (not_there (text bytes n) (map (λ (x : SiteOf). x.name) (sites_said bytes is)) k s.name d.0 there) in
-    record { name = g.name; raws = g.raws; found = rw b g.found; says = g.says; at = λ j. let k : j + 1 + k ≡ j + suc k = omega arith in rw b (g.at (j + 1) ∙ ap (λ (m : ℕ). Some m) k) }
-type_there bytes (ParamItem n r ∷ is) k s q d e h = let g = type_there bytes is k s q d e h in record { name = g.name; raws = g.raws; found = g.found; says = g.says; at = g.at }
-type_there bytes (PredItem n as' ls r ∷ is) k s q d e h = let g = type_there bytes is k s q d e h in record { name = g.name; raws = g.raws; found = g.found; says = g.says; at = g.at }
+    let b : bytes_eq (text bytes n) (text bytes q) ≡ false =
+    rw h (not_there (text bytes n) (map (λ (x : SiteOf). x.name) (sites_said bytes is)) k s.name d.0 there) in
+    record {
+      name = g.name;
+      raws = g.raws;
+      found = rw b g.found;
+      says = g.says;
+      at = λ j. let k : j + 1 + k ≡ j + suc k = omega arith in rw b (g.at (j + 1) ∙ ap (λ (m : ℕ). Some m) k);
+    }
+type_there bytes (ParamItem n r ∷ is) k s q d e h =
+    let g = type_there bytes is k s q d e h in
+    record { name = g.name; raws = g.raws; found = g.found; says = g.says; at = g.at }
+type_there bytes (PredItem n as' ls r ∷ is) k s q d e h =
+    let g = type_there bytes is k s q d e h in
+    record { name = g.name; raws = g.raws; found = g.found; says = g.says; at = g.at }
 
 -- a param is found by its name
 pub record ParamThere (bytes : List ℕ) (is : List Item) (k : ℕ) (q : Span) : Type 0 where
   pub known : list_any (λ i. is_param i && same bytes (item_name i) q) is ≡ true
   pub at : (j : ℕ) → position_from (λ n. same bytes n q) j (param_names is) ≡ Some (j + k)
 
-pub param_there : (bytes : List ℕ) (is : List Item) (k : ℕ) (c : CoordOf) (q : Span) → Differ (map (λ (x : CoordOf). x.name) (params_said bytes is)) → slice_get (params_said bytes is) k ≡ Some c → text bytes q ≡ c.name → ParamThere bytes is k q
+pub param_there : (bytes : List ℕ) (is : List Item) (k : ℕ) (c : CoordOf) (q : Span) → Differ (map (λ (x : CoordOf). x.name) (params_said bytes is))
+    → slice_get (params_said bytes is) k ≡ Some c → text bytes q ≡ c.name → ParamThere bytes is k q
 param_there bytes [] k c q d e h = absurd (cc)
 param_there bytes (ParamItem n r ∷ is) zero c q d e h =
     let z : ranged bytes n r ≡ c = cc in
@@ -154,8 +186,10 @@ param_there bytes (ParamItem n r ∷ is) zero c q d e h =
     record { known = or_left _ _ b; at = λ j. let k : j ≡ j + 0 = omega arith in rw b (ap (λ (m : ℕ). Some m) k) }
 param_there bytes (ParamItem n r ∷ is) (suc k) c q d e h =
     let g = param_there bytes is k c q d.1 e h in
-    let there : slice_get (map (λ (x : CoordOf). x.name) (params_said bytes is)) k ≡ Some c.name = get_map (λ (x : CoordOf). x.name) (params_said bytes is) k c e in
-    let b : bytes_eq (text bytes n) (text bytes q) ≡ false = rw h (not_there (text bytes n) (map (λ (x : CoordOf). x.name) (params_said bytes is)) k c.name d.0 there) in
+    let there : slice_get (map (λ (x : CoordOf). x.name) (params_said bytes is)) k ≡ Some c.name =
+    get_map (λ (x : CoordOf). x.name) (params_said bytes is) k c e in
+    let b : bytes_eq (text bytes n) (text bytes q) ≡ false =
+    rw h (not_there (text bytes n) (map (λ (x : CoordOf). x.name) (params_said bytes is)) k c.name d.0 there) in
     record { known = or_right _ _ g.known; at = λ j. let k : j + 1 + k ≡ j + suc k = omega arith in rw b (g.at (j + 1) ∙ ap (λ (m : ℕ). Some m) k) }
 param_there bytes (SiteItem n cs ∷ is) k c q d e h = let g = param_there bytes is k c q d e h in record { known = g.known; at = g.at }
 param_there bytes (PredItem n as' ls r ∷ is) k c q d e h = let g = param_there bytes is k c q d e h in record { known = g.known; at = g.at }
@@ -174,15 +208,18 @@ record Reads (bytes : List ℕ) (s : Scope) (w : Written) (f : Formula) : Type 0
   says : meaning bytes s w ≡ f
   meant : Meant bytes s w
 
-let_reads : (bytes : List ℕ) (s : Scope) (t : TableOf) (args : List ArgOf) (names more : List (List ℕ)) → InScope bytes s t args names more → Every IsShortName names → (j : ℕ) → j < length names
+let_reads : (bytes : List ℕ) (s : Scope) (t : TableOf) (args : List ArgOf) (names more : List (List ℕ)) → InScope bytes s t args names more
+    → Every IsShortName names → (j : ℕ) → j < length names
     → Reads bytes s (WName (unwrap_or (slice_get (names ++ more) j) [])) (FName no_span j)
 let_reads bytes s t args names more c g j l =
     let e = at_place names j l in
     let u = get_longer names more j e.0 e.1 in
-    let d : Differ (map (λ (l : RawLet). text bytes l.name) s.lets) = subst (λ (w : List (List ℕ)). Differ w) (sym c.lets) (differ_left names more (differ_right (map (arg_name t.params) args) (names ++ more) c.differ)) in
+    let d : Differ (map (λ (l : RawLet). text bytes l.name) s.lets) = subst (λ (w : List (List ℕ)). Differ w) (sym c.lets)
+    (differ_left names more (differ_right (map (arg_name t.params) args) (names ++ more) c.differ)) in
     let v : slice_get (map (λ (l : RawLet). text bytes l.name) s.lets) j ≡ Some e.0 = ap (λ (w : List (List ℕ)). slice_get w j) c.lets ∙ e.1 in
     let p = place_of_name (λ (l : RawLet). text bytes l.name) s.lets j e.0 d v in
-    let k : list_any (λ (l : RawLet). bytes_eq (text bytes l.name) e.0) s.lets ≡ true = any_place _ s.lets 0 j (sym (position_from-zero (λ (l : RawLet). bytes_eq (text bytes l.name) e.0) s.lets) ∙ p) in
+    let k : list_any (λ (l : RawLet). bytes_eq (text bytes l.name) e.0) s.lets ≡ true =
+    any_place _ s.lets 0 j (sym (position_from-zero (λ (l : RawLet). bytes_eq (text bytes l.name) e.0) s.lets) ∙ p) in
     let q : IsShortName e.0 = every_at IsShortName names j e.0 g e.1 in
     rw u (record { says = rw p refl; meant = (q.1, or_left _ _ k) })
 
@@ -193,55 +230,73 @@ param_called : (bytes : List ℕ) (t : TableOf) (p : ℕ) (r : RawArg) → ArgWr
 param_called bytes t p r h = h.0
 
 -- the names of coordinates
-pub coord_map : (bytes : List ℕ) (raws : List RawCoord) → map (λ (x : CoordOf). x.name) (map (λ (c : RawCoord). ranged bytes c.name c.range) raws) ≡ map (λ (c : RawCoord). text bytes c.name) raws
+pub coord_map : (bytes : List ℕ) (raws : List RawCoord)
+    → map (λ (x : CoordOf). x.name) (map (λ (c : RawCoord). ranged bytes c.name c.range) raws) ≡ map (λ (c : RawCoord). text bytes c.name) raws
 coord_map bytes [] = refl
 coord_map bytes (c ∷ raws) = ap (λ (w : List (List ℕ)). text bytes c.name ∷ w) (coord_map bytes raws)
 
-input_reads : (bytes : List ℕ) (s : Scope) (t : TableOf) (n : Naming) (names more : List (List ℕ)) → n.sites ≡ t.sites → n.params ≡ t.params → InScope bytes s t n.args names more → NamesGood n → (d c : ℕ) → InputThere n.sites n.params n.args d c
+input_reads : (bytes : List ℕ) (s : Scope) (t : TableOf) (n : Naming) (names more : List (List ℕ)) → n.sites ≡ t.sites → n.params ≡ t.params
+    → InScope bytes s t n.args names more → NamesGood n → (d c : ℕ) → InputThere n.sites n.params n.args d c
     → Reads bytes s (input n (slice_get n.args d) c) (FInput no_span d c)
 input_reads bytes s t n names more es ep v g d c (of_site m k x y e f h) =
-    let a = arg_found bytes t is_site_arg s.args n.args d (SiteArg m k) v.args (differ_left (map (arg_name t.params) n.args) (names ++ more) v.differ) e (site_called bytes t m k) in
+    let a = arg_found bytes t is_site_arg s.args n.args d (SiteArg m k) v.args
+    (differ_left (map (arg_name t.params) n.args) (names ++ more) v.differ) e (site_called bytes t m k) in
     let f2 : slice_get t.sites k ≡ Some x = ap (λ (w : List SiteOf). slice_get w k) (sym es) ∙ f in
     let kind : text bytes a.raw.kind ≡ x.name = a.writes.2 ∙ ap site_name f2 in
     let here : slice_get (sites_said bytes s.items) k ≡ Some x = ap (λ (w : List SiteOf). slice_get w k) v.sites ∙ f2 in
     let df = subst (λ (w : List SiteOf). Differ (map (λ (x : SiteOf). x.name) w)) (sym v.sites) v.site_names in
     let b = type_there bytes s.items k x a.raw.kind df here kind in
     let parts : SiteParts x = every_at SiteParts t.sites k x v.site_parts f2 in
-    let nm : map (λ (c : RawCoord). text bytes c.name) b.raws ≡ map (λ (x : CoordOf). x.name) x.coords = sym (coord_map bytes b.raws) ∙ ap (map (λ (x : CoordOf). x.name)) b.says in
+    let nm : map (λ (c : RawCoord). text bytes c.name) b.raws ≡ map (λ (x : CoordOf). x.name) x.coords =
+    sym (coord_map bytes b.raws) ∙ ap (map (λ (x : CoordOf). x.name)) b.says in
     let dc = subst (λ (w : List (List ℕ)). Differ w) (sym nm) parts.differ in
-    let there : slice_get (map (λ (c : RawCoord). text bytes c.name) b.raws) c ≡ Some y.name = ap (λ (w : List (List ℕ)). slice_get w c) nm ∙ get_map (λ (x : CoordOf). x.name) x.coords c y h in
+    let there : slice_get (map (λ (c : RawCoord). text bytes c.name) b.raws) c ≡ Some y.name =
+    ap (λ (w : List (List ℕ)). slice_get w c) nm ∙ get_map (λ (x : CoordOf). x.name) x.coords c y h in
     let pc = place_of_name (λ (c : RawCoord). text bytes c.name) b.raws c y.name dc there in
-    let pa : position (arg_called bytes is_site_arg m) s.args ≡ Some d = position_from-zero (arg_called bytes is_site_arg m) s.args ∙ a.at 0 ∙ ap (λ (w : ℕ). Some w) (zero-add d) in
+    let pa : position (arg_called bytes is_site_arg m) s.args ≡ Some d =
+    position_from-zero (arg_called bytes is_site_arg m) s.args ∙ a.at 0 ∙ ap (λ (w : ℕ). Some w) (zero-add d) in
     let cs : coords_of bytes s.items (find (arg_called bytes is_site_arg m) s.args) ≡ b.raws = rw a.found (rw b.found refl) in
     let ka : list_any (arg_called bytes is_site_arg m) s.args ≡ true = any_found (arg_called bytes is_site_arg m) s.args a.raw a.found in
-    let kc : list_any (λ (c : RawCoord). bytes_eq (text bytes c.name) y.name) b.raws ≡ true = any_place _ b.raws 0 c (sym (position_from-zero (λ (c : RawCoord). bytes_eq (text bytes c.name) y.name) b.raws) ∙ pc) in
+    let kc : list_any (λ (c : RawCoord). bytes_eq (text bytes c.name) y.name) b.raws ≡ true =
+    any_place _ b.raws 0 c (sym (position_from-zero (λ (c : RawCoord). bytes_eq (text bytes c.name) y.name) b.raws) ∙ pc) in
     let i : IsShortName m = every_at ArgNames n.args d (SiteArg m k) g.args e in
     let j : IsShortName y.name = every_at (λ (z : CoordOf). IsShortName z.name) x.coords c y (every_at SiteNames n.sites k x g.sites f).coords h in
     rw (e, f, h) (record { says = rw (pa, cs, pc) refl; meant = (i.1, j.1, ka, rw cs kc) })
 input_reads bytes s t n names more es ep v g d c (of_param p x e f z) =
-    let a = arg_found bytes t is_param_arg s.args n.args d (ParamArg p) v.args (differ_left (map (arg_name t.params) n.args) (names ++ more) v.differ) e (param_called bytes t p) in
+    let a = arg_found bytes t is_param_arg s.args n.args d (ParamArg p) v.args
+    (differ_left (map (arg_name t.params) n.args) (names ++ more) v.differ) e (param_called bytes t p) in
     let f2 : slice_get t.params p ≡ Some x = ap (λ (w : List CoordOf). slice_get w p) (sym ep) ∙ f in
     let m : arg_name t.params (ParamArg p) ≡ x.name = ap range_name f2 in
-    let pa : position (arg_called bytes is_param_arg (arg_name t.params (ParamArg p))) s.args ≡ Some d = position_from-zero _ s.args ∙ a.at 0 ∙ ap (λ (w : ℕ). Some w) (zero-add d) in
-    let pb : position (arg_called bytes is_param_arg x.name) s.args ≡ Some d = subst (λ (w : List ℕ). position (arg_called bytes is_param_arg w) s.args ≡ Some d) m pa in
-    let there : slice_get (map (arg_name t.params) n.args) d ≡ Some x.name = get_map (arg_name t.params) n.args d (ParamArg p) e ∙ ap (λ (w : List ℕ). Some w) m in
+    let pa : position (arg_called bytes is_param_arg (arg_name t.params (ParamArg p))) s.args ≡ Some d =
+    position_from-zero _ s.args ∙ a.at 0 ∙ ap (λ (w : ℕ). Some w) (zero-add d) in
+    let pb : position (arg_called bytes is_param_arg x.name) s.args ≡ Some d =
+    subst (λ (w : List ℕ). position (arg_called bytes is_param_arg w) s.args ≡ Some d) m pa in
+    let there : slice_get (map (arg_name t.params) n.args) d ≡ Some x.name =
+    get_map (arg_name t.params) n.args d (ParamArg p) e ∙ ap (λ (w : List ℕ). Some w) m in
     let no : NoneIs x.name names = none_left x.name names more (apart (map (arg_name t.params) n.args) (names ++ more) d x.name v.differ there) in
     let no2 : NoneIs x.name (map (λ (l : RawLet). text bytes l.name) s.lets) = subst (λ (w : List (List ℕ)). NoneIs x.name w) (sym v.lets) no in
     let nl = none_called (λ (l : RawLet). text bytes l.name) s.lets x.name no2 in
     let pl : position (λ (l : RawLet). bytes_eq (text bytes l.name) x.name) s.lets ≡ None = no_place _ s.lets nl in
-    let ka : list_any (arg_called bytes is_param_arg x.name) s.args ≡ true = subst (λ (w : List ℕ). list_any (arg_called bytes is_param_arg w) s.args ≡ true) m (any_found (arg_called bytes is_param_arg (arg_name t.params (ParamArg p))) s.args a.raw a.found) in
+    let ka : list_any (arg_called bytes is_param_arg x.name) s.args ≡ true = subst (λ (w : List ℕ). list_any (arg_called bytes is_param_arg w) s.args ≡ true) m
+    (any_found (arg_called bytes is_param_arg (arg_name t.params (ParamArg p))) s.args a.raw a.found) in
     let i : IsShortName x.name = every_at (λ (y : CoordOf). IsShortName y.name) n.params p x g.params f in
     rw (e, f, z) (record { says = rw (pl, pb) refl; meant = (i.1, or_right _ _ ka) })
 
 -- a fit formula, written with the table's names, means itself
-reads : (bytes : List ℕ) (s : Scope) (t : TableOf) (n : Naming) (names more : List (List ℕ)) → n.sites ≡ t.sites → n.params ≡ t.params → n.lets ≡ names ++ more → InScope bytes s t n.args names more → NamesGood n → Every IsShortName names
-    → (vars : List VarInfo) → vars ≡ vars_behind n.sites n.params 0 0 n.args → (f : Formula) → is_fit (length vars) (length names) (tree vars f) ≡ true → Reads bytes s (written n f) (spanless f)
+reads : (bytes : List ℕ) (s : Scope) (t : TableOf) (n : Naming) (names more : List (List ℕ)) → n.sites ≡ t.sites → n.params ≡ t.params
+    → n.lets ≡ names ++ more → InScope bytes s t n.args names more → NamesGood n → Every IsShortName names
+    → (vars : List VarInfo) → vars ≡ vars_behind n.sites n.params 0 0 n.args → (f : Formula)
+    → is_fit (length vars) (length names) (tree vars f) ≡ true → Reads bytes s (written n f) (spanless f)
 reads bytes s t n names more es ep el v g k vars q (FNum at c) h = let l = literal c h in record { says = ap (λ z. FNum no_span z) l.0; meant = l.1 }
 reads bytes s t n names more es ep el v g k vars q (FInput at a c) h =
-    input_reads bytes s t n names more es ep v g a c (input_there n.sites n.params n.args a c (subst (λ (w : List VarInfo). nat_lt (number_or_end w a c) (length w) ≡ true) q h))
+    input_reads bytes s t n names more es ep v g a c
+    (input_there n.sites n.params n.args a c (subst (λ (w : List VarInfo). nat_lt (number_or_end w a c) (length w) ≡ true) q h))
 reads bytes s t n names more es ep el v g k vars q (FName at j) h =
-    subst (λ (w : List (List ℕ)). Reads bytes s (WName (unwrap_or (slice_get w j) [])) (FName no_span j)) (sym el) (let_reads bytes s t n.args names more v k j (ltb-true j (length names) h))
-reads bytes s t n names more es ep el v g k vars q (FNeg at e) h = let a = reads bytes s t n names more es ep el v g k vars q e h in record { says = ap (λ (f : Formula). FNeg no_span f) a.says; meant = a.meant }
+    subst (λ (w : List (List ℕ)). Reads bytes s (WName (unwrap_or (slice_get w j) [])) (FName no_span j)) (sym el)
+    (let_reads bytes s t n.args names more v k j (ltb-true j (length names) h))
+reads bytes s t n names more es ep el v g k vars q (FNeg at e) h =
+    let a = reads bytes s t n names more es ep el v g k vars q e h in
+    record { says = ap (λ (f : Formula). FNeg no_span f) a.says; meant = a.meant }
 reads bytes s t n names more es ep el v g k vars q (FAdd at e f) h =
     let p = and_parts (is_fit (length vars) (length names) (tree vars e)) (is_fit (length vars) (length names) (tree vars f)) h in
     let a = reads bytes s t n names more es ep el v g k vars q e p.0 in
@@ -262,6 +317,8 @@ reads bytes s t n names more es ep el v g k vars q (FPow at e m) h =
     let a = reads bytes s t n names more es ep el v g k vars q e p.0 in
     let x = a.says in record { says = rw x refl; meant = (a.meant, at_most m 16 p.1) }
 
-pub means : (bytes : List ℕ) (s : Scope) (t : TableOf) (n : Naming) (names more : List (List ℕ)) → n.sites ≡ t.sites → n.params ≡ t.params → n.lets ≡ names ++ more → InScope bytes s t n.args names more → NamesGood n → Every IsShortName names
-    → (vars : List VarInfo) → vars ≡ vars_behind n.sites n.params 0 0 n.args → (f : Formula) → is_fit (length vars) (length names) (tree vars f) ≡ true → (meaning bytes s (written n f) ≡ spanless f) × Meant bytes s (written n f)
+pub means : (bytes : List ℕ) (s : Scope) (t : TableOf) (n : Naming) (names more : List (List ℕ)) → n.sites ≡ t.sites → n.params ≡ t.params
+    → n.lets ≡ names ++ more → InScope bytes s t n.args names more → NamesGood n → Every IsShortName names
+    → (vars : List VarInfo) → vars ≡ vars_behind n.sites n.params 0 0 n.args → (f : Formula)
+    → is_fit (length vars) (length names) (tree vars f) ≡ true → (meaning bytes s (written n f) ≡ spanless f) × Meant bytes s (written n f)
 means bytes s t n names more es ep el v g k vars q f h = let r = reads bytes s t n names more es ep el v g k vars q f h in (r.says, r.meant)

@@ -28,11 +28,13 @@ use Rattle.ln_parse.specs.Says.{Says, LetsSay, PredSays, PredsSay, ItemsSay, res
 use Rattle.ln_parse.specs.Text.{TextOf}
 
 -- an expression before a semicolon says a formula
-value_said : (bytes : List ℕ) (ts : List Token) (s : Scope) (i j : ℕ) → IsExpr ts i j → Is ts j Semi → (x : Formula) × Says bytes ts s (record { from = i; to = j }) x
+value_said : (bytes : List ℕ) (ts : List Token) (s : Scope) (i j : ℕ) → IsExpr ts i j → Is ts j Semi
+    → (x : Formula) × Says bytes ts s (record { from = i; to = j }) x
 value_said bytes ts s i j e h = (resolved bytes s e.0, record { tree = e.0; derives = e.1; ends = h; means = refl })
 
 -- lets say formulas
-lets_said : (bytes : List ℕ) (ts : List Token) (is : List Item) (args : List RawArg) (before : List RawLet) {i k : ℕ} {ls : List RawLet} → Lets ts i k ls → (xs : List Formula) × LetsSay bytes ts is args before ls xs
+lets_said : (bytes : List ℕ) (ts : List Token) (is : List Item) (args : List RawArg) (before : List RawLet) {i k : ℕ} {ls : List RawLet}
+    → Lets ts i k ls → (xs : List Formula) × LetsSay bytes ts is args before ls xs
 lets_said bytes ts is args before no_let = ([], tt)
 lets_said bytes ts is args before {ls = l ∷ ls} (a_let a b c e h on) =
     let v = value_said bytes ts (scope is args before) _ _ e h in
@@ -44,8 +46,10 @@ record Preds (bytes : List ℕ) (ts : List Token) (ss : List SiteOf) (cs : List 
   pub preds : List PredOf
   pub say : (t : TableOf) → t.sites ≡ ss → t.params ≡ cs → PredsSay bytes ts before t is preds
 
-one_pred : (bytes : List ℕ) (ts : List Token) (ss : List SiteOf) (cs : List CoordOf) (before : List Item) (name : Span) (args : List RawArg) (ls : List RawLet) (root : Places) (xs : List Formula) (x : Formula)
-    → LetsSay bytes ts before args [] ls xs → Says bytes ts (scope before args ls) root x → (p : PredOf) × ((t : TableOf) → t.sites ≡ ss → t.params ≡ cs → PredSays bytes ts before t name args ls root p)
+one_pred : (bytes : List ℕ) (ts : List Token) (ss : List SiteOf) (cs : List CoordOf) (before : List Item) (name : Span) (args : List RawArg)
+    (ls : List RawLet) (root : Places) (xs : List Formula) (x : Formula)
+    → LetsSay bytes ts before args [] ls xs → Says bytes ts (scope before args ls) root x
+    → (p : PredOf) × ((t : TableOf) → t.sites ≡ ss → t.params ≡ cs → PredSays bytes ts before t name args ls root p)
 one_pred bytes ts ss cs before name args ls root xs x l r =
     let as' = map (λ (a : RawArg). arg_said bytes before a a.is_param) args in (
       record {
@@ -72,7 +76,8 @@ one_pred bytes ts ss cs before name args ls root xs x l r =
       },
     )
 
-preds_said : (bytes : List ℕ) (ts : List Token) (ss : List SiteOf) (cs : List CoordOf) (before : List Item) {i k : ℕ} {is : List Item} → Items ts i k is → Preds bytes ts ss cs before is
+preds_said : (bytes : List ℕ) (ts : List Token) (ss : List SiteOf) (cs : List CoordOf) (before : List Item) {i k : ℕ} {is : List Item}
+    → Items ts i k is → Preds bytes ts ss cs before is
 preds_said bytes ts ss cs before no_item = record { preds = []; say = λ t p q. tt }
 preds_said bytes ts ss cs before {is = x ∷ xs} (an_item (site a b c d e) on) =
     let r = preds_said bytes ts ss cs (before ++ (x ∷ [])) on in
@@ -100,7 +105,8 @@ items_said bytes ts is h =
 abbrev Judged : List ℕ → Type 0
 Judged bytes = ((t : TableOf) × TextOf bytes t) ⊎ ((e : ParseStop) × TextFault bytes e)
 
-named : (bytes : List ℕ) (ts : List Token) (is : List Item) → Lexed bytes ts → length ts ≤ 65536 → IsShallow ts → Spelt ts is → (o : Option Found) → first_fault bytes (file_visits ts is) ≡ o → Judged bytes
+named : (bytes : List ℕ) (ts : List Token) (is : List Item) → Lexed bytes ts → length ts ≤ 65536 → IsShallow ts → Spelt ts is
+    → (o : Option Found) → first_fault bytes (file_visits ts is) ≡ o → Judged bytes
 named bytes ts is l w s p (Some f) e = inr (_, fault.names l w s p (is_first bytes (file_visits ts is) f e))
 named bytes ts is l w s p None e =
     let r = items_said bytes ts is p in

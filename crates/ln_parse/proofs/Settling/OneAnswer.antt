@@ -1,4 +1,4 @@
--- A text has one answer: one table, or one fault, and not both.
+-- A text has one result: one table, or one fault, and not both.
 use Rattle.std.proofs.Common.{◌≡◌, inl, inr, ℕ, List, [], ◌∷◌, ◌++◌, refl, ap, sym, ◌∙◌, subst}
 use Rattle.std.specs.Prelude.{count_by}
 use Rattle.ln_base.specs.declared.span.Span.{Span}
@@ -29,18 +29,23 @@ use Rattle.ln_parse.specs.Says.{Says, LetsSay, PredSays, PredsSay, ItemsSay, res
 use Rattle.ln_parse.specs.Text.{TextOf}
 use Rattle.ln_parse.specs.Fault.{TextFault, IsRefusal, IsWithoutTable, lexical, tokens, nesting, syntax, names, one_byte, place_of, stop_of}
 
-made_pred : (n n2 : List ℕ) (w w2 : Span) (a a2 : List ArgOf) (h h2 : List ℕ) (s s2 : ℕ) (v v2 : List VarInfo) (m m2 : List (List ℕ)) (l l2 : List Formula) (r r2 : Formula) → n ≡ n2 → w ≡ w2 → a ≡ a2 → h ≡ h2 → s ≡ s2 → v ≡ v2 → m ≡ m2 → l ≡ l2 → r ≡ r2
-    → ◌≡◌ {A = PredOf} (record { name = n; at = w; args = a; shape_name = h; sites = s; vars = v; let_names = m; lets = l; root = r }) (record { name = n2; at = w2; args = a2; shape_name = h2; sites = s2; vars = v2; let_names = m2; lets = l2; root = r2 })
+made_pred : (n n2 : List ℕ) (w w2 : Span) (a a2 : List ArgOf) (h h2 : List ℕ) (s s2 : ℕ) (v v2 : List VarInfo) (m m2 : List (List ℕ))
+    (l l2 : List Formula) (r r2 : Formula) → n ≡ n2 → w ≡ w2 → a ≡ a2 → h ≡ h2 → s ≡ s2 → v ≡ v2 → m ≡ m2 → l ≡ l2 → r ≡ r2
+    → ◌≡◌ {A = PredOf} (record { name = n; at = w; args = a; shape_name = h; sites = s; vars = v; let_names = m; lets = l; root = r })
+    (record { name = n2; at = w2; args = a2; shape_name = h2; sites = s2; vars = v2; let_names = m2; lets = l2; root = r2 })
 made_pred n n2 w w2 a a2 h h2 s s2 v v2 m m2 l l2 r r2 e1 e2 e3 e4 e5 e6 e7 e8 e9 = rw (e1, e2, e3, e4, e5, e6, e7, e8, e9) refl
 
-made_table : (s s2 : List SiteOf) (p p2 : List CoordOf) (q q2 : List PredOf) → s ≡ s2 → p ≡ p2 → q ≡ q2 → ◌≡◌ {A = TableOf} (record { sites = s; params = p; preds = q }) (record { sites = s2; params = p2; preds = q2 })
+made_table : (s s2 : List SiteOf) (p p2 : List CoordOf) (q q2 : List PredOf) → s ≡ s2 → p ≡ p2 → q ≡ q2
+    → ◌≡◌ {A = TableOf} (record { sites = s; params = p; preds = q }) (record { sites = s2; params = p2; preds = q2 })
 made_table s s2 p p2 q q2 a b c = rw (a, b, c) refl
 
 -- the tokens of an expression say one formula
-says_one : (bytes : List ℕ) (ts : List Token) (is : List Item) (args : List RawArg) (ls : List RawLet) (p : Places) (x y : Formula) → Says bytes ts (scope is args ls) p x → Says bytes ts (scope is args ls) p y → x ≡ y
+says_one : (bytes : List ℕ) (ts : List Token) (is : List Item) (args : List RawArg) (ls : List RawLet) (p : Places) (x y : Formula)
+    → Says bytes ts (scope is args ls) p x → Says bytes ts (scope is args ls) p y → x ≡ y
 says_one bytes ts is args ls p x y a b = sym a.means ∙ ap (resolved bytes (scope is args ls)) (one_tree a.derives a.ends b.derives b.ends).tree ∙ b.means
 
-lets_one : (bytes : List ℕ) (ts : List Token) (is : List Item) (args : List RawArg) (before ls : List RawLet) (xs ys : List Formula) → LetsSay bytes ts is args before ls xs → LetsSay bytes ts is args before ls ys → xs ≡ ys
+lets_one : (bytes : List ℕ) (ts : List Token) (is : List Item) (args : List RawArg) (before ls : List RawLet) (xs ys : List Formula)
+    → LetsSay bytes ts is args before ls xs → LetsSay bytes ts is args before ls ys → xs ≡ ys
 lets_one bytes ts is args before [] [] [] a b = refl
 lets_one bytes ts is args before [] [] (y ∷ ys) a b = absurd b
 lets_one bytes ts is args before [] (x ∷ xs) ys a b = absurd a
@@ -52,18 +57,21 @@ lets_one bytes ts is args before (l ∷ ls) (x ∷ xs) (y ∷ ys) a b =
     rw (e, f) refl
 
 -- the tokens of a predicate say one predicate of tables with the same site types and params
-pred_one : (bytes : List ℕ) (ts : List Token) (is : List Item) (t u : TableOf) (n : Span) (args : List RawArg) (ls : List RawLet) (root : Places) (p q : PredOf) → t.sites ≡ u.sites → t.params ≡ u.params
+pred_one : (bytes : List ℕ) (ts : List Token) (is : List Item) (t u : TableOf) (n : Span) (args : List RawArg) (ls : List RawLet)
+    (root : Places) (p q : PredOf) → t.sites ≡ u.sites → t.params ≡ u.params
     → PredSays bytes ts is t n args ls root p → PredSays bytes ts is u n args ls root q → p ≡ q
 pred_one bytes ts is t u n args ls root p q s r a b =
     let e = lets_one bytes ts is args [] ls p.lets q.lets a.lets_are b.lets_are in
     let f = says_one bytes ts is args ls root p.root q.root a.root_is b.root_is in
     let g : p.args ≡ q.args = a.args_are ∙ sym b.args_are in
     let h : p.sites ≡ q.sites = a.sites_are ∙ ap (count_by is_site_said) g ∙ sym b.sites_are in
-    let v : p.vars ≡ q.vars = a.vars_are ∙ ap (λ (w : List SiteOf). vars_behind w t.params 0 0 p.args) s ∙ ap (λ (w : List CoordOf). vars_behind u.sites w 0 0 p.args) r ∙ ap (vars_behind u.sites u.params 0 0) g ∙ sym b.vars_are in
+    let v : p.vars ≡ q.vars = a.vars_are ∙ ap (λ (w : List SiteOf). vars_behind w t.params 0 0 p.args) s
+    ∙ ap (λ (w : List CoordOf). vars_behind u.sites w 0 0 p.args) r ∙ ap (vars_behind u.sites u.params 0 0) g ∙ sym b.vars_are in
     made_pred p.name q.name p.at q.at p.args q.args p.shape_name q.shape_name p.sites q.sites p.vars q.vars p.let_names q.let_names p.lets q.lets p.root q.root
     (a.name_is ∙ sym b.name_is) (a.at_is ∙ sym b.at_is) g (a.shape_is ∙ sym b.shape_is) h v (a.names_are ∙ sym b.names_are) e f
 
-preds_one : (bytes : List ℕ) (ts : List Token) (before : List Item) (t u : TableOf) (is : List Item) (ps qs : List PredOf) → t.sites ≡ u.sites → t.params ≡ u.params → PredsSay bytes ts before t is ps → PredsSay bytes ts before u is qs → ps ≡ qs
+preds_one : (bytes : List ℕ) (ts : List Token) (before : List Item) (t u : TableOf) (is : List Item) (ps qs : List PredOf)
+    → t.sites ≡ u.sites → t.params ≡ u.params → PredsSay bytes ts before t is ps → PredsSay bytes ts before u is qs → ps ≡ qs
 preds_one bytes ts before t u [] [] [] s r a b = refl
 preds_one bytes ts before t u [] [] (q ∷ qs) s r a b = absurd b
 preds_one bytes ts before t u [] (p ∷ ps) qs s r a b = absurd a
@@ -93,15 +101,20 @@ one_table bytes t u a b =
 
 -- two faults of one pass are one
 two_deep : (ts us : List Token) (i j : ℕ) → ts ≡ us → IsNestingFault ts i → IsNestingFault us j → span_at ts i ≡ span_at us j
-two_deep ts us i j q a b = let e = one_depth ts i j a (subst (λ (w : List Token). IsNestingFault w j) (sym q) b) in ap (span_at ts) e ∙ ap (λ (w : List Token). span_at w j) q
+two_deep ts us i j q a b =
+    let e = one_depth ts i j a (subst (λ (w : List Token). IsNestingFault w j) (sym q) b) in
+    ap (span_at ts) e ∙ ap (λ (w : List Token). span_at w j) q
 
 two_places : (bytes : List ℕ) (ts us : List Token) (i j : ℕ) → ts ≡ us → IsSyntaxFault ts i → IsSyntaxFault us j → place_of bytes ts i ≡ place_of bytes us j
-two_places bytes ts us i j q a b = let e = one_place ts i j a (subst (λ (w : List Token). IsSyntaxFault w j) (sym q) b) in ap (place_of bytes ts) e ∙ ap (λ (w : List Token). place_of bytes w j) q
+two_places bytes ts us i j q a b =
+    let e = one_place ts i j a (subst (λ (w : List Token). IsSyntaxFault w j) (sym q) b) in
+    ap (place_of bytes ts) e ∙ ap (λ (w : List Token). place_of bytes w j) q
 
 one_name : (bytes : List ℕ) (ts : List Token) (is : List Item) (f g : Found) → FirstFault bytes ts is f → FirstFault bytes ts is g → f ≡ g
 one_name bytes ts is f g d e = let a = first_of bytes (file_visits ts is) f d in let b = first_of bytes (file_visits ts is) g e in cc
 
-two_names : (bytes : List ℕ) (ts us : List Token) (is js : List Item) (f g : Found) → ts ≡ us → Spelt ts is → Spelt us js → FirstFault bytes ts is f → FirstFault bytes us js g → stop_of f.fault f.at ≡ stop_of g.fault g.at
+two_names : (bytes : List ℕ) (ts us : List Token) (is js : List Item) (f g : Found) → ts ≡ us → Spelt ts is → Spelt us js
+    → FirstFault bytes ts is f → FirstFault bytes us js g → stop_of f.fault f.at ≡ stop_of g.fault g.at
 two_names bytes ts us is js f g q s r a b =
     let r2 = subst (λ (w : List Token). Spelt w js) (sym q) r in
     let b2 = subst (λ (w : List Token). FirstFault bytes w js g) (sym q) b in
@@ -116,7 +129,8 @@ deep_or_shallow ts us i q a b = no_depth ts i a (subst IsShallow (sym q) b)
 fault_or_spelt : (ts us : List Token) (i : ℕ) (is : List Item) → ts ≡ us → IsSyntaxFault ts i → Spelt us is → ⊥
 fault_or_spelt ts us i is q a b = no_text ts i a (is, subst (λ (w : List Token). Spelt w is) (sym q) b)
 
-fault_or_clean : (bytes : List ℕ) (ts us : List Token) (is js : List Item) (f : Found) → ts ≡ us → Spelt ts is → Spelt us js → FirstFault bytes ts is f → NoFault bytes us js → ⊥
+fault_or_clean : (bytes : List ℕ) (ts us : List Token) (is js : List Item) (f : Found) → ts ≡ us → Spelt ts is → Spelt us js
+    → FirstFault bytes ts is f → NoFault bytes us js → ⊥
 fault_or_clean bytes ts us is js f q s r a b =
     let r2 = subst (λ (w : List Token). Spelt w js) (sym q) r in
     let b2 = subst (λ (w : List Token). NoFault bytes w js) (sym q) b in
@@ -151,7 +165,8 @@ one_fault bytes (names {ts = ts} k n r o d) (lexical {at = j} b) = absurd (list_
 one_fault bytes (names {ts = ts} k n r o d) (tokens {at = j} b) = absurd (list_or_limit bytes ts j k n b)
 one_fault bytes (names {ts = ts} k n r o d) (nesting {ts = us} {k = j} l m e) = absurd (deep_or_shallow us ts j (one_list bytes us ts l k) e r)
 one_fault bytes (names {ts = ts} {is = is} k n r o d) (syntax {ts = us} {k = j} l m s e) = absurd (fault_or_spelt us ts j is (one_list bytes us ts l k) e o)
-one_fault bytes (names {ts = ts} {is = is} {f = f} k n r o d) (names {ts = us} {is = js} {f = g} l m s p e) = two_names bytes ts us is js f g (one_list bytes ts us k l) o p d e
+one_fault bytes (names {ts = ts} {is = is} {f = f} k n r o d) (names {ts = us} {is = js} {f = g} l m s p e) =
+    two_names bytes ts us is js f g (one_list bytes ts us k l) o p d e
 
 -- a text with a table has no fault
 pub no_fault : (bytes : List ℕ) (t : TableOf) {e : ParseStop} → TextOf bytes t → TextFault bytes e → ⊥
@@ -159,9 +174,10 @@ no_fault bytes t a (lexical {at = j} b) = list_or_fault bytes a.tokens j a.lexed
 no_fault bytes t a (tokens {at = j} b) = list_or_limit bytes a.tokens j a.lexed a.few b
 no_fault bytes t a (nesting {ts = us} {k = j} l m e) = deep_or_shallow us a.tokens j (one_list bytes us a.tokens l a.lexed) e a.shallow
 no_fault bytes t a (syntax {ts = us} {k = j} l m s e) = fault_or_spelt us a.tokens j a.items (one_list bytes us a.tokens l a.lexed) e a.spelt
-no_fault bytes t a (names {ts = us} {is = js} {f = g} l m s p e) = fault_or_clean bytes us a.tokens js a.items g (one_list bytes us a.tokens l a.lexed) p a.spelt e a.clean
+no_fault bytes t a (names {ts = us} {is = js} {f = g} l m s p e) =
+    fault_or_clean bytes us a.tokens js a.items g (one_list bytes us a.tokens l a.lexed) p a.spelt e a.clean
 
--- a text with a table is refused for want of memory alone
+-- a text with a table is refused only when out of memory
 pub memory_alone : (bytes : List ℕ) (e : ParseStop) → IsRefusal bytes e → IsWithoutTable bytes e
 memory_alone bytes e (inl f) t a = absurd (no_fault bytes t a f)
 memory_alone bytes e (inr m) t a = m

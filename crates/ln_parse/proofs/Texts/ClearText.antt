@@ -37,7 +37,8 @@ coords_clear [] n rest k = k
 coords_clear (c ∷ cs) n rest k = ranged_clear c n.0 (gap ∷ each coord cs rest) (coords_clear cs n.1 rest k)
 
 site_clear : (s : SiteOf) → SiteNamed s → (rest : List Lexeme) → Clear rest → Clear (site s rest)
-site_clear s n rest k = (refl, refl, (name_kind s.name n.name, refl, (refl, tt, coords_clear s.coords n.coords (word BraceR (codes "}") ∷ line ∷ rest) (refl, tt, k))))
+site_clear s n rest k =
+    (refl, refl, (name_kind s.name n.name, refl, (refl, tt, coords_clear s.coords n.coords (word BraceR (codes "}") ∷ line ∷ rest) (refl, tt, k))))
 
 param_clear : (c : CoordOf) → CoordNamed c → (rest : List Lexeme) → Clear rest → Clear (param c rest)
 param_clear c n rest k = (refl, refl, ranged_clear c n (line ∷ rest) k)
@@ -49,18 +50,29 @@ arg_clear t (ParamArg p) n = λ rest s1 c. (name_kind (range_name (slice_get t.p
 args_clear : (t : TableOf) (xs : List ArgOf) → Every (ArgNamed t) xs → Clears (args t xs)
 args_clear t [] n = λ rest s c. c
 args_clear t (a ∷ []) n = arg_clear t a n.0
-args_clear t (a ∷ b ∷ bs) n = λ rest s c. arg_clear t a n.0 (word Comma (codes ",") ∷ gap ∷ args t (b ∷ bs) rest) refl (refl, tt, args_clear t (b ∷ bs) n.1 rest s c)
+args_clear t (a ∷ b ∷ bs) n =
+    λ rest s c. arg_clear t a n.0 (word Comma (codes ",") ∷ gap ∷ args t (b ∷ bs) rest) refl (refl, tt, args_clear t (b ∷ bs) n.1 rest s c)
 
 lets_clear : (n : Naming) (us : List (List ℕ)) (es : List Formula) → LetsNamed n us es → (rest : List Lexeme) → Clear rest → Clear (lets n us es rest)
 lets_clear n [] [] m rest k = k
 lets_clear n [] (e ∷ es) m rest k = absurd m
 lets_clear n (t ∷ us) [] m rest k = absurd m
-lets_clear n (t ∷ us) (e ∷ es) m rest k =
-    (refl, refl, (name_kind t m.0, refl, (refl, tt, whole_clear (written n e) m.1 (word Semi (codes ";") ∷ gap ∷ lets n us es rest) refl (refl, tt, lets_clear n us es m.2 rest k))))
+lets_clear n (t ∷ us) (e ∷ es) m rest k = (
+  refl,
+  refl,
+  (
+    name_kind t m.0,
+    refl,
+    (refl, tt, whole_clear (written n e) m.1 (word Semi (codes ";") ∷ gap ∷ lets n us es rest) refl (refl, tt, lets_clear n us es m.2 rest k)),
+  ),
+)
 
 root_clear : (t : TableOf) (p : PredOf) → PredNamed t p → (rest : List Lexeme) → Clear rest → Clear (root (naming t p) p.root rest)
-root_clear t p m rest k =
-    (refl, refl, whole_clear (written (naming t p) p.root) m.root (word Semi (codes ";") ∷ gap ∷ word BraceR (codes "}") ∷ line ∷ rest) refl (refl, tt, (refl, tt, k)))
+root_clear t p m rest k = (
+  refl,
+  refl,
+  whole_clear (written (naming t p) p.root) m.root (word Semi (codes ";") ∷ gap ∷ word BraceR (codes "}") ∷ line ∷ rest) refl (refl, tt, (refl, tt, k)),
+)
 
 pred_clear : (t : TableOf) (p : PredOf) → PredNamed t p → (rest : List Lexeme) → Clear rest → Clear (pred t p rest)
 pred_clear t p m rest k =
@@ -74,7 +86,8 @@ pred_clear t p m rest k =
           refl,
           tt,
           args_clear t p.args m.args
-              (word ParR (codes ")") ∷ gap ∷ word BraceL (codes "{") ∷ gap ∷ lets (naming t p) p.let_names p.lets (root (naming t p) p.root rest)) refl (refl, tt, (refl, tt, l)),
+              (word ParR (codes ")") ∷ gap ∷ word BraceL (codes "{") ∷ gap ∷ lets (naming t p) p.let_names p.lets (root (naming t p) p.root rest)) refl
+              (refl, tt, (refl, tt, l)),
         ),
       ),
     )
@@ -98,11 +111,20 @@ table_clear t n = sites_clear t.sites n.sites _ (params_clear t.params n.params 
 -- its tokens spell the table's items
 pub table_back : (t : TableOf) → TableNamed t → FileBack (canonical t) (toks 0 (lexemes t [])) t 0 t.sites t.params t.preds
 table_back t n =
-    let h : Sits (canonical t) (toks 0 (lexemes t [])) 0 (lexemes t []) = sits (canonical t) (toks 0 (lexemes t [])) (lexemes t []) 0 0 refl refl (omega arith) in
+    let h : Sits (canonical t) (toks 0 (lexemes t [])) 0 (lexemes t []) =
+    sits (canonical t) (toks 0 (lexemes t [])) (lexemes t []) 0 0 refl refl (omega arith) in
     sites_back (canonical t) (toks 0 (lexemes t [])) t t.preds n.preds t.params n.params t.sites n.sites 0 h
 
 -- the canonical text of a table is read back as its items
 pub reads_back : (t : TableOf) → TableNamed t → ReadsBack (canonical t) t
 reads_back t n =
     let f = table_back t n in
-    record { tokens = toks 0 (lexemes t []); lexed = lexed (lexemes t []) (table_clear t n); items = f.items; spelt = f.derives; sites = f.sites; params = f.params; preds = f.preds }
+    record {
+      tokens = toks 0 (lexemes t []);
+      lexed = lexed (lexemes t []) (table_clear t n);
+      items = f.items;
+      spelt = f.derives;
+      sites = f.sites;
+      params = f.params;
+      preds = f.preds;
+    }

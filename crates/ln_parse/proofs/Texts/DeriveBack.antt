@@ -1,5 +1,6 @@
 -- The tokens of an expression that is written canonically derive it.
-use Rattle.std.proofs.Common.{◌≡◌, ℕ, zero, suc, ◌+◌, ◌-◌, ◌<◌, ◌≤◌, Bool, true, false, cond, List, [], ◌∷◌, length, take, drop, Some, refl, ap, sym, ◌∙◌, arith, length-drop, codes, ◌++◌, ◌&&◌, ◌==◌}
+use Rattle.std.proofs.Common.{◌≡◌, ℕ, zero, suc, ◌+◌, ◌-◌, ◌<◌, ◌≤◌, Bool, true, false, cond, List, [], ◌∷◌, length, take, drop, Some, refl}
+use Rattle.std.proofs.Common.{ap, sym, ◌∙◌, arith, length-drop, codes, ◌++◌, ◌&&◌, ◌==◌}
 use Rattle.ln_base.specs.Words.{is_name, is_letter}
 use Rattle.std.proofs.lemmas.Bool.Decides.{nat_tests}
 use Rattle.ln_lex.specs.declared.token.Kind.TheVariants.{Number, ParL, ParR, Plus, Minus, Star, Caret}
@@ -8,7 +9,9 @@ use Rattle.ln_parse.specs.declared.printer.Room.{Room}
 use Rattle.ln_parse.specs.declared.printer.Room.TheVariants.{OfSum, OfProduct, OfUnary, OfAtom}
 use Rattle.ln_parse.specs.Written.{Written, WNum, WName, WInput, WNeg, WAdd, WSub, WMul, WPow, spelling, IsNamed}
 use Rattle.ln_syntax.specs.Raw.{Is, span_at, text}
-use Rattle.ln_syntax.specs.Expression.{Tree, TNum, TName, TInput, TNeg, TAdd, TSub, TMul, TPow, Sort, Atom, Power, Unary, Term, Sum, Factors, Terms, Derives, number, name, input, parens, plain, power, base, minus, term, no_factor, times, sum, no_term, plus, less}
+use Rattle.ln_syntax.specs.Expression.{Tree, TNum, TName, TInput, TNeg, TAdd, TSub, TMul, TPow, Sort, Atom, Power, Unary, Term, Sum}
+use Rattle.ln_syntax.specs.Expression.{Factors, Terms, Derives, number, name, input, parens, plain, power, base, minus, term, no_factor}
+use Rattle.ln_syntax.specs.Expression.{times, sum, no_term, plus, less}
 use Rattle.ln_parse.specs.Lexemes.{Lexeme, gap, line, word, text_of}
 use Rattle.ln_parse.specs.Canonical.{fits, wrap, inside, whole}
 use Rattle.ln_names.specs.Numbers as names
@@ -33,10 +36,13 @@ record From (ts : List Token) (j : ℕ) (t : Token) (us : List Token) : Type 0 w
 from : (ts : List Token) (j : ℕ) (t : Token) (us : List Token) → drop j ts ≡ t ∷ us → From ts j t us
 from [] zero t us e = absurd (cc)
 from [] (suc j) t us e = absurd (cc)
-from (x ∷ xs) zero t us e = let q : x ≡ t = cc in record { first = ap (λ (w : Token). Some w.kind) q; span = ap (λ (w : Token). w.span) q; rest = cc; more = omega arith }
+from (x ∷ xs) zero t us e =
+    let q : x ≡ t = cc in
+    record { first = ap (λ (w : Token). Some w.kind) q; span = ap (λ (w : Token). w.span) q; rest = cc; more = omega arith }
 from (x ∷ xs) (suc j) t us e = let r = from xs j t us e in record { first = r.first; span = r.span; rest = r.rest; more = omega (arith, r.more) }
 
-pub sits : (bytes : List ℕ) (ts : List Token) (xs : List Lexeme) (i at : ℕ) → drop at bytes ≡ text_of xs → drop i ts ≡ toks at xs → i ≤ length ts → Sits bytes ts i xs
+pub sits : (bytes : List ℕ) (ts : List Token) (xs : List Lexeme) (i at : ℕ) → drop at bytes ≡ text_of xs → drop i ts ≡ toks at xs
+    → i ≤ length ts → Sits bytes ts i xs
 sits bytes ts [] i at e f h =
     let q : length (drop i ts) ≡ 0 = ap (λ (x : List Token). length x) f in omega (arith, length-drop i ts)
 sits bytes ts (gap ∷ xs) i at e f h =
@@ -48,10 +54,11 @@ sits bytes ts (line ∷ xs) i at e f h =
 sits bytes ts (word k t ∷ xs) i at e f h =
     let r = from ts i _ _ f in
     let n : (at + length t) - at ≡ length t = omega arith in
-    let p : text bytes (span_at ts i) ≡ t = ap (λ (w : _). text bytes w) r.span ∙ ap (λ (w : ℕ). take w (drop at bytes)) n ∙ ap (λ (w : List ℕ). take (length t) w) e ∙ front t (text_of xs) in
+    let p : text bytes (span_at ts i) ≡ t =
+    ap (λ (w : _). text bytes w) r.span ∙ ap (λ (w : ℕ). take w (drop at bytes)) n ∙ ap (λ (w : List ℕ). take (length t) w) e ∙ front t (text_of xs) in
     (r.first, p, sits bytes ts xs (suc i) (at + length t) (drop_word bytes t (text_of xs) at e) r.rest (omega (arith, r.more)))
 
--- a tree is spelt in front of other lexemes
+-- a tree is spelt before other lexemes
 pub record Derived (bytes : List ℕ) (ts : List Token) (s : Sort) (i : ℕ) (t : Written) (rest : List Lexeme) : Type 0 where
   pub end : ℕ
   pub tree : Tree
@@ -122,66 +129,122 @@ any_fits (WSub a b) = refl
 any_fits (WMul a b) = refl
 any_fits (WPow a n) = refl
 
--- one more operand behind a list of them
-terms_plus : {ts : List Token} {i j k : ℕ} {e f g : Tree} → Derives ts (Terms f) i j e → Is ts j Plus → Derives ts Term (suc j) k g → Derives ts (Terms f) i k (TAdd (span_at ts j) e g)
+-- one more operand after a list of them
+terms_plus : {ts : List Token} {i j k : ℕ} {e f g : Tree} → Derives ts (Terms f) i j e → Is ts j Plus → Derives ts Term (suc j) k g
+    → Derives ts (Terms f) i k (TAdd (span_at ts j) e g)
 terms_plus no_term is d = plus is d no_term
 terms_plus (plus n x y) is d = plus n x (terms_plus y is d)
 terms_plus (less n x y) is d = less n x (terms_plus y is d)
 
-terms_less : {ts : List Token} {i j k : ℕ} {e f g : Tree} → Derives ts (Terms f) i j e → Is ts j Minus → Derives ts Term (suc j) k g → Derives ts (Terms f) i k (TSub (span_at ts j) e g)
+terms_less : {ts : List Token} {i j k : ℕ} {e f g : Tree} → Derives ts (Terms f) i j e → Is ts j Minus → Derives ts Term (suc j) k g
+    → Derives ts (Terms f) i k (TSub (span_at ts j) e g)
 terms_less no_term is d = less is d no_term
 terms_less (plus n x y) is d = plus n x (terms_less y is d)
 terms_less (less n x y) is d = less n x (terms_less y is d)
 
-factors_times : {ts : List Token} {i j k : ℕ} {e f g : Tree} → Derives ts (Factors f) i j e → Is ts j Star → Derives ts Unary (suc j) k g → Derives ts (Factors f) i k (TMul (span_at ts j) e g)
+factors_times : {ts : List Token} {i j k : ℕ} {e f g : Tree} → Derives ts (Factors f) i j e → Is ts j Star → Derives ts Unary (suc j) k g
+    → Derives ts (Factors f) i k (TMul (span_at ts j) e g)
 factors_times no_factor is d = times is d no_factor
 factors_times (times n x y) is d = times n x (factors_times y is d)
 
-sum_plus : {ts : List Token} {i j k : ℕ} {e g : Tree} → Derives ts Sum i j e → Is ts j Plus → Derives ts Term (suc j) k g → Derives ts Sum i k (TAdd (span_at ts j) e g)
+sum_plus : {ts : List Token} {i j k : ℕ} {e g : Tree} → Derives ts Sum i j e → Is ts j Plus → Derives ts Term (suc j) k g
+    → Derives ts Sum i k (TAdd (span_at ts j) e g)
 sum_plus (sum x y) is d = sum x (terms_plus y is d)
 
-sum_less : {ts : List Token} {i j k : ℕ} {e g : Tree} → Derives ts Sum i j e → Is ts j Minus → Derives ts Term (suc j) k g → Derives ts Sum i k (TSub (span_at ts j) e g)
+sum_less : {ts : List Token} {i j k : ℕ} {e g : Tree} → Derives ts Sum i j e → Is ts j Minus → Derives ts Term (suc j) k g
+    → Derives ts Sum i k (TSub (span_at ts j) e g)
 sum_less (sum x y) is d = sum x (terms_less y is d)
 
-term_times : {ts : List Token} {i j k : ℕ} {e g : Tree} → Derives ts Term i j e → Is ts j Star → Derives ts Unary (suc j) k g → Derives ts Term i k (TMul (span_at ts j) e g)
+term_times : {ts : List Token} {i j k : ℕ} {e g : Tree} → Derives ts Term i j e → Is ts j Star → Derives ts Unary (suc j) k g
+    → Derives ts Term i k (TMul (span_at ts j) e g)
 term_times (term x y) is d = term x (factors_times y is d)
 
-wrap_by : (bytes : List ℕ) (ts : List Token) (w : Room) (t : Written) (v : Bool) → fits w t ≡ v → ((i : ℕ) (rest : List Lexeme) → Sits bytes ts i (inside t rest) → Derived bytes ts (own t) i t rest)
-    → (i : ℕ) (rest : List Lexeme) → Sits bytes ts i (cond v (inside t rest) (word ParL (codes "(") ∷ inside t (word ParR (codes ")") ∷ rest))) → Derived bytes ts (sort_of w) i t rest
+wrap_by : (bytes : List ℕ) (ts : List Token) (w : Room) (t : Written) (v : Bool) → fits w t ≡ v
+    → ((i : ℕ) (rest : List Lexeme) → Sits bytes ts i (inside t rest) → Derived bytes ts (own t) i t rest)
+    → (i : ℕ) (rest : List Lexeme) → Sits bytes ts i (cond v (inside t rest) (word ParL (codes "(") ∷ inside t (word ParR (codes ")") ∷ rest)))
+    → Derived bytes ts (sort_of w) i t rest
 wrap_by bytes ts w t true e f i rest h =
     let d = f i rest h in
     record { end = d.end; tree = d.tree; derives = lift w t e d.derives; same = d.same; after = d.after }
 wrap_by bytes ts w t false e f i rest h =
     let d = f (suc i) (word ParR (codes ")") ∷ rest) h.2 in
-    record { end = suc d.end; tree = d.tree; derives = atom_up w (parens h.0 (lift OfSum t (any_fits t) d.derives) d.after.0); same = d.same; after = d.after.2 }
+    record {
+      end = suc d.end;
+      tree = d.tree;
+      derives = atom_up w (parens h.0 (lift OfSum t (any_fits t) d.derives) d.after.0);
+      same = d.same;
+      after = d.after.2;
+    }
 
-derived : (bytes : List ℕ) (ts : List Token) (t : Written) → IsNamed t → (i : ℕ) (rest : List Lexeme) → Sits bytes ts i (inside t rest) → Derived bytes ts (own t) i t rest
-derived bytes ts (WNum t) n i rest h = record { end = suc i; tree = TNum (span_at ts i); derives = number h.0; same = ap (λ (w : List ℕ). WNum (names.decimal 0 w)) h.1 ∙ ap (λ (w : ℕ). WNum w) (number_value t n); after = h.2 }
-derived bytes ts (WName t) m i rest h = record { end = suc i; tree = TName (span_at ts i); derives = name h.0; same = ap (λ (w : List ℕ). WName w) h.1; after = h.2 }
+derived : (bytes : List ℕ) (ts : List Token) (t : Written) → IsNamed t → (i : ℕ) (rest : List Lexeme) → Sits bytes ts i (inside t rest)
+    → Derived bytes ts (own t) i t rest
+derived bytes ts (WNum t) n i rest h = record {
+  end = suc i;
+  tree = TNum (span_at ts i);
+  derives = number h.0;
+  same = ap (λ (w : List ℕ). WNum (names.decimal 0 w)) h.1 ∙ ap (λ (w : ℕ). WNum w) (number_value t n);
+  after = h.2;
+}
+derived bytes ts (WName t) m i rest h =
+    record { end = suc i; tree = TName (span_at ts i); derives = name h.0; same = ap (λ (w : List ℕ). WName w) h.1; after = h.2 }
 derived bytes ts (WInput t x) m i rest h =
     let q = h.2.2 in
-    record { end = suc (suc (suc i)); tree = TInput (span_at ts i) (span_at ts (suc (suc i))); derives = input h.0 h.2.0 q.0; same = rw (h.1, q.1) refl; after = q.2 }
+    record {
+      end = suc (suc (suc i));
+      tree = TInput (span_at ts i) (span_at ts (suc (suc i)));
+      derives = input h.0 h.2.0 q.0;
+      same = rw (h.1, q.1) refl;
+      after = q.2;
+    }
 derived bytes ts (WNeg a) m i rest h =
     let d = wrap_by bytes ts OfUnary a (fits OfUnary a) refl (λ j r g. derived bytes ts a m j r g) (suc i) rest h.2 in
     record { end = d.end; tree = TNeg (span_at ts i) d.tree; derives = minus h.0 d.derives; same = ap (λ (w : Written). WNeg w) d.same; after = d.after }
 derived bytes ts (WAdd a b) m i rest h =
-    let l = wrap_by bytes ts OfSum a (fits OfSum a) refl (λ j r g. derived bytes ts a m.0 j r g) i (gap ∷ word Plus (codes "+") ∷ gap ∷ wrap OfProduct b (inside b) rest) h in
+    let l = wrap_by bytes ts OfSum a (fits OfSum a) refl (λ j r g. derived bytes ts a m.0 j r g) i
+    (gap ∷ word Plus (codes "+") ∷ gap ∷ wrap OfProduct b (inside b) rest) h in
     let r = wrap_by bytes ts OfProduct b (fits OfProduct b) refl (λ j r g. derived bytes ts b m.1 j r g) (suc l.end) rest l.after.2 in
-    record { end = r.end; tree = TAdd (span_at ts l.end) l.tree r.tree; derives = sum_plus l.derives l.after.0 r.derives; same = rw (l.same, r.same) refl; after = r.after }
+    record {
+      end = r.end;
+      tree = TAdd (span_at ts l.end) l.tree r.tree;
+      derives = sum_plus l.derives l.after.0 r.derives;
+      same = rw (l.same, r.same) refl;
+      after = r.after;
+    }
 derived bytes ts (WSub a b) m i rest h =
-    let l = wrap_by bytes ts OfSum a (fits OfSum a) refl (λ j r g. derived bytes ts a m.0 j r g) i (gap ∷ word Minus (codes "-") ∷ gap ∷ wrap OfProduct b (inside b) rest) h in
+    let l = wrap_by bytes ts OfSum a (fits OfSum a) refl (λ j r g. derived bytes ts a m.0 j r g) i
+    (gap ∷ word Minus (codes "-") ∷ gap ∷ wrap OfProduct b (inside b) rest) h in
     let r = wrap_by bytes ts OfProduct b (fits OfProduct b) refl (λ j r g. derived bytes ts b m.1 j r g) (suc l.end) rest l.after.2 in
-    record { end = r.end; tree = TSub (span_at ts l.end) l.tree r.tree; derives = sum_less l.derives l.after.0 r.derives; same = rw (l.same, r.same) refl; after = r.after }
+    record {
+      end = r.end;
+      tree = TSub (span_at ts l.end) l.tree r.tree;
+      derives = sum_less l.derives l.after.0 r.derives;
+      same = rw (l.same, r.same) refl;
+      after = r.after;
+    }
 derived bytes ts (WMul a b) m i rest h =
-    let l = wrap_by bytes ts OfProduct a (fits OfProduct a) refl (λ j r g. derived bytes ts a m.0 j r g) i (word Star (codes "*") ∷ wrap OfUnary b (inside b) rest) h in
+    let l = wrap_by bytes ts OfProduct a (fits OfProduct a) refl (λ j r g. derived bytes ts a m.0 j r g) i
+    (word Star (codes "*") ∷ wrap OfUnary b (inside b) rest) h in
     let r = wrap_by bytes ts OfUnary b (fits OfUnary b) refl (λ j r g. derived bytes ts b m.1 j r g) (suc l.end) rest l.after.2 in
-    record { end = r.end; tree = TMul (span_at ts l.end) l.tree r.tree; derives = term_times l.derives l.after.0 r.derives; same = rw (l.same, r.same) refl; after = r.after }
+    record {
+      end = r.end;
+      tree = TMul (span_at ts l.end) l.tree r.tree;
+      derives = term_times l.derives l.after.0 r.derives;
+      same = rw (l.same, r.same) refl;
+      after = r.after;
+    }
 derived bytes ts (WPow a n) m i rest h =
-    let l = wrap_by bytes ts OfAtom a (fits OfAtom a) refl (λ j r g. derived bytes ts a m.0 j r g) i (word Caret (codes "^") ∷ word Number (decimal n) ∷ rest) h in
+    let l = wrap_by bytes ts OfAtom a (fits OfAtom a) refl (λ j r g. derived bytes ts a m.0 j r g) i
+    (word Caret (codes "^") ∷ word Number (decimal n) ∷ rest) h in
     let q = l.after.2 in
-    record { end = suc (suc l.end); tree = TPow (span_at ts l.end) l.tree (span_at ts (suc l.end)); derives = power l.derives l.after.0 q.0; same = rw (l.same, q.1, number_value n m.1) refl; after = q.2 }
+    record {
+      end = suc (suc l.end);
+      tree = TPow (span_at ts l.end) l.tree (span_at ts (suc l.end));
+      derives = power l.derives l.after.0 q.0;
+      same = rw (l.same, q.1, number_value n m.1) refl;
+      after = q.2;
+    }
 
--- a tree whose texts are names and numbers is put clearly
+-- a tree whose texts are names and numbers is written clearly
 abbrev pub Clears : (List Lexeme → List Lexeme) → Type 0
 Clears f = (rest : List Lexeme) → soft (text_of rest) ≡ true → Clear rest → Clear (f rest)
 
@@ -197,7 +260,8 @@ name_undotted : (t : List ℕ) → is_name t ≡ true → (rest : List ℕ) → 
 name_undotted [] h rest = absurd (cc)
 name_undotted (b ∷ bs) h rest = rw (no_dot b (and_first (is_letter b) _ (and_first _ _ h))) refl
 
-clear_by : (t : Written) (v : Bool) → Clears (inside t) → Clears (λ rest. cond v (inside t rest) (word ParL (codes "(") ∷ inside t (word ParR (codes ")") ∷ rest)))
+clear_by : (t : Written) (v : Bool) → Clears (inside t)
+    → Clears (λ rest. cond v (inside t rest) (word ParL (codes "(") ∷ inside t (word ParR (codes ")") ∷ rest)))
 clear_by t true f = f
 clear_by t false f = λ rest s c. (refl, tt, f (word ParR (codes ")") ∷ rest) refl (refl, tt, c))
 
@@ -206,15 +270,20 @@ clear (WNum t) n = λ rest s c. (number_kind t n, s, c)
 clear (WName t) n = λ rest s c. (name_kind t n, s, c)
 clear (WInput t x) n = λ rest s c. (name_kind t n.0, refl, (refl, name_undotted x n.1 (text_of rest), (name_kind x n.1, s, c)))
 clear (WNeg a) n = λ rest s c. (refl, tt, clear_by a (fits OfUnary a) (clear a n) rest s c)
-clear (WAdd a b) n = λ rest s c. clear_by a (fits OfSum a) (clear a n.0) (gap ∷ word Plus (codes "+") ∷ gap ∷ wrap OfProduct b (inside b) rest) refl (refl, tt, clear_by b (fits OfProduct b) (clear b n.1) rest s c)
-clear (WSub a b) n = λ rest s c. clear_by a (fits OfSum a) (clear a n.0) (gap ∷ word Minus (codes "-") ∷ gap ∷ wrap OfProduct b (inside b) rest) refl (refl, tt, clear_by b (fits OfProduct b) (clear b n.1) rest s c)
-clear (WMul a b) n = λ rest s c. clear_by a (fits OfProduct a) (clear a n.0) (word Star (codes "*") ∷ wrap OfUnary b (inside b) rest) refl (refl, tt, clear_by b (fits OfUnary b) (clear b n.1) rest s c)
-clear (WPow a m) n = λ rest s c. clear_by a (fits OfAtom a) (clear a n.0) (word Caret (codes "^") ∷ word Number (decimal m) ∷ rest) refl (refl, tt, (number_kind m n.1, s, c))
+clear (WAdd a b) n = λ rest s c. clear_by a (fits OfSum a) (clear a n.0) (gap ∷ word Plus (codes "+") ∷ gap ∷ wrap OfProduct b (inside b) rest) refl
+    (refl, tt, clear_by b (fits OfProduct b) (clear b n.1) rest s c)
+clear (WSub a b) n = λ rest s c. clear_by a (fits OfSum a) (clear a n.0) (gap ∷ word Minus (codes "-") ∷ gap ∷ wrap OfProduct b (inside b) rest) refl
+    (refl, tt, clear_by b (fits OfProduct b) (clear b n.1) rest s c)
+clear (WMul a b) n = λ rest s c. clear_by a (fits OfProduct a) (clear a n.0) (word Star (codes "*") ∷ wrap OfUnary b (inside b) rest) refl
+    (refl, tt, clear_by b (fits OfUnary b) (clear b n.1) rest s c)
+clear (WPow a m) n =
+    λ rest s c. clear_by a (fits OfAtom a) (clear a n.0) (word Caret (codes "^") ∷ word Number (decimal m) ∷ rest) refl (refl, tt, (number_kind m n.1, s, c))
 
 -- a whole expression is derived
-pub whole_back : (bytes : List ℕ) (ts : List Token) (e : Written) → IsNamed e → (i : ℕ) (rest : List Lexeme) → Sits bytes ts i (whole e rest) → Derived bytes ts Sum i e rest
+pub whole_back : (bytes : List ℕ) (ts : List Token) (e : Written) → IsNamed e → (i : ℕ) (rest : List Lexeme)
+    → Sits bytes ts i (whole e rest) → Derived bytes ts Sum i e rest
 whole_back bytes ts e n i rest h = wrap_by bytes ts OfSum e (fits OfSum e) refl (λ j r g. derived bytes ts e n j r g) i rest h
 
--- a whole expression is put clearly
+-- a whole expression is written clearly
 pub whole_clear : (e : Written) → IsNamed e → Clears (whole e)
 whole_clear e n = clear_by e (fits OfSum e) (clear e n)

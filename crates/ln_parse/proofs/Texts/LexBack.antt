@@ -1,5 +1,6 @@
 -- The tokens of lexemes are those that their text has.
-use Rattle.std.proofs.Common.{◌≡◌, ℕ, zero, suc, ◌+◌, ◌-◌, ◌<◌, ◌≤◌, ◌&&◌, ◌||◌, Bool, true, false, cond, List, [], ◌∷◌, ◌++◌, length, take, drop, Some, None, refl, ap, sym, ◌∙◌, subst, arith, length-append, length-drop, codes, not, ◌==◌}
+use Rattle.std.proofs.Common.{◌≡◌, ℕ, zero, suc, ◌+◌, ◌-◌, ◌<◌, ◌≤◌, ◌&&◌, ◌||◌, Bool, true, false, cond, List, [], ◌∷◌, ◌++◌, length, take}
+use Rattle.std.proofs.Common.{drop, Some, None, refl, ap, sym, ◌∙◌, subst, arith, length-append, length-drop, codes, not, ◌==◌}
 use Rattle.std.specs.Prelude.{bytes_eq, if◌then◌else◌}
 use Rattle.std.proofs.lemmas.Bool.Decides.{nat_tests}
 use Rattle.std.proofs.lemmas.List.{drop-drop}
@@ -31,7 +32,8 @@ soft_name b bs h = by (is_name_byte b) h
     by false h = refl
 
 -- a run does not go on past its end
-past_run : (p : ℕ → Bool) (bs rest : List ℕ) (m : ℕ) → ((c : ℕ) (cs : List ℕ) → rest ≡ c ∷ cs → p c ≡ false) → length bs < m → m ≤ length (bs ++ rest) → every p (take m (bs ++ rest)) ≡ false
+past_run : (p : ℕ → Bool) (bs rest : List ℕ) (m : ℕ) → ((c : ℕ) (cs : List ℕ) → rest ≡ c ∷ cs → p c ≡ false) → length bs < m
+    → m ≤ length (bs ++ rest) → every p (take m (bs ++ rest)) ≡ false
 past_run p bs rest zero h l w = absurd (omega arith)
 past_run p [] [] (suc m) h l w = absurd (omega arith)
 past_run p [] (c ∷ cs) (suc m) h l w = rw (h c cs refl) refl
@@ -57,7 +59,7 @@ abbrev pub undotted : List ℕ → Bool
 undotted [] = true
 undotted (b ∷ bs) = not (b == 46)
 
--- what follows a token so that it is the longest at its place: behind a word or a number no letter and no digit, behind a dot no dot
+-- what follows a token so that it is the longest at its place: after a word or a number no letter and no digit, after a dot no dot
 abbrev pub Apart : Kind → List ℕ → Type 0
 Apart Name rest = soft rest ≡ true
 Apart Number rest = soft rest ≡ true
@@ -69,7 +71,8 @@ Apart Sign rest = soft rest ≡ true
 Apart Dot rest = undotted rest ≡ true
 Apart k rest = Unit {0}
 
-word_by : (rest : List ℕ) (s p q l g : Bool) → Apart (if s then Site else if p then Param else if q then Predicate else if l then Let else if g then Sign else Name) rest → soft rest ≡ true
+word_by : (rest : List ℕ) (s p q l g : Bool)
+    → Apart (if s then Site else if p then Param else if q then Predicate else if l then Let else if g then Sign else Name) rest → soft rest ≡ true
 word_by rest true p q l g h = h
 word_by rest false true q l g h = h
 word_by rest false false true l g h = h
@@ -78,21 +81,37 @@ word_by rest false false false false true h = h
 word_by rest false false false false false h = h
 
 word_soft : (t rest : List ℕ) → Apart (word_kind t) rest → soft rest ≡ true
-word_soft t rest h = word_by rest (bytes_eq t (codes "site")) (bytes_eq t (codes "param")) (bytes_eq t (codes "predicate")) (bytes_eq t (codes "let")) (bytes_eq t (codes "sign")) h
+word_soft t rest h = word_by rest (bytes_eq t (codes "site")) (bytes_eq t (codes "param")) (bytes_eq t (codes "predicate"))
+    (bytes_eq t (codes "let")) (bytes_eq t (codes "sign")) h
 
-name_long : (b : ℕ) (bs rest : List ℕ) (m : ℕ) → is_letter b ≡ true → soft rest ≡ true → length (b ∷ bs) < m → m ≤ length (b ∷ (bs ++ rest)) → kind_of (take m (b ∷ (bs ++ rest))) ≡ None
+name_long : (b : ℕ) (bs rest : List ℕ) (m : ℕ) → is_letter b ≡ true → soft rest ≡ true → length (b ∷ bs) < m → m ≤ length (b ∷ (bs ++ rest))
+    → kind_of (take m (b ∷ (bs ++ rest))) ≡ None
 name_long b bs rest zero l s h w = refl
 name_long b bs rest (suc m) l s h w = rw (l, past_run is_name_byte bs rest m (λ c cs e. soft_at rest c cs s e) (omega arith) (omega arith)) refl
 
-name_first : (b : ℕ) (bs rest : List ℕ) → is_letter b ≡ true → every is_name_byte bs ≡ true → soft rest ≡ true → IsFirst (b ∷ (bs ++ rest)) (length (b ∷ bs)) (word_kind (b ∷ bs))
-name_first b bs rest l e s = record { some = omega arith; within = omega (arith, length-append bs rest); spelt = rw (front bs rest) (rw (l, e) refl); longest = λ m h w. name_long b bs rest m l s h w }
+name_first : (b : ℕ) (bs rest : List ℕ) → is_letter b ≡ true → every is_name_byte bs ≡ true → soft rest ≡ true
+    → IsFirst (b ∷ (bs ++ rest)) (length (b ∷ bs)) (word_kind (b ∷ bs))
+name_first b bs rest l e s = record {
+  some = omega arith;
+  within = omega (arith, length-append bs rest);
+  spelt = rw (front bs rest) (rw (l, e) refl);
+  longest = λ m h w. name_long b bs rest m l s h w;
+}
 
-number_long : (b : ℕ) (bs rest : List ℕ) (m : ℕ) → is_letter b ≡ false → is_digit b ≡ true → soft rest ≡ true → length (b ∷ bs) < m → m ≤ length (b ∷ (bs ++ rest)) → kind_of (take m (b ∷ (bs ++ rest))) ≡ None
+number_long : (b : ℕ) (bs rest : List ℕ) (m : ℕ) → is_letter b ≡ false → is_digit b ≡ true → soft rest ≡ true → length (b ∷ bs) < m
+    → m ≤ length (b ∷ (bs ++ rest)) → kind_of (take m (b ∷ (bs ++ rest))) ≡ None
 number_long b bs rest zero l d s h w = refl
-number_long b bs rest (suc m) l d s h w = rw (l, d, past_run is_digit bs rest m (λ c cs e. digit_not c (soft_at rest c cs s e)) (omega arith) (omega arith)) refl
+number_long b bs rest (suc m) l d s h w =
+    rw (l, d, past_run is_digit bs rest m (λ c cs e. digit_not c (soft_at rest c cs s e)) (omega arith) (omega arith)) refl
 
-number_first : (b : ℕ) (bs rest : List ℕ) → is_letter b ≡ false → is_digit b ≡ true → every is_digit bs ≡ true → soft rest ≡ true → IsFirst (b ∷ (bs ++ rest)) (length (b ∷ bs)) Number
-number_first b bs rest l d e s = record { some = omega arith; within = omega (arith, length-append bs rest); spelt = rw (front bs rest) (rw (l, d, e) refl); longest = λ m h w. number_long b bs rest m l d s h w }
+number_first : (b : ℕ) (bs rest : List ℕ) → is_letter b ≡ false → is_digit b ≡ true → every is_digit bs ≡ true → soft rest ≡ true
+    → IsFirst (b ∷ (bs ++ rest)) (length (b ∷ bs)) Number
+number_first b bs rest l d e s = record {
+  some = omega arith;
+  within = omega (arith, length-append bs rest);
+  spelt = rw (front bs rest) (rw (l, d, e) refl);
+  longest = λ m h w. number_long b bs rest m l d s h w;
+}
 
 not_true : (v : Bool) → not v ≡ true → v ≡ false
 not_true true h = sym h
@@ -115,7 +134,8 @@ two_dots b c cs k s a = by (b == 46) refl
     by true e = at_dot (eqb_is b 46 e)
     by false e = refl
 
-sign_long : (b : ℕ) (rest : List ℕ) (k : Kind) (m : ℕ) → is_letter b ≡ false → is_digit b ≡ false → sign_of b ≡ Some k → Apart k rest → 1 < m → m ≤ length (b ∷ rest) → kind_of (take m (b ∷ rest)) ≡ None
+sign_long : (b : ℕ) (rest : List ℕ) (k : Kind) (m : ℕ) → is_letter b ≡ false → is_digit b ≡ false → sign_of b ≡ Some k → Apart k rest
+    → 1 < m → m ≤ length (b ∷ rest) → kind_of (take m (b ∷ rest)) ≡ None
 sign_long b rest k zero l d s a h w = refl
 sign_long b rest k (suc zero) l d s a h w = absurd (omega arith)
 sign_long b [] k (suc (suc m)) l d s a h w = absurd (omega arith)
@@ -126,7 +146,8 @@ sign_long b (c ∷ x ∷ cs) k (suc (suc (suc m))) l d s a h w = rw (l, d) refl
 sign_first : (b : ℕ) (rest : List ℕ) (k : Kind) → is_letter b ≡ false → is_digit b ≡ false → sign_of b ≡ Some k → Apart k rest → IsFirst (b ∷ rest) 1 k
 sign_first b rest k l d s a = record { some = omega arith; within = omega arith; spelt = rw (l, d) s; longest = λ m h w. sign_long b rest k m l d s a h w }
 
-dots_long : (b c : ℕ) (rest : List ℕ) (m : ℕ) → is_letter b ≡ false → is_digit b ≡ false → 2 < m → m ≤ length (b ∷ c ∷ rest) → kind_of (take m (b ∷ c ∷ rest)) ≡ None
+dots_long : (b c : ℕ) (rest : List ℕ) (m : ℕ) → is_letter b ≡ false → is_digit b ≡ false → 2 < m → m ≤ length (b ∷ c ∷ rest)
+    → kind_of (take m (b ∷ c ∷ rest)) ≡ None
 dots_long b c rest zero l d h w = refl
 dots_long b c rest (suc zero) l d h w = absurd (omega arith)
 dots_long b c rest (suc (suc zero)) l d h w = absurd (omega arith)
@@ -144,7 +165,9 @@ if_some false k l h = absurd (cc)
 no_some : {A : Type 0} {x : A} → None ≡ Some x → ⊥
 no_some h = cc
 
-first_by : (b : ℕ) (bs rest : List ℕ) (k : Kind) (v w : Bool) → is_letter b ≡ v → is_digit b ≡ w → cond v (cond (every is_name_byte bs) (Some (word_kind (b ∷ bs))) None) (cond w (cond (every is_digit bs) (Some Number) None) (sign_kind b bs)) ≡ Some k → Apart k rest → IsFirst (b ∷ (bs ++ rest)) (length (b ∷ bs)) k
+first_by : (b : ℕ) (bs rest : List ℕ) (k : Kind) (v w : Bool) → is_letter b ≡ v → is_digit b ≡ w
+    → cond v (cond (every is_name_byte bs) (Some (word_kind (b ∷ bs))) None) (cond w (cond (every is_digit bs) (Some Number) None) (sign_kind b bs)) ≡ Some k
+    → Apart k rest → IsFirst (b ∷ (bs ++ rest)) (length (b ∷ bs)) k
 first_by b bs rest k true w l d h a =
     let p = if_some (every is_name_byte bs) (word_kind (b ∷ bs)) k h in
     let a2 : Apart (word_kind (b ∷ bs)) rest = subst (λ (x : Kind). Apart x rest) (sym p.1) a in
@@ -175,7 +198,7 @@ toks at (gap ∷ xs) = toks (suc at) xs
 toks at (line ∷ xs) = toks (suc at) xs
 toks at (word k t ∷ xs) = record { kind = k; span = record { start = at; end = at + length t } } ∷ toks (at + length t) xs
 
--- blanks alone stand between the places
+-- only blanks are between the places
 record Gapped (bytes : List ℕ) (from at : ℕ) : Type 0 where
   on : (m : ℕ) → Skips (drop at bytes) m → Skips (drop from bytes) ((at - from) + m)
 
@@ -213,7 +236,8 @@ drop_word bytes t xs at e = sym (drop-drop (length t) at bytes) ∙ ap (λ (w : 
 below : (bytes : List ℕ) (at n : ℕ) (xs : List ℕ) → drop at bytes ≡ xs → at ≤ length bytes → n ≤ length xs → at + n ≤ length bytes
 below bytes at n xs e h w = let q : length (drop at bytes) ≡ length xs = ap (λ (x : List ℕ). length x) e in omega (arith, length-drop at bytes)
 
-stands : (bytes : List ℕ) (xs : List Lexeme) (from at : ℕ) → drop at bytes ≡ text_of xs → at ≤ length bytes → from ≤ at → Gapped bytes from at → Clear xs → Standing bytes from (toks at xs)
+stands : (bytes : List ℕ) (xs : List Lexeme) (from at : ℕ) → drop at bytes ≡ text_of xs → at ≤ length bytes → from ≤ at
+    → Gapped bytes from at → Clear xs → Standing bytes from (toks at xs)
 stands bytes [] from at e h f g c =
     let q : length (drop at bytes) ≡ 0 = ap (λ (x : List ℕ). length x) e in
     let r : at ≡ length bytes = omega (arith, length-drop at bytes) in

@@ -1,10 +1,12 @@
 -- The text of a NAME is a name.
-use Rattle.std.proofs.Common.{◌≡◌, ℕ, zero, suc, ◌==◌, ◌&&◌, ◌||◌, not, Bool, true, false, cond, List, [], ◌∷◌, Option, Some, None, refl, ap, sym, ◌∙◌, true≢false}
+use Rattle.std.proofs.Common.{◌≡◌, ℕ, zero, suc, ◌==◌, ◌&&◌, ◌||◌, not, Bool, true, false, cond, List, [], ◌∷◌, Option, Some, None, refl}
+use Rattle.std.proofs.Common.{ap, sym, ◌∙◌, true≢false}
 use Rattle.std.specs.Prelude.{codes, bytes_eq}
 use Rattle.ln_base.specs.Words.{is_digit, is_letter, is_name_byte, every, is_keyword, is_name}
 use Rattle.ln_lex.specs.declared.token.Token.{Token}
 use Rattle.ln_lex.specs.declared.token.Kind.{Kind}
-use Rattle.ln_lex.specs.declared.token.Kind.TheVariants.{Name, Number, Site, Param, Predicate, Let, Sign, BraceL, BraceR, ParL, ParR, Colon, Semi, Comma, Dot, Dots, Plus, Minus, Star, Caret, Equals}
+use Rattle.ln_lex.specs.declared.token.Kind.TheVariants.{Name, Number, Site, Param, Predicate, Let, Sign, BraceL, BraceR, ParL, ParR, Colon}
+use Rattle.ln_lex.specs.declared.token.Kind.TheVariants.{Semi, Comma, Dot, Dots, Plus, Minus, Star, Caret, Equals}
 use Rattle.ln_lex.specs.Tokens.{kind_of, word_kind, sign_kind, sign_of}
 use Rattle.ln_syntax.specs.Raw.{Is, span_at, text}
 
@@ -20,8 +22,10 @@ pick false k o p q = q
 
 no_sign : (b : ℕ) → is_named (sign_of b) ≡ false
 no_sign b =
-    pick (b == 123) BraceL _ refl (pick (b == 125) BraceR _ refl (pick (b == 40) ParL _ refl (pick (b == 41) ParR _ refl (pick (b == 58) Colon _ refl (pick (b == 59) Semi _ refl (pick (b == 44) Comma _ refl
-    (pick (b == 46) Dot _ refl (pick (b == 43) Plus _ refl (pick (b == 45) Minus _ refl (pick (b == 42) Star _ refl (pick (b == 94) Caret _ refl (pick (b == 61) Equals None refl refl))))))))))))
+    pick (b == 123) BraceL _ refl (pick (b == 125) BraceR _ refl
+    (pick (b == 40) ParL _ refl (pick (b == 41) ParR _ refl (pick (b == 58) Colon _ refl (pick (b == 59) Semi _ refl (pick (b == 44) Comma _ refl
+    (pick (b == 46) Dot _ refl (pick (b == 43) Plus _ refl
+    (pick (b == 45) Minus _ refl (pick (b == 42) Star _ refl (pick (b == 94) Caret _ refl (pick (b == 61) Equals None refl refl))))))))))))
 
 no_signs : (b : ℕ) (bs : List ℕ) → is_named (sign_kind b bs) ≡ false
 no_signs b [] = no_sign b
@@ -29,7 +33,8 @@ no_signs b (c ∷ []) = pick ((b == 46) && (c == 46)) Dots None refl refl
 no_signs b (c ∷ d ∷ bs) = refl
 
 -- a word that is no keyword
-word_by : (a b c d e : Bool) → is_named (Some (cond a Site (cond b Param (cond c Predicate (cond d Let (cond e Sign Name)))))) ≡ true → not (a || b || c || d || e) ≡ true
+word_by : (a b c d e : Bool) → is_named (Some (cond a Site (cond b Param (cond c Predicate (cond d Let (cond e Sign Name)))))) ≡ true
+    → not (a || b || c || d || e) ≡ true
 word_by true b c d e h = absurd (cc)
 word_by false true c d e h = absurd (cc)
 word_by false false true d e h = absurd (cc)
@@ -38,7 +43,8 @@ word_by false false false false true h = absurd (cc)
 word_by false false false false false h = refl
 
 no_keyword : (w : List ℕ) → is_named (Some (word_kind w)) ≡ true → not (is_keyword w) ≡ true
-no_keyword w h = word_by (bytes_eq w (codes "site")) (bytes_eq w (codes "param")) (bytes_eq w (codes "predicate")) (bytes_eq w (codes "let")) (bytes_eq w (codes "sign")) h
+no_keyword w h = word_by (bytes_eq w (codes "site")) (bytes_eq w (codes "param")) (bytes_eq w (codes "predicate"))
+    (bytes_eq w (codes "let")) (bytes_eq w (codes "sign")) h
 
 name_by : (l g : Bool) (b : ℕ) (bs : List ℕ) → is_letter b ≡ l → every is_name_byte bs ≡ g → (o : Option Kind) → is_named o ≡ false
     → is_named (cond l (cond g (Some (word_kind (b ∷ bs))) None) o) ≡ true → is_name (b ∷ bs) ≡ true

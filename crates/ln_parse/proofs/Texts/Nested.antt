@@ -1,5 +1,6 @@
 -- The parentheses and the tokens of a canonical text.
-use Rattle.std.proofs.Common.{◌≡◌, ℕ, zero, suc, ◌+◌, ◌-◌, ◌*◌, ◌<◌, ◌≤◌, Bool, true, false, cond, List, [], ◌∷◌, length, take, Option, Some, None, refl, ap, sym, ◌∙◌, subst, arith, codes}
+use Rattle.std.proofs.Common.{◌≡◌, ℕ, zero, suc, ◌+◌, ◌-◌, ◌*◌, ◌<◌, ◌≤◌, Bool, true, false, cond, List, [], ◌∷◌, length, take, Option}
+use Rattle.std.proofs.Common.{Some, None, refl, ap, sym, ◌∙◌, subst, arith, codes}
 use Rattle.std.specs.Prelude.{nat_le, slice_get}
 use Rattle.ln_lex.specs.declared.token.Kind.TheVariants.{ParL, ParR, Plus, Minus, Star}
 use Rattle.ln_syntax.specs.Raw.{Is}
@@ -73,7 +74,7 @@ leaf_wanted OfProduct = refl
 leaf_wanted OfUnary = refl
 leaf_wanted OfAtom = refl
 
--- an expression stands without parentheses where its tightness is wanted
+-- an expression is written without parentheses where its tightness is wanted
 fits_is : (n : Naming) (r : Room) (e : Formula) → fits r (written n e) ≡ nat_le (wanted r) (tightness e)
 fits_is n OfSum (FNum at c) = refl
 fits_is n OfProduct (FNum at c) = refl
@@ -132,8 +133,10 @@ pairs_by : (n : Naming) (r : Room) (e : Formula) (v : Bool) → fits r (written 
 pairs_by n r e v h = let q = sym (fits_is n r e) ∙ h in rw q refl
 
 -- an expression in its room at this depth, when it is so at its own
-wrap_shallow : (n : Naming) (r : Room) (e : Formula) (v : Bool) → fits r (written n e) ≡ v → ((d : ℕ) → d + nesting 0 e ≤ 64 → (rest : List Lexeme) → Shallow d rest → Shallow d (inside (written n e) rest))
-    → (d : ℕ) → d + nesting (wanted r) e ≤ 64 → (rest : List Lexeme) → Shallow d rest → Shallow d (cond v (inside (written n e) rest) (word ParL (codes "(") ∷ inside (written n e) (word ParR (codes ")") ∷ rest)))
+wrap_shallow : (n : Naming) (r : Room) (e : Formula) (v : Bool) → fits r (written n e) ≡ v
+    → ((d : ℕ) → d + nesting 0 e ≤ 64 → (rest : List Lexeme) → Shallow d rest → Shallow d (inside (written n e) rest))
+    → (d : ℕ) → d + nesting (wanted r) e ≤ 64 → (rest : List Lexeme) → Shallow d rest
+    → Shallow d (cond v (inside (written n e) rest) (word ParL (codes "(") ∷ inside (written n e) (word ParR (codes ")") ∷ rest)))
 wrap_shallow n r e true h f d l rest s = let q = nesting_is r e in f d (omega arith) rest s
 wrap_shallow n r e false h f d l rest s =
     let q = nesting_is r e in
@@ -150,25 +153,32 @@ inside_shallow : (n : Naming) (e : Formula) (d : ℕ) → d + nesting 0 e ≤ 64
 inside_shallow n (FNum at c) d l rest s = (λ z. absurd (cc), s)
 inside_shallow n (FInput at a c) d l rest s = input_shallow n (slice_get n.args a) c d rest s
 inside_shallow n (FName at j) d l rest s = (λ z. absurd (cc), s)
-inside_shallow n (FNeg at e) d l rest s = (λ z. absurd (cc), wrap_shallow n OfUnary e (fits OfUnary (written n e)) refl (inside_shallow n e) d (omega arith) rest s)
+inside_shallow n (FNeg at e) d l rest s =
+    (λ z. absurd (cc), wrap_shallow n OfUnary e (fits OfUnary (written n e)) refl (inside_shallow n e) d (omega arith) rest s)
 inside_shallow n (FAdd at e f) d l rest s =
-    wrap_shallow n OfSum e (fits OfSum (written n e)) refl (inside_shallow n e) d (omega arith) (gap ∷ word Plus (codes "+") ∷ gap ∷ wrap OfProduct (written n f) (inside (written n f)) rest)
+    wrap_shallow n OfSum e (fits OfSum (written n e)) refl (inside_shallow n e) d (omega arith)
+    (gap ∷ word Plus (codes "+") ∷ gap ∷ wrap OfProduct (written n f) (inside (written n f)) rest)
     (λ z. absurd (cc), wrap_shallow n OfProduct f (fits OfProduct (written n f)) refl (inside_shallow n f) d (omega arith) rest s)
 inside_shallow n (FSub at e f) d l rest s =
-    wrap_shallow n OfSum e (fits OfSum (written n e)) refl (inside_shallow n e) d (omega arith) (gap ∷ word Minus (codes "-") ∷ gap ∷ wrap OfProduct (written n f) (inside (written n f)) rest)
+    wrap_shallow n OfSum e (fits OfSum (written n e)) refl (inside_shallow n e) d (omega arith)
+    (gap ∷ word Minus (codes "-") ∷ gap ∷ wrap OfProduct (written n f) (inside (written n f)) rest)
     (λ z. absurd (cc), wrap_shallow n OfProduct f (fits OfProduct (written n f)) refl (inside_shallow n f) d (omega arith) rest s)
 inside_shallow n (FMul at e f) d l rest s =
-    wrap_shallow n OfProduct e (fits OfProduct (written n e)) refl (inside_shallow n e) d (omega arith) (word Star (codes "*") ∷ wrap OfUnary (written n f) (inside (written n f)) rest)
+    wrap_shallow n OfProduct e (fits OfProduct (written n e)) refl (inside_shallow n e) d (omega arith)
+    (word Star (codes "*") ∷ wrap OfUnary (written n f) (inside (written n f)) rest)
     (λ z. absurd (cc), wrap_shallow n OfUnary f (fits OfUnary (written n f)) refl (inside_shallow n f) d (omega arith) rest s)
 inside_shallow n (FPow at e k) d l rest s =
     wrap_shallow n OfAtom e (fits OfAtom (written n e)) refl (inside_shallow n e) d (omega arith) _ (λ z. absurd (cc), (λ z. absurd (cc), s))
 
 -- a whole expression
-pub whole_shallow : (n : Naming) (e : Formula) (d : ℕ) → d + nesting 0 e ≤ 64 → (rest : List Lexeme) → Shallow d rest → Shallow d (wrap OfSum (written n e) (inside (written n e)) rest)
+pub whole_shallow : (n : Naming) (e : Formula) (d : ℕ) → d + nesting 0 e ≤ 64 → (rest : List Lexeme) → Shallow d rest
+    → Shallow d (wrap OfSum (written n e) (inside (written n e)) rest)
 whole_shallow n e d l rest s = wrap_shallow n OfSum e (fits OfSum (written n e)) refl (inside_shallow n e) d l rest s
 
-wrap_words : (n : Naming) (r : Room) (e : Formula) (v : Bool) → fits r (written n e) ≡ v → ((rest : List Lexeme) → words (inside (written n e) rest) ≡ tokens_of n.args 0 e + words rest)
-    → (rest : List Lexeme) → words (cond v (inside (written n e) rest) (word ParL (codes "(") ∷ inside (written n e) (word ParR (codes ")") ∷ rest))) ≡ tokens_of n.args (wanted r) e + words rest
+wrap_words : (n : Naming) (r : Room) (e : Formula) (v : Bool) → fits r (written n e) ≡ v
+    → ((rest : List Lexeme) → words (inside (written n e) rest) ≡ tokens_of n.args 0 e + words rest)
+    → (rest : List Lexeme) → words (cond v (inside (written n e) rest) (word ParL (codes "(") ∷ inside (written n e) (word ParR (codes ")") ∷ rest)))
+    ≡ tokens_of n.args (wanted r) e + words rest
 wrap_words n r e true h f rest = let q = tokens_are n.args r e in let p = pairs_by n r e true h in let g = f rest in omega arith
 wrap_words n r e false h f rest = let q = tokens_are n.args r e in let p = pairs_by n r e false h in let g = f (word ParR (codes ")") ∷ rest) in omega arith
 
@@ -184,16 +194,23 @@ inside_words n (FName at j) rest = omega arith
 inside_words n (FNeg at e) rest = let a = wrap_words n OfUnary e (fits OfUnary (written n e)) refl (inside_words n e) rest in omega arith
 inside_words n (FAdd at e f) rest =
     let b = wrap_words n OfProduct f (fits OfProduct (written n f)) refl (inside_words n f) rest in
-    let a = wrap_words n OfSum e (fits OfSum (written n e)) refl (inside_words n e) (gap ∷ word Plus (codes "+") ∷ gap ∷ wrap OfProduct (written n f) (inside (written n f)) rest) in omega arith
+    let a = wrap_words n OfSum e (fits OfSum (written n e)) refl (inside_words n e)
+    (gap ∷ word Plus (codes "+") ∷ gap ∷ wrap OfProduct (written n f) (inside (written n f)) rest) in
+    omega arith
 inside_words n (FSub at e f) rest =
     let b = wrap_words n OfProduct f (fits OfProduct (written n f)) refl (inside_words n f) rest in
-    let a = wrap_words n OfSum e (fits OfSum (written n e)) refl (inside_words n e) (gap ∷ word Minus (codes "-") ∷ gap ∷ wrap OfProduct (written n f) (inside (written n f)) rest) in omega arith
+    let a = wrap_words n OfSum e (fits OfSum (written n e)) refl (inside_words n e)
+    (gap ∷ word Minus (codes "-") ∷ gap ∷ wrap OfProduct (written n f) (inside (written n f)) rest) in
+    omega arith
 inside_words n (FMul at e f) rest =
     let b = wrap_words n OfUnary f (fits OfUnary (written n f)) refl (inside_words n f) rest in
-    let a = wrap_words n OfProduct e (fits OfProduct (written n e)) refl (inside_words n e) (word Star (codes "*") ∷ wrap OfUnary (written n f) (inside (written n f)) rest) in omega arith
+    let a = wrap_words n OfProduct e (fits OfProduct (written n e)) refl (inside_words n e)
+    (word Star (codes "*") ∷ wrap OfUnary (written n f) (inside (written n f)) rest) in
+    omega arith
 inside_words n (FPow at e k) rest =
     let a = wrap_words n OfAtom e (fits OfAtom (written n e)) refl (inside_words n e) in a _ ∙ omega arith
 
 -- a whole expression
-pub whole_words : (n : Naming) (e : Formula) (rest : List Lexeme) → words (wrap OfSum (written n e) (inside (written n e)) rest) ≡ tokens_of n.args 0 e + words rest
+pub whole_words : (n : Naming) (e : Formula) (rest : List Lexeme)
+    → words (wrap OfSum (written n e) (inside (written n e)) rest) ≡ tokens_of n.args 0 e + words rest
 whole_words n e rest = wrap_words n OfSum e (fits OfSum (written n e)) refl (inside_words n e) rest

@@ -1,5 +1,6 @@
--- What the printer puts.
-use Rattle.std.proofs.Common.{drop, map, length, get_or, ◌<◌, ◌≤◌, ◌+◌, ◌≡◌, ℕ, Bool, true, false, List, [], ◌∷◌, ◌++◌, refl, ap, sym, ◌∙◌, append_assoc, subst, codes, decimal, Some, None, ◌⊎◌, inl, inr, arith}
+-- Proves that what the printer appends is the text of the lexemes of names, numbers, operators, elements and lets.
+use Rattle.std.proofs.Common.{drop, map, length, get_or, ◌<◌, ◌≤◌, ◌+◌, ◌≡◌, ℕ, Bool, true, false, List, [], ◌∷◌, ◌++◌, refl, ap, sym, ◌∙◌}
+use Rattle.std.proofs.Common.{append_assoc, subst, codes, decimal, Some, None, ◌⊎◌, inl, inr, arith}
 use Rattle.std.specs.Prelude.{slice_get, option_map}
 use Rattle.std.proofs.lemmas.Option.{slice_get-map}
 use Rattle.std.proofs.lemmas.List.{append-nil, drop_all, drop_more}
@@ -11,74 +12,94 @@ use Rattle.ln_parse.specs.Lexemes.{Lexeme, gap, word, text_of, each, name, numbe
 use Rattle.ln_parse.specs.Written.{Written, Naming}
 use Rattle.ln_parse.specs.Canonical.{fits, wrap, inside, lets, let_of}
 
--- a text is put
-pub puts_text : {a b : List ℕ} (t u : List ℕ) (f : List Lexeme → List Lexeme) → ((rest : List Lexeme) → text_of (f rest) ≡ t ++ text_of rest) → u ≡ t → b ≡ a ++ u → Puts a b f
-puts_text {a = a} {b = b} t u f h q e = record { on = λ rest. ap (λ (w : List ℕ). w ++ text_of rest) (e ∙ ap (λ (w : List ℕ). a ++ w) q) ∙ append_assoc a t (text_of rest) ∙ ap (λ (w : List ℕ). a ++ w) (sym (h rest)) }
+-- a text is appended
+pub puts_text : {a b : List ℕ} (t u : List ℕ) (f : List Lexeme → List Lexeme) → ((rest : List Lexeme) → text_of (f rest) ≡ t ++ text_of rest)
+    → u ≡ t → b ≡ a ++ u → Puts a b f
+puts_text {a = a} {b = b} t u f h q e = record {
+  on = λ rest. ap (λ (w : List ℕ). w ++ text_of rest) (e ∙ ap (λ (w : List ℕ). a ++ w) q) ∙ append_assoc a t (text_of rest)
+      ∙ ap (λ (w : List ℕ). a ++ w) (sym (h rest));
+}
 
--- a fixed text is put
-pub puts_fixed : {a b : List ℕ} (t : List ℕ) (f : List Lexeme → List Lexeme) → ((rest : List Lexeme) → text_of (f rest) ≡ t ++ text_of rest) → b ≡ a ++ t → Puts a b f
+-- a fixed text is appended
+pub puts_fixed : {a b : List ℕ} (t : List ℕ) (f : List Lexeme → List Lexeme) → ((rest : List Lexeme) → text_of (f rest) ≡ t ++ text_of rest)
+    → b ≡ a ++ t → Puts a b f
 puts_fixed t f h e = puts_text t t f h refl e
 
--- a name is put
+-- a name is appended
 pub puts_name : {a b u : List ℕ} (t : List ℕ) → u ≡ t → b ≡ a ++ u → Puts a b (name t)
 puts_name {u = u} t q e = puts_text t u (name t) (λ rest. refl) q e
 
--- a number is put
+-- a number is appended
 pub puts_number : {a b : List ℕ} {k : ℕ} (n : ℕ) → k ≡ n → b ≡ a ++ decimal k → Puts a b (number n)
 puts_number {k = k} n q e = puts_text (decimal n) (decimal k) (number n) (λ rest. refl) (ap (λ (m : ℕ). decimal m) q) e
 
--- nothing is put
+-- nothing is appended
 pub puts_empty : (a : List ℕ) → Puts a a (name [])
 puts_empty a = record { on = λ rest. refl }
 
--- one part is put, then another
+-- one part is appended, then another
 pub then : {a b c : List ℕ} {f g : List Lexeme → List Lexeme} → Puts a b f → Puts b c g → Puts a c (λ rest. f (g rest))
 then {g = g} p q = record { on = λ rest. q.on rest ∙ p.on (g rest) }
 
-wrapped : {a b c d : List ℕ} (r : Room) (e : Written) (v : Bool) → v ≡ fits r e → b ≡ a ++ opening v → Puts b c (inside e) → d ≡ c ++ closing v → Puts a d (wrap r e (inside e))
-wrapped {a = a} {b = b} {c = c} r e true q o p s = record { on = λ rest. rw (← q) (ap (λ (x : List ℕ). x ++ text_of rest) (s ∙ append-nil c) ∙ p.on rest ∙ ap (λ (x : List ℕ). x ++ text_of (inside e rest)) (o ∙ append-nil a)) }
-wrapped {a = a} {b = b} {c = c} r e false q o p s = record { on = λ rest. rw (← q) (ap (λ (x : List ℕ). x ++ text_of rest) s ∙ append_assoc c (41 ∷ []) (text_of rest) ∙ p.on (word ParR (codes ")") ∷ rest) ∙ ap (λ (x : List ℕ). x ++ text_of (inside e (word ParR (codes ")") ∷ rest))) o ∙ append_assoc a (40 ∷ []) (text_of (inside e (word ParR (codes ")") ∷ rest)))) }
+wrapped : {a b c d : List ℕ} (r : Room) (e : Written) (v : Bool) → v ≡ fits r e → b ≡ a ++ opening v → Puts b c (inside e)
+    → d ≡ c ++ closing v → Puts a d (wrap r e (inside e))
+wrapped {a = a} {b = b} {c = c} r e true q o p s = record {
+  on = λ rest. rw (← q) (ap (λ (x : List ℕ). x ++ text_of rest) (s ∙ append-nil c) ∙ p.on rest
+      ∙ ap (λ (x : List ℕ). x ++ text_of (inside e rest)) (o ∙ append-nil a));
+}
+wrapped {a = a} {b = b} {c = c} r e false q o p s = record {
+  on = λ rest. rw (← q) (ap (λ (x : List ℕ). x ++ text_of rest) s ∙ append_assoc c (41 ∷ []) (text_of rest)
+      ∙ p.on (word ParR (codes ")") ∷ rest) ∙ ap (λ (x : List ℕ). x ++ text_of (inside e (word ParR (codes ")") ∷ rest))) o
+      ∙ append_assoc a (40 ∷ []) (text_of (inside e (word ParR (codes ")") ∷ rest))));
+}
 
--- an expression is put, in parentheses but where it stands without
-pub wraps : {a b c d : List ℕ} (r : Room) (e : Written) (v : Bool) → v ≡ fits r e → b ≡ a ++ opening v → Puts b c (inside e) → d ≡ c ++ closing v → Puts a d (wrap r e (inside e))
+-- an expression is appended, in parentheses unless it needs none
+pub wraps : {a b c d : List ℕ} (r : Room) (e : Written) (v : Bool) → v ≡ fits r e → b ≡ a ++ opening v → Puts b c (inside e)
+    → d ≡ c ++ closing v → Puts a d (wrap r e (inside e))
 wraps r e v q o p s = wrapped r e v q o p s
 
 -- the same of an equal expression
 pub puts_equal : {a b : List ℕ} (r : Room) (e f : Written) → f ≡ e → Puts a b (wrap r f (inside f)) → Puts a b (wrap r e (inside e))
 puts_equal {a = a} {b = b} r e f q p = subst (λ (x : Written). Puts a b (wrap r x (inside x))) q p
 
--- what is put in front of nothing, into nothing
+-- what is appended to nothing, with nothing after it
 pub puts_all : {a b : List ℕ} (f : List Lexeme → List Lexeme) → a ≡ [] → Puts a b f → b ≡ text_of (f [])
 puts_all {b = b} f e p = sym (append-nil b) ∙ p.on [] ∙ ap (λ (x : List ℕ). x ++ text_of (f [])) e
 
--- the elements before place i are put
+-- the elements before place i are appended
 pub record EachPut {A B : Type 0} (old new : List ℕ) (f : B → List Lexeme → List Lexeme) (g : A → B) (xs : List A) (i : ℕ) : Type 0 where
   pub on : (rest : List Lexeme) → new ++ text_of (each f (map g (drop i xs)) rest) ≡ old ++ text_of (each f (map g xs) rest)
 
 -- an operator with a space on each side, between two operands
-pub spaced : {a b c d : List ℕ} (v w : Room) (k : Kind) (s : ℕ) (l r x y : Written) → x ≡ l → y ≡ r → Puts a b (wrap v x (inside x)) → c ≡ b ++ (32 ∷ s ∷ 32 ∷ []) → Puts c d (wrap w y (inside y))
+pub spaced : {a b c d : List ℕ} (v w : Room) (k : Kind) (s : ℕ) (l r x y : Written) → x ≡ l → y ≡ r → Puts a b (wrap v x (inside x))
+    → c ≡ b ++ (32 ∷ s ∷ 32 ∷ []) → Puts c d (wrap w y (inside y))
     → Puts a d (λ rest. wrap v l (inside l) (gap ∷ word k (s ∷ []) ∷ gap ∷ wrap w r (inside r) rest))
-spaced v w k s l r x y e f p q t = then (puts_equal v l x e p) (then (puts_fixed (32 ∷ s ∷ 32 ∷ []) (λ (rest : List Lexeme). gap ∷ word k (s ∷ []) ∷ gap ∷ rest) (λ rest. refl) q) (puts_equal w r y f t))
+spaced v w k s l r x y e f p q t = then (puts_equal v l x e p)
+    (then (puts_fixed (32 ∷ s ∷ 32 ∷ []) (λ (rest : List Lexeme). gap ∷ word k (s ∷ []) ∷ gap ∷ rest) (λ rest. refl) q) (puts_equal w r y f t))
 
 -- an operator without spaces, between two operands
-pub tight : {a b c d : List ℕ} (v w : Room) (k : Kind) (s : ℕ) (l r x y : Written) → x ≡ l → y ≡ r → Puts a b (wrap v x (inside x)) → c ≡ b ++ (s ∷ []) → Puts c d (wrap w y (inside y))
+pub tight : {a b c d : List ℕ} (v w : Room) (k : Kind) (s : ℕ) (l r x y : Written) → x ≡ l → y ≡ r → Puts a b (wrap v x (inside x))
+    → c ≡ b ++ (s ∷ []) → Puts c d (wrap w y (inside y))
     → Puts a d (λ rest. wrap v l (inside l) (word k (s ∷ []) ∷ wrap w r (inside r) rest))
-tight v w k s l r x y e f p q t = then (puts_equal v l x e p) (then (puts_fixed (s ∷ []) (λ (rest : List Lexeme). word k (s ∷ []) ∷ rest) (λ rest. refl) q) (puts_equal w r y f t))
+tight v w k s l r x y e f p q t =
+    then (puts_equal v l x e p) (then (puts_fixed (s ∷ []) (λ (rest : List Lexeme). word k (s ∷ []) ∷ rest) (λ rest. refl) q) (puts_equal w r y f t))
 
 -- an element that was found at a place, seen through f
 pub found : {A B : Type 0} (f : A → B) (xs : List A) (i k : ℕ) {x : A} → k ≡ i → Some x ≡ slice_get xs k → slice_get (map f xs) i ≡ Some (f x)
 found f xs i k q e = slice_get-map f xs i ∙ ap (λ o. option_map f o) (sym (e ∙ ap (λ (j : ℕ). slice_get xs j) q))
 
--- one more element is put
-pub each_more : {A B : Type 0} {a b c : List ℕ} (f : B → List Lexeme → List Lexeme) (g : A → B) (xs : List A) (i : ℕ) (x : A) → i < length xs → x ≡ get_or xs i x → EachPut a b f g xs i → Puts b c (f (g x)) → EachPut a c f g xs (i + 1)
+-- one more element is appended
+pub each_more : {A B : Type 0} {a b c : List ℕ} (f : B → List Lexeme → List Lexeme) (g : A → B) (xs : List A) (i : ℕ) (x : A)
+    → i < length xs → x ≡ get_or xs i x → EachPut a b f g xs i → Puts b c (f (g x)) → EachPut a c f g xs (i + 1)
 each_more f g xs i x h q p s = record {
   on = λ rest.
       let e : drop i xs ≡ x ∷ drop (i + 1) xs = drop_more xs i x h ∙ ap (λ w. w ∷ drop (i + 1) xs) (sym q) in
       s.on (each f (map g (drop (i + 1) xs)) rest) ∙ simp e at (p.on rest);
 }
 
--- all elements are put
-pub each_done : {A B : Type 0} {a b : List ℕ} (f : B → List Lexeme → List Lexeme) (g : A → B) (xs ys : List A) (i : ℕ) → length xs ≤ i → xs ≡ ys → EachPut a b f g xs i → Puts a b (each f (map g ys))
+-- all elements are appended
+pub each_done : {A B : Type 0} {a b : List ℕ} (f : B → List Lexeme → List Lexeme) (g : A → B) (xs ys : List A) (i : ℕ) → length xs ≤ i
+    → xs ≡ ys → EachPut a b f g xs i → Puts a b (each f (map g ys))
 each_done {a = a} {b = b} f g xs ys i l q p =
     let e : drop i xs ≡ [] = drop_all i xs l in
     record { on = λ rest. simp e at (p.on rest) ∙ ap (λ (w : List _). a ++ text_of (each f (map g w) rest)) q }
@@ -87,20 +108,24 @@ each_done {a = a} {b = b} f g xs ys i l q p =
 pub missing : {A B : Type 0} (f : A → B) (xs : List A) (i k : ℕ) → k ≡ i → None ≡ slice_get xs k → slice_get (map f xs) i ≡ None
 missing f xs i k q e = slice_get-map f xs i ∙ ap (λ o. option_map f o) (sym (e ∙ ap (λ (j : ℕ). slice_get xs j) q))
 
--- the lets but for these last ones are put
+-- the lets but for these last ones are appended
 pub record LetsPut {A B : Type 0} (old new : List ℕ) (n : Naming) (f : A → List ℕ) (g : B → Formula) (ts us : List A) (es fs : List B) : Type 0 where
   pub on : (rest : List Lexeme) → new ++ text_of (lets n (map f us) (map g fs) rest) ≡ old ++ text_of (lets n (map f ts) (map g es) rest)
 
--- one more let is put
-pub lets_more : {A B : Type 0} {a b c : List ℕ} {n : Naming} {f : A → List ℕ} {g : B → Formula} {ts us vs : List A} {es fs gs : List B} (t : A) (e : B) → us ≡ t ∷ vs → fs ≡ e ∷ gs → LetsPut a b n f g ts us es fs → Puts b c (let_of n (f t) (g e)) → LetsPut a c n f g ts vs es gs
-lets_more {n = n} {f = f} {g = g} {vs = vs} {gs = gs} t e p q l s = record { on = λ rest. s.on (lets n (map f vs) (map g gs) rest) ∙ simp (p, q) at (l.on rest) }
+-- one more let is appended
+pub lets_more : {A B : Type 0} {a b c : List ℕ} {n : Naming} {f : A → List ℕ} {g : B → Formula} {ts us vs : List A} {es fs gs : List B} (t : A)
+    (e : B) → us ≡ t ∷ vs → fs ≡ e ∷ gs → LetsPut a b n f g ts us es fs → Puts b c (let_of n (f t) (g e)) → LetsPut a c n f g ts vs es gs
+lets_more {n = n} {f = f} {g = g} {vs = vs} {gs = gs} t e p q l s = record {
+  on = λ rest. s.on (lets n (map f vs) (map g gs) rest) ∙ simp (p, q) at (l.on rest);
+}
 
 no_lets : (n : Naming) (ts : List (List ℕ)) (rest : List Lexeme) → lets n ts [] rest ≡ rest
 no_lets n [] rest = refl
 no_lets n (t ∷ ts) rest = refl
 
--- where a name or an expression is missing, all lets are put
-pub lets_end : {A B : Type 0} {a b : List ℕ} {n : Naming} {f : A → List ℕ} {g : B → Formula} {ts us : List A} {es fs : List B} → (length us ≡ 0) ⊎ (length fs ≡ 0) → LetsPut a b n f g ts us es fs → Puts a b (lets n (map f ts) (map g es))
+-- where a name or an expression is missing, all lets are appended
+pub lets_end : {A B : Type 0} {a b : List ℕ} {n : Naming} {f : A → List ℕ} {g : B → Formula} {ts us : List A} {es fs : List B}
+    → (length us ≡ 0) ⊎ (length fs ≡ 0) → LetsPut a b n f g ts us es fs → Puts a b (lets n (map f ts) (map g es))
 lets_end {us = []} (inl q) l = record { on = λ rest. l.on rest }
 lets_end {us = u ∷ us} (inl q) l = absurd (omega arith)
 lets_end {n = n} {f = f} {us = us} {fs = []} (inr q) l = record { on = λ rest. let p = l.on rest in simp (no_lets n (map f us) rest) at p }

@@ -1,5 +1,6 @@
 -- Names and numbers as tokens.
-use Rattle.std.proofs.Common.{◌≡◌, ℕ, suc, ◌+◌, ◌-◌, ◌*◌, ◌<◌, ◌≤◌, ◌^◌, ◌&&◌, ◌||◌, not, Bool, true, false, List, [], ◌∷◌, length, Some, refl, ap, ◌∙◌, arith, pow-suc, codes}
+use Rattle.std.proofs.Common.{◌≡◌, ℕ, suc, ◌+◌, ◌-◌, ◌*◌, ◌<◌, ◌≤◌, ◌^◌, ◌&&◌, ◌||◌, not, Bool, true, false, List, [], ◌∷◌, length, Some}
+use Rattle.std.proofs.Common.{refl, ap, ◌∙◌, arith, pow-suc, codes}
 use Rattle.std.specs.Prelude.{bytes_eq, if◌then◌else◌}
 use Rattle.std.specs.Fmt.{decimal}
 use Rattle.std.specs.Str.Parse.{AllDigits}
@@ -45,7 +46,8 @@ running n (d ∷ ds) =
 pub number_value : (n : ℕ) → n < 10 ^ 64 → names.decimal 0 (decimal n) ≡ n
 number_value n h = running 0 (decimal n) ∙ let e = value_of_text n h in omega arith
 
-no_keyword : (s p q l g : Bool) → not (s || p || q || l || g) ≡ true → (if s then Site else if p then Param else if q then Predicate else if l then Let else if g then Sign else Name) ≡ Name
+no_keyword : (s p q l g : Bool) → not (s || p || q || l || g) ≡ true
+    → (if s then Site else if p then Param else if q then Predicate else if l then Let else if g then Sign else Name) ≡ Name
 no_keyword true p q l g h = absurd (cc)
 no_keyword false true q l g h = absurd (cc)
 no_keyword false false true l g h = absurd (cc)
@@ -63,5 +65,6 @@ name_kind [] h = absurd (cc)
 name_kind (b ∷ bs) h =
     let p = both_true (is_word (b ∷ bs)) (not (is_keyword (b ∷ bs))) h in
     let q = both_true (is_letter b) (every is_name_byte bs) p.0 in
-    let k : word_kind (b ∷ bs) ≡ Name = no_keyword (bytes_eq (b ∷ bs) (codes "site")) (bytes_eq (b ∷ bs) (codes "param")) (bytes_eq (b ∷ bs) (codes "predicate")) (bytes_eq (b ∷ bs) (codes "let")) (bytes_eq (b ∷ bs) (codes "sign")) p.1 in
+    let k : word_kind (b ∷ bs) ≡ Name = no_keyword (bytes_eq (b ∷ bs) (codes "site")) (bytes_eq (b ∷ bs) (codes "param"))
+    (bytes_eq (b ∷ bs) (codes "predicate")) (bytes_eq (b ∷ bs) (codes "let")) (bytes_eq (b ∷ bs) (codes "sign")) p.1 in
     rw (q.0, q.1) (ap (λ (w : Kind). Some w) k)

@@ -10,7 +10,8 @@ use Rattle.ln_syntax.specs.declared.raw.RawArg.{RawArg}
 use Rattle.ln_syntax.specs.declared.raw.RawLet.{RawLet}
 use Rattle.ln_syntax.specs.Raw.{Item, Is, span_at, same}
 use Rattle.ln_syntax.specs.Place.{depth_behind, depth_after, IsShallow}
-use Rattle.ln_syntax.specs.Expression.{Tree, Sort, Atom, Power, Unary, Term, Sum, Factors, Terms, Derives, number, name, input, parens, plain, power, base, minus, term, no_factor, times, sum, no_term, plus, less}
+use Rattle.ln_syntax.specs.Expression.{Tree, Sort, Atom, Power, Unary, Term, Sum, Factors, Terms, Derives, number, name, input, parens}
+use Rattle.ln_syntax.specs.Expression.{plain, power, base, minus, term, no_factor, times, sum, no_term, plus, less}
 use Rattle.ln_syntax.proofs.Recognising.Depth.{depth_more}
 use Rattle.ln_names.specs.Rules.{Scope, scope, has_let, has_param_arg, is_site_arg, is_param_arg}
 use Rattle.ln_tree.specs.Formula.{Formula, FNum, FInput, FName, FNeg, FAdd, FSub, FMul, FPow}
@@ -60,7 +61,8 @@ few (Some (SiteArg n t)) = omega arith
 few (Some (ParamArg p)) = omega arith
 
 -- a bare name is one token
-param_one : (bytes : List ℕ) (is : List Item) (raws : List RawArg) (at : Span) → has_param_arg bytes raws at ≡ true → input_tokens (slice_get (said bytes is raws) (place (λ a. is_param_arg a && same bytes a.name at) raws)) ≡ 1
+param_one : (bytes : List ℕ) (is : List Item) (raws : List RawArg) (at : Span) → has_param_arg bytes raws at ≡ true
+    → input_tokens (slice_get (said bytes is raws) (place (λ a. is_param_arg a && same bytes a.name at) raws)) ≡ 1
 param_one bytes is raws at h =
     let p = λ (a : RawArg). is_param_arg a && same bytes a.name at in
     let f = found_at p raws h in
@@ -69,7 +71,8 @@ param_one bytes is raws at h =
     let q = said_param bytes is f.element f.element.is_param yes in
     rw here (rw q refl)
 
-name_one : (bytes : List ℕ) (is : List Item) (raws : List RawArg) (ls : List RawLet) (at : Span) (o : Option ℕ) → position (λ l. same bytes l.name at) ls ≡ o → (has_let bytes ls at || has_param_arg bytes raws at) ≡ true
+name_one : (bytes : List ℕ) (is : List Item) (raws : List RawArg) (ls : List RawLet) (at : Span) (o : Option ℕ)
+    → position (λ l. same bytes l.name at) ls ≡ o → (has_let bytes ls at || has_param_arg bytes raws at) ≡ true
     → (r : ℕ) → tokens_of (said bytes is raws) r (name_of bytes (scope is raws ls) at o) ≡ 1
 name_one bytes is raws ls at (Some j) e h r = refl
 name_one bytes is raws ls at None e h r =
@@ -100,13 +103,26 @@ begins bytes s no_term m = m
 begins bytes s (plus t d r) m = (begins bytes s r m).0
 begins bytes s (less t d r) m = (begins bytes s r m).0
 
-counted : (bytes : List ℕ) (is : List Item) (raws : List RawArg) (ls : List RawLet) {ts : List Token} {o : Sort} {i j : ℕ} {e : Tree} → Derives ts o i j e → Fit bytes (scope is raws ls) e
+counted : (bytes : List ℕ) (is : List Item) (raws : List RawArg) (ls : List RawLet) {ts : List Token} {o : Sort} {i j : ℕ} {e : Tree}
+    → Derives ts o i j e → Fit bytes (scope is raws ls) e
     → i + tokens_of (said bytes is raws) (want o) (resolved bytes (scope is raws ls) e) ≤ j + before bytes (scope is raws ls) (said bytes is raws) o
 counted bytes is raws ls (number n) m = omega arith
-counted bytes is raws ls {ts = ts} (name {i = i} n) m = let q = name_one bytes is raws ls (span_at ts i) (position (λ l. same bytes l.name (span_at ts i)) ls) refl m 3 in omega arith
-counted bytes is raws ls {ts = ts} (input {i = i} n d x) m = let q = few (slice_get (said bytes is raws) (place (λ a. is_site_arg a && same bytes a.name (span_at ts i)) raws)) in omega arith
-counted bytes is raws ls (parens {e = e} n d c) m = let a = counted bytes is raws ls d m in let g = grows (said bytes is raws) (resolved bytes (scope is raws ls) e) in let q = g.most in omega arith
-counted bytes is raws ls (plain {e = e} d) m = let a = counted bytes is raws ls d m in let g = grows (said bytes is raws) (resolved bytes (scope is raws ls) e) in let q = g.three in omega arith
+counted bytes is raws ls {ts = ts} (name {i = i} n) m =
+    let q = name_one bytes is raws ls (span_at ts i) (position (λ l. same bytes l.name (span_at ts i)) ls) refl m 3 in
+    omega arith
+counted bytes is raws ls {ts = ts} (input {i = i} n d x) m =
+    let q = few (slice_get (said bytes is raws) (place (λ a. is_site_arg a && same bytes a.name (span_at ts i)) raws)) in
+    omega arith
+counted bytes is raws ls (parens {e = e} n d c) m =
+    let a = counted bytes is raws ls d m in
+    let g = grows (said bytes is raws) (resolved bytes (scope is raws ls) e) in
+    let q = g.most in
+    omega arith
+counted bytes is raws ls (plain {e = e} d) m =
+    let a = counted bytes is raws ls d m in
+    let g = grows (said bytes is raws) (resolved bytes (scope is raws ls) e) in
+    let q = g.three in
+    omega arith
 counted bytes is raws ls (power d c n) m = let a = counted bytes is raws ls d m.0 in omega arith
 counted bytes is raws ls (base d) m = counted bytes is raws ls d m
 counted bytes is raws ls (minus k d) m = let a = counted bytes is raws ls d m in omega arith
@@ -114,20 +130,30 @@ counted bytes is raws ls (term {f = f} d r) m =
     let a = counted bytes is raws ls d (begins bytes (scope is raws ls) r m) in let b = counted bytes is raws ls r m in
     let g = grows (said bytes is raws) (resolved bytes (scope is raws ls) f) in let q = g.two in omega arith
 counted bytes is raws ls no_factor m = omega arith
-counted bytes is raws ls (times t d r) m = let a = counted bytes is raws ls d (begins bytes (scope is raws ls) r m).1 in let b = counted bytes is raws ls r m in omega arith
+counted bytes is raws ls (times t d r) m =
+    let a = counted bytes is raws ls d (begins bytes (scope is raws ls) r m).1 in
+    let b = counted bytes is raws ls r m in
+    omega arith
 counted bytes is raws ls (sum {f = f} d r) m =
     let a = counted bytes is raws ls d (begins bytes (scope is raws ls) r m) in let b = counted bytes is raws ls r m in
     let g = grows (said bytes is raws) (resolved bytes (scope is raws ls) f) in let q = g.one in omega arith
 counted bytes is raws ls no_term m = omega arith
-counted bytes is raws ls (plus t d r) m = let a = counted bytes is raws ls d (begins bytes (scope is raws ls) r m).1 in let b = counted bytes is raws ls r m in omega arith
-counted bytes is raws ls (less t d r) m = let a = counted bytes is raws ls d (begins bytes (scope is raws ls) r m).1 in let b = counted bytes is raws ls r m in omega arith
+counted bytes is raws ls (plus t d r) m =
+    let a = counted bytes is raws ls d (begins bytes (scope is raws ls) r m).1 in
+    let b = counted bytes is raws ls r m in
+    omega arith
+counted bytes is raws ls (less t d r) m =
+    let a = counted bytes is raws ls d (begins bytes (scope is raws ls) r m).1 in
+    let b = counted bytes is raws ls r m in
+    omega arith
 
 -- the canonical text of an expression has no more tokens than it is said with
-pub expression_tokens : (bytes : List ℕ) (is : List Item) (raws : List RawArg) (ls : List RawLet) {ts : List Token} {i j : ℕ} {e : Tree} → Derives ts Sum i j e → Fit bytes (scope is raws ls) e
+pub expression_tokens : (bytes : List ℕ) (is : List Item) (raws : List RawArg) (ls : List RawLet) {ts : List Token} {i j : ℕ} {e : Tree}
+    → Derives ts Sum i j e → Fit bytes (scope is raws ls) e
     → i + tokens_of (said bytes is raws) 0 (resolved bytes (scope is raws ls) e) ≤ j
 expression_tokens bytes is raws ls d m = let a = counted bytes is raws ls d m in omega arith
 
--- the depth behind one more token
+-- the depth after one more token
 pub depth_step : (ts : List Token) (i : ℕ) (k : Kind) (d : ℕ) → Is ts i k → depth_after 0 (take i ts) ≡ d → depth_after 0 (take (suc i) ts) ≡ depth_behind d k
 depth_step ts i k d h e =
     let s : i + 1 ≡ suc i = omega arith in
@@ -155,7 +181,7 @@ deep_before bytes s d (Factors f) = d + nesting 1 (resolved bytes s f) ≤ 64
 deep_before bytes s d (Terms f) = d + nesting 0 (resolved bytes s f) ≤ 64
 deep_before bytes s d o = Unit {0}
 
--- behind an expression the depth is as before it, and its canonical text is nested at most 64 deep there
+-- after an expression the depth is as before it, and its canonical text is nested at most 64 deep there
 record Nests (bytes : List ℕ) (s : Scope) (ts : List Token) (r d j : ℕ) (e : Tree) : Type 0 where
   back : depth_after 0 (take j ts) ≡ d
   deep : d + nesting r (resolved bytes s e) ≤ 64
@@ -164,9 +190,13 @@ name_flat : (bytes : List ℕ) (s : Scope) (at : Span) (o : Option ℕ) (r : ℕ
 name_flat bytes s at (Some j) r = refl
 name_flat bytes s at None r = refl
 
-nested : (bytes : List ℕ) (s : Scope) {ts : List Token} {o : Sort} {i j : ℕ} {e : Tree} → IsShallow ts → Derives ts o i j e → (d : ℕ) → depth_after 0 (take i ts) ≡ d → d ≤ 64 → deep_before bytes s d o → Nests bytes s ts (want o) d j e
+nested : (bytes : List ℕ) (s : Scope) {ts : List Token} {o : Sort} {i j : ℕ} {e : Tree} → IsShallow ts → Derives ts o i j e → (d : ℕ)
+    → depth_after 0 (take i ts) ≡ d → d ≤ 64 → deep_before bytes s d o → Nests bytes s ts (want o) d j e
 nested bytes s {ts = ts} h (number {i = i} n) d e l b = record { back = depth_step ts i Number d n e; deep = omega arith }
-nested bytes s {ts = ts} h (name {i = i} n) d e l b = record { back = depth_step ts i Name d n e; deep = let q = name_flat bytes s (span_at ts i) (position (λ m. same bytes m.name (span_at ts i)) s.lets) 3 in omega arith }
+nested bytes s {ts = ts} h (name {i = i} n) d e l b = record {
+  back = depth_step ts i Name d n e;
+  deep = let q = name_flat bytes s (span_at ts i) (position (λ m. same bytes m.name (span_at ts i)) s.lets) 3 in omega arith;
+}
 nested bytes s {ts = ts} h (input {i = i} n p x) d e l b =
     record { back = depth_step ts (suc (suc i)) Name d x (depth_step ts (suc i) Dot d p (depth_step ts i Name d n e)); deep = omega arith }
 nested bytes s {ts = ts} h (parens {i = i} {j = j} {e = t} n x c) d e l b =
@@ -176,12 +206,20 @@ nested bytes s {ts = ts} h (parens {i = i} {j = j} {e = t} n x c) d e l b =
     let g = looser (resolved bytes s t) in let u = g.most in
     let z : suc d - 1 ≡ d = omega arith in
     record { back = depth_step ts j ParR (suc d) c a.back ∙ z; deep = omega arith }
-nested bytes s h (plain {e = t} x) d e l b = let a = nested bytes s h x d e l tt in let q = a.deep in let g = looser (resolved bytes s t) in let u = g.three in record { back = a.back; deep = omega arith }
+nested bytes s h (plain {e = t} x) d e l b =
+    let a = nested bytes s h x d e l tt in
+    let q = a.deep in
+    let g = looser (resolved bytes s t) in
+    let u = g.three in
+    record { back = a.back; deep = omega arith }
 nested bytes s {ts = ts} h (power {j = j} x c n) d e l b =
     let a = nested bytes s h x d e l tt in let q = a.deep in
     record { back = depth_step ts (suc j) Number d n (depth_step ts j Caret d c a.back); deep = omega arith }
 nested bytes s h (base x) d e l b = let a = nested bytes s h x d e l tt in record { back = a.back; deep = a.deep }
-nested bytes s {ts = ts} h (minus {i = i} k x) d e l b = let a = nested bytes s h x d (depth_step ts i Minus d k e) l tt in let q = a.deep in record { back = a.back; deep = omega arith }
+nested bytes s {ts = ts} h (minus {i = i} k x) d e l b =
+    let a = nested bytes s h x d (depth_step ts i Minus d k e) l tt in
+    let q = a.deep in
+    record { back = a.back; deep = omega arith }
 nested bytes s h (term {f = f} x r) d e l b =
     let a = nested bytes s h x d e l tt in let q = a.deep in
     let g = looser (resolved bytes s f) in let u = g.two in
@@ -203,5 +241,6 @@ nested bytes s {ts = ts} h (less {i = i} t x r) d e l b =
     let z = nested bytes s h r d a.back l (omega arith) in record { back = z.back; deep = z.deep }
 
 -- an expression outside parentheses leaves none open, and its canonical text is nested at most 64 deep
-pub expression_nests : (bytes : List ℕ) (s : Scope) {ts : List Token} {i j : ℕ} {e : Tree} → IsShallow ts → Derives ts Sum i j e → depth_after 0 (take i ts) ≡ 0 → (depth_after 0 (take j ts) ≡ 0) × (nesting 0 (resolved bytes s e) ≤ 64)
+pub expression_nests : (bytes : List ℕ) (s : Scope) {ts : List Token} {i j : ℕ} {e : Tree} → IsShallow ts → Derives ts Sum i j e
+    → depth_after 0 (take i ts) ≡ 0 → (depth_after 0 (take j ts) ≡ 0) × (nesting 0 (resolved bytes s e) ≤ 64)
 expression_nests bytes s h x e = let a = nested bytes s h x 0 e (omega arith) tt in let q = a.deep in (a.back, omega arith)

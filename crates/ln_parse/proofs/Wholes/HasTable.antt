@@ -32,7 +32,8 @@ coord_named c n r = let a = r.low in let b = r.high in record { name = n.0; low 
 site_named : (s : SiteOf) → SiteNames s → SiteParts s → SiteNamed s
 site_named s n p = record { name = n.name.0; some = p.some; coords = both (λ c. IsShortName c.name) InRange CoordNamed s.coords coord_named n.coords p.ranges }
 
-arg_named : (t : TableOf) → Every SiteNames t.sites → Every (λ c. IsShortName c.name) t.params → (a : ArgOf) → is_one_of (length t.sites) (length t.params) a ≡ true → ArgNames a → ArgNamed t a
+arg_named : (t : TableOf) → Every SiteNames t.sites → Every (λ c. IsShortName c.name) t.params → (a : ArgOf)
+    → is_one_of (length t.sites) (length t.params) a ≡ true → ArgNames a → ArgNamed t a
 arg_named t ss cs (SiteArg n k) h g =
     let e = at_place t.sites k (ltb-true k (length t.sites) h) in
     (g.0, rw e.1 (every_at SiteNames t.sites k e.0 ss e.1).name.0)
@@ -41,13 +42,15 @@ arg_named t ss cs (ParamArg p) h g =
     let q : IsShortName e.0.name = every_at (λ (c : CoordOf). IsShortName c.name) t.params p e.0 cs e.1 in
     rw e.1 q.0
 
-args_named : (t : TableOf) → Every SiteNames t.sites → Every (λ c. IsShortName c.name) t.params → (xs : List ArgOf) → list_all (is_one_of (length t.sites) (length t.params)) xs ≡ true → Every ArgNames xs → Every (ArgNamed t) xs
+args_named : (t : TableOf) → Every SiteNames t.sites → Every (λ c. IsShortName c.name) t.params → (xs : List ArgOf)
+    → list_all (is_one_of (length t.sites) (length t.params)) xs ≡ true → Every ArgNames xs → Every (ArgNamed t) xs
 args_named t ss cs [] h g = tt
 args_named t ss cs (a ∷ xs) h g =
     let p = and_parts (is_one_of (length t.sites) (length t.params) a) (list_all (is_one_of (length t.sites) (length t.params)) xs) h in
     (arg_named t ss cs a p.0 g.0, args_named t ss cs xs p.1 g.1)
 
-lets_named : (n : Naming) → NamesGood n → (vars : List VarInfo) → vars ≡ vars_behind n.sites n.params 0 0 n.args → (j : ℕ) (us : List (List ℕ)) (es : List Formula) → j + length us ≤ length n.lets → length us ≡ length es → Every IsShortName us
+lets_named : (n : Naming) → NamesGood n → (vars : List VarInfo) → vars ≡ vars_behind n.sites n.params 0 0 n.args
+    → (j : ℕ) (us : List (List ℕ)) (es : List Formula) → j + length us ≤ length n.lets → length us ≡ length es → Every IsShortName us
     → lets_fit (length vars) j (map (tree vars) es) ≡ true → LetsNamed n us es
 lets_named n g vars v j [] [] l m k h = tt
 lets_named n g vars v j [] (e ∷ es) l m k h = absurd (omega arith)
@@ -56,7 +59,8 @@ lets_named n g vars v j (u ∷ us) (e ∷ es) l m k h =
     let p = and_parts (is_fit (length vars) j (tree vars e)) (lets_fit (length vars) (suc j) (map (tree vars) es)) h in
     (k.0.0, named n g vars j v (omega arith) e p.0, lets_named n g vars v (suc j) us es (omega arith) (omega arith) k.1 p.1)
 
-pred_named : (t : TableOf) → Every SiteNames t.sites → Every (λ c. IsShortName c.name) t.params → (p : PredOf) → PredKept p → PredParts t.sites t.params p → PredNamed t p
+pred_named : (t : TableOf) → Every SiteNames t.sites → Every (λ c. IsShortName c.name) t.params → (p : PredOf) → PredKept p
+    → PredParts t.sites t.params p → PredNamed t p
 pred_named t ss cs p k h =
     let n = naming t p in
     let g : NamesGood n = record { sites = ss; params = cs; args = k.args; lets = k.let_names } in

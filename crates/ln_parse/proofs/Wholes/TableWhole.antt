@@ -87,11 +87,20 @@ preds_kept [] = tt
 preds_kept (p ∷ ps) = (pred_kept p, preds_kept ps)
 
 -- what its type keeps makes a table whole
-pub table_is_whole : (sites : List Site) (params : List Param) (preds : List Pred) → is_table sites params preds ≡ true → is_whole (table_of sites params preds) ≡ true → IsWhole (table_of sites params preds)
+pub table_is_whole : (sites : List Site) (params : List Param) (preds : List Pred) → is_table sites params preds ≡ true
+    → is_whole (table_of sites params preds) ≡ true → IsWhole (table_of sites params preds)
 table_is_whole sites params preds k w =
     let c = and_parts (nat_le (length sites) 16 && nat_le (length params) 16 && nat_le (length preds) 16) (list_all (pred_fits sites params) preds) k in
     let b = and_parts (nat_le (length sites) 16 && nat_le (length params) 16) (nat_le (length preds) 16) c.0 in
     let a = and_parts (nat_le (length sites) 16) (nat_le (length params) 16) b.0 in
     let x = at_most (length sites) 16 a.0 in let y = at_most (length params) 16 a.1 in let z = at_most (length preds) 16 b.1 in
     let l = length-map sites site_of in let m = length-map params param_of in let n = length-map preds pred_of in
-    record { sites = sites_short sites; params = params_short params; preds = preds_kept preds; few_sites = omega arith; few_params = omega arith; few_preds = omega arith; whole = w }
+    record {
+      sites = sites_short sites;
+      params = params_short params;
+      preds = preds_kept preds;
+      few_sites = omega arith;
+      few_params = omega arith;
+      few_preds = omega arith;
+      whole = w;
+    }

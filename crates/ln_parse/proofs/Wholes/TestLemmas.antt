@@ -35,7 +35,7 @@ not_so false h = refl
 abbrev pub one_if : Bool → ℕ
 one_if v = cond v 1 0
 
--- what stands in a list stands in its image
+-- what is in a list is in its image
 pub get_map : {A B : Type 0} (f : A → B) (xs : List A) (k : ℕ) (x : A) → slice_get xs k ≡ Some x → slice_get (map f xs) k ≡ Some (f x)
 get_map f [] k x h = absurd (cc)
 get_map f (y ∷ xs) zero x h = let q : y ≡ x = cc in ap (λ w. Some (f w)) q

@@ -22,7 +22,8 @@ ranged_words c rest =
     let b = signed_words c.hi (int_lt c.hi (pos 0)) refl (word Semi (codes ";") ∷ rest) in
     let a = signed_words c.lo (int_lt c.lo (pos 0)) refl (gap ∷ word Dots (codes "..") ∷ gap ∷ signed c.hi (word Semi (codes ";") ∷ rest)) in omega arith
 
-each_words : {A : Type 0} (f : A → List Lexeme → List Lexeme) (c : A → ℕ) (xs : List A) → ((x : A) (rest : List Lexeme) → words (f x rest) ≡ c x + words rest) → (rest : List Lexeme) → words (each f xs rest) ≡ total c xs + words rest
+each_words : {A : Type 0} (f : A → List Lexeme → List Lexeme) (c : A → ℕ) (xs : List A)
+    → ((x : A) (rest : List Lexeme) → words (f x rest) ≡ c x + words rest) → (rest : List Lexeme) → words (each f xs rest) ≡ total c xs + words rest
 each_words f c [] h rest = omega arith
 each_words f c (x ∷ xs) h rest = let a = h x (each f xs rest) in let b = each_words f c xs h rest in omega arith
 
@@ -44,7 +45,8 @@ args_words : (t : TableOf) (xs : List ArgOf) (rest : List Lexeme) → 0 < length
 args_words t [] rest h = absurd (omega arith)
 args_words t (a ∷ xs) rest h = let p = arg_words t a (each (further t) xs rest) in let q = further_words t xs rest in omega arith
 
-lets_words : (n : Naming) (us : List (List ℕ)) (es : List Formula) (rest : List Lexeme) → length us ≡ length es → words (lets n us es rest) ≡ total (λ e. 4 + tokens_of n.args 0 e) es + words rest
+lets_words : (n : Naming) (us : List (List ℕ)) (es : List Formula) (rest : List Lexeme) → length us ≡ length es
+    → words (lets n us es rest) ≡ total (λ e. 4 + tokens_of n.args 0 e) es + words rest
 lets_words n [] [] rest h = omega arith
 lets_words n [] (e ∷ es) rest h = absurd (omega arith)
 lets_words n (u ∷ us) [] rest h = absurd (omega arith)
@@ -52,7 +54,8 @@ lets_words n (u ∷ us) (e ∷ es) rest h =
     let b = lets_words n us es rest (omega arith) in
     let a = whole_words n e (word Semi (codes ";") ∷ gap ∷ lets n us es rest) in omega arith
 
-pred_words : (t : TableOf) (p : PredOf) → 0 < length p.args → length p.let_names ≡ length p.lets → (rest : List Lexeme) → words (pred t p rest) ≡ pred_tokens p + words rest
+pred_words : (t : TableOf) (p : PredOf) → 0 < length p.args → length p.let_names ≡ length p.lets → (rest : List Lexeme)
+    → words (pred t p rest) ≡ pred_tokens p + words rest
 pred_words t p h m rest =
     let n = naming t p in
     let c = whole_words n p.root (word Semi (codes ";") ∷ gap ∷ word BraceR (codes "}") ∷ line ∷ rest) in
@@ -76,10 +79,17 @@ signed_shallow false n d rest s = (λ z. absurd (cc), s)
 
 ranged_shallow : (c : CoordOf) (d : ℕ) (rest : List Lexeme) → Shallow d rest → Shallow d (ranged c rest)
 ranged_shallow c d rest s =
-    let b = signed_shallow (int_lt c.hi (pos 0)) (unsigned_abs c.hi) d (word Semi (codes ";") ∷ rest) (λ z. absurd (cc), s) in
-    (λ z. absurd (cc), (λ z. absurd (cc), signed_shallow (int_lt c.lo (pos 0)) (unsigned_abs c.lo) d (gap ∷ word Dots (codes "..") ∷ gap ∷ signed c.hi (word Semi (codes ";") ∷ rest)) (λ z. absurd (cc), b)))
+    let b = signed_shallow (int_lt c.hi (pos 0)) (unsigned_abs c.hi) d (word Semi (codes ";") ∷ rest) (λ z. absurd (cc), s) in (
+      λ z. absurd (cc),
+      (
+        λ z. absurd (cc),
+        signed_shallow (int_lt c.lo (pos 0)) (unsigned_abs c.lo) d
+            (gap ∷ word Dots (codes "..") ∷ gap ∷ signed c.hi (word Semi (codes ";") ∷ rest)) (λ z. absurd (cc), b),
+      ),
+    )
 
-each_shallow : {A : Type 0} (f : A → List Lexeme → List Lexeme) (d : ℕ) (xs : List A) → ((x : A) (rest : List Lexeme) → Shallow d rest → Shallow d (f x rest)) → (rest : List Lexeme) → Shallow d rest → Shallow d (each f xs rest)
+each_shallow : {A : Type 0} (f : A → List Lexeme → List Lexeme) (d : ℕ) (xs : List A)
+    → ((x : A) (rest : List Lexeme) → Shallow d rest → Shallow d (f x rest)) → (rest : List Lexeme) → Shallow d rest → Shallow d (each f xs rest)
 each_shallow f d [] h rest s = s
 each_shallow f d (x ∷ xs) h rest s = h x (each f xs rest) (each_shallow f d xs h rest s)
 
@@ -97,9 +107,11 @@ arg_shallow t d (ParamArg p) rest h = (λ z. absurd (cc), (λ z. absurd (cc), (�
 
 args_shallow : (t : TableOf) (d : ℕ) (xs : List ArgOf) (rest : List Lexeme) → Shallow d rest → Shallow d (args t xs rest)
 args_shallow t d [] rest h = h
-args_shallow t d (a ∷ xs) rest h = arg_shallow t d a (each (further t) xs rest) (each_shallow (further t) d xs (λ b r q. (λ z. absurd (cc), arg_shallow t d b r q)) rest h)
+args_shallow t d (a ∷ xs) rest h =
+    arg_shallow t d a (each (further t) xs rest) (each_shallow (further t) d xs (λ b r q. (λ z. absurd (cc), arg_shallow t d b r q)) rest h)
 
-lets_shallow : (n : Naming) (us : List (List ℕ)) (es : List Formula) → Every (λ e. nesting 0 e ≤ 64) es → (rest : List Lexeme) → Shallow 0 rest → Shallow 0 (lets n us es rest)
+lets_shallow : (n : Naming) (us : List (List ℕ)) (es : List Formula) → Every (λ e. nesting 0 e ≤ 64) es → (rest : List Lexeme)
+    → Shallow 0 rest → Shallow 0 (lets n us es rest)
 lets_shallow n [] es k rest h = h
 lets_shallow n (u ∷ us) [] k rest h = h
 lets_shallow n (u ∷ us) (e ∷ es) k rest h =
@@ -112,9 +124,11 @@ pred_shallow : (t : TableOf) (p : PredOf) → PredParts t.sites t.params p → (
 pred_shallow t p k rest h =
     let n = naming t p in
     let l = k.root in
-    let c = whole_shallow n p.root 0 (omega arith) (word Semi (codes ";") ∷ gap ∷ word BraceR (codes "}") ∷ line ∷ rest) (λ z. absurd (cc), (λ z. absurd (cc), h)) in
+    let c = whole_shallow n p.root 0 (omega arith) (word Semi (codes ";") ∷ gap ∷ word BraceR (codes "}") ∷ line ∷ rest)
+    (λ z. absurd (cc), (λ z. absurd (cc), h)) in
     let b = lets_shallow n p.let_names p.lets k.lets (root n p.root rest) (λ z. absurd (cc), c) in
-    let a = args_shallow t 1 p.args (word ParR (codes ")") ∷ gap ∷ word BraceL (codes "{") ∷ gap ∷ lets n p.let_names p.lets (root n p.root rest)) (λ z. absurd (cc), (λ z. absurd (cc), b)) in
+    let a = args_shallow t 1 p.args (word ParR (codes ")") ∷ gap ∷ word BraceL (codes "{") ∷ gap ∷ lets n p.let_names p.lets (root n p.root rest))
+    (λ z. absurd (cc), (λ z. absurd (cc), b)) in
     (λ z. absurd (cc), (λ z. absurd (cc), (λ z. omega arith, a)))
 
 preds_shallow : (t : TableOf) (ps : List PredOf) → Every (PredParts t.sites t.params) ps → Shallow 0 (each (pred t) ps [])
@@ -123,4 +137,5 @@ preds_shallow t (p ∷ ps) h = pred_shallow t p h.0 (each (pred t) ps []) (preds
 
 -- no parenthesis of the canonical text is nested too deep
 pub table_shallow : (t : TableOf) → Every (PredParts t.sites t.params) t.preds → Shallow 0 (lexemes t [])
-table_shallow t h = each_shallow site 0 t.sites site_shallow (each param t.params (each (pred t) t.preds [])) (each_shallow param 0 t.params param_shallow (each (pred t) t.preds []) (preds_shallow t t.preds h))
+table_shallow t h = each_shallow site 0 t.sites site_shallow (each param t.params (each (pred t) t.preds []))
+    (each_shallow param 0 t.params param_shallow (each (pred t) t.preds []) (preds_shallow t t.preds h))

@@ -1,5 +1,6 @@
 -- The table of a file without a fault is whole.
-use Rattle.std.proofs.Common.{◌≡◌, ℕ, zero, suc, ◌+◌, ◌*◌, ◌<◌, ◌≤◌, ◌^◌, ◌==◌, ◌&&◌, not, Bool, true, false, nat_lt, List, [], ◌∷◌, ◌++◌, length, map, take, Option, Some, None, refl, ap, sym, ◌∙◌, subst, arith, append_assoc, append-nil}
+use Rattle.std.proofs.Common.{◌≡◌, ℕ, zero, suc, ◌+◌, ◌*◌, ◌<◌, ◌≤◌, ◌^◌, ◌==◌, ◌&&◌, not, Bool, true, false, nat_lt, List, [], ◌∷◌, ◌++◌}
+use Rattle.std.proofs.Common.{length, map, take, Option, Some, None, refl, ap, sym, ◌∙◌, subst, arith, append_assoc, append-nil}
 use Rattle.std.specs.Prelude.{ℤ, pos, neg_ℤ, int_lt, nat_le, slice_get, bytes_eq, count_by}
 use Rattle.std.specs.List.{list_any, list_all}
 use Rattle.std.specs.Ordering.{int_eq}
@@ -12,7 +13,8 @@ use Rattle.std.proofs.lemmas.List.Folds.{list_any-append}
 use Rattle.std.proofs.lemmas.Slice.Eq.{bytes_eq-Decides}
 use Rattle.ln_base.specs.declared.span.Span.{Span}
 use Rattle.ln_lex.specs.declared.token.Token.{Token}
-use Rattle.ln_lex.specs.declared.token.Kind.TheVariants.{Name, Number, Site, Param, Predicate, Let, Sign, BraceL, BraceR, ParL, ParR, Colon, Semi, Comma, Dots, Minus, Equals}
+use Rattle.ln_lex.specs.declared.token.Kind.TheVariants.{Name, Number, Site, Param, Predicate, Let, Sign, BraceL, BraceR, ParL, ParR, Colon}
+use Rattle.ln_lex.specs.declared.token.Kind.TheVariants.{Semi, Comma, Dots, Minus, Equals}
 use Rattle.ln_syntax.specs.declared.raw.RawCoord.{RawCoord}
 use Rattle.ln_syntax.specs.declared.raw.RawRange.{RawRange}
 use Rattle.ln_syntax.specs.declared.raw.RawEnd.{RawEnd}
@@ -31,8 +33,11 @@ use Rattle.ln_tree.specs.declared.shape.VarInfo.{VarInfo}
 use Rattle.ln_tree.specs.Variables.{same_site}
 use Rattle.ln_tree.specs.Formula.{Formula}
 use Rattle.ln_tree.specs.Table.{CoordOf, SiteOf, ArgOf, SiteArg, ParamArg, PredOf, TableOf}
-use Rattle.ln_tree.specs.Whole.{is_new, differ, is_range, site_whole, is_one_of, is_param_said, arg_name, range_name, same_var, same_vars, nesting, tokens_of, total, end_tokens, range_tokens, site_tokens, param_tokens, pred_tokens, text_tokens, item_names, pred_whole, vars_behind, is_whole}
-use Rattle.ln_parse.specs.Says.{place, ranged, resolved, Says, LetsSay, PredSays, PredsSay, ItemsSay, arg_said, param_names, sites_said, params_said, is_site_said}
+use Rattle.ln_tree.specs.Whole.{is_new, differ, is_range, site_whole, is_one_of, is_param_said, arg_name, range_name, same_var, same_vars}
+use Rattle.ln_tree.specs.Whole.{nesting, tokens_of, total, end_tokens, range_tokens, site_tokens, param_tokens, pred_tokens, text_tokens}
+use Rattle.ln_tree.specs.Whole.{item_names, pred_whole, vars_behind, is_whole}
+use Rattle.ln_parse.specs.Says.{place, ranged, resolved, Says, LetsSay, PredSays, PredsSay, ItemsSay, arg_said, param_names, sites_said}
+use Rattle.ln_parse.specs.Says.{params_said, is_site_said}
 use Rattle.ln_parse.specs.Ready.{ReadyValue, ReadyLet, ReadyPred, ReadyItem, ReadySite, ReadyFile, Declares, is_known}
 use Rattle.ln_parse.proofs.Expressions.Fitting.{said, all_known}
 use Rattle.ln_parse.proofs.Expressions.Found.{found_at, param_found, get_longer}
@@ -62,7 +67,8 @@ none_of t [] h = tt
 none_of t (v ∷ vs) h = let q = neither (bytes_eq v t) (list_any (λ w. bytes_eq w t) vs) h in (flip v t q.0, none_of t vs q.1)
 
 -- names that differ go on differing with a further one among them
-insert : (us vs : List (List ℕ)) (t : List ℕ) → Differ (us ++ vs) → list_any (λ u. bytes_eq u t) us ≡ false → list_any (λ v. bytes_eq v t) vs ≡ false → Differ (us ++ (t ∷ vs))
+insert : (us vs : List (List ℕ)) (t : List ℕ) → Differ (us ++ vs) → list_any (λ u. bytes_eq u t) us ≡ false
+    → list_any (λ v. bytes_eq v t) vs ≡ false → Differ (us ++ (t ∷ vs))
 insert [] vs t d a b = (none_of t vs b, d)
 insert (u ∷ us) vs t d a b = let q = neither (bytes_eq u t) (list_any (λ w. bytes_eq w t) us) a in (none_insert u t us vs d.0 q.0, insert us vs t d.1 q.1 b)
 
@@ -70,7 +76,8 @@ push : (us : List (List ℕ)) (t : List ℕ) → Differ us → list_any (λ u. b
 push us t d a = insert us [] t (subst (λ (w : List (List ℕ)). Differ w) (sym (append-nil us)) d) a refl
 
 -- names each of which is none of those before it differ
-each_differ : {A : Type 0} (name : A → List ℕ) (before xs : List A) → Differ (map name before) → Each (λ b x. list_any (λ d. bytes_eq (name d) (name x)) b ≡ false) before xs → Differ (map name (before ++ xs))
+each_differ : {A : Type 0} (name : A → List ℕ) (before xs : List A) → Differ (map name before)
+    → Each (λ b x. list_any (λ d. bytes_eq (name d) (name x)) b ≡ false) before xs → Differ (map name (before ++ xs))
 each_differ name before [] d e = subst (λ w. Differ (map name w)) (sym (append-nil before)) d
 each_differ name before (x ∷ xs) d e =
     let n = push (map name before) (name x) d (sym (any_map name (name x) before) ∙ e.0) in
@@ -78,19 +85,23 @@ each_differ name before (x ∷ xs) d e =
     subst (λ w. Differ (map name w)) (append_assoc before (x ∷ []) xs) r
 
 -- those of lets differ from given ones too
-lets_differ : (bytes : List ℕ) (ts : List Token) (is : List Item) (raws : List RawArg) (before ls : List RawLet) → Differ (map (λ (a : RawArg). text bytes a.name) raws ++ map (λ (l : RawLet). text bytes l.name) before) → Each (LetWithin bytes ts is raws) before ls
+lets_differ : (bytes : List ℕ) (ts : List Token) (is : List Item) (raws : List RawArg) (before ls : List RawLet)
+    → Differ (map (λ (a : RawArg). text bytes a.name) raws ++ map (λ (l : RawLet). text bytes l.name) before) → Each (LetWithin bytes ts is raws) before ls
     → Differ (map (λ (a : RawArg). text bytes a.name) raws ++ map (λ (l : RawLet). text bytes l.name) (before ++ ls))
-lets_differ bytes ts is raws before [] d e = subst (λ w. Differ (map (λ (a : RawArg). text bytes a.name) raws ++ map (λ (l : RawLet). text bytes l.name) w)) (sym (append-nil before)) d
+lets_differ bytes ts is raws before [] d e =
+    subst (λ w. Differ (map (λ (a : RawArg). text bytes a.name) raws ++ map (λ (l : RawLet). text bytes l.name) w)) (sym (append-nil before)) d
 lets_differ bytes ts is raws before (x ∷ ls) d e =
     let us = map (λ (a : RawArg). text bytes a.name) raws in
     let vs = map (λ (l : RawLet). text bytes l.name) before in
     let t = text bytes x.name in
-    let q = neither (list_any (λ (a : RawArg). bytes_eq (text bytes a.name) t) raws) (list_any (λ (m : RawLet). bytes_eq (text bytes m.name) t) before) e.0.new in
+    let q =
+    neither (list_any (λ (a : RawArg). bytes_eq (text bytes a.name) t) raws) (list_any (λ (m : RawLet). bytes_eq (text bytes m.name) t) before) e.0.new in
     let a1 : list_any (λ u. bytes_eq u t) us ≡ false = sym (any_map (λ (a : RawArg). text bytes a.name) t raws) ∙ q.0 in
     let a2 : list_any (λ u. bytes_eq u t) vs ≡ false = sym (any_map (λ (l : RawLet). text bytes l.name) t before) ∙ q.1 in
     let a3 : list_any (λ u. bytes_eq u t) (us ++ vs) ≡ false = list_any-append (λ u. bytes_eq u t) us vs ∙ rw (a1, a2) refl in
     let n : Differ ((us ++ vs) ++ (t ∷ [])) = push (us ++ vs) t d a3 in
-    let m : (us ++ vs) ++ (t ∷ []) ≡ us ++ map (λ (l : RawLet). text bytes l.name) (before ++ (x ∷ [])) = append_assoc us vs (t ∷ []) ∙ ap (λ w. us ++ w) (sym (map-append (λ (l : RawLet). text bytes l.name) before (x ∷ []))) in
+    let m : (us ++ vs) ++ (t ∷ []) ≡ us ++ map (λ (l : RawLet). text bytes l.name) (before ++ (x ∷ [])) =
+    append_assoc us vs (t ∷ []) ∙ ap (λ w. us ++ w) (sym (map-append (λ (l : RawLet). text bytes l.name) before (x ∷ []))) in
     let r = lets_differ bytes ts is raws (before ++ (x ∷ [])) ls (subst (λ (w : List (List ℕ)). Differ w) m n) e.1 in
     subst (λ w. Differ (us ++ map (λ (l : RawLet). text bytes l.name) w)) (append_assoc before (x ∷ []) ls) r
 
@@ -105,22 +116,27 @@ range_high true n h = grind (arith, nat_tests, ints)
 
 range_whole : (bytes : List ℕ) (name : Span) (r : RawRange) → RangeWithin bytes r → is_range (ranged bytes name r) ≡ true
 range_whole bytes name r w =
-    and_from _ _ (and_from _ _ (ap not (in_order (end_value bytes r.low) (end_value bytes r.high) w.order)) (range_low r.low.negative (number bytes r.low.at) w.low)) (range_high r.high.negative (number bytes r.high.at) w.high)
+    and_from _ _ (and_from _ _ (ap not (in_order (end_value bytes r.low) (end_value bytes r.high) w.order))
+    (range_low r.low.negative (number bytes r.low.at) w.low)) (range_high r.high.negative (number bytes r.high.at) w.high)
 
-coords_whole : (bytes : List ℕ) (before cs : List RawCoord) → Each (CoordWithin bytes) before cs → list_all is_range (map (λ (c : RawCoord). ranged bytes c.name c.range) cs) ≡ true
+coords_whole : (bytes : List ℕ) (before cs : List RawCoord) → Each (CoordWithin bytes) before cs
+    → list_all is_range (map (λ (c : RawCoord). ranged bytes c.name c.range) cs) ≡ true
 coords_whole bytes before [] e = refl
 coords_whole bytes before (c ∷ cs) e = and_from _ _ (range_whole bytes c.name c.range e.0.range) (coords_whole bytes (before ++ (c ∷ [])) cs e.1)
 
-coords_new : (bytes : List ℕ) (before cs : List RawCoord) → Each (CoordWithin bytes) before cs → Each (λ b (x : RawCoord). list_any (λ (d : RawCoord). bytes_eq (text bytes d.name) (text bytes x.name)) b ≡ false) before cs
+coords_new : (bytes : List ℕ) (before cs : List RawCoord) → Each (CoordWithin bytes) before cs
+    → Each (λ b (x : RawCoord). list_any (λ (d : RawCoord). bytes_eq (text bytes d.name) (text bytes x.name)) b ≡ false) before cs
 coords_new bytes before [] e = tt
 coords_new bytes before (c ∷ cs) e = (e.0.new, coords_new bytes (before ++ (c ∷ [])) cs e.1)
 
-args_new : (bytes : List ℕ) (is : List Item) (before cs : List RawArg) → Each (ArgWithin bytes is) before cs → Each (λ b (x : RawArg). list_any (λ (d : RawArg). bytes_eq (text bytes d.name) (text bytes x.name)) b ≡ false) before cs
+args_new : (bytes : List ℕ) (is : List Item) (before cs : List RawArg) → Each (ArgWithin bytes is) before cs
+    → Each (λ b (x : RawArg). list_any (λ (d : RawArg). bytes_eq (text bytes d.name) (text bytes x.name)) b ≡ false) before cs
 args_new bytes is before [] e = tt
 args_new bytes is before (c ∷ cs) e = (e.0.new, args_new bytes is (before ++ (c ∷ [])) cs e.1)
 
 -- a site type
-site_from : (bytes : List ℕ) (n : Span) (cs : List RawCoord) → ReadySite bytes n cs → Each (CoordWithin bytes) [] cs → site_whole (record { name = text bytes n; coords = map (λ (c : RawCoord). ranged bytes c.name c.range) cs }) ≡ true
+site_from : (bytes : List ℕ) (n : Span) (cs : List RawCoord) → ReadySite bytes n cs → Each (CoordWithin bytes) [] cs
+    → site_whole (record { name = text bytes n; coords = map (λ (c : RawCoord). ranged bytes c.name c.range) cs }) ≡ true
 site_from bytes n cs r e =
     let xs = map (λ (c : RawCoord). ranged bytes c.name c.range) cs in
     let l = length-map cs (λ (c : RawCoord). ranged bytes c.name c.range) in
@@ -140,7 +156,8 @@ int_self z = (signed_Decides z z).1 refl
 vars_self : (vs : List VarInfo) → same_vars vs vs ≡ true
 vars_self [] = refl
 vars_self (v ∷ vs) =
-    and_from (same_var v v) (same_vars vs vs) (and_from _ _ (and_from _ _ (and_from _ _ (and_from _ _ (eq-eqb v.arg v.arg refl) (same_site_self v.site)) (eq-eqb v.coord v.coord refl)) (int_self v.lo)) (int_self v.hi)) (vars_self vs)
+    and_from (same_var v v) (same_vars vs vs) (and_from _ _ (and_from _ _ (and_from _ _
+    (and_from _ _ (eq-eqb v.arg v.arg refl) (same_site_self v.site)) (eq-eqb v.coord v.coord refl)) (int_self v.lo)) (int_self v.hi)) (vars_self vs)
 
 -- an argument's name is that of its tokens
 params_named : (bytes : List ℕ) (is : List Item) → map (λ (c : CoordOf). c.name) (params_said bytes is) ≡ map (text bytes) (param_names is)
@@ -154,25 +171,32 @@ get_back f [] k y h = absurd (cc)
 get_back f (x ∷ xs) zero y h = (x, refl, cc)
 get_back f (x ∷ xs) (suc k) y h = get_back f xs k y h
 
-param_named : (bytes : List ℕ) (is : List Item) (S : List SiteOf) (P : List CoordOf) (name : Span) → Declares bytes is S P → list_any (λ i. is_param i && same bytes (item_name i) name) is ≡ true
+param_named : (bytes : List ℕ) (is : List Item) (S : List SiteOf) (P : List CoordOf) (name : Span) → Declares bytes is S P
+    → list_any (λ i. is_param i && same bytes (item_name i) name) is ≡ true
     → range_name (slice_get P (place (λ n. same bytes n name) (param_names is))) ≡ text bytes name
 param_named bytes is S P name d h =
     let q = λ (n : Span). same bytes n name in
     let k = place q (param_names is) in
     let f = found_at q (param_names is) (param_found bytes q is h).named in
     let g : text bytes f.element ≡ text bytes name = (bytes_eq-Decides (text bytes f.element) (text bytes name)).0 f.passes in
-    let a : slice_get (map (λ (c : CoordOf). c.name) (params_said bytes is)) k ≡ Some (text bytes f.element) = ap (λ (w : List (List ℕ)). slice_get w k) (params_named bytes is) ∙ get_map (text bytes) (param_names is) k f.element f.there in
+    let a : slice_get (map (λ (c : CoordOf). c.name) (params_said bytes is)) k ≡ Some (text bytes f.element) =
+    ap (λ (w : List (List ℕ)). slice_get w k) (params_named bytes is) ∙ get_map (text bytes) (param_names is) k f.element f.there in
     let b = get_back (λ (c : CoordOf). c.name) (params_said bytes is) k (text bytes f.element) a in
     let c : slice_get P k ≡ Some b.0 = ap (λ (w : List CoordOf). slice_get w k) d.params_are ∙ get_longer (params_said bytes is) d.more_params k b.0 b.1 in
     ap range_name c ∙ b.2 ∙ g
 
-arg_named : (bytes : List ℕ) (is : List Item) (S : List SiteOf) (P : List CoordOf) (r : RawArg) (b : Bool) → r.is_param ≡ b → Declares bytes is S P → IsKnown bytes is r b → arg_name P (arg_said bytes is r b) ≡ text bytes r.name
+arg_named : (bytes : List ℕ) (is : List Item) (S : List SiteOf) (P : List CoordOf) (r : RawArg) (b : Bool) → r.is_param ≡ b
+    → Declares bytes is S P → IsKnown bytes is r b → arg_name P (arg_said bytes is r b) ≡ text bytes r.name
 arg_named bytes is S P r true e d k = param_named bytes is S P r.name d k
 arg_named bytes is S P r false e d k = refl
 
-args_named : (bytes : List ℕ) (is : List Item) (S : List SiteOf) (P : List CoordOf) (before raws : List RawArg) → Declares bytes is S P → Each (ArgWithin bytes is) before raws → map (arg_name P) (said bytes is raws) ≡ map (λ (a : RawArg). text bytes a.name) raws
+args_named : (bytes : List ℕ) (is : List Item) (S : List SiteOf) (P : List CoordOf) (before raws : List RawArg) → Declares bytes is S P
+    → Each (ArgWithin bytes is) before raws → map (arg_name P) (said bytes is raws) ≡ map (λ (a : RawArg). text bytes a.name) raws
 args_named bytes is S P before [] d e = refl
-args_named bytes is S P before (r ∷ raws) d e = let a = arg_named bytes is S P r r.is_param refl d e.0.known in let b = args_named bytes is S P (before ++ (r ∷ [])) raws d e.1 in rw (a, b) refl
+args_named bytes is S P before (r ∷ raws) d e =
+    let a = arg_named bytes is S P r r.is_param refl d e.0.known in
+    let b = args_named bytes is S P (before ++ (r ∷ [])) raws d e.1 in
+    rw (a, b) refl
 
 param_by : (bytes : List ℕ) (is : List Item) (a : RawArg) (b : Bool) → is_param_said (arg_said bytes is a b) ≡ b
 param_by bytes is a true = refl
@@ -196,14 +220,19 @@ record ValueWhole (ts : List Token) (p : Places) (args : List ArgOf) (x : Formul
   deep : nesting 0 x ≤ 64
   tokens : p.from + tokens_of args 0 x ≤ p.to
 
-value_whole : (bytes : List ℕ) (ts : List Token) (is : List Item) (raws : List RawArg) (ls : List RawLet) (p : Places) (x : Formula) → IsShallow ts → Says bytes ts (scope is raws ls) p x → ReadyValue bytes ts (scope is raws ls) p → depth_after 0 (take p.from ts) ≡ 0
+value_whole : (bytes : List ℕ) (ts : List Token) (is : List Item) (raws : List RawArg) (ls : List RawLet) (p : Places) (x : Formula)
+    → IsShallow ts → Says bytes ts (scope is raws ls) p x → ReadyValue bytes ts (scope is raws ls) p → depth_after 0 (take p.from ts) ≡ 0
     → ValueWhole ts p (said bytes is raws) x
 value_whole bytes ts is raws ls p x h s v e =
     let t = (one_tree s.derives s.ends v.derives v.ends).tree in
     let q : resolved bytes (scope is raws ls) v.tree ≡ x = ap (resolved bytes (scope is raws ls)) (sym t) ∙ s.means in
     let a = expression_nests bytes (scope is raws ls) h s.derives e in
     let b = expression_tokens bytes is raws ls v.derives v.fit in
-    record { back = a.0; deep = subst (λ (w : Formula). nesting 0 w ≤ 64) s.means a.1; tokens = subst (λ (w : Formula). p.from + tokens_of (said bytes is raws) 0 w ≤ p.to) q b }
+    record {
+      back = a.0;
+      deep = subst (λ (w : Formula). nesting 0 w ≤ 64) s.means a.1;
+      tokens = subst (λ (w : Formula). p.from + tokens_of (said bytes is raws) 0 w ≤ p.to) q b;
+    }
 
 -- the same of lets
 record LetsWhole (ts : List Token) (i k : ℕ) (args : List ArgOf) (xs : List Formula) : Type 0 where
@@ -211,23 +240,29 @@ record LetsWhole (ts : List Token) (i k : ℕ) (args : List ArgOf) (xs : List Fo
   deep : list_all (λ e. nat_le (nesting 0 e) 64) xs ≡ true
   tokens : i + total (λ e. 4 + tokens_of args 0 e) xs ≤ k
 
-lets_whole : (bytes : List ℕ) (ts : List Token) (is : List Item) (raws : List RawArg) → IsShallow ts → {i k : ℕ} {ls : List RawLet} → file.Lets ts i k ls → (before : List RawLet) (xs : List Formula) → LetsSay bytes ts is raws before ls xs → Each (ReadyLet bytes ts is raws) before ls
+lets_whole : (bytes : List ℕ) (ts : List Token) (is : List Item) (raws : List RawArg) → IsShallow ts → {i k : ℕ} {ls : List RawLet} → file.Lets ts i k ls
+    → (before : List RawLet) (xs : List Formula) → LetsSay bytes ts is raws before ls xs → Each (ReadyLet bytes ts is raws) before ls
     → depth_after 0 (take i ts) ≡ 0 → LetsWhole ts i k (said bytes is raws) xs
 lets_whole bytes ts is raws h file.no_let before [] s r e = record { back = e; deep = refl; tokens = omega arith }
 lets_whole bytes ts is raws h file.no_let before (x ∷ xs) s r e = absurd s
 lets_whole bytes ts is raws h (file.a_let l n q d m g) before [] s r e = absurd s
 lets_whole bytes ts is raws h (file.a_let {i = i} {j = j} l n q d m g) before (x ∷ xs) s r e =
-    let v = value_whole bytes ts is raws before (record { from = suc (suc (suc i)); to = j }) x h s.0 r.0.value (depth_step ts (suc (suc i)) Equals 0 q (depth_step ts (suc i) Name 0 n (depth_step ts i Let 0 l e))) in
+    let v = value_whole bytes ts is raws before (record { from = suc (suc (suc i)); to = j }) x h s.0 r.0.value
+    (depth_step ts (suc (suc i)) Equals 0 q (depth_step ts (suc i) Name 0 n (depth_step ts i Let 0 l e))) in
     let y = lets_whole bytes ts is raws h g _ xs s.1 r.1 (depth_step ts j Semi 0 m v.back) in
     let a = v.tokens in let b = y.tokens in let c = v.deep in
     record { back = y.back; deep = and_from _ _ (le-leb (nesting 0 x) 64 c) y.deep; tokens = omega arith }
 
 -- arguments leave the depth as it is
 args_depth : {ts : List Token} {i k : ℕ} {raws : List RawArg} (d : ℕ) → file.Args ts i k raws → depth_after 0 (take i ts) ≡ d → depth_after 0 (take k ts) ≡ d
-args_depth {ts = ts} d (file.last_arg {i = i} (file.site_arg n c k)) e = depth_step ts (suc (suc i)) Name d k (depth_step ts (suc i) Colon d c (depth_step ts i Name d n e))
-args_depth {ts = ts} d (file.last_arg {i = i} (file.param_arg n c k)) e = depth_step ts (suc (suc i)) Param d k (depth_step ts (suc i) Colon d c (depth_step ts i Name d n e))
-args_depth {ts = ts} d (file.more_args {i = i} (file.site_arg n c k) m r) e = args_depth d r (depth_step ts (suc (suc (suc i))) Comma d m (depth_step ts (suc (suc i)) Name d k (depth_step ts (suc i) Colon d c (depth_step ts i Name d n e))))
-args_depth {ts = ts} d (file.more_args {i = i} (file.param_arg n c k) m r) e = args_depth d r (depth_step ts (suc (suc (suc i))) Comma d m (depth_step ts (suc (suc i)) Param d k (depth_step ts (suc i) Colon d c (depth_step ts i Name d n e))))
+args_depth {ts = ts} d (file.last_arg {i = i} (file.site_arg n c k)) e =
+    depth_step ts (suc (suc i)) Name d k (depth_step ts (suc i) Colon d c (depth_step ts i Name d n e))
+args_depth {ts = ts} d (file.last_arg {i = i} (file.param_arg n c k)) e =
+    depth_step ts (suc (suc i)) Param d k (depth_step ts (suc i) Colon d c (depth_step ts i Name d n e))
+args_depth {ts = ts} d (file.more_args {i = i} (file.site_arg n c k) m r) e = args_depth d r
+    (depth_step ts (suc (suc (suc i))) Comma d m (depth_step ts (suc (suc i)) Name d k (depth_step ts (suc i) Colon d c (depth_step ts i Name d n e))))
+args_depth {ts = ts} d (file.more_args {i = i} (file.param_arg n c k) m r) e = args_depth d r
+    (depth_step ts (suc (suc (suc i))) Comma d m (depth_step ts (suc (suc i)) Param d k (depth_step ts (suc i) Colon d c (depth_step ts i Name d n e))))
 
 args_some : {ts : List Token} {i k : ℕ} {raws : List RawArg} → file.Args ts i k raws → (0 < length raws) × (i + 4 * length raws ≤ suc k)
 args_some (file.last_arg a) = (omega arith, omega arith)
@@ -242,7 +277,8 @@ range_depth {ts = ts} d (file.range {j = j} a m b) e = end_depth d b (depth_step
 
 coords_depth : {ts : List Token} {i k : ℕ} {cs : List RawCoord} (d : ℕ) → file.Coords ts i k cs → depth_after 0 (take i ts) ≡ d → depth_after 0 (take k ts) ≡ d
 coords_depth d file.no_coord e = e
-coords_depth {ts = ts} d (file.coord {i = i} {j = j} n c r s m) e = coords_depth d m (depth_step ts j Semi d s (range_depth d r (depth_step ts (suc i) Colon d c (depth_step ts i Name d n e))))
+coords_depth {ts = ts} d (file.coord {i = i} {j = j} n c r s m) e =
+    coords_depth d m (depth_step ts j Semi d s (range_depth d r (depth_step ts (suc i) Colon d c (depth_step ts i Name d n e))))
 
 plain_end : (n : ℕ) → int_lt (pos n) (pos 0) ≡ false
 plain_end n = grind (arith, ints)
@@ -252,13 +288,20 @@ end_by z true h = rw h (omega arith)
 end_by z false h = rw h (omega arith)
 
 end_count : (bytes : List ℕ) {ts : List Token} {i j : ℕ} {v : RawEnd} → file.End ts i j v → i + end_tokens (end_value bytes v) ≤ j
-end_count bytes {ts = ts} (file.plain {i = i} n) = let q : end_tokens (pos (number bytes (span_at ts i))) ≡ 1 = rw (plain_end (number bytes (span_at ts i))) refl in omega arith
-end_count bytes {ts = ts} (file.minus {i = i} m n) = let z = signed true (number bytes (span_at ts (suc i))) in let q = end_by z (int_lt z (pos 0)) refl in omega arith
+end_count bytes {ts = ts} (file.plain {i = i} n) =
+    let q : end_tokens (pos (number bytes (span_at ts i))) ≡ 1 = rw (plain_end (number bytes (span_at ts i))) refl in
+    omega arith
+end_count bytes {ts = ts} (file.minus {i = i} m n) =
+    let z = signed true (number bytes (span_at ts (suc i))) in
+    let q = end_by z (int_lt z (pos 0)) refl in
+    omega arith
 
-range_count : (bytes : List ℕ) {ts : List Token} {i j : ℕ} {r : RawRange} → file.Range ts i j r → i + (end_tokens (end_value bytes r.low) + end_tokens (end_value bytes r.high)) + 1 ≤ j
+range_count : (bytes : List ℕ) {ts : List Token} {i j : ℕ} {r : RawRange} → file.Range ts i j r
+    → i + (end_tokens (end_value bytes r.low) + end_tokens (end_value bytes r.high)) + 1 ≤ j
 range_count bytes (file.range a m b) = let x = end_count bytes a in let y = end_count bytes b in omega arith
 
-coords_count : (bytes : List ℕ) {ts : List Token} {i k : ℕ} {cs : List RawCoord} → file.Coords ts i k cs → i + total range_tokens (map (λ (c : RawCoord). ranged bytes c.name c.range) cs) ≤ k
+coords_count : (bytes : List ℕ) {ts : List Token} {i k : ℕ} {cs : List RawCoord} → file.Coords ts i k cs
+    → i + total range_tokens (map (λ (c : RawCoord). ranged bytes c.name c.range) cs) ≤ k
 coords_count bytes file.no_coord = omega arith
 coords_count bytes {ts = ts} (file.coord {i = i} n c r s m) = let x = range_count bytes r in let y = coords_count bytes m in omega arith
 
@@ -270,11 +313,15 @@ record PredWhole (S : List SiteOf) (P : List CoordOf) (ts : List Token) (i k : �
 
 abbrev pred_tests : List SiteOf → List CoordOf → List ℕ → List ℕ → List ArgOf → ℕ → List VarInfo → List (List ℕ) → List Formula → Formula → Bool
 pred_tests S P shape name args sites vars names lets root =
-    bytes_eq shape name && nat_lt 0 (length args) && list_all (is_one_of (length S) (length P)) args && nat_le (count_by is_site_said args) 5 && nat_le (count_by is_param_said args) 8
-    && (sites == count_by is_site_said args) && same_vars vars (vars_behind S P 0 0 args) && differ (map (arg_name P) args ++ names) && list_all (λ e. nat_le (nesting 0 e) 64) lets && nat_le (nesting 0 root) 64
+    bytes_eq shape name && nat_lt 0 (length args) && list_all (is_one_of (length S) (length P)) args
+    && nat_le (count_by is_site_said args) 5 && nat_le (count_by is_param_said args) 8
+    && (sites == count_by is_site_said args) && same_vars vars (vars_behind S P 0 0 args) && differ (map (arg_name P) args ++ names)
+    && list_all (λ e. nat_le (nesting 0 e) 64) lets && nat_le (nesting 0 root) 64
 
-pred_from : (bytes : List ℕ) (ts : List Token) (is : List Item) (t : TableOf) → IsShallow ts → Declares bytes is t.sites t.params → (p : PredOf) {i j : ℕ} {name : Span} {raws : List RawArg} {ls : List RawLet} {root : Places} → file.IsItem ts i j (PredItem name raws ls root)
-    → PredSays bytes ts is t name raws ls root p → ReadyPred bytes ts is name raws ls root → Each (ArgWithin bytes is) [] raws → Each (LetWithin bytes ts is raws) [] ls → depth_after 0 (take i ts) ≡ 0 → PredWhole t.sites t.params ts i j p
+pred_from : (bytes : List ℕ) (ts : List Token) (is : List Item) (t : TableOf) → IsShallow ts → Declares bytes is t.sites t.params
+    → (p : PredOf) {i j : ℕ} {name : Span} {raws : List RawArg} {ls : List RawLet} {root : Places} → file.IsItem ts i j (PredItem name raws ls root)
+    → PredSays bytes ts is t name raws ls root p → ReadyPred bytes ts is name raws ls root → Each (ArgWithin bytes is) [] raws
+    → Each (LetWithin bytes ts is raws) [] ls → depth_after 0 (take i ts) ≡ 0 → PredWhole t.sites t.params ts i j p
 pred_from bytes ts is t h d p (file.predicate {i = i} {j = j} {k = k} {l = l} {args = raws} {ls = ls} a1 a2 a3 a4 a5 a6 a7 a8 a9 b1 b2) s r aw lw e =
     let S = t.sites in
     let P = t.params in
@@ -293,18 +340,24 @@ pred_from bytes ts is t h d p (file.predicate {i = i} {j = j} {k = k} {l = l} {a
     let f1 = r.site_args in let f2 = r.param_args in
     let f3 = sites_are bytes is raws in let f4 = params_are bytes is raws in
     let names : map (arg_name P) xs ≡ map (λ (a : RawArg). text bytes a.name) raws = args_named bytes is S P [] raws d aw in
-    let df1 : Differ (map (λ (a : RawArg). text bytes a.name) raws) = each_differ (λ (a : RawArg). text bytes a.name) [] raws tt (args_new bytes is [] raws aw) in
-    let df2 = lets_differ bytes ts is raws [] ls (subst (λ (w : List (List ℕ)). Differ w) (sym (append-nil (map (λ (a : RawArg). text bytes a.name) raws))) df1) lw in
+    let df1 : Differ (map (λ (a : RawArg). text bytes a.name) raws) =
+    each_differ (λ (a : RawArg). text bytes a.name) [] raws tt (args_new bytes is [] raws aw) in
+    let df2 =
+    lets_differ bytes ts is raws [] ls (subst (λ (w : List (List ℕ)). Differ w) (sym (append-nil (map (λ (a : RawArg). text bytes a.name) raws))) df1) lw in
     let df3 : Differ (map (arg_name P) xs ++ p.let_names) = rw (names, s.names_are) df2 in
     let t0 = y.tokens in let t1 = v.tokens in let t2 = v.deep in
     let tests : pred_tests S P p.shape_name p.name p.args p.sites p.vars p.let_names p.lets p.root ≡ true =
     subst (λ (w : List ArgOf). pred_tests S P p.shape_name p.name w p.sites p.vars p.let_names p.lets p.root ≡ true) (sym q)
-    (and_from _ _ (and_from _ _ (and_from _ _ (and_from _ _ (and_from _ _ (and_from _ _ (and_from _ _ (and_from _ _ (and_from _ _ (name_same p.shape_name p.name (s.shape_is ∙ sym s.name_is)) (lt-ltb 0 (length xs) (omega arith)))
-    (known_of (length S) (length P) xs (all_known bytes is raws S P g))) (le-leb (count_by is_site_said xs) 5 (omega arith))) (le-leb (count_by is_param_said xs) 8 (omega arith)))
-    (eq-eqb p.sites (count_by is_site_said xs) (s.sites_are ∙ ap (count_by is_site_said) q))) (vars_same p.vars (vars_behind S P 0 0 xs) (s.vars_are ∙ ap (vars_behind S P 0 0) q)))
+    (and_from _ _ (and_from _ _ (and_from _ _ (and_from _ _ (and_from _ _ (and_from _ _
+    (and_from _ _ (and_from _ _ (and_from _ _ (name_same p.shape_name p.name (s.shape_is ∙ sym s.name_is)) (lt-ltb 0 (length xs) (omega arith)))
+    (known_of (length S) (length P) xs (all_known bytes is raws S P g))) (le-leb (count_by is_site_said xs) 5 (omega arith)))
+    (le-leb (count_by is_param_said xs) 8 (omega arith)))
+    (eq-eqb p.sites (count_by is_site_said xs) (s.sites_are ∙ ap (count_by is_site_said) q)))
+    (vars_same p.vars (vars_behind S P 0 0 xs) (s.vars_are ∙ ap (vars_behind S P 0 0) q)))
     (differ_test (map (arg_name P) xs ++ p.let_names) df3)) y.deep) (le-leb (nesting 0 p.root) 64 t2)) in
     let len : length p.args ≡ length xs = ap (λ (w : List ArgOf). length w) q in
-    let k1 : total (λ z. 4 + tokens_of p.args 0 z) p.lets ≡ total (λ z. 4 + tokens_of xs 0 z) p.lets = ap (λ (w : List ArgOf). total (λ z. 4 + tokens_of w 0 z) p.lets) q in
+    let k1 : total (λ z. 4 + tokens_of p.args 0 z) p.lets ≡ total (λ z. 4 + tokens_of xs 0 z) p.lets =
+    ap (λ (w : List ArgOf). total (λ z. 4 + tokens_of w 0 z) p.lets) q in
     let k2 : tokens_of p.args 0 p.root ≡ tokens_of xs 0 p.root = ap (λ (w : List ArgOf). tokens_of w 0 p.root) q in
     record { whole = tests; back = e4; tokens = omega arith }
   where
@@ -321,19 +374,23 @@ record ItemsWhole (bytes : List ℕ) (t : TableOf) (i k : ℕ) (is : List Item) 
   preds : list_all (pred_whole t.sites t.params) ps ≡ true
   tokens : i + (total site_tokens (sites_said bytes is) + (total param_tokens (params_said bytes is) + total pred_tokens ps)) ≤ k
 
-items_whole : (bytes : List ℕ) (ts : List Token) (t : TableOf) (all : List Item) → IsShallow ts → t.sites ≡ sites_said bytes all → t.params ≡ params_said bytes all → Each (ReadyItem bytes ts) [] all → (before : List Item) {i k : ℕ} {is : List Item} → file.Items ts i k is
-    → before ++ is ≡ all → (ps : List PredOf) → PredsSay bytes ts before t is ps → Each (ReadyItem bytes ts) before is → Each (ItemWithin bytes ts) before is → depth_after 0 (take i ts) ≡ 0 → ItemsWhole bytes t i k is ps
+items_whole : (bytes : List ℕ) (ts : List Token) (t : TableOf) (all : List Item) → IsShallow ts → t.sites ≡ sites_said bytes all
+    → t.params ≡ params_said bytes all → Each (ReadyItem bytes ts) [] all → (before : List Item) {i k : ℕ} {is : List Item} → file.Items ts i k is
+    → before ++ is ≡ all → (ps : List PredOf) → PredsSay bytes ts before t is ps → Each (ReadyItem bytes ts) before is
+    → Each (ItemWithin bytes ts) before is → depth_after 0 (take i ts) ≡ 0 → ItemsWhole bytes t i k is ps
 items_whole bytes ts t all h es ep ra before file.no_item q [] s r w e = record { sites = refl; params = refl; preds = refl; tokens = omega arith }
 items_whole bytes ts t all h es ep ra before file.no_item q (p ∷ ps) s r w e = absurd s
 items_whole bytes ts t all h es ep ra before (file.an_item {x = x} {xs = xs} (file.site {i = i} {j = j} {c = rc} {cs = rcs} a1 a2 a3 a4 a5) y) q ps s r w e =
-    let e1 = depth_step ts j BraceR 0 a5 (coords_depth 0 a4 (depth_step ts (suc (suc i)) BraceL 0 a3 (depth_step ts (suc i) Name 0 a2 (depth_step ts i Site 0 a1 e)))) in
+    let e1 =
+    depth_step ts j BraceR 0 a5 (coords_depth 0 a4 (depth_step ts (suc (suc i)) BraceL 0 a3 (depth_step ts (suc i) Name 0 a2 (depth_step ts i Site 0 a1 e)))) in
     let m = items_whole bytes ts t all h es ep ra (before ++ (x ∷ [])) y (append_assoc before (x ∷ []) xs ∙ q) ps s r.1 w.1 e1 in
     let c = coords_count bytes a4 in
     let g = m.tokens in
     let f = site_from bytes (span_at ts (suc i)) (rc ∷ rcs) r.0 w.0.parts.1 in
     record { sites = and_from _ _ f m.sites; params = m.params; preds = m.preds; tokens = omega arith }
 items_whole bytes ts t all h es ep ra before (file.an_item {x = x} {xs = xs} (file.param {i = i} {j = j} {r = rr} a1 a2 a3 a4 a5) y) q ps s r w e =
-    let e1 = depth_step ts j Semi 0 a5 (range_depth 0 a4 (depth_step ts (suc (suc i)) Colon 0 a3 (depth_step ts (suc i) Name 0 a2 (depth_step ts i Param 0 a1 e)))) in
+    let e1 =
+    depth_step ts j Semi 0 a5 (range_depth 0 a4 (depth_step ts (suc (suc i)) Colon 0 a3 (depth_step ts (suc i) Name 0 a2 (depth_step ts i Param 0 a1 e)))) in
     let m = items_whole bytes ts t all h es ep ra (before ++ (x ∷ [])) y (append_assoc before (x ∷ []) xs ∙ q) ps s r.1 w.1 e1 in
     let c = range_count bytes a4 in
     let g = m.tokens in
@@ -367,9 +424,18 @@ record Spread (bytes : List ℕ) (t : List ℕ) (is : List Item) : Type 0 where
 
 spread : (bytes : List ℕ) (t : List ℕ) (is : List Item) → list_any (λ i. bytes_eq (text bytes (item_name i)) t) is ≡ false → Spread bytes t is
 spread bytes t [] h = record { sites = refl; params = refl; preds = refl }
-spread bytes t (SiteItem n cs ∷ is) h = let q = neither (bytes_eq (text bytes n) t) _ h in let r = spread bytes t is q.1 in record { sites = or_false _ _ q.0 r.sites; params = r.params; preds = r.preds }
-spread bytes t (ParamItem n rr ∷ is) h = let q = neither (bytes_eq (text bytes n) t) _ h in let r = spread bytes t is q.1 in record { sites = r.sites; params = or_false _ _ q.0 r.params; preds = r.preds }
-spread bytes t (PredItem n as' ls rr ∷ is) h = let q = neither (bytes_eq (text bytes n) t) _ h in let r = spread bytes t is q.1 in record { sites = r.sites; params = r.params; preds = or_false _ _ q.0 r.preds }
+spread bytes t (SiteItem n cs ∷ is) h =
+    let q = neither (bytes_eq (text bytes n) t) _ h in
+    let r = spread bytes t is q.1 in
+    record { sites = or_false _ _ q.0 r.sites; params = r.params; preds = r.preds }
+spread bytes t (ParamItem n rr ∷ is) h =
+    let q = neither (bytes_eq (text bytes n) t) _ h in
+    let r = spread bytes t is q.1 in
+    record { sites = r.sites; params = or_false _ _ q.0 r.params; preds = r.preds }
+spread bytes t (PredItem n as' ls rr ∷ is) h =
+    let q = neither (bytes_eq (text bytes n) t) _ h in
+    let r = spread bytes t is q.1 in
+    record { sites = r.sites; params = r.params; preds = or_false _ _ q.0 r.preds }
 
 abbrev all_texts : List ℕ → List Item → List (List ℕ)
 all_texts bytes is = site_texts bytes is ++ (param_texts bytes is ++ pred_texts bytes is)
@@ -382,21 +448,32 @@ record More (bytes : List ℕ) (before : List Item) (x : Item) : Type 0 where
 
 more : (bytes : List ℕ) (before : List Item) (x : Item) → More bytes before x
 more bytes [] x = record { sites = refl; params = refl; preds = refl }
-more bytes (SiteItem m ds ∷ before) x = let r = more bytes before x in record { sites = ap (λ (w : List (List ℕ)). text bytes m ∷ w) r.sites; params = r.params; preds = r.preds }
-more bytes (ParamItem m rr ∷ before) x = let r = more bytes before x in record { sites = r.sites; params = ap (λ (w : List (List ℕ)). text bytes m ∷ w) r.params; preds = r.preds }
-more bytes (PredItem m as' ls rr ∷ before) x = let r = more bytes before x in record { sites = r.sites; params = r.params; preds = ap (λ (w : List (List ℕ)). text bytes m ∷ w) r.preds }
+more bytes (SiteItem m ds ∷ before) x =
+    let r = more bytes before x in
+    record { sites = ap (λ (w : List (List ℕ)). text bytes m ∷ w) r.sites; params = r.params; preds = r.preds }
+more bytes (ParamItem m rr ∷ before) x =
+    let r = more bytes before x in
+    record { sites = r.sites; params = ap (λ (w : List (List ℕ)). text bytes m ∷ w) r.params; preds = r.preds }
+more bytes (PredItem m as' ls rr ∷ before) x =
+    let r = more bytes before x in
+    record { sites = r.sites; params = r.params; preds = ap (λ (w : List (List ℕ)). text bytes m ∷ w) r.preds }
 
-any_false : (t : List ℕ) (us vs : List (List ℕ)) → list_any (λ u. bytes_eq u t) us ≡ false → list_any (λ u. bytes_eq u t) vs ≡ false → list_any (λ u. bytes_eq u t) (us ++ vs) ≡ false
+any_false : (t : List ℕ) (us vs : List (List ℕ)) → list_any (λ u. bytes_eq u t) us ≡ false → list_any (λ u. bytes_eq u t) vs ≡ false
+    → list_any (λ u. bytes_eq u t) (us ++ vs) ≡ false
 any_false t us vs h g = list_any-append (λ u. bytes_eq u t) us vs ∙ or_false _ _ h g
 
 -- an item with a name of its own keeps the names apart
-item_push : (bytes : List ℕ) (before : List Item) (x : Item) → Differ (all_texts bytes before) → list_any (λ i. bytes_eq (text bytes (item_name i)) (text bytes (item_name x))) before ≡ false → Differ (all_texts bytes (before ++ (x ∷ [])))
+item_push : (bytes : List ℕ) (before : List Item) (x : Item) → Differ (all_texts bytes before)
+    → list_any (λ i. bytes_eq (text bytes (item_name i)) (text bytes (item_name x))) before ≡ false → Differ (all_texts bytes (before ++ (x ∷ [])))
 item_push bytes before (SiteItem n cs) d h =
     let S = site_texts bytes before in let P = param_texts bytes before in let Q = pred_texts bytes before in
     let t = text bytes n in
     let m = more bytes before (SiteItem n cs) in let sp = spread bytes t before h in
     let a : Differ (S ++ (t ∷ (P ++ Q))) = insert S (P ++ Q) t d sp.sites (any_false t P Q sp.params sp.preds) in
-    let e : all_texts bytes (before ++ (SiteItem n cs ∷ [])) ≡ S ++ (t ∷ (P ++ Q)) = let x = m.sites in let y = m.params ∙ append-nil P in let z = m.preds ∙ append-nil Q in rw (x, y, z) (append_assoc S (t ∷ []) (P ++ Q)) in
+    let e : all_texts bytes (before ++ (SiteItem n cs ∷ [])) ≡ S ++ (t ∷ (P ++ Q)) = let x = m.sites in
+    let y = m.params ∙ append-nil P in
+    let z = m.preds ∙ append-nil Q in
+    rw (x, y, z) (append_assoc S (t ∷ []) (P ++ Q)) in
     subst (λ (w : List (List ℕ)). Differ w) (sym e) a
 item_push bytes before (ParamItem n rr) d h =
     let S = site_texts bytes before in let P = param_texts bytes before in let Q = pred_texts bytes before in
@@ -404,35 +481,53 @@ item_push bytes before (ParamItem n rr) d h =
     let m = more bytes before (ParamItem n rr) in let sp = spread bytes t before h in
     let d2 : Differ ((S ++ P) ++ Q) = subst (λ (w : List (List ℕ)). Differ w) (sym (append_assoc S P Q)) d in
     let a : Differ ((S ++ P) ++ (t ∷ Q)) = insert (S ++ P) Q t d2 (any_false t S P sp.sites sp.params) sp.preds in
-    let e : all_texts bytes (before ++ (ParamItem n rr ∷ [])) ≡ (S ++ P) ++ (t ∷ Q) = let x = m.sites ∙ append-nil S in let y = m.params in let z = m.preds ∙ append-nil Q in let g = append_assoc P (t ∷ []) Q in rw (x, y, z, g) (sym (append_assoc S P (t ∷ Q))) in
+    let e : all_texts bytes (before ++ (ParamItem n rr ∷ [])) ≡ (S ++ P) ++ (t ∷ Q) = let x = m.sites ∙ append-nil S in
+    let y = m.params in
+    let z = m.preds ∙ append-nil Q in
+    let g = append_assoc P (t ∷ []) Q in
+    rw (x, y, z, g) (sym (append_assoc S P (t ∷ Q))) in
     subst (λ (w : List (List ℕ)). Differ w) (sym e) a
 item_push bytes before (PredItem n as' ls rr) d h =
     let S = site_texts bytes before in let P = param_texts bytes before in let Q = pred_texts bytes before in
     let t = text bytes n in
     let m = more bytes before (PredItem n as' ls rr) in let sp = spread bytes t before h in
     let a : Differ ((S ++ (P ++ Q)) ++ (t ∷ [])) = push (S ++ (P ++ Q)) t d (any_false t S (P ++ Q) sp.sites (any_false t P Q sp.params sp.preds)) in
-    let e : all_texts bytes (before ++ (PredItem n as' ls rr ∷ [])) ≡ (S ++ (P ++ Q)) ++ (t ∷ []) = let x = m.sites ∙ append-nil S in let y = m.params ∙ append-nil P in let z = m.preds in let g = append_assoc P Q (t ∷ []) in rw (x, y, z) (ap (λ (w : List (List ℕ)). S ++ w) (sym g) ∙ sym (append_assoc S (P ++ Q) (t ∷ []))) in
+    let e : all_texts bytes (before ++ (PredItem n as' ls rr ∷ [])) ≡ (S ++ (P ++ Q)) ++ (t ∷ []) = let x = m.sites ∙ append-nil S in
+    let y = m.params ∙ append-nil P in
+    let z = m.preds in
+    let g = append_assoc P Q (t ∷ []) in
+    rw (x, y, z) (ap (λ (w : List (List ℕ)). S ++ w) (sym g) ∙ sym (append_assoc S (P ++ Q) (t ∷ []))) in
     subst (λ (w : List (List ℕ)). Differ w) (sym e) a
 
-items_differ : (bytes : List ℕ) (ts : List Token) (before is : List Item) → Differ (all_texts bytes before) → Each (ItemWithin bytes ts) before is → Differ (all_texts bytes (before ++ is))
+items_differ : (bytes : List ℕ) (ts : List Token) (before is : List Item) → Differ (all_texts bytes before)
+    → Each (ItemWithin bytes ts) before is → Differ (all_texts bytes (before ++ is))
 items_differ bytes ts before [] d e = subst (λ (w : List Item). Differ (all_texts bytes w)) (sym (append-nil before)) d
-items_differ bytes ts before (x ∷ is) d e = subst (λ (w : List Item). Differ (all_texts bytes w)) (append_assoc before (x ∷ []) is) (items_differ bytes ts (before ++ (x ∷ [])) is (item_push bytes before x d e.0.new) e.1)
+items_differ bytes ts before (x ∷ is) d e = subst (λ (w : List Item). Differ (all_texts bytes w)) (append_assoc before (x ∷ []) is)
+    (items_differ bytes ts (before ++ (x ∷ [])) is (item_push bytes before x d e.0.new) e.1)
 
-preds_named : (bytes : List ℕ) (ts : List Token) (t : TableOf) (before is : List Item) (ps : List PredOf) → PredsSay bytes ts before t is ps → map (λ (p : PredOf). p.name) ps ≡ pred_texts bytes is
+preds_named : (bytes : List ℕ) (ts : List Token) (t : TableOf) (before is : List Item) (ps : List PredOf) → PredsSay bytes ts before t is ps
+    → map (λ (p : PredOf). p.name) ps ≡ pred_texts bytes is
 preds_named bytes ts t before [] [] s = refl
 preds_named bytes ts t before [] (p ∷ ps) s = absurd s
 preds_named bytes ts t before (SiteItem n cs ∷ is) ps s = preds_named bytes ts t (before ++ (SiteItem n cs ∷ [])) is ps s
 preds_named bytes ts t before (ParamItem n r ∷ is) ps s = preds_named bytes ts t (before ++ (ParamItem n r ∷ [])) is ps s
 preds_named bytes ts t before (PredItem n as' ls r ∷ is) [] s = absurd s
-preds_named bytes ts t before (PredItem n as' ls r ∷ is) (p ∷ ps) s = let a = s.0.name_is in let b = preds_named bytes ts t (before ++ (PredItem n as' ls r ∷ [])) is ps s.1 in rw (a, b) refl
+preds_named bytes ts t before (PredItem n as' ls r ∷ is) (p ∷ ps) s =
+    let a = s.0.name_is in
+    let b = preds_named bytes ts t (before ++ (PredItem n as' ls r ∷ [])) is ps s.1 in
+    rw (a, b) refl
 
 -- the table that the items of a file without a fault say is whole
-pub whole_from : (bytes : List ℕ) (ts : List Token) (is : List Item) → length ts ≤ 65536 → IsShallow ts → Spelt ts is → ReadyFile bytes ts is → FileWithin bytes ts is → (t : TableOf) → ItemsSay bytes ts is t → is_whole t ≡ true
+pub whole_from : (bytes : List ℕ) (ts : List Token) (is : List Item) → length ts ≤ 65536 → IsShallow ts → Spelt ts is
+    → ReadyFile bytes ts is → FileWithin bytes ts is → (t : TableOf) → ItemsSay bytes ts is t → is_whole t ≡ true
 whole_from bytes ts is l h d r w t s =
     let m = items_whole bytes ts t is h s.sites_are s.params_are r.each [] d refl t.preds s.preds_are r.each w.each refl in
     let a : list_all site_whole t.sites ≡ true = ap (list_all site_whole) s.sites_are ∙ m.sites in
     let b : list_all is_range t.params ≡ true = ap (list_all is_range) s.params_are ∙ m.params in
-    let n : item_names t ≡ all_texts bytes is = let x = s.sites_are in let y = s.params_are in let z = preds_named bytes ts t [] is t.preds s.preds_are in rw (x, y, z) refl in
+    let n : item_names t ≡ all_texts bytes is = let x = s.sites_are in
+    let y = s.params_are in
+    let z = preds_named bytes ts t [] is t.preds s.preds_are in
+    rw (x, y, z) refl in
     let c : differ (item_names t) ≡ true = ap differ n ∙ differ_test (all_texts bytes is) (items_differ bytes ts [] is tt w.each) in
     let k1 = ap (λ (v : List SiteOf). total site_tokens v) s.sites_are in
     let k2 = ap (λ (v : List CoordOf). total param_tokens v) s.params_are in

@@ -1,5 +1,6 @@
 -- What a whole table has, part by part.
-use Rattle.std.proofs.Common.{◌≡◌, ℕ, ◌<◌, ◌≤◌, ◌^◌, ◌==◌, ◌&&◌, ◌||◌, not, Bool, true, false, nat_lt, List, [], ◌∷◌, ◌++◌, length, map, Option, Some, None, refl, ap, arith}
+use Rattle.std.proofs.Common.{◌≡◌, ℕ, ◌<◌, ◌≤◌, ◌^◌, ◌==◌, ◌&&◌, ◌||◌, not, Bool, true, false, nat_lt, List, [], ◌∷◌, ◌++◌, length, map}
+use Rattle.std.proofs.Common.{Option, Some, None, refl, ap, arith}
 use Rattle.std.specs.Prelude.{ℤ, pos, neg_ℤ, int_lt, unsigned_abs, nat_le, count_by, bytes_eq, ◌≤ℤ◌}
 use Rattle.std.specs.List.{list_any, list_all}
 use Rattle.std.specs.Ordering.{int_eq}
@@ -11,12 +12,13 @@ use Rattle.std.proofs.lemmas.Slice.Eq.{bytes_eq-Decides}
 use Rattle.ln_tree.specs.declared.shape.VarInfo.{VarInfo}
 use Rattle.ln_tree.specs.Variables.{same_site}
 use Rattle.ln_tree.specs.Table.{CoordOf, SiteOf, PredOf, TableOf}
-use Rattle.ln_tree.specs.Whole.{is_new, differ, is_range, site_whole, is_one_of, is_site_said, is_param_said, arg_name, vars_behind, same_var, same_vars, nesting, pred_whole, item_names, text_tokens, is_whole}
+use Rattle.ln_tree.specs.Whole.{is_new, differ, is_range, site_whole, is_one_of, is_site_said, is_param_said, arg_name, vars_behind}
+use Rattle.ln_tree.specs.Whole.{same_var, same_vars, nesting, pred_whole, item_names, text_tokens, is_whole}
 use Rattle.ln_parse.specs.ReadsBack.{Every}
 use Rattle.ln_parse.proofs.ReadBack.NamePlaces.{NoneIs, Differ}
 use Rattle.ln_parse.proofs.Wholes.TestLemmas.{at_most, below, equal}
 
--- what a test says of all elements holds of each
+-- what a test finds of all elements holds of each
 pub every : {A : Type 0} (p : A → Bool) (xs : List A) → list_all p xs ≡ true → Every (λ x. p x ≡ true) xs
 every p [] h = tt
 every p (x ∷ xs) h = let q = and_parts (p x) (list_all p xs) h in (q.0, every p xs q.1)
@@ -72,7 +74,12 @@ site_parts s h =
     let a = and_parts (nat_lt 0 (length s.coords) && nat_le (length s.coords) 32 && list_all is_range s.coords) (differ (map (λ c. c.name) s.coords)) h in
     let b = and_parts (nat_lt 0 (length s.coords) && nat_le (length s.coords) 32) (list_all is_range s.coords) a.0 in
     let c = and_parts (nat_lt 0 (length s.coords)) (nat_le (length s.coords) 32) b.0 in
-    record { some = below _ _ c.0; few = at_most _ _ c.1; ranges = every_map (λ x. is_range x ≡ true) InRange s.coords in_range (every is_range s.coords b.1); differ = differing _ a.1 }
+    record {
+      some = below _ _ c.0;
+      few = at_most _ _ c.1;
+      ranges = every_map (λ x. is_range x ≡ true) InRange s.coords in_range (every is_range s.coords b.1);
+      differ = differing _ a.1;
+    }
 
 same_site_is : (a b : Option ℕ) → same_site a b ≡ true → a ≡ b
 same_site_is None None h = refl
@@ -104,7 +111,11 @@ pub same_vars_are : (is js : List VarInfo) → same_vars is js ≡ true → is �
 same_vars_are [] [] h = refl
 same_vars_are [] (j ∷ js) h = absurd (cc)
 same_vars_are (i ∷ is) [] h = absurd (cc)
-same_vars_are (i ∷ is) (j ∷ js) h = let q = and_parts (same_var i j) (same_vars is js) h in let a = same_var_is i j q.0 in let b = same_vars_are is js q.1 in rw (a, b) refl
+same_vars_are (i ∷ is) (j ∷ js) h =
+    let q = and_parts (same_var i j) (same_vars is js) h in
+    let a = same_var_is i j q.0 in
+    let b = same_vars_are is js q.1 in
+    rw (a, b) refl
 
 -- a predicate
 pub record PredParts (S : List SiteOf) (P : List CoordOf) (p : PredOf) : Type 0 where
@@ -148,7 +159,8 @@ pred_parts S P p h =
       sites = equal _ _ e.1;
       vars = same_vars_are _ _ f.1;
       names = differing _ g.1;
-      lets = every_map (λ e. nat_le (nesting 0 e) 64 ≡ true) (λ e. nesting 0 e ≤ 64) p.lets (λ e q. at_most _ _ q) (every (λ e. nat_le (nesting 0 e) 64) p.lets i.1);
+      lets = every_map (λ e. nat_le (nesting 0 e) 64 ≡ true) (λ e. nesting 0 e ≤ 64) p.lets (λ e q. at_most _ _ q)
+          (every (λ e. nat_le (nesting 0 e) 64) p.lets i.1);
       root = at_most _ _ j.1;
     }
 
@@ -172,7 +184,8 @@ table_parts t h =
     record {
       sites = every_map (λ s. site_whole s ≡ true) SiteParts t.sites site_parts (every site_whole t.sites a.0);
       params = every_map (λ c. is_range c ≡ true) InRange t.params in_range (every is_range t.params a.1);
-      preds = every_map (λ p. pred_whole t.sites t.params p ≡ true) (PredParts t.sites t.params) t.preds (pred_parts t.sites t.params) (every (pred_whole t.sites t.params) t.preds b.1);
+      preds = every_map (λ p. pred_whole t.sites t.params p ≡ true) (PredParts t.sites t.params) t.preds (pred_parts t.sites t.params)
+          (every (pred_whole t.sites t.params) t.preds b.1);
       names = differing _ c.1;
       tokens = at_most _ _ d.1;
     }

@@ -1,5 +1,6 @@
 -- A scaled derivative of a scaled derivative, by other variables.
-use Rattle.std.proofs.Common.{◌≡◌, ℕ, ◌+◌, ◌-◌, ◌*◌, zero, suc, Bool, true, false, leb, List, [], ◌∷◌, length, refl, sym, ◌∙◌, ap, subst, arith, ◌⊎◌, inl, inr, if◌then◌else◌}
+use Rattle.std.proofs.Common.{◌≡◌, ℕ, ◌+◌, ◌-◌, ◌*◌, zero, suc, Bool, true, false, leb, List, [], ◌∷◌, length, refl, sym, ◌∙◌, ap, subst}
+use Rattle.std.proofs.Common.{arith, ◌⊎◌, inl, inr, if◌then◌else◌}
 use Rattle.std.proofs.Math.IntN.{ℤ, pos, ◌*ℤ◌}
 use Rattle.std.proofs.lemmas.Bool.{and_parts, cases_eq}
 use Rattle.std.proofs.lemmas.Bool.Decides.{nat_tests}
@@ -37,14 +38,16 @@ one-apart m i j (inr e) =
     rw (x, y, z) (omega arith)
 
 -- the binomials of both together
-binomials-apart : (m a b : List ℕ) → length m ≡ length a → length b ≡ length a → AreApart a b → binomials (plus m (plus a b)) (plus a b) ≡ binomials (plus (plus m b) a) a * binomials (plus m b) b
+binomials-apart : (m a b : List ℕ) → length m ≡ length a → length b ≡ length a → AreApart a b
+    → binomials (plus m (plus a b)) (plus a b) ≡ binomials (plus (plus m b) a) a * binomials (plus m b) b
 binomials-apart [] [] [] l k d = refl
 binomials-apart [] [] (j ∷ b) l k d = absurd (omega arith)
 binomials-apart [] (i ∷ a) b l k d = absurd (omega arith)
 binomials-apart (n ∷ m) [] b l k d = absurd (omega arith)
 binomials-apart (n ∷ m) (i ∷ a) [] l k d = absurd (omega arith)
 binomials-apart (n ∷ m) (i ∷ a) (j ∷ b) l k d =
-    four_ℕ (binomial ((n + j) + i) i) (binomial (n + j) j) (binomials (plus (plus m b) a) a) (binomials (plus m b) b) (binomial (n + (i + j)) (i + j)) (binomials (plus m (plus a b)) (plus a b)) (one-apart n i j d.0) (binomials-apart m a b (omega arith) (omega arith) d.1)
+    four_ℕ (binomial ((n + j) + i) i) (binomial (n + j) j) (binomials (plus (plus m b) a) a) (binomials (plus m b) b) (binomial (n + (i + j)) (i + j))
+    (binomials (plus m (plus a b)) (plus a b)) (one-apart n i j d.0) (binomials-apart m a b (omega arith) (omega arith) d.1)
 
 plus-turned : (m a b : List ℕ) → length m ≡ length a → length b ≡ length a → plus (plus m b) a ≡ plus m (plus a b)
 plus-turned [] a b l k = refl
@@ -65,12 +68,17 @@ length-minus (k ∷ m) (j ∷ a) h = omega (arith, length-minus m a (omega arith
 pub over-derived : (a : List ℕ) (f : List Term) → Over (length a) f → Over (length a) (derived a f)
 over-derived a [] o = tt
 over-derived a (t ∷ f) o = by_case (covers t.exponents a) (over-derived a f o.1) where
-  by_case : (b : Bool) → Over (length a) (derived a f) → Over (length a) (if b then (record { exponents = minus t.exponents a; factor = t.factor *ℤ pos (binomials t.exponents a) } ∷ derived a f) else derived a f)
+  by_case : (b : Bool) → Over (length a) (derived a f) → Over (length a) (if b then (record {
+    exponents = minus t.exponents a;
+    factor = t.factor *ℤ pos (binomials t.exponents a);
+  } ∷ derived a f) else derived a f)
   by_case true h = (length-minus t.exponents a o.0 ∙ o.0, h)
   by_case false h = h
 
 -- the derivative by b of what has the coefficients of the derivative by a
-pub combined : (n : ℕ) (a b : List ℕ) (f h : List Term) → length a ≡ n → length b ≡ n → AreApart a b → Over n f → Over n h → ((m : List ℕ) → length m ≡ n → factor_at h m ≡ factor_at (derived a f) m) → (m : List ℕ) → length m ≡ n → factor_at (derived b h) m ≡ factor_at (derived (plus a b) f) m
+pub combined : (n : ℕ) (a b : List ℕ) (f h : List Term) → length a ≡ n → length b ≡ n → AreApart a b → Over n f
+    → Over n h → ((m : List ℕ) → length m ≡ n → factor_at h m ≡ factor_at (derived a f) m) → (m : List ℕ) → length m ≡ n
+    → factor_at (derived b h) m ≡ factor_at (derived (plus a b) f) m
 combined n a b f h la lb d o p s m l =
     let oa : Over (length a) f = subst (λ k. Over k f) (sym la) o in
     let lab : length (plus a b) ≡ n = length-plus a b (la ∙ sym lb) ∙ lb in
@@ -78,10 +86,13 @@ combined n a b f h la lb d o p s m l =
     let ob : Over (length b) h = subst (λ k. Over k h) (sym lb) p in
     let lmb : length (plus m b) ≡ n = length-plus m b (l ∙ sym lb) ∙ lb in
     let x : factor_at (derived b h) m ≡ factor_at h (plus m b) *ℤ pos (binomials (plus m b) b) = factor_at-derived b h m ob (l ∙ sym lb) in
-    let y : factor_at h (plus m b) ≡ factor_at f (plus (plus m b) a) *ℤ pos (binomials (plus (plus m b) a) a) = s (plus m b) lmb ∙ factor_at-derived a f (plus m b) oa (lmb ∙ sym la) in
-    let z : factor_at (derived (plus a b) f) m ≡ factor_at f (plus m (plus a b)) *ℤ pos (binomials (plus m (plus a b)) (plus a b)) = factor_at-derived (plus a b) f m oab (l ∙ sym lab) in
+    let y : factor_at h (plus m b) ≡ factor_at f (plus (plus m b) a) *ℤ pos (binomials (plus (plus m b) a) a) =
+    s (plus m b) lmb ∙ factor_at-derived a f (plus m b) oa (lmb ∙ sym la) in
+    let z : factor_at (derived (plus a b) f) m ≡ factor_at f (plus m (plus a b)) *ℤ pos (binomials (plus m (plus a b)) (plus a b)) =
+    factor_at-derived (plus a b) f m oab (l ∙ sym lab) in
     let t : plus (plus m b) a ≡ plus m (plus a b) = plus-turned m a b (l ∙ sym la) (lb ∙ sym la) in
-    let q : binomials (plus m (plus a b)) (plus a b) ≡ binomials (plus (plus m b) a) a * binomials (plus m b) b = binomials-apart m a b (l ∙ sym la) (lb ∙ sym la) d in
+    let q : binomials (plus m (plus a b)) (plus a b) ≡ binomials (plus (plus m b) a) a * binomials (plus m b) b =
+    binomials-apart m a b (l ∙ sym la) (lb ∙ sym la) d in
     x ∙ ap (λ c. c *ℤ pos (binomials (plus m b) b)) y
     ∙ mul_assoc (factor_at f (plus (plus m b) a)) (pos (binomials (plus (plus m b) a) a)) (pos (binomials (plus m b) b))
     ∙ ap (λ (c : ℤ). factor_at f (plus (plus m b) a) *ℤ c) (pos-times (binomials (plus (plus m b) a) a) (binomials (plus m b) b))
@@ -92,13 +103,14 @@ combined n a b f h la lb d o p s m l =
       pos-times j k = refl
 
 -- lists over n variables with the same coefficients at vectors of n exponents have them at all
-pub everywhere : (n : ℕ) (f g : List Term) → Over n f → Over n g → ((m : List ℕ) → length m ≡ n → factor_at f m ≡ factor_at g m) → (m : List ℕ) → factor_at f m ≡ factor_at g m
+pub everywhere : (n : ℕ) (f g : List Term) → Over n f → Over n g → ((m : List ℕ) → length m ≡ n → factor_at f m ≡ factor_at g m)
+    → (m : List ℕ) → factor_at f m ≡ factor_at g m
 everywhere n f g o p s m = by_length (cases_eq (length m) n) where
   by_length : (length m ≡ n) ⊎ (length m ≡ n → ⊥) → factor_at f m ≡ factor_at g m
   by_length (inl q) = s m q
   by_length (inr d) = factor_at-length n f m o d ∙ sym (factor_at-length n g m p d)
 
--- ---- lists in which each vector stands once
+-- ---- lists in which each vector occurs once
 lacks-none : (f : List Term) (m : List ℕ) → Lacks f m → factor_at f m ≡ pos 0
 lacks-none [] m l = refl
 lacks-none (t ∷ f) m l = rw l.0 (omega (arith, ints, lacks-none f m l.1))
@@ -133,6 +145,7 @@ once-derived a (t ∷ f) o c = by_case (covers t.exponents a) refl (once-derived
       let q : pos 0 *ℤ pos (binomials (plus (minus t.exponents a) a) a) ≡ pos 0 = zero_times (binomials (plus (minus t.exponents a) a) a) in
       factor_at-derived a f (minus t.exponents a) o.1 l ∙ ap (λ v. v *ℤ pos (binomials (plus (minus t.exponents a) a) a)) z ∙ q
 
-  by_case : (b : Bool) → covers t.exponents a ≡ b → Once (derived a f) → Once (if b then (record { exponents = minus t.exponents a; factor = t.factor *ℤ pos (binomials t.exponents a) } ∷ derived a f) else derived a f)
+  by_case : (b : Bool) → covers t.exponents a ≡ b → Once (derived a f)
+      → Once (if b then (record { exponents = minus t.exponents a; factor = t.factor *ℤ pos (binomials t.exponents a) } ∷ derived a f) else derived a f)
   by_case true h r = (none h, λ k e. ap (factor_at (derived a f)) (sym (same_vector-is (minus t.exponents a) k e)) ∙ none h, r)
   by_case false h r = r

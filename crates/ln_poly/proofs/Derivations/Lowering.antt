@@ -23,9 +23,10 @@ above-take (p ∷ ps) (suc i) r h = (above-at p.0 ps i (omega arith) r.2, above-
 pub lowering-init : (ps : Pairs) (v n : ℕ) → IsLowering [] ps v n 0
 lowering-init ps v n = record { exponents = λ u. omega arith; rising = tt }
 
--- what is lowered and out stands below the next pair
+-- what is lowered and out is below the next pair
 pub lowering-above : (out ps : Pairs) (v n i : ℕ) → IsLowering out ps v n i → IsRising ps → i < length ps → IsAbove out (get_or ps i (0, 0)).0
-lowering-above out ps v n i r s h = none-above (get_or ps i (0, 0)).0 out r.rising (λ u l. omega (arith, r.exponents u, above-none (get_or ps i (0, 0)).0 u (take i ps) (above-take ps i s h) l))
+lowering-above out ps v n i r s h = none-above (get_or ps i (0, 0)).0 out r.rising
+    (λ u l. omega (arith, r.exponents u, above-none (get_or ps i (0, 0)).0 u (take i ps) (above-take ps i s h) l))
 
 pub lowered-small : (p : ℕ × ℕ) (v n k : ℕ) → p.1 < 128 → (p.0 ≡ v → k + n ≡ p.1) → ((p.0 ≡ v → ⊥) → k ≡ p.1) → k < 128
 lowered-small p v n k h a b = by_case (cases_eq p.0 v) where
@@ -33,7 +34,8 @@ lowered-small p v n k h a b = by_case (cases_eq p.0 v) where
   by_case (inl e) = omega (arith, a e)
   by_case (inr e) = omega (arith, b e)
 
-lowering-core : (x t : ℕ) (p : ℕ × ℕ) (k v n u : ℕ) → x ≡ t - power_at u (v, n) → (p.0 ≡ u → t ≡ 0) → (p.0 ≡ v → k + n ≡ p.1) → ((p.0 ≡ v → ⊥) → k ≡ p.1) → x + power_at u (p.0, k) ≡ (t + power_at u p) - power_at u (v, n)
+lowering-core : (x t : ℕ) (p : ℕ × ℕ) (k v n u : ℕ) → x ≡ t - power_at u (v, n) → (p.0 ≡ u → t ≡ 0) → (p.0 ≡ v → k + n ≡ p.1)
+    → ((p.0 ≡ v → ⊥) → k ≡ p.1) → x + power_at u (p.0, k) ≡ (t + power_at u p) - power_at u (v, n)
 lowering-core x t p k v n u e z a b = by_case (cases_eq p.0 u) (cases_eq v u) where
   by_case : (p.0 ≡ u) ⊎ (p.0 ≡ u → ⊥) → (v ≡ u) ⊎ (v ≡ u → ⊥) → x + power_at u (p.0, k) ≡ (t + power_at u p) - power_at u (v, n)
   by_case (inl f) (inl g) = omega (arith, e, z f, a (f ∙ sym g), power-here u (p.0, k) f, power-here u p f, power-here u (v, n) g)
@@ -41,15 +43,21 @@ lowering-core x t p k v n u e z a b = by_case (cases_eq p.0 u) (cases_eq v u) wh
   by_case (inr f) (inl g) = omega (arith, e, power-apart u (p.0, k) f, power-apart u p f, power-here u (v, n) g)
   by_case (inr f) (inr g) = omega (arith, e, power-apart u (p.0, k) f, power-apart u p f, power-apart u (v, n) g)
 
-lowering-next : (out ps : Pairs) (v n i k u : ℕ) → IsLowering out ps v n i → IsRising ps → i < length ps → ((get_or ps i (0, 0)).0 ≡ v → k + n ≡ (get_or ps i (0, 0)).1) → (((get_or ps i (0, 0)).0 ≡ v → ⊥) → k ≡ (get_or ps i (0, 0)).1) → exponent u out + power_at u ((get_or ps i (0, 0)).0, k) ≡ exponent u (take (i + 1) ps) - power_at u (v, n)
+lowering-next : (out ps : Pairs) (v n i k u : ℕ) → IsLowering out ps v n i → IsRising ps → i < length ps
+    → ((get_or ps i (0, 0)).0 ≡ v → k + n ≡ (get_or ps i (0, 0)).1) → (((get_or ps i (0, 0)).0 ≡ v → ⊥) → k ≡ (get_or ps i (0, 0)).1)
+    → exponent u out + power_at u ((get_or ps i (0, 0)).0, k) ≡ exponent u (take (i + 1) ps) - power_at u (v, n)
 lowering-next out ps v n i k u r s h a b =
-    lowering-core (exponent u out) (exponent u (take i ps)) (get_or ps i (0, 0)) k v n u (r.exponents u) (λ e. above-none (get_or ps i (0, 0)).0 u (take i ps) (above-take ps i s h) (omega arith)) a b
+    lowering-core (exponent u out) (exponent u (take i ps)) (get_or ps i (0, 0)) k v n u (r.exponents u)
+    (λ e. above-none (get_or ps i (0, 0)).0 u (take i ps) (above-take ps i s h) (omega arith)) a b
     ∙ ap (λ z. z - power_at u (v, n)) (sym (exponent-more u ps i h))
 
-pub lowering-push : (out ps : Pairs) (v n i k : ℕ) → IsLowering out ps v n i → IsRising ps → i < length ps → ((get_or ps i (0, 0)).0 ≡ v → k + n ≡ (get_or ps i (0, 0)).1) → (((get_or ps i (0, 0)).0 ≡ v → ⊥) → k ≡ (get_or ps i (0, 0)).1) → 0 < k → IsLowering (out ++ (((get_or ps i (0, 0)).0, k) ∷ [])) ps v n (i + 1)
+pub lowering-push : (out ps : Pairs) (v n i k : ℕ) → IsLowering out ps v n i → IsRising ps → i < length ps
+    → ((get_or ps i (0, 0)).0 ≡ v → k + n ≡ (get_or ps i (0, 0)).1) → (((get_or ps i (0, 0)).0 ≡ v → ⊥) → k ≡ (get_or ps i (0, 0)).1)
+    → 0 < k → IsLowering (out ++ (((get_or ps i (0, 0)).0, k) ∷ [])) ps v n (i + 1)
 lowering-push out ps v n i k r s h a b l = record {
   exponents = λ u. exponent-push u out ((get_or ps i (0, 0)).0, k) ∙ lowering-next out ps v n i k u r s h a b;
-  rising = rising-push out (get_or ps i (0, 0)).0 k r.rising (lowering-above out ps v n i r s h) l (lowered-small (get_or ps i (0, 0)) v n k (small-at ps i s h) a b);
+  rising = rising-push out (get_or ps i (0, 0)).0 k r.rising (lowering-above out ps v n i r s h) l
+      (lowered-small (get_or ps i (0, 0)) v n k (small-at ps i s h) a b);
 }
 
 no-power : (u w : ℕ) → power_at u (w, 0) ≡ 0
@@ -58,9 +66,12 @@ no-power u w = by_case (cases_eq w u) where
   by_case (inl e) = power-here u (w, 0) e
   by_case (inr e) = power-apart u (w, 0) e
 
-pub lowering-skip : (out ps : Pairs) (v n i k : ℕ) → IsLowering out ps v n i → IsRising ps → i < length ps → ((get_or ps i (0, 0)).0 ≡ v → k + n ≡ (get_or ps i (0, 0)).1) → (((get_or ps i (0, 0)).0 ≡ v → ⊥) → k ≡ (get_or ps i (0, 0)).1) → k ≡ 0 → IsLowering out ps v n (i + 1)
+pub lowering-skip : (out ps : Pairs) (v n i k : ℕ) → IsLowering out ps v n i → IsRising ps → i < length ps
+    → ((get_or ps i (0, 0)).0 ≡ v → k + n ≡ (get_or ps i (0, 0)).1) → (((get_or ps i (0, 0)).0 ≡ v → ⊥) → k ≡ (get_or ps i (0, 0)).1)
+    → k ≡ 0 → IsLowering out ps v n (i + 1)
 lowering-skip out ps v n i k r s h a b l = record {
-  exponents = λ u. omega (arith, lowering-next out ps v n i k u r s h a b, ap (λ z. power_at u ((get_or ps i (0, 0)).0, z)) l, no-power u (get_or ps i (0, 0)).0);
+  exponents =
+      λ u. omega (arith, lowering-next out ps v n i k u r s h a b, ap (λ z. power_at u ((get_or ps i (0, 0)).0, z)) l, no-power u (get_or ps i (0, 0)).0);
   rising = r.rising;
 }
 

@@ -24,7 +24,9 @@ use Rattle.ln_poly.proofs.Expansions.Normals.{vector-none}
 
 -- the derivative has as many variables
 pub over-vector : (n : ℕ) (a : Pairs) (x : List Term) → Over n x → Over n (derived (vector n a) x)
-over-vector n a x o = let e : length (vector n a) ≡ n = length-vector 0 n a in subst (λ k. Over k (derived (vector n a) x)) e (over-derived (vector n a) x (subst (λ k. Over k x) (sym e) o))
+over-vector n a x o =
+    let e : length (vector n a) ≡ n = length-vector 0 n a in
+    subst (λ k. Over k (derived (vector n a) x)) e (over-derived (vector n a) x (subst (λ k. Over k x) (sym e) o))
 
 -- ---- no variable
 pub several-init : (n : ℕ) (f h : Sparse) → IsPoly f → AreBelow n f → h ≡ f → IsDerivative n f [] h
@@ -33,7 +35,8 @@ several-init n f h p b e = record {
   form = rw e p;
   below = rw e b;
   coefficients = λ m l.
-      let z : derived (vector n []) (terms_of n f) ≡ terms_of n f = ap (λ a. derived a (terms_of n f)) (vector-none 0 n) ∙ derived-zeros n (terms_of n f) (over-terms n f) in
+      let z : derived (vector n []) (terms_of n f) ≡ terms_of n f =
+      ap (λ a. derived a (terms_of n f)) (vector-none 0 n) ∙ derived-zeros n (terms_of n f) (over-terms n f) in
       ap (λ (g : Sparse). factor_at (terms_of n g) m) e ∙ ap (λ (ts : List Term). factor_at ts m) (sym z);
 }
 
@@ -66,28 +69,36 @@ vector-more n ps i h =
 
 module _ (n : ℕ) (f h : Sparse) (ps : Pairs) (i : ℕ) (r : IsRising ps) (l : i < length ps) (d : IsDerivative n f (take i ps) h) where
   -- the coefficients of the next derivative
-  next-coefficients : (m : List ℕ) → length m ≡ n → factor_at (derivative n (get_or ps i (0, 0)).0 (get_or ps i (0, 0)).1 h) m ≡ factor_at (derived (vector n (take (i + 1) ps)) (terms_of n f)) m
+  next-coefficients : (m : List ℕ) → length m ≡ n
+      → factor_at (derivative n (get_or ps i (0, 0)).0 (get_or ps i (0, 0)).1 h) m ≡ factor_at (derived (vector n (take (i + 1) ps)) (terms_of n f)) m
   unfolding coefficient_at
   next-coefficients m k =
       let p : ℕ × ℕ = get_or ps i (0, 0) in
-      combined n (vector n (take i ps)) (vector n (p ∷ [])) (terms_of n f) (terms_of n h) (length-vector 0 n (take i ps)) (length-vector 0 n (p ∷ [])) (apart-from 0 n p.0 p.1 (take i ps) (above-take ps i r l)) (over-terms n f) (over-terms n h) d.coefficients m k
+      combined n (vector n (take i ps)) (vector n (p ∷ [])) (terms_of n f) (terms_of n h) (length-vector 0 n (take i ps))
+      (length-vector 0 n (p ∷ [])) (apart-from 0 n p.0 p.1 (take i ps) (above-take ps i r l)) (over-terms n f) (over-terms n h) d.coefficients m k
       ∙ ap (λ a. factor_at (derived a (terms_of n f)) m) (vector-more n ps i l)
 
-  pub several-step : (g : Sparse) → IsPoly g → AreBelow n g → ((m : List ℕ) → coefficient_at n g m ≡ factor_at (derivative n (get_or ps i (0, 0)).0 (get_or ps i (0, 0)).1 h) m) → IsDerivative n f (take (i + 1) ps) g
+  pub several-step : (g : Sparse) → IsPoly g → AreBelow n g
+      → ((m : List ℕ) → coefficient_at n g m ≡ factor_at (derivative n (get_or ps i (0, 0)).0 (get_or ps i (0, 0)).1 h) m)
+      → IsDerivative n f (take (i + 1) ps) g
   several-step g p b c = record { form = p; below = b; coefficients = λ m k. c m ∙ next-coefficients m k }
 
   -- it weighs no more than that of the whole
-  next-weight : (w : ℕ → ℕ) → weighted_sum w (derivative n (get_or ps i (0, 0)).0 (get_or ps i (0, 0)).1 h) ≤ weighted_sum w (derived (vector n (take (i + 1) ps)) (terms_of n f))
+  next-weight : (w : ℕ → ℕ)
+      → weighted_sum w (derivative n (get_or ps i (0, 0)).0 (get_or ps i (0, 0)).1 h) ≤ weighted_sum w (derived (vector n (take (i + 1) ps)) (terms_of n f))
   next-weight w =
       let p : ℕ × ℕ = get_or ps i (0, 0) in
       let a : List ℕ = vector n (p ∷ []) in
       let e : length (vector n (p ∷ [])) ≡ n = length-vector 0 n (p ∷ []) in
       let o : Over (length (vector n (p ∷ []))) (terms_of n h) = subst (λ k. Over k (terms_of n h)) (sym e) (over-terms n h) in
-      weighted-least w (derivative n p.0 p.1 h) (derived (vector n (take (i + 1) ps)) (terms_of n f)) (once-derived (vector n (p ∷ [])) (terms_of n h) o (once (terms_of n h) (collected n h d.form d.below)))
-      (everywhere n (derivative n p.0 p.1 h) (derived (vector n (take (i + 1) ps)) (terms_of n f)) (over-vector n (p ∷ []) (terms_of n h) (over-terms n h)) (over-vector n (take (i + 1) ps) (terms_of n f) (over-terms n f)) next-coefficients)
+      weighted-least w (derivative n p.0 p.1 h) (derived (vector n (take (i + 1) ps)) (terms_of n f))
+      (once-derived (vector n (p ∷ [])) (terms_of n h) o (once (terms_of n h) (collected n h d.form d.below)))
+      (everywhere n (derivative n p.0 p.1 h) (derived (vector n (take (i + 1) ps)) (terms_of n f))
+      (over-vector n (p ∷ []) (terms_of n h) (over-terms n h)) (over-vector n (take (i + 1) ps) (terms_of n f) (over-terms n f)) next-coefficients)
 
 -- ---- weights
-pub several-light : (vars : List VarInfo) (f h : Sparse) (ps : Pairs) (i : ℕ) → IsRising ps → i < length ps → IsDerivative (length vars) f (take i ps) h → weighted_sum (weights vars) (terms_of (length vars) f) ≤ most
+pub several-light : (vars : List VarInfo) (f h : Sparse) (ps : Pairs) (i : ℕ) → IsRising ps → i < length ps
+    → IsDerivative (length vars) f (take i ps) h → weighted_sum (weights vars) (terms_of (length vars) f) ≤ most
     → weighted_sum (sizes vars) (derivative (length vars) (get_or ps i (0, 0)).0 (get_or ps i (0, 0)).1 h) ≤ most
 several-light vars f h ps i r l d w =
     omega (arith, next-weight (length vars) f h ps i r l d (sizes vars), derived-light vars (vector (length vars) (take (i + 1) ps)) f w)
@@ -96,11 +107,13 @@ pub several-end : (n : ℕ) (f h : Sparse) (ps a : Pairs) (i : ℕ) → length p
 several-end n f h ps a i l e d = subst (λ (q : Pairs). IsDerivative n f q h) (take_all i ps l ∙ e) d
 
 -- ---- the first variable
-pub first-light : (vars : List VarInfo) (f : Sparse) (ps : Pairs) → IsPoly f → AreBelow (length vars) f → IsRising ps → 0 < length ps → weighted_sum (weights vars) (terms_of (length vars) f) ≤ most
+pub first-light : (vars : List VarInfo) (f : Sparse) (ps : Pairs) → IsPoly f → AreBelow (length vars) f → IsRising ps → 0 < length ps
+    → weighted_sum (weights vars) (terms_of (length vars) f) ≤ most
     → weighted_sum (sizes vars) (derivative (length vars) (get_or ps 0 (0, 0)).0 (get_or ps 0 (0, 0)).1 f) ≤ most
 first-light vars f ps p b r l w = several-light vars f f ps 0 r l (several-init (length vars) f f p b refl) w
 
-pub first-step : (n : ℕ) (f g : Sparse) (ps : Pairs) → IsPoly f → AreBelow n f → IsRising ps → 0 < length ps → IsPoly g → AreBelow n g → ((m : List ℕ) → coefficient_at n g m ≡ factor_at (derivative n (get_or ps 0 (0, 0)).0 (get_or ps 0 (0, 0)).1 f) m) → IsDerivative n f (take 1 ps) g
+pub first-step : (n : ℕ) (f g : Sparse) (ps : Pairs) → IsPoly f → AreBelow n f → IsRising ps → 0 < length ps → IsPoly g → AreBelow n g
+    → ((m : List ℕ) → coefficient_at n g m ≡ factor_at (derivative n (get_or ps 0 (0, 0)).0 (get_or ps 0 (0, 0)).1 f) m) → IsDerivative n f (take 1 ps) g
 first-step n f g ps p b r l q c e = several-step n f f ps 0 r l (several-init n f f p b refl) g q c e
 
 -- without a variable

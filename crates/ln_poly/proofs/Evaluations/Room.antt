@@ -1,4 +1,4 @@
--- No number on the way to a value passes 127 bits.
+-- No number on the way to a value exceeds 127 bits.
 use Rattle.std.proofs.Common.{◌≡◌, ℕ, ◌+◌, ◌-◌, ◌*◌, ◌^◌, ◌<◌, ◌≤◌, zero, suc, refl, sym, ◌∙◌, ap, arith, List, [], ◌∷◌, length, max, unsigned_abs, true, leb}
 use Rattle.std.proofs.Math.IntN.{ℤ, pos, negsuc, ◌*ℤ◌}
 use Rattle.std.specs.Prelude.{◌≤ℤ◌}
@@ -27,7 +27,8 @@ times-assoc a b c = omega arith
 pub binomial-power : (m n k : ℕ) → k ≤ n → binomial n k * m ^ (n - k) ≤ (m + 1) ^ n
 binomial-power m n k h =
     let t : leb k n ≡ true = below k n h in
-    let w : weighted_sum (λ v. m) (derived (k ∷ []) (record { exponents = n ∷ []; factor = pos 1 } ∷ [])) ≤ weighted_sum (λ v. m + 1) (record { exponents = n ∷ []; factor = pos 1 } ∷ []) = weighted-derived (λ v. m) (k ∷ []) (record { exponents = n ∷ []; factor = pos 1 } ∷ []) in
+    let w : weighted_sum (λ v. m) (derived (k ∷ []) (record { exponents = n ∷ []; factor = pos 1 } ∷ [])) ≤ weighted_sum (λ v. m + 1)
+    (record { exponents = n ∷ []; factor = pos 1 } ∷ []) = weighted-derived (λ v. m) (k ∷ []) (record { exponents = n ∷ []; factor = pos 1 } ∷ []) in
     one (binomial n k) (m ^ (n - k)) ((m + 1) ^ n) (rw t at w) where
       below : (k n : ℕ) → k ≤ n → leb k n ≡ true
       below k n h = grind (arith, nat_tests)
@@ -40,7 +41,7 @@ binomial-power m n k h =
 abbrev pub size : ℤ → ℕ
 size x = max 1 (unsigned_abs x)
 
--- a number that has been multiplied by x some times, and n times are left
+-- a number that has been multiplied by x some times, and n times remain
 pub record IsRaised (z y x : ℤ) (n k : ℕ) : Type 0 where
   pub value : y *ℤ power_of x (n - k) ≡ z *ℤ power_of x n
   pub room : unsigned_abs y * size x ^ (n - k) ≤ most
@@ -67,7 +68,8 @@ raised-on z y x n k h r =
     let e = raised-left n k h in
     let p : m ^ (n - k) ≡ P * m = ap (λ j. m ^ j) e ∙ pow-suc m (n - (k + 1)) in
     let v : (y *ℤ x) *ℤ power_of x (n - (k + 1)) ≡ y *ℤ power_of x (n - k) = mul_assoc y x (power_of x (n - (k + 1))) ∙ ap (λ j. y *ℤ power_of x j) (sym e) in
-    let q : unsigned_abs (y *ℤ x) * P ≤ (unsigned_abs y * m) * P = mul-le-mul_right P (let i : unsigned_abs (y *ℤ x) ≤ unsigned_abs y * m = omega (arith, unsigned_abs-mul y x, mul-le-mul_left (unsigned_abs y) (let j : unsigned_abs x ≤ m = omega arith in j)) in i) in
+    let q : unsigned_abs (y *ℤ x) * P ≤ (unsigned_abs y * m) * P = mul-le-mul_right P (let i : unsigned_abs (y *ℤ x) ≤ unsigned_abs y * m =
+    omega (arith, unsigned_abs-mul y x, mul-le-mul_left (unsigned_abs y) (let j : unsigned_abs x ≤ m = omega arith in j)) in i) in
     let c : (unsigned_abs y * m) * P ≡ unsigned_abs y * (P * m) = omega arith in
     record { value = v ∙ r.value; room = omega (arith, q, c, ap (λ j. unsigned_abs y * j) p, r.room) }
 
@@ -92,15 +94,16 @@ pair-fits z x e k h r =
     omega (arith, times-le (unsigned_abs (z *ℤ pos (binomial e k))) (m ^ (e - k)) (pow-some m (e - k) (omega arith)), pair-room z x e k h r)
 
 pub ways-fit : (z x : ℤ) (e k : ℕ) → k ≤ e → (z ≡ pos 0 → ⊥) → unsigned_abs z * (size x + 1) ^ e ≤ most → binomial e k ≤ most
-ways-fit z x e k h n r = omega (arith, pair-fits z x e k h r, unsigned_abs-mul z (pos (binomial e k)), some-times (unsigned_abs z) (binomial e k) (some z n)) where
-  some : (z : ℤ) → (z ≡ pos 0 → ⊥) → 0 < unsigned_abs z
-  some (pos zero) n = absurd (n refl)
-  some (pos (suc k)) n = omega arith
-  some (negsuc k) n = omega arith
+ways-fit z x e k h n r = omega (arith, pair-fits z x e k h r, unsigned_abs-mul z (pos (binomial e k)), some-times (unsigned_abs z) (binomial e k) (some z n))
+  where
+    some : (z : ℤ) → (z ≡ pos 0 → ⊥) → 0 < unsigned_abs z
+    some (pos zero) n = absurd (n refl)
+    some (pos (suc k)) n = omega arith
+    some (negsuc k) n = omega arith
 
-  some-times : (a b : ℕ) → 0 < a → b ≤ a * b
-  some-times zero b h = absurd (omega arith)
-  some-times (suc a) b h = omega arith
+    some-times : (a b : ℕ) → 0 < a → b ≤ a * b
+    some-times zero b h = absurd (omega arith)
+    some-times (suc a) b h = omega arith
 
 pub pair-value : (z y x : ℤ) (e k w : ℕ) → w ≡ binomial e k → y ≡ (z *ℤ pos w) *ℤ power_of x (e - k) → y ≡ z *ℤ (pos (binomial e k) *ℤ power_of x (e - k))
 pair-value z y x e k w q h = h ∙ ap (λ j. (z *ℤ pos j) *ℤ power_of x (e - k)) q ∙ mul_assoc z (pos (binomial e k)) (power_of x (e - k))

@@ -1,5 +1,6 @@
--- A term pair by pair, and a polynomial term by term, by what is left.
-use Rattle.std.proofs.Common.{◌≡◌, ℕ, ◌+◌, ◌-◌, ◌*◌, ◌^◌, ◌<◌, ◌≤◌, zero, suc, refl, sym, ◌∙◌, ap, arith, List, [], ◌∷◌, length, get_or, drop, drop-cons, unsigned_abs, true}
+-- A term pair by pair, and a polynomial term by term, by the remaining ones.
+use Rattle.std.proofs.Common.{◌≡◌, ℕ, ◌+◌, ◌-◌, ◌*◌, ◌^◌, ◌<◌, ◌≤◌, zero, suc, refl, sym, ◌∙◌, ap, arith, List, [], ◌∷◌, length, get_or}
+use Rattle.std.proofs.Common.{drop, drop-cons, unsigned_abs, true}
 use Rattle.std.proofs.Math.IntN.{ℤ, pos, ◌+ℤ◌, ◌*ℤ◌}
 use Rattle.std.proofs.Math.Nat.{mul-le-mul, mul-le-mul_left, mul-le-mul_right, pow-le-pow_left, pow-suc, pow-zero}
 use Rattle.std.proofs.lemmas.Int.{ints, unsigned_abs-mul}
@@ -60,7 +61,8 @@ pair-above n [] i h l = absurd (omega arith)
 pair-above n (p ∷ ps) zero h l = h.0
 pair-above n (p ∷ ps) (suc i) h l = pair-above n ps i h.1 (omega (arith, l))
 
-module _ (vars : List VarInfo) (zs : List ℤ) (a ps : Pairs) (c y : ℤ) (i : ℕ) (there : i < length ps) (row : AreWithin vars zs) (above : IsAbove ps (length vars)) (r : IsProduct vars (values zs) a ps c y i) where
+module _ (vars : List VarInfo) (zs : List ℤ) (a ps : Pairs) (c y : ℤ) (i : ℕ) (there : i < length ps) (row : AreWithin vars zs)
+    (above : IsAbove ps (length vars)) (r : IsProduct vars (values zs) a ps c y i) where
   here : ℕ × ℕ
   here = get_or ps i (0, 0)
 
@@ -70,7 +72,8 @@ module _ (vars : List VarInfo) (zs : List ℤ) (a ps : Pairs) (c y : ℤ) (i : �
   behind : drop i ps ≡ get_or ps i (0, 0) ∷ drop (i + 1) ps
   behind = drop-cons ps i (0, 0) there ∙ ap (λ j. get_or ps i (0, 0) ∷ drop j ps) (let e : suc i ≡ i + 1 = omega arith in e)
 
-  heavy : unsigned_abs y * (weights vars (get_or ps i (0, 0)).0 ^ (get_or ps i (0, 0)).1 * pairs_weight (weights vars) (drop (i + 1) ps)) ≤ unsigned_abs c * pairs_weight (weights vars) ps
+  heavy : unsigned_abs y * (weights vars (get_or ps i (0, 0)).0 ^ (get_or ps i (0, 0)).1 * pairs_weight (weights vars) (drop (i + 1) ps))
+      ≤ unsigned_abs c * pairs_weight (weights vars) ps
   heavy = rw behind at r.room
 
   sized : size (values zs (get_or ps i (0, 0)).0) + 1 ≤ weights vars (get_or ps i (0, 0)).0
@@ -83,23 +86,27 @@ module _ (vars : List VarInfo) (zs : List ℤ) (a ps : Pairs) (c y : ℤ) (i : �
   times-le k zero h = absurd (omega arith)
   times-le k (suc j) h = omega arith
 
-  pub product-room : unsigned_abs c * pairs_weight (weights vars) ps ≤ most → unsigned_abs y * (size (values zs (get_or ps i (0, 0)).0) + 1) ^ (get_or ps i (0, 0)).1 ≤ most
+  pub product-room : unsigned_abs c * pairs_weight (weights vars) ps ≤ most
+      → unsigned_abs y * (size (values zs (get_or ps i (0, 0)).0) + 1) ^ (get_or ps i (0, 0)).1 ≤ most
   product-room h =
       let w : ℕ = weights vars (get_or ps i (0, 0)).0 in
       let e : ℕ = (get_or ps i (0, 0)).1 in
       let W : ℕ = pairs_weight (weights vars) (drop (i + 1) ps) in
       let p : (size (values zs (get_or ps i (0, 0)).0) + 1) ^ e ≤ w ^ e = pow-le-pow_left sized e in
       let q : w ^ e ≤ w ^ e * W = times-le (w ^ e) W rest-some in
-      let s : unsigned_abs y * (size (values zs (get_or ps i (0, 0)).0) + 1) ^ e ≤ unsigned_abs y * (w ^ e * W) = mul-le-mul_left (unsigned_abs y) (let t : (size (values zs (get_or ps i (0, 0)).0) + 1) ^ e ≤ w ^ e * W = omega (arith, p, q) in t) in
+      let s : unsigned_abs y * (size (values zs (get_or ps i (0, 0)).0) + 1) ^ e ≤ unsigned_abs y * (w ^ e * W) =
+      mul-le-mul_left (unsigned_abs y) (let t : (size (values zs (get_or ps i (0, 0)).0) + 1) ^ e ≤ w ^ e * W = omega (arith, p, q) in t) in
       omega (arith, s, heavy, h)
 
-  pub product-on : (z : ℤ) → exponent (get_or ps i (0, 0)).0 a ≤ (get_or ps i (0, 0)).1 → z ≡ y *ℤ part (values zs) a (get_or ps i (0, 0)) → IsProduct vars (values zs) a ps c z (i + 1)
+  pub product-on : (z : ℤ) → exponent (get_or ps i (0, 0)).0 a ≤ (get_or ps i (0, 0)).1 → z ≡ y *ℤ part (values zs) a (get_or ps i (0, 0))
+      → IsProduct vars (values zs) a ps c z (i + 1)
   product-on z k q =
       let w : ℕ = weights vars (get_or ps i (0, 0)).0 in
       let e : ℕ = (get_or ps i (0, 0)).1 in
       let W : ℕ = pairs_weight (weights vars) (drop (i + 1) ps) in
       let P : ℤ = part (values zs) a (get_or ps i (0, 0)) in
-      let v : z *ℤ parts (values zs) a (drop (i + 1) ps) ≡ y *ℤ parts (values zs) a (drop i ps) = ap (λ j. j *ℤ parts (values zs) a (drop (i + 1) ps)) q ∙ mul_assoc y P (parts (values zs) a (drop (i + 1) ps)) ∙ ap (λ j. y *ℤ parts (values zs) a j) (sym behind) in
+      let v : z *ℤ parts (values zs) a (drop (i + 1) ps) ≡ y *ℤ parts (values zs) a (drop i ps) = ap (λ j. j *ℤ parts (values zs) a (drop (i + 1) ps)) q
+      ∙ mul_assoc y P (parts (values zs) a (drop (i + 1) ps)) ∙ ap (λ j. y *ℤ parts (values zs) a j) (sym behind) in
       let s : unsigned_abs P ≤ w ^ e = part-abs (values zs (get_or ps i (0, 0)).0) w e (exponent (get_or ps i (0, 0)).0 a) k sized in
       let t : unsigned_abs y * unsigned_abs P ≤ unsigned_abs y * w ^ e = mul-le-mul_left (unsigned_abs y) s in
       let u : (unsigned_abs y * unsigned_abs P) * W ≤ (unsigned_abs y * w ^ e) * W = mul-le-mul_right W t in
@@ -109,7 +116,8 @@ module _ (vars : List VarInfo) (zs : List ℤ) (a ps : Pairs) (c y : ℤ) (i : �
 pub product-begin : (vars : List VarInfo) (x : ℕ → ℤ) (a ps : Pairs) (c : ℤ) → IsProduct vars x a ps c c 0
 product-begin vars x a ps c = record { value = refl; room = omega arith }
 
-pub product-end : (vars : List VarInfo) (x : ℕ → ℤ) (a ps : Pairs) (c y : ℤ) (i : ℕ) → length ps ≤ i → IsProduct vars x a ps c y i → (y ≡ c *ℤ parts x a ps) × (unsigned_abs y ≤ unsigned_abs c * pairs_weight (weights vars) ps)
+pub product-end : (vars : List VarInfo) (x : ℕ → ℤ) (a ps : Pairs) (c y : ℤ) (i : ℕ) → length ps ≤ i → IsProduct vars x a ps c y i
+    → (y ≡ c *ℤ parts x a ps) × (unsigned_abs y ≤ unsigned_abs c * pairs_weight (weights vars) ps)
 product-end vars x a ps c y i h r =
     let e : drop i ps ≡ [] = drop_all i ps h in
     let v : y *ℤ pos 1 ≡ c *ℤ parts x a ps = rw e at r.value in
@@ -117,7 +125,8 @@ product-end vars x a ps c y i h r =
     (sym (mul_one y) ∙ v, omega (arith, s))
 
 -- no exponent of a pair is below what is taken off
-pub pair-within : (n : ℕ) (ps m a : Pairs) (i : ℕ) → ps ≡ m → IsRising ps → IsAbove ps n → i < length ps → covers (vector n m) (vector n a) ≡ true → exponent (get_or ps i (0, 0)).0 a ≤ (get_or ps i (0, 0)).1
+pub pair-within : (n : ℕ) (ps m a : Pairs) (i : ℕ) → ps ≡ m → IsRising ps → IsAbove ps n → i < length ps
+    → covers (vector n m) (vector n a) ≡ true → exponent (get_or ps i (0, 0)).0 a ≤ (get_or ps i (0, 0)).1
 pair-within n ps m a i e r b h c =
     let v : ℕ = (get_or ps i (0, 0)).0 in
     omega (arith, covered-at 0 n v m a (omega arith) (omega (arith, pair-above n ps i b h)) c, ap (exponent v) e, found v ps i r h refl)
@@ -125,7 +134,8 @@ pair-within n ps m a i e r b h c =
 -- ---- a polynomial
 -- a sum and the value of the terms from number i on
 pub record IsSummed (vars : List VarInfo) (x : ℕ → ℤ) (a : Pairs) (f : Sparse) (sum : ℤ) (i : ℕ) : Type 0 where
-  pub value : sum +ℤ value x (derived (vector (length vars) a) (terms_of (length vars) (drop i f))) ≡ value x (derived (vector (length vars) a) (terms_of (length vars) f))
+  pub value : sum +ℤ value x (derived (vector (length vars) a) (terms_of (length vars) (drop i f)))
+      ≡ value x (derived (vector (length vars) a) (terms_of (length vars) f))
   pub room : unsigned_abs sum + total_weight (weights vars) (drop i f) ≤ most
 
 pub summed-begin : (vars : List VarInfo) (x : ℕ → ℤ) (a : Pairs) (f : Sparse) → total_weight (weights vars) f ≤ most → IsSummed vars x a f (pos 0) 0
@@ -135,28 +145,36 @@ total-cons : (w : ℕ → ℕ) (t : Pairs × ℤ) (f : Sparse) → total_weight 
 unfolding total_weight
 total-cons w t f = sum_by-cons (term_weight w) t f
 
-pub total-at : (w : ℕ → ℕ) (f : Sparse) (i : ℕ) (t : Pairs × ℤ) → i < length f → t ≡ get_or f i t → total_weight w (drop i f) ≡ term_weight w t + total_weight w (drop (i + 1) f)
+pub total-at : (w : ℕ → ℕ) (f : Sparse) (i : ℕ) (t : Pairs × ℤ) → i < length f → t ≡ get_or f i t
+    → total_weight w (drop i f) ≡ term_weight w t + total_weight w (drop (i + 1) f)
 total-at w f i t h e =
     ap (total_weight w) (drop-cons f i t h) ∙ total-cons w (get_or f i t) (drop (suc i) f)
-    ∙ ap (λ z. term_weight w z + total_weight w (drop (suc i) f)) (sym e) ∙ ap (λ j. term_weight w t + total_weight w (drop j f)) (let q : suc i ≡ i + 1 = omega arith in q)
+    ∙ ap (λ z. term_weight w z + total_weight w (drop (suc i) f)) (sym e)
+    ∙ ap (λ j. term_weight w t + total_weight w (drop j f)) (let q : suc i ≡ i + 1 = omega arith in q)
 
 -- each term is light
-pub term-light : (w : ℕ → ℕ) (f : Sparse) (i : ℕ) (t : Pairs × ℤ) (s : ℕ) → i < length f → t ≡ get_or f i t → s + total_weight w (drop i f) ≤ most → term_weight w t ≤ most
+pub term-light : (w : ℕ → ℕ) (f : Sparse) (i : ℕ) (t : Pairs × ℤ) (s : ℕ) → i < length f → t ≡ get_or f i t
+    → s + total_weight w (drop i f) ≤ most → term_weight w t ≤ most
 term-light w f i t s h e l = omega (arith, total-at w f i t h e, l)
 
-module _ (vars : List VarInfo) (x : ℕ → ℤ) (a : Pairs) (f : Sparse) (sum : ℤ) (i : ℕ) (t : Pairs × ℤ) (there : i < length f) (is : t ≡ get_or f i t) (r : IsSummed vars x a f sum i) where
+module _ (vars : List VarInfo) (x : ℕ → ℤ) (a : Pairs) (f : Sparse) (sum : ℤ) (i : ℕ) (t : Pairs × ℤ) (there : i < length f)
+    (is : t ≡ get_or f i t) (r : IsSummed vars x a f sum i) where
   pub sum-fits : (z : ℤ) → unsigned_abs z ≤ term_weight (weights vars) t → unsigned_abs (sum +ℤ z) ≤ most
   sum-fits z h = omega (arith, ints, h, total-at (weights vars) f i t there is, r.room)
 
-  pub summed-on : (z : ℤ) → IsRising t.0 → IsAbove t.0 (length vars) → z ≡ term_value (length vars) x a t → unsigned_abs z ≤ term_weight (weights vars) t → IsSummed vars x a f (sum +ℤ z) (i + 1)
+  pub summed-on : (z : ℤ) → IsRising t.0 → IsAbove t.0 (length vars) → z ≡ term_value (length vars) x a t
+      → unsigned_abs z ≤ term_weight (weights vars) t → IsSummed vars x a f (sum +ℤ z) (i + 1)
   summed-on z rising above q h =
       let n : ℕ = length vars in
       let A : List ℕ = vector n a in
-      let e : drop i f ≡ t ∷ drop (i + 1) f = drop-cons f i t there ∙ ap (λ y. y ∷ drop (suc i) f) (sym is) ∙ ap (λ j. t ∷ drop j f) (let q : suc i ≡ i + 1 = omega arith in q) in
-      let s : value x (derived A (terms_of n (drop i f))) ≡ term_value n x a t +ℤ value x (derived A (terms_of n (drop (i + 1) f))) = ap (λ g. value x (derived A (terms_of n g))) e ∙ term-adds n x a t (terms_of n (drop (i + 1) f)) rising above in
+      let e : drop i f ≡ t ∷ drop (i + 1) f =
+      drop-cons f i t there ∙ ap (λ y. y ∷ drop (suc i) f) (sym is) ∙ ap (λ j. t ∷ drop j f) (let q : suc i ≡ i + 1 = omega arith in q) in
+      let s : value x (derived A (terms_of n (drop i f))) ≡ term_value n x a t +ℤ value x (derived A (terms_of n (drop (i + 1) f))) =
+      ap (λ g. value x (derived A (terms_of n g))) e ∙ term-adds n x a t (terms_of n (drop (i + 1) f)) rising above in
       record { value = omega (arith, ints, r.value, s, q); room = omega (arith, ints, h, total-at (weights vars) f i t there is, r.room) }
 
-pub summed-end : (vars : List VarInfo) (x : ℕ → ℤ) (a : Pairs) (f : Sparse) (sum : ℤ) (i : ℕ) → length f ≤ i → IsSummed vars x a f sum i → sum ≡ value x (derived (vector (length vars) a) (terms_of (length vars) f))
+pub summed-end : (vars : List VarInfo) (x : ℕ → ℤ) (a : Pairs) (f : Sparse) (sum : ℤ) (i : ℕ) → length f ≤ i → IsSummed vars x a f sum i
+    → sum ≡ value x (derived (vector (length vars) a) (terms_of (length vars) f))
 summed-end vars x a f sum i h r =
     let e : drop i f ≡ [] = drop_all i f h in
     let v : sum +ℤ pos 0 ≡ value x (derived (vector (length vars) a) (terms_of (length vars) f)) = rw e at r.value in

@@ -1,5 +1,6 @@
 -- Where the size of a closed tree is within the limit, it has a normal polynomial.
-use Rattle.std.proofs.Common.{◌≡◌, ◌⊎◌, inl, inr, ℕ, ◌*◌, ◌<◌, ◌≤◌, ◌^◌, zero, suc, refl, sym, ◌∙◌, ap, subst, arith, true, Bool, false, if◌then◌else◌, List, [], ◌∷◌, length, map, unsigned_abs}
+use Rattle.std.proofs.Common.{◌≡◌, ◌⊎◌, inl, inr, ℕ, ◌*◌, ◌<◌, ◌≤◌, ◌^◌, zero, suc, refl, sym, ◌∙◌, ap, subst, arith, true, Bool, false}
+use Rattle.std.proofs.Common.{if◌then◌else◌, List, [], ◌∷◌, length, map, unsigned_abs}
 use Rattle.std.proofs.lemmas.Int.{ints}
 use Rattle.std.proofs.lemmas.List.Elements.{All-cons, All-nil}
 use Rattle.std.proofs.Math.IntN.{ℤ, pos}
@@ -48,7 +49,8 @@ above-zero z n = by_case (unsigned_abs z) refl where
 power-some : (a b : ℕ) → 2 ^ a ≤ b → 0 < b
 power-some a b h = omega (arith, h, pow-some 2 a (omega arith))
 
-term-exists : (n : ℕ) (t : Term) → length t.exponents ≡ n → (t.factor ≡ pos 0 → ⊥) → unsigned_abs t.factor * monomial_weight two t.exponents ≤ most → HasTerm n t
+term-exists : (n : ℕ) (t : Term) → length t.exponents ≡ n → (t.factor ≡ pos 0 → ⊥)
+    → unsigned_abs t.factor * monomial_weight two t.exponents ≤ most → HasTerm n t
 term-exists n t e z l =
     let m = t.exponents in
     let w = monomial_weight two m in
@@ -73,11 +75,13 @@ record HasPoly (n : ℕ) (g : List Term) : Type 0 where
   size : size_of poly ≤ weighted_sum two g
   coefficients : (m : List ℕ) → coefficient_at n poly m ≡ factor_at g m
 
-part-is : (n : ℕ) (ps : Pairs) (t : Term) (m : List ℕ) → vector n ps ≡ t.exponents → part_at n (ps, t.factor) m ≡ (if same_vector t.exponents m then t.factor else pos 0)
+part-is : (n : ℕ) (ps : Pairs) (t : Term) (m : List ℕ) → vector n ps ≡ t.exponents
+    → part_at n (ps, t.factor) m ≡ (if same_vector t.exponents m then t.factor else pos 0)
 unfolding part_at
 part-is n ps t m e = ap (λ (u : List ℕ). if same_vector u m then t.factor else pos 0) e
 
-one-coefficient : (n : ℕ) (ps : Pairs) (t : Term) (m : List ℕ) → vector n ps ≡ t.exponents → coefficient_at n ((ps, t.factor) ∷ []) m ≡ (if same_vector t.exponents m then t.factor else pos 0)
+one-coefficient : (n : ℕ) (ps : Pairs) (t : Term) (m : List ℕ) → vector n ps ≡ t.exponents
+    → coefficient_at n ((ps, t.factor) ∷ []) m ≡ (if same_vector t.exponents m then t.factor else pos 0)
 one-coefficient n ps t m e = omega (arith, ints, coefficient_at-cons n m (ps, t.factor) [], coefficient_at-nil n m, part-is n ps t m e)
 
 -- one term more
@@ -126,8 +130,9 @@ tree-normal n e l =
     let h : HasPoly n (expanded n e) = poly-exists n (expanded n e) (Over-expanded n e) (omega (arith, weighted-expanded two n e l.inputs, l.light)) in
     (h.poly, normal-of n e h.poly h.form h.below (λ m k. h.coefficients m ∙ sym (normal_is n e l.inputs m k)))
 
--- so has the root of a predicate where no range and no size of a node passes the limit
-pub root-normal : (vars : List VarInfo) (k : ℕ) (lets : List Formula) (root : Formula) → lets_fit (length vars) 0 (map (tree vars) lets) ≡ true → is_fit (length vars) k (tree vars root) ≡ true → HaveWeights (loaded_pred vars lets root) → HasNormal (length vars) (closed_root vars lets root)
+-- so has the root of a predicate where no range and no size of a node exceeds the limit
+pub root-normal : (vars : List VarInfo) (k : ℕ) (lets : List Formula) (root : Formula) → lets_fit (length vars) 0 (map (tree vars) lets) ≡ true
+    → is_fit (length vars) k (tree vars root) ≡ true → HaveWeights (loaded_pred vars lets root) → HasNormal (length vars) (closed_root vars lets root)
 root-normal vars k lets root g h l =
     let r = light-pred vars k lets root g h l in
     tree-normal (length vars) (closed_root vars lets root) (root-light (length vars) two (closed_lets vars lets) (tree vars root) r.1)

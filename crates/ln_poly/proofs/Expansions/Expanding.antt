@@ -27,34 +27,56 @@ pub few-both : (n : ℕ) (xs ys : Nodes) → HaveFewTerms n xs → HaveFewTerms 
 few-both n [] ys h g = g
 few-both n (x ∷ xs) ys h g = (h.0, few-both n xs ys h.1 g)
 
--- the first that has too many stays the first where more stand behind
+-- the first that has too many stays the first where more follow
 pub stop-before : (n : ℕ) (xs ys : Nodes) (s : PolyStop) → StopsExpanding n xs s → StopsExpanding n (xs ++ ys) s
-stop-before n xs ys (Terms at) f = record { before = f.before; node = f.node; after = f.after ++ ys; stands = ap (λ (zs : Nodes). zs ++ ys) f.stands ∙ append_assoc f.before ((at, f.node) ∷ f.after) ys; few = f.few; many = f.many }
+stop-before n xs ys (Terms at) f = record {
+  before = f.before;
+  node = f.node;
+  after = f.after ++ ys;
+  stands = ap (λ (zs : Nodes). zs ++ ys) f.stands ∙ append_assoc f.before ((at, f.node) ∷ f.after) ys;
+  few = f.few;
+  many = f.many;
+}
 stop-before n xs ys NoMemory f = tt
 
--- it is the first behind those that have few
+-- it is the first after those that have few
 pub stop-behind : (n : ℕ) (xs ys : Nodes) (s : PolyStop) → HaveFewTerms n xs → StopsExpanding n ys s → StopsExpanding n (xs ++ ys) s
-stop-behind n xs ys (Terms at) l f = record { before = xs ++ f.before; node = f.node; after = f.after; stands = ap (λ (zs : Nodes). xs ++ zs) f.stands ∙ sym (append_assoc xs f.before ((at, f.node) ∷ f.after)); few = few-both n xs f.before l f.few; many = f.many }
+stop-behind n xs ys (Terms at) l f = record {
+  before = xs ++ f.before;
+  node = f.node;
+  after = f.after;
+  stands = ap (λ (zs : Nodes). xs ++ zs) f.stands ∙ sym (append_assoc xs f.before ((at, f.node) ∷ f.after));
+  few = few-both n xs f.before l f.few;
+  many = f.many;
+}
 stop-behind n xs ys NoMemory l f = tt
 
 -- ---- nodes
--- behind one operand
+-- after one operand
 pub one-expands : (n : ℕ) (xs ys : Nodes) (d c : Tree) (f h : Sparse) → Expands n xs d f → Expands n ys c h → Expands n (xs ++ ys) c h
 one-expands n xs ys d c f h p q = record { normal = q.normal; terms = q.terms; few = few-both n xs ys p.few q.few }
 
--- behind two
-pub two-expand : (n : ℕ) (xs ys zs : Nodes) (d e c : Tree) (f g h : Sparse) → Expands n xs d f → Expands n ys e g → Expands n zs c h → Expands n (xs ++ ys ++ zs) c h
+-- after two
+pub two-expand : (n : ℕ) (xs ys zs : Nodes) (d e c : Tree) (f g h : Sparse) → Expands n xs d f → Expands n ys e g → Expands n zs c h
+    → Expands n (xs ++ ys ++ zs) c h
 two-expand n xs ys zs d e c f g h p q r = record { normal = r.normal; terms = r.terms; few = few-both n (xs ++ ys) zs (few-both n xs ys p.few q.few) r.few }
 
 -- ---- powers
-pub powers-more : (n : ℕ) (at : Span) (e : Tree) (k : ℕ) (p h : Sparse) → Expands n (powers at e k) (Pow e k) p → Expands n ((at, Mul (Pow e k) e) ∷ []) (Mul (Pow e k) e) h → Expands n (powers at e (suc k)) (Pow e (suc k)) h
-powers-more n at e k p h a b = record { normal = power-more n e k h b.normal; terms = b.terms; few = few-both n (powers at e k) ((at, Pow e (suc k)) ∷ []) a.few (λ m. b.few.0 (power-many-back n e k m), tt) }
+pub powers-more : (n : ℕ) (at : Span) (e : Tree) (k : ℕ) (p h : Sparse) → Expands n (powers at e k) (Pow e k) p
+    → Expands n ((at, Mul (Pow e k) e) ∷ []) (Mul (Pow e k) e) h → Expands n (powers at e (suc k)) (Pow e (suc k)) h
+powers-more n at e k p h a b = record {
+  normal = power-more n e k h b.normal;
+  terms = b.terms;
+  few = few-both n (powers at e k) ((at, Pow e (suc k)) ∷ []) a.few (λ m. b.few.0 (power-many-back n e k m), tt);
+}
 
 -- the stop at a product that is the next power
-stop-power : (n : ℕ) (at : Span) (e : Tree) (k : ℕ) (s : PolyStop) → StopsExpanding n ((at, Mul (Pow e k) e) ∷ []) s → StopsExpanding n ((at, Pow e (suc k)) ∷ []) s
+stop-power : (n : ℕ) (at : Span) (e : Tree) (k : ℕ) (s : PolyStop) → StopsExpanding n ((at, Mul (Pow e k) e) ∷ []) s
+    → StopsExpanding n ((at, Pow e (suc k)) ∷ []) s
 stop-power n at e k NoMemory f = tt
 stop-power n at e k (Terms t) f = by_before f.before f.stands f.few where
-  by_before : (before : Nodes) → (at, Mul (Pow e k) e) ∷ [] ≡ before ++ (t, f.node) ∷ f.after → HaveFewTerms n before → IsTermsFault n ((at, Pow e (suc k)) ∷ []) t
+  by_before : (before : Nodes) → (at, Mul (Pow e k) e) ∷ [] ≡ before ++ (t, f.node) ∷ f.after → HaveFewTerms n before
+      → IsTermsFault n ((at, Pow e (suc k)) ∷ []) t
   by_before [] q l =
       let h : (at, Mul (Pow e k) e) ≡ (t, f.node) = cc in
       let a : at ≡ t = ap (λ (z : Span × Tree). z.0) h in
@@ -68,7 +90,7 @@ stop-power n at e k (Terms t) f = by_before f.before f.stands f.few where
     none [] y zs w = cc
     none (u ∷ ys) y zs w = cc
 
--- more powers stand behind
+-- more powers follow
 pub powers-behind : (n : ℕ) (at : Span) (e : Tree) (j k : ℕ) (s : PolyStop) → j ≤ k → StopsExpanding n (powers at e j) s → StopsExpanding n (powers at e k) s
 powers-behind n at e j zero s l f = let q : j ≡ 0 = omega arith in subst (λ z. StopsExpanding n (powers at e z) s) q f
 powers-behind n at e j (suc k) s l f = by_case (powers-behind n at e j k s) (cases_lt k j) where
@@ -76,14 +98,16 @@ powers-behind n at e j (suc k) s l f = by_case (powers-behind n at e j k s) (cas
   by_case ih (inl h) = let q : j ≡ suc k = omega arith in subst (λ z. StopsExpanding n (powers at e z) s) q f
   by_case ih (inr h) = stop-before n (powers at e k) ((at, Pow e (suc k)) ∷ []) s (ih h f)
 
-pub powers-stop : (n : ℕ) (at : Span) (e : Tree) (j k : ℕ) (p : Sparse) (s : PolyStop) → j < k → Expands n (powers at e j) (Pow e j) p → StopsExpanding n ((at, Mul (Pow e j) e) ∷ []) s → StopsExpanding n (powers at e k) s
+pub powers-stop : (n : ℕ) (at : Span) (e : Tree) (j k : ℕ) (p : Sparse) (s : PolyStop) → j < k → Expands n (powers at e j) (Pow e j) p
+    → StopsExpanding n ((at, Mul (Pow e j) e) ∷ []) s → StopsExpanding n (powers at e k) s
 powers-stop n at e j k p s l a f =
     powers-behind n at e (suc j) k s (omega arith) (stop-behind n (powers at e j) ((at, Pow e (suc j)) ∷ []) s a.few (stop-power n at e j s f))
 
 -- the loop begins with the number 1
 pub power-begin : (n : ℕ) (e : Tree) (f : Sparse) → f ≡ ([], pos 1) ∷ [] → Expands n [] (Pow e 0) f
 power-begin n e f h =
-    let q : IsNormal n (Pow e 0) (([], pos 1) ∷ []) = power-none n e (([], pos 1) ∷ []) (number-some n (pos 1) (one-term [] (pos 1) tt (λ z. cc) (omega arith))) in
+    let q : IsNormal n (Pow e 0) (([], pos 1) ∷ []) =
+    power-none n e (([], pos 1) ∷ []) (number-some n (pos 1) (one-term [] (pos 1) tt (λ z. cc) (omega arith))) in
     record { normal = subst (IsNormal n (Pow e 0)) (sym h) q; terms = rw h (omega arith); few = tt }
 
 next-light : (b j k : ℕ) → j < k → b ^ k ≤ most → b ^ j * b ≤ most

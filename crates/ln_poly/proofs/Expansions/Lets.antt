@@ -1,5 +1,6 @@
 -- The lets of a predicate, expanded one after the other, and what is known of the root.
-use Rattle.std.proofs.Common.{◌≡◌, ℕ, ◌+◌, ◌*◌, ◌^◌, ◌<◌, ◌≤◌, true, zero, suc, refl, sym, ◌∙◌, ap, arith, subst, All, List, [], ◌∷◌, ◌++◌, length, map, drop, take, get_or, append_assoc, append-nil, unsigned_abs}
+use Rattle.std.proofs.Common.{◌≡◌, ℕ, ◌+◌, ◌*◌, ◌^◌, ◌<◌, ◌≤◌, true, zero, suc, refl, sym, ◌∙◌, ap, arith, subst, All, List, [], ◌∷◌, ◌++◌}
+use Rattle.std.proofs.Common.{length, map, drop, take, get_or, append_assoc, append-nil, unsigned_abs}
 use Rattle.std.proofs.Math.IntN.{ℤ}
 use Rattle.std.proofs.Math.Nat.{pow-zero}
 use Rattle.std.proofs.lemmas.Bool.{and_parts}
@@ -41,14 +42,15 @@ closed-after : (done ts : List Tree) (t : Tree) → inlined_after done (ts ++ t 
 closed-after done [] t = refl
 closed-after done (u ∷ ts) t = closed-after (done ++ inlined done u ∷ []) ts t
 
-closed-more : (vars : List VarInfo) (fs : List Formula) (f : Formula) → closed_lets vars (fs ++ f ∷ []) ≡ closed_lets vars fs ++ inlined (closed_lets vars fs) (tree vars f) ∷ []
+closed-more : (vars : List VarInfo) (fs : List Formula) (f : Formula)
+    → closed_lets vars (fs ++ f ∷ []) ≡ closed_lets vars fs ++ inlined (closed_lets vars fs) (tree vars f) ∷ []
 closed-more vars fs f = ap (inlined_after []) (map-append (tree vars) fs (f ∷ [])) ∙ closed-after [] (map (tree vars) fs) (tree vars f)
 
 length-more : (fs : List Sparse) (f : Sparse) → length (fs ++ f ∷ []) ≡ suc (length fs)
 length-more [] f = refl
 length-more (g ∷ fs) f = ap suc (length-more fs f)
 
--- some lets are expanded, the rest stand behind
+-- some lets are expanded, the rest follow
 pub record LetsExpanded (vars : List VarInfo) (whole front rest : List Formula) (polys : List Sparse) : Type 0 where
   pub normal : AreNormal (length vars) (closed_lets vars front) polys
   pub nodes : Nodes
@@ -57,19 +59,27 @@ pub record LetsExpanded (vars : List VarInfo) (whole front rest : List Formula) 
   pub fit : lets_fit (length vars) (length polys) (map (tree vars) rest) ≡ true
   pub light : LetsAreLight (length vars) two (closed_lets vars front) (map (tree vars) rest)
 
-pub lets-begin : (vars : List VarInfo) (whole : List Formula) (polys : List Sparse) → polys ≡ [] → lets_fit (length vars) 0 (map (tree vars) whole) ≡ true → LetsAreLight (length vars) two [] (map (tree vars) whole) → LetsExpanded vars whole [] whole polys
-lets-begin vars whole polys e f l = subst (LetsExpanded vars whole [] whole) (sym e) (record { normal = tt; nodes = []; stands = refl; few = tt; fit = f; light = l })
+pub lets-begin : (vars : List VarInfo) (whole : List Formula) (polys : List Sparse) → polys ≡ [] → lets_fit (length vars) 0 (map (tree vars) whole) ≡ true
+    → LetsAreLight (length vars) two [] (map (tree vars) whole) → LetsExpanded vars whole [] whole polys
+lets-begin vars whole polys e f l =
+    subst (LetsExpanded vars whole [] whole) (sym e) (record { normal = tt; nodes = []; stands = refl; few = tt; fit = f; light = l })
 
-pub lets-next : (vars : List VarInfo) (whole front rest : List Formula) (f : Formula) (polys : List Sparse) (p : Sparse) → LetsExpanded vars whole front (f ∷ rest) polys → Expands (length vars) (expanded vars (closed_lets vars front) f) (inlined (closed_lets vars front) (tree vars f)) p
+pub lets-next : (vars : List VarInfo) (whole front rest : List Formula) (f : Formula) (polys : List Sparse) (p : Sparse)
+    → LetsExpanded vars whole front (f ∷ rest) polys
+    → Expands (length vars) (expanded vars (closed_lets vars front) f) (inlined (closed_lets vars front) (tree vars f)) p
     → LetsExpanded vars whole (front ++ f ∷ []) rest (polys ++ p ∷ [])
 lets-next vars whole front rest f polys p a h =
     let e : closed_lets vars (front ++ f ∷ []) ≡ closed_lets vars front ++ inlined (closed_lets vars front) (tree vars f) ∷ [] = closed-more vars front f in
     record {
-      normal = subst (λ ts. AreNormal (length vars) ts (polys ++ p ∷ [])) (sym e) (lets-more (length vars) (closed_lets vars front) polys (inlined (closed_lets vars front) (tree vars f)) p a.normal h.normal);
+      normal = subst (λ ts. AreNormal (length vars) ts (polys ++ p ∷ [])) (sym e)
+          (lets-more (length vars) (closed_lets vars front) polys (inlined (closed_lets vars front) (tree vars f)) p a.normal h.normal);
       nodes = a.nodes ++ expanded vars (closed_lets vars front) f;
-      stands = a.stands ∙ sym (append_assoc a.nodes (expanded vars (closed_lets vars front) f) (expanded_lets vars (closed_lets vars front ++ inlined (closed_lets vars front) (tree vars f) ∷ []) rest)) ∙ ap (λ ts. a.nodes ++ expanded vars (closed_lets vars front) f ++ expanded_lets vars ts rest) (sym e);
+      stands = a.stands ∙ sym (append_assoc a.nodes (expanded vars (closed_lets vars front) f)
+          (expanded_lets vars (closed_lets vars front ++ inlined (closed_lets vars front) (tree vars f) ∷ []) rest))
+          ∙ ap (λ ts. a.nodes ++ expanded vars (closed_lets vars front) f ++ expanded_lets vars ts rest) (sym e);
       few = few-both (length vars) a.nodes (expanded vars (closed_lets vars front) f) a.few h.few;
-      fit = subst (λ k. lets_fit (length vars) k (map (tree vars) rest) ≡ true) (sym (length-more polys p)) (and_parts (is_fit (length vars) (length polys) (tree vars f)) _ a.fit).1;
+      fit = subst (λ k. lets_fit (length vars) k (map (tree vars) rest) ≡ true) (sym (length-more polys p))
+          (and_parts (is_fit (length vars) (length polys) (tree vars f)) _ a.fit).1;
       light = subst (λ ts. LetsAreLight (length vars) two ts (map (tree vars) rest)) (sym e) a.light.1;
     }
 
@@ -77,42 +87,54 @@ lets-next vars whole front rest f polys p a h =
 abbrev pub LetsTo : List VarInfo → List Expr → ℕ → List Sparse → Type 0
 LetsTo vars lets j polys = LetsExpanded vars (map formula lets) (map formula (take j lets)) (map formula (drop j lets)) polys
 
-pub rest-is : (lets : List Expr) (j : ℕ) (e : Expr) → j < length lets → e ≡ get_or lets j e → map formula (drop j lets) ≡ formula e ∷ map formula (drop (j + 1) lets)
+pub rest-is : (lets : List Expr) (j : ℕ) (e : Expr) → j < length lets → e ≡ get_or lets j e
+    → map formula (drop j lets) ≡ formula e ∷ map formula (drop (j + 1) lets)
 rest-is lets j e l h = ap (map formula) (drop_more lets j e l) ∙ ap (λ f. formula f ∷ map formula (drop (j + 1) lets)) (sym h)
 
-front-is : (lets : List Expr) (j : ℕ) (e : Expr) → j < length lets → e ≡ get_or lets j e → map formula (take (j + 1) lets) ≡ map formula (take j lets) ++ formula e ∷ []
-front-is lets j e l h = ap (map formula) (take_more lets j e l) ∙ map-append formula (take j lets) (get_or lets j e ∷ []) ∙ ap (λ f. map formula (take j lets) ++ formula f ∷ []) (sym h)
+front-is : (lets : List Expr) (j : ℕ) (e : Expr) → j < length lets → e ≡ get_or lets j e
+    → map formula (take (j + 1) lets) ≡ map formula (take j lets) ++ formula e ∷ []
+front-is lets j e l h = ap (map formula) (take_more lets j e l) ∙ map-append formula (take j lets) (get_or lets j e ∷ [])
+    ∙ ap (λ f. map formula (take j lets) ++ formula f ∷ []) (sym h)
 
 -- at a place one let comes next
-pub lets-at : (vars : List VarInfo) (lets : List Expr) (j : ℕ) (e : Expr) (polys : List Sparse) → j < length lets → e ≡ get_or lets j e → LetsTo vars lets j polys → LetsExpanded vars (map formula lets) (map formula (take j lets)) (formula e ∷ map formula (drop (j + 1) lets)) polys
+pub lets-at : (vars : List VarInfo) (lets : List Expr) (j : ℕ) (e : Expr) (polys : List Sparse) → j < length lets → e ≡ get_or lets j e
+    → LetsTo vars lets j polys → LetsExpanded vars (map formula lets) (map formula (take j lets)) (formula e ∷ map formula (drop (j + 1) lets)) polys
 lets-at vars lets j e polys l h a = subst (λ fs. LetsExpanded vars (map formula lets) (map formula (take j lets)) fs polys) (rest-is lets j e l h) a
 
-pub lets-step : (vars : List VarInfo) (lets : List Expr) (j : ℕ) (e : Expr) (polys more : List Sparse) (p : Sparse) → j < length lets → e ≡ get_or lets j e → LetsTo vars lets j polys → Expands (length vars) (expanded vars (closed_lets vars (map formula (take j lets))) (formula e)) (inlined (closed_lets vars (map formula (take j lets))) (tree vars (formula e))) p → more ≡ polys ++ p ∷ [] → LetsTo vars lets (j + 1) more
+pub lets-step : (vars : List VarInfo) (lets : List Expr) (j : ℕ) (e : Expr) (polys more : List Sparse) (p : Sparse) → j < length lets
+    → e ≡ get_or lets j e → LetsTo vars lets j polys → Expands (length vars) (expanded vars (closed_lets vars (map formula (take j lets))) (formula e))
+    (inlined (closed_lets vars (map formula (take j lets))) (tree vars (formula e))) p → more ≡ polys ++ p ∷ [] → LetsTo vars lets (j + 1) more
 lets-step vars lets j e polys more p l h a q m =
     subst (λ ps. LetsTo vars lets (j + 1) ps) (sym m)
     (subst (λ fs. LetsExpanded vars (map formula lets) fs (map formula (drop (j + 1) lets)) (polys ++ p ∷ [])) (sym (front-is lets j e l h))
     (lets-next vars (map formula lets) (map formula (take j lets)) (map formula (drop (j + 1) lets)) (formula e) polys p (lets-at vars lets j e polys l h a) q))
 
 -- a let that stops the expansion
-pub lets-stop : (vars : List VarInfo) (lets : List Expr) (j : ℕ) (e : Expr) (polys : List Sparse) (s : PolyStop) → j < length lets → e ≡ get_or lets j e → LetsTo vars lets j polys → StopsExpanding (length vars) (expanded vars (closed_lets vars (map formula (take j lets))) (formula e)) s → StopsExpanding (length vars) (expanded_lets vars [] (map formula lets)) s
+pub lets-stop : (vars : List VarInfo) (lets : List Expr) (j : ℕ) (e : Expr) (polys : List Sparse) (s : PolyStop) → j < length lets → e ≡ get_or lets j e
+    → LetsTo vars lets j polys → StopsExpanding (length vars) (expanded vars (closed_lets vars (map formula (take j lets))) (formula e)) s
+    → StopsExpanding (length vars) (expanded_lets vars [] (map formula lets)) s
 lets-stop vars lets j e polys s l h a q =
     let b = lets-at vars lets j e polys l h a in
     subst (λ (ns : Nodes). StopsExpanding (length vars) ns s) (sym b.stands)
     (stop-behind (length vars) b.nodes _ s b.few (stop-before (length vars) (expanded vars (closed_lets vars (map formula (take j lets))) (formula e)) _ s q))
 
 -- all lets are expanded
-pub lets-end : (vars : List VarInfo) (lets : List Expr) (j : ℕ) (polys : List Sparse) → length lets ≤ j → LetsTo vars lets j polys → AreNormal (length vars) (closed_lets vars (map formula lets)) polys × HaveFewTerms (length vars) (expanded_lets vars [] (map formula lets))
+pub lets-end : (vars : List VarInfo) (lets : List Expr) (j : ℕ) (polys : List Sparse) → length lets ≤ j → LetsTo vars lets j polys
+    → AreNormal (length vars) (closed_lets vars (map formula lets)) polys × HaveFewTerms (length vars) (expanded_lets vars [] (map formula lets))
 lets-end vars lets j polys l a =
     let f : map formula (take j lets) ≡ map formula lets = ap (map formula) (take_all j lets l) in
     let r : map formula (drop j lets) ≡ [] = ap (map formula) (drop_all j lets l) in
-    let s : expanded_lets vars [] (map formula lets) ≡ a.nodes = a.stands ∙ ap (λ fs. a.nodes ++ expanded_lets vars (closed_lets vars (map formula (take j lets))) fs) r ∙ append-nil a.nodes in
+    let s : expanded_lets vars [] (map formula lets) ≡ a.nodes =
+    a.stands ∙ ap (λ fs. a.nodes ++ expanded_lets vars (closed_lets vars (map formula (take j lets))) fs) r ∙ append-nil a.nodes in
     (subst (λ fs. AreNormal (length vars) (closed_lets vars fs) polys) f a.normal, subst (HaveFewTerms (length vars)) (sym s) a.few)
 
 -- what the next let needs
-pub next-fit : (vars : List VarInfo) (lets : List Expr) (j : ℕ) (e : Expr) (polys : List Sparse) → j < length lets → e ≡ get_or lets j e → LetsTo vars lets j polys → is_fit (length vars) (length polys) (tree vars (formula e)) ≡ true
+pub next-fit : (vars : List VarInfo) (lets : List Expr) (j : ℕ) (e : Expr) (polys : List Sparse) → j < length lets → e ≡ get_or lets j e
+    → LetsTo vars lets j polys → is_fit (length vars) (length polys) (tree vars (formula e)) ≡ true
 next-fit vars lets j e polys l h a = (and_parts (is_fit (length vars) (length polys) (tree vars (formula e))) _ (lets-at vars lets j e polys l h a).fit).0
 
-pub next-light : (vars : List VarInfo) (lets : List Expr) (j : ℕ) (e : Expr) (polys : List Sparse) → j < length lets → e ≡ get_or lets j e → LetsTo vars lets j polys → AreLight (length vars) two (closed_lets vars (map formula (take j lets))) (tree vars (formula e))
+pub next-light : (vars : List VarInfo) (lets : List Expr) (j : ℕ) (e : Expr) (polys : List Sparse) → j < length lets → e ≡ get_or lets j e
+    → LetsTo vars lets j polys → AreLight (length vars) two (closed_lets vars (map formula (take j lets))) (tree vars (formula e))
 next-light vars lets j e polys l h a = (lets-at vars lets j e polys l h a).light.0
 
 pub length-normal : (n : ℕ) (ts : List Tree) (fs : List Sparse) → AreNormal n ts fs → length fs ≡ length ts
@@ -133,8 +155,14 @@ length-trees vars [] = refl
 length-trees vars (e ∷ es) = ap suc (length-trees vars es)
 
 -- there are as many polynomials as lets
-pub length-polys : (vars : List VarInfo) (es : List Expr) (fs : List Sparse) → AreNormal (length vars) (closed_lets vars (map formula es)) fs → length fs ≡ length es
-length-polys vars es fs a = omega (arith, length-normal (length vars) (closed_lets vars (map formula es)) fs a, length-after [] (map (tree vars) (map formula es)), length-trees vars es)
+pub length-polys : (vars : List VarInfo) (es : List Expr) (fs : List Sparse)
+    → AreNormal (length vars) (closed_lets vars (map formula es)) fs → length fs ≡ length es
+length-polys vars es fs a = omega (
+  arith,
+  length-normal (length vars) (closed_lets vars (map formula es)) fs a,
+  length-after [] (map (tree vars) (map formula es)),
+  length-trees vars es,
+)
 
 pub trees-of : (vars : List VarInfo) (es : List Expr) → map (tree vars) (map formula es) ≡ map (tree_of vars) es
 trees-of vars [] = refl
@@ -158,28 +186,39 @@ root-weight n w e f l p = omega (arith, l.light, weighted-normal n e (terms_of n
 pub degree-weight : (n : ℕ) (w : ℕ → ℕ) (m : List ℕ) → AreTwo n w → length m ≡ n → 2 ^ total_degree m ≤ monomial_weight w m
 degree-weight n w [] t e = omega (arith, pow-zero 2)
 degree-weight zero w (k ∷ m) t e = absurd (omega arith)
-degree-weight (suc n) w (k ∷ m) t e = rw pow-add (mul-le _ _ _ _ (power_le 2 (w 0) k (t 0 (omega arith))) (degree-weight n (λ v. w (suc v)) m (λ v h. t (suc v) (omega arith)) (omega arith)))
+degree-weight (suc n) w (k ∷ m) t e = rw pow-add
+    (mul-le _ _ _ _ (power_le 2 (w 0) k (t 0 (omega arith))) (degree-weight n (λ v. w (suc v)) m (λ v h. t (suc v) (omega arith)) (omega arith)))
 
-term-degree : (n : ℕ) (w : ℕ → ℕ) (f : Sparse) (k : ℕ) (d : Pairs × ℤ) → AreTwo n w → AreBelow n f → All (λ t. IsFactor t.1) f → k < length f → 2 ^ total_degree (vector n (get_or f k d).0) ≤ total_weight w f
+term-degree : (n : ℕ) (w : ℕ → ℕ) (f : Sparse) (k : ℕ) (d : Pairs × ℤ) → AreTwo n w → AreBelow n f → All (λ t. IsFactor t.1) f
+    → k < length f → 2 ^ total_degree (vector n (get_or f k d).0) ≤ total_weight w f
 term-degree n w [] k d t b s l = absurd (omega arith)
 term-degree n w (x ∷ f) zero d t b s l =
-    let a : pairs_weight w x.0 ≤ unsigned_abs x.1 * pairs_weight w x.0 = times-le-left (pairs_weight w x.0) (unsigned_abs x.1) (factor-some x.1 (All-head (λ z. IsFactor z.1) x f s)) in
+    let a : pairs_weight w x.0 ≤ unsigned_abs x.1 * pairs_weight w x.0 =
+    times-le-left (pairs_weight w x.0) (unsigned_abs x.1) (factor-some x.1 (All-head (λ z. IsFactor z.1) x f s)) in
     omega (arith, a, total-cons w x f, weight-pairs w n x.0 (All-head (λ z. IsAbove z.0 n) x f b), degree-weight n w (vector n x.0) t (length-vector 0 n x.0))
-term-degree n w (x ∷ f) (suc k) d t b s l = omega (arith, total-cons w x f, term-degree n w f k d t (All-tail (λ z. IsAbove z.0 n) x f b) (All-tail (λ z. IsFactor z.1) x f s) (omega arith))
+term-degree n w (x ∷ f) (suc k) d t b s l =
+    omega (arith, total-cons w x f, term-degree n w f k d t (All-tail (λ z. IsAbove z.0 n) x f b) (All-tail (λ z. IsFactor z.1) x f s) (omega arith))
 
--- no term's total degree passes 126
+-- no term's total degree exceeds 126
 pub root-degrees : (n : ℕ) (w : ℕ → ℕ) (e : Tree) (f : Sparse) → AreTwo n w → IsLight n w e → IsNormal n e f → All (λ t. total_degree (vector n t.0) ≤ 126) f
 root-degrees n w e f t l p k d h =
-    let a : total_degree (vector n (get_or f k d).0) < 127 = two-power (total_degree (vector n (get_or f k d).0)) (total_weight w f) (term-degree n w f k d t p.below p.form.factors h) (omega (arith, l.light, normal-weight n w e f l.inputs p)) in
+    let a : total_degree (vector n (get_or f k d).0) < 127 = two-power (total_degree (vector n (get_or f k d).0)) (total_weight w f)
+    (term-degree n w f k d t p.below p.form.factors h) (omega (arith, l.light, normal-weight n w e f l.inputs p)) in
     omega (arith, a)
 
--- ---- what a predicate gives
-pub pred-fit : (args : List Arg) (vars : List VarInfo) (es : List Expr) (names : ℕ) (root : Expr) → is_pred args vars es names root ≡ true → lets_fit (length vars) 0 (map (tree vars) (map formula es)) ≡ true
+-- ---- what holds of a predicate
+pub pred-fit : (args : List Arg) (vars : List VarInfo) (es : List Expr) (names : ℕ) (root : Expr) → is_pred args vars es names root ≡ true
+    → lets_fit (length vars) 0 (map (tree vars) (map formula es)) ≡ true
 pred-fit args vars es names root k = rw (trees-of vars es) (parts_of args vars es names root k).fit_lets
 
-pub root-fits : (args : List Arg) (vars : List VarInfo) (es : List Expr) (names : ℕ) (root : Expr) (polys : List Sparse) → is_pred args vars es names root ≡ true → AreNormal (length vars) (closed_lets vars (map formula es)) polys → is_fit (length vars) (length polys) (tree_of vars root) ≡ true
+pub root-fits : (args : List Arg) (vars : List VarInfo) (es : List Expr) (names : ℕ) (root : Expr) (polys : List Sparse)
+    → is_pred args vars es names root ≡ true → AreNormal (length vars) (closed_lets vars (map formula es)) polys
+    → is_fit (length vars) (length polys) (tree_of vars root) ≡ true
 root-fits args vars es names root polys k a = rw (length-polys vars es polys a) (parts_of args vars es names root k).fit_root
 
-pub pred-light : (args : List Arg) (vars : List VarInfo) (es : List Expr) (names : ℕ) (root : Expr) → is_pred args vars es names root ≡ true → HaveWeights (weighed_pred vars (map formula es) (formula root))
-    → LetsAreLight (length vars) (weights vars) [] (map (tree vars) (map formula es)) × AreLight (length vars) (weights vars) (closed_lets vars (map formula es)) (tree vars (formula root))
-pred-light args vars es names root k l = light-pred vars (length es) (map formula es) (formula root) (pred-fit args vars es names root k) (parts_of args vars es names root k).fit_root l
+pub pred-light : (args : List Arg) (vars : List VarInfo) (es : List Expr) (names : ℕ) (root : Expr) → is_pred args vars es names root ≡ true
+    → HaveWeights (weighed_pred vars (map formula es) (formula root))
+    → LetsAreLight (length vars) (weights vars) [] (map (tree vars) (map formula es))
+    × AreLight (length vars) (weights vars) (closed_lets vars (map formula es)) (tree vars (formula root))
+pred-light args vars es names root k l =
+    light-pred vars (length es) (map formula es) (formula root) (pred-fit args vars es names root k) (parts_of args vars es names root k).fit_root l

@@ -24,46 +24,67 @@ use Rattle.ln_poly.proofs.Loads.Room.{normal-size, product-powers, product-room,
 
 module _ (vars : List VarInfo) (ls : List Tree) (F : Formula) where
   -- a node over one operand
-  pub one-ok : (x : Formula) (ys : Nodes) (c : Tree) (f : Sparse) (r : Result Sparse PolyStop) → expanded vars ls F ≡ expanded vars ls x ++ ys → inlined ls (tree vars F) ≡ c → Expands (length vars) (expanded vars ls x) (inlined ls (tree vars x)) f → IfOk r (λ h. Expands (length vars) ys c h)
+  pub one-ok : (x : Formula) (ys : Nodes) (c : Tree) (f : Sparse) (r : Result Sparse PolyStop) → expanded vars ls F ≡ expanded vars ls x ++ ys
+      → inlined ls (tree vars F) ≡ c → Expands (length vars) (expanded vars ls x) (inlined ls (tree vars x)) f → IfOk r (λ h. Expands (length vars) ys c h)
       → IfOk r (λ h. Expands (length vars) (expanded vars ls F) (inlined ls (tree vars F)) h)
   one-ok x ys c f r a b p k = rw (a, b) (IfOk-weaker r _ _ (λ h q. one-expands (length vars) (expanded vars ls x) ys (inlined ls (tree vars x)) c f h p q) k)
 
-  pub one-err : (x : Formula) (ys : Nodes) (r : Result Sparse PolyStop) → expanded vars ls F ≡ expanded vars ls x ++ ys → HaveFewTerms (length vars) (expanded vars ls x) → IfErr r (λ s. StopsExpanding (length vars) ys s) → IfErr r (λ s. StopsExpanding (length vars) (expanded vars ls F) s)
+  pub one-err : (x : Formula) (ys : Nodes) (r : Result Sparse PolyStop) → expanded vars ls F ≡ expanded vars ls x ++ ys
+      → HaveFewTerms (length vars) (expanded vars ls x) → IfErr r (λ s. StopsExpanding (length vars) ys s)
+      → IfErr r (λ s. StopsExpanding (length vars) (expanded vars ls F) s)
   one-err x ys r a p k = rw a (MatchResult-weaker r k (λ h t. tt) (λ s q. stop-behind (length vars) (expanded vars ls x) ys s p q))
 
   -- a node over two
-  pub two-ok : (x y : Formula) (zs : Nodes) (c : Tree) (f g : Sparse) (r : Result Sparse PolyStop) → expanded vars ls F ≡ expanded vars ls x ++ expanded vars ls y ++ zs → inlined ls (tree vars F) ≡ c → Expands (length vars) (expanded vars ls x) (inlined ls (tree vars x)) f → Expands (length vars) (expanded vars ls y) (inlined ls (tree vars y)) g → IfOk r (λ h. Expands (length vars) zs c h)
+  pub two-ok : (x y : Formula) (zs : Nodes) (c : Tree) (f g : Sparse) (r : Result Sparse PolyStop)
+      → expanded vars ls F ≡ expanded vars ls x ++ expanded vars ls y ++ zs → inlined ls (tree vars F) ≡ c
+      → Expands (length vars) (expanded vars ls x) (inlined ls (tree vars x)) f
+      → Expands (length vars) (expanded vars ls y) (inlined ls (tree vars y)) g → IfOk r (λ h. Expands (length vars) zs c h)
       → IfOk r (λ h. Expands (length vars) (expanded vars ls F) (inlined ls (tree vars F)) h)
-  two-ok x y zs c f g r a b p q k = rw (a, b) (IfOk-weaker r _ _ (λ h t. two-expand (length vars) (expanded vars ls x) (expanded vars ls y) zs (inlined ls (tree vars x)) (inlined ls (tree vars y)) c f g h p q t) k)
+  two-ok x y zs c f g r a b p q k = rw (a, b) (IfOk-weaker r _ _
+      (λ h t. two-expand (length vars) (expanded vars ls x) (expanded vars ls y) zs (inlined ls (tree vars x)) (inlined ls (tree vars y)) c f g h p q t) k)
 
-  pub two-err : (x y : Formula) (zs : Nodes) (r : Result Sparse PolyStop) → expanded vars ls F ≡ expanded vars ls x ++ expanded vars ls y ++ zs → HaveFewTerms (length vars) (expanded vars ls x) → HaveFewTerms (length vars) (expanded vars ls y) → IfErr r (λ s. StopsExpanding (length vars) zs s) → IfErr r (λ s. StopsExpanding (length vars) (expanded vars ls F) s)
-  two-err x y zs r a p q k = rw a (MatchResult-weaker r k (λ h t. tt) (λ s t. stop-behind (length vars) (expanded vars ls x ++ expanded vars ls y) zs s (few-both (length vars) (expanded vars ls x) (expanded vars ls y) p q) t))
+  pub two-err : (x y : Formula) (zs : Nodes) (r : Result Sparse PolyStop) → expanded vars ls F ≡ expanded vars ls x ++ expanded vars ls y ++ zs
+      → HaveFewTerms (length vars) (expanded vars ls x) → HaveFewTerms (length vars) (expanded vars ls y)
+      → IfErr r (λ s. StopsExpanding (length vars) zs s) → IfErr r (λ s. StopsExpanding (length vars) (expanded vars ls F) s)
+  two-err x y zs r a p q k = rw a (MatchResult-weaker r k (λ h t. tt) (λ s t. stop-behind (length vars)
+      (expanded vars ls x ++ expanded vars ls y) zs s (few-both (length vars) (expanded vars ls x) (expanded vars ls y) p q) t))
 
-  pub second-stops : (x y : Formula) (zs : Nodes) (s : PolyStop) → expanded vars ls F ≡ expanded vars ls x ++ expanded vars ls y ++ zs → HaveFewTerms (length vars) (expanded vars ls x) → StopsExpanding (length vars) (expanded vars ls y) s → StopsExpanding (length vars) (expanded vars ls F) s
-  second-stops x y zs s a p k = rw a (stop-before (length vars) (expanded vars ls x ++ expanded vars ls y) zs s (stop-behind (length vars) (expanded vars ls x) (expanded vars ls y) s p k))
+  pub second-stops : (x y : Formula) (zs : Nodes) (s : PolyStop) → expanded vars ls F ≡ expanded vars ls x ++ expanded vars ls y ++ zs
+      → HaveFewTerms (length vars) (expanded vars ls x) → StopsExpanding (length vars) (expanded vars ls y) s
+      → StopsExpanding (length vars) (expanded vars ls F) s
+  second-stops x y zs s a p k = rw a
+      (stop-before (length vars) (expanded vars ls x ++ expanded vars ls y) zs s (stop-behind (length vars) (expanded vars ls x) (expanded vars ls y) s p k))
 
 -- ---- room
 module _ (vars : List VarInfo) (ls : List Tree) where
   pub neg-room : (d : Tree) (f : Sparse) → AreLight (length vars) two ls (Neg d) → IsNormal (length vars) (inlined ls d) f → size_of f < 2 ^ 127
   neg-room d f l p = omega (arith, l.1.light, normal-size (length vars) two (inlined ls d) f (two-sizes (length vars)) l.1.inputs p)
 
-  add-room : (d e : Tree) (f g : Sparse) → AreLight (length vars) two ls (Add d e) → IsNormal (length vars) (inlined ls d) f → IsNormal (length vars) (inlined ls e) g → size_of f + size_of g < 2 ^ 127
+  add-room : (d e : Tree) (f g : Sparse) → AreLight (length vars) two ls (Add d e) → IsNormal (length vars) (inlined ls d) f
+      → IsNormal (length vars) (inlined ls e) g → size_of f + size_of g < 2 ^ 127
   add-room d e f g l p q = sum-room (length vars) two (inlined ls d) (inlined ls e) f g (two-sizes (length vars)) l.2 p q
 
-  sub-room : (d e : Tree) (f g : Sparse) → AreLight (length vars) two ls (Sub d e) → IsNormal (length vars) (inlined ls d) f → IsNormal (length vars) (inlined ls e) g → size_of f + size_of g < 2 ^ 127
-  sub-room d e f g l p q = sum-room (length vars) two (inlined ls d) (inlined ls e) f g (two-sizes (length vars)) (record { inputs = l.2.inputs; light = l.2.light }) p q
+  sub-room : (d e : Tree) (f g : Sparse) → AreLight (length vars) two ls (Sub d e) → IsNormal (length vars) (inlined ls d) f
+      → IsNormal (length vars) (inlined ls e) g → size_of f + size_of g < 2 ^ 127
+  sub-room d e f g l p q =
+      sum-room (length vars) two (inlined ls d) (inlined ls e) f g (two-sizes (length vars)) (record { inputs = l.2.inputs; light = l.2.light }) p q
 
-  mul-room : (d e : Tree) (f g : Sparse) → AreLight (length vars) two ls (Mul d e) → IsNormal (length vars) (inlined ls d) f → IsNormal (length vars) (inlined ls e) g → size_of f * size_of g < 2 ^ 127
+  mul-room : (d e : Tree) (f g : Sparse) → AreLight (length vars) two ls (Mul d e) → IsNormal (length vars) (inlined ls d) f
+      → IsNormal (length vars) (inlined ls e) g → size_of f * size_of g < 2 ^ 127
   mul-room d e f g l p q = product-room (length vars) two (inlined ls d) (inlined ls e) f g (two-sizes (length vars)) l.2.inputs.0 l.2.inputs.1 l.2.light p q
 
-  mul-powers : (d e : Tree) (f g : Sparse) → AreLight (length vars) two ls (Mul d e) → IsNormal (length vars) (inlined ls d) f → IsNormal (length vars) (inlined ls e) g → All (λ s. PowersFit s g) f
-  mul-powers d e f g l p q = product-powers (length vars) two (inlined ls d) (inlined ls e) f g (two-sizes (length vars)) l.2.inputs.0 l.2.inputs.1 l.2.light p q
+  mul-powers : (d e : Tree) (f g : Sparse) → AreLight (length vars) two ls (Mul d e) → IsNormal (length vars) (inlined ls d) f
+      → IsNormal (length vars) (inlined ls e) g → All (λ s. PowersFit s g) f
+  mul-powers d e f g l p q =
+      product-powers (length vars) two (inlined ls d) (inlined ls e) f g (two-sizes (length vars)) l.2.inputs.0 l.2.inputs.1 l.2.light p q
 
   pub pow-room : (d : Tree) (k : ℕ) (f : Sparse) → AreLight (length vars) two ls (Pow d k) → IsNormal (length vars) (inlined ls d) f → HasPower f k
-  pow-room d k f l p = record { n = length vars; w = two; tree = inlined ls d; two = two-sizes (length vars); inputs = l.1.inputs; light = l.1.light; normal = p }
+  pow-room d k f l p =
+      record { n = length vars; w = two; tree = inlined ls d; two = two-sizes (length vars); inputs = l.1.inputs; light = l.1.light; normal = p }
 
   -- ---- an operation on two
-  have-room : (k : Two) (d e : Tree) (f g : Sparse) → AreLight (length vars) two ls (two_of k d e) → IsNormal (length vars) (inlined ls d) f → IsNormal (length vars) (inlined ls e) g → HaveRoom k f g
+  have-room : (k : Two) (d e : Tree) (f g : Sparse) → AreLight (length vars) two ls (two_of k d e) → IsNormal (length vars) (inlined ls d) f
+      → IsNormal (length vars) (inlined ls e) g → HaveRoom k f g
   have-room Plus d e f g l p q = add-room d e f g l p q
   have-room Minus d e f g l p q = sub-room d e f g l p q
   have-room Times d e f g l p q = (mul-room d e f g l p q, mul-powers d e f g l p q)
@@ -73,12 +94,14 @@ module _ (vars : List VarInfo) (ls : List Tree) where
   light-two Minus d e l = (l.0, l.1)
   light-two Times d e l = (l.0, l.1)
 
-  pub expanded-two : (k : Two) (at : Span) (x y : Formula) → expanded vars ls (formula_of k at x y) ≡ (expanded vars ls x ++ expanded vars ls y) ++ (at, two_of k (inlined ls (tree vars x)) (inlined ls (tree vars y))) ∷ []
+  pub expanded-two : (k : Two) (at : Span) (x y : Formula) → expanded vars ls (formula_of k at x y)
+      ≡ (expanded vars ls x ++ expanded vars ls y) ++ (at, two_of k (inlined ls (tree vars x)) (inlined ls (tree vars y))) ∷ []
   expanded-two Plus at x y = refl
   expanded-two Minus at x y = refl
   expanded-two Times at x y = refl
 
-  pub inlined-two : (k : Two) (at : Span) (x y : Formula) → inlined ls (tree vars (formula_of k at x y)) ≡ two_of k (inlined ls (tree vars x)) (inlined ls (tree vars y))
+  pub inlined-two : (k : Two) (at : Span) (x y : Formula)
+      → inlined ls (tree vars (formula_of k at x y)) ≡ two_of k (inlined ls (tree vars x)) (inlined ls (tree vars y))
   inlined-two Plus at x y = refl
   inlined-two Minus at x y = refl
   inlined-two Times at x y = refl
@@ -93,7 +116,8 @@ module _ (vars : List VarInfo) (ls : List Tree) where
     pub second_light : AreLight (length vars) two ls (tree vars y)
     pub room : (f g : Sparse) → IsNormal (length vars) (inlined ls (tree vars x)) f → IsNormal (length vars) (inlined ls (tree vars y)) g → HaveRoom k f g
 
-  pub are-ready : (j : ℕ) (t : ℕ) (k : Two) (at : Span) (e x y : Formula) → e ≡ formula_of k at x y → node_count e ≡ t → is_fit (length vars) j (tree vars e) ≡ true → AreLight (length vars) two ls (tree vars e) → AreReady j t k e x y
+  pub are-ready : (j : ℕ) (t : ℕ) (k : Two) (at : Span) (e x y : Formula) → e ≡ formula_of k at x y → node_count e ≡ t
+      → is_fit (length vars) j (tree vars e) ≡ true → AreLight (length vars) two ls (tree vars e) → AreReady j t k e x y
   are-ready j t k at e x y q d h l =
       let q' : tree vars e ≡ two_of k (tree vars x) (tree vars y) = ap (tree vars) q ∙ tree_two vars k at x y in
       let c : node_count e ≡ node_count x + node_count y + 1 = ap node_count q ∙ count_two k at x y in

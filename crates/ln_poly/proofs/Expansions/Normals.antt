@@ -1,5 +1,6 @@
 -- Polynomials of nodes from those of their operands.
-use Rattle.std.proofs.Common.{◌≡◌, ℕ, ◌+◌, ◌<◌, zero, suc, refl, sym, ◌∙◌, ap, arith, subst, List, [], ◌∷◌, length, get_or, eqb, eq-eqb, false, true, Bool, if◌then◌else◌, ◌++◌, ◌≢◌, ◌^◌, unsigned_abs, ◌⊎◌, inl, inr}
+use Rattle.std.proofs.Common.{◌≡◌, ℕ, ◌+◌, ◌<◌, zero, suc, refl, sym, ◌∙◌, ap, arith, subst, List, [], ◌∷◌, length, get_or, eqb, eq-eqb}
+use Rattle.std.proofs.Common.{false, true, Bool, if◌then◌else◌, ◌++◌, ◌≢◌, ◌^◌, unsigned_abs, ◌⊎◌, inl, inr}
 use Rattle.std.specs.Prelude.{slice_index_or}
 use Rattle.std.proofs.Math.IntN.{ℤ, pos, ◌+ℤ◌, ◌-ℤ◌}
 use Rattle.std.proofs.lemmas.Bool.Decides.{nat_tests}
@@ -43,7 +44,8 @@ vector-unit v (suc n) (suc u) x q = let f : eqb x v ≡ false = other x v u q in
 
 -- ---- leaves
 module _ (n : ℕ) where
-  pub normal-of : (e : Tree) (f : Sparse) → IsPoly f → AreBelow n f → ((m : List ℕ) → length m ≡ n → coefficient_at n f m ≡ normal_coefficient e m) → IsNormal n e f
+  pub normal-of : (e : Tree) (f : Sparse) → IsPoly f → AreBelow n f
+      → ((m : List ℕ) → length m ≡ n → coefficient_at n f m ≡ normal_coefficient e m) → IsNormal n e f
   unfolding coefficient_at
   normal-of e f p b c = record { normal = record { over = over-terms n f; coefficients = c }; form = p; below = b }
 
@@ -58,7 +60,8 @@ module _ (n : ℕ) where
     by_case true = refl
     by_case false = refl
 
-  some-coefficient : (ps : Pairs) (v : List ℕ) (c : ℤ) (m : List ℕ) → vector n ps ≡ v → coefficient_at n ((ps, c) ∷ []) m ≡ factor_at (record { exponents = v; factor = c } ∷ []) m
+  some-coefficient : (ps : Pairs) (v : List ℕ) (c : ℤ) (m : List ℕ) → vector n ps ≡ v
+      → coefficient_at n ((ps, c) ∷ []) m ≡ factor_at (record { exponents = v; factor = c } ∷ []) m
   unfolding coefficient_at
   some-coefficient ps v c m h = ap (λ u. factor_at (record { exponents = u; factor = c } ∷ []) m) h
 
@@ -70,14 +73,17 @@ module _ (n : ℕ) where
   number-none = normal-of (Num (pos 0)) [] no-terms (All-nil (λ t. IsAbove t.0 n)) (λ m h. none-coefficient m ∙ sym (normal_is n (Num (pos 0)) tt m h))
 
   pub number-some : (c : ℤ) → IsPoly (([], c) ∷ []) → IsNormal n (Num c) (([], c) ∷ [])
-  number-some c p = normal-of (Num c) (([], c) ∷ []) p (one-below [] c tt) (λ m h. some-coefficient [] (zeros n) c m (vector-none 0 n) ∙ sym (normal_is n (Num c) tt m h))
+  number-some c p = normal-of (Num c) (([], c) ∷ []) p (one-below [] c tt)
+      (λ m h. some-coefficient [] (zeros n) c m (vector-none 0 n) ∙ sym (normal_is n (Num c) tt m h))
 
   -- a variable
   pub input-normal : (v : ℕ) → v < n → IsPoly (((v, 1) ∷ [], pos 1) ∷ []) → IsNormal n (Input v) (((v, 1) ∷ [], pos 1) ∷ [])
-  input-normal v l p = normal-of (Input v) (((v, 1) ∷ [], pos 1) ∷ []) p (one-below ((v, 1) ∷ []) (pos 1) (l, tt)) (λ m h. some-coefficient ((v, 1) ∷ []) (unit_vector n v) (pos 1) m (vector-unit 0 n v v (omega arith)) ∙ sym (normal_is n (Input v) l m h))
+  input-normal v l p = normal-of (Input v) (((v, 1) ∷ [], pos 1) ∷ []) p (one-below ((v, 1) ∷ []) (pos 1) (l, tt))
+      (λ m h. some-coefficient ((v, 1) ∷ []) (unit_vector n v) (pos 1) m (vector-unit 0 n v v (omega arith)) ∙ sym (normal_is n (Input v) l m h))
 
   -- ---- operations
-  pub neg-normal : (e : Tree) (f z h : Sparse) → IsNormal n e f → IsNormal n (Num (pos 0)) z → IsPoly h → AreBelow n h → ((m : List ℕ) → coefficient_at n h m ≡ coefficient_at n z m -ℤ coefficient_at n f m) → IsNormal n (Neg e) h
+  pub neg-normal : (e : Tree) (f z h : Sparse) → IsNormal n e f → IsNormal n (Num (pos 0)) z → IsPoly h → AreBelow n h
+      → ((m : List ℕ) → coefficient_at n h m ≡ coefficient_at n z m -ℤ coefficient_at n f m) → IsNormal n (Neg e) h
   neg-normal e f z h p q r b c = normal-of (Neg e) h r b (λ m l. omega (arith, ints, c m, coefficients-of e f p m l, zero-coefficient m l)) where
     zero-coefficient : (m : List ℕ) → length m ≡ n → coefficient_at n z m ≡ pos 0
     zero-coefficient m l = coefficients-of (Num (pos 0)) z q m l ∙ by_case (is_zero m) where
@@ -85,24 +91,37 @@ module _ (n : ℕ) where
       by_case true = refl
       by_case false = refl
 
-  pub add-normal : (d e : Tree) (f g h : Sparse) → IsNormal n d f → IsNormal n e g → IsPoly h → AreBelow n h → ((m : List ℕ) → coefficient_at n h m ≡ coefficient_at n f m +ℤ coefficient_at n g m) → IsNormal n (Add d e) h
+  pub add-normal : (d e : Tree) (f g h : Sparse) → IsNormal n d f → IsNormal n e g → IsPoly h → AreBelow n h
+      → ((m : List ℕ) → coefficient_at n h m ≡ coefficient_at n f m +ℤ coefficient_at n g m) → IsNormal n (Add d e) h
   add-normal d e f g h p q r b c = normal-of (Add d e) h r b (λ m l. omega (arith, ints, c m, coefficients-of d f p m l, coefficients-of e g q m l))
 
-  pub sub-normal : (d e : Tree) (f g h : Sparse) → IsNormal n d f → IsNormal n e g → IsPoly h → AreBelow n h → ((m : List ℕ) → coefficient_at n h m ≡ coefficient_at n f m -ℤ coefficient_at n g m) → IsNormal n (Sub d e) h
+  pub sub-normal : (d e : Tree) (f g h : Sparse) → IsNormal n d f → IsNormal n e g → IsPoly h → AreBelow n h
+      → ((m : List ℕ) → coefficient_at n h m ≡ coefficient_at n f m -ℤ coefficient_at n g m) → IsNormal n (Sub d e) h
   sub-normal d e f g h p q r b c = normal-of (Sub d e) h r b (λ m l. omega (arith, ints, c m, coefficients-of d f p m l, coefficients-of e g q m l))
 
-  pub mul-normal : (d e : Tree) (f g h : Sparse) → IsNormal n d f → IsNormal n e g → IsPoly h → AreBelow n h → ((m : List ℕ) → length m ≡ n → coefficient_at n h m ≡ product (coefficient_at n f) (coefficient_at n g) m) → IsNormal n (Mul d e) h
+  pub mul-normal : (d e : Tree) (f g h : Sparse) → IsNormal n d f → IsNormal n e g → IsPoly h → AreBelow n h
+      → ((m : List ℕ) → length m ≡ n → coefficient_at n h m ≡ product (coefficient_at n f) (coefficient_at n g) m) → IsNormal n (Mul d e) h
   mul-normal d e f g h p q r b c =
       normal-of (Mul d e) h r b (λ m l.
       c m l
-      ∙ product-same (coefficient_at n f) (coefficient_at n g) (normal_coefficient d) (normal_coefficient e) n (coefficients-of d f p) (coefficients-of e g q) m l
+      ∙ product-same (coefficient_at n f) (coefficient_at n g) (normal_coefficient d) (normal_coefficient e) n (coefficients-of d f p)
+      (coefficients-of e g q) m l
       ∙ sym (product_is (normal_coefficient d) (normal_coefficient e) m))
 
   -- a product of more than 1,024 terms is that of an expression with as many
   pub mul-many : (d e : Tree) (f g : Sparse) → IsNormal n d f → IsNormal n e g → TakesMore f g 1024 → HasTooManyTerms n (Mul d e)
   mul-many d e f g p q t =
       let h = t n p.below q.below in
-      record { vectors = h.vectors; distinct = h.distinct; monomials = λ m i. record { size = h.sizes m i; nonzero = λ z. h.nonzero m i (product-same (coefficient_at n f) (coefficient_at n g) (normal_coefficient d) (normal_coefficient e) n (coefficients-of d f p) (coefficients-of e g q) m (h.sizes m i) ∙ sym (product_is (normal_coefficient d) (normal_coefficient e) m) ∙ z) }; many = h.many }
+      record {
+        vectors = h.vectors;
+        distinct = h.distinct;
+        monomials = λ m i. record {
+          size = h.sizes m i;
+          nonzero = λ z. h.nonzero m i (product-same (coefficient_at n f) (coefficient_at n g) (normal_coefficient d) (normal_coefficient e) n
+              (coefficients-of d f p) (coefficients-of e g q) m (h.sizes m i) ∙ sym (product_is (normal_coefficient d) (normal_coefficient e) m) ∙ z);
+        };
+        many = h.many;
+      }
 
   -- e^0 is 1, and e^(k + 1) is e^k times e
   pub power-none : (e : Tree) (f : Sparse) → IsNormal n (Num (pos 1)) f → IsNormal n (Pow e 0) f
@@ -122,7 +141,8 @@ module _ (n : ℕ) where
     of_power m t = record { size = t.size; nonzero = t.nonzero }
 
   -- ---- lets
-  pub let-normal : (es : List Tree) (fs : List Sparse) (j : ℕ) (d : Sparse) → AreNormal n es fs → j < length fs → IsNormal n (slice_index_or es j (Num (pos 0))) (get_or fs j d)
+  pub let-normal : (es : List Tree) (fs : List Sparse) (j : ℕ) (d : Sparse) → AreNormal n es fs → j < length fs
+      → IsNormal n (slice_index_or es j (Num (pos 0))) (get_or fs j d)
   let-normal [] [] j d a l = absurd (omega arith)
   let-normal [] (f ∷ fs) j d a l = absurd a
   let-normal (e ∷ es) [] j d a l = absurd a
@@ -142,7 +162,9 @@ module _ (n : ℕ) where
     by_case (inr d) = subst (IsNormal n (Num c)) (sym (k d)) (number-some c (one-term [] c tt d l))
 
   pub input-at : (v : ℕ) (f : Sparse) → v < n → f ≡ ((v, 1) ∷ [], pos 1) ∷ [] → IsNormal n (Input v) f
-  input-at v f l h = subst (IsNormal n (Input v)) (sym h) (input-normal v l (one-term ((v, 1) ∷ []) (pos 1) (omega arith, omega arith, tt, tt) (λ e. cc) (omega arith)))
+  input-at v f l h =
+      subst (IsNormal n (Input v)) (sym h) (input-normal v l (one-term ((v, 1) ∷ []) (pos 1) (omega arith, omega arith, tt, tt) (λ e. cc) (omega arith)))
 
-  pub let-at : (es : List Tree) (fs : List Sparse) (j : ℕ) (d f : Sparse) → AreNormal n es fs → j < length fs → f ≡ get_or fs j d → IsNormal n (slice_index_or es j (Num (pos 0))) f
+  pub let-at : (es : List Tree) (fs : List Sparse) (j : ℕ) (d f : Sparse) → AreNormal n es fs → j < length fs → f ≡ get_or fs j d
+      → IsNormal n (slice_index_or es j (Num (pos 0))) f
   let-at es fs j d f a l h = subst (IsNormal n (slice_index_or es j (Num (pos 0)))) (sym h) (let-normal es fs j d a l)

@@ -1,4 +1,4 @@
--- Where no node of a predicate is too heavy, no closed tree of it is.
+-- Where no node of a predicate has too large a weight, no closed tree of it has.
 use Rattle.std.proofs.Common.{◌≡◌, ℕ, ◌^◌, ◌≤◌, true, zero, suc, refl, sym, ◌∙◌, ap, arith, subst, pos, List, [], ◌∷◌, ◌++◌, length, map}
 use Rattle.std.specs.Prelude.{slice_index_or}
 use Rattle.std.proofs.lemmas.Bool.{and_parts}
@@ -20,7 +20,7 @@ named w [] j = refl
 named w (t ∷ ts) zero = refl
 named w (t ∷ ts) (suc j) = named w ts j
 
--- the weight of a tree with its lets put in is its weight over the weights of the lets
+-- the weight of a tree with its lets substituted is its weight over the weights of the lets
 pub weight-inlined : (w : ℕ → ℕ) (ts : List Tree) (e : Tree) → weight w (inlined ts e) ≡ weight_over w (map (weight w) ts) e
 weight-inlined w ts (Num c) = refl
 weight-inlined w ts (Input v) = refl
@@ -45,7 +45,7 @@ pub closed-more : (n : ℕ) (ts : List Tree) (t : Tree) → AreClosed n ts → I
 closed-more n [] t c i = (i, tt)
 closed-more n (u ∷ ts) t c i = (c.0, closed-more n ts t c.1 i)
 
--- a fit tree with its lets put in is over n variables
+-- a fit tree with its lets substituted is over n variables
 pub inputs-inlined : (n k : ℕ) (ts : List Tree) (e : Tree) → AreClosed n ts → is_fit n k e ≡ true → InputsBelow n (inlined ts e)
 inputs-inlined n k ts (Num c) a f = tt
 inputs-inlined n k ts (Input v) a f = lt_test v n f
@@ -58,11 +58,16 @@ inputs-inlined n k ts (Pow e m) a f = let g = and_parts (is_fit n k e) _ f in in
 
 module _ (vars : List VarInfo) where
   -- one node
-  light-node : (k : ℕ) (ts : List Tree) (f : Formula) → AreClosed (length vars) ts → is_fit (length vars) k (tree vars f) ≡ true → weight_of vars (map (weight (weights vars)) ts) f ≤ most → IsLight (length vars) (weights vars) (inlined ts (tree vars f))
-  light-node k ts f a g l = record { inputs = inputs-inlined (length vars) k ts (tree vars f) a g; light = omega (arith, l, weight-inlined (weights vars) ts (tree vars f)) }
+  light-node : (k : ℕ) (ts : List Tree) (f : Formula) → AreClosed (length vars) ts → is_fit (length vars) k (tree vars f) ≡ true
+      → weight_of vars (map (weight (weights vars)) ts) f ≤ most → IsLight (length vars) (weights vars) (inlined ts (tree vars f))
+  light-node k ts f a g l = record {
+    inputs = inputs-inlined (length vars) k ts (tree vars f) a g;
+    light = omega (arith, l, weight-inlined (weights vars) ts (tree vars f));
+  }
 
   -- all nodes of an expression
-  pub light-nodes : (k : ℕ) (ts : List Tree) (f : Formula) → AreClosed (length vars) ts → is_fit (length vars) k (tree vars f) ≡ true → HaveWeights (weighed vars (map (weight (weights vars)) ts) f) → AreLight (length vars) (weights vars) ts (tree vars f)
+  pub light-nodes : (k : ℕ) (ts : List Tree) (f : Formula) → AreClosed (length vars) ts → is_fit (length vars) k (tree vars f) ≡ true
+      → HaveWeights (weighed vars (map (weight (weights vars)) ts) f) → AreLight (length vars) (weights vars) ts (tree vars f)
   light-nodes k ts (FNum at c) a g l = light-node k ts (FNum at c) a g l.0
   light-nodes k ts (FInput at i c) a g l = light-node k ts (FInput at i c) a g l.0
   light-nodes k ts (FName at j) a g l = light-node k ts (FName at j) a g l.0
@@ -89,28 +94,33 @@ module _ (vars : List VarInfo) where
       let h = and_parts (is_fit (length vars) k (tree vars e)) _ g in
       (light-nodes k ts e a h.0 p.0, light-node k ts (FPow at e m) a g p.1.0)
 
-  next-weights : (ts : List Tree) (f : Formula) → map (weight (weights vars)) (ts ++ inlined ts (tree vars f) ∷ []) ≡ map (weight (weights vars)) ts ++ weight_of vars (map (weight (weights vars)) ts) f ∷ []
-  next-weights ts f = map-append (weight (weights vars)) ts (inlined ts (tree vars f) ∷ []) ∙ ap (λ z. map (weight (weights vars)) ts ++ z ∷ []) (weight-inlined (weights vars) ts (tree vars f))
+  next-weights : (ts : List Tree) (f : Formula) → map (weight (weights vars)) (ts ++ inlined ts (tree vars f) ∷ [])
+      ≡ map (weight (weights vars)) ts ++ weight_of vars (map (weight (weights vars)) ts) f ∷ []
+  next-weights ts f = map-append (weight (weights vars)) ts (inlined ts (tree vars f) ∷ [])
+      ∙ ap (λ z. map (weight (weights vars)) ts ++ z ∷ []) (weight-inlined (weights vars) ts (tree vars f))
 
-  -- what holds of the lets: they are light, and the root behind them is
+  -- what holds of the lets: they are light, and the root after them is
   pub record LightLets (done : List Tree) (fs : List Formula) : Type 0 where
     pub lets : LetsAreLight (length vars) (weights vars) done (map (tree vars) fs)
     pub closed : AreClosed (length vars) (inlined_after done (map (tree vars) fs))
     pub weigh : map (weight (weights vars)) (inlined_after done (map (tree vars) fs)) ≡ let_weights vars (map (weight (weights vars)) done) fs
 
-  pub light-lets : (k : ℕ) (done : List Tree) (fs : List Formula) → AreClosed (length vars) done → lets_fit (length vars) k (map (tree vars) fs) ≡ true → HaveWeights (weighed_lets vars (map (weight (weights vars)) done) fs) → LightLets done fs
+  pub light-lets : (k : ℕ) (done : List Tree) (fs : List Formula) → AreClosed (length vars) done → lets_fit (length vars) k (map (tree vars) fs) ≡ true
+      → HaveWeights (weighed_lets vars (map (weight (weights vars)) done) fs) → LightLets done fs
   light-lets k done [] a g l = record { lets = tt; closed = a; weigh = refl }
   light-lets k done (f ∷ fs) a g l =
       let h = and_parts (is_fit (length vars) k (tree vars f)) _ g in
       let p = light_parts (weighed vars (map (weight (weights vars)) done) f) _ l in
       let i = inputs-inlined (length vars) k done (tree vars f) a h.0 in
       let e = next-weights done f in
-      let l' : HaveWeights (weighed_lets vars (map (weight (weights vars)) (done ++ inlined done (tree vars f) ∷ [])) fs) = subst (λ ws. HaveWeights (weighed_lets vars ws fs)) (sym e) p.1 in
+      let l' : HaveWeights (weighed_lets vars (map (weight (weights vars)) (done ++ inlined done (tree vars f) ∷ [])) fs) =
+      subst (λ ws. HaveWeights (weighed_lets vars ws fs)) (sym e) p.1 in
       let r = light-lets (suc k) (done ++ inlined done (tree vars f) ∷ []) fs (closed-more (length vars) done (inlined done (tree vars f)) a i) h.1 l' in
       record { lets = (light-nodes k done f a h.0 p.0, r.lets); closed = r.closed; weigh = r.weigh ∙ ap (λ ws. let_weights vars ws fs) e }
 
-  -- the lets and the root of a predicate no node of which is too heavy
-  pub light-pred : (k : ℕ) (lets : List Formula) (root : Formula) → lets_fit (length vars) 0 (map (tree vars) lets) ≡ true → is_fit (length vars) k (tree vars root) ≡ true → HaveWeights (weighed_pred vars lets root)
+  -- the lets and the root of a predicate no node of which has too large a weight
+  pub light-pred : (k : ℕ) (lets : List Formula) (root : Formula) → lets_fit (length vars) 0 (map (tree vars) lets) ≡ true
+      → is_fit (length vars) k (tree vars root) ≡ true → HaveWeights (weighed_pred vars lets root)
       → LetsAreLight (length vars) (weights vars) [] (map (tree vars) lets) × AreLight (length vars) (weights vars) (closed_lets vars lets) (tree vars root)
   light-pred k lets root g h l =
       let p = light_parts (weighed_lets vars [] lets) _ l in

@@ -1,5 +1,6 @@
--- Where a closed tree isn't too heavy, its normal polynomial may be computed with in 128 bits.
-use Rattle.std.proofs.Common.{◌≡◌, ℕ, ◌+◌, ◌*◌, ◌<◌, ◌≤◌, ◌^◌, zero, suc, arith, All, [], ◌∷◌, length, get_or, unsigned_abs, ◌⊎◌, inl, inr, eqb, Bool, true, false, if◌then◌else◌}
+-- Where the weight of a closed tree isn't too large, its normal polynomial may be computed with in 128 bits.
+use Rattle.std.proofs.Common.{◌≡◌, ℕ, ◌+◌, ◌*◌, ◌<◌, ◌≤◌, ◌^◌, zero, suc, arith, All, [], ◌∷◌, length, get_or, unsigned_abs, ◌⊎◌, inl, inr}
+use Rattle.std.proofs.Common.{eqb, Bool, true, false, if◌then◌else◌}
 use Rattle.std.proofs.Math.IntN.{ℤ, pos}
 use Rattle.std.proofs.Math.Nat.{pow-zero, pow-suc, pow-le-pow_right}
 use Rattle.std.proofs.lemmas.Bool.{cases_lt}
@@ -57,7 +58,9 @@ exponent-weight n w v [] t a = omega (arith, pow-zero 2)
 exponent-weight n w v (p ∷ ps) t a = by_case (eqb p.0 v) (exponent-weight n w v ps t a.1) where
   by_case : (b : Bool) → 2 ^ exponent v ps ≤ pairs_weight w ps → 2 ^ ((if b then p.1 else 0) + exponent v ps) ≤ w p.0 ^ p.1 * pairs_weight w ps
   by_case true ih = rw pow-add (mul-le _ _ _ _ (power_le 2 (w p.0) p.1 (t p.0 a.0)) ih)
-  by_case false ih = let z : 0 + exponent v ps ≡ exponent v ps = omega arith in rw z (omega (arith, ih, times-le-left (pairs_weight w ps) (w p.0 ^ p.1) (pow-some (w p.0) p.1 (omega (arith, t p.0 a.0)))))
+  by_case false ih =
+      let z : 0 + exponent v ps ≡ exponent v ps = omega arith in
+      rw z (omega (arith, ih, times-le-left (pairs_weight w ps) (w p.0 ^ p.1) (pow-some (w p.0) p.1 (omega (arith, t p.0 a.0)))))
 
 -- ---- weights of polynomials
 pub total-cons : (w : ℕ → ℕ) (t : Pairs × ℤ) (f : Sparse) → total_weight w (t ∷ f) ≡ term_weight w t + total_weight w f
@@ -83,7 +86,8 @@ factor-some z f = by_case (cases_lt 0 (unsigned_abs z)) where
   by_case (inr l) = let e : z ≡ pos 0 = omega (arith, ints, l) in absurd (f.0 e)
 
 -- 2 to the power of an exponent of a term is at most the weight
-pub term-exponent : (n : ℕ) (w : ℕ → ℕ) (f : Sparse) (k : ℕ) (d : Pairs × ℤ) (v : ℕ) → AreTwo n w → AreBelow n f → All (λ t. IsFactor t.1) f → k < length f → 2 ^ exponent v (get_or f k d).0 ≤ total_weight w f
+pub term-exponent : (n : ℕ) (w : ℕ → ℕ) (f : Sparse) (k : ℕ) (d : Pairs × ℤ) (v : ℕ) → AreTwo n w → AreBelow n f → All (λ t. IsFactor t.1) f
+    → k < length f → 2 ^ exponent v (get_or f k d).0 ≤ total_weight w f
 term-exponent n w [] k d v t b s l = absurd (omega arith)
 term-exponent n w (x ∷ f) zero d v t b s l =
     omega (
@@ -92,7 +96,8 @@ term-exponent n w (x ∷ f) zero d v t b s l =
       exponent-weight n w v x.0 t (All-head (λ z. IsAbove z.0 n) x f b),
       times-le-left (pairs_weight w x.0) (unsigned_abs x.1) (factor-some x.1 (All-head (λ z. IsFactor z.1) x f s)),
     )
-term-exponent n w (x ∷ f) (suc k) d v t b s l = omega (arith, total-cons w x f, term-exponent n w f k d v t (All-tail (λ z. IsAbove z.0 n) x f b) (All-tail (λ z. IsFactor z.1) x f s) (omega arith))
+term-exponent n w (x ∷ f) (suc k) d v t b s l =
+    omega (arith, total-cons w x f, term-exponent n w f k d v t (All-tail (λ z. IsAbove z.0 n) x f b) (All-tail (λ z. IsFactor z.1) x f s) (omega arith))
 
 -- a normal polynomial weighs at most its tree
 pub normal-weight : (n : ℕ) (w : ℕ → ℕ) (e : Tree) (f : Sparse) → InputsBelow n e → IsNormal n e f → total_weight w f ≤ weight w e
@@ -102,7 +107,8 @@ pub normal-size : (n : ℕ) (w : ℕ → ℕ) (e : Tree) (f : Sparse) → AreTwo
 normal-size n w e f t i p = omega (arith, size-weight n w f t p.below, normal-weight n w e f i p)
 
 -- ---- room for the operations
-pub sum-room : (n : ℕ) (w : ℕ → ℕ) (d e : Tree) (f g : Sparse) → AreTwo n w → IsLight n w (Add d e) → IsNormal n d f → IsNormal n e g → size_of f + size_of g < 2 ^ 127
+pub sum-room : (n : ℕ) (w : ℕ → ℕ) (d e : Tree) (f g : Sparse) → AreTwo n w → IsLight n w (Add d e) → IsNormal n d f → IsNormal n e g
+    → size_of f + size_of g < 2 ^ 127
 sum-room n w d e f g t l p q = omega (arith, l.light, normal-size n w d f t l.inputs.0 p, normal-size n w e g t l.inputs.1 q)
 
 pub two-power : (a b : ℕ) → 2 ^ a ≤ b → b < 2 ^ 127 → a < 127
@@ -111,10 +117,12 @@ two-power a b h l = by_case (cases_lt a 127) where
   by_case (inl k) = k
   by_case (inr k) = let m : 2 ^ 127 ≤ 2 ^ a = pow-le-pow_right {n = 2} (omega arith) {i = 127} {j = a} k in absurd (omega (arith, m))
 
-pub product-room : (n : ℕ) (w : ℕ → ℕ) (d e : Tree) (f g : Sparse) → AreTwo n w → InputsBelow n d → InputsBelow n e → weight w d * weight w e ≤ most → IsNormal n d f → IsNormal n e g → size_of f * size_of g < 2 ^ 127
+pub product-room : (n : ℕ) (w : ℕ → ℕ) (d e : Tree) (f g : Sparse) → AreTwo n w → InputsBelow n d → InputsBelow n e
+    → weight w d * weight w e ≤ most → IsNormal n d f → IsNormal n e g → size_of f * size_of g < 2 ^ 127
 product-room n w d e f g t i j l p q = omega (arith, l, mul-le _ _ _ _ (normal-size n w d f t i p) (normal-size n w e g t j q))
 
-pub product-powers : (n : ℕ) (w : ℕ → ℕ) (d e : Tree) (f g : Sparse) → AreTwo n w → InputsBelow n d → InputsBelow n e → weight w d * weight w e ≤ most → IsNormal n d f → IsNormal n e g → All (λ s. PowersFit s g) f
+pub product-powers : (n : ℕ) (w : ℕ → ℕ) (d e : Tree) (f g : Sparse) → AreTwo n w → InputsBelow n d → InputsBelow n e
+    → weight w d * weight w e ≤ most → IsNormal n d f → IsNormal n e g → All (λ s. PowersFit s g) f
 product-powers n w d e f g t i j l p q k x kl m y ml v =
     let a : 2 ^ exponent v (get_or f k x).0 ≤ weight w d = omega (arith, term-exponent n w f k x v t p.below p.form.factors kl, normal-weight n w d f i p) in
     let b : 2 ^ exponent v (get_or g m y).0 ≤ weight w e = omega (arith, term-exponent n w g m y v t q.below q.form.factors ml, normal-weight n w e g j q) in

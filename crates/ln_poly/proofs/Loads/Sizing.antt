@@ -1,4 +1,5 @@
--- Where no range and no size of a predicate is too large, its closed trees may be expanded in 128 bits: all that this needs is that each variable counts at least 2, and in a size it does.
+-- Where no range and no size of a predicate is too large, its closed trees may be expanded in 128 bits: all that this needs is that each variable
+-- counts at least 2, and in a size it does.
 use Rattle.std.proofs.Common.{◌≡◌, ℕ, ◌≤◌, true, suc, refl, sym, ◌∙◌, ap, arith, subst, All, List, [], ◌∷◌, ◌++◌, length, map}
 use Rattle.std.proofs.lemmas.Bool.{and_parts}
 use Rattle.std.proofs.lemmas.List.{map-append}
@@ -29,11 +30,16 @@ use Rattle.ln_bound.specs.Loads.{load_of, loaded, loaded_lets, loaded_pred, rang
 
 module _ (vars : List VarInfo) where
   -- one node
-  light-node : (ps : List Range) (k : ℕ) (ts : List Tree) (f : Formula) → AreClosed (length vars) ts → is_fit (length vars) k (tree vars f) ≡ true → load_of vars ps (map (weight two) ts) f ≤ most → IsLight (length vars) two (inlined ts (tree vars f))
-  light-node ps k ts f a g l = record { inputs = inputs-inlined (length vars) k ts (tree vars f) a g; light = let e = weight-inlined two ts (tree vars f) in omega (arith, l, e) }
+  light-node : (ps : List Range) (k : ℕ) (ts : List Tree) (f : Formula) → AreClosed (length vars) ts → is_fit (length vars) k (tree vars f) ≡ true
+      → load_of vars ps (map (weight two) ts) f ≤ most → IsLight (length vars) two (inlined ts (tree vars f))
+  light-node ps k ts f a g l = record {
+    inputs = inputs-inlined (length vars) k ts (tree vars f) a g;
+    light = let e = weight-inlined two ts (tree vars f) in omega (arith, l, e);
+  }
 
   -- all nodes of an expression
-  pub light-nodes : (ps : List Range) (k : ℕ) (ts : List Tree) (f : Formula) → AreClosed (length vars) ts → is_fit (length vars) k (tree vars f) ≡ true → HaveWeights (loaded vars ps (map (weight two) ts) f) → AreLight (length vars) two ts (tree vars f)
+  pub light-nodes : (ps : List Range) (k : ℕ) (ts : List Tree) (f : Formula) → AreClosed (length vars) ts → is_fit (length vars) k (tree vars f) ≡ true
+      → HaveWeights (loaded vars ps (map (weight two) ts) f) → AreLight (length vars) two ts (tree vars f)
   light-nodes ps k ts (FNum at c) a g l = light-node ps k ts (FNum at c) a g l.0
   light-nodes ps k ts (FInput at i c) a g l = light-node ps k ts (FInput at i c) a g l.0
   light-nodes ps k ts (FName at j) a g l = light-node ps k ts (FName at j) a g l.0
@@ -60,7 +66,8 @@ module _ (vars : List VarInfo) where
       let h = and_parts (is_fit (length vars) k (tree vars e)) _ g in
       (light-nodes ps k ts e a h.0 p.0, light-node ps k ts (FPow at e m) a g p.1.0)
 
-  next-weights : (ts : List Tree) (f : Formula) → map (weight two) (ts ++ inlined ts (tree vars f) ∷ []) ≡ map (weight two) ts ++ size_over (map (weight two) ts) (tree vars f) ∷ []
+  next-weights : (ts : List Tree) (f : Formula)
+      → map (weight two) (ts ++ inlined ts (tree vars f) ∷ []) ≡ map (weight two) ts ++ size_over (map (weight two) ts) (tree vars f) ∷ []
   next-weights ts f = map-append (weight two) ts (inlined ts (tree vars f) ∷ []) ∙ ap (λ z. map (weight two) ts ++ z ∷ []) (weight-inlined two ts (tree vars f))
 
   -- what holds of the lets
@@ -69,7 +76,8 @@ module _ (vars : List VarInfo) where
     pub closed : AreClosed (length vars) (inlined_after done (map (tree vars) fs))
     pub weigh : map (weight two) (inlined_after done (map (tree vars) fs)) ≡ sizes_of_lets vars (map (weight two) done) fs
 
-  pub light-lets : (ps : List Range) (k : ℕ) (done : List Tree) (fs : List Formula) → AreClosed (length vars) done → lets_fit (length vars) k (map (tree vars) fs) ≡ true → HaveWeights (loaded_lets vars ps (map (weight two) done) fs) → LightLets done fs
+  pub light-lets : (ps : List Range) (k : ℕ) (done : List Tree) (fs : List Formula) → AreClosed (length vars) done
+      → lets_fit (length vars) k (map (tree vars) fs) ≡ true → HaveWeights (loaded_lets vars ps (map (weight two) done) fs) → LightLets done fs
   light-lets ps k done [] a g l = record { lets = tt; closed = a; weigh = refl }
   light-lets ps k done (f ∷ fs) a g l =
       let h = and_parts (is_fit (length vars) k (tree vars f)) _ g in
@@ -77,30 +85,41 @@ module _ (vars : List VarInfo) where
       let i = inputs-inlined (length vars) k done (tree vars f) a h.0 in
       let e = next-weights done f in
       let qs = ps ++ range_over (ranges vars) ps (tree vars f) ∷ [] in
-      let l' : HaveWeights (loaded_lets vars qs (map (weight two) (done ++ inlined done (tree vars f) ∷ [])) fs) = subst (λ ws. HaveWeights (loaded_lets vars qs ws fs)) (sym e) p.1 in
+      let l' : HaveWeights (loaded_lets vars qs (map (weight two) (done ++ inlined done (tree vars f) ∷ [])) fs) =
+      subst (λ ws. HaveWeights (loaded_lets vars qs ws fs)) (sym e) p.1 in
       let r = light-lets qs (suc k) (done ++ inlined done (tree vars f) ∷ []) fs (closed-more (length vars) done (inlined done (tree vars f)) a i) h.1 l' in
       record { lets = (light-nodes ps k done f a h.0 p.0, r.lets); closed = r.closed; weigh = r.weigh ∙ ap (λ ws. sizes_of_lets vars ws fs) e }
 
   -- the lets and the root of a predicate no node of which has too large a range or size
-  pub light-pred : (k : ℕ) (lets : List Formula) (root : Formula) → lets_fit (length vars) 0 (map (tree vars) lets) ≡ true → is_fit (length vars) k (tree vars root) ≡ true → HaveWeights (loaded_pred vars lets root)
+  pub light-pred : (k : ℕ) (lets : List Formula) (root : Formula) → lets_fit (length vars) 0 (map (tree vars) lets) ≡ true
+      → is_fit (length vars) k (tree vars root) ≡ true → HaveWeights (loaded_pred vars lets root)
       → LetsAreLight (length vars) two [] (map (tree vars) lets) × AreLight (length vars) two (closed_lets vars lets) (tree vars root)
   light-pred k lets root g h l =
       let p = light_parts (loaded_lets vars [] [] lets) _ l in
-      let r = light-lets [] 0 [] lets tt g p.0 in
-      (r.lets, light-nodes (ranges_of_lets vars [] lets) k (closed_lets vars lets) root r.closed h (subst (λ ws. HaveWeights (loaded vars (ranges_of_lets vars [] lets) ws root)) (sym r.weigh) p.1))
+      let r = light-lets [] 0 [] lets tt g p.0 in (
+        r.lets,
+        light-nodes (ranges_of_lets vars [] lets) k (closed_lets vars lets) root r.closed h
+            (subst (λ ws. HaveWeights (loaded vars (ranges_of_lets vars [] lets) ws root)) (sym r.weigh) p.1),
+      )
 
--- the w-weighted sum of the normal polynomial is within the limit where no node is too heavy by weight
-pub light-root : (vars : List VarInfo) (k : ℕ) (lets : List Formula) (root : Formula) (f : Sparse) → lets_fit (length vars) 0 (map (tree vars) lets) ≡ true → is_fit (length vars) k (tree vars root) ≡ true → HaveWeights (weighed_pred vars lets root) → IsNormal (length vars) (closed_root vars lets root) f → weighted_sum (weights vars) (terms_of (length vars) f) ≤ most
+-- the w-weighted sum of the normal polynomial is within the limit where no node's weight is too large
+pub light-root : (vars : List VarInfo) (k : ℕ) (lets : List Formula) (root : Formula) (f : Sparse)
+    → lets_fit (length vars) 0 (map (tree vars) lets) ≡ true → is_fit (length vars) k (tree vars root) ≡ true → HaveWeights (weighed_pred vars lets root)
+    → IsNormal (length vars) (closed_root vars lets root) f → weighted_sum (weights vars) (terms_of (length vars) f) ≤ most
 light-root vars k lets root f g h l p =
     let r = light-weights vars k lets root g h l in
-    root-weight (length vars) (weights vars) (closed_root vars lets root) f (root-light (length vars) (weights vars) (closed_lets vars lets) (tree vars root) r.1) p
+    root-weight (length vars) (weights vars) (closed_root vars lets root) f
+    (root-light (length vars) (weights vars) (closed_lets vars lets) (tree vars root) r.1) p
 
 -- no degree is above 126 where the size is within the limit
 pub size-degrees : (n : ℕ) (e : Tree) (f : Sparse) → IsLight n two e → IsNormal n e f → All (λ t. total_degree (vector n t.0) ≤ 126) f
 size-degrees n e f l p = root-degrees n two e f (λ v h. omega arith) l p
 
--- ---- what a predicate gives
--- its nodes may be expanded where no load passes the limit
-pub pred-expands : (args : List Arg) (vars : List VarInfo) (es : List Expr) (names : ℕ) (root : Expr) → is_pred args vars es names root ≡ true → HaveWeights (loaded_pred vars (map formula es) (formula root))
-    → LetsAreLight (length vars) two [] (map (tree vars) (map formula es)) × AreLight (length vars) two (closed_lets vars (map formula es)) (tree vars (formula root))
-pred-expands args vars es names root k l = light-pred vars (length es) (map formula es) (formula root) (pred-fit args vars es names root k) (parts_of args vars es names root k).fit_root l
+-- ---- what holds of a predicate
+-- its nodes may be expanded where no load exceeds the limit
+pub pred-expands : (args : List Arg) (vars : List VarInfo) (es : List Expr) (names : ℕ) (root : Expr)
+    → is_pred args vars es names root ≡ true → HaveWeights (loaded_pred vars (map formula es) (formula root))
+    → LetsAreLight (length vars) two [] (map (tree vars) (map formula es))
+    × AreLight (length vars) two (closed_lets vars (map formula es)) (tree vars (formula root))
+pred-expands args vars es names root k l =
+    light-pred vars (length es) (map formula es) (formula root) (pred-fit args vars es names root k) (parts_of args vars es names root k).fit_root l

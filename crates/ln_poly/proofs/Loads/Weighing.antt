@@ -1,5 +1,6 @@
 -- Weights, pair by pair and term by term.
-use Rattle.std.proofs.Common.{◌≡◌, ℕ, ◌+◌, ◌*◌, ◌<◌, ◌≤◌, ◌^◌, zero, suc, refl, sym, ◌∙◌, ap, subst, arith, List, [], ◌∷◌, length, ◌-◌, take, get_or, true, false, eqb, eq-eqb, unsigned_abs, add-one}
+use Rattle.std.proofs.Common.{◌≡◌, ℕ, ◌+◌, ◌*◌, ◌<◌, ◌≤◌, ◌^◌, zero, suc, refl, sym, ◌∙◌, ap, subst, arith, List, [], ◌∷◌, length, ◌-◌}
+use Rattle.std.proofs.Common.{take, get_or, true, false, eqb, eq-eqb, unsigned_abs, add-one}
 use Rattle.std.specs.Prelude.{MatchOption, None, Option, Some, slice_get}
 use Rattle.std.proofs.Math.IntN.{ℤ}
 use Rattle.std.proofs.Math.Nat.{pow-zero, pow-suc, mul-le-mul_left}
@@ -27,7 +28,8 @@ weight-plus w [] (k ∷ b) h = absurd (omega arith)
 weight-plus w (n ∷ a) [] h = absurd (omega arith)
 weight-plus w (n ∷ a) (k ∷ b) h =
     let v : ℕ → ℕ = λ u. w (suc u) in
-    four_ℕ (w 0 ^ n) (w 0 ^ k) (monomial_weight v a) (monomial_weight v b) (w 0 ^ (n + k)) (monomial_weight v (plus a b)) (pow-add (w 0) n k) (weight-plus v a b (omega arith))
+    four_ℕ (w 0 ^ n) (w 0 ^ k) (monomial_weight v a) (monomial_weight v b) (w 0 ^ (n + k)) (monomial_weight v (plus a b))
+    (pow-add (w 0) n k) (weight-plus v a b (omega arith))
 
 -- no pair: the monomial 1
 weight-none : (w : ℕ → ℕ) (v n : ℕ) → monomial_weight w (exponents_from v n []) ≡ 1
@@ -71,9 +73,15 @@ pub total-weight : (w : ℕ → ℕ) (n : ℕ) (f : Sparse) → AreBelow n f →
 unfolding total_weight
 total-weight w n [] a = refl
 total-weight w n (t ∷ f) a =
-    omega (arith, sum_by-cons (term_weight w) t f, total-weight w n f (All-tail (λ z. IsAbove z.0 n) t f a), ap (λ z. unsigned_abs t.1 * z) (weight-pairs w n t.0 (All-head (λ z. IsAbove z.0 n) t f a)))
+    omega (
+      arith,
+      sum_by-cons (term_weight w) t f,
+      total-weight w n f (All-tail (λ z. IsAbove z.0 n) t f a),
+      ap (λ z. unsigned_abs t.1 * z) (weight-pairs w n t.0 (All-head (λ z. IsAbove z.0 n) t f a)),
+    )
 
-pub total-more : (w : ℕ → ℕ) (f : Sparse) (i : ℕ) (t : Pairs × ℤ) → i < length f → t ≡ get_or f i t → total_weight w (take (i + 1) f) ≡ total_weight w (take i f) + term_weight w t
+pub total-more : (w : ℕ → ℕ) (f : Sparse) (i : ℕ) (t : Pairs × ℤ) → i < length f → t ≡ get_or f i t
+    → total_weight w (take (i + 1) f) ≡ total_weight w (take i f) + term_weight w t
 unfolding total_weight
 total-more w f i t h e = omega (arith, sum_by_more (term_weight w) f i t h, ap (term_weight w) e)
 
@@ -85,8 +93,9 @@ pub total-nil : (w : ℕ → ℕ) → total_weight w [] ≡ 0
 unfolding total_weight
 total-nil w = refl
 
--- one term more is too heavy, and so is the whole
-pub total-heavy : (w : ℕ → ℕ) (f : Sparse) (i : ℕ) (t : Pairs × ℤ) (s : ℕ) → i < length f → t ≡ get_or f i t → s ≡ total_weight w (take i f) → most < s + term_weight w t → most < total_weight w f
+-- one term more is too large, and so is the whole
+pub total-heavy : (w : ℕ → ℕ) (f : Sparse) (i : ℕ) (t : Pairs × ℤ) (s : ℕ) → i < length f → t ≡ get_or f i t → s ≡ total_weight w (take i f)
+    → most < s + term_weight w t → most < total_weight w f
 total-heavy w f i t s h e p q = omega (arith, total-more w f i t h e, total-take w f (i + 1))
 
 -- ---- powers
@@ -105,7 +114,7 @@ times-le a (suc b) h = omega arith
 pub pow-le : (m a d : ℕ) → 0 < m → m ^ a ≤ m ^ (a + d)
 pow-le m a d h = rw pow-add (times-le (m ^ a) (m ^ d) (pow-some m d h))
 
--- a lower power that is too heavy
+-- a lower power that is too large
 pub scaled-heavy : (w m k e p : ℕ) → 0 < m → k < e → p ≡ w * m ^ k → most < p * m → most < w * m ^ e
 scaled-heavy w m k e p h l q r =
     let d : ℕ = e - (k + 1) in
@@ -143,16 +152,20 @@ weight-some n w h (p ∷ ps) a = product-some (w p.0 ^ p.1) (pairs_weight w ps) 
   product-some zero b p q = absurd (omega arith)
   product-some (suc a) zero p q = absurd (omega arith)
 
-pairs-more : (w : ℕ → ℕ) (ps : Pairs) (i : ℕ) → i < length ps → pairs_weight w (take (i + 1) ps) ≡ pairs_weight w (take i ps) * w (get_or ps i (0, 0)).0 ^ (get_or ps i (0, 0)).1
+pairs-more : (w : ℕ → ℕ) (ps : Pairs) (i : ℕ) → i < length ps
+    → pairs_weight w (take (i + 1) ps) ≡ pairs_weight w (take i ps) * w (get_or ps i (0, 0)).0 ^ (get_or ps i (0, 0)).1
 pairs-more w [] i h = absurd (omega arith)
 pairs-more w (p ∷ ps) zero h = omega arith
 pairs-more w (p ∷ ps) (suc i) h =
-    let ih : pairs_weight w (take (suc i) ps) ≡ pairs_weight w (take i ps) * w (get_or ps i (0, 0)).0 ^ (get_or ps i (0, 0)).1 = rw add-one at (pairs-more w ps i (omega arith)) in
-    rw add-one (ap (λ z. w p.0 ^ p.1 * z) ih ∙ sym (times-assoc (w p.0 ^ p.1) (pairs_weight w (take i ps)) (w (get_or ps i (0, 0)).0 ^ (get_or ps i (0, 0)).1))) where
-      times-assoc : (a b c : ℕ) → (a * b) * c ≡ a * (b * c)
-      times-assoc a b c = omega arith
+    let ih : pairs_weight w (take (suc i) ps) ≡ pairs_weight w (take i ps) * w (get_or ps i (0, 0)).0 ^ (get_or ps i (0, 0)).1 =
+    rw add-one at (pairs-more w ps i (omega arith)) in
+    rw add-one (ap (λ z. w p.0 ^ p.1 * z) ih ∙ sym (times-assoc (w p.0 ^ p.1) (pairs_weight w (take i ps)) (w (get_or ps i (0, 0)).0 ^ (get_or ps i (0, 0)).1)))
+  where
+    times-assoc : (a b c : ℕ) → (a * b) * c ≡ a * (b * c)
+    times-assoc a b c = omega arith
 
-pairs-take : (n : ℕ) (vars : List VarInfo) (ps : Pairs) (i : ℕ) → IsAbove ps (length vars) → pairs_weight (grown n vars) (take i ps) ≤ pairs_weight (grown n vars) ps
+pairs-take : (n : ℕ) (vars : List VarInfo) (ps : Pairs) (i : ℕ) → IsAbove ps (length vars)
+    → pairs_weight (grown n vars) (take i ps) ≤ pairs_weight (grown n vars) ps
 pairs-take n vars ps zero a = weight-some (length vars) (grown n vars) (grown-some n vars) ps a
 pairs-take n vars [] (suc i) a = omega arith
 pairs-take n vars (p ∷ ps) (suc i) a = mul-le-mul_left (grown n vars p.0 ^ p.1) (pairs-take n vars ps i a.1)
@@ -160,15 +173,18 @@ pairs-take n vars (p ∷ ps) (suc i) a = mul-le-mul_left (grown n vars p.0 ^ p.1
 pub weighed-init : (c : ℕ) (w : ℕ → ℕ) (ps : Pairs) → c ≤ most → IsWeighed c c w ps 0
 weighed-init c w ps h = record { product = omega arith; small = h }
 
-pub weighed-step : (p q c : ℕ) (w : ℕ → ℕ) (ps : Pairs) (i : ℕ) → IsWeighed p c w ps i → i < length ps → q ≡ p * w (get_or ps i (0, 0)).0 ^ (get_or ps i (0, 0)).1 → q ≤ most → IsWeighed q c w ps (i + 1)
+pub weighed-step : (p q c : ℕ) (w : ℕ → ℕ) (ps : Pairs) (i : ℕ) → IsWeighed p c w ps i → i < length ps
+    → q ≡ p * w (get_or ps i (0, 0)).0 ^ (get_or ps i (0, 0)).1 → q ≤ most → IsWeighed q c w ps (i + 1)
 weighed-step p q c w ps i r h e s = record {
-  product = e ∙ ap (λ z. z * w (get_or ps i (0, 0)).0 ^ (get_or ps i (0, 0)).1) r.product ∙ times-assoc c (pairs_weight w (take i ps)) (w (get_or ps i (0, 0)).0 ^ (get_or ps i (0, 0)).1) ∙ ap (λ z. c * z) (sym (pairs-more w ps i h));
+  product = e ∙ ap (λ z. z * w (get_or ps i (0, 0)).0 ^ (get_or ps i (0, 0)).1) r.product
+      ∙ times-assoc c (pairs_weight w (take i ps)) (w (get_or ps i (0, 0)).0 ^ (get_or ps i (0, 0)).1) ∙ ap (λ z. c * z) (sym (pairs-more w ps i h));
   small = s;
 } where
   times-assoc : (a b c : ℕ) → (a * b) * c ≡ a * (b * c)
   times-assoc a b c = omega arith
 
-pub weighed-heavy : (n p c : ℕ) (vars : List VarInfo) (ps : Pairs) (i : ℕ) → IsAbove ps (length vars) → IsWeighed p c (grown n vars) ps i → i < length ps → most < p * grown n vars (get_or ps i (0, 0)).0 ^ (get_or ps i (0, 0)).1 → most < c * pairs_weight (grown n vars) ps
+pub weighed-heavy : (n p c : ℕ) (vars : List VarInfo) (ps : Pairs) (i : ℕ) → IsAbove ps (length vars) → IsWeighed p c (grown n vars) ps i
+    → i < length ps → most < p * grown n vars (get_or ps i (0, 0)).0 ^ (get_or ps i (0, 0)).1 → most < c * pairs_weight (grown n vars) ps
 weighed-heavy n p c vars ps i a r h q =
     let e : ℕ = grown n vars (get_or ps i (0, 0)).0 ^ (get_or ps i (0, 0)).1 in
     let x : p * e ≡ c * (pairs_weight (grown n vars) (take i ps) * e) = ap (λ z. z * e) r.product ∙ times-assoc c (pairs_weight (grown n vars) (take i ps)) e in
@@ -184,15 +200,20 @@ scaled-step w m k p q e f = f ∙ ap (λ t. t * m) e ∙ times-assoc w (m ^ k) m
   times-assoc : (a b c : ℕ) → (a * b) * c ≡ a * (b * c)
   times-assoc a b c = omega arith
 
--- ---- the answers of `weight`, whatever the lists are called
-pub heavy-end : (n : ℕ) (vars' vars : List VarInfo) (f' f : Sparse) (i : ℕ) (t : Pairs × ℤ) (s : ℕ) → vars' ≡ vars → f' ≡ f → AreBelow (length vars) f → i < length f' → t ≡ get_or f' i t → s ≡ total_weight (grown n vars') (take i f') → most < s + term_weight (grown n vars') t → most < weighted_sum (grown n vars) (terms_of (length vars) f)
+-- ---- the results of `weight`, whatever the lists are called
+pub heavy-end : (n : ℕ) (vars' vars : List VarInfo) (f' f : Sparse) (i : ℕ) (t : Pairs × ℤ) (s : ℕ) → vars' ≡ vars
+    → f' ≡ f → AreBelow (length vars) f → i < length f' → t ≡ get_or f' i t → s ≡ total_weight (grown n vars') (take i f')
+    → most < s + term_weight (grown n vars') t → most < weighted_sum (grown n vars) (terms_of (length vars) f)
 heavy-end n vars' vars f' f i t s p q b h e x y =
-    let z : most < total_weight (grown n vars) f = subst (λ v. most < total_weight (grown n v) f) p (subst (λ g. most < total_weight (grown n vars') g) q (total-heavy (grown n vars') f' i t s h e x y)) in
+    let z : most < total_weight (grown n vars) f =
+    subst (λ v. most < total_weight (grown n v) f) p (subst (λ g. most < total_weight (grown n vars') g) q (total-heavy (grown n vars') f' i t s h e x y)) in
     omega (arith, z, total-weight (grown n vars) (length vars) f b)
 
-pub sum-end : (n : ℕ) (vars' vars : List VarInfo) (f' f : Sparse) (i s : ℕ) → vars' ≡ vars → f' ≡ f → AreBelow (length vars) f → length f' ≤ i → s ≡ total_weight (grown n vars') (take i f') → s ≡ weighted_sum (grown n vars) (terms_of (length vars) f)
+pub sum-end : (n : ℕ) (vars' vars : List VarInfo) (f' f : Sparse) (i s : ℕ) → vars' ≡ vars → f' ≡ f → AreBelow (length vars) f
+    → length f' ≤ i → s ≡ total_weight (grown n vars') (take i f') → s ≡ weighted_sum (grown n vars) (terms_of (length vars) f)
 sum-end n vars' vars f' f i s p q b h x =
-    let z : s ≡ total_weight (grown n vars) f = subst (λ v. s ≡ total_weight (grown n v) f) p (subst (λ g. s ≡ total_weight (grown n vars') g) q (x ∙ ap (total_weight (grown n vars')) (take_all i f' h))) in
+    let z : s ≡ total_weight (grown n vars) f = subst (λ v. s ≡ total_weight (grown n v) f) p
+    (subst (λ g. s ≡ total_weight (grown n vars') g) q (x ∙ ap (total_weight (grown n vars')) (take_all i f' h))) in
     z ∙ sym (total-weight (grown n vars) (length vars) f b)
 
 -- ---- M and w
@@ -229,8 +250,12 @@ as_sum : (o : Option ℕ) (a b : ℕ) → a ≡ b → MatchOption o (most < a) (
 as_sum o a b e h = rw e at h
 
 -- the sum that the code has is the M-weighted sum, or the w-weighted one
-pub as-sizes : (o : Option ℕ) (vars : List VarInfo) (f : List Term) → MatchOption o (most < weighted_sum (grown 0 vars) f) (λ s. (s ≡ weighted_sum (grown 0 vars) f) × (s ≤ most)) → MatchOption o (most < weighted_sum (sizes vars) f) (λ s. (s ≡ weighted_sum (sizes vars) f) × (s ≤ most))
+pub as-sizes : (o : Option ℕ) (vars : List VarInfo) (f : List Term)
+    → MatchOption o (most < weighted_sum (grown 0 vars) f) (λ s. (s ≡ weighted_sum (grown 0 vars) f) × (s ≤ most))
+    → MatchOption o (most < weighted_sum (sizes vars) f) (λ s. (s ≡ weighted_sum (sizes vars) f) × (s ≤ most))
 as-sizes o vars f h = as_sum o (weighted_sum (grown 0 vars) f) (weighted_sum (sizes vars) f) (same_sum (grown 0 vars) (sizes vars) (grown-none vars) f) h
 
-pub as-weights : (o : Option ℕ) (vars : List VarInfo) (f : List Term) → MatchOption o (most < weighted_sum (grown 1 vars) f) (λ s. (s ≡ weighted_sum (grown 1 vars) f) × (s ≤ most)) → MatchOption o (most < weighted_sum (weights vars) f) (λ s. (s ≡ weighted_sum (weights vars) f) × (s ≤ most))
+pub as-weights : (o : Option ℕ) (vars : List VarInfo) (f : List Term)
+    → MatchOption o (most < weighted_sum (grown 1 vars) f) (λ s. (s ≡ weighted_sum (grown 1 vars) f) × (s ≤ most))
+    → MatchOption o (most < weighted_sum (weights vars) f) (λ s. (s ≡ weighted_sum (weights vars) f) × (s ≤ most))
 as-weights o vars f h = as_sum o (weighted_sum (grown 1 vars) f) (weighted_sum (weights vars) f) (same_sum (grown 1 vars) (weights vars) (grown-one vars) f) h

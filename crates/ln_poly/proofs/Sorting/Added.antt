@@ -1,5 +1,6 @@
 -- Two polynomials have a sum.
-use Rattle.std.proofs.Common.{◌≡◌, ◌⊎◌, inl, inr, ℕ, ◌+◌, ◌-◌, ◌<◌, ◌≤◌, ◌^◌, zero, suc, refl, sym, ◌∙◌, ap, subst, arith, [], ◌∷◌, ◌++◌, length, get_or, Less, Equal, Greater}
+use Rattle.std.proofs.Common.{◌≡◌, ◌⊎◌, inl, inr, ℕ, ◌+◌, ◌-◌, ◌<◌, ◌≤◌, ◌^◌, zero, suc, refl, sym, ◌∙◌, ap, subst, arith, [], ◌∷◌, ◌++◌}
+use Rattle.std.proofs.Common.{length, get_or, Less, Equal, Greater}
 use Rattle.std.proofs.lemmas.List.{length_push}
 use Rattle.std.proofs.Math.IntN.{ℤ, pos, ◌+ℤ◌}
 use Rattle.std.specs.Ordering.{MatchOrdering}
@@ -35,7 +36,7 @@ none [] h = refl
 none (t ∷ f) h = absurd (omega arith)
 
 -- ---- one step
--- a term that is taken from two lists, and what is left of both
+-- a term that is taken from two lists, and the remaining terms of both
 record Step (f g : Sparse) : Type 0 where
   first : Sparse
   second : Sparse

@@ -1,5 +1,6 @@
--- Pairs behind others, all of whose variables are lower.
-use Rattle.std.proofs.Common.{◌≡◌, ℕ, ◌+◌, ◌-◌, ◌<◌, ◌≤◌, zero, suc, sym, ◌∙◌, ap, subst, arith, [], ◌∷◌, ◌++◌, length, take, get_or, append_assoc, true, nat_lt}
+-- Pairs after others, all of whose variables are lower.
+use Rattle.std.proofs.Common.{◌≡◌, ℕ, ◌+◌, ◌-◌, ◌<◌, ◌≤◌, zero, suc, sym, ◌∙◌, ap, subst, arith, [], ◌∷◌, ◌++◌, length, take, get_or}
+use Rattle.std.proofs.Common.{append_assoc, true, nat_lt}
 use Rattle.std.proofs.lemmas.Bool.Decides.{nat_tests}
 use Rattle.std.proofs.lemmas.List.{take_all, take_more}
 use Rattle.ln_tree.specs.Exps.{AllAbove, IsAbove, IsRising, Pairs, exponent}
@@ -35,10 +36,11 @@ low-last (p ∷ o ∷ a) (q ∷ b) (suc i) r s h k l =
 low-test : (x y : ℕ) → nat_lt x y ≡ true → x < y
 low-test x y e = grind (arith, nat_tests)
 
-pub low-tested : (a b : Pairs) → IsRising a → IsRising b → 0 < length a → 0 < length b → nat_lt (get_or a (length a - 1) (0, 0)).0 (get_or b 0 (0, 0)).0 ≡ true → AreLow a b
+pub low-tested : (a b : Pairs) → IsRising a → IsRising b → 0 < length a → 0 < length b
+    → nat_lt (get_or a (length a - 1) (0, 0)).0 (get_or b 0 (0, 0)).0 ≡ true → AreLow a b
 low-tested a b r s h k t = low-last a b (length a - 1) r s (omega (arith, h)) k (low-test (get_or a (length a - 1) (0, 0)).0 (get_or b 0 (0, 0)).0 t)
 
--- what is out so far stands below the next pair
+-- what is out so far is below the next pair
 above-more : (a b : Pairs) (i : ℕ) → AreLow a b → IsRising b → i < length b → IsAbove a (get_or b i (0, 0)).0
 above-more [] b i l r h = tt
 above-more (p ∷ a) b i l r h = (above-at p.0 b i h l.0, above-more a b i l.1 r h)
@@ -53,7 +55,8 @@ above-append [] b v h k = k
 above-append (p ∷ a) b v h k = (h.0, above-append a b v h.1 k)
 
 pub behind-above : (out a b : Pairs) (i : ℕ) → out ≡ a ++ take i b → AreLow a b → IsRising b → i < length b → IsAbove out (get_or b i (0, 0)).0
-behind-above out a b i e l r h = subst (λ z. IsAbove z (get_or b i (0, 0)).0) (sym e) (above-append a (take i b) (get_or b i (0, 0)).0 (above-more a b i l r h) (above-take b i r h))
+behind-above out a b i e l r h =
+    subst (λ z. IsAbove z (get_or b i (0, 0)).0) (sym e) (above-append a (take i b) (get_or b i (0, 0)).0 (above-more a b i l r h) (above-take b i r h))
 
 pub positive-at : (ps : Pairs) (i : ℕ) → IsRising ps → i < length ps → 0 < (get_or ps i (0, 0)).1
 positive-at [] i r h = absurd (omega arith)

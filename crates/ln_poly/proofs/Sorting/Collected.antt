@@ -44,7 +44,8 @@ rising-same (p ∷ a) [] r s h = absurd (omega (arith, r.0, h p.0, exponent-here
 rising-same (p ∷ a) (q ∷ b) r s h = by_case (λ e f. rising-same a b r.3 s.3 (rest e f)) (cases_lt p.0 q.0) (cases_lt q.0 p.0) where
   rest : p.0 ≡ q.0 → p.1 ≡ q.1 → (v : ℕ) → exponent v a ≡ exponent v b
   rest e f v =
-      let g : (if eqb p.0 v then p.1 else 0) ≡ (if eqb q.0 v then q.1 else 0) = ap (λ z. if eqb z v then p.1 else 0) e ∙ ap (λ z. if eqb q.0 v then z else 0) f in
+      let g : (if eqb p.0 v then p.1 else 0) ≡ (if eqb q.0 v then q.1 else 0) =
+      ap (λ z. if eqb z v then p.1 else 0) e ∙ ap (λ z. if eqb q.0 v then z else 0) f in
       omega (arith, h v, g)
 
   by_case : (p.0 ≡ q.0 → p.1 ≡ q.1 → a ≡ b) → (p.0 < q.0) ⊎ (q.0 ≤ p.0) → (q.0 < p.0) ⊎ (p.0 ≤ q.0) → p ∷ a ≡ q ∷ b
@@ -60,16 +61,18 @@ rising-same (p ∷ a) (q ∷ b) r s h = by_case (λ e f. rising-same a b r.3 s.3
 -- equal vectors have equal exponents
 exponent-from : (v n u : ℕ) (a b : Pairs) → exponents_from v n a ≡ exponents_from v n b → v ≤ u → u < v + n → exponent u a ≡ exponent u b
 exponent-from v zero u a b h l k = absurd (omega arith)
-exponent-from v (suc n) u a b h l k = by_case (cases_lt v u) (λ g. exponent-from (suc v) n u a b (heads (exponent v a) (exponent v b) (exponents_from (suc v) n a) (exponents_from (suc v) n b) h).1 g (omega arith)) where
-  heads : (x y : ℕ) (xs ys : List ℕ) → x ∷ xs ≡ y ∷ ys → (x ≡ y) × (xs ≡ ys)
-  heads x y xs ys e = (cc, cc)
+exponent-from v (suc n) u a b h l k = by_case (cases_lt v u)
+    (λ g. exponent-from (suc v) n u a b (heads (exponent v a) (exponent v b) (exponents_from (suc v) n a) (exponents_from (suc v) n b) h).1 g (omega arith))
+  where
+    heads : (x y : ℕ) (xs ys : List ℕ) → x ∷ xs ≡ y ∷ ys → (x ≡ y) × (xs ≡ ys)
+    heads x y xs ys e = (cc, cc)
 
-  by_case : (v < u) ⊎ (u ≤ v) → (suc v ≤ u → exponent u a ≡ exponent u b) → exponent u a ≡ exponent u b
-  by_case (inl g) ih = ih (omega arith)
-  by_case (inr g) ih =
-      let e : v ≡ u = omega arith in
-      let x : exponent v a ≡ exponent v b = (heads (exponent v a) (exponent v b) (exponents_from (suc v) n a) (exponents_from (suc v) n b) h).0 in
-      rw e at x
+    by_case : (v < u) ⊎ (u ≤ v) → (suc v ≤ u → exponent u a ≡ exponent u b) → exponent u a ≡ exponent u b
+    by_case (inl g) ih = ih (omega arith)
+    by_case (inr g) ih =
+        let e : v ≡ u = omega arith in
+        let x : exponent v a ≡ exponent v b = (heads (exponent v a) (exponent v b) (exponents_from (suc v) n a) (exponents_from (suc v) n b) h).0 in
+        rw e at x
 
 -- rising pairs below n with equal vectors are equal
 pub vectors-same : (n : ℕ) (a b : Pairs) → IsRising a → IsRising b → IsAbove a n → IsAbove b n → vector n a ≡ vector n b → a ≡ b
@@ -86,18 +89,23 @@ cmp-differ a b h e =
     let z : is_eq Less ≡ true = ap is_eq (sym x) ∙ y in
     cc
 
-lacks : (n : ℕ) (t : Pairs × ℤ) (f : Sparse) → AllByRecursion (λ (y : Pairs × ℤ). pairs_cmp t.0 y.0 ≡ Less) f → IsRising t.0 → IsAbove t.0 n → AreRising f → AreBelow n f → Lacks (terms_of n f) (vector n t.0)
+lacks : (n : ℕ) (t : Pairs × ℤ) (f : Sparse) → AllByRecursion (λ (y : Pairs × ℤ). pairs_cmp t.0 y.0 ≡ Less) f → IsRising t.0 → IsAbove t.0 n
+    → AreRising f → AreBelow n f → Lacks (terms_of n f) (vector n t.0)
 lacks n t [] h r b rs bs = tt
-lacks n t (y ∷ f) h r b rs bs = (by_case (same_vector (vector n y.0) (vector n t.0)) refl, lacks n t f h.1 r b (All-tail (λ z. IsRising z.0) y f rs) (All-tail (λ z. IsAbove z.0 n) y f bs)) where
-  by_case : (z : Bool) → same_vector (vector n y.0) (vector n t.0) ≡ z → z ≡ false
-  by_case false e = refl
-  by_case true e = absurd (cmp-differ t.0 y.0 h.0 (vectors-same n t.0 y.0 r (All-head (λ z. IsRising z.0) y f rs) b (All-head (λ z. IsAbove z.0 n) y f bs) (sym (same_vector-is (vector n y.0) (vector n t.0) e))))
+lacks n t (y ∷ f) h r b rs bs =
+    (by_case (same_vector (vector n y.0) (vector n t.0)) refl, lacks n t f h.1 r b (All-tail (λ z. IsRising z.0) y f rs) (All-tail (λ z. IsAbove z.0 n) y f bs))
+  where
+    by_case : (z : Bool) → same_vector (vector n y.0) (vector n t.0) ≡ z → z ≡ false
+    by_case false e = refl
+    by_case true e = absurd (cmp-differ t.0 y.0 h.0 (vectors-same n t.0 y.0 r (All-head (λ z. IsRising z.0) y f rs) b
+        (All-head (λ z. IsAbove z.0 n) y f bs) (sym (same_vector-is (vector n y.0) (vector n t.0) e))))
 
 collected-from : (n : ℕ) (f : Sparse) → IsStrictlySortedBy (on (λ (t : Pairs × ℤ). t.0) pairs_cmp) f → AreRising f → AreBelow n f → IsCollected (terms_of n f)
 unfolding IsStrictlySortedBy
 collected-from n [] s r b = tt
 collected-from n (t ∷ f) s r b = (
-  lacks n t f s.0 (All-head (λ z. IsRising z.0) t f r) (All-head (λ z. IsAbove z.0 n) t f b) (All-tail (λ z. IsRising z.0) t f r) (All-tail (λ z. IsAbove z.0 n) t f b),
+  lacks n t f s.0 (All-head (λ z. IsRising z.0) t f r) (All-head (λ z. IsAbove z.0 n) t f b) (All-tail (λ z. IsRising z.0) t f r)
+      (All-tail (λ z. IsAbove z.0 n) t f b),
   collected-from n f s.1 (All-tail (λ z. IsRising z.0) t f r) (All-tail (λ z. IsAbove z.0 n) t f b),
 )
 

@@ -22,14 +22,16 @@ exps-set (x ∷ xs) zero e a c h = ap (λ z. z ∷ exps_of xs) (ap (λ (t : Pair
 exps-set (x ∷ xs) (suc i) e a c h = ap (λ z. x.0 ∷ z) (exps-set xs i e a c h)
 
 -- ---- zeros
--- the test of equality of whole numbers
+-- the test of equality of integers
 pub int_eq-is : (y z : ℤ) → int_eq y z ≡ true → y ≡ z
-int_eq-is y z h = by_ranked (y <ℤ z) (y ≡ z) (z <ℤ y) (int_cmp y z) (int_ranked y z (int_cmp y z) refl) (λ e _. absurd (no-lt h e)) (λ _ k. k) (λ e _. absurd (no-gt h e)) where
-  no-lt : int_eq y z ≡ true → int_cmp y z ≡ Less → ⊥
-  no-lt h e = cc
+int_eq-is y z h = by_ranked (y <ℤ z) (y ≡ z) (z <ℤ y) (int_cmp y z) (int_ranked y z (int_cmp y z) refl) (λ e _. absurd (no-lt h e))
+    (λ _ k. k) (λ e _. absurd (no-gt h e))
+  where
+    no-lt : int_eq y z ≡ true → int_cmp y z ≡ Less → ⊥
+    no-lt h e = cc
 
-  no-gt : int_eq y z ≡ true → int_cmp y z ≡ Greater → ⊥
-  no-gt h e = cc
+    no-gt : int_eq y z ≡ true → int_cmp y z ≡ Greater → ⊥
+    no-gt h e = cc
 
 -- is the factor another than 0?
 abbrev pub has_factor : Pairs × ℤ → Bool
@@ -49,7 +51,8 @@ some_factor t h = λ e. let f : not (int_eq (pos 0) (pos 0)) ≡ true = rw e at 
 pub filtered-coefficient : (n : ℕ) (m : List ℕ) (xs : Sparse) → coefficient_at n (filter has_factor xs) m ≡ coefficient_at n xs m
 filtered-coefficient n m [] = refl
 filtered-coefficient n m (x ∷ xs) = by_case (has_factor x) refl (filtered-coefficient n m xs) where
-  by_case : (b : Bool) → has_factor x ≡ b → coefficient_at n (filter has_factor xs) m ≡ coefficient_at n xs m → coefficient_at n (cond b (x ∷ filter has_factor xs) (filter has_factor xs)) m ≡ coefficient_at n (x ∷ xs) m
+  by_case : (b : Bool) → has_factor x ≡ b → coefficient_at n (filter has_factor xs) m ≡ coefficient_at n xs m
+      → coefficient_at n (cond b (x ∷ filter has_factor xs) (filter has_factor xs)) m ≡ coefficient_at n (x ∷ xs) m
   by_case true e h = omega (arith, ints, h, coefficient_at-cons n m x xs, coefficient_at-cons n m x (filter has_factor xs))
   by_case false e h = omega (arith, ints, h, coefficient_at-cons n m x xs, ap (λ z. part_at n (x.0, z) m) (zero_factor x e), part-zero n m x.0)
 
@@ -63,13 +66,15 @@ filtered-size (x ∷ xs) = by_case (has_factor x) (filtered-size xs) where
 filtered-factors : (xs : Sparse) → size_of xs < 2 ^ 127 → All (λ t. IsFactor t.1) (filter has_factor xs)
 filtered-factors [] h = All-nil (λ t. IsFactor t.1)
 filtered-factors (x ∷ xs) h = by_case (has_factor x) refl (filtered-factors xs (omega (arith, size-cons x xs))) where
-  by_case : (b : Bool) → has_factor x ≡ b → All (λ t. IsFactor t.1) (filter has_factor xs) → All (λ t. IsFactor t.1) (cond b (x ∷ filter has_factor xs) (filter has_factor xs))
+  by_case : (b : Bool) → has_factor x ≡ b → All (λ t. IsFactor t.1) (filter has_factor xs)
+      → All (λ t. IsFactor t.1) (cond b (x ∷ filter has_factor xs) (filter has_factor xs))
   by_case true e r = All-cons (λ t. IsFactor t.1) x (filter has_factor xs) (some_factor x e, omega (arith, size-cons x xs)) r
   by_case false e r = r
 
 -- ---- what holds of exponents
 on_exps : (P : Pairs → Type 0) (xs : Sparse) → All (λ t. P t.0) xs → All P (exps_of xs)
-on_exps P xs h = λ k d l. subst P (sym (get_or-map (λ (z : Pairs × ℤ). z.0) xs k (d, pos 0) d (omega (arith, length-map xs (λ (z : Pairs × ℤ). z.0))))) (h k (d, pos 0) (omega (arith, length-map xs (λ (z : Pairs × ℤ). z.0))))
+on_exps P xs h = λ k d l. subst P (sym (get_or-map (λ (z : Pairs × ℤ). z.0) xs k (d, pos 0) d (omega (arith, length-map xs (λ (z : Pairs × ℤ). z.0)))))
+    (h k (d, pos 0) (omega (arith, length-map xs (λ (z : Pairs × ℤ). z.0))))
 
 off_exps : (P : Pairs → Type 0) (xs : Sparse) → All P (exps_of xs) → All (λ t. P t.0) xs
 off_exps P xs h = λ k t l. subst P (get_or-map (λ (z : Pairs × ℤ). z.0) xs k t t.0 l) (h k t.0 (omega (arith, length-map xs (λ (z : Pairs × ℤ). z.0))))
@@ -99,7 +104,7 @@ terms-strict (x ∷ xs) h = (all xs h.0, terms-strict xs h.1) where
 pub same-sorted : (terms out : Sparse) → AreSorted terms → exps_of out ≡ exps_of terms → AreSorted out
 same-sorted terms out s e = strict-terms out (subst (IsStrictlySortedBy pairs_cmp) (sym e) (terms-strict terms s))
 
--- the terms that are left make a polynomial
+-- the remaining terms make a polynomial
 pub is_poly : (out : Sparse) → AreSorted out → size_of out < 2 ^ 127 → AreRising out → IsPoly (filter has_factor out)
 is_poly out s z r = record {
   sorted = IsStrictlySortedBy-filter (on (λ (t : Pairs × ℤ). t.0) pairs_cmp) has_factor out s;

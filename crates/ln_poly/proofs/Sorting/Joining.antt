@@ -13,7 +13,8 @@ use Rattle.ln_poly.specs.Sparse.{AreBelow, AreRising, AreSorted, IsFactor, IsPol
 use Rattle.ln_poly.proofs.Sorting.Rising.{none-sorted}
 use Rattle.ln_poly.proofs.TermLists.Coefficients.{coefficient_at-cons, coefficient_at-nil, part-zero, size-cons, size-nil}
 
-sorted-cons : (t : Pairs × ℤ) (zs : Sparse) → IsBeforeAll t.0 zs → IsStrictlySortedBy (on (λ (t : Pairs × ℤ). t.0) pairs_cmp) zs → IsStrictlySortedBy (on (λ (t : Pairs × ℤ). t.0) pairs_cmp) (t ∷ zs)
+sorted-cons : (t : Pairs × ℤ) (zs : Sparse) → IsBeforeAll t.0 zs → IsStrictlySortedBy (on (λ (t : Pairs × ℤ). t.0) pairs_cmp) zs
+    → IsStrictlySortedBy (on (λ (t : Pairs × ℤ). t.0) pairs_cmp) (t ∷ zs)
 unfolding IsStrictlySortedBy
 sorted-cons t zs b s = (b, s)
 
@@ -31,8 +32,9 @@ merging-init f g s r a b = record {
   factors = All-nil (λ z. IsFactor z.1);
 }
 
--- one term more, in front of those that are done
-pub merging-put : (f g f' g' done f0 g0 : Sparse) (t : Pairs × ℤ) → IsMerging f g done f0 g0 → IsTaken f g f' g' t → size_of f0 + size_of g0 < 2 ^ 127 → t.1 ≢ pos 0 → IsMerging f' g' (t ∷ done) f0 g0
+-- one term more, before those that are done
+pub merging-put : (f g f' g' done f0 g0 : Sparse) (t : Pairs × ℤ) → IsMerging f g done f0 g0 → IsTaken f g f' g' t
+    → size_of f0 + size_of g0 < 2 ^ 127 → t.1 ≢ pos 0 → IsMerging f' g' (t ∷ done) f0 g0
 merging-put f g f' g' done f0 g0 t m r room n =
     let b = r.before done m.behind_left m.behind_right in
     let l = r.later m.left m.right in
@@ -71,7 +73,8 @@ merging-drop f g f' g' done f0 g0 t m r e =
       factors = m.factors;
     }
 
-pub merging-step : (f g f' g' out out' f0 g0 : Sparse) (t : Pairs × ℤ) → IsMerging f g (reverse out) f0 g0 → IsTaken f g f' g' t → size_of f0 + size_of g0 < 2 ^ 127 → (t.1 ≡ pos 0 → out' ≡ out) → (t.1 ≢ pos 0 → out' ≡ out ++ (t ∷ [])) → IsMerging f' g' (reverse out') f0 g0
+pub merging-step : (f g f' g' out out' f0 g0 : Sparse) (t : Pairs × ℤ) → IsMerging f g (reverse out) f0 g0 → IsTaken f g f' g' t
+    → size_of f0 + size_of g0 < 2 ^ 127 → (t.1 ≡ pos 0 → out' ≡ out) → (t.1 ≢ pos 0 → out' ≡ out ++ (t ∷ [])) → IsMerging f' g' (reverse out') f0 g0
 merging-step f g f' g' out out' f0 g0 t m r room x y = by_case (zero_cases t.1) where
   by_case : (t.1 ≡ pos 0) ⊎ (t.1 ≡ pos 0 → ⊥) → IsMerging f' g' (reverse out') f0 g0
   by_case (inl e) = subst (λ z. IsMerging f' g' (reverse z) f0 g0) (sym (x e)) (merging-drop f g f' g' (reverse out) f0 g0 t m r e)

@@ -1,5 +1,6 @@
 -- The pairs of two lists, merged.
-use Rattle.std.proofs.Common.{◌≡◌, ℕ, ◌+◌, ◌<◌, ◌≤◌, zero, suc, refl, sym, ap, arith, [], ◌∷◌, ◌++◌, length, drop, get_or, Bool, true, false, if◌then◌else◌, eqb, eq-eqb, subst}
+use Rattle.std.proofs.Common.{◌≡◌, ℕ, ◌+◌, ◌<◌, ◌≤◌, zero, suc, refl, sym, ap, arith, [], ◌∷◌, ◌++◌, length, drop, get_or, Bool, true}
+use Rattle.std.proofs.Common.{false, if◌then◌else◌, eqb, eq-eqb, subst}
 use Rattle.std.proofs.lemmas.Bool.{cases_lt}
 use Rattle.std.proofs.lemmas.Bool.Decides.{nat_tests}
 use mathlib.Core.Logic.{◌⊎◌, inl, inr}
@@ -68,26 +69,30 @@ pick-both p q la lb r s e = record {
     by_case false = refl
 
 -- ---- at places
-pub left-at : (a lb : Pairs) (i : ℕ) → i < length a → IsRising (drop i a) → IsRising lb → Lower (get_or a i (0, 0)).0 lb → Picks (drop i a) lb (drop (i + 1) a) lb (get_or a i (0, 0)).0 (get_or a i (0, 0)).1
+pub left-at : (a lb : Pairs) (i : ℕ) → i < length a → IsRising (drop i a) → IsRising lb → Lower (get_or a i (0, 0)).0 lb
+    → Picks (drop i a) lb (drop (i + 1) a) lb (get_or a i (0, 0)).0 (get_or a i (0, 0)).1
 left-at a lb i h r s l =
     let e : drop i a ≡ get_or a i (0, 0) ∷ drop (i + 1) a = drop_more a i (0, 0) h in
     let r' : IsRising (get_or a i (0, 0) ∷ drop (i + 1) a) = subst IsRising e r in
     subst (λ z. Picks z lb (drop (i + 1) a) lb (get_or a i (0, 0)).0 (get_or a i (0, 0)).1) (sym e) (pick-left (get_or a i (0, 0)) (drop (i + 1) a) lb r' s l)
 
-pub right-at : (la b : Pairs) (j : ℕ) → j < length b → IsRising la → IsRising (drop j b) → Lower (get_or b j (0, 0)).0 la → Picks la (drop j b) la (drop (j + 1) b) (get_or b j (0, 0)).0 (get_or b j (0, 0)).1
+pub right-at : (la b : Pairs) (j : ℕ) → j < length b → IsRising la → IsRising (drop j b) → Lower (get_or b j (0, 0)).0 la
+    → Picks la (drop j b) la (drop (j + 1) b) (get_or b j (0, 0)).0 (get_or b j (0, 0)).1
 right-at la b j h r s l =
     let e : drop j b ≡ get_or b j (0, 0) ∷ drop (j + 1) b = drop_more b j (0, 0) h in
     let s' : IsRising (get_or b j (0, 0) ∷ drop (j + 1) b) = subst IsRising e s in
     subst (λ z. Picks la z la (drop (j + 1) b) (get_or b j (0, 0)).0 (get_or b j (0, 0)).1) (sym e) (pick-right (get_or b j (0, 0)) la (drop (j + 1) b) r s' l)
 
-pub both-at : (a b : Pairs) (i j : ℕ) → i < length a → j < length b → IsRising (drop i a) → IsRising (drop j b) → (get_or a i (0, 0)).0 ≡ (get_or b j (0, 0)).0 → Picks (drop i a) (drop j b) (drop (i + 1) a) (drop (j + 1) b) (get_or a i (0, 0)).0 ((get_or a i (0, 0)).1 + (get_or b j (0, 0)).1)
+pub both-at : (a b : Pairs) (i j : ℕ) → i < length a → j < length b → IsRising (drop i a) → IsRising (drop j b) → (get_or a i (0, 0)).0 ≡ (get_or b j (0, 0)).0
+    → Picks (drop i a) (drop j b) (drop (i + 1) a) (drop (j + 1) b) (get_or a i (0, 0)).0 ((get_or a i (0, 0)).1 + (get_or b j (0, 0)).1)
 both-at a b i j h k r s l =
     let e : drop i a ≡ get_or a i (0, 0) ∷ drop (i + 1) a = drop_more a i (0, 0) h in
     let f : drop j b ≡ get_or b j (0, 0) ∷ drop (j + 1) b = drop_more b j (0, 0) k in
     let r' : IsRising (get_or a i (0, 0) ∷ drop (i + 1) a) = subst IsRising e r in
     let s' : IsRising (get_or b j (0, 0) ∷ drop (j + 1) b) = subst IsRising f s in
     subst (λ z. Picks z (drop j b) (drop (i + 1) a) (drop (j + 1) b) (get_or a i (0, 0)).0 ((get_or a i (0, 0)).1 + (get_or b j (0, 0)).1)) (sym e)
-    (subst (λ z. Picks (get_or a i (0, 0) ∷ drop (i + 1) a) z (drop (i + 1) a) (drop (j + 1) b) (get_or a i (0, 0)).0 ((get_or a i (0, 0)).1 + (get_or b j (0, 0)).1)) (sym f)
+    (subst (λ z. Picks (get_or a i (0, 0) ∷ drop (i + 1) a) z (drop (i + 1) a) (drop (j + 1) b) (get_or a i (0, 0)).0
+    ((get_or a i (0, 0)).1 + (get_or b j (0, 0)).1)) (sym f)
     (pick-both (get_or a i (0, 0)) (get_or b j (0, 0)) (drop (i + 1) a) (drop (j + 1) b) r' s' l))
 
 -- what comes at a place is lower than the rest of the other list
@@ -98,7 +103,8 @@ lower-at v (q ∷ b) zero h = h (omega arith)
 lower-at v (q ∷ b) (suc j) h = lower-at v b j (λ l. h (omega arith))
 
 -- the pair of the first list, of the second, or of both
-pub first-picked : (a b : Pairs) (i j : ℕ) (p : Pick) → MayPick a b i j → i < length a → (j < length b → (get_or a i (0, 0)).0 < (get_or b j (0, 0)).0) → p ≡ record { v = (get_or a i (0, 0)).0; e = (get_or a i (0, 0)).1; i = i + 1; j = j } → IsPicked a b i j p
+pub first-picked : (a b : Pairs) (i j : ℕ) (p : Pick) → MayPick a b i j → i < length a → (j < length b → (get_or a i (0, 0)).0 < (get_or b j (0, 0)).0)
+    → p ≡ record { v = (get_or a i (0, 0)).0; e = (get_or a i (0, 0)).1; i = i + 1; j = j } → IsPicked a b i j p
 first-picked a b i j p m h l e = rw e (record {
   picks = left-at a (drop j b) i h m.rising_left m.rising_right (lower-at (get_or a i (0, 0)).0 b j l);
   left = omega (arith, h);
@@ -106,7 +112,8 @@ first-picked a b i j p m h l e = rw e (record {
   further = omega arith;
 })
 
-pub second-picked : (a b : Pairs) (i j : ℕ) (p : Pick) → MayPick a b i j → j < length b → (i < length a → (get_or b j (0, 0)).0 < (get_or a i (0, 0)).0) → p ≡ record { v = (get_or b j (0, 0)).0; e = (get_or b j (0, 0)).1; i = i; j = j + 1 } → IsPicked a b i j p
+pub second-picked : (a b : Pairs) (i j : ℕ) (p : Pick) → MayPick a b i j → j < length b → (i < length a → (get_or b j (0, 0)).0 < (get_or a i (0, 0)).0)
+    → p ≡ record { v = (get_or b j (0, 0)).0; e = (get_or b j (0, 0)).1; i = i; j = j + 1 } → IsPicked a b i j p
 second-picked a b i j p m h l e = rw e (record {
   picks = right-at (drop i a) b j h m.rising_left m.rising_right (lower-at (get_or b j (0, 0)).0 a i l);
   left = m.left;
@@ -114,7 +121,8 @@ second-picked a b i j p m h l e = rw e (record {
   further = omega arith;
 })
 
-pub both-picked : (a b : Pairs) (i j : ℕ) (p : Pick) → MayPick a b i j → i < length a → j < length b → (get_or a i (0, 0)).0 ≡ (get_or b j (0, 0)).0 → p ≡ record { v = (get_or a i (0, 0)).0; e = (get_or a i (0, 0)).1 + (get_or b j (0, 0)).1; i = i + 1; j = j + 1 } → IsPicked a b i j p
+pub both-picked : (a b : Pairs) (i j : ℕ) (p : Pick) → MayPick a b i j → i < length a → j < length b → (get_or a i (0, 0)).0 ≡ (get_or b j (0, 0)).0
+    → p ≡ record { v = (get_or a i (0, 0)).0; e = (get_or a i (0, 0)).1 + (get_or b j (0, 0)).1; i = i + 1; j = j + 1 } → IsPicked a b i j p
 both-picked a b i j p m h k l e = rw e (record {
   picks = both-at a b i j h k m.rising_left m.rising_right l;
   left = omega (arith, h);
@@ -130,14 +138,24 @@ picked-small la lb la' lb' v e p =
     omega (arith, x, p.exponents v)
 
 -- the exponents of one variable, picked of both lists, have room
-pub both-small : (a b : Pairs) (i j : ℕ) → MayPick a b i j → i < length a → j < length b → (get_or a i (0, 0)).0 ≡ (get_or b j (0, 0)).0 → (get_or a i (0, 0)).1 + (get_or b j (0, 0)).1 < 128
+pub both-small : (a b : Pairs) (i j : ℕ) → MayPick a b i j → i < length a → j < length b → (get_or a i (0, 0)).0 ≡ (get_or b j (0, 0)).0
+    → (get_or a i (0, 0)).1 + (get_or b j (0, 0)).1 < 128
 both-small a b i j m h k l = omega (arith, picked-small _ _ _ _ _ _ (both-at a b i j h k m.rising_left m.rising_right l), m.small (get_or a i (0, 0)).0)
 
 -- ---- the loop
 pub merged-init : (a b : Pairs) → IsRising a → IsRising b → IsMerged [] a b 0 0
-merged-init a b r s = record { left = omega arith; right = omega arith; exponents = λ w. omega arith; rising_left = r; rising_right = s; low_left = tt; low_right = tt; rising = tt }
+merged-init a b r s = record {
+  left = omega arith;
+  right = omega arith;
+  exponents = λ w. omega arith;
+  rising_left = r;
+  rising_right = s;
+  low_left = tt;
+  low_right = tt;
+  rising = tt;
+}
 
--- what is picked stands above what is out
+-- what is picked is above what is out
 pub picked-above : (out la lb la' lb' : Pairs) (v e : ℕ) → AreLow out la → AreLow out lb → Picks la lb la' lb' v e → IsAbove out v
 picked-above [] la lb la' lb' v e a b p = tt
 picked-above (q ∷ out) la lb la' lb' v e a b p = (p.low q.0 a.0 b.0, picked-above out la lb la' lb' v e a.1 b.1 p)
@@ -150,7 +168,8 @@ pub exponent-push : (w : ℕ) (xs : Pairs) (p : ℕ × ℕ) → exponent w (xs +
 exponent-push w [] p = omega arith
 exponent-push w (x ∷ xs) p = omega (arith, exponent-push w xs p)
 
-pub merged-step : (out a b : Pairs) (i j i' j' v e : ℕ) → IsMerged out a b i j → Picks (drop i a) (drop j b) (drop i' a) (drop j' b) v e → i' ≤ length a → j' ≤ length b → e < 128 → IsMerged (out ++ ((v, e) ∷ [])) a b i' j'
+pub merged-step : (out a b : Pairs) (i j i' j' v e : ℕ) → IsMerged out a b i j → Picks (drop i a) (drop j b) (drop i' a) (drop j' b) v e
+    → i' ≤ length a → j' ≤ length b → e < 128 → IsMerged (out ++ ((v, e) ∷ [])) a b i' j'
 merged-step out a b i j i' j' v e m p x y z = record {
   left = x;
   right = y;
@@ -168,12 +187,15 @@ merged-end out a b i j m h k w =
     let y : exponent w (drop j b) ≡ 0 = ap (exponent w) (drop_all j b k) in
     omega (arith, m.exponents w, x, y)
 
--- what is left has no more than 127 either
-pub merged-small : (out a b : Pairs) (i j : ℕ) → IsMerged out a b i j → ((v : ℕ) → exponent v a + exponent v b < 128) → (v : ℕ) → exponent v (drop i a) + exponent v (drop j b) < 128
+-- the remaining pairs have no more than 127 either
+pub merged-small : (out a b : Pairs) (i j : ℕ) → IsMerged out a b i j → ((v : ℕ) → exponent v a + exponent v b < 128) → (v : ℕ)
+    → exponent v (drop i a) + exponent v (drop j b) < 128
 merged-small out a b i j m h v = omega (arith, m.exponents v, h v)
 
-pub may-pick : (out a b : Pairs) (i j : ℕ) → IsMerged out a b i j → i + j < length a + length b → ((v : ℕ) → exponent v a + exponent v b < 128) → MayPick a b i j
-may-pick out a b i j m h s = record { left = m.left; right = m.right; some = h; rising_left = m.rising_left; rising_right = m.rising_right; small = merged-small out a b i j m s }
+pub may-pick : (out a b : Pairs) (i j : ℕ) → IsMerged out a b i j → i + j < length a + length b
+    → ((v : ℕ) → exponent v a + exponent v b < 128) → MayPick a b i j
+may-pick out a b i j m h s =
+    record { left = m.left; right = m.right; some = h; rising_left = m.rising_left; rising_right = m.rising_right; small = merged-small out a b i j m s }
 
 -- ---- variables
 pub above-none : (k v : ℕ) (ps : Pairs) → IsAbove ps k → k ≤ v → exponent v ps ≡ 0

@@ -1,4 +1,4 @@
--- Terms in order, and one more behind them.
+-- Terms in order, and one more after them.
 use Rattle.std.proofs.Common.{◌≡◌, ℕ, ◌<◌, zero, suc, arith, All, [], ◌∷◌, ◌++◌, length, get_or, Less}
 use Rattle.std.proofs.lemmas.List.Elements.{All-head, All-tail}
 use Rattle.std.proofs.Math.IntN.{ℤ}
@@ -12,12 +12,14 @@ pub none-sorted : AreSorted []
 unfolding IsStrictlySortedBy
 none-sorted = tt
 
-before-push : (e : Pairs) (xs : Sparse) (x : Pairs × ℤ) → AllByRecursion (λ (y : Pairs × ℤ). pairs_cmp e y.0 ≡ Less) xs → pairs_cmp e x.0 ≡ Less → AllByRecursion (λ (y : Pairs × ℤ). pairs_cmp e y.0 ≡ Less) (xs ++ (x ∷ []))
+before-push : (e : Pairs) (xs : Sparse) (x : Pairs × ℤ) → AllByRecursion (λ (y : Pairs × ℤ). pairs_cmp e y.0 ≡ Less) xs
+    → pairs_cmp e x.0 ≡ Less → AllByRecursion (λ (y : Pairs × ℤ). pairs_cmp e y.0 ≡ Less) (xs ++ (x ∷ []))
 before-push e [] x a h = (h, tt)
 before-push e (y ∷ xs) x a h = (a.0, before-push e xs x a.1 h)
 
--- a term behind all others
-pub sorted-push : (xs : Sparse) (x : Pairs × ℤ) → IsStrictlySortedBy (on (λ (t : Pairs × ℤ). t.0) pairs_cmp) xs → All (λ (y : Pairs × ℤ). pairs_cmp y.0 x.0 ≡ Less) xs → IsStrictlySortedBy (on (λ (t : Pairs × ℤ). t.0) pairs_cmp) (xs ++ (x ∷ []))
+-- a term after all others
+pub sorted-push : (xs : Sparse) (x : Pairs × ℤ) → IsStrictlySortedBy (on (λ (t : Pairs × ℤ). t.0) pairs_cmp) xs
+    → All (λ (y : Pairs × ℤ). pairs_cmp y.0 x.0 ≡ Less) xs → IsStrictlySortedBy (on (λ (t : Pairs × ℤ). t.0) pairs_cmp) (xs ++ (x ∷ []))
 unfolding IsStrictlySortedBy
 sorted-push [] x s a = (tt, tt)
 sorted-push (y ∷ xs) x s a = (
@@ -25,13 +27,15 @@ sorted-push (y ∷ xs) x s a = (
   sorted-push xs x s.1 (All-tail (λ (z : Pairs × ℤ). pairs_cmp z.0 x.0 ≡ Less) y xs a),
 )
 
--- each stands before those behind it
-first-before : (e : Pairs) (xs : Sparse) (i : ℕ) (d : Pairs × ℤ) → i < length xs → AllByRecursion (λ (y : Pairs × ℤ). pairs_cmp e y.0 ≡ Less) xs → pairs_cmp e (get_or xs i d).0 ≡ Less
+-- each is before those after it
+first-before : (e : Pairs) (xs : Sparse) (i : ℕ) (d : Pairs × ℤ) → i < length xs
+    → AllByRecursion (λ (y : Pairs × ℤ). pairs_cmp e y.0 ≡ Less) xs → pairs_cmp e (get_or xs i d).0 ≡ Less
 first-before e [] i d h a = absurd (omega arith)
 first-before e (x ∷ xs) zero d h a = a.0
 first-before e (x ∷ xs) (suc i) d h a = first-before e xs i d (omega arith) a.1
 
-pub sorted-at : (xs : Sparse) (j i : ℕ) (d e : Pairs × ℤ) → j < i → i < length xs → IsStrictlySortedBy (on (λ (t : Pairs × ℤ). t.0) pairs_cmp) xs → pairs_cmp (get_or xs j d).0 (get_or xs i e).0 ≡ Less
+pub sorted-at : (xs : Sparse) (j i : ℕ) (d e : Pairs × ℤ) → j < i → i < length xs
+    → IsStrictlySortedBy (on (λ (t : Pairs × ℤ). t.0) pairs_cmp) xs → pairs_cmp (get_or xs j d).0 (get_or xs i e).0 ≡ Less
 unfolding IsStrictlySortedBy
 sorted-at [] j i d e h l s = absurd (omega arith)
 sorted-at (x ∷ xs) j zero d e h l s = absurd (omega arith)

@@ -1,5 +1,6 @@
 -- A sum in place of the first polynomial.
-use Rattle.std.proofs.Common.{◌≡◌, ℕ, ◌+◌, ◌<◌, ◌≤◌, refl, sym, ◌∙◌, ap, subst, arith, List, [], ◌∷◌, ◌++◌, length, get_or, unsigned_abs, Bool, true, eqb, Less, ◌⊎◌, inl, inr}
+use Rattle.std.proofs.Common.{◌≡◌, ℕ, ◌+◌, ◌<◌, ◌≤◌, refl, sym, ◌∙◌, ap, subst, arith, List, [], ◌∷◌, ◌++◌, length, get_or, unsigned_abs}
+use Rattle.std.proofs.Common.{Bool, true, eqb, Less, ◌⊎◌, inl, inr}
 use Rattle.std.proofs.lemmas.Int.{ints}
 use Rattle.std.proofs.Math.IntN.{ℤ, ◌+ℤ◌}
 use Rattle.std.proofs.lemmas.Bool.{eqb-true}
@@ -16,7 +17,9 @@ use Rattle.ln_poly.proofs.TermLists.Coefficients.{coefficient_at-more, coefficie
 pub stands-same : (xs : Sparse) (i : ℕ) (x t : Pairs × ℤ) (b : Bool) → i < length xs → b ≡ same_pairs (get_or xs i x).0 t.0 → b ≡ true → (get_or xs i t).0 ≡ t.0
 stands-same xs i x t b h s r = sym (ap (λ (z : Pairs × ℤ). z.0) (get_or_default xs i x t h)) ∙ same_pairs-is (get_or xs i x).0 t.0 (sym s ∙ r)
 
-pub put_in-added : (f' f more : Sparse) (t : Pairs × ℤ) → exps_of f' ≡ exps_of f → ((n : ℕ) (m : List ℕ) → coefficient_at n f' m ≡ coefficient_at n f m +ℤ part_at n t m) → size_of f' ≤ size_of f + unsigned_abs t.1 → IsPutIn f' more f more t
+pub put_in-added : (f' f more : Sparse) (t : Pairs × ℤ) → exps_of f' ≡ exps_of f
+    → ((n : ℕ) (m : List ℕ) → coefficient_at n f' m ≡ coefficient_at n f m +ℤ part_at n t m) → size_of f' ≤ size_of f + unsigned_abs t.1
+    → IsPutIn f' more f more t
 put_in-added f' f more t e a s = record {
   exps = e;
   coefficients = λ n m. omega (arith, ints, a n m);
@@ -48,19 +51,26 @@ spread-init f g = record {
   before = λ e _. All-nil (λ y. pairs_cmp y.0 e ≡ Less);
 }
 
-pub spread-room : (f more old g : Sparse) (i : ℕ) (t : Pairs × ℤ) (k : ℕ) → IsSpread f more old g i → i < length g → t ≡ get_or g i t → size_of old + size_of g < k → size_of f + unsigned_abs t.1 < k
+pub spread-room : (f more old g : Sparse) (i : ℕ) (t : Pairs × ℤ) (k : ℕ) → IsSpread f more old g i → i < length g → t ≡ get_or g i t
+    → size_of old + size_of g < k → size_of f + unsigned_abs t.1 < k
 spread-room f more old g i t k r h e room = omega (arith, r.size, size-next g i t h e, room)
 
--- what is put is in order
-more-sorted : (more' more g : Sparse) (i : ℕ) (t : Pairs × ℤ) → i < length g → t ≡ get_or g i t → (more' ≡ more) ⊎ (more' ≡ more ++ (t ∷ [])) → AreSorted g → AreSorted more → ((e : Pairs) → ((j : ℕ) (d : Pairs × ℤ) → j < i → pairs_cmp (get_or g j d).0 e ≡ Less) → AllBefore more e) → AreSorted more'
+-- what is appended is in order
+more-sorted : (more' more g : Sparse) (i : ℕ) (t : Pairs × ℤ) → i < length g → t ≡ get_or g i t → (more' ≡ more) ⊎ (more' ≡ more ++ (t ∷ [])) → AreSorted g
+    → AreSorted more → ((e : Pairs) → ((j : ℕ) (d : Pairs × ℤ) → j < i → pairs_cmp (get_or g j d).0 e ≡ Less) → AllBefore more e) → AreSorted more'
 more-sorted more' more g i t h e (inl p) s r b = subst AreSorted (sym p) r
-more-sorted more' more g i t h e (inr p) s r b = subst AreSorted (sym p) (sorted-push more t r (b t.0 (λ j d l. subst (λ z. pairs_cmp (get_or g j d).0 z.0 ≡ Less) (sym e) (sorted-at g j i d t l h s))))
+more-sorted more' more g i t h e (inr p) s r b = subst AreSorted (sym p)
+    (sorted-push more t r (b t.0 (λ j d l. subst (λ z. pairs_cmp (get_or g j d).0 z.0 ≡ Less) (sym e) (sorted-at g j i d t l h s))))
 
-more-before : (more' more g : Sparse) (i : ℕ) (t : Pairs × ℤ) → t ≡ get_or g i t → (more' ≡ more) ⊎ (more' ≡ more ++ (t ∷ [])) → ((e : Pairs) → ((j : ℕ) (d : Pairs × ℤ) → j < i → pairs_cmp (get_or g j d).0 e ≡ Less) → AllBefore more e) → (e : Pairs) → ((j : ℕ) (d : Pairs × ℤ) → j < i + 1 → pairs_cmp (get_or g j d).0 e ≡ Less) → AllBefore more' e
+more-before : (more' more g : Sparse) (i : ℕ) (t : Pairs × ℤ) → t ≡ get_or g i t → (more' ≡ more) ⊎ (more' ≡ more ++ (t ∷ []))
+    → ((e : Pairs) → ((j : ℕ) (d : Pairs × ℤ) → j < i → pairs_cmp (get_or g j d).0 e ≡ Less) → AllBefore more e) → (e : Pairs)
+    → ((j : ℕ) (d : Pairs × ℤ) → j < i + 1 → pairs_cmp (get_or g j d).0 e ≡ Less) → AllBefore more' e
 more-before more' more g i t q (inl p) b e k = subst (λ z. AllBefore z e) (sym p) (b e (λ j d l. k j d (omega arith)))
-more-before more' more g i t q (inr p) b e k = subst (λ z. AllBefore z e) (sym p) (All-push (λ y. pairs_cmp y.0 e ≡ Less) more t (b e (λ j d l. k j d (omega arith))) (subst (λ z. pairs_cmp z.0 e ≡ Less) (sym q) (k i t (omega arith))))
+more-before more' more g i t q (inr p) b e k = subst (λ z. AllBefore z e) (sym p)
+    (All-push (λ y. pairs_cmp y.0 e ≡ Less) more t (b e (λ j d l. k j d (omega arith))) (subst (λ z. pairs_cmp z.0 e ≡ Less) (sym q) (k i t (omega arith))))
 
-pub spread-step : (f' more' f more old g : Sparse) (i : ℕ) (t : Pairs × ℤ) → IsSpread f more old g i → i < length g → t ≡ get_or g i t → IsPutIn f' more' f more t → IsSpread f' more' old g (i + 1)
+pub spread-step : (f' more' f more old g : Sparse) (i : ℕ) (t : Pairs × ℤ) → IsSpread f more old g i → i < length g → t ≡ get_or g i t
+    → IsPutIn f' more' f more t → IsSpread f' more' old g (i + 1)
 spread-step f' more' f more old g i t r h e p = record {
   exps = p.exps ∙ r.exps;
   coefficients = λ n m. omega (arith, ints, r.coefficients n m, p.coefficients n m, coefficient_at-more n m g i t h, ap (λ w. part_at n w m) e);
@@ -71,13 +81,14 @@ spread-step f' more' f more old g i t r h e p = record {
   before = more-before more' more g i t e p.put r.before;
 }
 
-pub spread-coefficient : (f more old g : Sparse) → IsSpread f more old g (length g) → (n : ℕ) (m : List ℕ) → coefficient_at n f m +ℤ coefficient_at n more m ≡ coefficient_at n old m +ℤ coefficient_at n g m
+pub spread-coefficient : (f more old g : Sparse) → IsSpread f more old g (length g) → (n : ℕ) (m : List ℕ)
+    → coefficient_at n f m +ℤ coefficient_at n more m ≡ coefficient_at n old m +ℤ coefficient_at n g m
 spread-coefficient f more old g r n m = r.coefficients n m ∙ ap (λ z. coefficient_at n old m +ℤ coefficient_at n z m) (take_all (length g) g (omega arith))
 
 pub spread-size : (f more old g : Sparse) → IsSpread f more old g (length g) → size_of f + size_of more ≤ size_of old + size_of g
 spread-size f more old g r = omega (arith, r.size, ap size_of (take_all (length g) g (omega arith)))
 
--- ---- where nothing is left over
+-- ---- where nothing remains
 pub none-left : (xs : Sparse) (k : ℕ) (b : Bool) → b ≡ eqb k 0 → b ≡ true → k ≡ length xs → xs ≡ []
 none-left [] k b e t l = refl
 none-left (x ∷ xs) k b e t l = absurd (omega (arith, eqb-true k 0 (sym e ∙ t)))

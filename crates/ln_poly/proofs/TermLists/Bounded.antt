@@ -1,5 +1,6 @@
--- Products of a part of the rows after the other, and how many terms the rows that are left can take away.
-use Rattle.std.proofs.Common.{◌≡◌, ◌⊎◌, inl, inr, ℕ, ◌+◌, ◌*◌, ◌-◌, ◌<◌, ◌≤◌, ◌^◌, zero, suc, refl, sym, ◌∙◌, ap, subst, arith, All, List, [], ◌∷◌, ◌++◌, length, take, drop, length-append}
+-- Products of a part of the rows after the other, and how many terms the remaining rows can take away.
+use Rattle.std.proofs.Common.{◌≡◌, ◌⊎◌, inl, inr, ℕ, ◌+◌, ◌*◌, ◌-◌, ◌<◌, ◌≤◌, ◌^◌, zero, suc, refl, sym, ◌∙◌, ap, subst, arith, All, List}
+use Rattle.std.proofs.Common.{[], ◌∷◌, ◌++◌, length, take, drop, length-append}
 use Rattle.std.proofs.Math.Nat.{mul-le-mul_left}
 use Rattle.std.proofs.Math.IntN.{ℤ, pos, ◌+ℤ◌}
 use Rattle.std.proofs.lemmas.Int.{ints}
@@ -62,7 +63,8 @@ with-other c x ms d z p = record {
   there m (inr i) = (inr (p.others_in m i).0, (p.others_in m i).1)
 
 parted : (c : List ℕ → ℤ) (ms : List (List ℕ)) → AreDistinct ms → Parted c ms
-parted c [] d = record { zeros = []; others = []; zeros_distinct = tt; others_distinct = tt; zeros_in = λ m i. absurd i; others_in = λ m i. absurd i; all = refl }
+parted c [] d =
+    record { zeros = []; others = []; zeros_distinct = tt; others_distinct = tt; zeros_in = λ m i. absurd i; others_in = λ m i. absurd i; all = refl }
 parted c (x ∷ ms) d = by_case (zero_cases (c x)) (parted c ms d.1) where
   by_case : (c x ≡ pos 0) ⊎ (c x ≡ pos 0 → ⊥) → Parted c ms → Parted c (x ∷ ms)
   by_case (inl z) p = with-zero c x ms d.0 z p
@@ -76,31 +78,40 @@ length-times : (f g : List Term) → length (times f g) ≡ length f * length g
 length-times [] g = omega arith
 length-times (t ∷ f) g = omega (arith, length-times f g, length-times_term t g, length-append (times_term t g) (times f g))
 
--- the product is the rows so far and those that are left
-split : (n : ℕ) (acc f g : Sparse) (i : ℕ) (m : List ℕ) → IsRows acc f g i → length m ≡ n → product (coefficient_at n f) (coefficient_at n g) m ≡ coefficient_at n acc m +ℤ factor_at (times (terms_of n (drop i f)) (terms_of n g)) m
+-- the product is the rows so far and the remaining ones
+split : (n : ℕ) (acc f g : Sparse) (i : ℕ) (m : List ℕ) → IsRows acc f g i → length m ≡ n
+    → product (coefficient_at n f) (coefficient_at n g) m ≡ coefficient_at n acc m +ℤ factor_at (times (terms_of n (drop i f)) (terms_of n g)) m
 unfolding coefficient_at
 split n acc f g i m r h =
-    let whole : factor_at (times (terms_of n f) (terms_of n g)) m ≡ product (factor_at (terms_of n f)) (factor_at (terms_of n g)) m = factor_at-times n (terms_of n f) (terms_of n g) (over-terms n f) (over-terms n g) m h in
-    let both : sum_over (λ s. row_at n m s g) f ≡ sum_over (λ s. row_at n m s g) (take i f) +ℤ sum_over (λ s. row_at n m s g) (drop i f) = ap (sum_over (λ s. row_at n m s g)) (sym (take-append-drop i f)) ∙ sum_over-append (λ s. row_at n m s g) (take i f) (drop i f) in
+    let whole : factor_at (times (terms_of n f) (terms_of n g)) m ≡ product (factor_at (terms_of n f)) (factor_at (terms_of n g)) m =
+    factor_at-times n (terms_of n f) (terms_of n g) (over-terms n f) (over-terms n g) m h in
+    let both : sum_over (λ s. row_at n m s g) f ≡ sum_over (λ s. row_at n m s g) (take i f) +ℤ sum_over (λ s. row_at n m s g) (drop i f) =
+    ap (sum_over (λ s. row_at n m s g)) (sym (take-append-drop i f)) ∙ sum_over-append (λ s. row_at n m s g) (take i f) (drop i f) in
     omega (arith, ints, whole, both, r.coefficients n m, rows_times n m f g, rows_times n m (drop i f) g)
 
--- a vector of what there is that the product lacks is one of the products that are left
-taken : (n : ℕ) (acc f g : Sparse) (i : ℕ) (m : List ℕ) → IsRows acc f g i → IsPoly acc → AreBelow n acc → In (vectors (terms_of n acc)) m → product (coefficient_at n f) (coefficient_at n g) m ≡ pos 0 → In (vectors (times (terms_of n (drop i f)) (terms_of n g))) m
+-- a vector of what there is that the product lacks is one of the remaining products
+taken : (n : ℕ) (acc f g : Sparse) (i : ℕ) (m : List ℕ) → IsRows acc f g i → IsPoly acc → AreBelow n acc → In (vectors (terms_of n acc)) m
+    → product (coefficient_at n f) (coefficient_at n g) m ≡ pos 0 → In (vectors (times (terms_of n (drop i f)) (terms_of n g))) m
 unfolding coefficient_at
 taken n acc f g i m r q b k z =
     let d : factor_at (terms_of n acc) m ≡ pos 0 → ⊥ = in-nonzero (terms_of n acc) m (collected n acc q b) (nonzero-terms n acc q) k in
-    let e : product (factor_at (terms_of n f)) (factor_at (terms_of n g)) m ≡ factor_at (terms_of n acc) m +ℤ factor_at (times (terms_of n (drop i f)) (terms_of n g)) m = split n acc f g i m r (over-length n (terms_of n acc) m (over-terms n acc) k) in
+    let e : product (factor_at (terms_of n f)) (factor_at (terms_of n g)) m ≡ factor_at (terms_of n acc) m
+    +ℤ factor_at (times (terms_of n (drop i f)) (terms_of n g)) m = split n acc f g i m r (over-length n (terms_of n acc) m (over-terms n acc) k) in
     let y : product (factor_at (terms_of n f)) (factor_at (terms_of n g)) m ≡ pos 0 = z in
     nonzero-in (times (terms_of n (drop i f)) (terms_of n g)) m (λ x. d (omega (arith, ints, e, x, y)))
 
--- where there is more than the rows that are left can take away, the product has more terms
-more-terms : (n : ℕ) (acc f g : Sparse) (i k : ℕ) → IsRows acc f g i → IsPoly acc → k + (length f - i) * length g < length acc → AreBelow n acc → HasMoreTerms n f g k
+-- where there is more than the remaining rows can take away, the product has more terms
+more-terms : (n : ℕ) (acc f g : Sparse) (i k : ℕ) → IsRows acc f g i → IsPoly acc → k + (length f - i) * length g < length acc
+    → AreBelow n acc → HasMoreTerms n f g k
 more-terms n acc f g i k r q l b =
     let vs : List (List ℕ) = vectors (terms_of n acc) in
     let left : List Term = times (terms_of n (drop i f)) (terms_of n g) in
-    let p : Parted (product (coefficient_at n f) (coefficient_at n g)) vs = parted (product (coefficient_at n f) (coefficient_at n g)) vs (distinct-vectors (terms_of n acc) (collected n acc q b)) in
-    let few : length p.zeros ≤ length (vectors left) = distinct-length p.zeros (vectors left) p.zeros_distinct (λ m j. taken n acc f g i m r q b (p.zeros_in m j).0 (p.zeros_in m j).1) in
-    let e : length left ≡ (length f - i) * length g = length-times (terms_of n (drop i f)) (terms_of n g) ∙ ap (λ z. z * length (terms_of n g)) (length-map (drop i f) _ ∙ length-drop i f) ∙ ap (λ z. (length f - i) * z) (length-map g _) in
+    let p : Parted (product (coefficient_at n f) (coefficient_at n g)) vs =
+    parted (product (coefficient_at n f) (coefficient_at n g)) vs (distinct-vectors (terms_of n acc) (collected n acc q b)) in
+    let few : length p.zeros ≤ length (vectors left) =
+    distinct-length p.zeros (vectors left) p.zeros_distinct (λ m j. taken n acc f g i m r q b (p.zeros_in m j).0 (p.zeros_in m j).1) in
+    let e : length left ≡ (length f - i) * length g = length-times (terms_of n (drop i f)) (terms_of n g)
+    ∙ ap (λ z. z * length (terms_of n g)) (length-map (drop i f) _ ∙ length-drop i f) ∙ ap (λ z. (length f - i) * z) (length-map g _) in
     record {
       vectors = p.others;
       distinct = p.others_distinct;
@@ -109,8 +120,10 @@ more-terms n acc f g i k r q l b =
       many = omega (arith, few, e, l, p.all, length-map left (λ t. t.exponents), length-vectors n acc);
     }
 
-pub takes-more : (terms acc f g f' g' : Sparse) (i k : ℕ) → IsRows acc f g i → IsPoly acc → terms ≡ acc → f ≡ f' → g ≡ g' → k + (length f - i) * length g < length terms → TakesMore f' g' k
-takes-more terms acc f g f' g' i k r q t u v l = subst (λ z. TakesMore z g' k) u (subst (λ z. TakesMore f z k) v (λ n bf bg. more-terms n acc f g i k r q (omega (arith, l, ap length t)) (r.below n bf bg)))
+pub takes-more : (terms acc f g f' g' : Sparse) (i k : ℕ) → IsRows acc f g i → IsPoly acc → terms ≡ acc → f ≡ f' → g ≡ g'
+    → k + (length f - i) * length g < length terms → TakesMore f' g' k
+takes-more terms acc f g f' g' i k r q t u v l = subst (λ z. TakesMore z g' k) u
+    (subst (λ z. TakesMore f z k) v (λ n bf bg. more-terms n acc f g i k r q (omega (arith, l, ap length t)) (r.below n bf bg)))
 
 -- ---- a part of the rows after the other
 take-take : (i k j : ℕ) (f : Sparse) → j ≡ i + k → take i f ++ take k (drop i f) ≡ take j f
@@ -135,19 +148,31 @@ part-room i j f f' g e h room =
 pub part-powers : (i j : ℕ) (f f' g : Sparse) → f' ≡ take (j - i) (drop i f) → All (λ s. PowersFit s g) f → All (λ s. PowersFit s g) f'
 part-powers i j f f' g e a = subst (All (λ s. PowersFit s g)) (sym e) (All-take (λ s. PowersFit s g) (j - i) (drop i f) (All-drop (λ s. PowersFit s g) i f a))
 
-pub sum-room : (acc part f f' g : Sparse) (i j : ℕ) → IsRows acc f g i → IsRows part f' g (length f') → f' ≡ take (j - i) (drop i f) → i ≤ j → size_of f * size_of g < 2 ^ 127 → size_of acc + size_of part < 2 ^ 127
+pub sum-room : (acc part f f' g : Sparse) (i j : ℕ) → IsRows acc f g i → IsRows part f' g (length f') → f' ≡ take (j - i) (drop i f) → i ≤ j
+    → size_of f * size_of g < 2 ^ 127 → size_of acc + size_of part < 2 ^ 127
 sum-room acc part f f' g i j r p e h room =
     let s : size_of part ≤ size_of f' * size_of g = omega (arith, p.size, ap (λ q. size_of q * size_of g) (take_all (length f') f' (omega arith))) in
     omega (arith, room, r.size, s, ap (λ q. q * size_of g) (joined-size i j f f' e h), mul-le-mul_left (size_of g) (size-take f j))
 
 -- the sum of the rows so far and of those of a part has the rows up to its end
 pub parts-step : (acc part out f f' g : Sparse) (i j : ℕ) → IsRows acc f g i → IsRows part f' g (length f') → f' ≡ take (j - i) (drop i f) → i ≤ j →
-    ((n : ℕ) (m : List ℕ) → coefficient_at n out m ≡ coefficient_at n acc m +ℤ coefficient_at n part m) → size_of out ≤ size_of acc + size_of part → IsPoly out → ((n : ℕ) → AreBelow n acc → AreBelow n part → AreBelow n out) → IsRows out f g j
+    ((n : ℕ) (m : List ℕ) → coefficient_at n out m ≡ coefficient_at n acc m +ℤ coefficient_at n part m) →
+    size_of out ≤ size_of acc + size_of part → IsPoly out → ((n : ℕ) → AreBelow n acc → AreBelow n part → AreBelow n out) → IsRows out f g j
 parts-step acc part out f f' g i j r p e h c s q b = record {
-  coefficients = λ n m. omega (arith, ints, c n m, r.coefficients n m, p.coefficients n m, ap (sum_over (λ u. row_at n m u g)) (take_all (length f') f' (omega arith)), ap (sum_over (λ u. row_at n m u g)) (joined i j f f' e h), sum_over-append (λ u. row_at n m u g) (take i f) f');
+  coefficients = λ n m. omega (
+    arith,
+    ints,
+    c n m,
+    r.coefficients n m,
+    p.coefficients n m,
+    ap (sum_over (λ u. row_at n m u g)) (take_all (length f') f' (omega arith)),
+    ap (sum_over (λ u. row_at n m u g)) (joined i j f f' e h),
+    sum_over-append (λ u. row_at n m u g) (take i f) f',
+  );
   size =
       let t : size_of part ≤ size_of f' * size_of g = omega (arith, p.size, ap (λ z. size_of z * size_of g) (take_all (length f') f' (omega arith))) in
       omega (arith, s, r.size, t, ap (λ z. z * size_of g) (joined-size i j f f' e h));
   rising = q.rising;
-  below = λ k x y. b k (r.below k x y) (p.below k (subst (AreBelow k) (sym e) (All-take (λ z. IsAbove z.0 k) (j - i) (drop i f) (All-drop (λ z. IsAbove z.0 k) i f x))) y);
+  below = λ k x y. b k (r.below k x y)
+      (p.below k (subst (AreBelow k) (sym e) (All-take (λ z. IsAbove z.0 k) (j - i) (drop i f) (All-drop (λ z. IsAbove z.0 k) i f x))) y);
 }

@@ -1,5 +1,6 @@
 -- Coefficients and sizes of lists of terms.
-use Rattle.std.proofs.Common.{◌≡◌, ℕ, ◌+◌, ◌<◌, ◌≤◌, zero, suc, refl, ◌∙◌, ap, arith, List, [], ◌∷◌, ◌++◌, length, take, set, get_or, Bool, true, false, if◌then◌else◌, unsigned_abs, add-one}
+use Rattle.std.proofs.Common.{◌≡◌, ℕ, ◌+◌, ◌<◌, ◌≤◌, zero, suc, refl, ◌∙◌, ap, arith, List, [], ◌∷◌, ◌++◌, length, take, set, get_or, Bool}
+use Rattle.std.proofs.Common.{true, false, if◌then◌else◌, unsigned_abs, add-one}
 use Rattle.std.proofs.lemmas.Int.{ints}
 use Rattle.std.proofs.Math.IntN.{ℤ, pos, ◌+ℤ◌}
 use Rattle.std.proofs.lemmas.List.{get_or_default}
@@ -24,17 +25,21 @@ coefficient_at-append n m (x ∷ xs) ys = omega (arith, ints, coefficient_at-app
 pub coefficient_at-push : (n : ℕ) (m : List ℕ) (xs : Sparse) (t : Pairs × ℤ) → coefficient_at n (xs ++ (t ∷ [])) m ≡ coefficient_at n xs m +ℤ part_at n t m
 coefficient_at-push n m xs t = omega (arith, ints, coefficient_at-append n m xs (t ∷ []), coefficient_at-cons n m t [], coefficient_at-nil n m)
 
-pub coefficient_at-more : (n : ℕ) (m : List ℕ) (xs : Sparse) (i : ℕ) (d : Pairs × ℤ) → i < length xs → coefficient_at n (take (i + 1) xs) m ≡ coefficient_at n (take i xs) m +ℤ part_at n (get_or xs i d) m
+pub coefficient_at-more : (n : ℕ) (m : List ℕ) (xs : Sparse) (i : ℕ) (d : Pairs × ℤ) → i < length xs
+    → coefficient_at n (take (i + 1) xs) m ≡ coefficient_at n (take i xs) m +ℤ part_at n (get_or xs i d) m
 coefficient_at-more n m [] i d h = absurd (omega arith)
 coefficient_at-more n m (x ∷ xs) zero d h = omega (arith, ints, coefficient_at-cons n m x [], coefficient_at-nil n m)
 coefficient_at-more n m (x ∷ xs) (suc i) d h =
-    let ih : coefficient_at n (take (suc i) xs) m ≡ coefficient_at n (take i xs) m +ℤ part_at n (get_or xs i d) m = rw add-one at (coefficient_at-more n m xs i d (omega arith)) in
+    let ih : coefficient_at n (take (suc i) xs) m ≡ coefficient_at n (take i xs) m +ℤ part_at n (get_or xs i d) m =
+    rw add-one at (coefficient_at-more n m xs i d (omega arith)) in
     rw add-one (omega (arith, ints, ih, coefficient_at-cons n m x (take (suc i) xs), coefficient_at-cons n m x (take i xs)))
 
-pub coefficient_at-set : (n : ℕ) (m : List ℕ) (xs : Sparse) (i : ℕ) (t d : Pairs × ℤ) → i < length xs → coefficient_at n (set xs i t) m +ℤ part_at n (get_or xs i d) m ≡ coefficient_at n xs m +ℤ part_at n t m
+pub coefficient_at-set : (n : ℕ) (m : List ℕ) (xs : Sparse) (i : ℕ) (t d : Pairs × ℤ) → i < length xs
+    → coefficient_at n (set xs i t) m +ℤ part_at n (get_or xs i d) m ≡ coefficient_at n xs m +ℤ part_at n t m
 coefficient_at-set n m [] i t d h = absurd (omega arith)
 coefficient_at-set n m (x ∷ xs) zero t d h = omega (arith, ints, coefficient_at-cons n m x xs, coefficient_at-cons n m t xs)
-coefficient_at-set n m (x ∷ xs) (suc i) t d h = omega (arith, ints, coefficient_at-set n m xs i t d (omega arith), coefficient_at-cons n m x xs, coefficient_at-cons n m x (set xs i t))
+coefficient_at-set n m (x ∷ xs) (suc i) t d h =
+    omega (arith, ints, coefficient_at-set n m xs i t d (omega arith), coefficient_at-cons n m x xs, coefficient_at-cons n m x (set xs i t))
 
 -- two terms with the same exponents add up to one
 pub part-sum : (n : ℕ) (m : List ℕ) (e : Pairs) (a b : ℤ) → part_at n (e, a +ℤ b) m ≡ part_at n (e, a) m +ℤ part_at n (e, b) m
@@ -52,9 +57,11 @@ part-zero n m e = by_case (same_vector (vector n e) m) where
   by_case true = refl
   by_case false = refl
 
--- the term t added at a place where a term with its exponents stands
-pub set-adds : (n : ℕ) (m : List ℕ) (xs : Sparse) (i : ℕ) (e : Pairs) (a b c : ℤ) → i < length xs → (e, a) ≡ get_or xs i (e, a) → c ≡ a +ℤ b → coefficient_at n (set xs i (e, c)) m ≡ coefficient_at n xs m +ℤ part_at n (e, b) m
-set-adds n m xs i e a b c h at' s = omega (arith, ints, coefficient_at-set n m xs i (e, c) (e, a) h, ap (λ z. part_at n z m) at', ap (λ z. part_at n (e, z) m) s, part-sum n m e a b)
+-- the term t added at a place where a term with its exponents is
+pub set-adds : (n : ℕ) (m : List ℕ) (xs : Sparse) (i : ℕ) (e : Pairs) (a b c : ℤ) → i < length xs → (e, a) ≡ get_or xs i (e, a) → c ≡ a +ℤ b
+    → coefficient_at n (set xs i (e, c)) m ≡ coefficient_at n xs m +ℤ part_at n (e, b) m
+set-adds n m xs i e a b c h at' s =
+    omega (arith, ints, coefficient_at-set n m xs i (e, c) (e, a) h, ap (λ z. part_at n z m) at', ap (λ z. part_at n (e, z) m) s, part-sum n m e a b)
 
 -- ---- sizes
 pub size-nil : size_of [] ≡ 0
@@ -91,7 +98,8 @@ item-small xs i x h e = let f : unsigned_abs x.1 ≡ unsigned_abs (get_or xs i x
 abs_add : (x y : ℤ) → unsigned_abs (x +ℤ y) ≤ unsigned_abs x + unsigned_abs y
 abs_add x y = omega (arith, ints)
 
-pub size-set : (xs : Sparse) (i : ℕ) (e : Pairs) (a b c : ℤ) → i < length xs → (e, a) ≡ get_or xs i (e, a) → c ≡ a +ℤ b → size_of (set xs i (e, c)) ≤ size_of xs + unsigned_abs b
+pub size-set : (xs : Sparse) (i : ℕ) (e : Pairs) (a b c : ℤ) → i < length xs → (e, a) ≡ get_or xs i (e, a) → c ≡ a +ℤ b
+    → size_of (set xs i (e, c)) ≤ size_of xs + unsigned_abs b
 unfolding size_of
 size-set xs i e a b c h at' s =
     let f : unsigned_abs a ≡ unsigned_abs (get_or xs i (e, a)).1 = ap (λ z. unsigned_abs z.1) at' in
@@ -100,11 +108,14 @@ size-set xs i e a b c h at' s =
 
 -- the first n terms weigh no more with the next than the whole
 pub size-next : (xs : Sparse) (i : ℕ) (x : Pairs × ℤ) → i < length xs → x ≡ get_or xs i x → size_of (take i xs) + unsigned_abs x.1 ≤ size_of xs
-size-next xs i x h e = let f : unsigned_abs x.1 ≡ unsigned_abs (get_or xs i x).1 = ap (λ z. unsigned_abs z.1) e in omega (arith, f, size-more xs i x h, size-take xs (i + 1))
+size-next xs i x h e =
+    let f : unsigned_abs x.1 ≡ unsigned_abs (get_or xs i x).1 = ap (λ z. unsigned_abs z.1) e in
+    omega (arith, f, size-more xs i x h, size-take xs (i + 1))
 
--- ---- a term added where one with its exponents stands
+-- ---- a term added where one with its exponents is
 alike : (xs : Sparse) (i : ℕ) (x t : Pairs × ℤ) → i < length xs → x ≡ get_or xs i x → (get_or xs i t).0 ≡ t.0 → x.0 ≡ t.0
 alike xs i x t h e s = ap (λ (z : Pairs × ℤ). z.0) (e ∙ get_or_default xs i x t h) ∙ s
 
-pub adds-term : (n : ℕ) (m : List ℕ) (xs : Sparse) (i : ℕ) (x t : Pairs × ℤ) (c : ℤ) → i < length xs → x ≡ get_or xs i x → (get_or xs i t).0 ≡ t.0 → c ≡ x.1 +ℤ t.1 → coefficient_at n (set xs i (x.0, c)) m ≡ coefficient_at n xs m +ℤ part_at n t m
+pub adds-term : (n : ℕ) (m : List ℕ) (xs : Sparse) (i : ℕ) (x t : Pairs × ℤ) (c : ℤ) → i < length xs → x ≡ get_or xs i x
+    → (get_or xs i t).0 ≡ t.0 → c ≡ x.1 +ℤ t.1 → coefficient_at n (set xs i (x.0, c)) m ≡ coefficient_at n xs m +ℤ part_at n t m
 adds-term n m xs i x t c h e s f = set-adds n m xs i x.0 x.1 t.1 c h e f ∙ ap (λ z. coefficient_at n xs m +ℤ part_at n (z, t.1) m) (alike xs i x t h e s)

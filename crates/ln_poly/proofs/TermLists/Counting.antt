@@ -1,5 +1,6 @@
 -- A normal polynomial has as many terms as there are monomials.
-use Rattle.std.proofs.Common.{◌≡◌, ◌≢◌, ℕ, ◌+◌, ◌<◌, ◌≤◌, suc, refl, sym, ◌∙◌, ap, arith, All, List, [], ◌∷◌, length, map, Bool, true, false, if◌then◌else◌, ◌⊎◌, inl, inr}
+use Rattle.std.proofs.Common.{◌≡◌, ◌≢◌, ℕ, ◌+◌, ◌<◌, ◌≤◌, suc, refl, sym, ◌∙◌, ap, arith, All, List, [], ◌∷◌, length, map, Bool, true}
+use Rattle.std.proofs.Common.{false, if◌then◌else◌, ◌⊎◌, inl, inr}
 use Rattle.std.proofs.Math.IntN.{pos, ◌+ℤ◌}
 use Rattle.std.proofs.lemmas.Int.{ints}
 use Rattle.std.proofs.lemmas.List.Elements.{All-head, All-tail}
@@ -86,7 +87,8 @@ remove m (y ∷ ys) = if same_vector y m then ys else y ∷ remove m ys
 remove-length : (m : List ℕ) (ys : List (List ℕ)) → In ys m → length (remove m ys) + 1 ≡ length ys
 remove-length m [] i = absurd i
 remove-length m (y ∷ ys) i = by_case (remove-length m ys) (same_vector y m) refl i where
-  by_case : (In ys m → length (remove m ys) + 1 ≡ length ys) → (b : Bool) → same_vector y m ≡ b → In (y ∷ ys) m → length (if b then ys else y ∷ remove m ys) + 1 ≡ length (y ∷ ys)
+  by_case : (In ys m → length (remove m ys) + 1 ≡ length ys) → (b : Bool) → same_vector y m ≡ b → In (y ∷ ys) m
+      → length (if b then ys else y ∷ remove m ys) + 1 ≡ length (y ∷ ys)
   by_case ih true q j = omega arith
   by_case ih false q (inl e) = let x : same_vector y m ≡ true = rw e (same_vector-refl y) in let z : true ≡ false = sym x ∙ q in cc
   by_case ih false q (inr j) = omega (arith, ih j)
@@ -104,7 +106,8 @@ remove-in m k (y ∷ ys) d i = by_case (remove-in m k ys d) (same_vector y m) re
 pub distinct-length : (xs ys : List (List ℕ)) → AreDistinct xs → ((m : List ℕ) → In xs m → In ys m) → length xs ≤ length ys
 distinct-length [] ys d h = omega arith
 distinct-length (x ∷ xs) ys d h =
-    let r : length xs ≤ length (remove x ys) = distinct-length xs (remove x ys) d.1 (λ m i. remove-in x m ys (λ e. d.0 (let j : In xs m = i in rw e at j)) (h m (inr i))) in
+    let r : length xs ≤ length (remove x ys) =
+    distinct-length xs (remove x ys) d.1 (λ m i. remove-in x m ys (λ e. d.0 (let j : In xs m = i in rw e at j)) (h m (inr i))) in
     omega (arith, r, remove-length x ys (h x (inl refl)))
 
 -- ---- normal polynomials
@@ -119,7 +122,8 @@ in-monomial n e f m p i =
 -- a normal polynomial of at most 1,024 terms
 pub few-terms : (n : ℕ) (e : Tree) (f : Sparse) → IsNormal n e f → length f ≤ 1024 → HasTooManyTerms n e → ⊥
 few-terms n e f p l h =
-    let k : length h.vectors ≤ length (vectors (terms_of n f)) = distinct-length h.vectors (vectors (terms_of n f)) h.distinct (λ m i. monomial-in n e f m p (h.monomials m i)) in
+    let k : length h.vectors ≤ length (vectors (terms_of n f)) =
+    distinct-length h.vectors (vectors (terms_of n f)) h.distinct (λ m i. monomial-in n e f m p (h.monomials m i)) in
     absurd (omega (arith, k, length-vectors n f, h.many))
 
 -- and of more
@@ -140,12 +144,15 @@ zero-no-terms n e [] p z = refl
 zero-no-terms n e (t ∷ f) p z =
     let m : List ℕ = vector n t.0 in
     let l : length m ≡ n = over-length n (terms_of n (t ∷ f)) m p.normal.over (inl refl) in
-    absurd (in-nonzero (terms_of n (t ∷ f)) m (collected n (t ∷ f) p.form p.below) (nonzero-terms n (t ∷ f) p.form) (inl refl) (p.normal.coefficients m l ∙ by_degree l (cases_lt (degree_of e) (total_degree m)))) where
-      by_degree : length (vector n t.0) ≡ n → (degree_of e < total_degree (vector n t.0)) ⊎ (total_degree (vector n t.0) ≤ degree_of e) → normal_coefficient e (vector n t.0) ≡ pos 0
-      by_degree l (inl h) = coefficient-above (λ _. true) (λ _. pos 0) e (vector n t.0) h
-      by_degree l (inr h) = z (vector n t.0) l h
+    absurd (in-nonzero (terms_of n (t ∷ f)) m (collected n (t ∷ f) p.form p.below) (nonzero-terms n (t ∷ f) p.form) (inl refl)
+    (p.normal.coefficients m l ∙ by_degree l (cases_lt (degree_of e) (total_degree m))))
+  where
+    by_degree : length (vector n t.0) ≡ n → (degree_of e < total_degree (vector n t.0)) ⊎ (total_degree (vector n t.0) ≤ degree_of e)
+        → normal_coefficient e (vector n t.0) ≡ pos 0
+    by_degree l (inl h) = coefficient-above (λ _. true) (λ _. pos 0) e (vector n t.0) h
+    by_degree l (inr h) = z (vector n t.0) l h
 
--- the answers of the count
+-- the results of the count
 pub counted-few : (n : ℕ) (at : Span) (e : Tree) (f : Sparse) → length f ≤ 1024 → IsNormal n e f → Expands n ((at, e) ∷ []) e f
 counted-few n at e f l p = record { normal = p; terms = l; few = (few-terms n e f p l, tt) }
 

@@ -1,4 +1,4 @@
--- Exponents of rising pairs.
+-- Proves that no exponent of a list of rising pairs is above 127.
 use Rattle.std.proofs.Common.{◌≡◌, ◌⊎◌, inl, inr, ℕ, ◌<◌, [], ◌∷◌, arith}
 use Rattle.std.proofs.lemmas.Bool.{cases_eq}
 use Rattle.ln_tree.specs.Exps.{IsRising, Pairs, exponent}

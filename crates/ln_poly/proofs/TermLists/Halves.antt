@@ -19,13 +19,17 @@ part-factors i j f f' e a = subst (All (λ s. IsFactor s.1)) (sym e) (All-take (
 
 -- the first rows
 front : (low f f' g : Sparse) (k : ℕ) → IsRows low f' g (length f') → f' ≡ take (k - 0) (drop 0 f) → IsPoly low → IsRows low f g k
-front low f f' g k r e p = parts-step [] low low f f' g 0 k (rows-begin f g) r e (omega arith) (λ n m. omega (arith, ints, coefficient_at-nil n m)) (omega (arith, size-nil)) p (λ n _ b. b)
+front low f f' g k r e p = parts-step [] low low f f' g 0 k (rows-begin f g) r e (omega arith)
+    (λ n m. omega (arith, ints, coefficient_at-nil n m)) (omega (arith, size-nil)) p (λ n _ b. b)
 
-pub halves-room : (low high f f' f'' g : Sparse) (k : ℕ) → IsRows low f' g (length f') → IsRows high f'' g (length f'') → f' ≡ take (k - 0) (drop 0 f) → f'' ≡ take (length f - k) (drop k f) → k ≤ length f → IsPoly low → size_of f * size_of g < 2 ^ 127 → size_of low + size_of high < 2 ^ 127
+pub halves-room : (low high f f' f'' g : Sparse) (k : ℕ) → IsRows low f' g (length f') → IsRows high f'' g (length f'') → f' ≡ take (k - 0) (drop 0 f)
+    → f'' ≡ take (length f - k) (drop k f) → k ≤ length f → IsPoly low → size_of f * size_of g < 2 ^ 127 → size_of low + size_of high < 2 ^ 127
 halves-room low high f f' f'' g k r s e q l p room = sum-room low high f f'' g k (length f) (front low f f' g k r e p) s q l room
 
-pub halves-joined : (low high out f f' f'' g : Sparse) (k : ℕ) → IsRows low f' g (length f') → IsRows high f'' g (length f'') → f' ≡ take (k - 0) (drop 0 f) → f'' ≡ take (length f - k) (drop k f) → k ≤ length f → IsPoly low →
-    ((n : ℕ) (m : List ℕ) → coefficient_at n out m ≡ coefficient_at n low m +ℤ coefficient_at n high m) → size_of out ≤ size_of low + size_of high → IsPoly out → ((n : ℕ) → AreBelow n low → AreBelow n high → AreBelow n out) → IsRows out f g (length f)
+pub halves-joined : (low high out f f' f'' g : Sparse) (k : ℕ) → IsRows low f' g (length f') → IsRows high f'' g (length f'') →
+    f' ≡ take (k - 0) (drop 0 f) → f'' ≡ take (length f - k) (drop k f) → k ≤ length f → IsPoly low →
+    ((n : ℕ) (m : List ℕ) → coefficient_at n out m ≡ coefficient_at n low m +ℤ coefficient_at n high m) → size_of out ≤ size_of low + size_of high →
+    IsPoly out → ((n : ℕ) → AreBelow n low → AreBelow n high → AreBelow n out) → IsRows out f g (length f)
 halves-joined low high out f f' f'' g k r s e q l p c z o b = parts-step low high out f f'' g k (length f) (front low f f' g k r e p) s q l c z o b
 
 part-length : (i j : ℕ) (f f' : Sparse) → f' ≡ take (j - i) (drop i f) → i ≤ j → j ≤ length f → length f' ≡ j - i
@@ -39,7 +43,15 @@ half-some n s o = omega arith
 
 -- each half is shorter
 pub first-shorter : (f f' : Sparse) (n : ℕ) → 0 < length f → (length f ≡ 1 → ⊥) → f' ≡ take (length f / 2 - 0) (drop 0 f) → length f ≡ n → length f' < n
-first-shorter f f' n s o e d = omega (arith, d, half-below (length f) s o, part-length 0 (length f / 2) f f' e (omega arith) (omega (arith, half-below (length f) s o)))
+first-shorter f f' n s o e d =
+    omega (arith, d, half-below (length f) s o, part-length 0 (length f / 2) f f' e (omega arith) (omega (arith, half-below (length f) s o)))
 
-pub second-shorter : (f f' : Sparse) (n : ℕ) → 0 < length f → (length f ≡ 1 → ⊥) → f' ≡ take (length f - length f / 2) (drop (length f / 2) f) → length f ≡ n → length f' < n
-second-shorter f f' n s o e d = omega (arith, d, half-below (length f) s o, half-some (length f) s o, part-length (length f / 2) (length f) f f' e (omega (arith, half-below (length f) s o)) (omega arith))
+pub second-shorter : (f f' : Sparse) (n : ℕ) → 0 < length f → (length f ≡ 1 → ⊥) → f' ≡ take (length f - length f / 2) (drop (length f / 2) f)
+    → length f ≡ n → length f' < n
+second-shorter f f' n s o e d = omega (
+  arith,
+  d,
+  half-below (length f) s o,
+  half-some (length f) s o,
+  part-length (length f / 2) (length f) f f' e (omega (arith, half-below (length f) s o)) (omega arith),
+)

@@ -1,5 +1,6 @@
 -- Terms with the other sign.
-use Rattle.std.proofs.Common.{◌≡◌, ℕ, ◌+◌, ◌<◌, zero, suc, refl, sym, ◌∙◌, ap, subst, arith, add-one, List, [], ◌∷◌, ◌++◌, length, take, drop, set, get_or, unsigned_abs, ◌^◌, ◌-ℤ◌, to_z, of_z, FitsSigned, Bool, true, false, if◌then◌else◌}
+use Rattle.std.proofs.Common.{◌≡◌, ℕ, ◌+◌, ◌<◌, zero, suc, refl, sym, ◌∙◌, ap, subst, arith, add-one, List, [], ◌∷◌, ◌++◌, length, take}
+use Rattle.std.proofs.Common.{drop, set, get_or, unsigned_abs, ◌^◌, ◌-ℤ◌, to_z, of_z, FitsSigned, Bool, true, false, if◌then◌else◌}
 use Rattle.std.proofs.Math.IntN.{ℤ, pos, neg_ℤ}
 use Rattle.std.proofs.lemmas.Int.{ints, to_z-of_z}
 use mir.Syntax.{w128}
@@ -24,7 +25,8 @@ part-negated n m t = by_case (same_vector (vector n t.0) m) where
 
 pub coefficient-negated : (n : ℕ) (m : List ℕ) (f : Sparse) → coefficient_at n (negated f) m ≡ neg_ℤ (coefficient_at n f m)
 coefficient-negated n m [] = omega (arith, ints, coefficient_at-nil n m)
-coefficient-negated n m (t ∷ f) = omega (arith, ints, coefficient_at-cons n m t f, coefficient_at-cons n m (t.0, neg_ℤ t.1) (negated f), part-negated n m t, coefficient-negated n m f)
+coefficient-negated n m (t ∷ f) =
+    omega (arith, ints, coefficient_at-cons n m t f, coefficient_at-cons n m (t.0, neg_ℤ t.1) (negated f), part-negated n m t, coefficient-negated n m f)
 
 abs-negated : (z : ℤ) → unsigned_abs (neg_ℤ z) ≡ unsigned_abs z
 abs-negated z = omega (arith, ints)
@@ -35,14 +37,17 @@ size-negated (t ∷ f) = omega (arith, size-cons t f, size-cons (t.0, neg_ℤ t.
 
 pub rising-negated : (f : Sparse) → AreRising f → AreRising (negated f)
 rising-negated [] r = All-nil (λ t. IsRising t.0)
-rising-negated (t ∷ f) r = All-cons (λ z. IsRising z.0) (t.0, neg_ℤ t.1) (negated f) (All-head (λ z. IsRising z.0) t f r) (rising-negated f (All-tail (λ z. IsRising z.0) t f r))
+rising-negated (t ∷ f) r = All-cons (λ z. IsRising z.0) (t.0, neg_ℤ t.1) (negated f) (All-head (λ z. IsRising z.0) t f r)
+    (rising-negated f (All-tail (λ z. IsRising z.0) t f r))
 
 pub below-negated : (n : ℕ) (f : Sparse) → AreBelow n f → AreBelow n (negated f)
 below-negated n [] r = All-nil (λ t. IsAbove t.0 n)
-below-negated n (t ∷ f) r = All-cons (λ z. IsAbove z.0 n) (t.0, neg_ℤ t.1) (negated f) (All-head (λ z. IsAbove z.0 n) t f r) (below-negated n f (All-tail (λ z. IsAbove z.0 n) t f r))
+below-negated n (t ∷ f) r = All-cons (λ z. IsAbove z.0 n) (t.0, neg_ℤ t.1) (negated f) (All-head (λ z. IsAbove z.0 n) t f r)
+    (below-negated n f (All-tail (λ z. IsAbove z.0 n) t f r))
 
 -- ---- the form
-less-negated : (t : Pairs × ℤ) (f : Sparse) → AllByRecursion (λ u. on (λ t. t.0) pairs_cmp t u ≡ Less) f → AllByRecursion (λ u. on (λ t. t.0) pairs_cmp (t.0, neg_ℤ t.1) u ≡ Less) (negated f)
+less-negated : (t : Pairs × ℤ) (f : Sparse) → AllByRecursion (λ u. on (λ t. t.0) pairs_cmp t u ≡ Less) f
+    → AllByRecursion (λ u. on (λ t. t.0) pairs_cmp (t.0, neg_ℤ t.1) u ≡ Less) (negated f)
 less-negated t [] h = tt
 less-negated t (u ∷ f) h = (h.0, less-negated t f h.1)
 
@@ -52,11 +57,13 @@ sorted-negated [] h = tt
 sorted-negated (t ∷ f) h = (less-negated t f h.0, sorted-negated f h.1)
 
 factor-negated : (z : ℤ) → IsFactor z → IsFactor (neg_ℤ z)
-factor-negated z h = (λ e. h.0 (omega (arith, ints, e)), let a : unsigned_abs (neg_ℤ z) ≡ unsigned_abs z = omega (arith, ints) in let b = h.1 in omega (arith, a, b))
+factor-negated z h =
+    (λ e. h.0 (omega (arith, ints, e)), let a : unsigned_abs (neg_ℤ z) ≡ unsigned_abs z = omega (arith, ints) in let b = h.1 in omega (arith, a, b))
 
 factors-negated : (f : Sparse) → All (λ t. IsFactor t.1) f → All (λ t. IsFactor t.1) (negated f)
 factors-negated [] h = All-nil (λ t. IsFactor t.1)
-factors-negated (t ∷ f) h = All-cons (λ z. IsFactor z.1) (t.0, neg_ℤ t.1) (negated f) (factor-negated t.1 (All-head (λ z. IsFactor z.1) t f h)) (factors-negated f (All-tail (λ z. IsFactor z.1) t f h))
+factors-negated (t ∷ f) h = All-cons (λ z. IsFactor z.1) (t.0, neg_ℤ t.1) (negated f) (factor-negated t.1 (All-head (λ z. IsFactor z.1) t f h))
+    (factors-negated f (All-tail (λ z. IsFactor z.1) t f h))
 
 pub poly-negated : (f : Sparse) → IsPoly f → IsPoly (negated f)
 poly-negated f p = record { sorted = sorted-negated f p.sorted; rising = rising-negated f p.rising; factors = factors-negated f p.factors }
@@ -67,7 +74,8 @@ negate-there [] i d h = absurd (omega arith)
 negate-there (x ∷ xs) zero d h = refl
 negate-there (x ∷ xs) (suc i) d h = negate-there xs i d (omega arith)
 
-negate-set : (xs : Sparse) (i : ℕ) (e : Pairs) (z : ℤ) → i < length xs → (e, z) ≡ get_or xs i (e, z) → set (negated (take i xs) ++ drop i xs) i (e, neg_ℤ z) ≡ negated (take (suc i) xs) ++ drop (suc i) xs
+negate-set : (xs : Sparse) (i : ℕ) (e : Pairs) (z : ℤ) → i < length xs → (e, z) ≡ get_or xs i (e, z)
+    → set (negated (take i xs) ++ drop i xs) i (e, neg_ℤ z) ≡ negated (take (suc i) xs) ++ drop (suc i) xs
 negate-set [] i e z h r = absurd (omega arith)
 negate-set (x ∷ xs) zero e z h r = ap (λ (t : Pairs × ℤ). (t.0, neg_ℤ t.1) ∷ xs) r
 negate-set (x ∷ xs) (suc i) e z h r = ap (λ s. (x.0, neg_ℤ x.1) ∷ s) (negate-set xs i e z (omega arith) r)
@@ -80,23 +88,29 @@ pub record IsNegated (out xs : Sparse) (i : ℕ) : Type 0 where
 pub negated-init : (xs : Sparse) → IsNegated xs xs 0
 negated-init xs = record { terms = refl; long = refl }
 
-pub negated-factor : (out xs : Sparse) (i : ℕ) (e : Pairs) (z : ℤ) → IsNegated out xs i → i < length xs → (e, z) ≡ get_or out i (e, z) → All (λ t. IsFactor t.1) xs → IsFactor z
-negated-factor out xs i e z r h k a = subst (λ (t : Pairs × ℤ). IsFactor t.1) (sym (k ∙ ap (λ s. get_or s i (e, z)) r.terms ∙ negate-there xs i (e, z) h)) (a i (e, z) h)
+pub negated-factor : (out xs : Sparse) (i : ℕ) (e : Pairs) (z : ℤ) → IsNegated out xs i → i < length xs → (e, z) ≡ get_or out i (e, z)
+    → All (λ t. IsFactor t.1) xs → IsFactor z
+negated-factor out xs i e z r h k a =
+    subst (λ (t : Pairs × ℤ). IsFactor t.1) (sym (k ∙ ap (λ s. get_or s i (e, z)) r.terms ∙ negate-there xs i (e, z) h)) (a i (e, z) h)
 
-pub negated-step : (out xs : Sparse) (i : ℕ) (e : Pairs) (z w : ℤ) → IsNegated out xs i → i < length xs → (e, z) ≡ get_or out i (e, z) → w ≡ neg_ℤ z → IsNegated (set out i (e, w)) xs (i + 1)
+pub negated-step : (out xs : Sparse) (i : ℕ) (e : Pairs) (z w : ℤ) → IsNegated out xs i → i < length xs → (e, z) ≡ get_or out i (e, z)
+    → w ≡ neg_ℤ z → IsNegated (set out i (e, w)) xs (i + 1)
 negated-step out xs i e z w r h k t = record {
-  terms = rw add-one (ap (λ s. set s i (e, w)) r.terms ∙ ap (λ s. set (negated (take i xs) ++ drop i xs) i (e, s)) t ∙ negate-set xs i e z h (k ∙ ap (λ s. get_or s i (e, z)) r.terms ∙ negate-there xs i (e, z) h));
+  terms = rw add-one (ap (λ s. set s i (e, w)) r.terms ∙ ap (λ s. set (negated (take i xs) ++ drop i xs) i (e, s)) t
+      ∙ negate-set xs i e z h (k ∙ ap (λ s. get_or s i (e, z)) r.terms ∙ negate-there xs i (e, z) h));
   long = length-set out i (e, w) ∙ r.long;
 }
 
 -- the sign of a factor, as 128 bits compute it
 pub turned : (z : ℤ) → IsFactor z → to_z w128 (of_z w128 (pos 0 -ℤ to_z w128 (of_z w128 z))) ≡ neg_ℤ z
-turned z f = ap (λ y. to_z w128 (of_z w128 (pos 0 -ℤ y))) (to_z-of_z w128 z (fits z f.1)) ∙ to_z-of_z w128 (pos 0 -ℤ z) (fits (pos 0 -ℤ z) (omega (arith, ints, f.1))) ∙ minus where
-  fits : (y : ℤ) → unsigned_abs y < 2 ^ 127 → FitsSigned w128 y
-  fits y l = omega (arith, ints)
+turned z f = ap (λ y. to_z w128 (of_z w128 (pos 0 -ℤ y))) (to_z-of_z w128 z (fits z f.1))
+    ∙ to_z-of_z w128 (pos 0 -ℤ z) (fits (pos 0 -ℤ z) (omega (arith, ints, f.1))) ∙ minus
+  where
+    fits : (y : ℤ) → unsigned_abs y < 2 ^ 127 → FitsSigned w128 y
+    fits y l = omega (arith, ints)
 
-  minus : pos 0 -ℤ z ≡ neg_ℤ z
-  minus = omega (arith, ints)
+    minus : pos 0 -ℤ z ≡ neg_ℤ z
+    minus = omega (arith, ints)
 
 pub negated-end : (out xs : Sparse) → IsNegated out xs (length xs) → out ≡ negated xs
 negated-end out xs r = r.terms ∙ whole xs where

@@ -1,5 +1,6 @@
 -- Sums of products of terms.
-use Rattle.std.proofs.Common.{◌≡◌, ℕ, ◌+◌, ◌*◌, ◌<◌, ◌≤◌, ◌^◌, zero, suc, refl, sym, ◌∙◌, ap, subst, arith, List, [], ◌∷◌, ◌++◌, length, take, append_assoc, get_or, if◌then◌else◌, unsigned_abs, add-one}
+use Rattle.std.proofs.Common.{◌≡◌, ℕ, ◌+◌, ◌*◌, ◌<◌, ◌≤◌, ◌^◌, zero, suc, refl, sym, ◌∙◌, ap, subst, arith, List, [], ◌∷◌, ◌++◌, length}
+use Rattle.std.proofs.Common.{take, append_assoc, get_or, if◌then◌else◌, unsigned_abs, add-one}
 use Rattle.std.proofs.Math.Nat.{mul-le-mul_left}
 use Rattle.std.proofs.lemmas.Int.{ints, unsigned_abs-mul}
 use Rattle.std.proofs.lemmas.List.{take_all, take_more}
@@ -17,7 +18,8 @@ use Rattle.ln_poly.specs.Rows.{AreProducts, IsProduct, IsProductPut, IsRow, IsRo
 use Rattle.ln_poly.proofs.TermLists.Coefficients.{coefficient_at-nil, coefficient_at-push, item-small, size-more, size-nil, size-push, size-take}
 use Rattle.ln_poly.proofs.Sorting.Merging.{above-none, none-above}
 
-pub sum_over-more : {A : Type 0} (f : A → ℤ) (xs : List A) (i : ℕ) (d : A) → i < length xs → sum_over f (take (i + 1) xs) ≡ sum_over f (take i xs) +ℤ f (get_or xs i d)
+pub sum_over-more : {A : Type 0} (f : A → ℤ) (xs : List A) (i : ℕ) (d : A) → i < length xs
+    → sum_over f (take (i + 1) xs) ≡ sum_over f (take i xs) +ℤ f (get_or xs i d)
 sum_over-more f [] i d h = absurd (omega arith)
 sum_over-more f (x ∷ xs) zero d h = omega (arith, ints)
 sum_over-more f (x ∷ xs) (suc i) d h =
@@ -25,7 +27,8 @@ sum_over-more f (x ∷ xs) (suc i) d h =
     rw add-one (omega (arith, ints, ih))
 
 -- ---- copies of terms
-pub copies-more : (old now now' f : Sparse) (i : ℕ) (t : Pairs × ℤ) → i < length f → t ≡ get_or f i t → now ≡ old ++ take i f → now' ≡ now ++ (t ∷ []) → now' ≡ old ++ take (i + 1) f
+pub copies-more : (old now now' f : Sparse) (i : ℕ) (t : Pairs × ℤ) → i < length f → t ≡ get_or f i t → now ≡ old ++ take i f
+    → now' ≡ now ++ (t ∷ []) → now' ≡ old ++ take (i + 1) f
 copies-more old now now' f i t h e p q =
     q ∙ ap (λ z. z ++ (t ∷ [])) p ∙ append_assoc old (take i f) (t ∷ []) ∙ ap (λ z. old ++ z) (ap (λ z. take i f ++ (z ∷ [])) e ∙ sym (take_more f i t h))
 
@@ -33,7 +36,8 @@ pub copies-end : (old now f : Sparse) (i : ℕ) → length f ≤ i → now ≡ o
 copies-end old now f i h p = p ∙ ap (λ z. old ++ z) (take_all i f h)
 
 -- ---- the exponents of a product
-pub vector-plus : (v n : ℕ) (a b c : Pairs) → ((u : ℕ) → exponent u c ≡ exponent u a + exponent u b) → exponents_from v n c ≡ plus (exponents_from v n a) (exponents_from v n b)
+pub vector-plus : (v n : ℕ) (a b c : Pairs) → ((u : ℕ) → exponent u c ≡ exponent u a + exponent u b)
+    → exponents_from v n c ≡ plus (exponents_from v n a) (exponents_from v n b)
 vector-plus v zero a b c h = refl
 vector-plus v (suc n) a b c h = rw (h v, vector-plus (suc v) n a b c h) refl
 
@@ -41,12 +45,14 @@ pub length-vector : (v n : ℕ) (a : Pairs) → length (exponents_from v n a) �
 length-vector v zero a = refl
 length-vector v (suc n) a = ap suc (length-vector (suc v) n a)
 
-cell_is : (n : ℕ) (m : List ℕ) (s t : Pairs × ℤ) (e : Pairs) → ((v : ℕ) → exponent v e ≡ exponent v s.0 + exponent v t.0) → part_at n (e, s.1 *ℤ t.1) m ≡ cell_at n m s t
+cell_is : (n : ℕ) (m : List ℕ) (s t : Pairs × ℤ) (e : Pairs) → ((v : ℕ) → exponent v e ≡ exponent v s.0 + exponent v t.0)
+    → part_at n (e, s.1 *ℤ t.1) m ≡ cell_at n m s t
 unfolding part_at
 cell_is n m s t e h = rw (vector-plus 0 n s.0 t.0 e h) refl
 
 -- ---- one row
-row_at-more : (n : ℕ) (m : List ℕ) (s : Pairs × ℤ) (g : Sparse) (i : ℕ) (d : Pairs × ℤ) → i < length g → row_at n m s (take (i + 1) g) ≡ row_at n m s (take i g) +ℤ cell_at n m s (get_or g i d)
+row_at-more : (n : ℕ) (m : List ℕ) (s : Pairs × ℤ) (g : Sparse) (i : ℕ) (d : Pairs × ℤ) → i < length g
+    → row_at n m s (take (i + 1) g) ≡ row_at n m s (take i g) +ℤ cell_at n m s (get_or g i d)
 unfolding row_at
 row_at-more n m s g i d h = sum_over-more (cell_at n m s) g i d h
 
@@ -55,19 +61,27 @@ unfolding row_at
 row_at-nil n m s = refl
 
 pub row-init : (old g : Sparse) (s : Pairs × ℤ) → IsRow old old s g 0
-row-init old g s = record { coefficients = λ n m. omega (arith, ints, row_at-nil n m s); size = omega (arith, size-nil); rising = λ r. r; below = λ k a b c. c; alone = λ e. subst (AreProducts s []) (sym e) tt }
+row-init old g s = record {
+  coefficients = λ n m. omega (arith, ints, row_at-nil n m s);
+  size = omega (arith, size-nil);
+  rising = λ r. r;
+  below = λ k a b c. c;
+  alone = λ e. subst (AreProducts s []) (sym e) tt;
+}
 
 abs-is : (s t : Pairs × ℤ) → unsigned_abs (s.1 *ℤ t.1) ≡ unsigned_abs s.1 * unsigned_abs t.1
 abs-is s t = unsigned_abs-mul s.1 t.1
 
-pub row-room : (old g : Sparse) (s t : Pairs × ℤ) (i : ℕ) → i < length g → t ≡ get_or g i t → size_of old + unsigned_abs s.1 * size_of g < 2 ^ 127 → unsigned_abs (s.1 *ℤ t.1) < 2 ^ 127
+pub row-room : (old g : Sparse) (s t : Pairs × ℤ) (i : ℕ) → i < length g → t ≡ get_or g i t
+    → size_of old + unsigned_abs s.1 * size_of g < 2 ^ 127 → unsigned_abs (s.1 *ℤ t.1) < 2 ^ 127
 row-room old g s t i h e room = omega (arith, abs-is s t, mul-le-mul_left (unsigned_abs s.1) (item-small g i t h e))
 
 put-rising : (out old : Sparse) (s t : Pairs × ℤ) → IsProductPut out old s t → AreRising old → AreRising out
 put-rising out old s t p r = subst AreRising (sym p.put) (All-push (λ z. IsRising z.0) old (p.exps, s.1 *ℤ t.1) r p.rising)
 
 put-below : (out old : Sparse) (s t : Pairs × ℤ) (k : ℕ) → IsProductPut out old s t → IsAbove s.0 k → IsAbove t.0 k → AreBelow k old → AreBelow k out
-put-below out old s t k p a b r = subst (AreBelow k) (sym p.put) (All-push (λ z. IsAbove z.0 k) old (p.exps, s.1 *ℤ t.1) r (none-above k p.exps p.rising (λ v l. omega (arith, p.exponents v, above-none k v s.0 a l, above-none k v t.0 b l))))
+put-below out old s t k p a b r = subst (AreBelow k) (sym p.put) (All-push (λ z. IsAbove z.0 k) old (p.exps, s.1 *ℤ t.1) r
+    (none-above k p.exps p.rising (λ v l. omega (arith, p.exponents v, above-none k v s.0 a l, above-none k v t.0 b l))))
 
 -- one product more
 products-push : (s x t : Pairs × ℤ) (g xs : Sparse) → AreProducts s g xs → IsProduct x s t → AreProducts s (g ++ (t ∷ [])) (xs ++ (x ∷ []))
@@ -76,16 +90,28 @@ products-push s x t [] (y ∷ xs) a p = absurd a
 products-push s x t (u ∷ g) [] a p = absurd a
 products-push s x t (u ∷ g) (y ∷ xs) a p = (a.0, products-push s x t g xs a.1 p)
 
-alone-step : (out out' g : Sparse) (s t : Pairs × ℤ) (i : ℕ) → i < length g → t ≡ get_or g i t → IsProductPut out' out s t → AreProducts s (take i g) out → AreProducts s (take (i + 1) g) out'
+alone-step : (out out' g : Sparse) (s t : Pairs × ℤ) (i : ℕ) → i < length g → t ≡ get_or g i t → IsProductPut out' out s t
+    → AreProducts s (take i g) out → AreProducts s (take (i + 1) g) out'
 alone-step out out' g s t i h e p a =
     let more : take (i + 1) g ≡ take i g ++ (t ∷ []) = take_more g i t h ∙ ap (λ z. take i g ++ (z ∷ [])) (sym e) in
     let x : Pairs × ℤ = (p.exps, s.1 *ℤ t.1) in
-    let all : AreProducts s (take i g ++ (t ∷ [])) (out ++ (x ∷ [])) = products-push s x t (take i g) out a (record { exponents = p.exponents; rising = p.rising; factor = refl }) in
+    let all : AreProducts s (take i g ++ (t ∷ [])) (out ++ (x ∷ [])) =
+    products-push s x t (take i g) out a (record { exponents = p.exponents; rising = p.rising; factor = refl }) in
     subst (λ z. AreProducts s z out') (sym more) (subst (AreProducts s (take i g ++ (t ∷ []))) (sym p.put) all)
 
-pub row-step : (out out' old g : Sparse) (s t : Pairs × ℤ) (i : ℕ) → IsRow out old s g i → i < length g → t ≡ get_or g i t → IsProductPut out' out s t → IsRow out' old s g (i + 1)
+pub row-step : (out out' old g : Sparse) (s t : Pairs × ℤ) (i : ℕ) → IsRow out old s g i → i < length g → t ≡ get_or g i t
+    → IsProductPut out' out s t → IsRow out' old s g (i + 1)
 row-step out out' old g s t i r h e p = record {
-  coefficients = λ n m. omega (arith, ints, ap (λ z. coefficient_at n z m) p.put, r.coefficients n m, coefficient_at-push n m out (p.exps, s.1 *ℤ t.1), cell_is n m s t p.exps p.exponents, row_at-more n m s g i t h, ap (cell_at n m s) e);
+  coefficients = λ n m. omega (
+    arith,
+    ints,
+    ap (λ z. coefficient_at n z m) p.put,
+    r.coefficients n m,
+    coefficient_at-push n m out (p.exps, s.1 *ℤ t.1),
+    cell_is n m s t p.exps p.exponents,
+    row_at-more n m s g i t h,
+    ap (cell_at n m s) e,
+  );
   size =
       let f : unsigned_abs t.1 ≡ unsigned_abs (get_or g i t).1 = ap (λ q. unsigned_abs q.1) e in
       let k : size_of (take (i + 1) g) ≡ size_of (take i g) + unsigned_abs t.1 = omega (arith, f, size-more g i t h) in
@@ -97,7 +123,12 @@ row-step out out' old g s t i r h e p = record {
 
 -- ---- all rows
 pub rows-begin : (f g : Sparse) → IsRows [] f g 0
-rows-begin f g = record { coefficients = λ n m. coefficient_at-nil n m; size = omega (arith, size-nil); rising = All-nil (λ z. IsRising z.0); below = λ k a b. All-nil (λ z. IsAbove z.0 k) }
+rows-begin f g = record {
+  coefficients = λ n m. coefficient_at-nil n m;
+  size = omega (arith, size-nil);
+  rising = All-nil (λ z. IsRising z.0);
+  below = λ k a b. All-nil (λ z. IsAbove z.0 k);
+}
 
 rows-total : (f : Sparse) (s : Pairs × ℤ) (i : ℕ) → i < length f → s ≡ get_or f i s → size_of (take (i + 1) f) ≡ size_of (take i f) + unsigned_abs s.1
 rows-total f s i h e = let k : unsigned_abs s.1 ≡ unsigned_abs (get_or f i s).1 = ap (λ z. unsigned_abs z.1) e in omega (arith, k, size-more f i s h)
@@ -105,15 +136,26 @@ rows-total f s i h e = let k : unsigned_abs s.1 ≡ unsigned_abs (get_or f i s).
 mul-le-mul_right' : (a b k : ℕ) → a ≤ b → a * k ≤ b * k
 mul-le-mul_right' a b k h = omega (arith, mul-le-mul_left k h)
 
-pub rows-room : (out f g : Sparse) (s : Pairs × ℤ) (i : ℕ) → IsRows out f g i → i < length f → s ≡ get_or f i s → size_of f * size_of g < 2 ^ 127 → size_of out + unsigned_abs s.1 * size_of g < 2 ^ 127
+pub rows-room : (out f g : Sparse) (s : Pairs × ℤ) (i : ℕ) → IsRows out f g i → i < length f → s ≡ get_or f i s
+    → size_of f * size_of g < 2 ^ 127 → size_of out + unsigned_abs s.1 * size_of g < 2 ^ 127
 rows-room out f g s i r h e room =
     let l : size_of (take i f) + unsigned_abs s.1 ≤ size_of f = omega (arith, rows-total f s i h e, size-take f (i + 1)) in
     omega (arith, r.size, room, mul-le-mul_right' (size_of (take i f) + unsigned_abs s.1) (size_of f) (size_of g) l)
 
-pub rows-step : (out out' f g : Sparse) (s : Pairs × ℤ) (i : ℕ) → IsRows out f g i → i < length f → s ≡ get_or f i s → IsRow out' out s g (length g) → IsRows out' f g (i + 1)
+pub rows-step : (out out' f g : Sparse) (s : Pairs × ℤ) (i : ℕ) → IsRows out f g i → i < length f → s ≡ get_or f i s
+    → IsRow out' out s g (length g) → IsRows out' f g (i + 1)
 rows-step out out' f g s i r h e p = record {
-  coefficients = λ n m. omega (arith, ints, r.coefficients n m, p.coefficients n m, ap (row_at n m s) (take_all (length g) g (omega arith)), sum_over-more (λ u. row_at n m u g) f i s h, ap (λ u. row_at n m u g) e);
-  size = omega (arith, r.size, p.size, ap (λ q. unsigned_abs s.1 * size_of q) (take_all (length g) g (omega arith)), ap (λ q. q * size_of g) (rows-total f s i h e));
+  coefficients = λ n m. omega (
+    arith,
+    ints,
+    r.coefficients n m,
+    p.coefficients n m,
+    ap (row_at n m s) (take_all (length g) g (omega arith)),
+    sum_over-more (λ u. row_at n m u g) f i s h,
+    ap (λ u. row_at n m u g) e,
+  );
+  size = omega
+      (arith, r.size, p.size, ap (λ q. unsigned_abs s.1 * size_of q) (take_all (length g) g (omega arith)), ap (λ q. q * size_of g) (rows-total f s i h e));
   rising = p.rising r.rising;
   below = λ k a b. p.below k (subst (λ z. IsAbove z.0 k) (sym e) (a i s h)) b (r.below k a b);
 }
@@ -126,14 +168,22 @@ row_times n m s (t ∷ g) = omega (arith, ints, row_times n m s g)
 pub rows_times : (n : ℕ) (m : List ℕ) (f g : Sparse) → sum_over (λ s. row_at n m s g) f ≡ factor_at (times (terms_of n f) (terms_of n g)) m
 rows_times n m [] g = refl
 rows_times n m (s ∷ f) g =
-    omega (arith, ints, rows_times n m f g, row_times n m s g, sum_over-append (λ t. if same_vector t.exponents m then t.factor else pos 0) (times_term (term_of n s) (terms_of n g)) (times (terms_of n f) (terms_of n g)))
+    omega (
+      arith,
+      ints,
+      rows_times n m f g,
+      row_times n m s g,
+      sum_over-append (λ t. if same_vector t.exponents m then t.factor else pos 0) (times_term (term_of n s) (terms_of n g))
+          (times (terms_of n f) (terms_of n g)),
+    )
 
 pub over-terms : (n : ℕ) (f : Sparse) → Over n (terms_of n f)
 over-terms n [] = tt
 over-terms n (t ∷ f) = (length-vector 0 n t.0, over-terms n f)
 
 -- the coefficients of all rows are those of the product
-pub rows-product : (out f g : Sparse) → IsRows out f g (length f) → (n : ℕ) (m : List ℕ) → length m ≡ n → coefficient_at n out m ≡ product (coefficient_at n f) (coefficient_at n g) m
+pub rows-product : (out f g : Sparse) → IsRows out f g (length f) → (n : ℕ) (m : List ℕ) → length m ≡ n
+    → coefficient_at n out m ≡ product (coefficient_at n f) (coefficient_at n g) m
 unfolding coefficient_at
 rows-product out f g r n m h =
     r.coefficients n m
@@ -148,8 +198,9 @@ rows-size out f g r = omega (arith, r.size, ap (λ q. size_of q * size_of g) (ta
 pub rows-end : (out f g f' g' : Sparse) (i : ℕ) → IsRows out f g i → i ≡ length f → f ≡ f' → g ≡ g' → IsRows out f' g' (length f')
 rows-end out f g f' g' i r h p q = subst (λ z. IsRows out z g' (length z)) p (subst (λ z. IsRows out f z (length f)) q (subst (IsRows out f g) h r))
 
--- no exponent of a product of s with a term of g passes 127
-pub powers-at : (s : Pairs × ℤ) (g : Sparse) (i : ℕ) (t : Pairs × ℤ) → PowersFit s g → i < length g → t ≡ get_or g i t → (v : ℕ) → exponent v s.0 + exponent v t.0 < 128
+-- no exponent of a product of s with a term of g exceeds 127
+pub powers-at : (s : Pairs × ℤ) (g : Sparse) (i : ℕ) (t : Pairs × ℤ) → PowersFit s g → i < length g → t ≡ get_or g i t → (v : ℕ)
+    → exponent v s.0 + exponent v t.0 < 128
 powers-at s g i t f h e = subst (λ z. (v : ℕ) → exponent v s.0 + exponent v z.0 < 128) (sym e) (f i t h)
 
 pub row-end : (out old : Sparse) (s : Pairs × ℤ) (g : Sparse) (i : ℕ) → i ≡ length g → IsRow out old s g i → IsRow out old s g (length g)

@@ -44,13 +44,20 @@ by-columns n m (s ∷ f) g = ap (λ z. row_at n m s g +ℤ z) (by-columns n m f 
 
 pub rows-turned : (out f g : Sparse) → IsRows out g f (length g) → IsRows out f g (length f)
 rows-turned out f g r = record {
-  coefficients = λ n m. r.coefficients n m ∙ ap (sum_over (λ s. row_at n m s f)) (take_all (length g) g (omega arith)) ∙ by-columns n m g f ∙ sym (ap (sum_over (λ s. row_at n m s g)) (take_all (length f) f (omega arith)));
-  size = omega (arith, r.size, ap (λ z. size_of z * size_of f) (take_all (length g) g (omega arith)), ap (λ z. size_of z * size_of g) (take_all (length f) f (omega arith)));
+  coefficients = λ n m. r.coefficients n m ∙ ap (sum_over (λ s. row_at n m s f)) (take_all (length g) g (omega arith)) ∙ by-columns n m g f
+      ∙ sym (ap (sum_over (λ s. row_at n m s g)) (take_all (length f) f (omega arith)));
+  size = omega (
+    arith,
+    r.size,
+    ap (λ z. size_of z * size_of f) (take_all (length g) g (omega arith)),
+    ap (λ z. size_of z * size_of g) (take_all (length f) f (omega arith)),
+  );
   rising = r.rising;
   below = λ k a b. r.below k b a;
 }
 
-product-turned : (n : ℕ) (f g : Sparse) (m : List ℕ) → length m ≡ n → product (coefficient_at n g) (coefficient_at n f) m ≡ product (coefficient_at n f) (coefficient_at n g) m
+product-turned : (n : ℕ) (f g : Sparse) (m : List ℕ) → length m ≡ n
+    → product (coefficient_at n g) (coefficient_at n f) m ≡ product (coefficient_at n f) (coefficient_at n g) m
 unfolding coefficient_at
 product-turned n f g m h =
     sym (factor_at-times n (terms_of n g) (terms_of n f) (over-terms n g) (over-terms n f) m h)
@@ -74,7 +81,8 @@ pub room-turned : (f g : Sparse) → size_of f * size_of g < 2 ^ 127 → size_of
 room-turned f g h = omega (arith, h)
 
 -- ---- a product that there may be
-pub some-product : (o : Option Sparse) (f g : Sparse) → IfSome o (λ h. IsRows h f g (length f)) → IfSome o (λ h. (n : ℕ) (m : List ℕ) → length m ≡ n → coefficient_at n h m ≡ product (coefficient_at n f) (coefficient_at n g) m)
+pub some-product : (o : Option Sparse) (f g : Sparse) → IfSome o (λ h. IsRows h f g (length f))
+    → IfSome o (λ h. (n : ℕ) (m : List ℕ) → length m ≡ n → coefficient_at n h m ≡ product (coefficient_at n f) (coefficient_at n g) m)
 some-product None f g r = r
 some-product (Some h) f g r = rows-product h f g r
 
@@ -82,6 +90,7 @@ pub some-size : (o : Option Sparse) (f g : Sparse) → IfSome o (λ h. IsRows h 
 some-size None f g r = r
 some-size (Some h) f g r = rows-size h f g r
 
-pub some-below : (o : Option Sparse) (f g : Sparse) → IfSome o (λ h. IsRows h f g (length f)) → IfSome o (λ h. (n : ℕ) → AreBelow n f → AreBelow n g → AreBelow n h)
+pub some-below : (o : Option Sparse) (f g : Sparse) → IfSome o (λ h. IsRows h f g (length f))
+    → IfSome o (λ h. (n : ℕ) → AreBelow n f → AreBelow n g → AreBelow n h)
 some-below None f g r = r
 some-below (Some h) f g r = r.below

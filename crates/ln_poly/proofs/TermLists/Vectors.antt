@@ -16,7 +16,7 @@ pairs-all-above u v [] h = tt
 pairs-all-above u v (zero ∷ m) h = pairs-all-above u (suc v) m (omega arith)
 pairs-all-above u v (suc k ∷ m) h = (h, pairs-all-above u (suc v) m (omega arith))
 
--- they rise where no exponent passes 127
+-- they rise where no exponent exceeds 127
 pub pairs-rising : (v : ℕ) (m : List ℕ) → total_degree m < 128 → IsRising (pairs_from v m)
 pairs-rising v [] h = tt
 pairs-rising v (zero ∷ m) h = pairs-rising (suc v) m (omega (arith, h))
@@ -62,7 +62,8 @@ pairs-vector v (zero ∷ m) =
 pairs-vector v (suc k ∷ m) =
     let s : eqb v v ≡ true = eq-eqb v v refl in
     let e : exponent v (pairs_from (suc v) m) ≡ 0 = exponent-before v (suc v) m (omega arith) in
-    let b : exponents_from (suc v) (length m) ((v, suc k) ∷ pairs_from (suc v) m) ≡ exponents_from (suc v) (length m) (pairs_from (suc v) m) = exponents-behind (suc v) (length m) v (suc k) (pairs_from (suc v) m) (omega arith) in
+    let b : exponents_from (suc v) (length m) ((v, suc k) ∷ pairs_from (suc v) m) ≡ exponents_from (suc v) (length m) (pairs_from (suc v) m) =
+    exponents-behind (suc v) (length m) v (suc k) (pairs_from (suc v) m) (omega arith) in
     let t : exponents_from (suc v) (length m) (pairs_from (suc v) m) ≡ m = pairs-vector (suc v) m in
     rw (s, e, b, t) (ap (λ (j : ℕ). j ∷ m) (plain (suc k))) where
       plain : (i : ℕ) → i + 0 ≡ i

@@ -1,4 +1,4 @@
--- Products of one term with a polynomial, which stand in the order of its terms.
+-- Products of one term with a polynomial, which are in the order of its terms.
 use Rattle.std.proofs.Common.{◌≡◌, ◌≢◌, ◌⊎◌, inl, inr, ◌*◌, ◌<◌, ◌^◌, sym, ◌∙◌, ap, subst, arith, All, [], ◌∷◌, length, take, get_or, unsigned_abs, Less}
 use Rattle.std.proofs.lemmas.List.{take_all}
 use Rattle.std.proofs.lemmas.List.Elements.{All-cons, All-head, All-nil, All-tail}
@@ -15,8 +15,9 @@ use Rattle.ln_poly.proofs.TermLists.Coefficients.{size-cons, size-nil}
 use Rattle.ln_poly.proofs.TermLists.Products.{rows-begin, rows-step}
 
 -- ---- the order
--- a product stands before those of what comes after
-behind : (s x t : Pairs × ℤ) (g xs : Sparse) → IsRising t.0 → AreRising g → IsProduct x s t → AreProducts s g xs → AllByRecursion (λ (y : Pairs × ℤ). pairs_cmp t.0 y.0 ≡ Less) g → AllByRecursion (λ (y : Pairs × ℤ). pairs_cmp x.0 y.0 ≡ Less) xs
+-- a product is before those of what comes after
+behind : (s x t : Pairs × ℤ) (g xs : Sparse) → IsRising t.0 → AreRising g → IsProduct x s t → AreProducts s g xs
+    → AllByRecursion (λ (y : Pairs × ℤ). pairs_cmp t.0 y.0 ≡ Less) g → AllByRecursion (λ (y : Pairs × ℤ). pairs_cmp x.0 y.0 ≡ Less) xs
 behind s x t [] [] w r p a h = tt
 behind s x t [] (y ∷ xs) w r p a h = absurd a
 behind s x t (u ∷ g) [] w r p a h = absurd a
@@ -25,7 +26,8 @@ behind s x t (u ∷ g) (y ∷ xs) w r p a h = (
   behind s x t g xs w (All-tail (λ z. IsRising z.0) u g r) p a.1 h.1,
 )
 
-products-sorted : (s : Pairs × ℤ) (g xs : Sparse) → AreRising g → AreProducts s g xs → IsStrictlySortedBy (on (λ (t : Pairs × ℤ). t.0) pairs_cmp) g → IsStrictlySortedBy (on (λ (t : Pairs × ℤ). t.0) pairs_cmp) xs
+products-sorted : (s : Pairs × ℤ) (g xs : Sparse) → AreRising g → AreProducts s g xs
+    → IsStrictlySortedBy (on (λ (t : Pairs × ℤ). t.0) pairs_cmp) g → IsStrictlySortedBy (on (λ (t : Pairs × ℤ). t.0) pairs_cmp) xs
 unfolding IsStrictlySortedBy
 products-sorted s [] [] r a h = tt
 products-sorted s [] (y ∷ xs) r a h = absurd a
@@ -42,7 +44,8 @@ factor-product x y z f g e n = by_case (times-zero y z (sym e ∙ n)) where
   by_case (inl h) = f h
   by_case (inr h) = g h
 
-products-factors : (s : Pairs × ℤ) (g xs : Sparse) → s.1 ≢ pos 0 → All (λ t. IsFactor t.1) g → AreProducts s g xs → size_of xs < 2 ^ 127 → All (λ t. IsFactor t.1) xs
+products-factors : (s : Pairs × ℤ) (g xs : Sparse) → s.1 ≢ pos 0 → All (λ t. IsFactor t.1) g → AreProducts s g xs → size_of xs < 2 ^ 127
+    → All (λ t. IsFactor t.1) xs
 products-factors s [] [] n f a z = All-nil (λ t. IsFactor t.1)
 products-factors s [] (y ∷ xs) n f a z = absurd a
 products-factors s (t ∷ g) [] n f a z = absurd a
@@ -57,7 +60,8 @@ products-rising s (t ∷ g) [] a = absurd a
 products-rising s (t ∷ g) (x ∷ xs) a = All-cons (λ z. IsRising z.0) x xs a.0.rising (products-rising s g xs a.1)
 
 -- ---- the product
-pub walked : (s : Pairs × ℤ) (g out old : Sparse) → IsRow out old s g (length g) → old ≡ [] → IsPoly g → s.1 ≢ pos 0 → unsigned_abs s.1 * size_of g < 2 ^ 127 → IsPoly out
+pub walked : (s : Pairs × ℤ) (g out old : Sparse) → IsRow out old s g (length g) → old ≡ [] → IsPoly g → s.1 ≢ pos 0
+    → unsigned_abs s.1 * size_of g < 2 ^ 127 → IsPoly out
 walked s g out old r o p n room =
     let whole : take (length g) g ≡ g = take_all (length g) g (omega arith) in
     let a : AreProducts s g out = subst (λ z. AreProducts s z out) whole (r.alone o) in
@@ -65,7 +69,8 @@ walked s g out old r o p n room =
     record { sorted = products-sorted s g out p.rising a p.sorted; rising = products-rising s g out a; factors = products-factors s g out n p.factors a z }
 
 -- as the one row of a product
-pub one-row : (out out' f g old : Sparse) (s : Pairs × ℤ) → length f ≡ 1 → s ≡ get_or f 0 s → old ≡ [] → out ≡ out' → IsRow out' old s g (length g) → IsRows out f g (length f)
+pub one-row : (out out' f g old : Sparse) (s : Pairs × ℤ) → length f ≡ 1 → s ≡ get_or f 0 s → old ≡ [] → out ≡ out'
+    → IsRow out' old s g (length g) → IsRows out f g (length f)
 one-row out out' f g old s l e o q r =
     let step : IsRows out' f g 1 = rows-step [] out' f g s 0 (rows-begin f g) (omega (arith, l)) e (subst (λ z. IsRow out' z s g (length g)) o r) in
     subst (IsRows out f g) (sym l) (subst (λ z. IsRows z f g 1) (sym q) step)

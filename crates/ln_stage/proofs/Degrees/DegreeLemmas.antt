@@ -1,5 +1,6 @@
--- The exponents of one variable in turn, each with what goes down from it for what is left of the degree.
-use Rattle.std.proofs.Common.{◌≡◌, ℕ, zero, suc, ◌+◌, ◌-◌, ◌<◌, ◌≤◌, Bool, true, false, leb, List, [], ◌∷◌, ◌++◌, length, get_or, set, drop, refl, sym, ◌∙◌, ap, subst, arith, inl, inr}
+-- The exponents of one variable in turn, each with what goes down from it for the remaining degree.
+use Rattle.std.proofs.Common.{◌≡◌, ℕ, zero, suc, ◌+◌, ◌-◌, ◌<◌, ◌≤◌, Bool, true, false, leb, List, [], ◌∷◌, ◌++◌, length, get_or, set, drop}
+use Rattle.std.proofs.Common.{refl, sym, ◌∙◌, ap, subst, arith, inl, inr}
 use Rattle.std.proofs.Math.ListN.{length-set}
 use Rattle.std.specs.Prelude.{All, nat_le, ◌||◌}
 use Rattle.std.proofs.lemmas.Bool.Decides.{nat_tests}
@@ -37,14 +38,16 @@ module _ (go : ℕ → List (List ℕ) → List ℕ → Found) (v : ℕ) (ms : L
   steps-cut : 0 < length (at_least v e ms) → (go k (at_least v e ms) (set p v e)).1 ≡ true → steps_at go v ms p (suc k) e ≡ go k (at_least v e ms) (set p v e)
   steps-cut h c = some-rows _ h ∙ (rw c refl)
 
-  steps-more : 0 < length (at_least v e ms) → (go k (at_least v e ms) (set p v e)).1 ≡ false → steps_at go v ms p (suc k) e ≡ ((go k (at_least v e ms) (set p v e)).0 ++ (steps_at go v ms p k (suc e)).0, (steps_at go v ms p k (suc e)).1)
+  steps-more : 0 < length (at_least v e ms) → (go k (at_least v e ms) (set p v e)).1 ≡ false
+      → steps_at go v ms p (suc k) e ≡ ((go k (at_least v e ms) (set p v e)).0 ++ (steps_at go v ms p k (suc e)).0, (steps_at go v ms p k (suc e)).1)
   steps-more h c = some-rows _ h ∙ (rw c refl)
 
 split : (vs : List ℕ) → 0 < length vs → vs ≡ get_or vs 0 0 ∷ drop 1 vs
 split [] h = absurd (omega arith)
 split (v ∷ vs) h = refl
 
-walk-first : (vs : List ℕ) (d : ℕ) (ms : List (List ℕ)) (p : List ℕ) → 0 < length vs → walk_at vs d ms p ≡ steps_at (walk_at (drop 1 vs)) (get_or vs 0 0) ms p (d + 1) 0
+walk-first : (vs : List ℕ) (d : ℕ) (ms : List (List ℕ)) (p : List ℕ) → 0 < length vs
+    → walk_at vs d ms p ≡ steps_at (walk_at (drop 1 vs)) (get_or vs 0 0) ms p (d + 1) 0
 walk-first [] d ms p h = absurd (omega arith)
 walk-first (v ∷ vs) d ms p h = let q : d + 1 ≡ suc d = omega arith in rw q refl
 
@@ -62,12 +65,15 @@ not_le : (d k : ℕ) → nat_le d k ≡ false → k < d
 not_le d k e = grind (arith, nat_tests)
 
 -- where no term reaches d, no row does
-rows-below : (n : ℕ) (f : Sparse) (vs : List ℕ) (d : ℕ) (kept : List ℕ) → AreFresh n vs → any_reaches f vs d kept ≡ false → (m : List ℕ) → In (rows n f kept) m → degree_on vs m < d
+rows-below : (n : ℕ) (f : Sparse) (vs : List ℕ) (d : ℕ) (kept : List ℕ) → AreFresh n vs → any_reaches f vs d kept ≡ false → (m : List ℕ)
+    → In (rows n f kept) m → degree_on vs m < d
 rows-below n f vs d [] r h m i = absurd i
 rows-below n f vs d (j ∷ kept) r h m (inl q) =
-    let l : pairs_degree vs (term_at f j).0 < d = not_le d (pairs_degree vs (term_at f j).0) (or_parts (nat_le d (pairs_degree vs (term_at f j).0)) (any_reaches f vs d kept) h).0 in
+    let l : pairs_degree vs (term_at f j).0 < d =
+    not_le d (pairs_degree vs (term_at f j).0) (or_parts (nat_le d (pairs_degree vs (term_at f j).0)) (any_reaches f vs d kept) h).0 in
     omega (arith, l, pairs-degree n vs (term_at f j).0 r, ap (degree_on vs) q)
-rows-below n f vs d (j ∷ kept) r h m (inr i) = rows-below n f vs d kept r (or_parts (nat_le d (pairs_degree vs (term_at f j).0)) (any_reaches f vs d kept) h).1 m i
+rows-below n f vs d (j ∷ kept) r h m (inr i) =
+    rows-below n f vs d kept r (or_parts (nat_le d (pairs_degree vs (term_at f j).0)) (any_reaches f vs d kept) h).1 m i
 
 -- no row has an exponent of 128
 rows-none : (n : ℕ) (f : Sparse) (v : ℕ) (kept : List ℕ) → AreRising f → All (λ i. i < length f) kept → length (at_least v 128 (rows n f kept)) ≡ 0
@@ -103,19 +109,22 @@ module _ (f : Sparse) (vs kept p : List ℕ) (s : IsStep f vs kept p) (more : 0 
 
     ends-none : length h ≡ 0 → rest (d + 1 - e) e ≡ ([], false)
     ends-none z =
-        let l : length (at_least (get_or vs 0 0) e (rows (length p) f kept)) ≡ 0 = ap length (sym rows-are) ∙ length-map h (λ i. vector (length p) (term_at f i).0) ∙ z in
+        let l : length (at_least (get_or vs 0 0) e (rows (length p) f kept)) ≡ 0 =
+        ap length (sym rows-are) ∙ length-map h (λ i. vector (length p) (term_at f i).0) ∙ z in
         rw counts (steps-none (walk_at (drop 1 vs)) (get_or vs 0 0) (rows (length p) f kept) p (d - e) e l)
 
-    -- where no term reaches what is left, the list goes on without it
+    -- where no term reaches the remaining degree, the list goes on without it
     module _ (some : 0 < length h) where
       long : 0 < length (at_least (get_or vs 0 0) e (rows (length p) f kept))
       long = omega (arith, some, ap length rows-are, length-map h (λ i. vector (length p) (term_at f i).0))
 
       skips : any_reaches f (drop 1 vs) (d - e) h ≡ false → rest (d + 1 - e) e ≡ rest (d + 1 - (e + 1)) (e + 1)
       skips n =
-          let low : (m : List ℕ) → In (at_least (get_or vs 0 0) e (rows (length p) f kept)) m → degree_on (drop 1 vs) m < d - e = λ m i. rows-below (length p) f (drop 1 vs) (d - e) h step.fresh.2 n m (rw (← rows-are) at i) in
+          let low : (m : List ℕ) → In (at_least (get_or vs 0 0) e (rows (length p) f kept)) m → degree_on (drop 1 vs) m < d - e =
+          λ m i. rows-below (length p) f (drop 1 vs) (d - e) h step.fresh.2 n m (rw (← rows-are) at i) in
           let w : down ≡ ([], false) = walk-none (drop 1 vs) (d - e) (at_least (get_or vs 0 0) e (rows (length p) f kept)) (set p (get_or vs 0 0) e) low in
-          let g : rest (suc (d - e)) e ≡ (down.0 ++ (rest (d - e) (suc e)).0, (rest (d - e) (suc e)).1) = steps-more (walk_at (drop 1 vs)) (get_or vs 0 0) (rows (length p) f kept) p (d - e) e long (ap (λ z. z.1) w) in
+          let g : rest (suc (d - e)) e ≡ (down.0 ++ (rest (d - e) (suc e)).0, (rest (d - e) (suc e)).1) =
+          steps-more (walk_at (drop 1 vs)) (get_or vs 0 0) (rows (length p) f kept) p (d - e) e long (ap (λ z. z.1) w) in
           rw (counts, counts-next, next) (g ∙ ap (λ z. (z.0 ++ (rest (d - e) (suc e)).0, (rest (d - e) (suc e)).1)) w)
 
       module _ (q : List ℕ) (eq : q ≡ set p (get_or vs 0 0) e) (r : List ℕ) (er : r ≡ drop 1 vs) (left : ℕ) (el : left ≡ d - e) where
@@ -139,7 +148,8 @@ module _ (f : Sparse) (vs kept p : List ℕ) (s : IsStep f vs kept p) (more : 0 
 
           ends-cut : stop ≡ true → (true ≡ S) × (t' ≡ T)
           ends-cut c =
-              let w : rest (d + 1 - e) e ≡ down = rw counts (steps-cut (walk_at (drop 1 vs)) (get_or vs 0 0) (rows (length p) f kept) p (d - e) e long (sym stop-down ∙ c)) in
+              let w : rest (d + 1 - e) e ≡ down =
+              rw counts (steps-cut (walk_at (drop 1 vs)) (get_or vs 0 0) (rows (length p) f kept) p (d - e) e long (sym stop-down ∙ c)) in
               (sym c ∙ stop-down ∙ ap (λ z. z.1) (sym w) ∙ cut, seen-down ∙ ap (λ z. see_all (length p) f t z.0) (sym w) ∙ all)
 
           goes-on : down.1 ≡ false → rest (d + 1 - e) e ≡ (down.0 ++ (rest (d - e) (suc e)).0, (rest (d - e) (suc e)).1)
@@ -149,7 +159,8 @@ module _ (f : Sparse) (vs kept p : List ℕ) (s : IsStep f vs kept p) (more : 0 
           keeps c =
               let w = goes-on (sym stop-down ∙ c) in
               rw (counts-next, next) (
-                ap (λ z. see_all (length p) f z (rest (d - e) (suc e)).0) seen-down ∙ sym (see_all-append (length p) f t down.0 (rest (d - e) (suc e)).0) ∙ ap (λ z. see_all (length p) f t z.0) (sym w) ∙ all,
+                ap (λ z. see_all (length p) f z (rest (d - e) (suc e)).0) seen-down
+                    ∙ sym (see_all-append (length p) f t down.0 (rest (d - e) (suc e)).0) ∙ ap (λ z. see_all (length p) f t z.0) (sym w) ∙ all,
                 ap (λ z. z.1) (sym w) ∙ cut,
               )
 
@@ -161,12 +172,15 @@ module _ (f : Sparse) (vs kept p : List ℕ) (s : IsStep f vs kept p) (more : 0 
                 let w : rest (d + 1 - e) e ≡ down = rw counts (steps-cut (walk_at (drop 1 vs)) (get_or vs 0 0) (rows (length p) f kept) p (d - e) e long c) in
                 subst IsOver (ap (λ z. see_all (length p) f t z.0) (sym w) ∙ all) o
             by false c =
-                let w : rest (d + 1 - e) e ≡ (down.0 ++ (rest (d - e) (suc e)).0, (rest (d - e) (suc e)).1) = rw counts (steps-more (walk_at (drop 1 vs)) (get_or vs 0 0) (rows (length p) f kept) p (d - e) e long c) in
-                subst IsOver (sym (see_all-append (length p) f t down.0 (rest (d - e) (suc e)).0) ∙ ap (λ z. see_all (length p) f t z.0) (sym w) ∙ all) (over-more (length p) f (see_all (length p) f t down.0) (rest (d - e) (suc e)).0 o)
+                let w : rest (d + 1 - e) e ≡ (down.0 ++ (rest (d - e) (suc e)).0, (rest (d - e) (suc e)).1) =
+                rw counts (steps-more (walk_at (drop 1 vs)) (get_or vs 0 0) (rows (length p) f kept) p (d - e) e long c) in
+                subst IsOver (sym (see_all-append (length p) f t down.0 (rest (d - e) (suc e)).0) ∙ ap (λ z. see_all (length p) f t z.0) (sym w) ∙ all)
+                (over-more (length p) f (see_all (length p) f t down.0) (rest (d - e) (suc e)).0 o)
 
           stops-down : (x : StageStop) → IsStoppedBy x (IsOver (see_all (length q) f t (walk_at r left (rows (length q) f h) q).0)) → IsStoppedBy x (IsOver T)
           stops-down x o =
-              let g : see_all (length q) f t (walk_at r left (rows (length q) f h) q).0 ≡ see_all (length p) f t down.0 = ap (λ z. see_all z f t (walk_at r left (rows (length q) f h) q).0) size ∙ ap (λ z. see_all (length p) f t z.0) goes in
+              let g : see_all (length q) f t (walk_at r left (rows (length q) f h) q).0 ≡ see_all (length p) f t down.0 =
+              ap (λ z. see_all z f t (walk_at r left (rows (length q) f h) q).0) size ∙ ap (λ z. see_all (length p) f t z.0) goes in
               stopped-more x over-down (subst (λ z. IsStoppedBy x (IsOver z)) g o)
 
 -- ---- the same, as the code has it
@@ -187,7 +201,7 @@ ends-exponent f vs kept p d s = by (d + 1 - 128) where
   by zero = refl
   by (suc k) = steps-none (walk_at (drop 1 vs)) (get_or vs 0 0) (rows (length p) f kept) p k 128 (rows-none (length p) f (get_or vs 0 0) kept s.rising s.inside)
 
--- where no variable is left
+-- where no variable remains
 pub leaf-at : (f : Sparse) (kept p : List ℕ) → listed_degree f [] kept p 0 ≡ listed f [] kept p
 unfolding listed listed_degree
 leaf-at f kept p = refl
@@ -197,7 +211,8 @@ unfolding listed_degree
 leaf-left f kept p zero h = absurd (omega (arith, h))
 leaf-left f kept p (suc d) h = refl
 
-module _ (f : Sparse) (vs kept p : List ℕ) (s : IsStep f vs kept p) (more : 0 < length vs) (d e : ℕ) (small : e < 128) (within : e ≤ d) (h : List ℕ) (eh : h ≡ high f (get_or vs 0 0) e kept) where
+module _ (f : Sparse) (vs kept p : List ℕ) (s : IsStep f vs kept p) (more : 0 < length vs) (d e : ℕ) (small : e < 128) (within : e ≤ d)
+    (h : List ℕ) (eh : h ≡ high f (get_or vs 0 0) e kept) where
   pub at-none : length h ≡ 0 → listed_degree_from f vs kept p d e ≡ ([], false)
   unfolding listed_degree_from
   at-none z = ends-none f vs kept p s more d e small within h eh z
@@ -209,17 +224,20 @@ module _ (f : Sparse) (vs kept p : List ℕ) (s : IsStep f vs kept p) (more : 0 
   pub at-step : 0 < length h → (q : List ℕ) → q ≡ set p (get_or vs 0 0) e → (r : List ℕ) → r ≡ drop 1 vs → IsStep f r h q
   at-step some q eq r er = goes-step f vs kept p s more d e small within h eh some q eq r er (d - e) refl
 
-  module _ (some : 0 < length h) (q : List ℕ) (eq : q ≡ set p (get_or vs 0 0) e) (r : List ℕ) (er : r ≡ drop 1 vs) (left : ℕ) (el : left ≡ d - e) (t T : Tallied) (all : see_all (length p) f t (listed_degree_from f vs kept p d e).0 ≡ T) where
+  module _ (some : 0 < length h) (q : List ℕ) (eq : q ≡ set p (get_or vs 0 0) e) (r : List ℕ) (er : r ≡ drop 1 vs) (left : ℕ)
+      (el : left ≡ d - e) (t T : Tallied) (all : see_all (length p) f t (listed_degree_from f vs kept p d e).0 ≡ T) where
     pub at-stops : (x : StageStop) → IsStoppedBy x (IsOver (see_all (length q) f t (listed_degree f r h q left).0)) → IsStoppedBy x (IsOver T)
     unfolding listed_degree listed_degree_from
     at-stops x o = stops-down f vs kept p s more d e small within h eh some q eq r er left el t T all x o
 
-    module _ (t' : Tallied) (stop : Bool) (S : Bool) (seen : t' ≡ see_all (length q) f t (listed_degree f r h q left).0) (stops : stop ≡ (listed_degree f r h q left).1) (cut : (listed_degree_from f vs kept p d e).1 ≡ S) where
+    module _ (t' : Tallied) (stop : Bool) (S : Bool) (seen : t' ≡ see_all (length q) f t (listed_degree f r h q left).0)
+        (stops : stop ≡ (listed_degree f r h q left).1) (cut : (listed_degree_from f vs kept p d e).1 ≡ S) where
       pub at-cut : stop ≡ true → (true ≡ S) × (t' ≡ T)
       unfolding listed_degree listed_degree_from
       at-cut c = ends-cut f vs kept p s more d e small within h eh some q eq r er left el t t' stop T S seen stops all cut c
 
-      pub at-keeps : stop ≡ false → (see_all (length p) f t' (listed_degree_from f vs kept p d (e + 1)).0 ≡ T) × ((listed_degree_from f vs kept p d (e + 1)).1 ≡ S)
+      pub at-keeps : stop ≡ false
+          → (see_all (length p) f t' (listed_degree_from f vs kept p d (e + 1)).0 ≡ T) × ((listed_degree_from f vs kept p d (e + 1)).1 ≡ S)
       unfolding listed_degree listed_degree_from
       at-keeps c = keeps f vs kept p s more d e small within h eh some q eq r er left el t t' stop T S seen stops all cut c
 
@@ -227,7 +245,7 @@ nil : (vs : List ℕ) → length vs ≡ 0 → vs ≡ []
 nil [] h = refl
 nil (v ∷ vs) h = absurd (omega arith)
 
--- where nothing is left of the degree, the vector itself is the one that is listed
+-- where nothing of the degree remains, the vector itself is the one that is listed
 at_least-all : (v : ℕ) (ms : List (List ℕ)) → at_least v 0 ms ≡ ms
 at_least-all v [] = refl
 at_least-all v (m ∷ ms) = let z : leb 0 (get_or m v 0) ≡ true = grind (arith, nat_tests) in rw z (ap (λ r. m ∷ r) (at_least-all v ms))
@@ -256,7 +274,7 @@ walk-nothing (v ∷ vs) ms p h =
     ∙ ap (unless_none ms) (before-end (walk_at vs 0 (at_least v 0 ms) (set p v 0)) ∙ down)
     ∙ unless_none-twice ms (p ∷ [], all_same ms p)
 
--- the end of a way down
+-- the end of a branch
 pub leaf-is : (f : Sparse) (vs kept p : List ℕ) (d : ℕ) → IsStep f vs kept p → d ≡ 0 → listed_degree f vs kept p d ≡ listed f [] kept p
 unfolding listed listed_degree
 leaf-is f vs kept p d s e = ap (λ z. walk_at vs z (rows (length p) f kept) p) e ∙ walk-nothing vs (rows (length p) f kept) p s.none_yet
@@ -265,9 +283,18 @@ pub leaf-none : (f : Sparse) (vs kept p : List ℕ) (d : ℕ) → length vs ≡ 
 leaf-none f vs kept p d h l = ap (λ x. listed_degree f x kept p d) (nil vs h) ∙ leaf-left f kept p d l
 
 pub leaf-step : (f : Sparse) (vs kept p : List ℕ) → IsStep f vs kept p → IsStep f [] kept p
-leaf-step f vs kept p s = record { below = s.below; rising = s.rising; fresh = tt; inside = s.inside; some = s.some; covering = s.covering; none_yet = λ v m. absurd m; small = s.small }
+leaf-step f vs kept p s = record {
+  below = s.below;
+  rising = s.rising;
+  fresh = tt;
+  inside = s.inside;
+  some = s.some;
+  covering = s.covering;
+  none_yet = λ v m. absurd m;
+  small = s.small;
+}
 
--- those that are left are places of terms
+-- the remaining ones are places of terms
 pub inside-high : (f : Sparse) (v e : ℕ) (kept h : List ℕ) → h ≡ high f v e kept → All (λ i. i < length f) kept → All (λ i. i < length f) h
 inside-high f v e kept h eh a = rw eh (All-filter (λ i. nat_le e (exponent v (term_at f i).0)) (λ i. i < length f) kept a)
 
@@ -303,7 +330,8 @@ module _ (f : Sparse) (vs kept p : List ℕ) (limit d : ℕ) (within : d < limit
       by : (b : Bool) → here.1 ≡ b → IsOver T
       by true c = subst IsOver (ap (λ z. see_all (length p) f t z.0) (sym (cut-here c)) ∙ all) o
       by false c =
-          subst IsOver (sym (see_all-append (length p) f t here.0 (behind (limit - (d + 1)) (d + 1)).0) ∙ ap (λ z. see_all (length p) f t z.0) (sym (more-behind c)) ∙ all)
+          subst IsOver (sym (see_all-append (length p) f t here.0 (behind (limit - (d + 1)) (d + 1)).0)
+          ∙ ap (λ z. see_all (length p) f t z.0) (sym (more-behind c)) ∙ all)
           (over-more (length p) f (see_all (length p) f t here.0) (behind (limit - (d + 1)) (d + 1)).0 o)
 
     module _ (t' : Tallied) (stop : Bool) (seen : t' ≡ see_all (length p) f t here.0) (stops : stop ≡ here.1) where
@@ -313,15 +341,18 @@ module _ (f : Sparse) (vs kept p : List ℕ) (limit d : ℕ) (within : d < limit
       goes-behind : stop ≡ false → see_all (length p) f t' (behind (limit - (d + 1)) (d + 1)).0 ≡ T
       goes-behind c =
           ap (λ z. see_all (length p) f z (behind (limit - (d + 1)) (d + 1)).0) seen
-          ∙ sym (see_all-append (length p) f t here.0 (behind (limit - (d + 1)) (d + 1)).0) ∙ ap (λ z. see_all (length p) f t z.0) (sym (more-behind (sym stops ∙ c))) ∙ all
+          ∙ sym (see_all-append (length p) f t here.0 (behind (limit - (d + 1)) (d + 1)).0)
+          ∙ ap (λ z. see_all (length p) f t z.0) (sym (more-behind (sym stops ∙ c))) ∙ all
 
 -- the same, as the code has it
-module _ (f : Sparse) (vs kept p : List ℕ) (limit d : ℕ) (within : d < limit) (t T : Tallied) (all : see_all (length p) f t (listed_layers f vs kept p (limit - d) d).0 ≡ T) where
+module _ (f : Sparse) (vs kept p : List ℕ) (limit d : ℕ) (within : d < limit) (t T : Tallied)
+    (all : see_all (length p) f t (listed_layers f vs kept p (limit - d) d).0 ≡ T) where
   pub layer-stops : (x : StageStop) → IsStoppedBy x (IsOver (see_all (length p) f t (listed_degree f vs kept p d).0)) → IsStoppedBy x (IsOver T)
   unfolding listed_degree listed_layers
   layer-stops x o = stopped-more x (over-here f vs kept p limit d within t T all) o
 
-  module _ (t' : Tallied) (stop : Bool) (seen : t' ≡ see_all (length p) f t (listed_degree f vs kept p d).0) (stops : stop ≡ (listed_degree f vs kept p d).1) where
+  module _ (t' : Tallied) (stop : Bool) (seen : t' ≡ see_all (length p) f t (listed_degree f vs kept p d).0)
+      (stops : stop ≡ (listed_degree f vs kept p d).1) where
     pub layer-cut : stop ≡ true → t' ≡ T
     unfolding listed_degree listed_layers
     layer-cut c = ends-here f vs kept p limit d within t T all t' stop seen stops c
@@ -334,5 +365,6 @@ pub layers-end : (f : Sparse) (vs kept p : List ℕ) (limit d : ℕ) → limit �
 unfolding listed_layers
 layers-end f vs kept p limit d h = let z : limit - d ≡ 0 = omega (arith, h) in rw z refl
 
-pub layers-begin : (f : Sparse) (vs kept p : List ℕ) (limit : ℕ) → limit ≡ largest_degree f vs kept + 1 → listed_layers f vs kept p (limit - 0) 0 ≡ listed_graded f vs kept p
+pub layers-begin : (f : Sparse) (vs kept p : List ℕ) (limit : ℕ) → limit ≡ largest_degree f vs kept + 1
+    → listed_layers f vs kept p (limit - 0) 0 ≡ listed_graded f vs kept p
 layers-begin f vs kept p limit e = let z : limit - 0 ≡ limit = omega arith in rw (z, e) refl

@@ -1,6 +1,6 @@
 -- The lists that are found by total degree first are the stage lists, and what is kept of them are the stages.
-use Rattle.std.proofs.Common.{◌≡◌, ◌⊎◌, inl, inr, ℕ, zero, suc, ◌+◌, ◌<◌, ◌≤◌, Bool, true, false, eqb, eq-eqb, eqb-true, List, [], ◌∷◌, ◌++◌, length, map, get_or, set, take, refl, sym, ◌∙◌, ap, subst, arith, if◌then◌else◌}
-use Rattle.std.specs.Prelude.{All, Contains}
+use Rattle.std.proofs.Common.{◌≡◌, ◌⊎◌, ℕ, zero, suc, ◌+◌, ◌<◌, ◌≤◌, Bool, true, false, eqb, eq-eqb, eqb-true, List, [], ◌∷◌, ◌++◌, length}
+use Rattle.std.proofs.Common.{map, get_or, set, take, refl, sym, ◌∙◌, ap, subst, arith, if◌then◌else◌}
 use Rattle.std.specs.List.{range_with_len}
 use Rattle.std.proofs.lemmas.List.{get_or-map, length-map, take_all}
 use Rattle.std.proofs.lemmas.List.Elements.{Contains-get_or}
@@ -9,10 +9,9 @@ use Rattle.ln_algebra.specs.Stage.{IsStageListBy}
 use Rattle.ln_algebra.specs.Vector.{total_degree, zeros}
 use Rattle.ln_algebra.proofs.Expanded.Expansion.{length-zeros}
 use Rattle.ln_tree.specs.declared.shape.VarInfo.{VarInfo}
-use Rattle.ln_tree.specs.Exps.{Pairs}
 use Rattle.ln_tree.specs.Variables.{is_laid_out}
 use Rattle.ln_order.specs.Orders.{IsOrderOf, orders_of}
-use Rattle.ln_order.specs.Prefixes.{IsPrefixOf, beside, prefixes_of}
+use Rattle.ln_order.specs.Prefixes.{IsPrefixOf, prefixes_of}
 use Rattle.ln_order.specs.Sites.{ranking_of, sites_of}
 use Rattle.ln_order.proofs.Listing.OrdersLemmas.{member-is}
 use Rattle.ln_order.proofs.Signs.RankingLemmas.{ranking-is}
@@ -24,7 +23,6 @@ use Rattle.ln_stage.specs.Lists.{AreStageListsIn}
 use Rattle.ln_stage.specs.Kept.{AreFresh, all_rows, rows}
 use Rattle.ln_algebra.specs.Layers.{DegreesBelow, degree_on, layers}
 use Rattle.ln_stage.specs.StageList.{IsMonomialOf}
-use Rattle.ln_stage.specs.Staged.{Staged}
 use Rattle.ln_stage.specs.Tally.{IsOver as IsPast, IsStoppedBy, Tallied, see_all}
 use Rattle.ln_stage.specs.declared.stop.StageStop.{StageStop}
 use Rattle.ln_stage.specs.declared.stop.StageStop.TheVariants.{Zero, Stages, NoMemory}
@@ -38,7 +36,7 @@ use Rattle.ln_stage.proofs.Results.FoldLemmas.{Sized}
 use Rattle.ln_stage.proofs.Results.KeptLemmas.{AreAlong, sized-in}
 use Rattle.ln_stage.proofs.Walks.StartLemmas.{fresh-ranking, rows-all}
 
--- ---- what stands at a prefix
+-- ---- what is at a prefix
 pub at-whole : (k : ℕ) (vars : List VarInfo) (f : Sparse) (o : List ℕ) → length o ≡ k → graded_at k vars f o ≡ graded_list vars f o
 unfolding graded_at
 at-whole k vars f o e = go (eqb (length o) k) refl where
@@ -58,7 +56,7 @@ take-length zero o h = refl
 take-length (suc j) [] h = absurd (omega arith)
 take-length (suc j) (x ∷ o) h = ap suc (take-length j o (omega (arith, h)))
 
--- where nothing stands at the shorter prefixes, the whole list stands at the order
+-- where nothing is at the shorter prefixes, the whole list is at the order
 whole-along : (S : List ℕ → List (List ℕ)) (o : List ℕ) → ((j : ℕ) → j < length o → S (take j o) ≡ []) → list_along S o ≡ S o
 whole-along S [] h = refl
 whole-along S (x ∷ o) h =
@@ -70,17 +68,22 @@ map-none g (x ∷ xs) e = cc
 
 module _ (k : ℕ) (vars : List VarInfo) (f : Sparse) (few : k ≤ 5) (laid : is_laid_out k vars ≡ true) (poly : IsPoly f) (b : AreBelow (length vars) f) where
   -- the list of an order is its stage list
-  the-list : (o : List ℕ) → IsOrderOf k o → IsStageListBy (GradedEarlier (sites_of vars o)) (length vars) (sites_of vars o) (IsMonomialOf (length vars) f) (graded_list vars f o)
+  the-list : (o : List ℕ) → IsOrderOf k o
+      → IsStageListBy (GradedEarlier (sites_of vars o)) (length vars) (sites_of vars o) (IsMonomialOf (length vars) f) (graded_list vars f o)
   unfolding graded_list listed_layers
   the-list o p =
       let n : ℕ = length vars in
       let r = ranking-is k vars o laid p.size p.each in
       let limit : ℕ = largest_degree f (ranking_of vars o) (range_with_len 0 (length f)) + 1 in
       let all : rows (length vars) f (range_with_len 0 (length f)) ≡ all_rows (length vars) f = rows-all (length vars) f in
-      let low : DegreesBelow limit (ranking_of vars o) (all_rows (length vars) f) = rw all at (rows-largest (length vars) f (ranking_of vars o) (range_with_len 0 (length f)) (fresh-ranking (length vars) (sites_of vars o) (ranking_of vars o) r)) in
-      let w = layers-stages-by (length vars) (sites_of vars o) (IsMonomialOf (length vars) f) (λ m s. s.size) limit (ranking_of vars o) (all_rows (length vars) f) r (rows-monomials (length vars) f (poly-terms f poly) b) low in
-      let m : rows (length (zeros (length vars))) f (range_with_len 0 (length f)) ≡ all_rows (length vars) f = ap (λ z. rows z f (range_with_len 0 (length f))) (length-zeros (length vars)) ∙ all in
-      let e : graded_list vars f o ≡ (layers limit 0 (ranking_of vars o) (all_rows (length vars) f) (zeros (length vars))).0 = ap (λ z. (layers limit 0 (ranking_of vars o) z (zeros (length vars))).0) m in
+      let low : DegreesBelow limit (ranking_of vars o) (all_rows (length vars) f) = rw all at
+      (rows-largest (length vars) f (ranking_of vars o) (range_with_len 0 (length f)) (fresh-ranking (length vars) (sites_of vars o) (ranking_of vars o) r)) in
+      let w = layers-stages-by (length vars) (sites_of vars o) (IsMonomialOf (length vars) f) (λ m s. s.size) limit (ranking_of vars o)
+      (all_rows (length vars) f) r (rows-monomials (length vars) f (poly-terms f poly) b) low in
+      let m : rows (length (zeros (length vars))) f (range_with_len 0 (length f)) ≡ all_rows (length vars) f =
+      ap (λ z. rows z f (range_with_len 0 (length f))) (length-zeros (length vars)) ∙ all in
+      let e : graded_list vars f o ≡ (layers limit 0 (ranking_of vars o) (all_rows (length vars) f) (zeros (length vars))).0 =
+      ap (λ z. (layers limit 0 (ranking_of vars o) z (zeros (length vars))).0) m in
       subst (λ l. IsStageListBy (GradedEarlier (sites_of vars o)) (length vars) (sites_of vars o) (IsMonomialOf (length vars) f) l) (sym e) w
 
   sized-part : (p : List ℕ) → IsPrefixOf k p → Sized (length vars) (graded_at k vars f p)
@@ -101,7 +104,7 @@ module _ (k : ℕ) (vars : List VarInfo) (f : Sparse) (few : k ≤ 5) (laid : is
   along : (o : List ℕ) → IsOrderOf k o → graded_list vars f o ≡ list_along (graded_at k vars f) o
   along o p = sym (whole-along (graded_at k vars f) o (λ j l. shorter o j p (omega (arith, l, p.size))) ∙ at-whole k vars f o p.size)
 
-  -- the lists are along what stands at prefixes
+  -- the lists are along what is at prefixes
   pub by-orders : AreAlong k (length vars) (graded_list vars f) (graded_at k vars f)
   by-orders = record { few = few; sized = sized-part; along = along }
 
@@ -110,7 +113,8 @@ module _ (k : ℕ) (vars : List VarInfo) (f : Sparse) (few : k ≤ 5) (laid : is
     size = length-map (orders_of k) (graded_list vars f);
     each = λ j h.
         let l : j < length (orders_of k) = omega (arith, h, length-map (orders_of k) (graded_list vars f)) in
-        rw (get_or-map (graded_list vars f) (orders_of k) j [] [] l) (the-list (get_or (orders_of k) j []) (member-is k (get_or (orders_of k) j []) (Contains-get_or (orders_of k) j [] l)));
+        rw (get_or-map (graded_list vars f) (orders_of k) j [] [] l)
+        (the-list (get_or (orders_of k) j []) (member-is k (get_or (orders_of k) j []) (Contains-get_or (orders_of k) j [] l)));
   }
 
   module _ (most heavy : ℕ) where
@@ -124,24 +128,33 @@ module _ (k : ℕ) (vars : List VarInfo) (f : Sparse) (few : k ≤ 5) (laid : is
       size = by_lists.segments-size k vars f (graded_list vars f) (graded_at k vars f) by-orders most heavy;
       make = refl;
       named = by_lists.segments-within k vars f (graded_list vars f) (graded_at k vars f) by-orders most heavy;
-      whole = λ o j p l. map-none _ _ (by_lists.part-vectors k vars f (graded_list vars f) (graded_at k vars f) by-orders most heavy o j p (omega (arith, l)) ∙ shorter o j p l);
+      whole = λ o j p l. map-none _ _
+          (by_lists.part-vectors k vars f (graded_list vars f) (graded_at k vars f) by-orders most heavy o j p (omega (arith, l)) ∙ shorter o j p l);
     }
 
     -- why listing stops
-    pub graded-stops : (x : StageStop) → (f ≡ [] → ⊥) → IsStoppedBy x (IsPast (by_lists.kept k vars f (graded_list vars f) (graded_at k vars f) by-orders most heavy) ⊎ (most < shared_count k (graded_at k vars f) (prefixes_of k))) → StopsGraded k vars f most heavy x
+    pub graded-stops : (x : StageStop) → (f ≡ [] → ⊥)
+        → IsStoppedBy x (IsPast (by_lists.kept k vars f (graded_list vars f) (graded_at k vars f) by-orders most heavy)
+        ⊎ (most < shared_count k (graded_at k vars f) (prefixes_of k))) → StopsGraded k vars f most heavy x
     graded-stops Zero n s = absurd s
-    graded-stops Stages n s = (n, (map (graded_list vars f) (orders_of k), found-lists, by_lists.past-passes k vars f (graded_list vars f) (graded_at k vars f) by-orders most heavy s))
+    graded-stops Stages n s = (
+      n,
+      (map (graded_list vars f) (orders_of k), found-lists, by_lists.past-passes k vars f (graded_list vars f) (graded_at k vars f) by-orders most heavy s),
+    )
     graded-stops NoMemory n s = tt
 
 -- ---- what is listed from the start
-graded-is : (vars : List VarInfo) (f : Sparse) (o vs kept p : List ℕ) → vs ≡ ranking_of vars o → kept ≡ range_with_len 0 (length f) → p ≡ zeros (length vars) → (listed_graded f vs kept p).0 ≡ graded_list vars f o
+graded-is : (vars : List VarInfo) (f : Sparse) (o vs kept p : List ℕ) → vs ≡ ranking_of vars o → kept ≡ range_with_len 0 (length f)
+    → p ≡ zeros (length vars) → (listed_graded f vs kept p).0 ≡ graded_list vars f o
 unfolding graded_list
 graded-is vars f o vs kept p ev ek ep = rw (ev, ek, ep) refl
 
-pub graded-seen : (vars : List VarInfo) (f : Sparse) (o vs kept p : List ℕ) (t : Tallied) → vs ≡ ranking_of vars o → kept ≡ range_with_len 0 (length f) → p ≡ zeros (length vars)
+pub graded-seen : (vars : List VarInfo) (f : Sparse) (o vs kept p : List ℕ) (t : Tallied) → vs ≡ ranking_of vars o
+    → kept ≡ range_with_len 0 (length f) → p ≡ zeros (length vars)
     → see_all (length p) f t (listed_graded f vs kept p).0 ≡ see_all (length vars) f t (graded_list vars f o)
 graded-seen vars f o vs kept p t ev ek ep =
-    ap (λ z. see_all z f t (listed_graded f vs kept p).0) (ap length ep ∙ length-zeros (length vars)) ∙ ap (see_all (length vars) f t) (graded-is vars f o vs kept p ev ek ep)
+    ap (λ z. see_all z f t (listed_graded f vs kept p).0) (ap length ep ∙ length-zeros (length vars))
+    ∙ ap (see_all (length vars) f t) (graded-is vars f o vs kept p ev ek ep)
 
 -- ---- a ranking has no more variables than there are
 ones : ℕ → List ℕ

@@ -12,7 +12,7 @@ use Rattle.std.proofs.lemmas.List.Elements.{All-head, All-tail}
 use Rattle.ln_algebra.specs.Vector.{In, same_vector}
 use Rattle.ln_algebra.specs.Walk.{AllBelow}
 use Rattle.ln_algebra.proofs.Expanded.Normal.{same_vector-is, same_vector-refl}
-use Rattle.ln_tree.specs.Exps.{IsAbove, IsRising, Pairs, exponent, pairs_cmp, same_pairs, same_pairs-ties, vector}
+use Rattle.ln_tree.specs.Exps.{IsAbove, IsRising, Pairs, pairs_cmp, same_pairs, same_pairs-ties, vector}
 use Rattle.ln_tree.proofs.Powers.{vector-get, vector-length}
 use Rattle.ln_poly.proofs.TermLists.Exponents.{exponent-small}
 use Rattle.ln_poly.specs.Sparse.{AreBelow, AreRising, IsFactor, IsPoly, Sparse, coefficient_at}
@@ -61,10 +61,12 @@ less-differs x y h e =
     let w : is_eq (pairs_cmp x y) ≡ false = ap is_eq h in
     let u : true ≡ false = sym z ∙ w in cc
 
--- the pairs of a term behind aren't these
-others : (n : ℕ) (x : Pairs) (f : Sparse) → IsRising x → IsAbove x n → AreRising f → AreBelow n f → AllByRecursion (λ t. on (λ t. t.0) pairs_cmp (x, pos 0) t ≡ Less) f → In (all_rows n f) (vector n x) → ⊥
+-- the pairs of a later term aren't these
+others : (n : ℕ) (x : Pairs) (f : Sparse) → IsRising x → IsAbove x n → AreRising f → AreBelow n f
+    → AllByRecursion (λ t. on (λ t. t.0) pairs_cmp (x, pos 0) t ≡ Less) f → In (all_rows n f) (vector n x) → ⊥
 others n x [] r a rs bs h i = i
-others n x (t ∷ f) r a rs bs h (inl e) = less-differs x t.0 h.0 (same-pairs n x t.0 r (All-head (λ t. IsRising t.0) t f rs) a (All-head (λ t. IsAbove t.0 n) t f bs) e)
+others n x (t ∷ f) r a rs bs h (inl e) =
+    less-differs x t.0 h.0 (same-pairs n x t.0 r (All-head (λ t. IsRising t.0) t f rs) a (All-head (λ t. IsAbove t.0 n) t f bs) e)
 others n x (t ∷ f) r a rs bs h (inr i) = others n x f r a (All-tail (λ t. IsRising t.0) t f rs) (All-tail (λ t. IsAbove t.0 n) t f bs) h.1 i
 
 pub record IsTerms (f : Sparse) : Type 0 where
@@ -81,7 +83,8 @@ terms-of t f p = record { sorted = p.sorted.1; rising = All-tail (λ t. IsRising
 
 first-alone : (n : ℕ) (t : Pairs × ℤ) (f : Sparse) → IsTerms (t ∷ f) → AreBelow n (t ∷ f) → In (all_rows n f) (vector n t.0) → ⊥
 unfolding IsStrictlySortedBy
-first-alone n t f p b i = others n t.0 f (All-head (λ t. IsRising t.0) t f p.rising) (All-head (λ t. IsAbove t.0 n) t f b) (All-tail (λ t. IsRising t.0) t f p.rising) (All-tail (λ t. IsAbove t.0 n) t f b) p.sorted.0 i
+first-alone n t f p b i = others n t.0 f (All-head (λ t. IsRising t.0) t f p.rising) (All-head (λ t. IsAbove t.0 n) t f b)
+    (All-tail (λ t. IsRising t.0) t f p.rising) (All-tail (λ t. IsAbove t.0 n) t f b) p.sorted.0 i
 
 -- each row has a coefficient that isn't 0
 row-nonzero : (n : ℕ) (f : Sparse) → IsTerms f → AreBelow n f → (m : List ℕ) → In (all_rows n f) m → coefficient_at n f m ≢ pos 0
@@ -91,10 +94,11 @@ row-nonzero n (t ∷ f) p b m (inl e) z =
     let q : same_vector (vector n t.0) m ≡ true = rw e (same_vector-refl (vector n t.0)) in
     let v : t.1 ≡ pos 0 = omega (arith, ints, takes n t f m q, lacks n f m alone, z) in
     (All-head (λ t. IsFactor t.1) t f p.factors).0 v
-row-nonzero n (t ∷ f) p b m (inr i) z = by_case (same_vector (vector n t.0) m) refl (row-nonzero n f (terms-of t f p) (All-tail (λ t. IsAbove t.0 n) t f b) m i) where
-  by_case : (x : Bool) → same_vector (vector n t.0) m ≡ x → (coefficient_at n f m ≡ pos 0 → ⊥) → ⊥
-  by_case true q ih = first-alone n t f p b (let e : m ≡ vector n t.0 = sym (same_vector-is (vector n t.0) m q) in rw e at i)
-  by_case false q ih = ih (sym (skips n t f m q) ∙ z)
+row-nonzero n (t ∷ f) p b m (inr i) z = by_case (same_vector (vector n t.0) m) refl (row-nonzero n f (terms-of t f p) (All-tail (λ t. IsAbove t.0 n) t f b) m i)
+  where
+    by_case : (x : Bool) → same_vector (vector n t.0) m ≡ x → (coefficient_at n f m ≡ pos 0 → ⊥) → ⊥
+    by_case true q ih = first-alone n t f p b (let e : m ≡ vector n t.0 = sym (same_vector-is (vector n t.0) m q) in rw e at i)
+    by_case false q ih = ih (sym (skips n t f m q) ∙ z)
 
 row-size : (n : ℕ) (f : Sparse) (m : List ℕ) → In (all_rows n f) m → length m ≡ n
 row-size n [] m i = absurd i
@@ -109,7 +113,10 @@ rows-monomials n f p b = record {
 
 -- ---- exponents are small
 pub vector-small : (n : ℕ) (ps : Pairs) (v : ℕ) → IsRising ps → get_or (vector n ps) v 0 < 128
-vector-small n ps v r = elim (cases_lt v n) [ inl l ↦ omega (arith, vector-get n v ps l, exponent-small ps v r) | inr l ↦ omega (arith, get_or_past (vector n ps) v 0 (omega (arith, l, vector-length n ps))) ]
+vector-small n ps v r = elim (cases_lt v n) [
+  | inl l ↦ omega (arith, vector-get n v ps l, exponent-small ps v r)
+  | inr l ↦ omega (arith, get_or_past (vector n ps) v 0 (omega (arith, l, vector-length n ps)))
+]
 
 pub rows-small : (n : ℕ) (f : Sparse) → AreRising f → AllBelow 128 (all_rows n f)
 rows-small n [] r m v i = absurd i

@@ -1,5 +1,6 @@
 -- What is kept after several stages and several lists: numbers, count and weight.
-use Rattle.std.proofs.Common.{◌≡◌, ℕ, zero, suc, ◌+◌, ◌<◌, ◌≤◌, Bool, true, false, cond, not, List, [], ◌∷◌, ◌++◌, length, map, get_or, refl, sym, ◌∙◌, ap, arith, if◌then◌else◌, append_assoc}
+use Rattle.std.proofs.Common.{◌≡◌, ℕ, zero, suc, ◌+◌, ◌<◌, ◌≤◌, Bool, true, false, cond, not, List, [], ◌∷◌, ◌++◌, length, map, get_or}
+use Rattle.std.proofs.Common.{refl, sym, ◌∙◌, ap, arith, if◌then◌else◌, append_assoc}
 use Rattle.std.specs.Prelude.{All, ◌==◌}
 use Rattle.std.proofs.lemmas.Bool.Decides.{nat_tests}
 use Rattle.std.proofs.lemmas.List.{append-nil, length-map}
@@ -61,16 +62,20 @@ put-pairs : (n : ℕ) (bs : List (List ℕ)) (a : List ℕ) → Sized n bs → l
 put-pairs n [] a s e = refl
 put-pairs n (b ∷ bs) a s e = go (same_vector a b) (tests-of-vectors n a b e s.0) (put-pairs n bs a s.1 e) where
   go : (t : Bool) → same_pairs (pairs_of a) (pairs_of b) ≡ t → put_exps (map pairs_of bs) (pairs_of a) ≡ map pairs_of (put_last bs a)
-      → (if same_pairs (pairs_of a) (pairs_of b) then pairs_of b ∷ map pairs_of bs else pairs_of b ∷ put_exps (map pairs_of bs) (pairs_of a)) ≡ map pairs_of (if t then b ∷ bs else b ∷ put_last bs a)
+      → (if same_pairs (pairs_of a) (pairs_of b) then pairs_of b ∷ map pairs_of bs else pairs_of b ∷ put_exps (map pairs_of bs) (pairs_of a))
+      ≡ map pairs_of (if t then b ∷ bs else b ∷ put_last bs a)
   go true q h = rw q refl
   go false q h = rw q (ap (λ z. pairs_of b ∷ z) h)
 
 number-pairs : (n : ℕ) (bs : List (List ℕ)) (a : List ℕ) → Sized n bs → length a ≡ n → number_in (map pairs_of bs) (pairs_of a) ≡ place bs a
 number-pairs n [] a s e = sym (place-nil a)
-number-pairs n (b ∷ bs) a s e = number-more (pairs_of b) (map pairs_of bs) (pairs_of a) (same_vector a b) (tests-of-vectors n a b e s.0) ∙ go (same_vector a b) (number-pairs n bs a s.1 e) ∙ sym (place-cons b bs a) where
-  go : (t : Bool) → number_in (map pairs_of bs) (pairs_of a) ≡ place bs a → cond (not t) (1 + number_in (map pairs_of bs) (pairs_of a)) 0 ≡ (if t then 0 else suc (place bs a))
-  go true h = refl
-  go false h = omega (arith, h)
+number-pairs n (b ∷ bs) a s e = number-more (pairs_of b) (map pairs_of bs) (pairs_of a) (same_vector a b) (tests-of-vectors n a b e s.0)
+    ∙ go (same_vector a b) (number-pairs n bs a s.1 e) ∙ sym (place-cons b bs a)
+  where
+    go : (t : Bool) → number_in (map pairs_of bs) (pairs_of a) ≡ place bs a
+        → cond (not t) (1 + number_in (map pairs_of bs) (pairs_of a)) 0 ≡ (if t then 0 else suc (place bs a))
+    go true h = refl
+    go false h = omega (arith, h)
 
 -- cs goes on with bs
 pub record Extends (bs cs : List (List ℕ)) : Type 0 where
@@ -96,23 +101,26 @@ extends-put (b ∷ bs) a = go (same_vector a b) (extends-put bs a) where
   go true h = extends-refl (b ∷ bs)
   go false h = extends-cons b bs (put_last bs a) h
 
--- the vector stands at its place
+-- the vector is at its place
 place-at : (bs : List (List ℕ)) (a : List ℕ) → (place bs a < length (put_last bs a)) × (get_or (put_last bs a) (place bs a) [] ≡ a)
 unfolding place
 place-at [] a = (omega arith, refl)
 place-at (b ∷ bs) a = go (same_vector a b) refl (place-at bs a) where
   go : (t : Bool) → same_vector a b ≡ t → (place bs a < length (put_last bs a)) × (get_or (put_last bs a) (place bs a) [] ≡ a)
-      → ((if t then 0 else suc (place bs a)) < length (if t then b ∷ bs else b ∷ put_last bs a)) × (get_or (if t then b ∷ bs else b ∷ put_last bs a) (if t then 0 else suc (place bs a)) [] ≡ a)
+      → ((if t then 0 else suc (place bs a)) < length (if t then b ∷ bs else b ∷ put_last bs a))
+      × (get_or (if t then b ∷ bs else b ∷ put_last bs a) (if t then 0 else suc (place bs a)) [] ≡ a)
   go true q h = (omega arith, sym (same_vector-is a b q))
   go false q h = (omega (arith, h.0), h.1)
 
 -- its weight counts where it is new
-put-weight : (n : ℕ) (f : Sparse) (bs : List (List ℕ)) (a : List ℕ) → all_covering n f (put_last bs a) ≡ all_covering n f bs + (if place bs a == length bs then covering n f a else 0)
+put-weight : (n : ℕ) (f : Sparse) (bs : List (List ℕ)) (a : List ℕ)
+    → all_covering n f (put_last bs a) ≡ all_covering n f bs + (if place bs a == length bs then covering n f a else 0)
 unfolding place
 put-weight n f [] a = omega arith
 put-weight n f (b ∷ bs) a = go (same_vector a b) (put-weight n f bs a) where
   go : (t : Bool) → all_covering n f (put_last bs a) ≡ all_covering n f bs + (if place bs a == length bs then covering n f a else 0)
-      → all_covering n f (if t then b ∷ bs else b ∷ put_last bs a) ≡ covering n f b + all_covering n f bs + (if (if t then 0 else suc (place bs a)) == suc (length bs) then covering n f a else 0)
+      → all_covering n f (if t then b ∷ bs else b ∷ put_last bs a)
+      ≡ covering n f b + all_covering n f bs + (if (if t then 0 else suc (place bs a)) == suc (length bs) then covering n f a else 0)
   go true h = let e : (0 == suc (length bs)) ≡ false = grind (arith, nat_tests) in rw e (omega arith)
   go false h = let e : (suc (place bs a) == suc (length bs)) ≡ (place bs a == length bs) = grind (arith, nat_tests) in rw e (omega (arith, h))
 
@@ -143,7 +151,8 @@ weigh-more : (w c : ℕ) (b : Bool) → (if b then w + c else w) ≡ w + (if b t
 weigh-more w c true = refl
 weigh-more w c false = omega arith
 
-all-seen : (n : ℕ) (f : Sparse) (bs : List (List ℕ)) (t : Tallied) (xs : List (List ℕ)) → t.exps ≡ map pairs_of bs → Sized n bs → Sized n xs → IsSeen n f bs t xs (see_all n f t xs)
+all-seen : (n : ℕ) (f : Sparse) (bs : List (List ℕ)) (t : Tallied) (xs : List (List ℕ)) → t.exps ≡ map pairs_of bs → Sized n bs → Sized n xs
+    → IsSeen n f bs t xs (see_all n f t xs)
 unfolding numbers
 all-seen n f bs t [] e s z = record { exps = e; list = sym (append-nil t.list); count = omega arith; weight = refl; most = refl; heavy = refl }
 all-seen n f bs t (x ∷ xs) e s z =
@@ -151,10 +160,13 @@ all-seen n f bs t (x ∷ xs) e s z =
     let l : length t.exps ≡ length bs = ap length e ∙ length-map bs pairs_of in
     let u : Tallied = see (covering n f x) t (pairs_of x) in
     let ih = all-seen n f (put_last bs x) u xs (ap (λ es. put_exps es (pairs_of x)) e ∙ put-pairs n bs x s z.0) (put-sized n bs x s z.0) z.1 in
-    let w : u.weight ≡ t.weight + (if place bs x == length bs then covering n f x else 0) = weigh-more t.weight (covering n f x) (number_in t.exps (pairs_of x) == length t.exps) ∙ ap (λ b. t.weight + (if b then covering n f x else 0)) (rw (q, l) refl) in
+    let w : u.weight ≡ t.weight + (if place bs x == length bs then covering n f x else 0) =
+    weigh-more t.weight (covering n f x) (number_in t.exps (pairs_of x) == length t.exps)
+    ∙ ap (λ b. t.weight + (if b then covering n f x else 0)) (rw (q, l) refl) in
     record {
       exps = ih.exps;
-      list = ih.list ∙ append_assoc t.list (number_in t.exps (pairs_of x) ∷ []) (numbers (put_last bs x) xs) ∙ ap (λ k. t.list ++ k ∷ numbers (put_last bs x) xs) q;
+      list = ih.list ∙ append_assoc t.list (number_in t.exps (pairs_of x) ∷ []) (numbers (put_last bs x) xs)
+          ∙ ap (λ k. t.list ++ k ∷ numbers (put_last bs x) xs) q;
       count = omega (arith, ih.count);
       weight = omega (arith, ih.weight, w, put-weight n f bs x);
       most = ih.most;
@@ -196,32 +208,50 @@ all-sized n bs (l ∷ ls) s t = all-sized n (seen_behind bs l) ls (behind-sized 
 -- what is kept after the lists of these orders
 pub record IsAllSeen (vars : List VarInfo) (f : Sparse) (bs : List (List ℕ)) (t : Tallied) (os : List (List ℕ)) : Type 0 where
   pub exps : (tallied vars f t os).exps ≡ map pairs_of (all_seen_behind bs (map (list_of vars f) os))
-  pub lists : (cs : List (List ℕ)) → Extends (all_seen_behind bs (map (list_of vars f) os)) cs → map (λ l. map (λ i. get_or cs i []) l) (numbers_of vars f t os) ≡ map (list_of vars f) os
+  pub lists : (cs : List (List ℕ)) → Extends (all_seen_behind bs (map (list_of vars f) os)) cs
+      → map (λ l. map (λ i. get_or cs i []) l) (numbers_of vars f t os) ≡ map (list_of vars f) os
   pub within : (cs : List (List ℕ)) → Extends (all_seen_behind bs (map (list_of vars f) os)) cs → All (λ l. All (λ i. i < length cs) l) (numbers_of vars f t os)
   pub count : (tallied vars f t os).count ≡ t.count + stage_count (map (list_of vars f) os)
   pub counted : count_numbers (numbers_of vars f t os) ≡ stage_count (map (list_of vars f) os)
-  pub weight : (tallied vars f t os).weight + all_covering (length vars) f bs ≡ t.weight + all_covering (length vars) f (all_seen_behind bs (map (list_of vars f) os))
+  pub weight : (tallied vars f t os).weight + all_covering (length vars) f bs
+      ≡ t.weight + all_covering (length vars) f (all_seen_behind bs (map (list_of vars f) os))
   pub most : (tallied vars f t os).most ≡ t.most
   pub heavy : (tallied vars f t os).heavy ≡ t.heavy
 
-pub orders-seen : (vars : List VarInfo) (f : Sparse) (bs : List (List ℕ)) (t : Tallied) (os : List (List ℕ)) → t.exps ≡ map pairs_of bs → t.list ≡ [] → Sized (length vars) bs → AllSized (length vars) (map (list_of vars f) os) → IsAllSeen vars f bs t os
+pub orders-seen : (vars : List VarInfo) (f : Sparse) (bs : List (List ℕ)) (t : Tallied) (os : List (List ℕ)) → t.exps ≡ map pairs_of bs
+    → t.list ≡ [] → Sized (length vars) bs → AllSized (length vars) (map (list_of vars f) os) → IsAllSeen vars f bs t os
 unfolding tallied numbers_of
-orders-seen vars f bs t [] e z s a = record { exps = e; lists = λ cs h. refl; within = λ cs h. All-nil (λ l. All (λ i. i < length cs) l); count = omega arith; counted = refl; weight = refl; most = refl; heavy = refl }
+orders-seen vars f bs t [] e z s a = record {
+  exps = e;
+  lists = λ cs h. refl;
+  within = λ cs h. All-nil (λ l. All (λ i. i < length cs) l);
+  count = omega arith;
+  counted = refl;
+  weight = refl;
+  most = refl;
+  heavy = refl;
+}
 orders-seen vars f bs t (o ∷ os) e z s a =
     let n : ℕ = length vars in
     let x : List (List ℕ) = list_of vars f o in
     let u : Tallied = see_all (length vars) f t (list_of vars f o) in
-    let r : IsSeen (length vars) f bs t (list_of vars f o) (see_all (length vars) f t (list_of vars f o)) = all-seen (length vars) f bs t (list_of vars f o) e s a.0 in
-    let ih : IsAllSeen vars f (seen_behind bs (list_of vars f o)) (next_list (see_all (length vars) f t (list_of vars f o))) os = orders-seen vars f (seen_behind bs (list_of vars f o)) (next_list (see_all (length vars) f t (list_of vars f o))) os r.exps refl (behind-sized (length vars) bs (list_of vars f o) s a.0) a.1 in
+    let r : IsSeen (length vars) f bs t (list_of vars f o) (see_all (length vars) f t (list_of vars f o)) =
+    all-seen (length vars) f bs t (list_of vars f o) e s a.0 in
+    let ih : IsAllSeen vars f (seen_behind bs (list_of vars f o)) (next_list (see_all (length vars) f t (list_of vars f o))) os =
+    orders-seen vars f (seen_behind bs (list_of vars f o)) (next_list (see_all (length vars) f t (list_of vars f o))) os r.exps refl
+    (behind-sized (length vars) bs (list_of vars f o) s a.0) a.1 in
     let list : (see_all (length vars) f t (list_of vars f o)).list ≡ numbers bs (list_of vars f o) = r.list ∙ ap (λ k. k ++ numbers bs (list_of vars f o)) z in
     record {
       exps = ih.exps;
       lists = λ cs h.
-          let k = extends-trans (seen_behind bs (list_of vars f o)) (all_seen_behind (seen_behind bs (list_of vars f o)) (map (list_of vars f) os)) cs (extends-all (seen_behind bs (list_of vars f o)) (map (list_of vars f) os)) h in
+          let k = extends-trans (seen_behind bs (list_of vars f o)) (all_seen_behind (seen_behind bs (list_of vars f o)) (map (list_of vars f) os)) cs
+          (extends-all (seen_behind bs (list_of vars f o)) (map (list_of vars f) os)) h in
           rw (list, at-numbers bs (list_of vars f o) cs k, ih.lists cs h) refl;
       within = λ cs h.
-          let k = extends-trans (seen_behind bs (list_of vars f o)) (all_seen_behind (seen_behind bs (list_of vars f o)) (map (list_of vars f) os)) cs (extends-all (seen_behind bs (list_of vars f o)) (map (list_of vars f) os)) h in
-          All-cons (λ l. All (λ i. i < length cs) l) (see_all (length vars) f t (list_of vars f o)).list (numbers_of vars f (next_list (see_all (length vars) f t (list_of vars f o))) os)
+          let k = extends-trans (seen_behind bs (list_of vars f o)) (all_seen_behind (seen_behind bs (list_of vars f o)) (map (list_of vars f) os)) cs
+          (extends-all (seen_behind bs (list_of vars f o)) (map (list_of vars f) os)) h in
+          All-cons (λ l. All (λ i. i < length cs) l) (see_all (length vars) f t (list_of vars f o)).list
+          (numbers_of vars f (next_list (see_all (length vars) f t (list_of vars f o))) os)
           (rw list (numbers-within bs (list_of vars f o) cs k)) (ih.within cs h);
       count = omega (arith, ih.count, r.count);
       counted = omega (arith, ih.counted, ap length list, numbers-length bs (list_of vars f o));
@@ -234,17 +264,21 @@ orders-seen vars f bs t (o ∷ os) e z s a =
 over-lists : (vars : List VarInfo) (f : Sparse) (t : Tallied) (os : List (List ℕ)) → IsOver t → IsOver (tallied vars f t os)
 unfolding tallied
 over-lists vars f t [] h = h
-over-lists vars f t (o ∷ os) h = over-lists vars f (next_list (see_all (length vars) f t (list_of vars f o))) os (over-more (length vars) f t (list_of vars f o) h)
+over-lists vars f t (o ∷ os) h =
+    over-lists vars f (next_list (see_all (length vars) f t (list_of vars f o))) os (over-more (length vars) f t (list_of vars f o) h)
 
-pub over-list : (vars : List VarInfo) (f : Sparse) (t : Tallied) (o : List ℕ) (os : List (List ℕ)) → IsOver (see_all (length vars) f t (list_of vars f o)) → IsOver (tallied vars f t (o ∷ os))
+pub over-list : (vars : List VarInfo) (f : Sparse) (t : Tallied) (o : List ℕ) (os : List (List ℕ))
+    → IsOver (see_all (length vars) f t (list_of vars f o)) → IsOver (tallied vars f t (o ∷ os))
 unfolding tallied
 over-list vars f t o os h = over-lists vars f (next_list (see_all (length vars) f t (list_of vars f o))) os h
 
-pub tallied-cons : (vars : List VarInfo) (f : Sparse) (t : Tallied) (o : List ℕ) (os : List (List ℕ)) → tallied vars f t (o ∷ os) ≡ tallied vars f (next_list (see_all (length vars) f t (list_of vars f o))) os
+pub tallied-cons : (vars : List VarInfo) (f : Sparse) (t : Tallied) (o : List ℕ) (os : List (List ℕ))
+    → tallied vars f t (o ∷ os) ≡ tallied vars f (next_list (see_all (length vars) f t (list_of vars f o))) os
 unfolding tallied
 tallied-cons vars f t o os = refl
 
-pub numbers-cons : (vars : List VarInfo) (f : Sparse) (t : Tallied) (o : List ℕ) (os : List (List ℕ)) → numbers_of vars f t (o ∷ os) ≡ (see_all (length vars) f t (list_of vars f o)).list ∷ numbers_of vars f (next_list (see_all (length vars) f t (list_of vars f o))) os
+pub numbers-cons : (vars : List VarInfo) (f : Sparse) (t : Tallied) (o : List ℕ) (os : List (List ℕ)) → numbers_of vars f t (o ∷ os)
+    ≡ (see_all (length vars) f t (list_of vars f o)).list ∷ numbers_of vars f (next_list (see_all (length vars) f t (list_of vars f o))) os
 unfolding numbers_of
 numbers-cons vars f t o os = refl
 
@@ -268,20 +302,33 @@ pub record IsAllSeenBy (L : List ℕ → List (List ℕ)) (n : ℕ) (f : Sparse)
   pub heavy : (tallied_by L n f t ps).heavy ≡ t.heavy
 
 module _ (L : List ℕ → List (List ℕ)) (n : ℕ) (f : Sparse) where
-  pub seen-by : (bs : List (List ℕ)) (t : Tallied) (ps : List (List ℕ)) → t.exps ≡ map pairs_of bs → t.list ≡ [] → Sized n bs → AllSized n (map L ps) → IsAllSeenBy L n f bs t ps
+  pub seen-by : (bs : List (List ℕ)) (t : Tallied) (ps : List (List ℕ)) → t.exps ≡ map pairs_of bs → t.list ≡ [] → Sized n bs
+      → AllSized n (map L ps) → IsAllSeenBy L n f bs t ps
   unfolding tallied_by numbers_by
-  seen-by bs t [] e z s a = record { exps = e; lists = λ cs h. refl; within = λ cs h. All-nil (λ l. All (λ i. i < length cs) l); count = omega arith; counted = refl; weight = refl; most = refl; heavy = refl }
+  seen-by bs t [] e z s a = record {
+    exps = e;
+    lists = λ cs h. refl;
+    within = λ cs h. All-nil (λ l. All (λ i. i < length cs) l);
+    count = omega arith;
+    counted = refl;
+    weight = refl;
+    most = refl;
+    heavy = refl;
+  }
   seen-by bs t (p ∷ ps) e z s a =
       let r : IsSeen n f bs t (L p) (see_all n f t (L p)) = all-seen n f bs t (L p) e s a.0 in
-      let ih : IsAllSeenBy L n f (seen_behind bs (L p)) (next_list (see_all n f t (L p))) ps = seen-by (seen_behind bs (L p)) (next_list (see_all n f t (L p))) ps r.exps refl (behind-sized n bs (L p) s a.0) a.1 in
+      let ih : IsAllSeenBy L n f (seen_behind bs (L p)) (next_list (see_all n f t (L p))) ps =
+      seen-by (seen_behind bs (L p)) (next_list (see_all n f t (L p))) ps r.exps refl (behind-sized n bs (L p) s a.0) a.1 in
       let list : (see_all n f t (L p)).list ≡ numbers bs (L p) = r.list ∙ ap (λ k. k ++ numbers bs (L p)) z in
       record {
         exps = ih.exps;
         lists = λ cs h.
-            let k = extends-trans (seen_behind bs (L p)) (all_seen_behind (seen_behind bs (L p)) (map L ps)) cs (extends-all (seen_behind bs (L p)) (map L ps)) h in
+            let k = extends-trans (seen_behind bs (L p)) (all_seen_behind (seen_behind bs (L p)) (map L ps)) cs
+            (extends-all (seen_behind bs (L p)) (map L ps)) h in
             rw (list, at-numbers bs (L p) cs k, ih.lists cs h) refl;
         within = λ cs h.
-            let k = extends-trans (seen_behind bs (L p)) (all_seen_behind (seen_behind bs (L p)) (map L ps)) cs (extends-all (seen_behind bs (L p)) (map L ps)) h in
+            let k = extends-trans (seen_behind bs (L p)) (all_seen_behind (seen_behind bs (L p)) (map L ps)) cs
+            (extends-all (seen_behind bs (L p)) (map L ps)) h in
             All-cons (λ l. All (λ i. i < length cs) l) (see_all n f t (L p)).list (numbers_by L n f (next_list (see_all n f t (L p))) ps)
             (rw list (numbers-within bs (L p) cs k)) (ih.within cs h);
         count = omega (arith, ih.count, r.count);

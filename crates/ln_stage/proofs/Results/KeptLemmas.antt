@@ -1,41 +1,28 @@
 -- What is kept of the lists of all orders: blocks by first sight, numbers of segments and lists, count and weight.
-use Rattle.std.proofs.Common.{◌≡◌, ◌⊎◌, inl, inr, Bool, false, ℕ, zero, suc, ◌+◌, ◌-◌, ◌<◌, ◌≤◌, true, List, [], ◌∷◌, length, map, get_or, take, ◌++◌, refl, sym, ◌∙◌, ap, subst, arith, if◌then◌else◌}
-use Rattle.std.specs.Prelude.{◌↔◌, All, Contains, IsTrue, Some, slice_get}
+use Rattle.std.proofs.Common.{◌≡◌, ◌⊎◌, inl, inr, Bool, false, ℕ, zero, suc, ◌+◌, ◌-◌, ◌<◌, ◌≤◌, true, List, [], ◌∷◌, length, map, get_or}
+use Rattle.std.proofs.Common.{take, ◌++◌, refl, sym, ◌∙◌, ap, arith, if◌then◌else◌}
+use Rattle.std.specs.Prelude.{All, Contains, Some, slice_get}
 use Rattle.std.proofs.lemmas.List.{append-nil, get_or-map, length-map, map-append}
-use Rattle.std.proofs.lemmas.List.Elements.{All-append, All-cons, All-head, All-nil, All-tail, Contains-get_or}
+use Rattle.std.proofs.lemmas.List.Elements.{All-append, All-cons, All-head, All-nil, All-tail}
 use Rattle.std.proofs.lemmas.Option.{get_or_from_slice_get, slice_get-get_or, slice_get_within}
 use Rattle.std.specs.List.{range_with_len}
-use Rattle.ln_algebra.specs.Vector.{In, same_vector, zeros}
-use Rattle.ln_algebra.specs.Walk.{walk}
-use Rattle.ln_algebra.proofs.Expanded.Expansion.{length-zeros}
+use Rattle.ln_algebra.specs.Vector.{In, same_vector}
 use Rattle.ln_tree.specs.declared.shape.VarInfo.{VarInfo}
 use Rattle.ln_tree.specs.Exps.{IsAbove, Pairs, vector}
-use Rattle.ln_tree.specs.Variables.{is_laid_out}
 use Rattle.ln_order.specs.Orders.{IsOrderOf, orders_of}
 use Rattle.ln_order.specs.Prefixes.{IsPrefixOf, beside, joined, prefixes_of, segments_from}
-use Rattle.ln_order.specs.Sites.{ranking_of, sites_of}
 use Rattle.ln_order.proofs.Listing.OrdersLemmas.{member-is}
 use Rattle.ln_order.proofs.Listing.PrefixLemmas.{beside_at, front_number, prefix-is}
 use Rattle.ln_order.specs.Prefixes.{number_of_front}
-use Rattle.ln_order.proofs.Signs.RankingLemmas.{ranking-is}
-use Rattle.ln_poly.specs.Sparse.{AreBelow, IsPoly, Sparse}
-use Rattle.ln_stage.specs.FirstSight.{last_walk, list_along, prefix_walk, shared_count}
-use Rattle.ln_stage.specs.Kept.{all_rows, list_of, listed, numbers_by, rows, tallied_by}
-use Rattle.ln_stage.specs.Lists.{AreStageLists, Passes, all_covering, all_seen_behind, first_seen, stage_count, stage_weight}
-use Rattle.ln_stage.specs.Segments.{AreSegments, IsSegmentOf}
-use Rattle.ln_stage.specs.SiteWalk.{prefix_walks, site_walk, site_walks}
-use Rattle.ln_stage.specs.StageList.{IsStageListOf}
-use Rattle.ln_stage.specs.Staged.{AreStagesOf, Staged, StopsListing, block_vector, count_numbers, lists_in, vectors_of}
-use Rattle.ln_stage.specs.Tally.{IsOver as IsPast, IsStoppedBy, Tallied, pairs_of}
-use Rattle.ln_stage.specs.declared.stop.StageStop.{StageStop}
-use Rattle.ln_stage.specs.declared.stop.StageStop.TheVariants.{Zero, Stages, NoMemory}
+use Rattle.ln_poly.specs.Sparse.{Sparse}
+use Rattle.ln_stage.specs.FirstSight.{list_along, shared_count}
+use Rattle.ln_stage.specs.Kept.{numbers_by, tallied_by}
+use Rattle.ln_stage.specs.Lists.{Passes, all_covering, all_seen_behind, first_seen, stage_count, stage_weight}
+use Rattle.ln_stage.specs.Staged.{Staged, block_vector, count_numbers, lists_in, vectors_of}
+use Rattle.ln_stage.specs.Tally.{IsOver as IsPast, Tallied, pairs_of}
 use Rattle.ln_stage.proofs.Sights.FirstSightLemmas.{first-sight-by-prefixes, segments-are-fewer}
 use Rattle.ln_stage.proofs.Results.FoldLemmas.{AllSized, IsAllSeenBy, Sized, all-sized, extends-refl, seen-by}
-use Rattle.ln_stage.proofs.Monomials.MonomialLemmas.{IsTerms, rows-monomials, rows-small}
 use Rattle.ln_stage.proofs.Walks.PairsLemmas.{above-pairs, vector-pairs_of}
-use Rattle.ln_stage.proofs.Walks.SiteWalkLemmas.{walks-are-segments}
-use Rattle.ln_stage.proofs.Monomials.StageLemmas.{walk-stages}
-use Rattle.ln_stage.proofs.Walks.StartLemmas.{rows-all}
 
 -- each of its vectors has all variables
 pub sized-in : (n : ℕ) (xs : List (List ℕ)) → ((a : List ℕ) → In xs a → length a ≡ n) → Sized n xs
@@ -45,7 +32,9 @@ sized-in n (x ∷ xs) h = (h x (inl refl), sized-in n xs (λ a i. h a (inr i)))
 -- ---- the list of an order from its segments
 range-suc : {A : Type 0} (g : ℕ → A) (a m : ℕ) → map g (range_with_len (suc a) m) ≡ map (λ i. g (suc i)) (range_with_len a m)
 range-suc g a zero = refl
-range-suc g a (suc m) = let e : suc a + 1 ≡ suc (a + 1) = omega arith in ap (λ z. g (suc a) ∷ map g (range_with_len z m)) e ∙ ap (λ z. g (suc a) ∷ z) (range-suc g (a + 1) m)
+range-suc g a (suc m) =
+    let e : suc a + 1 ≡ suc (a + 1) = omega arith in
+    ap (λ z. g (suc a) ∷ map g (range_with_len z m)) e ∙ ap (λ z. g (suc a) ∷ z) (range-suc g (a + 1) m)
 
 along-from : (S : List ℕ → List (List ℕ)) (o : List ℕ) → list_along S o ≡ joined (map (λ i. S (take i o)) (range_with_len 0 (suc (length o))))
 along-from S [] = sym (append-nil (S []))
@@ -93,8 +82,8 @@ count-map : (g : ℕ → List ℕ) (ls : List (List ℕ)) → count_numbers ls �
 count-map g [] = refl
 count-map g (l ∷ ls) = omega (arith, count-map g ls, length-map l g)
 
--- ---- what is kept of lists that are along what stands at prefixes
--- the list of each order is what stands at its prefixes, one after the other, over all n variables
+-- ---- what is kept of lists that are along what is at prefixes
+-- the list of each order is what is at its prefixes, one after the other, over all n variables
 pub record AreAlong (k n : ℕ) (L S : List ℕ → List (List ℕ)) : Type 0 where
   pub few : k ≤ 5
   pub sized : (p : List ℕ) → IsPrefixOf k p → Sized n (S p)
@@ -157,14 +146,16 @@ module _ (k : ℕ) (vars : List VarInfo) (f : Sparse) (L S : List ℕ → List (
       size (c ∷ cs) zero s h = s.0
       size (c ∷ cs) (suc i) s h = size cs i s.1 (omega (arith, h))
 
-    at-blocks : (cs : List (List ℕ)) (l : List ℕ) → Sized (length vars) cs → All (λ i. i < length cs) l → map (block_vector (length vars) (map pairs_of cs)) l ≡ map (λ i. get_or cs i []) l
+    at-blocks : (cs : List (List ℕ)) (l : List ℕ) → Sized (length vars) cs → All (λ i. i < length cs) l
+        → map (block_vector (length vars) (map pairs_of cs)) l ≡ map (λ i. get_or cs i []) l
     at-blocks cs [] s h = refl
     at-blocks cs (i ∷ l) s h = rw (at-block cs i s (All-head (λ i. i < length cs) i l h), at-blocks cs l s (All-tail (λ i. i < length cs) i l h)) refl
 
     at-lists : (cs : List (List ℕ)) (ls : List (List ℕ)) → Sized (length vars) cs → All (λ l. All (λ i. i < length cs) l) ls
         → map (λ l. map (block_vector (length vars) (map pairs_of cs)) l) ls ≡ map (λ l. map (λ i. get_or cs i []) l) ls
     at-lists cs [] s h = refl
-    at-lists cs (l ∷ ls) s h = rw (at-blocks cs l s (All-head (λ l. All (λ i. i < length cs) l) l ls h), at-lists cs ls s (All-tail (λ l. All (λ i. i < length cs) l) l ls h)) refl
+    at-lists cs (l ∷ ls) s h =
+        rw (at-blocks cs l s (All-head (λ l. All (λ i. i < length cs) l) l ls h), at-lists cs ls s (All-tail (λ l. All (λ i. i < length cs) l) l ls h)) refl
 
     vectors-back : (cs : List (List ℕ)) → Sized (length vars) cs → map (vector (length vars)) (map pairs_of cs) ≡ cs
     vectors-back [] s = refl
@@ -187,12 +178,14 @@ module _ (k : ℕ) (vars : List VarInfo) (f : Sparse) (L S : List ℕ → List (
     segments-size = sym (length-map segments (λ l. map (block_vector (length vars) kept.exps) l)) ∙ ap length vectors-parts ∙ length-map (prefixes_of k) (S)
 
     -- the vectors of a segment
-    pub part-vectors : (o : List ℕ) (j : ℕ) → IsOrderOf k o → j ≤ k → map (block_vector (length vars) kept.exps) (beside (prefixes_of k) segments (take j o)) ≡ S (take j o)
+    pub part-vectors : (o : List ℕ) (j : ℕ) → IsOrderOf k o → j ≤ k
+        → map (block_vector (length vars) kept.exps) (beside (prefixes_of k) segments (take j o)) ≡ S (take j o)
     part-vectors o j p h =
         let g : slice_get (prefixes_of k) (number_of_front o j) ≡ Some (take j o) = front_number k o j x.few p h in
         let m : number_of_front o j < length (prefixes_of k) = slice_get_within (prefixes_of k) (number_of_front o j) (take j o) g in
         let l : number_of_front o j < length segments = omega (arith, m, segments-size) in
-        let e : beside (prefixes_of k) segments (take j o) ≡ get_or segments (number_of_front o j) [] = beside_at k segments (take j o) (number_of_front o j) (get_or segments (number_of_front o j) []) x.few g (slice_get-get_or segments (number_of_front o j) [] l) in
+        let e : beside (prefixes_of k) segments (take j o) ≡ get_or segments (number_of_front o j) [] = beside_at k segments (take j o)
+        (number_of_front o j) (get_or segments (number_of_front o j) []) x.few g (slice_get-get_or segments (number_of_front o j) [] l) in
         let at : get_or (prefixes_of k) (number_of_front o j) [] ≡ take j o = get_or_from_slice_get (prefixes_of k) (number_of_front o j) (take j o) [] g in
         ap (map (block_vector (length vars) kept.exps)) e
         ∙ sym (get_or-map (λ l. map (block_vector (length vars) kept.exps) l) segments (number_of_front o j) [] [] l)
@@ -210,7 +203,8 @@ module _ (k : ℕ) (vars : List VarInfo) (f : Sparse) (L S : List ℕ → List (
         ap (λ n. map (block_vector (length vars) kept.exps) (joined (map (λ i. beside (prefixes_of k) segments (take i o)) (range_with_len 0 n)))) q
         ∙ map-joined (block_vector (length vars) kept.exps) (map (λ i. beside (prefixes_of k) segments (take i o)) (range_with_len 0 (suc (length o))))
         ∙ ap joined (map-map (map (block_vector (length vars) kept.exps)) (λ i. beside (prefixes_of k) segments (take i o)) (range_with_len 0 (suc (length o))))
-        ∙ ap joined (range-same (λ i. map (block_vector (length vars) kept.exps) (beside (prefixes_of k) segments (take i o))) (λ i. S (take i o)) 0 (suc (length o)) (λ i l m. part-vectors o i p (omega (arith, m, p.size))))
+        ∙ ap joined (range-same (λ i. map (block_vector (length vars) kept.exps) (beside (prefixes_of k) segments (take i o)))
+        (λ i. S (take i o)) 0 (suc (length o)) (λ i l m. part-vectors o i p (omega (arith, m, p.size))))
         ∙ sym (list-from o p)
 
     -- what is kept at the end, as stages
@@ -218,7 +212,8 @@ module _ (k : ℕ) (vars : List VarInfo) (f : Sparse) (L S : List ℕ → List (
     result = record { sites = k; exps = kept.exps; segments = segments; lists = lists_in k segments }
 
     pub result-vectors : vectors_of (length vars) result ≡ found
-    result-vectors = map-map (map (block_vector (length vars) kept.exps)) list_at (orders_of k) ∙ maps-agree (λ o. map (block_vector (length vars) kept.exps) (list_at o)) L (orders_of k) (λ o c. list-vectors o (member-is k o c))
+    result-vectors = map-map (map (block_vector (length vars) kept.exps)) list_at (orders_of k)
+        ∙ maps-agree (λ o. map (block_vector (length vars) kept.exps) (list_at o)) L (orders_of k) (λ o c. list-vectors o (member-is k o c))
 
     pub segments-within : All (λ l. All (λ i. i < length kept.exps) l) segments
     segments-within = rw (seen.exps, length-map blocks pairs_of) numbers-within
@@ -230,7 +225,9 @@ module _ (k : ℕ) (vars : List VarInfo) (f : Sparse) (L S : List ℕ → List (
     result-below = rw seen.exps (all-below blocks blocks-sized)
 
     pub result-numbers : All (λ l. All (λ i. i < length result.exps) l) result.lists
-    result-numbers = maps-all (λ i. i < length kept.exps) list_at (orders_of k) (λ o. joined-all (λ i. i < length kept.exps) (λ i. beside (prefixes_of k) segments (take i o)) (range_with_len 0 (suc (length o) - 0)) (λ i. beside-all (λ i. i < length kept.exps) (prefixes_of k) segments (take i o) segments-within))
+    result-numbers = maps-all (λ i. i < length kept.exps) list_at (orders_of k)
+        (λ o. joined-all (λ i. i < length kept.exps) (λ i. beside (prefixes_of k) segments (take i o)) (range_with_len 0 (suc (length o) - 0))
+        (λ i. beside-all (λ i. i < length kept.exps) (prefixes_of k) segments (take i o) segments-within))
 
     pub lists-count : count_numbers (lists_in k segments) ≡ shared_count k S (prefixes_of k)
     lists-count = count-map (block_vector (length vars) kept.exps) (map list_at (orders_of k)) ∙ ap stage_count result-vectors ∙ same-count
@@ -242,13 +239,16 @@ module _ (k : ℕ) (vars : List VarInfo) (f : Sparse) (L S : List ℕ → List (
     final-weight h = omega (arith, h, seen.weight, seen.heavy, ap (all_covering (length vars) f) same-first, ap (stage_weight (length vars) f) result-vectors)
 
     -- ---- what the program has at its end
-    pub final-is : (st : Staged) (exps : List Pairs) (segs lists : List (List ℕ)) (u : Tallied) → st ≡ record { sites = k; exps = exps; segments = segs; lists = lists } → exps ≡ u.exps → u ≡ kept → segs ≡ segments → lists ≡ lists_in k segs → st ≡ result
+    pub final-is : (st : Staged) (exps : List Pairs) (segs lists : List (List ℕ)) (u : Tallied)
+        → st ≡ record { sites = k; exps = exps; segments = segs; lists = lists } → exps ≡ u.exps → u ≡ kept → segs ≡ segments
+        → lists ≡ lists_in k segs → st ≡ result
     final-is st exps segs lists u e i q s l =
         let y : exps ≡ kept.exps = i ∙ ap (λ (z : Tallied). z.exps) q in
         let z : lists ≡ lists_in k segments = l ∙ ap (lists_in k) s in
         e ∙ rw (y, s, z) refl
 
-    pub counted-is : (c : ℕ) (segs lists : List (List ℕ)) → segs ≡ segments → lists ≡ lists_in k segs → c ≡ shared_count k S (prefixes_of k) → c ≡ count_numbers lists
+    pub counted-is : (c : ℕ) (segs lists : List (List ℕ)) → segs ≡ segments → lists ≡ lists_in k segs → c ≡ shared_count k S (prefixes_of k)
+        → c ≡ count_numbers lists
     counted-is c segs lists s l e = e ∙ sym lists-count ∙ ap count_numbers (sym (l ∙ ap (lists_in k) s))
 
     pub weighed-is : (u : Tallied) → u ≡ kept → u.weight ≤ u.heavy → kept.weight ≤ kept.heavy

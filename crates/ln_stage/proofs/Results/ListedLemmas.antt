@@ -1,5 +1,6 @@
 -- The segments of all prefixes, one after the other.
-use Rattle.std.proofs.Common.{◌≡◌, ◌⊎◌, inl, inr, zero, suc, ℕ, ◌+◌, ◌-◌, ◌*◌, ◌<◌, ◌≤◌, Bool, List, [], ◌∷◌, ◌++◌, append_assoc, length, length-append, map, get_or, drop, refl, sym, ◌∙◌, ap, subst, arith}
+use Rattle.std.proofs.Common.{◌≡◌, ◌⊎◌, inl, inr, zero, suc, ℕ, ◌+◌, ◌-◌, ◌*◌, ◌<◌, ◌≤◌, Bool, List, [], ◌∷◌, ◌++◌, append_assoc, length}
+use Rattle.std.proofs.Common.{length-append, map, get_or, drop, refl, sym, ◌∙◌, ap, subst, arith}
 use Rattle.std.specs.Prelude.{Some, slice_get}
 use Rattle.std.proofs.lemmas.List.{append-nil, drop-map, drop_all, drop_more}
 use Rattle.std.proofs.lemmas.Option.{slice_get-get_or, slice_get_within}
@@ -30,10 +31,12 @@ list-more n f t (x ∷ xs) =
     omega (arith, ih, l)
 
 -- ---- steps of the loop
-pub more-prefixes : (all : List Front) (i : ℕ) (p : Front) → i < length all → p ≡ get_or all i p → map front_places (drop i all) ≡ front_places p ∷ map front_places (drop (i + 1) all)
+pub more-prefixes : (all : List Front) (i : ℕ) (p : Front) → i < length all → p ≡ get_or all i p
+    → map front_places (drop i all) ≡ front_places p ∷ map front_places (drop (i + 1) all)
 more-prefixes all i p h e = ap (map front_places) (drop_more all i p h) ∙ ap (λ z. front_places z ∷ map front_places (drop (i + 1) all)) (sym e)
 
-pub at-prefix : (all : List Front) (k i : ℕ) (p : Front) → map front_places all ≡ prefixes_of k → i < length all → p ≡ get_or all i p → IsPrefixOf k (front_places p)
+pub at-prefix : (all : List Front) (k i : ℕ) (p : Front) → map front_places all ≡ prefixes_of k → i < length all → p ≡ get_or all i p
+    → IsPrefixOf k (front_places p)
 at-prefix all k i p e h q = subst (λ z. IsPrefixOf k (front_places z)) (sym q) (front-is-prefix all k e i p h)
 
 module _ (L : List ℕ → List (List ℕ)) (n : ℕ) (f : Sparse) where
@@ -41,7 +44,8 @@ module _ (L : List ℕ → List (List ℕ)) (n : ℕ) (f : Sparse) where
   unfolding tallied_by
   unfolding-tally t p ps = refl
 
-  unfolding-numbers : (t : Tallied) (p : List ℕ) (ps : List (List ℕ)) → numbers_by L n f t (p ∷ ps) ≡ (see_all n f t (L p)).list ∷ numbers_by L n f (next_list (see_all n f t (L p))) ps
+  unfolding-numbers : (t : Tallied) (p : List ℕ) (ps : List (List ℕ))
+      → numbers_by L n f t (p ∷ ps) ≡ (see_all n f t (L p)).list ∷ numbers_by L n f (next_list (see_all n f t (L p))) ps
   unfolding numbers_by
   unfolding-numbers t p ps = refl
 
@@ -57,26 +61,31 @@ module _ (L : List ℕ → List (List ℕ)) (n : ℕ) (f : Sparse) where
     pub tally-goes : (T : Tallied) → u ≡ next_list (see_all n f t (L p)) → tallied_by L n f t ps ≡ T → tallied_by L n f u rest ≡ T
     tally-goes T q h = ap (λ z. tallied_by L n f z rest) q ∙ sym (unfolding-tally t p rest) ∙ ap (tallied_by L n f t) (sym e) ∙ h
 
-    pub segments-go : (N old new : List (List ℕ)) (l : List ℕ) → u ≡ next_list (see_all n f t (L p)) → l ≡ (see_all n f t (L p)).list → new ≡ old ++ l ∷ [] → old ++ numbers_by L n f t ps ≡ N → new ++ numbers_by L n f u rest ≡ N
+    pub segments-go : (N old new : List (List ℕ)) (l : List ℕ) → u ≡ next_list (see_all n f t (L p)) → l ≡ (see_all n f t (L p)).list
+        → new ≡ old ++ l ∷ [] → old ++ numbers_by L n f t ps ≡ N → new ++ numbers_by L n f u rest ≡ N
     segments-go N old new l q x m h =
         ap (λ z. z ++ numbers_by L n f u rest) m ∙ append_assoc old (l ∷ []) (numbers_by L n f u rest)
         ∙ ap (λ z. old ++ l ∷ numbers_by L n f z rest) q ∙ ap (λ z. old ++ z ∷ numbers_by L n f (next_list (see_all n f t (L p))) rest) x
         ∙ ap (λ z. old ++ z) (sym (unfolding-numbers t p rest)) ∙ ap (λ z. old ++ numbers_by L n f t z) (sym e) ∙ h
 
-    -- a segment as often as it stands in a list
-    pub shares-here : (k S c share size : ℕ) (l : List ℕ) → l ≡ (see_all n f t (L p)).list → t.list ≡ [] → size ≡ length l → share ≡ length (orders_of (k - length p)) → c + shared_count k L ps ≡ S → (c + share * size) + shared_count k L rest ≡ S
+    -- a segment as often as it occurs in a list
+    pub shares-here : (k S c share size : ℕ) (l : List ℕ) → l ≡ (see_all n f t (L p)).list → t.list ≡ [] → size ≡ length l
+        → share ≡ length (orders_of (k - length p)) → c + shared_count k L ps ≡ S → (c + share * size) + shared_count k L rest ≡ S
     shares-here k S c share size l x z y w h =
         let a : size ≡ length (L p) = omega (arith, y, ap length x, list-more n f t (L p), ap length z) in
         let b : share * size ≡ length (orders_of (k - length p)) * length (L p) = ap (λ m. m * size) w ∙ ap (λ m. length (orders_of (k - length p)) * m) a in
         omega (arith, h, b, ap (shared_count k L) e)
 
     -- what is over a limit stays so
-    pub over-goes : (T : Tallied) (B : Type 0) (x : StageStop) → tallied_by L n f t ps ≡ T → IsStoppedBy x (IsOver (see_all n f t (L p))) → IsStoppedBy x (IsOver T ⊎ B)
+    pub over-goes : (T : Tallied) (B : Type 0) (x : StageStop) → tallied_by L n f t ps ≡ T → IsStoppedBy x (IsOver (see_all n f t (L p)))
+        → IsStoppedBy x (IsOver T ⊎ B)
     over-goes T B Zero h s = s
-    over-goes T B Stages h s = inl (subst IsOver (sym (unfolding-tally t p rest) ∙ ap (tallied_by L n f t) (sym e) ∙ h) (over-by L n f (next_list (see_all n f t (L p))) rest s))
+    over-goes T B Stages h s =
+        inl (subst IsOver (sym (unfolding-tally t p rest) ∙ ap (tallied_by L n f t) (sym e) ∙ h) (over-by L n f (next_list (see_all n f t (L p))) rest s))
     over-goes T B NoMemory h s = tt
 
-  pub count-passes : (k S c m most : ℕ) (A : Type 0) (x : StageStop) (rest : List (List ℕ)) → m + shared_count k L rest ≡ S → IsStoppedBy x (most < m) → IsStoppedBy x (A ⊎ (most < S))
+  pub count-passes : (k S c m most : ℕ) (A : Type 0) (x : StageStop) (rest : List (List ℕ)) → m + shared_count k L rest ≡ S
+      → IsStoppedBy x (most < m) → IsStoppedBy x (A ⊎ (most < S))
   count-passes k S c m most A Zero rest h s = s
   count-passes k S c m most A Stages rest h s = inr (omega (arith, h, s))
   count-passes k S c m most A NoMemory rest h s = tt
@@ -104,12 +113,16 @@ pub cuts-begin : (vars : List VarInfo) (f : Sparse) (ps : List (List ℕ)) (k : 
 cuts-begin vars f ps k cuts e = subst (λ z. AreCutsFor vars f z cuts) (sym e) (cuts-first vars f k cuts)
 
 -- the cuts of the prefix that follows
-pub cuts-follow : (vars : List VarInfo) (f : Sparse) (all : List Front) (k i : ℕ) (p : Front) (cuts : List Bool) → k ≤ 5 → map front_places all ≡ prefixes_of k → i < length all → p ≡ get_or all i p → AreCuts vars f (length (front_places p) + 1) (front_places p) cuts → AreCutsFor vars f (map front_places (drop (i + 1) all)) cuts
+pub cuts-follow : (vars : List VarInfo) (f : Sparse) (all : List Front) (k i : ℕ) (p : Front) (cuts : List Bool)
+    → k ≤ 5 → map front_places all ≡ prefixes_of k → i < length all → p ≡ get_or all i p
+    → AreCuts vars f (length (front_places p) + 1) (front_places p) cuts → AreCutsFor vars f (map front_places (drop (i + 1) all)) cuts
 cuts-follow vars f all k i p cuts few e h q a =
-    cuts-go vars f (prefixes_of k) i (front_places p) (map front_places (drop (i + 1) all)) cuts (λ j l. fronts-follow k j few l) (ap (drop i) (sym e) ∙ drop-map front_places i all ∙ more-prefixes all i p h q) a
+    cuts-go vars f (prefixes_of k) i (front_places p) (map front_places (drop (i + 1) all)) cuts (λ j l. fronts-follow k j few l)
+    (ap (drop i) (sym e) ∙ drop-map front_places i all ∙ more-prefixes all i p h q) a
 
 -- what is read at a prefix's number
-pub read-is : (k : ℕ) (ss : List (List ℕ)) (p : List ℕ) (i : ℕ) (s : List ℕ) → k ≤ 5 → length ss ≡ length (prefixes_of k) → slice_get (prefixes_of k) i ≡ Some p → s ≡ get_or ss i s → s ≡ beside (prefixes_of k) ss p
+pub read-is : (k : ℕ) (ss : List (List ℕ)) (p : List ℕ) (i : ℕ) (s : List ℕ) → k ≤ 5 → length ss ≡ length (prefixes_of k)
+    → slice_get (prefixes_of k) i ≡ Some p → s ≡ get_or ss i s → s ≡ beside (prefixes_of k) ss p
 read-is k ss p i s few size h e =
     let l : i < length ss = omega (arith, slice_get_within (prefixes_of k) i p h, size) in
     sym (beside_at k ss p i s few h (slice_get-get_or ss i s l ∙ ap (λ z. Some z) (sym e)))

@@ -1,32 +1,29 @@
 -- The segments and lists that are found are the stages.
-use Rattle.std.proofs.Common.{◌≡◌, ◌⊎◌, inl, inr, Bool, false, ℕ, zero, suc, ◌+◌, ◌-◌, ◌<◌, ◌≤◌, true, List, [], ◌∷◌, length, map, get_or, take, ◌++◌, refl, sym, ◌∙◌, ap, subst, arith, if◌then◌else◌}
-use Rattle.std.specs.Prelude.{◌↔◌, All, Contains, IsTrue, Some, slice_get}
-use Rattle.std.proofs.lemmas.List.{append-nil, get_or-map, length-map, map-append}
-use Rattle.std.proofs.lemmas.List.Elements.{All-append, All-cons, All-head, All-nil, All-tail, Contains-get_or}
-use Rattle.std.proofs.lemmas.Option.{get_or_from_slice_get, slice_get-get_or, slice_get_within}
+use Rattle.std.proofs.Common.{◌≡◌, ◌⊎◌, Bool, false, ℕ, zero, suc, ◌+◌, ◌<◌, ◌≤◌, true, List, [], ◌∷◌, length, map, get_or, take, ◌++◌}
+use Rattle.std.proofs.Common.{refl, sym, ◌∙◌, ap, subst, arith}
+use Rattle.std.specs.Prelude.{◌↔◌, Contains, IsTrue}
+use Rattle.std.proofs.lemmas.List.{get_or-map, length-map}
+use Rattle.std.proofs.lemmas.List.Elements.{Contains-get_or}
 use Rattle.std.specs.List.{range_with_len}
-use Rattle.ln_algebra.specs.Vector.{In, same_vector, zeros}
+use Rattle.ln_algebra.specs.Vector.{zeros}
 use Rattle.ln_algebra.specs.Walk.{walk}
 use Rattle.ln_algebra.proofs.Expanded.Expansion.{length-zeros}
 use Rattle.ln_tree.specs.declared.shape.VarInfo.{VarInfo}
-use Rattle.ln_tree.specs.Exps.{IsAbove, Pairs, vector}
 use Rattle.ln_tree.specs.Variables.{is_laid_out}
 use Rattle.ln_order.specs.Orders.{IsOrderOf, orders_of}
-use Rattle.ln_order.specs.Prefixes.{IsPrefixOf, beside, joined, prefixes_of, segments_from}
+use Rattle.ln_order.specs.Prefixes.{prefixes_of}
 use Rattle.ln_order.specs.Sites.{ranking_of, sites_of}
 use Rattle.ln_order.proofs.Listing.OrdersLemmas.{member-is}
-use Rattle.ln_order.proofs.Listing.PrefixLemmas.{beside_at, front_number, prefix-is}
-use Rattle.ln_order.specs.Prefixes.{number_of_front}
 use Rattle.ln_order.proofs.Signs.RankingLemmas.{ranking-is}
 use Rattle.ln_poly.specs.Sparse.{AreBelow, IsPoly, Sparse}
-use Rattle.ln_stage.specs.FirstSight.{last_walk, list_along, prefix_walk, shared_count}
-use Rattle.ln_stage.specs.Kept.{all_rows, list_of, listed, numbers_by, rows, tallied_by}
-use Rattle.ln_stage.specs.Lists.{AreStageLists, Passes, all_covering, all_seen_behind, first_seen, stage_count, stage_weight}
+use Rattle.ln_stage.specs.FirstSight.{last_walk, prefix_walk, shared_count}
+use Rattle.ln_stage.specs.Kept.{all_rows, list_of, listed, rows}
+use Rattle.ln_stage.specs.Lists.{AreStageLists}
 use Rattle.ln_stage.specs.Segments.{AreSegments, IsSegmentOf}
 use Rattle.ln_stage.specs.SiteWalk.{prefix_walks, site_walk, site_walks}
 use Rattle.ln_stage.specs.StageList.{IsStageListOf}
-use Rattle.ln_stage.specs.Staged.{AreStagesOf, Staged, StopsListing, block_vector, count_numbers, lists_in, vectors_of}
-use Rattle.ln_stage.specs.Tally.{IsOver as IsPast, IsStoppedBy, Tallied, pairs_of}
+use Rattle.ln_stage.specs.Staged.{AreStagesOf, StopsListing}
+use Rattle.ln_stage.specs.Tally.{IsOver as IsPast, IsStoppedBy}
 use Rattle.ln_stage.specs.Visit.{segment_at}
 use Rattle.ln_stage.specs.declared.stop.StageStop.{StageStop}
 use Rattle.ln_stage.specs.declared.stop.StageStop.TheVariants.{Zero, Stages, NoMemory}
@@ -36,33 +33,40 @@ use Rattle.ln_stage.proofs.Results.KeptLemmas.{AreAlong, sized-in}
 use Rattle.ln_stage.proofs.Results.KeptLemmas as by_lists
 pub use Rattle.ln_stage.proofs.Monomials.MonomialLemmas.{poly-terms}
 use Rattle.ln_stage.proofs.Monomials.MonomialLemmas.{IsTerms, rows-monomials, rows-small}
-use Rattle.ln_stage.proofs.Walks.PairsLemmas.{above-pairs, vector-pairs_of}
 use Rattle.ln_stage.proofs.Walks.SiteWalkLemmas.{walks-are-segments}
 use Rattle.ln_stage.proofs.Monomials.StageLemmas.{walk-stages}
 use Rattle.ln_stage.proofs.Walks.StartLemmas.{rows-all}
 
 -- what is listed is the stage list
-list-stages : (k : ℕ) (vars : List VarInfo) (f : Sparse) (o : List ℕ) → is_laid_out k vars ≡ true → IsOrderOf k o → IsTerms f → AreBelow (length vars) f → IsStageListOf (length vars) (sites_of vars o) f (list_of vars f o)
+list-stages : (k : ℕ) (vars : List VarInfo) (f : Sparse) (o : List ℕ) → is_laid_out k vars ≡ true → IsOrderOf k o → IsTerms f
+    → AreBelow (length vars) f → IsStageListOf (length vars) (sites_of vars o) f (list_of vars f o)
 unfolding list_of listed
 list-stages k vars f o h p t b =
-    let w : IsStageListOf (length vars) (sites_of vars o) f (walk 128 (ranking_of vars o) (all_rows (length vars) f) (zeros (length vars))).0 = walk-stages (length vars) (sites_of vars o) f 128 (ranking_of vars o) (all_rows (length vars) f) (ranking-is k vars o h p.size p.each) (rows-monomials (length vars) f t b) (rows-small (length vars) f t.rising) in
-    let m : rows (length (zeros (length vars))) f (range_with_len 0 (length f)) ≡ all_rows (length vars) f = ap (λ z. rows z f (range_with_len 0 (length f))) (length-zeros (length vars)) ∙ rows-all (length vars) f in
-    let e : list_of vars f o ≡ (walk 128 (ranking_of vars o) (all_rows (length vars) f) (zeros (length vars))).0 = ap (λ z. (walk 128 (ranking_of vars o) z (zeros (length vars))).0) m in
+    let w : IsStageListOf (length vars) (sites_of vars o) f (walk 128 (ranking_of vars o) (all_rows (length vars) f) (zeros (length vars))).0 =
+    walk-stages (length vars) (sites_of vars o) f 128 (ranking_of vars o) (all_rows (length vars) f) (ranking-is k vars o h p.size p.each)
+    (rows-monomials (length vars) f t b) (rows-small (length vars) f t.rising) in
+    let m : rows (length (zeros (length vars))) f (range_with_len 0 (length f)) ≡ all_rows (length vars) f =
+    ap (λ z. rows z f (range_with_len 0 (length f))) (length-zeros (length vars)) ∙ rows-all (length vars) f in
+    let e : list_of vars f o ≡ (walk 128 (ranking_of vars o) (all_rows (length vars) f) (zeros (length vars))).0 =
+    ap (λ z. (walk 128 (ranking_of vars o) z (zeros (length vars))).0) m in
     subst (λ l. IsStageListOf (length vars) (sites_of vars o) f l) (sym e) w
 
 -- ---- the segment of each prefix
-segments-at : (n : ℕ) (vars : List VarInfo) (o : List ℕ) (f : Sparse) (i : ℕ) (ls : List (List (List ℕ))) (j m : ℕ) → m ≡ i + j → AreSegments n (sites_of vars o) f i ls → j < length ls → IsSegmentOf n (sites_of vars o) f m (get_or ls j [])
+segments-at : (n : ℕ) (vars : List VarInfo) (o : List ℕ) (f : Sparse) (i : ℕ) (ls : List (List (List ℕ))) (j m : ℕ) → m ≡ i + j
+    → AreSegments n (sites_of vars o) f i ls → j < length ls → IsSegmentOf n (sites_of vars o) f m (get_or ls j [])
 segments-at n vars o f i [] j m e a h = absurd (omega arith)
 segments-at n vars o f i (l ∷ ls) zero m e a h = let q : m ≡ i = omega (arith, e) in rw q a.0
 segments-at n vars o f i (l ∷ ls) (suc j) m e a h = segments-at n vars o f (suc i) ls j m (omega (arith, e)) a.1 (omega (arith, h))
 
-site-walks-at : (b : ℕ) (vars : List VarInfo) (ms : List (List ℕ)) (q o : List ℕ) (s j : ℕ) → j ≤ length o → get_or ((site_walk b vars ms q s).0 ∷ site_walks b vars ms (q ++ s ∷ []) o) j [] ≡ last_walk b vars ms q s (take j o)
+site-walks-at : (b : ℕ) (vars : List VarInfo) (ms : List (List ℕ)) (q o : List ℕ) (s j : ℕ) → j ≤ length o
+    → get_or ((site_walk b vars ms q s).0 ∷ site_walks b vars ms (q ++ s ∷ []) o) j [] ≡ last_walk b vars ms q s (take j o)
 site-walks-at b vars ms q [] s zero h = refl
 site-walks-at b vars ms q [] s (suc j) h = absurd (omega arith)
 site-walks-at b vars ms q (t ∷ o) s zero h = refl
 site-walks-at b vars ms q (t ∷ o) s (suc j) h = site-walks-at b vars ms (q ++ s ∷ []) o t j (omega (arith, h))
 
-walks-at : (b : ℕ) (vars : List VarInfo) (ms : List (List ℕ)) (o : List ℕ) (j : ℕ) → j ≤ length o → get_or (prefix_walks b vars ms o) j [] ≡ prefix_walk b vars ms (take j o)
+walks-at : (b : ℕ) (vars : List VarInfo) (ms : List (List ℕ)) (o : List ℕ) (j : ℕ) → j ≤ length o
+    → get_or (prefix_walks b vars ms o) j [] ≡ prefix_walk b vars ms (take j o)
 walks-at b vars ms o zero h = refl
 walks-at b vars ms [] (suc j) h = absurd (omega arith)
 walks-at b vars ms (s ∷ o) (suc j) h = site-walks-at b vars ms [] o s j (omega (arith, h))
@@ -92,9 +96,12 @@ module _ (k : ℕ) (vars : List VarInfo) (f : Sparse) (few : k ≤ 5) (laid : is
   unfolding segment_at
   the-segment o j p h =
       let ls : List (List (List ℕ)) = prefix_walks 127 vars (all_rows (length vars) f) o in
-      let a : AreSegments (length vars) (sites_of vars o) f 0 (prefix_walks 127 vars (all_rows (length vars) f) o) = walks-are-segments k vars f o laid p poly b in
-      let l : j < length (prefix_walks 127 vars (all_rows (length vars) f) o) = omega (arith, h, p.size, walks-length 127 vars (all_rows (length vars) f) [] o) in
-      let s : IsSegmentOf (length vars) (sites_of vars o) f j (get_or (prefix_walks 127 vars (all_rows (length vars) f) o) j []) = segments-at (length vars) vars o f 0 (prefix_walks 127 vars (all_rows (length vars) f) o) j j (omega arith) a l in
+      let a : AreSegments (length vars) (sites_of vars o) f 0 (prefix_walks 127 vars (all_rows (length vars) f) o) =
+      walks-are-segments k vars f o laid p poly b in
+      let l : j < length (prefix_walks 127 vars (all_rows (length vars) f) o) =
+      omega (arith, h, p.size, walks-length 127 vars (all_rows (length vars) f) [] o) in
+      let s : IsSegmentOf (length vars) (sites_of vars o) f j (get_or (prefix_walks 127 vars (all_rows (length vars) f) o) j []) =
+      segments-at (length vars) vars o f 0 (prefix_walks 127 vars (all_rows (length vars) f) o) j j (omega arith) a l in
       subst (IsSegmentOf (length vars) (sites_of vars o) f j) (walks-at 127 vars (all_rows (length vars) f) o j (omega (arith, h, p.size))) s
 
   -- the lists are along the segments
@@ -102,13 +109,15 @@ module _ (k : ℕ) (vars : List VarInfo) (f : Sparse) (few : k ≤ 5) (laid : is
   unfolding segment_at
   by-prefixes = record {
     few = few;
-    sized = λ p r. subst (λ q. Sized (length vars) (segment_at vars f q)) (sym r.front) (sized-in (length vars) (segment_at vars f (take r.places r.order)) (λ a i. ((the-segment r.order r.places r.full r.within).stages a i).0.over.size));
+    sized = λ p r. subst (λ q. Sized (length vars) (segment_at vars f q)) (sym r.front) (sized-in (length vars)
+        (segment_at vars f (take r.places r.order)) (λ a i. ((the-segment r.order r.places r.full r.within).stages a i).0.over.size));
     along = λ o p. list-along vars f o;
   }
 
   module _ (most heavy : ℕ) where
     -- why listing stops
-    pub stops : (x : StageStop) → (f ≡ [] → ⊥) → IsStoppedBy x (IsPast (by_lists.kept k vars f (list_of vars f) (segment_at vars f) by-prefixes most heavy) ⊎ (most < shared_count k (segment_at vars f) (prefixes_of k))) → StopsListing k vars f most heavy x
+    pub stops : (x : StageStop) → (f ≡ [] → ⊥) → IsStoppedBy x (IsPast (by_lists.kept k vars f (list_of vars f) (segment_at vars f) by-prefixes most heavy)
+        ⊎ (most < shared_count k (segment_at vars f) (prefixes_of k))) → StopsListing k vars f most heavy x
     stops Zero n s = absurd s
     stops Stages n s = (n, (found, found-lists, by_lists.past-passes k vars f (list_of vars f) (segment_at vars f) by-prefixes most heavy s))
     stops NoMemory n s = tt
@@ -122,7 +131,8 @@ module _ (k : ℕ) (vars : List VarInfo) (f : Sparse) (few : k ≤ 5) (laid : is
       numbers = by_lists.result-numbers k vars f (list_of vars f) (segment_at vars f) by-prefixes most heavy;
       segments = record {
         size = by_lists.segments-size k vars f (list_of vars f) (segment_at vars f) by-prefixes most heavy;
-        each = λ o j p h. subst (IsSegmentOf (length vars) (sites_of vars o) f j) (sym (by_lists.part-vectors k vars f (list_of vars f) (segment_at vars f) by-prefixes most heavy o j p h)) (the-segment o j p h);
+        each = λ o j p h. subst (IsSegmentOf (length vars) (sites_of vars o) f j)
+            (sym (by_lists.part-vectors k vars f (list_of vars f) (segment_at vars f) by-prefixes most heavy o j p h)) (the-segment o j p h);
         make = refl;
         numbers = by_lists.segments-within k vars f (list_of vars f) (segment_at vars f) by-prefixes most heavy;
       };

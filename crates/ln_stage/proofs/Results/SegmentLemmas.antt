@@ -1,5 +1,6 @@
 -- Segments: one after the other they are the list, and each is that of its prefix.
-use Rattle.std.proofs.Common.{◌≡◌, ◌≢◌, ◌⊎◌, inl, inr, ℕ, zero, suc, ◌+◌, ◌<◌, ◌≤◌, Bool, true, false, eqb, eq-eqb, cond, ◌&&◌, List, [], ◌∷◌, ◌++◌, length, map, get_or, take, refl, sym, ◌∙◌, ap, arith, add-one, Option, Some, None}
+use Rattle.std.proofs.Common.{◌≡◌, ◌≢◌, ◌⊎◌, inl, inr, ℕ, zero, suc, ◌+◌, ◌<◌, ◌≤◌, Bool, true, false, eqb, eq-eqb, cond, ◌&&◌, List, []}
+use Rattle.std.proofs.Common.{◌∷◌, ◌++◌, length, map, get_or, take, refl, sym, ◌∙◌, ap, arith, add-one, Option, Some, None}
 use Rattle.std.specs.Prelude.{filter, ◌||◌}
 use Rattle.std.specs.List.{range_with_len}
 use Rattle.std.proofs.lemmas.Bool.{and_parts, cases_eq, cases_lt, cases_order, eqb-true}
@@ -12,7 +13,8 @@ use Rattle.ln_order.specs.Prefixes.{joined}
 use Rattle.ln_order.specs.Sites.{place_in, sites_of}
 use Rattle.ln_poly.specs.Sparse.{Sparse}
 use Rattle.ln_stage.specs.StageList.{IsStageListOf, IsStageOf}
-use Rattle.ln_stage.specs.Segments.{AreSegments, Ends, IndicesBelow, IsSegmentOf, ListHasItsSegments, NeedsBelow, SegmentIsOfThePrefix, SegmentIsUnique, SegmentsMakeTheList, at_index, isnt_zero, part, reach, touches}
+use Rattle.ln_stage.specs.Segments.{AreSegments, Ends, IndicesBelow, IsSegmentOf, ListHasItsSegments, NeedsBelow, SegmentIsOfThePrefix}
+use Rattle.ln_stage.specs.Segments.{SegmentIsUnique, SegmentsMakeTheList, at_index, isnt_zero, part, reach, touches}
 
 -- ---- members
 pub in-left : (xs ys : List (List ℕ)) (a : List ℕ) → In xs a → In (xs ++ ys) a
@@ -29,12 +31,15 @@ in-cases [] ys a i = inr i
 in-cases (x ∷ xs) ys a (inl e) = inl (inl e)
 in-cases (x ∷ xs) ys a (inr i) = elim (in-cases xs ys a i) [ inl k ↦ inl (inr k) | inr k ↦ inr k ]
 
-order-join : (sites : Sites) (xs ys : List (List ℕ)) → IsInOrder sites xs → IsInOrder sites ys → ((a b : List ℕ) → In xs a → In ys b → Earlier sites a b) → IsInOrder sites (xs ++ ys)
+order-join : (sites : Sites) (xs ys : List (List ℕ)) → IsInOrder sites xs → IsInOrder sites ys
+    → ((a b : List ℕ) → In xs a → In ys b → Earlier sites a b) → IsInOrder sites (xs ++ ys)
 order-join sites [] ys s t h = t
-order-join sites (x ∷ xs) ys s t h = ((λ b i. elim (in-cases xs ys b i) [ inl k ↦ s.0 b k | inr k ↦ h x b (inl refl) k ]), order-join sites xs ys s.1 t (λ a b i j. h a b (inr i) j))
+order-join sites (x ∷ xs) ys s t h =
+    ((λ b i. elim (in-cases xs ys b i) [ inl k ↦ s.0 b k | inr k ↦ h x b (inl refl) k ]), order-join sites xs ys s.1 t (λ a b i j. h a b (inr i) j))
 
 -- two lists in order with the same members are one
-lists-same : (sites : Sites) → IndicesDiffer sites → (xs ys : List (List ℕ)) → IsInOrder sites xs → IsInOrder sites ys → ((a : List ℕ) → In xs a → In ys a) → ((a : List ℕ) → In ys a → In xs a) → xs ≡ ys
+lists-same : (sites : Sites) → IndicesDiffer sites → (xs ys : List (List ℕ)) → IsInOrder sites xs → IsInOrder sites ys
+    → ((a : List ℕ) → In xs a → In ys a) → ((a : List ℕ) → In ys a → In xs a) → xs ≡ ys
 lists-same sites d [] [] s t h k = refl
 lists-same sites d [] (y ∷ ys) s t h k = absurd (k y (inl refl))
 lists-same sites d (x ∷ xs) [] s t h k = absurd (h x (inl refl))
@@ -79,7 +84,8 @@ later-ends sites i (suc m) a b e f l h =
     let r = f.last m refl in
     r.4 (earlier-within sites i b a e.below h r.0 r.1 r.2 (omega (arith, l, r.3)))
 
-ends-earlier : (n : ℕ) (sites : Sites) (i j : ℕ) (a b : List ℕ) → IndicesDiffer sites → IsOver n sites a → IsOver n sites b → Ends sites i a → Ends sites j b → i < j → Earlier sites a b
+ends-earlier : (n : ℕ) (sites : Sites) (i j : ℕ) (a b : List ℕ) → IndicesDiffer sites → IsOver n sites a → IsOver n sites b → Ends sites i a
+    → Ends sites j b → i < j → Earlier sites a b
 ends-earlier n sites i j a b d over_a over_b e f l = go (earlier-total sites d n a b over_a over_b) where
   go : (a ≡ b) ⊎ (Earlier sites a b ⊎ Earlier sites b a) → Earlier sites a b
   go (inl q) = absurd (ends-order sites j i b f (rw q at e) l)
@@ -109,26 +115,32 @@ is_zero-is (suc e) h = cc
 
 touches-is : (sites : Sites) (a : List ℕ) (n i : ℕ) → touches sites a n i ≡ true → (v : ℕ) × (s : ℕ) × Of sites v s × (sites.index s ≡ i) × (get_or a v 0 ≢ 0)
 touches-is sites a zero i h = cc
-touches-is sites a (suc n) i h = go (touches-is sites a n i) (or_cases (at_index sites (sites.site n) i && isnt_zero (get_or a n 0)) (touches sites a n i) h) where
-  go : (touches sites a n i ≡ true → (v : ℕ) × (s : ℕ) × Of sites v s × (sites.index s ≡ i) × (get_or a v 0 ≢ 0)) → ((at_index sites (sites.site n) i && isnt_zero (get_or a n 0)) ≡ true) ⊎ (touches sites a n i ≡ true) → (v : ℕ) × (s : ℕ) × Of sites v s × (sites.index s ≡ i) × (get_or a v 0 ≢ 0)
-  go ih (inl k) =
-      let p = and_parts (at_index sites (sites.site n) i) (isnt_zero (get_or a n 0)) k in
-      let q = at_index-is sites (sites.site n) i p.0 in
-      (n, q.0, q.1, q.2, isnt_zero-is (get_or a n 0) p.1)
-  go ih (inr k) = ih k
+touches-is sites a (suc n) i h = go (touches-is sites a n i) (or_cases (at_index sites (sites.site n) i && isnt_zero (get_or a n 0)) (touches sites a n i) h)
+  where
+    go : (touches sites a n i ≡ true → (v : ℕ) × (s : ℕ) × Of sites v s × (sites.index s ≡ i) × (get_or a v 0 ≢ 0))
+        → ((at_index sites (sites.site n) i && isnt_zero (get_or a n 0)) ≡ true) ⊎ (touches sites a n i ≡ true)
+        → (v : ℕ) × (s : ℕ) × Of sites v s × (sites.index s ≡ i) × (get_or a v 0 ≢ 0)
+    go ih (inl k) =
+        let p = and_parts (at_index sites (sites.site n) i) (isnt_zero (get_or a n 0)) k in
+        let q = at_index-is sites (sites.site n) i p.0 in
+        (n, q.0, q.1, q.2, isnt_zero-is (get_or a n 0) p.1)
+    go ih (inr k) = ih k
 
 touches-not : (sites : Sites) (a : List ℕ) (n i : ℕ) → touches sites a n i ≡ false → (v s : ℕ) → v < n → Of sites v s → sites.index s ≡ i → get_or a v 0 ≡ 0
 touches-not sites a zero i h v s l o e = absurd (omega arith)
 touches-not sites a (suc n) i h v s l o e =
-    go (touches-not sites a n i (or_not (at_index sites (sites.site n) i && isnt_zero (get_or a n 0)) (touches sites a n i) h).1 v s) (or_not (at_index sites (sites.site n) i && isnt_zero (get_or a n 0)) (touches sites a n i) h).0 (cases_lt v n) where
-      go : (v < n → Of sites v s → sites.index s ≡ i → get_or a v 0 ≡ 0) → (at_index sites (sites.site n) i && isnt_zero (get_or a n 0)) ≡ false → (v < n) ⊎ (n ≤ v) → get_or a v 0 ≡ 0
-      go ih k (inl m) = ih m o e
-      go ih k (inr m) =
-          let q : n ≡ v = omega (arith, l, m) in
-          let there : sites.site n ≡ Some s = ap (λ z. sites.site z) q ∙ o in
-          let t : at_index sites (sites.site n) i ≡ true = rw there (eq-eqb (sites.index s) i e) in
-          let z : isnt_zero (get_or a n 0) ≡ false = rw t at k in
-          ap (λ y. get_or a y 0) (sym q) ∙ is_zero-is (get_or a n 0) z
+    go (touches-not sites a n i (or_not (at_index sites (sites.site n) i && isnt_zero (get_or a n 0)) (touches sites a n i) h).1 v s)
+    (or_not (at_index sites (sites.site n) i && isnt_zero (get_or a n 0)) (touches sites a n i) h).0 (cases_lt v n)
+  where
+    go : (v < n → Of sites v s → sites.index s ≡ i → get_or a v 0 ≡ 0)
+        → (at_index sites (sites.site n) i && isnt_zero (get_or a n 0)) ≡ false → (v < n) ⊎ (n ≤ v) → get_or a v 0 ≡ 0
+    go ih k (inl m) = ih m o e
+    go ih k (inr m) =
+        let q : n ≡ v = omega (arith, l, m) in
+        let there : sites.site n ≡ Some s = ap (λ z. sites.site z) q ∙ o in
+        let t : at_index sites (sites.site n) i ≡ true = rw there (eq-eqb (sites.index s) i e) in
+        let z : isnt_zero (get_or a n 0) ≡ false = rw t at k in
+        ap (λ y. get_or a y 0) (sym q) ∙ is_zero-is (get_or a n 0) z
 
 reach-ends : (sites : Sites) (n : ℕ) (a : List ℕ) (k : ℕ) → length a ≡ n → NeedsBelow sites k a → Ends sites (reach sites n k a) a
 reach-ends sites n a zero size h = record { below = h; last = λ i e. absurd (omega (arith, e)) }
@@ -155,14 +167,17 @@ all-below sites k a h v s o l = absurd (omega (arith, l, h v s o))
 
 -- ---- one segment after the other
 module _ (n : ℕ) (sites : Sites) (f : Sparse) (d : IndicesDiffer sites) where
-  joined-are : (j : ℕ) (lists : List (List (List ℕ))) (a : List ℕ) → AreSegments n sites f j lists → In (joined lists) a → (i : ℕ) × (j ≤ i) × IsStageOf n sites f a × Ends sites i a
+  joined-are : (j : ℕ) (lists : List (List (List ℕ))) (a : List ℕ) → AreSegments n sites f j lists → In (joined lists) a
+      → (i : ℕ) × (j ≤ i) × IsStageOf n sites f a × Ends sites i a
   joined-are j [] a h i = absurd i
   joined-are j (list ∷ lists) a h i = go (in-cases list (joined lists) a i) (joined-are (suc j) lists a h.1) where
-    go : In list a ⊎ In (joined lists) a → (In (joined lists) a → (i : ℕ) × (suc j ≤ i) × IsStageOf n sites f a × Ends sites i a) → (i : ℕ) × (j ≤ i) × IsStageOf n sites f a × Ends sites i a
+    go : In list a ⊎ In (joined lists) a → (In (joined lists) a → (i : ℕ) × (suc j ≤ i) × IsStageOf n sites f a × Ends sites i a)
+        → (i : ℕ) × (j ≤ i) × IsStageOf n sites f a × Ends sites i a
     go (inl m) ih = let r = h.0.stages a m in (j, omega arith, r.0, r.1)
     go (inr m) ih = let r = ih m in (r.0, omega (arith, r.1), r.2, r.3)
 
-  in-joined : (j : ℕ) (lists : List (List (List ℕ))) (a : List ℕ) (i : ℕ) → AreSegments n sites f j lists → IsStageOf n sites f a → Ends sites i a → j ≤ i → i < j + length lists → In (joined lists) a
+  in-joined : (j : ℕ) (lists : List (List (List ℕ))) (a : List ℕ) (i : ℕ) → AreSegments n sites f j lists → IsStageOf n sites f a
+      → Ends sites i a → j ≤ i → i < j + length lists → In (joined lists) a
   in-joined j [] a i h s e l m = absurd (omega arith)
   in-joined j (list ∷ lists) a i h s e l m = go (cases_eq i j) (in-joined (suc j) lists a i h.1 s e) where
     go : (i ≡ j) ⊎ (i ≡ j → ⊥) → (suc j ≤ i → i < suc j + length lists → In (joined lists) a) → In (list ++ joined lists) a
@@ -178,10 +193,12 @@ module _ (n : ℕ) (sites : Sites) (f : Sparse) (d : IndicesDiffer sites) where
       let q = joined-are (suc j) lists b h.1 k in
       ends-earlier n sites j q.0 a b d p.0.over q.2.over p.1 q.3 (omega (arith, q.1)))
 
-  makes-list : (k : ℕ) (lists : List (List (List ℕ))) → IndicesBelow sites k → length lists ≡ suc k → AreSegments n sites f 0 lists → IsStageListOf n sites f (joined lists)
+  makes-list : (k : ℕ) (lists : List (List (List ℕ))) → IndicesBelow sites k → length lists ≡ suc k → AreSegments n sites f 0 lists
+      → IsStageListOf n sites f (joined lists)
   makes-list k lists b size h = record {
     stages = λ a i. (joined-are 0 lists a h i).2;
-    all = λ a s. in-joined 0 lists a (reach sites n k a) h s (reach-ends sites n a k s.over.size (all-below sites k a b)) (omega arith) (omega (arith, reach-small sites n k a, size));
+    all = λ a s. in-joined 0 lists a (reach sites n k a) h s (reach-ends sites n a k s.over.size (all-below sites k a b)) (omega arith)
+        (omega (arith, reach-small sites n k a, size));
     in_order = joined-order 0 lists h;
   }
 
@@ -189,7 +206,8 @@ module _ (n : ℕ) (sites : Sites) (f : Sparse) (d : IndicesDiffer sites) where
   part-in : (test : List ℕ → Bool) (list : List (List ℕ)) (a : List ℕ) → In list a → test a ≡ true → In (filter test list) a
   part-in test [] a i t = absurd i
   part-in test (x ∷ list) a i t = go (test x) refl i (part-in test list a) where
-    go : (b : Bool) → test x ≡ b → (a ≡ x) ⊎ In list a → (In list a → test a ≡ true → In (filter test list) a) → In (cond b (x ∷ filter test list) (filter test list)) a
+    go : (b : Bool) → test x ≡ b → (a ≡ x) ⊎ In list a → (In list a → test a ≡ true → In (filter test list) a)
+        → In (cond b (x ∷ filter test list) (filter test list)) a
     go true e (inl q) ih = inl q
     go true e (inr m) ih = inr (ih m t)
     go false e (inl q) ih = absurd (let r : true ≡ false = sym t ∙ ap test q ∙ e in cc)
@@ -198,7 +216,8 @@ module _ (n : ℕ) (sites : Sites) (f : Sparse) (d : IndicesDiffer sites) where
   in-part : (test : List ℕ → Bool) (list : List (List ℕ)) (a : List ℕ) → In (filter test list) a → In list a × (test a ≡ true)
   in-part test [] a i = absurd i
   in-part test (x ∷ list) a i = go (test x) refl i (in-part test list a) where
-    go : (b : Bool) → test x ≡ b → In (cond b (x ∷ filter test list) (filter test list)) a → (In (filter test list) a → In list a × (test a ≡ true)) → In (x ∷ list) a × (test a ≡ true)
+    go : (b : Bool) → test x ≡ b → In (cond b (x ∷ filter test list) (filter test list)) a
+        → (In (filter test list) a → In list a × (test a ≡ true)) → In (x ∷ list) a × (test a ≡ true)
     go true e (inl q) ih = (inl q, ap test q ∙ e)
     go true e (inr m) ih = let r = ih m in (inr r.0, r.1)
     go false e m ih = let r = ih m in (inr r.0, r.1)
@@ -228,7 +247,8 @@ module _ (n : ℕ) (sites : Sites) (f : Sparse) (d : IndicesDiffer sites) where
           let s = l.stages a p.0 in
           let q : reach sites n k a ≡ j = eqb-true (reach sites n k a) j p.1 in
           (s, rw q at (ends-at a s));
-      all = λ a s e. part-in (λ u. eqb (reach sites n k u) j) list a (l.all a s) (eq-eqb (reach sites n k a) j (one-end a (reach sites n k a) j (ends-at a s) e));
+      all =
+          λ a s e. part-in (λ u. eqb (reach sites n k u) j) list a (l.all a s) (eq-eqb (reach sites n k a) j (one-end a (reach sites n k a) j (ends-at a s) e));
       in_order = part-order (λ u. eqb (reach sites n k u) j) list l.in_order;
     }
 
@@ -244,10 +264,14 @@ module _ (n : ℕ) (sites : Sites) (f : Sparse) (d : IndicesDiffer sites) where
         let q : length (map (part sites n k list) (range_with_len (j + 1) m)) ≡ m = rw add-one (parts-length m (suc j)) in
         ap suc q
 
-    has-segments : AreSegments n sites f 0 (map (part sites n k list) (range_with_len 0 (suc k))) × (joined (map (part sites n k list) (range_with_len 0 (suc k))) ≡ list)
+    has-segments : AreSegments n sites f 0 (map (part sites n k list) (range_with_len 0 (suc k)))
+        × (joined (map (part sites n k list) (range_with_len 0 (suc k))) ≡ list)
     has-segments =
-        let w = makes-list k (map (part sites n k list) (range_with_len 0 (suc k))) b (parts-length (suc k) 0) (parts-from (suc k) 0) in
-        (parts-from (suc k) 0, lists-same sites d (joined (map (part sites n k list) (range_with_len 0 (suc k)))) list w.in_order l.in_order (λ a i. l.all a (w.stages a i)) (λ a i. w.all a (l.stages a i)))
+        let w = makes-list k (map (part sites n k list) (range_with_len 0 (suc k))) b (parts-length (suc k) 0) (parts-from (suc k) 0) in (
+          parts-from (suc k) 0,
+          lists-same sites d (joined (map (part sites n k list) (range_with_len 0 (suc k)))) list w.in_order l.in_order
+              (λ a i. l.all a (w.stages a i)) (λ a i. w.all a (l.stages a i)),
+        )
 
 pub segments-make-the-list : SegmentsMakeTheList
 segments-make-the-list n k sites f lists d b size h = makes-list n sites f d k lists b size h
@@ -256,7 +280,8 @@ pub list-has-its-segments : ListHasItsSegments
 list-has-its-segments n k sites f list d b l = has-segments n sites f d k list b l
 
 pub segment-is-unique : SegmentIsUnique
-segment-is-unique n j sites f xs ys d s t = lists-same sites d xs ys s.in_order t.in_order (λ a i. (let r = s.stages a i in t.all a r.0 r.1)) (λ a i. (let r = t.stages a i in s.all a r.0 r.1))
+segment-is-unique n j sites f xs ys d s t =
+    lists-same sites d xs ys s.in_order t.in_order (λ a i. (let r = s.stages a i in t.all a r.0 r.1)) (λ a i. (let r = t.stages a i in s.all a r.0 r.1))
 
 -- ---- two orders with the same first places
 record Agree (j : ℕ) (s t : Sites) : Type 0 where
@@ -289,7 +314,10 @@ module _ (n j : ℕ) (s t : Sites) (g : Agree j s t) where
   below-there a h v x o l = h v x (of-there v x o) ((agree-back j s t g).far x l)
 
   ends-there : (a : List ℕ) → Ends s j a → Ends t j a
-  ends-there a e = record { below = below-there a e.below; last = λ i q. (let r = e.last i q in (r.0, r.1, of-here r.0 r.1 r.2, g.near r.1 (omega (arith, r.3, q)) ∙ r.3, r.4)) }
+  ends-there a e = record {
+    below = below-there a e.below;
+    last = λ i q. (let r = e.last i q in (r.0, r.1, of-here r.0 r.1 r.2, g.near r.1 (omega (arith, r.3, q)) ∙ r.3, r.4));
+  }
 
   earlier-there : (a b : List ℕ) → NeedsBelow s j a → NeedsBelow s j b → Earlier s a b → Earlier t a b
   earlier-there a b within_a within_b (v, x, o, l, same) = (v, x, of-here v x o, l, λ w r. here w r (cases_lt (s.index x) j)) where
@@ -314,7 +342,8 @@ module _ (n j : ℕ) (s t : Sites) (g : Agree j s t) (f : Sparse) where
     covered = st.covered;
     before_cut = λ b over last earlier.
         let w : NeedsBelow t j b = earlier-within t j b a (below-there n j s t g a h) earlier in
-        st.before_cut b (over-there n j t s (agree-back j s t g) b over) last (earlier-there n j t s (agree-back j s t g) b a w (below-there n j s t g a h) earlier);
+        st.before_cut b (over-there n j t s (agree-back j s t g) b over) last
+        (earlier-there n j t s (agree-back j s t g) b a w (below-there n j s t g a h) earlier);
   }
 
   order-there : (list : List (List ℕ)) → ((a : List ℕ) → In list a → NeedsBelow s j a) → IsInOrder s list → IsInOrder t list
@@ -328,12 +357,13 @@ segment-there n j s t f list g h = record {
   in_order = order-there n j s t g f list (λ a i. (h.stages a i).1.below) h.in_order;
 }
 
--- where a site stands in the first places
+-- where a site is among the first places
 front-near : (j : ℕ) (o : List ℕ) (s : ℕ) → place_in o s < j → place_in (take j o) s ≡ place_in o s
 front-near zero o s l = absurd (omega arith)
 front-near (suc j) [] s l = refl
 front-near (suc j) (x ∷ o) s l = go (eqb x s) l (front-near j o s) where
-  go : (b : Bool) → cond b 0 (suc (place_in o s)) < suc j → (place_in o s < j → place_in (take j o) s ≡ place_in o s) → cond b 0 (suc (place_in (take j o) s)) ≡ cond b 0 (suc (place_in o s))
+  go : (b : Bool) → cond b 0 (suc (place_in o s)) < suc j → (place_in o s < j → place_in (take j o) s ≡ place_in o s)
+      → cond b 0 (suc (place_in (take j o) s)) ≡ cond b 0 (suc (place_in o s))
   go true l ih = refl
   go false l ih = ap suc (ih (omega (arith, l)))
 

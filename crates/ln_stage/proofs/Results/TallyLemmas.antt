@@ -1,5 +1,6 @@
 -- Numbers of blocks, and the blocks with one more.
-use Rattle.std.proofs.Common.{◌≡◌, ℕ, suc, ◌+◌, ◌<◌, ◌≤◌, Bool, true, false, cond, not, eqb, eq-eqb, List, [], ◌∷◌, length, map, Some, None, refl, ap, arith, if◌then◌else◌}
+use Rattle.std.proofs.Common.{◌≡◌, ℕ, suc, ◌+◌, ◌<◌, ◌≤◌, Bool, true, false, cond, not, eqb, eq-eqb, List, [], ◌∷◌, length, map, Some, None}
+use Rattle.std.proofs.Common.{refl, ap, arith, if◌then◌else◌}
 use Rattle.std.specs.Prelude.{position, nat_lt, ◌==◌}
 use Rattle.std.proofs.lemmas.Bool.Decides.{nat_tests}
 use Rattle.indexmap.specs.IndexMap.{insert_entry}
@@ -41,7 +42,9 @@ position-none bs a e = go (nat_lt (number_in bs a) (length bs)) refl e where
 pub keys-insert : (es : List (Pairs × Unit {0})) (a : Pairs) (v : Unit {0}) → map (λ e. e.0) (insert_entry same_pairs es a v) ≡ put_exps (map (λ e. e.0) es) a
 keys-insert [] a v = refl
 keys-insert (e ∷ es) a v = go (same_pairs a e.0) (keys-insert es a v) where
-  go : (t : Bool) → map (λ x. x.0) (insert_entry same_pairs es a v) ≡ put_exps (map (λ x. x.0) es) a → map (λ x. x.0) (if t then (e.0, v) ∷ es else e ∷ insert_entry same_pairs es a v) ≡ (if t then e.0 ∷ map (λ x. x.0) es else e.0 ∷ put_exps (map (λ x. x.0) es) a)
+  go : (t : Bool) → map (λ x. x.0) (insert_entry same_pairs es a v) ≡ put_exps (map (λ x. x.0) es) a
+      → map (λ x. x.0) (if t then (e.0, v) ∷ es else e ∷ insert_entry same_pairs es a v)
+      ≡ (if t then e.0 ∷ map (λ x. x.0) es else e.0 ∷ put_exps (map (λ x. x.0) es) a)
   go true ih = refl
   go false ih = ap (λ z. e.0 ∷ z) ih
 
@@ -72,7 +75,8 @@ numbered-new u t cover a exps e k h =
     let n : number_in u.exps a ≡ length u.exps = position-none u.exps a h in
     rw (← e, k, eq-eqb (number_in u.exps a) (length u.exps) n) refl
 
-pub over-new : (u t : Tallied) (cover : ℕ) (a : Pairs) → u ≡ t → position (same_pairs a) u.exps ≡ None → u.heavy < u.weight + cover → t.heavy < (if number_in t.exps a == length t.exps then t.weight + cover else t.weight)
+pub over-new : (u t : Tallied) (cover : ℕ) (a : Pairs) → u ≡ t → position (same_pairs a) u.exps ≡ None → u.heavy < u.weight + cover
+    → t.heavy < (if number_in t.exps a == length t.exps then t.weight + cover else t.weight)
 over-new u t cover a e h l =
     let n : number_in u.exps a ≡ length u.exps = position-none u.exps a h in
     rw (← e, eq-eqb (number_in u.exps a) (length u.exps) n) l

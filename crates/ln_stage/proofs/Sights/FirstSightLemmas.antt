@@ -1,5 +1,6 @@
 -- First sight through segments, and the count.
-use Rattle.std.proofs.Common.{◌≡◌, ℕ, ◌≤◌, zero, suc, ◌+◌, ◌-◌, ◌*◌, Bool, true, false, eq-eqb, List, [], ◌∷◌, ◌++◌, append_assoc, length, length-append, map, refl, sym, ◌∙◌, ap, subst, arith, if◌then◌else◌}
+use Rattle.std.proofs.Common.{◌≡◌, ℕ, ◌≤◌, zero, suc, ◌+◌, ◌-◌, ◌*◌, Bool, true, false, eq-eqb, List, [], ◌∷◌, ◌++◌, append_assoc, length}
+use Rattle.std.proofs.Common.{length-append, map, refl, sym, ◌∙◌, ap, subst, arith, if◌then◌else◌}
 use Rattle.std.specs.Prelude.{◌||◌}
 use Rattle.std.proofs.lemmas.List.{append-nil, length-map}
 use Rattle.std.proofs.Math.Nat.{add-mul}
@@ -108,10 +109,11 @@ along-map : (g : ℕ → ℕ) (segment : List ℕ → List (List ℕ)) (o : List
 along-map g segment [] = refl
 along-map g segment (x ∷ o) = ap (λ z. segment [] ++ z) (along-map g (λ p. segment (g x ∷ p)) o)
 
-along-behind : (segment : List ℕ → List (List ℕ)) (x : ℕ) (o : List ℕ) → list_along segment (behind x o) ≡ segment [] ++ list_along (λ p. segment (behind x p)) o
+along-behind : (segment : List ℕ → List (List ℕ)) (x : ℕ) (o : List ℕ)
+    → list_along segment (behind x o) ≡ segment [] ++ list_along (λ p. segment (behind x p)) o
 along-behind segment x o = ap (λ z. segment [] ++ z) (along-map (past x) (λ p. segment (x ∷ p)) o)
 
--- there is an order, and each of those behind a site has a first site
+-- there is an order, and each of those after a site has a first site
 IsHeaded : List (List ℕ) → Type 0
 IsHeaded os = (x : ℕ) × (o : List ℕ) × (us : List (List ℕ)) × (os ≡ (x ∷ o) ∷ us)
 
@@ -140,30 +142,39 @@ module _ (C : List (List ℕ)) (segment : List ℕ → List (List ℕ)) where
   listed-behind x o = ap (λ z. C ++ z) (along-behind segment x o) ∙ sym (append_assoc C (segment []) (list_along (λ p. segment (behind x p)) o))
 
   -- the first list brings all that the lists begin with
-  head-brings : (bs : List (List ℕ)) (os : List (List ℕ)) → IsHeaded os → all_seen_behind bs (map (λ o. C ++ list_along segment o) os) ≡ all_seen_behind (seen_behind bs (C ++ segment [])) (map (λ o. C ++ list_along segment o) os)
+  head-brings : (bs : List (List ℕ)) (os : List (List ℕ)) → IsHeaded os → all_seen_behind bs (map (λ o. C ++ list_along segment o) os)
+      ≡ all_seen_behind (seen_behind bs (C ++ segment [])) (map (λ o. C ++ list_along segment o) os)
   unfolding IsHeaded
   head-brings bs os (x, o, us, e) = rw e (ap (λ z. all_seen_behind z (map (λ o. C ++ list_along segment o) us)) first) where
     whole : C ++ (segment [] ++ list_along (λ p. segment (x ∷ p)) o) ≡ (C ++ segment []) ++ list_along (λ p. segment (x ∷ p)) o
     whole = sym (append_assoc C (segment []) (list_along (λ p. segment (x ∷ p)) o))
 
-    split : (cs : List (List ℕ)) → seen_behind cs (C ++ (segment [] ++ list_along (λ p. segment (x ∷ p)) o)) ≡ seen_behind (seen_behind cs (C ++ segment [])) (list_along (λ p. segment (x ∷ p)) o)
+    split : (cs : List (List ℕ)) → seen_behind cs (C ++ (segment [] ++ list_along (λ p. segment (x ∷ p)) o))
+        ≡ seen_behind (seen_behind cs (C ++ segment [])) (list_along (λ p. segment (x ∷ p)) o)
     split cs = ap (seen_behind cs) whole ∙ behind-join cs (C ++ segment []) (list_along (λ p. segment (x ∷ p)) o)
 
-    first : seen_behind bs (C ++ (segment [] ++ list_along (λ p. segment (x ∷ p)) o)) ≡ seen_behind (seen_behind bs (C ++ segment [])) (C ++ (segment [] ++ list_along (λ p. segment (x ∷ p)) o))
-    first = split bs ∙ ap (λ z. seen_behind z (list_along (λ p. segment (x ∷ p)) o)) (sym (behind-known (seen_behind bs (C ++ segment [])) (C ++ segment []) (all-seen bs (C ++ segment [])))) ∙ sym (split (seen_behind bs (C ++ segment [])))
+    first : seen_behind bs (C ++ (segment [] ++ list_along (λ p. segment (x ∷ p)) o))
+        ≡ seen_behind (seen_behind bs (C ++ segment [])) (C ++ (segment [] ++ list_along (λ p. segment (x ∷ p)) o))
+    first = split bs ∙ ap (λ z. seen_behind z (list_along (λ p. segment (x ∷ p)) o))
+        (sym (behind-known (seen_behind bs (C ++ segment [])) (C ++ segment []) (all-seen bs (C ++ segment []))))
+        ∙ sym (split (seen_behind bs (C ++ segment [])))
 
 Claim : ℕ → Type 0
-Claim k = (C : List (List ℕ)) (segment : List ℕ → List (List ℕ)) (bs : List (List ℕ)) → AllHas bs C → all_seen_behind bs (map (λ o. C ++ list_along segment o) (orders_of k)) ≡ all_seen_behind bs (map segment (prefixes_of k))
+Claim k = (C : List (List ℕ)) (segment : List ℕ → List (List ℕ)) (bs : List (List ℕ)) → AllHas bs C
+    → all_seen_behind bs (map (λ o. C ++ list_along segment o) (orders_of k)) ≡ all_seen_behind bs (map segment (prefixes_of k))
 
-seen-firsts : (k : ℕ) → Claim k → (C : List (List ℕ)) (segment : List ℕ → List (List ℕ)) (n : ℕ) (bs : List (List ℕ)) → AllHas bs (C ++ segment []) → all_seen_behind bs (map (λ o. C ++ list_along segment o) (firsts n (orders_of k))) ≡ all_seen_behind bs (map segment (firsts n (prefixes_of k)))
+seen-firsts : (k : ℕ) → Claim k → (C : List (List ℕ)) (segment : List ℕ → List (List ℕ)) (n : ℕ) (bs : List (List ℕ)) → AllHas bs (C ++ segment [])
+    → all_seen_behind bs (map (λ o. C ++ list_along segment o) (firsts n (orders_of k))) ≡ all_seen_behind bs (map segment (firsts n (prefixes_of k)))
 unfolding Claim
 seen-firsts k claim C segment zero bs h = refl
 seen-firsts k claim C segment (suc n) bs h =
     let F : List ℕ → List (List ℕ) = λ o. C ++ list_along segment o in
     let ih = seen-firsts k claim C segment n bs h in
     let X : List (List ℕ) = all_seen_behind bs (map segment (firsts n (prefixes_of k))) in
-    let left : map F (map (behind n) (orders_of k)) ≡ map (λ o. (C ++ segment []) ++ list_along (λ p. segment (behind n p)) o) (orders_of k) = map-same F (behind n) (λ o. (C ++ segment []) ++ list_along (λ p. segment (behind n p)) o) (orders_of k) (listed-behind C segment n) in
-    let right : map segment (map (behind n) (prefixes_of k)) ≡ map (λ p. segment (behind n p)) (prefixes_of k) = map-same segment (behind n) (λ p. segment (behind n p)) (prefixes_of k) (λ p. refl) in
+    let left : map F (map (behind n) (orders_of k)) ≡ map (λ o. (C ++ segment []) ++ list_along (λ p. segment (behind n p)) o) (orders_of k) =
+    map-same F (behind n) (λ o. (C ++ segment []) ++ list_along (λ p. segment (behind n p)) o) (orders_of k) (listed-behind C segment n) in
+    let right : map segment (map (behind n) (prefixes_of k)) ≡ map (λ p. segment (behind n p)) (prefixes_of k) =
+    map-same segment (behind n) (λ p. segment (behind n p)) (prefixes_of k) (λ p. refl) in
     ap (all_seen_behind bs) (map-join F (firsts n (orders_of k)) (map (behind n) (orders_of k)))
     ∙ lists-join bs (map F (firsts n (orders_of k))) (map F (map (behind n) (orders_of k)))
     ∙ ap (λ z. all_seen_behind z (map F (map (behind n) (orders_of k)))) ih
@@ -178,7 +189,8 @@ unfolding Claim
 claim zero C segment bs h = behind-join bs C (segment []) ∙ ap (λ z. seen_behind z (segment [])) (behind-known bs C h)
 claim (suc k) C segment bs h =
     let bs' : List (List ℕ) = seen_behind bs (C ++ segment []) in
-    let known : seen_behind bs (C ++ segment []) ≡ seen_behind bs (segment []) = behind-join bs C (segment []) ∙ ap (λ z. seen_behind z (segment [])) (behind-known bs C h) in
+    let known : seen_behind bs (C ++ segment []) ≡ seen_behind bs (segment []) =
+    behind-join bs C (segment []) ∙ ap (λ z. seen_behind z (segment [])) (behind-known bs C h) in
     let ck : Claim k = claim k in
     head-brings C segment bs (firsts (suc k) (orders_of k)) (orders-headed k)
     ∙ seen-firsts k ck C segment (suc k) bs' (all-seen bs (C ++ segment []))
@@ -190,40 +202,61 @@ count-join [] ms = omega arith
 count-join (l ∷ ls) ms = omega (arith, count-join ls ms)
 
 -- each list begins with these
-count-heads : (C : List (List ℕ)) (L : List ℕ → List (List ℕ)) (os : List (List ℕ)) → stage_count (map (λ o. C ++ L o) os) ≡ length os * length C + stage_count (map L os)
+count-heads : (C : List (List ℕ)) (L : List ℕ → List (List ℕ)) (os : List (List ℕ))
+    → stage_count (map (λ o. C ++ L o) os) ≡ length os * length C + stage_count (map L os)
 count-heads C L [] = omega arith
 count-heads C L (o ∷ os) =
     let ih = count-heads C L os in
     let m : suc (length os) * length C ≡ length C + length os * length C = omega (arith, add-mul 1 (length os) (length C)) in
     omega (arith, ih, m, length-append C (L o))
 
-shares-join : (k : ℕ) (segment : List ℕ → List (List ℕ)) (ps qs : List (List ℕ)) → shared_count k segment (ps ++ qs) ≡ shared_count k segment ps + shared_count k segment qs
+shares-join : (k : ℕ) (segment : List ℕ → List (List ℕ)) (ps qs : List (List ℕ))
+    → shared_count k segment (ps ++ qs) ≡ shared_count k segment ps + shared_count k segment qs
 shares-join k segment [] qs = omega arith
 shares-join k segment (p ∷ ps) qs = omega (arith, shares-join k segment ps qs)
 
-shares-behind : (k : ℕ) (segment : List ℕ → List (List ℕ)) (x : ℕ) (ps : List (List ℕ)) → shared_count (suc k) segment (map (behind x) ps) ≡ shared_count k (λ p. segment (behind x p)) ps
+shares-behind : (k : ℕ) (segment : List ℕ → List (List ℕ)) (x : ℕ) (ps : List (List ℕ))
+    → shared_count (suc k) segment (map (behind x) ps) ≡ shared_count k (λ p. segment (behind x p)) ps
 shares-behind k segment x [] = refl
 shares-behind k segment x (p ∷ ps) =
     let ih = shares-behind k segment x ps in
     let q : suc k - length (behind x p) ≡ k - length p = omega (arith, length-map p (past x)) in
-    ap (λ n. length (orders_of n) * length (segment (behind x p)) + shared_count (suc k) segment (map (behind x) ps)) q ∙ ap (λ n. length (orders_of (k - length p)) * length (segment (behind x p)) + n) ih
+    ap (λ n. length (orders_of n) * length (segment (behind x p)) + shared_count (suc k) segment (map (behind x) ps)) q
+    ∙ ap (λ n. length (orders_of (k - length p)) * length (segment (behind x p)) + n) ih
 
 CountClaim : ℕ → Type 0
 CountClaim k = (segment : List ℕ → List (List ℕ)) → stage_count (map (list_along segment) (orders_of k)) ≡ shared_count k segment (prefixes_of k)
 
-count-firsts : (k : ℕ) → CountClaim k → (segment : List ℕ → List (List ℕ)) (n : ℕ) → stage_count (map (list_along segment) (firsts n (orders_of k))) ≡ length (firsts n (orders_of k)) * length (segment []) + shared_count (suc k) segment (firsts n (prefixes_of k))
+count-firsts : (k : ℕ) → CountClaim k → (segment : List ℕ → List (List ℕ)) (n : ℕ) → stage_count (map (list_along segment) (firsts n (orders_of k)))
+    ≡ length (firsts n (orders_of k)) * length (segment []) + shared_count (suc k) segment (firsts n (prefixes_of k))
 unfolding CountClaim
 count-firsts k c segment zero = omega arith
 count-firsts k c segment (suc n) =
     let ih = count-firsts k c segment n in
     let L : List ℕ → List (List ℕ) = list_along (λ p. segment (behind n p)) in
-    let split : stage_count (map (list_along segment) (firsts n (orders_of k) ++ map (behind n) (orders_of k))) ≡ stage_count (map (list_along segment) (firsts n (orders_of k))) + stage_count (map (list_along segment) (map (behind n) (orders_of k))) =
-    ap stage_count (map-join (list_along segment) (firsts n (orders_of k)) (map (behind n) (orders_of k))) ∙ count-join (map (list_along segment) (firsts n (orders_of k))) (map (list_along segment) (map (behind n) (orders_of k))) in
-    let last : stage_count (map (list_along segment) (map (behind n) (orders_of k))) ≡ length (orders_of k) * length (segment []) + stage_count (map (list_along (λ p. segment (behind n p))) (orders_of k)) =
-    ap stage_count (map-same (list_along segment) (behind n) (λ o. segment [] ++ list_along (λ p. segment (behind n p)) o) (orders_of k) (along-behind segment n)) ∙ count-heads (segment []) (list_along (λ p. segment (behind n p))) (orders_of k) in
-    let size : length (firsts n (orders_of k) ++ map (behind n) (orders_of k)) ≡ length (firsts n (orders_of k)) + length (orders_of k) = omega (arith, length-append (firsts n (orders_of k)) (map (behind n) (orders_of k)), length-map (orders_of k) (behind n)) in
-    let times : length (firsts n (orders_of k) ++ map (behind n) (orders_of k)) * length (segment []) ≡ length (firsts n (orders_of k)) * length (segment []) + length (orders_of k) * length (segment []) = ap (λ z. z * length (segment [])) size ∙ add-mul (length (firsts n (orders_of k))) (length (orders_of k)) (length (segment [])) in
-    omega (arith, split, last, ih, times, c (λ p. segment (behind n p)), shares-join (suc k) segment (firsts n (prefixes_of k)) (map (behind n) (prefixes_of k)), shares-behind k segment n (prefixes_of k))
+    let split : stage_count (map (list_along segment) (firsts n (orders_of k) ++ map (behind n) (orders_of k)))
+    ≡ stage_count (map (list_along segment) (firsts n (orders_of k))) + stage_count (map (list_along segment) (map (behind n) (orders_of k))) =
+    ap stage_count (map-join (list_along segment) (firsts n (orders_of k)) (map (behind n) (orders_of k)))
+    ∙ count-join (map (list_along segment) (firsts n (orders_of k))) (map (list_along segment) (map (behind n) (orders_of k))) in
+    let last : stage_count (map (list_along segment) (map (behind n) (orders_of k)))
+    ≡ length (orders_of k) * length (segment []) + stage_count (map (list_along (λ p. segment (behind n p))) (orders_of k)) =
+    ap stage_count (map-same (list_along segment) (behind n) (λ o. segment [] ++ list_along (λ p. segment (behind n p)) o) (orders_of k)
+    (along-behind segment n)) ∙ count-heads (segment []) (list_along (λ p. segment (behind n p))) (orders_of k) in
+    let size : length (firsts n (orders_of k) ++ map (behind n) (orders_of k)) ≡ length (firsts n (orders_of k)) + length (orders_of k) =
+    omega (arith, length-append (firsts n (orders_of k)) (map (behind n) (orders_of k)), length-map (orders_of k) (behind n)) in
+    let times : length (firsts n (orders_of k) ++ map (behind n) (orders_of k)) * length (segment [])
+    ≡ length (firsts n (orders_of k)) * length (segment []) + length (orders_of k) * length (segment []) =
+    ap (λ z. z * length (segment [])) size ∙ add-mul (length (firsts n (orders_of k))) (length (orders_of k)) (length (segment [])) in
+    omega (
+      arith,
+      split,
+      last,
+      ih,
+      times,
+      c (λ p. segment (behind n p)),
+      shares-join (suc k) segment (firsts n (prefixes_of k)) (map (behind n) (prefixes_of k)),
+      shares-behind k segment n (prefixes_of k),
+    )
 
 count-claim : (k : ℕ) → CountClaim k
 unfolding CountClaim
@@ -239,13 +272,15 @@ unfolding Claim CountClaim AllHas
 first-sight-by-prefixes k segment = (claim k [] segment [] tt, count-claim k segment)
 
 -- ---- the walk's
-walks-along : (b : ℕ) (vars : List VarInfo) (ms : List (List ℕ)) (q : List ℕ) (s : ℕ) (o : List ℕ) → list_along (last_walk b vars ms q s) o ≡ (site_walk b vars ms q s).0 ++ joined (site_walks b vars ms (q ++ s ∷ []) o)
+walks-along : (b : ℕ) (vars : List VarInfo) (ms : List (List ℕ)) (q : List ℕ) (s : ℕ) (o : List ℕ)
+    → list_along (last_walk b vars ms q s) o ≡ (site_walk b vars ms q s).0 ++ joined (site_walks b vars ms (q ++ s ∷ []) o)
 walks-along b vars ms q s [] = sym (append-nil (site_walk b vars ms q s).0)
 walks-along b vars ms q s (t ∷ o) = ap (λ z. (site_walk b vars ms q s).0 ++ z) (walks-along b vars ms (q ++ s ∷ []) t o)
 
 pub list-along : (vars : List VarInfo) (f : Sparse) (o : List ℕ) → list_of vars f o ≡ list_along (prefix_walk 127 vars (all_rows (length vars) f)) o
 list-along vars f [] = lists-are-walked-by-prefixes vars f [] ∙ append-nil (front_walk 127 vars (all_rows (length vars) f) []).0
-list-along vars f (s ∷ o) = lists-are-walked-by-prefixes vars f (s ∷ o) ∙ ap (λ z. (front_walk 127 vars (all_rows (length vars) f) []).0 ++ z) (sym (walks-along 127 vars (all_rows (length vars) f) [] s o))
+list-along vars f (s ∷ o) = lists-are-walked-by-prefixes vars f (s ∷ o)
+    ∙ ap (λ z. (front_walk 127 vars (all_rows (length vars) f) []).0 ++ z) (sym (walks-along 127 vars (all_rows (length vars) f) [] s o))
 
 maps-same : (F G : List ℕ → List (List ℕ)) (os : List (List ℕ)) → ((o : List ℕ) → F o ≡ G o) → map F os ≡ map G os
 maps-same F G [] e = refl
@@ -257,7 +292,7 @@ stages-by-prefixes k vars f =
     let r = first-sight-by-prefixes k (prefix_walk 127 vars (all_rows (length vars) f)) in
     (ap first_seen q ∙ r.0, ap stage_count q ∙ r.1)
 
--- ---- each segment stands in a list
+-- ---- each segment is in a list
 orders-one : (k : ℕ) → 1 ≤ length (orders_of k)
 orders-one k = let r = orders-some k in omega (arith, ap length r.2)
 
@@ -267,7 +302,8 @@ times-one (suc a) c h = let m : suc a * c ≡ c + a * c = omega (arith, add-mul 
 
 fewer-in : (k : ℕ) (segment : List ℕ → List (List ℕ)) (ps : List (List ℕ)) → stage_count (map segment ps) ≤ shared_count k segment ps
 fewer-in k segment [] = omega arith
-fewer-in k segment (p ∷ ps) = omega (arith, fewer-in k segment ps, times-one (length (orders_of (k - length p))) (length (segment p)) (orders-one (k - length p)))
+fewer-in k segment (p ∷ ps) =
+    omega (arith, fewer-in k segment ps, times-one (length (orders_of (k - length p))) (length (segment p)) (orders-one (k - length p)))
 
 pub segments-are-fewer : SegmentsAreFewer
 segments-are-fewer k segment = fewer-in k segment (prefixes_of k)

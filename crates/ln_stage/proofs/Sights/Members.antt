@@ -1,6 +1,7 @@
 -- What holds of the members of the stage lists of all orders, in either order of infinitesimals: each is over variables of sites, the
 -- vector of zeros comes first, and the distinct ones are no more than their count and their weight.
-use Rattle.std.proofs.Common.{◌≡◌, inl, inr, ℕ, ◌+◌, ◌<◌, ◌≤◌, zero, suc, Bool, true, false, cond, List, [], ◌∷◌, length, map, get_or, refl, ap, sym, subst, ◌∙◌, arith, None, if◌then◌else◌}
+use Rattle.std.proofs.Common.{◌≡◌, inl, inr, ℕ, ◌+◌, ◌<◌, ◌≤◌, zero, suc, Bool, true, false, cond, List, [], ◌∷◌, length, map, get_or, refl}
+use Rattle.std.proofs.Common.{ap, sym, subst, ◌∙◌, arith, None, if◌then◌else◌}
 use Rattle.std.specs.Prelude.{◌≢◌, All, AllPairs}
 use Rattle.std.proofs.lemmas.List.{get_or-map, get_or_default, length-append, length-map}
 use Rattle.std.proofs.lemmas.List.Elements.{All-cons, All-nil}
@@ -101,7 +102,8 @@ none-before ByDegree n sites b (inl l) = absurd (omega (arith, l, zeros-degree n
 none-before ByDegree n sites b (inr (q, w)) = absurd (omega (arith, w.3, zeros-at n w.0))
 
 -- it is a stage
-pub zeros-stage : (rank : Rank) (n : ℕ) (sites : Sites) (f : Sparse) → IsPoly f → AreBelow n f → f ≢ [] → IsStageBy (Before rank sites) n sites (IsMonomialOf n f) (zeros n)
+pub zeros-stage : (rank : Rank) (n : ℕ) (sites : Sites) (f : Sparse) → IsPoly f → AreBelow n f → f ≢ []
+    → IsStageBy (Before rank sites) n sites (IsMonomialOf n f) (zeros n)
 zeros-stage rank n sites [] p b d = absurd (d refl)
 zeros-stage rank n sites (t ∷ f) p b d =
     let m = (rows-monomials n (t ∷ f) (poly-terms (t ∷ f) p) b).monomials (vector n t.0) (inl refl) in
@@ -112,7 +114,8 @@ zeros-stage rank n sites (t ∷ f) p b d =
     }
 
 -- so it is the first of each list
-first-zeros : (rank : Rank) (n : ℕ) (sites : Sites) (list : List (List ℕ)) → IsSortedIn (Before rank sites) list → In list (zeros n) → (0 < length list) × (get_or list 0 [] ≡ zeros n)
+first-zeros : (rank : Rank) (n : ℕ) (sites : Sites) (list : List (List ℕ)) → IsSortedIn (Before rank sites) list → In list (zeros n)
+    → (0 < length list) × (get_or list 0 [] ≡ zeros n)
 first-zeros rank n sites [] o i = absurd i
 first-zeros rank n sites (x ∷ xs) o (inl e) = (omega arith, sym e)
 first-zeros rank n sites (x ∷ xs) o (inr i) = absurd (none-before rank n sites x (o.0 (zeros n) i))
@@ -167,7 +170,8 @@ weighs-each n f [] h = omega arith
 weighs-each n f (a ∷ as') h = omega (arith, h.0, weighs-each n f as' h.1)
 
 -- ---- the distinct members of the lists of all orders, as exponents
-module _ (rank : Rank) (k : ℕ) (vars : List VarInfo) (f : Sparse) (ls : List (List (List ℕ))) (s : AreStageListsIn rank k vars f ls) (exps : List Pairs) (sight : map (vector (length vars)) exps ≡ first_seen ls) where
+module _ (rank : Rank) (k : ℕ) (vars : List VarInfo) (f : Sparse) (ls : List (List (List ℕ))) (s : AreStageListsIn rank k vars f ls)
+    (exps : List Pairs) (sight : map (vector (length vars)) exps ≡ first_seen ls) where
   pub of-sites : All (λ e. IsOfSites vars (vector (length vars) e)) exps
   of-sites =
       let a : AllAre (IsOfSites vars) ls = all-are (IsOfSites vars) ls (λ j h b i. ((s.each j h).stages b i).over.of_sites) in
@@ -182,15 +186,22 @@ module _ (rank : Rank) (k : ℕ) (vars : List VarInfo) (f : Sparse) (ls : List (
     -- nor more than the monomials that cover them
     pub light-blocks : length exps ≤ stage_weight (length vars) f ls
     light-blocks =
-        let a : AllAre (λ a. 0 < covering (length vars) f a) ls = all-are (λ a. 0 < covering (length vars) f a) ls (λ j h a i. covered-some (length vars) f p b a ((s.each j h).stages a i).covered) in
-        omega (arith, weighs-each (length vars) f (first_seen ls) (each-seen (λ a. 0 < covering (length vars) f a) [] ls tt a), ap length sight, length-map exps (vector (length vars)))
+        let a : AllAre (λ a. 0 < covering (length vars) f a) ls =
+        all-are (λ a. 0 < covering (length vars) f a) ls (λ j h a i. covered-some (length vars) f p b a ((s.each j h).stages a i).covered) in
+        omega (
+          arith,
+          weighs-each (length vars) f (first_seen ls) (each-seen (λ a. 0 < covering (length vars) f a) [] ls tt a),
+          ap length sight,
+          length-map exps (vector (length vars)),
+        )
 
     module _ (d : f ≢ []) where
       pub zeros-in : (j : ℕ) → j < length ls → Begins (get_or ls j []) (zeros (length vars))
       zeros-in j h =
           let o : Sites = sites_of vars (get_or (orders_of k) j []) in
           let l = s.each j h in
-          first-zeros rank (length vars) (sites_of vars (get_or (orders_of k) j [])) (get_or ls j []) l.in_order (l.all (zeros (length vars)) (zeros-stage rank (length vars) (sites_of vars (get_or (orders_of k) j [])) f p b d))
+          first-zeros rank (length vars) (sites_of vars (get_or (orders_of k) j [])) (get_or ls j []) l.in_order
+          (l.all (zeros (length vars)) (zeros-stage rank (length vars) (sites_of vars (get_or (orders_of k) j [])) f p b d))
 
       -- the first has no exponents
       pub first-exps : (0 < length exps) × (vector (length vars) (get_or exps 0 []) ≡ zeros (length vars))
@@ -206,7 +217,8 @@ irreflexive BySmallest sites a h = earlier-irreflexive sites a h
 irreflexive ByDegree sites a (inl l) = absurd (omega (arith, l))
 irreflexive ByDegree sites a (inr (q, w)) = earlier-irreflexive sites a w
 
-sorted-at : (before : List ℕ → List ℕ → Type 0) (xs : List (List ℕ)) (i j : ℕ) → IsSortedIn before xs → i < j → j < length xs → before (get_or xs i []) (get_or xs j [])
+sorted-at : (before : List ℕ → List ℕ → Type 0) (xs : List (List ℕ)) (i j : ℕ) → IsSortedIn before xs → i < j → j < length xs
+    → before (get_or xs i []) (get_or xs j [])
 sorted-at before [] i j o h l = absurd (omega arith)
 sorted-at before (x ∷ xs) i zero o h l = absurd (omega arith)
 sorted-at before (x ∷ xs) zero (suc j) o h l = o.0 (get_or xs j []) (in-at xs j (omega arith)) where
@@ -222,11 +234,13 @@ numbers-differ rank sites g list o = λ i j d h l e.
     let a : get_or (map g list) i [] ≡ g (get_or list i d) = get_or-map g list i d [] (omega arith) in
     let c : get_or (map g list) j [] ≡ g (get_or list j d) = get_or-map g list j d [] l in
     let same : get_or (map g list) i [] ≡ get_or (map g list) j [] = a ∙ ap g e ∙ sym c in
-    let r : Before rank sites (get_or (map g list) i []) (get_or (map g list) j []) = sorted-at (Before rank sites) (map g list) i j o h (omega (arith, l, length-map list g)) in
+    let r : Before rank sites (get_or (map g list) i []) (get_or (map g list) j []) =
+    sorted-at (Before rank sites) (map g list) i j o h (omega (arith, l, length-map list g)) in
     irreflexive rank sites (get_or (map g list) j []) (rw same at r)
 
 -- the list of an order names none twice, and isn't empty
-module _ (rank : Rank) (k : ℕ) (vars : List VarInfo) (f : Sparse) (st : Staged) (s : AreStageListsIn rank k vars f (vectors_of (length vars) st)) (p : IsPoly f) (b : AreBelow (length vars) f) (d : f ≢ [])
+module _ (rank : Rank) (k : ℕ) (vars : List VarInfo) (f : Sparse) (st : Staged)
+    (s : AreStageListsIn rank k vars f (vectors_of (length vars) st)) (p : IsPoly f) (b : AreBelow (length vars) f) (d : f ≢ [])
     (sight : map (vector (length vars)) st.exps ≡ first_seen (vectors_of (length vars) st)) (j : ℕ) (x : List ℕ) (h : j < length st.lists) where
   here : get_or (vectors_of (length vars) st) j [] ≡ map (block_vector (length vars) st.exps) (get_or st.lists j x)
   here = get_or-map (λ list. map (block_vector (length vars) st.exps) list) st.lists j x [] h
@@ -239,7 +253,12 @@ module _ (rank : Rank) (k : ℕ) (vars : List VarInfo) (f : Sparse) (st : Staged
       (subst (IsSortedIn (Before rank (sites_of vars (get_or (orders_of k) j [])))) here (s.each j there).in_order)
 
   pub list-filled : 0 < length (get_or st.lists j x)
-  list-filled = omega (arith, (zeros-in rank k vars f (vectors_of (length vars) st) s st.exps sight p b d j there).0, ap length here, length-map (get_or st.lists j x) (block_vector (length vars) st.exps))
+  list-filled = omega (
+    arith,
+    (zeros-in rank k vars f (vectors_of (length vars) st) s st.exps sight p b d j there).0,
+    ap length here,
+    length-map (get_or st.lists j x) (block_vector (length vars) st.exps),
+  )
 
 -- ---- a polynomial has one set of stage lists
 same-places : {A : Type 0} (xs ys : List A) (d : A) → length xs ≡ length ys → ((j : ℕ) → j < length xs → get_or xs j d ≡ get_or ys j d) → xs ≡ ys
@@ -253,8 +272,10 @@ same-places (x ∷ xs) (y ∷ ys) d l h =
 pub order-at : (k j : ℕ) → j < length (orders_of k) → IsOrderOf k (get_or (orders_of k) j [])
 order-at k j h = member-is k (get_or (orders_of k) j []) (j, h, get_or_default (orders_of k) j (get_or (orders_of k) j []) [] h)
 
-pub lists-one : (rank : Rank) (k : ℕ) (vars : List VarInfo) (f : Sparse) (ls ms : List (List (List ℕ))) → is_laid_out k vars ≡ true → AreStageListsIn rank k vars f ls → AreStageListsIn rank k vars f ms → ls ≡ ms
+pub lists-one : (rank : Rank) (k : ℕ) (vars : List VarInfo) (f : Sparse) (ls ms : List (List (List ℕ))) → is_laid_out k vars ≡ true
+    → AreStageListsIn rank k vars f ls → AreStageListsIn rank k vars f ms → ls ≡ ms
 lists-one rank k vars f ls ms h a b = same-places ls ms [] (a.size ∙ sym b.size) (λ j l.
     let d = orders-differ k vars (get_or (orders_of k) j []) h (order-at k j (omega (arith, l, a.size))) in
-    stage_list-unique-by (length vars) (sites_of vars (get_or (orders_of k) j [])) (Before rank (sites_of vars (get_or (orders_of k) j []))) (both-admissible rank (length vars) (sites_of vars (get_or (orders_of k) j [])) d) (IsMonomialOf (length vars) f)
+    stage_list-unique-by (length vars) (sites_of vars (get_or (orders_of k) j [])) (Before rank (sites_of vars (get_or (orders_of k) j [])))
+    (both-admissible rank (length vars) (sites_of vars (get_or (orders_of k) j [])) d) (IsMonomialOf (length vars) f)
     (get_or ls j []) (get_or ms j []) (a.each j l) (b.each j (omega (arith, l, a.size, b.size))))

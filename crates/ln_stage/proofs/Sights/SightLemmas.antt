@@ -13,7 +13,8 @@ use Rattle.ln_stage.proofs.Results.SegmentLemmas.{in-cases, in-left, in-right}
 put-cases : (bs : List (List ℕ)) (a : List ℕ) → (In bs a × (put_last bs a ≡ bs)) ⊎ ((In bs a → ⊥) × (put_last bs a ≡ bs ++ a ∷ []))
 put-cases [] a = inr (λ i. i, refl)
 put-cases (b ∷ bs) a = by_case (same_vector a b) refl (put-cases bs a) where
-  by_case : (t : Bool) → same_vector a b ≡ t → (In bs a × (put_last bs a ≡ bs)) ⊎ ((In bs a → ⊥) × (put_last bs a ≡ bs ++ a ∷ [])) → (In (b ∷ bs) a × (put_last (b ∷ bs) a ≡ b ∷ bs)) ⊎ ((In (b ∷ bs) a → ⊥) × (put_last (b ∷ bs) a ≡ b ∷ (bs ++ a ∷ [])))
+  by_case : (t : Bool) → same_vector a b ≡ t → (In bs a × (put_last bs a ≡ bs)) ⊎ ((In bs a → ⊥) × (put_last bs a ≡ bs ++ a ∷ []))
+      → (In (b ∷ bs) a × (put_last (b ∷ bs) a ≡ b ∷ bs)) ⊎ ((In (b ∷ bs) a → ⊥) × (put_last (b ∷ bs) a ≡ b ∷ (bs ++ a ∷ [])))
   by_case true e ih = inl (inl (same_vector-is a b e), rw e refl)
   by_case false e (inl (i, q)) = inl (inr i, rw e (ap (λ z. b ∷ z) q))
   by_case false e (inr (n, q)) = inr (not, rw e (ap (λ z. b ∷ z) q)) where
@@ -21,7 +22,8 @@ put-cases (b ∷ bs) a = by_case (same_vector a b) refl (put-cases bs a) where
     not (inl k) = let z : same_vector a b ≡ true = rw k (same_vector-refl b) in let w : true ≡ false = sym z ∙ e in cc
     not (inr i) = n i
 
-sorted-more : (R : List ℕ → List ℕ → Type 0) (bs : List (List ℕ)) (a : List ℕ) → IsSortedIn R bs → ((b : List ℕ) → In bs b → R b a) → IsSortedIn R (bs ++ a ∷ [])
+sorted-more : (R : List ℕ → List ℕ → Type 0) (bs : List (List ℕ)) (a : List ℕ) → IsSortedIn R bs → ((b : List ℕ) → In bs b → R b a)
+    → IsSortedIn R (bs ++ a ∷ [])
 sorted-more R [] a s h = (λ b i. absurd i, tt)
 sorted-more R (b ∷ bs) a s h = (λ c i. at c (in-cases bs (a ∷ []) c i), sorted-more R bs a s.1 (λ c i. h c (inr i))) where
   at : (c : List ℕ) → In bs c ⊎ In (a ∷ []) c → R b c
@@ -57,7 +59,8 @@ found-more xs bs a f = by_case (put-cases bs a) where
   by_case (inr (n, q)) = subst (Found (xs ++ a ∷ [])) (sym q) (record {
     to = λ b j. into b (in-cases bs (a ∷ []) b j);
     from = λ b j. at b (in-cases xs (a ∷ []) b j);
-    in_order = sorted-more (SightedBefore (xs ++ a ∷ [])) bs a (sorted-weaker (SightedBefore xs) (SightedBefore (xs ++ a ∷ [])) (further xs (a ∷ [])) bs f.in_order) (λ b j. (xs, a ∷ [], refl, f.to b j, λ k. n (f.from a k)));
+    in_order = sorted-more (SightedBefore (xs ++ a ∷ [])) bs a (sorted-weaker (SightedBefore xs) (SightedBefore (xs ++ a ∷ []))
+        (further xs (a ∷ [])) bs f.in_order) (λ b j. (xs, a ∷ [], refl, f.to b j, λ k. n (f.from a k)));
   }) where
     into : (b : List ℕ) → In bs b ⊎ In (a ∷ []) b → In (xs ++ a ∷ []) b
     into b (inl j) = in-left xs (a ∷ []) b (f.to b j)
@@ -69,11 +72,13 @@ found-more xs bs a f = by_case (put-cases bs a) where
 
 found-behind : (rest xs bs : List (List ℕ)) → Found xs bs → Found (xs ++ rest) (seen_behind bs rest)
 found-behind [] xs bs f = subst (λ q. Found q bs) (sym (append-nil xs)) f
-found-behind (a ∷ rest) xs bs f = subst (λ q. Found q (seen_behind (put_last bs a) rest)) (append_assoc xs (a ∷ []) rest) (found-behind rest (xs ++ a ∷ []) (put_last bs a) (found-more xs bs a f))
+found-behind (a ∷ rest) xs bs f = subst (λ q. Found q (seen_behind (put_last bs a) rest)) (append_assoc xs (a ∷ []) rest)
+    (found-behind rest (xs ++ a ∷ []) (put_last bs a) (found-more xs bs a f))
 
 found-all : (lists : List (List (List ℕ))) (xs bs : List (List ℕ)) → Found xs bs → Found (xs ++ joined lists) (all_seen_behind bs lists)
 found-all [] xs bs f = subst (λ q. Found q bs) (sym (append-nil xs)) f
-found-all (list ∷ lists) xs bs f = subst (λ q. Found q (all_seen_behind (seen_behind bs list) lists)) (append_assoc xs list (joined lists)) (found-all lists (xs ++ list) (seen_behind bs list) (found-behind list xs bs f))
+found-all (list ∷ lists) xs bs f = subst (λ q. Found q (all_seen_behind (seen_behind bs list) lists)) (append_assoc xs list (joined lists))
+    (found-all lists (xs ++ list) (seen_behind bs list) (found-behind list xs bs f))
 
 pub first-seen-sighted : FirstSeenAreSighted
 first-seen-sighted lists = record { members = λ a. (f.to a, f.from a); in_order = f.in_order } where

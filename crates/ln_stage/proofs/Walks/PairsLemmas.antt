@@ -1,5 +1,6 @@
--- A vector as pairs.
-use Rattle.std.proofs.Common.{◌≡◌, ◌⊎◌, inl, inr, Bool, true, false, eq-eqb, ℕ, zero, suc, ◌+◌, ◌<◌, ◌≤◌, List, [], ◌∷◌, ◌++◌, length, get_or, drop, refl, sym, ◌∙◌, ap, arith, add-one, append_assoc, drop-cons}
+-- Proves that an exponent vector and its list of pairs determine each other.
+use Rattle.std.proofs.Common.{◌≡◌, ◌⊎◌, inl, inr, Bool, true, false, eq-eqb, ℕ, zero, suc, ◌+◌, ◌<◌, ◌≤◌, List, [], ◌∷◌, ◌++◌, length}
+use Rattle.std.proofs.Common.{get_or, drop, refl, sym, ◌∙◌, ap, arith, add-one, append_assoc, drop-cons}
 use Rattle.std.proofs.lemmas.Bool.{cases_eq}
 use Rattle.std.proofs.lemmas.Grind.{same_number_lists}
 use Rattle.ln_algebra.specs.Vector.{same_vector}
@@ -18,7 +19,8 @@ pub pairs-skip : (p : List ℕ) (v : ℕ) → v < length p → get_or p v 0 ≡ 
 pairs-skip p v h e = rw (drop-cons p v 0 h, e, add-one) refl
 
 -- one with an exponent is a pair
-pub pairs-put : (p : List ℕ) (v : ℕ) (a : Pairs) → v < length p → 0 < get_or p v 0 → (a ++ (v, get_or p v 0) ∷ []) ++ pairs_from (v + 1) (drop (v + 1) p) ≡ a ++ pairs_from v (drop v p)
+pub pairs-put : (p : List ℕ) (v : ℕ) (a : Pairs) → v < length p → 0 < get_or p v 0
+    → (a ++ (v, get_or p v 0) ∷ []) ++ pairs_from (v + 1) (drop (v + 1) p) ≡ a ++ pairs_from v (drop v p)
 pairs-put p v a h l = rw (drop-cons p v 0 h, add-one, append_assoc, pairs-cons v (get_or p v 0) (drop (suc v) p) l) refl
 
 pub above-more : (a : Pairs) (v : ℕ) → IsAbove a v → IsAbove a (v + 1)
@@ -39,7 +41,11 @@ from-exponent : (p : List ℕ) (v k : ℕ) → exponent (v + k) (pairs_from v p)
 from-exponent [] v k = refl
 from-exponent (zero ∷ p) v zero = all_above-none (v + zero) (pairs_from (suc v) p) (pairs-above (v + zero) (suc v) p (omega arith))
 from-exponent (zero ∷ p) v (suc k) = (let e : v + suc k ≡ suc v + k = omega arith in ap (λ z. exponent z (pairs_from (suc v) p)) e) ∙ from-exponent p (suc v) k
-from-exponent (suc e ∷ p) v zero = omega (arith, power-here (v + zero) (v, suc e) (omega arith), all_above-none (v + zero) (pairs_from (suc v) p) (pairs-above (v + zero) (suc v) p (omega arith)))
+from-exponent (suc e ∷ p) v zero = omega (
+  arith,
+  power-here (v + zero) (v, suc e) (omega arith),
+  all_above-none (v + zero) (pairs_from (suc v) p) (pairs-above (v + zero) (suc v) p (omega arith)),
+)
 from-exponent (suc e ∷ p) v (suc k) =
     let q : v + suc k ≡ suc v + k = omega arith in
     omega (arith, power-apart (v + suc k) (v, suc e) (λ z. absurd (omega (arith, z))), ap (λ z. exponent z (pairs_from (suc v) p)) q, from-exponent p (suc v) k)
@@ -88,13 +94,16 @@ pairs-from v zero [] r f a = refl
 pairs-from v zero (p ∷ ps) r f a = absurd (omega (arith, f.0, a.0))
 pairs-from v (suc n) [] r f a = pairs-from (suc v) n [] tt tt tt
 pairs-from v (suc n) (p ∷ ps) r f a = go (cases_eq p.0 v) (pairs-from (suc v) n) where
-  go : (p.0 ≡ v) ⊎ (p.0 ≡ v → ⊥) → ((qs : Pairs) → IsRising qs → From (suc v) qs → IsAbove qs (suc v + n) → pairs_from (suc v) (exponents_from (suc v) n qs) ≡ qs) → pairs_from v (exponent v (p ∷ ps) ∷ exponents_from (suc v) n (p ∷ ps)) ≡ p ∷ ps
+  go : (p.0 ≡ v) ⊎ (p.0 ≡ v → ⊥)
+      → ((qs : Pairs) → IsRising qs → From (suc v) qs → IsAbove qs (suc v + n) → pairs_from (suc v) (exponents_from (suc v) n qs) ≡ qs)
+      → pairs_from v (exponent v (p ∷ ps) ∷ exponents_from (suc v) n (p ∷ ps)) ≡ p ∷ ps
   go (inl e) ih =
       let z : exponent v (p ∷ ps) ≡ p.1 = omega (arith, power-here v p e, all_above-none v ps (rw e at r.2)) in
       let q : (v, p.1) ≡ p = rw (← e) refl in
       let w : suc v + n ≡ v + suc n = omega arith in
       rw (z, skip-low (suc v) n p ps (omega (arith, e)))
-      (pairs-cons v p.1 (exponents_from (suc v) n ps) r.0 ∙ ap (λ x. (v, p.1) ∷ x) (ih ps r.3 (rw e at (from-above p.0 ps r.2)) (rw w a.1)) ∙ ap (λ x. x ∷ ps) q)
+      (pairs-cons v p.1 (exponents_from (suc v) n ps) r.0
+      ∙ ap (λ x. (v, p.1) ∷ x) (ih ps r.3 (rw e at (from-above p.0 ps r.2)) (rw w a.1)) ∙ ap (λ x. x ∷ ps) q)
   go (inr ne) ih =
       let l : v < p.0 = omega (arith, f.0, ne) in
       let z : exponent v (p ∷ ps) ≡ 0 = omega (arith, power-apart v p ne, all_above-none v ps (above-below v p.0 ps l r.2)) in
@@ -131,7 +140,8 @@ tests-same n ps p r a e =
 pub tests-of-vectors : (n : ℕ) (a b : List ℕ) → length a ≡ n → length b ≡ n → same_pairs (pairs_of a) (pairs_of b) ≡ same_vector a b
 tests-of-vectors n a b e h =
     from-tests (same_pairs (pairs_of a) (pairs_of b)) (same_vector a b)
-    (λ t. let q : a ≡ b = sym (vector-pairs_of n a e) ∙ ap (vector n) (same_pairs-is (pairs_of a) (pairs_of b) t) ∙ vector-pairs_of n b h in rw q (same_vector-refl b))
+    (λ t. let q : a ≡ b = sym (vector-pairs_of n a e) ∙ ap (vector n) (same_pairs-is (pairs_of a) (pairs_of b) t) ∙ vector-pairs_of n b h in
+    rw q (same_vector-refl b))
     (λ t. let q : a ≡ b = same_vector-is a b t in rw q (same_pairs-refl (pairs_of b)))
 
 -- each variable of the pairs of a vector is one of its variables

@@ -1,5 +1,6 @@
 -- One site: what needs one of its variables.
-use Rattle.std.proofs.Common.{◌≡◌, inr, ℕ, zero, suc, ◌+◌, ◌-◌, ◌<◌, ◌≤◌, Bool, true, false, List, [], ◌∷◌, ◌++◌, append_assoc, length, get_or, take, drop, drop-cons, refl, sym, ◌∙◌, ap, subst, arith}
+use Rattle.std.proofs.Common.{◌≡◌, inr, ℕ, zero, suc, ◌+◌, ◌-◌, ◌<◌, ◌≤◌, Bool, true, false, List, [], ◌∷◌, ◌++◌, append_assoc, length}
+use Rattle.std.proofs.Common.{get_or, take, drop, drop-cons, refl, sym, ◌∙◌, ap, subst, arith}
 use Rattle.std.proofs.lemmas.List.{append-nil, drop_all, length-take, take-append-drop}
 use Rattle.ln_algebra.specs.Walk.{Found, Member, before, steps, walk}
 use Rattle.ln_poly.specs.Sparse.{Sparse}
@@ -45,20 +46,22 @@ before-begins : (r s : Found) → (x : List (List ℕ)) × ((before r s).0 ≡ r
 before-begins (l, true) s = ([], sym (append-nil l))
 before-begins (l, false) s = (s.0, refl)
 
-tail-cut : (b : ℕ) (front us rest : List ℕ) (ms : List (List ℕ)) (p : List ℕ) → (tail b us rest ms p).1 ≡ true → tail b (front ++ us) rest ms p ≡ tail b us rest ms p
+tail-cut : (b : ℕ) (front us rest : List ℕ) (ms : List (List ℕ)) (p : List ℕ) → (tail b us rest ms p).1 ≡ true
+    → tail b (front ++ us) rest ms p ≡ tail b us rest ms p
 tail-cut b [] us rest ms p h = refl
 tail-cut b (v ∷ front) us rest ms p h =
     let ih = tail-cut b front us rest ms p h in
     before-cut (tail b (front ++ us) rest ms p) (steps (walk (suc b) ((front ++ us) ++ rest)) v ms p b 1) (ap (λ z. z.1) ih ∙ h) ∙ ih
 
-tail-begins : (b : ℕ) (front us rest : List ℕ) (ms : List (List ℕ)) (p : List ℕ) → (x : List (List ℕ)) × ((tail b (front ++ us) rest ms p).0 ≡ (tail b us rest ms p).0 ++ x)
+tail-begins : (b : ℕ) (front us rest : List ℕ) (ms : List (List ℕ)) (p : List ℕ)
+    → (x : List (List ℕ)) × ((tail b (front ++ us) rest ms p).0 ≡ (tail b us rest ms p).0 ++ x)
 tail-begins b [] us rest ms p = ([], sym (append-nil (tail b us rest ms p).0))
 tail-begins b (v ∷ front) us rest ms p =
     let ih = tail-begins b front us rest ms p in
     let r = before-begins (tail b (front ++ us) rest ms p) (steps (walk (suc b) ((front ++ us) ++ rest)) v ms p b 1) in
     (ih.0 ++ r.0, r.1 ∙ ap (λ z. z ++ r.0) ih.1 ∙ append_assoc (tail b us rest ms p).0 ih.0 r.0)
 
--- ---- where the loop stands
+-- ---- where the loop is
 drop-front : (xs ys : List ℕ) (i : ℕ) → i ≤ length xs → drop i (xs ++ ys) ≡ drop i xs ++ ys
 drop-front xs ys zero h = refl
 drop-front [] ys (suc i) h = absurd (omega arith)
@@ -82,7 +85,8 @@ module _ (f : Sparse) (vs kept p : List ℕ) (n k : ℕ) (within : n ≤ length 
 
   rest-is : drop (n - (k + 1)) vs ≡ v ∷ (last_of k n vs ++ drop n vs)
   rest-is =
-      ap (drop (n - (k + 1))) (sym (take-append-drop n vs)) ∙ drop-front (take n vs) (drop n vs) (n - (k + 1)) (omega (arith, size, more)) ∙ ap (λ z. z ++ drop n vs) last-more
+      ap (drop (n - (k + 1))) (sym (take-append-drop n vs)) ∙ drop-front (take n vs) (drop n vs) (n - (k + 1)) (omega (arith, size, more))
+      ∙ ap (λ z. z ++ drop n vs) last-more
 
   here : Found
   here = steps (walk 128 (last_of k n vs ++ drop n vs)) v (rows (length p) f kept) p 127 1
@@ -94,13 +98,17 @@ module _ (f : Sparse) (vs kept p : List ℕ) (n k : ℕ) (within : n ≤ length 
   module _ (uncut : (listed_behind f (last_of k n vs) (drop n vs) kept p).1 ≡ false) where
     goes-on : listed_behind f (last_of (k + 1) n vs) (drop n vs) kept p ≡ ((listed_behind f (last_of k n vs) (drop n vs) kept p).0 ++ here.0, here.1)
     unfolding listed_behind here
-    goes-on = ap (λ us. tail 127 us (drop n vs) (rows (length p) f kept) p) last-more ∙ before-on (tail 127 (last_of k n vs) (drop n vs) (rows (length p) f kept) p) (steps (walk 128 (last_of k n vs ++ drop n vs)) v (rows (length p) f kept) p 127 1) uncut
+    goes-on = ap (λ us. tail 127 us (drop n vs) (rows (length p) f kept) p) last-more ∙ before-on (tail 127 (last_of k n vs) (drop n vs)
+        (rows (length p) f kept) p) (steps (walk 128 (last_of k n vs ++ drop n vs)) v (rows (length p) f kept) p 127 1) uncut
 
-    module _ (t u : Tallied) (so_far : u ≡ see_all (length p) f t (listed_behind f (last_of k n vs) (drop n vs) kept p).0) (r : List ℕ) (er : r ≡ drop (n - (k + 1)) vs) where
+    module _ (t u : Tallied) (so_far : u ≡ see_all (length p) f t (listed_behind f (last_of k n vs) (drop n vs) kept p).0) (r : List ℕ)
+        (er : r ≡ drop (n - (k + 1)) vs) where
       seen-here : see_all (length p) f u (listed_at f r kept p 1).0 ≡ see_all (length p) f t (listed_behind f (last_of (k + 1) n vs) (drop n vs) kept p).0
       seen-here =
-          ap (λ z. see_all (length p) f u (listed_at f z kept p 1).0) er ∙ ap (λ z. see_all (length p) f u z.0) listed-here ∙ ap (λ z. see_all (length p) f z here.0) so_far
-          ∙ sym (see_all-append (length p) f t (listed_behind f (last_of k n vs) (drop n vs) kept p).0 here.0) ∙ ap (λ z. see_all (length p) f t z.0) (sym goes-on)
+          ap (λ z. see_all (length p) f u (listed_at f z kept p 1).0) er ∙ ap (λ z. see_all (length p) f u z.0) listed-here
+          ∙ ap (λ z. see_all (length p) f z here.0) so_far
+          ∙ sym (see_all-append (length p) f t (listed_behind f (last_of k n vs) (drop n vs) kept p).0 here.0)
+          ∙ ap (λ z. see_all (length p) f t z.0) (sym goes-on)
 
       cut-here : (listed_at f r kept p 1).1 ≡ (listed_behind f (last_of (k + 1) n vs) (drop n vs) kept p).1
       cut-here = ap (λ z. (listed_at f z kept p 1).1) er ∙ ap (λ z. z.1) listed-here ∙ ap (λ z. z.1) (sym goes-on)
@@ -114,22 +122,31 @@ module _ (f : Sparse) (vs kept p : List ℕ) (n k : ℕ) (within : n ≤ length 
       unfolding listed_behind
       site-cut u' stop e c h =
           let z : (tail 127 (last_of (k + 1) n vs) (drop n vs) (rows (length p) f kept) p).1 ≡ true = sym cut-here ∙ sym c ∙ h in
-          let q : tail 127 (take n vs) (drop n vs) (rows (length p) f kept) p ≡ tail 127 (last_of (k + 1) n vs) (drop n vs) (rows (length p) f kept) p = ap (λ us. tail 127 us (drop n vs) (rows (length p) f kept) p) whole ∙ tail-cut 127 (take (n - (k + 1)) (take n vs)) (last_of (k + 1) n vs) (drop n vs) (rows (length p) f kept) p z in
+          let q : tail 127 (take n vs) (drop n vs) (rows (length p) f kept) p ≡ tail 127 (last_of (k + 1) n vs) (drop n vs) (rows (length p) f kept) p =
+          ap (λ us. tail 127 us (drop n vs) (rows (length p) f kept) p) whole
+          ∙ tail-cut 127 (take (n - (k + 1)) (take n vs)) (last_of (k + 1) n vs) (drop n vs) (rows (length p) f kept) p z in
           (sym (ap (λ y. y.1) q ∙ z), e ∙ seen-here ∙ ap (λ y. see_all (length p) f t y.0) (sym q))
 
       -- or it goes on
       pub site-goes : (u' : Tallied) (stop : Bool) → u' ≡ see_all (length p) f u (listed_at f r kept p 1).0 → stop ≡ (listed_at f r kept p 1).1 → stop ≡ false
-          → (u' ≡ see_all (length p) f t (listed_behind f (last_of (k + 1) n vs) (drop n vs) kept p).0) × ((listed_behind f (last_of (k + 1) n vs) (drop n vs) kept p).1 ≡ false)
+          → (u' ≡ see_all (length p) f t (listed_behind f (last_of (k + 1) n vs) (drop n vs) kept p).0)
+          × ((listed_behind f (last_of (k + 1) n vs) (drop n vs) kept p).1 ≡ false)
       site-goes u' stop e c h = (e ∙ seen-here, sym cut-here ∙ sym c ∙ h)
 
       -- what is over the limits stays so
-      pub site-stops : (x : StageStop) → IsStoppedBy x (IsOver (see_all (length p) f u (listed_at f r kept p 1).0)) → IsStoppedBy x (IsOver (see_all (length p) f t (listed_behind f (take n vs) (drop n vs) kept p).0))
+      pub site-stops : (x : StageStop) → IsStoppedBy x (IsOver (see_all (length p) f u (listed_at f r kept p 1).0))
+          → IsStoppedBy x (IsOver (see_all (length p) f t (listed_behind f (take n vs) (drop n vs) kept p).0))
       unfolding listed_behind
       site-stops x o =
           let g = tail-begins 127 (take (n - (k + 1)) (take n vs)) (last_of (k + 1) n vs) (drop n vs) (rows (length p) f kept) p in
-          let q : (tail 127 (take n vs) (drop n vs) (rows (length p) f kept) p).0 ≡ (tail 127 (last_of (k + 1) n vs) (drop n vs) (rows (length p) f kept) p).0 ++ g.0 = ap (λ us. (tail 127 us (drop n vs) (rows (length p) f kept) p).0) whole ∙ g.1 in
-          let all : see_all (length p) f t (tail 127 (take n vs) (drop n vs) (rows (length p) f kept) p).0 ≡ see_all (length p) f (see_all (length p) f t (tail 127 (last_of (k + 1) n vs) (drop n vs) (rows (length p) f kept) p).0) g.0 = ap (see_all (length p) f t) q ∙ see_all-append (length p) f t (tail 127 (last_of (k + 1) n vs) (drop n vs) (rows (length p) f kept) p).0 g.0 in
-          stopped-more x (λ m. subst IsOver (sym all) (over-more (length p) f (see_all (length p) f t (tail 127 (last_of (k + 1) n vs) (drop n vs) (rows (length p) f kept) p).0) g.0 (subst IsOver seen-here m))) o
+          let q : (tail 127 (take n vs) (drop n vs) (rows (length p) f kept) p).0
+          ≡ (tail 127 (last_of (k + 1) n vs) (drop n vs) (rows (length p) f kept) p).0 ++ g.0 =
+          ap (λ us. (tail 127 us (drop n vs) (rows (length p) f kept) p).0) whole ∙ g.1 in
+          let all : see_all (length p) f t (tail 127 (take n vs) (drop n vs) (rows (length p) f kept) p).0
+          ≡ see_all (length p) f (see_all (length p) f t (tail 127 (last_of (k + 1) n vs) (drop n vs) (rows (length p) f kept) p).0) g.0 =
+          ap (see_all (length p) f t) q ∙ see_all-append (length p) f t (tail 127 (last_of (k + 1) n vs) (drop n vs) (rows (length p) f kept) p).0 g.0 in
+          stopped-more x (λ m. subst IsOver (sym all) (over-more (length p) f
+          (see_all (length p) f t (tail 127 (last_of (k + 1) n vs) (drop n vs) (rows (length p) f kept) p).0) g.0 (subst IsOver seen-here m))) o
 
 -- nothing yet
 pub site-first : (f : Sparse) (vs kept p : List ℕ) (n : ℕ) → n ≤ length vs → listed_behind f (last_of 0 n vs) (drop n vs) kept p ≡ ([], false)

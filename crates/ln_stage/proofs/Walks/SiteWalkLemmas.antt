@@ -1,5 +1,7 @@
 -- The walk by prefixes lists the segments.
-use Rattle.std.proofs.Common.{◌≡◌, ◌≢◌, ◌⊎◌, inl, inr, ℕ, zero, suc, ◌+◌, ◌<◌, ◌≤◌, Bool, true, false, cond, eqb, eq-eqb, eqb-true, leb, List, [], ◌∷◌, ◌++◌, append_assoc, length, length-append, get_or, set, refl, sym, ◌∙◌, ap, subst, arith, Some, if◌then◌else◌}
+use Rattle.std.proofs.Common.{◌≡◌, ◌≢◌, ◌⊎◌, inl, inr, ℕ, zero, suc, ◌+◌, ◌<◌, ◌≤◌, Bool, true, false, cond, eqb, eq-eqb, eqb-true, leb}
+use Rattle.std.proofs.Common.{List, [], ◌∷◌, ◌++◌, append_assoc, length, length-append, get_or, set, refl, sym, ◌∙◌, ap, subst, arith, Some}
+use Rattle.std.proofs.Common.{if◌then◌else◌}
 use Rattle.std.specs.List.{range_with_len}
 use Rattle.std.proofs.lemmas.Bool.{le-leb}
 use Rattle.std.proofs.lemmas.List.{append-nil, get_or-set_same, get_or-set_other, set-get_or}
@@ -60,17 +62,21 @@ tail-nothing b [] rest p = refl
 tail-nothing b (v ∷ us) rest p = rw (tail-nothing b us rest p, steps-nothing (walk (suc b) (us ++ rest)) v p b 1) refl
 
 -- with the exponent 0
-zero-first : (go : List (List ℕ) → List ℕ → Found) (v : ℕ) (m : List ℕ) (ms : List (List ℕ)) (p : List ℕ) (S : Found) → get_or p v 0 ≡ 0 → unless_none (at_least v 0 (m ∷ ms)) (before (go (at_least v 0 (m ∷ ms)) (set p v 0)) S) ≡ before (go (m ∷ ms) p) S
-zero-first go v m ms p S z = ap (λ l. unless_none l (before (go l (set p v 0)) S)) (at_least-all v (m ∷ ms)) ∙ ap (λ q. before (go (m ∷ ms) q) S) (set-zero p v z)
+zero-first : (go : List (List ℕ) → List ℕ → Found) (v : ℕ) (m : List ℕ) (ms : List (List ℕ)) (p : List ℕ) (S : Found) → get_or p v 0 ≡ 0
+    → unless_none (at_least v 0 (m ∷ ms)) (before (go (at_least v 0 (m ∷ ms)) (set p v 0)) S) ≡ before (go (m ∷ ms) p) S
+zero-first go v m ms p S z =
+    ap (λ l. unless_none l (before (go l (set p v 0)) S)) (at_least-all v (m ∷ ms)) ∙ ap (λ q. before (go (m ∷ ms) q) S) (set-zero p v z)
 
 -- along the variables us and then the rest: what needs none of us, and then what needs one
-walk-tail : (b : ℕ) (us rest : List ℕ) (ms : List (List ℕ)) (p : List ℕ) → ((v : ℕ) → Member us v → get_or p v 0 ≡ 0) → walk (suc b) (us ++ rest) ms p ≡ before (walk (suc b) rest ms p) (tail b us rest ms p)
+walk-tail : (b : ℕ) (us rest : List ℕ) (ms : List (List ℕ)) (p : List ℕ) → ((v : ℕ) → Member us v → get_or p v 0 ≡ 0)
+    → walk (suc b) (us ++ rest) ms p ≡ before (walk (suc b) rest ms p) (tail b us rest ms p)
 walk-tail b [] rest ms p z = before-none (walk (suc b) rest ms p)
 walk-tail b (v ∷ us) rest [] p z = walk-nothing b (v ∷ us ++ rest) p ∙ sym (rw (walk-nothing b rest p, tail-nothing b (v ∷ us) rest p) refl)
 walk-tail b (v ∷ us) rest (m ∷ ms) p z =
     let ih = walk-tail b us rest (m ∷ ms) p (λ w i. z w (inr i)) in
     let S : Found = steps (walk (suc b) (us ++ rest)) v (m ∷ ms) p b 1 in
-    zero-first (walk (suc b) (us ++ rest)) v m ms p S (z v (inl refl)) ∙ ap (λ r. before r S) ih ∙ before-assoc (walk (suc b) rest (m ∷ ms) p) (tail b us rest (m ∷ ms) p) S
+    zero-first (walk (suc b) (us ++ rest)) v m ms p S (z v (inl refl)) ∙ ap (λ r. before r S) ih
+    ∙ before-assoc (walk (suc b) rest (m ∷ ms) p) (tail b us rest (m ∷ ms) p) S
 
 -- ---- one site more
 pub ranking-last : (vars : List VarInfo) (p : List ℕ) (s : ℕ) → ranking_of vars (p ++ s ∷ []) ≡ vars_of s vars 0 ++ ranking_of vars p
@@ -87,18 +93,21 @@ walk-goes-site-by-site b vars ms p s =
     ∙ walk-tail b (vars_of s vars 0) (ranking_of vars p) ms (zeros (length vars)) (λ v i. zeros-get (length vars) v)
     ∙ join-cases (front_walk b vars ms p) (tail b (vars_of s vars 0) (ranking_of vars p) ms (zeros (length vars)))
 
-fronts-joined : (b : ℕ) (vars : List VarInfo) (ms : List (List ℕ)) (p o : List ℕ) → (front_walk b vars ms p).0 ++ joined (site_walks b vars ms p o) ≡ (front_walk b vars ms (p ++ o)).0
+fronts-joined : (b : ℕ) (vars : List VarInfo) (ms : List (List ℕ)) (p o : List ℕ)
+    → (front_walk b vars ms p).0 ++ joined (site_walks b vars ms p o) ≡ (front_walk b vars ms (p ++ o)).0
 fronts-joined b vars ms p [] = append-nil (front_walk b vars ms p).0 ∙ ap (λ q. (front_walk b vars ms q).0) (sym (append-nil p))
 fronts-joined b vars ms p (s ∷ o) =
     let ih = fronts-joined b vars ms (p ++ s ∷ []) o in
-    let w : (front_walk b vars ms (p ++ s ∷ [])).0 ≡ (front_walk b vars ms p).0 ++ (site_walk b vars ms p s).0 = ap (λ z. z.0) (walk-goes-site-by-site b vars ms p s) in
+    let w : (front_walk b vars ms (p ++ s ∷ [])).0 ≡ (front_walk b vars ms p).0 ++ (site_walk b vars ms p s).0 =
+    ap (λ z. z.0) (walk-goes-site-by-site b vars ms p s) in
     sym (append_assoc (front_walk b vars ms p).0 (site_walk b vars ms p s).0 (joined (site_walks b vars ms (p ++ s ∷ []) o)))
     ∙ ap (λ z. z ++ joined (site_walks b vars ms (p ++ s ∷ []) o)) (sym w) ∙ ih ∙ ap (λ q. (front_walk b vars ms q).0) (append_assoc p (s ∷ []) o)
 
 list-walks : (vars : List VarInfo) (f : Sparse) (o : List ℕ) → list_of vars f o ≡ (front_walk 127 vars (all_rows (length vars) f) o).0
 unfolding list_of listed
 list-walks vars f o =
-    let m : rows (length (zeros (length vars))) f (range_with_len 0 (length f)) ≡ all_rows (length vars) f = ap (λ z. rows z f (range_with_len 0 (length f))) (length-zeros (length vars)) ∙ rows-all (length vars) f in
+    let m : rows (length (zeros (length vars))) f (range_with_len 0 (length f)) ≡ all_rows (length vars) f =
+    ap (λ z. rows z f (range_with_len 0 (length f))) (length-zeros (length vars)) ∙ rows-all (length vars) f in
     ap (λ z. (walk 128 (ranking_of vars o) z (zeros (length vars))).0) m
 
 pub lists-are-walked-by-prefixes : ListsAreWalkedByPrefixes
@@ -114,12 +123,17 @@ in-unless [] r a i = absurd i
 in-unless (m ∷ ms) r a i = i
 
 -- at one of the exponents
-in-steps : (go : List (List ℕ) → List ℕ → Found) (v : ℕ) (ms : List (List ℕ)) (p : List ℕ) (k e : ℕ) (a : List ℕ) → In (steps go v ms p k e).0 a → (d : ℕ) × (e ≤ d) × In (go (at_least v d ms) (set p v d)).0 a
+in-steps : (go : List (List ℕ) → List ℕ → Found) (v : ℕ) (ms : List (List ℕ)) (p : List ℕ) (k e : ℕ) (a : List ℕ)
+    → In (steps go v ms p k e).0 a → (d : ℕ) × (e ≤ d) × In (go (at_least v d ms) (set p v d)).0 a
 in-steps go v ms p zero e a i = absurd i
-in-steps go v ms p (suc k) e a i = by_case (in-before (go (at_least v e ms) (set p v e)) (steps go v ms p k (suc e)) a (in-unless (at_least v e ms) (before (go (at_least v e ms) (set p v e)) (steps go v ms p k (suc e))) a i)) (in-steps go v ms p k (suc e) a) where
-  by_case : In (go (at_least v e ms) (set p v e)).0 a ⊎ In (steps go v ms p k (suc e)).0 a → (In (steps go v ms p k (suc e)).0 a → (d : ℕ) × (suc e ≤ d) × In (go (at_least v d ms) (set p v d)).0 a) → (d : ℕ) × (e ≤ d) × In (go (at_least v d ms) (set p v d)).0 a
-  by_case (inl j) ih = (e, omega arith, j)
-  by_case (inr j) ih = let r = ih j in (r.0, omega (arith, r.1), r.2)
+in-steps go v ms p (suc k) e a i = by_case (in-before (go (at_least v e ms) (set p v e)) (steps go v ms p k (suc e)) a
+    (in-unless (at_least v e ms) (before (go (at_least v e ms) (set p v e)) (steps go v ms p k (suc e))) a i)) (in-steps go v ms p k (suc e) a)
+  where
+    by_case : In (go (at_least v e ms) (set p v e)).0 a ⊎ In (steps go v ms p k (suc e)).0 a
+        → (In (steps go v ms p k (suc e)).0 a → (d : ℕ) × (suc e ≤ d) × In (go (at_least v d ms) (set p v d)).0 a)
+        → (d : ℕ) × (e ≤ d) × In (go (at_least v d ms) (set p v d)).0 a
+    by_case (inl j) ih = (e, omega arith, j)
+    by_case (inr j) ih = let r = ih j in (r.0, omega (arith, r.1), r.2)
 
 below-at_least : (bound v e : ℕ) (ms : List (List ℕ)) → AllBelow bound ms → AllBelow bound (at_least v e ms)
 below-at_least bound v e ms h m u i = h m u (there ms i) where
@@ -138,27 +152,36 @@ inside-set vs p v e h = subst (λ n. Inside vs n) (sym (length-set p v e)) h
 NeedsOne : List ℕ → List ℕ → Type 0
 NeedsOne us a = (v : ℕ) × Member us v × (get_or a v 0 ≢ 0)
 
-tail-needs : (b : ℕ) (us rest : List ℕ) (ms : List (List ℕ)) (p a : List ℕ) → Distinct (us ++ rest) → Inside (us ++ rest) (length p) → AllBelow (suc b) ms → In (tail b us rest ms p).0 a → NeedsOne us a × Region (us ++ rest) p a
+tail-needs : (b : ℕ) (us rest : List ℕ) (ms : List (List ℕ)) (p a : List ℕ) → Distinct (us ++ rest) → Inside (us ++ rest) (length p)
+    → AllBelow (suc b) ms → In (tail b us rest ms p).0 a → NeedsOne us a × Region (us ++ rest) p a
 unfolding NeedsOne
 tail-needs b [] rest ms p a d n h i = absurd i
-tail-needs b (v ∷ us) rest ms p a d n h i = by_case (in-before (tail b us rest ms p) (steps (walk (suc b) (us ++ rest)) v ms p b 1) a i) (tail-needs b us rest ms p a d.1 n.1 h) where
-  wider : Region (us ++ rest) p a → Region (v ∷ us ++ rest) p a
-  wider r = record { size = r.size; off = λ u f. r.off u f.1 }
+tail-needs b (v ∷ us) rest ms p a d n h i =
+    by_case (in-before (tail b us rest ms p) (steps (walk (suc b) (us ++ rest)) v ms p b 1) a i) (tail-needs b us rest ms p a d.1 n.1 h)
+  where
+    wider : Region (us ++ rest) p a → Region (v ∷ us ++ rest) p a
+    wider r = record { size = r.size; off = λ u f. r.off u f.1 }
 
-  by_case : In (tail b us rest ms p).0 a ⊎ In (steps (walk (suc b) (us ++ rest)) v ms p b 1).0 a → (In (tail b us rest ms p).0 a → ((w : ℕ) × Member us w × (get_or a w 0 ≢ 0)) × Region (us ++ rest) p a) → ((w : ℕ) × Member (v ∷ us) w × (get_or a w 0 ≢ 0)) × Region (v ∷ us ++ rest) p a
-  by_case (inl j) ih = let r = ih j in ((r.0.0, inr r.0.1, r.0.2), wider r.1)
-  by_case (inr j) ih =
-      let r = in-steps (walk (suc b) (us ++ rest)) v ms p b 1 a j in
-      let l = listing-walk (suc b) (us ++ rest) (at_least v r.0 ms) (set p v r.0) d.1 (inside-set (us ++ rest) p v r.0 n.1) (below-at_least (suc b) v r.0 ms h) in
-      let g : Region (us ++ rest) (set p v r.0) a = l.inside a r.2 in
-      let q : get_or a v 0 ≡ r.0 = g.off v d.0 ∙ get_or-set_same p v r.0 0 n.0 in
-      ((v, inl refl, λ e. omega (arith, r.1, q, e)), record { size = g.size ∙ length-set p v r.0; off = λ u f. g.off u f.1 ∙ get_or-set_other p v u r.0 0 f.0 })
+    by_case : In (tail b us rest ms p).0 a ⊎ In (steps (walk (suc b) (us ++ rest)) v ms p b 1).0 a
+        → (In (tail b us rest ms p).0 a → ((w : ℕ) × Member us w × (get_or a w 0 ≢ 0)) × Region (us ++ rest) p a)
+        → ((w : ℕ) × Member (v ∷ us) w × (get_or a w 0 ≢ 0)) × Region (v ∷ us ++ rest) p a
+    by_case (inl j) ih = let r = ih j in ((r.0.0, inr r.0.1, r.0.2), wider r.1)
+    by_case (inr j) ih =
+        let r = in-steps (walk (suc b) (us ++ rest)) v ms p b 1 a j in
+        let l = listing-walk (suc b) (us ++ rest) (at_least v r.0 ms) (set p v r.0) d.1 (inside-set (us ++ rest) p v r.0 n.1)
+        (below-at_least (suc b) v r.0 ms h) in
+        let g : Region (us ++ rest) (set p v r.0) a = l.inside a r.2 in
+        let q : get_or a v 0 ≡ r.0 = g.off v d.0 ∙ get_or-set_same p v r.0 0 n.0 in (
+          (v, inl refl, λ e. omega (arith, r.1, q, e)),
+          record { size = g.size ∙ length-set p v r.0; off = λ u f. g.off u f.1 ∙ get_or-set_other p v u r.0 0 f.0 },
+        )
 
 -- ---- variables of a prefix
 vars-site : (s : ℕ) (is : List VarInfo) (v w : ℕ) → Member (vars_of s is v) w → (u : ℕ) × (w ≡ v + u) × (site_of is u ≡ Some s)
 vars-site s [] v w m = absurd m
 vars-site s (i ∷ is) v w m = go (same_site i.site (Some s)) refl m (vars-site s is (suc v) w) where
-  go : (b : Bool) → same_site i.site (Some s) ≡ b → Member (if b then (v ∷ vars_of s is (suc v)) else vars_of s is (suc v)) w → (Member (vars_of s is (suc v)) w → (u : ℕ) × (w ≡ suc v + u) × (site_of is u ≡ Some s)) → (u : ℕ) × (w ≡ v + u) × (site_of (i ∷ is) u ≡ Some s)
+  go : (b : Bool) → same_site i.site (Some s) ≡ b → Member (if b then (v ∷ vars_of s is (suc v)) else vars_of s is (suc v)) w
+      → (Member (vars_of s is (suc v)) w → (u : ℕ) × (w ≡ suc v + u) × (site_of is u ≡ Some s)) → (u : ℕ) × (w ≡ v + u) × (site_of (i ∷ is) u ≡ Some s)
   go true e (inl q) ih = (0, omega (arith, q), same_site-is i.site (Some s) e)
   go true e (inr j) ih = let r = ih j in (suc r.0, omega (arith, r.1), r.2)
   go false e j ih = let r = ih j in (suc r.0, omega (arith, r.1), r.2)
@@ -169,7 +192,8 @@ var-of vars s w m = let r = vars-site s vars 0 w m in let q : w ≡ r.0 = omega 
 ranked-of : (vars : List VarInfo) (p : List ℕ) (w : ℕ) → Member (ranking_of vars p) w → (t : ℕ) × Member p t × (site_of vars w ≡ Some t)
 ranked-of vars [] w m = absurd m
 ranked-of vars (s ∷ p) w m = go (member-cases (ranking_of vars p) (vars_of s vars 0) w m) (ranked-of vars p w) where
-  go : Member (ranking_of vars p) w ⊎ Member (vars_of s vars 0) w → (Member (ranking_of vars p) w → (t : ℕ) × Member p t × (site_of vars w ≡ Some t)) → (t : ℕ) × Member (s ∷ p) t × (site_of vars w ≡ Some t)
+  go : Member (ranking_of vars p) w ⊎ Member (vars_of s vars 0) w → (Member (ranking_of vars p) w → (t : ℕ) × Member p t × (site_of vars w ≡ Some t))
+      → (t : ℕ) × Member (s ∷ p) t × (site_of vars w ≡ Some t)
   go (inl j) ih = let r = ih j in (r.0, inr r.1, r.2)
   go (inr j) ih = (s, inl refl, var-of vars s w j)
 
@@ -236,10 +260,15 @@ order-right sites [] ys h = h
 order-right sites (x ∷ xs) ys h = order-right sites xs ys h.1
 
 module _ (n : ℕ) (sites : Sites) (f : Sparse) where
-  segments-from : (j : ℕ) (ls : List (List (List ℕ))) → IsInOrder sites (joined ls) → ((a : List ℕ) → In (joined ls) a → IsStageOf n sites f a) → ((a : List ℕ) (i : ℕ) → IsStageOf n sites f a → Ends sites i a → j ≤ i → In (joined ls) a) → HaveEnds sites j ls → AreSegments n sites f j ls
+  segments-from : (j : ℕ) (ls : List (List (List ℕ))) → IsInOrder sites (joined ls) → ((a : List ℕ) → In (joined ls) a → IsStageOf n sites f a)
+      → ((a : List ℕ) (i : ℕ) → IsStageOf n sites f a → Ends sites i a → j ≤ i → In (joined ls) a) → HaveEnds sites j ls → AreSegments n sites f j ls
   unfolding HaveEnds
   segments-from j [] o st al h = tt
-  segments-from j (l ∷ ls) o st al h = (here, segments-from (suc j) ls (order-right sites l (joined ls) o) (λ a i. st a (in-right l (joined ls) a i)) (λ a i s e k. behind a i e k (in-cases l (joined ls) a (al a i s e (omega (arith, k))))) h.1) where
+  segments-from j (l ∷ ls) o st al h = (
+    here,
+    segments-from (suc j) ls (order-right sites l (joined ls) o) (λ a i. st a (in-right l (joined ls) a i))
+        (λ a i s e k. behind a i e k (in-cases l (joined ls) a (al a i s e (omega (arith, k))))) h.1,
+  ) where
     at : (a : List ℕ) → Ends sites j a → In l a ⊎ In (joined ls) a → In l a
     at a e (inl m) = m
     at a e (inr m) = let r = joined-ends sites (suc j) ls a h.1 m in absurd (ends-order sites r.0 j a r.2 e (omega (arith, r.1)))
@@ -255,7 +284,8 @@ module _ (n : ℕ) (sites : Sites) (f : Sparse) where
       in_order = order-left sites l (joined ls) o;
     }
 
-module _ (k : ℕ) (vars : List VarInfo) (f : Sparse) (o : List ℕ) (laid : is_laid_out k vars ≡ true) (full : IsOrderOf k o) (poly : IsPoly f) (below : AreBelow (length vars) f) where
+module _ (k : ℕ) (vars : List VarInfo) (f : Sparse) (o : List ℕ) (laid : is_laid_out k vars ≡ true) (full : IsOrderOf k o) (poly : IsPoly f)
+    (below : AreBelow (length vars) f) where
   abbrev the_sites : Sites
   the_sites = sites_of vars o
 
@@ -270,39 +300,51 @@ module _ (k : ℕ) (vars : List VarInfo) (f : Sparse) (o : List ℕ) (laid : is_
 
   the-list : IsStageListOf (length vars) (sites_of vars o) f (joined (prefix_walks 127 vars (all_rows (length vars) f) o))
   the-list =
-      let w : IsStageListOf (length vars) (sites_of vars o) f (front_walk 127 vars (all_rows (length vars) f) o).0 = walk-stages (length vars) (sites_of vars o) f 128 (ranking_of vars o) (all_rows (length vars) f) ranking (rows-monomials (length vars) f (poly-terms f poly) below) small in
+      let w : IsStageListOf (length vars) (sites_of vars o) f (front_walk 127 vars (all_rows (length vars) f) o).0 = walk-stages (length vars)
+      (sites_of vars o) f 128 (ranking_of vars o) (all_rows (length vars) f) ranking (rows-monomials (length vars) f (poly-terms f poly) below) small in
       subst (λ l. IsStageListOf (length vars) (sites_of vars o) f l) (sym (fronts-joined 127 vars (all_rows (length vars) f) [] o)) w
 
-  -- no site stands twice
+  -- no site occurs twice
   not-before : (p q : List ℕ) (s : ℕ) → o ≡ p ++ s ∷ q → Member p s → ⊥
   not-before p q s e m =
       let r = at-front p (s ∷ q) s m in
       let l : length o ≡ length p + suc (length q) = ap length e ∙ length-append p (s ∷ q) in
-      full.each.differ r.0 (length p) 0 r.1 (omega (arith, l)) (ap (λ z. get_or z r.0 0) e ∙ r.2 ∙ sym (seam p q s) ∙ ap (λ z. get_or z (length p) 0) (sym e)) where
-        at-front : (p q : List ℕ) (s : ℕ) → Member p s → (i : ℕ) × (i < length p) × (get_or (p ++ q) i 0 ≡ s)
-        at-front [] q s m = absurd m
-        at-front (x ∷ p) q s (inl e) = (0, omega arith, sym e)
-        at-front (x ∷ p) q s (inr m) = let r = at-front p q s m in (suc r.0, omega (arith, r.1), r.2)
+      full.each.differ r.0 (length p) 0 r.1 (omega (arith, l)) (ap (λ z. get_or z r.0 0) e ∙ r.2 ∙ sym (seam p q s) ∙ ap (λ z. get_or z (length p) 0) (sym e))
+    where
+      at-front : (p q : List ℕ) (s : ℕ) → Member p s → (i : ℕ) × (i < length p) × (get_or (p ++ q) i 0 ≡ s)
+      at-front [] q s m = absurd m
+      at-front (x ∷ p) q s (inl e) = (0, omega arith, sym e)
+      at-front (x ∷ p) q s (inr m) = let r = at-front p q s m in (suc r.0, omega (arith, r.1), r.2)
 
-        seam : (p q : List ℕ) (s : ℕ) → get_or (p ++ s ∷ q) (length p) 0 ≡ s
-        seam [] q s = refl
-        seam (x ∷ p) q s = seam p q s
+      seam : (p q : List ℕ) (s : ℕ) → get_or (p ++ s ∷ q) (length p) 0 ≡ s
+      seam [] q s = refl
+      seam (x ∷ p) q s = seam p q s
 
-  walked-end : (p q : List ℕ) (s : ℕ) (a : List ℕ) → o ≡ p ++ s ∷ q → In (site_walk 127 vars (all_rows (length vars) f) p s).0 a → Ends (sites_of vars o) (suc (length p)) a
+  walked-end : (p q : List ℕ) (s : ℕ) (a : List ℕ) → o ≡ p ++ s ∷ q → In (site_walk 127 vars (all_rows (length vars) f) p s).0 a
+      → Ends (sites_of vars o) (suc (length p)) a
   unfolding NeedsOne
   walked-end p q s a e i =
       let vs : List ℕ = vars_of s vars 0 ++ ranking_of vars p in
-      let split : ranking_of vars o ≡ ranking_of vars q ++ (vars_of s vars 0 ++ ranking_of vars p) = ap (ranking_of vars) e ∙ ranking-join vars p (s ∷ q) ∙ append_assoc (ranking_of vars q) (vars_of s vars 0) (ranking_of vars p) in
-      let ranked : IsRanked (sites_of vars o) (ranking_of vars q ++ (vars_of s vars 0 ++ ranking_of vars p)) = subst (λ z. IsRanked (sites_of vars o) z) split ranking.ranked in
-      let d = ranked-distinct (sites_of vars o) (vars_of s vars 0 ++ ranking_of vars p) (ranked-behind (sites_of vars o) (ranking_of vars q) (vars_of s vars 0 ++ ranking_of vars p) ranked) in
-      let n = inside-from (vars_of s vars 0 ++ ranking_of vars p) (length (zeros (length vars))) (λ v m. (let b = ranking.below v (subst (λ z. Member z v) (sym split) (member-right (ranking_of vars q) (vars_of s vars 0 ++ ranking_of vars p) v m)) in omega (arith, b, length-zeros (length vars)))) in
-      let r = tail-needs 127 (vars_of s vars 0) (ranking_of vars p) (all_rows (length vars) f) (zeros (length vars)) a d n small (in-uncut (front_walk 127 vars (all_rows (length vars) f) p) (tail 127 (vars_of s vars 0) (ranking_of vars p) (all_rows (length vars) f) (zeros (length vars))) a i) in
+      let split : ranking_of vars o ≡ ranking_of vars q ++ (vars_of s vars 0 ++ ranking_of vars p) =
+      ap (ranking_of vars) e ∙ ranking-join vars p (s ∷ q) ∙ append_assoc (ranking_of vars q) (vars_of s vars 0) (ranking_of vars p) in
+      let ranked : IsRanked (sites_of vars o) (ranking_of vars q ++ (vars_of s vars 0 ++ ranking_of vars p)) =
+      subst (λ z. IsRanked (sites_of vars o) z) split ranking.ranked in
+      let d = ranked-distinct (sites_of vars o) (vars_of s vars 0 ++ ranking_of vars p)
+      (ranked-behind (sites_of vars o) (ranking_of vars q) (vars_of s vars 0 ++ ranking_of vars p) ranked) in
+      let n = inside-from (vars_of s vars 0 ++ ranking_of vars p) (length (zeros (length vars)))
+      (λ v m. (let b = ranking.below v (subst (λ z. Member z v) (sym split) (member-right (ranking_of vars q) (vars_of s vars 0 ++ ranking_of vars p) v m)) in
+      omega (arith, b, length-zeros (length vars)))) in
+      let r = tail-needs 127 (vars_of s vars 0) (ranking_of vars p) (all_rows (length vars) f)
+      (zeros (length vars)) a d n small (in-uncut (front_walk 127 vars (all_rows (length vars) f) p)
+      (tail 127 (vars_of s vars 0) (ranking_of vars p) (all_rows (length vars) f) (zeros (length vars))) a i) in
       let here : place_in o s ≡ length p = ap (λ z. place_in z s) e ∙ place-next p q s (not-before p q s e) in
       record {
-        below = λ w t of far. r.1.off w (fresh-from (vars_of s vars 0 ++ ranking_of vars p) w (λ m. outside w t of far here (member-cases (vars_of s vars 0) (ranking_of vars p) w m))) ∙ zeros-get (length vars) w;
+        below = λ w t of far. r.1.off w (fresh-from (vars_of s vars 0 ++ ranking_of vars p) w
+            (λ m. outside w t of far here (member-cases (vars_of s vars 0) (ranking_of vars p) w m))) ∙ zeros-get (length vars) w;
         last = λ j z. (r.0.0, s, var-of vars s r.0.0 r.0.1, omega (arith, here, z), r.0.2);
       } where
-        outside : (w t : ℕ) → site_of vars w ≡ Some t → suc (length p) ≤ place_in o t → place_in o s ≡ length p → Member (vars_of s vars 0) w ⊎ Member (ranking_of vars p) w → ⊥
+        outside : (w t : ℕ) → site_of vars w ≡ Some t → suc (length p) ≤ place_in o t → place_in o s ≡ length p
+            → Member (vars_of s vars 0) w ⊎ Member (ranking_of vars p) w → ⊥
         outside w t of far here (inl m) =
             let z : t ≡ s = (let y : Some t ≡ Some s = sym of ∙ var-of vars s w m in cc) in
             omega (arith, far, here, ap (place_in o) z)
@@ -317,7 +359,8 @@ module _ (k : ℕ) (vars : List VarInfo) (f : Sparse) (o : List ℕ) (laid : is_
   walks-end p (s ∷ q) e =
       let g : o ≡ (p ++ s ∷ []) ++ q = e ∙ sym (append_assoc p (s ∷ []) q) in
       let l : length (p ++ s ∷ []) ≡ suc (length p) = omega (arith, length-append p (s ∷ [])) in
-      let ih : HaveEnds (sites_of vars o) (suc (length (p ++ s ∷ []))) (site_walks 127 vars (all_rows (length vars) f) (p ++ s ∷ []) q) = walks-end (p ++ s ∷ []) q g in
+      let ih : HaveEnds (sites_of vars o) (suc (length (p ++ s ∷ []))) (site_walks 127 vars (all_rows (length vars) f) (p ++ s ∷ []) q) =
+      walks-end (p ++ s ∷ []) q g in
       ((λ a i. walked-end p q s a e i), subst (λ n. HaveEnds (sites_of vars o) (suc n) (site_walks 127 vars (all_rows (length vars) f) (p ++ s ∷ []) q)) l ih)
 
   first-ends : (a : List ℕ) → In (front_walk 127 vars (all_rows (length vars) f) []).0 a → Ends (sites_of vars o) 0 a
@@ -332,7 +375,8 @@ module _ (k : ℕ) (vars : List VarInfo) (f : Sparse) (o : List ℕ) (laid : is_
 
   segments : AreSegments (length vars) (sites_of vars o) f 0 (prefix_walks 127 vars (all_rows (length vars) f) o)
   unfolding HaveEnds
-  segments = segments-from (length vars) (sites_of vars o) f 0 (prefix_walks 127 vars (all_rows (length vars) f) o) the-list.in_order the-list.stages (λ a i s e l. the-list.all a s) (first-ends, walks-end [] o refl)
+  segments = segments-from (length vars) (sites_of vars o) f 0 (prefix_walks 127 vars (all_rows (length vars) f) o) the-list.in_order
+      the-list.stages (λ a i s e l. the-list.all a s) (first-ends, walks-end [] o refl)
 
 pub walks-are-segments : WalksAreSegments
 walks-are-segments k vars f o laid full poly below = segments k vars f o laid full poly below

@@ -31,7 +31,8 @@ fresh-ranking n sites vs r = fresh-ranked n sites vs r.ranked r.below
 -- ---- the terms
 pub rows-all : (n : ℕ) (f : Sparse) → rows n f (range_with_len 0 (length f)) ≡ all_rows n f
 rows-all n f =
-    same_lists (rows n f (range_with_len 0 (length f))) (all_rows n f) (length-map-range_with_len (λ i. vector n (term_at f i).0) 0 (length f) ∙ sym (length-map f (λ t. vector n t.0)))
+    same_lists (rows n f (range_with_len 0 (length f))) (all_rows n f)
+    (length-map-range_with_len (λ i. vector n (term_at f i).0) 0 (length f) ∙ sym (length-map f (λ t. vector n t.0)))
     (λ k d h. let l : k < length f = omega (arith, h, length-map-range_with_len (λ i. vector n (term_at f i).0) 0 (length f)) in
     get_or-map-range_with_len (λ i. vector n (term_at f i).0) 0 (length f) k k d l (omega arith) ∙ sym (get_or-map (λ t. vector n t.0) f k ([], pos 0) d l))
 
@@ -63,7 +64,8 @@ pub zeros-replicate : (n : ℕ) → replicate n 0 ≡ zeros n
 zeros-replicate zero = refl
 zeros-replicate (suc n) = ap (λ z. 0 ∷ z) (zeros-replicate n)
 
-pub start-step : (f : Sparse) (n : ℕ) (vs kept p : List ℕ) → AreBelow n f → AreRising f → 0 < length f → AreFresh n vs → kept ≡ range_with_len 0 (length f) → p ≡ zeros n → IsStep f vs kept p
+pub start-step : (f : Sparse) (n : ℕ) (vs kept p : List ℕ) → AreBelow n f → AreRising f → 0 < length f → AreFresh n vs
+    → kept ≡ range_with_len 0 (length f) → p ≡ zeros n → IsStep f vs kept p
 start-step f n vs kept p below rising some r ek ep =
     let e : length p ≡ n = ap length ep ∙ length-zeros n in
     record {
@@ -78,11 +80,13 @@ start-step f n vs kept p below rising some r ek ep =
     }
 
 -- ---- what is listed from there
-pub list-is : (vars : List VarInfo) (f : Sparse) (o vs kept p : List ℕ) → vs ≡ ranking_of vars o → kept ≡ range_with_len 0 (length f) → p ≡ zeros (length vars) → (listed f vs kept p).0 ≡ list_of vars f o
+pub list-is : (vars : List VarInfo) (f : Sparse) (o vs kept p : List ℕ) → vs ≡ ranking_of vars o → kept ≡ range_with_len 0 (length f)
+    → p ≡ zeros (length vars) → (listed f vs kept p).0 ≡ list_of vars f o
 unfolding list_of
 list-is vars f o vs kept p ev ek ep = rw (ev, ek, ep) refl
 
-pub list-seen : (vars : List VarInfo) (f : Sparse) (o vs kept p : List ℕ) (t : Tallied) → vs ≡ ranking_of vars o → kept ≡ range_with_len 0 (length f) → p ≡ zeros (length vars)
+pub list-seen : (vars : List VarInfo) (f : Sparse) (o vs kept p : List ℕ) (t : Tallied) → vs ≡ ranking_of vars o
+    → kept ≡ range_with_len 0 (length f) → p ≡ zeros (length vars)
     → see_all (length p) f t (listed f vs kept p).0 ≡ see_all (length vars) f t (list_of vars f o)
 list-seen vars f o vs kept p t ev ek ep =
     let e : length p ≡ length vars = ap length ep ∙ length-zeros (length vars) in

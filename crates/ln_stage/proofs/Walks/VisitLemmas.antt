@@ -1,5 +1,6 @@
 -- One prefix: what is listed there is its segment.
-use Rattle.std.proofs.Common.{◌≡◌, ◌⊎◌, inl, inr, ℕ, zero, suc, ◌+◌, ◌-◌, ◌<◌, ◌≤◌, Bool, true, false, List, [], ◌∷◌, ◌++◌, length, length-append, get_or, set, take, drop, refl, sym, ◌∙◌, ap, subst, arith}
+use Rattle.std.proofs.Common.{◌≡◌, ◌⊎◌, inl, inr, ℕ, zero, suc, ◌+◌, ◌-◌, ◌<◌, ◌≤◌, Bool, true, false, List, [], ◌∷◌, ◌++◌, length}
+use Rattle.std.proofs.Common.{length-append, get_or, set, take, drop, refl, sym, ◌∙◌, ap, subst, arith}
 use Rattle.std.specs.List.{range_with_len}
 use Rattle.std.proofs.lemmas.List.{get_or-set_other, get_or-set_same, take-append-drop, take_all, take_more}
 use Rattle.std.proofs.lemmas.Bool.{cases_lt}
@@ -27,7 +28,8 @@ use Rattle.ln_stage.proofs.Walks.WalkLemmas.{at-zero}
 last-split : (p : List ℕ) (n : ℕ) → length p ≡ suc n → p ≡ take n p ++ get_or p n 0 ∷ []
 last-split p n e = sym (take_all (n + 1) p (omega (arith, e))) ∙ take_more p n 0 (omega (arith, e))
 
-last-walked : (b : ℕ) (vars : List VarInfo) (ms : List (List ℕ)) (q : List ℕ) (s : ℕ) (p : List ℕ) (t : ℕ) → last_walk b vars ms q s (p ++ t ∷ []) ≡ (site_walk b vars ms (q ++ s ∷ p) t).0
+last-walked : (b : ℕ) (vars : List VarInfo) (ms : List (List ℕ)) (q : List ℕ) (s : ℕ) (p : List ℕ) (t : ℕ)
+    → last_walk b vars ms q s (p ++ t ∷ []) ≡ (site_walk b vars ms (q ++ s ∷ p) t).0
 last-walked b vars ms q s [] t = refl
 last-walked b vars ms q s (u ∷ p) t =
     let ih = last-walked b vars ms (q ++ s ∷ []) u p t in
@@ -40,7 +42,7 @@ pub walked-last : (b : ℕ) (vars : List VarInfo) (ms : List (List ℕ)) (q : Li
 walked-last b vars ms [] t = refl
 walked-last b vars ms (s ∷ q) t = last-walked b vars ms [] s q t
 
--- behind the cut nothing is listed, before it the site's walk is
+-- after the cut nothing is listed, before it the site's walk is
 unless-true : (r t : Found) → r.1 ≡ true → unless_cut r t ≡ ([], true)
 unless-true (l, true) t h = refl
 unless-true (l, false) t h = cc
@@ -57,11 +59,13 @@ module _ (vars : List VarInfo) (f : Sparse) where
   the_rows = all_rows (length vars) f
 
   -- the segment and the cut, from the walk of the last site
-  at-last : (p : List ℕ) (n : ℕ) → length p ≡ suc n → (segment_at vars f p ≡ (site_walk 127 vars (all_rows (length vars) f) (take n p) (get_or p n 0)).0) × (is_cut_at vars f p ≡ (site_walk 127 vars (all_rows (length vars) f) (take n p) (get_or p n 0)).1)
+  at-last : (p : List ℕ) (n : ℕ) → length p ≡ suc n → (segment_at vars f p ≡ (site_walk 127 vars (all_rows (length vars) f) (take n p) (get_or p n 0)).0)
+      × (is_cut_at vars f p ≡ (site_walk 127 vars (all_rows (length vars) f) (take n p) (get_or p n 0)).1)
   unfolding segment_at is_cut_at
   at-last p n e = (
     ap (prefix_walk 127 vars (all_rows (length vars) f)) (last-split p n e) ∙ walked-last 127 vars (all_rows (length vars) f) (take n p) (get_or p n 0),
-    ap (λ z. (front_walk 127 vars (all_rows (length vars) f) z).1) (last-split p n e) ∙ ap (λ z. z.1) (walk-goes-site-by-site 127 vars (all_rows (length vars) f) (take n p) (get_or p n 0)),
+    ap (λ z. (front_walk 127 vars (all_rows (length vars) f) z).1) (last-split p n e)
+        ∙ ap (λ z. z.1) (walk-goes-site-by-site 127 vars (all_rows (length vars) f) (take n p) (get_or p n 0)),
   )
 
   before-is : (p : List ℕ) (n : ℕ) → length p ≡ suc n → cut_before vars f p ≡ is_cut_at vars f (take n p)
@@ -76,12 +80,13 @@ module _ (vars : List VarInfo) (f : Sparse) where
   some-cut [] h = cc
   some-cut (x ∷ p) h = (length p, refl)
 
-  -- where the cut stands before the prefix, its segment is empty
+  -- where the cut is before the prefix, its segment is empty
   pub nothing-behind : (p : List ℕ) → cut_before vars f p ≡ true → (segment_at vars f p ≡ []) × (is_cut_at vars f p ≡ true)
   nothing-behind p h =
       let n = some-cut p h in
       let a = at-last p n.0 n.1 in
-      let z = unless-true (front_walk 127 vars (all_rows (length vars) f) (take n.0 p)) (tail 127 (vars_of (get_or p n.0 0) vars 0) (ranking_of vars (take n.0 p)) (all_rows (length vars) f) (zeros (length vars))) (front-cut (take n.0 p) true (sym (before-is p n.0 n.1) ∙ h)) in
+      let z = unless-true (front_walk 127 vars (all_rows (length vars) f) (take n.0 p)) (tail 127 (vars_of (get_or p n.0 0) vars 0)
+      (ranking_of vars (take n.0 p)) (all_rows (length vars) f) (zeros (length vars))) (front-cut (take n.0 p) true (sym (before-is p n.0 n.1) ∙ h)) in
       (a.0 ∙ ap (λ y. y.0) z, a.1 ∙ ap (λ y. y.1) z)
 
   -- ---- what the program lists
@@ -89,20 +94,24 @@ module _ (vars : List VarInfo) (f : Sparse) where
   rows-start = ap (λ z. rows z f (range_with_len 0 (length f))) (length-zeros (length vars)) ∙ rows-all (length vars) f
 
   -- at the empty prefix
-  pub listed-first : (p vs kept start : List ℕ) → length p ≡ 0 → vs ≡ ranking_of vars p → kept ≡ range_with_len 0 (length f) → start ≡ zeros (length vars) → listed_at f vs kept start 0 ≡ (segment_at vars f p, is_cut_at vars f p)
+  pub listed-first : (p vs kept start : List ℕ) → length p ≡ 0 → vs ≡ ranking_of vars p → kept ≡ range_with_len 0 (length f)
+      → start ≡ zeros (length vars) → listed_at f vs kept start 0 ≡ (segment_at vars f p, is_cut_at vars f p)
   unfolding listed segment_at is_cut_at
   listed-first [] vs kept start e v k s = at-zero f vs kept start ∙ rw (v, k, s) (ap (λ ms. walk 128 [] ms (zeros (length vars))) rows-start)
   listed-first (x ∷ p) vs kept start e v k s = absurd (omega (arith, e))
 
   -- the variables of its last site go first
-  vars-first : (p vs us : List ℕ) (n : ℕ) → length p ≡ suc n → vs ≡ ranking_of vars p → us ≡ vars_of (get_or p n 0) vars 0 → vs ≡ us ++ ranking_of vars (take n p)
-  vars-first p vs us n e v u = v ∙ ap (ranking_of vars) (last-split p n e) ∙ ranking-last vars (take n p) (get_or p n 0) ∙ ap (λ z. z ++ ranking_of vars (take n p)) (sym u)
+  vars-first : (p vs us : List ℕ) (n : ℕ) → length p ≡ suc n → vs ≡ ranking_of vars p → us ≡ vars_of (get_or p n 0) vars 0
+      → vs ≡ us ++ ranking_of vars (take n p)
+  vars-first p vs us n e v u = v ∙ ap (ranking_of vars) (last-split p n e) ∙ ranking-last vars (take n p) (get_or p n 0)
+      ∙ ap (λ z. z ++ ranking_of vars (take n p)) (sym u)
 
   within-vars : (p vs us : List ℕ) (n : ℕ) → length p ≡ suc n → vs ≡ ranking_of vars p → us ≡ vars_of (get_or p n 0) vars 0 → length us ≤ length vs
   within-vars p vs us n e v u = omega (arith, ap length (vars-first p vs us n e v u), length-append us (ranking_of vars (take n p)))
 
   -- at any other
-  listed-last : (p vs us kept start : List ℕ) (n : ℕ) → length p ≡ suc n → cut_before vars f p ≡ false → vs ≡ ranking_of vars p → us ≡ vars_of (get_or p n 0) vars 0 → kept ≡ range_with_len 0 (length f) → start ≡ zeros (length vars)
+  listed-last : (p vs us kept start : List ℕ) (n : ℕ) → length p ≡ suc n → cut_before vars f p ≡ false → vs ≡ ranking_of vars p
+      → us ≡ vars_of (get_or p n 0) vars 0 → kept ≡ range_with_len 0 (length f) → start ≡ zeros (length vars)
       → listed_behind f (take (length us) vs) (drop (length us) vs) kept start ≡ (segment_at vars f p, is_cut_at vars f p)
   unfolding listed_behind
   listed-last p vs us kept start n e c v u k s =
@@ -110,27 +119,34 @@ module _ (vars : List VarInfo) (f : Sparse) where
       let l : take (length us) vs ≡ us = ap (take (length us)) g ∙ take-append_seam us (ranking_of vars (take n p)) in
       let r : drop (length us) vs ≡ ranking_of vars (take n p) = ap (drop (length us)) g ∙ drop-append_seam us (ranking_of vars (take n p)) in
       let a = at-last p n e in
-      let z = unless-false (front_walk 127 vars (all_rows (length vars) f) (take n p)) (tail 127 (vars_of (get_or p n 0) vars 0) (ranking_of vars (take n p)) (all_rows (length vars) f) (zeros (length vars))) (front-cut (take n p) false (sym (before-is p n e) ∙ c)) in
-      let w : listed_behind f (take (length us) vs) (drop (length us) vs) kept start ≡ tail 127 (vars_of (get_or p n 0) vars 0) (ranking_of vars (take n p)) (all_rows (length vars) f) (zeros (length vars)) =
-      ap (λ x. tail 127 x (drop (length us) vs) (rows (length start) f kept) start) (l ∙ u) ∙ ap (λ x. tail 127 (vars_of (get_or p n 0) vars 0) x (rows (length start) f kept) start) r
+      let z = unless-false (front_walk 127 vars (all_rows (length vars) f) (take n p)) (tail 127 (vars_of (get_or p n 0) vars 0)
+      (ranking_of vars (take n p)) (all_rows (length vars) f) (zeros (length vars))) (front-cut (take n p) false (sym (before-is p n e) ∙ c)) in
+      let w : listed_behind f (take (length us) vs) (drop (length us) vs) kept start
+      ≡ tail 127 (vars_of (get_or p n 0) vars 0) (ranking_of vars (take n p)) (all_rows (length vars) f) (zeros (length vars)) =
+      ap (λ x. tail 127 x (drop (length us) vs) (rows (length start) f kept) start) (l ∙ u)
+      ∙ ap (λ x. tail 127 (vars_of (get_or p n 0) vars 0) x (rows (length start) f kept) start) r
       ∙ ap (λ x. tail 127 (vars_of (get_or p n 0) vars 0) (ranking_of vars (take n p)) (rows (length start) f x) start) k
       ∙ ap (λ x. tail 127 (vars_of (get_or p n 0) vars 0) (ranking_of vars (take n p)) (rows (length x) f (range_with_len 0 (length f))) x) s
       ∙ ap (λ x. tail 127 (vars_of (get_or p n 0) vars 0) (ranking_of vars (take n p)) x (zeros (length vars))) rows-start in
-      let y : (segment_at vars f p, is_cut_at vars f p) ≡ site_walk 127 vars (all_rows (length vars) f) (take n p) (get_or p n 0) = pairs (segment_at vars f p) (is_cut_at vars f p) (site_walk 127 vars (all_rows (length vars) f) (take n p) (get_or p n 0)) a.0 a.1 in
+      let y : (segment_at vars f p, is_cut_at vars f p) ≡ site_walk 127 vars (all_rows (length vars) f) (take n p) (get_or p n 0) =
+      pairs (segment_at vars f p) (is_cut_at vars f p) (site_walk 127 vars (all_rows (length vars) f) (take n p) (get_or p n 0)) a.0 a.1 in
       w ∙ sym z ∙ sym y
 
   -- ---- what the program keeps
   size-start : (start : List ℕ) → start ≡ zeros (length vars) → length start ≡ length vars
   size-start start s = ap length s ∙ length-zeros (length vars)
 
-  module _ (p vs kept start sites : List ℕ) (t : Tallied) (v : vs ≡ ranking_of vars p) (k : kept ≡ range_with_len 0 (length f)) (s : start ≡ zeros (length vars)) (w : sites ≡ p) where
+  module _ (p vs kept start sites : List ℕ) (t : Tallied) (v : vs ≡ ranking_of vars p) (k : kept ≡ range_with_len 0 (length f))
+      (s : start ≡ zeros (length vars)) (w : sites ≡ p) where
     pub cut-first : length sites ≡ 0 → (listed_at f vs kept start 0).1 ≡ is_cut_at vars f p
     cut-first e = ap (λ z. z.1) (listed-first p vs kept start (ap length (sym w) ∙ e) v k s)
 
     pub seen-first : length sites ≡ 0 → see_all (length start) f t (listed_at f vs kept start 0).0 ≡ see_all (length vars) f t (segment_at vars f p)
-    seen-first e = ap (λ z. see_all (length start) f t z.0) (listed-first p vs kept start (ap length (sym w) ∙ e) v k s) ∙ ap (λ n. see_all n f t (segment_at vars f p)) (size-start start s)
+    seen-first e = ap (λ z. see_all (length start) f t z.0) (listed-first p vs kept start (ap length (sym w) ∙ e) v k s)
+        ∙ ap (λ n. see_all n f t (segment_at vars f p)) (size-start start s)
 
-    module _ (us : List ℕ) (m : ℕ) (some : 0 < length sites) (u : us ≡ vars_of (get_or sites (length sites - 1) 0) vars 0) (c : cut_before vars f p ≡ false) (size : m ≡ length us) where
+    module _ (us : List ℕ) (m : ℕ) (some : 0 < length sites) (u : us ≡ vars_of (get_or sites (length sites - 1) 0) vars 0)
+        (c : cut_before vars f p ≡ false) (size : m ≡ length us) where
       one-more : length p ≡ suc (length sites - 1)
       one-more = omega (arith, ap length w, some)
 
@@ -154,9 +170,12 @@ module _ (vars : List VarInfo) (f : Sparse) where
   fresh-front k p laid r =
       let o : List ℕ = r.order in
       let whole = fresh-ranking (length vars) (sites_of vars r.order) (ranking_of vars r.order) (ranking-is k vars r.order laid r.full.size r.full.each) in
-      let split : ranking_of vars r.order ≡ ranking_of vars (drop r.places r.order) ++ ranking_of vars p = ap (ranking_of vars) (sym (take-append-drop r.places r.order)) ∙ ranking-join vars (take r.places r.order) (drop r.places r.order) ∙ ap (λ z. ranking_of vars (drop r.places r.order) ++ ranking_of vars z) (sym r.front) in
+      let split : ranking_of vars r.order ≡ ranking_of vars (drop r.places r.order) ++ ranking_of vars p =
+      ap (ranking_of vars) (sym (take-append-drop r.places r.order)) ∙ ranking-join vars (take r.places r.order) (drop r.places r.order)
+      ∙ ap (λ z. ranking_of vars (drop r.places r.order) ++ ranking_of vars z) (sym r.front) in
       let behind = fresh-behind (length vars) (ranking_of vars r.order) (length (ranking_of vars (drop r.places r.order))) whole in
-      subst (AreFresh (length vars)) (ap (drop (length (ranking_of vars (drop r.places r.order)))) split ∙ drop-append_seam (ranking_of vars (drop r.places r.order)) (ranking_of vars p)) behind
+      subst (AreFresh (length vars)) (ap (drop (length (ranking_of vars (drop r.places r.order)))) split
+      ∙ drop-append_seam (ranking_of vars (drop r.places r.order)) (ranking_of vars p)) behind
 
   -- ---- what is kept by length
   pub cut-of : (p : List ℕ) (cuts : List Bool) → AreCuts vars f (length p) p cuts → cut_in cuts (length p) ≡ cut_before vars f p
@@ -164,7 +183,8 @@ module _ (vars : List VarInfo) (f : Sparse) where
   cut-of (x ∷ p) cuts h = h (length p) (omega arith)
 
   -- one length more
-  pub cuts-more : (p : List ℕ) (cuts : List Bool) (b : Bool) → length cuts ≡ 6 → length p ≤ 5 → AreCuts vars f (length p) p cuts → b ≡ is_cut_at vars f p → AreCuts vars f (length p + 1) p (set cuts (length p) b)
+  pub cuts-more : (p : List ℕ) (cuts : List Bool) (b : Bool) → length cuts ≡ 6 → length p ≤ 5 → AreCuts vars f (length p) p cuts
+      → b ≡ is_cut_at vars f p → AreCuts vars f (length p + 1) p (set cuts (length p) b)
   cuts-more p cuts b six few h e j l = go (cases_lt j (length p)) where
     go : (j < length p) ⊎ (length p ≤ j) → get_or (set cuts (length p) b) j false ≡ is_cut_at vars f (take j p)
     go (inl m) = get_or-set_other cuts (length p) j b false (λ q. omega (arith, q, m)) ∙ h j m
@@ -186,7 +206,9 @@ module _ (vars : List VarInfo) (f : Sparse) where
       let same : take j p ≡ take j q = sym (take-less j (length q - 1) p le) ∙ ap (take j) w.shared ∙ take-less j (length q - 1) q le in
       h j (omega (arith, l, w.near)) ∙ ap (is_cut_at vars f) same
 
-  pub cuts-go : (ps : List (List ℕ)) (i : ℕ) (p : List ℕ) (rest : List (List ℕ)) (cuts : List Bool) → ((i : ℕ) → suc i < length ps → Follows (get_or ps i []) (get_or ps (suc i) [])) → drop i ps ≡ p ∷ rest → AreCuts vars f (length p + 1) p cuts → AreCutsFor vars f rest cuts
+  pub cuts-go : (ps : List (List ℕ)) (i : ℕ) (p : List ℕ) (rest : List (List ℕ)) (cuts : List Bool)
+      → ((i : ℕ) → suc i < length ps → Follows (get_or ps i []) (get_or ps (suc i) [])) → drop i ps ≡ p ∷ rest
+      → AreCuts vars f (length p + 1) p cuts → AreCutsFor vars f rest cuts
   cuts-go [] zero p rest cuts all e h = cc
   cuts-go [] (suc i) p rest cuts all e h = cc
   cuts-go (q ∷ ps) (suc i) p rest cuts all e h = cuts-go ps i p rest cuts (λ j l. all (suc j) (omega (arith, l))) e h

@@ -1,5 +1,6 @@
 -- The exponents of one variable in turn, each with what goes down from it.
-use Rattle.std.proofs.Common.{◌≡◌, ℕ, suc, ◌+◌, ◌-◌, ◌<◌, ◌≤◌, Bool, true, false, List, [], ◌∷◌, ◌++◌, length, get_or, set, drop, refl, sym, ◌∙◌, ap, subst, arith}
+use Rattle.std.proofs.Common.{◌≡◌, ℕ, suc, ◌+◌, ◌-◌, ◌<◌, ◌≤◌, Bool, true, false, List, [], ◌∷◌, ◌++◌, length, get_or, set, drop, refl, sym}
+use Rattle.std.proofs.Common.{◌∙◌, ap, subst, arith}
 use Rattle.std.proofs.Math.ListN.{length-set}
 use Rattle.std.specs.Prelude.{◌==◌}
 use Rattle.std.proofs.lemmas.Bool.Decides.{nat_tests}
@@ -13,7 +14,7 @@ use Rattle.ln_stage.specs.Kept.{IsStep, high, listed, listed_at, listed_from, ro
 use Rattle.ln_stage.specs.Tally.{IsOver, IsStoppedBy, Tallied, see_all}
 use Rattle.ln_stage.proofs.Walks.StepLemmas.{over-more, rows-high, see_all-append, step-down, steps-cut, steps-more, steps-none}
 
--- another cause, where the one gives the other
+-- another cause, where the one implies the other
 pub stopped-more : (e : StageStop) {P Q : Type 0} → (P → Q) → IsStoppedBy e P → IsStoppedBy e Q
 stopped-more Zero f h = h
 stopped-more Stages f h = f h
@@ -59,7 +60,8 @@ module _ (f : Sparse) (vs kept p : List ℕ) (s : IsStep f vs kept p) (more : 0 
     -- none has this exponent: the list ends
     pub ends-none : (n : ℕ) → length h ≡ 0 → (128 - e ≡ n) → rest n e ≡ ([], false)
     ends-none n z c =
-        let l : length (at_least (get_or vs 0 0) e (rows (length p) f kept)) ≡ 0 = ap length (sym rows-are) ∙ length-map h (λ i. vector (length p) (term_at f i).0) ∙ z in
+        let l : length (at_least (get_or vs 0 0) e (rows (length p) f kept)) ≡ 0 =
+        ap length (sym rows-are) ∙ length-map h (λ i. vector (length p) (term_at f i).0) ∙ z in
         let k : n ≡ suc (127 - e) = omega (arith, c) in
         rw k (steps-none (walk 128 (drop 1 vs)) (get_or vs 0 0) (rows (length p) f kept) p (127 - e) e l)
 
@@ -88,7 +90,8 @@ module _ (f : Sparse) (vs kept p : List ℕ) (s : IsStep f vs kept p) (more : 0 
         -- the cut ends the list
         pub ends-cut : stop ≡ true → (true ≡ S) × (t' ≡ T)
         ends-cut c =
-            let w : rest (128 - e) e ≡ down = rw counts (steps-cut (walk 128 (drop 1 vs)) (get_or vs 0 0) (rows (length p) f kept) p (127 - e) e long (sym stop-down ∙ c)) in
+            let w : rest (128 - e) e ≡ down =
+            rw counts (steps-cut (walk 128 (drop 1 vs)) (get_or vs 0 0) (rows (length p) f kept) p (127 - e) e long (sym stop-down ∙ c)) in
             (sym c ∙ stop-down ∙ ap (λ z. z.1) (sym w) ∙ cut, seen-down ∙ ap (λ z. see_all (length p) f t z.0) (sym w) ∙ all)
 
         goes-on : down.1 ≡ false → rest (128 - e) e ≡ (down.0 ++ (rest (127 - e) (suc e)).0, (rest (127 - e) (suc e)).1)
@@ -99,11 +102,12 @@ module _ (f : Sparse) (vs kept p : List ℕ) (s : IsStep f vs kept p) (more : 0 
         keeps c =
             let w = goes-on (sym stop-down ∙ c) in
             rw (counts-next, next) (
-              ap (λ z. see_all (length p) f z (rest (127 - e) (suc e)).0) seen-down ∙ sym (see_all-append (length p) f t down.0 (rest (127 - e) (suc e)).0) ∙ ap (λ z. see_all (length p) f t z.0) (sym w) ∙ all,
+              ap (λ z. see_all (length p) f z (rest (127 - e) (suc e)).0) seen-down
+                  ∙ sym (see_all-append (length p) f t down.0 (rest (127 - e) (suc e)).0) ∙ ap (λ z. see_all (length p) f t z.0) (sym w) ∙ all,
               ap (λ z. z.1) (sym w) ∙ cut,
             )
 
-      -- what is over the limits on the way down is over them at the end
+      -- what is over the limits inside a branch is over them at the end
       module _ (t T : Tallied) (all : see_all (length p) f t (rest (128 - e) e).0 ≡ T) where
         over-down : IsOver (see_all (length p) f t down.0) → IsOver T
         over-down o = by down.1 refl where
@@ -112,12 +116,15 @@ module _ (f : Sparse) (vs kept p : List ℕ) (s : IsStep f vs kept p) (more : 0 
               let w : rest (128 - e) e ≡ down = rw counts (steps-cut (walk 128 (drop 1 vs)) (get_or vs 0 0) (rows (length p) f kept) p (127 - e) e long c) in
               subst IsOver (ap (λ z. see_all (length p) f t z.0) (sym w) ∙ all) o
           by false c =
-              let w : rest (128 - e) e ≡ (down.0 ++ (rest (127 - e) (suc e)).0, (rest (127 - e) (suc e)).1) = rw counts (steps-more (walk 128 (drop 1 vs)) (get_or vs 0 0) (rows (length p) f kept) p (127 - e) e long c) in
-              subst IsOver (sym (see_all-append (length p) f t down.0 (rest (127 - e) (suc e)).0) ∙ ap (λ z. see_all (length p) f t z.0) (sym w) ∙ all) (over-more (length p) f (see_all (length p) f t down.0) (rest (127 - e) (suc e)).0 o)
+              let w : rest (128 - e) e ≡ (down.0 ++ (rest (127 - e) (suc e)).0, (rest (127 - e) (suc e)).1) =
+              rw counts (steps-more (walk 128 (drop 1 vs)) (get_or vs 0 0) (rows (length p) f kept) p (127 - e) e long c) in
+              subst IsOver (sym (see_all-append (length p) f t down.0 (rest (127 - e) (suc e)).0) ∙ ap (λ z. see_all (length p) f t z.0) (sym w) ∙ all)
+              (over-more (length p) f (see_all (length p) f t down.0) (rest (127 - e) (suc e)).0 o)
 
         pub stops-down : (x : StageStop) → IsStoppedBy x (IsOver (see_all (length q) f t (walk 128 r (rows (length q) f h) q).0)) → IsStoppedBy x (IsOver T)
         stops-down x o =
-            let g : see_all (length q) f t (walk 128 r (rows (length q) f h) q).0 ≡ see_all (length p) f t down.0 = ap (λ z. see_all z f t (walk 128 r (rows (length q) f h) q).0) size ∙ ap (λ z. see_all (length p) f t z.0) goes in
+            let g : see_all (length q) f t (walk 128 r (rows (length q) f h) q).0 ≡ see_all (length p) f t down.0 =
+            ap (λ z. see_all z f t (walk 128 r (rows (length q) f h) q).0) size ∙ ap (λ z. see_all (length p) f t z.0) goes in
             stopped-more x over-down (subst (λ z. IsStoppedBy x (IsOver z)) g o)
 
 -- ---- the same, as the code has it
@@ -129,7 +136,8 @@ pub ends : (f : Sparse) (vs kept p : List ℕ) (e : ℕ) → 128 ≤ e → liste
 unfolding listed_from
 ends f vs kept p e h = let z : 128 - e ≡ 0 = omega arith in rw z refl
 
-module _ (f : Sparse) (vs kept p : List ℕ) (s : IsStep f vs kept p) (more : 0 < length vs) (e : ℕ) (small : e < 128) (h : List ℕ) (eh : h ≡ high f (get_or vs 0 0) e kept) where
+module _ (f : Sparse) (vs kept p : List ℕ) (s : IsStep f vs kept p) (more : 0 < length vs) (e : ℕ) (small : e < 128) (h : List ℕ)
+    (eh : h ≡ high f (get_or vs 0 0) e kept) where
   pub from-none : length h ≡ 0 → listed_from f vs kept p e ≡ ([], false)
   unfolding listed_from
   from-none z = ends-none f vs kept p s more e small h eh (128 - e) z refl
@@ -137,12 +145,14 @@ module _ (f : Sparse) (vs kept p : List ℕ) (s : IsStep f vs kept p) (more : 0 
   pub from-step : 0 < length h → (q : List ℕ) → q ≡ set p (get_or vs 0 0) e → (r : List ℕ) → r ≡ drop 1 vs → IsStep f r h q
   from-step some q eq r er = goes-step f vs kept p s more e small h eh some q eq r er
 
-  module _ (some : 0 < length h) (q : List ℕ) (eq : q ≡ set p (get_or vs 0 0) e) (r : List ℕ) (er : r ≡ drop 1 vs) (t T : Tallied) (all : see_all (length p) f t (listed_from f vs kept p e).0 ≡ T) where
+  module _ (some : 0 < length h) (q : List ℕ) (eq : q ≡ set p (get_or vs 0 0) e) (r : List ℕ) (er : r ≡ drop 1 vs) (t T : Tallied)
+      (all : see_all (length p) f t (listed_from f vs kept p e).0 ≡ T) where
     pub from-stops : (x : StageStop) → IsStoppedBy x (IsOver (see_all (length q) f t (listed f r h q).0)) → IsStoppedBy x (IsOver T)
     unfolding listed listed_from
     from-stops x o = stops-down f vs kept p s more e small h eh some q eq r er t T all x o
 
-    module _ (t' : Tallied) (stop : Bool) (S : Bool) (seen : t' ≡ see_all (length q) f t (listed f r h q).0) (stops : stop ≡ (listed f r h q).1) (cut : (listed_from f vs kept p e).1 ≡ S) where
+    module _ (t' : Tallied) (stop : Bool) (S : Bool) (seen : t' ≡ see_all (length q) f t (listed f r h q).0)
+        (stops : stop ≡ (listed f r h q).1) (cut : (listed_from f vs kept p e).1 ≡ S) where
       pub from-cut : stop ≡ true → (true ≡ S) × (t' ≡ T)
       unfolding listed listed_from
       from-cut c = ends-cut f vs kept p s more e small h eh some q eq r er t t' stop T S seen stops all cut c

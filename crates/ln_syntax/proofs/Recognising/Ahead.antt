@@ -3,7 +3,8 @@ use Rattle.std.proofs.Common.{◌≡◌, ℕ, suc, ◌<◌, ◌≤◌, ◌⊎◌
 use Rattle.ln_lex.specs.declared.token.Token.{Token}
 use Rattle.ln_lex.specs.declared.token.Kind.TheVariants.{Semi}
 use Rattle.ln_syntax.specs.Raw.{Is}
-use Rattle.ln_syntax.specs.Expression.{Tree, Sort, Derives, number, name, input, parens, plain, power, base, minus, term, no_factor, times, sum, no_term, plus, less, IsExpr}
+use Rattle.ln_syntax.specs.Expression.{Tree, Sort, Derives, number, name, input, parens, plain, power, base, minus, term, no_factor, times}
+use Rattle.ln_syntax.specs.Expression.{sum, no_term, plus, less, IsExpr}
 
 -- from place i up to place j no token is a semicolon
 pub record NoSemi (ts : List Token) (i j : ℕ) : Type 0 where
@@ -29,7 +30,7 @@ joined {ts = ts} {i = i} {j = j} {k = k} a b = record {
   none = λ m h l s. elim (before m j) [ inl p ↦ a.none m h p s | inr p ↦ b.none m p l s ];
 }
 
--- a token of another kind in front
+-- a token of another kind before
 before_one : {ts : List Token} {i j : ℕ} → (Is ts i Semi → ⊥) → NoSemi ts (suc i) j → NoSemi ts i j
 before_one {i = i} n a = joined (one i n) a
 
@@ -51,7 +52,7 @@ no_semi (no_term {i = i}) = nothing i
 no_semi (plus is d r) = before_one (λ h. cc) (joined (no_semi d) (no_semi r))
 no_semi (less is d r) = before_one (λ h. cc) (joined (no_semi d) (no_semi r))
 
--- an expression ends at the first semicolon behind its first token
+-- an expression ends at the first semicolon after its first token
 pub next_semi : {ts : List Token} {i j k : ℕ} → IsExpr ts i j → Is ts j Semi → i ≤ k → ((m : ℕ) → i ≤ m → m < k → Is ts m Semi → ⊥) → Is ts k Semi → j ≡ k
 next_semi {j = j} {k = k} e s r n t =
     let a = no_semi e.1 in

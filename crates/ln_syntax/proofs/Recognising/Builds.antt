@@ -1,8 +1,9 @@
--- What the automaton has read is the front of a derivation: what a state still wants is the function that takes it.
+-- What the automaton has read is a prefix of a derivation: what a state still wants is the function that takes it.
 use Rattle.std.proofs.Common.{◌≡◌, ℕ, zero, suc, ◌+◌, List, [], ◌∷◌, length, drop, Some, None, refl, ap, sym, subst, arith}
 use Rattle.ln_lex.specs.declared.token.Token.{Token}
 use Rattle.ln_lex.specs.declared.token.Kind.{Kind}
-use Rattle.ln_lex.specs.declared.token.Kind.TheVariants.{Name, Number, Site, Param, Predicate, Let, Sign, BraceL, BraceR, ParL, ParR, Colon, Semi, Comma, Dot, Dots, Plus, Minus, Star, Caret, Equals}
+use Rattle.ln_lex.specs.declared.token.Kind.TheVariants.{Name, Number, Site, Param, Predicate, Let, Sign, BraceL, BraceR, ParL, ParR, Colon}
+use Rattle.ln_lex.specs.declared.token.Kind.TheVariants.{Semi, Comma, Dot, Dots, Plus, Minus, Star, Caret, Equals}
 use Rattle.ln_syntax.specs.declared.raw.RawEnd.{RawEnd}
 use Rattle.ln_syntax.specs.declared.raw.RawCoord.{RawCoord}
 use Rattle.ln_syntax.specs.declared.raw.RawArg.{RawArg}
@@ -14,10 +15,15 @@ use Rattle.ln_syntax.specs.declared.place.Part.TheVariants.{Value, Root}
 use Rattle.ln_syntax.specs.declared.place.Last.{Last}
 use Rattle.ln_syntax.specs.declared.place.Last.TheVariants.{Named, Whole, Raised}
 use Rattle.ln_syntax.specs.declared.place.State.{State}
-use Rattle.ln_syntax.specs.declared.place.State.TheVariants.{AnItem, SiteName, SiteOpen, CoordName, CoordColon, CoordOrEnd, ParamName, ParamColon, Low, LowNumber, Between, High, HighNumber, RangeEnd, PredicateName, PredicateOpen, ArgName, ArgColon, ArgKind, ArgEnd, BodyOpen, Body, LetName, LetEquals, Operand, InputName, Exponent, After, BodyEnd}
+use Rattle.ln_syntax.specs.declared.place.State.TheVariants.{AnItem, SiteName, SiteOpen, CoordName, CoordColon, CoordOrEnd, ParamName}
+use Rattle.ln_syntax.specs.declared.place.State.TheVariants.{ParamColon, Low, LowNumber, Between, High, HighNumber, RangeEnd, PredicateName}
+use Rattle.ln_syntax.specs.declared.place.State.TheVariants.{PredicateOpen, ArgName, ArgColon, ArgKind, ArgEnd, BodyOpen, Body, LetName}
+use Rattle.ln_syntax.specs.declared.place.State.TheVariants.{LetEquals, Operand, InputName, Exponent, After, BodyEnd}
 use Rattle.ln_syntax.specs.Raw.{Item, Is, span_at}
-use Rattle.ln_syntax.specs.Expression.{Tree, TAdd, TSub, TMul, Sort, Atom, Power, Unary, Sum, Factors, Terms, Derives, number, name, input, parens, plain, power, base, minus, term, no_factor, times, sum, no_term, plus, less}
-use Rattle.ln_syntax.specs.File.{End, range, Coords, no_coord, coord, Arg, site_arg, param_arg, Args, last_arg, more_args, Lets, no_let, a_let, site, param, predicate, Items, no_item, an_item}
+use Rattle.ln_syntax.specs.Expression.{Tree, TAdd, TSub, TMul, Sort, Atom, Power, Unary, Sum, Factors, Terms, Derives, number, name, input}
+use Rattle.ln_syntax.specs.Expression.{parens, plain, power, base, minus, term, no_factor, times, sum, no_term, plus, less}
+use Rattle.ln_syntax.specs.File.{End, range, Coords, no_coord, coord, Arg, site_arg, param_arg, Args, last_arg, more_args, Lets, no_let}
+use Rattle.ln_syntax.specs.File.{a_let, site, param, predicate, Items, no_item, an_item}
 use Rattle.ln_syntax.specs.File as File
 use Rattle.ln_syntax.specs.Place.{IsText}
 use Rattle.ln_syntax.specs.Automaton.{Standing, next_of, behind, next_at, goes, start}
@@ -93,7 +99,7 @@ abbrev WantsSum : List Token → Part → ℕ → Type 0
 WantsSum ts Root i = WantsRoot ts i
 WantsSum ts Value i = (j : ℕ) (e : Tree) → Derives ts Sum i j e → Is ts j Semi → WantsBody ts (suc j)
 
--- a factor is wanted in so many parentheses
+-- a factor is wanted in this many parentheses
 abbrev Before : List Token → Part → ℕ → ℕ → Type 0
 Before ts p zero i = (s : ℕ) × WantsSum ts p s × Wanted ts s i
 Before ts p (suc d) i = (s : ℕ) × Before ts p d s × Is ts s ParL × Wanted ts (suc s) i
@@ -141,7 +147,7 @@ pub record NameRead (ts : List Token) (p : Part) (d j : ℕ) : Type 0 where
   pub is : Is ts from Name
   pub next : j ≡ suc from
 
--- what stands before place j in each state
+-- what comes before place j in each state
 abbrev StandsIn : List Token → State → ℕ → ℕ → Type 0
 StandsIn ts AnItem d j = Front ts j
 StandsIn ts SiteName d j = Is ts j Name → Is ts (suc j) BraceL → WantsCoords ts (suc (suc j))
@@ -181,7 +187,8 @@ Stands ts (Some c) j = StandsIn ts c.0 c.1 j
 
 -- a name is an atom
 named : {ts : List Token} {p : Part} {d j : ℕ} → NameRead ts p d j → Read ts p d Atom j
-named {ts = ts} {p = p} {d = d} r = subst (λ (w : ℕ). Read ts p d Atom w) (sym r.next) (record { from = r.from; tree = _; before = r.before; derives = name r.is })
+named {ts = ts} {p = p} {d = d} r =
+    subst (λ (w : ℕ). Read ts p d Atom w) (sym r.next) (record { from = r.from; tree = _; before = r.before; derives = name r.is })
 
 as_unary : {ts : List Token} {p : Part} {d j : ℕ} (l : Last) → StandsIn ts (After p l) d j → Read ts p d Unary j
 as_unary Named h = let r = named h in record { from = r.from; tree = r.tree; before = r.before; derives = base (plain r.derives) }
@@ -207,7 +214,7 @@ field_of ts p d j r h n =
     let n2 : Is ts (suc (suc r.from)) Name = subst (λ (w : ℕ). Is ts (suc w) Name) r.next n in
     subst (λ (w : ℕ). Read ts p d Atom (suc (suc w))) (sym r.next) (record { from = r.from; tree = _; before = r.before; derives = input r.is h2 n2 })
 
--- a token behind an operand
+-- a token after an operand
 past : (ts : List Token) (p : Part) (l : Last) (d j : ℕ) (k : Kind) → StandsIn ts (After p l) d j → Is ts j k → Stands ts (behind p l d k) (suc j)
 past ts p l d j Plus h is = let r = as_unary l h in inner p d (plus_more r.derives is) r.before
 past ts p l d j Minus h is = let r = as_unary l h in inner p d (less_more r.derives is) r.before
@@ -240,10 +247,12 @@ let_more h is n q = λ j e x s k ls ds. h k _ (a_let is n q (e, x) s ds)
 site_begins : {ts : List Token} {i : ℕ} → Front ts i → Is ts i Site → Is ts (suc i) Name → Is ts (suc (suc i)) BraceL → WantsCoords ts (suc (suc (suc i)))
 site_begins f is n b = λ j c cs ds e. record { on = λ m x. f.on m (_, an_item (site is n b ds e) x.1) }
 
-param_begins : {ts : List Token} {i : ℕ} → Front ts i → Is ts i Param → Is ts (suc i) Name → Is ts (suc (suc i)) Colon → WantsLow ts Parameter (suc (suc (suc i)))
+param_begins : {ts : List Token} {i : ℕ} → Front ts i → Is ts i Param → Is ts (suc i) Name → Is ts (suc (suc i)) Colon
+    → WantsLow ts Parameter (suc (suc (suc i)))
 param_begins f is n c = λ j a l o k b h s. record { on = λ m x. f.on m (_, an_item (param is n c (range l o h) s) x.1) }
 
-predicate_begins : {ts : List Token} {i : ℕ} → Front ts i → Is ts i Predicate → Is ts (suc i) Name → Is ts (suc (suc i)) ParL → WantsArgName ts (suc (suc (suc i)))
+predicate_begins : {ts : List Token} {i : ℕ} → Front ts i → Is ts i Predicate → Is ts (suc i) Name → Is ts (suc (suc i)) ParL
+    → WantsArgName ts (suc (suc (suc i)))
 predicate_begins f is n o = λ j xs ys c b k ls ds g l t e s z. record { on = λ m x. f.on m (_, an_item (predicate is n o ys c b ds g (t, e) s z) x.1) }
 
 -- a token in each state

@@ -13,7 +13,8 @@ depth_taken (t ∷ ts) zero k d is = let e : t.kind ≡ k = cc in ap (λ (w : Ki
 depth_taken (t ∷ ts) (suc i) k d is = depth_taken ts i k (depth_behind d t.kind) is
 
 -- one more token is read
-pub depth_more : (ts : List Token) (i : ℕ) (k : Kind) (d e : ℕ) → d ≡ depth_after 0 (take i ts) → Is ts i k → e ≡ depth_behind d k → e ≡ depth_after 0 (take (i + 1) ts)
+pub depth_more : (ts : List Token) (i : ℕ) (k : Kind) (d e : ℕ) → d ≡ depth_after 0 (take i ts) → Is ts i k → e ≡ depth_behind d k
+    → e ≡ depth_after 0 (take (i + 1) ts)
 depth_more ts i k d e w is n =
     let s : i + 1 ≡ suc i = omega arith in
     let t = depth_taken ts i k 0 is in
@@ -26,7 +27,8 @@ abbrev pub ShallowTo : List Token → ℕ → Type 0
 ShallowTo ts i = (j : ℕ) → j < i → Is ts j ParL → depth_after 0 (take j ts) < 64
 
 -- one more token is read, and it is not nested too deep
-pub shallow_more : (ts : List Token) (i : ℕ) (k : Kind) (d : ℕ) → ShallowTo ts i → d ≡ depth_after 0 (take i ts) → Is ts i k → (k ≡ ParL → d < 64) → ShallowTo ts (i + 1)
+pub shallow_more : (ts : List Token) (i : ℕ) (k : Kind) (d : ℕ) → ShallowTo ts i → d ≡ depth_after 0 (take i ts) → Is ts i k
+    → (k ≡ ParL → d < 64) → ShallowTo ts (i + 1)
 shallow_more ts i k d h w is n j l p = elim (cases_lt j i) [ inl b ↦ h j b p | inr b ↦ at (omega arith) ]
   where
     at : j ≡ i → depth_after 0 (take j ts) < 64

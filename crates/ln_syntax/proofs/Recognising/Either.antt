@@ -1,5 +1,6 @@
 -- Tokens have a fault of nesting or none, and of syntax.
-use Rattle.std.proofs.Common.{◌≡◌, ℕ, zero, suc, ◌+◌, ◌<◌, ◌≤◌, ◌⊎◌, inl, inr, Bool, true, false, List, [], ◌∷◌, length, take, Option, Some, None, refl, arith, subst}
+use Rattle.std.proofs.Common.{◌≡◌, ℕ, zero, suc, ◌+◌, ◌<◌, ◌≤◌, ◌⊎◌, inl, inr, Bool, true, false, List, [], ◌∷◌, length, take, Option, Some}
+use Rattle.std.proofs.Common.{None, refl, arith, subst}
 use Rattle.ln_lex.specs.declared.token.Token.{Token}
 use Rattle.ln_lex.specs.declared.token.Kind.{Kind}
 use Rattle.ln_lex.specs.declared.token.Kind.TheVariants.{ParL, ParR}
@@ -11,7 +12,7 @@ use Rattle.ln_syntax.specs.Place.{depth_behind, depth_after, IsShallow, IsNestin
 use Rattle.ln_syntax.proofs.Recognising.Depth.{ShallowTo, depth_more, shallow_more, shallow_all}
 use Rattle.ln_syntax.proofs.Recognising.Fault.{walked_more, fault_at, fault_end, is_text}
 
--- before the end a token stands
+-- before the end there is a token
 kind_there : (ts : List Token) (i : ℕ) → i < length ts → (k : Kind) × Is ts i k
 kind_there [] i h = absurd (omega arith)
 kind_there (t ∷ ts) zero h = (t.kind, refl)
@@ -44,7 +45,8 @@ to_more ts i k t is n =
 opened : (ts : List Token) (i : ℕ) → To ts i → Is ts i ParL → 64 ≤ depth_after 0 (take i ts) → IsNestingFault ts i
 opened ts i t is h = let s = t.small in record { opens = is; deep = omega arith; first = t.shallow }
 
-depth_at : (n : ℕ) (ts : List Token) (i : ℕ) (k : Kind) → To ts i → Is ts i k → (To ts (i + 1) → ((k : ℕ) × IsNestingFault ts k) ⊎ IsShallow ts) → ((k : ℕ) × IsNestingFault ts k) ⊎ IsShallow ts
+depth_at : (n : ℕ) (ts : List Token) (i : ℕ) (k : Kind) → To ts i → Is ts i k
+    → (To ts (i + 1) → ((k : ℕ) × IsNestingFault ts k) ⊎ IsShallow ts) → ((k : ℕ) × IsNestingFault ts k) ⊎ IsShallow ts
 depth_at n ts i k t is on = elim (is_par k) [
   | inl e ↦ elim (below (depth_after 0 (take i ts)) 64) [
     | inl l ↦ on (to_more ts i k t is (λ q. l))
@@ -65,16 +67,20 @@ depth_from (suc n) ts i e t =
 pub either_depth : (ts : List Token) → ((i : ℕ) × IsNestingFault ts i) ⊎ IsShallow ts
 either_depth ts = depth_from (length ts) ts 0 (omega arith) (record { shallow = λ j h p. absurd (omega arith); small = omega arith })
 
-place_end : (ts : List Token) (s : State) (d : ℕ) (v : Bool) → is_end s ≡ v → goes start (take (length ts) ts) ≡ Some (s, d) → ((k : ℕ) × IsSyntaxFault ts k) ⊎ IsText ts
+place_end : (ts : List Token) (s : State) (d : ℕ) (v : Bool) → is_end s ≡ v → goes start (take (length ts) ts) ≡ Some (s, d)
+    → ((k : ℕ) × IsSyntaxFault ts k) ⊎ IsText ts
 place_end ts s d true e w = inr (is_text ts s d w e)
 place_end ts s d false e w = inl (length ts, fault_end ts s d w e)
 
-place_at : (ts : List Token) (i : ℕ) (k : Kind) (s : State) (d : ℕ) → i < length ts → Is ts i k → goes start (take i ts) ≡ Some (s, d) → (o : Option (State × ℕ)) → next_of s d k ≡ o
-    → ((u : State) (v : ℕ) → goes start (take (i + 1) ts) ≡ Some (u, v) → ((k : ℕ) × IsSyntaxFault ts k) ⊎ IsText ts) → ((k : ℕ) × IsSyntaxFault ts k) ⊎ IsText ts
+place_at : (ts : List Token) (i : ℕ) (k : Kind) (s : State) (d : ℕ) → i < length ts → Is ts i k → goes start (take i ts) ≡ Some (s, d)
+    → (o : Option (State × ℕ)) → next_of s d k ≡ o
+    → ((u : State) (v : ℕ) → goes start (take (i + 1) ts) ≡ Some (u, v) → ((k : ℕ) × IsSyntaxFault ts k) ⊎ IsText ts)
+    → ((k : ℕ) × IsSyntaxFault ts k) ⊎ IsText ts
 place_at ts i k s d h is w None e on = inl (i, fault_at ts i k s d h w is e)
 place_at ts i k s d h is w (Some (u, v)) e on = on u v (walked_more ts i k s u d v w is e)
 
-place_from : (n : ℕ) (ts : List Token) (i : ℕ) → i + n ≡ length ts → (s : State) (d : ℕ) → goes start (take i ts) ≡ Some (s, d) → ((k : ℕ) × IsSyntaxFault ts k) ⊎ IsText ts
+place_from : (n : ℕ) (ts : List Token) (i : ℕ) → i + n ≡ length ts → (s : State) (d : ℕ) → goes start (take i ts) ≡ Some (s, d)
+    → ((k : ℕ) × IsSyntaxFault ts k) ⊎ IsText ts
 place_from zero ts i e s d w =
     let q : i ≡ length ts = omega arith in
     place_end ts s d (is_end s) refl (subst (λ (m : ℕ). goes start (take m ts) ≡ Some (s, d)) q w)
@@ -82,6 +88,6 @@ place_from (suc n) ts i e s d w =
     let k = kind_there ts i (omega arith) in
     place_at ts i k.0 s d (omega arith) k.1 w (next_of s d k.0) refl (λ u v x. place_from n ts (i + 1) (omega arith) u v x)
 
--- the tokens are a file, or have a place at which they stop being the front of one
+-- the tokens are a file, or have a place at which they stop being a prefix of one
 pub either_place : (ts : List Token) → ((i : ℕ) × IsSyntaxFault ts i) ⊎ IsText ts
 either_place ts = place_from (length ts) ts 0 (omega arith) AnItem 0 refl

@@ -1,5 +1,6 @@
 -- Where the automaton stops is the place of the fault: each state has tokens that finish the file.
-use Rattle.std.proofs.Common.{◌≡◌, ℕ, zero, suc, ◌+◌, ◌<◌, ◌≤◌, Bool, true, false, List, [], ◌∷◌, ◌++◌, length, slice_index_or, take, Some, None, refl, ap, sym, ◌∙◌, subst, arith, inl, inr}
+use Rattle.std.proofs.Common.{◌≡◌, ℕ, zero, suc, ◌+◌, ◌<◌, ◌≤◌, Bool, true, false, List, [], ◌∷◌, ◌++◌, length, slice_index_or, take, Some}
+use Rattle.std.proofs.Common.{None, refl, ap, sym, ◌∙◌, subst, arith, inl, inr}
 use Rattle.std.proofs.lemmas.Bool.{cases_lt}
 use Rattle.std.proofs.lemmas.List.{append-nil}
 use Rattle.ln_lex.specs.declared.token.Token.{Token}
@@ -12,7 +13,10 @@ use Rattle.ln_syntax.specs.declared.place.Part.TheVariants.{Value, Root}
 use Rattle.ln_syntax.specs.declared.place.Last.{Last}
 use Rattle.ln_syntax.specs.declared.place.Last.TheVariants.{Whole, Raised}
 use Rattle.ln_syntax.specs.declared.place.State.{State}
-use Rattle.ln_syntax.specs.declared.place.State.TheVariants.{AnItem, SiteName, SiteOpen, CoordName, CoordColon, CoordOrEnd, ParamName, ParamColon, Low, LowNumber, Between, High, HighNumber, RangeEnd, PredicateName, PredicateOpen, ArgName, ArgColon, ArgKind, ArgEnd, BodyOpen, Body, LetName, LetEquals, Operand, InputName, Exponent, After, BodyEnd}
+use Rattle.ln_syntax.specs.declared.place.State.TheVariants.{AnItem, SiteName, SiteOpen, CoordName, CoordColon, CoordOrEnd, ParamName}
+use Rattle.ln_syntax.specs.declared.place.State.TheVariants.{ParamColon, Low, LowNumber, Between, High, HighNumber, RangeEnd, PredicateName}
+use Rattle.ln_syntax.specs.declared.place.State.TheVariants.{PredicateOpen, ArgName, ArgColon, ArgKind, ArgEnd, BodyOpen, Body, LetName}
+use Rattle.ln_syntax.specs.declared.place.State.TheVariants.{LetEquals, Operand, InputName, Exponent, After, BodyEnd}
 use Rattle.ln_syntax.specs.Raw.{Is}
 use Rattle.ln_syntax.specs.Place.{IsText, IsFront, IsSyntaxFault}
 use Rattle.ln_syntax.specs.Automaton.{Standing, next_of, next_at, goes, start, is_end}
@@ -125,7 +129,7 @@ finished LetName d = record { depth = 0; comes = refl }
 finished LetEquals d = record { depth = 0; comes = refl }
 finished BodyEnd d = record { depth = d; comes = refl }
 
--- what takes the automaton to a state is the front of a file
+-- what takes the automaton to a state is a prefix of a file
 front : (xs : List Token) (s : State) (d : ℕ) → goes start xs ≡ Some (s, d) → IsFront xs
 front xs s d e =
     let f = finished s d in
@@ -144,13 +148,15 @@ taken (t ∷ ts) zero k o is = let e : t.kind ≡ k = cc in ap (λ (w : Kind). n
 taken (t ∷ ts) (suc i) k o is = taken ts i k (next_at o t.kind) is
 
 -- one more token is read
-pub walked_more : (ts : List Token) (i : ℕ) (k : Kind) (s u : State) (d v : ℕ) → goes start (take i ts) ≡ Some (s, d) → Is ts i k → next_of s d k ≡ Some (u, v) → goes start (take (i + 1) ts) ≡ Some (u, v)
+pub walked_more : (ts : List Token) (i : ℕ) (k : Kind) (s u : State) (d v : ℕ) → goes start (take i ts) ≡ Some (s, d) → Is ts i k
+    → next_of s d k ≡ Some (u, v) → goes start (take (i + 1) ts) ≡ Some (u, v)
 walked_more ts i k s u d v w is n =
     let e : i + 1 ≡ suc i = omega arith in
     ap (λ (m : ℕ). goes start (take m ts)) e ∙ taken ts i k start is ∙ ap (λ (o : Standing). next_at o k) w ∙ n
 
 -- a token with which the automaton doesn't go on is the fault
-pub fault_at : (ts : List Token) (i : ℕ) (k : Kind) (s : State) (d : ℕ) → i < length ts → goes start (take i ts) ≡ Some (s, d) → Is ts i k → next_of s d k ≡ None → IsSyntaxFault ts i
+pub fault_at : (ts : List Token) (i : ℕ) (k : Kind) (s : State) (d : ℕ) → i < length ts → goes start (take i ts) ≡ Some (s, d) → Is ts i k
+    → next_of s d k ≡ None → IsSyntaxFault ts i
 fault_at ts i k s d h w is n = record {
   within = omega arith;
   front = front (take i ts) s d w;
@@ -197,7 +203,7 @@ shorter [] (suc i) (suc j) h us = (us, refl)
 shorter (t ∷ ts) (suc i) zero h us = absurd (omega arith)
 shorter (t ∷ ts) (suc i) (suc j) h us = let r = shorter ts i j (omega arith) us in (r.0, ap (λ (w : List Token). t ∷ w) r.1)
 
--- what comes first in a front is a front
+-- a prefix of a prefix is a prefix
 front_of : (ts : List Token) (i j : ℕ) → i ≤ j → IsFront (take j ts) → IsFront (take i ts)
 front_of ts i j h f = let r = shorter ts i j h f.0 in (r.0, subst (λ (w : List Token). IsText w) r.1 f.1)
 
@@ -218,4 +224,8 @@ is_at (t ∷ ts) (suc i) x h = is_at ts i x (omega arith)
 
 -- there is none in a file
 pub no_text : (ts : List Token) (i : ℕ) → IsSyntaxFault ts i → IsText ts → ⊥
-no_text ts i f t = elim (cases_lt i (length ts)) [ inl h ↦ f.refused h (front_of ts (suc i) (length ts) (omega arith) ([], subst (λ (w : List Token). IsText w) (sym (append-nil (take (length ts) ts) ∙ take_all ts)) t)) | inr h ↦ f.unfinished (omega (arith, f.within)) t ]
+no_text ts i f t = elim (cases_lt i (length ts)) [
+  | inl h ↦ f.refused h (front_of ts (suc i) (length ts) (omega arith)
+      ([], subst (λ (w : List Token). IsText w) (sym (append-nil (take (length ts) ts) ∙ take_all ts)) t))
+  | inr h ↦ f.unfinished (omega (arith, f.within)) t
+]

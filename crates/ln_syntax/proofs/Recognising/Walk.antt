@@ -2,7 +2,8 @@
 use Rattle.std.proofs.Common.{◌≡◌, ℕ, zero, suc, List, [], ◌∷◌, ◌++◌, length, drop, Some, None, refl, ap, ◌∙◌}
 use Rattle.ln_lex.specs.declared.token.Token.{Token}
 use Rattle.ln_lex.specs.declared.token.Kind.{Kind}
-use Rattle.ln_lex.specs.declared.token.Kind.TheVariants.{Name, Number, Site, Param, Predicate, Let, Sign, BraceL, BraceR, ParL, ParR, Colon, Semi, Comma, Dot, Dots, Plus, Minus, Star, Caret, Equals}
+use Rattle.ln_lex.specs.declared.token.Kind.TheVariants.{Name, Number, Site, Param, Predicate, Let, Sign, BraceL, BraceR, ParL, ParR, Colon}
+use Rattle.ln_lex.specs.declared.token.Kind.TheVariants.{Semi, Comma, Dot, Dots, Plus, Minus, Star, Caret, Equals}
 use Rattle.ln_syntax.specs.declared.raw.RawEnd.{RawEnd}
 use Rattle.ln_syntax.specs.declared.raw.RawRange.{RawRange}
 use Rattle.ln_syntax.specs.declared.raw.RawCoord.{RawCoord}
@@ -15,10 +16,15 @@ use Rattle.ln_syntax.specs.declared.place.Part.TheVariants.{Value, Root}
 use Rattle.ln_syntax.specs.declared.place.Last.{Last}
 use Rattle.ln_syntax.specs.declared.place.Last.TheVariants.{Named, Whole, Raised}
 use Rattle.ln_syntax.specs.declared.place.State.{State}
-use Rattle.ln_syntax.specs.declared.place.State.TheVariants.{AnItem, SiteName, SiteOpen, CoordName, CoordColon, CoordOrEnd, ParamName, ParamColon, Low, LowNumber, Between, High, HighNumber, RangeEnd, PredicateName, PredicateOpen, ArgName, ArgColon, ArgKind, ArgEnd, BodyOpen, Body, LetName, LetEquals, Operand, InputName, Exponent, After, BodyEnd}
+use Rattle.ln_syntax.specs.declared.place.State.TheVariants.{AnItem, SiteName, SiteOpen, CoordName, CoordColon, CoordOrEnd, ParamName}
+use Rattle.ln_syntax.specs.declared.place.State.TheVariants.{ParamColon, Low, LowNumber, Between, High, HighNumber, RangeEnd, PredicateName}
+use Rattle.ln_syntax.specs.declared.place.State.TheVariants.{PredicateOpen, ArgName, ArgColon, ArgKind, ArgEnd, BodyOpen, Body, LetName}
+use Rattle.ln_syntax.specs.declared.place.State.TheVariants.{LetEquals, Operand, InputName, Exponent, After, BodyEnd}
 use Rattle.ln_syntax.specs.Raw.{Item, Is}
-use Rattle.ln_syntax.specs.Expression.{Tree, Sort, Atom, Power, Unary, Term, Sum, Factors, Terms, Derives, number, name, input, parens, plain, power, base, minus, term, no_factor, times, sum, no_term, plus, less}
-use Rattle.ln_syntax.specs.File.{End, Range, range, Coords, no_coord, coord, Arg, site_arg, param_arg, Args, last_arg, more_args, Lets, no_let, a_let, IsItem, site, param, predicate, Items, no_item, an_item}
+use Rattle.ln_syntax.specs.Expression.{Tree, Sort, Atom, Power, Unary, Term, Sum, Factors, Terms, Derives, number, name, input, parens}
+use Rattle.ln_syntax.specs.Expression.{plain, power, base, minus, term, no_factor, times, sum, no_term, plus, less}
+use Rattle.ln_syntax.specs.File.{End, Range, range, Coords, no_coord, coord, Arg, site_arg, param_arg, Args, last_arg, more_args, Lets}
+use Rattle.ln_syntax.specs.File.{no_let, a_let, IsItem, site, param, predicate, Items, no_item, an_item}
 use Rattle.ln_syntax.specs.File as File
 use Rattle.ln_syntax.specs.Place.{IsText}
 use Rattle.ln_syntax.specs.Automaton.{Standing, next_at, goes, start}
@@ -60,31 +66,42 @@ Reads ts Sum p d i j = Comes ts p (Operand p) d i j
 Reads ts (Factors f) p d i j = (l : Last) → Comes ts p (After p l) d i j
 Reads ts (Terms f) p d i j = (l : Last) → Comes ts p (After p l) d i j
 
-atom_named : (ts : List Token) (p : Part) (d i j : ℕ) → goes (Some (Operand p, d)) (drop i ts) ≡ goes (Some (After p Named, d)) (drop j ts) → ComesAtom ts p d i j
+atom_named : (ts : List Token) (p : Part) (d i j : ℕ)
+    → goes (Some (Operand p, d)) (drop i ts) ≡ goes (Some (After p Named, d)) (drop j ts) → ComesAtom ts p d i j
 atom_named ts p d i j e = record { last = Named; same = e; raised = λ h. one ts j Caret (Some (After p Named, d)) h }
 
-atom_whole : (ts : List Token) (p : Part) (d i j : ℕ) → goes (Some (Operand p, d)) (drop i ts) ≡ goes (Some (After p Whole, d)) (drop j ts) → ComesAtom ts p d i j
+atom_whole : (ts : List Token) (p : Part) (d i j : ℕ)
+    → goes (Some (Operand p, d)) (drop i ts) ≡ goes (Some (After p Whole, d)) (drop j ts) → ComesAtom ts p d i j
 atom_whole ts p d i j e = record { last = Whole; same = e; raised = λ h. one ts j Caret (Some (After p Whole, d)) h }
 
 -- a derivation within an expression is a run
 reads : {ts : List Token} {s : Sort} {i j : ℕ} {e : Tree} (p : Part) (d : ℕ) → Derives ts s i j e → Reads ts s p d i j
 reads {ts = ts} {i = i} {j = j} p d (number is) = atom_whole ts p d i j (one ts i Number (Some (Operand p, d)) is)
 reads {ts = ts} {i = i} {j = j} p d (name is) = atom_named ts p d i j (one ts i Name (Some (Operand p, d)) is)
-reads {ts = ts} {i = i} {j = j} p d (input is o n) = atom_whole ts p d i j (one ts i Name (Some (Operand p, d)) is ∙ one ts (suc i) Dot (Some (After p Named, d)) o ∙ one ts (suc (suc i)) Name (Some (InputName p, d)) n)
+reads {ts = ts} {i = i} {j = j} p d (input is o n) = atom_whole ts p d i j
+    (one ts i Name (Some (Operand p, d)) is ∙ one ts (suc i) Dot (Some (After p Named, d)) o ∙ one ts (suc (suc i)) Name (Some (InputName p, d)) n)
 reads {ts = ts} {i = i} p d (parens {j = j} is x e) =
     let r = reads p (suc d) x in
     atom_whole ts p d i (suc j) (one ts i ParL (Some (Operand p, d)) is ∙ r.same ∙ one ts j ParR (Some (After p r.last, suc d)) e)
 reads p d (plain x) = let r = reads p d x in record { last = r.last; same = r.same }
-reads {ts = ts} p d (power {j = j} x h n) = let r = reads p d x in record { last = Raised; same = r.same ∙ r.raised h ∙ one ts (suc j) Number (Some (Exponent p, d)) n }
+reads {ts = ts} p d (power {j = j} x h n) =
+    let r = reads p d x in
+    record { last = Raised; same = r.same ∙ r.raised h ∙ one ts (suc j) Number (Some (Exponent p, d)) n }
 reads p d (base x) = reads p d x
 reads {ts = ts} {i = i} p d (minus is x) = let r = reads p d x in record { last = r.last; same = one ts i Minus (Some (Operand p, d)) is ∙ r.same }
 reads p d (term x y) = let r = reads p d x in let q = reads p d y r.last in record { last = q.last; same = r.same ∙ q.same }
 reads p d no_factor = λ l. record { last = l; same = refl }
-reads {ts = ts} {i = i} p d (times is x y) = λ l. let r = reads p d x in let q = reads p d y r.last in record { last = q.last; same = one ts i Star (Some (After p l, d)) is ∙ r.same ∙ q.same }
+reads {ts = ts} {i = i} p d (times is x y) = λ l. let r = reads p d x in
+    let q = reads p d y r.last in
+    record { last = q.last; same = one ts i Star (Some (After p l, d)) is ∙ r.same ∙ q.same }
 reads p d (sum x y) = let r = reads p d x in let q = reads p d y r.last in record { last = q.last; same = r.same ∙ q.same }
 reads p d no_term = λ l. record { last = l; same = refl }
-reads {ts = ts} {i = i} p d (plus is x y) = λ l. let r = reads p d x in let q = reads p d y r.last in record { last = q.last; same = one ts i Plus (Some (After p l, d)) is ∙ r.same ∙ q.same }
-reads {ts = ts} {i = i} p d (less is x y) = λ l. let r = reads p d x in let q = reads p d y r.last in record { last = q.last; same = one ts i Minus (Some (After p l, d)) is ∙ r.same ∙ q.same }
+reads {ts = ts} {i = i} p d (plus is x y) = λ l. let r = reads p d x in
+    let q = reads p d y r.last in
+    record { last = q.last; same = one ts i Plus (Some (After p l, d)) is ∙ r.same ∙ q.same }
+reads {ts = ts} {i = i} p d (less is x y) = λ l. let r = reads p d x in
+    let q = reads p d y r.last in
+    record { last = q.last; same = one ts i Minus (Some (After p l, d)) is ∙ r.same ∙ q.same }
 
 low : {ts : List Token} {i j : ℕ} {e : RawEnd} (r : Ranged) → End ts i j e → goes (Some (Low r, 0)) (drop i ts) ≡ goes (Some (Between r, 0)) (drop j ts)
 low {ts = ts} {i = i} r (File.plain n) = one ts i Number (Some (Low r, 0)) n
@@ -98,8 +115,10 @@ ranged : {ts : List Token} {i j : ℕ} {x : RawRange} (r : Ranged) → Range ts 
 ranged {ts = ts} r (range {j = j} l o h) = low r l ∙ one ts j Dots (Some (Between r, 0)) o ∙ high r h
 
 arg : {ts : List Token} {i : ℕ} {a : RawArg} → Arg ts i a → goes (Some (ArgName, 0)) (drop i ts) ≡ goes (Some (ArgEnd, 0)) (drop (suc (suc (suc i))) ts)
-arg {ts = ts} {i = i} (site_arg n c t) = one ts i Name (Some (ArgName, 0)) n ∙ one ts (suc i) Colon (Some (ArgColon, 0)) c ∙ one ts (suc (suc i)) Name (Some (ArgKind, 0)) t
-arg {ts = ts} {i = i} (param_arg n c t) = one ts i Name (Some (ArgName, 0)) n ∙ one ts (suc i) Colon (Some (ArgColon, 0)) c ∙ one ts (suc (suc i)) Param (Some (ArgKind, 0)) t
+arg {ts = ts} {i = i} (site_arg n c t) =
+    one ts i Name (Some (ArgName, 0)) n ∙ one ts (suc i) Colon (Some (ArgColon, 0)) c ∙ one ts (suc (suc i)) Name (Some (ArgKind, 0)) t
+arg {ts = ts} {i = i} (param_arg n c t) =
+    one ts i Name (Some (ArgName, 0)) n ∙ one ts (suc i) Colon (Some (ArgColon, 0)) c ∙ one ts (suc (suc i)) Param (Some (ArgKind, 0)) t
 
 args : {ts : List Token} {i j : ℕ} {xs : List RawArg} → Args ts i j xs → goes (Some (ArgName, 0)) (drop i ts) ≡ goes (Some (ArgEnd, 0)) (drop j ts)
 args (last_arg a) = arg a
@@ -109,25 +128,32 @@ lets : {ts : List Token} {i j : ℕ} {ls : List RawLet} → Lets ts i j ls → g
 lets no_let = refl
 lets {ts = ts} {i = i} (a_let {j = j} l n q x s r) =
     let e = reads Value 0 x.1 in
-    one ts i Let (Some (Body, 0)) l ∙ one ts (suc i) Name (Some (LetName, 0)) n ∙ one ts (suc (suc i)) Equals (Some (LetEquals, 0)) q ∙ e.same ∙ one ts j Semi (Some (After Value e.last, 0)) s ∙ lets r
+    one ts i Let (Some (Body, 0)) l ∙ one ts (suc i) Name (Some (LetName, 0)) n ∙ one ts (suc (suc i)) Equals (Some (LetEquals, 0)) q
+    ∙ e.same ∙ one ts j Semi (Some (After Value e.last, 0)) s ∙ lets r
 
 -- further coordinates
 coords : {ts : List Token} {i j : ℕ} {cs : List RawCoord} → Coords ts i j cs → goes (Some (CoordOrEnd, 0)) (drop i ts) ≡ goes (Some (CoordOrEnd, 0)) (drop j ts)
 coords no_coord = refl
-coords {ts = ts} {i = i} (coord {j = j} n c r s x) = one ts i Name (Some (CoordOrEnd, 0)) n ∙ one ts (suc i) Colon (Some (CoordColon, 0)) c ∙ ranged Coordinate r ∙ one ts j Semi (Some (RangeEnd Coordinate, 0)) s ∙ coords x
+coords {ts = ts} {i = i} (coord {j = j} n c r s x) = one ts i Name (Some (CoordOrEnd, 0)) n ∙ one ts (suc i) Colon (Some (CoordColon, 0)) c
+    ∙ ranged Coordinate r ∙ one ts j Semi (Some (RangeEnd Coordinate, 0)) s ∙ coords x
 
 -- all coordinates of a site type
-all_coords : {ts : List Token} {i j : ℕ} {c : RawCoord} {cs : List RawCoord} → Coords ts i j (c ∷ cs) → goes (Some (CoordName, 0)) (drop i ts) ≡ goes (Some (CoordOrEnd, 0)) (drop j ts)
-all_coords {ts = ts} {i = i} (coord {j = j} n c r s x) = one ts i Name (Some (CoordName, 0)) n ∙ one ts (suc i) Colon (Some (CoordColon, 0)) c ∙ ranged Coordinate r ∙ one ts j Semi (Some (RangeEnd Coordinate, 0)) s ∙ coords x
+all_coords : {ts : List Token} {i j : ℕ} {c : RawCoord} {cs : List RawCoord} → Coords ts i j (c ∷ cs)
+    → goes (Some (CoordName, 0)) (drop i ts) ≡ goes (Some (CoordOrEnd, 0)) (drop j ts)
+all_coords {ts = ts} {i = i} (coord {j = j} n c r s x) = one ts i Name (Some (CoordName, 0)) n
+    ∙ one ts (suc i) Colon (Some (CoordColon, 0)) c ∙ ranged Coordinate r ∙ one ts j Semi (Some (RangeEnd Coordinate, 0)) s ∙ coords x
 
 item : {ts : List Token} {i j : ℕ} {x : Item} → IsItem ts i j x → goes (Some (AnItem, 0)) (drop i ts) ≡ goes (Some (AnItem, 0)) (drop j ts)
 item {ts = ts} {i = i} (site {j = j} p n b cs e) =
-    one ts i Site (Some (AnItem, 0)) p ∙ one ts (suc i) Name (Some (SiteName, 0)) n ∙ one ts (suc (suc i)) BraceL (Some (SiteOpen, 0)) b ∙ all_coords cs ∙ one ts j BraceR (Some (CoordOrEnd, 0)) e
+    one ts i Site (Some (AnItem, 0)) p ∙ one ts (suc i) Name (Some (SiteName, 0)) n ∙ one ts (suc (suc i)) BraceL (Some (SiteOpen, 0)) b
+    ∙ all_coords cs ∙ one ts j BraceR (Some (CoordOrEnd, 0)) e
 item {ts = ts} {i = i} (param {j = j} p n c r s) =
-    one ts i Param (Some (AnItem, 0)) p ∙ one ts (suc i) Name (Some (ParamName, 0)) n ∙ one ts (suc (suc i)) Colon (Some (ParamColon, 0)) c ∙ ranged Parameter r ∙ one ts j Semi (Some (RangeEnd Parameter, 0)) s
+    one ts i Param (Some (AnItem, 0)) p ∙ one ts (suc i) Name (Some (ParamName, 0)) n ∙ one ts (suc (suc i)) Colon (Some (ParamColon, 0)) c
+    ∙ ranged Parameter r ∙ one ts j Semi (Some (RangeEnd Parameter, 0)) s
 item {ts = ts} {i = i} (predicate {j = j} {k = k} {l = l} p n o ys c b ls g x s e) =
     let r = reads Root 0 x.1 in
-    one ts i Predicate (Some (AnItem, 0)) p ∙ one ts (suc i) Name (Some (PredicateName, 0)) n ∙ one ts (suc (suc i)) ParL (Some (PredicateOpen, 0)) o ∙ args ys ∙ one ts j ParR (Some (ArgEnd, 0)) c ∙ one ts (suc j) BraceL (Some (BodyOpen, 0)) b ∙ lets ls
+    one ts i Predicate (Some (AnItem, 0)) p ∙ one ts (suc i) Name (Some (PredicateName, 0)) n ∙ one ts (suc (suc i)) ParL (Some (PredicateOpen, 0)) o
+    ∙ args ys ∙ one ts j ParR (Some (ArgEnd, 0)) c ∙ one ts (suc j) BraceL (Some (BodyOpen, 0)) b ∙ lets ls
     ∙ one ts k Sign (Some (Body, 0)) g ∙ r.same ∙ one ts l Semi (Some (After Root r.last, 0)) s ∙ one ts (suc l) BraceR (Some (BodyEnd, 0)) e
 
 items : {ts : List Token} {i j : ℕ} {xs : List Item} → Items ts i j xs → goes (Some (AnItem, 0)) (drop i ts) ≡ goes (Some (AnItem, 0)) (drop j ts)

@@ -9,7 +9,8 @@ use Rattle.ln_syntax.specs.declared.raw.RawArg.{RawArg}
 use Rattle.ln_syntax.specs.declared.raw.RawLet.{RawLet}
 use Rattle.ln_syntax.specs.Raw.{Item, SiteItem, ParamItem, Is, kind_at, span_at}
 use Rattle.ln_syntax.specs.Expression.{IsExpr}
-use Rattle.ln_syntax.specs.File.{End, plain, minus, Range, range, Coords, no_coord, coord, Arg, site_arg, param_arg, Args, last_arg, more_args, Lets, no_let, a_let, IsItem, site, param, predicate, Items, no_item, an_item, Spelt}
+use Rattle.ln_syntax.specs.File.{End, plain, minus, Range, range, Coords, no_coord, coord, Arg, site_arg, param_arg, Args, last_arg}
+use Rattle.ln_syntax.specs.File.{more_args, Lets, no_let, a_let, IsItem, site, param, predicate, Items, no_item, an_item, Spelt}
 use Rattle.ln_syntax.proofs.Recognising.Ahead.{one_end}
 
 -- the same end and the same value
@@ -33,7 +34,8 @@ range_same {ts = ts} {k = k} (range {a = a} {b = b} l d h) (range {a = a2} {b = 
     record { place = q.place; value = rw (p.value, q.value) refl }
 
 -- coordinates before a brace
-pub coords_same : {ts : List Token} {i j k : ℕ} {as' bs : List RawCoord} → Coords ts i j as' → Is ts j BraceR → Coords ts i k bs → Is ts k BraceR → Same j k as' bs
+pub coords_same : {ts : List Token} {i j k : ℕ} {as' bs : List RawCoord} → Coords ts i j as' → Is ts j BraceR → Coords ts i k bs
+    → Is ts k BraceR → Same j k as' bs
 coords_same no_coord m no_coord n = record { place = refl; value = refl }
 coords_same no_coord m (coord p q r s t) n = absurd (cc)
 coords_same (coord p q r s t) m no_coord n = absurd (cc)
@@ -95,7 +97,7 @@ past : (us : List Token) → kind_at us (length us) ≡ None
 past [] = refl
 past (u ∷ us) = past us
 
--- behind the last token stands no item
+-- no item follows the last token
 pub no_more : {ts : List Token} {i j : ℕ} {x : Item} → i ≡ length ts → IsItem ts i j x → ⊥
 no_more {ts = ts} q (site a b c d e) = let p = past ts in cc
 no_more {ts = ts} q (param a b c d e) = let p = past ts in cc

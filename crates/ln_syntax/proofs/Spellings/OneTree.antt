@@ -1,11 +1,12 @@
--- An expression before a semicolon has one end and one tree: two derivations of a sort from one place are the same, if neither goes on behind its end.
+-- An expression before a semicolon has one end and one tree: two derivations of a sort from one place are the same, if neither goes on after its end.
 use Rattle.std.proofs.Common.{◌≡◌, ℕ, suc, ◌<◌, List, refl, ap, sym, subst, arith}
 use Rattle.ln_lex.specs.declared.token.Token.{Token}
 use Rattle.ln_lex.specs.declared.token.Kind.{Kind}
 use Rattle.ln_lex.specs.declared.token.Kind.TheVariants.{ParR, Dot, Plus, Minus, Star, Caret, Semi}
 use Rattle.ln_syntax.specs.Raw.{Is, kind_at, span_at}
 use Rattle.ln_syntax.specs.Stops.{strength, strength_of, bar, Stops}
-use Rattle.ln_syntax.specs.Expression.{Tree, TNeg, TAdd, TSub, TMul, Sort, Atom, Power, Unary, Term, Sum, Factors, Terms, Derives, number, name, input, parens, plain, power, base, minus, term, no_factor, times, sum, no_term, plus, less}
+use Rattle.ln_syntax.specs.Expression.{Tree, TNeg, TAdd, TSub, TMul, Sort, Atom, Power, Unary, Term, Sum, Factors, Terms, Derives, number}
+use Rattle.ln_syntax.specs.Expression.{name, input, parens, plain, power, base, minus, term, no_factor, times, sum, no_term, plus, less}
 
 -- the same end and the same tree
 pub record SameTree (i j : ℕ) (e f : Tree) : Type 0 where
@@ -49,7 +50,7 @@ pub power_first : {ts : List Token} {i j : ℕ} {e : Tree} → Derives ts Power 
 power_first (plain d) m = atom_first d m
 power_first (power d c n) m = atom_first d m
 
--- a derivation behind the same tree, from the same place
+-- a derivation after the same tree, from the same place
 moved : {ts : List Token} (S : Tree → Sort) {f g : Tree} {j l m : ℕ} {y : Tree} → f ≡ g → j ≡ l → Derives ts (S g) l m y → Derives ts (S f) j m y
 moved {ts = ts} S {g = g} {j = j} {m = m} {y = y} a b d =
     subst (λ (w : Tree). Derives ts (S w) j m y) (sym a) (subst (λ (w : ℕ). Derives ts (S g) w m y) (sym b) d)

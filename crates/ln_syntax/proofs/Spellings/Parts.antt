@@ -1,5 +1,6 @@
--- The parts of an item, one behind the other: what a part is, where it stands, and where the next one begins.
-use Rattle.std.proofs.Common.{◌≡◌, true, false, ℕ, zero, suc, ◌+◌, ◌<◌, ◌≤◌, inl, inr, List, [], ◌∷◌, ◌++◌, length, refl, ap, sym, ◌∙◌, subst, arith, append_assoc, ◌^◌, Fits, w64}
+-- The parts of an item, one after the other: what a part is, where it is, and where the next one begins.
+use Rattle.std.proofs.Common.{◌≡◌, true, false, ℕ, zero, suc, ◌+◌, ◌<◌, ◌≤◌, inl, inr, List, [], ◌∷◌, ◌++◌, length, refl, ap, sym, ◌∙◌}
+use Rattle.std.proofs.Common.{subst, arith, append_assoc, ◌^◌, Fits, w64}
 use Rattle.ln_base.specs.declared.span.Span.{Span}
 use Rattle.ln_lex.specs.declared.token.Token.{Token}
 use Rattle.ln_lex.specs.declared.token.Kind.{Kind}
@@ -11,18 +12,19 @@ use Rattle.ln_syntax.specs.declared.raw.RawArg.{RawArg}
 use Rattle.ln_syntax.specs.declared.raw.RawLet.{RawLet}
 use Rattle.ln_syntax.specs.Raw.{Item, SiteItem, ParamItem, PredItem, Is, span_at}
 use Rattle.ln_syntax.specs.Expression.{IsExpr}
-use Rattle.ln_syntax.specs.File.{End, plain, minus, Range, range, Coords, no_coord, coord, Arg, site_arg, param_arg, Args, last_arg, more_args, Lets, no_let, a_let, IsItem, site, param, predicate, Items, no_item, an_item, Spelt}
+use Rattle.ln_syntax.specs.File.{End, plain, minus, Range, range, Coords, no_coord, coord, Arg, site_arg, param_arg, Args, last_arg}
+use Rattle.ln_syntax.specs.File.{more_args, Lets, no_let, a_let, IsItem, site, param, predicate, Items, no_item, an_item, Spelt}
 use Rattle.ln_syntax.specs.Reading.{HasEnd, HasRange, HasCoords, HasArg, HasArgs, HasLets, HasExpr, HasItem}
 use Rattle.ln_syntax.proofs.Recognising.Ahead.{NoSemi, before, no_semi, one_end}
 use Rattle.ln_syntax.proofs.Spellings.OneSpelling.{end_same, range_same, coords_same, args_same, lets_same, item_same, no_more}
 
--- a token that is there stands before the end
+-- a token that is there is before the end
 pub is_within : (ts : List Token) (i : ℕ) (k : Kind) → Is ts i k → i < length ts
 is_within [] i k h = absurd (cc)
 is_within (t ∷ ts) zero k h = omega arith
 is_within (t ∷ ts) (suc i) k h = let r = is_within ts i k h in omega arith
 
--- a place behind a token that is there, and the next few, are small
+-- a place after a token that is there, and the next few, are small
 pub near_fits : (ts : List Token) (i m : ℕ) (k : Kind) → Is ts i k → length ts < 2 ^ 32 → m ≤ 4 → Fits w64 (i + m)
 near_fits ts i m k t s l = omega (arith, is_within ts i k t, s, l)
 
@@ -33,7 +35,7 @@ end_ahead {ts = ts} {k = k} h n =
     let w = is_within ts h.to Semi h.stops in
     elim (before h.to k) [ inl l ↦ absurd (n.none h.to a l h.stops) | inr g ↦ omega arith ]
 
--- each part ends behind its beginning
+-- each part ends after its beginning
 end_rises : {ts : List Token} {i j : ℕ} {e : RawEnd} → End ts i j e → i < j
 end_rises (plain m) = omega arith
 end_rises (minus m n) = omega arith
@@ -62,7 +64,7 @@ items_rise : {ts : List Token} {i j : ℕ} {xs : List Item} → Items ts i j xs 
 items_rise no_item = omega arith
 items_rise (an_item h t) = let a = item_rises h in let b = items_rise t in omega arith
 
--- behind the low end of a range stands the high end
+-- the high end of a range follows the low end
 high_by : {ts : List Token} {i j k : ℕ} {a : RawEnd} {r : RawRange} → Range ts i k r → End ts i j a → HasEnd ts (j + 1)
 high_by {ts = ts} {j = j} {k = k} (range {j = q} {b = b} l m h) d =
     let p = (end_same l d).place in
@@ -76,14 +78,14 @@ end_fits_by : {i j : ℕ} {e : RawEnd} (ts : List Token) → End ts i j e → le
 end_fits_by {i = i} ts (plain m) s = near_fits ts i 1 Number m s (omega arith)
 end_fits_by {i = i} ts (minus m n) s = near_fits ts i 1 Minus m s (omega arith)
 
--- so is the place behind the first token of an end
+-- so is the place after the first token of an end
 pub end_fits : {ts : List Token} {i : ℕ} → HasEnd ts i → length ts < 2 ^ 32 → Fits w64 (i + 1)
 end_fits {ts = ts} h s = end_fits_by ts h.derives s
 
 low_fits_by : {i j k : ℕ} {a : RawEnd} {r : RawRange} (ts : List Token) → Range ts i k r → End ts i j a → length ts < 2 ^ 32 → Fits w64 (j + 1)
 low_fits_by {j = j} ts (range l d h) x s = near_fits ts j 1 Dots (subst (λ (w : ℕ). Is ts w Dots) (end_same l x).place d) s (omega arith)
 
--- the place behind the dots of a range is small
+-- the place after the dots of a range is small
 pub low_fits : {ts : List Token} {i j : ℕ} {a : RawEnd} → HasRange ts i → End ts i j a → length ts < 2 ^ 32 → Fits w64 (j + 1)
 low_fits {ts = ts} h x s = low_fits_by ts h.derives x s
 
@@ -95,7 +97,8 @@ arg_fits_by {i = i} ts m (param_arg n c k) s l = near_fits ts i m Name n s l
 pub arg_fits : {ts : List Token} {i : ℕ} (m : ℕ) → HasArg ts i → length ts < 2 ^ 32 → m ≤ 4 → Fits w64 (i + m)
 arg_fits {ts = ts} m h s l = arg_fits_by ts m h.derives s l
 
-range_by : {ts : List Token} {i j k m : ℕ} {a b : RawEnd} {r : RawRange} → Range ts i k r → End ts i j a → End ts (j + 1) m b → Range ts i m (record { low = a; high = b })
+range_by : {ts : List Token} {i j k m : ℕ} {a b : RawEnd} {r : RawRange} → Range ts i k r → End ts i j a → End ts (j + 1) m b
+    → Range ts i m (record { low = a; high = b })
 range_by {ts = ts} {j = j} {m = m} {b = b} (range l d h) x y =
     let e : j + 1 ≡ suc j = omega arith in
     range x (subst (λ (w : ℕ). Is ts w Dots) (end_same l x).place d) (subst (λ (w : ℕ). End ts w m b) e y)
@@ -122,24 +125,27 @@ coord_range_by {ts = ts} {i = i} (coord {j = j} {r = r} p q d s t) b n =
 pub coord_range : {ts : List Token} {i : ℕ} → HasCoords ts i → Is ts i Name → HasRange ts (i + 2)
 coord_range h n = coord_range_by h.derives h.stops n
 
-coord_semi_by : {ts : List Token} {i j k : ℕ} {r : RawRange} {cs : List RawCoord} → Coords ts i k cs → Is ts k BraceR → Is ts i Name → Range ts (i + 2) j r → Is ts j Semi
+coord_semi_by : {ts : List Token} {i j k : ℕ} {r : RawRange} {cs : List RawCoord} → Coords ts i k cs → Is ts k BraceR → Is ts i Name
+    → Range ts (i + 2) j r → Is ts j Semi
 coord_semi_by no_coord b n x = absurd (cc)
 coord_semi_by {ts = ts} {i = i} {j = j} {r = r} (coord p q d s t) b n x =
     let e : i + 2 ≡ suc (suc i) = omega arith in
     let y : Range ts (suc (suc i)) j r = subst (λ (w : ℕ). Range ts w j r) e x in
     subst (λ (w : ℕ). Is ts w Semi) (range_same d y).place s
 
--- behind the range of a coordinate stands its semicolon
+-- after the range of a coordinate comes its semicolon
 pub coord_semi : {ts : List Token} {i j : ℕ} {r : RawRange} → HasCoords ts i → Is ts i Name → Range ts (i + 2) j r → Is ts j Semi
 coord_semi h n x = coord_semi_by h.derives h.stops n x
 
--- one more coordinate behind the others
-coords_with : {ts : List Token} {i j k : ℕ} {cs : List RawCoord} {r : RawRange} → Coords ts i j cs → Is ts j Name → Is ts (suc j) Colon → Range ts (suc (suc j)) k r → Is ts k Semi
+-- one more coordinate after the others
+coords_with : {ts : List Token} {i j k : ℕ} {cs : List RawCoord} {r : RawRange} → Coords ts i j cs → Is ts j Name → Is ts (suc j) Colon
+    → Range ts (suc (suc j)) k r → Is ts k Semi
     → Coords ts i (suc k) (cs ++ (record { name = span_at ts j; range = r } ∷ []))
 coords_with no_coord n c r s = coord n c r s no_coord
 coords_with (coord p q d m t) n c r s = coord p q d m (coords_with t n c r s)
 
-coord_more_by : {ts : List Token} {at i j k : ℕ} {cs ds : List RawCoord} {r : RawRange} {sp : Span} → Coords ts at i cs → Coords ts i k ds → Is ts k BraceR → Is ts i Name → sp ≡ span_at ts i → Range ts (i + 2) j r
+coord_more_by : {ts : List Token} {at i j k : ℕ} {cs ds : List RawCoord} {r : RawRange} {sp : Span} → Coords ts at i cs → Coords ts i k ds
+    → Is ts k BraceR → Is ts i Name → sp ≡ span_at ts i → Range ts (i + 2) j r
     → CoordsRead ts at (j + 1) (cs ++ (record { name = sp; range = r } ∷ []))
 coord_more_by a no_coord b n q x = absurd (cc)
 coord_more_by {ts = ts} {at = at} {i = i} {j = j} {k = k} {cs = cs} {r = r} {sp = sp} a (coord {j = m} {cs = es} p c d s t) b n q x =
@@ -154,7 +160,8 @@ coord_more_by {ts = ts} {at = at} {i = i} {j = j} {k = k} {cs = cs} {r = r} {sp 
       rest = record { to = k; value = es; derives = subst (λ (w : ℕ). Coords ts w k es) g t; stops = b };
     }
 
-pub coord_more : {ts : List Token} {at i j : ℕ} {cs : List RawCoord} {r : RawRange} {sp : Span} → CoordsRead ts at i cs → Is ts i Name → sp ≡ span_at ts i → Range ts (i + 2) j r
+pub coord_more : {ts : List Token} {at i j : ℕ} {cs : List RawCoord} {r : RawRange} {sp : Span} → CoordsRead ts at i cs → Is ts i Name
+    → sp ≡ span_at ts i → Range ts (i + 2) j r
     → CoordsRead ts at (j + 1) (cs ++ (record { name = sp; range = r } ∷ []))
 coord_more a n q x = coord_more_by a.done a.rest.derives a.rest.stops n q x
 
@@ -163,7 +170,8 @@ end_minus_by (plain p) m = absurd (cc)
 end_minus_by {ts = ts} {i = i} (minus p q) m =
     let e : suc (suc i) ≡ i + 2 = omega arith in
     let f : suc i ≡ i + 1 = omega arith in
-    subst (λ (w : ℕ). End ts i w (record { negative = true; at = span_at ts (i + 1) })) e (subst (λ (w : ℕ). End ts i (suc (suc i)) (record { negative = true; at = span_at ts w })) f (minus p q))
+    subst (λ (w : ℕ). End ts i w (record { negative = true; at = span_at ts (i + 1) })) e
+    (subst (λ (w : ℕ). End ts i (suc (suc i)) (record { negative = true; at = span_at ts w })) f (minus p q))
 
 -- an end of a range with a minus sign
 pub end_minus : {ts : List Token} {i : ℕ} → HasEnd ts i → Is ts i Minus → End ts i (i + 2) (record { negative = true; at = span_at ts (i + 1) })
@@ -204,7 +212,7 @@ args_stop_by {ts = ts} {i = i} (more_args d c r) p n =
     let e : suc (suc (suc i)) ≡ i + 3 = omega arith in
     absurd (n (subst (λ (w : ℕ). Is ts w Comma) e c))
 
--- where no comma stands behind an argument, the parenthesis does
+-- where no comma follows an argument, the parenthesis does
 pub args_stop : {ts : List Token} {i : ℕ} → HasArgs ts i → (Is ts (i + 3) Comma → ⊥) → Is ts (i + 3) ParR
 args_stop h n = args_stop_by h.derives h.stops n
 
@@ -223,7 +231,8 @@ args_rest_by {ts = ts} {i = i} {k = k} (more_args {rest = bs} d m r) p c =
     record { to = k; value = bs; derives = subst (λ (w : ℕ). Args ts w k bs) e r; stops = p }
 
 -- an argument before a comma
-pub args_more : {ts : List Token} {at i : ℕ} {as' : List RawArg} {a : RawArg} → ArgsRead ts at i as' → Arg ts i a → Is ts (i + 3) Comma → ArgsRead ts at (i + 4) (as' ++ (a ∷ []))
+pub args_more : {ts : List Token} {at i : ℕ} {as' : List RawArg} {a : RawArg} → ArgsRead ts at i as' → Arg ts i a → Is ts (i + 3) Comma
+    → ArgsRead ts at (i + 4) (as' ++ (a ∷ []))
 args_more {ts = ts} {at = at} {i = i} {as' = as'} {a = a} s d c =
     let e : i + 3 ≡ suc (suc (suc i)) = omega arith in
     let f : i + 4 ≡ suc (suc (suc (suc i))) = omega arith in
@@ -246,7 +255,7 @@ let_expr_by {ts = ts} {i = i} (a_let {j = j} p c r e m t) s n =
     let o : suc (suc (suc i)) ≡ i + 3 = omega arith in
     record { to = j; derives = subst (λ (w : ℕ). IsExpr ts w j) o e; stops = m }
 
--- behind the name of a let and `=` stands an expression
+-- after the name of a let and `=` comes an expression
 pub let_expr : {ts : List Token} {i : ℕ} → HasLets ts i → Is ts i Let → HasExpr ts (i + 3)
 let_expr h n = let_expr_by h.derives h.stops n
 
@@ -258,12 +267,13 @@ lets_stop_by (a_let p c r e m t) s n = absurd (n p)
 pub lets_stop : {ts : List Token} {i : ℕ} → HasLets ts i → (Is ts i Let → ⊥) → Is ts i Sign
 lets_stop h n = lets_stop_by h.derives h.stops n
 
--- one more let behind the others
+-- one more let after the others
 lets_with : {ts : List Token} {i j k : ℕ} {ls : List RawLet} {x : RawLet} → Lets ts i j ls → Lets ts j k (x ∷ []) → Lets ts i k (ls ++ (x ∷ []))
 lets_with no_let d = d
 lets_with (a_let p q r e m t) d = a_let p q r e m (lets_with t d)
 
-let_more_by : {ts : List Token} {at i j k : ℕ} {ls ms : List RawLet} {sp : Span} → Lets ts at i ls → Lets ts i k ms → Is ts k Sign → Is ts i Let → sp ≡ span_at ts (i + 1) → IsExpr ts (i + 3) j → Is ts j Semi
+let_more_by : {ts : List Token} {at i j k : ℕ} {ls ms : List RawLet} {sp : Span} → Lets ts at i ls → Lets ts i k ms → Is ts k Sign
+    → Is ts i Let → sp ≡ span_at ts (i + 1) → IsExpr ts (i + 3) j → Is ts j Semi
     → LetsRead ts at (j + 1) (ls ++ (record { name = sp; value = record { from = i + 3; to = j } } ∷ []))
 let_more_by a no_let s n q x y = absurd (cc)
 let_more_by {ts = ts} {at = at} {i = i} {j = j} {k = k} {ls = ls} {sp = sp} a (a_let {j = m} {ls = us} p c r e semi t) s n q x y =
@@ -274,13 +284,15 @@ let_more_by {ts = ts} {at = at} {i = i} {j = j} {k = k} {ls = ls} {sp = sp} a (a
     let g : suc m ≡ j + 1 = omega arith in
     let b : i + 1 ≡ suc i = omega arith in
     let q2 : sp ≡ span_at ts (suc i) = q ∙ ap (span_at ts) b in
-    let v : Lets ts at (suc j) (ls ++ (record { name = span_at ts (suc i); value = record { from = suc (suc (suc i)); to = j } } ∷ [])) = lets_with a (a_let p c r w y no_let) in
+    let v : Lets ts at (suc j) (ls ++ (record { name = span_at ts (suc i); value = record { from = suc (suc (suc i)); to = j } } ∷ [])) =
+    lets_with a (a_let p c r w y no_let) in
     record {
       done = subst (λ (u : ℕ). Lets ts at u (ls ++ (record { name = sp; value = record { from = i + 3; to = j } } ∷ []))) f (rw (q2, o) v);
       rest = record { to = k; value = us; derives = subst (λ (u : ℕ). Lets ts u k us) g t; stops = s };
     }
 
-pub let_more : {ts : List Token} {at i j : ℕ} {ls : List RawLet} {sp : Span} → LetsRead ts at i ls → Is ts i Let → sp ≡ span_at ts (i + 1) → IsExpr ts (i + 3) j → Is ts j Semi
+pub let_more : {ts : List Token} {at i j : ℕ} {ls : List RawLet} {sp : Span} → LetsRead ts at i ls → Is ts i Let → sp ≡ span_at ts (i + 1)
+    → IsExpr ts (i + 3) j → Is ts j Semi
     → LetsRead ts at (j + 1) (ls ++ (record { name = sp; value = record { from = i + 3; to = j } } ∷ []))
 let_more a n q x y = let_more_by a.done a.rest.derives a.rest.stops n q x y
 
@@ -299,7 +311,8 @@ site_coords_by (predicate a b m d e f g h v s r) k = absurd (cc)
 pub site_coords : {ts : List Token} {i : ℕ} → HasItem ts i → Is ts i Site → HasCoords ts (i + 3)
 site_coords h k = site_coords_by h.derives k
 
-site_by : {ts : List Token} {i j k : ℕ} {x : Item} {sp : Span} {ds : List RawCoord} → IsItem ts i j x → Is ts i Site → sp ≡ span_at ts (i + 1) → Coords ts (i + 3) k ds → Is ts k BraceR → IsItem ts i (k + 1) (SiteItem sp ds)
+site_by : {ts : List Token} {i j k : ℕ} {x : Item} {sp : Span} {ds : List RawCoord} → IsItem ts i j x → Is ts i Site
+    → sp ≡ span_at ts (i + 1) → Coords ts (i + 3) k ds → Is ts k BraceR → IsItem ts i (k + 1) (SiteItem sp ds)
 site_by {ts = ts} {i = i} {k = k} {sp = sp} {ds = ds} (site {j = j} {c = c} {cs = cs} a b m d e) n q x y =
     let o : i + 3 ≡ suc (suc (suc i)) = omega arith in
     let b1 : suc i ≡ i + 1 = omega arith in
@@ -311,7 +324,8 @@ site_by {ts = ts} {i = i} {k = k} {sp = sp} {ds = ds} (site {j = j} {c = c} {cs 
 site_by (param a b m d e) n q x y = absurd (cc)
 site_by (predicate a b m d e f g h v s r) n q x y = absurd (cc)
 
-pub site_read : {ts : List Token} {i k : ℕ} {sp : Span} {ds : List RawCoord} → HasItem ts i → Is ts i Site → sp ≡ span_at ts (i + 1) → Coords ts (i + 3) k ds → Is ts k BraceR → IsItem ts i (k + 1) (SiteItem sp ds)
+pub site_read : {ts : List Token} {i k : ℕ} {sp : Span} {ds : List RawCoord} → HasItem ts i → Is ts i Site → sp ≡ span_at ts (i + 1)
+    → Coords ts (i + 3) k ds → Is ts k BraceR → IsItem ts i (k + 1) (SiteItem sp ds)
 site_read h n q x y = site_by h.derives n q x y
 
 param_range_by : {ts : List Token} {i j : ℕ} {x : Item} → IsItem ts i j x → Is ts i Param → HasRange ts (i + 3)
@@ -332,11 +346,12 @@ param_semi_by {ts = ts} {i = i} {k = k} {r = r} (param a b m d e) n y =
     subst (λ (w : ℕ). Is ts w Semi) (range_same d (subst (λ (w : ℕ). Range ts w k r) o y)).place e
 param_semi_by (predicate a b m d e f g h v s r) n y = absurd (cc)
 
--- behind the range of a param stands its semicolon
+-- after the range of a param comes its semicolon
 pub param_semi : {ts : List Token} {i k : ℕ} {r : RawRange} → HasItem ts i → Is ts i Param → Range ts (i + 3) k r → Is ts k Semi
 param_semi h n y = param_semi_by h.derives n y
 
-param_by : {ts : List Token} {i j k : ℕ} {x : Item} {sp : Span} {r : RawRange} → IsItem ts i j x → Is ts i Param → sp ≡ span_at ts (i + 1) → Range ts (i + 3) k r → IsItem ts i (k + 1) (ParamItem sp r)
+param_by : {ts : List Token} {i j k : ℕ} {x : Item} {sp : Span} {r : RawRange} → IsItem ts i j x → Is ts i Param → sp ≡ span_at ts (i + 1)
+    → Range ts (i + 3) k r → IsItem ts i (k + 1) (ParamItem sp r)
 param_by (site a b m d e) n q y = absurd (cc)
 param_by {ts = ts} {i = i} {k = k} {sp = sp} {r = r} (param {j = j} {r = t} a b m d e) n q y =
     let o : i + 3 ≡ suc (suc (suc i)) = omega arith in
@@ -348,7 +363,8 @@ param_by {ts = ts} {i = i} {k = k} {sp = sp} {r = r} (param {j = j} {r = t} a b 
     item_is (param a b m d e) v (ap (λ (w : Span). ParamItem w t) q2 ∙ ap (λ (w : RawRange). ParamItem sp w) s.value)
 param_by (predicate a b m d e f g h v s r) n q y = absurd (cc)
 
-pub param_read : {ts : List Token} {i k : ℕ} {sp : Span} {r : RawRange} → HasItem ts i → Is ts i Param → sp ≡ span_at ts (i + 1) → Range ts (i + 3) k r → IsItem ts i (k + 1) (ParamItem sp r)
+pub param_read : {ts : List Token} {i k : ℕ} {sp : Span} {r : RawRange} → HasItem ts i → Is ts i Param → sp ≡ span_at ts (i + 1)
+    → Range ts (i + 3) k r → IsItem ts i (k + 1) (ParamItem sp r)
 param_read h n q y = param_by h.derives n q y
 
 pred_args_by : {ts : List Token} {i j : ℕ} {x : Item} → IsItem ts i j x → (Is ts i Site → ⊥) → (Is ts i Param → ⊥) → HasArgs ts (i + 3)
@@ -362,7 +378,8 @@ pred_args_by {ts = ts} {i = i} (predicate {j = j} {args = args} a b m d e f g h 
 pub pred_args : {ts : List Token} {i : ℕ} → HasItem ts i → (Is ts i Site → ⊥) → (Is ts i Param → ⊥) → HasArgs ts (i + 3)
 pred_args h n p = pred_args_by h.derives n p
 
-pred_lets_by : {ts : List Token} {i j k : ℕ} {x : Item} {us : List RawArg} → IsItem ts i k x → (Is ts i Site → ⊥) → (Is ts i Param → ⊥) → Args ts (i + 3) j us → Is ts j ParR → HasLets ts (j + 2)
+pred_lets_by : {ts : List Token} {i j k : ℕ} {x : Item} {us : List RawArg} → IsItem ts i k x → (Is ts i Site → ⊥) → (Is ts i Param → ⊥)
+    → Args ts (i + 3) j us → Is ts j ParR → HasLets ts (j + 2)
 pred_lets_by (site a b m d e) n p y z = absurd (n a)
 pred_lets_by (param a b m d e) n p y z = absurd (p a)
 pred_lets_by {ts = ts} {i = i} {j = j} {us = us} (predicate {j = q} {k = k} {ls = ls} a b m d e f g h v s r) n p y z =
@@ -371,11 +388,13 @@ pred_lets_by {ts = ts} {i = i} {j = j} {us = us} (predicate {j = q} {k = k} {ls 
     let u : suc (suc q) ≡ j + 2 = omega arith in
     record { to = k; value = ls; derives = subst (λ (w : ℕ). Lets ts w k ls) u g; stops = h }
 
--- behind its arguments stand its lets
-pub pred_lets : {ts : List Token} {i j : ℕ} {us : List RawArg} → HasItem ts i → (Is ts i Site → ⊥) → (Is ts i Param → ⊥) → Args ts (i + 3) j us → Is ts j ParR → HasLets ts (j + 2)
+-- after its arguments come its lets
+pub pred_lets : {ts : List Token} {i j : ℕ} {us : List RawArg} → HasItem ts i → (Is ts i Site → ⊥) → (Is ts i Param → ⊥)
+    → Args ts (i + 3) j us → Is ts j ParR → HasLets ts (j + 2)
 pred_lets h n p y z = pred_lets_by h.derives n p y z
 
-pred_expr_by : {ts : List Token} {i j k l : ℕ} {x : Item} {us : List RawArg} {vs : List RawLet} → IsItem ts i l x → (Is ts i Site → ⊥) → (Is ts i Param → ⊥) → Args ts (i + 3) j us → Is ts j ParR → Lets ts (j + 2) k vs → Is ts k Sign
+pred_expr_by : {ts : List Token} {i j k l : ℕ} {x : Item} {us : List RawArg} {vs : List RawLet} → IsItem ts i l x → (Is ts i Site → ⊥)
+    → (Is ts i Param → ⊥) → Args ts (i + 3) j us → Is ts j ParR → Lets ts (j + 2) k vs → Is ts k Sign
     → HasExpr ts (k + 1)
 pred_expr_by (site a b m d e) n p y z g2 h2 = absurd (n a)
 pred_expr_by (param a b m d e) n p y z g2 h2 = absurd (p a)
@@ -387,16 +406,20 @@ pred_expr_by {ts = ts} {i = i} {j = j} {k = k} {us = us} {vs = vs} (predicate {j
     let x : suc c ≡ k + 1 = omega arith in
     record { to = l; derives = subst (λ (w : ℕ). IsExpr ts w l) x v; stops = s }
 
--- behind its lets stands its sign expression
-pub pred_expr : {ts : List Token} {i j k : ℕ} {us : List RawArg} {vs : List RawLet} → HasItem ts i → (Is ts i Site → ⊥) → (Is ts i Param → ⊥) → Args ts (i + 3) j us → Is ts j ParR → Lets ts (j + 2) k vs → Is ts k Sign
+-- after its lets comes its sign expression
+pub pred_expr : {ts : List Token} {i j k : ℕ} {us : List RawArg} {vs : List RawLet} → HasItem ts i → (Is ts i Site → ⊥)
+    → (Is ts i Param → ⊥) → Args ts (i + 3) j us → Is ts j ParR → Lets ts (j + 2) k vs → Is ts k Sign
     → HasExpr ts (k + 1)
 pred_expr h n p y z g2 h2 = pred_expr_by h.derives n p y z g2 h2
 
-pred_by : {ts : List Token} {i j k l m : ℕ} {x : Item} {sp : Span} {us : List RawArg} {vs : List RawLet} → IsItem ts i m x → (Is ts i Site → ⊥) → (Is ts i Param → ⊥) → sp ≡ span_at ts (i + 1)
-    → Args ts (i + 3) j us → Is ts j ParR → Lets ts (j + 2) k vs → Is ts k Sign → IsExpr ts (k + 1) l → Is ts l Semi → IsItem ts i (l + 2) (PredItem sp us vs (record { from = k + 1; to = l }))
+pred_by : {ts : List Token} {i j k l m : ℕ} {x : Item} {sp : Span} {us : List RawArg} {vs : List RawLet} → IsItem ts i m x
+    → (Is ts i Site → ⊥) → (Is ts i Param → ⊥) → sp ≡ span_at ts (i + 1)
+    → Args ts (i + 3) j us → Is ts j ParR → Lets ts (j + 2) k vs → Is ts k Sign → IsExpr ts (k + 1) l → Is ts l Semi
+    → IsItem ts i (l + 2) (PredItem sp us vs (record { from = k + 1; to = l }))
 pred_by (site a b m d e) n p q y z g2 h2 v2 s2 = absurd (n a)
 pred_by (param a b m d e) n p q y z g2 h2 v2 s2 = absurd (p a)
-pred_by {ts = ts} {i = i} {j = j} {k = k} {l = l} {sp = sp} {us = us} {vs = vs} (predicate {j = a1} {k = a2} {l = a3} a b m d e f g h v s r) n p q y z g2 h2 v2 s2 =
+pred_by {ts = ts} {i = i} {j = j} {k = k} {l = l} {sp = sp} {us = us} {vs = vs} (predicate {j = a1} {k = a2} {l = a3} a b m d e f g h v s
+    r) n p q y z g2 h2 v2 s2 =
     let o : i + 3 ≡ suc (suc (suc i)) = omega arith in
     let b1 : suc i ≡ i + 1 = omega arith in
     let q2 : span_at ts (suc i) ≡ sp = ap (span_at ts) b1 ∙ sym q in
@@ -411,8 +434,10 @@ pred_by {ts = ts} {i = i} {j = j} {k = k} {l = l} {sp = sp} {us = us} {vs = vs} 
     let o3 : suc a2 ≡ k + 1 = omega arith in
     item_is (predicate a b m d e f g h v s r) x (rw (q2, t.value, t2.value, o3, t3) refl)
 
-pub pred_read : {ts : List Token} {i j k l : ℕ} {sp : Span} {us : List RawArg} {vs : List RawLet} → HasItem ts i → (Is ts i Site → ⊥) → (Is ts i Param → ⊥) → sp ≡ span_at ts (i + 1)
-    → Args ts (i + 3) j us → Is ts j ParR → Lets ts (j + 2) k vs → Is ts k Sign → IsExpr ts (k + 1) l → Is ts l Semi → IsItem ts i (l + 2) (PredItem sp us vs (record { from = k + 1; to = l }))
+pub pred_read : {ts : List Token} {i j k l : ℕ} {sp : Span} {us : List RawArg} {vs : List RawLet} → HasItem ts i → (Is ts i Site → ⊥)
+    → (Is ts i Param → ⊥) → sp ≡ span_at ts (i + 1)
+    → Args ts (i + 3) j us → Is ts j ParR → Lets ts (j + 2) k vs → Is ts k Sign → IsExpr ts (k + 1) l → Is ts l Semi
+    → IsItem ts i (l + 2) (PredItem sp us vs (record { from = k + 1; to = l }))
 pred_read h n p q y z g2 h2 v2 s2 = pred_by h.derives n p q y z g2 h2 v2 s2
 
 -- the items up to place i, and what follows
@@ -428,7 +453,8 @@ items_with : {ts : List Token} {i j k : ℕ} {xs : List Item} {x : Item} → Ite
 items_with no_item d = an_item d no_item
 items_with (an_item h t) d = an_item h (items_with t d)
 
-item_more_by : {ts : List Token} {i j k : ℕ} {xs ys : List Item} {x : Item} → Items ts 0 i xs → Items ts i k ys → k ≡ length ts → IsItem ts i j x → ItemsRead ts j (xs ++ (x ∷ []))
+item_more_by : {ts : List Token} {i j k : ℕ} {xs ys : List Item} {x : Item} → Items ts 0 i xs → Items ts i k ys → k ≡ length ts
+    → IsItem ts i j x → ItemsRead ts j (xs ++ (x ∷ []))
 item_more_by a no_item q d = absurd (no_more q d)
 item_more_by {ts = ts} {j = j} {k = k} a (an_item {xs = zs} h t) q d =
     let p = (item_same h d).place in

@@ -8,7 +8,8 @@ pub returns-clause-first : goal.returns-clause-first
 returns-clause-first c = λ rank n sites e x a below. first-stage-in n sites (Before rank sites) x e below a
 
 pub returns-clause-found : goal.returns-clause-found
-returns-clause-found c = λ rank n sites e x a below differ. stage-first-in n sites (Before rank sites) x e below (both-admissible rank n sites differ).transitive a
+returns-clause-found c =
+    λ rank n sites e x a below differ. stage-first-in n sites (Before rank sites) x e below (both-admissible rank n sites differ).transitive a
 
 pub returns-clause-nothing : goal.returns-clause-nothing
 returns-clause-nothing c = λ rank n sites e x below zeros a first. first.nonzero (zeros a (first-stage-in n sites (Before rank sites) x e below a first))

@@ -7,7 +7,10 @@ pub returns-clause-uncovered : goal.returns-clause-uncovered
 returns-clause-uncovered c = λ n sites e x a below. perturbed-uncovered n sites x e below a
 
 pub returns-clause-last : goal.returns-clause-last
-returns-clause-last c = λ n sites e x a below over last. (perturbed-last n sites x e below a over last, λ zero. last.monomial.nonzero (sym (perturbed-last n sites x e below a over last) ∙ zero))
+returns-clause-last c = λ n sites e x a below over last. (
+  perturbed-last n sites x e below a over last,
+  λ zero. last.monomial.nonzero (sym (perturbed-last n sites x e below a over last) ∙ zero),
+)
 
 pub returns-clause-first : goal.returns-clause-first
 returns-clause-first c = λ n sites e x a below. first-stage n sites x e below a

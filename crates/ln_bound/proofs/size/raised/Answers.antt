@@ -8,4 +8,5 @@ pub pair_of_power-pair-requires : goal.pair_of_power-pair-requires
 pair_of_power-pair-requires c = rw (pair_typed c.args.x) at c.requires
 
 pub returns : goal.returns
-returns c = power_made c.args.x c.args.n (typed c.in_ok-x.x.value) (range c.pair_of_power-pair.result) c.wider-width.result c.least_for.result (ap typed c.in_ok-x.ensures.ok) c.pair_of_power-pair.ensures c.wider-width.ensures c.least_for.ensures
+returns c = power_made c.args.x c.args.n (typed c.in_ok-x.x.value) (range c.pair_of_power-pair.result) c.wider-width.result c.least_for.result
+    (ap typed c.in_ok-x.ensures.ok) c.pair_of_power-pair.ensures c.wider-width.ensures c.least_for.ensures

@@ -1,5 +1,6 @@
 -- What the search leaves open in `magnitudes_follow`.
-use Rattle.ln_interval.proofs.Magnitudes.{sum_magnitude, difference_magnitude, opposite_magnitude, product_magnitude, power_magnitude, covers_magnitude, holds_magnitude}
+use Rattle.ln_interval.proofs.Magnitudes.{sum_magnitude, difference_magnitude, opposite_magnitude, product_magnitude, power_magnitude}
+use Rattle.ln_interval.proofs.Magnitudes.{covers_magnitude, holds_magnitude}
 use Rattle.ln_interval.proofs.laws.magnitudes_follow.Goals as goal
 
 pub returns-clause-sum : goal.returns-clause-sum

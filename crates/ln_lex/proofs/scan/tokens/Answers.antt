@@ -19,24 +19,29 @@ returns-then-start-bytes-clause-ok c = lexed_all c.tokens.invariant c.after.ensu
 
 pub returns-in_default-clause-err : goal.returns-in_default-clause-err
 returns-in_default-clause-err c =
-    fault_behind c.tokens.invariant c.after.ensures c.gap.ensures.within c.gap.ensures.skips c.gap.ensures.no_blank c.gap.ensures.no_comment c.if-start-bytes.false c.after-in-tokens.ensures c.in_default.ensures.none
+    fault_behind c.tokens.invariant c.after.ensures c.gap.ensures.within c.gap.ensures.skips c.gap.ensures.no_blank c.gap.ensures.no_comment
+    c.if-start-bytes.false c.after-in-tokens.ensures c.in_default.ensures.none
 
 pub returns-then-len-eq-MOST_TOKENS-clause-err : goal.returns-then-len-eq-MOST_TOKENS-clause-err
 returns-then-len-eq-MOST_TOKENS-clause-err c =
     let many : length c.tokens.tokens ≡ 65536 = search rules in
-    limit_behind c.tokens.invariant c.after.ensures c.gap.ensures.within c.gap.ensures.skips c.gap.ensures.no_blank c.gap.ensures.no_comment c.if-start-bytes.false c.after-in-tokens.ensures c.in-Some.ensures.some many
+    limit_behind c.tokens.invariant c.after.ensures c.gap.ensures.within c.gap.ensures.skips c.gap.ensures.no_blank c.gap.ensures.no_comment
+    c.if-start-bytes.false c.after-in-tokens.ensures c.in-Some.ensures.some many
 
 pub overflow_add-span : goal.overflow_add-span
-overflow_add-span c = fits_64 c.args.bytes.now _ (token_within c.args.bytes.now (c.tokens.at + c.gap.result) (gap_within c.tokens.invariant c.after.ensures c.gap.ensures.within) c.after-in-tokens.ensures c.in-Some.ensures.some) c.requires
+overflow_add-span c = fits_64 c.args.bytes.now _ (token_within c.args.bytes.now (c.tokens.at + c.gap.result)
+    (gap_within c.tokens.invariant c.after.ensures c.gap.ensures.within) c.after-in-tokens.ensures c.in-Some.ensures.some) c.requires
 
 pub tokens-smaller : goal.tokens-smaller
-tokens-smaller c = token_nearer c.args.bytes.now c.tokens.at c.gap.result (gap_within c.tokens.invariant c.after.ensures c.gap.ensures.within) c.after-in-tokens.ensures c.in-Some.ensures.some
+tokens-smaller c = token_nearer c.args.bytes.now c.tokens.at c.gap.result
+    (gap_within c.tokens.invariant c.after.ensures c.gap.ensures.within) c.after-in-tokens.ensures c.in-Some.ensures.some
 
 pub overflow_cast-span : goal.overflow_cast-span
 overflow_cast-span c = fits_32 c.args.bytes.now _ (gap_within c.tokens.invariant c.after.ensures c.gap.ensures.within) c.requires
 
 pub overflow_cast-span-in-tokens : goal.overflow_cast-span-in-tokens
-overflow_cast-span-in-tokens c = fits_32 c.args.bytes.now _ (token_within c.args.bytes.now (c.tokens.at + c.gap.result) (gap_within c.tokens.invariant c.after.ensures c.gap.ensures.within) c.after-in-tokens.ensures c.in-Some.ensures.some) c.requires
+overflow_cast-span-in-tokens c = fits_32 c.args.bytes.now _ (token_within c.args.bytes.now (c.tokens.at + c.gap.result)
+    (gap_within c.tokens.invariant c.after.ensures c.gap.ensures.within) c.after-in-tokens.ensures c.in-Some.ensures.some) c.requires
 
 pub overflow_cast-result : goal.overflow_cast-result
 overflow_cast-result c = fits_32 c.args.bytes.now _ (gap_within c.tokens.invariant c.after.ensures c.gap.ensures.within) c.requires

@@ -8,4 +8,5 @@ pub returns-in-None-clause-ok : goal.returns-in-None-clause-ok
 returns-in-None-clause-ok c = is_clean c.args.bytes.now (file_visits c.args.ts.now (items c.args.its.now)) (sym c.names_fault.ensures ∙ c.in-None.is)
 
 pub returns-in-Some-clause-err : goal.returns-in-Some-clause-err
-returns-in-Some-clause-err c = is_first c.args.bytes.now (file_visits c.args.ts.now (items c.args.its.now)) c.in-Some.found (sym c.names_fault.ensures ∙ c.in-Some.is)
+returns-in-Some-clause-err c =
+    is_first c.args.bytes.now (file_visits c.args.ts.now (items c.args.its.now)) c.in-Some.found (sym c.names_fault.ensures ∙ c.in-Some.is)

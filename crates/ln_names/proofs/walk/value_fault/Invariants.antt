@@ -7,5 +7,6 @@ abbrev pub invariant-loop-k : goal.invariant-loop-k
 invariant-loop-k l = record {
   few : l.m ≤ 2048;
   nodes : l.m + nodes l.ts l.k (l.fn.p.to - l.k) ≡ l.n + value_nodes l.ts l.fn.p;
-  faults : first_fault l.bytes (expr_visits l.ts (visible l.seen) l.m l.k (l.fn.p.to - l.k)) ≡ first_fault l.bytes (value_visits l.ts (visible l.seen) l.n l.fn.p);
+  faults : first_fault l.bytes (expr_visits l.ts (visible l.seen) l.m l.k (l.fn.p.to - l.k))
+      ≡ first_fault l.bytes (value_visits l.ts (visible l.seen) l.n l.fn.p);
 }

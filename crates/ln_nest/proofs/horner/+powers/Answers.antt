@@ -5,28 +5,68 @@ use Rattle.ln_bound.specs.Light.{most}
 use Rattle.ln_bound.specs.View.{typed}
 use Rattle.ln_nest.specs.Nested.{nested, total}
 use Rattle.ln_nest.specs.View.{scale, terms_in, abs_total}
-use Rattle.ln_nest.proofs.Forms.Steps.{scale_some, free_weight, divided_weight, few_weight, product_fits, sum_fits_most, ends_free, ends_product, ends_sum, is_empty, is_some, at_count, constant_has, total_fits}
+use Rattle.ln_nest.proofs.Forms.Steps.{scale_some, free_weight, divided_weight, few_weight, product_fits, sum_fits_most, ends_free}
+use Rattle.ln_nest.proofs.Forms.Steps.{ends_product, ends_sum, is_empty, is_some, at_count, constant_has, total_fits}
 use Rattle.ln_nest.proofs.horner.+powers.Goals as goal
 
 pub by_powers-nest_from-requires-then-is_empty : goal.by_powers-nest_from-requires-then-is_empty
-by_powers-nest_from-requires-then-is_empty t c =
-    (omega arith, (omega (arith, c.requires.variable), (c.requires.few, (c.requires.ordered, free_weight (scale c.args.vars.now) c.args.v most (terms_in c.args.terms.items) c.in_ok-with.without.items c.in_ok-with.ensures.without c.requires.weight))))
+by_powers-nest_from-requires-then-is_empty t c = (
+  omega arith,
+  (
+    omega (arith, c.requires.variable),
+    (
+      c.requires.few,
+      (
+        c.requires.ordered,
+        free_weight (scale c.args.vars.now) c.args.v most
+            (terms_in c.args.terms.items) c.in_ok-with.without.items c.in_ok-with.ensures.without c.requires.weight,
+      ),
+    ),
+  ),
+)
 
 pub by_powers-nest_from-requires-2 : goal.by_powers-nest_from-requires-2
-by_powers-nest_from-requires-2 t c =
-    (omega arith, (omega (arith, c.requires.variable), (c.requires.few, (c.requires.ordered, free_weight (scale c.args.vars.now) c.args.v most (terms_in c.args.terms.items) c.in_ok-with.without.items c.in_ok-with.ensures.without c.requires.weight))))
+by_powers-nest_from-requires-2 t c = (
+  omega arith,
+  (
+    omega (arith, c.requires.variable),
+    (
+      c.requires.few,
+      (
+        c.requires.ordered,
+        free_weight (scale c.args.vars.now) c.args.v most
+            (terms_in c.args.terms.items) c.in_ok-with.without.items c.in_ok-with.ensures.without c.requires.weight,
+      ),
+    ),
+  ),
+)
 
 pub by_powers-by_powers-requires : goal.by_powers-by_powers-requires
-by_powers-by_powers-requires t c =
-    (omega arith, (c.requires.variable, (c.requires.few, (c.requires.ordered, divided_weight (scale c.args.vars.now) c.args.v most (terms_in c.args.terms.items) c.in_ok-with.with.items (scale_some c.args.vars.now c.args.v) c.in_ok-with.ensures.with c.requires.weight))))
+by_powers-by_powers-requires t c = (
+  omega arith,
+  (
+    c.requires.variable,
+    (
+      c.requires.few,
+      (
+        c.requires.ordered,
+        divided_weight (scale c.args.vars.now) c.args.v most (terms_in c.args.terms.items) c.in_ok-with.with.items
+            (scale_some c.args.vars.now c.args.v) c.in_ok-with.ensures.with c.requires.weight,
+      ),
+    ),
+  ),
+)
 
 pub by_powers-times-requires : goal.by_powers-times-requires
 by_powers-times-requires t c =
-    product_fits c.args.vars.now c.args.v (terms_in c.args.terms.items) c.in_ok-with.with.items (typed c.input.result) (typed c.in_ok-h.h) _ c.input.ensures c.in_ok-with.ensures.with c.in_ok-h.ensures c.requires.weight
+    product_fits c.args.vars.now c.args.v (terms_in c.args.terms.items) c.in_ok-with.with.items (typed c.input.result)
+    (typed c.in_ok-h.h) _ c.input.ensures c.in_ok-with.ensures.with c.in_ok-h.ensures c.requires.weight
 
 pub by_powers-two-requires : goal.by_powers-two-requires
 by_powers-two-requires t c =
-    sum_fits_most c.args.vars.now c.args.v (terms_in c.args.terms.items) c.in_ok-with.with.items c.in_ok-with.without.items (typed c.input.result) (typed c.in_ok-h.h) (typed c.in_ok-product.product) (typed c.in_ok-i.i) _ _ c.input.ensures c.in_ok-with.ensures.with c.in_ok-with.ensures.without c.in_ok-h.ensures c.in_ok-product.ensures c.in_ok-i.ensures c.requires.weight
+    sum_fits_most c.args.vars.now c.args.v (terms_in c.args.terms.items) c.in_ok-with.with.items c.in_ok-with.without.items
+    (typed c.input.result) (typed c.in_ok-h.h) (typed c.in_ok-product.product) (typed c.in_ok-i.i) _ _ c.input.ensures
+    c.in_ok-with.ensures.with c.in_ok-with.ensures.without c.in_ok-h.ensures c.in_ok-product.ensures c.in_ok-i.ensures c.requires.weight
 
 pub nest_from-constant-requires : goal.nest_from-constant-requires
 nest_from-constant-requires t c =
@@ -37,27 +77,39 @@ nest_from-constant-requires t c =
 pub nest_from-number-requires : goal.nest_from-number-requires
 nest_from-number-requires t c =
     let f : FitsSigned w128 c.constant.result = search rules in
-    total_fits c.args.vars.now (terms_in c.args.terms.items) _ (to_z-of_z w128 c.constant.result f ∙ c.constant.ensures ∙ ap (λ s. total (terms_in s)) c.as_slice.ensures.value) c.requires.weight
+    total_fits c.args.vars.now (terms_in c.args.terms.items) _
+    (to_z-of_z w128 c.constant.result f ∙ c.constant.ensures ∙ ap (λ s. total (terms_in s)) c.as_slice.ensures.value) c.requires.weight
 
 pub nest_from-returns-then-v-vars : goal.nest_from-returns-then-v-vars
 nest_from-returns-then-v-vars t c =
     let f : FitsSigned w128 c.constant.result = search rules in
-    constant_has c.args.vars.now c.args.d (length c.args.vars.now) c.args.v (terms_in c.args.terms.items) (typed c.number.result) _ (omega arith) (to_z-of_z w128 c.constant.result f ∙ c.constant.ensures ∙ ap (λ s. total (terms_in s)) c.as_slice.ensures.value) c.number.ensures
+    constant_has c.args.vars.now c.args.d (length c.args.vars.now) c.args.v (terms_in c.args.terms.items) (typed c.number.result) _ (omega arith)
+    (to_z-of_z w128 c.constant.result f ∙ c.constant.ensures ∙ ap (λ s. total (terms_in s)) c.as_slice.ensures.value) c.number.ensures
 
 pub by_powers-returns-then-is_empty : goal.by_powers-returns-then-is_empty
 by_powers-returns-then-is_empty t c =
     let inner = nested c.args.d (length c.args.vars.now - (c.args.v + 1)) (c.args.v + 1) in
     at_count c.args.vars.now inner c.args.v (c.args.b - 1) c.args.b _ (terms_in c.args.terms.items) (typed c.in_ok-rest.rest) (omega arith)
-    (ends_free c.args.vars.now inner c.args.v (c.args.b - 1) (terms_in c.args.terms.items) c.in_ok-with.with.items c.in_ok-with.without.items (typed c.in_ok-rest.rest) (is_empty c.in_ok-with.with.len c.in_ok-with.with.items c.if-is_empty.ensures (omega (arith, c.in_ok-with.with.ok.0))) c.in_ok-with.ensures.with c.in_ok-with.ensures.without c.in_ok-rest.ensures)
+    (ends_free c.args.vars.now inner c.args.v (c.args.b - 1) (terms_in c.args.terms.items) c.in_ok-with.with.items c.in_ok-with.without.items
+    (typed c.in_ok-rest.rest) (is_empty c.in_ok-with.with.len c.in_ok-with.with.items c.if-is_empty.ensures (omega (arith, c.in_ok-with.with.ok.0)))
+    c.in_ok-with.ensures.with c.in_ok-with.ensures.without c.in_ok-rest.ensures)
 
 pub by_powers-returns-then-is_empty-2 : goal.by_powers-returns-then-is_empty-2
 by_powers-returns-then-is_empty-2 t c =
     let inner = nested c.args.d (length c.args.vars.now - (c.args.v + 1)) (c.args.v + 1) in
     at_count c.args.vars.now inner c.args.v (c.args.b - 1) c.args.b _ (terms_in c.args.terms.items) (typed c.in_ok-product.product) (omega arith)
-    (ends_product c.args.vars.now inner c.args.v (c.args.b - 1) (terms_in c.args.terms.items) c.in_ok-with.with.items c.in_ok-with.without.items (typed c.input.result) (typed c.in_ok-h.h) (typed c.in_ok-product.product) (is_some c.in_ok-with.with.len c.in_ok-with.with.items c.if-is_empty.ensures (omega (arith, c.in_ok-with.with.ok.0))) (is_empty c.in_ok-with.without.len c.in_ok-with.without.items c.if-is_empty-2.ensures (omega (arith, c.in_ok-with.without.ok.0))) c.in_ok-with.ensures.with c.in_ok-with.ensures.without c.input.ensures c.in_ok-h.ensures c.in_ok-product.ensures)
+    (ends_product c.args.vars.now inner c.args.v (c.args.b - 1) (terms_in c.args.terms.items) c.in_ok-with.with.items c.in_ok-with.without.items
+    (typed c.input.result) (typed c.in_ok-h.h) (typed c.in_ok-product.product)
+    (is_some c.in_ok-with.with.len c.in_ok-with.with.items c.if-is_empty.ensures (omega (arith, c.in_ok-with.with.ok.0)))
+    (is_empty c.in_ok-with.without.len c.in_ok-with.without.items c.if-is_empty-2.ensures (omega (arith, c.in_ok-with.without.ok.0)))
+    c.in_ok-with.ensures.with c.in_ok-with.ensures.without c.input.ensures c.in_ok-h.ensures c.in_ok-product.ensures)
 
 pub by_powers-returns : goal.by_powers-returns
 by_powers-returns t c =
     let inner = nested c.args.d (length c.args.vars.now - (c.args.v + 1)) (c.args.v + 1) in
     at_count c.args.vars.now inner c.args.v (c.args.b - 1) c.args.b _ (terms_in c.args.terms.items) (typed c.in_ok-sum.sum) (omega arith)
-    (ends_sum c.args.vars.now inner c.args.v (c.args.b - 1) (terms_in c.args.terms.items) c.in_ok-with.with.items c.in_ok-with.without.items (typed c.input.result) (typed c.in_ok-h.h) (typed c.in_ok-i.i) (typed c.in_ok-product.product) (typed c.in_ok-sum.sum) (is_some c.in_ok-with.with.len c.in_ok-with.with.items c.if-is_empty.ensures (omega (arith, c.in_ok-with.with.ok.0))) (is_some c.in_ok-with.without.len c.in_ok-with.without.items c.if-is_empty-2.ensures (omega (arith, c.in_ok-with.without.ok.0))) c.in_ok-with.ensures.with c.in_ok-with.ensures.without c.input.ensures c.in_ok-h.ensures c.in_ok-product.ensures c.in_ok-i.ensures c.in_ok-sum.ensures)
+    (ends_sum c.args.vars.now inner c.args.v (c.args.b - 1) (terms_in c.args.terms.items) c.in_ok-with.with.items c.in_ok-with.without.items
+    (typed c.input.result) (typed c.in_ok-h.h) (typed c.in_ok-i.i) (typed c.in_ok-product.product) (typed c.in_ok-sum.sum)
+    (is_some c.in_ok-with.with.len c.in_ok-with.with.items c.if-is_empty.ensures (omega (arith, c.in_ok-with.with.ok.0)))
+    (is_some c.in_ok-with.without.len c.in_ok-with.without.items c.if-is_empty-2.ensures (omega (arith, c.in_ok-with.without.ok.0)))
+    c.in_ok-with.ensures.with c.in_ok-with.ensures.without c.input.ensures c.in_ok-h.ensures c.in_ok-product.ensures c.in_ok-i.ensures c.in_ok-sum.ensures)

@@ -10,11 +10,14 @@ pub overflow_add-sum : goal.overflow_add-sum
 overflow_add-sum c =
     let f : FitsSigned w128 c.term-item.result.factor = search rules in
     let m = sum_fits c.args.terms.now c.loop-term.term-index c.term-item.result c.loop-term-test.true c.term-item.is in
-    small_sum _ _ (total (terms_in (take c.loop-term.term-index c.args.terms.now))) c.term-item.result.factor _ c.loop-term.invariant (to_z-of_z w128 c.term-item.result.factor f) m c.requires
+    small_sum _ _ (total (terms_in (take c.loop-term.term-index c.args.terms.now))) c.term-item.result.factor _ c.loop-term.invariant
+    (to_z-of_z w128 c.term-item.result.factor f) m c.requires
 
 pub loop-term-preserved : goal.loop-term-preserved
 loop-term-preserved c =
     let f : FitsSigned w128 c.term-item.result.factor = search rules in
     let m = sum_fits c.args.terms.now c.loop-term.term-index c.term-item.result c.loop-term-test.true c.term-item.is in
-    to_z-of_z w128 _ (small_sum _ _ (total (terms_in (take c.loop-term.term-index c.args.terms.now))) c.term-item.result.factor _ c.loop-term.invariant (to_z-of_z w128 c.term-item.result.factor f) m c.requires)
-    ∙ sum_next _ _ (total (terms_in (take c.loop-term.term-index c.args.terms.now))) c.term-item.result.factor _ c.loop-term.invariant (to_z-of_z w128 c.term-item.result.factor f) (sum_step c.args.terms.now c.loop-term.term-index c.term-item.result c.loop-term-test.true c.term-item.is)
+    to_z-of_z w128 _ (small_sum _ _ (total (terms_in (take c.loop-term.term-index c.args.terms.now))) c.term-item.result.factor _
+    c.loop-term.invariant (to_z-of_z w128 c.term-item.result.factor f) m c.requires)
+    ∙ sum_next _ _ (total (terms_in (take c.loop-term.term-index c.args.terms.now))) c.term-item.result.factor _ c.loop-term.invariant
+    (to_z-of_z w128 c.term-item.result.factor f) (sum_step c.args.terms.now c.loop-term.term-index c.term-item.result c.loop-term-test.true c.term-item.is)

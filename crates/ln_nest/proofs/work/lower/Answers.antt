@@ -9,4 +9,5 @@ pub overflow_sub-index_mut : goal.overflow_sub-index_mut
 overflow_sub-index_mut c = omega (arith, positive c.args.v c.args.term.now.exponents.items c.index_mut.result.now c.requires, c.index_mut.ensures.value)
 
 pub returns-clause-exponents : goal.returns-clause-exponents
-returns-clause-exponents c = set_is c.args.v c.args.term.now.exponents.items c.index_mut.result.now c.index_mut.ensures.value (within c.args.v c.args.term.now.exponents.items c.requires)
+returns-clause-exponents c = set_is c.args.v c.args.term.now.exponents.items c.index_mut.result.now c.index_mut.ensures.value
+    (within c.args.v c.args.term.now.exponents.items c.requires)

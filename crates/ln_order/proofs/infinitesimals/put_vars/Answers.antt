@@ -1,4 +1,5 @@
-use Rattle.std.proofs.Common.{◌≡◌, ◌∙◌, ◌<◌, ◌+◌, ℕ, suc, Bool, true, false, List, [], ◌∷◌, ◌++◌, append_assoc, add-one, length, drop, get_or, drop-cons, ap, sym, Some}
+use Rattle.std.proofs.Common.{◌≡◌, ◌∙◌, ◌<◌, ◌+◌, ℕ, suc, Bool, true, false, List, [], ◌∷◌, ◌++◌, append_assoc, add-one, length, drop}
+use Rattle.std.proofs.Common.{get_or, drop-cons, sym, Some}
 use Rattle.ln_tree.specs.declared.shape.VarInfo.{VarInfo}
 use Rattle.ln_tree.specs.Variables.{same_site}
 use Rattle.ln_order.specs.Sites.{vars_of}
@@ -21,6 +22,8 @@ pub vars-preserved : goal.vars-preserved
 vars-preserved c =
     let e = c.same_site.ensures in
     elim c.if-same_site.branch [
-      | then-same_site+in_ok-push w ↦ rw w.out-is (put c.args.site c.vars.v c.args.vars.now _ c.same_site.result c.vars-test.true e c.vars.out.items w.push.new.self.items _ w.if-same_site.true w.in_ok-push.ensures.items c.vars.invariant)
-      | else-same_site w ↦ rw w.out-is (leave c.args.site c.vars.v c.args.vars.now _ c.same_site.result c.vars-test.true e c.vars.out.items _ w.if-same_site.false c.vars.invariant)
+      | then-same_site+in_ok-push w ↦ rw w.out-is (put c.args.site c.vars.v c.args.vars.now _ c.same_site.result c.vars-test.true e
+          c.vars.out.items w.push.new.self.items _ w.if-same_site.true w.in_ok-push.ensures.items c.vars.invariant)
+      | else-same_site w ↦ rw w.out-is
+          (leave c.args.site c.vars.v c.args.vars.now _ c.same_site.result c.vars-test.true e c.vars.out.items _ w.if-same_site.false c.vars.invariant)
     ]

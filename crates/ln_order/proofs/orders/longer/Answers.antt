@@ -17,4 +17,5 @@ others-preserved c =
 pub firsts-preserved : goal.firsts-preserved
 firsts-preserved c =
     let os = map order_places c.args.others.now in
-    rw (add-one c.firsts.first) (c.others.invariant ∙ ap (λ z. firsts c.firsts.first os ++ z) (all_of order_places c.firsts.first c.args.others.now c.others.o-index c.others-test.false))
+    rw (add-one c.firsts.first)
+    (c.others.invariant ∙ ap (λ z. firsts c.firsts.first os ++ z) (all_of order_places c.firsts.first c.args.others.now c.others.o-index c.others-test.false))

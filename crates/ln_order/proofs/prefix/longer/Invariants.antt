@@ -8,4 +8,5 @@ abbrev pub invariant-firsts : goal.invariant-firsts
 invariant-firsts l = map front_places l.all ≡ [] ∷ firsts l.first (map front_places l.others)
 
 abbrev pub invariant-others : goal.invariant-others
-invariant-others l = map front_places l.all ≡ [] ∷ (firsts l.first (map front_places l.others) ++ map (behind l.first) (map front_places (take l.p-index l.others)))
+invariant-others l =
+    map front_places l.all ≡ [] ∷ (firsts l.first (map front_places l.others) ++ map (behind l.first) (map front_places (take l.p-index l.others)))

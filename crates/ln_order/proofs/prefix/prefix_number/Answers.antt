@@ -9,7 +9,8 @@ overflow_mul-number c =
     let xs = c.places-places.result.now in
     let e = c.places-places.ensures.value in
     let i = c.places.i in
-    let h : c.places.number + suc (added xs i) < 327 = step_small xs c.places.number i c.args.j (rw e c.places-places.ensures.few) (rw e c.places-places.ensures.each) (rw e c.requires) (omega arith) c.places.invariant in
+    let h : c.places.number + suc (added xs i) < 327 = step_small xs c.places.number i c.args.j (rw e c.places-places.ensures.few)
+    (rw e c.places-places.ensures.each) (rw e c.requires) (omega arith) c.places.invariant in
     rw (c.smaller.ensures, c.tree_size.ensures, take_rest xs (i + 1)) (omega (arith, h))
 
 pub overflow_add-number : goal.overflow_add-number
@@ -17,7 +18,8 @@ overflow_add-number c =
     let xs = c.places-places.result.now in
     let e = c.places-places.ensures.value in
     let i = c.places.i in
-    let h : c.places.number + suc (added xs i) < 327 = step_small xs c.places.number i c.args.j (rw e c.places-places.ensures.few) (rw e c.places-places.ensures.each) (rw e c.requires) (omega arith) c.places.invariant in
+    let h : c.places.number + suc (added xs i) < 327 = step_small xs c.places.number i c.args.j (rw e c.places-places.ensures.few)
+    (rw e c.places-places.ensures.each) (rw e c.requires) (omega arith) c.places.invariant in
     rw (c.smaller.ensures, c.tree_size.ensures, take_rest xs (i + 1)) (omega (arith, h))
 
 pub overflow_add-number-in-places : goal.overflow_add-number-in-places
@@ -25,15 +27,18 @@ overflow_add-number-in-places c =
     let xs = c.places-places.result.now in
     let e = c.places-places.ensures.value in
     let i = c.places.i in
-    let h : c.places.number + suc (added xs i) < 327 = step_small xs c.places.number i c.args.j (rw e c.places-places.ensures.few) (rw e c.places-places.ensures.each) (rw e c.requires) (omega arith) c.places.invariant in
+    let h : c.places.number + suc (added xs i) < 327 = step_small xs c.places.number i c.args.j (rw e c.places-places.ensures.few)
+    (rw e c.places-places.ensures.each) (rw e c.requires) (omega arith) c.places.invariant in
     rw (c.smaller.ensures, c.tree_size.ensures, take_rest xs (i + 1)) (omega (arith, h))
 
 pub returns-clause-value : goal.returns-clause-value
 returns-clause-value c =
     let e = c.places-places.ensures.value in
-    rw (← e) (done_there c.places-places.result.now c.places.number c.places.i c.args.j (rw e c.places-places.ensures.few) (rw e c.places-places.ensures.each) (rw e c.requires) (omega arith) c.places.invariant)
+    rw (← e) (done_there c.places-places.result.now c.places.number c.places.i c.args.j (rw e c.places-places.ensures.few)
+    (rw e c.places-places.ensures.each) (rw e c.requires) (omega arith) c.places.invariant)
 
 pub returns-clause-small : goal.returns-clause-small
 returns-clause-small c =
     let e = c.places-places.ensures.value in
-    rw (← e) (done_small c.places-places.result.now c.places.number c.places.i c.args.j (rw e c.places-places.ensures.few) (rw e c.places-places.ensures.each) (rw e c.requires) (omega arith) c.places.invariant)
+    rw (← e) (done_small c.places-places.result.now c.places.number c.places.i c.args.j (rw e c.places-places.ensures.few)
+    (rw e c.places-places.ensures.each) (rw e c.requires) (omega arith) c.places.invariant)

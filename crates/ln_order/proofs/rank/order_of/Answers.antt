@@ -9,4 +9,5 @@ of-requires-clause-each c =
 pub returns-clause-ok : goal.returns-clause-ok
 returns-clause-ok c =
     let q = are_places _ c.sort_by_index.new.places c.requires c.sort_by_index.ensures.permutation in
-    rw (c.of.ensures, front_places _ c.sort_by_index.new.places _ q.0) (sorted_is_order c.args.indices.now c.sort_by_index.new.places c.requires c.sort_by_index.ensures.permutation c.sort_by_index.ensures.sorted c.in_default.ensures.first)
+    rw (c.of.ensures, front_places _ c.sort_by_index.new.places _ q.0) (sorted_is_order c.args.indices.now c.sort_by_index.new.places
+    c.requires c.sort_by_index.ensures.permutation c.sort_by_index.ensures.sorted c.in_default.ensures.first)

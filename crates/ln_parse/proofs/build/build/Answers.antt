@@ -20,5 +20,9 @@ invariant_of-result c =
     (subst (λ (w : List Param). list_all (pred_fits c.as_slice.result.now w) preds ≡ true) c.as_slice-2.ensures c.in_ok-preds.ensures.fits) in
     let q = λ (t : TableOf) (s : t.sites ≡ map site_of sites) (p : t.params ≡ map param_of params).
     c.in_ok-preds.ensures.says t (rw c.as_slice.ensures s) (rw c.as_slice-2.ensures p) in
-    let said : ItemsSay bytes ts is (table_of sites params preds) = record { sites_are = c.in_ok-sites.ensures; params_are = c.in_ok-params.ensures; preds_are = q (table_of sites params preds) refl refl } in
-    record { kept = table_kept bytes ts is sites params preds c.requires.ready c.in_ok-sites.ensures c.in_ok-params.ensures f q; whole = c.requires.whole (table_of sites params preds) said }
+    let said : ItemsSay bytes ts is (table_of sites params preds) =
+    record { sites_are = c.in_ok-sites.ensures; params_are = c.in_ok-params.ensures; preds_are = q (table_of sites params preds) refl refl } in
+    record {
+      kept = table_kept bytes ts is sites params preds c.requires.ready c.in_ok-sites.ensures c.in_ok-params.ensures f q;
+      whole = c.requires.whole (table_of sites params preds) said;
+    }

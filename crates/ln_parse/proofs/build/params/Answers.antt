@@ -19,9 +19,12 @@ items-preserved c =
     let bytes = c.args.bytes.now in
     let i = c.items.it-index in
     elim c.match-it.branch [
-      | in-Site w ↦ params_skip bytes its i c.it-item.result c.items.params c.match-it.params (params_said bytes (items its)) (omega arith) c.it-item.is (ap (λ x. is_param (item x)) w.in-Site.is) w.params-is c.items.invariant
+      | in-Site w ↦ params_skip bytes its i c.it-item.result c.items.params c.match-it.params (params_said bytes (items its))
+          (omega arith) c.it-item.is (ap (λ x. is_param (item x)) w.in-Site.is) w.params-is c.items.invariant
       | in-Param+in_ok-push-in-Param w ↦
-          params_more bytes its i c.it-item.result w.in-Param.name w.in-Param.range c.items.params c.match-it.params w.param.result (params_said bytes (items its))
+          params_more bytes its i c.it-item.result w.in-Param.name w.in-Param.range c.items.params c.match-it.params w.param.result
+          (params_said bytes (items its))
           (omega arith) c.it-item.is (ap item w.in-Param.is) w.param.ensures (w.params-is ∙ w.in_ok-push-in-Param.ensures.ok) c.items.invariant
-      | in-Pred w ↦ params_skip bytes its i c.it-item.result c.items.params c.match-it.params (params_said bytes (items its)) (omega arith) c.it-item.is (ap (λ x. is_param (item x)) w.in-Pred.is) w.params-is c.items.invariant
+      | in-Pred w ↦ params_skip bytes its i c.it-item.result c.items.params c.match-it.params (params_said bytes (items its))
+          (omega arith) c.it-item.is (ap (λ x. is_param (item x)) w.in-Pred.is) w.params-is c.items.invariant
     ]

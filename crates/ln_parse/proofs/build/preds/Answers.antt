@@ -31,10 +31,12 @@ predicate-requires-clause-declared c =
     let its = c.args.its.now in
     let i = c.items.i in
     let q = sym (map-append item (take i its) (drop i its)) ∙ ap items (take-append-drop i its) in
-    declared c.args.bytes.now c.args.ts.now (items (take i its)) (items (drop i its)) (items its) (map site_of c.args.sites.now) (map param_of c.args.params.now) q c.requires.sites c.requires.params c.requires.ready
+    declared c.args.bytes.now c.args.ts.now (items (take i its)) (items (drop i its)) (items its) (map site_of c.args.sites.now)
+    (map param_of c.args.params.now) q c.requires.sites c.requires.params c.requires.ready
 
 pub returns-clause-says : goal.returns-clause-says
-returns-clause-says c t s p = preds_end c.args.bytes.now c.args.ts.now t c.args.its.now c.items.i (map pred_of c.items.preds) (omega arith) (c.items.invariant.says t s p)
+returns-clause-says c t s p =
+    preds_end c.args.bytes.now c.args.ts.now t c.args.its.now c.items.i (map pred_of c.items.preds) (omega arith) (c.items.invariant.says t s p)
 
 pub items-preserved : goal.items-preserved
 items-preserved c =
@@ -46,19 +48,25 @@ items-preserved c =
     let fit = pred_fits c.args.sites.now c.args.params.now in
     elim c.match-it.branch [
       | in-Site w ↦ record {
-        says = λ t s p. rw w.preds-is (preds_site bytes ts t its i c.index-its-i.result w.in-Site.field-0 w.in-Site.field-1.items done (omega arith) c.index-its-i.is (ap item w.in-Site.is) (c.items.invariant.says t s p));
+        says = λ t s p. rw w.preds-is (preds_site bytes ts t its i c.index-its-i.result w.in-Site.field-0 w.in-Site.field-1.items done
+            (omega arith) c.index-its-i.is (ap item w.in-Site.is) (c.items.invariant.says t s p));
         fits = rw w.preds-is c.items.invariant.fits;
       }
       | in-Param w ↦ record {
-        says = λ t s p. rw w.preds-is (preds_param bytes ts t its i c.index-its-i.result w.in-Param.field-0 w.in-Param.field-1 done (omega arith) c.index-its-i.is (ap item w.in-Param.is) (c.items.invariant.says t s p));
+        says = λ t s p. rw w.preds-is (preds_param bytes ts t its i c.index-its-i.result w.in-Param.field-0 w.in-Param.field-1 done
+            (omega arith) c.index-its-i.is (ap item w.in-Param.is) (c.items.invariant.says t s p));
         fits = rw w.preds-is c.items.invariant.fits;
       }
       | in-Pred+in_ok-predicate-in-Pred+in_ok-push-in-Pred w ↦
           let x = w.in_ok-predicate-in-Pred.field-0 in
           record {
-            says = λ t s p. preds_pred bytes ts t its i c.index-its-i.result w.in-Pred.name w.deref.result.now w.deref-in-Pred.result.now w.in-Pred.root done (map pred_of c.match-it.preds) (pred_of x)
-                (omega arith) c.index-its-i.is (rw (w.deref.ensures.value, w.deref-in-Pred.ensures.value) (ap item w.in-Pred.is)) (w.in_ok-predicate-in-Pred.ensures.says t s p)
-                (ap (λ (w : List Pred). map pred_of w) (w.preds-is ∙ w.in_ok-push-in-Pred.ensures.ok) ∙ map_push pred_of c.items.preds x) (c.items.invariant.says t s p);
-            fits = ap (list_all fit) (w.preds-is ∙ w.in_ok-push-in-Pred.ensures.ok) ∙ list_all-append fit c.items.preds _ ∙ and_from _ _ c.items.invariant.fits (and_from _ _ w.in_ok-predicate-in-Pred.ensures.fits refl);
+            says = λ t s p. preds_pred bytes ts t its i c.index-its-i.result w.in-Pred.name w.deref.result.now w.deref-in-Pred.result.now
+                w.in-Pred.root done (map pred_of c.match-it.preds) (pred_of x)
+                (omega arith) c.index-its-i.is (rw (w.deref.ensures.value, w.deref-in-Pred.ensures.value) (ap item w.in-Pred.is))
+                (w.in_ok-predicate-in-Pred.ensures.says t s p)
+                (ap (λ (w : List Pred). map pred_of w) (w.preds-is ∙ w.in_ok-push-in-Pred.ensures.ok)
+                ∙ map_push pred_of c.items.preds x) (c.items.invariant.says t s p);
+            fits = ap (list_all fit) (w.preds-is ∙ w.in_ok-push-in-Pred.ensures.ok) ∙ list_all-append fit c.items.preds _
+                ∙ and_from _ _ c.items.invariant.fits (and_from _ _ w.in_ok-predicate-in-Pred.ensures.fits refl);
           }
     ]

@@ -11,8 +11,10 @@ coord-requires c = each_or (λ before k. ReadyCoord c.args.bytes.now k) c.args.r
 
 pub coords-preserved : goal.coords-preserved
 coords-preserved c =
-    one_mapped coord_of (λ k. ranged c.args.bytes.now k.name k.range) c.args.raw.now c.coords.c-index _ c.coord.result c.coords.coords c.push.new.self c.coords-test.true c.coord.ensures c.in_ok-push.ensures.ok c.coords.invariant
+    one_mapped coord_of (λ k. ranged c.args.bytes.now k.name k.range) c.args.raw.now c.coords.c-index _ c.coord.result c.coords.coords
+    c.push.new.self c.coords-test.true c.coord.ensures c.in_ok-push.ensures.ok c.coords.invariant
 
 pub returns : goal.returns
 returns c =
-    same_site_of _ _ _ _ c.name_at-name.ensures (c.coords.invariant ∙ all_mapped (λ k. ranged c.args.bytes.now k.name k.range) c.args.raw.now c.coords.c-index c.coords-test.false)
+    same_site_of _ _ _ _ c.name_at-name.ensures
+    (c.coords.invariant ∙ all_mapped (λ k. ranged c.args.bytes.now k.name k.range) c.args.raw.now c.coords.c-index c.coords-test.false)

@@ -22,8 +22,12 @@ items-preserved c =
     let i = c.items.it-index in
     elim c.match-it.branch [
       | in-Site+in_ok-site-in-Site+in_ok-push-in-Site w ↦
-          sites_more bytes its i c.it-item.result w.in-Site.name w.deref.result.now c.items.sites c.match-it.sites w.in_ok-site-in-Site.field-0 (sites_said bytes (items its))
-          (omega arith) c.it-item.is (ap item w.in-Site.is ∙ ap (λ (cs : List RawCoord). SiteItem w.in-Site.name cs) (sym w.deref.ensures.value)) w.in_ok-site-in-Site.ensures (w.sites-is ∙ w.in_ok-push-in-Site.ensures.ok) c.items.invariant
-      | in-Param w ↦ sites_skip bytes its i c.it-item.result c.items.sites c.match-it.sites (sites_said bytes (items its)) (omega arith) c.it-item.is (ap (λ x. is_site (item x)) w.in-Param.is) w.sites-is c.items.invariant
-      | in-Pred w ↦ sites_skip bytes its i c.it-item.result c.items.sites c.match-it.sites (sites_said bytes (items its)) (omega arith) c.it-item.is (ap (λ x. is_site (item x)) w.in-Pred.is) w.sites-is c.items.invariant
+          sites_more bytes its i c.it-item.result w.in-Site.name w.deref.result.now c.items.sites c.match-it.sites w.in_ok-site-in-Site.field-0
+          (sites_said bytes (items its))
+          (omega arith) c.it-item.is (ap item w.in-Site.is ∙ ap (λ (cs : List RawCoord). SiteItem w.in-Site.name cs) (sym w.deref.ensures.value))
+          w.in_ok-site-in-Site.ensures (w.sites-is ∙ w.in_ok-push-in-Site.ensures.ok) c.items.invariant
+      | in-Param w ↦ sites_skip bytes its i c.it-item.result c.items.sites c.match-it.sites (sites_said bytes (items its))
+          (omega arith) c.it-item.is (ap (λ x. is_site (item x)) w.in-Param.is) w.sites-is c.items.invariant
+      | in-Pred w ↦ sites_skip bytes its i c.it-item.result c.items.sites c.match-it.sites (sites_said bytes (items its))
+          (omega arith) c.it-item.is (ap (λ x. is_site (item x)) w.in-Pred.is) w.sites-is c.items.invariant
     ]

@@ -1,18 +1,23 @@
 use Rattle.std.proofs.Common.{inl, inr, refl, sym, ◌∙◌, true≢false, arith}
 use Rattle.std.proofs.lemmas.Result.{IfOk-weaker}
 use Rattle.ln_lex.specs.declared.token.Kind.TheVariants.{ParL, Minus, Star}
-use Rattle.ln_parse.proofs.Expressions.Steps.{is_within, par_here, par_tree, parens_read, atom_tree, power_plain, exponent_fit, power_read, power_tree, unary_tree, unary_plain, unary_minus, unary_first, factor_tree, term_first, sign_within, sign_tree, sums_begin, sums_next, sums_end, products_begin, products_times, products_end}
+use Rattle.ln_parse.proofs.Expressions.Steps.{is_within, par_here, par_tree, parens_read, atom_tree, power_plain, exponent_fit, power_read}
+use Rattle.ln_parse.proofs.Expressions.Steps.{power_tree, unary_tree, unary_plain, unary_minus, unary_first, factor_tree, term_first}
+use Rattle.ln_parse.proofs.Expressions.Steps.{sign_within, sign_tree, sums_begin, sums_next, sums_end, products_begin, products_times}
+use Rattle.ln_parse.proofs.Expressions.Steps.{products_end}
 use Rattle.ln_parse.proofs.expression.+expression.Goals as goal
 
 pub atom-sum-requires : goal.atom-sum-requires
 atom-sum-requires t c =
-    let p = par_here c.requires.there (λ h. true≢false (sym (c.is.ensures.1 h) ∙ c.if-is.false)) (λ h. true≢false (sym (c.is-2.ensures.1 h) ∙ c.if-is-2.false)) in
+    let p = par_here c.requires.there (λ h. true≢false (sym (c.is.ensures.1 h) ∙ c.if-is.false))
+    (λ h. true≢false (sym (c.is-2.ensures.1 h) ∙ c.if-is-2.false)) in
     let w = is_within c.args.s.now.ts.now c.args.at ParL p in
     (omega arith, (omega arith, (c.requires.small, (c.requires.narrow, par_tree c.requires.there p))))
 
 pub atom-returns : goal.atom-returns
 atom-returns t c =
-    let p = par_here c.requires.there (λ h. true≢false (sym (c.is.ensures.1 h) ∙ c.if-is.false)) (λ h. true≢false (sym (c.is-2.ensures.1 h) ∙ c.if-is-2.false)) in
+    let p = par_here c.requires.there (λ h. true≢false (sym (c.is.ensures.1 h) ∙ c.if-is.false))
+    (λ h. true≢false (sym (c.is-2.ensures.1 h) ∙ c.if-is-2.false)) in
     rw (c.closed.ensures.end, c.closed.ensures.value) (parens_read c.requires.there p c.in_ok-inner.ensures)
 
 pub power-returns-then-not-is : goal.power-returns-then-not-is
@@ -38,7 +43,8 @@ sum-terms-preserved t c =
 
 pub sum-returns : goal.sum-returns
 sum-returns t c =
-    sums_end c.terms.invariant (λ h. true≢false (sym (c.is_sign.ensures.1 (inl h)) ∙ c.terms-test.false)) (λ h. true≢false (sym (c.is_sign.ensures.1 (inr h)) ∙ c.terms-test.false))
+    sums_end c.terms.invariant (λ h. true≢false (sym (c.is_sign.ensures.1 (inl h)) ∙ c.terms-test.false))
+    (λ h. true≢false (sym (c.is_sign.ensures.1 (inr h)) ∙ c.terms-test.false))
 
 pub term-factors-init : goal.term-factors-init
 term-factors-init t c = products_begin c.in_ok-first.ensures
@@ -89,5 +95,7 @@ pub term-unary-requires : goal.term-unary-requires
 term-unary-requires t c = (omega arith, (c.requires.within, (c.requires.small, (c.requires.narrow, unary_first c.requires.there))))
 
 pub unary-power-requires : goal.unary-power-requires
-unary-power-requires t c =
-    (omega arith, (c.requires.within, (c.requires.small, (c.requires.narrow, power_tree c.requires.there (λ m. true≢false (sym (c.is.ensures.1 m) ∙ c.if-not-is.true))))))
+unary-power-requires t c = (
+  omega arith,
+  (c.requires.within, (c.requires.small, (c.requires.narrow, power_tree c.requires.there (λ m. true≢false (sym (c.is.ensures.1 m) ∙ c.if-not-is.true))))),
+)

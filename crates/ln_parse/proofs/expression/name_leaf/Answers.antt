@@ -7,9 +7,11 @@ use Rattle.ln_parse.proofs.expression.name_leaf.Goals as goal
 pub returns-in-Some : goal.returns-in-Some
 returns-in-Some c =
     let s = c.args.s.now in
-    name_is_let s.bytes.now (scope (items s.items.now) s.args.now s.lets.now) c.args.at c.let_place.result c.in-Some.j c.in-Some.j c.let_place.ensures.place c.in-Some.is refl
+    name_is_let s.bytes.now (scope (items s.items.now) s.args.now s.lets.now) c.args.at c.let_place.result c.in-Some.j c.in-Some.j
+    c.let_place.ensures.place c.in-Some.is refl
 
 pub returns-in-None : goal.returns-in-None
 returns-in-None c =
     let s = c.args.s.now in
-    name_is_param s.bytes.now (scope (items s.items.now) s.args.now s.lets.now) c.args.at c.let_place.result c.param_at.result c.or_zero.result c.let_place.ensures.place c.in-None.is c.param_at.ensures.place c.or_zero.ensures
+    name_is_param s.bytes.now (scope (items s.items.now) s.args.now s.lets.now) c.args.at c.let_place.result c.param_at.result
+    c.or_zero.result c.let_place.ensures.place c.in-None.is c.param_at.ensures.place c.or_zero.ensures

@@ -5,8 +5,10 @@ use Rattle.ln_parse.proofs.layout.arg_vars.Goals as goal
 
 pub returns-in_ok-coords_vars-in-Site-clause-vars : goal.returns-in_ok-coords_vars-in-Site-clause-vars
 returns-in_ok-coords_vars-in-Site-clause-vars c = λ rest.
-    rw c.in-Site.is (site_arg (map site_of c.args.sites.now) (map param_of c.args.params.now) c.args.k c.args.s _ (map coord_of c.coords_of.result.now) c.args.vars.now c.coords_vars.new.vars c.in_ok-coords_vars-in-Site.ensures c.coords_of.ensures.coords rest)
+    rw c.in-Site.is (site_arg (map site_of c.args.sites.now) (map param_of c.args.params.now) c.args.k c.args.s _
+    (map coord_of c.coords_of.result.now) c.args.vars.now c.coords_vars.new.vars c.in_ok-coords_vars-in-Site.ensures c.coords_of.ensures.coords rest)
 
 pub returns-in_ok-param_var-in-Param-clause-vars : goal.returns-in_ok-param_var-in-Param-clause-vars
 returns-in_ok-param_var-in-Param-clause-vars c = λ rest.
-    rw c.in-Param.is (param_arg (map site_of c.args.sites.now) (map param_of c.args.params.now) c.args.k c.args.s _ c.args.vars.now c.param_var.new.vars c.in_ok-param_var-in-Param.ensures rest)
+    rw c.in-Param.is (param_arg (map site_of c.args.sites.now)
+    (map param_of c.args.params.now) c.args.k c.args.s _ c.args.vars.now c.param_var.new.vars c.in_ok-param_var-in-Param.ensures rest)

@@ -8,12 +8,14 @@ use Rattle.ln_parse.proofs.Building.Turns.{all_mapped, one_mapped}
 use Rattle.ln_parse.proofs.layout.args.Goals as goal
 
 pub arg-requires-clause-ready : goal.arg-requires-clause-ready
-arg-requires-clause-ready c = each_or (λ before a. ReadyArg c.args.s.now.bytes.now (items c.args.s.now.items.now) a) c.args.s.now.args.now c.args-2.a-index _ c.requires.ready (omega arith)
+arg-requires-clause-ready c = each_or (λ before a. ReadyArg c.args.s.now.bytes.now (items c.args.s.now.items.now) a) c.args.s.now.args.now
+    c.args-2.a-index _ c.requires.ready (omega arith)
 
 pub args-2-preserved : goal.args-2-preserved
 args-2-preserved c =
     let s = c.args.s.now in
-    one_mapped arg_of (λ a. arg_said s.bytes.now (items s.items.now) a a.is_param) s.args.now c.args-2.a-index _ c.arg.result c.args-2.args c.push.new.self c.args-2-test.true c.arg.ensures c.in_ok-push.ensures.ok c.args-2.invariant
+    one_mapped arg_of (λ a. arg_said s.bytes.now (items s.items.now) a a.is_param) s.args.now c.args-2.a-index _ c.arg.result c.args-2.args
+    c.push.new.self c.args-2-test.true c.arg.ensures c.in_ok-push.ensures.ok c.args-2.invariant
 
 pub returns : goal.returns
 returns c =

@@ -21,7 +21,8 @@ returns-in-Some-clause-few c =
     let h = c.in-Some.ensures.lookup in
     let x = c.in-Some.site.now in
     let e : slice_get c.args.sites.now c.args.t ≡ Some x = slice_get-get_or c.args.sites.now c.args.t x h.3.0 ∙ ap (λ (w : Site). Some w) (sym (h.3.1 x)) in
-    let q : coords_or (slice_get (map site_of c.args.sites.now) c.args.t) ≡ map coord_of x.coords = rw (slice_get-map site_of c.args.sites.now c.args.t, e) refl in
+    let q : coords_or (slice_get (map site_of c.args.sites.now) c.args.t) ≡ map coord_of x.coords =
+    rw (slice_get-map site_of c.args.sites.now c.args.t, e) refl in
     let l = ap (λ (w : List CoordOf). length w) q in
     let m = length-map x.coords coord_of in
     let n = ap (λ (w : List Coord). length w) c.as_slice.ensures in

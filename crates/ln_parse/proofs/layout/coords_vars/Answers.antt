@@ -9,4 +9,5 @@ coords-preserved c =
     let x = c.index-coords-c.result in
     let low : FitsSigned w64 x.lo = search rules in
     let high : FitsSigned w64 x.hi = search rules in
-    one_coord c.args.k c.args.s c.coords.c c.args.coords.now x c.coords.vars c.push.new.self _ c.coords-test.true c.index-coords-c.is (simp to_z-of_z at c.in_ok-push.ensures.ok) c.coords.invariant
+    one_coord c.args.k c.args.s c.coords.c c.args.coords.now x c.coords.vars c.push.new.self _ c.coords-test.true c.index-coords-c.is
+    (simp to_z-of_z at c.in_ok-push.ensures.ok) c.coords.invariant

@@ -10,13 +10,16 @@ pub args-2-preserved : goal.args-2-preserved
 args-2-preserved c =
     let now = c.args-2 in
     record {
-      vars = one_arg c.args.args.now now.k (map site_of c.args.sites.now) (map param_of c.args.params.now) now.seen c.in_ok-seen.seen c.index-args-k.result now.vars c.arg_vars.new.vars _ c.args-2-test.true c.index-args-k.is c.in_ok-seen.ensures.vars now.invariant.vars;
-      sites = one_seen c.args.args.now now.k now.seen c.in_ok-seen.seen _ c.index-args-k.result c.args-2-test.true c.index-args-k.is c.in_ok-seen.ensures.sites now.invariant.sites;
+      vars = one_arg c.args.args.now now.k (map site_of c.args.sites.now) (map param_of c.args.params.now) now.seen c.in_ok-seen.seen
+          c.index-args-k.result now.vars c.arg_vars.new.vars _ c.args-2-test.true c.index-args-k.is c.in_ok-seen.ensures.vars now.invariant.vars;
+      sites = one_seen c.args.args.now now.k now.seen c.in_ok-seen.seen _ c.index-args-k.result c.args-2-test.true c.index-args-k.is
+          c.in_ok-seen.ensures.sites now.invariant.sites;
     }
 
 pub returns : goal.returns
 returns c =
     record {
-      vars = all_args c.args.args.now c.args-2.k (map site_of c.args.sites.now) (map param_of c.args.params.now) c.args-2.seen c.args-2.vars _ c.args-2-test.false c.args-2.invariant.vars;
+      vars = all_args c.args.args.now c.args-2.k (map site_of c.args.sites.now)
+          (map param_of c.args.params.now) c.args-2.seen c.args-2.vars _ c.args-2-test.false c.args-2.invariant.vars;
       sites = all_seen c.args.args.now c.args-2.k c.args-2.seen _ c.args-2-test.false c.args-2.invariant.sites;
     }

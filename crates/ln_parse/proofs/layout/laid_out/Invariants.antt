@@ -6,6 +6,7 @@ use Rattle.ln_parse.proofs.layout.laid_out.Given as goal
 
 abbrev pub invariant-args-2 : goal.invariant-args-2
 invariant-args-2 l = record {
-  vars : l.vars ++ vars_behind (map site_of l.sites) (map param_of l.params) l.k l.seen (map arg_of (drop l.k l.args)) ≡ vars_behind (map site_of l.sites) (map param_of l.params) 0 0 (map arg_of l.args);
+  vars : l.vars ++ vars_behind (map site_of l.sites) (map param_of l.params) l.k l.seen (map arg_of (drop l.k l.args))
+      ≡ vars_behind (map site_of l.sites) (map param_of l.params) 0 0 (map arg_of l.args);
   sites : l.seen + count_by is_site_said (map arg_of (drop l.k l.args)) ≡ count_by is_site_said (map arg_of l.args);
 }

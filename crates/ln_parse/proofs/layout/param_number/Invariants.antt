@@ -6,4 +6,5 @@ use Rattle.ln_parse.proofs.layout.param_number.Given as goal
 
 abbrev pub invariant-items : goal.invariant-items
 invariant-items l =
-    (position_from (λ n. same l.bytes n l.at) l.n (filter_map (λ i. param_name (item i)) (drop l.it-index l.before)) ≡ position_from (λ n. same l.bytes n l.at) 0 (filter_map (λ i. param_name (item i)) l.before)) × (l.n ≤ l.it-index)
+    (position_from (λ n. same l.bytes n l.at) l.n (filter_map (λ i. param_name (item i)) (drop l.it-index l.before))
+    ≡ position_from (λ n. same l.bytes n l.at) 0 (filter_map (λ i. param_name (item i)) l.before)) × (l.n ≤ l.it-index)

@@ -11,7 +11,8 @@ returns-in_ok-push-in-Some c =
     let h = c.in-Some.ensures.lookup in
     let x = c.in-Some.p.now in
     let e : slice_get c.args.params.now c.args.p ≡ Some x = slice_get-get_or c.args.params.now c.args.p x h.3.0 ∙ ap (λ (w : Param). Some w) (sym (h.3.1 x)) in
-    rw (slice_get-map param_of c.args.params.now c.args.p, e) (c.in_ok-push-in-Some.ensures.ok ∙ ap (λ (w : List VarInfo). c.args.vars.now ++ w) c.var_of_param.ensures)
+    rw (slice_get-map param_of c.args.params.now c.args.p, e)
+    (c.in_ok-push-in-Some.ensures.ok ∙ ap (λ (w : List VarInfo). c.args.vars.now ++ w) c.var_of_param.ensures)
 
 pub returns-in-None : goal.returns-in-None
 returns-in-None c =

@@ -13,7 +13,8 @@ name_at-requires c =
 
 pub lets-preserved : goal.lets-preserved
 lets-preserved c =
-    one_mapped name_bytes (λ x. text c.args.s.now.bytes.now x.name) c.args.lets.now c.lets.l-index _ c.name_at.result c.lets.names c.push.new.self c.lets-test.true c.name_at.ensures c.in_ok-push.ensures.ok c.lets.invariant
+    one_mapped name_bytes (λ x. text c.args.s.now.bytes.now x.name) c.args.lets.now c.lets.l-index _ c.name_at.result c.lets.names
+    c.push.new.self c.lets-test.true c.name_at.ensures c.in_ok-push.ensures.ok c.lets.invariant
 
 pub returns : goal.returns
 returns c = c.lets.invariant ∙ all_mapped (λ x. text c.args.s.now.bytes.now x.name) c.args.lets.now c.lets.l-index c.lets-test.false

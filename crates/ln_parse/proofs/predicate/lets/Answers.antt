@@ -29,5 +29,7 @@ lets-preserved c =
     let s = c.args.s.now in
     let none : RawLet = record { name = record { start = 0; end = 0 }; value = record { from = 0; to = 0 } } in
     let l = get_or s.lets.now c.lets.i none in
-    lets_more s.bytes.now s.ts.now (items s.items.now) s.args.now s.lets.now c.lets.i (map formula c.lets.values) (map formula c.push.new.self) l (formula c.in_ok-expression.field-0)
-    c.lets-test.true (get_or_default s.lets.now c.lets.i none l c.lets-test.true) c.in_ok-expression.ensures (ap (λ (w : List Expr). map formula w) c.in_ok-push.ensures.ok ∙ map_push formula c.lets.values c.in_ok-expression.field-0) c.lets.invariant
+    lets_more s.bytes.now s.ts.now (items s.items.now) s.args.now s.lets.now c.lets.i (map formula c.lets.values)
+    (map formula c.push.new.self) l (formula c.in_ok-expression.field-0)
+    c.lets-test.true (get_or_default s.lets.now c.lets.i none l c.lets-test.true) c.in_ok-expression.ensures
+    (ap (λ (w : List Expr). map formula w) c.in_ok-push.ensures.ok ∙ map_push formula c.lets.values c.in_ok-expression.field-0) c.lets.invariant

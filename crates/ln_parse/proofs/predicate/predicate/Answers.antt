@@ -10,43 +10,52 @@ use Rattle.ln_parse.proofs.predicate.predicate.Goals as goal
 pub laid_out-requires-clause-few : goal.laid_out-requires-clause-few
 laid_out-requires-clause-few c =
     let s = c.args.s.now in
-    let f = (few_args s.bytes.now (items s.items.now) s.args.now c.in_ok-args.args c.in_ok-args.ensures c.requires.ready.site_args c.requires.ready.param_args).all in
+    let f =
+    (few_args s.bytes.now (items s.items.now) s.args.now c.in_ok-args.args c.in_ok-args.ensures c.requires.ready.site_args c.requires.ready.param_args).all in
     rw c.as_slice.ensures f
 
 pub laid_out-requires-clause-site_args : goal.laid_out-requires-clause-site_args
 laid_out-requires-clause-site_args c =
     let s = c.args.s.now in
-    let f = (few_args s.bytes.now (items s.items.now) s.args.now c.in_ok-args.args c.in_ok-args.ensures c.requires.ready.site_args c.requires.ready.param_args).sites in
+    let f =
+    (few_args s.bytes.now (items s.items.now) s.args.now c.in_ok-args.args c.in_ok-args.ensures c.requires.ready.site_args c.requires.ready.param_args).sites in
     rw c.as_slice.ensures f
 
 pub body_of-requires-clause-args : goal.body_of-requires-clause-args
 body_of-requires-clause-args c =
     let s = c.args.s.now in
-    let f = (few_args s.bytes.now (items s.items.now) s.args.now c.in_ok-args.args c.in_ok-args.ensures c.requires.ready.site_args c.requires.ready.param_args).raw in
+    let f =
+    (few_args s.bytes.now (items s.items.now) s.args.now c.in_ok-args.args c.in_ok-args.ensures c.requires.ready.site_args c.requires.ready.param_args).raw in
     omega arith
 
 pub shape-shape-requires : goal.shape-shape-requires
 shape-shape-requires c =
     let s = c.args.s.now in
-    shape_kept s.bytes.now s.ts.now (items s.items.now) c.args.name s.args.now s.lets.now c.args.root c.in_ok-args.args (map site_of c.args.sites.now) (map param_of c.args.params.now) c.in_ok-layout.layout.sites c.in_ok-layout.layout.vars c.requires.ready
+    shape_kept s.bytes.now s.ts.now (items s.items.now) c.args.name s.args.now s.lets.now c.args.root c.in_ok-args.args
+    (map site_of c.args.sites.now) (map param_of c.args.params.now) c.in_ok-layout.layout.sites c.in_ok-layout.layout.vars c.requires.ready
     c.requires.declared c.in_ok-args.ensures (c.in_ok-layout.ensures.sites ∙ ap (λ (w : List Arg). count_by is_site_said (map arg_of w)) c.as_slice.ensures)
-    (c.in_ok-layout.ensures.vars ∙ ap (λ (w : List Arg). vars_behind (map site_of c.args.sites.now) (map param_of c.args.params.now) 0 0 (map arg_of w)) c.as_slice.ensures)
+    (c.in_ok-layout.ensures.vars
+    ∙ ap (λ (w : List Arg). vars_behind (map site_of c.args.sites.now) (map param_of c.args.params.now) 0 0 (map arg_of w)) c.as_slice.ensures)
 
 pub invariant_of-result : goal.invariant_of-result
 invariant_of-result c =
     let s = c.args.s.now in
     record {
-      kept = pred_kept s.bytes.now s.ts.now (items s.items.now) c.args.name s.args.now s.lets.now c.args.root c.in_ok-args.args c.shape-shape.result.vars c.in_ok-body.body.lets _ c.in_ok-body.body.root (map site_of c.args.sites.now) (map param_of c.args.params.now)
+      kept = pred_kept s.bytes.now s.ts.now (items s.items.now) c.args.name s.args.now s.lets.now c.args.root c.in_ok-args.args
+          c.shape-shape.result.vars c.in_ok-body.body.lets _ c.in_ok-body.body.root (map site_of c.args.sites.now) (map param_of c.args.params.now)
           c.requires.ready c.requires.declared c.in_ok-args.ensures
-          (c.shape-shape.ensures.same.1 ∙ c.in_ok-layout.ensures.vars ∙ ap (λ (w : List Arg). vars_behind (map site_of c.args.sites.now) (map param_of c.args.params.now) 0 0 (map arg_of w)) c.as_slice.ensures)
+          (c.shape-shape.ensures.same.1 ∙ c.in_ok-layout.ensures.vars
+          ∙ ap (λ (w : List Arg). vars_behind (map site_of c.args.sites.now) (map param_of c.args.params.now) 0 0 (map arg_of w)) c.as_slice.ensures)
           c.in_ok-body.ensures.lets c.in_ok-body.ensures.root (as_many s.bytes.now s.lets.now c.in_ok-body.body.let_names c.in_ok-body.ensures.names);
     }
 
 pub returns-clause-fits : goal.returns-clause-fits
 returns-clause-fits c =
     let s = c.args.s.now in
-    args_kept s.bytes.now s.ts.now (items s.items.now) c.args.name s.args.now s.lets.now c.args.root c.in_ok-args.args c.args.sites.now c.args.params.now c.shape-shape.result.vars c.requires.ready c.requires.declared c.in_ok-args.ensures
-    (c.shape-shape.ensures.same.1 ∙ c.in_ok-layout.ensures.vars ∙ ap (λ (w : List Arg). vars_behind (map site_of c.args.sites.now) (map param_of c.args.params.now) 0 0 (map arg_of w)) c.as_slice.ensures)
+    args_kept s.bytes.now s.ts.now (items s.items.now) c.args.name s.args.now s.lets.now c.args.root c.in_ok-args.args c.args.sites.now
+    c.args.params.now c.shape-shape.result.vars c.requires.ready c.requires.declared c.in_ok-args.ensures
+    (c.shape-shape.ensures.same.1 ∙ c.in_ok-layout.ensures.vars
+    ∙ ap (λ (w : List Arg). vars_behind (map site_of c.args.sites.now) (map param_of c.args.params.now) 0 0 (map arg_of w)) c.as_slice.ensures)
 
 pub returns-clause-says : goal.returns-clause-says
 returns-clause-says c t s p =
@@ -56,7 +65,8 @@ returns-clause-says c t s p =
       args_are = c.in_ok-args.ensures;
       shape_is = c.shape-shape.ensures.name ∙ c.name_at-named.ensures;
       sites_are = c.shape-shape.ensures.same.0 ∙ c.in_ok-layout.ensures.sites ∙ ap (λ (w : List Arg). count_by is_site_said (map arg_of w)) c.as_slice.ensures;
-      vars_are = rw (s, p) (c.shape-shape.ensures.same.1 ∙ c.in_ok-layout.ensures.vars ∙ ap (λ (w : List Arg). vars_behind (map site_of c.args.sites.now) (map param_of c.args.params.now) 0 0 (map arg_of w)) c.as_slice.ensures);
+      vars_are = rw (s, p) (c.shape-shape.ensures.same.1 ∙ c.in_ok-layout.ensures.vars
+          ∙ ap (λ (w : List Arg). vars_behind (map site_of c.args.sites.now) (map param_of c.args.params.now) 0 0 (map arg_of w)) c.as_slice.ensures);
       names_are = c.in_ok-body.ensures.names;
       lets_are = c.in_ok-body.ensures.lets;
       root_is = c.in_ok-body.ensures.root;

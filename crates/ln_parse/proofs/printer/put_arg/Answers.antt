@@ -20,4 +20,5 @@ pub returns-in_ok-put-in-Param : goal.returns-in_ok-put-in-Param
 returns-in_ok-put-in-Param c =
     rw c.in-Param.is (IfOk-weaker c.put-in-Param-2.result _ _ (λ x h.
     then (puts_name (range_name (slice_get (map param_of c.args.t.now.params) c.in-Param.p)) c.param_name.ensures c.in_ok-put-in-Param.ensures)
-    (puts_fixed (codes ": param") (λ (rest : List Lexeme). word Colon (codes ":") ∷ gap ∷ word Param (codes "param") ∷ rest) (λ rest. refl) h)) c.put-in-Param-2.ensures)
+    (puts_fixed (codes ": param") (λ (rest : List Lexeme). word Colon (codes ":") ∷ gap ∷ word Param (codes "param") ∷ rest) (λ rest. refl) h))
+    c.put-in-Param-2.ensures)

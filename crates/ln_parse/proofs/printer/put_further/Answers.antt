@@ -13,4 +13,5 @@ args-2-preserved c =
     (then (puts_fixed (codes ", ") (λ (rest : List Lexeme). word Comma (codes ",") ∷ gap ∷ rest) (λ rest. refl) c.in_ok-put.ensures) c.in_ok-put_arg.ensures)
 
 pub returns : goal.returns
-returns c = each_done (further (table_of c.args.t.now.sites c.args.t.now.params c.args.t.now.preds)) arg_of c.args.list.now c.args.list.now c.args-2.a-index c.args-2-test.false refl c.args-2.invariant
+returns c = each_done (further (table_of c.args.t.now.sites c.args.t.now.params c.args.t.now.preds)) arg_of c.args.list.now c.args.list.now
+    c.args-2.a-index c.args-2-test.false refl c.args-2.invariant

@@ -23,9 +23,11 @@ pub returns-in-Some-Param : goal.returns-in-Some-Param
 returns-in-Some-Param c =
     let e = found arg_of c.args.p.now.args c.args.v.arg c.from.result c.from.ensures c.in-Some-Param.ensures.value in
     rw (e, c.in-Some-Param.field-0-is)
-    (IfOk-weaker c.put-in-Some-Param.result _ _ (λ x h. puts_name (range_name (slice_get (map param_of c.args.t.now.params) c.in-Some-Param.k)) c.param_name.ensures h) c.put-in-Some-Param.ensures)
+    (IfOk-weaker c.put-in-Some-Param.result _ _
+    (λ x h. puts_name (range_name (slice_get (map param_of c.args.t.now.params) c.in-Some-Param.k)) c.param_name.ensures h) c.put-in-Some-Param.ensures)
 
 pub returns-in-None : goal.returns-in-None
 returns-in-None c =
-    let e : slice_get (map arg_of c.args.p.now.args) c.args.v.arg ≡ None = slice_get-map arg_of c.args.p.now.args c.args.v.arg ∙ ap (λ o. option_map arg_of o) (sym (c.in-None.ensures.value ∙ ap (λ (k : ℕ). slice_get c.args.p.now.args k) c.from.ensures)) in
+    let e : slice_get (map arg_of c.args.p.now.args) c.args.v.arg ≡ None = slice_get-map arg_of c.args.p.now.args c.args.v.arg
+    ∙ ap (λ o. option_map arg_of o) (sym (c.in-None.ensures.value ∙ ap (λ (k : ℕ). slice_get c.args.p.now.args k) c.from.ensures)) in
     rw e (puts_empty c.args.out.now.items)

@@ -13,5 +13,6 @@ returns c =
     (then (puts_name (name_bytes c.args.p.now.name) c.bytes.ensures c.in_ok-put-2.ensures)
     (then (puts_fixed (codes "(") (λ (rest : List Lexeme). word ParL (codes "(") ∷ rest) (λ rest. refl) c.in_ok-put-3.ensures)
     (then (simp c.as_slice.ensures at c.in_ok-put_args.ensures)
-    (then (puts_fixed (codes ") { ") (λ (rest : List Lexeme). word ParR (codes ")") ∷ gap ∷ word BraceL (codes "{") ∷ gap ∷ rest) (λ rest. refl) c.in_ok-put-4.ensures)
+    (then (puts_fixed (codes ") { ") (λ (rest : List Lexeme). word ParR (codes ")") ∷ gap ∷ word BraceL (codes "{") ∷ gap ∷ rest)
+    (λ rest. refl) c.in_ok-put-4.ensures)
     (then c.in_ok-put_lets.ensures h)))))) c.put_root.ensures

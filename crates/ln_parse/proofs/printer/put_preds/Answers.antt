@@ -6,7 +6,9 @@ use Rattle.ln_parse.proofs.printer.put_preds.Goals as goal
 
 pub preds-preserved : goal.preds-preserved
 preds-preserved c =
-    each_more (pred (table_of c.args.t.now.sites c.args.t.now.params c.args.t.now.preds)) pred_of c.as_slice-preds.result.now c.preds.p-index c.p-item.result (omega arith) c.p-item.is c.preds.invariant c.in_ok-put_pred.ensures
+    each_more (pred (table_of c.args.t.now.sites c.args.t.now.params c.args.t.now.preds)) pred_of c.as_slice-preds.result.now
+    c.preds.p-index c.p-item.result (omega arith) c.p-item.is c.preds.invariant c.in_ok-put_pred.ensures
 
 pub returns : goal.returns
-returns c = each_done (pred (table_of c.args.t.now.sites c.args.t.now.params c.args.t.now.preds)) pred_of c.as_slice-preds.result.now c.args.t.now.preds c.preds.p-index c.preds-test.false c.as_slice-preds.ensures c.preds.invariant
+returns c = each_done (pred (table_of c.args.t.now.sites c.args.t.now.params c.args.t.now.preds)) pred_of c.as_slice-preds.result.now
+    c.args.t.now.preds c.preds.p-index c.preds-test.false c.as_slice-preds.ensures c.preds.invariant

@@ -10,4 +10,5 @@ returns c =
     IfOk-weaker c.put-2.result _ _ (λ x h.
     then (puts_fixed (codes "sign ") (λ (rest : List Lexeme). word Sign (codes "sign") ∷ gap ∷ rest) (λ rest. refl) c.in_ok-put.ensures)
     (then c.in_ok-put_expr.ensures
-    (puts_fixed (codes "; }\n") (λ (rest : List Lexeme). word Semi (codes ";") ∷ gap ∷ word BraceR (codes "}") ∷ line ∷ rest) (λ rest. refl) h))) c.put-2.ensures
+    (puts_fixed (codes "; }\n") (λ (rest : List Lexeme). word Semi (codes ";") ∷ gap ∷ word BraceR (codes "}") ∷ line ∷ rest) (λ rest. refl) h)))
+    c.put-2.ensures

@@ -9,11 +9,13 @@ pub returns-in-Some-clause-err : goal.returns-in-Some-clause-err
 returns-in-Some-clause-err c = rw c.span_of.ensures (inl (nesting c.requires.lexed c.requires.few c.in-Some.ensures.some))
 
 pub returns-in-Some-syntax_fault-clause-err : goal.returns-in-Some-syntax_fault-clause-err
-returns-in-Some-syntax_fault-clause-err c = rw c.fault_place.ensures (inl (syntax c.requires.lexed c.requires.few c.in_default.ensures.none c.in-Some-syntax_fault.ensures.some))
+returns-in-Some-syntax_fault-clause-err c =
+    rw c.fault_place.ensures (inl (syntax c.requires.lexed c.requires.few c.in_default.ensures.none c.in-Some-syntax_fault.ensures.some))
 
 pub returns-in-Err-check_names-clause-err : goal.returns-in-Err-check_names-clause-err
 returns-in-Err-check_names-clause-err c =
-    let f = subst (λ (w : List RawItem). FirstFault c.args.bytes.now c.args.ts.now (items w) c.in-Err-check_names.found) c.deref.ensures.value c.in-Err-check_names.ensures.err in
+    let f = subst (λ (w : List RawItem). FirstFault c.args.bytes.now c.args.ts.now (items w) c.in-Err-check_names.found)
+    c.deref.ensures.value c.in-Err-check_names.ensures.err in
     rw c.stop_of.ensures (inl (names c.requires.lexed c.requires.few c.in_default.ensures.none c.in-Ok.ensures.ok f))
 
 pub returns-in-Ok-check_names-clause-ok : goal.returns-in-Ok-check_names-clause-ok

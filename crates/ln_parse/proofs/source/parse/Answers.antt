@@ -20,7 +20,8 @@ build-requires-clause-ready c =
     let bytes = c.args.bytes.now in
     let ts = c.as_slice-ts.result.now in
     let s = subst (λ (w : List Token). All (IsSlice bytes) w) (sym c.as_slice-ts.ensures) c.in_ok-list.ensures.slices in
-    subst (λ (w : List RawItem). ReadyFile bytes ts (items w)) (sym c.deref.ensures.value) (faultless_ready bytes ts (items c.in_ok-its.its.items) s c.in_ok-its.ensures.ok)
+    subst (λ (w : List RawItem). ReadyFile bytes ts (items w)) (sym c.deref.ensures.value)
+    (faultless_ready bytes ts (items c.in_ok-its.its.items) s c.in_ok-its.ensures.ok)
 
 pub build-requires-clause-whole : goal.build-requires-clause-whole
 build-requires-clause-whole c t =

@@ -15,7 +15,8 @@ pub returns-then-is_empty-clause-rows : goal.returns-then-is_empty-clause-rows
 returns-then-is_empty-clause-rows r c = rw (c.seal.ensures, c.new.ensures) (no-rows _ _ _ refl (no-length _ _ c.is_empty.ensures c.if-is_empty.true))
 
 pub walk-requires-clause-room : goal.walk-requires-clause-room
-walk-requires-clause-room r c = omega (arith, size-nil, rows-room [] c.args.f.now c.args.g.now _ 0 (rows-begin _ _) (omega arith) c.index-f-0.is c.requires.room)
+walk-requires-clause-room r c =
+    omega (arith, size-nil, rows-room [] c.args.f.now c.args.g.now _ 0 (rows-begin _ _) (omega arith) c.index-f-0.is c.requires.room)
 
 pub returns-then-f-eq1-clause-rows : goal.returns-then-f-eq1-clause-rows
 returns-then-f-eq1-clause-rows r c = one-row _ _ _ _ _ _ (omega (arith, c.if-f-eq1.true)) c.index-f-0.is refl refl c.in_ok-h.ensures.row
@@ -58,9 +59,12 @@ products-requires-2 r c =
 pub merge-requires-clause-small : goal.merge-requires-clause-small
 merge-requires-clause-small r c =
     rw (c.into_terms.ensures.value, c.into_terms-2.ensures.value)
-    (halves-room c.in_ok-low.low c.in_ok-high.high c.args.f.now c.between.result.now c.between-2.result.now c.args.g.now (length c.args.f.now / 2) c.in_ok-low.ensures.rows c.in_ok-high.ensures.rows c.between.ensures c.between-2.ensures (omega arith) c.in_ok-low.ensures.form c.requires.room)
+    (halves-room c.in_ok-low.low c.in_ok-high.high c.args.f.now c.between.result.now c.between-2.result.now c.args.g.now (length c.args.f.now / 2)
+    c.in_ok-low.ensures.rows c.in_ok-high.ensures.rows c.between.ensures c.between-2.ensures (omega arith) c.in_ok-low.ensures.form c.requires.room)
 
 pub returns-clause-rows : goal.returns-clause-rows
 returns-clause-rows r c =
     let e = rw (c.into_terms.ensures.value, c.into_terms-2.ensures.value) at c.in_ok-h-2.ensures in
-    halves-joined c.in_ok-low.low c.in_ok-high.high c.in_ok-h-2.h c.args.f.now c.between.result.now c.between-2.result.now c.args.g.now (length c.args.f.now / 2) c.in_ok-low.ensures.rows c.in_ok-high.ensures.rows c.between.ensures c.between-2.ensures (omega arith) c.in_ok-low.ensures.form e.coefficients e.size e.form e.below
+    halves-joined c.in_ok-low.low c.in_ok-high.high c.in_ok-h-2.h c.args.f.now c.between.result.now c.between-2.result.now c.args.g.now
+    (length c.args.f.now / 2) c.in_ok-low.ensures.rows c.in_ok-high.ensures.rows c.between.ensures c.between-2.ensures
+    (omega arith) c.in_ok-low.ensures.form e.coefficients e.size e.form e.below

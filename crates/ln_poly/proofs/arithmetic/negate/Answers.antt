@@ -1,4 +1,4 @@
--- What is left to show of `negate`.
+-- The remaining goals of `negate`.
 use Rattle.std.proofs.Common.{◌<◌, arith, length}
 use Rattle.ln_poly.specs.Sparse.{IsFactor}
 use Rattle.ln_poly.proofs.TermLists.Negating.{negated-factor, negated-step, turned}

@@ -6,7 +6,8 @@ pub loop-t-init : goal.loop-t-init
 loop-t-init c = row-init _ _ _
 
 pub put_product-requires-clause-room : goal.put_product-requires-clause-room
-put_product-requires-clause-room c = row-room c.args.out.now.items c.args.g.now c.args.s.now c.t-item.result c.loop-t.t-index (omega arith) c.t-item.is c.requires.room
+put_product-requires-clause-room c =
+    row-room c.args.out.now.items c.args.g.now c.args.s.now c.t-item.result c.loop-t.t-index (omega arith) c.t-item.is c.requires.room
 
 pub loop-t-preserved : goal.loop-t-preserved
 loop-t-preserved c = row-step _ _ _ _ _ _ _ c.loop-t.invariant (omega arith) c.t-item.is c.in_ok-put_product.ensures

@@ -1,4 +1,4 @@
--- What is left to show of `sub`.
+-- The remaining goals of `sub`.
 use Rattle.std.proofs.Common.{ap, arith, subst, sym}
 use Rattle.std.proofs.lemmas.Int.{ints}
 use Rattle.ln_poly.specs.Sparse.{AreBelow, coefficient_at, size_of}
@@ -9,7 +9,8 @@ pub sum-requires : goal.sum-requires
 sum-requires c = omega (arith, c.requires, ap size_of c.in_ok-minus.ensures, size-negated c.args.g.now)
 
 pub returns-clause-coefficients : goal.returns-clause-coefficients
-returns-clause-coefficients c = λ n m. omega (arith, ints, c.in_ok-h.ensures.coefficients n m, ap (λ z. coefficient_at n z m) c.in_ok-minus.ensures, coefficient-negated n m c.args.g.now)
+returns-clause-coefficients c =
+    λ n m. omega (arith, ints, c.in_ok-h.ensures.coefficients n m, ap (λ z. coefficient_at n z m) c.in_ok-minus.ensures, coefficient-negated n m c.args.g.now)
 
 pub returns-clause-below : goal.returns-clause-below
 returns-clause-below c = λ n a b. c.in_ok-h.ensures.below n (subst (AreBelow n) (sym c.in_ok-minus.ensures) (below-negated n c.args.g.now b)) a

@@ -4,7 +4,8 @@ use Rattle.ln_poly.proofs.Derivations.Several.{first-light, first-step, no-lengt
 use Rattle.ln_poly.proofs.derivatives.derive_by.Goals as goal
 
 pub returns-then-is_empty-clause-derivative : goal.returns-then-is_empty-clause-derivative
-returns-then-is_empty-clause-derivative c = none-derived _ _ _ _ _ c.requires.form c.requires.below c.in_ok-h.ensures (no-length _ _ c.is_empty.ensures c.if-is_empty.true) c.pairs-pairs.ensures.value
+returns-then-is_empty-clause-derivative c = none-derived _ _ _ _ _ c.requires.form c.requires.below c.in_ok-h.ensures
+    (no-length _ _ c.is_empty.ensures c.if-is_empty.true) c.pairs-pairs.ensures.value
 
 pub derive-requires-clause-variable : goal.derive-requires-clause-variable
 derive-requires-clause-variable c =
@@ -14,13 +15,15 @@ derive-requires-clause-variable c =
 pub derive-requires-clause-small : goal.derive-requires-clause-small
 derive-requires-clause-small c =
     let r : IsRising c.pairs-pairs.result.now = rw c.pairs-pairs.ensures.value c.pairs-pairs.ensures.rising in
-    first-light c.args.s.now.vars c.args.f.now c.pairs-pairs.result.now c.requires.form c.requires.below r (some-length _ _ c.is_empty.ensures c.if-is_empty.false) c.requires.weight
+    first-light c.args.s.now.vars c.args.f.now c.pairs-pairs.result.now c.requires.form c.requires.below r
+    (some-length _ _ c.is_empty.ensures c.if-is_empty.false) c.requires.weight
 
 pub pairs-init : goal.pairs-init
 pairs-init c =
     let r : IsRising c.pairs-pairs.result.now = rw c.pairs-pairs.ensures.value c.pairs-pairs.ensures.rising in
     let e = c.in_ok-h-2.ensures in
-    first-step (length c.args.s.now.vars) c.args.f.now c.in_ok-h-2.h c.pairs-pairs.result.now c.requires.form c.requires.below r (some-length _ _ c.is_empty.ensures c.if-is_empty.false) e.form e.below e.coefficients
+    first-step (length c.args.s.now.vars) c.args.f.now c.in_ok-h-2.h c.pairs-pairs.result.now c.requires.form c.requires.below r
+    (some-length _ _ c.is_empty.ensures c.if-is_empty.false) e.form e.below e.coefficients
 
 pub derive-requires-in-pairs-clause-variable : goal.derive-requires-in-pairs-clause-variable
 derive-requires-in-pairs-clause-variable c =
@@ -30,10 +33,12 @@ derive-requires-in-pairs-clause-variable c =
 pub derive-requires-in-pairs-clause-small : goal.derive-requires-in-pairs-clause-small
 derive-requires-in-pairs-clause-small c =
     let r : IsRising c.pairs-pairs.result.now = rw c.pairs-pairs.ensures.value c.pairs-pairs.ensures.rising in
-    several-light c.args.s.now.vars c.args.f.now c.pairs.h c.pairs-pairs.result.now c.pairs.i r (omega (arith, c.pairs-test.true)) c.pairs.invariant c.requires.weight
+    several-light c.args.s.now.vars c.args.f.now c.pairs.h c.pairs-pairs.result.now c.pairs.i r
+    (omega (arith, c.pairs-test.true)) c.pairs.invariant c.requires.weight
 
 pub pairs-preserved : goal.pairs-preserved
 pairs-preserved c =
     let r : IsRising c.pairs-pairs.result.now = rw c.pairs-pairs.ensures.value c.pairs-pairs.ensures.rising in
     let e = c.in_ok-h-3.ensures in
-    several-step (length c.args.s.now.vars) c.args.f.now c.pairs.h c.pairs-pairs.result.now c.pairs.i r (omega (arith, c.pairs-test.true)) c.pairs.invariant c.in_ok-h-3.h e.form e.below e.coefficients
+    several-step (length c.args.s.now.vars) c.args.f.now c.pairs.h c.pairs-pairs.result.now c.pairs.i r
+    (omega (arith, c.pairs-test.true)) c.pairs.invariant c.in_ok-h-3.h e.form e.below e.coefficients

@@ -8,7 +8,8 @@ use Rattle.ln_poly.proofs.derivatives.lowered.Goals.{then-k-gt0+in_ok-push, else
 pub lowered_pair-k-requires : goal.lowered_pair-k-requires
 lowered_pair-k-requires c =
     let s : IsRising c.pairs-pairs.result.now = rw c.pairs-pairs.ensures.value c.pairs-pairs.ensures.rising in
-    λ e. omega (arith, c.requires, ap (exponent c.args.v) c.pairs-pairs.ensures.value, found c.args.v c.pairs-pairs.result.now c.pairs.p-index s (omega arith) e)
+    λ e.
+    omega (arith, c.requires, ap (exponent c.args.v) c.pairs-pairs.ensures.value, found c.args.v c.pairs-pairs.result.now c.pairs.p-index s (omega arith) e)
 
 pub push-requires-clause-above : goal.push-requires-clause-above
 push-requires-clause-above c =
@@ -24,6 +25,8 @@ pub pairs-preserved : goal.pairs-preserved
 pairs-preserved c =
     let s : IsRising c.pairs-pairs.result.now = rw c.pairs-pairs.ensures.value c.pairs-pairs.ensures.rising in
     elim c.if-k-gt0.branch [
-      | then-k-gt0+in_ok-push w ↦ rw (w.out-is, w.in_ok-push.ensures.ok) (lowering-push _ _ _ _ _ _ c.pairs.invariant s (omega arith) c.lowered_pair-k.ensures.same c.lowered_pair-k.ensures.other w.if-k-gt0.true)
-      | else-k-gt0 w ↦ rw w.out-is (lowering-skip _ _ _ _ _ c.lowered_pair-k.result c.pairs.invariant s (omega arith) c.lowered_pair-k.ensures.same c.lowered_pair-k.ensures.other (omega arith))
+      | then-k-gt0+in_ok-push w ↦ rw (w.out-is, w.in_ok-push.ensures.ok)
+          (lowering-push _ _ _ _ _ _ c.pairs.invariant s (omega arith) c.lowered_pair-k.ensures.same c.lowered_pair-k.ensures.other w.if-k-gt0.true)
+      | else-k-gt0 w ↦ rw w.out-is (lowering-skip _ _ _ _ _ c.lowered_pair-k.result c.pairs.invariant s
+          (omega arith) c.lowered_pair-k.ensures.same c.lowered_pair-k.ensures.other (omega arith))
     ]

@@ -15,7 +15,8 @@ push_times-requires-clause-times c =
 pub push_times-requires-clause-room : goal.push_times-requires-clause-room
 push_times-requires-clause-room c =
     let e : c.exponent_of-e.result ≡ exponent c.args.v c.args.t.now.0 = c.exponent_of-e.ensures.value ∙ ap (exponent c.args.v) c.pairs.ensures.value in
-    let b : get_or c.args.column.now c.exponent_of-e.result 0 ≡ binomial c.exponent_of-e.result c.args.n = c.requires.column c.exponent_of-e.result c.exponent_of-e.ensures.small in
+    let b : get_or c.args.column.now c.exponent_of-e.result 0 ≡ binomial c.exponent_of-e.result c.args.n =
+    c.requires.column c.exponent_of-e.result c.exponent_of-e.ensures.small in
     let f : FitsSigned w128 c.args.t.now.1 = search rules in
     rw (to_z-of_z w128 c.args.t.now.1 f, c.from.ensures, b, e) (c.requires.room (omega (arith, c.if-e-n.false, e)))
 
@@ -40,6 +41,11 @@ returns-clause-none c =
 pub returns-clause-some : goal.returns-clause-some
 returns-clause-some c =
     let e : c.exponent_of-e.result ≡ exponent c.args.v c.args.t.now.0 = c.exponent_of-e.ensures.value ∙ ap (exponent c.args.v) c.pairs.ensures.value in
-    let b : get_or c.args.column.now c.exponent_of-e.result 0 ≡ binomial c.exponent_of-e.result c.args.n = c.requires.column c.exponent_of-e.result c.exponent_of-e.ensures.small in
+    let b : get_or c.args.column.now c.exponent_of-e.result 0 ≡ binomial c.exponent_of-e.result c.args.n =
+    c.requires.column c.exponent_of-e.result c.exponent_of-e.ensures.small in
     let f : FitsSigned w128 c.args.t.now.1 = search rules in
-    λ h. record { exps = c.in_ok-exps.exps; put = rw (to_z-of_z w128 c.args.t.now.1 f, c.from.ensures, b, e) at c.in_ok-push_times.ensures; lowered = c.in_ok-exps.ensures }
+    λ h. record {
+      exps = c.in_ok-exps.exps;
+      put = rw (to_z-of_z w128 c.args.t.now.1 f, c.from.ensures, b, e) at c.in_ok-push_times.ensures;
+      lowered = c.in_ok-exps.ensures;
+    }

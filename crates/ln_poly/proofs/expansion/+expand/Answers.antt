@@ -20,7 +20,8 @@ expand-requires-in-Add t c =
     let at = c.args.e.now.at in
     let x = formula c.deref-in-Add.result.now in
     let y = formula c.in-Add.y.value in
-    let q : formula c.args.e.now ≡ formula_of k at x y = rw c.deref-in-Add.ensures (operands at c.args.e.now.node _ _ _ (formula c.in-Add.x.value) (formula c.in-Add.y.value) c.in-Add.is refl refl refl) in
+    let q : formula c.args.e.now ≡ formula_of k at x y =
+    rw c.deref-in-Add.ensures (operands at c.args.e.now.node _ _ _ (formula c.in-Add.x.value) (formula c.in-Add.y.value) c.in-Add.is refl refl refl) in
     let r = are-ready vars ls (length c.args.polys.now) t k at e x y q c.decreases c.requires.fit c.requires.light in
     (r.first_falls, (c.requires.few, (r.first_fits, (r.first_light, c.requires.polys))))
 
@@ -33,7 +34,8 @@ expand-requires-in-Add-2 t c =
     let at = c.args.e.now.at in
     let x = formula c.deref-in-Add.result.now in
     let y = formula c.deref-in-Add-2.result.now in
-    let q : formula c.args.e.now ≡ formula_of k at x y = rw (c.deref-in-Add.ensures, c.deref-in-Add-2.ensures) (operands at c.args.e.now.node _ _ _ (formula c.in-Add.x.value) (formula c.in-Add.y.value) c.in-Add.is refl refl refl) in
+    let q : formula c.args.e.now ≡ formula_of k at x y = rw (c.deref-in-Add.ensures, c.deref-in-Add-2.ensures)
+    (operands at c.args.e.now.node _ _ _ (formula c.in-Add.x.value) (formula c.in-Add.y.value) c.in-Add.is refl refl refl) in
     let r = are-ready vars ls (length c.args.polys.now) t k at e x y q c.decreases c.requires.fit c.requires.light in
     (r.second_falls, (c.requires.few, (r.second_fits, (r.second_light, c.requires.polys))))
 
@@ -46,11 +48,13 @@ returns-in_err-f-in-Add-clause-err t c =
     let at = c.args.e.now.at in
     let x = formula c.deref-in-Add.result.now in
     let y = formula c.in-Add.y.value in
-    let q : formula c.args.e.now ≡ formula_of k at x y = rw c.deref-in-Add.ensures (operands at c.args.e.now.node _ _ _ (formula c.in-Add.x.value) (formula c.in-Add.y.value) c.in-Add.is refl refl refl) in
+    let q : formula c.args.e.now ≡ formula_of k at x y =
+    rw c.deref-in-Add.ensures (operands at c.args.e.now.node _ _ _ (formula c.in-Add.x.value) (formula c.in-Add.y.value) c.in-Add.is refl refl refl) in
     let zs : Nodes = (at, two_of k (inlined ls (tree vars x)) (inlined ls (tree vars y))) ∷ [] in
     let a : expanded vars ls e ≡ (expanded vars ls x ++ expanded vars ls y) ++ zs = ap (expanded vars ls) q ∙ expanded-two vars ls k at x y in
     let p = err_from_is_err_and c.from_residual-in_err-f-in-Add.result c.from_residual-in_err-f-in-Add.ensures.1 in
-    rw (p.1, p.2, a) (stop-before (length vars) (expanded vars ls x ++ expanded vars ls y) zs c.in_err-f-in-Add.field-0.0 (stop-before (length vars) (expanded vars ls x) (expanded vars ls y) c.in_err-f-in-Add.field-0.0 c.in_err-f-in-Add.ensures.err))
+    rw (p.1, p.2, a) (stop-before (length vars) (expanded vars ls x ++ expanded vars ls y) zs c.in_err-f-in-Add.field-0.0
+    (stop-before (length vars) (expanded vars ls x) (expanded vars ls y) c.in_err-f-in-Add.field-0.0 c.in_err-f-in-Add.ensures.err))
 
 pub returns-in_err-g-in-Add-clause-err : goal.returns-in_err-g-in-Add-clause-err
 returns-in_err-g-in-Add-clause-err t c =
@@ -61,7 +65,8 @@ returns-in_err-g-in-Add-clause-err t c =
     let at = c.args.e.now.at in
     let x = formula c.deref-in-Add.result.now in
     let y = formula c.deref-in-Add-2.result.now in
-    let q : formula c.args.e.now ≡ formula_of k at x y = rw (c.deref-in-Add.ensures, c.deref-in-Add-2.ensures) (operands at c.args.e.now.node _ _ _ (formula c.in-Add.x.value) (formula c.in-Add.y.value) c.in-Add.is refl refl refl) in
+    let q : formula c.args.e.now ≡ formula_of k at x y = rw (c.deref-in-Add.ensures, c.deref-in-Add-2.ensures)
+    (operands at c.args.e.now.node _ _ _ (formula c.in-Add.x.value) (formula c.in-Add.y.value) c.in-Add.is refl refl refl) in
     let zs : Nodes = (at, two_of k (inlined ls (tree vars x)) (inlined ls (tree vars y))) ∷ [] in
     let a : expanded vars ls e ≡ (expanded vars ls x ++ expanded vars ls y) ++ zs = ap (expanded vars ls) q ∙ expanded-two vars ls k at x y in
     let p = err_from_is_err_and c.from_residual-in_err-g-in-Add.result c.from_residual-in_err-g-in-Add.ensures.1 in
@@ -76,7 +81,8 @@ both-requires t c =
     let at = c.args.e.now.at in
     let x = formula c.deref-in-Add.result.now in
     let y = formula c.deref-in-Add-2.result.now in
-    let q : formula c.args.e.now ≡ formula_of k at x y = rw (c.deref-in-Add.ensures, c.deref-in-Add-2.ensures) (operands at c.args.e.now.node _ _ _ (formula c.in-Add.x.value) (formula c.in-Add.y.value) c.in-Add.is refl refl refl) in
+    let q : formula c.args.e.now ≡ formula_of k at x y = rw (c.deref-in-Add.ensures, c.deref-in-Add-2.ensures)
+    (operands at c.args.e.now.node _ _ _ (formula c.in-Add.x.value) (formula c.in-Add.y.value) c.in-Add.is refl refl refl) in
     let r = are-ready vars ls (length c.args.polys.now) t k at e x y q c.decreases c.requires.fit c.requires.light in
     rw c.kind_of.ensures (r.room c.in_ok-f-in-Add.f c.in_ok-g-in-Add.g c.in_ok-f-in-Add.ensures.ok.normal c.in_ok-g-in-Add.ensures.ok.normal)
 
@@ -89,12 +95,15 @@ returns-in_ok-g-in-Add-clause-ok t c =
     let at = c.args.e.now.at in
     let x = formula c.deref-in-Add.result.now in
     let y = formula c.deref-in-Add-2.result.now in
-    let q : formula c.args.e.now ≡ formula_of k at x y = rw (c.deref-in-Add.ensures, c.deref-in-Add-2.ensures) (operands at c.args.e.now.node _ _ _ (formula c.in-Add.x.value) (formula c.in-Add.y.value) c.in-Add.is refl refl refl) in
+    let q : formula c.args.e.now ≡ formula_of k at x y = rw (c.deref-in-Add.ensures, c.deref-in-Add-2.ensures)
+    (operands at c.args.e.now.node _ _ _ (formula c.in-Add.x.value) (formula c.in-Add.y.value) c.in-Add.is refl refl refl) in
     let zs : Nodes = (at, two_of k (inlined ls (tree vars x)) (inlined ls (tree vars y))) ∷ [] in
     let a : expanded vars ls e ≡ (expanded vars ls x ++ expanded vars ls y) ++ zs = ap (expanded vars ls) q ∙ expanded-two vars ls k at x y in
     let o = rw c.kind_of.ensures at c.both.ensures.ok in
-    two-ok vars ls e x y zs (two_of k (inlined ls (tree vars x)) (inlined ls (tree vars y))) c.in_ok-f-in-Add.f c.in_ok-g-in-Add.g c.both.result a (ap (λ (z : Formula). inlined ls (tree vars z)) q ∙ inlined-two vars ls k at x y) c.in_ok-f-in-Add.ensures.ok c.in_ok-g-in-Add.ensures.ok
-    (IfOk-weaker c.both.result _ _ (λ h z. z (length vars) (inlined ls (tree vars x)) (inlined ls (tree vars y)) c.in_ok-f-in-Add.ensures.ok.normal c.in_ok-g-in-Add.ensures.ok.normal) o)
+    two-ok vars ls e x y zs (two_of k (inlined ls (tree vars x)) (inlined ls (tree vars y))) c.in_ok-f-in-Add.f c.in_ok-g-in-Add.g c.both.result a
+    (ap (λ (z : Formula). inlined ls (tree vars z)) q ∙ inlined-two vars ls k at x y) c.in_ok-f-in-Add.ensures.ok c.in_ok-g-in-Add.ensures.ok
+    (IfOk-weaker c.both.result _ _
+    (λ h z. z (length vars) (inlined ls (tree vars x)) (inlined ls (tree vars y)) c.in_ok-f-in-Add.ensures.ok.normal c.in_ok-g-in-Add.ensures.ok.normal) o)
 
 pub returns-in_ok-g-in-Add-clause-err : goal.returns-in_ok-g-in-Add-clause-err
 returns-in_ok-g-in-Add-clause-err t c =
@@ -105,12 +114,14 @@ returns-in_ok-g-in-Add-clause-err t c =
     let at = c.args.e.now.at in
     let x = formula c.deref-in-Add.result.now in
     let y = formula c.deref-in-Add-2.result.now in
-    let q : formula c.args.e.now ≡ formula_of k at x y = rw (c.deref-in-Add.ensures, c.deref-in-Add-2.ensures) (operands at c.args.e.now.node _ _ _ (formula c.in-Add.x.value) (formula c.in-Add.y.value) c.in-Add.is refl refl refl) in
+    let q : formula c.args.e.now ≡ formula_of k at x y = rw (c.deref-in-Add.ensures, c.deref-in-Add-2.ensures)
+    (operands at c.args.e.now.node _ _ _ (formula c.in-Add.x.value) (formula c.in-Add.y.value) c.in-Add.is refl refl refl) in
     let zs : Nodes = (at, two_of k (inlined ls (tree vars x)) (inlined ls (tree vars y))) ∷ [] in
     let a : expanded vars ls e ≡ (expanded vars ls x ++ expanded vars ls y) ++ zs = ap (expanded vars ls) q ∙ expanded-two vars ls k at x y in
     let o = rw c.kind_of.ensures at c.both.ensures.err in
     two-err vars ls e x y zs c.both.result a c.in_ok-f-in-Add.ensures.ok.few c.in_ok-g-in-Add.ensures.ok.few
-    (MatchResult-weaker c.both.result o (λ h z. tt) (λ s z. z (length vars) (inlined ls (tree vars x)) (inlined ls (tree vars y)) c.in_ok-f-in-Add.ensures.ok.normal c.in_ok-g-in-Add.ensures.ok.normal))
+    (MatchResult-weaker c.both.result o (λ h z. tt)
+    (λ s z. z (length vars) (inlined ls (tree vars x)) (inlined ls (tree vars y)) c.in_ok-f-in-Add.ensures.ok.normal c.in_ok-g-in-Add.ensures.ok.normal))
 
 pub negation-requires : goal.negation-requires
 negation-requires t c =
@@ -118,7 +129,8 @@ negation-requires t c =
     let ls = closed_lets vars (map formula c.args.lets.now) in
     let at = c.args.e.now.at in
     let q : formula c.args.e.now ≡ FNeg at (formula c.deref.result.now) = rw c.deref.ensures (ap (node_formula at) c.in-Neg.is) in
-    neg-room vars ls (tree vars (formula c.deref.result.now)) c.in_ok-f-in-Neg.f (subst (λ (z : Formula). AreLight (length vars) two ls (tree vars z)) q c.requires.light) c.in_ok-f-in-Neg.ensures.ok.normal
+    neg-room vars ls (tree vars (formula c.deref.result.now)) c.in_ok-f-in-Neg.f
+    (subst (λ (z : Formula). AreLight (length vars) two ls (tree vars z)) q c.requires.light) c.in_ok-f-in-Neg.ensures.ok.normal
 
 pub returns-in_ok-f-in-Neg-clause-ok : goal.returns-in_ok-f-in-Neg-clause-ok
 returns-in_ok-f-in-Neg-clause-ok t c =
@@ -126,7 +138,10 @@ returns-in_ok-f-in-Neg-clause-ok t c =
     let ls = closed_lets vars (map formula c.args.lets.now) in
     let at = c.args.e.now.at in
     let q : formula c.args.e.now ≡ FNeg at (formula c.deref.result.now) = rw c.deref.ensures (ap (node_formula at) c.in-Neg.is) in
-    one-ok vars ls (formula c.args.e.now) (formula c.deref.result.now) ((at, Neg (inlined ls (tree vars (formula c.deref.result.now)))) ∷ []) (Neg (inlined ls (tree vars (formula c.deref.result.now)))) c.in_ok-f-in-Neg.f c.negation.result (ap (expanded vars ls) q) (ap (λ (z : Formula). inlined ls (tree vars z)) q) c.in_ok-f-in-Neg.ensures.ok (IfOk-weaker c.negation.result _ _ (λ h k. k (length vars) (inlined ls (tree vars (formula c.deref.result.now))) c.in_ok-f-in-Neg.ensures.ok.normal) c.negation.ensures.ok)
+    one-ok vars ls (formula c.args.e.now) (formula c.deref.result.now) ((at, Neg (inlined ls (tree vars (formula c.deref.result.now)))) ∷ [])
+    (Neg (inlined ls (tree vars (formula c.deref.result.now)))) c.in_ok-f-in-Neg.f c.negation.result (ap (expanded vars ls) q)
+    (ap (λ (z : Formula). inlined ls (tree vars z)) q) c.in_ok-f-in-Neg.ensures.ok (IfOk-weaker c.negation.result _ _
+    (λ h k. k (length vars) (inlined ls (tree vars (formula c.deref.result.now))) c.in_ok-f-in-Neg.ensures.ok.normal) c.negation.ensures.ok)
 
 pub returns-in_ok-f-in-Neg-clause-err : goal.returns-in_ok-f-in-Neg-clause-err
 returns-in_ok-f-in-Neg-clause-err t c =
@@ -134,7 +149,9 @@ returns-in_ok-f-in-Neg-clause-err t c =
     let ls = closed_lets vars (map formula c.args.lets.now) in
     let at = c.args.e.now.at in
     let q : formula c.args.e.now ≡ FNeg at (formula c.deref.result.now) = rw c.deref.ensures (ap (node_formula at) c.in-Neg.is) in
-    one-err vars ls (formula c.args.e.now) (formula c.deref.result.now) ((at, Neg (inlined ls (tree vars (formula c.deref.result.now)))) ∷ []) c.negation.result (ap (expanded vars ls) q) c.in_ok-f-in-Neg.ensures.ok.few (MatchResult-weaker c.negation.result c.negation.ensures.err (λ h k. tt) (λ s k. k (length vars) (inlined ls (tree vars (formula c.deref.result.now))) c.in_ok-f-in-Neg.ensures.ok.normal))
+    one-err vars ls (formula c.args.e.now) (formula c.deref.result.now) ((at, Neg (inlined ls (tree vars (formula c.deref.result.now)))) ∷ [])
+    c.negation.result (ap (expanded vars ls) q) c.in_ok-f-in-Neg.ensures.ok.few (MatchResult-weaker c.negation.result c.negation.ensures.err
+    (λ h k. tt) (λ s k. k (length vars) (inlined ls (tree vars (formula c.deref.result.now))) c.in_ok-f-in-Neg.ensures.ok.normal))
 
 pub raised-requires : goal.raised-requires
 raised-requires t c =
@@ -142,7 +159,8 @@ raised-requires t c =
     let ls = closed_lets vars (map formula c.args.lets.now) in
     let at = c.args.e.now.at in
     let q : formula c.args.e.now ≡ FPow at (formula c.deref-in-Pow.result.now) c.in-Pow.n = rw c.deref-in-Pow.ensures (ap (node_formula at) c.in-Pow.is) in
-    pow-room vars ls (tree vars (formula c.deref-in-Pow.result.now)) c.in-Pow.n c.in_ok-f-in-Pow.f (subst (λ (z : Formula). AreLight (length vars) two ls (tree vars z)) q c.requires.light) c.in_ok-f-in-Pow.ensures.ok.normal
+    pow-room vars ls (tree vars (formula c.deref-in-Pow.result.now)) c.in-Pow.n c.in_ok-f-in-Pow.f
+    (subst (λ (z : Formula). AreLight (length vars) two ls (tree vars z)) q c.requires.light) c.in_ok-f-in-Pow.ensures.ok.normal
 
 pub returns-in_ok-f-in-Pow-clause-ok : goal.returns-in_ok-f-in-Pow-clause-ok
 returns-in_ok-f-in-Pow-clause-ok t c =
@@ -150,7 +168,10 @@ returns-in_ok-f-in-Pow-clause-ok t c =
     let ls = closed_lets vars (map formula c.args.lets.now) in
     let at = c.args.e.now.at in
     let q : formula c.args.e.now ≡ FPow at (formula c.deref-in-Pow.result.now) c.in-Pow.n = rw c.deref-in-Pow.ensures (ap (node_formula at) c.in-Pow.is) in
-    one-ok vars ls (formula c.args.e.now) (formula c.deref-in-Pow.result.now) (powers at (inlined ls (tree vars (formula c.deref-in-Pow.result.now))) c.in-Pow.n) (Pow (inlined ls (tree vars (formula c.deref-in-Pow.result.now))) c.in-Pow.n) c.in_ok-f-in-Pow.f c.raised.result (ap (expanded vars ls) q) (ap (λ (z : Formula). inlined ls (tree vars z)) q) c.in_ok-f-in-Pow.ensures.ok (IfOk-weaker c.raised.result _ _ (λ h k. k (length vars) (inlined ls (tree vars (formula c.deref-in-Pow.result.now))) c.in_ok-f-in-Pow.ensures.ok.normal) c.raised.ensures.ok)
+    one-ok vars ls (formula c.args.e.now) (formula c.deref-in-Pow.result.now) (powers at (inlined ls (tree vars (formula c.deref-in-Pow.result.now)))
+    c.in-Pow.n) (Pow (inlined ls (tree vars (formula c.deref-in-Pow.result.now))) c.in-Pow.n) c.in_ok-f-in-Pow.f c.raised.result
+    (ap (expanded vars ls) q) (ap (λ (z : Formula). inlined ls (tree vars z)) q) c.in_ok-f-in-Pow.ensures.ok (IfOk-weaker c.raised.result _ _
+    (λ h k. k (length vars) (inlined ls (tree vars (formula c.deref-in-Pow.result.now))) c.in_ok-f-in-Pow.ensures.ok.normal) c.raised.ensures.ok)
 
 pub returns-in_ok-f-in-Pow-clause-err : goal.returns-in_ok-f-in-Pow-clause-err
 returns-in_ok-f-in-Pow-clause-err t c =
@@ -158,4 +179,7 @@ returns-in_ok-f-in-Pow-clause-err t c =
     let ls = closed_lets vars (map formula c.args.lets.now) in
     let at = c.args.e.now.at in
     let q : formula c.args.e.now ≡ FPow at (formula c.deref-in-Pow.result.now) c.in-Pow.n = rw c.deref-in-Pow.ensures (ap (node_formula at) c.in-Pow.is) in
-    one-err vars ls (formula c.args.e.now) (formula c.deref-in-Pow.result.now) (powers at (inlined ls (tree vars (formula c.deref-in-Pow.result.now))) c.in-Pow.n) c.raised.result (ap (expanded vars ls) q) c.in_ok-f-in-Pow.ensures.ok.few (MatchResult-weaker c.raised.result c.raised.ensures.err (λ h k. tt) (λ s k. k (length vars) (inlined ls (tree vars (formula c.deref-in-Pow.result.now))) c.in_ok-f-in-Pow.ensures.ok.normal))
+    one-err vars ls (formula c.args.e.now) (formula c.deref-in-Pow.result.now)
+    (powers at (inlined ls (tree vars (formula c.deref-in-Pow.result.now))) c.in-Pow.n) c.raised.result
+    (ap (expanded vars ls) q) c.in_ok-f-in-Pow.ensures.ok.few (MatchResult-weaker c.raised.result c.raised.ensures.err (λ h k. tt)
+    (λ s k. k (length vars) (inlined ls (tree vars (formula c.deref-in-Pow.result.now))) c.in_ok-f-in-Pow.ensures.ok.normal))

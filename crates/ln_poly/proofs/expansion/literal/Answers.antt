@@ -9,9 +9,11 @@ use Rattle.ln_poly.proofs.expansion.literal.Goals as goal
 pub returns-clause-ok : goal.returns-clause-ok
 returns-clause-ok c =
     let z = to_z-of_z w128 c.args.c c.ranges.c in
-    IfOk-weaker c.counted.result _ _ (λ h r n. r n (Num c.args.c) (number-normal n c.args.c c.in_ok-f.f c.requires (λ e. c.in_ok-f.ensures.zero (z ∙ e)) (λ d. c.in_ok-f.ensures.some (λ e. d (sym z ∙ e)) ∙ ap (λ y. ([], y) ∷ []) z))) c.counted.ensures.ok
+    IfOk-weaker c.counted.result _ _ (λ h r n. r n (Num c.args.c) (number-normal n c.args.c c.in_ok-f.f c.requires
+    (λ e. c.in_ok-f.ensures.zero (z ∙ e)) (λ d. c.in_ok-f.ensures.some (λ e. d (sym z ∙ e)) ∙ ap (λ y. ([], y) ∷ []) z))) c.counted.ensures.ok
 
 pub returns-clause-err : goal.returns-clause-err
 returns-clause-err c =
     let z = to_z-of_z w128 c.args.c c.ranges.c in
-    MatchResult-weaker c.counted.result c.counted.ensures.err (λ h t. tt) (λ s r n. r n (Num c.args.c) (number-normal n c.args.c c.in_ok-f.f c.requires (λ e. c.in_ok-f.ensures.zero (z ∙ e)) (λ d. c.in_ok-f.ensures.some (λ e. d (sym z ∙ e)) ∙ ap (λ y. ([], y) ∷ []) z)))
+    MatchResult-weaker c.counted.result c.counted.ensures.err (λ h t. tt) (λ s r n. r n (Num c.args.c) (number-normal n c.args.c c.in_ok-f.f
+    c.requires (λ e. c.in_ok-f.ensures.zero (z ∙ e)) (λ d. c.in_ok-f.ensures.some (λ e. d (sym z ∙ e)) ∙ ap (λ y. ([], y) ∷ []) z)))

@@ -47,23 +47,30 @@ returns-clause-few c =
     let p = c.args.p.now in
     let k = rw (c.as_slice-vars.ensures, c.as_slice-lets.ensures) at c.expand.ensures.ok in
     let a = rw (c.as_slice-vars.ensures, c.as_slice-lets.ensures) at c.in_ok-polys.ensures.few in
-    IfOk-weaker c.expand.result _ _ (λ f q. few-both (length p.shape.vars) (expanded_lets p.shape.vars [] (map formula p.lets)) (expanded p.shape.vars (closed_lets p.shape.vars (map formula p.lets)) (formula p.root)) a q.few) k
+    IfOk-weaker c.expand.result _ _ (λ f q. few-both (length p.shape.vars) (expanded_lets p.shape.vars [] (map formula p.lets))
+    (expanded p.shape.vars (closed_lets p.shape.vars (map formula p.lets)) (formula p.root)) a q.few) k
 
 pub returns-clause-degrees : goal.returns-clause-degrees
 returns-clause-degrees c =
     let p = c.args.p.now in
     let k = rw (c.as_slice-vars.ensures, c.as_slice-lets.ensures) at c.expand.ensures.ok in
-    IfOk-weaker c.expand.result _ _ (λ f q. root-degrees (length p.shape.vars) two (closed_root p.shape.vars (map formula p.lets) (formula p.root)) f (two-sizes (length p.shape.vars)) (root-light (length p.shape.vars) two (closed_lets p.shape.vars (map formula p.lets)) (tree p.shape.vars (formula p.root)) (pred-expands p.args p.shape.vars p.lets (length p.let_names) p.root p.kept c.requires).1) q.normal) k
+    IfOk-weaker c.expand.result _ _ (λ f q. root-degrees (length p.shape.vars) two (closed_root p.shape.vars (map formula p.lets) (formula p.root)) f
+    (two-sizes (length p.shape.vars)) (root-light (length p.shape.vars) two (closed_lets p.shape.vars (map formula p.lets))
+    (tree p.shape.vars (formula p.root)) (pred-expands p.args p.shape.vars p.lets (length p.let_names) p.root p.kept c.requires).1) q.normal) k
 
 pub returns-clause-zero : goal.returns-clause-zero
 returns-clause-zero c =
     let p = c.args.p.now in
     let k = rw (c.as_slice-vars.ensures, c.as_slice-lets.ensures) at c.expand.ensures.ok in
-    IfOk-weaker c.expand.result _ _ (λ f q. (no-terms-zero (length p.shape.vars) (closed_root p.shape.vars (map formula p.lets) (formula p.root)) f q.normal, zero-no-terms (length p.shape.vars) (closed_root p.shape.vars (map formula p.lets) (formula p.root)) f q.normal)) k
+    IfOk-weaker c.expand.result _ _ (λ f q. (
+      no-terms-zero (length p.shape.vars) (closed_root p.shape.vars (map formula p.lets) (formula p.root)) f q.normal,
+      zero-no-terms (length p.shape.vars) (closed_root p.shape.vars (map formula p.lets) (formula p.root)) f q.normal,
+    )) k
 
 pub returns-clause-err : goal.returns-clause-err
 returns-clause-err c =
     let p = c.args.p.now in
     let k = rw (c.as_slice-vars.ensures, c.as_slice-lets.ensures) at c.expand.ensures.err in
     let a = rw (c.as_slice-vars.ensures, c.as_slice-lets.ensures) at c.in_ok-polys.ensures.few in
-    MatchResult-weaker c.expand.result k (λ f t. tt) (λ s q. stop-behind (length p.shape.vars) (expanded_lets p.shape.vars [] (map formula p.lets)) (expanded p.shape.vars (closed_lets p.shape.vars (map formula p.lets)) (formula p.root)) s a q)
+    MatchResult-weaker c.expand.result k (λ f t. tt) (λ s q. stop-behind (length p.shape.vars) (expanded_lets p.shape.vars [] (map formula p.lets))
+    (expanded p.shape.vars (closed_lets p.shape.vars (map formula p.lets)) (formula p.root)) s a q)

@@ -24,7 +24,8 @@ returns-in_err-p-2-clause-err c =
     let p = err_from_is_err_and c.from_residual-in_err-p-2.result c.from_residual-in_err-p-2.ensures.1 in
     rw (p.1, p.2) (λ n e q.
     let i = c.powers.invariant n e q in
-    powers-stop n c.args.at e c.powers._j c.args.k c.powers.p c.in_err-p-2.field-0.0 (omega (arith, c.powers-test.true)) i (c.in_err-p-2.ensures.err n (Pow e c.powers._j) e i.normal q))
+    powers-stop n c.args.at e c.powers._j c.args.k c.powers.p c.in_err-p-2.field-0.0 (omega (arith, c.powers-test.true)) i
+    (c.in_err-p-2.ensures.err n (Pow e c.powers._j) e i.normal q))
 
 pub powers-preserved : goal.powers-preserved
 powers-preserved c = λ n e q.

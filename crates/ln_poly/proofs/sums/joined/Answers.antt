@@ -1,4 +1,4 @@
--- What is left to show of `joined`.
+-- The remaining goals of `joined`.
 use Rattle.std.proofs.Common.{◌∙◌}
 use Rattle.ln_poly.proofs.Sorting.Summing.{alone, none-left}
 use Rattle.ln_poly.proofs.sums.joined.Goals as goal

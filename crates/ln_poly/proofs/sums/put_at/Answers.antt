@@ -1,4 +1,4 @@
--- What is left to show of `put_at`.
+-- The remaining goals of `put_at`.
 use Rattle.ln_poly.proofs.Sorting.Summing.{put_in-added, put_in-pushed}
 use Rattle.ln_poly.proofs.sums.put_at.Goals as goal
 

@@ -1,4 +1,4 @@
--- What is left to show of `put_in`.
+-- The remaining goals of `put_in`.
 use Rattle.ln_poly.proofs.Sorting.Summing.{put_in-added}
 use Rattle.ln_poly.proofs.sums.put_in.Goals as goal
 

@@ -1,4 +1,4 @@
--- What is left to show of `spread`.
+-- The remaining goals of `spread`.
 use Rattle.std.proofs.Common.{arith}
 use Rattle.ln_poly.proofs.Sorting.Summing.{spread-init, spread-room, spread-step}
 use Rattle.ln_poly.proofs.sums.spread.Goals as goal

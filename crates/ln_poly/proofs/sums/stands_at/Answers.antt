@@ -1,4 +1,4 @@
--- What is left to show of `stands_at`.
+-- The remaining goals of `stands_at`.
 use Rattle.ln_poly.proofs.Sorting.Summing.{stands-same}
 use Rattle.ln_poly.proofs.sums.stands_at.Goals as goal
 

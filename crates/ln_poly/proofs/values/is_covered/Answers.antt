@@ -10,8 +10,10 @@ returns-then-exponent_of-q c =
     let a = c.args.a.now in
     let i = c.pairs.q-index in
     let h : i < length a = omega (arith, c.pairs-test.true) in
-    let e : exponent (get_or a i (0, 0)).0 c.args.m.now < (get_or a i (0, 0)).1 = omega (arith, c.exponent_of.ensures.value, ap (exponent (get_or a i (0, 0)).0) c.pairs-pairs.ensures.value, c.if-exponent_of-q.true) in
-    sym (failed (length c.args.s.now.vars) c.args.m.now a (get_or a i (0, 0)) (pair-above (length c.args.s.now.vars) a i c.requires.above h) (found (get_or a i (0, 0)).0 a i c.requires.rising h refl) e)
+    let e : exponent (get_or a i (0, 0)).0 c.args.m.now < (get_or a i (0, 0)).1 =
+    omega (arith, c.exponent_of.ensures.value, ap (exponent (get_or a i (0, 0)).0) c.pairs-pairs.ensures.value, c.if-exponent_of-q.true) in
+    sym (failed (length c.args.s.now.vars) c.args.m.now a (get_or a i (0, 0)) (pair-above (length c.args.s.now.vars) a i c.requires.above h)
+    (found (get_or a i (0, 0)).0 a i c.requires.rising h refl) e)
 
 pub returns : goal.returns
 returns c =

@@ -15,7 +15,12 @@ pub bounds-row-from : goal.bounds-row-from
 bounds-row-from c =
     let ps = c.pairs-pairs.result.now in
     let above : IsAbove ps (length c.args.s.now.vars) = rw c.pairs-pairs.ensures.value c.requires.below in
-    omega (arith, c.from.ensures, pair-above (length c.args.s.now.vars) ps c.pairs.p-index above (omega (arith, c.pairs-test.true)), row-long c.args.s.now.vars c.args.row.now c.requires.row)
+    omega (
+      arith,
+      c.from.ensures,
+      pair-above (length c.args.s.now.vars) ps c.pairs.p-index above (omega (arith, c.pairs-test.true)),
+      row-long c.args.s.now.vars c.args.row.now c.requires.row,
+    )
 
 pub with_pair-z-requires-clause-small : goal.with_pair-z-requires-clause-small
 with_pair-z-requires-clause-small c =
@@ -28,7 +33,12 @@ with_pair-z-requires-clause-within c =
     let ps = c.pairs-pairs.result.now in
     let above : IsAbove ps (length c.args.s.now.vars) = rw c.pairs-pairs.ensures.value c.requires.below in
     let rising : IsRising ps = rw c.pairs-pairs.ensures.value c.pairs-pairs.ensures.rising in
-    omega (arith, c.exponent_of.ensures.value, pair-within (length c.args.s.now.vars) ps c.args.t.now.0 c.args.a.now c.pairs.p-index c.pairs-pairs.ensures.value rising above (omega (arith, c.pairs-test.true)) c.requires.covered)
+    omega (
+      arith,
+      c.exponent_of.ensures.value,
+      pair-within (length c.args.s.now.vars) ps c.args.t.now.0 c.args.a.now c.pairs.p-index c.pairs-pairs.ensures.value rising above
+          (omega (arith, c.pairs-test.true)) c.requires.covered,
+    )
 
 pub with_pair-z-requires-clause-room : goal.with_pair-z-requires-clause-room
 with_pair-z-requires-clause-room c =
@@ -36,7 +46,8 @@ with_pair-z-requires-clause-room c =
     let above : IsAbove ps (length c.args.s.now.vars) = rw c.pairs-pairs.ensures.value c.requires.below in
     let light : unsigned_abs c.args.t.now.1 * pairs_weight (weights c.args.s.now.vars) ps ≤ most = rw c.pairs-pairs.ensures.value c.requires.light in
     let fx : FitsSigned w64 (slice_index_or c.args.row.now c.from.result (pos 0)) = search rules in
-    rw (to_z-of_z w64 (slice_index_or c.args.row.now c.from.result (pos 0)) fx, c.from.ensures) (product-room c.args.s.now.vars c.args.row.now c.args.a.now ps c.args.t.now.1 _ c.pairs.p-index (omega (arith, c.pairs-test.true)) c.requires.row above c.pairs.invariant light)
+    rw (to_z-of_z w64 (slice_index_or c.args.row.now c.from.result (pos 0)) fx, c.from.ensures) (product-room c.args.s.now.vars c.args.row.now
+    c.args.a.now ps c.args.t.now.1 _ c.pairs.p-index (omega (arith, c.pairs-test.true)) c.requires.row above c.pairs.invariant light)
 
 pub pairs-preserved : goal.pairs-preserved
 pairs-preserved c =
@@ -44,18 +55,22 @@ pairs-preserved c =
     let above : IsAbove ps (length c.args.s.now.vars) = rw c.pairs-pairs.ensures.value c.requires.below in
     let rising : IsRising ps = rw c.pairs-pairs.ensures.value c.pairs-pairs.ensures.rising in
     let there : c.pairs.p-index < length ps = omega (arith, c.pairs-test.true) in
-    let within = pair-within (length c.args.s.now.vars) ps c.args.t.now.0 c.args.a.now c.pairs.p-index c.pairs-pairs.ensures.value rising above there c.requires.covered in
+    let within = pair-within (length c.args.s.now.vars) ps c.args.t.now.0 c.args.a.now c.pairs.p-index c.pairs-pairs.ensures.value rising
+    above there c.requires.covered in
     let fx : FitsSigned w64 (slice_index_or c.args.row.now c.from.result (pos 0)) = search rules in
     let fr : FitsSigned w128 c.with_pair-z.result = search rules in
     let e = rw (to_z-of_z w64 (slice_index_or c.args.row.now c.from.result (pos 0)) fx, c.from.ensures, c.exponent_of.ensures.value) at c.with_pair-z.ensures in
-    rw (to_z-of_z w128 c.with_pair-z.result fr) (product-on c.args.s.now.vars c.args.row.now c.args.a.now ps c.args.t.now.1 _ c.pairs.p-index there c.requires.row above c.pairs.invariant c.with_pair-z.result within e)
+    rw (to_z-of_z w128 c.with_pair-z.result fr) (product-on c.args.s.now.vars c.args.row.now c.args.a.now ps c.args.t.now.1 _
+    c.pairs.p-index there c.requires.row above c.pairs.invariant c.with_pair-z.result within e)
 
 pub returns-clause-value : goal.returns-clause-value
 returns-clause-value c =
-    let r = product-end c.args.s.now.vars (values c.args.row.now) c.args.a.now c.pairs-pairs.result.now c.args.t.now.1 _ c.pairs.p-index (omega (arith, c.pairs-test.false)) c.pairs.invariant in
+    let r = product-end c.args.s.now.vars (values c.args.row.now) c.args.a.now c.pairs-pairs.result.now c.args.t.now.1 _ c.pairs.p-index
+    (omega (arith, c.pairs-test.false)) c.pairs.invariant in
     rw c.pairs-pairs.ensures.value at r.0
 
 pub returns-clause-small : goal.returns-clause-small
 returns-clause-small c =
-    let r = product-end c.args.s.now.vars (values c.args.row.now) c.args.a.now c.pairs-pairs.result.now c.args.t.now.1 _ c.pairs.p-index (omega (arith, c.pairs-test.false)) c.pairs.invariant in
+    let r = product-end c.args.s.now.vars (values c.args.row.now) c.args.a.now c.pairs-pairs.result.now c.args.t.now.1 _ c.pairs.p-index
+    (omega (arith, c.pairs-test.false)) c.pairs.invariant in
     rw c.pairs-pairs.ensures.value at r.1

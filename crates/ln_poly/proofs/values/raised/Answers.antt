@@ -24,7 +24,13 @@ factors-preserved c =
     let r = rw (to_z-of_z w128 c.args.z fz, to_z-of_z w64 c.args.x fx) at c.factors.invariant in
     let l : c.factors._k < c.args.n = omega (arith, c.factors-test.true) in
     let g : FitsSigned w128 (to_z w128 c.factors.product-bits *ℤ c.args.x) = fit _ (raised-fits c.args.z _ c.args.x c.args.n c.factors._k l r) in
-    rw (to_z-of_z w128 c.from-product.result fy, e, to_z-of_z w128 c.args.z fz, to_z-of_z w64 c.args.x fx, to_z-of_z w128 (to_z w128 c.factors.product-bits *ℤ c.args.x) g) (raised-on c.args.z _ c.args.x c.args.n c.factors._k l r)
+    rw (
+      to_z-of_z w128 c.from-product.result fy,
+      e,
+      to_z-of_z w128 c.args.z fz,
+      to_z-of_z w64 c.args.x fx,
+      to_z-of_z w128 (to_z w128 c.factors.product-bits *ℤ c.args.x) g,
+    ) (raised-on c.args.z _ c.args.x c.args.n c.factors._k l r)
 
 pub returns : goal.returns
 returns c =

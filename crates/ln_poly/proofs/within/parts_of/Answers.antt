@@ -11,7 +11,8 @@ pub parts-init : goal.parts-init
 parts-init c = rw (c.seal-done.ensures, c.new.ensures) (rows-begin _ _, no-terms, omega arith, omega arith)
 
 pub returns-then-are_too_many-clause-none : goal.returns-then-are_too_many-clause-none
-returns-then-are_too_many-clause-none c = takes-more _ _ _ _ _ _ _ _ c.in_ok-next.ensures c.terms.ensures.form c.terms.ensures.value c.terms-f.ensures.value c.terms-g.ensures.value (c.are_too_many.ensures.0 c.if-are_too_many.true)
+returns-then-are_too_many-clause-none c = takes-more _ _ _ _ _ _ _ _ c.in_ok-next.ensures c.terms.ensures.form c.terms.ensures.value
+    c.terms-f.ensures.value c.terms-g.ensures.value (c.are_too_many.ensures.0 c.if-are_too_many.true)
 
 pub returns-clause-rows : goal.returns-clause-rows
 returns-clause-rows c = rows-end _ _ _ _ _ _ c.parts.invariant.0 (omega arith) c.terms-f.ensures.value c.terms-g.ensures.value

@@ -1,7 +1,6 @@
-use Rattle.std.proofs.Common.{◌≡◌, ◌∙◌, ℕ, List, ap, arith, length, replicate, subst, sym}
-use Rattle.std.specs.Prelude.{IfErr, IfOk, OnOk}
+use Rattle.std.proofs.Common.{◌≡◌, ◌∙◌, ap, arith, length, replicate, subst, sym}
+use Rattle.std.specs.Prelude.{IfErr, OnOk}
 use Rattle.std.specs.List.{range_with_len}
-use Rattle.std.proofs.lemmas.Result.{err_from_is_err_and}
 use Rattle.ln_algebra.proofs.Expanded.Expansion.{length-zeros}
 use Rattle.ln_algebra.specs.Vector.{zeros}
 use Rattle.ln_order.proofs.Signs.SitesLemmas.{kept}
@@ -20,8 +19,10 @@ layers-requires-clause-step c =
     let f = c.args.f.now in
     let v : c.as_slice.result.now ≡ ranking_of s.vars (front_places c.args.p.now) = c.as_slice.ensures ∙ c.in_ok-vars.ensures in
     let k : c.as_slice-2.result.now ≡ range_with_len 0 (length f) = c.as_slice-2.ensures.value ∙ c.in_ok-kept.ensures in
-    let z : c.as_slice-3.result.now ≡ zeros (length s.vars) = c.as_slice-3.ensures.value ∙ c.in_ok-start.ensures ∙ ap (λ n. replicate n 0) c.len.ensures ∙ zeros-replicate (length s.vars) in
-    let r : AreFresh (length s.vars) c.as_slice.result.now = subst (AreFresh (length s.vars)) (sym v) (fresh-front s.vars f s.sites (front_places c.args.p.now) s.kept c.requires.prefix) in
+    let z : c.as_slice-3.result.now ≡ zeros (length s.vars) =
+    c.as_slice-3.ensures.value ∙ c.in_ok-start.ensures ∙ ap (λ n. replicate n 0) c.len.ensures ∙ zeros-replicate (length s.vars) in
+    let r : AreFresh (length s.vars) c.as_slice.result.now =
+    subst (AreFresh (length s.vars)) (sym v) (fresh-front s.vars f s.sites (front_places c.args.p.now) s.kept c.requires.prefix) in
     start-step f (length s.vars) c.as_slice.result.now c.as_slice-2.result.now c.as_slice-3.result.now c.requires.below c.requires.rising c.requires.some r k z
 
 pub layers-requires-clause-few : goal.layers-requires-clause-few
@@ -30,8 +31,10 @@ layers-requires-clause-few c =
     let f = c.args.f.now in
     let v : c.as_slice.result.now ≡ ranking_of s.vars (front_places c.args.p.now) = c.as_slice.ensures ∙ c.in_ok-vars.ensures in
     let k : c.as_slice-2.result.now ≡ range_with_len 0 (length f) = c.as_slice-2.ensures.value ∙ c.in_ok-kept.ensures in
-    let z : c.as_slice-3.result.now ≡ zeros (length s.vars) = c.as_slice-3.ensures.value ∙ c.in_ok-start.ensures ∙ ap (λ n. replicate n 0) c.len.ensures ∙ zeros-replicate (length s.vars) in
-    let r : AreFresh (length s.vars) c.as_slice.result.now = subst (AreFresh (length s.vars)) (sym v) (fresh-front s.vars f s.sites (front_places c.args.p.now) s.kept c.requires.prefix) in
+    let z : c.as_slice-3.result.now ≡ zeros (length s.vars) =
+    c.as_slice-3.ensures.value ∙ c.in_ok-start.ensures ∙ ap (λ n. replicate n 0) c.len.ensures ∙ zeros-replicate (length s.vars) in
+    let r : AreFresh (length s.vars) c.as_slice.result.now =
+    subst (AreFresh (length s.vars)) (sym v) (fresh-front s.vars f s.sites (front_places c.args.p.now) s.kept c.requires.prefix) in
     omega (arith, ap length z, length-zeros (length s.vars), (kept s.sites s.vars s.kept).few_vars)
 
 pub layers-requires-clause-vars : goal.layers-requires-clause-vars
@@ -40,8 +43,10 @@ layers-requires-clause-vars c =
     let f = c.args.f.now in
     let v : c.as_slice.result.now ≡ ranking_of s.vars (front_places c.args.p.now) = c.as_slice.ensures ∙ c.in_ok-vars.ensures in
     let k : c.as_slice-2.result.now ≡ range_with_len 0 (length f) = c.as_slice-2.ensures.value ∙ c.in_ok-kept.ensures in
-    let z : c.as_slice-3.result.now ≡ zeros (length s.vars) = c.as_slice-3.ensures.value ∙ c.in_ok-start.ensures ∙ ap (λ n. replicate n 0) c.len.ensures ∙ zeros-replicate (length s.vars) in
-    let r : AreFresh (length s.vars) c.as_slice.result.now = subst (AreFresh (length s.vars)) (sym v) (fresh-front s.vars f s.sites (front_places c.args.p.now) s.kept c.requires.prefix) in
+    let z : c.as_slice-3.result.now ≡ zeros (length s.vars) =
+    c.as_slice-3.ensures.value ∙ c.in_ok-start.ensures ∙ ap (λ n. replicate n 0) c.len.ensures ∙ zeros-replicate (length s.vars) in
+    let r : AreFresh (length s.vars) c.as_slice.result.now =
+    subst (AreFresh (length s.vars)) (sym v) (fresh-front s.vars f s.sites (front_places c.args.p.now) s.kept c.requires.prefix) in
     omega (arith, fresh-few (length s.vars) c.as_slice.result.now r, (kept s.sites s.vars s.kept).few_vars)
 
 pub returns-clause-seen : goal.returns-clause-seen
@@ -50,9 +55,12 @@ returns-clause-seen c =
     let f = c.args.f.now in
     let v : c.as_slice.result.now ≡ ranking_of s.vars (front_places c.args.p.now) = c.as_slice.ensures ∙ c.in_ok-vars.ensures in
     let k : c.as_slice-2.result.now ≡ range_with_len 0 (length f) = c.as_slice-2.ensures.value ∙ c.in_ok-kept.ensures in
-    let z : c.as_slice-3.result.now ≡ zeros (length s.vars) = c.as_slice-3.ensures.value ∙ c.in_ok-start.ensures ∙ ap (λ n. replicate n 0) c.len.ensures ∙ zeros-replicate (length s.vars) in
-    let r : AreFresh (length s.vars) c.as_slice.result.now = subst (AreFresh (length s.vars)) (sym v) (fresh-front s.vars f s.sites (front_places c.args.p.now) s.kept c.requires.prefix) in
-    subst (λ (u : Tallied). OnOk c.layers.result (c.layers.new.tally ≡ u)) (graded-seen s.vars f (front_places c.args.p.now) c.as_slice.result.now c.as_slice-2.result.now c.as_slice-3.result.now c.args.tally.now v k z) c.layers.ensures.seen
+    let z : c.as_slice-3.result.now ≡ zeros (length s.vars) =
+    c.as_slice-3.ensures.value ∙ c.in_ok-start.ensures ∙ ap (λ n. replicate n 0) c.len.ensures ∙ zeros-replicate (length s.vars) in
+    let r : AreFresh (length s.vars) c.as_slice.result.now =
+    subst (AreFresh (length s.vars)) (sym v) (fresh-front s.vars f s.sites (front_places c.args.p.now) s.kept c.requires.prefix) in
+    subst (λ (u : Tallied). OnOk c.layers.result (c.layers.new.tally ≡ u)) (graded-seen s.vars f (front_places c.args.p.now)
+    c.as_slice.result.now c.as_slice-2.result.now c.as_slice-3.result.now c.args.tally.now v k z) c.layers.ensures.seen
 
 pub returns-clause-err : goal.returns-clause-err
 returns-clause-err c =
@@ -60,6 +68,9 @@ returns-clause-err c =
     let f = c.args.f.now in
     let v : c.as_slice.result.now ≡ ranking_of s.vars (front_places c.args.p.now) = c.as_slice.ensures ∙ c.in_ok-vars.ensures in
     let k : c.as_slice-2.result.now ≡ range_with_len 0 (length f) = c.as_slice-2.ensures.value ∙ c.in_ok-kept.ensures in
-    let z : c.as_slice-3.result.now ≡ zeros (length s.vars) = c.as_slice-3.ensures.value ∙ c.in_ok-start.ensures ∙ ap (λ n. replicate n 0) c.len.ensures ∙ zeros-replicate (length s.vars) in
-    let r : AreFresh (length s.vars) c.as_slice.result.now = subst (AreFresh (length s.vars)) (sym v) (fresh-front s.vars f s.sites (front_places c.args.p.now) s.kept c.requires.prefix) in
-    subst (λ (u : Tallied). IfErr c.layers.result (λ e. IsStoppedBy e (IsOver u))) (graded-seen s.vars f (front_places c.args.p.now) c.as_slice.result.now c.as_slice-2.result.now c.as_slice-3.result.now c.args.tally.now v k z) c.layers.ensures.err
+    let z : c.as_slice-3.result.now ≡ zeros (length s.vars) =
+    c.as_slice-3.ensures.value ∙ c.in_ok-start.ensures ∙ ap (λ n. replicate n 0) c.len.ensures ∙ zeros-replicate (length s.vars) in
+    let r : AreFresh (length s.vars) c.as_slice.result.now =
+    subst (AreFresh (length s.vars)) (sym v) (fresh-front s.vars f s.sites (front_places c.args.p.now) s.kept c.requires.prefix) in
+    subst (λ (u : Tallied). IfErr c.layers.result (λ e. IsStoppedBy e (IsOver u))) (graded-seen s.vars f (front_places c.args.p.now)
+    c.as_slice.result.now c.as_slice-2.result.now c.as_slice-3.result.now c.args.tally.now v k z) c.layers.ensures.err

@@ -1,4 +1,4 @@
-use Rattle.std.proofs.Common.{◌∙◌, ◌+◌, ◌-◌, ◌<◌, ◌*◌, ap, arith, drop, length, map, refl, subst}
+use Rattle.std.proofs.Common.{◌∙◌, ◌+◌, ◌-◌, ◌<◌, ◌*◌, ap, arith, drop, length, map, refl}
 use Rattle.std.proofs.lemmas.Result.{err_from_is_err_and}
 use Rattle.ln_order.proofs.Listing.FrontLemmas.{prefix-size}
 use Rattle.ln_order.proofs.Signs.SitesLemmas.{kept}
@@ -9,7 +9,8 @@ use Rattle.ln_stage.specs.FirstSight.{shared_count}
 use Rattle.ln_stage.specs.Kept.{numbers_by, tallied_by}
 use Rattle.ln_stage.specs.Tally.{IsOver, Tallied}
 use Rattle.ln_stage.specs.Graded.{graded_at}
-use Rattle.ln_stage.proofs.Results.ListedLemmas.{at-prefix, count-ends, count-passes, more-prefixes, over-goes, segments-end, segments-go, shares-here, tally-ends, tally-goes}
+use Rattle.ln_stage.proofs.Results.ListedLemmas.{at-prefix, count-ends, count-passes, more-prefixes, over-goes, segments-end, segments-go}
+use Rattle.ln_stage.proofs.Results.ListedLemmas.{shares-here, tally-ends, tally-goes}
 use Rattle.ln_stage.proofs.graded.graded_segments.Goals as goal
 
 pub prefixes-init : goal.prefixes-init
@@ -22,16 +23,28 @@ prefixes-init c = record {
 }
 
 pub graded_segment-requires-clause-prefix : goal.graded_segment-requires-clause-prefix
-graded_segment-requires-clause-prefix c = at-prefix c.args.prefixes.now c.args.s.now.sites c.prefixes.p-index c.p-item.result c.requires.prefixes (omega arith) c.p-item.is
+graded_segment-requires-clause-prefix c =
+    at-prefix c.args.prefixes.now c.args.s.now.sites c.prefixes.p-index c.p-item.result c.requires.prefixes (omega arith) c.p-item.is
 
 pub returns-in_err-list-clause-err : goal.returns-in_err-list-clause-err
 returns-in_err-list-clause-err c =
     let m = more-prefixes c.args.prefixes.now c.prefixes.p-index c.p-item.result (omega arith) c.p-item.is in
     let p = err_from_is_err_and c.from_residual.result c.from_residual.ensures.1 in
-    rw (p.1, p.2) (over-goes (graded_at c.args.s.now.sites c.args.s.now.vars c.args.f.now) (length c.args.s.now.vars) c.args.f.now c.prefixes.tally c.graded_segment.new.tally (front_places c.p-item.result) (map front_places (drop c.prefixes.p-index c.args.prefixes.now)) (map front_places (drop (c.prefixes.p-index + 1) c.args.prefixes.now)) m (tallied_by (graded_at c.args.s.now.sites c.args.s.now.vars c.args.f.now) (length c.args.s.now.vars) c.args.f.now c.args.tally.now (prefixes_of c.args.s.now.sites)) (c.args.most < (shared_count c.args.s.now.sites (graded_at c.args.s.now.sites c.args.s.now.vars c.args.f.now) (prefixes_of c.args.s.now.sites))) c.in_err-list.field-0.0 (c.prefixes.invariant.tally ∙ ap (tallied_by (graded_at c.args.s.now.sites c.args.s.now.vars c.args.f.now) (length c.args.s.now.vars) c.args.f.now c.args.tally.now) c.requires.prefixes) c.in_err-list.ensures.err)
+    rw (p.1, p.2) (over-goes (graded_at c.args.s.now.sites c.args.s.now.vars c.args.f.now) (length c.args.s.now.vars) c.args.f.now
+    c.prefixes.tally c.graded_segment.new.tally (front_places c.p-item.result) (map front_places (drop c.prefixes.p-index c.args.prefixes.now))
+    (map front_places (drop (c.prefixes.p-index + 1) c.args.prefixes.now)) m (tallied_by (graded_at c.args.s.now.sites c.args.s.now.vars c.args.f.now)
+    (length c.args.s.now.vars) c.args.f.now c.args.tally.now (prefixes_of c.args.s.now.sites))
+    (c.args.most < (shared_count c.args.s.now.sites (graded_at c.args.s.now.sites c.args.s.now.vars c.args.f.now) (prefixes_of c.args.s.now.sites)))
+    c.in_err-list.field-0.0 (c.prefixes.invariant.tally ∙ ap (tallied_by (graded_at c.args.s.now.sites c.args.s.now.vars c.args.f.now)
+    (length c.args.s.now.vars) c.args.f.now c.args.tally.now) c.requires.prefixes) c.in_err-list.ensures.err)
 
 pub overflow_sub-left : goal.overflow_sub-left
-overflow_sub-left c = omega (arith, ap length c.places.ensures.value, prefix-size c.args.s.now.sites (front_places c.p-item.result) (at-prefix c.args.prefixes.now c.args.s.now.sites c.prefixes.p-index c.p-item.result c.requires.prefixes (omega arith) c.p-item.is))
+overflow_sub-left c = omega (
+  arith,
+  ap length c.places.ensures.value,
+  prefix-size c.args.s.now.sites (front_places c.p-item.result)
+      (at-prefix c.args.prefixes.now c.args.s.now.sites c.prefixes.p-index c.p-item.result c.requires.prefixes (omega arith) c.p-item.is),
+)
 
 pub orders-requires : goal.orders-requires
 orders-requires c = let s = c.args.s.now in omega (arith, (kept s.sites s.vars s.kept).few_sites)
@@ -40,30 +53,57 @@ pub returns-in_err-more-clause-err : goal.returns-in_err-more-clause-err
 returns-in_err-more-clause-err c =
     let m = more-prefixes c.args.prefixes.now c.prefixes.p-index c.p-item.result (omega arith) c.p-item.is in
     let p = err_from_is_err_and c.from_residual-in_err-more.result c.from_residual-in_err-more.ensures.1 in
-    let h = shares-here (graded_at c.args.s.now.sites c.args.s.now.vars c.args.f.now) (length c.args.s.now.vars) c.args.f.now c.prefixes.tally c.graded_segment.new.tally (front_places c.p-item.result) (map front_places (drop c.prefixes.p-index c.args.prefixes.now)) (map front_places (drop (c.prefixes.p-index + 1) c.args.prefixes.now)) m c.args.s.now.sites (shared_count c.args.s.now.sites (graded_at c.args.s.now.sites c.args.s.now.vars c.args.f.now) (prefixes_of c.args.s.now.sites)) c.prefixes.count c.orders.result c.len.result c.in_ok-list.list c.in_ok-list.ensures.list c.prefixes.invariant.empty c.len.ensures (c.orders.ensures.value ∙ ap (λ z. length (orders_of (c.args.s.now.sites - length z))) c.places.ensures.value) (c.prefixes.invariant.count ∙ ap (shared_count c.args.s.now.sites (graded_at c.args.s.now.sites c.args.s.now.vars c.args.f.now)) c.requires.prefixes) in
-    rw (p.1, p.2) (count-passes (graded_at c.args.s.now.sites c.args.s.now.vars c.args.f.now) (length c.args.s.now.vars) c.args.f.now c.args.s.now.sites (shared_count c.args.s.now.sites (graded_at c.args.s.now.sites c.args.s.now.vars c.args.f.now) (prefixes_of c.args.s.now.sites)) c.prefixes.count (c.prefixes.count + c.orders.result * c.len.result) c.args.most (IsOver (tallied_by (graded_at c.args.s.now.sites c.args.s.now.vars c.args.f.now) (length c.args.s.now.vars) c.args.f.now c.args.tally.now (prefixes_of c.args.s.now.sites))) c.in_err-more.field-0.0 (map front_places (drop (c.prefixes.p-index + 1) c.args.prefixes.now)) h c.in_err-more.ensures.err)
+    let h = shares-here (graded_at c.args.s.now.sites c.args.s.now.vars c.args.f.now) (length c.args.s.now.vars) c.args.f.now c.prefixes.tally
+    c.graded_segment.new.tally (front_places c.p-item.result) (map front_places (drop c.prefixes.p-index c.args.prefixes.now))
+    (map front_places (drop (c.prefixes.p-index + 1) c.args.prefixes.now)) m c.args.s.now.sites
+    (shared_count c.args.s.now.sites (graded_at c.args.s.now.sites c.args.s.now.vars c.args.f.now) (prefixes_of c.args.s.now.sites))
+    c.prefixes.count c.orders.result c.len.result c.in_ok-list.list c.in_ok-list.ensures.list c.prefixes.invariant.empty c.len.ensures
+    (c.orders.ensures.value ∙ ap (λ z. length (orders_of (c.args.s.now.sites - length z))) c.places.ensures.value)
+    (c.prefixes.invariant.count ∙ ap (shared_count c.args.s.now.sites (graded_at c.args.s.now.sites c.args.s.now.vars c.args.f.now)) c.requires.prefixes) in
+    rw (p.1, p.2) (count-passes (graded_at c.args.s.now.sites c.args.s.now.vars c.args.f.now) (length c.args.s.now.vars) c.args.f.now c.args.s.now.sites
+    (shared_count c.args.s.now.sites (graded_at c.args.s.now.sites c.args.s.now.vars c.args.f.now) (prefixes_of c.args.s.now.sites)) c.prefixes.count
+    (c.prefixes.count + c.orders.result * c.len.result) c.args.most (IsOver (tallied_by (graded_at c.args.s.now.sites c.args.s.now.vars c.args.f.now)
+    (length c.args.s.now.vars) c.args.f.now c.args.tally.now (prefixes_of c.args.s.now.sites))) c.in_err-more.field-0.0
+    (map front_places (drop (c.prefixes.p-index + 1) c.args.prefixes.now)) h c.in_err-more.ensures.err)
 
 pub prefixes-preserved : goal.prefixes-preserved
 prefixes-preserved c =
     let m = more-prefixes c.args.prefixes.now c.prefixes.p-index c.p-item.result (omega arith) c.p-item.is in
-    let h = shares-here (graded_at c.args.s.now.sites c.args.s.now.vars c.args.f.now) (length c.args.s.now.vars) c.args.f.now c.prefixes.tally c.graded_segment.new.tally (front_places c.p-item.result) (map front_places (drop c.prefixes.p-index c.args.prefixes.now)) (map front_places (drop (c.prefixes.p-index + 1) c.args.prefixes.now)) m c.args.s.now.sites (shared_count c.args.s.now.sites (graded_at c.args.s.now.sites c.args.s.now.vars c.args.f.now) (map front_places c.args.prefixes.now)) c.prefixes.count c.orders.result c.len.result c.in_ok-list.list c.in_ok-list.ensures.list c.prefixes.invariant.empty c.len.ensures (c.orders.ensures.value ∙ ap (λ z. length (orders_of (c.args.s.now.sites - length z))) c.places.ensures.value) c.prefixes.invariant.count in
+    let h = shares-here (graded_at c.args.s.now.sites c.args.s.now.vars c.args.f.now) (length c.args.s.now.vars) c.args.f.now c.prefixes.tally
+    c.graded_segment.new.tally (front_places c.p-item.result) (map front_places (drop c.prefixes.p-index c.args.prefixes.now))
+    (map front_places (drop (c.prefixes.p-index + 1) c.args.prefixes.now)) m c.args.s.now.sites
+    (shared_count c.args.s.now.sites (graded_at c.args.s.now.sites c.args.s.now.vars c.args.f.now) (map front_places c.args.prefixes.now))
+    c.prefixes.count c.orders.result c.len.result c.in_ok-list.list c.in_ok-list.ensures.list c.prefixes.invariant.empty c.len.ensures
+    (c.orders.ensures.value ∙ ap (λ z. length (orders_of (c.args.s.now.sites - length z))) c.places.ensures.value) c.prefixes.invariant.count in
     let s = c.args.s.now in
     record {
-      tally = tally-goes (graded_at c.args.s.now.sites c.args.s.now.vars c.args.f.now) (length c.args.s.now.vars) c.args.f.now c.prefixes.tally c.graded_segment.new.tally (front_places c.p-item.result) (map front_places (drop c.prefixes.p-index c.args.prefixes.now)) (map front_places (drop (c.prefixes.p-index + 1) c.args.prefixes.now)) m _ c.in_ok-list.ensures.rest c.prefixes.invariant.tally;
-      segments = segments-go (graded_at c.args.s.now.sites c.args.s.now.vars c.args.f.now) (length c.args.s.now.vars) c.args.f.now c.prefixes.tally c.graded_segment.new.tally (front_places c.p-item.result) (map front_places (drop c.prefixes.p-index c.args.prefixes.now)) (map front_places (drop (c.prefixes.p-index + 1) c.args.prefixes.now)) m _ c.prefixes.segments c.push.new.self c.in_ok-list.list c.in_ok-list.ensures.rest c.in_ok-list.ensures.list c.in_ok-push.ensures.ok c.prefixes.invariant.segments;
-      count = ap (λ n. n + shared_count c.args.s.now.sites (graded_at c.args.s.now.sites c.args.s.now.vars c.args.f.now) (map front_places (drop (c.prefixes.p-index + 1) c.args.prefixes.now))) c.in_ok-more.ensures.ok ∙ h;
+      tally = tally-goes (graded_at c.args.s.now.sites c.args.s.now.vars c.args.f.now) (length c.args.s.now.vars) c.args.f.now c.prefixes.tally
+          c.graded_segment.new.tally (front_places c.p-item.result) (map front_places (drop c.prefixes.p-index c.args.prefixes.now))
+          (map front_places (drop (c.prefixes.p-index + 1) c.args.prefixes.now)) m _ c.in_ok-list.ensures.rest c.prefixes.invariant.tally;
+      segments = segments-go (graded_at c.args.s.now.sites c.args.s.now.vars c.args.f.now) (length c.args.s.now.vars) c.args.f.now c.prefixes.tally
+          c.graded_segment.new.tally (front_places c.p-item.result) (map front_places (drop c.prefixes.p-index c.args.prefixes.now))
+          (map front_places (drop (c.prefixes.p-index + 1) c.args.prefixes.now)) m _ c.prefixes.segments c.push.new.self c.in_ok-list.list
+          c.in_ok-list.ensures.rest c.in_ok-list.ensures.list c.in_ok-push.ensures.ok c.prefixes.invariant.segments;
+      count = ap (λ n. n + shared_count c.args.s.now.sites (graded_at c.args.s.now.sites c.args.s.now.vars c.args.f.now)
+          (map front_places (drop (c.prefixes.p-index + 1) c.args.prefixes.now))) c.in_ok-more.ensures.ok ∙ h;
       within = c.in_ok-more.ensures.within;
       empty = ap (λ (u : Tallied). u.list) c.in_ok-list.ensures.rest;
     }
 
 pub returns-clause-segments : goal.returns-clause-segments
-returns-clause-segments c = segments-end (graded_at c.args.s.now.sites c.args.s.now.vars c.args.f.now) (length c.args.s.now.vars) c.args.f.now c.args.prefixes.now c.prefixes.p-index (omega arith) c.prefixes.tally _ c.prefixes.segments c.prefixes.invariant.segments ∙ ap (numbers_by (graded_at c.args.s.now.sites c.args.s.now.vars c.args.f.now) (length c.args.s.now.vars) c.args.f.now c.args.tally.now) c.requires.prefixes
+returns-clause-segments c = segments-end (graded_at c.args.s.now.sites c.args.s.now.vars c.args.f.now) (length c.args.s.now.vars)
+    c.args.f.now c.args.prefixes.now c.prefixes.p-index (omega arith) c.prefixes.tally _ c.prefixes.segments c.prefixes.invariant.segments
+    ∙ ap (numbers_by (graded_at c.args.s.now.sites c.args.s.now.vars c.args.f.now) (length c.args.s.now.vars) c.args.f.now c.args.tally.now) c.requires.prefixes
 
 pub returns-clause-rest : goal.returns-clause-rest
-returns-clause-rest c = tally-ends (graded_at c.args.s.now.sites c.args.s.now.vars c.args.f.now) (length c.args.s.now.vars) c.args.f.now c.args.prefixes.now c.prefixes.p-index (omega arith) c.prefixes.tally _ c.prefixes.invariant.tally ∙ ap (tallied_by (graded_at c.args.s.now.sites c.args.s.now.vars c.args.f.now) (length c.args.s.now.vars) c.args.f.now c.args.tally.now) c.requires.prefixes
+returns-clause-rest c = tally-ends (graded_at c.args.s.now.sites c.args.s.now.vars c.args.f.now)
+    (length c.args.s.now.vars) c.args.f.now c.args.prefixes.now c.prefixes.p-index (omega arith) c.prefixes.tally _ c.prefixes.invariant.tally
+    ∙ ap (tallied_by (graded_at c.args.s.now.sites c.args.s.now.vars c.args.f.now) (length c.args.s.now.vars) c.args.f.now c.args.tally.now) c.requires.prefixes
 
 pub returns-clause-count : goal.returns-clause-count
-returns-clause-count c = count-ends (graded_at c.args.s.now.sites c.args.s.now.vars c.args.f.now) (length c.args.s.now.vars) c.args.f.now c.args.prefixes.now c.prefixes.p-index (omega arith) c.args.s.now.sites _ c.prefixes.count c.prefixes.invariant.count ∙ ap (shared_count c.args.s.now.sites (graded_at c.args.s.now.sites c.args.s.now.vars c.args.f.now)) c.requires.prefixes
+returns-clause-count c = count-ends (graded_at c.args.s.now.sites c.args.s.now.vars c.args.f.now) (length c.args.s.now.vars) c.args.f.now
+    c.args.prefixes.now c.prefixes.p-index (omega arith) c.args.s.now.sites _ c.prefixes.count c.prefixes.invariant.count
+    ∙ ap (shared_count c.args.s.now.sites (graded_at c.args.s.now.sites c.args.s.now.vars c.args.f.now)) c.requires.prefixes
 
 pub returns-clause-within : goal.returns-clause-within
 returns-clause-within c = c.prefixes.invariant.within

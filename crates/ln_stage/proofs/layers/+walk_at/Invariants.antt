@@ -9,6 +9,7 @@ decreases-walk_at l = length l.vs.now
 
 abbrev pub invariant-exponents : goal.invariant-exponents
 invariant-exponents l = record {
-  all : see_all (length l.p) l.f l.tally (listed_degree_from l.f l.vs l.kept l.p l.d l.e).0 ≡ see_all (length l.p) l.f l.fn.tally (listed_degree l.f l.vs l.kept l.p l.d).0;
+  all : see_all (length l.p) l.f l.tally (listed_degree_from l.f l.vs l.kept l.p l.d l.e).0
+      ≡ see_all (length l.p) l.f l.fn.tally (listed_degree l.f l.vs l.kept l.p l.d).0;
   cut : (listed_degree_from l.f l.vs l.kept l.p l.d l.e).1 ≡ (listed_degree l.f l.vs l.kept l.p l.d).1;
 }

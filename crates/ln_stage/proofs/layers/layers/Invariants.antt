@@ -5,4 +5,5 @@ use Rattle.ln_stage.specs.Tally.{see_all}
 use Rattle.ln_stage.proofs.layers.layers.Given as goal
 
 abbrev pub invariant-degrees : goal.invariant-degrees
-invariant-degrees l = see_all (length l.p) l.f l.tally (listed_layers l.f l.vs l.kept l.p (largest_degree l.f l.vs l.kept + 1 - l.d) l.d).0 ≡ see_all (length l.p) l.f l.fn.tally (listed_graded l.f l.vs l.kept l.p).0
+invariant-degrees l = see_all (length l.p) l.f l.tally (listed_layers l.f l.vs l.kept l.p (largest_degree l.f l.vs l.kept + 1 - l.d) l.d).0
+    ≡ see_all (length l.p) l.f l.fn.tally (listed_graded l.f l.vs l.kept l.p).0

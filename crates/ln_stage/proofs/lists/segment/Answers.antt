@@ -7,7 +7,8 @@ use Rattle.ln_stage.proofs.lists.segment.Goals as goal
 
 pub visit-requires-clause-before : goal.visit-requires-clause-before
 visit-requires-clause-before c =
-    c.before-cut.ensures ∙ ap (λ n. cut_in c.args.cuts.now n) (ap length c.places-n.ensures.value) ∙ cut-of c.args.s.now.vars c.args.f.now (front_places c.args.p.now) c.args.cuts.now c.requires.cuts
+    c.before-cut.ensures ∙ ap (λ n. cut_in c.args.cuts.now n) (ap length c.places-n.ensures.value)
+    ∙ cut-of c.args.s.now.vars c.args.f.now (front_places c.args.p.now) c.args.cuts.now c.requires.cuts
 
 pub returns-clause-list : goal.returns-clause-list
 returns-clause-list c = c.take_list.ensures.list ∙ ap (λ (t : Tallied). t.list) c.in_ok-here.ensures.seen
@@ -19,6 +20,8 @@ pub returns-clause-cuts : goal.returns-clause-cuts
 returns-clause-cuts c =
     let p = front_places c.args.p.now in
     let six : length c.args.cuts.now ≡ 6 = search rules in
-    let all : AreCuts c.args.s.now.vars c.args.f.now (length (front_places c.args.p.now) + 1) (front_places c.args.p.now) (set c.args.cuts.now (length c.places-n.result.now) c.in_ok-here.here) =
-    subst (λ n. AreCuts c.args.s.now.vars c.args.f.now (length p + 1) p (set c.args.cuts.now n c.in_ok-here.here)) (sym (ap length c.places-n.ensures.value)) (cuts-more c.args.s.now.vars c.args.f.now p c.args.cuts.now c.in_ok-here.here six c.places-n.ensures.few c.requires.cuts c.in_ok-here.ensures.ok) in
+    let all : AreCuts c.args.s.now.vars c.args.f.now (length (front_places c.args.p.now) + 1) (front_places c.args.p.now)
+    (set c.args.cuts.now (length c.places-n.result.now) c.in_ok-here.here) =
+    subst (λ n. AreCuts c.args.s.now.vars c.args.f.now (length p + 1) p (set c.args.cuts.now n c.in_ok-here.here)) (sym (ap length c.places-n.ensures.value))
+    (cuts-more c.args.s.now.vars c.args.f.now p c.args.cuts.now c.in_ok-here.here six c.places-n.ensures.few c.requires.cuts c.in_ok-here.ensures.ok) in
     all

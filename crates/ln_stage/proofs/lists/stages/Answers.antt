@@ -19,7 +19,8 @@ returns-in_err-found-clause-err c =
     let below : AreBelow (length s.vars) c.terms-terms.result.now = rw f c.requires.below in
     let some : c.terms-terms.result.now ≡ [] → ⊥ = λ z. some-terms c.is_zero.result c.args.f.now c.if-is_zero.false c.is_zero.ensures (sym f ∙ z) in
     let p = err_from_is_err_and c.from_residual-in_err-found.result c.from_residual-in_err-found.ensures.1 in
-    rw (p.1, p.2, ← f) (stops s.sites s.vars c.terms-terms.result.now (kept s.sites s.vars s.kept).few_sites s.kept poly below c.args.most c.args.heavy c.in_err-found.field-0.0 some (rw c.new-tally.ensures at c.in_err-found.ensures.err))
+    rw (p.1, p.2, ← f) (stops s.sites s.vars c.terms-terms.result.now (kept s.sites s.vars s.kept).few_sites s.kept poly below c.args.most
+    c.args.heavy c.in_err-found.field-0.0 some (rw c.new-tally.ensures at c.in_err-found.ensures.err))
 
 pub all_prefixes-requires : goal.all_prefixes-requires
 all_prefixes-requires c = let s = c.args.s.now in (kept s.sites s.vars s.kept).few_sites
@@ -33,8 +34,11 @@ of-requires-clause-each c =
     let f = c.terms-terms.ensures.value in
     let poly : IsPoly c.terms-terms.result.now = rw f c.terms-terms.ensures.form in
     let below : AreBelow (length s.vars) c.terms-terms.result.now = rw f c.requires.below in
-    let segs = c.in_ok-found.ensures.segments ∙ ap (λ t. numbers_by (segment_at s.vars c.terms-terms.result.now) (length s.vars) c.terms-terms.result.now t (prefixes_of s.sites)) c.new-tally.ensures in
-    ap length segs ∙ by_lists.segments-size s.sites s.vars c.terms-terms.result.now (list_of s.vars c.terms-terms.result.now) (segment_at s.vars c.terms-terms.result.now) (by-prefixes s.sites s.vars c.terms-terms.result.now (kept s.sites s.vars s.kept).few_sites s.kept poly below) c.args.most c.args.heavy
+    let segs = c.in_ok-found.ensures.segments
+    ∙ ap (λ t. numbers_by (segment_at s.vars c.terms-terms.result.now) (length s.vars) c.terms-terms.result.now t (prefixes_of s.sites)) c.new-tally.ensures in
+    ap length segs
+    ∙ by_lists.segments-size s.sites s.vars c.terms-terms.result.now (list_of s.vars c.terms-terms.result.now) (segment_at s.vars c.terms-terms.result.now)
+    (by-prefixes s.sites s.vars c.terms-terms.result.now (kept s.sites s.vars s.kept).few_sites s.kept poly below) c.args.most c.args.heavy
 
 pub of-requires-clause-counted : goal.of-requires-clause-counted
 of-requires-clause-counted c =
@@ -42,8 +46,11 @@ of-requires-clause-counted c =
     let f = c.terms-terms.ensures.value in
     let poly : IsPoly c.terms-terms.result.now = rw f c.terms-terms.ensures.form in
     let below : AreBelow (length s.vars) c.terms-terms.result.now = rw f c.requires.below in
-    let segs = c.in_ok-found.ensures.segments ∙ ap (λ t. numbers_by (segment_at s.vars c.terms-terms.result.now) (length s.vars) c.terms-terms.result.now t (prefixes_of s.sites)) c.new-tally.ensures in
-    by_lists.counted-is s.sites s.vars c.terms-terms.result.now (list_of s.vars c.terms-terms.result.now) (segment_at s.vars c.terms-terms.result.now) (by-prefixes s.sites s.vars c.terms-terms.result.now (kept s.sites s.vars s.kept).few_sites s.kept poly below) c.args.most c.args.heavy c.in_ok-found.found.1 c.in_ok-found.found.0 (lists_in s.sites c.in_ok-found.found.0) segs refl c.in_ok-found.ensures.count
+    let segs = c.in_ok-found.ensures.segments
+    ∙ ap (λ t. numbers_by (segment_at s.vars c.terms-terms.result.now) (length s.vars) c.terms-terms.result.now t (prefixes_of s.sites)) c.new-tally.ensures in
+    by_lists.counted-is s.sites s.vars c.terms-terms.result.now (list_of s.vars c.terms-terms.result.now) (segment_at s.vars c.terms-terms.result.now)
+    (by-prefixes s.sites s.vars c.terms-terms.result.now (kept s.sites s.vars s.kept).few_sites s.kept poly below) c.args.most c.args.heavy
+    c.in_ok-found.found.1 c.in_ok-found.found.0 (lists_in s.sites c.in_ok-found.found.0) segs refl c.in_ok-found.ensures.count
 
 pub returns-clause-stages : goal.returns-clause-stages
 returns-clause-stages c =
@@ -51,9 +58,13 @@ returns-clause-stages c =
     let f = c.terms-terms.ensures.value in
     let poly : IsPoly c.terms-terms.result.now = rw f c.terms-terms.ensures.form in
     let below : AreBelow (length s.vars) c.terms-terms.result.now = rw f c.requires.below in
-    let segs = c.in_ok-found.ensures.segments ∙ ap (λ t. numbers_by (segment_at s.vars c.terms-terms.result.now) (length s.vars) c.terms-terms.result.now t (prefixes_of s.sites)) c.new-tally.ensures in
-    let tally = c.in_ok-found.ensures.rest ∙ ap (λ t. tallied_by (segment_at s.vars c.terms-terms.result.now) (length s.vars) c.terms-terms.result.now t (prefixes_of s.sites)) c.new-tally.ensures in
-    let q = by_lists.final-is s.sites s.vars c.terms-terms.result.now (list_of s.vars c.terms-terms.result.now) (segment_at s.vars c.terms-terms.result.now) (by-prefixes s.sites s.vars c.terms-terms.result.now (kept s.sites s.vars s.kept).few_sites s.kept poly below) c.args.most c.args.heavy c.of.result _ c.in_ok-found.found.0 (lists_in s.sites c.in_ok-found.found.0) c.listed.new.tally c.of.ensures c.into_blocks-blocks.ensures.blocks tally segs refl in
+    let segs = c.in_ok-found.ensures.segments
+    ∙ ap (λ t. numbers_by (segment_at s.vars c.terms-terms.result.now) (length s.vars) c.terms-terms.result.now t (prefixes_of s.sites)) c.new-tally.ensures in
+    let tally = c.in_ok-found.ensures.rest
+    ∙ ap (λ t. tallied_by (segment_at s.vars c.terms-terms.result.now) (length s.vars) c.terms-terms.result.now t (prefixes_of s.sites)) c.new-tally.ensures in
+    let q = by_lists.final-is s.sites s.vars c.terms-terms.result.now (list_of s.vars c.terms-terms.result.now) (segment_at s.vars c.terms-terms.result.now)
+    (by-prefixes s.sites s.vars c.terms-terms.result.now (kept s.sites s.vars s.kept).few_sites s.kept poly below) c.args.most c.args.heavy c.of.result
+    _ c.in_ok-found.found.0 (lists_in s.sites c.in_ok-found.found.0) c.listed.new.tally c.of.ensures c.into_blocks-blocks.ensures.blocks tally segs refl in
     rw (← f, q) (result-stages s.sites s.vars c.terms-terms.result.now (kept s.sites s.vars s.kept).few_sites s.kept poly below c.args.most c.args.heavy)
 
 pub returns-clause-count : goal.returns-clause-count
@@ -62,10 +73,16 @@ returns-clause-count c =
     let f = c.terms-terms.ensures.value in
     let poly : IsPoly c.terms-terms.result.now = rw f c.terms-terms.ensures.form in
     let below : AreBelow (length s.vars) c.terms-terms.result.now = rw f c.requires.below in
-    let segs = c.in_ok-found.ensures.segments ∙ ap (λ t. numbers_by (segment_at s.vars c.terms-terms.result.now) (length s.vars) c.terms-terms.result.now t (prefixes_of s.sites)) c.new-tally.ensures in
-    let tally = c.in_ok-found.ensures.rest ∙ ap (λ t. tallied_by (segment_at s.vars c.terms-terms.result.now) (length s.vars) c.terms-terms.result.now t (prefixes_of s.sites)) c.new-tally.ensures in
-    let q = by_lists.final-is s.sites s.vars c.terms-terms.result.now (list_of s.vars c.terms-terms.result.now) (segment_at s.vars c.terms-terms.result.now) (by-prefixes s.sites s.vars c.terms-terms.result.now (kept s.sites s.vars s.kept).few_sites s.kept poly below) c.args.most c.args.heavy c.of.result _ c.in_ok-found.found.0 (lists_in s.sites c.in_ok-found.found.0) c.listed.new.tally c.of.ensures c.into_blocks-blocks.ensures.blocks tally segs refl in
-    rw q (by_lists.final-count s.sites s.vars c.terms-terms.result.now (list_of s.vars c.terms-terms.result.now) (segment_at s.vars c.terms-terms.result.now) (by-prefixes s.sites s.vars c.terms-terms.result.now (kept s.sites s.vars s.kept).few_sites s.kept poly below) c.args.most c.args.heavy c.in_ok-found.found.1 c.in_ok-found.ensures.count c.in_ok-found.ensures.within)
+    let segs = c.in_ok-found.ensures.segments
+    ∙ ap (λ t. numbers_by (segment_at s.vars c.terms-terms.result.now) (length s.vars) c.terms-terms.result.now t (prefixes_of s.sites)) c.new-tally.ensures in
+    let tally = c.in_ok-found.ensures.rest
+    ∙ ap (λ t. tallied_by (segment_at s.vars c.terms-terms.result.now) (length s.vars) c.terms-terms.result.now t (prefixes_of s.sites)) c.new-tally.ensures in
+    let q = by_lists.final-is s.sites s.vars c.terms-terms.result.now (list_of s.vars c.terms-terms.result.now) (segment_at s.vars c.terms-terms.result.now)
+    (by-prefixes s.sites s.vars c.terms-terms.result.now (kept s.sites s.vars s.kept).few_sites s.kept poly below) c.args.most c.args.heavy c.of.result
+    _ c.in_ok-found.found.0 (lists_in s.sites c.in_ok-found.found.0) c.listed.new.tally c.of.ensures c.into_blocks-blocks.ensures.blocks tally segs refl in
+    rw q (by_lists.final-count s.sites s.vars c.terms-terms.result.now (list_of s.vars c.terms-terms.result.now) (segment_at s.vars c.terms-terms.result.now)
+    (by-prefixes s.sites s.vars c.terms-terms.result.now (kept s.sites s.vars s.kept).few_sites s.kept poly below) c.args.most c.args.heavy
+    c.in_ok-found.found.1 c.in_ok-found.ensures.count c.in_ok-found.ensures.within)
 
 pub returns-clause-weight : goal.returns-clause-weight
 returns-clause-weight c =
@@ -73,10 +90,18 @@ returns-clause-weight c =
     let f = c.terms-terms.ensures.value in
     let poly : IsPoly c.terms-terms.result.now = rw f c.terms-terms.ensures.form in
     let below : AreBelow (length s.vars) c.terms-terms.result.now = rw f c.requires.below in
-    let segs = c.in_ok-found.ensures.segments ∙ ap (λ t. numbers_by (segment_at s.vars c.terms-terms.result.now) (length s.vars) c.terms-terms.result.now t (prefixes_of s.sites)) c.new-tally.ensures in
-    let tally = c.in_ok-found.ensures.rest ∙ ap (λ t. tallied_by (segment_at s.vars c.terms-terms.result.now) (length s.vars) c.terms-terms.result.now t (prefixes_of s.sites)) c.new-tally.ensures in
-    let q = by_lists.final-is s.sites s.vars c.terms-terms.result.now (list_of s.vars c.terms-terms.result.now) (segment_at s.vars c.terms-terms.result.now) (by-prefixes s.sites s.vars c.terms-terms.result.now (kept s.sites s.vars s.kept).few_sites s.kept poly below) c.args.most c.args.heavy c.of.result _ c.in_ok-found.found.0 (lists_in s.sites c.in_ok-found.found.0) c.listed.new.tally c.of.ensures c.into_blocks-blocks.ensures.blocks tally segs refl in
-    rw (← f, q) (by_lists.final-weight s.sites s.vars c.terms-terms.result.now (list_of s.vars c.terms-terms.result.now) (segment_at s.vars c.terms-terms.result.now) (by-prefixes s.sites s.vars c.terms-terms.result.now (kept s.sites s.vars s.kept).few_sites s.kept poly below) c.args.most c.args.heavy (by_lists.weighed-is s.sites s.vars c.terms-terms.result.now (list_of s.vars c.terms-terms.result.now) (segment_at s.vars c.terms-terms.result.now) (by-prefixes s.sites s.vars c.terms-terms.result.now (kept s.sites s.vars s.kept).few_sites s.kept poly below) c.args.most c.args.heavy c.listed.new.tally tally c.into_blocks-blocks.ensures.within.1))
+    let segs = c.in_ok-found.ensures.segments
+    ∙ ap (λ t. numbers_by (segment_at s.vars c.terms-terms.result.now) (length s.vars) c.terms-terms.result.now t (prefixes_of s.sites)) c.new-tally.ensures in
+    let tally = c.in_ok-found.ensures.rest
+    ∙ ap (λ t. tallied_by (segment_at s.vars c.terms-terms.result.now) (length s.vars) c.terms-terms.result.now t (prefixes_of s.sites)) c.new-tally.ensures in
+    let q = by_lists.final-is s.sites s.vars c.terms-terms.result.now (list_of s.vars c.terms-terms.result.now) (segment_at s.vars c.terms-terms.result.now)
+    (by-prefixes s.sites s.vars c.terms-terms.result.now (kept s.sites s.vars s.kept).few_sites s.kept poly below) c.args.most c.args.heavy c.of.result
+    _ c.in_ok-found.found.0 (lists_in s.sites c.in_ok-found.found.0) c.listed.new.tally c.of.ensures c.into_blocks-blocks.ensures.blocks tally segs refl in
+    rw (← f, q) (by_lists.final-weight s.sites s.vars c.terms-terms.result.now (list_of s.vars c.terms-terms.result.now)
+    (segment_at s.vars c.terms-terms.result.now) (by-prefixes s.sites s.vars c.terms-terms.result.now (kept s.sites s.vars s.kept).few_sites s.kept poly below)
+    c.args.most c.args.heavy (by_lists.weighed-is s.sites s.vars c.terms-terms.result.now (list_of s.vars c.terms-terms.result.now)
+    (segment_at s.vars c.terms-terms.result.now) (by-prefixes s.sites s.vars c.terms-terms.result.now (kept s.sites s.vars s.kept).few_sites s.kept poly below)
+    c.args.most c.args.heavy c.listed.new.tally tally c.into_blocks-blocks.ensures.within.1))
 
 pub returns-clause-some : goal.returns-clause-some
 returns-clause-some c = λ z. some-terms c.is_zero.result c.args.f.now c.if-is_zero.false c.is_zero.ensures z

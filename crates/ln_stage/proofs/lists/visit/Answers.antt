@@ -17,7 +17,8 @@ pub returns-then-cut-clause-ok : goal.returns-then-cut-clause-ok
 returns-then-cut-clause-ok c = sym (nothing-behind c.args.s.now.vars c.args.f.now (front_places c.args.p.now) (sym c.requires.before ∙ c.if-cut.true)).1
 
 pub returns-then-cut-clause-seen : goal.returns-then-cut-clause-seen
-returns-then-cut-clause-seen c = ap (see_all (length c.args.s.now.vars) c.args.f.now c.args.tally.now) (sym (nothing-behind c.args.s.now.vars c.args.f.now (front_places c.args.p.now) (sym c.requires.before ∙ c.if-cut.true)).0)
+returns-then-cut-clause-seen c = ap (see_all (length c.args.s.now.vars) c.args.f.now c.args.tally.now)
+    (sym (nothing-behind c.args.s.now.vars c.args.f.now (front_places c.args.p.now) (sym c.requires.before ∙ c.if-cut.true)).0)
 
 pub walk-requires-clause-step : goal.walk-requires-clause-step
 walk-requires-clause-step c =
@@ -26,9 +27,12 @@ walk-requires-clause-step c =
     let p : List ℕ = front_places c.args.p.now in
     let v : c.as_slice.result.now ≡ ranking_of s.vars (front_places c.args.p.now) = c.as_slice.ensures ∙ c.in_ok-vars.ensures in
     let k : c.as_slice-then-is_empty.result.now ≡ range_with_len 0 (length f) = c.as_slice-then-is_empty.ensures.value ∙ c.in_ok-kept.ensures in
-    let z : c.as_slice-then-is_empty-2.result.now ≡ zeros (length s.vars) = c.as_slice-then-is_empty-2.ensures.value ∙ c.in_ok-start.ensures ∙ ap (λ n. replicate n 0) c.len.ensures ∙ zeros-replicate (length s.vars) in
-    let r : AreFresh (length s.vars) c.as_slice.result.now = subst (AreFresh (length s.vars)) (sym v) (fresh-front s.vars f s.sites (front_places c.args.p.now) s.kept c.requires.prefix) in
-    start-step f (length s.vars) c.as_slice.result.now c.as_slice-then-is_empty.result.now c.as_slice-then-is_empty-2.result.now c.requires.below c.requires.rising c.requires.some r k z
+    let z : c.as_slice-then-is_empty-2.result.now ≡ zeros (length s.vars) =
+    c.as_slice-then-is_empty-2.ensures.value ∙ c.in_ok-start.ensures ∙ ap (λ n. replicate n 0) c.len.ensures ∙ zeros-replicate (length s.vars) in
+    let r : AreFresh (length s.vars) c.as_slice.result.now =
+    subst (AreFresh (length s.vars)) (sym v) (fresh-front s.vars f s.sites (front_places c.args.p.now) s.kept c.requires.prefix) in
+    start-step f (length s.vars) c.as_slice.result.now c.as_slice-then-is_empty.result.now c.as_slice-then-is_empty-2.result.now
+    c.requires.below c.requires.rising c.requires.some r k z
 
 pub walk-requires-clause-few : goal.walk-requires-clause-few
 walk-requires-clause-few c =
@@ -37,7 +41,8 @@ walk-requires-clause-few c =
     let p : List ℕ = front_places c.args.p.now in
     let v : c.as_slice.result.now ≡ ranking_of s.vars (front_places c.args.p.now) = c.as_slice.ensures ∙ c.in_ok-vars.ensures in
     let k : c.as_slice-then-is_empty.result.now ≡ range_with_len 0 (length f) = c.as_slice-then-is_empty.ensures.value ∙ c.in_ok-kept.ensures in
-    let z : c.as_slice-then-is_empty-2.result.now ≡ zeros (length s.vars) = c.as_slice-then-is_empty-2.ensures.value ∙ c.in_ok-start.ensures ∙ ap (λ n. replicate n 0) c.len.ensures ∙ zeros-replicate (length s.vars) in
+    let z : c.as_slice-then-is_empty-2.result.now ≡ zeros (length s.vars) =
+    c.as_slice-then-is_empty-2.ensures.value ∙ c.in_ok-start.ensures ∙ ap (λ n. replicate n 0) c.len.ensures ∙ zeros-replicate (length s.vars) in
     omega (arith, ap length z, length-zeros (length s.vars), (kept s.sites s.vars s.kept).few_vars)
 
 pub returns-then-is_empty-clause-ok : goal.returns-then-is_empty-clause-ok
@@ -47,8 +52,11 @@ returns-then-is_empty-clause-ok c =
     let p : List ℕ = front_places c.args.p.now in
     let v : c.as_slice.result.now ≡ ranking_of s.vars (front_places c.args.p.now) = c.as_slice.ensures ∙ c.in_ok-vars.ensures in
     let k : c.as_slice-then-is_empty.result.now ≡ range_with_len 0 (length f) = c.as_slice-then-is_empty.ensures.value ∙ c.in_ok-kept.ensures in
-    let z : c.as_slice-then-is_empty-2.result.now ≡ zeros (length s.vars) = c.as_slice-then-is_empty-2.ensures.value ∙ c.in_ok-start.ensures ∙ ap (λ n. replicate n 0) c.len.ensures ∙ zeros-replicate (length s.vars) in
-    subst (λ z. IfOk c.walk.result (λ b. b ≡ z)) (cut-first s.vars f (front_places c.args.p.now) c.as_slice.result.now c.as_slice-then-is_empty.result.now c.as_slice-then-is_empty-2.result.now c.places-sites.result.now c.args.tally.now v k z c.places-sites.ensures.value (none-length _ c.if-is_empty.ensures)) c.walk.ensures.ok
+    let z : c.as_slice-then-is_empty-2.result.now ≡ zeros (length s.vars) =
+    c.as_slice-then-is_empty-2.ensures.value ∙ c.in_ok-start.ensures ∙ ap (λ n. replicate n 0) c.len.ensures ∙ zeros-replicate (length s.vars) in
+    subst (λ z. IfOk c.walk.result (λ b. b ≡ z))
+    (cut-first s.vars f (front_places c.args.p.now) c.as_slice.result.now c.as_slice-then-is_empty.result.now c.as_slice-then-is_empty-2.result.now
+    c.places-sites.result.now c.args.tally.now v k z c.places-sites.ensures.value (none-length _ c.if-is_empty.ensures)) c.walk.ensures.ok
 
 pub returns-then-is_empty-clause-seen : goal.returns-then-is_empty-clause-seen
 returns-then-is_empty-clause-seen c =
@@ -57,8 +65,11 @@ returns-then-is_empty-clause-seen c =
     let p : List ℕ = front_places c.args.p.now in
     let v : c.as_slice.result.now ≡ ranking_of s.vars (front_places c.args.p.now) = c.as_slice.ensures ∙ c.in_ok-vars.ensures in
     let k : c.as_slice-then-is_empty.result.now ≡ range_with_len 0 (length f) = c.as_slice-then-is_empty.ensures.value ∙ c.in_ok-kept.ensures in
-    let z : c.as_slice-then-is_empty-2.result.now ≡ zeros (length s.vars) = c.as_slice-then-is_empty-2.ensures.value ∙ c.in_ok-start.ensures ∙ ap (λ n. replicate n 0) c.len.ensures ∙ zeros-replicate (length s.vars) in
-    subst (λ (u : Tallied). OnOk c.walk.result (c.walk.new.tally ≡ u)) (seen-first s.vars f (front_places c.args.p.now) c.as_slice.result.now c.as_slice-then-is_empty.result.now c.as_slice-then-is_empty-2.result.now c.places-sites.result.now c.args.tally.now v k z c.places-sites.ensures.value (none-length _ c.if-is_empty.ensures)) c.walk.ensures.seen
+    let z : c.as_slice-then-is_empty-2.result.now ≡ zeros (length s.vars) =
+    c.as_slice-then-is_empty-2.ensures.value ∙ c.in_ok-start.ensures ∙ ap (λ n. replicate n 0) c.len.ensures ∙ zeros-replicate (length s.vars) in
+    subst (λ (u : Tallied). OnOk c.walk.result (c.walk.new.tally ≡ u))
+    (seen-first s.vars f (front_places c.args.p.now) c.as_slice.result.now c.as_slice-then-is_empty.result.now c.as_slice-then-is_empty-2.result.now
+    c.places-sites.result.now c.args.tally.now v k z c.places-sites.ensures.value (none-length _ c.if-is_empty.ensures)) c.walk.ensures.seen
 
 pub returns-then-is_empty-clause-err : goal.returns-then-is_empty-clause-err
 returns-then-is_empty-clause-err c =
@@ -67,8 +78,11 @@ returns-then-is_empty-clause-err c =
     let p : List ℕ = front_places c.args.p.now in
     let v : c.as_slice.result.now ≡ ranking_of s.vars (front_places c.args.p.now) = c.as_slice.ensures ∙ c.in_ok-vars.ensures in
     let k : c.as_slice-then-is_empty.result.now ≡ range_with_len 0 (length f) = c.as_slice-then-is_empty.ensures.value ∙ c.in_ok-kept.ensures in
-    let z : c.as_slice-then-is_empty-2.result.now ≡ zeros (length s.vars) = c.as_slice-then-is_empty-2.ensures.value ∙ c.in_ok-start.ensures ∙ ap (λ n. replicate n 0) c.len.ensures ∙ zeros-replicate (length s.vars) in
-    subst (λ (u : Tallied). IfErr c.walk.result (λ e. IsStoppedBy e (IsOver u))) (seen-first s.vars f (front_places c.args.p.now) c.as_slice.result.now c.as_slice-then-is_empty.result.now c.as_slice-then-is_empty-2.result.now c.places-sites.result.now c.args.tally.now v k z c.places-sites.ensures.value (none-length _ c.if-is_empty.ensures)) c.walk.ensures.err
+    let z : c.as_slice-then-is_empty-2.result.now ≡ zeros (length s.vars) =
+    c.as_slice-then-is_empty-2.ensures.value ∙ c.in_ok-start.ensures ∙ ap (λ n. replicate n 0) c.len.ensures ∙ zeros-replicate (length s.vars) in
+    subst (λ (u : Tallied). IfErr c.walk.result (λ e. IsStoppedBy e (IsOver u)))
+    (seen-first s.vars f (front_places c.args.p.now) c.as_slice.result.now c.as_slice-then-is_empty.result.now c.as_slice-then-is_empty-2.result.now
+    c.places-sites.result.now c.args.tally.now v k z c.places-sites.ensures.value (none-length _ c.if-is_empty.ensures)) c.walk.ensures.err
 
 pub walk_site-requires-clause-step : goal.walk_site-requires-clause-step
 walk_site-requires-clause-step c =
@@ -77,9 +91,12 @@ walk_site-requires-clause-step c =
     let p : List ℕ = front_places c.args.p.now in
     let v : c.as_slice-2.result.now ≡ ranking_of s.vars (front_places c.args.p.now) = c.as_slice-2.ensures ∙ c.in_ok-vars.ensures in
     let k : c.as_slice-3.result.now ≡ range_with_len 0 (length f) = c.as_slice-3.ensures.value ∙ c.in_ok-kept.ensures in
-    let z : c.as_slice-4.result.now ≡ zeros (length s.vars) = c.as_slice-4.ensures.value ∙ c.in_ok-start.ensures ∙ ap (λ n. replicate n 0) c.len.ensures ∙ zeros-replicate (length s.vars) in
-    let r : AreFresh (length s.vars) c.as_slice-2.result.now = subst (AreFresh (length s.vars)) (sym v) (fresh-front s.vars f s.sites (front_places c.args.p.now) s.kept c.requires.prefix) in
-    start-step f (length s.vars) c.as_slice-2.result.now c.as_slice-3.result.now c.as_slice-4.result.now c.requires.below c.requires.rising c.requires.some r k z
+    let z : c.as_slice-4.result.now ≡ zeros (length s.vars) =
+    c.as_slice-4.ensures.value ∙ c.in_ok-start.ensures ∙ ap (λ n. replicate n 0) c.len.ensures ∙ zeros-replicate (length s.vars) in
+    let r : AreFresh (length s.vars) c.as_slice-2.result.now =
+    subst (AreFresh (length s.vars)) (sym v) (fresh-front s.vars f s.sites (front_places c.args.p.now) s.kept c.requires.prefix) in
+    start-step f (length s.vars) c.as_slice-2.result.now c.as_slice-3.result.now c.as_slice-4.result.now c.requires.below
+    c.requires.rising c.requires.some r k z
 
 pub walk_site-requires-clause-few : goal.walk_site-requires-clause-few
 walk_site-requires-clause-few c =
@@ -88,7 +105,8 @@ walk_site-requires-clause-few c =
     let p : List ℕ = front_places c.args.p.now in
     let v : c.as_slice-2.result.now ≡ ranking_of s.vars (front_places c.args.p.now) = c.as_slice-2.ensures ∙ c.in_ok-vars.ensures in
     let k : c.as_slice-3.result.now ≡ range_with_len 0 (length f) = c.as_slice-3.ensures.value ∙ c.in_ok-kept.ensures in
-    let z : c.as_slice-4.result.now ≡ zeros (length s.vars) = c.as_slice-4.ensures.value ∙ c.in_ok-start.ensures ∙ ap (λ n. replicate n 0) c.len.ensures ∙ zeros-replicate (length s.vars) in
+    let z : c.as_slice-4.result.now ≡ zeros (length s.vars) =
+    c.as_slice-4.ensures.value ∙ c.in_ok-start.ensures ∙ ap (λ n. replicate n 0) c.len.ensures ∙ zeros-replicate (length s.vars) in
     omega (arith, ap length z, length-zeros (length s.vars), (kept s.sites s.vars s.kept).few_vars)
 
 pub walk_site-requires-clause-within : goal.walk_site-requires-clause-within
@@ -98,8 +116,11 @@ walk_site-requires-clause-within c =
     let p : List ℕ = front_places c.args.p.now in
     let v : c.as_slice-2.result.now ≡ ranking_of s.vars (front_places c.args.p.now) = c.as_slice-2.ensures ∙ c.in_ok-vars.ensures in
     let k : c.as_slice-3.result.now ≡ range_with_len 0 (length f) = c.as_slice-3.ensures.value ∙ c.in_ok-kept.ensures in
-    let z : c.as_slice-4.result.now ≡ zeros (length s.vars) = c.as_slice-4.ensures.value ∙ c.in_ok-start.ensures ∙ ap (λ n. replicate n 0) c.len.ensures ∙ zeros-replicate (length s.vars) in
-    last-within s.vars f (front_places c.args.p.now) c.as_slice-2.result.now c.as_slice-3.result.now c.as_slice-4.result.now c.places-sites.result.now c.args.tally.now v k z c.places-sites.ensures.value c.in_ok-last.last c.len-2.result (some-length _ c.if-is_empty.ensures) c.in_ok-last.ensures (sym c.requires.before ∙ c.if-cut.false) c.len-2.ensures
+    let z : c.as_slice-4.result.now ≡ zeros (length s.vars) =
+    c.as_slice-4.ensures.value ∙ c.in_ok-start.ensures ∙ ap (λ n. replicate n 0) c.len.ensures ∙ zeros-replicate (length s.vars) in
+    last-within s.vars f (front_places c.args.p.now) c.as_slice-2.result.now c.as_slice-3.result.now c.as_slice-4.result.now
+    c.places-sites.result.now c.args.tally.now v k z c.places-sites.ensures.value c.in_ok-last.last c.len-2.result
+    (some-length _ c.if-is_empty.ensures) c.in_ok-last.ensures (sym c.requires.before ∙ c.if-cut.false) c.len-2.ensures
 
 pub returns-clause-ok : goal.returns-clause-ok
 returns-clause-ok c =
@@ -108,8 +129,11 @@ returns-clause-ok c =
     let p : List ℕ = front_places c.args.p.now in
     let v : c.as_slice-2.result.now ≡ ranking_of s.vars (front_places c.args.p.now) = c.as_slice-2.ensures ∙ c.in_ok-vars.ensures in
     let k : c.as_slice-3.result.now ≡ range_with_len 0 (length f) = c.as_slice-3.ensures.value ∙ c.in_ok-kept.ensures in
-    let z : c.as_slice-4.result.now ≡ zeros (length s.vars) = c.as_slice-4.ensures.value ∙ c.in_ok-start.ensures ∙ ap (λ n. replicate n 0) c.len.ensures ∙ zeros-replicate (length s.vars) in
-    subst (λ z. IfOk c.walk_site.result (λ b. b ≡ z)) (cut-last s.vars f (front_places c.args.p.now) c.as_slice-2.result.now c.as_slice-3.result.now c.as_slice-4.result.now c.places-sites.result.now c.args.tally.now v k z c.places-sites.ensures.value c.in_ok-last.last c.len-2.result (some-length _ c.if-is_empty.ensures) c.in_ok-last.ensures (sym c.requires.before ∙ c.if-cut.false) c.len-2.ensures) c.walk_site.ensures.ok
+    let z : c.as_slice-4.result.now ≡ zeros (length s.vars) =
+    c.as_slice-4.ensures.value ∙ c.in_ok-start.ensures ∙ ap (λ n. replicate n 0) c.len.ensures ∙ zeros-replicate (length s.vars) in
+    subst (λ z. IfOk c.walk_site.result (λ b. b ≡ z)) (cut-last s.vars f (front_places c.args.p.now) c.as_slice-2.result.now c.as_slice-3.result.now
+    c.as_slice-4.result.now c.places-sites.result.now c.args.tally.now v k z c.places-sites.ensures.value c.in_ok-last.last c.len-2.result
+    (some-length _ c.if-is_empty.ensures) c.in_ok-last.ensures (sym c.requires.before ∙ c.if-cut.false) c.len-2.ensures) c.walk_site.ensures.ok
 
 pub returns-clause-seen : goal.returns-clause-seen
 returns-clause-seen c =
@@ -118,8 +142,12 @@ returns-clause-seen c =
     let p : List ℕ = front_places c.args.p.now in
     let v : c.as_slice-2.result.now ≡ ranking_of s.vars (front_places c.args.p.now) = c.as_slice-2.ensures ∙ c.in_ok-vars.ensures in
     let k : c.as_slice-3.result.now ≡ range_with_len 0 (length f) = c.as_slice-3.ensures.value ∙ c.in_ok-kept.ensures in
-    let z : c.as_slice-4.result.now ≡ zeros (length s.vars) = c.as_slice-4.ensures.value ∙ c.in_ok-start.ensures ∙ ap (λ n. replicate n 0) c.len.ensures ∙ zeros-replicate (length s.vars) in
-    subst (λ (u : Tallied). OnOk c.walk_site.result (c.walk_site.new.tally ≡ u)) (seen-last s.vars f (front_places c.args.p.now) c.as_slice-2.result.now c.as_slice-3.result.now c.as_slice-4.result.now c.places-sites.result.now c.args.tally.now v k z c.places-sites.ensures.value c.in_ok-last.last c.len-2.result (some-length _ c.if-is_empty.ensures) c.in_ok-last.ensures (sym c.requires.before ∙ c.if-cut.false) c.len-2.ensures) c.walk_site.ensures.seen
+    let z : c.as_slice-4.result.now ≡ zeros (length s.vars) =
+    c.as_slice-4.ensures.value ∙ c.in_ok-start.ensures ∙ ap (λ n. replicate n 0) c.len.ensures ∙ zeros-replicate (length s.vars) in
+    subst (λ (u : Tallied). OnOk c.walk_site.result (c.walk_site.new.tally ≡ u))
+    (seen-last s.vars f (front_places c.args.p.now) c.as_slice-2.result.now c.as_slice-3.result.now c.as_slice-4.result.now
+    c.places-sites.result.now c.args.tally.now v k z c.places-sites.ensures.value c.in_ok-last.last c.len-2.result
+    (some-length _ c.if-is_empty.ensures) c.in_ok-last.ensures (sym c.requires.before ∙ c.if-cut.false) c.len-2.ensures) c.walk_site.ensures.seen
 
 pub returns-clause-err : goal.returns-clause-err
 returns-clause-err c =
@@ -128,5 +156,9 @@ returns-clause-err c =
     let p : List ℕ = front_places c.args.p.now in
     let v : c.as_slice-2.result.now ≡ ranking_of s.vars (front_places c.args.p.now) = c.as_slice-2.ensures ∙ c.in_ok-vars.ensures in
     let k : c.as_slice-3.result.now ≡ range_with_len 0 (length f) = c.as_slice-3.ensures.value ∙ c.in_ok-kept.ensures in
-    let z : c.as_slice-4.result.now ≡ zeros (length s.vars) = c.as_slice-4.ensures.value ∙ c.in_ok-start.ensures ∙ ap (λ n. replicate n 0) c.len.ensures ∙ zeros-replicate (length s.vars) in
-    subst (λ (u : Tallied). IfErr c.walk_site.result (λ e. IsStoppedBy e (IsOver u))) (seen-last s.vars f (front_places c.args.p.now) c.as_slice-2.result.now c.as_slice-3.result.now c.as_slice-4.result.now c.places-sites.result.now c.args.tally.now v k z c.places-sites.ensures.value c.in_ok-last.last c.len-2.result (some-length _ c.if-is_empty.ensures) c.in_ok-last.ensures (sym c.requires.before ∙ c.if-cut.false) c.len-2.ensures) c.walk_site.ensures.err
+    let z : c.as_slice-4.result.now ≡ zeros (length s.vars) =
+    c.as_slice-4.ensures.value ∙ c.in_ok-start.ensures ∙ ap (λ n. replicate n 0) c.len.ensures ∙ zeros-replicate (length s.vars) in
+    subst (λ (u : Tallied). IfErr c.walk_site.result (λ e. IsStoppedBy e (IsOver u)))
+    (seen-last s.vars f (front_places c.args.p.now) c.as_slice-2.result.now c.as_slice-3.result.now c.as_slice-4.result.now
+    c.places-sites.result.now c.args.tally.now v k z c.places-sites.ensures.value c.in_ok-last.last c.len-2.result
+    (some-length _ c.if-is_empty.ensures) c.in_ok-last.ensures (sym c.requires.before ∙ c.if-cut.false) c.len-2.ensures) c.walk_site.ensures.err

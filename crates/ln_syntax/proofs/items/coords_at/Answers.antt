@@ -27,4 +27,5 @@ coords-smaller c =
     omega arith
 
 pub coords-preserved : goal.coords-preserved
-coords-preserved c = rw c.in_ok-push.ensures.items (coord_more c.coords.invariant (c.is.ensures.0 c.coords-test.true) c.span_of-name.ensures c.range_at-range.ensures)
+coords-preserved c = rw c.in_ok-push.ensures.items
+    (coord_more c.coords.invariant (c.is.ensures.0 c.coords-test.true) c.span_of-name.ensures c.range_at-range.ensures)

@@ -29,7 +29,8 @@ lets-smaller c =
     omega arith
 
 pub lets-preserved : goal.lets-preserved
-lets-preserved c = rw c.in_ok-push.ensures.items (let_more c.lets.invariant (c.is.ensures.0 c.lets-test.true) c.span_of-name.ensures c.expression_end-to.ensures.expression c.expression_end-to.ensures.stops)
+lets-preserved c = rw c.in_ok-push.ensures.items (let_more c.lets.invariant
+    (c.is.ensures.0 c.lets-test.true) c.span_of-name.ensures c.expression_end-to.ensures.expression c.expression_end-to.ensures.stops)
 
 pub expression_end-to-requires-clause-there : goal.expression_end-to-requires-clause-there
 expression_end-to-requires-clause-there c = let_expr c.lets.invariant.rest (c.is.ensures.0 c.lets-test.true)

@@ -21,7 +21,8 @@ overflow_add-from c =
 
 pub expression_end-to-requires-clause-there : goal.expression_end-to-requires-clause-there
 expression_end-to-requires-clause-there c =
-    pred_expr c.requires.there c.requires.no_site c.requires.no_param c.in_ok-args.ensures.ok c.in_ok-args.ensures.stops c.in_ok-lets.ensures.ok c.in_ok-lets.ensures.stops
+    pred_expr c.requires.there c.requires.no_site c.requires.no_param c.in_ok-args.ensures.ok c.in_ok-args.ensures.stops
+    c.in_ok-lets.ensures.ok c.in_ok-lets.ensures.stops
 
 pub overflow_add-result : goal.overflow_add-result
 overflow_add-result c =
@@ -30,5 +31,6 @@ overflow_add-result c =
 
 pub returns : goal.returns
 returns c =
-    pred_read c.requires.there c.requires.no_site c.requires.no_param c.span_of-name.ensures c.in_ok-args.ensures.ok c.in_ok-args.ensures.stops c.in_ok-lets.ensures.ok c.in_ok-lets.ensures.stops
+    pred_read c.requires.there c.requires.no_site c.requires.no_param c.span_of-name.ensures c.in_ok-args.ensures.ok
+    c.in_ok-args.ensures.stops c.in_ok-lets.ensures.ok c.in_ok-lets.ensures.stops
     c.expression_end-to.ensures.expression c.expression_end-to.ensures.stops

@@ -4,11 +4,13 @@ use Rattle.ln_syntax.proofs.place.syntax_fault.Goals as goal
 
 pub returns-in_default-clause-some : goal.returns-in_default-clause-some
 returns-in_default-clause-some c =
-    fault_at c.args.ts.now c.tokens.i _ c.tokens.state c.tokens.depth c.tokens-test.true c.tokens.invariant.walked (is_at c.args.ts.now c.tokens.i _ c.tokens-test.true) (sym c.next.ensures.step ∙ c.in_default.is)
+    fault_at c.args.ts.now c.tokens.i _ c.tokens.state c.tokens.depth c.tokens-test.true c.tokens.invariant.walked
+    (is_at c.args.ts.now c.tokens.i _ c.tokens-test.true) (sym c.next.ensures.step ∙ c.in_default.is)
 
 pub tokens-preserved : goal.tokens-preserved
 tokens-preserved c = record {
-  walked = walked_more c.args.ts.now c.tokens.i _ c.tokens.state c.in-Some.after c.tokens.depth c.in-Some.open c.tokens.invariant.walked (is_at c.args.ts.now c.tokens.i _ c.tokens-test.true) (sym c.next.ensures.step ∙ c.in-Some.is);
+  walked = walked_more c.args.ts.now c.tokens.i _ c.tokens.state c.in-Some.after c.tokens.depth c.in-Some.open c.tokens.invariant.walked
+      (is_at c.args.ts.now c.tokens.i _ c.tokens-test.true) (sym c.next.ensures.step ∙ c.in-Some.is);
   shallow = let h = c.in-Some.ensures.shallow in omega arith;
 }
 

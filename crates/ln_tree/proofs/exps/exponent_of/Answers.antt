@@ -9,4 +9,9 @@ pub returns-then-p-v-clause-small : goal.returns-then-p-v-clause-small
 returns-then-p-v-clause-small c = small-at _ _ c.requires (omega arith)
 
 pub pairs-preserved : goal.pairs-preserved
-pairs-preserved c = omega (arith, c.pairs.invariant, exponent-more c.args.v c.args.pairs.now c.pairs.p-index (omega arith), power-apart c.args.v (get_or c.args.pairs.now c.pairs.p-index (0, 0)) c.if-p-v.false)
+pairs-preserved c = omega (
+  arith,
+  c.pairs.invariant,
+  exponent-more c.args.v c.args.pairs.now c.pairs.p-index (omega arith),
+  power-apart c.args.v (get_or c.args.pairs.now c.pairs.p-index (0, 0)) c.if-p-v.false,
+)

@@ -21,7 +21,8 @@ same_width : (a b : Fitted) → typed a ≡ typed b → a.width ≡ b.width
 same_width a b e = sym (width_typed a) ∙ ap width e ∙ width_typed b
 
 pub returns-then-not-is_same_width : goal.returns-then-not-is_same_width
-returns-then-not-is_same_width t c = (λ h. cc, λ e. let f = c.is_same_width.ensures.1 (same_width c.args.self.now c.args.other.now e) in subst (λ b. IsTrue b) c.if-not-is_same_width.true f)
+returns-then-not-is_same_width t c =
+    (λ h. cc, λ e. let f = c.is_same_width.ensures.1 (same_width c.args.self.now c.args.other.now e) in subst (λ b. IsTrue b) c.if-not-is_same_width.true f)
 
 pub returns-then-self-other : goal.returns-then-self-other
 returns-then-self-other t c = (λ h. cc, λ e. let f = same_low c.args.self.now c.args.other.now e in absurd (c.if-self-other.true (rw f refl)))

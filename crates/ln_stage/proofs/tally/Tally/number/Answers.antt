@@ -8,10 +8,12 @@ pub returns-in-Some-clause-blocks : goal.returns-in-Some-clause-blocks
 returns-in-Some-clause-blocks c = numbered-known _ _ c.args.cover c.args.a c.in-Some.i c.self.view_is (sym c.in-Some.ensures.index)
 
 pub returns-then-cover-self-clause-err : goal.returns-then-cover-self-clause-err
-returns-then-cover-self-clause-err c = over-new _ _ c.args.cover c.args.a c.self.view_is (sym c.get_index_of.ensures.index ∙ c.in_default.is) (let w = c.self.invariant.weighed in omega (arith, w, c.if-cover-self.true))
+returns-then-cover-self-clause-err c = over-new _ _ c.args.cover c.args.a c.self.view_is (sym c.get_index_of.ensures.index ∙ c.in_default.is)
+    (let w = c.self.invariant.weighed in omega (arith, w, c.if-cover-self.true))
 
 pub returns-clause-blocks : goal.returns-clause-blocks
 returns-clause-blocks c =
     let es = c.self.inside.blocks.entries in
     let k : c.insert_full.new.self.entries ≡ insert_entry same_pairs es c.args.a tt = c.in_ok-i.ensures.entries in
-    numbered-new _ _ c.args.cover c.args.a (map (λ e. e.0) c.insert_full.new.self.entries) c.self.view_is (ap (λ z. map (λ e. e.0) z) k ∙ keys-insert es c.args.a tt) (sym c.get_index_of.ensures.index ∙ c.in_default.is)
+    numbered-new _ _ c.args.cover c.args.a (map (λ e. e.0) c.insert_full.new.self.entries) c.self.view_is
+    (ap (λ z. map (λ e. e.0) z) k ∙ keys-insert es c.args.a tt) (sym c.get_index_of.ensures.index ∙ c.in_default.is)
