@@ -1,5 +1,5 @@
 -- The processor, which checks nothing: its operands fit the width of the operation, a local that was never set has some value,
--- and the stack has so many places.
+-- and the stack has n places.
 use Rattle.std.specs.Prelude.{ℕ, ◌==◌, ◌&&◌, nat_le, ℤ, neg_ℤ, List, Some, slice_get, if◌then◌else◌}
 use Rattle.ln_code.specs.Engine.{Engine, when}
 use Rattle.ln_code.specs.Numbers.{result_of, cut_by, fits}

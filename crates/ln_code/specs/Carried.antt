@@ -14,7 +14,7 @@ use Rattle.ln_code.specs.Lists.{IsListOf}
 use Rattle.ln_code.specs.Part.{Code, FilterCode, Part, filter_known_of, known_of}
 use Rattle.ln_code.specs.Rules.{Known}
 
--- what the machine needs to answer on every row in range: blocks and filter follow the rules, each prefix of orders of the sites
+-- what the machine needs to return a verdict on every row in range: blocks and filter follow the rules, each prefix of orders of the sites
 -- has a segment, and segments name blocks that are there
 pub record Runs (p : Part) : Type 0 where
   pub blocks : All (FollowsRules p.shape.vars) p.blocks

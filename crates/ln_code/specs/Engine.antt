@@ -7,7 +7,7 @@ use Rattle.ln_bound.specs.declared.fitted.Two.TheVariants.{Plus, Minus, Times}
 use Rattle.ln_code.specs.declared.op.Op.{Op}
 use Rattle.ln_code.specs.declared.op.Op.TheVariants.{Push, Input, Get, Set, Add, Sub, Mul, Neg, Cut}
 
--- what a machine does with its values V, its locals L and the bounds B of its operations. None: it has no answer
+-- what a machine does with its values V, its locals L and the bounds B of its operations. None: it has no result
 pub record Engine (B V L : Type 0) : Type 0 where
   pub push : ℤ → B → Option V
   pub input : ℕ → B → Option V
@@ -19,7 +19,7 @@ pub record Engine (B V L : Type 0) : Type 0 where
   pub put : L → ℕ → V → L
   pub room : ℕ → Bool
 
--- the stack, whose last value stands first, and the locals
+-- the stack, whose last value is first, and the locals
 pub record State (V L : Type 0) : Type 0 where
   pub stack : List V
   pub locals : L
@@ -43,7 +43,7 @@ next (Some a) f = f a
 abbrev pub pushed : {B V L : Type 0} → Engine B V L → L → List V → V → Option (State V L)
 pushed e l rest v = when (e.room (suc (length rest))) (record { stack = v ∷ rest; locals = l })
 
--- a value is taken off the stack, and what comes of it is pushed
+-- a value is taken off the stack, and the result is pushed
 abbrev pub with_one : {B V L : Type 0} → Engine B V L → (V → Option V) → L → List V → Option (State V L)
 with_one e f l [] = None
 with_one e f l (x ∷ rest) = next (f x) (pushed e l rest)
@@ -82,6 +82,6 @@ only [] = None
 only (x ∷ []) = Some x
 only (x ∷ (y ∷ rest)) = None
 
--- from an empty stack to the one value that is left
+-- from an empty stack to the one remaining value
 abbrev pub answer : {B V L : Type 0} → Engine B V L → L → List (Line B) → Option V
 answer e l lines = next (run e lines (record { stack = []; locals = l })) (λ s. only s.stack)

@@ -1,5 +1,5 @@
--- What a block and a filter mean: the machine over whole numbers that have no greatest value. It has no answer where a value is
--- outside its operation's range, in a filter above its bound, or leaves its width.
+-- What a block and a filter mean: the machine over unbounded integers. It has no result where a value is outside its
+-- operation's range, in a filter above its bound, or leaves its width.
 use Rattle.std.specs.Prelude.{ℕ, ◌&&◌, nat_le, true, ℤ, neg_ℤ, unsigned_abs, List, Option, None, slice_get}
 use Rattle.ln_interval.specs.Range.{Range}
 use Rattle.ln_bound.specs.Sound.{holds}

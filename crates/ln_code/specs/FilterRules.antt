@@ -42,6 +42,7 @@ push_error (suc k) = 1
 abbrev pub covers : ℕ → ℕ → ℕ → Triple → Bool
 covers k h e a = (a.k == k) && nat_le h a.h && nat_le e a.e && nat_le a.h (limit W64)
 
+-- what is known of a number that carries the triple a and stands for the value of t, where a covers k, h and e and the size fits 128 bits
 abbrev pub filter_known : ℕ → ℕ → ℕ → ℕ → Tree → Triple → Option FilterKnown
 filter_known k h e size t a = when (covers k h e a && nat_le size (limit W128)) (record { triple = a; tree = t; size = size })
 

@@ -50,6 +50,7 @@ pub record IsBlock (c : Code) : Type 0 where
   pub vars : List VarInfo
   pub rules : FollowsRules vars c
 
+-- what stores has the triple of zeros
 abbrev pub no_triple : Triple
 no_triple = record { k = 0; h = 0; e = 0 }
 
@@ -60,6 +61,7 @@ pub record IsFilter (f : FilterCode) : Type 0 where
   pub vars : List VarInfo
   pub rules : FollowsFilterRules vars f
 
+-- is there such a variable, and is it a coordinate of a site?
 abbrev pub is_of_site : Option VarInfo → Bool
 is_of_site None = false
 is_of_site (Some i) = is_some i.site
@@ -69,7 +71,7 @@ abbrev pub AreOfSites : List VarInfo → Pairs → Type 0
 AreOfSites vars [] = Unit {0}
 AreOfSites vars (p ∷ ps) = (is_of_site (slice_get vars p.0) ≡ true) × AreOfSites vars ps
 
--- numbers of blocks, of which there are so many, none twice, and at least one
+-- numbers of blocks, each below the count of blocks, none twice, and at least one
 pub record IsList (blocks : ℕ) (list : List ℕ) : Type 0 where
   pub within : All (λ n. n < blocks) list
   pub once : AllPairs (λ m n. m ≢ n) list

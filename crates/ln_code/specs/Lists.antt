@@ -4,7 +4,7 @@ use Rattle.ln_order.specs.Orders.{IsOrderOf, orders_of}
 use Rattle.ln_order.specs.Prefixes.{beside, prefixes_of, segments_from}
 use Rattle.ln_code.specs.Part.{Part}
 
--- the segment of a prefix: prefixes stand by their numbers, sorted as lists
+-- the segment of a prefix: prefixes are listed by their numbers, sorted as lists
 abbrev pub segment_of : Part → List ℕ → List ℕ
 segment_of part p = beside (prefixes_of part.shape.sites) part.segments p
 

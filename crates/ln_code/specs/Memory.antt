@@ -34,7 +34,7 @@ shifted (o ∷ os) (a ∷ as') = record { op = o; bound = a.k } ∷ shifted os a
 abbrev pub leads : Op → ℕ → List ℤ → List ℤ → ℕ → List ℤ → Option (State ℤ (ℕ → ℤ))
 leads op k values stack top locals = step (bare values (length stack)) op k (at locals) (seen stack top)
 
--- what the processor answers
+-- what the processor computes
 abbrev pub bare_value : List (Line ℕ) → List ℤ → List ℤ → List ℤ → Option ℤ
 bare_value lines values stack locals = answer (bare values (length stack)) (at locals) lines
 
@@ -46,7 +46,7 @@ pub record TwoReady (kind : Two) (width : Width) (stack : List ℤ) (top : ℕ) 
   pub right : fits width (at stack (top - 1)) ≡ true
   pub result : fits width (result_of kind (at stack (top - 2)) (at stack (top - 1))) ≡ true
 
--- a scratch of so many places and locals is large enough for the part
+-- a scratch with this many places and locals is large enough for the part
 pub record MadeFor (part : Part) (scratch : Scratch) : Type 0 where
   pub locals : 256 ≤ length scratch.locals.items
   pub blocks : All (λ c. c.depth ≤ length scratch.stack.items) part.blocks

@@ -5,14 +5,14 @@ use Rattle.ln_code.specs.declared.verdict.Verdict.{Verdict}
 use Rattle.ln_code.specs.Part.{Code, sum_of, wide_at}
 use Rattle.ln_code.specs.Verdict.{along}
 
--- with what was met the rest of the list answers this, and the counts have room for the rest
+-- after what was met the rest of the list has this verdict, and the counts have room for the rest
 pub record IsMet (values : List ℤ) (blocks : List Code) (answer : Option Verdict) (rest : List ℕ) (met : Met) : Type 0 where
   pub goes_on : along values blocks rest met.place met.wide met.calls ≡ answer
   pub places : met.place + length rest < 2 ^ 32
   pub calls : met.calls + length rest < 2 ^ 32
   pub wides : met.wide + sum_of (wide_at blocks) rest < 2 ^ 32
 
--- there is a list that begins with this segment, on the way to some answer
+-- there is a list that begins with this segment, on the way to some verdict
 pub record HasMet (values : List ℤ) (blocks : List Code) (segment : List ℕ) (met : Met) : Type 0 where
   pub answer : Option Verdict
   pub rest : List ℕ

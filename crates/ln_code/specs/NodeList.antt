@@ -10,10 +10,11 @@ pub record Sized : Type 0 where
   pub tree : Tree
   pub width : Width
 
+-- the expression e, computed at the width w
 abbrev pub at_width : Width → Tree → Sized
 at_width w e = record { tree = e; width = w }
 
--- so many powers of e, from e^k on
+-- this many powers of e, from e^k on
 abbrev pub powers_from : Tree → Width → ℕ → ℕ → List Sized
 powers_from e w k zero = []
 powers_from e w k (suc n) = at_width w (Pow e k) ∷ powers_from e w (suc k) n
@@ -32,7 +33,7 @@ nodes_in lets (TTwo k s t p w) =
     nodes_in lets s ++ (nodes_in lets t ++ at_width w (two_of k (inlined lets (untyped s)) (inlined lets (untyped t))) ∷ [])
 nodes_in lets (TPow t n p w) = nodes_in lets t ++ powers_to (inlined lets (untyped t)) w n
 
--- those of lets in turn, each over those before it, behind these
+-- those of lets in turn, each over those before it, after these
 abbrev pub nodes_in_lets : List Tree → List Typed → List Sized
 nodes_in_lets done [] = []
 nodes_in_lets done (t ∷ ts) = nodes_in done t ++ nodes_in_lets (done ++ inlined done (untyped t) ∷ []) ts
@@ -41,7 +42,7 @@ nodes_in_lets done (t ∷ ts) = nodes_in done t ++ nodes_in_lets (done ++ inline
 abbrev pub all_nodes : List Typed → Typed → List Sized
 all_nodes lets t = nodes_in_lets [] lets ++ nodes_in (inlined_after [] (map untyped lets)) t
 
--- this expression stands in the list at this width
+-- this expression is in the list at this width
 abbrev pub Stands : List Sized → Tree → Width → Type 0
 Stands [] e w = ⊥
 Stands (x ∷ xs) e w = ((e ≡ x.tree) × (w ≡ x.width)) ⊎ Stands xs e w

@@ -1,4 +1,4 @@
--- What a block pushes, told by nodes: polynomials of these expressions, each computed in the width of its own.
+-- What a block pushes, in terms of nodes: polynomials of these expressions, each computed in the width of its own.
 use Rattle.std.specs.Prelude.{◌≡◌, ℕ, List, [], ◌∷◌}
 use Rattle.ln_algebra.specs.Tree.{Tree}
 use Rattle.ln_algebra.specs.Coefficient.{normal_coefficient}

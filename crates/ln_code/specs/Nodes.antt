@@ -14,7 +14,7 @@ IsNode lets (TTwo k s t p w) e v = (IsNode lets s e v ⊎ IsNode lets t e v)
     ⊎ ((e ≡ two_of k (inlined lets (untyped s)) (inlined lets (untyped t))) × (v ≡ w))
 IsNode lets (TPow t n p w) e v = IsNode lets t e v ⊎ ((k : ℕ) × (k ≤ n) × (e ≡ Pow (inlined lets (untyped t)) k) × (v ≡ w))
 
--- e is a node of one of the lets, each over those before it, behind these
+-- e is a node of one of the lets, each over those before it, after these
 abbrev pub IsLetNode : List Tree → List Typed → Tree → Width → Type 0
 IsLetNode done [] e v = ⊥
 IsLetNode done (t ∷ ts) e v = IsNode done t e v ⊎ IsLetNode (done ++ inlined done (untyped t) ∷ []) ts e v

@@ -1,4 +1,4 @@
--- Whole numbers on a stack.
+-- Integers on a stack.
 use Rattle.std.specs.Prelude.{ℕ, ◌^◌, ◌==◌, nat_le, Bool, ℤ, pos, ◌+ℤ◌, ◌-ℤ◌, ◌*ℤ◌, unsigned_abs, Option, Some, None, if◌then◌else◌}
 use Rattle.std.specs.Int.RustNames.{int_div}
 use Rattle.ln_bound.specs.declared.fitted.Width.{Width}

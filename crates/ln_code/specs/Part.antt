@@ -59,6 +59,7 @@ known_of vars c = answer (rules vars c.depth) no_locals (lines_of c.ops c.pairs)
 abbrev pub filter_known_of : List VarInfo → FilterCode → Option FilterKnown
 filter_known_of vars f = answer (filter_rules vars f.depth) no_locals (lines_of f.ops f.triples)
 
+-- is the width 128 bits?
 abbrev pub is_128 : Width → Bool
 is_128 W64 = false
 is_128 W128 = true
@@ -84,6 +85,7 @@ abbrev pub ops_in_blocks : List Code → ℕ
 ops_in_blocks [] = 0
 ops_in_blocks (c ∷ cs) = length c.ops + ops_in_blocks cs
 
+-- how many operations a filter has; 0 where there is none
 abbrev pub ops_in_filter : Option FilterCode → ℕ
 ops_in_filter None = 0
 ops_in_filter (Some f) = length f.ops
@@ -97,6 +99,7 @@ abbrev pub sum_of : (ℕ → ℕ) → List ℕ → ℕ
 sum_of f [] = 0
 sum_of f (n ∷ ns) = f n + sum_of f ns
 
+-- how many operations of a block are wide; 0 where there is no block
 abbrev pub wide_or : Option Code → ℕ
 wide_or None = 0
 wide_or (Some c) = wide_in c.ops

@@ -9,11 +9,13 @@ pub record Pushed (V : Type 0) : Type 0 where
   pub op : Op
   pub value : V
 
+-- what an operation has pushed, which is the top of the stack after it; nothing where it stores
 abbrev pub newest : {V : Type 0} → Op → Bool → List V → List (Pushed V)
 newest op true stack = []
 newest op false [] = []
 newest op false (v ∷ rest) = record { op = op; value = v } ∷ []
 
+-- what is pushed by an operation that leads to this state, and then by those that follow; nothing where it leads nowhere
 abbrev pub after : {V L : Type 0} → Op → Option (State V L) → (State V L → List (Pushed V)) → List (Pushed V)
 after op None f = []
 after op (Some t) f = newest op (stores op) t.stack ++ f t

@@ -5,7 +5,7 @@ ghost use Rattle.ln_code.specs.Memory.{at, seen, TwoReady};
 
 use ln_bound::{Two, Width};
 
-// Puts a number onto the stack, whose top is `top`.
+// Pushes a number onto the stack, whose top is `top`.
 pub(crate) fn push(stack: &mut [i128], top: usize, z: i128) -> usize
     requires { top < length stack.old }
     ensures next { result ≡ top + 1 }
@@ -89,7 +89,7 @@ pub fn cut(z: i128, n: u8) -> i128
     if z < 0 { -size } else { size }
 }
 
-// Takes two numbers off the stack and puts their sum, difference or product there.
+// Takes two numbers off the stack and pushes their sum, difference or product.
 pub(crate) fn binary(kind: Two, width: Width, stack: &mut [i128], top: usize) -> usize
     requires { TwoReady kind width stack.old top }
     ensures top { result ≡ top - 1 }
@@ -102,7 +102,7 @@ pub(crate) fn binary(kind: Two, width: Width, stack: &mut [i128], top: usize) ->
     push(stack, top - 2, z)
 }
 
-// Takes a number off the stack and puts its negation there.
+// Takes a number off the stack and pushes its negation.
 pub(crate) fn unary(width: Width, stack: &mut [i128], top: usize) -> usize
     requires deep { 0 < top }
     requires room { top ≤ length stack.old }
@@ -116,7 +116,7 @@ pub(crate) fn unary(width: Width, stack: &mut [i128], top: usize) -> usize
     push(stack, top - 1, z)
 }
 
-// Takes a number off the stack and puts it there divided by 2^n.
+// Takes a number off the stack and pushes it divided by 2^n.
 pub(crate) fn shorten(n: u8, stack: &mut [i128], top: usize) -> usize
     requires deep { 0 < top }
     requires room { top ≤ length stack.old }

@@ -1,4 +1,4 @@
-//! Blocks.
+//! Defines blocks: the operations that compute one scaled derivative, sealed with the ranges that bound each value.
 ghost use Rattle.std.specs.Prelude.{◌≡◌, ◌<◌, map, IfOk};
 ghost use Rattle.ln_interval.specs.View.{range};
 ghost use Rattle.ln_code.specs.Part.{Code, is_wide, wide_in};
@@ -14,8 +14,8 @@ use std::marker::Model;
 
 /// A block: the exponents of its derivative, and the operations that compute it, each with the pair of the values that it may
 /// push. It needs a stack of at most 2,048 places and follows the rules on pairs, sizes, widths and stacks: each pair covers its
-/// operation over its operands' pairs and fits its width, no running size passes `2^127 - 1`, no operand is wider than its operation,
-/// and one value is left in the end. A `Set` has the pair 0 .. 0.
+/// operation over its operands' pairs and fits its width, no running size exceeds `2^127 - 1`, no operand is wider than its operation,
+/// and one value remains in the end. A `Set` has the pair 0 .. 0.
 #[derive(Drop)]
 pub struct Block {
     exps: Exps,
@@ -54,7 +54,7 @@ fn wide_in(ops: &[Op]) -> usize
     ops.iter().filter(|op| is_wide(op)).count()
 }
 
-// The list without the room behind its items: a program may keep tens of thousands of short ones.
+// The list without spare room after its items: a program may keep tens of thousands of short ones.
 pub(crate) fn tight<T>(items: Seq<T>) -> Seq<T>
     ensures { result ≡ items }
 {
@@ -64,7 +64,7 @@ pub(crate) fn tight<T>(items: Seq<T>) -> Seq<T>
 }
 
 impl Block {
-    /// The block of these parts. It takes no memory.
+    /// The block of these parts. It allocates nothing.
     pub fn seal(exps: Exps, ops: Seq<Op>, pairs: Seq<Pair>, depth: u32) -> Block
         requires { IsBlock (record { exps = exps; ops = ops; pairs = map range pairs; depth = depth }) }
         ensures { result ≡ record { exps = exps; ops = ops; pairs = map range pairs; depth = depth } }

@@ -1,4 +1,4 @@
-//! Filters.
+//! Defines filters: operations on truncated numbers that run before any block, each with the triple that bounds its result.
 ghost use Rattle.std.specs.Prelude.{◌≡◌, ◌≤◌, ◌<◌, ◌^◌, ◌+◌, length, IfOk};
 ghost use Rattle.ln_code.specs.Part.{FilterCode};
 ghost use Rattle.ln_code.specs.Kept.{IsFilter};
@@ -11,7 +11,7 @@ use std::marker::Model;
 
 /// A filter: operations on truncated numbers, each with the triple of what it pushes. It needs a stack of at most 2,048
 /// places, is 64 bits wide throughout, and follows the rules on triples, sizes and stacks: each triple
-/// covers its operation, and one value is left in the end. A `Set` has the triple of zeros.
+/// covers its operation, and one value remains in the end. A `Set` has the triple of zeros.
 #[derive(Drop)]
 pub struct FilterBlock {
     ops: Seq<Op>,
@@ -34,7 +34,7 @@ impl Model for FilterBlock {
         × (f.error ≡ left_error f.ops f.triples 0 0) };
 }
 
-// How many values the stack has behind an operation, of n before it.
+// How many values the stack has after an operation, of n before it.
 fn size_after(op: Op, n: usize) -> usize
     requires { n + 1 < 2 ^ 64 }
     ensures value { result ≡ size_after op n }
@@ -47,7 +47,7 @@ fn size_after(op: Op, n: usize) -> usize
     }
 }
 
-// The error of the lowest value of n behind an operation with the error e, which was d before it.
+// The error of the lowest value of n after an operation with the error e, which was d before it.
 fn error_behind(op: Op, n: usize, e: u64, d: u64) -> u64
     ensures { result ≡ error_behind op n e d }
 {
@@ -64,7 +64,7 @@ fn error_behind(op: Op, n: usize, e: u64, d: u64) -> u64
     }
 }
 
-// The error of the operation that pushed the value that is left.
+// The error of the operation that pushed the remaining value.
 fn left_error(ops: &[Op], triples: &[Triple]) -> u64
     requires { length ops.now ≡ length triples.now }
     ensures { result ≡ left_error ops.now triples.now 0 0 }
@@ -79,7 +79,7 @@ fn left_error(ops: &[Op], triples: &[Triple]) -> u64
 }
 
 impl FilterBlock {
-    /// The filter of these parts. It takes no memory.
+    /// The filter of these parts. It allocates nothing.
     pub fn seal(ops: Seq<Op>, triples: Seq<Triple>, depth: u32) -> FilterBlock
         requires { IsFilter (record { ops = ops; triples = triples; depth = depth }) }
         ensures { result ≡ record { ops = ops; triples = triples; depth = depth } }
@@ -129,7 +129,7 @@ impl FilterBlock {
         self.depth
     }
 
-    /// The error of the operation that pushes the value that is left: the filter decides above it.
+    /// The error of the operation that pushes the remaining value: the filter decides above it.
     pub fn error(&self) -> u64
         ensures { result ≡ left_error self.now.ops self.now.triples 0 0 }
     {

@@ -3,7 +3,7 @@ ghost use Rattle.ln_code.specs.Law.{BlocksMean, FiltersMean};
 ghost use Rattle.ln_code.specs.NodeList.{NodesAreListed};
 ghost use Rattle.ln_code.specs.MachineLaw.{ListsAreStageLists, ProgramsRun, RowsHaveVerdicts, VerdictIsUnique};
 
-/// On every row in range a block that follows the rules has an answer, the value of the expression that it carries, and so each
+/// On every row in range a block that follows the rules has a result, the value of the expression that it carries, and so each
 /// of its values stays in its pair and its width; a filter that follows them leaves a number near the value, and above its
 /// error the two have one sign.
 pub fn rules_keep_values()
@@ -14,7 +14,7 @@ pub fn rules_keep_values()
 /// The machine of a part whose blocks and filter follow the rules has exactly one verdict on every row in range. A program is such
 /// a part.
 ///
-/// On it rests that a row is told one sign, one place and one number of calls.
+/// On it rests that a row has one sign, one place and one number of calls.
 pub fn rows_have_one_verdict()
     ensures programs { ProgramsRun }
     ensures exists { RowsHaveVerdicts }
@@ -28,7 +28,7 @@ pub fn lists_are_stage_lists()
 
 /// The nodes of a tree and of its lets are the members of one list, each with its width, in order of evaluation.
 ///
-/// On it rests that a reader can take "a node of the tree" for what it says, in what is said of the polynomials that are pushed.
+/// On it rests that "a node of the tree" can be read in its plain meaning, in the statements on the polynomials that are pushed.
 pub fn nodes_are_listed()
     ensures { NodesAreListed }
 {}

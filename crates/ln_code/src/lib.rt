@@ -1,9 +1,9 @@
 //! The stack program of a predicate, and the rows on which it runs.
 //!
-//! A block or a filter is a list of operations on a stack; `Program` keeps that each follows the rules on pairs and widths, and
-//! so `run_row` checks nothing when it runs: on every row in range it answers what the machine over whole numbers answers, the
-//! sign, what decided it, and how many wide operations and calls it took, and each value stays in its pair and its width.
-//! `block_value` answers the value of one block on a row.
+//! A block or a filter is a list of operations on a stack; `Program` keeps the invariant that each follows the rules on pairs and widths, and so
+//! `run_row` checks nothing when it runs: on every row in range it returns the result of the machine over integers, that is the sign, what
+//! decided it, and how many wide operations and calls it took, and each value stays in its pair and its width. `block_value` returns the value
+//! of one block on a row.
 #![tactic(auto)]
 
 pub(crate) mod arithmetic;

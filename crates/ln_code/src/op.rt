@@ -1,9 +1,9 @@
-//! Operations.
+//! Defines the operations of blocks and filters, and the triple that an operation of a filter carries.
 use ln_bound::Width;
 
 /// An operation of a block or a filter. `Push`, `Input` and `Get` push a number, the value of a variable, a local; `Set` takes
 /// the last value off the stack into a local; `Add`, `Sub`, `Mul` and `Neg` take their operands off and push the result, which
-/// is computed in the width; `Cut(n)` divides by `2^n`, towards 0, and stands in filters alone.
+/// is computed in the width; `Cut(n)` divides by `2^n`, towards 0, and is used in filters alone.
 #[derive(Clone, Copy, PartialEq, Eq)]
 pub enum Op {
     Push(i128),

@@ -1,4 +1,4 @@
-//! Programs.
+//! Defines the stack program of a predicate: its filter, its blocks, and which blocks are run at each prefix of an order.
 ghost use Rattle.std.specs.Prelude.{◌≡◌, ◌<◌, ◌≤◌, length, take, All, MatchOption};
 ghost use Rattle.ln_order.specs.Places.{order_places};
 ghost use Rattle.ln_code.specs.Part.{Part};
@@ -37,7 +37,7 @@ impl Model for Program {
 }
 
 impl Program {
-    /// The program of these parts. It takes no memory.
+    /// The program of these parts. It allocates nothing.
     pub fn join(
         shape: Shape,
         filter: Option<FilterBlock>,
@@ -79,7 +79,7 @@ impl Program {
     }
 
     /// The numbers of the blocks that are run where the first j sites of this order are placed; for j = 0, 1, .. one after the
-    /// other they are the list of the order. It takes no memory.
+    /// other they are the list of the order. It allocates nothing.
     pub fn segment(&self, o: &Order, j: u8) -> &[u32]
         requires order { length (order_places o.now) ≡ self.now.shape.sites }
         requires within { j ≤ length (order_places o.now) }

@@ -9,7 +9,7 @@ use ln_base::{NoMemory, Seq};
 use std::alloc::Global;
 use std::marker::Model;
 
-/// A list of programs whose names differ, byte for byte, and each of which has at most 65,536 blocks.
+/// A list of programs whose names differ, byte for byte. Each program has at most 65,536 blocks.
 #[derive(Drop)]
 pub struct Programs {
     programs: Seq<Program>,
@@ -28,7 +28,7 @@ impl Model for Programs {
 }
 
 impl Programs {
-    /// No program. It takes no memory.
+    /// No program. It allocates nothing.
     pub fn new(alloc: Global) -> Programs
         ensures { result ≡ [] }
     {
@@ -37,7 +37,7 @@ impl Programs {
         }
     }
 
-    /// Puts a program at the end. Where there is no memory, the program is dropped and the list stays.
+    /// Appends a program. Where the allocation fails, the program is dropped and the list is unchanged.
     pub fn push(&mut self, p: Program) -> Result<(), NoMemory>
         requires name { All (λ q. name_bytes q.shape.name ≢ name_bytes p.shape.name) self.old }
         requires small { length p.blocks ≤ 65536 }

@@ -1,4 +1,4 @@
-//! Rows.
+//! Defines the rows on which programs run: an index for each site and a value for each variable.
 
 /// A row of any predicate: an index for each site, by place, and a value for each variable, by number. Places past those of
 /// the predicate at hand are 0.

@@ -1,4 +1,4 @@
-//! Rows, run.
+//! Runs a program on a row: the filter first, then the blocks of the row's order until one isn't 0.
 ghost use Rattle.std.specs.Prelude.{◌≡◌, ◌≢◌, ◌<◌, ◌+◌, ◌++◌, ◌^◌, ℕ, List, Option, pos, MatchOption};
 ghost use Rattle.std.specs.Prelude.{IfOk, IfErr, All, AllPairs, Contains, Some, length, slice_get, take};
 ghost use Rattle.ln_tree.specs.Row.{InRange, AreWithin};
@@ -103,7 +103,7 @@ fn filter_number(p: &Program, f: &FilterBlock, values: &[i64], s: &mut Scratch) 
     )
 }
 
-// Runs the blocks of a segment, the next part of the row's list, until one isn't 0: the verdict then stands in the place of an error.
+// Runs the blocks of a segment, the next part of the row's list, until one isn't 0: the verdict is then returned in the place of an error.
 fn run_segment(
     p: &Program,
     segment: &[u32],
@@ -143,7 +143,7 @@ fn run_segment(
     Ok(Met { place, wide, calls })
 }
 
-// The order with one more site of the row's order in its place, if one is left.
+// The order with one more site of the row's order in its place, if one remains.
 fn next_site(o: &Order, j: u8, indices: &[i64]) -> Order
     requires { length (order_places o.now) ≡ length indices.now }
     ensures size { length (order_places result) ≡ length (order_places o.now) }
@@ -157,7 +157,7 @@ fn next_site(o: &Order, j: u8, indices: &[i64]) -> Order
     }
 }
 
-// Runs the segments of the row's order until a block isn't 0, behind so many calls. A site is found only where all blocks of the
+// Runs the segments of the row's order until a block isn't 0, after `entered` calls. A site is found only where all blocks of the
 // segment before it are 0.
 fn run_segments(
     p: &Program,
@@ -244,9 +244,9 @@ fn run_through(p: &Program, indices: &[i64], values: &[i64], s: &mut Scratch) ->
     }
 }
 
-/// The verdict on a row in range, by a scratch made for the program: what the machine over whole numbers answers, exactly. Where the
-/// filter decides, that is one call and no operation in 128 bits. A site of the row's order is looked for only where all blocks before
-/// it are 0. It takes no memory and refuses nothing.
+/// Returns the verdict on a row in range, by a scratch made for the program: exactly that of the machine over integers. Where the filter
+/// decides, that is one call and no operation in 128 bits. A site of the row's order is looked for only where all blocks before it are 0. It
+/// allocates nothing and refuses nothing.
 pub fn run_row(p: &Program, s: &mut Scratch, r: &Row) -> Verdict
     requires made { MadeFor p.now s.old }
     requires row { InRange p.now.shape.sites p.now.shape.vars (row_of p.now.shape.sites p.now.shape.vars r.now) }
@@ -259,8 +259,8 @@ pub fn run_row(p: &Program, s: &mut Scratch, r: &Row) -> Verdict
     run_through(p, &r.index[..usize::from(shape.sites)], values, s)
 }
 
-/// The value of a block of the program on a row in range, by a scratch made for the program: what the machine over whole numbers
-/// answers, exactly. No filter is asked. It takes no memory.
+/// Returns the value of a block of the program on a row in range, by a scratch made for the program: exactly that of the machine over integers.
+/// No filter is asked. It allocates nothing.
 pub fn block_value(b: &Block, p: &Program, s: &mut Scratch, r: &Row) -> i128
     requires block { Contains p.now.blocks b.now }
     requires made { MadeFor p.now s.old }

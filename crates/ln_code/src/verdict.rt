@@ -1,4 +1,4 @@
-//! Answers on rows.
+//! Defines the verdict of a program on a row: the sign, what decided it, and how many wide operations and calls that took.
 use ln_base::Sign;
 
 /// What decided: the filter, the block at this place of the row's list, from 0, or nothing, where all blocks are 0.

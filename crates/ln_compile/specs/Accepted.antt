@@ -1,4 +1,4 @@
--- Sources that are accepted.
+-- Defines which sources are accepted: those that have a table in which no predicate has a fault.
 use Rattle.std.specs.Prelude.{ℕ, ◌<◌, List, [], ◌∷◌, length, map}
 use Rattle.ln_algebra.specs.Tree.{Tree}
 use Rattle.ln_algebra.specs.Weights.{weighted_sum}
@@ -12,15 +12,15 @@ use Rattle.ln_poly.specs.Sparse.{Sparse, terms_of}
 use Rattle.ln_stage.specs.Lists.{AreStageLists, Passes}
 use Rattle.ln_parse.specs.Text.{TextOf}
 
--- its lets and its root as they stand in the source
+-- its lets and its root as they are in the source
 abbrev pub lets_of : PredOf → List Tree
 lets_of p = map (tree p.vars) p.lets
 
 abbrev pub own_root : PredOf → Tree
 own_root p = tree p.vars p.root
 
--- it is too heavy as a whole: the weighted sum of its normal polynomial, where each variable has 1 more than the largest absolute
--- value of its range, passes 2^127 - 1
+-- it is too large as a whole: the weighted sum of its normal polynomial, where each variable has 1 more than the largest absolute value of its
+-- range, exceeds 2^127 - 1
 pub record IsHeavyFault (p : PredOf) : Type 0 where
   pub poly : Sparse
   pub normal : IsNormal (length p.vars) (root_of p) poly
@@ -35,8 +35,8 @@ pub record IsStagesFault (p : PredOf) : Type 0 where
   pub are_lists : AreStageLists p.sites p.vars poly lists
   pub passes : Passes (length p.vars) poly 65536 131072 lists
 
--- a predicate has no fault: no range and no size of a node passes 2^127 - 1, no node has too many terms, it isn't too heavy as a
--- whole, the root isn't 0 however it is perturbed, and it hasn't too many stages
+-- a predicate has no fault: no range and no size of a node exceeds 2^127 - 1, no node has too many terms, it isn't too large as a whole, the
+-- root isn't 0 however it is perturbed, and it hasn't too many stages
 pub record IsSound (p : PredOf) : Type 0 where
   pub light : AreLight (loaded_of p)
   pub few : HaveFewTerms (length p.vars) (expanded_of p)

@@ -13,7 +13,7 @@ use Rattle.ln_compile.specs.declared.refusal.Refusal.{Refusal}
 use Rattle.ln_compile.specs.declared.refusal.Refusal.TheVariants.{Lexical, Limit, Syntax, Name, Bound, Terms, Zero, Stages, NoMemory}
 use Rattle.ln_compile.specs.Accepted.{Accepted, AreSound, IsHeavyFault, IsStagesFault, expanded_of, loaded_of, root_of}
 
--- the refusal for what `parse` answers
+-- the refusal for what `parse` returns
 abbrev pub refusal_of : ParseStop → Refusal
 refusal_of (parse.Lexical at) = Lexical at
 refusal_of (parse.Limit what at) = Limit what at
@@ -33,7 +33,7 @@ word_of (Zero pred at) = codes "zero"
 word_of (Stages pred at) = codes "stages"
 word_of NoMemory = codes "memory"
 
--- its place in the source; want of memory has none
+-- its place in the source; out of memory has none
 abbrev pub span_of : Refusal → Option Span
 span_of (Lexical at) = Some at
 span_of (Limit what at) = Some at
@@ -56,8 +56,8 @@ token_of (FSub at e f) = at
 token_of (FMul at e f) = at
 token_of (FPow at e n) = at
 
--- the fault of predicate number k: a node whose range or size passes 2^127 - 1; else a node that has too many terms; else too
--- heavy a whole, at the root's own token; else a root that is 0, at the predicate's name; else too many stages, there
+-- the fault of predicate number k: a node whose range or size exceeds 2^127 - 1; else a node that has too many terms; else a whole that is too
+-- large, at the root's own token; else a root that is 0, at the predicate's name; else too many stages, there
 pub data IsPredFault (k : ℕ) (p : PredOf) : Refusal → Type 0 where
   bound : {at : Span} → IsBoundFault (loaded_of p) at → IsPredFault k p (Bound k at)
   terms : {at : Span} → AreLight (loaded_of p) → IsTermsFault (length p.vars) (expanded_of p) at → IsPredFault k p (Terms k at)
@@ -82,26 +82,26 @@ pub data IsRefusedFor (bytes : List ℕ) : Refusal → Type 0 where
   of_text : {e : ParseStop} → TextFault bytes e → IsRefusedFor bytes (refusal_of e)
   of_pred : (t : TableOf) {r : Refusal} → TextOf bytes t → IsFirstFault t.preds r → IsRefusedFor bytes r
 
--- an answer for one predicate: its fault, or there was no memory
+-- the refusal of one predicate: its fault, or out of memory
 abbrev pub StopsPred : ℕ → PredOf → Refusal → Type 0
 StopsPred k p r = IsPredFault k p r ⊎ (r ≡ NoMemory)
 
--- an answer for several: the fault of the first that has one, or there was no memory
+-- the refusal of several: the fault of the first that has one, or out of memory
 abbrev pub StopsPreds : List PredOf → Refusal → Type 0
 StopsPreds preds r = IsFirstFault preds r ⊎ (r ≡ NoMemory)
 
--- an answer for a source: what it is refused for, or there was no memory
+-- the refusal of a source: what it is refused for, or out of memory
 abbrev pub IsRefusal : List ℕ → Refusal → Type 0
 IsRefusal bytes r = IsRefusedFor bytes r ⊎ (r ≡ NoMemory)
 
--- an accepted source is refused for want of memory alone
+-- an accepted source is refused only when out of memory
 abbrev pub IsUnaccepted : List ℕ → Refusal → Type 0
 IsUnaccepted bytes r = (t : TableOf) → Accepted bytes t → r ≡ NoMemory
 
--- what a source is refused for is the answer, but for want of memory
+-- what a source is refused for is its refusal, unless it is out of memory
 abbrev pub IsTheOne : List ℕ → Refusal → Type 0
 IsTheOne bytes r = (s : Refusal) → IsRefusedFor bytes s → (r ≡ s) ⊎ (r ≡ NoMemory)
 
--- there was no memory
+-- the refusal is out of memory
 abbrev pub IsNoMemory : Refusal → Type 0
 IsNoMemory r = r ≡ NoMemory

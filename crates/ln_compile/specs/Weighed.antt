@@ -32,7 +32,7 @@ pub record AcceptedByWeight (bytes : List ℕ) (t : TableOf) : Type 0 where
   pub text : TextOf bytes t
   pub sound : AreSoundByWeight t.preds
 
--- the lets of a predicate and its root are expressions of the language over its variables, each let behind the lets before it
+-- the lets of a predicate and its root are expressions of the language over its variables, each let after the lets before it
 pub record IsFitPred (p : PredOf) : Type 0 where
   pub lets : lets_fit (length p.vars) 0 (map (tree p.vars) p.lets) ≡ true
   pub root : is_fit (length p.vars) (length p.lets) (tree p.vars p.root) ≡ true

@@ -53,7 +53,7 @@ impl Checked {
         &self.table
     }
 
-    /// The number of the predicate of a name, from 0; none where no predicate has it. It takes no memory.
+    /// The number of the predicate of a name, from 0; none where no predicate has it. It allocates nothing.
     pub fn find(&self, name: &str) -> Option<usize>
         ensures { result ≡ number_of name.now self.now.table.preds }
     {
@@ -65,7 +65,7 @@ impl Checked {
             .position(|p| p.name.bytes() == name)
     }
 
-    /// The stage count of a predicate, by its number. It takes no memory.
+    /// The stage count of a predicate, by its number. It allocates nothing.
     pub fn stage_count(&self, i: usize) -> u64
         requires { i < length self.now.table.preds }
         ensures { IsStageCountAt (map pred_of self.now.table.preds) i result }
@@ -102,7 +102,7 @@ impl Checked {
 }
 
 /// The table of a source, each predicate of which is accepted, with its stage counts; or why the source is refused: the first fault
-/// of its text, else the fault of the first predicate that has one. Without want of memory, the one or the other. No program is made.
+/// of its text, else the fault of the first predicate that has one. Unless memory runs out, it is the one or the other. No program is made.
 pub fn check(alloc: Global, bytes: &[u8]) -> Result<Checked, Refusal>
     requires { length bytes.now ≤ 1048576 }
     ensures ok { IfOk result (λ c. Accepted bytes.now (table_of c.table.sites c.table.params c.table.preds)) }

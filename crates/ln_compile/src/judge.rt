@@ -1,4 +1,4 @@
-//! The faults of predicates.
+//! Tests a predicate for each of its faults, and makes its normal polynomial and its stages on the way.
 ghost use Rattle.std.specs.Prelude.{◌≢◌, ◌≤◌, All, [], length, IfErr, IfOk, OnOk};
 ghost use Rattle.ln_algebra.specs.Vector.{total_degree};
 ghost use Rattle.ln_algebra.specs.Weights.{weighted_sum};

@@ -1,4 +1,4 @@
-//! A source has one answer; what is accepted by weights is accepted; and the programs of a table are programs of one list.
+//! A source has one result; what is accepted by weights is accepted; and the programs of a table are programs of one list.
 ghost use Rattle.std.specs.Prelude.{◌≡◌, ◌≤◌, ℕ, All, List, length, map};
 ghost use Rattle.std.specs.List.{AllByRecursion};
 ghost use Rattle.ln_tree.specs.declared.table.Table.{Table};
@@ -21,7 +21,7 @@ pub fn one_refusal()
 {}
 
 /// A law: a source that is accepted by the weights of its nodes is accepted by their ranges and sizes and by the weight of the
-/// whole. So is each predicate of the language, whatever source it stands in; and the predicates of sources are of the language.
+/// whole. So is each predicate of the language, whatever source it is in; and the predicates of sources are of the language.
 pub fn what_was_accepted_stays_accepted()
     ensures source { (bytes : List ℕ) (t : TableOf) → AcceptedByWeight bytes t → Accepted bytes t }
     ensures pred { (p : PredOf) → IsFitPred p → IsSoundByWeight p → IsSound p }

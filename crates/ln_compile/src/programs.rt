@@ -20,7 +20,7 @@ use ln_poly::Poly;
 use ln_tree::Pred;
 use std::alloc::Global;
 
-// The stage count of predicate number k, whose normal polynomial is f. Its stages are dropped before it is answered.
+// The stage count of predicate number k, whose normal polynomial is f. Its stages are dropped before it is returned.
 fn counted_of(alloc: Global, k: u8, p: &Pred, f: &Poly) -> Result<u64, Refusal>
     requires light { AreLight (loaded_of (pred_of p.now)) }
     requires few { HaveFewTerms (length p.now.shape.vars) (expanded_of (pred_of p.now)) }
@@ -88,7 +88,7 @@ fn compiled(alloc: Global, p: &Pred) -> Result<Program, Refusal>
     compiled_of(alloc, p, &f)
 }
 
-// What a refusal says that is want of memory.
+// Turns a refusal that is out of memory into `NoMemory`.
 fn memory_of(_r: Refusal) -> NoMemory
     requires { IsNoMemory _r }
 {

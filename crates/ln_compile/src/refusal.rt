@@ -7,7 +7,7 @@ use ln_names::{LimitWhat, NameWhat};
 use ln_parse::ParseStop;
 use thiserror::Error;
 
-// What a limit says of a source that breaks it.
+// The message for a source that breaks a limit.
 fn limit_text(what: LimitWhat) -> &'static str {
     match what {
         LimitWhat::Tokens => "more than 65,536 tokens",
@@ -35,8 +35,8 @@ fn name_text(what: NameWhat) -> &'static str {
     }
 }
 
-/// Why a source is refused, and where: a fault of its text; a fault of one of its predicates, which are numbered from 0; or
-/// there was no memory. Its text names the kind of fault, the place as a byte of the source, counted from 0, and the predicate.
+/// Why a source is refused, and where: a fault of its text; a fault of one of its predicates, which are numbered from 0; or out of memory. Its
+/// text names the kind of fault, the place as a byte of the source, counted from 0, and the predicate.
 #[derive(Clone, Copy, Debug, Error)]
 pub enum Refusal {
     /// The first byte that begins neither blank, comment nor token.
@@ -48,11 +48,11 @@ pub enum Refusal {
     /// The first token, or the end, with which no source goes on.
     #[error("byte {}: no source goes on with this token, or ends here", .0.start)]
     Syntax(Span),
-    /// The first name that nothing has which may stand there, or that an earlier one of its kind has.
+    /// The first name that is unknown there, or that an earlier one of its kind has.
     #[error("byte {}: {}", .1.start, name_text(*.0))]
     Name(NameWhat, Span),
-    /// The first node of the predicate whose range or size passes `2^127 - 1`; or, where no node does and none has too many terms,
-    /// the root, where the weighted sum of the normal polynomial passes it.
+    /// The first node of the predicate whose range or size exceeds `2^127 - 1`; or, where no node does and none has too many terms,
+    /// the root, where the weighted sum of the normal polynomial exceeds it.
     #[error("predicate {}, byte {}: a range, a size or the weighted sum of the polynomial exceeds 2^127 - 1", .0, .1.start)]
     Bound(u8, Span),
     /// The first node of the predicate that has more than 1,024 terms.
@@ -61,10 +61,10 @@ pub enum Refusal {
     /// The name of the predicate whose root is 0, however it is perturbed.
     #[error("predicate {}, byte {}: the value is 0 however the sites are perturbed", .0, .1.start)]
     Zero(u8, Span),
-    /// The name of the predicate whose stage count passes 65,536, or whose stage weight passes 131,072.
+    /// The name of the predicate whose stage count exceeds 65,536, or whose stage weight exceeds 131,072.
     #[error("predicate {}, byte {}: more than 65,536 stages, or a stage weight above 131,072", .0, .1.start)]
     Stages(u8, Span),
-    /// There was no memory.
+    /// Out of memory.
     #[error("out of memory")]
     NoMemory,
 }
@@ -87,7 +87,7 @@ impl Refusal {
         }
     }
 
-    /// Its place in the source; none for want of memory.
+    /// Its place in the source; none for out of memory.
     pub fn span(self) -> Option<Span>
         ensures { result ≡ span_of self }
     {
@@ -116,7 +116,7 @@ impl From<NoMemory> for Refusal {
     }
 }
 
-/// The refusal for what `parse` answers.
+/// The refusal for what `parse` returns.
 pub fn refusal_of(e: ParseStop) -> Refusal
     ensures { result ≡ refusal_of e }
 {

@@ -1,4 +1,4 @@
-//! Sources to compiled tables.
+//! Compiles a whole source at once: its table, and a program and a stage count for each predicate.
 ghost use Rattle.std.specs.Prelude.{◌≡◌, ◌≤◌, ◌<◌, length, map, IfErr, IfOk};
 ghost use Rattle.ln_tree.specs.Table.{pred_of, table_of};
 ghost use Rattle.ln_compile.specs.Accepted.{Accepted};
@@ -52,14 +52,14 @@ impl Compiled {
         &self.programs
     }
 
-    /// The number of the predicate of a name, from 0; none where no predicate has it. It takes no memory.
+    /// The number of the predicate of a name, from 0; none where no predicate has it. It allocates nothing.
     pub fn find(&self, name: &str) -> Option<usize>
         ensures { result ≡ number_of name.now self.now.table.preds }
     {
         self.checked.find(name)
     }
 
-    /// The stage count of a predicate, by its number. It takes no memory.
+    /// The stage count of a predicate, by its number. It allocates nothing.
     pub fn stage_count(&self, i: usize) -> u64
         requires { i < length self.now.table.preds }
         ensures { IsStageCountAt (map pred_of self.now.table.preds) i result }
@@ -69,7 +69,7 @@ impl Compiled {
 }
 
 /// The table of a source, each predicate of which is accepted, with its programs; or why the source is refused: the first fault
-/// of its text, else the fault of the first predicate that has one. Without want of memory, the one or the other.
+/// of its text, else the fault of the first predicate that has one. Unless memory runs out, it is the one or the other.
 pub fn compile(alloc: Global, bytes: &[u8]) -> Result<Compiled, Refusal>
     requires { length bytes.now ≤ 1048576 }
     ensures ok { IfOk result (λ c. Accepted bytes.now (table_of c.table.sites c.table.params c.table.preds)) }

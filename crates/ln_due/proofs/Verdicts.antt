@@ -1,4 +1,4 @@
--- What a row is owed, found along its list.
+-- The verdict that a row requires, found along its list.
 pub mod AloudLemmas
 pub mod AlongLemmas
 pub mod Composition

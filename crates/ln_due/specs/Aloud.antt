@@ -21,7 +21,7 @@ value_at zs blocks list k = next (slice_get list k) (λ n. next (slice_get block
 abbrev pub wide_of_first : List Code → List ℕ → ℕ → ℕ
 wide_of_first blocks list k = sum_of (wide_at blocks) (take k list)
 
--- block k of the list decides, behind so many calls: those before it have the value 0, and it hasn't; each block up to it is called once
+-- block k of the list decides, after this many calls: those before it have the value 0, and it hasn't; each block up to it is called once
 pub record BlockDecides (zs : List ℤ) (blocks : List Code) (list : List ℕ) (entered k : ℕ) (v : Verdict) : Type 0 where
   pub before : (i : ℕ) → i < k → value_at zs blocks list i ≡ Some (pos 0)
   pub number : ℤ
@@ -38,7 +38,7 @@ pub record NoBlockDecides (zs : List ℤ) (blocks : List Code) (list : List ℕ)
   pub calls : v.calls ≡ entered + length list
   pub wide : v.wide ≡ wide_of_first blocks list (length list)
 
--- the blocks of the list, behind so many calls, tell this verdict, decided by this
+-- the blocks of the list, after this many calls, have this verdict, decided by this
 abbrev pub BlocksTell : List ℤ → List Code → List ℕ → ℕ → Verdict → By → Type 0
 BlocksTell zs blocks list entered v Filter = ⊥
 BlocksTell zs blocks list entered v (Stage k) = BlockDecides zs blocks list entered k v
@@ -52,15 +52,15 @@ pub record FilterDecides (left : Held) (v : Verdict) : Type 0 where
   pub calls : v.calls ≡ 1
   pub wide : v.wide ≡ 0
 
--- filter and blocks tell this verdict: without a filter the blocks do; with one it decides, or what it leaves isn't above its
--- error and the blocks do, behind its call
+-- filter and blocks have this verdict: without a filter the blocks do; with one it decides, or what it leaves isn't above its
+-- error and the blocks do, after its call
 abbrev pub Tell : Option FilterCode → List ℤ → List Code → List ℕ → Verdict → Type 0
 Tell None zs blocks list v = BlocksTell zs blocks list 0 v v.by
 Tell (Some f) zs blocks list v =
     (left : Held) × (filter_value zs f ≡ Some left)
     × (FilterDecides left v ⊎ ((unsigned_abs left.number ≤ left.error) × BlocksTell zs blocks list 1 v v.by))
 
--- the verdict of a part on a row: the filter and the blocks of the list of the row's order tell it
+-- the verdict of a part on a row: that of the filter and of the blocks of the list of the row's order
 pub record IsTold (part : Part) (row : Row) (v : Verdict) : Type 0 where
   pub places : List ℕ
   pub order : IsOrder row.index places

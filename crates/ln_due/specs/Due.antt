@@ -1,4 +1,4 @@
--- The verdict that a row is owed.
+-- The verdict that is required on a row.
 -- Source: the staged evaluation of Simulation of Simplicity (Edelsbrunner and Mücke 1990): the first coefficient that isn't 0 decides.
 use Rattle.std.specs.Prelude.{◌≡◌, ℕ, ◌+◌, ◌⊎◌, ℤ, pos, negsuc, List, [], ◌∷◌, length}
 use Rattle.ln_base.specs.declared.sign.Sign.{Sign}
@@ -21,7 +21,7 @@ sign_number Minus = negsuc 0
 sign_number Zero = pos 0
 sign_number Plus = pos 1
 
--- the position of a in a list: that many members stand before a in the order
+-- the position of a in a list: how many members are before a in the order
 abbrev pub IsPositionIn : (List ℕ → List ℕ → Type 0) → List (List ℕ) → List ℕ → ℕ → Type 0
 IsPositionIn before [] a place = place ≡ 0
 IsPositionIn before (b ∷ list) a place =
@@ -41,7 +41,7 @@ abbrev pub DecidesRow : Rank → List VarInfo → Tree → Row → List (List �
 DecidesRow rank vars e row list by blocks =
     IsDecidedBy (Before rank (row_sites vars row.index)) (length vars) (row_sites vars row.index) (values row.values) e list by blocks
 
--- what the stages owe a row of these variables and this expression, behind so many calls: the perturbed sign, by the row's own
+-- what the stages require on a row of these variables and this expression, after this many calls: the perturbed sign, by the row's own
 -- indices; what decides in the stage list of the row's order; and the calls, one for each block that is entered
 pub record IsOwedByStages (rank : Rank) (vars : List VarInfo) (e : Tree) (row : Row) (entered : ℕ) (v : Verdict) : Type 0 where
   pub sign : RowSign rank vars e row (sign_number v.sign)
@@ -51,7 +51,7 @@ pub record IsOwedByStages (rank : Rank) (vars : List VarInfo) (e : Tree) (row : 
   pub decided : DecidesRow rank vars e row list v.by blocks
   pub calls : v.calls ≡ entered + blocks
 
--- what the filter owes a row on which it decides: the perturbed sign by one call, with no operation in 128 bits
+-- what the filter requires on a row on which it decides: the perturbed sign by one call, with no operation in 128 bits
 pub record IsOwedByFilter (rank : Rank) (vars : List VarInfo) (e : Tree) (row : Row) (v : Verdict) : Type 0 where
   pub sign : RowSign rank vars e row (sign_number v.sign)
   pub by : v.by ≡ Filter
@@ -64,8 +64,8 @@ pub data Filtering : Type 0 where
   Decided : Filtering
   Undecided : Filtering
 
--- the verdict that a row is owed in this order of infinitesimals, where the filter does this: the filter's, or that of the
--- stages, behind the filter's call if there is one
+-- the verdict that is required on a row in this order of infinitesimals, where the filter does this: the filter's, or that of the stages, after
+-- the filter's call if there is one
 abbrev pub Due : Rank → Filtering → List VarInfo → Tree → Row → Verdict → Type 0
 Due rank NoFilter vars e row v = IsOwedByStages rank vars e row 0 v
 Due rank Decided vars e row v = IsOwedByFilter rank vars e row v

@@ -1,4 +1,4 @@
--- What a part that carries an expression answers on rows in range, in either order of infinitesimals: the laws.
+-- What a part that carries an expression returns on rows in range, in either order of infinitesimals: the laws.
 use Rattle.std.specs.Prelude.{◌≡◌, ◌≢◌, ℕ, ◌<◌, ◌≤◌, ◌⊎◌, All, Contains, ℤ, pos, unsigned_abs, List}
 use Rattle.std.specs.Prelude.{[], length, Some, None, slice_get, slice_index, slice_index_or}
 use Rattle.ln_base.specs.declared.sign.Sign.TheVariants.{Zero}
@@ -74,7 +74,7 @@ FilterDoes p zs Decided = (c : FilterCode) × (left : Held) × (p.filter ≡ Som
 FilterDoes p zs Undecided = (c : FilterCode) × (left : Held) × (p.filter ≡ Some c) × (filter_value zs c ≡ Some left)
     × (unsigned_abs left.number ≤ left.error)
 
--- the machine's verdict on a row in range is the one that the row is owed
+-- the machine's verdict on a row in range is the required one
 abbrev pub VerdictsAreDue : Type 0
 VerdictsAreDue =
     (rank : Rank) (p : Part) (e : Tree) (f : List Term) (row : Row) (does : Filtering) (v : Verdict) → Runs p → Carries rank p e f →
@@ -87,20 +87,20 @@ SignsArePerturbed =
     InRange p.shape.sites p.shape.vars row → IsVerdict p row v →
     RowSign rank p.shape.vars e row (sign_number v.sign)
 
--- without params no row in range is owed the sign 0, as long as the normal polynomial has any monomial
+-- without params no row in range requires the sign 0, as long as the normal polynomial has any monomial
 abbrev pub WithoutParamsNeverZero : Type 0
 WithoutParamsNeverZero =
     (rank : Rank) (s : Shape) (e : Tree) (m : List ℕ) (row : Row) (does : Filtering) (v : Verdict) →
     All (λ i. i.site ≢ None) s.vars → InputsBelow (length s.vars) e →
     IsMonomial (length s.vars) e m → InRange s.sites s.vars row → Due rank does s.vars e row v → v.sign ≢ Zero
 
--- two verdicts agree, but for the wide operations, which no row is owed
+-- two verdicts agree, but for the wide operations, which are not required
 pub record Agree (v w : Verdict) : Type 0 where
   pub sign : v.sign ≡ w.sign
   pub by : v.by ≡ w.by
   pub calls : v.calls ≡ w.calls
 
--- a row in range is owed at most one sign, by one decider, with one number of calls
+-- a row in range requires at most one sign, by one decider, with one number of calls
 abbrev pub DueIsUnique : Type 0
 DueIsUnique =
     (rank : Rank) (s : Shape) (e : Tree) (row : Row) (does : Filtering) (v w : Verdict) → InRange s.sites s.vars row →

@@ -21,7 +21,7 @@ pub record IsPlain (z : ℤ) (v : Verdict) : Type 0 where
   pub sign : sign_number v.sign ≡ sign_of z
   pub by : (v.by ≡ Filter) ⊎ (v.by ≡ Stage 0)
 
--- where the value on a row in range isn't 0, the verdict that the row is owed has its sign, from the filter or from the first stage
+-- where the value on a row in range isn't 0, the required verdict has its sign, from the filter or from the first stage
 abbrev pub PlainValuesDecide : Type 0
 PlainValuesDecide =
     (rank : Rank) (s : Shape) (e : Tree) (row : Row) (does : Filtering) (v : Verdict) → InRange s.sites s.vars row →

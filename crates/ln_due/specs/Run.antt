@@ -1,4 +1,4 @@
--- The laws in the order of infinitesimals by which rows are told: by the smallest one in which two vectors differ.
+-- The laws in the order of infinitesimals by which `run` decides rows: by the smallest one in which two vectors differ.
 use Rattle.std.specs.Prelude.{◌≢◌, ℕ, All, List, length, None}
 use Rattle.ln_base.specs.declared.sign.Sign.TheVariants.{Zero}
 use Rattle.ln_algebra.specs.Orders.{BySmallest}
@@ -16,7 +16,7 @@ use Rattle.ln_code.specs.Verdict.{IsVerdict}
 use Rattle.ln_due.specs.Due.{Due, Filtering, sign_number}
 use Rattle.ln_due.specs.DueLaw.{Agree, FilterDoes}
 
--- the machine's verdict on a row in range is the one that the row is owed
+-- the machine's verdict on a row in range is the required one
 abbrev pub RunIsDue : Type 0
 RunIsDue =
     (p : Part) (e : Tree) (f : List Term) (row : Row) (does : Filtering) (v : Verdict) → Runs p → Carries BySmallest p e f →
@@ -29,7 +29,7 @@ RunIsPerturbed =
     InRange p.shape.sites p.shape.vars row → IsVerdict p row v →
     IsPerturbedSign (length p.shape.vars) (row_sites p.shape.vars row.index) (values row.values) e (sign_number v.sign)
 
--- what is due has the perturbed sign
+-- the required verdict has the perturbed sign
 abbrev pub DueIsPerturbed : Type 0
 DueIsPerturbed =
     (s : Shape) (e : Tree) (row : Row) (does : Filtering) (v : Verdict) → Due BySmallest does s.vars e row v →

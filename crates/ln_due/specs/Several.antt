@@ -13,7 +13,7 @@ use Rattle.ln_code.specs.Verdict.{IsVerdict}
 use Rattle.ln_code.specs.declared.verdict.Verdict.{Verdict}
 use Rattle.ln_due.specs.Due.{sign_number}
 
--- the part, which carries the expression e, is over these variables, and answers the row by v
+-- the part, which carries the expression e, is over these variables, and has the verdict v on the row
 pub record IsAnswered (rank : Rank) (vars : List VarInfo) (row : Row) (p : Part) (e : Tree) (v : Verdict) : Type 0 where
   pub runs : Runs p
   pub polynomial : List Term

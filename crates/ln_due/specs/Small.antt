@@ -15,7 +15,7 @@ pub record IsSmall (n : ℕ) (e : Tree) : Type 0 where
   pub few : HasTooManyTerms n e → ⊥
   pub low : (m : List ℕ) (v : ℕ) → IsMonomial n e m → slice_index m v < 128
 
--- so has that of each pushed value, whose expression is told by `tree`
+-- so has that of each pushed value, whose expression `tree` returns
 abbrev pub AreSmall : {K : Type 0} → (K → Tree) → ℕ → List (Pushed K) → Type 0
 AreSmall tree n [] = Unit {0}
 AreSmall tree n (p ∷ ps) = IsSmall n (tree p.value) × AreSmall tree n ps

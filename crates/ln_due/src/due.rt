@@ -21,7 +21,7 @@ pub fn blocks_run()
     ensures { BlocksRun }
 {}
 
-/// The machine's verdict on a row in range is the one that the row is owed: the sign of the first coefficient that isn't 0, in the
+/// The machine's verdict on a row in range is the required one: the sign of the first coefficient that isn't 0, in the
 /// order of infinitesimals, its place, and the calls up to it; or the same sign from the filter, where that decides.
 ///
 /// On it rests the sign that is printed for a row, the place beside it, and the number of calls.
@@ -30,14 +30,14 @@ pub fn verdicts_are_due()
     ensures signs { SignsArePerturbed }
 {}
 
-/// An expression without params owes no row in range the sign 0.
+/// An expression without params requires the sign 0 on no row in range.
 ///
 /// On it rests that a degenerate row is decided all the same, as long as the predicate has no params.
 pub fn without_params_never_zero()
     ensures { WithoutParamsNeverZero }
 {}
 
-/// Where the value of the expression on a row in range isn't 0, that value decides: the verdict that is due has its sign, and comes
+/// Where the value of the expression on a row in range isn't 0, that value decides: the required verdict has its sign, and comes
 /// from the filter or from the first stage. It is the coefficient at the vector of zeros.
 ///
 /// On it rests that only degenerate rows are decided by an infinitesimal.
@@ -46,9 +46,9 @@ pub fn plain_values_decide()
     ensures due { PlainValuesDecide }
 {}
 
-/// A row in range is owed at most one sign, by one decider, with one number of calls.
+/// A row in range requires at most one sign, by one decider, with one number of calls.
 ///
-/// On it rests that what is printed for a row is the only right answer.
+/// On it rests that what is printed for a row is the only right output.
 pub fn due_is_unique()
     ensures { DueIsUnique }
 {}

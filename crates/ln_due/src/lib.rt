@@ -1,8 +1,8 @@
-//! What a row is owed, and that a part which carries an expression pays it.
+//! Defines the verdict that is required on a row, and proves that a part which carries an expression returns it.
 //!
 //! A part carries an expression where its blocks have the scaled derivatives of the expression's normal polynomial as their
 //! polynomials, and its lists are the stage lists of all orders of the sites. The machine's verdict on a row in range is then the
-//! one that the row is owed: the sign of the first coefficient that isn't 0 at perturbed inputs, its place among the stages of the
+//! required one: the sign of the first coefficient that isn't 0 at perturbed inputs, its place among the stages of the
 //! row's order, and the calls up to it; or the same sign from the filter, where that decides. Programs that are compiled and parts
 //! of a listing that are judged valid both come here.
 //!

@@ -1,11 +1,11 @@
-//! The laws of `due` by the smallest infinitesimal that differs, by which `run` tells rows.
+//! The laws of `due` by the smallest infinitesimal that differs, by which `run` decides rows.
 ghost use Rattle.ln_due.specs.Run.{DueIsPerturbed, RunIsDue, RunIsNeverZero, RunIsPerturbed, RunIsUnique};
 ghost use Rattle.ln_due.specs.Plain.{RunIsPlain};
 
-/// The machine's verdict on a row in range is the one that the row is owed, and it is the only one; its sign is the perturbed sign,
+/// The machine's verdict on a row in range is the required one, and there is no other; its sign is the perturbed sign,
 /// which isn't 0 without params. Where the value on the row isn't 0, it decides.
 ///
-/// On it rests the headline: what is told of a row is the sign of the first coefficient that isn't 0 of the predicate at perturbed
+/// On it rests the headline: what is printed for a row is the sign of the first coefficient that isn't 0 of the predicate at perturbed
 /// inputs.
 pub fn run_is_due()
     ensures due { RunIsDue }

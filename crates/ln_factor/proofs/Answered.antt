@@ -1,5 +1,5 @@
 -- The product of the verdicts' signs is the perturbed sign of the product.
-use Rattle.std.proofs.Common.{◌≡◌, ℕ, zero, suc, ◌<◌, List, [], ◌∷◌, length, get_or, refl, sym, ◌∙◌, subst, arith, Some}
+use Rattle.std.proofs.Common.{◌≡◌, ℕ, zero, suc, ◌<◌, List, [], ◌∷◌, length, refl, sym, ◌∙◌, arith, Some}
 use Rattle.std.specs.Prelude.{All, slice_get}
 use Rattle.std.proofs.lemmas.List.Elements.{All-head, All-tail}
 use Rattle.ln_algebra.specs.Orders.{Rank}
@@ -14,7 +14,7 @@ use Rattle.ln_due.specs.Several.{AreAnswered, IsAnswered}
 use Rattle.ln_due.proofs.Verdicts.SeveralLemmas.{signs-multiply}
 use Rattle.ln_factor.specs.Factors.{AreCarried, AreOver, AreVerdicts, IsFactor, IsRowOfFactors, IsSignOfProduct, numbers_of}
 
--- ---- the factors behind the first
+-- ---- the factors after the first
 behind : (ps : List Part) (i : ℕ) (is : List ℕ) (k : ℕ) (p : Part) → IsFactor ps is k p → IsFactor ps (i ∷ is) (suc k) p
 behind ps i is k p f = record { place = f.place; named = f.named; there = f.there }
 

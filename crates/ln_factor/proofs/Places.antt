@@ -23,7 +23,7 @@ use Rattle.std.proofs.Common.{
   arith,
   Some,
 }
-use Rattle.std.specs.Prelude.{◌≢◌, None, slice_get}
+use Rattle.std.specs.Prelude.{None, slice_get}
 use Rattle.std.proofs.lemmas.Bool.{cases_eq, cases_lt}
 use Rattle.std.proofs.Math.ListN.{length-set}
 use Rattle.ln_tree.specs.Row.{InRange}
@@ -87,7 +87,7 @@ module _ (ps : List Part) (which : List ℕ) (r : Row) (k : ℕ) (h : k < length
         let w : s ≡ t = cc in
         subst (λ (u : Scratch). MadeFor p u) w (new p (place-here p g))
 
-  -- its verdict is filled in, behind those before it
+  -- its verdict is filled in, after those before it
   abbrev pub AreFilled : ℕ → List Verdict → Type 0
   AreFilled n vs = (j : ℕ) (p : Part) (v : Verdict) → j < n → IsFactor ps which j p → slice_get vs j ≡ Some v
       → IsVerdict p (row_of p.shape.sites p.shape.vars r) v

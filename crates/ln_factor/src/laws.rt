@@ -1,4 +1,4 @@
-//! Laws of products.
+//! States the laws of products: the first vectors of the factors add up, and their signs multiply.
 ghost use Rattle.ln_factor.specs.Law.{FirstsAdd, FirstsAreSums, SignsAreProducts, ZeroWhereOneIs};
 
 /// A law: on a row in range the first vector of a product is the sum of the first vectors of its factors, and it has no other; its sign

@@ -66,7 +66,7 @@ fn fill(ps: &Programs, which: &[usize], s: &mut [Scratch], r: &Row, out: &mut [V
 }
 
 /// Returns the perturbed sign, on a row in range, of the product of the expressions that programs carry, and fills in the verdict of
-/// each factor. A factor is a place in `ps`, from 0; the same place may stand in `which` more than once. The programs at these places
+/// each factor. A factor is a place in `ps`, from 0; the same place may be in `which` more than once. The programs at these places
 /// are over the same variables; each factor has its own scratch, made for its program, and its own verdict. The product isn't formed:
 /// each factor runs in its own ranges and widths. Allocates nothing and refuses nothing.
 pub fn product_row(

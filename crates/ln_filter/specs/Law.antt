@@ -9,7 +9,7 @@ use Rattle.ln_code.specs.FilterRules.{Stands}
 use Rattle.ln_code.specs.Verdict.{sign_of}
 use Rattle.ln_filter.specs.Truncated.{root_triple, root_number, Decides}
 
--- the plain value of a sign expression behind its lets, on a row with these values
+-- the plain value of a sign expression after its lets, on a row with these values
 abbrev pub plain_value : List ℤ → List Tree → Tree → ℤ
 plain_value zs lets root = value (values zs) (let_values (values zs) [] lets) root
 

@@ -14,6 +14,7 @@ use Rattle.ln_code.specs.Engine.{Line}
 use Rattle.ln_code.specs.Kept.{no_triple}
 use Rattle.ln_filter.specs.Triples.{cut, excess, whole, leaf, sum_of, product_of, powered, triple, let_triples}
 
+-- an operation with the triple that it carries
 abbrev pub line : Op → Triple → Line Triple
 line o a = record { op = o; bound = a }
 
@@ -56,6 +57,7 @@ abbrev pub power_of : Triple → ℕ → List (Line Triple)
 power_of a zero = []
 power_of a (suc n) = line (Set 64) no_triple ∷ (line (Get 64) a ∷ factors a (suc n))
 
+-- the operations of a power: a push of 1 for the power 0, else those of the base, of triple a, and from there to the power
 abbrev pub powers : List (Line Triple) → Triple → ℕ → List (Line Triple)
 powers base a zero = line (Push (pos 1)) (leaf 1) ∷ []
 powers base a (suc n) = base ++ power_of a n
@@ -75,7 +77,7 @@ filter_lines vars lets (Mul e f) =
     (product_of (triple vars lets e) (triple vars lets f)))
 filter_lines vars lets (Pow e n) = powers (filter_lines vars lets e) (triple vars lets e) n
 
--- each let into the local of its number, from number j on, behind lets with these triples
+-- each let into the local of its number, from number j on, after lets with these triples
 abbrev pub let_lines : List VarInfo → ℕ → List Triple → List Tree → List (Line Triple)
 let_lines vars j done [] = []
 let_lines vars j done (t ∷ ts) =

@@ -14,7 +14,8 @@ use Rattle.ln_filter.specs.Steady.{HasFilter}
 use Rattle.ln_filter.specs.Truncated.{root_number, root_triple}
 
 -- the filter of a predicate with these lets and this sign expression: it follows the rules, stands for the predicate's
--- polynomial, has the operations of the lets and of the sign expression and no other, pushes polynomials of nodes, leaves its truncated number with its error, and is small
+-- polynomial, has the operations of the lets and of the sign expression and no other, pushes
+-- polynomials of nodes, leaves its truncated number with its error, and is small
 pub record IsPlanned (vars : List VarInfo) (lets : List Typed) (root : Typed) (f : FilterCode) : Type 0 where
   pub has : HasFilter vars (map untyped lets) (untyped root)
   pub rules : FollowsFilterRules vars f
@@ -29,6 +30,7 @@ pub record IsPlanned (vars : List VarInfo) (lets : List Typed) (root : Typed) (f
       })
   pub small : length f.ops ≤ 8 * (cost root + costs lets) + 64
 
+-- what is written for a predicate: its filter as planned, or none where it has no filter
 abbrev pub IsPlan : List VarInfo → List Typed → Typed → Option FilterCode → Type 0
 IsPlan vars lets root None = HasFilter vars (map untyped lets) (untyped root) → ⊥
 IsPlan vars lets root (Some f) = IsPlanned vars lets root f

@@ -26,7 +26,7 @@ AreSteady vars lets (Sub e f) = AreSteady vars lets e × AreSteady vars lets f �
 AreSteady vars lets (Mul e f) = AreSteady vars lets e × AreSteady vars lets f × IsSteady (triple vars lets (Mul e f))
 AreSteady vars lets (Pow e n) = AreSteady vars lets e × ArePowersSteady (triple vars lets e) n
 
--- so has each node of the lets, used or not, each over the lets before it, behind these
+-- so has each node of the lets, used or not, each over the lets before it, after these
 abbrev pub AreLetsSteady : List VarInfo → List Triple → List Tree → Type 0
 AreLetsSteady vars done [] = Unit {0}
 AreLetsSteady vars done (t ∷ ts) = AreSteady vars done t × AreLetsSteady vars (done ++ triple vars done t ∷ []) ts

@@ -10,7 +10,7 @@ use Rattle.ln_code.specs.declared.op.Triple.{Triple}
 use Rattle.ln_code.specs.FilterRules.{error_after}
 use Rattle.ln_code.specs.Kept.{no_triple}
 
--- the number of binary digits of n, of which there are at most so many
+-- the number of binary digits of n, where it is at most this many
 abbrev pub digits : ℕ → ℕ → ℕ
 digits zero n = 0
 digits (suc most) n = if n == 0 then 0 else suc (digits most (n / 2))
@@ -19,7 +19,7 @@ digits (suc most) n = if n == 0 then 0 else suc (digits most (n / 2))
 unfoldable pub bits : ℕ → ℕ
 bits n = digits n n
 
--- by which power of 2 a number up to r is divided, so that 31 binary digits are left
+-- by which power of 2 a number up to r is divided, so that 31 binary digits remain
 abbrev pub excess : ℕ → ℕ
 excess r = bits r - 31
 
@@ -51,9 +51,11 @@ sum_of a b = record { k = max a.k b.k; h = (aligned a b).h + (aligned b a).h; e 
 abbrev pub product_of : Triple → Triple → Triple
 product_of a b = record { k = a.k + b.k; h = a.h * b.h; e = a.h * b.e + b.h * a.e + a.e * b.e }
 
+-- of a sum or a difference, cut so that 31 binary digits remain
 abbrev pub added : Triple → Triple → Triple
 added a b = trimmed (sum_of a b)
 
+-- of a product, cut so that 31 binary digits remain
 abbrev pub multiplied : Triple → Triple → Triple
 multiplied a b = trimmed (product_of a b)
 
@@ -62,17 +64,6 @@ abbrev pub both : Two → Triple → Triple → Triple
 both Plus a b = added a b
 both Minus a b = added a b
 both Times a b = multiplied a b
-
--- which operation on two an expression is, where it is one
-abbrev pub kind_of : Tree → Two
-kind_of (Num c) = Plus
-kind_of (Input v) = Plus
-kind_of (Name j) = Plus
-kind_of (Neg e) = Plus
-kind_of (Add e f) = Plus
-kind_of (Sub e f) = Minus
-kind_of (Mul e f) = Times
-kind_of (Pow e n) = Plus
 
 -- of the n-th power: the number 1, the base, or the power before it times the base
 abbrev pub powered : Triple → ℕ → Triple
@@ -91,7 +82,7 @@ triple vars lets (Sub e f) = added (triple vars lets e) (triple vars lets f)
 triple vars lets (Mul e f) = multiplied (triple vars lets e) (triple vars lets f)
 triple vars lets (Pow e n) = powered (triple vars lets e) n
 
--- the triples of lets, each over the lets before it, behind these
+-- the triples of lets, each over the lets before it, after these
 abbrev pub let_triples : List VarInfo → List Triple → List Tree → List Triple
 let_triples vars done [] = done
 let_triples vars done (t ∷ ts) = let_triples vars (done ++ triple vars done t ∷ []) ts

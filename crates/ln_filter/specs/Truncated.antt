@@ -8,7 +8,7 @@ use Rattle.ln_code.specs.Numbers.{cut_by}
 use Rattle.ln_filter.specs.Triples.{excess, triple, let_triples, powered, sum_of, product_of}
 use Rattle.ln_filter.specs.Steady.{HasFilter}
 
--- a leaf up to m: what is left of it when 31 binary digits are left of m
+-- a leaf up to m, truncated by as many binary digits as leave 31 of m
 abbrev pub leaf_number : ℕ → ℤ → ℤ
 leaf_number m z = cut_by (excess m) z
 
@@ -22,6 +22,7 @@ difference_number a b y z = cut_by (excess (sum_of a b).h) (cut_by (b.k - a.k) y
 abbrev pub product_number : Triple → Triple → ℤ → ℤ → ℤ
 product_number a b y z = cut_by (excess (product_of a b).h) (y *ℤ z)
 
+-- of the n-th power of what has the triple a and the truncated number z: the number 1, z, or the power before it times z
 abbrev pub power_number : Triple → ℤ → ℕ → ℤ
 power_number a z zero = leaf_number 1 (pos 1)
 power_number a z (suc zero) = z
@@ -40,12 +41,12 @@ number vars x lets hs (Mul e f) = product_number (triple vars lets e) (triple va
     (number vars x lets hs f)
 number vars x lets hs (Pow e n) = power_number (triple vars lets e) (number vars x lets hs e) n
 
--- the truncated numbers of lets, each over the lets before it, behind these
+-- the truncated numbers of lets, each over the lets before it, after these
 abbrev pub let_numbers : List VarInfo → (ℕ → ℤ) → List Triple → List ℤ → List Tree → List ℤ
 let_numbers vars x lets hs [] = hs
 let_numbers vars x lets hs (t ∷ ts) = let_numbers vars x (lets ++ triple vars lets t ∷ []) (hs ++ number vars x lets hs t ∷ []) ts
 
--- the triple of the sign expression of a predicate, behind its lets
+-- the triple of the sign expression of a predicate, after its lets
 abbrev pub root_triple : List VarInfo → List Tree → Tree → Triple
 root_triple vars lets root = triple vars (let_triples vars [] lets) root
 

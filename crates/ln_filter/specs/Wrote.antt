@@ -9,10 +9,12 @@ use Rattle.ln_filter.specs.declared.draft.Draft.{Draft}
 use Rattle.ln_filter.specs.Lines.{filter_lines, let_lines}
 use Rattle.ln_filter.specs.Tried.{AllNarrow, AreNarrow, IsSmall, lets_tried, tried}
 
+-- the operations of lines, without their triples
 abbrev pub ops_in : List (Line Triple) → List Op
 ops_in [] = []
 ops_in (x ∷ xs) = x.op ∷ ops_in xs
 
+-- the triples of lines, without their operations
 abbrev pub triples_in : List (Line Triple) → List Triple
 triples_in [] = []
 triples_in (x ∷ xs) = x.bound ∷ triples_in xs
@@ -28,7 +30,7 @@ pub record Gives (before after : Draft) (lines : List (Line Triple)) (want a : T
   pub small : IsSmall a
   pub wrote : Wrote before after lines
 
--- what is told of a tree, and of what has an answer the second draft has the operations more
+-- the result for a tree; where it is a triple, the second draft has the tree's operations appended
 pub record SteadyPut (vars : List VarInfo) (lets : List Triple) (before after : Draft) (t : Tree) (o : Option Triple) : Type 0 where
   pub tried : o ≡ tried vars lets t
   pub small : IfSome o (λ a. IsSmall a)

@@ -8,7 +8,7 @@ ghost use Rattle.ln_bound.specs.View.{typed};
 ghost use Rattle.ln_code.specs.Engine.{next};
 ghost use Rattle.ln_code.specs.FilterRules.{error_after};
 ghost use Rattle.ln_code.specs.Kept.{no_triple};
-ghost use Rattle.ln_filter.specs.Triples.{both, cut, excess, kind_of, leaf, product_of, sum_of, trimmed, whole};
+ghost use Rattle.ln_filter.specs.Triples.{both, cut, excess, leaf, product_of, sum_of, trimmed, whole};
 ghost use Rattle.ln_filter.specs.Tried.{IsSmall, IsTried, of_raw, power_tried, settled};
 
 use ln_bound::{FitOp, Fitted, Two};
@@ -24,7 +24,7 @@ pub(crate) struct Raw {
     pub(crate) e: u64,
 }
 
-/// By which power of 2 a number up to `n` is divided so that 31 binary digits are left.
+/// By which power of 2 a number up to `n` is divided so that 31 binary digits remain.
 pub(crate) fn excess(n: u128) -> u32
     ensures value { result ≡ excess n }
     ensures most { result ≤ 97 }
@@ -52,7 +52,7 @@ pub(crate) fn whole(m: u128) -> Raw
     Raw { k: 0, h: m, e: 0 }
 }
 
-/// The triple of a number up to `m`, which may be divided so that 31 binary digits are left.
+/// The triple of a number up to `m`, which may be divided so that 31 binary digits remain.
 pub(crate) fn leaf(m: u128) -> Triple
     ensures value { result ≡ leaf m }
     ensures small { IsSmall result }
@@ -157,17 +157,6 @@ pub(crate) fn let_triple(lets: &[Triple], j: u8) -> Triple
     }
 }
 
-/// Which operation on two a tree is, where it is one; else a sum.
-pub(crate) fn kind_of(t: &Fitted) -> Two
-    ensures { result ≡ kind_of (untyped (typed t.now)) }
-{
-    match &t.op {
-        FitOp::Sub(_, _) => Two::Minus,
-        FitOp::Mul(_, _) => Two::Times,
-        _ => Two::Plus,
-    }
-}
-
 // The triple of an operation on two, where both operands have one.
 fn both(kind: Two, a: Option<Triple>, b: Option<Triple>) -> Option<Triple>
     requires left { IfSome a (λ x. IsSmall x) }
@@ -207,7 +196,7 @@ pub(crate) fn tried(vars: &[VarInfo], lets: &[Triple], t: &Fitted) -> Option<Tri
         FitOp::Add(x, y) | FitOp::Sub(x, y) | FitOp::Mul(x, y) => {
             let a = tried(vars, lets, x);
             let b = tried(vars, lets, y);
-            both(kind_of(t), a, b)
+            both(t.operation(), a, b)
         }
         FitOp::Pow(x, n) => {
             let a = tried(vars, lets, x);

@@ -14,7 +14,7 @@ pub(crate) struct Draft {
 }
 
 impl Draft {
-    // Puts an operation and its triple at the end.
+    // Appends an operation and its triple.
     pub(crate) fn push(&mut self, op: Op, triple: Triple) -> Result<(), NoMemory>
         ensures { OnOk result (Wrote self.old self.new (line op triple ∷ [])) }
     {

@@ -16,9 +16,7 @@ ghost use Rattle.ln_filter.specs.Lines.{cut_lines, factor_lines, factors, filter
 ghost use Rattle.ln_filter.specs.Lines.{left_lines, right_lines};
 ghost use Rattle.ln_filter.specs.Wrote.{Gives, LetsPut, SteadyPut, Wrote};
 
-use crate::arithmetic::{
-    Raw, cut, excess, kind_of, leaf, let_triple, product, size_at, sum, tried, whole,
-};
+use crate::arithmetic::{Raw, cut, excess, leaf, let_triple, product, size_at, sum, tried, whole};
 use crate::draft::Draft;
 use ln_base::{NoMemory, Seq};
 use ln_bound::{FitOp, Fitted, Two, Width};
@@ -231,9 +229,9 @@ fn put_tree(
         }
         FitOp::Add(x, y) | FitOp::Sub(x, y) | FitOp::Mul(x, y) => {
             let a = put_tree(draft, vars, lets, x)?;
-            put_left(draft, vars, lets, kind_of(t), a, y)?;
+            put_left(draft, vars, lets, t.operation(), a, y)?;
             let b = put_tree(draft, vars, lets, y)?;
-            put_right(draft, kind_of(t), a, b)
+            put_right(draft, t.operation(), a, b)
         }
         FitOp::Pow(x, n) => {
             if *n == 0 {
@@ -246,7 +244,7 @@ fn put_tree(
     }
 }
 
-/// The operations of a tree behind lets of these triples, and its triple; none where one of its nodes isn't steady.
+/// The operations of a tree after lets of these triples, and its triple; none where one of its nodes isn't steady.
 pub(crate) fn put_steady(
     draft: &mut Draft,
     vars: &[VarInfo],

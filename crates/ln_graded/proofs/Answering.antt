@@ -1,8 +1,7 @@
--- What a program by total degree answers.
-use Rattle.std.proofs.Common.{◌≡◌, ℕ, List, length, subst, sym}
+-- Proves the law of the verdicts of a program by total degree.
+use Rattle.std.proofs.Common.{length, subst, sym}
 use Rattle.ln_algebra.specs.Orders.{ByDegree}
 use Rattle.ln_tree.specs.declared.shape.Shape.{Shape}
-use Rattle.ln_tree.specs.declared.shape.VarInfo.{VarInfo}
 use Rattle.ln_tree.specs.Row.{InRange}
 use Rattle.ln_poly.specs.Sparse.{terms_of}
 use Rattle.ln_stage.proofs.Sights.Members.{lists-one}

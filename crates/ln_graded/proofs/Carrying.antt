@@ -1,8 +1,7 @@
 -- A part made of the stages by total degree has their lists, and carries its expression.
-use Rattle.std.proofs.Common.{◌≡◌, ◌⊎◌, inl, inr, ℕ, zero, suc, ◌+◌, ◌<◌, ◌≤◌, List, [], ◌∷◌, length, map, get_or, refl, sym, ◌∙◌, ap, subst, arith}
-use Rattle.std.specs.Prelude.{◌≢◌, All}
+use Rattle.std.proofs.Common.{◌≡◌, ℕ, zero, suc, ◌<◌, List, [], ◌∷◌, length, map, get_or, refl, sym, ◌∙◌, ap, subst, arith}
+use Rattle.std.specs.Prelude.{◌≢◌}
 use Rattle.std.proofs.lemmas.List.{get_or-map, get_or_default, length-map}
-use Rattle.ln_algebra.specs.Earlier.{Sites}
 use Rattle.ln_algebra.specs.Orders.{Before, ByDegree, GradedEarlier}
 use Rattle.ln_algebra.specs.Stage.{IsMonomial, IsStageListBy}
 use Rattle.ln_algebra.specs.Terms.{IsNormalOf}
@@ -13,39 +12,41 @@ use Rattle.ln_tree.specs.declared.shape.VarInfo.{VarInfo}
 use Rattle.ln_tree.specs.Exps.{Pairs, vector}
 use Rattle.ln_order.specs.Orders.{IsOrderOf, orders_of}
 use Rattle.ln_order.specs.Prefixes.{beside, prefixes_of, segments_from}
-use Rattle.ln_order.specs.Rows.{OrderStages}
 use Rattle.ln_order.specs.Sites.{sites_of}
-use Rattle.ln_order.proofs.Listing.OrdersLemmas.{is-member, member-is}
+use Rattle.ln_order.proofs.Listing.OrdersLemmas.{is-member}
 use Rattle.ln_poly.specs.Sparse.{AreBelow, IsPoly, Sparse, terms_of}
 use Rattle.ln_stage.specs.Graded.{AreGradedStagesOf}
 use Rattle.ln_stage.specs.StageList.{IsMonomialOf}
 use Rattle.ln_stage.specs.Staged.{Staged, block_vector, vectors_of}
 use Rattle.ln_stage.proofs.Monomials.LawLemmas.{of_tree, to_tree}
 use Rattle.ln_stage.proofs.Sights.Members as members
-use Rattle.ln_code.specs.Carried.{Carries, vectors}
+use Rattle.ln_code.specs.Carried.{Carries}
 use Rattle.ln_code.specs.Kept.{IsList}
-use Rattle.ln_code.specs.Lists.{IsListOf, list_of, lists_of}
-use Rattle.ln_code.specs.Part.{Code, FilterCode, Part}
+use Rattle.ln_code.specs.Lists.{list_of}
+use Rattle.ln_code.specs.Part.{Code, Part}
 use Rattle.ln_graded.specs.Made.{IsMadeOf}
 
 -- ---- exponents with the same vectors
-same-at : (n : ℕ) (blocks : List Code) (exps : List Pairs) → map (λ (c : Code). vector n c.exps) blocks ≡ map (vector n) exps → (i : ℕ) → block_vector n (map (λ (c : Code). c.exps) blocks) i ≡ block_vector n exps i
+same-at : (n : ℕ) (blocks : List Code) (exps : List Pairs) → map (λ (c : Code). vector n c.exps) blocks ≡ map (vector n) exps → (i : ℕ)
+    → block_vector n (map (λ (c : Code). c.exps) blocks) i ≡ block_vector n exps i
 same-at n [] [] e i = refl
 same-at n [] (x ∷ xs) e i = cc
 same-at n (c ∷ cs) [] e i = cc
 same-at n (c ∷ cs) (x ∷ xs) e zero = (heads (vector n c.exps) (vector n x) (map (λ (d : Code). vector n d.exps) cs) (map (vector n) xs) e) where
   heads : (a b : List ℕ) (as' bs : List (List ℕ)) → a ∷ as' ≡ b ∷ bs → a ≡ b
   heads a b as' bs q = cc
-same-at n (c ∷ cs) (x ∷ xs) e (suc i) = same-at n cs xs (tails (vector n c.exps) (vector n x) (map (λ (d : Code). vector n d.exps) cs) (map (vector n) xs) e) i where
-  tails : (a b : List ℕ) (as' bs : List (List ℕ)) → a ∷ as' ≡ b ∷ bs → as' ≡ bs
-  tails a b as' bs q = cc
+same-at n (c ∷ cs) (x ∷ xs) e (suc i) = same-at n cs xs (tails (vector n c.exps) (vector n x) (map (λ (d : Code). vector n d.exps) cs) (map (vector n) xs) e) i
+  where
+    tails : (a b : List ℕ) (as' bs : List (List ℕ)) → a ∷ as' ≡ b ∷ bs → as' ≡ bs
+    tails a b as' bs q = cc
 
 map-same : {A B : Type 0} (g h : A → B) (xs : List A) → ((x : A) → g x ≡ h x) → map g xs ≡ map h xs
 map-same g h [] e = refl
 map-same g h (x ∷ xs) e = let r : map g xs ≡ map h xs = map-same g h xs e in ap (λ z. z ∷ map g xs) (e x) ∙ ap (λ z. h x ∷ z) r
 
 -- ---- the lists of the part
-module _ (k : ℕ) (vars : List VarInfo) (f : Sparse) (st : Staged) (blocks : List Code) (stages : AreGradedStagesOf k vars f st) (made : map (λ (c : Code). vector (length vars) c.exps) blocks ≡ map (vector (length vars)) st.exps) where
+module _ (k : ℕ) (vars : List VarInfo) (f : Sparse) (st : Staged) (blocks : List Code) (stages : AreGradedStagesOf k vars f st)
+    (made : map (λ (c : Code). vector (length vars) c.exps) blocks ≡ map (vector (length vars)) st.exps) where
   -- the list of an order, as the part joins it
   abbrev pub own : List ℕ → List ℕ
   own o = segments_from (beside (prefixes_of k) st.segments) o 0
@@ -53,17 +54,23 @@ module _ (k : ℕ) (vars : List VarInfo) (f : Sparse) (st : Staged) (blocks : Li
   own-lists : st.lists ≡ map (λ o. segments_from (beside (prefixes_of k) st.segments) o 0) (orders_of k)
   own-lists = stages.make ∙ ap (λ n. map (λ o. segments_from (beside (prefixes_of n) st.segments) o 0) (orders_of k)) stages.sites
 
-  stage-list : (o : List ℕ) → IsOrderOf k o → IsStageListBy (GradedEarlier (sites_of vars o)) (length vars) (sites_of vars o) (IsMonomialOf (length vars) f) (map (block_vector (length vars) (map (λ (c : Code). c.exps) blocks)) (own o))
+  stage-list : (o : List ℕ) → IsOrderOf k o → IsStageListBy (GradedEarlier (sites_of vars o)) (length vars) (sites_of vars o)
+      (IsMonomialOf (length vars) f) (map (block_vector (length vars) (map (λ (c : Code). c.exps) blocks)) (own o))
   stage-list o p =
       let m = is-member k o p in
       let here : get_or (orders_of k) m.0 [] ≡ o = sym (get_or_default (orders_of k) m.0 o [] m.1) ∙ m.2 in
       let w : m.0 < length st.lists = omega (arith, m.1, ap length own-lists, length-map (orders_of k) own) in
       let x : get_or st.lists m.0 [] ≡ own o = ap (λ z. get_or z m.0 []) own-lists ∙ get_or-map own (orders_of k) m.0 [] [] m.1 ∙ ap own here in
-      let v : get_or (vectors_of (length vars) st) m.0 [] ≡ map (block_vector (length vars) st.exps) (own o) = get_or-map (λ list. map (block_vector (length vars) st.exps) list) st.lists m.0 [] [] w ∙ ap (map (block_vector (length vars) st.exps)) x in
-      let u : map (block_vector (length vars) st.exps) (own o) ≡ map (block_vector (length vars) (map (λ (c : Code). c.exps) blocks)) (own o) = map-same (block_vector (length vars) st.exps) (block_vector (length vars) (map (λ (c : Code). c.exps) blocks)) (own o) (λ i. sym (same-at (length vars) blocks st.exps made i)) in
+      let v : get_or (vectors_of (length vars) st) m.0 [] ≡ map (block_vector (length vars) st.exps) (own o) =
+      get_or-map (λ list. map (block_vector (length vars) st.exps) list) st.lists m.0 [] [] w ∙ ap (map (block_vector (length vars) st.exps)) x in
+      let u : map (block_vector (length vars) st.exps) (own o) ≡ map (block_vector (length vars) (map (λ (c : Code). c.exps) blocks)) (own o) =
+      map-same (block_vector (length vars) st.exps) (block_vector (length vars) (map (λ (c : Code). c.exps) blocks)) (own o)
+      (λ i. sym (same-at (length vars) blocks st.exps made i)) in
       let s = stages.lists.each m.0 (omega (arith, w, length-map st.lists (λ list. map (block_vector (length vars) st.exps) list))) in
-      let t : IsStageListBy (GradedEarlier (sites_of vars o)) (length vars) (sites_of vars o) (IsMonomialOf (length vars) f) (get_or (vectors_of (length vars) st) m.0 []) =
-      subst (λ (q : List ℕ). IsStageListBy (GradedEarlier (sites_of vars q)) (length vars) (sites_of vars q) (IsMonomialOf (length vars) f) (get_or (vectors_of (length vars) st) m.0 [])) here s in
+      let t : IsStageListBy (GradedEarlier (sites_of vars o)) (length vars) (sites_of vars o) (IsMonomialOf (length vars) f)
+      (get_or (vectors_of (length vars) st) m.0 []) =
+      subst (λ (q : List ℕ). IsStageListBy (GradedEarlier (sites_of vars q)) (length vars) (sites_of vars q) (IsMonomialOf (length vars) f)
+      (get_or (vectors_of (length vars) st) m.0 [])) here s in
       subst (λ (q : List (List ℕ)). IsStageListBy (GradedEarlier (sites_of vars o)) (length vars) (sites_of vars o) (IsMonomialOf (length vars) f) q) (v ∙ u) t
 
   pub as-many : length blocks ≡ length st.exps
@@ -71,9 +78,12 @@ module _ (k : ℕ) (vars : List VarInfo) (f : Sparse) (st : Staged) (blocks : Li
 
   -- the lists of all orders, as vectors
   same-vectors : map (λ list. map (block_vector (length vars) (map (λ (c : Code). c.exps) blocks)) list) st.lists ≡ vectors_of (length vars) st
-  same-vectors = map-same (λ list. map (block_vector (length vars) (map (λ (c : Code). c.exps) blocks)) list) (λ list. map (block_vector (length vars) st.exps) list) st.lists (λ list. map-same (block_vector (length vars) (map (λ (c : Code). c.exps) blocks)) (block_vector (length vars) st.exps) list (same-at (length vars) blocks st.exps made))
+  same-vectors = map-same (λ list. map (block_vector (length vars) (map (λ (c : Code). c.exps) blocks)) list)
+      (λ list. map (block_vector (length vars) st.exps) list) st.lists (λ list. map-same (block_vector (length vars)
+      (map (λ (c : Code). c.exps) blocks)) (block_vector (length vars) st.exps) list (same-at (length vars) blocks st.exps made))
 
-  pub own-vectors : map (λ list. map (block_vector (length vars) (map (λ (c : Code). c.exps) blocks)) list) (map own (orders_of k)) ≡ vectors_of (length vars) st
+  pub own-vectors : map (λ list. map (block_vector (length vars) (map (λ (c : Code). c.exps) blocks)) list) (map own (orders_of k))
+      ≡ vectors_of (length vars) st
   own-vectors = ap (map (λ list. map (block_vector (length vars) (map (λ (c : Code). c.exps) blocks)) list)) (sym own-lists) ∙ same-vectors
 
   -- the list of an order names no block twice
@@ -96,7 +106,8 @@ module _ (s : Shape) (f : Sparse) (st : Staged) (part : Part) (stages : AreGrade
   its-list o = rw (made.shape, made.segments) refl
 
 -- it carries each closed expression whose normal polynomial f is
-pub graded-carries : (s : Shape) (f : Sparse) (st : Staged) (part : Part) (e : Tree) → AreGradedStagesOf s.sites s.vars f st → IsMadeOf s f st part → InputsBelow (length s.vars) e → IsNormalOf (length s.vars) e (terms_of (length s.vars) f) → Carries ByDegree part e (terms_of (length s.vars) f)
+pub graded-carries : (s : Shape) (f : Sparse) (st : Staged) (part : Part) (e : Tree) → AreGradedStagesOf s.sites s.vars f st → IsMadeOf s f st part
+    → InputsBelow (length s.vars) e → IsNormalOf (length s.vars) e (terms_of (length s.vars) f) → Carries ByDegree part e (terms_of (length s.vars) f)
 graded-carries s f st part e stages made inputs normal =
     let n : ℕ = length s.vars in
     let sh : part.shape ≡ s = made.shape in
@@ -106,8 +117,11 @@ graded-carries s f st part e stages made inputs normal =
       lists = λ places list l. (let p : IsOrderOf s.sites places = subst (λ (z : Shape). IsOrderOf z.sites places) sh l.order in
           let q : list ≡ own s.sites s.vars f st part.blocks stages made.vectors places = l.list_is ∙ its-list s f st part stages made places in
           let t = stage-list s.sites s.vars f st part.blocks stages made.vectors places p in
-          let u : IsStageListBy (Before ByDegree (sites_of s.vars places)) (length s.vars) (sites_of s.vars places) (IsMonomial (length s.vars) e) (map (block_vector (length s.vars) (map (λ (c : Code). c.exps) part.blocks)) (own s.sites s.vars f st part.blocks stages made.vectors places)) =
-          stage_list-to (GradedEarlier (sites_of s.vars places)) (length s.vars) (sites_of s.vars places) (IsMonomialOf (length s.vars) f) (IsMonomial (length s.vars) e) (to_tree (length s.vars) e f normal) (of_tree (length s.vars) e f normal) (map (block_vector (length s.vars) (map (λ (c : Code). c.exps) part.blocks)) (own s.sites s.vars f st part.blocks stages made.vectors places)) t in
+          let u : IsStageListBy (Before ByDegree (sites_of s.vars places)) (length s.vars) (sites_of s.vars places) (IsMonomial (length s.vars) e)
+          (map (block_vector (length s.vars) (map (λ (c : Code). c.exps) part.blocks)) (own s.sites s.vars f st part.blocks stages made.vectors places)) =
+          stage_list-to (GradedEarlier (sites_of s.vars places)) (length s.vars) (sites_of s.vars places) (IsMonomialOf (length s.vars) f)
+          (IsMonomial (length s.vars) e) (to_tree (length s.vars) e f normal) (of_tree (length s.vars) e f normal)
+          (map (block_vector (length s.vars) (map (λ (c : Code). c.exps) part.blocks)) (own s.sites s.vars f st part.blocks stages made.vectors places)) t in
           rw (sh, q) u);
       blocks = rw sh made.derivatives;
       filter = rw sh made.whole;

@@ -26,7 +26,8 @@ first-stays [] ys c h = cc
 first-stays (x ∷ xs) ys c h = h
 
 -- the first block
-pub blocks-begin : (vars : List VarInfo) (f : Sparse) (exps : List Pairs) (old blocks : List Code) (own c : Code) → old ≡ [] → c ≡ own → blocks ≡ old ++ c ∷ [] → 0 < length exps → vector (length vars) (get_or exps 0 []) ≡ zeros (length vars)
+pub blocks-begin : (vars : List VarInfo) (f : Sparse) (exps : List Pairs) (old blocks : List Code) (own c : Code) → old ≡ [] → c ≡ own
+    → blocks ≡ old ++ c ∷ [] → 0 < length exps → vector (length vars) (get_or exps 0 []) ≡ zeros (length vars)
     → own.exps ≡ [] → IsDerivativeBlock vars f own → AreBlocksOf vars f own (take 1 exps) blocks
 blocks-begin vars f [] old blocks own c a q e l z o b = absurd (omega arith)
 blocks-begin vars f (x ∷ xs) old blocks own c a q e l z o b =
@@ -41,21 +42,28 @@ blocks-begin vars f (x ∷ xs) old blocks own c a q e l z o b =
     subst (λ (bs : List Code). AreBlocksOf vars f own (x ∷ []) bs) g one
 
 -- one block more
-pub blocks-more : (vars : List VarInfo) (f : Sparse) (own : Code) (exps : List Pairs) (i : ℕ) (old blocks : List Code) (c : Code) (a : Pairs) → i < length exps → a ≡ get_or exps i [] → blocks ≡ old ++ c ∷ [] → c.exps ≡ a
-    → IsDerivativeBlock vars f c → length c.ops ≤ 4096 * covering (length vars) f (vector (length vars) a) + 68 → AreBlocksOf vars f own (take i exps) old → AreBlocksOf vars f own (take (i + 1) exps) blocks
+pub blocks-more : (vars : List VarInfo) (f : Sparse) (own : Code) (exps : List Pairs) (i : ℕ) (old blocks : List Code) (c : Code) (a : Pairs)
+    → i < length exps → a ≡ get_or exps i [] → blocks ≡ old ++ c ∷ [] → c.exps ≡ a
+    → IsDerivativeBlock vars f c → length c.ops ≤ 4096 * covering (length vars) f (vector (length vars) a) + 68
+    → AreBlocksOf vars f own (take i exps) old → AreBlocksOf vars f own (take (i + 1) exps) blocks
 blocks-more vars f own exps i old blocks c a l q e x b s h =
     let t : take i exps ++ a ∷ [] ≡ take (i + 1) exps = sym (take_more exps i [] l ∙ ap (λ y. take i exps ++ y ∷ []) (sym q)) in
-    let m : map (vector (length vars)) (take i exps ++ a ∷ []) ≡ map (vector (length vars)) (take i exps) ++ vector (length vars) a ∷ [] = map-append (vector (length vars)) (take i exps) (a ∷ []) in
-    let k : map (λ (d : Code). vector (length vars) d.exps) (old ++ c ∷ []) ≡ map (λ (d : Code). vector (length vars) d.exps) old ++ vector (length vars) c.exps ∷ [] = map-append (λ (d : Code). vector (length vars) d.exps) old (c ∷ []) in
-    let w : all_covering (length vars) f (map (vector (length vars)) (take i exps ++ a ∷ [])) ≡ all_covering (length vars) f (map (vector (length vars)) (take i exps)) + (covering (length vars) f (vector (length vars) a) + 0) =
+    let m : map (vector (length vars)) (take i exps ++ a ∷ []) ≡ map (vector (length vars)) (take i exps) ++ vector (length vars) a ∷ [] =
+    map-append (vector (length vars)) (take i exps) (a ∷ []) in
+    let k : map (λ (d : Code). vector (length vars) d.exps) (old ++ c ∷ []) ≡ map (λ (d : Code). vector (length vars) d.exps) old
+    ++ vector (length vars) c.exps ∷ [] = map-append (λ (d : Code). vector (length vars) d.exps) old (c ∷ []) in
+    let w : all_covering (length vars) f (map (vector (length vars)) (take i exps ++ a ∷ []))
+    ≡ all_covering (length vars) f (map (vector (length vars)) (take i exps)) + (covering (length vars) f (vector (length vars) a) + 0) =
     ap (all_covering (length vars) f) m ∙ covering-append (length vars) f (map (vector (length vars)) (take i exps)) (vector (length vars) a ∷ []) in
     let one : AreBlocksOf vars f own (take i exps ++ a ∷ []) (old ++ c ∷ []) = record {
       first = first-stays old (c ∷ []) own h.first;
-      vectors = k ∙ ap (λ y. map (λ (d : Code). vector (length vars) d.exps) old ++ vector (length vars) y ∷ []) x ∙ ap (λ y. y ++ vector (length vars) a ∷ []) h.vectors ∙ sym m;
+      vectors = k ∙ ap (λ y. map (λ (d : Code). vector (length vars) d.exps) old ++ vector (length vars) y ∷ []) x
+          ∙ ap (λ y. y ++ vector (length vars) a ∷ []) h.vectors ∙ sym m;
       each = All-push (IsDerivativeBlock vars f) old c h.each b;
       few = omega (arith, h.few, s, w, ops-append old (c ∷ []), length-append (take i exps) (a ∷ []));
     } in
     subst (λ (ys : List Pairs). AreBlocksOf vars f own ys blocks) t (subst (λ (bs : List Code). AreBlocksOf vars f own (take i exps ++ a ∷ []) bs) (sym e) one)
 
-pub blocks-end : (vars : List VarInfo) (f : Sparse) (own : Code) (exps : List Pairs) (i : ℕ) (blocks : List Code) → length exps ≤ i → AreBlocksOf vars f own (take i exps) blocks → AreBlocksOf vars f own exps blocks
+pub blocks-end : (vars : List VarInfo) (f : Sparse) (own : Code) (exps : List Pairs) (i : ℕ) (blocks : List Code) → length exps ≤ i
+    → AreBlocksOf vars f own (take i exps) blocks → AreBlocksOf vars f own exps blocks
 blocks-end vars f own exps i blocks l h = subst (λ (ys : List Pairs). AreBlocksOf vars f own ys blocks) (take_all i exps l) h

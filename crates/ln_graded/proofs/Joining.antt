@@ -1,13 +1,12 @@
 -- The program by total degree, from its blocks and its stages.
-use Rattle.std.proofs.Common.{◌≡◌, ℕ, ◌+◌, ◌*◌, ◌^◌, ◌<◌, ◌≤◌, List, [], ◌∷◌, length, map, take, refl, sym, ◌∙◌, ap, subst, arith, Option, Some, None}
-use Rattle.std.specs.Prelude.{◌≢◌, All, IfSome, slice_get}
+use Rattle.std.proofs.Common.{◌≡◌, ℕ, ◌+◌, ◌*◌, ◌^◌, ◌<◌, ◌≤◌, List, length, map, take, refl, sym, ◌∙◌, ap, subst, arith, Some}
+use Rattle.std.specs.Prelude.{All, IfSome, slice_get}
 use Rattle.std.proofs.lemmas.Option.{get_or_from_slice_get, same_Some, slice_get_within}
 use Rattle.ln_algebra.specs.Orders.{ByDegree}
 use Rattle.ln_tree.specs.declared.shape.Shape.{Shape}
 use Rattle.ln_tree.specs.Exps.{vector}
-use Rattle.ln_order.specs.Orders.{orders_of}
-use Rattle.ln_order.specs.Prefixes.{beside, prefixes_of, segments_from}
-use Rattle.ln_poly.specs.Sparse.{Sparse, terms_of}
+use Rattle.ln_order.specs.Prefixes.{beside, prefixes_of}
+use Rattle.ln_poly.specs.Sparse.{Sparse}
 use Rattle.ln_stage.specs.Graded.{AreGradedStagesOf}
 use Rattle.ln_stage.specs.Lists.{AreStageListsIn, all_covering, first_seen, stage_count, stage_weight}
 use Rattle.ln_stage.specs.Staged.{Staged, vectors_of}
@@ -37,15 +36,18 @@ some-block s f p b = slice_get_within p.blocks 0 b.own b.first
 pub own-block : (s : Shape) (f : Sparse) (p : Part) (b : Begins s f p) → IsProgram p → IsDerivativeBlock s.vars f b.own
 own-block s f p b k = record {
   rules = subst (λ (z : Shape). FollowsRules z.vars b.own) b.shape (all-at (λ (c : Code). FollowsRules p.shape.vars c) p.blocks 0 b.own b.first k.blocks);
-  of_sites = subst (λ (z : Shape). AreOfSites z.vars b.own.exps) b.shape (all-at (λ (c : Code). AreOfSites p.shape.vars c.exps) p.blocks 0 b.own b.first k.of_sites);
+  of_sites = subst (λ (z : Shape). AreOfSites z.vars b.own.exps) b.shape
+      (all-at (λ (c : Code). AreOfSites p.shape.vars c.exps) p.blocks 0 b.own b.first k.of_sites);
   carries = b.carries;
   small = subst (λ (z : Shape). BlockPushesSmall z.vars b.own) b.shape (all-at (BlockPushesSmall p.shape.vars) p.blocks 0 b.own b.first b.small.blocks);
 }
 
-few-ops : (filter own ops cover len heavy : ℕ) → filter + own < 2 ^ 21 → ops ≤ own + 4096 * cover + 68 * len → cover ≤ heavy → len ≤ heavy → heavy ≤ 131072 → filter + ops < 2 ^ 32
+few-ops : (filter own ops cover len heavy : ℕ) → filter + own < 2 ^ 21 → ops ≤ own + 4096 * cover + 68 * len → cover ≤ heavy → len ≤ heavy
+    → heavy ≤ 131072 → filter + ops < 2 ^ 32
 few-ops filter own ops cover len heavy h k l m n = omega (arith, h, k, l, m, n)
 
-module _ (s : Shape) (f : Sparse) (p : Part) (st : Staged) (blocks : List Code) (poly : IsGradable s.vars f) (b : Begins s f p) (k : IsProgram p) (stages : AreGradedStagesOf s.sites s.vars f st)
+module _ (s : Shape) (f : Sparse) (p : Part) (st : Staged) (blocks : List Code) (poly : IsGradable s.vars f) (b : Begins s f p)
+    (k : IsProgram p) (stages : AreGradedStagesOf s.sites s.vars f st)
     (light : stage_weight (length s.vars) f (vectors_of (length s.vars) st) ≤ 131072) (made : AreBlocksOf s.vars f b.own st.exps blocks) where
   abbrev pub part : Part
   part = record { shape = s; filter = p.filter; blocks = blocks; segments = st.segments }
@@ -71,7 +73,8 @@ module _ (s : Shape) (f : Sparse) (p : Part) (st : Staged) (blocks : List Code) 
   is-program = record {
     blocks = λ j d l. (made.each j d l).rules;
     filter = subst (λ (z : Shape). IfSome p.filter (FollowsFilterRules z.vars)) b.shape k.filter;
-    few = few-ops (ops_in_filter p.filter) (length b.own.ops) (ops_in_blocks blocks) (all_covering (length s.vars) f (map (vector (length s.vars)) st.exps)) (length st.exps) (stage_weight (length s.vars) f (vectors_of (length s.vars) st)) b.short made.few cover lighter light;
+    few = few-ops (ops_in_filter p.filter) (length b.own.ops) (ops_in_blocks blocks) (all_covering (length s.vars) f (map (vector (length s.vars)) st.exps))
+        (length st.exps) (stage_weight (length s.vars) f (vectors_of (length s.vars) st)) b.short made.few cover lighter light;
     of_sites = λ j d l. (made.each j d l).of_sites;
     prefixes = stages.size;
     named = subst (λ n. All (λ segment. All (λ i. i < n) segment) st.segments) (sym (as-many s.sites s.vars f st blocks stages made.vectors)) stages.named;
@@ -103,5 +106,6 @@ module _ (s : Shape) (f : Sparse) (p : Part) (st : Staged) (blocks : List Code) 
   }
 
 -- fewer are within more
-pub within-more : (s : Shape) (f : Sparse) (count heavy most light : ℕ) (q : Part) → count ≤ most → heavy ≤ light → IsWithin s f count heavy q → IsWithin s f most light q
+pub within-more : (s : Shape) (f : Sparse) (count heavy most light : ℕ) (q : Part) → count ≤ most → heavy ≤ light
+    → IsWithin s f count heavy q → IsWithin s f most light q
 within-more s f count heavy most light q h k w = record { count = omega (arith, w.count, h); weight = omega (arith, w.weight, k) }

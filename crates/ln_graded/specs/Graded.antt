@@ -52,7 +52,7 @@ pub record Begins (s : Shape) (f : Sparse) (p : Part) : Type 0 where
 
 -- q is p by total degree: it has p's filter and block 0; its lists are the stage lists of f by total degree, and its blocks' exponents
 -- the distinct members of the lists in order of first sight; it carries each closed expression whose normal polynomial f is; what
--- its blocks and its filter push is small; and nothing stands at the prefixes that are no whole order
+-- its blocks and its filter push is small; and nothing is at the prefixes that are no whole order
 pub record IsGraded (s : Shape) (f : Sparse) (p q : Part) : Type 0 where
   pub shape : q.shape ≡ s
   pub filter : q.filter ≡ p.filter
@@ -64,19 +64,19 @@ pub record IsGraded (s : Shape) (f : Sparse) (p q : Part) : Type 0 where
   pub small : PushesSmall q
   pub whole : (o : List ℕ) (j : ℕ) → IsOrderOf s.sites o → j < s.sites → segment_of q (take j o) ≡ []
 
--- the lists of the program have at most so many stages, of at most this weight
+-- the lists of the program have at most this many stages, of at most this weight
 pub record IsWithin (s : Shape) (f : Sparse) (limit heavy : ℕ) (q : Part) : Type 0 where
   pub count : stage_count (map (vectors q) (lists_of q)) ≤ limit
   pub weight : stage_weight (length s.vars) f (map (vectors q) (lists_of q)) ≤ heavy
 
--- why there is none: the stage lists by total degree pass a limit; nothing is said of want of memory
+-- why there is none: the stage lists by total degree exceed a limit; where memory runs out, nothing more is known
 abbrev pub StopsFor : Shape → Sparse → ℕ → ℕ → GradedStop → Type 0
 StopsFor s f count heavy Stages =
     (lists : List (List (List ℕ))) × AreStageListsIn ByDegree s.sites s.vars f lists × Passes (length s.vars) f count heavy lists
 StopsFor s f count heavy NoMemory = Unit {0}
 
 -- ---- laws
--- the verdict on a row in range of a program by total degree is what the row is owed in that order of infinitesimals
+-- the verdict on a row in range of a program by total degree is the one that the row requires in that order of infinitesimals
 abbrev pub GradedIsDue : Type 0
 GradedIsDue =
     (s : Shape) (f : Sparse) (p q : Part) (e : Tree) (row : Row) (does : Filtering) (v : Verdict) →

@@ -73,7 +73,7 @@ fn joined(alloc: Global, f: &Poly, s: &Shape, p: &Program, st: Stages) -> Result
 /// The program by total degree of the predicate over this shape whose normal polynomial is f and whose program is p: with p's filter
 /// and first block, and with its list whole where an order of the sites is.
 ///
-/// `Stages` says that the count of the stages in the lists of all orders passes `most`, or that their weight passes `heavy`.
+/// `Stages` means that the count of the stages in the lists of all orders exceeds `most`, or that their weight exceeds `heavy`.
 pub fn graded(
     alloc: Global,
     f: &Poly,

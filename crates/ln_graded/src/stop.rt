@@ -6,7 +6,7 @@ use ln_base::NoMemory;
 pub enum GradedStop {
     /// Its stage lists by total degree have too many stages, or too many monomials cover them.
     Stages,
-    /// There was no memory.
+    /// Memory ran out.
     NoMemory,
 }
 

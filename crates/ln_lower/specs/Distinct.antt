@@ -2,24 +2,14 @@
 use Rattle.std.specs.Prelude.{◌≡◌, ℕ, List, [], ◌∷◌, Option, Some, None, slice_get}
 use Rattle.ln_interval.specs.Range.{Range}
 use Rattle.ln_bound.specs.declared.fitted.Width.{Width}
-use Rattle.ln_bound.specs.declared.fitted.Two.{Two}
-use Rattle.ln_bound.specs.declared.fitted.Two.TheVariants.{Plus}
 use Rattle.ln_bound.specs.Typed.{Typed, TNum, TInput, TLet, TNeg, TTwo, TPow}
 use Rattle.ln_lower.specs.declared.distinct.Key.{Key}
 use Rattle.ln_lower.specs.declared.distinct.KeyOp.{KeyOp}
 use Rattle.ln_lower.specs.declared.distinct.KeyOp.TheVariants.{Number, Variable, Name, Opposite, Both, Raised}
 
+-- a subtree by its root: its operation over the numbers of its operands, its range and its width
 abbrev pub key : KeyOp → Range → Width → Key
 key o p w = record { op = o; low = p.low; high = p.high; width = w }
-
--- which operation on two a tree is, where it is one
-abbrev pub kind_of : Typed → Two
-kind_of (TNum c p w) = Plus
-kind_of (TInput v p w) = Plus
-kind_of (TLet j p w) = Plus
-kind_of (TNeg t p w) = Plus
-kind_of (TTwo o s t p w) = o
-kind_of (TPow t n p w) = Plus
 
 -- number k is this tree
 abbrev pub Stands : List Key → ℕ → Typed → Type 0
@@ -46,6 +36,7 @@ pub record Added (ks ls : List Key) (k : ℕ) (x : Key) : Type 0 where
   pub there : slice_get ls k ≡ Some x
   pub more : Extends ks ls
 
+-- number k is this tree, and the numbers so far are kept
 pub record Numbered (ks ls : List Key) (k : ℕ) (t : Typed) : Type 0 where
   pub stands : Stands ls k t
   pub more : Extends ks ls
@@ -68,10 +59,12 @@ right_in (Opposite a) = 0
 right_in (Both o a b) = b
 right_in (Raised a n) = 0
 
+-- the operand of a subtree, of two the left one; 0 where there is none
 abbrev pub operand_or : Option Key → ℕ
 operand_or None = 0
 operand_or (Some x) = operand_in x.op
 
+-- the right operand of a subtree, where it has two; 0 where it hasn't
 abbrev pub right_or : Option Key → ℕ
 right_or None = 0
 right_or (Some x) = right_in x.op

@@ -10,9 +10,11 @@ use Rattle.ln_code.specs.declared.op.Op.TheVariants.{Get, Set, Add, Sub, Mul}
 use Rattle.ln_code.specs.Engine.{Line}
 pub use Rattle.ln_code.specs.Kept.{nothing}
 
+-- an operation with the range that it carries
 abbrev pub line : Op → Range → Line Range
 line o p = record { op = o; bound = p }
 
+-- the sum, the difference or the product at this width
 abbrev pub op_of : Two → Width → Op
 op_of Plus w = Add w
 op_of Minus w = Sub w
@@ -28,10 +30,12 @@ abbrev pub power_of : Range → Width → ℕ → List (Line Range)
 power_of p w zero = []
 power_of p w (suc n) = line (Set 64) nothing ∷ (line (Get 64) p ∷ factors p w 1 (suc n))
 
+-- the operations of lines, without their ranges
 abbrev pub ops_in : List (Line Range) → List Op
 ops_in [] = []
 ops_in (x ∷ xs) = x.op ∷ ops_in xs
 
+-- the ranges of lines, without their operations
 abbrev pub pairs_in : List (Line Range) → List Range
 pairs_in [] = []
 pairs_in (x ∷ xs) = x.bound ∷ pairs_in xs

@@ -20,7 +20,7 @@ abbrev pub LocalHas : Option (State Known (ℕ → Option Known)) → ℕ → Tr
 LocalHas None j e = ⊥
 LocalHas (Some s) j e = HasPolynomial (s.locals j) e
 
--- behind all operations each let is in the local of its number
+-- after all operations each let is in the local of its number
 abbrev pub KeepsLets : List VarInfo → Code → List Typed → Type 0
 KeepsLets vars c lets = (j : ℕ) → j < length lets →
     LocalHas (run (rules vars c.depth) (lines_of c.ops c.pairs) (record { stack = []; locals = no_locals })) j

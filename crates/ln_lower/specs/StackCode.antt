@@ -9,7 +9,7 @@ use Rattle.ln_code.specs.Engine.{Line}
 use Rattle.ln_lower.specs.Lowered.{line, nothing, op_of, power_of}
 use Rattle.ln_lower.specs.Written.{keeping}
 
--- the operations of a tree. The trees of the first list are in the locals from 65 on, in order; those of the second are put behind
+-- the operations of a tree. The trees of the first list are in the locals from 65 on, in order; those of the second are stored after
 -- them. Each operation carries the range of its node, within a power that of the lower power. In the end: was the value computed
 -- by the last operation? Then it may be kept
 pub data IsCode : List Typed → Typed → List (Line Range) → List Typed → Bool → Type 0 where

@@ -14,8 +14,8 @@ use Rattle.ln_lower.specs.Lowered.{line, nothing, op_of, power_of}
 abbrev pub keeping : ℕ → Range → List (Line Range)
 keeping j p = line (Set j) nothing ∷ (line (Get j) p ∷ [])
 
--- the operations of a tree. The subtrees with the numbers of the first list are in the locals from 65 on, those of the second are
--- put behind them; in the end the 2 is for the operations that put the tree itself there
+-- the operations of a tree. The subtrees with the numbers of the first list are in the locals from 65 on, those of the second are stored after
+-- them; in the end the 2 is for the operations that store the tree itself there
 pub data Written (ks : List Key) : List ℕ → Typed → List (Line Range) → List ℕ → ℕ → Type 0 where
   number : {kept : List ℕ} (c : ℤ) (p : Range) (w : Width) → Written ks kept (TNum c p w) (line (Push c) p ∷ []) [] 2
   variable : {kept : List ℕ} (v : ℕ) (p : Range) (w : Width) → Written ks kept (TInput v p w) (line (Input v) p ∷ []) [] 2

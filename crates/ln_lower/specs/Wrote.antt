@@ -47,7 +47,7 @@ pub record PutsLast (before after : Draft) (x : Line Range) (k : ℕ) (p : Range
   pub wrote : Wrote before mid (x ∷ []) []
   pub keeps : MayKeep mid after k p
 
--- the draft has the operations of these lets and of a tree behind them, and nothing else
+-- the draft has the operations of these lets and of a tree after them, and nothing else
 pub record Drafted (ks : List Key) (ts : List Typed) (t : Typed) (after : Draft) : Type 0 where
   pub mid : Draft
   pub lets : PutsLets ks mid ts

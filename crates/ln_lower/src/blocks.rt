@@ -1,4 +1,4 @@
-//! Blocks of trees.
+//! Writes the block of a tree with its lets: stack code that computes equal subtrees once, while there are locals for them.
 ghost use Rattle.std.specs.Prelude.{◌≡◌, ℕ, ◌+◌, ◌*◌, ◌<◌, ◌≤◌, [], All, IfOk, IfSome, OnOk, Some, List, ℤ, length, map, slice_get};
 ghost use Rattle.ln_algebra.specs.Coefficient.{normal_coefficient};
 ghost use Rattle.ln_interval.specs.Range.{Covers, magnitude, most, power, product};
@@ -6,7 +6,7 @@ ghost use Rattle.ln_interval.specs.View.{range};
 ghost use Rattle.ln_tree.specs.Row.{AreWithin};
 ghost use Rattle.ln_bound.specs.Value.{value, values};
 ghost use Rattle.ln_bound.specs.Light.{let_values};
-ghost use Rattle.ln_bound.specs.Typed.{cost, costs, pair, polynomial, untyped};
+ghost use Rattle.ln_bound.specs.Typed.{cost, costs, operation, pair, polynomial, untyped};
 ghost use Rattle.ln_bound.specs.Sound.{AreSound, Sound};
 ghost use Rattle.ln_bound.specs.View.{typed};
 ghost use Rattle.ln_code.specs.Rules.{Known};
@@ -17,10 +17,10 @@ ghost use Rattle.ln_lower.specs.Nodes.{KeepsLets, PushNodes, pushed_by};
 ghost use Rattle.ln_lower.specs.StackCode.{IsCodeOf};
 ghost use Rattle.ln_lower.specs.Lowered.{factors, line, op_of, power_of, PowersFit};
 ghost use Rattle.ln_lower.specs.declared.distinct.Key.{Key};
-ghost use Rattle.ln_lower.specs.Distinct.{AllStand, Stands, kind_of};
+ghost use Rattle.ln_lower.specs.Distinct.{AllStand, Stands};
 ghost use Rattle.ln_lower.specs.Wrote.{Drafted, MayKeep, Puts, PutsLast, PutsLet, PutsLets, Wrote};
 
-use crate::distinct::{Distinct, kind_of, number};
+use crate::distinct::{Distinct, number};
 use crate::draft::{Draft, nothing};
 use ln_base::{NoMemory, Seq};
 use ln_bound::{FitOp, Fitted, Two, Width};
@@ -104,9 +104,9 @@ fn put_done(
 
 // The operation on two that a tree is.
 fn op_of(t: &Fitted) -> Op
-    ensures { result ≡ op_of (kind_of (typed t.now)) t.now.width }
+    ensures { result ≡ op_of (operation (typed t.now)) t.now.width }
 {
-    match kind_of(t) {
+    match t.operation() {
         Two::Plus => Op::Add(t.width),
         Two::Minus => Op::Sub(t.width),
         Two::Times => Op::Mul(t.width),
@@ -201,7 +201,7 @@ fn put_lets(
     Ok(())
 }
 
-// Puts the operations of the lets and of a tree behind them, whose subtrees have these numbers.
+// Appends the operations of the lets and of a tree after them, whose subtrees have these numbers.
 fn put_all(
     draft: &mut Draft,
     distinct: &Distinct,
@@ -224,7 +224,7 @@ fn put_all(
     put_tree(draft, distinct, t, k)
 }
 
-// The operations of the lets, whose subtrees have these numbers, and of a tree behind them.
+// The operations of the lets, whose subtrees have these numbers, and of a tree after them.
 fn drafted(
     alloc: Global,
     distinct: &mut Distinct,
@@ -249,7 +249,7 @@ fn drafted(
     Ok(draft)
 }
 
-// The operations of the lets and of a tree behind them, whose subtrees get their numbers.
+// The operations of the lets and of a tree after them, whose subtrees get their numbers.
 fn numbered(
     alloc: Global,
     distinct: &mut Distinct,
@@ -265,7 +265,7 @@ fn numbered(
     drafted(alloc, distinct, lets, numbers.as_slice(), t)
 }
 
-// The operations of the lets and of a tree behind them.
+// The operations of the lets and of a tree after them.
 fn written(alloc: Global, lets: &[Fitted], t: &Fitted) -> Result<Draft, NoMemory>
     requires few { length lets.now ≤ 64 }
     requires powers { All (λ u. PowersFit (typed u)) lets.now }
@@ -290,11 +290,11 @@ fn finished(a: &Exps, draft: Draft) -> Result<Block, NoMemory>
 ///
 /// On every row in range the block has the tree's value. Its operations are the stack code of the lets and of the tree, and no other:
 /// each comes from one node and carries that node's range, within a power that of the lower power. What they push are polynomials of
-/// nodes of the tree and its lets, a power with the lower powers on its way, and the value that is left has the root's polynomial and a
-/// pair within the root's; each sum, difference, product and negation has its node's width. It has at most four times as many operations as the costs of
-/// tree and lets together, and 64 more. A let is kept in the local of its number; local 64 serves powers;
-/// locals 65 to 255 hold shared subtrees: of equal subtrees that are used at two or more places the first is computed, and the
-/// later ones are taken from its local. Numbers, variables and names of lets are put anew.
+/// nodes of the tree and its lets, a power with the lower powers on its way, and the remaining value has the root's polynomial and a
+/// pair within the root's; each sum, difference, product and negation has its node's width. It has at most four times as many operations
+/// as the costs of tree and lets together, and 64 more. A let is kept in the local of its number; local 64 serves powers; locals 65 to 255
+/// hold shared subtrees: of equal subtrees that are used at two or more places the first is computed, and the later ones are taken from
+/// its local. Numbers, variables and names of lets are pushed anew.
 pub fn lower(
     alloc: Global,
     a: &Exps,

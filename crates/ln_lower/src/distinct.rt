@@ -1,8 +1,8 @@
-//! Distinct subtrees, by number.
+//! Numbers the distinct subtrees of trees, and counts the places at which each is used.
 ghost use Rattle.std.specs.Prelude.{◌≡◌, IfOk, slice_get};
 ghost use Rattle.ln_interval.specs.View.{range};
 ghost use Rattle.ln_bound.specs.View.{typed};
-ghost use Rattle.ln_lower.specs.Distinct.{Added, Numbered, key, kind_of, operand_or, right_or};
+ghost use Rattle.ln_lower.specs.Distinct.{Added, Numbered, key, operand_or, right_or};
 
 use crate::keys::Keys;
 use ln_base::NoMemory;
@@ -29,7 +29,7 @@ pub(crate) enum KeyOp {
     Raised(usize, u8),
 }
 
-/// Subtrees, no two of them equal, each behind its operands, with the places at which each is used.
+/// Subtrees, no two of them equal, each after its operands, with the places at which each is used.
 #[derive(Drop)]
 pub(crate) struct Distinct {
     pub(crate) keys: Keys,
@@ -132,17 +132,6 @@ fn key_of(op: KeyOp, t: &Fitted) -> Key
     }
 }
 
-/// Which operation on two a tree is, where it is one; else a sum.
-pub(crate) fn kind_of(t: &Fitted) -> Two
-    ensures { result ≡ kind_of (typed t.now) }
-{
-    match &t.op {
-        FitOp::Sub(_, _) => Two::Minus,
-        FitOp::Mul(_, _) => Two::Times,
-        _ => Two::Plus,
-    }
-}
-
 // The number of a tree with this operation over its operands' numbers, a new one where it isn't there.
 fn noted(distinct: &mut Distinct, op: KeyOp, t: &Fitted) -> Result<usize, NoMemory>
     ensures { IfOk result (λ k. Added distinct.old.keys distinct.new.keys k (key op (range t.now.pair) t.now.width)) }
@@ -150,7 +139,7 @@ fn noted(distinct: &mut Distinct, op: KeyOp, t: &Fitted) -> Result<usize, NoMemo
     distinct.add(key_of(op, t))
 }
 
-/// The number of a tree, which is put behind its subtrees where it isn't there.
+/// The number of a tree, which is appended after its subtrees where it isn't there.
 pub(crate) fn number(distinct: &mut Distinct, t: &Fitted) -> Result<usize, NoMemory>
     ensures { IfOk result (λ k. Numbered distinct.old.keys distinct.new.keys k (typed t.now)) }
 {
@@ -165,7 +154,7 @@ pub(crate) fn number(distinct: &mut Distinct, t: &Fitted) -> Result<usize, NoMem
         FitOp::Add(x, y) | FitOp::Sub(x, y) | FitOp::Mul(x, y) => {
             let a = number(distinct, x)?;
             let b = number(distinct, y)?;
-            noted(distinct, KeyOp::Both(kind_of(t), a, b), t)
+            noted(distinct, KeyOp::Both(t.operation(), a, b), t)
         }
         FitOp::Pow(x, n) => {
             let a = number(distinct, x)?;

@@ -24,7 +24,7 @@ pub(crate) fn nothing() -> Pair
 }
 
 impl Draft {
-    // Puts an operation and its pair at the end.
+    // Appends an operation and its pair.
     pub(crate) fn push(&mut self, op: Op, pair: Pair) -> Result<(), NoMemory>
         ensures { OnOk result (Wrote self.old self.new (line op (range pair) ∷ []) []) }
     {
@@ -44,7 +44,7 @@ impl Draft {
         None
     }
 
-    // Keeps the value on the stack, that of a subtree with this pair, where a local is left.
+    // Keeps the value on the stack, that of a subtree with this pair, where a local is free.
     pub(crate) fn keep(&mut self, k: usize, pair: Pair) -> Result<(), NoMemory>
         ensures { OnOk result (MayKeep self.old self.new k (range pair)) }
     {

@@ -1,4 +1,4 @@
-//! Subtrees by number.
+//! Holds distinct subtrees in order of first sight, each found by its number.
 ghost use Rattle.std.specs.Prelude.{◌≡◌, [], IfOk, slice_get};
 ghost use Rattle.std.specs.Option.{option_copied};
 ghost use Rattle.ln_lower.specs.Distinct.{Added};

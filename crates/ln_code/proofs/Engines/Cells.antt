@@ -1,5 +1,6 @@
 -- Facts on the memory, and on numbers that fit a width.
-use Rattle.std.proofs.Common.{◌≡◌, ◌≢◌, ℕ, ℤ, ◌≤◌, ◌<◌, ◌*ℤ◌, true, List, ◌∷◌, length, refl, zero, suc, ap, arith, pos, unsigned_abs, get_or-set_same, get_or-set_other}
+use Rattle.std.proofs.Common.{◌≡◌, ◌≢◌, ℕ, ℤ, ◌≤◌, ◌<◌, ◌*ℤ◌, true, List, ◌∷◌, length, refl, zero, suc, ap, arith, pos, unsigned_abs}
+use Rattle.std.proofs.Common.{get_or-set_same, get_or-set_other}
 use Rattle.std.proofs.Common.{to_z, of_z}
 use mir.Syntax.{w64, w128}
 use Rattle.std.proofs.lemmas.Int.{fits_signed_from_abs, to_z-of_z}
@@ -21,7 +22,9 @@ small_128 : (z : ℤ) → unsigned_abs z ≤ 9223372036854775807 → to_z w128 (
 small_128 z h = to_z-of_z w128 z (fits_signed_from_abs w128 z (omega (arith, h)))
 
 -- a product of 64 bits, out of and into 128 bits
-pub product_64 : (x y r : ℤ) → unsigned_abs x ≤ 9223372036854775807 → unsigned_abs y ≤ 9223372036854775807 → unsigned_abs (x *ℤ y) ≤ 9223372036854775807 → r ≡ to_z w64 (of_z w64 (to_z w64 (of_z w64 (to_z w128 (of_z w128 x))) *ℤ to_z w64 (of_z w64 (to_z w128 (of_z w128 y))))) → to_z w128 (of_z w128 r) ≡ x *ℤ y
+pub product_64 : (x y r : ℤ) → unsigned_abs x ≤ 9223372036854775807 → unsigned_abs y ≤ 9223372036854775807 → unsigned_abs (x *ℤ y) ≤ 9223372036854775807
+    → r ≡ to_z w64 (of_z w64 (to_z w64 (of_z w64 (to_z w128 (of_z w128 x))) *ℤ to_z w64 (of_z w64 (to_z w128 (of_z w128 y)))))
+    → to_z w128 (of_z w128 r) ≡ x *ℤ y
 product_64 x y r a b d e =
     let z = x *ℤ y in
     rw (e, small_128 x a, small_128 y b, small_64 x a, small_64 y b, small_64 z d) (small_128 z d)

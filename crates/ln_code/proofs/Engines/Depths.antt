@@ -7,7 +7,8 @@ use Rattle.ln_code.specs.declared.scratch.Scratch.{Scratch}
 use Rattle.ln_code.specs.Memory.{MadeFor}
 
 -- one block more
-pub deeper : (blocks : List Code) (i : ℕ) (b : Code) (m n : ℕ) → i < length blocks → b ≡ get_or blocks i b → n ≡ max b.depth m → All (λ (c : Code). c.depth ≤ m) (take i blocks) → All (λ (c : Code). c.depth ≤ n) (take (i + 1) blocks)
+pub deeper : (blocks : List Code) (i : ℕ) (b : Code) (m n : ℕ) → i < length blocks → b ≡ get_or blocks i b → n ≡ max b.depth m
+    → All (λ (c : Code). c.depth ≤ m) (take i blocks) → All (λ (c : Code). c.depth ≤ n) (take (i + 1) blocks)
 deeper blocks i b m n h e q a =
     let t : take (i + 1) blocks ≡ take i blocks ++ (b ∷ []) = rw e (take_more blocks i b h) in
     rw t (grown (take i blocks) a)
@@ -18,7 +19,8 @@ deeper blocks i b m n h e q a =
     grown (x ∷ xs) p zero d r = let s : x.depth ≤ m = p zero d (omega arith) in omega (arith, s, q)
     grown (x ∷ xs) p (suc k) d r = grown xs (λ j c l. p (suc j) c (omega arith)) k d (omega arith)
 
-pub made_for : (part : Part) (scratch : Scratch) (d f : ℕ) → All (λ (c : Code). c.depth ≤ d) part.blocks → IfSome part.filter (λ (c : FilterCode). c.depth ≤ f) → 256 ≤ length scratch.locals.items → length scratch.stack.items ≡ max d f → MadeFor part scratch
+pub made_for : (part : Part) (scratch : Scratch) (d f : ℕ) → All (λ (c : Code). c.depth ≤ d) part.blocks
+    → IfSome part.filter (λ (c : FilterCode). c.depth ≤ f) → 256 ≤ length scratch.locals.items → length scratch.stack.items ≡ max d f → MadeFor part scratch
 made_for part scratch d f a b l s = record {
   locals = l;
   blocks = λ k c h. let p = a k c h in omega (arith, p, s);

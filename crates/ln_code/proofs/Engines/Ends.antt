@@ -12,7 +12,7 @@ only_seen buf zero h = cc
 only_seen buf (suc zero) h = refl
 only_seen buf (suc (suc n)) h = cc
 
--- where nothing is left to run, the answer is the lowest number of the stack
+-- where nothing remains to be run, the result is the lowest number of the stack
 ends : (e : Engine ℕ ℤ (ℕ → ℤ)) (rest lines : List (Line ℕ)) (buf : List ℤ) (top : ℕ) (l m : ℕ → ℤ) → rest ≡ [] →
     run e rest (record { stack = seen buf top; locals = m }) ≡ run e lines (record { stack = []; locals = l }) →
     IsSome (answer e l lines) → answer e l lines ≡ Some (at buf 0)

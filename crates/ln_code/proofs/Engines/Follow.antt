@@ -1,4 +1,4 @@
--- Where one engine has an answer, an engine that follows it has one too.
+-- Where one engine has a result, an engine that follows it has one too.
 use Rattle.std.proofs.Common.{◌≡◌, ℕ, ℤ, Bool, true, false, List, [], ◌∷◌, length, refl, suc, ap}
 use Rattle.std.specs.Prelude.{Option, Some, None}
 use Rattle.ln_code.specs.declared.op.Op.{Op}
@@ -27,12 +27,13 @@ pub record Agree {V L W M : Type 0} (R : V → W → Type 0) (K : L → M → Ty
   pub stack : Stacked R s.stack t.stack
   pub locals : K s.locals t.locals
 
--- f follows e: where e has an answer, f has one that stands for it
+-- f follows e: where e has a result, f has one that stands for it
 pub record Follows {A V L B W M : Type 0} (e : Engine A V L) (f : Engine B W M) (as_bound : A → B) (R : V → W → Type 0) (K : L → M → Type 0) : Type 0 where
   pub push : (c : ℤ) (a : A) (v : V) → e.push c a ≡ Some v → Reaches R v (f.push c (as_bound a))
   pub input : (i : ℕ) (a : A) (v : V) → e.input i a ≡ Some v → Reaches R v (f.input i (as_bound a))
   pub again : (x : V) (y : W) (a : A) (v : V) → R x y → e.again x a ≡ Some v → Reaches R v (f.again y (as_bound a))
-  pub two : (t : Two) (w : Width) (a : A) (x x' : V) (y y' : W) (v : V) → R x y → R x' y' → e.two t w a x x' ≡ Some v → Reaches R v (f.two t w (as_bound a) y y')
+  pub two : (t : Two) (w : Width) (a : A) (x x' : V) (y y' : W) (v : V) → R x y → R x' y' → e.two t w a x x' ≡ Some v
+      → Reaches R v (f.two t w (as_bound a) y y')
   pub minus : (w : Width) (a : A) (x : V) (y : W) (v : V) → R x y → e.minus w a x ≡ Some v → Reaches R v (f.minus w (as_bound a) y)
   pub cut : (n : ℕ) (a : A) (x : V) (y : W) (v : V) → R x y → e.cut n a x ≡ Some v → Reaches R v (f.cut n (as_bound a) y)
   pub got : (l : L) (m : M) (j : ℕ) (v : V) → K l m → e.got l j ≡ Some v → Reaches R v (f.got m j)
@@ -49,7 +50,8 @@ same_length R [] (y ∷ ys) s = absurd s
 same_length R (x ∷ xs) [] s = absurd s
 same_length R (x ∷ xs) (y ∷ ys) s = ap suc (same_length R xs ys s.1)
 
-pushed_follows : {A V L B W M : Type 0} (e : Engine A V L) (f : Engine B W M) (as_bound : A → B) (R : V → W → Type 0) (K : L → M → Type 0) (h : Follows e f as_bound R K)
+pushed_follows : {A V L B W M : Type 0} (e : Engine A V L) (f : Engine B W M) (as_bound : A → B) (R : V → W → Type 0) (K : L → M → Type 0)
+    (h : Follows e f as_bound R K)
     (l : L) (m : M) (xs : List V) (ys : List W) (o : Option V) (p : Option W) (t : State V L) →
     K l m → Stacked R xs ys → ((v : V) → o ≡ Some v → Reaches R v p) →
     next o (pushed e l xs) ≡ Some t → Reaches (Agree R K) t (next p (pushed f m ys))
@@ -60,7 +62,8 @@ pushed_follows e f as_bound R K h l m xs ys (Some v) (Some w) t k s g q =
     let n : f.room (suc (length ys)) ≡ true = rw (← same_length R xs ys s) (h.room (suc (length xs)) r.0) in
     rw (n, ← r.1) (record { stack = (g v refl, s); locals = k })
 
-with_one_follows : {A V L B W M : Type 0} (e : Engine A V L) (f : Engine B W M) (as_bound : A → B) (R : V → W → Type 0) (K : L → M → Type 0) (h : Follows e f as_bound R K)
+with_one_follows : {A V L B W M : Type 0} (e : Engine A V L) (f : Engine B W M) (as_bound : A → B) (R : V → W → Type 0) (K : L → M → Type 0)
+    (h : Follows e f as_bound R K)
     (u : V → Option V) (z : W → Option W) (l : L) (m : M) (xs : List V) (ys : List W) (t : State V L) →
     ((x : V) (y : W) (v : V) → R x y → u x ≡ Some v → Reaches R v (z y)) →
     K l m → Stacked R xs ys → with_one e u l xs ≡ Some t → Reaches (Agree R K) t (with_one f z m ys)
@@ -69,7 +72,8 @@ with_one_follows e f as_bound R K h u z l m (x ∷ xs) [] t g k s q = absurd s
 with_one_follows e f as_bound R K h u z l m (x ∷ xs) (y ∷ ys) t g k s q =
     pushed_follows e f as_bound R K h l m xs ys (u x) (z y) t k s.1 (λ v r. g x y v s.0 r) q
 
-with_two_follows : {A V L B W M : Type 0} (e : Engine A V L) (f : Engine B W M) (as_bound : A → B) (R : V → W → Type 0) (K : L → M → Type 0) (h : Follows e f as_bound R K)
+with_two_follows : {A V L B W M : Type 0} (e : Engine A V L) (f : Engine B W M) (as_bound : A → B) (R : V → W → Type 0) (K : L → M → Type 0)
+    (h : Follows e f as_bound R K)
     (u : V → V → Option V) (z : W → W → Option W) (l : L) (m : M) (xs : List V) (ys : List W) (t : State V L) →
     ((x x' : V) (y y' : W) (v : V) → R x y → R x' y' → u x x' ≡ Some v → Reaches R v (z y y')) →
     K l m → Stacked R xs ys → with_two e u l xs ≡ Some t → Reaches (Agree R K) t (with_two f z m ys)
@@ -80,7 +84,8 @@ with_two_follows e f as_bound R K h u z l m (x ∷ (x' ∷ xs)) (y ∷ []) t g k
 with_two_follows e f as_bound R K h u z l m (x ∷ (x' ∷ xs)) (y ∷ (y' ∷ ys)) t g k s q =
     pushed_follows e f as_bound R K h l m xs ys (u x' x) (z y' y) t k s.1.1 (λ v r. g x' x y' y v s.1.0 s.0 r) q
 
-stored_follows : {A V L B W M : Type 0} (e : Engine A V L) (f : Engine B W M) (as_bound : A → B) (R : V → W → Type 0) (K : L → M → Type 0) (h : Follows e f as_bound R K)
+stored_follows : {A V L B W M : Type 0} (e : Engine A V L) (f : Engine B W M) (as_bound : A → B) (R : V → W → Type 0) (K : L → M → Type 0)
+    (h : Follows e f as_bound R K)
     (j : ℕ) (l : L) (m : M) (xs : List V) (ys : List W) (t : State V L) →
     K l m → Stacked R xs ys → stored e j l xs ≡ Some t → Reaches (Agree R K) t (stored f j m ys)
 stored_follows e f as_bound R K h j l m [] ys t k s q = cc
@@ -89,26 +94,36 @@ stored_follows e f as_bound R K h j l m (x ∷ xs) (y ∷ ys) t k s q =
     let r : record { stack = xs; locals = e.put l j x } ≡ t = cc in
     rw (← r) (record { stack = s.1; locals = h.put l m j x y k s.0 })
 
-got_follows : {A V L B W M : Type 0} (e : Engine A V L) (f : Engine B W M) (as_bound : A → B) (R : V → W → Type 0) (K : L → M → Type 0) (h : Follows e f as_bound R K)
+got_follows : {A V L B W M : Type 0} (e : Engine A V L) (f : Engine B W M) (as_bound : A → B) (R : V → W → Type 0) (K : L → M → Type 0)
+    (h : Follows e f as_bound R K)
     (a : A) (o : Option V) (p : Option W) (v : V) → ((x : V) → o ≡ Some x → Reaches R x p) →
     next o (λ x. e.again x a) ≡ Some v → Reaches R v (next p (λ y. f.again y (as_bound a)))
 got_follows e f as_bound R K h a None p v g q = cc
 got_follows e f as_bound R K h a (Some x) None v g q = absurd (g x refl)
 got_follows e f as_bound R K h a (Some x) (Some y) v g q = h.again x y a v (g x refl) q
 
-step_follows : {A V L B W M : Type 0} (e : Engine A V L) (f : Engine B W M) (as_bound : A → B) (R : V → W → Type 0) (K : L → M → Type 0) (h : Follows e f as_bound R K)
+step_follows : {A V L B W M : Type 0} (e : Engine A V L) (f : Engine B W M) (as_bound : A → B) (R : V → W → Type 0) (K : L → M → Type 0)
+    (h : Follows e f as_bound R K)
     (op : Op) (a : A) (l : L) (m : M) (xs : List V) (ys : List W) (t : State V L) →
     K l m → Stacked R xs ys → step e op a l xs ≡ Some t → Reaches (Agree R K) t (step f op (as_bound a) m ys)
-step_follows e f as_bound R K h (Push c) a l m xs ys t k s q = pushed_follows e f as_bound R K h l m xs ys (e.push c a) (f.push c (as_bound a)) t k s (h.push c a) q
-step_follows e f as_bound R K h (Input i) a l m xs ys t k s q = pushed_follows e f as_bound R K h l m xs ys (e.input i a) (f.input i (as_bound a)) t k s (h.input i a) q
+step_follows e f as_bound R K h (Push c) a l m xs ys t k s q =
+    pushed_follows e f as_bound R K h l m xs ys (e.push c a) (f.push c (as_bound a)) t k s (h.push c a) q
+step_follows e f as_bound R K h (Input i) a l m xs ys t k s q =
+    pushed_follows e f as_bound R K h l m xs ys (e.input i a) (f.input i (as_bound a)) t k s (h.input i a) q
 step_follows e f as_bound R K h (Get j) a l m xs ys t k s q =
-    pushed_follows e f as_bound R K h l m xs ys (next (e.got l j) (λ x. e.again x a)) (next (f.got m j) (λ x. f.again x (as_bound a))) t k s (λ v r. got_follows e f as_bound R K h a (e.got l j) (f.got m j) v (λ x. h.got l m j x k) r) q
+    pushed_follows e f as_bound R K h l m xs ys (next (e.got l j) (λ x. e.again x a)) (next (f.got m j) (λ x. f.again x (as_bound a))) t k s
+    (λ v r. got_follows e f as_bound R K h a (e.got l j) (f.got m j) v (λ x. h.got l m j x k) r) q
 step_follows e f as_bound R K h (Set j) a l m xs ys t k s q = stored_follows e f as_bound R K h j l m xs ys t k s q
-step_follows e f as_bound R K h (Add w) a l m xs ys t k s q = with_two_follows e f as_bound R K h (e.two Plus w a) (f.two Plus w (as_bound a)) l m xs ys t (h.two Plus w a) k s q
-step_follows e f as_bound R K h (Sub w) a l m xs ys t k s q = with_two_follows e f as_bound R K h (e.two Minus w a) (f.two Minus w (as_bound a)) l m xs ys t (h.two Minus w a) k s q
-step_follows e f as_bound R K h (Mul w) a l m xs ys t k s q = with_two_follows e f as_bound R K h (e.two Times w a) (f.two Times w (as_bound a)) l m xs ys t (h.two Times w a) k s q
-step_follows e f as_bound R K h (Neg w) a l m xs ys t k s q = with_one_follows e f as_bound R K h (e.minus w a) (f.minus w (as_bound a)) l m xs ys t (h.minus w a) k s q
-step_follows e f as_bound R K h (Cut n) a l m xs ys t k s q = with_one_follows e f as_bound R K h (e.cut n a) (f.cut n (as_bound a)) l m xs ys t (h.cut n a) k s q
+step_follows e f as_bound R K h (Add w) a l m xs ys t k s q =
+    with_two_follows e f as_bound R K h (e.two Plus w a) (f.two Plus w (as_bound a)) l m xs ys t (h.two Plus w a) k s q
+step_follows e f as_bound R K h (Sub w) a l m xs ys t k s q =
+    with_two_follows e f as_bound R K h (e.two Minus w a) (f.two Minus w (as_bound a)) l m xs ys t (h.two Minus w a) k s q
+step_follows e f as_bound R K h (Mul w) a l m xs ys t k s q =
+    with_two_follows e f as_bound R K h (e.two Times w a) (f.two Times w (as_bound a)) l m xs ys t (h.two Times w a) k s q
+step_follows e f as_bound R K h (Neg w) a l m xs ys t k s q =
+    with_one_follows e f as_bound R K h (e.minus w a) (f.minus w (as_bound a)) l m xs ys t (h.minus w a) k s q
+step_follows e f as_bound R K h (Cut n) a l m xs ys t k s q =
+    with_one_follows e f as_bound R K h (e.cut n a) (f.cut n (as_bound a)) l m xs ys t (h.cut n a) k s q
 
 -- the same lines with other bounds
 abbrev pub relined : {A B : Type 0} → (A → B) → List (Line A) → List (Line B)
@@ -122,8 +137,11 @@ next_reaches R Q (Some s) None g k u a b q = absurd (a s refl)
 next_reaches R Q (Some s) (Some t) g k u a b q = b s t (a s refl) q
 
 -- the machine: where the run of e ends, the run of f ends, in a state that stands for it
-pub run_follows : {A V L B W M : Type 0} (e : Engine A V L) (f : Engine B W M) (as_bound : A → B) (R : V → W → Type 0) (K : L → M → Type 0) (h : Follows e f as_bound R K)
-    (lines : List (Line A)) (s : State V L) (t : State W M) (u : State V L) → Agree R K s t → run e lines s ≡ Some u → Reaches (Agree R K) u (run f (relined as_bound lines) t)
+pub run_follows : {A V L B W M : Type 0} (e : Engine A V L) (f : Engine B W M) (as_bound : A → B) (R : V → W → Type 0) (K : L → M → Type 0)
+    (h : Follows e f as_bound R K)
+    (lines : List (Line A)) (s : State V L) (t : State W M) (u : State V L) → Agree R K s t → run e lines s ≡ Some u
+    → Reaches (Agree R K) u (run f (relined as_bound lines) t)
 run_follows e f as_bound R K h [] s t u a q = let r : s ≡ u = cc in rw (← r) a
 run_follows e f as_bound R K h (x ∷ xs) s t u a q =
-    next_reaches (Agree R K) (Agree R K) _ _ _ _ u (λ v r. step_follows e f as_bound R K h x.op x.bound s.locals t.locals s.stack t.stack v a.locals a.stack r) (λ v w r z. run_follows e f as_bound R K h xs v w u r z) q
+    next_reaches (Agree R K) (Agree R K) _ _ _ _ u (λ v r. step_follows e f as_bound R K h x.op x.bound s.locals t.locals s.stack t.stack v a.locals a.stack r)
+    (λ v w r z. run_follows e f as_bound R K h xs v w u r z) q

@@ -1,4 +1,4 @@
--- What follows of one engine's answer for another's, and what the lines of code are.
+-- What follows from one engine's result for another's, and what the lines of code are.
 use Rattle.std.proofs.Common.{◌≡◌, ℕ, ℤ, ◌≤◌, List, [], ◌∷◌, length, refl, ap, arith}
 use Rattle.std.specs.Prelude.{Option, Some, None, IsSome}
 use Rattle.ln_interval.specs.Range.{Range}
@@ -29,13 +29,16 @@ only_follows R (x ∷ []) (y ∷ []) v s h = let e : x ≡ v = cc in rw (← e) 
 only_follows R (x ∷ []) (y ∷ (z ∷ ys)) v s h = absurd s.1
 only_follows R (x ∷ (x' ∷ xs)) ys v s h = cc
 
--- where one engine has an answer, an engine that follows it has one that stands for it
-pub answer_follows : {A V L B W M : Type 0} (e : Engine A V L) (f : Engine B W M) (as_bound : A → B) (R : V → W → Type 0) (K : L → M → Type 0) (h : Follows e f as_bound R K)
+-- where one engine has a result, an engine that follows it has one that stands for it
+pub answer_follows : {A V L B W M : Type 0} (e : Engine A V L) (f : Engine B W M) (as_bound : A → B) (R : V → W → Type 0)
+    (K : L → M → Type 0) (h : Follows e f as_bound R K)
     (l : L) (m : M) (lines : List (Line A)) (v : V) → K l m → answer e l lines ≡ Some v → Reaches R v (answer f m (relined as_bound lines))
 answer_follows {V = V} {L = L} {W = W} {M = M} e f as_bound R K h l m lines v k q =
-    by_run (run e lines (record { stack = []; locals = l })) (run f (relined as_bound lines) (record { stack = []; locals = m })) (λ u r. run_follows e f as_bound R K h lines (record { stack = []; locals = l }) (record { stack = []; locals = m }) u (record { stack = tt; locals = k }) r) q
+    by_run (run e lines (record { stack = []; locals = l })) (run f (relined as_bound lines) (record { stack = []; locals = m })) (λ u r.
+    run_follows e f as_bound R K h lines (record { stack = []; locals = l }) (record { stack = []; locals = m }) u (record { stack = tt; locals = k }) r) q
   where
-    by_run : (o : Option (State V L)) (p : Option (State W M)) → ((u : State V L) → o ≡ Some u → Reaches (Agree R K) u p) → next o (λ s. only s.stack) ≡ Some v → Reaches R v (next p (λ s. only s.stack))
+    by_run : (o : Option (State V L)) (p : Option (State W M)) → ((u : State V L) → o ≡ Some u → Reaches (Agree R K) u p)
+        → next o (λ s. only s.stack) ≡ Some v → Reaches R v (next p (λ s. only s.stack))
     by_run None p g q = cc
     by_run (Some u) None g q = absurd (g u refl)
     by_run (Some u) (Some w) g q = only_follows R u.stack w.stack v (g u refl).stack q
@@ -74,12 +77,15 @@ pub record Runs (vars : List VarInfo) (zs : List ℤ) (c : Code) (places : ℕ) 
   pub barely : answer (bare zs places) locals (plain c.ops) ≡ Some (value (values zs) [] what.tree)
   pub fits : Fits zs what (value (values zs) [] what.tree)
 
-pub block_runs : (vars : List VarInfo) (zs : List ℤ) (c : Code) (places : ℕ) (locals : ℕ → ℤ) → FollowsRules vars c → AreWithin vars zs → c.depth ≤ places → Runs vars zs c places locals
+pub block_runs : (vars : List VarInfo) (zs : List ℤ) (c : Code) (places : ℕ) (locals : ℕ → ℤ) → FollowsRules vars c → AreWithin vars zs
+    → c.depth ≤ places → Runs vars zs c places locals
 block_runs vars zs c places locals r range d =
     let k = some_is (known_of vars c) r.answers in
     let lines = lines_of c.ops c.pairs in
-    let a = answer_follows (rules vars c.depth) (exact zs) (λ (p : Range). p) (Fits zs) (Locals zs) (exact_follows vars c.depth zs range) no_locals no_locals lines k.0 (λ j v e. cc) k.1 in
-    let b = answer_follows (rules vars c.depth) (bare zs places) (λ (p : Range). 0) (Fits zs) (Slots zs) (bare_follows vars c.depth places zs range d) no_locals locals lines k.0 (λ j v e. cc) k.1 in
+    let a = answer_follows (rules vars c.depth) (exact zs) (λ (p : Range). p) (Fits zs) (Locals zs)
+    (exact_follows vars c.depth zs range) no_locals no_locals lines k.0 (λ j v e. cc) k.1 in
+    let b = answer_follows (rules vars c.depth) (bare zs places) (λ (p : Range). 0) (Fits zs) (Slots zs)
+    (bare_follows vars c.depth places zs range d) no_locals locals lines k.0 (λ j v e. cc) k.1 in
     let p = reached_some (Fits zs) k.0 _ (rw same_lines at a) in
     let q = reached_some (Fits zs) k.0 _ (rw (plain_lines c.ops c.pairs r.bounded) at b) in
     let e : p.0 ≡ value (values zs) [] k.0.tree = p.2.same in
@@ -96,14 +102,18 @@ pub record FilterRuns (vars : List VarInfo) (zs : List ℤ) (f : FilterCode) (pl
   pub holds : HoldsHeld zs what left
   pub error : left.error ≡ left_error f.ops f.triples 0 0
 
-pub filter_runs : (vars : List VarInfo) (zs : List ℤ) (f : FilterCode) (places : ℕ) (locals : ℕ → ℤ) → FollowsFilterRules vars f → AreWithin vars zs → f.depth ≤ places → FilterRuns vars zs f places locals
+pub filter_runs : (vars : List VarInfo) (zs : List ℤ) (f : FilterCode) (places : ℕ) (locals : ℕ → ℤ) → FollowsFilterRules vars f
+    → AreWithin vars zs → f.depth ≤ places → FilterRuns vars zs f places locals
 filter_runs vars zs f places locals r range d =
     let lines = lines_of f.ops f.triples in
-    let a = answer_follows (filter_rules vars f.depth) (roomy zs f.depth) (λ (a : Triple). a) (HoldsHeld zs) (HeldLocals zs) (roomy_follows vars f.depth zs range) no_locals no_locals lines r.what (λ j v e. cc) r.known in
+    let a = answer_follows (filter_rules vars f.depth) (roomy zs f.depth) (λ (a : Triple). a) (HoldsHeld zs) (HeldLocals zs)
+    (roomy_follows vars f.depth zs range) no_locals no_locals lines r.what (λ j v e. cc) r.known in
     let p = reached_some (HoldsHeld zs) r.what _ (rw same_lines at a) in
-    let b = answer_follows (roomy zs f.depth) (exact_filter zs) (λ (a : Triple). a) (λ (x y : Held). x ≡ y) (λ (l m : ℕ → Option Held). l ≡ m) (exact_follows_roomy f.depth zs) no_locals no_locals lines p.0 refl p.1 in
+    let b = answer_follows (roomy zs f.depth) (exact_filter zs) (λ (a : Triple). a) (λ (x y : Held). x ≡ y)
+    (λ (l m : ℕ → Option Held). l ≡ m) (exact_follows_roomy f.depth zs) no_locals no_locals lines p.0 refl p.1 in
     let q = reached_some (λ (x y : Held). x ≡ y) p.0 _ (rw same_lines at b) in
-    let c = answer_follows (roomy zs f.depth) (bare zs places) (λ (a : Triple). a.k) IsNumber HeldSlots (bare_follows_roomy f.depth places zs d) no_locals locals lines p.0 (λ j v e. cc) p.1 in
+    let c = answer_follows (roomy zs f.depth) (bare zs places) (λ (a : Triple). a.k) IsNumber HeldSlots
+    (bare_follows_roomy f.depth places zs d) no_locals locals lines p.0 (λ j v e. cc) p.1 in
     let s = reached_some IsNumber p.0 _ (rw (shifted_lines f.ops f.triples) at c) in
     let x : filter_value zs f ≡ Some p.0 = rw (← q.2) at q.1 in
     record { what = r.what; known = r.known; left = p.0; exactly = x; barely = rw (← s.2.same) at s.1; holds = p.2; error = left_has zs f.ops f.triples p.0 x }

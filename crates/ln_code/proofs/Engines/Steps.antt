@@ -28,8 +28,9 @@ pushed_room zs d l (Some z) buf k h =
     let r : suc k ≤ d = rw seen-length at (leb-true _ _ (when_is_some _ _ h)) in
     omega arith
 
--- what comes of a value that is pushed
-pub pushed_is : (zs : List ℤ) (d : ℕ) (l : ℕ → ℤ) (z : ℤ) (buf : List ℤ) (k : ℕ) → k < d → pushed (bare zs d) l (seen buf k) z ≡ Some (record { stack = z ∷ seen buf k; locals = l })
+-- the result of pushing a value
+pub pushed_is : (zs : List ℤ) (d : ℕ) (l : ℕ → ℤ) (z : ℤ) (buf : List ℤ) (k : ℕ) → k < d
+    → pushed (bare zs d) l (seen buf k) z ≡ Some (record { stack = z ∷ seen buf k; locals = l })
 pushed_is zs d l z buf k h = rw (seen-length buf k, le-leb (suc k) d h) refl
 
 -- ---- operations on two
@@ -47,7 +48,8 @@ two_ready zs l t w b buf (suc (suc k)) r h =
     record { deep = d; room = r; left = rw e p.0; right = rw f q.0; result = rw (e, f) q.1 }
 
 two_is : (zs : List ℤ) (l : ℕ → ℤ) (t : Two) (w : Width) (k : ℕ) (buf : List ℤ) (top : ℕ) → TwoReady t w buf top →
-    with_two (bare zs (length buf)) ((bare zs (length buf)).two t w k) l (seen buf top) ≡ Some (record { stack = result_of t (at buf (top - 2)) (at buf (top - 1)) ∷ seen buf (top - 2); locals = l })
+    with_two (bare zs (length buf)) ((bare zs (length buf)).two t w k) l (seen buf top)
+    ≡ Some (record { stack = result_of t (at buf (top - 2)) (at buf (top - 1)) ∷ seen buf (top - 2); locals = l })
 two_is zs l t w b buf zero r = absurd (let d = r.deep in omega arith)
 two_is zs l t w b buf (suc zero) r = absurd (let d = r.deep in omega arith)
 two_is zs l t w b buf (suc (suc k)) r =
@@ -74,7 +76,8 @@ one_ready zs l test f buf (suc k) h =
     record { deep = omega arith; fits = rw e (when_is_some _ _ (next_is_some _ _ h)) }
 
 one_is : (zs : List ℤ) (l : ℕ → ℤ) (test : ℤ → Bool) (f : ℤ → ℤ) (buf : List ℤ) (top : ℕ) → top ≤ length buf → OneReady test buf top →
-    with_one (bare zs (length buf)) (λ z. when (test z) (f z)) l (seen buf top) ≡ Some (record { stack = f (at buf (top - 1)) ∷ seen buf (top - 1); locals = l })
+    with_one (bare zs (length buf)) (λ z. when (test z) (f z)) l (seen buf top)
+    ≡ Some (record { stack = f (at buf (top - 1)) ∷ seen buf (top - 1); locals = l })
 one_is zs l test f buf zero r p = absurd (let d = p.deep in omega arith)
 one_is zs l test f buf (suc k) r p =
     let e : suc k - 1 ≡ k = omega arith in
@@ -103,7 +106,8 @@ leads_push values buf locals top op k c e h =
     let g : is_some (next (Some (cut_by k c)) (pushed (bare values (length buf)) (at locals) (seen buf top))) ≡ true = rw e at h in
     pushed_room values (length buf) (at locals) (Some (cut_by k c)) buf top g
 
-pub push_leads : (values buf locals : List ℤ) (top : ℕ) (op : Op) (k : ℕ) (c : ℤ) (s : List ℤ) → op ≡ Push c → IsSome (leads op k values buf top locals) → s ≡ cut_by k c ∷ seen buf top →
+pub push_leads : (values buf locals : List ℤ) (top : ℕ) (op : Op) (k : ℕ) (c : ℤ) (s : List ℤ) → op ≡ Push c →
+    IsSome (leads op k values buf top locals) → s ≡ cut_by k c ∷ seen buf top →
     leads op k values buf top locals ≡ Some (record { stack = s; locals = at locals })
 push_leads values buf locals top op k c s e h q =
     let r = leads_push values buf locals top op k c e h in
@@ -124,12 +128,14 @@ pub record InputReady (v : ℕ) (values buf : List ℤ) (top : ℕ) : Type 0 whe
   pub there : v < length values
   pub room : top < length buf
 
-pub leads_input : (values buf locals : List ℤ) (top : ℕ) (op : Op) (k v : ℕ) → op ≡ Input v → IsSome (leads op k values buf top locals) → InputReady v values buf top
+pub leads_input : (values buf locals : List ℤ) (top : ℕ) (op : Op) (k v : ℕ) → op ≡ Input v → IsSome (leads op k values buf top locals)
+    → InputReady v values buf top
 leads_input values buf locals top op k v e h =
     let g : is_some (next (slice_get values v) (pushed (bare values (length buf)) (at locals) (seen buf top))) ≡ true = rw e at h in
     record { there = got_there values v (next_is_some _ _ g); room = pushed_room values (length buf) (at locals) (slice_get values v) buf top g }
 
-pub input_leads : (values buf locals : List ℤ) (top : ℕ) (op : Op) (k v : ℕ) (z : ℤ) (s : List ℤ) → op ≡ Input v → IsSome (leads op k values buf top locals) → z ≡ slice_index_or values v (pos 0) → s ≡ z ∷ seen buf top →
+pub input_leads : (values buf locals : List ℤ) (top : ℕ) (op : Op) (k v : ℕ) (z : ℤ) (s : List ℤ) → op ≡ Input v →
+    IsSome (leads op k values buf top locals) → z ≡ slice_index_or values v (pos 0) → s ≡ z ∷ seen buf top →
     leads op k values buf top locals ≡ Some (record { stack = s; locals = at locals })
 input_leads values buf locals top op k v z s e h f q =
     let r = leads_input values buf locals top op k v e h in
@@ -141,7 +147,8 @@ leads_get values buf locals top op k j e h =
     let g : is_some (next (Some (at locals j)) (pushed (bare values (length buf)) (at locals) (seen buf top))) ≡ true = rw e at h in
     pushed_room values (length buf) (at locals) (Some (at locals j)) buf top g
 
-pub get_leads : (values buf locals : List ℤ) (top : ℕ) (op : Op) (k j : ℕ) (s : List ℤ) → op ≡ Get j → IsSome (leads op k values buf top locals) → s ≡ at locals j ∷ seen buf top →
+pub get_leads : (values buf locals : List ℤ) (top : ℕ) (op : Op) (k j : ℕ) (s : List ℤ) → op ≡ Get j →
+    IsSome (leads op k values buf top locals) → s ≡ at locals j ∷ seen buf top →
     leads op k values buf top locals ≡ Some (record { stack = s; locals = at locals })
 get_leads values buf locals top op k j s e h q =
     let r = leads_get values buf locals top op k j e h in
@@ -153,30 +160,35 @@ op_of Plus w = Add w
 op_of Minus w = Sub w
 op_of Times w = Mul w
 
-leads_with : (values buf locals : List ℤ) (top : ℕ) (t : Two) (w : Width) (k : ℕ) → leads (op_of t w) k values buf top locals ≡ with_two (bare values (length buf)) ((bare values (length buf)).two t w k) (at locals) (seen buf top)
+leads_with : (values buf locals : List ℤ) (top : ℕ) (t : Two) (w : Width) (k : ℕ)
+    → leads (op_of t w) k values buf top locals ≡ with_two (bare values (length buf)) ((bare values (length buf)).two t w k) (at locals) (seen buf top)
 leads_with values buf locals top Plus w k = refl
 leads_with values buf locals top Minus w k = refl
 leads_with values buf locals top Times w k = refl
 
-pub leads_two : (values buf locals : List ℤ) (top : ℕ) (op : Op) (k : ℕ) (t : Two) (w : Width) → op ≡ op_of t w → top ≤ length buf → IsSome (leads op k values buf top locals) → TwoReady t w buf top
+pub leads_two : (values buf locals : List ℤ) (top : ℕ) (op : Op) (k : ℕ) (t : Two) (w : Width) → op ≡ op_of t w → top ≤ length buf
+    → IsSome (leads op k values buf top locals) → TwoReady t w buf top
 leads_two values buf locals top op k t w e r h =
     let a : IsSome (leads (op_of t w) k values buf top locals) = rw e at h in
     let g = rw (leads_with values buf locals top t w k) at a in
     two_ready values (at locals) t w k buf top r g
 
-pub two_leads : (values buf locals : List ℤ) (top : ℕ) (op : Op) (k : ℕ) (t : Two) (w : Width) (s : List ℤ) → op ≡ op_of t w → top ≤ length buf → IsSome (leads op k values buf top locals) →
+pub two_leads : (values buf locals : List ℤ) (top : ℕ) (op : Op) (k : ℕ) (t : Two) (w : Width) (s : List ℤ) → op ≡ op_of t w →
+    top ≤ length buf → IsSome (leads op k values buf top locals) →
     s ≡ result_of t (at buf (top - 2)) (at buf (top - 1)) ∷ seen buf (top - 2) →
     leads op k values buf top locals ≡ Some (record { stack = s; locals = at locals })
 two_leads values buf locals top op k t w s e r h q =
     let g = leads_two values buf locals top op k t w e r h in
     rw (e, leads_with values buf locals top t w k, q) (two_is values (at locals) t w k buf top g)
 
-pub leads_neg : (values buf locals : List ℤ) (top : ℕ) (op : Op) (k : ℕ) (w : Width) → op ≡ Neg w → IsSome (leads op k values buf top locals) → OneReady (fits w) buf top
+pub leads_neg : (values buf locals : List ℤ) (top : ℕ) (op : Op) (k : ℕ) (w : Width) → op ≡ Neg w → IsSome (leads op k values buf top locals)
+    → OneReady (fits w) buf top
 leads_neg values buf locals top op k w e h =
     let g : IsSome (leads (Neg w) k values buf top locals) = rw e at h in
     one_ready values (at locals) (fits w) neg_ℤ buf top g
 
-pub neg_leads : (values buf locals : List ℤ) (top : ℕ) (op : Op) (k : ℕ) (w : Width) (s : List ℤ) → op ≡ Neg w → top ≤ length buf → IsSome (leads op k values buf top locals) → s ≡ neg_ℤ (at buf (top - 1)) ∷ seen buf (top - 1) →
+pub neg_leads : (values buf locals : List ℤ) (top : ℕ) (op : Op) (k : ℕ) (w : Width) (s : List ℤ) → op ≡ Neg w → top ≤ length buf →
+    IsSome (leads op k values buf top locals) → s ≡ neg_ℤ (at buf (top - 1)) ∷ seen buf (top - 1) →
     leads op k values buf top locals ≡ Some (record { stack = s; locals = at locals })
 neg_leads values buf locals top op k w s e r h q =
     let g = leads_neg values buf locals top op k w e h in
@@ -191,7 +203,8 @@ leads_cut values buf locals top op k n e h =
     let g : IsSome (leads (Cut n) k values buf top locals) = rw e at h in
     one_ready values (at locals) any (cut_by n) buf top g
 
-pub cut_leads : (values buf locals : List ℤ) (top : ℕ) (op : Op) (k n : ℕ) (s : List ℤ) → op ≡ Cut n → top ≤ length buf → IsSome (leads op k values buf top locals) → s ≡ cut_by n (at buf (top - 1)) ∷ seen buf (top - 1) →
+pub cut_leads : (values buf locals : List ℤ) (top : ℕ) (op : Op) (k n : ℕ) (s : List ℤ) → op ≡ Cut n → top ≤ length buf →
+    IsSome (leads op k values buf top locals) → s ≡ cut_by n (at buf (top - 1)) ∷ seen buf (top - 1) →
     leads op k values buf top locals ≡ Some (record { stack = s; locals = at locals })
 cut_leads values buf locals top op k n s e r h q =
     let g = leads_cut values buf locals top op k n e h in
@@ -202,7 +215,8 @@ leads_set values buf locals top op k j e h =
     let g : IsSome (leads (Set j) k values buf top locals) = rw e at h in
     set_ready values (at locals) j buf top g
 
-pub set_leads : (values buf locals : List ℤ) (top : ℕ) (op : Op) (k j : ℕ) (m : ℕ → ℤ) → op ≡ Set j → IsSome (leads op k values buf top locals) → m ≡ (λ i. if i == j then at buf (top - 1) else at locals i) →
+pub set_leads : (values buf locals : List ℤ) (top : ℕ) (op : Op) (k j : ℕ) (m : ℕ → ℤ) → op ≡ Set j →
+    IsSome (leads op k values buf top locals) → m ≡ (λ i. if i == j then at buf (top - 1) else at locals i) →
     leads op k values buf top locals ≡ Some (record { stack = seen buf (top - 1); locals = m })
 set_leads values buf locals top op k j m e h q =
     let d = leads_set values buf locals top op k j e h in

@@ -56,19 +56,22 @@ get_error : (o : Option Held) (a : Triple) (v : Held) → next o (λ (y : Held).
 get_error o a v q = let r = next_some o (λ (y : Held). held a y.number) v q in held_error a r.0.number v r.2
 
 -- a value that is pushed
-grows : (zs : List ℤ) (o : Option Held) (l : Locals) (s : List Held) (t : State Held Locals) (e d : ℕ) → ((v : Held) → o ≡ Some v → v.error ≡ e) → LowestHas s d → next o (pushed (exact_filter zs) l s) ≡ Some t →
+grows : (zs : List ℤ) (o : Option Held) (l : Locals) (s : List Held) (t : State Held Locals) (e d : ℕ) →
+    ((v : Held) → o ≡ Some v → v.error ≡ e) → LowestHas s d → next o (pushed (exact_filter zs) l s) ≡ Some t →
     Left t (suc (length s)) e (if suc (length s) == 1 then e else d)
 grows zs None l s t e d g h q = cc
 grows zs (Some v) l s t e d g h q =
     let r : record { stack = v ∷ s; locals = l } ≡ t = cc in
     rw (← r) (record { size = refl; lowest = upper v s e d (g v refl) h })
 
-one_left : (zs : List ℤ) (f : Held → Option Held) (l : Locals) (s : List Held) (t : State Held Locals) (e d : ℕ) → ((x v : Held) → f x ≡ Some v → v.error ≡ e) → LowestHas s d → with_one (exact_filter zs) f l s ≡ Some t →
+one_left : (zs : List ℤ) (f : Held → Option Held) (l : Locals) (s : List Held) (t : State Held Locals) (e d : ℕ) →
+    ((x v : Held) → f x ≡ Some v → v.error ≡ e) → LowestHas s d → with_one (exact_filter zs) f l s ≡ Some t →
     Left t (length s) e (if length s == 1 then e else d)
 one_left zs f l [] t e d g h q = cc
 one_left zs f l (x ∷ s) t e d g h q = grows zs (f x) l s t e d (g x) (lower x s d h) q
 
-two_left : (zs : List ℤ) (f : Held → Held → Option Held) (l : Locals) (s : List Held) (t : State Held Locals) (e d : ℕ) → ((x y v : Held) → f x y ≡ Some v → v.error ≡ e) → LowestHas s d → with_two (exact_filter zs) f l s ≡ Some t →
+two_left : (zs : List ℤ) (f : Held → Held → Option Held) (l : Locals) (s : List Held) (t : State Held Locals) (e d : ℕ) →
+    ((x y v : Held) → f x y ≡ Some v → v.error ≡ e) → LowestHas s d → with_two (exact_filter zs) f l s ≡ Some t →
     Left t (length s - 1) e (if length s - 1 == 1 then e else d)
 two_left zs f l [] t e d g h q = cc
 two_left zs f l (y ∷ []) t e d g h q = cc
@@ -76,26 +79,32 @@ two_left zs f l (y ∷ (x ∷ s)) t e d g h q =
     let n : suc (suc (length s)) - 1 ≡ suc (length s) = omega arith in
     rw n (grows zs (f x y) l s t e d (g x y) (lower x s d (lower y (x ∷ s) d h)) q)
 
-stored_left : (zs : List ℤ) (j : ℕ) (l : Locals) (s : List Held) (t : State Held Locals) (e d : ℕ) → LowestHas s d → stored (exact_filter zs) j l s ≡ Some t → Left t (length s - 1) e d
+stored_left : (zs : List ℤ) (j : ℕ) (l : Locals) (s : List Held) (t : State Held Locals) (e d : ℕ) → LowestHas s d
+    → stored (exact_filter zs) j l s ≡ Some t → Left t (length s - 1) e d
 stored_left zs j l [] t e d h q = cc
 stored_left zs j l (x ∷ s) t e d h q =
     let r : record { stack = s; locals = (exact_filter zs).put l j x } ≡ t = cc in
     let n : suc (length s) - 1 ≡ length s = omega arith in
     rw (← r, n) (record { size = refl; lowest = lower x s d h })
 
-step_left : (zs : List ℤ) (op : Op) (a : Triple) (l : Locals) (s : List Held) (t : State Held Locals) (d : ℕ) → LowestHas s d → step (exact_filter zs) op a l s ≡ Some t →
+step_left : (zs : List ℤ) (op : Op) (a : Triple) (l : Locals) (s : List Held) (t : State Held Locals) (d : ℕ) → LowestHas s d →
+    step (exact_filter zs) op a l s ≡ Some t →
     Left t (size_after op (length s)) a.e (error_behind op (size_after op (length s)) a.e d)
 step_left zs (Push c) a l s t d h q = grows zs (held a (cut_by a.k c)) l s t a.e d (held_error a (cut_by a.k c)) h q
 step_left zs (Input v) a l s t d h q = grows zs (next (slice_get zs v) (λ z. held a z)) l s t a.e d (input_error zs v a) h q
 step_left zs (Get j) a l s t d h q = grows zs (next (l j) (λ (y : Held). held a y.number)) l s t a.e d (get_error (l j) a) h q
 step_left zs (Set j) a l s t d h q = stored_left zs j l s t a.e d h q
-step_left zs (Add w) a l s t d h q = two_left zs ((exact_filter zs).two Plus w a) l s t a.e d (λ x y v r. at_error w a (result_of Plus x.number y.number) v r) h q
-step_left zs (Sub w) a l s t d h q = two_left zs ((exact_filter zs).two Minus w a) l s t a.e d (λ x y v r. at_error w a (result_of Minus x.number y.number) v r) h q
-step_left zs (Mul w) a l s t d h q = two_left zs ((exact_filter zs).two Times w a) l s t a.e d (λ x y v r. at_error w a (result_of Times x.number y.number) v r) h q
+step_left zs (Add w) a l s t d h q =
+    two_left zs ((exact_filter zs).two Plus w a) l s t a.e d (λ x y v r. at_error w a (result_of Plus x.number y.number) v r) h q
+step_left zs (Sub w) a l s t d h q =
+    two_left zs ((exact_filter zs).two Minus w a) l s t a.e d (λ x y v r. at_error w a (result_of Minus x.number y.number) v r) h q
+step_left zs (Mul w) a l s t d h q =
+    two_left zs ((exact_filter zs).two Times w a) l s t a.e d (λ x y v r. at_error w a (result_of Times x.number y.number) v r) h q
 step_left zs (Neg w) a l s t d h q = one_left zs ((exact_filter zs).minus w a) l s t a.e d (λ x v r. at_error w a (neg_ℤ x.number) v r) h q
 step_left zs (Cut n) a l s t d h q = one_left zs ((exact_filter zs).cut n a) l s t a.e d (λ x v r. held_error a (cut_by n x.number) v r) h q
 
-run_left : (zs : List ℤ) (ops : List Op) (ts : List Triple) (s u : State Held Locals) (d : ℕ) → LowestHas s.stack d → run (exact_filter zs) (lines_of ops ts) s ≡ Some u →
+run_left : (zs : List ℤ) (ops : List Op) (ts : List Triple) (s u : State Held Locals) (d : ℕ) → LowestHas s.stack d →
+    run (exact_filter zs) (lines_of ops ts) s ≡ Some u →
     LowestHas u.stack (left_error ops ts (length s.stack) d)
 run_left zs [] ts s u d h q = let r : s ≡ u = cc in rw (← r) h
 run_left zs (o ∷ os) [] s u d h q = let r : s ≡ u = cc in rw (← r) h
@@ -110,7 +119,8 @@ only_has (x ∷ []) h d l q = let r : x ≡ h = cc in rw (← r) l
 only_has (x ∷ (y ∷ ys)) h d l q = cc
 
 -- what a filter leaves has the error of the operation that pushed it
-pub left_has : (zs : List ℤ) (ops : List Op) (ts : List Triple) (h : Held) → answer (exact_filter zs) no_locals (lines_of ops ts) ≡ Some h → h.error ≡ left_error ops ts 0 0
+pub left_has : (zs : List ℤ) (ops : List Op) (ts : List Triple) (h : Held) → answer (exact_filter zs) no_locals (lines_of ops ts) ≡ Some h
+    → h.error ≡ left_error ops ts 0 0
 left_has zs ops ts h q =
     let r = next_some (run (exact_filter zs) (lines_of ops ts) (record { stack = []; locals = no_locals })) (λ (s : State Held Locals). only s.stack) h q in
     only_has r.0.stack h (left_error ops ts 0 0) (run_left zs ops ts (record { stack = []; locals = no_locals }) r.0 0 tt r.1) r.2

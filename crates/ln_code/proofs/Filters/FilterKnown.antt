@@ -1,5 +1,6 @@
--- A filter that follows the rules: the machine over whole numbers and the processor follow them too.
-use Rattle.std.proofs.Common.{◌≡◌, ℕ, ℤ, ◌+◌, ◌*◌, ◌/◌, ◌^◌, ◌≤◌, ◌<◌, Bool, true, false, List, [], refl, zero, suc, ap, arith, ◌+ℤ◌, ◌-ℤ◌, ◌*ℤ◌, neg_ℤ, unsigned_abs, ◌&&◌, sym}
+-- A filter that follows the rules: the machine over integers and the processor follow them too.
+use Rattle.std.proofs.Common.{◌≡◌, ℕ, ℤ, ◌+◌, ◌*◌, ◌/◌, ◌^◌, ◌≤◌, ◌<◌, Bool, true, false, List, [], refl, zero, suc, ap, arith, ◌+ℤ◌, ◌-ℤ◌}
+use Rattle.std.proofs.Common.{◌*ℤ◌, neg_ℤ, unsigned_abs, ◌&&◌, sym}
 use Rattle.std.specs.Prelude.{Option, Some, None, if◌then◌else◌, ◌==◌, nat_le, slice_get}
 use Rattle.std.proofs.lemmas.Nat.{pow_pos}
 use Rattle.std.proofs.lemmas.Grind.{div_ceil_times}
@@ -46,7 +47,7 @@ weaker k h e a z v p q r s =
     let m : e * 2 ^ k ≤ a.e * 2 ^ k = mul-le-mul_right (2 ^ k) r in
     record { small = omega (arith, s.small, q); near = rw p (omega (arith, s.near, m)) }
 
--- what a rule that held says
+-- what holds where a rule held
 pub record Says (k h e size : ℕ) (t : Tree) (a : Triple) (r : FilterKnown) : Type 0 where
   pub same_k : a.k ≡ k
   pub enough_h : h ≤ a.h
@@ -62,10 +63,18 @@ known_says k h e size t a r q =
     let c = and_parts ((a.k == k) && nat_le h a.h && nat_le e a.e) _ p.0 in
     let d = and_parts ((a.k == k) && nat_le h a.h) _ c.0 in
     let f = and_parts (a.k == k) _ d.0 in
-    record { same_k = eqb-true _ _ f.0; enough_h = leb-true _ _ f.1; enough_e = leb-true _ _ d.1; narrow = leb-true _ _ c.1; size_fits = leb-true _ _ p.1; is = w.1 }
+    record {
+      same_k = eqb-true _ _ f.0;
+      enough_h = leb-true _ _ f.1;
+      enough_e = leb-true _ _ d.1;
+      narrow = leb-true _ _ c.1;
+      size_fits = leb-true _ _ p.1;
+      is = w.1;
+    }
 
 -- what stands for a value within what the triple covers is what is known
-holds : (zs : List ℤ) (k h e size : ℕ) (t : Tree) (a : Triple) (r : FilterKnown) (z : ℤ) → Stands (at_triple k h e) z (value (values zs) [] t) → filter_known k h e size t a ≡ Some r → Holds zs r z
+holds : (zs : List ℤ) (k h e size : ℕ) (t : Tree) (a : Triple) (r : FilterKnown) (z : ℤ)
+    → Stands (at_triple k h e) z (value (values zs) [] t) → filter_known k h e size t a ≡ Some r → Holds zs r z
 holds zs k h e size t a r z s q =
     let w = known_says k h e size t a r q in
     rw (← w.is) (record { stands = weaker k h e a z (value (values zs) [] t) w.same_k w.enough_h w.enough_e s; narrow = w.narrow })
@@ -74,7 +83,8 @@ held_is : (a : Triple) (z : ℤ) → unsigned_abs z ≤ a.h → unsigned_abs z �
 held_is a z h k = rw (le-leb (unsigned_abs z) a.h h, le-leb (unsigned_abs z) (limit W64) k) refl
 
 -- the machine keeps it
-inside : (zs : List ℤ) (k h e size : ℕ) (t : Tree) (a : Triple) (r : FilterKnown) (z : ℤ) → Stands (at_triple k h e) z (value (values zs) [] t) → filter_known k h e size t a ≡ Some r → Reaches (HoldsHeld zs) r (held a z)
+inside : (zs : List ℤ) (k h e size : ℕ) (t : Tree) (a : Triple) (r : FilterKnown) (z : ℤ)
+    → Stands (at_triple k h e) z (value (values zs) [] t) → filter_known k h e size t a ≡ Some r → Reaches (HoldsHeld zs) r (held a z)
 inside zs k h e size t a r z s q =
     let w = known_says k h e size t a r q in
     let g = holds zs k h e size t a r z s q in
@@ -85,7 +95,8 @@ inside zs k h e size t a r z s q =
 
 -- a number that is divided by 2^k
 push_stands : (c : ℤ) (k : ℕ) → Stands (at_triple k (unsigned_abs c / 2 ^ k) (push_error k)) (cut_by k c) c
-push_stands c k = weaker (0 + k) (unsigned_abs c / 2 ^ k) (error_after k 0) (at_triple k (unsigned_abs c / 2 ^ k) (push_error k)) (cut_by k c) c (omega arith) (omega arith) (enough k) (cut_stands k (at_triple 0 (unsigned_abs c) 0) c c (exact_stands (unsigned_abs c) c (omega arith)))
+push_stands c k = weaker (0 + k) (unsigned_abs c / 2 ^ k) (error_after k 0) (at_triple k (unsigned_abs c / 2 ^ k) (push_error k)) (cut_by k c) c
+    (omega arith) (omega arith) (enough k) (cut_stands k (at_triple 0 (unsigned_abs c) 0) c c (exact_stands (unsigned_abs c) c (omega arith)))
   where
     enough : (k : ℕ) → error_after k 0 ≤ push_error k
     enough zero = omega arith
@@ -101,23 +112,27 @@ pub record TwoSays (zs : List ℤ) (a : Triple) (r : FilterKnown) (z : ℤ) : Ty
   pub reached : Reaches (HoldsHeld zs) r (held a z)
   pub held_there : Holds zs r z
 
-says : (zs : List ℤ) (k h e size : ℕ) (t : Tree) (a : Triple) (r : FilterKnown) (z : ℤ) → Stands (at_triple k h e) z (value (values zs) [] t) → filter_known k h e size t a ≡ Some r → TwoSays zs a r z
+says : (zs : List ℤ) (k h e size : ℕ) (t : Tree) (a : Triple) (r : FilterKnown) (z : ℤ) → Stands (at_triple k h e) z (value (values zs) [] t)
+    → filter_known k h e size t a ≡ Some r → TwoSays zs a r z
 says zs k h e size t a r z s q = record { reached = inside zs k h e size t a r z s q; held_there = holds zs k h e size t a r z s q }
 
-two_says : (zs : List ℤ) (kind : Two) (a : Triple) (k m r : FilterKnown) (y z : ℤ) → Holds zs k y → Holds zs m z → two_known kind a k m ≡ Some r → TwoSays zs a r (result_of kind y z)
+two_says : (zs : List ℤ) (kind : Two) (a : Triple) (k m r : FilterKnown) (y z : ℤ) → Holds zs k y → Holds zs m z
+    → two_known kind a k m ≡ Some r → TwoSays zs a r (result_of kind y z)
 two_says zs Plus a k m r y z f g q =
     let v : ℤ = value (values zs) [] k.tree in
     let u : ℤ = value (values zs) [] m.tree in
     let w = if_some _ _ _ q in
     let e : k.triple.k ≡ m.triple.k = eqb-true _ _ w.0 in
-    let s = sum_stands k.triple.k k.triple.h k.triple.e m.triple.h m.triple.e y z v u f.stands (weaker m.triple.k m.triple.h m.triple.e (at_triple k.triple.k m.triple.h m.triple.e) z u e (omega arith) (omega arith) g.stands) in
+    let s = sum_stands k.triple.k k.triple.h k.triple.e m.triple.h m.triple.e y z v u f.stands
+    (weaker m.triple.k m.triple.h m.triple.e (at_triple k.triple.k m.triple.h m.triple.e) z u e (omega arith) (omega arith) g.stands) in
     says zs _ _ _ _ (two_of Plus k.tree m.tree) a r (y +ℤ z) s w.1
 two_says zs Minus a k m r y z f g q =
     let v : ℤ = value (values zs) [] k.tree in
     let u : ℤ = value (values zs) [] m.tree in
     let w = if_some _ _ _ q in
     let e : k.triple.k ≡ m.triple.k = eqb-true _ _ w.0 in
-    let s = difference_stands k.triple.k k.triple.h k.triple.e m.triple.h m.triple.e y z v u f.stands (weaker m.triple.k m.triple.h m.triple.e (at_triple k.triple.k m.triple.h m.triple.e) z u e (omega arith) (omega arith) g.stands) in
+    let s = difference_stands k.triple.k k.triple.h k.triple.e m.triple.h m.triple.e y z v u f.stands
+    (weaker m.triple.k m.triple.h m.triple.e (at_triple k.triple.k m.triple.h m.triple.e) z u e (omega arith) (omega arith) g.stands) in
     says zs _ _ _ _ (two_of Minus k.tree m.tree) a r (y -ℤ z) s w.1
 two_says zs Times a k m r y z f g q =
     let s = product_stands k.triple m.triple y z (value (values zs) [] k.tree) (value (values zs) [] m.tree) f.stands g.stands in
@@ -128,13 +143,16 @@ is_64 : (w : Width) → no_wider w W64 ≡ true → w ≡ W64
 is_64 W64 h = refl
 is_64 W128 h = cc
 
-exact_two : (zs : List ℤ) (t : Two) (w : Width) (a : Triple) (k m r : FilterKnown) (y z : ℤ) → Holds zs k y → Holds zs m z → (if no_wider w W64 then two_known t a k m else None) ≡ Some r → Reaches (HoldsHeld zs) r (held_at w a (result_of t y z))
+exact_two : (zs : List ℤ) (t : Two) (w : Width) (a : Triple) (k m r : FilterKnown) (y z : ℤ) → Holds zs k y → Holds zs m z
+    → (if no_wider w W64 then two_known t a k m else None) ≡ Some r → Reaches (HoldsHeld zs) r (held_at w a (result_of t y z))
 exact_two zs t w a k m r y z f g q =
     let p = if_some _ _ _ q in
     let e : w ≡ W64 = is_64 w p.0 in
     rw e (two_says zs t a k m r y z f g p.1).reached
 
-exact_minus : (zs : List ℤ) (w : Width) (a : Triple) (m r : FilterKnown) (y : ℤ) → Holds zs m y → (if no_wider w W64 then filter_known m.triple.k m.triple.h m.triple.e m.size (tree.Neg m.tree) a else None) ≡ Some r → Reaches (HoldsHeld zs) r (held_at w a (neg_ℤ y))
+exact_minus : (zs : List ℤ) (w : Width) (a : Triple) (m r : FilterKnown) (y : ℤ) → Holds zs m y
+    → (if no_wider w W64 then filter_known m.triple.k m.triple.h m.triple.e m.size (tree.Neg m.tree) a else None) ≡ Some r
+    → Reaches (HoldsHeld zs) r (held_at w a (neg_ℤ y))
 exact_minus zs w a m r y f q =
     let p = if_some _ _ _ q in
     let e : w ≡ W64 = is_64 w p.0 in
@@ -145,15 +163,16 @@ exact_minus zs w a m r y f q =
 size_stands : (zs : List ℤ) (v : ℕ) (i : VarInfo) (s : InSize zs v i) → Stands (at_triple 0 (size_of i) 0) s.number (value (values zs) [] (tree.Input v))
 size_stands zs v i s = rw (← s.same) (exact_stands (size_of i) s.number s.small)
 
-exact_input : (vars : List VarInfo) (zs : List ℤ) → AreWithin vars zs → (v : ℕ) (a : Triple) (r : FilterKnown) → next (slice_get vars v) (λ i. filter_known 0 (size_of i) 0 1 (tree.Input v) a) ≡ Some r → Reaches (HoldsHeld zs) r (next (slice_get zs v) (λ z. held a z))
+exact_input : (vars : List VarInfo) (zs : List ℤ) → AreWithin vars zs → (v : ℕ) (a : Triple) (r : FilterKnown)
+    → next (slice_get vars v) (λ i. filter_known 0 (size_of i) 0 1 (tree.Input v) a) ≡ Some r → Reaches (HoldsHeld zs) r (next (slice_get zs v) (λ z. held a z))
 exact_input vars zs h v a r q =
     let w = next_some (slice_get vars v) (λ (i : VarInfo). filter_known 0 (size_of i) 0 1 (tree.Input v) a) r q in
     let s = in_size vars zs h v w.0 w.1 in
     rw s.there (inside zs 0 (size_of w.0) 0 1 (tree.Input v) a r s.number (size_stands zs v w.0 s) w.2)
 
--- ---- the machine over whole numbers
+-- ---- the machine over integers
 
--- the machine with a stack of so many places
+-- the machine with a stack of this many places
 abbrev pub roomy : List ℤ → ℕ → Engine Triple Held (ℕ → Option Held)
 roomy zs depth = record {
   push = (exact_filter zs).push;
@@ -171,7 +190,8 @@ roomy zs depth = record {
 abbrev pub HeldLocals : List ℤ → (ℕ → Option FilterKnown) → (ℕ → Option Held) → Type 0
 HeldLocals zs l m = (j : ℕ) (k : FilterKnown) → l j ≡ Some k → Reaches (HoldsHeld zs) k (m j)
 
-exact_put : (zs : List ℤ) (l : ℕ → Option FilterKnown) (m : ℕ → Option Held) (j : ℕ) (v : FilterKnown) (z : Held) → HeldLocals zs l m → HoldsHeld zs v z → HeldLocals zs (with_local l j v) (with_local m j z)
+exact_put : (zs : List ℤ) (l : ℕ → Option FilterKnown) (m : ℕ → Option Held) (j : ℕ) (v : FilterKnown) (z : Held) → HeldLocals zs l m
+    → HoldsHeld zs v z → HeldLocals zs (with_local l j v) (with_local m j z)
 exact_put zs l m j v z h f i k = by_case (i == j)
   where
     by_case : (b : Bool) → (if b then Some v else l i) ≡ Some k → Reaches (HoldsHeld zs) k (if b then Some z else m i)
@@ -179,7 +199,8 @@ exact_put zs l m j v z h f i k = by_case (i == j)
     by_case false q = h i k q
 
 -- it follows the rules
-pub roomy_follows : (vars : List VarInfo) (depth : ℕ) (zs : List ℤ) → AreWithin vars zs → Follows (filter_rules vars depth) (roomy zs depth) (λ (a : Triple). a) (HoldsHeld zs) (HeldLocals zs)
+pub roomy_follows : (vars : List VarInfo) (depth : ℕ) (zs : List ℤ) → AreWithin vars zs
+    → Follows (filter_rules vars depth) (roomy zs depth) (λ (a : Triple). a) (HoldsHeld zs) (HeldLocals zs)
 roomy_follows vars depth zs h = record {
   push = λ c a r q. inside zs a.k _ _ _ (tree.Num c) a r (cut_by a.k c) (push_stands c a.k) q;
   input = exact_input vars zs h;
@@ -197,7 +218,8 @@ roomy_follows vars depth zs h = record {
 same_reached : {V : Type 0} (o : Option V) (v : V) → o ≡ Some v → Reaches (λ (x y : V). x ≡ y) v o
 same_reached o v q = rw q refl
 
-pub exact_follows_roomy : (depth : ℕ) (zs : List ℤ) → Follows (roomy zs depth) (exact_filter zs) (λ (a : Triple). a) (λ (x y : Held). x ≡ y) (λ (l m : ℕ → Option Held). l ≡ m)
+pub exact_follows_roomy : (depth : ℕ) (zs : List ℤ)
+    → Follows (roomy zs depth) (exact_filter zs) (λ (a : Triple). a) (λ (x y : Held). x ≡ y) (λ (l m : ℕ → Option Held). l ≡ m)
 exact_follows_roomy depth zs = record {
   push = λ c a v q. same_reached _ v q;
   input = λ i a v q. same_reached _ v q;
@@ -231,7 +253,8 @@ held_at_says W128 a z y q = cc
 abbrev pub HeldSlots : (ℕ → Option Held) → (ℕ → ℤ) → Type 0
 HeldSlots l m = (j : ℕ) (y : Held) → l j ≡ Some y → IsNumber y (m j)
 
-held_put : (l : ℕ → Option Held) (m : ℕ → ℤ) (j : ℕ) (v : Held) (z : ℤ) → HeldSlots l m → IsNumber v z → HeldSlots (with_local l j v) (λ k. if k == j then z else m k)
+held_put : (l : ℕ → Option Held) (m : ℕ → ℤ) (j : ℕ) (v : Held) (z : ℤ) → HeldSlots l m → IsNumber v z
+    → HeldSlots (with_local l j v) (λ k. if k == j then z else m k)
 held_put l m j v z h f i k = by_case (i == j)
   where
     by_case : (b : Bool) → (if b then Some v else l i) ≡ Some k → IsNumber k (if b then z else m i)
@@ -243,13 +266,15 @@ held_input zs v a y q =
     let r = next_some (slice_get zs v) (λ (z : ℤ). held a z) y q in
     rw r.1 (held_says a r.0 y r.2)
 
-held_two : (t : Two) (w : Width) (a : Triple) (x x' v : Held) (y y' : ℤ) → IsNumber x y → IsNumber x' y' → held_at w a (result_of t x.number x'.number) ≡ Some v → Reaches IsNumber v (when (fits w y && (fits w y' && fits w (result_of t y y'))) (result_of t y y'))
+held_two : (t : Two) (w : Width) (a : Triple) (x x' v : Held) (y y' : ℤ) → IsNumber x y → IsNumber x' y' → held_at w a (result_of t x.number x'.number) ≡ Some v
+    → Reaches IsNumber v (when (fits w y && (fits w y' && fits w (result_of t y y'))) (result_of t y y'))
 held_two t w a x x' v y y' f g q =
     let q' : held_at w a (result_of t y y') ≡ Some v = rw (f.same, g.same) at q in
     let r = held_at_says w a (result_of t y y') v q' in
     rw (r.0, f.narrow, g.narrow, r.1.narrow) r.1
 
-held_minus : (w : Width) (a : Triple) (x v : Held) (y : ℤ) → IsNumber x y → held_at w a (neg_ℤ x.number) ≡ Some v → Reaches IsNumber v (when (fits w y) (neg_ℤ y))
+held_minus : (w : Width) (a : Triple) (x v : Held) (y : ℤ) → IsNumber x y → held_at w a (neg_ℤ x.number) ≡ Some v
+    → Reaches IsNumber v (when (fits w y) (neg_ℤ y))
 held_minus w a x v y f q =
     let q' : held_at w a (neg_ℤ y) ≡ Some v = rw f.same at q in
     let r = held_at_says w a (neg_ℤ y) v q' in

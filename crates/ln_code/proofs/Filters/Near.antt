@@ -1,5 +1,6 @@
 -- What is done to truncated numbers keeps them near what they stand for.
-use Rattle.std.proofs.Common.{◌≡◌, ℕ, ℤ, ◌+◌, ◌*◌, ◌/◌, ◌^◌, ◌≤◌, ◌<◌, refl, zero, suc, ap, arith, pos, negsuc, ◌+ℤ◌, ◌-ℤ◌, ◌*ℤ◌, ◌<ℤ◌, neg_ℤ, unsigned_abs, ◌∙◌, sym}
+use Rattle.std.proofs.Common.{◌≡◌, ℕ, ℤ, ◌+◌, ◌*◌, ◌/◌, ◌^◌, ◌≤◌, ◌<◌, refl, zero, suc, ap, arith, pos, negsuc, ◌+ℤ◌, ◌-ℤ◌, ◌*ℤ◌, ◌<ℤ◌}
+use Rattle.std.proofs.Common.{neg_ℤ, unsigned_abs, ◌∙◌, sym}
 use Rattle.std.proofs.lemmas.Int.{ints, unsigned_abs-mul, quot-rem, rem_below}
 use Rattle.std.proofs.lemmas.Nat.{pow-add, pow_pos, le-div}
 use Rattle.std.proofs.lemmas.Grind.{div_ceil_times}
@@ -105,9 +106,22 @@ product_off v w h i p q =
     split v w a b = ap (λ t. t *ℤ w) (again v a) ∙ ap (λ t. ((v -ℤ a) +ℤ a) *ℤ t) (again w b)
 
     spread : (a b c d : ℤ) → (a +ℤ b) *ℤ (c +ℤ d) ≡ ((a *ℤ c +ℤ a *ℤ d) +ℤ b *ℤ c) +ℤ b *ℤ d
-    spread a b c d = omega (arith, ints, mul_add (a +ℤ b) c d, mul_comm (a +ℤ b) c, mul_comm (a +ℤ b) d, mul_add c a b, mul_add d a b, mul_comm c a, mul_comm c b, mul_comm d a, mul_comm d b)
+    spread a b c d = omega (
+      arith,
+      ints,
+      mul_add (a +ℤ b) c d,
+      mul_comm (a +ℤ b) c,
+      mul_comm (a +ℤ b) d,
+      mul_add c a b,
+      mul_add d a b,
+      mul_comm c a,
+      mul_comm c b,
+      mul_comm d a,
+      mul_comm d b,
+    )
 
-pub product_stands : (a b : Triple) (h i v w : ℤ) → Stands a h v → Stands b i w → Stands (record { k = a.k + b.k; h = a.h * b.h; e = a.h * b.e + b.h * a.e + a.e * b.e }) (h *ℤ i) (v *ℤ w)
+pub product_stands : (a b : Triple) (h i v w : ℤ) → Stands a h v → Stands b i w
+    → Stands (record { k = a.k + b.k; h = a.h * b.h; e = a.h * b.e + b.h * a.e + a.e * b.e }) (h *ℤ i) (v *ℤ w)
 product_stands a b h i v w s t =
     let p : ℕ = 2 ^ a.k in
     let q : ℕ = 2 ^ b.k in
@@ -115,18 +129,23 @@ product_stands a b h i v w s t =
     let hp : unsigned_abs (h *ℤ pos p) ≤ a.h * p = rw unsigned_abs-mul (mul-le-mul_right p s.small) in
     let iq : unsigned_abs (i *ℤ pos q) ≤ b.h * q = rw unsigned_abs-mul (mul-le-mul_right q t.small) in
     let one : unsigned_abs ((v -ℤ h *ℤ pos p) *ℤ (w -ℤ i *ℤ pos q)) ≤ (a.e * p) * (b.e * q) = rw unsigned_abs-mul (mul-le-mul s.near t.near) in
-    let two : unsigned_abs ((v -ℤ h *ℤ pos p) *ℤ (i *ℤ pos q)) ≤ (a.e * p) * (b.h * q) = rw (unsigned_abs-mul (v -ℤ h *ℤ pos p) (i *ℤ pos q)) (mul-le-mul s.near iq) in
-    let three : unsigned_abs ((h *ℤ pos p) *ℤ (w -ℤ i *ℤ pos q)) ≤ (a.h * p) * (b.e * q) = rw (unsigned_abs-mul (h *ℤ pos p) (w -ℤ i *ℤ pos q)) (mul-le-mul hp t.near) in
+    let two : unsigned_abs ((v -ℤ h *ℤ pos p) *ℤ (i *ℤ pos q)) ≤ (a.e * p) * (b.h * q) =
+    rw (unsigned_abs-mul (v -ℤ h *ℤ pos p) (i *ℤ pos q)) (mul-le-mul s.near iq) in
+    let three : unsigned_abs ((h *ℤ pos p) *ℤ (w -ℤ i *ℤ pos q)) ≤ (a.h * p) * (b.e * q) =
+    rw (unsigned_abs-mul (h *ℤ pos p) (w -ℤ i *ℤ pos q)) (mul-le-mul hp t.near) in
     let four = abs_sum ((v -ℤ h *ℤ pos p) *ℤ (w -ℤ i *ℤ pos q)) ((v -ℤ h *ℤ pos p) *ℤ (i *ℤ pos q)) ((a.e * p) * (b.e * q)) ((a.e * p) * (b.h * q)) one two in
-    let five = abs_sum ((v -ℤ h *ℤ pos p) *ℤ (w -ℤ i *ℤ pos q) +ℤ (v -ℤ h *ℤ pos p) *ℤ (i *ℤ pos q)) ((h *ℤ pos p) *ℤ (w -ℤ i *ℤ pos q)) ((a.e * p) * (b.e * q) + (a.e * p) * (b.h * q)) ((a.h * p) * (b.e * q)) four three in
+    let five = abs_sum ((v -ℤ h *ℤ pos p) *ℤ (w -ℤ i *ℤ pos q) +ℤ (v -ℤ h *ℤ pos p) *ℤ (i *ℤ pos q)) ((h *ℤ pos p) *ℤ (w -ℤ i *ℤ pos q))
+    ((a.e * p) * (b.e * q) + (a.e * p) * (b.h * q)) ((a.h * p) * (b.e * q)) four three in
     let f = product_off v w h i (pos p) (pos q) in
-    let g : (a.h * b.e + b.h * a.e + a.e * b.e) * 2 ^ (a.k + b.k) ≡ (a.e * p) * (b.e * q) + (a.e * p) * (b.h * q) + (a.h * p) * (b.e * q) = rw pow-add (spread a.h a.e b.h b.e p q) in
+    let g : (a.h * b.e + b.h * a.e + a.e * b.e) * 2 ^ (a.k + b.k) ≡ (a.e * p) * (b.e * q) + (a.e * p) * (b.h * q) + (a.h * p) * (b.e * q) =
+    rw pow-add (spread a.h a.e b.h b.e p q) in
     record { small = rw unsigned_abs-mul (mul-le-mul s.small t.small); near = rw (g, e, f) five }
   where
     spread : (H E J F p q : ℕ) → (H * F + J * E + E * F) * (p * q) ≡ (E * p) * (F * q) + (E * p) * (J * q) + (H * p) * (F * q)
     spread H E J F p q = omega arith
 
-pub sum_stands : (k h e i f : ℕ) (y z v w : ℤ) → Stands (record { k = k; h = h; e = e }) y v → Stands (record { k = k; h = i; e = f }) z w → Stands (record { k = k; h = h + i; e = e + f }) (y +ℤ z) (v +ℤ w)
+pub sum_stands : (k h e i f : ℕ) (y z v w : ℤ) → Stands (record { k = k; h = h; e = e }) y v → Stands (record { k = k; h = i; e = f }) z w
+    → Stands (record { k = k; h = h + i; e = e + f }) (y +ℤ z) (v +ℤ w)
 sum_stands k h e i f y z v w s t =
     let a = abs_sum (v -ℤ y *ℤ pos (2 ^ k)) (w -ℤ z *ℤ pos (2 ^ k)) (e * 2 ^ k) (f * 2 ^ k) s.near t.near in
     record { small = abs_sum y z h i s.small t.small; near = rw (sum_off v w y z (pos (2 ^ k))) (omega (arith, a)) }
@@ -134,7 +153,8 @@ sum_stands k h e i f y z v w s t =
 abs_difference : (a b : ℤ) (m n : ℕ) → unsigned_abs a ≤ m → unsigned_abs b ≤ n → unsigned_abs (a -ℤ b) ≤ m + n
 abs_difference a b m n h k = omega (arith, ints)
 
-pub difference_stands : (k h e i f : ℕ) (y z v w : ℤ) → Stands (record { k = k; h = h; e = e }) y v → Stands (record { k = k; h = i; e = f }) z w → Stands (record { k = k; h = h + i; e = e + f }) (y -ℤ z) (v -ℤ w)
+pub difference_stands : (k h e i f : ℕ) (y z v w : ℤ) → Stands (record { k = k; h = h; e = e }) y v
+    → Stands (record { k = k; h = i; e = f }) z w → Stands (record { k = k; h = h + i; e = e + f }) (y -ℤ z) (v -ℤ w)
 difference_stands k h e i f y z v w s t =
     let a = abs_difference (v -ℤ y *ℤ pos (2 ^ k)) (w -ℤ z *ℤ pos (2 ^ k)) (e * 2 ^ k) (f * 2 ^ k) s.near t.near in
     record { small = abs_difference y z h i s.small t.small; near = rw (diff_off v w y z (pos (2 ^ k))) (omega (arith, a)) }
@@ -146,7 +166,10 @@ exact_stands m x h =
 
 pub minus_stands : (a : Triple) (h v : ℤ) → Stands a h v → Stands a (neg_ℤ h) (neg_ℤ v)
 minus_stands a h v s =
-    record { small = rw abs_neg s.small; near = let e : neg_ℤ v -ℤ neg_ℤ h *ℤ pos (2 ^ a.k) ≡ neg_ℤ (v -ℤ h *ℤ pos (2 ^ a.k)) = turned v h (pos (2 ^ a.k)) in rw (e, abs_neg) s.near }
+    record {
+      small = rw abs_neg s.small;
+      near = let e : neg_ℤ v -ℤ neg_ℤ h *ℤ pos (2 ^ a.k) ≡ neg_ℤ (v -ℤ h *ℤ pos (2 ^ a.k)) = turned v h (pos (2 ^ a.k)) in rw (e, abs_neg) s.near;
+    }
   where
     turned : (v h p : ℤ) → neg_ℤ v -ℤ neg_ℤ h *ℤ p ≡ neg_ℤ (v -ℤ h *ℤ p)
     turned v h p = let e : neg_ℤ h *ℤ p ≡ neg_ℤ (h *ℤ p) = mul_comm (neg_ℤ h) p ∙ mul_neg p h ∙ ap neg_ℤ (mul_comm p h) in omega (arith, ints, e)

@@ -1,4 +1,4 @@
--- A block that follows the rules: the machine over whole numbers and the processor follow them too.
+-- A block that follows the rules: the machine over integers and the processor follow them too.
 use Rattle.std.proofs.Common.{◌≡◌, ℕ, ℤ, ◌≤◌, Bool, true, false, List, [], ◌∷◌, refl, zero, suc, ap, arith, neg_ℤ, unsigned_abs, ◌&&◌}
 use Rattle.std.specs.Prelude.{Option, Some, None, if◌then◌else◌, ◌==◌, slice_get, ◌≤ℤ◌, int_le}
 use Rattle.std.proofs.lemmas.Int.{ints}
@@ -104,7 +104,7 @@ covers_test p q h = both _ _ (le_test _ _ h.0) (le_test _ _ h.1)
 pub within_is : (p : Range) (w : Width) (z : ℤ) → Holds p z → unsigned_abs z ≤ limit w → within p w z ≡ Some z
 within_is p w z h k = rw (both (holds p z) (fits w z) (holds_test p z h) (le-leb _ _ k)) refl
 
--- ---- what a rule that held says
+-- ---- what holds where a rule held
 pub if_some : {A : Type 0} (b : Bool) (o : Option A) (a : A) → (if b then o else None) ≡ Some a → (b ≡ true) × (o ≡ Some a)
 if_some true o a h = (refl, h)
 if_some false o a h = cc
@@ -113,7 +113,8 @@ pub next_some : {A B : Type 0} (o : Option A) (f : A → Option B) (b : B) → n
 next_some None f b h = cc
 next_some (Some a) f b h = (a, refl, h)
 
-pub known_some : (enough p : Range) (w : Width) (s : ℕ) (t : Tree) (k : Known) → known enough p w s t ≡ Some k → Covers p enough × IsIn p w × (s ≤ most) × (record { range = p; width = w; tree = t; size = s } ≡ k)
+pub known_some : (enough p : Range) (w : Width) (s : ℕ) (t : Tree) (k : Known) → known enough p w s t ≡ Some k
+    → Covers p enough × IsIn p w × (s ≤ most) × (record { range = p; width = w; tree = t; size = s } ≡ k)
 known_some enough p w s t k q =
     let r = when_some _ _ _ q in
     let x = and_parts (covers p enough && is_in p w) _ r.0 in
@@ -121,13 +122,15 @@ known_some enough p w s t k q =
     (covers_say p enough y.0, is_in_says p w y.1, leb-true _ _ x.1, r.1)
 
 -- a value in what the range covers is the one that is known
-pub kept : (zs : List ℤ) (enough p : Range) (w : Width) (s : ℕ) (t : Tree) (k : Known) (z : ℤ) → z ≡ value (values zs) [] t → Holds enough z → known enough p w s t ≡ Some k → Fits zs k z
+pub kept : (zs : List ℤ) (enough p : Range) (w : Width) (s : ℕ) (t : Tree) (k : Known) (z : ℤ) → z ≡ value (values zs) [] t → Holds enough z
+    → known enough p w s t ≡ Some k → Fits zs k z
 kept zs enough p w s t k z e h q =
     let r = known_some enough p w s t k q in
     rw (← r.3) (record { same = e; held = covers_holds p enough z r.0 h; narrow = r.1.1 })
 
 -- the machine keeps it
-reached : (zs : List ℤ) (enough p : Range) (w u : Width) (s : ℕ) (t : Tree) (k : Known) (z : ℤ) → limit w ≤ limit u → z ≡ value (values zs) [] t → Holds enough z → known enough p w s t ≡ Some k → Reaches (Fits zs) k (within p u z)
+reached : (zs : List ℤ) (enough p : Range) (w u : Width) (s : ℕ) (t : Tree) (k : Known) (z : ℤ) → limit w ≤ limit u
+    → z ≡ value (values zs) [] t → Holds enough z → known enough p w s t ≡ Some k → Reaches (Fits zs) k (within p u z)
 reached zs enough p w u s t k z l e h q =
     let r = known_some enough p w s t k q in
     let g = covers_holds p enough z r.0 h in
@@ -152,18 +155,24 @@ two_same zs Times k m y z f g = rw (f.same, g.same) refl
 number_held : (c : ℤ) → Holds (point c) c
 number_held c = (omega (arith, ints), omega (arith, ints))
 
-exact_input : (vars : List VarInfo) (zs : List ℤ) → AreWithin vars zs → (v : ℕ) (p : Range) (k : Known) → next (slice_get vars v) (λ i. known (declared i) p (least (magnitude p)) 1 (tree.Input v)) ≡ Some k → Reaches (Fits zs) k (next (slice_get zs v) (λ z. within p W128 z))
+exact_input : (vars : List VarInfo) (zs : List ℤ) → AreWithin vars zs → (v : ℕ) (p : Range) (k : Known)
+    → next (slice_get vars v) (λ i. known (declared i) p (least (magnitude p)) 1 (tree.Input v)) ≡ Some k
+    → Reaches (Fits zs) k (next (slice_get zs v) (λ z. within p W128 z))
 exact_input vars zs h v p k q =
     let r = next_some (slice_get vars v) (λ (i : VarInfo). known (declared i) p (least (magnitude p)) 1 (tree.Input v)) k q in
     let s = in_range vars zs h v r.0 r.1 in
     rw s.there (reached zs (declared r.0) p (least (magnitude p)) W128 1 (tree.Input v) k s.number (limit_wide _) s.same s.held r.2)
 
-exact_two : (zs : List ℤ) (t : Two) (w : Width) (p : Range) (k m : Known) (y z : ℤ) (v : Known) → Fits zs k y → Fits zs m z → (if no_wider k.width w && no_wider m.width w then known (range_of t k.range m.range) p w (bound_of t k.size m.size) (two_of t k.tree m.tree) else None) ≡ Some v → Reaches (Fits zs) v (within p w (result_of t y z))
+exact_two : (zs : List ℤ) (t : Two) (w : Width) (p : Range) (k m : Known) (y z : ℤ) (v : Known) → Fits zs k y → Fits zs m z
+    → (if no_wider k.width w && no_wider m.width w then known (range_of t k.range m.range) p w (bound_of t k.size m.size) (two_of t k.tree m.tree) else None)
+    ≡ Some v → Reaches (Fits zs) v (within p w (result_of t y z))
 exact_two zs t w p k m y z v f g q =
     let r = if_some _ _ _ q in
-    reached zs (range_of t k.range m.range) p w w (bound_of t k.size m.size) (two_of t k.tree m.tree) v (result_of t y z) (same_limit w) (two_same zs t k m y z f g) (two_held t y z k.range m.range f.held g.held) r.1
+    reached zs (range_of t k.range m.range) p w w (bound_of t k.size m.size) (two_of t k.tree m.tree) v (result_of t y z) (same_limit w)
+    (two_same zs t k m y z f g) (two_held t y z k.range m.range f.held g.held) r.1
 
-exact_minus : (zs : List ℤ) (w : Width) (p : Range) (m : Known) (y : ℤ) (v : Known) → Fits zs m y → (if no_wider m.width w then known (opposite m.range) p w m.size (tree.Neg m.tree) else None) ≡ Some v → Reaches (Fits zs) v (within p w (neg_ℤ y))
+exact_minus : (zs : List ℤ) (w : Width) (p : Range) (m : Known) (y : ℤ) (v : Known) → Fits zs m y
+    → (if no_wider m.width w then known (opposite m.range) p w m.size (tree.Neg m.tree) else None) ≡ Some v → Reaches (Fits zs) v (within p w (neg_ℤ y))
 exact_minus zs w p m y v f q =
     let r = if_some _ _ _ q in
     reached zs (opposite m.range) p w w m.size (tree.Neg m.tree) v (neg_ℤ y) (same_limit w) (ap neg_ℤ f.same) (opposite_holds m.range y f.held) r.1
@@ -172,15 +181,17 @@ exact_minus zs w p m y v f q =
 abbrev pub Locals : List ℤ → (ℕ → Option Known) → (ℕ → Option ℤ) → Type 0
 Locals zs l m = (j : ℕ) (k : Known) → l j ≡ Some k → Reaches (Fits zs) k (m j)
 
-exact_put : (zs : List ℤ) (l : ℕ → Option Known) (m : ℕ → Option ℤ) (j : ℕ) (v : Known) (z : ℤ) → Locals zs l m → Fits zs v z → Locals zs (with_local l j v) (with_local m j z)
+exact_put : (zs : List ℤ) (l : ℕ → Option Known) (m : ℕ → Option ℤ) (j : ℕ) (v : Known) (z : ℤ) → Locals zs l m → Fits zs v z
+    → Locals zs (with_local l j v) (with_local m j z)
 exact_put zs l m j v z h f i k = by_case (i == j)
   where
     by_case : (b : Bool) → (if b then Some v else l i) ≡ Some k → Reaches (Fits zs) k (if b then Some z else m i)
     by_case true q = let r : v ≡ k = cc in rw (← r) f
     by_case false q = h i k q
 
--- the machine over whole numbers follows the rules
-pub exact_follows : (vars : List VarInfo) (depth : ℕ) (zs : List ℤ) → AreWithin vars zs → Follows (rules vars depth) (exact zs) (λ (p : Range). p) (Fits zs) (Locals zs)
+-- the machine over integers follows the rules
+pub exact_follows : (vars : List VarInfo) (depth : ℕ) (zs : List ℤ) → AreWithin vars zs
+    → Follows (rules vars depth) (exact zs) (λ (p : Range). p) (Fits zs) (Locals zs)
 exact_follows vars depth zs h = record {
   push = λ c p k q. reached zs (point c) p (least (magnitude p)) W128 (unsigned_abs c) (tree.Num c) k c (limit_wide _) refl (number_held c) q;
   input = exact_input vars zs h;
@@ -194,12 +205,14 @@ exact_follows vars depth zs h = record {
 }
 
 -- ---- the processor
-bare_push : (zs : List ℤ) (c : ℤ) (p : Range) (k : Known) → known (point c) p (least (magnitude p)) (unsigned_abs c) (tree.Num c) ≡ Some k → Fits zs k (cut_by 0 c)
+bare_push : (zs : List ℤ) (c : ℤ) (p : Range) (k : Known) → known (point c) p (least (magnitude p)) (unsigned_abs c) (tree.Num c) ≡ Some k
+    → Fits zs k (cut_by 0 c)
 bare_push zs c p k q =
     let f : cut_by 0 c ≡ c = cut_none c in
     rw f (kept zs (point c) p (least (magnitude p)) (unsigned_abs c) (tree.Num c) k c refl (number_held c) q)
 
-bare_input : (vars : List VarInfo) (zs : List ℤ) → AreWithin vars zs → (v : ℕ) (p : Range) (k : Known) → next (slice_get vars v) (λ i. known (declared i) p (least (magnitude p)) 1 (tree.Input v)) ≡ Some k → Reaches (Fits zs) k (slice_get zs v)
+bare_input : (vars : List VarInfo) (zs : List ℤ) → AreWithin vars zs → (v : ℕ) (p : Range) (k : Known)
+    → next (slice_get vars v) (λ i. known (declared i) p (least (magnitude p)) 1 (tree.Input v)) ≡ Some k → Reaches (Fits zs) k (slice_get zs v)
 bare_input vars zs h v p k q =
     let r = next_some (slice_get vars v) (λ (i : VarInfo). known (declared i) p (least (magnitude p)) 1 (tree.Input v)) k q in
     let s = in_range vars zs h v r.0 r.1 in
@@ -208,7 +221,9 @@ bare_input vars zs h v p k q =
 within_limit : (m l a : ℕ) → a ≤ m → m ≤ l → a ≤ l
 within_limit m l a h g = omega (arith, h, g)
 
-bare_two : (zs : List ℤ) (t : Two) (w : Width) (p : Range) (k m : Known) (y z : ℤ) (v : Known) → Fits zs k y → Fits zs m z → (if no_wider k.width w && no_wider m.width w then known (range_of t k.range m.range) p w (bound_of t k.size m.size) (two_of t k.tree m.tree) else None) ≡ Some v → Reaches (Fits zs) v (when (fits w y && (fits w z && fits w (result_of t y z))) (result_of t y z))
+bare_two : (zs : List ℤ) (t : Two) (w : Width) (p : Range) (k m : Known) (y z : ℤ) (v : Known) → Fits zs k y → Fits zs m z
+    → (if no_wider k.width w && no_wider m.width w then known (range_of t k.range m.range) p w (bound_of t k.size m.size) (two_of t k.tree m.tree) else None)
+    ≡ Some v → Reaches (Fits zs) v (when (fits w y && (fits w z && fits w (result_of t y z))) (result_of t y z))
 bare_two zs t w p k m y z v f g q =
     let r = if_some _ _ _ q in
     let n = and_parts _ _ r.0 in
@@ -217,26 +232,30 @@ bare_two zs t w p k m y z v f g q =
     let b = holds_magnitude p (result_of t y z) (covers_holds p (range_of t k.range m.range) (result_of t y z) s.0 a) in
     let small : unsigned_abs (result_of t y z) ≤ limit w = within_limit (magnitude p) (limit w) (unsigned_abs (result_of t y z)) b s.1.1 in
     let c : fits w (result_of t y z) ≡ true = le-leb (unsigned_abs (result_of t y z)) (limit w) small in
-    rw (fits_is zs k w y n.0 f, fits_is zs m w z n.1 g, c) (kept zs (range_of t k.range m.range) p w (bound_of t k.size m.size) (two_of t k.tree m.tree) v (result_of t y z) (two_same zs t k m y z f g) a r.1)
+    rw (fits_is zs k w y n.0 f, fits_is zs m w z n.1 g, c)
+    (kept zs (range_of t k.range m.range) p w (bound_of t k.size m.size) (two_of t k.tree m.tree) v (result_of t y z) (two_same zs t k m y z f g) a r.1)
 
 -- each local that is known has its value
 abbrev pub Slots : List ℤ → (ℕ → Option Known) → (ℕ → ℤ) → Type 0
 Slots zs l m = (j : ℕ) (k : Known) → l j ≡ Some k → Fits zs k (m j)
 
-bare_put : (zs : List ℤ) (l : ℕ → Option Known) (m : ℕ → ℤ) (j : ℕ) (v : Known) (z : ℤ) → Slots zs l m → Fits zs v z → Slots zs (with_local l j v) (λ k. if k == j then z else m k)
+bare_put : (zs : List ℤ) (l : ℕ → Option Known) (m : ℕ → ℤ) (j : ℕ) (v : Known) (z : ℤ) → Slots zs l m → Fits zs v z
+    → Slots zs (with_local l j v) (λ k. if k == j then z else m k)
 bare_put zs l m j v z h f i k = by_case (i == j)
   where
     by_case : (b : Bool) → (if b then Some v else l i) ≡ Some k → Fits zs k (if b then z else m i)
     by_case true q = let r : v ≡ k = cc in rw (← r) f
     by_case false q = h i k q
 
-bare_minus : (zs : List ℤ) (w : Width) (p : Range) (m : Known) (y : ℤ) (v : Known) → Fits zs m y → (if no_wider m.width w then known (opposite m.range) p w m.size (tree.Neg m.tree) else None) ≡ Some v → Reaches (Fits zs) v (when (fits w y) (neg_ℤ y))
+bare_minus : (zs : List ℤ) (w : Width) (p : Range) (m : Known) (y : ℤ) (v : Known) → Fits zs m y
+    → (if no_wider m.width w then known (opposite m.range) p w m.size (tree.Neg m.tree) else None) ≡ Some v → Reaches (Fits zs) v (when (fits w y) (neg_ℤ y))
 bare_minus zs w p m y v f q =
     let r = if_some _ _ _ q in
     rw (fits_is zs m w y r.0 f) (kept zs (opposite m.range) p w m.size (tree.Neg m.tree) v (neg_ℤ y) (ap neg_ℤ f.same) (opposite_holds m.range y f.held) r.1)
 
 -- the processor follows the rules
-pub bare_follows : (vars : List VarInfo) (depth places : ℕ) (zs : List ℤ) → AreWithin vars zs → depth ≤ places → Follows (rules vars depth) (bare zs places) (λ (p : Range). 0) (Fits zs) (Slots zs)
+pub bare_follows : (vars : List VarInfo) (depth places : ℕ) (zs : List ℤ) → AreWithin vars zs → depth ≤ places
+    → Follows (rules vars depth) (bare zs places) (λ (p : Range). 0) (Fits zs) (Slots zs)
 bare_follows vars depth places zs h d = record {
   push = bare_push zs;
   input = bare_input vars zs h;

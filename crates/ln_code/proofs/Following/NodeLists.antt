@@ -1,4 +1,4 @@
--- Nodes and their list.
+-- Proves that the nodes of a tree and of its lets are just the members of their list.
 use Rattle.std.proofs.Common.{◌≡◌, ℕ, ◌+◌, ◌≤◌, ◌<◌, zero, suc, refl, ap, arith, List, [], ◌∷◌, ◌++◌, map, ◌⊎◌, inl, inr}
 use Rattle.std.proofs.lemmas.Bool.{cases_lt}
 use Rattle.ln_algebra.specs.Tree.{Tree, Neg, Pow, inlined, inlined_after}
@@ -28,7 +28,7 @@ need_positive (TNeg t p w) = need_positive t
 need_positive (TTwo o u t p w) = let h = need_positive u in omega (arith, h)
 need_positive (TPow t n p w) = omega arith
 
--- ---- members of lists put together
+-- ---- members of lists joined
 left : (xs ys : List Sized) (e : Tree) (w : Width) → Stands xs e w → Stands (xs ++ ys) e w
 left [] ys e w s = absurd s
 left (x ∷ xs) ys e w (inl q) = inl q
@@ -66,11 +66,17 @@ to lets (TInput i p v) e w h = inl h
 to lets (TLet j p v) e w h = inl h
 to lets (TNeg t p v) e w (inl h) = left (nodes_in lets t) (at_width v (Neg (inlined lets (untyped t))) ∷ []) e w (to lets t e w h)
 to lets (TNeg t p v) e w (inr h) = right (nodes_in lets t) (at_width v (Neg (inlined lets (untyped t))) ∷ []) e w (inl h)
-to lets (TTwo k s t p v) e w (inl (inl h)) = left (nodes_in lets s) (nodes_in lets t ++ at_width v (two_of k (inlined lets (untyped s)) (inlined lets (untyped t))) ∷ []) e w (to lets s e w h)
-to lets (TTwo k s t p v) e w (inl (inr h)) = right (nodes_in lets s) (nodes_in lets t ++ at_width v (two_of k (inlined lets (untyped s)) (inlined lets (untyped t))) ∷ []) e w (left (nodes_in lets t) (at_width v (two_of k (inlined lets (untyped s)) (inlined lets (untyped t))) ∷ []) e w (to lets t e w h))
-to lets (TTwo k s t p v) e w (inr h) = right (nodes_in lets s) (nodes_in lets t ++ at_width v (two_of k (inlined lets (untyped s)) (inlined lets (untyped t))) ∷ []) e w (right (nodes_in lets t) (at_width v (two_of k (inlined lets (untyped s)) (inlined lets (untyped t))) ∷ []) e w (inl h))
+to lets (TTwo k s t p v) e w (inl (inl h)) =
+    left (nodes_in lets s) (nodes_in lets t ++ at_width v (two_of k (inlined lets (untyped s)) (inlined lets (untyped t))) ∷ []) e w (to lets s e w h)
+to lets (TTwo k s t p v) e w (inl (inr h)) =
+    right (nodes_in lets s) (nodes_in lets t ++ at_width v (two_of k (inlined lets (untyped s)) (inlined lets (untyped t))) ∷ []) e w
+    (left (nodes_in lets t) (at_width v (two_of k (inlined lets (untyped s)) (inlined lets (untyped t))) ∷ []) e w (to lets t e w h))
+to lets (TTwo k s t p v) e w (inr h) =
+    right (nodes_in lets s) (nodes_in lets t ++ at_width v (two_of k (inlined lets (untyped s)) (inlined lets (untyped t))) ∷ []) e w
+    (right (nodes_in lets t) (at_width v (two_of k (inlined lets (untyped s)) (inlined lets (untyped t))) ∷ []) e w (inl h))
 to lets (TPow t n p v) e w (inl h) = left (nodes_in lets t) (powers_to (inlined lets (untyped t)) v n) e w (to lets t e w h)
-to lets (TPow t n p v) e w (inr h) = right (nodes_in lets t) (powers_to (inlined lets (untyped t)) v n) e w (rw (h.2, h.3) (power-in (inlined lets (untyped t)) v (suc n) 0 h.0 (omega arith) (omega (arith, h.1))))
+to lets (TPow t n p v) e w (inr h) = right (nodes_in lets t) (powers_to (inlined lets (untyped t)) v n) e w
+    (rw (h.2, h.3) (power-in (inlined lets (untyped t)) v (suc n) 0 h.0 (omega arith) (omega (arith, h.1))))
 
 from : (lets : List Tree) (t : Typed) (e : Tree) (w : Width) → Stands (nodes_in lets t) e w → IsNode lets t e w
 from lets (TNum c p v) e w (inl h) = h
@@ -80,21 +86,28 @@ from lets (TInput i p v) e w (inr h) = absurd h
 from lets (TLet j p v) e w (inl h) = h
 from lets (TLet j p v) e w (inr h) = absurd h
 from lets (TNeg t p v) e w s = go (either (nodes_in lets t) (at_width v (Neg (inlined lets (untyped t))) ∷ []) e w s) (λ h. from lets t e w h) where
-  go : Stands (nodes_in lets t) e w ⊎ Stands (at_width v (Neg (inlined lets (untyped t))) ∷ []) e w → (Stands (nodes_in lets t) e w → IsNode lets t e w) → IsNode lets (TNeg t p v) e w
+  go : Stands (nodes_in lets t) e w ⊎ Stands (at_width v (Neg (inlined lets (untyped t))) ∷ []) e w
+      → (Stands (nodes_in lets t) e w → IsNode lets t e w) → IsNode lets (TNeg t p v) e w
   go (inl h) f = inl (f h)
   go (inr (inl h)) f = inr h
   go (inr (inr h)) f = absurd h
-from lets (TTwo k x t p v) e w s = go (either (nodes_in lets x) (nodes_in lets t ++ at_width v (two_of k (inlined lets (untyped x)) (inlined lets (untyped t))) ∷ []) e w s) (λ h. from lets x e w h) (λ h. from lets t e w h) where
-  last : Stands (nodes_in lets t) e w ⊎ Stands (at_width v (two_of k (inlined lets (untyped x)) (inlined lets (untyped t))) ∷ []) e w → (Stands (nodes_in lets t) e w → IsNode lets t e w) → IsNode lets (TTwo k x t p v) e w
-  last (inl h) g = inl (inr (g h))
-  last (inr (inl h)) g = inr h
-  last (inr (inr h)) g = absurd h
+from lets (TTwo k x t p v) e w s =
+    go (either (nodes_in lets x) (nodes_in lets t ++ at_width v (two_of k (inlined lets (untyped x)) (inlined lets (untyped t))) ∷ []) e w s)
+    (λ h. from lets x e w h) (λ h. from lets t e w h)
+  where
+    last : Stands (nodes_in lets t) e w ⊎ Stands (at_width v (two_of k (inlined lets (untyped x)) (inlined lets (untyped t))) ∷ []) e w
+        → (Stands (nodes_in lets t) e w → IsNode lets t e w) → IsNode lets (TTwo k x t p v) e w
+    last (inl h) g = inl (inr (g h))
+    last (inr (inl h)) g = inr h
+    last (inr (inr h)) g = absurd h
 
-  go : Stands (nodes_in lets x) e w ⊎ Stands (nodes_in lets t ++ at_width v (two_of k (inlined lets (untyped x)) (inlined lets (untyped t))) ∷ []) e w → (Stands (nodes_in lets x) e w → IsNode lets x e w) → (Stands (nodes_in lets t) e w → IsNode lets t e w) → IsNode lets (TTwo k x t p v) e w
-  go (inl h) f g = inl (inl (f h))
-  go (inr h) f g = last (either (nodes_in lets t) (at_width v (two_of k (inlined lets (untyped x)) (inlined lets (untyped t))) ∷ []) e w h) g
+    go : Stands (nodes_in lets x) e w ⊎ Stands (nodes_in lets t ++ at_width v (two_of k (inlined lets (untyped x)) (inlined lets (untyped t))) ∷ []) e w
+        → (Stands (nodes_in lets x) e w → IsNode lets x e w) → (Stands (nodes_in lets t) e w → IsNode lets t e w) → IsNode lets (TTwo k x t p v) e w
+    go (inl h) f g = inl (inl (f h))
+    go (inr h) f g = last (either (nodes_in lets t) (at_width v (two_of k (inlined lets (untyped x)) (inlined lets (untyped t))) ∷ []) e w h) g
 from lets (TPow t n p v) e w s = go (either (nodes_in lets t) (powers_to (inlined lets (untyped t)) v n) e w s) (λ h. from lets t e w h) where
-  go : Stands (nodes_in lets t) e w ⊎ Stands (powers_to (inlined lets (untyped t)) v n) e w → (Stands (nodes_in lets t) e w → IsNode lets t e w) → IsNode lets (TPow t n p v) e w
+  go : Stands (nodes_in lets t) e w ⊎ Stands (powers_to (inlined lets (untyped t)) v n) e w
+      → (Stands (nodes_in lets t) e w → IsNode lets t e w) → IsNode lets (TPow t n p v) e w
   go (inl h) f = inl (f h)
   go (inr h) f = let r = in-powers (inlined lets (untyped t)) e v w (suc n) 0 h in inr (r.0, omega (arith, r.1), r.2, r.3)
 
@@ -102,14 +115,19 @@ from lets (TPow t n p v) e w s = go (either (nodes_in lets t) (powers_to (inline
 lets-to : (done : List Tree) (ts : List Typed) (e : Tree) (w : Width) → IsLetNode done ts e w → Stands (nodes_in_lets done ts) e w
 lets-to done [] e w h = absurd h
 lets-to done (t ∷ ts) e w (inl h) = left (nodes_in done t) (nodes_in_lets (done ++ inlined done (untyped t) ∷ []) ts) e w (to done t e w h)
-lets-to done (t ∷ ts) e w (inr h) = right (nodes_in done t) (nodes_in_lets (done ++ inlined done (untyped t) ∷ []) ts) e w (lets-to (done ++ inlined done (untyped t) ∷ []) ts e w h)
+lets-to done (t ∷ ts) e w (inr h) =
+    right (nodes_in done t) (nodes_in_lets (done ++ inlined done (untyped t) ∷ []) ts) e w (lets-to (done ++ inlined done (untyped t) ∷ []) ts e w h)
 
 lets-from : (done : List Tree) (ts : List Typed) (e : Tree) (w : Width) → Stands (nodes_in_lets done ts) e w → IsLetNode done ts e w
 lets-from done [] e w s = absurd s
-lets-from done (t ∷ ts) e w s = go (either (nodes_in done t) (nodes_in_lets (done ++ inlined done (untyped t) ∷ []) ts) e w s) (λ h. lets-from (done ++ inlined done (untyped t) ∷ []) ts e w h) where
-  go : Stands (nodes_in done t) e w ⊎ Stands (nodes_in_lets (done ++ inlined done (untyped t) ∷ []) ts) e w → (Stands (nodes_in_lets (done ++ inlined done (untyped t) ∷ []) ts) e w → IsLetNode (done ++ inlined done (untyped t) ∷ []) ts e w) → IsLetNode done (t ∷ ts) e w
-  go (inl h) f = inl (from done t e w h)
-  go (inr h) f = inr (f h)
+lets-from done (t ∷ ts) e w s = go (either (nodes_in done t) (nodes_in_lets (done ++ inlined done (untyped t) ∷ []) ts) e w s)
+    (λ h. lets-from (done ++ inlined done (untyped t) ∷ []) ts e w h)
+  where
+    go : Stands (nodes_in done t) e w ⊎ Stands (nodes_in_lets (done ++ inlined done (untyped t) ∷ []) ts) e w
+        → (Stands (nodes_in_lets (done ++ inlined done (untyped t) ∷ []) ts) e w → IsLetNode (done ++ inlined done (untyped t) ∷ []) ts e w)
+        → IsLetNode done (t ∷ ts) e w
+    go (inl h) f = inl (from done t e w h)
+    go (inr h) f = inr (f h)
 
 pub nodes-are-listed : NodesAreListed
 nodes-are-listed lets t e w = (one, two) where

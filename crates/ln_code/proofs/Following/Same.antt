@@ -1,5 +1,6 @@
 -- Expressions with one polynomial and one value.
-use Rattle.std.proofs.Common.{◌≡◌, ℕ, zero, suc, Bool, true, false, ◌&&◌, if◌then◌else◌, ℤ, pos, ◌+ℤ◌, ◌-ℤ◌, ◌*ℤ◌, neg_ℤ, List, [], ◌∷◌, refl, sym, ◌∙◌, ap, arith}
+use Rattle.std.proofs.Common.{◌≡◌, ℕ, zero, suc, Bool, true, false, ◌&&◌, if◌then◌else◌, ℤ, pos, ◌+ℤ◌, ◌-ℤ◌, ◌*ℤ◌, neg_ℤ, List, [], ◌∷◌}
+use Rattle.std.proofs.Common.{refl, sym, ◌∙◌, ap, arith}
 use Rattle.std.proofs.lemmas.Int.{ints}
 use Rattle.ln_algebra.proofs.Expanded.Shift.{product_is}
 use Rattle.ln_algebra.proofs.Expanded.Sums.{sum_parts, sum_splits}
@@ -21,10 +22,12 @@ sum_parts-first (suc n) g = omega (arith, ints, sum_parts-zero n)
 sum_splits-first : (a : List ℕ) (g : List ℕ → ℤ) → sum_splits a (λ b c. if is_zero b then g c else pos 0) ≡ g a
 sum_splits-first [] g = refl
 sum_splits-first (n ∷ a) g =
-    sum_parts-same n (λ i j. sum_splits a (λ b c. if is_zero_number i && is_zero b then g (j ∷ c) else pos 0)) (λ i j. if is_zero_number i then g (j ∷ a) else pos 0) (λ i j. by_case j (is_zero_number i) (sum_splits-first a (λ c. g (j ∷ c))))
+    sum_parts-same n (λ i j. sum_splits a (λ b c. if is_zero_number i && is_zero b then g (j ∷ c) else pos 0))
+    (λ i j. if is_zero_number i then g (j ∷ a) else pos 0) (λ i j. by_case j (is_zero_number i) (sum_splits-first a (λ c. g (j ∷ c))))
     ∙ sum_parts-first n (λ j. g (j ∷ a))
   where
-    by_case : (j : ℕ) (z : Bool) → sum_splits a (λ b c. if is_zero b then g (j ∷ c) else pos 0) ≡ g (j ∷ a) → sum_splits a (λ b c. if z && is_zero b then g (j ∷ c) else pos 0) ≡ if z then g (j ∷ a) else pos 0
+    by_case : (j : ℕ) (z : Bool) → sum_splits a (λ b c. if is_zero b then g (j ∷ c) else pos 0) ≡ g (j ∷ a)
+        → sum_splits a (λ b c. if z && is_zero b then g (j ∷ c) else pos 0) ≡ if z then g (j ∷ a) else pos 0
     by_case j true ih = ih
     by_case j false ih = sum_splits-zero a
 

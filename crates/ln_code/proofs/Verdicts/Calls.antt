@@ -24,7 +24,8 @@ if_at P None x h e = cc
 if_at P (Some y) x h e = let r : y ≡ x = cc in subst P r h
 
 -- what is made for a program stays so while its stack and its locals keep their lengths
-pub made_again : (p : Part) (s : Scratch) (stack locals : List ℤ) → MadeFor p s → length stack ≡ length s.stack.items → length locals ≡ length s.locals.items → MadeFor p (record { stack = with_items s.stack stack; locals = with_items s.locals locals })
+pub made_again : (p : Part) (s : Scratch) (stack locals : List ℤ) → MadeFor p s → length stack ≡ length s.stack.items
+    → length locals ≡ length s.locals.items → MadeFor p (record { stack = with_items s.stack stack; locals = with_items s.locals locals })
 made_again p s stack locals m e f =
     let a : length (with_items s.stack stack).items ≡ length s.stack.items = ap length (with_items_is s.stack stack (e ∙ sym s.stack.ok.0)) ∙ e in
     let b : length (with_items s.locals locals).items ≡ length s.locals.items = ap length (with_items_is s.locals locals (f ∙ sym s.locals.ok.0)) ∙ f in
@@ -43,18 +44,21 @@ pub record BlockCall (p : Part) (block : Code) (zs : List ℤ) (ops : List Op) (
   pub ops_is : ops ≡ block.ops
   pub stack_is : stack ≡ s.stack.items
 
-call_runs : (p : Part) (block : Code) (zs : List ℤ) (ops : List Op) (stack locals : List ℤ) (s : Scratch) → BlockCall p block zs ops stack s → Runs p.shape.vars zs block (length stack) (at locals)
+call_runs : (p : Part) (block : Code) (zs : List ℤ) (ops : List Op) (stack locals : List ℤ) (s : Scratch) → BlockCall p block zs ops stack s
+    → Runs p.shape.vars zs block (length stack) (at locals)
 call_runs p block zs ops stack locals s c =
     let f : FollowsRules p.shape.vars block = subst (FollowsRules p.shape.vars) c.its.2 (c.program.blocks c.its.0 block c.its.1) in
     let d : block.depth ≤ length s.stack.items = subst (λ (b : Code). b.depth ≤ length s.stack.items) c.its.2 (c.made.blocks c.its.0 block c.its.1) in
     block_runs p.shape.vars zs block (length stack) (at locals) f c.row (rw c.stack_is d)
 
-pub block_answers : (p : Part) (block : Code) (zs : List ℤ) (ops : List Op) (stack locals : List ℤ) (s : Scratch) → BlockCall p block zs ops stack s → IsSome (bare_value (plain ops) zs stack locals)
+pub block_answers : (p : Part) (block : Code) (zs : List ℤ) (ops : List Op) (stack locals : List ℤ) (s : Scratch)
+    → BlockCall p block zs ops stack s → IsSome (bare_value (plain ops) zs stack locals)
 block_answers p block zs ops stack locals s c =
     let r = call_runs p block zs ops stack locals s c in
     rw (c.ops_is, r.barely) refl
 
-pub block_gives : (p : Part) (block : Code) (zs : List ℤ) (ops : List Op) (stack locals : List ℤ) (s : Scratch) (z : ℤ) → BlockCall p block zs ops stack s → bare_value (plain ops) zs stack locals ≡ Some z → block_value zs block ≡ Some z
+pub block_gives : (p : Part) (block : Code) (zs : List ℤ) (ops : List Op) (stack locals : List ℤ) (s : Scratch) (z : ℤ)
+    → BlockCall p block zs ops stack s → bare_value (plain ops) zs stack locals ≡ Some z → block_value zs block ≡ Some z
 block_gives p block zs ops stack locals s z c h =
     let r = call_runs p block zs ops stack locals s c in
     let g : bare_value (plain block.ops) zs stack locals ≡ Some z = rw c.ops_is at h in
@@ -64,7 +68,8 @@ block_gives p block zs ops stack locals s z c h =
 pub its_block : (cs : List Code) (number : ℕ) (block : Code) → number < length cs → block ≡ get_or cs number block → Contains cs block
 its_block cs number block h e = (number, h, sym e)
 
-pub the_block : (zs : List ℤ) (cs : List Code) (number : ℕ) (block : Code) (z : ℤ) → number < length cs → block ≡ get_or cs number block → block_value zs block ≡ Some z →
+pub the_block : (zs : List ℤ) (cs : List Code) (number : ℕ) (block : Code) (z : ℤ) → number < length cs → block ≡ get_or cs number block →
+    block_value zs block ≡ Some z →
     (c : Code) → slice_get cs number ≡ Some c → block_value zs c ≡ Some z
 the_block zs cs number block z h e v c q =
     let t : slice_get cs number ≡ Some block = there cs number block h ∙ ap Some (sym e) in
@@ -82,18 +87,21 @@ pub record FilterCall (p : Part) (f : FilterCode) (zs : List ℤ) (ops : List Op
   pub triples_is : triples ≡ f.triples
   pub stack_is : stack ≡ s.stack.items
 
-filter_call_runs : (p : Part) (f : FilterCode) (zs : List ℤ) (ops : List Op) (triples : List Triple) (stack locals : List ℤ) (s : Scratch) → FilterCall p f zs ops triples stack s → FilterRuns p.shape.vars zs f (length stack) (at locals)
+filter_call_runs : (p : Part) (f : FilterCode) (zs : List ℤ) (ops : List Op) (triples : List Triple) (stack locals : List ℤ) (s : Scratch)
+    → FilterCall p f zs ops triples stack s → FilterRuns p.shape.vars zs f (length stack) (at locals)
 filter_call_runs p f zs ops triples stack locals s c =
     let r : FollowsFilterRules p.shape.vars f = if_at (FollowsFilterRules p.shape.vars) p.filter f c.program.filter c.filter_is in
     let d : f.depth ≤ length s.stack.items = if_at (λ (g : FilterCode). g.depth ≤ length s.stack.items) p.filter f c.made.filter c.filter_is in
     filter_runs p.shape.vars zs f (length stack) (at locals) r c.row (rw c.stack_is d)
 
-pub filter_answers : (p : Part) (f : FilterCode) (zs : List ℤ) (ops : List Op) (triples : List Triple) (stack locals : List ℤ) (s : Scratch) → FilterCall p f zs ops triples stack s → IsSome (bare_value (shifted ops triples) zs stack locals)
+pub filter_answers : (p : Part) (f : FilterCode) (zs : List ℤ) (ops : List Op) (triples : List Triple) (stack locals : List ℤ) (s : Scratch)
+    → FilterCall p f zs ops triples stack s → IsSome (bare_value (shifted ops triples) zs stack locals)
 filter_answers p f zs ops triples stack locals s c =
     let r = filter_call_runs p f zs ops triples stack locals s c in
     rw (c.ops_is, c.triples_is, r.barely) refl
 
-pub filter_gives : (p : Part) (f : FilterCode) (zs : List ℤ) (ops : List Op) (triples : List Triple) (stack locals : List ℤ) (s : Scratch) (z : ℤ) → FilterCall p f zs ops triples stack s → bare_value (shifted ops triples) zs stack locals ≡ Some z →
+pub filter_gives : (p : Part) (f : FilterCode) (zs : List ℤ) (ops : List Op) (triples : List Triple) (stack locals : List ℤ) (s : Scratch)
+    (z : ℤ) → FilterCall p f zs ops triples stack s → bare_value (shifted ops triples) zs stack locals ≡ Some z →
     filter_value zs f ≡ Some (record { number = z; error = left_error f.ops f.triples 0 0 })
 filter_gives p f zs ops triples stack locals s z c h =
     let r = filter_call_runs p f zs ops triples stack locals s c in

@@ -1,5 +1,6 @@
 -- The machine of a part has exactly one verdict on every row in range.
-use Rattle.std.proofs.Common.{◌≡◌, ◌⊎◌, inl, inr, ℕ, ◌+◌, ◌-◌, ◌<◌, ◌≤◌, zero, suc, Bool, true, false, List, [], ◌∷◌, length, map, take, get_or, refl, sym, ◌∙◌, ap, arith, subst, unsigned_abs}
+use Rattle.std.proofs.Common.{◌≡◌, ◌⊎◌, inl, inr, ℕ, ◌+◌, ◌-◌, ◌<◌, ◌≤◌, zero, suc, Bool, true, false, List, [], ◌∷◌, length, map, take}
+use Rattle.std.proofs.Common.{get_or, refl, sym, ◌∙◌, ap, arith, subst, unsigned_abs}
 use Rattle.std.specs.Prelude.{All, IfSome, Option, Some, None, slice_get, if◌then◌else◌}
 use Rattle.std.specs.List.{range_with_len}
 use Rattle.std.proofs.Math.IntN.{ℤ, pos, negsuc}
@@ -27,17 +28,17 @@ use Rattle.ln_code.specs.Verdict.{along, settled, through}
 use Rattle.ln_code.proofs.Filters.Filtering.{decides-above, decides-within, through-decides}
 use Rattle.ln_code.proofs.Following.Means.{blocks_mean, filters_mean}
 
--- there is an answer
+-- there is a verdict
 abbrev Answers : Option Verdict → Type 0
 Answers o = (v : Verdict) × (o ≡ Some v)
 
--- a block decides, or what follows answers
+-- a block decides, or what follows has a verdict
 settled-answers : (z : ℤ) (place wide calls : ℕ) (rest : Option Verdict) → Answers rest → Answers (settled z place wide calls rest)
 settled-answers (pos zero) place wide calls rest a = a
 settled-answers (pos (suc n)) place wide calls rest a = (_, refl)
 settled-answers (negsuc n) place wide calls rest a = (_, refl)
 
--- what stands past the last block
+-- what is read past the last block
 pub no_code : Code
 no_code = record { exps = []; ops = []; pairs = []; depth = 0 }
 
@@ -62,11 +63,13 @@ module _ (P : ℕ → Type 0) where
 -- the numbers of a list of the part are those of blocks
 pub list-within : (p : Part) (places list : List ℕ) → Runs p → IsListOf p places list → All (λ k. k < length p.blocks) list
 list-within p places list h l =
-    let named : (j : ℕ) → All (λ k. k < length p.blocks) (segment_of p (take j places)) = λ j. beside-all (λ k. k < length p.blocks) (prefixes_of p.shape.sites) p.segments (take j places) h.named in
-    subst (λ (q : List ℕ). All (λ k. k < length p.blocks) q) (sym l.list_is) (joined-all (λ k. k < length p.blocks) (λ j. segment_of p (take j places)) (range_with_len 0 (suc (length places) - 0)) named)
+    let named : (j : ℕ) → All (λ k. k < length p.blocks) (segment_of p (take j places)) =
+    λ j. beside-all (λ k. k < length p.blocks) (prefixes_of p.shape.sites) p.segments (take j places) h.named in
+    subst (λ (q : List ℕ). All (λ k. k < length p.blocks) q) (sym l.list_is)
+    (joined-all (λ k. k < length p.blocks) (λ j. segment_of p (take j places)) (range_with_len 0 (suc (length places) - 0)) named)
 
 module _ (p : Part) (zs : List ℤ) (program : Runs p) (row : AreWithin p.shape.vars zs) where
-  -- a list of blocks has an answer
+  -- a list of blocks has a verdict
   along-answers : (ks : List ℕ) (place wide calls : ℕ) → All (λ k. k < length p.blocks) ks → Answers (along zs p.blocks ks place wide calls)
   along-answers [] place wide calls h = (_, refl)
   along-answers (k ∷ ks) place wide calls h =
@@ -78,18 +81,19 @@ module _ (p : Part) (zs : List ℤ) (program : Runs p) (row : AreWithin p.shape.
       let ih = along-answers ks (place + 1) (wide + wide_in c.ops) (calls + 1) (All-tail (λ i. i < length p.blocks) k ks h) in
       rw (g, u) (settled-answers _ place (wide + wide_in c.ops) (calls + 1) (along zs p.blocks ks (place + 1) (wide + wide_in c.ops) (calls + 1)) ih)
 
-  -- so it has behind the filter
+  -- so it has after the filter
   through-answers : (list : List ℕ) → All (λ k. k < length p.blocks) list → (o : Option FilterCode) → p.filter ≡ o → Answers (through o zs p.blocks list)
   through-answers list h None here = along-answers list 0 0 0 h
   through-answers list h (Some c) here = by_case (cases_lt m.left.error (unsigned_abs m.left.number)) (along-answers list 0 0 1 h) where
     m : FilterMeans p.shape.vars zs c
     m = filters_mean p.shape.vars zs c row (filter-follows p c program here)
 
-    by_case : (m.left.error < unsigned_abs m.left.number) ⊎ (unsigned_abs m.left.number ≤ m.left.error) → Answers (along zs p.blocks list 0 0 1) → Answers (through (Some c) zs p.blocks list)
+    by_case : (m.left.error < unsigned_abs m.left.number) ⊎ (unsigned_abs m.left.number ≤ m.left.error)
+        → Answers (along zs p.blocks list 0 0 1) → Answers (through (Some c) zs p.blocks list)
     by_case (inl l) a = (_, through-decides zs c m.left p.blocks list m.answer ∙ decides-above m.left (along zs p.blocks list 0 0 1) l)
     by_case (inr l) a = (a.0, through-decides zs c m.left p.blocks list m.answer ∙ decides-within m.left (along zs p.blocks list 0 0 1) l ∙ a.1)
 
--- the indices of a row have an order, the order a list, and the list an answer
+-- the indices of a row have an order, the order a list, and the list a verdict
 pub rows-have : RowsHaveVerdicts
 rows-have p row program r =
     let o = order-exists row.index r.differ in
@@ -119,12 +123,14 @@ programs-run p h = record { blocks = h.blocks; filter = h.filter; prefixes = h.p
 -- the lists of a part that carries an expression are its stage lists
 pub lists-stages : ListsAreStageLists
 lists-stages rank p e f h c = record { size = length-map (lists_of p) (vectors p) ∙ length-map (orders_of p.shape.sites) (list_of p); each = each } where
-  each : (j : ℕ) → j < length (map (vectors p) (lists_of p)) → OrderStages rank p.shape.vars e (get_or (orders_of p.shape.sites) j []) (get_or (map (vectors p) (lists_of p)) j [])
+  each : (j : ℕ) → j < length (map (vectors p) (lists_of p))
+      → OrderStages rank p.shape.vars e (get_or (orders_of p.shape.sites) j []) (get_or (map (vectors p) (lists_of p)) j [])
   each j l =
       let k : j < length (lists_of p) = omega (arith, l, length-map (lists_of p) (vectors p)) in
       let m : j < length (orders_of p.shape.sites) = omega (arith, k, length-map (orders_of p.shape.sites) (list_of p)) in
       let at : get_or (map (vectors p) (lists_of p)) j [] ≡ vectors p (list_of p (get_or (orders_of p.shape.sites) j [])) =
       get_or-map (vectors p) (lists_of p) j [] [] k ∙ ap (vectors p) (get_or-map (list_of p) (orders_of p.shape.sites) j [] [] m) in
-      let q : IsOrderOf p.shape.sites (get_or (orders_of p.shape.sites) j []) = member-is p.shape.sites (get_or (orders_of p.shape.sites) j []) (Contains-get_or (orders_of p.shape.sites) j [] m) in
+      let q : IsOrderOf p.shape.sites (get_or (orders_of p.shape.sites) j []) =
+      member-is p.shape.sites (get_or (orders_of p.shape.sites) j []) (Contains-get_or (orders_of p.shape.sites) j [] m) in
       subst (λ (z : List (List ℕ)). OrderStages rank p.shape.vars e (get_or (orders_of p.shape.sites) j []) z) (sym at)
       (c.lists (get_or (orders_of p.shape.sites) j []) (list_of p (get_or (orders_of p.shape.sites) j [])) (record { order = q; list_is = refl }))

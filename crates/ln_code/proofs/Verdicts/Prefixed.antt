@@ -1,5 +1,6 @@
 -- One segment after the other.
-use Rattle.std.proofs.Common.{◌≡◌, ◌≢◌, ℕ, ℤ, suc, ◌+◌, ◌-◌, ◌<◌, ◌≤◌, ◌^◌, List, [], ◌∷◌, ◌++◌, length, map, take, drop, refl, sym, ◌∙◌, ap, subst, arith, pos, get_or}
+use Rattle.std.proofs.Common.{◌≡◌, ◌≢◌, ℕ, ℤ, suc, ◌+◌, ◌-◌, ◌<◌, ◌≤◌, ◌^◌, List, [], ◌∷◌, ◌++◌, length, map, take, drop, refl, sym, ◌∙◌}
+use Rattle.std.proofs.Common.{ap, subst, arith, pos, get_or}
 use Rattle.std.specs.Prelude.{Option, Some, slice_get, All, AllPairs}
 use Rattle.std.specs.List.{range_with_len}
 use Rattle.std.proofs.lemmas.List.{drop_all}
@@ -23,77 +24,87 @@ use Rattle.ln_code.proofs.Verdicts.Stages.{Turn, rest_is, settled_other, block_t
 use Rattle.ln_code.proofs.Verdicts.Sums.{list_few}
 
 -- ---- the segment at a number
-pub number_within : (part : Part) (p : List ℕ) (k n : ℕ) → k ≡ part.shape.sites → length part.segments ≡ length (prefixes_of part.shape.sites) → slice_get (prefixes_of k) n ≡ Some p → n < length part.segments
+pub number_within : (part : Part) (p : List ℕ) (k n : ℕ) → k ≡ part.shape.sites → length part.segments ≡ length (prefixes_of part.shape.sites)
+    → slice_get (prefixes_of k) n ≡ Some p → n < length part.segments
 number_within part p k n e size h =
     let f : slice_get (prefixes_of part.shape.sites) n ≡ Some p = rw (← e) h in
     omega (arith, slice_get_within (prefixes_of part.shape.sites) n p f, size)
 
-pub segment_is : (part : Part) (p : List ℕ) (k n : ℕ) (s : List ℕ) → k ≡ part.shape.sites → part.shape.sites ≤ 5 → length part.segments ≡ length (prefixes_of part.shape.sites) → slice_get (prefixes_of k) n ≡ Some p → s ≡ get_or part.segments n s → s ≡ segment_of part p
+pub segment_is : (part : Part) (p : List ℕ) (k n : ℕ) (s : List ℕ) → k ≡ part.shape.sites → part.shape.sites ≤ 5
+    → length part.segments ≡ length (prefixes_of part.shape.sites) → slice_get (prefixes_of k) n ≡ Some p → s ≡ get_or part.segments n s → s ≡ segment_of part p
 segment_is part p k n s e few size h i =
     let f : slice_get (prefixes_of part.shape.sites) n ≡ Some p = rw (← e) h in
     let l : n < length part.segments = omega (arith, slice_get_within (prefixes_of part.shape.sites) n p f, size) in
     let g : slice_get part.segments n ≡ Some s = slice_get-get_or part.segments n s l ∙ ap (λ z. Some z) (sym i) in
     sym (beside_at part.shape.sites part.segments p n s few f g)
 
-pub segment_named : (part : Part) (p : List ℕ) (k n : ℕ) (s : List ℕ) → k ≡ part.shape.sites → length part.segments ≡ length (prefixes_of part.shape.sites) → slice_get (prefixes_of k) n ≡ Some p → s ≡ get_or part.segments n s → All (λ t. All (λ m. m < length part.blocks) t) part.segments → All (λ m. m < length part.blocks) s
+pub segment_named : (part : Part) (p : List ℕ) (k n : ℕ) (s : List ℕ) → k ≡ part.shape.sites
+    → length part.segments ≡ length (prefixes_of part.shape.sites) → slice_get (prefixes_of k) n ≡ Some p → s ≡ get_or part.segments n s
+    → All (λ t. All (λ m. m < length part.blocks) t) part.segments → All (λ m. m < length part.blocks) s
 segment_named part p k n s e size h i all =
     let f : slice_get (prefixes_of part.shape.sites) n ≡ Some p = rw (← e) h in
     let l : n < length part.segments = omega (arith, slice_get_within (prefixes_of part.shape.sites) n p f, size) in
     subst (λ z. All (λ m. m < length part.blocks) z) (sym i) (all n s l)
 
 -- ---- one block after the other
-module _ (zs : List ℤ) (cs : List Code) (answer : Option Verdict) (segment rest : List ℕ) (i n : ℕ) (c : Code) (z : ℤ) (w place wide calls : ℕ) (t : Turn zs cs segment i n c z w) (m : IsMet zs cs answer (drop i segment ++ rest) (record { place = place; wide = wide; calls = calls })) where
-  ahead : drop i segment ++ rest ≡ n ∷ (drop (i + 1) segment ++ rest)
-  ahead = ap (λ y. y ++ rest) (rest_is segment i n t.below t.named)
+module _ (zs : List ℤ) (cs : List Code) (answer : Option Verdict) (segment rest : List ℕ) (i n : ℕ) (c : Code) (z : ℤ) (w place wide calls : ℕ)
+    (t : Turn zs cs segment i n c z w) (m : IsMet zs cs answer (drop i segment ++ rest) (record { place = place; wide = wide; calls = calls }))
+  where
+    ahead : drop i segment ++ rest ≡ n ∷ (drop (i + 1) segment ++ rest)
+    ahead = ap (λ y. y ++ rest) (rest_is segment i n t.below t.named)
 
-  here : slice_get cs n ≡ Some c
-  here = block_there zs cs segment i n c z w t
+    here : slice_get cs n ≡ Some c
+    here = block_there zs cs segment i n c z w t
 
-  wide_is : wide_at cs n ≡ w
-  wide_is = let g = here in rw (g, t.wide) refl
+    wide_is : wide_at cs n ≡ w
+    wide_is = let g = here in rw (g, t.wide) refl
 
-  settles : along zs cs (drop i segment ++ rest) place wide calls ≡ settled z place (wide + w) (calls + 1) (along zs cs (drop (i + 1) segment ++ rest) (place + 1) (wide + w) (calls + 1))
-  settles =
-      let d = ahead in
-      let g = here in
-      let v : block_value zs c ≡ Some z = t.value c g in
-      rw (d, g, v, t.wide) refl
+    settles : along zs cs (drop i segment ++ rest) place wide calls
+        ≡ settled z place (wide + w) (calls + 1) (along zs cs (drop (i + 1) segment ++ rest) (place + 1) (wide + w) (calls + 1))
+    settles =
+        let d = ahead in
+        let g = here in
+        let v : block_value zs c ≡ Some z = t.value c g in
+        rw (d, g, v, t.wide) refl
 
-  sum_is : sum_of (wide_at cs) (drop i segment ++ rest) ≡ w + sum_of (wide_at cs) (drop (i + 1) segment ++ rest)
-  sum_is = let d = ahead in let e = wide_is in rw (d, e) refl
+    sum_is : sum_of (wide_at cs) (drop i segment ++ rest) ≡ w + sum_of (wide_at cs) (drop (i + 1) segment ++ rest)
+    sum_is = let d = ahead in let e = wide_is in rw (d, e) refl
 
-  size_is : length (drop i segment ++ rest) ≡ suc (length (drop (i + 1) segment ++ rest))
-  size_is = let d = ahead in rw d refl
+    size_is : length (drop i segment ++ rest) ≡ suc (length (drop (i + 1) segment ++ rest))
+    size_is = let d = ahead in rw d refl
 
-  pub wide_fits : wide + w < 2 ^ 32
-  wide_fits = omega (arith, m.wides, sum_is)
+    pub wide_fits : wide + w < 2 ^ 32
+    wide_fits = omega (arith, m.wides, sum_is)
 
-  pub block_fits : w < 2 ^ 32
-  block_fits = omega (arith, m.wides, sum_is)
+    pub block_fits : w < 2 ^ 32
+    block_fits = omega (arith, m.wides, sum_is)
 
-  pub calls_fit : calls + 1 < 2 ^ 32
-  calls_fit = omega (arith, m.calls, size_is)
+    pub calls_fit : calls + 1 < 2 ^ 32
+    calls_fit = omega (arith, m.calls, size_is)
 
-  pub place_fits : place + 1 < 2 ^ 32
-  place_fits = omega (arith, m.places, size_is)
+    pub place_fits : place + 1 < 2 ^ 32
+    place_fits = omega (arith, m.places, size_is)
 
-  -- a block that isn't 0 decides
-  pub decides_it : z ≢ pos 0 → answer ≡ Some (record { sign = sign_of z; by = Stage place; wide = wide + w; calls = calls + 1 })
-  decides_it h = sym m.goes_on ∙ settles ∙ settled_other z place (wide + w) (calls + 1) (along zs cs (drop (i + 1) segment ++ rest) (place + 1) (wide + w) (calls + 1)) h
+    -- a block that isn't 0 decides
+    pub decides_it : z ≢ pos 0 → answer ≡ Some (record { sign = sign_of z; by = Stage place; wide = wide + w; calls = calls + 1 })
+    decides_it h = sym m.goes_on ∙ settles
+        ∙ settled_other z place (wide + w) (calls + 1) (along zs cs (drop (i + 1) segment ++ rest) (place + 1) (wide + w) (calls + 1)) h
 
-  -- behind one that is 0 the segment goes on
-  pub passes_it : z ≡ pos 0 → IsMet zs cs answer (drop (i + 1) segment ++ rest) (record { place = place + 1; wide = wide + w; calls = calls + 1 })
-  passes_it h =
-      let g : along zs cs (drop i segment ++ rest) place wide calls ≡ along zs cs (drop (i + 1) segment ++ rest) (place + 1) (wide + w) (calls + 1) = settles ∙ rw h refl in
-      record {
-        goes_on = sym g ∙ m.goes_on;
-        places = omega (arith, m.places, size_is);
-        calls = omega (arith, m.calls, size_is);
-        wides = omega (arith, m.wides, sum_is);
-      }
+    -- after one that is 0 the segment goes on
+    pub passes_it : z ≡ pos 0 → IsMet zs cs answer (drop (i + 1) segment ++ rest) (record { place = place + 1; wide = wide + w; calls = calls + 1 })
+    passes_it h =
+        let g : along zs cs (drop i segment ++ rest) place wide calls
+        ≡ along zs cs (drop (i + 1) segment ++ rest) (place + 1) (wide + w) (calls + 1) = settles ∙ rw h refl in
+        record {
+          goes_on = sym g ∙ m.goes_on;
+          places = omega (arith, m.places, size_is);
+          calls = omega (arith, m.calls, size_is);
+          wides = omega (arith, m.wides, sum_is);
+        }
 
--- behind the last block the rest is left
-pub all_passed : (zs : List ℤ) (cs : List Code) (answer : Option Verdict) (segment rest : List ℕ) (i : ℕ) (met : Met) → length segment ≤ i → IsMet zs cs answer (drop i segment ++ rest) met → IsMet zs cs answer rest met
+-- after the last block the rest remains
+pub all_passed : (zs : List ℤ) (cs : List Code) (answer : Option Verdict) (segment rest : List ℕ) (i : ℕ) (met : Met) → length segment ≤ i
+    → IsMet zs cs answer (drop i segment ++ rest) met → IsMet zs cs answer rest met
 all_passed zs cs answer segment rest i met h m = subst (λ (y : List ℕ). IsMet zs cs answer (y ++ rest) met) (drop_all i segment h) m
 
 -- ---- one prefix after the other
@@ -108,7 +119,8 @@ list_ends p o j h =
     ap (λ n. joined (map (λ i. segment_of p (take i o)) (range_with_len j n))) q
 
 -- nothing was met yet
-pub met_first : (p : Part) (zs indices : List ℤ) (o : List ℕ) (entered : ℕ) → IsProgram p → length indices ≡ p.shape.sites → IsOrder indices o → entered + ops_in_blocks p.blocks < 2 ^ 32
+pub met_first : (p : Part) (zs indices : List ℤ) (o : List ℕ) (entered : ℕ) → IsProgram p → length indices ≡ p.shape.sites
+    → IsOrder indices o → entered + ops_in_blocks p.blocks < 2 ^ 32
     → IsMet zs p.blocks (along zs p.blocks (list_of p o) 0 0 entered) (list_from p o 0) (record { place = 0; wide = 0; calls = entered })
 met_first p zs indices o entered k e r f =
     let g : IsOrderOf p.shape.sites o = subst (λ n. IsOrderOf n o) e (order-places indices o r) in
@@ -117,18 +129,23 @@ met_first p zs indices o entered k e r f =
     let b = few.members in
     record { goes_on = refl; places = omega (arith, b, f); calls = omega (arith, b, f); wides = omega (arith, a, f) }
 
-module _ (p : Part) (zs indices : List ℤ) (order : List ℕ) (j : ℕ) (segment : List ℕ) (met : Met) (entered : ℕ) (size : length order ≡ length indices) (within : j ≤ length indices)
+module _ (p : Part) (zs indices : List ℤ) (order : List ℕ) (j : ℕ) (segment : List ℕ) (met : Met) (entered : ℕ)
+    (size : length order ≡ length indices) (within : j ≤ length indices)
     (front : (o : List ℕ) → IsOrder indices o → take j order ≡ take j o) (segment_there : segment ≡ segment_of p (take j order))
     (so_far : (o : List ℕ) → IsOrder indices o → IsMet zs p.blocks (along zs p.blocks (list_of p o) 0 0 entered) (list_from p o j) met) where
   pub met_here : (o : List ℕ) → IsOrder indices o → IsMet zs p.blocks (along zs p.blocks (list_of p o) 0 0 entered) (segment ++ list_from p o (j + 1)) met
   met_here o r =
       let q : segment ≡ segment_of p (take j o) = segment_there ∙ ap (segment_of p) (front o r) in
-      let g : list_from p o j ≡ segment ++ list_from p o (j + 1) = list_goes p o j (omega (arith, within, r.size)) ∙ ap (λ y. y ++ list_from p o (j + 1)) (sym q) in
+      let g : list_from p o j ≡ segment ++ list_from p o (j + 1) =
+      list_goes p o j (omega (arith, within, r.size)) ∙ ap (λ y. y ++ list_from p o (j + 1)) (sym q) in
       subst (λ (y : List ℕ). IsMet zs p.blocks (along zs p.blocks (list_of p o) 0 0 entered) y met) g (so_far o r)
 
   pub has_met : AllPairs (λ y z. y ≢ z) indices → HasMet zs p.blocks segment met
-  has_met d = let x = order-exists indices d in record { answer = along zs p.blocks (list_of p x.0) 0 0 entered; rest = list_from p x.0 (j + 1); begins = met_here x.0 x.1 }
+  has_met d =
+      let x = order-exists indices d in
+      record { answer = along zs p.blocks (list_of p x.0) 0 0 entered; rest = list_from p x.0 (j + 1); begins = met_here x.0 x.1 }
 
 -- at the end nothing decides
-pub met_all : (p : Part) (zs : List ℤ) (o : List ℕ) (j : ℕ) (answer : Option Verdict) (met : Met) → length o < j → IsMet zs p.blocks answer (list_from p o j) met → answer ≡ Some (record { sign = Zero; by = Nothing; wide = met.wide; calls = met.calls })
+pub met_all : (p : Part) (zs : List ℤ) (o : List ℕ) (j : ℕ) (answer : Option Verdict) (met : Met) → length o < j
+    → IsMet zs p.blocks answer (list_from p o j) met → answer ≡ Some (record { sign = Zero; by = Nothing; wide = met.wide; calls = met.calls })
 met_all p zs o j answer met h m = sym m.goes_on ∙ ap (λ y. along zs p.blocks y met.place met.wide met.calls) (list_ends p o j h)

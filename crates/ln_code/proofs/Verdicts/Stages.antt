@@ -7,7 +7,8 @@ use Rattle.ln_code.specs.Part.{Code, block_value, wide_in}
 use Rattle.ln_code.specs.Verdict.{sign_of, settled}
 use Rattle.ln_code.proofs.Verdicts.Calls.{there}
 
-pub settled_other : (z : ℤ) (place wide calls : ℕ) (rest : Option Verdict) → z ≢ pos 0 → settled z place wide calls rest ≡ Some (record { sign = sign_of z; by = Stage place; wide = wide; calls = calls })
+pub settled_other : (z : ℤ) (place wide calls : ℕ) (rest : Option Verdict) → z ≢ pos 0
+    → settled z place wide calls rest ≡ Some (record { sign = sign_of z; by = Stage place; wide = wide; calls = calls })
 settled_other (pos zero) place wide calls rest h = absurd (h refl)
 settled_other (pos (suc n)) place wide calls rest h = refl
 settled_other (negsuc n) place wide calls rest h = refl

@@ -23,11 +23,13 @@ abbrev left_on : PredOf → Row → Held
 left_on p row = record { number = root_number p.vars row.values (lets_of p) (own_root p); error = (root_triple p.vars (lets_of p) (own_root p)).e }
 
 -- the program's filter does what the predicate's does
-does_both : (p : PredOf) (part : Part) (row : Row) → InRange p.sites p.vars row → (o : Option FilterCode) → part.filter ≡ o → IsFilterOf p o → (does : Filtering) × Does p row does × FilterDoes part row.values does
+does_both : (p : PredOf) (part : Part) (row : Row) → InRange p.sites p.vars row → (o : Option FilterCode) → part.filter ≡ o → IsFilterOf p o
+    → (does : Filtering) × Does p row does × FilterDoes part row.values does
 does_both p part row r None e own = (NoFilter, own, e)
 does_both p part row r (Some f) e own = by_size (cases_lt (left_on p row).error (unsigned_abs (left_on p row).number))
   where
-    by_size : ((left_on p row).error < unsigned_abs (left_on p row).number) ⊎ (unsigned_abs (left_on p row).number ≤ (left_on p row).error) → (does : Filtering) × Does p row does × FilterDoes part row.values does
+    by_size : ((left_on p row).error < unsigned_abs (left_on p row).number) ⊎ (unsigned_abs (left_on p row).number ≤ (left_on p row).error)
+        → (does : Filtering) × Does p row does × FilterDoes part row.values does
     by_size (inl h) = (Decided, record { has = own.0; above = h }, (f, left_on p row, e, own.1 row.values r.values, h))
     by_size (inr h) = (Undecided, (own.0, λ d. absurd (omega (arith, h, d.above))), (f, left_on p row, e, own.1 row.values r.values, h))
 
@@ -35,9 +37,14 @@ pub parts_answer : PartsAnswerDue
 parts_answer rank p part row v k o range verdict =
     let there : InRange part.shape.sites part.shape.vars row = rw (o.sites, o.vars) range in
     let d = does_both p part row range part.filter refl o.filter in
-    record { filtering = d.0; does = d.1; due = subst (λ (vs : List VarInfo). Due rank d.0 vs (root_of p) row v) o.vars (verdicts-due rank part (root_of p) (terms_of (length p.vars) o.poly) row d.0 v (programs-run part k) o.carries there d.2 verdict) }
+    record {
+      filtering = d.0;
+      does = d.1;
+      due = subst (λ (vs : List VarInfo). Due rank d.0 vs (root_of p) row v) o.vars
+          (verdicts-due rank part (root_of p) (terms_of (length p.vars) o.poly) row d.0 v (programs-run part k) o.carries there d.2 verdict);
+    }
 
--- a predicate's program answers for it
+-- a predicate's program implements it
 pub answers_for : (p : PredOf) (part : Part) → IsProgramOf p part → AnswersFor BySmallest p part
 answers_for p part o = record { sites = o.sites; vars = o.vars; filter = o.filter; poly = o.poly; carries = o.carries }
 
@@ -60,7 +67,8 @@ pub one_due_in : OneIsDueIn
 one_due_in rank s p row v w e f range a b =
     let same : a.filtering ≡ b.filtering = one_does p row a.filtering b.filtering a.does b.does in
     let there : InRange s.sites s.vars row = rw (sym e, sym f) range in
-    let left : Due rank b.filtering s.vars (root_of p) row v = subst (λ (vs : List VarInfo). Due rank b.filtering vs (root_of p) row v) e (subst (λ (d : Filtering). Due rank d p.vars (root_of p) row v) same a.due) in
+    let left : Due rank b.filtering s.vars (root_of p) row v = subst (λ (vs : List VarInfo). Due rank b.filtering vs (root_of p) row v) e
+    (subst (λ (d : Filtering). Due rank d p.vars (root_of p) row v) same a.due) in
     due-unique rank s (root_of p) row b.filtering v w there left (subst (λ (vs : List VarInfo). Due rank b.filtering vs (root_of p) row w) e b.due)
 
 pub one_due : OneIsDue

@@ -18,7 +18,7 @@ use Rattle.ln_code.specs.Carried.{vectors}
 use Rattle.ln_code.specs.Lists.{IsListOf, list_of, lists_of}
 use Rattle.ln_code.specs.Part.{Part}
 
--- where an order stands among all
+-- the place of an order among all
 pub record Place (k : ℕ) (o : List ℕ) : Type 0 where
   pub number : ℕ
   pub within : number < length (orders_of k)
@@ -30,7 +30,8 @@ place-of k o h =
     record { number = m.0; within = m.1; here = sym (get_or_default (orders_of k) m.0 o [] m.1) ∙ m.2 }
 
 -- what holds of each of the lists of all orders holds of that of an order
-pub of-each : (k : ℕ) (L : List ℕ → List ℕ) (ls : List (List ℕ)) (P : List ℕ → Type 0) (o : List ℕ) → ls ≡ map L (orders_of k) → All P ls → IsOrderOf k o → P (L o)
+pub of-each : (k : ℕ) (L : List ℕ → List ℕ) (ls : List (List ℕ)) (P : List ℕ → Type 0) (o : List ℕ) → ls ≡ map L (orders_of k) → All P ls
+    → IsOrderOf k o → P (L o)
 of-each k L ls P o e a h =
     let p = place-of k o h in
     let at : get_or ls p.number [] ≡ L o = ap (λ z. get_or z p.number []) e ∙ get_or-map L (orders_of k) p.number [] [] p.within ∙ ap L p.here in
@@ -49,8 +50,11 @@ order-stages p e f places list normal c l =
     let g : List ℕ → List (List ℕ) = λ ks. map (block_vector n (map (λ b. b.exps) p.blocks)) ks in
     let i = place-of p.shape.sites places l.order in
     let b : i.number < length (lists_of p) = omega (arith, i.within, length-map (orders_of p.shape.sites) (list_of p)) in
-    let own : get_or (lists_of p) i.number [] ≡ list_of p places = get_or-map (list_of p) (orders_of p.shape.sites) i.number [] [] i.within ∙ ap (list_of p) i.here in
+    let own : get_or (lists_of p) i.number [] ≡ list_of p places =
+    get_or-map (list_of p) (orders_of p.shape.sites) i.number [] [] i.within ∙ ap (list_of p) i.here in
     let here : get_or (map g (lists_of p)) i.number [] ≡ g list = get_or-map g (lists_of p) i.number [] [] b ∙ ap g (own ∙ sym l.list_is) in
     let s = c.each i.number (omega (arith, b, length-map (lists_of p) g)) in
-    let t : IsStageListOf n (sites_of p.shape.vars places) f (get_or (map g (lists_of p)) i.number []) = subst (λ (q : List ℕ). IsStageListOf n (sites_of p.shape.vars q) f (get_or (map g (lists_of p)) i.number [])) i.here s in
-    (lists-of-trees n (sites_of p.shape.vars places) e f (vectors p list) normal).0 (subst (λ (q : List (List ℕ)). IsStageListOf n (sites_of p.shape.vars places) f q) here t)
+    let t : IsStageListOf n (sites_of p.shape.vars places) f (get_or (map g (lists_of p)) i.number []) =
+    subst (λ (q : List ℕ). IsStageListOf n (sites_of p.shape.vars q) f (get_or (map g (lists_of p)) i.number [])) i.here s in
+    (lists-of-trees n (sites_of p.shape.vars places) e f (vectors p list) normal).0
+    (subst (λ (q : List (List ℕ)). IsStageListOf n (sites_of p.shape.vars places) f q) here t)

@@ -1,4 +1,4 @@
--- The stages of a predicate: each is over variables of sites, the vector of zeros comes first, and none stands twice in a list.
+-- The stages of a predicate: each is over variables of sites, the vector of zeros comes first, and none occurs twice in a list.
 use Rattle.std.proofs.Common.{◌≡◌, ℕ, ◌<◌, ◌≤◌, List, [], length, get_or}
 use Rattle.std.specs.Prelude.{◌≢◌, All}
 use Rattle.ln_algebra.specs.Orders.{BySmallest}

@@ -1,5 +1,6 @@
 -- A predicate has one set of stage lists, of one count and one weight.
-use Rattle.std.proofs.Common.{◌≡◌, ◌⊎◌, inl, inr, ℕ, ◌*◌, ◌<◌, ◌≤◌, zero, suc, Bool, true, false, leb, List, [], ◌∷◌, length, get_or, refl, ap, sym, subst, ◌∙◌, arith, if◌then◌else◌}
+use Rattle.std.proofs.Common.{◌≡◌, ◌⊎◌, inl, inr, ℕ, ◌*◌, ◌<◌, ◌≤◌, zero, suc, Bool, true, false, leb, List, [], ◌∷◌, length, get_or, refl}
+use Rattle.std.proofs.Common.{ap, sym, subst, ◌∙◌, arith, if◌then◌else◌}
 use Rattle.std.specs.Prelude.{◌≢◌, ◌&&◌, All}
 use Rattle.std.proofs.Math.IntN.{ℤ, pos, ◌*ℤ◌}
 use Rattle.std.proofs.lemmas.Bool.{and_parts, cases_eq}
@@ -17,7 +18,7 @@ use Rattle.ln_tree.specs.Exps.{vector}
 use Rattle.ln_tree.specs.Table.{PredOf}
 use Rattle.ln_tree.specs.Variables.{is_laid_out}
 use Rattle.ln_bound.specs.Light.{AreLight}
-use Rattle.ln_order.specs.Orders.{IsOrderOf, orders_of}
+use Rattle.ln_order.specs.Orders.{orders_of}
 use Rattle.ln_order.specs.Sites.{sites_of}
 use Rattle.ln_poly.specs.Expansion.{HaveFewTerms, IsNormal}
 use Rattle.ln_poly.specs.Sparse.{IsFactor, Sparse, terms_of}
@@ -37,9 +38,11 @@ use Rattle.ln_due.proofs.Derivatives.Deriving.{length-derived}
 use Rattle.ln_due.proofs.Derivatives.Fewest.{shortest}
 
 -- the stage lists of one polynomial are those of another with the same expression
-moved : (n k : ℕ) (vars : List VarInfo) (e : Tree) (f g : Sparse) (ls : List (List (List ℕ))) → length vars ≡ n → IsNormal n e f → IsNormal n e g → AreStageLists k vars g ls → AreStageLists k vars f ls
+moved : (n k : ℕ) (vars : List VarInfo) (e : Tree) (f g : Sparse) (ls : List (List (List ℕ))) → length vars ≡ n → IsNormal n e f
+    → IsNormal n e g → AreStageLists k vars g ls → AreStageLists k vars f ls
 moved n k vars e f g ls q p r a = record { size = a.size; each = λ j h. one j (a.each j h) } where
-  one : (j : ℕ) → IsStageListOf (length vars) (sites_of vars (get_or (orders_of k) j [])) g (get_or ls j []) → IsStageListOf (length vars) (sites_of vars (get_or (orders_of k) j [])) f (get_or ls j [])
+  one : (j : ℕ) → IsStageListOf (length vars) (sites_of vars (get_or (orders_of k) j [])) g (get_or ls j [])
+      → IsStageListOf (length vars) (sites_of vars (get_or (orders_of k) j [])) f (get_or ls j [])
   one j l =
       let pf : IsNormalOf (length vars) e (terms_of (length vars) f) = subst (λ m. IsNormalOf m e (terms_of m f)) (sym q) p.normal in
       let pg : IsNormalOf (length vars) e (terms_of (length vars) g) = subst (λ m. IsNormalOf m e (terms_of m g)) (sym q) r.normal in
@@ -77,7 +80,10 @@ factor-some z b h l e =
 no-zero : (n : ℕ) (f : Sparse) → All (λ t. IsFactor t.1) f → (a : List ℕ) → HasNoZero (derived a (terms_of n f))
 no-zero n [] z a = tt
 no-zero n (t ∷ f) z a = by_case (covers (vector n t.0) a) refl (no-zero n f (All-tail (λ y. IsFactor y.1) t f z) a) where
-  by_case : (b : Bool) → covers (vector n t.0) a ≡ b → HasNoZero (derived a (terms_of n f)) → HasNoZero (if b then (record { exponents = minus (vector n t.0) a; factor = t.1 *ℤ pos (binomials (vector n t.0) a) } ∷ derived a (terms_of n f)) else derived a (terms_of n f))
+  by_case : (b : Bool) → covers (vector n t.0) a ≡ b → HasNoZero (derived a (terms_of n f)) → HasNoZero (if b then (record {
+    exponents = minus (vector n t.0) a;
+    factor = t.1 *ℤ pos (binomials (vector n t.0) a);
+  } ∷ derived a (terms_of n f)) else derived a (terms_of n f))
   by_case true q r = (factor-some t.1 (binomials (vector n t.0) a) (All-head (λ y. IsFactor y.1) t f z).0 (binomials-some (vector n t.0) a q), r)
   by_case false q r = r
 
@@ -92,16 +98,22 @@ no-cover (n ∷ m) (k ∷ a) d = let r : covers m a ≡ false = no-cover m a (λ
 
 no-derivative : (n : ℕ) (f : Sparse) (a : List ℕ) → (n ≡ length a → ⊥) → length (derived a (terms_of n f)) ≡ 0
 no-derivative n [] a d = refl
-no-derivative n (t ∷ f) a d = let e : covers (vector n t.0) a ≡ false = no-cover (vector n t.0) a (λ q. d (sym (length-vector 0 n t.0) ∙ q)) in rw e (no-derivative n f a d)
+no-derivative n (t ∷ f) a d =
+    let e : covers (vector n t.0) a ≡ false = no-cover (vector n t.0) a (λ q. d (sym (length-vector 0 n t.0) ∙ q)) in
+    rw e (no-derivative n f a d)
 
-fewest : (n : ℕ) (e : Tree) (f g : Sparse) → IsNormal n e f → IsNormal n e g → (a : List ℕ) → length a ≡ n → length (derived a (terms_of n f)) ≤ length (derived a (terms_of n g))
+fewest : (n : ℕ) (e : Tree) (f g : Sparse) → IsNormal n e f → IsNormal n e g → (a : List ℕ) → length a ≡ n
+    → length (derived a (terms_of n f)) ≤ length (derived a (terms_of n g))
 fewest n e f g p q a l =
     let of : Over (length a) (terms_of n f) = subst (λ k. Over k (terms_of n f)) (sym l) (over-terms n f) in
     let og : Over (length a) (terms_of n g) = subst (λ k. Over k (terms_of n g)) (sym l) (over-terms n g) in
-    let same : (m : List ℕ) → factor_at (terms_of n f) m ≡ factor_at (terms_of n g) m = everywhere n (terms_of n f) (terms_of n g) (over-terms n f) (over-terms n g) (λ m k. p.normal.coefficients m k ∙ sym (q.normal.coefficients m k)) in
-    shortest (derived a (terms_of n f)) (derived a (terms_of n g)) (once-derived a (terms_of n f) of (once (terms_of n f) (collected n f p.form p.below))) (no-zero n f p.form.factors a)
+    let same : (m : List ℕ) → factor_at (terms_of n f) m ≡ factor_at (terms_of n g) m =
+    everywhere n (terms_of n f) (terms_of n g) (over-terms n f) (over-terms n g) (λ m k. p.normal.coefficients m k ∙ sym (q.normal.coefficients m k)) in
+    shortest (derived a (terms_of n f)) (derived a (terms_of n g))
+    (once-derived a (terms_of n f) of (once (terms_of n f) (collected n f p.form p.below))) (no-zero n f p.form.factors a)
     (everywhere (length a) (derived a (terms_of n f)) (derived a (terms_of n g)) (over-derived a (terms_of n f) of) (over-derived a (terms_of n g) og)
-    (λ m k. factor_at-derived a (terms_of n f) m of k ∙ ap (λ c. c *ℤ pos (binomials (plus m a) a)) (same (plus m a)) ∙ sym (factor_at-derived a (terms_of n g) m og k)))
+    (λ m k. factor_at-derived a (terms_of n f) m of k ∙ ap (λ c. c *ℤ pos (binomials (plus m a) a)) (same (plus m a))
+    ∙ sym (factor_at-derived a (terms_of n g) m og k)))
 
 covering-same : (n : ℕ) (e : Tree) (f g : Sparse) → IsNormal n e f → IsNormal n e g → (a : List ℕ) → covering n f a ≡ covering n g a
 covering-same n e f g p q a = by_case (cases_eq n (length a)) where
@@ -111,22 +123,31 @@ covering-same n e f g p q a = by_case (cases_eq n (length a)) where
 
 all-same : (n : ℕ) (e : Tree) (f g : Sparse) → IsNormal n e f → IsNormal n e g → (as' : List (List ℕ)) → all_covering n f as' ≡ all_covering n g as'
 all-same n e f g p q [] = refl
-all-same n e f g p q (a ∷ as') = let r : covering n f a ≡ covering n g a = covering-same n e f g p q a in let s : all_covering n f as' ≡ all_covering n g as' = all-same n e f g p q as' in omega (arith, r, s)
+all-same n e f g p q (a ∷ as') =
+    let r : covering n f a ≡ covering n g a = covering-same n e f g p q a in
+    let s : all_covering n f as' ≡ all_covering n g as' = all-same n e f g p q as' in
+    omega (arith, r, s)
 
--- ---- the answers for one predicate
+-- ---- the refusals of one predicate
 -- where its lists are within the limits it has not too many stages
-pub within-limits : (p : PredOf) (f : Sparse) (ls : List (List (List ℕ))) → is_laid_out p.sites p.vars ≡ true → IsNormal (length p.vars) (root_of p) f → AreStageLists p.sites p.vars f ls
+pub within-limits : (p : PredOf) (f : Sparse) (ls : List (List (List ℕ))) → is_laid_out p.sites p.vars ≡ true
+    → IsNormal (length p.vars) (root_of p) f → AreStageLists p.sites p.vars f ls
     → stage_count ls ≤ 65536 → stage_weight (length p.vars) f ls ≤ 131072 → IsStagesFault p → ⊥
 within-limits p f ls h n a c w z =
-    let e : z.lists ≡ ls = lists-one BySmallest p.sites p.vars f z.lists ls h (moved (length p.vars) p.sites p.vars (root_of p) f z.poly z.lists refl n z.normal z.are_lists) a in
+    let e : z.lists ≡ ls =
+    lists-one BySmallest p.sites p.vars f z.lists ls h (moved (length p.vars) p.sites p.vars (root_of p) f z.poly z.lists refl n z.normal z.are_lists) a in
     go z.passes e where
       go : Passes (length p.vars) z.poly 65536 131072 z.lists → z.lists ≡ ls → ⊥
       go (inl l) e = absurd (omega (arith, l, c, ap stage_count e))
-      go (inr l) e = absurd (omega (arith, l, w, ap (stage_weight (length p.vars) z.poly) e, all-same (length p.vars) (root_of p) z.poly f z.normal n (first_seen ls)))
+      go (inr l) e =
+          absurd (omega (arith, l, w, ap (stage_weight (length p.vars) z.poly) e, all-same (length p.vars) (root_of p) z.poly f z.normal n (first_seen ls)))
 
-pub sound_pred : (p : PredOf) (f : Sparse) → AreLight (loaded_of p) → HaveFewTerms (length p.vars) (expanded_of p) → (IsHeavyFault p → ⊥) → IsNormal (length p.vars) (root_of p) f → f ≢ [] → (IsStagesFault p → ⊥) → IsSound p
+pub sound_pred : (p : PredOf) (f : Sparse) → AreLight (loaded_of p) → HaveFewTerms (length p.vars) (expanded_of p) → (IsHeavyFault p → ⊥)
+    → IsNormal (length p.vars) (root_of p) f → f ≢ [] → (IsStagesFault p → ⊥) → IsSound p
 sound_pred p f l t w n d s = record { light = l; few = t; whole = w; nonzero = λ z. d (zero-no-terms (length p.vars) (root_of p) f n z); staged = s }
 
-pub stages_stops : (k : ℕ) (p : PredOf) (f : Sparse) → AreLight (loaded_of p) → HaveFewTerms (length p.vars) (expanded_of p) → (IsHeavyFault p → ⊥) → IsNormal (length p.vars) (root_of p) f → f ≢ []
+pub stages_stops : (k : ℕ) (p : PredOf) (f : Sparse) → AreLight (loaded_of p) → HaveFewTerms (length p.vars) (expanded_of p)
+    → (IsHeavyFault p → ⊥) → IsNormal (length p.vars) (root_of p) f → f ≢ []
     → ((ls : List (List (List ℕ))) × AreStageLists p.sites p.vars f ls × Passes (length p.vars) f 65536 131072 ls) → StopsPred k p (Stages k p.at)
-stages_stops k p f l t w n d s = inl (stages l t w (λ z. d (zero-no-terms (length p.vars) (root_of p) f n z)) (record { poly = f; normal = n; lists = s.0; are_lists = s.1; passes = s.2 }))
+stages_stops k p f l t w n d s =
+    inl (stages l t w (λ z. d (zero-no-terms (length p.vars) (root_of p) f n z)) (record { poly = f; normal = n; lists = s.0; are_lists = s.1; passes = s.2 }))

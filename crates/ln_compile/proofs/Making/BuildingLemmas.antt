@@ -1,5 +1,6 @@
 -- The programs of a table's predicates, one after the other.
-use Rattle.std.proofs.Common.{◌≡◌, ℕ, ◌+◌, ◌<◌, ◌≤◌, zero, suc, true, false, List, [], ◌∷◌, ◌++◌, length, map, take, drop, get_or, refl, ap, sym, subst, ◌∙◌, arith, Some}
+use Rattle.std.proofs.Common.{◌≡◌, ℕ, ◌+◌, ◌<◌, ◌≤◌, zero, suc, true, false, List, [], ◌∷◌, ◌++◌, length, map, take, drop, get_or, refl, ap}
+use Rattle.std.proofs.Common.{sym, subst, ◌∙◌, arith, Some}
 use Rattle.std.specs.Prelude.{◌≢◌, All, AllPairs, bytes_eq, slice_get}
 use Rattle.std.proofs.lemmas.List.{drop_more, length-map, map-append, take-append-drop, take_all, take_more}
 use Rattle.std.proofs.lemmas.List.Elements.{All-cons, All-nil}
@@ -24,7 +25,8 @@ use Rattle.ln_compile.specs.Made.{AreCounted}
 use Rattle.ln_compile.proofs.Refusing.Judging.{judged_more}
 
 -- ---- one more
-programs-more : (ps : List PredOf) (cs : List Part) (p : PredOf) (c : Part) → AreProgramsOf ps cs → IsProgramOf p c → AreProgramsOf (ps ++ p ∷ []) (cs ++ c ∷ [])
+programs-more : (ps : List PredOf) (cs : List Part) (p : PredOf) (c : Part) → AreProgramsOf ps cs → IsProgramOf p c
+    → AreProgramsOf (ps ++ p ∷ []) (cs ++ c ∷ [])
 programs-more [] [] p c h l = (l, tt)
 programs-more [] (d ∷ cs) p c h l = absurd h
 programs-more (q ∷ ps) [] p c h l = absurd h
@@ -36,18 +38,22 @@ counts-more [] (m ∷ ns) p n h l = absurd h
 counts-more (q ∷ ps) [] p n h l = absurd h
 counts-more (q ∷ ps) (m ∷ ns) p n h l = (h.0, counts-more ps ns p n h.1 l)
 
-front-more : (preds : List Pred) (i : ℕ) (p : Pred) → i < length preds → p ≡ get_or preds i p → map pred_of (take (i + 1) preds) ≡ map pred_of (take i preds) ++ pred_of p ∷ []
+front-more : (preds : List Pred) (i : ℕ) (p : Pred) → i < length preds → p ≡ get_or preds i p
+    → map pred_of (take (i + 1) preds) ≡ map pred_of (take i preds) ++ pred_of p ∷ []
 front-more preds i p h e = ap (map pred_of) (take_more preds i p h ∙ ap (λ q. take i preds ++ q ∷ []) (sym e)) ∙ map-append pred_of (take i preds) (p ∷ [])
 
-pub compiled-more : (preds : List Pred) (i : ℕ) (p : Pred) (cs ds : List Part) (c : Part) → i < length preds → p ≡ get_or preds i p → ds ≡ cs ++ c ∷ [] → IsProgramOf (pred_of p) c → AreProgramsOf (map pred_of (take i preds)) cs → AreProgramsOf (map pred_of (take (i + 1) preds)) ds
+pub compiled-more : (preds : List Pred) (i : ℕ) (p : Pred) (cs ds : List Part) (c : Part) → i < length preds → p ≡ get_or preds i p → ds ≡ cs ++ c ∷ []
+    → IsProgramOf (pred_of p) c → AreProgramsOf (map pred_of (take i preds)) cs → AreProgramsOf (map pred_of (take (i + 1) preds)) ds
 compiled-more preds i p cs ds c h e q o b =
     let f : map pred_of (take i preds) ++ pred_of p ∷ [] ≡ map pred_of (take (i + 1) preds) = sym (front-more preds i p h e) in
     subst (λ (ps : List PredOf). AreProgramsOf ps ds) f (rw q (programs-more (map pred_of (take i preds)) cs (pred_of p) c b o))
 
-pub compiled-end : (preds : List Pred) (i : ℕ) (cs : List Part) → length preds ≤ i → AreProgramsOf (map pred_of (take i preds)) cs → AreProgramsOf (map pred_of preds) cs
+pub compiled-end : (preds : List Pred) (i : ℕ) (cs : List Part) → length preds ≤ i → AreProgramsOf (map pred_of (take i preds)) cs
+    → AreProgramsOf (map pred_of preds) cs
 compiled-end preds i cs h b = subst (λ (ps : List Pred). AreProgramsOf (map pred_of ps) cs) (take_all i preds h) b
 
-pub counted-more : (preds : List Pred) (i : ℕ) (p : Pred) (ns ms : List ℕ) (n : ℕ) → i < length preds → p ≡ get_or preds i p → ms ≡ ns ++ n ∷ [] → IsSound (pred_of p) → IsStageCount (pred_of p) n → AreCounted (map pred_of (take i preds)) ns → AreCounted (map pred_of (take (i + 1) preds)) ms
+pub counted-more : (preds : List Pred) (i : ℕ) (p : Pred) (ns ms : List ℕ) (n : ℕ) → i < length preds → p ≡ get_or preds i p → ms ≡ ns ++ n ∷ []
+    → IsSound (pred_of p) → IsStageCount (pred_of p) n → AreCounted (map pred_of (take i preds)) ns → AreCounted (map pred_of (take (i + 1) preds)) ms
 counted-more preds i p ns ms n h e r s k b =
     let f : map pred_of (take i preds) ++ pred_of p ∷ [] ≡ map pred_of (take (i + 1) preds) = sym (front-more preds i p h e) in
     record {
@@ -78,20 +84,26 @@ apart : (ps : List PredOf) (p : PredOf) (qs : List PredOf) → Differ (map (λ (
 apart [] p qs h = tt
 apart (q ∷ ps) p qs h = (none-behind q.shape_name ps p qs h.0, apart ps p qs h.1)
 
-names-apart : (ps : List PredOf) (cs : List Part) (n : Name) → AreProgramsOf ps cs → Apart ps (name_bytes n) → All (λ c. name_bytes c.shape.name ≢ name_bytes n) cs
+names-apart : (ps : List PredOf) (cs : List Part) (n : Name) → AreProgramsOf ps cs → Apart ps (name_bytes n)
+    → All (λ c. name_bytes c.shape.name ≢ name_bytes n) cs
 names-apart [] [] n h a = All-nil (λ c. name_bytes c.shape.name ≢ name_bytes n)
 names-apart [] (c ∷ cs) n h a = absurd h
 names-apart (p ∷ ps) [] n h a = absurd h
-names-apart (p ∷ ps) (c ∷ cs) n h a = All-cons (λ (d : Part). name_bytes d.shape.name ≢ name_bytes n) c cs (λ e. a.0 (sym h.0.name ∙ e)) (names-apart ps cs n h.1 a.1)
+names-apart (p ∷ ps) (c ∷ cs) n h a =
+    All-cons (λ (d : Part). name_bytes d.shape.name ≢ name_bytes n) c cs (λ e. a.0 (sym h.0.name ∙ e)) (names-apart ps cs n h.1 a.1)
 
-pub name-new : (preds : List Pred) (i : ℕ) (p : Pred) (cs : List Part) (m : Name) → i < length preds → p ≡ get_or preds i p → differ (map (λ q. q.shape_name) (map pred_of preds)) ≡ true → m ≡ p.shape.name
+pub name-new : (preds : List Pred) (i : ℕ) (p : Pred) (cs : List Part) (m : Name) → i < length preds → p ≡ get_or preds i p
+    → differ (map (λ q. q.shape_name) (map pred_of preds)) ≡ true → m ≡ p.shape.name
     → AreProgramsOf (map pred_of (take i preds)) cs → All (λ c. name_bytes c.shape.name ≢ name_bytes m) cs
 name-new preds i p cs m h e d q b =
     let here : drop i preds ≡ p ∷ drop (i + 1) preds = drop_more preds i p h ∙ ap (λ z. z ∷ drop (i + 1) preds) (sym e) in
     let all : map pred_of preds ≡ map pred_of (take i preds) ++ pred_of p ∷ map pred_of (drop (i + 1) preds) =
-    sym (ap (map pred_of) (take-append-drop i preds)) ∙ map-append pred_of (take i preds) (drop i preds) ∙ ap (λ qs. map pred_of (take i preds) ++ map pred_of qs) here in
-    let f : differ (map (λ (z : PredOf). z.shape_name) (map pred_of (take i preds) ++ pred_of p ∷ map pred_of (drop (i + 1) preds))) ≡ true = subst (λ (ps : List PredOf). differ (map (λ (z : PredOf). z.shape_name) ps) ≡ true) all d in
-    let a : Apart (map pred_of (take i preds)) (name_bytes p.shape.name) = apart (map pred_of (take i preds)) (pred_of p) (map pred_of (drop (i + 1) preds)) (differing (map (λ (z : PredOf). z.shape_name) (map pred_of (take i preds) ++ pred_of p ∷ map pred_of (drop (i + 1) preds))) f) in
+    sym (ap (map pred_of) (take-append-drop i preds)) ∙ map-append pred_of (take i preds) (drop i preds)
+    ∙ ap (λ qs. map pred_of (take i preds) ++ map pred_of qs) here in
+    let f : differ (map (λ (z : PredOf). z.shape_name) (map pred_of (take i preds) ++ pred_of p ∷ map pred_of (drop (i + 1) preds))) ≡ true =
+    subst (λ (ps : List PredOf). differ (map (λ (z : PredOf). z.shape_name) ps) ≡ true) all d in
+    let a : Apart (map pred_of (take i preds)) (name_bytes p.shape.name) = apart (map pred_of (take i preds)) (pred_of p) (map pred_of (drop (i + 1) preds))
+    (differing (map (λ (z : PredOf). z.shape_name) (map pred_of (take i preds) ++ pred_of p ∷ map pred_of (drop (i + 1) preds))) f) in
     rw q (names-apart (map pred_of (take i preds)) cs p.shape.name b a)
 
 -- ---- the stage count
@@ -100,9 +112,12 @@ counted-numbers g [] = refl
 counted-numbers g (l ∷ ls) = omega (arith, counted-numbers g ls, length-map l g)
 
 -- the program of a predicate, by its number
-pub program-at : (preds : List Pred) (i : ℕ) (p : Pred) (c : Part) → i < length preds → p ≡ get_or preds i p → IsProgramOf (pred_of p) c → (q : PredOf) → slice_get (map pred_of preds) i ≡ Some q → IsProgramOf q c
+pub program-at : (preds : List Pred) (i : ℕ) (p : Pred) (c : Part) → i < length preds → p ≡ get_or preds i p → IsProgramOf (pred_of p) c
+    → (q : PredOf) → slice_get (map pred_of preds) i ≡ Some q → IsProgramOf q c
 program-at [] i p c h e o q f = absurd (omega (arith, h))
-program-at (x ∷ ps) zero p c h e o q f = let d : pred_of x ≡ q = cc in subst (λ (r : PredOf). IsProgramOf r c) d (subst (λ (y : Pred). IsProgramOf (pred_of y) c) e o)
+program-at (x ∷ ps) zero p c h e o q f =
+    let d : pred_of x ≡ q = cc in
+    subst (λ (r : PredOf). IsProgramOf r c) d (subst (λ (y : Pred). IsProgramOf (pred_of y) c) e o)
 program-at (x ∷ ps) (suc i) p c h e o q f = program-at ps i p c (omega (arith, h)) e o q f
 
 -- the stage count of a predicate, by its number
@@ -127,41 +142,52 @@ differ-behind (u ∷ us) vs d = differ-behind us vs d.1
 pub names-differ : (t : TableOf) → is_whole t ≡ true → differ (map (λ p. p.shape_name) t.preds) ≡ true
 names-differ t h =
     let w = table_parts t h in
-    let d : Differ (map (λ (p : PredOf). p.name) t.preds) = differ-behind (map (λ c. c.name) t.params) (map (λ (p : PredOf). p.name) t.preds) (differ-behind (map (λ s. s.name) t.sites) (map (λ c. c.name) t.params ++ map (λ (p : PredOf). p.name) t.preds) w.names) in
+    let d : Differ (map (λ (p : PredOf). p.name) t.preds) = differ-behind (map (λ c. c.name) t.params) (map (λ (p : PredOf). p.name) t.preds)
+    (differ-behind (map (λ s. s.name) t.sites) (map (λ c. c.name) t.params ++ map (λ (p : PredOf). p.name) t.preds) w.names) in
     differ_test (map (λ p. p.shape_name) t.preds) (subst Differ (sym (same t.preds w.preds)) d) where
       same : (ps : List PredOf) → Every (PredParts t.sites t.params) ps → map (λ (p : PredOf). p.shape_name) ps ≡ map (λ (p : PredOf). p.name) ps
       same [] e = refl
-      same (p ∷ ps) e = let r : map (λ (q : PredOf). q.shape_name) ps ≡ map (λ (q : PredOf). q.name) ps = same ps e.1 in ap (λ z. z ∷ map (λ (q : PredOf). q.shape_name) ps) e.0.shape_name ∙ ap (λ z. p.name ∷ z) r
+      same (p ∷ ps) e =
+          let r : map (λ (q : PredOf). q.shape_name) ps ≡ map (λ (q : PredOf). q.name) ps = same ps e.1 in
+          ap (λ z. z ∷ map (λ (q : PredOf). q.shape_name) ps) e.0.shape_name ∙ ap (λ z. p.name ∷ z) r
 
 -- ---- the programs of a table's predicates, each made on its own
 -- one more, by its number
-more-by-number : (ps : List PredOf) (i : ℕ) (cs : List Part) (c : Part) → i < length ps → IsProgramAt ps i c → AreProgramsOf (take i ps) cs → AreProgramsOf (take (suc i) ps) (cs ++ c ∷ [])
+more-by-number : (ps : List PredOf) (i : ℕ) (cs : List Part) (c : Part) → i < length ps → IsProgramAt ps i c → AreProgramsOf (take i ps) cs
+    → AreProgramsOf (take (suc i) ps) (cs ++ c ∷ [])
 more-by-number [] i cs c h o a = absurd (omega (arith, h))
 more-by-number (p ∷ ps) zero [] c h o a = (o p refl, tt)
 more-by-number (p ∷ ps) zero (d ∷ cs) c h o a = absurd a
 more-by-number (p ∷ ps) (suc i) [] c h o a = absurd a
 more-by-number (p ∷ ps) (suc i) (d ∷ cs) c h o a = (a.0, more-by-number ps i cs c (omega (arith, h)) o a.1)
 
-pub program-more : (ps : List PredOf) (i : ℕ) (cs : List Part) (c : Part) → i < length ps → IsProgramAt ps i c → AreProgramsOf (take i ps) cs → AreProgramsOf (take (i + 1) ps) (cs ++ c ∷ [])
+pub program-more : (ps : List PredOf) (i : ℕ) (cs : List Part) (c : Part) → i < length ps → IsProgramAt ps i c
+    → AreProgramsOf (take i ps) cs → AreProgramsOf (take (i + 1) ps) (cs ++ c ∷ [])
 program-more ps i cs c h o a =
     let n : suc i ≡ i + 1 = omega arith in
     subst (λ m. AreProgramsOf (take m ps) (cs ++ c ∷ [])) n (more-by-number ps i cs c h o a)
 
 -- their names differ as those of the predicates do
-names-behind : (p : PredOf) (c : Part) (ps : List PredOf) (cs : List Part) → name_bytes c.shape.name ≡ p.shape_name → NoneIs p.shape_name (map (λ (q : PredOf). q.shape_name) ps) → AreProgramsOf ps cs → All (λ (d : Part). name_bytes c.shape.name ≢ name_bytes d.shape.name) cs
+names-behind : (p : PredOf) (c : Part) (ps : List PredOf) (cs : List Part) → name_bytes c.shape.name ≡ p.shape_name
+    → NoneIs p.shape_name (map (λ (q : PredOf). q.shape_name) ps) → AreProgramsOf ps cs
+    → All (λ (d : Part). name_bytes c.shape.name ≢ name_bytes d.shape.name) cs
 names-behind p c [] [] e n a = All-nil (λ (d : Part). name_bytes c.shape.name ≢ name_bytes d.shape.name)
 names-behind p c [] (d ∷ cs) e n a = absurd a
 names-behind p c (q ∷ ps) [] e n a = absurd a
-names-behind p c (q ∷ ps) (d ∷ cs) e n a = All-cons (λ (d : Part). name_bytes c.shape.name ≢ name_bytes d.shape.name) d cs (λ x. none-behind p.shape_name [] q ps n (sym e ∙ x ∙ a.0.name)) (names-behind p c ps cs e n.1 a.1)
+names-behind p c (q ∷ ps) (d ∷ cs) e n a = All-cons (λ (d : Part). name_bytes c.shape.name ≢ name_bytes d.shape.name) d cs
+    (λ x. none-behind p.shape_name [] q ps n (sym e ∙ x ∙ a.0.name)) (names-behind p c ps cs e n.1 a.1)
 
-names-of-programs : (ps : List PredOf) (cs : List Part) → Differ (map (λ (p : PredOf). p.shape_name) ps) → AreProgramsOf ps cs → AllPairs (λ (c d : Part). name_bytes c.shape.name ≢ name_bytes d.shape.name) cs
+names-of-programs : (ps : List PredOf) (cs : List Part) → Differ (map (λ (p : PredOf). p.shape_name) ps) → AreProgramsOf ps cs
+    → AllPairs (λ (c d : Part). name_bytes c.shape.name ≢ name_bytes d.shape.name) cs
 names-of-programs [] [] d a = λ i j e l m. absurd (omega arith)
 names-of-programs [] (c ∷ cs) d a = absurd a
 names-of-programs (p ∷ ps) [] d a = absurd a
-names-of-programs (p ∷ ps) (c ∷ cs) d a = AllPairs-cons (λ (c d : Part). name_bytes c.shape.name ≢ name_bytes d.shape.name) c cs (names-behind p c ps cs a.0.name d.0 a.1) (names-of-programs ps cs d.1 a.1)
+names-of-programs (p ∷ ps) (c ∷ cs) d a = AllPairs-cons (λ (c d : Part). name_bytes c.shape.name ≢ name_bytes d.shape.name) c cs
+    (names-behind p c ps cs a.0.name d.0 a.1) (names-of-programs ps cs d.1 a.1)
 
 pub programs-of-table : (t : Table) (cs : List Part) → AreProgramsOf (map pred_of t.preds) cs → All (λ (c : Part). length c.blocks ≤ 65536) cs → ArePrograms cs
 programs-of-table t cs a s = record {
-  names = names-of-programs (map pred_of t.preds) cs (differing (map (λ (p : PredOf). p.shape_name) (map pred_of t.preds)) (names-differ (table_of t.sites t.params t.preds) t.whole)) a;
+  names = names-of-programs (map pred_of t.preds) cs
+      (differing (map (λ (p : PredOf). p.shape_name) (map pred_of t.preds)) (names-differ (table_of t.sites t.params t.preds) t.whole)) a;
   small = s;
 }

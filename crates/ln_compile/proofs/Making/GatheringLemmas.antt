@@ -26,7 +26,8 @@ first-stays [] ys c h = cc
 first-stays (x ∷ xs) ys c h = h
 
 -- the first block
-pub blocks-begin : (p : PredOf) (f : Sparse) (exps : List Pairs) (old blocks : List Code) (c : Code) → old ≡ [] → blocks ≡ old ++ c ∷ [] → 0 < length exps → vector (length p.vars) (get_or exps 0 []) ≡ zeros (length p.vars)
+pub blocks-begin : (p : PredOf) (f : Sparse) (exps : List Pairs) (old blocks : List Code) (c : Code) → old ≡ [] → blocks ≡ old ++ c ∷ []
+    → 0 < length exps → vector (length p.vars) (get_or exps 0 []) ≡ zeros (length p.vars)
     → IsOwn p c → IsBlockOf p.vars f c → length c.ops ≤ 524352 → AreBlocksOf p f (take 1 exps) blocks
 blocks-begin p f [] old blocks c a e l z o b s = absurd (omega arith)
 blocks-begin p f (x ∷ xs) old blocks c a e l z o b s =
@@ -44,25 +45,32 @@ blocks-begin p f (x ∷ xs) old blocks c a e l z o b s =
     subst (λ (bs : List Code). AreBlocksOf p f (x ∷ []) bs) g one
 
 -- one block more
-pub blocks-more : (p : PredOf) (f : Sparse) (exps : List Pairs) (i : ℕ) (old blocks : List Code) (c : Code) (a : Pairs) → i < length exps → a ≡ get_or exps i [] → blocks ≡ old ++ c ∷ [] → c.exps ≡ a
-    → IsBlockOf p.vars f c → length c.ops ≤ 4096 * covering (length p.vars) f (vector (length p.vars) a) + 68 → AreBlocksOf p f (take i exps) old → AreBlocksOf p f (take (i + 1) exps) blocks
+pub blocks-more : (p : PredOf) (f : Sparse) (exps : List Pairs) (i : ℕ) (old blocks : List Code) (c : Code) (a : Pairs) → i < length exps
+    → a ≡ get_or exps i [] → blocks ≡ old ++ c ∷ [] → c.exps ≡ a
+    → IsBlockOf p.vars f c → length c.ops ≤ 4096 * covering (length p.vars) f (vector (length p.vars) a) + 68
+    → AreBlocksOf p f (take i exps) old → AreBlocksOf p f (take (i + 1) exps) blocks
 blocks-more p f exps i old blocks c a l q e x b s h =
     let t : take i exps ++ a ∷ [] ≡ take (i + 1) exps = sym (take_more exps i [] l ∙ ap (λ y. take i exps ++ y ∷ []) (sym q)) in
     let n : ℕ = length p.vars in
-    let m : map (vector (length p.vars)) (take i exps ++ a ∷ []) ≡ map (vector (length p.vars)) (take i exps) ++ vector (length p.vars) a ∷ [] = map-append (vector (length p.vars)) (take i exps) (a ∷ []) in
-    let k : map (λ (d : Code). vector (length p.vars) d.exps) (old ++ c ∷ []) ≡ map (λ (d : Code). vector (length p.vars) d.exps) old ++ vector (length p.vars) c.exps ∷ [] = map-append (λ (d : Code). vector (length p.vars) d.exps) old (c ∷ []) in
-    let w : all_covering (length p.vars) f (map (vector (length p.vars)) (take i exps ++ a ∷ [])) ≡ all_covering (length p.vars) f (map (vector (length p.vars)) (take i exps)) + (covering (length p.vars) f (vector (length p.vars) a) + 0) =
+    let m : map (vector (length p.vars)) (take i exps ++ a ∷ []) ≡ map (vector (length p.vars)) (take i exps) ++ vector (length p.vars) a ∷ [] =
+    map-append (vector (length p.vars)) (take i exps) (a ∷ []) in
+    let k : map (λ (d : Code). vector (length p.vars) d.exps) (old ++ c ∷ []) ≡ map (λ (d : Code). vector (length p.vars) d.exps) old
+    ++ vector (length p.vars) c.exps ∷ [] = map-append (λ (d : Code). vector (length p.vars) d.exps) old (c ∷ []) in
+    let w : all_covering (length p.vars) f (map (vector (length p.vars)) (take i exps ++ a ∷ []))
+    ≡ all_covering (length p.vars) f (map (vector (length p.vars)) (take i exps)) + (covering (length p.vars) f (vector (length p.vars) a) + 0) =
     ap (all_covering (length p.vars) f) m ∙ covering-append (length p.vars) f (map (vector (length p.vars)) (take i exps)) (vector (length p.vars) a ∷ []) in
     let one : AreBlocksOf p f (take i exps ++ a ∷ []) (old ++ c ∷ []) = record {
       own = h.own;
       first = first-stays old (c ∷ []) h.own h.first;
       is_own = h.is_own;
       small = h.small;
-      vectors = k ∙ ap (λ y. map (λ (d : Code). vector (length p.vars) d.exps) old ++ vector (length p.vars) y ∷ []) x ∙ ap (λ y. y ++ vector (length p.vars) a ∷ []) h.vectors ∙ sym m;
+      vectors = k ∙ ap (λ y. map (λ (d : Code). vector (length p.vars) d.exps) old ++ vector (length p.vars) y ∷ []) x
+          ∙ ap (λ y. y ++ vector (length p.vars) a ∷ []) h.vectors ∙ sym m;
       each = All-push (IsBlockOf p.vars f) old c h.each b;
       few = omega (arith, h.few, s, w, ops-append old (c ∷ []), length-append (take i exps) (a ∷ []));
     } in
     subst (λ (ys : List Pairs). AreBlocksOf p f ys blocks) t (subst (λ (bs : List Code). AreBlocksOf p f (take i exps ++ a ∷ []) bs) (sym e) one)
 
-pub blocks-end : (p : PredOf) (f : Sparse) (exps : List Pairs) (i : ℕ) (blocks : List Code) → length exps ≤ i → AreBlocksOf p f (take i exps) blocks → AreBlocksOf p f exps blocks
+pub blocks-end : (p : PredOf) (f : Sparse) (exps : List Pairs) (i : ℕ) (blocks : List Code) → length exps ≤ i
+    → AreBlocksOf p f (take i exps) blocks → AreBlocksOf p f exps blocks
 blocks-end p f exps i blocks l h = subst (λ (ys : List Pairs). AreBlocksOf p f ys blocks) (take_all i exps l) h

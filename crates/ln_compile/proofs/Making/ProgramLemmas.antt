@@ -29,16 +29,18 @@ use Rattle.ln_compile.proofs.Listing.ListLemmas.{of-each, order-stages, staged}
 use Rattle.ln_compile.proofs.Listing.ListingLemmas.{lists-are, stages-few}
 
 -- ---- exponents with the same vectors
-same-at : (n : ℕ) (blocks : List Code) (exps : List Pairs) → map (λ (c : Code). vector n c.exps) blocks ≡ map (vector n) exps → (i : ℕ) → block_vector n (map (λ (c : Code). c.exps) blocks) i ≡ block_vector n exps i
+same-at : (n : ℕ) (blocks : List Code) (exps : List Pairs) → map (λ (c : Code). vector n c.exps) blocks ≡ map (vector n) exps → (i : ℕ)
+    → block_vector n (map (λ (c : Code). c.exps) blocks) i ≡ block_vector n exps i
 same-at n [] [] e i = refl
 same-at n [] (x ∷ xs) e i = cc
 same-at n (c ∷ cs) [] e i = cc
 same-at n (c ∷ cs) (x ∷ xs) e zero = (heads (vector n c.exps) (vector n x) (map (λ (d : Code). vector n d.exps) cs) (map (vector n) xs) e).0 where
   heads : (a b : List ℕ) (as' bs : List (List ℕ)) → a ∷ as' ≡ b ∷ bs → (a ≡ b) × (as' ≡ bs)
   heads a b as' bs q = (cc, cc)
-same-at n (c ∷ cs) (x ∷ xs) e (suc i) = same-at n cs xs (tails (vector n c.exps) (vector n x) (map (λ (d : Code). vector n d.exps) cs) (map (vector n) xs) e) i where
-  tails : (a b : List ℕ) (as' bs : List (List ℕ)) → a ∷ as' ≡ b ∷ bs → as' ≡ bs
-  tails a b as' bs q = cc
+same-at n (c ∷ cs) (x ∷ xs) e (suc i) = same-at n cs xs (tails (vector n c.exps) (vector n x) (map (λ (d : Code). vector n d.exps) cs) (map (vector n) xs) e) i
+  where
+    tails : (a b : List ℕ) (as' bs : List (List ℕ)) → a ∷ as' ≡ b ∷ bs → as' ≡ bs
+    tails a b as' bs q = cc
 
 map-same : {A B : Type 0} (g h : A → B) (xs : List A) → ((x : A) → g x ≡ h x) → map g xs ≡ map h xs
 map-same g h [] e = refl
@@ -47,17 +49,24 @@ map-same g h (x ∷ xs) e = let r : map g xs ≡ map h xs = map-same g h xs e in
 -- the exponents of blocks with the vectors of the stages have the stages' lists
 same-vectors : (s : Shape) (st : Staged) (blocks : List Code) → map (λ (c : Code). vector (length s.vars) c.exps) blocks ≡ map (vector (length s.vars)) st.exps
     → map (λ list. map (block_vector (length s.vars) (map (λ (c : Code). c.exps) blocks)) list) st.lists ≡ vectors_of (length s.vars) st
-same-vectors s st blocks e = map-same (λ list. map (block_vector (length s.vars) (map (λ (c : Code). c.exps) blocks)) list) (λ list. map (block_vector (length s.vars) st.exps) list) st.lists (λ list. map-same (block_vector (length s.vars) (map (λ (c : Code). c.exps) blocks)) (block_vector (length s.vars) st.exps) list (same-at (length s.vars) blocks st.exps e))
+same-vectors s st blocks e = map-same (λ list. map (block_vector (length s.vars) (map (λ (c : Code). c.exps) blocks)) list)
+    (λ list. map (block_vector (length s.vars) st.exps) list) st.lists (λ list. map-same (block_vector (length s.vars)
+    (map (λ (c : Code). c.exps) blocks)) (block_vector (length s.vars) st.exps) list (same-at (length s.vars) blocks st.exps e))
 
-blocks-length : (n : ℕ) (blocks : List Code) (exps : List Pairs) → map (λ (c : Code). vector n c.exps) blocks ≡ map (vector n) exps → length blocks ≡ length exps
+blocks-length : (n : ℕ) (blocks : List Code) (exps : List Pairs) → map (λ (c : Code). vector n c.exps) blocks ≡ map (vector n) exps
+    → length blocks ≡ length exps
 blocks-length n blocks exps e = omega (arith, ap length e, length-map blocks (λ (c : Code). vector n c.exps), length-map exps (vector n))
 
 few-ops : (first ops cover len : ℕ) → first ≤ 1048640 → ops ≤ 524352 + 4096 * cover + 68 * len → cover ≤ 131072 → len ≤ 65536 → first + ops < 2 ^ 32
 few-ops first ops cover len f h k l = omega (arith, f, h, k, l)
 
-module _ (p : Pred) (f : Sparse) (st : Staged) (blocks : List Code) (light : AreLight (loaded_of (pred_of p))) (normal : IsNormal (length p.shape.vars) (root_of (pred_of p)) f) (some : f ≢ []) (stages : AreStagesOf p.shape.sites p.shape.vars f st)
-    (count : stage_count (vectors_of (length p.shape.vars) st) ≤ 65536) (heavy : stage_weight (length p.shape.vars) f (vectors_of (length p.shape.vars) st) ≤ 131072) (made : AreBlocksOf (pred_of p) f st.exps blocks)
-    (filter : Option FilterCode) (own : IsFilterOf (pred_of p) filter) (rules : IfSome filter (FollowsFilterRules p.shape.vars)) (whole : IfSome filter (CarriesWhole p.shape.vars (terms_of (length p.shape.vars) f))) (short : ops_in_filter filter ≤ 1048640) (pushes : IfSome filter (FilterPushesSmall p.shape.vars)) where
+module _ (p : Pred) (f : Sparse) (st : Staged) (blocks : List Code) (light : AreLight (loaded_of (pred_of p)))
+    (normal : IsNormal (length p.shape.vars) (root_of (pred_of p)) f) (some : f ≢ []) (stages : AreStagesOf p.shape.sites p.shape.vars f st)
+    (count : stage_count (vectors_of (length p.shape.vars) st) ≤ 65536) (heavy : stage_weight (length p.shape.vars) f
+    (vectors_of (length p.shape.vars) st) ≤ 131072) (made : AreBlocksOf (pred_of p) f st.exps blocks)
+    (filter : Option FilterCode) (own : IsFilterOf (pred_of p) filter) (rules : IfSome filter (FollowsFilterRules p.shape.vars))
+    (whole : IfSome filter (CarriesWhole p.shape.vars (terms_of (length p.shape.vars) f))) (short : ops_in_filter filter ≤ 1048640)
+    (pushes : IfSome filter (FilterPushesSmall p.shape.vars)) where
   abbrev pub part : Part
   part = record { shape = p.shape; filter = filter; blocks = blocks; segments = st.segments }
 
@@ -72,17 +81,24 @@ module _ (p : Pred) (f : Sparse) (st : Staged) (blocks : List Code) (light : Are
   own-lists = sym (stages.segments.make ∙ ap (λ n. map (λ o. segments_from (beside (prefixes_of n) st.segments) o 0) (orders_of p.shape.sites)) stages.sites)
 
   own-vectors : vectors_of (length p.shape.vars) (staged part) ≡ vectors_of (length p.shape.vars) st
-  own-vectors = ap (map (λ list. map (block_vector (length p.shape.vars) (map (λ (c : Code). c.exps) blocks)) list)) own-lists ∙ same-vectors p.shape st blocks made.vectors
+  own-vectors = ap (map (λ list. map (block_vector (length p.shape.vars) (map (λ (c : Code). c.exps) blocks)) list)) own-lists
+      ∙ same-vectors p.shape st blocks made.vectors
 
   pub is-program : IsProgram part
   is-program = record {
     blocks = λ k d l. (made.each k d l).block.rules;
     filter = rules;
-    few = omega (arith, few-ops (ops_in_filter filter) (ops_in_blocks blocks) (all_covering (length p.shape.vars) f (map (vector (length p.shape.vars)) st.exps)) (length st.exps) short made.few (omega (arith, heavy, ap (all_covering (length p.shape.vars) f) stages.first_sight)) (omega (arith, stages-few p.shape.sites p.shape.vars f st stages, count)));
+    few = omega (
+      arith,
+      few-ops (ops_in_filter filter) (ops_in_blocks blocks) (all_covering (length p.shape.vars) f (map (vector (length p.shape.vars)) st.exps))
+          (length st.exps) short made.few (omega (arith, heavy, ap (all_covering (length p.shape.vars) f) stages.first_sight))
+          (omega (arith, stages-few p.shape.sites p.shape.vars f st stages, count)),
+    );
     of_sites = λ k d l. (made.each k d l).block.of_sites;
     prefixes = stages.segments.size;
     named = subst (λ n. All (λ segment. All (λ i. i < n) segment) st.segments) (sym as-many) stages.segments.numbers;
-    lists = λ o h. of-each p.shape.sites (list_of part) st.lists (IsList (length blocks)) o (sym own-lists) (subst (λ n. All (IsList n) st.lists) (sym as-many) (lists-are p.shape.sites p.shape.vars f st stages normal.form normal.below some)) h;
+    lists = λ o h. of-each p.shape.sites (list_of part) st.lists (IsList (length blocks)) o (sym own-lists)
+        (subst (λ n. All (IsList n) st.lists) (sym as-many) (lists-are p.shape.sites p.shape.vars f st stages normal.form normal.below some)) h;
   }
 
   pub is-program-of : IsProgramOf (pred_of p) part
@@ -94,9 +110,11 @@ module _ (p : Pred) (f : Sparse) (st : Staged) (blocks : List Code) (light : Are
     poly = f;
     normal = normal;
     carries = record {
-      inputs = (root-light (length p.shape.vars) two (closed_lets p.shape.vars (map formula p.lets)) (tree p.shape.vars (formula p.root)) (pred-expands p.args p.shape.vars p.lets (length p.let_names) p.root p.kept light).1).inputs;
+      inputs = (root-light (length p.shape.vars) two (closed_lets p.shape.vars (map formula p.lets)) (tree p.shape.vars (formula p.root))
+          (pred-expands p.args p.shape.vars p.lets (length p.let_names) p.root p.kept light).1).inputs;
       normal = normal.normal;
-      lists = λ places list l. order-stages part (root_of (pred_of p)) f places list normal.normal (subst (AreStageLists p.shape.sites p.shape.vars f) (sym own-vectors) stages.lists) l;
+      lists = λ places list l. order-stages part (root_of (pred_of p)) f places list normal.normal
+          (subst (AreStageLists p.shape.sites p.shape.vars f) (sym own-vectors) stages.lists) l;
       blocks = λ k d l. (made.each k d l).block.carries;
       filter = whole;
     };

@@ -19,10 +19,12 @@ light-more (x ∷ done) n l h = (l.0, light-more done n l.1 h)
 
 light-from : (done rest : List (Span × ℕ)) → AreLight done → ((at : Span) → IsBoundFault (done ++ rest) at → ⊥) → AreLight rest
 light-from done [] l nay = tt
-light-from done (n ∷ rest) l nay = by_case (cases_lt most n.1) (λ h. light-from (done ++ n ∷ []) rest (light-more done n l h) (λ at f. nay at (subst (λ ns. IsBoundFault ns at) (append_assoc done (n ∷ []) rest) f))) where
-  by_case : (most < n.1) ⊎ (n.1 ≤ most) → (n.1 ≤ most → AreLight rest) → AreLight (n ∷ rest)
-  by_case (inl h) go = absurd (nay n.0 (record { before = done; weight = n.1; after = rest; stands = refl; light = l; heavy = h }))
-  by_case (inr h) go = (h, go h)
+light-from done (n ∷ rest) l nay = by_case (cases_lt most n.1)
+    (λ h. light-from (done ++ n ∷ []) rest (light-more done n l h) (λ at f. nay at (subst (λ ns. IsBoundFault ns at) (append_assoc done (n ∷ []) rest) f)))
+  where
+    by_case : (most < n.1) ⊎ (n.1 ≤ most) → (n.1 ≤ most → AreLight rest) → AreLight (n ∷ rest)
+    by_case (inl h) go = absurd (nay n.0 (record { before = done; weight = n.1; after = rest; stands = refl; light = l; heavy = h }))
+    by_case (inr h) go = (h, go h)
 
 few-more : (n : ℕ) (done : List (Span × Tree)) (x : Span × Tree) → HaveFewTerms n done → (HasTooManyTerms n x.1 → ⊥) → HaveFewTerms n (done ++ x ∷ [])
 few-more n [] x l h = (h, tt)
@@ -30,7 +32,10 @@ few-more n (y ∷ done) x l h = (l.0, few-more n done x l.1 h)
 
 few-from : (n : ℕ) (done rest : List (Span × Tree)) → HaveFewTerms n done → ((at : Span) → IsTermsFault n (done ++ rest) at → ⊥) → HaveFewTerms n rest
 few-from n done [] l nay = tt
-few-from n done (x ∷ rest) l nay = (here, few-from n (done ++ x ∷ []) rest (few-more n done x l here) (λ at f. nay at (subst (λ ns. IsTermsFault n ns at) (append_assoc done (x ∷ []) rest) f))) where
+few-from n done (x ∷ rest) l nay = (
+  here,
+  few-from n (done ++ x ∷ []) rest (few-more n done x l here) (λ at f. nay at (subst (λ ns. IsTermsFault n ns at) (append_assoc done (x ∷ []) rest) f)),
+) where
   here : HasTooManyTerms n x.1 → ⊥
   here m = nay x.0 (record { before = done; node = x.1; after = rest; stands = refl; few = l; many = m })
 
@@ -44,7 +49,8 @@ sound-one k p nay =
       few = t;
       whole = λ h. nay (Bound k (token_of p.root)) (heavy l t h);
       nonzero = λ z. nay (Zero k p.at) (zero l t (λ h. nay (Bound k (token_of p.root)) (heavy l t h)) z);
-      staged = λ s. nay (Stages k p.at) (stages l t (λ h. nay (Bound k (token_of p.root)) (heavy l t h)) (λ z. nay (Zero k p.at) (zero l t (λ h. nay (Bound k (token_of p.root)) (heavy l t h)) z)) s);
+      staged = λ s. nay (Stages k p.at) (stages l t (λ h. nay (Bound k (token_of p.root)) (heavy l t h))
+          (λ z. nay (Zero k p.at) (zero l t (λ h. nay (Bound k (token_of p.root)) (heavy l t h)) z)) s);
     }
 
 -- ---- predicates
@@ -54,9 +60,11 @@ sound-more (x ∷ done) p s h = (s.0, sound-more done p s.1 h)
 
 sound-from : (done rest : List PredOf) → AreSound done → ((r : Refusal) → IsFirstFault (done ++ rest) r → ⊥) → AreSound rest
 sound-from done [] s nay = tt
-sound-from done (p ∷ rest) s nay = (here, sound-from (done ++ p ∷ []) rest (sound-more done p s here) (λ r f. nay r (subst (λ ps. IsFirstFault ps r) (append_assoc done (p ∷ []) rest) f))) where
-  here : IsSound p
-  here = sound-one (length done) p (λ r f. nay r (record { before = done; pred = p; after = rest; stands = refl; sound = s; fault = f }))
+sound-from done (p ∷ rest) s nay =
+    (here, sound-from (done ++ p ∷ []) rest (sound-more done p s here) (λ r f. nay r (subst (λ ps. IsFirstFault ps r) (append_assoc done (p ∷ []) rest) f)))
+  where
+    here : IsSound p
+    here = sound-one (length done) p (λ r f. nay r (record { before = done; pred = p; after = rest; stands = refl; sound = s; fault = f }))
 
 pub faultless-accepted : FaultlessIsAccepted
 faultless-accepted bytes t text nay = record { text = text; sound = sound-from [] t.preds tt (λ r f. nay r (of_pred t text f)) }

@@ -1,5 +1,6 @@
 -- The predicates of a table, judged one after the other.
-use Rattle.std.proofs.Common.{◌≡◌, inl, inr, ℕ, ◌+◌, ◌<◌, ◌≤◌, zero, suc, List, [], ◌∷◌, ◌++◌, length, map, take, drop, get_or, refl, ap, sym, subst, ◌∙◌, arith}
+use Rattle.std.proofs.Common.{◌≡◌, inl, inr, ℕ, ◌+◌, ◌<◌, ◌≤◌, zero, suc, List, [], ◌∷◌, ◌++◌, length, map, take, drop, get_or, refl, ap}
+use Rattle.std.proofs.Common.{sym, subst, ◌∙◌, arith}
 use Rattle.std.proofs.lemmas.List.{drop_more, map-append, take-append-drop, take_all, take_more}
 use Rattle.std.specs.Prelude.{nat_le, ◌&&◌, true}
 use Rattle.std.proofs.lemmas.Bool.{and_parts}
@@ -29,7 +30,8 @@ use Rattle.ln_parse.specs.Fault.{IsRefusal as IsParseRefusal}
 use Rattle.ln_compile.specs.declared.refusal.Refusal.{Refusal}
 use Rattle.ln_compile.specs.declared.refusal.Refusal.TheVariants.{Bound, Terms, Zero}
 use Rattle.ln_compile.specs.Accepted.{AreSound, IsHeavyFault, IsSound, expanded_of, loaded_of, root_of}
-use Rattle.ln_compile.specs.Refused.{IsPredFault, IsRefusal, StopsPred, StopsPreds, bound, heavy, of_pred, of_text, refusal_of, terms, token_of, zero as zero_root}
+use Rattle.ln_compile.specs.Refused.{IsPredFault, IsRefusal, StopsPred, StopsPreds, bound, heavy, of_pred, of_text, refusal_of, terms}
+use Rattle.ln_compile.specs.Refused.{token_of, zero as zero_root}
 use Rattle.ln_poly.proofs.Derivations.Combined.{everywhere, once}
 
 -- one more
@@ -37,9 +39,11 @@ sound-more : (ps : List PredOf) (p : PredOf) → AreSound ps → IsSound p → A
 sound-more [] p h l = (l, tt)
 sound-more (q ∷ ps) p h l = (h.0, sound-more ps p h.1 l)
 
-pub judged_more : (preds : List Pred) (i : ℕ) (p : Pred) → i < length preds → p ≡ get_or preds i p → AreSound (map pred_of (take i preds)) → IsSound (pred_of p) → AreSound (map pred_of (take (i + 1) preds))
+pub judged_more : (preds : List Pred) (i : ℕ) (p : Pred) → i < length preds → p ≡ get_or preds i p → AreSound (map pred_of (take i preds))
+    → IsSound (pred_of p) → AreSound (map pred_of (take (i + 1) preds))
 judged_more preds i p h e s l =
-    let f : map pred_of (take (i + 1) preds) ≡ map pred_of (take i preds) ++ pred_of p ∷ [] = ap (map pred_of) (take_more preds i p h ∙ ap (λ q. take i preds ++ q ∷ []) (sym e)) ∙ map-append pred_of (take i preds) (p ∷ []) in
+    let f : map pred_of (take (i + 1) preds) ≡ map pred_of (take i preds) ++ pred_of p ∷ [] =
+    ap (map pred_of) (take_more preds i p h ∙ ap (λ q. take i preds ++ q ∷ []) (sym e)) ∙ map-append pred_of (take i preds) (p ∷ []) in
     subst AreSound (sym f) (sound-more (map pred_of (take i preds)) (pred_of p) s l)
 
 pub judged_all : (preds : List Pred) (i : ℕ) → length preds ≤ i → AreSound (map pred_of (take i preds)) → AreSound (map pred_of preds)
@@ -51,36 +55,43 @@ length-front (p ∷ ps) zero h = refl
 length-front (p ∷ ps) (suc i) h = ap suc (length-front ps i (omega arith))
 
 -- the first predicate with a fault
-pub first_fault : (preds : List Pred) (i : ℕ) (p : Pred) (r : Refusal) → i < length preds → p ≡ get_or preds i p → AreSound (map pred_of (take i preds)) → StopsPred i (pred_of p) r → StopsPreds (map pred_of preds) r
+pub first_fault : (preds : List Pred) (i : ℕ) (p : Pred) (r : Refusal) → i < length preds → p ≡ get_or preds i p
+    → AreSound (map pred_of (take i preds)) → StopsPred i (pred_of p) r → StopsPreds (map pred_of preds) r
 first_fault preds i p r h e s (inr n) = inr n
 first_fault preds i p r h e s (inl f) =
     let here : drop i preds ≡ p ∷ drop (i + 1) preds = drop_more preds i p h ∙ ap (λ q. q ∷ drop (i + 1) preds) (sym e) in
     let all : map pred_of preds ≡ map pred_of (take i preds) ++ pred_of p ∷ map pred_of (drop (i + 1) preds) =
-    sym (ap (map pred_of) (take-append-drop i preds)) ∙ map-append pred_of (take i preds) (drop i preds) ∙ ap (λ qs. map pred_of (take i preds) ++ map pred_of qs) here in
+    sym (ap (map pred_of) (take-append-drop i preds)) ∙ map-append pred_of (take i preds) (drop i preds)
+    ∙ ap (λ qs. map pred_of (take i preds) ++ map pred_of qs) here in
     let g : IsPredFault (length (map pred_of (take i preds))) (pred_of p) r = subst (λ k. IsPredFault k (pred_of p) r) (sym (length-front preds i h)) f in
     inl (record { before = map pred_of (take i preds); pred = pred_of p; after = map pred_of (drop (i + 1) preds); stands = all; sound = s; fault = g })
 
 -- ---- weights of one expression's normal polynomials
 weigh-same : (w : ℕ → ℕ) (n : ℕ) (e : Tree) (f g : Sparse) → IsNormal n e f → IsNormal n e g → weighted_sum w (terms_of n f) ≤ weighted_sum w (terms_of n g)
-weigh-same w n e f g p q = weighted-least w (terms_of n f) (terms_of n g) (once (terms_of n f) (collected n f p.form p.below)) (everywhere n (terms_of n f) (terms_of n g) (over-terms n f) (over-terms n g) (λ m l. p.normal.coefficients m l ∙ sym (q.normal.coefficients m l)))
+weigh-same w n e f g p q = weighted-least w (terms_of n f) (terms_of n g) (once (terms_of n f) (collected n f p.form p.below))
+    (everywhere n (terms_of n f) (terms_of n g) (over-terms n f) (over-terms n g) (λ m l. p.normal.coefficients m l ∙ sym (q.normal.coefficients m l)))
 
--- ---- the answers for one predicate
+-- ---- the refusals of one predicate
 pub bound_stops : (k : ℕ) (p : PredOf) (at : Span) → IsBoundFault (loaded_of p) at → StopsPred k p (Bound k at)
 bound_stops k p at f = inl (bound f)
 
 pub terms_stops : (k : ℕ) (p : PredOf) (at : Span) → AreLight (loaded_of p) → IsTermsFault (length p.vars) (expanded_of p) at → StopsPred k p (Terms k at)
 terms_stops k p at l f = inl (terms l f)
 
-pub heavy_stops : (k : ℕ) (p : PredOf) (f : Sparse) (at : Span) → at ≡ token_of p.root → AreLight (loaded_of p) → HaveFewTerms (length p.vars) (expanded_of p) → IsNormal (length p.vars) (root_of p) f → most < weighted_sum (weights p.vars) (terms_of (length p.vars) f) → StopsPred k p (Bound k at)
+pub heavy_stops : (k : ℕ) (p : PredOf) (f : Sparse) (at : Span) → at ≡ token_of p.root → AreLight (loaded_of p) → HaveFewTerms (length p.vars) (expanded_of p)
+    → IsNormal (length p.vars) (root_of p) f → most < weighted_sum (weights p.vars) (terms_of (length p.vars) f) → StopsPred k p (Bound k at)
 heavy_stops k p f at e l t n h = rw e (inl (heavy l t (record { poly = f; normal = n; heavy = h })))
 
-pub zero_stops : (k : ℕ) (p : PredOf) (f : Sparse) → AreLight (loaded_of p) → HaveFewTerms (length p.vars) (expanded_of p) → (IsHeavyFault p → ⊥) → IsNormal (length p.vars) (root_of p) f → f ≡ [] → StopsPred k p (Zero k p.at)
+pub zero_stops : (k : ℕ) (p : PredOf) (f : Sparse) → AreLight (loaded_of p) → HaveFewTerms (length p.vars) (expanded_of p)
+    → (IsHeavyFault p → ⊥) → IsNormal (length p.vars) (root_of p) f → f ≡ [] → StopsPred k p (Zero k p.at)
 zero_stops k p f l t w n e = inl (zero_root l t w (no-terms-zero (length p.vars) (root_of p) f n e))
 
 -- all normal polynomials of one expression weigh the same, so a predicate is no heavier as a whole than one of them
-pub not_heavy : (p : PredOf) (f : Sparse) → IsNormal (length p.vars) (root_of p) f → weighted_sum (weights p.vars) (terms_of (length p.vars) f) ≤ most → IsHeavyFault p → ⊥
+pub not_heavy : (p : PredOf) (f : Sparse) → IsNormal (length p.vars) (root_of p) f
+    → weighted_sum (weights p.vars) (terms_of (length p.vars) f) ≤ most → IsHeavyFault p → ⊥
 not_heavy p f n l h =
-    let m : weighted_sum (weights p.vars) (terms_of (length p.vars) h.poly) ≤ weighted_sum (weights p.vars) (terms_of (length p.vars) f) = weigh-same (weights p.vars) (length p.vars) (root_of p) h.poly f h.normal n in
+    let m : weighted_sum (weights p.vars) (terms_of (length p.vars) h.poly) ≤ weighted_sum (weights p.vars) (terms_of (length p.vars) f) =
+    weigh-same (weights p.vars) (length p.vars) (root_of p) h.poly f h.normal n in
     let k = h.heavy in
     absurd (omega (arith, l, m, k))
 
@@ -98,7 +109,7 @@ own_token e = by_node e.at e.node
     by_node at (Mul' q a x r b y) = refl
     by_node at (Pow' q a x n) = refl
 
--- ---- the answers for a source
+-- ---- the refusals of a source
 pub text_refusal : (bytes : List ℕ) (e : ParseStop) → IsParseRefusal bytes e → IsRefusal bytes (refusal_of e)
 text_refusal bytes e (inl f) = inl (of_text f)
 text_refusal bytes e (inr n) = inr (ap refusal_of n)

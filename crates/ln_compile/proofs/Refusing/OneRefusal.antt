@@ -1,4 +1,4 @@
--- A source has one answer.
+-- A source has one result.
 use Rattle.std.proofs.Common.{◌≡◌, inl, inr, ℕ, ◌<◌, ◌≤◌, List, [], ◌∷◌, ◌++◌, length, suc, refl, ap, sym, subst, ◌∙◌, arith}
 use Rattle.std.specs.List.{AllByRecursion}
 use Rattle.ln_base.specs.declared.span.Span.{Span}
@@ -10,14 +10,16 @@ use Rattle.ln_parse.proofs.Settling.OneAnswer.{no_fault, one_fault, one_table}
 use Rattle.ln_compile.specs.declared.refusal.Refusal.{Refusal}
 use Rattle.ln_compile.specs.declared.refusal.Refusal.TheVariants.{Bound, Terms}
 use Rattle.ln_compile.specs.Accepted.{Accepted, AreSound, IsSound, expanded_of, loaded_of}
-use Rattle.ln_compile.specs.Refused.{IsFirstFault, IsNoMemory, IsPredFault, IsRefusal, IsRefusedFor, IsTheOne, IsUnaccepted, StopsPred, bound, heavy, of_pred, of_text, refusal_of, stages, terms, zero}
+use Rattle.ln_compile.specs.Refused.{IsFirstFault, IsNoMemory, IsPredFault, IsRefusal, IsRefusedFor, IsTheOne, IsUnaccepted, StopsPred}
+use Rattle.ln_compile.specs.Refused.{bound, heavy, of_pred, of_text, refusal_of, stages, terms, zero}
 
 -- ---- the first that isn't good
 heads : {A : Type 0} (x y : A) (xs ys : List A) → x ∷ xs ≡ y ∷ ys → (x ≡ y) × (xs ≡ ys)
 heads x y xs ys e = (cc, cc)
 
 -- there is one
-first_one : {A : Type 0} (Good : A → Type 0) (b c : List A) (x y : A) (r s : List A) → b ++ x ∷ r ≡ c ++ y ∷ s → AllByRecursion Good b → AllByRecursion Good c → (Good x → ⊥) → (Good y → ⊥) → (x ≡ y) × (length b ≡ length c)
+first_one : {A : Type 0} (Good : A → Type 0) (b c : List A) (x y : A) (r s : List A) → b ++ x ∷ r ≡ c ++ y ∷ s → AllByRecursion Good b
+    → AllByRecursion Good c → (Good x → ⊥) → (Good y → ⊥) → (x ≡ y) × (length b ≡ length c)
 first_one Good [] [] x y r s e g h p q = ((heads x y r s e).0, refl)
 first_one Good [] (z ∷ c) x y r s e g h p q = absurd (p (subst Good (sym (heads x z r (c ++ y ∷ s) e).0) h.0))
 first_one Good (z ∷ b) [] x y r s e g h p q = absurd (q (subst Good (heads z y (b ++ x ∷ r) s e).0 g.0))
@@ -42,10 +44,12 @@ past : (w : ℕ) → most < w → w ≤ most → ⊥
 past w h l = absurd (omega (arith, h, l))
 
 bound_one : (ns : List (Span × ℕ)) (a b : Span) → IsBoundFault ns a → IsBoundFault ns b → a ≡ b
-bound_one ns a b f g = ap (λ (n : Span × ℕ). n.0) (first_one Light f.before g.before (a, f.weight) (b, g.weight) f.after g.after (sym f.stands ∙ g.stands) (lights f.before f.light) (lights g.before g.light) (past f.weight f.heavy) (past g.weight g.heavy)).0
+bound_one ns a b f g = ap (λ (n : Span × ℕ). n.0) (first_one Light f.before g.before (a, f.weight) (b, g.weight) f.after g.after
+    (sym f.stands ∙ g.stands) (lights f.before f.light) (lights g.before g.light) (past f.weight f.heavy) (past g.weight g.heavy)).0
 
 no_bound : (ns : List (Span × ℕ)) (a : Span) → AreLight ns → IsBoundFault ns a → ⊥
-no_bound ns a l f = past f.weight f.heavy (all_good Light f.before (a, f.weight) f.after (lights (f.before ++ (a, f.weight) ∷ f.after) (subst AreLight f.stands l)))
+no_bound ns a l f =
+    past f.weight f.heavy (all_good Light f.before (a, f.weight) f.after (lights (f.before ++ (a, f.weight) ∷ f.after) (subst AreLight f.stands l)))
 
 abbrev Few : ℕ → Span × Tree → Type 0
 Few n x = HasTooManyTerms n x.1 → ⊥
@@ -55,7 +59,8 @@ fews n [] l = tt
 fews n (x ∷ ns) l = (l.0, fews n ns l.1)
 
 terms_one : (n : ℕ) (ns : List (Span × Tree)) (a b : Span) → IsTermsFault n ns a → IsTermsFault n ns b → a ≡ b
-terms_one n ns a b f g = ap (λ (x : Span × Tree). x.0) (first_one (Few n) f.before g.before (a, f.node) (b, g.node) f.after g.after (sym f.stands ∙ g.stands) (fews n f.before f.few) (fews n g.before g.few) (λ h. h f.many) (λ h. h g.many)).0
+terms_one n ns a b f g = ap (λ (x : Span × Tree). x.0) (first_one (Few n) f.before g.before (a, f.node) (b, g.node) f.after g.after
+    (sym f.stands ∙ g.stands) (fews n f.before f.few) (fews n g.before g.few) (λ h. h f.many) (λ h. h g.many)).0
 
 no_terms : (n : ℕ) (ns : List (Span × Tree)) (a : Span) → HaveFewTerms n ns → IsTermsFault n ns a → ⊥
 no_terms n ns a l f = all_good (Few n) f.before (a, f.node) f.after (fews n (f.before ++ (a, f.node) ∷ f.after) (subst (HaveFewTerms n) f.stands l)) f.many
@@ -95,7 +100,7 @@ no_pred k p r (heavy l t h) s = s.whole h
 no_pred k p r (zero l t w z) s = s.nonzero z
 no_pred k p r (stages l t w z f) s = s.staged f
 
--- a predicate without a fault stops for want of memory alone
+-- a predicate without a fault stops only when out of memory
 pub memory_alone : (k : ℕ) (p : PredOf) (r : Refusal) → StopsPred k p r → IsSound p → IsNoMemory r
 memory_alone k p r (inl f) s = absurd (no_pred k p r f s)
 memory_alone k p r (inr e) s = e
@@ -106,11 +111,13 @@ sounds (p ∷ ps) s = (s.0, sounds ps s.1)
 
 preds_one : (ps : List PredOf) (r s : Refusal) → IsFirstFault ps r → IsFirstFault ps s → r ≡ s
 preds_one ps r s f g =
-    let e = first_one IsSound f.before g.before f.pred g.pred f.after g.after (sym f.stands ∙ g.stands) (sounds f.before f.sound) (sounds g.before g.sound) (no_pred (length f.before) f.pred r f.fault) (no_pred (length g.before) g.pred s g.fault) in
+    let e = first_one IsSound f.before g.before f.pred g.pred f.after g.after (sym f.stands ∙ g.stands) (sounds f.before f.sound)
+    (sounds g.before g.sound) (no_pred (length f.before) f.pred r f.fault) (no_pred (length g.before) g.pred s g.fault) in
     pred_one (length g.before) g.pred r s (subst (λ k. IsPredFault k g.pred r) e.1 (subst (λ p. IsPredFault (length f.before) p r) e.0 f.fault)) g.fault
 
 no_preds : (ps : List PredOf) (r : Refusal) → AreSound ps → IsFirstFault ps r → ⊥
-no_preds ps r s f = no_pred (length f.before) f.pred r f.fault (all_good IsSound f.before f.pred f.after (sounds (f.before ++ f.pred ∷ f.after) (subst AreSound f.stands s)))
+no_preds ps r s f =
+    no_pred (length f.before) f.pred r f.fault (all_good IsSound f.before f.pred f.after (sounds (f.before ++ f.pred ∷ f.after) (subst AreSound f.stands s)))
 
 -- ---- sources
 -- a source is refused for one thing
@@ -118,12 +125,14 @@ pub refused_one : (bytes : List ℕ) (r s : Refusal) → IsRefusedFor bytes r �
 refused_one bytes r s (of_text {e} f) (of_text {e = g} h) = ap refusal_of (one_fault bytes f h)
 refused_one bytes r s (of_text {e} f) (of_pred t {r = q} x g) = absurd (no_fault bytes t x f)
 refused_one bytes r s (of_pred t {r = q} x f) (of_text {e} g) = absurd (no_fault bytes t x g)
-refused_one bytes r s (of_pred t {r = q} x f) (of_pred u {r = o} y g) = preds_one u.preds q o (subst (λ (v : TableOf). IsFirstFault v.preds q) (one_table bytes t u x y) f) g
+refused_one bytes r s (of_pred t {r = q} x f) (of_pred u {r = o} y g) =
+    preds_one u.preds q o (subst (λ (v : TableOf). IsFirstFault v.preds q) (one_table bytes t u x y) f) g
 
 -- and not accepted
 pub accepted_alone : (bytes : List ℕ) (t : TableOf) (r : Refusal) → Accepted bytes t → IsRefusedFor bytes r → ⊥
 accepted_alone bytes t r a (of_text {e} f) = no_fault bytes t a.text f
-accepted_alone bytes t r a (of_pred u {r = q} x f) = no_preds t.preds q a.sound (subst (λ (v : TableOf). IsFirstFault v.preds q) (one_table bytes u t x a.text) f)
+accepted_alone bytes t r a (of_pred u {r = q} x f) =
+    no_preds t.preds q a.sound (subst (λ (v : TableOf). IsFirstFault v.preds q) (one_table bytes u t x a.text) f)
 
 pub refusal_unaccepted : (bytes : List ℕ) (r : Refusal) → IsRefusal bytes r → IsUnaccepted bytes r
 refusal_unaccepted bytes r (inl f) t a = absurd (accepted_alone bytes t r a f)

@@ -12,10 +12,11 @@ use Rattle.ln_compile.specs.Accepted.{Accepted, AreSound, IsHeavyFault, IsSound}
 use Rattle.ln_compile.specs.Weighed.{AcceptedByWeight, AreSoundByWeight, IsFitPred, IsSoundByWeight}
 use Rattle.ln_compile.proofs.Refusing.TextFits.{text-fits}
 
--- a predicate that isn't too heavy at any node isn't as a whole
+-- a predicate none of whose nodes has too large a weight isn't too large as a whole
 whole-light : (p : PredOf) → IsFitPred p → IsSoundByWeight p → IsHeavyFault p → ⊥
 whole-light p f s h =
-    let l : weighted_sum (weights p.vars) (terms_of (length p.vars) h.poly) ≤ most = light-root p.vars (length p.lets) p.lets p.root h.poly f.lets f.root s.light h.normal in
+    let l : weighted_sum (weights p.vars) (terms_of (length p.vars) h.poly) ≤ most =
+    light-root p.vars (length p.lets) p.lets p.root h.poly f.lets f.root s.light h.normal in
     let k = h.heavy in
     absurd (omega (arith, l, k))
 

@@ -1,5 +1,5 @@
 -- The normal polynomial of a predicate that has no fault.
-use Rattle.std.proofs.Common.{◌≡◌, ℕ, ◌+◌, ◌<◌, ◌≤◌, zero, suc, List, [], ◌∷◌, length, map, get_or, refl, subst, sym, arith, Some}
+use Rattle.std.proofs.Common.{◌≡◌, ℕ, ◌<◌, ◌≤◌, zero, suc, List, [], ◌∷◌, length, map, get_or, subst, arith, Some}
 use Rattle.std.specs.Prelude.{All, slice_get}
 use Rattle.ln_algebra.specs.Vector.{total_degree}
 use Rattle.ln_algebra.specs.Weights.{weighted_sum}
@@ -15,8 +15,10 @@ use Rattle.ln_compile.specs.Accepted.{IsSound, expanded_of, root_of}
 use Rattle.ln_compile.specs.Polynomial.{IsPolynomialOf}
 use Rattle.ln_compile.proofs.Smallness.SmallBlocks.{root-terms}
 
-pub is-polynomial : (p : Pred) (f : Sparse) → IsSound (pred_of p) → HaveFewTerms (length p.shape.vars) (expanded_of (pred_of p)) → IsNormal (length p.shape.vars) (root_of (pred_of p)) f
-    → All (λ t. total_degree (vector (length p.shape.vars) t.0) ≤ 126) f → weighted_sum (weights p.shape.vars) (terms_of (length p.shape.vars) f) ≤ most → IsPolynomialOf (pred_of p) f
+pub is-polynomial : (p : Pred) (f : Sparse) → IsSound (pred_of p) → HaveFewTerms (length p.shape.vars) (expanded_of (pred_of p))
+    → IsNormal (length p.shape.vars) (root_of (pred_of p)) f
+    → All (λ t. total_degree (vector (length p.shape.vars) t.0) ≤ 126) f
+    → weighted_sum (weights p.shape.vars) (terms_of (length p.shape.vars) f) ≤ most → IsPolynomialOf (pred_of p) f
 is-polynomial p f s few normal degrees weight = record {
   normal = normal;
   some = λ z. s.nonzero (no-terms-zero (length p.shape.vars) (root_of (pred_of p)) f normal z);
@@ -26,7 +28,10 @@ is-polynomial p f s few normal degrees weight = record {
 }
 
 -- that of a predicate, by its number
-pub polynomial-at : (preds : List Pred) (i : ℕ) (p : Pred) (f : Sparse) → i < length preds → p ≡ get_or preds i p → IsPolynomialOf (pred_of p) f → (q : PredOf) → slice_get (map pred_of preds) i ≡ Some q → IsPolynomialOf q f
+pub polynomial-at : (preds : List Pred) (i : ℕ) (p : Pred) (f : Sparse) → i < length preds → p ≡ get_or preds i p
+    → IsPolynomialOf (pred_of p) f → (q : PredOf) → slice_get (map pred_of preds) i ≡ Some q → IsPolynomialOf q f
 polynomial-at [] i p f h e o q g = absurd (omega (arith, h))
-polynomial-at (x ∷ ps) zero p f h e o q g = let d : pred_of x ≡ q = cc in subst (λ (r : PredOf). IsPolynomialOf r f) d (subst (λ (y : Pred). IsPolynomialOf (pred_of y) f) e o)
+polynomial-at (x ∷ ps) zero p f h e o q g =
+    let d : pred_of x ≡ q = cc in
+    subst (λ (r : PredOf). IsPolynomialOf r f) d (subst (λ (y : Pred). IsPolynomialOf (pred_of y) f) e o)
 polynomial-at (x ∷ ps) (suc i) p f h e o q g = polynomial-at ps i p f (omega (arith, h)) e o q g

@@ -40,7 +40,9 @@ power-few n at d zero j f l h = absurd (omega (arith, l))
 power-few n at d (suc k) j f l h = by_case (cases_lt j k) (λ g. power-few n at d k j (few-left n (powers at d k) ((at, Pow d (suc k)) ∷ []) f) g h) where
   by_case : (j < k) ⊎ (k ≤ j) → (j < k → ⊥) → ⊥
   by_case (inl g) ih = ih g
-  by_case (inr g) ih = let q : j ≡ k = omega (arith, l, g) in (few-right n (powers at d k) ((at, Pow d (suc k)) ∷ []) f).0 (subst (λ (i : ℕ). HasTooManyTerms n (Pow d (suc i))) q h)
+  by_case (inr g) ih =
+      let q : j ≡ k = omega (arith, l, g) in
+      (few-right n (powers at d k) ((at, Pow d (suc k)) ∷ []) f).0 (subst (λ (i : ℕ). HasTooManyTerms n (Pow d (suc i))) q h)
 
 module _ (n : ℕ) (vars : List VarInfo) where
   -- a node that is expanded
@@ -57,19 +59,30 @@ module _ (n : ℕ) (vars : List VarInfo) where
   node-few ls (FInput at a c) e f q h = told (inlined ls (tree vars (FInput at a c))) e f.0 q h
   node-few ls (FName at j) e f q h = told (inlined ls (tree vars (FName at j))) e f.0 q h
   node-few ls (FNeg at g) e f (inl k) h = node-few ls g e (few-left n (expanded vars ls g) ((at, inlined ls (tree vars (FNeg at g))) ∷ []) f) k h
-  node-few ls (FNeg at g) e f (inr q) h = told (inlined ls (tree vars (FNeg at g))) e (few-right n (expanded vars ls g) ((at, inlined ls (tree vars (FNeg at g))) ∷ []) f).0 q h
-  node-few ls (FAdd at g i) e f (inl (inl k)) h = node-few ls g e (few-three (expanded vars ls g) (expanded vars ls i) ((at, inlined ls (tree vars (FAdd at g i))) ∷ []) f).0 k h
-  node-few ls (FAdd at g i) e f (inl (inr k)) h = node-few ls i e (few-three (expanded vars ls g) (expanded vars ls i) ((at, inlined ls (tree vars (FAdd at g i))) ∷ []) f).1.0 k h
-  node-few ls (FAdd at g i) e f (inr q) h = told (inlined ls (tree vars (FAdd at g i))) e (few-three (expanded vars ls g) (expanded vars ls i) ((at, inlined ls (tree vars (FAdd at g i))) ∷ []) f).1.1.0 q h
-  node-few ls (FSub at g i) e f (inl (inl k)) h = node-few ls g e (few-three (expanded vars ls g) (expanded vars ls i) ((at, inlined ls (tree vars (FSub at g i))) ∷ []) f).0 k h
-  node-few ls (FSub at g i) e f (inl (inr k)) h = node-few ls i e (few-three (expanded vars ls g) (expanded vars ls i) ((at, inlined ls (tree vars (FSub at g i))) ∷ []) f).1.0 k h
-  node-few ls (FSub at g i) e f (inr q) h = told (inlined ls (tree vars (FSub at g i))) e (few-three (expanded vars ls g) (expanded vars ls i) ((at, inlined ls (tree vars (FSub at g i))) ∷ []) f).1.1.0 q h
-  node-few ls (FMul at g i) e f (inl (inl k)) h = node-few ls g e (few-three (expanded vars ls g) (expanded vars ls i) ((at, inlined ls (tree vars (FMul at g i))) ∷ []) f).0 k h
-  node-few ls (FMul at g i) e f (inl (inr k)) h = node-few ls i e (few-three (expanded vars ls g) (expanded vars ls i) ((at, inlined ls (tree vars (FMul at g i))) ∷ []) f).1.0 k h
-  node-few ls (FMul at g i) e f (inr q) h = told (inlined ls (tree vars (FMul at g i))) e (few-three (expanded vars ls g) (expanded vars ls i) ((at, inlined ls (tree vars (FMul at g i))) ∷ []) f).1.1.0 q h
+  node-few ls (FNeg at g) e f (inr q) h =
+      told (inlined ls (tree vars (FNeg at g))) e (few-right n (expanded vars ls g) ((at, inlined ls (tree vars (FNeg at g))) ∷ []) f).0 q h
+  node-few ls (FAdd at g i) e f (inl (inl k)) h =
+      node-few ls g e (few-three (expanded vars ls g) (expanded vars ls i) ((at, inlined ls (tree vars (FAdd at g i))) ∷ []) f).0 k h
+  node-few ls (FAdd at g i) e f (inl (inr k)) h =
+      node-few ls i e (few-three (expanded vars ls g) (expanded vars ls i) ((at, inlined ls (tree vars (FAdd at g i))) ∷ []) f).1.0 k h
+  node-few ls (FAdd at g i) e f (inr q) h = told (inlined ls (tree vars (FAdd at g i))) e
+      (few-three (expanded vars ls g) (expanded vars ls i) ((at, inlined ls (tree vars (FAdd at g i))) ∷ []) f).1.1.0 q h
+  node-few ls (FSub at g i) e f (inl (inl k)) h =
+      node-few ls g e (few-three (expanded vars ls g) (expanded vars ls i) ((at, inlined ls (tree vars (FSub at g i))) ∷ []) f).0 k h
+  node-few ls (FSub at g i) e f (inl (inr k)) h =
+      node-few ls i e (few-three (expanded vars ls g) (expanded vars ls i) ((at, inlined ls (tree vars (FSub at g i))) ∷ []) f).1.0 k h
+  node-few ls (FSub at g i) e f (inr q) h = told (inlined ls (tree vars (FSub at g i))) e
+      (few-three (expanded vars ls g) (expanded vars ls i) ((at, inlined ls (tree vars (FSub at g i))) ∷ []) f).1.1.0 q h
+  node-few ls (FMul at g i) e f (inl (inl k)) h =
+      node-few ls g e (few-three (expanded vars ls g) (expanded vars ls i) ((at, inlined ls (tree vars (FMul at g i))) ∷ []) f).0 k h
+  node-few ls (FMul at g i) e f (inl (inr k)) h =
+      node-few ls i e (few-three (expanded vars ls g) (expanded vars ls i) ((at, inlined ls (tree vars (FMul at g i))) ∷ []) f).1.0 k h
+  node-few ls (FMul at g i) e f (inr q) h = told (inlined ls (tree vars (FMul at g i))) e
+      (few-three (expanded vars ls g) (expanded vars ls i) ((at, inlined ls (tree vars (FMul at g i))) ∷ []) f).1.1.0 q h
   node-few ls (FPow at g k) e f (inl i) h = node-few ls g e (few-left n (expanded vars ls g) (powers at (inlined ls (tree vars g)) k) f) i h
   node-few ls (FPow at g k) e f (inr (zero, l, q)) h = told (Pow (inlined ls (tree vars g)) 0) e (zeroth-few n (inlined ls (tree vars g))) q h
-  node-few ls (FPow at g k) e f (inr (suc j, l, q)) h = told (Pow (inlined ls (tree vars g)) (suc j)) e (power-few n at (inlined ls (tree vars g)) k j (few-right n (expanded vars ls g) (powers at (inlined ls (tree vars g)) k) f) (omega (arith, l))) q h
+  node-few ls (FPow at g k) e f (inr (suc j, l, q)) h = told (Pow (inlined ls (tree vars g)) (suc j)) e
+      (power-few n at (inlined ls (tree vars g)) k j (few-right n (expanded vars ls g) (powers at (inlined ls (tree vars g)) k) f) (omega (arith, l))) q h
 
 -- ---- light nodes
 -- lower powers are no heavier, and the power 0 is 1
@@ -102,12 +115,14 @@ module _ (n : ℕ) (w : ℕ → ℕ) (ls : List Tree) where
   node-light (Mul d f) e l (inl (inr h)) = node-light f e l.1 h
   node-light (Mul d f) e l (inr q) = moved (inlined ls (Mul d f)) e l.2 q
   node-light (Pow d k) e l (inl h) = node-light d e l.0 h
-  node-light (Pow d k) e l (inr (j, b, q)) = moved (Pow (inlined ls d) j) e (record { inputs = l.1.inputs; light = lower-power (weight w (inlined ls d)) j k b l.1.light }) q
+  node-light (Pow d k) e l (inr (j, b, q)) =
+      moved (Pow (inlined ls d) j) e (record { inputs = l.1.inputs; light = lower-power (weight w (inlined ls d)) j k b l.1.light }) q
 
 -- ---- all nodes of a predicate
 module _ (vars : List VarInfo) where
-  -- each node of a formula behind closed lets is small
-  node-small : (ls : List Tree) (f : Formula) (t : Typed) (e : Tree) (v : Width) → untyped t ≡ tree vars f → HaveFewTerms (length vars) (expanded vars ls f) → AreLight (length vars) two ls (tree vars f) → NodeIn ls (untyped t) e → IsSmall (length vars) e
+  -- each node of a formula after closed lets is small
+  node-small : (ls : List Tree) (f : Formula) (t : Typed) (e : Tree) (v : Width) → untyped t ≡ tree vars f
+      → HaveFewTerms (length vars) (expanded vars ls f) → AreLight (length vars) two ls (tree vars f) → NodeIn ls (untyped t) e → IsSmall (length vars) e
   node-small ls f t e v q few light h =
       let k : NodeIn ls (tree vars f) e = subst (λ (d : Tree). NodeIn ls d e) q h in
       record {
@@ -116,27 +131,35 @@ module _ (vars : List VarInfo) where
       }
 
   -- so is each node of the lets
-  let-small : (done : List Tree) (fs : List Formula) (ts : List Typed) (e : Tree) (v : Width) → map untyped ts ≡ map (tree vars) fs → HaveFewTerms (length vars) (expanded_lets vars done fs) → LetsAreLight (length vars) two done (map (tree vars) fs) → IsLetNode done ts e v → IsSmall (length vars) e
+  let-small : (done : List Tree) (fs : List Formula) (ts : List Typed) (e : Tree) (v : Width) → map untyped ts ≡ map (tree vars) fs
+      → HaveFewTerms (length vars) (expanded_lets vars done fs) → LetsAreLight (length vars) two done (map (tree vars) fs)
+      → IsLetNode done ts e v → IsSmall (length vars) e
   let-small done [] [] e v q few light h = absurd h
   let-small done (f ∷ fs) [] e v q few light h = absurd h
   let-small done [] (t ∷ ts) e v q few light h = cc
   let-small done (f ∷ fs) (t ∷ ts) e v q few light (inl h) =
       let p : untyped t ≡ tree vars f = cc in
-      node-small done f t e v p (few-left (length vars) (expanded vars done f) (expanded_lets vars (done ++ inlined done (tree vars f) ∷ []) fs) few) light.0 (node-in done t e v h)
+      node-small done f t e v p (few-left (length vars) (expanded vars done f) (expanded_lets vars (done ++ inlined done (tree vars f) ∷ []) fs) few)
+      light.0 (node-in done t e v h)
   let-small done (f ∷ fs) (t ∷ ts) e v q few light (inr h) =
       let p : untyped t ≡ tree vars f = cc in
       let r : map untyped ts ≡ map (tree vars) fs = cc in
       let s : done ++ inlined done (untyped t) ∷ [] ≡ done ++ inlined done (tree vars f) ∷ [] = ap (λ (d : Tree). done ++ inlined done d ∷ []) p in
-      let-small (done ++ inlined done (tree vars f) ∷ []) fs ts e v r (few-right (length vars) (expanded vars done f) (expanded_lets vars (done ++ inlined done (tree vars f) ∷ []) fs) few) light.1 (subst (λ (ds : List Tree). IsLetNode ds ts e v) s h)
+      let-small (done ++ inlined done (tree vars f) ∷ []) fs ts e v r (few-right (length vars) (expanded vars done f)
+      (expanded_lets vars (done ++ inlined done (tree vars f) ∷ []) fs) few) light.1 (subst (λ (ds : List Tree). IsLetNode ds ts e v) s h)
 
 -- each node of an accepted predicate's sized trees is small
-pub source-small : (p : Pred) (lets : List Typed) (root : Typed) (e : Tree) (v : Width) → map untyped lets ≡ map (tree p.shape.vars) (map formula p.lets) → untyped root ≡ tree p.shape.vars (formula p.root)
-    → bound.AreLight (loaded_of (pred_of p)) → HaveFewTerms (length p.shape.vars) (expanded_of (pred_of p)) → IsNodeOf lets root e v → IsSmall (length p.shape.vars) e
+pub source-small : (p : Pred) (lets : List Typed) (root : Typed) (e : Tree) (v : Width)
+    → map untyped lets ≡ map (tree p.shape.vars) (map formula p.lets) → untyped root ≡ tree p.shape.vars (formula p.root)
+    → bound.AreLight (loaded_of (pred_of p)) → HaveFewTerms (length p.shape.vars) (expanded_of (pred_of p)) → IsNodeOf lets root e v
+    → IsSmall (length p.shape.vars) e
 source-small p lets root e v q r light few (inl h) =
     let l = pred-expands p.args p.shape.vars p.lets (length p.let_names) p.root p.kept light in
-    let-small p.shape.vars [] (map formula p.lets) lets e v q (few-left (length p.shape.vars) (expanded_lets p.shape.vars [] (map formula p.lets)) (expanded p.shape.vars (closed_lets p.shape.vars (map formula p.lets)) (formula p.root)) few) l.0 h
+    let-small p.shape.vars [] (map formula p.lets) lets e v q (few-left (length p.shape.vars) (expanded_lets p.shape.vars [] (map formula p.lets))
+    (expanded p.shape.vars (closed_lets p.shape.vars (map formula p.lets)) (formula p.root)) few) l.0 h
 source-small p lets root e v q r light few (inr h) =
     let l = pred-expands p.args p.shape.vars p.lets (length p.let_names) p.root p.kept light in
     let ls : inlined_after [] (map untyped lets) ≡ closed_lets p.shape.vars (map formula p.lets) = ap (inlined_after []) q in
-    node-small p.shape.vars (closed_lets p.shape.vars (map formula p.lets)) (formula p.root) root e v r (few-right (length p.shape.vars) (expanded_lets p.shape.vars [] (map formula p.lets)) (expanded p.shape.vars (closed_lets p.shape.vars (map formula p.lets)) (formula p.root)) few) l.1
+    node-small p.shape.vars (closed_lets p.shape.vars (map formula p.lets)) (formula p.root) root e v r (few-right (length p.shape.vars)
+    (expanded_lets p.shape.vars [] (map formula p.lets)) (expanded p.shape.vars (closed_lets p.shape.vars (map formula p.lets)) (formula p.root)) few) l.1
     (subst (λ (ds : List Tree). NodeIn ds (untyped root) e) ls (node-in (inlined_after [] (map untyped lets)) root e v h))

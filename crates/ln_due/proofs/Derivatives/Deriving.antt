@@ -32,7 +32,10 @@ length-derived n (t ∷ f) a = by_case (covers (vector n t.0) a) refl (length-de
   ones x = cond x 1 0
 
   by_case : (b : Bool) → covers (vector n t.0) a ≡ b → length (derived a (terms_of n f)) ≡ covering n f a
-      → length (if b then (record { exponents = minus (vector n t.0) a; factor = t.1 *ℤ pos (binomials (vector n t.0) a) } ∷ derived a (terms_of n f)) else derived a (terms_of n f)) ≡ covering n (t ∷ f) a
+      → length (if b then (record {
+        exponents = minus (vector n t.0) a;
+        factor = t.1 *ℤ pos (binomials (vector n t.0) a);
+      } ∷ derived a (terms_of n f)) else derived a (terms_of n f)) ≡ covering n (t ∷ f) a
   by_case true q ih = omega (arith, ih, sum_by-cons (λ u. cond (covers (vector n u.0) a) 1 0) t f, ap ones q)
   by_case false q ih = omega (arith, ih, sum_by-cons (λ u. cond (covers (vector n u.0) a) 1 0) t f, ap ones q)
 
@@ -44,7 +47,10 @@ degree-minus (k ∷ m) (j ∷ a) = omega (arith, degree-minus m a)
 degrees-derived : (k : ℕ) (a : List ℕ) (f : List Term) → EachHas (λ m. total_degree m ≤ k) f → EachHas (λ m. total_degree m ≤ k) (derived a f)
 degrees-derived k a [] h = tt
 degrees-derived k a (t ∷ f) h = by_case (covers t.exponents a) (degrees-derived k a f h.1) where
-  by_case : (b : Bool) → EachHas (λ m. total_degree m ≤ k) (derived a f) → EachHas (λ m. total_degree m ≤ k) (if b then (record { exponents = minus t.exponents a; factor = t.factor *ℤ pos (binomials t.exponents a) } ∷ derived a f) else derived a f)
+  by_case : (b : Bool) → EachHas (λ m. total_degree m ≤ k) (derived a f) → EachHas (λ m. total_degree m ≤ k) (if b then (record {
+    exponents = minus t.exponents a;
+    factor = t.factor *ℤ pos (binomials t.exponents a);
+  } ∷ derived a f) else derived a f)
   by_case true r = (omega (arith, h.0, degree-minus t.exponents a), r)
   by_case false r = r
 
@@ -56,13 +62,17 @@ module _ (n : ℕ) (f h : Sparse) (a : Pairs) (d : IsDerivative n f a h) where
   unfolding coefficient_at
   same m = everywhere n (terms_of n h) (derived (vector n a) (terms_of n f)) (over-terms n h) over-whole d.coefficients m
 
-  pub derivative-light : (vars : List VarInfo) → length vars ≡ n → weighted_sum (weights vars) (terms_of n f) ≤ most → weighted_sum (sizes vars) (terms_of n h) ≤ most
+  pub derivative-light : (vars : List VarInfo) → length vars ≡ n → weighted_sum (weights vars) (terms_of n f) ≤ most
+      → weighted_sum (sizes vars) (terms_of n h) ≤ most
   derivative-light vars e w =
-      let l : weighted_sum (sizes vars) (terms_of n h) ≤ weighted_sum (sizes vars) (derived (vector n a) (terms_of n f)) = weighted-least (sizes vars) (terms_of n h) (derived (vector n a) (terms_of n f)) (once (terms_of n h) (collected n h d.form d.below)) same in
+      let l : weighted_sum (sizes vars) (terms_of n h) ≤ weighted_sum (sizes vars) (derived (vector n a) (terms_of n f)) =
+      weighted-least (sizes vars) (terms_of n h) (derived (vector n a) (terms_of n f)) (once (terms_of n h) (collected n h d.form d.below)) same in
       let k : weighted_sum (sizes vars) (derived (vector n a) (terms_of n f)) ≤ most = light-over vars n e (vector n a) f w in
       omega (arith, l, k) where
-        light-over : (vs : List VarInfo) (k : ℕ) → length vs ≡ k → (b : List ℕ) (g : Sparse) → weighted_sum (weights vs) (terms_of k g) ≤ most → weighted_sum (sizes vs) (derived b (terms_of k g)) ≤ most
-        light-over vs k q b g = subst (λ j. weighted_sum (weights vs) (terms_of j g) ≤ most → weighted_sum (sizes vs) (derived b (terms_of j g)) ≤ most) q (derived-light vs b g)
+        light-over : (vs : List VarInfo) (k : ℕ) → length vs ≡ k → (b : List ℕ) (g : Sparse)
+            → weighted_sum (weights vs) (terms_of k g) ≤ most → weighted_sum (sizes vs) (derived b (terms_of k g)) ≤ most
+        light-over vs k q b g =
+            subst (λ j. weighted_sum (weights vs) (terms_of j g) ≤ most → weighted_sum (sizes vs) (derived b (terms_of j g)) ≤ most) q (derived-light vs b g)
 
   no-zero : HasNoZero (terms_of n h)
   no-zero = go h d.form.factors where
@@ -72,16 +82,19 @@ module _ (n : ℕ) (f h : Sparse) (a : Pairs) (d : IsDerivative n f a h) where
 
   pub derivative-few : length h ≤ covering n f (vector n a)
   derivative-few =
-      let s : length (terms_of n h) ≤ length (derived (vector n a) (terms_of n f)) = shortest (terms_of n h) (derived (vector n a) (terms_of n f)) (once (terms_of n h) (collected n h d.form d.below)) no-zero same in
+      let s : length (terms_of n h) ≤ length (derived (vector n a) (terms_of n f)) =
+      shortest (terms_of n h) (derived (vector n a) (terms_of n f)) (once (terms_of n h) (collected n h d.form d.below)) no-zero same in
       omega (arith, s, length-map h (term_of n), length-derived n f (vector n a))
 
   pub derivative-degrees : (k : ℕ) → All (λ t. total_degree (vector n t.0) ≤ k) f → All (λ t. degree (vector n t.0) ≤ k) h
   derivative-degrees k z =
-      back h (each-has (λ m. total_degree m ≤ k) (terms_of n h) (derived (vector n a) (terms_of n f)) (once (terms_of n h) (collected n h d.form d.below)) no-zero same (degrees-derived k (vector n a) (terms_of n f) (there f z))) where
-        there : (g : Sparse) → All (λ t. total_degree (vector n t.0) ≤ k) g → EachHas (λ m. total_degree m ≤ k) (terms_of n g)
-        there [] y = tt
-        there (t ∷ g) y = (All-head (λ u. total_degree (vector n u.0) ≤ k) t g y, there g (All-tail (λ u. total_degree (vector n u.0) ≤ k) t g y))
+      back h (each-has (λ m. total_degree m ≤ k) (terms_of n h) (derived (vector n a) (terms_of n f))
+      (once (terms_of n h) (collected n h d.form d.below)) no-zero same (degrees-derived k (vector n a) (terms_of n f) (there f z)))
+    where
+      there : (g : Sparse) → All (λ t. total_degree (vector n t.0) ≤ k) g → EachHas (λ m. total_degree m ≤ k) (terms_of n g)
+      there [] y = tt
+      there (t ∷ g) y = (All-head (λ u. total_degree (vector n u.0) ≤ k) t g y, there g (All-tail (λ u. total_degree (vector n u.0) ≤ k) t g y))
 
-        back : (g : Sparse) → EachHas (λ m. total_degree m ≤ k) (terms_of n g) → All (λ t. degree (vector n t.0) ≤ k) g
-        back [] y = All-nil (λ t. degree (vector n t.0) ≤ k)
-        back (t ∷ g) y = All-cons (λ u. degree (vector n u.0) ≤ k) t g y.0 (back g y.1)
+      back : (g : Sparse) → EachHas (λ m. total_degree m ≤ k) (terms_of n g) → All (λ t. degree (vector n t.0) ≤ k) g
+      back [] y = All-nil (λ t. degree (vector n t.0) ≤ k)
+      back (t ∷ g) y = All-cons (λ u. degree (vector n u.0) ≤ k) t g y.0 (back g y.1)

@@ -27,14 +27,17 @@ no-more m (t ∷ g) = by_case (same_vector t.exponents m) (no-more m g) where
 fewer : (m : List ℕ) (g : List Term) → factor_at g m ≢ pos 0 → length (without m g) + 1 ≤ length g
 fewer m [] h = absurd (h refl)
 fewer m (t ∷ g) h = by_case (same_vector t.exponents m) h (no-more m g) (λ k. fewer m g k) where
-  by_case : (b : Bool) → (if b then t.factor else pos 0) +ℤ factor_at g m ≢ pos 0 → length (without m g) ≤ length g → (factor_at g m ≢ pos 0 → length (without m g) + 1 ≤ length g) → length (if b then without m g else (t ∷ without m g)) + 1 ≤ length (t ∷ g)
+  by_case : (b : Bool) → (if b then t.factor else pos 0) +ℤ factor_at g m ≢ pos 0 → length (without m g) ≤ length g
+      → (factor_at g m ≢ pos 0 → length (without m g) + 1 ≤ length g) → length (if b then without m g else (t ∷ without m g)) + 1 ≤ length (t ∷ g)
   by_case true k l ih = omega (arith, l)
   by_case false k l ih = let r = ih (λ e. k (omega (arith, ints, e))) in omega (arith, r)
 
-rest-same : (t : Term) (f g : List Term) → factor_at f t.exponents ≡ pos 0 → ((k : List ℕ) → factor_at (t ∷ f) k ≡ factor_at g k) → (k : List ℕ) → factor_at f k ≡ factor_at (without t.exponents g) k
+rest-same : (t : Term) (f g : List Term) → factor_at f t.exponents ≡ pos 0 → ((k : List ℕ) → factor_at (t ∷ f) k ≡ factor_at g k)
+    → (k : List ℕ) → factor_at f k ≡ factor_at (without t.exponents g) k
 rest-same t f g l s k = by_case (same_vector t.exponents k) refl where
   by_case : (b : Bool) → same_vector t.exponents k ≡ b → factor_at f k ≡ factor_at (without t.exponents g) k
-  by_case true e = ap (factor_at f) (sym (same_vector-is t.exponents k e)) ∙ l ∙ sym (without-same t.exponents g) ∙ ap (factor_at (without t.exponents g)) (same_vector-is t.exponents k e)
+  by_case true e = ap (factor_at f) (sym (same_vector-is t.exponents k e)) ∙ l ∙ sym (without-same t.exponents g)
+      ∙ ap (factor_at (without t.exponents g)) (same_vector-is t.exponents k e)
   by_case false e =
       let q : (if same_vector t.exponents k then t.factor else pos 0) +ℤ factor_at f k ≡ factor_at g k = s k in
       let z : factor_at f k ≡ pos 0 +ℤ factor_at f k = omega (arith, ints) in

@@ -24,7 +24,7 @@ exponent-get (suc v) [] = refl
 exponent-get zero (k ∷ m) = refl
 exponent-get (suc v) (k ∷ m) = exponent-get v m
 
--- what stands in a list whose exponents are under a top is under it
+-- what is in a list whose exponents are under a top is under it
 under-at : (top : ℕ → ℕ) (f : List Term) (m : List ℕ) (v : ℕ) → AreUnder top f → In (vectors f) m → exponent_of v m ≤ top v
 under-at top [] m v u i = absurd i
 under-at top (t ∷ f) m v u (inl q) = rw q (u.0 v)
@@ -32,7 +32,17 @@ under-at top (t ∷ f) m v u (inr i) = under-at top f m v u.1 i
 
 -- a lean expression is small
 lean-small : (n count : ℕ) (top : ℕ → ℕ) (e : Tree) → count ≤ 1024 → ((v : ℕ) → top v < 128) → IsLean n count top e → IsSmall n e
-lean-small n count top e c u l = record { few = λ h. absurd (omega (arith, distinct-length h.vectors (vectors l.terms) h.distinct (λ m i. inside m (h.monomials m i)), h.many, length-map l.terms (λ (t : Term). t.exponents), l.few, c)); low = λ m v k. omega (arith, under-at top l.terms m v l.under (inside m k), u v, exponent-get v m) } where
+lean-small n count top e c u l = record {
+  few = λ h. absurd (omega (
+    arith,
+    distinct-length h.vectors (vectors l.terms) h.distinct (λ m i. inside m (h.monomials m i)),
+    h.many,
+    length-map l.terms (λ (t : Term). t.exponents),
+    l.few,
+    c,
+  ));
+  low = λ m v k. omega (arith, under-at top l.terms m v l.under (inside m k), u v, exponent-get v m);
+} where
   inside : (m : List ℕ) → IsMonomial n e m → In (vectors l.terms) m
   inside m k = nonzero-in l.terms m (λ z. k.nonzero (sym (l.normal.coefficients m k.size) ∙ z))
 
@@ -55,7 +65,8 @@ closed-series (Pow e k) = ap (λ (u : Series). power u k) (closed-series e)
 module _ (n count : ℕ) (top : ℕ → ℕ) (few : count ≤ 1024) (low : (v : ℕ) → top v < 128) where
   -- a node that is lean but for the lets
   here : (d e : Tree) → IsLean n count top d → e ≡ inlined [] d → IsSmall n e
-  here d e l q = small-same n e d (λ m. ap (λ (t : Tree). normal_coefficient t m) q ∙ ap (λ (u : Series). u m) (closed-series d)) (lean-small n count top d few low l)
+  here d e l q = small-same n e d (λ m. ap (λ (t : Tree). normal_coefficient t m) q ∙ ap (λ (u : Series). u m) (closed-series d))
+      (lean-small n count top d few low l)
 
   -- each node is small
   lean-node : (d e : Tree) → AreLean n count top d → NodeIn [] d e → IsSmall n e

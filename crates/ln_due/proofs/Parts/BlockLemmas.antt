@@ -35,9 +35,11 @@ abbrev pub Computes : Part → Tree → List ℤ → Sites → List ℕ → Type
 Computes p e zs sites [] = Unit {0}
 Computes p e zs sites (k ∷ ks) = HasValue p k zs (perturbed sites (values zs) e (stage_at p k)) × Computes p e zs sites ks
 
-module _ (p : Part) (e : Tree) (f : List Term) (zs : List ℤ) (sites : Sites) (program : Runs p) (rank : Rank) (carries : Carries rank p e f) (row : AreWithin p.shape.vars zs) where
+module _ (p : Part) (e : Tree) (f : List Term) (zs : List ℤ) (sites : Sites) (program : Runs p) (rank : Rank) (carries : Carries rank p e f)
+    (row : AreWithin p.shape.vars zs) where
   -- a block has the coefficient at its exponents
-  block-coefficient : (k : ℕ) → k < length p.blocks → IsOver (length p.shape.vars) sites (stage_at p k) → HasValue p k zs (perturbed sites (values zs) e (stage_at p k))
+  block-coefficient : (k : ℕ) → k < length p.blocks → IsOver (length p.shape.vars) sites (stage_at p k)
+      → HasValue p k zs (perturbed sites (values zs) e (stage_at p k))
   block-coefficient k h o =
       let n : ℕ = length p.shape.vars in
       let c : Code = get_or p.blocks k no_code in
@@ -47,17 +49,26 @@ module _ (p : Part) (e : Tree) (f : List Term) (zs : List ℤ) (sites : Sites) (
       let same : m.what ≡ d.what = some-same m.what d.what (sym m.known ∙ d.known) in
       let at : stage_at p k ≡ vector n c.exps = ap (vector n) (get_or-map (λ (b : Code). b.exps) p.blocks k no_code [] h) in
       let v : value (values zs) [] d.what.tree ≡ perturbed sites (values zs) e (vector n c.exps) =
-      derivative-value n sites (values zs) e d.what.tree f (vector n c.exps) carries.inputs carries.normal (known_inputs p.shape.vars c d.what d.known) d.derivative (subst (IsOver n sites) at o) in
-      record { block = c; there = there; value = m.answer ∙ ap (λ (w : Known). Some (value (values zs) [] w.tree)) same ∙ ap Some (v ∙ ap (perturbed sites (values zs) e) (sym at)) }
+      derivative-value n sites (values zs) e d.what.tree f (vector n c.exps) carries.inputs carries.normal
+      (known_inputs p.shape.vars c d.what d.known) d.derivative (subst (IsOver n sites) at o) in
+      record {
+        block = c;
+        there = there;
+        value = m.answer ∙ ap (λ (w : Known). Some (value (values zs) [] w.tree)) same ∙ ap Some (v ∙ ap (perturbed sites (values zs) e) (sym at));
+      }
 
   -- so does each block of a list of stages
-  pub list-computes : (ks : List ℕ) → All (λ k. k < length p.blocks) ks → ((a : List ℕ) → In (vectors p ks) a → IsOver (length p.shape.vars) sites a) → Computes p e zs sites ks
+  pub list-computes : (ks : List ℕ) → All (λ k. k < length p.blocks) ks
+      → ((a : List ℕ) → In (vectors p ks) a → IsOver (length p.shape.vars) sites a) → Computes p e zs sites ks
   list-computes [] h o = tt
-  list-computes (k ∷ ks) h o =
-      (block-coefficient k (All-head (λ i. i < length p.blocks) k ks h) (o (stage_at p k) (inl refl)), list-computes ks (All-tail (λ i. i < length p.blocks) k ks h) (λ a i. o a (inr i)))
+  list-computes (k ∷ ks) h o = (
+    block-coefficient k (All-head (λ i. i < length p.blocks) k ks h) (o (stage_at p k) (inl refl)),
+    list-computes ks (All-tail (λ i. i < length p.blocks) k ks h) (λ a i. o a (inr i)),
+  )
 
   -- the same by place in the list
-  pub computes-at : (ks : List ℕ) (k : ℕ) → Computes p e zs sites ks → k < length ks → HasValue p (get_or ks k 0) zs (perturbed sites (values zs) e (get_or (vectors p ks) k []))
+  pub computes-at : (ks : List ℕ) (k : ℕ) → Computes p e zs sites ks → k < length ks
+      → HasValue p (get_or ks k 0) zs (perturbed sites (values zs) e (get_or (vectors p ks) k []))
   computes-at [] k c h = absurd (omega arith)
   computes-at (i ∷ ks) zero c h = c.0
   computes-at (i ∷ ks) (suc k) c h = computes-at ks k c.1 (omega arith)

@@ -18,7 +18,8 @@ use Rattle.ln_bound.specs.Value.{value}
 -- the value of an expression is that of its normal polynomial
 pub normal-value : (n : ℕ) (x : ℕ → ℤ) (e : Tree) (f : List Term) → InputsBelow n e → IsNormalOf n e f → value x [] e ≡ terms.value x f
 normal-value n x e f i h =
-    let d : terms.value x (derived (zeros n) f) ≡ coefficient (λ v. false) x e (zeros n) = derivative-coefficient n e f (λ v. false) x (zeros n) i h (length-zeros n) (within-zeros (λ v. false) n) in
+    let d : terms.value x (derived (zeros n) f) ≡ coefficient (λ v. false) x e (zeros n) =
+    derivative-coefficient n e f (λ v. false) x (zeros n) i h (length-zeros n) (within-zeros (λ v. false) n) in
     let p : coefficient (λ v. false) x e (zeros n) ≡ value x [] e = plain (λ v. false) x e (zeros n) (is_zero-zeros n) in
     sym p ∙ sym d ∙ ap (terms.value x) (derived-zeros n f h.over)
 

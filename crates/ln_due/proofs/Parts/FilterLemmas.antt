@@ -45,7 +45,8 @@ negative (pos (suc n)) h = absurd (omega (arith, ints, h))
 negative (negsuc n) h = (refl, λ q. cc)
 
 -- what is above its error has the sign of the value, which isn't 0
-sign-agrees : (z v : ℤ) (e : ℕ) → e < unsigned_abs z → (e < unsigned_abs z → pos 0 <ℤ z → pos 0 <ℤ v) → (e < unsigned_abs z → z <ℤ pos 0 → v <ℤ pos 0) → (sign_number (sign_of z) ≡ algebra.sign_of v) × (v ≢ pos 0)
+sign-agrees : (z v : ℤ) (e : ℕ) → e < unsigned_abs z → (e < unsigned_abs z → pos 0 <ℤ z → pos 0 <ℤ v)
+    → (e < unsigned_abs z → z <ℤ pos 0 → v <ℤ pos 0) → (sign_number (sign_of z) ≡ algebra.sign_of v) × (v ≢ pos 0)
 sign-agrees (pos zero) v e h p m = absurd (omega (arith, ints, h))
 sign-agrees (pos (suc n)) v e h p m = positive v (p h (omega (arith, ints)))
 sign-agrees (negsuc n) v e h p m = negative v (m h (omega (arith, ints)))
@@ -69,8 +70,10 @@ module _ (n : ℕ) (sites : Sites) (before : List ℕ → List ℕ → Type 0) (
   }
 
 -- above its error the filter's number has the perturbed sign
-pub decided-sign : (rank : Rank) (p : Part) (e : Tree) (f : List Term) (zs : List ℤ) (sites : Sites) (c : FilterCode) (left : Held) → Runs p → IndicesDiffer sites → Carries rank p e f → AreWithin p.shape.vars zs →
-    p.filter ≡ Some c → filter_value zs c ≡ Some left → left.error < unsigned_abs left.number → IsSignIn (Before rank sites) (length p.shape.vars) sites (values zs) e (sign_number (sign_of left.number))
+pub decided-sign : (rank : Rank) (p : Part) (e : Tree) (f : List Term) (zs : List ℤ) (sites : Sites) (c : FilterCode) (left : Held) →
+    Runs p → IndicesDiffer sites → Carries rank p e f → AreWithin p.shape.vars zs →
+    p.filter ≡ Some c → filter_value zs c ≡ Some left → left.error < unsigned_abs left.number →
+    IsSignIn (Before rank sites) (length p.shape.vars) sites (values zs) e (sign_number (sign_of left.number))
 decided-sign rank p e f zs sites c left program differ carries row here a above =
     let n : ℕ = length p.shape.vars in
     let x : ℕ → ℤ = values zs in
@@ -86,4 +89,8 @@ decided-sign rank p e f zs sites c left program differ carries row here a above 
     let h : m.left.error < unsigned_abs m.left.number = subst (λ (k : Held). k.error < unsigned_abs k.number) (sym same) above in
     let s = sign-agrees m.left.number (value x [] m.what.tree) m.left.error h m.plus m.minus in
     let d : perturbed sites x e (zeros n) ≢ pos 0 = λ q. s.1 (v ∙ q) in
-    inl (zeros n, zeros-first n sites (Before rank sites) (both-admissible rank n sites differ) x e d, ap (λ (k : Held). sign_number (sign_of k.number)) (sym same) ∙ s.0 ∙ ap algebra.sign_of v)
+    inl (
+      zeros n,
+      zeros-first n sites (Before rank sites) (both-admissible rank n sites differ) x e d,
+      ap (λ (k : Held). sign_number (sign_of k.number)) (sym same) ∙ s.0 ∙ ap algebra.sign_of v,
+    )

@@ -52,10 +52,12 @@ two_inputs n Minus d e h k = (h, k)
 two_inputs n Times d e h k = (h, k)
 
 module _ (vars : List VarInfo) where
-  kept : (enough p : Range) (w : Width) (s : ℕ) (t : Tree) (k : Known) → InputsBelow (length vars) t → known enough p w s t ≡ Some k → InputsBelow (length vars) k.tree
+  kept : (enough p : Range) (w : Width) (s : ℕ) (t : Tree) (k : Known) → InputsBelow (length vars) t → known enough p w s t ≡ Some k
+      → InputsBelow (length vars) k.tree
   kept enough p w s t k h q = subst (λ (z : Known). InputsBelow (length vars) z.tree) (known_some enough p w s t k q).3 h
 
-  input : (v : ℕ) (p : Range) (k : Known) → next (slice_get vars v) (λ i. known (declared i) p (least (magnitude p)) 1 (tree.Input v)) ≡ Some k → InputsBelow (length vars) k.tree
+  input : (v : ℕ) (p : Range) (k : Known) → next (slice_get vars v) (λ i. known (declared i) p (least (magnitude p)) 1 (tree.Input v)) ≡ Some k
+      → InputsBelow (length vars) k.tree
   input v p k q =
       let r = next_some (slice_get vars v) (λ (i : VarInfo). known (declared i) p (least (magnitude p)) 1 (tree.Input v)) k q in
       kept (declared r.0) p (least (magnitude p)) 1 (tree.Input v) k (slice_get_within vars v r.0 r.1) r.2
@@ -72,7 +74,8 @@ module _ (vars : List VarInfo) where
     push = λ c p k q. kept (point c) p (least (magnitude p)) (unsigned_abs c) (tree.Num c) k tt q;
     input = input;
     again = λ x y p k f q. kept x.range p (wider x.width (least (magnitude p))) x.size x.tree k f q;
-    two = λ t w p x x' y y' k f g q. kept (range_of t x.range x'.range) p w (bound_of t x.size x'.size) (two_of t x.tree x'.tree) k (two_inputs (length vars) t x.tree x'.tree f g) (if_some _ _ _ q).1;
+    two = λ t w p x x' y y' k f g q. kept (range_of t x.range x'.range) p w (bound_of t x.size x'.size) (two_of t x.tree x'.tree) k
+        (two_inputs (length vars) t x.tree x'.tree f g) (if_some _ _ _ q).1;
     minus = λ w p x y k f q. kept (opposite x.range) p w x.size (tree.Neg x.tree) k f (if_some _ _ _ q).1;
     cut = λ n p x y k f q. cc;
     got = λ l m j k f q. f j k q;
@@ -83,7 +86,8 @@ module _ (vars : List VarInfo) where
 -- the expression that a block carries has no other variables than these
 pub known_inputs : (vars : List VarInfo) (c : Code) (k : Known) → known_of vars c ≡ Some k → InputsBelow (length vars) k.tree
 known_inputs vars c k q =
-    let a = answer_follows (rules vars c.depth) (idle Range) (λ (p : Range). p) (Inputs vars) (Locals vars) (follow vars c.depth) no_locals tt (lines_of c.ops c.pairs) k (λ j v e. cc) q in
+    let a = answer_follows (rules vars c.depth) (idle Range) (λ (p : Range). p) (Inputs vars) (Locals vars)
+    (follow vars c.depth) no_locals tt (lines_of c.ops c.pairs) k (λ j v e. cc) q in
     (reached_some (Inputs vars) k _ a).2
 
 -- ---- filters
@@ -94,20 +98,27 @@ abbrev FilterLocals : List VarInfo → (ℕ → Option FilterKnown) → Unit {0}
 FilterLocals vars l u = (j : ℕ) (k : FilterKnown) → l j ≡ Some k → InputsBelow (length vars) k.tree
 
 module _ (vars : List VarInfo) where
-  filter-kept : (k h e size : ℕ) (t : Tree) (a : Triple) (r : FilterKnown) → InputsBelow (length vars) t → filter_known k h e size t a ≡ Some r → InputsBelow (length vars) r.tree
+  filter-kept : (k h e size : ℕ) (t : Tree) (a : Triple) (r : FilterKnown) → InputsBelow (length vars) t
+      → filter_known k h e size t a ≡ Some r → InputsBelow (length vars) r.tree
   filter-kept k h e size t a r i q = subst (λ (z : FilterKnown). InputsBelow (length vars) z.tree) (known_says k h e size t a r q).is i
 
-  filter-input : (v : ℕ) (a : Triple) (r : FilterKnown) → next (slice_get vars v) (λ i. filter_known 0 (size_of i) 0 1 (tree.Input v) a) ≡ Some r → InputsBelow (length vars) r.tree
+  filter-input : (v : ℕ) (a : Triple) (r : FilterKnown)
+      → next (slice_get vars v) (λ i. filter_known 0 (size_of i) 0 1 (tree.Input v) a) ≡ Some r → InputsBelow (length vars) r.tree
   filter-input v a r q =
       let s = next_some (slice_get vars v) (λ (i : VarInfo). filter_known 0 (size_of i) 0 1 (tree.Input v) a) r q in
       filter-kept 0 (size_of s.0) 0 1 (tree.Input v) a r (slice_get_within vars v s.0 s.1) s.2
 
-  filter-two : (t : Two) (a : Triple) (x y r : FilterKnown) → InputsBelow (length vars) x.tree → InputsBelow (length vars) y.tree → two_known t a x y ≡ Some r → InputsBelow (length vars) r.tree
-  filter-two Plus a x y r h k q = filter-kept x.triple.k (x.triple.h + y.triple.h) (x.triple.e + y.triple.e) (x.size + y.size) (two_of Plus x.tree y.tree) a r (h, k) (if_some _ _ _ q).1
-  filter-two Minus a x y r h k q = filter-kept x.triple.k (x.triple.h + y.triple.h) (x.triple.e + y.triple.e) (x.size + y.size) (two_of Minus x.tree y.tree) a r (h, k) (if_some _ _ _ q).1
-  filter-two Times a x y r h k q = filter-kept (x.triple.k + y.triple.k) (x.triple.h * y.triple.h) (x.triple.h * y.triple.e + y.triple.h * x.triple.e + x.triple.e * y.triple.e) (x.size * y.size) (two_of Times x.tree y.tree) a r (h, k) q
+  filter-two : (t : Two) (a : Triple) (x y r : FilterKnown) → InputsBelow (length vars) x.tree → InputsBelow (length vars) y.tree
+      → two_known t a x y ≡ Some r → InputsBelow (length vars) r.tree
+  filter-two Plus a x y r h k q = filter-kept x.triple.k (x.triple.h + y.triple.h) (x.triple.e + y.triple.e) (x.size + y.size)
+      (two_of Plus x.tree y.tree) a r (h, k) (if_some _ _ _ q).1
+  filter-two Minus a x y r h k q = filter-kept x.triple.k (x.triple.h + y.triple.h) (x.triple.e + y.triple.e) (x.size + y.size)
+      (two_of Minus x.tree y.tree) a r (h, k) (if_some _ _ _ q).1
+  filter-two Times a x y r h k q = filter-kept (x.triple.k + y.triple.k) (x.triple.h * y.triple.h)
+      (x.triple.h * y.triple.e + y.triple.h * x.triple.e + x.triple.e * y.triple.e) (x.size * y.size) (two_of Times x.tree y.tree) a r (h, k) q
 
-  filter-put : (l : ℕ → Option FilterKnown) (j : ℕ) (v : FilterKnown) → FilterLocals vars l tt → InputsBelow (length vars) v.tree → FilterLocals vars (with_local l j v) tt
+  filter-put : (l : ℕ → Option FilterKnown) (j : ℕ) (v : FilterKnown) → FilterLocals vars l tt → InputsBelow (length vars) v.tree
+      → FilterLocals vars (with_local l j v) tt
   filter-put l j v h f i k = by_case (i == j) where
     by_case : (b : Bool) → (if b then Some v else l i) ≡ Some k → InputsBelow (length vars) k.tree
     by_case true q = let r : v ≡ k = cc in rw (← r) f
@@ -129,5 +140,6 @@ module _ (vars : List VarInfo) where
 -- the expression that a filter carries has no other variables than these
 pub filter_known-inputs : (vars : List VarInfo) (c : FilterCode) (k : FilterKnown) → filter_known_of vars c ≡ Some k → InputsBelow (length vars) k.tree
 filter_known-inputs vars c k q =
-    let a = answer_follows (filter_rules vars c.depth) (idle Triple) (λ (t : Triple). t) (FilterInputs vars) (FilterLocals vars) (filter-follow vars c.depth) no_locals tt (lines_of c.ops c.triples) k (λ j v e. cc) q in
+    let a = answer_follows (filter_rules vars c.depth) (idle Triple) (λ (t : Triple). t) (FilterInputs vars) (FilterLocals vars)
+    (filter-follow vars c.depth) no_locals tt (lines_of c.ops c.triples) k (λ j v e. cc) q in
     (reached_some (FilterInputs vars) k _ a).2

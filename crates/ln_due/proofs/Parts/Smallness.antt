@@ -1,5 +1,6 @@
--- Expressions with small polynomials.
-use Rattle.std.proofs.Common.{◌≡◌, ◌≢◌, inl, ℕ, ◌+◌, ◌*◌, ◌^◌, ◌<◌, ◌≤◌, zero, suc, Bool, true, false, List, [], ◌∷◌, length, get_or, refl, ◌∙◌, ap, arith, subst, unsigned_abs}
+-- Proves, from coefficients and from weights, which expressions have small polynomials.
+use Rattle.std.proofs.Common.{◌≡◌, ◌≢◌, inl, ℕ, ◌+◌, ◌*◌, ◌^◌, ◌<◌, ◌≤◌, zero, suc, Bool, true, false, List, [], ◌∷◌, length, get_or, refl}
+use Rattle.std.proofs.Common.{◌∙◌, ap, arith, subst, unsigned_abs}
 use Rattle.std.proofs.Math.IntN.{ℤ, pos, ◌+ℤ◌}
 use Rattle.std.proofs.Math.Nat.{mul-le-mul_right, one-le-pow, pow-le-pow_left}
 use Rattle.std.proofs.lemmas.Int.{ints}
@@ -36,10 +37,12 @@ small-same n d e h s = record {
 coefficient-weight : (w : ℕ → ℕ) (m : List ℕ) (g : List Term) → unsigned_abs (factor_at g m) * monomial_weight w m ≤ weighted_sum w g
 coefficient-weight w m [] = omega arith
 coefficient-weight w m (t ∷ g) = by_case (same_vector t.exponents m) refl (coefficient-weight w m g) where
-  by_case : (b : Bool) → same_vector t.exponents m ≡ b → unsigned_abs (factor_at g m) * monomial_weight w m ≤ weighted_sum w g → unsigned_abs (factor_at (t ∷ g) m) * monomial_weight w m ≤ weighted_sum w (t ∷ g)
+  by_case : (b : Bool) → same_vector t.exponents m ≡ b → unsigned_abs (factor_at g m) * monomial_weight w m ≤ weighted_sum w g
+      → unsigned_abs (factor_at (t ∷ g) m) * monomial_weight w m ≤ weighted_sum w (t ∷ g)
   by_case true e ih =
       let abs : unsigned_abs (t.factor +ℤ factor_at g m) ≤ unsigned_abs t.factor + unsigned_abs (factor_at g m) = omega (arith, ints) in
-      let q : unsigned_abs t.factor * monomial_weight w t.exponents ≡ unsigned_abs t.factor * monomial_weight w m = ap (λ z. unsigned_abs t.factor * monomial_weight w z) (same_vector-is t.exponents m e) in
+      let q : unsigned_abs t.factor * monomial_weight w t.exponents ≡ unsigned_abs t.factor * monomial_weight w m =
+      ap (λ z. unsigned_abs t.factor * monomial_weight w z) (same_vector-is t.exponents m e) in
       rw e (omega (arith, ih, q, mul-le-mul_right (monomial_weight w m) abs))
   by_case false e ih =
       let z : pos 0 +ℤ factor_at g m ≡ factor_at g m = omega (arith, ints) in
@@ -66,7 +69,11 @@ power-some b k h = one-le-pow k b (omega (arith, h))
 -- each vector weighs something
 monomial-some : (w : ℕ → ℕ) (m : List ℕ) → ((v : ℕ) → v < length m → 2 ≤ w v) → 0 < monomial_weight w m
 monomial-some w [] t = omega arith
-monomial-some w (k ∷ m) t = omega (arith, times-left (w 0 ^ k) (monomial_weight (λ v. w (suc v)) m) (monomial-some (λ v. w (suc v)) m (λ v l. t (suc v) (omega (arith, l)))), power-some (w 0) k (t 0 (omega arith)))
+monomial-some w (k ∷ m) t = omega (
+  arith,
+  times-left (w 0 ^ k) (monomial_weight (λ v. w (suc v)) m) (monomial-some (λ v. w (suc v)) m (λ v l. t (suc v) (omega (arith, l)))),
+  power-some (w 0) k (t 0 (omega arith)),
+)
 
 -- so its weight is at least 2 to the power of each exponent
 monomial-least : (w : ℕ → ℕ) (m : List ℕ) (v : ℕ) → ((u : ℕ) → u < length m → 2 ≤ w u) → 2 ^ get_or m v 0 ≤ monomial_weight w m
@@ -93,7 +100,8 @@ light-low n w e m v t l k =
     let s : 0 < unsigned_abs (factor_at (expanded n e) m) = abs-some (factor_at (expanded n e) m) (λ z. k.nonzero (c ∙ z)) in
     let a : 2 ^ get_or m v 0 ≤ monomial_weight w m = monomial-least w m v (λ u g. t u (subst (λ (j : ℕ). u < j) k.size g)) in
     let b : unsigned_abs (factor_at (expanded n e) m) * monomial_weight w m ≤ weighted_sum w (expanded n e) = coefficient-weight w m (expanded n e) in
-    let d : monomial_weight w m ≤ unsigned_abs (factor_at (expanded n e) m) * monomial_weight w m = times-right (unsigned_abs (factor_at (expanded n e) m)) (monomial_weight w m) s in
+    let d : monomial_weight w m ≤ unsigned_abs (factor_at (expanded n e) m) * monomial_weight w m =
+    times-right (unsigned_abs (factor_at (expanded n e) m)) (monomial_weight w m) s in
     let x : weighted_sum w (expanded n e) ≡ weight w e = weighted-expanded w n e l.inputs in
     let r : get_or m v 0 < 127 = two-power (get_or m v 0) most (omega (arith, a, b, d, x, l.light)) (omega arith) in
     omega (arith, r)

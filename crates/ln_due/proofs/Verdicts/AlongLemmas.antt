@@ -28,7 +28,7 @@ zero-at sites x e [] a z i = absurd i
 zero-at sites x e (b ∷ list) a z (inl q) = ap (perturbed sites x e) q ∙ z.0
 zero-at sites x e (b ∷ list) a z (inr i) = zero-at sites x e list a z.1 i
 
--- the verdict is that of the first vector of the list whose coefficient isn't 0, where the list begins at this place and behind so many calls
+-- the verdict is that of the first vector of the list whose coefficient isn't 0, where the list begins at this place and after this many calls
 pub record Stops (sites : Sites) (x : ℕ → ℤ) (e : Tree) (list : List (List ℕ)) (place entered : ℕ) (v : Verdict) : Type 0 where
   pub before : List (List ℕ)
   pub here : List ℕ
@@ -48,7 +48,8 @@ pub record Ends (sites : Sites) (x : ℕ → ℤ) (e : Tree) (list : List (List 
   pub calls : v.calls ≡ entered + length list
 
 -- a value that isn't 0 decides
-pub settled-other : (z : ℤ) (place wide entered : ℕ) (rest : Option Verdict) → z ≢ pos 0 → settled z place wide entered rest ≡ Some (record { sign = sign_of z; by = Stage place; wide = wide; calls = entered })
+pub settled-other : (z : ℤ) (place wide entered : ℕ) (rest : Option Verdict) → z ≢ pos 0
+    → settled z place wide entered rest ≡ Some (record { sign = sign_of z; by = Stage place; wide = wide; calls = entered })
 settled-other (pos zero) place wide entered rest h = absurd (h refl)
 settled-other (pos (suc n)) place wide entered rest h = refl
 settled-other (negsuc n) place wide entered rest h = refl
@@ -64,7 +65,8 @@ module _ (p : Part) (e : Tree) (zs : List ℤ) (sites : Sites) where
   -- one block more
   turn : (k : ℕ) (ks : List ℕ) (place wide entered : ℕ) (h : HasValue p k zs (perturbed sites x e (stage_at p k))) →
       along zs p.blocks (k ∷ ks) place wide entered
-      ≡ settled (perturbed sites x e (stage_at p k)) place (wide + wide_in h.block.ops) (entered + 1) (along zs p.blocks ks (place + 1) (wide + wide_in h.block.ops) (entered + 1))
+      ≡ settled (perturbed sites x e (stage_at p k)) place (wide + wide_in h.block.ops) (entered + 1)
+      (along zs p.blocks ks (place + 1) (wide + wide_in h.block.ops) (entered + 1))
   turn k ks place wide entered h =
       let g : slice_get p.blocks k ≡ Some h.block = h.there in
       let u : block_value zs h.block ≡ Some (perturbed sites x e (stage_at p k)) = h.value in
@@ -75,41 +77,54 @@ module _ (p : Part) (e : Tree) (zs : List ℤ) (sites : Sites) where
       Stops sites x e (vectors p ks) place entered v ⊎ Ends sites x e (vectors p ks) entered v
   along-finds [] place wide entered v c q =
       let r : record { sign = Zero; by = Nothing; wide = wide; calls = entered } ≡ v = some-same _ v q in
-      inr (record { zeros = tt; sign = ap (λ (w : Verdict). w.sign) (sym r); by = ap (λ (w : Verdict). w.by) (sym r); calls = ap (λ (w : Verdict). w.calls) (sym r) ∙ omega arith })
-  along-finds (k ∷ ks) place wide entered v c q = by_case (zero_cases (perturbed sites x e (stage_at p k))) (along-finds ks (place + 1) (wide + wide_in c.0.block.ops) (entered + 1) v c.1) where
-    step : settled (perturbed sites x e (stage_at p k)) place (wide + wide_in c.0.block.ops) (entered + 1) (along zs p.blocks ks (place + 1) (wide + wide_in c.0.block.ops) (entered + 1)) ≡ Some v
-    step = sym (turn k ks place wide entered c.0) ∙ q
+      inr (record {
+        zeros = tt;
+        sign = ap (λ (w : Verdict). w.sign) (sym r);
+        by = ap (λ (w : Verdict). w.by) (sym r);
+        calls = ap (λ (w : Verdict). w.calls) (sym r) ∙ omega arith;
+      })
+  along-finds (k ∷ ks) place wide entered v c q =
+      by_case (zero_cases (perturbed sites x e (stage_at p k))) (along-finds ks (place + 1) (wide + wide_in c.0.block.ops) (entered + 1) v c.1)
+    where
+      step : settled (perturbed sites x e (stage_at p k)) place (wide + wide_in c.0.block.ops) (entered + 1)
+          (along zs p.blocks ks (place + 1) (wide + wide_in c.0.block.ops) (entered + 1)) ≡ Some v
+      step = sym (turn k ks place wide entered c.0) ∙ q
 
-    further : (perturbed sites x e (stage_at p k) ≡ pos 0) → Stops sites x e (vectors p ks) (place + 1) (entered + 1) v ⊎ Ends sites x e (vectors p ks) (entered + 1) v →
-        Stops sites x e (vectors p (k ∷ ks)) place entered v ⊎ Ends sites x e (vectors p (k ∷ ks)) entered v
-    further y (inl s) = inl (record {
-      before = stage_at p k ∷ s.before;
-      here = s.here;
-      after = s.after;
-      all = ap (λ (t : List (List ℕ)). stage_at p k ∷ t) s.all;
-      zeros = (y, s.zeros);
-      nonzero = s.nonzero;
-      sign = s.sign;
-      by = s.by ∙ ap Stage (omega arith);
-      calls = s.calls ∙ omega arith;
-    })
-    further y (inr t) = inr (record { zeros = (y, t.zeros); sign = t.sign; by = t.by; calls = t.calls ∙ omega arith })
+      further : (perturbed sites x e (stage_at p k) ≡ pos 0) →
+          Stops sites x e (vectors p ks) (place + 1) (entered + 1) v ⊎ Ends sites x e (vectors p ks) (entered + 1) v →
+          Stops sites x e (vectors p (k ∷ ks)) place entered v ⊎ Ends sites x e (vectors p (k ∷ ks)) entered v
+      further y (inl s) = inl (record {
+        before = stage_at p k ∷ s.before;
+        here = s.here;
+        after = s.after;
+        all = ap (λ (t : List (List ℕ)). stage_at p k ∷ t) s.all;
+        zeros = (y, s.zeros);
+        nonzero = s.nonzero;
+        sign = s.sign;
+        by = s.by ∙ ap Stage (omega arith);
+        calls = s.calls ∙ omega arith;
+      })
+      further y (inr t) = inr (record { zeros = (y, t.zeros); sign = t.sign; by = t.by; calls = t.calls ∙ omega arith })
 
-    by_case : (perturbed sites x e (stage_at p k) ≡ pos 0) ⊎ (perturbed sites x e (stage_at p k) ≡ pos 0 → ⊥) →
-        (along zs p.blocks ks (place + 1) (wide + wide_in c.0.block.ops) (entered + 1) ≡ Some v → Stops sites x e (vectors p ks) (place + 1) (entered + 1) v ⊎ Ends sites x e (vectors p ks) (entered + 1) v) →
-        Stops sites x e (vectors p (k ∷ ks)) place entered v ⊎ Ends sites x e (vectors p (k ∷ ks)) entered v
-    by_case (inl y) ih = further y (ih (sym (settled-zero (perturbed sites x e (stage_at p k)) place (wide + wide_in c.0.block.ops) (entered + 1) (along zs p.blocks ks (place + 1) (wide + wide_in c.0.block.ops) (entered + 1)) y) ∙ step))
-    by_case (inr d) ih =
-        let r : record { sign = sign_of (perturbed sites x e (stage_at p k)); by = Stage place; wide = wide + wide_in c.0.block.ops; calls = entered + 1 } ≡ v =
-        some-same _ v (sym (settled-other (perturbed sites x e (stage_at p k)) place (wide + wide_in c.0.block.ops) (entered + 1) (along zs p.blocks ks (place + 1) (wide + wide_in c.0.block.ops) (entered + 1)) d) ∙ step) in
-        inl (record {
-          before = [];
-          here = stage_at p k;
-          after = vectors p ks;
-          all = refl;
-          zeros = tt;
-          nonzero = d;
-          sign = ap (λ (w : Verdict). w.sign) (sym r);
-          by = ap (λ (w : Verdict). w.by) (sym r) ∙ ap Stage (omega arith);
-          calls = ap (λ (w : Verdict). w.calls) (sym r) ∙ omega arith;
-        })
+      by_case : (perturbed sites x e (stage_at p k) ≡ pos 0) ⊎ (perturbed sites x e (stage_at p k) ≡ pos 0 → ⊥) →
+          (along zs p.blocks ks (place + 1) (wide + wide_in c.0.block.ops) (entered + 1) ≡ Some v →
+          Stops sites x e (vectors p ks) (place + 1) (entered + 1) v ⊎ Ends sites x e (vectors p ks) (entered + 1) v) →
+          Stops sites x e (vectors p (k ∷ ks)) place entered v ⊎ Ends sites x e (vectors p (k ∷ ks)) entered v
+      by_case (inl y) ih = further y (ih (sym (settled-zero (perturbed sites x e (stage_at p k)) place (wide + wide_in c.0.block.ops)
+          (entered + 1) (along zs p.blocks ks (place + 1) (wide + wide_in c.0.block.ops) (entered + 1)) y) ∙ step))
+      by_case (inr d) ih =
+          let r : record { sign = sign_of (perturbed sites x e (stage_at p k)); by = Stage place; wide = wide + wide_in c.0.block.ops; calls = entered + 1 }
+          ≡ v =
+          some-same _ v (sym (settled-other (perturbed sites x e (stage_at p k)) place (wide + wide_in c.0.block.ops) (entered + 1)
+          (along zs p.blocks ks (place + 1) (wide + wide_in c.0.block.ops) (entered + 1)) d) ∙ step) in
+          inl (record {
+            before = [];
+            here = stage_at p k;
+            after = vectors p ks;
+            all = refl;
+            zeros = tt;
+            nonzero = d;
+            sign = ap (λ (w : Verdict). w.sign) (sym r);
+            by = ap (λ (w : Verdict). w.by) (sym r) ∙ ap Stage (omega arith);
+            calls = ap (λ (w : Verdict). w.calls) (sym r) ∙ omega arith;
+          })

@@ -54,60 +54,90 @@ stages-coefficients rank p e f places list row program carries l r =
       coefficients = λ k h. computes-at p e f row.values sites program rank carries r.values list k c h;
     }
 
--- the first vector stands in the list, or all coefficients in it are 0
+-- the first vector is in the list, or all coefficients in it are 0
 pub cut-nothing : CutLosesNothing
-cut-nothing rank p e f places list row carries r o l = by_sign (sign-along-in (length p.shape.vars) (row_sites p.shape.vars row.index) (Before rank (row_sites p.shape.vars row.index)) (both-admissible rank (length p.shape.vars) (row_sites p.shape.vars row.index) (rows-differ p.shape row r)) (values row.values) e carries.inputs (vectors p list) stages) where
-  stages : RowStages rank p.shape.vars e row (vectors p list)
-  stages = row-stages rank p.shape row places e (vectors p list) r o (carries.lists places list l)
+cut-nothing rank p e f places list row carries r o l =
+    by_sign (sign-along-in (length p.shape.vars) (row_sites p.shape.vars row.index) (Before rank (row_sites p.shape.vars row.index)) (both-admissible rank
+    (length p.shape.vars) (row_sites p.shape.vars row.index) (rows-differ p.shape row r)) (values row.values) e carries.inputs (vectors p list) stages)
+  where
+    stages : RowStages rank p.shape.vars e row (vectors p list)
+    stages = row-stages rank p.shape row places e (vectors p list) r o (carries.lists places list l)
 
-  all_zero : ((a : List ℕ) → RowFirst rank p.shape.vars e row a → ⊥) → (a : List ℕ) → In (vectors p list) a →
-      (perturbed (row_sites p.shape.vars row.index) (values row.values) e a ≡ pos 0) ⊎ (perturbed (row_sites p.shape.vars row.index) (values row.values) e a ≡ pos 0 → ⊥) → perturbed (row_sites p.shape.vars row.index) (values row.values) e a ≡ pos 0
-  all_zero lacks a i (inl z) = z
-  all_zero lacks a i (inr d) =
-      let first = nonzero-first-in (length p.shape.vars) (row_sites p.shape.vars row.index) (Before rank (row_sites p.shape.vars row.index)) (both-admissible rank (length p.shape.vars) (row_sites p.shape.vars row.index) (rows-differ p.shape row r)) (values row.values) e a (stages.stages a i).over d in
-      absurd (lacks first.0 first.1)
+    all_zero : ((a : List ℕ) → RowFirst rank p.shape.vars e row a → ⊥) → (a : List ℕ) → In (vectors p list) a →
+        (perturbed (row_sites p.shape.vars row.index) (values row.values) e a ≡ pos 0)
+        ⊎ (perturbed (row_sites p.shape.vars row.index) (values row.values) e a ≡ pos 0 → ⊥) →
+        perturbed (row_sites p.shape.vars row.index) (values row.values) e a ≡ pos 0
+    all_zero lacks a i (inl z) = z
+    all_zero lacks a i (inr d) =
+        let first = nonzero-first-in (length p.shape.vars) (row_sites p.shape.vars row.index) (Before rank (row_sites p.shape.vars row.index))
+        (both-admissible rank (length p.shape.vars) (row_sites p.shape.vars row.index) (rows-differ p.shape row r)) (values row.values) e a
+        (stages.stages a i).over d in
+        absurd (lacks first.0 first.1)
 
-  by_sign : {t : ℤ} → RowSign rank p.shape.vars e row t →
-      ((a : List ℕ) × RowFirst rank p.shape.vars e row a × In (vectors p list) a)
-      ⊎ (((a : List ℕ) → RowFirst rank p.shape.vars e row a → ⊥)
-      × ((a : List ℕ) → In (vectors p list) a → perturbed (row_sites p.shape.vars row.index) (values row.values) e a ≡ pos 0))
-  by_sign (inl u) = inl (u.0, u.1, stages.all u.0 (first-stage-in (length p.shape.vars) (row_sites p.shape.vars row.index) (Before rank (row_sites p.shape.vars row.index)) (values row.values) e carries.inputs u.0 u.1))
-  by_sign (inr u) = inr (u.0, λ a i. all_zero u.0 a i (zero_cases (perturbed (row_sites p.shape.vars row.index) (values row.values) e a)))
+    by_sign : {t : ℤ} → RowSign rank p.shape.vars e row t →
+        ((a : List ℕ) × RowFirst rank p.shape.vars e row a × In (vectors p list) a)
+        ⊎ (((a : List ℕ) → RowFirst rank p.shape.vars e row a → ⊥)
+        × ((a : List ℕ) → In (vectors p list) a → perturbed (row_sites p.shape.vars row.index) (values row.values) e a ≡ pos 0))
+    by_sign (inl u) = inl (
+      u.0,
+      u.1,
+      stages.all u.0 (first-stage-in (length p.shape.vars) (row_sites p.shape.vars row.index) (Before rank (row_sites p.shape.vars row.index))
+          (values row.values) e carries.inputs u.0 u.1),
+    )
+    by_sign (inr u) = inr (u.0, λ a i. all_zero u.0 a i (zero_cases (perturbed (row_sites p.shape.vars row.index) (values row.values) e a)))
 
 -- each block runs
 pub blocks-run : BlocksRun
 blocks-run p c row program i r = blocks_mean p.shape.vars row.values c r.values (All-contains (FollowsRules p.shape.vars) p.blocks c program.blocks i)
 
--- what the blocks of the list of a row's order answer, behind so many calls, is what the stages owe the row
-pub along-owed : (rank : Rank) (p : Part) (e : Tree) (f : List Term) (places list : List ℕ) (row : Row) (before : ℕ) (v : Verdict) → Runs p → Carries rank p e f → InRange p.shape.sites p.shape.vars row →
+-- what the blocks of the list of a row's order return, after this many calls, is what the stages require on the row
+pub along-owed : (rank : Rank) (p : Part) (e : Tree) (f : List Term) (places list : List ℕ) (row : Row) (before : ℕ) (v : Verdict) →
+    Runs p → Carries rank p e f → InRange p.shape.sites p.shape.vars row →
     IsOrder row.index places → IsListOf p places list → along row.values p.blocks list 0 0 before ≡ Some v → IsOwedByStages rank p.shape.vars e row before v
-along-owed rank p e f places list row before v program carries r o l run = record { sign = owed.sign; list = vectors p list; stages = stages; blocks = owed.blocks; decided = owed.decided; calls = owed.calls } where
-  stages : RowStages rank p.shape.vars e row (vectors p list)
-  stages = row-stages rank p.shape row places e (vectors p list) r o (carries.lists places list l)
+along-owed rank p e f places list row before v program carries r o l run =
+    record { sign = owed.sign; list = vectors p list; stages = stages; blocks = owed.blocks; decided = owed.decided; calls = owed.calls }
+  where
+    stages : RowStages rank p.shape.vars e row (vectors p list)
+    stages = row-stages rank p.shape row places e (vectors p list) r o (carries.lists places list l)
 
-  found : Stops (row_sites p.shape.vars row.index) (values row.values) e (vectors p list) 0 before v ⊎ Ends (row_sites p.shape.vars row.index) (values row.values) e (vectors p list) before v
-  found = along-finds p e row.values (row_sites p.shape.vars row.index) list 0 0 before v (list-computes p e f row.values (row_sites p.shape.vars row.index) program rank carries r.values list (list-within p places list program l) (λ a i. (stages.stages a i).over)) run
+    found : Stops (row_sites p.shape.vars row.index) (values row.values) e (vectors p list) 0 before v
+        ⊎ Ends (row_sites p.shape.vars row.index) (values row.values) e (vectors p list) before v
+    found = along-finds p e row.values (row_sites p.shape.vars row.index) list 0 0 before v (list-computes p e f row.values
+        (row_sites p.shape.vars row.index) program rank carries r.values list (list-within p places list program l) (λ a i. (stages.stages a i).over)) run
 
-  owed : Owed (length p.shape.vars) (row_sites p.shape.vars row.index) (values row.values) e carries.inputs (Before rank (row_sites p.shape.vars row.index)) (both-admissible rank (length p.shape.vars) (row_sites p.shape.vars row.index) (rows-differ p.shape row r)) (vectors p list) v before
-  owed = elim found [ inl s ↦ stop-owed (length p.shape.vars) (row_sites p.shape.vars row.index) (values row.values) e carries.inputs (Before rank (row_sites p.shape.vars row.index)) (both-admissible rank (length p.shape.vars) (row_sites p.shape.vars row.index) (rows-differ p.shape row r)) (vectors p list) v before stages s | inr s ↦ end-owed (length p.shape.vars) (row_sites p.shape.vars row.index) (values row.values) e carries.inputs (Before rank (row_sites p.shape.vars row.index)) (both-admissible rank (length p.shape.vars) (row_sites p.shape.vars row.index) (rows-differ p.shape row r)) (vectors p list) v before stages s ]
+    owed : Owed (length p.shape.vars) (row_sites p.shape.vars row.index) (values row.values) e carries.inputs (Before rank (row_sites p.shape.vars row.index))
+        (both-admissible rank (length p.shape.vars) (row_sites p.shape.vars row.index) (rows-differ p.shape row r)) (vectors p list) v before
+    owed = elim found [
+      | inl s ↦ stop-owed (length p.shape.vars) (row_sites p.shape.vars row.index)
+          (values row.values) e carries.inputs (Before rank (row_sites p.shape.vars row.index))
+          (both-admissible rank (length p.shape.vars) (row_sites p.shape.vars row.index) (rows-differ p.shape row r)) (vectors p list) v before stages s
+      | inr s ↦ end-owed (length p.shape.vars) (row_sites p.shape.vars row.index)
+          (values row.values) e carries.inputs (Before rank (row_sites p.shape.vars row.index))
+          (both-admissible rank (length p.shape.vars) (row_sites p.shape.vars row.index) (rows-differ p.shape row r)) (vectors p list) v before stages s
+    ]
 
 -- the machine of a part whose filter is known
-answered-with : (p : Part) (row : Row) (v : Verdict) (o : Option FilterCode) (m : IsVerdict p row v) → p.filter ≡ o → through o row.values p.blocks m.list ≡ Some v
+answered-with : (p : Part) (row : Row) (v : Verdict) (o : Option FilterCode) (m : IsVerdict p row v) → p.filter ≡ o
+    → through o row.values p.blocks m.list ≡ Some v
 answered-with p row v o m h = subst (λ (q : Option FilterCode). through q row.values p.blocks m.list ≡ Some v) h m.answered
 
--- the machine's verdict is due
+-- the machine's verdict is the required one
 pub verdicts-due : VerdictsAreDue
-verdicts-due rank p e f row NoFilter v program carries r does m = along-owed rank p e f m.places m.list row 0 v program carries r m.order m.chosen (answered-with p row v None m does)
+verdicts-due rank p e f row NoFilter v program carries r does m =
+    along-owed rank p e f m.places m.list row 0 v program carries r m.order m.chosen (answered-with p row v None m does)
 verdicts-due rank p e f row Undecided v program carries r (c, left, here, a, within) m =
     let run : along row.values p.blocks m.list 0 0 1 ≡ Some v =
-    sym (decides-within left (along row.values p.blocks m.list 0 0 1) within) ∙ sym (through-decides row.values c left p.blocks m.list a) ∙ answered-with p row v (Some c) m here in
+    sym (decides-within left (along row.values p.blocks m.list 0 0 1) within) ∙ sym (through-decides row.values c left p.blocks m.list a)
+    ∙ answered-with p row v (Some c) m here in
     along-owed rank p e f m.places m.list row 1 v program carries r m.order m.chosen run
 verdicts-due rank p e f row Decided v program carries r (c, left, here, a, above) m =
     let q : record { sign = sign_of left.number; by = Filter; wide = 0; calls = 1 } ≡ v =
-    some-same _ v (sym (decides-above left (along row.values p.blocks m.list 0 0 1) above) ∙ sym (through-decides row.values c left p.blocks m.list a) ∙ answered-with p row v (Some c) m here) in
+    some-same _ v (sym (decides-above left (along row.values p.blocks m.list 0 0 1) above)
+    ∙ sym (through-decides row.values c left p.blocks m.list a) ∙ answered-with p row v (Some c) m here) in
     let s : sign_of left.number ≡ v.sign = ap (λ (w : Verdict). w.sign) q in
     record {
-      sign = subst (λ (t : Sign). RowSign rank p.shape.vars e row (sign_number t)) s (decided-sign rank p e f row.values (row_sites p.shape.vars row.index) c left program (rows-differ p.shape row r) carries r.values here a above);
+      sign = subst (λ (t : Sign). RowSign rank p.shape.vars e row (sign_number t)) s
+          (decided-sign rank p e f row.values (row_sites p.shape.vars row.index) c left program (rows-differ p.shape row r) carries r.values here a above);
       by = ap (λ (w : Verdict). w.by) (sym q);
       calls = ap (λ (w : Verdict). w.calls) (sym q);
       wide = ap (λ (w : Verdict). w.wide) (sym q);

@@ -29,7 +29,8 @@ use Rattle.ln_due.proofs.Verdicts.UniqueLemmas.{position-unique}
 pub zeros-value : ZerosHaveTheValue
 zeros-value n sites x e = plain (of_sites sites) x e (zeros n) (is_zero-zeros n)
 
-module _ (n : ℕ) (sites : Sites) (before : List ℕ → List ℕ → Type 0) (order : IsAdmissible n sites before) (x : ℕ → ℤ) (e : Tree) (d : value x [] e ≢ pos 0) where
+module _ (n : ℕ) (sites : Sites) (before : List ℕ → List ℕ → Type 0) (order : IsAdmissible n sites before) (x : ℕ → ℤ) (e : Tree)
+    (d : value x [] e ≢ pos 0) where
   -- the first vector is that of zeros
   first : IsFirstIn before n sites x e (zeros n)
   first = zeros-first n sites before order x e (λ q. d (sym (zeros-value n sites x e) ∙ q))
@@ -43,7 +44,8 @@ module _ (n : ℕ) (sites : Sites) (before : List ℕ → List ℕ → Type 0) (
   plain-sign y (inr h) = absurd (h.0 (zeros n) first)
 
   -- no member of a list over the variables of sites is earlier
-  plain-decider : (list : List (List ℕ)) → ((b : List ℕ) → In list b → IsOver n sites b) → (b : By) (k : ℕ) → IsDecidedBy before n sites x e list b k → b ≡ Stage 0
+  plain-decider : (list : List (List ℕ)) → ((b : List ℕ) → In list b → IsOver n sites b) → (b : By) (k : ℕ)
+      → IsDecidedBy before n sites x e list b k → b ≡ Stage 0
   plain-decider list o Filter k h = absurd h
   plain-decider list o (Stage place) k h =
       let at : IsPositionIn before list (zeros n) place = subst (λ (a : List ℕ). IsPositionIn before list a place) (is-zeros h.0 h.1) h.2 in
@@ -57,16 +59,21 @@ module _ (n : ℕ) (sites : Sites) (before : List ℕ → List ℕ → Type 0) (
   plain-stages v list blocks s o h = record { sign = plain-sign (sign_number v.sign) s; by = inr (plain-decider list o v.by blocks h) }
 
 -- the verdict of the stages
-module _ (rank : Rank) (vars : List VarInfo) (e : Tree) (row : Row) (order : IsAdmissible (length vars) (row_sites vars row.index) (Before rank (row_sites vars row.index))) (d : value (values row.values) [] e ≢ pos 0) where
+module _ (rank : Rank) (vars : List VarInfo) (e : Tree) (row : Row)
+    (order : IsAdmissible (length vars) (row_sites vars row.index) (Before rank (row_sites vars row.index))) (d : value (values row.values) [] e ≢ pos 0) where
   by-stages : (entered : ℕ) (v : Verdict) → IsOwedByStages rank vars e row entered v → IsPlain (value (values row.values) [] e) v
   by-stages entered v h =
-      plain-stages (length vars) (row_sites vars row.index) (Before rank (row_sites vars row.index)) order (values row.values) e d v h.list h.blocks h.sign (λ b i. (h.stages.stages b i).over) h.decided
+      plain-stages (length vars) (row_sites vars row.index) (Before rank (row_sites vars row.index)) order
+      (values row.values) e d v h.list h.blocks h.sign (λ b i. (h.stages.stages b i).over) h.decided
 
--- the verdict that is due
+-- the required verdict
 pub plain-decides : PlainValuesDecide
-plain-decides rank s e row NoFilter v r d h = by-stages rank s.vars e row (both-admissible rank (length s.vars) (row_sites s.vars row.index) (rows-differ s row r)) d 0 v h
-plain-decides rank s e row Undecided v r d h = by-stages rank s.vars e row (both-admissible rank (length s.vars) (row_sites s.vars row.index) (rows-differ s row r)) d 1 v h
+plain-decides rank s e row NoFilter v r d h =
+    by-stages rank s.vars e row (both-admissible rank (length s.vars) (row_sites s.vars row.index) (rows-differ s row r)) d 0 v h
+plain-decides rank s e row Undecided v r d h =
+    by-stages rank s.vars e row (both-admissible rank (length s.vars) (row_sites s.vars row.index) (rows-differ s row r)) d 1 v h
 plain-decides rank s e row Decided v r d h = record {
-  sign = plain-sign (length s.vars) (row_sites s.vars row.index) (Before rank (row_sites s.vars row.index)) (both-admissible rank (length s.vars) (row_sites s.vars row.index) (rows-differ s row r)) (values row.values) e d (sign_number v.sign) h.sign;
+  sign = plain-sign (length s.vars) (row_sites s.vars row.index) (Before rank (row_sites s.vars row.index))
+      (both-admissible rank (length s.vars) (row_sites s.vars row.index) (rows-differ s row r)) (values row.values) e d (sign_number v.sign) h.sign;
   by = inl h.by;
 }

@@ -29,7 +29,8 @@ module _ (rank : Rank) (vars : List VarInfo) (row : Row) where
   one-differs p e v a = subst (λ (w : List VarInfo). IndicesDiffer (row_sites w row.index)) a.same (rows-differ p.shape row a.within)
 
   -- all parts
-  all-signs : (ps : List Part) (es : List Tree) (vs : List Verdict) → AreAnswered rank vars row ps es vs → AreSigns (Before rank (row_sites vars row.index)) (length vars) (row_sites vars row.index) (values row.values) es (map (λ v. sign_number v.sign) vs)
+  all-signs : (ps : List Part) (es : List Tree) (vs : List Verdict) → AreAnswered rank vars row ps es vs
+      → AreSigns (Before rank (row_sites vars row.index)) (length vars) (row_sites vars row.index) (values row.values) es (map (λ v. sign_number v.sign) vs)
   all-signs [] [] [] a = tt
   all-signs [] [] (v ∷ vs) a = absurd a
   all-signs [] (e ∷ es) vs a = absurd a
@@ -42,5 +43,6 @@ pub signs-multiply : SignsMultiply
 signs-multiply rank vars row [] e es vs a = absurd a
 signs-multiply rank vars row (p ∷ ps) e es [] a = absurd a
 signs-multiply rank vars row (p ∷ ps) e es (v ∷ vs) a =
-    product-sign (length vars) (row_sites vars row.index) (Before rank (row_sites vars row.index)) (both-admissible rank (length vars) (row_sites vars row.index) (one-differs rank vars row p e v a.0)) (values row.values) e es
+    product-sign (length vars) (row_sites vars row.index) (Before rank (row_sites vars row.index))
+    (both-admissible rank (length vars) (row_sites vars row.index) (one-differs rank vars row p e v a.0)) (values row.values) e es
     (map (λ w. sign_number w.sign) (v ∷ vs)) (all-signs rank vars row (p ∷ ps) (e ∷ es) (v ∷ vs) a)

@@ -1,5 +1,6 @@
--- A row is owed at most one verdict; without params never the sign 0.
-use Rattle.std.proofs.Common.{◌≡◌, ◌≢◌, inl, inr, ℕ, ◌+◌, ◌<◌, zero, suc, true, List, [], ◌∷◌, length, refl, sym, ◌∙◌, ap, arith, subst, is_some, Option, Some, None}
+-- A row requires at most one verdict; without params never the sign 0.
+use Rattle.std.proofs.Common.{◌≡◌, ◌≢◌, inl, inr, ℕ, ◌+◌, ◌<◌, zero, suc, true, List, [], ◌∷◌, length, refl, sym, ◌∙◌, ap, arith, subst}
+use Rattle.std.proofs.Common.{is_some, Option, Some, None}
 use Rattle.std.specs.Prelude.{All}
 use Rattle.std.proofs.Math.IntN.{ℤ, pos, negsuc}
 use Rattle.std.proofs.lemmas.List.Elements.{All-head, All-tail}
@@ -39,7 +40,8 @@ sign-number-same Plus Zero e = cc
 sign-number-same Plus Plus e = refl
 
 -- a vector has one position
-pub position-unique : (before : List ℕ → List ℕ → Type 0) (list : List (List ℕ)) (a : List ℕ) (i j : ℕ) → IsPositionIn before list a i → IsPositionIn before list a j → i ≡ j
+pub position-unique : (before : List ℕ → List ℕ → Type 0) (list : List (List ℕ)) (a : List ℕ) (i j : ℕ) → IsPositionIn before list a i
+    → IsPositionIn before list a j → i ≡ j
 position-unique before [] a i j h k = h ∙ sym k
 position-unique before (b ∷ list) a i j (inl h) (inl k) = h.1.2 ∙ ap (λ m. m + 1) (position-unique before list a h.1.0 k.1.0 h.1.1 k.1.1) ∙ sym k.1.2
 position-unique before (b ∷ list) a i j (inl h) (inr k) = absurd (k.0 h.0)
@@ -48,7 +50,8 @@ position-unique before (b ∷ list) a i j (inr h) (inr k) = position-unique befo
 
 module _ (n : ℕ) (sites : Sites) (before : List ℕ → List ℕ → Type 0) (order : IsAdmissible n sites before) (x : ℕ → ℤ) (e : Tree) where
   -- one thing decides
-  decided-unique : (list : List (List ℕ)) (b c : By) (i j : ℕ) → IsDecidedBy before n sites x e list b i → IsDecidedBy before n sites x e list c j → (b ≡ c) × (i ≡ j)
+  decided-unique : (list : List (List ℕ)) (b c : By) (i j : ℕ) → IsDecidedBy before n sites x e list b i
+      → IsDecidedBy before n sites x e list c j → (b ≡ c) × (i ≡ j)
   decided-unique list Filter c i j h k = absurd h
   decided-unique list (Stage s) Filter i j h k = absurd k
   decided-unique list Nothing Filter i j h k = absurd k
@@ -61,14 +64,16 @@ module _ (n : ℕ) (sites : Sites) (before : List ℕ → List ℕ → Type 0) (
   decided-unique list Nothing Nothing i j h k = (refl, h.1 ∙ sym k.1)
 
 -- the stages owe one verdict
-owed-unique : (rank : Rank) (s : Shape) (e : Tree) (row : Row) (entered : ℕ) (v w : Verdict) → InRange s.sites s.vars row → IsOwedByStages rank s.vars e row entered v → IsOwedByStages rank s.vars e row entered w → Agree v w
+owed-unique : (rank : Rank) (s : Shape) (e : Tree) (row : Row) (entered : ℕ) (v w : Verdict) → InRange s.sites s.vars row
+    → IsOwedByStages rank s.vars e row entered v → IsOwedByStages rank s.vars e row entered w → Agree v w
 owed-unique rank s e row entered v w r d g =
     let n : ℕ = length s.vars in
     let sites : Sites = row_sites s.vars row.index in
     let before : List ℕ → List ℕ → Type 0 = Before rank sites in
     let order : IsAdmissible n sites before = both-admissible rank n sites (rows-differ s row r) in
     let list : d.list ≡ g.list = stage_list-unique-in n sites before order e d.list g.list d.stages g.stages in
-    let both = decided-unique n sites before order (values row.values) e g.list v.by w.by d.blocks g.blocks (subst (λ (q : List (List ℕ)). IsDecidedBy before n sites (values row.values) e q v.by d.blocks) list d.decided) g.decided in
+    let both = decided-unique n sites before order (values row.values) e g.list v.by w.by d.blocks g.blocks
+    (subst (λ (q : List (List ℕ)). IsDecidedBy before n sites (values row.values) e q v.by d.blocks) list d.decided) g.decided in
     record {
       sign = sign-number-same v.sign w.sign (row_sign-unique rank s e row (sign_number v.sign) (sign_number w.sign) r d.sign g.sign);
       by = both.0;
@@ -85,8 +90,9 @@ due-unique rank s e row Decided v w r d g = record {
   calls = d.calls ∙ sym g.calls;
 }
 
--- what is due has the perturbed sign
-pub due-sign : (rank : Rank) (vars : List VarInfo) (e : Tree) (row : Row) (does : Filtering) (v : Verdict) → Due rank does vars e row v → RowSign rank vars e row (sign_number v.sign)
+-- the required verdict has the perturbed sign
+pub due-sign : (rank : Rank) (vars : List VarInfo) (e : Tree) (row : Row) (does : Filtering) (v : Verdict) → Due rank does vars e row v
+    → RowSign rank vars e row (sign_number v.sign)
 due-sign rank vars e row NoFilter v d = d.sign
 due-sign rank vars e row Decided v d = d.sign
 due-sign rank vars e row Undecided v d = d.sign
@@ -112,7 +118,8 @@ sign-nonzero (negsuc n) h e = cc
 pub never-zero : WithoutParamsNeverZero
 never-zero rank s e m row does v a below mono r d q = by_sign (due-sign rank s.vars e row does v d) where
   first : (b : List ℕ) × RowFirst rank s.vars e row b
-  first = all-first-in (length s.vars) (row_sites s.vars row.index) (Before rank (row_sites s.vars row.index)) (both-admissible rank (length s.vars) (row_sites s.vars row.index) (rows-differ s row r)) (values row.values) e below (λ u k. all-sites s.vars u a k) m mono
+  first = all-first-in (length s.vars) (row_sites s.vars row.index) (Before rank (row_sites s.vars row.index)) (both-admissible rank
+      (length s.vars) (row_sites s.vars row.index) (rows-differ s row r)) (values row.values) e below (λ u k. all-sites s.vars u a k) m mono
 
   by_sign : RowSign rank s.vars e row (sign_number v.sign) → ⊥
   by_sign (inl t) = sign-nonzero (perturbed (row_sites s.vars row.index) (values row.values) e t.0) t.1.nonzero (sym t.2 ∙ ap sign_number q)

@@ -65,17 +65,20 @@ tree_cost vars ts (TNeg t b w) =
 tree_cost vars ts (TTwo Plus u t b w) =
     let h = tree_cost vars ts u in
     let k = tree_cost vars ts t in
-    let e = sum_cost (Add W64) (filter_lines vars ts (untyped u)) (filter_lines vars ts (untyped t)) (triple vars ts (untyped u)) (triple vars ts (untyped t)) in
+    let e = sum_cost (Add W64) (filter_lines vars ts (untyped u)) (filter_lines vars ts (untyped t)) (triple vars ts (untyped u))
+    (triple vars ts (untyped t)) in
     omega (arith, h, k, e)
 tree_cost vars ts (TTwo Minus u t b w) =
     let h = tree_cost vars ts u in
     let k = tree_cost vars ts t in
-    let e = sum_cost (Sub W64) (filter_lines vars ts (untyped u)) (filter_lines vars ts (untyped t)) (triple vars ts (untyped u)) (triple vars ts (untyped t)) in
+    let e = sum_cost (Sub W64) (filter_lines vars ts (untyped u)) (filter_lines vars ts (untyped t)) (triple vars ts (untyped u))
+    (triple vars ts (untyped t)) in
     omega (arith, h, k, e)
 tree_cost vars ts (TTwo Times u t b w) =
     let h = tree_cost vars ts u in
     let k = tree_cost vars ts t in
-    let e = product_cost (filter_lines vars ts (untyped u)) (filter_lines vars ts (untyped t)) (product_of (triple vars ts (untyped u)) (triple vars ts (untyped t))) in
+    let e = product_cost (filter_lines vars ts (untyped u)) (filter_lines vars ts (untyped t))
+    (product_of (triple vars ts (untyped u)) (triple vars ts (untyped t))) in
     omega (arith, h, k, e)
 tree_cost vars ts (TPow t zero b w) = omega arith
 tree_cost vars ts (TPow t (suc n) b w) =
@@ -85,12 +88,14 @@ tree_cost vars ts (TPow t (suc n) b w) =
     omega (arith, h, p, e)
 
 -- the lets take one operation more each
-pub lets_cost : (vars : List VarInfo) (j : ℕ) (done : List Triple) (ts : List Typed) → length (let_lines vars j done (map untyped ts)) ≤ 4 * costs ts + length ts
+pub lets_cost : (vars : List VarInfo) (j : ℕ) (done : List Triple) (ts : List Typed)
+    → length (let_lines vars j done (map untyped ts)) ≤ 4 * costs ts + length ts
 lets_cost vars j done [] = omega arith
 lets_cost vars j done (t ∷ ts) =
     let h = tree_cost vars done t in
     let k = lets_cost vars (suc j) (done ++ (triple vars done (untyped t) ∷ [])) ts in
-    let e = length-append (filter_lines vars done (untyped t)) (line (Set j) no_triple ∷ let_lines vars (suc j) (done ++ (triple vars done (untyped t) ∷ [])) (map untyped ts)) in
+    let e = length-append (filter_lines vars done (untyped t))
+    (line (Set j) no_triple ∷ let_lines vars (suc j) (done ++ (triple vars done (untyped t) ∷ [])) (map untyped ts)) in
     omega (arith, h, k, e)
 
 -- ---- what stores has no triple
@@ -106,9 +111,11 @@ cut_stores (suc n) a = (λ e. cc, tt)
 trim_stores : (o : Op) (a : Triple) → (stores o ≡ true → a ≡ no_triple) → StoresHave no_triple (trim_lines o a)
 trim_stores o a f = (f, cut_stores (excess a.h) a)
 
-sum_stores : (o : Op) (xs ys : List (Line Triple)) (a b : Triple) → (stores o ≡ true → sum_of a b ≡ no_triple) → StoresHave no_triple xs → StoresHave no_triple ys → StoresHave no_triple (sum_lines o xs ys a b)
+sum_stores : (o : Op) (xs ys : List (Line Triple)) (a b : Triple) → (stores o ≡ true → sum_of a b ≡ no_triple) → StoresHave no_triple xs
+    → StoresHave no_triple ys → StoresHave no_triple (sum_lines o xs ys a b)
 sum_stores o xs ys a b f h k =
-    stores_append xs _ h (stores_append (cut_lines (b.k - a.k) a) _ (cut_stores (b.k - a.k) a) (stores_append ys _ k (stores_append (cut_lines (a.k - b.k) b) _ (cut_stores (a.k - b.k) b) (f, cut_stores (excess (sum_of a b).h) (sum_of a b)))))
+    stores_append xs _ h (stores_append (cut_lines (b.k - a.k) a) _ (cut_stores (b.k - a.k) a)
+    (stores_append ys _ k (stores_append (cut_lines (a.k - b.k) b) _ (cut_stores (a.k - b.k) b) (f, cut_stores (excess (sum_of a b).h) (sum_of a b)))))
 
 factors_store : (a : Triple) (n : ℕ) → StoresHave no_triple (factors a n)
 factors_store a zero = tt
@@ -123,12 +130,18 @@ tree_stores vars ts (TNum c b w) = (λ e. cc, tt)
 tree_stores vars ts (TInput v b w) = trim_stores (Input v) (whole (sizes vars v)) (λ e. cc)
 tree_stores vars ts (TLet j b w) = (λ e. cc, tt)
 tree_stores vars ts (TNeg t b w) = stores_append (filter_lines vars ts (untyped t)) _ (tree_stores vars ts t) (λ e. cc, tt)
-tree_stores vars ts (TTwo Plus u t b w) = sum_stores (Add W64) (filter_lines vars ts (untyped u)) (filter_lines vars ts (untyped t)) (triple vars ts (untyped u)) (triple vars ts (untyped t)) (λ e. cc) (tree_stores vars ts u) (tree_stores vars ts t)
-tree_stores vars ts (TTwo Minus u t b w) = sum_stores (Sub W64) (filter_lines vars ts (untyped u)) (filter_lines vars ts (untyped t)) (triple vars ts (untyped u)) (triple vars ts (untyped t)) (λ e. cc) (tree_stores vars ts u) (tree_stores vars ts t)
-tree_stores vars ts (TTwo Times u t b w) = stores_append (filter_lines vars ts (untyped u)) _ (tree_stores vars ts u) (stores_append (filter_lines vars ts (untyped t)) _ (tree_stores vars ts t) (trim_stores (Mul W64) (product_of (triple vars ts (untyped u)) (triple vars ts (untyped t))) (λ e. cc)))
+tree_stores vars ts (TTwo Plus u t b w) = sum_stores (Add W64) (filter_lines vars ts (untyped u)) (filter_lines vars ts (untyped t))
+    (triple vars ts (untyped u)) (triple vars ts (untyped t)) (λ e. cc) (tree_stores vars ts u) (tree_stores vars ts t)
+tree_stores vars ts (TTwo Minus u t b w) = sum_stores (Sub W64) (filter_lines vars ts (untyped u)) (filter_lines vars ts (untyped t))
+    (triple vars ts (untyped u)) (triple vars ts (untyped t)) (λ e. cc) (tree_stores vars ts u) (tree_stores vars ts t)
+tree_stores vars ts (TTwo Times u t b w) =
+    stores_append (filter_lines vars ts (untyped u)) _ (tree_stores vars ts u) (stores_append (filter_lines vars ts (untyped t)) _
+    (tree_stores vars ts t) (trim_stores (Mul W64) (product_of (triple vars ts (untyped u)) (triple vars ts (untyped t))) (λ e. cc)))
 tree_stores vars ts (TPow t zero b w) = (λ e. cc, tt)
-tree_stores vars ts (TPow t (suc n) b w) = stores_append (filter_lines vars ts (untyped t)) _ (tree_stores vars ts t) (power_stores (triple vars ts (untyped t)) n)
+tree_stores vars ts (TPow t (suc n) b w) =
+    stores_append (filter_lines vars ts (untyped t)) _ (tree_stores vars ts t) (power_stores (triple vars ts (untyped t)) n)
 
 pub lets_store : (vars : List VarInfo) (j : ℕ) (done : List Triple) (ts : List Typed) → StoresHave no_triple (let_lines vars j done (map untyped ts))
 lets_store vars j done [] = tt
-lets_store vars j done (t ∷ ts) = stores_append (filter_lines vars done (untyped t)) _ (tree_stores vars done t) (λ e. refl, lets_store vars (suc j) (done ++ (triple vars done (untyped t) ∷ [])) ts)
+lets_store vars j done (t ∷ ts) = stores_append (filter_lines vars done (untyped t)) _ (tree_stores vars done t)
+    (λ e. refl, lets_store vars (suc j) (done ++ (triple vars done (untyped t) ∷ [])) ts)

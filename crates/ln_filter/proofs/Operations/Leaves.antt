@@ -1,5 +1,6 @@
 -- Without any test, the operations of a tree leave its truncated number.
-use Rattle.std.proofs.Common.{◌≡◌, ℕ, ℤ, ◌+◌, ◌-◌, ◌<◌, true, List, [], ◌∷◌, ◌++◌, length, refl, zero, suc, ap, arith, pos, neg_ℤ, unsigned_abs, ◌+ℤ◌, ◌-ℤ◌, ◌*ℤ◌, ◌∙◌, sym}
+use Rattle.std.proofs.Common.{◌≡◌, ℕ, ℤ, ◌+◌, ◌-◌, ◌<◌, true, List, [], ◌∷◌, ◌++◌, length, refl, zero, suc, ap, arith, pos, neg_ℤ}
+use Rattle.std.proofs.Common.{unsigned_abs, ◌+ℤ◌, ◌-ℤ◌, ◌*ℤ◌, ◌∙◌, sym}
 use Rattle.std.specs.Prelude.{Option, Some, None, slice_get, slice_index_or, ◌==◌, if◌then◌else◌, Bool, false}
 use Rattle.std.proofs.lemmas.Bool.Decides.{nat_tests}
 use Rattle.ln_algebra.specs.Tree as tree
@@ -81,18 +82,21 @@ loose_follows zs = record {
   room = λ n q. refl;
 }
 
--- ---- what is left
+-- ---- what the operations leave
 
 -- a number on top of a stack
 abbrev pub topped : ℤ → List ℤ → (ℕ → Option ℤ) → State ℤ (ℕ → Option ℤ)
 topped z s l = record { stack = z ∷ s; locals = l }
 
-cut_leaves : (zs : List ℤ) (n : ℕ) (a : Triple) (z : ℤ) (l : ℕ → Option ℤ) (s : List ℤ) → run (loose zs) (cut_lines n a) (topped z s l) ≡ Some (topped (cut_by n z) s l)
+cut_leaves : (zs : List ℤ) (n : ℕ) (a : Triple) (z : ℤ) (l : ℕ → Option ℤ) (s : List ℤ)
+    → run (loose zs) (cut_lines n a) (topped z s l) ≡ Some (topped (cut_by n z) s l)
 cut_leaves zs zero a z l s = ap (λ (y : ℤ). Some (topped y s l)) (sym (cut_none z))
 cut_leaves zs (suc n) a z l s = refl
 
-trim_leaves : (zs : List ℤ) (o : Op) (a : Triple) (z : ℤ) (l m : ℕ → Option ℤ) (r s : List ℤ) → step (loose zs) o a l r ≡ Some (topped z s m) → run (loose zs) (trim_lines o a) (record { stack = r; locals = l }) ≡ Some (topped (cut_by (excess a.h) z) s m)
-trim_leaves zs o a z l m r s st = step_run (loose zs) (line o a) (cut_lines (excess a.h) a) (record { stack = r; locals = l }) (topped z s m) _ st (cut_leaves zs (excess a.h) a z m s)
+trim_leaves : (zs : List ℤ) (o : Op) (a : Triple) (z : ℤ) (l m : ℕ → Option ℤ) (r s : List ℤ) → step (loose zs) o a l r ≡ Some (topped z s m)
+    → run (loose zs) (trim_lines o a) (record { stack = r; locals = l }) ≡ Some (topped (cut_by (excess a.h) z) s m)
+trim_leaves zs o a z l m r s st = step_run (loose zs) (line o a) (cut_lines (excess a.h) a) (record { stack = r; locals = l })
+    (topped z s m) _ st (cut_leaves zs (excess a.h) a z m s)
 
 pub record Leaves (zs : List ℤ) (lines : List (Line Triple)) (l : ℕ → Option ℤ) (stack : List ℤ) (h : ℤ) : Type 0 where
   pub locals : ℕ → Option ℤ
@@ -113,7 +117,8 @@ value_there (i ∷ is) [] v r h = absurd r
 value_there (i ∷ is) (z ∷ zs) zero r h = refl
 value_there (i ∷ is) (z ∷ zs) (suc v) r h = value_there is zs v r.2 (omega arith)
 
-input_leaves : (zs : List ℤ) (v : ℕ) (a : Triple) (z : ℤ) (l : ℕ → Option ℤ) (s : List ℤ) → slice_get zs v ≡ Some z → step (loose zs) (Input v) a l s ≡ Some (topped z s l)
+input_leaves : (zs : List ℤ) (v : ℕ) (a : Triple) (z : ℤ) (l : ℕ → Option ℤ) (s : List ℤ) → slice_get zs v ≡ Some z
+    → step (loose zs) (Input v) a l s ≡ Some (topped z s l)
 input_leaves zs v a z l s e = rw e refl
 
 get_leaves : (zs : List ℤ) (j : ℕ) (a : Triple) (z : ℤ) (l : ℕ → Option ℤ) (s : List ℤ) → l j ≡ Some z → step (loose zs) (Get j) a l s ≡ Some (topped z s l)
@@ -127,7 +132,8 @@ push_leaves zs m c l s =
     let e : 0 + excess m ≡ excess m = omega arith in
     ap (λ (z : ℤ). Some (topped z s l)) (leaf_at (0 + excess m) (excess m) c e)
 
-let_leaves : (zs : List ℤ) (lets : List Typed) (j : ℕ) (p : Range) (w : Width) (o : Option Typed) (a : Triple) (z : ℤ) (l : ℕ → Option ℤ) (s : List ℤ) → ((u : Typed) → o ≡ Some u → l j ≡ Some z) → CoversLet o p w → Leaves zs (line (Get j) a ∷ []) l s z
+let_leaves : (zs : List ℤ) (lets : List Typed) (j : ℕ) (p : Range) (w : Width) (o : Option Typed) (a : Triple) (z : ℤ) (l : ℕ → Option ℤ)
+    (s : List ℤ) → ((u : Typed) → o ≡ Some u → l j ≡ Some z) → CoversLet o p w → Leaves zs (line (Get j) a ∷ []) l s z
 let_leaves zs lets j p w None a z l s g c = absurd c
 let_leaves zs lets j p w (Some u) a z l s g c = record {
   locals = l;
@@ -138,7 +144,8 @@ let_leaves zs lets j p w (Some u) a z l s g c = record {
 -- an operation on two operands, in the words of its result
 sum_leaves : (zs : List ℤ) (o : Op) (left right : List (Line Triple)) (l : ℕ → Option ℤ) (stack : List ℤ) (a b : Triple) (y z h : ℤ) →
     ((m : ℕ → Option ℤ) → step (loose zs) o (sum_of a b) m (cut_by (a.k - b.k) z ∷ (cut_by (b.k - a.k) y ∷ stack)) ≡ Some (topped h stack m)) →
-    (x : Leaves zs left l stack y) → Leaves zs right x.locals (cut_by (b.k - a.k) y ∷ stack) z → Leaves zs (sum_lines o left right a b) l stack (cut_by (excess (sum_of a b).h) h)
+    (x : Leaves zs left l stack y) → Leaves zs right x.locals (cut_by (b.k - a.k) y ∷ stack) z →
+    Leaves zs (sum_lines o left right a b) l stack (cut_by (excess (sum_of a b).h) h)
 sum_leaves zs o left right l stack a b y z h st x t =
     let r = loose zs in
     let ca = cut_lines (b.k - a.k) a in
@@ -149,12 +156,14 @@ sum_leaves zs o left right l stack a b y z h st x t =
     let three = trim_leaves zs o (sum_of a b) h t.locals t.locals (cut_by (a.k - b.k) z ∷ (cut_by (b.k - a.k) y ∷ stack)) stack (st t.locals) in
     record {
       locals = t.locals;
-      ends = then_run r left (ca ++ (right ++ (cb ++ last))) _ _ _ x.ends (then_run r ca (right ++ (cb ++ last)) _ _ _ one (then_run r right (cb ++ last) _ _ _ t.ends (then_run r cb last _ _ _ two three)));
+      ends = then_run r left (ca ++ (right ++ (cb ++ last))) _ _ _ x.ends
+          (then_run r ca (right ++ (cb ++ last)) _ _ _ one (then_run r right (cb ++ last) _ _ _ t.ends (then_run r cb last _ _ _ two three)));
       keeps = λ j i. t.keeps j i ∙ x.keeps j i;
     }
 
 product_leaves : (zs : List ℤ) (left right : List (Line Triple)) (l : ℕ → Option ℤ) (stack : List ℤ) (a b : Triple) (y z : ℤ) →
-    (x : Leaves zs left l stack y) → Leaves zs right x.locals (y ∷ stack) z → Leaves zs (left ++ (right ++ trim_lines (Mul W64) (product_of a b))) l stack (product_number a b y z)
+    (x : Leaves zs left l stack y) → Leaves zs right x.locals (y ∷ stack) z →
+    Leaves zs (left ++ (right ++ trim_lines (Mul W64) (product_of a b))) l stack (product_number a b y z)
 product_leaves zs left right l stack a b y z x t =
     let last = trim_lines (Mul W64) (product_of a b) in
     let three = trim_leaves zs (Mul W64) (product_of a b) (y *ℤ z) t.locals t.locals (z ∷ (y ∷ stack)) stack refl in
@@ -164,7 +173,8 @@ product_leaves zs left right l stack a b y z x t =
       keeps = λ j i. t.keeps j i ∙ x.keeps j i;
     }
 
-neg_leaves : (zs : List ℤ) (lines : List (Line Triple)) (l : ℕ → Option ℤ) (stack : List ℤ) (a : Triple) (y : ℤ) → Leaves zs lines l stack y → Leaves zs (lines ++ (line (Neg W64) a ∷ [])) l stack (neg_ℤ y)
+neg_leaves : (zs : List ℤ) (lines : List (Line Triple)) (l : ℕ → Option ℤ) (stack : List ℤ) (a : Triple) (y : ℤ) → Leaves zs lines l stack y
+    → Leaves zs (lines ++ (line (Neg W64) a ∷ [])) l stack (neg_ℤ y)
 neg_leaves zs lines l stack a y x = record {
   locals = x.locals;
   ends = then_run (loose zs) lines (line (Neg W64) a ∷ []) _ _ _ x.ends refl;
@@ -173,22 +183,27 @@ neg_leaves zs lines l stack a y x = record {
 
 -- ---- powers
 
-factor_leaves : (zs : List ℤ) (p a : Triple) (y z : ℤ) (l : ℕ → Option ℤ) (stack : List ℤ) → l 64 ≡ Some z → run (loose zs) (factor_lines p a) (topped y stack l) ≡ Some (topped (product_number p a y z) stack l)
+factor_leaves : (zs : List ℤ) (p a : Triple) (y z : ℤ) (l : ℕ → Option ℤ) (stack : List ℤ) → l 64 ≡ Some z
+    → run (loose zs) (factor_lines p a) (topped y stack l) ≡ Some (topped (product_number p a y z) stack l)
 factor_leaves zs p a y z l stack e =
     let three = trim_leaves zs (Mul W64) (product_of p a) (y *ℤ z) l l (z ∷ (y ∷ stack)) stack refl in
-    step_run (loose zs) (line (Get 64) a) (trim_lines (Mul W64) (product_of p a)) (topped y stack l) (topped z (y ∷ stack) l) _ (get_leaves zs 64 a z l (y ∷ stack) e) three
+    step_run (loose zs) (line (Get 64) a) (trim_lines (Mul W64) (product_of p a)) (topped y stack l) (topped z (y ∷ stack) l) _
+    (get_leaves zs 64 a z l (y ∷ stack) e) three
 
-factors_leave : (zs : List ℤ) (a : Triple) (z : ℤ) (l : ℕ → Option ℤ) (stack : List ℤ) (n : ℕ) → l 64 ≡ Some z → run (loose zs) (factors a n) (topped z stack l) ≡ Some (topped (power_number a z (suc n)) stack l)
+factors_leave : (zs : List ℤ) (a : Triple) (z : ℤ) (l : ℕ → Option ℤ) (stack : List ℤ) (n : ℕ) → l 64 ≡ Some z
+    → run (loose zs) (factors a n) (topped z stack l) ≡ Some (topped (power_number a z (suc n)) stack l)
 factors_leave zs a z l stack zero e = refl
 factors_leave zs a z l stack (suc n) e =
-    then_run (loose zs) (factors a n) (factor_lines (powered a (suc n)) a) _ _ _ (factors_leave zs a z l stack n e) (factor_leaves zs (powered a (suc n)) a (power_number a z (suc n)) z l stack e)
+    then_run (loose zs) (factors a n) (factor_lines (powered a (suc n)) a) _ _ _ (factors_leave zs a z l stack n e)
+    (factor_leaves zs (powered a (suc n)) a (power_number a z (suc n)) z l stack e)
 
 at_other_number : (l : ℕ → Option ℤ) (z : ℤ) (j : ℕ) → j < 64 → with_local l 64 z j ≡ l j
 at_other_number l z j h =
     let e : (j == 64) ≡ false = grind (arith, nat_tests) in
     rw e refl
 
-power_leaves : (zs : List ℤ) (lines : List (Line Triple)) (l : ℕ → Option ℤ) (stack : List ℤ) (a : Triple) (z : ℤ) (n : ℕ) → Leaves zs lines l stack z → Leaves zs (lines ++ power_of a n) l stack (power_number a z (suc n))
+power_leaves : (zs : List ℤ) (lines : List (Line Triple)) (l : ℕ → Option ℤ) (stack : List ℤ) (a : Triple) (z : ℤ) (n : ℕ)
+    → Leaves zs lines l stack z → Leaves zs (lines ++ power_of a n) l stack (power_number a z (suc n))
 power_leaves zs lines l stack a z zero x = record {
   locals = x.locals;
   ends = then_run (loose zs) lines [] _ _ _ x.ends refl;
@@ -196,29 +211,36 @@ power_leaves zs lines l stack a z zero x = record {
 }
 power_leaves zs lines l stack a z (suc n) x =
     let m : ℕ → Option ℤ = with_local x.locals 64 z in
-    let all = step_run (loose zs) (line (Get 64) a) (factors a (suc n)) (record { stack = stack; locals = m }) (topped z stack m) _ (get_leaves zs 64 a z m stack refl) (factors_leave zs a z m stack (suc n) refl) in
+    let all = step_run (loose zs) (line (Get 64) a) (factors a (suc n)) (record { stack = stack; locals = m }) (topped z stack m) _
+    (get_leaves zs 64 a z m stack refl) (factors_leave zs a z m stack (suc n) refl) in
     record {
       locals = m;
-      ends = then_run (loose zs) lines (power_of a (suc n)) _ _ _ x.ends (step_run (loose zs) (line (Set 64) no_triple) (line (Get 64) a ∷ factors a (suc n)) (topped z stack x.locals) (record { stack = stack; locals = m }) _ refl all);
+      ends = then_run (loose zs) lines (power_of a (suc n)) _ _ _ x.ends (step_run (loose zs) (line (Set 64) no_triple)
+          (line (Get 64) a ∷ factors a (suc n)) (topped z stack x.locals) (record { stack = stack; locals = m }) _ refl all);
       keeps = λ j i. at_other_number x.locals z j i ∙ x.keeps j i;
     }
 
 -- ---- trees
 
-pub leaves : (vars : List VarInfo) (zs : List ℤ) (lets : List Typed) (ts : List Triple) (hs : List ℤ) (t : Typed) (l : ℕ → Option ℤ) (stack : List ℤ) → AreWithin vars zs → SoundNodes vars lets t → LetsThere lets hs l →
+pub leaves : (vars : List VarInfo) (zs : List ℤ) (lets : List Typed) (ts : List Triple) (hs : List ℤ) (t : Typed) (l : ℕ → Option ℤ)
+    (stack : List ℤ) → AreWithin vars zs → SoundNodes vars lets t → LetsThere lets hs l →
     Leaves zs (filter_lines vars ts (untyped t)) l stack (number vars (values zs) ts hs (untyped t))
 leaves vars zs lets ts hs (TNum c p w) l stack r s k = record {
   locals = l;
-  ends = step_run (loose zs) (line (Push c) (triple vars ts (tree.Num c))) [] (record { stack = stack; locals = l }) _ _ (push_leaves zs (unsigned_abs c) c l stack) refl;
+  ends = step_run (loose zs) (line (Push c) (triple vars ts (tree.Num c))) [] (record { stack = stack; locals = l }) _ _
+      (push_leaves zs (unsigned_abs c) c l stack) refl;
   keeps = λ j i. refl;
 }
 leaves vars zs lets ts hs (TInput v p w) l stack r s k = record {
   locals = l;
-  ends = trim_leaves zs (Input v) (whole (sizes vars v)) (values zs v) l l stack stack (input_leaves zs v (whole (sizes vars v)) (values zs v) l stack (value_there vars zs v r s.0));
+  ends = trim_leaves zs (Input v) (whole (sizes vars v)) (values zs v) l l stack stack
+      (input_leaves zs v (whole (sizes vars v)) (values zs v) l stack (value_there vars zs v r s.0));
   keeps = λ j i. refl;
 }
-leaves vars zs lets ts hs (TLet j p w) l stack r s k = let_leaves zs lets j p w (slice_get lets j) (slice_index_or ts j no_triple) (slice_index_or hs j (pos 0)) l stack (k.each j) s.0
-leaves vars zs lets ts hs (TNeg t p w) l stack r s k = neg_leaves zs (filter_lines vars ts (untyped t)) l stack (triple vars ts (untyped t)) _ (leaves vars zs lets ts hs t l stack r s.0 k)
+leaves vars zs lets ts hs (TLet j p w) l stack r s k =
+    let_leaves zs lets j p w (slice_get lets j) (slice_index_or ts j no_triple) (slice_index_or hs j (pos 0)) l stack (k.each j) s.0
+leaves vars zs lets ts hs (TNeg t p w) l stack r s k =
+    neg_leaves zs (filter_lines vars ts (untyped t)) l stack (triple vars ts (untyped t)) _ (leaves vars zs lets ts hs t l stack r s.0 k)
 leaves vars zs lets ts hs (TTwo Plus u t p w) l stack r s k =
     let a = triple vars ts (untyped u) in
     let c = triple vars ts (untyped t) in
@@ -226,7 +248,8 @@ leaves vars zs lets ts hs (TTwo Plus u t p w) l stack r s k =
     let z = number vars (values zs) ts hs (untyped t) in
     let x = leaves vars zs lets ts hs u l stack r s.0 k in
     let v = leaves vars zs lets ts hs t x.locals (cut_by (c.k - a.k) y ∷ stack) r s.1 (there_kept lets hs l x.locals k x.keeps) in
-    sum_leaves zs (Add W64) (filter_lines vars ts (untyped u)) (filter_lines vars ts (untyped t)) l stack a c y z (cut_by (c.k - a.k) y +ℤ cut_by (a.k - c.k) z) (λ m. refl) x v
+    sum_leaves zs (Add W64) (filter_lines vars ts (untyped u)) (filter_lines vars ts (untyped t)) l stack a c y z
+    (cut_by (c.k - a.k) y +ℤ cut_by (a.k - c.k) z) (λ m. refl) x v
 leaves vars zs lets ts hs (TTwo Minus u t p w) l stack r s k =
     let a = triple vars ts (untyped u) in
     let c = triple vars ts (untyped t) in
@@ -234,16 +257,19 @@ leaves vars zs lets ts hs (TTwo Minus u t p w) l stack r s k =
     let z = number vars (values zs) ts hs (untyped t) in
     let x = leaves vars zs lets ts hs u l stack r s.0 k in
     let v = leaves vars zs lets ts hs t x.locals (cut_by (c.k - a.k) y ∷ stack) r s.1 (there_kept lets hs l x.locals k x.keeps) in
-    sum_leaves zs (Sub W64) (filter_lines vars ts (untyped u)) (filter_lines vars ts (untyped t)) l stack a c y z (cut_by (c.k - a.k) y -ℤ cut_by (a.k - c.k) z) (λ m. refl) x v
+    sum_leaves zs (Sub W64) (filter_lines vars ts (untyped u)) (filter_lines vars ts (untyped t)) l stack a c y z
+    (cut_by (c.k - a.k) y -ℤ cut_by (a.k - c.k) z) (λ m. refl) x v
 leaves vars zs lets ts hs (TTwo Times u t p w) l stack r s k =
     let y = number vars (values zs) ts hs (untyped u) in
     let z = number vars (values zs) ts hs (untyped t) in
     let x = leaves vars zs lets ts hs u l stack r s.0 k in
     let v = leaves vars zs lets ts hs t x.locals (y ∷ stack) r s.1 (there_kept lets hs l x.locals k x.keeps) in
-    product_leaves zs (filter_lines vars ts (untyped u)) (filter_lines vars ts (untyped t)) l stack (triple vars ts (untyped u)) (triple vars ts (untyped t)) y z x v
+    product_leaves zs (filter_lines vars ts (untyped u)) (filter_lines vars ts (untyped t)) l stack (triple vars ts (untyped u))
+    (triple vars ts (untyped t)) y z x v
 leaves vars zs lets ts hs (TPow t zero p w) l stack r s k = record {
   locals = l;
   ends = step_run (loose zs) (line (Push (pos 1)) (leaf 1)) [] (record { stack = stack; locals = l }) _ _ (push_leaves zs 1 (pos 1) l stack) refl;
   keeps = λ j i. refl;
 }
-leaves vars zs lets ts hs (TPow t (suc n) p w) l stack r s k = power_leaves zs (filter_lines vars ts (untyped t)) l stack (triple vars ts (untyped t)) (number vars (values zs) ts hs (untyped t)) n (leaves vars zs lets ts hs t l stack r s.0 k)
+leaves vars zs lets ts hs (TPow t (suc n) p w) l stack r s k = power_leaves zs (filter_lines vars ts (untyped t)) l stack
+    (triple vars ts (untyped t)) (number vars (values zs) ts hs (untyped t)) n (leaves vars zs lets ts hs t l stack r s.0 k)

@@ -1,5 +1,6 @@
 -- What the filter of a predicate is.
-use Rattle.std.proofs.Common.{◌≡◌, ℕ, ℤ, ◌≤◌, true, List, [], ◌∷◌, ◌++◌, length, map, refl, suc, ap, arith, ◌∙◌, sym, inl, inr, length-append, Bool, ◌&&◌, nat_le, count_by}
+use Rattle.std.proofs.Common.{◌≡◌, ℕ, ℤ, ◌≤◌, true, List, [], ◌∷◌, ◌++◌, length, map, refl, suc, ap, arith, ◌∙◌, sym, inl, inr}
+use Rattle.std.proofs.Common.{length-append, Bool, ◌&&◌, nat_le, count_by}
 use Rattle.std.specs.Prelude.{Option, Some, None, IsSome, IfSome, ◌↔◌, ◌==◌}
 use Rattle.std.proofs.lemmas.List.{length-map}
 use Rattle.std.specs.List.{list_all}
@@ -78,13 +79,17 @@ ops_length (x ∷ xs) = ap suc (ops_length xs)
 record RootLands (vars : List VarInfo) (depth : ℕ) (lets : List Typed) (root : Typed) : Type 0 where
   top : FilterKnown
   locals : ℕ → Option FilterKnown
-  ends : run (filter_rules vars depth) (all_lines vars (map untyped lets) (untyped root)) (record { stack = []; locals = no_locals }) ≡ Some (record { stack = top ∷ []; locals = locals })
+  ends : run (filter_rules vars depth) (all_lines vars (map untyped lets) (untyped root)) (record { stack = []; locals = no_locals })
+      ≡ Some (record { stack = top ∷ []; locals = locals })
   triple_is : top.triple ≡ root_triple vars (map untyped lets) (untyped root)
   same : Same top.tree (inlined (inlined_after [] (map untyped lets)) (untyped root))
   error : top.triple.e ≤ limit W64
-  each : PushNodes (IsNodeOf lets root) (pushes (filter_rules vars depth) (all_lines vars (map untyped lets) (untyped root)) (record { stack = []; locals = no_locals }))
+  each : PushNodes (IsNodeOf lets root)
+      (pushes (filter_rules vars depth) (all_lines vars (map untyped lets) (untyped root)) (record { stack = []; locals = no_locals }))
 
-root_lands : (vars : List VarInfo) (depth : ℕ) (lets : List Typed) (root : Typed) → 2048 ≤ depth → length lets ≤ 64 → AreSound vars [] lets → Sound vars lets root → HasFilter vars (map untyped lets) (untyped root) → AllNarrow vars (map untyped lets) → AreNarrow vars (untyped root) → RootLands vars depth lets root
+root_lands : (vars : List VarInfo) (depth : ℕ) (lets : List Typed) (root : Typed) → 2048 ≤ depth → length lets ≤ 64
+    → AreSound vars [] lets → Sound vars lets root → HasFilter vars (map untyped lets) (untyped root) → AllNarrow vars (map untyped lets)
+    → AreNarrow vars (untyped root) → RootLands vars depth lets root
 root_lands vars depth lets root d few s r f w n =
     let ls : List Tree = map untyped lets in
     let ts : List Triple = let_triples vars [] ls in
@@ -96,8 +101,10 @@ root_lands vars depth lets root d few s r f w n =
     let e = i.error in
     let p = lets_pushing vars depth 0 [] [] [] lets no_locals refl refl refl (omega arith) d s f.lets_steady w tt (no_lets no_locals) in
     let q = pushing vars depth lets trees ts (running lets) root x.locals [] r.nodes r.sizes f.root_steady n g x.known (let z = r.deep in omega arith) in
-    let pw = push_wider (IsLetNode [] lets) (IsNodeOf lets root) (λ e v h. inl h) (pushes (filter_rules vars depth) (let_lines vars 0 [] ls) (record { stack = []; locals = no_locals })) p in
-    let qw = push_wider (IsNode trees root) (IsNodeOf lets root) (λ e v h. inr h) (pushes (filter_rules vars depth) (filter_lines vars ts (untyped root)) (record { stack = []; locals = x.locals })) q in
+    let pw = push_wider (IsLetNode [] lets) (IsNodeOf lets root) (λ e v h. inl h)
+    (pushes (filter_rules vars depth) (let_lines vars 0 [] ls) (record { stack = []; locals = no_locals })) p in
+    let qw = push_wider (IsNode trees root) (IsNodeOf lets root) (λ e v h. inr h)
+    (pushes (filter_rules vars depth) (filter_lines vars ts (untyped root)) (record { stack = []; locals = x.locals })) q in
     record {
       top = at (triple vars ts (untyped root)) y.tree y.size;
       locals = y.locals;
@@ -105,11 +112,14 @@ root_lands vars depth lets root d few s r f w n =
       triple_is = refl;
       same = y.same;
       error = omega arith;
-      each = then_push vars depth (IsNodeOf lets root) (let_lines vars 0 [] ls) (filter_lines vars ts (untyped root)) (record { stack = []; locals = no_locals }) (record { stack = []; locals = x.locals }) x.ends pw qw;
+      each = then_push vars depth (IsNodeOf lets root) (let_lines vars 0 [] ls) (filter_lines vars ts (untyped root))
+          (record { stack = []; locals = no_locals }) (record { stack = []; locals = x.locals }) x.ends pw qw;
     }
 
 -- without any test
-root_leaves : (vars : List VarInfo) (zs : List ℤ) (lets : List Typed) (root : Typed) → AreWithin vars zs → length lets ≤ 64 → AreSound vars [] lets → Sound vars lets root → answer (loose zs) no_locals (all_lines vars (map untyped lets) (untyped root)) ≡ Some (root_number vars zs (map untyped lets) (untyped root))
+root_leaves : (vars : List VarInfo) (zs : List ℤ) (lets : List Typed) (root : Typed)
+    → AreWithin vars zs → length lets ≤ 64 → AreSound vars [] lets → Sound vars lets root
+    → answer (loose zs) no_locals (all_lines vars (map untyped lets) (untyped root)) ≡ Some (root_number vars zs (map untyped lets) (untyped root))
 root_leaves vars zs lets root h few s r =
     let ls : List Tree = map untyped lets in
     let ts : List Triple = let_triples vars [] ls in
@@ -122,9 +132,11 @@ root_leaves vars zs lets root h few s r =
 held_is : (y : Held) (h : ℤ) (e : ℕ) → y.number ≡ h → y.error ≡ e → y ≡ record { number = h; error = e }
 held_is y h e p q = rw (← p, ← q) refl
 
-number_is : (zs : List ℤ) (lines : List (Line Triple)) (y : Held) (h : ℤ) → answer (exact_filter zs) no_locals lines ≡ Some y → answer (loose zs) no_locals lines ≡ Some h → y.number ≡ h
+number_is : (zs : List ℤ) (lines : List (Line Triple)) (y : Held) (h : ℤ) → answer (exact_filter zs) no_locals lines ≡ Some y
+    → answer (loose zs) no_locals lines ≡ Some h → y.number ≡ h
 number_is zs lines y h p q =
-    let n = answer_follows (exact_filter zs) (loose zs) (λ (a : Triple). a) SameNumber SameLocals (loose_follows zs) no_locals no_locals lines y (λ j v e. cc) p in
+    let n = answer_follows (exact_filter zs) (loose zs) (λ (a : Triple). a) SameNumber SameLocals
+    (loose_follows zs) no_locals no_locals lines y (λ j v e. cc) p in
     let m = reached_some SameNumber y _ (rw same_lines at n) in
     let e : Some m.0 ≡ Some h = sym m.1 ∙ q in
     let i : m.0 ≡ h = cc in
@@ -133,22 +145,28 @@ number_is zs lines y h p q =
 same_top : (vars : List VarInfo) (code : FilterCode) (top m : FilterKnown) → filter_known_of vars code ≡ Some top → filter_known_of vars code ≡ Some m → m ≡ top
 same_top vars code top m p q = let e : Some m ≡ Some top = sym q ∙ p in cc
 
-value_is : (vars : List VarInfo) (zs : List ℤ) (code : FilterCode) (lets : List Typed) (root : Typed) → AreWithin vars zs → length lets ≤ 64 → AreSound vars [] lets → Sound vars lets root → FollowsFilterRules vars code → (x : RootLands vars code.depth lets root) →
-    lines_of code.ops code.triples ≡ all_lines vars (map untyped lets) (untyped root) → filter_known_of vars code ≡ Some x.top → filter_value zs code ≡ Some (record { number = root_number vars zs (map untyped lets) (untyped root); error = (root_triple vars (map untyped lets) (untyped root)).e })
+value_is : (vars : List VarInfo) (zs : List ℤ) (code : FilterCode) (lets : List Typed) (root : Typed) → AreWithin vars zs → length lets ≤ 64 →
+    AreSound vars [] lets → Sound vars lets root → FollowsFilterRules vars code → (x : RootLands vars code.depth lets root) →
+    lines_of code.ops code.triples ≡ all_lines vars (map untyped lets) (untyped root) → filter_known_of vars code ≡ Some x.top → filter_value zs code
+    ≡ Some (record { number = root_number vars zs (map untyped lets) (untyped root); error = (root_triple vars (map untyped lets) (untyped root)).e })
 value_is vars zs code lets root h few s r g x e k =
     let m = filters_mean vars zs code h g in
     let t : m.what ≡ x.top = same_top vars code x.top m.what k m.known in
-    let err : m.left.error ≡ (root_triple vars (map untyped lets) (untyped root)).e = m.error ∙ ap (λ (y : FilterKnown). y.triple.e) t ∙ ap (λ (z : Triple). z.e) x.triple_is in
+    let err : m.left.error ≡ (root_triple vars (map untyped lets) (untyped root)).e =
+    m.error ∙ ap (λ (y : FilterKnown). y.triple.e) t ∙ ap (λ (z : Triple). z.e) x.triple_is in
     let p : answer (exact_filter zs) no_locals (all_lines vars (map untyped lets) (untyped root)) ≡ Some m.left = rw e at m.answer in
-    let num : m.left.number ≡ root_number vars zs (map untyped lets) (untyped root) = number_is zs (all_lines vars (map untyped lets) (untyped root)) m.left (root_number vars zs (map untyped lets) (untyped root)) p (root_leaves vars zs lets root h few s r) in
+    let num : m.left.number ≡ root_number vars zs (map untyped lets) (untyped root) = number_is zs (all_lines vars (map untyped lets) (untyped root))
+    m.left (root_number vars zs (map untyped lets) (untyped root)) p (root_leaves vars zs lets root h few s r) in
     m.answer ∙ ap Some (held_is m.left (root_number vars zs (map untyped lets) (untyped root)) (root_triple vars (map untyped lets) (untyped root)).e num err)
 
 pub record Sealed (vars : List VarInfo) (lets : List Typed) (root : Typed) (code : FilterCode) : Type 0 where
   pub filter : IsFilter code
   pub planned : IsPlanned vars lets root code
 
-filter_is : (vars : List VarInfo) (code : FilterCode) (lets : List Typed) (root : Typed) → length lets ≤ 64 → AreSound vars [] lets → Sound vars lets root → HasFilter vars (map untyped lets) (untyped root) → AllNarrow vars (map untyped lets) → AreNarrow vars (untyped root) →
-    code.depth ≡ 2048 → code.ops ≡ ops_in (all_lines vars (map untyped lets) (untyped root)) → code.triples ≡ triples_in (all_lines vars (map untyped lets) (untyped root)) → Sealed vars lets root code
+filter_is : (vars : List VarInfo) (code : FilterCode) (lets : List Typed) (root : Typed) → length lets ≤ 64 → AreSound vars [] lets →
+    Sound vars lets root → HasFilter vars (map untyped lets) (untyped root) → AllNarrow vars (map untyped lets) → AreNarrow vars (untyped root) →
+    code.depth ≡ 2048 → code.ops ≡ ops_in (all_lines vars (map untyped lets) (untyped root)) →
+    code.triples ≡ triples_in (all_lines vars (map untyped lets) (untyped root)) → Sealed vars lets root code
 filter_is vars code lets root few s r f w n d o b =
     let all : List (Line Triple) = all_lines vars (map untyped lets) (untyped root) in
     let ls : List Tree = map untyped lets in
@@ -161,7 +179,8 @@ filter_is vars code lets root few s r f w n d o b =
     let lc = lets_cost vars 0 [] lets in
     let tc = tree_cost vars ts root in
     let parts = length-append (let_lines vars 0 [] ls) (filter_lines vars ts (untyped root)) in
-    let st : StoresHave no_triple all = stores_append (let_lines vars 0 [] ls) (filter_lines vars ts (untyped root)) (lets_store vars 0 [] lets) (tree_stores vars ts root) in
+    let st : StoresHave no_triple all =
+    stores_append (let_lines vars 0 [] ls) (filter_lines vars ts (untyped root)) (lets_store vars 0 [] lets) (tree_stores vars ts root) in
     record {
       filter = record { shallow = let h : code.depth ≤ 2048 = omega arith in h; stores_have = rw e st; vars = vars; rules = g };
       planned = record {
@@ -177,23 +196,31 @@ filter_is vars code lets root few s r f w n d o b =
     }
 
 -- the filter that is sealed from what was written
-pub sealed : (vars : List VarInfo) (code : FilterCode) (lets : List Typed) (root : Typed) (ts : List Triple) (t : Triple) (a b c : Draft) → length lets ≤ 64 → AreSound vars [] lets → Sound vars lets root →
-    Some ts ≡ lets_tried vars [] (map untyped lets) → Some t ≡ tried vars ts (untyped root) → AllNarrow vars (map untyped lets) → AreNarrow vars (untyped root) →
-    a.ops ≡ [] → a.triples ≡ [] → Wrote a b (let_lines vars 0 [] (map untyped lets)) → Wrote b c (filter_lines vars ts (untyped root)) → code.ops ≡ c.ops → code.triples ≡ c.triples → code.depth ≡ 2048 →
+pub sealed : (vars : List VarInfo) (code : FilterCode) (lets : List Typed) (root : Typed) (ts : List Triple) (t : Triple) (a b c : Draft) →
+    length lets ≤ 64 → AreSound vars [] lets → Sound vars lets root →
+    Some ts ≡ lets_tried vars [] (map untyped lets) → Some t ≡ tried vars ts (untyped root) → AllNarrow vars (map untyped lets) →
+    AreNarrow vars (untyped root) →
+    a.ops ≡ [] → a.triples ≡ [] → Wrote a b (let_lines vars 0 [] (map untyped lets)) → Wrote b c (filter_lines vars ts (untyped root)) →
+    code.ops ≡ c.ops → code.triples ≡ c.triples → code.depth ≡ 2048 →
     Sealed vars lets root code
 sealed vars code lets root ts t a b c few s r lt rt w n o p v y eo eb d =
     let ls : List Tree = map untyped lets in
     let z : let_triples vars [] ls ≡ ts = (lets_tried_steady vars [] ls ts (sym lt)).is in
     let y' : Wrote b c (filter_lines vars (let_triples vars [] ls) (untyped root)) = rw z y in
     let x : Wrote a c (all_lines vars (map untyped lets) (untyped root)) = wrote_then a b c _ _ _ refl v y' in
-    let i : c.ops ≡ ops_in (all_lines vars (map untyped lets) (untyped root)) = x.ops ∙ ap (λ l. l ++ ops_in (all_lines vars (map untyped lets) (untyped root))) o in
-    let j : c.triples ≡ triples_in (all_lines vars (map untyped lets) (untyped root)) = x.triples ∙ ap (λ l. l ++ triples_in (all_lines vars (map untyped lets) (untyped root))) p in
+    let i : c.ops ≡ ops_in (all_lines vars (map untyped lets) (untyped root)) =
+    x.ops ∙ ap (λ l. l ++ ops_in (all_lines vars (map untyped lets) (untyped root))) o in
+    let j : c.triples ≡ triples_in (all_lines vars (map untyped lets) (untyped root)) =
+    x.triples ∙ ap (λ l. l ++ triples_in (all_lines vars (map untyped lets) (untyped root))) p in
     filter_is vars code lets root few s r (has_filter vars ls (untyped root) ts t lt rt) w n d (eo ∙ i) (eb ∙ j)
 
 -- the same over what the code has
-pub written_is : (vars vs : List VarInfo) (lets ls : List Fitted) (root : Fitted) (code : FilterCode) (ts gs : List Triple) (t : Triple) (o : Option (List Triple)) (p : Option Triple) (a b c : Draft) → vs ≡ vars → ls ≡ lets → gs ≡ ts → o ≡ Some ts → p ≡ Some t →
-    length lets ≤ 64 → are_sound vars [] (map typed lets) ≡ true → is_sound vars (map typed lets) (typed root) ≡ true → o ≡ lets_tried vs [] (map untyped (map typed ls)) → p ≡ tried vs gs (untyped (typed root)) →
-    IfSome o (λ x. AllNarrow vs (map untyped (map typed ls))) → IfSome p (λ x. AreNarrow vs (untyped (typed root))) → a.ops ≡ [] → a.triples ≡ [] → IfSome o (λ x. Wrote a b (let_lines vs 0 [] (map untyped (map typed ls)))) → IfSome p (λ x. Wrote b c (filter_lines vs gs (untyped (typed root)))) →
+pub written_is : (vars vs : List VarInfo) (lets ls : List Fitted) (root : Fitted) (code : FilterCode) (ts gs : List Triple) (t : Triple)
+    (o : Option (List Triple)) (p : Option Triple) (a b c : Draft) → vs ≡ vars → ls ≡ lets → gs ≡ ts → o ≡ Some ts → p ≡ Some t →
+    length lets ≤ 64 → are_sound vars [] (map typed lets) ≡ true → is_sound vars (map typed lets) (typed root) ≡ true →
+    o ≡ lets_tried vs [] (map untyped (map typed ls)) → p ≡ tried vs gs (untyped (typed root)) →
+    IfSome o (λ x. AllNarrow vs (map untyped (map typed ls))) → IfSome p (λ x. AreNarrow vs (untyped (typed root))) → a.ops ≡ [] → a.triples ≡ [] →
+    IfSome o (λ x. Wrote a b (let_lines vs 0 [] (map untyped (map typed ls)))) → IfSome p (λ x. Wrote b c (filter_lines vs gs (untyped (typed root)))) →
     code.ops ≡ c.ops → code.triples ≡ c.triples → code.depth ≡ 2048 → Sealed vars (map typed lets) (typed root) code
 written_is vars vs lets ls root code ts gs t o p a b c e f g i j few s r lt rt w n x y u v eo eb d =
     let few' : length (map typed lets) ≤ 64 = simp length-map few in
@@ -203,22 +230,29 @@ written_is vars vs lets ls root code ts gs t o p a b c e f g i j few s r lt rt w
     let n' : AreNarrow vars (untyped (typed root)) = rw (j, e) at n in
     let u' : Wrote a b (let_lines vars 0 [] (map untyped (map typed lets))) = rw (i, e, f) at u in
     let v' : Wrote b c (filter_lines vars ts (untyped (typed root))) = rw (j, e, g) at v in
-    sealed vars code (map typed lets) (typed root) ts t a b c few' (are_sound_say vars [] (map typed lets) s) (is_sound_says vars (map typed lets) (typed root) r) lt' rt' w' n' x y u' v' eo eb d
+    sealed vars code (map typed lets) (typed root) ts t a b c few' (are_sound_say vars [] (map typed lets) s)
+    (is_sound_says vars (map typed lets) (typed root) r) lt' rt' w' n' x y u' v' eo eb d
 
 -- where a let isn't steady there is no filter
-pub none_by_lets : (vars vs : List VarInfo) (lets ls : List Fitted) (root : Tree) (o : Option (List Triple)) → vs ≡ vars → ls ≡ lets → o ≡ None → o ≡ lets_tried vs [] (map untyped (map typed ls)) → HasFilter vars (map untyped (map typed lets)) root → ⊥
+pub none_by_lets : (vars vs : List VarInfo) (lets ls : List Fitted) (root : Tree) (o : Option (List Triple)) → vs ≡ vars → ls ≡ lets
+    → o ≡ None → o ≡ lets_tried vs [] (map untyped (map typed ls)) → HasFilter vars (map untyped (map typed lets)) root → ⊥
 none_by_lets vars vs lets ls root o e f i h = no_lets_filter vars (map untyped (map typed lets)) root (sym i ∙ (rw (e, f) at h))
 
 -- nor where the sign expression isn't
-pub none_by_root : (vars vs : List VarInfo) (lets ls : List Fitted) (root : Tree) (ts gs : List Triple) (o : Option (List Triple)) (p : Option Triple) → vs ≡ vars → ls ≡ lets → gs ≡ ts → o ≡ Some ts → p ≡ None → o ≡ lets_tried vs [] (map untyped (map typed ls)) → p ≡ tried vs gs root → HasFilter vars (map untyped (map typed lets)) root → ⊥
-none_by_root vars vs lets ls root ts gs o p e f g i j h k = no_root_filter vars (map untyped (map typed lets)) root ts (sym i ∙ (rw (e, f) at h)) (sym j ∙ (rw (e, g) at k))
+pub none_by_root : (vars vs : List VarInfo) (lets ls : List Fitted) (root : Tree) (ts gs : List Triple) (o : Option (List Triple))
+    (p : Option Triple) → vs ≡ vars → ls ≡ lets → gs ≡ ts → o ≡ Some ts → p ≡ None → o ≡ lets_tried vs [] (map untyped (map typed ls))
+    → p ≡ tried vs gs root → HasFilter vars (map untyped (map typed lets)) root → ⊥
+none_by_root vars vs lets ls root ts gs o p e f g i j h k =
+    no_root_filter vars (map untyped (map typed lets)) root ts (sym i ∙ (rw (e, f) at h)) (sym j ∙ (rw (e, g) at k))
 
 -- ---- the clauses of the public call
 
-pub where_is : (vars : List VarInfo) (lets : List Typed) (root : Typed) (o : Option FilterCode) → IsPlan vars lets root o → IsSome o ↔ HasFilter vars (map untyped lets) (untyped root)
+pub where_is : (vars : List VarInfo) (lets : List Typed) (root : Typed) (o : Option FilterCode) → IsPlan vars lets root o
+    → IsSome o ↔ HasFilter vars (map untyped lets) (untyped root)
 where_is vars lets root None h = (λ e. cc, λ f. absurd (h f))
 where_is vars lets root (Some f) h = (λ e. h.has, λ g. refl)
 
-pub gives : (vars : List VarInfo) (lets : List Typed) (root : Typed) (P : FilterCode → Type 0) → ((f : FilterCode) → IsPlanned vars lets root f → P f) → (o : Option FilterCode) → IsPlan vars lets root o → IfSome o P
+pub gives : (vars : List VarInfo) (lets : List Typed) (root : Typed) (P : FilterCode → Type 0)
+    → ((f : FilterCode) → IsPlanned vars lets root f → P f) → (o : Option FilterCode) → IsPlan vars lets root o → IfSome o P
 gives vars lets root P g None h = tt
 gives vars lets root P g (Some f) h = g f h

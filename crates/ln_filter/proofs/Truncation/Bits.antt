@@ -15,7 +15,8 @@ below_half n most h e = grind (arith, nat_tests)
 twice : (n d : ℕ) → n / 2 < 2 ^ d → n < 2 ^ suc d
 twice n d h = rw pow-suc (omega (arith, h))
 
-digits_step : (most n : ℕ) (b : Bool) → eqb n 0 ≡ b → n ≤ suc most → (n / 2 ≤ most → n / 2 < 2 ^ digits most (n / 2)) → n < 2 ^ (if b then 0 else suc (digits most (n / 2)))
+digits_step : (most n : ℕ) (b : Bool) → eqb n 0 ≡ b → n ≤ suc most → (n / 2 ≤ most → n / 2 < 2 ^ digits most (n / 2))
+    → n < 2 ^ (if b then 0 else suc (digits most (n / 2)))
 digits_step most n true e h ih = let f : n ≡ 0 = eqb-true n 0 e in rw (pow-zero, f) (omega arith)
 digits_step most n false e h ih = twice n (digits most (n / 2)) (ih (below_half n most h e))
 
@@ -41,9 +42,11 @@ tight_step n d h p q = by_case (cases_eq (n / 2) 0)
     by_case (inl e) = let f = p e in omega (arith, f)
     by_case (inr e) = let f = q (omega (arith, e)) in omega (arith, f)
 
-tight_by : (most n : ℕ) (b : Bool) → eqb n 0 ≡ b → 0 < n → n ≤ suc most → (n / 2 ≤ most → 0 < n / 2 → 2 ^ digits most (n / 2) ≤ 2 * (n / 2)) → 2 ^ (if b then 0 else suc (digits most (n / 2))) ≤ 2 * n
+tight_by : (most n : ℕ) (b : Bool) → eqb n 0 ≡ b → 0 < n → n ≤ suc most → (n / 2 ≤ most → 0 < n / 2 → 2 ^ digits most (n / 2) ≤ 2 * (n / 2))
+    → 2 ^ (if b then 0 else suc (digits most (n / 2))) ≤ 2 * n
 tight_by most n true e p h ih = let f : n ≡ 0 = eqb-true n 0 e in absurd (omega arith)
-tight_by most n false e p h ih = rw pow-suc (tight_step n (2 ^ digits most (n / 2)) p (λ q. rw (q, digits_nought most, pow-zero) refl) (λ q. ih (below_half n most h e) q))
+tight_by most n false e p h ih =
+    rw pow-suc (tight_step n (2 ^ digits most (n / 2)) p (λ q. rw (q, digits_nought most, pow-zero) refl) (λ q. ih (below_half n most h e) q))
 
 digits_tight : (most n : ℕ) → 0 < n → n ≤ most → 2 ^ digits most n ≤ 2 * n
 digits_tight zero n p h = absurd (omega arith)
@@ -66,7 +69,10 @@ bits_by_zeros w n h = by_case (cases_lt 0 n)
     fits n b h k = by_lt (cases_lt w b)
       where
         by_lt : (w < b) ⊎ (b ≤ w) → b ≤ w
-        by_lt (inl p) = let q : 2 ^ suc w ≤ 2 ^ b = pow_mono (let l : suc w ≤ b = omega arith in l) in let r : 2 ^ suc w ≡ 2 ^ w * 2 = pow-suc 2 w in absurd (omega (arith, q, r))
+        by_lt (inl p) =
+            let q : 2 ^ suc w ≤ 2 ^ b = pow_mono (let l : suc w ≤ b = omega arith in l) in
+            let r : 2 ^ suc w ≡ 2 ^ w * 2 = pow-suc 2 w in
+            absurd (omega (arith, q, r))
         by_lt (inr p) = p
 
     by_case : (0 < n) ⊎ (n ≤ 0) → w - count_leading_zeros w n ≡ bits n

@@ -1,4 +1,4 @@
--- Powers of sizes.
+-- Proves that the sizes of the powers on the way to the n-th are within what the n-th is within.
 use Rattle.std.proofs.Common.{◌≡◌, ℕ, ◌+◌, ◌-◌, ◌*◌, ◌^◌, ◌≤◌, zero, suc, arith}
 use Rattle.std.proofs.lemmas.Nat.{mul-le}
 use Rattle.std.proofs.Math.Nat.{pow-suc, pow-zero}

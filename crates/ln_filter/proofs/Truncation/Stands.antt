@@ -1,5 +1,6 @@
 -- The truncated number of a predicate stands for its plain value.
-use Rattle.std.proofs.Common.{◌≡◌, ◌⊎◌, inl, inr, ℕ, ℤ, ◌+◌, ◌-◌, ◌≤◌, ◌<◌, max, List, [], ◌∷◌, ◌++◌, refl, zero, suc, arith, pos, negsuc, ◌+ℤ◌, ◌-ℤ◌, ◌*ℤ◌, ◌<ℤ◌, unsigned_abs, subst}
+use Rattle.std.proofs.Common.{◌≡◌, ◌⊎◌, inl, inr, ℕ, ℤ, ◌+◌, ◌-◌, ◌≤◌, ◌<◌, max, List, [], ◌∷◌, ◌++◌, refl, zero, suc, arith, pos, negsuc}
+use Rattle.std.proofs.Common.{◌+ℤ◌, ◌-ℤ◌, ◌*ℤ◌, ◌<ℤ◌, unsigned_abs, subst}
 use Rattle.std.specs.Prelude.{slice_index_or, ◌≢◌}
 use Rattle.std.proofs.lemmas.Int.{ints}
 use Rattle.ln_algebra.specs.Tree.{Tree, Num, Input, Name, Neg, Add, Sub, Mul, Pow}
@@ -12,7 +13,8 @@ use Rattle.ln_code.specs.FilterRules.{Stands}
 use Rattle.ln_code.specs.Kept.{no_triple}
 use Rattle.ln_code.specs.Verdict.{sign_of}
 use Rattle.ln_code.proofs.Following.Known.{in_size}
-use Rattle.ln_code.proofs.Filters.Near.{cut_stands, product_stands, sum_stands, difference_stands, exact_stands, minus_stands, decides_positive, decides_negative}
+use Rattle.ln_code.proofs.Filters.Near.{cut_stands, product_stands, sum_stands, difference_stands, exact_stands, minus_stands}
+use Rattle.ln_code.proofs.Filters.Near.{decides_positive, decides_negative}
 use Rattle.ln_filter.specs.Triples.{excess, whole, leaf, added, multiplied, powered, triple, let_triples}
 use Rattle.ln_filter.specs.Truncated.{leaf_number, sum_number, difference_number, product_number, power_number, number, let_numbers, root_triple, root_number}
 use Rattle.ln_filter.specs.Law.{plain_value, NumbersStand, NeverWrong}
@@ -50,7 +52,8 @@ one_times v = omega (arith, ints)
 powered_stands : (a : Triple) (z v : ℤ) (n : ℕ) → Stands a z v → Stands (powered a n) (power_number a z n) (power v n)
 powered_stands a z v zero s = leaf_stands 1 (pos 1) (omega arith)
 powered_stands a z v (suc zero) s = subst (λ (u : ℤ). Stands a z u) (one_times v) s
-powered_stands a z v (suc (suc n)) s = multiplied_stands (powered a (suc n)) a (power_number a z (suc n)) z (power v (suc n)) v (powered_stands a z v (suc n) s) s
+powered_stands a z v (suc (suc n)) s =
+    multiplied_stands (powered a (suc n)) a (power_number a z (suc n)) z (power v (suc n)) v (powered_stands a z v (suc n) s) s
 
 -- what stands for each let
 abbrev pub AllStand : List Triple → List ℤ → List ℤ → Type 0
@@ -61,7 +64,8 @@ AllStand (a ∷ as') [] vs = ⊥
 AllStand (a ∷ as') (h ∷ hs) [] = ⊥
 AllStand (a ∷ as') (h ∷ hs) (v ∷ vs) = Stands a h v × AllStand as' hs vs
 
-stand_at : (ts : List Triple) (hs vs : List ℤ) (j : ℕ) → AllStand ts hs vs → Stands (slice_index_or ts j no_triple) (slice_index_or hs j (pos 0)) (slice_index_or vs j (pos 0))
+stand_at : (ts : List Triple) (hs vs : List ℤ) (j : ℕ) → AllStand ts hs vs
+    → Stands (slice_index_or ts j no_triple) (slice_index_or hs j (pos 0)) (slice_index_or vs j (pos 0))
 stand_at [] [] [] j s = exact_stands 0 (pos 0) (omega arith)
 stand_at [] [] (v ∷ vs) j s = absurd s
 stand_at [] (h ∷ hs) vs j s = absurd s
@@ -70,7 +74,8 @@ stand_at (a ∷ ts) (h ∷ hs) [] j s = absurd s
 stand_at (a ∷ ts) (h ∷ hs) (v ∷ vs) zero s = s.0
 stand_at (a ∷ ts) (h ∷ hs) (v ∷ vs) (suc j) s = stand_at ts hs vs j s.1
 
-stand_snoc : (ts : List Triple) (hs vs : List ℤ) (a : Triple) (h v : ℤ) → AllStand ts hs vs → Stands a h v → AllStand (ts ++ (a ∷ [])) (hs ++ (h ∷ [])) (vs ++ (v ∷ []))
+stand_snoc : (ts : List Triple) (hs vs : List ℤ) (a : Triple) (h v : ℤ) → AllStand ts hs vs → Stands a h v
+    → AllStand (ts ++ (a ∷ [])) (hs ++ (h ∷ [])) (vs ++ (v ∷ []))
 stand_snoc [] [] [] a h v s p = (p, tt)
 stand_snoc [] [] (w ∷ vs) a h v s p = absurd s
 stand_snoc [] (g ∷ hs) vs a h v s p = absurd s
@@ -86,7 +91,8 @@ size_stands (i ∷ is) [] v h = absurd h
 size_stands (i ∷ is) (z ∷ zs) zero h = let s = in_size (i ∷ is) (z ∷ zs) h 0 i refl in rw (← s.same) s.small
 size_stands (i ∷ is) (z ∷ zs) (suc v) h = size_stands is zs v h.2
 
-pub tree_stands : (vars : List VarInfo) (zs : List ℤ) (ts : List Triple) (hs vs : List ℤ) → AreWithin vars zs → AllStand ts hs vs → (t : Tree) → Stands (triple vars ts t) (number vars (values zs) ts hs t) (value (values zs) vs t)
+pub tree_stands : (vars : List VarInfo) (zs : List ℤ) (ts : List Triple) (hs vs : List ℤ) → AreWithin vars zs → AllStand ts hs vs
+    → (t : Tree) → Stands (triple vars ts t) (number vars (values zs) ts hs t) (value (values zs) vs t)
 tree_stands vars zs ts hs vs r l (Num c) = leaf_stands (unsigned_abs c) c (omega arith)
 tree_stands vars zs ts hs vs r l (Input v) = leaf_stands (sizes vars v) (values zs v) (size_stands vars zs v r)
 tree_stands vars zs ts hs vs r l (Name j) = stand_at ts hs vs j l
@@ -94,11 +100,14 @@ tree_stands vars zs ts hs vs r l (Neg e) = minus_stands _ _ _ (tree_stands vars 
 tree_stands vars zs ts hs vs r l (Add e f) = added_stands _ _ _ _ _ _ (tree_stands vars zs ts hs vs r l e) (tree_stands vars zs ts hs vs r l f)
 tree_stands vars zs ts hs vs r l (Sub e f) = subtracted_stands _ _ _ _ _ _ (tree_stands vars zs ts hs vs r l e) (tree_stands vars zs ts hs vs r l f)
 tree_stands vars zs ts hs vs r l (Mul e f) = multiplied_stands _ _ _ _ _ _ (tree_stands vars zs ts hs vs r l e) (tree_stands vars zs ts hs vs r l f)
-tree_stands vars zs ts hs vs r l (Pow e n) = powered_stands (triple vars ts e) (number vars (values zs) ts hs e) (value (values zs) vs e) n (tree_stands vars zs ts hs vs r l e)
+tree_stands vars zs ts hs vs r l (Pow e n) =
+    powered_stands (triple vars ts e) (number vars (values zs) ts hs e) (value (values zs) vs e) n (tree_stands vars zs ts hs vs r l e)
 
-lets_stand : (vars : List VarInfo) (zs : List ℤ) (ts : List Triple) (hs vs : List ℤ) (lets : List Tree) → AreWithin vars zs → AllStand ts hs vs → AllStand (let_triples vars ts lets) (let_numbers vars (values zs) ts hs lets) (let_values (values zs) vs lets)
+lets_stand : (vars : List VarInfo) (zs : List ℤ) (ts : List Triple) (hs vs : List ℤ) (lets : List Tree) → AreWithin vars zs
+    → AllStand ts hs vs → AllStand (let_triples vars ts lets) (let_numbers vars (values zs) ts hs lets) (let_values (values zs) vs lets)
 lets_stand vars zs ts hs vs [] r l = l
-lets_stand vars zs ts hs vs (t ∷ lets) r l = lets_stand vars zs (ts ++ (triple vars ts t ∷ [])) (hs ++ (number vars (values zs) ts hs t ∷ [])) (vs ++ (value (values zs) vs t ∷ [])) lets r (stand_snoc ts hs vs _ _ _ l (tree_stands vars zs ts hs vs r l t))
+lets_stand vars zs ts hs vs (t ∷ lets) r l = lets_stand vars zs (ts ++ (triple vars ts t ∷ [])) (hs ++ (number vars (values zs) ts hs t ∷ []))
+    (vs ++ (value (values zs) vs t ∷ [])) lets r (stand_snoc ts hs vs _ _ _ l (tree_stands vars zs ts hs vs r l t))
 
 pub numbers_stand : NumbersStand
 numbers_stand vars zs lets root r = tree_stands vars zs _ _ _ r (lets_stand vars zs [] [] [] lets r tt) root
@@ -124,4 +133,5 @@ one_sign a (pos (suc n)) v d s = let p = decides_positive a (pos (suc n)) v d (o
 one_sign a (negsuc n) v d s = let p = decides_negative a (negsuc n) v d (omega (arith, ints)) s in (minus_sign v p, not_zero v (inr p))
 
 pub never_wrong : NeverWrong
-never_wrong vars zs lets root r d = one_sign (root_triple vars lets root) (root_number vars zs lets root) (plain_value zs lets root) d.above (numbers_stand vars zs lets root r)
+never_wrong vars zs lets root r d =
+    one_sign (root_triple vars lets root) (root_number vars zs lets root) (plain_value zs lets root) d.above (numbers_stand vars zs lets root r)

@@ -1,4 +1,4 @@
--- Triples that are worked out: where there is an answer each node is steady, and where each is there is one.
+-- Triples that are worked out: where there is a result each node is steady, and where each is there is one.
 use Rattle.std.proofs.Common.{◌≡◌, ◌⊎◌, inl, inr, ℕ, ◌≤◌, ◌<◌, true, List, [], ◌∷◌, ◌++◌, refl, zero, suc, ap, arith, ap₂, subst, ℤ, ◌^◌, sym, ◌∙◌, nat_le, ◌-◌}
 use Rattle.std.specs.Prelude.{Option, Some, None, All, IfSome, slice_index_or, unsigned_abs, ◌≢◌}
 use Rattle.std.proofs.lemmas.Bool.{leb-true, le-leb, and_parts, cases_lt}
@@ -47,7 +47,8 @@ powers_tried a (suc (suc n)) s =
     rw h (settled_is (multiplied (powered a (suc n)) a) (s (suc (suc n)) (omega arith) (omega arith)))
 
 -- one step of the way to a power
-pub power_step : (a p : Triple) (n : ℕ) (o : Option Triple) → n ≢ 0 → n ≢ 1 → Some p ≡ power_tried a (n - 1) → o ≡ settled (multiplied p a) → o ≡ power_tried a n
+pub power_step : (a p : Triple) (n : ℕ) (o : Option Triple) → n ≢ 0 → n ≢ 1 → Some p ≡ power_tried a (n - 1)
+    → o ≡ settled (multiplied p a) → o ≡ power_tried a n
 power_step a p zero o y z h k = absurd (y refl)
 power_step a p (suc zero) o y z h k = absurd (z refl)
 power_step a p (suc (suc n)) o y z h k =
@@ -104,7 +105,9 @@ record TwoTried (o p : Option Triple) (join : Triple → Triple → Triple) (x :
 two_tried : (o p : Option Triple) (join : Triple → Triple → Triple) (x : Triple) → next o (λ a. next p (λ b. settled (join a b))) ≡ Some x → TwoTried o p join x
 two_tried None p join x h = cc
 two_tried (Some a) None join x h = cc
-two_tried (Some a) (Some b) join x h = let w = settled_some (join a b) x h in record { left = a; right = b; left_is = refl; right_is = refl; steady = w.0; is = w.1 }
+two_tried (Some a) (Some b) join x h =
+    let w = settled_some (join a b) x h in
+    record { left = a; right = b; left_is = refl; right_is = refl; steady = w.0; is = w.1 }
 
 pub tried_steady : (vars : List VarInfo) (lets : List Triple) (t : Tree) (a : Triple) → tried vars lets t ≡ Some a → Tried vars lets t a
 tried_steady vars lets (Num c) a h = let w = settled_some _ a h in record { steady = w.0; is = w.1 }
@@ -140,7 +143,8 @@ tried_steady vars lets (Pow e n) a h =
     let i : powered (triple vars lets e) n ≡ a = rw r.is p.is in
     record { steady = (r.steady, z); is = i }
 
-pub tried_again : (vars : List VarInfo) (lets : List Triple) (t : Tree) (x a : Triple) → Some x ≡ tried vars lets t → a ≡ triple vars lets t → Some a ≡ tried vars lets t
+pub tried_again : (vars : List VarInfo) (lets : List Triple) (t : Tree) (x a : Triple) → Some x ≡ tried vars lets t → a ≡ triple vars lets t
+    → Some a ≡ tried vars lets t
 tried_again vars lets t x a h k =
     let r = tried_steady vars lets t x (sym h) in
     let e : a ≡ x = k ∙ r.is in
@@ -148,7 +152,8 @@ tried_again vars lets t x a h k =
 
 -- ---- lets
 
-pub steady_lets_tried : (vars : List VarInfo) (done : List Triple) (ts : List Tree) → AreLetsSteady vars done ts → lets_tried vars done ts ≡ Some (let_triples vars done ts)
+pub steady_lets_tried : (vars : List VarInfo) (done : List Triple) (ts : List Tree) → AreLetsSteady vars done ts
+    → lets_tried vars done ts ≡ Some (let_triples vars done ts)
 steady_lets_tried vars done [] s = refl
 steady_lets_tried vars done (t ∷ ts) s = rw (steady_tried vars done t s.0) (steady_lets_tried vars (done ++ (triple vars done t ∷ [])) ts s.1)
 
@@ -156,7 +161,8 @@ pub record LetsTried (vars : List VarInfo) (done : List Triple) (ts : List Tree)
   pub steady : AreLetsSteady vars done ts
   pub is : let_triples vars done ts ≡ xs
 
-pub lets_tried_steady : (vars : List VarInfo) (done : List Triple) (ts : List Tree) (xs : List Triple) → lets_tried vars done ts ≡ Some xs → LetsTried vars done ts xs
+pub lets_tried_steady : (vars : List VarInfo) (done : List Triple) (ts : List Tree) (xs : List Triple) → lets_tried vars done ts ≡ Some xs
+    → LetsTried vars done ts xs
 lets_tried_steady vars done [] xs h = record { steady = tt; is = cc }
 lets_tried_steady vars done (t ∷ ts) xs h =
     let w = next_some (tried vars done t) (λ (a : Triple). lets_tried vars (done ++ (a ∷ [])) ts) xs h in
@@ -167,7 +173,8 @@ lets_tried_steady vars done (t ∷ ts) xs h =
 
 -- ---- which predicates have a filter
 
-pub has_filter : (vars : List VarInfo) (lets : List Tree) (root : Tree) (ts : List Triple) (a : Triple) → Some ts ≡ lets_tried vars [] lets → Some a ≡ tried vars ts root → HasFilter vars lets root
+pub has_filter : (vars : List VarInfo) (lets : List Tree) (root : Tree) (ts : List Triple) (a : Triple) → Some ts ≡ lets_tried vars [] lets
+    → Some a ≡ tried vars ts root → HasFilter vars lets root
 has_filter vars lets root ts a h k =
     let l = lets_tried_steady vars [] lets ts (sym h) in
     let r = tried_steady vars ts root a (sym k) in
@@ -176,7 +183,8 @@ has_filter vars lets root ts a h k =
 pub no_lets_filter : (vars : List VarInfo) (lets : List Tree) (root : Tree) → None ≡ lets_tried vars [] lets → HasFilter vars lets root → ⊥
 no_lets_filter vars lets root h f = let e : None ≡ Some (let_triples vars [] lets) = h ∙ steady_lets_tried vars [] lets f.lets_steady in cc
 
-pub no_root_filter : (vars : List VarInfo) (lets : List Tree) (root : Tree) (ts : List Triple) → Some ts ≡ lets_tried vars [] lets → None ≡ tried vars ts root → HasFilter vars lets root → ⊥
+pub no_root_filter : (vars : List VarInfo) (lets : List Tree) (root : Tree) (ts : List Triple) → Some ts ≡ lets_tried vars [] lets
+    → None ≡ tried vars ts root → HasFilter vars lets root → ⊥
 no_root_filter vars lets root ts h k f =
     let l = lets_tried_steady vars [] lets ts (sym h) in
     let s : AreSteady vars ts root = rw l.is at f.root_steady in
@@ -223,7 +231,8 @@ triple_small vars lets (Pow e n) g s = powered_small (triple vars lets e) n (tri
 
 pub lets_small : (vars : List VarInfo) (done : List Triple) (ts : List Tree) → AreSmall done → AreLetsSteady vars done ts → AreSmall (let_triples vars done ts)
 lets_small vars done [] g s = g
-lets_small vars done (t ∷ ts) g s = lets_small vars (done ++ (triple vars done t ∷ [])) ts (small_snoc done (triple vars done t) g (triple_small vars done t g s.0)) s.1
+lets_small vars done (t ∷ ts) g s =
+    lets_small vars (done ++ (triple vars done t ∷ [])) ts (small_snoc done (triple vars done t) g (triple_small vars done t g s.0)) s.1
 
 pub all_snoc : (ts : List Triple) (a : Triple) → All IsSmall ts → IsSmall a → All IsSmall (ts ++ (a ∷ []))
 all_snoc [] a s p zero d h = p
@@ -239,19 +248,23 @@ settled_small a s =
     let k = s.power in
     settled_is a (record { error = omega arith; power = omega arith })
 
-pub tried_num : (vars : List VarInfo) (lets : List Triple) (t : Tree) (c : ℤ) (a : Triple) → t ≡ Num c → a ≡ leaf (unsigned_abs c) → IsSmall a → IsTried vars lets t (Some a)
+pub tried_num : (vars : List VarInfo) (lets : List Triple) (t : Tree) (c : ℤ) (a : Triple) → t ≡ Num c → a ≡ leaf (unsigned_abs c)
+    → IsSmall a → IsTried vars lets t (Some a)
 tried_num vars lets t c a e h s = record { value = sym (settled_small a s) ∙ ap settled h ∙ ap (tried vars lets) (sym e); small = s; narrow = rw e tt }
 
-pub tried_input : (vars : List VarInfo) (lets : List Triple) (t : Tree) (v : ℕ) (a : Triple) → t ≡ Input v → a ≡ leaf (sizes vars v) → IsSmall a → sizes vars v < 2 ^ 63 → IsTried vars lets t (Some a)
+pub tried_input : (vars : List VarInfo) (lets : List Triple) (t : Tree) (v : ℕ) (a : Triple) → t ≡ Input v → a ≡ leaf (sizes vars v)
+    → IsSmall a → sizes vars v < 2 ^ 63 → IsTried vars lets t (Some a)
 tried_input vars lets t v a e h s n = record { value = sym (settled_small a s) ∙ ap settled h ∙ ap (tried vars lets) (sym e); small = s; narrow = rw e n }
 
-pub tried_let : (vars : List VarInfo) (lets : List Triple) (t : Tree) (j : ℕ) (a : Triple) → t ≡ Name j → a ≡ slice_index_or lets j no_triple → IsSmall a → IsTried vars lets t (Some a)
+pub tried_let : (vars : List VarInfo) (lets : List Triple) (t : Tree) (j : ℕ) (a : Triple) → t ≡ Name j
+    → a ≡ slice_index_or lets j no_triple → IsSmall a → IsTried vars lets t (Some a)
 tried_let vars lets t j a e h s = record { value = ap Some h ∙ ap (tried vars lets) (sym e); small = s; narrow = rw e tt }
 
 pub tried_neg : (vars : List VarInfo) (lets : List Triple) (t x : Tree) (o : Option Triple) → t ≡ Neg x → IsTried vars lets x o → IsTried vars lets t o
 tried_neg vars lets t x o e h = rw e (record { value = h.value; small = h.small; narrow = h.narrow })
 
-two_tries : (vars : List VarInfo) (lets : List Triple) (k : Two) (x y : Tree) → tried vars lets (two_of k x y) ≡ next (tried vars lets x) (λ a. next (tried vars lets y) (λ b. settled (both k a b)))
+two_tries : (vars : List VarInfo) (lets : List Triple) (k : Two) (x y : Tree)
+    → tried vars lets (two_of k x y) ≡ next (tried vars lets x) (λ a. next (tried vars lets y) (λ b. settled (both k a b)))
 two_tries vars lets Plus x y = refl
 two_tries vars lets Minus x y = refl
 two_tries vars lets Times x y = refl
@@ -265,24 +278,29 @@ if_there : (o : Option Triple) (P : Type 0) → P → IfSome o (λ a. P)
 if_there None P h = tt
 if_there (Some a) P h = h
 
-both_narrow : (vars : List VarInfo) (k : Two) (x y : Tree) (o p r : Option Triple) → r ≡ next o (λ a. next p (λ b. settled (both k a b))) → IfSome o (λ a. AreNarrow vars x) → IfSome p (λ a. AreNarrow vars y) → IfSome r (λ a. AreNarrow vars (two_of k x y))
+both_narrow : (vars : List VarInfo) (k : Two) (x y : Tree) (o p r : Option Triple) → r ≡ next o (λ a. next p (λ b. settled (both k a b)))
+    → IfSome o (λ a. AreNarrow vars x) → IfSome p (λ a. AreNarrow vars y) → IfSome r (λ a. AreNarrow vars (two_of k x y))
 both_narrow vars k x y None p r e m n = rw e tt
 both_narrow vars k x y (Some a) None r e m n = rw e tt
 both_narrow vars k x y (Some a) (Some b) r e m n = if_there r (AreNarrow vars (two_of k x y)) (two_narrow vars k x y m n)
 
-pub tried_both : (vars : List VarInfo) (lets : List Triple) (t : Tree) (k : Two) (x y : Tree) (o p r : Option Triple) → t ≡ two_of k x y → IsTried vars lets x o → IsTried vars lets y p →
+pub tried_both : (vars : List VarInfo) (lets : List Triple) (t : Tree) (k : Two) (x y : Tree) (o p r : Option Triple) → t ≡ two_of k x y →
+    IsTried vars lets x o → IsTried vars lets y p →
     r ≡ next o (λ a. next p (λ b. settled (both k a b))) → IfSome r (λ a. IsSmall a) → IsTried vars lets t r
 tried_both vars lets t k x y o p r e u v i s = record {
-  value = i ∙ ap₂ (λ (m n : Option Triple). next m (λ a. next n (λ b. settled (both k a b)))) u.value v.value ∙ sym (two_tries vars lets k x y) ∙ ap (tried vars lets) (sym e);
+  value = i ∙ ap₂ (λ (m n : Option Triple). next m (λ a. next n (λ b. settled (both k a b)))) u.value v.value
+      ∙ sym (two_tries vars lets k x y) ∙ ap (tried vars lets) (sym e);
   small = s;
   narrow = subst (λ z. IfSome r (λ a. AreNarrow vars z)) (sym e) (both_narrow vars k x y o p r i u.narrow v.narrow);
 }
 
-raised_narrow : (vars : List VarInfo) (x : Tree) (n : ℕ) (o r : Option Triple) → r ≡ next o (λ a. power_tried a n) → IfSome o (λ a. AreNarrow vars x) → IfSome r (λ a. AreNarrow vars x)
+raised_narrow : (vars : List VarInfo) (x : Tree) (n : ℕ) (o r : Option Triple) → r ≡ next o (λ a. power_tried a n)
+    → IfSome o (λ a. AreNarrow vars x) → IfSome r (λ a. AreNarrow vars x)
 raised_narrow vars x n None r e m = rw e tt
 raised_narrow vars x n (Some a) r e m = if_there r (AreNarrow vars x) m
 
-pub tried_raised : (vars : List VarInfo) (lets : List Triple) (t x : Tree) (n : ℕ) (o r : Option Triple) → t ≡ Pow x n → IsTried vars lets x o → r ≡ next o (λ a. power_tried a n) → IfSome r (λ a. IsSmall a) → IsTried vars lets t r
+pub tried_raised : (vars : List VarInfo) (lets : List Triple) (t x : Tree) (n : ℕ) (o r : Option Triple) → t ≡ Pow x n
+    → IsTried vars lets x o → r ≡ next o (λ a. power_tried a n) → IfSome r (λ a. IsSmall a) → IsTried vars lets t r
 tried_raised vars lets t x n o r e u i s = record {
   value = i ∙ ap (λ (m : Option Triple). next m (λ a. power_tried a n)) u.value ∙ ap (tried vars lets) (sym e);
   small = s;

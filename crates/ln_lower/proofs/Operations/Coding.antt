@@ -27,8 +27,9 @@ all_length ks [] (t ∷ ts) a = absurd a
 all_length ks (n ∷ ns) [] a = absurd a
 all_length ks (n ∷ ns) (t ∷ ts) a = ap suc (all_length ks ns ts a.1)
 
--- the tree with a number that is kept stands at the number's place
-kept_at : (ks : List Key) (ns : List ℕ) (ts : List Typed) (i k : ℕ) (t : Typed) → AllStand ks ns ts → slice_get ns i ≡ Some k → Stands ks k t → slice_get ts i ≡ Some t
+-- the tree with a number that is kept is at the number's place
+kept_at : (ks : List Key) (ns : List ℕ) (ts : List Typed) (i k : ℕ) (t : Typed) → AllStand ks ns ts → slice_get ns i ≡ Some k
+    → Stands ks k t → slice_get ts i ≡ Some t
 kept_at ks [] ts i k t a e s = cc
 kept_at ks (n ∷ ns) [] i k t a e s = absurd a
 kept_at ks (n ∷ ns) (u ∷ us) zero k t a e s =
@@ -42,7 +43,8 @@ record Coded (ks : List Key) (kept : List Typed) (t : Typed) (lines : List (Line
   are : AllStand ks more new
   code : IsCode kept t lines new b
 
-coded : (ks : List Key) {ns : List ℕ} {t : Typed} {lines : List (Line Range)} {m : List ℕ} {spare : ℕ} (kept : List Typed) → AllStand ks ns kept → Written ks ns t lines m spare → Coded ks kept t lines m (is_computed spare)
+coded : (ks : List Key) {ns : List ℕ} {t : Typed} {lines : List (Line Range)} {m : List ℕ} {spare : ℕ} (kept : List Typed)
+    → AllStand ks ns kept → Written ks ns t lines m spare → Coded ks kept t lines m (is_computed spare)
 coded ks kept a (written.number c p w) = record { new = []; are = tt; code = number c p w }
 coded ks kept a (written.variable v p w) = record { new = []; are = tt; code = variable v p w }
 coded ks kept a (written.name j p w) = record { new = []; are = tt; code = name j p w }
@@ -62,7 +64,11 @@ coded ks kept a (written.keep {kept = ns} {more = m} {t = t} {lines = lines} k s
     let r = coded ks kept a x in
     let e : length (kept ++ r.new) ≡ length (ns ++ m) = sym (all_length ks (ns ++ m) (kept ++ r.new) (all_append ks ns m kept r.new a r.are)) in
     let c : IsCode kept t (lines ++ keeping (65 + length (kept ++ r.new)) (pair t)) (r.new ++ (t ∷ [])) false = keep r.code in
-    record { new = r.new ++ (t ∷ []); are = all_last ks m r.new k t r.are s; code = subst (λ n. IsCode kept t (lines ++ keeping (65 + n) (pair t)) (r.new ++ (t ∷ [])) false) e c }
+    record {
+      new = r.new ++ (t ∷ []);
+      are = all_last ks m r.new k t r.are s;
+      code = subst (λ n. IsCode kept t (lines ++ keeping (65 + n) (pair t)) (r.new ++ (t ∷ [])) false) e c;
+    }
 
 record LetsCoded (ks : List Key) (ts : List Typed) (lines : List (Line Range)) (kept : List ℕ) : Type 0 where
   trees : List Typed
@@ -76,7 +82,8 @@ lets_coded ks (written.more {kept = kept} {new = new} h w) =
     let y = coded ks x.trees x.are w in
     record { trees = x.trees ++ y.new; are = all_append ks kept new x.trees y.new x.are y.are; code = more x.code y.code }
 
-pub block_coded : (ks : List Key) (lets : List Typed) (t : Typed) (lines first last : List (Line Range)) (kept new : List ℕ) (spare : ℕ) → LetsWritten ks lets first kept → Written ks kept t last new spare → lines ≡ first ++ last → IsCodeOf lets t lines
+pub block_coded : (ks : List Key) (lets : List Typed) (t : Typed) (lines first last : List (Line Range)) (kept new : List ℕ) (spare : ℕ)
+    → LetsWritten ks lets first kept → Written ks kept t last new spare → lines ≡ first ++ last → IsCodeOf lets t lines
 block_coded ks lets t lines first last kept new spare h w e =
     let x = lets_coded ks h in
     let y = coded ks x.trees x.are w in

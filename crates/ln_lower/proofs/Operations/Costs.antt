@@ -28,8 +28,9 @@ cost_positive (TNeg t p w) = omega arith
 cost_positive (TTwo k s t p w) = omega arith
 cost_positive (TPow t n p w) = omega arith
 
--- at most three operations for each that the tree costs; two are left for those that keep it
-pub tree_cost : (ks : List Key) {kept : List ℕ} {t : Typed} {lines : List (Line Range)} {new : List ℕ} {spare : ℕ} → Written ks kept t lines new spare → length lines + spare ≤ 3 * cost t
+-- at most three operations for each that the tree costs; two remain for those that keep it
+pub tree_cost : (ks : List Key) {kept : List ℕ} {t : Typed} {lines : List (Line Range)} {new : List ℕ} {spare : ℕ}
+    → Written ks kept t lines new spare → length lines + spare ≤ 3 * cost t
 tree_cost ks (number c p w) = omega arith
 tree_cost ks (variable v p w) = omega arith
 tree_cost ks (name j p w) = omega arith
@@ -60,7 +61,8 @@ costs_snoc [] t = omega arith
 costs_snoc (u ∷ us) t = let h = costs_snoc us t in omega (arith, h)
 
 -- the lets take one operation more each
-pub lets_cost : (ks : List Key) {ts : List Typed} {lines : List (Line Range)} {kept : List ℕ} → LetsWritten ks ts lines kept → length lines ≤ 3 * costs ts + length ts
+pub lets_cost : (ks : List Key) {ts : List Typed} {lines : List (Line Range)} {kept : List ℕ} → LetsWritten ks ts lines kept
+    → length lines ≤ 3 * costs ts + length ts
 lets_cost ks none = omega arith
 lets_cost ks (more {ts = ts} {t = t} {lines = lines} {last = last} h x) =
     let g = lets_cost ks h in
@@ -90,13 +92,15 @@ two_stores Plus w p = (λ e. cc, tt)
 two_stores Minus w p = (λ e. cc, tt)
 two_stores Times w p = (λ e. cc, tt)
 
-pub tree_stores : (ks : List Key) {kept : List ℕ} {t : Typed} {lines : List (Line Range)} {new : List ℕ} {spare : ℕ} → Written ks kept t lines new spare → StoresHave nothing lines
+pub tree_stores : (ks : List Key) {kept : List ℕ} {t : Typed} {lines : List (Line Range)} {new : List ℕ} {spare : ℕ}
+    → Written ks kept t lines new spare → StoresHave nothing lines
 tree_stores ks (number c p w) = (λ e. cc, tt)
 tree_stores ks (variable v p w) = (λ e. cc, tt)
 tree_stores ks (name j p w) = (λ e. cc, tt)
 tree_stores ks (again i k e s) = (λ e. cc, tt)
 tree_stores ks (opposite {lines = inner} p w x) = stores_append inner _ (tree_stores ks x) (λ e. cc, tt)
-tree_stores ks (two {left = left} {right = right} o p w x y) = stores_append left _ (tree_stores ks x) (stores_append right _ (tree_stores ks y) (two_stores o w p))
+tree_stores ks (two {left = left} {right = right} o p w x y) =
+    stores_append left _ (tree_stores ks x) (stores_append right _ (tree_stores ks y) (two_stores o w p))
 tree_stores ks (zeroth t p w) = (λ e. cc, tt)
 tree_stores ks (raised {t = t} {lines = inner} n p w x) = stores_append inner _ (tree_stores ks x) (power_stores (pair t) w n)
 tree_stores ks (keep {lines = inner} k s x) = stores_append inner _ (tree_stores ks x) (λ e. refl, (λ e. cc, tt))

@@ -4,7 +4,6 @@ use Rattle.std.specs.Prelude.{Option, Some, None, slice_get, ◌==◌}
 use Rattle.std.proofs.lemmas.Bool.Decides.{nat_tests}
 use Rattle.std.proofs.lemmas.Option.{slice_get_within}
 use Rattle.ln_algebra.specs.Sizes.{one}
-use Rattle.ln_algebra.specs.Tree as tree
 use Rattle.ln_algebra.specs.Tree.{Tree, Num, Input, Name, Neg, Add, Sub, Mul, Pow, inlined}
 use Rattle.ln_tree.specs.declared.shape.VarInfo.{VarInfo}
 use Rattle.ln_interval.specs.Range.{Range}
@@ -97,22 +96,33 @@ pub record KeptKnown (ks : List Key) (kept : List ℕ) (n : ℕ) (trees : List T
   pub each : (i k : ℕ) → slice_get kept i ≡ Some k → Entry ks k n trees ss (l (65 + i))
 
 pub entry_at : (ks : List Key) (k n : ℕ) (trees : List Tree) (ss : List ℕ) (o p : Option Known) → Entry ks k n trees ss o → p ≡ o → Entry ks k n trees ss p
-entry_at ks k n trees ss o p e q = record { what = e.what; stands = e.stands; names = e.names; known = let_kept o p e.what (weight_over one ss (untyped e.what)) (inlined trees (untyped e.what)) e.known q }
+entry_at ks k n trees ss o p e q = record {
+  what = e.what;
+  stands = e.stands;
+  names = e.names;
+  known = let_kept o p e.what (weight_over one ss (untyped e.what)) (inlined trees (untyped e.what)) e.known q;
+}
 
 -- other locals don't matter
-pub kept_by : (ks : List Key) (kept : List ℕ) (n : ℕ) (trees : List Tree) (ss : List ℕ) (l m : ℕ → Option Known) → KeptKnown ks kept n trees ss l → ((i : ℕ) → i < length kept → m (65 + i) ≡ l (65 + i)) → KeptKnown ks kept n trees ss m
-kept_by ks kept n trees ss l m h f = record { each = λ i k e. entry_at ks k n trees ss (l (65 + i)) (m (65 + i)) (h.each i k e) (f i (slice_get_within kept i k e)) }
+pub kept_by : (ks : List Key) (kept : List ℕ) (n : ℕ) (trees : List Tree) (ss : List ℕ) (l m : ℕ → Option Known)
+    → KeptKnown ks kept n trees ss l → ((i : ℕ) → i < length kept → m (65 + i) ≡ l (65 + i)) → KeptKnown ks kept n trees ss m
+kept_by ks kept n trees ss l m h f = record {
+  each = λ i k e. entry_at ks k n trees ss (l (65 + i)) (m (65 + i)) (h.each i k e) (f i (slice_get_within kept i k e));
+}
 
 -- a local below 65
-pub kept_low : (ks : List Key) (kept : List ℕ) (n : ℕ) (trees : List Tree) (ss : List ℕ) (l : ℕ → Option Known) (j : ℕ) (x : Known) → j < 65 → KeptKnown ks kept n trees ss l → KeptKnown ks kept n trees ss (with_local l j x)
+pub kept_low : (ks : List Key) (kept : List ℕ) (n : ℕ) (trees : List Tree) (ss : List ℕ) (l : ℕ → Option Known) (j : ℕ) (x : Known) → j < 65
+    → KeptKnown ks kept n trees ss l → KeptKnown ks kept n trees ss (with_local l j x)
 kept_low ks kept n trees ss l j x b h = kept_by ks kept n trees ss l (with_local l j x) h (λ i f. at_other l x j (65 + i) (λ q. absurd (omega (arith, q, b))))
 
 -- one value more
-pub kept_snoc : (ks : List Key) (kept : List ℕ) (n : ℕ) (trees : List Tree) (ss : List ℕ) (l : ℕ → Option Known) (k : ℕ) (x : Known) → KeptKnown ks kept n trees ss l → Entry ks k n trees ss (Some x) → KeptKnown ks (kept ++ (k ∷ [])) n trees ss (with_local l (65 + length kept) x)
+pub kept_snoc : (ks : List Key) (kept : List ℕ) (n : ℕ) (trees : List Tree) (ss : List ℕ) (l : ℕ → Option Known) (k : ℕ) (x : Known)
+    → KeptKnown ks kept n trees ss l → Entry ks k n trees ss (Some x) → KeptKnown ks (kept ++ (k ∷ [])) n trees ss (with_local l (65 + length kept) x)
 kept_snoc ks kept n trees ss l k x h e = record { each = each }
   where
     old : (i m : ℕ) → i < length kept → Entry ks m n trees ss (l (65 + i)) → Entry ks m n trees ss (with_local l (65 + length kept) x (65 + i))
-    old i m b f = entry_at ks m n trees ss (l (65 + i)) (with_local l (65 + length kept) x (65 + i)) f (at_other l x (65 + length kept) (65 + i) (λ q. absurd (omega (arith, q, b))))
+    old i m b f = entry_at ks m n trees ss (l (65 + i)) (with_local l (65 + length kept) x (65 + i)) f
+        (at_other l x (65 + length kept) (65 + i) (λ q. absurd (omega (arith, q, b))))
 
     new : (i m : ℕ) → i ≡ length kept → k ≡ m → Entry ks m n trees ss (with_local l (65 + length kept) x (65 + i))
     new i m q r =
@@ -124,7 +134,8 @@ kept_snoc ks kept n trees ss l k x h e = record { each = each }
     each i m r = elim (get_snoc kept k i m r) [ inl p ↦ old i m p.0 (h.each i m p.1) | inr p ↦ new i m p.0 p.1 ]
 
 -- one let more
-pub kept_lets : (ks : List Key) (kept : List ℕ) (n : ℕ) (trees : List Tree) (ss : List ℕ) (l : ℕ → Option Known) (c : Tree) (s : ℕ) → length trees ≡ n → length ss ≡ n → KeptKnown ks kept n trees ss l → KeptKnown ks kept (suc n) (trees ++ (c ∷ [])) (ss ++ (s ∷ [])) l
+pub kept_lets : (ks : List Key) (kept : List ℕ) (n : ℕ) (trees : List Tree) (ss : List ℕ) (l : ℕ → Option Known) (c : Tree) (s : ℕ)
+    → length trees ≡ n → length ss ≡ n → KeptKnown ks kept n trees ss l → KeptKnown ks kept (suc n) (trees ++ (c ∷ [])) (ss ++ (s ∷ [])) l
 kept_lets ks kept n trees ss l c s a b h = record { each = λ i k e. entry i k (h.each i k e) }
   where
     entry : (i k : ℕ) → Entry ks k n trees ss (l (65 + i)) → Entry ks k (suc n) (trees ++ (c ∷ [])) (ss ++ (s ∷ [])) (l (65 + i))

@@ -14,9 +14,14 @@ push_append is_node [] ys a b = b
 push_append is_node (x ∷ xs) ys a b = (a.0, push_append is_node xs ys a.1 b)
 
 -- nodes of a tree are nodes of a larger one
-pub push_wider : (is_node is_more : Tree → Width → Type 0) → ((e : Tree) (v : Width) → is_node e v → is_more e v) → (xs : List (Pushed Known)) → PushNodes is_node xs → PushNodes is_more xs
+pub push_wider : (is_node is_more : Tree → Width → Type 0) → ((e : Tree) (v : Width) → is_node e v → is_more e v)
+    → (xs : List (Pushed Known)) → PushNodes is_node xs → PushNodes is_more xs
 push_wider is_node is_more h [] a = tt
-push_wider is_node is_more h (x ∷ xs) a = (record { node = a.0.node; width = a.0.width; there = h a.0.node a.0.width a.0.there; same = a.0.same; done = a.0.done }, push_wider is_node is_more h xs a.1)
+push_wider is_node is_more h (x ∷ xs) a = (
+  record { node = a.0.node; width = a.0.width; there = h a.0.node a.0.width a.0.there; same = a.0.same; done = a.0.done },
+  push_wider is_node is_more h xs a.1,
+)
 
-pub pushes_node : (is_node : Tree → Width → Type 0) (op : Op) (k : Known) (e : Tree) (v : Width) → is_node e v → Same k.tree e → HasWidth op v → PushesNode is_node (record { op = op; value = k })
+pub pushes_node : (is_node : Tree → Width → Type 0) (op : Op) (k : Known) (e : Tree) (v : Width) → is_node e v → Same k.tree e
+    → HasWidth op v → PushesNode is_node (record { op = op; value = k })
 pushes_node is_node op k e v h s w = record { node = e; width = v; there = h; same = λ m. ap (λ (f : Series). f m) s.series; done = w }

@@ -1,5 +1,6 @@
 -- What the lowered block is.
-use Rattle.std.proofs.Common.{◌≡◌, ℕ, ℤ, ◌+◌, ◌*◌, ◌≤◌, ◌<◌, List, [], ◌∷◌, ◌++◌, length, map, refl, zero, suc, ap, arith, ◌∙◌, sym, subst, get_or, length-append}
+use Rattle.std.proofs.Common.{◌≡◌, ℕ, ℤ, ◌+◌, ◌*◌, ◌≤◌, ◌<◌, List, [], ◌∷◌, ◌++◌, length, map, refl, zero, suc, ap, arith, ◌∙◌, sym, subst}
+use Rattle.std.proofs.Common.{get_or, length-append}
 use Rattle.std.specs.Prelude.{Option, Some, All, pos, slice_index_or}
 use Rattle.ln_algebra.specs.Coefficient.{Series}
 use Rattle.ln_algebra.specs.Tree.{Num, Tree, inlined, inlined_after}
@@ -84,7 +85,8 @@ all_fit vars done (u ∷ us) s = all_cons (λ u. PowersFit (typed u)) u us (root
 has_polynomial : (o : Option Known) (u : Typed) (s : ℕ) (e : Tree) → LetKnown o u s e → HasPolynomial o e
 has_polynomial o u s e k = rw k.there (λ m. ap (λ (f : Series). f m) k.same.series)
 
-lets_are_kept : (lets : List Typed) (trees : List Tree) (ss : List ℕ) (l : ℕ → Option Known) → LetsKnown lets trees ss l → (j : ℕ) → j < length lets → HasPolynomial (l j) (slice_index_or trees j (Num (pos 0)))
+lets_are_kept : (lets : List Typed) (trees : List Tree) (ss : List ℕ) (l : ℕ → Option Known) → LetsKnown lets trees ss l → (j : ℕ)
+    → j < length lets → HasPolynomial (l j) (slice_index_or trees j (Num (pos 0)))
 lets_are_kept lets trees ss l k j h =
     let d : Typed = TNum (pos 0) nothing W64 in
     has_polynomial (l j) (get_or lets j d) (slice_index_or ss j 0) (slice_index_or trees j (Num (pos 0))) (k.each j (get_or lets j d) (there lets j d h))
@@ -101,7 +103,9 @@ pub record IsLowered (vars : List VarInfo) (code : Code) (t : Typed) (lets : Lis
   pub lines : IsCodeOf lets t (lines_of code.ops code.pairs)
   pub few : length code.ops ≤ 4 * (cost t + costs lets) + 64
 
-lowered_is : (vars : List VarInfo) (code : Code) (ks : List Key) (t : Typed) (lets : List Typed) (first last : List (Line Range)) (kept new : List ℕ) (spare : ℕ) → LetsWritten ks lets first kept → Written ks kept t last new spare → length lets ≤ 64 → AreSound vars [] lets → Sound vars lets t → code.depth ≡ 2048 →
+lowered_is : (vars : List VarInfo) (code : Code) (ks : List Key) (t : Typed) (lets : List Typed) (first last : List (Line Range))
+    (kept new : List ℕ) (spare : ℕ) → LetsWritten ks lets first kept → Written ks kept t last new spare → length lets ≤ 64 →
+    AreSound vars [] lets → Sound vars lets t → code.depth ≡ 2048 →
     code.ops ≡ ops_in (first ++ last) → code.pairs ≡ pairs_in (first ++ last) → IsLowered vars code t lets
 lowered_is vars code ks t lets first last kept new spare h w few s r d o b =
     let all : List (Line Range) = first ++ last in
@@ -114,7 +118,12 @@ lowered_is vars code ks t lets first last kept new spare h w few s r d o b =
     let tc = tree_cost ks w in
     let lc = lets_cost ks h in
     record {
-      block = record { shallow = let i : code.depth ≤ 2048 = omega (arith, d) in i; stores_have = rw e (stores_append first last (lets_store ks h) (tree_stores ks w)); vars = vars; rules = g };
+      block = record {
+        shallow = let i : code.depth ≤ 2048 = omega (arith, d) in i;
+        stores_have = rw e (stores_append first last (lets_store ks h) (tree_stores ks w));
+        vars = vars;
+        rules = g;
+      };
       rules = g;
       top = x.top;
       known = f;
@@ -127,23 +136,29 @@ lowered_is vars code ks t lets first last kept new spare h w few s r d o b =
     }
 
 -- the block that is sealed from what was written
-pub sealed : (vars : List VarInfo) (code : Code) (ks : List Key) (t : Typed) (lets : List Typed) (b c : Draft) → length lets ≤ 64 → AreSound vars [] lets → Sound vars lets t →
+pub sealed : (vars : List VarInfo) (code : Code) (ks : List Key) (t : Typed) (lets : List Typed) (b c : Draft) → length lets ≤ 64 →
+    AreSound vars [] lets → Sound vars lets t →
     PutsLets ks b lets → Puts ks b c t → code.ops ≡ c.ops → code.pairs ≡ map range c.pairs → code.depth ≡ 2048 → IsLowered vars code t lets
 sealed vars code ks t lets b c few s r v w eo eb d =
     let i : c.ops ≡ ops_in (v.lines ++ w.lines) = w.wrote.ops ∙ ap (λ l. l ++ ops_in w.lines) v.ops ∙ sym (ops_append v.lines w.lines) in
     let j : map range c.pairs ≡ pairs_in (v.lines ++ w.lines) = w.wrote.pairs ∙ ap (λ l. l ++ pairs_in w.lines) v.pairs ∙ sym (pairs_append v.lines w.lines) in
     lowered_is vars code ks t lets v.lines w.lines b.kept w.more w.spare v.written w.written few s r d (eo ∙ i) (eb ∙ j)
 
-top_is : (vars : List VarInfo) (code : Code) (t : Typed) (lets : List Typed) (x : IsLowered vars code t lets) (k : Known) → known_of vars code ≡ Some k → x.top ≡ k
+top_is : (vars : List VarInfo) (code : Code) (t : Typed) (lets : List Typed) (x : IsLowered vars code t lets) (k : Known)
+    → known_of vars code ≡ Some k → x.top ≡ k
 top_is vars code t lets x k h = let e : Some x.top ≡ Some k = sym x.known ∙ h in cc
 
-pub lowered_range : (vars : List VarInfo) (code : Code) (t : Typed) (lets : List Typed) → IsLowered vars code t lets → (k : Known) → known_of vars code ≡ Some k → Covers (pair t) k.range
+pub lowered_range : (vars : List VarInfo) (code : Code) (t : Typed) (lets : List Typed) → IsLowered vars code t lets → (k : Known)
+    → known_of vars code ≡ Some k → Covers (pair t) k.range
 lowered_range vars code t lets x k h = subst (λ (n : Known). Covers (pair t) n.range) (top_is vars code t lets x k h) x.covered
 
-pub lowered_same : (vars : List VarInfo) (code : Code) (t : Typed) (lets : List Typed) → IsLowered vars code t lets → (k : Known) → known_of vars code ≡ Some k → Same k.tree (inlined (inlined_after [] (map untyped lets)) (untyped t))
-lowered_same vars code t lets x k h = subst (λ (n : Known). Same n.tree (inlined (inlined_after [] (map untyped lets)) (untyped t))) (top_is vars code t lets x k h) x.same
+pub lowered_same : (vars : List VarInfo) (code : Code) (t : Typed) (lets : List Typed) → IsLowered vars code t lets → (k : Known)
+    → known_of vars code ≡ Some k → Same k.tree (inlined (inlined_after [] (map untyped lets)) (untyped t))
+lowered_same vars code t lets x k h =
+    subst (λ (n : Known). Same n.tree (inlined (inlined_after [] (map untyped lets)) (untyped t))) (top_is vars code t lets x k h) x.same
 
-pub lowered_value : (vars : List VarInfo) (code : Code) (t : Typed) (lets : List Typed) → IsLowered vars code t lets → (zs : List ℤ) → AreWithin vars zs → block_value zs code ≡ Some (value (values zs) (let_values (values zs) [] (map untyped lets)) (untyped t))
+pub lowered_value : (vars : List VarInfo) (code : Code) (t : Typed) (lets : List Typed) → IsLowered vars code t lets → (zs : List ℤ)
+    → AreWithin vars zs → block_value zs code ≡ Some (value (values zs) (let_values (values zs) [] (map untyped lets)) (untyped t))
 lowered_value vars code t lets x zs h =
     let m = blocks_mean vars zs code h x.rules in
     let s = lowered_same vars code t lets x m.what m.known in

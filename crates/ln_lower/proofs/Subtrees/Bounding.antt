@@ -65,7 +65,8 @@ pub limit_most : (w : Width) → limit w ≤ most
 limit_most W64 = omega arith
 limit_most W128 = omega arith
 
-pub pushed_is : {B V L : Type 0} (e : Engine B V L) (l : L) (s : List V) (v : V) → e.room (suc (length s)) ≡ true → pushed e l s v ≡ Some (record { stack = v ∷ s; locals = l })
+pub pushed_is : {B V L : Type 0} (e : Engine B V L) (l : L) (s : List V) (v : V) → e.room (suc (length s)) ≡ true
+    → pushed e l s v ≡ Some (record { stack = v ∷ s; locals = l })
 pushed_is e l s v h = rw h refl
 
 -- ---- ranges
@@ -79,7 +80,8 @@ two_covers Times p q r s o n h g = product_covers p q r s o n h g
 is_in_test : (p : Range) (w : Width) → IsIn p w → is_in p w ≡ true
 is_in_test p w i = both _ _ (le_test _ _ i.0) (le-leb (magnitude p) (limit w) i.1)
 
-pub known_is : (enough p : Range) (w : Width) (s : ℕ) (t : Tree) → Covers p enough → IsIn p w → s ≤ most → known enough p w s t ≡ Some (record { range = p; width = w; tree = t; size = s })
+pub known_is : (enough p : Range) (w : Width) (s : ℕ) (t : Tree) → Covers p enough → IsIn p w → s ≤ most
+    → known enough p w s t ≡ Some (record { range = p; width = w; tree = t; size = s })
 known_is enough p w s t c i l =
     let n : nat_le s most ≡ true = le-leb s most l in
     rw (covers_test p enough c, is_in_test p w i, n) refl
@@ -93,7 +95,8 @@ wider_in p u w i = (i.0, wider_limit (magnitude p) u (least (magnitude p)) (leas
 -- ---- powers
 
 -- the first power of a range in order is the range
-first_ends : (a b : ℤ) → a ≤ℤ b → (least_of (pos 1 *ℤ a) (pos 1 *ℤ b) (pos 1 *ℤ a) (pos 1 *ℤ b) ≡ a) × (greatest_of (pos 1 *ℤ a) (pos 1 *ℤ b) (pos 1 *ℤ a) (pos 1 *ℤ b) ≡ b)
+first_ends : (a b : ℤ) → a ≤ℤ b
+    → (least_of (pos 1 *ℤ a) (pos 1 *ℤ b) (pos 1 *ℤ a) (pos 1 *ℤ b) ≡ a) × (greatest_of (pos 1 *ℤ a) (pos 1 *ℤ b) (pos 1 *ℤ a) (pos 1 *ℤ b) ≡ b)
 first_ends a b h =
     let e : pos 1 *ℤ a ≡ a = omega (arith, ints) in
     let f : pos 1 *ℤ b ≡ b = omega (arith, ints) in

@@ -23,11 +23,15 @@ same_both Plus Plus x y z w h = let k = and_parts (x == z) (y == w) h in ap (λ 
 same_both Plus Minus x y z w h = absurd (true≢false (sym h))
 same_both Plus Times x y z w h = absurd (true≢false (sym h))
 same_both Minus Plus x y z w h = absurd (true≢false (sym h))
-same_both Minus Minus x y z w h = let k = and_parts (x == z) (y == w) h in ap (λ (a : ℕ). Both Minus a y) (eqb-true x z k.0) ∙ ap (Both Minus z) (eqb-true y w k.1)
+same_both Minus Minus x y z w h =
+    let k = and_parts (x == z) (y == w) h in
+    ap (λ (a : ℕ). Both Minus a y) (eqb-true x z k.0) ∙ ap (Both Minus z) (eqb-true y w k.1)
 same_both Minus Times x y z w h = absurd (true≢false (sym h))
 same_both Times Plus x y z w h = absurd (true≢false (sym h))
 same_both Times Minus x y z w h = absurd (true≢false (sym h))
-same_both Times Times x y z w h = let k = and_parts (x == z) (y == w) h in ap (λ (a : ℕ). Both Times a y) (eqb-true x z k.0) ∙ ap (Both Times z) (eqb-true y w k.1)
+same_both Times Times x y z w h =
+    let k = and_parts (x == z) (y == w) h in
+    ap (λ (a : ℕ). Both Times a y) (eqb-true x z k.0) ∙ ap (Both Times z) (eqb-true y w k.1)
 
 same_op : (a b : KeyOp) → (op.ghosts).eq a b ≡ true → a ≡ b
 same_op (Number c) (Number d) h = ap Number ((signed_Decides c d).0 h)
@@ -75,7 +79,8 @@ same_width W128 W128 h = refl
 
 key_by : (x y : Key) → x.op ≡ y.op → x.low ≡ y.low → x.high ≡ y.high → x.width ≡ y.width → x ≡ y
 key_by x y a b c d =
-    ap (λ (o : KeyOp). record x { op = o }) a ∙ ap (λ (z : ℤ). record x { op = y.op; low = z }) b ∙ ap (λ (z : ℤ). record x { op = y.op; low = y.low; high = z }) c
+    ap (λ (o : KeyOp). record x { op = o }) a ∙ ap (λ (z : ℤ). record x { op = y.op; low = z }) b
+    ∙ ap (λ (z : ℤ). record x { op = y.op; low = y.low; high = z }) c
     ∙ ap (λ (w : Width). record x { op = y.op; low = y.low; high = y.high; width = w }) d
 
 -- subtrees that compare as equal are one
@@ -86,7 +91,7 @@ same_key x y h =
     let r = and_parts (int_eq x.high y.high) ((width.ghosts).eq x.width y.width) q.1 in
     key_by x y (same_op x.op y.op p.0) ((signed_Decides x.low y.low).0 q.0) ((signed_Decides x.high y.high).0 r.0) (same_width x.width y.width r.1)
 
--- a list goes on behind another
+-- a list goes on after another
 extends_behind : (ks ls : List Key) → Extends ks (ks ++ ls)
 extends_behind [] ls k x h = absurd (cc)
 extends_behind (y ∷ ks) ls zero x h = h
@@ -97,7 +102,8 @@ extends_by true ks x k y h = h
 extends_by false ks x k y h = extends_behind ks (x ∷ []) k y h
 
 -- what an insertion does
-pub key_added : (ks ls : List Key) (k : ℕ) (x : Key) → ls ≡ insert_key (key.ghosts).eq ks x → (y : Key) × (slice_get ls k ≡ Some y) × ((key.ghosts).eq x y ≡ true) → Added ks ls k x
+pub key_added : (ks ls : List Key) (k : ℕ) (x : Key) → ls ≡ insert_key (key.ghosts).eq ks x
+    → (y : Key) × (slice_get ls k ≡ Some y) × ((key.ghosts).eq x y ≡ true) → Added ks ls k x
 key_added ks ls k x e s = record {
   there = s.1 ∙ ap (λ (y : Key). Some y) (sym (same_key x s.0 s.2));
   more = subst (λ (ms : List Key). Extends ks ms) (sym e) (extends_by (list_any ((key.ghosts).eq x) ks) ks x);

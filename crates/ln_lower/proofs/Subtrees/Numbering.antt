@@ -1,4 +1,4 @@
--- Numbers of subtrees.
+-- Proves that a number stands for one tree alone, and still does when more subtrees are numbered.
 use Rattle.std.proofs.Common.{◌≡◌, ℕ, List, [], ◌∷◌, ◌++◌, refl, zero, suc, ap, arith, ◌∙◌, sym, length, map, get_or, ◌<◌}
 use Rattle.std.specs.Prelude.{Some, slice_get}
 use Rattle.ln_interval.specs.Range.{Range}
@@ -20,7 +20,8 @@ range_in x = record { low = x.low; high = x.high }
 same_parts : (o i : KeyOp) (p q : Range) (w v : Width) → key o p w ≡ key i q v → (o ≡ i) × (p ≡ q) × (w ≡ v)
 same_parts o i p q w v e = (ap (λ (x : Key). x.op) e, ap range_in e, ap (λ (x : Key). x.width) e)
 
-same_key : (ks : List Key) (k : ℕ) (o i : KeyOp) (p q : Range) (w v : Width) → slice_get ks k ≡ Some (key o p w) → slice_get ks k ≡ Some (key i q v) → (o ≡ i) × (p ≡ q) × (w ≡ v)
+same_key : (ks : List Key) (k : ℕ) (o i : KeyOp) (p q : Range) (w v : Width) → slice_get ks k ≡ Some (key o p w)
+    → slice_get ks k ≡ Some (key i q v) → (o ≡ i) × (p ≡ q) × (w ≡ v)
 same_key ks k o i p q w v a b =
     let e : Some (key o p w) ≡ Some (key i q v) = sym a ∙ b in
     let f : key o p w ≡ key i q v = cc in
@@ -224,22 +225,26 @@ added_there ks k x h = record { there = h; more = λ j y g. g }
 
 -- ---- trees
 
-pub numbered_num : (ks ls : List Key) (k : ℕ) (t : Typed) (x : Key) (o : KeyOp) (p : Range) (w : Width) → x ≡ key o p w → (slice_get ls k ≡ Some (key o p w) → Stands ls k t) → Added ks ls k x → Numbered ks ls k t
+pub numbered_num : (ks ls : List Key) (k : ℕ) (t : Typed) (x : Key) (o : KeyOp) (p : Range) (w : Width) → x ≡ key o p w
+    → (slice_get ls k ≡ Some (key o p w) → Stands ls k t) → Added ks ls k x → Numbered ks ls k t
 numbered_num ks ls k t x o p w e f a = record { stands = f (a.there ∙ ap Some e); more = a.more }
 
-pub numbered_neg : (ks ls ms : List Key) (a k : ℕ) (t u : Typed) (p : Range) (w : Width) → u ≡ TNeg t p w → Numbered ks ls a t → Added ls ms k (key (Opposite a) p w) → Numbered ks ms k u
+pub numbered_neg : (ks ls ms : List Key) (a k : ℕ) (t u : Typed) (p : Range) (w : Width) → u ≡ TNeg t p w → Numbered ks ls a t
+    → Added ls ms k (key (Opposite a) p w) → Numbered ks ms k u
 numbered_neg ks ls ms a k t u p w e n d = rw e (record {
   stands = (a, d.there, stands_more ls ms t a d.more n.stands);
   more = extends_then ks ls ms n.more d.more;
 })
 
-pub numbered_pow : (ks ls ms : List Key) (a k : ℕ) (t u : Typed) (n : ℕ) (p : Range) (w : Width) → u ≡ TPow t n p w → Numbered ks ls a t → Added ls ms k (key (Raised a n) p w) → Numbered ks ms k u
+pub numbered_pow : (ks ls ms : List Key) (a k : ℕ) (t u : Typed) (n : ℕ) (p : Range) (w : Width) → u ≡ TPow t n p w → Numbered ks ls a t
+    → Added ls ms k (key (Raised a n) p w) → Numbered ks ms k u
 numbered_pow ks ls ms a k t u n p w e m d = rw e (record {
   stands = (a, d.there, stands_more ls ms t a d.more m.stands);
   more = extends_then ks ls ms m.more d.more;
 })
 
-pub numbered_two : (ks ls ms ns : List Key) (a b k : ℕ) (o : Two) (s t u : Typed) (p : Range) (w : Width) → u ≡ TTwo o s t p w → Numbered ks ls a s → Numbered ls ms b t → Added ms ns k (key (Both o a b) p w) → Numbered ks ns k u
+pub numbered_two : (ks ls ms ns : List Key) (a b k : ℕ) (o : Two) (s t u : Typed) (p : Range) (w : Width) → u ≡ TTwo o s t p w
+    → Numbered ks ls a s → Numbered ls ms b t → Added ms ns k (key (Both o a b) p w) → Numbered ks ns k u
 numbered_two ks ls ms ns a b k o s t u p w e m n d = rw e (record {
   stands = (a, b, d.there, stands_more ls ns s a (extends_then ls ms ns n.more d.more) m.stands, stands_more ms ns t b d.more n.stands);
   more = extends_then ks ls ns m.more (extends_then ls ms ns n.more d.more);
@@ -253,22 +258,26 @@ all_more ks ls [] (t ∷ ts) e a = a
 all_more ks ls (n ∷ ns) [] e a = a
 all_more ks ls (n ∷ ns) (t ∷ ts) e a = (stands_more ks ls t n e a.0, all_more ks ls ns ts e a.1)
 
-pub all_last : (ks : List Key) (ns : List ℕ) (ts : List Typed) (n : ℕ) (t : Typed) → AllStand ks ns ts → Stands ks n t → AllStand ks (ns ++ (n ∷ [])) (ts ++ (t ∷ []))
+pub all_last : (ks : List Key) (ns : List ℕ) (ts : List Typed) (n : ℕ) (t : Typed) → AllStand ks ns ts → Stands ks n t
+    → AllStand ks (ns ++ (n ∷ [])) (ts ++ (t ∷ []))
 all_last ks [] [] n t a s = (s, tt)
 all_last ks [] (u ∷ us) n t a s = absurd a
 all_last ks (m ∷ ms) [] n t a s = absurd a
 all_last ks (m ∷ ms) (u ∷ us) n t a s = (a.0, all_last ks ms us n t a.1 s)
 
 -- one tree more
-pub next_stands : (ks ls ms : List Key) (ns os : List ℕ) (ts us : List Typed) (k : ℕ) (t : Typed) → us ≡ ts ++ (t ∷ []) → os ≡ ns ++ (k ∷ []) → ms ≡ ls → Numbered ks ls k t → AllStand ks ns ts → AllStand ms os us
+pub next_stands : (ks ls ms : List Key) (ns os : List ℕ) (ts us : List Typed) (k : ℕ) (t : Typed) → us ≡ ts ++ (t ∷ [])
+    → os ≡ ns ++ (k ∷ []) → ms ≡ ls → Numbered ks ls k t → AllStand ks ns ts → AllStand ms os us
 next_stands ks ls ms ns os ts us k t e f g n a = rw (e, f, g) (all_last ls ns ts k t (all_more ks ls ns ts n.more a) n.stands)
 
--- the same trees behind one more
-pub stand_behind : (ks ls ms : List Key) (ns os : List ℕ) (ts us : List Typed) (k : ℕ) (t : Typed) → os ≡ ns → us ≡ ts → ms ≡ ls → Numbered ks ls k t → AllStand ks ns ts → AllStand ms os us
+-- the same trees after one more
+pub stand_behind : (ks ls ms : List Key) (ns os : List ℕ) (ts us : List Typed) (k : ℕ) (t : Typed) → os ≡ ns → us ≡ ts → ms ≡ ls
+    → Numbered ks ls k t → AllStand ks ns ts → AllStand ms os us
 stand_behind ks ls ms ns os ts us k t e f g n a = rw (e, f, g) (all_more ks ls ns ts n.more a)
 
 -- the number of the tree at a place
-pub stands_at : (ks : List Key) (ns : List ℕ) (us : List Fitted) (j : ℕ) (u : Fitted) → AllStand ks ns (map typed us) → j < length us → u ≡ get_or us j u → Stands ks (get_or ns j 0) (typed u)
+pub stands_at : (ks : List Key) (ns : List ℕ) (us : List Fitted) (j : ℕ) (u : Fitted) → AllStand ks ns (map typed us) → j < length us
+    → u ≡ get_or us j u → Stands ks (get_or ns j 0) (typed u)
 stands_at ks [] [] j u a h e = absurd (omega arith)
 stands_at ks [] (v ∷ vs) j u a h e = absurd a
 stands_at ks (m ∷ ms) [] j u a h e = absurd a
@@ -289,7 +298,8 @@ neg_operand ks k t p w s = rw s.1 s.2
 pub pow_operand : (ks : List Key) (k : ℕ) (t : Typed) (n : ℕ) (p : Range) (w : Width) → Stands ks k (TPow t n p w) → Stands ks (operand_or (slice_get ks k)) t
 pow_operand ks k t n p w s = rw s.1 s.2
 
-pub two_operand : (ks : List Key) (k : ℕ) (o : Two) (t u : Typed) (p : Range) (w : Width) → Stands ks k (TTwo o t u p w) → Stands ks (operand_or (slice_get ks k)) t
+pub two_operand : (ks : List Key) (k : ℕ) (o : Two) (t u : Typed) (p : Range) (w : Width) → Stands ks k (TTwo o t u p w)
+    → Stands ks (operand_or (slice_get ks k)) t
 two_operand ks k o t u p w s = rw s.2 s.3
 
 pub two_right : (ks : List Key) (k : ℕ) (o : Two) (t u : Typed) (p : Range) (w : Width) → Stands ks k (TTwo o t u p w) → Stands ks (right_or (slice_get ks k)) u

@@ -10,7 +10,8 @@ pub returns-clause-value : goal.returns-clause-value
 returns-clause-value c =
     let f : FitsSigned w128 (slice_index_or c.ops.stack 0 (pos 0)) = search rules in
     rw (to_z-of_z w128 (slice_index_or c.ops.stack 0 (pos 0)) f)
-    (block_ends (bare c.args.values.now (length c.args.stack.now)) c.args.ops.now c.ops.op-index c.ops.stack c.ops.top (at c.args.locals.now) (at c.ops.locals) c.ops-test.false c.ops.invariant.rest c.requires.answers)
+    (block_ends (bare c.args.values.now (length c.args.stack.now)) c.args.ops.now c.ops.op-index c.ops.stack c.ops.top
+    (at c.args.locals.now) (at c.ops.locals) c.ops-test.false c.ops.invariant.rest c.requires.answers)
 
 pub ops-init : goal.ops-init
 ops-init c = record { room = omega arith; locals = c.requires.locals; size = refl; same_locals = refl; rest = refl }

@@ -10,5 +10,8 @@ invariant-ops l = record {
   locals : 256 ≤ length l.locals;
   size : length l.stack ≡ length l.initial.stack;
   same_locals : length l.locals ≡ length l.initial.locals;
-  rest : run (bare l.values (length l.initial.stack)) (shifted (drop l.i l.ops) (drop l.i l.triples)) (record { stack = seen l.stack l.top; locals = at l.locals }) ≡ run (bare l.values (length l.initial.stack)) (shifted l.ops l.triples) (record { stack = []; locals = at l.initial.locals });
+  rest : run (bare l.values (length l.initial.stack)) (shifted (drop l.i l.ops) (drop l.i l.triples)) (record {
+    stack = seen l.stack l.top;
+    locals = at l.locals;
+  }) ≡ run (bare l.values (length l.initial.stack)) (shifted l.ops l.triples) (record { stack = []; locals = at l.initial.locals });
 }

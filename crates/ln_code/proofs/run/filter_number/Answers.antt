@@ -15,7 +15,8 @@ run_filter-requires-clause-answers c =
       triples_is = c.triples.ensures.value;
       stack_is = c.as_mut_slice.ensures.value;
     } in
-    filter_answers c.args.p.now c.args.f.now c.args.values.now c.ops.result.now c.triples.result.now c.as_mut_slice.result.now c.as_mut_slice-2.result.now c.args.s.now call
+    filter_answers c.args.p.now c.args.f.now c.args.values.now c.ops.result.now c.triples.result.now c.as_mut_slice.result.now
+    c.as_mut_slice-2.result.now c.args.s.now call
 
 pub returns-clause-value : goal.returns-clause-value
 returns-clause-value c =
@@ -29,11 +30,13 @@ returns-clause-value c =
       stack_is = c.as_mut_slice.ensures.value;
     } in
     let f : FitsSigned w128 c.run_filter.result = search rules in
-    rw (to_z-of_z w128 c.run_filter.result f) (filter_gives c.args.p.now c.args.f.now c.args.values.now c.ops.result.now c.triples.result.now c.as_mut_slice.result.now c.as_mut_slice-2.result.now c.args.s.now c.run_filter.result call c.run_filter.ensures.value)
+    rw (to_z-of_z w128 c.run_filter.result f) (filter_gives c.args.p.now c.args.f.now c.args.values.now c.ops.result.now c.triples.result.now
+    c.as_mut_slice.result.now c.as_mut_slice-2.result.now c.args.s.now c.run_filter.result call c.run_filter.ensures.value)
 
 pub returns-clause-made : goal.returns-clause-made
 returns-clause-made c =
-    made_again c.args.p.now c.args.s.now _ _ c.requires.made (c.run_filter.ensures.size ∙ ap length c.as_mut_slice.ensures.value) (c.run_filter.ensures.locals ∙ ap length c.as_mut_slice-2.ensures.value)
+    made_again c.args.p.now c.args.s.now _ _ c.requires.made (c.run_filter.ensures.size ∙ ap length c.as_mut_slice.ensures.value)
+    (c.run_filter.ensures.locals ∙ ap length c.as_mut_slice-2.ensures.value)
 
 pub run_filter-requires-clause-locals : goal.run_filter-requires-clause-locals
 run_filter-requires-clause-locals c = rw c.as_mut_slice-2.ensures.value c.requires.made.locals

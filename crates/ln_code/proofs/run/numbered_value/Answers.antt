@@ -5,9 +5,11 @@ use Rattle.ln_code.proofs.Verdicts.Calls.{its_block, the_block}
 use Rattle.ln_code.proofs.run.numbered_value.Goals as goal
 
 pub value_of-requires-clause-block : goal.value_of-requires-clause-block
-value_of-requires-clause-block c = its_block c.args.p.now.blocks c.args.number c.index-blocks-number.result c.requires.number (rw c.blocks-2.ensures.value at c.index-blocks-number.is)
+value_of-requires-clause-block c = its_block c.args.p.now.blocks c.args.number c.index-blocks-number.result c.requires.number
+    (rw c.blocks-2.ensures.value at c.index-blocks-number.is)
 
 pub returns-clause-value : goal.returns-clause-value
 returns-clause-value c =
     let f : FitsSigned w128 c.value_of.result = search rules in
-    rw (to_z-of_z w128 c.value_of.result f) (the_block c.args.values.now c.args.p.now.blocks c.args.number c.index-blocks-number.result c.value_of.result c.requires.number (rw c.blocks-2.ensures.value at c.index-blocks-number.is) c.value_of.ensures.value)
+    rw (to_z-of_z w128 c.value_of.result f) (the_block c.args.values.now c.args.p.now.blocks c.args.number c.index-blocks-number.result
+    c.value_of.result c.requires.number (rw c.blocks-2.ensures.value at c.index-blocks-number.is) c.value_of.ensures.value)

@@ -15,4 +15,10 @@ shared_ref_as_front-values c =
 pub returns-clause-verdict : goal.returns-clause-verdict
 returns-clause-verdict c =
     let x = order-exists _ c.requires.row.differ in
-    record { places = x.0; order = x.1; list = list_of c.args.p.now x.0; chosen = record { order = subst (λ (n : ℕ). IsOrderOf n x.0) c.requires.row.size (order-places _ x.0 x.1); list_is = refl }; answered = (let v = rw (c.from.ensures, c.len.ensures, c.shape-shape.ensures) at c.run_through.ensures.verdict in v x.0 x.1) }
+    record {
+      places = x.0;
+      order = x.1;
+      list = list_of c.args.p.now x.0;
+      chosen = record { order = subst (λ (n : ℕ). IsOrderOf n x.0) c.requires.row.size (order-places _ x.0 x.1); list_is = refl };
+      answered = (let v = rw (c.from.ensures, c.len.ensures, c.shape-shape.ensures) at c.run_through.ensures.verdict in v x.0 x.1);
+    }

@@ -27,11 +27,13 @@ returns-clause-value c =
       stack_is = c.as_mut_slice.ensures.value;
     } in
     let f : FitsSigned w128 c.run_block.result = search rules in
-    rw (to_z-of_z w128 c.run_block.result f) (block_gives c.args.p.now c.args.block.now c.args.values.now c.ops.result.now c.as_mut_slice.result.now c.as_mut_slice-2.result.now c.args.s.now c.run_block.result call c.run_block.ensures.value)
+    rw (to_z-of_z w128 c.run_block.result f) (block_gives c.args.p.now c.args.block.now c.args.values.now c.ops.result.now
+    c.as_mut_slice.result.now c.as_mut_slice-2.result.now c.args.s.now c.run_block.result call c.run_block.ensures.value)
 
 pub returns-clause-made : goal.returns-clause-made
 returns-clause-made c =
-    made_again c.args.p.now c.args.s.now _ _ c.requires.made (c.run_block.ensures.size ∙ ap length c.as_mut_slice.ensures.value) (c.run_block.ensures.locals ∙ ap length c.as_mut_slice-2.ensures.value)
+    made_again c.args.p.now c.args.s.now _ _ c.requires.made (c.run_block.ensures.size ∙ ap length c.as_mut_slice.ensures.value)
+    (c.run_block.ensures.locals ∙ ap length c.as_mut_slice-2.ensures.value)
 
 pub run_block-requires-clause-locals : goal.run_block-requires-clause-locals
 run_block-requires-clause-locals c = rw c.as_mut_slice-2.ensures.value c.requires.made.locals

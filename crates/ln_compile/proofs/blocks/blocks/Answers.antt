@@ -10,13 +10,17 @@ derivative_block-requires-clause-terms c = root-terms c.args.p.now c.args.f.now 
 pub blocks-2-init : goal.blocks-2-init
 blocks-2-init c =
     let e = c.in_ok-first.ensures in
-    blocks-begin (pred_of c.args.p.now) c.args.f.now c.args.st.now.exps c.new-blocks.result c.push.new.self c.in_ok-first.first c.new-blocks.ensures c.in_ok-push.ensures.ok c.requires.first.0 c.requires.first.1 e.own (e.block c.args.f.now c.requires.normal c.requires.terms) e.small
+    blocks-begin (pred_of c.args.p.now) c.args.f.now c.args.st.now.exps c.new-blocks.result c.push.new.self c.in_ok-first.first c.new-blocks.ensures
+    c.in_ok-push.ensures.ok c.requires.first.0 c.requires.first.1 e.own (e.block c.args.f.now c.requires.normal c.requires.terms) e.small
 
 pub blocks-2-preserved : goal.blocks-2-preserved
 blocks-2-preserved c =
     let e = c.in_ok-block.ensures in
-    blocks-more (pred_of c.args.p.now) c.args.f.now c.args.st.now.exps c.blocks-2.i c.blocks-2.blocks c.push-in-blocks-2.new.self c.in_ok-block.block c.exps.result.now (omega (arith, c.blocks-2-test.true, c.blocks-i-end.ensures)) c.exps.ensures c.in_ok-push-2.ensures.ok e.exps e.block e.few c.blocks-2.invariant
+    blocks-more (pred_of c.args.p.now) c.args.f.now c.args.st.now.exps c.blocks-2.i c.blocks-2.blocks c.push-in-blocks-2.new.self
+    c.in_ok-block.block c.exps.result.now (omega (arith, c.blocks-2-test.true, c.blocks-i-end.ensures)) c.exps.ensures
+    c.in_ok-push-2.ensures.ok e.exps e.block e.few c.blocks-2.invariant
 
 pub returns : goal.returns
 returns c =
-    blocks-end (pred_of c.args.p.now) c.args.f.now c.args.st.now.exps c.blocks-2.i c.blocks-2.blocks (omega (arith, c.blocks-i-end.ensures)) c.blocks-2.invariant
+    blocks-end (pred_of c.args.p.now) c.args.f.now c.args.st.now.exps c.blocks-2.i c.blocks-2.blocks
+    (omega (arith, c.blocks-i-end.ensures)) c.blocks-2.invariant

@@ -8,7 +8,8 @@ pub returns-in-Err-clause-err : goal.returns-in-Err-clause-err
 returns-in-Err-clause-err c = rw c.refusal_of.ensures (text_refusal c.args.bytes.now c.in-Err.e c.in-Err.ensures.err)
 
 pub returns-in-Err-clause-unaccepted : goal.returns-in-Err-clause-unaccepted
-returns-in-Err-clause-unaccepted c = rw c.refusal_of.ensures (refusal_unaccepted c.args.bytes.now _ (text_refusal c.args.bytes.now c.in-Err.e c.in-Err.ensures.err))
+returns-in-Err-clause-unaccepted c =
+    rw c.refusal_of.ensures (refusal_unaccepted c.args.bytes.now _ (text_refusal c.args.bytes.now c.in-Err.e c.in-Err.ensures.err))
 
 pub returns-in-Err-clause-one : goal.returns-in-Err-clause-one
 returns-in-Err-clause-one c = rw c.refusal_of.ensures (refusal_one c.args.bytes.now _ (text_refusal c.args.bytes.now c.in-Err.e c.in-Err.ensures.err))
@@ -25,11 +26,13 @@ returns-in_err-counts-clause-unaccepted c =
     let p = err_from_is_err_and c.from_residual.result c.from_residual.ensures.1 in
     let t = c.in-Ok.table in
     let e = rw c.as_slice.ensures at c.in_err-counts.ensures.err in
-    rw (p.1, p.2) (refusal_unaccepted c.args.bytes.now c.in_err-counts.field-0.0 (pred_refusal c.args.bytes.now (table_of t.sites t.params t.preds) c.in_err-counts.field-0.0 c.in-Ok.ensures.ok e))
+    rw (p.1, p.2) (refusal_unaccepted c.args.bytes.now c.in_err-counts.field-0.0
+    (pred_refusal c.args.bytes.now (table_of t.sites t.params t.preds) c.in_err-counts.field-0.0 c.in-Ok.ensures.ok e))
 
 pub returns-in_err-counts-clause-one : goal.returns-in_err-counts-clause-one
 returns-in_err-counts-clause-one c =
     let p = err_from_is_err_and c.from_residual.result c.from_residual.ensures.1 in
     let t = c.in-Ok.table in
     let e = rw c.as_slice.ensures at c.in_err-counts.ensures.err in
-    rw (p.1, p.2) (refusal_one c.args.bytes.now c.in_err-counts.field-0.0 (pred_refusal c.args.bytes.now (table_of t.sites t.params t.preds) c.in_err-counts.field-0.0 c.in-Ok.ensures.ok e))
+    rw (p.1, p.2) (refusal_one c.args.bytes.now c.in_err-counts.field-0.0
+    (pred_refusal c.args.bytes.now (table_of t.sites t.params t.preds) c.in_err-counts.field-0.0 c.in-Ok.ensures.ok e))

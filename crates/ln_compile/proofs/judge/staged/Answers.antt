@@ -10,7 +10,8 @@ returns-in-Ok-clause-sound c =
     let p = c.args.p.now in
     let e = c.in-Ok.ensures in
     sound_pred (pred_of c.args.p.now) c.args.f.now c.requires.light c.requires.few c.requires.whole c.requires.normal e.some
-    (within-limits (pred_of c.args.p.now) c.args.f.now (vectors_of (length p.shape.vars) c.in-Ok.st) p.shape.kept c.requires.normal e.stages.lists e.count e.weight)
+    (within-limits (pred_of c.args.p.now) c.args.f.now (vectors_of (length p.shape.vars) c.in-Ok.st) p.shape.kept c.requires.normal
+    e.stages.lists e.count e.weight)
 
 pub returns-in-Err-Zero-clause-err : goal.returns-in-Err-Zero-clause-err
 returns-in-Err-Zero-clause-err c =

@@ -8,9 +8,11 @@ program_of-requires c = sound-at c.args.preds.now c.each.p-index c.p-item.result
 pub push-requires-clause-name : goal.push-requires-clause-name
 push-requires-clause-name c =
     let r = c.in_ok-program in
-    name-new c.args.preds.now c.each.p-index c.p-item.result c.each.programs r.program.shape.name (omega (arith, c.each-test.true)) c.p-item.is c.requires.names r.ensures.name c.each.invariant
+    name-new c.args.preds.now c.each.p-index c.p-item.result c.each.programs r.program.shape.name
+    (omega (arith, c.each-test.true)) c.p-item.is c.requires.names r.ensures.name c.each.invariant
 
 pub each-preserved : goal.each-preserved
 each-preserved c =
     let r = c.in_ok-program in
-    compiled-more c.args.preds.now c.each.p-index c.p-item.result c.each.programs c.push.new.self r.program (omega (arith, c.each-test.true)) c.p-item.is c.in_ok-push.ensures.ok r.ensures.program c.each.invariant
+    compiled-more c.args.preds.now c.each.p-index c.p-item.result c.each.programs c.push.new.self r.program
+    (omega (arith, c.each-test.true)) c.p-item.is c.in_ok-push.ensures.ok r.ensures.program c.each.invariant

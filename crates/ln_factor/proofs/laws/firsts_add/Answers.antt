@@ -1,4 +1,3 @@
-use Rattle.std.proofs.Common.{length}
 use Rattle.ln_factor.proofs.Sums.{firsts-add, firsts-are-sums, signs-are-products, zero-where-one-is}
 use Rattle.ln_factor.proofs.laws.firsts_add.Goals as goal
 

@@ -1,9 +1,9 @@
 use Rattle.std.proofs.Common.{◌≡◌, refl, rules, unsigned_abs}
 use Rattle.ln_algebra.specs.Tree.{Neg, Pow}
 use Rattle.ln_interval.specs.View.{range}
-use Rattle.ln_bound.specs.Typed.{untyped}
+use Rattle.ln_bound.specs.Typed.{operation, untyped}
 use Rattle.ln_bound.specs.View.{typed}
-use Rattle.ln_filter.specs.Triples.{kind_of, leaf}
+use Rattle.ln_filter.specs.Triples.{leaf}
 use Rattle.ln_filter.proofs.Operations.Operands.{Operands, operands}
 use Rattle.ln_filter.proofs.Truncation.Steady.{tried_num, tried_input, tried_let, tried_neg, tried_both, tried_raised}
 use Rattle.ln_filter.proofs.arithmetic.+tried.Goals as goal
@@ -15,10 +15,13 @@ returns-in-Num t c =
 
 pub returns-in-Input : goal.returns-in-Input
 returns-in-Input t c =
-    tried_input c.args.vars.now c.args.lets.now (untyped (typed c.args.t.now)) c.in-Input.v c.leaf-in-Input.result (rw c.in-Input.is refl) (rw (c.from.ensures, c.size_at.ensures.value) at c.leaf-in-Input.ensures.value) c.leaf-in-Input.ensures.small (rw c.size_at.ensures.value at c.size_at.ensures.small)
+    tried_input c.args.vars.now c.args.lets.now (untyped (typed c.args.t.now)) c.in-Input.v c.leaf-in-Input.result
+    (rw c.in-Input.is refl) (rw (c.from.ensures, c.size_at.ensures.value) at c.leaf-in-Input.ensures.value) c.leaf-in-Input.ensures.small
+    (rw c.size_at.ensures.value at c.size_at.ensures.small)
 
 pub returns-in-Let : goal.returns-in-Let
-returns-in-Let t c = tried_let c.args.vars.now c.args.lets.now (untyped (typed c.args.t.now)) c.in-Let.j c.let_triple.result (rw c.in-Let.is refl) c.let_triple.ensures.value c.let_triple.ensures.small
+returns-in-Let t c = tried_let c.args.vars.now c.args.lets.now (untyped (typed c.args.t.now)) c.in-Let.j c.let_triple.result
+    (rw c.in-Let.is refl) c.let_triple.ensures.value c.let_triple.ensures.small
 
 pub returns-in-Neg : goal.returns-in-Neg
 returns-in-Neg t c =
@@ -29,24 +32,30 @@ pub tried-a-requires-in-Add : goal.tried-a-requires-in-Add
 tried-a-requires-in-Add t c =
     let x = typed c.deref-in-Add.result.now in
     let y = typed c.in-Add.y.value in
-    let o : Operands t (typed c.args.t.now) x y = rw c.deref-in-Add.ensures (operands t c.args.t.now.op _ _ _ (typed c.in-Add.x.value) (typed c.in-Add.y.value) (range c.args.t.now.pair) c.args.t.now.width c.in-Add.is refl refl refl c.decreases) in
+    let o : Operands t (typed c.args.t.now) x y = rw c.deref-in-Add.ensures (operands t c.args.t.now.op _ _ _ (typed c.in-Add.x.value)
+    (typed c.in-Add.y.value) (range c.args.t.now.pair) c.args.t.now.width c.in-Add.is refl refl refl c.decreases) in
     (o.first_falls, (c.requires.ranges, c.requires.lets))
 
 pub tried-b-requires : goal.tried-b-requires
 tried-b-requires t c =
     let x = typed c.deref-in-Add.result.now in
     let y = typed c.deref-in-Add-2.result.now in
-    let o : Operands t (typed c.args.t.now) x y = rw (c.deref-in-Add.ensures, c.deref-in-Add-2.ensures) (operands t c.args.t.now.op _ _ _ (typed c.in-Add.x.value) (typed c.in-Add.y.value) (range c.args.t.now.pair) c.args.t.now.width c.in-Add.is refl refl refl c.decreases) in
+    let o : Operands t (typed c.args.t.now) x y = rw (c.deref-in-Add.ensures, c.deref-in-Add-2.ensures) (operands t c.args.t.now.op _ _ _
+    (typed c.in-Add.x.value) (typed c.in-Add.y.value) (range c.args.t.now.pair) c.args.t.now.width c.in-Add.is refl refl refl c.decreases) in
     (o.second_falls, (c.requires.ranges, c.requires.lets))
 
 pub returns-in-Add : goal.returns-in-Add
 returns-in-Add t c =
     let x = typed c.deref-in-Add.result.now in
     let y = typed c.deref-in-Add-2.result.now in
-    let o : Operands t (typed c.args.t.now) x y = rw (c.deref-in-Add.ensures, c.deref-in-Add-2.ensures) (operands t c.args.t.now.op _ _ _ (typed c.in-Add.x.value) (typed c.in-Add.y.value) (range c.args.t.now.pair) c.args.t.now.width c.in-Add.is refl refl refl c.decreases) in
-    tried_both c.args.vars.now c.args.lets.now (untyped (typed c.args.t.now)) (kind_of (untyped (typed c.args.t.now))) (untyped x) (untyped y) c.tried-a-in-Add.result c.tried-b.result c.both.result o.form c.tried-a-in-Add.ensures c.tried-b.ensures (rw c.kind_of.ensures at c.both.ensures.value) c.both.ensures.small
+    let o : Operands t (typed c.args.t.now) x y = rw (c.deref-in-Add.ensures, c.deref-in-Add-2.ensures) (operands t c.args.t.now.op _ _ _
+    (typed c.in-Add.x.value) (typed c.in-Add.y.value) (range c.args.t.now.pair) c.args.t.now.width c.in-Add.is refl refl refl c.decreases) in
+    tried_both c.args.vars.now c.args.lets.now (untyped (typed c.args.t.now)) (operation (typed c.args.t.now)) (untyped x)
+    (untyped y) c.tried-a-in-Add.result c.tried-b.result c.both.result o.form c.tried-a-in-Add.ensures c.tried-b.ensures
+    (rw c.operation.ensures at c.both.ensures.value) c.both.ensures.small
 
 pub returns-in-Pow : goal.returns-in-Pow
 returns-in-Pow t c =
     let e : (untyped (typed c.args.t.now)) ≡ Pow (untyped (typed c.deref-in-Pow.result.now)) c.in-Pow.n = rw (c.in-Pow.is, c.deref-in-Pow.ensures) refl in
-    tried_raised c.args.vars.now c.args.lets.now (untyped (typed c.args.t.now)) (untyped (typed c.deref-in-Pow.result.now)) c.in-Pow.n c.tried-a.result c.raised.result e c.tried-a.ensures c.raised.ensures.value c.raised.ensures.small
+    tried_raised c.args.vars.now c.args.lets.now (untyped (typed c.args.t.now)) (untyped (typed c.deref-in-Pow.result.now)) c.in-Pow.n
+    c.tried-a.result c.raised.result e c.tried-a.ensures c.raised.ensures.value c.raised.ensures.small

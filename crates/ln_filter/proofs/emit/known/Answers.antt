@@ -10,4 +10,5 @@ pub returns-in-Some-clause-small : goal.returns-in-Some-clause-small
 returns-in-Some-clause-small c = c.in-Some.ensures.small
 
 pub returns-in-None-clause-value : goal.returns-in-None-clause-value
-returns-in-None-clause-value c = known_not c.args.vars.now c.args.lets.now (untyped (typed c.args.t.now)) c.no_triple.result c.requires.steady c.in-None.ensures.value
+returns-in-None-clause-value c =
+    known_not c.args.vars.now c.args.lets.now (untyped (typed c.args.t.now)) c.no_triple.result c.requires.steady c.in-None.ensures.value

@@ -13,4 +13,5 @@ put_trimmed-requires-clause-steady c = subst (λ z. IsSteady (trimmed z)) (sym c
 
 pub returns : goal.returns
 returns c =
-    subst (λ z. IfOk c.put_trimmed.result (Gives c.args.draft.now c.put_trimmed.new.draft (trim_lines (Mul W64) z) (trimmed z))) c.product.ensures.value c.put_trimmed.ensures
+    subst (λ z. IfOk c.put_trimmed.result (Gives c.args.draft.now c.put_trimmed.new.draft (trim_lines (Mul W64) z) (trimmed z)))
+    c.product.ensures.value c.put_trimmed.ensures

@@ -5,7 +5,8 @@ use Rattle.ln_filter.proofs.Truncation.Steady.{tried_steady, tried_again}
 use Rattle.ln_filter.proofs.emit.put_steady.Goals as goal
 
 pub put_tree-requires-clause-steady : goal.put_tree-requires-clause-steady
-put_tree-requires-clause-steady c = (tried_steady c.args.vars.now c.args.lets.now (untyped (typed c.args.t.now)) c.in-Some.field-0 (sym c.in-Some.ensures.value)).steady
+put_tree-requires-clause-steady c =
+    (tried_steady c.args.vars.now c.args.lets.now (untyped (typed c.args.t.now)) c.in-Some.field-0 (sym c.in-Some.ensures.value)).steady
 
 pub returns-in-None : goal.returns-in-None
 returns-in-None c = record { tried = c.in-None.ensures.value; small = tt; narrow = tt; wrote = tt }

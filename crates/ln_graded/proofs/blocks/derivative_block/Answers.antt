@@ -8,10 +8,12 @@ use Rattle.ln_due.proofs.Derivatives.Blocks.{derivative-block, derivative-ops, d
 use Rattle.ln_graded.proofs.blocks.derivative_block.Goals as goal
 
 pub nest-requires-clause-degrees : goal.nest-requires-clause-degrees
-nest-requires-clause-degrees c = derivative-degrees (length c.args.s.now.vars) c.args.f.now c.in_ok-h.h c.args.a.now c.in_ok-h.ensures.derivative 126 c.requires.poly.degrees
+nest-requires-clause-degrees c =
+    derivative-degrees (length c.args.s.now.vars) c.args.f.now c.in_ok-h.h c.args.a.now c.in_ok-h.ensures.derivative 126 c.requires.poly.degrees
 
 pub nest-requires-clause-small : goal.nest-requires-clause-small
-nest-requires-clause-small c = derivative-light (length c.args.s.now.vars) c.args.f.now c.in_ok-h.h c.args.a.now c.in_ok-h.ensures.derivative c.args.s.now.vars refl c.requires.poly.weight
+nest-requires-clause-small c = derivative-light (length c.args.s.now.vars) c.args.f.now c.in_ok-h.h c.args.a.now
+    c.in_ok-h.ensures.derivative c.args.s.now.vars refl c.requires.poly.weight
 
 pub lower-requires-clause-exps : goal.lower-requires-clause-exps
 lower-requires-clause-exps c = of-sites c.args.s.now.vars c.args.a.now c.in_ok-h.ensures.rising c.requires.exps c.requires.sites
@@ -20,12 +22,15 @@ pub returns-clause-block : goal.returns-clause-block
 returns-clause-block c =
     let b = c.in_ok-block.ensures in
     let o = of-sites c.args.s.now.vars c.args.a.now c.in_ok-h.ensures.rising c.requires.exps c.requires.sites in
-    derivative-block c.args.s.now.vars c.args.f.now c.in_ok-h.h c.args.a.now _ (typed c.in_ok-t.t) c.in_ok-block.block c.in_ok-h.ensures.derivative c.new.ensures b.exps o b.rules c.in_ok-t.ensures.same b.root
-    (derivative-pushes c.args.s.now.vars c.args.f.now c.in_ok-h.h c.args.a.now _ (typed c.in_ok-t.t) c.in_ok-block.block c.in_ok-h.ensures.derivative c.requires.poly.few c.new.ensures c.in_ok-t.ensures.lean b.nodes)
+    derivative-block c.args.s.now.vars c.args.f.now c.in_ok-h.h c.args.a.now _
+    (typed c.in_ok-t.t) c.in_ok-block.block c.in_ok-h.ensures.derivative c.new.ensures b.exps o b.rules c.in_ok-t.ensures.same b.root
+    (derivative-pushes c.args.s.now.vars c.args.f.now c.in_ok-h.h c.args.a.now _
+    (typed c.in_ok-t.t) c.in_ok-block.block c.in_ok-h.ensures.derivative c.requires.poly.few c.new.ensures c.in_ok-t.ensures.lean b.nodes)
 
 pub returns-clause-few : goal.returns-clause-few
 returns-clause-few c =
     let n = length c.args.s.now.vars in
     let few = derivative-few (length c.args.s.now.vars) c.args.f.now c.in_ok-h.h c.args.a.now c.in_ok-h.ensures.derivative in
-    derivative-ops (length c.in_ok-block.block.ops) (cost (typed c.in_ok-t.t)) (costs (map typed c.new.result)) (length c.in_ok-h.h) (covering (length c.args.s.now.vars) c.args.f.now (vector (length c.args.s.now.vars) c.args.a.now))
+    derivative-ops (length c.in_ok-block.block.ops) (cost (typed c.in_ok-t.t)) (costs (map typed c.new.result)) (length c.in_ok-h.h)
+    (covering (length c.args.s.now.vars) c.args.f.now (vector (length c.args.s.now.vars) c.args.a.now))
     c.in_ok-block.ensures.small (no-costs c.new.result c.new.ensures) c.in_ok-t.ensures.cheap few

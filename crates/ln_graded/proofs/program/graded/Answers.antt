@@ -11,4 +11,5 @@ pub returns-clause-within : goal.returns-clause-within
 returns-clause-within c =
     let s = c.args.s.now in
     let e = c.in_ok-st.ensures in
-    within-more s c.args.f.now (stage_count (vectors_of (length s.vars) c.in_ok-st.st)) (stage_weight (length s.vars) c.args.f.now (vectors_of (length s.vars) c.in_ok-st.st)) c.args.most c.args.heavy c.in_ok-program.program e.count e.weight c.in_ok-program.ensures.within
+    within-more s c.args.f.now (stage_count (vectors_of (length s.vars) c.in_ok-st.st)) (stage_weight (length s.vars) c.args.f.now
+    (vectors_of (length s.vars) c.in_ok-st.st)) c.args.most c.args.heavy c.in_ok-program.program e.count e.weight c.in_ok-program.ensures.within

@@ -1,4 +1,4 @@
-use Rattle.std.proofs.Common.{◌≡◌, refl, subst, sym, length}
+use Rattle.std.proofs.Common.{subst, sym, length}
 use Rattle.ln_algebra.specs.Orders.{ByDegree}
 use Rattle.ln_stage.specs.Staged.{vectors_of}
 use Rattle.ln_stage.proofs.Sights.Members as members
@@ -14,7 +14,8 @@ first_block-requires c = some-block c.args.s.now c.args.f.now c.args.p.now c.req
 pub blocks-requires-clause-own : goal.blocks-requires-clause-own
 blocks-requires-clause-own c =
     let e = own-is c.args.s.now c.args.f.now c.args.p.now c.first_block.result.now c.requires.begins c.first_block.ensures.first in
-    subst (λ (d : Code). IsDerivativeBlock c.args.s.now.vars c.args.f.now d) (sym e) (own-block c.args.s.now c.args.f.now c.args.p.now c.requires.begins c.first_block.ensures.kept)
+    subst (λ (d : Code). IsDerivativeBlock c.args.s.now.vars c.args.f.now d) (sym e)
+    (own-block c.args.s.now c.args.f.now c.args.p.now c.requires.begins c.first_block.ensures.kept)
 
 pub blocks-requires-clause-plain : goal.blocks-requires-clause-plain
 blocks-requires-clause-plain c =
@@ -25,7 +26,8 @@ pub blocks-requires-clause-first : goal.blocks-requires-clause-first
 blocks-requires-clause-first c =
     let s = c.args.s.now in
     let st = c.args.st in
-    members.first-exps ByDegree s.sites s.vars c.args.f.now (vectors_of (length s.vars) st) c.requires.stages.lists st.exps c.requires.stages.first_sight c.requires.poly.form c.requires.poly.below c.requires.poly.some
+    members.first-exps ByDegree s.sites s.vars c.args.f.now (vectors_of (length s.vars) st) c.requires.stages.lists st.exps
+    c.requires.stages.first_sight c.requires.poly.form c.requires.poly.below c.requires.poly.some
 
 pub blocks-requires-clause-below : goal.blocks-requires-clause-below
 blocks-requires-clause-below c = c.requires.stages.below
@@ -41,18 +43,21 @@ join-requires c =
     let r = c.requires in
     let e = own-is c.args.s.now c.args.f.now c.args.p.now c.first_block.result.now r.begins c.first_block.ensures.first in
     let made = subst (λ (d : Code). AreBlocksOf c.args.s.now.vars c.args.f.now d c.args.st.exps c.in_ok-blocks.blocks) e c.in_ok-blocks.ensures in
-    rw (c.in_ok-shape.ensures, c.in_ok-filter.ensures, c.into_segments.ensures) (is-program c.args.s.now c.args.f.now c.args.p.now c.args.st c.in_ok-blocks.blocks r.poly r.begins c.first_block.ensures.kept r.stages r.weight made)
+    rw (c.in_ok-shape.ensures, c.in_ok-filter.ensures, c.into_segments.ensures)
+    (is-program c.args.s.now c.args.f.now c.args.p.now c.args.st c.in_ok-blocks.blocks r.poly r.begins c.first_block.ensures.kept r.stages r.weight made)
 
 pub returns-clause-program : goal.returns-clause-program
 returns-clause-program c =
     let r = c.requires in
     let e = own-is c.args.s.now c.args.f.now c.args.p.now c.first_block.result.now r.begins c.first_block.ensures.first in
     let made = subst (λ (d : Code). AreBlocksOf c.args.s.now.vars c.args.f.now d c.args.st.exps c.in_ok-blocks.blocks) e c.in_ok-blocks.ensures in
-    rw (c.join.ensures, c.in_ok-shape.ensures, c.in_ok-filter.ensures, c.into_segments.ensures) (is-graded c.args.s.now c.args.f.now c.args.p.now c.args.st c.in_ok-blocks.blocks r.poly r.begins c.first_block.ensures.kept r.stages r.weight made)
+    rw (c.join.ensures, c.in_ok-shape.ensures, c.in_ok-filter.ensures, c.into_segments.ensures)
+    (is-graded c.args.s.now c.args.f.now c.args.p.now c.args.st c.in_ok-blocks.blocks r.poly r.begins c.first_block.ensures.kept r.stages r.weight made)
 
 pub returns-clause-within : goal.returns-clause-within
 returns-clause-within c =
     let r = c.requires in
     let e = own-is c.args.s.now c.args.f.now c.args.p.now c.first_block.result.now r.begins c.first_block.ensures.first in
     let made = subst (λ (d : Code). AreBlocksOf c.args.s.now.vars c.args.f.now d c.args.st.exps c.in_ok-blocks.blocks) e c.in_ok-blocks.ensures in
-    rw (c.join.ensures, c.in_ok-shape.ensures, c.in_ok-filter.ensures, c.into_segments.ensures) (is-within c.args.s.now c.args.f.now c.args.p.now c.args.st c.in_ok-blocks.blocks r.poly r.begins c.first_block.ensures.kept r.stages r.weight made)
+    rw (c.join.ensures, c.in_ok-shape.ensures, c.in_ok-filter.ensures, c.into_segments.ensures)
+    (is-within c.args.s.now c.args.f.now c.args.p.now c.args.st c.in_ok-blocks.blocks r.poly r.begins c.first_block.ensures.kept r.stages r.weight made)

@@ -18,9 +18,12 @@ product_of-power-requires t c = next_fits (range c.args.base) (range c.in_ok-bel
 pub returns-clause-wrote : goal.returns-clause-wrote
 returns-clause-wrote t c =
     let p = range c.args.base in
-    let q : range c.product_of-power.result ≡ power (range c.args.base) (c.args.n + 1) = next_power p (range c.in_ok-below.below) (range c.product_of-power.result) c.args.n c.if-n-eq0.false c.in_ok-below.ensures.pair c.product_of-power.ensures in
+    let q : range c.product_of-power.result ≡ power (range c.args.base) (c.args.n + 1) = next_power p (range c.in_ok-below.below)
+    (range c.product_of-power.result) c.args.n c.if-n-eq0.false c.in_ok-below.ensures.pair c.product_of-power.ensures in
     let e = factors_more p (range c.product_of-power.result) (range c.args.base) c.args.width c.args.n c.if-n-eq0.false refl q in
-    wrote_plain _ _ _ _ _ _ e c.in_ok-below.ensures.wrote (wrote_plain _ _ _ (line (Get 64) (range c.args.base) ∷ []) (line (Mul c.args.width) (range c.product_of-power.result) ∷ []) _ refl c.in_ok-push.ensures c.in_ok-push-2.ensures)
+    wrote_plain _ _ _ _ _ _ e c.in_ok-below.ensures.wrote (wrote_plain _ _ _ (line (Get 64) (range c.args.base) ∷ [])
+    (line (Mul c.args.width) (range c.product_of-power.result) ∷ []) _ refl c.in_ok-push.ensures c.in_ok-push-2.ensures)
 
 pub returns-clause-pair : goal.returns-clause-pair
-returns-clause-pair t c = next_power (range c.args.base) (range c.in_ok-below.below) (range c.product_of-power.result) c.args.n c.if-n-eq0.false c.in_ok-below.ensures.pair c.product_of-power.ensures
+returns-clause-pair t c = next_power (range c.args.base) (range c.in_ok-below.below)
+    (range c.product_of-power.result) c.args.n c.if-n-eq0.false c.in_ok-below.ensures.pair c.product_of-power.ensures

@@ -11,7 +11,9 @@ lets-init c = no_lets_put _ _ c.requires.ops c.requires.pairs c.requires.kept
 pub lets-preserved : goal.lets-preserved
 lets-preserved c =
     let u = c.in_ok-put_let.ensures in
-    next_let _ _ u.mid _ (map typed (take c.lets.j c.args.lets.now)) _ (typed c.index-lets-j.result) c.lets.j nothing (typed_length c.args.lets.now c.lets.j c.lets-test.true) refl (more_typed c.args.lets.now c.lets.j c.index-lets-j.result c.lets-test.true c.index-lets-j.is) c.lets.invariant u.puts u.stores
+    next_let _ _ u.mid _ (map typed (take c.lets.j c.args.lets.now)) _
+    (typed c.index-lets-j.result) c.lets.j nothing (typed_length c.args.lets.now c.lets.j c.lets-test.true) refl
+    (more_typed c.args.lets.now c.lets.j c.index-lets-j.result c.lets-test.true c.index-lets-j.is) c.lets.invariant u.puts u.stores
 
 pub bounds-numbers-j : goal.bounds-numbers-j
 bounds-numbers-j c =
@@ -20,4 +22,5 @@ bounds-numbers-j c =
     omega (arith, t, e)
 
 pub put_let-requires-clause-stands : goal.put_let-requires-clause-stands
-put_let-requires-clause-stands c = stands_at c.args.distinct.now.keys c.args.numbers.now c.args.lets.now c.lets.j c.index-lets-j.result c.requires.stand c.lets-test.true c.index-lets-j.is
+put_let-requires-clause-stands c =
+    stands_at c.args.distinct.now.keys c.args.numbers.now c.args.lets.now c.lets.j c.index-lets-j.result c.requires.stand c.lets-test.true c.index-lets-j.is

@@ -12,10 +12,12 @@ pub polynomial_of-requires : goal.polynomial_of-requires
 polynomial_of-requires c =
     let s = c.self.inside in
     let t = ap (λ v. length v.table.preds) c.self.view_is in
-    sound-at s.table.preds c.args.i c.index-as_slice-i.result (omega (arith, t, c.requires)) (rw c.as_slice.ensures at c.index-as_slice-i.is) c.self.invariant.sound
+    sound-at s.table.preds c.args.i c.index-as_slice-i.result (omega (arith, t, c.requires))
+    (rw c.as_slice.ensures at c.index-as_slice-i.is) c.self.invariant.sound
 
 pub returns : goal.returns
 returns c =
     let s = c.self.inside in
     let t = ap (λ v. length v.table.preds) c.self.view_is in
-    rw (← c.self.view_is) (polynomial-at s.table.preds c.args.i c.index-as_slice-i.result c.in_ok-f.f (omega (arith, t, c.requires)) (rw c.as_slice.ensures at c.index-as_slice-i.is) c.in_ok-f.ensures)
+    rw (← c.self.view_is) (polynomial-at s.table.preds c.args.i c.index-as_slice-i.result c.in_ok-f.f (omega (arith, t, c.requires))
+    (rw c.as_slice.ensures at c.index-as_slice-i.is) c.in_ok-f.ensures)

@@ -11,10 +11,12 @@ pub program_of-requires : goal.program_of-requires
 program_of-requires c =
     let s = c.self.inside in
     let t = ap (λ v. length v.table.preds) c.self.view_is in
-    sound-at s.table.preds c.args.i c.index-as_slice-i.result (omega (arith, t, c.requires)) (rw c.as_slice.ensures at c.index-as_slice-i.is) c.self.invariant.sound
+    sound-at s.table.preds c.args.i c.index-as_slice-i.result (omega (arith, t, c.requires))
+    (rw c.as_slice.ensures at c.index-as_slice-i.is) c.self.invariant.sound
 
 pub returns-clause-program : goal.returns-clause-program
 returns-clause-program c =
     let s = c.self.inside in
     let t = ap (λ v. length v.table.preds) c.self.view_is in
-    rw (← c.self.view_is) (program-at s.table.preds c.args.i c.index-as_slice-i.result c.in_ok-program.program (omega (arith, t, c.requires)) (rw c.as_slice.ensures at c.index-as_slice-i.is) c.in_ok-program.ensures.program)
+    rw (← c.self.view_is) (program-at s.table.preds c.args.i c.index-as_slice-i.result c.in_ok-program.program
+    (omega (arith, t, c.requires)) (rw c.as_slice.ensures at c.index-as_slice-i.is) c.in_ok-program.ensures.program)

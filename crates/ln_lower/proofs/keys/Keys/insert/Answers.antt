@@ -1,5 +1,3 @@
-use Rattle.std.proofs.Common.{◌∙◌, sym, ap}
-use Rattle.ln_lower.specs.declared.distinct.Key.{Key}
 use Rattle.ln_lower.proofs.Subtrees.KeyLaws.{key_added}
 use Rattle.ln_lower.proofs.keys.Keys.insert.Goals as goal
 
