@@ -1,4 +1,4 @@
--- What the laws and the code cite.
+-- Declares what the laws and the code cite.
 pub mod Conditions
 pub mod Meanings
 pub mod Writing

@@ -1,4 +1,4 @@
--- What the functions of blocks and filters mean.
+-- Proves what the functions of blocks and filters mean.
 pub mod Numbers
 pub mod Blocks
 pub mod Follows

@@ -1,4 +1,4 @@
--- How the text is put, piece by piece.
+-- How the text is appended, piece by piece.
 pub mod Constants
 pub mod Parts
 pub mod Gathers

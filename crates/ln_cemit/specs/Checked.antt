@@ -11,13 +11,16 @@ use Rattle.ln_csyn.specs.Meaning.{Scene, Counts, Said, next as one_more, runs}
 use Rattle.ln_cemit.specs.declared.slot.Way.{Way}
 use Rattle.ln_cemit.specs.Emit.{emitted, wide_lines}
 
+-- a value of the machine: a number and its width
 pub record Sized : Type 0 where
   pub number : ℤ
   pub width : Width
 
+-- the number with this width, where it fits it
 abbrev pub sized : Width → ℤ → Option Sized
 sized w z = when (fits w z) (record { number = z; width = w })
 
+-- the machine as C has it, on the values of a row: it stops where a number doesn't fit its width or an operand is too wide
 abbrev pub checked : List ℤ → Engine Way Sized (ℕ → Option Sized)
 checked zs = record {
   push = λ c a. sized a.width (cut_by a.shift c);
@@ -31,6 +34,7 @@ checked zs = record {
   room = λ n. true;
 }
 
+-- the sign of an integer: -1, 0 or 1
 abbrev pub sign_of : ℤ → ℤ
 sign_of (pos zero) = pos 0
 sign_of (pos (suc n)) = pos 1
@@ -45,6 +49,7 @@ abbrev pub ups : ℕ → ℕ → ℕ
 ups zero w = w
 ups (suc n) w = one_more (ups n w)
 
+-- the counts with n more wide operations
 abbrev pub plus : ℕ → Counts → Counts
 plus n k = record { wide = ups n k.wide; calls = k.calls }
 
@@ -53,11 +58,11 @@ pub data Quiet : ℕ → Width → Type 0 where
   without : {w : Width} → Quiet 0 w
   narrow : {e : ℕ} → fits W64 (pos e) ≡ true → Quiet e W64
 
--- the names of the first so many declarations differ
+-- the names of the declarations below this number differ
 abbrev pub AreNames : (ℕ → List ℕ) → ℕ → Type 0
 AreNames name top = (m n : ℕ) → m < top → n < top → name m ≡ name n → m ≡ n
 
--- Where the machine as C has it has an answer, the emitted body answers its sign, and no line fails.
+-- Where the machine as C has it has a result, the emitted body returns its sign, and no line fails.
 abbrev pub EmittedMeans : Type 0
 EmittedMeans =
     (name : ℕ → List ℕ) (e : ℕ) (s : Scene) (xs : List (Line Way)) (x : Sized) (k : Counts)

@@ -20,7 +20,7 @@ rises at [] = true
 rises at (i ∷ []) = true
 rises at (i ∷ j ∷ o) = int_lt (at i) (at j) && rises at (j ∷ o)
 
--- what the blocks of a list answer, one behind the other, where each gives a sign and makes its counts
+-- what the blocks of a list return, one after the other, where each returns a sign and makes its counts
 abbrev pub first_of_signs : (ℕ → ℤ) → (ℕ → Counts → Counts) → List ℕ → Counts → Outcome
 first_of_signs sign after [] k = Said (pos 0) k
 first_of_signs sign after (b ∷ bs) k = if is_zero (sign b) then first_of_signs sign after bs (after b (entered k))

@@ -1,4 +1,4 @@
--- What is to be proved of the body by prefixes.
+-- States what is to be proved of the body by prefixes.
 use Rattle.std.specs.Prelude.{◌≡◌, ℕ, ◌<◌, true, List, [], ◌∷◌, ◌++◌, length, map, take, Some, if◌then◌else◌, ℤ, pos}
 use Rattle.std.proofs.Common.{suc}
 use Rattle.std.specs.List.{range_with_len}
@@ -16,7 +16,7 @@ use Rattle.ln_cemit.specs.Walked.{body_for, calls_in}
 abbrev pub list_of_order : (List ℕ → List ℕ) → ℕ → List ℕ → List ℕ
 list_of_order segment k places = joined (map (λ j. segment (take j places)) (range_with_len 0 (suc k)))
 
--- each block that is named below m answers its sign
+-- each block that is named below m returns its sign
 abbrev pub Answers : Scene → (ℕ → List ℕ) → ℕ → (ℕ → ℤ) → (ℕ → Counts → Counts) → Type 0
 Answers s block m sign after = (b : ℕ) → b < m → ((k : Counts) → s.call (block b) k ≡ Gives Int (sign b) (after b k))
     × (has Int (sign b) ≡ true)
@@ -25,8 +25,8 @@ Answers s block m sign after = (b : ℕ) → b < m → ((k : Counts) → s.call 
 abbrev pub AreNumbers : ℕ → List ℕ → Type 0
 AreNumbers m bs = (b : ℕ) → Member bs b → b < m
 
--- On a row whose indices differ, which is where it has an order, the body answers what the filter and then the blocks of the
--- row's order answer, one behind the other.
+-- On a row whose indices differ, which is where it has an order, the body returns what the filter and then the blocks of the row's order
+-- return, one after the other.
 abbrev pub FindsTheOrder : Type 0
 FindsTheOrder =
     (block : ℕ → List ℕ) (own : List ℕ) (s : Scene) (m : ℕ) (sign : ℕ → ℤ) (after : ℕ → Counts → Counts)
@@ -41,7 +41,7 @@ abbrev pub decided : (ℕ → ℤ) → List ℕ → ℤ × ℕ
 decided sign [] = (pos 0, 0)
 decided sign (b ∷ bs) = if is_zero (sign b) then ((decided sign bs).0, suc (decided sign bs).1) else (sign b, 1)
 
--- Where the blocks keep the count of calls, the answer is that sign, and so many calls are counted.
+-- Where the blocks keep the count of calls, the result is that sign, and this many calls are counted.
 abbrev pub CallsAreCounted : Type 0
 CallsAreCounted =
     (sign : ℕ → ℤ) (after : ℕ → Counts → Counts) (bs : List ℕ) (k : Counts) →

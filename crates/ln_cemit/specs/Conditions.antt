@@ -1,4 +1,4 @@
--- That the emitted functions keep the conditions of the subset.
+-- States that the emitted functions keep the conditions of the subset.
 use Rattle.std.specs.Prelude.{◌≡◌, ℕ, ◌<◌, ◌≤◌, ◌&&◌, Bool, true, not, nat_le, ℤ, unsigned_abs, List, [], ◌∷◌, length}
 use Rattle.ln_tree.specs.declared.shape.VarInfo.{VarInfo}
 use Rattle.ln_tree.specs.Row.{AreWithin}
@@ -27,6 +27,7 @@ is_fine (Push z) a = nat_le (unsigned_abs (cut_by a.shift z)) (limit W128)
 is_fine (Input v) a = nat_le v most_number
 is_fine o a = true
 
+-- each of these lines is fine: what it pushes is within those limits
 abbrev pub are_fine : List (Line Way) → Bool
 are_fine [] = true
 are_fine (x ∷ xs) = is_fine x.op x.bound && are_fine xs
@@ -35,24 +36,28 @@ are_fine (x ∷ xs) = is_fine x.op x.bound && are_fine xs
 abbrev pub is_free : List (List ℕ) → List ℕ → Bool
 is_free names x = is_c_name x && (is_own x && not (among names x))
 
+-- each of the first `top` declarations has a name that is free beside these functions
 abbrev pub AreFree : List (List ℕ) → (ℕ → List ℕ) → ℕ → Type 0
 AreFree names name top = (n : ℕ) → n < top → is_free names (name n) ≡ true
 
--- the conditions on one function among functions with these names, that its names are NAMEs and its numbers NUMBERs, and that it
--- stands on one line
+-- the conditions on one function among functions with these names, that its names are NAMEs and its numbers NUMBERs, and that it is
+-- on one line
 pub record Stands (names : List (List ℕ)) (f : Fun) : Type 0 where
   pub keeps : fun_keeps names f ≡ true
   pub words : fun_words f ≡ true
   pub flat : flat_fun f ≡ f
 
+-- the function that is emitted for these lines, with its own name and error, keeps these conditions
 abbrev pub Kept : List (List ℕ) → (ℕ → List ℕ) → List ℕ → ℕ → List (Line Way) → Type 0
 Kept names name own e xs = Stands names (fun_of name own e xs)
 
+-- the function that is emitted for lines keeps the conditions, where its names are free and differ and the numbers in it are small
 abbrev pub FunsKeep : Type 0
 FunsKeep = (names : List (List ℕ)) (name : ℕ → List ℕ) (own : List ℕ) (e : ℕ) (xs : List (Line Way)) → AreNames name (length xs) →
     AreFree names name (length xs) → is_c_name own ≡ true → is_own own ≡ true → e ≤ most_number → are_fine xs ≡ true →
     Kept names name own e xs
 
+-- the function of a block that follows the rules keeps the conditions, where its names are free and differ
 abbrev pub BlocksKeep : Type 0
 BlocksKeep = (names : List (List ℕ)) (name : ℕ → List ℕ) (own : List ℕ) (vars : List VarInfo) (c : Code) →
     AreNames name (length (block_lines c)) → AreFree names name (length (block_lines c)) → is_c_name own ≡ true →

@@ -1,4 +1,4 @@
--- What is promised of the bytes that are emitted.
+-- States what is promised of the bytes that are emitted.
 use Rattle.std.specs.Prelude.{◌≡◌, ℕ, ℤ, pos, negsuc, true, List, [], ◌∷◌, ◌++◌, map, Some}
 use Rattle.ln_base.specs.declared.sign.Sign.{Sign}
 use Rattle.ln_base.specs.declared.sign.Sign.TheVariants.{Minus, Zero, Plus}
@@ -23,7 +23,7 @@ number_of Minus = negsuc 0
 number_of Zero = pos 0
 number_of Plus = pos 1
 
--- On this row the call of `ln_NAME` gives the sign of the machine's verdict, with its calls, and with no wide operation where the
+-- On this row the call of `ln_NAME` returns the sign of the machine's verdict, with its calls, and with no wide operation where the
 -- filter decides.
 pub record CallSays (file : List Fun) (part : Part) (row : tree.Row) : Type 0 where
   pub verdict : Verdict
@@ -38,8 +38,8 @@ abbrev pub AllSay : List Fun → List Part → Type 0
 AllSay file [] = Unit {0}
 AllSay file (p ∷ ps) = ((row : tree.Row) → InRange p.shape.sites p.shape.vars row → CallSays file p row) × AllSay file ps
 
--- the bytes are a file of the subset, which has the functions of these programs and no other, and whose calls say what the machine
--- answers; it is laid out: after each ; { and } a line ends
+-- the bytes are a file of the subset, which has the functions of these programs and no other, and whose calls return the signs of the machine's
+-- verdicts; it is laid out: after each ; { and } a line ends
 pub record IsEmitted (parts : List Part) (bytes : List ℕ) : Type 0 where
   pub file : List Fun
   pub text : CText bytes file

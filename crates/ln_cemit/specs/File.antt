@@ -1,4 +1,4 @@
--- The functions of blocks, and behind them the one with two parameters.
+-- Defines the functions of blocks, and after them the one with two parameters.
 use Rattle.std.specs.Prelude.{◌≡◌, ◌≢◌, ℕ, ◌<◌, Bool, true, false, List, [], ◌∷◌, ◌++◌, length, slice_index_or, Some, ℤ}
 use Rattle.std.proofs.Common.{suc}
 use Rattle.ln_order.specs.Order.{IsOrder, index_at}
@@ -21,6 +21,7 @@ abbrev pub one_funs : (ℕ → List ℕ) → ℕ → List Body → List Fun
 one_funs name i [] = []
 one_funs name i (b ∷ bs) = one_fun (name i) b ∷ one_funs name (suc i) bs
 
+-- a function with two parameters, which is called from outside
 abbrev pub two_fun : List ℕ → Body → Fun
 two_fun name body = record { own = false; name = name; indexed = true; body = body; end = 2 }
 
@@ -29,9 +30,9 @@ abbrev pub AreAway : List Fun → List ℕ → Type 0
 AreAway [] x = Unit {0}
 AreAway (f ∷ fs) x = (f.name ≢ x) × AreAway fs x
 
--- On a row whose indices differ a call of the function with two parameters gives the first sign that isn't 0 along what stands
--- before all blocks and the list of the row's order, and counts as many calls as functions were entered; its counts are those of
--- the functions entered. Other functions may stand before and behind.
+-- On a row whose indices differ a call of the function with two parameters returns the first sign that isn't 0 along what is before all
+-- blocks and the list of the row's order, and counts as many calls as functions were entered; its counts are those of the functions
+-- entered. Other functions may come before and after.
 abbrev pub FileMeans : Type 0
 FileMeans =
     (front rest : List Fun) (block : ℕ → List ℕ) (own name : List ℕ) (touch : Bool) (bodies : List Body) (sign : ℕ → ℤ)

@@ -11,6 +11,7 @@ pub record Head : Type 0 where
   pub indexed : Bool
   pub name : List ℕ
 
+-- the head of a function
 abbrev pub head : Fun → Head
 head f = record { own = f.own; indexed = f.indexed; name = f.name }
 

@@ -1,4 +1,4 @@
--- What contracts and laws speak of.
+-- Declares what contracts and laws speak of.
 pub mod Ways
 pub mod Emit
 pub mod Checked

@@ -1,4 +1,4 @@
--- What one operation puts, whatever comes behind it.
+-- Defines what is appended for one operation, whatever follows it.
 use Rattle.std.specs.Prelude.{◌≡◌, ℕ, zero, suc, ◌/◌, ◌^◌, Bool, true, false, ◌||◌, ◌≤◌, length, take}
 use Rattle.std.specs.Prelude.{nat_le, List, [], ◌∷◌, ◌++◌, ◌==◌, if◌then◌else◌, codes, reverse, Option, Some, None, slice_get}
 use Rattle.ln_bound.specs.declared.fitted.Width.{Width}
@@ -16,7 +16,7 @@ use Rattle.ln_cemit.specs.Whole.{filter_body}
 use Rattle.ln_code.specs.declared.op.Op.{Op}
 use Rattle.ln_code.specs.Part.{FilterCode}
 
--- a declaration, in front of a rest
+-- a declaration, before a rest
 abbrev pub decl_before : ℕ → Width → Expr → List Token → List Token
 decl_before n w e r = lexeme (type_text (type_of w)) ∷ lexeme (decl_name n) ∷ lexeme (codes "=") ∷ spell e (lexeme (codes ";") ∷ r)
 
@@ -42,7 +42,7 @@ abbrev pub rest_or : Bool → Body → Body
 rest_or true b = b
 rest_or false b = End
 
--- the same where the stack may be too short: then nothing was put, and nothing follows
+-- the same where the stack may be too short: then nothing was appended, and nothing follows
 pub record MayMove (more : Bool) (old new : List ℕ) (stack : List Slot) (body : (ℕ → Option Slot) → Rest → Body) : Type 0 where
   pub goes : (ls : ℕ → Option Slot) (go : Rest) → Goes old new (spell_body (rest_or more (go (reverse stack) ls))) (spell_body (body ls go))
 
@@ -55,7 +55,7 @@ abbrev pub any_reads : List Op → Bool
 any_reads [] = false
 any_reads (o ∷ os) = reads o || any_reads os
 
--- the statements of the sites that are left, without the end where none is left
+-- the statements of the remaining sites, without the end where none remains
 abbrev pub picks_on : (ℕ → Body) → List ℕ → Body
 picks_on go [] = End
 picks_on go (i ∷ js) = picks go (i ∷ js)
@@ -66,12 +66,12 @@ open_guards i [] r = r
 open_guards i (j ∷ js) r = lexeme (codes "if") ∷ lexeme (codes "(") ∷ spell (less i j)
     (lexeme (codes ")") ∷ lexeme (codes "{") ∷ open_guards i js r)
 
--- so many closing braces
+-- this many closing braces
 abbrev pub close_braces : ℕ → List Token → List Token
 close_braces zero r = r
 close_braces (suc n) r = lexeme (codes "}") ∷ close_braces n r
 
--- these places begin with this front, of length j
+-- these places begin with this prefix, of length j
 pub record Begins (places front : List ℕ) (j : ℕ) : Type 0 where
   pub size : j ≡ length front
   pub within : j ≤ length places

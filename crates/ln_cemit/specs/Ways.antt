@@ -1,4 +1,4 @@
--- What emission has to know of a line: by which power of 2 a pushed number is divided, and the width of what is pushed from
+-- Defines what emission has to know of a line: by which power of 2 a pushed number is divided, and the width of what is pushed from
 -- outside. So blocks and filters are emitted alike.
 use Rattle.std.specs.Prelude.{List, [], ◌∷◌}
 use Rattle.ln_interval.specs.Range.{Range, magnitude}
@@ -22,8 +22,10 @@ abbrev pub ways : {B : Type 0} → (B → Way) → List (Line B) → List (Line 
 ways g [] = []
 ways g (x ∷ xs) = record { op = x.op; bound = g x.bound } ∷ ways g xs
 
+-- the lines of a block, with what emission has to know of each
 abbrev pub block_lines : Code → List (Line Way)
 block_lines c = ways block_way (lines_of c.ops c.pairs)
 
+-- the lines of a filter, with what emission has to know of each
 abbrev pub filter_lines : FilterCode → List (Line Way)
 filter_lines f = ways filter_way (lines_of f.ops f.triples)

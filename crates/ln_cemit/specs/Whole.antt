@@ -15,15 +15,17 @@ use Rattle.ln_cemit.specs.File.{one_funs, two_fun}
 abbrev pub part_name : Part → List ℕ
 part_name p = name_bytes p.shape.name
 
--- the names of the functions with one parameter, by number: that of the filter, if there is one, and behind it those of the blocks
+-- the names of the functions with one parameter, by number: that of the filter, if there is one, and after it those of the blocks
 abbrev pub numbered : List ℕ → Option FilterCode → ℕ → List ℕ
 numbered x None b = block_name x b
 numbered x (Some f) zero = filter_name x
 numbered x (Some f) (suc b) = block_name x b
 
+-- the body of the function of a block
 abbrev pub block_body : Code → Body
 block_body c = body_of decl_name 0 (block_lines c)
 
+-- the body of the function of a filter
 abbrev pub filter_body : FilterCode → Body
 filter_body f = body_of decl_name (error_of f) (filter_lines f)
 
@@ -49,7 +51,7 @@ call_body p =
     (body_for (numbered (part_name p) p.filter) answer_name (λ q. moved p.filter (segment_of p q))
     (first_of p.filter) p.shape.sites)
 
--- the functions of a program, and behind them others
+-- the functions of a program, and after them others
 abbrev pub funs_before : Part → List Fun → List Fun
 funs_before p rest = one_funs (numbered (part_name p) p.filter) 0 (bodies_of p.filter p.blocks)
     ++ two_fun (call_name (part_name p)) (call_body p) ∷ rest

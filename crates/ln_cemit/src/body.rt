@@ -90,7 +90,7 @@ fn put_answer(out: &mut Vec<u8>, e: u64, slot: Slot) -> Result<(), NoMemory>
     semi(out)
 }
 
-// The return of the sign of the one value that is left.
+// Appends the return of the sign of the one remaining value.
 fn put_sign(out: &mut Vec<u8>, e: u64, stack: &[Slot]) -> Result<(), NoMemory>
     ensures { IfOk result (λ x. Puts out.old.items out.new.items (spell_body (put_sign decl_name e (reverse stack.now)))) }
 {
@@ -137,7 +137,7 @@ fn any_gets(ops: &[Op], j: u8) -> bool
     false
 }
 
-// The declaration of a local, if none of the operations behind it reads it.
+// The declaration of a local, if none of the operations after it reads it.
 fn unread_local(j: u8, behind: &[Op], n: usize) -> Option<usize>
     ensures { result ≡ unread (Set j) behind.now n [] }
 {
@@ -178,7 +178,7 @@ fn unread(op: Op, behind: &[Op], n: usize, stack: &[Slot]) -> Option<usize>
     }
 }
 
-// The operations behind the one at i.
+// The operations after the one at i.
 fn behind(ops: &[Op], i: usize) -> &[Op]
     requires { i < length ops.now }
     ensures { result.now ≡ drop (i + 1) ops.now }
@@ -320,7 +320,7 @@ fn put_body(
     put_lines(alloc, out, e, ops, ways)
 }
 
-/// Puts the front of a function with one parameter.
+/// Appends the head of a function with one parameter.
 fn put_one_head(out: &mut Vec<u8>, title: &[u8]) -> Result<(), NoMemory>
     ensures { IfOk result (λ x. Puts out.old.items out.new.items
         (λ r. spell_own true (lexeme (codes "int") ∷ lexeme title.now ∷ lexeme (codes "(")
@@ -331,7 +331,7 @@ fn put_one_head(out: &mut Vec<u8>, title: &[u8]) -> Result<(), NoMemory>
     put_tokens(out, b"( const int64_t * v )")
 }
 
-/// Puts the front of the function with two parameters.
+/// Appends the head of the function with two parameters.
 pub(crate) fn put_two_head(out: &mut Vec<u8>, title: &[u8]) -> Result<(), NoMemory>
     ensures { IfOk result (λ x. Puts out.old.items out.new.items (λ r. lexeme (codes "int") ∷ lexeme title.now
         ∷ lexeme (codes "(") ∷ spell_parameters true (lexeme (codes ")") ∷ r))) }
@@ -341,7 +341,7 @@ pub(crate) fn put_two_head(out: &mut Vec<u8>, title: &[u8]) -> Result<(), NoMemo
     put_tokens(out, b"( const int64_t * x , const int64_t * v )")
 }
 
-// Puts a function of lines: e is 0 in a block, in a filter the error of what is left.
+// Appends a function of lines: e is 0 in a block, in a filter the error of the remaining value.
 fn put_fun(
     alloc: Global,
     out: &mut Vec<u8>,
@@ -386,7 +386,7 @@ fn filter_ways(alloc: Global, triples: &[Triple]) -> Result<Vec<Way>, NoMemory>
     Ok(ways)
 }
 
-/// Puts the function of a block.
+/// Appends the function of a block.
 pub(crate) fn put_block_fun(
     alloc: Global,
     out: &mut Vec<u8>,
@@ -399,7 +399,7 @@ pub(crate) fn put_block_fun(
     put_fun(alloc, out, title, 0, block.ops(), ways.as_slice())
 }
 
-/// Puts the function of a filter.
+/// Appends the function of a filter.
 pub(crate) fn put_filter_fun(
     alloc: Global,
     out: &mut Vec<u8>,

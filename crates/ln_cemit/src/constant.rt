@@ -1,4 +1,4 @@
-//! Constants.
+//! Writes constants of up to 128 bits: one NUMBER below 2^63, and from there on a sum of parts below 2^31.
 ghost use Rattle.std.specs.Prelude.{◌≡◌, ◌∷◌, true, IfOk, codes};
 ghost use Rattle.ln_csyn.specs.Spelling.{Puts, lexeme, spell};
 ghost use Rattle.ln_csyn.specs.Tree.{Inner};
@@ -58,7 +58,7 @@ fn put_whole(out: &mut Vec<u8>, z: i128) -> Result<(), NoMemory>
     }
 }
 
-/// Puts a whole number, cast to the type.
+/// Appends an integer, cast to the type.
 pub(crate) fn put_inner(out: &mut Vec<u8>, kind: CType, z: i128) -> Result<(), NoMemory>
     ensures { IfOk result (λ x. Puts out.old.items out.new.items (spell (Inner kind (constant z)))) }
 {

@@ -1,4 +1,4 @@
-//! The whole file.
+//! Writes the whole file: for each program the functions of its filter and its blocks, and after them the one that calls these.
 ghost use Rattle.std.specs.Prelude.{◌≡◌, ◌≤◌, ◌++◌, ◌∷◌, [], true, IfOk, OnErr, List, codes, map};
 ghost use Rattle.std.specs.List.{range_with_len};
 ghost use Rattle.ln_csyn.specs.Layout.{Lays};
@@ -115,7 +115,7 @@ fn put_may_filter(alloc: Global, out: &mut Vec<u8>, p: &Program) -> Result<(), N
     }
 }
 
-// The statements behind the call of the filter.
+// The statements after the call of the filter.
 fn put_all_sites(alloc: Global, out: &mut Vec<u8>, p: &Program, sites: u8) -> Result<(), NoMemory>
     requires few { sites ≤ 5 }
     requires sites { sites ≡ p.now.shape.sites }

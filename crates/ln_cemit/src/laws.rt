@@ -1,16 +1,16 @@
-//! What is promised of the emitted functions.
+//! States what is promised of the emitted functions.
 ghost use Rattle.ln_cemit.specs.Checked.{EmittedMeans};
 ghost use Rattle.ln_cemit.specs.Law.{BlocksSay, FiltersSay};
 ghost use Rattle.ln_cemit.specs.Conditions.{FunsKeep, BlocksKeep, FiltersKeep};
 ghost use Rattle.ln_cemit.specs.Names.{NamesServe};
 ghost use Rattle.ln_cemit.specs.Emitted.{BegunIsEmitted, FileIsEmitted};
 
-/// Where the machine as C has it has an answer, the emitted body answers its sign, and no line fails.
+/// Where the machine as C has it has a result, the emitted body returns its sign, and no line fails.
 pub fn emitted_means()
     ensures { EmittedMeans }
 {}
 
-/// On a row in range the function of a block that follows the rules answers the sign of the block's value; that of a filter 0
+/// On a row in range the function of a block that follows the rules returns the sign of the block's value; that of a filter 0
 /// where the filter doesn't decide, else the sign, with no operation at 128 bits.
 pub fn functions_say()
     ensures blocks { BlocksSay }
@@ -29,7 +29,7 @@ pub fn names_serve()
     ensures { NamesServe }
 {}
 
-/// The text of the file of programs is of the subset, and its calls say what the machine answers.
+/// The text of the file of programs is of the subset, and its calls return the signs of the machine's verdicts.
 pub fn file_is_emitted()
     ensures file { FileIsEmitted }
     ensures begun { BegunIsEmitted }

@@ -1,7 +1,7 @@
 //! C for programs, and what is promised of it.
 //!
 //! `emit` writes one file of the C subset (ln_csyn) for a list of programs; `begin_file` and `put_program` write it program by program, so
-//! that each may be dropped before the next is made. `IsEmitted` says what it is (`specs/Emitted.antt`): the bytes
+//! that each may be dropped before the next is made. `IsEmitted` defines what it is (`specs/Emitted.antt`): the bytes
 //! are a file of the subset with all side conditions, and on every row in range a call of `ln_NAME` means the sign and the calls of the
 //! machine's verdict, with no wide operation where the filter decides. The file itself is `file_of` (`specs/Whole.antt`): a function for
 //! the filter and for each block, one declaration for each operation (`specs/Emit.antt`), and the function with two parameters, which

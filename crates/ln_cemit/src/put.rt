@@ -1,4 +1,4 @@
-//! The declaration of each operation, put straight to the text with no tree.
+//! The declaration of each operation, appended to the text without a tree.
 ghost use Rattle.std.specs.Prelude.{◌≡◌, ◌≤◌, ◌<◌, ◌^◌, ◌∷◌, true, IfOk, codes, length, reverse};
 ghost use Rattle.ln_csyn.specs.Spelling.{Puts, cast_before, lexeme, spell, type_text};
 ghost use Rattle.ln_csyn.specs.Tree.{Inner, Minus, Number, Two, Value};
@@ -36,7 +36,7 @@ fn put_width(out: &mut Vec<u8>, width: Width) -> Result<(), NoMemory>
     put_type(out, type_of(width))
 }
 
-/// Puts the name of a declaration.
+/// Appends the name of a declaration.
 pub(crate) fn put_decl_name(out: &mut Vec<u8>, n: usize) -> Result<(), NoMemory>
     ensures { IfOk result (λ x. Puts out.old.items out.new.items (λ r. lexeme (decl_name n) ∷ r)) }
 {
@@ -47,7 +47,7 @@ pub(crate) fn put_decl_name(out: &mut Vec<u8>, n: usize) -> Result<(), NoMemory>
     Ok(())
 }
 
-// Puts the front of a declaration, up to the `=`.
+// Appends the head of a declaration, up to the `=`.
 fn put_decl_head(out: &mut Vec<u8>, n: usize, width: Width) -> Result<(), NoMemory>
     ensures { IfOk result (λ x. Puts out.old.items out.new.items
         (λ r. lexeme (type_text (type_of width)) ∷ lexeme (decl_name n) ∷ lexeme (codes "=") ∷ r)) }
@@ -63,7 +63,7 @@ fn put_value_of(out: &mut Vec<u8>, width: Width, v: u64) -> Result<(), NoMemory>
     put_value(out, type_of(width), v)
 }
 
-/// Puts a constant of this width.
+/// Appends a constant of this width.
 pub(crate) fn put_number_of(out: &mut Vec<u8>, width: Width, n: u64) -> Result<(), NoMemory>
     ensures { IfOk result (λ x. Puts out.old.items out.new.items (spell (Number (type_of width) n))) }
 {
@@ -106,7 +106,7 @@ fn put_opposite_decl(out: &mut Vec<u8>, n: usize, width: Width, slot: Slot) -> R
     semi(out)
 }
 
-// Puts the declaration of the opposite of the last value, which takes its place on the stack.
+// Appends the declaration of the opposite of the last value, which takes its place on the stack.
 fn negate(out: &mut Vec<u8>, n: usize, width: Width, stack: &mut Vec<Slot>) -> Result<(), NoMemory>
     requires { 1 ≤ length stack.now.items }
     ensures { IfOk result (λ x. Moves out.old.items out.new.items stack.new.items
@@ -144,7 +144,7 @@ fn put_both_decl(
     semi(out)
 }
 
-// Puts the declaration of an operation on the last two values, which takes their place on the stack.
+// Appends the declaration of an operation on the last two values, which takes their place on the stack.
 fn combine(
     out: &mut Vec<u8>,
     n: usize,
@@ -171,7 +171,7 @@ fn put_value_decl(out: &mut Vec<u8>, n: usize, width: Width, v: u64) -> Result<(
     semi(out)
 }
 
-// Puts the declaration of a value of the row, and pushes it.
+// Appends the declaration of a value of the row, and pushes it.
 fn read(
     out: &mut Vec<u8>,
     n: usize,
@@ -195,7 +195,7 @@ fn put_same_decl(out: &mut Vec<u8>, n: usize, width: Width, slot: Slot) -> Resul
     semi(out)
 }
 
-// Puts the declaration of the last value, which is taken off the stack into a local.
+// Appends the declaration of the last value, which is taken off the stack into a local.
 fn store(
     out: &mut Vec<u8>,
     n: usize,
@@ -216,7 +216,7 @@ fn store(
     Ok(())
 }
 
-// Puts the declaration of a local, and pushes it.
+// Appends the declaration of a local, and pushes it.
 fn load(
     out: &mut Vec<u8>,
     n: usize,
@@ -242,7 +242,7 @@ fn put_pushed_decl(out: &mut Vec<u8>, n: usize, width: Width, z: i128) -> Result
     semi(out)
 }
 
-// Puts the declaration of a number, and pushes it.
+// Appends the declaration of a number, and pushes it.
 fn push(
     out: &mut Vec<u8>,
     n: usize,
@@ -294,7 +294,7 @@ fn put_quotient_decl(out: &mut Vec<u8>, n: usize, m: u8, slot: Slot) -> Result<(
     semi(out)
 }
 
-// Puts the declaration of a quotient by 2^m of the last value, which takes its place on the stack.
+// Appends the declaration of a quotient by 2^m of the last value, which takes its place on the stack.
 fn divide(out: &mut Vec<u8>, n: usize, m: u8, stack: &mut Vec<Slot>) -> Result<(), NoMemory>
     requires { 1 ≤ length stack.now.items }
     ensures { IfOk result (λ x. Moves out.old.items out.new.items stack.new.items
@@ -309,7 +309,7 @@ fn divide(out: &mut Vec<u8>, n: usize, m: u8, stack: &mut Vec<Slot>) -> Result<(
     Ok(())
 }
 
-// The last value's opposite, if there is one; false where there is none, and nothing was put.
+// The last value's opposite, if there is one; false where there is none, and nothing was appended.
 fn may_negate(
     out: &mut Vec<u8>,
     n: usize,
@@ -373,7 +373,7 @@ fn may_store(
     Ok(true)
 }
 
-// Where the value of a local stands, if it is set.
+// Returns where the value of a local is, if it is set.
 fn slot_at(locals: &[Option<Slot>], j: u8) -> Option<Slot>
     requires { length locals.now ≡ 256 }
     ensures { result ≡ locals_of locals.now j }
@@ -400,8 +400,8 @@ fn may_load(
     }
 }
 
-/// Puts the declaration of an operation, and keeps where the values of stack and locals stand. False where the stack or the local
-/// hasn't what it takes, which is so of no operation of a block or filter: then nothing was put, and nothing may follow.
+/// Appends the declaration of an operation, and keeps where the values of stack and locals are. False where the stack or the local
+/// hasn't what it takes, which is so of no operation of a block or filter: then nothing was appended, and nothing may follow.
 pub(crate) fn put_operation(
     out: &mut Vec<u8>,
     n: usize,

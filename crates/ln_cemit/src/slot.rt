@@ -1,4 +1,4 @@
-//! Where a value of the stack or a local stands, and what is to be known of a line.
+//! The place of a value of the stack or a local, and what has to be known of a line.
 use ln_bound::Width;
 
 /// A declaration by its number, and its width.

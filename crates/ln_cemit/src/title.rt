@@ -1,4 +1,4 @@
-//! The names of functions.
+//! Makes the names of the emitted functions from the name of a predicate.
 ghost use Rattle.std.specs.Prelude.{◌≡◌, IfOk};
 ghost use Rattle.ln_cemit.specs.Names.{block_name, call_name, filter_name};
 

@@ -3,12 +3,12 @@
 ghost use Rattle.ln_cemit.specs.Chosen.{CallsAreCounted, FindsTheOrder, OrientCalls};
 ghost use Rattle.ln_cemit.specs.File.{FileMeans};
 
-/// The function answers what the blocks of the row's order answer, one segment behind the other.
+/// The function returns what the blocks of the row's order return, one segment after the other.
 pub fn finds_the_order()
     ensures { FindsTheOrder }
 {}
 
-/// The answer is the first sign that isn't 0, behind as many calls as blocks were entered.
+/// The result is the first sign that isn't 0, after as many calls as blocks were entered.
 pub fn calls_are_counted()
     ensures { CallsAreCounted }
 {}
@@ -18,7 +18,7 @@ pub fn orient_calls()
     ensures { OrientCalls }
 {}
 
-/// A call in the whole file gives the sign along the row's order, with its count of calls.
+/// A call in the whole file returns the sign along the row's order, with its count of calls.
 pub fn file_means()
     ensures { FileMeans }
 {}

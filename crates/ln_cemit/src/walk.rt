@@ -33,7 +33,7 @@ fn put_attempt(out: &mut Vec<u8>, title: &[u8]) -> Result<(), NoMemory>
     Ok(())
 }
 
-/// Puts the call of a function, and the return of what it answers where that isn't 0.
+/// Appends the call of a function, and the return of its result where that isn't 0.
 pub(crate) fn put_try(out: &mut Vec<u8>, title: &[u8]) -> Result<(), NoMemory>
     ensures { IfOk result (λ x. (b : Body) → Goes out.old.items out.new.items (spell_body b)
         (spell_body (Group 2 (attempt answer_name title.now) b))) }
@@ -129,7 +129,7 @@ fn longer(alloc: Global, front: &[u8], place: u8) -> Result<Vec<u8>, NoMemory>
     Ok(places)
 }
 
-// Puts a place at the end, but not this one.
+// Appends a place, but not this one.
 fn keep(others: &mut Vec<u8>, place: u8, p: u8) -> Result<(), NoMemory>
     ensures { IfOk result (λ x. others.new.items ≡ others.old.items ++ without place (p ∷ [])) }
 {
@@ -179,7 +179,7 @@ fn segment_at<'a>(p: &'a Program, orders: &[Order], front: &[u8]) -> &'a [u32]
     &[]
 }
 
-/// Puts the statements from a prefix on, with these sites left, of which there are at most d: the blocks of the prefix are called, and
+/// Appends the statements from a prefix on, with these sites left, of which there are at most d: the blocks of the prefix are called, and
 /// where all are 0 the next site is found.
 #[cycle(walk)]
 pub(crate) fn put_walked(
@@ -206,7 +206,7 @@ pub(crate) fn put_walked(
     Ok(())
 }
 
-// The places behind the one at k.
+// The places after the one at k.
 fn behind(left: &[u8], k: usize) -> &[u8]
     requires { k < length left.now }
     ensures { result.now ≡ drop (k + 1) left.now }
@@ -214,7 +214,7 @@ fn behind(left: &[u8], k: usize) -> &[u8]
     &left[k + 1..]
 }
 
-// The statements of the site with the least index, of those that are left.
+// Appends the statements of the site with the least index, of the remaining ones.
 #[cycle(walk)]
 fn put_picks(
     alloc: Global,
@@ -240,7 +240,7 @@ fn put_picks(
     Ok(())
 }
 
-// The statements of one of the sites, where its index is below those of the others that are behind it.
+// The statements of one of the sites, where its index is below those of the others after it.
 #[cycle(walk)]
 fn put_pick(
     alloc: Global,

@@ -1,4 +1,4 @@
--- The listing of programs, and its lines put one after the other.
+-- The listing of programs, and its lines, appended one after the other.
 pub mod Putting
 pub mod Rules
 pub mod Wrote

@@ -11,7 +11,7 @@ use Rattle.ln_base.specs.Lines.{joined, lines}
 use Rattle.ln_cert.specs.Text.{Each, IsLine, text_of}
 use Rattle.std.specs.Prelude.{ℤ}
 
--- ---- the grammar: what stands in the first list and not in the second is of the form
+-- ---- the grammar: what is in the first list and not in the second is of the form
 -- operations of a filter
 pub data FilterOps : List Part → List Part → Type 0 where
   none : {r : List Part} → FilterOps r r
@@ -54,7 +54,7 @@ first_line v = codes "listing " ++ (48 + v) ∷ 10 ∷ []
 abbrev pub texts_of : ℕ → List Part → List (List ℕ)
 texts_of v ps = first_line v ∷ map text_of ps
 
--- a listing: version 1 or 2, and what its lines say behind the first one
+-- a listing: version 1 or 2, and what its lines say after the first one
 pub record IsListing (version : ℕ) (parts : List Part) : Type 0 where
   pub known : (version ≡ 1) ⊎ (version ≡ 2)
   pub form : Predicates version parts
@@ -66,6 +66,7 @@ pub record ListText (bytes : List ℕ) (version : ℕ) (parts : List Part) : Typ
   pub text : bytes ≡ joined (texts_of version parts)
 
 -- ---- entries
+-- what the lines of entries say, without their numbers
 abbrev pub parts_of : List Entry → List Part
 parts_of es = map (λ e. e.part) es
 
@@ -74,7 +75,7 @@ abbrev pub AreNumbered : ℕ → List Entry → Type 0
 AreNumbered n [] = Unit {0}
 AreNumbered n (e ∷ es) = (e.line ≡ n) × AreNumbered (n + 1) es
 
--- what a reader gives of a listing: its version, and an entry for each line behind the first one
+-- what a reader returns of a listing: its version, and an entry for each line after the first one
 pub record Listed : Type 0 where
   pub version : ℕ
   pub entries : List Entry

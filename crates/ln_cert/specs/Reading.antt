@@ -1,5 +1,5 @@
--- Which line may stand where, and what its words say: for the reader, which goes line by line. That this is the grammar is the
--- matter of proofs/Reading/Walk.
+-- Defines which line is allowed where, and what its words say: for the reader, which goes line by line.
+-- The lemmas of proofs/Reading/Walk prove that this is the grammar.
 use Rattle.std.specs.Prelude.{◌≡◌, ℕ, ◌==◌, not, Bool, true, false, if◌then◌else◌, List, []}
 use Rattle.std.specs.Prelude.{◌∷◌, ◌++◌, Option, Some, None, option_map, bytes_eq, codes}
 use Rattle.ln_bound.specs.declared.fitted.Width.TheVariants.{W64, W128}
@@ -30,6 +30,7 @@ block_verbs =
     verb.Push ∷ verb.Input ∷ verb.Get ∷ verb.Set ∷ verb.Add W64 ∷ verb.Add W128 ∷ verb.Sub W64 ∷ verb.Sub W128
     ∷ verb.Mul W64 ∷ verb.Mul W128 ∷ verb.Neg W64 ∷ verb.Neg W128 ∷ []
 
+-- the kind of a line of a filter with this operation
 abbrev pub filter_kind : Verb → Kind
 filter_kind w = kind.FilterOp w
 
@@ -49,7 +50,7 @@ kind_in v Blocks w = if bytes_eq w (codes "block") then Some kind.Block else if 
 kind_in v Orders w = if bytes_eq w (codes "order") then Some kind.Order else if bytes_eq w (codes "done") then Some kind.Done else None
 
 -- ---- states
--- a line of this kind may stand in this state
+-- a line of this kind is allowed in this state
 abbrev pub may : ℕ → State → Kind → Bool
 may v Top kind.Predicate = true
 may v Opened kind.NoFilter = true
@@ -66,7 +67,7 @@ may v Orders kind.Order = true
 may v Orders kind.Done = true
 may v s k = false
 
--- what the lines end in behind a line of this kind
+-- what the lines end in after a line of this kind
 abbrev pub after : Kind → State
 after kind.Predicate = Opened
 after kind.NoFilter = Planned
@@ -80,16 +81,18 @@ after kind.End = Blocks
 after kind.Order = Orders
 after kind.Done = Top
 
--- its operation may stand there
+-- its operation is allowed there
 abbrev pub good : Kind → Bool
 good (kind.FilterOp w) = of_filter w
 good (kind.BlockOp w) = of_block w
 good (kind.RangeOp w) = of_block w
 good k = true
 
+-- the state after a line in version v, if a line of its kind may come next in the state s
 abbrev pub next_of : ℕ → State → Part → Option State
 next_of v s p = if may v s (kind_of p) then Some (after (kind_of p)) else None
 
+-- may the lines end in this state?
 abbrev pub is_end : State → Bool
 is_end Top = true
 is_end s = false
@@ -105,17 +108,17 @@ goes v o [] = o
 goes v o (p ∷ ps) = goes v (next_at v o p) ps
 
 -- ---- lines
--- the words are this line, which may stand in the state and leads to the next
+-- the words are this line, which is allowed in the state and leads to the next
 pub record IsRead (v : ℕ) (s : State) (ws : List (List ℕ)) (p : Part) (t : State) : Type 0 where
   pub spelled : ws ≡ words_of p
   pub range : IsLine p
   pub goes : next_of v s p ≡ Some t
 
--- no line of these words may stand in the state
+-- no line of these words is allowed in the state
 abbrev pub Refuses : ℕ → State → List (List ℕ) → Type 0
 Refuses v s ws = (p : Part) (t : State) → IsRead v s ws p t → ⊥
 
--- this text is no line that may stand in the state
+-- this text is no line that is allowed in the state
 abbrev pub RefusesText : ℕ → State → List ℕ → Type 0
 RefusesText v s t = (p : Part) (u : State) → IsLine p → next_of v s p ≡ Some u → t ≡ text_of p → ⊥
 
@@ -125,6 +128,7 @@ pub record HasArgs (k : Kind) (ws : List (List ℕ)) (p : Part) : Type 0 where
   pub args : ws ≡ args_of p
   pub range : IsLine p
 
+-- the words are the arguments of no line of this kind
 abbrev pub NoArgs : Kind → List (List ℕ) → Type 0
 NoArgs k ws = (p : Part) → HasArgs k ws p → ⊥
 
@@ -134,5 +138,6 @@ pub record OpAt (w : Verb) (ws : List (List ℕ)) (o : Op) (rest : List (List �
   pub range : IsOp o
   pub words : ws ≡ number_words o ++ rest
 
+-- the words begin with the number of no operation of this verb
 abbrev pub NoOpAt : Verb → List (List ℕ) → Type 0
 NoOpAt w ws = (o : Op) (rest : List (List ℕ)) → OpAt w ws o rest → ⊥

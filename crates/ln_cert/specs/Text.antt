@@ -1,4 +1,4 @@
--- What each line of a listing says, as text.
+-- Defines the text of each line of a listing.
 use Rattle.std.specs.Prelude.{◌≡◌, ℕ, ℤ, ◌^◌, ◌<◌, ◌≤◌, Bool, true, false, if◌then◌else◌, List}
 use Rattle.std.specs.Prelude.{[], ◌∷◌, ◌++◌, length, map, codes, decimal, unsigned_abs}
 use Rattle.std.specs.Fmt.{signed_decimal}
@@ -65,7 +65,7 @@ abbrev pub is_narrow : Width → Bool
 is_narrow W64 = true
 is_narrow W128 = false
 
--- whether it may stand in a filter
+-- whether it is allowed in a filter
 abbrev pub of_filter : Verb → Bool
 of_filter (verb.Add w) = is_narrow w
 of_filter (verb.Sub w) = is_narrow w
@@ -73,7 +73,7 @@ of_filter (verb.Mul w) = is_narrow w
 of_filter (verb.Neg w) = is_narrow w
 of_filter v = true
 
--- whether it may stand in a block
+-- whether it is allowed in a block
 abbrev pub of_block : Verb → Bool
 of_block verb.Cut = false
 of_block v = true
@@ -95,7 +95,7 @@ abbrev pub takes_off : Verb → Bool
 takes_off verb.Set = true
 takes_off v = false
 
--- what stands behind an operation and its number: its certificate, but nothing where it takes a value off
+-- what follows an operation and its number: its certificate, but nothing where it takes a value off
 abbrev pub certificate : Verb → List (List ℕ) → List (List ℕ)
 certificate v ws = if takes_off v then [] else ws
 
@@ -128,6 +128,7 @@ IsBound v b = (b < 2 ^ 128) × (takes_off v ≡ true → b ≡ 0)
 abbrev pub range_words : ℤ → ℤ → List (List ℕ)
 range_words l u = signed_decimal l ∷ signed_decimal u ∷ []
 
+-- both ends are within 2^127 - 1; what takes off has the ends 0 and 0, which aren't written
 abbrev pub IsRange : Verb → ℤ → ℤ → Type 0
 IsRange v l u = (unsigned_abs l < 2 ^ 127) × (unsigned_abs u < 2 ^ 127) × (takes_off v ≡ true → (unsigned_abs l ≡ 0) × (unsigned_abs u ≡ 0))
 
@@ -169,7 +170,7 @@ word_of kind.End = codes "end"
 word_of kind.Order = codes "order"
 word_of kind.Done = codes "done"
 
--- the words behind the first
+-- the words after the first
 abbrev pub args_of : Part → List (List ℕ)
 args_of (Predicate n) = n ∷ []
 args_of NoFilter = []

@@ -1,4 +1,4 @@
--- A listing that is read line by line: the line at the front of a text, and what is left behind some lines.
+-- Defines a listing that is read line by line: the first line of a text, and the rest after some lines.
 use Rattle.std.specs.Prelude.{◌≡◌, ℕ, ◌+◌, ◌<◌, ◌≤◌, List, [], ◌∷◌, length, map, drop, Option, Some, None}
 use Rattle.ln_cert.specs.declared.part.Entry.{Entry}
 use Rattle.ln_cert.specs.declared.part.Part.{Part}
@@ -9,8 +9,8 @@ use Rattle.ln_cert.specs.Listing.{ListText}
 use Rattle.ln_cert.specs.Reading.{RefusesText, goes, next_of}
 use Rattle.ln_cert.specs.Text.{Each, IsLine, text_of}
 
--- ---- the front of a text
--- it is this line, which may stand in the state and leads to the next; it has so many bytes, with its line feed
+-- ---- the first line of a text
+-- it is this line, which is allowed in the state and leads to the next; it has this many bytes, with its line feed
 pub record Begins (v : ℕ) (s : State) (text : List ℕ) (p : Part) (t : State) (count : ℕ) : Type 0 where
   pub same : lines text ≡ text_of p ∷ lines (drop count text)
   pub range : IsLine p
@@ -18,15 +18,15 @@ pub record Begins (v : ℕ) (s : State) (text : List ℕ) (p : Part) (t : State)
   pub some : 0 < count
   pub within : count ≤ length text
 
--- it is no line that may stand in the state
+-- it is no line that is allowed in the state
 pub record NoneBegins (v : ℕ) (s : State) (text : List ℕ) : Type 0 where
   pub first : List ℕ
   pub behind : List (List ℕ)
   pub same : lines text ≡ first ∷ behind
   pub refused : RefusesText v s first
 
--- ---- what is left
--- a listing behind some of its lines: its version, what those lines end in, the number of the next line, and the text from there on
+-- ---- the rest of a listing
+-- a listing after some of its lines: its version, what those lines end in, the number of the next line, and the text from there on
 pub record Unread : Type 0 where
   pub version : ℕ
   pub state : State
@@ -39,26 +39,26 @@ pub record AreLeft (u : Unread) (ps : List Part) : Type 0 where
   pub ranges : Each IsLine ps
   pub ends : goes u.version (Some u.state) ps ≡ Some Top
 
--- some lines are left, few enough that each has a number
+-- some lines remain, few enough that each has a number
 pub record IsUnread (u : Unread) : Type 0 where
   pub parts : List Part
   pub left : AreLeft u parts
   pub few : u.line + length u.text ≤ 67108866
 
--- the bytes are a listing, of which all lines but the first are left
+-- the bytes are a listing, of which all lines but the first remain
 pub record IsOpened (bytes : List ℕ) (u : Unread) : Type 0 where
   pub parts : List Part
   pub listing : ListText bytes u.version parts
   pub left : AreLeft u parts
   pub second : u.line ≡ 2
 
--- the first of these lines is this, and the others are left
+-- the first of these lines is this, and the others remain
 pub record GoesOn (ps : List Part) (p : Part) (w : Unread) : Type 0 where
   pub behind : List Part
   pub first : ps ≡ p ∷ behind
   pub left : AreLeft w behind
 
--- the first of the lines that are left is taken, with its number
+-- the first of the remaining lines is taken, with its number
 pub record IsTaken (u : Unread) (e : Entry) (w : Unread) : Type 0 where
   pub goes_on : (ps : List Part) → AreLeft u ps → GoesOn ps e.part w
   pub number : e.line ≡ u.line
@@ -66,7 +66,7 @@ pub record IsTaken (u : Unread) (e : Entry) (w : Unread) : Type 0 where
   pub version : w.version ≡ u.version
   pub shorter : length w.text < length u.text
 
--- the first line is taken if there is one; else none is left, before and after
+-- the first line is taken if there is one; else none remains, before and after
 abbrev pub Takes : Unread → Option Entry → Unread → Type 0
 Takes u None w = ((ps : List Part) → AreLeft u ps → ps ≡ []) × (w ≡ u)
 Takes u (Some e) w = IsTaken u e w

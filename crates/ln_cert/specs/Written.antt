@@ -25,6 +25,7 @@ filter_line x = FilterOp x.op x.bound
 abbrev pub range_line : Line Range → Part
 range_line x = RangeOp x.op x.bound.low x.bound.high
 
+-- the lines of a filter, or the one line that says that there is none
 abbrev pub filter_lines : Option FilterCode → List Part
 filter_lines None = NoFilter ∷ []
 filter_lines (Some f) = Filter ∷ (map filter_line (lines_of f.ops f.triples) ++ Decide ∷ [])
@@ -52,13 +53,12 @@ abbrev pub listing_of : List Program → List Part
 listing_of [] = []
 listing_of (p ∷ ps) = program_lines p ++ listing_of ps
 
--- these lines were put, and what they say is within the ranges
+-- these lines were appended, and what they say is within the ranges
 pub record Wrote (old new : List ℕ) (ps : List Part) : Type 0 where
   pub text : new ≡ old ++ joined (map text_of ps)
   pub ranges : Each IsLine ps
 
--- what the rules on filters say of an operation: a constant is within 2^127 - 1, a variable is one of 168; it is 64 bits wide,
--- and has no triple where it stores
+-- the limits of an operation's number: a constant is within 2^127 - 1, a variable is one of 168
 abbrev pub IsWithin : Op → Type 0
 IsWithin (op.Push c) = unsigned_abs c < 2 ^ 127
 IsWithin (op.Input v) = v ≤ 167
@@ -70,6 +70,7 @@ IsWithin (op.Mul w) = Unit {0}
 IsWithin (op.Neg w) = Unit {0}
 IsWithin (op.Cut n) = Unit {0}
 
+-- what the rules on filters say of an operation: its number is within these limits, it is 64 bits wide, and it has no triple where it stores
 pub record InFilter (x : Line Triple) : Type 0 where
   pub within : IsWithin x.op
   pub narrow : of_filter (verb_of x.op) ≡ true

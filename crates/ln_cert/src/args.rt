@@ -1,4 +1,4 @@
-//! The words behind the first word of a line.
+//! The words after the first word of a line.
 ghost use Rattle.std.specs.Prelude.{◌≡◌, ◌<◌, ◌≤◌, ◌^◌, ◌∷◌, [], ℕ, ℤ, IfSome, IfNone, decimal, unsigned_abs};
 ghost use Rattle.ln_code.specs.declared.op.Triple.{Triple as AnyTriple};
 ghost use Rattle.ln_base.specs.Lines.{words_from};
@@ -10,7 +10,7 @@ use ln_base::numeral::{field, signed_field};
 use ln_base::scan::ended;
 use ln_code::Triple;
 
-// The one number that stands from the place on.
+// The one number from the place on.
 fn one(bytes: &[u8], at: usize, most: u128) -> Option<u128>
     ensures some { IfSome result (λ n. (n ≤ most) × (words_from at bytes.now ≡ decimal n ∷ [])) }
     ensures none { IfNone result ((n : ℕ) → n ≤ most → words_from at bytes.now ≡ decimal n ∷ [] → ⊥) }
@@ -21,7 +21,7 @@ fn one(bytes: &[u8], at: usize, most: u128) -> Option<u128>
     if ended(bytes, next) { Some(n) } else { None }
 }
 
-// The triple that stands from the place on.
+// The triple from the place on.
 fn triple_at(bytes: &[u8], at: usize) -> Option<Triple>
     ensures some { IfSome result (λ t. (t.k ≤ 255) × (t.h < 2 ^ 64) × (t.e < 2 ^ 64) × (words_from at bytes.now ≡ triple_words t)) }
     ensures none { IfNone result ((t : AnyTriple) → t.k ≤ 255 → t.h < 2 ^ 64 → t.e < 2 ^ 64 →
@@ -43,7 +43,7 @@ fn triple_at(bytes: &[u8], at: usize) -> Option<Triple>
     })
 }
 
-// The two ends that stand from the place on.
+// The two ends from the place on.
 fn ends_at(bytes: &[u8], at: usize) -> Option<(i128, i128)>
     ensures some { IfSome result (λ x. (unsigned_abs x.0 < 2 ^ 127) × (unsigned_abs x.1 < 2 ^ 127)
         × (words_from at bytes.now ≡ range_words x.0 x.1)) }
@@ -63,7 +63,7 @@ fn ends_at(bytes: &[u8], at: usize) -> Option<(i128, i128)>
     }
 }
 
-/// The triple of an operation of a filter: it stands from the place on, or nothing where the operation takes a value off.
+/// The triple of an operation of a filter: it is the words from the place on, or nothing where the operation takes a value off.
 pub fn triple(verb: Verb, bytes: &[u8], at: usize) -> Option<Triple>
     ensures some { IfSome result (λ t. IsTriple verb t × (words_from at bytes.now ≡ certificate verb (triple_words t))) }
     ensures none { IfNone result ((t : AnyTriple) → IsTriple verb t → words_from at bytes.now ≡ certificate verb (triple_words t) → ⊥) }

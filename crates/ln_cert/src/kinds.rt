@@ -172,7 +172,7 @@ pub fn kind(version: u8, state: State, w: &[u8]) -> Option<Kind>
     }
 }
 
-/// What the lines end in behind a line of this kind.
+/// Returns what the lines end in after a line of this kind.
 pub fn after(kind: Kind) -> State
     ensures { result ≡ after kind }
 {

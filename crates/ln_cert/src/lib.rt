@@ -1,10 +1,10 @@
 //! Listings: the text of compiled stack programs with a certificate at each operation, both ways. docs/LISTING.md has the grammar.
 //!
 //! `ListText bytes version parts` says that the bytes are the text of this listing (`specs/Text.antt` has the lines,
-//! `specs/Listing.antt` the grammar). `read_listing` answers it both ways: the listing of the bytes, and `Form` with the line of
-//! their form fault exactly where they are none. `listing_lines` answers the same, and gives the lines one after the other without
-//! keeping any. `write_listing` gives the text of the listing of programs (`specs/Written.antt`); `begin_listing` and `put_program` give
-//! it program by program, so that each may be dropped before the next is made. By `laws::one_listing` no bytes are two listings.
+//! `specs/Listing.antt` the grammar). `read_listing` decides it: it returns the listing of the bytes, and `Form` with the line of their form fault
+//! exactly where they are none. `listing_lines` decides the same, and returns the lines one after the other without keeping any. `write_listing`
+//! returns the text of the listing of programs (`specs/Written.antt`); `begin_listing` and `put_program` write it program by program, so that each
+//! may be dropped before the next is made. By `laws::one_listing` no bytes are two listings.
 #![tactic(auto)]
 
 pub mod args;

@@ -1,4 +1,4 @@
-//! One line.
+//! Reads one line of a listing, from the state in which the lines before it end.
 ghost use Rattle.std.specs.Prelude.{◌≡◌, true, ◌<◌, ℕ, ◌∷◌, ◌++◌, List, IfOk, MatchOption, decimal, codes, map};
 ghost use Rattle.ln_cert.specs.declared.part.Kind.TheVariants as kind;
 ghost use Rattle.ln_base.specs.Lines.{words, words_from};
@@ -78,7 +78,7 @@ fn range_op(verb: Verb, bytes: &[u8], at: usize) -> Option<Part>
     Some(Part::RangeOp(op, low, high))
 }
 
-// The exponents that stand from the place on, up to the last word.
+// The exponents from the place on, up to the last word.
 fn exponents(alloc: Global, bytes: &[u8], at: usize) -> Result<Option<Seq<(u8, u8)>>, NoMemory>
     ensures { IfOk result (λ o. MatchOption o
         ((ps : List (ℕ × ℕ)) → Each IsExponent ps → words_from at bytes.now ≡ map exponent_word ps → ⊥)
@@ -110,7 +110,7 @@ fn block(alloc: Global, bytes: &[u8], at: usize) -> Result<Option<Part>, NoMemor
     Ok(Some(Part::Block(n as u32, exps)))
 }
 
-// The numbers of blocks that stand from the place on, up to the last word.
+// The numbers of blocks from the place on, up to the last word.
 fn numbers(alloc: Global, bytes: &[u8], at: usize) -> Result<Option<Seq<u32>>, NoMemory>
     ensures { IfOk result (λ o. MatchOption o
         ((ns : List ℕ) → Each IsNumber ns → words_from at bytes.now ≡ map decimal ns → ⊥)
@@ -129,7 +129,7 @@ fn numbers(alloc: Global, bytes: &[u8], at: usize) -> Result<Option<Seq<u32>>, N
     Ok(Some(Seq::from_vec(list)))
 }
 
-// The places that stand from the place on, up to a colon, and the place behind it.
+// The places from this place on, up to a colon, and the place after it.
 fn places(alloc: Global, bytes: &[u8], at: usize) -> Result<Option<(Seq<u8>, usize)>, NoMemory>
     ensures { IfOk result (λ o. MatchOption o
         ((ps : List ℕ) (rest : List (List ℕ)) → Each IsPlace ps → words_from at bytes.now ≡ map decimal ps ++ codes ":" ∷ rest → ⊥)
@@ -217,7 +217,7 @@ fn done(bytes: &[u8], at: usize) -> Option<Part>
     }
 }
 
-/// The line of a kind whose arguments stand from the place on.
+/// The line of a kind whose arguments are the words from the place on.
 pub fn part(alloc: Global, kind: Kind, bytes: &[u8], at: usize) -> Result<Option<Part>, NoMemory>
     requires { good kind ≡ true }
     ensures { IfOk result (λ o. MatchOption o (NoArgs kind (words_from at bytes.now)) (λ p. HasArgs kind (words_from at bytes.now) p)) }

@@ -15,7 +15,7 @@ use ln_base::scan::{after, between, find};
 use std::alloc::Global;
 use std::marker::Model;
 
-/// The lines of a listing that are still to be read, which contracts see as the text that is left. None of them is kept.
+/// The lines of a listing that are still to be read, which contracts see as the remaining text. None of them is kept.
 #[derive(Drop)]
 pub struct Lines<'a> {
     version: u8,
@@ -34,7 +34,7 @@ impl<'a> Model for Lines<'a> {
     ghost invariant = { λ l. IsUnread (record { version = l.version; state = l.state; line = l.line; text = l.text.now }) };
 }
 
-// The line at the front of a text, the state behind it, and how many bytes it has, with its line feed.
+// The first line of a text, the state after it, and how many bytes it has, with its line feed.
 fn front(
     alloc: Global,
     version: u8,
@@ -55,10 +55,7 @@ fn front(
     Ok(Some((part, next, end + 1)))
 }
 
-// A line that isn't kept.
-fn dropped(_part: Part) {}
-
-// Reads a listing from behind its first line to the end, and keeps nothing of it.
+// Reads a listing from after its first line to the end, and keeps nothing of it.
 fn check(alloc: Global, bytes: &[u8], behind: usize, version: u8) -> Result<(), ListStop>
     requires short { length bytes.now ≤ 67108864 }
     requires within { behind ≤ length bytes.now }
@@ -76,7 +73,7 @@ fn check(alloc: Global, bytes: &[u8], behind: usize, version: u8) -> Result<(), 
         let Some((part, next, count)) = read else {
             return Err(ListStop::Form(number));
         };
-        dropped(part);
+        drop(part);
         state = next;
         text = after(text, count);
         number += 1;
@@ -112,21 +109,21 @@ pub(crate) fn opened<'a>(
 }
 
 impl<'a> Lines<'a> {
-    /// The version of the listing, 1 or 2. It takes no memory.
+    /// Returns the version of the listing, 1 or 2. Allocates nothing.
     pub fn version(&self) -> u8
         ensures { result ≡ self.now.version }
     {
         self.version
     }
 
-    /// The number of the next line; where none is left, it is one more than the listing has lines. It takes no memory.
+    /// Returns the number of the next line; where none remains, it is one more than the listing has lines. Allocates nothing.
     pub fn number(&self) -> u32
         ensures { result ≡ self.now.line }
     {
         self.line
     }
 
-    /// The next line and its number, or none at the end. It takes memory for this line alone. After `NoMemory` the same lines are left.
+    /// The next line and its number, or none at the end. Allocates for this line alone. After `NoMemory` the same lines remain.
     pub fn next(&mut self, alloc: Global) -> Result<Option<Entry>, NoMemory>
         ensures takes { IfOk result (λ o. Takes self.old o self.new) }
         ensures err { OnErr result (self.new ≡ self.old) }

@@ -1,4 +1,4 @@
-//! Listings.
+//! Defines a listing as it was read: its version and, by number, what each of its lines says.
 ghost use Rattle.std.specs.Prelude.{◌≡◌, ◌⊎◌};
 ghost use Rattle.ln_cert.specs.Listing.{Kept};
 
@@ -6,7 +6,7 @@ use crate::part::Entry;
 use ln_base::Seq;
 use std::marker::Model;
 
-/// A listing: its version, and for each line behind the first one its number and what it says. Some bytes, at most 67,108,864, are
+/// A listing: its version, and for each line after the first one its number and what it says. Some bytes, at most 67,108,864, are
 /// its text.
 #[derive(Drop)]
 pub struct Listing {
@@ -33,7 +33,7 @@ impl Listing {
         Listing { version, entries }
     }
 
-    /// The version, 1 or 2. It takes no memory.
+    /// Returns the version, 1 or 2. Allocates nothing.
     pub fn version(&self) -> u8
         ensures value { result ≡ self.now.version }
         ensures known { (result ≡ 1) ⊎ (result ≡ 2) }
@@ -41,7 +41,7 @@ impl Listing {
         self.version
     }
 
-    /// The lines behind the first one. It takes no memory.
+    /// Returns the lines after the first one. Allocates nothing.
     pub fn entries(&self) -> &[Entry]
         ensures value { result.now ≡ self.now.entries }
         ensures kept { Kept self.now }

@@ -1,6 +1,5 @@
 //! An operation with its number, and without it.
 ghost use Rattle.std.specs.Prelude.{◌≡◌, IfSome, IfNone};
-ghost use Rattle.ln_cert.specs.declared.part.Verb.TheVariants as verb;
 ghost use Rattle.ln_base.specs.Lines.{words_from};
 ghost use Rattle.ln_cert.specs.Reading.{OpAt, NoOpAt};
 ghost use Rattle.ln_cert.specs.Text.{takes_off, verb_of};
@@ -26,7 +25,7 @@ pub fn verb_of(op: Op) -> Verb
     }
 }
 
-/// Whether it takes a value off the stack into a local: then no certificate stands behind it.
+/// Whether it takes a value off the stack into a local: then no certificate follows it.
 pub fn takes_off(verb: Verb) -> bool
     ensures { result ≡ takes_off verb }
 {
@@ -43,67 +42,32 @@ pub fn takes_off(verb: Verb) -> bool
     }
 }
 
-fn push(bytes: &[u8], at: usize) -> Option<(Op, usize)>
-    ensures some { IfSome result (λ x. OpAt verb.Push (words_from at bytes.now) x.0 (words_from x.1 bytes.now)) }
-    ensures none { IfNone result (NoOpAt verb.Push (words_from at bytes.now)) }
-{
-    let Some((c, next)) = signed_field(bytes, at) else {
-        return None;
-    };
-    Some((Op::Push(c), next))
-}
-
-fn input(bytes: &[u8], at: usize) -> Option<(Op, usize)>
-    ensures some { IfSome result (λ x. OpAt verb.Input (words_from at bytes.now) x.0 (words_from x.1 bytes.now)) }
-    ensures none { IfNone result (NoOpAt verb.Input (words_from at bytes.now)) }
-{
-    let Some((v, next)) = field(bytes, at, 167) else {
-        return None;
-    };
-    Some((Op::Input(v as u8), next))
-}
-
-fn get(bytes: &[u8], at: usize) -> Option<(Op, usize)>
-    ensures some { IfSome result (λ x. OpAt verb.Get (words_from at bytes.now) x.0 (words_from x.1 bytes.now)) }
-    ensures none { IfNone result (NoOpAt verb.Get (words_from at bytes.now)) }
-{
-    let Some((j, next)) = field(bytes, at, 255) else {
-        return None;
-    };
-    Some((Op::Get(j as u8), next))
-}
-
-fn set(bytes: &[u8], at: usize) -> Option<(Op, usize)>
-    ensures some { IfSome result (λ x. OpAt verb.Set (words_from at bytes.now) x.0 (words_from x.1 bytes.now)) }
-    ensures none { IfNone result (NoOpAt verb.Set (words_from at bytes.now)) }
-{
-    let Some((j, next)) = field(bytes, at, 255) else {
-        return None;
-    };
-    Some((Op::Set(j as u8), next))
-}
-
-fn cut(bytes: &[u8], at: usize) -> Option<(Op, usize)>
-    ensures some { IfSome result (λ x. OpAt verb.Cut (words_from at bytes.now) x.0 (words_from x.1 bytes.now)) }
-    ensures none { IfNone result (NoOpAt verb.Cut (words_from at bytes.now)) }
-{
-    let Some((n, next)) = field(bytes, at, 255) else {
-        return None;
-    };
-    Some((Op::Cut(n as u8), next))
-}
-
-/// The operation whose number, if it has one, stands at a place, and the place behind it.
+/// Returns the operation whose number, if it has one, is at a place, and the place after it.
 pub fn operation(verb: Verb, bytes: &[u8], at: usize) -> Option<(Op, usize)>
     ensures some { IfSome result (λ x. OpAt verb (words_from at bytes.now) x.0 (words_from x.1 bytes.now)) }
     ensures none { IfNone result (NoOpAt verb (words_from at bytes.now)) }
 {
     match verb {
-        Verb::Push => push(bytes, at),
-        Verb::Input => input(bytes, at),
-        Verb::Get => get(bytes, at),
-        Verb::Set => set(bytes, at),
-        Verb::Cut => cut(bytes, at),
+        Verb::Push => {
+            let (c, next) = signed_field(bytes, at)?;
+            Some((Op::Push(c), next))
+        }
+        Verb::Input => {
+            let (v, next) = field(bytes, at, 167)?;
+            Some((Op::Input(v as u8), next))
+        }
+        Verb::Get => {
+            let (j, next) = field(bytes, at, 255)?;
+            Some((Op::Get(j as u8), next))
+        }
+        Verb::Set => {
+            let (j, next) = field(bytes, at, 255)?;
+            Some((Op::Set(j as u8), next))
+        }
+        Verb::Cut => {
+            let (n, next) = field(bytes, at, 255)?;
+            Some((Op::Cut(n as u8), next))
+        }
         Verb::Add(w) => Some((Op::Add(w), at)),
         Verb::Sub(w) => Some((Op::Sub(w), at)),
         Verb::Mul(w) => Some((Op::Mul(w), at)),

@@ -1,9 +1,9 @@
-//! What the lines of a listing say.
+//! The content of the lines of a listing.
 use ln_base::Seq;
 use ln_bound::Width;
 use ln_code::{Op, Triple};
 
-/// What a line of a listing says, behind the first line.
+/// The content of a line of a listing after the first one.
 #[derive(Drop)]
 pub enum Part {
     /// `predicate NAME`.
@@ -30,7 +30,7 @@ pub enum Part {
     Done,
 }
 
-/// What a line says, and its number: lines count from 1, and the first one names the version.
+/// The content of a line, and its number: lines count from 1, and the first one names the version.
 #[derive(Drop)]
 pub struct Entry {
     pub line: u32,
@@ -51,7 +51,7 @@ pub enum Verb {
     Cut,
 }
 
-/// What the first word of a line says, at its place.
+/// The meaning of the first word of a line, at its place.
 #[derive(Clone, Copy)]
 pub enum Kind {
     Predicate,
@@ -67,7 +67,7 @@ pub enum Kind {
     Done,
 }
 
-/// What the lines so far end in: the end of a predicate or the first line, a predicate's name, operations of a filter, a filter's
+/// The end of the lines so far: the end of a predicate or the first line, a predicate's name, operations of a filter, a filter's
 /// end, operations of a block, a block's end, an order.
 #[derive(Clone, Copy)]
 pub enum State {

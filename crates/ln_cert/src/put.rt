@@ -1,4 +1,4 @@
-//! Putting lines to a text.
+//! Appending lines to a text.
 ghost use Rattle.std.specs.Prelude.{◌≡◌, ◌∷◌, ◌++◌, [], IfOk, decimal, map};
 ghost use Rattle.ln_cert.specs.declared.part.Part.TheVariants as part;
 ghost use Rattle.ln_cert.specs.Text.{certificate, number_words, range_words, triple_words};
@@ -11,7 +11,7 @@ use ln_base::NoMemory;
 use ln_base::put::{put, put_exponents, put_number, put_signed, put_word};
 use ln_code::{Op, Triple};
 
-/// Puts places.
+/// Appends places.
 pub fn put_places(out: &mut Vec<u8>, places: &[u8]) -> Result<(), NoMemory>
     ensures { IfOk result (λ x. Puts out.old.items out.new.items (λ r. map decimal places.now ++ r)) }
 {
@@ -21,7 +21,7 @@ pub fn put_places(out: &mut Vec<u8>, places: &[u8]) -> Result<(), NoMemory>
     Ok(())
 }
 
-/// Puts numbers of blocks.
+/// Appends numbers of blocks.
 pub fn put_numbers(out: &mut Vec<u8>, list: &[u32]) -> Result<(), NoMemory>
     ensures { IfOk result (λ x. Puts out.old.items out.new.items (λ r. map decimal list.now ++ r)) }
 {
@@ -82,7 +82,7 @@ fn put_certificate_ends(
     }
 }
 
-/// Puts `predicate NAME`.
+/// Appends `predicate NAME`.
 pub fn put_predicate(out: &mut Vec<u8>, name: &[u8]) -> Result<(), NoMemory>
     ensures { IfOk result (λ x. PutsLine out.old.items out.new.items (part.Predicate name.now)) }
 {
@@ -92,7 +92,7 @@ pub fn put_predicate(out: &mut Vec<u8>, name: &[u8]) -> Result<(), NoMemory>
     Ok(())
 }
 
-/// Puts a line of one word.
+/// Appends a line of one word.
 pub fn put_bare(out: &mut Vec<u8>, word: &[u8]) -> Result<(), NoMemory>
     ensures { IfOk result (λ x. out.new.items ≡ out.old.items ++ (word.now ++ 10 ∷ [])) }
 {
@@ -101,7 +101,7 @@ pub fn put_bare(out: &mut Vec<u8>, word: &[u8]) -> Result<(), NoMemory>
     Ok(())
 }
 
-/// Puts an operation of a filter.
+/// Appends an operation of a filter.
 pub fn put_filter_op(out: &mut Vec<u8>, op: Op, t: Triple) -> Result<(), NoMemory>
     ensures { IfOk result (λ x. PutsLine out.old.items out.new.items (part.FilterOp op t)) }
 {
@@ -113,7 +113,7 @@ pub fn put_filter_op(out: &mut Vec<u8>, op: Op, t: Triple) -> Result<(), NoMemor
     Ok(())
 }
 
-/// Puts an operation of a block of version 2.
+/// Appends an operation of a block of version 2.
 pub fn put_range_op(out: &mut Vec<u8>, op: Op, low: i128, high: i128) -> Result<(), NoMemory>
     ensures { IfOk result (λ x. PutsLine out.old.items out.new.items (part.RangeOp op low high)) }
 {
@@ -125,7 +125,7 @@ pub fn put_range_op(out: &mut Vec<u8>, op: Op, low: i128, high: i128) -> Result<
     Ok(())
 }
 
-/// Puts `block N` with exponents.
+/// Appends `block N` with exponents.
 pub fn put_block(out: &mut Vec<u8>, n: u32, exps: &[(u8, u8)]) -> Result<(), NoMemory>
     ensures { IfOk result (λ x. PutsLine out.old.items out.new.items (part.Block n exps.now)) }
 {

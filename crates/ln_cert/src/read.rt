@@ -1,4 +1,4 @@
-//! Reading a listing.
+//! Reads the bytes of a listing, at once or line by line, or finds the first line at which they are no listing.
 ghost use Rattle.std.specs.Prelude.{◌≡◌, ◌≤◌, ◌⊎◌, IfOk, IfErr, List, MatchOption, length, ℕ};
 ghost use Rattle.ln_cert.specs.Listing.{AreNumbered, ListText, first_line, parts_of};
 ghost use Rattle.ln_cert.specs.Stop.{Stops};
@@ -56,7 +56,7 @@ pub fn listing_lines<'a>(alloc: Global, bytes: &'a [u8]) -> Result<Lines<'a>, Li
     Ok(lines)
 }
 
-// All lines that are left, with their numbers.
+// All remaining lines, with their numbers.
 fn entries_of(alloc: Global, lines: &mut Lines<'_>) -> Result<Seq<Entry>, NoMemory>
     ensures parts { IfOk result (λ es. (ps : List AnyPart) → AreLeft lines.old ps → parts_of es ≡ ps) }
     ensures numbers { IfOk result (λ es. AreNumbered lines.old.line es) }

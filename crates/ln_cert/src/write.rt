@@ -198,7 +198,7 @@ fn put_all_orders(alloc: Global, out: &mut Vec<u8>, p: &Program) -> Result<(), N
     put_orders(out, p, orders.as_slice())
 }
 
-/// The listing of no programs, of version 2: the text behind which programs are put.
+/// The listing of no programs, of version 2: the text to which programs are appended.
 pub fn begin_listing(alloc: Global) -> Result<Vec<u8>, NoMemory>
     ensures { IfOk result (λ v. ListText v.items 2 (listing_of [])) }
 {

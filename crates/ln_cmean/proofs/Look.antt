@@ -1,5 +1,6 @@
--- Looking a name up.
-use Rattle.std.proofs.Common.{◌≡◌, ℕ, zero, suc, ◌+◌, ◌-◌, ◌<◌, ◌≤◌, min, Bool, true, false, List, length, take, drop, Some, refl, sym, ap, ◌∙◌, arith, length-take}
+-- Proves what the lookup of a name needs of each slot: it has the name, or the slots below it are looked at.
+use Rattle.std.proofs.Common.{◌≡◌, ℕ, zero, suc, ◌+◌, ◌-◌, ◌<◌, ◌≤◌, min, Bool, true, false, List, length, take, drop, Some, refl, sym, ap}
+use Rattle.std.proofs.Common.{◌∙◌, arith, length-take}
 use Rattle.std.specs.Prelude.{nat_lt, slice_get, if◌then◌else◌}
 use Rattle.std.proofs.lemmas.List.{drop-take, drop_all, take-take, take_all}
 use Rattle.std.proofs.lemmas.Bool.Decides.{nat_tests}
@@ -30,7 +31,7 @@ piece_is xs s e m h l = by_case (nat_lt s e) refl where
       let q : length (take e xs) ≤ s = omega (arith, length-take e xs) in
       ap (λ i. take i (drop m xs)) p ∙ sym (drop_all s (take e xs) q)
 
--- a front of a front
+-- a prefix of a prefix
 take_least : (xs : List ℕ) (s e : ℕ) → e ≤ length xs → take s (take e xs) ≡ take (min s e) xs
 take_least xs s e l = by_case (nat_lt s e) refl where
   by_case : (v : Bool) → nat_lt s e ≡ v → take s (take e xs) ≡ take (min s e) xs

@@ -1,4 +1,4 @@
--- The function with two parameters that has a name, and what an answer tells of it.
+-- Proves which function with two parameters has a name, and what a result tells of it.
 use Rattle.std.proofs.Common.{◌≡◌, ℕ, Bool, true, false, List, [], ◌∷◌, ◌++◌, Option, Some, None, refl, sym, ap, ◌∙◌, arith}
 use Rattle.std.specs.Prelude.{ℤ, nat_eq, Result, Ok, Err}
 use Rattle.std.specs.List.{list_any}
@@ -38,7 +38,7 @@ two_is : (b : Bool) → same_bool b true ≡ true → b ≡ true
 two_is true h = refl
 two_is false h = cc
 
--- the test on a function is what it says
+-- what the test on a function means
 wanted_is : (f : Fun) (name : List ℕ) → is_wanted f true name ≡ true → (f.indexed ≡ true) × (f.name ≡ name)
 wanted_is f name h =
     let p = and_parts (same_bool f.indexed true) (same_name f.name name) h in
@@ -88,7 +88,7 @@ unnamed_of_none : (fs : List Fun) (name : List ℕ) (index values : List ℤ) �
     CCall fs name index values ≡ None → CNamed fs name → ⊥
 unnamed_of_none fs name index values h n = some-behind [] fs name index values (test_of_named fs name n) h
 
--- what an answer tells it alone tells
+-- only one result tells each meaning
 told_none : (r : Result CAnswer CFault) → told r ≡ None → r ≡ Err NoFunction
 told_none (Ok a) h = cc
 told_none (Err NoFunction) h = refl

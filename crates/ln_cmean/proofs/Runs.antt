@@ -1,5 +1,6 @@
 -- Steps one after the other: the room that they leave, and what they mean together.
-use Rattle.std.proofs.Common.{◌≡◌, ℕ, ◌+◌, ◌<◌, ◌≤◌, List, [], ◌∷◌, ◌++◌, length, take, drop, get_or, Result, Ok, Err, refl, sym, ap, ◌∙◌, arith, length-append, length-take}
+use Rattle.std.proofs.Common.{◌≡◌, ℕ, ◌+◌, ◌<◌, ◌≤◌, List, [], ◌∷◌, ◌++◌, length, take, drop, get_or, Result, Ok, Err, refl, sym, ap, ◌∙◌}
+use Rattle.std.proofs.Common.{arith, length-append, length-take}
 use Rattle.std.specs.Prelude.{OnOk}
 use Rattle.std.proofs.lemmas.List.{at_drop_more, drop_all, take_all, take-take, take-append-le}
 use Rattle.ln_csyn.specs.declared.tree.CStmt.{CStmt}
@@ -27,7 +28,7 @@ no_smaller_then a b c p q = record { slots_stay = omega (arith, p.slots_stay, q.
 pub same_then : (a b c : CScratch) → IsSame a b → IsSame b c → IsSame a c
 same_then a b c p q = record { base_same = q.base_same ∙ p.base_same; slots_same = q.slots_same ∙ p.slots_same; names_same = q.names_same ∙ p.names_same }
 
--- a front of a front
+-- a prefix of a prefix
 fronts : {X : Type 0} (xs ys zs : List X) → take (length xs) ys ≡ xs → take (length ys) zs ≡ ys → take (length xs) zs ≡ xs
 fronts xs ys zs p q =
     let l : length xs ≤ length ys = omega (arith, ap length p, length-take (length xs) ys) in
@@ -46,12 +47,17 @@ pub opened : (old new : CScratch) (d : Slot) (x : List ℕ) (a b : ℕ) → HasR
 opened old new d x a b r e s n c =
     let l : length new.slots.items ≡ length old.slots.items + 1 = ap length s ∙ length-append old.slots.items (d ∷ []) in
     let m : length new.names.items ≡ length old.names.items + length x = ap length n ∙ length-append old.names.items x in
-    record { based = omega (arith, r.based, e, l); slots_fit = omega (arith, r.slots_fit, l, c.slots_stay); letters_fit = omega (arith, r.letters_fit, m, c.names_stay) }
+    record {
+      based = omega (arith, r.based, e, l);
+      slots_fit = omega (arith, r.slots_fit, l, c.slots_stay);
+      letters_fit = omega (arith, r.letters_fit, m, c.names_stay);
+    }
 
 front_of : {X : Type 0} (xs ys : List X) → take (length xs) (xs ++ ys) ≡ xs
 front_of xs ys = take-append-le (length xs) xs ys (omega arith) ∙ take_all (length xs) xs (omega arith)
 
-pub front_more : (old new : CScratch) (d : Slot) (x : List ℕ) → new.base ≡ old.base → new.slots.items ≡ old.slots.items ++ d ∷ [] → new.names.items ≡ old.names.items ++ x → IsFront old new
+pub front_more : (old new : CScratch) (d : Slot) (x : List ℕ) → new.base ≡ old.base → new.slots.items ≡ old.slots.items ++ d ∷ []
+    → new.names.items ≡ old.names.items ++ x → IsFront old new
 front_more old new d x e s n = record {
   base_front = e;
   slots_front = ap (λ ys. take (length old.slots.items) ys) s ∙ front_of old.slots.items (d ∷ []);
@@ -72,7 +78,8 @@ pub going_on : (sc : Scene) (ss : List CStmt) (i : ℕ) (s : CStmt) (all : Outco
     ((rest : Body) → runs sc here (stmt_front s rest) k ≡ goes_on r j (λ m. runs sc next rest m)) → r ≡ Ok f → f ≡ Went →
     all ≡ runs sc next (body_tree (drop (i + 1) ss)) j
 going_on sc ss i s all here next k j r f l g h m o w =
-    let e : runs sc here (body_tree (drop i ss)) k ≡ runs sc here (stmt_front s (body_tree (drop (i + 1) ss))) k = ap (λ b. runs sc here b k) (next_body ss i s l g) in
+    let e : runs sc here (body_tree (drop i ss)) k ≡ runs sc here (stmt_front s (body_tree (drop (i + 1) ss))) k =
+    ap (λ b. runs sc here b k) (next_body ss i s l g) in
     let t : goes_on r j (λ m. runs sc next (body_tree (drop (i + 1) ss)) m) ≡ runs sc next (body_tree (drop (i + 1) ss)) j = rw (o, w) refl in
     h ∙ e ∙ m (body_tree (drop (i + 1) ss)) ∙ t
 
@@ -80,7 +87,7 @@ pub left_on : (need : Body → ℕ) (ss : List CStmt) (i : ℕ) (s : CStmt) (a b
     a + need (body_tree (drop i ss)) ≤ all → ((rest : Body) → b + need rest ≤ a + need (stmt_front s rest)) → b + need (body_tree (drop (i + 1) ss)) ≤ all
 left_on need ss i s a b all l g h r = omega (arith, h, r (body_tree (drop (i + 1) ss)), ap need (next_body ss i s l g))
 
--- what was there is all that is left
+-- only what was there remains
 pub left_same : (old at new : CScratch) (n m : ℕ) → n ≡ length old.slots.items → m ≡ length old.names.items → IsFront old at → new.base ≡ at.base →
     new.slots.items ≡ take n at.slots.items → new.names.items ≡ take m at.names.items → IsSame old new
 left_same old at new n m e f p b s t = record {
@@ -89,7 +96,7 @@ left_same old at new n m e f p b s t = record {
   names_same = t ∙ ap (λ i. take i at.names.items) f ∙ p.names_front;
 }
 
--- the same declarations are a front
+-- the same declarations are a prefix
 pub same_front : (old new : CScratch) → IsSame old new → IsFront old new
 same_front old new p = record {
   base_front = p.base_same;
@@ -97,6 +104,7 @@ same_front old new p = record {
   names_front = ap (λ ys. take (length old.names.items) ys) p.names_same ∙ take_all (length old.names.items) old.names.items (omega arith);
 }
 
--- behind the last statement
-pub went_all : (sc : Scene) (ss : List CStmt) (i : ℕ) (all : Outcome) (here : List Seen) (k : Counts) → length ss ≤ i → all ≡ runs sc here (body_tree (drop i ss)) k → all ≡ m.Went k
+-- after the last statement
+pub went_all : (sc : Scene) (ss : List CStmt) (i : ℕ) (all : Outcome) (here : List Seen) (k : Counts) → length ss ≤ i
+    → all ≡ runs sc here (body_tree (drop i ss)) k → all ≡ m.Went k
 went_all sc ss i all here k l h = h ∙ ap (λ b. runs sc here (body_tree b) k) (drop_all i ss l)

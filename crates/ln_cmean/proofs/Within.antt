@@ -1,4 +1,4 @@
--- A number that an expression gives is one of its type.
+-- Proves that the value of an expression is a number of its type.
 use Rattle.std.proofs.Common.{◌≡◌, Bool, true, false, List, None, refl, sym, subst, pos}
 use Rattle.std.proofs.lemmas.Bool.{true≢false}
 use Rattle.std.specs.Prelude.{ℤ, ⊤, if◌then◌else◌, ◌+ℤ◌, ◌-ℤ◌, ◌*ℤ◌, neg_ℤ, int_div, int_lt, not, slice_get}
@@ -7,9 +7,10 @@ use Rattle.ln_csyn.specs.declared.tree.CType.TheVariants.{Int, Int64, Int128}
 use Rattle.ln_csyn.specs.declared.tree.COp.{COp}
 use Rattle.ln_csyn.specs.declared.tree.COp.TheVariants.{Add, Sub, Mul, Div, Less, More, Same, Differ}
 use Rattle.ln_csyn.specs.Tree.{Expr, Number, Name, Value, Index, Call, Inner, Minus, Two}
-use Rattle.ln_csyn.specs.Meaning.{Counts, Answer, Gives, Fails, has, is_same, given, cast, then_with, counted, number_of_bool, same_number, is_zero, operated, negated, Seen, find, number_in, index_at, Scene, entered, value_of}
+use Rattle.ln_csyn.specs.Meaning.{Counts, Answer, Gives, Fails, has, is_same, given, cast, then_with, counted, number_of_bool, same_number}
+use Rattle.ln_csyn.specs.Meaning.{is_zero, operated, negated, Seen, find, number_in, index_at, Scene, entered, value_of}
 
--- an answer's number is one of its type
+-- the number of a result is one of its type
 abbrev pub IsWithin : Answer → Type 0
 IsWithin (Gives t z k) = has t z ≡ true
 IsWithin (Fails o) = ⊤

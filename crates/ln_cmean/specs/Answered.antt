@@ -1,4 +1,4 @@
--- What the code answers, as the meaning has it.
+-- States what the code returns in terms of the meaning.
 use Rattle.std.specs.Prelude.{ℕ, Option, Some, None, Result, Ok, Err, ℤ}
 use Rattle.ln_cmean.specs.declared.number.Counts.{Counts}
 use Rattle.ln_cmean.specs.declared.number.Number.{Number}
@@ -21,7 +21,7 @@ abbrev pub fault_line : Fault → Option ℕ
 fault_line Here = None
 fault_line (At l) = Some l
 
--- what an expression gives, with these counts behind it
+-- what an expression evaluates to, with the counts after it
 abbrev pub answered : Result Number Fault → m.Counts → Answer
 answered (Ok n) k = Gives n.kind n.number k
 answered (Err e) k = Fails (fault_line e)
@@ -31,17 +31,17 @@ abbrev pub goes_with : Result ℤ ℕ → m.Counts → (ℤ → m.Counts → Out
 goes_with (Ok z) k go = go z k
 goes_with (Err l) k go = Wrong l
 
--- goes on behind a statement that doesn't return
+-- goes on after a statement that doesn't return
 abbrev pub goes_on : Result Flow ℕ → m.Counts → (m.Counts → Outcome) → Outcome
 goes_on (Ok Went) k go = go k
 goes_on (Ok (Said z)) k go = m.Said z k
 goes_on (Err l) k go = Wrong l
 
--- what a body does, with these counts behind it
+-- what a body does, with the counts after it
 abbrev pub ended : Result Flow ℕ → m.Counts → Outcome
 ended r k = goes_on r k m.Went
 
--- the meaning that an answer of `call` tells
+-- the meaning that a result of `call` stands for
 abbrev pub told : Result CAnswer CFault → Option CMeaning
 told (Ok a) = Some (Signed a.sign (record { wide = a.wide; calls = a.calls }))
 told (Err NoFunction) = None

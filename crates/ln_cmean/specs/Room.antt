@@ -1,14 +1,15 @@
--- What a scratch has room for, and what a call leaves of it.
+-- Defines what a scratch has room for, and what a call leaves of it.
 use Rattle.std.specs.Prelude.{◌≡◌, ℕ, ◌+◌, ◌≤◌, max, List, [], ◌∷◌, length, take, vec_capacity}
 use Rattle.ln_csyn.specs.Tree.{Body, End, Decl, Group, If, Return, Fun}
 use Rattle.ln_cmean.specs.declared.scratch.CScratch.{CScratch}
 
--- room for so many more declarations, with so many letters in their names
+-- room for this many more declarations, with this many letters in their names
 pub record HasRoom (s : CScratch) (slots letters : ℕ) : Type 0 where
   pub based : s.base ≤ length s.slots.items
   pub slots_fit : length s.slots.items + slots ≤ vec_capacity s.slots
   pub letters_fit : length s.names.items + letters ≤ vec_capacity s.names
 
+-- the new scratch has room for no fewer declarations and letters than the old one
 pub record IsNoSmaller (old new : CScratch) : Type 0 where
   pub slots_stay : vec_capacity old.slots ≤ vec_capacity new.slots
   pub names_stay : vec_capacity old.names ≤ vec_capacity new.names
@@ -19,7 +20,7 @@ pub record IsSame (old new : CScratch) : Type 0 where
   pub slots_same : new.slots.items ≡ old.slots.items
   pub names_same : new.names.items ≡ old.names.items
 
--- what was there stands below what is there
+-- what was there is a prefix of what is there
 pub record IsFront (old new : CScratch) : Type 0 where
   pub base_front : new.base ≡ old.base
   pub slots_front : take (length old.slots.items) new.slots.items ≡ old.slots.items
@@ -46,6 +47,7 @@ abbrev pub most_slots : List Fun → ℕ
 most_slots [] = 0
 most_slots (f ∷ fs) = max (slots_in f.body) (most_slots fs)
 
+-- the most letters that the names in a function of these need
 abbrev pub most_letters : List Fun → ℕ
 most_letters [] = 0
 most_letters (f ∷ fs) = max (letters_in f.body) (most_letters fs)

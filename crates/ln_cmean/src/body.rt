@@ -1,4 +1,4 @@
-//! What the statements of a body do.
+//! The run of the statements of a body.
 ghost use Rattle.std.specs.Prelude.{◌≡◌, ◌+◌, ◌≤◌, OnOk, IfOk, true, length, ℤ};
 ghost use Rattle.ln_csyn.specs.Meaning.{runs, line_of, wanted, value_of, has, Outcome};
 ghost use Rattle.ln_csyn.specs.Meaning as m;
@@ -15,7 +15,7 @@ use crate::number::{Counts, Fault, same_kind};
 use crate::scratch::{CScratch, Slot, leave, open, settle};
 use ln_csyn::{CExpr, CForm, CStmt, CType};
 
-/// Where statements lead: on, or out with an answer.
+/// Where statements lead: to the next one, or out with a result.
 #[derive(Clone, Copy)]
 pub enum Flow {
     Went,
@@ -98,7 +98,7 @@ fn declare<C: Calls>(
     }
 }
 
-/// What statements do from the first on. The declarations that they make are left behind.
+/// Runs statements from the first on. The declarations that they make remain.
 #[cycle(run)]
 pub fn run<C: Calls>(
     calls: &C,
@@ -129,7 +129,7 @@ pub fn run<C: Calls>(
     Ok(Flow::Went)
 }
 
-// The answer of a `return`, whose number is an `int`.
+// The result of a `return`, whose number is an `int`.
 fn said(number: i128) -> Flow
     requires { has CType.Int number ≡ true }
     ensures { result ≡ Flow.Said number }

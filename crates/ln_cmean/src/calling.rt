@@ -14,7 +14,7 @@ use crate::number::{Counts, Fault, Number};
 use crate::scratch::{CScratch, is_named, leave};
 use ln_csyn::{CFile, CFun, CType};
 
-/// What a call gives: its sign, how many `+`, `-`, `*`, `/` and unary `-` were evaluated in `__int128`, and how many functions the called
+/// The result of a call: its sign, how many `+`, `-`, `*`, `/` and unary `-` were evaluated in `__int128`, and how many functions the called
 /// one called. Both counts stay at 4,294,967,295 once there.
 #[derive(Clone, Copy, PartialEq, Eq)]
 pub struct CAnswer {
@@ -23,7 +23,7 @@ pub struct CAnswer {
     pub calls: u32,
 }
 
-/// Why a call gives nothing.
+/// Why a call has no result.
 #[derive(Clone, Copy, PartialEq, Eq)]
 pub enum CFault {
     /// No function with two parameters has the name.
@@ -33,13 +33,13 @@ pub enum CFault {
     Undefined(u32),
 }
 
-/// The functions that stand before one.
+/// The functions before one.
 #[derive(Clone, Copy)]
 pub struct Earlier<'a> {
     pub funs: &'a [CFun],
 }
 
-// What a function gives whose last brace stands on this line.
+// Returns the result of a function whose last brace is on this line.
 fn answer_at(end: u32, ended: Result<Flow, u32>) -> Result<Number, Fault>
     ensures { (k : m.Counts) → answered result k ≡ answer_of end (ended_as ended k) }
 {
@@ -186,8 +186,8 @@ fn call_in(
     Err(CFault::NoFunction)
 }
 
-/// What a call of the file's function with two parameters and this name gives, on these indices and values: the meaning of the call, or the
-/// first statement at which it has none, or that there is no such function. It takes no memory; the scratch has to be made for
+/// Returns the meaning of a call of the file's function with two parameters and this name on these indices and values, or the first
+/// statement at which it has none, or that there is no such function. Allocates nothing; the scratch has to be made for
 /// the file, and stays so.
 pub fn call(
     f: &CFile,

@@ -1,4 +1,4 @@
-//! What a function can call.
+//! The functions that a function can call.
 ghost use Rattle.std.specs.Prelude.{◌≡◌, ℕ, List, ℤ, OnOk};
 ghost use Rattle.ln_csyn.specs.Meaning.{Answer, Fails};
 ghost use Rattle.ln_cmean.specs.Answered.{answered, tally};
@@ -17,7 +17,7 @@ pub trait Calls {
 
     ghost letters: { Self → ℕ };
 
-    /// What the function of the name gives on these values.
+    /// Calls the function of this name on these values.
     fn call(
         &self,
         values: &[i64],

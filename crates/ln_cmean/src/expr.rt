@@ -13,7 +13,7 @@ use crate::number::{Counts, Fault, Number, enter, in_type, negate, operate, same
 use crate::scratch::{CScratch, look_up};
 use ln_csyn::{CExpr, CPrim, CType};
 
-/// What a function is called with: the values, and the indices where it has the parameter `x`.
+/// The arguments of a function: the values, and the indices where it has the parameter `x`.
 #[derive(Clone, Copy)]
 pub struct Inputs<'a> {
     pub values: &'a [i64],

@@ -1,6 +1,6 @@
 //! The meaning of a C file of the subset, run: an evaluator over declarations in memory that was made beforehand.
 //!
-//! `CScratch::new` makes that memory for a file and is the one call that takes any. `call` answers exactly what `CCall` of ln_csyn says
+//! `CScratch::new` allocates that memory for a file; no other call allocates. `call` returns exactly what `CCall` of ln_csyn says
 //! of a function with two parameters: its sign, how many operations were done in `__int128` and how many functions were called; or
 //! that no such function has the name; or the line at which the call has no meaning. It recurses into expressions and braces alone,
 //! which the subset limits to 16 parentheses and 64 braces, and once into a function that is called.

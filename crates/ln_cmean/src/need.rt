@@ -1,4 +1,4 @@
-//! What the functions of a file need of a scratch.
+//! The need of the functions of a file for a scratch.
 ghost use Rattle.std.specs.Prelude.{◌≡◌, ◌+◌, max, map, IfOk};
 ghost use Rattle.ln_csyn.specs.Tree.{Body};
 ghost use Rattle.ln_csyn.specs.View.{body_tree, fun_tree, stmt_front};
@@ -55,7 +55,7 @@ fn need_of(stmts: &[CStmt]) -> Result<Need, NoMemory>
     Ok(need)
 }
 
-// What a statement needs, together with those behind it.
+// Returns the need of a statement, together with those after it.
 #[cycle(need)]
 fn need_with(stmt: &CStmt, behind: Need) -> Result<Need, NoMemory>
     ensures { IfOk result (λ n. (rest : Body) → behind ≡ record { slots = slots_in rest; letters = letters_in rest } →

@@ -121,7 +121,7 @@ fn opposite(kind: CType, x: i128) -> Result<Number, Fault>
     }
 }
 
-// The `int` that a comparison gives.
+// Returns the `int` of a comparison.
 fn flag(is: bool) -> Result<Number, Fault>
     ensures { (k : m.Counts) → answered result k ≡ Gives CType.Int (number_of_bool is) k }
 {

@@ -17,7 +17,7 @@ pub struct Slot {
     pub number: Option<i128>,
 }
 
-/// Room for the declarations that a call makes visible, with their names one behind the other. Those below the base are the caller's.
+/// Room for the declarations that a call makes visible, with their names one after the other. Those below the base are the caller's.
 #[derive(Drop)]
 pub struct CScratch {
     pub(crate) base: usize,

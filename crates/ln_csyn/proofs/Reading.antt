@@ -1,4 +1,4 @@
--- What is derived is read, and what is read is derived.
+-- Proves that what is derived is read, and that what is read is derived.
 pub mod Complete
 pub mod CompleteFile
 pub mod Sound

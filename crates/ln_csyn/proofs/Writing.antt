@@ -1,4 +1,4 @@
--- What is written is the file, up to lines.
+-- Proves that what is written is the file, up to lines.
 pub mod Spells
 pub mod PutLemmas
 pub mod Writes

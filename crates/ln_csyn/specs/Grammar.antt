@@ -1,4 +1,4 @@
--- The grammar of files over tokens: what stands at the front of a list of tokens, and what is left behind it.
+-- Defines the grammar of files over tokens: what a list of tokens begins with, and the rest after it.
 use Rattle.std.specs.Prelude.{◌≡◌, ℕ, Bool, true, false, List, [], ◌∷◌, Some, codes}
 use Rattle.ln_csyn.specs.declared.tree.CType.{CType}
 use Rattle.ln_csyn.specs.declared.tree.COp.{COp}
@@ -10,7 +10,7 @@ pub record Token : Type 0 where
   pub text : List ℕ
   pub line : ℕ
 
--- an expression, or what a cast to this type stands before
+-- an expression, or the operand of a cast to this type
 pub data Sort : Type 0 where
   Whole : Sort
   Primary : CType → Sort
@@ -44,10 +44,11 @@ pub data Derives : Sort → List Token → List Token → Expr → Type 0 where
   inner : {ts rest : List Token} {t : CType} {e : Expr} →
       Derives Whole ts rest e → Derives (Primary t) ts rest (Inner t e)
 
+-- the tokens begin with this expression, and these remain after it
 abbrev pub IsExpr : List Token → List Token → Expr → Type 0
 IsExpr ts rest e = Derives Whole ts rest e
 
--- STMT* up to a closing brace, which is left
+-- STMT* up to a closing brace, which isn't taken
 -- STMT := TYPE NAME = EXPR ; | { STMT* } | if ( EXPR ) { STMT* } | return EXPR ;
 pub data IsBody : List Token → List Token → Body → Type 0 where
   end : {q : Token} {rest : List Token} → q.text ≡ codes "}" → IsBody (q ∷ rest) (q ∷ rest) End

@@ -1,4 +1,4 @@
--- What the laws of the text say.
+-- States the laws of the text.
 use Rattle.std.specs.Prelude.{◌≡◌, ◌≤◌, ◌<◌, ℕ, suc, true, ◌&&◌, [], List, ℤ, Some, length}
 use Rattle.ln_csyn.specs.Tree.{Expr, Body, Fun}
 use Rattle.ln_csyn.specs.Grammar.{Token, IsExpr, IsBody, IsFile}
@@ -67,7 +67,7 @@ WrittenIsFile = (fs : List Fun) → is_file fs ≡ true → CText (text_of fs) (
 abbrev pub LaidIsFile : Type 0
 LaidIsFile = (fs : List Fun) → is_file fs ≡ true → IsTextOf (laid_text fs) fs
 
--- in it a line ends behind each ; { and }
+-- in it a line ends after each ; { and }
 abbrev pub LaidEndsLines : Type 0
 LaidEndsLines = (fs : List Fun) → is_file fs ≡ true → lines_end (laid_text fs) ≡ true
 
@@ -76,7 +76,7 @@ abbrev pub FlatIsSame : Type 0
 FlatIsSame = (fs gs : List Fun) →
     (SameUpToLines fs gs → flat_file fs ≡ flat_file gs) × (flat_file fs ≡ flat_file gs → SameUpToLines fs gs)
 
--- a call says the same in files that are the same up to lines, where it says anything
+-- a call returns the same in files that are equal up to lines, where it returns anything
 abbrev pub LinesSayNothing : Type 0
 LinesSayNothing = (fs gs : List Fun) → SameUpToLines fs gs → (x : List ℕ) (index values : List ℤ) (z : ℤ) (k : Counts) →
     (CCall fs x index values ≡ Some (Signed z k) → CCall gs x index values ≡ Some (Signed z k))

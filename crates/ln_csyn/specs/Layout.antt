@@ -40,6 +40,7 @@ is_apart s b = fuses s.last b || (spaced_around s b || is_spaced s b)
 abbrev pub deeper : ℕ → ℕ
 deeper d = if nat_lt d 64 then suc d else d
 
+-- one open brace fewer, where there is one
 abbrev pub shallower : ℕ → ℕ
 shallower d = if d == 0 then d else d - 1
 
@@ -76,9 +77,11 @@ grown s b = record { last = b; depth = s.depth; first = s.first; tight = false; 
 abbrev pub ended : Spot → Spot
 ended s = record { last = s.last; depth = s.depth; first = s.first; tight = s.tight; over = true }
 
+-- after a byte: a blank ends a token, any other byte begins one or goes on with it
 abbrev pub next_spot : Spot → ℕ → Spot
 next_spot s b = if b == 32 then ended s else if s.over then begun s b else grown s b
 
+-- what is written for a byte, before a rest: nothing for a blank; the byte, with the gap before it where it begins a token
 abbrev pub put_at : Spot → ℕ → List ℕ → List ℕ
 put_at s b r = if b == 32 then r else if s.over then gap s b (b ∷ r) else b ∷ r
 

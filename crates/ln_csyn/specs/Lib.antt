@@ -1,4 +1,4 @@
--- What contracts and laws speak of.
+-- Declares what contracts and laws speak of.
 pub mod Tree
 pub mod View
 pub mod Meaning

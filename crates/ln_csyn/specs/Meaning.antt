@@ -1,4 +1,4 @@
--- What a call of a function of a C file means: its sign with two counts, or the line at which it has no meaning. Sources: C99 for the
+-- Defines what a call of a function of a C file means: its sign with two counts, or the line at which it has no meaning. Sources: C99 for the
 -- types, the order of declarations and `/`; the extension `__int128` of GCC and Clang; the subset's own narrower `int` and order
 -- of operands.
 use Rattle.std.specs.Prelude.{◌≡◌, ℕ, zero, ◌+◌, ◌^◌, ◌&&◌, Bool, true, false, not, List, [], ◌∷◌, ◌++◌, Option, Some, None}
@@ -29,20 +29,24 @@ abbrev pub has : CType → ℤ → Bool
 has t (pos n) = nat_lt n (room_up t)
 has t (negsuc n) = nat_lt n (room_down t)
 
+-- the two types are the same
 abbrev pub is_same : CType → CType → Bool
 is_same Int Int = true
 is_same Int64 Int64 = true
 is_same Int128 Int128 = true
 is_same t u = false
 
+-- the two truth values are the same
 abbrev pub same_bool : Bool → Bool → Bool
 same_bool true b = b
 same_bool false b = not b
 
+-- the type is `__int128`
 abbrev pub is_wide : CType → Bool
 is_wide Int128 = true
 is_wide t = false
 
+-- the type is `int`
 abbrev pub is_int : CType → Bool
 is_int Int = true
 is_int t = false
@@ -68,11 +72,12 @@ entered k = record { wide = k.wide; calls = next k.calls }
 
 -- ---- expressions
 
--- What an expression gives: a number of a type with the counts behind it, or no meaning, with the line where a called function has none.
+-- The result of an expression: a number of a type with the counts after it, or no meaning, with the line where a called function has none.
 pub data Answer : Type 0 where
   Gives : CType → ℤ → Counts → Answer
   Fails : Option ℕ → Answer
 
+-- goes on with the number, its type and the counts that were given; no meaning stays as it is
 abbrev pub then_with : Answer → (CType → ℤ → Counts → Answer) → Answer
 then_with (Gives t z k) go = go t z k
 then_with (Fails o) go = Fails o
@@ -85,20 +90,23 @@ given t z k = if has t z then Gives t z k else Fails None
 abbrev pub cast : CType → Answer → Answer
 cast t a = then_with a (λ u z k. given t z k)
 
+-- the number of a truth value: 1 or 0
 abbrev pub number_of_bool : Bool → ℤ
 number_of_bool b = if b then pos 1 else pos 0
 
+-- the two integers are equal
 abbrev pub same_number : ℤ → ℤ → Bool
 same_number (pos m) (pos n) = nat_eq m n
 same_number (negsuc m) (negsuc n) = nat_eq m n
 same_number a b = false
 
+-- the integer is 0
 abbrev pub is_zero : ℤ → Bool
 is_zero (pos zero) = true
 is_zero z = false
 
 -- An operation on two numbers of one type. The result of `+`, `-`, `*` and `/` has that type, and `/` truncates towards zero (C99 6.5.5); a
--- comparison gives the `int` 1 or 0 (C99 6.5.8) and is no counted operation.
+-- comparison has the `int` 1 or 0 (C99 6.5.8) and is no counted operation.
 abbrev pub operated : COp → CType → ℤ → ℤ → Counts → Answer
 operated Add t x y k = given t (x +ℤ y) (counted t k)
 operated Sub t x y k = given t (x -ℤ y) (counted t k)
@@ -126,6 +134,7 @@ same_name [] (b ∷ bs) = false
 same_name (a ∷ as') [] = false
 same_name (a ∷ as') (b ∷ bs) = nat_eq a b && same_name as' bs
 
+-- the number of this type, or no meaning where there is no number
 abbrev pub number_in : Option ℤ → CType → Counts → Answer
 number_in None t k = Fails None
 number_in (Some z) t k = Gives t z k
@@ -135,7 +144,7 @@ abbrev pub find : List Seen → List ℕ → Counts → Answer
 find [] x k = Fails None
 find (d ∷ ds) x k = if same_name d.name x then number_in d.number d.kind k else find ds x k
 
--- What a body can speak of besides its declarations: the values, the indices where the function has `x`, and the functions that
+-- The things that a body can speak of besides its declarations: the values, the indices where the function has `x`, and the functions that
 -- it can call.
 pub record Scene : Type 0 where
   pub values : List ℤ
@@ -178,6 +187,7 @@ abbrev pub wanted : ℕ → CType → Answer → (ℤ → Counts → Outcome) �
 wanted l t (Fails o) go = Wrong (line_of l o)
 wanted l t (Gives u z k) go = if is_same t u then go z k else Wrong l
 
+-- goes on with the counts after statements that neither return nor have a fault
 abbrev pub then_on : Outcome → (Counts → Outcome) → Outcome
 then_on (Went k) go = go k
 then_on (Said z k) go = Said z k
@@ -197,7 +207,7 @@ runs s ds (Return l e rest) k = wanted l Int (value_of s ds e k) Said
 
 -- ---- calls
 
--- what a function gives whose last brace stands on this line: to end without `return` has no meaning there
+-- what a function returns whose last brace is on this line: to end without `return` has no meaning there
 abbrev pub answer_of : ℕ → Outcome → Answer
 answer_of end (Went k) = Fails (Some end)
 answer_of end (Said z k) = Gives Int z k
@@ -216,12 +226,13 @@ called (f ∷ fs) values name k =
     then answer_of f.end (runs (record { values = values; index = None; call = λ g j. Fails None }) [] f.body k)
     else called fs values name k
 
--- What a call of a function with two parameters gives: a sign with the counts, or no meaning, with the line of the innermost statement in
+-- The result of a call of a function with two parameters: a sign with the counts, or no meaning, with the line of the innermost statement in
 -- which evaluation first fails.
 pub data CMeaning : Type 0 where
   Signed : ℤ → Counts → CMeaning
   Undefined : ℕ → CMeaning
 
+-- what a function with two parameters returns whose last brace is on this line: to end without `return` has no meaning
 abbrev pub called_at : ℕ → Outcome → CMeaning
 called_at end (Went k) = Undefined end
 called_at end (Said z k) = Signed z k
@@ -232,6 +243,7 @@ abbrev pub runs_behind : List Fun → Body → List ℤ → List ℤ → Outcome
 runs_behind before body index values =
     runs (record { values = values; index = Some index; call = called before values }) [] body (record { wide = 0; calls = 0 })
 
+-- the call of the first function with two parameters and this name, which may call all those before it; None where there is none
 abbrev pub called_behind : List Fun → List Fun → List ℕ → List ℤ → List ℤ → Option CMeaning
 called_behind before [] name index values = None
 called_behind before (f ∷ fs) name index values =

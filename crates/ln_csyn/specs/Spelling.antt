@@ -1,4 +1,4 @@
--- The tokens that are written for a file, each in front of a rest, and their text: one blank behind each.
+-- Defines the tokens that are written for a file, each before a rest, and their text: one blank after each.
 use Rattle.std.specs.Prelude.{◌≡◌, ℕ, Bool, true, false, List, [], ◌∷◌, ◌++◌, codes, decimal}
 use Rattle.std.specs.Prelude.{if◌then◌else◌, Option, Some, None, bytes_eq}
 use Rattle.ln_csyn.specs.declared.tree.CType.{CType}
@@ -9,11 +9,13 @@ use Rattle.ln_csyn.specs.Tree.{Expr, Number, Name, Value, Index, Call, Inner, Mi
 use Rattle.ln_csyn.specs.Grammar.{Token}
 use Rattle.ln_csyn.specs.Text.{first_line}
 
+-- the text of a type, as C writes it
 abbrev pub type_text : CType → List ℕ
 type_text Int = codes "int"
 type_text Int64 = codes "int64_t"
 type_text Int128 = codes "__int128"
 
+-- the text of an operation, as C writes it
 abbrev pub op_text : COp → List ℕ
 op_text op.Add = codes "+"
 op_text op.Sub = codes "-"
@@ -33,6 +35,7 @@ op_among text (o ∷ os) = if bytes_eq text (op_text o) then Some o else op_amon
 abbrev pub lexeme : List ℕ → Token
 lexeme text = record { text = text; line = 2 }
 
+-- the beginning of a cast to this type, `( ( TYPE )`, before a rest
 abbrev pub cast_before : CType → List Token → List Token
 cast_before t r = lexeme (codes "(") ∷ lexeme (codes "(") ∷ lexeme (type_text t) ∷ lexeme (codes ")") ∷ r
 
@@ -40,6 +43,7 @@ cast_before t r = lexeme (codes "(") ∷ lexeme (codes "(") ∷ lexeme (type_tex
 abbrev pub place_before : List ℕ → ℕ → List Token → List Token
 place_before x n r = lexeme x ∷ lexeme (codes "[") ∷ lexeme (decimal n) ∷ lexeme (codes "]") ∷ lexeme (codes ")") ∷ r
 
+-- the tokens of an expression, before a rest
 abbrev pub spell : Expr → List Token → List Token
 spell (Number t n) r = cast_before t (lexeme (decimal n) ∷ lexeme (codes ")") ∷ r)
 spell (Name t x) r = cast_before t (lexeme x ∷ lexeme (codes ")") ∷ r)
@@ -50,6 +54,7 @@ spell (Inner t e) r = cast_before t (spell e (lexeme (codes ")") ∷ r))
 spell (Minus e) r = lexeme (codes "(") ∷ lexeme (codes "-") ∷ spell e (lexeme (codes ")") ∷ r)
 spell (Two o a b) r = lexeme (codes "(") ∷ spell a (lexeme (op_text o) ∷ spell b (lexeme (codes ")") ∷ r))
 
+-- the tokens of a body without its own braces, before a rest
 abbrev pub spell_body : Body → List Token → List Token
 spell_body End r = r
 spell_body (Decl l t x e b) r = lexeme (type_text t) ∷ lexeme x ∷ lexeme (codes "=") ∷ spell e (lexeme (codes ";") ∷ spell_body b r)
@@ -59,31 +64,37 @@ spell_body (If l e a b) r =
     ∷ spell e (lexeme (codes ")") ∷ lexeme (codes "{") ∷ spell_body a (lexeme (codes "}") ∷ spell_body b r))
 spell_body (Return l e b) r = lexeme (codes "return") ∷ spell e (lexeme (codes ";") ∷ spell_body b r)
 
+-- the parameter of this name, `const int64_t * NAME`, before a rest
 abbrev pub spell_pointer : List ℕ → List Token → List Token
 spell_pointer x r = lexeme (codes "const") ∷ lexeme (codes "int64_t") ∷ lexeme (codes "*") ∷ lexeme x ∷ r
 
+-- the parameters of a function, x and v or v alone, before a rest
 abbrev pub spell_parameters : Bool → List Token → List Token
 spell_parameters false r = spell_pointer (codes "v") r
 spell_parameters true r = spell_pointer (codes "x") (lexeme (codes ",") ∷ spell_pointer (codes "v") r)
 
+-- the word `static` where the function is static, before a rest
 abbrev pub spell_own : Bool → List Token → List Token
 spell_own false r = r
 spell_own true r = lexeme (codes "static") ∷ r
 
+-- the tokens of a function, before a rest
 abbrev pub spell_fun : Fun → List Token → List Token
 spell_fun f r =
     spell_own f.own (lexeme (codes "int") ∷ lexeme f.name ∷ lexeme (codes "(")
     ∷ spell_parameters f.indexed (lexeme (codes ")") ∷ lexeme (codes "{") ∷ spell_body f.body (lexeme (codes "}") ∷ r)))
 
+-- the tokens of all functions of a file, in order
 abbrev pub spell_file : List Fun → List Token
 spell_file [] = []
 spell_file (f ∷ fs) = spell_fun f (spell_file fs)
 
--- each token, and a blank behind it; a line feed at the end
+-- each token, and a blank after it; a line feed at the end
 abbrev pub written : List Token → List ℕ
 written [] = 10 ∷ []
 written (t ∷ ts) = t.text ++ 32 ∷ written ts
 
+-- the text of a file: its first line, and the tokens of its functions on one more
 abbrev pub text_of : List Fun → List ℕ
 text_of fs = first_line ++ written (spell_file fs)
 
@@ -95,17 +106,19 @@ flat (Group l a b) = Group 2 (flat a) (flat b)
 flat (If l e a b) = If 2 e (flat a) (flat b)
 flat (Return l e b) = Return 2 e (flat b)
 
+-- the function with all lines at 2
 abbrev pub flat_fun : Fun → Fun
 flat_fun f = record { own = f.own; name = f.name; indexed = f.indexed; body = flat f.body; end = 2 }
 
+-- the functions of a file with all lines at 2
 abbrev pub flat_file : List Fun → List Fun
 flat_file [] = []
 flat_file (f ∷ fs) = flat_fun f ∷ flat_file fs
 
--- what was out and what is out now, each followed by what a rest spells: between them these tokens were put
+-- what was out and what is out now, each followed by what a rest spells: between them these tokens were appended
 pub record Puts (old new : List ℕ) (f : List Token → List Token) : Type 0 where
   pub is : (r : List Token) → new ++ written r ≡ old ++ written (f r)
 
--- what is out, followed by what the rest spells, is constant: f of a rest is still to be put, where g of it was
+-- what is out, followed by what the rest spells, is constant: f of a rest is still to be appended, where g of it was
 pub record Goes (old new : List ℕ) (f g : List Token → List Token) : Type 0 where
   pub is : (r : List Token) → new ++ written (f r) ≡ old ++ written (g r)

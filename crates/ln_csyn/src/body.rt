@@ -13,7 +13,7 @@ use crate::tree::{CExpr, CForm, CStmt, CType};
 use ln_base::Seq;
 use std::alloc::Global;
 
-/// How many parentheses may stand round a place: in a declaration, and within those of an if.
+/// How many parentheses are allowed round a place: in a declaration, and within those of an if.
 #[derive(Clone, Copy)]
 pub struct Depths {
     pub outer: u32,
@@ -161,7 +161,7 @@ fn stmts<'t, 'a>(
     }
 }
 
-/// The statements of the pair of braces at the front, the line of the second brace, and what is behind it.
+/// Returns the statements of the pair of braces at the beginning, the line of the second brace, and what is after it.
 #[cycle(stmt)]
 pub fn block<'t, 'a>(
     alloc: Global,

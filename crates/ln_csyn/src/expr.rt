@@ -222,7 +222,7 @@ fn inside<'t, 'a>(
     two_rest(alloc, tokens, depth)
 }
 
-/// The expression at the front, and what is behind the token of this text that stands behind it.
+/// Returns the expression at the beginning, and what is after the token of this text that follows it.
 #[cycle(expr)]
 pub fn closed<'t, 'a>(
     alloc: Global,
@@ -240,7 +240,7 @@ pub fn closed<'t, 'a>(
     }
 }
 
-/// The expression at the front, and what is behind it.
+/// Returns the expression at the beginning, and what is after it.
 #[cycle(expr)]
 pub fn expr<'t, 'a>(
     alloc: Global,

@@ -54,7 +54,7 @@ fn parameters_at<'t, 'a>(tokens: &'t [Token<'a>]) -> Option<(bool, &'t [Token<'a
     both_rest(rest)
 }
 
-// What stands before a body: the name, and whether there is the parameter `x`.
+// Returns the words before a body: the name, and whether there is the parameter `x`.
 fn words_at<'t, 'a>(tokens: &'t [Token<'a>]) -> Option<(&'a [u8], bool, &'t [Token<'a>])>
     ensures { option_map (λ y. (y.0.now, y.1, tokens_of y.2.now)) result ≡ words_at (tokens_of tokens.now) }
 {

@@ -12,7 +12,7 @@ pub fn one_text()
 {}
 
 /// The file of a text keeps all conditions; each file that keeps them has a text with all tokens on line 2, and one
-/// that is laid out, in which a line ends behind each `;`, `{` and `}`.
+/// that is laid out, in which a line ends after each `;`, `{` and `}`.
 pub fn files_have_texts()
     ensures kept { TextIsKept }
     ensures derived { SpelledIsDerived }
@@ -29,14 +29,14 @@ pub fn lines_alone()
     ensures back { ReadBack }
 {}
 
-/// What the grammar derives within the limits is read.
+/// A text that the grammar derives within the limits is read.
 pub fn read_is_complete()
     ensures expr { ReadIsComplete }
     ensures body { BodyIsComplete }
     ensures file { FileIsComplete }
 {}
 
-/// What is read is derived, within the limits.
+/// A text that is read is derived, within the limits.
 pub fn read_is_sound()
     ensures expr { ReadIsSound }
     ensures file { FileIsSound }

@@ -1,7 +1,6 @@
 //! Lays a function out: a statement a line, indented by its braces, an empty line before the function, and no blank where two tokens
 //! need none.
-ghost use Rattle.std.specs.Prelude.{◌≡◌, ◌==◌, ◌++◌, ◌∷◌, ◌≤◌, [], List, ℕ, IfOk};
-ghost use Rattle.ln_base.specs.Words.{is_name_byte};
+ghost use Rattle.std.specs.Prelude.{◌≡◌, ◌==◌, ◌++◌, ◌∷◌, [], List, ℕ, IfOk};
 ghost use Rattle.ln_csyn.specs.Layout.{begun, deeper, ends_line, fuses, grown, indent, is_operator, is_tight, laid_at, next_spot, put_at, gap};
 ghost use Rattle.ln_csyn.specs.Layout.{Lays, gap_depth, is_apart, is_spaced, spaced_around, start, turned, shallower};
 ghost use Rattle.ln_csyn.specs.Spelling.{Puts, spell_fun};
@@ -10,7 +9,7 @@ ghost use Rattle.ln_csyn.specs.Tree.{Fun};
 use ln_base::NoMemory;
 use ln_base::word::name_byte;
 
-/// What the layout knows of the bytes before a place: the last one, how many braces are open, whether the last token began a line,
+/// The facts that the layout knows of the bytes before a place: the last one, how many braces are open, whether the last token began a line,
 /// whether it is a sign that clings to what follows, and whether the token is over.
 #[derive(Clone, Copy)]
 pub struct Spot {
@@ -121,7 +120,7 @@ fn put_indent(out: &mut Vec<u8>, depth: u8) -> Result<(), NoMemory>
     Ok(())
 }
 
-// Writes what stands before a token: a new line, a blank or nothing.
+// Writes what comes before a token: a new line, a blank or nothing.
 fn put_gap(out: &mut Vec<u8>, spot: Spot, b: u8) -> Result<(), NoMemory>
     ensures { IfOk result (λ x. (r : List ℕ) → out.new.items ++ r ≡ out.old.items ++ gap spot b r) }
 {

@@ -1,8 +1,8 @@
 //! The C subset: its trees, its text both ways, and what a call of one of its functions means (`specs/Meaning.antt`).
 //!
 //! `CText bytes file` says that the bytes are this file: the grammar with all side conditions, as a relation (`specs/Text.antt`,
-//! `specs/Grammar.antt`, `specs/Keeps.antt`). `read_c` answers it both ways: the file of the bytes, and `NotSubset` exactly where they
-//! are no file. `write_c` gives a text of a file, up to lines, laid out (`specs/Layout.antt`). By `laws::one_text` no bytes have two
+//! `specs/Grammar.antt`, `specs/Keeps.antt`). `read_c` decides it: it returns the file of the bytes, and `NotSubset` exactly where they are no file.
+//! `write_c` returns a text of a file, up to lines, laid out (`specs/Layout.antt`). By `laws::one_text` no bytes have two
 //! files. The type `CFile` keeps all conditions.
 #![tactic(auto)]
 

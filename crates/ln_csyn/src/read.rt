@@ -1,4 +1,4 @@
-//! The reader of files.
+//! Reads the file of the subset that bytes are, and refuses all other bytes.
 ghost use Rattle.std.specs.Prelude.{◌≡◌, ℕ, true, ◌<◌, ◌^◌, ◌++◌, List, IfOk, IfErr, IfSome, IfNone, length, map};
 ghost use Rattle.ln_csyn.specs.Tree.{Fun};
 ghost use Rattle.ln_csyn.specs.Seen.{tokens_of};

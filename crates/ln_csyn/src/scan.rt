@@ -1,4 +1,4 @@
-//! The scanner.
+//! Splits the bytes after the first line of a file into tokens, each with the line that it begins on.
 ghost use Rattle.std.specs.Prelude.{◌≡◌, ◌<◌, ◌≤◌, ◌^◌, ◌-◌, ◌+◌, List, IfOk, IfErr, length, take, drop};
 ghost use Rattle.ln_base.specs.Words.{is_digit, is_name_byte};
 ghost use Rattle.ln_csyn.specs.Grammar.{Token as Tok};
@@ -88,7 +88,7 @@ fn sign_len(b: u8, rest: &[u8]) -> usize
     }
 }
 
-// How many bytes the token at the front has; 0 where there is none.
+// How many bytes the first token has; 0 where there is none.
 fn first_len(bytes: &[u8]) -> usize
     requires { length bytes.now < 2 ^ 32 }
     ensures len { result ≡ first_len bytes.now }
@@ -108,7 +108,7 @@ fn first_len(bytes: &[u8]) -> usize
     }
 }
 
-// The line behind a byte.
+// The line after a byte.
 fn behind(b: u8, line: u32) -> u32
     requires { line < 2 ^ 32 - 1 }
     ensures { result ≡ behind b line }
@@ -132,7 +132,7 @@ pub fn front(bytes: &[u8], n: usize) -> &[u8]
     &bytes[..n]
 }
 
-/// The tokens of the bytes behind the first line.
+/// Returns the tokens of the bytes after the first line.
 pub fn tokens<'a>(alloc: Global, bytes: &'a [u8]) -> Result<Vec<Token<'a>>, CStop>
     requires { length bytes.now < 2 ^ 32 - 4 }
     ensures ok { IfOk result (λ ts. Lexed 2 bytes.now (tokens_of ts.items)) }

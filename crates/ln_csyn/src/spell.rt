@@ -1,5 +1,5 @@
-//! Tokens put to a text, each with a blank behind it. The writer puts a file from its tree with them, and whoever has no tree may put
-//! tokens one by one: the contracts say which tokens stand between the old text and the new one.
+//! Appends tokens to a text, each with a blank after it. The writer appends a file from its tree with these functions, and a caller without a tree
+//! may append tokens one by one: by the contracts these tokens are between the old text and the new one.
 ghost use Rattle.std.specs.Prelude.{◌∷◌, IfOk, decimal, codes};
 ghost use Rattle.ln_csyn.specs.Spelling.{Puts, lexeme, type_text, op_text};
 
@@ -8,7 +8,7 @@ use crate::word::op_word;
 use itoa::Buffer;
 use ln_base::NoMemory;
 
-/// Puts a token and a blank.
+/// Appends a token and a blank.
 pub fn put(out: &mut Vec<u8>, text: &[u8]) -> Result<(), NoMemory>
     ensures { IfOk result (λ x. Puts out.old.items out.new.items (λ r. lexeme text.now ∷ r)) }
 {
@@ -17,7 +17,7 @@ pub fn put(out: &mut Vec<u8>, text: &[u8]) -> Result<(), NoMemory>
     Ok(())
 }
 
-/// Puts a NUMBER.
+/// Appends a NUMBER.
 pub fn put_number(out: &mut Vec<u8>, n: u64) -> Result<(), NoMemory>
     ensures { IfOk result (λ x. Puts out.old.items out.new.items (λ r. lexeme (decimal n) ∷ r)) }
 {
@@ -25,7 +25,7 @@ pub fn put_number(out: &mut Vec<u8>, n: u64) -> Result<(), NoMemory>
     put(out, buffer.format(n).as_bytes())
 }
 
-/// Puts a type.
+/// Appends a type.
 pub fn put_type(out: &mut Vec<u8>, kind: CType) -> Result<(), NoMemory>
     ensures { IfOk result (λ x. Puts out.old.items out.new.items (λ r. lexeme (type_text kind) ∷ r)) }
 {
@@ -36,126 +36,126 @@ pub fn put_type(out: &mut Vec<u8>, kind: CType) -> Result<(), NoMemory>
     }
 }
 
-/// Puts an operation.
+/// Appends an operation.
 pub fn put_op(out: &mut Vec<u8>, op: COp) -> Result<(), NoMemory>
     ensures { IfOk result (λ x. Puts out.old.items out.new.items (λ r. lexeme (op_text op) ∷ r)) }
 {
     put(out, op_word(op))
 }
 
-/// Puts `(`.
+/// Appends `(`.
 pub fn left(out: &mut Vec<u8>) -> Result<(), NoMemory>
     ensures { IfOk result (λ x. Puts out.old.items out.new.items (λ r. lexeme (codes "(") ∷ r)) }
 {
     put(out, b"(".as_slice())
 }
 
-/// Puts `)`.
+/// Appends `)`.
 pub fn right(out: &mut Vec<u8>) -> Result<(), NoMemory>
     ensures { IfOk result (λ x. Puts out.old.items out.new.items (λ r. lexeme (codes ")") ∷ r)) }
 {
     put(out, b")".as_slice())
 }
 
-/// Puts `-`.
+/// Appends `-`.
 pub fn dash(out: &mut Vec<u8>) -> Result<(), NoMemory>
     ensures { IfOk result (λ x. Puts out.old.items out.new.items (λ r. lexeme (codes "-") ∷ r)) }
 {
     put(out, b"-".as_slice())
 }
 
-/// Puts `=`.
+/// Appends `=`.
 pub fn equals(out: &mut Vec<u8>) -> Result<(), NoMemory>
     ensures { IfOk result (λ x. Puts out.old.items out.new.items (λ r. lexeme (codes "=") ∷ r)) }
 {
     put(out, b"=".as_slice())
 }
 
-/// Puts `*`.
+/// Appends `*`.
 pub fn star(out: &mut Vec<u8>) -> Result<(), NoMemory>
     ensures { IfOk result (λ x. Puts out.old.items out.new.items (λ r. lexeme (codes "*") ∷ r)) }
 {
     put(out, b"*".as_slice())
 }
 
-/// Puts `,`.
+/// Appends `,`.
 pub fn comma(out: &mut Vec<u8>) -> Result<(), NoMemory>
     ensures { IfOk result (λ x. Puts out.old.items out.new.items (λ r. lexeme (codes ",") ∷ r)) }
 {
     put(out, b",".as_slice())
 }
 
-/// Puts `;`.
+/// Appends `;`.
 pub fn semi(out: &mut Vec<u8>) -> Result<(), NoMemory>
     ensures { IfOk result (λ x. Puts out.old.items out.new.items (λ r. lexeme (codes ";") ∷ r)) }
 {
     put(out, b";".as_slice())
 }
 
-/// Puts `[`.
+/// Appends `[`.
 pub fn square_left(out: &mut Vec<u8>) -> Result<(), NoMemory>
     ensures { IfOk result (λ x. Puts out.old.items out.new.items (λ r. lexeme (codes "[") ∷ r)) }
 {
     put(out, b"[".as_slice())
 }
 
-/// Puts `]`.
+/// Appends `]`.
 pub fn square_right(out: &mut Vec<u8>) -> Result<(), NoMemory>
     ensures { IfOk result (λ x. Puts out.old.items out.new.items (λ r. lexeme (codes "]") ∷ r)) }
 {
     put(out, b"]".as_slice())
 }
 
-/// Puts `{`.
+/// Appends `{`.
 pub fn brace_left(out: &mut Vec<u8>) -> Result<(), NoMemory>
     ensures { IfOk result (λ x. Puts out.old.items out.new.items (λ r. lexeme (codes "{") ∷ r)) }
 {
     put(out, b"{".as_slice())
 }
 
-/// Puts `}`.
+/// Appends `}`.
 pub fn brace_right(out: &mut Vec<u8>) -> Result<(), NoMemory>
     ensures { IfOk result (λ x. Puts out.old.items out.new.items (λ r. lexeme (codes "}") ∷ r)) }
 {
     put(out, b"}".as_slice())
 }
 
-/// Puts `v`.
+/// Appends `v`.
 pub fn values(out: &mut Vec<u8>) -> Result<(), NoMemory>
     ensures { IfOk result (λ x. Puts out.old.items out.new.items (λ r. lexeme (codes "v") ∷ r)) }
 {
     put(out, b"v".as_slice())
 }
 
-/// Puts `x`.
+/// Appends `x`.
 pub fn indices(out: &mut Vec<u8>) -> Result<(), NoMemory>
     ensures { IfOk result (λ x. Puts out.old.items out.new.items (λ r. lexeme (codes "x") ∷ r)) }
 {
     put(out, b"x".as_slice())
 }
 
-/// Puts `if`.
+/// Appends `if`.
 pub fn word_if(out: &mut Vec<u8>) -> Result<(), NoMemory>
     ensures { IfOk result (λ x. Puts out.old.items out.new.items (λ r. lexeme (codes "if") ∷ r)) }
 {
     put(out, b"if".as_slice())
 }
 
-/// Puts `return`.
+/// Appends `return`.
 pub fn word_return(out: &mut Vec<u8>) -> Result<(), NoMemory>
     ensures { IfOk result (λ x. Puts out.old.items out.new.items (λ r. lexeme (codes "return") ∷ r)) }
 {
     put(out, b"return".as_slice())
 }
 
-/// Puts `const`.
+/// Appends `const`.
 pub fn word_const(out: &mut Vec<u8>) -> Result<(), NoMemory>
     ensures { IfOk result (λ x. Puts out.old.items out.new.items (λ r. lexeme (codes "const") ∷ r)) }
 {
     put(out, b"const".as_slice())
 }
 
-/// Puts `static`.
+/// Appends `static`.
 pub fn word_static(out: &mut Vec<u8>) -> Result<(), NoMemory>
     ensures { IfOk result (λ x. Puts out.old.items out.new.items (λ r. lexeme (codes "static") ∷ r)) }
 {

@@ -1,4 +1,4 @@
-//! Tokens of the C subset, and what stands at the front of a list of them.
+//! Tokens of the C subset, and what a list of them begins with.
 ghost use Rattle.std.specs.Prelude.{◌≡◌, ◌≤◌, Option, option_map, length, drop};
 ghost use Rattle.ln_csyn.specs.Seen.{tokens_of};
 ghost use Rattle.ln_csyn.specs.Reading.{begins, eat, type_at, op_at, name_at, number_at, line_at};
@@ -13,7 +13,7 @@ pub struct Token<'a> {
     pub line: u32,
 }
 
-/// What is behind a token with this text.
+/// Returns what is after a token with this text.
 pub fn eat<'t, 'a>(tokens: &'t [Token<'a>], text: &[u8]) -> Option<&'t [Token<'a>]>
     ensures { option_map (λ r. tokens_of r.now) result ≡ eat text.now (tokens_of tokens.now) }
 {
@@ -23,7 +23,7 @@ pub fn eat<'t, 'a>(tokens: &'t [Token<'a>], text: &[u8]) -> Option<&'t [Token<'a
     }
 }
 
-/// The type at the front, and what is behind it.
+/// Returns the type at the beginning, and what is after it.
 pub fn type_at<'t, 'a>(tokens: &'t [Token<'a>]) -> Option<(CType, &'t [Token<'a>])>
     ensures { option_map (λ y. (y.0, tokens_of y.1.now)) result ≡ type_at (tokens_of tokens.now) }
 {
@@ -36,7 +36,7 @@ pub fn type_at<'t, 'a>(tokens: &'t [Token<'a>]) -> Option<(CType, &'t [Token<'a>
     }
 }
 
-/// The operation at the front, and what is behind it.
+/// Returns the operation at the beginning, and what is after it.
 pub fn op_at<'t, 'a>(tokens: &'t [Token<'a>]) -> Option<(COp, &'t [Token<'a>])>
     ensures { option_map (λ y. (y.0, tokens_of y.1.now)) result ≡ op_at (tokens_of tokens.now) }
 {
@@ -49,7 +49,7 @@ pub fn op_at<'t, 'a>(tokens: &'t [Token<'a>]) -> Option<(COp, &'t [Token<'a>])>
     }
 }
 
-/// The NUMBER at the front, and what is behind it.
+/// Returns the NUMBER at the beginning, and what is after it.
 pub fn number_at<'t, 'a>(tokens: &'t [Token<'a>]) -> Option<(u64, &'t [Token<'a>])>
     ensures { option_map (λ y. (y.0, tokens_of y.1.now)) result ≡ number_at (tokens_of tokens.now) }
 {
@@ -62,7 +62,7 @@ pub fn number_at<'t, 'a>(tokens: &'t [Token<'a>]) -> Option<(u64, &'t [Token<'a>
     }
 }
 
-/// The NAME at the front, and what is behind it.
+/// Returns the NAME at the beginning, and what is after it.
 pub fn name_at<'t, 'a>(tokens: &'t [Token<'a>]) -> Option<(&'a [u8], &'t [Token<'a>])>
     ensures { option_map (λ y. (y.0.now, tokens_of y.1.now)) result ≡ name_at (tokens_of tokens.now) }
 {
@@ -78,7 +78,7 @@ pub fn name_at<'t, 'a>(tokens: &'t [Token<'a>]) -> Option<(&'a [u8], &'t [Token<
     }
 }
 
-/// The line of the token at the front.
+/// Returns the line of the first token.
 pub fn line_at(tokens: &[Token<'_>]) -> u32
     ensures { result ≡ line_at (tokens_of tokens.now) }
 {
@@ -88,7 +88,7 @@ pub fn line_at(tokens: &[Token<'_>]) -> u32
     }
 }
 
-/// Whether a token with this text stands at the front.
+/// Returns whether the first token has this text.
 pub fn begins(tokens: &[Token<'_>], text: &[u8]) -> bool
     ensures { result ≡ begins text.now (tokens_of tokens.now) }
 {

@@ -1,5 +1,5 @@
 //! Writes a file: the tokens of one function after the other, each with a blank after it, which are then laid out.
-ghost use Rattle.std.specs.Prelude.{◌≡◌, true, false, ◌++◌, ◌∷◌, [], IfOk, List, codes, map};
+ghost use Rattle.std.specs.Prelude.{◌≡◌, true, false, ◌∷◌, [], IfOk, List, codes, map};
 ghost use Rattle.ln_csyn.specs.View.{expr_tree, stmt_front, body_tree, fun_tree};
 ghost use Rattle.ln_csyn.specs.Tree.{Body, Fun, Two, Minus, Number, Name, Value, Index, Call, Inner};
 ghost use Rattle.ln_csyn.specs.Spelling.{Puts, lexeme, type_text, op_text, cast_before, place_before, spell, Goes, spell_body};
@@ -96,7 +96,7 @@ fn put_both(out: &mut Vec<u8>) -> Result<(), NoMemory>
     values(out)
 }
 
-/// Puts `const int64_t *`.
+/// Appends `const int64_t *`.
 pub fn put_pointer(out: &mut Vec<u8>) -> Result<(), NoMemory>
     ensures { IfOk result (λ x. Puts out.old.items out.new.items (λ r. lexeme (codes "const") ∷ lexeme (codes "int64_t")
         ∷ lexeme (codes "*") ∷ r)) }
@@ -189,7 +189,7 @@ fn put_return(out: &mut Vec<u8>, e: &CExpr) -> Result<(), NoMemory>
     semi(out)
 }
 
-/// Puts an expression.
+/// Appends an expression.
 #[cycle(put)]
 pub fn put_expr(out: &mut Vec<u8>, e: &CExpr) -> Result<(), NoMemory>
     ensures { IfOk result (λ x. Puts out.old.items out.new.items (spell (expr_tree e.now))) }
@@ -210,7 +210,7 @@ pub fn put_expr(out: &mut Vec<u8>, e: &CExpr) -> Result<(), NoMemory>
     }
 }
 
-// The right operand and what stands round it.
+// Appends the right operand and what is round it.
 #[cycle(put)]
 fn put_right(out: &mut Vec<u8>, op: COp, b: &CExpr) -> Result<(), NoMemory>
     ensures { IfOk result (λ x. Puts out.old.items out.new.items (λ r. lexeme (op_text op) ∷ spell (expr_tree b.now)
@@ -240,7 +240,7 @@ fn put_inner(out: &mut Vec<u8>, kind: CType, e: &CExpr) -> Result<(), NoMemory>
     right(out)
 }
 
-/// Puts `((TYPE)`, the front of an expression that is a cast.
+/// Appends `((TYPE)`, the beginning of an expression that is a cast.
 pub fn put_cast(out: &mut Vec<u8>, kind: CType) -> Result<(), NoMemory>
     ensures { IfOk result (λ x. Puts out.old.items out.new.items (cast_before kind)) }
 {
@@ -250,7 +250,7 @@ pub fn put_cast(out: &mut Vec<u8>, kind: CType) -> Result<(), NoMemory>
     right(out)
 }
 
-/// Puts `((TYPE)NUMBER)`.
+/// Appends `((TYPE)NUMBER)`.
 pub fn put_constant(out: &mut Vec<u8>, kind: CType, n: u64) -> Result<(), NoMemory>
     ensures { IfOk result (λ x. Puts out.old.items out.new.items (spell (Number kind n))) }
 {
@@ -259,7 +259,7 @@ pub fn put_constant(out: &mut Vec<u8>, kind: CType, n: u64) -> Result<(), NoMemo
     right(out)
 }
 
-/// Puts `((TYPE)NAME)`.
+/// Appends `((TYPE)NAME)`.
 pub fn put_name(out: &mut Vec<u8>, kind: CType, name: &[u8]) -> Result<(), NoMemory>
     ensures { IfOk result (λ x. Puts out.old.items out.new.items (spell (Name kind name.now))) }
 {
@@ -268,7 +268,7 @@ pub fn put_name(out: &mut Vec<u8>, kind: CType, name: &[u8]) -> Result<(), NoMem
     right(out)
 }
 
-/// Puts `((TYPE)v[N])`.
+/// Appends `((TYPE)v[N])`.
 pub fn put_value(out: &mut Vec<u8>, kind: CType, n: u64) -> Result<(), NoMemory>
     ensures { IfOk result (λ x. Puts out.old.items out.new.items (spell (Value kind n))) }
 {
@@ -282,7 +282,7 @@ fn put_v(out: &mut Vec<u8>, n: u64) -> Result<(), NoMemory>
     put_place(out, b"v".as_slice(), n)
 }
 
-/// Puts `((TYPE)x[N])`.
+/// Appends `((TYPE)x[N])`.
 pub fn put_index(out: &mut Vec<u8>, kind: CType, n: u64) -> Result<(), NoMemory>
     ensures { IfOk result (λ x. Puts out.old.items out.new.items (spell (Index kind n))) }
 {
@@ -306,7 +306,7 @@ fn put_place(out: &mut Vec<u8>, name: &[u8], n: u64) -> Result<(), NoMemory>
     right(out)
 }
 
-/// Puts `((TYPE)NAME(v))`.
+/// Appends `((TYPE)NAME(v))`.
 pub fn put_call(out: &mut Vec<u8>, kind: CType, name: &[u8]) -> Result<(), NoMemory>
     ensures { IfOk result (λ x. Puts out.old.items out.new.items (spell (Call kind name.now))) }
 {

@@ -1,4 +1,4 @@
--- A valid listing gives the perturbed sign.
+-- A valid listing has the perturbed sign.
 pub mod Named
 pub mod One
 pub mod Signs

@@ -9,7 +9,7 @@ pub use Rattle.ln_poly.specs.OfPred.{expanded_of, loaded_of, root_of}
 use Rattle.ln_poly.specs.Sparse.{Sparse, terms_of}
 use Rattle.ln_stage.specs.Lists.{AreStageLists, Passes}
 
--- no range and no size of a node passes 2^127 - 1; no node has too many terms; all scaled derivatives of the normal polynomial
+-- no range and no size of a node exceeds 2^127 - 1; no node has too many terms; all scaled derivatives of the normal polynomial
 -- together weigh at most 2^127 - 1; the root isn't 0 however it is perturbed; and it hasn't too many stages
 pub record IsAccepted (p : PredOf) : Type 0 where
   pub light : AreLight (loaded_of p)

@@ -1,4 +1,4 @@
--- The part of a predicate in a listing, as the machine's part; and what a valid listing gives on a row.
+-- The part of a predicate in a listing, as the machine's part; and the verdict of a valid listing on a row.
 use Rattle.std.specs.Prelude.{◌≡◌, ℕ, ◌==◌, List, [], length, map, slice_get, Option, Some, None, if◌then◌else◌}
 use Rattle.ln_algebra.specs.Sign.{IsPerturbedSign}
 use Rattle.ln_algebra.specs.Tree.{InputsBelow, Tree}
@@ -22,20 +22,24 @@ use Rattle.ln_verify.specs.declared.form.Form.{Form}
 use Rattle.ln_cert.specs.declared.part.Part as listing
 
 -- ---- the machine's part
+-- a block of a listing as code of the machine, with the deepest stack that the rules allow
 abbrev pub code_of : Piece → Code
 code_of b = record { exps = b.exps; ops = map (λ x. x.op) b.lines; pairs = map (λ x. x.bound) b.lines; depth = deepest }
 
+-- the lines of a filter as code of the machine, with the deepest stack that the rules allow
 abbrev pub filter_code : List (Line Triple) → FilterCode
 filter_code lines = record { ops = map (λ x. x.op) lines; triples = map (λ x. x.bound) lines; depth = deepest }
 
+-- the filter of a part as code of the machine, where the part has one
 abbrev pub filter_of : Option (List (Line Triple)) → Option FilterCode
 filter_of None = None
 filter_of (Some lines) = Some (filter_code lines)
 
--- a listing has the whole list of each order: it stands at the order itself, and nothing at a shorter prefix
+-- a listing has the whole list of each order: it is at the order itself, and nothing is at a shorter prefix
 abbrev pub segment_at : ℕ → List (List ℕ) → List ℕ → List ℕ
 segment_at k lists p = if length p == k then beside (orders_of k) lists p else []
 
+-- the machine's part for a predicate of this shape, with the filter, the blocks and the lists that its part of the listing has
 abbrev pub part_of : Shape → Written → Part
 part_of s w = record {
   shape = s;
@@ -59,7 +63,7 @@ pub record GivesSign (s : Shape) (e : Tree) (w : Written) (row : Row) : Type 0 w
   pub sign : (v : Verdict) → IsVerdict (part_of s w) row v → IsPerturbedSign (length s.vars) (row_sites s.vars row.index)
       (values row.values) e (sign_number v.sign)
 
--- the parts of a valid listing of either version, whoever made it, give the perturbed sign: for each subject, on each row in range
+-- the parts of a valid listing of either version, whoever made it, return the perturbed sign: for each subject, on each row in range
 abbrev pub ValidPartsGiveSigns : Type 0
 ValidPartsGiveSigns =
     (f : Form) (ps : List Subject) (lines : List listing.Part) (h : IsValid (version_of f) ps lines) (k : ℕ) (p : Subject)

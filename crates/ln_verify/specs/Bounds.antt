@@ -1,4 +1,4 @@
--- The table of version 1 as it stands, with one bound in absolute value for each operation: what the rules of version 1 say of
+-- The table of version 1, unchanged, with one bound in absolute value for each operation: what the rules of version 1 say of
 -- ranges from -b to b.
 use Rattle.std.specs.Prelude.{◌≡◌, ℕ, ◌&&◌, nat_le, unsigned_abs, List, Option, Some, None, map, slice_get, if◌then◌else◌}
 use Rattle.ln_algebra.specs.Tree as tree

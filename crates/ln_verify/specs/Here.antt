@@ -26,10 +26,11 @@ use Rattle.ln_verify.specs.declared.desk.At.TheVariants.{Away, AtName, AtFilter,
 use Rattle.ln_verify.specs.declared.desk.Desk.{Desk}
 use Rattle.ln_cert.specs.declared.part.Part.{Part}
 
+-- the predicate of a case, as the judge sees it
 abbrev pub subject_of : Case → Subject
 subject_of c = record { name = name_bytes c.shape.name; sites = c.shape.sites; vars = c.shape.vars; poly = c.poly }
 
--- its polynomial is one over its variables, no derivative of which is too heavy; its stages are those of the polynomial, and its
+-- its polynomial is one over its variables, no derivative of which is too large; its stages are those of the polynomial, and its
 -- orders are all orders of its sites
 pub record IsCase (c : Case) : Type 0 where
   pub form : IsPoly c.poly
@@ -38,13 +39,16 @@ pub record IsCase (c : Case) : Type 0 where
   pub staged : AreStagesOf c.shape.sites c.shape.vars c.poly c.stages
   pub ordered : map order_places c.orders ≡ orders_of c.shape.sites
 
+-- the predicates of cases, in order
 abbrev pub subjects_of : List Case → List Subject
 subjects_of cs = map subject_of cs
 
 -- ---- places
+-- each variable of these exponents is below n
 abbrev pub AreAbove : ℕ → List Pairs → Type 0
 AreAbove n exps = All (λ e. IsAbove e n) exps
 
+-- the judge's state stands for this spot within the part of a predicate with n variables
 abbrev pub IsSpot : ℕ → Desk → Spot → Type 0
 IsSpot n d Named = d.at ≡ AtName
 IsSpot n d (InFilter lines s) = (d.at ≡ AtFilter) × IsTray n d.tray s
@@ -52,6 +56,7 @@ IsSpot n d (Between f bs) = (d.at ≡ AtGap) × (d.exps ≡ exps_of bs) × AreAb
 IsSpot n d (InBlock f bs a lines s) = (d.at ≡ AtBlock) × (d.exps ≡ exps_of bs ++ a ∷ []) × AreAbove n d.exps × IsBench n d.bench s
 IsSpot n d (Ordering w) = (d.at ≡ AtOrder) × (d.exps ≡ exps_of w.blocks) × AreAbove n d.exps × (d.lists ≡ length w.lists)
 
+-- the judge's state stands for this place: outside of parts, or at a spot within the part of the next predicate
 abbrev pub IsHere : List Subject → Desk → Place → Type 0
 IsHere ps d (Outside parts) = (d.at ≡ Away) × (d.parts ≡ length parts)
 IsHere ps d (Within parts s) = (d.parts ≡ length parts) × (p : Subject) × (slice_get ps (length parts) ≡ Some p)
@@ -67,16 +72,17 @@ Led v p s line false d = (t : Spot) → LineRule v p s line t → ⊥
 abbrev pub Leads : Version → Subject → Desk → Part → Bool → Desk → Type 0
 Leads v p old line ok new = (s : Spot) → IsSpot (length p.vars) old s → (new.parts ≡ old.parts) × Led v p s line ok new
 
+-- the line leads from this place to one that the judge's new state stands for, or nowhere
 abbrev pub Gone : Version → List Subject → Place → Part → Bool → Desk → Type 0
 Gone v ps here line true d = (q : Place) × Rule v ps here line q × IsHere ps d q
 Gone v ps here line false d = (q : Place) → Rule v ps here line q → ⊥
 
--- the answer: no line fails, or behind so many lines the next one does
+-- the result: no line fails, or after this many lines the next one does
 abbrev pub IsAnswer : Version → List Subject → List Part → Option ℕ → Type 0
 IsAnswer v ps lines None = IsValid v ps lines
 IsAnswer v ps lines (Some n) = IsFirstFault v ps lines n
 
--- behind how many lists an `order` line may stand
+-- after how many lists an `order` line is allowed
 abbrev pub before_of : At → ℕ → Option ℕ
 before_of Away l = None
 before_of AtName l = None
@@ -85,13 +91,14 @@ before_of AtGap l = Some 0
 before_of AtBlock l = None
 before_of AtOrder l = Some l
 
--- `done`, of every list of parts and every spot that the desk stands for
+-- `done` at this spot, after these parts: where each order has its list the part is over, and else the line fails
 abbrev pub Over : Subject → List Written → Spot → Bool → Desk → Type 0
 Over p parts (Ordering w) true new = (length w.lists ≡ length (orders_of p.sites)) × (new.at ≡ Away) × (new.parts ≡ length parts + 1)
 Over p parts (Ordering w) false new = length w.lists ≡ length (orders_of p.sites) → ⊥
 Over p parts s true new = ⊥
 Over p parts s false new = Unit {0}
 
+-- what a call on `done` has to say, of every list of parts and every spot that the old state stands for
 abbrev pub Finished : Subject → Desk → Bool → Desk → Type 0
 Finished p old ok new = (parts : List Written) (s : Spot) → old.parts ≡ length parts → IsSpot (length p.vars) old s → Over p parts s ok new
 

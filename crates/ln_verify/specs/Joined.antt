@@ -1,4 +1,4 @@
--- What an operation on two values tests, and the polynomial of what it makes.
+-- Defines what an operation on two values tests, and the polynomial of what it makes.
 use Rattle.std.specs.Prelude.{◌≡◌, ◌==◌, ◌&&◌, ◌*◌, ◌+◌, ℕ, ◌≤◌, Bool, true, Option, None, Some}
 use Rattle.std.specs.Prelude.{List}
 use Rattle.std.proofs.Math.IntN.{◌+ℤ◌}
@@ -30,7 +30,8 @@ pub record IsSum (f g h : Sparse) : Type 0 where
 -- the polynomial of a sum, a difference or a product of two expressions with these polynomials; or there is none, and what the
 -- operation makes isn't small
 abbrev pub Joined : Two → Sparse → Sparse → Option Sparse → Type 0
-Joined t f g (Some h) = (size_of h ≤ bound_of t (size_of f) (size_of g)) × ((n : ℕ) (d e : Tree) → IsNormal n d f → IsNormal n e g → IsNormal n (two_of t d e) h)
+Joined t f g (Some h) =
+    (size_of h ≤ bound_of t (size_of f) (size_of g)) × ((n : ℕ) (d e : Tree) → IsNormal n d f → IsNormal n e g → IsNormal n (two_of t d e) h)
 Joined t f g None = (n : ℕ) (d e : Tree) → IsNormal n d f → IsNormal n e g → IsSmall n (two_of t d e) → ⊥
 
 -- in a block: neither value is wider than the operation, and the rule on its range and running size holds

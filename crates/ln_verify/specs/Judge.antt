@@ -15,8 +15,8 @@ FailsAt v ps (Outside parts) [] = length parts ≡ length ps → ⊥
 FailsAt v ps (Within parts s) [] = Unit {0}
 FailsAt v ps here (line ∷ lines) = (q : Place) → Rule v ps here line q → ⊥
 
--- the first line that fails. Lines are counted from 1, and these stand behind the first one, which names the version: so the line
--- behind `at` of them is number at + 2
+-- the first line that fails. Lines are counted from 1, and these come after the first one, which names the version: so the
+-- line after `at` of them is number at + 2
 pub record IsFirstFault (v : Version) (ps : List Subject) (lines : List Part) (number : ℕ) : Type 0 where
   pub at : ℕ
   pub line : number ≡ at + 2

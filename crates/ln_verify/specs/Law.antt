@@ -1,4 +1,4 @@
--- What valid listings promise.
+-- States what valid listings promise, which parts make one, and how the two versions compare.
 use Rattle.std.specs.Prelude.{◌≡◌, ℕ, ◌≤◌, List, Some}
 use Rattle.ln_interval.specs.Range.{Range}
 use Rattle.ln_tree.specs.declared.shape.VarInfo.{VarInfo}
@@ -20,11 +20,11 @@ pub record OneAnswer : Type 0 where
   pub one : (v : Version) (ps : List Subject) (lines : List Part) (m n : ℕ) → IsFirstFault v ps lines m → IsFirstFault v ps lines n → m ≡ n
   pub not_both : (v : Version) (ps : List Subject) (lines : List Part) (n : ℕ) → IsValid v ps lines → IsFirstFault v ps lines n → ⊥
 
--- in a valid listing each predicate's part stands, in either version
+-- in a valid listing each predicate's part is there, in either version
 abbrev pub ValidPartsStand : Type 0
 ValidPartsStand = (v : Version) (ps : List Subject) (lines : List Part) (h : IsValid v ps lines) → PartsStand v ps h.parts
 
--- good parts, put as lines of version 2, are a valid listing
+-- good parts, written as lines of version 2, are a valid listing
 abbrev pub GoodPartsAreValid : Type 0
 GoodPartsAreValid = (ps : List Subject) (ws : List Written) → AreGoodParts version_2 ps ws → IsValid version_2 ps (all_lines ps ws)
 

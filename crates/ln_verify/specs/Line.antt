@@ -1,4 +1,4 @@
--- The rule of each line of a listing, at each place. A place is what has been read so far; a rule says to which place the line
+-- The rule of each line of a listing, at each place. A place is what has been read so far; a rule defines to which place the line
 -- leads. Where it leads nowhere, the line fails.
 use Rattle.std.specs.Prelude.{◌≡◌, ℕ, ◌<◌, ◌≤◌, Bool, true, false, All, List, [], ◌∷◌, ◌++◌}
 use Rattle.std.specs.Prelude.{length, map, slice_get, slice_index_or, Option, Some, None}
@@ -45,8 +45,8 @@ pub record Written : Type 0 where
   pub blocks : List Piece
   pub lists : List (List ℕ)
 
--- within the part of a predicate: behind its name; in the filter, behind these lines; behind the filter and these blocks; in a
--- block with these exponents, behind these lines; behind the lists of some orders
+-- within the part of a predicate: after its name; in the filter, after these lines; after the filter and these blocks; in a block with these
+-- exponents, after these lines; after the lists of some orders
 pub data Spot : Type 0 where
   Named : Spot
   InFilter : List (Line Triple) → State FilterKnown (ℕ → Option FilterKnown) → Spot
@@ -54,7 +54,7 @@ pub data Spot : Type 0 where
   InBlock : Option (List (Line Triple)) → List Piece → Pairs → List (Line Range) → State Known (ℕ → Option Known) → Spot
   Ordering : Written → Spot
 
--- behind the parts of the first predicates, or within the next one
+-- after the parts of the first predicates, or within the next one
 pub data Place : Type 0 where
   Outside : List Written → Place
   Within : List Written → Spot → Place
@@ -75,9 +75,11 @@ abbrev pub Leads : {B K : Type 0} → (K → Tree) → ℕ → Engine B K (ℕ �
     State K (ℕ → Option K) → Type 0
 Leads tree n e op b s t = (step e op b s.locals s.stack ≡ Some t) × PushedSmall tree n (stores op) t.stack
 
+-- the expression that the rules know of a value of a block
 abbrev pub tree_of : Known → Tree
 tree_of x = x.tree
 
+-- the expression that the rules know of a truncated number
 abbrev pub filter_tree_of : FilterKnown → Tree
 filter_tree_of x = x.tree
 
@@ -120,7 +122,7 @@ exps_of bs = map (λ b. b.exps) bs
 abbrev pub named : ℕ → List Pairs → List ℕ → List (List ℕ)
 named n exps list = map (λ k. vector n (slice_index_or exps k [])) list
 
--- behind so many lists, the places are the next order of all, the numbers are those of blocks, and the exponents of these are the
+-- after this many lists, the places are the next order of all, the numbers are those of blocks, and the exponents of these are the
 -- stage list of the order
 pub record IsNextList (p : Subject) (exps : List Pairs) (before : ℕ) (places list : List ℕ) : Type 0 where
   pub order : slice_get (orders_of p.sites) before ≡ Some places
@@ -132,7 +134,7 @@ pub record OrderLine (p : Subject) (w : Written) (places list : List ℕ) (q : S
   pub next : IsNextList p (exps_of w.blocks) (length w.lists) places list
   pub to : q ≡ Ordering (record { filter = w.filter; blocks = w.blocks; lists = w.lists ++ list ∷ [] })
 
--- a line within the part of a predicate; which lines may stand where, the listing's form says besides
+-- a line within the part of a predicate; which lines are allowed where is also in the listing's form
 abbrev pub LineRule : Version → Subject → Spot → Part → Spot → Type 0
 LineRule v p Named NoFilter q = q ≡ Between None []
 LineRule v p Named Filter q = q ≡ InFilter [] fresh

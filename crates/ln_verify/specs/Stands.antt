@@ -1,4 +1,4 @@
--- What stands in the parts of a listing whose lines don't fail.
+-- Defines what the parts of a listing hold whose lines don't fail.
 use Rattle.std.specs.Prelude.{◌≡◌, ℕ, ◌<◌, ◌≤◌, All, List, [], ◌∷◌, length, unsigned_abs, slice_get, Some, IfSome}
 use Rattle.ln_algebra.specs.Terms.{IsNormalOf, derived}
 use Rattle.ln_interval.specs.Range.{Range}
@@ -60,6 +60,6 @@ pub record PartStands (v : Version) (p : Subject) (w : Written) : Type 0 where
   pub lists : ListsStand p w.blocks w.lists
   pub all : length w.lists ≡ length (orders_of p.sites)
 
--- each predicate's part stands
+-- each predicate's part is there
 abbrev pub PartsStand : Version → List Subject → List Written → Type 0
 PartsStand v ps parts = Everywhere (λ k w. (p : Subject) → slice_get ps k ≡ Some p → PartStands v p w) parts

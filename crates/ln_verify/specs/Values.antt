@@ -25,7 +25,7 @@ IsMade R tree n None (Some k) = IsSmall n (tree k) → ⊥
 IsMade R tree n (Some x) None = ⊥
 IsMade R tree n (Some x) (Some k) = R x k × IsSmall n (tree k)
 
--- a stack in code, whose last value stands first here
+-- a stack in code, whose last value is first here
 abbrev pub AreFor : {X K : Type 0} → (X → K → Type 0) → List X → List K → Type 0
 AreFor R [] [] = Unit {0}
 AreFor R [] (k ∷ ks) = ⊥
@@ -51,7 +51,7 @@ abbrev pub Came : {B X K : Type 0} → (X → K → Type 0) → (K → Tree) →
 Came {K = K} R tree n e s op b true xs ls = (t : State K (ℕ → Option K)) × Leads tree n e op b s t × IsState R xs ls t
 Came {K = K} R tree n e s op b false xs ls = (t : State K (ℕ → Option K)) → Leads tree n e op b s t → ⊥
 
--- a value, if there is one, is put onto a stack of fewer than 2,048
+-- a value, if there is one, is pushed onto a stack of fewer than 2,048
 abbrev pub PushedOnto : {X : Type 0} → Option X → List X → Bool → List X → Type 0
 PushedOnto None old true new = ⊥
 PushedOnto None old false new = Unit {0}

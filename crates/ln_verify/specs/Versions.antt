@@ -1,4 +1,4 @@
--- What the code tests of a rule on a range.
+-- Defines what the code tests of a rule on a range.
 use Rattle.std.specs.Prelude.{ℕ, ◌≤◌}
 use Rattle.ln_interval.specs.Range.{Covers, Range, most}
 use Rattle.ln_bound.specs.declared.fitted.Width.{Width}
@@ -7,6 +7,7 @@ use Rattle.ln_verify.specs.BlockRules.{Version, version_1, version_2}
 use Rattle.ln_verify.specs.declared.form.Form.{Form}
 use Rattle.ln_verify.specs.declared.form.Form.TheVariants.{One, Two}
 
+-- the version of listings, with its rules, that a form in code stands for
 abbrev pub version_of : Form → Version
 version_of One = version_1
 version_of Two = version_2

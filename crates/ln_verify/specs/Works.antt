@@ -1,4 +1,4 @@
--- What one operation does to a stack in code.
+-- Defines what one operation does to a stack in code.
 use Rattle.std.specs.Prelude.{ℕ, Bool, List, length, Option}
 use Rattle.ln_interval.specs.Range.{Range}
 use Rattle.ln_tree.specs.declared.shape.VarInfo.{VarInfo}
@@ -40,6 +40,7 @@ BenchLed v vars old op p ok new =
     (s : State Known (ℕ → Option Known)) → IsBench (length vars) old s → Came (IsFor (length vars)) tree_of (length vars)
     (block_rules v vars) s op p ok new.stack.items new.locals.items
 
+-- the same of an operation of a filter, with its triple
 abbrev pub TrayLed : Version → List VarInfo → Tray → Op → Triple → Bool → Tray → Type 0
 TrayLed v vars old op a ok new =
     (s : State FilterKnown (ℕ → Option FilterKnown)) → IsTray (length vars) old s →

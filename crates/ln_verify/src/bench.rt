@@ -46,7 +46,7 @@ fn push_input(
     Ok(ok)
 }
 
-// Two values off the stack, and what comes of them onto it.
+// Takes two values off the stack, and pushes their result.
 fn with_two(alloc: Global, bench: &mut Bench, t: Two, w: Width, b: Pair) -> Result<bool, NoMemory>
     ensures { IfOk result (λ ok. (v : Version) (vars : List Info) → BenchLed v vars bench.old (op_of t w) (range b) ok bench.new) }
 {

@@ -78,8 +78,8 @@ fn with_orders(alloc: Global, s: &Shape, poly: Poly, stages: Stages) -> Result<C
     Ok(case)
 }
 
-/// A predicate, with what its part is judged by. It is one that is accepted: no range and no size of a node passes `2^127 - 1`, no
-/// node has too many terms, its normal polynomial isn't too heavy and isn't 0, and it hasn't too many stages.
+/// A predicate, with what its part is judged by. It is one that is accepted: no range and no size of a node exceeds `2^127 - 1`, no
+/// node has too many terms, its normal polynomial isn't too large and isn't 0, and it hasn't too many stages.
 pub fn case_of(alloc: Global, p: &Pred) -> Result<Case, NoMemory>
     requires { IsAccepted (pred_of p.now) }
     ensures shape { IfOk result (λ c. c.shape ≡ p.now.shape) }

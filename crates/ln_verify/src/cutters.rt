@@ -1,4 +1,4 @@
-//! What the operations of a filter make: a truncated number with its triple, where the rule of the line holds and what it would
+//! The results of the operations of a filter: a truncated number with its triple, where the rule of the line holds and what it would
 //! push is small.
 ghost use Rattle.std.specs.Prelude.{◌≡◌, ◌≤◌, ℕ, List, IfOk, MatchOption, length, nat_le, Some};
 ghost use Rattle.ln_algebra.specs.Tree.{Tree};

@@ -1,4 +1,4 @@
-//! What the judge holds while it reads.
+//! The state of the judge while it reads.
 ghost use Rattle.std.specs.Prelude.{◌≡◌, ◌↔◌, IsTrue};
 ghost use Rattle.ln_verify.specs.Here.{before_of};
 
@@ -6,7 +6,7 @@ use crate::stacks::{Bench, Tray};
 use ln_base::Seq;
 use ln_tree::Exps;
 
-/// Where the reader stands: outside of parts; behind a name, in a filter, behind a filter or a block, in a block, behind an order.
+/// Where the reader is: outside of parts; after a name, in a filter, after a filter or a block, in a block, after an order.
 #[derive(Clone, Copy, PartialEq, Eq)]
 pub enum At {
     Away,
@@ -17,7 +17,7 @@ pub enum At {
     AtOrder,
 }
 
-/// What is held: the place, the number of whole parts, the exponents of the blocks, those of the one at hand last, the stacks, and
+/// The state: the place, the number of whole parts, the exponents of the blocks, those of the one at hand last, the stacks, and
 /// the number of lists.
 #[derive(Drop)]
 pub struct Desk {
@@ -29,14 +29,14 @@ pub struct Desk {
     pub lists: usize,
 }
 
-/// Does the reader stand there?
+/// Is the reader there?
 pub fn is_at(at: At, x: At) -> bool
     ensures { IsTrue result ↔ (at ≡ x) }
 {
     at == x
 }
 
-/// Behind how many lists may an `order` line stand?
+/// After how many lists is an `order` line allowed?
 pub fn before(at: At, lists: usize) -> Option<usize>
     ensures { result ≡ before_of at lists }
 {

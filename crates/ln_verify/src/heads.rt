@@ -1,4 +1,4 @@
-//! What the first line of a block needs.
+//! The needs of the first line of a block.
 ghost use Rattle.std.specs.Prelude.{◌≡◌, ◌↔◌, IfOk, IsTrue, MatchOption, slice_get};
 ghost use Rattle.ln_tree.specs.Exps.{IsRising};
 ghost use Rattle.ln_code.specs.Kept.{AreOfSites, is_of_site};

@@ -1,7 +1,7 @@
 //! Polynomials that have several owners.
 //!
-//! A `get` puts a local onto the stack once more. Were its terms copied then, a short line could cost a thousand copies; so a
-//! polynomial on the stack has owners, and its terms go with the last one. Nor does a `neg` touch the terms: a sign stands beside them.
+//! A `get` pushes a local onto the stack once more. Were its terms copied then, a short line could cost a thousand copies; so a
+//! polynomial on the stack has owners, and its terms go with the last one. Nor does a `neg` touch the terms: a sign is kept beside them.
 ghost use Rattle.std.specs.Prelude.{◌≡◌, ◌≢◌, [], ◌∷◌, ◌+◌, ◌<◌, ◌^◌, IfOk, IfSome, pos, length, unsigned_abs};
 ghost use Rattle.ln_poly.specs.Sparse.{negated, size_of};
 ghost use Rattle.ln_verify.specs.Joined.{IsSum};
@@ -33,7 +33,7 @@ impl Model for Held {
     ghost invariant = { λ h. IsPoly h.poly.value };
 }
 
-// The polynomial behind a handle, alone. Where this is the last owner, no term is copied.
+// The polynomial of a handle, alone. Where this is the last owner, no term is copied.
 fn alone(alloc: Global, poly: Rc<Poly>) -> Result<Poly, NoMemory>
     ensures { IfOk result (λ f. f ≡ poly.value) }
 {
@@ -62,7 +62,7 @@ impl Held {
         self.poly.as_ref().terms().len()
     }
 
-    /// The polynomial, lent, where no minus stands beside its terms.
+    /// The polynomial, lent, where no minus is beside its terms.
     pub fn lent(&self) -> Option<&Poly>
         ensures { IfSome result (λ f. f.now ≡ self.now) }
     {

@@ -46,7 +46,7 @@ fn within(alloc: Global, f: &Poly, g: &Poly) -> Result<Option<Held>, NoMemory>
     Ok(Some(h))
 }
 
-// The product with a second polynomial, whose terms are copied only where a minus stands beside them and it has other owners.
+// The product with a second polynomial, whose terms are copied only where a minus is beside them and it has other owners.
 fn times_by(alloc: Global, f: &Poly, g: Held) -> Result<Option<Held>, NoMemory>
     requires { size_of f.now * size_of g < 2 ^ 127 }
     ensures { IfOk result (λ o. Joined Times f.now g o) }
@@ -69,7 +69,7 @@ fn times(alloc: Global, f: Held, g: Held) -> Result<Option<Held>, NoMemory>
     times_by(alloc, &own, g)
 }
 
-/// The polynomial of a sum, a difference or a product; none where it isn't small. A product whose exponents pass the limit isn't
+/// The polynomial of a sum, a difference or a product; none where it isn't small. A product whose exponents exceed the limit isn't
 /// worked out.
 pub fn joined(alloc: Global, t: Two, f: Held, g: Held) -> Result<Option<Held>, NoMemory>
     requires { bound_of t (size_of f) (size_of g) ≤ most }

@@ -161,7 +161,7 @@ fn fresh_desk(alloc: Global) -> Result<Desk, NoMemory>
     })
 }
 
-// Does the reader stand outside of parts, behind one for each predicate?
+// Is the reader outside of parts, after one for each predicate?
 fn is_over(cases: &[Case], desk: &Desk) -> bool
     ensures { IsTrue result ↔ ((desk.now.at ≡ Away) × (desk.now.parts ≡ length cases.now)) }
 {
@@ -171,7 +171,7 @@ fn is_over(cases: &[Case], desk: &Desk) -> bool
     desk.parts == cases.len()
 }
 
-// The first line that fails, or none fails, where the reader stands in front of the first part.
+// The first line that fails, or none fails, where the reader is before the first part.
 fn over_entries(
     alloc: Global,
     cases: &[Case],
@@ -213,22 +213,7 @@ pub fn judge(
     over_entries(alloc, cases, form, entries, &mut desk)
 }
 
-// A line at its place, which is dropped then.
-fn entry(
-    alloc: Global,
-    cases: &[Case],
-    form: Form,
-    desk: &mut Desk,
-    e: Entry,
-) -> Result<bool, NoMemory>
-    requires { All IsCase cases.now }
-    ensures { IfOk result (λ ok. (here : Place) → IsHere (subjects_of cases.now) desk.old here →
-        Gone (version_of form) (subjects_of cases.now) here e.part ok desk.new) }
-{
-    line(alloc, cases, form, desk, &e.part)
-}
-
-// The first of the lines that are left that fails, or none fails, where the reader stands in front of the first part.
+// The first of the remaining lines that fails, or none fails, where the reader is before the first part.
 fn over_lines(
     alloc: Global,
     cases: &[Case],
@@ -244,7 +229,9 @@ fn over_lines(
 {
     'lines: while let Some(e) = lines.next(alloc)? {
         let number = e.line;
-        if !entry(alloc, cases, form, desk, e)? {
+        let good = line(alloc, cases, form, desk, &e.part);
+        drop(e);
+        if !good? {
             return Ok(Some(number));
         }
     }
@@ -254,7 +241,7 @@ fn over_lines(
     Ok(Some(lines.number()))
 }
 
-/// The first line that fails, or none fails, of the lines that are left of a listing. Each is judged as it is read, and none is kept.
+/// The first line that fails, or none fails, of the remaining lines of a listing. Each is judged as it is read, and none is kept.
 pub fn judge_lines(
     alloc: Global,
     cases: &[Case],

@@ -1,4 +1,4 @@
-//! What valid listings promise.
+//! States what valid listings promise, as contracts of functions that do nothing.
 ghost use Rattle.ln_verify.specs.Verified.{PartsAreNamed, ValidListingsGiveSigns};
 ghost use Rattle.ln_verify.specs.Law.{GoodPartsAreValid, OneAnswer, ValidPartsStand, Version1Follows, Version1IsOnBounds};
 ghost use Rattle.ln_verify.specs.Law.{Version2IsOfPrograms};
@@ -26,9 +26,9 @@ pub fn valid_listings_give_signs()
     ensures { ValidListingsGiveSigns }
 {}
 
-/// What is put from parts that are good is judged valid.
+/// The lines that are written for good parts are judged valid.
 ///
-/// On it rests that what `list` puts is valid.
+/// By it the listing that `list` writes is valid.
 pub fn good_parts_are_valid()
     ensures { GoodPartsAreValid }
 {}
@@ -36,7 +36,7 @@ pub fn good_parts_are_valid()
 /// The rules of version 1 are those on one bound for each operation; the rules of version 2 are those by which programs are kept;
 /// and what follows version 1 follows version 2.
 ///
-/// On it rests that one machine runs the parts of both versions.
+/// By it one machine runs the parts of both versions.
 pub fn versions_follow()
     ensures bounds { Version1IsOnBounds }
     ensures programs { Version2IsOfPrograms }

@@ -17,7 +17,7 @@ use ln_cert::{Entry, ListStop, Listing, listing_lines};
 use ln_tree::{Pred, Table};
 use std::alloc::Global;
 
-/// What a listing is for a table.
+/// The verdict on a listing for a table.
 #[derive(Clone, Copy)]
 pub enum Judged {
     /// No line fails, and each predicate has its part.
@@ -63,7 +63,7 @@ fn lines_of(l: &Listing) -> &[Entry]
 /// compile. Each is expanded and staged anew from the source: no compiled program is asked.
 ///
 /// A `get` copies no term. A sum takes time near linear in its terms, a product a product of terms for each pair of its operands'
-/// terms, of which there may be 1,048,576. It takes memory for the polynomials of one stack, the exponents of one part and one product.
+/// terms, of which there may be 1,048,576. Allocates for the polynomials of one stack, the exponents of one part and one product.
 pub fn verify(alloc: Global, t: &Table, l: &Listing) -> Result<Judged, NoMemory>
     requires { AreAccepted (map pred_of t.now.preds) }
     ensures valid { IfOk result (λ j. (j ≡ Valid) ↔ IsValidFor (map pred_of t.now.preds) l.now) }

@@ -1,4 +1,4 @@
-//! What the operations of a block make: a value, where the rule of the line holds and what it would push is small.
+//! The results of the operations of a block: a value, where the rule of the line holds and what it would push is small.
 //!
 //! The rules on ranges, widths and running sizes are tested first, then exponents; only then a polynomial is worked out, which
 //! is known to fit.

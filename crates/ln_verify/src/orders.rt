@@ -62,7 +62,7 @@ fn is_order(o: &Order, places: &[u8]) -> bool
     o.places() == places
 }
 
-/// Is this the next `order` line, behind so many lists: are the places those of the next order of all, and are the exponents of
+/// Is this the next `order` line, after this many lists: are the places those of the next order of all, and are the exponents of
 /// the named blocks the stage list of that order?
 pub fn is_next(
     alloc: Global,

@@ -79,7 +79,7 @@ pub fn pop_cut(stack: &mut Vec<Cut>) -> Option<Cut>
     stack.pop()
 }
 
-/// Puts a value onto the stack, if there is one and the stack has fewer than 2,048.
+/// Pushes a value onto the stack, if there is one and the stack has fewer than 2,048.
 pub fn push_value(stack: &mut Vec<Value>, v: Option<Value>) -> Result<bool, NoMemory>
     ensures { IfOk result (λ ok. PushedOnto v stack.old.items ok stack.new.items) }
 {

@@ -42,7 +42,7 @@ fn push_input(
     Ok(ok)
 }
 
-// Two numbers off the stack, and what comes of them onto it.
+// Takes two numbers off the stack, and pushes their result.
 fn with_two(alloc: Global, tray: &mut Tray, t: Two, w: Width, a: Triple) -> Result<bool, NoMemory>
     ensures { IfOk result (λ ok. (v : Version) (vars : List Info) → TrayLed v vars tray.old (op_of t w) a ok tray.new) }
 {

@@ -15,11 +15,13 @@ plain-heads x [] i = refl
 plain-heads x (c ∷ cs) i = ap (λ (hs : List Head). inner (block_name x i) ∷ hs) (plain-heads x cs (suc i))
 
 -- those of blocks after a filter
-later-heads : (x : List ℕ) (f : FilterCode) (cs : List Code) (i : ℕ) → map head (one_funs (numbered x (Some f)) (suc i) (map block_body cs)) ≡ block_heads x i (length cs)
+later-heads : (x : List ℕ) (f : FilterCode) (cs : List Code) (i : ℕ)
+    → map head (one_funs (numbered x (Some f)) (suc i) (map block_body cs)) ≡ block_heads x i (length cs)
 later-heads x f [] i = refl
 later-heads x f (c ∷ cs) i = ap (λ (hs : List Head). inner (block_name x i) ∷ hs) (later-heads x f cs (suc i))
 
-inner-heads : (x : List ℕ) (o : Option FilterCode) (cs : List Code) → map head (one_funs (numbered x o) 0 (bodies_of o cs)) ≡ filter_heads x o ++ block_heads x 0 (length cs)
+inner-heads : (x : List ℕ) (o : Option FilterCode) (cs : List Code)
+    → map head (one_funs (numbered x o) 0 (bodies_of o cs)) ≡ filter_heads x o ++ block_heads x 0 (length cs)
 inner-heads x None cs = plain-heads x cs 0
 inner-heads x (Some f) cs = ap (λ (hs : List Head). inner (filter_name x) ∷ hs) (later-heads x f cs 0)
 
@@ -35,7 +37,8 @@ heads-file [] = refl
 heads-file (p ∷ ps) =
     map-append head (one_funs (numbered (part_name p) p.filter) 0 (bodies_of p.filter p.blocks)) (two_fun (call_name (part_name p)) (call_body p) ∷ file_of ps)
     ∙ ap (λ (hs : List Head). hs ++ (outer (call_name (part_name p)) ∷ map head (file_of ps))) (inner-heads (part_name p) p.filter p.blocks)
-    ∙ ap (λ (hs : List Head). (filter_heads (part_name p) p.filter ++ block_heads (part_name p) 0 (length p.blocks)) ++ (outer (call_name (part_name p)) ∷ hs)) (heads-file ps)
+    ∙ ap (λ (hs : List Head). (filter_heads (part_name p) p.filter ++ block_heads (part_name p) 0 (length p.blocks)) ++ (outer (call_name (part_name p)) ∷ hs))
+    (heads-file ps)
     ∙ glued (filter_heads (part_name p) p.filter) (block_heads (part_name p) 0 (length p.blocks)) (heads_of ps) (outer (call_name (part_name p)))
 
 same-head : (f g : Fun) → SameFun f g → head f ≡ head g
@@ -44,4 +47,5 @@ same-head f g s = rw (s.own, s.name, s.indexed) refl
 -- files that are the same up to lines have the same heads
 pub same-heads : {fs gs : List Fun} → SameUpToLines fs gs → map head fs ≡ map head gs
 same-heads none = refl
-same-heads (one {f = f} {g = g} {fs = fs} {gs = gs} s r) = ap (λ (h : Head). h ∷ map head fs) (same-head f g s) ∙ ap (λ (hs : List Head). head g ∷ hs) (same-heads r)
+same-heads (one {f = f} {g = g} {fs = fs} {gs = gs} s r) =
+    ap (λ (h : Head). h ∷ map head fs) (same-head f g s) ∙ ap (λ (hs : List Head). head g ∷ hs) (same-heads r)

@@ -1,5 +1,6 @@
 -- The least indices, one after the other, are the order of the row.
-use Rattle.std.proofs.Common.{◌≡◌, ◌⊎◌, inl, inr, ℕ, zero, suc, ◌+◌, ◌<◌, ◌≤◌, Bool, true, false, cond, ◌&&◌, List, [], ◌∷◌, ◌++◌, append_assoc, length, map, get_or, take, refl, sym, ap, ◌∙◌, arith, add-one, eqb, eq-eqb, subst}
+use Rattle.std.proofs.Common.{◌≡◌, ◌⊎◌, inl, inr, ℕ, zero, suc, ◌+◌, ◌<◌, ◌≤◌, Bool, true, false, cond, ◌&&◌, List, [], ◌∷◌, ◌++◌}
+use Rattle.std.proofs.Common.{append_assoc, length, map, get_or, take, refl, sym, ap, ◌∙◌, arith, add-one, eqb, eq-eqb, subst}
 use Rattle.std.specs.Prelude.{ℤ, pos, ◌<ℤ◌, int_lt, not, AllPairs, Contains}
 use Rattle.std.specs.List.{range_with_len}
 use Rattle.std.proofs.lemmas.Bool.{and_parts, cases_eq, eqb-true}
@@ -31,7 +32,8 @@ module _ (at : ℕ → ℤ) where
   some-not : (i : ℕ) (js : List ℕ) → below_all at i js ≡ false → (j : ℕ) × Member js j × (int_lt (at i) (at j) ≡ false)
   some-not i [] h = cc
   some-not i (j ∷ js) h = go (int_lt (at i) (at j)) refl h (some-not i js) where
-    go : (b : Bool) → int_lt (at i) (at j) ≡ b → (b && below_all at i js) ≡ false → (below_all at i js ≡ false → (x : ℕ) × Member js x × (int_lt (at i) (at x) ≡ false)) → (x : ℕ) × Member (j ∷ js) x × (int_lt (at i) (at x) ≡ false)
+    go : (b : Bool) → int_lt (at i) (at j) ≡ b → (b && below_all at i js) ≡ false
+        → (below_all at i js ≡ false → (x : ℕ) × Member js x × (int_lt (at i) (at x) ≡ false)) → (x : ℕ) × Member (j ∷ js) x × (int_lt (at i) (at x) ≡ false)
     go true e k ih = let r = ih k in (r.0, inr r.1, r.2)
     go false e k ih = (j, inl refl, e)
 
@@ -59,7 +61,7 @@ module _ (at : ℕ → ℤ) where
           same y n f (inl z) = rw z at n
           same y n f (inr l) = absurd (let t : int_lt (at i) (at y) ≡ true = rw q at (is-less (at x) (at y) l) in let w : true ≡ false = sym t ∙ f in cc)
 
-  -- ---- the order of the sites that are left
+  -- ---- the order of the remaining sites
   abbrev RowOrder : List ℕ → List ℕ → Type 0
   RowOrder left [] = left ≡ []
   RowOrder left (x ∷ o) = Member left x × ((j : ℕ) → Member left j → (j ≡ x) ⊎ (at x <ℤ at j)) × RowOrder (without x left) o
@@ -69,7 +71,8 @@ module _ (at : ℕ → ℤ) where
   along_order segment p [] = segment p
   along_order segment p (x ∷ o) = segment p ++ along_order segment (p ++ x ∷ []) o
 
-  rows-are-orders : (segment : List ℕ → List ℕ) (d : ℕ) (p left o : List ℕ) → length o ≤ d → RowOrder left o → along_row segment at d p left ≡ along_order segment p o
+  rows-are-orders : (segment : List ℕ → List ℕ) (d : ℕ) (p left o : List ℕ) → length o ≤ d → RowOrder left o
+      → along_row segment at d p left ≡ along_order segment p o
   rows-are-orders segment zero p left [] l r = refl
   rows-are-orders segment (suc d) p left [] l r = rw r refl
   rows-are-orders segment zero p left (x ∷ o) l r = absurd (omega arith)
@@ -77,7 +80,8 @@ module _ (at : ℕ → ℤ) where
   rows-are-orders segment (suc d) p (i ∷ js) (x ∷ o) l r =
       let e : least at i js ≡ x = least-is i js x r.0 r.1 in
       let ih = rows-are-orders segment d (p ++ x ∷ []) (without x (i ∷ js)) o (omega (arith, l)) r.2 in
-      subst (λ z. segment p ++ along_row segment at d (p ++ z ∷ []) (without z (i ∷ js)) ≡ segment p ++ along_order segment (p ++ x ∷ []) o) (sym e) (ap (λ z. segment p ++ z) ih)
+      subst (λ z. segment p ++ along_row segment at d (p ++ z ∷ []) (without z (i ∷ js)) ≡ segment p ++ along_order segment (p ++ x ∷ []) o)
+      (sym e) (ap (λ z. segment p ++ z) ih)
 
   -- ---- the order of a row
   abbrev Rising : List ℕ → Type 0
@@ -87,7 +91,8 @@ module _ (at : ℕ → ℤ) where
   kept-without : (x : ℕ) (js : List ℕ) (j : ℕ) → Member js j → (j ≡ x → ⊥) → Member (without x js) j
   kept-without x [] j m ne = absurd m
   kept-without x (y ∷ js) j m ne = go (eqb y x) refl m (kept-without x js j) where
-    go : (b : Bool) → eqb y x ≡ b → (j ≡ y) ⊎ Member js j → (Member js j → (j ≡ x → ⊥) → Member (without x js) j) → Member (cond (not b) (y ∷ without x js) (without x js)) j
+    go : (b : Bool) → eqb y x ≡ b → (j ≡ y) ⊎ Member js j → (Member js j → (j ≡ x → ⊥) → Member (without x js) j)
+        → Member (cond (not b) (y ∷ without x js) (without x js)) j
     go true e (inl q) ih = absurd (ne (q ∙ eqb-true y x e))
     go true e (inr k) ih = ih k ne
     go false e (inl q) ih = inl q
@@ -96,7 +101,8 @@ module _ (at : ℕ → ℤ) where
   gone-without : (x : ℕ) (js : List ℕ) (j : ℕ) → Member (without x js) j → Member js j × (eqb j x ≡ false)
   gone-without x [] j m = absurd m
   gone-without x (y ∷ js) j m = go (eqb y x) refl m (gone-without x js j) where
-    go : (b : Bool) → eqb y x ≡ b → Member (cond (not b) (y ∷ without x js) (without x js)) j → (Member (without x js) j → Member js j × (eqb j x ≡ false)) → Member (y ∷ js) j × (eqb j x ≡ false)
+    go : (b : Bool) → eqb y x ≡ b → Member (cond (not b) (y ∷ without x js) (without x js)) j
+        → (Member (without x js) j → Member js j × (eqb j x ≡ false)) → Member (y ∷ js) j × (eqb j x ≡ false)
     go true e k ih = let r = ih k in (inr r.0, r.1)
     go false e (inl q) ih = (inl q, rw q e)
     go false e (inr k) ih = let r = ih k in (inr r.0, r.1)
@@ -125,11 +131,13 @@ nil-right : (bs : List ℕ) → bs ++ [] ≡ bs
 nil-right [] = refl
 nil-right (b ∷ bs) = ap (λ z. b ∷ z) (nil-right bs)
 
-along-pieces : (at : ℕ → ℤ) (segment : List ℕ → List ℕ) (p o : List ℕ) → along_order at segment p o ≡ joined (map (λ j. segment (p ++ take j o)) (range_with_len 0 (suc (length o))))
+along-pieces : (at : ℕ → ℤ) (segment : List ℕ → List ℕ) (p o : List ℕ)
+    → along_order at segment p o ≡ joined (map (λ j. segment (p ++ take j o)) (range_with_len 0 (suc (length o))))
 along-pieces at segment p [] = sym (nil-right (segment (p ++ [])) ∙ ap segment (nil-right p))
 along-pieces at segment p (x ∷ o) =
     let ih = along-pieces at segment (p ++ x ∷ []) o in
-    let m = shift (λ j. segment (p ++ take j (x ∷ o))) (λ j. segment ((p ++ x ∷ []) ++ take j o)) 0 (suc (length o)) (λ j. ap segment (sym (append_assoc p (x ∷ []) (take j o)))) in
+    let m = shift (λ j. segment (p ++ take j (x ∷ o))) (λ j. segment ((p ++ x ∷ []) ++ take j o)) 0 (suc (length o))
+    (λ j. ap segment (sym (append_assoc p (x ∷ []) (take j o)))) in
     ap (λ z. segment z ++ along_order at segment (p ++ x ∷ []) o) (sym (nil-right p)) ∙ ap (λ z. segment (p ++ []) ++ z) (ih ∙ ap joined (sym m))
 
 -- ---- places of an order
@@ -167,7 +175,9 @@ module _ (indices : List ℤ) (places : List ℕ) (o : IsOrder indices places) w
     size = o.size;
     each = record {
       within = λ k d h. omega (arith, o.each k d h, o.size);
-      differ = λ i j d l h e. never-both (index_at indices (get_or places i d)) (index_at indices (get_or places j d)) (o.rising i j d l h) (subst (λ z. index_at indices z <ℤ index_at indices (get_or places i d)) e (subst (λ z. index_at indices (get_or places i d) <ℤ index_at indices z) (sym e) (o.rising i j d l h)));
+      differ = λ i j d l h e. never-both (index_at indices (get_or places i d)) (index_at indices (get_or places j d))
+          (o.rising i j d l h) (subst (λ z. index_at indices z <ℤ index_at indices (get_or places i d)) e
+          (subst (λ z. index_at indices (get_or places i d) <ℤ index_at indices z) (sym e) (o.rising i j d l h)));
     };
   }
 
@@ -175,10 +185,12 @@ module _ (indices : List ℤ) (places : List ℕ) (o : IsOrder indices places) w
   the-row-order =
       row-order (index_at indices) (range_with_len 0 (length indices)) places
       (λ j m. at-member places j (each-there (length indices) places j order-places (omega (arith, (member-range 0 (length indices) j m).1))))
-      (λ j m. (let r = member-at places j m in let l : j < length indices = subst (λ z. z < length indices) (r.2 0) (o.each r.0 0 r.1) in range-member 0 (length indices) j (omega arith) (omega (arith, l))))
+      (λ j m. (let r = member-at places j m in let l : j < length indices = subst (λ z. z < length indices) (r.2 0) (o.each r.0 0 r.1) in
+      range-member 0 (length indices) j (omega arith) (omega (arith, l))))
       (rising-is (index_at indices) places o.rising)
 
-  list-of-row : (segment : List ℕ → List ℕ) → along_row segment (index_at indices) (length indices) [] (range_with_len 0 (length indices)) ≡ list_of_order segment (length indices) places
+  list-of-row : (segment : List ℕ → List ℕ)
+      → along_row segment (index_at indices) (length indices) [] (range_with_len 0 (length indices)) ≡ list_of_order segment (length indices) places
   list-of-row segment =
       rows-are-orders (index_at indices) segment (length indices) [] (range_with_len 0 (length indices)) places (omega (arith, o.size)) the-row-order
       ∙ along-pieces (index_at indices) segment [] places ∙ ap (λ n. joined (map (λ j. segment (take j places)) (range_with_len 0 (suc n)))) o.size
@@ -188,6 +200,8 @@ finds-the-order block own s m sign after segment before places indices k answers
     let n = length indices in
     let at : ℕ → ℤ = index_at indices in
     let gives : (i : ℕ) → Member (range_with_len 0 n) i → IndexGives s i (at i) =
-    λ i l. (let h : i < length indices = omega (arith, (member-range 0 n i l).1) in record { there = ap (λ z. meaning.index_at z i) e ∙ slice_get-get_or indices i (pos 0) h; fits = fits i h }) in
+    λ i l. (let h : i < length indices = omega (arith, (member-range 0 n i l).1) in
+    record { there = ap (λ z. meaning.index_at z i) e ∙ slice_get-get_or indices i (pos 0) h; fits = fits i h }) in
     tries_then block own s m at sign after answers before (list_of_order segment n places) (walked block own segment n [] (range_with_len 0 n)) k b
-    (λ j. walked_is block own s m at sign after answers segment numbers n [] (range_with_len 0 n) j gives ∙ ap (λ z. first_of_signs sign after z j) (list-of-row indices places o segment))
+    (λ j. walked_is block own s m at sign after answers segment numbers n [] (range_with_len 0 n) j gives
+    ∙ ap (λ z. first_of_signs sign after z j) (list-of-row indices places o segment))

@@ -1,5 +1,6 @@
--- The calls of the emitted file say what the machine answers.
-use Rattle.std.proofs.Common.{◌≡◌, ◌≢◌, inl, inr, ℕ, zero, suc, ◌+◌, ◌-◌, ◌<◌, ◌≤◌, ◌^◌, Bool, true, false, List, [], ◌∷◌, ◌++◌, append_assoc, length, length-append, map, get_or, take, refl, sym, ap, ◌∙◌, subst, arith, ℤ, pos, negsuc}
+-- Proves that the calls of the emitted file return the sign of the machine's verdict.
+use Rattle.std.proofs.Common.{◌≡◌, ◌≢◌, inl, inr, ℕ, zero, suc, ◌+◌, ◌-◌, ◌<◌, ◌≤◌, ◌^◌, Bool, true, false, List, [], ◌∷◌, ◌++◌}
+use Rattle.std.proofs.Common.{append_assoc, length, length-append, map, get_or, take, refl, sym, ap, ◌∙◌, subst, arith, ℤ, pos, negsuc}
 use Rattle.std.specs.Prelude.{Option, Some, None, IfSome, All, AllPairs, nat_le, ◌≤ℤ◌, slice_get, if◌then◌else◌}
 use Rattle.std.specs.List.{range_with_len}
 use Rattle.std.proofs.lemmas.Int.{ints}
@@ -49,18 +50,21 @@ use Rattle.ln_cemit.proofs.Conditions.Named.{names_serve}
 use Rattle.ln_cemit.proofs.Meanings.Numbers.{lt_true}
 use Rattle.ln_cemit.proofs.Conditions.Titles.{away_more, away_one, call_family, family, numbered_differ, numbered_family}
 
--- ---- what the functions with one parameter answer
+-- ---- what the functions with one parameter return
 module _ (vars : List VarInfo) (zs : List ℤ) (range : AreWithin vars zs) where
   block_says : (c : Code) → length c.ops ≤ 2 ^ 63 → FollowsRules vars c → BlockSays decl_name zs c
-  block_says c l r = blocks_say decl_name vars zs c (names_serve [] (length (block_lines c)) (omega (arith, lines_short block_way c.ops c.pairs, l)) refl).0 range r
+  block_says c l r =
+      blocks_say decl_name vars zs c (names_serve [] (length (block_lines c)) (omega (arith, lines_short block_way c.ops c.pairs, l)) refl).0 range r
 
   filter_says : (f : FilterCode) → length f.ops ≤ 2 ^ 63 → FollowsFilterRules vars f → FilterSays decl_name zs f
-  filter_says f l r = filters_say decl_name vars zs f (names_serve [] (length (filter_lines f)) (omega (arith, lines_short filter_way f.ops f.triples, l)) refl).0 range r
+  filter_says f l r =
+      filters_say decl_name vars zs f (names_serve [] (length (filter_lines f)) (omega (arith, lines_short filter_way f.ops f.triples, l)) refl).0 range r
 
   block_means : (c : Code) → BlockSays decl_name zs c → Means zs (block_body c) (block_sign zs (Some c)) (plus (wide_of (Some c)))
   block_means c b = subst (λ (o : Option ℤ). Means zs (block_body c) (sign_of (value_or o)) (plus (wide_lines (block_lines c)))) (sym b.machine) b.means
 
-  blocks_mean : (cs : List Code) → ops_in_blocks cs ≤ 2 ^ 63 → All (FollowsRules vars) cs → (b : ℕ) → b < length (map block_body cs) → Means zs (get_or (map block_body cs) b End) (block_sign zs (slice_get cs b)) (plus (wide_of (slice_get cs b)))
+  blocks_mean : (cs : List Code) → ops_in_blocks cs ≤ 2 ^ 63 → All (FollowsRules vars) cs → (b : ℕ) → b < length (map block_body cs)
+      → Means zs (get_or (map block_body cs) b End) (block_sign zs (slice_get cs b)) (plus (wide_of (slice_get cs b)))
   blocks_mean [] l r b h = absurd (omega arith)
   blocks_mean (c ∷ cs) l r zero h = block_means c (block_says c (omega (arith, l)) (r 0 c (omega arith)))
   blocks_mean (c ∷ cs) l r (suc b) h = blocks_mean cs (omega (arith, l)) (λ k d m. r (suc k) d (omega (arith, m))) b (omega (arith, h))
@@ -68,7 +72,8 @@ module _ (vars : List VarInfo) (zs : List ℤ) (range : AreWithin vars zs) where
   filter_means : (f : FilterCode) → FilterSays decl_name zs f → Means zs (filter_body f) (held_sign (filter_value zs f)) (λ k. k)
   filter_means f b = subst (λ o. Means zs (filter_body f) (held_sign o) (λ k. k)) (sym b.machine) b.means
 
-  bodies_mean : (f : Option FilterCode) (cs : List Code) → ops_in_filter f + ops_in_blocks cs ≤ 2 ^ 63 → IfSome f (FollowsFilterRules vars) → All (FollowsRules vars) cs → (b : ℕ) → b < length (bodies_of f cs) → Means zs (get_or (bodies_of f cs) b End) (signs zs f cs b) (afters f cs b)
+  bodies_mean : (f : Option FilterCode) (cs : List Code) → ops_in_filter f + ops_in_blocks cs ≤ 2 ^ 63 → IfSome f (FollowsFilterRules vars)
+      → All (FollowsRules vars) cs → (b : ℕ) → b < length (bodies_of f cs) → Means zs (get_or (bodies_of f cs) b End) (signs zs f cs b) (afters f cs b)
   bodies_mean None cs l i r b h = blocks_mean cs (omega (arith, l)) r b h
   bodies_mean (Some f) cs l i r zero h = filter_means f (filter_says f (omega (arith, l)) i)
   bodies_mean (Some f) cs l i r (suc b) h = blocks_mean cs (omega (arith, l)) r b (omega (arith, h))
@@ -79,20 +84,27 @@ module _ (vars : List VarInfo) (zs : List ℤ) (range : AreWithin vars zs) where
 
   valued : (cs : List Code) → ops_in_blocks cs ≤ 2 ^ 63 → All (FollowsRules vars) cs → (n : ℕ) → n < length cs → Valued zs cs n
   valued [] l r n h = absurd (omega arith)
-  valued (c ∷ cs) l r zero h = let b = block_says c (omega (arith, l)) (r 0 c (omega arith)) in record { code = c; value = b.value; there = refl; is = b.machine }
-  valued (c ∷ cs) l r (suc n) h = let v = valued cs (omega (arith, l)) (λ k d m. r (suc k) d (omega (arith, m))) n (omega (arith, h)) in record { code = v.code; value = v.value; there = v.there; is = v.is }
+  valued (c ∷ cs) l r zero h =
+      let b = block_says c (omega (arith, l)) (r 0 c (omega arith)) in
+      record { code = c; value = b.value; there = refl; is = b.machine }
+  valued (c ∷ cs) l r (suc n) h =
+      let v = valued cs (omega (arith, l)) (λ k d m. r (suc k) d (omega (arith, m))) n (omega (arith, h)) in
+      record { code = v.code; value = v.value; there = v.there; is = v.is }
 
 -- ---- the list of the row's order
 map-more : (xs ys : List ℕ) → map suc (xs ++ ys) ≡ map suc xs ++ map suc ys
 map-more [] ys = refl
 map-more (x ∷ xs) ys = ap (λ z. suc x ∷ z) (map-more xs ys)
 
-mapped-join : (segment : List ℕ → List ℕ) (g : ℕ → List ℕ) (a n : ℕ) → joined (map (λ j. map suc (segment (g j))) (range_with_len a n)) ≡ map suc (joined (map (λ j. segment (g j)) (range_with_len a n)))
+mapped-join : (segment : List ℕ → List ℕ) (g : ℕ → List ℕ) (a n : ℕ)
+    → joined (map (λ j. map suc (segment (g j))) (range_with_len a n)) ≡ map suc (joined (map (λ j. segment (g j)) (range_with_len a n)))
 mapped-join segment g a zero = refl
 mapped-join segment g a (suc n) =
-    ap (λ z. map suc (segment (g a)) ++ z) (mapped-join segment g (a + 1) n) ∙ sym (map-more (segment (g a)) (joined (map (λ j. segment (g j)) (range_with_len (a + 1) n))))
+    ap (λ z. map suc (segment (g a)) ++ z) (mapped-join segment g (a + 1) n)
+    ∙ sym (map-more (segment (g a)) (joined (map (λ j. segment (g j)) (range_with_len (a + 1) n))))
 
-moved-list : (f : Option FilterCode) (segment : List ℕ → List ℕ) (n : ℕ) (places : List ℕ) → list_of_order (λ q. moved f (segment q)) n places ≡ moved f (list_of_order segment n places)
+moved-list : (f : Option FilterCode) (segment : List ℕ → List ℕ) (n : ℕ) (places : List ℕ)
+    → list_of_order (λ q. moved f (segment q)) n places ≡ moved f (list_of_order segment n places)
 moved-list None segment n places = refl
 moved-list (Some f) segment n places = mapped-join segment (λ j. take j places) 0 (suc n)
 
@@ -121,7 +133,8 @@ ups-small (suc n) h =
     one : (n : ℕ) → n + 1 ≡ suc n
     one n = omega arith
 
-some-ops : (vars : List VarInfo) (depth : ℕ) (ops : List Op) (ts : List Triple) (w : FilterKnown) → answer (filter_rules vars depth) no_locals (lines_of ops ts) ≡ Some w → 0 < length ops
+some-ops : (vars : List VarInfo) (depth : ℕ) (ops : List Op) (ts : List Triple) (w : FilterKnown)
+    → answer (filter_rules vars depth) no_locals (lines_of ops ts) ≡ Some w → 0 < length ops
 some-ops vars depth [] ts w e = cc
 some-ops vars depth (o ∷ os) ts w e = omega arith
 
@@ -150,20 +163,33 @@ all-member m (x ∷ xs) h n (inr i) = all-member m xs (λ k d l. h (suc k) d (om
 -- the file's statement for n sites
 means-at : (front rest : List Fun) (p : Part) (row : tree.Row) (places : List ℕ) (n : ℕ) → length row.index ≡ n
     → (j : Counts)
-    × (CCall (front ++ (one_funs (numbered (part_name p) p.filter) 0 (bodies_of p.filter p.blocks) ++ two_fun (call_name (part_name p)) (touching_index (nat_le 2 n) (body_for (numbered (part_name p) p.filter) answer_name (λ q. moved p.filter (segment_of p q)) (first_of p.filter) (length row.index))) ∷ rest)) (call_name (part_name p)) row.index row.values ≡ Some (Signed (decided (signs row.values p.filter p.blocks) (first_of p.filter ++ list_of_order (λ q. moved p.filter (segment_of p q)) (length row.index) places)).0 j))
-    × (j.calls ≡ ups (decided (signs row.values p.filter p.blocks) (first_of p.filter ++ list_of_order (λ q. moved p.filter (segment_of p q)) (length row.index) places)).1 0)
-    × (first_of_signs (signs row.values p.filter p.blocks) (afters p.filter p.blocks) (first_of p.filter ++ list_of_order (λ q. moved p.filter (segment_of p q)) (length row.index) places) (record { wide = 0; calls = 0 }) ≡ Said (decided (signs row.values p.filter p.blocks) (first_of p.filter ++ list_of_order (λ q. moved p.filter (segment_of p q)) (length row.index) places)).0 j)
+    × (CCall (front ++ (one_funs (numbered (part_name p) p.filter) 0 (bodies_of p.filter p.blocks) ++ two_fun (call_name (part_name p))
+    (touching_index (nat_le 2 n) (body_for (numbered (part_name p) p.filter) answer_name (λ q. moved p.filter (segment_of p q)) (first_of p.filter)
+    (length row.index))) ∷ rest)) (call_name (part_name p)) row.index row.values ≡ Some (Signed (decided (signs row.values p.filter p.blocks)
+    (first_of p.filter ++ list_of_order (λ q. moved p.filter (segment_of p q)) (length row.index) places)).0 j))
+    × (j.calls ≡ ups (decided (signs row.values p.filter p.blocks)
+    (first_of p.filter ++ list_of_order (λ q. moved p.filter (segment_of p q)) (length row.index) places)).1 0)
+    × (first_of_signs (signs row.values p.filter p.blocks) (afters p.filter p.blocks)
+    (first_of p.filter ++ list_of_order (λ q. moved p.filter (segment_of p q)) (length row.index) places) (record { wide = 0; calls = 0 }) ≡ Said
+    (decided (signs row.values p.filter p.blocks) (first_of p.filter ++ list_of_order (λ q. moved p.filter (segment_of p q)) (length row.index) places)).0 j)
     → (j : Counts)
-    × (CCall (front ++ (one_funs (numbered (part_name p) p.filter) 0 (bodies_of p.filter p.blocks) ++ two_fun (call_name (part_name p)) (touching_index (nat_le 2 n) (body_for (numbered (part_name p) p.filter) answer_name (λ q. moved p.filter (segment_of p q)) (first_of p.filter) n)) ∷ rest)) (call_name (part_name p)) row.index row.values ≡ Some (Signed (decided (signs row.values p.filter p.blocks) (first_of p.filter ++ list_of_order (λ q. moved p.filter (segment_of p q)) n places)).0 j))
+    × (CCall (front ++ (one_funs (numbered (part_name p) p.filter) 0 (bodies_of p.filter p.blocks) ++ two_fun (call_name (part_name p))
+    (touching_index (nat_le 2 n) (body_for (numbered (part_name p) p.filter) answer_name (λ q. moved p.filter (segment_of p q)) (first_of p.filter) n)) ∷ rest))
+    (call_name (part_name p)) row.index row.values
+    ≡ Some (Signed (decided (signs row.values p.filter p.blocks) (first_of p.filter ++ list_of_order (λ q. moved p.filter (segment_of p q)) n places)).0 j))
     × (j.calls ≡ ups (decided (signs row.values p.filter p.blocks) (first_of p.filter ++ list_of_order (λ q. moved p.filter (segment_of p q)) n places)).1 0)
-    × (first_of_signs (signs row.values p.filter p.blocks) (afters p.filter p.blocks) (first_of p.filter ++ list_of_order (λ q. moved p.filter (segment_of p q)) n places) (record { wide = 0; calls = 0 }) ≡ Said (decided (signs row.values p.filter p.blocks) (first_of p.filter ++ list_of_order (λ q. moved p.filter (segment_of p q)) n places)).0 j)
+    × (first_of_signs (signs row.values p.filter p.blocks) (afters p.filter p.blocks)
+    (first_of p.filter ++ list_of_order (λ q. moved p.filter (segment_of p q)) n places) (record { wide = 0; calls = 0 })
+    ≡ Said (decided (signs row.values p.filter p.blocks) (first_of p.filter ++ list_of_order (λ q. moved p.filter (segment_of p q)) n places)).0 j)
 means-at front rest p row places n e h = rw e at h
 
--- along a list that is equal, as the machine's verdict says
-as-verdict : (fs : List Fun) (p : Part) (row : tree.Row) (places xs ys : List ℕ) (s : Same row.values p.filter p.blocks (list_of p places)) (j : Counts) → IsOrder row.index places → IsOrderOf p.shape.sites places → xs ≡ ys → ys ≡ first_of p.filter ++ moved p.filter (list_of p places) → length ys < 2 ^ 32
+-- along a list that is equal, as in the machine's verdict
+as-verdict : (fs : List Fun) (p : Part) (row : tree.Row) (places xs ys : List ℕ) (s : Same row.values p.filter p.blocks (list_of p places)) (j : Counts)
+    → IsOrder row.index places → IsOrderOf p.shape.sites places → xs ≡ ys → ys ≡ first_of p.filter ++ moved p.filter (list_of p places) → length ys < 2 ^ 32
     → CCall fs (call_name (part_name p)) row.index row.values ≡ Some (Signed (decided (signs row.values p.filter p.blocks) xs).0 j)
     → j.calls ≡ ups (decided (signs row.values p.filter p.blocks) xs).1 0
-    → first_of_signs (signs row.values p.filter p.blocks) (afters p.filter p.blocks) xs (record { wide = 0; calls = 0 }) ≡ Said (decided (signs row.values p.filter p.blocks) xs).0 j → CallSays fs p row
+    → first_of_signs (signs row.values p.filter p.blocks) (afters p.filter p.blocks) xs (record { wide = 0; calls = 0 })
+    ≡ Said (decided (signs row.values p.filter p.blocks) xs).0 j → CallSays fs p row
 as-verdict fs p row places xs ys s j o u e f few called calls said =
     let zs : List ℤ = row.values in
     let g : ℕ → ℤ = signs zs p.filter p.blocks in
@@ -178,10 +204,12 @@ as-verdict fs p row places xs ys s j o u e f few called calls said =
       machine = record { places = places; order = o; list = list_of p places; chosen = record { order = u; list_is = refl }; answered = s.is };
       called = called ∙ ap (λ z. Some (Signed z j)) (sym b);
       calls = calls ∙ ups-small (decided g xs).1 n ∙ sym a;
-      narrow = λ by. s.narrow by (decided g xs).0 j (subst (λ ns. first_of_signs g (afters p.filter p.blocks) ns (record { wide = 0; calls = 0 }) ≡ Said (decided g xs).0 j) q said);
+      narrow = λ by. s.narrow by (decided g xs).0 j
+          (subst (λ ns. first_of_signs g (afters p.filter p.blocks) ns (record { wide = 0; calls = 0 }) ≡ Said (decided g xs).0 j) q said);
     }
 
-call-says : (front rest : List Fun) (p : Part) (row : tree.Row) → Facts p → InRange p.shape.sites p.shape.vars row → AreAway front (call_name (part_name p)) → ((b : ℕ) → b < length (bodies_of p.filter p.blocks) → AreAway front (numbered (part_name p) p.filter b)) → CallSays (front ++ funs_before p rest) p row
+call-says : (front rest : List Fun) (p : Part) (row : tree.Row) → Facts p → InRange p.shape.sites p.shape.vars row → AreAway front (call_name (part_name p))
+    → ((b : ℕ) → b < length (bodies_of p.filter p.blocks) → AreAway front (numbered (part_name p) p.filter b)) → CallSays (front ++ funs_before p rest) p row
 call-says front rest p row h r away blocks_away =
     let k : IsProgram p = h.kept in
     let x : List ℕ = part_name p in
@@ -193,16 +221,20 @@ call-says front rest p row h r away blocks_away =
     let list : List ℕ = list_of p o.0 in
     let is : IsList (length p.blocks) list = k.lists o.0 u in
     let few = list_few p.shape.vars p.blocks list k.blocks is in
-    let m = file-means front rest (numbered x p.filter) answer_name (call_name x) (nat_le 2 p.shape.sites) (bodies_of p.filter p.blocks) (signs zs p.filter p.blocks) (afters p.filter p.blocks) (λ q. moved p.filter (segment_of p q)) (first_of p.filter) o.0 row.index zs away blocks_away
+    let m = file-means front rest (numbered x p.filter) answer_name (call_name x) (nat_le 2 p.shape.sites) (bodies_of p.filter p.blocks)
+    (signs zs p.filter p.blocks) (afters p.filter p.blocks) (λ q. moved p.filter (segment_of p q)) (first_of p.filter) o.0 row.index zs away blocks_away
     (λ i j l n e. numbered_differ x p.filter i j (omega (arith, l, short)) (omega (arith, n, short)) e)
     (bodies_mean p.shape.vars zs r.values p.filter p.blocks (omega (arith, small)) k.filter k.blocks)
     (first_numbers p.filter p.blocks) (segment_numbers p h) (λ i l. (let z = r.indices i (pos 0) l in fits-64 (index_at row.index i) z.0 z.1)) o.1 in
     let n = means-at front rest p row o.0 p.shape.sites r.size m in
-    let s = both_same zs p.filter p.blocks list (leaves p.shape.vars zs r.values p.filter (omega (arith, small)) k.filter) (λ b i. valued p.shape.vars zs r.values p.blocks (omega (arith, small)) k.blocks b (all-member (length p.blocks) list is.within b i)) in
+    let s = both_same zs p.filter p.blocks list (leaves p.shape.vars zs r.values p.filter (omega (arith, small)) k.filter)
+    (λ b i. valued p.shape.vars zs r.values p.blocks (omega (arith, small)) k.blocks b (all-member (length p.blocks) list is.within b i)) in
     let e : first_of p.filter ++ list_of_order (λ q. moved p.filter (segment_of p q)) p.shape.sites o.0 ≡ first_of p.filter ++ moved p.filter list
     = ap (λ z. first_of p.filter ++ z) (moved-list p.filter (segment_of p) p.shape.sites o.0 ∙ ap (moved p.filter) (list-is p p.shape.sites o.0 u.size)) in
-    let size : length (first_of p.filter ++ moved p.filter list) < 2 ^ 32 = (let a = first-few p.shape.vars p.filter k.filter in let b = few.members in let c = length-append (first_of p.filter) (moved p.filter list) in omega (arith, a, b, c, small, moved-length p.filter list)) in
-    as-verdict (front ++ funs_before p rest) p row o.0 (first_of p.filter ++ list_of_order (λ q. moved p.filter (segment_of p q)) p.shape.sites o.0) (first_of p.filter ++ moved p.filter list) s n.0 o.1 u e refl size n.1 n.2 n.3
+    let size : length (first_of p.filter ++ moved p.filter list) < 2 ^ 32 = (let a = first-few p.shape.vars p.filter k.filter in let b = few.members in
+    let c = length-append (first_of p.filter) (moved p.filter list) in omega (arith, a, b, c, small, moved-length p.filter list)) in
+    as-verdict (front ++ funs_before p rest) p row o.0 (first_of p.filter ++ list_of_order (λ q. moved p.filter (segment_of p q)) p.shape.sites o.0)
+    (first_of p.filter ++ moved p.filter list) s n.0 o.1 u e refl size n.1 n.2 n.3
 
 -- ---- all of them
 -- no function before has a name of this predicate
@@ -214,7 +246,7 @@ apart-more : (front gs : List Fun) (ps : List Part) → Apart front ps → Apart
 apart-more front gs [] h k = tt
 apart-more front gs (p ∷ ps) h k = ((λ y e. away_more front gs y (h.0 y e) (k.0 y e)), apart-more front gs ps h.1 k.1)
 
--- the functions of a program, without others behind
+-- the functions of a program, without others after
 abbrev own-funs : Part → List Fun
 own-funs p = one_funs (numbered (part_name p) p.filter) 0 (bodies_of p.filter p.blocks) ++ two_fun (call_name (part_name p)) (call_body p) ∷ []
 
@@ -225,7 +257,8 @@ own-apart p h (q ∷ ps) n = ((λ y e. one y e), own-apart p h ps n.1) where
   one y e =
       let short = short_bodies p h in
       away_more (one_funs (numbered (part_name p) p.filter) 0 (bodies_of p.filter p.blocks)) (two_fun (call_name (part_name p)) (call_body p) ∷ []) y
-      (away_one (numbered (part_name p) p.filter) 0 (bodies_of p.filter p.blocks) y (λ j l m i. n.0 (sym e ∙ sym (ap family i) ∙ numbered_family (part_name p) p.filter j (omega (arith, m, short)))))
+      (away_one (numbered (part_name p) p.filter) 0 (bodies_of p.filter p.blocks) y
+      (λ j l m i. n.0 (sym e ∙ sym (ap family i) ∙ numbered_family (part_name p) p.filter j (omega (arith, m, short)))))
       ((λ i. n.0 (sym e ∙ sym (ap family i) ∙ call_family (part_name p))), tt)
 
 all-say : (front : List Fun) (ps : List Part) → AllFacts ps → NamesDiffer ps → Apart front ps → AllSay (front ++ file_of ps) ps
@@ -234,8 +267,10 @@ all-say front (p ∷ ps) h d a =
     let short = short_bodies p h.0 in
     let f : Fun = two_fun (call_name (part_name p)) (call_body p) in
     let ones : List Fun = one_funs (numbered (part_name p) p.filter) 0 (bodies_of p.filter p.blocks) in
-    let e : (front ++ own-funs p) ++ file_of ps ≡ front ++ funs_before p (file_of ps) = append_assoc front (own-funs p) (file_of ps) ∙ ap (λ z. front ++ z) (append_assoc ones (f ∷ []) (file_of ps)) in (
-      (λ row r. call-says front (file_of ps) p row h.0 r (a.0 (call_name (part_name p)) (call_family (part_name p))) (λ b l. a.0 (numbered (part_name p) p.filter b) (numbered_family (part_name p) p.filter b (omega (arith, l, short))))),
+    let e : (front ++ own-funs p) ++ file_of ps ≡ front ++ funs_before p (file_of ps) =
+    append_assoc front (own-funs p) (file_of ps) ∙ ap (λ z. front ++ z) (append_assoc ones (f ∷ []) (file_of ps)) in (
+      (λ row r. call-says front (file_of ps) p row h.0 r (a.0 (call_name (part_name p)) (call_family (part_name p)))
+          (λ b l. a.0 (numbered (part_name p) p.filter b) (numbered_family (part_name p) p.filter b (omega (arith, l, short))))),
       subst (λ fs. AllSay fs ps) e (all-say (front ++ own-funs p) ps h.1 d.1 (apart-more front (own-funs p) ps a.1 (own-apart p h.0 ps d.0))),
     )
 
@@ -254,8 +289,10 @@ none-has x (p ∷ ps) h = (h 0 p (omega arith), none-has x ps (λ i d l. h (suc 
 
 differ-of : (ps : List Part) → AllPairs (λ (p q : Part). part_name p ≢ part_name q) ps → NamesDiffer ps
 differ-of [] h = tt
-differ-of (p ∷ ps) h =
-    (none-has (part_name p) ps (λ i d l e. h 0 (suc i) d (omega arith) (omega (arith, l)) (sym e)), differ-of ps (λ i j d l m. h (suc i) (suc j) d (omega (arith, l)) (omega (arith, m))))
+differ-of (p ∷ ps) h = (
+  none-has (part_name p) ps (λ i d l e. h 0 (suc i) d (omega arith) (omega (arith, l)) (sym e)),
+  differ-of ps (λ i j d l m. h (suc i) (suc j) d (omega (arith, l)) (omega (arith, m))),
+)
 
 -- what is said of a file is said of the same on other lines
 says_too : (fs gs : List Fun) (ps : List Part) → SameUpToLines gs fs → AllSay fs ps → AllSay gs ps

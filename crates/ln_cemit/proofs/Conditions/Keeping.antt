@@ -1,5 +1,6 @@
 -- The conditions of the subset, on the functions of blocks and filters.
-use Rattle.std.proofs.Common.{◌≡◌, ℕ, zero, suc, ◌<◌, ◌≤◌, ◌/◌, ◌^◌, ◌&&◌, not, Bool, true, false, List, [], ◌∷◌, length, refl, sym, ap, arith, ℤ, pos, unsigned_abs}
+use Rattle.std.proofs.Common.{◌≡◌, ℕ, zero, suc, ◌<◌, ◌≤◌, ◌/◌, ◌^◌, ◌&&◌, not, Bool, true, false, List, [], ◌∷◌, length, refl, sym, ap}
+use Rattle.std.proofs.Common.{arith, ℤ, pos, unsigned_abs}
 use Rattle.std.specs.Prelude.{Option, Some, nat_le, slice_get}
 use Rattle.std.proofs.lemmas.Bool.{le-leb, and_parts}
 use Rattle.ln_tree.specs.declared.shape.VarInfo.{VarInfo}
@@ -34,10 +35,12 @@ use Rattle.ln_cemit.specs.Emit.{emitted, touching, reads_row}
 use Rattle.ln_cemit.specs.Law.{error_of}
 use Rattle.ln_cemit.specs.Conditions.{is_fine, are_fine, is_free, FunsKeep, BlocksKeep, FiltersKeep}
 use Rattle.ln_cemit.proofs.Meanings.Follows.{number_held}
-use Rattle.ln_cemit.proofs.Conditions.Shapes.{words_out, divides_out, calls_out, Shape, shape_is, exprs_pass, names_pass, few_braces, few_parens, none_within, all_differ, all_flat}
+use Rattle.ln_cemit.proofs.Conditions.Shapes.{words_out, divides_out, calls_out, Shape, shape_is, exprs_pass, names_pass, few_braces}
+use Rattle.ln_cemit.proofs.Conditions.Shapes.{few_parens, none_within, all_differ, all_flat}
 
 -- what stands before a body that reads no value
-touch_exprs : (q : Expr → Bool) → q (c.Number Int 0) ≡ true → q (c.Value Int 0) ≡ true → (v : Bool) (b : Body) → each_expr q b ≡ true → each_expr q (touching v b) ≡ true
+touch_exprs : (q : Expr → Bool) → q (c.Number Int 0) ≡ true → q (c.Value Int 0) ≡ true → (v : Bool) (b : Body) → each_expr q b ≡ true
+    → each_expr q (touching v b) ≡ true
 touch_exprs q t u true b h = h
 touch_exprs q t u false b h = rw (t, u, h) refl
 
@@ -85,13 +88,18 @@ funs_keep names name own e xs differ free w o b h =
     let small : nat_le (parens_in (touching v body)) 16 ≡ true = le-leb _ _ (touch_parens v body (few_parens name top 0 body s)) in
     let braces : nat_le (suc (braces_in (touching v body))) 64 ≡ true = le-leb _ _ (touch_braces v body (few_braces name top 0 body s)) in
     let apart : each_name (λ x. is_own x && not (among names x)) (touching v body) ≡ true
-    = touch_names (λ x. is_own x && not (among names x)) v body (names_pass name top (λ x. is_own x && not (among names x)) (λ i lt. let f = freed names (name i) (free i lt) in both f.own f.apart) 0 body s) in
+    = touch_names (λ x. is_own x && not (among names x)) v body
+    (names_pass name top (λ x. is_own x && not (among names x)) (λ i lt. let f = freed names (name i) (free i lt) in both f.own f.apart) 0 body s) in
     let alone : distinct (direct (touching v body)) ≡ true = touch_direct v body (all_differ name top differ 0 body s) in
     let within : differ_within (touching v body) ≡ true = touch_within v body (none_within name top 0 body s) in
-    let divide : each_expr divides (touching v body) ≡ true = touch_exprs divides refl refl v body (exprs_pass name top divides (divides_out name is_c_name) 0 body s) in
-    let call : each_expr calls_none (touching v body) ≡ true = touch_exprs calls_none refl refl v body (exprs_pass name top calls_none (calls_out name is_c_name) 0 body s) in
-    let words : each_expr has_words (touching v body) ≡ true = touch_exprs has_words refl refl v body (exprs_pass name top has_words (words_out name) 0 body s) in
-    let spelt : each_name is_c_name (touching v body) ≡ true = touch_names is_c_name v body (names_pass name top is_c_name (λ i lt. (freed names (name i) (free i lt)).word) 0 body s) in
+    let divide : each_expr divides (touching v body) ≡ true =
+    touch_exprs divides refl refl v body (exprs_pass name top divides (divides_out name is_c_name) 0 body s) in
+    let call : each_expr calls_none (touching v body) ≡ true =
+    touch_exprs calls_none refl refl v body (exprs_pass name top calls_none (calls_out name is_c_name) 0 body s) in
+    let words : each_expr has_words (touching v body) ≡ true =
+    touch_exprs has_words refl refl v body (exprs_pass name top has_words (words_out name) 0 body s) in
+    let spelt : each_name is_c_name (touching v body) ≡ true =
+    touch_names is_c_name v body (names_pass name top is_c_name (λ i lt. (freed names (name i) (free i lt)).word) 0 body s) in
     let one : flat (touching v body) ≡ touching v body = touch_flat v body (all_flat name top 0 body s) in
     record {
       keeps = rw (small, braces, o, apart, alone, within, divide, call) refl;
@@ -109,7 +117,8 @@ record IsStrict {B V L : Type 0} (g : B → Way) (e : Engine B V L) : Type 0 whe
   push : (z : ℤ) (b : B) (v : V) → e.push z b ≡ Some v → is_fine (Push z) (g b) ≡ true
   input : (i : ℕ) (b : B) (v : V) → e.input i b ≡ Some v → is_fine (Input i) (g b) ≡ true
 
-fine_step : {B V L : Type 0} (g : B → Way) (e : Engine B V L) → IsStrict g e → (oper : Op) (b : B) (l : L) (vs : List V) (t : State V L) → step e oper b l vs ≡ Some t → is_fine oper (g b) ≡ true
+fine_step : {B V L : Type 0} (g : B → Way) (e : Engine B V L) → IsStrict g e → (oper : Op) (b : B) (l : L) (vs : List V) (t : State V L)
+    → step e oper b l vs ≡ Some t → is_fine oper (g b) ≡ true
 fine_step g e h (Push z) b l vs t q = let r = next_some (e.push z b) (pushed e l vs) t q in h.push z b r.0 r.1
 fine_step g e h (Input i) b l vs t q = let r = next_some (e.input i b) (pushed e l vs) t q in h.input i b r.0 r.1
 fine_step g e h (Get j) b l vs t q = refl
@@ -120,7 +129,8 @@ fine_step g e h (Mul w) b l vs t q = refl
 fine_step g e h (Neg w) b l vs t q = refl
 fine_step g e h (Cut m) b l vs t q = refl
 
-fine_run : {B V L : Type 0} (g : B → Way) (e : Engine B V L) → IsStrict g e → (lines : List (Line B)) (s t : State V L) → run e lines s ≡ Some t → are_fine (ways g lines) ≡ true
+fine_run : {B V L : Type 0} (g : B → Way) (e : Engine B V L) → IsStrict g e → (lines : List (Line B)) (s t : State V L)
+    → run e lines s ≡ Some t → are_fine (ways g lines) ≡ true
 fine_run g e h [] s t q = refl
 fine_run {V = V} {L = L} g e h (x ∷ xs) s t q =
     let r = next_some (step e x.op x.bound s.locals s.stack) (λ (u : State V L). run e xs u) t q in
@@ -133,11 +143,14 @@ below_length (y ∷ ys) (suc i) x q = let h = below_length ys i x q in omega (ar
 
 strict_rules : (vars : List VarInfo) (depth : ℕ) → length vars ≤ most_number → IsStrict block_way (rules vars depth)
 strict_rules vars depth few = record {
-  push = λ z p k q. let r = known_some (point z) p (least (magnitude p)) (unsigned_abs z) (tree.Num z) k q in short z p (holds_magnitude p z (covers_holds p (point z) z r.0 (number_held z))) r.1.1;
-  input = λ i p k q. let r = next_some (slice_get vars i) (λ (v : VarInfo). known (declared v) p (least (magnitude p)) 1 (tree.Input i)) k q in le-leb i most_number (omega (arith, below_length vars i r.0 r.1, few));
+  push = λ z p k q. let r = known_some (point z) p (least (magnitude p)) (unsigned_abs z) (tree.Num z) k q in
+      short z p (holds_magnitude p z (covers_holds p (point z) z r.0 (number_held z))) r.1.1;
+  input = λ i p k q. let r = next_some (slice_get vars i) (λ (v : VarInfo). known (declared v) p (least (magnitude p)) 1 (tree.Input i)) k q in
+      le-leb i most_number (omega (arith, below_length vars i r.0 r.1, few));
 }
   where
-    short : (z : ℤ) (p : Range) → unsigned_abs z ≤ magnitude p → magnitude p ≤ limit (least (magnitude p)) → nat_le (unsigned_abs (cut_by 0 z)) (limit W128) ≡ true
+    short : (z : ℤ) (p : Range) → unsigned_abs z ≤ magnitude p → magnitude p ≤ limit (least (magnitude p))
+        → nat_le (unsigned_abs (cut_by 0 z)) (limit W128) ≡ true
     short z p h q =
         let e : cut_by 0 z ≡ z = cut_none z in
         rw e (le-leb (unsigned_abs z) (limit W128) (omega (arith, h, q, limit_wide (least (magnitude p)))))
@@ -145,7 +158,8 @@ strict_rules vars depth few = record {
 strict_filter : (vars : List VarInfo) (depth : ℕ) → length vars ≤ most_number → IsStrict filter_way (filter_rules vars depth)
 strict_filter vars depth few = record {
   push = λ z a k q. let r = known_says a.k _ (push_error a.k) (unsigned_abs z) (tree.Num z) a k q in short z a r.enough_h r.narrow;
-  input = λ i a k q. let r = next_some (slice_get vars i) (λ (v : VarInfo). filter_known 0 (size_of v) 0 1 (tree.Input i) a) k q in le-leb i most_number (omega (arith, below_length vars i r.0 r.1, few));
+  input = λ i a k q. let r = next_some (slice_get vars i) (λ (v : VarInfo). filter_known 0 (size_of v) 0 1 (tree.Input i) a) k q in
+      le-leb i most_number (omega (arith, below_length vars i r.0 r.1, few));
 }
   where
     short : (z : ℤ) (a : Triple) → unsigned_abs z / 2 ^ a.k ≤ a.h → a.h ≤ 9223372036854775807 → nat_le (unsigned_abs (cut_by a.k z)) (limit W128) ≡ true
@@ -155,15 +169,19 @@ pub blocks_keep : BlocksKeep
 blocks_keep names name own vars code differ free w o few r =
     let k = some_is (known_of vars code) r.answers in
     let q = next_some (run (rules vars code.depth) (lines_of code.ops code.pairs) (record { stack = []; locals = no_locals })) (λ s. only s.stack) k.0 k.1 in
-    funs_keep names name own 0 (block_lines code) differ free w o (omega arith) (fine_run block_way (rules vars code.depth) (strict_rules vars code.depth few) (lines_of code.ops code.pairs) (record { stack = []; locals = no_locals }) q.0 q.1)
+    funs_keep names name own 0 (block_lines code) differ free w o (omega arith) (fine_run block_way (rules vars code.depth)
+    (strict_rules vars code.depth few) (lines_of code.ops code.pairs) (record { stack = []; locals = no_locals }) q.0 q.1)
 
 pub filters_keep : FiltersKeep
 filters_keep names name own vars zs f range differ free w o few r =
     let b = filter_runs vars zs f f.depth (λ k. pos 0) r range (omega arith) in
     let one : b.what ≡ r.what = one_known (filter_known_of vars f) b.what r.what b.known r.known in
-    let small : error_of f ≤ most_number = at_most (error_of f) b.left.error b.what.triple.e r.what.triple.e (sym b.error) b.holds.error (ap (λ (y : FilterKnown). y.triple.e) one) r.narrow in
-    let q = next_some (run (filter_rules vars f.depth) (lines_of f.ops f.triples) (record { stack = []; locals = no_locals })) (λ s. only s.stack) r.what r.known in
-    funs_keep names name own (error_of f) (filter_lines f) differ free w o small (fine_run filter_way (filter_rules vars f.depth) (strict_filter vars f.depth few) (lines_of f.ops f.triples) (record { stack = []; locals = no_locals }) q.0 q.1)
+    let small : error_of f ≤ most_number =
+    at_most (error_of f) b.left.error b.what.triple.e r.what.triple.e (sym b.error) b.holds.error (ap (λ (y : FilterKnown). y.triple.e) one) r.narrow in
+    let q = next_some (run (filter_rules vars f.depth) (lines_of f.ops f.triples) (record { stack = []; locals = no_locals }))
+    (λ s. only s.stack) r.what r.known in
+    funs_keep names name own (error_of f) (filter_lines f) differ free w o small (fine_run filter_way (filter_rules vars f.depth)
+    (strict_filter vars f.depth few) (lines_of f.ops f.triples) (record { stack = []; locals = no_locals }) q.0 q.1)
   where
     one_known : (o : Option FilterKnown) (a b : FilterKnown) → o ≡ Some a → o ≡ Some b → a ≡ b
     one_known o a b p q = cc

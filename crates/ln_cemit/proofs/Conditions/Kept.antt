@@ -1,5 +1,6 @@
 -- The emitted file keeps the conditions of the subset.
-use Rattle.std.proofs.Common.{◌≡◌, ◌≢◌, ℕ, zero, suc, ◌+◌, ◌<◌, ◌≤◌, ◌^◌, not, ◌&&◌, Bool, true, false, List, [], ◌∷◌, ◌++◌, length, map, get_or, refl, sym, ap, ◌∙◌, subst, arith, inl, inr, ℤ}
+use Rattle.std.proofs.Common.{◌≡◌, ◌≢◌, ℕ, zero, suc, ◌+◌, ◌<◌, ◌≤◌, ◌^◌, not, ◌&&◌, Bool, true, false, List, [], ◌∷◌, ◌++◌, length, map}
+use Rattle.std.proofs.Common.{get_or, refl, sym, ap, ◌∙◌, subst, arith, inl, inr, ℤ}
 use Rattle.std.specs.Prelude.{Option, Some, None, IfSome, All, if◌then◌else◌, nat_le, int_lt, count_by, ◌==◌, ◌≤ℤ◌}
 use Rattle.std.specs.List.{list_all}
 use Rattle.std.proofs.lemmas.Bool.{and_parts, le-leb}
@@ -32,10 +33,13 @@ use Rattle.ln_cemit.specs.Whole.{block_body, bodies_of, call_body, file_of, filt
 use Rattle.ln_cemit.proofs.Conditions.Keeping.{blocks_keep, filters_keep}
 use Rattle.ln_cemit.proofs.Conditions.Named.{names_serve}
 use Rattle.ln_cemit.proofs.Choices.Orders.{member-range}
-use Rattle.ln_cemit.proofs.Conditions.Steps.{Steps, all_divide, all_names, all_words, body_steps, few_braces, few_parens, is_flat, none_alike, none_direct, room_few, room_for, touch_steps, above_one}
-use Rattle.ln_cemit.proofs.Conditions.Titles.{away_among, away_more, away_one, call_c_name, call_family, distinct_one, family, name_passes, numbered_begins, numbered_c_name, numbered_differ, numbered_family, numbered_no_call, numbered_own, sign_apart}
+use Rattle.ln_cemit.proofs.Conditions.Steps.{Steps, all_divide, all_names, all_words, body_steps, few_braces, few_parens, is_flat}
+use Rattle.ln_cemit.proofs.Conditions.Steps.{none_alike, none_direct, room_few, room_for, touch_steps, above_one}
+use Rattle.ln_cemit.proofs.Conditions.Titles.{away_among, away_more, away_one, call_c_name, call_family, distinct_one, family, name_passes}
+use Rattle.ln_cemit.proofs.Conditions.Titles.{numbered_begins, numbered_c_name, numbered_differ, numbered_family, numbered_no_call}
+use Rattle.ln_cemit.proofs.Conditions.Titles.{numbered_own, sign_apart}
 
--- ---- what a program gives
+-- ---- facts of a program
 pub record Facts (p : Part) : Type 0 where
   pub kept : IsProgram p
   pub small : length p.blocks ≤ 65536
@@ -76,7 +80,8 @@ lows_within (i ∷ is) h =
 
 ranged : (sites : ℕ) (vars : List VarInfo) → is_laid_out sites vars ≡ true → list_all has_range vars ≡ true
 ranged sites vars h =
-    let a = and_parts (in_order 0 0 no_var vars && list_all has_range vars && (count_by starts_site vars == sites) && nat_le sites 5 && nat_le (count_by is_param vars) 8) _ h in
+    let a = and_parts (in_order 0 0 no_var vars && list_all has_range vars && (count_by starts_site vars == sites) && nat_le sites 5
+    && nat_le (count_by is_param vars) 8) _ h in
     let b = and_parts (in_order 0 0 no_var vars && list_all has_range vars && (count_by starts_site vars == sites) && nat_le sites 5) _ a.0 in
     let c = and_parts (in_order 0 0 no_var vars && list_all has_range vars && (count_by starts_site vars == sites)) _ b.0 in
     let d = and_parts (in_order 0 0 no_var vars && list_all has_range vars) _ c.0 in
@@ -101,23 +106,29 @@ module _ (names : List (List ℕ)) (begin : all_begin names ≡ true) (sites : �
       let n = names_serve names (length (filter_lines f)) (omega (arith, lines_short filter_way f.ops f.triples, l)) begin in
       filters_keep names decl_name own vars (map (λ i. i.lo) vars) f (lows_within vars (ranged sites vars laid)) n.0 n.1 w o few r
 
-  blocks_serve : (cs : List Code) → ops_in_blocks cs ≤ 2 ^ 63 → All (FollowsRules vars) cs → (b : ℕ) → b < length (map block_body cs) → Serves names (get_or (map block_body cs) b End)
+  blocks_serve : (cs : List Code) → ops_in_blocks cs ≤ 2 ^ 63 → All (FollowsRules vars) cs → (b : ℕ) → b < length (map block_body cs)
+      → Serves names (get_or (map block_body cs) b End)
   blocks_serve [] l r b h = absurd (omega arith)
   blocks_serve (c ∷ cs) l r zero h = block_serves c (omega (arith, l)) (r 0 c (omega arith))
   blocks_serve (c ∷ cs) l r (suc b) h = blocks_serve cs (omega (arith, l)) (λ k d m. r (suc k) d (omega (arith, m))) b (omega (arith, h))
 
-  bodies_serve : (f : Option FilterCode) (cs : List Code) → ops_in_filter f + ops_in_blocks cs ≤ 2 ^ 63 → IfSome f (FollowsFilterRules vars) → All (FollowsRules vars) cs → (b : ℕ) → b < length (bodies_of f cs) → Serves names (get_or (bodies_of f cs) b End)
+  bodies_serve : (f : Option FilterCode) (cs : List Code) → ops_in_filter f + ops_in_blocks cs ≤ 2 ^ 63 → IfSome f (FollowsFilterRules vars)
+      → All (FollowsRules vars) cs → (b : ℕ) → b < length (bodies_of f cs) → Serves names (get_or (bodies_of f cs) b End)
   bodies_serve None cs l i r b h = blocks_serve cs (omega (arith, l)) r b h
   bodies_serve (Some f) cs l i r zero h = filter_serves f (omega (arith, l)) i
   bodies_serve (Some f) cs l i r (suc b) h = blocks_serve cs (omega (arith, l)) r b (omega (arith, h))
 
 -- each of them passes a test
-each_one : (q : Fun → Bool) (name : ℕ → List ℕ) (i : ℕ) (bodies : List Body) (rest : List Fun) → ((j n : ℕ) → j ≡ i + n → n < length bodies → q (one_fun (name j) (get_or bodies n End)) ≡ true) → each_fun q rest ≡ true → each_fun q (one_funs name i bodies ++ rest) ≡ true
+each_one : (q : Fun → Bool) (name : ℕ → List ℕ) (i : ℕ) (bodies : List Body) (rest : List Fun)
+    → ((j n : ℕ) → j ≡ i + n → n < length bodies → q (one_fun (name j) (get_or bodies n End)) ≡ true) → each_fun q rest ≡ true
+    → each_fun q (one_funs name i bodies ++ rest) ≡ true
 each_one q name i [] rest h r = r
 each_one q name i (b ∷ bs) rest h r =
     rw (h i 0 (omega arith) (omega arith), each_one q name (suc i) bs rest (λ j n e l. h j (suc n) (omega (arith, e)) (omega (arith, l))) r) refl
 
-flat_one : (name : ℕ → List ℕ) (i : ℕ) (bodies : List Body) (rest : List Fun) → ((j n : ℕ) → j ≡ i + n → n < length bodies → flat_fun (one_fun (name j) (get_or bodies n End)) ≡ one_fun (name j) (get_or bodies n End)) → flat_file rest ≡ rest → flat_file (one_funs name i bodies ++ rest) ≡ one_funs name i bodies ++ rest
+flat_one : (name : ℕ → List ℕ) (i : ℕ) (bodies : List Body) (rest : List Fun)
+    → ((j n : ℕ) → j ≡ i + n → n < length bodies → flat_fun (one_fun (name j) (get_or bodies n End)) ≡ one_fun (name j) (get_or bodies n End))
+    → flat_file rest ≡ rest → flat_file (one_funs name i bodies ++ rest) ≡ one_funs name i bodies ++ rest
 flat_one name i [] rest h r = r
 flat_one name i (b ∷ bs) rest h r =
     ap (λ (f : Fun). f ∷ flat_file (one_funs name (suc i) bs ++ rest)) (h i 0 (omega arith) (omega arith))
@@ -158,7 +169,8 @@ first_numbers (Some f) cs b (inl e) = omega (arith, e)
 first_numbers (Some f) cs b (inr i) = absurd i
 
 pub segment_numbers : (p : Part) → Facts p → (q : List ℕ) → AreNumbers (length (bodies_of p.filter p.blocks)) (moved p.filter (segment_of p q))
-segment_numbers p h q = moved_numbers p.filter p.blocks (segment_of p q) (beside_numbers (length p.blocks) (prefixes_of p.shape.sites) p.segments q h.kept.named)
+segment_numbers p h q =
+    moved_numbers p.filter p.blocks (segment_of p q) (beside_numbers (length p.blocks) (prefixes_of p.shape.sites) p.segments q h.kept.named)
 
 -- ---- the function with two parameters
 call_stands : (names : List (List ℕ)) → all_begin names ≡ true → (p : Part) → Facts p → Stands names (two_fun (call_name (part_name p)) (call_body p))
@@ -169,8 +181,10 @@ call_stands names begin p h =
     let short = short_bodies p h in
     let passes = name_passes (part_name p) p.shape.name.named in
     let r = above_one answer_name p.shape.sites in
-    let inside : Steps answer_name (room_for answer_name p.shape.sites) (body_for name answer_name (λ q. moved p.filter (segment_of p q)) (first_of p.filter) p.shape.sites)
-    = body_steps answer_name name top (λ b l. numbered_c_name (part_name p) p.filter b (omega (arith, l, short)) passes) (λ q. moved p.filter (segment_of p q)) (segment_numbers p h) (first_of p.filter) p.shape.sites (first_numbers p.filter p.blocks)
+    let inside : Steps answer_name (room_for answer_name p.shape.sites)
+    (body_for name answer_name (λ q. moved p.filter (segment_of p q)) (first_of p.filter) p.shape.sites)
+    = body_steps answer_name name top (λ b l. numbered_c_name (part_name p) p.filter b (omega (arith, l, short)) passes)
+    (λ q. moved p.filter (segment_of p q)) (segment_numbers p h) (first_of p.filter) p.shape.sites (first_numbers p.filter p.blocks)
     (omega (arith, length-range_with_len 0 p.shape.sites, few)) (λ j l. omega (arith, (member-range 0 p.shape.sites j l).1, few)) in
     let e : room_for answer_name p.shape.sites ≡ suc (suc r.0) = r.1 in
     let n : ℕ = suc (suc r.0) in
@@ -179,7 +193,8 @@ call_stands names begin p h =
     let l : n ≤ 27 = omega (arith, e, room_few answer_name p.shape.sites few) in
     let small : nat_le (parens_in body) 16 ≡ true = le-leb _ _ (omega (arith, few_parens answer_name n body s)) in
     let braces : nat_le (suc (braces_in body)) 64 ≡ true = le-leb _ _ (omega (arith, few_braces answer_name n body s, l)) in
-    let apart : each_name (λ x. is_own x && not (among names x)) body ≡ true = all_names answer_name (λ x. is_own x && not (among names x)) (free (sign_apart names begin)) n body s in
+    let apart : each_name (λ x. is_own x && not (among names x)) body ≡ true =
+    all_names answer_name (λ x. is_own x && not (among names x)) (free (sign_apart names begin)) n body s in
     let alone : direct body ≡ [] = none_direct answer_name n body s in
     let within : differ_within body ≡ true = none_alike answer_name n body s in
     let divide : each_expr divides body ≡ true = all_divide answer_name n body s in
@@ -196,7 +211,9 @@ call_stands names begin p h =
     free : among names answer_name ≡ false → (is_own answer_name && not (among names answer_name)) ≡ true
     free e = rw e refl
 
-    kept_by : (names : List (List ℕ)) (x : List ℕ) (body : Body) → is_own x ≡ true → nat_le (parens_in body) 16 ≡ true → nat_le (suc (braces_in body)) 64 ≡ true → each_name (λ y. is_own y && not (among names y)) body ≡ true → direct body ≡ [] → differ_within body ≡ true → each_expr divides body ≡ true → fun_keeps names (two_fun x body) ≡ true
+    kept_by : (names : List (List ℕ)) (x : List ℕ) (body : Body) → is_own x ≡ true → nat_le (parens_in body) 16 ≡ true
+        → nat_le (suc (braces_in body)) 64 ≡ true → each_name (λ y. is_own y && not (among names y)) body ≡ true → direct body ≡ []
+        → differ_within body ≡ true → each_expr divides body ≡ true → fun_keeps names (two_fun x body) ≡ true
     kept_by names x body o small braces apart alone within divide = rw (small, braces, o, apart, alone, within, divide) refl
 
 -- ---- the file
@@ -213,13 +230,15 @@ abbrev pub NamesDiffer : List Part → Type 0
 NamesDiffer [] = Unit {0}
 NamesDiffer (p ∷ ps) = NoneHas (part_name p) ps × NamesDiffer ps
 
-one_begin : (name : ℕ → List ℕ) (i : ℕ) (bodies : List Body) (rest : List Fun) → ((j : ℕ) → begins_with_l (name j) ≡ true) → all_begin (names_of rest) ≡ true → all_begin (names_of (one_funs name i bodies ++ rest)) ≡ true
+one_begin : (name : ℕ → List ℕ) (i : ℕ) (bodies : List Body) (rest : List Fun) → ((j : ℕ) → begins_with_l (name j) ≡ true)
+    → all_begin (names_of rest) ≡ true → all_begin (names_of (one_funs name i bodies ++ rest)) ≡ true
 one_begin name i [] rest h r = r
 one_begin name i (b ∷ bs) rest h r = rw (h i, one_begin name (suc i) bs rest h r) refl
 
 pub file_begins : (ps : List Part) → all_begin (names_of (file_of ps)) ≡ true
 file_begins [] = refl
-file_begins (p ∷ ps) = one_begin (numbered (part_name p) p.filter) 0 (bodies_of p.filter p.blocks) (two_fun (call_name (part_name p)) (call_body p) ∷ file_of ps) (numbered_begins (part_name p) p.filter) (file_begins ps)
+file_begins (p ∷ ps) = one_begin (numbered (part_name p) p.filter) 0 (bodies_of p.filter p.blocks)
+    (two_fun (call_name (part_name p)) (call_body p) ∷ file_of ps) (numbered_begins (part_name p) p.filter) (file_begins ps)
 
 -- a name of another predicate's function stands nowhere
 pub file_away : (y x : List ℕ) → family y ≡ x → (ps : List Part) → AllFacts ps → NoneHas x ps → AreAway (file_of ps) y
@@ -227,7 +246,8 @@ file_away y x e [] h n = tt
 file_away y x e (p ∷ ps) h n =
     let short = short_bodies p h.0 in
     away_more (one_funs (numbered (part_name p) p.filter) 0 (bodies_of p.filter p.blocks)) (two_fun (call_name (part_name p)) (call_body p) ∷ file_of ps) y
-    (away_one (numbered (part_name p) p.filter) 0 (bodies_of p.filter p.blocks) y (λ j l m q. n.0 (sym (numbered_family (part_name p) p.filter j (omega (arith, m, short))) ∙ ap family q ∙ e)))
+    (away_one (numbered (part_name p) p.filter) 0 (bodies_of p.filter p.blocks) y
+    (λ j l m q. n.0 (sym (numbered_family (part_name p) p.filter j (omega (arith, m, short))) ∙ ap family q ∙ e)))
     ((λ q. n.0 (sym (call_family (part_name p)) ∙ ap family q ∙ e)), file_away y x e ps h.1 n.1)
 
 file_distinct : (ps : List Part) → AllFacts ps → NamesDiffer ps → distinct (names_of (file_of ps)) ≡ true
@@ -237,26 +257,34 @@ file_distinct (p ∷ ps) h d =
     let short = short_bodies p h.0 in
     let rest : List Fun = two_fun (call_name x) (call_body p) ∷ file_of ps in
     let call_away : AreAway (file_of ps) (call_name x) = file_away (call_name x) x (call_family x) ps h.1 d.0 in
-    let behind : distinct (names_of rest) ≡ true = two_distinct (call_name x) (call_body p) (file_of ps) (away_among (file_of ps) (call_name x) call_away) (file_distinct ps h.1 d.1) in
+    let behind : distinct (names_of rest) ≡ true =
+    two_distinct (call_name x) (call_body p) (file_of ps) (away_among (file_of ps) (call_name x) call_away) (file_distinct ps h.1 d.1) in
     distinct_one (numbered x p.filter) 0 (length (bodies_of p.filter p.blocks)) (bodies_of p.filter p.blocks) rest (omega arith)
     (λ j k l m e. numbered_differ x p.filter j k (omega (arith, l, short)) (omega (arith, m, short)) e)
-    (λ j l. ((λ q. numbered_no_call x p.filter j (sym q)), file_away (numbered x p.filter j) x (numbered_family x p.filter j (omega (arith, l, short))) ps h.1 d.0)) behind
+    (λ j l. (
+      (λ q. numbered_no_call x p.filter j (sym q)),
+      file_away (numbered x p.filter j) x (numbered_family x p.filter j (omega (arith, l, short))) ps h.1 d.0,
+    )) behind
   where
-    two_distinct : (x : List ℕ) (b : Body) (fs : List Fun) → among (names_of fs) x ≡ false → distinct (names_of fs) ≡ true → distinct (names_of (two_fun x b ∷ fs)) ≡ true
+    two_distinct : (x : List ℕ) (b : Body) (fs : List Fun) → among (names_of fs) x ≡ false → distinct (names_of fs) ≡ true
+        → distinct (names_of (two_fun x b ∷ fs)) ≡ true
     two_distinct x b fs a d = rw (a, d) refl
 
 module _ (names : List (List ℕ)) (begin : all_begin names ≡ true) where
-  one_stands : (p : Part) → Facts p → (j n : ℕ) → j ≡ 0 + n → n < length (bodies_of p.filter p.blocks) → Stands names (one_fun (numbered (part_name p) p.filter j) (get_or (bodies_of p.filter p.blocks) n End))
+  one_stands : (p : Part) → Facts p → (j n : ℕ) → j ≡ 0 + n → n < length (bodies_of p.filter p.blocks)
+      → Stands names (one_fun (numbered (part_name p) p.filter j) (get_or (bodies_of p.filter p.blocks) n End))
   one_stands p h j n e l =
       let short = short_bodies p h in
       let passes = name_passes (part_name p) p.shape.name.named in
-      bodies_serve names begin p.shape.sites p.shape.vars p.shape.kept p.filter p.blocks (omega (arith, h.kept.few)) h.kept.filter h.kept.blocks n l (numbered (part_name p) p.filter j)
+      bodies_serve names begin p.shape.sites p.shape.vars p.shape.kept p.filter p.blocks
+      (omega (arith, h.kept.few)) h.kept.filter h.kept.blocks n l (numbered (part_name p) p.filter j)
       (numbered_c_name (part_name p) p.filter j (omega (arith, e, l, short)) passes) (numbered_own (part_name p) p.filter j)
 
   each_kept : (ps : List Part) → AllFacts ps → each_fun (fun_keeps names) (file_of ps) ≡ true
   each_kept [] h = refl
   each_kept (p ∷ ps) h =
-      each_one (fun_keeps names) (numbered (part_name p) p.filter) 0 (bodies_of p.filter p.blocks) (two_fun (call_name (part_name p)) (call_body p) ∷ file_of ps) (λ j n e l. (one_stands p h.0 j n e l).keeps)
+      each_one (fun_keeps names) (numbered (part_name p) p.filter) 0 (bodies_of p.filter p.blocks)
+      (two_fun (call_name (part_name p)) (call_body p) ∷ file_of ps) (λ j n e l. (one_stands p h.0 j n e l).keeps)
       (both (call_stands names begin p h.0).keeps (each_kept ps h.1))
     where
       both : {u v : Bool} → u ≡ true → v ≡ true → (u && v) ≡ true
@@ -265,7 +293,8 @@ module _ (names : List (List ℕ)) (begin : all_begin names ≡ true) where
   each_words : (ps : List Part) → AllFacts ps → each_fun fun_words (file_of ps) ≡ true
   each_words [] h = refl
   each_words (p ∷ ps) h =
-      each_one fun_words (numbered (part_name p) p.filter) 0 (bodies_of p.filter p.blocks) (two_fun (call_name (part_name p)) (call_body p) ∷ file_of ps) (λ j n e l. (one_stands p h.0 j n e l).words)
+      each_one fun_words (numbered (part_name p) p.filter) 0 (bodies_of p.filter p.blocks)
+      (two_fun (call_name (part_name p)) (call_body p) ∷ file_of ps) (λ j n e l. (one_stands p h.0 j n e l).words)
       (both (call_stands names begin p h.0).words (each_words ps h.1))
     where
       both : {u v : Bool} → u ≡ true → v ≡ true → (u && v) ≡ true

@@ -45,7 +45,10 @@ tail_same : (xs ys : List ℕ) → 110 ∷ xs ≡ 110 ∷ ys → xs ≡ ys
 tail_same xs ys e = cc
 
 pub names_serve : NamesServe
-names_serve names top small h = (λ m n p q e. decimal_injective m n (omega (arith, p, small)) (omega (arith, q, small)) (tail_same (decimal m) (decimal n) e), λ n lt. free n (omega (arith, lt, small)))
+names_serve names top small h = (
+  λ m n p q e. decimal_injective m n (omega (arith, p, small)) (omega (arith, q, small)) (tail_same (decimal m) (decimal n) e),
+  λ n lt. free n (omega (arith, lt, small)),
+)
   where
     free : (n : ℕ) → n < 10 ^ 64 → is_free names (decl_name n) ≡ true
     free n lt =

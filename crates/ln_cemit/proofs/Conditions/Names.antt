@@ -1,4 +1,4 @@
--- Names that are compared.
+-- Proves that the comparison of two names is true exactly where they are equal.
 use Rattle.std.proofs.Common.{◌≡◌, ℕ, Bool, true, false, List, [], ◌∷◌, refl, arith}
 use Rattle.std.specs.Prelude.{◌&&◌, nat_eq}
 use Rattle.std.proofs.lemmas.Bool.Decides.{nat_tests}

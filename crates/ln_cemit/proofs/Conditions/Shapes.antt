@@ -1,5 +1,6 @@
 -- The shape of an emitted body: declarations whose names are numbered upwards, and a return at the end. All conditions follow from it.
-use Rattle.std.proofs.Common.{◌≡◌, ℕ, zero, suc, ◌+◌, ◌/◌, ◌%◌, ◌^◌, ◌<◌, ◌≤◌, max, Bool, true, false, List, [], ◌∷◌, length, refl, ap, subst, arith, ℤ, pos, negsuc, unsigned_abs}
+use Rattle.std.proofs.Common.{◌≡◌, ℕ, zero, suc, ◌+◌, ◌/◌, ◌%◌, ◌^◌, ◌<◌, ◌≤◌, max, Bool, true, false, List, [], ◌∷◌, length, refl, ap}
+use Rattle.std.proofs.Common.{subst, arith, ℤ, pos, negsuc, unsigned_abs}
 use Rattle.std.specs.Prelude.{Option, Some, None, if◌then◌else◌, nat_le, nat_lt, bytes_eq, ◌==◌}
 use Rattle.std.proofs.lemmas.Bool.{leb-true, le-leb, and_parts}
 use Rattle.std.proofs.lemmas.Nat.{pow_pos, pow_below}
@@ -24,7 +25,8 @@ use Rattle.ln_csyn.specs.Text.{has_words}
 use Rattle.ln_csyn.specs.Spelling.{flat}
 use Rattle.ln_cemit.specs.declared.slot.Slot.{Slot}
 use Rattle.ln_cemit.specs.declared.slot.Way.{Way}
-use Rattle.ln_cemit.specs.Emit.{type_of, in_parts, is_short, natural, constant, cut_expr, slot, operand, sign_expr, lowest, Rest, put_get, put_set, put_two, put_neg, put_cut, put_op, put_sign, emitted, any_gets, naming, unread, ops_of}
+use Rattle.ln_cemit.specs.Emit.{type_of, in_parts, is_short, natural, constant, cut_expr, slot, operand, sign_expr, lowest, Rest, put_get}
+use Rattle.ln_cemit.specs.Emit.{put_set, put_two, put_neg, put_cut, put_op, put_sign, emitted, any_gets, naming, unread, ops_of}
 use Rattle.ln_cemit.specs.Checked.{AreNames}
 use Rattle.ln_cemit.specs.Conditions.{is_fine, are_fine}
 use Rattle.ln_cemit.proofs.Meanings.Blocks.{op_of}
@@ -35,7 +37,8 @@ pub data IsOut (name : ℕ → List ℕ) (p : List ℕ → Bool) : Expr → Type
   constant_out : (w : Width) (z : ℤ) → unsigned_abs z ≤ limit W128 → IsOut name p (c.Inner (type_of w) (constant z))
   value_out : (w : Width) (v : ℕ) → v ≤ most_number → IsOut name p (c.Value (type_of w) v)
   operand_out : (w : Width) (x : Slot) → p (name x.at) ≡ true → IsOut name p (operand name w x)
-  two_out : (t : Two) (w : Width) (x y : Slot) → p (name x.at) ≡ true → p (name y.at) ≡ true → IsOut name p (c.Two (op_of t) (operand name w x) (operand name w y))
+  two_out : (t : Two) (w : Width) (x y : Slot) → p (name x.at) ≡ true → p (name y.at) ≡ true
+      → IsOut name p (c.Two (op_of t) (operand name w x) (operand name w y))
   minus_out : (w : Width) (x : Slot) → p (name x.at) ≡ true → IsOut name p (c.Minus (operand name w x))
   cut_out : (m : ℕ) (x : Slot) → p (name x.at) ≡ true → IsOut name p (cut_expr m (operand name W64 x))
   sign_out : (e : ℕ) (x : Slot) → e ≤ most_number → p (name x.at) ≡ true → IsOut name p (sign_expr name e x)
@@ -227,7 +230,8 @@ module _ (name : ℕ → List ℕ) (top : ℕ) where
   abbrev GoodRest : ℕ → Rest → Type 0
   GoodRest n go = (ss : List Slot) (ls : ℕ → Option Slot) → GoodAll ss → GoodLocals ls → Shape n (go ss ls)
 
-  get_shape : (n : ℕ) (a : Way) (o : Option Slot) (ss : List Slot) (ls : ℕ → Option Slot) (go : Rest) → n < top → is_c_name (name n) ≡ true → ((s : Slot) → o ≡ Some s → Good s) → GoodAll ss → GoodLocals ls → GoodRest (suc n) go → Shape n (put_get name a n o ss ls go)
+  get_shape : (n : ℕ) (a : Way) (o : Option Slot) (ss : List Slot) (ls : ℕ → Option Slot) (go : Rest) → n < top → is_c_name (name n) ≡ true
+      → ((s : Slot) → o ≡ Some s → Good s) → GoodAll ss → GoodLocals ls → GoodRest (suc n) go → Shape n (put_get name a n o ss ls go)
   get_shape n a None ss ls go lt f q g l r = none n
   get_shape n a (Some s) ss ls go lt f q g l r =
       let w : Width = wider s.width a.width in
@@ -239,26 +243,35 @@ module _ (name : ℕ → List ℕ) (top : ℕ) where
     by_case true q = let e : slot n w ≡ s = cc in subst (λ (z : Slot). is_c_name (name z.at) ≡ true) e f
     by_case false q = l i s q
 
-  set_shape : (n j : ℕ) (ss : List Slot) (ls : ℕ → Option Slot) (go : Rest) → n < top → is_c_name (name n) ≡ true → GoodAll ss → GoodLocals ls → GoodRest (suc n) go → Shape n (put_set name j n ss ls go)
+  set_shape : (n j : ℕ) (ss : List Slot) (ls : ℕ → Option Slot) (go : Rest) → n < top → is_c_name (name n) ≡ true → GoodAll ss
+      → GoodLocals ls → GoodRest (suc n) go → Shape n (put_set name j n ss ls go)
   set_shape n j [] ls go lt f g l r = none n
-  set_shape n j (s ∷ ss) ls go lt f g l r = decl n (type_of s.width) (operand name s.width s) _ lt (operand_out s.width s g.0) (r _ _ g.1 (set_good n j s.width ls f l))
+  set_shape n j (s ∷ ss) ls go lt f g l r =
+      decl n (type_of s.width) (operand name s.width s) _ lt (operand_out s.width s g.0) (r _ _ g.1 (set_good n j s.width ls f l))
 
-  two_shape : (n : ℕ) (t : Two) (w : Width) (ss : List Slot) (ls : ℕ → Option Slot) (go : Rest) → n < top → is_c_name (name n) ≡ true → GoodAll ss → GoodLocals ls → GoodRest (suc n) go → Shape n (put_two name (op_of t) w n ss ls go)
+  two_shape : (n : ℕ) (t : Two) (w : Width) (ss : List Slot) (ls : ℕ → Option Slot) (go : Rest) → n < top → is_c_name (name n) ≡ true
+      → GoodAll ss → GoodLocals ls → GoodRest (suc n) go → Shape n (put_two name (op_of t) w n ss ls go)
   two_shape n t w [] ls go lt f g l r = none n
   two_shape n t w (y ∷ []) ls go lt f g l r = none n
-  two_shape n t w (y ∷ (x ∷ ss)) ls go lt f g l r = decl n (type_of w) (c.Two (op_of t) (operand name w x) (operand name w y)) _ lt (two_out t w x y g.1.0 g.0) (r _ _ (f, g.1.1) l)
+  two_shape n t w (y ∷ (x ∷ ss)) ls go lt f g l r =
+      decl n (type_of w) (c.Two (op_of t) (operand name w x) (operand name w y)) _ lt (two_out t w x y g.1.0 g.0) (r _ _ (f, g.1.1) l)
 
-  neg_shape : (n : ℕ) (w : Width) (ss : List Slot) (ls : ℕ → Option Slot) (go : Rest) → n < top → is_c_name (name n) ≡ true → GoodAll ss → GoodLocals ls → GoodRest (suc n) go → Shape n (put_neg name w n ss ls go)
+  neg_shape : (n : ℕ) (w : Width) (ss : List Slot) (ls : ℕ → Option Slot) (go : Rest) → n < top → is_c_name (name n) ≡ true → GoodAll ss
+      → GoodLocals ls → GoodRest (suc n) go → Shape n (put_neg name w n ss ls go)
   neg_shape n w [] ls go lt f g l r = none n
   neg_shape n w (x ∷ ss) ls go lt f g l r = decl n (type_of w) (c.Minus (operand name w x)) _ lt (minus_out w x g.0) (r _ _ (f, g.1) l)
 
-  cut_shape : (n m : ℕ) (ss : List Slot) (ls : ℕ → Option Slot) (go : Rest) → n < top → is_c_name (name n) ≡ true → GoodAll ss → GoodLocals ls → GoodRest (suc n) go → Shape n (put_cut name m n ss ls go)
+  cut_shape : (n m : ℕ) (ss : List Slot) (ls : ℕ → Option Slot) (go : Rest) → n < top → is_c_name (name n) ≡ true → GoodAll ss
+      → GoodLocals ls → GoodRest (suc n) go → Shape n (put_cut name m n ss ls go)
   cut_shape n m [] ls go lt f g l r = none n
   cut_shape n m (x ∷ ss) ls go lt f g l r = decl n Int64 (cut_expr m (operand name W64 x)) _ lt (cut_out m x g.0) (r _ _ (f, g.1) l)
 
-  op_shape : (n : ℕ) (oper : Op) (a : Way) (ss : List Slot) (ls : ℕ → Option Slot) (go : Rest) → is_fine oper a ≡ true → n < top → is_c_name (name n) ≡ true → GoodAll ss → GoodLocals ls → GoodRest (suc n) go → Shape n (put_op name oper a n ss ls go)
-  op_shape n (Push z) a ss ls go h lt f g l r = decl n (type_of a.width) (c.Inner (type_of a.width) (constant (cut_by a.shift z))) _ lt (constant_out a.width (cut_by a.shift z) (leb-true (unsigned_abs (cut_by a.shift z)) (limit W128) h)) (r _ _ (f, g) l)
-  op_shape n (Input v) a ss ls go h lt f g l r = decl n (type_of a.width) (c.Value (type_of a.width) v) _ lt (value_out a.width v (leb-true v most_number h)) (r _ _ (f, g) l)
+  op_shape : (n : ℕ) (oper : Op) (a : Way) (ss : List Slot) (ls : ℕ → Option Slot) (go : Rest) → is_fine oper a ≡ true → n < top
+      → is_c_name (name n) ≡ true → GoodAll ss → GoodLocals ls → GoodRest (suc n) go → Shape n (put_op name oper a n ss ls go)
+  op_shape n (Push z) a ss ls go h lt f g l r = decl n (type_of a.width) (c.Inner (type_of a.width) (constant (cut_by a.shift z))) _ lt
+      (constant_out a.width (cut_by a.shift z) (leb-true (unsigned_abs (cut_by a.shift z)) (limit W128) h)) (r _ _ (f, g) l)
+  op_shape n (Input v) a ss ls go h lt f g l r =
+      decl n (type_of a.width) (c.Value (type_of a.width) v) _ lt (value_out a.width v (leb-true v most_number h)) (r _ _ (f, g) l)
   op_shape n (Get j) a ss ls go h lt f g l r = get_shape n a (ls j) ss ls go lt f (l j) g l r
   op_shape n (Set j) a ss ls go h lt f g l r = set_shape n j ss ls go lt f g l r
   op_shape n (Add w) a ss ls go h lt f g l r = two_shape n Plus w ss ls go lt f g l r
@@ -280,7 +293,8 @@ module _ (name : ℕ → List ℕ) (top : ℕ) where
   either_good true n i f q = cc
   either_good false n i f q = let e : n ≡ i = cc in subst (λ z. is_c_name (name z) ≡ true) e f
 
-  unread_good : (n : ℕ) (oper : Op) (os : List Op) (ss : List Slot) → is_c_name (name n) ≡ true → GoodAll ss → (i : ℕ) → unread oper os n ss ≡ Some i → is_c_name (name i) ≡ true
+  unread_good : (n : ℕ) (oper : Op) (os : List Op) (ss : List Slot) → is_c_name (name n) ≡ true → GoodAll ss → (i : ℕ)
+      → unread oper os n ss ≡ Some i → is_c_name (name i) ≡ true
   unread_good n (Set j) os ss f g i q = either_good (any_gets j os) n i f q
   unread_good n (Cut m) os [] f g i q = cc
   unread_good n (Cut m) os (s ∷ ss) f g i q = either_good (nat_lt m 63) s.at i g.0 q
@@ -292,15 +306,18 @@ module _ (name : ℕ → List ℕ) (top : ℕ) where
   unread_good n (Mul w) os ss f g i q = cc
   unread_good n (Neg w) os ss f g i q = cc
 
-  shape_from : ((i : ℕ) → i < top → is_c_name (name i) ≡ true) → (e : ℕ) (lines : List (Line Way)) (n : ℕ) (ss : List Slot) (ls : ℕ → Option Slot) → e ≤ most_number → are_fine lines ≡ true → n + length lines ≤ top → GoodAll ss → GoodLocals ls → Shape n (emitted name e lines n ss ls)
+  shape_from : ((i : ℕ) → i < top → is_c_name (name i) ≡ true) → (e : ℕ) (lines : List (Line Way)) (n : ℕ) (ss : List Slot) (ls : ℕ → Option Slot)
+      → e ≤ most_number → are_fine lines ≡ true → n + length lines ≤ top → GoodAll ss → GoodLocals ls → Shape n (emitted name e lines n ss ls)
   shape_from free e [] n ss ls b h m g l = sign_shape n e ss b g
   shape_from free e (x ∷ xs) n ss ls b h m g l =
       let p = and_parts (is_fine x.op x.bound) _ h in
       let lt : n < top = omega (arith, m) in
       op_shape n x.op x.bound ss ls (λ su ms. naming name (unread x.op (ops_of xs) n ss) (emitted name e xs (suc n) su ms)) p.0 lt (free n lt) g l
-      (λ su ms g' l'. named_shape (suc n) (unread x.op (ops_of xs) n ss) (emitted name e xs (suc n) su ms) (unread_good n x.op (ops_of xs) ss (free n lt) g) (shape_from free e xs (suc n) su ms b p.1 (omega (arith, m)) g' l'))
+      (λ su ms g' l'. named_shape (suc n) (unread x.op (ops_of xs) n ss) (emitted name e xs (suc n) su ms)
+      (unread_good n x.op (ops_of xs) ss (free n lt) g) (shape_from free e xs (suc n) su ms b p.1 (omega (arith, m)) g' l'))
 
-  pub shape_is : ((i : ℕ) → i < top → is_c_name (name i) ≡ true) → (e : ℕ) (lines : List (Line Way)) → e ≤ most_number → are_fine lines ≡ true → length lines ≤ top → Shape 0 (emitted name e lines 0 [] no_locals)
+  pub shape_is : ((i : ℕ) → i < top → is_c_name (name i) ≡ true) → (e : ℕ) (lines : List (Line Way)) → e ≤ most_number
+      → are_fine lines ≡ true → length lines ≤ top → Shape 0 (emitted name e lines 0 [] no_locals)
   shape_is free e lines b h m = shape_from free e lines 0 [] no_locals b h (omega (arith, m)) tt (λ j s q. cc)
 
   -- ---- what follows from the shape
@@ -353,7 +370,7 @@ module _ (name : ℕ → List ℕ) (top : ℕ) where
   all_differ differ n b (decl m t x r h o s) = rw (later differ m (suc m) r (omega arith) s, all_differ differ (suc m) r s) refl
   all_differ differ n b (idle m i r f s) = all_differ differ m r s
 
-  -- it stands on one line
+  -- it is on one line
   pub all_flat : (n : ℕ) (b : Body) → Shape n b → flat b ≡ b
   all_flat n b (none m) = refl
   all_flat n b (back m x o) = refl

@@ -23,7 +23,7 @@ pub data Steps (own : List ℕ) : ℕ → Body → Type 0 where
   compare : (n i j : ℕ) (a b : Body) → i ≤ most_number → j ≤ most_number → Steps own n a → Steps own (suc n) b → Steps own (suc n) (c.If 2 (less i j) a b)
   touch : (n : ℕ) (b : Body) → Steps own (suc n) b → Steps own (suc n) (c.If 2 (c.Number Int 0) (c.Return 2 (c.Index Int 0) c.End) b)
 
--- so many more
+-- this many more
 abbrev raised : ℕ → ℕ → ℕ
 raised zero n = n
 raised (suc k) n = suc (raised k n)
@@ -94,11 +94,12 @@ module _ (own : List ℕ) where
   is_flat n b (none m) = refl
   is_flat n b (back m) = refl
   is_flat n b (try m x r w s) = ap (λ (z : Body). c.Group 2 (attempt own x) z) (is_flat (suc (suc m)) r s)
-  is_flat n b (compare m i j a r h k s t) = ap (λ (z : Body). c.If 2 (less i j) z (flat r)) (is_flat m a s) ∙ ap (λ (z : Body). c.If 2 (less i j) a z) (is_flat (suc m) r t)
+  is_flat n b (compare m i j a r h k s t) =
+      ap (λ (z : Body). c.If 2 (less i j) z (flat r)) (is_flat m a s) ∙ ap (λ (z : Body). c.If 2 (less i j) a z) (is_flat (suc m) r t)
   is_flat n b (touch m r s) = ap (λ (z : Body). c.If 2 (c.Number Int 0) (c.Return 2 (c.Index Int 0) c.End) z) (is_flat (suc m) r s)
 
   -- ---- the statements are these
-  -- how many braces are allowed for d sites that are left, of at most 5
+  -- how many braces are allowed for d remaining sites, of at most 5
   abbrev pub room_for : ℕ → ℕ
   room_for zero = 2
   room_for (suc d) = raised 5 (room_for d)
@@ -117,11 +118,14 @@ module _ (own : List ℕ) where
     abbrev Few : List ℕ → Type 0
     Few js = (j : ℕ) → Member js j → j ≤ most_number
 
-    guarded_steps : (n i : ℕ) (js : List ℕ) (inner : Body) → i ≤ most_number → Few js → Steps own n inner → Steps own (raised (length js) n) (guarded i js inner)
+    guarded_steps : (n i : ℕ) (js : List ℕ) (inner : Body) → i ≤ most_number → Few js → Steps own n inner
+        → Steps own (raised (length js) n) (guarded i js inner)
     guarded_steps n i [] inner p q s = s
-    guarded_steps n i (j ∷ js) inner p q s = compare (raised (length js) n) i j (guarded i js inner) c.End p (q j (inl refl)) (guarded_steps n i js inner p (λ x l. q x (inr l)) s) (none (suc (raised (length js) n)))
+    guarded_steps n i (j ∷ js) inner p q s = compare (raised (length js) n) i j (guarded i js inner) c.End p (q j (inl refl))
+        (guarded_steps n i js inner p (λ x l. q x (inr l)) s) (none (suc (raised (length js) n)))
 
-    picks_steps : (n : ℕ) (go : ℕ → Body) (left : List ℕ) → length left ≤ 5 → Few left → ((i : ℕ) → Member left i → Steps own n (go i)) → Steps own (raised 5 n) (picks go left)
+    picks_steps : (n : ℕ) (go : ℕ → Body) (left : List ℕ) → length left ≤ 5 → Few left → ((i : ℕ) → Member left i → Steps own n (go i))
+        → Steps own (raised 5 n) (picks go left)
     picks_steps n go [] few small h = back (raised 5 n)
     picks_steps n go (i ∷ []) few small h = upto 5 n (go i) (h i (inl refl))
     picks_steps n go (i ∷ j ∷ js) few small h =
@@ -150,10 +154,14 @@ module _ (own : List ℕ) where
       walked_steps (suc d) p left few small =
           let r = above_one (suc d) in
           tries_steps (room_for (suc d)) r.0 (segment p) (picks (λ i. walked block own segment d (p ++ i ∷ []) (without i left)) left) r.1 (numbers p)
-          (picks_steps (room_for d) (λ i. walked block own segment d (p ++ i ∷ []) (without i left)) left few small (λ i l. walked_steps d (p ++ i ∷ []) (without i left) (omega (arith, few, fewer i left)) (λ j k. small j (in-without i left j k))))
+          (picks_steps (room_for d) (λ i. walked block own segment d (p ++ i ∷ []) (without i left)) left few small
+          (λ i l. walked_steps d (p ++ i ∷ []) (without i left) (omega (arith, few, fewer i left)) (λ j k. small j (in-without i left j k))))
 
-      pub body_steps : (before : List ℕ) (k : ℕ) → AreNumbers m before → length (range_with_len 0 k) ≤ 5 → Few (range_with_len 0 k) → Steps own (room_for k) (body_for block own segment before k)
-      body_steps before k h few small = let r = above_one k in tries_steps (room_for k) r.0 before (walked block own segment k [] (range_with_len 0 k)) r.1 h (walked_steps k [] (range_with_len 0 k) few small)
+      pub body_steps : (before : List ℕ) (k : ℕ) → AreNumbers m before → length (range_with_len 0 k) ≤ 5 → Few (range_with_len 0 k)
+          → Steps own (room_for k) (body_for block own segment before k)
+      body_steps before k h few small =
+          let r = above_one k in
+          tries_steps (room_for k) r.0 before (walked block own segment k [] (range_with_len 0 k)) r.1 h (walked_steps k [] (range_with_len 0 k) few small)
 
   pub touch_steps : (n : ℕ) (t : Bool) (b : Body) → Steps own (suc n) b → Steps own (suc n) (touching_index t b)
   touch_steps n true b s = s

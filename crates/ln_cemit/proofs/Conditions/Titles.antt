@@ -1,5 +1,6 @@
 -- The names of functions: they are NAMEs, begin with l, and differ.
-use Rattle.std.proofs.Common.{◌≡◌, ◌≢◌, ℕ, zero, suc, ◌+◌, ◌<◌, ◌≤◌, ◌^◌, ◌==◌, ◌||◌, Bool, true, false, List, [], ◌∷◌, ◌++◌, length, length-append, refl, sym, ap, ◌∙◌, subst, arith}
+use Rattle.std.proofs.Common.{◌≡◌, ◌≢◌, ℕ, zero, suc, ◌+◌, ◌<◌, ◌≤◌, ◌^◌, ◌==◌, ◌||◌, Bool, true, false, List, [], ◌∷◌, ◌++◌, length}
+use Rattle.std.proofs.Common.{length-append, refl, sym, ap, ◌∙◌, subst, arith}
 use Rattle.std.specs.Prelude.{Option, Some, None, decimal, bytes_eq, if◌then◌else◌}
 use Rattle.std.specs.List.{list_all}
 use Rattle.std.specs.Char.{is_ascii_digit}
@@ -22,7 +23,7 @@ every_more : (p : ℕ → Bool) (xs ys : List ℕ) → every p xs ≡ true → e
 every_more p [] ys h k = k
 every_more p (x ∷ xs) ys h k = let r = and_parts (p x) (every p xs) h in rw (r.0, every_more p xs ys r.1 k) refl
 
--- all bytes of a name may stand in a name
+-- all bytes of a name are allowed in a name
 pub name_passes : (x : List ℕ) → is_name x ≡ true → every is_name_byte x ≡ true
 name_passes [] h = refl
 name_passes (b ∷ bs) h =
@@ -86,7 +87,7 @@ sign_apart ((b ∷ bs) ∷ xs) h =
     let f : bytes_eq answer_name (b ∷ bs) ≡ false = subst (λ (c : ℕ). bytes_eq answer_name (c ∷ bs) ≡ false) (sym e) refl in
     rw (f, sign_apart xs p.1) refl
 
--- ---- what stands behind the first underscore
+-- ---- what comes after the first underscore
 abbrev pub family : List ℕ → List ℕ
 family [] = []
 family (b ∷ bs) = if b == 95 then bs else family bs
@@ -159,13 +160,17 @@ pub away_more : (fs gs : List Fun) (x : List ℕ) → AreAway fs x → AreAway g
 away_more [] gs x h k = k
 away_more (f ∷ fs) gs x h k = (h.0, away_more fs gs x h.1 k)
 
-pub away_one : (name : ℕ → List ℕ) (i : ℕ) (bodies : List Body) (x : List ℕ) → ((j : ℕ) → i ≤ j → j < i + length bodies → name j ≢ x) → AreAway (one_funs name i bodies) x
+pub away_one : (name : ℕ → List ℕ) (i : ℕ) (bodies : List Body) (x : List ℕ) → ((j : ℕ) → i ≤ j → j < i + length bodies → name j ≢ x)
+    → AreAway (one_funs name i bodies) x
 away_one name i [] x h = tt
 away_one name i (b ∷ bs) x h = (h i (omega arith) (omega arith), away_one name (suc i) bs x (λ j l m. h j (omega (arith, l)) (omega (arith, m))))
 
-pub distinct_one : (name : ℕ → List ℕ) (i top : ℕ) (bodies : List Body) (rest : List Fun) → i + length bodies ≤ top → ((j k : ℕ) → j < top → k < top → name j ≡ name k → j ≡ k) → ((j : ℕ) → j < top → AreAway rest (name j)) → distinct (names_of rest) ≡ true → distinct (names_of (one_funs name i bodies ++ rest)) ≡ true
+pub distinct_one : (name : ℕ → List ℕ) (i top : ℕ) (bodies : List Body) (rest : List Fun) → i + length bodies ≤ top
+    → ((j k : ℕ) → j < top → k < top → name j ≡ name k → j ≡ k) → ((j : ℕ) → j < top → AreAway rest (name j))
+    → distinct (names_of rest) ≡ true → distinct (names_of (one_funs name i bodies ++ rest)) ≡ true
 distinct_one name i top [] rest l differ away h = h
 distinct_one name i top (b ∷ bs) rest l differ away h =
-    let later : AreAway (one_funs name (suc i) bs) (name i) = away_one name (suc i) bs (name i) (λ j m n e. omega (arith, differ j i (omega (arith, n, l)) (omega (arith, l)) e, m)) in
+    let later : AreAway (one_funs name (suc i) bs) (name i) =
+    away_one name (suc i) bs (name i) (λ j m n e. omega (arith, differ j i (omega (arith, n, l)) (omega (arith, l)) e, m)) in
     let here : AreAway (one_funs name (suc i) bs ++ rest) (name i) = away_more (one_funs name (suc i) bs) rest (name i) later (away i (omega (arith, l))) in
     rw (away_among (one_funs name (suc i) bs ++ rest) (name i) here, distinct_one name (suc i) top bs rest (omega (arith, l)) differ away h) refl

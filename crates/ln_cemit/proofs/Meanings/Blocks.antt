@@ -1,5 +1,6 @@
 -- The body of a block or a filter, by induction over its operations: each slot is a declaration that has the value of the machine.
-use Rattle.std.proofs.Common.{◌≡◌, ℕ, zero, suc, ◌+◌, ◌/◌, ◌^◌, ◌<◌, ◌≤◌, ◌&&◌, Bool, true, false, List, [], ◌∷◌, length, Option, Some, None, refl, sym, ap, ◌∙◌, subst, arith}
+use Rattle.std.proofs.Common.{◌≡◌, ℕ, zero, suc, ◌+◌, ◌/◌, ◌^◌, ◌<◌, ◌≤◌, ◌&&◌, Bool, true, false, List, [], ◌∷◌, length, Option, Some}
+use Rattle.std.proofs.Common.{None, refl, sym, ap, ◌∙◌, subst, arith}
 use Rattle.std.specs.Prelude.{nat_lt, ◌==◌, ℤ, pos, negsuc, ◌-ℤ◌, neg_ℤ, int_lt, int_div, unsigned_abs, slice_get, if◌then◌else◌}
 use Rattle.std.proofs.lemmas.Nat.{pow_pos, pow_below, div_below}
 use Rattle.std.proofs.lemmas.Bool.{and_parts}
@@ -20,13 +21,16 @@ use Rattle.ln_csyn.specs.declared.tree.COp.{COp}
 use Rattle.ln_csyn.specs.declared.tree.COp.TheVariants as op
 use Rattle.ln_csyn.specs.Tree as c
 use Rattle.ln_csyn.specs.Tree.{Expr, Body}
-use Rattle.ln_csyn.specs.Meaning.{Counts, has, given, operated, is_same, is_zero, Scene, Seen, Gives, Outcome, Said, runs, value_of, find, same_name, number_of_bool}
+use Rattle.ln_csyn.specs.Meaning.{Counts, has, given, operated, is_same, is_zero, Scene, Seen, Gives, Outcome, Said, runs, value_of, find}
+use Rattle.ln_csyn.specs.Meaning.{same_name, number_of_bool}
 use Rattle.ln_cemit.specs.declared.slot.Slot.{Slot}
 use Rattle.ln_cemit.specs.declared.slot.Way.{Way}
-use Rattle.ln_cemit.specs.Emit.{type_of, constant, constant_wide, cut_expr, slot, operand, sign_expr, lowest, Rest, pushing, put_get, put_two, put_neg, put_cut, put_op, put_sign, emitted, naming, unread, ops_of, wide_at, wide_op, wide_lines}
+use Rattle.ln_cemit.specs.Emit.{type_of, constant, constant_wide, cut_expr, slot, operand, sign_expr, lowest, Rest, pushing, put_get}
+use Rattle.ln_cemit.specs.Emit.{put_two, put_neg, put_cut, put_op, put_sign, emitted, naming, unread, ops_of, wide_at, wide_op, wide_lines}
 use Rattle.ln_cemit.specs.Checked.{Sized, sized, checked, sign_of, sign_above, plus, Quiet, without, narrow, AreNames, EmittedMeans}
 use Rattle.ln_cemit.proofs.Conditions.Names.{name_self, name_false}
-use Rattle.ln_cemit.proofs.Meanings.Numbers.{lt_true, lt_from, lt_not, lt_false, within, room, larger, wider_than, no_wider_self, moved, same_type, plus_add, counted_is, given_is, cast_is}
+use Rattle.ln_cemit.proofs.Meanings.Numbers.{lt_true, lt_from, lt_not, lt_false, within, room, larger, wider_than, no_wider_self, moved}
+use Rattle.ln_cemit.proofs.Meanings.Numbers.{same_type, plus_add, counted_is, given_is, cast_is}
 use Rattle.ln_cemit.proofs.Writing.Constants.{two_is, inner_is, minus_is, constant_is}
 
 -- a declaration as it is seen while its expression is evaluated, and afterwards
@@ -36,8 +40,9 @@ hidden t x = record { name = x; kind = t; number = None }
 abbrev pub shown : CType → List ℕ → ℤ → Seen
 shown t x z = record { name = x; kind = t; number = Some z }
 
--- a declaration, and what is behind it
-declared : (s : Scene) (ds : List Seen) (t : CType) (x : List ℕ) (e : Expr) (rest : Body) (z : ℤ) (k j : Counts) (o : Outcome) → is_same t t ≡ true → value_of s (hidden t x ∷ ds) e k ≡ Gives t z j → runs s (shown t x z ∷ ds) rest j ≡ o → runs s ds (c.Decl 2 t x e rest) k ≡ o
+-- a declaration, and what is after it
+declared : (s : Scene) (ds : List Seen) (t : CType) (x : List ℕ) (e : Expr) (rest : Body) (z : ℤ) (k j : Counts) (o : Outcome) → is_same t t ≡ true
+    → value_of s (hidden t x ∷ ds) e k ≡ Gives t z j → runs s (shown t x z ∷ ds) rest j ≡ o → runs s ds (c.Decl 2 t x e rest) k ≡ o
 declared s ds t x e rest z k j o h v r = rw (v, h) r
 
 -- ---- quotients by a power of 2
@@ -68,21 +73,24 @@ pow_small m h = pow_below m 63 h
 below_63 : {n : ℕ} → n ≤ limit W64 → n < 2 ^ 63
 below_63 h = omega arith
 
-cut_is : (s : Scene) (ds : List Seen) (i : ℕ) (e : Expr) (z : ℤ) (k : Counts) → value_of s ds e k ≡ Gives Int64 z k → unsigned_abs z ≤ limit W64 → unsigned_abs (cut_by i z) ≤ limit W64 → value_of s ds (cut_expr i e) k ≡ Gives Int64 (cut_by i z) k
+cut_is : (s : Scene) (ds : List Seen) (i : ℕ) (e : Expr) (z : ℤ) (k : Counts) → value_of s ds e k ≡ Gives Int64 z k
+    → unsigned_abs z ≤ limit W64 → unsigned_abs (cut_by i z) ≤ limit W64 → value_of s ds (cut_expr i e) k ≡ Gives Int64 (cut_by i z) k
 cut_is s ds i e z k v h b = by_case (nat_lt i 63) refl where
   by_case : (u : Bool) → nat_lt i 63 ≡ u → value_of s ds (cut_expr i e) k ≡ Gives Int64 (cut_by i z) k
   by_case true t =
-      let d : value_of s ds (c.Number Int64 (2 ^ i)) k ≡ Gives Int64 (pos (2 ^ i)) k = given_is Int64 (pos (2 ^ i)) k (lt_true (2 ^ i) (2 ^ 63) (pow_small i (lt_from i 63 t))) in
+      let d : value_of s ds (c.Number Int64 (2 ^ i)) k ≡ Gives Int64 (pos (2 ^ i)) k =
+      given_is Int64 (pos (2 ^ i)) k (lt_true (2 ^ i) (2 ^ 63) (pow_small i (lt_from i 63 t))) in
       let f = two_is s ds op.Div Int64 e (c.Number Int64 (2 ^ i)) z (pos (2 ^ i)) k k k v d refl in
       let nz = not_zero (2 ^ i) (pos_pow i) in
       rw t (f ∙ rw nz (cast_is W64 (int_div z (pos (2 ^ i))) k b))
   by_case false t = rw t (ap (λ y. Gives Int64 y k) (sym (gone z i (below_63 h) (lt_not i 63 t))))
 
 -- a value of the row
-value_at : (s : Scene) (ds : List Seen) (v : ℕ) (w : Width) (z : ℤ) (k : Counts) → slice_get s.values v ≡ Some z → unsigned_abs z ≤ limit w → value_of s ds (c.Value (type_of w) v) k ≡ Gives (type_of w) z k
+value_at : (s : Scene) (ds : List Seen) (v : ℕ) (w : Width) (z : ℤ) (k : Counts) → slice_get s.values v ≡ Some z → unsigned_abs z ≤ limit w
+    → value_of s ds (c.Value (type_of w) v) k ≡ Gives (type_of w) z k
 value_at s ds v w z k e h = rw e (cast_is w z k h)
 
--- ---- what the machine says
+-- ---- the machine's result
 
 -- what was pushed is within its width, and is the new value
 record IsSized (w : Width) (z : ℤ) (x : Sized) : Type 0 where
@@ -97,7 +105,8 @@ op_of Plus = op.Add
 op_of Minus = op.Sub
 op_of Times = op.Mul
 
-operated_is : (t : Two) (w : Width) (y z : ℤ) (k : Counts) → unsigned_abs (result_of t y z) ≤ limit w → operated (op_of t) (type_of w) y z k ≡ Gives (type_of w) (result_of t y z) (plus (wide_at w) k)
+operated_is : (t : Two) (w : Width) (y z : ℤ) (k : Counts) → unsigned_abs (result_of t y z) ≤ limit w
+    → operated (op_of t) (type_of w) y z k ≡ Gives (type_of w) (result_of t y z) (plus (wide_at w) k)
 operated_is Plus w y z k h = rw (counted_is w k) (cast_is w (result_of Plus y z) (plus (wide_at w) k) h)
 operated_is Minus w y z k h = rw (counted_is w k) (cast_is w (result_of Minus y z) (plus (wide_at w) k) h)
 operated_is Times w y z k h = rw (counted_is w k) (cast_is w (result_of Times y z) (plus (wide_at w) k) h)
@@ -124,12 +133,15 @@ module _ (name : ℕ → List ℕ) (top : ℕ) (differ : AreNames name top) wher
   -- a further declaration hides none
   past : (ds : List Seen) (n i : ℕ) (d : Seen) (k : Counts) → n < top → d.name ≡ name n → i < n → find (d ∷ ds) (name i) k ≡ find ds (name i) k
   past ds n i d k lt e h =
-      let f : same_name d.name (name i) ≡ false = name_false d.name (name i) (λ q. let r = differ n i lt (omega (arith, lt, h)) (sym e ∙ q) in omega arith) in rw f
+      let f : same_name d.name (name i) ≡ false = name_false d.name (name i) (λ q. let r = differ n i lt (omega (arith, lt, h)) (sym e ∙ q) in omega arith) in
+      rw f
 
   holds_on : {ds : List Seen} {n : ℕ} {s : Slot} {x : Sized} (d : Seen) → n < top → d.name ≡ name n → Holds ds n s x → Holds (d ∷ ds) (suc n) s x
-  holds_on {ds} {n} {s} {x} d lt e h = record { below = omega (arith, h.below); same = h.same; found = λ k. past ds n s.at d k lt e h.below ∙ h.found k; small = h.small }
+  holds_on {ds} {n} {s} {x} d lt e h =
+      record { below = omega (arith, h.below); same = h.same; found = λ k. past ds n s.at d k lt e h.below ∙ h.found k; small = h.small }
 
-  stack_on : {ds : List Seen} {n : ℕ} {ss : List Slot} {xs : List Sized} (d : Seen) → n < top → d.name ≡ name n → Stack ds n ss xs → Stack (d ∷ ds) (suc n) ss xs
+  stack_on : {ds : List Seen} {n : ℕ} {ss : List Slot} {xs : List Sized} (d : Seen) → n < top → d.name ≡ name n → Stack ds n ss xs
+      → Stack (d ∷ ds) (suc n) ss xs
   stack_on d lt e bottom = bottom
   stack_on d lt e (on h r) = on (holds_on d lt e h) (stack_on d lt e r)
 
@@ -137,21 +149,25 @@ module _ (name : ℕ → List ℕ) (top : ℕ) (differ : AreNames name top) wher
   local_on d lt e unset = unset
   local_on d lt e (held h) = held (holds_on d lt e h)
 
-  locals_on : {ds : List Seen} {n : ℕ} {ss : ℕ → Option Slot} {xs : ℕ → Option Sized} (d : Seen) → n < top → d.name ≡ name n → Locals ds n ss xs → Locals (d ∷ ds) (suc n) ss xs
+  locals_on : {ds : List Seen} {n : ℕ} {ss : ℕ → Option Slot} {xs : ℕ → Option Sized} (d : Seen) → n < top → d.name ≡ name n
+      → Locals ds n ss xs → Locals (d ∷ ds) (suc n) ss xs
   locals_on d lt e h = record { each = λ j. local_on d lt e (h.each j) }
 
   -- the new declaration holds its number
-  newest : (ds : List Seen) (n : ℕ) (w : Width) (z : ℤ) → unsigned_abs z ≤ limit w → Holds (shown (type_of w) (name n) z ∷ ds) (suc n) (slot n w) (record { number = z; width = w })
+  newest : (ds : List Seen) (n : ℕ) (w : Width) (z : ℤ) → unsigned_abs z ≤ limit w
+      → Holds (shown (type_of w) (name n) z ∷ ds) (suc n) (slot n w) (record { number = z; width = w })
   newest ds n w z h = record { below = omega arith; same = refl; found = λ k. rw (name_self (name n)); small = h }
 
-  -- an operand gives its number in the wider type, also while the next declaration has none
-  operand_is : (s : Scene) {ds : List Seen} {n : ℕ} {q : Slot} {x : Sized} (w : Width) (t : CType) (k : Counts) → n < top → Holds ds n q x → no_wider x.width w ≡ true → value_of s (hidden t (name n) ∷ ds) (operand name w q) k ≡ Gives (type_of w) x.number k
+  -- an operand has its number in the wider type, also while the next declaration has none
+  operand_is : (s : Scene) {ds : List Seen} {n : ℕ} {q : Slot} {x : Sized} (w : Width) (t : CType) (k : Counts) → n < top → Holds ds n q x
+      → no_wider x.width w ≡ true → value_of s (hidden t (name n) ∷ ds) (operand name w q) k ≡ Gives (type_of w) x.number k
   operand_is s {ds} {n} {q} {x} w t k lt h e =
       let f = past ds n q.at (hidden t (name n)) k lt refl h.below ∙ h.found k in
       let l : unsigned_abs x.number ≤ limit w = omega (arith, larger q.width w (moved q.width x.width w h.same e), h.small) in
       rw f (cast_is w x.number k l)
 
-  set_local : {ds : List Seen} {n : ℕ} (i : ℕ) {s : Slot} {x : Sized} {ss : ℕ → Option Slot} {xs : ℕ → Option Sized} → Holds ds n s x → Locals ds n ss xs → Locals ds n (with_local ss i s) (with_local xs i x)
+  set_local : {ds : List Seen} {n : ℕ} (i : ℕ) {s : Slot} {x : Sized} {ss : ℕ → Option Slot} {xs : ℕ → Option Sized} → Holds ds n s x
+      → Locals ds n ss xs → Locals ds n (with_local ss i s) (with_local xs i x)
   set_local {ds} {n} i {s} {x} {ss} {xs} h l = record { each = λ j. by_case j (j == i) } where
     by_case : (j : ℕ) (v : Bool) → Local ds n (if v then Some s else ss j) (if v then Some x else xs j)
     by_case j true = held h
@@ -168,12 +184,14 @@ module _ (name : ℕ → List ℕ) (top : ℕ) (differ : AreNames name top) wher
       let f : y ≡ x = cc in
       record { place = q; is = refl; holds = subst (λ (z : Sized). Holds ds n q z) f h }
 
-  -- what is behind a step: for each declaration of this name, and each stack and locals that hold the machine's
+  -- what comes after a step: for each declaration of this name, and each stack and locals that hold the machine's
   abbrev Goes : Scene → List Seen → ℕ → State Sized (ℕ → Option Sized) → Rest → Counts → Outcome → Type 0
-  Goes s ds n t go k o = (d : Seen) (ss : List Slot) (ls : ℕ → Option Slot) → Stack (d ∷ ds) (suc n) ss t.stack → Locals (d ∷ ds) (suc n) ls t.locals → runs s (d ∷ ds) (go ss ls) k ≡ o
+  Goes s ds n t go k o = (d : Seen) (ss : List Slot) (ls : ℕ → Option Slot) → Stack (d ∷ ds) (suc n) ss t.stack
+      → Locals (d ∷ ds) (suc n) ls t.locals → runs s (d ∷ ds) (go ss ls) k ≡ o
 
   -- a value that is pushed
-  push_is : (s : Scene) (ds : List Seen) (n : ℕ) (w : Width) (e : Expr) (z : ℤ) (ss : List Slot) (ls : ℕ → Option Slot) (xs : List Sized) (lx : ℕ → Option Sized) (x : Sized) (t : State Sized (ℕ → Option Sized)) (go : Rest) (k j : Counts) (o : Outcome)
+  push_is : (s : Scene) (ds : List Seen) (n : ℕ) (w : Width) (e : Expr) (z : ℤ) (ss : List Slot) (ls : ℕ → Option Slot) (xs : List Sized)
+      (lx : ℕ → Option Sized) (x : Sized) (t : State Sized (ℕ → Option Sized)) (go : Rest) (k j : Counts) (o : Outcome)
       → sized w z ≡ Some x → (unsigned_abs z ≤ limit w → value_of s (hidden (type_of w) (name n) ∷ ds) e k ≡ Gives (type_of w) z j)
       → pushed (checked s.values) lx xs x ≡ Some t → Stack ds n ss xs → Locals ds n ls lx → n < top → Goes s ds n t go j o
       → runs s ds (pushing name n w e ss ls go) k ≡ o
@@ -183,10 +201,12 @@ module _ (name : ℕ → List ℕ) (top : ℕ) (differ : AreNames name top) wher
       let a : record { stack = x ∷ xs; locals = lx } ≡ t = cc in
       let h : Holds (d ∷ ds) (suc n) (slot n w) x = subst (λ (y : Sized). Holds (d ∷ ds) (suc n) (slot n w) y) r.is (newest ds n w z r.small) in
       let g' = subst (λ (u : State Sized (ℕ → Option Sized)). Goes s ds n u go j o) (sym a) g in
-      declared s ds (type_of w) (name n) e (go (slot n w ∷ ss) ls) z k j o (same_type w) (v r.small) (g' d (slot n w ∷ ss) ls (on h (stack_on d lt refl st)) (locals_on d lt refl l))
+      declared s ds (type_of w) (name n) e (go (slot n w ∷ ss) ls) z k j o (same_type w) (v r.small)
+      (g' d (slot n w ∷ ss) ls (on h (stack_on d lt refl st)) (locals_on d lt refl l))
 
   -- a local that is read
-  get_is : (s : Scene) (ds : List Seen) (n : ℕ) (a : Way) (ss : List Slot) (ls : ℕ → Option Slot) (xs : List Sized) (lx : ℕ → Option Sized) (j : ℕ) (t : State Sized (ℕ → Option Sized)) (go : Rest) (k : Counts) (o : Outcome)
+  get_is : (s : Scene) (ds : List Seen) (n : ℕ) (a : Way) (ss : List Slot) (ls : ℕ → Option Slot) (xs : List Sized) (lx : ℕ → Option Sized)
+      (j : ℕ) (t : State Sized (ℕ → Option Sized)) (go : Rest) (k : Counts) (o : Outcome)
       → step (checked s.values) (Get j) a lx xs ≡ Some t → Stack ds n ss xs → Locals ds n ls lx → n < top → Goes s ds n t go k o
       → runs s ds (put_get name a n (ls j) ss ls go) k ≡ o
   get_is s ds n a ss ls xs lx j t go k o q st l lt g =
@@ -197,10 +217,12 @@ module _ (name : ℕ → List ℕ) (top : ℕ) (differ : AreNames name top) wher
       let e : wider p.0.width a.width ≡ w = ap (λ (u : Width). wider u a.width) (sym f.holds.same) in
       let m : sized w p.0.number ≡ Some r.0 = subst (λ (u : Width). sized u p.0.number ≡ Some r.0) e p.2 in
       let nw : no_wider p.0.width w ≡ true = subst (λ (u : Width). no_wider p.0.width u ≡ true) e (wider_than p.0.width a.width) in
-      rw f.is (push_is s ds n w (operand name w f.place) p.0.number ss ls xs lx r.0 t go k k o m (λ h. operand_is s w (type_of w) k lt f.holds nw) r.2 st l lt g)
+      rw f.is
+      (push_is s ds n w (operand name w f.place) p.0.number ss ls xs lx r.0 t go k k o m (λ h. operand_is s w (type_of w) k lt f.holds nw) r.2 st l lt g)
 
   -- a local that is set
-  set_is : (s : Scene) (ds : List Seen) (n : ℕ) (a : Way) (ss : List Slot) (ls : ℕ → Option Slot) (xs : List Sized) (lx : ℕ → Option Sized) (j : ℕ) (t : State Sized (ℕ → Option Sized)) (go : Rest) (k : Counts) (o : Outcome)
+  set_is : (s : Scene) (ds : List Seen) (n : ℕ) (a : Way) (ss : List Slot) (ls : ℕ → Option Slot) (xs : List Sized) (lx : ℕ → Option Sized)
+      (j : ℕ) (t : State Sized (ℕ → Option Sized)) (go : Rest) (k : Counts) (o : Outcome)
       → step (checked s.values) (Set j) a lx xs ≡ Some t → Stack ds n ss xs → Locals ds n ls lx → n < top → Goes s ds n t go k o
       → runs s ds (put_op name (Set j) a n ss ls go) k ≡ o
   set_is s ds n a [] ls [] lx j t go k o q bottom l lt g = cc
@@ -218,8 +240,10 @@ module _ (name : ℕ → List ℕ) (top : ℕ) (differ : AreNames name top) wher
       (g' d ss (with_local ls j (slot n w)) (stack_on d lt refl st) (set_local j z (locals_on d lt refl l)))
 
   -- a sum, a difference or a product
-  two_step : (s : Scene) (ds : List Seen) (n : ℕ) (kind : Two) (w : Width) (a : Way) (ss : List Slot) (ls : ℕ → Option Slot) (xs : List Sized) (lx : ℕ → Option Sized) (t : State Sized (ℕ → Option Sized)) (go : Rest) (k : Counts) (o : Outcome)
-      → with_two (checked s.values) ((checked s.values).two kind w a) lx xs ≡ Some t → Stack ds n ss xs → Locals ds n ls lx → n < top → Goes s ds n t go (plus (wide_at w) k) o
+  two_step : (s : Scene) (ds : List Seen) (n : ℕ) (kind : Two) (w : Width) (a : Way) (ss : List Slot) (ls : ℕ → Option Slot)
+      (xs : List Sized) (lx : ℕ → Option Sized) (t : State Sized (ℕ → Option Sized)) (go : Rest) (k : Counts) (o : Outcome)
+      → with_two (checked s.values) ((checked s.values).two kind w a) lx xs ≡ Some t → Stack ds n ss xs → Locals ds n ls lx → n < top
+      → Goes s ds n t go (plus (wide_at w) k) o
       → runs s ds (put_two name (op_of kind) w n ss ls go) k ≡ o
   two_step s ds n kind w a [] ls [] lx t go k o q bottom l lt g = cc
   two_step s ds n kind w a [] ls (y ∷ xs) lx t go k o q st l lt g = elim st [ ]
@@ -229,15 +253,20 @@ module _ (name : ℕ → List ℕ) (top : ℕ) (differ : AreNames name top) wher
   two_step s ds n kind w a (p ∷ (r ∷ ss)) ls (y ∷ []) lx t go k o q (on h st) l lt g = elim st [ ]
   two_step s ds n kind w a (p ∷ []) ls (y ∷ []) lx t go k o q (on h bottom) l lt g = cc
   two_step s ds n kind w a (p ∷ (r ∷ ss)) ls (y ∷ (x ∷ xs)) lx t go k o q (on h (on f st)) l lt g =
-      let u = next_some (if no_wider x.width w && no_wider y.width w then sized w (result_of kind x.number y.number) else None) (pushed (checked s.values) lx xs) t q in
+      let u = next_some (if no_wider x.width w && no_wider y.width w then sized w (result_of kind x.number y.number) else None)
+      (pushed (checked s.values) lx xs) t q in
       let i = if_some _ _ _ u.1 in
       let b = and_parts _ _ i.0 in
       let ds' : List Seen = hidden (type_of w) (name n) ∷ ds in
-      let v : unsigned_abs (result_of kind x.number y.number) ≤ limit w → value_of s ds' (c.Two (op_of kind) (operand name w r) (operand name w p)) k ≡ Gives (type_of w) (result_of kind x.number y.number) (plus (wide_at w) k)
-      = λ m. two_is s ds' (op_of kind) (type_of w) (operand name w r) (operand name w p) x.number y.number k k k (operand_is s w (type_of w) k lt f b.0) (operand_is s w (type_of w) k lt h b.1) (same_type w) ∙ operated_is kind w x.number y.number k m in
-      push_is s ds n w (c.Two (op_of kind) (operand name w r) (operand name w p)) (result_of kind x.number y.number) ss ls xs lx u.0 t go k (plus (wide_at w) k) o i.1 v u.2 st l lt g
+      let v : unsigned_abs (result_of kind x.number y.number) ≤ limit w
+      → value_of s ds' (c.Two (op_of kind) (operand name w r) (operand name w p)) k ≡ Gives (type_of w) (result_of kind x.number y.number) (plus (wide_at w) k)
+      = λ m. two_is s ds' (op_of kind) (type_of w) (operand name w r) (operand name w p) x.number y.number k k k
+      (operand_is s w (type_of w) k lt f b.0) (operand_is s w (type_of w) k lt h b.1) (same_type w) ∙ operated_is kind w x.number y.number k m in
+      push_is s ds n w (c.Two (op_of kind) (operand name w r) (operand name w p)) (result_of kind x.number y.number) ss ls xs lx u.0 t go k
+      (plus (wide_at w) k) o i.1 v u.2 st l lt g
 
-  neg_step : (s : Scene) (ds : List Seen) (n : ℕ) (w : Width) (a : Way) (ss : List Slot) (ls : ℕ → Option Slot) (xs : List Sized) (lx : ℕ → Option Sized) (t : State Sized (ℕ → Option Sized)) (go : Rest) (k : Counts) (o : Outcome)
+  neg_step : (s : Scene) (ds : List Seen) (n : ℕ) (w : Width) (a : Way) (ss : List Slot) (ls : ℕ → Option Slot) (xs : List Sized)
+      (lx : ℕ → Option Sized) (t : State Sized (ℕ → Option Sized)) (go : Rest) (k : Counts) (o : Outcome)
       → step (checked s.values) (Neg w) a lx xs ≡ Some t → Stack ds n ss xs → Locals ds n ls lx → n < top → Goes s ds n t go (plus (wide_at w) k) o
       → runs s ds (put_neg name w n ss ls go) k ≡ o
   neg_step s ds n w a [] ls [] lx t go k o q bottom l lt g = cc
@@ -248,14 +277,16 @@ module _ (name : ℕ → List ℕ) (top : ℕ) (differ : AreNames name top) wher
       let i = if_some _ _ _ u.1 in
       let ds' : List Seen = hidden (type_of w) (name n) ∷ ds in
       let v : unsigned_abs (neg_ℤ x.number) ≤ limit w → value_of s ds' (c.Minus (operand name w p)) k ≡ Gives (type_of w) (neg_ℤ x.number) (plus (wide_at w) k)
-      = λ m. minus_is s ds' (type_of w) (operand name w p) x.number k k (operand_is s w (type_of w) k lt h i.0) (room w (neg_ℤ x.number) m) ∙ ap (λ j. Gives (type_of w) (neg_ℤ x.number) j) (counted_is w k) in
+      = λ m. minus_is s ds' (type_of w) (operand name w p) x.number k k (operand_is s w (type_of w) k lt h i.0) (room w (neg_ℤ x.number) m)
+      ∙ ap (λ j. Gives (type_of w) (neg_ℤ x.number) j) (counted_is w k) in
       push_is s ds n w (c.Minus (operand name w p)) (neg_ℤ x.number) ss ls xs lx u.0 t go k (plus (wide_at w) k) o i.1 v u.2 st l lt g
 
   narrow_64 : (u : Width) (z : ℤ) → no_wider u W64 ≡ true → unsigned_abs z ≤ limit u → unsigned_abs z ≤ limit W64
   narrow_64 W64 z e h = h
   narrow_64 W128 z e h = cc
 
-  cut_step : (s : Scene) (ds : List Seen) (n m : ℕ) (a : Way) (ss : List Slot) (ls : ℕ → Option Slot) (xs : List Sized) (lx : ℕ → Option Sized) (t : State Sized (ℕ → Option Sized)) (go : Rest) (k : Counts) (o : Outcome)
+  cut_step : (s : Scene) (ds : List Seen) (n m : ℕ) (a : Way) (ss : List Slot) (ls : ℕ → Option Slot) (xs : List Sized)
+      (lx : ℕ → Option Sized) (t : State Sized (ℕ → Option Sized)) (go : Rest) (k : Counts) (o : Outcome)
       → step (checked s.values) (Cut m) a lx xs ≡ Some t → Stack ds n ss xs → Locals ds n ls lx → n < top → Goes s ds n t go k o
       → runs s ds (put_cut name m n ss ls go) k ≡ o
   cut_step s ds n m a [] ls [] lx t go k o q bottom l lt g = cc
@@ -266,20 +297,24 @@ module _ (name : ℕ → List ℕ) (top : ℕ) (differ : AreNames name top) wher
       let i = if_some _ _ _ u.1 in
       let ds' : List Seen = hidden Int64 (name n) ∷ ds in
       let b : unsigned_abs x.number ≤ limit W64 = narrow_64 p.width x.number (moved p.width x.width W64 h.same i.0) h.small in
-      push_is s ds n W64 (cut_expr m (operand name W64 p)) (cut_by m x.number) ss ls xs lx u.0 t go k k o i.1 (λ r. cut_is s ds' m (operand name W64 p) x.number k (operand_is s W64 Int64 k lt h i.0) b r) u.2 st l lt g
+      push_is s ds n W64 (cut_expr m (operand name W64 p)) (cut_by m x.number) ss ls xs lx u.0 t go k k o i.1
+      (λ r. cut_is s ds' m (operand name W64 p) x.number k (operand_is s W64 Int64 k lt h i.0) b r) u.2 st l lt g
 
   -- one operation
-  step_is : (s : Scene) (ds : List Seen) (n : ℕ) (oper : Op) (a : Way) (ss : List Slot) (ls : ℕ → Option Slot) (xs : List Sized) (lx : ℕ → Option Sized) (t : State Sized (ℕ → Option Sized)) (go : Rest) (k : Counts) (o : Outcome)
+  step_is : (s : Scene) (ds : List Seen) (n : ℕ) (oper : Op) (a : Way) (ss : List Slot) (ls : ℕ → Option Slot) (xs : List Sized)
+      (lx : ℕ → Option Sized) (t : State Sized (ℕ → Option Sized)) (go : Rest) (k : Counts) (o : Outcome)
       → step (checked s.values) oper a lx xs ≡ Some t → Stack ds n ss xs → Locals ds n ls lx → n < top → Goes s ds n t go (plus (wide_op oper a) k) o
       → runs s ds (put_op name oper a n ss ls go) k ≡ o
   step_is s ds n (Push z) a ss ls xs lx t go k o q st l lt g =
       let y : ℤ = cut_by a.shift z in
       let u = next_some (sized a.width y) (pushed (checked s.values) lx xs) t q in
-      push_is s ds n a.width (c.Inner (type_of a.width) (constant y)) y ss ls xs lx u.0 t go k (plus (constant_wide y) k) o u.1 (λ h. constant_is s (hidden (type_of a.width) (name n) ∷ ds) a.width y k h) u.2 st l lt g
+      push_is s ds n a.width (c.Inner (type_of a.width) (constant y)) y ss ls xs lx u.0 t go k (plus (constant_wide y) k) o u.1
+      (λ h. constant_is s (hidden (type_of a.width) (name n) ∷ ds) a.width y k h) u.2 st l lt g
   step_is s ds n (Input v) a ss ls xs lx t go k o q st l lt g =
       let u = next_some (next (slice_get s.values v) (λ z. sized a.width z)) (pushed (checked s.values) lx xs) t q in
       let p = next_some (slice_get s.values v) (λ (z : ℤ). sized a.width z) u.0 u.1 in
-      push_is s ds n a.width (c.Value (type_of a.width) v) p.0 ss ls xs lx u.0 t go k k o p.2 (λ h. value_at s (hidden (type_of a.width) (name n) ∷ ds) v a.width p.0 k p.1 h) u.2 st l lt g
+      push_is s ds n a.width (c.Value (type_of a.width) v) p.0 ss ls xs lx u.0 t go k k o p.2
+      (λ h. value_at s (hidden (type_of a.width) (name n) ∷ ds) v a.width p.0 k p.1 h) u.2 st l lt g
   step_is s ds n (Get j) a ss ls xs lx t go k o q st l lt g = get_is s ds n a ss ls xs lx j t go k o q st l lt g
   step_is s ds n (Set j) a ss ls xs lx t go k o q st l lt g = set_is s ds n a ss ls xs lx j t go k o q st l lt g
   step_is s ds n (Add w) a ss ls xs lx t go k o q st l lt g = two_step s ds n Plus w a ss ls xs lx t go k o q st l lt g
@@ -319,7 +354,8 @@ module _ (name : ℕ → List ℕ) (top : ℕ) (differ : AreNames name top) wher
     by_case false = refl
   sign_number zero (negsuc n) = rw (lt_true 0 (suc n) (omega arith)) refl
   sign_number (suc e) (negsuc n) = by_case (nat_lt (suc e) (suc n)) refl where
-    by_case : (b : Bool) → nat_lt (suc e) (suc n) ≡ b → number_of_bool (int_lt (pos (suc e)) (negsuc n)) -ℤ number_of_bool (int_lt (negsuc n) (negsuc e)) ≡ (if nat_lt (suc e) (suc n) then negsuc 0 else pos 0)
+    by_case : (b : Bool) → nat_lt (suc e) (suc n) ≡ b → number_of_bool (int_lt (pos (suc e)) (negsuc n)) -ℤ number_of_bool (int_lt (negsuc n) (negsuc e))
+        ≡ (if nat_lt (suc e) (suc n) then negsuc 0 else pos 0)
     by_case true h = rw (h, lt_true e n (omega (arith, lt_from (suc e) (suc n) h))) refl
     by_case false h = rw (h, lt_false e n (omega (arith, lt_not (suc e) (suc n) h))) refl
 
@@ -336,7 +372,8 @@ module _ (name : ℕ → List ℕ) (top : ℕ) (differ : AreNames name top) wher
       let v : value_of s ds (c.Number Int64 (suc e)) k ≡ Gives Int64 (pos (suc e)) k = cast_is W64 (pos (suc e)) k b in
       record { high_end = v; low = minus_is s ds Int64 (c.Number Int64 (suc e)) (pos (suc e)) k k v (room W64 (negsuc e) b) }
 
-  sign_is : (s : Scene) (ds : List Seen) (e i : ℕ) (w : Width) (x : ℤ) (k : Counts) → Quiet e w → ((j : Counts) → find ds (name i) j ≡ Gives (type_of w) x j) → unsigned_abs x ≤ limit w → value_of s ds (sign_expr name e (slot i w)) k ≡ Gives Int (sign_above e x) k
+  sign_is : (s : Scene) (ds : List Seen) (e i : ℕ) (w : Width) (x : ℤ) (k : Counts) → Quiet e w → ((j : Counts) → find ds (name i) j ≡ Gives (type_of w) x j)
+      → unsigned_abs x ≤ limit w → value_of s ds (sign_expr name e (slot i w)) k ≡ Gives Int (sign_above e x) k
   sign_is s ds e i w x k qu f h =
       let v : value_of s ds (c.Name (type_of w) (name i)) k ≡ Gives (type_of w) x k = rw (f k) (cast_is w x k h) in
       let z = ends s ds e w k qu in
@@ -347,12 +384,14 @@ module _ (name : ℕ → List ℕ) (top : ℕ) (differ : AreNames name top) wher
       let less = two_is s ds op.Less (type_of w) y (lowest (type_of w) e) x (neg_ℤ (pos e)) k k k v z.low (same_type w) in
       let more' = inner_is s ds Int Int (c.Two op.More y (c.Number (type_of w) e)) a k k more (has_bool (int_lt (pos e) x)) in
       let less' = inner_is s ds Int Int (c.Two op.Less y (lowest (type_of w) e)) b k k less (has_bool (int_lt x (neg_ℤ (pos e)))) in
-      two_is s ds op.Sub Int (c.Inner Int (c.Two op.More y (c.Number (type_of w) e))) (c.Inner Int (c.Two op.Less y (lowest (type_of w) e))) a b k k k more' less' refl
+      two_is s ds op.Sub Int (c.Inner Int (c.Two op.More y (c.Number (type_of w) e)))
+      (c.Inner Int (c.Two op.Less y (lowest (type_of w) e))) a b k k k more' less' refl
       ∙ ap (λ y. given Int y k) (sign_number e x)
       ∙ given_is Int (sign_above e x) k (has_above e x)
 
-  -- the value that is left
-  left_is : (s : Scene) (ds : List Seen) (n e : ℕ) (ss : List Slot) (xs : List Sized) (x : Sized) (k : Counts) → Quiet e x.width → only xs ≡ Some x → Stack ds n ss xs → runs s ds (put_sign name e ss) k ≡ Said (sign_above e x.number) k
+  -- the remaining value
+  left_is : (s : Scene) (ds : List Seen) (n e : ℕ) (ss : List Slot) (xs : List Sized) (x : Sized) (k : Counts) → Quiet e x.width
+      → only xs ≡ Some x → Stack ds n ss xs → runs s ds (put_sign name e ss) k ≡ Said (sign_above e x.number) k
   left_is s ds n e [] [] x k qu q st = cc
   left_is s ds n e [] (y ∷ ys) x k qu q st = elim st [ ]
   left_is s ds n e (p ∷ ss) [] x k qu q st = elim st [ ]
@@ -370,16 +409,21 @@ module _ (name : ℕ → List ℕ) (top : ℕ) (differ : AreNames name top) wher
   named_runs s ds None b k = refl
   named_runs s ds (Some i) b k = refl
 
-  main : (s : Scene) (e : ℕ) (lines : List (Line Way)) (ds : List Seen) (n : ℕ) (ss : List Slot) (ls : ℕ → Option Slot) (xs : List Sized) (lx : ℕ → Option Sized) (t : State Sized (ℕ → Option Sized)) (x : Sized) (k : Counts)
-      → Quiet e x.width → run (checked s.values) lines (record { stack = xs; locals = lx }) ≡ Some t → only t.stack ≡ Some x → Stack ds n ss xs → Locals ds n ls lx → n + length lines ≤ top
+  main : (s : Scene) (e : ℕ) (lines : List (Line Way)) (ds : List Seen) (n : ℕ) (ss : List Slot) (ls : ℕ → Option Slot) (xs : List Sized)
+      (lx : ℕ → Option Sized) (t : State Sized (ℕ → Option Sized)) (x : Sized) (k : Counts)
+      → Quiet e x.width → run (checked s.values) lines (record { stack = xs; locals = lx }) ≡ Some t → only t.stack ≡ Some x
+      → Stack ds n ss xs → Locals ds n ls lx → n + length lines ≤ top
       → runs s ds (emitted name e lines n ss ls) k ≡ Said (sign_above e x.number) (plus (wide_lines lines) k)
   main s e [] ds n ss ls xs lx t x k qu q p st l m =
       let r : record { stack = xs; locals = lx } ≡ t = cc in
       left_is s ds n e ss xs x k qu (subst (λ (u : State Sized (ℕ → Option Sized)). only u.stack ≡ Some x) (sym r) p) st
   main s e (line ∷ lines) ds n ss ls xs lx t x k qu q p st l m =
       let r = next_some (step (checked s.values) line.op line.bound lx xs) (λ u. run (checked s.values) lines u) t q in
-      step_is s ds n line.op line.bound ss ls xs lx r.0 (λ su ms. naming name (unread line.op (ops_of lines) n ss) (emitted name e lines (suc n) su ms)) k _ r.1 st l (omega (arith, m))
-      (λ d su ms st' l'. named_runs s (d ∷ ds) (unread line.op (ops_of lines) n ss) (emitted name e lines (suc n) su ms) _ ∙ main s e lines (d ∷ ds) (suc n) su ms r.0.stack r.0.locals t x (plus (wide_op line.op line.bound) k) qu r.2 p st' l' (omega (arith, m)) ∙ ap (λ j. Said (sign_above e x.number) j) (sym (plus_add (wide_op line.op line.bound) (wide_lines lines) k)))
+      step_is s ds n line.op line.bound ss ls xs lx r.0
+      (λ su ms. naming name (unread line.op (ops_of lines) n ss) (emitted name e lines (suc n) su ms)) k _ r.1 st l (omega (arith, m))
+      (λ d su ms st' l'. named_runs s (d ∷ ds) (unread line.op (ops_of lines) n ss) (emitted name e lines (suc n) su ms) _
+      ∙ main s e lines (d ∷ ds) (suc n) su ms r.0.stack r.0.locals t x (plus (wide_op line.op line.bound) k) qu r.2 p st' l' (omega (arith, m))
+      ∙ ap (λ j. Said (sign_above e x.number) j) (sym (plus_add (wide_op line.op line.bound) (wide_lines lines) k)))
 
 pub emitted_means : EmittedMeans
 emitted_means name e s lines x k differ qu q =

@@ -1,4 +1,4 @@
--- Where the machine of a filter has an answer, the machine as C has it gives its number at 64 bits, and no operation is wide.
+-- Proves that where the machine of a filter has a result, the machine as C has it returns its number at 64 bits, and no operation is wide.
 use Rattle.std.proofs.Common.{◌≡◌, ℕ, ℤ, suc, ◌≤◌, ◌^◌, Bool, true, false, List, [], ◌∷◌, refl, ap, arith, neg_ℤ, unsigned_abs, ◌&&◌, pos, negsuc}
 use Rattle.std.specs.Prelude.{Option, Some, None, if◌then◌else◌, ◌==◌, slice_get}
 use Rattle.std.proofs.lemmas.Bool.{and_parts}
@@ -41,7 +41,8 @@ reached a z h q =
     let r = held_says a z h q in
     rw r.0 (record { same = ap (λ (y : Held). y.number) r.1; width = refl })
 
-narrow_input : (zs : List ℤ) (v : ℕ) (a : Triple) (h : Held) → next (slice_get zs v) (λ z. held a z) ≡ Some h → Reaches IsNarrow h (next (slice_get zs v) (λ z. sized W64 z))
+narrow_input : (zs : List ℤ) (v : ℕ) (a : Triple) (h : Held) → next (slice_get zs v) (λ z. held a z) ≡ Some h
+    → Reaches IsNarrow h (next (slice_get zs v) (λ z. sized W64 z))
 narrow_input zs v a h q =
     let r = next_some (slice_get zs v) (λ (z : ℤ). held a z) h q in
     rw r.1 (reached a r.0 h r.2)
@@ -50,23 +51,27 @@ narrow_input zs v a h q =
 narrow_again : (a : Triple) (y h : Held) (z : ℤ) (u : Width) → z ≡ y.number → u ≡ W64 → held a y.number ≡ Some h → Reaches IsNarrow h (sized (wider u W64) z)
 narrow_again a y h z u e f q = rw (e, f) (reached a y.number h q)
 
-narrow_two : (t : Two) (w : Width) (a : Triple) (x y h : Held) (m n : ℤ) (u v : Width) → m ≡ x.number → u ≡ W64 → n ≡ y.number → v ≡ W64 → held_at w a (result_of t x.number y.number) ≡ Some h → Reaches IsNarrow h (if no_wider u w && no_wider v w then sized w (result_of t m n) else None)
+narrow_two : (t : Two) (w : Width) (a : Triple) (x y h : Held) (m n : ℤ) (u v : Width) → m ≡ x.number → u ≡ W64 → n ≡ y.number → v ≡ W64
+    → held_at w a (result_of t x.number y.number) ≡ Some h → Reaches IsNarrow h (if no_wider u w && no_wider v w then sized w (result_of t m n) else None)
 narrow_two t w a x y h m n u v e f g i q =
     let r = held_at_says w a (result_of t x.number y.number) h q in
     rw (e, f, g, i, r.0) (reached a (result_of t x.number y.number) h r.1)
 
-narrow_minus : (w : Width) (a : Triple) (x h : Held) (m : ℤ) (u : Width) → m ≡ x.number → u ≡ W64 → held_at w a (neg_ℤ x.number) ≡ Some h → Reaches IsNarrow h (if no_wider u w then sized w (neg_ℤ m) else None)
+narrow_minus : (w : Width) (a : Triple) (x h : Held) (m : ℤ) (u : Width) → m ≡ x.number → u ≡ W64 → held_at w a (neg_ℤ x.number) ≡ Some h
+    → Reaches IsNarrow h (if no_wider u w then sized w (neg_ℤ m) else None)
 narrow_minus w a x h m u e f q =
     let r = held_at_says w a (neg_ℤ x.number) h q in
     rw (e, f, r.0) (reached a (neg_ℤ x.number) h r.1)
 
-narrow_cut : (n : ℕ) (a : Triple) (x h : Held) (m : ℤ) (u : Width) → m ≡ x.number → u ≡ W64 → held a (cut_by n x.number) ≡ Some h → Reaches IsNarrow h (if no_wider u W64 then sized W64 (cut_by n m) else None)
+narrow_cut : (n : ℕ) (a : Triple) (x h : Held) (m : ℤ) (u : Width) → m ≡ x.number → u ≡ W64 → held a (cut_by n x.number) ≡ Some h
+    → Reaches IsNarrow h (if no_wider u W64 then sized W64 (cut_by n m) else None)
 narrow_cut n a x h m u e f q = rw (e, f) (reached a (cut_by n x.number) h q)
 
 abbrev pub NarrowLocals : (ℕ → Option Held) → (ℕ → Option Sized) → Type 0
 NarrowLocals l m = (j : ℕ) (h : Held) → l j ≡ Some h → Reaches IsNarrow h (m j)
 
-narrow_put : (l : ℕ → Option Held) (m : ℕ → Option Sized) (j : ℕ) (v : Held) (x : Sized) → NarrowLocals l m → IsNarrow v x → NarrowLocals (with_local l j v) (with_local m j x)
+narrow_put : (l : ℕ → Option Held) (m : ℕ → Option Sized) (j : ℕ) (v : Held) (x : Sized) → NarrowLocals l m → IsNarrow v x
+    → NarrowLocals (with_local l j v) (with_local m j x)
 narrow_put l m j v x h f i k = by_case (i == j)
   where
     by_case : (b : Bool) → (if b then Some v else l i) ≡ Some k → Reaches IsNarrow k (if b then Some x else m i)
@@ -92,18 +97,21 @@ short_constant : (z : ℤ) → unsigned_abs z ≤ limit W64 → constant_wide z 
 short_constant (pos n) h = rw (lt_true n (2 ^ 63) (omega (arith, h))) refl
 short_constant (negsuc n) h = rw (lt_true (suc n) (2 ^ 63) (omega (arith, h))) refl
 
-no_two : (zs : List ℤ) (t : Two) (w : Width) (a : Triple) (l : ℕ → Option Held) (ys : List Held) (u : State Held (ℕ → Option Held)) → with_two (exact_filter zs) ((exact_filter zs).two t w a) l ys ≡ Some u → wide_at w ≡ 0
+no_two : (zs : List ℤ) (t : Two) (w : Width) (a : Triple) (l : ℕ → Option Held) (ys : List Held) (u : State Held (ℕ → Option Held))
+    → with_two (exact_filter zs) ((exact_filter zs).two t w a) l ys ≡ Some u → wide_at w ≡ 0
 no_two zs t W64 a l ys u q = refl
 no_two zs t W128 a l [] u q = cc
 no_two zs t W128 a l (y ∷ []) u q = cc
 no_two zs t W128 a l (y ∷ (x ∷ ys)) u q = cc
 
-no_neg : (zs : List ℤ) (w : Width) (a : Triple) (l : ℕ → Option Held) (ys : List Held) (u : State Held (ℕ → Option Held)) → with_one (exact_filter zs) ((exact_filter zs).minus w a) l ys ≡ Some u → wide_at w ≡ 0
+no_neg : (zs : List ℤ) (w : Width) (a : Triple) (l : ℕ → Option Held) (ys : List Held) (u : State Held (ℕ → Option Held))
+    → with_one (exact_filter zs) ((exact_filter zs).minus w a) l ys ≡ Some u → wide_at w ≡ 0
 no_neg zs W64 a l ys u q = refl
 no_neg zs W128 a l [] u q = cc
 no_neg zs W128 a l (y ∷ ys) u q = cc
 
-no_wide_step : (zs : List ℤ) (oper : Op) (a : Triple) (l : ℕ → Option Held) (ys : List Held) (u : State Held (ℕ → Option Held)) → step (exact_filter zs) oper a l ys ≡ Some u → wide_op oper (filter_way a) ≡ 0
+no_wide_step : (zs : List ℤ) (oper : Op) (a : Triple) (l : ℕ → Option Held) (ys : List Held) (u : State Held (ℕ → Option Held))
+    → step (exact_filter zs) oper a l ys ≡ Some u → wide_op oper (filter_way a) ≡ 0
 no_wide_step zs (Push c) a l ys u q =
     let r = next_some (held a (cut_by a.k c)) (pushed (exact_filter zs) l ys) u q in
     let p = held_says a (cut_by a.k c) r.0 r.1 in
@@ -117,7 +125,8 @@ no_wide_step zs (Mul w) a l ys u q = no_two zs Times w a l ys u q
 no_wide_step zs (Neg w) a l ys u q = no_neg zs w a l ys u q
 no_wide_step zs (Cut m) a l ys u q = refl
 
-pub no_wide : (zs : List ℤ) (lines : List (Line Triple)) (s u : State Held (ℕ → Option Held)) → run (exact_filter zs) lines s ≡ Some u → wide_lines (ways filter_way lines) ≡ 0
+pub no_wide : (zs : List ℤ) (lines : List (Line Triple)) (s u : State Held (ℕ → Option Held)) → run (exact_filter zs) lines s ≡ Some u
+    → wide_lines (ways filter_way lines) ≡ 0
 no_wide zs [] s u q = refl
 no_wide zs (x ∷ xs) s u q =
     let r = next_some (step (exact_filter zs) x.op x.bound s.locals s.stack) (λ t. run (exact_filter zs) xs t) u q in

@@ -17,20 +17,25 @@ one_local [] j i s h = absurd (omega arith)
 one_local (o ∷ os) zero zero s h = refl
 one_local (o ∷ os) zero (suc i) s h = let f : (suc i == 0) ≡ false = grind (arith, nat_tests) in rw f refl
 one_local (o ∷ os) (suc j) zero s h = let f : (0 == suc j) ≡ false = grind (arith, nat_tests) in rw f refl
-one_local (o ∷ os) (suc j) (suc i) s h = one_local os j i s (omega (arith, h)) ∙ ap (λ (b : Bool). if b then Some s else locals_of os i) (same i j (i == j) refl) where
-  same : (i j : ℕ) (b : Bool) → (i == j) ≡ b → (i == j) ≡ (suc i == suc j)
-  same i j true e = grind (arith, nat_tests)
-  same i j false e = grind (arith, nat_tests)
+one_local (o ∷ os) (suc j) (suc i) s h =
+    one_local os j i s (omega (arith, h)) ∙ ap (λ (b : Bool). if b then Some s else locals_of os i) (same i j (i == j) refl)
+  where
+    same : (i j : ℕ) (b : Bool) → (i == j) ≡ b → (i == j) ≡ (suc i == suc j)
+    same i j true e = grind (arith, nat_tests)
+    same i j false e = grind (arith, nat_tests)
 
 pub locals_set : (os : List (Option Slot)) (j : ℕ) (s : Slot) → j < length os → locals_of (slice_set os j (Some s)) ≡ with_local (locals_of os) j s
 locals_set os j s h = fun_ext (λ i. one_local os j i s h)
 
 -- a declaration, and the local that it is
 pub stored : {a b : List ℕ} (n j : ℕ) (s : Slot) (old rest : List Slot) (os : List (Option Slot)) → old ≡ rest ++ s ∷ [] → j < length os
-    → Puts a b (decl_before n s.width (operand decl_name s.width s)) → Stores a b rest (slice_set os j (Some (slot n s.width))) (λ go. put_set decl_name j n (reverse old) (locals_of os) go)
+    → Puts a b (decl_before n s.width (operand decl_name s.width s))
+    → Stores a b rest (slice_set os j (Some (slot n s.width))) (λ go. put_set decl_name j n (reverse old) (locals_of os) go)
 stored {a} {b} n j s old rest os e h p =
     let f : reverse old ≡ s ∷ reverse rest = ap reverse e ∙ reverse-append rest (s ∷ []) in
     let body : Rest → Body = λ go. put_set decl_name j n (s ∷ reverse rest) (locals_of os) go in
     rw f (record {
-      goes = λ go. subst (λ (ms : ℕ → Option Slot). Goes a b (spell_body (go (reverse rest) ms)) (spell_body (body go))) (sym (locals_set os j (slot n s.width) h)) (record { is = λ r. p.is (spell_body (go (reverse rest) (with_local (locals_of os) j (slot n s.width))) r) });
+      goes =
+          λ go. subst (λ (ms : ℕ → Option Slot). Goes a b (spell_body (go (reverse rest) ms)) (spell_body (body go))) (sym (locals_set os j (slot n s.width) h))
+          (record { is = λ r. p.is (spell_body (go (reverse rest) (with_local (locals_of os) j (slot n s.width))) r) });
     })

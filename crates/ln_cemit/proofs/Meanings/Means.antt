@@ -58,13 +58,16 @@ pub blocks_say : BlocksSay
 blocks_say name vars zs code differ range r =
     let b = blocks_mean vars zs code range r in
     let lines = lines_of code.ops code.pairs in
-    let f = answer_follows (rules vars code.depth) (checked zs) block_way (Has zs) (HasLocals zs) (checked_follows vars code.depth zs range) no_locals no_locals lines b.what (λ j v e. cc) b.known in
+    let f = answer_follows (rules vars code.depth) (checked zs) block_way (Has zs) (HasLocals zs)
+    (checked_follows vars code.depth zs range) no_locals no_locals lines b.what (λ j v e. cc) b.known in
     let p = reached_some (Has zs) b.what _ (rw (same_ways block_way lines) at f) in
     let x : Sized = p.0 in
     let z : ℤ = value (values zs) [] b.what.tree in
     let e : x.number ≡ z = p.2.fits.same in
-    let says : (k : Counts) → runs (scene zs) [] (emitted name 0 (block_lines code) 0 [] no_locals) k ≡ Said (sign_of z) (plus (wide_lines (block_lines code)) k)
-    = λ k. emitted_means name 0 (scene zs) (block_lines code) x k differ without p.1 ∙ ap (λ (s : ℤ). Said s (plus (wide_lines (block_lines code)) k)) (above_none x.number ∙ ap sign_of e) in
+    let says : (k : Counts)
+    → runs (scene zs) [] (emitted name 0 (block_lines code) 0 [] no_locals) k ≡ Said (sign_of z) (plus (wide_lines (block_lines code)) k)
+    = λ k. emitted_means name 0 (scene zs) (block_lines code) x k differ without p.1
+    ∙ ap (λ (s : ℤ). Said s (plus (wide_lines (block_lines code)) k)) (above_none x.number ∙ ap sign_of e) in
     record {
       value = z;
       machine = b.answer;
@@ -75,20 +78,27 @@ pub filters_say : FiltersSay
 filters_say name vars zs f differ range r =
     let b = filter_runs vars zs f f.depth (λ k. pos 0) r range (omega arith) in
     let lines = lines_of f.ops f.triples in
-    let g = answer_follows (exact_filter zs) (checked zs) filter_way IsNarrow NarrowLocals (narrow_follows zs) no_locals no_locals lines b.left (λ j v e. cc) b.exactly in
+    let g = answer_follows (exact_filter zs) (checked zs) filter_way IsNarrow NarrowLocals
+    (narrow_follows zs) no_locals no_locals lines b.left (λ j v e. cc) b.exactly in
     let p = reached_some IsNarrow b.left _ (rw (same_ways filter_way lines) at g) in
     let x : Sized = p.0 in
     let h : Held = b.left in
     let w = next_some (run (exact_filter zs) lines (record { stack = []; locals = no_locals })) (λ s. only s.stack) h b.exactly in
     let no : wide_lines (filter_lines f) ≡ 0 = no_wide zs lines (record { stack = []; locals = no_locals }) w.0 w.1 in
-    let small : error_of f ≤ limit W64 = error_small (error_of f) h.error b.what.triple.e r.what.triple.e (sym b.error) b.holds.error (ap (λ (y : FilterKnown). y.triple.e) (one_known (filter_known_of vars f) b.what r.what b.known r.known)) r.narrow in
+    let small : error_of f ≤ limit W64 = error_small (error_of f) h.error b.what.triple.e r.what.triple.e (sym b.error) b.holds.error
+    (ap (λ (y : FilterKnown). y.triple.e) (one_known (filter_known_of vars f) b.what r.what b.known r.known)) r.narrow in
     let q : Quiet (error_of f) x.width = subst (λ (u : Width). Quiet (error_of f) u) (sym p.2.width) (narrow (fits_from W64 (pos (error_of f)) small)) in
     let says : (k : Counts) → runs (scene zs) [] (emitted name (error_of f) (filter_lines f) 0 [] no_locals) k ≡ Said (sign_above h.error h.number) k
-    = λ k. emitted_means name (error_of f) (scene zs) (filter_lines f) x k differ q p.1 ∙ alike (error_of f) h.error x.number h.number (wide_lines (filter_lines f)) k (sym b.error) p.2.same no in
+    = λ k. emitted_means name (error_of f) (scene zs) (filter_lines f) x k differ q p.1
+    ∙ alike (error_of f) h.error x.number h.number (wide_lines (filter_lines f)) k (sym b.error) p.2.same no in
     record {
       left = h;
       machine = b.exactly;
-      means = record { says = λ k. touched zs (reads_row (filter_lines f)) _ k ∙ says k; small = has_either (nat_lt h.error (unsigned_abs h.number)) h.number; keeps = λ k. refl };
+      means = record {
+        says = λ k. touched zs (reads_row (filter_lines f)) _ k ∙ says k;
+        small = has_either (nat_lt h.error (unsigned_abs h.number)) h.number;
+        keeps = λ k. refl;
+      };
     }
   where
     one_known : (o : Option FilterKnown) (a b : FilterKnown) → o ≡ Some a → o ≡ Some b → a ≡ b

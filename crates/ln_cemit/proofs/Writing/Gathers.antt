@@ -1,5 +1,6 @@
 -- Loops that gather a list, the loop over comparisons, and the function of a filter.
-use Rattle.std.proofs.Common.{◌≡◌, ℕ, suc, ◌+◌, ◌<◌, ◌≤◌, List, [], ◌∷◌, ◌++◌, length, get_or, drop, map, sym, ap, ◌∙◌, append_assoc, append-nil, refl, subst, arith, drop-cons}
+use Rattle.std.proofs.Common.{◌≡◌, ℕ, suc, ◌+◌, ◌<◌, ◌≤◌, List, [], ◌∷◌, ◌++◌, length, get_or, drop, map, sym, ap, ◌∙◌, append_assoc}
+use Rattle.std.proofs.Common.{append-nil, subst, arith, drop-cons}
 use Rattle.std.specs.Prelude.{Option, Some, None, codes, eqb, not}
 use Rattle.std.proofs.lemmas.List.{drop_all}
 use Rattle.std.proofs.lemmas.List.Elements.{filter-append}
@@ -17,7 +18,8 @@ from_on : {A : Type 0} (xs : List A) (i : ℕ) (x : A) → i < length xs → dro
 from_on xs i x h = let n : suc i ≡ i + 1 = omega arith in drop-cons xs i x h ∙ ap (λ m. get_or xs i x ∷ drop m xs) n
 
 -- one more was made of an element
-pub collects : {A C : Type 0} (f : A → C) (done next all : List C) (xs : List A) (i : ℕ) (x : A) (y : C) → i < length xs → y ≡ f (get_or xs i x) → next ≡ done ++ y ∷ []
+pub collects : {A C : Type 0} (f : A → C) (done next all : List C) (xs : List A) (i : ℕ) (x : A) (y : C) → i < length xs
+    → y ≡ f (get_or xs i x) → next ≡ done ++ y ∷ []
     → done ++ map f (drop i xs) ≡ all → next ++ map f (drop (i + 1) xs) ≡ all
 collects f done next all xs i x y h e n g =
     ap (λ z. z ++ map f (drop (i + 1) xs)) n ∙ append_assoc done (y ∷ []) (map f (drop (i + 1) xs)) ∙ ap (λ z. done ++ z ∷ map f (drop (i + 1) xs)) e
@@ -26,8 +28,9 @@ collects f done next all xs i x y h e n g =
 pub collected : {A C : Type 0} (f : A → C) (done all : List C) (xs : List A) (i : ℕ) → length xs ≤ i → done ++ map f (drop i xs) ≡ all → done ≡ all
 collected f done all xs i h g = sym (append-nil done) ∙ ap (λ z. done ++ map f z) (sym (drop_all i xs h)) ∙ g
 
--- one more was kept, unless it is the one to be left out
-pub keeps : (x : ℕ) (done next all xs : List ℕ) (i d : ℕ) → i < length xs → next ≡ done ++ without x (get_or xs i d ∷ []) → done ++ without x (drop i xs) ≡ all → next ++ without x (drop (i + 1) xs) ≡ all
+-- one more was kept, unless it is the one to be omitted
+pub keeps : (x : ℕ) (done next all xs : List ℕ) (i d : ℕ) → i < length xs → next ≡ done ++ without x (get_or xs i d ∷ [])
+    → done ++ without x (drop i xs) ≡ all → next ++ without x (drop (i + 1) xs) ≡ all
 keeps x done next all xs i d h n g =
     ap (λ z. z ++ without x (drop (i + 1) xs)) n ∙ append_assoc done (without x (get_or xs i d ∷ [])) (without x (drop (i + 1) xs))
     ∙ ap (λ z. done ++ z) (sym (filter-append (λ j. not (eqb j x)) (get_or xs i d ∷ []) (drop (i + 1) xs)))
@@ -36,16 +39,21 @@ keeps x done next all xs i d h n g =
 pub kept_all : (x : ℕ) (done all xs : List ℕ) (i : ℕ) → length xs ≤ i → done ++ without x (drop i xs) ≡ all → done ≡ all
 kept_all x done all xs i h g = sym (append-nil done) ∙ ap (λ z. done ++ without x z) (sym (drop_all i xs h)) ∙ g
 
--- one comparison more was put
+-- one comparison more was appended
 pub guards_more : {start now new : List ℕ} (i : ℕ) (js : List ℕ) (k d : ℕ) → k < length js → Goes start now (open_guards i (drop k js)) (open_guards i js)
-    → Puts now new (λ r. lexeme (codes "if") ∷ lexeme (codes "(") ∷ spell (less i (get_or js k d)) (lexeme (codes ")") ∷ lexeme (codes "{") ∷ r)) → Goes start new (open_guards i (drop (k + 1) js)) (open_guards i js)
-guards_more {start} {now} {new} i js k d h g p = record { is = λ r. p.is (open_guards i (drop (k + 1) js) r) ∙ ap (λ z. now ++ written (open_guards i z r)) (sym (from_on js k d h)) ∙ g.is r }
+    → Puts now new (λ r. lexeme (codes "if") ∷ lexeme (codes "(") ∷ spell (less i (get_or js k d)) (lexeme (codes ")") ∷ lexeme (codes "{") ∷ r))
+    → Goes start new (open_guards i (drop (k + 1) js)) (open_guards i js)
+guards_more {start} {now} {new} i js k d h g p = record {
+  is = λ r. p.is (open_guards i (drop (k + 1) js) r) ∙ ap (λ z. now ++ written (open_guards i z r)) (sym (from_on js k d h)) ∙ g.is r;
+}
 
-pub guards_all : {start now : List ℕ} (i : ℕ) (js : List ℕ) (k : ℕ) → length js ≤ k → Goes start now (open_guards i (drop k js)) (open_guards i js) → Puts start now (open_guards i js)
+pub guards_all : {start now : List ℕ} (i : ℕ) (js : List ℕ) (k : ℕ) → length js ≤ k
+    → Goes start now (open_guards i (drop k js)) (open_guards i js) → Puts start now (open_guards i js)
 guards_all {start} {now} i js k h g = record { is = λ r. ap (λ z. now ++ written (open_guards i z r)) (sym (drop_all k js h)) ∙ g.is r }
 
 -- ---- the function of a filter, if there is one
-pub filter_some : {a b : List ℕ} (name x : List ℕ) (o : Option FilterCode) (f : FilterCode) → name ≡ x → o ≡ Some f → Lays a b (one_fun (filter_name name) (filter_body f) ∷ []) → Lays a b (filter_funs x o)
+pub filter_some : {a b : List ℕ} (name x : List ℕ) (o : Option FilterCode) (f : FilterCode) → name ≡ x → o ≡ Some f
+    → Lays a b (one_fun (filter_name name) (filter_body f) ∷ []) → Lays a b (filter_funs x o)
 filter_some {a} {b} name x o f e g p = rw g (subst (λ y. Lays a b (one_fun (filter_name y) (filter_body f) ∷ [])) e p)
 
 pub filter_none : {a : List ℕ} (x : List ℕ) (o : Option FilterCode) → o ≡ None → Lays a a (filter_funs x o)

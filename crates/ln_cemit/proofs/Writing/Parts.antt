@@ -1,4 +1,4 @@
--- Texts of several tokens, and a number in parts, put part by part.
+-- Texts of several tokens, and a number in parts, appended part by part.
 use Rattle.std.proofs.Common.{◌≡◌, ℕ, suc, ◌/◌, ◌%◌, ◌^◌, List, [], ◌∷◌, ◌++◌, Bool, true, false, refl, sym, ap, ◌∙◌, append_assoc, subst, arith}
 use Rattle.std.specs.Prelude.{◌==◌, if◌then◌else◌, Some, codes, decimal}
 use Rattle.std.proofs.lemmas.Fmt.{decimal_digit}
@@ -14,7 +14,8 @@ use Rattle.ln_cemit.specs.Puts.{tokens_in}
 use Rattle.ln_cemit.specs.Walked.{attempt, says_nothing}
 
 pub parts_step : {a b : List ℕ} (k n j m r : ℕ) → k ≡ suc j → m ≡ n / 2 ^ 31 → r ≡ n % 2 ^ 31
-    → Puts a b (λ z. lexeme (codes "(") ∷ lexeme (codes "(") ∷ spell (in_parts j m) (lexeme (op_text op.Mul) ∷ spell (Number Int128 (2 ^ 31)) (lexeme (codes ")") ∷ lexeme (op_text op.Add) ∷ spell (Number Int128 r) (lexeme (codes ")") ∷ z))))
+    → Puts a b (λ z. lexeme (codes "(") ∷ lexeme (codes "(") ∷ spell (in_parts j m) (lexeme (op_text op.Mul)
+    ∷ spell (Number Int128 (2 ^ 31)) (lexeme (codes ")") ∷ lexeme (op_text op.Add) ∷ spell (Number Int128 r) (lexeme (codes ")") ∷ z))))
     → Puts a b (spell (in_parts k n))
 parts_step k n j m r e f g p = rw (e, ← f, ← g) p
 
@@ -23,7 +24,8 @@ parts_step k n j m r e f g p = rw (e, ← f, ← g) p
 tokens_written : (w t : List ℕ) (r : List Token) → written (tokens_in w t r) ≡ w ++ (t ++ 32 ∷ written r)
 tokens_written w [] r = refl
 tokens_written w (c ∷ cs) r = by_case (c == 32) refl (tokens_written [] cs r) (tokens_written (w ++ c ∷ []) cs r) where
-  by_case : (b : Bool) → c == 32 ≡ b → written (tokens_in [] cs r) ≡ cs ++ 32 ∷ written r → written (tokens_in (w ++ c ∷ []) cs r) ≡ (w ++ c ∷ []) ++ (cs ++ 32 ∷ written r)
+  by_case : (b : Bool) → c == 32 ≡ b → written (tokens_in [] cs r) ≡ cs ++ 32 ∷ written r
+      → written (tokens_in (w ++ c ∷ []) cs r) ≡ (w ++ c ∷ []) ++ (cs ++ 32 ∷ written r)
       → written (if b then lexeme w ∷ tokens_in [] cs r else tokens_in (w ++ c ∷ []) cs r) ≡ w ++ (c ∷ (cs ++ 32 ∷ written r))
   by_case true e p q = let s : 32 ≡ c = sym (eqb-true c 32 e) in ap (λ z. w ++ 32 ∷ z) p ∙ ap (λ z. w ++ z ∷ (cs ++ 32 ∷ written r)) s
   by_case false e p q = q ∙ append_assoc w (c ∷ []) (cs ++ 32 ∷ written r)
@@ -37,28 +39,36 @@ zero_is = decimal_digit 0 (omega arith)
 
 -- a test that never holds, and what is returned there
 abbrev pub never : List ℕ → List Token → List Token
-never z r = lexeme (codes "if") ∷ lexeme (codes "(") ∷ cast_before Int (lexeme z ∷ lexeme (codes ")") ∷ lexeme (codes ")") ∷ lexeme (codes "{") ∷ lexeme (codes "return") ∷ r)
+never z r = lexeme (codes "if") ∷ lexeme (codes "(")
+    ∷ cast_before Int (lexeme z ∷ lexeme (codes ")") ∷ lexeme (codes ")") ∷ lexeme (codes "{") ∷ lexeme (codes "return") ∷ r)
 
 abbrev place : List ℕ → List ℕ → List Token → List Token
 place x z r = cast_before Int (lexeme x ∷ lexeme (codes "[") ∷ lexeme z ∷ lexeme (codes "]") ∷ lexeme (codes ")") ∷ lexeme (codes ";") ∷ lexeme (codes "}") ∷ r)
 
-pub touch_put : {a b : List ℕ} → Puts a b (tokens_in [] (codes "if ( ( ( int ) 0 ) ) { return ( ( int ) v [ 0 ] ) ; }")) → Puts a b (spell_body (touching false End))
+pub touch_put : {a b : List ℕ} → Puts a b (tokens_in [] (codes "if ( ( ( int ) 0 ) ) { return ( ( int ) v [ 0 ] ) ; }"))
+    → Puts a b (spell_body (touching false End))
 touch_put {a} {b} p = subst (λ z. Puts a b (λ r. never z (place (codes "v") z r))) (sym zero_is) p
 
-pub touch_index_put : {a b : List ℕ} → Puts a b (tokens_in [] (codes "if ( ( ( int ) 0 ) ) { return ( ( int ) x [ 0 ] ) ; }")) → Puts a b (spell_body (touching_index false End))
+pub touch_index_put : {a b : List ℕ} → Puts a b (tokens_in [] (codes "if ( ( ( int ) 0 ) ) { return ( ( int ) x [ 0 ] ) ; }"))
+    → Puts a b (spell_body (touching_index false End))
 touch_index_put {a} {b} p = subst (λ z. Puts a b (λ r. never z (place (codes "x") z r))) (sym zero_is) p
 
 pub name_put : {a b : List ℕ} (n : ℕ)
-    → Puts a b (λ r. never (codes "0") (cast_before Int (lexeme (decl_name n) ∷ lexeme (codes ")") ∷ lexeme (codes ";") ∷ lexeme (codes "}") ∷ r))) → Puts a b (spell_body (naming decl_name (Some n) End))
-name_put {a} {b} n p = subst (λ z. Puts a b (λ r. never z (cast_before Int (lexeme (decl_name n) ∷ lexeme (codes ")") ∷ lexeme (codes ";") ∷ lexeme (codes "}") ∷ r)))) (sym zero_is) p
+    → Puts a b (λ r. never (codes "0") (cast_before Int (lexeme (decl_name n) ∷ lexeme (codes ")") ∷ lexeme (codes ";") ∷ lexeme (codes "}") ∷ r)))
+    → Puts a b (spell_body (naming decl_name (Some n) End))
+name_put {a} {b} n p =
+    subst (λ z. Puts a b (λ r. never z (cast_before Int (lexeme (decl_name n) ∷ lexeme (codes ")") ∷ lexeme (codes ";") ∷ lexeme (codes "}") ∷ r))))
+    (sym zero_is) p
 
 pub nothing_put : {a b : List ℕ} → Puts a b (tokens_in [] (codes "return ( ( int ) 0 ) ;")) → Puts a b (spell_body says_nothing)
-nothing_put {a} {b} p = subst (λ z. Puts a b (λ r. lexeme (codes "return") ∷ cast_before Int (lexeme z ∷ lexeme (codes ")") ∷ lexeme (codes ";") ∷ r))) (sym zero_is) p
+nothing_put {a} {b} p =
+    subst (λ z. Puts a b (λ r. lexeme (codes "return") ∷ cast_before Int (lexeme z ∷ lexeme (codes ")") ∷ lexeme (codes ";") ∷ r))) (sym zero_is) p
 
--- the call of a function, and the return of what it answers where that isn't z
+-- the call of a function, and the return of its result where that isn't z
 abbrev pub attempted : List ℕ → List ℕ → List Token → List Token
 attempted x z r =
-    lexeme (codes "int") ∷ lexeme answer_name ∷ lexeme (codes "=") ∷ cast_before Int (lexeme x ∷ lexeme (codes "(") ∷ lexeme (codes "v") ∷ lexeme (codes ")") ∷ lexeme (codes ")") ∷ lexeme (codes ";")
+    lexeme (codes "int") ∷ lexeme answer_name ∷ lexeme (codes "=")
+    ∷ cast_before Int (lexeme x ∷ lexeme (codes "(") ∷ lexeme (codes "v") ∷ lexeme (codes ")") ∷ lexeme (codes ")") ∷ lexeme (codes ";")
     ∷ lexeme (codes "if") ∷ lexeme (codes "(") ∷ lexeme (codes "(") ∷ cast_before Int (lexeme answer_name ∷ lexeme (codes ")") ∷ lexeme (codes "!=")
     ∷ cast_before Int (lexeme z ∷ lexeme (codes ")") ∷ lexeme (codes ")") ∷ lexeme (codes ")") ∷ lexeme (codes "{") ∷ lexeme (codes "return")
     ∷ cast_before Int (lexeme answer_name ∷ lexeme (codes ")") ∷ lexeme (codes ";") ∷ lexeme (codes "}") ∷ r))))

@@ -25,10 +25,12 @@ begun a b d e f g =
 
 -- the functions of a program, and others after them
 funs_then : (p : Part) (rest : List Fun) → funs_before p [] ++ rest ≡ funs_before p rest
-funs_then p rest = append_assoc (one_funs (numbered (part_name p) p.filter) 0 (bodies_of p.filter p.blocks)) (two_fun (call_name (part_name p)) (call_body p) ∷ []) rest
+funs_then p rest = append_assoc (one_funs (numbered (part_name p) p.filter) 0 (bodies_of p.filter p.blocks))
+    (two_fun (call_name (part_name p)) (call_body p) ∷ []) rest
 
 -- one program more
-pub one_after : (old new : List ℕ) (p : Part) → Lays old new (funs_before p []) → IsProgram p → (ps : List Part) → BeginsFile old ps → BeginsFile new (ps ++ p ∷ [])
+pub one_after : (old new : List ℕ) (p : Part) → Lays old new (funs_before p []) → IsProgram p → (ps : List Part) → BeginsFile old ps
+    → BeginsFile new (ps ++ p ∷ [])
 one_after old new p h k ps b = record {
   text = λ more.
       h.is (laid_funs (file_of more) [])
@@ -44,7 +46,8 @@ pub begun_is_emitted : BegunIsEmitted
 begun_is_emitted ps bytes a b = file_is_emitted ps bytes a b.kept (whole_file bytes ps b)
 
 -- a loop over programs, by those that are written
-pub more_begun : (now : List ℕ) (ps : List Part) (i : ℕ) (p : Part) → i < length ps → p ≡ get_or ps i p → BeginsFile now (take i ps ++ p ∷ []) → BeginsFile now (take (i + 1) ps)
+pub more_begun : (now : List ℕ) (ps : List Part) (i : ℕ) (p : Part) → i < length ps → p ≡ get_or ps i p
+    → BeginsFile now (take i ps ++ p ∷ []) → BeginsFile now (take (i + 1) ps)
 more_begun now ps i p h e b = subst (λ z. BeginsFile now z) (ap (λ q. take i ps ++ q ∷ []) e ∙ sym (take_more ps i p h)) b
 
 pub all_begun : (now : List ℕ) (ps : List Part) (i : ℕ) → length ps ≤ i → BeginsFile now (take i ps) → BeginsFile now ps

@@ -1,5 +1,6 @@
 -- Where the reader stops is the place of the fault.
-use Rattle.std.proofs.Common.{◌≡◌, ℕ, suc, ◌+◌, false, List, [], ◌∷◌, ◌++◌, length, take, map, Option, Some, None, ◌⊎◌, inr, refl, sym, ap, ◌∙◌, subst, arith, append_assoc, append-nil}
+use Rattle.std.proofs.Common.{◌≡◌, ℕ, suc, ◌+◌, false, List, [], ◌∷◌, ◌++◌, length, take, map, Option, Some, None, ◌⊎◌, inr, refl, sym, ap}
+use Rattle.std.proofs.Common.{◌∙◌, subst, arith, append_assoc, append-nil}
 use Rattle.ln_cert.specs.declared.part.Part.{Part}
 use Rattle.ln_cert.specs.declared.part.Part.TheVariants.{NoFilter, Decide, Block, End, Order, Done}
 use Rattle.ln_cert.specs.declared.part.State.{State}
@@ -73,7 +74,7 @@ front v ps s k p e = (
   },
 )
 
--- the lines behind those that were read
+-- the lines after those that were read
 record Behind (v : ℕ) (done : List Part) (t : State) (ts : List (List ℕ)) (ps : List Part) : Type 0 where
   rest : List Part
   same : ts ≡ map text_of rest
@@ -85,8 +86,10 @@ pub some_next : (v : ℕ) (o : Option State) (ps : List Part) (t : State) → go
 some_next v None ps t e = let n = goes_none v ps in absurd (cc)
 some_next v (Some u) ps t e = (u, refl)
 
-split : (v : ℕ) (done : List Part) (s t : State) → Each IsLine done → goes v (Some s) done ≡ Some t → (ts : List (List ℕ)) (ps : List Part) → Each IsLine ps → goes v (Some s) ps ≡ Some Top → map text_of done ++ ts ≡ map text_of ps → Behind v done t ts ps
-split v [] s t p e ts ps q f g = record { rest = ps; same = g; whole = refl; ranges = q; ends = let r : s ≡ t = cc in subst (λ (w : State). goes v (Some w) ps ≡ Some Top) r f }
+split : (v : ℕ) (done : List Part) (s t : State) → Each IsLine done → goes v (Some s) done ≡ Some t → (ts : List (List ℕ)) (ps : List Part)
+    → Each IsLine ps → goes v (Some s) ps ≡ Some Top → map text_of done ++ ts ≡ map text_of ps → Behind v done t ts ps
+split v [] s t p e ts ps q f g =
+    record { rest = ps; same = g; whole = refl; ranges = q; ends = let r : s ≡ t = cc in subst (λ (w : State). goes v (Some w) ps ≡ Some Top) r f }
 split v (d ∷ done) s t p e ts [] q f g = absurd (cc)
 split v (d ∷ done) s t p e ts (x ∷ ps) q f g =
     let u = some_next v (next_of v s d) done t e in
@@ -94,20 +97,23 @@ split v (d ∷ done) s t p e ts (x ∷ ps) q f g =
     let h : text_of d ≡ text_of x = head g in
     let r = one_line v s d x u.0 y.0 u.1 y.1 p.0 q.0 h in
     let w : next_of v s x ≡ Some u.0 = ap (next_of v s) (sym r) ∙ u.1 in
-    let b = split v done u.0 t p.1 (ap (λ (o : Option State). goes v o done) (sym u.1) ∙ e) ts ps q.1 (ap (λ (o : Option State). goes v o ps) (sym w) ∙ f) (rest g) in
+    let b = split v done u.0 t p.1 (ap (λ (o : Option State). goes v o done) (sym u.1) ∙ e) ts ps q.1
+    (ap (λ (o : Option State). goes v o ps) (sym w) ∙ f) (rest g) in
     record { rest = b.rest; same = b.same; whole = (λ i. sym r i ∷ b.whole i); ranges = b.ranges; ends = b.ends }
 
 version_of : (v w : ℕ) → first_line v ≡ first_line w → v ≡ w
 version_of v w e = let h : 48 + v ≡ 48 + w = head (rest (rest (rest (rest (rest (rest (rest (rest e)))))))) in omega arith
 
--- what is whole begins with these lines, and goes on behind them
-goes_on : (v : ℕ) (done : List Part) (s : State) (more : List (List ℕ)) → Each IsLine done → goes v start done ≡ Some s → (w : IsWhole (texts_of v done ++ more)) → Behind v done s more w.parts
+-- what is whole begins with these lines, and goes on after them
+goes_on : (v : ℕ) (done : List Part) (s : State) (more : List (List ℕ)) → Each IsLine done → goes v start done ≡ Some s
+    → (w : IsWhole (texts_of v done ++ more)) → Behind v done s more w.parts
 goes_on v done s more p e w =
     let k : v ≡ w.version = version_of v w.version (head w.same) in
     let f : goes v start w.parts ≡ Some Top = subst (λ n. goes n start w.parts ≡ Some Top) (sym k) (whole w.version w.listing.form) in
     split v done Top s p e more w.parts w.listing.ranges f (rest w.same)
 
-refused : (v : ℕ) (done : List Part) (s : State) (t : List ℕ) (more : List (List ℕ)) → Each IsLine done → goes v start done ≡ Some s → RefusesText v s t → IsWhole (texts_of v done ++ (t ∷ more)) → ⊥
+refused : (v : ℕ) (done : List Part) (s : State) (t : List ℕ) (more : List (List ℕ)) → Each IsLine done → goes v start done ≡ Some s
+    → RefusesText v s t → IsWhole (texts_of v done ++ (t ∷ more)) → ⊥
 refused v done s t more p e f w =
     let b = goes_on v done s (t ∷ more) p e w in
     by b.rest b.same b.ranges b.ends
@@ -136,7 +142,8 @@ take_texts v done ts = ap (λ w. first_line v ∷ w) (by done)
     by [] = refl
     by (d ∷ done) = ap (λ (w : List (List ℕ)). text_of d ∷ w) (by done)
 
-take_more : (v : ℕ) (done : List Part) (t : List ℕ) (ts : List (List ℕ)) → take (suc (suc (length done))) (texts_of v done ++ (t ∷ ts)) ≡ texts_of v done ++ (t ∷ [])
+take_more : (v : ℕ) (done : List Part) (t : List ℕ) (ts : List (List ℕ))
+    → take (suc (suc (length done))) (texts_of v done ++ (t ∷ ts)) ≡ texts_of v done ++ (t ∷ [])
 take_more v done t ts = ap (λ w. first_line v ∷ w) (by done)
   where
     by : (done : List Part) → take (suc (length done)) (map text_of done ++ (t ∷ ts)) ≡ map text_of done ++ (t ∷ [])
@@ -150,7 +157,9 @@ long v done ts = ap suc (by done)
     by [] = omega arith
     by (d ∷ done) = let h = by done in omega arith
 
-pub fault_at : (bytes : List ℕ) (v : ℕ) (done : List Part) (s : State) (t : List ℕ) (ts : List (List ℕ)) (at : ℕ) → Known v → lines bytes ≡ texts_of v done ++ (t ∷ ts) → Each IsLine done → goes v start done ≡ Some s → RefusesText v s t → at ≡ length done + 2 → IsFormFault bytes at
+pub fault_at : (bytes : List ℕ) (v : ℕ) (done : List Part) (s : State) (t : List ℕ) (ts : List (List ℕ)) (at : ℕ) → Known v
+    → lines bytes ≡ texts_of v done ++ (t ∷ ts) → Each IsLine done → goes v start done ≡ Some s → RefusesText v s t
+    → at ≡ length done + 2 → IsFormFault bytes at
 fault_at bytes v done s t ts at k w p e f n =
     let l : length (lines bytes) ≡ suc (length done + suc (length ts)) = ap length w ∙ long v done (t ∷ ts) in
     let m : at ≡ suc (suc (length done)) = omega arith in
@@ -159,13 +168,15 @@ fault_at bytes v done s t ts at k w p e f n =
       number = omega arith;
       within = omega arith;
       front = subst (λ (x : List (List ℕ)). IsFront x) (sym (ap (take (suc (length done))) w ∙ take_texts v done (t ∷ ts))) (front v done s k p e);
-      refused = λ h g. let r : take at (lines bytes) ≡ texts_of v done ++ (t ∷ []) = ap (λ (k : ℕ). take k (lines bytes)) m ∙ ap (take (suc (suc (length done)))) w ∙ take_more v done t ts in
+      refused = λ h g. let r : take at (lines bytes) ≡ texts_of v done ++ (t ∷ []) =
+          ap (λ (k : ℕ). take k (lines bytes)) m ∙ ap (take (suc (suc (length done)))) w ∙ take_more v done t ts in
           let q : IsWhole ((texts_of v done ++ (t ∷ [])) ++ g.0) = subst (λ (x : List (List ℕ)). IsWhole (x ++ g.0)) r g.1 in
           refused v done s t g.0 p e f (subst (λ (x : List (List ℕ)). IsWhole x) (append_assoc (texts_of v done) (t ∷ []) g.0) q);
       unfinished = λ h. absurd (omega arith);
     }
 
-pub fault_end : (bytes : List ℕ) (v : ℕ) (done : List Part) (s : State) (at : ℕ) → Known v → lines bytes ≡ texts_of v done → Each IsLine done → goes v start done ≡ Some s → is_end s ≡ false → at ≡ length done + 2 → IsFormFault bytes at
+pub fault_end : (bytes : List ℕ) (v : ℕ) (done : List Part) (s : State) (at : ℕ) → Known v → lines bytes ≡ texts_of v done
+    → Each IsLine done → goes v start done ≡ Some s → is_end s ≡ false → at ≡ length done + 2 → IsFormFault bytes at
 fault_end bytes v done s at k w p e n a =
     let x : lines bytes ≡ texts_of v done ++ [] = w ∙ sym (append-nil (texts_of v done)) in
     let l : length (lines bytes) ≡ suc (length done + 0) = ap length x ∙ long v done [] in
@@ -186,7 +197,10 @@ fault_first bytes t ts w f =
       before = 0;
       number = omega arith;
       within = omega arith;
-      front = (texts_of 2 [], record { version = 2; parts = []; listing = record { known = inr refl; form = is_form 2 [] (inr refl) refl; ranges = tt }; same = refl });
+      front = (
+        texts_of 2 [],
+        record { version = 2; parts = []; listing = record { known = inr refl; form = is_form 2 [] (inr refl) refl; ranges = tt }; same = refl },
+      );
       refused = λ h g. let r : take 1 (lines bytes) ≡ t ∷ [] = ap (take 1) w in
           let q : IsWhole ((t ∷ []) ++ g.0) = subst (λ (x : List (List ℕ)). IsWhole (x ++ g.0)) r g.1 in
           f q.version q.listing.known (head q.same);
@@ -199,7 +213,8 @@ fault_empty = record {
   before = 0;
   number = refl;
   within = omega arith;
-  front = (texts_of 2 [], record { version = 2; parts = []; listing = record { known = inr refl; form = is_form 2 [] (inr refl) refl; ranges = tt }; same = refl });
+  front =
+      (texts_of 2 [], record { version = 2; parts = []; listing = record { known = inr refl; form = is_form 2 [] (inr refl) refl; ranges = tt }; same = refl });
   refused = λ h. absurd (omega arith);
   unfinished = λ h w. absurd (let e = w.same in cc);
 }

@@ -1,5 +1,6 @@
--- The line at the front of a text, the loop over the lines, and what is left behind some of them.
-use Rattle.std.proofs.Common.{◌≡◌, ℕ, ◌+◌, ◌-◌, ◌≤◌, ◌<◌, suc, true, false, List, [], ◌∷◌, ◌++◌, length, take, drop, map, Option, Some, refl, sym, ap, ◌∙◌, subst, arith, append_assoc, append-nil, length-append, length-drop}
+-- The first line of a text, the loop over the lines, and the rest after some of them.
+use Rattle.std.proofs.Common.{◌≡◌, ℕ, ◌+◌, ◌-◌, ◌≤◌, ◌<◌, suc, true, false, List, [], ◌∷◌, ◌++◌, length, take, drop, map, Option, Some}
+use Rattle.std.proofs.Common.{refl, sym, ap, ◌∙◌, subst, arith, append_assoc, append-nil, length-append, length-drop}
 use Rattle.ln_cert.specs.declared.part.Entry.{Entry}
 use Rattle.ln_cert.specs.declared.part.Part.{Part}
 use Rattle.ln_cert.specs.declared.part.State.{State}
@@ -17,8 +18,9 @@ use Rattle.ln_cert.proofs.Reading.Whole.{no_feed, numbered_more, parts_more, ref
 use Rattle.ln_base.proofs.Texts.Lines.{joined_lines, line_at, with_feed}
 use Rattle.ln_base.proofs.Texts.Lists.{head}
 
--- ---- the front of a text
-pub begins : (v : ℕ) (s : State) (text : List ℕ) (end : ℕ) (body : List ℕ) (p : Part) (t : State) → 0 < length text → end ≡ 0 + span_to 10 (drop 0 text) → end < length text → body ≡ take (end - 0) (drop 0 text) → IsRead v s (words body) p t → Begins v s text p t (end + 1)
+-- ---- the first line of a text
+pub begins : (v : ℕ) (s : State) (text : List ℕ) (end : ℕ) (body : List ℕ) (p : Part) (t : State) → 0 < length text → end ≡ 0 + span_to 10 (drop 0 text)
+    → end < length text → body ≡ take (end - 0) (drop 0 text) → IsRead v s (words body) p t → Begins v s text p t (end + 1)
 begins v s text end body p t h e g q r = record {
   same = line_at text 0 end h e ∙ ap (λ x. x ∷ lines (drop (end + 1) text)) (with_feed text 0 end body e g q ∙ words_line body p r.spelled);
   range = r.range;
@@ -37,7 +39,8 @@ none_open v s text end h e g = record {
 }
 
 -- the state refuses the line
-pub none_here : (v : ℕ) (s : State) (text : List ℕ) (end : ℕ) (body : List ℕ) → 0 < length text → end ≡ 0 + span_to 10 (drop 0 text) → end < length text → body ≡ take (end - 0) (drop 0 text) → Refuses v s (words body) → NoneBegins v s text
+pub none_here : (v : ℕ) (s : State) (text : List ℕ) (end : ℕ) (body : List ℕ) → 0 < length text → end ≡ 0 + span_to 10 (drop 0 text)
+    → end < length text → body ≡ take (end - 0) (drop 0 text) → Refuses v s (words body) → NoneBegins v s text
 none_here v s text end body h e g q f = record {
   first = take (suc (end - 0)) (drop 0 text);
   behind = lines (drop (end + 1) text);
@@ -46,7 +49,7 @@ none_here v s text end body h e g q f = record {
 }
 
 -- ---- the loop
--- what it keeps: the lines so far, behind the first one, and where they lead
+-- what it keeps: the lines so far, after the first one, and where they lead
 pub record SoFar (bs : List ℕ) (v : ℕ) (s : State) (text : List ℕ) (n : ℕ) : Type 0 where
   pub done : List Part
   pub texts : lines bs ≡ texts_of v done ++ lines text
@@ -55,20 +58,25 @@ pub record SoFar (bs : List ℕ) (v : ℕ) (s : State) (text : List ℕ) (n : �
   pub counted : n ≡ length done + 2
   pub few : n + length text ≤ length bs + 2
 
-pub so_far_first : (bs : List ℕ) (v behind : ℕ) (text : List ℕ) → lines bs ≡ first_line v ∷ lines (drop behind bs) → text ≡ drop behind bs → SoFar bs v Top text 2
+pub so_far_first : (bs : List ℕ) (v behind : ℕ) (text : List ℕ) → lines bs ≡ first_line v ∷ lines (drop behind bs)
+    → text ≡ drop behind bs → SoFar bs v Top text 2
 so_far_first bs v behind text e q =
     let l : length text ≡ length bs - behind = ap length q ∙ length-drop behind bs in
     record { done = []; texts = e ∙ ap (λ x. first_line v ∷ lines x) (sym q); ranges = tt; walked = refl; counted = refl; few = omega arith }
 
-texts_more : (bs : List ℕ) (v : ℕ) (done : List Part) (p : Part) (text more : List ℕ) → lines bs ≡ texts_of v done ++ lines text → lines text ≡ text_of p ∷ lines more → lines bs ≡ texts_of v (done ++ (p ∷ [])) ++ lines more
+texts_more : (bs : List ℕ) (v : ℕ) (done : List Part) (p : Part) (text more : List ℕ) → lines bs ≡ texts_of v done ++ lines text
+    → lines text ≡ text_of p ∷ lines more → lines bs ≡ texts_of v (done ++ (p ∷ [])) ++ lines more
 texts_more bs v done p text more t b =
     t ∙ ap (λ x. texts_of v done ++ x) b
-    ∙ ap (λ x. first_line v ∷ x) (sym (append_assoc (map text_of done) (text_of p ∷ []) (lines more)) ∙ ap (λ x. x ++ lines more) (sym (map_append done (p ∷ []))))
+    ∙ ap (λ x. first_line v ∷ x)
+    (sym (append_assoc (map text_of done) (text_of p ∷ []) (lines more)) ∙ ap (λ x. x ++ lines more) (sym (map_append done (p ∷ []))))
 
-walked_more : (v : ℕ) (done : List Part) (p : Part) (s t : State) → goes v start done ≡ Some s → next_of v s p ≡ Some t → goes v start (done ++ (p ∷ [])) ≡ Some t
+walked_more : (v : ℕ) (done : List Part) (p : Part) (s t : State) → goes v start done ≡ Some s → next_of v s p ≡ Some t
+    → goes v start (done ++ (p ∷ [])) ≡ Some t
 walked_more v done p s t e f = goes_append v start done (p ∷ []) ∙ ap (λ o. next_at v o p) e ∙ f
 
-pub so_far_more : (bs : List ℕ) (v : ℕ) (s : State) (text : List ℕ) (n : ℕ) (p : Part) (t : State) (k : ℕ) (more : List ℕ) → SoFar bs v s text n → Begins v s text p t k → more ≡ drop k text → SoFar bs v t more (n + 1)
+pub so_far_more : (bs : List ℕ) (v : ℕ) (s : State) (text : List ℕ) (n : ℕ) (p : Part) (t : State) (k : ℕ) (more : List ℕ)
+    → SoFar bs v s text n → Begins v s text p t k → more ≡ drop k text → SoFar bs v t more (n + 1)
 so_far_more bs v s text n p t k more h b e =
     let l : length more ≡ length text - k = ap length e ∙ length-drop k text in
     let m : length (h.done ++ (p ∷ [])) ≡ length h.done + 1 = length-append h.done (p ∷ []) in
@@ -89,18 +97,20 @@ all_read : (bs : List ℕ) (v : ℕ) (text : List ℕ) (done : List Part) → li
 all_read bs v [] done t h = t ∙ append-nil (texts_of v done)
 all_read bs v (b ∷ text) done t h = absurd (omega arith)
 
-pub so_far_short : (bs : List ℕ) (v : ℕ) (s : State) (text : List ℕ) (n : ℕ) → Known v → SoFar bs v s text n → length text ≡ 0 → is_end s ≡ false → IsFormFault bs n
+pub so_far_short : (bs : List ℕ) (v : ℕ) (s : State) (text : List ℕ) (n : ℕ) → Known v → SoFar bs v s text n → length text ≡ 0
+    → is_end s ≡ false → IsFormFault bs n
 so_far_short bs v s text n known h e f = fault_end bs v h.done s n known (all_read bs v text h.done h.texts e) h.ranges h.walked f h.counted
 
 is_top : (s : State) → is_end s ≡ true → Some s ≡ Some Top
 is_top Top f = refl
 is_top s f = absurd (cc)
 
--- what stands behind the first of two lists that are the same
+-- the tails of two lists that are the same
 tail_same : {A : Type 0} {x y : A} {xs ys : List A} → x ∷ xs ≡ y ∷ ys → xs ≡ ys
 tail_same e = cc
 
-pub so_far_whole : (bs : List ℕ) (v behind : ℕ) (s : State) (text : List ℕ) (n : ℕ) → Known v → lines bs ≡ first_line v ∷ lines (drop behind bs) → SoFar bs v s text n → length text ≡ 0 → is_end s ≡ true → IsOpened bs (record { version = v; state = Top; line = 2; text = drop behind bs })
+pub so_far_whole : (bs : List ℕ) (v behind : ℕ) (s : State) (text : List ℕ) (n : ℕ) → Known v → lines bs ≡ first_line v ∷ lines (drop behind bs)
+    → SoFar bs v s text n → length text ≡ 0 → is_end s ≡ true → IsOpened bs (record { version = v; state = Top; line = 2; text = drop behind bs })
 so_far_whole bs v behind s text n known e h l f =
     let a : lines bs ≡ texts_of v h.done = all_read bs v text h.done h.texts l in
     let w : goes v start h.done ≡ Some Top = h.walked ∙ is_top s f in
@@ -114,16 +124,17 @@ so_far_whole bs v behind s text n known e h l f =
       second = refl;
     }
 
--- ---- lines that are left
--- where a listing goes on, the line at the front isn't refused
+-- ---- the remaining lines
+-- where a listing goes on, the next line isn't refused
 pub none_refused : (u : Unread) (ps : List Part) → AreLeft u ps → 0 < length u.text → NoneBegins u.version u.state u.text → ⊥
 none_refused u [] h l b = absurd (let e = sym b.same ∙ h.texts in cc)
 none_refused u (x ∷ xs) h l b =
     let n = some_next u.version (next_of u.version u.state x) xs Top h.ends in
     b.refused x n.0 h.ranges.0 n.1 (head (sym b.same ∙ h.texts))
 
--- and it is the first of those that are left
-goes_on : (u w : Unread) (p : Part) (t : State) (k : ℕ) → Begins u.version u.state u.text p t k → w.version ≡ u.version → w.state ≡ t → w.text ≡ drop k u.text → (ps : List Part) → AreLeft u ps → GoesOn ps p w
+-- and it is the first of the remaining ones
+goes_on : (u w : Unread) (p : Part) (t : State) (k : ℕ) → Begins u.version u.state u.text p t k → w.version ≡ u.version → w.state ≡ t
+    → w.text ≡ drop k u.text → (ps : List Part) → AreLeft u ps → GoesOn ps p w
 goes_on u w p t k b a c d [] h = absurd (let z = sym b.same ∙ h.texts in cc)
 goes_on u w p t k b a c d (x ∷ xs) h =
     let m = some_next u.version (next_of u.version u.state x) xs Top h.ends in
@@ -136,11 +147,13 @@ goes_on u w p t k b a c d (x ∷ xs) h =
       left = record {
         texts = ap lines d ∙ tail_same z;
         ranges = h.ranges.1;
-        ends = ap (λ (n : ℕ). goes n (Some w.state) xs) a ∙ ap (λ (s : State). goes u.version (Some s) xs) c ∙ ap (λ (o : Option State). goes u.version o xs) (sym g) ∙ h.ends;
+        ends = ap (λ (n : ℕ). goes n (Some w.state) xs) a ∙ ap (λ (s : State). goes u.version (Some s) xs) c
+            ∙ ap (λ (o : Option State). goes u.version o xs) (sym g) ∙ h.ends;
       };
     }
 
-pub taken : (u w : Unread) (p : Part) (t : State) (k : ℕ) (e : Entry) → Begins u.version u.state u.text p t k → e.part ≡ p → e.line ≡ u.line → w.line ≡ u.line + 1 → w.version ≡ u.version → w.state ≡ t → w.text ≡ drop k u.text → IsTaken u e w
+pub taken : (u w : Unread) (p : Part) (t : State) (k : ℕ) (e : Entry) → Begins u.version u.state u.text p t k → e.part ≡ p → e.line ≡ u.line
+    → w.line ≡ u.line + 1 → w.version ≡ u.version → w.state ≡ t → w.text ≡ drop k u.text → IsTaken u e w
 taken u w p t k e b q n m a c d =
     let l : length w.text ≡ length u.text - k = ap length d ∙ length-drop k u.text in
     record {
@@ -159,8 +172,9 @@ none_left u ps h e = by u.text ps e h.texts
     by [] [] e q = refl
     by [] (x ∷ ps) e q = absurd (cc)
 
--- what is left behind it is left of a listing
-pub still_unread : (u w : Unread) (p : Part) (t : State) (k : ℕ) → IsUnread u → Begins u.version u.state u.text p t k → w.line ≡ u.line + 1 → w.version ≡ u.version → w.state ≡ t → w.text ≡ drop k u.text → IsUnread w
+-- the rest after it is the rest of a listing
+pub still_unread : (u w : Unread) (p : Part) (t : State) (k : ℕ) → IsUnread u → Begins u.version u.state u.text p t k → w.line ≡ u.line + 1
+    → w.version ≡ u.version → w.state ≡ t → w.text ≡ drop k u.text → IsUnread w
 still_unread u w p t k h b m a c d =
     let r = goes_on u w p t k b a c d h.parts h.left in
     let l : length w.text ≡ length u.text - k = ap length d ∙ length-drop k u.text in
@@ -180,8 +194,12 @@ pub gathered_more : (old u w : Unread) (es ds : List Entry) (e : Entry) → Gath
 gathered_more old u w es ds e g t q =
     let n : length ds ≡ length es + 1 = ap length q ∙ length-append es (e ∷ []) in
     record {
-      parts = λ ps h. let p = g.parts ps h in let k = t.goes_on p.0 p.2 in
-          (k.behind, p.1 ∙ ap (λ x. parts_of es ++ x) k.first ∙ sym (append_assoc (parts_of es) (e.part ∷ []) k.behind) ∙ ap (λ x. x ++ k.behind) (sym (ap parts_of q ∙ parts_more es e)), k.left);
+      parts = λ ps h. let p = g.parts ps h in let k = t.goes_on p.0 p.2 in (
+        k.behind,
+        p.1 ∙ ap (λ x. parts_of es ++ x) k.first ∙ sym (append_assoc (parts_of es) (e.part ∷ []) k.behind)
+            ∙ ap (λ x. x ++ k.behind) (sym (ap parts_of q ∙ parts_more es e)),
+        k.left,
+      );
       numbered = subst (AreNumbered old.line) (sym q) (numbered_more old.line es e g.numbered (t.number ∙ g.counted));
       counted = omega (arith, t.next, g.counted);
     }

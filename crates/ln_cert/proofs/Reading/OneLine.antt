@@ -1,5 +1,6 @@
 -- No line has two readings, and what is read of a line.
-use Rattle.std.proofs.Common.{◌≡◌, ℕ, ◌≤◌, Bool, true, false, ℤ, pos, negsuc, unsigned_abs, List, [], ◌∷◌, ◌++◌, map, Some, None, refl, sym, ap, ◌∙◌, subst, arith}
+use Rattle.std.proofs.Common.{◌≡◌, ℕ, ◌≤◌, Bool, true, false, ℤ, pos, negsuc, unsigned_abs, List, [], ◌∷◌, ◌++◌, map, Some, None, refl, sym}
+use Rattle.std.proofs.Common.{ap, ◌∙◌, subst, arith}
 use Rattle.std.specs.Prelude.{if◌then◌else◌, decimal}
 use Rattle.ln_code.specs.declared.op.Op.{Op}
 use Rattle.ln_code.specs.declared.op.Op.TheVariants as op
@@ -11,7 +12,8 @@ use Rattle.ln_cert.specs.declared.part.Part.TheVariants.{Predicate, NoFilter, Fi
 use Rattle.ln_cert.specs.declared.part.State.{State}
 use Rattle.ln_cert.specs.declared.part.Verb.{Verb}
 use Rattle.ln_base.specs.Lines.{parted, words}
-use Rattle.ln_cert.specs.Text.{IsBound, IsExponent, IsLine, IsNumber, IsOp, IsRange, IsTriple, args_of, certificate, exponent_word, kind_of, number_words, range_words, takes_off, text_of, triple_words, verb_of, word_of, words_of}
+use Rattle.ln_cert.specs.Text.{IsBound, IsExponent, IsLine, IsNumber, IsOp, IsRange, IsTriple, args_of, certificate, exponent_word, kind_of}
+use Rattle.ln_cert.specs.Text.{number_words, range_words, takes_off, text_of, triple_words, verb_of, word_of, words_of}
 use Rattle.ln_cert.specs.Reading.{HasArgs, IsRead, NoArgs, Refuses, after, good, kind_in, may, next_of}
 use Rattle.ln_base.proofs.Texts.Halves.{same_exponent}
 use Rattle.ln_cert.proofs.Reading.FirstWords.{complete, one_kind, sound}
@@ -46,7 +48,8 @@ one_triple v t u p q e =
     λ i. record { k = x i; h = y i; e = z i }
 
 -- what is the same where it takes off, and where it doesn't
-same_certificate : (A : Type 0) (v : Verb) (a b : A) (ws us : List (List ℕ)) → (takes_off v ≡ true → a ≡ b) → (ws ≡ us → a ≡ b) → certificate v ws ≡ certificate v us → a ≡ b
+same_certificate : (A : Type 0) (v : Verb) (a b : A) (ws us : List (List ℕ)) → (takes_off v ≡ true → a ≡ b) → (ws ≡ us → a ≡ b)
+    → certificate v ws ≡ certificate v us → a ≡ b
 same_certificate A v a b ws us f g e = by (takes_off v) refl e
   where
     by : (t : Bool) → takes_off v ≡ t → (if t then [] else ws) ≡ (if t then [] else us) → a ≡ b
@@ -64,10 +67,12 @@ is_zero (pos n) e = ap pos e
 is_zero (negsuc n) e = absurd (omega arith)
 
 same_low : (v : Verb) (l u k w : ℤ) → IsRange v l u → IsRange v k w → certificate v (range_words l u) ≡ certificate v (range_words k w) → l ≡ k
-same_low v l u k w p q e = same_certificate ℤ v l k (range_words l u) (range_words k w) (λ z. is_zero l (p.2 z).0 ∙ sym (is_zero k (q.2 z).0)) (λ h. signed_injective l k p.0 q.0 (head h)) e
+same_low v l u k w p q e = same_certificate ℤ v l k (range_words l u) (range_words k w) (λ z. is_zero l (p.2 z).0 ∙ sym (is_zero k (q.2 z).0))
+    (λ h. signed_injective l k p.0 q.0 (head h)) e
 
 same_high : (v : Verb) (l u k w : ℤ) → IsRange v l u → IsRange v k w → certificate v (range_words l u) ≡ certificate v (range_words k w) → u ≡ w
-same_high v l u k w p q e = same_certificate ℤ v u w (range_words l u) (range_words k w) (λ z. is_zero u (p.2 z).1 ∙ sym (is_zero w (q.2 z).1)) (λ h. signed_injective u w p.1 q.1 (head (rest h))) e
+same_high v l u k w p q e = same_certificate ℤ v u w (range_words l u) (range_words k w)
+    (λ z. is_zero u (p.2 z).1 ∙ sym (is_zero w (q.2 z).1)) (λ h. signed_injective u w p.1 q.1 (head (rest h))) e
 
 -- ---- arguments
 in_filter : {x y : Verb} → kind.FilterOp x ≡ kind.FilterOp y → x ≡ y
@@ -79,19 +84,22 @@ in_bound e = cc
 in_range : {x y : Verb} → kind.RangeOp x ≡ kind.RangeOp y → x ≡ y
 in_range e = cc
 
-same_filter : (o u : Op) (t s : Triple) → verb_of o ≡ verb_of u → IsLine (FilterOp o t) → IsLine (FilterOp u s) → args_of (FilterOp o t) ≡ args_of (FilterOp u s) → FilterOp o t ≡ FilterOp u s
+same_filter : (o u : Op) (t s : Triple) → verb_of o ≡ verb_of u → IsLine (FilterOp o t) → IsLine (FilterOp u s)
+    → args_of (FilterOp o t) ≡ args_of (FilterOp u s) → FilterOp o t ≡ FilterOp u s
 same_filter o u t s k p q e =
     let a = same_op o u (certificate (verb_of o) (triple_words t)) (certificate (verb_of u) (triple_words s)) k p.0 q.0 e in
     let b = same_triple (verb_of o) t s p.2 (subst (λ v. IsTriple v s) (sym k) q.2) (a.1 ∙ ap (λ v. certificate v (triple_words s)) (sym k)) in
     λ i. FilterOp (a.0 i) (b i)
 
-same_bounded : (o u : Op) (b c : ℕ) → verb_of o ≡ verb_of u → IsLine (BlockOp o b) → IsLine (BlockOp u c) → args_of (BlockOp o b) ≡ args_of (BlockOp u c) → BlockOp o b ≡ BlockOp u c
+same_bounded : (o u : Op) (b c : ℕ) → verb_of o ≡ verb_of u → IsLine (BlockOp o b) → IsLine (BlockOp u c)
+    → args_of (BlockOp o b) ≡ args_of (BlockOp u c) → BlockOp o b ≡ BlockOp u c
 same_bounded o u b c k p q e =
     let a = same_op o u (certificate (verb_of o) (decimal b ∷ [])) (certificate (verb_of u) (decimal c ∷ [])) k p.0 q.0 e in
     let x = same_bound (verb_of o) b c p.2 (subst (λ v. IsBound v c) (sym k) q.2) (a.1 ∙ ap (λ v. certificate v (decimal c ∷ [])) (sym k)) in
     λ i. BlockOp (a.0 i) (x i)
 
-same_ranged : (o u : Op) (l h k w : ℤ) → verb_of o ≡ verb_of u → IsLine (RangeOp o l h) → IsLine (RangeOp u k w) → args_of (RangeOp o l h) ≡ args_of (RangeOp u k w) → RangeOp o l h ≡ RangeOp u k w
+same_ranged : (o u : Op) (l h k w : ℤ) → verb_of o ≡ verb_of u → IsLine (RangeOp o l h) → IsLine (RangeOp u k w)
+    → args_of (RangeOp o l h) ≡ args_of (RangeOp u k w) → RangeOp o l h ≡ RangeOp u k w
 same_ranged o u l h k w v p q e =
     let a = same_op o u (certificate (verb_of o) (range_words l h)) (certificate (verb_of u) (range_words k w)) v p.0 q.0 e in
     let r : IsRange (verb_of o) k w = subst (λ x. IsRange x k w) (sym v) q.2 in
@@ -137,7 +145,7 @@ good_line (Order places list) p = refl
 good_line Done p = refl
 
 -- ---- one line
--- a line that leads on may stand in the state, and leads where its kind leads
+-- a line that leads on is allowed in the state, and leads where its kind leads
 pub live : (v : ℕ) (s : State) (p : Part) (t : State) → next_of v s p ≡ Some t → (may v s (kind_of p) ≡ true) × (t ≡ after (kind_of p))
 live v s p t e = by (may v s (kind_of p)) e
   where
@@ -145,29 +153,33 @@ live v s p t e = by (may v s (kind_of p)) e
     by true e = (refl, cc)
     by false e = absurd (cc)
 
-pub same_line : (v : ℕ) (s : State) (x y : Part) (t u : State) → next_of v s x ≡ Some t → next_of v s y ≡ Some u → IsLine x → IsLine y → words_of x ≡ words_of y → x ≡ y
+pub same_line : (v : ℕ) (s : State) (x y : Part) (t u : State) → next_of v s x ≡ Some t → next_of v s y ≡ Some u → IsLine x → IsLine y
+    → words_of x ≡ words_of y → x ≡ y
 same_line v s x y t u a b p q e =
     let k = one_kind v s (kind_of x) (kind_of y) (live v s x t a).0 (good_line x p) (live v s y u b).0 (good_line y q) (head e) in
     same_args x y k p q (rest e)
 
--- the bytes in front of a line feed are this line
+-- the bytes before a line feed are this line
 pub line_words : (body : List ℕ) (p : Part) → IsLine p → body ++ (10 ∷ []) ≡ text_of p → words body ≡ words_of p
 line_words body p q e = ap words (snoc_same body (parted (words_of p)) e) ∙ read_words p q
 
 pub words_line : (body : List ℕ) (p : Part) → words body ≡ words_of p → body ++ (10 ∷ []) ≡ text_of p
 words_line body p e = ap (λ (x : List ℕ). x ++ (10 ∷ [])) (sym (parted_words body) ∙ ap parted e)
 
-pub one_line : (v : ℕ) (s : State) (x y : Part) (t u : State) → next_of v s x ≡ Some t → next_of v s y ≡ Some u → IsLine x → IsLine y → text_of x ≡ text_of y → x ≡ y
+pub one_line : (v : ℕ) (s : State) (x y : Part) (t u : State) → next_of v s x ≡ Some t → next_of v s y ≡ Some u → IsLine x → IsLine y
+    → text_of x ≡ text_of y → x ≡ y
 one_line v s x y t u a b p q e = same_line v s x y t u a b p q (sym (read_words x p) ∙ line_words (parted (words_of x)) y q e)
 
 -- ---- what the reader of a line finds
-pub found : (v : ℕ) (s : State) (k : Kind) (w : List ℕ) (args ws : List (List ℕ)) (p : Part) → ws ≡ w ∷ args → kind_in v s w ≡ Some k → HasArgs k args p → IsRead v s ws p (after k)
+pub found : (v : ℕ) (s : State) (k : Kind) (w : List ℕ) (args ws : List (List ℕ)) (p : Part) → ws ≡ w ∷ args → kind_in v s w ≡ Some k
+    → HasArgs k args p → IsRead v s ws p (after k)
 found v s k w args ws p e g h =
     let r = sound v s w k g in
     record {
       spelled = e ∙ (λ i. (r.word ∙ ap word_of (sym h.kind)) i ∷ h.args i);
       range = h.range;
-      goes = ap (λ (b : Bool). if b then Some (after (kind_of p)) else None) (subst (λ x. may v s x ≡ true) (sym h.kind) r.may) ∙ ap (λ x. Some (after x)) h.kind;
+      goes = ap (λ (b : Bool). if b then Some (after (kind_of p)) else None) (subst (λ x. may v s x ≡ true) (sym h.kind) r.may)
+          ∙ ap (λ x. Some (after x)) h.kind;
     }
 
 pub no_kind : (v : ℕ) (s : State) (w : List ℕ) (args ws : List (List ℕ)) → ws ≡ w ∷ args → kind_in v s w ≡ None → Refuses v s ws

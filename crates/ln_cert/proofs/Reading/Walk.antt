@@ -48,7 +48,8 @@ a_filter : (v : ℕ) {xs r : List Part} → AFilter xs r → goes v (Some Opened
 a_filter v form.AFilter.nothing = refl
 a_filter v (form.AFilter.filter d) = filter_ops v d
 
-blocks : (v : ℕ) {xs r : List Part} → SomeBlocks v xs r → (goes v (Some Planned) xs ≡ goes v (Some Blocks) r) × (goes v (Some Blocks) xs ≡ goes v (Some Blocks) r)
+blocks : (v : ℕ) {xs r : List Part} → SomeBlocks v xs r
+    → (goes v (Some Planned) xs ≡ goes v (Some Blocks) r) × (goes v (Some Blocks) xs ≡ goes v (Some Blocks) r)
 blocks v (form.SomeBlocks.last d) = (block_ops v d, block_ops v d)
 blocks v (form.SomeBlocks.more d e) = let r = blocks v e in (block_ops v d ∙ r.1, block_ops v d ∙ r.1)
 
@@ -120,15 +121,17 @@ order v places list xs w = by xs w.done
     by ys (inl e) = rw e (record { rest = w.rest; orders = form.SomeOrders.last; more = w.more })
     by ys (inr s) = record { rest = w.rest; orders = form.SomeOrders.more s; more = w.more }
 
--- a bound stands in version 1 alone, two ends in version 2 alone
-bound : (v : ℕ) (o : Op) (b : ℕ) (xs : List Part) → (goes v (Some InBlock) xs ≡ Some Top → Fills v xs) → goes v (next_of v InBlock (BlockOp o b)) xs ≡ Some Top → Fills v (BlockOp o b ∷ xs)
+-- a bound is in version 1 alone, two ends in version 2 alone
+bound : (v : ℕ) (o : Op) (b : ℕ) (xs : List Part) → (goes v (Some InBlock) xs ≡ Some Top → Fills v xs)
+    → goes v (next_of v InBlock (BlockOp o b)) xs ≡ Some Top → Fills v (BlockOp o b ∷ xs)
 bound v o b xs f e = by (v == 1) (eqb-true v 1) e
   where
     by : (t : Bool) → (t ≡ true → v ≡ 1) → goes v (if t then Some InBlock else None) xs ≡ Some Top → Fills v (BlockOp o b ∷ xs)
     by true q e = let w = f e in record { rest = w.rest; ops = form.BlockOps.bound (q refl) w.ops; next = w.next }
     by false q e = dead v xs e
 
-range : (v : ℕ) (o : Op) (l u : ℤ) (xs : List Part) → (v ≡ 1) ⊎ (v ≡ 2) → (goes v (Some InBlock) xs ≡ Some Top → Fills v xs) → goes v (next_of v InBlock (RangeOp o l u)) xs ≡ Some Top → Fills v (RangeOp o l u ∷ xs)
+range : (v : ℕ) (o : Op) (l u : ℤ) (xs : List Part) → (v ≡ 1) ⊎ (v ≡ 2) → (goes v (Some InBlock) xs ≡ Some Top → Fills v xs)
+    → goes v (next_of v InBlock (RangeOp o l u)) xs ≡ Some Top → Fills v (RangeOp o l u ∷ xs)
 range v o l u xs (inl k) f e = dead v xs (sym (ap (λ (t : Bool). goes v (if not t then Some InBlock else None) xs) (is_one v k)) ∙ e)
 range v o l u xs (inr k) f e =
     let w = f (sym (ap (λ s. goes v s xs) (range_goes v o l u (is_two v k))) ∙ e) in
@@ -154,7 +157,9 @@ builds v InBlock (p ∷ xs) k e = dead v xs e
 builds v Blocks (Block n exps ∷ xs) k e = inr (block v n exps xs (builds v InBlock xs k e))
 builds v Blocks (Order places list ∷ xs) k e = inl (order v places list xs (builds v Orders xs k e))
 builds v Blocks (p ∷ xs) k e = dead v xs e
-builds v Orders (Order places list ∷ xs) k e = let w = order v places list xs (builds v Orders xs k e) in record { rest = w.rest; done = inr w.orders; more = w.more }
+builds v Orders (Order places list ∷ xs) k e =
+    let w = order v places list xs (builds v Orders xs k e) in
+    record { rest = w.rest; done = inr w.orders; more = w.more }
 builds v Orders (Done ∷ xs) k e = record { rest = xs; done = inl refl; more = builds v Top xs k e }
 builds v Orders (p ∷ xs) k e = dead v xs e
 

@@ -36,7 +36,8 @@ numbered_more n [] e a l = (omega arith, tt)
 numbered_more n (x ∷ es) e a l = (a.0, numbered_more (n + 1) es e a.1 (omega arith))
 
 -- ---- the first line
-pub no_first : (bs : List ℕ) (end : ℕ) (body : List ℕ) → 0 < length bs → end ≡ 0 + span_to 10 (drop 0 bs) → body ≡ take ((end + 1) - 0) (drop 0 bs) → ((v : ℕ) → Known v → body ≡ first_line v → ⊥) → IsFormFault bs 1
+pub no_first : (bs : List ℕ) (end : ℕ) (body : List ℕ) → 0 < length bs → end ≡ 0 + span_to 10 (drop 0 bs)
+    → body ≡ take ((end + 1) - 0) (drop 0 bs) → ((v : ℕ) → Known v → body ≡ first_line v → ⊥) → IsFormFault bs 1
 no_first bs end body h e q f =
     let n : suc (end - 0) ≡ (end + 1) - 0 = omega arith in
     let l : take (suc (end - 0)) (drop 0 bs) ≡ body = ap (λ m. take m (drop 0 bs)) n ∙ sym q in
@@ -54,7 +55,8 @@ no_first_feed bs end h e g =
     let c : span_to 10 bs < length bs = subst (λ (w : List ℕ). span_to 10 w < length w) (sym b) (first_stops v k) in omega arith)
 
 lines_behind : (ps : List Part) → Each IsLine ps → lines (joined (map text_of ps)) ≡ map text_of ps
-lines_behind ps p = lines_of_each text_of IsLine (λ x rest q. words_line_end (word_of (kind_of x)) (args_of x) rest (first_plain (kind_of x), args_plain x q)) ps p
+lines_behind ps p =
+    lines_of_each text_of IsLine (λ x rest q. words_line_end (word_of (kind_of x)) (args_of x) rest (first_plain (kind_of x), args_plain x q)) ps p
 
 first_behind : (v : ℕ) (rest : List ℕ) → Known v → lines (first_line v ++ rest) ≡ first_line v ∷ lines rest
 first_behind v rest (inl e) = subst (λ n. lines (first_line n ++ rest) ≡ first_line n ∷ lines rest) (sym e) refl
@@ -79,4 +81,5 @@ stops_at bs at f = (f, λ v ps t. no_text bs at v ps f t)
 
 pub one_text : (bs : List ℕ) (v w : ℕ) (xs ys : List Part) → ListText bs v xs → ListText bs w ys → (v ≡ w) × (xs ≡ ys)
 one_text bs v w xs ys s t =
-    one_list v w xs ys s.listing t.listing (sym (lines_of_text v xs s.listing.known s.listing.ranges) ∙ ap lines (sym s.text ∙ t.text) ∙ lines_of_text w ys t.listing.known t.listing.ranges)
+    one_list v w xs ys s.listing t.listing (sym (lines_of_text v xs s.listing.known s.listing.ranges) ∙ ap lines (sym s.text ∙ t.text)
+    ∙ lines_of_text w ys t.listing.known t.listing.ranges)

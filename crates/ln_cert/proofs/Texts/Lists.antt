@@ -10,8 +10,9 @@ use Rattle.ln_base.proofs.Texts.Numbers.{decimal_injective, no_byte}
 pub no_colon : (n : ℕ) → n ≤ 4 → decimal n ≡ codes ":" → ⊥
 no_colon n h e = omega (arith, (no_byte n 58 [] (omega arith) e).1)
 
--- the places in front of a colon, and what stands behind it, are known
-pub same_front : (ps qs : List ℕ) (r s : List (List ℕ)) → Each IsPlace ps → Each IsPlace qs → map decimal ps ++ codes ":" ∷ r ≡ map decimal qs ++ codes ":" ∷ s → (ps ≡ qs) × (r ≡ s)
+-- the places before a colon, and what follows it, are known
+pub same_front : (ps qs : List ℕ) (r s : List (List ℕ)) → Each IsPlace ps → Each IsPlace qs
+    → map decimal ps ++ codes ":" ∷ r ≡ map decimal qs ++ codes ":" ∷ s → (ps ≡ qs) × (r ≡ s)
 same_front [] [] r s p q e = (refl, rest e)
 same_front [] (y ∷ ys) r s p q e = absurd (no_colon y q.0 (sym (head e)))
 same_front (x ∷ xs) [] r s p q e = absurd (no_colon x p.0 (head e))
@@ -20,8 +21,9 @@ same_front (x ∷ xs) (y ∷ ys) r s p q e =
     let t = same_front xs ys r s p.1 q.1 (rest e) in
     ((λ i. h i ∷ t.0 i), t.1)
 
--- behind some places stands a word that is neither a place nor a colon
-pub no_place : (done : List ℕ) (w : List ℕ) (next : List (List ℕ)) (ps : List ℕ) (r : List (List ℕ)) → Each IsPlace done → Each IsPlace ps → map decimal done ++ w ∷ next ≡ map decimal ps ++ codes ":" ∷ r → (w ≡ codes ":" → ⊥) → ((n : ℕ) → n ≤ 4 → w ≡ decimal n → ⊥) → ⊥
+-- after some places comes a word that is neither a place nor a colon
+pub no_place : (done : List ℕ) (w : List ℕ) (next : List (List ℕ)) (ps : List ℕ) (r : List (List ℕ)) → Each IsPlace done → Each IsPlace ps
+    → map decimal done ++ w ∷ next ≡ map decimal ps ++ codes ":" ∷ r → (w ≡ codes ":" → ⊥) → ((n : ℕ) → n ≤ 4 → w ≡ decimal n → ⊥) → ⊥
 no_place [] w next [] r d p e f g = f (head e)
 no_place [] w next (x ∷ xs) r d p e f g = g x p.0 (head e)
 no_place (y ∷ ys) w next [] r d p e f g = no_colon y d.0 (head e)
@@ -36,8 +38,11 @@ no_end (y ∷ ys) (x ∷ xs) r d e = no_end ys xs r d.1 (rest e)
 
 -- ---- what a loop over words has read
 
-pub no_place_here : (all : List (List ℕ)) (done : List ℕ) (w : List ℕ) (here next : List (List ℕ)) → all ≡ map decimal done ++ here → here ≡ w ∷ next → Each IsPlace done → (w ≡ codes ":" → ⊥) → ((n : ℕ) → n ≤ 4 → w ≡ decimal n → ⊥) → (ps : List ℕ) (r : List (List ℕ)) → Each IsPlace ps → all ≡ map decimal ps ++ codes ":" ∷ r → ⊥
+pub no_place_here : (all : List (List ℕ)) (done : List ℕ) (w : List ℕ) (here next : List (List ℕ)) → all ≡ map decimal done ++ here
+    → here ≡ w ∷ next → Each IsPlace done → (w ≡ codes ":" → ⊥) → ((n : ℕ) → n ≤ 4 → w ≡ decimal n → ⊥) → (ps : List ℕ) (r : List (List ℕ))
+    → Each IsPlace ps → all ≡ map decimal ps ++ codes ":" ∷ r → ⊥
 no_place_here all done w here next e g d f k ps r p q = no_place done w next ps r d p (sym (e ∙ ap (λ z. map decimal done ++ z) g) ∙ q) f k
 
-pub no_colon_left : (all : List (List ℕ)) (done : List ℕ) (here : List (List ℕ)) → all ≡ map decimal done ++ here → here ≡ [] → Each IsPlace done → (ps : List ℕ) (r : List (List ℕ)) → Each IsPlace ps → all ≡ map decimal ps ++ codes ":" ∷ r → ⊥
+pub no_colon_left : (all : List (List ℕ)) (done : List ℕ) (here : List (List ℕ)) → all ≡ map decimal done ++ here → here ≡ []
+    → Each IsPlace done → (ps : List ℕ) (r : List (List ℕ)) → Each IsPlace ps → all ≡ map decimal ps ++ codes ":" ∷ r → ⊥
 no_colon_left all done here e g d ps r p q = no_end done ps r d (sym (words_all decimal all done here e g) ∙ q)

@@ -14,7 +14,8 @@ use Rattle.ln_cert.specs.declared.part.Part.TheVariants.{Predicate, NoFilter, Fi
 use Rattle.ln_cert.specs.declared.part.Verb.{Verb}
 use Rattle.ln_cert.specs.declared.part.Verb.TheVariants as verb
 use Rattle.ln_base.specs.Lines.{is_plain, parted, words}
-use Rattle.ln_cert.specs.Text.{IsExponent, IsLine, IsOp, IsTriple, args_of, block_word, certificate, exponent_word, filter_word, kind_of, number_words, range_words, takes_off, triple_words, verb_of, word_of, words_of}
+use Rattle.ln_cert.specs.Text.{IsExponent, IsLine, IsOp, IsTriple, args_of, block_word, certificate, exponent_word, filter_word, kind_of}
+use Rattle.ln_cert.specs.Text.{number_words, range_words, takes_off, triple_words, verb_of, word_of, words_of}
 use Rattle.ln_base.proofs.Texts.Plain.{byte_plain, decimal_plain, exponent_plain, plain_append, plain_map, signed_plain}
 use Rattle.ln_base.proofs.Texts.Words.{ArePlain, words_parted}
 
@@ -33,7 +34,9 @@ letter_byte b h = rw h refl
 
 word_plain : (bs : List ℕ) → is_word bs ≡ true → is_plain bs ≡ true
 word_plain [] h = refl
-word_plain (b ∷ bs) h = let p = and_parts (is_letter b) (every is_name_byte bs) h in byte_plain b bs (not_blank b (letter_byte b p.0)) (not_feed b (letter_byte b p.0)) (bytes_plain bs p.1)
+word_plain (b ∷ bs) h =
+    let p = and_parts (is_letter b) (every is_name_byte bs) h in
+    byte_plain b bs (not_blank b (letter_byte b p.0)) (not_feed b (letter_byte b p.0)) (bytes_plain bs p.1)
 
 name_plain : (bs : List ℕ) → is_name bs ≡ true → is_plain bs ≡ true
 name_plain bs h = let p = and_parts (is_word bs) (not (is_keyword bs)) h in word_plain bs p.0
@@ -104,13 +107,17 @@ pub args_plain : (p : Part) → IsLine p → ArePlain (args_of p)
 args_plain (Predicate n) p = (name_plain n p, tt)
 args_plain NoFilter p = tt
 args_plain Filter p = tt
-args_plain (FilterOp o t) p = plain_append (number_words o) (certificate (verb_of o) (triple_words t)) (number_plain o p.0) (certificate_plain (verb_of o) (triple_words t) (triple_plain (verb_of o) t p.2))
+args_plain (FilterOp o t) p = plain_append (number_words o) (certificate (verb_of o) (triple_words t)) (number_plain o p.0)
+    (certificate_plain (verb_of o) (triple_words t) (triple_plain (verb_of o) t p.2))
 args_plain Decide p = tt
 args_plain (Block n exps) p = (decimal_plain n (omega (arith, p.0)), plain_map exponent_word IsExponent exponent_plain exps p.1)
-args_plain (BlockOp o b) p = plain_append (number_words o) (certificate (verb_of o) (decimal b ∷ [])) (number_plain o p.0) (certificate_plain (verb_of o) (decimal b ∷ []) (decimal_plain b p.2.0, tt))
-args_plain (RangeOp o l u) p = plain_append (number_words o) (certificate (verb_of o) (range_words l u)) (number_plain o p.0) (certificate_plain (verb_of o) (range_words l u) (signed_plain l p.2.0, (signed_plain u p.2.1, tt)))
+args_plain (BlockOp o b) p = plain_append (number_words o) (certificate (verb_of o) (decimal b ∷ [])) (number_plain o p.0)
+    (certificate_plain (verb_of o) (decimal b ∷ []) (decimal_plain b p.2.0, tt))
+args_plain (RangeOp o l u) p = plain_append (number_words o) (certificate (verb_of o) (range_words l u)) (number_plain o p.0)
+    (certificate_plain (verb_of o) (range_words l u) (signed_plain l p.2.0, (signed_plain u p.2.1, tt)))
 args_plain End p = tt
-args_plain (Order places list) p = plain_append (map decimal places) (codes ":" ∷ map decimal list) (plain_map decimal (λ s. s ≤ 4) (λ s q. decimal_plain s (omega (arith, q))) places p.0) (refl, plain_map decimal (λ n. n ≤ 65535) (λ n q. decimal_plain n (omega (arith, q))) list p.1)
+args_plain (Order places list) p = plain_append (map decimal places) (codes ":" ∷ map decimal list) (plain_map decimal (λ s. s ≤ 4)
+    (λ s q. decimal_plain s (omega (arith, q))) places p.0) (refl, plain_map decimal (λ n. n ≤ 65535) (λ n q. decimal_plain n (omega (arith, q))) list p.1)
 args_plain Done p = tt
 
 -- the words of a line are read from its text

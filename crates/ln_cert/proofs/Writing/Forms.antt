@@ -24,7 +24,8 @@ filter_ops (l ∷ ls) = filter_ops ls
 
 a_filter : (f : Option FilterCode) → goes 2 (Some Opened) (filter_lines f) ≡ Some Planned
 a_filter None = refl
-a_filter (Some f) = join (Some InFilter) (Some InFilter) (Some Planned) (map filter_line (lines_of f.ops f.triples)) (Decide ∷ []) (filter_ops (lines_of f.ops f.triples)) refl
+a_filter (Some f) = join (Some InFilter) (Some InFilter) (Some Planned) (map filter_line (lines_of f.ops f.triples)) (Decide ∷ [])
+    (filter_ops (lines_of f.ops f.triples)) refl
 
 range_ops : (ls : List (Line Range)) → goes 2 (Some InBlock) (map range_line ls) ≡ Some InBlock
 range_ops [] = refl
@@ -52,16 +53,19 @@ all_orders p (o ∷ os) h = more_orders p os
 pub some_order : (k : ℕ) → 0 < length (orders_of k)
 some_order zero = omega arith
 some_order (suc k) =
-    let a : length (orders_of (suc k)) ≡ length (firsts k (orders_of k)) + length (map (behind k) (orders_of k)) = length-append (firsts k (orders_of k)) (map (behind k) (orders_of k)) in
+    let a : length (orders_of (suc k)) ≡ length (firsts k (orders_of k)) + length (map (behind k) (orders_of k)) =
+    length-append (firsts k (orders_of k)) (map (behind k) (orders_of k)) in
     let b : length (map (behind k) (orders_of k)) ≡ length (orders_of k) = length-map (orders_of k) (behind k) in
     omega (arith, some_order k)
 
 pub program_form : (p : Program) → 0 < length p.blocks → Predicates 2 (program_lines p)
 program_form p h =
     is_form 2 (program_lines p) (inr refl)
-    (join (Some Opened) (Some Planned) (Some Top) (filter_lines p.filter) (blocks_lines 0 p.blocks ++ (order_lines p (orders_of p.shape.sites) ++ Done ∷ [])) (a_filter p.filter)
+    (join (Some Opened) (Some Planned) (Some Top) (filter_lines p.filter)
+    (blocks_lines 0 p.blocks ++ (order_lines p (orders_of p.shape.sites) ++ Done ∷ [])) (a_filter p.filter)
     (join (Some Planned) (Some Blocks) (Some Top) (blocks_lines 0 p.blocks) (order_lines p (orders_of p.shape.sites) ++ Done ∷ []) (all_blocks 0 p.blocks h)
-    (join (Some Blocks) (Some Orders) (Some Top) (order_lines p (orders_of p.shape.sites)) (Done ∷ []) (all_orders p (orders_of p.shape.sites) (some_order p.shape.sites)) refl)))
+    (join (Some Blocks) (Some Orders) (Some Top) (order_lines p (orders_of p.shape.sites)) (Done ∷ [])
+    (all_orders p (orders_of p.shape.sites) (some_order p.shape.sites)) refl)))
 
 pub both_forms : (xs ys : List Part) → Predicates 2 xs → Predicates 2 ys → Predicates 2 (xs ++ ys)
 both_forms xs ys p q = is_form 2 (xs ++ ys) (inr refl) (join (Some Top) (Some Top) (Some Top) xs ys (whole 2 p) (whole 2 q))

@@ -1,5 +1,6 @@
--- What a program's facts say of its listing.
-use Rattle.std.proofs.Common.{◌≡◌, ℕ, suc, ◌+◌, ◌≤◌, ◌<◌, true, List, [], ◌∷◌, ◌++◌, length, get_or, drop, take, map, Option, Some, None, inr, refl, sym, ap, ◌∙◌, subst, arith, append_assoc, append-nil, drop-cons}
+-- Proves what a program's facts mean for its listing.
+use Rattle.std.proofs.Common.{◌≡◌, ℕ, suc, ◌+◌, ◌≤◌, ◌<◌, true, List, [], ◌∷◌, ◌++◌, length, get_or, drop, take, map, Option, Some, None}
+use Rattle.std.proofs.Common.{inr, refl, sym, ap, ◌∙◌, subst, arith, append_assoc, append-nil, drop-cons}
 use Rattle.std.specs.Prelude.{All, decimal, slice_get}
 use Rattle.std.proofs.lemmas.List.{drop_all, map-append, take_all, take_more}
 use Rattle.std.proofs.lemmas.Option.{slice_get_within}
@@ -22,7 +23,8 @@ use Rattle.ln_cert.specs.declared.part.Part.TheVariants.{Predicate, Block, Order
 use Rattle.ln_cert.specs.Text.{Each, IsExponent, IsNumber, IsPlace}
 use Rattle.ln_cert.specs.Listing.{ListText, Predicates, first_line}
 use Rattle.ln_cert.specs.Writing.{Puts, PutsLine, spaced}
-use Rattle.ln_cert.specs.Written.{ForBlock, ForFilter, InBlock, InFilter, Wrote, block_lines, blocks_lines, filter_lines, listing_of, order_lines, program_lines}
+use Rattle.ln_cert.specs.Written.{ForBlock, ForFilter, InBlock, InFilter, Wrote, block_lines, blocks_lines, filter_lines, listing_of}
+use Rattle.ln_cert.specs.Written.{order_lines, program_lines}
 use Rattle.ln_cert.proofs.Writing.Forms.{both_forms, program_form, some_order}
 use Rattle.ln_cert.proofs.Writing.Rules.{obeys_block, obeys_filter}
 use Rattle.ln_cert.proofs.Reading.Walk.{is_form}
@@ -46,7 +48,8 @@ exponents : (ps : Pairs) → IsRising ps → Each (λ p. p.0 ≤ 167) ps → Eac
 exponents [] r v = tt
 exponents (p ∷ ps) r v = ((v.0, r.0, omega (arith, r.1)), exponents ps r.3 v.1)
 
-pub head_wrote : (a b : List ℕ) (n : ℕ) (ps qs : Pairs) → n ≤ 65535 → IsRising qs → Each (λ p. p.0 ≤ 167) qs → ps ≡ qs → PutsLine a b (Block n ps) → Wrote a b (Block n qs ∷ [])
+pub head_wrote : (a b : List ℕ) (n : ℕ) (ps qs : Pairs) → n ≤ 65535 → IsRising qs → Each (λ p. p.0 ≤ 167) qs → ps ≡ qs
+    → PutsLine a b (Block n ps) → Wrote a b (Block n qs ∷ [])
 head_wrote a b n ps qs h r v e p = one a b (Block n qs) (subst (λ z. PutsLine a b (Block n z)) e p) (h, exponents qs r v)
 
 pub block_vars : (c : Code) → ForBlock c → Each (λ p. p.0 ≤ 167) c.exps
@@ -61,12 +64,14 @@ filter_each f g k = obeys_filter g.vars f g.few g.rules k.stores_have
 pub three : (a b c d : List ℕ) (p q r : List Part) → Wrote a b p → Wrote b c q → Wrote c d r → Wrote a d (p ++ (q ++ r))
 three a b c d p q r x y z = after a b d p (q ++ r) x (after b c d q r y z)
 
-for_block : (p : Program) → length p.shape.vars ≤ 168 → (cs : List Code) → Each (FollowsRules p.shape.vars) cs → Each (λ c. AreOfSites p.shape.vars c.exps) cs → Each ForBlock cs
+for_block : (p : Program) → length p.shape.vars ≤ 168 → (cs : List Code) → Each (FollowsRules p.shape.vars) cs
+    → Each (λ c. AreOfSites p.shape.vars c.exps) cs → Each ForBlock cs
 for_block p few [] f s = tt
 for_block p few (c ∷ cs) f s = (record { vars = p.shape.vars; few = few; rules = f.0; of_sites = s.0 }, for_block p few cs f.1 s.1)
 
 pub for_blocks : (p : Program) → IsProgram p → length p.shape.vars ≤ 168 → Each ForBlock p.blocks
-for_blocks p k few = for_block p few p.blocks (all_each (FollowsRules p.shape.vars) p.blocks k.blocks) (all_each (λ c. AreOfSites p.shape.vars c.exps) p.blocks k.of_sites)
+for_blocks p k few = for_block p few p.blocks (all_each (FollowsRules p.shape.vars) p.blocks k.blocks)
+    (all_each (λ c. AreOfSites p.shape.vars c.exps) p.blocks k.of_sites)
 
 each_get : {A : Type 0} (P : A → Type 0) (xs : List A) (i : ℕ) (x : A) → i < length xs → x ≡ get_or xs i x → Each P xs → P x
 each_get P [] i x h e p = absurd (omega arith)
@@ -76,12 +81,17 @@ each_get P (y ∷ ys) (suc i) x h e p = each_get P ys i x (omega arith) e p.1
 pub block_at : (cs : List Code) (i : ℕ) (c : Code) → i < length cs → c ≡ get_or cs i c → Each ForBlock cs → ForBlock c
 block_at cs i c h e p = each_get ForBlock cs i c h e p
 
-more_block : (start now new : List ℕ) (cs : List Code) (i : ℕ) (c : Code) → i < length cs → c ≡ get_or cs i c → Left start now (blocks_lines i (drop i cs)) (blocks_lines 0 cs) → Wrote now new (block_lines i c) → Left start new (blocks_lines (suc i) (drop (suc i) cs)) (blocks_lines 0 cs)
+more_block : (start now new : List ℕ) (cs : List Code) (i : ℕ) (c : Code) → i < length cs → c ≡ get_or cs i c
+    → Left start now (blocks_lines i (drop i cs)) (blocks_lines 0 cs) → Wrote now new (block_lines i c)
+    → Left start new (blocks_lines (suc i) (drop (suc i) cs)) (blocks_lines 0 cs)
 more_block start now new cs i c h e left w =
     let d : drop i cs ≡ c ∷ drop (suc i) cs = drop-cons cs i c h ∙ ap (λ z. z ∷ drop (suc i) cs) (sym e) in
-    go_on start now new (block_lines i c) (blocks_lines (suc i) (drop (suc i) cs)) (blocks_lines 0 cs) (subst (λ z. Left start now (blocks_lines i z) (blocks_lines 0 cs)) d left) w
+    go_on start now new (block_lines i c) (blocks_lines (suc i) (drop (suc i) cs)) (blocks_lines 0 cs)
+    (subst (λ z. Left start now (blocks_lines i z) (blocks_lines 0 cs)) d left) w
 
-pub more_blocks : (start now new : List ℕ) (cs : List Code) (i : ℕ) (c : Code) → i < length cs → c ≡ get_or cs i c → Left start now (blocks_lines i (drop i cs)) (blocks_lines 0 cs) → Wrote now new (block_lines i c) → Left start new (blocks_lines (i + 1) (drop (i + 1) cs)) (blocks_lines 0 cs)
+pub more_blocks : (start now new : List ℕ) (cs : List Code) (i : ℕ) (c : Code) → i < length cs → c ≡ get_or cs i c
+    → Left start now (blocks_lines i (drop i cs)) (blocks_lines 0 cs) → Wrote now new (block_lines i c)
+    → Left start new (blocks_lines (i + 1) (drop (i + 1) cs)) (blocks_lines 0 cs)
 more_blocks start now new cs i c h e left w =
     let n : suc i ≡ i + 1 = omega arith in
     subst (λ m. Left start new (blocks_lines m (drop m cs)) (blocks_lines 0 cs)) n (more_block start now new cs i c h e left w)
@@ -90,11 +100,13 @@ more_blocks start now new cs i c h e left w =
 abbrev pub Listing : Program → List ℕ → List ℕ → List ℕ → ℕ → Type 0
 Listing p o start now j = (r : List (List ℕ)) → now ++ spaced (map decimal (list_from p o j) ++ r) ≡ start ++ spaced (map decimal (list_from p o 0) ++ r)
 
-pub more_list : (p : Program) (o start now new segment : List ℕ) (j : ℕ) → j ≤ length o → segment ≡ segment_of p (take j o) → Listing p o start now j → Puts now new (λ r. map decimal segment ++ r) → Listing p o start new (j + 1)
+pub more_list : (p : Program) (o start now new segment : List ℕ) (j : ℕ) → j ≤ length o → segment ≡ segment_of p (take j o)
+    → Listing p o start now j → Puts now new (λ r. map decimal segment ++ r) → Listing p o start new (j + 1)
 more_list p o start now new segment j h e l w r =
     let g : list_from p o j ≡ segment ++ list_from p o (j + 1) = list_goes p o j h ∙ ap (λ z. z ++ list_from p o (j + 1)) (sym e) in
     let m : map decimal (list_from p o j) ++ r ≡ map decimal segment ++ (map decimal (list_from p o (j + 1)) ++ r) =
-    ap (λ z. map decimal z ++ r) g ∙ ap (λ z. z ++ r) (map-append decimal segment (list_from p o (j + 1))) ∙ append_assoc (map decimal segment) (map decimal (list_from p o (j + 1))) r in
+    ap (λ z. map decimal z ++ r) g ∙ ap (λ z. z ++ r) (map-append decimal segment (list_from p o (j + 1)))
+    ∙ append_assoc (map decimal segment) (map decimal (list_from p o (j + 1))) r in
     w.is (map decimal (list_from p o (j + 1)) ++ r) ∙ ap (λ z. now ++ spaced z) (sym m) ∙ l r
 
 pub list_end : (p : Program) (o start now : List ℕ) (j : ℕ) → length o < j → Listing p o start now j → Puts start now (λ r. map decimal (list_from p o 0) ++ r)
@@ -108,9 +120,14 @@ number : (n : ℕ) (xs : List ℕ) → n ≤ 65536 → Each (λ k. k < n) xs →
 number n [] h p = tt
 number n (x ∷ xs) h p = let q = p.0 in (omega arith, number n xs h p.1)
 
-pub order_wrote : (a b : List ℕ) (blocks : ℕ) (places list : List ℕ) → PutsLine a b (Order places list) → length places ≤ 5 → ArePlaces places → blocks ≤ 65536 → IsList blocks list → Wrote a b (Order places list ∷ [])
+pub order_wrote : (a b : List ℕ) (blocks : ℕ) (places list : List ℕ) → PutsLine a b (Order places list) → length places ≤ 5
+    → ArePlaces places → blocks ≤ 65536 → IsList blocks list → Wrote a b (Order places list ∷ [])
 order_wrote a b blocks places list e few each small l =
-    one a b (Order places list) e (place (length places) places few (all_each (λ k. k < length places) places each.within), number blocks list small (all_each (λ n. n < blocks) list l.within), l.filled)
+    one a b (Order places list) e (
+      place (length places) places few (all_each (λ k. k < length places) places each.within),
+      number blocks list small (all_each (λ n. n < blocks) list l.within),
+      l.filled,
+    )
 
 member : (xs : List (List ℕ)) (i : ℕ) (x : List ℕ) → i < length xs → x ≡ get_or xs i x → Contains xs x
 member xs i x h e = (i, h, sym e)
@@ -124,23 +141,32 @@ long : (xs : List AnyOrder) → length (map order_places xs) ≡ length xs
 long [] = refl
 long (x ∷ xs) = let h = long xs in omega arith
 
-pub order_at : (k : ℕ) (os : List AnyOrder) (i : ℕ) (o : AnyOrder) → i < length os → o ≡ get_or os i o → map order_places os ≡ orders_of k → IsOrderOf k (order_places o)
+pub order_at : (k : ℕ) (os : List AnyOrder) (i : ℕ) (o : AnyOrder) → i < length os → o ≡ get_or os i o → map order_places os ≡ orders_of k
+    → IsOrderOf k (order_places o)
 order_at k os i o h e all =
     let l = long os in
-    member-is k (order_places o) (subst (λ z. Contains z (order_places o)) all (member (map order_places os) i (order_places o) (omega arith) (get_map os i o h e)))
+    member-is k (order_places o)
+    (subst (λ z. Contains z (order_places o)) all (member (map order_places os) i (order_places o) (omega arith) (get_map os i o h e)))
 
 pub more_orders : (p : Program) (start now new : List ℕ) (os : List AnyOrder) (i : ℕ) (o : AnyOrder) → i < length os → o ≡ get_or os i o →
-    Left start now (order_lines p (map order_places (drop i os))) (order_lines p (map order_places os)) → Wrote now new (Order (order_places o) (list_of p (order_places o)) ∷ []) → Left start new (order_lines p (map order_places (drop (i + 1) os))) (order_lines p (map order_places os))
+    Left start now (order_lines p (map order_places (drop i os))) (order_lines p (map order_places os)) →
+    Wrote now new (Order (order_places o) (list_of p (order_places o)) ∷ []) →
+    Left start new (order_lines p (map order_places (drop (i + 1) os))) (order_lines p (map order_places os))
 more_orders p start now new os i o h e left w =
     let n : suc i ≡ i + 1 = omega arith in
     let d : drop i os ≡ o ∷ drop (i + 1) os = drop-cons os i o h ∙ (λ j. sym e j ∷ drop (n j) os) in
-    go_on start now new (Order (order_places o) (list_of p (order_places o)) ∷ []) (order_lines p (map order_places (drop (i + 1) os))) (order_lines p (map order_places os))
+    go_on start now new (Order (order_places o) (list_of p (order_places o)) ∷ []) (order_lines p (map order_places (drop (i + 1) os)))
+    (order_lines p (map order_places os))
     (subst (λ z. Left start now (order_lines p (map order_places z)) (order_lines p (map order_places os))) d left) w
 
-pub no_orders : (p : Program) (start now : List ℕ) (os : List AnyOrder) (i : ℕ) → length os ≤ i → Left start now (order_lines p (map order_places (drop i os))) (order_lines p (map order_places os)) → Wrote start now (order_lines p (map order_places os))
-no_orders p start now os i h left = at_end start now (order_lines p (map order_places (drop i os))) (order_lines p (map order_places os)) left (ap (λ z. order_lines p (map order_places z)) (drop_all i os h))
+pub no_orders : (p : Program) (start now : List ℕ) (os : List AnyOrder) (i : ℕ) → length os ≤ i
+    → Left start now (order_lines p (map order_places (drop i os))) (order_lines p (map order_places os))
+    → Wrote start now (order_lines p (map order_places os))
+no_orders p start now os i h left = at_end start now (order_lines p (map order_places (drop i os)))
+    (order_lines p (map order_places os)) left (ap (λ z. order_lines p (map order_places z)) (drop_all i os h))
 
-pub no_blocks : (start now : List ℕ) (cs : List Code) (i : ℕ) → length cs ≤ i → Left start now (blocks_lines i (drop i cs)) (blocks_lines 0 cs) → Wrote start now (blocks_lines 0 cs)
+pub no_blocks : (start now : List ℕ) (cs : List Code) (i : ℕ) → length cs ≤ i
+    → Left start now (blocks_lines i (drop i cs)) (blocks_lines 0 cs) → Wrote start now (blocks_lines 0 cs)
 no_blocks start now cs i h left = at_end start now (blocks_lines i (drop i cs)) (blocks_lines 0 cs) left (ap (λ z. blocks_lines i z) (drop_all i cs h))
 
 pub places_put : (a b : List ℕ) (xs ys : List ℕ) → Puts a b (λ r. map decimal xs ++ r) → xs ≡ ys → Puts a b (λ r. map decimal ys ++ r)
@@ -162,23 +188,26 @@ some_block p k =
     let l = k.lists o (member-is p.shape.sites o c) in
     first_block (length p.blocks) (list_of p o) l.filled (all_each (λ n. n < length p.blocks) (list_of p o) l.within)
 
--- these lines were put, and they are predicates of version 2
+-- these lines were appended, and they are predicates of version 2
 pub record WroteListing (old new : List ℕ) (ps : List Part) : Type 0 where
   pub wrote : Wrote old new ps
   pub form : Predicates 2 ps
 
-pub program_wrote : (p : Program) (a b c d e f : List ℕ) (shape : Shape) (blocks : List Code) → IsProgram p → shape ≡ p.shape → blocks ≡ p.blocks → Wrote a b (Predicate (name_bytes shape.name) ∷ []) → Wrote b c (filter_lines p.filter) → Wrote c d (blocks_lines 0 blocks) → Wrote d e (order_lines p (orders_of p.shape.sites)) → Wrote e f (Done ∷ []) → WroteListing a f (program_lines p)
+pub program_wrote : (p : Program) (a b c d e f : List ℕ) (shape : Shape) (blocks : List Code) → IsProgram p → shape ≡ p.shape → blocks ≡ p.blocks
+    → Wrote a b (Predicate (name_bytes shape.name) ∷ []) → Wrote b c (filter_lines p.filter) → Wrote c d (blocks_lines 0 blocks)
+    → Wrote d e (order_lines p (orders_of p.shape.sites)) → Wrote e f (Done ∷ []) → WroteListing a f (program_lines p)
 program_wrote p a b c d e f shape blocks k s l p0 p1 p2 p3 p4 =
     let x : List Part = filter_lines p.filter in
     let y : List Part = blocks_lines 0 p.blocks in
     let z : List Part = order_lines p (orders_of p.shape.sites) in
     record {
-      wrote = after a b f (Predicate (name_bytes p.shape.name) ∷ []) (x ++ (y ++ (z ++ Done ∷ []))) (subst (λ w. Wrote a b (Predicate (name_bytes w.name) ∷ [])) s p0)
+      wrote = after a b f (Predicate (name_bytes p.shape.name) ∷ []) (x ++ (y ++ (z ++ Done ∷ [])))
+          (subst (λ w. Wrote a b (Predicate (name_bytes w.name) ∷ [])) s p0)
           (after b c f x (y ++ (z ++ Done ∷ [])) p1 (three c d e f y z (Done ∷ []) (subst (λ w. Wrote c d (blocks_lines 0 w)) l p2) p3 p4));
       form = program_form p (some_block p k);
     }
 
--- ---- programs put one behind the other
+-- ---- programs appended one after the other
 pub begun : (a b d : List ℕ) → a ≡ b ++ d → b ≡ [] → d ≡ first_line 2 → ListText a 2 (listing_of [])
 begun a b d e f g = record {
   listing = record { known = inr refl; form = is_form 2 [] (inr refl) refl; ranges = tt };
@@ -189,7 +218,8 @@ listing_more : (ps : List Program) (p : Program) → listing_of (ps ++ p ∷ [])
 listing_more [] p = append-nil (program_lines p)
 listing_more (q ∷ ps) p = ap (λ z. program_lines q ++ z) (listing_more ps p) ∙ sym (append_assoc (program_lines q) (listing_of ps) (program_lines p))
 
-pub one_behind : (old new : List ℕ) (p : Program) → WroteListing old new (program_lines p) → (ps : List Program) → ListText old 2 (listing_of ps) → ListText new 2 (listing_of (ps ++ p ∷ []))
+pub one_behind : (old new : List ℕ) (p : Program) → WroteListing old new (program_lines p) → (ps : List Program)
+    → ListText old 2 (listing_of ps) → ListText new 2 (listing_of (ps ++ p ∷ []))
 one_behind old new p w ps t =
     let b : Wrote (first_line 2) old (listing_of ps) = record { text = t.text; ranges = t.listing.ranges } in
     let a : Wrote (first_line 2) new (listing_of ps ++ program_lines p) = after (first_line 2) old new (listing_of ps) (program_lines p) b w.wrote in
@@ -199,8 +229,9 @@ one_behind old new p w ps t =
     } in
     subst (λ z. ListText new 2 z) (sym (listing_more ps p)) l
 
--- a loop over programs, by those that are put
-pub more_listed : (now : List ℕ) (ps : List Program) (i : ℕ) (p : Program) → i < length ps → p ≡ get_or ps i p → ListText now 2 (listing_of (take i ps ++ p ∷ [])) → ListText now 2 (listing_of (take (i + 1) ps))
+-- a loop over programs, by those that are appended
+pub more_listed : (now : List ℕ) (ps : List Program) (i : ℕ) (p : Program) → i < length ps → p ≡ get_or ps i p
+    → ListText now 2 (listing_of (take i ps ++ p ∷ [])) → ListText now 2 (listing_of (take (i + 1) ps))
 more_listed now ps i p h e t = subst (λ z. ListText now 2 (listing_of z)) (ap (λ q. take i ps ++ q ∷ []) e ∙ sym (take_more ps i p h)) t
 
 pub all_listed : (now : List ℕ) (ps : List Program) (i : ℕ) → length ps ≤ i → ListText now 2 (listing_of (take i ps)) → ListText now 2 (listing_of ps)

@@ -1,5 +1,6 @@
--- Lines put one after the other.
-use Rattle.std.proofs.Common.{◌≡◌, ℕ, zero, suc, ◌+◌, ◌≤◌, ◌<◌, List, [], ◌∷◌, ◌++◌, length, get_or, drop, map, Some, refl, sym, ap, ◌∙◌, subst, arith, append_assoc, append-nil, drop-cons}
+-- Lines appended one after the other.
+use Rattle.std.proofs.Common.{◌≡◌, ℕ, zero, suc, ◌+◌, ◌≤◌, ◌<◌, List, [], ◌∷◌, ◌++◌, length, get_or, drop, map, Some, refl, sym, ap, ◌∙◌}
+use Rattle.std.proofs.Common.{subst, arith, append_assoc, append-nil, drop-cons}
 use Rattle.std.proofs.lemmas.List.{drop_all}
 use Rattle.ln_interval.specs.declared.pair.Pair.{Pair}
 use Rattle.ln_interval.specs.Range.{Range}
@@ -29,14 +30,15 @@ each_both (x ∷ ps) qs p q = (p.0, each_both ps qs p.1 q)
 
 pub after : (a b c : List ℕ) (ps qs : List Part) → Wrote a b ps → Wrote b c qs → Wrote a c (ps ++ qs)
 after a b c ps qs p q = record {
-  text = q.text ∙ ap (λ z. z ++ joined (map text_of qs)) p.text ∙ append_assoc a (joined (map text_of ps)) (joined (map text_of qs)) ∙ ap (λ z. a ++ z) (sym (joined_append ps qs));
+  text = q.text ∙ ap (λ z. z ++ joined (map text_of qs)) p.text ∙ append_assoc a (joined (map text_of ps)) (joined (map text_of qs))
+      ∙ ap (λ z. a ++ z) (sym (joined_append ps qs));
   ranges = each_both ps qs p.ranges q.ranges;
 }
 
 pub one : (a b : List ℕ) (p : Part) → PutsLine a b p → IsLine p → Wrote a b (p ∷ [])
 one a b p e r = record { text = e ∙ ap (λ z. a ++ z) (sym (append-nil (text_of p))); ranges = (r, tt) }
 
--- ---- a loop by what is left
+-- ---- a loop by the remaining lines
 abbrev pub Left : List ℕ → List ℕ → List Part → List Part → Type 0
 Left start now rest all = (d : List ℕ) → Wrote now d rest → Wrote start d all
 
@@ -47,25 +49,33 @@ pub at_end : (start now : List ℕ) (rest all : List Part) → Left start now re
 at_end start now rest all f e = f now (subst (λ ps. Wrote now now ps) (sym e) (nothing now))
 
 -- ---- loops over operations
-lines_at : {B : Type 0} (os : List Op) (bs : List B) (i : ℕ) (o : Op) (b : B) → i < length os → i < length bs → lines_of (drop i os) (drop i bs) ≡ record { op = get_or os i o; bound = get_or bs i b } ∷ lines_of (drop (suc i) os) (drop (suc i) bs)
+lines_at : {B : Type 0} (os : List Op) (bs : List B) (i : ℕ) (o : Op) (b : B) → i < length os → i < length bs
+    → lines_of (drop i os) (drop i bs) ≡ record { op = get_or os i o; bound = get_or bs i b } ∷ lines_of (drop (suc i) os) (drop (suc i) bs)
 lines_at os bs i o b h k = rw (drop-cons os i o h, drop-cons bs i b k) refl
 
-pub each_at : {B : Type 0} (P : Line B → Type 0) (os : List Op) (bs : List B) (i : ℕ) (o : Op) (b : B) → i < length os → i < length bs → Each P (lines_of os bs) → P (record { op = get_or os i o; bound = get_or bs i b })
+pub each_at : {B : Type 0} (P : Line B → Type 0) (os : List Op) (bs : List B) (i : ℕ) (o : Op) (b : B) → i < length os → i < length bs
+    → Each P (lines_of os bs) → P (record { op = get_or os i o; bound = get_or bs i b })
 each_at P [] bs i o b h k p = absurd (omega arith)
 each_at P (x ∷ os) [] i o b h k p = absurd (omega arith)
 each_at P (x ∷ os) (y ∷ bs) zero o b h k p = p.0
 each_at P (x ∷ os) (y ∷ bs) (suc i) o b h k p = each_at P os bs i o b (omega arith) (omega arith) p.1
 
-pub more_lines : {B : Type 0} (f : Line B → Part) (start now new : List ℕ) (os : List Op) (bs : List B) (i : ℕ) (o : Op) (b : B) (all : List Part) → i < length os → i < length bs →
-    Left start now (map f (lines_of (drop i os) (drop i bs))) all → Wrote now new (f (record { op = get_or os i o; bound = get_or bs i b }) ∷ []) → Left start new (map f (lines_of (drop (i + 1) os) (drop (i + 1) bs))) all
+pub more_lines : {B : Type 0} (f : Line B → Part) (start now new : List ℕ) (os : List Op) (bs : List B) (i : ℕ) (o : Op) (b : B)
+    (all : List Part) → i < length os → i < length bs →
+    Left start now (map f (lines_of (drop i os) (drop i bs))) all → Wrote now new (f (record { op = get_or os i o; bound = get_or bs i b }) ∷ []) →
+    Left start new (map f (lines_of (drop (i + 1) os) (drop (i + 1) bs))) all
 more_lines f start now new os bs i o b all h k left w =
     let n : suc i ≡ i + 1 = omega arith in
-    let e : map f (lines_of (drop i os) (drop i bs)) ≡ f (record { op = get_or os i o; bound = get_or bs i b }) ∷ map f (lines_of (drop (i + 1) os) (drop (i + 1) bs)) =
+    let e : map f (lines_of (drop i os) (drop i bs))
+    ≡ f (record { op = get_or os i o; bound = get_or bs i b }) ∷ map f (lines_of (drop (i + 1) os) (drop (i + 1) bs)) =
     ap (map f) (lines_at os bs i o b h k) ∙ ap (λ m. f (record { op = get_or os i o; bound = get_or bs i b }) ∷ map f (lines_of (drop m os) (drop m bs))) n in
-    go_on start now new (f (record { op = get_or os i o; bound = get_or bs i b }) ∷ []) (map f (lines_of (drop (i + 1) os) (drop (i + 1) bs))) all (subst (λ z. Left start now z all) e left) w
+    go_on start now new (f (record { op = get_or os i o; bound = get_or bs i b }) ∷ [])
+    (map f (lines_of (drop (i + 1) os) (drop (i + 1) bs))) all (subst (λ z. Left start now z all) e left) w
 
-pub no_lines : {B : Type 0} (f : Line B → Part) (start now : List ℕ) (os : List Op) (bs : List B) (i : ℕ) (all : List Part) → length os ≤ i → Left start now (map f (lines_of (drop i os) (drop i bs))) all → Wrote start now all
-no_lines f start now os bs i all h left = at_end start now (map f (lines_of (drop i os) (drop i bs))) all left (ap (λ z. map f (lines_of z (drop i bs))) (drop_all i os h))
+pub no_lines : {B : Type 0} (f : Line B → Part) (start now : List ℕ) (os : List Op) (bs : List B) (i : ℕ) (all : List Part) → length os ≤ i
+    → Left start now (map f (lines_of (drop i os) (drop i bs))) all → Wrote start now all
+no_lines f start now os bs i all h left =
+    at_end start now (map f (lines_of (drop i os) (drop i bs))) all left (ap (λ z. map f (lines_of z (drop i bs))) (drop_all i os h))
 
 -- the range of a pair that is read
 pub range_get : (ps : List Pair) (i : ℕ) (r : Pair) → i < length ps → r ≡ get_or ps i r → get_or (map range ps) i (range r) ≡ range r
@@ -77,25 +87,30 @@ pub long_ranges : (ps : List Pair) → length (map range ps) ≡ length ps
 long_ranges [] = refl
 long_ranges (p ∷ ps) = let h = long_ranges ps in omega arith
 
-pub range_at : (os : List Op) (ps : List Pair) (i : ℕ) (o : Op) (r : Pair) → i < length os → i < length ps → r ≡ get_or ps i r → Each InBlock (lines_of os (map range ps)) → InBlock (record { op = get_or os i o; bound = range r })
+pub range_at : (os : List Op) (ps : List Pair) (i : ℕ) (o : Op) (r : Pair) → i < length os → i < length ps → r ≡ get_or ps i r
+    → Each InBlock (lines_of os (map range ps)) → InBlock (record { op = get_or os i o; bound = range r })
 range_at os ps i o r h k e p =
     let l = long_ranges ps in
     subst (λ z. InBlock (record { op = get_or os i o; bound = z })) (range_get ps i r k e) (each_at InBlock os (map range ps) i o (range r) h (omega arith) p)
 
-pub more_ranges : (start now new : List ℕ) (os : List Op) (ps : List Pair) (i : ℕ) (o : Op) (r : Pair) (all : List Part) → i < length os → i < length ps → r ≡ get_or ps i r →
-    Left start now (map range_line (lines_of (drop i os) (drop i (map range ps)))) all → Wrote now new (RangeOp (get_or os i o) r.low r.high ∷ []) → Left start new (map range_line (lines_of (drop (i + 1) os) (drop (i + 1) (map range ps)))) all
+pub more_ranges : (start now new : List ℕ) (os : List Op) (ps : List Pair) (i : ℕ) (o : Op) (r : Pair) (all : List Part) → i < length os →
+    i < length ps → r ≡ get_or ps i r →
+    Left start now (map range_line (lines_of (drop i os) (drop i (map range ps)))) all → Wrote now new (RangeOp (get_or os i o) r.low r.high ∷ []) →
+    Left start new (map range_line (lines_of (drop (i + 1) os) (drop (i + 1) (map range ps)))) all
 more_ranges start now new os ps i o r all h k e left w =
     let l = long_ranges ps in
     more_lines range_line start now new os (map range ps) i o (range r) all h (omega arith) left
     (subst (λ z. Wrote now new (range_line (record { op = get_or os i o; bound = z }) ∷ [])) (sym (range_get ps i r k e)) w)
 
 -- ---- filters and blocks
-pub some_filter : (a b c d : List ℕ) (f : FilterCode) (os : List Op) (ts : List Triple) → os ≡ f.ops → ts ≡ f.triples → Wrote a b (Filter ∷ []) → Wrote b c (map filter_line (lines_of os ts)) → Wrote c d (Decide ∷ []) → Wrote a d (filter_lines (Some f))
+pub some_filter : (a b c d : List ℕ) (f : FilterCode) (os : List Op) (ts : List Triple) → os ≡ f.ops → ts ≡ f.triples
+    → Wrote a b (Filter ∷ []) → Wrote b c (map filter_line (lines_of os ts)) → Wrote c d (Decide ∷ []) → Wrote a d (filter_lines (Some f))
 some_filter a b c d f os ts p q x y z =
     after a b d (Filter ∷ []) (map filter_line (lines_of f.ops f.triples) ++ Decide ∷ []) x
     (after b c d (map filter_line (lines_of f.ops f.triples)) (Decide ∷ []) (subst (λ w. Wrote b c (map filter_line w)) (λ i. lines_of (p i) (q i)) y) z)
 
-pub block_wrote : (a b c d : List ℕ) (n : ℕ) (k : Code) (es : Pairs) (os : List Op) (rs : List Range) → es ≡ k.exps → os ≡ k.ops → rs ≡ k.pairs → Wrote a b (Block n es ∷ []) → Wrote b c (map range_line (lines_of os rs)) → Wrote c d (End ∷ []) → Wrote a d (block_lines n k)
+pub block_wrote : (a b c d : List ℕ) (n : ℕ) (k : Code) (es : Pairs) (os : List Op) (rs : List Range) → es ≡ k.exps → os ≡ k.ops → rs ≡ k.pairs
+    → Wrote a b (Block n es ∷ []) → Wrote b c (map range_line (lines_of os rs)) → Wrote c d (End ∷ []) → Wrote a d (block_lines n k)
 block_wrote a b c d n k es os rs e p q x y z =
     after a b d (Block n k.exps ∷ []) (map range_line (lines_of k.ops k.pairs) ++ End ∷ []) (subst (λ w. Wrote a b (Block n w ∷ [])) e x)
     (after b c d (map range_line (lines_of k.ops k.pairs)) (End ∷ []) (subst (λ w. Wrote b c (map range_line w)) (λ i. lines_of (p i) (q i)) y) z)

@@ -1,5 +1,6 @@
 -- Tokens found one by one, and that no bytes have two lists.
-use Rattle.std.proofs.Common.{◌≡◌, ℕ, zero, suc, ◌+◌, ◌<◌, ◌≤◌, ◌==◌, Bool, true, false, List, [], ◌∷◌, ◌++◌, length, take, drop, length-drop, append_assoc, append-nil, map, refl, ap, sym, ◌∙◌, subst, arith, get_or}
+use Rattle.std.proofs.Common.{◌≡◌, ℕ, zero, suc, ◌+◌, ◌<◌, ◌≤◌, ◌==◌, Bool, true, false, List, [], ◌∷◌, ◌++◌, length, take, drop}
+use Rattle.std.proofs.Common.{length-drop, append_assoc, append-nil, map, refl, ap, sym, ◌∙◌, subst, arith, get_or}
 use Rattle.std.proofs.lemmas.List.{drop-drop, map-append}
 use Rattle.std.proofs.Math.Seq.{drop-length}
 use Rattle.ln_csyn.specs.declared.token.Token.{Token as CodeToken}
@@ -13,7 +14,7 @@ use Rattle.ln_csyn.proofs.Reading.CompleteFile.{one_file}
 nothing_first : (n : ℕ) → IsFirst [] n → ⊥
 nothing_first n f = omega (arith, f.some, f.within)
 
--- the tokens behind the first one
+-- the tokens after the first one
 record Behind (line n : ℕ) (bs : List ℕ) (us : List Token) : Type 0 where
   vs : List Token
   is : us ≡ record { text = take n bs; line = line } ∷ vs
@@ -68,7 +69,7 @@ one_text bytes fs gs c d =
 
 -- ---- the scanner
 
--- the bytes before this place are these tokens, whatever stands behind
+-- the bytes before this place are these tokens, whatever follows
 pub record Scanned (bytes : List ℕ) (ts : List CodeToken) (at line : ℕ) : Type 0 where
   pub within : at ≤ length bytes
   pub lines : line ≤ at + 2
@@ -99,8 +100,9 @@ behind_within : (b line at : ℕ) (v : Bool) → line ≤ at + 2 → (b == 10) �
 behind_within b line at true w e = rw e (omega arith)
 behind_within b line at false w e = rw e (omega arith)
 
--- behind a blank
-pub scan_blank : (bytes : List ℕ) (ts : List CodeToken) (at line b : ℕ) → Scanned bytes ts at line → at < length bytes → b ≡ get_or bytes at 0 → is_blank b ≡ true → Scanned bytes ts (at + 1) (behind b line)
+-- after a blank
+pub scan_blank : (bytes : List ℕ) (ts : List CodeToken) (at line b : ℕ) → Scanned bytes ts at line → at < length bytes
+    → b ≡ get_or bytes at 0 → is_blank b ≡ true → Scanned bytes ts (at + 1) (behind b line)
 scan_blank bytes ts at line b s w e h =
     let f = front bytes at b w e in
     record {
@@ -110,8 +112,9 @@ scan_blank bytes ts at line b s w e h =
       back = λ us d. let r = s.back us d in (r.0, r.1, lexed_blank h (subst (λ (z : List ℕ). Lexed line z r.0) f r.2));
     }
 
--- behind a token
-pub scan_token : (bytes rest : List ℕ) (ts ts' : List CodeToken) (t : CodeToken) (at line n : ℕ) → Scanned bytes ts at line → rest ≡ drop at bytes → IsFirst rest n → t.text.now ≡ take n rest → t.line ≡ line → ts' ≡ ts ++ t ∷ [] → Scanned bytes ts' (at + n) line
+-- after a token
+pub scan_token : (bytes rest : List ℕ) (ts ts' : List CodeToken) (t : CodeToken) (at line n : ℕ) → Scanned bytes ts at line
+    → rest ≡ drop at bytes → IsFirst rest n → t.text.now ≡ take n rest → t.line ≡ line → ts' ≡ ts ++ t ∷ [] → Scanned bytes ts' (at + n) line
 scan_token bytes rest ts ts' t at line n s e f x l m =
     let f2 : IsFirst (drop at bytes) n = subst (λ (z : List ℕ). IsFirst z n) e f in
     let k : Token = record { text = take n (drop at bytes); line = line } in
@@ -119,16 +122,20 @@ scan_token bytes rest ts ts' t at line n s e f x l m =
     let q : seen t ≡ k = ap (λ (z : List ℕ). record { text = z; line = t.line }) x2 ∙ ap (λ (z : ℕ). record { text = take n (drop at bytes); line = z }) l in
     let a : tokens_of ts' ≡ tokens_of ts ++ k ∷ [] = ap (map seen) m ∙ map-append seen ts (t ∷ []) ∙ ap (λ (z : Token). tokens_of ts ++ z ∷ []) q in
     let dd : drop n (drop at bytes) ≡ drop (at + n) bytes = drop-drop n at bytes in
-    let join : (vs : List Token) → tokens_of ts' ++ vs ≡ tokens_of ts ++ k ∷ vs = λ vs. ap (λ (z : List Token). z ++ vs) a ∙ append_assoc (tokens_of ts) (k ∷ []) vs in
+    let join : (vs : List Token) → tokens_of ts' ++ vs ≡ tokens_of ts ++ k ∷ vs =
+    λ vs. ap (λ (z : List Token). z ++ vs) a ∙ append_assoc (tokens_of ts) (k ∷ []) vs in
     record {
       within = omega (arith, f2.within, f2.some, length-drop at bytes);
       lines = omega (arith, s.lines);
       on = λ vs d. subst (λ (z : List Token). Lexed 2 bytes z) (sym (join vs)) (s.on (k ∷ vs) (token f2 (subst (λ (z : List ℕ). Lexed line z vs) (sym dd) d)));
-      back = λ us d. let r = s.back us d in let b = lexed_token f2 r.2 in (b.vs, r.1 ∙ ap (λ (z : List Token). tokens_of ts ++ z) b.is ∙ sym (join b.vs), subst (λ (z : List ℕ). Lexed line z b.vs) dd b.lexed);
+      back = λ us d. let r = s.back us d in
+          let b = lexed_token f2 r.2 in
+          (b.vs, r.1 ∙ ap (λ (z : List Token). tokens_of ts ++ z) b.is ∙ sym (join b.vs), subst (λ (z : List ℕ). Lexed line z b.vs) dd b.lexed);
     }
 
 -- neither blank nor token
-none_lexed : (line : ℕ) (xs : List ℕ) (vs : List Token) → ((b : ℕ) (bs : List ℕ) → xs ≡ b ∷ bs → is_blank b ≡ false) → 0 < length xs → ((m : ℕ) → m ≤ length xs → is_token (take m xs) ≡ false) → Lexed line xs vs → ⊥
+none_lexed : (line : ℕ) (xs : List ℕ) (vs : List Token) → ((b : ℕ) (bs : List ℕ) → xs ≡ b ∷ bs → is_blank b ≡ false) → 0 < length xs
+    → ((m : ℕ) → m ≤ length xs → is_token (take m xs) ≡ false) → Lexed line xs vs → ⊥
 none_lexed line xs vs nb w h none = omega arith
 none_lexed line xs vs nb w h (blank {b = b} {bs = bs} k d) = let e = nb b bs refl in cc
 none_lexed line xs vs nb w h (token {n = n} f d) = let e = h n f.within in let q = f.token in cc
@@ -137,10 +144,13 @@ head_same : (b c : ℕ) (bs cs : List ℕ) → b ∷ bs ≡ c ∷ cs → b ≡ c
 head_same b c bs cs e = cc
 
 -- where no token begins
-pub scan_fails : (bytes rest : List ℕ) (ts : List CodeToken) (at line b : ℕ) → Scanned bytes ts at line → at < length bytes → b ≡ get_or bytes at 0 → is_blank b ≡ false → rest ≡ drop at bytes → ((m : ℕ) → m ≤ length rest → is_token (take m rest) ≡ false) → (us : List Token) → Lexed 2 bytes us → ⊥
+pub scan_fails : (bytes rest : List ℕ) (ts : List CodeToken) (at line b : ℕ) → Scanned bytes ts at line → at < length bytes → b ≡ get_or bytes at 0
+    → is_blank b ≡ false → rest ≡ drop at bytes → ((m : ℕ) → m ≤ length rest → is_token (take m rest) ≡ false) → (us : List Token) → Lexed 2 bytes us → ⊥
 scan_fails bytes rest ts at line b s w e h r f us d =
     let x = s.back us d in
     let fr = front bytes at b w e in
-    let nb : (c : ℕ) (cs : List ℕ) → drop at bytes ≡ c ∷ cs → is_blank c ≡ false = λ c cs q. subst (λ (z : ℕ). is_blank z ≡ false) (head_same b c (drop (at + 1) bytes) cs (sym fr ∙ q)) h in
-    let f2 : (m : ℕ) → m ≤ length (drop at bytes) → is_token (take m (drop at bytes)) ≡ false = subst (λ (z : List ℕ). (m : ℕ) → m ≤ length z → is_token (take m z) ≡ false) r f in
+    let nb : (c : ℕ) (cs : List ℕ) → drop at bytes ≡ c ∷ cs → is_blank c ≡ false =
+    λ c cs q. subst (λ (z : ℕ). is_blank z ≡ false) (head_same b c (drop (at + 1) bytes) cs (sym fr ∙ q)) h in
+    let f2 : (m : ℕ) → m ≤ length (drop at bytes) → is_token (take m (drop at bytes)) ≡ false =
+    subst (λ (z : List ℕ). (m : ℕ) → m ≤ length z → is_token (take m z) ≡ false) r f in
     none_lexed line (drop at bytes) x.0 nb (omega (arith, w, length-drop at bytes)) f2 x.2

@@ -1,4 +1,4 @@
--- What is derived is read.
+-- Proves that what is derived is read.
 use Rattle.std.proofs.Common.{◌≡◌, ℕ, zero, suc, ◌≤◌, Bool, true, false, List, [], ◌∷◌, Some, None, refl, arith}
 use Rattle.std.specs.Prelude.{codes}
 use Rattle.std.proofs.Math.Nat.{le-max_left, le-max_right}
@@ -32,7 +32,7 @@ no_cast (two h d o e s) = rw (h, (opens d).no_type) refl
 no_cast (minus h m d s) = rw (h, m) refl
 no_cast (cast h i j m d s) = rw (h, i) refl
 
--- a parenthesis stands at the front
+-- the first token is a parenthesis
 pub record Closes (ts : List Token) : Type 0 where
   pub first : Token
   pub rest : List Token
@@ -52,7 +52,8 @@ deep (call h i j k) = omega arith
 deep (inner {e = e} d) = omega (arith, le-max_left 1 (parens e))
 
 -- a name before a closing parenthesis
-named_alone : (p : Token) (rest : List Token) (t : CType) (d : ℕ) → is_c_name p.text ≡ true → number_of p.text ≡ None → Closes rest → primary (expr_at d) t (p ∷ rest) ≡ Some (Name t p.text, rest)
+named_alone : (p : Token) (rest : List Token) (t : CType) (d : ℕ) → is_c_name p.text ≡ true → number_of p.text ≡ None → Closes rest
+    → primary (expr_at d) t (p ∷ rest) ≡ Some (Name t p.text, rest)
 named_alone p rest t d h n c = rw (n, h, c.is, c.text) refl
 
 -- a word begins with a letter

@@ -1,4 +1,4 @@
--- What is derived is read: statements, functions, files.
+-- Proves that what is derived is read: statements, functions, files.
 use Rattle.std.proofs.Common.{◌≡◌, ℕ, zero, suc, ◌≤◌, ◌<◌, Bool, true, false, ◌&&◌, nat_le, List, [], ◌∷◌, length, Some, None, refl, sym, ◌∙◌, arith, max}
 use Rattle.std.specs.Prelude.{codes, bytes_eq}
 use Rattle.std.proofs.Math.Nat.{le-max_left, le-max_right}
@@ -6,7 +6,8 @@ use Rattle.std.proofs.lemmas.Slice.Eq.{bytes_eq-Decides}
 use Rattle.ln_csyn.specs.declared.tree.CType.{CType}
 use Rattle.ln_csyn.specs.Tree.{Expr, Body, Fun}
 use Rattle.ln_csyn.specs.Words.{type_of}
-use Rattle.ln_csyn.specs.Grammar.{Token, Sort, Derives, two, minus, cast, number, name, value, index, call, inner, IsBody, end, decl, group, when, return, IsPointer, pointer, IsParameters, one, both, IsHead, head, IsFun, own, shared, IsFile}
+use Rattle.ln_csyn.specs.Grammar.{Token, Sort, Derives, two, minus, cast, number, name, value, index, call, inner, IsBody, end, decl, group}
+use Rattle.ln_csyn.specs.Grammar.{when, return, IsPointer, pointer, IsParameters, one, both, IsHead, head, IsFun, own, shared, IsFile}
 use Rattle.ln_csyn.specs.Grammar as g
 use Rattle.ln_csyn.specs.Reading.{eat, stmt_at, stmts_at, block_at, pointer_at, parameters_at, head_at, fun_at, funs_at}
 use Rattle.ln_csyn.specs.Keeps.{parens, parens_in, braces_in, is_small, keeps_names, keeps_exprs, fun_keeps, each_fun, names_of, distinct}
@@ -14,7 +15,7 @@ use Rattle.std.proofs.lemmas.Bool.{leb-true}
 use Rattle.ln_csyn.specs.Laws.{BodyIsComplete, FileIsComplete, OneFile}
 use Rattle.ln_csyn.proofs.Reading.Complete.{complete}
 
--- ---- what is left is shorter
+-- ---- the rest is shorter
 
 -- an expression takes a token
 pub shorter : {s : Sort} {ts rest : List Token} {e : Expr} → Derives s ts rest e → length rest < length ts
@@ -36,12 +37,12 @@ no_longer (group h a b) = omega (arith, no_longer a, no_longer b)
 no_longer (when h l d r m a b) = omega (arith, shorter d, no_longer a, no_longer b)
 no_longer (return h d s b) = omega (arith, shorter d, no_longer b)
 
--- what is left behind statements is a closing brace
+-- the rest after statements begins with a closing brace
 abbrev pub HasBrace : List Token → Type 0
 HasBrace [] = ⊥
 HasBrace (q ∷ us) = q.text ≡ codes "}"
 
--- behind statements stands a closing brace
+-- after statements comes a closing brace
 pub closing : {ts rest : List Token} {b : Body} → IsBody ts rest b → HasBrace rest
 closing (end h) = h
 closing (decl k x q d s b) = closing b
@@ -57,7 +58,8 @@ other_by text u t true e n h = let q : text ≡ u = (bytes_eq-Decides text u).0 
 other : (text u : List ℕ) (t : CType) → type_of u ≡ None → type_of text ≡ Some t → bytes_eq text u ≡ false
 other text u t n h = other_by text u t (bytes_eq text u) refl n h
 
-complete_body : {ts rest : List Token} {b : Body} → IsBody ts rest b → (p k n : ℕ) → braces_in b ≤ k → parens_in b ≤ suc p → length ts < n → stmts_at (stmt_at (suc p) p (block_at (suc p) p k)) n ts ≡ Some (b, rest)
+complete_body : {ts rest : List Token} {b : Body} → IsBody ts rest b → (p k n : ℕ) → braces_in b ≤ k → parens_in b ≤ suc p → length ts < n
+    → stmts_at (stmt_at (suc p) p (block_at (suc p) p k)) n ts ≡ Some (b, rest)
 complete_body x p k zero w v l = absurd (omega arith)
 complete_body (end h) p k (suc n) w v l = rw h refl
 complete_body (decl {k = t} {e = e} {b = b} q x r d s c) p k (suc n) w v l =
@@ -66,8 +68,10 @@ complete_body (decl {k = t} {e = e} {b = b} q x r d s c) p k (suc n) w v l =
     rw (other t.text (codes "}") _ refl q, q, x, r, f, s, g) refl
 complete_body (group {a = y} {b = z} h a b) p zero (suc n) w v l = absurd (omega (arith, le-max_left (suc (braces_in y)) (braces_in z)))
 complete_body (group {ts = ts} {a = y} {b = z} h a b) p (suc k) (suc n) w v l =
-    let f = complete_body a p k (suc (length ts)) (omega (arith, le-max_left (suc (braces_in y)) (braces_in z))) (omega (arith, le-max_left (parens_in y) (parens_in z))) (omega arith) in
-    let g = complete_body b p (suc k) n (omega (arith, le-max_right (suc (braces_in y)) (braces_in z))) (omega (arith, le-max_right (parens_in y) (parens_in z))) (omega (arith, no_longer a)) in
+    let f = complete_body a p k (suc (length ts)) (omega (arith, le-max_left (suc (braces_in y)) (braces_in z)))
+    (omega (arith, le-max_left (parens_in y) (parens_in z))) (omega arith) in
+    let g = complete_body b p (suc k) n (omega (arith, le-max_right (suc (braces_in y)) (braces_in z)))
+    (omega (arith, le-max_right (parens_in y) (parens_in z))) (omega (arith, no_longer a)) in
     rw (h, f, closing a, g) refl
 complete_body (when {a = y} {b = z} h i d r m a b) p zero (suc n) w v l = absurd (omega (arith, le-max_left (suc (braces_in y)) (braces_in z)))
 complete_body (when {us = us} {e = e} {a = y} {b = z} h i d r m a b) p (suc k) (suc n) w v l =
@@ -94,7 +98,8 @@ pub record Within (p k : ℕ) (f : Fun) : Type 0 where
   pub parens : parens_in f.body ≤ suc p
   pub braces : braces_in f.body ≤ k
 
-complete_head : {ts rest : List Token} {o : Bool} {f : Fun} → IsHead ts rest o f → (p k : ℕ) → Within p k f → head_at (block_at (suc p) p (suc k)) o ts ≡ Some (f, rest)
+complete_head : {ts rest : List Token} {o : Bool} {f : Fun} → IsHead ts rest o f → (p k : ℕ) → Within p k f
+    → head_at (block_at (suc p) p (suc k)) o ts ≡ Some (f, rest)
 complete_head (head {us = us} h x l i r b d) p k w =
     let f = complete_body d p k (suc (length us)) w.braces w.parens (omega arith) in
     rw (h, x, l, complete_parameters i, r, b, f, closing d) refl
@@ -125,17 +130,19 @@ abbrev pub AllWithin : ℕ → ℕ → List Fun → Type 0
 AllWithin p k [] = Unit {0}
 AllWithin p k (f ∷ fs) = Within p k f × AllWithin p k fs
 
-funs_step : (p k n : ℕ) (ts us : List Token) (f : Fun) (fs : List Fun) → length us < length ts → fun_at (block_at (suc p) p (suc k)) ts ≡ Some (f, us) → funs_at (block_at (suc p) p (suc k)) n us ≡ Some fs → funs_at (block_at (suc p) p (suc k)) (suc n) ts ≡ Some (f ∷ fs)
+funs_step : (p k n : ℕ) (ts us : List Token) (f : Fun) (fs : List Fun) → length us < length ts → fun_at (block_at (suc p) p (suc k)) ts ≡ Some (f, us)
+    → funs_at (block_at (suc p) p (suc k)) n us ≡ Some fs → funs_at (block_at (suc p) p (suc k)) (suc n) ts ≡ Some (f ∷ fs)
 funs_step p k n [] us f fs l h g = absurd (omega arith)
 funs_step p k n (t ∷ ts) us f fs l h g = rw (h, g) refl
 
-complete_file : {ts : List Token} {fs : List Fun} → IsFile ts fs → (p k n : ℕ) → AllWithin p k fs → length ts < n → funs_at (block_at (suc p) p (suc k)) n ts ≡ Some fs
+complete_file : {ts : List Token} {fs : List Fun} → IsFile ts fs → (p k n : ℕ) → AllWithin p k fs → length ts < n
+    → funs_at (block_at (suc p) p (suc k)) n ts ≡ Some fs
 complete_file x p k zero w l = absurd (omega arith)
 complete_file g.none p k (suc n) w l = refl
 complete_file (g.one {ts = ts} {us = us} {f = f} {fs = fs} d r) p k (suc n) w l =
     funs_step p k n ts us f fs (shorter_fun d) (complete_fun d p k w.0) (complete_file r p k n w.1 (omega (arith, shorter_fun d)))
 
--- the tests on the tree give the limits
+-- the limits follow from the tests on the tree
 and_left : (a b : Bool) → (a && b) ≡ true → a ≡ true
 and_left true b h = refl
 and_left false b h = h
@@ -153,7 +160,10 @@ fun_within names f h =
 
 funs_within : (names : List (List ℕ)) (fs : List Fun) → each_fun (fun_keeps names) fs ≡ true → AllWithin 15 63 fs
 funs_within names [] h = tt
-funs_within names (f ∷ fs) h = (fun_within names f (and_left (fun_keeps names f) (each_fun (fun_keeps names) fs) h), funs_within names fs (and_right (fun_keeps names f) (each_fun (fun_keeps names) fs) h))
+funs_within names (f ∷ fs) h = (
+  fun_within names f (and_left (fun_keeps names f) (each_fun (fun_keeps names) fs) h),
+  funs_within names fs (and_right (fun_keeps names f) (each_fun (fun_keeps names) fs) h),
+)
 
 -- statements that are derived within the limits are read
 pub body_is_complete : BodyIsComplete
@@ -162,7 +172,8 @@ body_is_complete ts rest b h p k n w v l = complete_body h p k n w v l
 -- so is a file
 pub file_is_complete : FileIsComplete
 file_is_complete ts fs d h =
-    complete_file d 15 63 (suc (length ts)) (funs_within (names_of fs) fs (and_right (distinct (names_of fs)) (each_fun (fun_keeps (names_of fs)) fs) h)) (omega arith)
+    complete_file d 15 63 (suc (length ts))
+    (funs_within (names_of fs) fs (and_right (distinct (names_of fs)) (each_fun (fun_keeps (names_of fs)) fs) h)) (omega arith)
 
 some_same : {A : Type 0} (x y : A) → Some x ≡ Some y → x ≡ y
 some_same x y h = cc

@@ -1,5 +1,6 @@
 -- Functions read one by one.
-use Rattle.std.proofs.Common.{◌≡◌, ℕ, zero, suc, ◌-◌, ◌<◌, ◌≤◌, Bool, List, [], ◌∷◌, ◌++◌, length, map, drop, length-drop, append_assoc, append-nil, Some, None, refl, ap, sym, ◌∙◌, subst, arith}
+use Rattle.std.proofs.Common.{◌≡◌, ℕ, zero, suc, ◌-◌, ◌<◌, ◌≤◌, Bool, List, [], ◌∷◌, ◌++◌, length, map, drop, length-drop, append_assoc}
+use Rattle.std.proofs.Common.{append-nil, Some, None, refl, ap, sym, ◌∙◌, subst, arith}
 use Rattle.std.specs.Prelude.{Option}
 use Rattle.std.proofs.Math.Seq.{drop-length}
 use Rattle.std.proofs.lemmas.List.{length-map, map-append}
@@ -45,19 +46,28 @@ before_none (Some y) = refl
 
 -- at the start nothing was read
 pub read_begins : (block : ReadBlock) (ts : List CodeToken) → Read block ts [] 0
-read_begins block ts = record { within = omega arith; n = suc (length (tokens_of ts)); room = omega (arith, length-map ts seen); all = before_none (funs_at block (suc (length (tokens_of ts))) (tokens_of ts)) }
+read_begins block ts = record {
+  within = omega arith;
+  n = suc (length (tokens_of ts));
+  room = omega (arith, length-map ts seen);
+  all = before_none (funs_at block (suc (length (tokens_of ts))) (tokens_of ts));
+}
 
 -- at the end all functions were read
-pub read_ends : (block : ReadBlock) (ts : List CodeToken) (ss : List CFun) (at : ℕ) → Read block ts (map fun_tree ss) at → at ≡ length ts → funs_at block (suc (length (tokens_of ts))) (tokens_of ts) ≡ Some (map fun_tree ss)
+pub read_ends : (block : ReadBlock) (ts : List CodeToken) (ss : List CFun) (at : ℕ) → Read block ts (map fun_tree ss) at → at ≡ length ts
+    → funs_at block (suc (length (tokens_of ts))) (tokens_of ts) ≡ Some (map fun_tree ss)
 read_ends block ts ss at r e = by_n r.n r.room r.all where
-  by_n : (n : ℕ) → length ts - at < n → funs_at block (suc (length (tokens_of ts))) (tokens_of ts) ≡ before (map fun_tree ss) (funs_at block n (tokens_of (drop at ts))) → funs_at block (suc (length (tokens_of ts))) (tokens_of ts) ≡ Some (map fun_tree ss)
+  by_n : (n : ℕ) → length ts - at < n
+      → funs_at block (suc (length (tokens_of ts))) (tokens_of ts) ≡ before (map fun_tree ss) (funs_at block n (tokens_of (drop at ts)))
+      → funs_at block (suc (length (tokens_of ts))) (tokens_of ts) ≡ Some (map fun_tree ss)
   by_n zero w a = absurd (omega arith)
   by_n (suc n) w a =
       let d : drop at ts ≡ [] = ap (λ (z : ℕ). drop z ts) e ∙ drop-length ts in
       let f : funs_at block (suc n) (tokens_of (drop at ts)) ≡ Some [] = rw d refl in
       a ∙ ap (before (map fun_tree ss)) f ∙ ap (λ (z : List Fun). Some z) (append-nil (map fun_tree ss))
 
-step_some : (block : ReadBlock) (n : ℕ) (ts us : List Token) (f : Fun) → 0 < length ts → fun_at block ts ≡ Some (f, us) → funs_at block (suc n) ts ≡ go_on (funs_at block n us) (λ fs. Some (f ∷ fs))
+step_some : (block : ReadBlock) (n : ℕ) (ts us : List Token) (f : Fun) → 0 < length ts → fun_at block ts ≡ Some (f, us)
+    → funs_at block (suc n) ts ≡ go_on (funs_at block n us) (λ fs. Some (f ∷ fs))
 step_some block n [] us f l h = absurd (omega arith)
 step_some block n (t ∷ ts) us f l h = rw h refl
 
@@ -73,9 +83,12 @@ len_from : (ts r : List CodeToken) (at : ℕ) → r ≡ drop at ts → length (t
 len_from ts r at e = length-map r seen ∙ ap length e ∙ length-drop at ts
 
 -- where no function is read no file is
-pub read_fails : (block : ReadBlock) (ts r : List CodeToken) (ss : List CFun) (at : ℕ) → Read block ts (map fun_tree ss) at → r ≡ drop at ts → at < length ts → fun_at block (tokens_of r) ≡ None → funs_at block (suc (length (tokens_of ts))) (tokens_of ts) ≡ None
+pub read_fails : (block : ReadBlock) (ts r : List CodeToken) (ss : List CFun) (at : ℕ) → Read block ts (map fun_tree ss) at → r ≡ drop at ts
+    → at < length ts → fun_at block (tokens_of r) ≡ None → funs_at block (suc (length (tokens_of ts))) (tokens_of ts) ≡ None
 read_fails block ts r ss at p e l h = by_n p.n p.room p.all where
-  by_n : (n : ℕ) → length ts - at < n → funs_at block (suc (length (tokens_of ts))) (tokens_of ts) ≡ before (map fun_tree ss) (funs_at block n (tokens_of (drop at ts))) → funs_at block (suc (length (tokens_of ts))) (tokens_of ts) ≡ None
+  by_n : (n : ℕ) → length ts - at < n
+      → funs_at block (suc (length (tokens_of ts))) (tokens_of ts) ≡ before (map fun_tree ss) (funs_at block n (tokens_of (drop at ts)))
+      → funs_at block (suc (length (tokens_of ts))) (tokens_of ts) ≡ None
   by_n zero w a = absurd (omega arith)
   by_n (suc n) w a =
       let lr = len_from ts r at e in
@@ -83,29 +96,44 @@ read_fails block ts r ss at p e l h = by_n p.n p.room p.all where
       let f2 : funs_at block (suc n) (tokens_of (drop at ts)) ≡ None = subst (λ (z : List CodeToken). funs_at block (suc n) (tokens_of z) ≡ None) e f in
       a ∙ ap (before (map fun_tree ss)) f2
 
--- the place behind a function
-pub next_fun : (o i k : ℕ) (ts r next : List CodeToken) (f : Fun) (at : ℕ) → 0 < k → o ≡ suc i → at ≤ length ts → r ≡ drop at ts → fun_at (block_at o i k) (tokens_of r) ≡ Some (f, tokens_of next) → Next ts next at
+-- the place after a function
+pub next_fun : (o i k : ℕ) (ts r next : List CodeToken) (f : Fun) (at : ℕ) → 0 < k → o ≡ suc i → at ≤ length ts → r ≡ drop at ts
+    → fun_at (block_at o i k) (tokens_of r) ≡ Some (f, tokens_of next) → Next ts next at
 next_fun o i zero ts r next f at some q w e h = absurd (omega arith)
 next_fun o i (suc k) ts r next f at some q w e h =
-    let h2 : fun_at (block_at (suc i) i (suc k)) (tokens_of r) ≡ Some (f, tokens_of next) = subst (λ (z : ℕ). fun_at (block_at z i (suc k)) (tokens_of r) ≡ Some (f, tokens_of next)) q h in
+    let h2 : fun_at (block_at (suc i) i (suc k)) (tokens_of r) ≡ Some (f, tokens_of next) =
+    subst (λ (z : ℕ). fun_at (block_at z i (suc k)) (tokens_of r) ≡ Some (f, tokens_of next)) q h in
     let l : Leaves (tokens_of r) (tokens_of next) = leaves_fun (fun_sound i k (tokens_of r) (f, tokens_of next) h2).is in
     let l2 : Leaves (tokens_of (drop at ts)) (tokens_of next) = subst (λ (z : List CodeToken). Leaves (tokens_of z) (tokens_of next)) e l in
     let x = place_of_rest ts next at w l2 in
     record { less = x.0; is = x.1 }
 
 -- one function further
-pub read_goes : (o i k : ℕ) (ts r next : List CodeToken) (ss ss' : List CFun) (s : CFun) (at : ℕ) → 0 < k → o ≡ suc i → Read (block_at o i k) ts (map fun_tree ss) at → r ≡ drop at ts → at < length ts
-    → fun_at (block_at o i k) (tokens_of r) ≡ Some (fun_tree s, tokens_of next) → ss' ≡ ss ++ s ∷ [] → Read (block_at o i k) ts (map fun_tree ss') (length ts - length next)
+pub read_goes : (o i k : ℕ) (ts r next : List CodeToken) (ss ss' : List CFun) (s : CFun) (at : ℕ) → 0 < k → o ≡ suc i
+    → Read (block_at o i k) ts (map fun_tree ss) at → r ≡ drop at ts → at < length ts
+    → fun_at (block_at o i k) (tokens_of r) ≡ Some (fun_tree s, tokens_of next) → ss' ≡ ss ++ s ∷ []
+    → Read (block_at o i k) ts (map fun_tree ss') (length ts - length next)
 read_goes o i k ts r next ss ss' s at some q p e l h m = by_n p.n p.room p.all where
-  by_n : (n : ℕ) → length ts - at < n → funs_at (block_at o i k) (suc (length (tokens_of ts))) (tokens_of ts) ≡ before (map fun_tree ss) (funs_at (block_at o i k) n (tokens_of (drop at ts))) → Read (block_at o i k) ts (map fun_tree ss') (length ts - length next)
+  by_n : (n : ℕ) → length ts - at < n
+      → funs_at (block_at o i k) (suc (length (tokens_of ts))) (tokens_of ts) ≡ before (map fun_tree ss) (funs_at (block_at o i k) n (tokens_of (drop at ts)))
+      → Read (block_at o i k) ts (map fun_tree ss') (length ts - length next)
   by_n zero w a = absurd (omega arith)
   by_n (suc n) w a =
       let x = next_fun o i k ts r next (fun_tree s) at some q p.within e h in
       let lr = len_from ts r at e in
-      let f : funs_at (block_at o i k) (suc n) (tokens_of r) ≡ go_on (funs_at (block_at o i k) n (tokens_of next)) (λ gs. Some (fun_tree s ∷ gs)) = step_some (block_at o i k) n (tokens_of r) (tokens_of next) (fun_tree s) (omega (arith, lr, l)) h in
-      let f2 : funs_at (block_at o i k) (suc n) (tokens_of (drop at ts)) ≡ go_on (funs_at (block_at o i k) n (tokens_of next)) (λ gs. Some (fun_tree s ∷ gs)) = subst (λ (z : List CodeToken). funs_at (block_at o i k) (suc n) (tokens_of z) ≡ go_on (funs_at (block_at o i k) n (tokens_of next)) (λ gs. Some (fun_tree s ∷ gs))) e f in
+      let f : funs_at (block_at o i k) (suc n) (tokens_of r) ≡ go_on (funs_at (block_at o i k) n (tokens_of next)) (λ gs. Some (fun_tree s ∷ gs)) =
+      step_some (block_at o i k) n (tokens_of r) (tokens_of next) (fun_tree s) (omega (arith, lr, l)) h in
+      let f2 : funs_at (block_at o i k) (suc n) (tokens_of (drop at ts)) ≡ go_on (funs_at (block_at o i k) n (tokens_of next)) (λ gs. Some (fun_tree s ∷ gs)) =
+      subst (λ (z : List CodeToken). funs_at (block_at o i k) (suc n) (tokens_of z)
+      ≡ go_on (funs_at (block_at o i k) n (tokens_of next)) (λ gs. Some (fun_tree s ∷ gs))) e f in
       let mm : map fun_tree ss' ≡ map fun_tree ss ++ fun_tree s ∷ [] = ap (map fun_tree) m ∙ map-append fun_tree ss (s ∷ []) in
-      let b : funs_at (block_at o i k) (suc (length (tokens_of ts))) (tokens_of ts) ≡ before (map fun_tree ss ++ fun_tree s ∷ []) (funs_at (block_at o i k) n (tokens_of next)) = a ∙ ap (before (map fun_tree ss)) f2 ∙ before_more (map fun_tree ss) (fun_tree s) (funs_at (block_at o i k) n (tokens_of next)) in
-      let b2 : funs_at (block_at o i k) (suc (length (tokens_of ts))) (tokens_of ts) ≡ before (map fun_tree ss') (funs_at (block_at o i k) n (tokens_of next)) = subst (λ (z : List Fun). funs_at (block_at o i k) (suc (length (tokens_of ts))) (tokens_of ts) ≡ before z (funs_at (block_at o i k) n (tokens_of next))) (sym mm) b in
-      let b3 : funs_at (block_at o i k) (suc (length (tokens_of ts))) (tokens_of ts) ≡ before (map fun_tree ss') (funs_at (block_at o i k) n (tokens_of (drop (length ts - length next) ts))) = subst (λ (z : List Token). funs_at (block_at o i k) (suc (length (tokens_of ts))) (tokens_of ts) ≡ before (map fun_tree ss') (funs_at (block_at o i k) n z)) (sym x.is) b2 in
+      let b : funs_at (block_at o i k) (suc (length (tokens_of ts))) (tokens_of ts)
+      ≡ before (map fun_tree ss ++ fun_tree s ∷ []) (funs_at (block_at o i k) n (tokens_of next)) =
+      a ∙ ap (before (map fun_tree ss)) f2 ∙ before_more (map fun_tree ss) (fun_tree s) (funs_at (block_at o i k) n (tokens_of next)) in
+      let b2 : funs_at (block_at o i k) (suc (length (tokens_of ts))) (tokens_of ts) ≡ before (map fun_tree ss') (funs_at (block_at o i k) n (tokens_of next)) =
+      subst (λ (z : List Fun). funs_at (block_at o i k) (suc (length (tokens_of ts))) (tokens_of ts) ≡ before z (funs_at (block_at o i k) n (tokens_of next)))
+      (sym mm) b in
+      let b3 : funs_at (block_at o i k) (suc (length (tokens_of ts))) (tokens_of ts)
+      ≡ before (map fun_tree ss') (funs_at (block_at o i k) n (tokens_of (drop (length ts - length next) ts))) = subst (λ (z : List Token).
+      funs_at (block_at o i k) (suc (length (tokens_of ts))) (tokens_of ts) ≡ before (map fun_tree ss') (funs_at (block_at o i k) n z)) (sym x.is) b2 in
       record { within = omega arith; n = n; room = omega (arith, x.less); all = b3 }

@@ -1,5 +1,6 @@
 -- Statements read one by one.
-use Rattle.std.proofs.Common.{◌≡◌, ℕ, zero, suc, ◌+◌, ◌-◌, ◌<◌, ◌≤◌, Bool, true, false, List, [], ◌∷◌, ◌++◌, length, map, drop, length-drop, Some, None, refl, ap, sym, ◌∙◌, subst, arith, inl, inr}
+use Rattle.std.proofs.Common.{◌≡◌, ℕ, zero, suc, ◌+◌, ◌-◌, ◌<◌, ◌≤◌, Bool, true, false, List, [], ◌∷◌, ◌++◌, length, map, drop, length-drop}
+use Rattle.std.proofs.Common.{Some, None, refl, ap, sym, ◌∙◌, subst, arith, inl, inr}
 use Rattle.std.specs.Prelude.{codes, Option}
 use Rattle.std.proofs.lemmas.List.{drop-drop, drop-map, length-map, map-append}
 use Rattle.ln_csyn.specs.declared.tree.CType.{CType}
@@ -14,7 +15,7 @@ use Rattle.ln_csyn.specs.Reading.{begins as begins_text, eat, go_on, type_at, st
 use Rattle.ln_csyn.proofs.Reading.Sound.{went, chose, some_same, ate, took_type, was_named, closes, expr_sound}
 use Rattle.ln_csyn.proofs.Reading.SoundFile.{block_sound}
 
--- these fronts before a body
+-- these statements before a body
 abbrev pub onto : List Front → Body → Body
 onto [] b = b
 onto (f ∷ fs) b = f (onto fs b)
@@ -50,33 +51,38 @@ more_by : (fs : List Front) (f : Front) (o : Option (Body × List Token)) → on
 more_by fs f None = refl
 more_by fs f (Some y) = ap (λ (b : Body). Some (b, y.1)) (sym (onto_more fs f y.0))
 
-step_by : (stmt : ReadStmt) (n : ℕ) (rest next : List Token) (f : Front) → eat (codes "}") rest ≡ None → stmt rest ≡ Some (f, next) → stmts_at stmt (suc n) rest ≡ go_on (stmts_at stmt n next) (λ b. Some (f b.0, b.1))
+step_by : (stmt : ReadStmt) (n : ℕ) (rest next : List Token) (f : Front) → eat (codes "}") rest ≡ None → stmt rest ≡ Some (f, next)
+    → stmts_at stmt (suc n) rest ≡ go_on (stmts_at stmt n next) (λ b. Some (f b.0, b.1))
 step_by stmt n rest next f h g = rw (h, g) refl
 
 -- one statement further
-pub goes : (stmt : ReadStmt) (ts : List Token) (fs : List Front) (rest next : List Token) (f : Front) → Going stmt ts fs rest → eat (codes "}") rest ≡ None → stmt rest ≡ Some (f, next) → length next < length rest → Going stmt ts (fs ++ f ∷ []) next
+pub goes : (stmt : ReadStmt) (ts : List Token) (fs : List Front) (rest next : List Token) (f : Front) → Going stmt ts fs rest
+    → eat (codes "}") rest ≡ None → stmt rest ≡ Some (f, next) → length next < length rest → Going stmt ts (fs ++ f ∷ []) next
 goes stmt ts fs rest next f g h s l = by_n g.n g.room g.all where
   by_n : (n : ℕ) → length rest < n → stmts_at stmt (suc (length ts)) ts ≡ onto_read fs (stmts_at stmt n rest) → Going stmt ts (fs ++ f ∷ []) next
   by_n zero w a = absurd (omega arith)
   by_n (suc n) w a = record { n = n; room = omega arith; all = a ∙ ap (onto_read fs) (step_by stmt n rest next f h s) ∙ more_by fs f (stmts_at stmt n next) }
 
 -- at a closing brace all statements were read
-pub ends : (stmt : ReadStmt) (ts : List Token) (fs : List Front) (rest us : List Token) → Going stmt ts fs rest → eat (codes "}") rest ≡ Some us → stmts_at stmt (suc (length ts)) ts ≡ Some (joined fs, rest)
+pub ends : (stmt : ReadStmt) (ts : List Token) (fs : List Front) (rest us : List Token) → Going stmt ts fs rest
+    → eat (codes "}") rest ≡ Some us → stmts_at stmt (suc (length ts)) ts ≡ Some (joined fs, rest)
 ends stmt ts fs rest us g h = by_n g.n g.room g.all where
-  by_n : (n : ℕ) → length rest < n → stmts_at stmt (suc (length ts)) ts ≡ onto_read fs (stmts_at stmt n rest) → stmts_at stmt (suc (length ts)) ts ≡ Some (joined fs, rest)
+  by_n : (n : ℕ) → length rest < n → stmts_at stmt (suc (length ts)) ts ≡ onto_read fs (stmts_at stmt n rest)
+      → stmts_at stmt (suc (length ts)) ts ≡ Some (joined fs, rest)
   by_n zero w a = absurd (omega arith)
   by_n (suc n) w a =
       let e : stmts_at stmt (suc n) rest ≡ Some (End, rest) = rw h refl in
       a ∙ ap (onto_read fs) e ∙ ap (λ (b : Body). Some (b, rest)) (onto_end fs)
 
 -- where no statement is read no statements are
-pub fails : (stmt : ReadStmt) (ts : List Token) (fs : List Front) (rest : List Token) → Going stmt ts fs rest → eat (codes "}") rest ≡ None → stmt rest ≡ None → stmts_at stmt (suc (length ts)) ts ≡ None
+pub fails : (stmt : ReadStmt) (ts : List Token) (fs : List Front) (rest : List Token) → Going stmt ts fs rest → eat (codes "}") rest ≡ None
+    → stmt rest ≡ None → stmts_at stmt (suc (length ts)) ts ≡ None
 fails stmt ts fs rest g h s = by_n g.n g.room g.all where
   by_n : (n : ℕ) → length rest < n → stmts_at stmt (suc (length ts)) ts ≡ onto_read fs (stmts_at stmt n rest) → stmts_at stmt (suc (length ts)) ts ≡ None
   by_n zero w a = absurd (omega arith)
   by_n (suc n) w a = let e : stmts_at stmt (suc n) rest ≡ None = rw (h, s) refl in a ∙ ap (onto_read fs) e
 
--- by whether a closing brace is at the front
+-- by whether the first token is a closing brace
 pub brace_some : (ts : List Token) (v : Bool) → v ≡ begins_text (codes "}") ts → v ≡ true → (us : List Token) × (eat (codes "}") ts ≡ Some us)
 brace_some [] v e h = absurd (cc)
 brace_some (t ∷ ts) v e h = (ts, rw (sym e ∙ h) refl)
@@ -92,12 +98,12 @@ pub data Leaves : List Token → List Token → Type 0 where
   one : {t : Token} {ts : List Token} → Leaves (t ∷ ts) ts
   more : {t : Token} {ts us : List Token} → Leaves ts us → Leaves (t ∷ ts) us
 
--- one behind the other
+-- one after the other
 pub after : {ts us ws : List Token} → Leaves ts us → Leaves us ws → Leaves ts ws
 after one d = more d
 after (more c) d = more (after c d)
 
--- fewer tokens are left
+-- fewer tokens remain
 pub fewer : {ts us : List Token} → Leaves ts us → length us < length ts
 fewer one = omega arith
 fewer (more d) = omega (arith, fewer d)
@@ -105,7 +111,7 @@ fewer (more d) = omega (arith, fewer d)
 drop_one : (k : ℕ) (t : Token) (ts : List Token) → k ≡ 1 → drop k (t ∷ ts) ≡ ts
 drop_one k t ts e = rw e refl
 
--- what is left is found by its length
+-- the rest is found by its length
 pub dropped : {ts us : List Token} → Leaves ts us → (k : ℕ) → length ts ≡ k + length us → drop k ts ≡ us
 dropped (one {t = t} {ts = ts}) k e = drop_one k t ts (omega (arith, e))
 dropped (more d) zero e = absurd (omega (arith, fewer d))
@@ -159,13 +165,15 @@ leaves p k ts s h =
       | inl w ↦ (let x = went (name_at w.x.1) _ s w.next in
           let q = went (eat (codes "=") x.x.1) _ s x.next in
           let e = went (closed (codes ";") (expr_at (suc p)) q.x) _ s q.next in
-          let l = after (typed ts w.x w.found) (after (called w.x.1 x.x x.found) (after (eaten (codes "=") x.x.1 q.x q.found) (exprs (codes ";") (suc p) q.x e.x e.found))) in
+          let l = after (typed ts w.x w.found)
+          (after (called w.x.1 x.x x.found) (after (eaten (codes "=") x.x.1 q.x q.found) (exprs (codes ";") (suc p) q.x e.x e.found))) in
           subst (λ (y : (Body → Body) × List Token). Leaves ts y.1) (some_same _ s e.next) l)
       | inr j ↦ elim (chose (eat (codes "if") ts) _ _ s j) [
         | inl w ↦ (let a = went (eat (codes "(") w.x) _ s w.next in
             let e = went (closed (codes ")") (expr_at p) a.x) _ s a.next in
             let b = went (block_at (suc p) p k e.x.1) _ s e.next in
-            let l = after (eaten (codes "if") ts w.x w.found) (after (eaten (codes "(") w.x a.x a.found) (after (exprs (codes ")") p a.x e.x e.found) (blocks p k e.x.1 b.x b.found))) in
+            let l = after (eaten (codes "if") ts w.x w.found)
+            (after (eaten (codes "(") w.x a.x a.found) (after (exprs (codes ")") p a.x e.x e.found) (blocks p k e.x.1 b.x b.found))) in
             subst (λ (y : (Body → Body) × List Token). Leaves ts y.1) (some_same _ s b.next) l)
         | inr i ↦ elim (chose (eat (codes "return") ts) _ _ s i) [
           | inl w ↦ (let e = went (closed (codes ";") (expr_at (suc p)) w.x) _ s w.next in
@@ -187,8 +195,9 @@ pub record Placed (stmt : ReadStmt) (ts : List CodeToken) (fs : List Front) (at 
 pub placed_begins : (stmt : ReadStmt) (ts : List CodeToken) → Placed stmt ts [] 0
 placed_begins stmt ts = record { within = omega arith; going = begins stmt (tokens_of ts) }
 
--- the place of what is left
-pub place_of_rest : (ts rest : List CodeToken) (at : ℕ) → at ≤ length ts → Leaves (tokens_of (drop at ts)) (tokens_of rest) → (length rest < length ts - at) × (tokens_of (drop (length ts - length rest) ts) ≡ tokens_of rest)
+-- the place of the rest
+pub place_of_rest : (ts rest : List CodeToken) (at : ℕ) → at ≤ length ts → Leaves (tokens_of (drop at ts)) (tokens_of rest)
+    → (length rest < length ts - at) × (tokens_of (drop (length ts - length rest) ts) ≡ tokens_of rest)
 place_of_rest ts rest at w l =
     let n : length (tokens_of (drop at ts)) ≡ length ts - at = length-map (drop at ts) seen ∙ length-drop at ts in
     let m : length (tokens_of rest) ≡ length rest = length-map rest seen in
@@ -201,43 +210,54 @@ place_of_rest ts rest at w l =
     (f, ap tokens_of (sym t) ∙ r ∙ d)
 
 -- at a closing brace
-pub placed_ends : (stmt : ReadStmt) (ts r : List CodeToken) (ss : List CStmt) (at : ℕ) (v : Bool) → Placed stmt ts (map stmt_front ss) at → r ≡ drop at ts → v ≡ begins_text (codes "}") (tokens_of r) → v ≡ true → stmts_at stmt (suc (length (tokens_of ts))) (tokens_of ts) ≡ Some (body_tree ss, tokens_of r)
+pub placed_ends : (stmt : ReadStmt) (ts r : List CodeToken) (ss : List CStmt) (at : ℕ) (v : Bool) → Placed stmt ts (map stmt_front ss) at → r ≡ drop at ts
+    → v ≡ begins_text (codes "}") (tokens_of r) → v ≡ true → stmts_at stmt (suc (length (tokens_of ts))) (tokens_of ts) ≡ Some (body_tree ss, tokens_of r)
 placed_ends stmt ts r ss at v p e b h =
     let s = brace_some (tokens_of r) v b h in
-    let g : Going stmt (tokens_of ts) (map stmt_front ss) (tokens_of r) = subst (λ (z : List CodeToken). Going stmt (tokens_of ts) (map stmt_front ss) (tokens_of z)) (sym e) p.going in
+    let g : Going stmt (tokens_of ts) (map stmt_front ss) (tokens_of r) =
+    subst (λ (z : List CodeToken). Going stmt (tokens_of ts) (map stmt_front ss) (tokens_of z)) (sym e) p.going in
     ends stmt (tokens_of ts) (map stmt_front ss) (tokens_of r) s.0 g s.1
 
 -- where no statement is read
-pub placed_fails : (stmt : ReadStmt) (ts r : List CodeToken) (ss : List CStmt) (at : ℕ) (v : Bool) → Placed stmt ts (map stmt_front ss) at → r ≡ drop at ts → v ≡ begins_text (codes "}") (tokens_of r) → v ≡ false → stmt (tokens_of r) ≡ None → stmts_at stmt (suc (length (tokens_of ts))) (tokens_of ts) ≡ None
+pub placed_fails : (stmt : ReadStmt) (ts r : List CodeToken) (ss : List CStmt) (at : ℕ) (v : Bool) → Placed stmt ts (map stmt_front ss) at
+    → r ≡ drop at ts → v ≡ begins_text (codes "}") (tokens_of r) → v ≡ false → stmt (tokens_of r) ≡ None
+    → stmts_at stmt (suc (length (tokens_of ts))) (tokens_of ts) ≡ None
 placed_fails stmt ts r ss at v p e b h f =
-    let g : Going stmt (tokens_of ts) (map stmt_front ss) (tokens_of r) = subst (λ (z : List CodeToken). Going stmt (tokens_of ts) (map stmt_front ss) (tokens_of z)) (sym e) p.going in
+    let g : Going stmt (tokens_of ts) (map stmt_front ss) (tokens_of r) =
+    subst (λ (z : List CodeToken). Going stmt (tokens_of ts) (map stmt_front ss) (tokens_of z)) (sym e) p.going in
     fails stmt (tokens_of ts) (map stmt_front ss) (tokens_of r) g (brace_none (tokens_of r) v b h) f
 
--- the place behind a statement
+-- the place after a statement
 pub record Next (ts next : List CodeToken) (at : ℕ) : Type 0 where
   pub less : length next < length ts - at
   pub is : tokens_of (drop (length ts - length next) ts) ≡ tokens_of next
 
--- the place behind a statement
-pub next_place : (o i k : ℕ) (ts r next : List CodeToken) (f : Front) (at : ℕ) → o ≡ suc i → at ≤ length ts → r ≡ drop at ts → stmt_at o i (block_at o i k) (tokens_of r) ≡ Some (f, tokens_of next) → Next ts next at
+-- the place after a statement
+pub next_place : (o i k : ℕ) (ts r next : List CodeToken) (f : Front) (at : ℕ) → o ≡ suc i → at ≤ length ts → r ≡ drop at ts
+    → stmt_at o i (block_at o i k) (tokens_of r) ≡ Some (f, tokens_of next) → Next ts next at
 next_place o i k ts r next f at q w e h =
-    let h2 : stmt_at (suc i) i (block_at (suc i) i k) (tokens_of r) ≡ Some (f, tokens_of next) = subst (λ (z : ℕ). stmt_at z i (block_at z i k) (tokens_of r) ≡ Some (f, tokens_of next)) q h in
+    let h2 : stmt_at (suc i) i (block_at (suc i) i k) (tokens_of r) ≡ Some (f, tokens_of next) =
+    subst (λ (z : ℕ). stmt_at z i (block_at z i k) (tokens_of r) ≡ Some (f, tokens_of next)) q h in
     let l : Leaves (tokens_of r) (tokens_of next) = leaves i k (tokens_of r) (f, tokens_of next) h2 in
     let l2 : Leaves (tokens_of (drop at ts)) (tokens_of next) = subst (λ (z : List CodeToken). Leaves (tokens_of z) (tokens_of next)) e l in
     let x = place_of_rest ts next at w l2 in
     record { less = x.0; is = x.1 }
 
 -- one statement further
-pub placed_goes : (o i k : ℕ) (ts r next : List CodeToken) (ss ss' : List CStmt) (s : CStmt) (at : ℕ) (v : Bool) → o ≡ suc i → Placed (stmt_at o i (block_at o i k)) ts (map stmt_front ss) at → r ≡ drop at ts → v ≡ begins_text (codes "}") (tokens_of r) → v ≡ false
-    → stmt_at o i (block_at o i k) (tokens_of r) ≡ Some (stmt_front s, tokens_of next) → ss' ≡ ss ++ s ∷ [] → Placed (stmt_at o i (block_at o i k)) ts (map stmt_front ss') (length ts - length next)
+pub placed_goes : (o i k : ℕ) (ts r next : List CodeToken) (ss ss' : List CStmt) (s : CStmt) (at : ℕ) (v : Bool) → o ≡ suc i
+    → Placed (stmt_at o i (block_at o i k)) ts (map stmt_front ss) at → r ≡ drop at ts → v ≡ begins_text (codes "}") (tokens_of r) → v ≡ false
+    → stmt_at o i (block_at o i k) (tokens_of r) ≡ Some (stmt_front s, tokens_of next) → ss' ≡ ss ++ s ∷ []
+    → Placed (stmt_at o i (block_at o i k)) ts (map stmt_front ss') (length ts - length next)
 placed_goes o i k ts r next ss ss' s at v q p e b h f m =
     let n = next_place o i k ts r next (stmt_front s) at q p.within e f in
     let stmt : ReadStmt = stmt_at o i (block_at o i k) in
-    let g : Going stmt (tokens_of ts) (map stmt_front ss) (tokens_of r) = subst (λ (z : List CodeToken). Going stmt (tokens_of ts) (map stmt_front ss) (tokens_of z)) (sym e) p.going in
+    let g : Going stmt (tokens_of ts) (map stmt_front ss) (tokens_of r) =
+    subst (λ (z : List CodeToken). Going stmt (tokens_of ts) (map stmt_front ss) (tokens_of z)) (sym e) p.going in
     let lr : length (tokens_of r) ≡ length ts - at = length-map r seen ∙ ap length e ∙ length-drop at ts in
     let ln : length (tokens_of next) ≡ length next = length-map next seen in
     let nl : length (tokens_of next) < length (tokens_of r) = omega (arith, n.less, lr, ln) in
     let g2 = goes stmt (tokens_of ts) (map stmt_front ss) (tokens_of r) (tokens_of next) (stmt_front s) g (brace_none (tokens_of r) v b h) f nl in
     let mm : map stmt_front ss' ≡ map stmt_front ss ++ stmt_front s ∷ [] = ap (map stmt_front) m ∙ map-append stmt_front ss (s ∷ []) in
-    let g3 : Going stmt (tokens_of ts) (map stmt_front ss') (tokens_of next) = subst (λ (z : List Front). Going stmt (tokens_of ts) z (tokens_of next)) (sym mm) g2 in
+    let g3 : Going stmt (tokens_of ts) (map stmt_front ss') (tokens_of next) =
+    subst (λ (z : List Front). Going stmt (tokens_of ts) z (tokens_of next)) (sym mm) g2 in
     record { within = omega arith; going = subst (λ (z : List Token). Going stmt (tokens_of ts) (map stmt_front ss') z) (sym n.is) g3 }

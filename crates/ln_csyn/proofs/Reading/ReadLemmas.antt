@@ -1,4 +1,4 @@
--- What the reader answers.
+-- Proves that the reader returns the file that the bytes are, and refuses them only where they are none of the subset.
 use Rattle.std.proofs.Common.{◌≡◌, ℕ, suc, ◌&&◌, nat_le, Bool, true, false, List, [], ◌++◌, length, take, drop, Some, None, refl, ap, sym, ◌∙◌, subst}
 use Rattle.std.proofs.lemmas.List.{take-append-drop}
 use Rattle.ln_csyn.specs.Tree.{Expr, Body, Fun}
@@ -20,14 +20,16 @@ abbrev pub rest_keep : List Fun → Bool
 rest_keep fs = fresh_on [] (names_of fs) && each_fun (rest_keeps (names_of fs)) fs
 
 -- the limits as the reader has them
-limits : (o i k : ℕ) (ts : List Token) (w : _) → o ≡ 16 → i ≡ 15 → k ≡ 64 → funs_at (block_at o i k) (suc (length ts)) ts ≡ w → funs_at (block_at 16 15 64) (suc (length ts)) ts ≡ w
+limits : (o i k : ℕ) (ts : List Token) (w : _) → o ≡ 16 → i ≡ 15 → k ≡ 64 → funs_at (block_at o i k) (suc (length ts)) ts ≡ w
+    → funs_at (block_at 16 15 64) (suc (length ts)) ts ≡ w
 limits o i k ts w p q r h =
     let a : funs_at (block_at 16 i k) (suc (length ts)) ts ≡ w = subst (λ (z : ℕ). funs_at (block_at z i k) (suc (length ts)) ts ≡ w) p h in
     let b : funs_at (block_at 16 15 k) (suc (length ts)) ts ≡ w = subst (λ (z : ℕ). funs_at (block_at 16 z k) (suc (length ts)) ts ≡ w) q a in
     subst (λ (z : ℕ). funs_at (block_at 16 15 z) (suc (length ts)) ts ≡ w) r b
 
 -- functions that pass the tests are the file of the tokens
-pub read_ok : (o i k : ℕ) (ts : List Token) (fs : List Fun) (v : Bool) → o ≡ 16 → i ≡ 15 → k ≡ 64 → funs_at (block_at o i k) (suc (length ts)) ts ≡ Some fs → v ≡ rest_keep fs → v ≡ true → Spelt ts fs
+pub read_ok : (o i k : ℕ) (ts : List Token) (fs : List Fun) (v : Bool) → o ≡ 16 → i ≡ 15 → k ≡ 64
+    → funs_at (block_at o i k) (suc (length ts)) ts ≡ Some fs → v ≡ rest_keep fs → v ≡ true → Spelt ts fs
 read_ok o i k ts fs v p q r h e t =
     let s = file_is_sound ts fs (limits o i k ts (Some fs) p q r h) in
     record { file = s.0; kept = keeps_is fs s.1 ∙ sym e ∙ t }
@@ -36,7 +38,8 @@ some_same : (x y : List Fun) → Some x ≡ Some y → x ≡ y
 some_same x y h = cc
 
 -- where they fail the tokens are no file
-pub read_no : (o i k : ℕ) (ts : List Token) (fs : List Fun) (v : Bool) → o ≡ 16 → i ≡ 15 → k ≡ 64 → funs_at (block_at o i k) (suc (length ts)) ts ≡ Some fs → v ≡ rest_keep fs → v ≡ false → (gs : List Fun) → Spelt ts gs → ⊥
+pub read_no : (o i k : ℕ) (ts : List Token) (fs : List Fun) (v : Bool) → o ≡ 16 → i ≡ 15 → k ≡ 64
+    → funs_at (block_at o i k) (suc (length ts)) ts ≡ Some fs → v ≡ rest_keep fs → v ≡ false → (gs : List Fun) → Spelt ts gs → ⊥
 read_no o i k ts fs v p q r h e t gs d =
     let l = limits o i k ts (Some fs) p q r h in
     let s = file_is_sound ts fs l in
@@ -47,7 +50,8 @@ read_no o i k ts fs v p q r h e t gs d =
     let z : true ≡ false = sym kt ∙ kf in absurd (cc)
 
 -- where nothing is read the tokens are no file
-pub read_none : (o i k : ℕ) (ts : List Token) → o ≡ 16 → i ≡ 15 → k ≡ 64 → funs_at (block_at o i k) (suc (length ts)) ts ≡ None → (gs : List Fun) → Spelt ts gs → ⊥
+pub read_none : (o i k : ℕ) (ts : List Token) → o ≡ 16 → i ≡ 15 → k ≡ 64 → funs_at (block_at o i k) (suc (length ts)) ts ≡ None
+    → (gs : List Fun) → Spelt ts gs → ⊥
 read_none o i k ts p q r h gs d =
     let l = limits o i k ts None p q r h in
     let c = file_is_complete ts gs d.file d.kept in
@@ -55,7 +59,8 @@ read_none o i k ts p q r h gs d =
 
 -- the first line
 pub first_some : (bytes f r : List ℕ) → f ≡ take 20 bytes → r ≡ drop 20 bytes → f ≡ first_line → bytes ≡ first_line ++ r
-first_some bytes f r e d h = sym (take-append-drop 20 bytes) ∙ ap (λ (z : List ℕ). z ++ drop 20 bytes) (sym e ∙ h) ∙ ap (λ (z : List ℕ). first_line ++ z) (sym d)
+first_some bytes f r e d h =
+    sym (take-append-drop 20 bytes) ∙ ap (λ (z : List ℕ). z ++ drop 20 bytes) (sym e ∙ h) ∙ ap (λ (z : List ℕ). first_line ++ z) (sym d)
 
 -- where it is another one
 pub first_none : (bytes f : List ℕ) → f ≡ take 20 bytes → (f ≡ first_line → ⊥) → (r : List ℕ) → bytes ≡ first_line ++ r → ⊥
@@ -72,7 +77,8 @@ no_tokens bytes rest e n gs c =
     n c.tokens (subst (λ (z : List ℕ). Lexed 2 z c.tokens) r c.lexed)
 
 -- where the tokens are no file
-pub no_file : (bytes rest : List ℕ) (ts : List Token) → bytes ≡ first_line ++ rest → Lexed 2 rest ts → ((gs : List Fun) → Spelt ts gs → ⊥) → (gs : List Fun) → CText bytes gs → ⊥
+pub no_file : (bytes rest : List ℕ) (ts : List Token) → bytes ≡ first_line ++ rest → Lexed 2 rest ts → ((gs : List Fun) → Spelt ts gs → ⊥)
+    → (gs : List Fun) → CText bytes gs → ⊥
 no_file bytes rest ts e l n gs c =
     let r = behind_first c.rest rest (sym c.first ∙ e) in
     let t = one_lexed_by (subst (λ (z : List ℕ). Lexed 2 z c.tokens) r c.lexed) l in
@@ -87,7 +93,8 @@ whole bytes rest ts fs e l s = record { rest = rest; tokens = ts; first = e; lex
 both : (a b : Bool) → a ≡ true → b ≡ true → (a && b) ≡ true
 both a b h k = rw (h, k) refl
 
-number_by : (text : List ℕ) (n : ℕ) (u v : Bool) → is_numeral text ≡ u → nat_le (decimal_value text) most_number ≡ v → number_of text ≡ Some n → nat_le n most_number ≡ true
+number_by : (text : List ℕ) (n : ℕ) (u v : Bool) → is_numeral text ≡ u → nat_le (decimal_value text) most_number ≡ v
+    → number_of text ≡ Some n → nat_le n most_number ≡ true
 number_by text n true true p q h =
     let e : number_of text ≡ Some (decimal_value text) = rw (p, q) refl in
     let f : Some (decimal_value text) ≡ Some n = sym e ∙ h in
@@ -116,9 +123,11 @@ exprs_body : {ts rest : List Token} {b : Body} → IsBody ts rest b → each_exp
 exprs_body (g.end h) = refl
 exprs_body (g.decl {e = e} {b = b} k x q d s c) = both (has_words e) (each_expr has_words b) (words_expr d) (exprs_body c)
 exprs_body (g.group {a = y} {b = z} h a b) = both (each_expr has_words y) (each_expr has_words z) (exprs_body a) (exprs_body b)
-exprs_body (g.when {e = e} {a = y} {b = z} h l d r m a b) = three (has_words e) (each_expr has_words y) (each_expr has_words z) (words_expr d) (exprs_body a) (exprs_body b) where
-  three : (u v w : Bool) → u ≡ true → v ≡ true → w ≡ true → (u && v && w) ≡ true
-  three u v w p q r = rw (p, q, r) refl
+exprs_body (g.when {e = e} {a = y} {b = z} h l d r m a b) =
+    three (has_words e) (each_expr has_words y) (each_expr has_words z) (words_expr d) (exprs_body a) (exprs_body b)
+  where
+    three : (u v w : Bool) → u ≡ true → v ≡ true → w ≡ true → (u && v && w) ≡ true
+    three u v w p q r = rw (p, q, r) refl
 exprs_body (g.return {e = e} {b = b} h d s c) = both (has_words e) (each_expr has_words b) (words_expr d) (exprs_body c)
 
 names_body : {ts rest : List Token} {b : Body} → IsBody ts rest b → each_name is_c_name b ≡ true
@@ -130,7 +139,8 @@ names_body (g.return h d s c) = names_body c
 
 words_head : {ts rest : List Token} {o : Bool} {f : Fun} → IsHead ts rest o f → fun_words f ≡ true
 words_head (g.head {x = x} {b = b} h n l i r c d) =
-    both (is_c_name x.text) (each_expr has_words b && each_name is_c_name b) n (both (each_expr has_words b) (each_name is_c_name b) (exprs_body d) (names_body d))
+    both (is_c_name x.text) (each_expr has_words b && each_name is_c_name b) n
+    (both (each_expr has_words b) (each_name is_c_name b) (exprs_body d) (names_body d))
 
 words_fun : {ts rest : List Token} {f : Fun} → IsFun ts rest f → fun_words f ≡ true
 words_fun (g.own h d) = words_head d

@@ -1,4 +1,4 @@
--- What is read is derived: expressions.
+-- Proves that what is read is derived: expressions.
 use Rattle.std.proofs.Common.{◌≡◌, ℕ, zero, suc, ◌≤◌, Bool, true, false, List, [], ◌∷◌, Some, None, refl, sym, ap, ◌∙◌, subst, arith, ◌⊎◌, inl, inr}
 use Rattle.std.specs.Prelude.{codes, bytes_eq, Option}
 use Rattle.std.proofs.Math.Nat.{max-le}
@@ -8,7 +8,8 @@ use Rattle.ln_csyn.specs.declared.tree.COp.{COp}
 use Rattle.ln_csyn.specs.Tree.{Expr, Number, Value, Index, Call, Inner}
 use Rattle.ln_csyn.specs.Words.{is_c_name, number_of, type_of, op_of}
 use Rattle.ln_csyn.specs.Grammar.{Token, Sort, Whole, Primary, Derives, two, minus, cast, number, name, value, index, call, inner}
-use Rattle.ln_csyn.specs.Reading.{go_on, choose, eat, with_rest, type_at, number_at, op_at, name_at, cast_at, cast_rest, closed, minus_rest, two_rest, primary, named, place_rest, place_of, call_rest, inside, expr_at, ReadExpr}
+use Rattle.ln_csyn.specs.Reading.{go_on, choose, eat, with_rest, type_at, number_at, op_at, name_at, cast_at, cast_rest, closed, minus_rest}
+use Rattle.ln_csyn.specs.Reading.{two_rest, primary, named, place_rest, place_of, call_rest, inside, expr_at, ReadExpr}
 use Rattle.ln_csyn.specs.Keeps.{parens}
 
 -- it went on with this
@@ -44,7 +45,7 @@ ate_by u t ts us true e h =
     subst (λ (w : List Token). Ate u (t ∷ ts) w) s (record { t = t; is = refl; text = (bytes_eq-Decides t.text u).0 e })
 ate_by u t ts us false e h = let q : eat u (t ∷ ts) ≡ None = rw e refl in absurd (cc)
 
--- what was eaten stood at the front
+-- what was taken was at the beginning
 pub ate : (u : List ℕ) (ts us : List Token) → eat u ts ≡ Some us → Ate u ts us
 ate u [] us h = absurd (cc)
 ate u (t ∷ ts) us h = ate_by u t ts us (bytes_eq t.text u) refl h
@@ -55,12 +56,13 @@ pub record Took {A : Type 0} (f : List ℕ → Option A) (ts : List Token) (y : 
   pub is : ts ≡ t ∷ y.1
   pub reads : f t.text ≡ Some y.0
 
-took_by : {A : Type 0} (f : List ℕ → Option A) (t : Token) (ts : List Token) (y : A × List Token) (o : Option A) → f t.text ≡ o → with_rest ts o ≡ Some y → Took f (t ∷ ts) y
+took_by : {A : Type 0} (f : List ℕ → Option A) (t : Token) (ts : List Token) (y : A × List Token) (o : Option A) → f t.text ≡ o
+    → with_rest ts o ≡ Some y → Took f (t ∷ ts) y
 took_by f t ts y None e h = absurd (cc)
 took_by f t ts y (Some x) e h =
     subst (λ (z : _ × List Token). Took f (t ∷ ts) z) (some_same (x, ts) y h) (record { t = t; is = refl; reads = e })
 
--- a NUMBER stood at the front
+-- the first token was a NUMBER
 pub took_number : (ts : List Token) (y : ℕ × List Token) → number_at ts ≡ Some y → Took number_of ts y
 took_number [] y h = absurd (cc)
 took_number (t ∷ ts) y h = took_by number_of t ts y (number_of t.text) refl h
@@ -102,7 +104,7 @@ pub record Sound (s : Sort) (d : ℕ) (ts : List Token) (y : Expr × List Token)
 abbrev pub IsSound : ℕ → ReadExpr → Type 0
 IsSound d go = (ts : List Token) (y : Expr × List Token) → go ts ≡ Some y → Sound Whole d ts y
 
--- an expression, with a token of this text behind it
+-- an expression, with a token of this text after it
 pub record Closes (u : List ℕ) (d : ℕ) (ts : List Token) (y : Expr × List Token) : Type 0 where
   pub t : Token
   pub text : t.text ≡ u
@@ -118,13 +120,16 @@ closes u d go hyp ts y h =
     let m : Derives Whole ts (a.t ∷ v.x) w.x.0 = subst (λ (z : List Token). Derives Whole ts z w.x.0) a.is s.is in
     subst (λ (z : Expr × List Token). Closes u d ts z) (some_same _ y v.next) (record { t = a.t; text = a.text; is = m; within = s.within })
 
-minus_sound : (d : ℕ) (go : ReadExpr) → IsSound d go → (p q : Token) → p.text ≡ codes "(" → q.text ≡ codes "-" → (ts : List Token) (y : Expr × List Token) → minus_rest go ts ≡ Some y → Sound Whole (suc d) (p ∷ q ∷ ts) y
+minus_sound : (d : ℕ) (go : ReadExpr) → IsSound d go → (p q : Token) → p.text ≡ codes "(" → q.text ≡ codes "-"
+    → (ts : List Token) (y : Expr × List Token) → minus_rest go ts ≡ Some y → Sound Whole (suc d) (p ∷ q ∷ ts) y
 minus_sound d go hyp p q hp hq ts y h =
     let w = went (closed (codes ")") go ts) _ y h in
     let s = closes (codes ")") d go hyp ts w.x w.found in
-    subst (λ (z : Expr × List Token). Sound Whole (suc d) (p ∷ q ∷ ts) z) (some_same _ y w.next) (record { is = minus hp hq s.is s.text; within = omega (arith, s.within) })
+    subst (λ (z : Expr × List Token). Sound Whole (suc d) (p ∷ q ∷ ts) z) (some_same _ y w.next)
+    (record { is = minus hp hq s.is s.text; within = omega (arith, s.within) })
 
-two_sound : (d : ℕ) (go : ReadExpr) → IsSound d go → (p : Token) → p.text ≡ codes "(" → (ts : List Token) (y : Expr × List Token) → two_rest go ts ≡ Some y → Sound Whole (suc d) (p ∷ ts) y
+two_sound : (d : ℕ) (go : ReadExpr) → IsSound d go → (p : Token) → p.text ≡ codes "(" → (ts : List Token) (y : Expr × List Token)
+    → two_rest go ts ≡ Some y → Sound Whole (suc d) (p ∷ ts) y
 two_sound d go hyp p hp ts y h =
     let w = went (go ts) _ y h in
     let o = went (op_at w.x.1) _ y w.next in
@@ -133,7 +138,8 @@ two_sound d go hyp p hp ts y h =
     let s = hyp ts w.x w.found in
     let r = closes (codes ")") d go hyp o.x.1 u.x u.found in
     let m : Derives Whole ts (k.t ∷ o.x.1) w.x.0 = subst (λ (z : List Token). Derives Whole ts z w.x.0) k.is s.is in
-    subst (λ (z : Expr × List Token). Sound Whole (suc d) (p ∷ ts) z) (some_same _ y u.next) (record { is = two hp m k.reads r.is r.text; within = omega (arith, max-le s.within r.within) })
+    subst (λ (z : Expr × List Token). Sound Whole (suc d) (p ∷ ts) z) (some_same _ y u.next)
+    (record { is = two hp m k.reads r.is r.text; within = omega (arith, max-le s.within r.within) })
 
 -- the `( TYPE )` of a cast stood there
 record Casts (ts : List Token) (y : CType × List Token) : Type 0 where
@@ -153,23 +159,36 @@ casts ts y h =
     let a = ate (codes "(") ts w.x w.found in
     let k = took_type w.x v.x v.found in
     let b = ate (codes ")") v.x.1 u.x u.found in
-    subst (λ (z : CType × List Token). Casts ts z) (some_same _ y u.next) (record { q = a.t; k = k.t; r = b.t; is = a.is ∙ ap (λ (z : List Token). a.t ∷ z) (k.is ∙ ap (λ (z : List Token). k.t ∷ z) b.is); left = a.text; type = k.reads; right = b.text })
+    subst (λ (z : CType × List Token). Casts ts z) (some_same _ y u.next) (record {
+      q = a.t;
+      k = k.t;
+      r = b.t;
+      is = a.is ∙ ap (λ (z : List Token). a.t ∷ z) (k.is ∙ ap (λ (z : List Token). k.t ∷ z) b.is);
+      left = a.text;
+      type = k.reads;
+      right = b.text;
+    })
 
 -- `v[N]` or `x[N]`
-places_by : (t : CType) (d : ℕ) (p q m r : Token) (rest : List Token) (n : ℕ) (e : Expr) → q.text ≡ codes "[" → number_of m.text ≡ Some n → r.text ≡ codes "]" → (u v : Bool) → bytes_eq p.text (codes "v") ≡ u → bytes_eq p.text (codes "x") ≡ v → place_of t p.text n ≡ Some e → Sound (Primary t) (suc (suc d)) (p ∷ q ∷ m ∷ r ∷ rest) (e, rest)
+places_by : (t : CType) (d : ℕ) (p q m r : Token) (rest : List Token) (n : ℕ) (e : Expr) → q.text ≡ codes "[" → number_of m.text ≡ Some n
+    → r.text ≡ codes "]" → (u v : Bool) → bytes_eq p.text (codes "v") ≡ u → bytes_eq p.text (codes "x") ≡ v → place_of t p.text n ≡ Some e
+    → Sound (Primary t) (suc (suc d)) (p ∷ q ∷ m ∷ r ∷ rest) (e, rest)
 places_by t d p q m r rest n e hq hm hr true v a b h =
     let g : place_of t p.text n ≡ Some (Value t n) = rw a refl in
-    subst (λ (z : Expr). Sound (Primary t) (suc (suc d)) (p ∷ q ∷ m ∷ r ∷ rest) (z, rest)) (some_same _ e (sym g ∙ h)) (record { is = value ((bytes_eq-Decides p.text (codes "v")).0 a) hq hm hr; within = omega arith })
+    subst (λ (z : Expr). Sound (Primary t) (suc (suc d)) (p ∷ q ∷ m ∷ r ∷ rest) (z, rest)) (some_same _ e (sym g ∙ h))
+    (record { is = value ((bytes_eq-Decides p.text (codes "v")).0 a) hq hm hr; within = omega arith })
 places_by t d p q m r rest n e hq hm hr false true a b h =
     let g : place_of t p.text n ≡ Some (Index t n) = rw (a, b) refl in
-    subst (λ (z : Expr). Sound (Primary t) (suc (suc d)) (p ∷ q ∷ m ∷ r ∷ rest) (z, rest)) (some_same _ e (sym g ∙ h)) (record { is = index ((bytes_eq-Decides p.text (codes "x")).0 b) hq hm hr; within = omega arith })
+    subst (λ (z : Expr). Sound (Primary t) (suc (suc d)) (p ∷ q ∷ m ∷ r ∷ rest) (z, rest)) (some_same _ e (sym g ∙ h))
+    (record { is = index ((bytes_eq-Decides p.text (codes "x")).0 b) hq hm hr; within = omega arith })
 places_by t d p q m r rest n e hq hm hr false false a b h = let g : place_of t p.text n ≡ None = rw (a, b) refl in absurd (cc)
 
 with_found : {A : Type 0} (ts : List Token) (o : Option A) (y : A × List Token) → with_rest ts o ≡ Some y → (o ≡ Some y.0) × (ts ≡ y.1)
 with_found ts None y h = absurd (cc)
 with_found ts (Some x) y h = let e = some_same (x, ts) y h in (ap (λ (z : _ × List Token). Some z.0) e, ap (λ (z : _ × List Token). z.1) e)
 
-place_sound : (t : CType) (d : ℕ) (p q : Token) (ts : List Token) (y : Expr × List Token) → q.text ≡ codes "[" → place_rest t p.text ts ≡ Some y → Sound (Primary t) (suc (suc d)) (p ∷ q ∷ ts) y
+place_sound : (t : CType) (d : ℕ) (p q : Token) (ts : List Token) (y : Expr × List Token) → q.text ≡ codes "["
+    → place_rest t p.text ts ≡ Some y → Sound (Primary t) (suc (suc d)) (p ∷ q ∷ ts) y
 place_sound t d p q ts y hq h =
     let w = went (number_at ts) _ y h in
     let v = went (eat (codes "]") w.x.1) _ y w.next in
@@ -179,38 +198,48 @@ place_sound t d p q ts y hq h =
     let e : n.t ∷ a.t ∷ y.1 ≡ ts = sym (n.is ∙ ap (λ (z : List Token). n.t ∷ z) (a.is ∙ ap (λ (z : List Token). a.t ∷ z) f.1)) in
     subst (λ (z : List Token). Sound (Primary t) (suc (suc d)) (p ∷ q ∷ z) y) e (places_by t d p q n.t a.t y.1 w.x.0 y.0 hq n.reads a.text _ _ refl refl f.0)
 
-call_sound : (t : CType) (d : ℕ) (p q : Token) (ts : List Token) (y : Expr × List Token) → is_c_name p.text ≡ true → q.text ≡ codes "(" → call_rest t p.text ts ≡ Some y → Sound (Primary t) (suc (suc d)) (p ∷ q ∷ ts) y
+call_sound : (t : CType) (d : ℕ) (p q : Token) (ts : List Token) (y : Expr × List Token) → is_c_name p.text ≡ true → q.text ≡ codes "("
+    → call_rest t p.text ts ≡ Some y → Sound (Primary t) (suc (suc d)) (p ∷ q ∷ ts) y
 call_sound t d p q ts y hp hq h =
     let w = went (eat (codes "v") ts) _ y h in
     let v = went (eat (codes ")") w.x) _ y w.next in
     let a = ate (codes "v") ts w.x w.found in
     let b = ate (codes ")") w.x v.x v.found in
     let e : a.t ∷ b.t ∷ v.x ≡ ts = sym (a.is ∙ ap (λ (z : List Token). a.t ∷ z) b.is) in
-    let m : Derives (Primary t) (p ∷ q ∷ ts) v.x (Call t p.text) = subst (λ (z : List Token). Derives (Primary t) (p ∷ q ∷ z) v.x (Call t p.text)) e (call hp hq a.text b.text) in
+    let m : Derives (Primary t) (p ∷ q ∷ ts) v.x (Call t p.text) =
+    subst (λ (z : List Token). Derives (Primary t) (p ∷ q ∷ z) v.x (Call t p.text)) e (call hp hq a.text b.text) in
     subst (λ (z : Expr × List Token). Sound (Primary t) (suc (suc d)) (p ∷ q ∷ ts) z) (some_same _ y v.next) (record { is = m; within = omega arith })
 
-named_sound : (t : CType) (d : ℕ) (p : Token) (ts : List Token) (y : Expr × List Token) → is_c_name p.text ≡ true → named t p.text ts ≡ Some y → Sound (Primary t) (suc (suc d)) (p ∷ ts) y
+named_sound : (t : CType) (d : ℕ) (p : Token) (ts : List Token) (y : Expr × List Token) → is_c_name p.text ≡ true
+    → named t p.text ts ≡ Some y → Sound (Primary t) (suc (suc d)) (p ∷ ts) y
 named_sound t d p ts y hp h =
     elim (chose (eat (codes "[") ts) (place_rest t p.text) _ y h) [
-      | inl w ↦ (let a = ate (codes "[") ts w.x w.found in subst (λ (z : List Token). Sound (Primary t) (suc (suc d)) (p ∷ z) y) (sym a.is) (place_sound t d p a.t w.x y a.text w.next))
+      | inl w ↦ (let a = ate (codes "[") ts w.x w.found in
+          subst (λ (z : List Token). Sound (Primary t) (suc (suc d)) (p ∷ z) y) (sym a.is) (place_sound t d p a.t w.x y a.text w.next))
       | inr g ↦ elim (chose (eat (codes "(") ts) (call_rest t p.text) _ y g) [
-        | inl w ↦ (let a = ate (codes "(") ts w.x w.found in subst (λ (z : List Token). Sound (Primary t) (suc (suc d)) (p ∷ z) y) (sym a.is) (call_sound t d p a.t w.x y hp a.text w.next))
-        | inr k ↦ subst (λ (z : Expr × List Token). Sound (Primary t) (suc (suc d)) (p ∷ ts) z) (some_same _ y k) (record { is = name hp; within = omega arith })
+        | inl w ↦ (let a = ate (codes "(") ts w.x w.found in
+            subst (λ (z : List Token). Sound (Primary t) (suc (suc d)) (p ∷ z) y) (sym a.is) (call_sound t d p a.t w.x y hp a.text w.next))
+        | inr k ↦ subst (λ (z : Expr × List Token). Sound (Primary t) (suc (suc d)) (p ∷ ts) z) (some_same _ y k)
+            (record { is = name hp; within = omega arith })
       ]
     ]
 
-inner_sound : (d : ℕ) (go : ReadExpr) → IsSound (suc d) go → (t : CType) (ts : List Token) (y : Expr × List Token) → go_on (go ts) (λ e. Some (Inner t e.0, e.1)) ≡ Some y → Sound (Primary t) (suc (suc d)) ts y
+inner_sound : (d : ℕ) (go : ReadExpr) → IsSound (suc d) go → (t : CType) (ts : List Token) (y : Expr × List Token)
+    → go_on (go ts) (λ e. Some (Inner t e.0, e.1)) ≡ Some y → Sound (Primary t) (suc (suc d)) ts y
 inner_sound d go hyp t ts y h =
     let w = went (go ts) (λ (e : Expr × List Token). Some (Inner t e.0, e.1)) y h in
     let s = hyp ts w.x w.found in
     let one : 1 ≤ suc d = omega arith in
-    subst (λ (z : Expr × List Token). Sound (Primary t) (suc (suc d)) ts z) (some_same _ y w.next) (record { is = inner s.is; within = omega (arith, max-le one s.within) })
+    subst (λ (z : Expr × List Token). Sound (Primary t) (suc (suc d)) ts z) (some_same _ y w.next)
+    (record { is = inner s.is; within = omega (arith, max-le one s.within) })
 
-primary_sound : (d : ℕ) (go : ReadExpr) → IsSound (suc d) go → (t : CType) (ts : List Token) (y : Expr × List Token) → primary go t ts ≡ Some y → Sound (Primary t) (suc (suc d)) ts y
+primary_sound : (d : ℕ) (go : ReadExpr) → IsSound (suc d) go → (t : CType) (ts : List Token) (y : Expr × List Token)
+    → primary go t ts ≡ Some y → Sound (Primary t) (suc (suc d)) ts y
 primary_sound d go hyp t ts y h =
     elim (chose (number_at ts) _ _ y h) [
       | inl w ↦ (let n = took_number ts w.x w.found in
-          let m : Derives (Primary t) ts w.x.1 (Number t w.x.0) = subst (λ (z : List Token). Derives (Primary t) z w.x.1 (Number t w.x.0)) (sym n.is) (number n.reads) in
+          let m : Derives (Primary t) ts w.x.1 (Number t w.x.0) =
+          subst (λ (z : List Token). Derives (Primary t) z w.x.1 (Number t w.x.0)) (sym n.is) (number n.reads) in
           subst (λ (z : Expr × List Token). Sound (Primary t) (suc (suc d)) ts z) (some_same _ y w.next) (record { is = m; within = omega arith }))
       | inr g ↦ elim (chose (name_at ts) _ _ y g) [
         | inl w ↦ (let n = was_named ts w.x w.found in
@@ -220,7 +249,8 @@ primary_sound d go hyp t ts y h =
       ]
     ]
 
-cast_sound : (d : ℕ) (go : ReadExpr) → IsSound d go → (p q k r : Token) (t : CType) → p.text ≡ codes "(" → q.text ≡ codes "(" → type_of k.text ≡ Some t → r.text ≡ codes ")" → (ts : List Token) (y : Expr × List Token) → cast_rest d go t ts ≡ Some y → Sound Whole (suc d) (p ∷ q ∷ k ∷ r ∷ ts) y
+cast_sound : (d : ℕ) (go : ReadExpr) → IsSound d go → (p q k r : Token) (t : CType) → p.text ≡ codes "(" → q.text ≡ codes "(" → type_of k.text ≡ Some t
+    → r.text ≡ codes ")" → (ts : List Token) (y : Expr × List Token) → cast_rest d go t ts ≡ Some y → Sound Whole (suc d) (p ∷ q ∷ k ∷ r ∷ ts) y
 cast_sound zero go hyp p q k r t hp hq hk hr ts y h = absurd (cc)
 cast_sound (suc d) go hyp p q k r t hp hq hk hr ts y h =
     let w = went (primary go t ts) _ y h in
@@ -228,16 +258,19 @@ cast_sound (suc d) go hyp p q k r t hp hq hk hr ts y h =
     let a = ate (codes ")") w.x.1 v.x v.found in
     let s = primary_sound d go hyp t ts w.x w.found in
     let m : Derives (Primary t) ts (a.t ∷ v.x) w.x.0 = subst (λ (z : List Token). Derives (Primary t) ts z w.x.0) a.is s.is in
-    subst (λ (z : Expr × List Token). Sound Whole (suc (suc d)) (p ∷ q ∷ k ∷ r ∷ ts) z) (some_same _ y v.next) (record { is = cast hp hq hk hr m a.text; within = s.within })
+    subst (λ (z : Expr × List Token). Sound Whole (suc (suc d)) (p ∷ q ∷ k ∷ r ∷ ts) z) (some_same _ y v.next)
+    (record { is = cast hp hq hk hr m a.text; within = s.within })
 
-inside_sound : (d : ℕ) (go : ReadExpr) → IsSound d go → (p : Token) → p.text ≡ codes "(" → (ts : List Token) (y : Expr × List Token) → inside d go ts ≡ Some y → Sound Whole (suc d) (p ∷ ts) y
+inside_sound : (d : ℕ) (go : ReadExpr) → IsSound d go → (p : Token) → p.text ≡ codes "(" → (ts : List Token) (y : Expr × List Token)
+    → inside d go ts ≡ Some y → Sound Whole (suc d) (p ∷ ts) y
 inside_sound d go hyp p hp ts y h =
     elim (chose (eat (codes "-") ts) (minus_rest go) _ y h) [
       | inl w ↦ (let a = ate (codes "-") ts w.x w.found in
           subst (λ (z : List Token). Sound Whole (suc d) (p ∷ z) y) (sym a.is) (minus_sound d go hyp p a.t hp a.text w.x y w.next))
       | inr g ↦ elim (chose (cast_at ts) _ (two_rest go ts) y g) [
         | inl w ↦ (let c = casts ts w.x w.found in
-            subst (λ (z : List Token). Sound Whole (suc d) (p ∷ z) y) (sym c.is) (cast_sound d go hyp p c.q c.k c.r w.x.0 hp c.left c.type c.right w.x.1 y w.next))
+            subst (λ (z : List Token). Sound Whole (suc d) (p ∷ z) y) (sym c.is)
+            (cast_sound d go hyp p c.q c.k c.r w.x.0 hp c.left c.type c.right w.x.1 y w.next))
         | inr k ↦ two_sound d go hyp p hp ts y k
       ]
     ]

@@ -1,14 +1,18 @@
--- What is read is derived: statements, functions, files.
-use Rattle.std.proofs.Common.{◌≡◌, ℕ, zero, suc, ◌≤◌, Bool, true, false, ◌&&◌, nat_le, List, [], ◌∷◌, length, Some, refl, sym, ap, ◌∙◌, subst, arith, max, inl, inr}
+-- Proves that what is read is derived: statements, functions, files.
+use Rattle.std.proofs.Common.{◌≡◌, ℕ, zero, suc, ◌≤◌, Bool, true, false, ◌&&◌, nat_le, List, [], ◌∷◌, length, Some, refl, sym, ap, ◌∙◌}
+use Rattle.std.proofs.Common.{subst, arith, max, inl, inr}
 use Rattle.std.specs.Prelude.{codes}
 use Rattle.std.proofs.Math.Nat.{max-le}
 use Rattle.std.proofs.lemmas.Bool.{le-leb}
 use Rattle.ln_csyn.specs.declared.tree.CType.{CType}
 use Rattle.ln_csyn.specs.Tree.{Body, End, Decl, Group, If, Fun}
 use Rattle.ln_csyn.specs.Words.{type_of}
-use Rattle.ln_csyn.specs.Grammar.{Token, IsExpr, IsBody, end, decl, group, when, return, IsPointer, pointer, IsParameters, one, both, IsHead, head, IsFun, own, shared, IsFile}
+use Rattle.ln_csyn.specs.Grammar.{Token, IsExpr, IsBody, end, decl, group, when, return, IsPointer, pointer, IsParameters, one, both}
+use Rattle.ln_csyn.specs.Grammar.{IsHead, head, IsFun, own, shared, IsFile}
 use Rattle.ln_csyn.specs.Grammar as g
-use Rattle.ln_csyn.specs.Reading.{eat, type_at, name_at, line_at, expr_at, closed, decl_rest, if_rest, return_rest, group_rest, stmt_at, stmts_at, block_at, pointer_at, both_rest, parameters_at, words_at, head_at, fun_at, funs_at, ReadStmt, ReadBlock}
+use Rattle.ln_csyn.specs.Reading.{eat, type_at, name_at, line_at, expr_at, closed, decl_rest, if_rest, return_rest, group_rest, stmt_at}
+use Rattle.ln_csyn.specs.Reading.{stmts_at, block_at, pointer_at, both_rest, parameters_at, words_at, head_at, fun_at, funs_at, ReadStmt}
+use Rattle.ln_csyn.specs.Reading.{ReadBlock}
 use Rattle.ln_csyn.specs.Keeps.{parens, parens_in, braces_in, is_small, each_fun}
 use Rattle.ln_csyn.proofs.Reading.Sound.{went, chose, some_same, ate, took_type, was_named, closes, expr_sound}
 use Rattle.ln_csyn.proofs.Reading.CompleteFile.{Within, AllWithin}
@@ -31,7 +35,7 @@ pub record SoundBlock (p k : ℕ) (ts : List Token) (y : Body × ℕ × List Tok
   pub parens : parens_in y.0 ≤ suc p
   pub braces : suc (braces_in y.0) ≤ k
 
--- a statement before what is read behind it
+-- a statement before what is read after it
 abbrev pub SoundStmt : ℕ → ℕ → List Token → (Body → Body) × List Token → Type 0
 SoundStmt p k ts s = (y : Body × List Token) → SoundBody p k s.1 y → SoundBody p k ts (s.0 y.0, y.1)
 
@@ -41,11 +45,12 @@ IsBlockSound p k block = (ts : List Token) (y : Body × ℕ × List Token) → b
 abbrev pub IsStmtSound : ℕ → ℕ → ReadStmt → Type 0
 IsStmtSound p k stmt = (ts : List Token) (s : (Body → Body) × List Token) → stmt ts ≡ Some s → SoundStmt p k ts s
 
--- the front token's line
+-- the first token's line
 line_of_front : (t : Token) (ts us : List Token) → ts ≡ t ∷ us → line_at ts ≡ t.line
 line_of_front t ts us e = rw e refl
 
-decl_sound : (p k : ℕ) (m : Token) (t : CType) → type_of m.text ≡ Some t → (ts : List Token) (s : (Body → Body) × List Token) → decl_rest (expr_at (suc p)) m.line t ts ≡ Some s → SoundStmt p k (m ∷ ts) s
+decl_sound : (p k : ℕ) (m : Token) (t : CType) → type_of m.text ≡ Some t → (ts : List Token) (s : (Body → Body) × List Token)
+    → decl_rest (expr_at (suc p)) m.line t ts ≡ Some s → SoundStmt p k (m ∷ ts) s
 decl_sound p k m t hm ts s h =
     let x = went (name_at ts) _ s h in
     let q = went (eat (codes "=") x.x.1) _ s x.next in
@@ -61,7 +66,8 @@ decl_sound p k m t hm ts s h =
     let r3 : IsBody (m ∷ ts) y.1 (Decl m.line t x.x.0 e.x.0 y.0) = subst (λ (w : List ℕ). IsBody (m ∷ ts) y.1 (Decl m.line t w e.x.0 y.0)) n.text r2 in
     record { is = r3; parens = omega (arith, max-le v.within c.parens); braces = c.braces })
 
-if_sound : (p k : ℕ) (block : ReadBlock) → IsBlockSound p k block → (m : Token) → m.text ≡ codes "if" → (ts : List Token) (s : (Body → Body) × List Token) → if_rest (expr_at p) block m.line ts ≡ Some s → SoundStmt p k (m ∷ ts) s
+if_sound : (p k : ℕ) (block : ReadBlock) → IsBlockSound p k block → (m : Token) → m.text ≡ codes "if"
+    → (ts : List Token) (s : (Body → Body) × List Token) → if_rest (expr_at p) block m.line ts ≡ Some s → SoundStmt p k (m ∷ ts) s
 if_sound p k block hyp m hm ts s h =
     let l = went (eat (codes "(") ts) _ s h in
     let e = went (closed (codes ")") (expr_at p) l.x) _ s l.next in
@@ -75,18 +81,21 @@ if_sound p k block hyp m hm ts s h =
     let j : IsBody (m ∷ a.t ∷ l.x) y.1 (If m.line e.x.0 b.x.0 y.0) = when hm a.text d v.text w.left w.is q.is in
     record {
       is = subst (λ (z : List Token). IsBody (m ∷ z) y.1 (If m.line e.x.0 b.x.0 y.0)) (sym a.is) j;
-      parens = (let one : suc (parens e.x.0) ≤ suc p = omega (arith, v.within) in let two : max (parens_in b.x.0) (parens_in y.0) ≤ suc p = max-le w.parens q.parens in max-le one two);
+      parens = (let one : suc (parens e.x.0) ≤ suc p = omega (arith, v.within) in
+          let two : max (parens_in b.x.0) (parens_in y.0) ≤ suc p = max-le w.parens q.parens in max-le one two);
       braces = max-le w.braces q.braces;
     })
 
-return_sound : (p k : ℕ) (m : Token) → m.text ≡ codes "return" → (ts : List Token) (s : (Body → Body) × List Token) → return_rest (expr_at (suc p)) m.line ts ≡ Some s → SoundStmt p k (m ∷ ts) s
+return_sound : (p k : ℕ) (m : Token) → m.text ≡ codes "return" → (ts : List Token) (s : (Body → Body) × List Token)
+    → return_rest (expr_at (suc p)) m.line ts ≡ Some s → SoundStmt p k (m ∷ ts) s
 return_sound p k m hm ts s h =
     let e = went (closed (codes ";") (expr_at (suc p)) ts) _ s h in
     let v = closes (codes ";") (suc p) (expr_at (suc p)) (expr_sound (suc p)) ts e.x e.found in
     subst (λ (w : (Body → Body) × List Token). SoundStmt p k (m ∷ ts) w) (some_same _ s e.next)
     (λ y c. record { is = return hm v.is v.text c.is; parens = max-le v.within c.parens; braces = c.braces })
 
-group_sound : (p k : ℕ) (block : ReadBlock) → IsBlockSound p k block → (ts : List Token) (s : (Body → Body) × List Token) → group_rest block (line_at ts) ts ≡ Some s → SoundStmt p k ts s
+group_sound : (p k : ℕ) (block : ReadBlock) → IsBlockSound p k block → (ts : List Token) (s : (Body → Body) × List Token)
+    → group_rest block (line_at ts) ts ≡ Some s → SoundStmt p k ts s
 group_sound p k block hyp ts s h =
     let b = went (block ts) _ s h in
     let w = hyp ts b.x b.found in
@@ -123,7 +132,8 @@ stmt_sound p k block hyp ts s h =
       ]
     ]
 
-stmts_sound : (p k : ℕ) (stmt : ReadStmt) → IsStmtSound p k stmt → (n : ℕ) (ts : List Token) (y : Body × List Token) → stmts_at stmt n ts ≡ Some y → SoundBody p k ts y
+stmts_sound : (p k : ℕ) (stmt : ReadStmt) → IsStmtSound p k stmt → (n : ℕ) (ts : List Token) (y : Body × List Token)
+    → stmts_at stmt n ts ≡ Some y → SoundBody p k ts y
 stmts_sound p k stmt hyp zero ts y h = absurd (cc)
 stmts_sound p k stmt hyp (suc n) ts y h =
     elim (chose (eat (codes "}") ts) _ _ y h) [
@@ -145,10 +155,21 @@ block_sound p (suc k) ts y h =
     let r = went (eat (codes "}") x.x.1) _ y x.next in
     let a = ate (codes "{") ts u.x u.found in
     let b = ate (codes "}") x.x.1 r.x r.found in
-    let s = stmts_sound p k (stmt_at (suc p) p (block_at (suc p) p k)) (stmt_sound p k (block_at (suc p) p k) (block_sound p k)) (suc (length u.x)) u.x x.x x.found in
+    let s = stmts_sound p k (stmt_at (suc p) p (block_at (suc p) p k)) (stmt_sound p k (block_at (suc p) p k) (block_sound p k))
+    (suc (length u.x)) u.x x.x x.found in
     let d : IsBody u.x (b.t ∷ r.x) x.x.0 = subst (λ (z : List Token). IsBody u.x z x.x.0) b.is s.is in
     subst (λ (z : Body × ℕ × List Token). SoundBlock p (suc k) ts z) (some_same _ y r.next)
-    (record { o = a.t; q = b.t; us = u.x; at = a.is; left = a.text; is = d; line = sym (line_of_front b.t x.x.1 r.x b.is); parens = s.parens; braces = omega (arith, s.braces) })
+    (record {
+      o = a.t;
+      q = b.t;
+      us = u.x;
+      at = a.is;
+      left = a.text;
+      is = d;
+      line = sym (line_of_front b.t x.x.1 r.x b.is);
+      parens = s.parens;
+      braces = omega (arith, s.braces);
+    })
 
 -- ---- functions
 
@@ -188,7 +209,9 @@ parameters_sound ts y h =
     ]
 
 -- what stands before a body
-words_sound : (ts : List Token) (h : List ℕ × Bool × List Token) → words_at ts ≡ Some h → (t : Token) (us rest : List Token) (o : Bool) (b : Body) (q : Token) → h.2 ≡ t ∷ us → t.text ≡ codes "{" → IsBody us (q ∷ rest) b → IsHead ts rest o (record { own = o; name = h.0; indexed = h.1; body = b; end = q.line })
+words_sound : (ts : List Token) (h : List ℕ × Bool × List Token) → words_at ts ≡ Some h
+    → (t : Token) (us rest : List Token) (o : Bool) (b : Body) (q : Token) → h.2 ≡ t ∷ us → t.text ≡ codes "{" → IsBody us (q ∷ rest) b
+    → IsHead ts rest o (record { own = o; name = h.0; indexed = h.1; body = b; end = q.line })
 words_sound ts h e t us rest o b z at left is =
     let i = went (eat (codes "int") ts) _ h e in
     let x = went (name_at i.x) _ h i.next in
@@ -204,9 +227,12 @@ words_sound ts h e t us rest o b z at left is =
     let g : a1.t ∷ n.t ∷ a2.t ∷ l.x ≡ ts = sym (a1.is ∙ ap (λ (w : List Token). a1.t ∷ w) (n.is ∙ ap (λ (w : List Token). n.t ∷ w) a2.is)) in
     let f : q.x.1 ≡ a3.t ∷ t ∷ us = a3.is ∙ ap (λ (w : List Token). a3.t ∷ w) (ap (λ (w : List ℕ × Bool × List Token). w.2) s ∙ at) in
     let d2 : IsParameters l.x (a3.t ∷ t ∷ us) q.x.0 = subst (λ (w : List Token). IsParameters l.x w q.x.0) f d in
-    let j : IsHead (a1.t ∷ n.t ∷ a2.t ∷ l.x) rest o (record { own = o; name = n.t.text; indexed = q.x.0; body = b; end = z.line }) = head a1.text n.name a2.text d2 a3.text left is in
-    let j2 : IsHead ts rest o (record { own = o; name = n.t.text; indexed = q.x.0; body = b; end = z.line }) = subst (λ (w : List Token). IsHead w rest o (record { own = o; name = n.t.text; indexed = q.x.0; body = b; end = z.line })) g j in
-    let j3 : IsHead ts rest o (record { own = o; name = x.x.0; indexed = q.x.0; body = b; end = z.line }) = subst (λ (w : List ℕ). IsHead ts rest o (record { own = o; name = w; indexed = q.x.0; body = b; end = z.line })) n.text j2 in
+    let j : IsHead (a1.t ∷ n.t ∷ a2.t ∷ l.x) rest o (record { own = o; name = n.t.text; indexed = q.x.0; body = b; end = z.line }) =
+    head a1.text n.name a2.text d2 a3.text left is in
+    let j2 : IsHead ts rest o (record { own = o; name = n.t.text; indexed = q.x.0; body = b; end = z.line }) =
+    subst (λ (w : List Token). IsHead w rest o (record { own = o; name = n.t.text; indexed = q.x.0; body = b; end = z.line })) g j in
+    let j3 : IsHead ts rest o (record { own = o; name = x.x.0; indexed = q.x.0; body = b; end = z.line }) =
+    subst (λ (w : List ℕ). IsHead ts rest o (record { own = o; name = w; indexed = q.x.0; body = b; end = z.line })) n.text j2 in
     subst (λ (w : List ℕ × Bool × List Token). IsHead ts rest o (record { own = o; name = w.0; indexed = w.1; body = b; end = z.line })) s j3
 
 pub record SoundHead (p k : ℕ) (o : Bool) (ts : List Token) (y : Fun × List Token) : Type 0 where
@@ -219,8 +245,10 @@ head_sound p k o ts y h =
     let b = went (block_at (suc p) p (suc k) c.x.2) _ y c.next in
     let w = block_sound p (suc k) c.x.2 b.x b.found in
     let j = words_sound ts c.x c.found w.o w.us b.x.2 o b.x.0 w.q w.at w.left w.is in
-    let j4 : IsHead ts b.x.2 o (record { own = o; name = c.x.0; indexed = c.x.1; body = b.x.0; end = b.x.1 }) = subst (λ (z : ℕ). IsHead ts b.x.2 o (record { own = o; name = c.x.0; indexed = c.x.1; body = b.x.0; end = z })) w.line j in
-    subst (λ (z : Fun × List Token). SoundHead p k o ts z) (some_same _ y b.next) (record { is = j4; within = record { parens = w.parens; braces = omega (arith, w.braces) } })
+    let j4 : IsHead ts b.x.2 o (record { own = o; name = c.x.0; indexed = c.x.1; body = b.x.0; end = b.x.1 }) =
+    subst (λ (z : ℕ). IsHead ts b.x.2 o (record { own = o; name = c.x.0; indexed = c.x.1; body = b.x.0; end = z })) w.line j in
+    subst (λ (z : Fun × List Token). SoundHead p k o ts z) (some_same _ y b.next)
+    (record { is = j4; within = record { parens = w.parens; braces = omega (arith, w.braces) } })
 
 pub record SoundFun (p k : ℕ) (ts : List Token) (y : Fun × List Token) : Type 0 where
   pub is : IsFun ts y.1 y.0
@@ -255,7 +283,8 @@ small_by : (a b : Bool) → a ≡ true → b ≡ true → (a && b) ≡ true
 small_by a b h k = rw (h, k) refl
 
 small : (f : Fun) → Within 15 63 f → is_small f ≡ true
-small f w = small_by (nat_le (parens_in f.body) 16) (nat_le (suc (braces_in f.body)) 64) (le-leb (parens_in f.body) 16 w.parens) (le-leb (suc (braces_in f.body)) 64 (let l : suc (braces_in f.body) ≤ 64 = omega (arith, w.braces) in l))
+small f w = small_by (nat_le (parens_in f.body) 16) (nat_le (suc (braces_in f.body)) 64) (le-leb (parens_in f.body) 16 w.parens)
+    (le-leb (suc (braces_in f.body)) 64 (let l : suc (braces_in f.body) ≤ 64 = omega (arith, w.braces) in l))
 
 all_small : (fs : List Fun) → AllWithin 15 63 fs → each_fun is_small fs ≡ true
 all_small [] w = refl

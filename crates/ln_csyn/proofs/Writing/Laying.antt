@@ -1,5 +1,6 @@
--- What is laid out is lexed as its tokens, on whatever lines.
-use Rattle.std.proofs.Common.{◌≡◌, ℕ, zero, suc, ◌<◌, ◌==◌, ◌&&◌, ◌||◌, not, Bool, true, false, List, [], ◌∷◌, ◌++◌, length, take, drop, refl, ap, sym, ◌∙◌, subst, arith, length-append}
+-- Proves that what is laid out is lexed as its tokens, on whatever lines.
+use Rattle.std.proofs.Common.{◌≡◌, ℕ, zero, suc, ◌<◌, ◌==◌, ◌&&◌, ◌||◌, not, Bool, true, false, List, [], ◌∷◌, ◌++◌, length, take, drop}
+use Rattle.std.proofs.Common.{refl, ap, sym, ◌∙◌, subst, arith, length-append}
 use Rattle.std.proofs.lemmas.Bool.Decides.{nat_tests}
 use Rattle.std.proofs.lemmas.Bool.{eqb-true}
 use Rattle.std.specs.Prelude.{if◌then◌else◌}
@@ -10,7 +11,8 @@ use Rattle.ln_csyn.specs.Grammar.{Token}
 use Rattle.ln_csyn.specs.Keeps.{each_fun, keeps}
 use Rattle.ln_csyn.specs.Text.{is_blank, is_double, is_sign_text, is_token, behind, IsFirst, Lexed, CText, is_file, fun_words, none, blank, token}
 use Rattle.ln_csyn.specs.Spelling.{spell_file, spell_fun, written, flat_file}
-use Rattle.ln_csyn.specs.Layout.{fuses, ends_line, spaced_around, is_spaced, is_apart, indent, gap, gap_depth, begun, grown, ended, laid_at, start, laid_fun, laid_funs, laid_text}
+use Rattle.ln_csyn.specs.Layout.{fuses, ends_line, spaced_around, is_spaced, is_apart, indent, gap, gap_depth, begun, grown, ended, laid_at}
+use Rattle.ln_csyn.specs.Layout.{start, laid_fun, laid_funs, laid_text}
 use Rattle.ln_csyn.specs.Lines.{SameUpToLines}
 use Rattle.ln_csyn.specs.Layout.{IsTextOf}
 use Rattle.ln_csyn.specs.Laws.{LaidIsFile}
@@ -71,7 +73,8 @@ sign_ends b c [] (y ∷ ys) t f = refl
 sign_ends b c (d ∷ []) ys t f = refl
 sign_ends b c (d ∷ e ∷ bs) ys t f = refl
 
-ends_by : (b c : ℕ) (bs ys : List ℕ) (u v : Bool) → is_letter b ≡ u → is_digit b ≡ v → is_token (b ∷ bs) ≡ true → fuses (last_of b bs) c ≡ false → is_token ((b ∷ bs) ++ c ∷ ys) ≡ false
+ends_by : (b c : ℕ) (bs ys : List ℕ) (u v : Bool) → is_letter b ≡ u → is_digit b ≡ v → is_token (b ∷ bs) ≡ true
+    → fuses (last_of b bs) c ≡ false → is_token ((b ∷ bs) ++ c ∷ ys) ≡ false
 ends_by b c bs ys true v p q t f =
     let k : every is_name_byte bs ≡ true = (rw p at t) in
     let n = follows_name (last_of b bs) c (last_every is_name_byte b bs (letter_name b p) k) f in
@@ -104,7 +107,7 @@ first_token b c bs ys t f = record {
 
 -- ---- a token passes whole
 
--- the spot behind the bytes of a token
+-- the spot after the bytes of a token
 abbrev pub whole : Spot → List ℕ → Spot
 whole s [] = s
 whole s (b ∷ bs) = whole (grown s b) bs
@@ -173,15 +176,17 @@ gap_is_blank {bytes} {ts} h s b line = by_feed (b == 10) refl where
   by_apart true e = behind_blank h 32 refl line
   by_apart false e = h line
 
-  by_line : (v : Bool) → ends_line s.last ≡ v → Lexes line (if v then 10 ∷ indent (gap_depth s.depth b) bytes else if is_apart s b then 32 ∷ bytes else bytes) ts
+  by_line : (v : Bool) → ends_line s.last ≡ v
+      → Lexes line (if v then 10 ∷ indent (gap_depth s.depth b) bytes else if is_apart s b then 32 ∷ bytes else bytes) ts
   by_line true e = behind_blank (indented h (gap_depth s.depth b)) 10 refl line
   by_line false e = by_apart (is_apart s b) refl
 
-  by_feed : (v : Bool) → (b == 10) ≡ v → Lexes line (if v then bytes else if ends_line s.last then 10 ∷ indent (gap_depth s.depth b) bytes else if is_apart s b then 32 ∷ bytes else bytes) ts
+  by_feed : (v : Bool) → (b == 10) ≡ v
+      → Lexes line (if v then bytes else if ends_line s.last then 10 ∷ indent (gap_depth s.depth b) bytes else if is_apart s b then 32 ∷ bytes else bytes) ts
   by_feed true e = h line
   by_feed false e = by_line (ends_line s.last) refl
 
--- ---- what begins behind a token doesn't fuse with it
+-- ---- what begins after a token doesn't fuse with it
 
 record Parts (l : ℕ) (bytes : List ℕ) : Type 0 where
   c : ℕ
@@ -201,18 +206,21 @@ gap_parts s b r = by_feed (b == 10) refl where
   by_apart true e = record { c = 32; ys = b ∷ r; is = refl; parts = blank_parts s.last }
   by_apart false e = record { c = b; ys = r; is = refl; parts = or_left (fuses s.last b) (spaced_around s b || is_spaced s b) e }
 
-  by_line : (v : Bool) → ends_line s.last ≡ v → Parts s.last (if v then 10 ∷ indent (gap_depth s.depth b) (b ∷ r) else if is_apart s b then 32 ∷ b ∷ r else b ∷ r)
+  by_line : (v : Bool) → ends_line s.last ≡ v
+      → Parts s.last (if v then 10 ∷ indent (gap_depth s.depth b) (b ∷ r) else if is_apart s b then 32 ∷ b ∷ r else b ∷ r)
   by_line true e = record { c = 10; ys = indent (gap_depth s.depth b) (b ∷ r); is = refl; parts = feed_parts s.last }
   by_line false e = by_apart (is_apart s b) refl
 
-  by_feed : (v : Bool) → (b == 10) ≡ v → Parts s.last (if v then b ∷ r else if ends_line s.last then 10 ∷ indent (gap_depth s.depth b) (b ∷ r) else if is_apart s b then 32 ∷ b ∷ r else b ∷ r)
+  by_feed : (v : Bool) → (b == 10) ≡ v
+      → Parts s.last (if v then b ∷ r else if ends_line s.last then 10 ∷ indent (gap_depth s.depth b) (b ∷ r) else if is_apart s b then 32 ∷ b ∷ r else b ∷ r)
   by_feed true e = let q : b ≡ 10 = eqb-true b 10 e in record { c = b; ys = r; is = refl; parts = rw q (feed_parts s.last) }
   by_feed false e = by_line (ends_line s.last) refl
 
 -- ---- all tokens
 
 -- a token at the beginning: its gap, and it whole
-pub goes : (s : Spot) (b : ℕ) (bs rest r : List ℕ) → unbroken (b ∷ bs) ≡ true → laid_at (ended s) ((b ∷ bs) ++ 32 ∷ rest) r ≡ gap (ended s) b (b ∷ (bs ++ laid_at (ended (whole (begun (ended s) b) bs)) rest r))
+pub goes : (s : Spot) (b : ℕ) (bs rest r : List ℕ) → unbroken (b ∷ bs) ≡ true
+    → laid_at (ended s) ((b ∷ bs) ++ 32 ∷ rest) r ≡ gap (ended s) b (b ∷ (bs ++ laid_at (ended (whole (begun (ended s) b) bs)) rest r))
 goes s b bs rest r u =
     let n : (b == 32) ≡ false = not_true (b == 32) (left (not (b == 32)) (unbroken bs) u) in
     rw n (ap (λ (z : List ℕ). gap (ended s) b (b ∷ z)) (passes (begun (ended s) b) bs rest r refl (right (not (b == 32)) (unbroken bs) u)))
@@ -229,11 +237,14 @@ laid_parts s (t ∷ ts) r h = by_text t.text refl h.0 where
       subst (λ (z : List ℕ). Parts s.last (laid_at (ended s) (z ++ 32 ∷ written ts) r)) (sym e)
       (subst (λ (z : List ℕ). Parts s.last z) (sym (goes s b bs (written ts) r u)) p)
 
-token_lexes : (b : ℕ) (bs : List ℕ) (t : Token) (ts : List Token) (tail : List ℕ) → t.text ≡ b ∷ bs → is_token (b ∷ bs) ≡ true → Parts (last_of b bs) tail → ((line : ℕ) → Lexes line tail ts) → (line : ℕ) → Lexes line ((b ∷ bs) ++ tail) (t ∷ ts)
+token_lexes : (b : ℕ) (bs : List ℕ) (t : Token) (ts : List Token) (tail : List ℕ) → t.text ≡ b ∷ bs → is_token (b ∷ bs) ≡ true
+    → Parts (last_of b bs) tail → ((line : ℕ) → Lexes line tail ts) → (line : ℕ) → Lexes line ((b ∷ bs) ++ tail) (t ∷ ts)
 token_lexes b bs t ts tail e k p h line =
     let r = h line in
-    let f : IsFirst ((b ∷ bs) ++ tail) (length (b ∷ bs)) = subst (λ (z : List ℕ). IsFirst ((b ∷ bs) ++ z) (length (b ∷ bs))) (sym p.is) (first_token b p.c bs p.ys k p.parts) in
-    let d : Lexed line (drop (length (b ∷ bs)) ((b ∷ bs) ++ tail)) (relined r.n ts) = subst (λ (z : List ℕ). Lexed line z (relined r.n ts)) (sym (back_of (b ∷ bs) tail)) r.is in
+    let f : IsFirst ((b ∷ bs) ++ tail) (length (b ∷ bs)) =
+    subst (λ (z : List ℕ). IsFirst ((b ∷ bs) ++ z) (length (b ∷ bs))) (sym p.is) (first_token b p.c bs p.ys k p.parts) in
+    let d : Lexed line (drop (length (b ∷ bs)) ((b ∷ bs) ++ tail)) (relined r.n ts) =
+    subst (λ (z : List ℕ). Lexed line z (relined r.n ts)) (sym (back_of (b ∷ bs) tail)) r.is in
     let q : take (length (b ∷ bs)) ((b ∷ bs) ++ tail) ≡ t.text = front_of (b ∷ bs) tail ∙ sym e in
     record {
       n = before line r.n;
@@ -241,17 +252,21 @@ token_lexes b bs t ts tail e k p h line =
     }
 
 -- these tokens, and those of the rest
-lexes : (ts us : List Token) (r : List ℕ) → AllTokens ts → ((line : ℕ) → Lexes line r us) → (s : Spot) (line : ℕ) → Lexes line (laid_at (ended s) (written ts) r) (ts ++ us)
+lexes : (ts us : List Token) (r : List ℕ) → AllTokens ts → ((line : ℕ) → Lexes line r us) → (s : Spot) (line : ℕ)
+    → Lexes line (laid_at (ended s) (written ts) r) (ts ++ us)
 lexes [] us r h rest s line = behind_blank rest 10 refl line
 lexes (t ∷ ts) us r h rest s line = by_text t.text refl h.0 (lexes ts us r h.2 rest) where
-  by_text : (x : List ℕ) → t.text ≡ x → is_token t.text ≡ true → ((w : Spot) (m : ℕ) → Lexes m (laid_at (ended w) (written ts) r) (ts ++ us)) → Lexes line (laid_at (ended s) (t.text ++ 32 ∷ written ts) r) (t ∷ (ts ++ us))
+  by_text : (x : List ℕ) → t.text ≡ x → is_token t.text ≡ true → ((w : Spot) (m : ℕ) → Lexes m (laid_at (ended w) (written ts) r) (ts ++ us))
+      → Lexes line (laid_at (ended s) (t.text ++ 32 ∷ written ts) r) (t ∷ (ts ++ us))
   by_text [] e k more = let g : is_token t.text ≡ false = rw e refl in absurd (cc)
   by_text (b ∷ bs) e k more =
       let k2 : is_token (b ∷ bs) ≡ true = subst (λ (z : List ℕ). is_token z ≡ true) e k in
       let u = unbroken_by b bs (is_letter b) (is_digit b) refl refl k2 in
       let w : Spot = whole (begun (ended s) b) bs in
-      let p : Parts (last_of b bs) (laid_at (ended w) (written ts) r) = subst (λ (z : ℕ). Parts z (laid_at (ended w) (written ts) r)) (last_is (begun (ended s) b) bs) (laid_parts w ts r h.2) in
-      let a : (m : ℕ) → Lexes m ((b ∷ bs) ++ laid_at (ended w) (written ts) r) (t ∷ (ts ++ us)) = token_lexes b bs t (ts ++ us) (laid_at (ended w) (written ts) r) e k2 p (more w) in
+      let p : Parts (last_of b bs) (laid_at (ended w) (written ts) r) =
+      subst (λ (z : ℕ). Parts z (laid_at (ended w) (written ts) r)) (last_is (begun (ended s) b) bs) (laid_parts w ts r h.2) in
+      let a : (m : ℕ) → Lexes m ((b ∷ bs) ++ laid_at (ended w) (written ts) r) (t ∷ (ts ++ us)) =
+      token_lexes b bs t (ts ++ us) (laid_at (ended w) (written ts) r) e k2 p (more w) in
       subst (λ (z : List ℕ). Lexes line (laid_at (ended s) (z ++ 32 ∷ written ts) r) (t ∷ (ts ++ us))) (sym e)
       (subst (λ (z : List ℕ). Lexes line z (t ∷ (ts ++ us))) (sym (goes s b bs (written ts) r u)) (gap_is_blank a (ended s) b line))
 
@@ -262,7 +277,8 @@ funs_lex [] h line = record { n = λ i. 2; is = none }
 funs_lex (f ∷ fs) h line =
     let w = tokens_fun f [] (left (fun_words f) (each_fun fun_words fs) h) tt in
     let k = funs_lex fs (right (fun_words f) (each_fun fun_words fs) h) in
-    subst (λ (z : List Token). Lexes line (laid_fun f (laid_funs fs [])) z) (sym (spelled_fun f [] (spell_file fs))) (lexes (spell_fun f []) (spell_file fs) (laid_funs fs []) w k start line)
+    subst (λ (z : List Token). Lexes line (laid_fun f (laid_funs fs [])) z) (sym (spelled_fun f [] (spell_file fs)))
+    (lexes (spell_fun f []) (spell_file fs) (laid_funs fs []) w k start line)
 
 -- the text that is laid out is the file, on whatever lines
 pub laid_is_file : LaidIsFile

@@ -1,19 +1,22 @@
 -- Functions are laid out one after the other.
-use Rattle.std.proofs.Common.{◌≡◌, ℕ, zero, suc, ◌+◌, ◌-◌, ◌<◌, ◌≤◌, length, drop, get_or, map, List, [], ◌∷◌, ◌++◌, refl, sym, ap, ◌∙◌, subst, arith, append_assoc, append-nil}
+use Rattle.std.proofs.Common.{◌≡◌, ℕ, zero, suc, ◌+◌, ◌-◌, ◌<◌, ◌≤◌, length, drop, get_or, map, List, [], ◌∷◌, ◌++◌, refl, sym, ap, ◌∙◌}
+use Rattle.std.proofs.Common.{subst, arith, append_assoc, append-nil}
 use Rattle.std.proofs.lemmas.List.{drop_all}
 use Rattle.ln_csyn.specs.declared.layout.Spot.{Spot}
 use Rattle.ln_csyn.specs.Tree.{Fun}
 use Rattle.ln_csyn.specs.Text.{first_line}
-use Rattle.ln_csyn.specs.Spelling.{Puts, spell_fun, written}
+use Rattle.ln_csyn.specs.Spelling.{Puts, spell_fun}
 use Rattle.ln_csyn.specs.Layout.{Lays, indent, laid_at, laid_funs, laid_text, next_spot, put_at, start}
 use Rattle.ln_csyn.proofs.Writing.PutLemmas.{drop_more}
 
 -- two blanks, and the rest of an indentation
-pub indent_more : (old mid new text : List ℕ) (d : ℕ) → (d ≡ 0 → ⊥) → mid ≡ old ++ text → text ≡ 32 ∷ 32 ∷ [] → ((r : List ℕ) → new ++ r ≡ mid ++ indent (d - 1) r) → (r : List ℕ) → new ++ r ≡ old ++ indent d r
+pub indent_more : (old mid new text : List ℕ) (d : ℕ) → (d ≡ 0 → ⊥) → mid ≡ old ++ text → text ≡ 32 ∷ 32 ∷ []
+    → ((r : List ℕ) → new ++ r ≡ mid ++ indent (d - 1) r) → (r : List ℕ) → new ++ r ≡ old ++ indent d r
 indent_more old mid new text zero h e f g r = absurd (h refl)
 indent_more old mid new text (suc n) h e f g r =
     let q : suc n - 1 ≡ n = omega arith in
-    g r ∙ ap (λ (z : ℕ). mid ++ indent z r) q ∙ ap (λ (z : List ℕ). z ++ indent n r) (e ∙ ap (λ (z : List ℕ). old ++ z) f) ∙ append_assoc old (32 ∷ 32 ∷ []) (indent n r)
+    g r ∙ ap (λ (z : ℕ). mid ++ indent z r) q ∙ ap (λ (z : List ℕ). z ++ indent n r) (e ∙ ap (λ (z : List ℕ). old ++ z) f)
+    ∙ append_assoc old (32 ∷ 32 ∷ []) (indent n r)
 
 -- what is written, followed by the rest of the bytes laid out, is constant
 abbrev pub LaysBytes : List ℕ → List ℕ → Spot → List ℕ → List ℕ → Type 0
@@ -28,11 +31,13 @@ byte_laid old now new text spot next i l p e h r =
     ap (λ z. new ++ laid_at z (drop (i + 1) text) r) e ∙ p (laid_at (next_spot spot b) (drop (i + 1) text) r) ∙ ap (λ z. now ++ laid_at spot z r) (sym d) ∙ h r
 
 -- all bytes
-pub bytes_laid : (old now text : List ℕ) (spot : Spot) (i : ℕ) → length text ≤ i → LaysBytes old now spot (drop i text) text → (r : List ℕ) → now ++ r ≡ old ++ laid_at start text r
+pub bytes_laid : (old now text : List ℕ) (spot : Spot) (i : ℕ) → length text ≤ i → LaysBytes old now spot (drop i text) text → (r : List ℕ)
+    → now ++ r ≡ old ++ laid_at start text r
 bytes_laid old now text spot i l h r = ap (λ z. now ++ laid_at spot z r) (sym (drop_all i text l)) ∙ h r
 
 -- the tokens of a function, a line feed after them, are laid out
-pub fun_laid : (old new tokens text : List ℕ) → text ≡ tokens ++ 10 ∷ [] → ((r : List ℕ) → new ++ r ≡ old ++ laid_at start text r) → (f : Fun) → Puts [] tokens (spell_fun f) → Lays old new (f ∷ [])
+pub fun_laid : (old new tokens text : List ℕ) → text ≡ tokens ++ 10 ∷ [] → ((r : List ℕ) → new ++ r ≡ old ++ laid_at start text r)
+    → (f : Fun) → Puts [] tokens (spell_fun f) → Lays old new (f ∷ [])
 fun_laid old new tokens text e h f p = record { is = λ r. h r ∙ ap (λ z. old ++ laid_at start z r) (e ∙ p.is []) }
 
 -- no function
@@ -70,7 +75,8 @@ next_laid g xs i x old now new l e p h =
     let d : drop i xs ≡ x ∷ drop (i + 1) xs = drop_more xs i x l ∙ ap (λ z. z ∷ drop (i + 1) xs) (sym e) in
     one_laid (subst (λ z. LaysRest old now (map g z) (map g xs)) d h) p
 
-pub end_laid : {X : Type 0} (g : X → Fun) (xs : List X) (i : ℕ) (old now : List ℕ) → length xs ≤ i → LaysRest old now (map g (drop i xs)) (map g xs) → Lays old now (map g xs)
+pub end_laid : {X : Type 0} (g : X → Fun) (xs : List X) (i : ℕ) (old now : List ℕ) → length xs ≤ i
+    → LaysRest old now (map g (drop i xs)) (map g xs) → Lays old now (map g xs)
 end_laid g xs i old now l h = all_laid (subst (λ z. LaysRest old now (map g z) (map g xs)) (drop_all i xs l) h)
 
 -- a whole text: the first line, and the functions

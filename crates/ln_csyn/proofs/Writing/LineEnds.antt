@@ -1,5 +1,5 @@
 -- In what is laid out a line ends after each ; { and }.
-use Rattle.std.proofs.Common.{◌≡◌, ℕ, zero, suc, ◌==◌, ◌&&◌, Bool, true, false, List, [], ◌∷◌, ◌++◌, refl, sym, subst, arith}
+use Rattle.std.proofs.Common.{◌≡◌, ℕ, zero, suc, ◌==◌, Bool, true, false, List, [], ◌∷◌, ◌++◌, refl, sym, subst, arith}
 use Rattle.std.proofs.lemmas.Bool.Decides.{nat_tests}
 use Rattle.std.specs.Prelude.{if◌then◌else◌}
 use Rattle.ln_base.specs.Words.{is_digit, is_letter, is_name_byte, every}
@@ -23,12 +23,14 @@ double_stays b h = grind (arith, nat_tests)
 
 names_end : (xs tail : List ℕ) → every is_name_byte xs ≡ true → lines_end tail ≡ true → lines_end (xs ++ tail) ≡ true
 names_end [] tail h k = k
-names_end (x ∷ xs) tail h k = rw (name_stays x (left (is_name_byte x) (every is_name_byte xs) h), names_end xs tail (right (is_name_byte x) (every is_name_byte xs) h) k) refl
+names_end (x ∷ xs) tail h k =
+    rw (name_stays x (left (is_name_byte x) (every is_name_byte xs) h), names_end xs tail (right (is_name_byte x) (every is_name_byte xs) h) k) refl
 
 equals_stays : (c : ℕ) → (c == 61) ≡ true → ends_line c ≡ false
 equals_stays c h = grind (arith, nat_tests)
 
-sign_end : (b : ℕ) (bs tail : List ℕ) → is_sign_text b bs ≡ true → lines_end tail ≡ true → (ends_line (last_of b bs) ≡ true → at_end tail ≡ true) → lines_end ((b ∷ bs) ++ tail) ≡ true
+sign_end : (b : ℕ) (bs tail : List ℕ) → is_sign_text b bs ≡ true → lines_end tail ≡ true
+    → (ends_line (last_of b bs) ≡ true → at_end tail ≡ true) → lines_end ((b ∷ bs) ++ tail) ≡ true
 sign_end b [] tail t k e = by_case (ends_line b) refl where
   by_case : (v : Bool) → ends_line b ≡ v → lines_end (b ∷ tail) ≡ true
   by_case true q = rw (q, e q, k) refl
@@ -36,7 +38,8 @@ sign_end b [] tail t k e = by_case (ends_line b) refl where
 sign_end b (c ∷ []) tail t k e = rw (double_stays b (left (is_double b) (c == 61) t), equals_stays c (right (is_double b) (c == 61) t), k) refl
 sign_end b (c ∷ d ∷ bs) tail t k e = absurd (cc)
 
-token_end_by : (b : ℕ) (bs tail : List ℕ) (u v : Bool) → is_letter b ≡ u → is_digit b ≡ v → is_token (b ∷ bs) ≡ true → lines_end tail ≡ true → (ends_line (last_of b bs) ≡ true → at_end tail ≡ true) → lines_end ((b ∷ bs) ++ tail) ≡ true
+token_end_by : (b : ℕ) (bs tail : List ℕ) (u v : Bool) → is_letter b ≡ u → is_digit b ≡ v → is_token (b ∷ bs) ≡ true → lines_end tail ≡ true
+    → (ends_line (last_of b bs) ≡ true → at_end tail ≡ true) → lines_end ((b ∷ bs) ++ tail) ≡ true
 token_end_by b bs tail true v p q t k e =
     let m : every is_name_byte bs ≡ true = (rw p at t) in
     names_end (b ∷ bs) tail (rw (letter_name b p, m) refl) k
@@ -61,13 +64,15 @@ gap_end s b r h = by_feed (b == 10) refl where
   by_line true = indent_end (gap_depth s.depth b) r h
   by_line false = by_apart (is_apart s b)
 
-  by_feed : (v : Bool) → (b == 10) ≡ v → lines_end (if v then r else if ends_line s.last then 10 ∷ indent (gap_depth s.depth b) r else if is_apart s b then 32 ∷ r else r) ≡ true
+  by_feed : (v : Bool) → (b == 10) ≡ v
+      → lines_end (if v then r else if ends_line s.last then 10 ∷ indent (gap_depth s.depth b) r else if is_apart s b then 32 ∷ r else r) ≡ true
   by_feed true e = h
   by_feed false e = by_line (ends_line s.last)
 
 gap_feeds : (s : Spot) (b : ℕ) (r : List ℕ) → ends_line s.last ≡ true → at_end (gap s b (b ∷ r)) ≡ true
 gap_feeds s b r h = by_feed (b == 10) refl where
-  by_feed : (v : Bool) → (b == 10) ≡ v → at_end (if v then b ∷ r else if ends_line s.last then 10 ∷ indent (gap_depth s.depth b) (b ∷ r) else if is_apart s b then 32 ∷ b ∷ r else b ∷ r) ≡ true
+  by_feed : (v : Bool) → (b == 10) ≡ v
+      → at_end (if v then b ∷ r else if ends_line s.last then 10 ∷ indent (gap_depth s.depth b) (b ∷ r) else if is_apart s b then 32 ∷ b ∷ r else b ∷ r) ≡ true
   by_feed true e = e
   by_feed false e = rw h refl
 
@@ -88,7 +93,8 @@ feeds s (t ∷ ts) r h l = by_text t.text refl h.0 where
 ends_all : (ts : List Token) (r : List ℕ) → AllTokens ts → lines_end r ≡ true → (s : Spot) → lines_end (laid_at (ended s) (written ts) r) ≡ true
 ends_all [] r h e s = e
 ends_all (t ∷ ts) r h l s = by_text t.text refl h.0 (ends_all ts r h.2 l) where
-  by_text : (x : List ℕ) → t.text ≡ x → is_token t.text ≡ true → ((w : Spot) → lines_end (laid_at (ended w) (written ts) r) ≡ true) → lines_end (laid_at (ended s) (t.text ++ 32 ∷ written ts) r) ≡ true
+  by_text : (x : List ℕ) → t.text ≡ x → is_token t.text ≡ true → ((w : Spot) → lines_end (laid_at (ended w) (written ts) r) ≡ true)
+      → lines_end (laid_at (ended s) (t.text ++ 32 ∷ written ts) r) ≡ true
   by_text [] e k more = let g : is_token t.text ≡ false = rw e refl in absurd (cc)
   by_text (b ∷ bs) e k more =
       let k2 : is_token (b ∷ bs) ≡ true = subst (λ (z : List ℕ). is_token z ≡ true) e k in

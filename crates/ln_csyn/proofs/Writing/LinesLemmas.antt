@@ -62,7 +62,8 @@ pub same_file : (fs gs : List Fun) → flat_file fs ≡ flat_file gs → SameUpT
 same_file [] [] h = none
 same_file [] (g ∷ gs) h = absurd (cc)
 same_file (f ∷ fs) [] h = absurd (cc)
-same_file (f ∷ fs) (g ∷ gs) h = one (same_fun f g (first_same (flat_fun f) (flat_fun g) (flat_file fs) (flat_file gs) h)) (same_file fs gs (rest_same (flat_fun f) (flat_fun g) (flat_file fs) (flat_file gs) h))
+same_file (f ∷ fs) (g ∷ gs) h = one (same_fun f g (first_same (flat_fun f) (flat_fun g) (flat_file fs) (flat_file gs) h))
+    (same_file fs gs (rest_same (flat_fun f) (flat_fun g) (flat_file fs) (flat_file gs) h))
 
 flat_again : (b : Body) → flat (flat b) ≡ flat b
 flat_again b = sym (one_flat (to_flat b))

@@ -1,5 +1,5 @@
--- Tokens put one behind the other.
-use Rattle.std.proofs.Common.{◌≡◌, ℕ, zero, suc, ◌+◌, ◌<◌, length, drop, get_or, arith, List, [], ◌∷◌, ◌++◌, append_assoc, refl, sym, ap, ◌∙◌}
+-- Tokens appended one after the other.
+use Rattle.std.proofs.Common.{◌≡◌, ℕ, zero, suc, ◌+◌, ◌<◌, length, drop, get_or, arith, List, [], ◌∷◌, ◌++◌, append_assoc, refl, ap, ◌∙◌}
 use Rattle.std.specs.Prelude.{codes, Result, IfOk}
 use Rattle.std.proofs.lemmas.Result.{IfOk-weaker}
 use Rattle.ln_csyn.specs.declared.tree.CType.{CType}
@@ -19,42 +19,48 @@ puts_one old mid new text e f = record {
 pub puts_none : (old : List ℕ) → Puts old old (λ r. r)
 puts_none old = record { is = λ r. refl }
 
--- one behind the other
+-- one after the other
 pub puts_then : {a b c : List ℕ} {f g : List Token → List Token} → Puts a b f → Puts b c g → Puts a c (λ r. f (g r))
 puts_then {g = g} p q = record { is = λ r. q.is r ∙ p.is (g r) }
 
--- one behind the other, where the last call is handed on
+-- one after the other, where the last call is handed on
 pub puts_last : {X Y : Type 0} {a b : List ℕ} {f : List Token → List Token} (r : Result X Y) (c : List ℕ) (g : List Token → List Token)
     → Puts a b f → IfOk r (λ _. Puts b c g) → IfOk r (λ _. Puts a c (λ t. f (g t)))
 puts_last {a = a} {b = b} {f = f} r c g p h =
     IfOk-weaker r (λ _. Puts b c g) (λ _. Puts a c (λ t. f (g t))) (λ _ q. puts_then p q) h
 
--- nothing was put
+-- nothing was appended
 pub goes_same : (old : List ℕ) (f : List Token → List Token) → Goes old old f f
 goes_same old f = record { is = λ r. refl }
 
--- one behind the other
+-- one after the other
 pub goes_then : {a b c : List ℕ} {f g h : List Token → List Token} → Goes a b g h → Goes b c f g → Goes a c f h
 goes_then p q = record { is = λ r. q.is r ∙ p.is r }
 
--- at the end all is put
+-- at the end all is appended
 pub goes_end : {a b : List ℕ} {f : List Token → List Token} → Goes a b (λ r. r) f → Puts a b f
 goes_end p = record { is = p.is }
 
 -- a declaration
-pub goes_decl : {a b : List ℕ} (l : ℕ) (t : CType) (x : List ℕ) (e : Expr) → Puts a b (λ r. lexeme (type_text t) ∷ lexeme x ∷ lexeme (codes "=") ∷ spell e (lexeme (codes ";") ∷ r)) → (c : Body) → Goes a b (spell_body c) (spell_body (Decl l t x e c))
+pub goes_decl : {a b : List ℕ} (l : ℕ) (t : CType) (x : List ℕ) (e : Expr)
+    → Puts a b (λ r. lexeme (type_text t) ∷ lexeme x ∷ lexeme (codes "=") ∷ spell e (lexeme (codes ";") ∷ r)) → (c : Body)
+    → Goes a b (spell_body c) (spell_body (Decl l t x e c))
 goes_decl l t x e p c = record { is = λ r. p.is (spell_body c r) }
 
 -- statements in braces
-pub goes_group : {a b : List ℕ} (l : ℕ) (d : Body) → Puts a b (λ r. lexeme (codes "{") ∷ spell_body d (lexeme (codes "}") ∷ r)) → (c : Body) → Goes a b (spell_body c) (spell_body (Group l d c))
+pub goes_group : {a b : List ℕ} (l : ℕ) (d : Body) → Puts a b (λ r. lexeme (codes "{") ∷ spell_body d (lexeme (codes "}") ∷ r)) → (c : Body)
+    → Goes a b (spell_body c) (spell_body (Group l d c))
 goes_group l d p c = record { is = λ r. p.is (spell_body c r) }
 
 -- an if
-pub goes_if : {a b : List ℕ} (l : ℕ) (e : Expr) (d : Body) → Puts a b (λ r. lexeme (codes "if") ∷ lexeme (codes "(") ∷ spell e (lexeme (codes ")") ∷ lexeme (codes "{") ∷ spell_body d (lexeme (codes "}") ∷ r))) → (c : Body) → Goes a b (spell_body c) (spell_body (If l e d c))
+pub goes_if : {a b : List ℕ} (l : ℕ) (e : Expr) (d : Body)
+    → Puts a b (λ r. lexeme (codes "if") ∷ lexeme (codes "(") ∷ spell e (lexeme (codes ")") ∷ lexeme (codes "{") ∷ spell_body d (lexeme (codes "}") ∷ r)))
+    → (c : Body) → Goes a b (spell_body c) (spell_body (If l e d c))
 goes_if l e d p c = record { is = λ r. p.is (spell_body c r) }
 
 -- a return
-pub goes_return : {a b : List ℕ} (l : ℕ) (e : Expr) → Puts a b (λ r. lexeme (codes "return") ∷ spell e (lexeme (codes ";") ∷ r)) → (c : Body) → Goes a b (spell_body c) (spell_body (Return l e c))
+pub goes_return : {a b : List ℕ} (l : ℕ) (e : Expr) → Puts a b (λ r. lexeme (codes "return") ∷ spell e (lexeme (codes ";") ∷ r))
+    → (c : Body) → Goes a b (spell_body c) (spell_body (Return l e c))
 goes_return l e p c = record { is = λ r. p.is (spell_body c r) }
 
 drop_suc : {X : Type 0} (xs : List X) (i : ℕ) (d : X) → i < length xs → drop i xs ≡ get_or xs i d ∷ drop (suc i) xs
@@ -62,6 +68,6 @@ drop_suc [] i d l = absurd (omega arith)
 drop_suc (x ∷ xs) zero d l = refl
 drop_suc (x ∷ xs) (suc i) d l = drop_suc xs i d (omega (arith, l))
 
--- the item at a place, and what is behind it
+-- the item at a place, and what is after it
 pub drop_more : {X : Type 0} (xs : List X) (i : ℕ) (d : X) → i < length xs → drop i xs ≡ get_or xs i d ∷ drop (i + 1) xs
 drop_more xs i d l = let q : suc i ≡ i + 1 = omega arith in drop_suc xs i d l ∙ ap (λ (z : ℕ). get_or xs i d ∷ drop z xs) q

@@ -1,7 +1,8 @@
 -- Tokens on other lines are the same file, up to lines.
 use Rattle.std.proofs.Common.{ℕ, zero, suc, Bool, List, [], ◌∷◌, refl}
 use Rattle.ln_csyn.specs.Tree.{Expr, Body, End, Decl, Group, If, Return, Fun}
-use Rattle.ln_csyn.specs.Grammar.{Token, Sort, Derives, two, minus, cast, number, name, value, index, call, inner, IsBody, end, decl, group, when, return, IsPointer, pointer, IsParameters, one, both, IsHead, head, IsFun, own, shared, IsFile}
+use Rattle.ln_csyn.specs.Grammar.{Token, Sort, Derives, two, minus, cast, number, name, value, index, call, inner, IsBody, end, decl, group}
+use Rattle.ln_csyn.specs.Grammar.{when, return, IsPointer, pointer, IsParameters, one, both, IsHead, head, IsFun, own, shared, IsFile}
 use Rattle.ln_csyn.specs.Grammar as g
 use Rattle.ln_csyn.specs.Lines.{SameBody, SameFun, SameUpToLines}
 use Rattle.ln_csyn.specs.Lines as l
@@ -22,7 +23,7 @@ abbrev pub relined : Numbers → List Token → List Token
 relined n [] = []
 relined n (t ∷ ts) = record { text = t.text; line = n 0 } ∷ relined (later n) ts
 
--- what is derived from them, and the lines that are left
+-- what is derived from them, and the remaining lines
 record Derived (s : Sort) (us rest : List Token) (e : Expr) : Type 0 where
   n : Numbers
   is : Derives s us (relined n rest) e

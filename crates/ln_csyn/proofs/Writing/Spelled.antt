@@ -1,5 +1,5 @@
--- What is spelled before a rest is what is spelled alone, and then the rest.
-use Rattle.std.proofs.Common.{◌≡◌, Bool, true, false, List, [], ◌∷◌, ◌++◌, refl, ap, ◌∙◌}
+-- Proves that what is spelled before a rest is what is spelled alone, and then the rest.
+use Rattle.std.proofs.Common.{◌≡◌, Bool, true, false, List, ◌∷◌, ◌++◌, refl, ap, ◌∙◌}
 use Rattle.std.specs.Prelude.{codes}
 use Rattle.ln_csyn.specs.Tree.{Expr, Number, Name, Value, Index, Call, Inner, Minus, Two, Body, End, Decl, Group, If, Return, Fun}
 use Rattle.ln_csyn.specs.Grammar.{Token}
@@ -15,7 +15,8 @@ spelled (Inner t e) r s = ap (cast_before t) (spelled e (lexeme (codes ")") ∷ 
 spelled (Minus e) r s = ap (λ (z : List Token). lexeme (codes "(") ∷ lexeme (codes "-") ∷ z) (spelled e (lexeme (codes ")") ∷ r) s)
 spelled (Two o a b) r s =
     ap (λ (z : List Token). lexeme (codes "(") ∷ z)
-    (ap (λ (z : List Token). spell a (lexeme (op_text o) ∷ z)) (spelled b (lexeme (codes ")") ∷ r) s) ∙ spelled a (lexeme (op_text o) ∷ spell b (lexeme (codes ")") ∷ r)) s)
+    (ap (λ (z : List Token). spell a (lexeme (op_text o) ∷ z)) (spelled b (lexeme (codes ")") ∷ r) s)
+    ∙ spelled a (lexeme (op_text o) ∷ spell b (lexeme (codes ")") ∷ r)) s)
 
 spelled_body : (b : Body) (r s : List Token) → spell_body b (r ++ s) ≡ spell_body b r ++ s
 spelled_body End r s = refl
@@ -46,5 +47,6 @@ pub spelled_fun : (f : Fun) (r s : List Token) → spell_fun f (r ++ s) ≡ spel
 spelled_fun f r s =
     let b = ap (λ (z : List Token). lexeme (codes ")") ∷ lexeme (codes "{") ∷ z) (spelled_body f.body (lexeme (codes "}") ∷ r) s) in
     let own_rest : List Token = lexeme (codes ")") ∷ lexeme (codes "{") ∷ spell_body f.body (lexeme (codes "}") ∷ r) in
-    let p = ap (λ (z : List Token). lexeme (codes "int") ∷ lexeme f.name ∷ lexeme (codes "(") ∷ z) (ap (spell_parameters f.indexed) b ∙ spelled_parameters f.indexed own_rest s) in
+    let p = ap (λ (z : List Token). lexeme (codes "int") ∷ lexeme f.name ∷ lexeme (codes "(") ∷ z)
+    (ap (spell_parameters f.indexed) b ∙ spelled_parameters f.indexed own_rest s) in
     ap (spell_own f.own) p ∙ spelled_own f.own (lexeme (codes "int") ∷ lexeme f.name ∷ lexeme (codes "(") ∷ spell_parameters f.indexed own_rest) s

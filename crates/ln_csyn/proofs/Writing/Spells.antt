@@ -1,4 +1,4 @@
--- What is written is the file, up to lines.
+-- Proves that what is written is the file, up to lines.
 use Rattle.std.proofs.Common.{◌≡◌, ℕ, ◌<◌, ◌^◌, ◌==◌, ◌&&◌, nat_le, Bool, true, false, List, [], ◌∷◌, length, Some, refl, arith}
 use Rattle.std.specs.Prelude.{codes, decimal}
 use Rattle.std.specs.List.{list_all}
@@ -14,7 +14,8 @@ use Rattle.ln_csyn.specs.declared.tree.COp.{COp}
 use Rattle.ln_csyn.specs.declared.tree.COp.TheVariants as op
 use Rattle.ln_csyn.specs.Tree.{Expr, Number, Name, Value, Index, Call, Inner, Minus, Two, Body, End, Decl, Group, If, Return, Fun}
 use Rattle.ln_csyn.specs.Words.{is_c_name, is_numeral, number_of, most_number, type_of, op_of}
-use Rattle.ln_csyn.specs.Grammar.{Token, Whole, Derives, two, minus, cast, number, name, value, index, call, inner, IsBody, end, decl, group, when, return, pointer, IsParameters, one, both, IsHead, head, IsFun, own, shared, IsFile}
+use Rattle.ln_csyn.specs.Grammar.{Token, Whole, Derives, two, minus, cast, number, name, value, index, call, inner, IsBody, end, decl}
+use Rattle.ln_csyn.specs.Grammar.{group, when, return, pointer, IsParameters, one, both, IsHead, head, IsFun, own, shared, IsFile}
 use Rattle.ln_csyn.specs.Grammar as g
 use Rattle.ln_csyn.specs.Keeps.{each_expr, each_name, each_fun}
 use Rattle.ln_csyn.specs.Text.{has_words, fun_words}
@@ -91,7 +92,8 @@ derives (Call t x) r h = cast refl refl (type_back t) refl (call h refl refl ref
 derives (Inner t e) r h = cast refl refl (type_back t) refl (inner (derives e (lexeme (codes ")") ∷ r) h)) refl
 derives (Minus e) r h = minus refl refl (derives e (lexeme (codes ")") ∷ r) h) refl
 derives (Two o a b) r h =
-    two refl (derives a (lexeme (op_text o) ∷ spell b (lexeme (codes ")") ∷ r)) (left (has_words a) (has_words b) h)) (op_back o) (derives b (lexeme (codes ")") ∷ r) (right (has_words a) (has_words b) h)) refl
+    two refl (derives a (lexeme (op_text o) ∷ spell b (lexeme (codes ")") ∷ r)) (left (has_words a) (has_words b) h)) (op_back o)
+    (derives b (lexeme (codes ")") ∷ r) (right (has_words a) (has_words b) h)) refl
 
 -- the words of an if
 pub mid : (a b c : Bool) → (a && b && c) ≡ true → (a ≡ true) × (b ≡ true) × (c ≡ true)
@@ -101,13 +103,16 @@ mid true false c h = absurd (cc)
 mid false b c h = absurd (cc)
 
 -- what is spelled for statements is them, with all lines at 2
-pub derives_body : (b : Body) (q : Token) (r : List Token) → q.text ≡ codes "}" → each_expr has_words b ≡ true → each_name is_c_name b ≡ true → IsBody (spell_body b (q ∷ r)) (q ∷ r) (flat b)
+pub derives_body : (b : Body) (q : Token) (r : List Token) → q.text ≡ codes "}" → each_expr has_words b ≡ true
+    → each_name is_c_name b ≡ true → IsBody (spell_body b (q ∷ r)) (q ∷ r) (flat b)
 derives_body End q r h w n = end h
 derives_body (Decl l t x e b) q r h w n =
-    decl (type_back t) (left (is_c_name x) (each_name is_c_name b) n) refl (derives e (lexeme (codes ";") ∷ spell_body b (q ∷ r)) (left (has_words e) (each_expr has_words b) w)) refl
+    decl (type_back t) (left (is_c_name x) (each_name is_c_name b) n) refl
+    (derives e (lexeme (codes ";") ∷ spell_body b (q ∷ r)) (left (has_words e) (each_expr has_words b) w)) refl
     (derives_body b q r h (right (has_words e) (each_expr has_words b) w) (right (is_c_name x) (each_name is_c_name b) n))
 derives_body (Group l a b) q r h w n =
-    group refl (derives_body a (lexeme (codes "}")) (spell_body b (q ∷ r)) refl (left (each_expr has_words a) (each_expr has_words b) w) (left (each_name is_c_name a) (each_name is_c_name b) n))
+    group refl (derives_body a (lexeme (codes "}")) (spell_body b (q ∷ r)) refl (left (each_expr has_words a) (each_expr has_words b) w)
+    (left (each_name is_c_name a) (each_name is_c_name b) n))
     (derives_body b q r h (right (each_expr has_words a) (each_expr has_words b) w) (right (each_name is_c_name a) (each_name is_c_name b) n))
 derives_body (If l e a b) q r h w n =
     let m = mid (has_words e) (each_expr has_words a) (each_expr has_words b) w in
@@ -122,12 +127,15 @@ derives_parameters : (i : Bool) (r : List Token) → IsParameters (spell_paramet
 derives_parameters false r = one (pointer refl refl refl) refl
 derives_parameters true r = both (pointer refl refl refl) refl refl (pointer refl refl refl) refl
 
-derives_head : (o : Bool) (f : Fun) (r : List Token) → fun_words f ≡ true → IsHead (lexeme (codes "int") ∷ lexeme f.name ∷ lexeme (codes "(") ∷ spell_parameters f.indexed (lexeme (codes ")") ∷ lexeme (codes "{") ∷ spell_body f.body (lexeme (codes "}") ∷ r))) r o (record { own = o; name = f.name; indexed = f.indexed; body = flat f.body; end = 2 })
+derives_head : (o : Bool) (f : Fun) (r : List Token) → fun_words f ≡ true
+    → IsHead (lexeme (codes "int") ∷ lexeme f.name ∷ lexeme (codes "(") ∷ spell_parameters f.indexed (lexeme (codes ")") ∷ lexeme (codes "{")
+    ∷ spell_body f.body (lexeme (codes "}") ∷ r))) r o (record { own = o; name = f.name; indexed = f.indexed; body = flat f.body; end = 2 })
 derives_head o f r h =
     let w = right (is_c_name f.name) (each_expr has_words f.body && each_name is_c_name f.body) h in
     head refl (left (is_c_name f.name) (each_expr has_words f.body && each_name is_c_name f.body) h) refl
     (derives_parameters f.indexed (lexeme (codes ")") ∷ lexeme (codes "{") ∷ spell_body f.body (lexeme (codes "}") ∷ r))) refl refl
-    (derives_body f.body (lexeme (codes "}")) r refl (left (each_expr has_words f.body) (each_name is_c_name f.body) w) (right (each_expr has_words f.body) (each_name is_c_name f.body) w))
+    (derives_body f.body (lexeme (codes "}")) r refl (left (each_expr has_words f.body) (each_name is_c_name f.body) w)
+    (right (each_expr has_words f.body) (each_name is_c_name f.body) w))
 
 derives_own : (v : Bool) (f : Fun) (r : List Token) → f.own ≡ v → fun_words f ≡ true → IsFun (spell_fun f r) r (flat_fun f)
 derives_own true f r e h = rw e (own refl (derives_head true f r h))
@@ -136,4 +144,5 @@ derives_own false f r e h = rw e (shared (derives_head false f r h))
 -- what is spelled for a file is it, with all lines at 2
 pub derives_file : (fs : List Fun) → each_fun fun_words fs ≡ true → IsFile (spell_file fs) (flat_file fs)
 derives_file [] h = g.none
-derives_file (f ∷ fs) h = g.one (derives_own f.own f (spell_file fs) refl (left (fun_words f) (each_fun fun_words fs) h)) (derives_file fs (right (fun_words f) (each_fun fun_words fs) h))
+derives_file (f ∷ fs) h = g.one (derives_own f.own f (spell_file fs) refl (left (fun_words f) (each_fun fun_words fs) h))
+    (derives_file fs (right (fun_words f) (each_fun fun_words fs) h))

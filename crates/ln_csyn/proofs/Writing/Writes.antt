@@ -1,5 +1,6 @@
--- What is written is lexed, and lines change no condition.
-use Rattle.std.proofs.Common.{◌≡◌, ℕ, zero, suc, ◌<◌, ◌==◌, ◌&&◌, nat_le, not, Bool, true, false, List, [], ◌∷◌, ◌++◌, length, take, drop, Some, None, refl, ap, sym, ◌∙◌, subst, arith, length-append}
+-- Proves that what is written is lexed, and that lines change no condition.
+use Rattle.std.proofs.Common.{◌≡◌, ℕ, zero, suc, ◌<◌, ◌==◌, ◌&&◌, nat_le, not, Bool, true, false, List, [], ◌∷◌, ◌++◌, length, take, drop}
+use Rattle.std.proofs.Common.{Some, None, refl, ap, sym, ◌∙◌, subst, arith, length-append}
 use Rattle.std.specs.Prelude.{codes, decimal}
 use Rattle.std.proofs.lemmas.Bool.Decides.{nat_tests}
 use Rattle.ln_base.specs.Words.{is_digit, is_letter, is_name_byte, is_name, is_word, is_keyword, every}
@@ -10,9 +11,11 @@ use Rattle.ln_csyn.specs.declared.tree.COp.TheVariants as op
 use Rattle.ln_csyn.specs.Tree.{Expr, Number, Name, Value, Index, Call, Inner, Minus, Two, Body, End, Decl, Group, If, Return, Fun}
 use Rattle.ln_csyn.specs.Words.{is_c_name, is_numeral, number_of, most_number, among, reserved}
 use Rattle.ln_csyn.specs.Grammar.{Token}
-use Rattle.ln_csyn.specs.Keeps.{parens_in, braces_in, each_expr, each_name, each_fun, direct, distinct, differ_within, divides, calls_none, is_own, fun_keeps, names_of, keeps}
+use Rattle.ln_csyn.specs.Keeps.{parens_in, braces_in, each_expr, each_name, each_fun, direct, distinct, differ_within, divides, calls_none}
+use Rattle.ln_csyn.specs.Keeps.{is_own, fun_keeps, names_of, keeps}
 use Rattle.ln_csyn.specs.Text.{is_double, is_sign_text, is_token, IsFirst, Lexed, none, blank, token, has_words, fun_words}
-use Rattle.ln_csyn.specs.Spelling.{type_text, op_text, lexeme, spell, spell_body, spell_parameters, spell_own, spell_fun, spell_file, written, flat, flat_fun, flat_file}
+use Rattle.ln_csyn.specs.Spelling.{type_text, op_text, lexeme, spell, spell_body, spell_parameters, spell_own, spell_fun, spell_file}
+use Rattle.ln_csyn.specs.Spelling.{written, flat, flat_fun, flat_file}
 use Rattle.ln_csyn.specs.Laws.{WrittenIsFile}
 use Rattle.ln_csyn.proofs.Writing.Spells.{left, right, mid, number_is_read, derives_file}
 
@@ -79,7 +82,8 @@ lexes (t ∷ ts) h =
     let d : Lexed 2 (32 ∷ written ts) ts = blank refl (lexes ts h.2) in
     let d2 : Lexed 2 (drop (length t.text) bs) ts = subst (λ (z : List ℕ). Lexed 2 z ts) (sym (back_of t.text (32 ∷ written ts))) d in
     let k : Lexed 2 bs (record { text = take (length t.text) bs; line = 2 } ∷ ts) = token (first_token t.text (written ts) h.0) d2 in
-    let e : record { text = take (length t.text) bs; line = 2 } ≡ t = ap (λ (z : List ℕ). record { text = z; line = 2 }) (front_of t.text (32 ∷ written ts)) ∙ ap (λ (z : ℕ). record { text = t.text; line = z }) (sym h.1) in
+    let e : record { text = take (length t.text) bs; line = 2 } ≡ t =
+    ap (λ (z : List ℕ). record { text = z; line = 2 }) (front_of t.text (32 ∷ written ts)) ∙ ap (λ (z : ℕ). record { text = t.text; line = z }) (sym h.1) in
     subst (λ (z : Token). Lexed 2 bs (z ∷ ts)) e k
 
 -- ---- what is spelled is tokens
@@ -128,22 +132,42 @@ op_token op.Differ = refl
 tokens_expr : (e : Expr) (r : List Token) → has_words e ≡ true → AllTokens r → AllTokens (spell e r)
 tokens_expr (Number t n) r h k = (refl, refl, (refl, refl, (type_token t, refl, (refl, refl, (number_token n h, refl, (refl, refl, k))))))
 tokens_expr (Name t x) r h k = (refl, refl, (refl, refl, (type_token t, refl, (refl, refl, (name_token x h, refl, (refl, refl, k))))))
-tokens_expr (Value t n) r h k = (refl, refl, (refl, refl, (type_token t, refl, (refl, refl, (refl, refl, (refl, refl, (number_token n h, refl, (refl, refl, (refl, refl, k)))))))))
-tokens_expr (Index t n) r h k = (refl, refl, (refl, refl, (type_token t, refl, (refl, refl, (refl, refl, (refl, refl, (number_token n h, refl, (refl, refl, (refl, refl, k)))))))))
-tokens_expr (Call t x) r h k = (refl, refl, (refl, refl, (type_token t, refl, (refl, refl, (name_token x h, refl, (refl, refl, (refl, refl, (refl, refl, (refl, refl, k)))))))))
+tokens_expr (Value t n) r h k =
+    (refl, refl, (refl, refl, (type_token t, refl, (refl, refl, (refl, refl, (refl, refl, (number_token n h, refl, (refl, refl, (refl, refl, k)))))))))
+tokens_expr (Index t n) r h k =
+    (refl, refl, (refl, refl, (type_token t, refl, (refl, refl, (refl, refl, (refl, refl, (number_token n h, refl, (refl, refl, (refl, refl, k)))))))))
+tokens_expr (Call t x) r h k =
+    (refl, refl, (refl, refl, (type_token t, refl, (refl, refl, (name_token x h, refl, (refl, refl, (refl, refl, (refl, refl, (refl, refl, k)))))))))
 tokens_expr (Inner t e) r h k = (refl, refl, (refl, refl, (type_token t, refl, (refl, refl, tokens_expr e (lexeme (codes ")") ∷ r) h (refl, refl, k)))))
 tokens_expr (Minus e) r h k = (refl, refl, (refl, refl, tokens_expr e (lexeme (codes ")") ∷ r) h (refl, refl, k)))
-tokens_expr (Two o a b) r h k =
-    (refl, refl, tokens_expr a (lexeme (op_text o) ∷ spell b (lexeme (codes ")") ∷ r)) (left (has_words a) (has_words b) h) (op_token o, refl, tokens_expr b (lexeme (codes ")") ∷ r) (right (has_words a) (has_words b) h) (refl, refl, k)))
+tokens_expr (Two o a b) r h k = (
+  refl,
+  refl,
+  tokens_expr a (lexeme (op_text o) ∷ spell b (lexeme (codes ")") ∷ r)) (left (has_words a) (has_words b) h)
+      (op_token o, refl, tokens_expr b (lexeme (codes ")") ∷ r) (right (has_words a) (has_words b) h) (refl, refl, k)),
+)
 
 tokens_body : (b : Body) (r : List Token) → each_expr has_words b ≡ true → each_name is_c_name b ≡ true → AllTokens r → AllTokens (spell_body b r)
 tokens_body End r w n k = k
-tokens_body (Decl l t x e b) r w n k =
-    (type_token t, refl, (name_token x (left (is_c_name x) (each_name is_c_name b) n), refl, (refl, refl, tokens_expr e (lexeme (codes ";") ∷ spell_body b r) (left (has_words e) (each_expr has_words b) w) (refl, refl, tokens_body b r (right (has_words e) (each_expr has_words b) w) (right (is_c_name x) (each_name is_c_name b) n) k))))
+tokens_body (Decl l t x e b) r w n k = (
+  type_token t,
+  refl,
+  (
+    name_token x (left (is_c_name x) (each_name is_c_name b) n),
+    refl,
+    (
+      refl,
+      refl,
+      tokens_expr e (lexeme (codes ";") ∷ spell_body b r) (left (has_words e) (each_expr has_words b) w)
+          (refl, refl, tokens_body b r (right (has_words e) (each_expr has_words b) w) (right (is_c_name x) (each_name is_c_name b) n) k),
+    ),
+  ),
+)
 tokens_body (Group l a b) r w n k = (
   refl,
   refl,
-  tokens_body a (lexeme (codes "}") ∷ spell_body b r) (left (each_expr has_words a) (each_expr has_words b) w) (left (each_name is_c_name a) (each_name is_c_name b) n)
+  tokens_body a (lexeme (codes "}") ∷ spell_body b r) (left (each_expr has_words a) (each_expr has_words b) w)
+      (left (each_name is_c_name a) (each_name is_c_name b) n)
       (refl, refl, tokens_body b r (right (each_expr has_words a) (each_expr has_words b) w) (right (each_name is_c_name a) (each_name is_c_name b) n) k),
 )
 tokens_body (If l e a b) r w n k =
@@ -165,8 +189,12 @@ tokens_body (If l e a b) r w n k =
         ),
       ),
     )
-tokens_body (Return l e b) r w n k =
-    (refl, refl, tokens_expr e (lexeme (codes ";") ∷ spell_body b r) (left (has_words e) (each_expr has_words b) w) (refl, refl, tokens_body b r (right (has_words e) (each_expr has_words b) w) n k))
+tokens_body (Return l e b) r w n k = (
+  refl,
+  refl,
+  tokens_expr e (lexeme (codes ";") ∷ spell_body b r) (left (has_words e) (each_expr has_words b) w)
+      (refl, refl, tokens_body b r (right (has_words e) (each_expr has_words b) w) n k),
+)
 
 tokens_parameters : (i : Bool) (r : List Token) → AllTokens r → AllTokens (spell_parameters i r)
 tokens_parameters false r k = (refl, refl, (refl, refl, (refl, refl, (refl, refl, k))))
@@ -179,13 +207,27 @@ tokens_own true r k = (refl, refl, k)
 pub tokens_fun : (f : Fun) (r : List Token) → fun_words f ≡ true → AllTokens r → AllTokens (spell_fun f r)
 tokens_fun f r h k =
     let w = right (is_c_name f.name) (each_expr has_words f.body && each_name is_c_name f.body) h in
-    let b : AllTokens (spell_body f.body (lexeme (codes "}") ∷ r)) = tokens_body f.body (lexeme (codes "}") ∷ r) (left (each_expr has_words f.body) (each_name is_c_name f.body) w) (right (each_expr has_words f.body) (each_name is_c_name f.body) w) (refl, refl, k) in
-    tokens_own f.own (lexeme (codes "int") ∷ lexeme f.name ∷ lexeme (codes "(") ∷ spell_parameters f.indexed (lexeme (codes ")") ∷ lexeme (codes "{") ∷ spell_body f.body (lexeme (codes "}") ∷ r)))
-    (refl, refl, (name_token f.name (left (is_c_name f.name) (each_expr has_words f.body && each_name is_c_name f.body) h), refl, (refl, refl, tokens_parameters f.indexed (lexeme (codes ")") ∷ lexeme (codes "{") ∷ spell_body f.body (lexeme (codes "}") ∷ r)) (refl, refl, (refl, refl, b)))))
+    let b : AllTokens (spell_body f.body (lexeme (codes "}") ∷ r)) = tokens_body f.body (lexeme (codes "}") ∷ r)
+    (left (each_expr has_words f.body) (each_name is_c_name f.body) w) (right (each_expr has_words f.body) (each_name is_c_name f.body) w) (refl, refl, k) in
+    tokens_own f.own (lexeme (codes "int") ∷ lexeme f.name ∷ lexeme (codes "(")
+    ∷ spell_parameters f.indexed (lexeme (codes ")") ∷ lexeme (codes "{") ∷ spell_body f.body (lexeme (codes "}") ∷ r))) (
+      refl,
+      refl,
+      (
+        name_token f.name (left (is_c_name f.name) (each_expr has_words f.body && each_name is_c_name f.body) h),
+        refl,
+        (
+          refl,
+          refl,
+          tokens_parameters f.indexed (lexeme (codes ")") ∷ lexeme (codes "{") ∷ spell_body f.body (lexeme (codes "}") ∷ r)) (refl, refl, (refl, refl, b)),
+        ),
+      ),
+    )
 
 tokens_file : (fs : List Fun) → each_fun fun_words fs ≡ true → AllTokens (spell_file fs)
 tokens_file [] h = tt
-tokens_file (f ∷ fs) h = tokens_fun f (spell_file fs) (left (fun_words f) (each_fun fun_words fs) h) (tokens_file fs (right (fun_words f) (each_fun fun_words fs) h))
+tokens_file (f ∷ fs) h =
+    tokens_fun f (spell_file fs) (left (fun_words f) (each_fun fun_words fs) h) (tokens_file fs (right (fun_words f) (each_fun fun_words fs) h))
 
 -- ---- lines change no condition
 
@@ -233,11 +275,20 @@ flat_differ (Return l e b) = flat_differ b
 
 flat_keeps : (names : List (List ℕ)) (f : Fun) → fun_keeps names (flat_fun f) ≡ fun_keeps names f
 flat_keeps names f =
-    rw (flat_parens f.body, flat_braces f.body, flat_names (λ x. is_own x && not (among names x)) f.body, flat_direct f.body, flat_differ f.body, flat_exprs divides f.body, flat_exprs calls_none f.body) refl
+    rw (
+      flat_parens f.body,
+      flat_braces f.body,
+      flat_names (λ x. is_own x && not (among names x)) f.body,
+      flat_direct f.body,
+      flat_differ f.body,
+      flat_exprs divides f.body,
+      flat_exprs calls_none f.body,
+    ) refl
 
 flat_each : (names : List (List ℕ)) (fs : List Fun) → each_fun (fun_keeps names) (flat_file fs) ≡ each_fun (fun_keeps names) fs
 flat_each names [] = refl
-flat_each names (f ∷ fs) = ap (λ (v : Bool). v && each_fun (fun_keeps names) (flat_file fs)) (flat_keeps names f) ∙ ap (λ (v : Bool). fun_keeps names f && v) (flat_each names fs)
+flat_each names (f ∷ fs) = ap (λ (v : Bool). v && each_fun (fun_keeps names) (flat_file fs)) (flat_keeps names f)
+    ∙ ap (λ (v : Bool). fun_keeps names f && v) (flat_each names fs)
 
 flat_names_of : (fs : List Fun) → names_of (flat_file fs) ≡ names_of fs
 flat_names_of [] = refl

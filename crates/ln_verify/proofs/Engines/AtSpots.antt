@@ -37,27 +37,36 @@ abbrev pub with_bench : Desk → Bench → Desk
 with_bench d b = record { at = d.at; parts = d.parts; exps = d.exps; bench = b; tray = d.tray; lists = d.lists }
 
 module _ (v : Version) (p : Subject) (d : Desk) where
-  pub tray-led : (t : Tray) (op : Op) (a : Triple) (ok : Bool) → d.at ≡ AtFilter → TrayLed v p.vars d.tray op a ok t → Leads v p d (FilterOp op a) ok (with_tray d t)
+  pub tray-led : (t : Tray) (op : Op) (a : Triple) (ok : Bool) → d.at ≡ AtFilter → TrayLed v p.vars d.tray op a ok t
+      → Leads v p d (FilterOp op a) ok (with_tray d t)
   tray-led t op a ok e h Named i = cc
-  tray-led t op a true e h (InFilter lines s) i = let r = h s i.1 in (refl, (InFilter (lines ++ record { op = op; bound = a } ∷ []) r.0, (r.0, r.1, refl), (e, r.2)))
+  tray-led t op a true e h (InFilter lines s) i =
+      let r = h s i.1 in
+      (refl, (InFilter (lines ++ record { op = op; bound = a } ∷ []) r.0, (r.0, r.1, refl), (e, r.2)))
   tray-led t op a false e h (InFilter lines s) i = let r = h s i.1 in (refl, λ q k. r k.0 k.1)
   tray-led t op a ok e h (Between f bs) i = cc
   tray-led t op a ok e h (InBlock f bs x lines s) i = cc
   tray-led t op a ok e h (Ordering w) i = cc
 
-  pub bound-led : (t : Bench) (op : Op) (b : ℕ) (ok : Bool) → v.number ≡ 1 → d.at ≡ AtBlock → BenchLed v p.vars d.bench op (balanced b) ok t → Leads v p d (BlockOp op b) ok (with_bench d t)
+  pub bound-led : (t : Bench) (op : Op) (b : ℕ) (ok : Bool) → v.number ≡ 1 → d.at ≡ AtBlock → BenchLed v p.vars d.bench op (balanced b) ok t
+      → Leads v p d (BlockOp op b) ok (with_bench d t)
   bound-led t op b ok o e h Named i = cc
   bound-led t op b ok o e h (InFilter lines s) i = cc
   bound-led t op b ok o e h (Between f bs) i = cc
-  bound-led t op b true o e h (InBlock f bs x lines s) i = let r = h s i.3 in (refl, (InBlock f bs x (lines ++ record { op = op; bound = balanced b } ∷ []) r.0, (o, (r.0, r.1, refl)), (e, i.1, i.2, r.2)))
+  bound-led t op b true o e h (InBlock f bs x lines s) i =
+      let r = h s i.3 in
+      (refl, (InBlock f bs x (lines ++ record { op = op; bound = balanced b } ∷ []) r.0, (o, (r.0, r.1, refl)), (e, i.1, i.2, r.2)))
   bound-led t op b false o e h (InBlock f bs x lines s) i = let r = h s i.3 in (refl, λ q k. r k.1.0 k.1.1)
   bound-led t op b ok o e h (Ordering w) i = cc
 
-  pub range-led : (t : Bench) (op : Op) (b : Range) (ok : Bool) → v.number ≡ 2 → d.at ≡ AtBlock → BenchLed v p.vars d.bench op b ok t → Leads v p d (RangeOp op b.low b.high) ok (with_bench d t)
+  pub range-led : (t : Bench) (op : Op) (b : Range) (ok : Bool) → v.number ≡ 2 → d.at ≡ AtBlock → BenchLed v p.vars d.bench op b ok t
+      → Leads v p d (RangeOp op b.low b.high) ok (with_bench d t)
   range-led t op b ok o e h Named i = cc
   range-led t op b ok o e h (InFilter lines s) i = cc
   range-led t op b ok o e h (Between f bs) i = cc
-  range-led t op b true o e h (InBlock f bs x lines s) i = let r = h s i.3 in (refl, (InBlock f bs x (lines ++ record { op = op; bound = b } ∷ []) r.0, (o, (r.0, r.1, refl)), (e, i.1, i.2, r.2)))
+  range-led t op b true o e h (InBlock f bs x lines s) i =
+      let r = h s i.3 in
+      (refl, (InBlock f bs x (lines ++ record { op = op; bound = b } ∷ []) r.0, (o, (r.0, r.1, refl)), (e, i.1, i.2, r.2)))
   range-led t op b false o e h (InBlock f bs x lines s) i = let r = h s i.3 in (refl, λ q k. r k.1.0 k.1.1)
   range-led t op b ok o e h (Ordering w) i = cc
 
@@ -99,45 +108,73 @@ module _ (v : Version) (p : Subject) (d : Desk) where
   named-gap es e h (InBlock f bs x lines s) i = cc
   named-gap es e h (Ordering w) i = cc
 
-  pub named-filter : (t : Tray) → d.at ≡ AtName → ((n : ℕ) → IsTray n t fresh) → Leads v p d Filter true (record { at = AtFilter; parts = d.parts; exps = d.exps; bench = d.bench; tray = t; lists = d.lists })
+  pub named-filter : (t : Tray) → d.at ≡ AtName → ((n : ℕ) → IsTray n t fresh)
+      → Leads v p d Filter true (record { at = AtFilter; parts = d.parts; exps = d.exps; bench = d.bench; tray = t; lists = d.lists })
   named-filter t e h Named i = (refl, (InFilter [] fresh, refl, (refl, h (length p.vars))))
   named-filter t e h (InFilter lines s) i = cc
   named-filter t e h (Between f bs) i = cc
   named-filter t e h (InBlock f bs x lines s) i = cc
   named-filter t e h (Ordering w) i = cc
 
-  pub decided : (es : List Pairs) → d.at ≡ AtFilter → es ≡ [] → ((s : State FilterKnown (ℕ → Option FilterKnown)) → IsTray (length p.vars) d.tray s → TrayDecides p s) → Leads v p d Decide true (moved d AtGap es)
+  pub decided : (es : List Pairs) → d.at ≡ AtFilter → es ≡ []
+      → ((s : State FilterKnown (ℕ → Option FilterKnown)) → IsTray (length p.vars) d.tray s → TrayDecides p s) → Leads v p d Decide true (moved d AtGap es)
   decided es e h k Named i = cc
   decided es e h k (InFilter lines s) i =
-      let r = k s i.1 in
-      (refl, (Between (Some lines) [], record { left = r.left; one = r.one; whole = r.whole; narrow = r.narrow; to = refl }, (refl, h, above-none (length p.vars) es h)))
+      let r = k s i.1 in (
+        refl,
+        (
+          Between (Some lines) [],
+          record { left = r.left; one = r.one; whole = r.whole; narrow = r.narrow; to = refl },
+          (refl, h, above-none (length p.vars) es h),
+        ),
+      )
   decided es e h k (Between f bs) i = cc
   decided es e h k (InBlock f bs x lines s) i = cc
   decided es e h k (Ordering w) i = cc
 
-  pub end-not : ((es : List Pairs) (a : Pairs) (s : State Known (ℕ → Option Known)) → d.exps ≡ es ++ a ∷ [] → AreAbove (length p.vars) d.exps → IsBench (length p.vars) d.bench s → BenchEnds p a s → ⊥) → Leads v p d End false d
+  pub end-not : ((es : List Pairs) (a : Pairs) (s : State Known (ℕ → Option Known)) → d.exps ≡ es ++ a ∷ []
+      → AreAbove (length p.vars) d.exps → IsBench (length p.vars) d.bench s → BenchEnds p a s → ⊥) → Leads v p d End false d
   end-not k Named i = (refl, λ t r. r)
   end-not k (InFilter lines s) i = (refl, λ t r. r)
   end-not k (Between f bs) i = (refl, λ t r. r)
   end-not k (InBlock f bs x lines s) i = (refl, λ t r. k (exps_of bs) x s i.1 i.2 i.3 (record { left = r.left; one = r.one; derivative = r.derivative }))
   end-not k (Ordering w) i = (refl, λ t r. r)
 
-  pub ended : d.at ≡ AtBlock → ((es : List Pairs) (a : Pairs) (s : State Known (ℕ → Option Known)) → d.exps ≡ es ++ a ∷ [] → AreAbove (length p.vars) d.exps → IsBench (length p.vars) d.bench s → BenchEnds p a s) → Leads v p d End true (moved d AtGap d.exps)
+  pub ended : d.at ≡ AtBlock → ((es : List Pairs) (a : Pairs) (s : State Known (ℕ → Option Known)) → d.exps ≡ es ++ a ∷ []
+      → AreAbove (length p.vars) d.exps → IsBench (length p.vars) d.bench s → BenchEnds p a s) → Leads v p d End true (moved d AtGap d.exps)
   ended e k Named i = cc
   ended e k (InFilter lines s) i = cc
   ended e k (Between f bs) i = cc
   ended e k (InBlock f bs x lines s) i =
-      let r = k (exps_of bs) x s i.1 i.2 i.3 in
-      (refl, (Between f (bs ++ record { exps = x; lines = lines } ∷ []), record { left = r.left; one = r.one; derivative = r.derivative; to = refl }, (refl, i.1 ∙ sym (exps-more bs (record { exps = x; lines = lines })), i.2)))
+      let r = k (exps_of bs) x s i.1 i.2 i.3 in (
+        refl,
+        (
+          Between f (bs ++ record { exps = x; lines = lines } ∷ []),
+          record { left = r.left; one = r.one; derivative = r.derivative; to = refl },
+          (refl, i.1 ∙ sym (exps-more bs (record { exps = x; lines = lines })), i.2),
+        ),
+      )
   ended e k (Ordering w) i = cc
 
-  pub opened : (k : ℕ) (a : Pairs) (es : List Pairs) (b : Bench) → d.at ≡ AtGap → k ≡ length d.exps → AreOfSites p.vars a → IsRising a → es ≡ d.exps ++ a ∷ [] → ((n : ℕ) → IsBench n b fresh) →
+  pub opened : (k : ℕ) (a : Pairs) (es : List Pairs) (b : Bench) → d.at ≡ AtGap → k ≡ length d.exps → AreOfSites p.vars a → IsRising a →
+      es ≡ d.exps ++ a ∷ [] → ((n : ℕ) → IsBench n b fresh) →
       Leads v p d (Block k a) true (record { at = AtBlock; parts = d.parts; exps = es; bench = b; tray = d.tray; lists = d.lists })
   opened k a es b e l o r h z Named i = cc
   opened k a es b e l o r h z (InFilter lines s) i = cc
   opened k a es b e l o r h z (Between f bs) i =
-      let n : k ≡ length bs = l ∙ ap length i.1 ∙ length-map bs (λ (x : Piece). x.exps) in
-      (refl, (InBlock f bs a [] fresh, record { number = n; rising = r; of_sites = o; to = refl }, (refl, h ∙ ap (λ xs. xs ++ a ∷ []) i.1, subst (AreAbove (length p.vars)) (sym h) (above-more (length p.vars) d.exps a i.2 (sites-above p.vars a o)), z (length p.vars))))
+      let n : k ≡ length bs = l ∙ ap length i.1 ∙ length-map bs (λ (x : Piece). x.exps) in (
+        refl,
+        (
+          InBlock f bs a [] fresh,
+          record { number = n; rising = r; of_sites = o; to = refl },
+          (
+            refl,
+            h ∙ ap (λ xs. xs ++ a ∷ []) i.1,
+            subst (AreAbove (length p.vars)) (sym h) (above-more (length p.vars) d.exps a i.2 (sites-above p.vars a o)),
+            z (length p.vars),
+          ),
+        ),
+      )
   opened k a es b e l o r h z (InBlock f bs x lines s) i = cc
   opened k a es b e l o r h z (Ordering w) i = cc
 
@@ -164,7 +201,8 @@ module _ (v : Version) (p : Subject) (d : Desk) where
       none m q = cc
   ordered n places list e k (Between f bs) i =
       let z : 0 ≡ n = some-is 0 n (sym (ap (λ x. before_of x d.lists) i.0) ∙ e) in
-      let next : IsNextList p (exps_of bs) 0 places list = subst (λ (m : ℕ). IsNextList p (exps_of bs) m places list) (sym z) (subst (λ (es : List Pairs). IsNextList p es n places list) i.1 (k i.2)) in
+      let next : IsNextList p (exps_of bs) 0 places list =
+      subst (λ (m : ℕ). IsNextList p (exps_of bs) m places list) (sym z) (subst (λ (es : List Pairs). IsNextList p es n places list) i.1 (k i.2)) in
       (refl, (Ordering (record { filter = f; blocks = bs; lists = list ∷ [] }), record { next = next; to = refl }, (refl, i.1, i.2, omega (arith, z))))
   ordered n places list e k (InBlock f bs x lines s) i = absurd (none n (sym (ap (λ x. before_of x d.lists) i.0) ∙ e))
     where
@@ -173,8 +211,15 @@ module _ (v : Version) (p : Subject) (d : Desk) where
   ordered n places list e k (Ordering w) i =
       let z : d.lists ≡ n = some-is d.lists n (sym (ap (λ x. before_of x d.lists) i.0) ∙ e) in
       let y : n ≡ length w.lists = sym z ∙ i.3 in
-      let next : IsNextList p (exps_of w.blocks) (length w.lists) places list = subst (λ (m : ℕ). IsNextList p (exps_of w.blocks) m places list) y (subst (λ (es : List Pairs). IsNextList p es n places list) i.1 (k i.2)) in
-      (refl, (Ordering (record { filter = w.filter; blocks = w.blocks; lists = w.lists ++ list ∷ [] }), record { next = next; to = refl }, (refl, i.1, i.2, ap (λ m. m + 1) y ∙ sym (length-more w.lists list))))
+      let next : IsNextList p (exps_of w.blocks) (length w.lists) places list =
+      subst (λ (m : ℕ). IsNextList p (exps_of w.blocks) m places list) y (subst (λ (es : List Pairs). IsNextList p es n places list) i.1 (k i.2)) in (
+        refl,
+        (
+          Ordering (record { filter = w.filter; blocks = w.blocks; lists = w.lists ++ list ∷ [] }),
+          record { next = next; to = refl },
+          (refl, i.1, i.2, ap (λ m. m + 1) y ∙ sym (length-more w.lists list)),
+        ),
+      )
 
 module _ (v : Version) (p : Subject) (d : Desk) (places list : List ℕ) where
   none-is : (m : ℕ) → None ≡ Some m → ⊥
@@ -189,16 +234,23 @@ module _ (v : Version) (p : Subject) (d : Desk) (places list : List ℕ) where
   order-nowhere e (Ordering w) i = absurd (none-is d.lists (sym e ∙ ap (λ x. before_of x d.lists) i.0))
 
   -- it isn't the next one
-  pub order-not : (n : ℕ) → before_of d.at d.lists ≡ Some n → (AreAbove (length p.vars) d.exps → IsNextList p d.exps n places list → ⊥) → Leads v p d (Order places list) false d
+  pub order-not : (n : ℕ) → before_of d.at d.lists ≡ Some n → (AreAbove (length p.vars) d.exps → IsNextList p d.exps n places list → ⊥)
+      → Leads v p d (Order places list) false d
   order-not n e k Named i = (refl, λ t r. r)
   order-not n e k (InFilter lines s) i = (refl, λ t r. r)
   order-not n e k (Between f bs) i =
-      let z : 0 ≡ n = some-is v p d 0 n (sym (ap (λ x. before_of x d.lists) i.0) ∙ e) in
-      (refl, λ t r. k i.2 (subst (λ (es : List Pairs). IsNextList p es n places list) (sym i.1) (subst (λ (m : ℕ). IsNextList p (exps_of bs) m places list) z r.next)))
+      let z : 0 ≡ n = some-is v p d 0 n (sym (ap (λ x. before_of x d.lists) i.0) ∙ e) in (
+        refl,
+        λ t r. k i.2 (subst (λ (es : List Pairs). IsNextList p es n places list) (sym i.1)
+            (subst (λ (m : ℕ). IsNextList p (exps_of bs) m places list) z r.next)),
+      )
   order-not n e k (InBlock f bs x lines s) i = (refl, λ t r. r)
   order-not n e k (Ordering w) i =
-      let z : d.lists ≡ n = some-is v p d d.lists n (sym (ap (λ x. before_of x d.lists) i.0) ∙ e) in
-      (refl, λ t r. k i.2 (subst (λ (es : List Pairs). IsNextList p es n places list) (sym i.1) (subst (λ (m : ℕ). IsNextList p (exps_of w.blocks) m places list) (sym i.3 ∙ z) r.next)))
+      let z : d.lists ≡ n = some-is v p d d.lists n (sym (ap (λ x. before_of x d.lists) i.0) ∙ e) in (
+        refl,
+        λ t r. k i.2 (subst (λ (es : List Pairs). IsNextList p es n places list) (sym i.1)
+            (subst (λ (m : ℕ). IsNextList p (exps_of w.blocks) m places list) (sym i.3 ∙ z) r.next)),
+      )
 
 pub next-within : (p : Subject) (es : List Pairs) (n : ℕ) (places list : List ℕ) → IsNextList p es n places list → n < length (orders_of p.sites)
 next-within p es n places list h = slice_get_within (orders_of p.sites) n places h.order

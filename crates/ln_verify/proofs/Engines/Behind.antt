@@ -1,4 +1,4 @@
--- An engine behind a map of bounds.
+-- An engine through a map of bounds.
 use Rattle.std.proofs.Common.{◌≡◌, List, [], ◌∷◌, refl, ◌∙◌, ap}
 use Rattle.std.specs.Prelude.{Option, Some, None}
 use Rattle.ln_code.specs.declared.op.Op.{Op}
@@ -43,9 +43,12 @@ next-same : {A B : Type 0} (o : Option A) (f g : A → Option B) → ((a : A) �
 next-same None f g h = refl
 next-same (Some a) f g h = h a
 
-run-behind : {A B V L : Type 0} (g : A → B) (e : Engine B V L) (lines : List (Line A)) (s : State V L) → run (behind_bounds g e) lines s ≡ run e (relined g lines) s
+run-behind : {A B V L : Type 0} (g : A → B) (e : Engine B V L) (lines : List (Line A)) (s : State V L)
+    → run (behind_bounds g e) lines s ≡ run e (relined g lines) s
 run-behind g e [] s = refl
-run-behind g e (x ∷ xs) s = ap (λ o. next o (λ t. run (behind_bounds g e) xs t)) (step-behind g e x.op x.bound s.locals s.stack) ∙ next-same (step e x.op (g x.bound) s.locals s.stack) (λ t. run (behind_bounds g e) xs t) (λ t. run e (relined g xs) t) (λ t. run-behind g e xs t)
+run-behind g e (x ∷ xs) s = ap (λ o. next o (λ t. run (behind_bounds g e) xs t)) (step-behind g e x.op x.bound s.locals s.stack)
+    ∙ next-same (step e x.op (g x.bound) s.locals s.stack) (λ t. run (behind_bounds g e) xs t) (λ t. run e (relined g xs) t) (λ t. run-behind g e xs t)
 
-pub answer-behind : {A B V L : Type 0} (g : A → B) (e : Engine B V L) (l : L) (lines : List (Line A)) → answer (behind_bounds g e) l lines ≡ answer e l (relined g lines)
+pub answer-behind : {A B V L : Type 0} (g : A → B) (e : Engine B V L) (l : L) (lines : List (Line A))
+    → answer (behind_bounds g e) l lines ≡ answer e l (relined g lines)
 answer-behind g e l lines = ap (λ o. next o (λ s. only s.stack)) (run-behind g e lines (record { stack = []; locals = l }))

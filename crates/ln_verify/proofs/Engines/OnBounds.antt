@@ -36,7 +36,8 @@ pub record Same (x : Known) (k : Bounded) : Type 0 where
   pub tree : x.tree ≡ k.tree
 
 -- the bound covers what the range covers
-passes : (a b : ℕ) (enough : Range) (w : Width) (size : ℕ) (t : Tree) (x : Known) → (enough.high ≤ℤ pos b → neg_ℤ (pos b) ≤ℤ enough.low → a ≤ b) → known enough (balanced b) w size t ≡ Some x → Reaches Same x (bounded a b w t)
+passes : (a b : ℕ) (enough : Range) (w : Width) (size : ℕ) (t : Tree) (x : Known) → (enough.high ≤ℤ pos b → neg_ℤ (pos b) ≤ℤ enough.low → a ≤ b)
+    → known enough (balanced b) w size t ≡ Some x → Reaches Same x (bounded a b w t)
 passes a b enough w size t x h q =
     let s = known-says enough (balanced b) w size t x q in
     let m : nat_le a b ≡ true = le-leb _ _ (h s.covers.1 s.covers.0) in
@@ -47,20 +48,30 @@ passes a b enough w size t x h q =
 at-high : (m b : ℕ) → pos m ≤ℤ pos b → m ≤ b
 at-high m b h = omega (arith, ints, h)
 
-push-passes : (c : ℤ) (b : ℕ) (x : Known) → known (point c) (balanced b) (least (magnitude (balanced b))) (unsigned_abs c) (tree.Num c) ≡ Some x → Reaches Same x (bounded (unsigned_abs c) b (least b) (tree.Num c))
-push-passes c b x q = passes (unsigned_abs c) b (point c) (least b) (unsigned_abs c) (tree.Num c) x (λ h l. omega (arith, ints, h, l)) (subst (λ (w : Width). known (point c) (balanced b) w (unsigned_abs c) (tree.Num c) ≡ Some x) (least-balanced b) q)
+push-passes : (c : ℤ) (b : ℕ) (x : Known) → known (point c) (balanced b) (least (magnitude (balanced b))) (unsigned_abs c) (tree.Num c) ≡ Some x
+    → Reaches Same x (bounded (unsigned_abs c) b (least b) (tree.Num c))
+push-passes c b x q = passes (unsigned_abs c) b (point c) (least b) (unsigned_abs c) (tree.Num c) x (λ h l. omega (arith, ints, h, l))
+    (subst (λ (w : Width). known (point c) (balanced b) w (unsigned_abs c) (tree.Num c) ≡ Some x) (least-balanced b) q)
 
-input-passes : (vars : List VarInfo) (v b : ℕ) (x : Known) → next (slice_get vars v) (λ i. known (balanced (size_of i)) (balanced b) (least (magnitude (balanced b))) (size_of i) (tree.Input v)) ≡ Some x → Reaches Same x (next (slice_get vars v) (λ i. bounded (size_of i) b (least b) (tree.Input v)))
+input-passes : (vars : List VarInfo) (v b : ℕ) (x : Known)
+    → next (slice_get vars v) (λ i. known (balanced (size_of i)) (balanced b) (least (magnitude (balanced b))) (size_of i) (tree.Input v)) ≡ Some x
+    → Reaches Same x (next (slice_get vars v) (λ i. bounded (size_of i) b (least b) (tree.Input v)))
 input-passes vars v b x q =
-    let r = next_some (slice_get vars v) (λ (i : VarInfo). known (balanced (size_of i)) (balanced b) (least (magnitude (balanced b))) (size_of i) (tree.Input v)) x q in
+    let r =
+    next_some (slice_get vars v) (λ (i : VarInfo). known (balanced (size_of i)) (balanced b) (least (magnitude (balanced b))) (size_of i) (tree.Input v)) x q in
     let e = r.1 in
-    rw e (passes (size_of r.0) b (balanced (size_of r.0)) (least b) (size_of r.0) (tree.Input v) x (λ h l. at-high (size_of r.0) b h) (subst (λ (w : Width). known (balanced (size_of r.0)) (balanced b) w (size_of r.0) (tree.Input v) ≡ Some x) (least-balanced b) r.2))
+    rw e (passes (size_of r.0) b (balanced (size_of r.0)) (least b) (size_of r.0) (tree.Input v) x (λ h l. at-high (size_of r.0) b h)
+    (subst (λ (w : Width). known (balanced (size_of r.0)) (balanced b) w (size_of r.0) (tree.Input v) ≡ Some x) (least-balanced b) r.2))
 
-again-passes : (x : Known) (k : Bounded) (b : ℕ) (y : Known) → Same x k → known x.range (balanced b) (wider x.width (least (magnitude (balanced b)))) x.size x.tree ≡ Some y → Reaches Same y (bounded k.bound b (wider k.width (least b)) k.tree)
+again-passes : (x : Known) (k : Bounded) (b : ℕ) (y : Known) → Same x k
+    → known x.range (balanced b) (wider x.width (least (magnitude (balanced b)))) x.size x.tree ≡ Some y
+    → Reaches Same y (bounded k.bound b (wider k.width (least b)) k.tree)
 again-passes x k b y s q =
     let e = least-balanced b in
     rw (← s.tree) (passes k.bound b (balanced k.bound) (wider k.width (least b)) x.size x.tree y (λ h l. at-high k.bound b h)
-    (subst (λ (z : Range). known z (balanced b) (wider k.width (least b)) x.size x.tree ≡ Some y) s.range (subst (λ (w : Width). known x.range (balanced b) (wider w (least b)) x.size x.tree ≡ Some y) s.width (subst (λ (w : Width). known x.range (balanced b) (wider x.width w) x.size x.tree ≡ Some y) e q))))
+    (subst (λ (z : Range). known z (balanced b) (wider k.width (least b)) x.size x.tree ≡ Some y) s.range
+    (subst (λ (w : Width). known x.range (balanced b) (wider w (least b)) x.size x.tree ≡ Some y) s.width
+    (subst (λ (w : Width). known x.range (balanced b) (wider x.width w) x.size x.tree ≡ Some y) e q))))
 
 max-right : (a b c : ℤ) → int_max a b ≤ℤ c → b ≤ℤ c
 max-right a b c h = omega (arith, ints, h, int_max_is a b)
@@ -69,20 +80,25 @@ high-bound : (t : Two) (m n b : ℕ) → (range_of t (balanced m) (balanced n)).
 high-bound Plus m n b h = omega (arith, ints, h)
 high-bound Minus m n b h = omega (arith, ints, h)
 high-bound Times m n b h =
-    let r = max-right (pos m *ℤ neg_ℤ (pos n)) (pos m *ℤ pos n) (pos b) (max-right (int_max (neg_ℤ (pos m) *ℤ neg_ℤ (pos n)) (neg_ℤ (pos m) *ℤ pos n)) (int_max (pos m *ℤ neg_ℤ (pos n)) (pos m *ℤ pos n)) (pos b) h) in
+    let r = max-right (pos m *ℤ neg_ℤ (pos n)) (pos m *ℤ pos n) (pos b)
+    (max-right (int_max (neg_ℤ (pos m) *ℤ neg_ℤ (pos n)) (neg_ℤ (pos m) *ℤ pos n)) (int_max (pos m *ℤ neg_ℤ (pos n)) (pos m *ℤ pos n)) (pos b) h) in
     at-high (m * n) b r
 
 two-passes : (t : Two) (w : Width) (b : ℕ) (x y : Known) (k m : Bounded) (z : Known) → Same x k → Same y m →
-    (if no_wider x.width w && no_wider y.width w then known (range_of t x.range y.range) (balanced b) w (bound_of t x.size y.size) (two_of t x.tree y.tree) else None) ≡ Some z →
+    (if no_wider x.width w && no_wider y.width w
+    then known (range_of t x.range y.range) (balanced b) w (bound_of t x.size y.size) (two_of t x.tree y.tree) else None) ≡ Some z →
     Reaches Same z (if no_wider k.width w && no_wider m.width w then bounded (bound_of t k.bound m.bound) b w (two_of t k.tree m.tree) else None)
 two-passes t w b x y k m z s u q =
     let r = if_some _ _ _ q in
     let h : (no_wider k.width w && no_wider m.width w) ≡ true = rw (← s.width, ← u.width) r.0 in
-    let a = subst (λ (c : Range). known (range_of t c (balanced m.bound)) (balanced b) w (bound_of t x.size y.size) (two_of t x.tree y.tree) ≡ Some z) s.range (subst (λ (c : Range). known (range_of t x.range c) (balanced b) w (bound_of t x.size y.size) (two_of t x.tree y.tree) ≡ Some z) u.range r.1) in
-    let p = passes (bound_of t k.bound m.bound) b (range_of t (balanced k.bound) (balanced m.bound)) w (bound_of t x.size y.size) (two_of t x.tree y.tree) z (λ i l. high-bound t k.bound m.bound b i) a in
+    let a = subst (λ (c : Range). known (range_of t c (balanced m.bound)) (balanced b) w (bound_of t x.size y.size) (two_of t x.tree y.tree) ≡ Some z) s.range
+    (subst (λ (c : Range). known (range_of t x.range c) (balanced b) w (bound_of t x.size y.size) (two_of t x.tree y.tree) ≡ Some z) u.range r.1) in
+    let p = passes (bound_of t k.bound m.bound) b (range_of t (balanced k.bound) (balanced m.bound)) w (bound_of t x.size y.size)
+    (two_of t x.tree y.tree) z (λ i l. high-bound t k.bound m.bound b i) a in
     rw (h, ← s.tree, ← u.tree) p
 
-minus-passes : (w : Width) (b : ℕ) (x : Known) (k : Bounded) (z : Known) → Same x k → (if no_wider x.width w then known (opposite x.range) (balanced b) w x.size (tree.Neg x.tree) else None) ≡ Some z →
+minus-passes : (w : Width) (b : ℕ) (x : Known) (k : Bounded) (z : Known) → Same x k →
+    (if no_wider x.width w then known (opposite x.range) (balanced b) w x.size (tree.Neg x.tree) else None) ≡ Some z →
     Reaches Same z (if no_wider k.width w then bounded k.bound b w (tree.Neg k.tree) else None)
 minus-passes w b x k z s q =
     let r = if_some _ _ _ q in
@@ -94,7 +110,8 @@ minus-passes w b x k z s q =
 abbrev Locals : (ℕ → Option Known) → (ℕ → Option Bounded) → Type 0
 Locals l m = (j : ℕ) (x : Known) → l j ≡ Some x → Reaches Same x (m j)
 
-put-passes : (l : ℕ → Option Known) (m : ℕ → Option Bounded) (j : ℕ) (x : Known) (k : Bounded) → Locals l m → Same x k → Locals (with_local l j x) (with_local m j k)
+put-passes : (l : ℕ → Option Known) (m : ℕ → Option Bounded) (j : ℕ) (x : Known) (k : Bounded) → Locals l m → Same x k
+    → Locals (with_local l j x) (with_local m j k)
 put-passes l m j x k h f i y = by_case (i == j)
   where
     by_case : (b : Bool) → (if b then Some x else l i) ≡ Some y → Reaches Same y (if b then Some k else m i)
@@ -133,26 +150,32 @@ bounded-says a b w t k q =
     let c = and_parts (nat_le a b) _ r.0 in
     record { covers = leb-true _ _ c.0; fits = leb-true _ _ c.1; is = r.1 }
 
-taken : (a b n : ℕ) (enough : Range) (w : Width) (t : Tree) (k : Bounded) → (a ≤ b → Covers (balanced b) enough) → n ≤ a → bounded a b w t ≡ Some k → Reaches Within k (known enough (balanced b) w n t)
+taken : (a b n : ℕ) (enough : Range) (w : Width) (t : Tree) (k : Bounded) → (a ≤ b → Covers (balanced b) enough) → n ≤ a
+    → bounded a b w t ≡ Some k → Reaches Within k (known enough (balanced b) w n t)
 taken a b n enough w t k h s q =
     let r = bounded-says a b w t k q in
     let l = limit_most w in
     let e = known-is enough (balanced b) w n t (h r.covers) (balanced-within b w r.fits) (omega (arith, s, r.covers, r.fits, l)) in
     rw (e, ← r.is) (record { range = refl; width = refl; tree = refl; size = omega (arith, s, r.covers) })
 
-push-taken : (c : ℤ) (b : ℕ) (k : Bounded) → bounded (unsigned_abs c) b (least b) (tree.Num c) ≡ Some k → Reaches Within k (known (point c) (balanced b) (least (magnitude (balanced b))) (unsigned_abs c) (tree.Num c))
+push-taken : (c : ℤ) (b : ℕ) (k : Bounded) → bounded (unsigned_abs c) b (least b) (tree.Num c) ≡ Some k
+    → Reaches Within k (known (point c) (balanced b) (least (magnitude (balanced b))) (unsigned_abs c) (tree.Num c))
 push-taken c b k q =
-    let p = taken (unsigned_abs c) b (unsigned_abs c) (point c) (least b) (tree.Num c) k (λ h. (omega (arith, ints, h), omega (arith, ints, h))) (omega arith) q in
+    let p = taken (unsigned_abs c) b (unsigned_abs c) (point c) (least b) (tree.Num c) k
+    (λ h. (omega (arith, ints, h), omega (arith, ints, h))) (omega arith) q in
     subst (λ (w : Width). Reaches Within k (known (point c) (balanced b) w (unsigned_abs c) (tree.Num c))) (sym (least-balanced b)) p
 
-input-taken : (vars : List VarInfo) (v b : ℕ) (k : Bounded) → next (slice_get vars v) (λ i. bounded (size_of i) b (least b) (tree.Input v)) ≡ Some k → Reaches Within k (next (slice_get vars v) (λ i. known (balanced (size_of i)) (balanced b) (least (magnitude (balanced b))) (size_of i) (tree.Input v)))
+input-taken : (vars : List VarInfo) (v b : ℕ) (k : Bounded) → next (slice_get vars v) (λ i. bounded (size_of i) b (least b) (tree.Input v)) ≡ Some k
+    → Reaches Within k (next (slice_get vars v) (λ i. known (balanced (size_of i)) (balanced b) (least (magnitude (balanced b))) (size_of i) (tree.Input v)))
 input-taken vars v b k q =
     let r = next_some (slice_get vars v) (λ (i : VarInfo). bounded (size_of i) b (least b) (tree.Input v)) k q in
     let e = r.1 in
-    let p = taken (size_of r.0) b (size_of r.0) (balanced (size_of r.0)) (least b) (tree.Input v) k (λ h. (omega (arith, ints, h), omega (arith, ints, h))) (omega arith) r.2 in
+    let p = taken (size_of r.0) b (size_of r.0) (balanced (size_of r.0)) (least b) (tree.Input v) k
+    (λ h. (omega (arith, ints, h), omega (arith, ints, h))) (omega arith) r.2 in
     rw e (subst (λ (w : Width). Reaches Within k (known (balanced (size_of r.0)) (balanced b) w (size_of r.0) (tree.Input v))) (sym (least-balanced b)) p)
 
-again-taken : (k : Bounded) (x : Known) (b : ℕ) (m : Bounded) → Within k x → bounded k.bound b (wider k.width (least b)) k.tree ≡ Some m → Reaches Within m (known x.range (balanced b) (wider x.width (least (magnitude (balanced b)))) x.size x.tree)
+again-taken : (k : Bounded) (x : Known) (b : ℕ) (m : Bounded) → Within k x → bounded k.bound b (wider k.width (least b)) k.tree ≡ Some m
+    → Reaches Within m (known x.range (balanced b) (wider x.width (least (magnitude (balanced b)))) x.size x.tree)
 again-taken k x b m s q =
     let p = taken k.bound b x.size (balanced k.bound) (wider k.width (least b)) k.tree m (λ h. (omega (arith, ints, h), omega (arith, ints, h))) s.size q in
     let e = least-balanced b in
@@ -163,7 +186,8 @@ four-low : (m n : ℕ) (b : ℕ) → m * n ≤ b → neg_ℤ (pos b) ≤ℤ (ran
 four-low m n b h =
     let p : pos m *ℤ pos n ≡ pos (m * n) = refl in
     let q : pos m *ℤ neg_ℤ (pos n) ≡ neg_ℤ (pos m *ℤ pos n) = mul_neg (pos m) (pos n) in
-    let r : neg_ℤ (pos m) *ℤ pos n ≡ neg_ℤ (pos m *ℤ pos n) = mul_comm (neg_ℤ (pos m)) (pos n) ∙ mul_neg (pos n) (pos m) ∙ ap neg_ℤ (mul_comm (pos n) (pos m)) in
+    let r : neg_ℤ (pos m) *ℤ pos n ≡ neg_ℤ (pos m *ℤ pos n) =
+    mul_comm (neg_ℤ (pos m)) (pos n) ∙ mul_neg (pos n) (pos m) ∙ ap neg_ℤ (mul_comm (pos n) (pos m)) in
     let s : neg_ℤ (pos m) *ℤ neg_ℤ (pos n) ≡ neg_ℤ (neg_ℤ (pos m) *ℤ pos n) = mul_neg (neg_ℤ (pos m)) (pos n) in
     omega (
       arith,
@@ -182,7 +206,8 @@ four-high : (m n : ℕ) (b : ℕ) → m * n ≤ b → (range_of Times (balanced 
 four-high m n b h =
     let p : pos m *ℤ pos n ≡ pos (m * n) = refl in
     let q : pos m *ℤ neg_ℤ (pos n) ≡ neg_ℤ (pos m *ℤ pos n) = mul_neg (pos m) (pos n) in
-    let r : neg_ℤ (pos m) *ℤ pos n ≡ neg_ℤ (pos m *ℤ pos n) = mul_comm (neg_ℤ (pos m)) (pos n) ∙ mul_neg (pos n) (pos m) ∙ ap neg_ℤ (mul_comm (pos n) (pos m)) in
+    let r : neg_ℤ (pos m) *ℤ pos n ≡ neg_ℤ (pos m *ℤ pos n) =
+    mul_comm (neg_ℤ (pos m)) (pos n) ∙ mul_neg (pos n) (pos m) ∙ ap neg_ℤ (mul_comm (pos n) (pos m)) in
     let s : neg_ℤ (pos m) *ℤ neg_ℤ (pos n) ≡ neg_ℤ (neg_ℤ (pos m) *ℤ pos n) = mul_neg (neg_ℤ (pos m)) (pos n) in
     omega (
       arith,
@@ -204,16 +229,21 @@ two-covers Times m n b h = (four-low m n b h, four-high m n b h)
 
 two-taken : (t : Two) (w : Width) (b : ℕ) (k m : Bounded) (x y : Known) (z : Bounded) → Within k x → Within m y →
     (if no_wider k.width w && no_wider m.width w then bounded (bound_of t k.bound m.bound) b w (two_of t k.tree m.tree) else None) ≡ Some z →
-    Reaches Within z (if no_wider x.width w && no_wider y.width w then known (range_of t x.range y.range) (balanced b) w (bound_of t x.size y.size) (two_of t x.tree y.tree) else None)
+    Reaches Within z (if no_wider x.width w && no_wider y.width w
+    then known (range_of t x.range y.range) (balanced b) w (bound_of t x.size y.size) (two_of t x.tree y.tree) else None)
 two-taken t w b k m x y z s u q =
     let r = if_some _ _ _ q in
     let h : (no_wider x.width w && no_wider y.width w) ≡ true = rw (s.width, u.width) r.0 in
-    let p = taken (bound_of t k.bound m.bound) b (bound_of t x.size y.size) (range_of t (balanced k.bound) (balanced m.bound)) w (two_of t k.tree m.tree) z (two-covers t k.bound m.bound b) (sizes-mono t x.size y.size k.bound m.bound s.size u.size) r.1 in
-    let a = subst (λ (e : Range). Reaches Within z (known (range_of t e (balanced m.bound)) (balanced b) w (bound_of t x.size y.size) (two_of t k.tree m.tree))) (sym s.range) p in
-    let c = subst (λ (e : Range). Reaches Within z (known (range_of t x.range e) (balanced b) w (bound_of t x.size y.size) (two_of t k.tree m.tree))) (sym u.range) a in
+    let p = taken (bound_of t k.bound m.bound) b (bound_of t x.size y.size) (range_of t (balanced k.bound) (balanced m.bound)) w
+    (two_of t k.tree m.tree) z (two-covers t k.bound m.bound b) (sizes-mono t x.size y.size k.bound m.bound s.size u.size) r.1 in
+    let a = subst (λ (e : Range). Reaches Within z (known (range_of t e (balanced m.bound)) (balanced b) w (bound_of t x.size y.size) (two_of t k.tree m.tree)))
+    (sym s.range) p in
+    let c =
+    subst (λ (e : Range). Reaches Within z (known (range_of t x.range e) (balanced b) w (bound_of t x.size y.size) (two_of t k.tree m.tree))) (sym u.range) a in
     rw (h, s.tree, u.tree) c
 
-minus-taken : (w : Width) (b : ℕ) (k : Bounded) (x : Known) (z : Bounded) → Within k x → (if no_wider k.width w then bounded k.bound b w (tree.Neg k.tree) else None) ≡ Some z →
+minus-taken : (w : Width) (b : ℕ) (k : Bounded) (x : Known) (z : Bounded) → Within k x →
+    (if no_wider k.width w then bounded k.bound b w (tree.Neg k.tree) else None) ≡ Some z →
     Reaches Within z (if no_wider x.width w then known (opposite x.range) (balanced b) w x.size (tree.Neg x.tree) else None)
 minus-taken w b k x z s q =
     let r = if_some _ _ _ q in
@@ -225,7 +255,8 @@ minus-taken w b k x z s q =
 abbrev Taken : (ℕ → Option Bounded) → (ℕ → Option Known) → Type 0
 Taken l m = (j : ℕ) (k : Bounded) → l j ≡ Some k → Reaches Within k (m j)
 
-put-taken : (l : ℕ → Option Bounded) (m : ℕ → Option Known) (j : ℕ) (k : Bounded) (x : Known) → Taken l m → Within k x → Taken (with_local l j k) (with_local m j x)
+put-taken : (l : ℕ → Option Bounded) (m : ℕ → Option Known) (j : ℕ) (k : Bounded) (x : Known) → Taken l m → Within k x
+    → Taken (with_local l j k) (with_local m j x)
 put-taken l m j k x h f i y = by_case (i == j)
   where
     by_case : (b : Bool) → (if b then Some k else l i) ≡ Some y → Reaches Within y (if b then Some x else m i)
@@ -256,14 +287,18 @@ is-on-bounds vars lines = record { there = there; back = back }
     behind : answer (behind_bounds balanced (block_rules version_1 vars)) no_locals lines ≡ answer (block_rules version_1 vars) no_locals (on_ranges lines)
     behind = answer-behind balanced (block_rules version_1 vars) no_locals lines ∙ ap (answer (block_rules version_1 vars) no_locals) (on-ranges-is lines)
 
-    there : (k : Bounded) → answer (bound_rules vars) no_locals lines ≡ Some k → (x : Known) × (answer (block_rules version_1 vars) no_locals (on_ranges lines) ≡ Some x) × IsSame k x
+    there : (k : Bounded) → answer (bound_rules vars) no_locals lines ≡ Some k
+        → (x : Known) × (answer (block_rules version_1 vars) no_locals (on_ranges lines) ≡ Some x) × IsSame k x
     there k q =
-        let a = answer_follows (bound_rules vars) (behind_bounds balanced (block_rules version_1 vars)) (λ (b : ℕ). b) Within Taken (ranges-follow vars) no_locals no_locals lines k (λ j y r. cc) q in
+        let a = answer_follows (bound_rules vars) (behind_bounds balanced (block_rules version_1 vars)) (λ (b : ℕ). b) Within Taken
+        (ranges-follow vars) no_locals no_locals lines k (λ j y r. cc) q in
         let r = reached_some Within k _ (rw same_lines at a) in
         (r.0, sym behind ∙ r.1, record { range = r.2.range; width = r.2.width; tree = r.2.tree })
 
-    back : (x : Known) → answer (block_rules version_1 vars) no_locals (on_ranges lines) ≡ Some x → (k : Bounded) × (answer (bound_rules vars) no_locals lines ≡ Some k) × IsSame k x
+    back : (x : Known) → answer (block_rules version_1 vars) no_locals (on_ranges lines) ≡ Some x
+        → (k : Bounded) × (answer (bound_rules vars) no_locals lines ≡ Some k) × IsSame k x
     back x q =
-        let a = answer_follows (behind_bounds balanced (block_rules version_1 vars)) (bound_rules vars) (λ (b : ℕ). b) Same Locals (bounds-follow vars) no_locals no_locals lines x (λ j y r. cc) (behind ∙ q) in
+        let a = answer_follows (behind_bounds balanced (block_rules version_1 vars)) (bound_rules vars) (λ (b : ℕ). b) Same Locals
+        (bounds-follow vars) no_locals no_locals lines x (λ j y r. cc) (behind ∙ q) in
         let r = reached_some Same x _ (rw same_lines at a) in
         (r.0, r.1, record { range = r.2.range; width = r.2.width; tree = r.2.tree })

@@ -65,7 +65,8 @@ module _ {X K : Type 0} (R : X → K → Type 0) where
   differ : (i j : ℕ) → (i == j) ≡ false → i ≢ j
   differ i j e h = grind (arith, nat_tests)
 
-  pub local-set : (ls : List (Option X)) (l : ℕ → Option K) (j i : ℕ) (x : X) (k : K) (q : Bool) → (i == j) ≡ q → j < length ls → R x k → IsLocal R (get_or ls i None) (l i) → IsLocal R (get_or (slice_set ls j (Some x)) i None) (with_local l j k i)
+  pub local-set : (ls : List (Option X)) (l : ℕ → Option K) (j i : ℕ) (x : X) (k : K) (q : Bool) → (i == j) ≡ q → j < length ls → R x k
+      → IsLocal R (get_or ls i None) (l i) → IsLocal R (get_or (slice_set ls j (Some x)) i None) (with_local l j k i)
   local-set ls l j i x k true e b f h =
       let s : get_or (slice_set ls j (Some x)) i None ≡ Some x = get_or-set_at ls j i (Some x) None (eqb-true i j e) b in
       subst (λ (o : Option X). IsLocal R o (with_local l j k i)) (sym s) (rw e f)
@@ -74,31 +75,36 @@ module _ {X K : Type 0} (R : X → K → Type 0) where
       subst (λ (o : Option X). IsLocal R o (with_local l j k i)) (sym s) (rw e h)
 
 module _ {B X K : Type 0} (R : X → K → Type 0) (tree : K → Tree) (n : ℕ) (e : Engine B K (ℕ → Option K)) (room : (m : ℕ) → e.room m ≡ nat_le m 2048) where
-  -- what comes of a push
+  -- the result of a push
   abbrev Goes : (ℕ → Option K) → List K → Option K → Option (State K (ℕ → Option K))
   Goes l ks r = next r (pushed e l ks)
 
   -- nothing small leads on
-  nothing : (l : ℕ → Option K) (ks : List K) (k : K) (t : State K (ℕ → Option K)) → (IsSmall n (tree k) → ⊥) → Goes l ks (Some k) ≡ Some t → PushedSmall tree n false t.stack → ⊥
+  nothing : (l : ℕ → Option K) (ks : List K) (k : K) (t : State K (ℕ → Option K)) → (IsSmall n (tree k) → ⊥) → Goes l ks (Some k) ≡ Some t
+      → PushedSmall tree n false t.stack → ⊥
   nothing l ks k t none q h = let w = (when_some _ _ _ q).1 in none (subst (λ (z : State K (ℕ → Option K)). PushedSmall tree n false z.stack) (sym w) h)
 
   -- there is no room
-  full : (l : ℕ → Option K) (xs : List X) (ks : List K) (k : K) (t : State K (ℕ → Option K)) → 2048 ≤ length xs → AreFor R (reverse xs) ks → Goes l ks (Some k) ≡ Some t → ⊥
+  full : (l : ℕ → Option K) (xs : List X) (ks : List K) (k : K) (t : State K (ℕ → Option K)) → 2048 ≤ length xs → AreFor R (reverse xs) ks
+      → Goes l ks (Some k) ≡ Some t → ⊥
   full l xs ks k t h f q =
       let w : nat_le (suc (length ks)) 2048 ≡ true = sym (room (suc (length ks))) ∙ (when_some _ _ _ q).0 in
       let a : suc (length ks) ≤ 2048 = leb-true _ _ w in
       omega (arith, a, h, for-length R (reverse xs) ks f, length-reverse xs)
 
   -- there is
-  there-is : (l : ℕ → Option K) (xs : List X) (ks : List K) (k : K) → length xs < 2048 → AreFor R (reverse xs) ks → Goes l ks (Some k) ≡ Some (record { stack = k ∷ ks; locals = l })
+  there-is : (l : ℕ → Option K) (xs : List X) (ks : List K) (k : K) → length xs < 2048 → AreFor R (reverse xs) ks
+      → Goes l ks (Some k) ≡ Some (record { stack = k ∷ ks; locals = l })
   there-is l xs ks k h f =
       let a : nat_le (suc (length ks)) 2048 ≡ true = le-leb _ _ (omega (arith, h, for-length R (reverse xs) ks f, length-reverse xs)) in
       let b : e.room (suc (length ks)) ≡ true = room (suc (length ks)) ∙ a in
       rw b refl
 
-  module _ (s : State K (ℕ → Option K)) (op : Op) (b : B) (t : stores op ≡ false) (ks : List K) (mid : List X) (f : AreFor R (reverse mid) ks) (ls : List (Option X)) (size : length ls ≡ 256) (locals : (j : ℕ) → j < 256 → IsLocal R (get_or ls j None) (s.locals j)) where
+  module _ (s : State K (ℕ → Option K)) (op : Op) (b : B) (t : stores op ≡ false) (ks : List K) (mid : List X) (f : AreFor R (reverse mid) ks)
+      (ls : List (Option X)) (size : length ls ≡ 256) (locals : (j : ℕ) → j < 256 → IsLocal R (get_or ls j None) (s.locals j)) where
     -- what is made is pushed
-    pub pushed-came : (o : Option X) (r : Option K) (xs : List X) (ok : Bool) → step e op b s.locals s.stack ≡ Goes s.locals ks r → IsMade R tree n o r → PushedOnto o mid ok xs → Came R tree n e s op b ok xs ls
+    pub pushed-came : (o : Option X) (r : Option K) (xs : List X) (ok : Bool) → step e op b s.locals s.stack ≡ Goes s.locals ks r
+        → IsMade R tree n o r → PushedOnto o mid ok xs → Came R tree n e s op b ok xs ls
     pushed-came None None xs true g m h = absurd h
     pushed-came None None xs false g m h = λ u q. let z : None ≡ Some u = sym g ∙ q.0 in cc
     pushed-came None (Some k) xs true g m h = absurd h
@@ -107,7 +113,11 @@ module _ {B X K : Type 0} (R : X → K → Type 0) (tree : K → Tree) (n : ℕ)
     pushed-came (Some x) (Some k) xs true g m h = (
       record { stack = k ∷ ks; locals = s.locals },
       (g ∙ there-is s.locals mid ks k h.0 f, subst (λ (z : Bool). PushedSmall tree n z (k ∷ ks)) (sym t) m.1),
-      record { stack = subst (λ (z : List X). AreFor R z (k ∷ ks)) (sym (ap reverse h.1 ∙ reverse-append mid (x ∷ []))) (m.0, f); size = size; locals = locals },
+      record {
+        stack = subst (λ (z : List X). AreFor R z (k ∷ ks)) (sym (ap reverse h.1 ∙ reverse-append mid (x ∷ []))) (m.0, f);
+        size = size;
+        locals = locals;
+      },
     )
     pushed-came (Some x) (Some k) xs false g m h = λ u q. full s.locals mid ks k u h f (sym g ∙ q.0)
 
@@ -118,7 +128,8 @@ module _ {B X K : Type 0} (R : X → K → Type 0) (tree : K → Tree) (n : ℕ)
   pub cut-step : (d : ℕ) (b : B) (l : ℕ → Option K) (xs rest : List K) (k : K) → xs ≡ k ∷ rest → step e (Cut d) b l xs ≡ Goes l rest (e.cut d b k)
   cut-step d b l xs rest k q = ap (λ (z : List K). step e (Cut d) b l z) q
 
-  pub two-step : (t : Two) (w : Width) (b : B) (l : ℕ → Option K) (xs rest more : List K) (k j : K) → xs ≡ k ∷ rest → rest ≡ j ∷ more → step e (op_of t w) b l xs ≡ Goes l more (e.two t w b j k)
+  pub two-step : (t : Two) (w : Width) (b : B) (l : ℕ → Option K) (xs rest more : List K) (k j : K) → xs ≡ k ∷ rest → rest ≡ j ∷ more
+      → step e (op_of t w) b l xs ≡ Goes l more (e.two t w b j k)
   two-step Plus w b l xs rest more k j q r = ap (λ (z : List K). step e (Add w) b l z) (q ∙ ap (λ (z : List K). k ∷ z) r)
   two-step Minus w b l xs rest more k j q r = ap (λ (z : List K). step e (Sub w) b l z) (q ∙ ap (λ (z : List K). k ∷ z) r)
   two-step Times w b l xs rest more k j q r = ap (λ (z : List K). step e (Mul w) b l z) (q ∙ ap (λ (z : List K). k ∷ z) r)
@@ -139,7 +150,8 @@ module _ {B X K : Type 0} (R : X → K → Type 0) (tree : K → Tree) (n : ℕ)
   op-pushes Times w = refl
 
   -- a step that leads nowhere
-  pub nowhere : (s : State K (ℕ → Option K)) (op : Op) (b : B) (xs : List X) (ls : List (Option X)) → step e op b s.locals s.stack ≡ None → Came R tree n e s op b false xs ls
+  pub nowhere : (s : State K (ℕ → Option K)) (op : Op) (b : B) (xs : List X) (ls : List (Option X)) → step e op b s.locals s.stack ≡ None
+      → Came R tree n e s op b false xs ls
   nowhere s op b xs ls g = λ u q. let z : None ≡ Some u = sym g ∙ q.0 in cc
 
   -- ---- locals
@@ -150,14 +162,20 @@ module _ {B X K : Type 0} (R : X → K → Type 0) (tree : K → Tree) (n : ℕ)
     pub get-none : (j : ℕ) (b : B) (l : ℕ → Option K) (xs : List K) → l j ≡ None → step e (Get j) b l xs ≡ None
     get-none j b l xs q = ap (λ (o : Option K). next (next o (λ x. e.again x b)) (pushed e l xs)) (got l j ∙ q)
 
-    pub set-came : (s : State K (ℕ → Option K)) (old mid : List X) (before ls : List (Option X)) (j : ℕ) (b : B) (x : X) → old ≡ mid ++ x ∷ [] → ls ≡ slice_set before j (Some x) → j < length before → IsState R old before s → Came R tree n e s (Set j) b true mid ls
+    pub set-came : (s : State K (ℕ → Option K)) (old mid : List X) (before ls : List (Option X)) (j : ℕ) (b : B) (x : X) → old ≡ mid ++ x ∷ []
+        → ls ≡ slice_set before j (Some x) → j < length before → IsState R old before s → Came R tree n e s (Set j) b true mid ls
     set-came s old mid before ls j b x q l k i =
         let o = popped R old mid x s.stack q i.stack in (
           record { stack = o.rest; locals = with_local s.locals j o.top },
-          (ap (λ (z : List K). step e (Set j) b s.locals z) o.is ∙ ap (λ (m : ℕ → Option K). Some (record { stack = o.rest; locals = m })) (put s.locals j o.top), tt),
+          (
+            ap (λ (z : List K). step e (Set j) b s.locals z) o.is
+                ∙ ap (λ (m : ℕ → Option K). Some (record { stack = o.rest; locals = m })) (put s.locals j o.top),
+            tt,
+          ),
           record {
             stack = o.below;
             size = ap length l ∙ length-set before j (Some x) ∙ i.size;
-            locals = λ y w. subst (λ (z : List (Option X)). IsLocal R (get_or z y None) (with_local s.locals j o.top y)) (sym l) (local-set R before s.locals j y x o.top (y == j) refl k o.for_it (i.locals y w));
+            locals = λ y w. subst (λ (z : List (Option X)). IsLocal R (get_or z y None) (with_local s.locals j o.top y)) (sym l)
+                (local-set R before s.locals j y x o.top (y == j) refl k o.for_it (i.locals y w));
           },
         )

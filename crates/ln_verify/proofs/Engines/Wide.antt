@@ -46,23 +46,32 @@ if-wide false o k h e = cc
 
 module _ (v : Version) (vars : List VarInfo) (p : Range) (l : ℕ → Option Known) (t : State Known (ℕ → Option Known)) (wide : FitsNot p) where
   two-wide : (o : Two) (w : Width) (x y k : Known) → (block_rules v vars).two o w p x y ≡ Some k → ⊥
-  two-wide o w x y k e = if-wide (no_wider x.width w && no_wider y.width w) (known (range_of o x.range y.range) p w (bound_of o x.size y.size) (two_of o x.tree y.tree)) k (λ h. known-wide (range_of o x.range y.range) p w (bound_of o x.size y.size) (two_of o x.tree y.tree) k wide h) e
+  two-wide o w x y k e = if-wide (no_wider x.width w && no_wider y.width w) (known (range_of o x.range y.range) p w (bound_of o x.size y.size)
+      (two_of o x.tree y.tree)) k (λ h. known-wide (range_of o x.range y.range) p w (bound_of o x.size y.size) (two_of o x.tree y.tree) k wide h) e
 
   pub too-wide : (op : Op) (xs : List Known) → stores op ≡ false → step (block_rules v vars) op p l xs ≡ Some t → ⊥
-  too-wide (Push c) xs s e = next-none ((block_rules v vars).push c p) (pushed (block_rules v vars) l xs) t (λ k h. known-wide (point c) p (least (magnitude p)) (unsigned_abs c) (tree.Num c) k wide h) e
-  too-wide (Input i) xs s e = next-none ((block_rules v vars).input i p) (pushed (block_rules v vars) l xs) t (λ k h. next-each (slice_get vars i) (λ x. known (v.range x) p (least (magnitude p)) (v.size x) (tree.Input i)) k (λ x q. known-wide (v.range x) p (least (magnitude p)) (v.size x) (tree.Input i) k wide q) h) e
-  too-wide (Get j) xs s e = next-none (next (l j) (λ x. (block_rules v vars).again x p)) (pushed (block_rules v vars) l xs) t (λ k h. next-each (l j) (λ x. (block_rules v vars).again x p) k (λ x q. known-wide x.range p (wider x.width (least (magnitude p))) x.size x.tree k wide q) h) e
+  too-wide (Push c) xs s e = next-none ((block_rules v vars).push c p) (pushed (block_rules v vars) l xs) t
+      (λ k h. known-wide (point c) p (least (magnitude p)) (unsigned_abs c) (tree.Num c) k wide h) e
+  too-wide (Input i) xs s e = next-none ((block_rules v vars).input i p) (pushed (block_rules v vars) l xs) t
+      (λ k h. next-each (slice_get vars i) (λ x. known (v.range x) p (least (magnitude p)) (v.size x) (tree.Input i)) k
+      (λ x q. known-wide (v.range x) p (least (magnitude p)) (v.size x) (tree.Input i) k wide q) h) e
+  too-wide (Get j) xs s e = next-none (next (l j) (λ x. (block_rules v vars).again x p)) (pushed (block_rules v vars) l xs) t (λ k h. next-each (l j)
+      (λ x. (block_rules v vars).again x p) k (λ x q. known-wide x.range p (wider x.width (least (magnitude p))) x.size x.tree k wide q) h) e
   too-wide (Set j) xs s e = cc
   too-wide (Add w) [] s e = cc
   too-wide (Add w) (y ∷ []) s e = cc
-  too-wide (Add w) (y ∷ (x ∷ xs)) s e = next-none ((block_rules v vars).two Plus w p x y) (pushed (block_rules v vars) l xs) t (λ k h. two-wide Plus w x y k h) e
+  too-wide (Add w) (y ∷ (x ∷ xs)) s e =
+      next-none ((block_rules v vars).two Plus w p x y) (pushed (block_rules v vars) l xs) t (λ k h. two-wide Plus w x y k h) e
   too-wide (Sub w) [] s e = cc
   too-wide (Sub w) (y ∷ []) s e = cc
-  too-wide (Sub w) (y ∷ (x ∷ xs)) s e = next-none ((block_rules v vars).two Minus w p x y) (pushed (block_rules v vars) l xs) t (λ k h. two-wide Minus w x y k h) e
+  too-wide (Sub w) (y ∷ (x ∷ xs)) s e =
+      next-none ((block_rules v vars).two Minus w p x y) (pushed (block_rules v vars) l xs) t (λ k h. two-wide Minus w x y k h) e
   too-wide (Mul w) [] s e = cc
   too-wide (Mul w) (y ∷ []) s e = cc
-  too-wide (Mul w) (y ∷ (x ∷ xs)) s e = next-none ((block_rules v vars).two Times w p x y) (pushed (block_rules v vars) l xs) t (λ k h. two-wide Times w x y k h) e
+  too-wide (Mul w) (y ∷ (x ∷ xs)) s e =
+      next-none ((block_rules v vars).two Times w p x y) (pushed (block_rules v vars) l xs) t (λ k h. two-wide Times w x y k h) e
   too-wide (Neg w) [] s e = cc
-  too-wide (Neg w) (x ∷ xs) s e = next-none ((block_rules v vars).minus w p x) (pushed (block_rules v vars) l xs) t (λ k h. if-wide (no_wider x.width w) (known (opposite x.range) p w x.size (tree.Neg x.tree)) k (λ q. known-wide (opposite x.range) p w x.size (tree.Neg x.tree) k wide q) h) e
+  too-wide (Neg w) (x ∷ xs) s e = next-none ((block_rules v vars).minus w p x) (pushed (block_rules v vars) l xs) t (λ k h. if-wide (no_wider x.width w)
+      (known (opposite x.range) p w x.size (tree.Neg x.tree)) k (λ q. known-wide (opposite x.range) p w x.size (tree.Neg x.tree) k wide q) h) e
   too-wide (Cut n) [] s e = cc
   too-wide (Cut n) (x ∷ xs) s e = cc

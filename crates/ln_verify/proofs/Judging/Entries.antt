@@ -30,20 +30,25 @@ parts-many es = length-map es (λ (e : Entry). e.part)
 -- ---- the loop
 module _ (v : Version) (ps : List Subject) (d : Desk) (es : List Entry) (i : ℕ) where
   -- the line at hand leads on
-  pub entry-more : (e : Entry) (new : Desk) → i < length es → e ≡ get_or es i e → Come v ps (take i (parts_of es)) d → ((here : Place) → IsHere ps d here → Gone v ps here e.part true new) → Come v ps (take (i + 1) (parts_of es)) new
+  pub entry-more : (e : Entry) (new : Desk) → i < length es → e ≡ get_or es i e → Come v ps (take i (parts_of es)) d
+      → ((here : Place) → IsHere ps d here → Gone v ps here e.part true new) → Come v ps (take (i + 1) (parts_of es)) new
   entry-more e new l q c h =
       let p : e.part ≡ get_or (parts_of es) i e.part = ap (λ (x : Entry). x.part) q ∙ sym (part-at es i e) in
-      come-more v ps d (parts_of es) i e.part new (omega (arith, l, parts-many es)) c (subst (λ (x : Part). (here : Place) → IsHere ps d here → Gone v ps here x true new) p h)
+      come-more v ps d (parts_of es) i e.part new (omega (arith, l, parts-many es)) c
+      (subst (λ (x : Part). (here : Place) → IsHere ps d here → Gone v ps here x true new) p h)
 
   -- or it fails: it is the first that does, by its own number
-  pub entry-stops : (e : Entry) (new : Desk) → i < length es → e ≡ get_or es i e → AreNumbered 2 es → Come v ps (take i (parts_of es)) d → ((here : Place) → IsHere ps d here → Gone v ps here e.part false new) → IsFirstFault v ps (parts_of es) e.line
+  pub entry-stops : (e : Entry) (new : Desk) → i < length es → e ≡ get_or es i e → AreNumbered 2 es → Come v ps (take i (parts_of es)) d
+      → ((here : Place) → IsHere ps d here → Gone v ps here e.part false new) → IsFirstFault v ps (parts_of es) e.line
   entry-stops e new l q k c h =
       let p : e.part ≡ get_or (parts_of es) i e.part = ap (λ (x : Entry). x.part) q ∙ sym (part-at es i e) in
       let n : e.line ≡ i + 2 = omega (arith, ap (λ (x : Entry). x.line) q, number-at 2 es i e k l) in
-      subst (IsFirstFault v ps (parts_of es)) (sym n) (come-stops v ps d (parts_of es) i e.part new (omega (arith, l, parts-many es)) c (subst (λ (x : Part). (here : Place) → IsHere ps d here → Gone v ps here x false new) p h))
+      subst (IsFirstFault v ps (parts_of es)) (sym n) (come-stops v ps d (parts_of es) i e.part new (omega (arith, l, parts-many es)) c
+      (subst (λ (x : Part). (here : Place) → IsHere ps d here → Gone v ps here x false new) p h))
 
   -- the end of the file, within a part or where a predicate lacks its part
-  pub entries-lack : (n : ℕ) → i ≡ length es → n ≡ length es + 2 → Come v ps (take i (parts_of es)) d → ((d.at ≡ Away) × (d.parts ≡ length ps) → ⊥) → IsFirstFault v ps (parts_of es) n
+  pub entries-lack : (n : ℕ) → i ≡ length es → n ≡ length es + 2 → Come v ps (take i (parts_of es)) d
+      → ((d.at ≡ Away) × (d.parts ≡ length ps) → ⊥) → IsFirstFault v ps (parts_of es) n
   entries-lack n e q c a =
       let m : length (parts_of es) + 2 ≡ n = omega (arith, q, parts-many es) in
       subst (IsFirstFault v ps (parts_of es)) m (come-lacks v ps d (parts_of es) i (omega (arith, e, parts-many es)) c a)
@@ -63,4 +68,11 @@ joined-many (p ∷ ps) = omega (arith, length-append (text_of p) (joined (map te
 pub entries-few : (l : Listed) → Kept l → length l.entries ≤ 67108864
 entries-few l k =
     let b : length k.bytes ≡ length (joined (texts_of l.version (parts_of l.entries))) = ap length k.text.text in
-    omega (arith, k.short, b, length-append (first_line l.version) (joined (map text_of (parts_of l.entries))), joined-many (parts_of l.entries), parts-many l.entries)
+    omega (
+      arith,
+      k.short,
+      b,
+      length-append (first_line l.version) (joined (map text_of (parts_of l.entries))),
+      joined-many (parts_of l.entries),
+      parts-many l.entries,
+    )

@@ -1,5 +1,6 @@
 -- The stage list of an order, against the blocks that a line names.
-use Rattle.std.proofs.Common.{◌≡◌, ◌↔◌, ℕ, ◌+◌, ◌-◌, ◌<◌, ◌≤◌, zero, suc, Bool, true, false, List, [], ◌∷◌, ◌++◌, length, map, get_or, drop, take, refl, sym, ◌∙◌, ap, arith, subst}
+use Rattle.std.proofs.Common.{◌≡◌, ◌↔◌, ℕ, ◌+◌, ◌-◌, ◌<◌, ◌≤◌, zero, suc, Bool, true, false, List, [], ◌∷◌, ◌++◌, length, map, get_or, drop}
+use Rattle.std.proofs.Common.{take, refl, sym, ◌∙◌, ap, arith, subst}
 use Rattle.std.specs.List.{range_with_len}
 use Rattle.std.specs.Prelude.{All, Some, nat_lt, slice_get, slice_index_or}
 use Rattle.std.proofs.lemmas.Bool.Decides.{nat_tests}
@@ -29,7 +30,8 @@ same_exps : (xs ys : Pairs) → (same_pairs xs ys ≡ true) ↔ (xs ≡ ys)
 same_exps xs ys = (same_pairs-is xs ys, λ e. ap (same_pairs xs) (sym e) ∙ same_pairs-refl xs)
 
 -- the test of one block
-pub has-vector : (n : ℕ) (exps : List Pairs) (k : ℕ) (here a : Pairs) (b : Bool) → All (λ (e : Pairs). IsAbove e n) exps → IsAbove a n → IsRising here → IsRising a →
+pub has-vector : (n : ℕ) (exps : List Pairs) (k : ℕ) (here a : Pairs) (b : Bool) → All (λ (e : Pairs). IsAbove e n) exps → IsAbove a n →
+    IsRising here → IsRising a →
     true ≡ nat_lt k (length exps) → here ≡ slice_index_or exps k [] → b ≡ same_pairs here a → (b ≡ true) ↔ HasVector n exps k a
 has-vector n exps k here a b all above r r' l e t =
     let s = same_exps here a in
@@ -70,7 +72,8 @@ module _ (n : ℕ) (exps stages : List Pairs) where
   abbrev pub Decides : List ℕ → List ℕ → ℕ → Type 0
   Decides ks js i = SameFrom ks js i ↔ SameStages n exps stages ks js
 
-  pub decides-stop : (ks js : List ℕ) (i : ℕ) → i < length ks → length ks ≡ length js → Decides ks js i → (SameAt ks js i → ⊥) → SameStages n exps stages ks js → ⊥
+  pub decides-stop : (ks js : List ℕ) (i : ℕ) → i < length ks → length ks ≡ length js → Decides ks js i → (SameAt ks js i → ⊥)
+      → SameStages n exps stages ks js → ⊥
   decides-stop ks js i h e d none s = none ((turn ks js i h (omega (arith, h, e))).0 (d.1 s)).0
 
   pub decides-next : (ks js : List ℕ) (i : ℕ) → i < length ks → length ks ≡ length js → Decides ks js i → SameAt ks js i → Decides ks js (i + 1)
@@ -125,21 +128,26 @@ module _ (n : ℕ) (exps stages : List Pairs) where
 
 -- ---- the rule
 -- an order of the program's, among all
-pub order-at : (orders : List Order) (sites before : ℕ) (o : Order) → map order_places orders ≡ orders_of sites → before < length orders → o ≡ get_or orders before o → slice_get (orders_of sites) before ≡ Some (order_places o)
+pub order-at : (orders : List Order) (sites before : ℕ) (o : Order) → map order_places orders ≡ orders_of sites → before < length orders
+    → o ≡ get_or orders before o → slice_get (orders_of sites) before ≡ Some (order_places o)
 order-at orders sites before o e l h =
-    sym (ap (λ (xs : List (List ℕ)). slice_get xs before) e) ∙ slice_get-map order_places orders before ∙ ap (option_map order_places) (slice_get-get_or orders before o l ∙ ap (λ (x : Order). Some x) (sym h))
+    sym (ap (λ (xs : List (List ℕ)). slice_get xs before) e) ∙ slice_get-map order_places orders before
+    ∙ ap (option_map order_places) (slice_get-get_or orders before o l ∙ ap (λ (x : Order). Some x) (sym h))
 
 -- past them there is none
-pub order-none : (orders : List Order) (sites before : ℕ) (places : List ℕ) → map order_places orders ≡ orders_of sites → length orders ≤ before → slice_get (orders_of sites) before ≡ Some places → ⊥
+pub order-none : (orders : List Order) (sites before : ℕ) (places : List ℕ) → map order_places orders ≡ orders_of sites
+    → length orders ≤ before → slice_get (orders_of sites) before ≡ Some places → ⊥
 order-none orders sites before places e l h =
     let b : before < length (orders_of sites) = slice_get_within (orders_of sites) before places h in
     omega (arith, b, l, ap length e, length-map orders order_places)
 
 -- another order isn't the next one
-pub other : (p : Subject) (exps : List Pairs) (before : ℕ) (at places list : List ℕ) → slice_get (orders_of p.sites) before ≡ Some at → (at ≡ places → ⊥) → IsNextList p exps before places list → ⊥
+pub other : (p : Subject) (exps : List Pairs) (before : ℕ) (at places list : List ℕ) → slice_get (orders_of p.sites) before ≡ Some at
+    → (at ≡ places → ⊥) → IsNextList p exps before places list → ⊥
 other p exps before at places list o t h = t (some-same at places (sym o ∙ h.order))
 
-module _ (p : Subject) (st : Staged) (laid : is_laid_out p.sites p.vars ≡ true) (stages : AreStagesOf p.sites p.vars p.poly st) (before : ℕ) (o : List ℕ) (at : slice_get (orders_of p.sites) before ≡ Some o) where
+module _ (p : Subject) (st : Staged) (laid : is_laid_out p.sites p.vars ≡ true) (stages : AreStagesOf p.sites p.vars p.poly st) (before : ℕ)
+    (o : List ℕ) (at : slice_get (orders_of p.sites) before ≡ Some o) where
   abbrev pub n : ℕ
   n = length p.vars
 
@@ -154,7 +162,8 @@ module _ (p : Subject) (st : Staged) (laid : is_laid_out p.sites p.vars ≡ true
       ∙ ap (option_map (λ u. segments_from (segment_of st) u 0)) at
 
   pub numbers-are : All (λ i. i < length st.exps) numbers
-  numbers-are = subst (λ (q : List ℕ). All (λ i. i < length st.exps) q) (get_or_from_slice_get st.lists before numbers [] list-there) (stages.numbers before [] (slice_get_within st.lists before numbers list-there))
+  numbers-are = subst (λ (q : List ℕ). All (λ i. i < length st.exps) q) (get_or_from_slice_get st.lists before numbers [] list-there)
+      (stages.numbers before [] (slice_get_within st.lists before numbers list-there))
 
   -- the stage list of the order, as it was worked out
   worked : IsStageListOf n (sites_of p.vars o) p.poly (named n st.exps numbers)
@@ -165,7 +174,8 @@ module _ (p : Subject) (st : Staged) (laid : is_laid_out p.sites p.vars ≡ true
       let order : get_or (orders_of p.sites) before [] ≡ o = get_or_from_slice_get (orders_of p.sites) before o [] at in
       let b : before < length (map g st.lists) = slice_get_within (map g st.lists) before (g numbers) there in
       let s = stages.lists.each before b in
-      subst (λ (q : List (List ℕ)). IsStageListOf n (sites_of p.vars o) p.poly q) here (subst (λ (q : List ℕ). IsStageListOf n (sites_of p.vars q) p.poly (get_or (map g st.lists) before [])) order s)
+      subst (λ (q : List (List ℕ)). IsStageListOf n (sites_of p.vars o) p.poly q) here
+      (subst (λ (q : List ℕ). IsStageListOf n (sites_of p.vars q) p.poly (get_or (map g st.lists) before [])) order s)
 
   module _ (exps : List Pairs) (list : List ℕ) where
     next-list : SameStages n exps st.exps list numbers → IsNextList p exps before o list
@@ -177,16 +187,21 @@ module _ (p : Subject) (st : Staged) (laid : is_laid_out p.sites p.vars ≡ true
 
     list-same : IsNextList p exps before o list → SameStages n exps st.exps list numbers
     list-same h =
-        let order : IsOrderOf p.sites o = member-is p.sites o (before, slice_get_within (orders_of p.sites) before o at, get_or_from_slice_get (orders_of p.sites) before o o at) in
+        let order : IsOrderOf p.sites o =
+        member-is p.sites o (before, slice_get_within (orders_of p.sites) before o at, get_or_from_slice_get (orders_of p.sites) before o o at) in
         let differ : IndicesDiffer (sites_of p.vars o) = orders-differ p.sites p.vars o laid order in
-        vectors-same n exps st.exps list numbers h.within (list-unique n (sites_of p.vars o) p.poly (named n exps list) (named n st.exps numbers) differ h.stages worked)
+        vectors-same n exps st.exps list numbers h.within
+        (list-unique n (sites_of p.vars o) p.poly (named n exps list) (named n st.exps numbers) differ h.stages worked)
 
     -- whether the line is the next one, by the test of its list
     pub tested : (places : List ℕ) (b : Bool) → o ≡ places → All (λ (e : Pairs). IsAbove e n) exps →
-        ((m : ℕ) → All (λ (e : Pairs). IsAbove e m) exps → All (λ (e : Pairs). IsAbove e m) st.exps → (b ≡ true) ↔ SameStages m exps st.exps list numbers) → (b ≡ true) ↔ IsNextList p exps before places list
+        ((m : ℕ) → All (λ (e : Pairs). IsAbove e m) exps → All (λ (e : Pairs). IsAbove e m) st.exps → (b ≡ true) ↔ SameStages m exps st.exps list numbers) →
+        (b ≡ true) ↔ IsNextList p exps before places list
     tested places b e above t =
-        let s = t n above stages.below in
-        (λ h. subst (λ (z : List ℕ). IsNextList p exps before z list) e (next-list (s.0 h)), λ h. s.1 (list-same (subst (λ (z : List ℕ). IsNextList p exps before z list) (sym e) h)))
+        let s = t n above stages.below in (
+          λ h. subst (λ (z : List ℕ). IsNextList p exps before z list) e (next-list (s.0 h)),
+          λ h. s.1 (list-same (subst (λ (z : List ℕ). IsNextList p exps before z list) (sym e) h)),
+        )
 
 -- ---- one segment after the other
 pub joined-more : (g : ℕ → List ℕ) (a k : ℕ) → joined (map g (range_with_len a (k + 1))) ≡ joined (map g (range_with_len a k)) ++ g (a + k)
@@ -207,10 +222,14 @@ joined-more g a k = let e : k + 1 ≡ suc k = omega arith in ap (λ m. joined (m
         ap (λ xs. g a ++ xs) (more (a + 1) k ∙ ap (λ m. joined (map g (range_with_len (a + 1) k)) ++ g m) z)
         ∙ sym (append-assoc (g a) (joined (map g (range_with_len (a + 1) k))) (g (a + suc k)))
 
-pub list-more : (g : ℕ → List ℕ) (j : ℕ) (out new segment : List ℕ) → out ≡ joined (map g (range_with_len 0 j)) → new ≡ out ++ segment → segment ≡ g j → new ≡ joined (map g (range_with_len 0 (j + 1)))
+pub list-more : (g : ℕ → List ℕ) (j : ℕ) (out new segment : List ℕ) → out ≡ joined (map g (range_with_len 0 j)) → new ≡ out ++ segment
+    → segment ≡ g j → new ≡ joined (map g (range_with_len 0 (j + 1)))
 list-more g j out new segment e h s =
     let z : 0 + j ≡ j = omega arith in
     h ∙ ap (λ xs. xs ++ segment) e ∙ ap (λ ys. joined (map g (range_with_len 0 j)) ++ ys) (s ∙ ap g (sym z)) ∙ sym (joined-more g 0 j)
 
-pub list-end : (f : List ℕ → List ℕ) (places : List ℕ) (j : ℕ) (out : List ℕ) → j ≡ length places + 1 → out ≡ joined (map (λ i. f (take i places)) (range_with_len 0 j)) → out ≡ segments_from f places 0
-list-end f places j out e h = let z : j ≡ suc (length places) - 0 = omega (arith, e) in h ∙ ap (λ m. joined (map (λ i. f (take i places)) (range_with_len 0 m))) z
+pub list-end : (f : List ℕ → List ℕ) (places : List ℕ) (j : ℕ) (out : List ℕ) → j ≡ length places + 1
+    → out ≡ joined (map (λ i. f (take i places)) (range_with_len 0 j)) → out ≡ segments_from f places 0
+list-end f places j out e h =
+    let z : j ≡ suc (length places) - 0 = omega (arith, e) in
+    h ∙ ap (λ m. joined (map (λ i. f (take i places)) (range_with_len 0 m))) z

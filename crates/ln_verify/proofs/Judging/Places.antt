@@ -36,10 +36,12 @@ away-none n d (Between f bs) e i = cc
 away-none n d (InBlock f bs x lines s) e i = cc
 away-none n d (Ordering w) e i = cc
 
-pub named-one : (v : Version) (cs : List Case) (d : Desk) (c : Case) (name : List ℕ) (here : Place) → d.at ≡ Away → slice_get cs d.parts ≡ Some c → name_bytes c.shape.name ≡ name → IsHere (subjects_of cs) d here →
+pub named-one : (v : Version) (cs : List Case) (d : Desk) (c : Case) (name : List ℕ) (here : Place) → d.at ≡ Away →
+    slice_get cs d.parts ≡ Some c → name_bytes c.shape.name ≡ name → IsHere (subjects_of cs) d here →
     Gone v (subjects_of cs) here (Predicate name) true (record { at = AtName; parts = d.parts; exps = d.exps; bench = d.bench; tray = d.tray; lists = d.lists })
 named-one v cs d c name (Outside parts) a g e i =
-    let there : slice_get (subjects_of cs) (length parts) ≡ Some (subject_of c) = subst (λ k. slice_get (subjects_of cs) k ≡ Some (subject_of c)) i.1 (subject-at cs d.parts c g) in
+    let there : slice_get (subjects_of cs) (length parts) ≡ Some (subject_of c) =
+    subst (λ k. slice_get (subjects_of cs) k ≡ Some (subject_of c)) i.1 (subject-at cs d.parts c g) in
     (Within parts Named, record { subject = subject_of c; there = there; named = e; to = refl }, (i.1, subject_of c, there, refl))
 named-one v cs d c name (Within parts s) a g e i = absurd (away-none (length i.1.vars) d s a i.3)
 
@@ -49,16 +51,19 @@ none-some x e = cc
 subject-none : (cs : List Case) (i : ℕ) → slice_get cs i ≡ None → slice_get (subjects_of cs) i ≡ None
 subject-none cs i e = slice_get-map subject_of cs i ∙ ap (option_map subject_of) e
 
-pub named-none : (v : Version) (cs : List Case) (d new : Desk) (name : List ℕ) (here : Place) → d.at ≡ Away → slice_get cs d.parts ≡ None → IsHere (subjects_of cs) d here → Gone v (subjects_of cs) here (Predicate name) false new
+pub named-none : (v : Version) (cs : List Case) (d new : Desk) (name : List ℕ) (here : Place) → d.at ≡ Away → slice_get cs d.parts ≡ None
+    → IsHere (subjects_of cs) d here → Gone v (subjects_of cs) here (Predicate name) false new
 named-none v cs d new name (Outside parts) a g i =
     let there = subst (λ k. slice_get (subjects_of cs) k ≡ None) i.1 (subject-none cs d.parts g) in
     λ q r. none-some r.subject (sym there ∙ r.there)
 named-none v cs d new name (Within parts s) a g i = absurd (away-none (length i.1.vars) d s a i.3)
 
-pub named-other : (v : Version) (cs : List Case) (d new : Desk) (c : Case) (name : List ℕ) (here : Place) → d.at ≡ Away → slice_get cs d.parts ≡ Some c → (name_bytes c.shape.name ≡ name → ⊥) → IsHere (subjects_of cs) d here →
+pub named-other : (v : Version) (cs : List Case) (d new : Desk) (c : Case) (name : List ℕ) (here : Place) → d.at ≡ Away →
+    slice_get cs d.parts ≡ Some c → (name_bytes c.shape.name ≡ name → ⊥) → IsHere (subjects_of cs) d here →
     Gone v (subjects_of cs) here (Predicate name) false new
 named-other v cs d new c name (Outside parts) a g n i =
-    let there : slice_get (subjects_of cs) (length parts) ≡ Some (subject_of c) = subst (λ k. slice_get (subjects_of cs) k ≡ Some (subject_of c)) i.1 (subject-at cs d.parts c g) in
+    let there : slice_get (subjects_of cs) (length parts) ≡ Some (subject_of c) =
+    subst (λ k. slice_get (subjects_of cs) k ≡ Some (subject_of c)) i.1 (subject-at cs d.parts c g) in
     λ q r. n (ap (λ (x : Subject). x.name) (some-same (subject_of c) r.subject (sym there ∙ r.there)) ∙ r.named)
 named-other v cs d new c name (Within parts s) a g n i = absurd (away-none (length i.1.vars) d s a i.3)
 
@@ -105,7 +110,8 @@ done-over p d n a h q parts (Ordering w) e i = (sym i.3 ∙ h, refl, omega (arit
 at-hand : (ps : List Subject) (i j : ℕ) (p q : Subject) → i ≡ j → slice_get ps i ≡ Some p → slice_get ps j ≡ Some q → p ≡ q
 at-hand ps i j p q e f g = some-same p q (sym f ∙ ap (λ k. slice_get ps k) e ∙ g)
 
-part-yes : (v : Version) (p : Subject) (parts : List Written) (s t : Spot) (line : Part) → (line ≡ Done → ⊥) → LineRule v p s line t → PartRule v p parts s line (Within parts t)
+part-yes : (v : Version) (p : Subject) (parts : List Written) (s t : Spot) (line : Part) → (line ≡ Done → ⊥) → LineRule v p s line t
+    → PartRule v p parts s line (Within parts t)
 part-yes v p parts Named t line n r = (t, r, refl)
 part-yes v p parts (InFilter lines s) t line n r = (t, r, refl)
 part-yes v p parts (Between f bs) t line n r = (t, r, refl)
@@ -122,7 +128,8 @@ part-yes v p parts (Ordering w) t (RangeOp op l u) n r = absurd r
 part-yes v p parts (Ordering w) t End n r = absurd r
 part-yes v p parts (Ordering w) t Done n r = absurd r
 
-part-no : (v : Version) (p : Subject) (parts : List Written) (s : Spot) (line : Part) (q : Place) → (line ≡ Done → ⊥) → ((t : Spot) → LineRule v p s line t → ⊥) → PartRule v p parts s line q → ⊥
+part-no : (v : Version) (p : Subject) (parts : List Written) (s : Spot) (line : Part) (q : Place) → (line ≡ Done → ⊥)
+    → ((t : Spot) → LineRule v p s line t → ⊥) → PartRule v p parts s line q → ⊥
 part-no v p parts Named line q n h r = h r.0 r.1
 part-no v p parts (InFilter lines s) line q n h r = h r.0 r.1
 part-no v p parts (Between f bs) line q n h r = h r.0 r.1
@@ -139,7 +146,8 @@ part-no v p parts (Ordering w) (RangeOp op l u) q n h r = h r.0 r.1
 part-no v p parts (Ordering w) End q n h r = h r.0 r.1
 part-no v p parts (Ordering w) Done q n h r = absurd (n refl)
 
-pub within-part : (v : Version) (cs : List Case) (old new : Desk) (c : Case) (line : Part) (ok : Bool) (here : Place) → (old.at ≡ Away → ⊥) → slice_get cs old.parts ≡ Some c → (line ≡ Done → ⊥) → Leads v (subject_of c) old line ok new → IsHere (subjects_of cs) old here →
+pub within-part : (v : Version) (cs : List Case) (old new : Desk) (c : Case) (line : Part) (ok : Bool) (here : Place) → (old.at ≡ Away → ⊥) →
+    slice_get cs old.parts ≡ Some c → (line ≡ Done → ⊥) → Leads v (subject_of c) old line ok new → IsHere (subjects_of cs) old here →
     Gone v (subjects_of cs) here line ok new
 within-part v cs old new c line ok (Outside parts) a g n h i = absurd (a i.0)
 within-part v cs old new c line true (Within parts s) a g n h i =
@@ -157,7 +165,8 @@ length-more : (xs : List Written) (x : Written) → length (xs ++ x ∷ []) ≡ 
 length-more [] x = refl
 length-more (y ∷ xs) x = omega (arith, length-more xs x)
 
-done-yes : (v : Version) (ps : List Subject) (p : Subject) (new : Desk) (parts : List Written) (s : Spot) → slice_get ps (length parts) ≡ Some p → Over p parts s true new → Gone v ps (Within parts s) Done true new
+done-yes : (v : Version) (ps : List Subject) (p : Subject) (new : Desk) (parts : List Written) (s : Spot)
+    → slice_get ps (length parts) ≡ Some p → Over p parts s true new → Gone v ps (Within parts s) Done true new
 done-yes v ps p new parts Named g o = absurd o
 done-yes v ps p new parts (InFilter lines s) g o = absurd o
 done-yes v ps p new parts (Between f bs) g o = absurd o
@@ -171,7 +180,8 @@ done-no v p new parts (Between f bs) q o r = r.1
 done-no v p new parts (InBlock f bs x lines s) q o r = r.1
 done-no v p new parts (Ordering w) q o r = o r.all
 
-pub done-part : (v : Version) (cs : List Case) (old new : Desk) (c : Case) (ok : Bool) (here : Place) → (old.at ≡ Away → ⊥) → slice_get cs old.parts ≡ Some c → Finished (subject_of c) old ok new → IsHere (subjects_of cs) old here → Gone v (subjects_of cs) here Done ok new
+pub done-part : (v : Version) (cs : List Case) (old new : Desk) (c : Case) (ok : Bool) (here : Place) → (old.at ≡ Away → ⊥)
+    → slice_get cs old.parts ≡ Some c → Finished (subject_of c) old ok new → IsHere (subjects_of cs) old here → Gone v (subjects_of cs) here Done ok new
 done-part v cs old new c ok (Outside parts) a g h i = absurd (a i.0)
 done-part v cs old new c true (Within parts s) a g h i =
     let ps : List Subject = subjects_of cs in
@@ -180,7 +190,8 @@ done-part v cs old new c true (Within parts s) a g h i =
 done-part v cs old new c false (Within parts s) a g h i =
     let ps : List Subject = subjects_of cs in
     let e : subject_of c ≡ i.1 = at-hand ps old.parts (length parts) (subject_of c) i.1 i.0 (subject-at cs old.parts c g) i.2 in
-    (λ q k. done-no v i.1 new parts s q (subst (λ (p : Subject). Finished p old false new) e h parts s i.0 i.3) (subst (λ (p : Subject). PartRule v p parts s Done q) (some-same k.0 i.1 (sym k.1 ∙ i.2)) k.2))
+    (λ q k. done-no v i.1 new parts s q (subst (λ (p : Subject). Finished p old false new) e h parts s i.0 i.3)
+    (subst (λ (p : Subject). PartRule v p parts s Done q) (some-same k.0 i.1 (sym k.1 ∙ i.2)) k.2))
 
 -- ---- the loop
 -- what the loop keeps: the lines so far lead to a place that the desk stands for
@@ -195,18 +206,22 @@ module _ (v : Version) (ps : List Subject) (d : Desk) where
   lacks (Outside parts) a i = λ e. a (i.0, i.1 ∙ e)
   lacks (Within parts s) a i = tt
 
-  pub come-lacks : (lines : List Part) (i : ℕ) → i ≡ length lines → Come v ps (take i lines) d → ((d.at ≡ Away) × (d.parts ≡ length ps) → ⊥) → IsFirstFault v ps lines (length lines + 2)
+  pub come-lacks : (lines : List Part) (i : ℕ) → i ≡ length lines → Come v ps (take i lines) d → ((d.at ≡ Away) × (d.parts ≡ length ps) → ⊥)
+      → IsFirstFault v ps lines (length lines + 2)
   come-lacks lines i e c a = walk-lacks v ps lines i (length lines + 2) c.0 e (ap (λ k. k + 2) (sym e)) c.1 (lacks c.0 a c.2)
 
-  whole : (lines : List Part) (i : ℕ) (here : Place) → length lines ≤ i → Go v ps (Outside []) (take i lines) here → IsHere ps d here → d.at ≡ Away → d.parts ≡ length ps → IsValid v ps lines
+  whole : (lines : List Part) (i : ℕ) (here : Place) → length lines ≤ i → Go v ps (Outside []) (take i lines) here → IsHere ps d here
+      → d.at ≡ Away → d.parts ≡ length ps → IsValid v ps lines
   whole lines i (Outside parts) l g h a e = walk-ends v ps lines i parts l g (sym h.1 ∙ e)
   whole lines i (Within parts s) l g h a e = absurd (away-none (length h.1.vars) d s a h.3)
 
   pub come-whole : (lines : List Part) (i : ℕ) → i ≡ length lines → Come v ps (take i lines) d → d.at ≡ Away → d.parts ≡ length ps → IsValid v ps lines
   come-whole lines i e c a h = whole lines i c.0 (omega (arith, e)) c.1 c.2 a h
 
-  pub come-stops : (lines : List Part) (i : ℕ) (x : Part) (e : Desk) → i < length lines → Come v ps (take i lines) d → ((here : Place) → IsHere ps d here → Gone v ps here (get_or lines i x) false e) → IsFirstFault v ps lines (i + 2)
+  pub come-stops : (lines : List Part) (i : ℕ) (x : Part) (e : Desk) → i < length lines → Come v ps (take i lines) d
+      → ((here : Place) → IsHere ps d here → Gone v ps here (get_or lines i x) false e) → IsFirstFault v ps lines (i + 2)
   come-stops lines i x e l c h = walk-stops v ps lines i (i + 2) x c.0 l refl c.1 (h c.0 c.2)
 
-  pub come-more : (lines : List Part) (i : ℕ) (x : Part) (e : Desk) → i < length lines → Come v ps (take i lines) d → ((here : Place) → IsHere ps d here → Gone v ps here (get_or lines i x) true e) → Come v ps (take (i + 1) lines) e
+  pub come-more : (lines : List Part) (i : ℕ) (x : Part) (e : Desk) → i < length lines → Come v ps (take i lines) d
+      → ((here : Place) → IsHere ps d here → Gone v ps here (get_or lines i x) true e) → Come v ps (take (i + 1) lines) e
   come-more lines i x e l c h = let r = h c.0 c.2 in (r.0, walk-more v ps lines i x (Outside []) c.0 r.0 l c.1 r.1, r.2)

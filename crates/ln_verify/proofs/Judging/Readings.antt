@@ -43,7 +43,8 @@ take-above (p ∷ ps) (suc i) d r h = (above-at p.0 ps i d (omega (arith, h)) r.
 abbrev pub Read : Pairs → ℕ → Pairs → Type 0
 Read a i out = (out ≡ take i a) × IsRising (take i a)
 
-pub read-more : (a : Pairs) (i : ℕ) (out new : Pairs) (p d : ℕ × ℕ) → Read a i out → i < length a → p ≡ get_or a i d → IsAbove out p.0 → 0 < p.1 → p.1 < 128 → new ≡ out ++ p ∷ [] → Read a (i + 1) new
+pub read-more : (a : Pairs) (i : ℕ) (out new : Pairs) (p d : ℕ × ℕ) → Read a i out → i < length a → p ≡ get_or a i d → IsAbove out p.0
+    → 0 < p.1 → p.1 < 128 → new ≡ out ++ p ∷ [] → Read a (i + 1) new
 read-more a i out new p d h l e b lo hi q =
     let t : take (i + 1) a ≡ take i a ++ get_or a i d ∷ [] = take_more a i d l in
     let g : IsAbove (take i a) p.0 = subst (λ (z : Pairs). IsAbove z p.0) h.0 b in

@@ -1,5 +1,6 @@
--- Listings of a table: its subjects, and the two answers.
-use Rattle.std.proofs.Common.{◌≡◌, ◌↔◌, ℕ, ◌<◌, ◌≤◌, ◌+◌, zero, suc, Bool, List, [], ◌∷◌, ◌++◌, length, map, take, get_or, refl, sym, ◌∙◌, ap, arith, subst, if◌then◌else◌}
+-- Listings of a table: its subjects, and the two results.
+use Rattle.std.proofs.Common.{◌≡◌, ◌↔◌, ℕ, ◌<◌, ◌≤◌, ◌+◌, zero, suc, Bool, List, [], ◌∷◌, ◌++◌, length, map, take, get_or, refl, sym, ◌∙◌}
+use Rattle.std.proofs.Common.{ap, arith, subst, if◌then◌else◌}
 use Rattle.std.specs.Prelude.{All, Option}
 use Rattle.std.proofs.lemmas.Bool.{ne_eqb}
 use Rattle.std.proofs.lemmas.List.{take_more}
@@ -51,16 +52,21 @@ accepted-at [] i d h l = absurd (omega (arith, l))
 accepted-at (p ∷ ps) zero d h l = h.0
 accepted-at (p ∷ ps) (suc i) d h l = accepted-at ps i d h.1 (omega (arith, l))
 
-pub case-subject : (p : Pred) (c : Case) → c.shape ≡ p.shape → IsNormal (length p.shape.vars) (root_of (pred_of p)) c.poly → IsSubjectOf (pred_of p) (subject_of c)
-case-subject p c e n = record { name = ap (λ (s : Shape). name_bytes s.name) e; sites = ap (λ (s : Shape). s.sites) e; vars = ap (λ (s : Shape). s.vars) e; normal = n }
+pub case-subject : (p : Pred) (c : Case) → c.shape ≡ p.shape → IsNormal (length p.shape.vars) (root_of (pred_of p)) c.poly
+    → IsSubjectOf (pred_of p) (subject_of c)
+case-subject p c e n =
+    record { name = ap (λ (s : Shape). name_bytes s.name) e; sites = ap (λ (s : Shape). s.sites) e; vars = ap (λ (s : Shape). s.vars) e; normal = n }
 
-subjects-more : (ps : List Pred) (p : Pred) (cs : List Case) (c : Case) → AreSubjectsOf (map pred_of ps) (subjects_of cs) → IsSubjectOf (pred_of p) (subject_of c) → AreSubjectsOf (map pred_of (ps ++ p ∷ [])) (subjects_of (cs ++ c ∷ []))
+subjects-more : (ps : List Pred) (p : Pred) (cs : List Case) (c : Case) → AreSubjectsOf (map pred_of ps) (subjects_of cs)
+    → IsSubjectOf (pred_of p) (subject_of c) → AreSubjectsOf (map pred_of (ps ++ p ∷ [])) (subjects_of (cs ++ c ∷ []))
 subjects-more [] p [] c h k = (k, tt)
 subjects-more [] p (b ∷ cs) c h k = absurd h
 subjects-more (q ∷ ps) p [] c h k = absurd h
 subjects-more (q ∷ ps) p (b ∷ cs) c h k = (h.0, subjects-more ps p cs c h.1 k)
 
-subjects-next : (ps : List Pred) (i : ℕ) (p : Pred) (cs : List Case) (c : Case) → i < length ps → p ≡ get_or ps i p → AreSubjectsOf (map pred_of (take i ps)) (subjects_of cs) → IsSubjectOf (pred_of p) (subject_of c) → AreSubjectsOf (map pred_of (take (i + 1) ps)) (subjects_of (cs ++ c ∷ []))
+subjects-next : (ps : List Pred) (i : ℕ) (p : Pred) (cs : List Case) (c : Case) → i < length ps → p ≡ get_or ps i p
+    → AreSubjectsOf (map pred_of (take i ps)) (subjects_of cs) → IsSubjectOf (pred_of p) (subject_of c)
+    → AreSubjectsOf (map pred_of (take (i + 1) ps)) (subjects_of (cs ++ c ∷ []))
 subjects-next ps i p cs c l e h k =
     let q : take i ps ++ p ∷ [] ≡ take (i + 1) ps = ap (λ (x : Pred). take i ps ++ x ∷ []) e ∙ sym (take_more ps i p l) in
     subst (λ (xs : List Pred). AreSubjectsOf (map pred_of xs) (subjects_of (cs ++ c ∷ []))) q (subjects-more (take i ps) p cs c h k)
@@ -78,7 +84,8 @@ Made ps i cs = All IsCase cs × AreSubjectsOf (map pred_of (take i ps)) (subject
 pub cases-first : (ps : List Pred) (cs : List Case) → cs ≡ [] → Made ps 0 cs
 cases-first ps cs e = subst (Made ps 0) (sym e) (All-nil IsCase, tt)
 
-pub cases-next : (ps : List Pred) (i : ℕ) (p : Pred) (cs ds : List Case) (c : Case) → i < length ps → p ≡ get_or ps i p → ds ≡ cs ++ c ∷ [] → Made ps i cs → IsCase c → IsSubjectOf (pred_of p) (subject_of c) → Made ps (i + 1) ds
+pub cases-next : (ps : List Pred) (i : ℕ) (p : Pred) (cs ds : List Case) (c : Case) → i < length ps → p ≡ get_or ps i p → ds ≡ cs ++ c ∷ []
+    → Made ps i cs → IsCase c → IsSubjectOf (pred_of p) (subject_of c) → Made ps (i + 1) ds
 cases-next ps i p cs ds c l e q h k s = subst (Made ps (i + 1)) (sym q) (cases-more cs c h.0 k, subjects-next ps i p cs c l e h.1 s)
 
 pub cases-whole : (ps : List Pred) (i : ℕ) (cs : List Case) → length ps ≤ i → Made ps i cs → AreSubjectsOf (map pred_of ps) (subjects_of cs)
@@ -92,12 +99,13 @@ pub rules-2 : (n : ℕ) → (n ≡ 1 → ⊥) → version_2 ≡ rules_of n
 rules-2 n h = sym (ap (λ (b : Bool). if b then version_1 else version_2) (ne_eqb n 1 h))
 
 -- ---- what was judged is the listing, against the cases that were made
-pub answered : (l : Listed) (v : Version) (cs xs : List Case) (es : List Entry) (o p : Option ℕ) → xs ≡ cs → es ≡ l.entries → o ≡ p → IsAnswer v (subjects_of xs) (parts_of es) o → IsAnswer v (subjects_of cs) (parts_of l.entries) p
+pub answered : (l : Listed) (v : Version) (cs xs : List Case) (es : List Entry) (o p : Option ℕ) → xs ≡ cs → es ≡ l.entries → o ≡ p
+    → IsAnswer v (subjects_of xs) (parts_of es) o → IsAnswer v (subjects_of cs) (parts_of l.entries) p
 answered l v cs xs es o p e f q h =
     subst (IsAnswer v (subjects_of cs) (parts_of l.entries)) q
     (subst (λ (ys : List Entry). IsAnswer v (subjects_of cs) (parts_of ys) o) f (subst (λ (ys : List Case). IsAnswer v (subjects_of ys) (parts_of es) o) e h))
 
--- ---- the two answers
+-- ---- the two results
 number-same : (a b : ℕ) → Invalid a ≡ Invalid b → a ≡ b
 number-same a b q = cc
 
@@ -112,10 +120,12 @@ module _ (ps : List PredOf) (l : Listed) (v : Version) (ss : List Subject) (e : 
   here-fault n h = record { subjects = ss; those = those; fault = subst (λ (w : Version). IsFirstFault w ss (parts_of l.entries) n) e h }
 
   own-valid : IsValidFor ps l → IsValid v ss (parts_of l.entries)
-  own-valid h = subst (λ (w : Version). IsValid w ss (parts_of l.entries)) (sym e) (subst (λ (ts : List Subject). IsValid (rules_of l.version) ts (parts_of l.entries)) (subjects-one ps h.subjects ss h.those those) h.valid)
+  own-valid h = subst (λ (w : Version). IsValid w ss (parts_of l.entries)) (sym e)
+      (subst (λ (ts : List Subject). IsValid (rules_of l.version) ts (parts_of l.entries)) (subjects-one ps h.subjects ss h.those those) h.valid)
 
   own-fault : (n : ℕ) → IsFaultFor ps l n → IsFirstFault v ss (parts_of l.entries) n
-  own-fault n h = subst (λ (w : Version). IsFirstFault w ss (parts_of l.entries) n) (sym e) (subst (λ (ts : List Subject). IsFirstFault (rules_of l.version) ts (parts_of l.entries) n) (subjects-one ps h.subjects ss h.those those) h.fault)
+  own-fault n h = subst (λ (w : Version). IsFirstFault w ss (parts_of l.entries) n) (sym e)
+      (subst (λ (ts : List Subject). IsFirstFault (rules_of l.version) ts (parts_of l.entries) n) (subjects-one ps h.subjects ss h.those those) h.fault)
 
   pub valid-there : IsValid v ss (parts_of l.entries) → (Valid ≡ Valid) ↔ IsValidFor ps l
   valid-there h = (λ q. here-valid h, λ k. refl)
@@ -127,5 +137,7 @@ module _ (ps : List PredOf) (l : Listed) (v : Version) (ss : List Subject) (e : 
   fault-not h n = (λ q. absurd (not-valid n (sym q)), λ k. absurd (one-answer.not_both v ss (parts_of l.entries) n h (own-fault n k)))
 
   pub fault-there : (m : ℕ) → IsFirstFault v ss (parts_of l.entries) m → (n : ℕ) → (Invalid m ≡ Invalid n) ↔ IsFaultFor ps l n
-  fault-there m h n =
-      (λ q. here-fault n (subst (IsFirstFault v ss (parts_of l.entries)) (number-same m n q) h), λ k. ap Invalid (one-answer.one v ss (parts_of l.entries) m n h (own-fault n k)))
+  fault-there m h n = (
+    λ q. here-fault n (subst (IsFirstFault v ss (parts_of l.entries)) (number-same m n q) h),
+    λ k. ap Invalid (one-answer.one v ss (parts_of l.entries) m n h (own-fault n k)),
+  )

@@ -1,5 +1,6 @@
--- Lines that are judged as they are read, and the answers on bytes.
-use Rattle.std.proofs.Common.{◌≡◌, ◌↔◌, ℕ, ◌<◌, ◌+◌, ◌≤◌, zero, suc, true, false, List, [], ◌∷◌, length, map, take, drop, get_or, refl, sym, ◌∙◌, ap, arith, subst}
+-- Lines that are judged as they are read, and the results on bytes.
+use Rattle.std.proofs.Common.{◌≡◌, ◌↔◌, ℕ, ◌<◌, ◌+◌, ◌≤◌, zero, suc, true, false, List, [], ◌∷◌, length, map, take, drop, get_or, refl, sym}
+use Rattle.std.proofs.Common.{◌∙◌, ap, arith, subst}
 use Rattle.std.specs.Prelude.{Err, IfErr, None, Ok, Option, Result, Some}
 use Rattle.ln_tree.specs.Table.{PredOf}
 use Rattle.ln_cert.specs.declared.part.Entry.{Entry}
@@ -24,7 +25,7 @@ use Rattle.ln_verify.specs.declared.listings.Judged.TheVariants.{Valid, Invalid}
 use Rattle.ln_verify.proofs.Judging.Places.{Come, come-first, come-more, come-stops, come-whole, come-lacks}
 use Rattle.ln_verify.proofs.Judging.Subjects.{fault-not, fault-there, valid-not, valid-there}
 
--- the first of what is left
+-- the first of the rest
 record Front (xs : List Part) (i : ℕ) (p : Part) (ys : List Part) : Type 0 where
   less : i < length xs
   here : p ≡ get_or xs i p
@@ -42,7 +43,7 @@ none-left (x ∷ xs) zero e l = absurd (cc)
 none-left (x ∷ xs) (suc i) e l = omega (arith, none-left xs i e (omega (arith, l)))
 
 -- ---- the loop
--- what it keeps: so many of the lines lead to a place that the desk stands for, and the others are left
+-- what it keeps: this many of the lines lead to a place that the desk stands for, and the others remain
 pub record Midway (v : Version) (ss : List Subject) (ps : List Part) (d : Desk) (u : Unread) : Type 0 where
   pub at : ℕ
   pub number : u.line ≡ at + 2
@@ -55,7 +56,8 @@ module _ (v : Version) (ss : List Subject) (ps : List Part) (d : Desk) (u : Unre
   midway-first n a b h = record { at = 0; number = n; within = omega arith; left = h; come = come-first v ss d a b }
 
   -- the line at hand leads on
-  pub midway-more : (e : Entry) (w : Unread) (new : Desk) → Midway v ss ps d u → IsTaken u e w → ((here : Place) → IsHere ss d here → Gone v ss here e.part true new) → Midway v ss ps new w
+  pub midway-more : (e : Entry) (w : Unread) (new : Desk) → Midway v ss ps d u → IsTaken u e w
+      → ((here : Place) → IsHere ss d here → Gone v ss here e.part true new) → Midway v ss ps new w
   midway-more e w new m t h =
       let g = t.goes_on (drop m.at ps) m.left in
       let f = front ps m.at e.part g.behind g.first in
@@ -69,7 +71,8 @@ module _ (v : Version) (ss : List Subject) (ps : List Part) (d : Desk) (u : Unre
       }
 
   -- or it fails: it is the first that does, by its own number
-  pub midway-stops : (e : Entry) (w : Unread) (new : Desk) → Midway v ss ps d u → IsTaken u e w → ((here : Place) → IsHere ss d here → Gone v ss here e.part false new) → IsFirstFault v ss ps e.line
+  pub midway-stops : (e : Entry) (w : Unread) (new : Desk) → Midway v ss ps d u → IsTaken u e w
+      → ((here : Place) → IsHere ss d here → Gone v ss here e.part false new) → IsFirstFault v ss ps e.line
   midway-stops e w new m t h =
       let g = t.goes_on (drop m.at ps) m.left in
       let f = front ps m.at e.part g.behind g.first in
@@ -104,28 +107,33 @@ listed-text bs v ps t = subst (ListText bs v) (sym (parts-back ps)) t
 pub listed-valid : (w : Version) (ss : List Subject) (v : ℕ) (ps : List Part) → IsValid w ss ps → IsValid w ss (parts_of (listed v ps).entries)
 listed-valid w ss v ps h = subst (IsValid w ss) (sym (parts-back ps)) h
 
-pub listed-fault : (w : Version) (ss : List Subject) (v : ℕ) (ps : List Part) (n : ℕ) → IsFirstFault w ss ps n → IsFirstFault w ss (parts_of (listed v ps).entries) n
+pub listed-fault : (w : Version) (ss : List Subject) (v : ℕ) (ps : List Part) (n : ℕ) → IsFirstFault w ss ps n
+    → IsFirstFault w ss (parts_of (listed v ps).entries) n
 listed-fault w ss v ps n h = subst (λ (xs : List Part). IsFirstFault w ss xs n) (sym (parts-back ps)) h
 
--- ---- the two answers
+-- ---- the two results
 -- what is judged of a listing is judged of its version and its lines
 valid-same : (ps : List PredOf) (l k : Listed) → l.version ≡ k.version → parts_of l.entries ≡ parts_of k.entries → IsValidFor ps l → IsValidFor ps k
 valid-same ps l k a b h = record {
   subjects = h.subjects;
   those = h.those;
-  valid = subst (λ (xs : List Part). IsValid (rules_of k.version) h.subjects xs) b (subst (λ (n : ℕ). IsValid (rules_of n) h.subjects (parts_of l.entries)) a h.valid);
+  valid = subst (λ (xs : List Part). IsValid (rules_of k.version) h.subjects xs) b
+      (subst (λ (n : ℕ). IsValid (rules_of n) h.subjects (parts_of l.entries)) a h.valid);
 }
 
 fault-same : (ps : List PredOf) (l k : Listed) (n : ℕ) → l.version ≡ k.version → parts_of l.entries ≡ parts_of k.entries → IsFaultFor ps l n → IsFaultFor ps k n
 fault-same ps l k n a b h = record {
   subjects = h.subjects;
   those = h.those;
-  fault = subst (λ (xs : List Part). IsFirstFault (rules_of k.version) h.subjects xs n) b (subst (λ (m : ℕ). IsFirstFault (rules_of m) h.subjects (parts_of l.entries) n) a h.fault);
+  fault = subst (λ (xs : List Part). IsFirstFault (rules_of k.version) h.subjects xs n) b
+      (subst (λ (m : ℕ). IsFirstFault (rules_of m) h.subjects (parts_of l.entries) n) a h.fault);
 }
 
 module _ (ps : List PredOf) (bs : List ℕ) (l : Listed) (t : ListText bs l.version (parts_of l.entries)) where
   own-valid : IsValidTextFor ps bs → IsValidFor ps l
-  own-valid h = let e = one_text bs h.listing.version l.version (parts_of h.listing.entries) (parts_of l.entries) h.text t in valid-same ps h.listing l e.0 e.1 h.valid
+  own-valid h =
+      let e = one_text bs h.listing.version l.version (parts_of h.listing.entries) (parts_of l.entries) h.text t in
+      valid-same ps h.listing l e.0 e.1 h.valid
 
   own-fault : (n : ℕ) → IsTextFaultFor ps bs n → IsFaultFor ps l n
   own-fault n (form f) = absurd (no_text bs n l.version (parts_of l.entries) f t)
@@ -153,16 +161,19 @@ module _ (ps : List PredOf) (bs : List ℕ) (m : ℕ) (f : IsFormFault bs m) whe
   form-there n = (λ q. form (subst (IsFormFault bs) (number-same m n q) f), λ k. ap Invalid (same n k))
 
 -- what stops the reader of lines is a form fault
-pub form-of : {L : Type 0} (bs : List ℕ) (r : Result L ListStop) (e : ListStop) (at : ℕ) → r ≡ Err e → e ≡ Form at → IfErr r (λ x. Stops bs x) → IsFormFault bs at
+pub form-of : {L : Type 0} (bs : List ℕ) (r : Result L ListStop) (e : ListStop) (at : ℕ) → r ≡ Err e → e ≡ Form at
+    → IfErr r (λ x. Stops bs x) → IsFormFault bs at
 form-of bs (Ok l) e at i j h = cc
 form-of bs (Err x) e at i j h = let k : x ≡ Form at = cc in (subst (Stops bs) k h).0
 
 -- what was judged are the lines of the listing, against the cases that were made
-pub answered-lines : (u : Unread) (v : Version) (cs xs : List Case) (o p : Option ℕ) (ps : List Part) → xs ≡ cs → o ≡ p → ((qs : List Part) → AreLeft u qs → IsAnswer v (subjects_of xs) qs o) → AreLeft u ps → IsAnswer v (subjects_of cs) ps p
+pub answered-lines : (u : Unread) (v : Version) (cs xs : List Case) (o p : Option ℕ) (ps : List Part) → xs ≡ cs → o ≡ p
+    → ((qs : List Part) → AreLeft u qs → IsAnswer v (subjects_of xs) qs o) → AreLeft u ps → IsAnswer v (subjects_of cs) ps p
 answered-lines u v cs xs o p ps e q h l =
     subst (IsAnswer v (subjects_of cs) ps) q (subst (λ (ys : List Case). IsAnswer v (subjects_of ys) ps o) e (h ps l))
 
-module _ (ps : List PredOf) (bs : List ℕ) (u : Unread) (w : Version) (ss : List Subject) (o : IsOpened bs u) (e : w ≡ rules_of u.version) (those : AreSubjectsOf ps ss) where
+module _ (ps : List PredOf) (bs : List ℕ) (u : Unread) (w : Version) (ss : List Subject) (o : IsOpened bs u) (e : w ≡ rules_of u.version)
+    (those : AreSubjectsOf ps ss) where
   pub lines-valid : IsAnswer w ss o.parts None → ((Valid ≡ Valid) ↔ IsValidTextFor ps bs) × ((n : ℕ) → (Valid ≡ Invalid n) ↔ IsTextFaultFor ps bs n)
   lines-valid h =
       let l : Listed = listed u.version o.parts in
@@ -170,7 +181,8 @@ module _ (ps : List PredOf) (bs : List ℕ) (u : Unread) (w : Version) (ss : Lis
       let k = listed-valid w ss u.version o.parts h in
       (text-valid ps bs l t Valid (valid-there ps l w ss e those k), text-fault ps bs l t Valid (fault-not ps l w ss e those k))
 
-  pub lines-fault : (n : ℕ) → IsAnswer w ss o.parts (Some n) → ((Invalid n ≡ Valid) ↔ IsValidTextFor ps bs) × ((m : ℕ) → (Invalid n ≡ Invalid m) ↔ IsTextFaultFor ps bs m)
+  pub lines-fault : (n : ℕ) → IsAnswer w ss o.parts (Some n)
+      → ((Invalid n ≡ Valid) ↔ IsValidTextFor ps bs) × ((m : ℕ) → (Invalid n ≡ Invalid m) ↔ IsTextFaultFor ps bs m)
   lines-fault n h =
       let l : Listed = listed u.version o.parts in
       let t = listed-text bs u.version o.parts o.listing in

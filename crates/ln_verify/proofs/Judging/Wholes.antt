@@ -1,5 +1,6 @@
 -- The list of an order in a part whose lists stand whole at their orders.
-use Rattle.std.proofs.Common.{◌≡◌, ℕ, ◌+◌, ◌-◌, ◌<◌, ◌≤◌, zero, suc, Bool, true, false, List, [], ◌∷◌, ◌++◌, length, map, take, refl, sym, ◌∙◌, ap, arith, subst}
+use Rattle.std.proofs.Common.{◌≡◌, ℕ, ◌+◌, ◌-◌, ◌<◌, ◌≤◌, zero, suc, Bool, true, false, List, [], ◌∷◌, ◌++◌, length, map, take, refl, sym}
+use Rattle.std.proofs.Common.{◌∙◌, ap, arith, subst}
 use Rattle.std.specs.Prelude.{All, Some, slice_get, if◌then◌else◌, ◌==◌}
 use Rattle.std.specs.List.{range_with_len}
 use Rattle.std.specs.Option.{option_map}
@@ -29,7 +30,8 @@ beside-there [] ss p i h e = cc
 beside-there (q ∷ qs) [] p i h e = absurd (omega (arith, e))
 beside-there (q ∷ qs) (s ∷ ss) p i h e = go (same_vector q p) refl i h (λ m f. beside-there qs ss p m f (omega (arith, e)))
   where
-    go : (b : Bool) → same_vector q p ≡ b → (i : ℕ) → slice_get (q ∷ qs) i ≡ Some p → ((m : ℕ) → slice_get qs m ≡ Some p → StandsAt qs ss p) → StandsAt (q ∷ qs) (s ∷ ss) p
+    go : (b : Bool) → same_vector q p ≡ b → (i : ℕ) → slice_get (q ∷ qs) i ≡ Some p → ((m : ℕ) → slice_get qs m ≡ Some p → StandsAt qs ss p)
+        → StandsAt (q ∷ qs) (s ∷ ss) p
     go true t i h ih = record { at = 0; there = ap (λ z. Some z) (same_vector-is q p t); beside_it = rw t refl }
     go false t zero h ih = let z : q ≡ p = cc in let u : true ≡ false = sym (same_vector-refl q) ∙ ap (same_vector q) z ∙ t in absurd cc
     go false t (suc i) h ih = let r = ih i h in record { at = suc r.at; there = r.there; beside_it = rw t r.beside_it }
@@ -44,7 +46,8 @@ beside-all P (q ∷ qs) (s ∷ ss) p h = go (same_vector q p) (beside-all P qs s
     go false ih = ih
 
 -- ---- one segment after the other
-joined-last : (g : ℕ → List ℕ) (a n : ℕ) (list : List ℕ) → ((i : ℕ) → i < a + n → g i ≡ []) → g (a + n) ≡ list → joined (map g (range_with_len a (suc n))) ≡ list
+joined-last : (g : ℕ → List ℕ) (a n : ℕ) (list : List ℕ) → ((i : ℕ) → i < a + n → g i ≡ []) → g (a + n) ≡ list
+    → joined (map g (range_with_len a (suc n))) ≡ list
 joined-last g a zero list h e =
     let z : a + 0 ≡ a = omega arith in
     let t : g a ≡ list = subst (λ k. g k ≡ list) z e in
@@ -97,7 +100,8 @@ module _ (s : Shape) (w : Written) (size : length w.lists ≡ length (orders_of 
   list-is o p =
       let c : suc (length o) - 0 ≡ suc s.sites = omega (arith, p.size) in
       ap (λ (n : ℕ). joined (map (λ i. segment_of (part_of s w) (take i o)) (range_with_len 0 n))) c
-      ∙ joined-last (λ i. segment_of (part_of s w) (take i o)) 0 s.sites (beside (orders_of s.sites) w.lists o) (λ i l. short-none o i p (omega (arith, l))) (let z : 0 + s.sites ≡ s.sites = omega arith in ap (λ (m : ℕ). segment_of (part_of s w) (take m o)) z ∙ whole-list o p)
+      ∙ joined-last (λ i. segment_of (part_of s w) (take i o)) 0 s.sites (beside (orders_of s.sites) w.lists o) (λ i l. short-none o i p (omega (arith, l)))
+      (let z : 0 + s.sites ≡ s.sites = omega arith in ap (λ (m : ℕ). segment_of (part_of s w) (take m o)) z ∙ whole-list o p)
 
   -- the list of an order is the one that stands at its number
   pub list-stands : (o list : List ℕ) → IsListOf (part_of s w) o list → StandsAt (orders_of s.sites) w.lists o × (list ≡ beside (orders_of s.sites) w.lists o)
@@ -107,7 +111,8 @@ module _ (s : Shape) (w : Written) (size : length w.lists ≡ length (orders_of 
       (beside-there (orders_of s.sites) w.lists o c.0 i size, h.list_is ∙ list-is o h.order)
 
   -- what holds of each number of the lists holds of those of the segments
-  pub segments-all : (P : ℕ → Type 0) → ((k : ℕ) (list : List ℕ) → slice_get w.lists k ≡ Some list → All P list) → (p : List ℕ) → All P (segment_at s.sites w.lists p)
+  pub segments-all : (P : ℕ → Type 0) → ((k : ℕ) (list : List ℕ) → slice_get w.lists k ≡ Some list → All P list) → (p : List ℕ)
+      → All P (segment_at s.sites w.lists p)
   segments-all P h p = go (length p == s.sites)
     where
       go : (b : Bool) → All P (if b then beside (orders_of s.sites) w.lists p else [])

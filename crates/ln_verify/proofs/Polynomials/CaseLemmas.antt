@@ -32,7 +32,9 @@ pub few_terms : (n : ℕ) (nodes : List (Span × Tree)) (at : Span) → HaveFewT
 few_terms n nodes at h f = few-part n f.before (at, f.node) f.after (subst (HaveFewTerms n) f.stands h) f.many
 
 -- where lists don't pass the limits, the stages don't stop there
-pub few_stages : (k : ℕ) (vars : List VarInfo) (f : Sparse) (count heavy : ℕ) → ((lists : List (List (List ℕ))) → AreStageLists k vars f lists → Passes (length vars) f count heavy lists → ⊥) → StopsListing k vars f count heavy Stages → ⊥
+pub few_stages : (k : ℕ) (vars : List VarInfo) (f : Sparse) (count heavy : ℕ)
+    → ((lists : List (List (List ℕ))) → AreStageLists k vars f lists → Passes (length vars) f count heavy lists → ⊥)
+    → StopsListing k vars f count heavy Stages → ⊥
 few_stages k vars f count heavy h s = h s.1.0 s.1.1 s.1.2
 
 -- the normal polynomial of an accepted predicate isn't 0
@@ -40,8 +42,10 @@ pub some_terms : (p : Pred) (f : Sparse) → IsAccepted (pred_of p) → (f ≡ [
 some_terms p f a z e = a.nonzero (z.0 e)
 
 -- the predicate with what its part is judged by
-made-case : (p : Pred) (s : Shape) (f : Sparse) (st : Staged) (os : List Order) → s ≡ p.shape → IsAccepted (pred_of p) → IsNormal (length p.shape.vars) (root_of (pred_of p)) f
-    → AreStagesOf p.shape.sites p.shape.vars f st → map order_places os ≡ orders_of p.shape.sites → IsCase (record { shape = s; poly = f; stages = st; orders = os })
+made-case : (p : Pred) (s : Shape) (f : Sparse) (st : Staged) (os : List Order) → s ≡ p.shape → IsAccepted (pred_of p)
+    → IsNormal (length p.shape.vars) (root_of (pred_of p)) f
+    → AreStagesOf p.shape.sites p.shape.vars f st → map order_places os ≡ orders_of p.shape.sites
+    → IsCase (record { shape = s; poly = f; stages = st; orders = os })
 made-case p s f st os e a n g o = record {
   form = n.form;
   below = subst (λ (z : Shape). AreBelow (length z.vars) f) (sym e) n.below;
@@ -50,8 +54,10 @@ made-case p s f st os e a n g o = record {
   ordered = subst (λ (z : Shape). map order_places os ≡ orders_of z.sites) (sym e) o;
 }
 
-pub case_is : (p : Pred) (c : Case) (f : Sparse) (st : Staged) → IsOrderedOf p.shape f st c → IsAccepted (pred_of p) → IsNormal (length p.shape.vars) (root_of (pred_of p)) f
+pub case_is : (p : Pred) (c : Case) (f : Sparse) (st : Staged) → IsOrderedOf p.shape f st c → IsAccepted (pred_of p)
+    → IsNormal (length p.shape.vars) (root_of (pred_of p)) f
     → AreStagesOf p.shape.sites p.shape.vars f st → IsCase c
 case_is p c f st i a n g =
     made-case p c.shape c.poly c.stages c.orders i.shape a (subst (λ (z : Sparse). IsNormal (length p.shape.vars) (root_of (pred_of p)) z) (sym i.poly) n)
-    (subst (λ (z : Staged). AreStagesOf p.shape.sites p.shape.vars c.poly z) (sym i.stages) (subst (λ (z : Sparse). AreStagesOf p.shape.sites p.shape.vars z st) (sym i.poly) g)) i.ordered
+    (subst (λ (z : Staged). AreStagesOf p.shape.sites p.shape.vars c.poly z) (sym i.stages)
+    (subst (λ (z : Sparse). AreStagesOf p.shape.sites p.shape.vars z st) (sym i.poly) g)) i.ordered

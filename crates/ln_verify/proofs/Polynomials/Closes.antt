@@ -50,7 +50,8 @@ cut-heads-same : (j k : FilterKnown) (xs : List FilterKnown) → xs ≡ j ∷ []
 cut-heads-same j k xs e f = cc
 
 -- ---- one value
-one-value : {X K : Type 0} (R : X → K → Type 0) (xs : List X) (ks : List K) (d : X) → length xs ≡ 1 → AreFor R (reverse xs) ks → (k : K) × (ks ≡ k ∷ []) × R (get_or xs 0 d) k
+one-value : {X K : Type 0} (R : X → K → Type 0) (xs : List X) (ks : List K) (d : X) → length xs ≡ 1 → AreFor R (reverse xs) ks
+    → (k : K) × (ks ≡ k ∷ []) × R (get_or xs 0 d) k
 one-value R [] ks d l h = absurd (omega (arith, l))
 one-value R (x ∷ []) [] d l h = absurd h
 one-value R (x ∷ []) (k ∷ []) d l h = (k, refl, h.0)
@@ -58,23 +59,31 @@ one-value R (x ∷ []) (k ∷ (j ∷ ks)) d l h = absurd h.1
 one-value R (x ∷ (y ∷ xs)) ks d l h = absurd (omega (arith, l))
 
 -- ---- blocks
-pub bench-not-one : (p : Subject) (a : Pairs) (b : Bench) (s : State Known (ℕ → Option Known)) → (length b.stack.items ≡ 1 → ⊥) → IsBench (length p.vars) b s → BenchEnds p a s → ⊥
-bench-not-one p a b s l i q = l (sym (length-reverse b.stack.items) ∙ for-length (IsFor (length p.vars)) (reverse b.stack.items) s.stack i.stack ∙ ap length q.one)
+pub bench-not-one : (p : Subject) (a : Pairs) (b : Bench) (s : State Known (ℕ → Option Known)) → (length b.stack.items ≡ 1 → ⊥)
+    → IsBench (length p.vars) b s → BenchEnds p a s → ⊥
+bench-not-one p a b s l i q =
+    l (sym (length-reverse b.stack.items) ∙ for-length (IsFor (length p.vars)) (reverse b.stack.items) s.stack i.stack ∙ ap length q.one)
 
-pub bench-ends : (p : Subject) (a : Pairs) (b : Bench) (s : State Known (ℕ → Option Known)) (d x : Value) (ok : Bool) → length b.stack.items ≡ 1 → x ≡ get_or b.stack.items 0 d → IsBench (length p.vars) b s →
-    ((t : Tree) → IsNormal (length p.vars) t x.poly → IsTrue ok ↔ IsNormalOf (length p.vars) t (derived (vector (length p.vars) a) (terms_of (length p.vars) p.poly))) → IsTrue ok ↔ BenchEnds p a s
+pub bench-ends : (p : Subject) (a : Pairs) (b : Bench) (s : State Known (ℕ → Option Known)) (d x : Value) (ok : Bool) →
+    length b.stack.items ≡ 1 → x ≡ get_or b.stack.items 0 d → IsBench (length p.vars) b s →
+    ((t : Tree) → IsNormal (length p.vars) t x.poly →
+    IsTrue ok ↔ IsNormalOf (length p.vars) t (derived (vector (length p.vars) a) (terms_of (length p.vars) p.poly))) → IsTrue ok ↔ BenchEnds p a s
 bench-ends p a b s d x ok l e i h =
     let n : ℕ = length p.vars in
     let o = one-value (IsFor n) b.stack.items s.stack d l i.stack in
     let f : IsFor n x o.0 = subst (λ (y : Value). IsFor n y o.0) (sym e) o.2 in
-    let r = h o.0.tree f.normal in
-    (λ t. record { left = o.0; one = o.1; derivative = r.0 t }, λ q. r.1 (subst (λ (k : Known). IsNormalOf n k.tree (derived (vector n a) (terms_of n p.poly))) (heads-same q.left o.0 s.stack q.one o.1) q.derivative))
+    let r = h o.0.tree f.normal in (
+      λ t. record { left = o.0; one = o.1; derivative = r.0 t },
+      λ q. r.1 (subst (λ (k : Known). IsNormalOf n k.tree (derived (vector n a) (terms_of n p.poly))) (heads-same q.left o.0 s.stack q.one o.1) q.derivative),
+    )
 
 -- ---- filters
-pub tray-not-one : (p : Subject) (b : Tray) (s : State FilterKnown (ℕ → Option FilterKnown)) → (length b.stack.items ≡ 1 → ⊥) → IsTray (length p.vars) b s → TrayDecides p s → ⊥
+pub tray-not-one : (p : Subject) (b : Tray) (s : State FilterKnown (ℕ → Option FilterKnown)) → (length b.stack.items ≡ 1 → ⊥)
+    → IsTray (length p.vars) b s → TrayDecides p s → ⊥
 tray-not-one p b s l i q = l (sym (length-reverse b.stack.items) ∙ for-length (IsCut (length p.vars)) (reverse b.stack.items) s.stack i.stack ∙ ap length q.one)
 
-pub tray-wide : (p : Subject) (b : Tray) (s : State FilterKnown (ℕ → Option FilterKnown)) (d x : Cut) → length b.stack.items ≡ 1 → x ≡ get_or b.stack.items 0 d → IsTray (length p.vars) b s → limit W64 < x.triple.e → TrayDecides p s → ⊥
+pub tray-wide : (p : Subject) (b : Tray) (s : State FilterKnown (ℕ → Option FilterKnown)) (d x : Cut) → length b.stack.items ≡ 1
+    → x ≡ get_or b.stack.items 0 d → IsTray (length p.vars) b s → limit W64 < x.triple.e → TrayDecides p s → ⊥
 tray-wide p b s d x l e i w q =
     let n : ℕ = length p.vars in
     let o = one-value (IsCut n) b.stack.items s.stack d l i.stack in
@@ -82,12 +91,15 @@ tray-wide p b s d x l e i w q =
     let z : q.left.triple.e ≡ x.triple.e = ap (λ (k : FilterKnown). k.triple.e) (cut-heads-same q.left o.0 s.stack q.one o.1) ∙ ap (λ t. t.e) f.triple in
     omega (arith, q.narrow, w, z)
 
-pub tray-decides : (p : Subject) (b : Tray) (s : State FilterKnown (ℕ → Option FilterKnown)) (d x : Cut) (ok : Bool) → length b.stack.items ≡ 1 → x ≡ get_or b.stack.items 0 d → IsTray (length p.vars) b s → x.triple.e ≤ limit W64 →
+pub tray-decides : (p : Subject) (b : Tray) (s : State FilterKnown (ℕ → Option FilterKnown)) (d x : Cut) (ok : Bool) →
+    length b.stack.items ≡ 1 → x ≡ get_or b.stack.items 0 d → IsTray (length p.vars) b s → x.triple.e ≤ limit W64 →
     ((t : Tree) → IsNormal (length p.vars) t x.poly → IsTrue ok ↔ IsNormalOf (length p.vars) t (terms_of (length p.vars) p.poly)) → IsTrue ok ↔ TrayDecides p s
 tray-decides p b s d x ok l e i w h =
     let n : ℕ = length p.vars in
     let o = one-value (IsCut n) b.stack.items s.stack d l i.stack in
     let f : IsCut n x o.0 = subst (λ (y : Cut). IsCut n y o.0) (sym e) o.2 in
     let z : o.0.triple.e ≡ x.triple.e = ap (λ t. t.e) f.triple in
-    let r = h o.0.tree f.normal in
-    (λ t. record { left = o.0; one = o.1; whole = r.0 t; narrow = omega (arith, z, w) }, λ q. r.1 (subst (λ (k : FilterKnown). IsNormalOf n k.tree (terms_of n p.poly)) (cut-heads-same q.left o.0 s.stack q.one o.1) q.whole))
+    let r = h o.0.tree f.normal in (
+      λ t. record { left = o.0; one = o.1; whole = r.0 t; narrow = omega (arith, z, w) },
+      λ q. r.1 (subst (λ (k : FilterKnown). IsNormalOf n k.tree (terms_of n p.poly)) (cut-heads-same q.left o.0 s.stack q.one o.1) q.whole),
+    )

@@ -11,10 +11,12 @@ use Rattle.ln_verify.proofs.Polynomials.SamePoly.{one-normal}
 
 -- `decide`: the polynomial is the predicate's exactly where the two are one list
 pub decide-same : (n : ℕ) (t : Tree) (g f : Sparse) → IsNormal n t g → IsPoly f → AreBelow n f → (g ≡ f) ↔ IsNormalOf n t (terms_of n f)
-decide-same n t g f h p b = (λ e. subst (λ (z : Sparse). IsNormalOf n t (terms_of n z)) e h.normal, λ k. one-normal n t g f h (record { normal = k; form = p; below = b }))
+decide-same n t g f h p b =
+    (λ e. subst (λ (z : Sparse). IsNormalOf n t (terms_of n z)) e h.normal, λ k. one-normal n t g f h (record { normal = k; form = p; below = b }))
 
 -- `end`: the polynomial is the scaled derivative exactly where it is the list that was worked out for it
-pub end-same : (n : ℕ) (t : Tree) (g h f : Sparse) (a : Pairs) → IsNormal n t g → IsPoly h → AreBelow n h → ((m : List ℕ) → length m ≡ n → coefficient_at n h m ≡ factor_at (derived (vector n a) (terms_of n f)) m) →
+pub end-same : (n : ℕ) (t : Tree) (g h f : Sparse) (a : Pairs) → IsNormal n t g → IsPoly h → AreBelow n h →
+    ((m : List ℕ) → length m ≡ n → coefficient_at n h m ≡ factor_at (derived (vector n a) (terms_of n f)) m) →
     (g ≡ h) ↔ IsNormalOf n t (derived (vector n a) (terms_of n f))
 unfolding coefficient_at
 end-same n t g h f a q p b d = (λ e. to e, λ k. back k)

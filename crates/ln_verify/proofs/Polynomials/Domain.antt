@@ -1,5 +1,6 @@
 -- A product of two polynomials reaches, in each variable, the sum of the highest exponents of the two: no cancelling takes that monomial away.
-use Rattle.std.proofs.Common.{◌≡◌, ◌⊎◌, inl, inr, ℕ, ◌+◌, ◌*◌, ◌<◌, ◌≤◌, zero, suc, List, [], ◌∷◌, length, get_or, refl, sym, ◌∙◌, ap, arith, subst, unsigned_abs}
+use Rattle.std.proofs.Common.{◌≡◌, ◌⊎◌, inl, inr, ℕ, ◌+◌, ◌*◌, ◌<◌, ◌≤◌, zero, suc, List, [], ◌∷◌, length, get_or, refl, sym, ◌∙◌, ap}
+use Rattle.std.proofs.Common.{arith, subst, unsigned_abs}
 use Rattle.std.proofs.Math.IntN.{ℤ, pos, negsuc, ◌*ℤ◌}
 use Rattle.std.proofs.Math.Nat.{mul-le-mul}
 use Rattle.std.proofs.lemmas.Bool.{cases_eq, cases_order}
@@ -40,9 +41,11 @@ heads i j b c a n e = (cc, cc)
 cons : (i j n : ℕ) (b c a : List ℕ) → i + j ≡ n → plus b c ≡ a → plus (i ∷ b) (j ∷ c) ≡ n ∷ a
 cons i j n b c a e f = λ k. e k ∷ f k
 
-splits-zero : (a : List ℕ) (h : List ℕ → List ℕ → ℤ) → ((b c : List ℕ) → length b ≡ length a → length c ≡ length a → plus b c ≡ a → h b c ≡ pos 0) → sum_splits a h ≡ pos 0
+splits-zero : (a : List ℕ) (h : List ℕ → List ℕ → ℤ)
+    → ((b c : List ℕ) → length b ≡ length a → length c ≡ length a → plus b c ≡ a → h b c ≡ pos 0) → sum_splits a h ≡ pos 0
 splits-zero [] h z = z [] [] refl refl refl
-splits-zero (n ∷ a) h z = parts-zero n (λ i j. sum_splits a (λ b c. h (i ∷ b) (j ∷ c))) (λ i j e. splits-zero a (λ b c. h (i ∷ b) (j ∷ c)) (λ b c l r p. z (i ∷ b) (j ∷ c) (ap suc l) (ap suc r) (cons i j n b c a e p)))
+splits-zero (n ∷ a) h z = parts-zero n (λ i j. sum_splits a (λ b c. h (i ∷ b) (j ∷ c)))
+    (λ i j e. splits-zero a (λ b c. h (i ∷ b) (j ∷ c)) (λ b c l r p. z (i ∷ b) (j ∷ c) (ap suc l) (ap suc r) (cons i j n b c a e p)))
 
 splits-one : (a t u : List ℕ) (h : List ℕ → List ℕ → ℤ) → length t ≡ length a → length u ≡ length a → plus t u ≡ a →
     ((b c : List ℕ) → length b ≡ length a → length c ≡ length a → plus b c ≡ a → (b ≡ t → ⊥) → h b c ≡ pos 0) → sum_splits a h ≡ h t u
@@ -54,7 +57,8 @@ splits-one (n ∷ a) (x ∷ t) [] h l r p z = absurd (omega arith)
 splits-one (n ∷ a) (x ∷ t) (y ∷ u) h l r p z =
     let q = heads x y t u a n p in
     parts-one n (λ i j. sum_splits a (λ b c. h (i ∷ b) (j ∷ c))) x y q.0
-    (λ i j e ne. splits-zero a (λ b c. h (i ∷ b) (j ∷ c)) (λ b c f g s. z (i ∷ b) (j ∷ c) (ap suc f) (ap suc g) (cons i j n b c a e s) (λ w. ne (first i x b t w))))
+    (λ i j e ne. splits-zero a (λ b c. h (i ∷ b) (j ∷ c))
+    (λ b c f g s. z (i ∷ b) (j ∷ c) (ap suc f) (ap suc g) (cons i j n b c a e s) (λ w. ne (first i x b t w))))
     ∙ splits-one a t u (λ b c. h (x ∷ b) (y ∷ c)) (omega (arith, l)) (omega (arith, r)) q.1
     (λ b c f g s ne. z (x ∷ b) (y ∷ c) (ap suc f) (ap suc g) (cons x y n b c a q.0 s) (λ w. ne (rest x x b t w)))
   where
@@ -106,7 +110,8 @@ tight (x ∷ b) (z ∷ c) (y ∷ t) (w ∷ u) l m r h k e = by_case h k (λ s s'
     q : (x + z ≡ y + w) × (plus b c ≡ plus t u)
     q = heads x z b c (plus t u) (y + w) e
 
-    by_case : (x < y) ⊎ ((x ≡ y) × NotAbove b t) → (z < w) ⊎ ((z ≡ w) × NotAbove c u) → (NotAbove b t → NotAbove c u → plus b c ≡ plus t u → b ≡ t) → x ∷ b ≡ y ∷ t
+    by_case : (x < y) ⊎ ((x ≡ y) × NotAbove b t) → (z < w) ⊎ ((z ≡ w) × NotAbove c u)
+        → (NotAbove b t → NotAbove c u → plus b c ≡ plus t u → b ≡ t) → x ∷ b ≡ y ∷ t
     by_case (inl s) (inl s') g = absurd (omega (arith, s, s', q.0))
     by_case (inl s) (inr s') g = absurd (omega (arith, s, s'.0, q.0))
     by_case (inr s) (inl s') g = absurd (omega (arith, s.0, s', q.0))
@@ -138,13 +143,29 @@ highest n v e [] b h = record { here = b; monomial = h; highest = λ m k i. absu
 highest n v e (x ∷ ms) b h = by_case (highest n v e ms b h) (cases_eq (length x) n) (zero_cases (normal_coefficient e x))
   where
     no : (t : Highest n v e ms) → (IsMonomial n e x → ⊥) → Highest n v e (x ∷ ms)
-    no t none = record { here = t.here; monomial = t.monomial; highest = λ m k i. elim i [ inl q ↦ absurd (none (subst (IsMonomial n e) q k)) | inr j ↦ t.highest m k j ] }
+    no t none = record {
+      here = t.here;
+      monomial = t.monomial;
+      highest = λ m k i. elim i [ inl q ↦ absurd (none (subst (IsMonomial n e) q k)) | inr j ↦ t.highest m k j ];
+    }
 
     yes' : (t : Highest n v e ms) → IsMonomial n e x → NotAbove (key v x) (key v t.here) ⊎ NotAbove (key v t.here) (key v x) → Highest n v e (x ∷ ms)
-    yes' t k (inl l) = record { here = t.here; monomial = t.monomial; highest = λ m k i. elim i [ inl q ↦ subst (λ (z : List ℕ). NotAbove (key v z) (key v t.here)) (sym q) l | inr j ↦ t.highest m k j ] }
-    yes' t k (inr l) = record { here = x; monomial = k; highest = λ m k i. elim i [ inl q ↦ subst (λ (z : List ℕ). NotAbove (key v z) (key v x)) (sym q) (itself (key v x)) | inr j ↦ through (key v m) (key v t.here) (key v x) (t.highest m k j) l ] }
+    yes' t k (inl l) = record {
+      here = t.here;
+      monomial = t.monomial;
+      highest = λ m k i. elim i [ inl q ↦ subst (λ (z : List ℕ). NotAbove (key v z) (key v t.here)) (sym q) l | inr j ↦ t.highest m k j ];
+    }
+    yes' t k (inr l) = record {
+      here = x;
+      monomial = k;
+      highest = λ m k i. elim i [
+        | inl q ↦ subst (λ (z : List ℕ). NotAbove (key v z) (key v x)) (sym q) (itself (key v x))
+        | inr j ↦ through (key v m) (key v t.here) (key v x) (t.highest m k j) l
+      ];
+    }
 
-    by_case : Highest n v e ms → (length x ≡ n) ⊎ (length x ≡ n → ⊥) → (normal_coefficient e x ≡ pos 0) ⊎ (normal_coefficient e x ≡ pos 0 → ⊥) → Highest n v e (x ∷ ms)
+    by_case : Highest n v e ms → (length x ≡ n) ⊎ (length x ≡ n → ⊥) → (normal_coefficient e x ≡ pos 0) ⊎ (normal_coefficient e x ≡ pos 0 → ⊥)
+        → Highest n v e (x ∷ ms)
     by_case t (inr u) z = no t (λ k. u k.size)
     by_case t (inl l) (inl z) = no t (λ k. k.nonzero z)
     by_case t (inl l) (inr z) = yes' t (record { size = l; nonzero = z }) (either (key v x) (key v t.here) (omega (arith, l, t.monomial.size)))
@@ -172,9 +193,17 @@ under v b t (inl l) = omega (arith, l)
 under v b t (inr r) = omega (arith, r.0)
 
 -- the monomials of a product reach, in each variable, the sum of the exponents of any two monomials of the factors; ms and ks have all of these
-pub products-reach : (n v : ℕ) (e f : Tree) (ms ks : List (List ℕ)) (b c : List ℕ) → ((m : List ℕ) → IsMonomial n e m → In ms m) → ((m : List ℕ) → IsMonomial n f m → In ks m) →
+pub products-reach : (n v : ℕ) (e f : Tree) (ms ks : List (List ℕ)) (b c : List ℕ) → ((m : List ℕ) → IsMonomial n e m → In ms m) →
+    ((m : List ℕ) → IsMonomial n f m → In ks m) →
     IsMonomial n e b → IsMonomial n f c → (m : List ℕ) × IsMonomial n (Mul e f) m × (get_or b v 0 + get_or c v 0 ≤ get_or m v 0)
-products-reach n v e f ms ks b c all all' hb hc = (plus t.here u.here, record { size = size; nonzero = λ z. times-nonzero (normal_coefficient e t.here) (normal_coefficient f u.here) t.monomial.nonzero u.monomial.nonzero (sym value ∙ z) }, reach)
+products-reach n v e f ms ks b c all all' hb hc = (
+  plus t.here u.here,
+  record {
+    size = size;
+    nonzero = λ z. times-nonzero (normal_coefficient e t.here) (normal_coefficient f u.here) t.monomial.nonzero u.monomial.nonzero (sym value ∙ z);
+  },
+  reach,
+)
   where
     t : Highest n v e ms
     t = highest n v e ms b hb
@@ -191,16 +220,22 @@ products-reach n v e f ms ks b c all all' hb hc = (plus t.here u.here, record { 
     reach : get_or b v 0 + get_or c v 0 ≤ get_or (plus t.here u.here) v 0
     reach = omega (arith, under v b t.here (t.highest b hb (all b hb)), under v c u.here (u.highest c hc (all' c hc)), get-plus t.here u.here v same)
 
-    apart : (x y : List ℕ) → length x ≡ length (plus t.here u.here) → length y ≡ length (plus t.here u.here) → plus x y ≡ plus t.here u.here → (x ≡ t.here → ⊥) →
-        (normal_coefficient e x ≡ pos 0) ⊎ (normal_coefficient e x ≡ pos 0 → ⊥) → (normal_coefficient f y ≡ pos 0) ⊎ (normal_coefficient f y ≡ pos 0 → ⊥) → normal_coefficient e x *ℤ normal_coefficient f y ≡ pos 0
+    apart : (x y : List ℕ) → length x ≡ length (plus t.here u.here) → length y ≡ length (plus t.here u.here) →
+        plus x y ≡ plus t.here u.here → (x ≡ t.here → ⊥) →
+        (normal_coefficient e x ≡ pos 0) ⊎ (normal_coefficient e x ≡ pos 0 → ⊥) →
+        (normal_coefficient f y ≡ pos 0) ⊎ (normal_coefficient f y ≡ pos 0 → ⊥) → normal_coefficient e x *ℤ normal_coefficient f y ≡ pos 0
     apart x y l r p ne (inl z) w = left-zero (normal_coefficient e x) (normal_coefficient f y) z
     apart x y l r p ne (inr z) (inl w) = right-zero (normal_coefficient e x) (normal_coefficient f y) w
     apart x y l r p ne (inr z) (inr w) =
         let i : IsMonomial n e x = record { size = l ∙ size; nonzero = z } in
         let j : IsMonomial n f y = record { size = r ∙ size; nonzero = w } in
-        let g : get_or x v 0 + get_or y v 0 ≡ get_or t.here v 0 + get_or u.here v 0 = sym (get-plus x y v (l ∙ sym r)) ∙ ap (λ a. get_or a v 0) p ∙ get-plus t.here u.here v same in
-        let k : plus (key v x) (key v y) ≡ plus (key v t.here) (key v u.here) = cons (get_or x v 0) (get_or y v 0) (get_or t.here v 0 + get_or u.here v 0) x y (plus t.here u.here) g p in
-        absurd (ne (tail (get_or x v 0) (get_or t.here v 0) x t.here (tight (key v x) (key v y) (key v t.here) (key v u.here) (ap suc (l ∙ size ∙ sym t.monomial.size)) (ap suc (r ∙ size ∙ sym t.monomial.size)) (ap suc (sym same)) (t.highest x i (all x i)) (u.highest y j (all' y j)) k)))
+        let g : get_or x v 0 + get_or y v 0 ≡ get_or t.here v 0 + get_or u.here v 0 =
+        sym (get-plus x y v (l ∙ sym r)) ∙ ap (λ a. get_or a v 0) p ∙ get-plus t.here u.here v same in
+        let k : plus (key v x) (key v y) ≡ plus (key v t.here) (key v u.here) =
+        cons (get_or x v 0) (get_or y v 0) (get_or t.here v 0 + get_or u.here v 0) x y (plus t.here u.here) g p in
+        absurd (ne (tail (get_or x v 0) (get_or t.here v 0) x t.here
+        (tight (key v x) (key v y) (key v t.here) (key v u.here) (ap suc (l ∙ size ∙ sym t.monomial.size))
+        (ap suc (r ∙ size ∙ sym t.monomial.size)) (ap suc (sym same)) (t.highest x i (all x i)) (u.highest y j (all' y j)) k)))
       where
         tail : (p q : ℕ) (xs ys : List ℕ) → p ∷ xs ≡ q ∷ ys → xs ≡ ys
         tail p q xs ys h = cc
@@ -208,5 +243,6 @@ products-reach n v e f ms ks b c all all' hb hc = (plus t.here u.here, record { 
     value : normal_coefficient (Mul e f) (plus t.here u.here) ≡ normal_coefficient e t.here *ℤ normal_coefficient f u.here
     value =
         product_is (normal_coefficient e) (normal_coefficient f) (plus t.here u.here)
-        ∙ splits-one (plus t.here u.here) t.here u.here (λ x y. normal_coefficient e x *ℤ normal_coefficient f y) (sym (length-plus t.here u.here same)) (sym same ∙ sym (length-plus t.here u.here same)) refl
+        ∙ splits-one (plus t.here u.here) t.here u.here (λ x y. normal_coefficient e x *ℤ normal_coefficient f y)
+        (sym (length-plus t.here u.here same)) (sym same ∙ sym (length-plus t.here u.here same)) refl
         (λ x y l r p ne. apart x y l r p ne (zero_cases (normal_coefficient e x)) (zero_cases (normal_coefficient f y)))

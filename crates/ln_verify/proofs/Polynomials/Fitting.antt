@@ -1,5 +1,6 @@
 -- Whether exponents fit, and what follows of a product.
-use Rattle.std.proofs.Common.{◌≡◌, ◌⊎◌, inl, inr, Bool, ◌↔◌, ℕ, ◌+◌, ◌<◌, ◌≤◌, zero, suc, List, [], ◌∷◌, length, get_or, drop, refl, sym, arith, subst, eqb, true, false}
+use Rattle.std.proofs.Common.{◌≡◌, ◌⊎◌, inl, inr, Bool, ◌↔◌, ℕ, ◌+◌, ◌<◌, ◌≤◌, zero, suc, List, [], ◌∷◌, length, get_or, drop, refl, sym}
+use Rattle.std.proofs.Common.{arith, subst, eqb, true, false}
 use Rattle.std.specs.Prelude.{All}
 use Rattle.std.proofs.Math.IntN.{ℤ, pos}
 use Rattle.std.proofs.lemmas.Bool.{cases_eq, cases_lt}
@@ -64,17 +65,20 @@ pairs-fit [] b r s h v = omega (arith, small b v s)
 pairs-fit (p ∷ ps) b r s h v = by_case (cases_eq p.0 v) (pairs-fit ps b r.3 s h.1 v)
   where
     by_case : (p.0 ≡ v) ⊎ (p.0 ≡ v → ⊥) → exponent v ps + exponent v b < 128 → exponent v (p ∷ ps) + exponent v b < 128
-    by_case (inl e) q = subst (λ (w : ℕ). exponent w (p ∷ ps) + exponent w b < 128) e (omega (arith, here p ps, AllAbove-none p.0 ps p.0 r.2 (omega arith), h.0))
+    by_case (inl e) q =
+        subst (λ (w : ℕ). exponent w (p ∷ ps) + exponent w b < 128) e (omega (arith, here p ps, AllAbove-none p.0 ps p.0 r.2 (omega arith), h.0))
     by_case (inr d) q = omega (arith, apart p ps v d, q)
 
 -- ---- rows
 row-powers : (s : Pairs × ℤ) (g : Sparse) → IsRising s.0 → AreRising g → RowFits s.0 g → PowersFit s g
 row-powers s [] r q h = All-nil (λ t. (v : ℕ) → exponent v s.0 + exponent v t.0 < 128)
-row-powers s (t ∷ g) r q h = All-cons (λ t. (v : ℕ) → exponent v s.0 + exponent v t.0 < 128) t g (pairs-fit s.0 t.0 r (All-head (λ t. IsRising t.0) t g q) h.0) (row-powers s g r (All-tail (λ t. IsRising t.0) t g q) h.1)
+row-powers s (t ∷ g) r q h = All-cons (λ t. (v : ℕ) → exponent v s.0 + exponent v t.0 < 128) t g
+    (pairs-fit s.0 t.0 r (All-head (λ t. IsRising t.0) t g q) h.0) (row-powers s g r (All-tail (λ t. IsRising t.0) t g q) h.1)
 
 pub all-powers : (f g : Sparse) → AreRising f → AreRising g → AllFit f g → All (λ s. PowersFit s g) f
 all-powers [] g r q h = All-nil (λ s. PowersFit s g)
-all-powers (s ∷ f) g r q h = All-cons (λ s. PowersFit s g) s f (row-powers s g (All-head (λ t. IsRising t.0) s f r) q h.0) (all-powers f g (All-tail (λ t. IsRising t.0) s f r) q h.1)
+all-powers (s ∷ f) g r q h = All-cons (λ s. PowersFit s g) s f (row-powers s g (All-head (λ t. IsRising t.0) s f r) q h.0)
+    (all-powers f g (All-tail (λ t. IsRising t.0) s f r) q h.1)
 
 record RowHigh (n : ℕ) (a : Pairs) (g : Sparse) : Type 0 where
   pub at : ℕ
@@ -141,9 +145,13 @@ module _ {A : Type 0} (H : A → Type 0) where
   pub each-end : (xs : List A) (i : ℕ) → length xs ≤ i → EachDecides xs i → EachOf H xs
   each-end xs i l t = t.0 (past xs i l)
 
--- the tests of the loops, at what stands in the lists
+-- the tests of the loops, at the members of the lists
 pub pairs-at : (r : Bool) (x y a b : Pairs) → (r ≡ true) ↔ PairsFit x y → x ≡ a → y ≡ b → (r ≡ true) ↔ PairsFit a b
-pairs-at r x y a b t p q = (λ e. subst (λ (z : Pairs). PairsFit z b) p (subst (PairsFit x) q (t.0 e)), λ h. t.1 (subst (λ (z : Pairs). PairsFit z y) (sym p) (subst (PairsFit a) (sym q) h)))
+pairs-at r x y a b t p q = (
+  λ e. subst (λ (z : Pairs). PairsFit z b) p (subst (PairsFit x) q (t.0 e)),
+  λ h. t.1 (subst (λ (z : Pairs). PairsFit z y) (sym p) (subst (PairsFit a) (sym q) h)),
+)
 
 pub fits-at : (r : Bool) (x y f g : Sparse) → (r ≡ true) ↔ AllFit x y → x ≡ f → y ≡ g → (r ≡ true) ↔ AllFit f g
-fits-at r x y f g t p q = (λ e. subst (λ (z : Sparse). AllFit z g) p (subst (AllFit x) q (t.0 e)), λ h. t.1 (subst (λ (z : Sparse). AllFit z y) (sym p) (subst (AllFit f) (sym q) h)))
+fits-at r x y f g t p q =
+    (λ e. subst (λ (z : Sparse). AllFit z g) p (subst (AllFit x) q (t.0 e)), λ h. t.1 (subst (λ (z : Sparse). AllFit z y) (sym p) (subst (AllFit f) (sym q) h)))

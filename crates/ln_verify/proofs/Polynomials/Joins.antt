@@ -1,4 +1,4 @@
--- The polynomials of sums, differences and products, by what the code says of its sums.
+-- The polynomials of sums, differences and products, by what the contracts of the code say of its sums.
 use Rattle.std.proofs.Common.{◌≡◌, ℕ, ◌≤◌, ap, arith}
 use Rattle.std.specs.Prelude.{Some}
 use Rattle.std.proofs.lemmas.Int.{ints}
@@ -13,7 +13,8 @@ use Rattle.ln_verify.specs.Joined.{IsSum, Joined}
 use Rattle.ln_verify.proofs.Polynomials.Negations.{below-of, difference-normal}
 
 pub sum-turned : (f g h : Sparse) → IsSum g f h → IsSum f g h
-sum-turned f g h s = record { coefficients = λ n m. omega (arith, ints, s.coefficients n m); size = omega (arith, s.size); form = s.form; below = λ n p q. s.below n q p }
+sum-turned f g h s =
+    record { coefficients = λ n m. omega (arith, ints, s.coefficients n m); size = omega (arith, s.size); form = s.form; below = λ n p q. s.below n q p }
 
 pub plus-joined : (f g h : Sparse) → IsSum f g h → Joined Plus f g (Some h)
 plus-joined f g h s = (s.size, λ n d e p q. add-normal n d e f g h p q s.form (s.below n p.below q.below) (λ m. s.coefficients n m))
@@ -24,8 +25,10 @@ turned-size g k e = let a : size_of k ≡ size_of (negated g) = ap (λ (z : Spar
 -- the sum of minus the second and the first
 pub minus-joined : (f g k h : Sparse) → k ≡ negated g → IsSum k f h → Joined Minus f g (Some h)
 minus-joined f g k h e s =
-    let z = turned-size g k e in
-    (omega (arith, s.size, z), λ n d t p q. difference-normal n d t f g k h p q e s.form (s.below n (below-of n g k e q.below) p.below) (λ m. omega (arith, ints, s.coefficients n m)))
+    let z = turned-size g k e in (
+      omega (arith, s.size, z),
+      λ n d t p q. difference-normal n d t f g k h p q e s.form (s.below n (below-of n g k e q.below) p.below) (λ m. omega (arith, ints, s.coefficients n m)),
+    )
 
 -- what is made of sizes is no larger than what is made of larger ones
 pub bound-within : (t : Two) (a b m n s : ℕ) → a ≤ m → b ≤ n → s ≡ bound_of t m n → bound_of t a b ≤ s

@@ -12,10 +12,13 @@ use Rattle.ln_poly.proofs.Expansions.Normals.{neg-normal, number-none, sub-norma
 pub negated-normal : (n : ℕ) (e : Tree) (f g : Sparse) → IsNormal n e f → g ≡ negated f → IsNormal n (Neg e) g
 negated-normal n e f g p q =
     subst (IsNormal n (Neg e)) (sym q)
-    (neg-normal n e f [] (negated f) p (number-none n) (poly-negated f p.form) (below-negated n f p.below) (λ m. omega (arith, ints, coefficient-negated n m f, coefficient_at-nil n m)))
+    (neg-normal n e f [] (negated f) p (number-none n) (poly-negated f p.form) (below-negated n f p.below)
+    (λ m. omega (arith, ints, coefficient-negated n m f, coefficient_at-nil n m)))
 
-pub difference-normal : (n : ℕ) (d e : Tree) (f g k h : Sparse) → IsNormal n d f → IsNormal n e g → k ≡ negated g → IsPoly h → AreBelow n h → ((m : List ℕ) → coefficient_at n h m ≡ coefficient_at n f m +ℤ coefficient_at n k m) → IsNormal n (Sub d e) h
-difference-normal n d e f g k h p q r s b c = sub-normal n d e f g h p q s b (λ m. let a : coefficient_at n k m ≡ coefficient_at n (negated g) m = ap (λ (z : Sparse). coefficient_at n z m) r in omega (arith, ints, c m, a, coefficient-negated n m g))
+pub difference-normal : (n : ℕ) (d e : Tree) (f g k h : Sparse) → IsNormal n d f → IsNormal n e g → k ≡ negated g → IsPoly h → AreBelow n h
+    → ((m : List ℕ) → coefficient_at n h m ≡ coefficient_at n f m +ℤ coefficient_at n k m) → IsNormal n (Sub d e) h
+difference-normal n d e f g k h p q r s b c = sub-normal n d e f g h p q s b (λ m. let a : coefficient_at n k m ≡ coefficient_at n (negated g) m =
+    ap (λ (z : Sparse). coefficient_at n z m) r in omega (arith, ints, c m, a, coefficient-negated n m g))
 
 pub below-of : (n : ℕ) (g k : Sparse) → k ≡ negated g → AreBelow n g → AreBelow n k
 below-of n g k e h = subst (AreBelow n) (sym e) (below-negated n g h)

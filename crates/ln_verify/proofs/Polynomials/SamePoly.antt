@@ -27,15 +27,17 @@ less-none x h =
     let w : is_eq (pairs_cmp x x) ≡ false = ap is_eq h in
     let u : true ≡ false = sym z ∙ w in cc
 
--- those behind a term are later
-behind : (n : ℕ) (t : Pairs × ℤ) (f : Sparse) (x : Pairs) → IsRising x → IsAbove x n → AreRising f → AreBelow n f → AllByRecursion (λ u. on (λ t. t.0) pairs_cmp t u ≡ Less) f → In (all_rows n f) (vector n x) → pairs_cmp t.0 x ≡ Less
+-- those after a term are later
+behind : (n : ℕ) (t : Pairs × ℤ) (f : Sparse) (x : Pairs) → IsRising x → IsAbove x n → AreRising f → AreBelow n f
+    → AllByRecursion (λ u. on (λ t. t.0) pairs_cmp t u ≡ Less) f → In (all_rows n f) (vector n x) → pairs_cmp t.0 x ≡ Less
 behind n t [] x r a rs bs h i = absurd i
 behind n t (u ∷ f) x r a rs bs h (inl e) =
     let q : x ≡ u.0 = same-pairs n x u.0 r (All-head (λ t. IsRising t.0) u f rs) a (All-head (λ t. IsAbove t.0 n) u f bs) e in
     subst (λ (y : Pairs). pairs_cmp t.0 y ≡ Less) (sym q) h.0
 behind n t (u ∷ f) x r a rs bs h (inr i) = behind n t f x r a (All-tail (λ t. IsRising t.0) u f rs) (All-tail (λ t. IsAbove t.0 n) u f bs) h.1 i
 
-first-behind : (n : ℕ) (t : Pairs × ℤ) (f : Sparse) (x : Pairs) → IsRising x → IsAbove x n → IsTerms (t ∷ f) → AreBelow n (t ∷ f) → In (all_rows n f) (vector n x) → pairs_cmp t.0 x ≡ Less
+first-behind : (n : ℕ) (t : Pairs × ℤ) (f : Sparse) (x : Pairs) → IsRising x → IsAbove x n → IsTerms (t ∷ f) → AreBelow n (t ∷ f)
+    → In (all_rows n f) (vector n x) → pairs_cmp t.0 x ≡ Less
 unfolding IsStrictlySortedBy
 first-behind n t f x r a p b i = behind n t f x r a (All-tail (λ t. IsRising t.0) t f p.rising) (All-tail (λ t. IsAbove t.0 n) t f b) p.sorted.0 i
 
@@ -62,7 +64,8 @@ abbrev Agree : ℕ → Sparse → Sparse → Type 0
 Agree n f g = (m : List ℕ) → length m ≡ n → coefficient_at n f m ≡ coefficient_at n g m
 
 -- the first term's vector is that of a term of the other
-first-there : (n : ℕ) (t : Pairs × ℤ) (f g : Sparse) → IsTerms (t ∷ f) → AreBelow n (t ∷ f) → IsTerms g → AreBelow n g → Agree n (t ∷ f) g → In (all_rows n g) (vector n t.0)
+first-there : (n : ℕ) (t : Pairs × ℤ) (f g : Sparse) → IsTerms (t ∷ f) → AreBelow n (t ∷ f) → IsTerms g → AreBelow n g → Agree n (t ∷ f) g
+    → In (all_rows n g) (vector n t.0)
 first-there n t f g p b q c e =
     let m = (rows-monomials n (t ∷ f) p b).monomials (vector n t.0) (inl refl) in
     (rows-monomials n g q c).all (vector n t.0) (record { size = m.size; nonzero = λ z. m.nonzero (e (vector n t.0) m.size ∙ z) })
@@ -74,14 +77,16 @@ own n t f p b = by_case (zero_cases (coefficient_at n f (vector n t.0)))
     by_case : (coefficient_at n f (vector n t.0) ≡ pos 0) ⊎ (coefficient_at n f (vector n t.0) ≡ pos 0 → ⊥) → coefficient_at n (t ∷ f) (vector n t.0) ≡ t.1
     by_case (inl z) = omega (arith, ints, first-part n t f (vector n t.0), own-part n t, z)
     by_case (inr d) =
-        let i = (rows-monomials n f (terms-tail t f p) (All-tail (λ t. IsAbove t.0 n) t f b)).all (vector n t.0) (record { size = vector-length n t.0; nonzero = d }) in
+        let i = (rows-monomials n f (terms-tail t f p) (All-tail (λ t. IsAbove t.0 n) t f b)).all (vector n t.0)
+        (record { size = vector-length n t.0; nonzero = d }) in
         absurd (less-none t.0 (first-behind n t f t.0 (All-head (λ t. IsRising t.0) t f p.rising) (All-head (λ t. IsAbove t.0 n) t f b) p b i))
 
 same-terms : (n : ℕ) (f g : Sparse) → IsTerms f → AreBelow n f → IsTerms g → AreBelow n g → Agree n f g → f ≡ g
 same-terms n [] [] p b q c e = refl
 same-terms n [] (u ∷ g) p b q c e = absurd (first-there n u g [] q c p b (λ m h. sym (e m h)))
 same-terms n (t ∷ f) [] p b q c e = absurd (first-there n t f [] p b q c e)
-same-terms n (t ∷ f) (u ∷ g) p b q c e = join heads (λ y. same-terms n f g (terms-tail t f p) (All-tail (λ t. IsAbove t.0 n) t f b) (terms-tail u g q) (All-tail (λ t. IsAbove t.0 n) u g c) (rest y))
+same-terms n (t ∷ f) (u ∷ g) p b q c e = join heads
+    (λ y. same-terms n f g (terms-tail t f p) (All-tail (λ t. IsAbove t.0 n) t f b) (terms-tail u g q) (All-tail (λ t. IsAbove t.0 n) u g c) (rest y))
   where
     rt : IsRising t.0
     rt = All-head (λ t. IsRising t.0) t f p.rising
@@ -119,7 +124,8 @@ same-terms n (t ∷ f) (u ∷ g) p b q c e = join heads (λ y. same-terms n f g 
 -- two polynomials in code that are the expression's are one
 pub one-normal : (n : ℕ) (t : Tree) (f g : Sparse) → IsNormal n t f → IsNormal n t g → f ≡ g
 unfolding coefficient_at
-one-normal n t f g p q = same-terms n f g (poly-terms f p.form) p.below (poly-terms g q.form) q.below (λ m h. p.normal.coefficients m h ∙ sym (q.normal.coefficients m h))
+one-normal n t f g p q =
+    same-terms n f g (poly-terms f p.form) p.below (poly-terms g q.form) q.below (λ m h. p.normal.coefficients m h ∙ sym (q.normal.coefficients m h))
 
 -- with the same coefficients
 pub one-poly : (n : ℕ) (f g : Sparse) → IsPoly f → AreBelow n f → IsPoly g → AreBelow n g → Agree n f g → f ≡ g

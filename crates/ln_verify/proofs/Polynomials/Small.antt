@@ -53,7 +53,8 @@ pub too-high : (n : ℕ) (d e : Tree) (f g : Sparse) → IsNormal n d f → IsNo
 too-high n d e f g p q i j v x l k b h s =
     let b' = row-monomial n d f p (vector n (get_or f i x).0) (row-in n f i x l) in
     let c' = row-monomial n e g q (vector n (get_or g j x).0) (row-in n g j x k) in
-    let r = products-reach n v d e (all_rows n f) (all_rows n g) (vector n (get_or f i x).0) (vector n (get_or g j x).0) (in-rows n d f p) (in-rows n e g q) b' c' in
+    let r = products-reach n v d e (all_rows n f) (all_rows n g) (vector n (get_or f i x).0) (vector n (get_or g j x).0) (in-rows n d f p)
+    (in-rows n e g q) b' c' in
     let a : get_or r.0 v 0 < 128 = s.low r.0 v r.1 in
     omega (arith, r.2, a, h, vector-get n v (get_or f i x).0 b, vector-get n v (get_or g j x).0 b)
 

@@ -1,11 +1,12 @@
 -- A part is judged by its predicate's name.
-use Rattle.std.proofs.Common.{◌≡◌, ℕ, ◌==◌, ◌&&◌, true, nat_lt, List, [], ◌∷◌, ◌++◌, length, map, refl, sym, ◌∙◌}
+use Rattle.std.proofs.Common.{◌≡◌, ◌==◌, ◌&&◌, true, nat_lt, List, [], ◌∷◌, ◌++◌, length, map, refl, ◌∙◌}
 use Rattle.std.specs.Prelude.{nat_le, count_by, bytes_eq}
 use Rattle.std.specs.List.{list_all}
 use Rattle.std.proofs.lemmas.Bool.{and_parts}
 use Rattle.std.proofs.lemmas.Slice.Eq.{bytes_eq-Decides}
-use Rattle.ln_tree.specs.Table.{CoordOf, SiteOf, PredOf, TableOf}
-use Rattle.ln_tree.specs.Whole.{differ, is_range, site_whole, is_one_of, is_site_said, is_param_said, arg_name, vars_behind, same_vars, nesting, pred_whole, item_names, text_tokens, is_whole}
+use Rattle.ln_tree.specs.Table.{CoordOf, SiteOf, PredOf}
+use Rattle.ln_tree.specs.Whole.{differ, is_range, site_whole, is_one_of, is_site_said, is_param_said, arg_name, vars_behind, same_vars}
+use Rattle.ln_tree.specs.Whole.{nesting, pred_whole, item_names, text_tokens}
 use Rattle.ln_verify.specs.Line.{Subject}
 use Rattle.ln_verify.specs.Verified.{AreSubjectsOf, PartsAreNamed}
 

@@ -24,7 +24,8 @@ line-one v p Named Done t t' r r' = absurd r
 line-one v p (InFilter lines s) (Predicate name) t t' r r' = absurd r
 line-one v p (InFilter lines s) NoFilter t t' r r' = absurd r
 line-one v p (InFilter lines s) Filter t t' r r' = absurd r
-line-one v p (InFilter lines s) (FilterOp op b) t t' r r' = r.2 ∙ ap (InFilter (lines ++ record { op = op; bound = b } ∷ [])) (some-same r.0 r'.0 (sym r.1.0 ∙ r'.1.0)) ∙ sym r'.2
+line-one v p (InFilter lines s) (FilterOp op b) t t' r r' =
+    r.2 ∙ ap (InFilter (lines ++ record { op = op; bound = b } ∷ [])) (some-same r.0 r'.0 (sym r.1.0 ∙ r'.1.0)) ∙ sym r'.2
 line-one v p (InFilter lines s) Decide t t' r r' = r.to ∙ sym r'.to
 line-one v p (InFilter lines s) (Block k a') t t' r r' = absurd r
 line-one v p (InFilter lines s) (BlockOp op b) t t' r r' = absurd r
@@ -49,8 +50,11 @@ line-one v p (InBlock f bs a lines s) Filter t t' r r' = absurd r
 line-one v p (InBlock f bs a lines s) (FilterOp op b) t t' r r' = absurd r
 line-one v p (InBlock f bs a lines s) Decide t t' r r' = absurd r
 line-one v p (InBlock f bs a lines s) (Block k a') t t' r r' = absurd r
-line-one v p (InBlock f bs a lines s) (BlockOp op b) t t' r r' = r.1.2 ∙ ap (InBlock f bs a (lines ++ record { op = op; bound = balanced b } ∷ [])) (some-same r.1.0 r'.1.0 (sym r.1.1.0 ∙ r'.1.1.0)) ∙ sym r'.1.2
-line-one v p (InBlock f bs a lines s) (RangeOp op lo hi) t t' r r' = r.1.2 ∙ ap (InBlock f bs a (lines ++ record { op = op; bound = record { low = lo; high = hi } } ∷ [])) (some-same r.1.0 r'.1.0 (sym r.1.1.0 ∙ r'.1.1.0)) ∙ sym r'.1.2
+line-one v p (InBlock f bs a lines s) (BlockOp op b) t t' r r' =
+    r.1.2 ∙ ap (InBlock f bs a (lines ++ record { op = op; bound = balanced b } ∷ [])) (some-same r.1.0 r'.1.0 (sym r.1.1.0 ∙ r'.1.1.0)) ∙ sym r'.1.2
+line-one v p (InBlock f bs a lines s) (RangeOp op lo hi) t t' r r' =
+    r.1.2 ∙ ap (InBlock f bs a (lines ++ record { op = op; bound = record { low = lo; high = hi } } ∷ []))
+    (some-same r.1.0 r'.1.0 (sym r.1.1.0 ∙ r'.1.1.0)) ∙ sym r'.1.2
 line-one v p (InBlock f bs a lines s) End t t' r r' = r.to ∙ sym r'.to
 line-one v p (InBlock f bs a lines s) (Order places list) t t' r r' = absurd r
 line-one v p (InBlock f bs a lines s) Done t t' r r' = absurd r
@@ -66,7 +70,8 @@ line-one v p (Ordering w) End t t' r r' = absurd r
 line-one v p (Ordering w) (Order places list) t t' r r' = r.to ∙ sym r'.to
 line-one v p (Ordering w) Done t t' r r' = absurd r
 
-part-one : (v : Version) (p : Subject) (parts : List Written) (s : Spot) (line : Part) (q q' : Place) → PartRule v p parts s line q → PartRule v p parts s line q' → q ≡ q'
+part-one : (v : Version) (p : Subject) (parts : List Written) (s : Spot) (line : Part) (q q' : Place) → PartRule v p parts s line q
+    → PartRule v p parts s line q' → q ≡ q'
 part-one v p parts Named (Predicate name) q q' r r' = r.2 ∙ ap (Within parts) (line-one v p Named (Predicate name) r.0 r'.0 r.1 r'.1) ∙ sym r'.2
 part-one v p parts Named NoFilter q q' r r' = r.2 ∙ ap (Within parts) (line-one v p Named NoFilter r.0 r'.0 r.1 r'.1) ∙ sym r'.2
 part-one v p parts Named Filter q q' r r' = r.2 ∙ ap (Within parts) (line-one v p Named Filter r.0 r'.0 r.1 r'.1) ∙ sym r'.2
@@ -78,38 +83,56 @@ part-one v p parts Named (RangeOp op lo hi) q q' r r' = r.2 ∙ ap (Within parts
 part-one v p parts Named End q q' r r' = r.2 ∙ ap (Within parts) (line-one v p Named End r.0 r'.0 r.1 r'.1) ∙ sym r'.2
 part-one v p parts Named (Order places list) q q' r r' = r.2 ∙ ap (Within parts) (line-one v p Named (Order places list) r.0 r'.0 r.1 r'.1) ∙ sym r'.2
 part-one v p parts Named Done q q' r r' = r.2 ∙ ap (Within parts) (line-one v p Named Done r.0 r'.0 r.1 r'.1) ∙ sym r'.2
-part-one v p parts (InFilter lines s) (Predicate name) q q' r r' = r.2 ∙ ap (Within parts) (line-one v p (InFilter lines s) (Predicate name) r.0 r'.0 r.1 r'.1) ∙ sym r'.2
+part-one v p parts (InFilter lines s) (Predicate name) q q' r r' =
+    r.2 ∙ ap (Within parts) (line-one v p (InFilter lines s) (Predicate name) r.0 r'.0 r.1 r'.1) ∙ sym r'.2
 part-one v p parts (InFilter lines s) NoFilter q q' r r' = r.2 ∙ ap (Within parts) (line-one v p (InFilter lines s) NoFilter r.0 r'.0 r.1 r'.1) ∙ sym r'.2
 part-one v p parts (InFilter lines s) Filter q q' r r' = r.2 ∙ ap (Within parts) (line-one v p (InFilter lines s) Filter r.0 r'.0 r.1 r'.1) ∙ sym r'.2
-part-one v p parts (InFilter lines s) (FilterOp op b) q q' r r' = r.2 ∙ ap (Within parts) (line-one v p (InFilter lines s) (FilterOp op b) r.0 r'.0 r.1 r'.1) ∙ sym r'.2
+part-one v p parts (InFilter lines s) (FilterOp op b) q q' r r' =
+    r.2 ∙ ap (Within parts) (line-one v p (InFilter lines s) (FilterOp op b) r.0 r'.0 r.1 r'.1) ∙ sym r'.2
 part-one v p parts (InFilter lines s) Decide q q' r r' = r.2 ∙ ap (Within parts) (line-one v p (InFilter lines s) Decide r.0 r'.0 r.1 r'.1) ∙ sym r'.2
-part-one v p parts (InFilter lines s) (Block k a') q q' r r' = r.2 ∙ ap (Within parts) (line-one v p (InFilter lines s) (Block k a') r.0 r'.0 r.1 r'.1) ∙ sym r'.2
-part-one v p parts (InFilter lines s) (BlockOp op b) q q' r r' = r.2 ∙ ap (Within parts) (line-one v p (InFilter lines s) (BlockOp op b) r.0 r'.0 r.1 r'.1) ∙ sym r'.2
-part-one v p parts (InFilter lines s) (RangeOp op lo hi) q q' r r' = r.2 ∙ ap (Within parts) (line-one v p (InFilter lines s) (RangeOp op lo hi) r.0 r'.0 r.1 r'.1) ∙ sym r'.2
+part-one v p parts (InFilter lines s) (Block k a') q q' r r' =
+    r.2 ∙ ap (Within parts) (line-one v p (InFilter lines s) (Block k a') r.0 r'.0 r.1 r'.1) ∙ sym r'.2
+part-one v p parts (InFilter lines s) (BlockOp op b) q q' r r' =
+    r.2 ∙ ap (Within parts) (line-one v p (InFilter lines s) (BlockOp op b) r.0 r'.0 r.1 r'.1) ∙ sym r'.2
+part-one v p parts (InFilter lines s) (RangeOp op lo hi) q q' r r' =
+    r.2 ∙ ap (Within parts) (line-one v p (InFilter lines s) (RangeOp op lo hi) r.0 r'.0 r.1 r'.1) ∙ sym r'.2
 part-one v p parts (InFilter lines s) End q q' r r' = r.2 ∙ ap (Within parts) (line-one v p (InFilter lines s) End r.0 r'.0 r.1 r'.1) ∙ sym r'.2
-part-one v p parts (InFilter lines s) (Order places list) q q' r r' = r.2 ∙ ap (Within parts) (line-one v p (InFilter lines s) (Order places list) r.0 r'.0 r.1 r'.1) ∙ sym r'.2
+part-one v p parts (InFilter lines s) (Order places list) q q' r r' =
+    r.2 ∙ ap (Within parts) (line-one v p (InFilter lines s) (Order places list) r.0 r'.0 r.1 r'.1) ∙ sym r'.2
 part-one v p parts (InFilter lines s) Done q q' r r' = r.2 ∙ ap (Within parts) (line-one v p (InFilter lines s) Done r.0 r'.0 r.1 r'.1) ∙ sym r'.2
-part-one v p parts (Between f bs) (Predicate name) q q' r r' = r.2 ∙ ap (Within parts) (line-one v p (Between f bs) (Predicate name) r.0 r'.0 r.1 r'.1) ∙ sym r'.2
+part-one v p parts (Between f bs) (Predicate name) q q' r r' =
+    r.2 ∙ ap (Within parts) (line-one v p (Between f bs) (Predicate name) r.0 r'.0 r.1 r'.1) ∙ sym r'.2
 part-one v p parts (Between f bs) NoFilter q q' r r' = r.2 ∙ ap (Within parts) (line-one v p (Between f bs) NoFilter r.0 r'.0 r.1 r'.1) ∙ sym r'.2
 part-one v p parts (Between f bs) Filter q q' r r' = r.2 ∙ ap (Within parts) (line-one v p (Between f bs) Filter r.0 r'.0 r.1 r'.1) ∙ sym r'.2
 part-one v p parts (Between f bs) (FilterOp op b) q q' r r' = r.2 ∙ ap (Within parts) (line-one v p (Between f bs) (FilterOp op b) r.0 r'.0 r.1 r'.1) ∙ sym r'.2
 part-one v p parts (Between f bs) Decide q q' r r' = r.2 ∙ ap (Within parts) (line-one v p (Between f bs) Decide r.0 r'.0 r.1 r'.1) ∙ sym r'.2
 part-one v p parts (Between f bs) (Block k a') q q' r r' = r.2 ∙ ap (Within parts) (line-one v p (Between f bs) (Block k a') r.0 r'.0 r.1 r'.1) ∙ sym r'.2
 part-one v p parts (Between f bs) (BlockOp op b) q q' r r' = r.2 ∙ ap (Within parts) (line-one v p (Between f bs) (BlockOp op b) r.0 r'.0 r.1 r'.1) ∙ sym r'.2
-part-one v p parts (Between f bs) (RangeOp op lo hi) q q' r r' = r.2 ∙ ap (Within parts) (line-one v p (Between f bs) (RangeOp op lo hi) r.0 r'.0 r.1 r'.1) ∙ sym r'.2
+part-one v p parts (Between f bs) (RangeOp op lo hi) q q' r r' =
+    r.2 ∙ ap (Within parts) (line-one v p (Between f bs) (RangeOp op lo hi) r.0 r'.0 r.1 r'.1) ∙ sym r'.2
 part-one v p parts (Between f bs) End q q' r r' = r.2 ∙ ap (Within parts) (line-one v p (Between f bs) End r.0 r'.0 r.1 r'.1) ∙ sym r'.2
-part-one v p parts (Between f bs) (Order places list) q q' r r' = r.2 ∙ ap (Within parts) (line-one v p (Between f bs) (Order places list) r.0 r'.0 r.1 r'.1) ∙ sym r'.2
+part-one v p parts (Between f bs) (Order places list) q q' r r' =
+    r.2 ∙ ap (Within parts) (line-one v p (Between f bs) (Order places list) r.0 r'.0 r.1 r'.1) ∙ sym r'.2
 part-one v p parts (Between f bs) Done q q' r r' = r.2 ∙ ap (Within parts) (line-one v p (Between f bs) Done r.0 r'.0 r.1 r'.1) ∙ sym r'.2
-part-one v p parts (InBlock f bs a lines s) (Predicate name) q q' r r' = r.2 ∙ ap (Within parts) (line-one v p (InBlock f bs a lines s) (Predicate name) r.0 r'.0 r.1 r'.1) ∙ sym r'.2
-part-one v p parts (InBlock f bs a lines s) NoFilter q q' r r' = r.2 ∙ ap (Within parts) (line-one v p (InBlock f bs a lines s) NoFilter r.0 r'.0 r.1 r'.1) ∙ sym r'.2
-part-one v p parts (InBlock f bs a lines s) Filter q q' r r' = r.2 ∙ ap (Within parts) (line-one v p (InBlock f bs a lines s) Filter r.0 r'.0 r.1 r'.1) ∙ sym r'.2
-part-one v p parts (InBlock f bs a lines s) (FilterOp op b) q q' r r' = r.2 ∙ ap (Within parts) (line-one v p (InBlock f bs a lines s) (FilterOp op b) r.0 r'.0 r.1 r'.1) ∙ sym r'.2
-part-one v p parts (InBlock f bs a lines s) Decide q q' r r' = r.2 ∙ ap (Within parts) (line-one v p (InBlock f bs a lines s) Decide r.0 r'.0 r.1 r'.1) ∙ sym r'.2
-part-one v p parts (InBlock f bs a lines s) (Block k a') q q' r r' = r.2 ∙ ap (Within parts) (line-one v p (InBlock f bs a lines s) (Block k a') r.0 r'.0 r.1 r'.1) ∙ sym r'.2
-part-one v p parts (InBlock f bs a lines s) (BlockOp op b) q q' r r' = r.2 ∙ ap (Within parts) (line-one v p (InBlock f bs a lines s) (BlockOp op b) r.0 r'.0 r.1 r'.1) ∙ sym r'.2
-part-one v p parts (InBlock f bs a lines s) (RangeOp op lo hi) q q' r r' = r.2 ∙ ap (Within parts) (line-one v p (InBlock f bs a lines s) (RangeOp op lo hi) r.0 r'.0 r.1 r'.1) ∙ sym r'.2
+part-one v p parts (InBlock f bs a lines s) (Predicate name) q q' r r' =
+    r.2 ∙ ap (Within parts) (line-one v p (InBlock f bs a lines s) (Predicate name) r.0 r'.0 r.1 r'.1) ∙ sym r'.2
+part-one v p parts (InBlock f bs a lines s) NoFilter q q' r r' =
+    r.2 ∙ ap (Within parts) (line-one v p (InBlock f bs a lines s) NoFilter r.0 r'.0 r.1 r'.1) ∙ sym r'.2
+part-one v p parts (InBlock f bs a lines s) Filter q q' r r' =
+    r.2 ∙ ap (Within parts) (line-one v p (InBlock f bs a lines s) Filter r.0 r'.0 r.1 r'.1) ∙ sym r'.2
+part-one v p parts (InBlock f bs a lines s) (FilterOp op b) q q' r r' =
+    r.2 ∙ ap (Within parts) (line-one v p (InBlock f bs a lines s) (FilterOp op b) r.0 r'.0 r.1 r'.1) ∙ sym r'.2
+part-one v p parts (InBlock f bs a lines s) Decide q q' r r' =
+    r.2 ∙ ap (Within parts) (line-one v p (InBlock f bs a lines s) Decide r.0 r'.0 r.1 r'.1) ∙ sym r'.2
+part-one v p parts (InBlock f bs a lines s) (Block k a') q q' r r' =
+    r.2 ∙ ap (Within parts) (line-one v p (InBlock f bs a lines s) (Block k a') r.0 r'.0 r.1 r'.1) ∙ sym r'.2
+part-one v p parts (InBlock f bs a lines s) (BlockOp op b) q q' r r' =
+    r.2 ∙ ap (Within parts) (line-one v p (InBlock f bs a lines s) (BlockOp op b) r.0 r'.0 r.1 r'.1) ∙ sym r'.2
+part-one v p parts (InBlock f bs a lines s) (RangeOp op lo hi) q q' r r' =
+    r.2 ∙ ap (Within parts) (line-one v p (InBlock f bs a lines s) (RangeOp op lo hi) r.0 r'.0 r.1 r'.1) ∙ sym r'.2
 part-one v p parts (InBlock f bs a lines s) End q q' r r' = r.2 ∙ ap (Within parts) (line-one v p (InBlock f bs a lines s) End r.0 r'.0 r.1 r'.1) ∙ sym r'.2
-part-one v p parts (InBlock f bs a lines s) (Order places list) q q' r r' = r.2 ∙ ap (Within parts) (line-one v p (InBlock f bs a lines s) (Order places list) r.0 r'.0 r.1 r'.1) ∙ sym r'.2
+part-one v p parts (InBlock f bs a lines s) (Order places list) q q' r r' =
+    r.2 ∙ ap (Within parts) (line-one v p (InBlock f bs a lines s) (Order places list) r.0 r'.0 r.1 r'.1) ∙ sym r'.2
 part-one v p parts (InBlock f bs a lines s) Done q q' r r' = r.2 ∙ ap (Within parts) (line-one v p (InBlock f bs a lines s) Done r.0 r'.0 r.1 r'.1) ∙ sym r'.2
 part-one v p parts (Ordering w) (Predicate name) q q' r r' = r.2 ∙ ap (Within parts) (line-one v p (Ordering w) (Predicate name) r.0 r'.0 r.1 r'.1) ∙ sym r'.2
 part-one v p parts (Ordering w) NoFilter q q' r r' = r.2 ∙ ap (Within parts) (line-one v p (Ordering w) NoFilter r.0 r'.0 r.1 r'.1) ∙ sym r'.2
@@ -118,9 +141,11 @@ part-one v p parts (Ordering w) (FilterOp op b) q q' r r' = r.2 ∙ ap (Within p
 part-one v p parts (Ordering w) Decide q q' r r' = r.2 ∙ ap (Within parts) (line-one v p (Ordering w) Decide r.0 r'.0 r.1 r'.1) ∙ sym r'.2
 part-one v p parts (Ordering w) (Block k a') q q' r r' = r.2 ∙ ap (Within parts) (line-one v p (Ordering w) (Block k a') r.0 r'.0 r.1 r'.1) ∙ sym r'.2
 part-one v p parts (Ordering w) (BlockOp op b) q q' r r' = r.2 ∙ ap (Within parts) (line-one v p (Ordering w) (BlockOp op b) r.0 r'.0 r.1 r'.1) ∙ sym r'.2
-part-one v p parts (Ordering w) (RangeOp op lo hi) q q' r r' = r.2 ∙ ap (Within parts) (line-one v p (Ordering w) (RangeOp op lo hi) r.0 r'.0 r.1 r'.1) ∙ sym r'.2
+part-one v p parts (Ordering w) (RangeOp op lo hi) q q' r r' =
+    r.2 ∙ ap (Within parts) (line-one v p (Ordering w) (RangeOp op lo hi) r.0 r'.0 r.1 r'.1) ∙ sym r'.2
 part-one v p parts (Ordering w) End q q' r r' = r.2 ∙ ap (Within parts) (line-one v p (Ordering w) End r.0 r'.0 r.1 r'.1) ∙ sym r'.2
-part-one v p parts (Ordering w) (Order places list) q q' r r' = r.2 ∙ ap (Within parts) (line-one v p (Ordering w) (Order places list) r.0 r'.0 r.1 r'.1) ∙ sym r'.2
+part-one v p parts (Ordering w) (Order places list) q q' r r' =
+    r.2 ∙ ap (Within parts) (line-one v p (Ordering w) (Order places list) r.0 r'.0 r.1 r'.1) ∙ sym r'.2
 part-one v p parts (Ordering w) Done q q' r r' = r.to ∙ sym r'.to
 
 pub rule-one : (v : Version) (ps : List Subject) (here : Place) (line : Part) (q q' : Place) → Rule v ps here line q → Rule v ps here line q' → q ≡ q'
@@ -139,14 +164,16 @@ rule-one v ps (Within parts s) line q q' (p, g, r) (p', g', r') =
     let e : p ≡ p' = some-same p p' (sym g ∙ g') in
     part-one v p parts s line q q' r (subst (λ (z : Subject). PartRule v z parts s line q') (sym e) r')
 
--- where lines go on behind a first fault, they don't
-fails-stop : (v : Version) (ps : List Subject) (here : Place) (line : Part) (lines : List Part) → FailsAt v ps here (line ∷ lines) → (q : Place) → Rule v ps here line q → ⊥
+-- where lines go on after a first fault, they don't
+fails-stop : (v : Version) (ps : List Subject) (here : Place) (line : Part) (lines : List Part) → FailsAt v ps here (line ∷ lines)
+    → (q : Place) → Rule v ps here line q → ⊥
 fails-stop v ps (Outside parts) line lines f q r = f q r
 fails-stop v ps (Within parts s) line lines f q r = f q r
 
 -- lines that lead so far lead to one place, and all lines lead no further than a fault
 module _ (v : Version) (ps : List Subject) where
-  not-past : (lines : List Part) (i j : ℕ) (start here q : Place) → Go v ps start (take i lines) here → FailsAt v ps here (drop i lines) → Go v ps start (take j lines) q → i < j → j ≤ length lines → ⊥
+  not-past : (lines : List Part) (i j : ℕ) (start here q : Place) → Go v ps start (take i lines) here → FailsAt v ps here (drop i lines)
+      → Go v ps start (take j lines) q → i < j → j ≤ length lines → ⊥
   not-past [] i j start here q g f h l k = absurd (omega arith)
   not-past (x ∷ xs) i zero start here q g f h l k = absurd (omega arith)
   not-past (x ∷ xs) zero (suc j) start here q g f h l k = fails-stop v ps start x xs (subst (λ (z : Place). FailsAt v ps z (x ∷ xs)) g f) h.0 h.1
@@ -182,11 +209,14 @@ module _ (v : Version) (ps : List Subject) where
       by_case : (f.at ≡ length lines) ⊎ ((f.at < length lines) ⊎ (length lines < f.at)) → ⊥
       by_case (inl e) =
           let g : Go v ps (Outside []) (take (length lines) lines) f.here = subst (λ (k : ℕ). Go v ps (Outside []) (take k lines) f.here) e f.good in
-          let s : f.here ≡ Outside h.parts = same-place (take (length lines) lines) (Outside []) f.here (Outside h.parts) g (all-taken lines (Outside []) (Outside h.parts) h.good) in
+          let s : f.here ≡ Outside h.parts =
+          same-place (take (length lines) lines) (Outside []) f.here (Outside h.parts) g (all-taken lines (Outside []) (Outside h.parts) h.good) in
           let d : drop f.at lines ≡ [] = ap (λ k. drop k lines) e ∙ all-dropped lines in
-          let t : FailsAt v ps (Outside h.parts) [] = subst (λ (z : Place). FailsAt v ps z []) s (subst (λ (xs : List Part). FailsAt v ps f.here xs) d f.fails) in
+          let t : FailsAt v ps (Outside h.parts) [] =
+          subst (λ (z : Place). FailsAt v ps z []) s (subst (λ (xs : List Part). FailsAt v ps f.here xs) d f.fails) in
           t h.all
-      by_case (inr (inl l)) = not-past lines f.at (length lines) (Outside []) f.here (Outside h.parts) f.good f.fails (all-taken lines (Outside []) (Outside h.parts) h.good) l (omega arith)
+      by_case (inr (inl l)) = not-past lines f.at (length lines) (Outside []) f.here (Outside h.parts) f.good f.fails
+          (all-taken lines (Outside []) (Outside h.parts) h.good) l (omega arith)
       by_case (inr (inr l)) = omega (arith, l, f.within)
 
 pub one-answer : OneAnswer

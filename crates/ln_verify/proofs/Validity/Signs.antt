@@ -1,4 +1,4 @@
--- A valid listing gives the perturbed sign.
+-- A valid listing has the perturbed sign.
 use Rattle.std.proofs.Common.{◌≡◌, ℕ, ◌<◌, zero, suc, List, [], ◌∷◌, length, map, get_or, refl, sym, ◌∙◌, ap, arith, subst}
 use Rattle.std.specs.Prelude.{All, IfSome, IsSome, Option, Some, None, slice_get, slice_index_or}
 use Rattle.std.specs.Option.{option_map}
@@ -44,8 +44,10 @@ use Rattle.ln_verify.proofs.Judging.Wholes.{list-stands, segments-all}
 
 -- ---- what the rules of programs know, in either version
 pub record Followed (v : Version) : Type 0 where
-  pub block : (vars : List VarInfo) (lines : List (Line Range)) (x : Known) → answer (block_rules v vars) no_locals lines ≡ Some x → (y : Known) × (answer (rules vars deepest) no_locals lines ≡ Some y) × (x.tree ≡ y.tree)
-  pub filter : (vars : List VarInfo) (lines : List (Line Triple)) (x : FilterKnown) → answer (triple_rules v vars) no_locals lines ≡ Some x → (y : FilterKnown) × (answer (filter_rules vars deepest) no_locals lines ≡ Some y) × (x.tree ≡ y.tree) × (x.triple ≡ y.triple)
+  pub block : (vars : List VarInfo) (lines : List (Line Range)) (x : Known) → answer (block_rules v vars) no_locals lines ≡ Some x
+      → (y : Known) × (answer (rules vars deepest) no_locals lines ≡ Some y) × (x.tree ≡ y.tree)
+  pub filter : (vars : List VarInfo) (lines : List (Line Triple)) (x : FilterKnown) → answer (triple_rules v vars) no_locals lines ≡ Some x
+      → (y : FilterKnown) × (answer (filter_rules vars deepest) no_locals lines ≡ Some y) × (x.tree ≡ y.tree) × (x.triple ≡ y.triple)
 
 followed : (f : Form) → Followed (version_of f)
 followed One = record {
@@ -80,9 +82,15 @@ module _ (v : Version) (z : Followed v) (p : Subject) where
   carries-derivative : (b : Piece) → PieceStands v p b → CarriesDerivative p.vars (terms_of (length p.vars) p.poly) (code_of b)
   carries-derivative b h =
       let k = block-known b h in
-      record { what = k.0; known = k.1; derivative = subst (λ (t : Tree). IsNormalOf (length p.vars) t (derived (vector (length p.vars) b.exps) (terms_of (length p.vars) p.poly))) k.2 h.derivative }
+      record {
+        what = k.0;
+        known = k.1;
+        derivative =
+            subst (λ (t : Tree). IsNormalOf (length p.vars) t (derived (vector (length p.vars) b.exps) (terms_of (length p.vars) p.poly))) k.2 h.derivative;
+      }
 
-  filter-known : (lines : List (Line Triple)) (h : FilterStands v p lines) → (y : FilterKnown) × (filter_known_of p.vars (filter_code lines) ≡ Some y) × (h.left.tree ≡ y.tree) × (h.left.triple ≡ y.triple)
+  filter-known : (lines : List (Line Triple)) (h : FilterStands v p lines)
+      → (y : FilterKnown) × (filter_known_of p.vars (filter_code lines) ≡ Some y) × (h.left.tree ≡ y.tree) × (h.left.triple ≡ y.triple)
   filter-known lines h =
       let r = z.filter p.vars lines h.left h.answered in
       (r.0, ap (answer (filter_rules p.vars deepest) no_locals) (lines-back lines) ∙ r.1, r.2, r.3)
@@ -91,7 +99,12 @@ module _ (v : Version) (z : Followed v) (p : Subject) where
   filter-follows lines h =
       let k = filter-known lines h in
       let e : h.left.triple.e ≡ k.0.triple.e = ap (λ (t : Triple). t.e) k.3 in
-      record { bounded = length-map lines (λ (x : Line Triple). x.op) ∙ sym (length-map lines (λ (x : Line Triple). x.bound)); what = k.0; known = k.1; narrow = omega (arith, h.narrow, e) }
+      record {
+        bounded = length-map lines (λ (x : Line Triple). x.op) ∙ sym (length-map lines (λ (x : Line Triple). x.bound));
+        what = k.0;
+        known = k.1;
+        narrow = omega (arith, h.narrow, e);
+      }
 
   carries-whole : (lines : List (Line Triple)) → FilterStands v p lines → CarriesWhole p.vars (terms_of (length p.vars) p.poly) (filter_code lines)
   carries-whole lines h =
@@ -123,7 +136,7 @@ exps-same : (bs : List Piece) → map (λ (c : Code). c.exps) (map code_of bs) �
 exps-same [] = refl
 exps-same (b ∷ bs) = ap (λ z. b.exps ∷ z) (exps-same bs)
 
--- an order that stands among all, behind as many lists
+-- an order that is among all, after as many lists
 order-there : {A : Type 0} (xs : List A) (k n : ℕ) → k < n → n ≡ length xs → (x : A) × (slice_get xs k ≡ Some x)
 order-there {A} xs k n l e = go (slice_get xs k) refl
   where
@@ -152,29 +165,38 @@ module _ (v : Version) (z : Followed v) (s : Shape) (e : Tree) (name : List ℕ)
     blocks = map-all code_of (FollowsRules s.vars) w.blocks (λ k b q. follows-rules v z (subject_of s name f) b (h.blocks k b q));
     filter = filters-follow v z (subject_of s name f) w.filter h.filter;
     prefixes = length-map (prefixes_of s.sites) (segment_at s.sites w.lists);
-    named = map-all (segment_at s.sites w.lists) (λ (segment : List ℕ). All (λ n. n < length (map code_of w.blocks)) segment) (prefixes_of s.sites) (λ k p q. segments-all s w h.all (λ n. n < length (map code_of w.blocks)) within p);
+    named = map-all (segment_at s.sites w.lists) (λ (segment : List ℕ). All (λ n. n < length (map code_of w.blocks)) segment)
+        (prefixes_of s.sites) (λ k p q. segments-all s w h.all (λ n. n < length (map code_of w.blocks)) within p);
   }
 
-  order-stages : IsNormal (length s.vars) e f → (places list : List ℕ) → IsListOf (part_of s w) places list → OrderStages BySmallest s.vars e places (vectors (part_of s w) list)
+  order-stages : IsNormal (length s.vars) e f → (places list : List ℕ) → IsListOf (part_of s w) places list
+      → OrderStages BySmallest s.vars e places (vectors (part_of s w) list)
   order-stages normal places list l =
       let r = list-stands s w h.all places list l in
-      let t : ListStands (subject_of s name f) w.blocks places list = subst (λ (x : List ℕ). ListStands (subject_of s name f) w.blocks places x) (sym r.1) (h.lists r.0.at _ r.0.beside_it places r.0.there) in
+      let t : ListStands (subject_of s name f) w.blocks places list =
+      subst (λ (x : List ℕ). ListStands (subject_of s name f) w.blocks places x) (sym r.1) (h.lists r.0.at _ r.0.beside_it places r.0.there) in
       (lists-of-trees (length s.vars) (sites_of s.vars places) e f (vectors (part_of s w) list) normal.normal).0
-      (subst (λ (xs : List Pairs). IsStageListOf (length s.vars) (sites_of s.vars places) f (map (λ (k : ℕ). vector (length s.vars) (slice_index_or xs k [])) list)) (sym (exps-same w.blocks)) t.stages)
+      (subst (λ (xs : List Pairs). IsStageListOf (length s.vars) (sites_of s.vars places) f
+      (map (λ (k : ℕ). vector (length s.vars) (slice_index_or xs k [])) list)) (sym (exps-same w.blocks)) t.stages)
 
   carries : IsNormal (length s.vars) e f → InputsBelow (length s.vars) e → Carries BySmallest (part_of s w) e (terms_of (length s.vars) f)
   carries normal inputs = record {
     inputs = inputs;
     normal = normal.normal;
     lists = order-stages normal;
-    blocks = map-all code_of (CarriesDerivative s.vars (terms_of (length s.vars) f)) w.blocks (λ k b q. carries-derivative v z (subject_of s name f) b (h.blocks k b q));
+    blocks = map-all code_of (CarriesDerivative s.vars (terms_of (length s.vars) f)) w.blocks
+        (λ k b q. carries-derivative v z (subject_of s name f) b (h.blocks k b q));
     filter = filters-carry v z (subject_of s name f) w.filter h.filter;
   }
 
   gives-sign : (row : Row) → IsNormal (length s.vars) e f → InputsBelow (length s.vars) e → InRange s.sites s.vars row → GivesSign s e w row
   gives-sign row normal inputs r =
       let a = rows-have (part_of s w) row runs r in
-      record { verdict = a.0; answers = a.1; sign = λ u m. signs-perturbed BySmallest (part_of s w) e (terms_of (length s.vars) f) row u runs (carries normal inputs) r m }
+      record {
+        verdict = a.0;
+        answers = a.1;
+        sign = λ u m. signs-perturbed BySmallest (part_of s w) e (terms_of (length s.vars) f) row u runs (carries normal inputs) r m;
+      }
 
 -- whose names these are
 as-subject : (s : Shape) (e : Tree) (p : Subject) → IsSubject s e p → p ≡ subject_of s p.name p.poly
@@ -183,5 +205,6 @@ as-subject s e p h = let a = h.sites in let b = h.vars in λ i. record { name = 
 pub signs-given : ValidPartsGiveSigns
 signs-given f ps lines h k p w s e row there here i r =
     let q = as-subject s e p i in
-    let stands : PartStands (version_of f) (subject_of s p.name p.poly) w = subst (λ (y : Subject). PartStands (version_of f) y w) q (valid-stands (version_of f) ps lines h k w here p there) in
+    let stands : PartStands (version_of f) (subject_of s p.name p.poly) w =
+    subst (λ (y : Subject). PartStands (version_of f) y w) q (valid-stands (version_of f) ps lines h k w here p there) in
     gives-sign (version_of f) (followed f) s e p.name p.poly w stands row i.normal i.inputs r

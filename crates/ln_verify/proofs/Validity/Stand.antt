@@ -1,4 +1,4 @@
--- A listing whose lines don't fail: what stands in its parts.
+-- A listing whose lines don't fail: what its parts hold.
 use Rattle.std.proofs.Common.{◌≡◌, ◌⊎◌, inl, inr, ℕ, zero, suc, List, [], ◌∷◌, ◌++◌, length, refl, sym, ◌∙◌, ap, arith, subst, unsigned_abs}
 use Rattle.std.specs.Prelude.{Some, IfSome, slice_get}
 use Rattle.ln_tree.specs.Exps.{IsRising}
@@ -10,7 +10,8 @@ use Rattle.ln_code.specs.Numbers.{no_locals}
 use Rattle.ln_due.proofs.Parts.BlockLemmas.{some-same}
 use Rattle.ln_interval.specs.Range.{Range}
 use Rattle.ln_verify.specs.BlockRules.{Version, balanced, block_rules, triple_rules}
-use Rattle.ln_verify.specs.Line.{Between, InBlock, InFilter, LineRule, Named, OrderLine, Ordering, Outside, PartRule, Piece, Place, Rule, Spot, Subject, Within, Written, fresh}
+use Rattle.ln_verify.specs.Line.{Between, InBlock, InFilter, LineRule, Named, OrderLine, Ordering, Outside, PartRule, Piece, Place, Rule}
+use Rattle.ln_verify.specs.Line.{Spot, Subject, Within, Written, fresh}
 use Rattle.ln_verify.specs.Judge.{Go}
 use Rattle.ln_verify.specs.Law.{ValidPartsStand}
 use Rattle.ln_verify.specs.Stands.{Everywhere, FilterStands, ListStands, AreBothWays, ListsStand, PartStands, PartsStand, PieceStands}
@@ -41,16 +42,21 @@ abbrev SpotStands : Version → Subject → Spot → Type 0
 SpotStands v p Named = Unit {0}
 SpotStands v p (InFilter lines s) = run (triple_rules v p.vars) lines fresh ≡ Some s
 SpotStands v p (Between f bs) = IfSome f (FilterStands v p) × Blocks v p bs
-SpotStands v p (InBlock f bs a lines s) = IfSome f (FilterStands v p) × Blocks v p bs × IsRising a × AreOfSites p.vars a × (run (block_rules v p.vars) lines fresh ≡ Some s) × (v.number ≡ 1 → AreBothWays lines)
+SpotStands v p (InBlock f bs a lines s) = IfSome f (FilterStands v p) × Blocks v p bs × IsRising a × AreOfSites p.vars a
+    × (run (block_rules v p.vars) lines fresh ≡ Some s) × (v.number ≡ 1 → AreBothWays lines)
 SpotStands v p (Ordering w) = IfSome w.filter (FilterStands v p) × Blocks v p w.blocks × ListsStand p w.blocks w.lists
 
-order-stands : (v : Version) (p : Subject) (w : Written) (places list : List ℕ) (t : Spot) → IfSome w.filter (FilterStands v p) → Blocks v p w.blocks → ListsStand p w.blocks w.lists → OrderLine p w places list t → SpotStands v p t
+order-stands : (v : Version) (p : Subject) (w : Written) (places list : List ℕ) (t : Spot) → IfSome w.filter (FilterStands v p)
+    → Blocks v p w.blocks → ListsStand p w.blocks w.lists → OrderLine p w places list t → SpotStands v p t
 order-stands v p w places list t f b l r = rw r.to (f, b, everywhere-more w.lists list l here)
   where
     here : (others : List ℕ) → slice_get (orders_of p.sites) (length w.lists) ≡ Some others → ListStands p w.blocks others list
-    here others q = let e : places ≡ others = some-same places others (sym r.next.order ∙ q) in subst (λ (z : List ℕ). ListStands p w.blocks z list) e (record { within = r.next.within; stages = r.next.stages })
+    here others q =
+        let e : places ≡ others = some-same places others (sym r.next.order ∙ q) in
+        subst (λ (z : List ℕ). ListStands p w.blocks z list) e (record { within = r.next.within; stages = r.next.stages })
 
-both-more : (lines : List (Line Range)) (op : Op) (b : Range) → AreBothWays lines → b ≡ balanced (unsigned_abs b.high) → AreBothWays (lines ++ record { op = op; bound = b } ∷ [])
+both-more : (lines : List (Line Range)) (op : Op) (b : Range) → AreBothWays lines → b ≡ balanced (unsigned_abs b.high)
+    → AreBothWays (lines ++ record { op = op; bound = b } ∷ [])
 both-more [] op b h e = (e, tt)
 both-more (x ∷ xs) op b h e = (h.0, both-more xs op b h.1 e)
 
@@ -70,7 +76,8 @@ spot-step v p (InFilter lines s) (Predicate name) t h r = absurd r
 spot-step v p (InFilter lines s) NoFilter t h r = absurd r
 spot-step v p (InFilter lines s) Filter t h r = absurd r
 spot-step v p (InFilter lines s) (FilterOp op b) t h r = rw r.2 (run-more (triple_rules v p.vars) lines op b fresh s r.0 h r.1.0)
-spot-step v p (InFilter lines s) Decide t h r = rw r.to (record { left = r.left; answered = answer-is (triple_rules v p.vars) lines no_locals s r.left h r.one; whole = r.whole; narrow = r.narrow }, λ j x q. cc)
+spot-step v p (InFilter lines s) Decide t h r = rw r.to
+    (record { left = r.left; answered = answer-is (triple_rules v p.vars) lines no_locals s r.left h r.one; whole = r.whole; narrow = r.narrow }, λ j x q. cc)
 spot-step v p (InFilter lines s) (Block k a') t h r = absurd r
 spot-step v p (InFilter lines s) (BlockOp op b) t h r = absurd r
 spot-step v p (InFilter lines s) (RangeOp op lo hi) t h r = absurd r
@@ -94,9 +101,27 @@ spot-step v p (InBlock f bs a lines s) Filter t h r = absurd r
 spot-step v p (InBlock f bs a lines s) (FilterOp op b) t h r = absurd r
 spot-step v p (InBlock f bs a lines s) Decide t h r = absurd r
 spot-step v p (InBlock f bs a lines s) (Block k a') t h r = absurd r
-spot-step v p (InBlock f bs a lines s) (BlockOp op b) t h r = rw r.1.2 (h.0, h.1, h.2, h.3, run-more (block_rules v p.vars) lines op (balanced b) fresh s r.1.0 h.4 r.1.1.0, λ e. both-more lines op (balanced b) (h.5 e) refl)
-spot-step v p (InBlock f bs a lines s) (RangeOp op lo hi) t h r = rw r.1.2 (h.0, h.1, h.2, h.3, run-more (block_rules v p.vars) lines op (record { low = lo; high = hi }) fresh s r.1.0 h.4 r.1.1.0, λ e. absurd (omega (arith, e, r.0)))
-spot-step v p (InBlock f bs a lines s) End t h r = rw r.to (h.0, everywhere-more bs (record { exps = a; lines = lines }) h.1 (record { left = r.left; answered = answer-is (block_rules v p.vars) lines no_locals s r.left h.4 r.one; derivative = r.derivative; rising = h.2; of_sites = h.3; bounds = h.5 }))
+spot-step v p (InBlock f bs a lines s) (BlockOp op b) t h r = rw r.1.2
+    (h.0, h.1, h.2, h.3, run-more (block_rules v p.vars) lines op (balanced b) fresh s r.1.0 h.4 r.1.1.0, λ e. both-more lines op (balanced b) (h.5 e) refl)
+spot-step v p (InBlock f bs a lines s) (RangeOp op lo hi) t h r = rw r.1.2 (
+  h.0,
+  h.1,
+  h.2,
+  h.3,
+  run-more (block_rules v p.vars) lines op (record { low = lo; high = hi }) fresh s r.1.0 h.4 r.1.1.0,
+  λ e. absurd (omega (arith, e, r.0)),
+)
+spot-step v p (InBlock f bs a lines s) End t h r = rw r.to (
+  h.0,
+  everywhere-more bs (record { exps = a; lines = lines }) h.1 (record {
+    left = r.left;
+    answered = answer-is (block_rules v p.vars) lines no_locals s r.left h.4 r.one;
+    derivative = r.derivative;
+    rising = h.2;
+    of_sites = h.3;
+    bounds = h.5;
+  }),
+)
 spot-step v p (InBlock f bs a lines s) (Order places list) t h r = absurd r
 spot-step v p (InBlock f bs a lines s) Done t h r = absurd r
 spot-step v p (Ordering w) (Predicate name) t h r = absurd r
@@ -117,10 +142,13 @@ Stands v ps (Outside parts) = PartsStand v ps parts
 Stands v ps (Within parts s) = PartsStand v ps parts × ((p : Subject) → slice_get ps (length parts) ≡ Some p → SpotStands v p s)
 
 -- a line that leads on within a part
-moved : (v : Version) (ps : List Subject) (p : Subject) (parts : List Written) (s : Spot) (line : Part) (q : Place) → PartsStand v ps parts → slice_get ps (length parts) ≡ Some p → SpotStands v p s → (t : Spot) × LineRule v p s line t × (q ≡ Within parts t) → Stands v ps q
-moved v ps p parts s line q all g h (t, r, to) = rw to (all, λ p' g'. let e : p ≡ p' = some-same p p' (sym g ∙ g') in subst (λ (z : Subject). SpotStands v z t) e (spot-step v p s line t h r))
+moved : (v : Version) (ps : List Subject) (p : Subject) (parts : List Written) (s : Spot) (line : Part) (q : Place) → PartsStand v ps parts
+    → slice_get ps (length parts) ≡ Some p → SpotStands v p s → (t : Spot) × LineRule v p s line t × (q ≡ Within parts t) → Stands v ps q
+moved v ps p parts s line q all g h (t, r, to) =
+    rw to (all, λ p' g'. let e : p ≡ p' = some-same p p' (sym g ∙ g') in subst (λ (z : Subject). SpotStands v z t) e (spot-step v p s line t h r))
 
-part-step : (v : Version) (ps : List Subject) (p : Subject) (parts : List Written) (s : Spot) (line : Part) (q : Place) → PartsStand v ps parts → slice_get ps (length parts) ≡ Some p → SpotStands v p s → PartRule v p parts s line q → Stands v ps q
+part-step : (v : Version) (ps : List Subject) (p : Subject) (parts : List Written) (s : Spot) (line : Part) (q : Place)
+    → PartsStand v ps parts → slice_get ps (length parts) ≡ Some p → SpotStands v p s → PartRule v p parts s line q → Stands v ps q
 part-step v ps p parts Named (Predicate name) q all g h r = moved v ps p parts Named (Predicate name) q all g h r
 part-step v ps p parts Named NoFilter q all g h r = moved v ps p parts Named NoFilter q all g h r
 part-step v ps p parts Named Filter q all g h r = moved v ps p parts Named Filter q all g h r
@@ -175,7 +203,8 @@ part-step v ps p parts (Ordering w) (BlockOp op b) q all g h r = moved v ps p pa
 part-step v ps p parts (Ordering w) (RangeOp op lo hi) q all g h r = moved v ps p parts (Ordering w) (RangeOp op lo hi) q all g h r
 part-step v ps p parts (Ordering w) End q all g h r = moved v ps p parts (Ordering w) End q all g h r
 part-step v ps p parts (Ordering w) (Order places list) q all g h r = moved v ps p parts (Ordering w) (Order places list) q all g h r
-part-step v ps p parts (Ordering w) Done q all g h r = rw r.to (everywhere-more parts w all (λ p' g'. let e : p ≡ p' = some-same p p' (sym g ∙ g') in subst (λ (z : Subject). PartStands v z w) e (record { filter = h.0; blocks = h.1; lists = h.2; all = r.all })))
+part-step v ps p parts (Ordering w) Done q all g h r = rw r.to (everywhere-more parts w all (λ p' g'. let e : p ≡ p' = some-same p p' (sym g ∙ g') in
+    subst (λ (z : Subject). PartStands v z w) e (record { filter = h.0; blocks = h.1; lists = h.2; all = r.all })))
 
 rule-step : (v : Version) (ps : List Subject) (here : Place) (line : Part) (q : Place) → Stands v ps here → Rule v ps here line q → Stands v ps q
 rule-step v ps (Outside parts) (Predicate name) q h r = rw r.to (h, λ p g. tt)

@@ -34,7 +34,8 @@ form-of n = by_case (n == 1) refl
 
 inputs-below : (p : Pred) → IsAccepted (pred_of p) → InputsBelow (length p.shape.vars) (root_of (pred_of p))
 inputs-below p a =
-    (root-light (length p.shape.vars) two (closed_lets p.shape.vars (map formula p.lets)) (tree p.shape.vars (formula p.root)) (pred-expands p.args p.shape.vars p.lets (length p.let_names) p.root p.kept a.light).1).inputs
+    (root-light (length p.shape.vars) two (closed_lets p.shape.vars (map formula p.lets)) (tree p.shape.vars (formula p.root))
+    (pred-expands p.args p.shape.vars p.lets (length p.let_names) p.root p.kept a.light).1).inputs
 
 accepted-of : (ps : List Pred) (k : ℕ) (p : Pred) → AreAccepted (map pred_of ps) → slice_get ps k ≡ Some p → IsAccepted (pred_of p)
 accepted-of [] k p h e = cc
@@ -42,7 +43,8 @@ accepted-of (q ∷ ps) zero p h e = let z : q ≡ p = cc in subst (λ (x : Pred)
 accepted-of (q ∷ ps) (suc k) p h e = accepted-of ps k p h.1 e
 
 -- the subject of a predicate, and that it has its part
-subject-there : (ps : List Pred) (ss : List Subject) (k : ℕ) (p : Pred) → AreSubjectsOf (map pred_of ps) ss → slice_get ps k ≡ Some p → (s : Subject) × (slice_get ss k ≡ Some s) × IsSubjectOf (pred_of p) s
+subject-there : (ps : List Pred) (ss : List Subject) (k : ℕ) (p : Pred) → AreSubjectsOf (map pred_of ps) ss → slice_get ps k ≡ Some p
+    → (s : Subject) × (slice_get ss k ≡ Some s) × IsSubjectOf (pred_of p) s
 subject-there [] ss k p h e = cc
 subject-there (q ∷ ps) [] k p h e = absurd h
 subject-there (q ∷ ps) (s ∷ ss) zero p h e = let z : q ≡ p = cc in (s, refl, subst (λ (x : Pred). IsSubjectOf (pred_of x) s) z h.0)
@@ -54,15 +56,21 @@ part-there (a ∷ xs) [] k x l e = absurd (omega (arith, l))
 part-there (a ∷ xs) (b ∷ ys) zero x l e = (b, refl)
 part-there (a ∷ xs) (b ∷ ys) (suc k) x l e = part-there xs ys k x (omega (arith, l)) e
 
-told : (f : Form) (v : Version) (ss : List Subject) (lines : List Part) (h : IsValid v ss lines) (k : ℕ) (s : Subject) (w : Written) (shape : Shape) (e : Tree) (row : Row) → version_of f ≡ v →
+told : (f : Form) (v : Version) (ss : List Subject) (lines : List Part) (h : IsValid v ss lines) (k : ℕ) (s : Subject) (w : Written)
+    (shape : Shape) (e : Tree) (row : Row) → version_of f ≡ v →
     slice_get ss k ≡ Some s → slice_get h.parts k ≡ Some w → IsSubject shape e s → InRange shape.sites shape.vars row → GivesSign shape e w row
 told f v ss lines h k s w shape e row q there here i r =
-    signs-given f ss lines (record { parts = h.parts; good = subst (λ (x : Version). Go x ss (Outside []) lines (Outside h.parts)) (sym q) h.good; all = h.all }) k s w shape e row there here i r
+    signs-given f ss lines (record {
+      parts = h.parts;
+      good = subst (λ (x : Version). Go x ss (Outside []) lines (Outside h.parts)) (sym q) h.good;
+      all = h.all;
+    }) k s w shape e row there here i r
 
 pub signs-told : ValidListingsGiveSigns
 signs-told ps l a h k p row e r =
     let s = subject-there ps h.subjects k p h.those e in
     let w = part-there h.subjects h.valid.parts k s.0 h.valid.all s.1 in
     let f = form-of l.version in
-    let i : IsSubject p.shape (root_of (pred_of p)) s.0 = record { sites = s.2.sites; vars = s.2.vars; inputs = inputs-below p (accepted-of ps k p a e); normal = s.2.normal } in
+    let i : IsSubject p.shape (root_of (pred_of p)) s.0 =
+    record { sites = s.2.sites; vars = s.2.vars; inputs = inputs-below p (accepted-of ps k p a e); normal = s.2.normal } in
     (w.0, w.1, told f.0 (rules_of l.version) h.subjects (parts_of l.entries) h.valid k s.0 w.0 p.shape (root_of (pred_of p)) row f.1 s.1 w.1 i r)

@@ -5,7 +5,9 @@ use Rattle.ln_interval.specs.declared.pair.Pair.{Pair}
 use Rattle.ln_interval.specs.View.{range}
 use Rattle.ln_verify.specs.Works.{FitsNot}
 
-pub pair-said : (o : Option Pair) (a b x y : ℤ) → a ≡ x → b ≡ y → MatchOption o (FitsNot (record { low = a; high = b })) (λ p. range p ≡ record { low = a; high = b }) → MatchOption o (FitsNot (record { low = x; high = y })) (λ p. range p ≡ record { low = x; high = y })
+pub pair-said : (o : Option Pair) (a b x y : ℤ) → a ≡ x → b ≡ y
+    → MatchOption o (FitsNot (record { low = a; high = b })) (λ p. range p ≡ record { low = a; high = b })
+    → MatchOption o (FitsNot (record { low = x; high = y })) (λ p. range p ≡ record { low = x; high = y })
 pair-said o a b x y e f h =
     let k = subst (λ (z : ℤ). MatchOption o (FitsNot (record { low = z; high = b })) (λ p. range p ≡ record { low = z; high = b })) e h in
     subst (λ (z : ℤ). MatchOption o (FitsNot (record { low = x; high = z })) (λ p. range p ≡ record { low = x; high = z })) f k

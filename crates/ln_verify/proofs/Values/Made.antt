@@ -1,4 +1,4 @@
--- What is made of values in code, in a block: where a rule doesn't hold nothing is, where it holds the value that is kept.
+-- Proves what is made of values in code, in a block: where a rule doesn't hold nothing is, where it holds the value that is kept.
 use Rattle.std.proofs.Common.{◌≡◌, ◌⊎◌, inl, inr, ℕ, ◌≤◌, Bool, true, false, List, [], ◌∷◌, length, refl, sym, arith, subst, unsigned_abs, ◌&&◌, ◌≢◌}
 use Rattle.std.specs.Prelude.{Option, Some, None, if◌then◌else◌, ℤ, pos, slice_get}
 use Rattle.ln_algebra.specs.Tree.{Input, Neg, Num, Tree}
@@ -40,7 +40,8 @@ refused n enough p w s t h = go (known enough p w s t) refl
     go (Some k) e = let r = known-says enough p w s t k e in absurd (h (r.covers, r.within, r.small))
 
 -- the rule holds
-pub allowed : (n : ℕ) (enough p : Range) (w : Width) (s : ℕ) (t : Tree) (o : Option Value) → Allows enough p w s → Makes n o (Put p w s t) → Makes n o (known enough p w s t)
+pub allowed : (n : ℕ) (enough p : Range) (w : Width) (s : ℕ) (t : Tree) (o : Option Value) → Allows enough p w s → Makes n o (Put p w s t)
+    → Makes n o (known enough p w s t)
 allowed n enough p w s t o a m = subst (Makes n o) (sym (known-is enough p w s t a.0 a.1 a.2)) m
 
 -- what would be pushed isn't small
@@ -56,7 +57,8 @@ module _ (n : ℕ) (c : ℤ) (p : Range) (w : Width) (s : ℕ) (ew : w ≡ least
   pub number-no : (Allows (point c) p w s → ⊥) → Makes n None (known (point c) p (least (magnitude p)) (unsigned_abs c) (Num c))
   number-no h = rw (← ew, ← es) (refused n (point c) p w s (Num c) h)
 
-  pub number-yes : (o : Option Value) → Allows (point c) p w s → Makes n o (Put p w s (Num c)) → Makes n o (known (point c) p (least (magnitude p)) (unsigned_abs c) (Num c))
+  pub number-yes : (o : Option Value) → Allows (point c) p w s → Makes n o (Put p w s (Num c))
+      → Makes n o (known (point c) p (least (magnitude p)) (unsigned_abs c) (Num c))
   number-yes o a m = rw (← ew, ← es) (allowed n (point c) p w s (Num c) o a m)
 
 pub number-heavy : (c : ℤ) (f : Sparse) → (c ≡ pos 0 → f ≡ []) → (c ≢ pos 0 → f ≡ ([], c) ∷ []) → size_of f ≤ unsigned_abs c
@@ -70,14 +72,15 @@ number-heavy c f h k = by_case (zero_cases c)
     by_case (inr d) = subst (λ (g : Sparse). size_of g ≤ unsigned_abs c) (sym (k d)) (one c)
 
 -- ---- variables
--- what the rule says of a variable that is there
+-- what the rule means for a variable that is there
 abbrev pub InputRule : Version → List VarInfo → ℕ → Range → Option Known
 InputRule v vars k p = (block_rules v vars).input k p
 
 pub input-none : (v : Version) (vars : List VarInfo) (k : ℕ) (p : Range) → None ≡ slice_get vars k → Makes (length vars) None (InputRule v vars k p)
 input-none v vars k p e = rw (← e) tt
 
-module _ (v : Version) (vars : List VarInfo) (k : ℕ) (p : Range) (i : VarInfo) (w : Width) (s : ℕ) (there : Some i ≡ slice_get vars k) (ew : w ≡ least (magnitude p)) (es : s ≡ v.size i) where
+module _ (v : Version) (vars : List VarInfo) (k : ℕ) (p : Range) (i : VarInfo) (w : Width) (s : ℕ) (there : Some i ≡ slice_get vars k)
+    (ew : w ≡ least (magnitude p)) (es : s ≡ v.size i) where
   pub input-no : (Allows (v.range i) p w s → ⊥) → Makes (length vars) None (InputRule v vars k p)
   input-no h = rw (← there, ← ew, ← es) (refused (length vars) (v.range i) p w s (Input k) h)
 
@@ -92,7 +95,8 @@ module _ (n : ℕ) (x : Value) (k : Known) (p : Range) (w : Width) (i : IsFor n 
   pub again-no : (Allows (range x.pair) p w x.size → ⊥) → Makes n None (known k.range p (wider k.width (least (magnitude p))) k.size k.tree)
   again-no h = rw (i.range, i.width, i.size, ← ew) (refused n (range x.pair) p w x.size k.tree h)
 
-  pub again-yes : (o : Option Value) → Allows (range x.pair) p w x.size → Makes n o (Put p w x.size k.tree) → Makes n o (known k.range p (wider k.width (least (magnitude p))) k.size k.tree)
+  pub again-yes : (o : Option Value) → Allows (range x.pair) p w x.size → Makes n o (Put p w x.size k.tree)
+      → Makes n o (known k.range p (wider k.width (least (magnitude p))) k.size k.tree)
   again-yes o a m = rw (i.range, i.width, i.size, ← ew) (allowed n (range x.pair) p w x.size k.tree o a m)
 
 -- ---- two values
@@ -101,13 +105,16 @@ module _ (n : ℕ) (t : Two) (x y : Value) (j k : Known) (p : Range) (w : Width)
   TwoKnown = known (range_of t j.range k.range) p w (bound_of t j.size k.size) (two_of t j.tree k.tree)
 
   two-no : (Allows (range_of t (range x.pair) (range y.pair)) p w (bound_of t x.size y.size) → ⊥) → Makes n None TwoKnown
-  two-no h = rw (f.range, g.range, f.size, g.size) (refused n (range_of t (range x.pair) (range y.pair)) p w (bound_of t x.size y.size) (two_of t j.tree k.tree) h)
+  two-no h = rw (f.range, g.range, f.size, g.size)
+      (refused n (range_of t (range x.pair) (range y.pair)) p w (bound_of t x.size y.size) (two_of t j.tree k.tree) h)
 
   two-large : (IsSmall n (two_of t j.tree k.tree) → ⊥) → Makes n None TwoKnown
   two-large h = large n (range_of t j.range k.range) p w (bound_of t j.size k.size) (two_of t j.tree k.tree) h
 
-  two-yes : (o : Option Value) → Allows (range_of t (range x.pair) (range y.pair)) p w (bound_of t x.size y.size) → Makes n o (Put p w (bound_of t x.size y.size) (two_of t j.tree k.tree)) → Makes n o TwoKnown
-  two-yes o a m = rw (f.range, g.range, f.size, g.size) (allowed n (range_of t (range x.pair) (range y.pair)) p w (bound_of t x.size y.size) (two_of t j.tree k.tree) o a m)
+  two-yes : (o : Option Value) → Allows (range_of t (range x.pair) (range y.pair)) p w (bound_of t x.size y.size)
+      → Makes n o (Put p w (bound_of t x.size y.size) (two_of t j.tree k.tree)) → Makes n o TwoKnown
+  two-yes o a m = rw (f.range, g.range, f.size, g.size)
+      (allowed n (range_of t (range x.pair) (range y.pair)) p w (bound_of t x.size y.size) (two_of t j.tree k.tree) o a m)
 
   -- the rule of the line, with its widths
   abbrev TwoRule : Option Known
@@ -133,7 +140,8 @@ module _ (n : ℕ) (t : Two) (x y : Value) (j k : Known) (p : Range) (w : Width)
   pub two-unmade : IsAllowed t w p x y → (IsSmall n (two_of t j.tree k.tree) → ⊥) → Makes n None TwoRule
   two-unmade a h = two-both None a.left a.right (two-large h)
 
-  pub two-made : (o : Option Value) (s : ℕ) → s ≡ bound_of t x.size y.size → IsAllowed t w p x y → Makes n o (Put p w s (two_of t j.tree k.tree)) → Makes n o TwoRule
+  pub two-made : (o : Option Value) (s : ℕ) → s ≡ bound_of t x.size y.size → IsAllowed t w p x y
+      → Makes n o (Put p w s (two_of t j.tree k.tree)) → Makes n o TwoRule
   two-made o s e a m = two-both o a.left a.right (two-yes o a.allows (subst (λ (z : ℕ). Makes n o (Put p w z (two_of t j.tree k.tree))) e m))
 
 -- ---- one value
@@ -147,5 +155,8 @@ module _ (n : ℕ) (x : Value) (k : Known) (p : Range) (w : Width) (f : IsFor n 
   pub minus-no : no_wider x.width w ≡ true → (Allows (opposite (range x.pair)) p w x.size → ⊥) → Makes n None MinusRule
   minus-no e h = let d : no_wider k.width w ≡ true = rw f.width e in rw (d, f.range, f.size) (refused n (opposite (range x.pair)) p w x.size (Neg k.tree) h)
 
-  pub minus-yes : (o : Option Value) → no_wider x.width w ≡ true → Allows (opposite (range x.pair)) p w x.size → Makes n o (Put p w x.size (Neg k.tree)) → Makes n o MinusRule
-  minus-yes o e a m = let d : no_wider k.width w ≡ true = rw f.width e in rw (d, f.range, f.size) (allowed n (opposite (range x.pair)) p w x.size (Neg k.tree) o a m)
+  pub minus-yes : (o : Option Value) → no_wider x.width w ≡ true → Allows (opposite (range x.pair)) p w x.size
+      → Makes n o (Put p w x.size (Neg k.tree)) → Makes n o MinusRule
+  minus-yes o e a m =
+      let d : no_wider k.width w ≡ true = rw f.width e in
+      rw (d, f.range, f.size) (allowed n (opposite (range x.pair)) p w x.size (Neg k.tree) o a m)

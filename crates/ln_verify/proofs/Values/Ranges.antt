@@ -1,4 +1,4 @@
--- What a rule on a range says where it holds, and when it holds.
+-- Proves what a rule on a range means where it holds, and when it holds.
 use Rattle.std.proofs.Common.{◌≡◌, ℕ, ℤ, ◌≤◌, ◌-◌, ◌^◌, Bool, true, false, refl, arith, ◌&&◌, ap}
 use Rattle.std.specs.Prelude.{Some, min, nat_le, int_le, ◌≤ℤ◌}
 use Rattle.std.proofs.lemmas.Bool.{and_parts, leb-true, le-leb}
@@ -23,7 +23,7 @@ both p q h k = rw (h, k) refl
 pub le-test : (a b : ℤ) → a ≤ℤ b → int_le a b ≡ true
 le-test a b h = grind (arith, ints, h)
 
--- what a rule that held says
+-- what a rule that held means
 pub record KnownSays (enough p : Range) (w : Width) (s : ℕ) (t : Tree) (k : Known) : Type 0 where
   pub covers : Covers p enough
   pub within : IsIn p w
@@ -38,7 +38,8 @@ known-says enough p w s t k q =
     record { covers = covers_say p enough y.0; within = is_in_says p w y.1; small = leb-true _ _ x.1; is = r.1 }
 
 -- a rule that holds
-pub known-is : (enough p : Range) (w : Width) (s : ℕ) (t : Tree) → Covers p enough → IsIn p w → s ≤ most → known enough p w s t ≡ Some (record { range = p; width = w; tree = t; size = s })
+pub known-is : (enough p : Range) (w : Width) (s : ℕ) (t : Tree) → Covers p enough → IsIn p w → s ≤ most
+    → known enough p w s t ≡ Some (record { range = p; width = w; tree = t; size = s })
 known-is enough p w s t h i l =
     let c : covers p enough ≡ true = both _ _ (le-test _ _ h.0) (le-test _ _ h.1) in
     let n : is_in p w ≡ true = both _ _ (le-test _ _ i.0) (le-leb _ _ i.1) in

@@ -3,4 +3,5 @@ use Rattle.ln_csyn.proofs.Writing.PutLemmas.{puts_last, puts_then}
 use Rattle.ln_cemit.proofs.body.put_above.Goals as goal
 
 pub returns : goal.returns
-returns c = puts_last c.put_tokens-2.result _ _ (puts_then c.in_ok-put_tokens.ensures (puts_then c.in_ok-put_operand.ensures (puts_then c.in_ok-put_op.ensures c.in_ok-put_number_of.ensures))) c.put_tokens-2.ensures
+returns c = puts_last c.put_tokens-2.result _ _ (puts_then c.in_ok-put_tokens.ensures
+    (puts_then c.in_ok-put_operand.ensures (puts_then c.in_ok-put_op.ensures c.in_ok-put_number_of.ensures))) c.put_tokens-2.ensures

@@ -11,5 +11,6 @@ use Rattle.ln_cemit.proofs.body.put_lines.Given as goal
 abbrev pub invariant-ops : goal.invariant-ops
 invariant-ops l = record {
   size : length l.locals ≡ 256;
-  goes : Goes l.fn.out.items l.out.items (spell_body (emitted decl_name l.e (drop l.i (lines_of l.ops l.ways)) l.i (reverse l.stack.items) (locals_of l.locals))) (spell_body (emitted decl_name l.e (lines_of l.ops l.ways) 0 [] no_locals));
+  goes : Goes l.fn.out.items l.out.items (spell_body (emitted decl_name l.e (drop l.i (lines_of l.ops l.ways)) l.i (reverse l.stack.items)
+      (locals_of l.locals))) (spell_body (emitted decl_name l.e (lines_of l.ops l.ways) 0 [] no_locals));
 }

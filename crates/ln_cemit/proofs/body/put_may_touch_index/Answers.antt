@@ -8,4 +8,6 @@ pub returns-then-reads : goal.returns-then-reads
 returns-then-reads c = let e : c.args.reads ≡ true = search rules in index_none c.args.reads e
 
 pub returns : goal.returns
-returns c = let e : c.args.reads ≡ false = search rules in IfOk-weaker c.put_touch_index.result _ _ (λ _ p. index_put c.args.reads e p) c.put_touch_index.ensures
+returns c =
+    let e : c.args.reads ≡ false = search rules in
+    IfOk-weaker c.put_touch_index.result _ _ (λ _ p. index_put c.args.reads e p) c.put_touch_index.ensures

@@ -10,4 +10,5 @@ use Rattle.ln_cemit.proofs.file.put_call.Goals as goal
 pub returns : goal.returns
 returns c =
     let f = two_fun (call_name (part_name c.args.p.now)) (call_body c.args.p.now) in
-    IfOk-weaker c.lay_fun.result _ _ (λ _ h. h f (subst (λ z. Puts z c.put_call_fun.new.out.items (spell_fun f)) c.new-tokens.ensures.items c.in_ok-put_call_fun.ensures)) c.lay_fun.ensures
+    IfOk-weaker c.lay_fun.result _ _
+    (λ _ h. h f (subst (λ z. Puts z c.put_call_fun.new.out.items (spell_fun f)) c.new-tokens.ensures.items c.in_ok-put_call_fun.ensures)) c.lay_fun.ensures

@@ -4,7 +4,8 @@ use Rattle.ln_cemit.proofs.Writing.Gathers.{filter_none, filter_some}
 use Rattle.ln_cemit.proofs.file.put_filter_of.Goals as goal
 
 pub returns-in_ok-put_filter-in-Some-clause-put : goal.returns-in_ok-put_filter-in-Some-clause-put
-returns-in_ok-put_filter-in-Some-clause-put c = filter_some c.name_of-name.result.now (part_name c.args.p.now) c.args.p.now.filter c.in-Some.filter.now c.name_of-name.ensures (rw c.in-Some.is at c.filter.ensures.value) c.in_ok-put_filter-in-Some.ensures
+returns-in_ok-put_filter-in-Some-clause-put c = filter_some c.name_of-name.result.now (part_name c.args.p.now) c.args.p.now.filter
+    c.in-Some.filter.now c.name_of-name.ensures (rw c.in-Some.is at c.filter.ensures.value) c.in_ok-put_filter-in-Some.ensures
 
 pub returns-in_ok-put_filter-in-Some-clause-kept : goal.returns-in_ok-put_filter-in-Some-clause-kept
 returns-in_ok-put_filter-in-Some-clause-kept c = c.filter.ensures.kept

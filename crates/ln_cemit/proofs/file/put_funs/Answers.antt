@@ -5,4 +5,5 @@ use Rattle.ln_cemit.proofs.Writing.Whole.{one_after}
 use Rattle.ln_cemit.proofs.file.put_funs.Goals as goal
 
 pub returns : goal.returns
-returns c = IfOk-weaker c.put_call.result _ _ (λ _ p. one_after c.args.out.now.items c.put_call.new.out.items c.args.p.now (program_put c.args.p.now c.in_ok-put_filter_of.ensures.put c.in_ok-put_blocks_of.ensures p) c.in_ok-put_filter_of.ensures.kept) c.put_call.ensures
+returns c = IfOk-weaker c.put_call.result _ _ (λ _ p. one_after c.args.out.now.items c.put_call.new.out.items c.args.p.now
+    (program_put c.args.p.now c.in_ok-put_filter_of.ensures.put c.in_ok-put_blocks_of.ensures p) c.in_ok-put_filter_of.ensures.kept) c.put_call.ensures

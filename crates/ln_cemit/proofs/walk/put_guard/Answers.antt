@@ -3,4 +3,5 @@ use Rattle.ln_csyn.proofs.Writing.PutLemmas.{puts_then}
 use Rattle.ln_cemit.proofs.walk.put_guard.Goals as goal
 
 pub returns : goal.returns
-returns c = puts_then c.in_ok-put_tokens.ensures (puts_then c.in_ok-put_index_at.ensures (puts_then c.in_ok-put_op.ensures (puts_then c.in_ok-put_index_at-2.ensures c.in_ok-put_tokens-2.ensures)))
+returns c = puts_then c.in_ok-put_tokens.ensures
+    (puts_then c.in_ok-put_index_at.ensures (puts_then c.in_ok-put_op.ensures (puts_then c.in_ok-put_index_at-2.ensures c.in_ok-put_tokens-2.ensures)))

@@ -10,4 +10,5 @@ pub returns : goal.returns
 returns c =
     let low : FitsSigned w128 c.args.low = search rules in
     let high : FitsSigned w128 c.args.high = search rules in
-    ends_put c.args.out.now.items c.put_signed.new.out.items c.put_signed-2.new.out.items c.args.low c.args.high _ _ c.in_ok-put_signed.ensures (to_z-of_z w128 c.args.low low) c.in_ok-put_signed-2.ensures (to_z-of_z w128 c.args.high high)
+    ends_put c.args.out.now.items c.put_signed.new.out.items c.put_signed-2.new.out.items c.args.low c.args.high _ _ c.in_ok-put_signed.ensures
+    (to_z-of_z w128 c.args.low low) c.in_ok-put_signed-2.ensures (to_z-of_z w128 c.args.high high)

@@ -4,4 +4,5 @@ use Rattle.ln_cert.proofs.Reading.Left.{gathered_more}
 use Rattle.ln_cert.proofs.read.entries_of.Goals as goal
 
 pub lines-preserved : goal.lines-preserved
-lines-preserved c = gathered_more c.args.lines.now c.lines.lines c.next.new.self c.lines.entries.items c.push.new.self.items c.in-Some.entry c.lines.invariant (rw c.in-Some.is at c.in_ok-entry.ensures.takes) (search rules)
+lines-preserved c = gathered_more c.args.lines.now c.lines.lines c.next.new.self c.lines.entries.items c.push.new.self.items c.in-Some.entry
+    c.lines.invariant (rw c.in-Some.is at c.in_ok-entry.ensures.takes) (search rules)

@@ -16,4 +16,5 @@ pub put_orders-requires-clause-kept : goal.put_orders-requires-clause-kept
 put_orders-requires-clause-kept c = c.requires.kept
 
 pub returns : goal.returns
-returns c = IfOk-weaker c.put_orders.result _ _ (λ _ p. subst (λ os. Wrote c.args.out.now.items c.put_orders.new.out.items (order_lines c.args.p.now os)) (rw c.as_slice.ensures (c.in_ok-orders.ensures ∙ ap (λ (s : Shape). orders_of s.sites) c.shape.ensures)) p) c.put_orders.ensures
+returns c = IfOk-weaker c.put_orders.result _ _ (λ _ p. subst (λ os. Wrote c.args.out.now.items c.put_orders.new.out.items (order_lines c.args.p.now os))
+    (rw c.as_slice.ensures (c.in_ok-orders.ensures ∙ ap (λ (s : Shape). orders_of s.sites) c.shape.ensures)) p) c.put_orders.ensures

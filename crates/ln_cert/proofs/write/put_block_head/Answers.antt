@@ -4,4 +4,5 @@ use Rattle.ln_cert.proofs.Writing.Programmed.{head_wrote}
 use Rattle.ln_cert.proofs.write.put_block_head.Goals as goal
 
 pub returns : goal.returns
-returns c = IfOk-weaker c.put_block.result _ _ (λ _ p. head_wrote c.args.out.now.items c.put_block.new.out.items c.args.n c.pairs.result.now c.args.exps.now c.requires.number c.pairs.ensures.rising c.requires.of_vars c.pairs.ensures.value p) c.put_block.ensures
+returns c = IfOk-weaker c.put_block.result _ _ (λ _ p. head_wrote c.args.out.now.items c.put_block.new.out.items c.args.n c.pairs.result.now
+    c.args.exps.now c.requires.number c.pairs.ensures.rising c.requires.of_vars c.pairs.ensures.value p) c.put_block.ensures

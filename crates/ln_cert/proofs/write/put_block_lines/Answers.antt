@@ -13,4 +13,6 @@ pub put_range_lines-requires-clause-rules : goal.put_range_lines-requires-clause
 put_range_lines-requires-clause-rules c = rw (c.ops.ensures, c.pairs-pairs.ensures.value) (block_each c.args.b.now c.requires.rules c.pairs-pairs.ensures.kept)
 
 pub returns : goal.returns
-returns c = IfOk-weaker c.put_end.result _ _ (λ _ p. block_wrote c.args.out.now.items c.put_block_head.new.out.items c.put_range_lines.new.out.items c.put_end.new.out.items c.args.n c.args.b.now c.exps.result.now c.ops.result.now (map range c.pairs-pairs.result.now) c.exps.ensures c.ops.ensures c.pairs-pairs.ensures.value c.in_ok-put_block_head.ensures c.in_ok-put_range_lines.ensures p) c.put_end.ensures
+returns c = IfOk-weaker c.put_end.result _ _ (λ _ p. block_wrote c.args.out.now.items c.put_block_head.new.out.items c.put_range_lines.new.out.items
+    c.put_end.new.out.items c.args.n c.args.b.now c.exps.result.now c.ops.result.now (map range c.pairs-pairs.result.now) c.exps.ensures
+    c.ops.ensures c.pairs-pairs.ensures.value c.in_ok-put_block_head.ensures c.in_ok-put_range_lines.ensures p) c.put_end.ensures

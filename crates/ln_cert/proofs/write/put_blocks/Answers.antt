@@ -4,10 +4,12 @@ use Rattle.ln_cert.proofs.Writing.Programmed.{block_at, more_blocks, no_blocks}
 use Rattle.ln_cert.proofs.write.put_blocks.Goals as goal
 
 pub put_block_lines-requires-clause-rules : goal.put_block_lines-requires-clause-rules
-put_block_lines-requires-clause-rules c = block_at c.args.blocks.now c.numbered.i c.index-blocks-i.result c.numbered-test.true c.index-blocks-i.is c.requires.rules
+put_block_lines-requires-clause-rules c =
+    block_at c.args.blocks.now c.numbered.i c.index-blocks-i.result c.numbered-test.true c.index-blocks-i.is c.requires.rules
 
 pub numbered-preserved : goal.numbered-preserved
-numbered-preserved c = more_blocks c.args.out.now.items c.numbered.out.items c.put_block_lines.new.out.items c.args.blocks.now c.numbered.i c.index-blocks-i.result c.numbered-test.true c.index-blocks-i.is c.numbered.invariant c.in_ok-put_block_lines.ensures
+numbered-preserved c = more_blocks c.args.out.now.items c.numbered.out.items c.put_block_lines.new.out.items c.args.blocks.now c.numbered.i
+    c.index-blocks-i.result c.numbered-test.true c.index-blocks-i.is c.numbered.invariant c.in_ok-put_block_lines.ensures
 
 pub returns : goal.returns
 returns c = no_blocks c.args.out.now.items c.numbered.out.items c.args.blocks.now c.numbered.i (omega arith) c.numbered.invariant

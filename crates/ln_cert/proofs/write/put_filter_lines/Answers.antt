@@ -9,7 +9,9 @@ pub put_filter_line-requires : goal.put_filter_line-requires
 put_filter_line-requires c = each_at InFilter c.args.ops.now c.args.triples.now c.ops.i _ _ c.ops-test.true (omega arith) c.requires.rules
 
 pub ops-preserved : goal.ops-preserved
-ops-preserved c = more_lines filter_line c.args.out.now.items c.ops.out.items c.put_filter_line.new.out.items c.args.ops.now c.args.triples.now c.ops.i _ _ (map filter_line (lines_of c.args.ops.now c.args.triples.now)) c.ops-test.true (omega arith) c.ops.invariant c.in_ok-put_filter_line.ensures
+ops-preserved c = more_lines filter_line c.args.out.now.items c.ops.out.items c.put_filter_line.new.out.items c.args.ops.now c.args.triples.now c.ops.i _ _
+    (map filter_line (lines_of c.args.ops.now c.args.triples.now)) c.ops-test.true (omega arith) c.ops.invariant c.in_ok-put_filter_line.ensures
 
 pub returns : goal.returns
-returns c = no_lines filter_line c.args.out.now.items c.ops.out.items c.args.ops.now c.args.triples.now c.ops.i (map filter_line (lines_of c.args.ops.now c.args.triples.now)) (omega arith) c.ops.invariant
+returns c = no_lines filter_line c.args.out.now.items c.ops.out.items c.args.ops.now c.args.triples.now c.ops.i
+    (map filter_line (lines_of c.args.ops.now c.args.triples.now)) (omega arith) c.ops.invariant

@@ -6,4 +6,5 @@ use Rattle.ln_cert.proofs.Writing.Wrote.{Left}
 use Rattle.ln_cert.proofs.write.put_filter_lines.Given as goal
 
 abbrev pub invariant-ops : goal.invariant-ops
-invariant-ops l = Left l.fn.out.items l.out.items (map filter_line (lines_of (drop l.i l.ops) (drop l.i l.triples))) (map filter_line (lines_of l.ops l.triples))
+invariant-ops l =
+    Left l.fn.out.items l.out.items (map filter_line (lines_of (drop l.i l.ops) (drop l.i l.triples))) (map filter_line (lines_of l.ops l.triples))

@@ -7,7 +7,8 @@ use Rattle.ln_cert.proofs.write.put_list.Goals as goal
 pub segments-preserved : goal.segments-preserved
 segments-preserved c =
     let l = ap length c.places.ensures.value in
-    more_list c.args.p.now (order_places c.args.o.now) c.args.out.now.items c.segments.out.items c.put_numbers.new.out.items c.segment.result.now c.segments.j (omega (arith, l)) c.segment.ensures.value c.segments.invariant c.in_ok-put_numbers.ensures
+    more_list c.args.p.now (order_places c.args.o.now) c.args.out.now.items c.segments.out.items c.put_numbers.new.out.items
+    c.segment.result.now c.segments.j (omega (arith, l)) c.segment.ensures.value c.segments.invariant c.in_ok-put_numbers.ensures
 
 pub returns : goal.returns
 returns c =

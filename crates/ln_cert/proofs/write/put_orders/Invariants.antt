@@ -6,4 +6,5 @@ use Rattle.ln_cert.proofs.Writing.Wrote.{Left}
 use Rattle.ln_cert.proofs.write.put_orders.Given as goal
 
 abbrev pub invariant-orders : goal.invariant-orders
-invariant-orders l = Left l.fn.out.items l.out.items (order_lines l.p (map order_places (drop l.o-index l.orders))) (order_lines l.p (map order_places l.orders))
+invariant-orders l =
+    Left l.fn.out.items l.out.items (order_lines l.p (map order_places (drop l.o-index l.orders))) (order_lines l.p (map order_places l.orders))

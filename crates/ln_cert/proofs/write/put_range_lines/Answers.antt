@@ -7,10 +7,14 @@ use Rattle.ln_cert.proofs.Writing.Wrote.{more_ranges, no_lines, range_at}
 use Rattle.ln_cert.proofs.write.put_range_lines.Goals as goal
 
 pub put_range_line-requires : goal.put_range_line-requires
-put_range_line-requires c = range_at c.args.ops.now c.args.pairs.now c.ops.i _ c.index-pairs-i.result c.ops-test.true (omega arith) c.index-pairs-i.is c.requires.rules
+put_range_line-requires c =
+    range_at c.args.ops.now c.args.pairs.now c.ops.i _ c.index-pairs-i.result c.ops-test.true (omega arith) c.index-pairs-i.is c.requires.rules
 
 pub ops-preserved : goal.ops-preserved
-ops-preserved c = more_ranges c.args.out.now.items c.ops.out.items c.put_range_line.new.out.items c.args.ops.now c.args.pairs.now c.ops.i _ c.index-pairs-i.result (map range_line (lines_of c.args.ops.now (map range c.args.pairs.now))) c.ops-test.true (omega arith) c.index-pairs-i.is c.ops.invariant c.in_ok-put_range_line.ensures
+ops-preserved c = more_ranges c.args.out.now.items c.ops.out.items c.put_range_line.new.out.items c.args.ops.now c.args.pairs.now
+    c.ops.i _ c.index-pairs-i.result (map range_line (lines_of c.args.ops.now (map range c.args.pairs.now))) c.ops-test.true
+    (omega arith) c.index-pairs-i.is c.ops.invariant c.in_ok-put_range_line.ensures
 
 pub returns : goal.returns
-returns c = no_lines range_line c.args.out.now.items c.ops.out.items c.args.ops.now (map range c.args.pairs.now) c.ops.i (map range_line (lines_of c.args.ops.now (map range c.args.pairs.now))) (omega arith) c.ops.invariant
+returns c = no_lines range_line c.args.out.now.items c.ops.out.items c.args.ops.now (map range c.args.pairs.now) c.ops.i
+    (map range_line (lines_of c.args.ops.now (map range c.args.pairs.now))) (omega arith) c.ops.invariant

@@ -7,4 +7,5 @@ use Rattle.ln_cert.proofs.Writing.Wrote.{Left}
 use Rattle.ln_cert.proofs.write.put_range_lines.Given as goal
 
 abbrev pub invariant-ops : goal.invariant-ops
-invariant-ops l = Left l.fn.out.items l.out.items (map range_line (lines_of (drop l.i l.ops) (drop l.i (map range l.pairs)))) (map range_line (lines_of l.ops (map range l.pairs)))
+invariant-ops l = Left l.fn.out.items l.out.items (map range_line (lines_of (drop l.i l.ops) (drop l.i (map range l.pairs))))
+    (map range_line (lines_of l.ops (map range l.pairs)))

@@ -5,7 +5,10 @@ use Rattle.ln_cert.proofs.Writing.Wrote.{some_filter}
 use Rattle.ln_cert.proofs.write.put_some_filter.Goals as goal
 
 pub put_filter_lines-requires-clause-rules : goal.put_filter_lines-requires-clause-rules
-put_filter_lines-requires-clause-rules c = rw (c.ops.ensures, c.triples-triples.ensures.value) (filter_each c.args.f.now c.requires c.triples-triples.ensures.kept)
+put_filter_lines-requires-clause-rules c =
+    rw (c.ops.ensures, c.triples-triples.ensures.value) (filter_each c.args.f.now c.requires c.triples-triples.ensures.kept)
 
 pub returns : goal.returns
-returns c = IfOk-weaker c.put_decide.result _ _ (λ _ p. some_filter c.args.out.now.items c.put_filter_head.new.out.items c.put_filter_lines.new.out.items c.put_decide.new.out.items c.args.f.now c.ops.result.now c.triples-triples.result.now c.ops.ensures c.triples-triples.ensures.value c.in_ok-put_filter_head.ensures c.in_ok-put_filter_lines.ensures p) c.put_decide.ensures
+returns c = IfOk-weaker c.put_decide.result _ _ (λ _ p. some_filter c.args.out.now.items c.put_filter_head.new.out.items
+    c.put_filter_lines.new.out.items c.put_decide.new.out.items c.args.f.now c.ops.result.now c.triples-triples.result.now c.ops.ensures
+    c.triples-triples.ensures.value c.in_ok-put_filter_head.ensures c.in_ok-put_filter_lines.ensures p) c.put_decide.ensures

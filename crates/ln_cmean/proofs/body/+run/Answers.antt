@@ -16,11 +16,15 @@ run-stmts-preserved g t c =
     let i = c.stmts.stmt-index in
     let item = c.stmt-item.result in
     record {
-      going = going_on (scene_of (g.C.Calls.given c.args.calls.now) c.args.inputs.now) ss i item _ (seen at) (seen new) (tally c.stmts.counts) (tally c.step.new.counts) c.step.result c.in-Ok-Went.field-0 c.stmts-test.true c.stmt-item.is c.stmts.invariant.going c.step.ensures.meaning c.in-Ok-Went.is c.in-Ok-Went.field-0-is;
+      going = going_on (scene_of (g.C.Calls.given c.args.calls.now) c.args.inputs.now) ss i item _ (seen at) (seen new)
+          (tally c.stmts.counts) (tally c.step.new.counts) c.step.result c.in-Ok-Went.field-0 c.stmts-test.true c.stmt-item.is
+          c.stmts.invariant.going c.step.ensures.meaning c.in-Ok-Went.is c.in-Ok-Went.field-0-is;
       capacity = no_smaller_then old at new c.stmts.invariant.capacity c.step.ensures.capacity;
       front = front_then old at new c.stmts.invariant.front c.in-Ok-Went.ensures.front;
-      slots_left = left_on slots_in ss i item (length at.slots.items) (length new.slots.items) _ c.stmts-test.true c.stmt-item.is c.stmts.invariant.slots_left (λ rest. (c.in-Ok-Went.ensures.room rest).0);
-      letters_left = left_on letters_in ss i item (length at.names.items) (length new.names.items) _ c.stmts-test.true c.stmt-item.is c.stmts.invariant.letters_left (λ rest. (c.in-Ok-Went.ensures.room rest).1);
+      slots_left = left_on slots_in ss i item (length at.slots.items) (length new.slots.items) _ c.stmts-test.true c.stmt-item.is
+          c.stmts.invariant.slots_left (λ rest. (c.in-Ok-Went.ensures.room rest).0);
+      letters_left = left_on letters_in ss i item (length at.names.items) (length new.names.items) _ c.stmts-test.true c.stmt-item.is
+          c.stmts.invariant.letters_left (λ rest. (c.in-Ok-Went.ensures.room rest).1);
     }
 
 pub run-returns-clause-capacity : goal.run-returns-clause-capacity
@@ -37,7 +41,8 @@ step-returns-in-Group-clause-front g t c = on_ok_weaker c.run.result (same_front
 
 pub run-returns-in-Ok-Said-clause-capacity : goal.run-returns-in-Ok-Said-clause-capacity
 run-returns-in-Ok-Said-clause-capacity g t c =
-    no_smaller_then c.args.s.now c.stmts.s c.leave.new.s c.stmts.invariant.capacity (no_smaller_then c.stmts.s c.step.new.s c.leave.new.s c.step.ensures.capacity c.leave.ensures.capacity)
+    no_smaller_then c.args.s.now c.stmts.s c.leave.new.s c.stmts.invariant.capacity
+    (no_smaller_then c.stmts.s c.step.new.s c.leave.new.s c.step.ensures.capacity c.leave.ensures.capacity)
 
 pub run-returns-in-Ok-Said-clause-same : goal.run-returns-in-Ok-Said-clause-same
 run-returns-in-Ok-Said-clause-same g t c =
@@ -51,4 +56,5 @@ run-returns-in-Err-clause-capacity g t c = no_smaller_then c.args.s.now c.stmts.
 
 pub run-returns-clause-meaning : goal.run-returns-clause-meaning
 run-returns-clause-meaning g t c =
-    went_all (scene_of (g.C.Calls.given c.args.calls.now) c.args.inputs.now) c.args.stmts.now c.stmts.stmt-index _ (seen c.stmts.s) (tally c.stmts.counts) (omega (arith, c.stmts-test.false)) c.stmts.invariant.going
+    went_all (scene_of (g.C.Calls.given c.args.calls.now) c.args.inputs.now) c.args.stmts.now c.stmts.stmt-index _ (seen c.stmts.s)
+    (tally c.stmts.counts) (omega (arith, c.stmts-test.false)) c.stmts.invariant.going

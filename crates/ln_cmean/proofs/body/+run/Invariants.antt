@@ -9,7 +9,8 @@ use Rattle.ln_cmean.proofs.body.+run.Given as goal
 
 abbrev pub invariant-run-stmts : goal.invariant-run-stmts
 invariant-run-stmts g l = record {
-  going : runs (scene_of (g.C.Calls.given l.calls) l.inputs) (seen l.fn.s) (body_tree l.stmts) (tally l.fn.counts) ≡ runs (scene_of (g.C.Calls.given l.calls) l.inputs) (seen l.s) (body_tree (drop l.stmt-index l.stmts)) (tally l.counts);
+  going : runs (scene_of (g.C.Calls.given l.calls) l.inputs) (seen l.fn.s) (body_tree l.stmts) (tally l.fn.counts)
+      ≡ runs (scene_of (g.C.Calls.given l.calls) l.inputs) (seen l.s) (body_tree (drop l.stmt-index l.stmts)) (tally l.counts);
   capacity : IsNoSmaller l.fn.s l.s;
   front : IsFront l.fn.s l.s;
   slots_left : length l.s.slots.items + slots_in (body_tree (drop l.stmt-index l.stmts)) ≤ length l.fn.s.slots.items + slots_in (body_tree l.stmts);

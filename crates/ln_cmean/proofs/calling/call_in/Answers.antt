@@ -6,7 +6,8 @@ pub funs-preserved : goal.funs-preserved
 funs-preserved c =
     let fs = c.args.funs.now in
     record {
-      going = c.funs.invariant.going ∙ one_more fs c.funs.i c.index-funs-i.result c.args.name.now c.args.index.now c.args.values.now (omega arith) c.index-funs-i.is (sym c.is_wanted.ensures ∙ c.if-is_wanted.false);
+      going = c.funs.invariant.going ∙ one_more fs c.funs.i c.index-funs-i.result c.args.name.now c.args.index.now c.args.values.now
+          (omega arith) c.index-funs-i.is (sym c.is_wanted.ensures ∙ c.if-is_wanted.false);
       base = c.funs.invariant.base;
       slots = c.funs.invariant.slots;
       names = c.funs.invariant.names;

@@ -6,7 +6,8 @@ use Rattle.ln_cmean.proofs.calling.call_in.Given as goal
 
 abbrev pub invariant-funs : goal.invariant-funs
 invariant-funs l = record {
-  going : CCall (map fun_tree l.funs) l.name l.index l.values ≡ called_behind (map fun_tree (take l.i l.funs)) (map fun_tree (drop l.i l.funs)) l.name l.index l.values;
+  going : CCall (map fun_tree l.funs) l.name l.index l.values
+      ≡ called_behind (map fun_tree (take l.i l.funs)) (map fun_tree (drop l.i l.funs)) l.name l.index l.values;
   base : l.s.base ≡ 0;
   slots : l.s.slots.items ≡ [];
   names : l.s.names.items ≡ [];

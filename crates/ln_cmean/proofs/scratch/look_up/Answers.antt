@@ -6,7 +6,8 @@ pub returns-then-is_named : goal.returns-then-is_named
 returns-then-is_named c = λ k.
     let s = c.args.s.now in
     let o = c.piece-own.ensures ∙ ap (λ ns. drop c.slot_at-slot.result.start (take c.slots.end ns)) c.as_slice.ensures.value in
-    let e = look_step s.base s.slots.items s.names.items c.args.name.now c.piece-own.result.now c.slots.n c.slots.end _ c.slot_at-slot.result k c.slots-test.true c.slots.invariant.names c.slot_at-slot.ensures o refl in
+    let e = look_step s.base s.slots.items s.names.items c.args.name.now c.piece-own.result.now c.slots.n c.slots.end _
+    c.slot_at-slot.result k c.slots-test.true c.slots.invariant.names c.slot_at-slot.ensures o refl in
     c.number_of.ensures k ∙ sym (found_here _ _ _ _ _ e (c.slots.invariant.same k) (sym c.if-is_named.true ∙ c.is_named.ensures))
 
 pub slots-preserved : goal.slots-preserved
@@ -16,6 +17,7 @@ slots-preserved c = record {
   same = λ k.
       let s = c.args.s.now in
       let o = c.piece-own.ensures ∙ ap (λ ns. drop c.slot_at-slot.result.start (take c.slots.end ns)) c.as_slice.ensures.value in
-      let e = look_step s.base s.slots.items s.names.items c.args.name.now c.piece-own.result.now c.slots.n c.slots.end c.least-end.result c.slot_at-slot.result k c.slots-test.true c.slots.invariant.names c.slot_at-slot.ensures o c.least-end.ensures in
+      let e = look_step s.base s.slots.items s.names.items c.args.name.now c.piece-own.result.now c.slots.n c.slots.end c.least-end.result
+      c.slot_at-slot.result k c.slots-test.true c.slots.invariant.names c.slot_at-slot.ensures o c.least-end.ensures in
       found_below _ _ _ _ _ e (c.slots.invariant.same k) (sym c.if-is_named.false ∙ c.is_named.ensures);
 }

@@ -19,20 +19,24 @@ pub stmts-returns-in_err-s-clause-err : goal.stmts-returns-in_err-s-clause-err
 stmts-returns-in_err-s-clause-err t c =
     let b : c.begins.result ≡ begins (codes "}") (tokens_of c.from-rest.result.now) = search rules in
     let p = err_from_is_err_and c.from_residual.result c.from_residual.ensures.1 in
-    rw (p.1, p.2) (λ e. placed_fails _ c.args.tokens.now c.from-rest.result.now c.stmts.body.items c.stmts.at _ c.stmts.invariant c.from-rest.ensures b c.if-begins.false (c.in_err-s.ensures.err e))
+    rw (p.1, p.2) (λ e. placed_fails _ c.args.tokens.now c.from-rest.result.now c.stmts.body.items c.stmts.at _ c.stmts.invariant
+    c.from-rest.ensures b c.if-begins.false (c.in_err-s.ensures.err e))
 
 pub stmts-overflow_sub-at : goal.stmts-overflow_sub-at
 stmts-overflow_sub-at t c =
-    let n = next_place c.args.depths.outer c.args.depths.inner c.args.braces c.args.tokens.now c.from-rest.result.now c.in_ok-s.next.now _ c.stmts.at c.requires c.stmts.invariant.within c.from-rest.ensures c.in_ok-s.ensures.ok in
+    let n = next_place c.args.depths.outer c.args.depths.inner c.args.braces c.args.tokens.now c.from-rest.result.now c.in_ok-s.next.now _
+    c.stmts.at c.requires c.stmts.invariant.within c.from-rest.ensures c.in_ok-s.ensures.ok in
     omega (arith, n.less)
 
 pub stmts-stmts-smaller : goal.stmts-stmts-smaller
 stmts-stmts-smaller t c =
-    let n = next_place c.args.depths.outer c.args.depths.inner c.args.braces c.args.tokens.now c.from-rest.result.now c.in_ok-s.next.now _ c.stmts.at c.requires c.stmts.invariant.within c.from-rest.ensures c.in_ok-s.ensures.ok in
+    let n = next_place c.args.depths.outer c.args.depths.inner c.args.braces c.args.tokens.now c.from-rest.result.now c.in_ok-s.next.now _
+    c.stmts.at c.requires c.stmts.invariant.within c.from-rest.ensures c.in_ok-s.ensures.ok in
     let l : length c.args.tokens.now - (length c.args.tokens.now - length c.in_ok-s.next.now) < length c.args.tokens.now - c.stmts.at = omega (arith, n.less) in
     l
 
 pub stmts-stmts-preserved : goal.stmts-stmts-preserved
 stmts-stmts-preserved t c =
     let b : c.begins.result ≡ begins (codes "}") (tokens_of c.from-rest.result.now) = search rules in
-    placed_goes c.args.depths.outer c.args.depths.inner c.args.braces c.args.tokens.now c.from-rest.result.now c.in_ok-s.next.now c.stmts.body.items _ c.in_ok-s.s c.stmts.at _ c.requires c.stmts.invariant c.from-rest.ensures b c.if-begins.false c.in_ok-s.ensures.ok c.in_ok-push.ensures.items
+    placed_goes c.args.depths.outer c.args.depths.inner c.args.braces c.args.tokens.now c.from-rest.result.now c.in_ok-s.next.now c.stmts.body.items
+    _ c.in_ok-s.s c.stmts.at _ c.requires c.stmts.invariant c.from-rest.ensures b c.if-begins.false c.in_ok-s.ensures.ok c.in_ok-push.ensures.items

@@ -24,4 +24,5 @@ abbrev pub decreases-stmts-stmts : goal.decreases-stmts-stmts
 decreases-stmts-stmts l = length l.tokens - l.at
 
 abbrev pub invariant-stmts-stmts : goal.invariant-stmts-stmts
-invariant-stmts-stmts l = Placed (stmt_at l.depths.outer l.depths.inner (block_at l.depths.outer l.depths.inner l.braces)) l.tokens (map stmt_front l.body.items) l.at
+invariant-stmts-stmts l =
+    Placed (stmt_at l.depths.outer l.depths.inner (block_at l.depths.outer l.depths.inner l.braces)) l.tokens (map stmt_front l.body.items) l.at

@@ -11,7 +11,8 @@ pub returns-in_err-f-clause-err : goal.returns-in_err-f-clause-err
 returns-in_err-f-clause-err c =
     let some : c.funs.at < length c.args.tokens.now = search rules in
     let p = err_from_is_err_and c.from_residual.result c.from_residual.ensures.1 in
-    rw (p.1, p.2) (λ e. read_fails _ c.args.tokens.now c.from-rest.result.now c.funs.funs.items c.funs.at c.funs.invariant c.from-rest.ensures some (c.in_err-f.ensures.err e))
+    rw (p.1, p.2) (λ e. read_fails _ c.args.tokens.now c.from-rest.result.now c.funs.funs.items c.funs.at c.funs.invariant
+    c.from-rest.ensures some (c.in_err-f.ensures.err e))
 
 pub returns-then-at-tokens-clause-ok : goal.returns-then-at-tokens-clause-ok
 returns-then-at-tokens-clause-ok c =
@@ -20,16 +21,19 @@ returns-then-at-tokens-clause-ok c =
 
 pub overflow_sub-at : goal.overflow_sub-at
 overflow_sub-at c =
-    let n = next_fun c.args.depths.outer c.args.depths.inner c.args.braces c.args.tokens.now c.from-rest.result.now c.in_ok-f.next.now _ c.funs.at c.requires.braces c.requires.depths c.funs.invariant.within c.from-rest.ensures c.in_ok-f.ensures.ok in
+    let n = next_fun c.args.depths.outer c.args.depths.inner c.args.braces c.args.tokens.now c.from-rest.result.now c.in_ok-f.next.now _
+    c.funs.at c.requires.braces c.requires.depths c.funs.invariant.within c.from-rest.ensures c.in_ok-f.ensures.ok in
     omega (arith, n.less)
 
 pub funs-smaller : goal.funs-smaller
 funs-smaller c =
-    let n = next_fun c.args.depths.outer c.args.depths.inner c.args.braces c.args.tokens.now c.from-rest.result.now c.in_ok-f.next.now _ c.funs.at c.requires.braces c.requires.depths c.funs.invariant.within c.from-rest.ensures c.in_ok-f.ensures.ok in
+    let n = next_fun c.args.depths.outer c.args.depths.inner c.args.braces c.args.tokens.now c.from-rest.result.now c.in_ok-f.next.now _
+    c.funs.at c.requires.braces c.requires.depths c.funs.invariant.within c.from-rest.ensures c.in_ok-f.ensures.ok in
     let l : length c.args.tokens.now - (length c.args.tokens.now - length c.in_ok-f.next.now) < length c.args.tokens.now - c.funs.at = omega (arith, n.less) in
     l
 
 pub funs-preserved : goal.funs-preserved
 funs-preserved c =
     let some : c.funs.at < length c.args.tokens.now = search rules in
-    read_goes c.args.depths.outer c.args.depths.inner c.args.braces c.args.tokens.now c.from-rest.result.now c.in_ok-f.next.now c.funs.funs.items _ c.in_ok-f.f c.funs.at c.requires.braces c.requires.depths c.funs.invariant c.from-rest.ensures some c.in_ok-f.ensures.ok c.in_ok-push.ensures.items
+    read_goes c.args.depths.outer c.args.depths.inner c.args.braces c.args.tokens.now c.from-rest.result.now c.in_ok-f.next.now c.funs.funs.items _
+    c.in_ok-f.f c.funs.at c.requires.braces c.requires.depths c.funs.invariant c.from-rest.ensures some c.in_ok-f.ensures.ok c.in_ok-push.ensures.items

@@ -3,4 +3,5 @@ use Rattle.ln_csyn.proofs.Writing.Lays.{indent_more}
 use Rattle.ln_csyn.proofs.layout.+put_indent.Goals as goal
 
 pub returns : goal.returns
-returns t c = indent_more c.args.out.now.items c.extend_from_slice.new.self.items c.put_indent.new.out.items c.as_slice.result.now c.args.depth c.if-depth-eq0.false c.in_ok-extend_from_slice.ensures.items c.as_slice.ensures c.in_ok-put_indent.ensures
+returns t c = indent_more c.args.out.now.items c.extend_from_slice.new.self.items c.put_indent.new.out.items c.as_slice.result.now
+    c.args.depth c.if-depth-eq0.false c.in_ok-extend_from_slice.ensures.items c.as_slice.ensures c.in_ok-put_indent.ensures

@@ -7,5 +7,6 @@ use Rattle.ln_csyn.proofs.layout.lay_fun.Goals as goal
 pub returns : goal.returns
 returns c =
     IfOk-weaker c.lay.result _ _
-    (λ _ h. fun_laid c.args.out.now.items c.lay.new.out.items c.args.tokens.now.items c.as_slice.result.now (c.as_slice.ensures.value ∙ c.in_ok-push.ensures.items) h)
+    (λ _ h. fun_laid c.args.out.now.items c.lay.new.out.items c.args.tokens.now.items c.as_slice.result.now
+    (c.as_slice.ensures.value ∙ c.in_ok-push.ensures.items) h)
     c.lay.ensures

@@ -17,4 +17,6 @@ returns-in_err-funs-clause-err c =
     rw (p.1, p.2) (λ e. no_file c.args.bytes.now c.in-Some.rest.now (tokens_of c.as_slice.result.now) c.in-Some.ensures.some l (c.in_err-funs.ensures.err e))
 
 pub invariant_of-result : goal.invariant_of-result
-invariant_of-result c = record { kept = rw c.from_vec.ensures (kept (tokens_of c.as_slice.result.now) (map fun_tree c.in_ok-funs.funs.items) c.in_ok-funs.ensures.ok) }
+invariant_of-result c = record {
+  kept = rw c.from_vec.ensures (kept (tokens_of c.as_slice.result.now) (map fun_tree c.in_ok-funs.funs.items) c.in_ok-funs.ensures.ok);
+}

@@ -3,4 +3,6 @@ use Rattle.ln_csyn.proofs.Writing.PutLemmas.{puts_last, puts_then}
 use Rattle.ln_csyn.proofs.write.put_fun.Goals as goal
 
 pub returns : goal.returns
-returns c = puts_last c.put_fun_body.result _ _ (puts_then c.in_ok-put_static.ensures (puts_then c.in_ok-put_type.ensures (puts_then c.in_ok-put_own_name.ensures (puts_then c.in_ok-left.ensures (puts_then c.in_ok-put_parameters.ensures c.in_ok-right.ensures))))) c.put_fun_body.ensures
+returns c = puts_last c.put_fun_body.result _ _ (puts_then c.in_ok-put_static.ensures (puts_then c.in_ok-put_type.ensures
+    (puts_then c.in_ok-put_own_name.ensures (puts_then c.in_ok-left.ensures (puts_then c.in_ok-put_parameters.ensures c.in_ok-right.ensures)))))
+    c.put_fun_body.ensures

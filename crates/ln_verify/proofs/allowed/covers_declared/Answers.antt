@@ -1,4 +1,4 @@
--- What is left to show of `covers_declared`.
+-- Answers to the goals of `covers_declared` in src/allowed.rt.
 use Rattle.std.proofs.Common.{sym, ◌∙◌}
 use Rattle.ln_verify.proofs.Values.Ranges.{not-true}
 use Rattle.ln_verify.proofs.allowed.covers_declared.Goals as goal

@@ -1,4 +1,4 @@
--- What is left to show of `bare_op`.
+-- Answers to the goals of `bare_op` in src/bench.rt.
 use Rattle.ln_verify.proofs.Engines.Wide.{too-wide}
 use Rattle.ln_verify.proofs.bench.bare_op.Goals as goal
 

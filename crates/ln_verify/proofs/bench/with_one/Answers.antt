@@ -1,4 +1,4 @@
--- What is left to show of `with_one`.
+-- Answers to the goals of `with_one` in src/bench.rt.
 use Rattle.std.proofs.Common.{length, refl}
 use Rattle.ln_interval.specs.View.{range}
 use Rattle.ln_code.specs.declared.op.Op.TheVariants.{Neg}
@@ -14,5 +14,7 @@ returns c v vars s i =
     let e = block_rules v vars in
     let mid = c.pop_value.new.stack.items in
     let o = popped (IsFor n) c.args.bench.now.stack.items mid c.in-Some.x s.stack c.in-Some.ensures i.stack in
-    pushed-came (IsFor n) tree_of n e (λ j. refl) s (Neg c.args.w) (range c.args.b) refl o.rest mid o.below c.args.bench.now.locals.items i.size i.locals c.in_ok-v.v (e.minus c.args.w (range c.args.b) o.top) c.push_value.new.stack.items c.in_ok-ok.ok
-    (one-step (IsFor n) tree_of n e (λ j. refl) c.args.w (range c.args.b) s.locals s.stack o.rest o.top o.is) (c.in_ok-v.ensures v vars n o.top o.for_it) c.in_ok-ok.ensures
+    pushed-came (IsFor n) tree_of n e (λ j. refl) s (Neg c.args.w) (range c.args.b) refl o.rest mid o.below c.args.bench.now.locals.items
+    i.size i.locals c.in_ok-v.v (e.minus c.args.w (range c.args.b) o.top) c.push_value.new.stack.items c.in_ok-ok.ok
+    (one-step (IsFor n) tree_of n e (λ j. refl) c.args.w (range c.args.b) s.locals s.stack o.rest o.top o.is)
+    (c.in_ok-v.ensures v vars n o.top o.for_it) c.in_ok-ok.ensures

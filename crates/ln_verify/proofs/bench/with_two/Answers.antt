@@ -1,4 +1,4 @@
--- What is left to show of `with_two`.
+-- Answers to the goals of `with_two` in src/bench.rt.
 use Rattle.std.proofs.Common.{length, refl}
 use Rattle.ln_interval.specs.View.{range}
 use Rattle.ln_verify.specs.Values.{IsFor}
@@ -17,5 +17,7 @@ returns c v vars s i =
     let low = c.pop_value-2.new.stack.items in
     let o = popped (IsFor n) c.args.bench.now.stack.items mid c.in-Some.y s.stack c.in-Some.ensures i.stack in
     let q = popped (IsFor n) mid low c.in-Some-pop_value.x o.rest c.in-Some-pop_value.ensures o.below in
-    pushed-came (IsFor n) tree_of n e (λ j. refl) s op (range c.args.b) (op-pushes (IsFor n) tree_of n e (λ j. refl) c.args.t c.args.w) q.rest low q.below c.args.bench.now.locals.items i.size i.locals c.in_ok-v.v (e.two c.args.t c.args.w (range c.args.b) q.top o.top) c.push_value.new.stack.items c.in_ok-ok.ok
-    (two-step (IsFor n) tree_of n e (λ j. refl) c.args.t c.args.w (range c.args.b) s.locals s.stack o.rest q.rest o.top q.top o.is q.is) (c.in_ok-v.ensures v vars n q.top o.top q.for_it o.for_it) c.in_ok-ok.ensures
+    pushed-came (IsFor n) tree_of n e (λ j. refl) s op (range c.args.b) (op-pushes (IsFor n) tree_of n e (λ j. refl) c.args.t c.args.w) q.rest low q.below
+    c.args.bench.now.locals.items i.size i.locals c.in_ok-v.v (e.two c.args.t c.args.w (range c.args.b) q.top o.top) c.push_value.new.stack.items c.in_ok-ok.ok
+    (two-step (IsFor n) tree_of n e (λ j. refl) c.args.t c.args.w (range c.args.b) s.locals s.stack o.rest q.rest o.top q.top o.is q.is)
+    (c.in_ok-v.ensures v vars n q.top o.top q.for_it o.for_it) c.in_ok-ok.ensures

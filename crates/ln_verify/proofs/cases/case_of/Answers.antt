@@ -1,4 +1,4 @@
--- What is left to show of `case_of`.
+-- Answers to the goals of `case_of` in src/cases.rt.
 use Rattle.std.proofs.Common.{length, subst, sym}
 use Rattle.ln_tree.specs.Table.{pred_of}
 use Rattle.ln_poly.specs.Expansion.{IsNormal}
@@ -17,7 +17,9 @@ pub staged-requires-clause-few : goal.staged-requires-clause-few
 staged-requires-clause-few c = λ lists l q. c.requires.staged c.in_ok-poly.poly lists c.in_ok-poly.ensures.normal l q
 
 pub returns-clause-normal : goal.returns-clause-normal
-returns-clause-normal c = subst (λ (f : Sparse). IsNormal (length c.args.p.now.shape.vars) (root_of (pred_of c.args.p.now)) f) (sym c.in_ok-case.ensures.poly) c.in_ok-poly.ensures.normal
+returns-clause-normal c = subst (λ (f : Sparse). IsNormal (length c.args.p.now.shape.vars) (root_of (pred_of c.args.p.now)) f)
+    (sym c.in_ok-case.ensures.poly) c.in_ok-poly.ensures.normal
 
 pub returns-clause-case : goal.returns-clause-case
-returns-clause-case c = case_is c.args.p.now c.in_ok-case.case c.in_ok-poly.poly c.in_ok-stages.stages c.in_ok-case.ensures c.requires c.in_ok-poly.ensures.normal c.in_ok-stages.ensures
+returns-clause-case c = case_is c.args.p.now c.in_ok-case.case c.in_ok-poly.poly c.in_ok-stages.stages c.in_ok-case.ensures c.requires
+    c.in_ok-poly.ensures.normal c.in_ok-stages.ensures

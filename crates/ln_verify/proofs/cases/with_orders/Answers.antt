@@ -1,4 +1,4 @@
--- What is left to show of `with_orders`.
+-- Answers to the goals of `with_orders` in src/cases.rt.
 use Rattle.std.proofs.Common.{◌∙◌, List, ap, map}
 use Rattle.ln_order.specs.declared.order.Order.{Order}
 use Rattle.ln_order.specs.Places.{order_places}

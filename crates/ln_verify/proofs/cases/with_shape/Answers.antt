@@ -1,4 +1,4 @@
--- What is left to show of `with_shape`.
+-- Answers to the goals of `with_shape` in src/cases.rt.
 use Rattle.std.proofs.Common.{refl}
 use Rattle.ln_verify.proofs.cases.with_shape.Goals as goal
 

@@ -1,4 +1,4 @@
--- What is left to show of `again`.
+-- Answers to the goals of `again` in src/cutters.rt.
 use Rattle.std.proofs.Common.{◌∙◌, subst, sym}
 use Rattle.std.proofs.lemmas.Bool.{le-leb}
 use Rattle.ln_poly.specs.Expansion.{IsNormal}

@@ -1,4 +1,4 @@
--- What is left to show of `allowed_size`.
+-- Answers to the goals of `allowed_size` in src/cutters.rt.
 use Rattle.std.proofs.Common.{◌∙◌, arith, sym}
 use Rattle.ln_verify.proofs.Values.Ranges.{not-most, not-true, under-most}
 use Rattle.ln_verify.proofs.cutters.allowed_size.Goals as goal

@@ -1,4 +1,4 @@
--- What is left to show of `kept`.
+-- Answers to the goals of `kept` in src/cutters.rt.
 use Rattle.std.proofs.Common.{arith, refl}
 use Rattle.ln_verify.proofs.Polynomials.Small.{few-small, many-large}
 use Rattle.ln_verify.proofs.cutters.kept.Goals as goal

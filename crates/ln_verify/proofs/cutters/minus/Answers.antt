@@ -1,4 +1,4 @@
--- What is left to show of `minus`.
+-- Answers to the goals of `minus` in src/cutters.rt.
 use Rattle.std.proofs.Common.{◌≡◌, ◌∙◌, ap, arith, sym}
 use Rattle.std.proofs.lemmas.Bool.{le-leb}
 use Rattle.ln_algebra.specs.Tree.{Neg}
@@ -15,5 +15,6 @@ kept-requires-clause-heavy c =
 
 pub returns : goal.returns
 returns c v vars n k i =
-    cut-minus-yes n c.args.x k c.args.a i c.args.w c.kept.result (sym c.is_64.ensures ∙ c.if-not-is_64.false) (sym c.same_covered.ensures ∙ c.if-not-same_covered.false) (le-leb _ _ c.args.x.small)
+    cut-minus-yes n c.args.x k c.args.a i c.args.w c.kept.result (sym c.is_64.ensures ∙ c.if-not-is_64.false)
+    (sym c.same_covered.ensures ∙ c.if-not-same_covered.false) (le-leb _ _ c.args.x.small)
     (c.kept.ensures n (Neg k.tree) (negated-normal n k.tree c.args.x.poly c.opposite-h.result i.normal c.opposite-h.ensures))

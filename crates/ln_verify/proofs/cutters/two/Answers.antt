@@ -1,4 +1,4 @@
--- What is left to show of `two`.
+-- Answers to the goals of `two` in src/cutters.rt.
 use Rattle.std.proofs.Common.{arith}
 use Rattle.ln_bound.specs.Typed.{two_of}
 use Rattle.ln_verify.proofs.Polynomials.Joins.{bound-within}

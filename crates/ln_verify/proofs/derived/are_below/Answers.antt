@@ -1,4 +1,4 @@
--- What is left to show of `are_below`.
+-- Answers to the goals of `are_below` in src/derived.rt.
 use Rattle.std.proofs.Common.{◌<◌, ℕ, arith, refl}
 use Rattle.ln_verify.proofs.Polynomials.Fitting.{each-end, each-next, each-stop}
 use Rattle.ln_verify.proofs.Judging.Readings.{each-above}
@@ -16,7 +16,12 @@ returns-then-from-n c = (
 )
 
 pub pairs-preserved : goal.pairs-preserved
-pairs-preserved c = each-next (λ (p : ℕ × ℕ). p.0 < c.args.n) c.args.a.now c.pairs.p-index (0, 0) (omega (arith, c.pairs-test.true)) c.pairs.invariant (omega (arith, c.if-from-n.false, c.from.ensures))
+pairs-preserved c = each-next (λ (p : ℕ × ℕ). p.0 < c.args.n) c.args.a.now c.pairs.p-index (0, 0)
+    (omega (arith, c.pairs-test.true)) c.pairs.invariant (omega (arith, c.if-from-n.false, c.from.ensures))
 
 pub returns : goal.returns
-returns c = (λ e. (each-above c.args.a.now c.args.n).0 (each-end (λ (p : ℕ × ℕ). p.0 < c.args.n) c.args.a.now c.pairs.p-index (omega (arith, c.pairs-test.false)) c.pairs.invariant), λ h. refl)
+returns c = (
+  λ e. (each-above c.args.a.now c.args.n).0
+      (each-end (λ (p : ℕ × ℕ). p.0 < c.args.n) c.args.a.now c.pairs.p-index (omega (arith, c.pairs-test.false)) c.pairs.invariant),
+  λ h. refl,
+)

@@ -1,4 +1,4 @@
--- The loop of `are_below`.
+-- States the invariant of the loop of `are_below`: whether all variables are below n is decided by the remaining pairs.
 use Rattle.std.proofs.Common.{◌<◌}
 use Rattle.ln_verify.proofs.Polynomials.Fitting.{EachDecides}
 use Rattle.ln_verify.proofs.derived.are_below.Given as goal

@@ -1,4 +1,4 @@
--- What is left to show of `is_derivative`.
+-- Answers to the goals of `is_derivative` in src/derived.rt.
 use Rattle.std.proofs.Common.{ℕ, length, subst, sym, ◌∙◌}
 use Rattle.ln_tree.specs.Exps.{IsAbove, Pairs}
 use Rattle.ln_verify.proofs.Polynomials.Closing.{end-same}

@@ -1,4 +1,4 @@
--- What is left to show of `all_fit`.
+-- Answers to the goals of `all_fit` in src/fits.rt.
 use Rattle.std.proofs.Common.{arith, refl, sym, ◌∙◌, subst}
 use Rattle.std.proofs.Math.IntN.{ℤ}
 use Rattle.ln_tree.specs.Exps.{Pairs}
@@ -13,7 +13,8 @@ rows-init c = (λ h. h, λ h. h)
 pub returns-then-not-row_fits : goal.returns-then-not-row_fits
 returns-then-not-row_fits c = (
   λ e. not-true _ e,
-  λ h. absurd (each-stop (λ (s : Pairs × ℤ). RowFits s.0 c.args.g.now) c.args.f.now c.rows.s-index c.s-item.result (omega (arith, c.rows-test.true)) c.rows.invariant
+  λ h. absurd (each-stop (λ (s : Pairs × ℤ). RowFits s.0 c.args.g.now) c.args.f.now c.rows.s-index c.s-item.result
+      (omega (arith, c.rows-test.true)) c.rows.invariant
       (λ y. not-true _ (sym c.if-not-row_fits.true ∙ c.row_fits.ensures.1 (subst (λ (z : Pairs × ℤ). RowFits z.0 c.args.g.now) (sym c.s-item.is) y))) h),
 )
 
@@ -23,4 +24,5 @@ rows-preserved c =
     (subst (λ (z : Pairs × ℤ). RowFits z.0 c.args.g.now) c.s-item.is (c.row_fits.ensures.0 c.if-not-row_fits.false))
 
 pub returns : goal.returns
-returns c = (λ e. each-end (λ (s : Pairs × ℤ). RowFits s.0 c.args.g.now) c.args.f.now c.rows.s-index (omega (arith, c.rows-test.false)) c.rows.invariant, λ h. refl)
+returns c =
+    (λ e. each-end (λ (s : Pairs × ℤ). RowFits s.0 c.args.g.now) c.args.f.now c.rows.s-index (omega (arith, c.rows-test.false)) c.rows.invariant, λ h. refl)

@@ -1,4 +1,4 @@
--- The loop of `pairs_fit`.
+-- States the invariant of the loop of `pairs_fit`: whether all exponents, taken together, are below 128 is decided by the remaining pairs.
 use Rattle.std.proofs.Common.{◌+◌, ◌<◌}
 use Rattle.ln_tree.specs.Exps.{exponent}
 use Rattle.ln_verify.proofs.Polynomials.Fitting.{EachDecides}

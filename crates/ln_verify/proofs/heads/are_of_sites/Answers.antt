@@ -1,4 +1,4 @@
--- What is left to show of `are_of_sites`.
+-- Answers to the goals of `are_of_sites` in src/heads.rt.
 use Rattle.std.proofs.Common.{◌≡◌, ◌∙◌, ℕ, arith, refl, sym, true}
 use Rattle.std.specs.Prelude.{slice_get}
 use Rattle.ln_code.specs.Kept.{is_of_site}
@@ -13,12 +13,18 @@ pairs-init c = (λ h. h, λ h. h)
 pub returns-then-not-is_of_site : goal.returns-then-not-is_of_site
 returns-then-not-is_of_site c = (
   λ e. not-true _ e,
-  λ h. absurd (each-stop (λ (p : ℕ × ℕ). is_of_site (slice_get c.args.vars.now p.0) ≡ true) c.args.a.now c.pairs.p-index (0, 0) (omega (arith, c.pairs-test.true)) c.pairs.invariant
+  λ h. absurd (each-stop (λ (p : ℕ × ℕ). is_of_site (slice_get c.args.vars.now p.0) ≡ true) c.args.a.now c.pairs.p-index (0, 0)
+      (omega (arith, c.pairs-test.true)) c.pairs.invariant
       (λ l. not-true _ (sym c.if-not-is_of_site.true ∙ c.is_of_site.ensures ∙ l)) ((each-site c.args.vars.now c.args.a.now).1 h)),
 )
 
 pub pairs-preserved : goal.pairs-preserved
-pairs-preserved c = each-next (λ (p : ℕ × ℕ). is_of_site (slice_get c.args.vars.now p.0) ≡ true) c.args.a.now c.pairs.p-index (0, 0) (omega (arith, c.pairs-test.true)) c.pairs.invariant (sym c.is_of_site.ensures ∙ c.if-not-is_of_site.false)
+pairs-preserved c = each-next (λ (p : ℕ × ℕ). is_of_site (slice_get c.args.vars.now p.0) ≡ true) c.args.a.now c.pairs.p-index (0, 0)
+    (omega (arith, c.pairs-test.true)) c.pairs.invariant (sym c.is_of_site.ensures ∙ c.if-not-is_of_site.false)
 
 pub returns : goal.returns
-returns c = (λ e. (each-site c.args.vars.now c.args.a.now).0 (each-end (λ (p : ℕ × ℕ). is_of_site (slice_get c.args.vars.now p.0) ≡ true) c.args.a.now c.pairs.p-index (omega (arith, c.pairs-test.false)) c.pairs.invariant), λ h. refl)
+returns c = (
+  λ e. (each-site c.args.vars.now c.args.a.now).0 (each-end (λ (p : ℕ × ℕ). is_of_site (slice_get c.args.vars.now p.0) ≡ true) c.args.a.now
+      c.pairs.p-index (omega (arith, c.pairs-test.false)) c.pairs.invariant),
+  λ h. refl,
+)

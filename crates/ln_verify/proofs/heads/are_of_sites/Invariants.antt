@@ -1,4 +1,4 @@
--- The loop of `are_of_sites`.
+-- States the invariant of the loop of `are_of_sites`: whether all variables are coordinates of sites is decided by the remaining pairs.
 use Rattle.std.proofs.Common.{◌≡◌, true}
 use Rattle.std.specs.Prelude.{slice_get}
 use Rattle.ln_code.specs.Kept.{is_of_site}

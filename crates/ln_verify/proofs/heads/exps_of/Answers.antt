@@ -1,4 +1,4 @@
--- What is left to show of `exps_of`.
+-- Answers to the goals of `exps_of` in src/heads.rt.
 use Rattle.std.proofs.Common.{◌∙◌, ℕ, arith, get_or, subst, sym}
 use Rattle.ln_tree.specs.Exps.{IsAbove, Pairs}
 use Rattle.ln_verify.proofs.Values.Ranges.{not-true}

@@ -1,4 +1,4 @@
--- The loop of `exps_of`.
+-- States the invariant of the loop of `exps_of`: the list holds the pairs so far, whose variables rise and whose exponents are in range.
 use Rattle.ln_verify.proofs.Judging.Readings.{Read}
 use Rattle.ln_verify.proofs.heads.exps_of.Given as goal
 

@@ -1,4 +1,4 @@
--- What is left to show of `add`.
+-- Answers to the goals of `add` in src/held.rt.
 use Rattle.std.proofs.Common.{arith}
 use Rattle.std.proofs.lemmas.Result.{IfOk-weaker}
 use Rattle.ln_poly.specs.Sparse.{Sparse}
@@ -11,4 +11,5 @@ add_to-requires c = omega (arith, c.requires)
 
 pub returns-then-count : goal.returns-then-count
 returns-then-count c =
-    IfOk-weaker c.add_to.result (λ (h : Sparse). IsSum c.args.g c.args.f h) (λ (h : Sparse). IsSum c.args.f c.args.g h) (λ h s. sum-turned c.args.f c.args.g h s) c.add_to.ensures
+    IfOk-weaker c.add_to.result (λ (h : Sparse). IsSum c.args.g c.args.f h) (λ (h : Sparse). IsSum c.args.f c.args.g h)
+    (λ h s. sum-turned c.args.f c.args.g h s) c.add_to.ensures

@@ -1,4 +1,4 @@
--- What is left to show of `opposite`.
+-- Answers to the goals of `opposite` in src/held.rt.
 use Rattle.std.proofs.Common.{◌∙◌, ap}
 use Rattle.ln_poly.specs.Sparse.{Sparse, negated}
 use Rattle.ln_verify.proofs.Polynomials.Signs.{opposite-signed}

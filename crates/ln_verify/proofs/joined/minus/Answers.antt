@@ -1,4 +1,4 @@
--- What is left to show of `minus`.
+-- Answers to the goals of `minus` in src/joined.rt.
 use Rattle.std.proofs.Common.{arith}
 use Rattle.ln_verify.proofs.Polynomials.Joins.{minus-joined, turned-size}
 use Rattle.ln_verify.proofs.joined.minus.Goals as goal

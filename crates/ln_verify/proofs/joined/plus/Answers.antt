@@ -1,4 +1,4 @@
--- What is left to show of `plus`.
+-- Answers to the goals of `plus` in src/joined.rt.
 use Rattle.ln_verify.proofs.Polynomials.Joins.{plus-joined}
 use Rattle.ln_verify.proofs.joined.plus.Goals as goal
 

@@ -1,4 +1,4 @@
--- What is left to show of `within`.
+-- Answers to the goals of `within` in src/joined.rt.
 use Rattle.std.proofs.Common.{◌∙◌, subst, sym}
 use Rattle.std.specs.Prelude.{Some}
 use Rattle.ln_bound.specs.declared.fitted.Two.TheVariants.{Times}
@@ -12,11 +12,13 @@ use Rattle.ln_verify.proofs.joined.within.Goals as goal
 
 pub returns-then-not-all_fit : goal.returns-then-not-all_fit
 returns-then-not-all_fit c n d e p q =
-    misfit-large n d e c.args.f.now c.args.g.now p q (λ h. not-true _ (sym c.if-not-all_fit.true ∙ (fits-at c.all_fit.result c.terms.result.now c.terms-2.result.now c.args.f.now c.args.g.now c.all_fit.ensures c.terms.ensures.value c.terms-2.ensures.value).1 h))
+    misfit-large n d e c.args.f.now c.args.g.now p q (λ h. not-true _ (sym c.if-not-all_fit.true ∙ (fits-at c.all_fit.result
+    c.terms.result.now c.terms-2.result.now c.args.f.now c.args.g.now c.all_fit.ensures c.terms.ensures.value c.terms-2.ensures.value).1 h))
 
 pub mul_within-requires-clause-powers : goal.mul_within-requires-clause-powers
 mul_within-requires-clause-powers c =
-    all-powers c.args.f.now c.args.g.now c.terms.ensures.form.rising c.terms-2.ensures.form.rising ((fits-at c.all_fit.result c.terms.result.now c.terms-2.result.now c.args.f.now c.args.g.now c.all_fit.ensures c.terms.ensures.value c.terms-2.ensures.value).0 c.if-not-all_fit.false)
+    all-powers c.args.f.now c.args.g.now c.terms.ensures.form.rising c.terms-2.ensures.form.rising ((fits-at c.all_fit.result c.terms.result.now
+    c.terms-2.result.now c.args.f.now c.args.g.now c.all_fit.ensures c.terms.ensures.value c.terms-2.ensures.value).0 c.if-not-all_fit.false)
 
 pub returns-in_default : goal.returns-in_default
 returns-in_default c n d e p q =

@@ -1,4 +1,4 @@
--- What is left to show of `done`.
+-- Answers to the goals of `done` in src/judge.rt.
 use Rattle.std.proofs.Common.{◌∙◌, arith, sym}
 use Rattle.ln_verify.proofs.Judging.Places.{case-orders, done-elsewhere, done-lacks, done-over}
 use Rattle.ln_verify.proofs.Values.Ranges.{not-true}
@@ -16,4 +16,5 @@ returns-then-desk-len c =
 pub returns : goal.returns
 returns c =
     let o = case-orders c.args.case.now c.requires.case in
-    done-over (subject_of c.args.case.now) c.args.desk.now _ (c.is_at.ensures.0 c.if-not-is_at.false) (omega (arith, o, c.len.ensures, c.if-desk-len.false)) (omega arith)
+    done-over (subject_of c.args.case.now) c.args.desk.now _ (c.is_at.ensures.0 c.if-not-is_at.false)
+    (omega (arith, o, c.len.ensures, c.if-desk-len.false)) (omega arith)

@@ -1,4 +1,4 @@
--- What is left to show of `line`.
+-- Answers to the goals of `line` in src/judge.rt.
 use Rattle.std.proofs.Common.{Bool, sym, ◌∙◌, subst}
 use Rattle.std.proofs.lemmas.Result.{IfOk-weaker}
 use Rattle.ln_verify.specs.Line.{Place}
@@ -20,11 +20,14 @@ returns-then-is_done c here i =
     let v = version_of c.args.form in
     let cs = c.args.cases.now in
     subst (λ (x : Part). Gone v (subjects_of cs) here x c.done.result c.done.new.desk) (sym (c.is_done.ensures.0 c.if-is_done.true))
-    (done-part v cs c.args.desk.now c.done.new.desk c.in-Some.case.now c.done.result here (λ e. not-true _ (sym c.if-is_at.false ∙ c.is_at.ensures.1 e)) (sym c.in-Some.ensures.value) c.done.ensures i)
+    (done-part v cs c.args.desk.now c.done.new.desk c.in-Some.case.now c.done.result here
+    (λ e. not-true _ (sym c.if-is_at.false ∙ c.is_at.ensures.1 e)) (sym c.in-Some.ensures.value) c.done.ensures i)
 
 pub returns : goal.returns
 returns c =
     let v = version_of c.args.form in
     let cs = c.args.cases.now in
-    IfOk-weaker c.within.result (λ (ok : Bool). Leads v (subject_of c.in-Some.case.now) c.args.desk.now c.args.line.now ok c.within.new.desk) (λ (ok : Bool). (here : Place) → IsHere (subjects_of cs) c.args.desk.now here → Gone v (subjects_of cs) here c.args.line.now ok c.within.new.desk)
-    (λ ok h here i. within-part v cs c.args.desk.now c.within.new.desk c.in-Some.case.now c.args.line.now ok here (λ e. not-true _ (sym c.if-is_at.false ∙ c.is_at.ensures.1 e)) (sym c.in-Some.ensures.value) (λ e. not-true _ (sym c.if-is_done.false ∙ c.is_done.ensures.1 e)) h i) c.within.ensures
+    IfOk-weaker c.within.result (λ (ok : Bool). Leads v (subject_of c.in-Some.case.now) c.args.desk.now c.args.line.now ok c.within.new.desk)
+    (λ (ok : Bool). (here : Place) → IsHere (subjects_of cs) c.args.desk.now here → Gone v (subjects_of cs) here c.args.line.now ok c.within.new.desk)
+    (λ ok h here i. within-part v cs c.args.desk.now c.within.new.desk c.in-Some.case.now c.args.line.now ok here (λ e. not-true _ (sym c.if-is_at.false
+    ∙ c.is_at.ensures.1 e)) (sym c.in-Some.ensures.value) (λ e. not-true _ (sym c.if-is_done.false ∙ c.is_done.ensures.1 e)) h i) c.within.ensures

@@ -1,4 +1,4 @@
--- The loop of `over_entries`.
+-- States the invariant of the loop of `over_entries`: the lines so far lead to a place that the judge's state stands for.
 use Rattle.std.proofs.Common.{take}
 use Rattle.ln_cert.specs.Listing.{parts_of}
 use Rattle.ln_verify.specs.Here.{subjects_of}

@@ -1,4 +1,4 @@
--- The loop of `over_lines`.
+-- States the invariant of the loop of `over_lines`, that the lines so far lead to a place that the judge's state stands for, and why it ends.
 use Rattle.std.proofs.Common.{List, length}
 use Rattle.ln_cert.specs.declared.part.Part.{Part}
 use Rattle.ln_cert.specs.Unread.{AreLeft}

@@ -1,4 +1,4 @@
--- What is left to show of `block_op`.
+-- Answers to the goals of `block_op` in src/kinds.rt.
 use Rattle.ln_verify.specs.Here.{subject_of}
 use Rattle.ln_verify.specs.Versions.{version_of}
 use Rattle.ln_verify.proofs.Engines.AtSpots.{bound-led, one-number}
@@ -6,4 +6,5 @@ use Rattle.ln_verify.proofs.kinds.block_op.Goals as goal
 
 pub returns : goal.returns
 returns c =
-    bound-led (version_of c.args.form) (subject_of c.args.case.now) c.args.desk.now c.bound_line.new.bench c.args.op c.args.b c.in_ok-ok.ok (one-number c.args.form (c.is_form.ensures.0 c.if-not-is_form.false)) (c.is_at.ensures.0 c.if-not-is_at.false) c.in_ok-ok.ensures
+    bound-led (version_of c.args.form) (subject_of c.args.case.now) c.args.desk.now c.bound_line.new.bench c.args.op c.args.b c.in_ok-ok.ok
+    (one-number c.args.form (c.is_form.ensures.0 c.if-not-is_form.false)) (c.is_at.ensures.0 c.if-not-is_at.false) c.in_ok-ok.ensures

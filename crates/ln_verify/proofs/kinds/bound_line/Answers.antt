@@ -1,4 +1,4 @@
--- What is left to show of `bound_line`.
+-- Answers to the goals of `bound_line` in src/kinds.rt.
 use Rattle.std.proofs.Common.{List, subst}
 use Rattle.ln_tree.specs.declared.shape.VarInfo.{VarInfo}
 use Rattle.ln_verify.specs.BlockRules.{balanced}
@@ -7,4 +7,5 @@ use Rattle.ln_verify.specs.Works.{BenchLed}
 use Rattle.ln_verify.proofs.kinds.bound_line.Goals as goal
 
 pub returns : goal.returns
-returns c = subst (λ (vs : List VarInfo). BenchLed (version_of c.args.form) vs c.args.bench.now c.args.op (balanced c.args.b) c.in_ok-ok.ok c.bench_op.new.bench) c.as_slice.ensures (c.in_ok-ok.ensures (balanced c.args.b) c.pair_of_bound-ends.ensures)
+returns c = subst (λ (vs : List VarInfo). BenchLed (version_of c.args.form) vs c.args.bench.now c.args.op (balanced c.args.b) c.in_ok-ok.ok
+    c.bench_op.new.bench) c.as_slice.ensures (c.in_ok-ok.ensures (balanced c.args.b) c.pair_of_bound-ends.ensures)

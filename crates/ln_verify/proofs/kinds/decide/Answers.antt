@@ -1,7 +1,8 @@
--- What is left to show of `decide`.
+-- Answers to the goals of `decide` in src/kinds.rt.
 use Rattle.ln_verify.specs.Here.{subject_of}
 use Rattle.ln_verify.proofs.Engines.AtSpots.{decided}
 use Rattle.ln_verify.proofs.kinds.decide.Goals as goal
 
 pub returns : goal.returns
-returns c v = decided v (subject_of c.args.case.now) c.args.desk.now c.new.result (c.is_at.ensures.0 c.if-not-is_at.false) c.new.ensures (λ s i. (c.in_ok-decides.ensures s i).0 c.if-not-branch.false)
+returns c v = decided v (subject_of c.args.case.now) c.args.desk.now c.new.result (c.is_at.ensures.0 c.if-not-is_at.false) c.new.ensures
+    (λ s i. (c.in_ok-decides.ensures s i).0 c.if-not-branch.false)

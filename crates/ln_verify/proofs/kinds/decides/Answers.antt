@@ -1,4 +1,4 @@
--- What is left to show of `decides`.
+-- Answers to the goals of `decides` in src/kinds.rt.
 use Rattle.std.proofs.Common.{arith}
 use Rattle.ln_verify.proofs.Values.Ranges.{not-true}
 use Rattle.ln_verify.specs.Here.{subject_of}
@@ -6,10 +6,18 @@ use Rattle.ln_verify.proofs.Polynomials.Closes.{tray-decides, tray-not-one, tray
 use Rattle.ln_verify.proofs.kinds.decides.Goals as goal
 
 pub returns-then-len-ne1 : goal.returns-then-len-ne1
-returns-then-len-ne1 c s i = (λ t. not-true _ t, λ q. absurd (tray-not-one (subject_of c.args.case.now) c.args.tray.now s (λ l. c.if-len-ne1.true (omega (arith, c.len.ensures, l))) i q))
+returns-then-len-ne1 c s i = (
+  λ t. not-true _ t,
+  λ q. absurd (tray-not-one (subject_of c.args.case.now) c.args.tray.now s (λ l. c.if-len-ne1.true (omega (arith, c.len.ensures, l))) i q),
+)
 
 pub returns-then-x-gt9223372036854775807 : goal.returns-then-x-gt9223372036854775807
-returns-then-x-gt9223372036854775807 c s i = (λ t. not-true _ t, λ q. absurd (tray-wide (subject_of c.args.case.now) c.args.tray.now s c.index-x.result.now c.index-x.result.now (omega (arith, c.len.ensures, c.if-len-ne1.false)) c.index-x.ensures i c.if-x-gt9223372036854775807.true q))
+returns-then-x-gt9223372036854775807 c s i = (
+  λ t. not-true _ t,
+  λ q. absurd (tray-wide (subject_of c.args.case.now) c.args.tray.now s c.index-x.result.now c.index-x.result.now
+      (omega (arith, c.len.ensures, c.if-len-ne1.false)) c.index-x.ensures i c.if-x-gt9223372036854775807.true q),
+)
 
 pub returns : goal.returns
-returns c s i = tray-decides (subject_of c.args.case.now) c.args.tray.now s c.index-x.result.now c.index-x.result.now c.is_whole.result (omega (arith, c.len.ensures, c.if-len-ne1.false)) c.index-x.ensures i c.if-x-gt9223372036854775807.false (rw c.in_ok-f.ensures at c.is_whole.ensures)
+returns c s i = tray-decides (subject_of c.args.case.now) c.args.tray.now s c.index-x.result.now c.index-x.result.now c.is_whole.result
+    (omega (arith, c.len.ensures, c.if-len-ne1.false)) c.index-x.ensures i c.if-x-gt9223372036854775807.false (rw c.in_ok-f.ensures at c.is_whole.ensures)

@@ -1,4 +1,4 @@
--- What is left to show of `ends`.
+-- Answers to the goals of `ends` in src/kinds.rt.
 use Rattle.std.proofs.Common.{arith, ◌≡◌, ◌↔◌, length, ◌∙◌, subst, sym}
 use Rattle.std.specs.Prelude.{IsTrue}
 use Rattle.ln_algebra.specs.Terms.{IsNormalOf, derived}
@@ -12,7 +12,10 @@ use Rattle.ln_verify.proofs.Values.Ranges.{not-true}
 use Rattle.ln_verify.proofs.kinds.ends.Goals as goal
 
 pub returns-then-len-ne1 : goal.returns-then-len-ne1
-returns-then-len-ne1 c es a s e m i = (λ t. not-true _ t, λ q. absurd (bench-not-one (subject_of c.args.case.now) a c.args.bench.now s (λ l. c.if-len-ne1.true (omega (arith, c.len.ensures, l))) i q))
+returns-then-len-ne1 c es a s e m i = (
+  λ t. not-true _ t,
+  λ q. absurd (bench-not-one (subject_of c.args.case.now) a c.args.bench.now s (λ l. c.if-len-ne1.true (omega (arith, c.len.ensures, l))) i q),
+)
 
 pub returns : goal.returns
 returns c es a s e m i =
@@ -21,4 +24,5 @@ returns c es a s e m i =
     let f : c.index-exps-exps.result ≡ a = c.index-exps-exps.is ∙ last-is c.args.exps.now es a c.index-exps-exps.result e in
     let above : IsAbove c.index-exps-exps.result n = subst (λ (x : Pairs). IsAbove x n) (sym f) (last-above n c.args.exps.now es a e m) in
     bench-ends p a c.args.bench.now s c.index.result.now c.index.result.now c.in_ok-ok.ok (omega (arith, c.len.ensures, c.if-len-ne1.false)) c.index.ensures i
-    (subst (λ (x : Pairs). (t : Tree) → IsNormal n t c.index.result.now.poly → IsTrue c.in_ok-ok.ok ↔ IsNormalOf n t (derived (vector n x) (terms_of n p.poly))) f (rw c.in_ok-f.ensures at c.in_ok-ok.ensures above))
+    (subst (λ (x : Pairs). (t : Tree) → IsNormal n t c.index.result.now.poly → IsTrue c.in_ok-ok.ok ↔ IsNormalOf n t (derived (vector n x) (terms_of n p.poly)))
+    f (rw c.in_ok-f.ensures at c.in_ok-ok.ensures above))

@@ -1,4 +1,4 @@
--- What is left to show of `filter`.
+-- Answers to the goals of `filter` in src/kinds.rt.
 use Rattle.ln_verify.proofs.Engines.AtSpots.{named-filter}
 use Rattle.ln_verify.proofs.kinds.filter.Goals as goal
 

@@ -1,4 +1,4 @@
--- What is left to show of `no_filter`.
+-- Answers to the goals of `no_filter` in src/kinds.rt.
 use Rattle.ln_verify.proofs.Engines.AtSpots.{named-gap}
 use Rattle.ln_verify.proofs.kinds.no_filter.Goals as goal
 

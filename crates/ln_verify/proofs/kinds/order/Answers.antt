@@ -1,4 +1,4 @@
--- What is left to show of `order`.
+-- Answers to the goals of `order` in src/kinds.rt.
 use Rattle.std.proofs.Common.{arith, sym, ◌∙◌, subst, List, length}
 use Rattle.ln_tree.specs.Exps.{Pairs}
 use Rattle.ln_verify.specs.Line.{IsNextList}
@@ -9,7 +9,8 @@ use Rattle.ln_verify.proofs.Values.Ranges.{not-true}
 use Rattle.ln_verify.proofs.kinds.order.Goals as goal
 
 pub returns-in_default : goal.returns-in_default
-returns-in_default c v = order-nowhere v (subject_of c.args.case.now) c.args.desk.now c.args.places.now c.args.list.now (sym c.before-2.ensures ∙ c.in_default.is)
+returns-in_default c v =
+    order-nowhere v (subject_of c.args.case.now) c.args.desk.now c.args.places.now c.args.list.now (sym c.before-2.ensures ∙ c.in_default.is)
 
 pub returns-then-n-len : goal.returns-then-n-len
 returns-then-n-len c v =
@@ -29,4 +30,5 @@ pub returns : goal.returns
 returns c v =
     let p = subject_of c.args.case.now in
     ordered v p c.args.desk.now c.in-Some.n c.args.places.now c.args.list.now (sym c.before-2.ensures ∙ c.in-Some.is)
-    (λ a. subst (λ (es : List Pairs). IsNextList p es c.in-Some.n c.args.places.now c.args.list.now) c.as_slice.ensures ((c.in_ok-is_next.ensures (subst (AreAbove (length p.vars)) (sym c.as_slice.ensures) a)).0 c.if-not-branch.false))
+    (λ a. subst (λ (es : List Pairs). IsNextList p es c.in-Some.n c.args.places.now c.args.list.now) c.as_slice.ensures
+    ((c.in_ok-is_next.ensures (subst (AreAbove (length p.vars)) (sym c.as_slice.ensures) a)).0 c.if-not-branch.false))

@@ -1,4 +1,4 @@
--- What is left to show of `range_line`.
+-- Answers to the goals of `range_line` in src/kinds.rt.
 use Rattle.std.proofs.Common.{List, FitsSigned, rules, subst}
 use Rattle.std.proofs.lemmas.Int.{to_z-of_z}
 use mir.Syntax.{w128}
@@ -14,4 +14,6 @@ returns c =
     let p : Range = record { low = c.args.low; high = c.args.high } in
     let f : FitsSigned w128 c.args.low = search rules in
     let k : FitsSigned w128 c.args.high = search rules in
-    subst (λ (vs : List VarInfo). BenchLed (version_of c.args.form) vs c.args.bench.now c.args.op p c.in_ok-ok.ok c.bench_op.new.bench) c.as_slice.ensures (c.in_ok-ok.ensures p (pair-said c.pair_of_ends-ends.result _ _ c.args.low c.args.high (to_z-of_z w128 c.args.low f) (to_z-of_z w128 c.args.high k) c.pair_of_ends-ends.ensures))
+    subst (λ (vs : List VarInfo). BenchLed (version_of c.args.form) vs c.args.bench.now c.args.op p c.in_ok-ok.ok c.bench_op.new.bench)
+    c.as_slice.ensures (c.in_ok-ok.ensures p (pair-said c.pair_of_ends-ends.result _ _ c.args.low c.args.high (to_z-of_z w128 c.args.low f)
+    (to_z-of_z w128 c.args.high k) c.pair_of_ends-ends.ensures))

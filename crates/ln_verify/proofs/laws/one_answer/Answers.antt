@@ -1,4 +1,4 @@
--- What is left to show of `one_answer`.
+-- Answers to the goals of `one_answer` in src/laws.rt.
 use Rattle.ln_verify.proofs.Validity.One.{one-answer}
 use Rattle.ln_verify.proofs.laws.one_answer.Goals as goal
 

@@ -1,4 +1,4 @@
--- What is left to show of `parts_are_named`.
+-- Answers to the goals of `parts_are_named` in src/laws.rt.
 use Rattle.ln_verify.proofs.Validity.Named.{parts-named}
 use Rattle.ln_verify.proofs.laws.parts_are_named.Goals as goal
 

@@ -1,4 +1,4 @@
--- What is left to show of `valid_parts_stand`.
+-- Answers to the goals of `valid_parts_stand` in src/laws.rt.
 use Rattle.ln_verify.proofs.Validity.Stand.{valid-stands}
 use Rattle.ln_verify.proofs.laws.valid_parts_stand.Goals as goal
 

@@ -1,4 +1,4 @@
--- What is left to show of `versions_follow`.
+-- Answers to the goals of `versions_follow` in src/laws.rt.
 use Rattle.std.proofs.Common.{refl}
 use Rattle.ln_verify.proofs.Engines.OnBounds.{is-on-bounds}
 use Rattle.ln_verify.proofs.Engines.Versions.{version-1-follows}

@@ -1,4 +1,4 @@
--- What is left to show of `cases_of`.
+-- Answers to the goals of `cases_of` in src/listings.rt.
 use Rattle.std.proofs.Common.{arith, sym, subst}
 use Rattle.ln_tree.specs.declared.pred.Pred.{Pred}
 use Rattle.ln_tree.specs.Table.{pred_of}
@@ -10,12 +10,14 @@ pub each-init : goal.each-init
 each-init c = cases-first c.args.preds.now c.new-cases.result.items c.new-cases.ensures.items
 
 pub case_of-requires : goal.case_of-requires
-case_of-requires c = subst (λ (p : Pred). IsAccepted (pred_of p)) (sym c.index-preds-i.is) (accepted-at c.args.preds.now c.each.i c.index-preds-i.result c.requires (omega (arith, c.each-test.true)))
+case_of-requires c = subst (λ (p : Pred). IsAccepted (pred_of p)) (sym c.index-preds-i.is)
+    (accepted-at c.args.preds.now c.each.i c.index-preds-i.result c.requires (omega (arith, c.each-test.true)))
 
 pub each-preserved : goal.each-preserved
 each-preserved c =
     let k = c.in_ok-case in
-    cases-next c.args.preds.now c.each.i c.index-preds-i.result c.each.cases.items c.push.new.self.items k.case (omega (arith, c.each-test.true)) c.index-preds-i.is c.in_ok-push.ensures.items c.each.invariant k.ensures.case (case-subject c.index-preds-i.result k.case k.ensures.shape k.ensures.normal)
+    cases-next c.args.preds.now c.each.i c.index-preds-i.result c.each.cases.items c.push.new.self.items k.case (omega (arith, c.each-test.true))
+    c.index-preds-i.is c.in_ok-push.ensures.items c.each.invariant k.ensures.case (case-subject c.index-preds-i.result k.case k.ensures.shape k.ensures.normal)
 
 pub returns-clause-cases : goal.returns-clause-cases
 returns-clause-cases c = c.each.invariant.0

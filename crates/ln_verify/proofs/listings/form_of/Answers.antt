@@ -1,4 +1,4 @@
--- What is left to show of `form_of`.
+-- Answers to the goals of `form_of` in src/listings.rt.
 use Rattle.ln_verify.proofs.Judging.Subjects.{rules-1, rules-2}
 use Rattle.ln_verify.proofs.listings.form_of.Goals as goal
 

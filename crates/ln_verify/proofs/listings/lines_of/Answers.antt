@@ -1,4 +1,4 @@
--- What is left to show of `lines_of`.
+-- Answers to the goals of `lines_of` in src/listings.rt.
 use Rattle.std.proofs.Common.{arith, ap, length, subst, sym}
 use Rattle.ln_cert.specs.Listing.{AreNumbered}
 use Rattle.ln_verify.proofs.Judging.Entries.{entries-few}

@@ -1,4 +1,4 @@
--- What is left to show of `allowed_size`.
+-- Answers to the goals of `allowed_size` in src/makers.rt.
 use Rattle.std.proofs.Common.{◌∙◌, subst, sym, ℕ}
 use Rattle.ln_interval.specs.View.{range}
 use Rattle.ln_bound.specs.Typed.{range_of}
@@ -19,7 +19,8 @@ returns-then-not-is_allowed c h =
     let r = range_of c.args.t p q in
     let o = range-ordered c.args.t p q c.args.x.now.pair.ordered c.args.y.now.pair.ordered in
     let e = under-most _ _ c.joined_size-size.ensures h.allows.2 in
-    not-true _ (sym c.if-not-is_allowed.true ∙ (c.is_allowed.ensures.value r (c.is_covered.ensures r o c.joined_pair.ensures)).1 (subst (λ (s : ℕ). Allows r (range c.args.b) c.args.w s) (sym e) h.allows))
+    not-true _ (sym c.if-not-is_allowed.true ∙ (c.is_allowed.ensures.value r (c.is_covered.ensures r o c.joined_pair.ensures)).1
+    (subst (λ (s : ℕ). Allows r (range c.args.b) c.args.w s) (sym e) h.allows))
 
 pub returns : goal.returns
 returns c =

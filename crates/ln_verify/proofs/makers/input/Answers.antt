@@ -1,4 +1,4 @@
--- What is left to show of `input`.
+-- Answers to the goals of `input` in src/makers.rt.
 use Rattle.std.proofs.Common.{◌∙◌, ap, length, sym}
 use Rattle.std.proofs.lemmas.Option.{slice_get_within}
 use Rattle.ln_algebra.specs.Tree.{Input}
@@ -12,7 +12,8 @@ use Rattle.ln_verify.proofs.makers.input.Goals as goal
 
 pub returns-then-not-is_allowed : goal.returns-then-not-is_allowed
 returns-then-not-is_allowed c =
-    input-no (version_of c.args.form) c.args.vars.now c.args.k (range c.args.b) c.in-Some.i c.least-width.result c.input_size-size.result (sym c.in-Some.is ∙ c.variable.ensures) (c.least-width.ensures ∙ ap least c.magnitude.ensures.value) c.input_size-size.ensures.value
+    input-no (version_of c.args.form) c.args.vars.now c.args.k (range c.args.b) c.in-Some.i c.least-width.result c.input_size-size.result
+    (sym c.in-Some.is ∙ c.variable.ensures) (c.least-width.ensures ∙ ap least c.magnitude.ensures.value) c.input_size-size.ensures.value
     (λ a. not-true _ (sym c.if-not-is_allowed.true ∙ (c.is_allowed.ensures.value ((version_of c.args.form).range c.in-Some.i) c.covers_input.ensures).1 a))
 
 pub kept-requires-clause-heavy : goal.kept-requires-clause-heavy
@@ -21,6 +22,8 @@ kept-requires-clause-heavy c = input-heavy c.args.k c.input_size-size.result c.i
 pub returns : goal.returns
 returns c =
     let n = length c.args.vars.now in
-    input-yes (version_of c.args.form) c.args.vars.now c.args.k (range c.args.b) c.in-Some.i c.least-width.result c.input_size-size.result (sym c.in-Some.is ∙ c.variable.ensures) (c.least-width.ensures ∙ ap least c.magnitude.ensures.value) c.input_size-size.ensures.value c.kept.result
+    input-yes (version_of c.args.form) c.args.vars.now c.args.k (range c.args.b) c.in-Some.i c.least-width.result c.input_size-size.result
+    (sym c.in-Some.is ∙ c.variable.ensures) (c.least-width.ensures ∙ ap least c.magnitude.ensures.value) c.input_size-size.ensures.value c.kept.result
     ((c.is_allowed.ensures.value ((version_of c.args.form).range c.in-Some.i) c.covers_input.ensures).0 c.if-not-is_allowed.false)
-    (c.kept.ensures n (Input c.args.k) (input-at n c.args.k c.in_ok-h.h (slice_get_within c.args.vars.now c.args.k c.in-Some.i (sym c.variable.ensures ∙ c.in-Some.is)) c.in_ok-h.ensures))
+    (c.kept.ensures n (Input c.args.k)
+    (input-at n c.args.k c.in_ok-h.h (slice_get_within c.args.vars.now c.args.k c.in-Some.i (sym c.variable.ensures ∙ c.in-Some.is)) c.in_ok-h.ensures))

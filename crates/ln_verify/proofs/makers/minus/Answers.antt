@@ -1,4 +1,4 @@
--- What is left to show of `minus`.
+-- Answers to the goals of `minus` in src/makers.rt.
 use Rattle.std.proofs.Common.{◌≡◌, ◌↔◌, ◌∙◌, ap, arith, subst, sym}
 use Rattle.std.specs.Prelude.{IsTrue}
 use Rattle.ln_algebra.specs.Tree.{Neg}
@@ -17,7 +17,8 @@ returns-then-not-no_wider c v vars n k f = minus-wide n c.args.x k (range c.args
 pub returns-then-not-is_allowed : goal.returns-then-not-is_allowed
 returns-then-not-is_allowed c v vars n k f =
     minus-no n c.args.x k (range c.args.b) c.args.w f (sym c.no_wider.ensures ∙ c.if-not-no_wider.false)
-    (λ a. not-true _ (sym c.if-not-is_allowed.true ∙ (c.is_allowed.ensures.value (opposite (range c.args.x.pair)) (subst (λ (r : Range). IsTrue c.covers.result ↔ Covers (range c.args.b) r) c.neg.ensures c.covers.ensures)).1 a))
+    (λ a. not-true _ (sym c.if-not-is_allowed.true ∙ (c.is_allowed.ensures.value (opposite (range c.args.x.pair))
+    (subst (λ (r : Range). IsTrue c.covers.result ↔ Covers (range c.args.b) r) c.neg.ensures c.covers.ensures)).1 a))
 
 pub kept-requires-clause-heavy : goal.kept-requires-clause-heavy
 kept-requires-clause-heavy c =
@@ -27,5 +28,6 @@ kept-requires-clause-heavy c =
 pub returns : goal.returns
 returns c v vars n k f =
     minus-yes n c.args.x k (range c.args.b) c.args.w f c.kept.result (sym c.no_wider.ensures ∙ c.if-not-no_wider.false)
-    ((c.is_allowed.ensures.value (opposite (range c.args.x.pair)) (subst (λ (r : Range). IsTrue c.covers.result ↔ Covers (range c.args.b) r) c.neg.ensures c.covers.ensures)).0 c.if-not-is_allowed.false)
+    ((c.is_allowed.ensures.value (opposite (range c.args.x.pair))
+    (subst (λ (r : Range). IsTrue c.covers.result ↔ Covers (range c.args.b) r) c.neg.ensures c.covers.ensures)).0 c.if-not-is_allowed.false)
     (c.kept.ensures n (Neg k.tree) (negated-normal n k.tree c.args.x.poly c.opposite-h.result f.normal c.opposite-h.ensures))

@@ -1,4 +1,4 @@
--- What is left to show of `number`.
+-- Answers to the goals of `number` in src/makers.rt.
 use Rattle.std.proofs.Common.{◌≡◌, ◌≢◌, ◌<◌, ◌^◌, ◌∙◌, [], ◌∷◌, ap, arith, rules, sym, unsigned_abs, FitsSigned}
 use Rattle.std.proofs.lemmas.Int.{to_z-of_z}
 use Rattle.std.specs.Prelude.{pos}
@@ -15,8 +15,10 @@ use Rattle.ln_verify.proofs.makers.number.Goals as goal
 pub returns-then-not-is_allowed : goal.returns-then-not-is_allowed
 returns-then-not-is_allowed c v vars n =
     let f : FitsSigned w128 c.args.c = search rules in
-    number-no n c.args.c (range c.args.b) c.least-width.result c.unsigned_abs-size.result (c.least-width.ensures ∙ ap least c.magnitude.ensures.value) (c.unsigned_abs-size.ensures.value ∙ ap unsigned_abs (to_z-of_z w128 c.args.c f))
-    (λ a. not-true _ (sym c.if-not-is_allowed.true ∙ (c.is_allowed.ensures.value (point c.args.c) (rw (to_z-of_z w128 c.args.c f) at c.covers_number.ensures)).1 a))
+    number-no n c.args.c (range c.args.b) c.least-width.result c.unsigned_abs-size.result
+    (c.least-width.ensures ∙ ap least c.magnitude.ensures.value) (c.unsigned_abs-size.ensures.value ∙ ap unsigned_abs (to_z-of_z w128 c.args.c f))
+    (λ a. not-true _ (sym c.if-not-is_allowed.true
+    ∙ (c.is_allowed.ensures.value (point c.args.c) (rw (to_z-of_z w128 c.args.c f) at c.covers_number.ensures)).1 a))
 
 pub kept-requires-clause-heavy : goal.kept-requires-clause-heavy
 kept-requires-clause-heavy c =
@@ -35,6 +37,7 @@ returns c v vars n =
     let m = c.is_allowed.ensures.small c.if-not-is_allowed.false in
     let e : c.unsigned_abs-size.result ≡ unsigned_abs c.args.c = c.unsigned_abs-size.ensures.value ∙ ap unsigned_abs (to_z-of_z w128 c.args.c f) in
     let l : unsigned_abs c.args.c < 2 ^ 127 = omega (arith, m, e) in
-    number-yes n c.args.c (range c.args.b) c.least-width.result c.unsigned_abs-size.result (c.least-width.ensures ∙ ap least c.magnitude.ensures.value) (c.unsigned_abs-size.ensures.value ∙ ap unsigned_abs (to_z-of_z w128 c.args.c f)) c.kept.result
+    number-yes n c.args.c (range c.args.b) c.least-width.result c.unsigned_abs-size.result (c.least-width.ensures ∙ ap least c.magnitude.ensures.value)
+    (c.unsigned_abs-size.ensures.value ∙ ap unsigned_abs (to_z-of_z w128 c.args.c f)) c.kept.result
     ((c.is_allowed.ensures.value (point c.args.c) (rw (to_z-of_z w128 c.args.c f) at c.covers_number.ensures)).0 c.if-not-is_allowed.false)
     (c.kept.ensures n (Num c.args.c) (number-normal n c.args.c c.in_ok-h.h l z s))

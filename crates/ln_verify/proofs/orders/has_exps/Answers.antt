@@ -1,4 +1,4 @@
--- What is left to show of `has_exps`.
+-- Answers to the goals of `has_exps` in src/orders.rt.
 use Rattle.std.proofs.Common.{◌≡◌, ℕ, ◌≤◌, false, [], arith}
 use Rattle.std.specs.Prelude.{nat_lt}
 use Rattle.ln_tree.specs.Exps.{same_pairs}
@@ -10,7 +10,8 @@ pub returns-in-Some : goal.returns-in-Some
 returns-in-Some c n all above =
     let l = c.in-Some.ensures.lookup in
     let t : c.eq.result ≡ same_pairs c.in-Some.e.now c.args.a.now = rw (← c.pairs.ensures.value, ← c.pairs-in-Some.ensures.value) c.eq.ensures in
-    has-vector n c.args.exps.now c.args.k c.in-Some.e.now c.args.a.now c.eq.result all above c.pairs.ensures.rising c.pairs-in-Some.ensures.rising l.0 (l.3.1 []) t
+    has-vector n c.args.exps.now c.args.k c.in-Some.e.now c.args.a.now c.eq.result all above c.pairs.ensures.rising
+    c.pairs-in-Some.ensures.rising l.0 (l.3.1 []) t
 
 pub returns-in-None : goal.returns-in-None
 returns-in-None c n all above =

@@ -1,4 +1,4 @@
--- What is left to show of `is_next`.
+-- Answers to the goals of `is_next` in src/orders.rt.
 use Rattle.std.proofs.Common.{◌≡◌, ◌∙◌, ◌↔◌, ℕ, List, arith, length, map, subst, sym, true, false, ◌≤◌, ◌<◌}
 use Rattle.std.proofs.lemmas.Bool.Decides.{nat_tests}
 use Rattle.std.proofs.lemmas.Option.{get_or_from_slice_get, slice_get_within}
@@ -21,15 +21,19 @@ past : (k m : ℕ) → false ≡ nat_lt k m → m ≤ k
 past k m h = grind (arith, nat_tests)
 
 order-size : (sites before : ℕ) (o : List ℕ) → slice_get (orders_of sites) before ≡ Some o → length o ≡ sites
-order-size sites before o at = (member-is sites o (before, slice_get_within (orders_of sites) before o at, get_or_from_slice_get (orders_of sites) before o o at)).size
+order-size sites before o at =
+    (member-is sites o (before, slice_get_within (orders_of sites) before o at, get_or_from_slice_get (orders_of sites) before o o at)).size
 
 one-order : (o p : List ℕ) → Some o ≡ Some p → o ≡ p
 one-order o p e = cc
 
 pub returns-in_default : goal.returns-in_default
 returns-in_default c a =
-    let e = subst (λ (xs : List Order). map order_places xs ≡ orders_of c.args.case.now.shape.sites) (sym c.as_slice.ensures) c.requires.ordered in
-    (λ h. not-true _ h, λ h. absurd (order-none c.as_slice.result.now c.args.case.now.shape.sites c.args.before c.args.places.now e (past _ _ c.in_default.ensures.lookup.0) h.order))
+    let e = subst (λ (xs : List Order). map order_places xs ≡ orders_of c.args.case.now.shape.sites) (sym c.as_slice.ensures) c.requires.ordered in (
+      λ h. not-true _ h,
+      λ h. absurd (order-none c.as_slice.result.now c.args.case.now.shape.sites c.args.before c.args.places.now e
+          (past _ _ c.in_default.ensures.lookup.0) h.order),
+    )
 
 pub returns-then-not-is_order : goal.returns-then-not-is_order
 returns-then-not-is_order c a =
@@ -37,8 +41,10 @@ returns-then-not-is_order c a =
     let o = c.in-Some.o.now in
     let l = c.in-Some.ensures.lookup in
     let e = subst (λ (xs : List Order). map order_places xs ≡ orders_of c.args.case.now.shape.sites) (sym c.as_slice.ensures) c.requires.ordered in
-    let at = order-at c.as_slice.result.now case.shape.sites c.args.before o e (below _ _ l.0) (l.3.1 o) in
-    (λ h. not-true _ h, λ h. absurd (not-true _ (sym c.if-not-is_order.true ∙ c.is_order.ensures.1 (one-order (order_places o) c.args.places.now (sym at ∙ h.order)))))
+    let at = order-at c.as_slice.result.now case.shape.sites c.args.before o e (below _ _ l.0) (l.3.1 o) in (
+      λ h. not-true _ h,
+      λ h. absurd (not-true _ (sym c.if-not-is_order.true ∙ c.is_order.ensures.1 (one-order (order_places o) c.args.places.now (sym at ∙ h.order)))),
+    )
 
 pub stage_list-requires : goal.stage_list-requires
 stage_list-requires c =
@@ -57,7 +63,8 @@ same_stages-requires c =
     let e = subst (λ (xs : List Order). map order_places xs ≡ orders_of c.args.case.now.shape.sites) (sym c.as_slice.ensures) c.requires.ordered in
     let at = order-at c.as_slice.result.now case.shape.sites c.args.before o e (below _ _ l.0) (l.3.1 o) in
     let v = c.as_slice-2.ensures.value ∙ c.in_ok-numbers.ensures in
-    subst (λ (xs : List ℕ). All (λ i. i < length c.args.case.now.stages.exps) xs) (sym v) (numbers-are (subject_of case) case.stages case.shape.kept c.requires.staged c.args.before (order_places o) at)
+    subst (λ (xs : List ℕ). All (λ i. i < length c.args.case.now.stages.exps) xs) (sym v)
+    (numbers-are (subject_of case) case.stages case.shape.kept c.requires.staged c.args.before (order_places o) at)
 
 pub returns : goal.returns
 returns c above =
@@ -68,6 +75,8 @@ returns c above =
     let at = order-at c.as_slice.result.now case.shape.sites c.args.before o e (below _ _ l.0) (l.3.1 o) in
     let v = c.as_slice-2.ensures.value ∙ c.in_ok-numbers.ensures in
     let t = subst
-    (λ (xs : List ℕ). (n : ℕ) → All (λ (x : Pairs). IsAbove x n) c.args.exps.now → All (λ (x : Pairs). IsAbove x n) c.args.case.now.stages.exps → (c.same_stages.result ≡ true) ↔ SameStages n c.args.exps.now c.args.case.now.stages.exps c.args.list.now xs)
+    (λ (xs : List ℕ). (n : ℕ) → All (λ (x : Pairs). IsAbove x n) c.args.exps.now → All (λ (x : Pairs). IsAbove x n) c.args.case.now.stages.exps
+    → (c.same_stages.result ≡ true) ↔ SameStages n c.args.exps.now c.args.case.now.stages.exps c.args.list.now xs)
     v c.same_stages.ensures in
-    tested (subject_of case) case.stages case.shape.kept c.requires.staged c.args.before (order_places o) at c.args.exps.now c.args.list.now c.args.places.now c.same_stages.result (c.is_order.ensures.0 c.if-not-is_order.false) above t
+    tested (subject_of case) case.stages case.shape.kept c.requires.staged c.args.before (order_places o) at c.args.exps.now c.args.list.now
+    c.args.places.now c.same_stages.result (c.is_order.ensures.0 c.if-not-is_order.false) above t

@@ -1,4 +1,4 @@
--- The loop of `stage_list`.
+-- States the invariant of the loop of `stage_list`: the list holds the segments of the prefixes so far, one after the other.
 use Rattle.std.proofs.Common.{◌≡◌, map, take}
 use Rattle.std.specs.List.{range_with_len}
 use Rattle.ln_order.specs.Places.{order_places}

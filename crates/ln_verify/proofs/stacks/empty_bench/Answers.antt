@@ -1,4 +1,4 @@
--- What is left to show of `empty_bench`.
+-- Answers to the goals of `empty_bench` in src/stacks.rt.
 use Rattle.ln_verify.proofs.Engines.Empty.{bench-empty}
 use Rattle.ln_verify.proofs.stacks.empty_bench.Goals as goal
 

@@ -1,4 +1,4 @@
--- What is left to show of `empty_tray`.
+-- Answers to the goals of `empty_tray` in src/stacks.rt.
 use Rattle.ln_verify.proofs.Engines.Empty.{tray-empty}
 use Rattle.ln_verify.proofs.stacks.empty_tray.Goals as goal
 

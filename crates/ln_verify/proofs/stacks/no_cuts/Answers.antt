@@ -1,4 +1,4 @@
--- What is left to show of `no_cuts`.
+-- Answers to the goals of `no_cuts` in src/stacks.rt.
 use Rattle.std.proofs.Common.{◌≡◌, ap, arith, ◌∙◌, ◌++◌, ◌∷◌, []}
 use Rattle.std.specs.Prelude.{replicate, None}
 use Rattle.ln_verify.proofs.Engines.Empty.{replicate-more}

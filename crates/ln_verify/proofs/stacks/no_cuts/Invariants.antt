@@ -1,4 +1,4 @@
--- The loop of `no_cuts`.
+-- States the invariant of the loop of `no_cuts`: no local so far is set.
 use Rattle.std.proofs.Common.{◌≡◌}
 use Rattle.std.specs.Prelude.{replicate, None}
 use Rattle.ln_verify.proofs.stacks.no_cuts.Given as goal

@@ -1,4 +1,4 @@
--- The loop of `no_values`.
+-- States the invariant of the loop of `no_values`: no local so far is set.
 use Rattle.std.proofs.Common.{◌≡◌}
 use Rattle.std.specs.Prelude.{replicate, None}
 use Rattle.ln_verify.proofs.stacks.no_values.Given as goal

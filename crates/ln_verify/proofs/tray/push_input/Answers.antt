@@ -1,4 +1,4 @@
--- What is left to show of `push_input`.
+-- Answers to the goals of `push_input` in src/tray.rt.
 use Rattle.std.proofs.Common.{length, refl}
 use Rattle.ln_code.specs.declared.op.Op.TheVariants.{Input}
 use Rattle.ln_verify.specs.Cuts.{IsCut}
@@ -12,4 +12,6 @@ pub returns : goal.returns
 returns c s i =
     let n = length c.args.vars.now in
     let e = triple_rules (version_of c.args.form) c.args.vars.now in
-    pushed-came (IsCut n) filter_tree_of n e (λ j. refl) s (Input c.args.k) c.args.a refl s.stack c.args.tray.now.stack.items i.stack c.args.tray.now.locals.items i.size i.locals c.in_ok-v.v (e.input c.args.k c.args.a) c.push_cut.new.stack.items c.in_ok-ok.ok refl c.in_ok-v.ensures c.in_ok-ok.ensures
+    pushed-came (IsCut n) filter_tree_of n e (λ j. refl) s
+    (Input c.args.k) c.args.a refl s.stack c.args.tray.now.stack.items i.stack c.args.tray.now.locals.items i.size i.locals c.in_ok-v.v
+    (e.input c.args.k c.args.a) c.push_cut.new.stack.items c.in_ok-ok.ok refl c.in_ok-v.ensures c.in_ok-ok.ensures

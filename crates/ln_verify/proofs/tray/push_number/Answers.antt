@@ -1,4 +1,4 @@
--- What is left to show of `push_number`.
+-- Answers to the goals of `push_number` in src/tray.rt.
 use Rattle.std.proofs.Common.{FitsSigned, length, refl, rules, subst}
 use Rattle.std.specs.Prelude.{ℤ}
 use Rattle.std.proofs.lemmas.Int.{to_z-of_z}
@@ -16,4 +16,6 @@ returns c v vars s i =
     let n = length vars in
     let f : FitsSigned w128 c.args.c = search rules in
     let m = subst (λ (z : ℤ). MakesCut n c.in_ok-v.v ((triple_rules v vars).push z c.args.a)) (to_z-of_z w128 c.args.c f) (c.in_ok-v.ensures v vars n) in
-    pushed-came (IsCut n) filter_tree_of n (triple_rules v vars) (λ j. refl) s (Push c.args.c) c.args.a refl s.stack c.args.tray.now.stack.items i.stack c.args.tray.now.locals.items i.size i.locals c.in_ok-v.v ((triple_rules v vars).push c.args.c c.args.a) c.push_cut.new.stack.items c.in_ok-ok.ok refl m c.in_ok-ok.ensures
+    pushed-came (IsCut n) filter_tree_of n (triple_rules v vars) (λ j. refl) s
+    (Push c.args.c) c.args.a refl s.stack c.args.tray.now.stack.items i.stack c.args.tray.now.locals.items i.size i.locals c.in_ok-v.v
+    ((triple_rules v vars).push c.args.c c.args.a) c.push_cut.new.stack.items c.in_ok-ok.ok refl m c.in_ok-ok.ensures

@@ -1,4 +1,4 @@
--- What is left to show of `with_one`.
+-- Answers to the goals of `with_one` in src/tray.rt.
 use Rattle.std.proofs.Common.{length, refl}
 use Rattle.ln_code.specs.declared.op.Op.TheVariants.{Neg}
 use Rattle.ln_verify.specs.Cuts.{IsCut}
@@ -13,5 +13,7 @@ returns c v vars s i =
     let e = triple_rules v vars in
     let mid = c.pop_cut.new.stack.items in
     let o = popped (IsCut n) c.args.tray.now.stack.items mid c.in-Some.x s.stack c.in-Some.ensures i.stack in
-    pushed-came (IsCut n) filter_tree_of n e (λ j. refl) s (Neg c.args.w) c.args.a refl o.rest mid o.below c.args.tray.now.locals.items i.size i.locals c.in_ok-v.v (e.minus c.args.w c.args.a o.top) c.push_cut.new.stack.items c.in_ok-ok.ok
-    (one-step (IsCut n) filter_tree_of n e (λ j. refl) c.args.w c.args.a s.locals s.stack o.rest o.top o.is) (c.in_ok-v.ensures v vars n o.top o.for_it) c.in_ok-ok.ensures
+    pushed-came (IsCut n) filter_tree_of n e (λ j. refl) s (Neg c.args.w) c.args.a refl o.rest mid o.below c.args.tray.now.locals.items
+    i.size i.locals c.in_ok-v.v (e.minus c.args.w c.args.a o.top) c.push_cut.new.stack.items c.in_ok-ok.ok
+    (one-step (IsCut n) filter_tree_of n e (λ j. refl) c.args.w c.args.a s.locals s.stack o.rest o.top o.is)
+    (c.in_ok-v.ensures v vars n o.top o.for_it) c.in_ok-ok.ensures

@@ -20,13 +20,16 @@ unreachable-requires c =
 pub invariant_of-self : goal.invariant_of-self
 invariant_of-self c =
     let u : Unread = record { version = c.self.inside.version; state = c.self.inside.state; line = c.self.inside.line; text = c.self.inside.text.now } in
-    let w : Unread = record { version = c.self.inside.version; state = c.in-Some.state; line = c.self.inside.line + 1; text = c.after-self-inside.result.now } in
-    still_unread u w c.in-Some.part c.in-Some.state c.in-Some.count c.self.invariant (rw c.in-Some.is at c.in_ok-read.ensures) refl refl refl c.after-self-inside.ensures
+    let w : Unread =
+    record { version = c.self.inside.version; state = c.in-Some.state; line = c.self.inside.line + 1; text = c.after-self-inside.result.now } in
+    still_unread u w c.in-Some.part c.in-Some.state c.in-Some.count c.self.invariant
+    (rw c.in-Some.is at c.in_ok-read.ensures) refl refl refl c.after-self-inside.ensures
 
 pub returns-clause-takes : goal.returns-clause-takes
 returns-clause-takes c =
     let u : Unread = record { version = c.self.inside.version; state = c.self.inside.state; line = c.self.inside.line; text = c.self.inside.text.now } in
-    let w : Unread = record { version = c.self.inside.version; state = c.in-Some.state; line = c.self.inside.line + 1; text = c.after-self-inside.result.now } in
+    let w : Unread =
+    record { version = c.self.inside.version; state = c.in-Some.state; line = c.self.inside.line + 1; text = c.after-self-inside.result.now } in
     let x : Entry = record { line = c.self.inside.line; part = c.in-Some.part } in
     let e : c.args.self.now ≡ u = cc in
     subst (λ (y : Unread). IsTaken y x w) (sym e)

@@ -1,4 +1,4 @@
--- What is left to show of `taken`.
+-- Answers to the goals of `taken` in src/held.rt.
 use Rattle.std.proofs.Common.{◌∙◌, ap}
 use Rattle.ln_poly.specs.Sparse.{Sparse, negated}
 use Rattle.ln_verify.specs.Signed.{signed}
