@@ -1,4 +1,4 @@
--- What a table knows of a predicate of three sites of one type.
+-- Proves what a table knows of a predicate of three sites of one type.
 use Rattle.std.proofs.Common.{◌≡◌, ℕ, zero, suc, List, [], ◌∷◌, Option, Some, refl, ap}
 use Rattle.std.proofs.Common.{◌∙◌, subst}
 use Rattle.std.specs.Prelude.{slice_get, count_by}

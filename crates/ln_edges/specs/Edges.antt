@@ -46,6 +46,7 @@ three_of cs = site_vars 0 0 0 cs ++ (site_vars 1 1 0 cs ++ (site_vars 2 2 0 cs +
 abbrev pub width : List VarInfo → ℕ
 width vars = length vars / 3
 
+-- the points that are kept, each with as many coordinates as one of the three sites over these variables has
 abbrev pub points_in : List VarInfo → List Point → List PointOf
 points_in vars points = map (point_of (width vars)) points
 
@@ -62,6 +63,7 @@ pub record AreFor (sites : ℕ) (vars : List VarInfo) (ps : List PointOf) : Type
   pub narrow : length type ≤ 32
   pub points : ArePoints type ps
 
+-- the part is over three sites of one type, and the points that are kept are points of it
 abbrev pub ArePointsFor : Part → List Point → Type 0
 ArePointsFor part points = AreFor part.shape.sites part.shape.vars (points_in part.shape.vars points)
 
@@ -69,6 +71,7 @@ ArePointsFor part points = AreFor part.shape.sites part.shape.vars (points_in pa
 abbrev pub IsPlus : Part → Row → Type 0
 IsPlus part row = (v : Verdict) × IsVerdict part row v × (v.sign ≡ Plus)
 
+-- the machine's sign on the row of points i, j and k is plus
 abbrev pub IsPlusOn : Part → List PointOf → ℕ → ℕ → ℕ → Type 0
 IsPlusOn part ps i j k = IsPlus part (row_with (point_at ps i ∷ point_at ps j ∷ point_at ps k ∷ []))
 

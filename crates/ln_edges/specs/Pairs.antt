@@ -6,6 +6,7 @@ pub record Pair : Type 0 where
   pub from : ℕ
   pub to : ℕ
 
+-- the pair of places i and j, in this order
 abbrev pub pair : ℕ → ℕ → Pair
 pair i j = record { from = i; to = j }
 

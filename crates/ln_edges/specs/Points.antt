@@ -19,6 +19,7 @@ point_of n p = record { index = p.index; coords = take n p.values }
 abbrev pub IsZeroAfter : ℕ → Point → Type 0
 IsZeroAfter n p = (k : ℕ) → n ≤ k → slice_index_or p.values k (pos 0) ≡ pos 0
 
+-- the point with index 0 and no coordinates, for a place past the end of a list
 abbrev pub no_point : PointOf
 no_point = record { index = pos 0; coords = [] }
 

@@ -20,6 +20,7 @@ coords_of s = (site_of s).coords
 abbrev pub point_for : Site → Point → PointOf
 point_for s = point_of (length (coords_of s))
 
+-- the points of the type that are kept, in order
 abbrev pub points_for : Site → List Point → List PointOf
 points_for s ps = map (point_for s) ps
 
@@ -37,6 +38,7 @@ numbers_in [] (f ∷ fs) = None
 numbers_in (c ∷ cs) [] = None
 numbers_in (c ∷ cs) (f ∷ fs) = both (number_in c.lo c.hi f) (numbers_in cs fs)
 
+-- the point with this index and these coordinates, where all of them are there
 abbrev pub pointed : Result ℤ NumberStop → Option (List ℤ) → Option PointOf
 pointed (Err e) zs = None
 pointed (Ok z) None = None

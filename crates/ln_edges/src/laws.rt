@@ -1,4 +1,4 @@
-//! The laws of edges.
+//! States the laws of edges: a program finds exactly the edges of a set of points, and a points file is read in one way.
 ghost use Rattle.ln_edges.specs.Law.{LinesAreOfEdges, MachineFindsEdges, PointsSuit};
 ghost use Rattle.ln_edges.specs.Read.{PointFaultIsOne, PointsAreOne, PointsHaveNoFault};
 ghost use Rattle.ln_edges.specs.Three.{TablesGiveThree};
@@ -14,7 +14,7 @@ pub fn program_finds_edges()
 
 /// Records are one list of points, or one of them is the first that is no point, and not both.
 ///
-/// From it follows that a points file has one answer.
+/// It follows that a points file has one result.
 pub fn records_are_read_one_way()
     ensures points { PointsAreOne }
     ensures fault { PointFaultIsOne }

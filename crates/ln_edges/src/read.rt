@@ -76,7 +76,7 @@ pub fn read_point(site: &Site, fields: &ByteRecord) -> Option<Point>
     point_over(coords, fields)
 }
 
-/// What the records after the header are.
+/// The records after the header.
 #[derive(Drop)]
 pub enum Found {
     /// Points, at most 256, whose indices differ.
@@ -146,7 +146,7 @@ fn take_record(
     }
 }
 
-// What was found, where there are at most 256 records.
+// Returns what was found, where there are at most 256 records.
 fn make_found(points: Vec<Point>, fault: Option<u32>) -> Found
     ensures { (cs : List CoordOf) (records : Records) → length records ≤ 256
         → Stands cs records (map (point_of (length cs)) points.items) fault → IsFound cs records result }

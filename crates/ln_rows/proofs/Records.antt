@@ -1,4 +1,4 @@
--- Records of a text, one behind the other.
+-- Records of a text, one after the other.
 pub mod FirstLemmas
 pub mod MachineLemmas
 pub mod PlainLemmas

@@ -22,6 +22,7 @@ abbrev pub param_columns : Option Param → List (List ℕ)
 param_columns None = []
 param_columns (Some p) = name_bytes p.name ∷ []
 
+-- the columns of an argument: those of a site, by its type, or that of a param
 abbrev pub arg_columns : List Site → List Param → Arg → List (List ℕ)
 arg_columns sites params (SiteArg n t) = site_columns n (slice_get sites t)
 arg_columns sites params (ParamArg p) = param_columns (slice_get params p)
@@ -30,11 +31,11 @@ arg_columns sites params (ParamArg p) = param_columns (slice_get params p)
 abbrev pub column_names : List Site → List Param → List Arg → List (List ℕ)
 column_names sites params args = flat_map (arg_columns sites params) args
 
--- these names stand among the fields from place `at` on, and `to` is the place behind them
+-- these names are among the fields from place `at` on, and `to` is the place after them
 abbrev pub StandAt : List (List ℕ) → List (List ℕ) → ℕ → ℕ → Type 0
 StandAt names fields at to = (drop at fields ≡ names ++ drop to fields) × (at ≤ length fields → to ≤ length fields)
 
--- the place behind these names, where they stand from place `at` on
+-- the place after these names, where they are from place `at` on
 abbrev pub Passes : List (List ℕ) → List (List ℕ) → ℕ → Option ℕ → Type 0
 Passes names fields at None = (rest : List (List ℕ)) → drop at fields ≢ names ++ rest
 Passes names fields at (Some to) = StandAt names fields at to

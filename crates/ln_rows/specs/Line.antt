@@ -5,6 +5,7 @@ use Rattle.std.specs.Prelude.{ℕ, ◌==◌, ◌||◌, ◌++◌, Bool, not, if�
 abbrev pub is_unquoted : ℕ → Bool
 is_unquoted b = not (b == 34 || b == 10 || b == 13)
 
+-- anything but a comma
 abbrev pub is_no_comma : ℕ → Bool
 is_no_comma b = not (b == 44)
 

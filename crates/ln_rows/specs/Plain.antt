@@ -9,7 +9,7 @@ use Rattle.ln_rows.specs.Left.{Records, Gives}
 use Rattle.ln_rows.specs.Number.{within, number_in}
 use Rattle.ln_rows.specs.Record.{columns, IsRead}
 
--- digits stand in front of a text, at most 18, with this value, and this is behind them
+-- a text begins with digits, at most 18, with this value, and this is after them
 pub record HasDigits (text : List ℕ) (n : ℕ) (rest : List ℕ) : Type 0 where
   pub digits : List ℕ
   pub is : text ≡ digits ++ rest
@@ -17,6 +17,7 @@ pub record HasDigits (text : List ℕ) (n : ℕ) (rest : List ℕ) : Type 0 wher
   pub few : length digits ≤ 18
   pub value : n ≡ decimal_value digits
 
+-- the number n, or its opposite where the sign is negative
 abbrev pub signed_of : Bool → ℕ → ℤ
 signed_of true n = neg_ℤ (pos n)
 signed_of false n = pos n
@@ -35,11 +36,12 @@ pub record IsInner (b : ℕ) : Type 0 where
   pub feed : b ≢ 10
   pub return_ : b ≢ 13
 
+-- each of these bytes is in a field without quotes, and none is its end
 abbrev pub AreInner : List ℕ → Type 0
 AreInner [] = Unit {0}
 AreInner (b ∷ bs) = IsInner b × AreInner bs
 
--- a field of such bytes stands in front of a text, which says this number from lo to hi, and this is behind it
+-- a text begins with a field of such bytes, which says this number from lo to hi, and this is after it
 pub record HasNumber (text : List ℕ) (lo hi z : ℤ) (rest : List ℕ) : Type 0 where
   pub first : ℕ
   pub others : List ℕ
@@ -47,20 +49,20 @@ pub record HasNumber (text : List ℕ) (lo hi z : ℤ) (rest : List ℕ) : Type 
   pub inner : AreInner (first ∷ others)
   pub says : number_in lo hi (first ∷ others) ≡ Ok z
 
--- a line feed or a return stands in front of a text, and this is behind it
+-- a text begins with a line feed or a return, and this is after it
 abbrev pub PastFeed : List ℕ → List ℕ → Type 0
 PastFeed text rest = (text ≡ 10 ∷ rest) ⊎ (text ≡ 13 ∷ rest)
 
--- the end of a record stands in front of a text, and this is behind it
+-- a text begins with the end of a record, and this is after it
 abbrev pub PastEnd : List ℕ → List ℕ → Type 0
 PastEnd text rest = PastFeed text rest ⊎ ((text ≡ []) × (rest ≡ []))
 
--- a comma, or the end of a record, stands in front of a text
+-- a text begins with a comma, or with the end of a record
 abbrev pub IsPast : Bool → List ℕ → List ℕ → Type 0
 IsPast true text rest = PastEnd text rest
 IsPast false text rest = text ≡ 44 ∷ rest
 
--- such a field and a comma, or the end of the record, and this is behind them
+-- such a field and a comma, or the end of the record, and this is after them
 pub record HasValue (text : List ℕ) (lo hi : ℤ) (last : Bool) (z : ℤ) (rest : List ℕ) : Type 0 where
   pub behind : List ℕ
   pub number : HasNumber text lo hi z behind
@@ -80,6 +82,7 @@ pub record TakenRow (vars : List VarInfo) (old new : Records) (r : Row) : Type 0
   pub size : length fields ≡ length (columns vars)
   pub read : IsRead vars fields r
 
+-- the next record is taken, and is such a row; or none is taken
 abbrev pub TakesPlainRow : List VarInfo → Bool → Records → Records → Row → Type 0
 TakesPlainRow vars true old new r = TakenRow vars old new r
 TakesPlainRow vars false old new r = new ≡ old

@@ -1,4 +1,4 @@
--- What a record says: a row of a predicate, or the fault that it has.
+-- Defines what a record says: a row of a predicate, or the fault that it has.
 use Rattle.std.specs.Prelude.{◌≡◌, ℕ, zero, suc, ◌-◌, ◌^◌, ◌≤◌, ◌==◌, slice_index_or, if◌then◌else◌, ℤ, pos, List}
 use Rattle.std.specs.Prelude.{[], ◌∷◌, length, take, Option, Some, None, unwrap_or, Result, Ok, Err, OnOk, IfErr}
 use Rattle.ln_base.specs.Decimal.{integer_value}
@@ -19,7 +19,7 @@ pub data Column : Type 0 where
   SiteIndex : Column
   Variable : VarInfo → Column
 
--- the columns of a predicate with these variables: the index of a site stands before its coordinates
+-- the columns of a predicate with these variables: the index of a site is before its coordinates
 abbrev pub columns : List VarInfo → List Column
 columns [] = []
 columns (i ∷ is) = if starts_site i then SiteIndex ∷ Variable i ∷ columns is else Variable i ∷ columns is
@@ -35,7 +35,7 @@ in_column k (Ok z) = Ok z
 in_column k (Err stop.Number) = Err (Number k)
 in_column k (Err stop.Range) = Err (Range k)
 
--- the fault of a column, or what the columns behind it have
+-- the fault of a column, or what the columns after it have
 abbrev pub fault_or : Result ℤ RowStop → Option RowStop → Option RowStop
 fault_or (Ok z) behind = behind
 fault_or (Err e) behind = Some e
@@ -81,7 +81,7 @@ abbrev pub unless_fault : List Column → Row → Option RowStop → Result Row 
 unless_fault cs r None = differing cs r (first_equal r.index)
 unless_fault cs r (Some stop) = Err stop
 
--- the row that a record says, over so many sites and these variables, or the first of its faults: another number of fields than
+-- the row that a record says, over this many sites and these variables, or the first of its faults: another number of fields than
 -- of columns; the first column that has no number or one outside its range; the first site whose index an earlier site has
 abbrev pub read_row : ℕ → List VarInfo → List (List ℕ) → Result Row RowStop
 read_row sites vars fields =
@@ -97,14 +97,14 @@ pub record IsRead (vars : List VarInfo) (fields : List (List ℕ)) (r : code.Row
   pub index : take (length (columns vars) - length vars) r.index ≡ indices (columns vars) fields
   pub values : take (length vars) r.values ≡ values (columns vars) fields
 
--- what is said of a record with these fields: the program's row is what it says, which is in range, or it has this first fault
+-- the result on a record with these fields: the program's row is what it says, which is in range, or it has this first fault
 pub record IsReadAs {T : Type 0} (sites : ℕ) (vars : List VarInfo) (fields : List (List ℕ)) (read : Result T RowStop)
     (r : code.Row) : Type 0 where
   pub ok : OnOk read (read_row sites vars fields ≡ Ok (row_of sites vars r))
   pub err : IfErr read (λ e. read_row sites vars fields ≡ Err e)
   pub in_range : OnOk read (InRange sites vars (row_of sites vars r))
 
--- the places behind so many sites and so many variables are the same in both rows of the program
+-- the places after this many sites and this many variables are the same in both rows of the program
 pub record StaysPast (sites vars : ℕ) (old new : code.Row) : Type 0 where
   pub index : (k : ℕ) → sites ≤ k → slice_index_or new.index k (pos 0) ≡ slice_index_or old.index k (pos 0)
   pub values : (k : ℕ) → vars ≤ k → slice_index_or new.values k (pos 0) ≡ slice_index_or old.values k (pos 0)

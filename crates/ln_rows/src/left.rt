@@ -1,4 +1,4 @@
-//! The records that are left of bytes in memory.
+//! The remaining records of bytes in memory.
 ghost use Rattle.std.specs.Prelude.{◌≡◌, ◌≤◌, ◌+◌, [], false, length, IfOk, OnErr};
 ghost use Rattle.csv.specs.Reading.{is_bom, strip_bom};
 ghost use Rattle.csv.specs.Records.{fields_of};
@@ -16,7 +16,7 @@ use ln_tree::VarInfo;
 use std::alloc::Global;
 use std::marker::Model;
 
-/// The records that are left: those of `rest` while no record had a quote, and then those of csv's own reader.
+/// The remaining records: those of `rest` while no record had a quote, and then those of csv's own reader.
 #[derive(Drop)]
 pub(crate) struct Left<'a> {
     alloc: Global,
@@ -38,7 +38,7 @@ fn is_mark(a: u8, b: u8, c: u8) -> bool
     a == 0xEF && b == 0xBB && c == 0xBF
 }
 
-// The bytes behind a byte order mark.
+// The bytes after a byte order mark.
 fn past_mark(bytes: &[u8]) -> &[u8]
     ensures { result.now ≡ strip_bom bytes.now }
 {
@@ -63,7 +63,7 @@ impl<'a> Left<'a> {
         }
     }
 
-    /// Takes the next record, where its fields are plain numbers in the ranges of these variables' columns, and puts them into the row.
+    /// Takes the next record, where its fields are plain numbers in the ranges of these variables' columns, and writes them into the row.
     pub(crate) fn take_row(&mut self, vars: &[VarInfo], into: &mut Row) -> bool
         requires few_vars { length vars.now ≤ 168 }
         requires few_sites { length (columns vars.now) ≤ length vars.now + 5 }
@@ -81,7 +81,7 @@ impl<'a> Left<'a> {
         }
     }
 
-    // The same as `take`, but that at the end and after `NoMemory` it isn't said what is left.
+    // The same as `take`, but its contract doesn't say what remains at the end and after `NoMemory`.
     fn try_take(&mut self, most: usize, into: &mut ByteRecord) -> Result<bool, NoMemory>
         ensures { IfOk result (λ found. TakesWithin most found self.old self.new (fields_of into.new)) }
     {
@@ -110,8 +110,8 @@ impl<'a> Left<'a> {
         self.quoted = None;
     }
 
-    /// Takes the next record: the first `most` of its fields into `into`, and whether there was one. At the end no record is left, before
-    /// and after. After `NoMemory` no record is left.
+    /// Takes the next record: the first `most` of its fields into `into`, and whether there was one. At the end no record remains, before and after.
+    /// After `NoMemory` no record remains.
     pub(crate) fn take(&mut self, most: usize, into: &mut ByteRecord) -> Result<bool, NoMemory>
         ensures takes { IfOk result (λ found. TakesWithin most found self.old self.new (fields_of into.new)) }
         ensures end { IfOk result (λ found. found ≡ false → self.new ≡ []) }

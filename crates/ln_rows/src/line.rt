@@ -15,7 +15,7 @@ fn is_unquoted(b: u8) -> bool
     !(b == b'"' || b == b'\n' || b == b'\r')
 }
 
-// How many bytes stand before the first quote or line end.
+// Returns how many bytes are before the first quote or line end.
 fn line_length(text: &[u8]) -> usize
     ensures within { result ≤ length text.now }
     ensures all { list_all is_unquoted (take result text.now) ≡ true }
@@ -33,7 +33,7 @@ fn is_no_comma(b: u8) -> bool
     !(b == b',')
 }
 
-// How many bytes stand before the first comma.
+// Returns how many bytes are before the first comma.
 fn field_length(line: &[u8]) -> usize
     ensures within { result ≤ length line.now }
     ensures all { list_all is_no_comma (take result line.now) ≡ true }
@@ -63,8 +63,8 @@ fn split(line: &[u8], most: usize, into: &mut ByteRecord) -> Result<(), NoMemory
     Ok(())
 }
 
-/// The first record of a text that begins with no line end, where no quote stands in it: the first `most` of its fields into `into`, and
-/// what is left of the text after it.
+/// Reads the first `most` fields of the first record into `into`, of a text that begins with no line end, where no quote is in the record, and
+/// returns the rest of the text after it.
 pub(crate) fn plain_record<'a>(
     text: &'a [u8],
     most: usize,

@@ -46,7 +46,7 @@ fn is_coord(fields: &ByteRecord, at: usize, site: &Name, coord: &Coord) -> bool
     }
 }
 
-// The place behind a name, where it is the field at `at`.
+// The place after a name, where it is the field at `at`.
 fn past_name(fields: &ByteRecord, at: usize, name: &Name) -> Option<usize>
     ensures { Passes (name_bytes name.now ∷ []) (fields_of fields.now) at result }
 {
@@ -57,7 +57,7 @@ fn past_name(fields: &ByteRecord, at: usize, name: &Name) -> Option<usize>
     }
 }
 
-// The place behind the names of these coordinates of a site, where they stand from `at` on.
+// The place after the names of these coordinates of a site, where they are from `at` on.
 fn past_coords(fields: &ByteRecord, at: usize, site: &Name, coords: &[Coord]) -> Option<usize>
     ensures { Passes (map (coord_column site.now) coords.now) (fields_of fields.now) at result }
 {
@@ -71,7 +71,7 @@ fn past_coords(fields: &ByteRecord, at: usize, site: &Name, coords: &[Coord]) ->
     Some(to)
 }
 
-// The place behind the columns of a site of this type, where they stand from `at` on.
+// The place after the columns of a site of this type, where they are from `at` on.
 fn past_site(fields: &ByteRecord, at: usize, name: &Name, site: Option<&Site>) -> Option<usize>
     ensures { Passes (site_columns name.now (option_copied site.entry)) (fields_of fields.now) at result }
 {
@@ -82,7 +82,7 @@ fn past_site(fields: &ByteRecord, at: usize, name: &Name, site: Option<&Site>) -
     }
 }
 
-// The place behind the column of a param, where it is the field at `at`.
+// The place after the column of a param, where it is the field at `at`.
 fn past_param(fields: &ByteRecord, at: usize, param: Option<&Param>) -> Option<usize>
     ensures { Passes (param_columns (option_copied param.entry)) (fields_of fields.now) at result }
 {
@@ -92,7 +92,7 @@ fn past_param(fields: &ByteRecord, at: usize, param: Option<&Param>) -> Option<u
     }
 }
 
-// The place behind the columns of an argument, where they stand from `at` on.
+// The place after the columns of an argument, where they are from `at` on.
 fn past_arg(fields: &ByteRecord, at: usize, t: &Table, arg: &Arg) -> Option<usize>
     ensures { Passes (arg_columns t.now.sites t.now.params arg.now) (fields_of fields.now) at result }
 {

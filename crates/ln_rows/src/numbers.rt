@@ -1,4 +1,4 @@
-//! Numbers of fields.
+//! Reads the number of a field, which has to be in the range of its column.
 ghost use Rattle.std.specs.Prelude.{◌≡◌, ◌==◌, Some};
 ghost use Rattle.ln_rows.specs.Number.{within, number_in, is_lowest};
 

@@ -5,14 +5,14 @@ ghost use Rattle.ln_rows.specs.Plain.{HasDigits, HasSigned, HasNumber, HasValue,
 ghost use Rattle.ln_rows.specs.Record.{columns};
 
 use crate::numbers::within;
-use crate::record::starts_site;
 use ln_code::Row;
 use ln_tree::VarInfo;
+use ln_tree::layout::starts_site;
 
-// So many digits always fit.
+// A number of this many digits always fits.
 const DIGITS: usize = 18;
 
-// What is behind this byte, where it is the first.
+// Returns what is after this byte, where it is the first.
 fn behind(text: &[u8], c: u8) -> Option<&[u8]>
     ensures { IfSome result (λ rest. text.now ≡ c ∷ rest.now) }
 {
@@ -23,7 +23,7 @@ fn behind(text: &[u8], c: u8) -> Option<&[u8]>
     }
 }
 
-// The number of the digits in front of a text, at most 18 of them, and what is behind them.
+// The number of the digits that a text begins with, at most 18 of them, and what is after them.
 fn digits(text: &[u8]) -> (u64, &[u8])
     ensures digits { HasDigits text.now result.0 result.1.now }
     ensures small { result.0 < 10 ^ 18 }
@@ -45,7 +45,7 @@ fn signed(negative: bool, n: u64) -> i64
     if negative { -(n as i64) } else { n as i64 }
 }
 
-// The number from lo to hi whose digits stand in front of a text, and what is behind them.
+// The number from lo to hi whose digits a text begins with, and what is after them.
 fn found(negative: bool, text: &[u8], lo: i64, hi: i64) -> Option<(i64, &[u8])>
     ensures { IfSome result (λ r. HasSigned negative text.now lo hi r.0 r.1.now) }
 {
@@ -59,7 +59,7 @@ fn found(negative: bool, text: &[u8], lo: i64, hi: i64) -> Option<(i64, &[u8])>
     }
 }
 
-// The number from lo to hi in front of a text, and what is behind it.
+// The number from lo to hi that a text begins with, and what is after it.
 fn number(text: &[u8], lo: i64, hi: i64) -> Option<(i64, &[u8])>
     ensures { IfSome result (λ r. HasNumber text.now lo hi r.0 r.1.now) }
 {
@@ -69,7 +69,7 @@ fn number(text: &[u8], lo: i64, hi: i64) -> Option<(i64, &[u8])>
     }
 }
 
-// What is behind a line feed or a return, where that is the first.
+// Returns what is after a line feed or a return, where that is the first byte.
 fn line_end(text: &[u8]) -> Option<&[u8]>
     ensures { IfSome result (λ rest. PastFeed text.now rest.now) }
 {
@@ -79,7 +79,7 @@ fn line_end(text: &[u8]) -> Option<&[u8]>
     }
 }
 
-/// What is behind the end of a record.
+/// Returns what is after the end of a record.
 pub(crate) fn past_end(text: &[u8]) -> Option<&[u8]>
     ensures { IfSome result (λ rest. PastEnd text.now rest.now) }
 {
@@ -89,7 +89,7 @@ pub(crate) fn past_end(text: &[u8]) -> Option<&[u8]>
     line_end(text)
 }
 
-// The number from lo to hi in front of a text, and what is behind it and a comma, or behind it and the end of the record.
+// The number from lo to hi that a text begins with, and what is after it and a comma, or after it and the end of the record.
 fn value(text: &[u8], lo: i64, hi: i64, last: bool) -> Option<(i64, &[u8])>
     ensures { IfSome result (λ r. HasValue text.now lo hi last r.0 r.1.now) }
 {
@@ -114,7 +114,7 @@ fn value_of<'a>(text: &'a [u8], i: &VarInfo, last: bool) -> Option<(i64, &'a [u8
     value(text, lo, hi, last)
 }
 
-/// What is behind the line ends in front of a text.
+/// Returns what is after the line ends that a text begins with.
 pub(crate) fn past_ends(text: &[u8]) -> &[u8]
     ensures { first_of text.now ≡ first_of result.now }
 {
@@ -127,7 +127,7 @@ pub(crate) fn past_ends(text: &[u8]) -> &[u8]
     }
 }
 
-/// The row of the first record of a text, where its fields are plain numbers in range, and what is left of the text behind it.
+/// Returns the row of the first record of a text, where its fields are plain numbers in range, and the rest of the text after it.
 pub(crate) fn plain_row<'a>(vars: &[VarInfo], text: &'a [u8], into: &mut Row) -> Option<&'a [u8]>
     requires few_vars { length vars.now ≤ 168 }
     requires few_sites { length (columns vars.now) ≤ length vars.now + 5 }

@@ -9,7 +9,7 @@ use std::alloc::Global;
 use std::io::{Chain, Read};
 use std::marker::Model;
 
-/// The records of bytes in memory as csv's own reader gives them, with its default settings but for lengths, which may differ.
+/// The records of bytes in memory as csv's own reader returns them, with its default settings but for lengths, which may differ.
 #[derive(Drop)]
 pub(crate) struct Quoted<'a> {
     reader: Reader<Chain<&'static [u8], &'a [u8]>>,
@@ -32,7 +32,7 @@ fn line_end() -> &'static [u8]
 }
 
 impl<'a> Quoted<'a> {
-    /// The records of these bytes. A line end is put before them, which begins no record, since the reader takes a byte order mark off the
+    /// The records of these bytes. A line end is written before them, which begins no record, since the reader takes a byte order mark off the
     /// start of its bytes. An empty header is set, for which the reader reads and keeps none.
     pub(crate) fn new(alloc: Global, bytes: &'a [u8]) -> Result<Quoted<'a>, NoMemory>
         ensures { IfOk result (λ q. q ≡ records_of bytes.now) }

@@ -1,9 +1,9 @@
-//! Records as rows.
+//! Reads a record as a row of a predicate, or tells the first fault that it has.
 ghost use Rattle.std.specs.Prelude.{◌≡◌, ◌+◌, ◌-◌, ◌<◌, ◌≤◌, ℕ, List, [], true, length, slice_index_or, Some, None, Ok, Err, IfErr, IfOk, OnErr, OnOk};
 ghost use Rattle.csv.specs.Records.{fields_of};
 ghost use Rattle.ln_tree.specs.Row.{InRange};
 ghost use Rattle.ln_code.specs.RowOf.{row_of, IsZeroPast};
-ghost use Rattle.ln_tree.specs.Variables.{starts_site, is_laid_out};
+ghost use Rattle.ln_tree.specs.Variables.{is_laid_out};
 ghost use Rattle.ln_rows.specs.Number.{number_in};
 ghost use Rattle.ln_rows.specs.Record.{SiteIndex, Variable, columns, number_of, in_column, first_fault};
 ghost use Rattle.ln_rows.specs.Record.{values, index_column, read_row, IsBegun, IsRead, IsReadAs, StaysPast};
@@ -12,6 +12,7 @@ use crate::numbers::{NumberStop, number};
 use csv::ByteRecord;
 use ln_code::Row;
 use ln_order::first_equal;
+use ln_tree::layout::starts_site;
 use ln_tree::{Pred, VarInfo};
 
 /// Why a record isn't a row: the first of these that it has. A column is named by its number, from 0.
@@ -25,12 +26,6 @@ pub enum RowStop {
     Range(u8),
     /// The site with this column, the first such, has the index of an earlier site.
     Index(u8),
-}
-
-pub(crate) fn starts_site(i: &VarInfo) -> bool
-    ensures { result ≡ starts_site i.now }
-{
-    i.site.is_some() && i.coord == 0
 }
 
 // The field at a place, empty past the last one.
@@ -140,7 +135,7 @@ pub(crate) fn differ(vars: &[VarInfo], sites: u8, into: &Row) -> Result<(), RowS
     }
 }
 
-// The row of a predicate with these variables and so many sites, or the first fault.
+// The row of a predicate with these variables and this many sites, or the first fault.
 fn row_over(vars: &[VarInfo], sites: u8, fields: &ByteRecord, into: &mut Row) -> Result<(), RowStop>
     requires { is_laid_out sites vars.now ≡ true }
     ensures ok { OnOk result (read_row sites vars.now (fields_of fields.now) ≡ Ok (row_of sites vars.now into.new)) }
@@ -159,7 +154,7 @@ fn row_over(vars: &[VarInfo], sites: u8, fields: &ByteRecord, into: &mut Row) ->
 /// Reads the row that a record says into `into`, or returns the first fault that it has: `row` for a caller that keeps one `Row` for
 /// many records. An index is from 0 to `2^63 - 1`, a variable in its declared range, and the indices differ. Places past those of the
 /// predicate stay as they are; so where they were 0 they are 0. After a fault the row is that of no record: the first
-/// indices and values of the predicate, as far as they were read, are this record's, and all other places are as they were. A call that
+/// indices and values of the predicate that were read are this record's, and all other places are as they were. A call that
 /// succeeds writes all places of the predicate. Allocates nothing.
 pub fn fill_row(p: &Pred, fields: &ByteRecord, into: &mut Row) -> Result<(), RowStop>
     ensures ok { OnOk result (read_row p.now.shape.sites p.now.shape.vars (fields_of fields.now)

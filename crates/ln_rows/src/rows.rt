@@ -15,7 +15,7 @@ use ln_tree::{Pred, Site, Table};
 use std::alloc::Global;
 use std::marker::Model;
 
-/// The records of bytes in memory, which contracts see as the list of those that are left. What a record is says `csv`:
+/// The records of bytes in memory, which contracts see as the list of those that remain. `csv` defines what a record is:
 /// fields with commas between them, in quotes or not; records end at LF, CR LF or CR, and empty lines are none.
 #[derive(Drop)]
 pub struct Rows<'a> {
@@ -42,8 +42,7 @@ impl<'a> Rows<'a> {
         }
     }
 
-    /// The next record into `into`, and whether there was one. At the end no record is left, before and after. After
-    /// `NoMemory` no record is left.
+    /// The next record into `into`, and whether there was one. At the end no record remains, before and after, and after `NoMemory` none.
     pub fn next(&mut self, into: &mut ByteRecord) -> Result<bool, NoMemory>
         ensures takes { IfOk result (λ found. Takes found self.old self.new (fields_of into.new)) }
         ensures end { IfOk result (λ found. found ≡ false → (self.old ≡ []) × (self.new ≡ [])) }
@@ -53,8 +52,8 @@ impl<'a> Rows<'a> {
         Ok(found)
     }
 
-    /// The first `most` fields of the next record into `into`, and whether there was one. Of a record without quotes no more are kept. At
-    /// the end no record is left, before and after. After `NoMemory` no record is left.
+    /// The first `most` fields of the next record into `into`, and whether there was one. Of a record without quotes no more are kept. At the end no
+    /// record remains, before and after. After `NoMemory` no record remains.
     pub fn next_within(&mut self, most: usize, into: &mut ByteRecord) -> Result<bool, NoMemory>
         ensures takes { IfOk result (λ found. found ≡ true → (fields : List (List ℕ)) × (self.old ≡ fields ∷ self.new)
             × (fields_of into.new ≡ take most fields)) }
@@ -65,8 +64,8 @@ impl<'a> Rows<'a> {
         Ok(found)
     }
 
-    /// Takes the first record, if there is one, and says whether its fields are the names of the columns of points of a type. After
-    /// `NoMemory` no record is left.
+    /// Takes the first record, if there is one, and returns whether its fields are the names of the columns of points of a type. After
+    /// `NoMemory` no record remains.
     pub fn point_header(&mut self, s: &Site) -> Result<bool, NoMemory>
         requires { length s.now.coords ≤ 32 }
         ensures right { IfOk result (λ right. right ≡ true → self.old ≡ site_columns s.now.name (Some s.now) ∷ self.new) }
@@ -82,8 +81,8 @@ impl<'a> Rows<'a> {
         Ok(point_header(s, &self.record))
     }
 
-    /// Takes the first record, if there is one, and says whether its fields are the names of the predicate's columns. After `NoMemory` no
-    /// record is left.
+    /// Takes the first record, if there is one, and returns whether its fields are the names of the predicate's columns. After
+    /// `NoMemory` no record remains.
     pub fn header(&mut self, t: &Table, p: &Pred) -> Result<bool, NoMemory>
         ensures right { IfOk result (λ right. right ≡ true → self.old ≡ column_names t.now.sites t.now.params p.now.args ∷ self.new) }
         ensures wrong { IfOk result (λ right. right ≡ false → (rest : Records) →
@@ -116,9 +115,9 @@ impl<'a> Rows<'a> {
         Ok(Some(fill_row(p, &self.record, into)))
     }
 
-    /// Takes the next record, if there is one, and reads the row that it says into `into`, or tells the first fault that it has. Places
+    /// Takes the next record, if there is one, and reads the row that it says into `into`, or returns the first fault that it has. Places
     /// past those of the predicate may change. Allocates nothing where the fields are plain numbers, and keeps no more fields of a record
-    /// without quotes than there are columns, and one. At the end no record is left, before and after. After `NoMemory` no record is left.
+    /// without quotes than there are columns, and one. At the end no record remains, before and after. After `NoMemory` no record remains.
     pub fn next_row(
         &mut self,
         p: &Pred,

@@ -1,4 +1,4 @@
--- Each command: what it owes is carried out.
+-- Each command carries out what it requires.
 pub mod TargetLaws
 pub mod CheckLaws
 pub mod ListLaws

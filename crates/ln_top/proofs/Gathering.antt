@@ -1,4 +1,4 @@
--- Lines and rows, one behind the other, and the watchers.
+-- Lines and rows, one after the other, and the watchers.
 pub mod LinesLaws
 pub mod LinesCarry
 pub mod HeadCarry

@@ -1,4 +1,4 @@
--- What commands ask of the arguments of their predicates.
+-- Defines what commands ask of the arguments of their predicates.
 use Rattle.std.specs.Prelude.{ℕ, Bool, true, false, ◌&&◌, nat_eq, bytes_eq, List, [], ◌∷◌, Option, Some, None}
 use Rattle.std.specs.List.{list_all}
 use Rattle.ln_tree.specs.Table.{ArgOf, SiteArg, ParamArg, PredOf}
@@ -10,6 +10,7 @@ same_arg (SiteArg n t) (ParamArg q) = false
 same_arg (ParamArg p) (SiteArg m u) = false
 same_arg (ParamArg p) (ParamArg q) = nat_eq p q
 
+-- the same arguments, one after the other
 abbrev pub same_args : List ArgOf → List ArgOf → Bool
 same_args [] [] = true
 same_args [] (b ∷ bs) = false
@@ -30,6 +31,7 @@ abbrev pub type_of : ArgOf → Option ℕ
 type_of (SiteArg n t) = Some t
 type_of (ParamArg p) = None
 
+-- all three have a type, and it is the same one
 abbrev pub one_type : Option ℕ → Option ℕ → Option ℕ → Bool
 one_type (Some a) (Some b) (Some c) = nat_eq a b && nat_eq b c
 one_type a b c = false

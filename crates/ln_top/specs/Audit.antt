@@ -43,13 +43,15 @@ pub record IsRightTrace (p : PredOf) (records : Records) (trace : List ℕ) : Ty
   pub text : TraceText trace lines
   pub agreed : IsAgreed (subject_of p) records lines
 
+-- the line `agreed N`, for a trace that is agreed over N records
 abbrev pub agreed_text : ℕ → List ℕ
 agreed_text n = line (codes "agreed " ++ decimal n)
 
+-- the line `wrong N`, for a trace whose line N is the first that fails
 abbrev pub wrong_text : ℕ → List ℕ
 wrong_text n = line (codes "wrong " ++ decimal n)
 
--- what is owed: the error line of a wrong header; `agreed` with the number of records after it; or `wrong` with the line
+-- what is required: the error line of a wrong header; `agreed` with the number of records after it; or `wrong` with the line
 pub data AuditSaid (g : Given) : Said → Type 0 where
   header : (p : PredOf) (names : List (List ℕ)) (records : Records) (trace : List ℕ)
       → HasTrace g p names records trace → IsWrongHeader names records → AuditSaid g (said_of Header)
@@ -69,7 +71,7 @@ pub data AuditEnds (g : Given) : End → Type 0 where
       → HasTrace g p names (names ∷ records) trace → IsWrongAt p records trace at → AuditEnds g Invalid
 
 -- ---- in memory
--- what is judged of the lines that are left
+-- what is judged of the remaining lines
 abbrev pub AreJudged : PredOf → Records → Unread → Judged → Type 0
 AreJudged p records u j = (lines : List TraceLine) → AreLeft u lines → IsJudged (subject_of p) records lines j
 
@@ -78,7 +80,7 @@ abbrev pub IsAuditOf : PredOf → Records → List ℕ → Judged → Type 0
 IsAuditOf p records trace (Agreed n) = IsRightTrace p records trace × (n ≡ length records)
 IsAuditOf p records trace (Wrong at) = IsWrongAt p records trace at
 
--- a text was put or cut off; or memory ran out before
+-- a text was written or cut off; or memory ran out before
 pub data PutsOrStops (text : List ℕ) (end : End) (puts : Count) (result : Result End Early) (was now : Option Shown) : Type 0 where
   puts_it : PutsText text end puts result was now → PutsOrStops text end puts result was now
   stops_before : IsCalm puts → result ≡ Err Memory → now ≡ was → PutsOrStops text end puts result was now

@@ -25,6 +25,7 @@ pub record Call : Type 0 where
   pub was : Option Shown
   pub now : Option Shown
 
+-- the call with these words, files, watchers, counts of faults, status and bytes of the streams
 abbrev pub call : List (List ℕ) → Option Shelf → List State → Count → Count → Status → Option Shown → Option Shown → Call
 call words told boxes reads puts result was now = record {
   words = words;
@@ -37,7 +38,7 @@ call words told boxes reads puts result was now = record {
   now = now;
 }
 
--- a count of faults rose in the call, or stands at its end
+-- a count of faults rose in the call, or is at its end
 abbrev pub HasRisen : Count → Type 0
 HasRisen c = Rose c.before c.after
 
@@ -45,8 +46,9 @@ HasRisen c = Rose c.before c.after
 abbrev pub IsUnread : Call → Type 0
 IsUnread c = HasRisen c.reads ⊎ IsMissing c.words c.told
 
+-- the promises that a call keeps, whatever its command and however it ends
 pub record Keeps (c : Call) : Type 0 where
-  -- the answer is to the byte that of the words over the files, whatever the counts did; files whose content a proof can't see may
+  -- what was written is to the byte what the words over the files require, whatever the counts did; files whose content a proof can't see may
   -- contain anything
   pub exact : IsSettled c.result → Answered (Answer c.words c.told c.boxes) c.result c.was c.now
   -- each status but those of faults and of failed allocations comes exactly where the steps end so
@@ -60,7 +62,7 @@ pub record Keeps (c : Call) : Type 0 where
   pub line : (e : End) → c.result ≡ end_status e → (IsWorkEnd e → ⊥) → SaysLine e c.was c.now
   -- a fault of reading has its cause, and its error line comes alone
   pub read : c.result ≡ status.Read → IsUnread c × (c.now ≡ put_both [] read_line c.was)
-  -- a failed write decides: nothing is written after it, so one fault was counted; on each stream is a prefix of the answer, or of the
+  -- a failed write decides: nothing is written after it, so one fault was counted; on each stream is a prefix of what is required, or of the
   -- error line of a file that wasn't read
   pub write : c.result ≡ status.Write → Rises c.puts × LeavesFronts (Answer c.words c.told c.boxes) (IsUnread c) c.was c.now
   -- an allocation that fails leaves nothing, or a part that the command names: in work on records the whole lines of the first ones

@@ -1,4 +1,4 @@
--- What a part of the program has done of what it owes: the one contract of every level.
+-- Defines what a part of the program has done of what is required: the one contract of every level.
 use Rattle.std.specs.Prelude.{◌≡◌, ◌≢◌, ◌⊎◌, ℕ, List, [], codes, Option, Result, Ok, Err}
 use Rattle.ln_base.specs.Outside.{Shown}
 use Rattle.ln_top.specs.declared.status.End.{End}
@@ -11,17 +11,18 @@ use Rattle.ln_top.specs.Said.{Said, Count, Rises, IsCalm, line, put_both, IsFron
 use Rattle.ln_top.specs.Stop.{why_end, why_text}
 use Rattle.ln_top.specs.Steps.{Outcome, stops, missing}
 
+-- the error line of a file that was not read
 abbrev pub read_line : List ℕ
 read_line = line (codes "error read")
 
--- a fault of writing leaves on each port the first bytes of what is owed; or, where a file wasn't read, on Err those of the line that
--- says so, and on Out nothing
+-- a fault of writing leaves on each stream a prefix of what is required; or, where a file wasn't read, on Err a prefix
+-- of the line that says so, and on Out nothing
 pub data LeavesFronts (owes : Said → Type 0) (unread : Type 0) (was now : Option Shown) : Type 0 where
   of_owed : (said : Said) (out err : List ℕ) → owes said → IsFront said.out out → IsFront said.err err
       → now ≡ put_both out err was → LeavesFronts owes unread was now
   of_read : (err : List ℕ) → unread → IsFront read_line err → now ≡ put_both [] err was → LeavesFronts owes unread was now
 
--- want of memory leaves nothing; or a part that may be left, which is the first bytes of what is owed
+-- where memory runs out, nothing is written; or a part that may be written, which is a prefix of what is required
 pub data LeavesPart (owes : Said → Type 0) (part : List ℕ → List ℕ → Type 0) (was now : Option Shown) : Type 0 where
   nothing : now ≡ was → LeavesPart owes part was now
   of_part : (said : Said) (out err : List ℕ) → part out err → owes said → IsFront said.out out → IsFront said.err err
@@ -39,7 +40,7 @@ pub data CarriesOut (owes : Said → Type 0) (part : List ℕ → List ℕ → T
   short : IsCalm puts → LeavesPart owes part was now → result ≡ Err Memory
       → CarriesOut owes part lacks reads puts result was now
 
--- no part is left for want of memory
+-- no part is written when memory runs out
 abbrev pub NoPart : List ℕ → List ℕ → Type 0
 NoPart out err = ⊥
 
@@ -49,24 +50,26 @@ pub data Halts {A : Type 0} (step : Outcome A → Type 0) (reads : Type 0) : Sto
   unread : reads ⊎ step missing → Halts step reads stop.Read
   short : Halts step reads stop.Memory
 
--- the line of a stop was put, or cut off by a fault of writing; of want of memory there is none
+-- the line of a stop was written, or cut off by a fault of writing; out of memory has no line
 abbrev pub stop_line : Stop → List ℕ
 stop_line (stop.Tell why) = line (why_text why)
 stop_line stop.Read = read_line
 stop_line stop.Memory = []
 
+-- the result of a stop: the end that its reason has, or the fault of reading or of allocation
 abbrev pub stop_result : Stop → Result End Early
 stop_result (stop.Tell why) = Ok (why_end why)
 stop_result stop.Read = Err Read
 stop_result stop.Memory = Err Memory
 
+-- the line of a stop was written; or a fault of writing cut it short; or an allocation failed, and nothing was written
 pub data Says (s : Stop) (puts : Count) (result : Result End Early) (was now : Option Shown) : Type 0 where
   all : IsCalm puts → result ≡ stop_result s → now ≡ put_both [] (stop_line s) was → Says s puts result was now
   cut : (front : List ℕ) → Rises puts → s ≢ stop.Memory → IsFront (stop_line s) front → now ≡ put_both [] front was
       → result ≡ Err Write → Says s puts result was now
   short : IsCalm puts → s ≢ stop.Read → result ≡ Err Memory → now ≡ was → Says s puts result was now
 
--- a whole text was put on Out, or cut off
+-- a whole text was written to Out, or cut off
 pub data PutsText (text : List ℕ) (end : End) (puts : Count) (result : Result End Early) (was now : Option Shown) : Type 0 where
   all : IsCalm puts → result ≡ Ok end → now ≡ put_both text [] was → PutsText text end puts result was now
   cut : (front : List ℕ) → Rises puts → IsFront text front → now ≡ put_both front [] was → result ≡ Err Write

@@ -1,4 +1,4 @@
--- When each status comes.
+-- Defines the causes of each status: the ends of the steps in their order, and the faults that may come in their place.
 use Rattle.std.specs.Prelude.{◌≡◌, ◌≢◌, ◌⊎◌, ℕ, List, [], Option, Some, None}
 use Rattle.ln_base.specs.Outside.{Shelf, Shown}
 use Rattle.ln_tree.specs.Table.{PredOf, TableOf}
@@ -18,13 +18,13 @@ use Rattle.ln_top.specs.Suits.{Asks, objection}
 use Rattle.ln_top.specs.Steps.{stops, gives, Given, Prepares, Reads, Compiles, Finds, Each, MayPass, most_source, most_file}
 use Rattle.ln_top.specs.Work.{WorkEnds}
 
--- a status that says what was owed: any but those of faults of the outside and of want of memory
+-- a status that was required: any but those of faults of the outside and of running out of memory
 pub record IsSettled (s : Status) : Type 0 where
   pub read : s ≢ status.Read
   pub write : s ≢ status.Write
   pub memory : s ≢ status.Memory
 
--- what is owed was answered
+-- what is required was written, with its status
 pub record Answered (owes : Said → Type 0) (result : Status) (was now : Option Shown) : Type 0 where
   pub said : Said
   pub owed : owes said
@@ -70,12 +70,12 @@ pub data Ends (words : List (List ℕ)) (told : Option Shelf) (e : End) : Type 0
 abbrev pub Yields : Status → Type 0 → Type 0 → Type 0
 Yields result reads puts = (result ≡ status.Memory) ⊎ ((result ≡ status.Read) × reads) ⊎ ((result ≡ status.Write) × puts)
 
--- a status comes exactly where its cause stands, but yields to want of memory and to a fault of reading or writing, whose count then rose
+-- a status comes exactly where its cause is, but yields to running out of memory and to a fault of reading or writing, whose count then rose
 pub record ExactlyWhere (s : Status) (cause : Type 0) (result : Status) (reads puts : Type 0) : Type 0 where
   pub only : result ≡ s → cause
   pub comes : cause → (result ≡ s) ⊎ Yields result reads puts
 
--- each status that says what was owed comes exactly where the steps end so
+-- each status that is required comes exactly where the steps end so
 abbrev pub EndsExactly : List (List ℕ) → Shelf → Status → Type 0 → Type 0 → Type 0
 EndsExactly words shelf result reads puts = (e : End) → ExactlyWhere (end_status e) (Ends words (Some shelf) e) result reads puts
 

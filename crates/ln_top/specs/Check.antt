@@ -17,7 +17,7 @@ pub data AreCounts : List PredOf → List ℕ → Type 0 where
   more : (p : PredOf) (ps : List PredOf) (n : ℕ) (texts : List ℕ) → IsStageCount p n → AreCounts ps texts
       → AreCounts (p ∷ ps) (line (count_text p n) ++ texts)
 
--- what is owed: the lines of the predicates of the source
+-- what is required: the lines of the predicates of the source
 pub data CheckSaid (g : Given) : Said → Type 0 where
   counted : (text : List ℕ) → AreCounts g.table.preds text → CheckSaid g (whole Done text)
 

@@ -1,4 +1,4 @@
--- The names of the columns of a predicate, over what its table stands for.
+-- Defines the names of the columns of a predicate, over what its table stands for.
 use Rattle.std.specs.Prelude.{ℕ, List, [], ◌∷◌, ◌++◌, map, flat_map, Option, Some, None, slice_get}
 use Rattle.ln_tree.specs.declared.table.Table.{Table}
 use Rattle.ln_tree.specs.declared.pred.Pred.{Pred}
@@ -14,14 +14,17 @@ abbrev pub site_names : List ℕ → Option SiteOf → List (List ℕ)
 site_names site None = site ∷ []
 site_names site (Some t) = site ∷ map (coord_name site) t.coords
 
+-- the name of the column of a param, which is the param's own name; none where there is no such param
 abbrev pub param_names : Option CoordOf → List (List ℕ)
 param_names None = []
 param_names (Some p) = p.name ∷ []
 
+-- the names of the columns of an argument: of a site, by its type, or of a param
 abbrev pub arg_names : List SiteOf → List CoordOf → ArgOf → List (List ℕ)
 arg_names sites params (SiteArg n t) = site_names n (slice_get sites t)
 arg_names sites params (ParamArg p) = param_names (slice_get params p)
 
+-- the names of the columns of these arguments, in order, over these site types and params
 abbrev pub names_over : List SiteOf → List CoordOf → List ArgOf → List (List ℕ)
 names_over sites params args = flat_map (arg_names sites params) args
 

@@ -1,4 +1,4 @@
--- The lines that `edges` puts are those of the edges.
+-- States that the lines that `edges` writes are those of the edges.
 use Rattle.std.specs.Prelude.{◌≡◌, ℕ, List, [], Option}
 use Rattle.ln_base.specs.Outside.{Shelf, Shown}
 use Rattle.ln_tree.specs.Table.{PredOf, SiteOf}
@@ -15,8 +15,8 @@ pub record PutEdges (p : PredOf) (ps : List PointOf) (was now : Option Shown) : 
   pub are : AreEdgesOf p ps lines
   pub shown : now ≡ put_both lines [] was
 
--- where the words are `edges FILE NAME POINTS`, and over the told files have a predicate of three sites of one type and a points file
--- whose records behind the right header are at most 256 points, the lines of the edges came to Out
+-- where the words are `edges FILE NAME POINTS`, and the files contain a predicate of three sites of one type and a points file whose records
+-- after the right header are at most 256 points, the lines of the edges came to Out
 abbrev pub EdgesAreListed : List (List ℕ) → Shelf → Option Shown → Option Shown → Type 0
 EdgesAreListed words shelf was now = WhereGiven words shelf command.Edges (λ g. (p : PredOf) (type : SiteOf) (records : Records)
     (ps : List PointOf) → HasPoints g p type records → ReadsPoints type records (gives ps) → PutEdges p ps was now)

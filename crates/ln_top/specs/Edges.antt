@@ -10,7 +10,6 @@ use Rattle.ln_edges.specs.Pairs.{AreLines}
 use Rattle.ln_edges.specs.Points.{PointOf, point_of}
 use Rattle.ln_edges.specs.Read.{ArePointsOf, IsPointFault}
 use Rattle.ln_edges.specs.Three.{IsOfThree}
-use Rattle.ln_top.specs.declared.prepare.Ready.{Ready}
 use Rattle.ln_top.specs.declared.status.End.{End}
 use Rattle.ln_top.specs.declared.status.End.TheVariants.{Done}
 use Rattle.ln_top.specs.declared.stop.Stop.{Stop}
@@ -56,7 +55,7 @@ pub data ReadsPoints (type : SiteOf) (records : Records) : Outcome (List PointOf
 abbrev pub AreEdgesOf : PredOf → List PointOf → List ℕ → Type 0
 AreEdgesOf p ps text = AreLines (Edge p.vars (root_of p) ps) (edge_line ps) text
 
--- what is owed: the error line of what the points file stops with, or the lines of the edges
+-- what is required: the error line of what the points file stops with, or the lines of the edges
 pub data EdgesSaid (g : Given) : Said → Type 0 where
   stopped : (p : PredOf) (type : SiteOf) (records : Records) (why : Why) → HasPoints g p type records
       → ReadsPoints type records (stops why) → EdgesSaid g (said_of why)

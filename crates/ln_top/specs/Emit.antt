@@ -20,7 +20,7 @@ use Rattle.ln_top.specs.declared.status.End.TheVariants.{Done}
 use Rattle.ln_top.specs.Said.{Said, whole}
 use Rattle.ln_top.specs.Steps.{Given}
 
--- on this row the call of `ln_NAME` gives the sign of the verdict that the row is owed, with its calls, and with no wide operation where
+-- on this row the call of `ln_NAME` returns the sign of the verdict that the row requires, with its calls, and with no wide operation where
 -- the filter decides
 pub record CallIsDue (file : List Fun) (p : PredOf) (row : Row) : Type 0 where
   pub verdict : Verdict
@@ -35,7 +35,7 @@ abbrev pub AllAreDue : List Fun → List PredOf → Type 0
 AllAreDue file [] = Unit {0}
 AllAreDue file (p ∷ ps) = ((row : Row) → InRange p.sites p.vars row → CallIsDue file p row) × AllAreDue file ps
 
--- the bytes are a file of the C subset, whose calls say what rows of these predicates are owed. Its functions are those of programs of
+-- the bytes are a file of the C subset, whose calls return what rows of these predicates require. Its functions are those of programs of
 -- the predicates, one for each in order, and no other; each is named after its predicate, whose name the program's shape has
 pub record IsCOf (preds : List PredOf) (bytes : List ℕ) : Type 0 where
   pub file : List Fun

@@ -1,4 +1,4 @@
--- The calls of the C that `emit` puts mean the perturbed signs.
+-- States that the calls of the C that `emit` writes mean the perturbed signs.
 use Rattle.std.specs.Prelude.{◌≡◌, ℕ, List, [], ◌∷◌, map, Option, Some}
 use Rattle.ln_base.specs.Outside.{Shelf, Shown}
 use Rattle.ln_base.specs.declared.sign.Sign.{Sign}
@@ -49,6 +49,6 @@ pub record PutC (preds : List PredOf) (was now : Option Shown) : Type 0 where
   pub signs : CallPerturbedSigns file preds
   pub shown : now ≡ put_both bytes [] was
 
--- where the words are `emit FILE`, and over the told files the source is accepted, C for its predicates came to Out
+-- where the words are `emit FILE`, and the source that the files contain is accepted, C for its predicates came to Out
 abbrev pub CallsArePerturbed : List (List ℕ) → Shelf → Option Shown → Option Shown → Type 0
 CallsArePerturbed words shelf was now = WhereGiven words shelf Emit (λ g. PutC g.table.preds was now)

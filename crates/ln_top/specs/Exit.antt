@@ -1,4 +1,4 @@
--- What stands around the call of `lnc`.
+-- Defines what is done around the call of `lnc`.
 use Rattle.std.specs.Prelude.{ℕ, Bool, false, List, [], ◌∷◌, bytes_eq, codes}
 
 -- is the first of the words `gen`?

@@ -19,7 +19,7 @@ use Rattle.ln_top.specs.Stop.{said_of}
 abbrev pub subject_of : PredOf → Subject
 subject_of p = record { sites = p.sites; vars = p.vars; tree = root_of p }
 
--- what a record puts after so many others: the text of the lines that explain it
+-- what is written for a record after this many others: the text of the lines that explain it
 pub record ExplainStep (p : PredOf) (seen : ℕ) (fields : List (List ℕ)) (out err : List ℕ) (after : ℕ) : Type 0 where
   pub lines : List TraceLine
   pub explains : Explains (subject_of p) (seen + 1) fields lines
@@ -27,7 +27,7 @@ pub record ExplainStep (p : PredOf) (seen : ℕ) (fields : List (List ℕ)) (out
   pub none : err ≡ []
   pub counted : after ≡ seen + 1
 
--- what is owed: the error line of a wrong header; or after the header the trace of the records, and nothing on Err
+-- what is required: the error line of a wrong header; or after the header the trace of the records, and nothing on Err
 pub data ExplainSaid (g : Given) : Said → Type 0 where
   header : (p : PredOf) (names : List (List ℕ)) (records : Records)
       → HasRecords g p names records → IsWrongHeader names records → ExplainSaid g (said_of Header)
@@ -35,13 +35,13 @@ pub data ExplainSaid (g : Given) : Said → Type 0 where
       → HasRecords g p names (names ∷ records) → Lines (ExplainStep p) 0 records out [] seen
       → ExplainSaid g (record { end = end_of (all_good (is_row p) records); out = first_line ++ out; err = [] })
 
--- what may stand where memory ran out: the first line and the whole lines of the first records
+-- what may be written where memory ran out: the first line and the whole lines of the first records
 pub data ExplainPart (g : Given) (out err : List ℕ) : Type 0 where
   first : (p : PredOf) (names : List (List ℕ)) (done left : Records) (lines : List ℕ) (seen : ℕ)
       → HasRecords g p names (names ∷ done ++ left) → Lines (ExplainStep p) 0 done lines err seen → out ≡ first_line ++ lines
       → ExplainPart g out err
 
--- after the first line: what is owed, and what may stand of it where memory ran out
+-- after the first line: what is required, and what may be written of it where memory ran out
 abbrev pub ExplainRest : Given → Said → Type 0
 ExplainRest g said = ExplainSaid g (record { end = said.end; out = first_line ++ said.out; err = said.err })
 

@@ -1,4 +1,4 @@
--- What `explain` puts is the text of a trace that tells the stages of each row and its perturbed sign.
+-- States that `explain` writes the text of a trace that tells the stages of each row and its perturbed sign.
 use Rattle.std.specs.Prelude.{◌≡◌, ℕ, List, [], ◌∷◌, ◌++◌, Option}
 use Rattle.ln_base.specs.Outside.{Shelf, Shown}
 use Rattle.ln_tree.specs.Table.{PredOf}
@@ -22,7 +22,7 @@ pub record PutTrace (p : PredOf) (records : Records) (was now : Option Shown) : 
   pub right : AreRight (subject_of p) records (signs_in lines)
   pub shown : now ≡ put_both (first_line ++ text_of_lines lines) [] was
 
--- where the words are `explain FILE NAME ROWS`, and over the told files have a predicate and records after the right header, their trace
+-- where the words are `explain FILE NAME ROWS`, and the files contain the predicate and records after the right header, their trace
 -- came to Out
 abbrev pub TracesExplain : List (List ℕ) → Shelf → Option Shown → Option Shown → Type 0
 TracesExplain words shelf was now = WhereGiven words shelf command.Explain (λ g. (p : PredOf) (names : List (List ℕ)) (records : Records)

@@ -25,6 +25,7 @@ pub record FactorsOf : Type 0 where
   pub programs : List Part
   pub which : List ℕ
 
+-- the factors with this first predicate, these names of columns and programs, and these places of their programs
 abbrev pub factors_of : Pred → List (List ℕ) → List Part → List ℕ → FactorsOf
 factors_of pred names programs which = record { pred = pred; names = names; programs = programs; which = which }
 
@@ -53,7 +54,7 @@ pub record IsRoomFor (t : FactorsOf) (scratches : List Scratch) (verdicts : List
 abbrev pub IsInRangeOf : Pred → code.Row → Type 0
 IsInRangeOf p r = InRange p.shape.sites p.shape.vars (row_of p.shape.sites p.shape.vars r)
 
--- what is said of a record with these fields, and the arrays hold the row that it says
+-- what is returned for a record with these fields, and the arrays hold the row that it says
 abbrev pub IsReadOf : {T : Type 0} → Pred → List (List ℕ) → Result T RowStop → code.Row → Type 0
 IsReadOf p fields read r = IsReadAs p.shape.sites p.shape.vars fields read r
 
@@ -84,7 +85,7 @@ AreMade table [] (c ∷ cs) = ⊥
 AreMade table (n ∷ ns) [] = ⊥
 AreMade table (n ∷ ns) (c ∷ cs) = IsMadeOf table n c × AreMade table ns cs
 
--- each of these numbers stands at its place
+-- each of these numbers is at its place
 abbrev pub StandAt : List ℕ → List ℕ → List ℕ → Type 0
 StandAt numbers [] [] = Unit {0}
 StandAt numbers [] (i ∷ is) = ⊥

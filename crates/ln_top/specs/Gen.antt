@@ -21,11 +21,12 @@ use Rattle.ln_top.specs.Lines.{Lines}
 abbrev pub seeded : ℕ → Lcg
 seeded seed = pcg64_of_seed (pcg32_seed 32 seed)
 
--- a row by its number, and the generator as it stands before its words
+-- a row by its number, and the generator as it is before its words
 pub record Draw : Type 0 where
   pub number : ℕ
   pub from : Lcg
 
+-- the draw of the row with this number from this generator
 abbrev pub draw : ℕ → Lcg → Draw
 draw number from = record { number = number; from = from }
 
@@ -33,12 +34,12 @@ draw number from = record { number = number; from = from }
 abbrev pub drawn : List VarInfo → Draw → Row
 drawn vars d = row_by d.number vars (words (length (columns vars)) d.from)
 
--- so many rows behind row n, each by the words behind those of the one before it
+-- this many rows after row n, each by the words after those of the one before it
 abbrev pub draws : ℕ → ℕ → List VarInfo → Lcg → List Draw
 draws zero n vars g = []
 draws (suc k) n vars g = draw (suc n) g ∷ draws k (suc n) vars (past (length (columns vars)) g)
 
--- what a row puts: on Out the lines of the boxes that are done behind the verdict that it is owed, on Err nothing
+-- what is written for a row: on Out the lines of the watchers that are done after the verdict that it requires, on Err nothing
 pub record GenStep (p : PredOf) (before : List State) (d : Draw) (out err : List ℕ) (after : List State) : Type 0 where
   pub verdict : Verdict
   pub due : IsDue p (drawn p.vars d) verdict
@@ -46,7 +47,7 @@ pub record GenStep (p : PredOf) (before : List State) (d : Draw) (out err : List
   pub silent : err ≡ []
   pub left : after ≡ left_after d.number verdict before
 
--- what is owed: the lines of the watchers over the rows from 1 to the count, and at the end those of the boxes that are left
+-- what is required: the lines of the watchers over the rows from 1 to the count, and at the end those of the remaining watchers
 pub data GenSaid (seed count : ℕ) (boxes : List State) (g : Given) : Said → Type 0 where
   made : (p : PredOf) (out : List ℕ) (z : List State) → g.preds ≡ p ∷ []
       → Lines (GenStep p) boxes (draws count 0 p.vars (seeded seed)) out [] z

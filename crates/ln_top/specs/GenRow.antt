@@ -15,6 +15,7 @@ abbrev pub words : ℕ → Lcg → List ℕ
 words zero g = []
 words (suc k) g = (pcg64 g).0 ∷ words k (pcg64 g).1
 
+-- the generator after its next k words
 abbrev pub past : ℕ → Lcg → Lcg
 past zero g = g
 past (suc k) g = past k (pcg64 g).1
@@ -38,9 +39,11 @@ high_part hi = if int_lt (pos 2) hi then pos 2 else hi
 abbrev pub is_narrowed : ℕ → ℤ → ℤ → Bool
 is_narrowed n lo hi = (n % 2 == 0) && int_le (low_part lo) (high_part hi)
 
+-- the low end that the range of a variable has on row n
 abbrev pub low_end : ℕ → ℤ → ℤ → ℤ
 low_end n lo hi = if is_narrowed n lo hi then low_part lo else lo
 
+-- the high end that the range of a variable has on row n
 abbrev pub high_end : ℕ → ℤ → ℤ → ℤ
 high_end n lo hi = if is_narrowed n lo hi then high_part hi else hi
 
@@ -48,13 +51,14 @@ high_end n lo hi = if is_narrowed n lo hi then high_part hi else hi
 abbrev pub variable_by : ℕ → VarInfo → ℕ → ℤ
 variable_by n i word = value_by (low_end n i.lo i.hi) (high_end n i.lo i.hi) word
 
--- the indices of the sites, of which the first stands at place j, and the values of the variables on row n, by the words of their columns
+-- the indices of the sites, of which the first is at place j, and the values of the variables on row n, by the words of their columns
 abbrev pub indices_by : ℕ → List Column → List ℕ → List ℤ
 indices_by j [] ws = []
 indices_by j (c ∷ cs) [] = []
 indices_by j (SiteIndex ∷ cs) (w ∷ ws) = index_by j w ∷ indices_by (suc j) cs ws
 indices_by j (Variable i ∷ cs) (w ∷ ws) = indices_by j cs ws
 
+-- the values of the variables on row n, by the words of their columns
 abbrev pub values_by : ℕ → List Column → List ℕ → List ℤ
 values_by n [] ws = []
 values_by n (c ∷ cs) [] = []

@@ -1,4 +1,4 @@
--- What `graded` asks of its predicate: few stages by total degree.
+-- Defines what `graded` asks of its predicate: few stages by total degree.
 use Rattle.std.specs.Prelude.{ℕ, List, [], ◌∷◌, length}
 use Rattle.ln_algebra.specs.Orders.{ByDegree}
 use Rattle.ln_tree.specs.Table.{PredOf}

@@ -36,7 +36,7 @@ pub record IsOneLine (text : List ℕ) : Type 0 where
   pub is : text ≡ line body
   pub none : NoFeed body
 
--- one line behind the other, exactly one for each record: that of a row has its perturbed sign
+-- one line after the other, exactly one for each record: that of a row has its perturbed sign
 pub data HavePerturbedSigns (rank : Rank) (p : PredOf) : Records → List ℕ → Type 0 where
   none : HavePerturbedSigns rank p [] []
   more : {fields : List (List ℕ)} {rest : Records} (text texts : List ℕ) → IsOneLine text
@@ -51,7 +51,7 @@ pub record PutSigns (rank : Rank) (p : PredOf) (records : Records) (boxes : List
   pub none : boxes ≡ [] → err ≡ []
   pub shown : now ≡ put_both lines err was
 
--- where the words are `run FILE NAME ROWS`, and over the told files have a predicate and records behind the right header, their lines
+-- where the words are `run FILE NAME ROWS`, and the files contain the predicate and records after the right header, their lines
 -- came to Out
 abbrev pub SignsArePerturbed : List (List ℕ) → Shelf → List State → Option Shown → Option Shown → Type 0
 SignsArePerturbed words shelf boxes was now = WhereGiven words shelf Run (λ g. (p : PredOf) (names : List (List ℕ)) (records : Records)

@@ -15,6 +15,7 @@ use Rattle.ln_rows.specs.Record.{read_row}
 use Rattle.ln_compile.specs.Filtered.{IsDueIn}
 use Rattle.ln_top.specs.Said.{line}
 
+-- a sign as text: `-`, `0` or `+`
 abbrev pub sign_text : Sign → List ℕ
 sign_text Minus = codes "-"
 sign_text Zero = codes "0"
@@ -26,20 +27,20 @@ decider_text Filter = codes "F"
 decider_text (Stage place) = decimal place
 decider_text Nothing = codes "-"
 
--- why a record is no row; a column by its name
+-- why a record is invalid; a column by its name
 abbrev pub stop_text : List (List ℕ) → RowStop → List ℕ
 stop_text names Fields = codes "! fields"
 stop_text names (Number k) = codes "! number " ++ slice_index_or names k []
 stop_text names (Range k) = codes "! range " ++ slice_index_or names k []
 stop_text names (Index k) = codes "! index " ++ slice_index_or names k []
 
--- a verdict's sign, a space and its decider; or why there is no row
+-- a verdict's sign, a space and its decider; or why the record is invalid
 abbrev pub said_text : List (List ℕ) → Result Verdict RowStop → List ℕ
 said_text names (Ok v) = sign_text v.sign ++ 32 ∷ decider_text v.by
 said_text names (Err stop) = stop_text names stop
 
--- what a predicate says of a record in an order of infinitesimals: a verdict that the record's row is owed, or why the record is no
--- row
+-- the result of a predicate on a record in an order of infinitesimals: a verdict that the record's row requires, or why the
+-- record is invalid
 pub data Says (rank : Rank) (p : PredOf) (fields : List (List ℕ)) : Result Verdict RowStop → Type 0 where
   due : (row : Row) (v : Verdict) → read_row p.sites p.vars fields ≡ Ok row → IsDueIn rank p row v → Says rank p fields (Ok v)
   refused_ : (stop : RowStop) → read_row p.sites p.vars fields ≡ Err stop → Says rank p fields (Err stop)
@@ -50,6 +51,7 @@ pub record IsLineOf (rank : Rank) (p : PredOf) (names fields : List (List ℕ)) 
   pub says : Says rank p fields said
   pub is : text ≡ line (said_text names said)
 
+-- is the result of reading a record a row?
 abbrev pub is_read : Result Row RowStop → Bool
 is_read (Ok row) = true
 is_read (Err stop) = false
@@ -70,6 +72,7 @@ is_bare_stop (Number k) = false
 is_bare_stop (Range k) = false
 is_bare_stop (Index k) = false
 
+-- does the line of a verdict, or of a refused record, name no column?
 abbrev pub is_bare : {T : Type 0} → Result T RowStop → Bool
 is_bare (Ok v) = true
 is_bare (Err stop) = is_bare_stop stop

@@ -1,4 +1,4 @@
--- The listing that `list` puts gives the perturbed signs, and `verify` says that it is valid.
+-- States that the listing that `list` writes has the perturbed signs, and that `verify` finds it valid.
 use Rattle.std.specs.Prelude.{◌≡◌, ℕ, List, [], ◌∷◌, codes, Option}
 use Rattle.ln_base.specs.Outside.{Shelf, Shown}
 use Rattle.ln_tree.specs.declared.shape.Shape.{Shape}
@@ -28,8 +28,8 @@ pub record GivesPerturbedSign (p : PredOf) (part : Part) (row : Row) : Type 0 wh
   pub never_zero : (v : Verdict) → IsVerdict part row v → NotZeroWithoutParams p v.sign
   pub narrow : FilterDecides p row → (v : Verdict) → IsVerdict part row v → v.wide ≡ 0
 
--- the machine's part over the predicate's sites and variables, of what the listing writes for it, gives so on each row in its declared
--- ranges
+-- the machine's part over the predicate's sites and variables, of what the listing writes for it, has a verdict with the perturbed sign on each row
+-- in its declared ranges
 pub record PartGivesSigns (p : PredOf) (w : Written) : Type 0 where
   pub shape : Shape
   pub name : name_bytes shape.name ≡ p.name
@@ -44,8 +44,8 @@ PartsGiveSigns [] (w ∷ ws) = ⊥
 PartsGiveSigns (p ∷ ps) [] = ⊥
 PartsGiveSigns (p ∷ ps) (w ∷ ws) = PartGivesSigns p w × PartsGiveSigns ps ws
 
--- what came to Out is the text of a listing that is valid for the source's predicates and whose parts give their signs, and nothing came
--- to Err; and `verify` of a file that holds this text, over the same table, owes `valid`
+-- what came to Out is the text of a listing that is valid for the source's predicates and whose parts return their signs, and nothing came
+-- to Err; and `verify` of a file that holds this text, over the same table, requires `valid`
 pub record PutListing (g : Given) (was now : Option Shown) : Type 0 where
   pub bytes : List ℕ
   pub listing : Listed
@@ -55,6 +55,6 @@ pub record PutListing (g : Given) (was now : Option Shown) : Type 0 where
   pub verified : (h : Given) → h.table ≡ g.table → h.texts ≡ bytes ∷ [] → VerifySaid h (whole Done (line (codes "valid")))
   pub shown : now ≡ put_both bytes [] was
 
--- where the words are `list FILE`, and over the told files the source is accepted, such a listing came to Out
+-- where the words are `list FILE`, and the source that the files contain is accepted, such a listing came to Out
 abbrev pub ListingGivesSigns : List (List ℕ) → Shelf → Option Shown → Option Shown → Type 0
 ListingGivesSigns words shelf was now = WhereGiven words shelf command.List (λ g. PutListing g was now)

@@ -28,6 +28,7 @@ pub record IsListableBlock (c : Code) : Type 0 where
   pub rising : IsRising c.exps
   pub shallow : c.depth ≤ 2048
 
+-- each of these blocks can be listed
 abbrev pub AreListableBlocks : List Code → Type 0
 AreListableBlocks [] = Unit {0}
 AreListableBlocks (c ∷ cs) = IsListableBlock c × AreListableBlocks cs
@@ -37,20 +38,21 @@ pub record IsListable (p : Part) : Type 0 where
   pub blocks : AreListableBlocks p.blocks
   pub filter : IfSome p.filter (λ f. f.depth ≤ 2048)
 
+-- each of these programs can be listed
 abbrev pub AreListable : List Part → Type 0
 AreListable [] = Unit {0}
 AreListable (p ∷ ps) = IsListable p × AreListable ps
 
--- ---- what its machine answers
--- on this row the machine of the part has a verdict; whatever verdict it has, its sign, its decider and its calls are those that the row
--- is owed, and no operation is done in 128 bits where the filter decides
+-- ---- the verdicts of its machine
+-- on this row the machine of the part has a verdict; whatever verdict it has, its sign, its decider and its calls are those that the row requires,
+-- and no operation is done in 128 bits where the filter decides
 pub record AnswersDue (p : PredOf) (part : Part) (row : Row) : Type 0 where
   pub verdict : Verdict
   pub answers : IsVerdict part row verdict
   pub due : (v : Verdict) → IsVerdict part row v → IsDue p row v
   pub narrow : (v : Verdict) → IsVerdict part row v → v.by ≡ Filter → v.wide ≡ 0
 
--- the machine's part over the predicate's sites and variables, of what a listing writes for it, answers so on each row in range
+-- the machine's part over the predicate's sites and variables, of what a listing writes for it, has such verdicts on each row in range
 pub record PartIsDue (p : PredOf) (w : Written) : Type 0 where
   pub shape : Shape
   pub name : name_bytes shape.name ≡ p.shape_name
@@ -65,7 +67,7 @@ PartsAreDue [] (w ∷ ws) = ⊥
 PartsAreDue (p ∷ ps) [] = ⊥
 PartsAreDue (p ∷ ps) (w ∷ ws) = PartIsDue p w × PartsAreDue ps ws
 
--- the bytes are the text of a listing of version 2 that is valid for these predicates, and whose parts answer what their rows are owed;
+-- the bytes are the text of a listing of version 2 that is valid for these predicates, and whose parts have the verdicts that their rows require;
 -- it is that of programs of the predicates, one for each, that follow the rules
 pub record IsListingOf (preds : List PredOf) (bytes : List ℕ) : Type 0 where
   pub listing : Listed

@@ -15,7 +15,7 @@ pub record Plan : Type 0 where
   pub files : List (List ℕ)
   pub command : Command
 
--- behind the source file stand so many names of predicates, from the least to the most, and then so many further files
+-- after the source file come the names of predicates, this many at least and at most, and then this many further files
 pub record Form : Type 0 where
   pub least : ℕ
   pub most : ℕ
@@ -57,6 +57,7 @@ pub record HasForm (p : Plan) : Type 0 where
   pub most : length p.names ≤ (form p.command).most
   pub files : length p.files ≡ (form p.command).files
 
+-- the plan of a command, a source file and the words after it, where there are as many of them as the command takes
 abbrev pub plan_for : Option Command → List ℕ → List (List ℕ) → Option Plan
 plan_for None source rest = None
 plan_for (Some c) source rest =
@@ -78,7 +79,7 @@ number_of word = if is_digits word && nat_le (length word) 18 then Some (decimal
 abbrev pub is_count : ℕ → Bool
 is_count n = nat_le 1 n && nat_le n 1000000
 
--- a plan of `gen`, where both words behind the name are numbers and the second of them is a count
+-- a plan of `gen`, where both words after the name are numbers and the second of them is a count
 abbrev pub gen_with : List ℕ → List ℕ → Option ℕ → Option ℕ → Option Plan
 gen_with source name None count = None
 gen_with source name (Some seed) None = None
@@ -87,11 +88,12 @@ gen_with source name (Some seed) (Some count) =
     then Some (record { source = source; names = name ∷ []; files = []; command = Gen seed count })
     else None
 
+-- the plan of `gen`, where after the source file come exactly a name, a seed and a count
 abbrev pub gen_plan : List ℕ → List (List ℕ) → Option Plan
 gen_plan source (name ∷ seed ∷ count ∷ []) = gen_with source name (number_of seed) (number_of count)
 gen_plan source words = None
 
--- the plan of a first word, a source file and the words behind them
+-- the plan of a first word, a source file and the words after them
 abbrev pub plan_behind : List ℕ → List ℕ → List (List ℕ) → Option Plan
 plan_behind word source rest = if bytes_eq word (codes "gen") then gen_plan source rest else plan_for (named_command word) source rest
 

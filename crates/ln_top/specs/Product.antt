@@ -20,7 +20,7 @@ use Rattle.ln_top.specs.Line.{decider_text, is_row, sign_text, stop_text}
 use Rattle.ln_top.specs.Lines.{Lines, all_good}
 use Rattle.ln_top.specs.Run.{HasRecords, IsWrongHeader, end_of}
 
--- each factor has a verdict that the row is owed by it
+-- each factor has a verdict that the row requires of it
 abbrev pub AreDue : List PredOf → Row → List Verdict → Type 0
 AreDue [] row [] = Unit {0}
 AreDue [] row (v ∷ vs) = ⊥
@@ -36,8 +36,8 @@ pub record Multiplied : Type 0 where
 abbrev pub IsMultiplied : Multiplied → Type 0
 IsMultiplied m = sign_number m.sign ≡ multiplied_numbers (numbers_of m.verdicts)
 
--- what the factors say of a record, by the first predicate's columns: the sign of their product and their verdicts on its row, or why it
--- is no row
+-- the result of the factors on a record, by the first predicate's columns: the sign of their product and their verdicts on its
+-- row, or why the record is invalid
 pub data SaysProduct (p : PredOf) (ps : List PredOf) (fields : List (List ℕ)) : Result Multiplied RowStop → Type 0 where
   due : (row : Row) (m : Multiplied) → read_row p.sites p.vars fields ≡ Ok row → AreDue ps row m.verdicts → IsMultiplied m
       → SaysProduct p ps fields (Ok m)
@@ -48,7 +48,7 @@ abbrev pub deciders_after : ℕ → List Verdict → List ℕ
 deciders_after byte [] = []
 deciders_after byte (v ∷ vs) = byte ∷ decider_text v.by ++ deciders_after 44 vs
 
--- the sign, a space and the deciders, with commas between; or why there is no row
+-- the sign, a space and the deciders, with commas between; or why the record is invalid
 abbrev pub product_text : List (List ℕ) → Result Multiplied RowStop → List ℕ
 product_text names (Ok m) = sign_text m.sign ++ deciders_after 32 m.verdicts
 product_text names (Err stop) = stop_text names stop
@@ -68,7 +68,7 @@ product_room = 330
 abbrev pub product_piece : ℕ
 product_piece = 65866
 
--- what a record puts: its line on Out
+-- what is written for a record: its line on Out
 pub record ProductStep (p : PredOf) (ps : List PredOf) (names : List (List ℕ))
     (before : Unit {0}) (fields : List (List ℕ)) (out err : List ℕ) (after : Unit {0}) : Type 0 where
   pub said : Result Multiplied RowStop
@@ -80,7 +80,7 @@ pub record ProductStep (p : PredOf) (ps : List PredOf) (names : List (List ℕ))
 abbrev pub StepOf : FactorsOf → List PredOf → Unit {0} → List (List ℕ) → List ℕ → List ℕ → Unit {0} → Type 0
 StepOf t ps = ProductStep (pred_of t.pred) ps t.names
 
--- what is owed: the error line of a wrong header; or after the header a line for each record, in order, and nothing on Err
+-- what is required: the error line of a wrong header; or after the header a line for each record, in order, and nothing on Err
 pub data ProductSaid (g : Given) : Said → Type 0 where
   header : (p : PredOf) (names : List (List ℕ)) (records : Records)
       → HasRecords g p names records → IsWrongHeader names records → ProductSaid g (said_of Header)
@@ -88,7 +88,7 @@ pub data ProductSaid (g : Given) : Said → Type 0 where
       → HasRecords g p names (names ∷ records) → Lines (ProductStep p g.preds names) tt records out [] tt
       → ProductSaid g (record { end = end_of (all_good (is_row p) records); out = out; err = [] })
 
--- what may stand where memory ran out: the whole lines of the first records
+-- what may be written where memory ran out: the whole lines of the first records
 pub data ProductPart (g : Given) (out err : List ℕ) : Type 0 where
   first : (p : PredOf) (names : List (List ℕ)) (done left : Records)
       → HasRecords g p names (names ∷ done ++ left) → Lines (ProductStep p g.preds names) tt done out err tt

@@ -71,8 +71,8 @@ pub record PutProducts (p : PredOf) (others : List PredOf) (records : Records) (
   pub signs : HaveProductSigns p others records lines
   pub shown : now ≡ put_both lines [] was
 
--- where the words are `product FILE NAME NAME.. ROWS`, and over the told files have predicates with the same arguments and records after
--- the right header, their lines came to Out
+-- where the words are `product FILE NAME NAME.. ROWS`, and the files contain predicates with the same arguments and records after the right
+-- header, their lines came to Out
 abbrev pub ProductsArePerturbed : List (List ℕ) → Shelf → Option Shown → Option Shown → Type 0
 ProductsArePerturbed words shelf was now = WhereGiven words shelf Product (λ g. (p : PredOf) (others : List PredOf)
     (names : List (List ℕ)) (records : Records) → g.preds ≡ p ∷ others → HasRecords g p names (names ∷ records)

@@ -1,4 +1,4 @@
--- What the program has ready for the work, and what it stands for.
+-- Defines what the program has ready for the work, and what it stands for.
 use Rattle.std.specs.Prelude.{◌≡◌, ℕ, ◌≤◌, List, [], ◌∷◌, map, length, slice_get, Option, Some}
 use Rattle.ln_base.specs.Outside.{Shelf}
 use Rattle.ln_tree.specs.Table.{PredOf, pred_of}
@@ -34,7 +34,7 @@ pub record StandsFor (r : Ready) (g : Given) : Type 0 where
   pub numbered : AreNumbered (map pred_of r.compiled.table.preds) r.numbers.items g.preds
   pub texts : g.texts ≡ map (λ v. v.items) r.texts.items
 
--- it is what the steps of the plan give
+-- it is the result of the steps of the plan
 pub record IsReady (plan : Plan) (told : Option Shelf) (r : Ready) : Type 0 where
   pub given : Given
   pub prepared : Prepares plan told (gives given)

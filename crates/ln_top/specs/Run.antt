@@ -1,4 +1,4 @@
--- `run FILE NAME ROWS`: a line on Out for each record behind the header, and the watchers' lines on Err. `graded FILE NAME ROWS` is the
+-- `run FILE NAME ROWS`: a line on Out for each record after the header, and the watchers' lines on Err. `graded FILE NAME ROWS` is the
 -- same in the other order of infinitesimals, without watchers.
 use Rattle.std.specs.Prelude.{◌≡◌, ◌≢◌, ℕ, Bool, true, false, List, [], ◌∷◌, ◌++◌, All, Ok, Err}
 use Rattle.ln_algebra.specs.Orders.{Rank}
@@ -20,7 +20,7 @@ use Rattle.ln_top.specs.Lines.{Lines, all_good}
 use Rattle.ln_top.specs.Target.{TargetOf, pred_in}
 use Rattle.ln_top.specs.Watching.{Watching, watching, next_lines, next, last_of}
 
--- what a record puts: its line on Out, and on Err the lines of the boxes that are done behind its verdict
+-- what is written for a record: its line on Out, and on Err the lines of the watchers that are done after its verdict
 pub record RunStep (rank : Rank) (p : PredOf) (names : List (List ℕ))
     (before : Watching) (fields : List (List ℕ)) (out err : List ℕ) (after : Watching) : Type 0 where
   pub line : IsLineOf rank p names fields out
@@ -31,6 +31,7 @@ pub record RunStep (rank : Rank) (p : PredOf) (names : List (List ℕ))
 abbrev pub StepOf : TargetOf → Watching → List (List ℕ) → List ℕ → List ℕ → Watching → Type 0
 StepOf t = RunStep t.rank (pred_in t) t.names
 
+-- how work on records ends: done where each of them is a row in range, else with the end of an invalid record
 abbrev pub end_of : Bool → End
 end_of true = Done
 end_of false = Rows
@@ -45,7 +46,7 @@ abbrev pub HeaderIs : List (List ℕ) → Records → Records → Bool → Type 
 HeaderIs names old new true = old ≡ names ∷ new
 HeaderIs names old new false = IsWrongHeader names old
 
--- so many bytes are gathered before they are put, and there is room for a line more
+-- this many bytes are gathered before they are written, and there is room for a line more
 abbrev pub piece : ℕ
 piece = 65536
 
@@ -61,12 +62,12 @@ pub record HasRecords (g : Given) (p : PredOf) (names : List (List ℕ)) (record
   pub text : g.texts ≡ rows ∷ []
   pub are : records_in rows ≡ records
 
--- the answer behind the header: the lines, at the end those of the boxes that are left, and whether all records are rows
+-- what is required after the header: the lines, at the end those of the remaining watchers, and whether all records are rows
 abbrev pub said_of_run : PredOf → Records → List ℕ → List ℕ → Watching → Said
 said_of_run p records out err z = record { end = end_of (all_good (is_row p) records); out = out; err = err ++ last_of z }
 
--- what is owed: the error line of a wrong header; or behind the header a line for each record, in order, and the lines of the watchers,
--- at the end those of the boxes that are left, also where records are refused
+-- what is required: the error line of a wrong header; or after the header a line for each record, in order, and the lines of the watchers,
+-- at the end those of the remaining watchers, also where records are refused
 pub data RunSaid (rank : Rank) (boxes : List State) (g : Given) : Said → Type 0 where
   header : (p : PredOf) (names : List (List ℕ)) (records : Records)
       → HasRecords g p names records → IsWrongHeader names records → RunSaid rank boxes g (said_of Header)
@@ -74,7 +75,7 @@ pub data RunSaid (rank : Rank) (boxes : List State) (g : Given) : Said → Type 
       → HasRecords g p names (names ∷ records) → Lines (RunStep rank p names) (watching 0 boxes) records out err z
       → RunSaid rank boxes g (said_of_run p records out err z)
 
--- what want of memory leaves: the whole lines of the first records
+-- the part that may be left when memory runs out: the whole lines of the first records
 pub data RunPart (rank : Rank) (boxes : List State) (g : Given) (out err : List ℕ) : Type 0 where
   first : (p : PredOf) (names : List (List ℕ)) (done left : Records) (z : Watching)
       → HasRecords g p names (names ∷ done ++ left) → Lines (RunStep rank p names) (watching 0 boxes) done out err z
@@ -85,11 +86,12 @@ pub record IsRow (p : PredOf) (fields : List (List ℕ)) : Type 0 where
   pub row : Row
   pub read : read_row p.sites p.vars fields ≡ Ok row
 
+-- a record is invalid, and this is its first fault
 pub record IsNoRow (p : PredOf) (fields : List (List ℕ)) : Type 0 where
   pub stop : RowStop
   pub read : read_row p.sites p.vars fields ≡ Err stop
 
--- how it ends, and where: each record behind the header is a row in range; the header is wrong; a record is none
+-- how it ends, and where: each record after the header is a row in range; the header is wrong; a record is none
 pub data RunEnds (g : Given) : End → Type 0 where
   done : (p : PredOf) (names : List (List ℕ)) (records : Records)
       → HasRecords g p names (names ∷ records) → All (IsRow p) records → RunEnds g Done

@@ -1,4 +1,4 @@
--- What the program says: how it ends, and the bytes on both ports.
+-- Defines how the program ends, and the bytes on both streams.
 use Rattle.std.specs.Prelude.{◌≡◌, ℕ, List, [], ◌∷◌, ◌++◌, Option, Result, Ok, Err}
 use Rattle.ln_base.specs.Outside.{Shown, counted, appended}
 use Rattle.ln_base.specs.declared.outside.Port.TheVariants.{Out, Err as ErrPort}
@@ -13,7 +13,7 @@ use Rattle.ln_top.specs.declared.status.Status.TheVariants as status
 abbrev pub line : List ℕ → List ℕ
 line text = text ++ 10 ∷ []
 
--- an end that is owed, and what stands on each port
+-- an end that is required, and the bytes on each stream
 pub record Said : Type 0 where
   pub end : End
   pub out : List ℕ
@@ -27,7 +27,7 @@ error_line end text = record { end = end; out = []; err = line text }
 abbrev pub whole : End → List ℕ → Said
 whole end text = record { end = end; out = text; err = [] }
 
--- these bytes came to both ports
+-- these bytes came to both streams
 abbrev pub put_both : List ℕ → List ℕ → Option Shown → Option Shown
 put_both out err was = appended ErrPort err (appended Out out was)
 
@@ -48,11 +48,13 @@ end_status end.TooLong = status.TooLong
 end_status end.Shape = status.Shape
 end_status end.Many = status.Many
 
+-- the status of an early stop: a fault of reading, a fault of writing, or a failed allocation
 abbrev pub early_status : Early → Status
 early_status early.Read = status.Read
 early_status early.Write = status.Write
 early_status early.Memory = status.Memory
 
+-- the status of a result, which is an end or an early stop
 abbrev pub status_of : Result End Early → Status
 status_of (Ok e) = end_status e
 status_of (Err e) = early_status e
@@ -77,6 +79,7 @@ pub record Count : Type 0 where
   pub before : ℕ
   pub after : ℕ
 
+-- the count of faults with these values before and after
 abbrev pub count : ℕ → ℕ → Count
 count before after = record { before = before; after = after }
 

@@ -1,4 +1,4 @@
--- What a source is: accepted, with a table, or refused for a reason at a place.
+-- Defines what a source is: accepted, with a table, or refused for a reason at a place.
 use Rattle.std.specs.Prelude.{◌≡◌, ℕ, List, Some}
 use Rattle.ln_base.specs.declared.span.Span.{Span}
 use Rattle.ln_base.specs.Place.{line_of, column_of}

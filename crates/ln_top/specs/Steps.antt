@@ -11,13 +11,13 @@ use Rattle.ln_top.specs.Plan.{Plan, plan_of}
 use Rattle.ln_top.specs.Source.{IsAccepted, IsRefusedAt}
 use Rattle.ln_top.specs.Suits.{Asks, objection}
 
--- what a step comes to: it stops the command, or a file that it wants isn't there, or it gives a value to go on with
+-- what a step comes to: it stops the command, or a file that it wants isn't there, or it has a value to go on with
 pub data Outcome (A : Type 0) : Type 0 where
   stops : Why → Outcome A
   missing : Outcome A
   gives : A → Outcome A
 
--- one step, and where it gives a value the next one
+-- one step, and where it has a value the next one
 pub data Then {A B : Type 0} (first : Outcome A → Type 0) (next : A → Outcome B → Type 0) : Outcome B → Type 0 where
   stopped : (why : Why) → first (stops why) → Then first next (stops why)
   lacks : first missing → Then first next missing
@@ -91,7 +91,7 @@ Prepares plan told =
     Then (Each (Reads told most_file) plan.files) (λ texts.
     Gives (record { table = table; preds = preds; texts = texts }))))))
 
--- a claim on what is given where these words are this command and prepare it over the told files
+-- a claim on what is given where these words are this command and the files prepare it
 abbrev pub WhereGiven : List (List ℕ) → Shelf → Command → (Given → Type 0) → Type 0
 WhereGiven words shelf command claim =
     (plan : Plan) (g : Given) → plan_of words ≡ Some plan → plan.command ≡ command

@@ -1,4 +1,4 @@
--- Why a command stops before its work: an end that is owed with its line, or a fault of reading, or want of memory.
+-- Defines why a command stops before its work: an end that is required with its line, or a fault of reading, or out of memory.
 use Rattle.std.specs.Prelude.{ℕ, List, ◌++◌, codes, decimal, Option, Some, None}
 use Rattle.ln_base.specs.declared.span.Span.{Span}
 use Rattle.ln_compile.specs.declared.refusal.Refusal.{Refusal}
@@ -17,6 +17,7 @@ use Rattle.ln_top.specs.Source.{place_at}
 abbrev pub placed_text : List ℕ → Place → List ℕ
 placed_text word place = codes "error " ++ word ++ codes " " ++ decimal place.line ++ codes ":" ++ decimal place.col
 
+-- `error KIND LINE:COL`, where the kind is the word of this refusal
 abbrev pub refusal_text : Refusal → Place → List ℕ
 refusal_text r place = placed_text (word_of r) place
 
@@ -52,10 +53,11 @@ why_text (Point n) = point_text n
 abbrev pub said_of : Why → Said
 said_of why = error_line (why_end why) (why_text why)
 
--- the stop for a refusal: its place is the start of its span; want of memory has none and is told by no line
+-- the stop for a refusal: its place is the start of its span; out of memory has none and has no line
 abbrev pub stop_at : List ℕ → Refusal → Option Span → Stop
 stop_at bytes r None = Memory
 stop_at bytes r (Some at) = Tell (Refused r (place_at bytes at))
 
+-- the stop for a refusal of a source of these bytes, at the span that the refusal has
 abbrev pub stop_of : List ℕ → Refusal → Stop
 stop_of bytes r = stop_at bytes r (span_of r)

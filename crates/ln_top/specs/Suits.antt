@@ -1,5 +1,5 @@
--- What a command asks of its named predicates together, after the names are found and before the further files are read.
-use Rattle.std.specs.Prelude.{◌≡◌, true, ℕ, List, [], ◌∷◌}
+-- Defines what a command asks of its named predicates together, after the names are found and before the further files are read.
+use Rattle.std.specs.Prelude.{◌≡◌, true, ℕ, List, ◌∷◌}
 use Rattle.ln_tree.specs.Table.{PredOf}
 use Rattle.ln_top.specs.declared.stop.Why.{Why}
 use Rattle.ln_top.specs.declared.stop.Why.TheVariants.{Shape, Stages}
@@ -16,7 +16,7 @@ Asks command.Graded preds = FirstHasFew preds
 Asks command.Edges preds = is_one_of_three preds ≡ true
 Asks c preds = Unit {0}
 
--- how it stops where they don't suit it; a place in the source is told by the source's bytes
+-- how it stops where they don't suit it; a place in the source is found by the source's bytes
 abbrev pub objection : Command → List ℕ → List PredOf → Why
 objection command.Graded bytes (p ∷ ps) = Stages (place_at bytes p.at)
 objection c bytes preds = Shape

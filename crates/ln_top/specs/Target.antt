@@ -28,7 +28,7 @@ abbrev pub rank_of : Order → Rank
 rank_of Smallest = BySmallest
 rank_of Degree = ByDegree
 
--- the program follows the rules and answers for the predicate in this order
+-- the program follows the rules and has the verdicts of the predicate in this order
 pub record Belongs (rank : Rank) (pred : Pred) (program : Part) : Type 0 where
   pub kept : IsProgram program
   pub answers : AnswersFor rank (pred_of pred) program
@@ -44,7 +44,7 @@ row_in t r = row_of t.pred.shape.sites t.pred.shape.vars r
 abbrev pub IsInRange : TargetOf → code.Row → Type 0
 IsInRange t r = InRange t.pred.shape.sites t.pred.shape.vars (row_in t r)
 
--- what is said of a record with these fields, and the arrays hold the row that it says
+-- what is returned for a record with these fields, and the arrays hold the row that it says
 abbrev pub IsReadFor : {T : Type 0} → TargetOf → List (List ℕ) → Result T RowStop → code.Row → Type 0
 IsReadFor t fields read r = IsReadAs t.pred.shape.sites t.pred.shape.vars fields read r
 

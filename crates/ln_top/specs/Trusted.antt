@@ -1,4 +1,4 @@
--- What `valid` means: the listing, whoever made it, gives the perturbed signs.
+-- States what `valid` means: the listing, whoever made it, has the perturbed signs.
 use Rattle.std.specs.Prelude.{◌≡◌, ℕ, List, map, slice_get, Some}
 use Rattle.ln_base.specs.Outside.{Shelf}
 use Rattle.ln_tree.specs.declared.pred.Pred.{Pred}
@@ -27,6 +27,6 @@ pub record TellsSigns (g : Given) : Type 0 where
       → slice_get t.preds k ≡ Some p → InRange p.shape.sites p.shape.vars row
       → (w : Written) × (slice_get (valid t is).valid.parts k ≡ Some w) × GivesSign p.shape (root_of (pred_of p)) w row
 
--- where the words are `verify FILE LISTING`, over the told files the source is accepted, and the status is done
+-- where the words are `verify FILE LISTING`, the source that the files contain is accepted and the status is done
 abbrev pub ValidTellsSigns : List (List ℕ) → Shelf → Status → Type 0
 ValidTellsSigns words shelf result = WhereGiven words shelf Verify (λ g. result ≡ Done → TellsSigns g)

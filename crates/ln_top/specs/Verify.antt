@@ -24,7 +24,7 @@ pub data HasFault (g : Given) (at : ℕ) : Type 0 where
   form : (bytes : List ℕ) → g.texts ≡ bytes ∷ [] → IsFormFault bytes at → HasFault g at
   rule : (l : Listed) → IsListed g l → IsFaultFor g.table.preds l at → HasFault g at
 
--- what is owed: `valid`, or `invalid LINE`
+-- what is required: `valid`, or `invalid LINE`
 pub data VerifySaid (g : Given) : Said → Type 0 where
   valid : HasValid g → VerifySaid g (whole Done (line (codes "valid")))
   invalid : (at : ℕ) → HasFault g at → VerifySaid g (whole Invalid (line (codes "invalid " ++ decimal at)))

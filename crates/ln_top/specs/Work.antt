@@ -1,5 +1,5 @@
--- The works of the commands, each by its own file and over the watchers that are handed in: what is owed, what want of memory may
--- leave, and how and where it ends.
+-- Defines the works of the commands, each by its own file and over the watchers that are handed in: what is required, what may be left when memory
+-- runs out, and how and where it ends.
 use Rattle.std.specs.Prelude.{◌≡◌, ℕ, List, [], Some}
 use Rattle.ln_algebra.specs.Orders.{BySmallest, ByDegree}
 use Rattle.ln_watch.specs.Panel.{State}
@@ -22,6 +22,7 @@ use Rattle.ln_top.specs.Audit.{AuditEnds, AuditSaid}
 use Rattle.ln_top.specs.Explain.{ExplainPart, ExplainSaid}
 use Rattle.ln_top.specs.Gen.{GenSaid, GenEnds}
 
+-- what the work of a command is required to say: how it ends, and its bytes on both streams
 abbrev pub WorkOwes : Command → List State → Given → Said → Type 0
 WorkOwes command.Check = λ boxes. CheckSaid
 WorkOwes command.List = λ boxes. ListSaid
@@ -35,6 +36,7 @@ WorkOwes command.Explain = λ boxes. ExplainSaid
 WorkOwes command.Audit = λ boxes. AuditSaid
 WorkOwes (command.Gen seed count) = GenSaid seed count
 
+-- which bytes on both streams the work of a command may leave where an allocation fails
 abbrev pub WorkPart : Command → List State → Given → List ℕ → List ℕ → Type 0
 WorkPart command.Check = λ boxes g. NoPart
 WorkPart command.List = λ boxes g. NoPart
@@ -48,6 +50,7 @@ WorkPart command.Explain = λ boxes. ExplainPart
 WorkPart command.Audit = λ boxes g. NoPart
 WorkPart (command.Gen seed count) = λ boxes g. NoPart
 
+-- how the work of a command ends on what it is given
 abbrev pub WorkEnds : Command → Given → End → Type 0
 WorkEnds command.Check g = CheckEnds g
 WorkEnds command.List g = ListEnds g
@@ -86,7 +89,7 @@ IsOneValued (command.Gen seed count) = Unit {0}
 abbrev pub AreOneValued : List (List ℕ) → Type 0
 AreOneValued words = (p : Plan) → plan_of words ≡ Some p → IsOneValued p.command
 
--- the laws of a work: what it says ends as it ends, it ends in one way, and by an end of works
+-- the laws of a work: what is required of it has its end, it ends in one way, and by an end of works
 pub record IsLawful (owes : List State → Given → Said → Type 0) (ends : Given → End → Type 0) : Type 0 where
   pub tells : (boxes : List State) (g : Given) (a : Said) → owes boxes g a → ends g a.end
   pub one : (g : Given) (a b : End) → ends g a → ends g b → a ≡ b

@@ -38,7 +38,7 @@ fn counts(alloc: Global, c: &Checked) -> Result<Vec<u8>, NoMemory>
     Ok(text)
 }
 
-/// Puts the lines of the predicates with their stage counts, all of them made before the first is put.
+/// Writes the lines of the predicates with their stage counts; all of them are made before the first is written.
 pub(crate) fn work<C: Console>(alloc: Global, con: &mut C, ready: &Ready) -> Result<End, Early>
     ensures { (g : Given) → StandsFor ready.now g → CarriesOut (CheckSaid g) NoPart ⊥ ⊥
         (count (C.faults con.old) (C.faults con.new)) result (C.shown con.old) (C.shown con.new) }

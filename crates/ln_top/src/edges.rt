@@ -102,7 +102,7 @@ fn lines(alloc: Global, ready: &Ready, points: &[Point]) -> Result<Vec<u8>, NoMe
     Ok(text)
 }
 
-// Puts the lines of the edges.
+// Writes the lines of the edges.
 fn put_edges<C: Console>(
     alloc: Global,
     con: &mut C,
@@ -120,7 +120,7 @@ fn put_edges<C: Console>(
     put_text(con, &text, End::Done)
 }
 
-/// Puts the lines of the edges, all of them made before the first is put; or refuses the header, the number of points, or a record.
+/// Writes the lines of the edges, all of them made before the first is written; or refuses the header, the number of points, or a record.
 pub(crate) fn work<C: Console>(alloc: Global, con: &mut C, ready: &Ready) -> Result<End, Early>
     requires { IsReadyFor Command.Edges ready.now }
     ensures { (g : Given) → StandsFor ready.now g → CarriesOut (EdgesSaid g) NoPart ⊥ ⊥

@@ -15,7 +15,7 @@ use ln_cemit::{begin_file, put_program};
 use ln_compile::Checked;
 use std::alloc::Global;
 
-// Puts the functions of the program of predicate number i behind those of the predicates before it. It is made here, and dropped.
+// Appends the functions of the program of predicate number i, after those of the predicates before it. The program is made here, and dropped.
 fn put_emitted(
     alloc: Global,
     text: &mut Vec<u8>,
@@ -41,7 +41,7 @@ fn emitted(alloc: Global, source: &Checked) -> Result<Vec<u8>, NoMemory>
     Ok(text)
 }
 
-/// Puts C for the predicates, all of it made before the first byte is put.
+/// Writes C for the predicates; all of it is made before the first byte is written.
 pub(crate) fn work<C: Console>(alloc: Global, con: &mut C, ready: &Ready) -> Result<End, Early>
     ensures { (g : Given) → StandsFor ready.now g → CarriesOut (EmitSaid g) NoPart ⊥ ⊥
         (count (C.faults con.old) (C.faults con.new)) result (C.shown con.old) (C.shown con.new) }

@@ -1,4 +1,4 @@
-//! What stands around the call of `lnc`: whether watchers look on, and the exit code.
+//! The calls that main makes around `lnc`: whether watchers look on, and the exit code.
 ghost use Rattle.std.specs.Prelude.{◌≡◌, map, string_bytes, IfOk, OnErr};
 ghost use Rattle.ln_top.specs.Exit.{is_gen};
 ghost use Rattle.ln_top.specs.Said.{code_of};

@@ -1,14 +1,12 @@
 //! The work of `explain`: a trace, which for each record after the header tells the stages that were looked at and the sign.
-ghost use Rattle.std.specs.Prelude.{◌≡◌, ◌≤◌, ◌<◌, ◌+◌, ◌^◌, ◌++◌, [], ◌∷◌, ℕ, List, length, Option, OnOk, OnErr, IfOk, Err};
+ghost use Rattle.std.specs.Prelude.{◌≡◌, ◌≤◌, ◌<◌, ◌+◌, ◌^◌, [], ◌∷◌, ℕ, List, length, Option, OnOk, OnErr, IfOk, Err};
 ghost use Rattle.ln_algebra.specs.Orders.{BySmallest};
 ghost use Rattle.ln_base.specs.Outside.{Shown};
 ghost use Rattle.ln_code.specs.Memory.{MadeFor};
 ghost use Rattle.ln_compile.specs.Accepted.{IsSound};
-ghost use Rattle.ln_trace.specs.declared.line.TraceLine.{TraceLine};
-ghost use Rattle.ln_trace.specs.Text.{text_of_lines};
 ghost use Rattle.ln_top.specs.Carried.{CarriesOut};
 ghost use Rattle.ln_top.specs.Explain.{ExplainPart, ExplainRest, ExplainRestPart, ExplainSaid, ExplainStep, SaysLines};
-ghost use Rattle.ln_top.specs.Line.{is_read, is_row};
+ghost use Rattle.ln_top.specs.Line.{is_row};
 ghost use Rattle.ln_top.specs.Lines.{Gathers, Takes};
 ghost use Rattle.ln_top.specs.Ready.{IsReadyFor, StandsFor};
 ghost use Rattle.ln_top.specs.Run.{HasRecords};

@@ -32,7 +32,7 @@ pub struct Factors<'a> {
     which: Vec<usize>,
 }
 
-// The verdict that stands before any row.
+// The verdict before any row.
 const BLANK: Verdict = Verdict {
     sign: Sign::Zero,
     by: By::Nothing,
@@ -168,7 +168,7 @@ fn scratches(alloc: Global, programs: &[Program], which: &[usize]) -> Result<Vec
     Ok(scratches)
 }
 
-// So many verdicts.
+// Returns n verdicts.
 fn blanks(alloc: Global, n: usize) -> Result<Vec<Verdict>, NoMemory>
     ensures { IfOk result (λ v. length v.items ≡ n) }
 {
@@ -178,7 +178,7 @@ fn blanks(alloc: Global, n: usize) -> Result<Vec<Verdict>, NoMemory>
 
 impl<'a> Factors<'a> {
     /// Makes the programs of the predicates of a source with these numbers, from 0: of one to eight, which have the same arguments. A
-    /// number may stand more than once; its program is made once.
+    /// number may be there more than once; its program is made once.
     pub fn new(alloc: Global, c: &'a Checked, numbers: &[usize]) -> Result<Factors<'a>, NoMemory>
         requires shape { HaveOneShape (map pred_of c.now.table.preds) numbers.now }
         requires some { 1 ≤ length numbers.now }

@@ -3,22 +3,17 @@ ghost use Rattle.std.specs.Prelude.{◌≡◌, ◌+◌, ◌<◌, ◌≤◌, ◌�
 ghost use Rattle.std.specs.List.{list_all};
 ghost use Rattle.rand_pcg.specs.Pcg.{pcg64};
 ghost use Rattle.ln_tree.specs.Row.{InRange};
-ghost use Rattle.ln_tree.specs.Variables.{starts_site, has_range, is_laid_out};
+ghost use Rattle.ln_tree.specs.Variables.{has_range, is_laid_out};
 ghost use Rattle.ln_code.specs.RowOf.{row_of, IsZeroPast};
 ghost use Rattle.ln_rows.specs.Record.{columns};
 ghost use Rattle.ln_top.specs.GenRow.{words, past, index_by, value_by, low_part, high_part, low_end, high_end};
 ghost use Rattle.ln_top.specs.GenRow.{variable_by, row_by, IsMade};
 
 use ln_code::Row;
+use ln_tree::layout::starts_site;
 use ln_tree::{Pred, Shape, VarInfo};
 use rand_core::utils::NextWord;
 use rand_pcg::Lcg128Xsl64;
-
-fn starts_site(i: &VarInfo) -> bool
-    ensures { result ≡ starts_site i.now }
-{
-    i.site.is_some() && i.coord == 0
-}
 
 // The index of the site at a place, by the next word.
 fn next_index(g: &mut Lcg128Xsl64, place: usize) -> i64
@@ -108,7 +103,7 @@ fn laid_out(shape: &Shape) -> &[VarInfo]
 }
 
 /// The row that `gen` makes as row `n` from the generator's next words, one for each column, in order. It is in range, and the generator
-/// then stands just past these words. Places past those of the predicate are 0. Takes no memory.
+/// is then just past these words. Places past those of the predicate are 0. Allocates nothing.
 pub fn gen_row(p: &Pred, g: &mut Lcg128Xsl64, n: u64) -> Row
     ensures row { row_of p.now.shape.sites p.now.shape.vars result
         ≡ row_by n p.now.shape.vars (words (length (columns p.now.shape.vars)) g.old) }

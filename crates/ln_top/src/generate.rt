@@ -27,7 +27,7 @@ use rand_core::SeedableRng;
 use rand_pcg::Lcg128Xsl64;
 use std::alloc::Global;
 
-// Makes row n and runs it, and shows its verdict to the watchers. Says whether all that was to be put was put.
+// Makes row n and runs it, and shows its verdict to the watchers. Returns whether all that was to be written was written.
 fn put_row<C: Console>(
     con: &mut C,
     target: &Target<'_>,
@@ -50,7 +50,7 @@ fn put_row<C: Console>(
     show(con, Port::Out, panel, n, &v)
 }
 
-// Makes so many rows, from row 1, and runs them. Says whether all that was to be put was put.
+// Makes this many rows, from row 1, and runs them. Returns whether all that was to be written was written.
 fn put_rows<C: Console>(
     con: &mut C,
     target: &Target<'_>,
@@ -76,7 +76,7 @@ fn put_rows<C: Console>(
     true
 }
 
-// Puts the lines of rows that are made of a seed, and the last ones of the watchers.
+// Writes the lines of rows that are made of a seed, and the last ones of the watchers.
 fn put_made<C: Console>(
     con: &mut C,
     target: &Target<'_>,
@@ -123,8 +123,8 @@ fn run_made<C: Console>(
     put_made(con, target, &mut scratch, seed, rows, watchers)
 }
 
-/// Makes so many rows of a seed, one at a time, and runs them; the lines of the watchers are put on Out. It takes memory before the
-/// first row alone.
+/// Makes this many rows of a seed, one at a time, and runs them; the lines of the watchers are written to Out. Allocates
+/// before the first row alone.
 pub(crate) fn work<C: Console>(
     alloc: Global,
     con: &mut C,

@@ -131,7 +131,7 @@ fn no_watchers(alloc: Global) -> Vec<Box<dyn Watch>>
     Vec::new(alloc)
 }
 
-/// Puts a line for each record behind the header, by total degree first; or refuses the header. The watchers are shown nothing.
+/// Writes a line for each record after the header, by total degree first; or refuses the header. The watchers are shown nothing.
 pub(crate) fn work<C: Console>(alloc: Global, con: &mut C, ready: &Ready) -> Result<End, Early>
     requires { IsReadyFor Command.Graded ready.now }
     ensures { (g : Given) → StandsFor ready.now g

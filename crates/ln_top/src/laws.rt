@@ -1,4 +1,4 @@
-//! Words and told files end in one way, and are owed one answer.
+//! Laws: words and files whose bytes are known end in one way, and require one output.
 ghost use Rattle.std.specs.Prelude.{◌≡◌, ℕ, List, Some};
 ghost use Rattle.ln_base.specs.Outside.{Shelf};
 ghost use Rattle.ln_watch.specs.Panel.{State};
@@ -10,19 +10,19 @@ ghost use Rattle.ln_top.specs.Plan.{Plan};
 ghost use Rattle.ln_top.specs.Steps.{Outcome, Given, Prepares};
 ghost use Rattle.ln_top.specs.Work.{AreOneValued};
 
-/// A law: over told files the steps of a plan come to one thing.
+/// A law: over files whose bytes are known the steps of a plan come to one thing.
 pub fn one_prepared()
     ensures { (plan : Plan) (shelf : Shelf) (o p : Outcome Given)
         → Prepares plan (Some shelf) o → Prepares plan (Some shelf) p → o ≡ p }
 {}
 
-/// A law: words and told files end in one way.
+/// A law: words and files whose bytes are known end in one way.
 pub fn one_end()
     ensures { (words : List (List ℕ)) (shelf : Shelf) (a b : End)
         → Ends words (Some shelf) a → Ends words (Some shelf) b → a ≡ b }
 {}
 
-/// A law: they are owed one answer, where their command isn't `list` or `emit`: more than one text may be true of a source.
+/// A law: they require one output, where their command isn't `list` or `emit`: more than one text may be true of a source.
 pub fn one_answer()
     ensures { (words : List (List ℕ)) (shelf : Shelf) (boxes : List State) → AreOneValued words
         → (a b : Said) → Answer words (Some shelf) boxes a → Answer words (Some shelf) boxes b → a ≡ b }

@@ -119,7 +119,7 @@ fn add_column(
     add_named(text, front, &name)
 }
 
-/// Adds the line of why a record is no row of a predicate of a table. Only one that names a column allocates.
+/// Adds the line of why a record is invalid for a predicate of a table. Only one that names a column allocates.
 pub fn add_stop(
     alloc: Global,
     text: &mut Vec<u8>,

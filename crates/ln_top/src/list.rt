@@ -16,7 +16,7 @@ use ln_cert::{begin_listing, put_program};
 use ln_compile::Checked;
 use std::alloc::Global;
 
-// Puts the program of predicate number i behind those of the predicates before it. It is made here, and dropped.
+// Appends the program of predicate number i, after those of the predicates before it. The program is made here, and dropped.
 fn put_listed(alloc: Global, text: &mut Vec<u8>, source: &Checked, i: usize) -> Result<(), NoMemory>
     requires { i < length source.now.table.preds }
     ensures { IfOk result (λ x. IsListingOfFirst (map pred_of source.now.table.preds) i text.old.items
@@ -39,7 +39,7 @@ fn listing(alloc: Global, source: &Checked) -> Result<Vec<u8>, NoMemory>
     Ok(text)
 }
 
-/// Puts the listing of the programs, all of it made before the first byte is put.
+/// Writes the listing of the programs; all of it is made before the first byte is written.
 pub(crate) fn work<C: Console>(alloc: Global, con: &mut C, ready: &Ready) -> Result<End, Early>
     ensures { (g : Given) → StandsFor ready.now g → CarriesOut (ListSaid g) NoPart ⊥ ⊥
         (count (C.faults con.old) (C.faults con.new)) result (C.shown con.old) (C.shown con.new) }

@@ -1,4 +1,4 @@
-//! What programs keep, and that a listing can say it, read off their types.
+//! The facts that programs keep, and that a listing can state them, read off their types.
 ghost use Rattle.std.specs.Prelude.{◌≡◌, ◌≤◌, IfSome};
 ghost use Rattle.ln_code.specs.Kept.{IsProgram};
 ghost use Rattle.ln_top.specs.Listing.{AreListableBlocks, IsListable, IsListableBlock};

@@ -1,5 +1,5 @@
-//! The boxed watchers of a run. A call that changes them stands in the crate of the loops that call it: of another crate's call it would
-//! not be known that it puts no box of its own into the panel.
+//! The watchers of a run. A call that changes them is in the crate of the loops that call it: of another crate's call it would not be known that it
+//! adds no watcher of its own to the panel.
 ghost use Rattle.std.specs.Prelude.{◌≡◌, ◌≤◌, OnOk, OnErr};
 ghost use Rattle.ln_base.specs.Outside.{Rose, appended, counted};
 ghost use Rattle.ln_watch.specs.Fold.{tally_after, keep_after, watch_text};
@@ -9,7 +9,7 @@ use ln_base::{Console, Failed, Port, put_all};
 use ln_code::Verdict;
 use ln_watch::{Keep, Line, Watch};
 
-// A box sees a verdict.
+// Shows a verdict to a watcher.
 fn see(watcher: &mut Box<dyn Watch>, row: u64, v: &Verdict) -> Keep
     ensures kind { kind_of watcher.new ≡ kind_of watcher.old }
     ensures tally { tally_of watcher.new ≡ tally_after (kind_of watcher.old) (tally_of watcher.old) row v.now }
@@ -18,14 +18,14 @@ fn see(watcher: &mut Box<dyn Watch>, row: u64, v: &Verdict) -> Keep
     watcher.see(row, v)
 }
 
-// Leaves the text of a box in the buffer.
+// Leaves the text of a watcher in the buffer.
 fn line(watcher: &Box<dyn Watch>, buf: &mut Line)
     ensures { buf.new ≡ watch_text (kind_of watcher.now) (tally_of watcher.now) }
 {
     watcher.line(buf)
 }
 
-// Puts a text and a line feed.
+// Writes a text and a line feed.
 fn put_fed<C: Console>(con: &mut C, port: Port, text: &[u8]) -> Result<(), Failed>
     ensures ok { OnOk result (C.shown con.new ≡ appended port (feed text.now) (C.shown con.old)) }
     ensures err { OnErr result (FailsAfter port (feed text.now) (C.shown con.old) (C.shown con.new)) }
@@ -38,7 +38,7 @@ fn put_fed<C: Console>(con: &mut C, port: Port, text: &[u8]) -> Result<(), Faile
     put_all(con, port, b"\n")
 }
 
-// Puts the line of a box.
+// Writes the line of a watcher.
 fn put_line<C: Console>(watcher: &Box<dyn Watch>, con: &mut C, port: Port) -> Result<(), Failed>
     ensures ok { OnOk result (C.shown con.new
         ≡ appended port (feed (watch_text (kind_of watcher.now) (tally_of watcher.now))) (C.shown con.old)) }
@@ -68,9 +68,9 @@ impl Panel {
         Panel { watchers }
     }
 
-    /// Hands the verdict on the row with this number to each box in order. A box that is done has its line put, with a line feed, and is
-    /// dropped at once. A put fails only where the console's count of faults rose; then the boxes up to the one whose line was being put
-    /// have seen the verdict, that one is dropped, and the later ones haven't seen it. Takes no memory.
+    /// Hands the verdict on the row with this number to each watcher in order. The line of a watcher that is done is written, with a line feed, and
+    /// the watcher is dropped at once. A write fails only where the console's count of faults rose; then the watchers up to the one whose line was
+    /// being written have seen the verdict, that one is dropped, and the later ones haven't seen it. Allocates nothing.
     pub fn show<C: Console>(
         &mut self,
         row: u64,
@@ -102,8 +102,8 @@ impl Panel {
         Ok(())
     }
 
-    /// Puts the lines of the boxes that are left, in order, each with a line feed, and nothing more after a put that fails. All boxes are
-    /// dropped. A put fails only where the console's count of faults rose. Takes no memory.
+    /// Writes the lines of the remaining watchers, in order, each with a line feed, and nothing more after a write that fails. All watchers are
+    /// dropped. A write fails only where the console's count of faults rose. Allocates nothing.
     pub fn close<C: Console>(self, con: &mut C, port: Port) -> Result<(), Failed>
         ensures puts { OnOk result (C.shown con.new
             ≡ appended port (last_lines (states_of kind_of tally_of self.watchers.items)) (C.shown con.old)) }

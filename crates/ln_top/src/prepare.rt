@@ -32,7 +32,7 @@ pub const SOURCE_LIMIT: usize = 1_048_576;
 /// The most bytes of a further file.
 pub const FILE_LIMIT: usize = 67_108_864;
 
-/// What the work is done on.
+/// The input of the work.
 #[derive(Drop)]
 pub struct Ready {
     /// The source, which is accepted. Its programs are made by the work that wants them.

@@ -59,7 +59,7 @@ fn add_product(text: &mut Vec<u8>, sign: Sign, verdicts: &[Verdict])
     add_byte(text, b'\n');
 }
 
-// Returns what the factors say of a record that was read: the sign of their product on its row, or why it is no row.
+// Returns the result of the factors on a record that was read: the sign of their product on its row, or why the record is invalid.
 fn sign_of(
     factors: &Factors<'_>,
     room: &mut Room,
@@ -134,7 +134,7 @@ fn take_record(
     }
 }
 
-// Gathers the lines of the remaining records and puts them in pieces; what is in `text` at the end is still to be put. Returns whether
+// Gathers the lines of the remaining records and writes them in pieces; what is in `text` at the end is still to be written. Returns whether
 // each record is a row.
 fn put_records<C: Console>(
     alloc: Global,

@@ -1,4 +1,4 @@
-//! Puts on a port, and numbers in texts.
+//! Writes to a stream, and numbers in texts.
 ghost use Rattle.std.specs.Prelude.{◌≡◌, ◌++◌, ◌↔◌, [], Err, IfOk, IsTrue, decimal};
 ghost use Rattle.ln_top.specs.Said.{count};
 ghost use Rattle.ln_top.specs.Lines.{Sends, Wrote};
@@ -7,7 +7,7 @@ use crate::status::Early;
 use itoa::Buffer;
 use ln_base::{Console, NoMemory, Port, put_all};
 
-/// Adds bytes, and the digits of a number behind them.
+/// Adds bytes, and after them the digits of a number.
 pub(crate) fn add_number(text: &mut Vec<u8>, front: &[u8], n: u64) -> Result<(), NoMemory>
     ensures { IfOk result (λ x. text.new.items ≡ text.old.items ++ (front.now ++ decimal n)) }
 {
@@ -17,7 +17,7 @@ pub(crate) fn add_number(text: &mut Vec<u8>, front: &[u8], n: u64) -> Result<(),
     Ok(())
 }
 
-/// Puts a text on Out, and says whether all of it was put.
+/// Writes a text to Out, and returns whether all of it was written.
 pub fn put_out<C: Console>(con: &mut C, text: &[u8]) -> bool
     ensures { Wrote text.now []
         (count (C.faults con.old) (C.faults con.new)) result (C.shown con.old) (C.shown con.new) }
@@ -28,7 +28,7 @@ pub fn put_out<C: Console>(con: &mut C, text: &[u8]) -> bool
     }
 }
 
-// Did a put fail?
+// Did a write fail?
 fn has_failed(ran: Result<bool, Early>) -> bool
     ensures { IsTrue result ↔ (ran ≡ Err Early.Write) }
 {
@@ -38,7 +38,7 @@ fn has_failed(ran: Result<bool, Early>) -> bool
     }
 }
 
-/// Puts what was gathered, whatever the work came to but a failed put; a fault of this put decides.
+/// Writes what was gathered, whatever the work came to but a failed write; a fault of this write decides.
 pub fn put_rest<C: Console>(
     con: &mut C,
     text: &[u8],

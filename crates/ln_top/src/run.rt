@@ -1,4 +1,4 @@
-//! The work of `run`: a line for each record behind the header, and the lines of the watchers.
+//! The work of `run`: a line for each record after the header, and the lines of the watchers.
 ghost use Rattle.std.specs.Prelude.{◌≡◌, ◌≤◌, ◌+◌, ◌++◌, [], ◌∷◌, ℕ, List, true};
 ghost use Rattle.std.specs.Prelude.{vec_len, vec_capacity, IfOk, IsOk, OnOk, OnErr};
 ghost use Rattle.ln_algebra.specs.Orders.{BySmallest};
@@ -30,7 +30,7 @@ use ln_rows::{RowStop, Rows};
 use ln_watch::Watch;
 use std::alloc::Global;
 
-// What the predicate says of a record that was read: the verdict on its row, or why it is no row.
+// Returns the result of the predicate on a record that was read: the verdict on its row, or why the record is invalid.
 fn verdict_of(
     target: &Target<'_>,
     s: &mut Scratch,
@@ -58,7 +58,7 @@ fn is_verdict(said: &Result<Verdict, RowStop>) -> bool
     }
 }
 
-// Adds the line of a record that was read, and tells what is said of it. Only a line that names a column takes memory.
+// Adds the line of a record that was read, and returns what is said of it. Only a line that names a column allocates.
 fn add_record(
     alloc: Global,
     target: &Target<'_>,
@@ -84,7 +84,7 @@ fn add_record(
     Ok(said)
 }
 
-// Adds the line of a record that was read and shows its verdict to the watchers. Says whether the record is a row.
+// Adds the line of a record that was read and shows its verdict to the watchers. Returns whether the record is a row.
 fn take_record<C: Console>(
     alloc: Global,
     con: &mut C,
@@ -117,7 +117,7 @@ fn take_record<C: Console>(
     Ok(is_verdict(&said))
 }
 
-// Gathers the lines of the records that are left and puts them in pieces; what is left in `text` at the end is still to be put. Says
+// Gathers the lines of the remaining records and writes them in pieces; what is in `text` at the end is still to be written. Returns
 // whether each record is a row.
 fn put_records<C: Console>(
     alloc: Global,
@@ -156,7 +156,7 @@ fn put_records<C: Console>(
     }
 }
 
-// Puts the lines of the watchers that are left behind the records.
+// Writes the lines of the watchers that remain after the records.
 fn close_after<C: Console>(con: &mut C, panel: Panel, good: bool) -> Result<End, Early>
     ensures { Closes (last_lines (states_of kind_of tally_of panel.watchers.items)) (end_of good)
         (count (C.faults con.old) (C.faults con.new)) result (C.shown con.old) (C.shown con.new) }
@@ -167,7 +167,7 @@ fn close_after<C: Console>(con: &mut C, panel: Panel, good: bool) -> Result<End,
     Ok(end_of(good))
 }
 
-// The work on the records behind the header.
+// The work on the records after the header.
 fn run_rows<C: Console>(
     alloc: Global,
     con: &mut C,
@@ -240,7 +240,7 @@ pub(crate) fn run_text<C: Console>(
     run_records(alloc, con, target, &mut rows, watchers)
 }
 
-/// Puts a line for each record behind the header, and the lines of the watchers on Err; or refuses the header.
+/// Writes a line for each record after the header, and the lines of the watchers to Err; or refuses the header.
 pub(crate) fn work<C: Console>(
     alloc: Global,
     con: &mut C,

@@ -1,4 +1,4 @@
-//! Sources: compiled, or refused.
+//! Compiles the bytes of a source, or tells for what reason and at which place it is refused.
 ghost use Rattle.std.specs.Prelude.{◌≡◌, ◌≤◌, length, IfOk, IfErr};
 ghost use Rattle.ln_top.specs.Source.{view, place_at};
 ghost use Rattle.ln_top.specs.Steps.{Compiles, gives};

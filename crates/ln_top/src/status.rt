@@ -2,7 +2,7 @@
 ghost use Rattle.std.specs.Prelude.{◌≡◌, Ok, Err};
 ghost use Rattle.ln_top.specs.Said.{end_status, early_status, status_of, code_of};
 
-/// An end that is owed to the words and the files.
+/// An end that the words and the files require.
 #[derive(Clone, Copy)]
 pub enum End {
     /// The command was carried out.
@@ -32,11 +32,11 @@ pub enum Early {
     Read,
     /// By a fault of writing.
     Write,
-    /// For want of memory.
+    /// Memory ran out.
     Memory,
 }
 
-/// How a call of the program ended: by an end that is owed or an early one.
+/// How a call of the program ended: by an end that is required or an early one.
 #[derive(Clone, Copy, Debug, PartialEq, Eq)]
 pub enum Status {
     /// 0: the command was carried out.
@@ -53,11 +53,11 @@ pub enum Status {
     Invalid,
     /// 6: a file wasn't read.
     Read,
-    /// 7: a port failed.
+    /// 7: a stream failed.
     Write,
     /// 8: a file is over its limit.
     TooLong,
-    /// 9: there was no memory.
+    /// 9: memory ran out.
     Memory,
     /// 10: the arguments of the named predicates are not those that the command takes.
     Shape,

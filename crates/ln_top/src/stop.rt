@@ -1,4 +1,4 @@
-//! Why a command stops before its work, and the puts of whole texts.
+//! Why a command stops before its work, and the writing of whole texts.
 ghost use Rattle.std.specs.Prelude.{◌≡◌, ◌≢◌, ◌++◌, IfOk};
 ghost use Rattle.ln_top.specs.Said.{count, line};
 ghost use Rattle.ln_top.specs.Stop.{placed_text, point_text, why_end};
@@ -17,7 +17,7 @@ pub struct Place {
     pub col: u32,
 }
 
-/// A stop that is owed, with its line.
+/// A stop that is required, with its line.
 #[derive(Clone, Copy)]
 pub enum Why {
     /// The words are no command.
@@ -43,11 +43,11 @@ pub enum Why {
 /// Why a command stops.
 #[derive(Clone, Copy)]
 pub enum Stop {
-    /// It is told why.
+    /// A line says why.
     Tell(Why),
     /// A file wasn't read.
     Read,
-    /// There was no memory.
+    /// Memory ran out.
     Memory,
 }
 
@@ -99,7 +99,7 @@ fn point_line(alloc: Global, n: u32) -> Result<Vec<u8>, NoMemory>
     Ok(text)
 }
 
-// What a stop ends with.
+// Returns how a stop ends.
 fn stop_result(stop: Stop) -> Result<End, Early>
     ensures { result ≡ stop_result stop }
 {
@@ -110,7 +110,7 @@ fn stop_result(stop: Stop) -> Result<End, Early>
     }
 }
 
-// Puts the line of a stop.
+// Writes the line of a stop.
 fn put_line<C: Console>(con: &mut C, stop: Stop, text: &[u8]) -> Result<End, Early>
     requires line { text.now ≡ stop_line stop }
     requires some { stop ≢ Stop.Memory }
@@ -123,7 +123,7 @@ fn put_line<C: Console>(con: &mut C, stop: Stop, text: &[u8]) -> Result<End, Ear
     }
 }
 
-// Puts the line of a stop with a place.
+// Writes the line of a stop with a place.
 fn say_placed<C: Console>(
     alloc: Global,
     con: &mut C,
@@ -142,7 +142,7 @@ fn say_placed<C: Console>(
     }
 }
 
-/// Puts the line of a stop on Err. Only one with a place or a number takes memory.
+/// Writes the line of a stop to Err. Only one with a place or a number allocates.
 pub fn say<C: Console>(alloc: Global, con: &mut C, stop: Stop) -> Result<End, Early>
     ensures { Says stop
         (count (C.faults con.old) (C.faults con.new)) result (C.shown con.old) (C.shown con.new) }
@@ -165,7 +165,7 @@ pub fn say<C: Console>(alloc: Global, con: &mut C, stop: Stop) -> Result<End, Ea
     }
 }
 
-/// Puts a whole text on Out.
+/// Writes a whole text to Out.
 pub fn put_text<C: Console>(con: &mut C, text: &[u8], end: End) -> Result<End, Early>
     ensures { PutsText text.now end
         (count (C.faults con.old) (C.faults con.new)) result (C.shown con.old) (C.shown con.new) }

@@ -1,4 +1,4 @@
-//! What commands ask of the arguments of their predicates.
+//! The conditions that commands ask of the arguments of their predicates.
 ghost use Rattle.std.specs.Prelude.{◌≡◌, ◌<◌, All, List, length, map, slice_get, Some};
 ghost use Rattle.ln_tree.specs.declared.pred.Pred.{Pred as pred};
 ghost use Rattle.ln_tree.specs.Table.{PredOf, arg_of, pred_of};

@@ -28,8 +28,8 @@ pub enum Order {
     Degree,
 }
 
-/// A predicate of a source with its table and its program. Contracts see the predicate, the names of its columns and the program; the
-/// type keeps that the program follows the rules and answers for the predicate in its order of infinitesimals.
+/// A predicate of a source with its table and its program. Contracts see the predicate, the names of its columns and the program; the type keeps the
+/// invariant that the program follows the rules and has the verdicts of the predicate in its order of infinitesimals.
 #[derive(Drop)]
 pub struct Target<'a> {
     table: &'a Table,
@@ -133,7 +133,7 @@ impl<'a> Target<'a> {
         Ok(scratch)
     }
 
-    /// The verdict that a row in range is owed in its order. It takes no memory and refuses nothing.
+    /// Returns the verdict that a row in range requires in its order. Allocates nothing and refuses nothing.
     pub fn verdict(&self, s: &mut Scratch, row: &Row) -> Verdict
         requires made { MadeFor self.now.program s.old }
         requires range { IsInRange self.now row.now }

@@ -101,20 +101,28 @@ fn carry_out<F: Files, C: Console>(
     }
 }
 
-/// Carries out the command of the words over the files and the console that are handed in. `check FILE` puts, for each predicate
-/// of an accepted source, its number of sites and its stage count. `list FILE` puts a listing of its programs, `emit FILE` C for its
-/// predicates, in which the call of `ln_NAME` gives the perturbed sign of a row. `verify FILE LISTING` says whether a listing, whoever made
-/// it, is valid for them, or the first line at which it isn't. `run FILE NAME ROWS` puts, for each record behind the
-/// header of the rows file, the perturbed sign of the predicate on that row, and the place of the stage that decides it. There the
-/// watchers see each verdict, with the record's number from 1 behind the header, and their lines go to Err: that of a box that is done
-/// at once, those of the boxes that are left at the end, also where records are refused. `graded FILE NAME ROWS` does
-/// as `run` by total degree first, and refuses a predicate that has too many stages so. `gen FILE NAME SEED COUNT` makes so many rows
-/// of the seed, runs each as it is made and puts the watchers' lines on Out. `product FILE NAME NAME.. ROWS` writes, for each record after
-/// the header, the perturbed sign of the product of two to eight predicates with the same arguments on that row, and what decides each
-/// of them. All other commands drop the watchers without a line.
+/// Carries out the command of the words over the files and the console, and returns its status.
 ///
-/// Each status has its cause, of which the first in the order of the steps decides: the words, the source file, the source, the
-/// names, what the command asks of their predicates, the further files, the work. A failed put decides before all of them.
+/// | words | what it writes to standard output |
+/// |---|---|
+/// | `check FILE` | a line for each predicate of an accepted source: its number of sites and its stage count |
+/// | `list FILE` | the listing of the programs of all predicates |
+/// | `verify FILE LISTING` | whether a listing, whoever made it, is valid for the source, or its first line that breaks a rule |
+/// | `emit FILE` | C in which the call of `ln_NAME` returns the perturbed sign of a row |
+/// | `run FILE NAME ROWS` | for each record after the header the perturbed sign of the predicate on that row, and what decides it |
+/// | `graded FILE NAME ROWS` | the same in the order by total degree first |
+/// | `product FILE NAME NAME.. ROWS` | the perturbed sign of the product of two to eight predicates, and what decides each of them |
+/// | `explain FILE NAME ROWS` | the trace of each row: its coefficients in order, up to the one that decides |
+/// | `audit FILE NAME ROWS TRACE` | whether a trace, whoever made it, is right, or its first line that is wrong |
+/// | `edges FILE NAME POINTS` | a line for each ordered pair of points that has every other point on the plus side |
+/// | `gen FILE NAME SEED COUNT` | the lines of the watchers over this many rows that it makes from the seed |
+///
+/// In `run` the watchers see each verdict, with the number of its record, from 1 after the header, and their lines go to standard error:
+/// that of a watcher that is done at once, those of the others at the end, also where records are invalid. In `gen` all of their lines go
+/// to standard output. Every other command drops the watchers without a line.
+///
+/// Each status has its cause, and the first in the order of the steps decides: the words, the source file, the source, the names, what
+/// the command requires of their predicates, the further files, the work. A failed write decides before all of them.
 pub fn lnc<F: Files, C: Console>(
     alloc: Global,
     words: &[String],
@@ -122,12 +130,12 @@ pub fn lnc<F: Files, C: Console>(
     con: &mut C,
     watchers: Vec<Box<dyn Watch>>,
 ) -> Status
-    // The promises that hold for every command: the answer to the byte, the cause of each status, what a fault or an allocation that
+    // The promises that hold for every command: the output to the byte, the cause of each status, what a fault or an allocation that
     // fails leaves.
     ensures kept { Keeps (call (map string_bytes words.now) (F.told files.old) (states_of kind_of tally_of watchers.items)
         (count (F.faults files.old) (F.faults files.new)) (count (C.faults con.old) (C.faults con.new)) result
         (C.shown con.old) (C.shown con.new)) }
-    // The headline: where records behind the right header were worked on to their end, there is one line for each, and that of
+    // The headline: where records after the right header were worked on to their end, there is one line for each, and that of
     // each that is a row in range begins with the perturbed sign of the predicate on it: the sign of the first coefficient that
     // isn't 0, in the order of infinitesimals by the row's own indices, of the predicate at perturbed inputs.
     ensures headline { IsSettled result → IfSome (F.told files.old) (λ shelf. SignsArePerturbed (map string_bytes words.now) shelf
@@ -141,25 +149,25 @@ pub fn lnc<F: Files, C: Console>(
     // decides each of them; it is 0 exactly where one of their signs is.
     ensures products { IsSettled result → IfSome (F.told files.old) (λ shelf. ProductsArePerturbed (map string_bytes words.now) shelf
         (C.shown con.old) (C.shown con.new)) }
-    // And the C: where `emit` came to its end, what stands on Out is the text of a C file in which, for each predicate and each row in
+    // And the C: where `emit` came to its end, what is on Out is the text of a C file in which, for each predicate and each row in
     // its declared ranges, the call of `ln_NAME` has a meaning, by the subset's written meaning: the perturbed sign.
     ensures emitted { IsSettled result → IfSome (F.told files.old) (λ shelf. CallsArePerturbed (map string_bytes words.now) shelf
         (C.shown con.old) (C.shown con.new)) }
-    // And the listing: where `list` came to its end, what stands on Out is the text of a listing that is valid, and `verify` of it says
+    // And the listing: where `list` came to its end, what is on Out is the text of a listing that is valid, and `verify` of it says
     // so; for each predicate and each row in its declared ranges the machine of the listing's part has a verdict, so no operation
     // leaves its certified width, and its sign is the perturbed sign.
     ensures listed { IsSettled result → IfSome (F.told files.old) (λ shelf. ListingGivesSigns (map string_bytes words.now) shelf
         (C.shown con.old) (C.shown con.new)) }
-    // And the edges: where `edges` came to its end, what stands on Out is exactly one line for each ordered pair of points that is an edge,
+    // And the edges: where `edges` came to its end, what is on Out is exactly one line for each ordered pair of points that is an edge,
     // in order of the first record and then of the second: every other point is on the plus side of the two by the perturbed sign.
     ensures edged { IsSettled result → IfSome (F.told files.old) (λ shelf. EdgesAreListed (map string_bytes words.now) shelf
         (C.shown con.old) (C.shown con.new)) }
-    // And the trace: where `explain` came to its end, what stands on Out is the text of a trace whose lines tell for each row in range the
+    // And the trace: where `explain` came to its end, what is on Out is the text of a trace whose lines tell for each row in range the
     // coefficients of its stages in order, up to and with the first that isn't 0, and the perturbed sign.
     ensures explained { IsSettled result → IfSome (F.told files.old) (λ shelf. TracesExplain (map string_bytes words.now) shelf
         (C.shown con.old) (C.shown con.new)) }
-    // And any trace: where `audit` came to done, what the trace says of each record is right: none is said of one that is no row, and of a
-    // row its perturbed sign.
+    // And any trace: where `audit` came to done, what the trace says of each record is right: no sign of an invalid one,
+    // and of a row its perturbed sign.
     ensures audited { IfSome (F.told files.old) (λ shelf. AgreedTracesTellSigns (map string_bytes words.now) shelf result) }
     // And any listing: where `verify` came to done, the listing has a part for each predicate, and on each row in its declared ranges
     // the machine of the part has a verdict, so no operation leaves its certified width; its sign is the perturbed sign.

@@ -36,7 +36,7 @@ fn fault_text(alloc: Global, at: u32) -> Result<Vec<u8>, NoMemory>
     Ok(text)
 }
 
-/// Puts `valid`, or `invalid LINE`.
+/// Writes `valid`, or `invalid LINE`.
 pub(crate) fn work<C: Console>(alloc: Global, con: &mut C, ready: &Ready) -> Result<End, Early>
     requires { IsReadyFor Command.Verify ready.now }
     ensures { (g : Given) → StandsFor ready.now g → CarriesOut (VerifySaid g) NoPart ⊥ ⊥

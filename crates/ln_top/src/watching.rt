@@ -18,7 +18,7 @@ pub(crate) struct Viewers {
     pub panel: Panel,
 }
 
-/// Shows a verdict to the boxes, and says whether all that was to be put was put.
+/// Shows a verdict to the watchers, and returns whether all that was to be written was written.
 pub(crate) fn show<C: Console>(
     con: &mut C,
     port: Port,
@@ -37,7 +37,7 @@ pub(crate) fn show<C: Console>(
     }
 }
 
-/// Shows what is said of the next record to the watchers, and says whether all that was to be put on Err was put.
+/// Shows the result on the next record to the watchers, and returns whether all that was to be written to Err was written.
 pub(crate) fn view<C: Console>(
     con: &mut C,
     viewers: &mut Viewers,
@@ -56,7 +56,7 @@ pub(crate) fn view<C: Console>(
     }
 }
 
-/// Puts the lines of the boxes that are left, and says whether all of it was put.
+/// Writes the lines of the remaining watchers, and returns whether all of it was written.
 pub(crate) fn close<C: Console>(con: &mut C, port: Port, panel: Panel) -> bool
     ensures { WroteOn port (last_lines (states_of kind_of tally_of panel.watchers.items))
         (count (C.faults con.old) (C.faults con.new)) result (C.shown con.old) (C.shown con.new) }

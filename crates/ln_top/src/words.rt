@@ -6,7 +6,7 @@ ghost use Rattle.ln_top.specs.Plan.{gen_plan, gen_with, plan_behind, plan_for, p
 use ln_base::decimal::{all_digits, unsigned};
 use std::slice::from_ref;
 
-/// What is to be done.
+/// A command of the program.
 #[derive(Clone, Copy)]
 pub enum Command {
     /// `check FILE`: is the source accepted, and how many stages has each predicate?
@@ -27,13 +27,13 @@ pub enum Command {
     Explain,
     /// `audit FILE NAME ROWS TRACE`: is a trace agreed by the predicate's polynomial and the records?
     Audit,
-    /// `gen FILE NAME SEED COUNT`: so many rows are made of a seed, and what watchers say of the signs of a predicate on them.
+    /// `gen FILE NAME SEED COUNT`: this many rows are made of a seed, and the output is what watchers say of the signs of a predicate on them.
     Gen(u64, u64),
     /// `product FILE NAME NAME.. ROWS`: the signs of the product of two to eight predicates on the records of a rows file.
     Product,
 }
 
-/// What a command needs: its source file, the names of predicates, further files.
+/// The needs of a command: its source file, the names of predicates, further files.
 #[derive(Clone, Copy)]
 pub struct Plan<'a> {
     /// The name of the source file.
@@ -42,11 +42,11 @@ pub struct Plan<'a> {
     pub names: &'a [String],
     /// The names of further files.
     pub files: &'a [String],
-    /// What is to be done with them.
+    /// The command that is carried out with them.
     pub command: Command,
 }
 
-// How many names and further files stand behind the source file.
+// How many names and further files come after the source file.
 #[derive(Clone, Copy)]
 struct Counts {
     least: usize,
@@ -156,7 +156,7 @@ fn gen_with<'a>(
     }
 }
 
-// The plan of the words behind `gen`.
+// The plan of the words after `gen`.
 fn gen_plan<'a>(source: &'a str, rest: &'a [String]) -> Option<Plan<'a>>
     ensures is { option_map with_bytes result ≡ gen_plan source.now (map string_bytes rest.now) }
     ensures form { IfSome result (λ p. HasForm (with_bytes p)) }
@@ -169,7 +169,7 @@ fn gen_plan<'a>(source: &'a str, rest: &'a [String]) -> Option<Plan<'a>>
     }
 }
 
-// The plan of a first word, a source file and the words behind them.
+// The plan of a first word, a source file and the words after them.
 fn plan_behind<'a>(word: &str, source: &'a str, rest: &'a [String]) -> Option<Plan<'a>>
     ensures is { option_map with_bytes result ≡ plan_behind word.now source.now (map string_bytes rest.now) }
     ensures form { IfSome result (λ p. HasForm (with_bytes p)) }
@@ -192,7 +192,7 @@ pub fn plan_of(words: &[String]) -> Option<Plan<'_>>
     }
 }
 
-/// The command of the words; none exactly where they are no command. It takes no memory.
+/// The command of the words; none exactly where they are no command. Allocates nothing.
 pub fn check_words(words: &[String]) -> Option<Command>
     ensures { result ≡ command_of (map string_bytes words.now) }
 {

@@ -1,4 +1,4 @@
--- Agreed traces give signs, and what is explained is agreed.
+-- Proves that agreed traces have the perturbed signs, and that what is explained is agreed.
 use Rattle.std.proofs.Common.{◌≡◌, ℕ, ◌+◌, ◌<◌, zero, suc, refl, sym, ◌∙◌, ap, subst, arith, true, List, [], ◌∷◌, ◌++◌, length, Some, None, is_some}
 use Rattle.std.specs.Prelude.{Option, Ok, slice_get}
 use Rattle.std.proofs.Math.IntN.{ℤ}
@@ -32,7 +32,7 @@ module _ (s : Subject) (inputs : InputsBelow (length s.vars) s.tree) (differ : R
   abbrev Told : Row → Stood → Type 0
   Told row stood = AreTold (length s.vars) (row_sites s.vars row.index) (values row.values) s.tree stood
 
-  -- what is known at a place, and what is claimed of the lines behind it
+  -- what is known at a place, and what is claimed of the lines after it
   abbrev Known : Place → Type 0
   Known (Between seen left) = Unit {0}
   Known (Within seen left row stood) = (fields : List (List ℕ)) × (read_row s.sites s.vars fields ≡ Ok row) × Told row stood
@@ -45,21 +45,29 @@ module _ (s : Subject) (inputs : InputsBelow (length s.vars) s.tree) (differ : R
   right [] (Between seen left) h g = subst (λ l. AreRight s l []) (sym (between-left m seen left [] g)) tt
   right [] (Within seen left row stood) h g = absurd (between-apart m seen left [] row stood g)
   right (line.Refused n ∷ lines) (Between seen left) h (t, r, g) =
-      subst (λ l. AreRight s l (None ∷ signs_in lines)) (sym r.next) ((r.stop, r.refused), right lines (Between (seen + 1) r.behind) tt (subst (λ p. Go s p lines (Between m [])) r.to g))
+      subst (λ l. AreRight s l (None ∷ signs_in lines)) (sym r.next)
+      ((r.stop, r.refused), right lines (Between (seen + 1) r.behind) tt (subst (λ p. Go s p lines (Between m [])) r.to g))
   right (line.Row n ∷ lines) (Between seen left) h (t, r, g) =
-      subst (λ l. AreRight s l (signs_in lines)) (sym r.next) (right lines (Within (seen + 1) r.behind r.row []) (r.fields, r.read, tt) (subst (λ p. Go s p lines (Between m [])) r.to g))
+      subst (λ l. AreRight s l (signs_in lines)) (sym r.next)
+      (right lines (Within (seen + 1) r.behind r.row []) (r.fields, r.read, tt) (subst (λ p. Go s p lines (Between m [])) r.to g))
   right (line.At exps z ∷ lines) (Between seen left) h (t, r, g) = absurd r
   right (line.Sign u ∷ lines) (Between seen left) h (t, r, g) = absurd r
   right (line.Refused n ∷ lines) (Within seen left row stood) h (t, r, g) = absurd r
   right (line.Row n ∷ lines) (Within seen left row stood) h (t, r, g) = absurd r
   right (line.At exps z ∷ lines) (Within seen left row stood) (fields, read, told) (t, r, g) =
-      right lines (Within seen left row ((vector (length s.vars) exps, z) ∷ stood)) (fields, read, (r.next, told)) (subst (λ p. Go s p lines (Between m [])) r.to g)
+      right lines (Within seen left row ((vector (length s.vars) exps, z) ∷ stood)) (fields, read, (r.next, told))
+      (subst (λ p. Go s p lines (Between m [])) r.to g)
   right (line.Sign u ∷ lines) (Within seen left row stood) (fields, read, told) (t, r, g) = (
-    (row, read, told-signed (length s.vars) (row_sites s.vars row.index) (values row.values) s.tree inputs (differ fields row read) stood (sign_number u) told r.signed),
+    (
+      row,
+      read,
+      told-signed (length s.vars) (row_sites s.vars row.index) (values row.values) s.tree inputs (differ fields row read) stood (sign_number u) told r.signed,
+    ),
     right lines (Between seen left) tt (subst (λ p. Go s p lines (Between m [])) r.to g),
   )
 
-pub agreed-right : (s : Subject) (records : Records) (lines : List TraceLine) → InputsBelow (length s.vars) s.tree → RowsDiffer s → IsAgreed s records lines → AreRight s records (signs_in lines)
+pub agreed-right : (s : Subject) (records : Records) (lines : List TraceLine) → InputsBelow (length s.vars) s.tree → RowsDiffer s
+    → IsAgreed s records lines → AreRight s records (signs_in lines)
 agreed-right s records lines inputs differ g = right s inputs differ (length records) lines (Between 0 records) tt g
 
 -- ---- completeness
@@ -77,7 +85,8 @@ none-or-some : (o : Option ℕ) → (o ≡ None → ⊥) → is_some o ≡ true
 none-or-some None h = absurd (h refl)
 none-or-some (Some k) h = refl
 
-of-sites : (vars : List VarInfo) (ps : Pairs) → IsRising ps → IsAbove ps (length vars) → ((v : ℕ) → v < length vars → site_of vars v ≡ None → exponent v ps ≡ 0) → AreOfSites vars ps
+of-sites : (vars : List VarInfo) (ps : Pairs) → IsRising ps → IsAbove ps (length vars)
+    → ((v : ℕ) → v < length vars → site_of vars v ≡ None → exponent v ps ≡ 0) → AreOfSites vars ps
 of-sites vars [] r a h = tt
 of-sites vars (p ∷ ps) r a h = (site-at vars p.0 a.0 ∙ none-or-some (site_of vars p.0) none, of-sites vars ps r.3 a.1 behind) where
   none : site_of vars p.0 ≡ None → ⊥
@@ -86,11 +95,14 @@ of-sites vars (p ∷ ps) r a h = (site-at vars p.0 a.0 ∙ none-or-some (site_of
   behind : (v : ℕ) → v < length vars → site_of vars v ≡ None → exponent v ps ≡ 0
   behind v l e = omega (arith, h v l e)
 
-over-of-sites : (vars : List VarInfo) (index : List ℤ) (ps : Pairs) → IsRising ps → IsAbove ps (length vars) → IsOver (length vars) (row_sites vars index) (vector (length vars) ps) → AreOfSites vars ps
+over-of-sites : (vars : List VarInfo) (index : List ℤ) (ps : Pairs) → IsRising ps → IsAbove ps (length vars)
+    → IsOver (length vars) (row_sites vars index) (vector (length vars) ps) → AreOfSites vars ps
 over-of-sites vars index ps r a o = of-sites vars ps r a (λ v l e. sym (vector-get (length vars) v ps l) ∙ o.of_sites v e)
 
 module _ (s : Subject) (row : Row) (seen : ℕ) (left : Records) where
-  ats-go : (ps : List (Pairs × ℤ)) (ts : List (List ℕ × ℤ)) (stood q : Stood) → AreOf s.vars ps ts → Leads (length s.vars) (row_sites s.vars row.index) (values row.values) s.tree stood ts q → Go s (Within seen left row stood) (at_lines ps) (Within seen left row q)
+  ats-go : (ps : List (Pairs × ℤ)) (ts : List (List ℕ × ℤ)) (stood q : Stood) → AreOf s.vars ps ts
+      → Leads (length s.vars) (row_sites s.vars row.index) (values row.values) s.tree stood ts q
+      → Go s (Within seen left row stood) (at_lines ps) (Within seen left row q)
   ats-go [] [] stood q a l = ap (Within seen left row) l
   ats-go [] (t ∷ ts) stood q a l = absurd a
   ats-go (p ∷ ps) [] stood q a l = absurd a
@@ -98,17 +110,24 @@ module _ (s : Subject) (row : Row) (seen : ℕ) (left : Records) where
       let n : ℕ = length s.vars in
       let pair : (vector n p.0, p.1) ≡ t = rw (e, f) refl in
       let over : IsOver n (row_sites s.vars row.index) (vector n p.0) = subst (IsOver n (row_sites s.vars row.index)) (sym e) next.over in
-      let here : IsNext n (row_sites s.vars row.index) (values row.values) s.tree stood (vector n p.0) p.1 = subst (λ (u : List ℕ × ℤ). IsNext n (row_sites s.vars row.index) (values row.values) s.tree stood u.0 u.1) (sym pair) next in
-      let on : Leads n (row_sites s.vars row.index) (values row.values) s.tree ((vector n p.0, p.1) ∷ stood) ts q = subst (λ (u : List ℕ × ℤ). Leads n (row_sites s.vars row.index) (values row.values) s.tree (u ∷ stood) ts q) (sym pair) l in
-      (Within seen left row ((vector n p.0, p.1) ∷ stood), record { rising = rising; of_sites = over-of-sites s.vars row.index p.0 rising above over; next = here; to = refl }, ats-go ps ts ((vector n p.0, p.1) ∷ stood) q a on)
+      let here : IsNext n (row_sites s.vars row.index) (values row.values) s.tree stood (vector n p.0) p.1 =
+      subst (λ (u : List ℕ × ℤ). IsNext n (row_sites s.vars row.index) (values row.values) s.tree stood u.0 u.1) (sym pair) next in
+      let on : Leads n (row_sites s.vars row.index) (values row.values) s.tree ((vector n p.0, p.1) ∷ stood) ts q =
+      subst (λ (u : List ℕ × ℤ). Leads n (row_sites s.vars row.index) (values row.values) s.tree (u ∷ stood) ts q) (sym pair) l in (
+        Within seen left row ((vector n p.0, p.1) ∷ stood),
+        record { rising = rising; of_sites = over-of-sites s.vars row.index p.0 rising above over; next = here; to = refl },
+        ats-go ps ts ((vector n p.0, p.1) ∷ stood) q a on,
+      )
 
 module _ (s : Subject) (differ : RowsDiffer s) (some : HaveStages s) where
-  record-go : (k n : ℕ) (fields : List (List ℕ)) (left : Records) (front : List TraceLine) → n ≡ k + 1 → Explains s n fields front → Go s (Between k (fields ∷ left)) front (Between (k + 1) left)
+  record-go : (k n : ℕ) (fields : List (List ℕ)) (left : Records) (front : List TraceLine) → n ≡ k + 1 → Explains s n fields front
+      → Go s (Between k (fields ∷ left)) front (Between (k + 1) left)
   record-go k n fields left front e (no_row stop read) =
       (Between (k + 1) left, record { number = e; fields = fields; behind = left; next = refl; stop = stop; refused = read; to = refl }, refl)
   record-go k n fields left front e (a_row row list ps t read stages of signed) =
       let r = list-told (length s.vars) (row_sites s.vars row.index) (values row.values) s.tree (differ fields row read) list stages (some row list stages) in
-      let i : IsSigned (length s.vars) (row_sites s.vars row.index) s.tree r.0 (sign_number t) = subst (IsSigned (length s.vars) (row_sites s.vars row.index) s.tree r.0) (sym signed) r.2 in (
+      let i : IsSigned (length s.vars) (row_sites s.vars row.index) s.tree r.0 (sign_number t) =
+      subst (IsSigned (length s.vars) (row_sites s.vars row.index) s.tree r.0) (sym signed) r.2 in (
         Within (k + 1) left row [],
         record { number = e; fields = fields; behind = left; next = refl; row = row; read = read; to = refl },
         go-behind s (Within (k + 1) left row []) (Within (k + 1) left row r.0) (Between (k + 1) left) (at_lines ps) (line.Sign t ∷ [])
@@ -116,13 +135,16 @@ module _ (s : Subject) (differ : RowsDiffer s) (some : HaveStages s) where
             (Between (k + 1) left, record { signed = i; to = refl }, refl),
       )
 
-  records-go : (records : Records) (k : ℕ) (lines : List TraceLine) → AreExplained s (k + 1) records lines → Go s (Between k records) lines (Between (k + length records) [])
+  records-go : (records : Records) (k : ℕ) (lines : List TraceLine) → AreExplained s (k + 1) records lines
+      → Go s (Between k records) lines (Between (k + length records) [])
   records-go [] k lines e = subst (λ ls. Go s (Between k []) ls (Between (k + 0) [])) (sym e) (ap (λ j. Between j []) (let z : k + 0 ≡ k = omega arith in z))
   records-go (fields ∷ records) k lines (front, rest, ex, more, e) =
       let w : (k + 1) + length records ≡ k + suc (length records) = omega arith in
-      let g : Go s (Between (k + 1) records) rest (Between (k + suc (length records)) []) = subst (λ j. Go s (Between (k + 1) records) rest (Between j [])) w (records-go records (k + 1) rest more) in
+      let g : Go s (Between (k + 1) records) rest (Between (k + suc (length records)) []) =
+      subst (λ j. Go s (Between (k + 1) records) rest (Between j [])) w (records-go records (k + 1) rest more) in
       subst (λ ls. Go s (Between k (fields ∷ records)) ls (Between (k + suc (length records)) [])) (sym e)
-      (go-behind s (Between k (fields ∷ records)) (Between (k + 1) records) (Between (k + suc (length records)) []) front rest (record-go k (k + 1) fields records front refl ex) g)
+      (go-behind s (Between k (fields ∷ records)) (Between (k + 1) records) (Between (k + suc (length records)) []) front rest
+      (record-go k (k + 1) fields records front refl ex) g)
 
   pub explained-agreed : (records : Records) (lines : List TraceLine) → AreExplained s 1 records lines → IsAgreed s records lines
   explained-agreed records lines h =

@@ -9,13 +9,16 @@ use Rattle.ln_base.proofs.Texts.Putting.{line_is, signed_put, then_puts}
 use Rattle.ln_trace.specs.declared.line.TraceLine.TheVariants as line
 use Rattle.ln_trace.specs.Text.{sign_word, text_of_line}
 
-pub at_is : (old a b c d new t u : List ℕ) (exps : List (ℕ × ℕ)) (z x : ℤ) → a ≡ old ++ t → t ≡ codes "at" → Puts a b (λ r. map exponent_word exps ++ r) → Puts b c (λ r. u ∷ r) → u ≡ codes ":" → Puts c d (λ r. signed_decimal x ∷ r) → x ≡ z → new ≡ d ++ (10 ∷ []) → new ≡ old ++ text_of_line (line.At exps z)
+pub at_is : (old a b c d new t u : List ℕ) (exps : List (ℕ × ℕ)) (z x : ℤ) → a ≡ old ++ t → t ≡ codes "at"
+    → Puts a b (λ r. map exponent_word exps ++ r) → Puts b c (λ r. u ∷ r) → u ≡ codes ":" → Puts c d (λ r. signed_decimal x ∷ r) → x ≡ z
+    → new ≡ d ++ (10 ∷ []) → new ≡ old ++ text_of_line (line.At exps z)
 at_is old a b c d new t u exps z x e f p q g s h n =
     let k : Puts b c (λ r. codes ":" ∷ r) = subst (λ w. Puts b c (λ r. w ∷ r)) g q in
     line_is old a d new (codes "at") (λ r. map exponent_word exps ++ (codes ":" ∷ (signed_decimal z ∷ r))) (e ∙ ap (λ w. old ++ w) f)
     (then_puts a b d (λ r. map exponent_word exps ++ r) (λ r. codes ":" ∷ (signed_decimal z ∷ r)) p
     (then_puts b c d (λ r. codes ":" ∷ r) (λ r. signed_decimal z ∷ r) k (signed_put c d x z s h))) n
 
-pub sign_is : (old a b new t u : List ℕ) (s : Sign) → a ≡ old ++ t → t ≡ codes "sign" → Puts a b (λ r. u ∷ r) → u ≡ sign_word s → new ≡ b ++ (10 ∷ []) → new ≡ old ++ text_of_line (line.Sign s)
+pub sign_is : (old a b new t u : List ℕ) (s : Sign) → a ≡ old ++ t → t ≡ codes "sign" → Puts a b (λ r. u ∷ r) → u ≡ sign_word s
+    → new ≡ b ++ (10 ∷ []) → new ≡ old ++ text_of_line (line.Sign s)
 sign_is old a b new t u s e f p g n =
     line_is old a b new (codes "sign") (λ r. sign_word s ∷ r) (e ∙ ap (λ w. old ++ w) f) (subst (λ w. Puts a b (λ r. w ∷ r)) g p) n

@@ -1,4 +1,4 @@
--- What the blocks of a program tell of a row is what is explained of it.
+-- Proves that what the blocks of a program tell of a row is what is explained of it.
 use Rattle.std.proofs.Common.{◌≡◌, ◌≢◌, ℕ, ◌<◌, zero, suc, List, [], ◌∷◌, ◌++◌, length, refl, sym, ◌∙◌, ap, subst, true, get_or, map}
 use Rattle.std.specs.Prelude.{Option, Some, None, slice_get}
 use Rattle.std.proofs.Math.IntN.{ℤ, pos, negsuc}
@@ -56,7 +56,7 @@ stop-nonzero (pos zero) rest h = absurd (h refl)
 stop-nonzero (pos (suc n)) rest h = refl
 stop-nonzero (negsuc n) rest h = refl
 
--- what is told along a list of vectors
+-- what is written along a list of vectors
 pub record Along (vars : List VarInfo) (sites : Sites) (x : ℕ → ℤ) (e : Tree) (list : List (List ℕ)) (lines : List TraceLine) : Type 0 where
   pub pairs : List (Pairs × ℤ)
   pub sign : Sign
@@ -78,7 +78,8 @@ module _ (p : Part) (e : Tree) (zs : List ℤ) (sites : Sites) where
       let b : h.block ≡ t.block = some-same h.block t.block (sym h.there ∙ t.there) in
       let g : get_or p.blocks k no_code ≡ t.block = get_or_from_slice_get p.blocks k t.block no_code t.there in
       let i : k < length p.blocks = slice_get_within p.blocks k t.block t.there in
-      let m : get_or (map (λ (c : Code). c.exps) p.blocks) k [] ≡ t.block.exps = get_or-map (λ (c : Code). c.exps) p.blocks k no_code [] i ∙ ap (λ (c : Code). c.exps) g in
+      let m : get_or (map (λ (c : Code). c.exps) p.blocks) k [] ≡ t.block.exps =
+      get_or-map (λ (c : Code). c.exps) p.blocks k no_code [] i ∙ ap (λ (c : Code). c.exps) g in
       (ap (vector (length vars)) (t.same ∙ sym m), some-same z (perturbed sites x e (stage_at p k)) (sym t.value ∙ ap (block_value zs) (sym b) ∙ h.value))
 
   pub along : {ks : List ℕ} {lines : List TraceLine} → Tell p zs ks lines → Computes p e zs sites ks → Along vars sites x e (vectors p ks) lines
@@ -109,15 +110,18 @@ module _ (p : Part) (e : Tree) (zs : List ℤ) (sites : Sites) where
 
 -- what the blocks tell is what is explained
 pub blocks-explained : BlocksAreExplained
-blocks-explained p e f fields row n lines program carries read r t = subst (Explains (record { sites = p.shape.sites; vars = p.shape.vars; tree = e }) n fields) (sym all) (a_row row (vectors p t.list) told.pairs told.sign read stages told.are told.right) where
-  stages : RowStages BySmallest p.shape.vars e row (vectors p t.list)
-  stages = row-stages BySmallest p.shape row t.places e (vectors p t.list) r t.order (carries.lists t.places t.list t.chosen)
+blocks-explained p e f fields row n lines program carries read r t = subst (Explains (record { sites = p.shape.sites; vars = p.shape.vars; tree = e }) n fields)
+    (sym all) (a_row row (vectors p t.list) told.pairs told.sign read stages told.are told.right)
+  where
+    stages : RowStages BySmallest p.shape.vars e row (vectors p t.list)
+    stages = row-stages BySmallest p.shape row t.places e (vectors p t.list) r t.order (carries.lists t.places t.list t.chosen)
 
-  computes : Computes p e row.values (row_sites p.shape.vars row.index) t.list
-  computes = list-computes p e f row.values (row_sites p.shape.vars row.index) program BySmallest carries r.values t.list (list-within p t.places t.list program t.chosen) (λ a i. (stages.stages a i).over)
+    computes : Computes p e row.values (row_sites p.shape.vars row.index) t.list
+    computes = list-computes p e f row.values (row_sites p.shape.vars row.index) program BySmallest carries r.values t.list
+        (list-within p t.places t.list program t.chosen) (λ a i. (stages.stages a i).over)
 
-  told : Along p.shape.vars (row_sites p.shape.vars row.index) (values row.values) e (vectors p t.list) t.told
-  told = along p e row.values (row_sites p.shape.vars row.index) t.tell computes
+    told : Along p.shape.vars (row_sites p.shape.vars row.index) (values row.values) e (vectors p t.list) t.told
+    told = along p e row.values (row_sites p.shape.vars row.index) t.tell computes
 
-  all : lines ≡ line.Row n ∷ at_lines told.pairs ++ line.Sign told.sign ∷ []
-  all = t.all ∙ ap (λ (l : List TraceLine). line.Row n ∷ l) told.all
+    all : lines ≡ line.Row n ∷ at_lines told.pairs ++ line.Sign told.sign ∷ []
+    all = t.all ∙ ap (λ (l : List TraceLine). line.Row n ∷ l) told.all

@@ -1,5 +1,6 @@
--- What was put of the lines that blocks tell, one block and one segment after the other.
-use Rattle.std.proofs.Common.{◌≡◌, ◌≢◌, ℕ, ◌+◌, ◌<◌, ◌≤◌, suc, List, [], ◌∷◌, ◌++◌, length, drop, take, refl, sym, ◌∙◌, ap, subst, arith, get_or, append_assoc, append-nil, drop-cons}
+-- Proves what was appended of the lines that blocks tell, one block and one segment after the other.
+use Rattle.std.proofs.Common.{◌≡◌, ◌≢◌, ℕ, ◌+◌, ◌<◌, ◌≤◌, suc, List, [], ◌∷◌, ◌++◌, length, drop, take, refl, sym, ◌∙◌, ap, subst, arith}
+use Rattle.std.proofs.Common.{get_or, append_assoc, append-nil, drop-cons}
 use Rattle.std.specs.Prelude.{AllPairs, Contains, Some}
 use Rattle.std.proofs.Math.IntN.{ℤ, pos}
 use Rattle.std.proofs.lemmas.List.{drop_all, get_or-take, get_or_default, length-take-le}
@@ -23,7 +24,8 @@ use Rattle.ln_trace.specs.Text.{text_of_line, text_of_lines}
 pub its-block : (cs : List Code) (number : ℕ) (block : Code) → number < length cs → block ≡ get_or cs number block → Contains cs block
 its-block cs number block h e = (number, h, sym e)
 
-pub block-tells : (p : Part) (zs : List ℤ) (number : ℕ) (block : Code) (exps : Pairs) (z : ℤ) → IsProgram p → number < length p.blocks → block ≡ get_or p.blocks number block → exps ≡ block.exps → IsRising exps → block_value zs block ≡ Some z → BlockTells p zs number exps z
+pub block-tells : (p : Part) (zs : List ℤ) (number : ℕ) (block : Code) (exps : Pairs) (z : ℤ) → IsProgram p → number < length p.blocks
+    → block ≡ get_or p.blocks number block → exps ≡ block.exps → IsRising exps → block_value zs block ≡ Some z → BlockTells p zs number exps z
 block-tells p zs number block exps z k h is same rising v =
     let sited : AreOfSites p.shape.vars block.exps = subst (λ (c : Code). AreOfSites p.shape.vars c.exps) (sym is) (k.of_sites number block h) in
     record {
@@ -35,8 +37,9 @@ block-tells p zs number block exps z k h is same rising v =
       value = v;
     }
 
--- a block whose value is 0 leaves the sign to those behind it
-pub zero-on : (p : Part) (zs : List ℤ) (number : ℕ) (exps : Pairs) (z : ℤ) (old new : List ℕ) → BlockTells p zs number exps z → z ≡ pos 0 → new ≡ old ++ text_of_line (line.At exps z) → (rest : List ℕ) → TellOn p zs (number ∷ rest) rest old new
+-- a block whose value is 0 leaves the sign to those after it
+pub zero-on : (p : Part) (zs : List ℤ) (number : ℕ) (exps : Pairs) (z : ℤ) (old new : List ℕ) → BlockTells p zs number exps z → z ≡ pos 0
+    → new ≡ old ++ text_of_line (line.At exps z) → (rest : List ℕ) → TellOn p zs (number ∷ rest) rest old new
 zero-on p zs number exps z old new b h q rest behind t =
     let c : BlockTells p zs number exps (pos 0) = subst (BlockTells p zs number exps) h b in
     let r : new ≡ old ++ text_of_line (line.At exps (pos 0)) = q ∙ ap (λ y. old ++ text_of_line (line.At exps y)) h in
@@ -47,7 +50,8 @@ zero-on p zs number exps z old new b h q rest behind t =
     }
 
 -- another decides
-pub other-told : (p : Part) (zs : List ℤ) (number : ℕ) (exps : Pairs) (z : ℤ) (old now new : List ℕ) → BlockTells p zs number exps z → z ≢ pos 0 → now ≡ old ++ text_of_line (line.At exps z) → new ≡ now ++ text_of_line (line.Sign (sign_of z)) → (rest : List ℕ) → IsTold p zs (number ∷ rest) old new
+pub other-told : (p : Part) (zs : List ℤ) (number : ℕ) (exps : Pairs) (z : ℤ) (old now new : List ℕ) → BlockTells p zs number exps z → z ≢ pos 0
+    → now ≡ old ++ text_of_line (line.At exps z) → new ≡ now ++ text_of_line (line.Sign (sign_of z)) → (rest : List ℕ) → IsTold p zs (number ∷ rest) old new
 other-told p zs number exps z old now new b h q r rest = record {
   lines = line.At exps z ∷ line.Sign (sign_of z) ∷ [];
   tell = it_decides number rest exps z b h;
@@ -55,11 +59,12 @@ other-told p zs number exps z old now new b h q r rest = record {
       ∙ ap (λ y. old ++ (text_of_line (line.At exps z) ++ y)) (sym (append-nil (text_of_line (line.Sign (sign_of z)))));
 }
 
--- ---- one behind the other
+-- ---- one after the other
 pub nothing-on : (p : Part) (zs : List ℤ) (list : List ℕ) (old : List ℕ) → TellOn p zs list list old old
 nothing-on p zs list old behind t = record { lines = behind; tell = t; put = refl }
 
-pub on-on : (p : Part) (zs : List ℤ) (list next rest old now new : List ℕ) → TellOn p zs list next old now → TellOn p zs next rest now new → TellOn p zs list rest old new
+pub on-on : (p : Part) (zs : List ℤ) (list next rest old now new : List ℕ) → TellOn p zs list next old now → TellOn p zs next rest now new
+    → TellOn p zs list rest old new
 on-on p zs list next rest old now new f g behind t =
     let a = g behind t in
     let b = f a.lines a.tell in
@@ -76,21 +81,26 @@ ahead segment rest i n h e =
     let w : suc i ≡ i + 1 = omega arith in
     ap (λ y. y ++ rest) (drop-cons segment i 0 h ∙ ap (λ j. get_or segment i 0 ∷ drop j segment) w ∙ ap (λ m. m ∷ drop (i + 1) segment) (sym e))
 
-module _ (p : Part) (zs : List ℤ) (segment old now new : List ℕ) (i n : ℕ) (h : i < length segment) (e : n ≡ get_or segment i 0) (so_far : (rest : List ℕ) → TellOn p zs (segment ++ rest) (drop i segment ++ rest) old now) where
+module _ (p : Part) (zs : List ℤ) (segment old now new : List ℕ) (i n : ℕ) (h : i < length segment) (e : n ≡ get_or segment i 0)
+    (so_far : (rest : List ℕ) → TellOn p zs (segment ++ rest) (drop i segment ++ rest) old now) where
   here : (rest : List ℕ) → TellOn p zs (segment ++ rest) (n ∷ (drop (i + 1) segment ++ rest)) old now
   here rest = subst (λ (y : List ℕ). TellOn p zs (segment ++ rest) y old now) (ahead segment rest i n h e) (so_far rest)
 
-  pub segment-on : ((rest : List ℕ) → TellOn p zs (n ∷ rest) rest now new) → (rest : List ℕ) → TellOn p zs (segment ++ rest) (drop (i + 1) segment ++ rest) old new
-  segment-on f rest = on-on p zs (segment ++ rest) (n ∷ (drop (i + 1) segment ++ rest)) (drop (i + 1) segment ++ rest) old now new (here rest) (f (drop (i + 1) segment ++ rest))
+  pub segment-on : ((rest : List ℕ) → TellOn p zs (n ∷ rest) rest now new) → (rest : List ℕ)
+      → TellOn p zs (segment ++ rest) (drop (i + 1) segment ++ rest) old new
+  segment-on f rest = on-on p zs (segment ++ rest) (n ∷ (drop (i + 1) segment ++ rest)) (drop (i + 1) segment ++ rest) old now new
+      (here rest) (f (drop (i + 1) segment ++ rest))
 
   pub segment-told : ((rest : List ℕ) → IsTold p zs (n ∷ rest) now new) → (rest : List ℕ) → IsTold p zs (segment ++ rest) old new
   segment-told f rest = on-told p zs (segment ++ rest) (n ∷ (drop (i + 1) segment ++ rest)) old now new (here rest) (f (drop (i + 1) segment ++ rest))
 
-pub segment-end : (p : Part) (zs : List ℤ) (segment old now : List ℕ) (i : ℕ) → length segment ≤ i → ((rest : List ℕ) → TellOn p zs (segment ++ rest) (drop i segment ++ rest) old now) → (rest : List ℕ) → TellOn p zs (segment ++ rest) rest old now
+pub segment-end : (p : Part) (zs : List ℤ) (segment old now : List ℕ) (i : ℕ) → length segment ≤ i
+    → ((rest : List ℕ) → TellOn p zs (segment ++ rest) (drop i segment ++ rest) old now) → (rest : List ℕ) → TellOn p zs (segment ++ rest) rest old now
 segment-end p zs segment old now i h f rest = subst (λ (y : List ℕ). TellOn p zs (segment ++ rest) (y ++ rest) old now) (drop_all i segment h) (f rest)
 
 -- ---- the list of an order
-module _ (p : Part) (zs : List ℤ) (o segment list old now new : List ℕ) (j : ℕ) (h : j ≤ length o) (there : segment ≡ segment_of p (take j o)) (so_far : TellOn p zs list (list_from p o j) old now) where
+module _ (p : Part) (zs : List ℤ) (o segment list old now new : List ℕ) (j : ℕ) (h : j ≤ length o)
+    (there : segment ≡ segment_of p (take j o)) (so_far : TellOn p zs list (list_from p o j) old now) where
   from-here : TellOn p zs list (segment ++ list_from p o (j + 1)) old now
   from-here = subst (λ (y : List ℕ). TellOn p zs list y old now) (list_goes p o j h ∙ ap (λ y. y ++ list_from p o (j + 1)) (sym there)) so_far
 
@@ -100,7 +110,8 @@ module _ (p : Part) (zs : List ℤ) (o segment list old now new : List ℕ) (j :
   pub list-told : ((rest : List ℕ) → IsTold p zs (segment ++ rest) now new) → IsTold p zs list old new
   list-told f = on-told p zs list (segment ++ list_from p o (j + 1)) old now new from-here (f (list_from p o (j + 1)))
 
-pub list-end : (p : Part) (zs : List ℤ) (o list old now new : List ℕ) (j : ℕ) → length o < j → TellOn p zs list (list_from p o j) old now → new ≡ now ++ text_of_line (line.Sign Zero) → IsTold p zs list old new
+pub list-end : (p : Part) (zs : List ℤ) (o list old now new : List ℕ) (j : ℕ) → length o < j → TellOn p zs list (list_from p o j) old now
+    → new ≡ now ++ text_of_line (line.Sign Zero) → IsTold p zs list old new
 list-end p zs o list old now new j h f q = on-told p zs list [] old now new (subst (λ (y : List ℕ). TellOn p zs list y old now) (list_ends p o j h) f) (record {
   lines = line.Sign Zero ∷ [];
   tell = none_left;
@@ -117,7 +128,8 @@ no_equal zs k d e =
     d j k x l e.within (a ∙ get_or_default zs k (pos 0) x e.within)
 
 -- ---- a row
-pub row-told : (p : Part) (row : Row) (n : ℕ) (o now new : List ℕ) → length row.index ≡ p.shape.sites → IsOrder row.index o → now ≡ text_of_line (line.Row n) → IsTold p row.values (list_of p o) now new → IsToldBehind p row n [] new
+pub row-told : (p : Part) (row : Row) (n : ℕ) (o now new : List ℕ) → length row.index ≡ p.shape.sites → IsOrder row.index o
+    → now ≡ text_of_line (line.Row n) → IsTold p row.values (list_of p o) now new → IsToldBehind p row n [] new
 row-told p row n o now new size r q t = record {
   lines = line.Row n ∷ t.lines;
   told = record {

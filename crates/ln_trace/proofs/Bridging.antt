@@ -50,27 +50,47 @@ module _ (s : Shape) (row : Row) (places : List ℕ) (range : InRange s.sites s.
   next-may zs a z n = record { zeros = n.zeros; later = last-to stood a n.later; members = λ b k l. n.members b (stage-from b k) ((same b a).1 l) }
 
   -- each stage stood, by either
-  pub all-to : ((b : List ℕ) → IsStage (length s.vars) (row_sites s.vars row.index) e b → In (vectors_in stood) b) → (b : List ℕ) → IsStage (length s.vars) (sites_of s.vars places) e b → In (vectors_in stood) b
+  pub all-to : ((b : List ℕ) → IsStage (length s.vars) (row_sites s.vars row.index) e b → In (vectors_in stood) b) → (b : List ℕ)
+      → IsStage (length s.vars) (sites_of s.vars places) e b → In (vectors_in stood) b
   all-to h b k = h b (stage-from b k)
 
-  pub all-from : ((b : List ℕ) → IsStage (length s.vars) (sites_of s.vars places) e b → In (vectors_in stood) b) → (b : List ℕ) → IsStage (length s.vars) (row_sites s.vars row.index) e b → In (vectors_in stood) b
+  pub all-from : ((b : List ℕ) → IsStage (length s.vars) (sites_of s.vars places) e b → In (vectors_in stood) b) → (b : List ℕ)
+      → IsStage (length s.vars) (row_sites s.vars row.index) e b → In (vectors_in stood) b
   all-from h b k = h b (stage-to b k)
 
   -- what may not stand by the order fails
-  pub not-next : (zs : List ℤ) (a : List ℕ) (z : ℤ) (r : Bool) → r ≡ false → (IsTrue r ↔ MayStand (length s.vars) (sites_of s.vars places) e stood a) → IsTrue false ↔ Next zs a z
-  not-next zs a z r f h = (λ t. cc, λ n. absurd (true-false r (h.1 (record { zeros = n.zeros; later = last-to stood a n.later; members = λ b k l. n.members b (stage-from b k) ((same b a).1 l) })) f)) where
+  pub not-next : (zs : List ℤ) (a : List ℕ) (z : ℤ) (r : Bool) → r ≡ false
+      → (IsTrue r ↔ MayStand (length s.vars) (sites_of s.vars places) e stood a) → IsTrue false ↔ Next zs a z
+  not-next zs a z r f h = (
+    λ t. cc,
+    λ n. absurd (true-false r
+        (h.1 (record { zeros = n.zeros; later = last-to stood a n.later; members = λ b k l. n.members b (stage-from b k) ((same b a).1 l) })) f),
+  ) where
     true-false : (b : Bool) → b ≡ true → b ≡ false → ⊥
     true-false b p q = cc
 
-  coefficient : (zs : List ℤ) (f : List Term) (a : List ℕ) → InputsBelow (length s.vars) e → IsNormalOf (length s.vars) e f → IsOver (length s.vars) (row_sites s.vars row.index) a → value (values zs) (derived a f) ≡ perturbed (row_sites s.vars row.index) (values zs) e a
-  coefficient zs f a below h o = derivative-coefficient (length s.vars) e f (of_sites (row_sites s.vars row.index)) (values zs) a below h o.size (within (length s.vars) (row_sites s.vars row.index) (values zs) e below a o)
+  coefficient : (zs : List ℤ) (f : List Term) (a : List ℕ) → InputsBelow (length s.vars) e → IsNormalOf (length s.vars) e f
+      → IsOver (length s.vars) (row_sites s.vars row.index) a → value (values zs) (derived a f) ≡ perturbed (row_sites s.vars row.index) (values zs) e a
+  coefficient zs f a below h o = derivative-coefficient (length s.vars) e f (of_sites (row_sites s.vars row.index))
+      (values zs) a below h o.size (within (length s.vars) (row_sites s.vars row.index) (values zs) e below a o)
 
   -- another value fails
-  pub other-value : (zs : List ℤ) (f : List Term) (a : List ℕ) (v z : ℤ) → InputsBelow (length s.vars) e → IsNormalOf (length s.vars) e f → IsOver (length s.vars) (row_sites s.vars row.index) a → v ≡ value (values zs) (derived a f) → (v ≡ z → ⊥) → IsTrue false ↔ Next zs a z
+  pub other-value : (zs : List ℤ) (f : List Term) (a : List ℕ) (v z : ℤ) → InputsBelow (length s.vars) e → IsNormalOf (length s.vars) e f
+      → IsOver (length s.vars) (row_sites s.vars row.index) a → v ≡ value (values zs) (derived a f) → (v ≡ z → ⊥) → IsTrue false ↔ Next zs a z
   other-value zs f a v z below h o q d = (λ t. cc, λ n. absurd (d (q ∙ coefficient zs f a below h o ∙ sym n.value)))
 
   -- and the right one goes on
-  pub is-next : (zs : List ℤ) (f : List Term) (a : List ℕ) (v z : ℤ) (r : Bool) → InputsBelow (length s.vars) e → IsNormalOf (length s.vars) e f → IsOver (length s.vars) (row_sites s.vars row.index) a → v ≡ value (values zs) (derived a f) → v ≡ z → r ≡ true → (IsTrue r ↔ MayStand (length s.vars) (sites_of s.vars places) e stood a) → IsTrue true ↔ Next zs a z
+  pub is-next : (zs : List ℤ) (f : List Term) (a : List ℕ) (v z : ℤ) (r : Bool) → InputsBelow (length s.vars) e
+      → IsNormalOf (length s.vars) e f → IsOver (length s.vars) (row_sites s.vars row.index) a → v ≡ value (values zs) (derived a f) → v ≡ z
+      → r ≡ true → (IsTrue r ↔ MayStand (length s.vars) (sites_of s.vars places) e stood a) → IsTrue true ↔ Next zs a z
   is-next zs f a v z r below h o q d t k =
-      let m = k.0 t in
-      (λ u. record { over = o; later = last-from stood a m.later; zeros = m.zeros; members = λ b g l. m.members b (stage-to b g) ((same b a).0 l); value = sym d ∙ q ∙ coefficient zs f a below h o }, λ n. refl)
+      let m = k.0 t in (
+        λ u. record {
+          over = o;
+          later = last-from stood a m.later;
+          zeros = m.zeros;
+          members = λ b g l. m.members b (stage-to b g) ((same b a).0 l);
+          value = sym d ∙ q ∙ coefficient zs f a below h o;
+        },
+        λ n. refl,
+      )

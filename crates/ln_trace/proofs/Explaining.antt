@@ -1,4 +1,4 @@
--- What is explained has the form of a trace.
+-- Proves that what is explained has the form of a trace.
 use Rattle.std.proofs.Common.{◌≢◌, ℕ, ◌+◌, ◌^◌, ◌<◌, ◌≤◌, ℤ, refl, sym, subst, arith, List, [], ◌∷◌, ◌++◌, length, append_assoc}
 use Rattle.ln_base.specs.Exponents.{Each, IsExponent}
 use Rattle.ln_base.specs.declared.sign.Sign.{Sign}
@@ -9,7 +9,7 @@ use Rattle.ln_order.specs.Sites.{row_sites}
 use Rattle.ln_rows.specs.Left.{Records}
 use Rattle.ln_trace.specs.declared.line.TraceLine.{TraceLine}
 use Rattle.ln_trace.specs.declared.line.TraceLine.TheVariants as line
-use Rattle.ln_trace.specs.Form.{IsTrace, SomeAts, TraceText, WholeRecords}
+use Rattle.ln_trace.specs.Form.{SomeAts, TraceText, WholeRecords}
 use Rattle.ln_trace.specs.Form as form
 use Rattle.ln_trace.specs.FormLaw.{HasSmallValue}
 use Rattle.ln_trace.specs.Signs.{AreExplained, AreOf, Explains, HaveStages, a_row, at_lines, no_row}
@@ -25,10 +25,12 @@ some-ats : (p : Pairs × ℤ) (ps : List (Pairs × ℤ)) (r : List TraceLine) �
 some-ats p [] r = form.SomeAts.last
 some-ats p (q ∷ ps) r = form.SomeAts.more (some-ats q ps r)
 
-row-form : (n : ℕ) (ps : List (Pairs × ℤ)) (t : Sign) (rest : List TraceLine) → ps ≢ [] → WholeRecords rest → WholeRecords ((line.Row n ∷ (at_lines ps ++ (line.Sign t ∷ []))) ++ rest)
+row-form : (n : ℕ) (ps : List (Pairs × ℤ)) (t : Sign) (rest : List TraceLine) → ps ≢ [] → WholeRecords rest
+    → WholeRecords ((line.Row n ∷ (at_lines ps ++ (line.Sign t ∷ []))) ++ rest)
 row-form n [] t rest f w = absurd (f refl)
 row-form n (p ∷ ps) t rest f w =
-    form.WholeRecords.row (subst (λ (z : List TraceLine). SomeAts z (line.Sign t ∷ rest)) (sym (append_assoc (at_lines (p ∷ ps)) (line.Sign t ∷ []) rest)) (some-ats p ps (line.Sign t ∷ rest))) w
+    form.WholeRecords.row (subst (λ (z : List TraceLine). SomeAts z (line.Sign t ∷ rest))
+    (sym (append_assoc (at_lines (p ∷ ps)) (line.Sign t ∷ []) rest)) (some-ats p ps (line.Sign t ∷ rest))) w
 
 -- a list that isn't empty tells some vector
 some-told : (vars : List VarInfo) (ps : List (Pairs × ℤ)) (ts : List (List ℕ × ℤ)) → AreOf vars ps ts → ts ≢ [] → ps ≢ []
@@ -41,7 +43,8 @@ exponents-fit : (ps : Pairs) (v : ℕ) → v ≤ 168 → IsRising ps → IsAbove
 exponents-fit [] v h r a = tt
 exponents-fit (p ∷ ps) v h r a = ((omega (arith, a.0), r.0, omega (arith, r.1)), exponents-fit ps v h r.3 a.1)
 
-ats-fit : (vars : List VarInfo) (ps : List (Pairs × ℤ)) (ts : List (List ℕ × ℤ)) (rest : List TraceLine) → length vars ≤ 168 → AreOf vars ps ts → Each HasSmallValue (at_lines ps ++ rest) → (Each HasSmallValue rest → Each IsLine rest) → Each IsLine (at_lines ps ++ rest)
+ats-fit : (vars : List VarInfo) (ps : List (Pairs × ℤ)) (ts : List (List ℕ × ℤ)) (rest : List TraceLine) → length vars ≤ 168 → AreOf vars ps ts
+    → Each HasSmallValue (at_lines ps ++ rest) → (Each HasSmallValue rest → Each IsLine rest) → Each IsLine (at_lines ps ++ rest)
 ats-fit vars [] ts rest h a p f = f p
 ats-fit vars (q ∷ ps) [] rest h a p f = absurd a
 ats-fit vars (q ∷ ps) (t ∷ ts) rest h a p f = ((exponents-fit q.0 (length vars) h a.0 a.1, p.0), ats-fit vars ps ts rest h a.4 p.1 f)
@@ -57,12 +60,17 @@ one-record s n fields front rest h v l m (no_row stop e) p f =
     let r = f p.1 in
     record { form = form.WholeRecords.refused r.form; ranges = ((l, m), r.ranges) }
 one-record s n fields front rest h v l m (a_row row list ps t e stages told sign) p f =
-    let q : Each HasSmallValue (at_lines ps ++ (line.Sign t ∷ rest)) = subst (λ (z : List TraceLine). Each HasSmallValue z) (append_assoc (at_lines ps) (line.Sign t ∷ []) rest) p.1 in
+    let q : Each HasSmallValue (at_lines ps ++ (line.Sign t ∷ rest)) =
+    subst (λ (z : List TraceLine). Each HasSmallValue z) (append_assoc (at_lines ps) (line.Sign t ∷ []) rest) p.1 in
     let some = some-told s.vars ps (up_to_first (row_sites s.vars row.index) (values row.values) s.tree list) told (told-some list (h row list stages)) in
     let w = behind ps q in
     record {
       form = row-form n ps t rest some (f w).form;
-      ranges = ((l, m), subst (λ (z : List TraceLine). Each IsLine z) (sym (append_assoc (at_lines ps) (line.Sign t ∷ []) rest)) (ats-fit s.vars ps (up_to_first (row_sites s.vars row.index) (values row.values) s.tree list) (line.Sign t ∷ rest) v told q (λ g. (tt, (f g.1).ranges))));
+      ranges = (
+        (l, m),
+        subst (λ (z : List TraceLine). Each IsLine z) (sym (append_assoc (at_lines ps) (line.Sign t ∷ []) rest)) (ats-fit s.vars ps
+            (up_to_first (row_sites s.vars row.index) (values row.values) s.tree list) (line.Sign t ∷ rest) v told q (λ g. (tt, (f g.1).ranges))),
+      );
     }
   where
     told-some : (list : List (List ℕ)) → list ≢ [] → up_to_first (row_sites s.vars row.index) (values row.values) s.tree list ≢ []

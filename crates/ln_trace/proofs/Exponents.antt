@@ -1,5 +1,6 @@
 -- The exponents of a line, pair by pair.
-use Rattle.std.proofs.Common.{◌≡◌, ◌↔◌, ℕ, ◌+◌, ◌<◌, ◌≤◌, zero, suc, true, false, List, [], ◌∷◌, ◌++◌, length, take, drop, get_or, refl, sym, ◌∙◌, ap, arith, subst}
+use Rattle.std.proofs.Common.{◌≡◌, ◌↔◌, ℕ, ◌+◌, ◌<◌, ◌≤◌, zero, suc, true, false, List, [], ◌∷◌, ◌++◌, length, take, drop, get_or, refl}
+use Rattle.std.proofs.Common.{sym, ◌∙◌, ap, arith, subst}
 use Rattle.std.specs.Prelude.{IsTrue, MatchOption, Option, Some, slice_get}
 use Rattle.std.proofs.lemmas.List.{take_all, take_more}
 use Rattle.ln_tree.specs.declared.shape.VarInfo.{VarInfo}
@@ -26,7 +27,8 @@ above-at v [] i d h a = absurd (omega (arith, h))
 above-at v (p ∷ ps) zero d h a = a.0
 above-at v (p ∷ ps) (suc i) d h a = above-at v ps i d (omega (arith, h)) a.1
 
-pub follows-at : (vars : List VarInfo) (a : Pairs) (i : ℕ) (d : ℕ × ℕ) → IsRising a → AreOfSites vars a → i < length a → MayFollow vars (take i a) (get_or a i d)
+pub follows-at : (vars : List VarInfo) (a : Pairs) (i : ℕ) (d : ℕ × ℕ) → IsRising a → AreOfSites vars a → i < length a
+    → MayFollow vars (take i a) (get_or a i d)
 follows-at vars [] i d r s l = absurd (omega (arith, l))
 follows-at vars (p ∷ a) zero d r s l = record { some = r.0; small = r.1; of_site = s.0; above = tt }
 follows-at vars (p ∷ a) (suc i) d r s l =
@@ -43,7 +45,8 @@ pub record Read (vars : List VarInfo) (a : Pairs) (i : ℕ) (out : Pairs) : Type
 pub read-first : (vars : List VarInfo) (a out : Pairs) → out ≡ [] → Read vars a 0 out
 read-first vars a out e = record { same = e; rising = tt; sites = tt }
 
-pub read-more : (vars : List VarInfo) (a : Pairs) (i : ℕ) (out new : Pairs) (d : ℕ × ℕ) → Read vars a i out → i < length a → MayFollow vars out (get_or a i d) → new ≡ out ++ get_or a i d ∷ [] → Read vars a (i + 1) new
+pub read-more : (vars : List VarInfo) (a : Pairs) (i : ℕ) (out new : Pairs) (d : ℕ × ℕ) → Read vars a i out → i < length a
+    → MayFollow vars out (get_or a i d) → new ≡ out ++ get_or a i d ∷ [] → Read vars a (i + 1) new
 read-more vars a i out new d h l f q =
     let t : take (i + 1) a ≡ take i a ++ get_or a i d ∷ [] = take_more a i d l in
     let g : IsAbove (take i a) (get_or a i d).0 = subst (λ (z : Pairs). IsAbove z (get_or a i d).0) h.same f.above in
@@ -53,7 +56,8 @@ read-more vars a i out new d h l f q =
       sites = subst (AreOfSites vars) (sym t) (sites-more vars (take i a) (get_or a i d) h.sites f.of_site);
     }
 
-pub read-stops : (vars : List VarInfo) (a : Pairs) (i : ℕ) (out : Pairs) (d : ℕ × ℕ) → Read vars a i out → i < length a → (MayFollow vars out (get_or a i d) → ⊥) → IsRising a → AreOfSites vars a → ⊥
+pub read-stops : (vars : List VarInfo) (a : Pairs) (i : ℕ) (out : Pairs) (d : ℕ × ℕ) → Read vars a i out → i < length a
+    → (MayFollow vars out (get_or a i d) → ⊥) → IsRising a → AreOfSites vars a → ⊥
 read-stops vars a i out d h l n r s = n (subst (λ (z : Pairs). MayFollow vars z (get_or a i d)) (sym h.same) (follows-at vars a i d r s l))
 
 pub read-end : (vars : List VarInfo) (a : Pairs) (i : ℕ) (out : Pairs) → length a ≤ i → Read vars a i out → (out ≡ a) × IsRising a × AreOfSites vars a
@@ -93,10 +97,12 @@ pub record WasRead (vars : List VarInfo) (a e : Pairs) : Type 0 where
   pub rising : IsRising e
   pub sites : AreOfSites vars e
 
-some-in : (vars : List VarInfo) (a e : Pairs) (o : Option Pairs) → o ≡ Some e → MatchOption o (IsRising a → AreOfSites vars a → ⊥) (λ x. (x ≡ a) × IsRising a × AreOfSites vars a) → (e ≡ a) × IsRising a × AreOfSites vars a
+some-in : (vars : List VarInfo) (a e : Pairs) (o : Option Pairs) → o ≡ Some e
+    → MatchOption o (IsRising a → AreOfSites vars a → ⊥) (λ x. (x ≡ a) × IsRising a × AreOfSites vars a) → (e ≡ a) × IsRising a × AreOfSites vars a
 some-in vars a e o q h = subst (λ (x : Option Pairs). MatchOption x (IsRising a → AreOfSites vars a → ⊥) (λ y. (y ≡ a) × IsRising a × AreOfSites vars a)) q h
 
-pub was-read : (vs vars : List VarInfo) (a e : Pairs) (o : Option Pairs) → vs ≡ vars → o ≡ Some e → MatchOption o (IsRising a → AreOfSites vs a → ⊥) (λ x. (x ≡ a) × IsRising a × AreOfSites vs a) → WasRead vars a e
+pub was-read : (vs vars : List VarInfo) (a e : Pairs) (o : Option Pairs) → vs ≡ vars → o ≡ Some e
+    → MatchOption o (IsRising a → AreOfSites vs a → ⊥) (λ x. (x ≡ a) × IsRising a × AreOfSites vs a) → WasRead vars a e
 was-read vs vars a e o v q h =
     let r = some-in vs a e o q h in
     record {

@@ -21,7 +21,7 @@ use Rattle.ln_trace.specs.Unread.{AreLeft, IsTaken, Takes, Unread}
 use Rattle.ln_trace.proofs.Agreeing.{agreed-right}
 use Rattle.ln_trace.proofs.Walking.{counts, ends, go-more, lacks-here, stops}
 
--- the first of what is left
+-- the first of the rest
 record Front (xs : List TraceLine) (i : ℕ) (p : TraceLine) (ys : List TraceLine) : Type 0 where
   less : i < length xs
   here : p ≡ get_or xs i p
@@ -54,22 +54,26 @@ module _ (s : Shape) (e : Tree) (f : Sparse) (st : Staged) (records : Records) (
 
   module _ (rows : Records) (p : HasPoly s e f) (at : ℕ) (m : Stands s e st records ls rows d at) where
     -- the line at hand leads on
-    pub stands-more : (l : TraceLine) (left : Records) (new : Desk) → at < length ls → l ≡ get_or ls at l → Led s f st rows d l true left new → Stands s e st records ls left new (at + 1)
+    pub stands-more : (l : TraceLine) (left : Records) (new : Desk) → at < length ls → l ≡ get_or ls at l
+        → Led s f st rows d l true left new → Stands s e st records ls left new (at + 1)
     stands-more l left new less is h =
         let k : suc at ≡ at + 1 = omega arith in
         let r = h.gone e m.here p m.is in
         record {
           here = r.0;
           come = subst (λ (j : ℕ). Go (subject_of s e) (Between 0 records) (take j ls) r.0) k
-              (go-more (subject_of s e) (Between 0 records) m.here r.0 ls at l less m.come (subst (λ (x : TraceLine). Rule (subject_of s e) m.here x r.0) is r.1));
+              (go-more (subject_of s e) (Between 0 records) m.here r.0 ls at l less m.come
+              (subst (λ (x : TraceLine). Rule (subject_of s e) m.here x r.0) is r.1));
           is = r.2;
         }
 
     -- or it fails: it is the first that does
-    pub stands-stops : (l : TraceLine) (left : Records) (new : Desk) (n : ℕ) → at < length ls → l ≡ get_or ls at l → Led s f st rows d l false left new → n ≡ at + 2 → IsFirstFault (subject_of s e) records ls n
+    pub stands-stops : (l : TraceLine) (left : Records) (new : Desk) (n : ℕ) → at < length ls → l ≡ get_or ls at l
+        → Led s f st rows d l false left new → n ≡ at + 2 → IsFirstFault (subject_of s e) records ls n
     stands-stops l left new n less is h q =
         subst (IsFirstFault (subject_of s e) records ls) (sym q)
-        (stops (subject_of s e) records ls at l m.here less m.come (subst (λ (x : TraceLine). (q : Place) → Rule (subject_of s e) m.here x q → ⊥) is (h.gone e m.here p m.is)))
+        (stops (subject_of s e) records ls at l m.here less m.come
+        (subst (λ (x : TraceLine). (q : Place) → Rule (subject_of s e) m.here x q → ⊥) is (h.gone e m.here p m.is)))
 
     come-all : at ≡ length ls → Go (subject_of s e) (Between 0 records) (take (length ls) ls) m.here
     come-all q = subst (λ (j : ℕ). Go (subject_of s e) (Between 0 records) (take j ls) m.here) q m.come
@@ -83,18 +87,20 @@ module _ (s : Shape) (e : Tree) (f : Sparse) (st : Staged) (records : Records) (
           fails (Between seen left) i = λ z. a (i.0, i.2 ∙ z)
           fails (Within seen left row stood) i = tt
 
-    -- or behind the last record
+    -- or after the last record
     pub stands-ends : at ≡ length ls → d.inside ≡ false → rows ≡ [] → IsJudged (subject_of s e) records ls (Agreed d.seen)
     stands-ends q a b = go m.here m.is (come-all q) where
-      go : (here : Place) → IsHere s e st rows d here → Go (subject_of s e) (Between 0 records) (take (length ls) ls) here → IsJudged (subject_of s e) records ls (Agreed d.seen)
+      go : (here : Place) → IsHere s e st rows d here → Go (subject_of s e) (Between 0 records) (take (length ls) ls) here
+          → IsJudged (subject_of s e) records ls (Agreed d.seen)
       go (Within seen left row stood) i c = absurd (bool-apart d.inside i.0 a)
       go (Between seen left) i c =
           let z : left ≡ [] = sym i.2 ∙ b in
-          let k : Go (subject_of s e) (Between 0 records) (take (length ls) ls) (Between seen []) = subst (λ (x : Records). Go (subject_of s e) (Between 0 records) (take (length ls) ls) (Between seen x)) z c in
+          let k : Go (subject_of s e) (Between 0 records) (take (length ls) ls) (Between seen []) =
+          subst (λ (x : Records). Go (subject_of s e) (Between 0 records) (take (length ls) ls) (Between seen x)) z c in
           (ends (subject_of s e) records ls seen k, i.1 ∙ counts (subject_of s e) records ls seen k)
 
 -- ---- lines that are judged as they are read
--- so many of them lead to a place that the desk stands for, and the others are left
+-- this many of them lead to a place that the desk stands for, and the others remain
 pub record Midway (s : Shape) (e : Tree) (st : Staged) (records : Records) (ls : List TraceLine) (rows : Records) (d : Desk) (u : Unread) : Type 0 where
   pub at : ℕ
   pub number : u.line ≡ at + 2
@@ -107,7 +113,8 @@ module _ (s : Shape) (e : Tree) (f : Sparse) (st : Staged) (records : Records) (
   midway-first u n a b h = record { at = 0; number = n; within = omega arith; left = h; stands = stands-first s e f st records ls d a b }
 
   module _ (rows : Records) (u : Unread) (p : HasPoly s e f) (m : Midway s e st records ls rows d u) where
-    pub midway-more : (l : TraceLine) (w : Unread) (left : Records) (new : Desk) → IsTaken u l w → Led s f st rows d l true left new → Midway s e st records ls left new w
+    pub midway-more : (l : TraceLine) (w : Unread) (left : Records) (new : Desk) → IsTaken u l w → Led s f st rows d l true left new
+        → Midway s e st records ls left new w
     midway-more l w left new t h =
         let g = t.goes_on (drop m.at ls) m.left in
         let y = front ls m.at l g.behind g.first in
@@ -120,7 +127,8 @@ module _ (s : Shape) (e : Tree) (f : Sparse) (st : Staged) (records : Records) (
           stands = stands-more s e f st records ls d rows p m.at m.stands l left new y.less y.here h;
         }
 
-    pub midway-stops : (l : TraceLine) (w : Unread) (left : Records) (new : Desk) (n : ℕ) → IsTaken u l w → Led s f st rows d l false left new → n + 1 ≡ w.line → IsFirstFault (subject_of s e) records ls n
+    pub midway-stops : (l : TraceLine) (w : Unread) (left : Records) (new : Desk) (n : ℕ) → IsTaken u l w
+        → Led s f st rows d l false left new → n + 1 ≡ w.line → IsFirstFault (subject_of s e) records ls n
     midway-stops l w left new n t h q =
         let g = t.goes_on (drop m.at ls) m.left in
         let y = front ls m.at l g.behind g.first in
@@ -137,12 +145,13 @@ module _ (s : Shape) (e : Tree) (f : Sparse) (st : Staged) (records : Records) (
     pub midway-ends : (w : Unread) → Takes u None w → d.inside ≡ false → rows ≡ [] → IsJudged (subject_of s e) records ls (Agreed d.seen)
     midway-ends w t a b = stands-ends s e f st records ls d rows p m.at m.stands (at-end w t) a b
 
--- ---- what the answer says
+-- ---- what the result means
 pub judged-answer : (s : Subject) (records : Records) (ls : List TraceLine) (j : Judged) → IsJudged s records ls j → IsAnswer s records ls (fault_of j)
 judged-answer s records ls (Agreed n) h = h.0
 judged-answer s records ls (Wrong n) h = h
 
-pub judged-seen : (s : Subject) (records : Records) (ls : List TraceLine) (n m : ℕ) → n ≡ m → IsJudged s records ls (Agreed m) → IsJudged s records ls (Agreed n)
+pub judged-seen : (s : Subject) (records : Records) (ls : List TraceLine) (n m : ℕ) → n ≡ m → IsJudged s records ls (Agreed m)
+    → IsJudged s records ls (Agreed n)
 judged-seen s records ls n m e h = (h.0, e ∙ h.1)
 
 same-count : (n m : ℕ) → Agreed n ≡ Agreed m → n ≡ m
@@ -152,6 +161,8 @@ pub judged-count : (s : Subject) (records : Records) (ls : List TraceLine) (j : 
 judged-count s records ls (Agreed m) n h e = sym (same-count m n e) ∙ h.1
 judged-count s records ls (Wrong m) n h e = cc
 
-pub judged-signs : (s : Shape) (e : Tree) (f : Sparse) (records : Records) (ls : List TraceLine) (j : Judged) (n : ℕ) → HasPoly s e f → IsJudged (subject_of s e) records ls j → j ≡ Agreed n → AreRight (subject_of s e) records (signs_in ls)
-judged-signs s e f records ls (Agreed m) n p h q = agreed-right (subject_of s e) records ls p.inputs (λ fields row read. rows-differ s row (row_in_range s.sites s.vars fields row s.kept read)) h.0
+pub judged-signs : (s : Shape) (e : Tree) (f : Sparse) (records : Records) (ls : List TraceLine) (j : Judged) (n : ℕ) → HasPoly s e f
+    → IsJudged (subject_of s e) records ls j → j ≡ Agreed n → AreRight (subject_of s e) records (signs_in ls)
+judged-signs s e f records ls (Agreed m) n p h q =
+    agreed-right (subject_of s e) records ls p.inputs (λ fields row read. rows-differ s row (row_in_range s.sites s.vars fields row s.kept read)) h.0
 judged-signs s e f records ls (Wrong m) n p h q = cc

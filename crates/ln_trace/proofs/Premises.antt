@@ -1,5 +1,6 @@
--- What the stages of a polynomial and the exponents of a line give the judge.
-use Rattle.std.proofs.Common.{◌≡◌, ℕ, ◌<◌, ◌≤◌, zero, suc, Bool, true, false, List, [], ◌∷◌, length, map, get_or, refl, sym, ◌∙◌, ap, arith, subst, ◌⊎◌, inl, inr, Some, None}
+-- Proves what the judge knows by the stages of a polynomial and the exponents of a line.
+use Rattle.std.proofs.Common.{◌≡◌, ℕ, ◌<◌, ◌≤◌, zero, suc, Bool, true, false, List, [], ◌∷◌, length, map, get_or, refl, sym, ◌∙◌, ap, arith}
+use Rattle.std.proofs.Common.{subst, ◌⊎◌, inl, inr, Some, None}
 use Rattle.std.specs.Prelude.{All, Contains, if◌then◌else◌, slice_get}
 use Rattle.std.specs.Option.{option_map}
 use Rattle.std.proofs.Math.IntN.{ℤ}
@@ -87,17 +88,21 @@ module _ (s : Shape) (f : Sparse) (st : Staged) (h : IsCase s f st) (o : List �
       let same : get_or (orders_of s.sites) place.0 [] ≡ o = get_or_from_slice_get (orders_of s.sites) place.0 o [] at in
       let b : place.0 < length (map g st.lists) = slice_get_within (map g st.lists) place.0 (g numbers) in_lists in
       let k = h.stages.lists.each place.0 b in
-      subst (λ (q : List (List ℕ)). IsStageListOf (length s.vars) (sites_of s.vars o) f q) here (subst (λ (q : List ℕ). IsStageListOf (length s.vars) (sites_of s.vars q) f (get_or (map g st.lists) place.0 [])) same k)
+      subst (λ (q : List (List ℕ)). IsStageListOf (length s.vars) (sites_of s.vars o) f q) here
+      (subst (λ (q : List ℕ). IsStageListOf (length s.vars) (sites_of s.vars q) f (get_or (map g st.lists) place.0 [])) same k)
 
   as-vectors : (ks : List ℕ) → map (block_vector (length s.vars) st.exps) ks ≡ map (vector (length s.vars)) (exps_at st ks)
   as-vectors [] = refl
   as-vectors (k ∷ ks) = ap (λ (vs : List (List ℕ)). vector (length s.vars) (get_or st.exps k []) ∷ vs) (as-vectors ks)
 
-  -- at a row's begin all stages are left
-  pub left-first : (e : Tree) → HasPoly s e f → IsLeft (length s.vars) (sites_of s.vars o) e [] (map (vector (length s.vars)) (left_at st o (record { sites = 0; at = 0 })))
+  -- at a row's begin all stages remain
+  pub left-first : (e : Tree) → HasPoly s e f
+      → IsLeft (length s.vars) (sites_of s.vars o) e [] (map (vector (length s.vars)) (left_at st o (record { sites = 0; at = 0 })))
   left-first e p =
-      let l : IsStageList (length s.vars) (sites_of s.vars o) e (map (block_vector (length s.vars) st.exps) (segments_from (segment_of st) o 0)) = (lists-of-trees (length s.vars) (sites_of s.vars o) e f _ p.normal).0 worked in
-      all-left (length s.vars) (sites_of s.vars o) e _ (subst (λ (q : List (List ℕ)). IsStageList (length s.vars) (sites_of s.vars o) e q) (as-vectors (segments_from (segment_of st) o 0)) l)
+      let l : IsStageList (length s.vars) (sites_of s.vars o) e (map (block_vector (length s.vars) st.exps) (segments_from (segment_of st) o 0)) =
+      (lists-of-trees (length s.vars) (sites_of s.vars o) e f _ p.normal).0 worked in
+      all-left (length s.vars) (sites_of s.vars o) e _
+      (subst (λ (q : List (List ℕ)). IsStageList (length s.vars) (sites_of s.vars o) e q) (as-vectors (segments_from (segment_of st) o 0)) l)
 
   pub spot-first : IsSpot st o (record { sites = 0; at = 0 })
   spot-first = record { sites = omega arith; at = omega arith }
@@ -122,7 +127,8 @@ site-some (x ∷ vars) (suc v) h e = site-some vars v h e
 
 none-there : (vars : List VarInfo) (v : ℕ) (a : Pairs) → AreOfSites vars a → site_of vars v ≡ None → exponent v a ≡ 0
 none-there vars v [] h e = refl
-none-there vars v (p ∷ a) h e = omega (arith, power-apart v p (λ (q : p.0 ≡ v). site-some vars p.0 h.0 (subst (λ (w : ℕ). site_of vars w ≡ None) (sym q) e)), none-there vars v a h.1 e)
+none-there vars v (p ∷ a) h e =
+    omega (arith, power-apart v p (λ (q : p.0 ≡ v). site-some vars p.0 h.0 (subst (λ (w : ℕ). site_of vars w ≡ None) (sym q) e)), none-there vars v a h.1 e)
 
 pub sites-over : (vars : List VarInfo) (index : List ℤ) (a : Pairs) → AreOfSites vars a → IsOver (length vars) (row_sites vars index) (vector (length vars) a)
 sites-over vars index a h = record { size = vector-length (length vars) a; of_sites = λ v e. by_case v e (cases_lt v (length vars)) } where

@@ -1,4 +1,4 @@
--- What may stand next, by the last vector and the first that is left.
+-- Proves what may stand next, by the last vector and the first remaining one.
 use Rattle.std.proofs.Common.{◌≡◌, ◌↔◌, ℕ, refl, sym, ◌∙◌, ap, subst, Bool, true, false, List, [], ◌∷◌, Some, None, inl, inr}
 use Rattle.std.specs.Prelude.{Option, IsTrue}
 use Rattle.std.proofs.Math.IntN.{ℤ}
@@ -15,7 +15,8 @@ pub true-false : (b : Bool) → b ≡ true → b ≡ false → ⊥
 true-false b e f = cc
 
 -- ---- the last
-pub behind-some : (n : ℕ) (sites : Sites) (o : Option Pairs) (a b : Pairs) (zero r : Bool) → o ≡ Some b → (IsTrue r ↔ Earlier sites (vector n b) (vector n a)) → (stood : Stood) → IsLastOf n o zero stood → IsTrue r ↔ LastIsEarlier sites stood (vector n a)
+pub behind-some : (n : ℕ) (sites : Sites) (o : Option Pairs) (a b : Pairs) (zero r : Bool) → o ≡ Some b
+    → (IsTrue r ↔ Earlier sites (vector n b) (vector n a)) → (stood : Stood) → IsLastOf n o zero stood → IsTrue r ↔ LastIsEarlier sites stood (vector n a)
 behind-some n sites None a b zero r e h stood l = cc
 behind-some n sites (Some c) a b zero r e h [] l = absurd l
 behind-some n sites (Some c) a b zero r e h (p ∷ stood) l =
@@ -24,7 +25,8 @@ behind-some n sites (Some c) a b zero r e h (p ∷ stood) l =
       same : (c b : Pairs) → Some c ≡ Some b → c ≡ b
       same c b e = cc
 
-pub behind-none : (n : ℕ) (sites : Sites) (o : Option Pairs) (a : Pairs) (zero : Bool) → o ≡ None → (stood : Stood) → IsLastOf n o zero stood → IsTrue true ↔ LastIsEarlier sites stood (vector n a)
+pub behind-none : (n : ℕ) (sites : Sites) (o : Option Pairs) (a : Pairs) (zero : Bool) → o ≡ None → (stood : Stood)
+    → IsLastOf n o zero stood → IsTrue true ↔ LastIsEarlier sites stood (vector n a)
 behind-none n sites (Some c) a zero e stood l = cc
 behind-none n sites None a zero e [] l = (λ t. tt, λ t. refl)
 behind-none n sites None a zero e (p ∷ stood) l = absurd l
@@ -46,7 +48,8 @@ never h = (λ t. cc, λ x. absurd (h x))
 always : {A : Type 0} → A → IsTrue true ↔ A
 always x = (λ t. x, λ y. refl)
 
-module _ (n : ℕ) (sites : Sites) (o : Option Pairs) (zero : Bool) (a : List ℕ) (e : Tree) (stood : Stood) (differ : IndicesDiffer sites) (last : IsLastOf n o zero stood) where
+module _ (n : ℕ) (sites : Sites) (o : Option Pairs) (zero : Bool) (a : List ℕ) (e : Tree) (stood : Stood) (differ : IndicesDiffer sites)
+    (last : IsLastOf n o zero stood) where
   -- a value that isn't 0 stood
   pub not-zero : zero ≡ false → IsTrue false ↔ MayStand n sites e stood a
   not-zero z = never (λ m. true-false zero (of-zeros n o zero stood last m.zeros) z)
@@ -55,26 +58,33 @@ module _ (n : ℕ) (sites : Sites) (o : Option Pairs) (zero : Bool) (a : List �
   pub not-later : (r : Bool) → r ≡ false → (IsTrue r ↔ LastIsEarlier sites stood a) → IsTrue false ↔ MayStand n sites e stood a
   not-later r f h = never (λ m. true-false r (h.1 m.later) f)
 
-  -- the first that is left is earlier
-  pub one-missing : (left : List (List ℕ)) (b : List ℕ) (rest : List (List ℕ)) → left ≡ b ∷ rest → Earlier sites b a → IsLeft n sites e stood left → IsTrue false ↔ MayStand n sites e stood a
+  -- the first remaining one is earlier
+  pub one-missing : (left : List (List ℕ)) (b : List ℕ) (rest : List (List ℕ)) → left ≡ b ∷ rest → Earlier sites b a
+      → IsLeft n sites e stood left → IsTrue false ↔ MayStand n sites e stood a
   one-missing left b rest q y h = never (λ m. (subst (λ l. NoneIsEarlier sites l a) q ((first-left n sites e differ stood left a h).1 m.members)) y)
 
-  -- it isn't, or none is left
-  pub may : (left : List (List ℕ)) → zero ≡ true → (r : Bool) → r ≡ true → (IsTrue r ↔ LastIsEarlier sites stood a) → NoneIsEarlier sites left a → IsLeft n sites e stood left → IsTrue true ↔ MayStand n sites e stood a
-  may left z r t h none i = always (record { zeros = zeros-of n o zero stood last z; later = h.0 t; members = (first-left n sites e differ stood left a i).0 none })
+  -- it isn't, or none remains
+  pub may : (left : List (List ℕ)) → zero ≡ true → (r : Bool) → r ≡ true → (IsTrue r ↔ LastIsEarlier sites stood a)
+      → NoneIsEarlier sites left a → IsLeft n sites e stood left → IsTrue true ↔ MayStand n sites e stood a
+  may left z r t h none i =
+      always (record { zeros = zeros-of n o zero stood last z; later = h.0 t; members = (first-left n sites e differ stood left a i).0 none })
 
-pub none-earlier : (sites : Sites) (left : List (List ℕ)) (a b : List ℕ) (rest : List (List ℕ)) → left ≡ b ∷ rest → (Earlier sites b a → ⊥) → NoneIsEarlier sites left a
+pub none-earlier : (sites : Sites) (left : List (List ℕ)) (a b : List ℕ) (rest : List (List ℕ)) → left ≡ b ∷ rest → (Earlier sites b a → ⊥)
+    → NoneIsEarlier sites left a
 none-earlier sites left a b rest q h = subst (λ l. NoneIsEarlier sites l a) (sym q) h
 
 pub none-left-earlier : (sites : Sites) (left : List (List ℕ)) (a : List ℕ) → left ≡ [] → NoneIsEarlier sites left a
 none-left-earlier sites left a q = subst (λ l. NoneIsEarlier sites l a) (sym q) tt
 
--- ---- what is left behind it
-module _ (n : ℕ) (sites : Sites) (a : List ℕ) (e : Tree) (stood : Stood) (z : ℤ) (differ : IndicesDiffer sites) (over : IsOver n sites a) (m : MayStand n sites e stood a) where
-  pub was-first : (left : List (List ℕ)) (b : List ℕ) (rest : List (List ℕ)) → left ≡ b ∷ rest → b ≡ a → IsLeft n sites e stood left → IsLeft n sites e ((a, z) ∷ stood) rest
+-- ---- the rest after it
+module _ (n : ℕ) (sites : Sites) (a : List ℕ) (e : Tree) (stood : Stood) (z : ℤ) (differ : IndicesDiffer sites) (over : IsOver n sites a)
+    (m : MayStand n sites e stood a) where
+  pub was-first : (left : List (List ℕ)) (b : List ℕ) (rest : List (List ℕ)) → left ≡ b ∷ rest → b ≡ a → IsLeft n sites e stood left
+      → IsLeft n sites e ((a, z) ∷ stood) rest
   was-first left b rest q s h = first-stands n sites e stood rest a z (subst (IsLeft n sites e stood) (q ∙ ap (λ c. c ∷ rest) s) h)
 
-  pub was-other : (left : List (List ℕ)) (b : List ℕ) (rest : List (List ℕ)) → left ≡ b ∷ rest → (b ≡ a → ⊥) → IsLeft n sites e stood left → IsLeft n sites e ((a, z) ∷ stood) left
+  pub was-other : (left : List (List ℕ)) (b : List ℕ) (rest : List (List ℕ)) → left ≡ b ∷ rest → (b ≡ a → ⊥) → IsLeft n sites e stood left
+      → IsLeft n sites e ((a, z) ∷ stood) left
   was-other left b rest q s h = other-stands n sites e differ stood left a z over h none (λ i. out (subst (λ l. In l a) q i)) where
     none : NoneIsEarlier sites left a
     none = (first-left n sites e differ stood left a h).1 m.members
@@ -90,4 +100,5 @@ module _ (n : ℕ) (sites : Sites) (a : List ℕ) (e : Tree) (stood : Stood) (z 
     out (inr y) = at-first (sorted.in_order.0 a y)
 
   pub was-none : (left : List (List ℕ)) → left ≡ [] → IsLeft n sites e stood left → IsLeft n sites e ((a, z) ∷ stood) left
-  was-none left q h = other-stands n sites e differ stood left a z over h ((first-left n sites e differ stood left a h).1 m.members) (λ i. subst (λ l. In l a) q i)
+  was-none left q h =
+      other-stands n sites e differ stood left a z over h ((first-left n sites e differ stood left a h).1 m.members) (λ i. subst (λ l. In l a) q i)

@@ -1,4 +1,4 @@
--- What each kind of line does to what is held.
+-- Proves what each kind of line does to what is held.
 use Rattle.std.proofs.Common.{◌≡◌, ◌↔◌, ℕ, zero, suc, ◌+◌, Bool, true, false, List, [], ◌∷◌, length, map, take, refl, sym, ◌∙◌, ap, subst, Some, None}
 use Rattle.std.specs.Prelude.{Option, Ok, Err, Result, IsTrue}
 use Rattle.std.proofs.Math.IntN.{ℤ, pos, negsuc}
@@ -60,7 +60,8 @@ ok-err : (o : Result Row RowStop) (row : Row) (stop : RowStop) → o ≡ Ok row 
 ok-err o row stop p q = cc
 
 -- the order of a row in range is one of its sites
-pub order-of : (s : Shape) (r : code.Row) (places : List ℕ) → InRange s.sites s.vars (row_of s.sites s.vars r) → IsOrder (row_of s.sites s.vars r).index places → IsOrderOf s.sites places
+pub order-of : (s : Shape) (r : code.Row) (places : List ℕ) → InRange s.sites s.vars (row_of s.sites s.vars r)
+    → IsOrder (row_of s.sites s.vars r).index places → IsOrderOf s.sites places
 order-of s r places range order = subst (λ (k : ℕ). IsOrderOf k places) range.size (order-places (row_of s.sites s.vars r).index places order)
 
 -- ---- signs
@@ -108,11 +109,13 @@ none-map : (n : ℕ) (xs : List Pairs) → xs ≡ [] → map (vector n) xs ≡ [
 none-map n xs e = ap (map (vector n)) e
 
 -- a row that was read is in range
-pub row-range : (s : Shape) (x : Next) (old rows : Records) (r : code.Row) → x ≡ next.Read → IsNextOf s.sites s.vars x old rows r → InRange s.sites s.vars (row_of s.sites s.vars r)
+pub row-range : (s : Shape) (x : Next) (old rows : Records) (r : code.Row) → x ≡ next.Read → IsNextOf s.sites s.vars x old rows r
+    → InRange s.sites s.vars (row_of s.sites s.vars r)
 row-range s x old rows r q y = (subst (λ (z : Next). IsNextOf s.sites s.vars z old rows r) q y).3
 
 module _ (s : Shape) (f : Sparse) (st : Staged) (old : Records) (d : Desk) where
-  refuses : (l : TraceLine) (rows : Records) (new : Desk) → ((e : Tree) (here : Place) → IsHere s e st old d here → (q : Place) → Rule (subject_of s e) here l q → ⊥) → Led s f st old d l false rows new
+  refuses : (l : TraceLine) (rows : Records) (new : Desk)
+      → ((e : Tree) (here : Place) → IsHere s e st old d here → (q : Place) → Rule (subject_of s e) here l q → ⊥) → Led s f st old d l false rows new
   refuses l rows new h = record { holds = λ e. absurd (false-true e); gone = λ e here p i. h e here i }
 
   -- ---- `refused`
@@ -122,9 +125,11 @@ module _ (s : Shape) (f : Sparse) (st : Staged) (old : Records) (d : Desk) where
     go e (Between seen left) i q r = h (i.0, r.number ∙ ap (λ k. k + 1) (sym i.1))
     go e (Within seen left row stood) i q r = r
 
-  pub refused-other : (n : ℕ) (x : Next) (rows : Records) (r : code.Row) (new : Desk) → (x ≡ next.Fault → ⊥) → IsNextOf s.sites s.vars x old rows r → Led s f st old d (line.Refused n) false rows new
+  pub refused-other : (n : ℕ) (x : Next) (rows : Records) (r : code.Row) (new : Desk) → (x ≡ next.Fault → ⊥)
+      → IsNextOf s.sites s.vars x old rows r → Led s f st old d (line.Refused n) false rows new
   refused-other n x rows r new other k = refuses (line.Refused n) rows new (go x other k) where
-    go : (x : Next) → (x ≡ next.Fault → ⊥) → IsNextOf s.sites s.vars x old rows r → (e : Tree) (here : Place) → IsHere s e st old d here → (q : Place) → Rule (subject_of s e) here (line.Refused n) q → ⊥
+    go : (x : Next) → (x ≡ next.Fault → ⊥) → IsNextOf s.sites s.vars x old rows r → (e : Tree) (here : Place) → IsHere s e st old d here
+        → (q : Place) → Rule (subject_of s e) here (line.Refused n) q → ⊥
     go x other k e (Within seen left row stood) i q r = r
     go next.Nothing other k e (Between seen left) i q r = nil-cons r.fields r.behind (sym k ∙ i.2 ∙ r.next)
     go next.Fault other k e (Between seen left) i q r = other refl
@@ -132,13 +137,16 @@ module _ (s : Shape) (f : Sparse) (st : Staged) (old : Records) (d : Desk) where
         let same : k.0 ≡ r.fields = heads k.0 r.fields rows r.behind (sym k.1 ∙ i.2 ∙ r.next) in
         ok-err (read_row s.sites s.vars k.0) _ r.stop k.2 (ap (read_row s.sites s.vars) same ∙ r.refused)
 
-  pub refused-goes : (n : ℕ) (x : Next) (rows : Records) (r : code.Row) → d.inside ≡ false → n ≡ d.seen + 1 → x ≡ next.Fault → IsNextOf s.sites s.vars x old rows r
-      → Led s f st old d (line.Refused n) true rows (record { inside = d.inside; seen = n; row = r; order = d.order; spot = d.spot; last = d.last; sign = d.sign })
+  pub refused-goes : (n : ℕ) (x : Next) (rows : Records) (r : code.Row) → d.inside ≡ false → n ≡ d.seen + 1 → x ≡ next.Fault
+      → IsNextOf s.sites s.vars x old rows r
+      → Led s f st old d (line.Refused n) true rows
+      (record { inside = d.inside; seen = n; row = r; order = d.order; spot = d.spot; last = d.last; sign = d.sign })
   refused-goes n x rows r b m q y = record { holds = λ t i. absurd (clash d.inside i b); gone = go } where
     k : IsNextOf s.sites s.vars next.Fault old rows r
     k = subst (λ (z : Next). IsNextOf s.sites s.vars z old rows r) q y
 
-    go : (e : Tree) (here : Place) → HasPoly s e f → IsHere s e st old d here → Gone s e st here (line.Refused n) true rows (record { inside = d.inside; seen = n; row = r; order = d.order; spot = d.spot; last = d.last; sign = d.sign })
+    go : (e : Tree) (here : Place) → HasPoly s e f → IsHere s e st old d here → Gone s e st here (line.Refused n) true rows
+        (record { inside = d.inside; seen = n; row = r; order = d.order; spot = d.spot; last = d.last; sign = d.sign })
     go e (Between seen left) p i =
         let c : n ≡ seen + 1 = m ∙ ap (λ j. j + 1) i.1 in
         (Between (seen + 1) rows, record { number = c; fields = k.0; behind = rows; next = sym i.2 ∙ k.1; stop = k.2; refused = k.3; to = refl }, (b, c, refl))
@@ -151,9 +159,11 @@ module _ (s : Shape) (f : Sparse) (st : Staged) (old : Records) (d : Desk) where
     go e (Between seen left) i q r = h (i.0, r.number ∙ ap (λ k. k + 1) (sym i.1))
     go e (Within seen left row stood) i q r = r
 
-  pub row-other : (n : ℕ) (x : Next) (rows : Records) (r : code.Row) (new : Desk) → (x ≡ next.Read → ⊥) → IsNextOf s.sites s.vars x old rows r → Led s f st old d (line.Row n) false rows new
+  pub row-other : (n : ℕ) (x : Next) (rows : Records) (r : code.Row) (new : Desk) → (x ≡ next.Read → ⊥)
+      → IsNextOf s.sites s.vars x old rows r → Led s f st old d (line.Row n) false rows new
   row-other n x rows r new other k = refuses (line.Row n) rows new (go x other k) where
-    go : (x : Next) → (x ≡ next.Read → ⊥) → IsNextOf s.sites s.vars x old rows r → (e : Tree) (here : Place) → IsHere s e st old d here → (q : Place) → Rule (subject_of s e) here (line.Row n) q → ⊥
+    go : (x : Next) → (x ≡ next.Read → ⊥) → IsNextOf s.sites s.vars x old rows r → (e : Tree) (here : Place) → IsHere s e st old d here
+        → (q : Place) → Rule (subject_of s e) here (line.Row n) q → ⊥
     go x other k e (Within seen left row stood) i q r = r
     go next.Nothing other k e (Between seen left) i q r = nil-cons r.fields r.behind (sym k ∙ i.2 ∙ r.next)
     go next.Read other k e (Between seen left) i q r = other refl
@@ -162,25 +172,29 @@ module _ (s : Shape) (f : Sparse) (st : Staged) (old : Records) (d : Desk) where
         ok-err (read_row s.sites s.vars r.fields) r.row k.2 r.read (ap (read_row s.sites s.vars) (sym same) ∙ k.3)
 
   abbrev pub opened : ℕ → code.Row → Order → Desk
-  opened n r o = record { inside = true; seen = n; row = r; order = o; spot = record { sites = 0; at = 0 }; last = record { exps = None; zero = true }; sign = d.sign }
+  opened n r o =
+      record { inside = true; seen = n; row = r; order = o; spot = record { sites = 0; at = 0 }; last = record { exps = None; zero = true }; sign = d.sign }
 
-  pub row-goes : (n : ℕ) (x : Next) (rows : Records) (r : code.Row) (o : Order) (new : Desk) → IsCase s f st → d.inside ≡ false → n ≡ d.seen + 1 → x ≡ next.Read → IsNextOf s.sites s.vars x old rows r → IsOrder (take s.sites r.index) (order_places o)
+  pub row-goes : (n : ℕ) (x : Next) (rows : Records) (r : code.Row) (o : Order) (new : Desk) → IsCase s f st → d.inside ≡ false
+      → n ≡ d.seen + 1 → x ≡ next.Read → IsNextOf s.sites s.vars x old rows r → IsOrder (take s.sites r.index) (order_places o)
       → new ≡ opened n r o → Led s f st old d (line.Row n) true rows new
-  row-goes n x rows r o new c b m q y order w = subst (λ (z : Desk). Led s f st old d (line.Row n) true rows z) (sym w) (record { holds = λ t i. record { range = k.3; order = order; spot = spot-first s f st c (order_places o) of }; gone = go }) where
-    k : IsNextOf s.sites s.vars next.Read old rows r
-    k = subst (λ (z : Next). IsNextOf s.sites s.vars z old rows r) q y
+  row-goes n x rows r o new c b m q y order w = subst (λ (z : Desk). Led s f st old d (line.Row n) true rows z) (sym w)
+      (record { holds = λ t i. record { range = k.3; order = order; spot = spot-first s f st c (order_places o) of }; gone = go })
+    where
+      k : IsNextOf s.sites s.vars next.Read old rows r
+      k = subst (λ (z : Next). IsNextOf s.sites s.vars z old rows r) q y
 
-    of : IsOrderOf s.sites (order_places o)
-    of = order-of s r (order_places o) k.3 order
+      of : IsOrderOf s.sites (order_places o)
+      of = order-of s r (order_places o) k.3 order
 
-    go : (e : Tree) (here : Place) → HasPoly s e f → IsHere s e st old d here → Gone s e st here (line.Row n) true rows (opened n r o)
-    go e (Between seen left) p i =
-        let j : n ≡ seen + 1 = m ∙ ap (λ y. y + 1) i.1 in (
-          Within (seen + 1) rows (row_of s.sites s.vars r) [],
-          record { number = j; fields = k.0; behind = rows; next = sym i.2 ∙ k.1; row = row_of s.sites s.vars r; read = k.2; to = refl },
-          (refl, j, refl, record { held = refl; last = refl; sign = tt; left = left-first s f st c (order_places o) of e p }),
-        )
-    go e (Within seen left row stood) p i = absurd (clash d.inside i.0 b)
+      go : (e : Tree) (here : Place) → HasPoly s e f → IsHere s e st old d here → Gone s e st here (line.Row n) true rows (opened n r o)
+      go e (Between seen left) p i =
+          let j : n ≡ seen + 1 = m ∙ ap (λ y. y + 1) i.1 in (
+            Within (seen + 1) rows (row_of s.sites s.vars r) [],
+            record { number = j; fields = k.0; behind = rows; next = sym i.2 ∙ k.1; row = row_of s.sites s.vars r; read = k.2; to = refl },
+            (refl, j, refl, record { held = refl; last = refl; sign = tt; left = left-first s f st c (order_places o) of e p }),
+          )
+      go e (Within seen left row stood) p i = absurd (clash d.inside i.0 b)
 
   -- ---- `at`
   pub at-outside : (a : Pairs) (z : ℤ) (rows : Records) (new : Desk) → d.inside ≡ false → Led s f st old d (line.At a z) false rows new
@@ -195,7 +209,7 @@ module _ (s : Shape) (f : Sparse) (st : Staged) (old : Records) (d : Desk) where
     go e (Between seen left) i q r = r
     go e (Within seen left row stood) i q r = h r.rising r.of_sites
 
-  -- what the test of a line says
+  -- what the test of a line means
   abbrev pub Tests : Bool → Pairs → ℤ → List ℤ → Type 0
   Tests ok a z zs = (e : Tree) (stood : Stood) (r : Row) → r.values ≡ zs → InRange s.sites s.vars r →
       IsOrder r.index (order_places d.order) → IndicesDiffer (sites_of s.vars (order_places d.order)) →
@@ -212,19 +226,22 @@ module _ (s : Shape) (f : Sparse) (st : Staged) (old : Records) (d : Desk) where
   differ-at : IsAtRow s st d → IndicesDiffer (sites_of s.vars (order_places d.order))
   differ-at at = orders-differ s.sites s.vars (order_places d.order) s.kept (order-of s d.row (order_places d.order) at.range at.order)
 
-  fits : (ok : Bool) (a : Pairs) (z : ℤ) → IsAtRow s st d → AreOfSites s.vars a → Tests ok a z (take (length s.vars) d.row.values) → (e : Tree) → HasPoly s e f → (row : Row) (stood : Stood) → IsInRow s e st d row stood
+  fits : (ok : Bool) (a : Pairs) (z : ℤ) → IsAtRow s st d → AreOfSites s.vars a → Tests ok a z (take (length s.vars) d.row.values)
+      → (e : Tree) → HasPoly s e f → (row : Row) (stood : Stood) → IsInRow s e st d row stood
       → IsTrue ok ↔ RowNext (subject_of s e) row stood (vector (length s.vars) a) z
   fits ok a z at sites t e p row stood i =
       subst (λ (w : Row). IsTrue ok ↔ RowNext (subject_of s e) w stood (vector (length s.vars) a) z) i.held
-      (t e stood (row_of s.sites s.vars d.row) refl at.range at.order (differ-at at) p.inputs p.normal (sites-over s.vars (row_of s.sites s.vars d.row).index a sites) i.last i.left)
+      (t e stood (row_of s.sites s.vars d.row) refl at.range at.order (differ-at at) p.inputs p.normal
+      (sites-over s.vars (row_of s.sites s.vars d.row).index a sites) i.last i.left)
 
-  pub at-refused : (a : Pairs) (z : ℤ) (rows : Records) (new : Desk) → IsAtRow s st d → AreOfSites s.vars a → Tests false a z (take (length s.vars) d.row.values) → Led s f st old d (line.At a z) false rows new
+  pub at-refused : (a : Pairs) (z : ℤ) (rows : Records) (new : Desk) → IsAtRow s st d → AreOfSites s.vars a
+      → Tests false a z (take (length s.vars) d.row.values) → Led s f st old d (line.At a z) false rows new
   at-refused a z rows new at sites t = record { holds = λ e. absurd (false-true e); gone = go } where
     go : (e : Tree) (here : Place) → HasPoly s e f → IsHere s e st old d here → (q : Place) → Rule (subject_of s e) here (line.At a z) q → ⊥
     go e (Between seen left) p i q r = r
     go e (Within seen left row stood) p i q r = false-true ((fits false a z at sites t e p row stood i.3).1 r.next)
 
-  -- what passing on says
+  -- what passing on means
   abbrev pub Passes : Pairs → Spot → Type 0
   Passes a spot = (e : Tree) (stood : Stood) (z : ℤ) → IndicesDiffer (sites_of s.vars (order_places d.order)) →
       IsOver (length s.vars) (sites_of s.vars (order_places d.order)) (vector (length s.vars) a) →
@@ -235,39 +252,48 @@ module _ (s : Shape) (f : Sparse) (st : Staged) (old : Records) (d : Desk) where
       (map (vector (length s.vars)) (left_at st (order_places d.order) spot))
 
   abbrev pub behind : Pairs → Spot → Bool → Sign → Desk
-  behind a spot b0 t = record { inside = d.inside; seen = d.seen; row = d.row; order = d.order; spot = spot; last = record { exps = Some a; zero = b0 }; sign = t }
+  behind a spot b0 t =
+      record { inside = d.inside; seen = d.seen; row = d.row; order = d.order; spot = spot; last = record { exps = Some a; zero = b0 }; sign = t }
 
-  pub at-goes : (a : Pairs) (z : ℤ) (spot : Spot) (b0 : Bool) (t : Sign) (new : Desk) → IsAtRow s st d → IsRising a → AreOfSites s.vars a → Tests true a z (take (length s.vars) d.row.values)
-      → IsSpot st (order_places d.order) spot → Passes a spot → (b0 ≡ true) ↔ (t ≡ Zero) → sign_number t ≡ sign_of z → d.inside ≡ true → new ≡ behind a spot b0 t → Led s f st old d (line.At a z) true old new
-  at-goes a z spot b0 t new at rising sites test is pass flag number b w = subst (λ (y : Desk). Led s f st old d (line.At a z) true old y) (sym w) (record { holds = λ y i. record { range = at.range; order = at.order; spot = is }; gone = go }) where
-    go : (e : Tree) (here : Place) → HasPoly s e f → IsHere s e st old d here → Gone s e st here (line.At a z) true old (behind a spot b0 t)
-    go e (Between seen left) p i = absurd (clash d.inside b i.0)
-    go e (Within seen left row stood) p i =
-        let n : ℕ = length s.vars in
-        let places : List ℕ = order_places d.order in
-        let goes : RowNext (subject_of s e) row stood (vector (length s.vars) a) z = (fits true a z at sites test e p row stood i.3).0 refl in
-        let range : InRange s.sites s.vars row = subst (InRange s.sites s.vars) i.3.held at.range in
-        let order : IsOrder row.index (order_places d.order) = subst (λ (w : Row). IsOrder w.index (order_places d.order)) i.3.held at.order in
-        let over : IsOver (length s.vars) (sites_of s.vars (order_places d.order)) (vector (length s.vars) a) = record { size = goes.over.size; of_sites = goes.over.of_sites } in
-        let may : MayStand (length s.vars) (sites_of s.vars (order_places d.order)) e stood (vector (length s.vars) a) = next-may s row (order_places d.order) range order e stood row.values (vector (length s.vars) a) z goes in (
-          Within seen left row ((vector (length s.vars) a, z) ∷ stood),
-          record { rising = rising; of_sites = sites; next = goes; to = refl },
-          (
-            i.0,
-            i.1,
-            i.2,
-            record {
-              held = i.3.held;
-              last = (refl, goes.zeros, zero-where b0 t z flag number);
-              sign = number;
-              left = pass e stood z (differ-at at) over may i.3.left;
-            },
-          ),
-        )
+  pub at-goes : (a : Pairs) (z : ℤ) (spot : Spot) (b0 : Bool) (t : Sign) (new : Desk) → IsAtRow s st d → IsRising a → AreOfSites s.vars a
+      → Tests true a z (take (length s.vars) d.row.values)
+      → IsSpot st (order_places d.order) spot → Passes a spot → (b0 ≡ true) ↔ (t ≡ Zero) → sign_number t ≡ sign_of z → d.inside ≡ true
+      → new ≡ behind a spot b0 t → Led s f st old d (line.At a z) true old new
+  at-goes a z spot b0 t new at rising sites test is pass flag number b w = subst (λ (y : Desk). Led s f st old d (line.At a z) true old y)
+      (sym w) (record { holds = λ y i. record { range = at.range; order = at.order; spot = is }; gone = go })
+    where
+      go : (e : Tree) (here : Place) → HasPoly s e f → IsHere s e st old d here → Gone s e st here (line.At a z) true old (behind a spot b0 t)
+      go e (Between seen left) p i = absurd (clash d.inside b i.0)
+      go e (Within seen left row stood) p i =
+          let n : ℕ = length s.vars in
+          let places : List ℕ = order_places d.order in
+          let goes : RowNext (subject_of s e) row stood (vector (length s.vars) a) z = (fits true a z at sites test e p row stood i.3).0 refl in
+          let range : InRange s.sites s.vars row = subst (InRange s.sites s.vars) i.3.held at.range in
+          let order : IsOrder row.index (order_places d.order) = subst (λ (w : Row). IsOrder w.index (order_places d.order)) i.3.held at.order in
+          let over : IsOver (length s.vars) (sites_of s.vars (order_places d.order)) (vector (length s.vars) a) =
+          record { size = goes.over.size; of_sites = goes.over.of_sites } in
+          let may : MayStand (length s.vars) (sites_of s.vars (order_places d.order)) e stood (vector (length s.vars) a) =
+          next-may s row (order_places d.order) range order e stood row.values (vector (length s.vars) a) z goes in (
+            Within seen left row ((vector (length s.vars) a, z) ∷ stood),
+            record { rising = rising; of_sites = sites; next = goes; to = refl },
+            (
+              i.0,
+              i.1,
+              i.2,
+              record {
+                held = i.3.held;
+                last = (refl, goes.zeros, zero-where b0 t z flag number);
+                sign = number;
+                left = pass e stood z (differ-at at) over may i.3.left;
+              },
+            ),
+          )
 
   -- a line says the exponents that were read of it
-  pub at-of : (a x : Pairs) (w z : ℤ) (ok : Bool) (new : Desk) → x ≡ a → w ≡ z → Led s f st old d (line.At x w) ok old new → Led s f st old d (line.At a z) ok old new
-  at-of a x w z ok new q e h = subst (λ (y : Pairs). Led s f st old d (line.At y z) ok old new) q (subst (λ (y : ℤ). Led s f st old d (line.At x y) ok old new) e h)
+  pub at-of : (a x : Pairs) (w z : ℤ) (ok : Bool) (new : Desk) → x ≡ a → w ≡ z → Led s f st old d (line.At x w) ok old new
+      → Led s f st old d (line.At a z) ok old new
+  at-of a x w z ok new q e h =
+      subst (λ (y : Pairs). Led s f st old d (line.At y z) ok old new) q (subst (λ (y : ℤ). Led s f st old d (line.At x y) ok old new) e h)
 
   -- ---- `sign`
   pub sign-outside : (t : Sign) (rows : Records) (new : Desk) → d.inside ≡ false → Led s f st old d (line.Sign t) false rows new
@@ -281,9 +307,11 @@ module _ (s : Shape) (f : Sparse) (st : Staged) (old : Records) (d : Desk) where
     go : (e : Tree) (here : Place) → IsHere s e st old d here → (q : Place) → Rule (subject_of s e) here (line.Sign t) q → ⊥
     go e (Between seen left) i q r = r
     go e (Within seen left row []) i q r = r.signed
-    go e (Within seen left row (p ∷ stood)) i q r = h (λ o. none-last (length s.vars) d.last.exps d.last.zero p stood i.3.last o, number-one t d.sign (r.signed.0 ∙ sym i.3.sign))
+    go e (Within seen left row (p ∷ stood)) i q r =
+        h (λ o. none-last (length s.vars) d.last.exps d.last.zero p stood i.3.last o, number-one t d.sign (r.signed.0 ∙ sym i.3.sign))
 
-  pub sign-too-soon : (t : Sign) (rows : Records) (new : Desk) → IsAtRow s st d → ((d.last.zero ≡ true → left_at st (order_places d.order) d.spot ≡ []) → ⊥) → Led s f st old d (line.Sign t) false rows new
+  pub sign-too-soon : (t : Sign) (rows : Records) (new : Desk) → IsAtRow s st d
+      → ((d.last.zero ≡ true → left_at st (order_places d.order) d.spot ≡ []) → ⊥) → Led s f st old d (line.Sign t) false rows new
   sign-too-soon t rows new at h = refuses (line.Sign t) rows new go where
     go : (e : Tree) (here : Place) → IsHere s e st old d here → (q : Place) → Rule (subject_of s e) here (line.Sign t) q → ⊥
     go e (Between seen left) i q r = r
@@ -293,13 +321,16 @@ module _ (s : Shape) (f : Sparse) (st : Staged) (old : Records) (d : Desk) where
         let order : IsOrder row.index (order_places d.order) = subst (λ (w : Row). IsOrder w.index (order_places d.order)) i.3.held at.order in
         let sites : Sites = sites_of s.vars (order_places d.order) in
         h (λ z. map-none (length s.vars) (left_at st (order_places d.order) d.spot)
-        ((none-left (length s.vars) (sites_of s.vars (order_places d.order)) e (earlier-irreflexive (sites_of s.vars (order_places d.order))) (p ∷ stood) _ i.3.left).1
-        (all-to s row (order_places d.order) range order e (p ∷ stood) (r.signed.1 ((last-zero (length s.vars) d.last.exps d.last.zero p stood i.3.last).0 z)))))
+        ((none-left (length s.vars) (sites_of s.vars (order_places d.order)) e (earlier-irreflexive (sites_of s.vars (order_places d.order)))
+        (p ∷ stood) _ i.3.left).1
+        (all-to s row (order_places d.order) range order e (p ∷ stood)
+        (r.signed.1 ((last-zero (length s.vars) d.last.exps d.last.zero p stood i.3.last).0 z)))))
 
   abbrev pub closed : Desk
   closed = record { inside = false; seen = d.seen; row = d.row; order = d.order; spot = d.spot; last = d.last; sign = d.sign }
 
-  pub sign-goes : (t : Sign) → IsAtRow s st d → d.inside ≡ true → (d.last.exps ≡ None → ⊥) → t ≡ d.sign → (d.last.zero ≡ true → left_at st (order_places d.order) d.spot ≡ []) → Led s f st old d (line.Sign t) true old closed
+  pub sign-goes : (t : Sign) → IsAtRow s st d → d.inside ≡ true → (d.last.exps ≡ None → ⊥) → t ≡ d.sign
+      → (d.last.zero ≡ true → left_at st (order_places d.order) d.spot ≡ []) → Led s f st old d (line.Sign t) true old closed
   sign-goes t at b some same whole = record { holds = λ y i. absurd (false-true i); gone = go } where
     go : (e : Tree) (here : Place) → HasPoly s e f → IsHere s e st old d here → Gone s e st here (line.Sign t) true old closed
     go e (Between seen left) p i = absurd (clash d.inside b i.0)
@@ -312,8 +343,10 @@ module _ (s : Shape) (f : Sparse) (st : Staged) (old : Records) (d : Desk) where
             signed = (
               ap sign_number same ∙ i.3.sign,
               λ z. all-from s row (order_places d.order) range order e (p ∷ stood)
-                  ((none-left (length s.vars) (sites_of s.vars (order_places d.order)) e (earlier-irreflexive (sites_of s.vars (order_places d.order))) (p ∷ stood) _ i.3.left).0
-                  (none-map (length s.vars) (left_at st (order_places d.order) d.spot) (whole ((last-zero (length s.vars) d.last.exps d.last.zero p stood i.3.last).1 z)))),
+                  ((none-left (length s.vars) (sites_of s.vars (order_places d.order)) e
+                  (earlier-irreflexive (sites_of s.vars (order_places d.order))) (p ∷ stood) _ i.3.left).0
+                  (none-map (length s.vars) (left_at st (order_places d.order) d.spot)
+                  (whole ((last-zero (length s.vars) d.last.exps d.last.zero p stood i.3.last).1 z)))),
             );
             to = refl;
           },

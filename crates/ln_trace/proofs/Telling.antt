@@ -16,7 +16,7 @@ use Rattle.ln_trace.specs.ToldLaw.{IsLeft, NoneIsEarlier}
 
 module _ (n : ℕ) (sites : Sites) (x : ℕ → ℤ) (e : Tree) where
   -- ---- the sign is the perturbed one
-  -- the value of each vector that was told is its coefficient
+  -- the value of each vector that was written is its coefficient
   told-value : (stood : Stood) (b : List ℕ) → AreTold n sites x e stood → AreZero stood → In (vectors_in stood) b → perturbed sites x e b ≡ pos 0
   told-value [] b t z i = absurd i
   told-value (p ∷ stood) b t z (inl q) = ap (perturbed sites x e) q ∙ sym t.0.value ∙ z.0
@@ -38,21 +38,25 @@ module _ (n : ℕ) (sites : Sites) (x : ℕ → ℤ) (e : Tree) where
       by_order : (a ≡ f.0) ⊎ (Earlier sites a f.0 ⊎ Earlier sites f.0 a) → IsFirst n sites x e a
       by_order (inl q) = subst (IsFirst n sites x e) (sym q) f.1
       by_order (inr (inl l)) = absurd (v (f.1.zero_before a h.over (degree-small sites x e a v) l))
-      by_order (inr (inr l)) = absurd (f.1.nonzero (told-value stood f.0 t h.zeros (h.members f.0 (first-stage-in n sites (Earlier sites) x e below f.0 f.1) l)))
+      by_order (inr (inr l)) =
+          absurd (f.1.nonzero (told-value stood f.0 t h.zeros (h.members f.0 (first-stage-in n sites (Earlier sites) x e below f.0 f.1) l)))
 
     pub told-signed : (stood : Stood) (s : ℤ) → AreTold n sites x e stood → IsSigned n sites e stood s → IsPerturbedSign n sites x e s
     told-signed [] s t h = absurd h
     told-signed (p ∷ stood) s t h = by_case (zero_cases p.1) where
       by_case : (p.1 ≡ pos 0) ⊎ (p.1 ≡ pos 0 → ⊥) → IsPerturbedSign n sites x e s
-      by_case (inl z) = inr (λ a f. f.nonzero (told-value (p ∷ stood) a t (z, t.0.zeros) (h.1 z a (first-stage-in n sites (Earlier sites) x e below a f))), h.0 ∙ ap sign_of z)
+      by_case (inl z) = inr (
+        λ a f. f.nonzero (told-value (p ∷ stood) a t (z, t.0.zeros) (h.1 z a (first-stage-in n sites (Earlier sites) x e below a f))),
+        h.0 ∙ ap sign_of z,
+      )
       by_case (inr z) = inl (p.0, last-first stood p.0 p.1 t.0 t.1 z, h.0 ∙ ap sign_of t.0.value)
 
-  -- ---- a stage list is told by the rules
+  -- ---- a stage list is written by the rules
   module _ (differ : IndicesDiffer sites) where
     order-2 : IsAdmissible n sites (Earlier sites)
     order-2 = earlier-admissible n sites differ
 
-    -- some of the list stood, all with the value 0, and the rest is left
+    -- some of the list stood, all with the value 0, and the rest remains
     record Midway (stood : Stood) (rest : List (List ℕ)) : Type 0 where
       stages : (b : List ℕ) → In rest b → IsStage n sites e b
       all : (b : List ℕ) → IsStage n sites e b → In (vectors_in stood) b ⊎ In rest b
@@ -61,14 +65,27 @@ module _ (n : ℕ) (sites : Sites) (x : ℕ → ℤ) (e : Tree) where
       zeros : AreZero stood
 
     is-next : (stood : Stood) (a : List ℕ) (rest : List (List ℕ)) → Midway stood (a ∷ rest) → IsNext n sites x e stood a (perturbed sites x e a)
-    is-next stood a rest m = record { over = (m.stages a (inl refl)).over; later = m.later a (inl refl); zeros = m.zeros; members = λ b s l. stood-before b l (m.all b s); value = refl } where
+    is-next stood a rest m = record {
+      over = (m.stages a (inl refl)).over;
+      later = m.later a (inl refl);
+      zeros = m.zeros;
+      members = λ b s l. stood-before b l (m.all b s);
+      value = refl;
+    } where
       stood-before : (b : List ℕ) → Earlier sites b a → In (vectors_in stood) b ⊎ In (a ∷ rest) b → In (vectors_in stood) b
       stood-before b l (inl i) = i
       stood-before b l (inr (inl q)) = absurd (order-2.irreflexive a (subst (λ c. Earlier sites c a) q l))
       stood-before b l (inr (inr i)) = absurd (order-2.irreflexive a (order-2.transitive a b a (m.in_order.0 b i) l))
 
-    go-on : (stood : Stood) (a : List ℕ) (rest : List (List ℕ)) → Midway stood (a ∷ rest) → perturbed sites x e a ≡ pos 0 → Midway ((a, perturbed sites x e a) ∷ stood) rest
-    go-on stood a rest m z = record { stages = λ b i. m.stages b (inr i); all = λ b s. over-there b (m.all b s); in_order = m.in_order.1; later = m.in_order.0; zeros = (z, m.zeros) } where
+    go-on : (stood : Stood) (a : List ℕ) (rest : List (List ℕ)) → Midway stood (a ∷ rest) → perturbed sites x e a ≡ pos 0
+        → Midway ((a, perturbed sites x e a) ∷ stood) rest
+    go-on stood a rest m z = record {
+      stages = λ b i. m.stages b (inr i);
+      all = λ b s. over-there b (m.all b s);
+      in_order = m.in_order.1;
+      later = m.in_order.0;
+      zeros = (z, m.zeros);
+    } where
       over-there : (b : List ℕ) → In (vectors_in stood) b ⊎ In (a ∷ rest) b → In (vectors_in ((a, perturbed sites x e a) ∷ stood)) b ⊎ In rest b
       over-there b (inl i) = inl (inr i)
       over-there b (inr (inl q)) = inl (inl q)
@@ -99,27 +116,37 @@ module _ (n : ℕ) (sites : Sites) (x : ℕ → ℤ) (e : Tree) where
     told-along : (stood : Stood) (rest : List (List ℕ)) → Midway stood rest → (stood ≡ [] → rest ≢ []) → Ends stood rest
     told-along [] [] m some = absurd (some refl refl)
     told-along (p ∷ stood) [] m some = (p ∷ stood, refl, (sym (ap sign_of m.zeros.0), λ z b s. elim (m.all b s) [ inl i ↦ i | inr i ↦ absurd i ]))
-    told-along stood (a ∷ rest) m some = by_case (zero_cases (perturbed sites x e a)) (λ z. told-along ((a, perturbed sites x e a) ∷ stood) rest (go-on stood a rest m z) (λ q. absurd (not-nil q))) where
-      not-nil : (a, perturbed sites x e a) ∷ stood ≡ [] → ⊥
-      not-nil q = cc
+    told-along stood (a ∷ rest) m some = by_case (zero_cases (perturbed sites x e a))
+        (λ z. told-along ((a, perturbed sites x e a) ∷ stood) rest (go-on stood a rest m z) (λ q. absurd (not-nil q)))
+      where
+        not-nil : (a, perturbed sites x e a) ∷ stood ≡ [] → ⊥
+        not-nil q = cc
 
-      by_case : (perturbed sites x e a ≡ pos 0) ⊎ (perturbed sites x e a ≡ pos 0 → ⊥) → (perturbed sites x e a ≡ pos 0 → Ends ((a, perturbed sites x e a) ∷ stood) rest) → Ends stood (a ∷ rest)
-      by_case (inl z) ih =
-          let r = ih z in
-          let g : up_to_first sites x e (a ∷ rest) ≡ (a, perturbed sites x e a) ∷ up_to_first sites x e rest = ap (λ ats. (a, perturbed sites x e a) ∷ ats) (goes (perturbed sites x e a) (up_to_first sites x e rest) z) in
-          let l : Leads n sites x e stood ((a, perturbed sites x e a) ∷ up_to_first sites x e rest) r.0 = (is-next stood a rest m, r.1) in
-          (r.0, subst (λ ats. Leads n sites x e stood ats r.0) (sym g) l, subst (IsSigned n sites e r.0) (sym (passes (perturbed sites x e a) (sign_along sites x e rest) z)) r.2)
-      by_case (inr z) ih =
-          let g : up_to_first sites x e (a ∷ rest) ≡ (a, perturbed sites x e a) ∷ [] = ap (λ ats. (a, perturbed sites x e a) ∷ ats) (stops (perturbed sites x e a) (up_to_first sites x e rest) z) in
-          let q : Stood = (a, perturbed sites x e a) ∷ stood in
-          let l : Leads n sites x e stood ((a, perturbed sites x e a) ∷ []) q = (is-next stood a rest m, refl) in
-          let s : IsSigned n sites e q (sign_along sites x e (a ∷ rest)) = (decides (perturbed sites x e a) (sign_along sites x e rest) z, λ y. absurd (z y)) in
-          (q, subst (λ ats. Leads n sites x e stood ats q) (sym g) l, s)
+        by_case : (perturbed sites x e a ≡ pos 0) ⊎ (perturbed sites x e a ≡ pos 0 → ⊥)
+            → (perturbed sites x e a ≡ pos 0 → Ends ((a, perturbed sites x e a) ∷ stood) rest) → Ends stood (a ∷ rest)
+        by_case (inl z) ih =
+            let r = ih z in
+            let g : up_to_first sites x e (a ∷ rest) ≡ (a, perturbed sites x e a) ∷ up_to_first sites x e rest =
+            ap (λ ats. (a, perturbed sites x e a) ∷ ats) (goes (perturbed sites x e a) (up_to_first sites x e rest) z) in
+            let l : Leads n sites x e stood ((a, perturbed sites x e a) ∷ up_to_first sites x e rest) r.0 = (is-next stood a rest m, r.1) in (
+              r.0,
+              subst (λ ats. Leads n sites x e stood ats r.0) (sym g) l,
+              subst (IsSigned n sites e r.0) (sym (passes (perturbed sites x e a) (sign_along sites x e rest) z)) r.2,
+            )
+        by_case (inr z) ih =
+            let g : up_to_first sites x e (a ∷ rest) ≡ (a, perturbed sites x e a) ∷ [] =
+            ap (λ ats. (a, perturbed sites x e a) ∷ ats) (stops (perturbed sites x e a) (up_to_first sites x e rest) z) in
+            let q : Stood = (a, perturbed sites x e a) ∷ stood in
+            let l : Leads n sites x e stood ((a, perturbed sites x e a) ∷ []) q = (is-next stood a rest m, refl) in
+            let s : IsSigned n sites e q (sign_along sites x e (a ∷ rest)) =
+            (decides (perturbed sites x e a) (sign_along sites x e rest) z, λ y. absurd (z y)) in
+            (q, subst (λ ats. Leads n sites x e stood ats q) (sym g) l, s)
 
     pub list-told : (list : List (List ℕ)) → IsStageList n sites e list → list ≢ [] → Ends [] list
-    list-told list h some = told-along [] list (record { stages = h.stages; all = λ b s. inr (h.all b s); in_order = h.in_order; later = λ b i. tt; zeros = tt }) (λ q. some)
+    list-told list h some =
+        told-along [] list (record { stages = h.stages; all = λ b s. inr (h.all b s); in_order = h.in_order; later = λ b i. tt; zeros = tt }) (λ q. some)
 
--- ---- the members that are left
+-- ---- the remaining members
 module _ (n : ℕ) (sites : Sites) (e : Tree) where
   pub all-left : (list : List (List ℕ)) → IsStageList n sites e list → IsLeft n sites e [] list
   all-left list h = record { stages = h.stages; all = λ b s. inr (h.all b s); in_order = h.in_order; apart = λ b c i. absurd i }
@@ -128,7 +155,8 @@ module _ (n : ℕ) (sites : Sites) (e : Tree) where
     order-3 : IsAdmissible n sites (Earlier sites)
     order-3 = earlier-admissible n sites differ
 
-    first-left-tells : (stood : Stood) (left : List (List ℕ)) (a : List ℕ) → IsLeft n sites e stood left → NoneIsEarlier sites left a → (b : List ℕ) → IsStage n sites e b → Earlier sites b a → In (vectors_in stood) b
+    first-left-tells : (stood : Stood) (left : List (List ℕ)) (a : List ℕ) → IsLeft n sites e stood left → NoneIsEarlier sites left a
+        → (b : List ℕ) → IsStage n sites e b → Earlier sites b a → In (vectors_in stood) b
     first-left-tells stood [] a h none b s l = elim (h.all b s) [ inl i ↦ i | inr i ↦ absurd i ]
     first-left-tells stood (c ∷ left) a h none b s l = by_case (h.all b s) where
       by_case : In (vectors_in stood) b ⊎ In (c ∷ left) b → In (vectors_in stood) b
@@ -136,20 +164,24 @@ module _ (n : ℕ) (sites : Sites) (e : Tree) where
       by_case (inr (inl q)) = absurd (none (subst (λ d. Earlier sites d a) q l))
       by_case (inr (inr i)) = absurd (none (order-3.transitive c b a (h.in_order.0 b i) l))
 
-    first-left-told : (stood : Stood) (left : List (List ℕ)) (a : List ℕ) → IsLeft n sites e stood left → ((b : List ℕ) → IsStage n sites e b → Earlier sites b a → In (vectors_in stood) b) → NoneIsEarlier sites left a
+    first-left-told : (stood : Stood) (left : List (List ℕ)) (a : List ℕ) → IsLeft n sites e stood left
+        → ((b : List ℕ) → IsStage n sites e b → Earlier sites b a → In (vectors_in stood) b) → NoneIsEarlier sites left a
     first-left-told stood [] a h all = tt
     first-left-told stood (c ∷ left) a h all = λ l. order-3.irreflexive c (h.apart c c (all c (h.stages c (inl refl)) l) (inl refl))
 
-    pub first-left : (stood : Stood) (left : List (List ℕ)) (a : List ℕ) → IsLeft n sites e stood left → NoneIsEarlier sites left a ↔ ((b : List ℕ) → IsStage n sites e b → Earlier sites b a → In (vectors_in stood) b)
+    pub first-left : (stood : Stood) (left : List (List ℕ)) (a : List ℕ) → IsLeft n sites e stood left
+        → NoneIsEarlier sites left a ↔ ((b : List ℕ) → IsStage n sites e b → Earlier sites b a → In (vectors_in stood) b)
     first-left stood left a h = (first-left-tells stood left a h, first-left-told stood left a h)
 
-    pub other-stands : (stood : Stood) (left : List (List ℕ)) (a : List ℕ) (z : ℤ) → IsOver n sites a → IsLeft n sites e stood left → NoneIsEarlier sites left a → (In left a → ⊥) → IsLeft n sites e ((a, z) ∷ stood) left
+    pub other-stands : (stood : Stood) (left : List (List ℕ)) (a : List ℕ) (z : ℤ) → IsOver n sites a → IsLeft n sites e stood left
+        → NoneIsEarlier sites left a → (In left a → ⊥) → IsLeft n sites e ((a, z) ∷ stood) left
     other-stands stood left a z o h none out = record { stages = h.stages; all = λ b s. there b (h.all b s); in_order = h.in_order; apart = apart } where
       there : (b : List ℕ) → In (vectors_in stood) b ⊎ In left b → In (vectors_in ((a, z) ∷ stood)) b ⊎ In left b
       there b (inl i) = inl (inr i)
       there b (inr i) = inr i
 
-      behind : (l : List (List ℕ)) → ((c : List ℕ) → In l c → IsOver n sites c) → IsInOrder sites l → NoneIsEarlier sites l a → (In l a → ⊥) → (c : List ℕ) → In l c → Earlier sites a c
+      behind : (l : List (List ℕ)) → ((c : List ℕ) → In l c → IsOver n sites c) → IsInOrder sites l → NoneIsEarlier sites l a → (In l a → ⊥)
+          → (c : List ℕ) → In l c → Earlier sites a c
       behind [] k s d i c j = absurd j
       behind (m ∷ l) k s d i c j = by_order (order-3.total a m o (k m (inl refl))) j where
         by_order : (a ≡ m) ⊎ (Earlier sites a m ⊎ Earlier sites m a) → (c ≡ m) ⊎ In l c → Earlier sites a c
@@ -163,14 +195,17 @@ module _ (n : ℕ) (sites : Sites) (e : Tree) where
       apart b c (inr i) j = h.apart b c i j
 
   module _ (irreflexive : (a : List ℕ) → Earlier sites a a → ⊥) where
-    none-left-tells : (stood : Stood) (left : List (List ℕ)) → IsLeft n sites e stood left → left ≡ [] → (b : List ℕ) → IsStage n sites e b → In (vectors_in stood) b
+    none-left-tells : (stood : Stood) (left : List (List ℕ)) → IsLeft n sites e stood left → left ≡ [] → (b : List ℕ) → IsStage n sites e b
+        → In (vectors_in stood) b
     none-left-tells stood left h q b s = elim (h.all b s) [ inl i ↦ i | inr i ↦ absurd (subst (λ l. In l b) q i) ]
 
-    none-left-told : (stood : Stood) (left : List (List ℕ)) → IsLeft n sites e stood left → ((b : List ℕ) → IsStage n sites e b → In (vectors_in stood) b) → left ≡ []
+    none-left-told : (stood : Stood) (left : List (List ℕ)) → IsLeft n sites e stood left
+        → ((b : List ℕ) → IsStage n sites e b → In (vectors_in stood) b) → left ≡ []
     none-left-told stood [] h all = refl
     none-left-told stood (c ∷ left) h all = absurd (irreflexive c (h.apart c c (all c (h.stages c (inl refl))) (inl refl)))
 
-    pub none-left : (stood : Stood) (left : List (List ℕ)) → IsLeft n sites e stood left → (left ≡ []) ↔ ((b : List ℕ) → IsStage n sites e b → In (vectors_in stood) b)
+    pub none-left : (stood : Stood) (left : List (List ℕ)) → IsLeft n sites e stood left
+        → (left ≡ []) ↔ ((b : List ℕ) → IsStage n sites e b → In (vectors_in stood) b)
     none-left stood left h = (none-left-tells stood left h, none-left-told stood left h)
 
   pub first-stands : (stood : Stood) (left : List (List ℕ)) (a : List ℕ) (z : ℤ) → IsLeft n sites e stood (a ∷ left) → IsLeft n sites e ((a, z) ∷ stood) left

@@ -1,5 +1,6 @@
 -- The loop over the lines of a trace.
-use Rattle.std.proofs.Common.{◌≡◌, ◌≢◌, ℕ, ◌+◌, ◌<◌, zero, suc, refl, sym, ◌∙◌, ap, subst, arith, List, [], ◌∷◌, length, take, drop, drop-cons, get_or, ◌⊎◌, inl, inr}
+use Rattle.std.proofs.Common.{◌≡◌, ◌≢◌, ℕ, ◌+◌, ◌<◌, zero, suc, refl, sym, ◌∙◌, ap, subst, arith, List, [], ◌∷◌, length, take, drop}
+use Rattle.std.proofs.Common.{drop-cons, get_or, ◌⊎◌, inl, inr}
 use Rattle.std.specs.Prelude.{Result, Ok}
 use Rattle.std.proofs.lemmas.Bool.{cases_order}
 use Rattle.std.proofs.lemmas.List.{drop_all, take_all}
@@ -13,7 +14,8 @@ use Rattle.ln_trace.specs.Trace.{Between, Place, Rule, Subject, Within}
 use Rattle.ln_trace.specs.Judge.{FailsAt, Go, IsAgreed, IsFirstFault}
 
 module _ (s : Subject) where
-  pub go-more : (p here next : Place) (ls : List TraceLine) (i : ℕ) (d : TraceLine) → i < length ls → Go s p (take i ls) here → Rule s here (get_or ls i d) next → Go s p (take (suc i) ls) next
+  pub go-more : (p here next : Place) (ls : List TraceLine) (i : ℕ) (d : TraceLine) → i < length ls → Go s p (take i ls) here
+      → Rule s here (get_or ls i d) next → Go s p (take (suc i) ls) next
   go-more p here next [] i d h g r = absurd (omega arith)
   go-more p here next (l ∷ ls) zero d h g r = (next, subst (λ q. Rule s q l next) g r, refl)
   go-more p here next (l ∷ ls) (suc i) d h (t, u, g) r = (t, u, go-more t here next ls i d (omega (arith, h)) g r)
@@ -26,13 +28,30 @@ module _ (s : Subject) where
   cons-fails (Between seen left) l ls h = h
   cons-fails (Within seen left row stood) l ls h = h
 
-  pub stops : (records : Records) (ls : List TraceLine) (i : ℕ) (d : TraceLine) (here : Place) → i < length ls → Go s (Between 0 records) (take i ls) here → ((q : Place) → Rule s here (get_or ls i d) q → ⊥) → IsFirstFault s records ls (i + 2)
-  stops records ls i d here h g f = record { at = i; line = refl; within = omega (arith, h); here = here; good = g; fails = subst (FailsAt s here) (sym (drop-cons ls i d h)) (fails-cons here (get_or ls i d) (drop (suc i) ls) f) }
+  pub stops : (records : Records) (ls : List TraceLine) (i : ℕ) (d : TraceLine) (here : Place) → i < length ls
+      → Go s (Between 0 records) (take i ls) here → ((q : Place) → Rule s here (get_or ls i d) q → ⊥) → IsFirstFault s records ls (i + 2)
+  stops records ls i d here h g f = record {
+    at = i;
+    line = refl;
+    within = omega (arith, h);
+    here = here;
+    good = g;
+    fails = subst (FailsAt s here) (sym (drop-cons ls i d h)) (fails-cons here (get_or ls i d) (drop (suc i) ls) f);
+  }
 
-  pub lacks-here : (records : Records) (ls : List TraceLine) (here : Place) → Go s (Between 0 records) (take (length ls) ls) here → FailsAt s here [] → IsFirstFault s records ls (length ls + 2)
-  lacks-here records ls here g h = record { at = length ls; line = refl; within = omega arith; here = here; good = g; fails = subst (FailsAt s here) (sym (drop_all (length ls) ls (omega arith))) h }
+  pub lacks-here : (records : Records) (ls : List TraceLine) (here : Place) → Go s (Between 0 records) (take (length ls) ls) here
+      → FailsAt s here [] → IsFirstFault s records ls (length ls + 2)
+  lacks-here records ls here g h = record {
+    at = length ls;
+    line = refl;
+    within = omega arith;
+    here = here;
+    good = g;
+    fails = subst (FailsAt s here) (sym (drop_all (length ls) ls (omega arith))) h;
+  }
 
-  pub lacks : (records : Records) (ls : List TraceLine) (seen : ℕ) (left : Records) → Go s (Between 0 records) (take (length ls) ls) (Between seen left) → left ≢ [] → IsFirstFault s records ls (length ls + 2)
+  pub lacks : (records : Records) (ls : List TraceLine) (seen : ℕ) (left : Records)
+      → Go s (Between 0 records) (take (length ls) ls) (Between seen left) → left ≢ [] → IsFirstFault s records ls (length ls + 2)
   lacks records ls seen left g h = lacks-here records ls (Between seen left) g h
 
   -- ---- records are neither lost nor made
@@ -60,7 +79,8 @@ module _ (s : Subject) where
   go-size p q [] g = ap size g
   go-size p q (l ∷ ls) (t, u, g) = go-size t q ls g ∙ same-size p t l u
 
-  all-of : (records : Records) (ls : List TraceLine) (seen : ℕ) → Go s (Between 0 records) (take (length ls) ls) (Between seen []) → Go s (Between 0 records) ls (Between seen [])
+  all-of : (records : Records) (ls : List TraceLine) (seen : ℕ) → Go s (Between 0 records) (take (length ls) ls) (Between seen [])
+      → Go s (Between 0 records) ls (Between seen [])
   all-of records ls seen g = subst (λ l. Go s (Between 0 records) l (Between seen [])) (take_all (length ls) ls (omega arith)) g
 
   -- as many stood as there are
@@ -72,7 +92,7 @@ module _ (s : Subject) where
   pub ends : (records : Records) (ls : List TraceLine) (seen : ℕ) → Go s (Between 0 records) (take (length ls) ls) (Between seen []) → IsAgreed s records ls
   ends records ls seen g = subst (λ k. Go s (Between 0 records) ls (Between k [])) (counts records ls seen g) (all-of records ls seen g)
 
-  -- ---- one answer
+  -- ---- one result
   same-rest : (f g : List (List ℕ)) (left a b : Records) → left ≡ f ∷ a → left ≡ g ∷ b → (f ≡ g) × (a ≡ b)
   same-rest f g left a b p q = (heads f g a b (sym p ∙ q), tails f g a b (sym p ∙ q)) where
     heads : (f g : List (List ℕ)) (a b : Records) → f ∷ a ≡ g ∷ b → f ≡ g
@@ -102,8 +122,9 @@ module _ (s : Subject) where
   go-one p a b [] g h = g ∙ sym h
   go-one p a b (l ∷ ls) (t, u, g) (w, v, h) = go-one t a b ls g (subst (λ x. Go s x ls b) (one-place p w t l v u) h)
 
-  -- behind a line that fails none leads anywhere
-  none-past : (p here there : Place) (ls : List TraceLine) (i j : ℕ) → i < length ls → i < j → Go s p (take i ls) here → FailsAt s here (drop i ls) → Go s p (take j ls) there → ⊥
+  -- after a line that fails none leads anywhere
+  none-past : (p here there : Place) (ls : List TraceLine) (i j : ℕ) → i < length ls → i < j → Go s p (take i ls) here
+      → FailsAt s here (drop i ls) → Go s p (take j ls) there → ⊥
   none-past p here there [] i j h l g f k = absurd (omega (arith, h))
   none-past p here there (x ∷ ls) zero zero h l g f k = absurd (omega (arith, l))
   none-past p here there (x ∷ ls) zero (suc j) h l g f (t, u, k) = cons-fails here x ls f t (subst (λ q. Rule s q x t) (sym g) u)
@@ -117,9 +138,11 @@ module _ (s : Subject) where
     by_case (inl e) =
         let g : Go s (Between 0 records) ls f.here = subst (λ l. Go s (Between 0 records) l f.here) (take_all f.at ls (omega (arith, e))) f.good in
         let q : f.here ≡ Between (length records) [] = go-one (Between 0 records) f.here (Between (length records) []) ls g a in
-        let z : FailsAt s (Between (length records) []) [] = subst (λ p. FailsAt s p []) q (subst (FailsAt s f.here) (drop_all f.at ls (omega (arith, e))) f.fails) in
+        let z : FailsAt s (Between (length records) []) [] =
+        subst (λ p. FailsAt s p []) q (subst (FailsAt s f.here) (drop_all f.at ls (omega (arith, e))) f.fails) in
         z refl
-    by_case (inr (inl l)) = none-past (Between 0 records) f.here (Between (length records) []) ls f.at (length ls) l l f.good f.fails (subst (λ k. Go s (Between 0 records) k (Between (length records) [])) (sym (take_all (length ls) ls (omega arith))) a)
+    by_case (inr (inl l)) = none-past (Between 0 records) f.here (Between (length records) []) ls f.at (length ls) l l f.good f.fails
+        (subst (λ k. Go s (Between 0 records) k (Between (length records) [])) (sym (take_all (length ls) ls (omega arith))) a)
     by_case (inr (inr l)) = absurd (omega (arith, l, f.within))
 
   pub one-fault : (records : Records) (ls : List TraceLine) (m n : ℕ) → IsFirstFault s records ls m → IsFirstFault s records ls n → m ≡ n

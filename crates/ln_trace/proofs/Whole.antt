@@ -1,4 +1,4 @@
--- A trace that is judged as a whole: how many lines it has, and what the answer says.
+-- A trace that is judged as a whole: how many lines it has, and what the result means.
 use Rattle.std.proofs.Common.{◌≡◌, ℕ, ◌≤◌, List, [], ◌∷◌, length, map, ap, arith, refl, subst, sym, ◌∙◌}
 use Rattle.std.specs.Prelude.{None, Option}
 use Rattle.std.proofs.lemmas.List.{length-append}
@@ -30,15 +30,18 @@ joined-many (l ∷ ls) = omega (arith, text-some l, joined-many ls, length-appen
 pub few-lines : (read ls : List TraceLine) → read ≡ ls → IsKept ls → length read ≤ 67108864
 few-lines read ls q h = omega (arith, ap length q, h.short, ap length h.text.text, length-append first_line (joined (map text_of_line ls)), joined-many ls)
 
--- ---- the answer
-pub whole-answer : (s : Subject) (records : Records) (read ls : List TraceLine) (j : Judged) (o : Option ℕ) → read ≡ ls → o ≡ fault_of j → IsJudged s records read j → IsAnswer s records ls o
+-- ---- the result
+pub whole-answer : (s : Subject) (records : Records) (read ls : List TraceLine) (j : Judged) (o : Option ℕ) → read ≡ ls → o ≡ fault_of j
+    → IsJudged s records read j → IsAnswer s records ls o
 whole-answer s records read ls j o q r h =
     subst (λ (xs : List TraceLine). IsAnswer s records xs o) q (subst (λ (x : Option ℕ). IsAnswer s records read x) (sym r) (judged-answer s records read j h))
 
-signs : (s : Shape) (e : Tree) (f : Sparse) (records : Records) (ls : List TraceLine) (j : Judged) → HasPoly s e f → IsJudged (subject_of s e) records ls j → fault_of j ≡ None → AreRight (subject_of s e) records (signs_in ls)
+signs : (s : Shape) (e : Tree) (f : Sparse) (records : Records) (ls : List TraceLine) (j : Judged) → HasPoly s e f
+    → IsJudged (subject_of s e) records ls j → fault_of j ≡ None → AreRight (subject_of s e) records (signs_in ls)
 signs s e f records ls (Agreed n) p h q = judged-signs s e f records ls (Agreed n) n p h refl
 signs s e f records ls (Wrong n) p h q = cc
 
-pub whole-signs : (s : Shape) (e : Tree) (f : Sparse) (records : Records) (read ls : List TraceLine) (j : Judged) (o : Option ℕ) → HasPoly s e f → read ≡ ls → o ≡ fault_of j → IsJudged (subject_of s e) records read j → o ≡ None → AreRight (subject_of s e) records (signs_in ls)
+pub whole-signs : (s : Shape) (e : Tree) (f : Sparse) (records : Records) (read ls : List TraceLine) (j : Judged) (o : Option ℕ) → HasPoly s e f
+    → read ≡ ls → o ≡ fault_of j → IsJudged (subject_of s e) records read j → o ≡ None → AreRight (subject_of s e) records (signs_in ls)
 whole-signs s e f records read ls j o p q r h n =
     subst (λ (xs : List TraceLine). AreRight (subject_of s e) records (signs_in xs)) q (signs s e f records read j p h (sym r ∙ n))

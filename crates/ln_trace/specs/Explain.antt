@@ -1,4 +1,4 @@
--- What the blocks of a program tell of a row, as lines of a trace: the filter isn't asked. `BlocksAreExplained` says that this is what
+-- Defines what the blocks of a program tell of a row, as lines of a trace: the filter isn't asked. `BlocksAreExplained` says that this is what
 -- is explained of the row, in terms of the expression that the program carries.
 use Rattle.std.specs.Prelude.{◌≡◌, ◌≢◌, ℕ, ◌++◌, ℤ, pos, List, [], ◌∷◌, Ok, Some, slice_get}
 use Rattle.ln_base.specs.declared.sign.Sign.TheVariants.{Zero}
@@ -37,7 +37,7 @@ pub data Tell (p : Part) (zs : List ℤ) : List ℕ → List TraceLine → Type 
   it_is_zero : (number : ℕ) (list : List ℕ) (exps : Pairs) (lines : List TraceLine) → BlockTells p zs number exps (pos 0) → Tell p zs list lines
       → Tell p zs (number ∷ list) (line.At exps (pos 0) ∷ lines)
 
--- all that the blocks of a list tell was put behind what was out
+-- all that the blocks of a list tell was appended to what was out
 pub record IsTold (p : Part) (zs : List ℤ) (list old new : List ℕ) : Type 0 where
   pub lines : List TraceLine
   pub tell : Tell p zs list lines
@@ -49,7 +49,7 @@ pub record IsToldTo (p : Part) (zs : List ℤ) (list old new : List ℕ) (behind
   pub tell : Tell p zs list lines
   pub put : old ++ text_of_lines lines ≡ new ++ text_of_lines behind
 
--- what the blocks of a list tell was put behind what was out, up to `rest`: whatever those tell
+-- what the blocks of a list tell was appended to what was out, up to `rest`: whatever those tell
 abbrev pub TellOn : Part → List ℤ → List ℕ → List ℕ → List ℕ → List ℕ → Type 0
 TellOn p zs list rest old new = (behind : List TraceLine) → Tell p zs rest behind → IsToldTo p zs list old new behind
 
@@ -63,7 +63,7 @@ pub record BlocksTell (p : Part) (row : Row) (n : ℕ) (lines : List TraceLine) 
   pub tell : Tell p row.values list told
   pub all : lines ≡ line.Row n ∷ told
 
--- the lines that the blocks tell of the row were put behind what was out
+-- the lines that the blocks tell of the row were appended to what was out
 pub record IsToldBehind (p : Part) (row : Row) (n : ℕ) (old new : List ℕ) : Type 0 where
   pub lines : List TraceLine
   pub told : BlocksTell p row n lines

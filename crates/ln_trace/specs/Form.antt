@@ -9,7 +9,7 @@ use Rattle.ln_trace.specs.declared.line.TraceLine.TheVariants as line
 use Rattle.ln_trace.specs.Text.{IsLine, first_line, text_of_line}
 
 -- ---- the grammar
--- one or more `at` lines: they stand in the first list and not in the second
+-- one or more `at` lines: they are in the first list and not in the second
 pub data SomeAts : List TraceLine → List TraceLine → Type 0 where
   last : {exps : List (ℕ × ℕ)} {z : ℤ} {r : List TraceLine} → SomeAts (At exps z ∷ r) r
   more : {exps : List (ℕ × ℕ)} {z : ℤ} {xs r : List TraceLine} → SomeAts xs r → SomeAts (At exps z ∷ xs) r

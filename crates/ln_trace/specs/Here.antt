@@ -43,7 +43,7 @@ pub record HasPoly (s : Shape) (e : Tree) (f : Sparse) : Type 0 where
   pub inputs : InputsBelow (length s.vars) e
   pub normal : IsNormalOf (length s.vars) e (terms_of (length s.vars) f)
 
--- a polynomial over the variables of the shape, none of whose derivatives is too heavy on a row in range, with its stages
+-- a polynomial over the variables of the shape, none of whose derivatives is too large on a row in range, with its stages
 pub record IsCase (s : Shape) (f : Sparse) (st : Staged) : Type 0 where
   pub below : AreBelow (length s.vars) f
   pub light : weighted_sum (weights s.vars) (terms_of (length s.vars) f) ≤ most
@@ -92,7 +92,7 @@ pub record Led (s : Shape) (f : Sparse) (st : Staged) (old : Records) (before : 
   pub gone : (e : Tree) (here : Place) → HasPoly s e f → IsHere s e st old before here → Gone s e st here line ok rows d
 
 -- ---- the next record
--- there is none; or it is taken, and is no row; or it is this row, which is in range
+-- there is none; or it is taken, and is invalid; or it is this row, which is in range
 abbrev pub IsNextOf : ℕ → List VarInfo → Next → Records → Records → code.Row → Type 0
 IsNextOf sites vars next.Nothing old rows r = old ≡ []
 IsNextOf sites vars next.Fault old rows r =
@@ -101,7 +101,7 @@ IsNextOf sites vars next.Read old rows r = (fields : List (List ℕ)) × (old �
     × (read_row sites vars fields ≡ Ok (row_of sites vars r)) × InRange sites vars (row_of sites vars r)
 
 -- ---- exponents
--- a pair may stand behind these: it has an exponent from 1 to 127, and its variable is a coordinate of a site and above theirs
+-- a pair may follow these: it has an exponent from 1 to 127, and its variable is a coordinate of a site and above theirs
 pub record MayFollow (vars : List VarInfo) (ps : Pairs) (p : ℕ × ℕ) : Type 0 where
   pub some : 0 < p.1
   pub small : p.1 < 128

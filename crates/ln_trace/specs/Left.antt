@@ -1,4 +1,4 @@
--- What is left of the list of an order behind a place in it.
+-- Defines the rest of the list of an order after a place in it.
 use Rattle.std.specs.Prelude.{ℕ, ◌≤◌, List, length, map, take, drop, slice_index_or, []}
 use Rattle.ln_tree.specs.Exps.{Pairs}
 use Rattle.ln_order.specs.Prefixes.{segments_from}
@@ -9,11 +9,11 @@ use Rattle.ln_trace.specs.declared.pointer.Spot.{Spot}
 abbrev pub exps_at : Staged → List ℕ → List Pairs
 exps_at st list = map (λ i. slice_index_or st.exps i []) list
 
--- the numbers that are left
+-- the remaining numbers
 abbrev pub numbers_at : Staged → List ℕ → ℕ → ℕ → List ℕ
 numbers_at st places sites at = drop at (segments_from (segment_of st) places sites)
 
--- the members that are left
+-- the remaining members
 abbrev pub left_at : Staged → List ℕ → Spot → List Pairs
 left_at st places p = exps_at st (numbers_at st places p.sites p.at)
 

@@ -1,5 +1,5 @@
--- Which line may stand where, and what its words say: for the reader, which goes line by line. That this is the grammar is the
--- matter of proofs/Reading/Walk.
+-- Defines which line is allowed where, and what its words say: for the reader, which goes line by line.
+-- The lemmas of proofs/Reading/Walk prove that this is the grammar.
 use Rattle.std.specs.Prelude.{◌≡◌, ℕ, Bool, true, false, if◌then◌else◌, List, [], ◌∷◌, Option, Some, None, bytes_eq, codes}
 use Rattle.ln_trace.specs.declared.line.TraceLine.{TraceLine}
 use Rattle.ln_trace.specs.declared.line.TraceLine.TheVariants as line
@@ -10,6 +10,7 @@ use Rattle.ln_trace.specs.declared.state.State.TheVariants.{Between, Opened, Wit
 use Rattle.ln_trace.specs.Text.{IsLine, text_of_line, words_of}
 
 -- ---- kinds
+-- the kind of a line
 abbrev pub kind_of : TraceLine → Kind
 kind_of (line.Refused n) = kind.Refused
 kind_of (line.Row n) = kind.Row
@@ -30,7 +31,7 @@ kind_in Opened w = if bytes_eq w (codes "at") then Some kind.At else None
 kind_in Within w = if bytes_eq w (codes "at") then Some kind.At else if bytes_eq w (codes "sign") then Some kind.Sign else None
 
 -- ---- states
--- a line of this kind may stand in this state
+-- a line of this kind is allowed in this state
 abbrev pub may : State → Kind → Bool
 may Between kind.Refused = true
 may Between kind.Row = true
@@ -46,9 +47,11 @@ after kind.Row = Opened
 after kind.At = Within
 after kind.Sign = Between
 
+-- the state that this line leads to, where it may come in this state
 abbrev pub next_of : State → TraceLine → Option State
 next_of s l = if may s (kind_of l) then Some (after (kind_of l)) else None
 
+-- the lines of a trace may end in this state
 abbrev pub is_end : State → Bool
 is_end Between = true
 is_end s = false
@@ -64,17 +67,17 @@ goes o [] = o
 goes o (l ∷ ls) = goes (next_at o l) ls
 
 -- ---- lines
--- the words are this line, which may stand in the state and leads to the next
+-- the words are this line, which is allowed in the state and leads to the next
 pub record IsRead (s : State) (ws : List (List ℕ)) (l : TraceLine) (t : State) : Type 0 where
   pub spelled : ws ≡ words_of l
   pub range : IsLine l
   pub goes : next_of s l ≡ Some t
 
--- no line of these words may stand in the state
+-- no line of these words is allowed in the state
 abbrev pub Refuses : State → List (List ℕ) → Type 0
 Refuses s ws = (l : TraceLine) (t : State) → IsRead s ws l t → ⊥
 
--- this text is no line that may stand in the state
+-- this text is no line that is allowed in the state
 abbrev pub RefusesText : State → List ℕ → Type 0
 RefusesText s t = (l : TraceLine) (u : State) → IsLine l → next_of s l ≡ Some u → t ≡ text_of_line l → ⊥
 
@@ -84,5 +87,6 @@ pub record HasArgs (k : Kind) (ws : List (List ℕ)) (l : TraceLine) : Type 0 wh
   pub words : word_of k ∷ ws ≡ words_of l
   pub range : IsLine l
 
+-- the words follow the first word of no line of this kind
 abbrev pub NoArgs : Kind → List (List ℕ) → Type 0
 NoArgs k ws = (l : TraceLine) → HasArgs k ws l → ⊥

@@ -1,4 +1,4 @@
--- What an agreed trace says of each record, and that this is right.
+-- States what an agreed trace says of each record, and that this is right.
 use Rattle.std.specs.Prelude.{◌≡◌, ◌≢◌, ℕ, ◌+◌, ℤ, List, [], ◌∷◌, ◌++◌, length, Option, Some, None, Ok, Err}
 use Rattle.ln_base.specs.declared.sign.Sign.{Sign}
 use Rattle.ln_algebra.specs.Earlier.{IndicesDiffer}
@@ -20,7 +20,7 @@ use Rattle.ln_trace.specs.Told.{up_to_first}
 use Rattle.ln_trace.specs.Trace.{Subject}
 use Rattle.ln_trace.specs.Judge.{IsAgreed}
 
--- what the lines say of each record, in order: nothing of one that is no row, else its sign
+-- what the lines say of each record, in order: nothing of an invalid one, else its sign
 abbrev pub signs_in : List TraceLine → List (Option Sign)
 signs_in [] = []
 signs_in (line.Refused n ∷ lines) = None ∷ signs_in lines
@@ -28,7 +28,7 @@ signs_in (line.Row n ∷ lines) = signs_in lines
 signs_in (line.At exps z ∷ lines) = signs_in lines
 signs_in (line.Sign t ∷ lines) = Some t ∷ signs_in lines
 
--- it is right of a record: none where it is no row, else the perturbed sign of its row
+-- it is right of a record: none where it is invalid, else the perturbed sign of its row
 abbrev pub IsRight : Subject → List (List ℕ) → Option Sign → Type 0
 IsRight s fields None = (stop : RowStop) × (read_row s.sites s.vars fields ≡ Err stop)
 IsRight s fields (Some t) = (row : Row) × (read_row s.sites s.vars fields ≡ Ok row) × RowSign BySmallest s.vars s.tree row (sign_number t)
@@ -40,11 +40,11 @@ AreRight s [] (o ∷ os) = ⊥
 AreRight s (fields ∷ records) [] = ⊥
 AreRight s (fields ∷ records) (o ∷ os) = IsRight s fields o × AreRight s records os
 
--- rows that are read have indices of their own; ln_rows gives it with each row that it reads
+-- rows that are read have indices of their own; ln_rows proves it of each row that it reads
 abbrev pub RowsDiffer : Subject → Type 0
 RowsDiffer s = (fields : List (List ℕ)) (row : Row) → read_row s.sites s.vars fields ≡ Ok row → IndicesDiffer (row_sites s.vars row.index)
 
--- soundness: an agreed trace, whoever made it, gives each record that is a row its perturbed sign
+-- soundness: an agreed trace, whoever made it, has the perturbed sign of each record that is a row
 abbrev pub AgreedTracesGiveSigns : Type 0
 AgreedTracesGiveSigns =
     (s : Subject) (records : Records) (lines : List TraceLine) → InputsBelow (length s.vars) s.tree → RowsDiffer s →
@@ -63,7 +63,7 @@ AreOf vars [] (t ∷ ts) = ⊥
 AreOf vars (p ∷ ps) [] = ⊥
 AreOf vars (p ∷ ps) (t ∷ ts) = IsRising p.0 × IsAbove p.0 (length vars) × (vector (length vars) p.0 ≡ t.0) × (p.1 ≡ t.1) × AreOf vars ps ts
 
--- the lines of a record with this number: that it is no row; or its row, the members of its stage list up to and with the first whose
+-- the lines of a record with this number: that it is invalid; or its row, the members of its stage list up to and with the first whose
 -- coefficient isn't 0, all where there is none, and the sign
 pub data Explains (s : Subject) (n : ℕ) (fields : List (List ℕ)) : List TraceLine → Type 0 where
   no_row : (stop : RowStop) → read_row s.sites s.vars fields ≡ Err stop → Explains s n fields (line.Refused n ∷ [])

@@ -1,4 +1,4 @@
--- What may stand next in a row, but for its value.
+-- Defines what may stand next in a row, but for its value.
 use Rattle.std.specs.Prelude.{◌≡◌, ◌↔◌, ℕ, pos, Bool, true, List, [], ◌∷◌, Option, Some, None}
 use Rattle.ln_algebra.specs.Earlier.{Earlier, Sites}
 use Rattle.ln_algebra.specs.Stage.{IsStage}

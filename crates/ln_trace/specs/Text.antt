@@ -1,4 +1,4 @@
--- What each line of a trace says, as text.
+-- Defines the text of each line of a trace.
 use Rattle.std.specs.Prelude.{ℕ, ◌^◌, ◌<◌, ◌≤◌, List, [], ◌∷◌, ◌++◌, map, codes, decimal, unsigned_abs}
 use Rattle.std.specs.Fmt.{signed_decimal}
 use Rattle.ln_base.specs.Exponents.{Each, IsExponent, exponent_word}

@@ -7,7 +7,7 @@ use Rattle.ln_algebra.specs.Tree.{InputsBelow, Tree}
 use Rattle.ln_algebra.specs.Vector.{In}
 use Rattle.ln_trace.specs.Told.{AreTold, IsSigned, Leads, Stood, up_to_first, vectors_in}
 
--- the sign that may stand behind vectors that are told by the rules is the perturbed sign
+-- the sign that may follow vectors that are written by the rules is the perturbed sign
 abbrev pub ToldSignsArePerturbed : Type 0
 ToldSignsArePerturbed =
     (n : ℕ) (sites : Sites) (x : ℕ → ℤ) (e : Tree) (stood : Stood) (s : ℤ) → InputsBelow n e → IndicesDiffer sites →
@@ -32,7 +32,7 @@ abbrev pub NoneIsEarlier : Sites → List (List ℕ) → List ℕ → Type 0
 NoneIsEarlier sites [] a = Unit {0}
 NoneIsEarlier sites (c ∷ left) a = Earlier sites c a → ⊥
 
--- at a row's begin all stages are left
+-- at a row's begin all stages remain
 abbrev pub AllAreLeft : Type 0
 AllAreLeft = (n : ℕ) (sites : Sites) (e : Tree) (list : List (List ℕ)) → IsStageList n sites e list → IsLeft n sites e [] list
 
@@ -42,13 +42,13 @@ FirstLeftTells =
     (n : ℕ) (sites : Sites) (e : Tree) (stood : Stood) (left : List (List ℕ)) (a : List ℕ) → IndicesDiffer sites → IsLeft n sites e stood left →
     NoneIsEarlier sites left a ↔ ((b : List ℕ) → IsStage n sites e b → Earlier sites b a → In (vectors_in stood) b)
 
--- whether none is left tells whether each stage stood
+-- none remains exactly where each stage stood
 abbrev pub NoneLeftTells : Type 0
 NoneLeftTells =
     (n : ℕ) (sites : Sites) (e : Tree) (stood : Stood) (left : List (List ℕ)) → IsLeft n sites e stood left →
     (left ≡ []) ↔ ((b : List ℕ) → IsStage n sites e b → In (vectors_in stood) b)
 
--- behind a they are those behind it, where it was the first of them
+-- after a they are those after it, where it was the first of them
 abbrev pub FirstLeftStands : Type 0
 FirstLeftStands =
     (n : ℕ) (sites : Sites) (e : Tree) (stood : Stood) (left : List (List ℕ)) (a : List ℕ) (z : ℤ) → IsLeft n sites e stood (a ∷ left) →

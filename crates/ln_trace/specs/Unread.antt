@@ -10,7 +10,7 @@ use Rattle.ln_trace.specs.Reading.{RefusesText, goes, next_of}
 use Rattle.ln_trace.specs.Text.{IsLine, text_of_line}
 
 -- ---- the start of a text
--- it is this line, which may stand in the state and leads to the next; it has so many bytes, with its line feed
+-- it is this line, which is allowed in the state and leads to the next; it has this many bytes, with its line feed
 pub record Begins (s : State) (text : List ℕ) (l : TraceLine) (t : State) (count : ℕ) : Type 0 where
   pub same : lines text ≡ text_of_line l ∷ lines (drop count text)
   pub range : IsLine l
@@ -18,7 +18,7 @@ pub record Begins (s : State) (text : List ℕ) (l : TraceLine) (t : State) (cou
   pub some : 0 < count
   pub within : count ≤ length text
 
--- it is no line that may stand in the state
+-- it is no line that is allowed in the state
 pub record NoneBegins (s : State) (text : List ℕ) : Type 0 where
   pub first : List ℕ
   pub behind : List (List ℕ)

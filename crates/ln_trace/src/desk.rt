@@ -1,4 +1,4 @@
-//! What the judge holds while it reads.
+//! The state of the judge while it reads.
 ghost use Rattle.std.specs.Prelude.{◌≡◌, ◌↔◌, ◌+◌, false, IfOk, IsTrue};
 ghost use Rattle.ln_trace.specs.Here.{IsNextOf};
 
@@ -10,7 +10,7 @@ use ln_order::Order;
 use ln_rows::Rows;
 use ln_tree::Pred;
 
-/// What is held: whether a row is open, how many records stood, the last row that was read and the order of its sites, where the
+/// The state: whether a row is open, how many records stood, the last row that was read and the order of its sites, where the
 /// members of the list of that order begin that haven't stood, the vector that stood last, and the sign of its value.
 #[derive(Drop)]
 pub struct Desk {
@@ -23,7 +23,7 @@ pub struct Desk {
     pub sign: Sign,
 }
 
-/// What the next record is: there is none, it is no row, or it is one.
+/// The next record: there is none, it is invalid, or it is a row.
 #[derive(Clone, Copy, PartialEq, Eq)]
 pub enum Next {
     Nothing,
@@ -31,7 +31,7 @@ pub enum Next {
     Read,
 }
 
-/// What is held before the first line.
+/// Returns the state before the first line.
 pub fn fresh_desk() -> Desk
     ensures inside { result.inside ≡ false }
     ensures seen { result.seen ≡ 0 }

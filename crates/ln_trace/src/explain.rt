@@ -1,4 +1,4 @@
-//! What is told of a row by the blocks of its program, as lines of a trace.
+//! The lines of a trace that the blocks of a program tell of a row.
 ghost use Rattle.std.specs.Prelude.{◌≡◌, ◌<◌, ◌≤◌, ◌++◌, ◌∷◌, ◌^◌, [], ℕ, List, true, false, length, IfOk, OnOk, OnErr, All};
 ghost use Rattle.ln_tree.specs.Row.{InRange};
 ghost use Rattle.ln_order.specs.Order.{IsOrder};
@@ -14,7 +14,7 @@ use ln_code::{Program, Row, Scratch, block_value, decided};
 use ln_order::{Order, order_of};
 use std::alloc::Global;
 
-// Puts what a block tells, and where its value isn't 0 the sign: then that is all.
+// Appends what a block tells, and where its value isn't 0 the sign: then that is all.
 fn tell_block(
     alloc: Global,
     p: &Program,
@@ -44,7 +44,7 @@ fn tell_block(
     }
 }
 
-// Puts what the blocks of a segment tell, up to the first whose value isn't 0.
+// Appends what the blocks of a segment tell, up to the first whose value isn't 0.
 fn tell_segment(
     alloc: Global,
     p: &Program,
@@ -70,7 +70,7 @@ fn tell_segment(
     Ok(false)
 }
 
-// Puts what the blocks of an order's list tell, and the sign.
+// Appends what the blocks of an order's list tell, and the sign.
 fn tell_list(
     alloc: Global,
     p: &Program,
@@ -156,7 +156,7 @@ pub fn explain_row(
 /// Of a program that carries an expression, what the blocks tell of a row is what is explained of it: the members of the row's stage
 /// list up to and with the first whose coefficient isn't 0, all where there is none, with the coefficients, and the sign.
 ///
-/// On it rests that the lines which a program puts are agreed by the judge, who asks no program.
+/// By it the judge, who asks no program, agrees to the lines that a program appends.
 pub fn blocks_are_explained()
     ensures { BlocksAreExplained }
 {}

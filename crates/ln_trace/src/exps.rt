@@ -30,7 +30,7 @@ fn are_below(a: &[(u8, u8)], v: u8) -> bool
     true
 }
 
-// May a pair stand behind these?
+// May a pair follow these?
 fn may_follow(vars: &[VarInfo], out: &Exps, p: (u8, u8)) -> bool
     ensures { IsTrue result ↔ MayFollow vars.now out.now p }
 {

@@ -3,14 +3,14 @@ ghost use Rattle.ln_trace.specs.FormLaw.{ExplainedIsTrace, FaultsAreNoTraces, On
 
 /// No bytes are two traces.
 ///
-/// On it rests that a reader gives the one trace of the bytes, and that what was written is read back.
+/// By it a reader returns the one trace of the bytes, and what was written is read back.
 pub fn one_trace()
     ensures { OneTrace }
 {}
 
 /// Bytes that have a form fault are no trace, and they have one form fault at most.
 ///
-/// On it rests that the line of a fault is decided by the bytes alone.
+/// By it the line of a fault is decided by the bytes alone.
 pub fn one_form_fault()
     ensures none { FaultsAreNoTraces }
     ensures one { OneFormFault }

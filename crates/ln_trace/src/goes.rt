@@ -6,7 +6,7 @@ ghost use Rattle.ln_algebra.specs.Tree.{InputsBelow, Tree};
 ghost use Rattle.ln_algebra.specs.Weights.{weighted_sum};
 ghost use Rattle.ln_bound.specs.Light.{most};
 ghost use Rattle.ln_bound.specs.Value.{weights};
-ghost use Rattle.ln_tree.specs.Exps.{IsAbove, IsRising, vector};
+ghost use Rattle.ln_tree.specs.Exps.{IsAbove, vector};
 ghost use Rattle.ln_tree.specs.Row.{AreWithin, InRange, Row, values};
 ghost use Rattle.ln_order.specs.Order.{IsOrder};
 ghost use Rattle.ln_order.specs.Places.{order_places};
@@ -25,7 +25,7 @@ use ln_poly::{Binomials, Poly, value_at};
 use ln_stage::Stages;
 use ln_tree::{Exps, Shape};
 
-/// May a with the value z stand next in the row with these values, by the rule of an `at` line? It takes no memory.
+/// May a with the value z stand next in the row with these values, by the rule of an `at` line? Allocates nothing.
 pub fn goes(
     b: &Binomials,
     f: &Poly,

@@ -45,7 +45,7 @@ fn line(
     }
 }
 
-// Is no row open, and no record left?
+// Is no row open, and does no record remain?
 fn is_over(p: &Pred, rows: &mut Rows<'_>, desk: &mut Desk) -> Result<bool, NoMemory>
     ensures over { IfOk result (λ ok. IsTrue ok ↔ ((desk.old.inside ≡ false) × (rows.old ≡ []))) }
     ensures seen { desk.new.seen ≡ desk.old.seen }
@@ -57,25 +57,7 @@ fn is_over(p: &Pred, rows: &mut Rows<'_>, desk: &mut Desk) -> Result<bool, NoMem
     Ok(is(next, Next::Nothing))
 }
 
-// A line at its place, which is dropped then.
-fn entry(
-    alloc: Global,
-    b: &Binomials,
-    p: &Pred,
-    f: &Poly,
-    st: &Stages,
-    rows: &mut Rows<'_>,
-    desk: &mut Desk,
-    l: TraceLine,
-) -> Result<bool, NoMemory>
-    requires case { IsCase p.now.shape f.now st.now }
-    requires holds { Holds p.now.shape st.now desk.old }
-    ensures { IfOk result (λ ok. Led p.now.shape f.now st.now rows.old desk.old l ok rows.new desk.new) }
-{
-    line(alloc, b, p, f, st, rows, desk, &l)
-}
-
-// What the lines that are left are judged, where none has stood.
+// Returns what the remaining lines are judged, where none has stood.
 fn over_lines(
     alloc: Global,
     b: &Binomials,
@@ -94,7 +76,9 @@ fn over_lines(
         IsJudged (subject_of p.now.shape e) rows.old ls j) }
 {
     'lines: while let Some(l) = lines.next(alloc)? {
-        if !entry(alloc, b, p, f, st, rows, desk, l)? {
+        let good = line(alloc, b, p, f, st, rows, desk, &l);
+        drop(l);
+        if !good? {
             return Ok(Judged::Wrong(lines.number() - 1));
         }
     }
@@ -104,9 +88,9 @@ fn over_lines(
     Ok(Judged::Agreed(desk.seen))
 }
 
-/// What the lines that are left of a trace are judged by the polynomial of a predicate and the stages of that, over the records that
-/// are left: agreed, or the first line whose rule fails. Each line is judged as it is read, and none is kept. An agreed trace
-/// gives each record that is a row its perturbed sign. After `NoMemory` lines and records may be lost.
+/// Judges the remaining lines of a trace by the polynomial of a predicate and the stages of that, over the remaining records: returns that they are
+/// agreed, or the first line whose rule fails. Each line is judged as it is read, and none is kept. An agreed trace has the perturbed sign of each
+/// record that is a row. After `NoMemory` lines and records may be lost.
 pub fn judge_lines(
     alloc: Global,
     p: &Pred,
@@ -130,7 +114,7 @@ pub fn judge_lines(
     Ok(j)
 }
 
-// What these lines are judged, where none has stood.
+// Returns what these lines are judged, where none has stood.
 fn over_trace(
     alloc: Global,
     b: &Binomials,
@@ -168,8 +152,8 @@ fn fault_of(j: Judged) -> Option<u32>
     }
 }
 
-/// The first line of a trace, from 1, whose rule fails by the polynomial of a predicate and the stages of that, over the records that
-/// are left; or none, where the trace is agreed. An agreed trace gives each record that is a row its perturbed sign. After
+/// The first line of a trace, from 1, whose rule fails by the polynomial of a predicate and the stages of that, over the remaining records; or
+/// none, where the trace is agreed. An agreed trace has the perturbed sign of each record that is a row. After
 /// `NoMemory` records may be lost.
 pub fn judge(
     alloc: Global,

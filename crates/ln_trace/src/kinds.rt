@@ -34,7 +34,7 @@ pub fn kind(state: State, w: &[u8]) -> Option<Kind>
     }
 }
 
-/// What the lines end in after a line of this kind.
+/// Returns what the lines end in after a line of this kind.
 pub fn after(kind: Kind) -> State
     ensures { result ≡ after kind }
 {

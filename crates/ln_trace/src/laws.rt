@@ -1,10 +1,10 @@
-//! Laws of traces: what is told of one row, what an agreed trace says of all records, and the loop over the lines.
+//! Laws of traces: what a trace tells of one row, what an agreed trace says of all records, and the loop over the lines.
 ghost use Rattle.ln_trace.specs.Signs.{AgreedTracesGiveSigns, ExplainedIsAgreed};
 ghost use Rattle.ln_trace.specs.ToldLaw.{AllAreLeft, FirstLeftStands, FirstLeftTells, NoneLeftTells, OtherStands};
 ghost use Rattle.ln_trace.specs.ToldLaw.{StageListsAreTold, ToldSignsArePerturbed};
 ghost use Rattle.ln_trace.specs.WalkLaw.{EndsWell, GoesOn, Lacks, OneAnswer, Stops};
 
-/// A row that is told by the rules has the perturbed sign; a stage list told up to its first coefficient that isn't 0 goes by them.
+/// A row whose lines keep the rules has the perturbed sign; a stage list written up to its first coefficient that isn't 0 goes by them.
 pub fn rows_are_told()
     ensures sound { ToldSignsArePerturbed }
     ensures complete { StageListsAreTold }
@@ -19,12 +19,12 @@ pub fn rest_decides()
     ensures other { OtherStands }
 {}
 
-/// An agreed trace gives each record that is a row its perturbed sign.
+/// An agreed trace has the perturbed sign of each record that is a row.
 pub fn agreed_traces_give_signs()
     ensures { AgreedTracesGiveSigns }
 {}
 
-/// What is explained is agreed.
+/// A trace that explains records is agreed.
 pub fn explained_is_agreed()
     ensures { ExplainedIsAgreed }
 {}

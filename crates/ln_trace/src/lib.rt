@@ -1,7 +1,7 @@
 //! Traces of rows: which members of a row's stage list were looked at, with the value of each coefficient, and the sign.
 //!
 //! A trace is judged line by line by a predicate's polynomial and its stage lists, never by a program: so an agreed trace,
-//! whoever made it, gives each row its perturbed sign.
+//! whoever made it, has the perturbed sign of each row.
 #![tactic(auto)]
 
 pub mod desk;

@@ -54,9 +54,6 @@ fn front(
     Ok(Some((found, next, end + 1)))
 }
 
-// A line that isn't kept.
-fn dropped(_line: TraceLine) {}
-
 // Reads a trace from the end of its first line to its end, and keeps nothing of it.
 fn check(alloc: Global, bytes: &[u8], behind: usize) -> Result<(), TraceStop>
     requires short { length bytes.now ≤ 67108864 }
@@ -73,7 +70,7 @@ fn check(alloc: Global, bytes: &[u8], behind: usize) -> Result<(), TraceStop>
         let Some((found, next, count)) = read else {
             return Err(TraceStop::Form(number));
         };
-        dropped(found);
+        drop(found);
         state = next;
         text = after(text, count);
         number += 1;
@@ -106,7 +103,7 @@ pub(crate) fn opened<'a>(
 }
 
 impl<'a> TraceLines<'a> {
-    /// The number of the next line, from 1; where none remains, it is one more than the trace has lines. It takes no memory.
+    /// The number of the next line, from 1; where none remains, it is one more than the trace has lines. Allocates nothing.
     pub fn number(&self) -> u32
         ensures { result ≡ self.now.line }
     {

@@ -1,5 +1,5 @@
-//! The members of the list of an order that are left.
-ghost use Rattle.std.specs.Prelude.{◌≡◌, ◌<◌, ◌≤◌, ◌∷◌, [], ℕ, List, All, MatchOption, length, take};
+//! The remaining members of the list of an order.
+ghost use Rattle.std.specs.Prelude.{◌≡◌, ◌<◌, ◌∷◌, [], ℕ, List, All, MatchOption, length};
 ghost use Rattle.ln_order.specs.Places.{order_places};
 ghost use Rattle.ln_stage.specs.Staged.{segment_of};
 ghost use Rattle.ln_trace.specs.Left.{IsSpot, left_at};
@@ -8,14 +8,14 @@ use ln_order::Order;
 use ln_stage::Stages;
 use ln_tree::Exps;
 
-/// A place in the list of an order: behind so many members of the segment of its first so many sites.
+/// A place in the list of an order: after this many members of the segment of this many first sites.
 #[derive(Clone, Copy)]
 pub struct Spot {
     pub sites: u8,
     pub at: usize,
 }
 
-/// The first member that is left of the list of an order, and the place behind it. It takes no memory.
+/// Returns the first remaining member of the list of an order, and the place after it. Allocates nothing.
 pub fn first_left<'a>(st: &'a Stages, o: &Order, p: Spot) -> Option<(&'a Exps, Spot)>
     requires order { length (order_places o.now) ≡ st.now.sites }
     requires spot { IsSpot st.now (order_places o.now) p }

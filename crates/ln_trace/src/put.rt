@@ -8,7 +8,7 @@ use ln_base::put::{put, put_exponents, put_number, put_signed, put_word};
 use ln_base::{NoMemory, Sign};
 use std::alloc::Global;
 
-// All of a text, or nothing where there is no memory.
+// All of a text, or nothing where memory runs out.
 fn append(out: &mut Vec<u8>, text: &[u8]) -> Result<(), NoMemory>
     ensures ok { OnOk result (out.new.items ≡ out.old.items ++ text.now) }
     ensures err { OnErr result (out.new.items ≡ out.old.items) }
@@ -57,7 +57,7 @@ fn sign_text(text: &mut Vec<u8>, sign: Sign) -> Result<(), NoMemory>
     Ok(())
 }
 
-/// Appends `refused N`, or nothing where there is no memory.
+/// Appends `refused N`, or nothing where memory runs out.
 pub fn put_refused(alloc: Global, out: &mut Vec<u8>, n: u32) -> Result<(), NoMemory>
     ensures ok { OnOk result (out.new.items ≡ out.old.items ++ text_of_line (line.Refused n)) }
     ensures err { OnErr result (out.new.items ≡ out.old.items) }
@@ -67,7 +67,7 @@ pub fn put_refused(alloc: Global, out: &mut Vec<u8>, n: u32) -> Result<(), NoMem
     append(out, text.as_slice())
 }
 
-/// Appends `row N`, or nothing where there is no memory.
+/// Appends `row N`, or nothing where memory runs out.
 pub fn put_row(alloc: Global, out: &mut Vec<u8>, n: u32) -> Result<(), NoMemory>
     ensures ok { OnOk result (out.new.items ≡ out.old.items ++ text_of_line (line.Row n)) }
     ensures err { OnErr result (out.new.items ≡ out.old.items) }
@@ -77,7 +77,7 @@ pub fn put_row(alloc: Global, out: &mut Vec<u8>, n: u32) -> Result<(), NoMemory>
     append(out, text.as_slice())
 }
 
-/// Appends an `at` line of these exponents, as variable and exponent, and this value, or nothing where there is no memory.
+/// Appends an `at` line of these exponents, as variable and exponent, and this value, or nothing where memory runs out.
 pub fn put_at(
     alloc: Global,
     out: &mut Vec<u8>,
@@ -92,7 +92,7 @@ pub fn put_at(
     append(out, text.as_slice())
 }
 
-/// Appends a `sign` line, or nothing where there is no memory.
+/// Appends a `sign` line, or nothing where memory runs out.
 pub fn put_sign(alloc: Global, out: &mut Vec<u8>, sign: Sign) -> Result<(), NoMemory>
     ensures ok { OnOk result (out.new.items ≡ out.old.items ++ text_of_line (line.Sign sign)) }
     ensures err { OnErr result (out.new.items ≡ out.old.items) }

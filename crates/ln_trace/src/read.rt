@@ -1,4 +1,4 @@
-//! Reading a trace.
+//! Reads a trace from its bytes, at once or line by line, or tells at which line the bytes stop being one.
 ghost use Rattle.std.specs.Prelude.{◌≡◌, ◌≤◌, IfOk, IfErr, IsTrue, List, length, ◌↔◌};
 ghost use Rattle.ln_trace.specs.declared.line.TraceLine.{TraceLine as AnyLine};
 ghost use Rattle.ln_trace.specs.Form.{TraceText};

@@ -1,9 +1,9 @@
 //! One function for each kind of line.
-ghost use Rattle.std.specs.Prelude.{◌≡◌, ◌↔◌, ◌<◌, ◌≤◌, ◌∷◌, [], ℕ, List, All, None, Some, true, IfOk, IsTrue, length, take};
+ghost use Rattle.std.specs.Prelude.{◌≡◌, ◌↔◌, ◌<◌, [], ℕ, List, All, None, Some, true, IfOk, IsTrue, length, take};
 ghost use Rattle.ln_base.specs.declared.sign.Sign.TheVariants.{Zero};
 ghost use Rattle.ln_algebra.specs.Sign.{sign_of};
 ghost use Rattle.ln_tree.specs.Exps.{IsRising};
-ghost use Rattle.ln_tree.specs.Row.{AreWithin, InRange};
+ghost use Rattle.ln_tree.specs.Row.{InRange};
 ghost use Rattle.ln_code.specs.Kept.{AreOfSites};
 ghost use Rattle.ln_code.specs.RowOf.{row_of};
 ghost use Rattle.ln_due.specs.Due.{sign_number};
@@ -122,7 +122,7 @@ fn is_sign(t: Sign, u: Sign) -> bool
     t == u
 }
 
-// Holds that a stood with the value z, behind which the members begin here.
+// Holds that a stood with the value z, after which the members begin here.
 fn stood(desk: &mut Desk, spot: Spot, a: Exps, z: i128)
     ensures held { desk.new ≡ record {
       inside = desk.old.inside;

@@ -1,5 +1,5 @@
 //! May a vector stand next in a row?
-ghost use Rattle.std.specs.Prelude.{◌≡◌, ◌↔◌, ◌<◌, ◌≤◌, ◌∷◌, ℕ, ℤ, List, All, IsTrue, length, map};
+ghost use Rattle.std.specs.Prelude.{◌≡◌, ◌↔◌, ◌<◌, ◌∷◌, ℕ, ℤ, List, All, IsTrue, length, map};
 ghost use Rattle.ln_algebra.specs.Earlier.{IndicesDiffer, IsOver};
 ghost use Rattle.ln_algebra.specs.Tree.{Tree};
 ghost use Rattle.ln_tree.specs.Exps.{IsAbove, IsRising, same_pairs, vector};
@@ -36,7 +36,7 @@ fn is_behind(o: &Order, s: &Shape, last: &Last, a: &Exps) -> bool
 }
 
 /// May a stand next: all values before are 0, it is later than the last, and each stage that is earlier than it stood? Two
-/// comparisons tell. It takes no memory.
+/// comparisons decide it. Allocates nothing.
 pub fn may_stand(st: &Stages, o: &Order, s: &Shape, last: &Last, spot: Spot, a: &Exps) -> bool
     requires sites { length (order_places o.now) ≡ s.now.sites }
     requires order { length (order_places o.now) ≡ st.now.sites }
@@ -73,7 +73,7 @@ fn are_same(b: &Exps, a: &Exps) -> bool
     left == right
 }
 
-/// Where what is left begins behind a, which may stand next. It takes no memory.
+/// Returns where the rest begins after a, which may stand next. Allocates nothing.
 pub fn passed(st: &Stages, o: &Order, s: &Shape, spot: Spot, a: &Exps) -> Spot
     requires sites { length (order_places o.now) ≡ s.now.sites }
     requires order { length (order_places o.now) ≡ st.now.sites }

@@ -1,6 +1,6 @@
 //! Kinds of lines, and what the lines so far end in.
 
-/// What the first word of a line says.
+/// The meaning of the first word of a line.
 #[derive(Clone, Copy)]
 pub enum Kind {
     Refused,
@@ -9,7 +9,7 @@ pub enum Kind {
     Sign,
 }
 
-/// What the lines so far end in: the first line or the end of a record, a `row` line, an `at` line.
+/// The end of the lines so far: the first line or the end of a record, a `row` line, an `at` line.
 #[derive(Clone, Copy)]
 pub enum State {
     Between,

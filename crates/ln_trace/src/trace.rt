@@ -1,4 +1,4 @@
-//! Traces.
+//! Defines a trace, which holds what each line after the first says.
 ghost use Rattle.std.specs.Prelude.{◌≡◌};
 ghost use Rattle.ln_trace.specs.Form.{IsKept};
 
@@ -33,7 +33,7 @@ impl Trace {
         Trace { read }
     }
 
-    /// What the lines after the first say: member i, from 0, is line i + 2. It takes no memory.
+    /// Returns what the lines after the first say: member i, from 0, is line i + 2. Allocates nothing.
     pub fn lines(&self) -> &[TraceLine]
         ensures value { result.now ≡ self.now }
         ensures kept { IsKept self.now }

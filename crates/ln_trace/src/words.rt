@@ -59,7 +59,7 @@ fn row(bytes: &[u8], at: usize) -> Option<TraceLine>
     Some(TraceLine::Row(n))
 }
 
-// The exponents that stand from the place on, up to a colon, and the place after the colon.
+// The exponents from the place on, up to a colon, and the place after the colon.
 fn exponents(
     alloc: Global,
     bytes: &[u8],

@@ -1,4 +1,4 @@
--- The lines that a panel puts for the boxes that were handed to it.
+-- Defines the lines that a panel writes for the watchers that were handed to it.
 use Rattle.std.specs.Prelude.{◌≡◌, ℕ, ◌≤◌, List, [], ◌∷◌, ◌++◌, length, take, Option}
 use Rattle.ln_base.specs.Outside.{Shown, appended}
 use Rattle.ln_base.specs.declared.outside.Port.{Port}
@@ -7,7 +7,7 @@ use Rattle.ln_watch.specs.declared.watch.Keep.{Keep}
 use Rattle.ln_watch.specs.declared.watch.Keep.TheVariants.{Stay, Done}
 use Rattle.ln_watch.specs.Fold.{tally_after, keep_after, watch_text}
 
--- a box, by its kind and its tally
+-- a watcher, by its kind and its tally
 pub record State : Type 0 where
   pub kind : ℕ
   pub tally : List ℕ
@@ -17,16 +17,16 @@ pub record Numbered : Type 0 where
   pub row : ℕ
   pub verdict : Verdict
 
--- what a list of boxes stands for
+-- the states of a list of watchers
 abbrev pub states_of : {B : Type 0} → (B → ℕ) → (B → List ℕ) → List B → List State
 states_of kind tally [] = []
 states_of kind tally (b ∷ bs) = record { kind = kind b; tally = tally b } ∷ states_of kind tally bs
 
--- a box behind its step on the row with this number
+-- a watcher after its step on the row with this number
 abbrev pub state_after : ℕ → Verdict → State → State
 state_after row v s = record { kind = s.kind; tally = tally_after s.kind s.tally row v }
 
--- its answer to that step
+-- whether it stays after that step
 abbrev pub answer : ℕ → Verdict → State → Keep
 answer row v s = keep_after s.kind s.tally row v
 
@@ -34,29 +34,31 @@ answer row v s = keep_after s.kind s.tally row v
 abbrev pub feed : List ℕ → List ℕ
 feed text = text ++ 10 ∷ []
 
+-- the line of a watcher: the text of its tally, and a line feed
 abbrev pub line_of : State → List ℕ
 line_of s = feed (watch_text s.kind s.tally)
 
--- what is left of a box that gave this answer, and what is put for it: one that is done leaves with its line
+-- what remains of a watcher that returned this: nothing where it is done, and else the watcher
 abbrev pub left_of : Keep → State → List State
 left_of Stay s = s ∷ []
 left_of Done s = []
 
+-- what is written for a watcher that returned this: its line where it is done, else nothing
 abbrev pub said_of : Keep → State → List ℕ
 said_of Stay s = []
 said_of Done s = line_of s
 
--- the boxes that are left behind a verdict, in order, each as it is behind its step
+-- the watchers that remain after a verdict, in order, each as it is after its step
 abbrev pub left_after : ℕ → Verdict → List State → List State
 left_after row v [] = []
 left_after row v (s ∷ ss) = left_of (answer row v s) (state_after row v s) ++ left_after row v ss
 
--- the lines put for a verdict: of each box that answered that it is done, in order
+-- the lines written for a verdict: that of each watcher that is done, in order
 abbrev pub lines_at : ℕ → Verdict → List State → List ℕ
 lines_at row v [] = []
 lines_at row v (s ∷ ss) = said_of (answer row v s) (state_after row v s) ++ lines_at row v ss
 
--- the lines of the boxes that are left at the end, in order
+-- the lines of the watchers that remain at the end, in order
 abbrev pub last_lines : List State → List ℕ
 last_lines [] = []
 last_lines (s ∷ ss) = line_of s ++ last_lines ss
@@ -66,14 +68,14 @@ abbrev pub panel_lines : List Numbered → List State → List ℕ
 panel_lines [] boxes = last_lines boxes
 panel_lines (x ∷ xs) boxes = lines_at x.row x.verdict boxes ++ panel_lines xs (left_after x.row x.verdict boxes)
 
--- a put that failed: some first bytes went out
+-- a write that failed: a prefix of the bytes was written
 pub record FailsAfter (port : Port) (bytes : List ℕ) (was now : Option Shown) : Type 0 where
   pub n : ℕ
   pub within : n ≤ length bytes
   pub shown : now ≡ appended port (take n bytes) was
 
--- a put failed while the verdict on a row was shown: the boxes before one that was done have seen it, that one is dropped, some
--- first bytes of its line went out behind the lines of those before it, and the later ones haven't seen the verdict
+-- a write failed while the verdict on a row was shown: the watchers before one that was done have seen it, that one is dropped, a prefix of its line
+-- was written after the lines of those before it, and the later ones haven't seen the verdict
 pub record StopsAt (row : ℕ) (v : Verdict) (boxes left : List State) (port : Port) (was now : Option Shown) : Type 0 where
   pub seen : List State
   pub done : State

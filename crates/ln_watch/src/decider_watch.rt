@@ -1,4 +1,4 @@
-//! What decided.
+//! Counts the rows by what decided them: the filter, stage 0, a later stage, or nothing.
 ghost use Rattle.std.specs.Prelude.{◌≡◌, [], ◌∷◌};
 
 use crate::line::Line;

@@ -7,7 +7,7 @@ use crate::watch::{Keep, Watch};
 use ln_code::{By, Verdict};
 use std::marker::Model;
 
-/// The watcher of kind 3: the numbers of the first rows that a stage behind stage 0 decided, as many as it wants. It is seen as the
+/// The watcher of kind 3: the numbers of the first rows that a stage after stage 0 decided, as many as it wants. It is seen as the
 /// list of how many it wants, then the numbers that came.
 #[derive(Drop)]
 pub struct FirstWatch {
@@ -26,7 +26,7 @@ impl Model for FirstWatch {
     ghost invariant = { λ w. (w.wanted ≤ 5) × (w.count ≤ w.wanted) };
 }
 
-// Whether a stage behind stage 0 decided.
+// Whether a stage after stage 0 decided.
 fn is_perturbed(by: By) -> bool
     ensures { result ≡ is_perturbed by }
 {
@@ -36,7 +36,7 @@ fn is_perturbed(by: By) -> bool
     }
 }
 
-// Puts a space and the number of each row at the end.
+// Appends a space and the number of each row.
 fn put_rows(buf: &mut Line, rows: &[u64])
     requires few { length rows.now ≤ 5 }
     requires room { length buf.old ≤ 5 }
@@ -72,7 +72,7 @@ impl FirstWatch {
         }
     }
 
-    // Whether as many stand as are wanted.
+    // Returns whether as many are there as are wanted.
     fn is_full(&self) -> bool
         ensures { result ≡ is_full self.now }
     {

@@ -8,7 +8,7 @@ use std::marker::Model;
 /// How many bytes a line has at most.
 pub const LINE_LEN: usize = 160;
 
-/// A text of at most 160 ASCII bytes, seen as the list of its bytes. It takes no memory.
+/// A text of at most 160 ASCII bytes, seen as the list of its bytes. It allocates nothing.
 #[derive(Drop)]
 pub struct Line {
     bytes: [u8; 160],
@@ -44,7 +44,7 @@ impl Line {
         self.len = 0;
     }
 
-    /// Puts bytes at the end.
+    /// Appends bytes.
     pub fn put(&mut self, bytes: &[u8])
         requires ascii { IsAscii bytes.now }
         requires fits { length self.old + length bytes.now ≤ 160 }
@@ -64,7 +64,7 @@ impl Line {
         &self.bytes[..self.len]
     }
 
-    // Puts a number of 64 bits at the end, in decimal.
+    // Appends a number of 64 bits, in decimal.
     pub(crate) fn put_number(&mut self, n: u64)
         requires { length self.old + 20 ≤ 160 }
         ensures text { self.new ≡ self.old ++ decimal n }

@@ -15,7 +15,7 @@ use ln_code::Verdict;
 pub enum Watcher {
     /// How often each sign came.
     Signs(SignWatch),
-    /// What decided.
+    /// The counts of deciders.
     Deciders(DeciderWatch),
     /// The first rows that were perturbed.
     First(FirstWatch),

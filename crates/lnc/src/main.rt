@@ -1,4 +1,4 @@
-//! The program `lnc`: hands the words, the files on the disk, the two ports and for `gen` three watchers to `ln_top::lnc`, and ends
+//! The program `lnc`: hands the words, the files on the disk, the two streams and for `gen` three watchers to `ln_top::lnc`, and ends
 //! with its status.
 #![tactic(auto)]
 
@@ -8,7 +8,7 @@ use ln_top::{Status, exit_code, has_watchers, lnc};
 use ln_watch::{Watch, Watcher};
 use std::process::ExitCode;
 
-// The words, the disk and the ports are those of this program.
+// The words, the disk and the streams are those of this program.
 fn carry_out(rt: &HostRuntime) -> Result<Status, NoMemory> {
     let alloc = rt.alloc();
     let words = words_of(rt)?;

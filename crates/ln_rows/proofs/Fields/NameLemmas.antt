@@ -1,13 +1,16 @@
 -- Names among fields, place by place.
-use Rattle.std.proofs.Common.{◌≡◌, ◌≢◌, ℕ, zero, suc, ◌+◌, ◌-◌, ◌<◌, ◌≤◌, min, List, [], ◌∷◌, ◌++◌, length, get_or, take, drop, map, Option, Some, None, refl, ap, sym, ◌∙◌, arith, add-one, drop-cons, append_assoc, length-drop, length-append}
+use Rattle.std.proofs.Common.{◌≡◌, ◌≢◌, ℕ, zero, suc, ◌+◌, ◌-◌, ◌<◌, ◌≤◌, min, List, [], ◌∷◌, ◌++◌, length, get_or, take, drop, map, Option}
+use Rattle.std.proofs.Common.{Some, None, refl, ap, sym, ◌∙◌, arith, add-one, drop-cons, append_assoc, length-drop, length-append}
 use Rattle.std.specs.Prelude.{flat_map, slice_get}
-use Rattle.std.proofs.lemmas.List.{append_cancel_left, append-nil, take_more, take-append-drop, map-append, drop_all, drop_more, get_or_append_left, get_or-append_right}
+use Rattle.std.proofs.lemmas.List.{append_cancel_left, append-nil, take_more, take-append-drop, map-append, drop_all, drop_more}
+use Rattle.std.proofs.lemmas.List.{get_or_append_left, get_or-append_right}
 use Rattle.std.proofs.lemmas.List.Concat.{flat_map-append}
 use Rattle.csv.specs.Records.{field_at}
 use Rattle.ln_rows.specs.Columns.{StandAt, Passes}
 
 -- the field at a place, by what stands there
-pub field_drop : (fields : List (List ℕ)) (at : ℕ) (x : List ℕ) → field_at fields at ≡ Some x → (drop at fields ≡ x ∷ drop (suc at) fields) × (at < length fields)
+pub field_drop : (fields : List (List ℕ)) (at : ℕ) (x : List ℕ) → field_at fields at ≡ Some x
+    → (drop at fields ≡ x ∷ drop (suc at) fields) × (at < length fields)
 unfolding field_at
 field_drop [] at x h = absurd (cc)
 field_drop (f ∷ fs) zero x h = let e : f ≡ x = cc in (ap (λ (y : List ℕ). y ∷ fs) e, omega arith)
@@ -24,28 +27,31 @@ drop_field (f ∷ fs) (suc at) x rest h = drop_field fs at x rest h
 pub one_name : (fields : List (List ℕ)) (at : ℕ) (x : List ℕ) → field_at fields at ≡ Some x → StandAt (x ∷ []) fields at (at + 1)
 one_name fields at x h = let p = field_drop fields at x h in (p.0 ∙ rw (add-one at) refl, λ l. omega (arith, p.1))
 
-pub no_name : (fields : List (List ℕ)) (at : ℕ) (x : List ℕ) (more : List (List ℕ)) → (field_at fields at ≡ Some x → ⊥) → (rest : List (List ℕ)) → drop at fields ≢ (x ∷ more) ++ rest
+pub no_name : (fields : List (List ℕ)) (at : ℕ) (x : List ℕ) (more : List (List ℕ)) → (field_at fields at ≡ Some x → ⊥)
+    → (rest : List (List ℕ)) → drop at fields ≢ (x ∷ more) ++ rest
 no_name fields at x more ne rest h = ne (drop_field fields at x (more ++ rest) h)
 
 -- no name
 pub stand_none : (fields : List (List ℕ)) (at : ℕ) → StandAt [] fields at at
 stand_none fields at = (refl, λ l. l)
 
--- names behind names
+-- names after names
 pub stand_more : (xs ys fields : List (List ℕ)) (at mid to : ℕ) → StandAt xs fields at mid → StandAt ys fields mid to → StandAt (xs ++ ys) fields at to
 stand_more xs ys fields at mid to p q = (p.0 ∙ ap (λ (l : List (List ℕ)). xs ++ l) q.0 ∙ sym (append_assoc xs ys (drop to fields)), λ l. q.1 (p.1 l))
 
--- where names stand, what stands behind them is left
-pub stand_left : (xs ys fields : List (List ℕ)) (at mid : ℕ) → StandAt xs fields at mid → (rest : List (List ℕ)) → drop at fields ≡ (xs ++ ys) ++ rest → drop mid fields ≡ ys ++ rest
+-- where names stand, what follows them remains
+pub stand_left : (xs ys fields : List (List ℕ)) (at mid : ℕ) → StandAt xs fields at mid → (rest : List (List ℕ))
+    → drop at fields ≡ (xs ++ ys) ++ rest → drop mid fields ≡ ys ++ rest
 stand_left xs ys fields at mid p rest h = append_cancel_left xs (drop mid fields) (ys ++ rest) (sym p.0 ∙ h ∙ append_assoc xs ys rest)
 
--- names that pass behind names that stand
+-- names that pass after names that stand
 pub passes_more : (xs ys fields : List (List ℕ)) (at mid : ℕ) (o : Option ℕ) → StandAt xs fields at mid → Passes ys fields mid o → Passes (xs ++ ys) fields at o
 passes_more xs ys fields at mid None p q = λ rest h. q rest (stand_left xs ys fields at mid p rest h)
 passes_more xs ys fields at mid (Some to) p q = stand_more xs ys fields at mid to p q
 
 -- where the first names don't stand, the whole doesn't
-pub none_whole : (xs ys fields : List (List ℕ)) (at : ℕ) → ((rest : List (List ℕ)) → drop at fields ≢ xs ++ rest) → (rest : List (List ℕ)) → drop at fields ≢ (xs ++ ys) ++ rest
+pub none_whole : (xs ys fields : List (List ℕ)) (at : ℕ) → ((rest : List (List ℕ)) → drop at fields ≢ xs ++ rest) → (rest : List (List ℕ))
+    → drop at fields ≢ (xs ++ ys) ++ rest
 none_whole xs ys fields at ne rest h = ne (ys ++ rest) (h ∙ append_assoc xs ys rest)
 
 -- a list around one of its elements
@@ -56,34 +62,43 @@ take_one : {X : Type 0} (xs : List X) (i : ℕ) (x : X) → i < length xs → x 
 take_one {X = X} xs i x h e = take_more xs i x h ∙ ap (λ (y : X). take i xs ++ y ∷ []) (sym e)
 
 -- one coordinate more
-pub coord_more : {X : Type 0} (f : X → List ℕ) (xs : List X) (i : ℕ) (x : X) (fields : List (List ℕ)) (at mid : ℕ) → i < length xs → x ≡ get_or xs i x → StandAt (map f (take i xs)) fields at mid → field_at fields mid ≡ Some (f x)
+pub coord_more : {X : Type 0} (f : X → List ℕ) (xs : List X) (i : ℕ) (x : X) (fields : List (List ℕ)) (at mid : ℕ) → i < length xs
+    → x ≡ get_or xs i x → StandAt (map f (take i xs)) fields at mid → field_at fields mid ≡ Some (f x)
     → StandAt (map f (take (i + 1) xs)) fields at (mid + 1)
 coord_more f xs i x fields at mid h e p q =
-    rw (take_one xs i x h e, map-append f (take i xs) (x ∷ [])) (stand_more (map f (take i xs)) (f x ∷ []) fields at mid (mid + 1) p (one_name fields mid (f x) q))
+    rw (take_one xs i x h e, map-append f (take i xs) (x ∷ []))
+    (stand_more (map f (take i xs)) (f x ∷ []) fields at mid (mid + 1) p (one_name fields mid (f x) q))
 
 -- a coordinate that doesn't stand
-pub coord_stop : {X : Type 0} (f : X → List ℕ) (xs : List X) (i : ℕ) (x : X) (fields : List (List ℕ)) (at mid : ℕ) → i < length xs → x ≡ get_or xs i x → StandAt (map f (take i xs)) fields at mid → (field_at fields mid ≡ Some (f x) → ⊥)
+pub coord_stop : {X : Type 0} (f : X → List ℕ) (xs : List X) (i : ℕ) (x : X) (fields : List (List ℕ)) (at mid : ℕ) → i < length xs
+    → x ≡ get_or xs i x → StandAt (map f (take i xs)) fields at mid → (field_at fields mid ≡ Some (f x) → ⊥)
     → (rest : List (List ℕ)) → drop at fields ≢ map f xs ++ rest
 coord_stop f xs i x fields at mid h e p q rest k =
-    let whole : map f xs ≡ map f (take i xs) ++ (f x ∷ map f (drop (suc i) xs)) = ap (map f) (split_at xs i x h e) ∙ map-append f (take i xs) (x ∷ drop (suc i) xs) in
-    no_name fields mid (f x) (map f (drop (suc i) xs)) q rest (stand_left (map f (take i xs)) (f x ∷ map f (drop (suc i) xs)) fields at mid p rest (k ∙ ap (λ (l : List (List ℕ)). l ++ rest) whole))
+    let whole : map f xs ≡ map f (take i xs) ++ (f x ∷ map f (drop (suc i) xs)) =
+    ap (map f) (split_at xs i x h e) ∙ map-append f (take i xs) (x ∷ drop (suc i) xs) in
+    no_name fields mid (f x) (map f (drop (suc i) xs)) q rest
+    (stand_left (map f (take i xs)) (f x ∷ map f (drop (suc i) xs)) fields at mid p rest (k ∙ ap (λ (l : List (List ℕ)). l ++ rest) whole))
 
 -- one argument more
-pub arg_more : {X : Type 0} (f : X → List (List ℕ)) (xs : List X) (i : ℕ) (x : X) (fields : List (List ℕ)) (at mid to : ℕ) → i < length xs → x ≡ get_or xs i x → StandAt (flat_map f (take i xs)) fields at mid → StandAt (f x) fields mid to
+pub arg_more : {X : Type 0} (f : X → List (List ℕ)) (xs : List X) (i : ℕ) (x : X) (fields : List (List ℕ)) (at mid to : ℕ) → i < length xs
+    → x ≡ get_or xs i x → StandAt (flat_map f (take i xs)) fields at mid → StandAt (f x) fields mid to
     → StandAt (flat_map f (take (i + 1) xs)) fields at to
 arg_more f xs i x fields at mid to h e p q =
     let one : flat_map f (x ∷ []) ≡ f x = append-nil (f x) in
     rw (take_one xs i x h e, flat_map-append f (take i xs) (x ∷ []), one) (stand_more (flat_map f (take i xs)) (f x) fields at mid to p q)
 
 -- an argument whose columns don't stand
-pub arg_stop : {X : Type 0} (f : X → List (List ℕ)) (xs : List X) (i : ℕ) (x : X) (fields : List (List ℕ)) (mid : ℕ) → i < length xs → x ≡ get_or xs i x → StandAt (flat_map f (take i xs)) fields 0 mid
+pub arg_stop : {X : Type 0} (f : X → List (List ℕ)) (xs : List X) (i : ℕ) (x : X) (fields : List (List ℕ)) (mid : ℕ) → i < length xs
+    → x ≡ get_or xs i x → StandAt (flat_map f (take i xs)) fields 0 mid
     → ((rest : List (List ℕ)) → drop mid fields ≢ f x ++ rest) → fields ≢ flat_map f xs
 arg_stop f xs i x fields mid h e p q k =
-    let whole : flat_map f xs ≡ flat_map f (take i xs) ++ (f x ++ flat_map f (drop (suc i) xs)) = ap (flat_map f) (split_at xs i x h e) ∙ flat_map-append f (take i xs) (x ∷ drop (suc i) xs) in
-    let left = stand_left (flat_map f (take i xs)) (f x ++ flat_map f (drop (suc i) xs)) fields 0 mid p [] (k ∙ whole ∙ sym (append-nil (flat_map f (take i xs) ++ (f x ++ flat_map f (drop (suc i) xs))))) in
+    let whole : flat_map f xs ≡ flat_map f (take i xs) ++ (f x ++ flat_map f (drop (suc i) xs)) =
+    ap (flat_map f) (split_at xs i x h e) ∙ flat_map-append f (take i xs) (x ∷ drop (suc i) xs) in
+    let left = stand_left (flat_map f (take i xs)) (f x ++ flat_map f (drop (suc i) xs)) fields 0 mid p []
+    (k ∙ whole ∙ sym (append-nil (flat_map f (take i xs) ++ (f x ++ flat_map f (drop (suc i) xs))))) in
     q (flat_map f (drop (suc i) xs)) (left ∙ append-nil (f x ++ flat_map f (drop (suc i) xs)))
 
--- behind the last name
+-- after the last name
 pub all_stand : (names fields : List (List ℕ)) (to : ℕ) → StandAt names fields 0 to → to ≡ length fields → fields ≡ names
 all_stand names fields to p e = p.0 ∙ rw (drop_all to fields (omega (arith, e)), append-nil) refl
 
@@ -103,28 +118,36 @@ none_past f x xs zero ne h = absurd (ne refl)
 none_past f x xs (suc i) ne h = let e : suc i - 1 ≡ i = omega arith in map_none f xs i (rw e at h)
 
 -- one more of the arguments
-pub room_more : {X : Type 0} (f : X → List (List ℕ)) (xs : List X) (i : ℕ) (x : X) (n w c : ℕ) → i < length xs → x ≡ get_or xs i x → n ≡ min (length (flat_map f (take i xs)) + 1) c → w ≡ length (f x) → min (n + w) c ≡ min (length (flat_map f (take (i + 1) xs)) + 1) c
+pub room_more : {X : Type 0} (f : X → List (List ℕ)) (xs : List X) (i : ℕ) (x : X) (n w c : ℕ) → i < length xs → x ≡ get_or xs i x
+    → n ≡ min (length (flat_map f (take i xs)) + 1) c → w ≡ length (f x) → min (n + w) c ≡ min (length (flat_map f (take (i + 1) xs)) + 1) c
 room_more {X = X} f xs i x n w c h e a b =
     let more : take (i + 1) xs ≡ take i xs ++ x ∷ [] = take_more xs i x h ∙ ap (λ (y : X). take i xs ++ y ∷ []) (sym e) in
     let all : flat_map f (take (i + 1) xs) ≡ flat_map f (take i xs) ++ flat_map f (x ∷ []) = ap (flat_map f) more ∙ flat_map-append f (take i xs) (x ∷ []) in
     let one : flat_map f (x ∷ []) ≡ f x = append-nil (f x) in
-    let size : length (flat_map f (take (i + 1) xs)) ≡ length (flat_map f (take i xs)) + length (f x) = ap length all ∙ length-append (flat_map f (take i xs)) (flat_map f (x ∷ [])) ∙ ap (λ k. length (flat_map f (take i xs)) + k) (ap length one) in
+    let size : length (flat_map f (take (i + 1) xs)) ≡ length (flat_map f (take i xs)) + length (f x) =
+    ap length all ∙ length-append (flat_map f (take i xs)) (flat_map f (x ∷ [])) ∙ ap (λ k. length (flat_map f (take i xs)) + k) (ap length one) in
     omega (arith, size, a, b)
 
 -- the columns from an argument on, by that argument
-from_place : {X : Type 0} (f : X → List (List ℕ)) (xs : List X) (i : ℕ) (x : X) → i < length xs → x ≡ get_or xs i x → flat_map f (drop i xs) ≡ f x ++ flat_map f (drop (i + 1) xs)
+from_place : {X : Type 0} (f : X → List (List ℕ)) (xs : List X) (i : ℕ) (x : X) → i < length xs → x ≡ get_or xs i x
+    → flat_map f (drop i xs) ≡ f x ++ flat_map f (drop (i + 1) xs)
 from_place f xs i x h e = ap (flat_map f) (drop_more xs i x h) ∙ ap (λ y. f y ++ flat_map f (drop (i + 1) xs)) (sym e)
 
 -- a column is one of this argument
-pub column_here : {X : Type 0} (f : X → List (List ℕ)) (xs : List X) (i : ℕ) (x : X) (left : ℕ) (r : List ℕ) → i < length xs → x ≡ get_or xs i x → left < length (f x) → get_or (flat_map f (drop i xs)) left [] ≡ r
+pub column_here : {X : Type 0} (f : X → List (List ℕ)) (xs : List X) (i : ℕ) (x : X) (left : ℕ) (r : List ℕ) → i < length xs
+    → x ≡ get_or xs i x → left < length (f x) → get_or (flat_map f (drop i xs)) left [] ≡ r
     → get_or (f x) left [] ≡ r
-column_here f xs i x left r h e l k = sym (get_or_append_left (f x) (flat_map f (drop (i + 1) xs)) [] left l) ∙ ap (λ ys. get_or ys left []) (sym (from_place f xs i x h e)) ∙ k
+column_here f xs i x left r h e l k =
+    sym (get_or_append_left (f x) (flat_map f (drop (i + 1) xs)) [] left l) ∙ ap (λ ys. get_or ys left []) (sym (from_place f xs i x h e)) ∙ k
 
--- or one behind it
-pub column_more : {X : Type 0} (f : X → List (List ℕ)) (xs : List X) (i : ℕ) (x : X) (left w : ℕ) (r : List ℕ) → i < length xs → x ≡ get_or xs i x → w ≡ length (f x) → w ≤ left → get_or (flat_map f (drop i xs)) left [] ≡ r
+-- or one after it
+pub column_more : {X : Type 0} (f : X → List (List ℕ)) (xs : List X) (i : ℕ) (x : X) (left w : ℕ) (r : List ℕ) → i < length xs
+    → x ≡ get_or xs i x → w ≡ length (f x) → w ≤ left → get_or (flat_map f (drop i xs)) left [] ≡ r
     → get_or (flat_map f (drop (i + 1) xs)) (left - w) [] ≡ r
-column_more f xs i x left w r h e m l k = sym (get_or-append_right (f x) (flat_map f (drop (i + 1) xs)) w left [] (sym m) l) ∙ ap (λ ys. get_or ys left []) (sym (from_place f xs i x h e)) ∙ k
+column_more f xs i x left w r h e m l k = sym (get_or-append_right (f x) (flat_map f (drop (i + 1) xs)) w left [] (sym m) l)
+    ∙ ap (λ ys. get_or ys left []) (sym (from_place f xs i x h e)) ∙ k
 
 -- or there is none
-pub column_none : {X : Type 0} (f : X → List (List ℕ)) (xs : List X) (i left : ℕ) (r : List ℕ) → length xs ≤ i → get_or (flat_map f (drop i xs)) left [] ≡ r → [] ≡ r
+pub column_none : {X : Type 0} (f : X → List (List ℕ)) (xs : List X) (i left : ℕ) (r : List ℕ) → length xs ≤ i
+    → get_or (flat_map f (drop i xs)) left [] ≡ r → [] ≡ r
 column_none f xs i left r h k = ap (λ ys. get_or (flat_map f ys) left []) (sym (drop_all i xs h)) ∙ k

@@ -1,5 +1,6 @@
 -- A row that is read is in range.
-use Rattle.std.proofs.Common.{◌≡◌, ◌≢◌, ℕ, suc, ◌+◌, ◌-◌, ◌^◌, ◌≤◌, Bool, true, false, ◌&&◌, cond, List, [], ◌∷◌, length, take, ℤ, pos, ◌≤ℤ◌, Option, Some, None, Result, Ok, Err, refl, ap, ◌∙◌, subst, arith}
+use Rattle.std.proofs.Common.{◌≡◌, ◌≢◌, ℕ, suc, ◌+◌, ◌-◌, ◌^◌, ◌≤◌, Bool, true, false, ◌&&◌, cond, List, [], ◌∷◌, length, take, ℤ, pos}
+use Rattle.std.proofs.Common.{◌≤ℤ◌, Option, Some, None, Result, Ok, Err, refl, ap, ◌∙◌, subst, arith}
 use Rattle.std.specs.Prelude.{unwrap_or, int_le, count_by, if◌then◌else◌, All, AllPairs, MatchOption, nat_le, ◌==◌}
 use Rattle.std.specs.List.{list_all}
 use Rattle.std.proofs.lemmas.Bool.{and_parts, eqb-true}
@@ -15,7 +16,8 @@ use Rattle.ln_tree.specs.Row.{Row, AreWithin, InRange}
 use Rattle.ln_order.specs.Order.{first_equal, IsFirstEqual}
 use Rattle.ln_order.proofs.Listing.OrderLemmas.{first_equal_is}
 use Rattle.ln_rows.specs.Number.{within}
-use Rattle.ln_rows.specs.Record.{Column, SiteIndex, Variable, columns, number_of, in_column, fault_or, first_fault, said, indices, values, differing, unless_fault, read_row}
+use Rattle.ln_rows.specs.Record.{Column, SiteIndex, Variable, columns, number_of, in_column, fault_or, first_fault, said, indices, values}
+use Rattle.ln_rows.specs.Record.{differing, unless_fault, read_row}
 use Rattle.ln_rows.specs.declared.numbers.NumberStop.TheVariants as stop
 use Rattle.ln_rows.specs.declared.record.RowStop.{RowStop}
 use Rattle.ln_rows.specs.declared.record.RowStop.TheVariants.{Fields}
@@ -32,8 +34,10 @@ pub record Sizes (sites : ℕ) (vars : List VarInfo) : Type 0 where
 
 pub sizes : (sites : ℕ) (vars : List VarInfo) → is_laid_out sites vars ≡ true → Sizes sites vars
 sizes sites vars h =
-    let a = and_parts (in_order 0 0 no_var vars && list_all has_range vars && (count_by starts_site vars == sites) && nat_le sites 5 && nat_le (count_by is_param vars) 8) (nat_le (length vars) 168) h in
-    let b = and_parts (in_order 0 0 no_var vars && list_all has_range vars && (count_by starts_site vars == sites) && nat_le sites 5) (nat_le (count_by is_param vars) 8) a.0 in
+    let a = and_parts (in_order 0 0 no_var vars && list_all has_range vars && (count_by starts_site vars == sites) && nat_le sites 5
+    && nat_le (count_by is_param vars) 8) (nat_le (length vars) 168) h in
+    let b = and_parts (in_order 0 0 no_var vars && list_all has_range vars && (count_by starts_site vars == sites) && nat_le sites 5)
+    (nat_le (count_by is_param vars) 8) a.0 in
     let c = and_parts (in_order 0 0 no_var vars && list_all has_range vars && (count_by starts_site vars == sites)) (nat_le sites 5) b.0 in
     let d = and_parts (in_order 0 0 no_var vars && list_all has_range vars) (count_by starts_site vars == sites) c.0 in
     record { counted = eqb-true _ _ d.1; few_sites = at_most _ _ c.1; few_vars = at_most _ _ a.1 }
@@ -45,7 +49,8 @@ more_columns vars = length (columns vars) - length vars
 one_more : (i : VarInfo) (is : List VarInfo) → more_columns (i ∷ is) ≡ cond (starts_site i) (1 + more_columns is) (more_columns is)
 unfolding more_columns
 one_more i is = go (starts_site i) (columns_at_least is) where
-  go : (b : Bool) → length is ≤ length (columns is) → length (if b then SiteIndex ∷ Variable i ∷ columns is else Variable i ∷ columns is) - suc (length is) ≡ cond b (1 + (length (columns is) - length is)) (length (columns is) - length is)
+  go : (b : Bool) → length is ≤ length (columns is) → length (if b then SiteIndex ∷ Variable i ∷ columns is else Variable i ∷ columns is) - suc (length is)
+      ≡ cond b (1 + (length (columns is) - length is)) (length (columns is) - length is)
   go true h = omega (arith, h)
   go false h = omega (arith, h)
 
@@ -54,7 +59,7 @@ pub columns_length : (vars : List VarInfo) → length (columns vars) ≡ length 
 unfolding more_columns
 columns_length vars = let e = is_count_by more_columns starts_site refl one_more vars in omega (arith, e, columns_at_least vars)
 
--- a column without a fault, and those behind it
+-- a column without a fault, and those after it
 no_fault : (r : Result ℤ RowStop) (behind : Option RowStop) → fault_or r behind ≡ None → (z : ℤ) × (r ≡ Ok z) × (behind ≡ None)
 no_fault (Ok z) behind h = (z, refl, h)
 no_fault (Err e) behind h = absurd (cc)
@@ -71,19 +76,22 @@ number_within lo hi z (Some y) k h = go (int_le lo y && int_le y hi) refl h wher
   go false e f = absurd (cc)
 
 -- the indices are from 0 to 2^63 - 1
-pub indices_within : (cs : List Column) (fields : List (List ℕ)) (k : ℕ) → first_fault k cs fields ≡ None → All (λ z. (pos 0 ≤ℤ z) × (z ≤ℤ pos (2 ^ 63 - 1))) (indices cs fields)
+pub indices_within : (cs : List Column) (fields : List (List ℕ)) (k : ℕ) → first_fault k cs fields ≡ None
+    → All (λ z. (pos 0 ≤ℤ z) × (z ≤ℤ pos (2 ^ 63 - 1))) (indices cs fields)
 indices_within [] fields k h = All-nil _
 indices_within (c ∷ cs) [] k h = All-nil _
 indices_within (SiteIndex ∷ cs) (f ∷ fs) k h =
     let p = no_fault (in_column k (number_of SiteIndex f)) (first_fault (suc k) cs fs) h in
-    All-cons (λ z. (pos 0 ≤ℤ z) × (z ≤ℤ pos (2 ^ 63 - 1))) (said f) (indices cs fs) (number_within (pos 0) (pos (2 ^ 63 - 1)) p.0 (integer_value f) k p.1) (indices_within cs fs (suc k) p.2)
+    All-cons (λ z. (pos 0 ≤ℤ z) × (z ≤ℤ pos (2 ^ 63 - 1))) (said f) (indices cs fs)
+    (number_within (pos 0) (pos (2 ^ 63 - 1)) p.0 (integer_value f) k p.1) (indices_within cs fs (suc k) p.2)
 indices_within (Variable i ∷ cs) (f ∷ fs) k h = indices_within cs fs (suc k) (no_fault (in_column k (number_of (Variable i) f)) (first_fault (suc k) cs fs) h).2
 
--- the values of variables are in their ranges, where those behind are
+-- the values of variables are in their ranges, where those after it are
 Within : List VarInfo → Type 0
 Within is = (k : ℕ) (fs : List (List ℕ)) → length fs ≡ length (columns is) → first_fault k (columns is) fs ≡ None → AreWithin is (values (columns is) fs)
 
-value_within : (i : VarInfo) (is : List VarInfo) → Within is → (k : ℕ) (fs : List (List ℕ)) → length fs ≡ suc (length (columns is)) → first_fault k (Variable i ∷ columns is) fs ≡ None → AreWithin (i ∷ is) (values (Variable i ∷ columns is) fs)
+value_within : (i : VarInfo) (is : List VarInfo) → Within is → (k : ℕ) (fs : List (List ℕ)) → length fs ≡ suc (length (columns is))
+    → first_fault k (Variable i ∷ columns is) fs ≡ None → AreWithin (i ∷ is) (values (Variable i ∷ columns is) fs)
 unfolding Within
 value_within i is behind k [] size h = absurd (omega (arith, size))
 value_within i is behind k (f ∷ fs) size h =
@@ -91,27 +99,31 @@ value_within i is behind k (f ∷ fs) size h =
     let w = number_within i.lo i.hi p.0 (integer_value f) k p.1 in
     (w.0, w.1, behind (suc k) fs (omega (arith, size)) p.2)
 
-site_within : (i : VarInfo) (is : List VarInfo) → Within is → (k : ℕ) (fs : List (List ℕ)) → length fs ≡ suc (suc (length (columns is))) → first_fault k (SiteIndex ∷ Variable i ∷ columns is) fs ≡ None
+site_within : (i : VarInfo) (is : List VarInfo) → Within is → (k : ℕ) (fs : List (List ℕ)) → length fs ≡ suc (suc (length (columns is)))
+    → first_fault k (SiteIndex ∷ Variable i ∷ columns is) fs ≡ None
     → AreWithin (i ∷ is) (values (SiteIndex ∷ Variable i ∷ columns is) fs)
 site_within i is behind k [] size h = absurd (omega (arith, size))
 site_within i is behind k (f ∷ fs) size h =
-    value_within i is behind (suc k) fs (omega (arith, size)) (no_fault (in_column k (number_of SiteIndex f)) (first_fault (suc k) (Variable i ∷ columns is) fs) h).2
+    value_within i is behind (suc k) fs (omega (arith, size))
+    (no_fault (in_column k (number_of SiteIndex f)) (first_fault (suc k) (Variable i ∷ columns is) fs) h).2
 
 -- the values are in their ranges
 values_within : (vars : List VarInfo) → Within vars
 unfolding Within
 values_within [] k fs size h = tt
 values_within (i ∷ is) k fs size h = go (starts_site i) (values_within is) size h where
-  go : (b : Bool) → Within is → length fs ≡ length (if b then SiteIndex ∷ Variable i ∷ columns is else Variable i ∷ columns is) → first_fault k (if b then SiteIndex ∷ Variable i ∷ columns is else Variable i ∷ columns is) fs ≡ None
+  go : (b : Bool) → Within is → length fs ≡ length (if b then SiteIndex ∷ Variable i ∷ columns is else Variable i ∷ columns is)
+      → first_fault k (if b then SiteIndex ∷ Variable i ∷ columns is else Variable i ∷ columns is) fs ≡ None
       → AreWithin (i ∷ is) (values (if b then SiteIndex ∷ Variable i ∷ columns is else Variable i ∷ columns is) fs)
   go true w s e = site_within i is w k fs s e
   go false w s e = value_within i is w k fs s e
 
-values_within_at : (vars : List VarInfo) (k : ℕ) (fs : List (List ℕ)) → length fs ≡ length (columns vars) → first_fault k (columns vars) fs ≡ None → AreWithin vars (values (columns vars) fs)
+values_within_at : (vars : List VarInfo) (k : ℕ) (fs : List (List ℕ)) → length fs ≡ length (columns vars)
+    → first_fault k (columns vars) fs ≡ None → AreWithin vars (values (columns vars) fs)
 unfolding Within
 values_within_at vars k fs size h = values_within vars k fs size h
 
--- each column gives an index or a value
+-- each column has an index or a value
 all_said : (cs : List Column) (fields : List (List ℕ)) → length fields ≡ length cs → length (indices cs fields) + length (values cs fields) ≡ length cs
 all_said [] fields h = refl
 all_said (c ∷ cs) [] h = absurd (omega (arith, h))
@@ -153,12 +165,15 @@ none_differ : (zs : List ℤ) → first_equal zs ≡ None → AllPairs (λ y z. 
 none_differ zs h = subst (λ (o : Option ℕ). MatchOption o (AllPairs (λ y z. y ≢ z) zs) (λ k. IsFirstEqual zs k)) h (first_equal_is zs)
 
 -- what the columns say is in range, where no column has a fault and the indices differ
-said_in_range : (sites : ℕ) (vars : List VarInfo) (fields : List (List ℕ)) → Sizes sites vars → length fields ≡ length (columns vars) → first_fault 0 (columns vars) fields ≡ None → first_equal (take sites (indices (columns vars) fields)) ≡ None
+said_in_range : (sites : ℕ) (vars : List VarInfo) (fields : List (List ℕ)) → Sizes sites vars → length fields ≡ length (columns vars)
+    → first_fault 0 (columns vars) fields ≡ None → first_equal (take sites (indices (columns vars) fields)) ≡ None
     → InRange sites vars (record { index = take sites (indices (columns vars) fields); values = values (columns vars) fields })
 said_in_range sites vars fields s size fault differ =
     let w = values_within_at vars 0 fields size fault in
-    let n : length (indices (columns vars) fields) ≡ sites = omega (arith, all_said (columns vars) fields size, within_length vars (values (columns vars) fields) w, columns_length vars, s.counted) in
-    let whole : take sites (indices (columns vars) fields) ≡ indices (columns vars) fields = take_all sites (indices (columns vars) fields) (omega (arith, n)) in
+    let n : length (indices (columns vars) fields) ≡ sites =
+    omega (arith, all_said (columns vars) fields size, within_length vars (values (columns vars) fields) w, columns_length vars, s.counted) in
+    let whole : take sites (indices (columns vars) fields) ≡ indices (columns vars) fields =
+    take_all sites (indices (columns vars) fields) (omega (arith, n)) in
     record {
       size = ap length whole ∙ n;
       indices = rw whole (indices_within (columns vars) fields 0 fault);
@@ -167,7 +182,8 @@ said_in_range sites vars fields s size fault differ =
     }
 
 -- a row that a record says is in range
-pub row_in_range : (sites : ℕ) (vars : List VarInfo) (fields : List (List ℕ)) (r : Row) → is_laid_out sites vars ≡ true → read_row sites vars fields ≡ Ok r → InRange sites vars r
+pub row_in_range : (sites : ℕ) (vars : List VarInfo) (fields : List (List ℕ)) (r : Row) → is_laid_out sites vars ≡ true
+    → read_row sites vars fields ≡ Ok r → InRange sites vars r
 row_in_range sites vars fields r laid h =
     let p = is_row sites vars fields r h in
     subst (λ (q : Row). InRange sites vars q) p.is (said_in_range sites vars fields (sizes sites vars laid) p.size p.fault p.differ)

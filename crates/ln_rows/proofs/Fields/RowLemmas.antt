@@ -1,5 +1,7 @@
 -- Reading the columns from the left.
-use Rattle.std.proofs.Common.{◌≡◌, ◌≢◌, ℕ, zero, suc, ◌+◌, ◌-◌, ◌^◌, ◌<◌, ◌≤◌, Bool, true, false, ◌&&◌, List, [], ◌∷◌, ◌++◌, length, get_or, take, drop, set, ℤ, pos, Option, Some, None, Ok, Err, refl, ap, sym, subst, ◌∙◌, arith, add-one, drop-cons, append_assoc, get_or-set_other, replicate}
+use Rattle.std.proofs.Common.{◌≡◌, ◌≢◌, ℕ, zero, suc, ◌+◌, ◌-◌, ◌^◌, ◌<◌, ◌≤◌, Bool, true, false, ◌&&◌, List, [], ◌∷◌, ◌++◌, length, get_or}
+use Rattle.std.proofs.Common.{take, drop, set, ℤ, pos, Option, Some, None, Ok, Err, refl, ap, sym, subst, ◌∙◌, arith, add-one, drop-cons}
+use Rattle.std.proofs.Common.{append_assoc, get_or-set_other, replicate}
 use Rattle.std.specs.Prelude.{unwrap_or, int_le, if◌then◌else◌, OnErr, Result}
 use Rattle.std.proofs.lemmas.List.{take_more_set, append-nil, length-set, length-drop, length-take-le, drop_all}
 use Rattle.csv.specs.Records.{field_at}
@@ -13,7 +15,7 @@ use Rattle.ln_rows.specs.Record.{Column, SiteIndex, Variable, columns, number_of
 use Rattle.ln_rows.specs.declared.numbers.NumberStop.TheVariants as stop
 use Rattle.ln_rows.specs.declared.record.RowStop.{RowStop}
 
--- what has been read of the columns cs, where the field at `at` is next, and what is left
+-- what has been read of the columns cs, where the field at `at` is next, and what remains
 pub record Front (cs : List Column) (fields : List (List ℕ)) (at : ℕ) (left : List Column) (index value : List ℤ) : Type 0 where
   pub fault : first_fault at left (drop at fields) ≡ first_fault 0 cs fields
   pub indices : index ++ indices left (drop at fields) ≡ indices cs fields
@@ -24,7 +26,8 @@ pub front_none : (cs : List Column) (fields : List (List ℕ)) → Front cs fiel
 front_none cs fields = record { fault = refl; indices = refl; values = refl }
 
 -- a number within a range is what the field says
-said_by : (lo hi z : ℤ) (o : Option ℤ) (k : ℕ) (b : ℤ → Bool) → ((y : ℤ) → b y ≡ (int_le lo y && int_le y hi)) → in_column k (within lo hi o) ≡ Ok z → unwrap_or o (pos 0) ≡ z
+said_by : (lo hi z : ℤ) (o : Option ℤ) (k : ℕ) (b : ℤ → Bool) → ((y : ℤ) → b y ≡ (int_le lo y && int_le y hi))
+    → in_column k (within lo hi o) ≡ Ok z → unwrap_or o (pos 0) ≡ z
 said_by lo hi z None k b same h = absurd (cc)
 said_by lo hi z (Some y) k b same h = go (int_le lo y && int_le y hi) h where
   go : (t : Bool) → in_column k (if t then Ok y else Err stop.Range) ≡ Ok z → y ≡ z
@@ -35,7 +38,8 @@ pub said_is : (lo hi z : ℤ) (field : List ℕ) (k : ℕ) → in_column k (numb
 said_is lo hi z field k h = said_by lo hi z (integer_value field) k (λ y. int_le lo y && int_le y hi) (λ y. refl) h
 
 -- one more index
-pub front_index : (cs : List Column) (fields : List (List ℕ)) (at : ℕ) (left : List Column) (index value : List ℤ) (z : ℤ) → Front cs fields at (SiteIndex ∷ left) index value → at < length fields
+pub front_index : (cs : List Column) (fields : List (List ℕ)) (at : ℕ) (left : List Column) (index value : List ℤ) (z : ℤ)
+    → Front cs fields at (SiteIndex ∷ left) index value → at < length fields
     → in_column at (number_in (pos 0) (pos (2 ^ 63 - 1)) (get_or fields at [])) ≡ Ok z → Front cs fields (suc at) left (index ++ z ∷ []) value
 front_index cs fields at left index value z f h e =
     let says : said (get_or fields at []) ≡ z = said_is (pos 0) (pos (2 ^ 63 - 1)) z (get_or fields at []) at e in
@@ -46,7 +50,8 @@ front_index cs fields at left index value z f h e =
     }
 
 -- one more value
-pub front_value : (cs : List Column) (fields : List (List ℕ)) (at : ℕ) (i : VarInfo) (left : List Column) (index value : List ℤ) (z : ℤ) → Front cs fields at (Variable i ∷ left) index value → at < length fields
+pub front_value : (cs : List Column) (fields : List (List ℕ)) (at : ℕ) (i : VarInfo) (left : List Column) (index value : List ℤ) (z : ℤ)
+    → Front cs fields at (Variable i ∷ left) index value → at < length fields
     → in_column at (number_in i.lo i.hi (get_or fields at [])) ≡ Ok z → Front cs fields (suc at) left index (value ++ z ∷ [])
 front_value cs fields at i left index value z f h e =
     let says : said (get_or fields at []) ≡ z = said_is i.lo i.hi z (get_or fields at []) at e in
@@ -57,7 +62,8 @@ front_value cs fields at i left index value z f h e =
     }
 
 -- a column with a fault
-pub front_fault : (cs : List Column) (fields : List (List ℕ)) (at : ℕ) (c : Column) (left : List Column) (index value : List ℤ) (e : RowStop) → Front cs fields at (c ∷ left) index value → at < length fields
+pub front_fault : (cs : List Column) (fields : List (List ℕ)) (at : ℕ) (c : Column) (left : List Column) (index value : List ℤ) (e : RowStop)
+    → Front cs fields at (c ∷ left) index value → at < length fields
     → in_column at (number_of c (get_or fields at [])) ≡ Err e → first_fault 0 cs fields ≡ Some e
 front_fault cs fields at c left index value e f h k = sym f.fault ∙ rw (drop-cons fields at [], k) refl
 
@@ -80,7 +86,8 @@ pub record Filled (vars : List VarInfo) (fields : List (List ℕ)) (index0 value
   pub value_size : length value ≡ 168
 
 -- before any variable
-pub filled_none : (vars : List VarInfo) (fields : List (List ℕ)) (index value : List ℤ) → length index ≡ 5 → length value ≡ 168 → Filled vars fields index value 0 0 0 index value
+pub filled_none : (vars : List VarInfo) (fields : List (List ℕ)) (index value : List ℤ) → length index ≡ 5 → length value ≡ 168
+    → Filled vars fields index value 0 0 0 index value
 filled_none vars fields index value five all = record {
   front = front_none (columns vars) fields;
   size = omega arith;
@@ -105,18 +112,21 @@ abbrev pub var_at : List VarInfo → ℕ → VarInfo
 var_at vars v = get_or vars v no_var
 
 -- the columns from a site on
-pub at_site : (vars : List VarInfo) (v : ℕ) → v < length vars → starts_site (var_at vars v) ≡ true → columns (drop v vars) ≡ SiteIndex ∷ Variable (var_at vars v) ∷ columns (drop (suc v) vars)
+pub at_site : (vars : List VarInfo) (v : ℕ) → v < length vars → starts_site (var_at vars v) ≡ true
+    → columns (drop v vars) ≡ SiteIndex ∷ Variable (var_at vars v) ∷ columns (drop (suc v) vars)
 at_site vars v h e = rw (drop-cons vars v no_var, e) refl
 
 -- the columns from another variable on
-pub at_other : (vars : List VarInfo) (v : ℕ) → v < length vars → starts_site (var_at vars v) ≡ false → columns (drop v vars) ≡ Variable (var_at vars v) ∷ columns (drop (suc v) vars)
+pub at_other : (vars : List VarInfo) (v : ℕ) → v < length vars → starts_site (var_at vars v) ≡ false
+    → columns (drop v vars) ≡ Variable (var_at vars v) ∷ columns (drop (suc v) vars)
 at_other vars v h e = rw (drop-cons vars v no_var, e) refl
 
 behind_at_least : (vars : List VarInfo) (v : ℕ) → length vars ≤ v + length (columns (drop v vars))
 behind_at_least vars v = omega (arith, columns_at_least (drop v vars), length-drop v vars)
 
 -- there is a place for the index of a site
-pub site_fits : {vars : List VarInfo} {fields : List (List ℕ)} {index0 value0 : List ℤ} {v site at : ℕ} {index value : List ℤ} → Filled vars fields index0 value0 v site at index value → v < length vars → starts_site (var_at vars v) ≡ true
+pub site_fits : {vars : List VarInfo} {fields : List (List ℕ)} {index0 value0 : List ℤ} {v site at : ℕ} {index value : List ℤ}
+    → Filled vars fields index0 value0 v site at index value → v < length vars → starts_site (var_at vars v) ≡ true
     → length (columns vars) ≤ length vars + 5 → site < 5
 site_fits {vars = vars} {v = v} f h e few =
     let here = ap length (at_site vars v h e) in
@@ -126,19 +136,23 @@ two_more : (n : ℕ) → n + 2 ≡ suc (suc n)
 two_more n = omega arith
 
 -- the fields of a site and of its first coordinate are there
-pub site_room : {vars : List VarInfo} {fields : List (List ℕ)} {index0 value0 : List ℤ} {v site at : ℕ} {index value : List ℤ} → Filled vars fields index0 value0 v site at index value → v < length vars → starts_site (var_at vars v) ≡ true
+pub site_room : {vars : List VarInfo} {fields : List (List ℕ)} {index0 value0 : List ℤ} {v site at : ℕ} {index value : List ℤ}
+    → Filled vars fields index0 value0 v site at index value → v < length vars → starts_site (var_at vars v) ≡ true
     → length fields ≡ length (columns vars) → at + 1 < length fields
 site_room {vars = vars} {v = v} f h e size = let here = ap length (at_site vars v h e) in omega (arith, f.size, here, size)
 
 -- and that of another variable
-pub other_room : {vars : List VarInfo} {fields : List (List ℕ)} {index0 value0 : List ℤ} {v site at : ℕ} {index value : List ℤ} → Filled vars fields index0 value0 v site at index value → v < length vars → starts_site (var_at vars v) ≡ false
+pub other_room : {vars : List VarInfo} {fields : List (List ℕ)} {index0 value0 : List ℤ} {v site at : ℕ} {index value : List ℤ}
+    → Filled vars fields index0 value0 v site at index value → v < length vars → starts_site (var_at vars v) ≡ false
     → length fields ≡ length (columns vars) → at < length fields
 other_room {vars = vars} {v = v} f h e size = let here = ap length (at_other vars v h e) in omega (arith, f.size, here, size)
 
 -- one more site
-pub filled_site : {vars : List VarInfo} {fields : List (List ℕ)} {index0 value0 : List ℤ} {v site at : ℕ} {index value : List ℤ} (z y : ℤ) → Filled vars fields index0 value0 v site at index value → v < length vars → starts_site (var_at vars v) ≡ true
+pub filled_site : {vars : List VarInfo} {fields : List (List ℕ)} {index0 value0 : List ℤ} {v site at : ℕ} {index value : List ℤ} (z y : ℤ)
+    → Filled vars fields index0 value0 v site at index value → v < length vars → starts_site (var_at vars v) ≡ true
     → at + 1 < length fields → length vars ≤ 168 → length (columns vars) ≤ length vars + 5
-    → in_column at (number_in (pos 0) (pos (2 ^ 63 - 1)) (get_or fields at [])) ≡ Ok z → in_column (at + 1) (number_in (var_at vars v).lo (var_at vars v).hi (get_or fields (at + 1) [])) ≡ Ok y
+    → in_column at (number_in (pos 0) (pos (2 ^ 63 - 1)) (get_or fields at [])) ≡ Ok z
+    → in_column (at + 1) (number_in (var_at vars v).lo (var_at vars v).hi (get_or fields (at + 1) [])) ≡ Ok y
     → Filled vars fields index0 value0 (v + 1) (site + 1) (at + 2) (set index site z) (set value v y)
 filled_site {vars = vars} {fields = fields} {v = v} {site = site} {at = at} {index = index} {value = value} z y f h e room few five p q =
     let cols = at_site vars v h e in
@@ -146,7 +160,8 @@ filled_site {vars = vars} {fields = fields} {v = v} {site = site} {at = at} {ind
     let fits : site < 5 = site_fits f h e five in
     let in_index : site < length index = omega (arith, f.index_size, fits) in
     let in_value : v < length value = omega (arith, f.value_size, few, h) in
-    let one : Front (columns vars) fields at (SiteIndex ∷ Variable (var_at vars v) ∷ columns (drop (suc v) vars)) (take site index) (take v value) = rw cols at f.front in
+    let one : Front (columns vars) fields at (SiteIndex ∷ Variable (var_at vars v) ∷ columns (drop (suc v) vars)) (take site index)
+    (take v value) = rw cols at f.front in
     let two = front_index (columns vars) fields at _ _ _ z one (omega (arith, room)) p in
     let q2 : in_column (suc at) (number_in (var_at vars v).lo (var_at vars v).hi (get_or fields (suc at) [])) ≡ Ok y = rw (add-one at) at q in
     let three = front_value (columns vars) fields (suc at) _ _ _ _ y two (omega (arith, room)) q2 in
@@ -162,7 +177,8 @@ filled_site {vars = vars} {fields = fields} {v = v} {site = site} {at = at} {ind
     }
 
 -- one more variable that begins no site
-pub filled_other : {vars : List VarInfo} {fields : List (List ℕ)} {index0 value0 : List ℤ} {v site at : ℕ} {index value : List ℤ} (y : ℤ) → Filled vars fields index0 value0 v site at index value → v < length vars → starts_site (var_at vars v) ≡ false
+pub filled_other : {vars : List VarInfo} {fields : List (List ℕ)} {index0 value0 : List ℤ} {v site at : ℕ} {index value : List ℤ} (y : ℤ)
+    → Filled vars fields index0 value0 v site at index value → v < length vars → starts_site (var_at vars v) ≡ false
     → at < length fields → length vars ≤ 168 → in_column at (number_in (var_at vars v).lo (var_at vars v).hi (get_or fields at [])) ≡ Ok y
     → Filled vars fields index0 value0 (v + 1) site (at + 1) index (set value v y)
 filled_other {vars = vars} {fields = fields} {v = v} {site = site} {at = at} {index = index} {value = value} y f h e room few p =
@@ -182,21 +198,25 @@ filled_other {vars = vars} {fields = fields} {v = v} {site = site} {at = at} {in
       value_size = length-set value v y ∙ f.value_size;
     }
 
--- the fault of the value behind a site's index
-pub value_fault : {vars : List VarInfo} {fields : List (List ℕ)} {index0 value0 : List ℤ} {v site at : ℕ} {index value : List ℤ} (z : ℤ) (s : RowStop) → Filled vars fields index0 value0 v site at index value → v < length vars → starts_site (var_at vars v) ≡ true
+-- the fault of the value after a site's index
+pub value_fault : {vars : List VarInfo} {fields : List (List ℕ)} {index0 value0 : List ℤ} {v site at : ℕ} {index value : List ℤ} (z : ℤ)
+    (s : RowStop) → Filled vars fields index0 value0 v site at index value → v < length vars → starts_site (var_at vars v) ≡ true
     → length fields ≡ length (columns vars)
-    → in_column at (number_in (pos 0) (pos (2 ^ 63 - 1)) (get_or fields at [])) ≡ Ok z → in_column (at + 1) (number_in (var_at vars v).lo (var_at vars v).hi (get_or fields (at + 1) [])) ≡ Err s
+    → in_column at (number_in (pos 0) (pos (2 ^ 63 - 1)) (get_or fields at [])) ≡ Ok z
+    → in_column (at + 1) (number_in (var_at vars v).lo (var_at vars v).hi (get_or fields (at + 1) [])) ≡ Err s
     → first_fault 0 (columns vars) fields ≡ Some s
 value_fault {vars = vars} {fields = fields} {v = v} {site = site} {at = at} {index = index} {value = value} z s f h e size p q =
     let cols = at_site vars v h e in
     let here = ap length cols in
-    let one : Front (columns vars) fields at (SiteIndex ∷ Variable (var_at vars v) ∷ columns (drop (suc v) vars)) (take site index) (take v value) = rw cols at f.front in
+    let one : Front (columns vars) fields at (SiteIndex ∷ Variable (var_at vars v) ∷ columns (drop (suc v) vars)) (take site index)
+    (take v value) = rw cols at f.front in
     let two = front_index (columns vars) fields at _ _ _ z one (omega (arith, f.size, here, size)) p in
     let q2 : in_column (suc at) (number_in (var_at vars v).lo (var_at vars v).hi (get_or fields (suc at) [])) ≡ Err s = rw (add-one at) at q in
     front_fault (columns vars) fields (suc at) _ _ _ _ s two (omega (arith, f.size, here, size)) q2
 
 -- the fault of another variable
-pub other_fault : {vars : List VarInfo} {fields : List (List ℕ)} {index0 value0 : List ℤ} {v site at : ℕ} {index value : List ℤ} (s : RowStop) → Filled vars fields index0 value0 v site at index value → v < length vars → starts_site (var_at vars v) ≡ false
+pub other_fault : {vars : List VarInfo} {fields : List (List ℕ)} {index0 value0 : List ℤ} {v site at : ℕ} {index value : List ℤ} (s : RowStop)
+    → Filled vars fields index0 value0 v site at index value → v < length vars → starts_site (var_at vars v) ≡ false
     → length fields ≡ length (columns vars) → in_column at (number_in (var_at vars v).lo (var_at vars v).hi (get_or fields at [])) ≡ Err s
     → first_fault 0 (columns vars) fields ≡ Some s
 other_fault {vars = vars} {fields = fields} {v = v} {site = site} {at = at} {index = index} {value = value} s f h e size q =
@@ -205,8 +225,9 @@ other_fault {vars = vars} {fields = fields} {v = v} {site = site} {at = at} {ind
     let one : Front (columns vars) fields at (Variable (var_at vars v) ∷ columns (drop (suc v) vars)) (take site index) (take v value) = rw cols at f.front in
     front_fault (columns vars) fields at _ _ _ _ s one (omega (arith, f.size, here, size)) q
 
--- behind the last variable
-pub filled_all : {vars : List VarInfo} {fields : List (List ℕ)} {index0 value0 : List ℤ} {v site at : ℕ} {r : Row} → Filled vars fields index0 value0 v site at r.index r.values → length vars ≤ v → IsRead vars fields r
+-- after the last variable
+pub filled_all : {vars : List VarInfo} {fields : List (List ℕ)} {index0 value0 : List ℤ} {v site at : ℕ} {r : Row}
+    → Filled vars fields index0 value0 v site at r.index r.values → length vars ≤ v → IsRead vars fields r
 filled_all {vars = vars} {fields = fields} {v = v} {site = site} {at = at} {r = r} f h =
     let all : v ≡ length vars = omega (arith, f.within, h) in
     let none : drop v vars ≡ [] = rw (all, drop_all (length vars) vars (omega arith)) refl in
@@ -219,30 +240,37 @@ filled_all {vars = vars} {fields = fields} {v = v} {site = site} {at = at} {r = 
     }
 
 -- no more sites have been read than there are
-sites_below : {vars : List VarInfo} {fields : List (List ℕ)} {index0 value0 : List ℤ} {v site at : ℕ} {index value : List ℤ} → Filled vars fields index0 value0 v site at index value → site ≤ length (columns vars) - length vars
+sites_below : {vars : List VarInfo} {fields : List (List ℕ)} {index0 value0 : List ℤ} {v site at : ℕ} {index value : List ℤ}
+    → Filled vars fields index0 value0 v site at index value → site ≤ length (columns vars) - length vars
 sites_below {vars = vars} {v = v} f = omega (arith, f.size, f.places, behind_at_least vars v)
 
 -- and one more is there
-site_below : {vars : List VarInfo} {fields : List (List ℕ)} {index0 value0 : List ℤ} {v site at : ℕ} {index value : List ℤ} → Filled vars fields index0 value0 v site at index value → v < length vars → starts_site (var_at vars v) ≡ true → site < length (columns vars) - length vars
+site_below : {vars : List VarInfo} {fields : List (List ℕ)} {index0 value0 : List ℤ} {v site at : ℕ} {index value : List ℤ}
+    → Filled vars fields index0 value0 v site at index value → v < length vars → starts_site (var_at vars v) ≡ true → site < length (columns vars) - length vars
 site_below {vars = vars} {v = v} f h e = let here = ap length (at_site vars v h e) in omega (arith, f.size, f.places, here, behind_at_least vars (suc v))
 
 -- so what is past them stays
-pub filled_stays : {vars : List VarInfo} {fields : List (List ℕ)} {v site at : ℕ} (old new : Row) → Filled vars fields old.index old.values v site at new.index new.values → StaysPast (length (columns vars) - length vars) (length vars) old new
+pub filled_stays : {vars : List VarInfo} {fields : List (List ℕ)} {v site at : ℕ} (old new : Row)
+    → Filled vars fields old.index old.values v site at new.index new.values → StaysPast (length (columns vars) - length vars) (length vars) old new
 filled_stays {vars = vars} {v = v} {site = site} old new f = record {
   index = λ k h. let s = sites_below f in f.index_stays k (omega (arith, s, h));
   values = λ k h. f.value_stays k (omega (arith, f.within, h));
 }
 
 -- also where the index of one more site has been written
-pub index_stays_past : {vars : List VarInfo} {fields : List (List ℕ)} {v site at : ℕ} {index : List ℤ} (old new : Row) (z : ℤ) → Filled vars fields old.index old.values v site at index new.values → v < length vars → starts_site (var_at vars v) ≡ true
+pub index_stays_past : {vars : List VarInfo} {fields : List (List ℕ)} {v site at : ℕ} {index : List ℤ} (old new : Row) (z : ℤ)
+    → Filled vars fields old.index old.values v site at index new.values → v < length vars → starts_site (var_at vars v) ≡ true
     → new.index ≡ set index site z → StaysPast (length (columns vars) - length vars) (length vars) old new
 index_stays_past {vars = vars} {v = v} {site = site} {index = index} old new z f h e q = record {
-  index = λ k l. let s = site_below f h e in let ne : k ≢ site = omega (arith, s, l) in rw (q, get_or-set_other index site k z (pos 0) ne) (f.index_stays k (omega (arith, s, l)));
+  index = λ k l. let s = site_below f h e in
+      let ne : k ≢ site = omega (arith, s, l) in
+      rw (q, get_or-set_other index site k z (pos 0) ne) (f.index_stays k (omega (arith, s, l)));
   values = λ k l. f.value_stays k (omega (arith, f.within, l));
 }
 
--- of a predicate with so many sites
-pub stays_past : (sites : ℕ) (vars : List VarInfo) (old new : Row) → length (columns vars) ≡ length vars + sites → StaysPast (length (columns vars) - length vars) (length vars) old new → StaysPast sites (length vars) old new
+-- of a predicate with this many sites
+pub stays_past : (sites : ℕ) (vars : List VarInfo) (old new : Row) → length (columns vars) ≡ length vars + sites
+    → StaysPast (length (columns vars) - length vars) (length vars) old new → StaysPast sites (length vars) old new
 stays_past sites vars old new e s = let n : length (columns vars) - length vars ≡ sites = omega (arith, e) in subst (λ k. StaysPast k (length vars) old new) n s
 
 -- nothing has been written
@@ -289,7 +317,8 @@ begun_none vars fields r = record {
 }
 
 -- the columns before one with a fault
-pub begun_filled : {vars : List VarInfo} {fields : List (List ℕ)} {v site at : ℕ} (old new : Row) → Filled vars fields old.index old.values v site at new.index new.values
+pub begun_filled : {vars : List VarInfo} {fields : List (List ℕ)} {v site at : ℕ} (old new : Row)
+    → Filled vars fields old.index old.values v site at new.index new.values
     → length vars ≤ 168 → length (columns vars) ≤ length vars + 5 → IsBegun vars fields old new
 begun_filled {vars = vars} {v = v} {site = site} old new f few five =
     let s = sites_below f in
@@ -317,7 +346,8 @@ begun_site {vars = vars} {fields = fields} {v = v} {site = site} {at = at} {inde
     let here = ap length cols in
     let fits : site < 5 = site_fits f h e five in
     let in_index : site < length index = omega (arith, f.index_size, fits) in
-    let one : Front (columns vars) fields at (SiteIndex ∷ Variable (var_at vars v) ∷ columns (drop (suc v) vars)) (take site index) (take v new.values) = rw cols at f.front in
+    let one : Front (columns vars) fields at (SiteIndex ∷ Variable (var_at vars v) ∷ columns (drop (suc v) vars)) (take site index)
+    (take v new.values) = rw cols at f.front in
     let left = Variable (var_at vars v) ∷ columns (drop (suc v) vars) in
     let two : Front (columns vars) fields (suc at) left (take site index ++ z ∷ []) (take v new.values) =
     front_index (columns vars) fields at left _ _ z one (omega (arith, f.size, here, size)) p in
@@ -334,7 +364,8 @@ begun_site {vars = vars} {fields = fields} {v = v} {site = site} {at = at} {inde
     }
 
 -- all columns were read, and an index is that of an earlier site
-pub begun_read : (sites : ℕ) (vars : List VarInfo) (fields : List (List ℕ)) (old new : Row) → length (columns vars) ≡ length vars + sites → IsRead vars fields new
+pub begun_read : (sites : ℕ) (vars : List VarInfo) (fields : List (List ℕ)) (old new : Row) → length (columns vars) ≡ length vars + sites
+    → IsRead vars fields new
     → StaysPast (length (columns vars) - length vars) (length vars) old new → IsBegun vars fields old new
 begun_read sites vars fields old new e r s =
     let n : length (columns vars) - length vars ≡ sites = omega (arith, e) in

@@ -1,5 +1,6 @@
--- The first record of a text, and the records behind it.
-use Rattle.std.proofs.Common.{◌≡◌, ℕ, zero, suc, ◌+◌, ◌<◌, ◌≤◌, Bool, true, false, List, [], ◌∷◌, ◌++◌, length, Option, Some, None, refl, ap, sym, ◌∙◌, subst, arith, add-one, cond, inl, inr, length-append}
+-- The first record of a text, and the records after it.
+use Rattle.std.proofs.Common.{◌≡◌, ℕ, zero, suc, ◌+◌, ◌<◌, ◌≤◌, Bool, true, false, List, [], ◌∷◌, ◌++◌, length, Option, Some, None, refl}
+use Rattle.std.proofs.Common.{ap, sym, ◌∙◌, subst, arith, add-one, cond, inl, inr, length-append}
 use Rattle.std.specs.Prelude.{IfSome, ◌||◌, ◌==◌}
 use Rattle.csv.specs.Machine.{Read, next_record, step, start_field, is_end, fields_after, field_after, ends_at_end}
 use Rattle.csv.specs.Reading.{records_from, records_next, default_config}
@@ -9,7 +10,7 @@ use Rattle.csv.specs.declared.parser.Action.{Action}
 use Rattle.csv.specs.declared.parser.Action.TheVariants as act
 use Rattle.ln_rows.specs.Left.{Records, records_of, first_of, IsBetween, Gives}
 
--- behind a record fewer bytes are left, or none and the start of a record
+-- after a record fewer bytes remain, or none and the start of a record
 IsShorter : List ℕ → Read → Type 0
 IsShorter [] p = (p.1 ≡ st.StartRecord) × (p.2 ≡ [])
 IsShorter (c ∷ xs) p = length p.2 ≤ length xs
@@ -24,7 +25,8 @@ unfolding IsShorter
 no_longer [] p h = let e : length p.2 ≡ 0 = ap length h.1 in omega arith
 no_longer (c ∷ xs) p h = omega (arith, h)
 
-more : (b : Bool) (c : ℕ) (xs : List ℕ) (r : List (List ℕ)) (s : State) (o : Option Read) → IfSome o (λ p. IsShorter xs p) → IfSome (cond b (Some (r, s, xs)) o) (λ (p : Read). IsShorter (c ∷ xs) p)
+more : (b : Bool) (c : ℕ) (xs : List ℕ) (r : List (List ℕ)) (s : State) (o : Option Read) → IfSome o (λ p. IsShorter xs p)
+    → IfSome (cond b (Some (r, s, xs)) o) (λ (p : Read). IsShorter (c ∷ xs) p)
 unfolding IsShorter
 more true c xs r s o h = omega arith
 more false c xs r s None h = tt
@@ -42,8 +44,10 @@ unfolding records_from next_record
 at_end zero = refl
 at_end (suc n) = refl
 
--- any fuel above the number of the bytes gives the same records
-same_next : (m n : ℕ) (xs : List ℕ) (o : Option Read) → length xs ≤ m → length xs ≤ n → ((s : State) (ys : List ℕ) → length ys < m → length ys < n → records_from default_config m s ys ≡ records_from default_config n s ys) → IfSome o (λ p. IsShorter xs p)
+-- any fuel above the number of the bytes leads to the same records
+same_next : (m n : ℕ) (xs : List ℕ) (o : Option Read) → length xs ≤ m → length xs ≤ n
+    → ((s : State) (ys : List ℕ) → length ys < m → length ys < n → records_from default_config m s ys ≡ records_from default_config n s ys)
+    → IfSome o (λ p. IsShorter xs p)
     → records_next (records_from default_config m) o ≡ records_next (records_from default_config n) o
 unfolding IsShorter
 same_next m n xs None a b go h = refl
@@ -54,7 +58,8 @@ fuel : (m n : ℕ) (s : State) (xs : List ℕ) → length xs < m → length xs <
 unfolding records_from
 fuel zero n s xs a b = absurd (omega arith)
 fuel (suc m) zero s xs a b = absurd (omega arith)
-fuel (suc m) (suc n) s xs a b = same_next m n xs (next_record default_config s [] [] xs) (omega arith) (omega arith) (λ t ys c d. fuel m n t ys c d) (shorter s [] [] xs)
+fuel (suc m) (suc n) s xs a b =
+    same_next m n xs (next_record default_config s [] [] xs) (omega arith) (omega arith) (λ t ys c d. fuel m n t ys c d) (shorter s [] [] xs)
 
 next_left : (xs : List ℕ) (p : Read) → IsShorter xs p → records_from default_config (length xs) p.1 p.2 ≡ records_from default_config (length p.2 + 1) p.1 p.2
 unfolding IsShorter
@@ -65,8 +70,9 @@ next_left (c ∷ xs) p h = fuel (length (c ∷ xs)) (length p.2 + 1) p.1 p.2 (om
 abbrev next_by : State × Action → ℕ → List ℕ → Option Read
 next_by p c xs = cond (is_end p.1) (Some (fields_after p.1 [] [], p.0, xs)) (next_record default_config p.0 (fields_after p.1 [] []) (field_after p.1 c []) xs)
 
--- behind a return there stands a record's start, but for a line feed, which begins none
-by_feed : (x y : Bool) (c : ℕ) (xs : List ℕ) (o : State × Action) → next_by (cond x (st.StartRecord, act.Skip) (cond (y || x) (st.StartRecord, act.Skip) o)) c xs ≡ next_by (cond (y || x) (st.StartRecord, act.Skip) o) c xs
+-- a record begins after a return, but for a line feed, which begins none
+by_feed : (x y : Bool) (c : ℕ) (xs : List ℕ) (o : State × Action)
+    → next_by (cond x (st.StartRecord, act.Skip) (cond (y || x) (st.StartRecord, act.Skip) o)) c xs ≡ next_by (cond (y || x) (st.StartRecord, act.Skip) o) c xs
 by_feed true true c xs o = refl
 by_feed true false c xs o = refl
 by_feed false y c xs o = refl
@@ -85,11 +91,13 @@ records_between (suc n) s xs (inr e) = rw (e, behind_return xs) refl
 if_first : (o : Option Read) (p : Read) (P : Read → Type 0) → o ≡ Some p → IfSome o P → P p
 if_first o p P e h = subst (λ (q : Option Read). IfSome q P) e h
 
--- the first record from a state, and those of what is left behind it
-pub next_gives : (s : State) (xs : List ℕ) (p : Read) → next_record default_config s [] [] xs ≡ Some p → records_from default_config (length xs + 1) s xs ≡ p.0 ∷ records_from default_config (length p.2 + 1) p.1 p.2
+-- the first record from a state, and those of the rest after it
+pub next_gives : (s : State) (xs : List ℕ) (p : Read) → next_record default_config s [] [] xs ≡ Some p
+    → records_from default_config (length xs + 1) s xs ≡ p.0 ∷ records_from default_config (length p.2 + 1) p.1 p.2
 unfolding records_from
 next_gives s xs p e =
-    rw (add-one (length xs), e) (ap (λ (q : Records). p.0 ∷ q) (next_left xs p (if_first (next_record default_config s [] [] xs) p (λ q. IsShorter xs q) e (shorter s [] [] xs))))
+    rw (add-one (length xs), e)
+    (ap (λ (q : Records). p.0 ∷ q) (next_left xs p (if_first (next_record default_config s [] [] xs) p (λ q. IsShorter xs q) e (shorter s [] [] xs))))
 
 pub next_none : (s : State) (xs : List ℕ) → next_record default_config s [] [] xs ≡ None → records_from default_config (length xs + 1) s xs ≡ []
 unfolding records_from
@@ -97,7 +105,8 @@ next_none s xs e = rw (add-one (length xs), e) refl
 
 -- the first record of a text
 pub gives_records : (text : List ℕ) (fields : List (List ℕ)) (rest : List ℕ) → Gives text fields rest → records_of text ≡ fields ∷ records_of rest
-gives_records text fields rest g = next_gives st.StartRecord text (fields, g.state, rest) g.first ∙ ap (λ (q : Records). fields ∷ q) (records_between (length rest + 1) g.state rest g.between)
+gives_records text fields rest g = next_gives st.StartRecord text (fields, g.state, rest) g.first
+    ∙ ap (λ (q : Records). fields ∷ q) (records_between (length rest + 1) g.state rest g.between)
 
 -- no first record, no records
 pub none_records : (text : List ℕ) → first_of text ≡ None → records_of text ≡ []
@@ -111,35 +120,43 @@ same_first a b e = by (first_of b) refl where
   by (Some p) f = next_gives st.StartRecord a p (e ∙ f) ∙ sym (next_gives st.StartRecord b p f)
 
 -- a record has no more fields than the text has bytes, and one
-count : (s : State) (all : List (List ℕ)) (field xs : List ℕ) → IfSome (next_record default_config s all field xs) (λ p. length p.0 ≤ length all + length xs + 1)
+count : (s : State) (all : List (List ℕ)) (field xs : List ℕ)
+    → IfSome (next_record default_config s all field xs) (λ p. length p.0 ≤ length all + length xs + 1)
 unfolding next_record
 count s all field [] = at_last (ends_at_end s) where
   at_last : (b : Bool) → IfSome (cond b (Some (all ++ (field ∷ []), st.StartRecord, [])) None) (λ (p : Read). length p.0 ≤ length all + 0 + 1)
   at_last true = omega (arith, length-append all (field ∷ []))
   at_last false = tt
-count s all field (c ∷ xs) = by_end (is_end (step default_config s c).1) (count (step default_config s c).0 (fields_after (step default_config s c).1 all field) (field_after (step default_config s c).1 c field) xs) where
-  one_more : (a : Action) → length (fields_after a all field) ≤ length all + 1
-  one_more act.Skip = omega arith
-  one_more act.Copy = omega arith
-  one_more act.EndField = omega (arith, length-append all (field ∷ []))
-  one_more act.EndRecord = omega (arith, length-append all (field ∷ []))
+count s all field (c ∷ xs) = by_end (is_end (step default_config s c).1)
+    (count (step default_config s c).0 (fields_after (step default_config s c).1 all field) (field_after (step default_config s c).1 c field) xs)
+  where
+    one_more : (a : Action) → length (fields_after a all field) ≤ length all + 1
+    one_more act.Skip = omega arith
+    one_more act.Copy = omega arith
+    one_more act.EndField = omega (arith, length-append all (field ∷ []))
+    one_more act.EndRecord = omega (arith, length-append all (field ∷ []))
 
-  widen : (o : Option Read) → IfSome o (λ p. length p.0 ≤ length (fields_after (step default_config s c).1 all field) + length xs + 1) → IfSome o (λ p. length p.0 ≤ length all + suc (length xs) + 1)
-  widen None h = tt
-  widen (Some p) h = omega (arith, h, one_more (step default_config s c).1)
+    widen : (o : Option Read) → IfSome o (λ p. length p.0 ≤ length (fields_after (step default_config s c).1 all field) + length xs + 1)
+        → IfSome o (λ p. length p.0 ≤ length all + suc (length xs) + 1)
+    widen None h = tt
+    widen (Some p) h = omega (arith, h, one_more (step default_config s c).1)
 
-  by_end : (b : Bool) → IfSome (next_record default_config (step default_config s c).0 (fields_after (step default_config s c).1 all field) (field_after (step default_config s c).1 c field) xs) (λ p. length p.0 ≤ length (fields_after (step default_config s c).1 all field) + length xs + 1)
-      → IfSome (cond b (Some (fields_after (step default_config s c).1 all field, (step default_config s c).0, xs)) (next_record default_config (step default_config s c).0 (fields_after (step default_config s c).1 all field) (field_after (step default_config s c).1 c field) xs)) (λ (p : Read). length p.0 ≤ length all + suc (length xs) + 1)
-  by_end true h = omega (arith, one_more (step default_config s c).1)
-  by_end false h = widen _ h
+    by_end : (b : Bool) → IfSome (next_record default_config (step default_config s c).0 (fields_after (step default_config s c).1 all field)
+        (field_after (step default_config s c).1 c field) xs) (λ p. length p.0 ≤ length (fields_after (step default_config s c).1 all field) + length xs + 1)
+        → IfSome (cond b (Some (fields_after (step default_config s c).1 all field, (step default_config s c).0, xs)) (next_record default_config
+        (step default_config s c).0 (fields_after (step default_config s c).1 all field) (field_after (step default_config s c).1 c field) xs))
+        (λ (p : Read). length p.0 ≤ length all + suc (length xs) + 1)
+    by_end true h = omega (arith, one_more (step default_config s c).1)
+    by_end false h = widen _ h
 
 pub few_fields : (text : List ℕ) (fields : List (List ℕ)) (rest : List ℕ) → Gives text fields rest → length fields ≤ length text + 1
 few_fields text fields rest g =
     let p : Read = (fields, g.state, rest) in
-    let few : length fields ≤ 0 + length text + 1 = if_first (first_of text) p (λ q. length q.0 ≤ 0 + length text + 1) g.first (count st.StartRecord [] [] text) in
+    let few : length fields ≤ 0 + length text + 1 =
+    if_first (first_of text) p (λ q. length q.0 ≤ 0 + length text + 1) g.first (count st.StartRecord [] [] text) in
     omega (arith, few)
 
--- line ends in front of a record count for nothing
+-- line ends before a record count for nothing
 pub past_feed : (xs : List ℕ) → first_of (10 ∷ xs) ≡ first_of xs
 unfolding next_record
 past_feed xs = refl

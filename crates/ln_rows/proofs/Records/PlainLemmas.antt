@@ -1,5 +1,7 @@
 -- Fields that are plain numbers, in csv's machine.
-use Rattle.std.proofs.Common.{◌≡◌, ◌≢◌, ℕ, zero, suc, ◌+◌, ◌-◌, ◌*◌, ◌^◌, ◌<◌, ◌≤◌, nat_lt, Bool, true, false, ◌&&◌, List, [], ◌∷◌, ◌++◌, length, take, drop, get_or, ℤ, pos, neg_ℤ, Option, Some, None, Ok, refl, ap, sym, ◌∙◌, subst, arith, cond, inl, inr, append_assoc, ne_eqb, lt-ltb, true≢false}
+use Rattle.std.proofs.Common.{◌≡◌, ◌≢◌, ℕ, zero, suc, ◌+◌, ◌-◌, ◌*◌, ◌^◌, ◌<◌, ◌≤◌, nat_lt, Bool, true, false, ◌&&◌, List, [], ◌∷◌, ◌++◌}
+use Rattle.std.proofs.Common.{length, take, drop, get_or, ℤ, pos, neg_ℤ, Option, Some, None, Ok, refl, ap, sym, ◌∙◌, subst, arith, cond}
+use Rattle.std.proofs.Common.{inl, inr, append_assoc, ne_eqb, lt-ltb, true≢false}
 use Rattle.std.specs.Prelude.{◌||◌, ◌==◌, ◌⊎◌, option_map, IfSome}
 use Rattle.std.specs.List.{list_all}
 use Rattle.std.specs.Char.{is_ascii_digit}
@@ -29,7 +31,8 @@ abbrev does : State → Action → State × Action
 does s a = (s, a)
 
 -- an inner byte joins its field
-copies : (comma feed_ return_ : Bool) (t : State) → comma ≡ false → feed_ ≡ false → return_ ≡ false → cond comma (does st.StartField act.EndField) (cond (return_ || feed_) (does t act.EndRecord) (does st.InField act.Copy)) ≡ (does st.InField act.Copy)
+copies : (comma feed_ return_ : Bool) (t : State) → comma ≡ false → feed_ ≡ false → return_ ≡ false
+    → cond comma (does st.StartField act.EndField) (cond (return_ || feed_) (does t act.EndRecord) (does st.InField act.Copy)) ≡ (does st.InField act.Copy)
 copies false false false t e f g = refl
 copies true y z t e f g = absurd (true≢false e)
 copies false true z t e f g = absurd (true≢false f)
@@ -39,7 +42,8 @@ inner_step : (b : ℕ) → IsInner b → step default_config st.InField b ≡ (d
 inner_step b h = copies (b == 44) (b == 10) (b == 13) _ (ne_eqb b 44 h.comma) (ne_eqb b 10 h.feed) (ne_eqb b 13 h.return_)
 
 begins_copy : (comma quote feed_ return_ : Bool) (t : State) → comma ≡ false → quote ≡ false → feed_ ≡ false → return_ ≡ false
-    → cond (return_ || feed_) (does st.StartRecord act.Skip) (cond quote (does st.InQuoted act.Skip) (cond comma (does st.StartField act.EndField) (cond (return_ || feed_) (does t act.EndRecord) (does st.InField act.Copy)))) ≡ (does st.InField act.Copy)
+    → cond (return_ || feed_) (does st.StartRecord act.Skip) (cond quote (does st.InQuoted act.Skip)
+    (cond comma (does st.StartField act.EndField) (cond (return_ || feed_) (does t act.EndRecord) (does st.InField act.Copy)))) ≡ (does st.InField act.Copy)
 begins_copy false false false false t e f g h = refl
 begins_copy true q y z t e f g h = absurd (true≢false e)
 begins_copy false true y z t e f g h = absurd (true≢false f)
@@ -50,7 +54,8 @@ record_step : (b : ℕ) → IsInner b → step default_config st.StartRecord b �
 record_step b h = begins_copy (b == 44) (b == 34) (b == 10) (b == 13) _ (ne_eqb b 44 h.comma) (ne_eqb b 34 h.quote) (ne_eqb b 10 h.feed) (ne_eqb b 13 h.return_)
 
 field_copy : (comma quote feed_ return_ : Bool) (t : State) → comma ≡ false → quote ≡ false → feed_ ≡ false → return_ ≡ false
-    → cond quote (does st.InQuoted act.Skip) (cond comma (does st.StartField act.EndField) (cond (return_ || feed_) (does t act.EndRecord) (does st.InField act.Copy))) ≡ (does st.InField act.Copy)
+    → cond quote (does st.InQuoted act.Skip)
+    (cond comma (does st.StartField act.EndField) (cond (return_ || feed_) (does t act.EndRecord) (does st.InField act.Copy))) ≡ (does st.InField act.Copy)
 field_copy false false false false t e f g h = refl
 field_copy true q y z t e f g h = absurd (true≢false e)
 field_copy false true y z t e f g h = absurd (true≢false f)
@@ -64,22 +69,29 @@ fresh_step : (s : State) (b : ℕ) → IsFresh s → IsInner b → step default_
 fresh_step s b (inl e) h = ap (λ (t : State). step default_config t b) e ∙ record_step b h
 fresh_step s b (inr e) h = ap (λ (t : State). step default_config t b) e ∙ field_step b h
 
-copy_goes : (s : State) (b : ℕ) (all : List (List ℕ)) (field xs : List ℕ) → step default_config s b ≡ does st.InField act.Copy → next_record default_config s all field (b ∷ xs) ≡ next_record default_config st.InField all (field ++ b ∷ []) xs
+copy_goes : (s : State) (b : ℕ) (all : List (List ℕ)) (field xs : List ℕ) → step default_config s b ≡ does st.InField act.Copy
+    → next_record default_config s all field (b ∷ xs) ≡ next_record default_config st.InField all (field ++ b ∷ []) xs
 copy_goes s b all field xs e = moves s st.InField act.Copy b all field xs (ap (λ (p : State × Action). p.0) e) (ap (λ (p : State × Action). p.1) e) refl
 
-inner_goes : (all : List (List ℕ)) (field bs rest : List ℕ) → AreInner bs → next_record default_config st.InField all field (bs ++ rest) ≡ next_record default_config st.InField all (field ++ bs) rest
+inner_goes : (all : List (List ℕ)) (field bs rest : List ℕ) → AreInner bs
+    → next_record default_config st.InField all field (bs ++ rest) ≡ next_record default_config st.InField all (field ++ bs) rest
 inner_goes all field [] rest h = ap (λ (f : List ℕ). next_record default_config st.InField all f rest) (sym (append-nil field))
 inner_goes all field (b ∷ bs) rest h =
-    copy_goes st.InField b all field (bs ++ rest) (inner_step b h.0) ∙ inner_goes all (field ++ b ∷ []) bs rest h.1 ∙ ap (λ (f : List ℕ). next_record default_config st.InField all f rest) (append_assoc field (b ∷ []) bs)
+    copy_goes st.InField b all field (bs ++ rest) (inner_step b h.0) ∙ inner_goes all (field ++ b ∷ []) bs rest h.1
+    ∙ ap (λ (f : List ℕ). next_record default_config st.InField all f rest) (append_assoc field (b ∷ []) bs)
 
--- behind a field of such bytes it is at hand
-pub number_goes : (s : State) (all : List (List ℕ)) (text rest : List ℕ) (lo hi z : ℤ) → IsFresh s → (h : HasNumber text lo hi z rest) → next_record default_config s all [] text ≡ next_record default_config st.InField all (h.first ∷ h.others) rest
+-- after a field of such bytes it is at hand
+pub number_goes : (s : State) (all : List (List ℕ)) (text rest : List ℕ) (lo hi z : ℤ) → IsFresh s → (h : HasNumber text lo hi z rest)
+    → next_record default_config s all [] text ≡ next_record default_config st.InField all (h.first ∷ h.others) rest
 number_goes s all text rest lo hi z f h =
-    ap (next_record default_config s all []) h.is ∙ copy_goes s h.first all [] (h.others ++ rest) (fresh_step s h.first f h.inner.0) ∙ inner_goes all (h.first ∷ []) h.others rest h.inner.1
+    ap (next_record default_config s all []) h.is ∙ copy_goes s h.first all [] (h.others ++ rest) (fresh_step s h.first f h.inner.0)
+    ∙ inner_goes all (h.first ∷ []) h.others rest h.inner.1
 
 -- a comma ends it
-pub comma_goes : (all : List (List ℕ)) (field text rest : List ℕ) → text ≡ 44 ∷ rest → next_record default_config st.InField all field text ≡ next_record default_config st.StartField (all ++ field ∷ []) [] rest
-comma_goes all field text rest e = ap (next_record default_config st.InField all field) e ∙ moves st.InField st.StartField act.EndField 44 all field rest refl refl refl
+pub comma_goes : (all : List (List ℕ)) (field text rest : List ℕ) → text ≡ 44 ∷ rest
+    → next_record default_config st.InField all field text ≡ next_record default_config st.StartField (all ++ field ∷ []) [] rest
+comma_goes all field text rest e =
+    ap (next_record default_config st.InField all field) e ∙ moves st.InField st.StartField act.EndField 44 all field rest refl refl refl
 
 -- and so does the end of the record
 pub record EndsWith (all : List (List ℕ)) (field text rest : List ℕ) : Type 0 where
@@ -88,15 +100,24 @@ pub record EndsWith (all : List (List ℕ)) (field text rest : List ℕ) : Type 
   pub ends : next_record default_config st.InField all field text ≡ Some (all ++ field ∷ [], state, rest)
 
 pub end_goes : (all : List (List ℕ)) (field text rest : List ℕ) → PastEnd text rest → EndsWith all field text rest
-end_goes all field text rest (inl (inl e)) = record { state = st.StartRecord; between = inl refl; ends = ap (next_record default_config st.InField all field) e ∙ comes_out st.InField act.EndRecord 10 all field rest refl refl }
-end_goes all field text rest (inl (inr e)) = record { state = st.AfterCr; between = inr refl; ends = ap (next_record default_config st.InField all field) e ∙ comes_out st.InField act.EndRecord 13 all field rest refl refl }
+end_goes all field text rest (inl (inl e)) = record {
+  state = st.StartRecord;
+  between = inl refl;
+  ends = ap (next_record default_config st.InField all field) e ∙ comes_out st.InField act.EndRecord 10 all field rest refl refl;
+}
+end_goes all field text rest (inl (inr e)) = record {
+  state = st.AfterCr;
+  between = inr refl;
+  ends = ap (next_record default_config st.InField all field) e ∙ comes_out st.InField act.EndRecord 13 all field rest refl refl;
+}
 end_goes all field text rest (inr (e, f)) = record {
   state = st.StartRecord;
   between = inl refl;
-  ends = ap (next_record default_config st.InField all field) e ∙ at_end st.InField all field ∙ ap (λ (r : List ℕ). Some (all ++ field ∷ [], st.StartRecord, r)) (sym f);
+  ends = ap (next_record default_config st.InField all field) e ∙ at_end st.InField all field
+      ∙ ap (λ (r : List ℕ). Some (all ++ field ∷ [], st.StartRecord, r)) (sym f);
 }
 
--- line ends in front of a record count for nothing
+-- line ends before a record count for nothing
 pub past_line : (text rest : List ℕ) → PastFeed text rest → first_of text ≡ first_of rest
 past_line text rest (inl e) = ap first_of e ∙ past_feed rest
 past_line text rest (inr e) = ap first_of e ∙ past_return rest
@@ -127,28 +148,33 @@ minus_value d ds h = ap (λ b. option_map (λ n. neg_ℤ (pos n)) (cond b (Some 
 
 -- the number of one or more digits, with a minus or without
 pub signed_number : (text from : List ℕ) (lo hi z : ℤ) (rest : List ℕ) → text ≡ 45 ∷ from → HasSigned true from lo hi z rest → HasNumber text lo hi z rest
-signed_number text from lo hi z rest e h = by_digits h.digits.digits h.digits.is h.digits.all (ap (λ n. within lo hi (Some (neg_ℤ (pos n)))) (sym h.digits.value) ∙ h.says) where
-  by_digits : (ds : List ℕ) → from ≡ ds ++ rest → list_all is_ascii_digit ds ≡ true → within lo hi (Some (neg_ℤ (pos (decimal_value ds)))) ≡ Ok z → HasNumber text lo hi z rest
-  by_digits [] i a s = absurd (h.some (ap length (sym i)))
-  by_digits (d ∷ ds) i a s = record {
-    first = 45;
-    others = d ∷ ds;
-    is = e ∙ ap (λ (r : List ℕ). 45 ∷ r) i;
-    inner = (minus_inner, digits_inner (d ∷ ds) a);
-    says = ap (within lo hi) (minus_value d ds (some_digits d ds a)) ∙ s;
-  }
+signed_number text from lo hi z rest e h =
+    by_digits h.digits.digits h.digits.is h.digits.all (ap (λ n. within lo hi (Some (neg_ℤ (pos n)))) (sym h.digits.value) ∙ h.says)
+  where
+    by_digits : (ds : List ℕ) → from ≡ ds ++ rest → list_all is_ascii_digit ds ≡ true
+        → within lo hi (Some (neg_ℤ (pos (decimal_value ds)))) ≡ Ok z → HasNumber text lo hi z rest
+    by_digits [] i a s = absurd (h.some (ap length (sym i)))
+    by_digits (d ∷ ds) i a s = record {
+      first = 45;
+      others = d ∷ ds;
+      is = e ∙ ap (λ (r : List ℕ). 45 ∷ r) i;
+      inner = (minus_inner, digits_inner (d ∷ ds) a);
+      says = ap (within lo hi) (minus_value d ds (some_digits d ds a)) ∙ s;
+    }
 
 pub plain_number : (text : List ℕ) (lo hi z : ℤ) (rest : List ℕ) → HasSigned false text lo hi z rest → HasNumber text lo hi z rest
-plain_number text lo hi z rest h = by_digits h.digits.digits h.digits.is h.digits.all (ap (λ n. within lo hi (Some (pos n))) (sym h.digits.value) ∙ h.says) where
-  by_digits : (ds : List ℕ) → text ≡ ds ++ rest → list_all is_ascii_digit ds ≡ true → within lo hi (Some (pos (decimal_value ds))) ≡ Ok z → HasNumber text lo hi z rest
-  by_digits [] i a s = absurd (h.some (ap length (sym i)))
-  by_digits (d ∷ ds) i a s = record {
-    first = d;
-    others = ds;
-    is = i;
-    inner = digits_inner (d ∷ ds) a;
-    says = ap (within lo hi) (digits_alone (d ∷ ds) (some_digits d ds a)) ∙ s;
-  }
+plain_number text lo hi z rest h = by_digits h.digits.digits h.digits.is h.digits.all (ap (λ n. within lo hi (Some (pos n))) (sym h.digits.value) ∙ h.says)
+  where
+    by_digits : (ds : List ℕ) → text ≡ ds ++ rest → list_all is_ascii_digit ds ≡ true → within lo hi (Some (pos (decimal_value ds))) ≡ Ok z
+        → HasNumber text lo hi z rest
+    by_digits [] i a s = absurd (h.some (ap length (sym i)))
+    by_digits (d ∷ ds) i a s = record {
+      first = d;
+      others = ds;
+      is = i;
+      inner = digits_inner (d ∷ ds) a;
+      says = ap (within lo hi) (digits_alone (d ∷ ds) (some_digits d ds a)) ∙ s;
+    }
 
 -- how far digits have been read
 pub record Read (text : List ℕ) (most at n : ℕ) : Type 0 where
@@ -190,7 +216,8 @@ read_small text most at n r =
     let wide : 10 ^ at ≤ 10 ^ 18 = pow-le-pow_right ten most_ in
     omega (arith, below, wide)
 
-pub read_more : (text : List ℕ) (most at n d : ℕ) → Read text most at n → at < most → is_ascii_digit (get_or text at 0) ≡ true → d ≡ get_or text at 0 - 48 → Read text most (at + 1) (n * 10 + d)
+pub read_more : (text : List ℕ) (most at n d : ℕ) → Read text most at n → at < most → is_ascii_digit (get_or text at 0) ≡ true
+    → d ≡ get_or text at 0 - 48 → Read text most (at + 1) (n * 10 + d)
 read_more text most at n d r l h e =
     let inside : at < length text = omega (arith, l, r.inside) in
     record {

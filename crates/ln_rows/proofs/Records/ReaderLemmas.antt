@@ -1,10 +1,13 @@
 -- Records by csv's own reader.
-use Rattle.std.proofs.Common.{◌≡◌, ℕ, ◌+◌, ◌<◌, ◌≤◌, ◌^◌, min, cond, arith, Bool, true, false, List, [], ◌∷◌, ◌++◌, length, take, Option, Some, None, refl, ap, sym, ◌∙◌, inl, inr, true≢false, subst}
+use Rattle.std.proofs.Common.{◌≡◌, ℕ, ◌+◌, ◌<◌, ◌≤◌, ◌^◌, min, cond, arith, Bool, true, false, List, [], ◌∷◌, length, take, Option, Some}
+use Rattle.std.proofs.Common.{None, refl, ap, sym, ◌∙◌, inl, inr, true≢false, subst}
 use Rattle.std.specs.Prelude.{◌⊎◌, IsSome, option_map, unwrap_or, Result, Ok, Err}
 use Rattle.std.proofs.lemmas.Bool.{cases_lt}
 use Rattle.std.proofs.lemmas.List.{take_all}
 use Rattle.csv.specs.Machine.{Read, next_record}
-use Rattle.csv.specs.Reading.{default_config, strip_bom, records_from, source_of, reader_config, reader_trim, reader_state, reader_headers, names_headers, took_first, has_failed, is_flexible, Ready, ReadsNext, ExplainsRead, stops_reader, pending_of, reader_source, ChangesHeaders, ReadRecord, Reached}
+use Rattle.csv.specs.Reading.{default_config, strip_bom, records_from, source_of, reader_config, reader_trim, reader_state, reader_headers}
+use Rattle.csv.specs.Reading.{names_headers, took_first, has_failed, is_flexible, Ready, ReadsNext, ExplainsRead, stops_reader, pending_of}
+use Rattle.csv.specs.Reading.{reader_source, ChangesHeaders, ReadRecord, Reached}
 use Rattle.csv.specs.declared.parser.Config.{Config}
 use Rattle.csv.specs.declared.parser.State.{State}
 use Rattle.csv.specs.declared.parser.State.TheVariants as st
@@ -13,7 +16,7 @@ use Rattle.csv.specs.declared.error.ErrorKind.{ErrorKind}
 use Rattle.csv.specs.declared.error.ErrorKind.TheVariants as kind
 use Rattle.csv.specs.declared.reader.Trim.TheVariants as trim
 use Rattle.csv.proofs.ReadFacts.{rows-more, rows-end}
-use Rattle.ln_rows.specs.Left.{Records, records_of, Source, bytes_of, reader_bytes, reader_records, IsReading, MayRead, TakesFirst, TakesWithin}
+use Rattle.ln_rows.specs.Left.{Records, records_of, Source, bytes_of, reader_bytes, reader_records, IsReading, MayRead, TakesWithin}
 use Rattle.ln_rows.proofs.Records.FirstLemmas.{next_gives, next_none, past_feed, same_first}
 
 -- a line end before a text hides a byte order mark
@@ -24,14 +27,17 @@ behind_end (b ∷ []) = refl
 behind_end (b ∷ c ∷ rest) = refl
 
 -- a reader's records, where its bytes are known
-records_known : (r : Reader Source) (bytes : List ℕ) → has_failed r ≡ false → source_of bytes_of r ≡ Some bytes → reader_records r ≡ records_from default_config (length bytes + 1) (reader_state r) bytes
+records_known : (r : Reader Source) (bytes : List ℕ) → has_failed r ≡ false → source_of bytes_of r ≡ Some bytes
+    → reader_records r ≡ records_from default_config (length bytes + 1) (reader_state r) bytes
 records_known r bytes f e =
     ap (λ (b : Bool). cond b [] (records_from default_config (length (reader_bytes r) + 1) (reader_state r) (reader_bytes r))) f
     ∙ ap (λ (o : Option (List ℕ)). records_from default_config (length (unwrap_or o []) + 1) (reader_state r) (unwrap_or o [])) e
 
--- a reader that is made over a text, behind a line end, with an empty header
-pub reader_begins : (a b : Reader Source) (bytes : List ℕ) → reader_config a ≡ default_config → reader_trim a ≡ trim.None → is_flexible a ≡ true → names_headers a ≡ true → reader_state a ≡ st.StartRecord → has_failed a ≡ false
-    → source_of bytes_of a ≡ option_map strip_bom (Some (10 ∷ bytes)) → ChangesHeaders a b → IsSome (reader_headers b) → MayRead b × (reader_records b ≡ records_of bytes)
+-- a reader that is made over a text, after a line end, with an empty header
+pub reader_begins : (a b : Reader Source) (bytes : List ℕ) → reader_config a ≡ default_config → reader_trim a ≡ trim.None
+    → is_flexible a ≡ true → names_headers a ≡ true → reader_state a ≡ st.StartRecord → has_failed a ≡ false
+    → source_of bytes_of a ≡ option_map strip_bom (Some (10 ∷ bytes)) → ChangesHeaders a b → IsSome (reader_headers b)
+    → MayRead b × (reader_records b ≡ records_of bytes)
 reader_begins a b bytes config plain flexible named state failed source changes set =
     let known : source_of bytes_of b ≡ Some (10 ∷ bytes) = ap (source_of bytes_of) changes ∙ source ∙ ap (λ (xs : List ℕ). Some xs) (behind_end bytes) in
     let at_start : reader_state b ≡ st.StartRecord = ap reader_state changes ∙ state in
@@ -44,11 +50,13 @@ reader_begins a b bytes config plain flexible named state failed source changes 
         bytes = 10 ∷ bytes;
         known = known;
       },
-      records_known b (10 ∷ bytes) good known ∙ ap (λ (s : State). records_from default_config (length (10 ∷ bytes) + 1) s (10 ∷ bytes)) at_start ∙ same_first (10 ∷ bytes) bytes (past_feed bytes),
+      records_known b (10 ∷ bytes) good known ∙ ap (λ (s : State). records_from default_config (length (10 ∷ bytes) + 1) s (10 ∷ bytes)) at_start
+          ∙ same_first (10 ∷ bytes) bytes (past_feed bytes),
     )
 
 -- a record was read
-reader_takes : (old new : Reader Source) (fields : List (List ℕ)) → IsReading old → has_failed old ≡ false → has_failed new ≡ false → is_flexible new ≡ is_flexible old → ReadRecord bytes_of old new true fields → took_first new ≡ true
+reader_takes : (old new : Reader Source) (fields : List (List ℕ)) → IsReading old → has_failed old ≡ false → has_failed new ≡ false
+    → is_flexible new ≡ is_flexible old → ReadRecord bytes_of old new true fields → took_first new ≡ true
     → IsReading new × (reader_records old ≡ fields ∷ reader_records new)
 unfolding Reached
 reader_takes old new fields h good good2 flexible r first =
@@ -67,7 +75,8 @@ reader_takes old new fields h good good2 flexible r first =
     )
 
 -- there was none, and the bytes are still known
-known_after : (a : Option Read) (xs : List ℕ) (k : Option (List ℕ)) (c : Config) (s t : State) (found : Bool) (fields : List (List ℕ)) → ReadsNext c s (Some xs) k found fields t → (ys : List ℕ) × (k ≡ Some ys)
+known_after : (a : Option Read) (xs : List ℕ) (k : Option (List ℕ)) (c : Config) (s t : State) (found : Bool) (fields : List (List ℕ))
+    → ReadsNext c s (Some xs) k found fields t → (ys : List ℕ) × (k ≡ Some ys)
 known_after a xs None c s t found fields h = absurd h
 known_after a xs (Some ys) c s t found fields h = (ys, refl)
 
@@ -79,12 +88,16 @@ take_min : (fields : List (List ℕ)) (most : ℕ) → take (min (length fields)
 take_min fields most = by (cases_lt most (length fields)) where
   by : (most < length fields) ⊎ (length fields ≤ most) → take (min (length fields) most) fields ≡ take most fields
   by (inl h) = let e : min (length fields) most ≡ most = omega (arith, h) in ap (λ (n : ℕ). take n fields) e
-  by (inr h) = let m : length fields ≤ min (length fields) most = omega (arith, h) in take_all (min (length fields) most) fields m ∙ sym (take_all most fields h)
+  by (inr h) =
+      let m : length fields ≤ min (length fields) most = omega (arith, h) in
+      take_all (min (length fields) most) fields m ∙ sym (take_all most fields h)
 
 -- what a read without an error does
-pub reader_steps : (most : ℕ) (old new : Reader Source) (found : Bool) (fields kept : List (List ℕ)) (count : ℕ) → MayRead old → (has_failed old ≡ true → found ≡ false) → has_failed new ≡ has_failed old → is_flexible new ≡ is_flexible old
+pub reader_steps : (most : ℕ) (old new : Reader Source) (found : Bool) (fields kept : List (List ℕ)) (count : ℕ) → MayRead old
+    → (has_failed old ≡ true → found ≡ false) → has_failed new ≡ has_failed old → is_flexible new ≡ is_flexible old
     → (reader_trim old ≡ trim.None → Ready old → ReadRecord bytes_of old new found fields) → (reader_trim old ≡ trim.None → took_first new ≡ true)
-    → kept ≡ take count fields → count ≡ min (length fields) most → length fields < 2 ^ 64 → MayRead new × TakesWithin most found (reader_records old) (reader_records new) kept
+    → kept ≡ take count fields → count ≡ min (length fields) most → length fields < 2 ^ 64
+    → MayRead new × TakesWithin most found (reader_records old) (reader_records new) kept
 reader_steps most old new found fields kept count may failed goes flexible reads first cut few small = by_failed (has_failed old) refl where
   step : Bool → Type 0
   step b = MayRead new × TakesWithin most b (reader_records old) (reader_records new) kept
@@ -97,9 +110,18 @@ reader_steps most old new found fields kept count may failed goes flexible reads
       let t = reader_takes old new fields h good (goes ∙ good) flexible r (first h.trim) in
       (λ f. t.0, record { fields = fields; next = t.1; first = first_fields; few = small })
   by_found false h good r =
-      let k = known_after (next_record default_config (reader_state old) [] [] h.bytes) h.bytes (pending_of (bytes_of (reader_source new)) new) (reader_config old) (reader_state old) (reader_state new) false fields (rw h.known at r.0) in (
-        λ f. record { config = r.2 ∙ h.config; trim = r.3 ∙ h.trim; flexible = flexible ∙ h.flexible; ready = inl (first h.trim); bytes = k.0; known = rw r.1 k.1 },
-        records_known old h.bytes good h.known ∙ next_none (reader_state old) h.bytes (rows-end bytes_of old new fields default_config h.bytes h.config h.known r),
+      let k = known_after (next_record default_config (reader_state old) [] [] h.bytes) h.bytes (pending_of (bytes_of (reader_source new)) new)
+      (reader_config old) (reader_state old) (reader_state new) false fields (rw h.known at r.0) in (
+        λ f. record {
+          config = r.2 ∙ h.config;
+          trim = r.3 ∙ h.trim;
+          flexible = flexible ∙ h.flexible;
+          ready = inl (first h.trim);
+          bytes = k.0;
+          known = rw r.1 k.1;
+        },
+        records_known old h.bytes good h.known
+            ∙ next_none (reader_state old) h.bytes (rows-end bytes_of old new fields default_config h.bytes h.config h.known r),
       )
 
   by_failed : (b : Bool) → has_failed old ≡ b → step found
@@ -112,7 +134,8 @@ reader_steps most old new found fields kept count may failed goes flexible reads
   by_failed false e = let h = may e in by_found found h e (reads h.trim h.ready)
 
 -- after an error of a reader that reads, memory or the bytes have failed
-pub reader_fails : (old new : Reader Source) (error : ErrorKind) → MayRead old → (has_failed old ≡ true → ⊥) → (Ready old → ExplainsRead bytes_of old new false error) → has_failed new ≡ stops_reader error → MayRead new
+pub reader_fails : (old new : Reader Source) (error : ErrorKind) → MayRead old → (has_failed old ≡ true → ⊥)
+    → (Ready old → ExplainsRead bytes_of old new false error) → has_failed new ≡ stops_reader error → MayRead new
 reader_fails old new error may going why fails f = absurd (by (has_failed old) refl) where
   stopped : (k : ErrorKind) → is_flexible old ≡ true → ExplainsRead bytes_of old new false k → stops_reader k ≡ true
   stopped (kind.Io e) h w = refl

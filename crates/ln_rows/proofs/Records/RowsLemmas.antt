@@ -1,5 +1,6 @@
--- What is left behind a record, and what a few of its fields say.
-use Rattle.std.proofs.Common.{◌≡◌, ◌≢◌, ℕ, ◌+◌, ◌-◌, ◌^◌, ◌<◌, ◌≤◌, min, Bool, List, [], ◌∷◌, length, get_or, take, drop, Option, Some, None, Ok, Err, refl, ap, sym, subst, ◌∙◌, arith, inl, inr, true, false, true≢false}
+-- Proves what remains after a record, and what a few of its fields say.
+use Rattle.std.proofs.Common.{◌≡◌, ◌≢◌, ℕ, ◌+◌, ◌-◌, ◌^◌, ◌<◌, ◌≤◌, min, Bool, List, [], ◌∷◌, length, get_or, take, drop, Option, Some}
+use Rattle.std.proofs.Common.{None, Ok, Err, refl, ap, sym, subst, ◌∙◌, arith, inl, inr, true, false, true≢false}
 use Rattle.std.specs.Prelude.{if◌then◌else◌, ◌⊎◌, ◌==◌, Result, is_some}
 use Rattle.std.proofs.lemmas.Bool.{cases_lt, eqb-true}
 use Rattle.std.proofs.lemmas.List.{take_all, length-take}
@@ -22,7 +23,7 @@ first_none = refl
 pub no_records : records_of [] ≡ []
 no_records = none_records [] first_none
 
--- the first record behind what counts for nothing
+-- the first record after what counts for nothing
 pub gives_past : (a b : List ℕ) (fields : List (List ℕ)) (rest : List ℕ) → first_of a ≡ first_of b → Gives b fields rest → Gives a fields rest
 gives_past a b fields rest e g = record { state = g.state; between = g.between; first = e ∙ g.first }
 
@@ -34,23 +35,26 @@ no_mark (a ∷ []) h = refl
 no_mark (a ∷ b ∷ []) h = refl
 no_mark (a ∷ b ∷ c ∷ rest) h = absurd (omega (arith, h))
 
-pub mark_by : (xs : List ℕ) (m : Bool) → 3 ≤ length xs → m ≡ is_bom (get_or xs 0 0) (get_or xs 1 0) (get_or xs 2 0) → strip_bom xs ≡ (if m then drop 3 xs else xs)
+pub mark_by : (xs : List ℕ) (m : Bool) → 3 ≤ length xs → m ≡ is_bom (get_or xs 0 0) (get_or xs 1 0) (get_or xs 2 0)
+    → strip_bom xs ≡ (if m then drop 3 xs else xs)
 unfolding strip_bom
 mark_by [] m h e = absurd (omega (arith, h))
 mark_by (a ∷ []) m h e = absurd (omega (arith, h))
 mark_by (a ∷ b ∷ []) m h e = absurd (omega (arith, h))
 mark_by (a ∷ b ∷ c ∷ rest) m h e = ap (λ (t : Bool). if t then rest else a ∷ b ∷ c ∷ rest) (sym e)
 
--- while no record had a quote, the records left are those of the bytes
+-- while no record had a quote, the remaining records are those of the bytes
 pub none_quoted : (rest : List ℕ) (o : Option Records) → is_some o ≡ false → left_of rest o ≡ records_of rest
 none_quoted rest None h = refl
 none_quoted rest (Some r) h = absurd (true≢false h)
 
 -- a row of plain numbers is taken
-pub row_taken : (vars : List VarInfo) (old : Records) (o : Option Records) (text behind rest : List ℕ) (r : code.Row) → left_of text o ≡ old → is_some o ≡ false → first_of text ≡ first_of behind → IsPlainRow vars behind rest r → TakenRow vars old (left_of rest o) r
+pub row_taken : (vars : List VarInfo) (old : Records) (o : Option Records) (text behind rest : List ℕ) (r : code.Row) → left_of text o ≡ old
+    → is_some o ≡ false → first_of text ≡ first_of behind → IsPlainRow vars behind rest r → TakenRow vars old (left_of rest o) r
 row_taken vars old o text behind rest r view none same h = record {
   fields = h.fields;
-  next = sym view ∙ none_quoted text o none ∙ gives_records text h.fields rest (gives_past text behind h.fields rest same h.gives) ∙ ap (λ (rs : Records). h.fields ∷ rs) (sym (none_quoted rest o none));
+  next = sym view ∙ none_quoted text o none ∙ gives_records text h.fields rest (gives_past text behind h.fields rest same h.gives)
+      ∙ ap (λ (rs : Records). h.fields ∷ rs) (sym (none_quoted rest o none));
   size = h.size;
   read = h.read;
 }
@@ -59,22 +63,26 @@ pub no_bytes : (xs : List ℕ) → (length xs == 0) ≡ true → xs ≡ []
 no_bytes [] h = refl
 no_bytes (x ∷ xs) h = absurd (omega (arith, eqb-true (length (x ∷ xs)) 0 h))
 
--- no bytes but line ends are left
-pub left_ends : (old : Records) (o : Option Records) (rest text : List ℕ) → left_of rest o ≡ old → o ≡ None → first_of rest ≡ first_of text → text ≡ [] → old ≡ []
+-- no bytes but line ends remain
+pub left_ends : (old : Records) (o : Option Records) (rest text : List ℕ) → left_of rest o ≡ old → o ≡ None
+    → first_of rest ≡ first_of text → text ≡ [] → old ≡ []
 left_ends old o rest text view none same e = sym view ∙ ap (left_of rest) none ∙ none_records rest (same ∙ ap first_of e ∙ first_none)
 
 -- a record without quotes is taken
-pub left_takes : (most : ℕ) (old : Records) (o : Option Records) (rest text more : List ℕ) (kept : List (List ℕ)) → left_of rest o ≡ old → o ≡ None → first_of rest ≡ first_of text → length text + 1 < 2 ^ 64
+pub left_takes : (most : ℕ) (old : Records) (o : Option Records) (rest text more : List ℕ) (kept : List (List ℕ)) → left_of rest o ≡ old
+    → o ≡ None → first_of rest ≡ first_of text → length text + 1 < 2 ^ 64
     → (all : List (List ℕ)) × Gives text all more × (kept ≡ take most all) → TakesFirst most old (left_of more o) kept
 left_takes most old o rest text more kept view none same small t = record {
   fields = t.0;
-  next = sym view ∙ ap (left_of rest) none ∙ gives_records rest t.0 more (gives_past rest text t.0 more same t.1) ∙ ap (λ (p : Option Records). t.0 ∷ left_of more p) (sym none);
+  next = sym view ∙ ap (left_of rest) none ∙ gives_records rest t.0 more (gives_past rest text t.0 more same t.1)
+      ∙ ap (λ (p : Option Records). t.0 ∷ left_of more p) (sym none);
   first = t.2;
   few = let few = few_fields text t.0 more t.1 in omega (arith, few, small);
 }
 
 -- csv's own reader takes the next record
-pub left_reads : (most : ℕ) (found : Bool) (old quoted new : Records) (o : Option Records) (rest text : List ℕ) (kept : List (List ℕ)) → left_of rest o ≡ old → o ≡ None → first_of rest ≡ first_of text → quoted ≡ records_of text
+pub left_reads : (most : ℕ) (found : Bool) (old quoted new : Records) (o : Option Records) (rest text : List ℕ) (kept : List (List ℕ))
+    → left_of rest o ≡ old → o ≡ None → first_of rest ≡ first_of text → quoted ≡ records_of text
     → TakesWithin most found quoted new kept → TakesWithin most found old new kept
 left_reads most found old quoted new o rest text kept view none same q t =
     subst (λ (rs : Records). TakesWithin most found rs new kept) (q ∙ sym (same_first rest text same) ∙ ap (left_of rest) (sym none) ∙ view) t
@@ -84,18 +92,21 @@ pub takes_none : (most : ℕ) (found : Bool) (old new : Records) (kept : List (L
 takes_none most false old new kept t e = t
 takes_none most true old new kept t e = absurd (true≢false e)
 
-pub takes_some : (most : ℕ) (found : Bool) (old new : Records) (kept : List (List ℕ)) → TakesWithin most found old new kept → found ≡ true → TakesFirst most old new kept
+pub takes_some : (most : ℕ) (found : Bool) (old new : Records) (kept : List (List ℕ)) → TakesWithin most found old new kept → found ≡ true
+    → TakesFirst most old new kept
 takes_some most true old new kept t e = t
 takes_some most false old new kept t e = absurd (true≢false (sym e))
 
-pub takes_all : (most : ℕ) (found : Bool) (old new : Records) (kept : List (List ℕ)) → TakesWithin most found old new kept → most ≡ 2 ^ 64 - 1 → Takes found old new kept
+pub takes_all : (most : ℕ) (found : Bool) (old new : Records) (kept : List (List ℕ)) → TakesWithin most found old new kept
+    → most ≡ 2 ^ 64 - 1 → Takes found old new kept
 takes_all most false old new kept t e = t
 takes_all most true old new kept t e =
     let few : length t.fields ≤ most = omega (arith, t.few, e) in
     t.next ∙ ap (λ (fs : List (List ℕ)). fs ∷ new) (sym (t.first ∙ take_all most t.fields few))
 
 -- the first fields are the names just where all are
-pub names_cut : (all kept names : List (List ℕ)) (most : ℕ) → kept ≡ take most all → most ≡ min (length names + 1) (2 ^ 64 - 1) → length all < 2 ^ 64 → (kept ≡ names → all ≡ names) × (all ≡ names → kept ≡ names)
+pub names_cut : (all kept names : List (List ℕ)) (most : ℕ) → kept ≡ take most all → most ≡ min (length names + 1) (2 ^ 64 - 1)
+    → length all < 2 ^ 64 → (kept ≡ names → all ≡ names) × (all ≡ names → kept ≡ names)
 names_cut all kept names most k r few = (λ e. one e, λ e. two e) where
   one : kept ≡ names → all ≡ names
   one e =
@@ -116,7 +127,8 @@ not_header all names old new others o ne e = ne (first_same (sym o ∙ e)) where
   first_same {x = x} q = ap (λ (zs : Records). elim zs [ [] ↦ x | z ∷ r ↦ z ]) q
 
 -- a record's first fields, one more than there are columns, say what it says
-row_cut : (sites : ℕ) (vars : List VarInfo) (all : List (List ℕ)) (most : ℕ) → length (columns vars) < most → read_row sites vars (take most all) ≡ read_row sites vars all
+row_cut : (sites : ℕ) (vars : List VarInfo) (all : List (List ℕ)) (most : ℕ) → length (columns vars) < most
+    → read_row sites vars (take most all) ≡ read_row sites vars all
 row_cut sites vars all most h = by_size (cases_lt most (length all)) where
   by_size : (most < length all) ⊎ (length all ≤ most) → read_row sites vars (take most all) ≡ read_row sites vars all
   by_size (inr small) = ap (read_row sites vars) (take_all most all small)
@@ -125,7 +137,8 @@ row_cut sites vars all most h = by_size (cases_lt most (length all)) where
       let long : length all ≢ length (columns vars) = λ e. omega (arith, e, h, large) in
       not_fields sites vars (take most all) cut ∙ sym (not_fields sites vars all long)
 
-pub read_cut : {T : Type 0} (sites : ℕ) (vars : List VarInfo) (all kept : List (List ℕ)) (most : ℕ) (read : Result T RowStop) (r : code.Row) → kept ≡ take most all → length (columns vars) < most → IsReadAs sites vars kept read r → IsReadAs sites vars all read r
+pub read_cut : {T : Type 0} (sites : ℕ) (vars : List VarInfo) (all kept : List (List ℕ)) (most : ℕ) (read : Result T RowStop) (r : code.Row)
+    → kept ≡ take most all → length (columns vars) < most → IsReadAs sites vars kept read r → IsReadAs sites vars all read r
 read_cut {T = T} sites vars all kept most read r k h s =
     let same : read_row sites vars kept ≡ read_row sites vars all = ap (read_row sites vars) k ∙ row_cut sites vars all most h in
     by_read read s same

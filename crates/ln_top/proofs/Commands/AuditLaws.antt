@@ -1,5 +1,5 @@
--- `audit`: what it owes is carried out by a whole text; a trace is agreed or has one first line that is wrong, and where it ends.
-use Rattle.std.proofs.Common.{◌≡◌, ◌≤◌, ℕ, zero, suc, arith, map, List, [], ◌∷◌, length, refl, ap, sym, ◌∙◌, subst, Option, Some, None, Result, Err}
+-- `audit`: what it requires is carried out by a whole text; a trace is agreed or has one first line that is wrong, and where it ends.
+use Rattle.std.proofs.Common.{◌≡◌, ◌≤◌, ℕ, zero, suc, arith, map, List, [], ◌∷◌, length, refl, ap, sym, ◌∙◌, subst, Option, Some, Result, Err}
 use Rattle.std.specs.Prelude.{slice_get, slice_index_or}
 use Rattle.std.proofs.lemmas.Option.{none-some, same_Some}
 use Rattle.ln_verify.specs.Accepted.{AreAccepted, IsAccepted}
@@ -17,12 +17,11 @@ use Rattle.ln_trace.specs.declared.judged.Judged.{Judged}
 use Rattle.ln_trace.specs.declared.judged.Judged.TheVariants.{Agreed, Wrong}
 use Rattle.ln_trace.specs.Here.{HasPoly}
 use Rattle.ln_trace.specs.Here as traced
-use Rattle.ln_trace.specs.Judge.{IsAgreed, IsAnswer, IsFirstFault}
+use Rattle.ln_trace.specs.Judge.{IsAnswer, IsFirstFault}
 use Rattle.ln_trace.specs.Judged.{fault_of}
 use Rattle.ln_trace.specs.Stop.{Stops}
 use Rattle.ln_trace.specs.declared.read.TraceStop.TheVariants.{Form}
 use Rattle.ln_trace.specs.Unread.{AreLeft, IsOpened, Unread}
-use Rattle.ln_trace.specs.Form.{IsFormFault, TraceText}
 use Rattle.ln_trace.proofs.Reading.OneFault.{one_fault}
 use Rattle.ln_trace.proofs.Reading.Whole.{no_text, one_text}
 use Rattle.ln_trace.proofs.Walking.{not-both, one-fault}
@@ -79,7 +78,7 @@ wrong_right g p q names others rs rest t u h w k =
     (same_records g p q names others rs (others ∷ rest) t u h k) w in
     absurd (wrong (sym (same_names g p q names others rs (others ∷ rest) t u h k)))
 
--- ---- one answer
+-- ---- one output
 -- a trace isn't agreed and wrong
 right_wrong : (p : PredOf) (records : Records) (trace : List ℕ) (at : ℕ) → IsRightTrace p records trace → IsWrongAt p records trace at → ⊥
 right_wrong p records trace at h (form f) = no_text trace at h.lines f h.text
@@ -116,7 +115,7 @@ module _ (g : Given) (p q : PredOf) (names others : List (List ℕ)) (rs ss : Re
   pub same_count : agreed_text (length rs) ≡ agreed_text (length ss)
   same_count = ap (λ (xs : Records). agreed_text (length xs)) rows
 
--- what it says is one
+-- what it requires is one
 pub one_said : (g : Given) (a b : Said) → AuditSaid g a → AuditSaid g b → a ≡ b
 one_said g a b (audit.header p names rs t h x) (audit.header q others ss u k y) = refl
 one_said g a b (audit.header p names rs t h x) (audit.agreed q others ss u k y) = wrong_right g p q names others rs ss t u h x k
@@ -167,7 +166,7 @@ pub header_carried : (g : Given) (p : PredOf) (names : List (List ℕ)) (records
 header_carried g p names records trace puts result was now h w s =
     told_carried (AuditSaid g) NoPart ⊥ ⊥ puts Header result was now (audit.header p names records trace h w) s
 
--- the text of what is owed was put, or memory ran out before
+-- the text that is required was written, or memory ran out before
 put_carried : (g : Given) (end : End) (text : List ℕ) (puts : Count) (result : Result End Early) (was now : Option Shown)
     → AuditSaid g (whole end text) → PutsOrStops text end puts result was now → CarriesOut (AuditSaid g) NoPart ⊥ ⊥ puts result was now
 put_carried g end text puts result was now o (puts_it s) = text_carried (AuditSaid g) NoPart ⊥ ⊥ puts end text result was now o s
@@ -234,7 +233,7 @@ second_short g a b e h = (subst AreShort e h).1.0
 pub wrong_form : (p : PredOf) (records : Records) (trace : List ℕ) (at : ℕ) → Stops trace (Form at) → IsAuditOf p records trace (Wrong at)
 wrong_form p records trace at h = form h.0
 
--- the text that is put
+-- the text that is written
 pub puts_text : (text wanted : List ℕ) (end : End) (puts : Count) (result : Result End Early) (was now : Option Shown) → text ≡ wanted
     → PutsText text end puts result was now → PutsOrStops wanted end puts result was now
 puts_text text wanted end puts result was now e s =

@@ -1,4 +1,4 @@
--- `check`: its lines one after the other; what it owes is carried out by a whole text, and where it ends.
+-- `check`: its lines one after the other; what it requires is carried out by a whole text, and where it ends.
 use Rattle.std.proofs.Common.{◌≡◌, ℕ, ◌+◌, ◌<◌, List, [], ◌∷◌, ◌++◌, map, length, option_map, take}
 use Rattle.std.proofs.Common.{get_or, refl, ap, sym, ◌∙◌, subst, append_assoc, Option, Some}
 use Rattle.std.specs.Prelude.{slice_get, Result}
@@ -45,7 +45,7 @@ counts_more ps i p n texts new h e a at q =
     ∙ map-append pred_of (take i ps) (p ∷ []) in
     rw (behind, q) (count_behind (map pred_of (take i ps)) (pred_of p) n a (at (pred_of p) there))
 
--- the lines were put as a whole text
+-- the lines were written as a whole text
 pub carried : (r : Ready) (g : Given) (text : List ℕ) (puts : Count) (result : Result End Early) (was now : Option Shown)
     → StandsFor r g → AreCounts (map pred_of r.compiled.table.preds) text → PutsText text Done puts result was now
     → CarriesOut (CheckSaid g) NoPart ⊥ ⊥ puts result was now

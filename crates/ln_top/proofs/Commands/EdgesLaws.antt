@@ -1,5 +1,5 @@
--- `edges`: its points file comes to one thing; what it owes is one and is carried out by a whole text, and where it ends.
-use Rattle.std.proofs.Common.{◌≡◌, ℕ, zero, suc, ◌<◌, ◌≤◌, Bool, true, false, List, [], ◌∷◌, length, map, Some, None, Option}
+-- `edges`: its points file comes to one thing; what it requires is one and is carried out by a whole text, and where it ends.
+use Rattle.std.proofs.Common.{◌≡◌, ℕ, zero, suc, ◌<◌, ◌≤◌, true, false, List, [], ◌∷◌, length, map, Some, None, Option}
 use Rattle.std.proofs.Common.{refl, ap, sym, ◌∙◌, subst, arith, true≢false, get_or, option_map}
 use Rattle.std.specs.Prelude.{Result, slice_get, slice_index_or, nat_eq, nat_lt}
 use Rattle.std.specs.List.{list_all}
@@ -160,7 +160,7 @@ pub never_both : {P : Type 0} (g : Given) (p q : PredOf) (a b : SiteOf) (rs ss :
 never_both g p q a b rs ss why qs h k x y =
     absurd (subst IsStop (one_outcome g p q a b rs ss (stops why) (gives qs) h k x y) tt)
 
--- ---- what it says is one
+-- ---- what it requires is one
 one_text : (p q : PredOf) (ps qs : List PointOf) (s t : List ℕ) → p ≡ q → ps ≡ qs → AreEdgesOf p ps s → AreEdgesOf q qs t → s ≡ t
 one_text p q ps qs s t e f x y =
     let x1 = subst (λ (r : PredOf). AreEdgesOf r ps s) e x in
@@ -214,14 +214,14 @@ none_missing type rs o (edges.many xs f k) h = absurd h
 none_missing type rs o (edges.fault xs n f k i) h = absurd h
 none_missing type rs o (edges.points xs ps f k i) h = absurd h
 
--- the line of a stop was put
+-- the line of a stop was written
 pub stop_carried : (g : Given) (s : Stop) (puts : Count) (result : Result End Early) (was now : Option Shown) → StopsPoints g s
     → Says s puts result was now → CarriesOut (EdgesSaid g) NoPart ⊥ ⊥ puts result was now
 stop_carried g s puts result was now h x =
     says_carried (ReadsPoints h.type h.records) s (EdgesSaid g) NoPart ⊥ ⊥ puts result was now
     (λ why o. edges.stopped h.pred h.type h.records why h.has o) (λ m. none_missing h.type h.records missing m tt) h.halts x
 
--- the lines were put as a whole text
+-- the lines were written as a whole text
 pub lines_carried : (g : Given) (text : List ℕ) (puts : Count) (result : Result End Early) (was now : Option Shown)
     → EdgesSaid g (whole Done text) → PutsText text Done puts result was now
     → CarriesOut (EdgesSaid g) NoPart ⊥ ⊥ puts result was now

@@ -1,4 +1,4 @@
--- `emit`: the calls of the C say what rows are owed; what it owes is carried out by a whole text, and where it ends.
+-- `emit`: the calls of the C return what rows require; what it requires is carried out by a whole text, and where it ends.
 use Rattle.std.proofs.Common.{◌≡◌, ℕ, suc, ◌+◌, ◌<◌, ◌≤◌, List, [], ◌∷◌, ◌++◌, length, take, map, refl, ap, sym, ◌∙◌, subst, arith, Option, Some}
 use Rattle.std.specs.Prelude.{All, Result}
 use Rattle.std.proofs.lemmas.List.{length-map, take_all}
@@ -57,7 +57,7 @@ same_number Minus = refl
 same_number Zero = refl
 same_number Plus = refl
 
--- the call on a row gives what the row is owed
+-- the call on a row returns what the row requires
 call_due : (file : List Fun) (p : PredOf) (part : Part) (row : Row) → IsProgram part → IsProgramOf p part
     → p.shape_name ≡ p.name → InRange p.sites p.vars row → CallSays file part row → CallIsDue file p row
 call_due file p part row k o n range s =
@@ -111,9 +111,11 @@ c_of ps parts text a n k e = record {
 }
 
 -- ---- the C, program by program
-small_more : (cs : List Part) (c : Part) → All (λ (p : Part). length p.blocks ≤ 65536) cs → length c.blocks ≤ 65536 → All (λ (p : Part). length p.blocks ≤ 65536) (cs ++ c ∷ [])
+small_more : (cs : List Part) (c : Part) → All (λ (p : Part). length p.blocks ≤ 65536) cs → length c.blocks ≤ 65536
+    → All (λ (p : Part). length p.blocks ≤ 65536) (cs ++ c ∷ [])
 small_more [] c a h = All-cons (λ (p : Part). length p.blocks ≤ 65536) c [] h a
-small_more (d ∷ cs) c a h = All-cons (λ (p : Part). length p.blocks ≤ 65536) d (cs ++ c ∷ []) (a 0 d (omega arith)) (small_more cs c (λ k e l. a (suc k) e (omega (arith, l))) h)
+small_more (d ∷ cs) c a h = All-cons (λ (p : Part). length p.blocks ≤ 65536) d (cs ++ c ∷ []) (a 0 d (omega arith))
+    (small_more cs c (λ k e l. a (suc k) e (omega (arith, l))) h)
 
 -- no program yet
 pub begun : (preds : List PredOf) (text : List ℕ) → BeginsFile text [] → BeginsCOfFirst preds 0 text
@@ -122,7 +124,7 @@ begun preds text b = record { programs = []; are_programs = none preds; small = 
   none [] = tt
   none (p ∷ ps) = tt
 
--- one program behind others
+-- one program after others
 pub more : (preds : List Pred) (i : ℕ) (c : Part) (old new : List ℕ) → i < length preds → IsProgramAt (map pred_of preds) i c → length c.blocks ≤ 65536
     → ((cs : List Part) → BeginsFile old cs → BeginsFile new (cs ++ c ∷ []))
     → BeginsCOfFirst (map pred_of preds) i old → BeginsCOfFirst (map pred_of preds) (i + 1) new
@@ -141,7 +143,7 @@ all t i text h ends f =
     let a : AreProgramsOf (map pred_of t.preds) f.programs = subst (λ ps. AreProgramsOf ps f.programs) e f.are_programs in
     c_of (map pred_of t.preds) f.programs text a (names_there t) f.begins.kept (ends f.programs (programs-of-table t f.programs a f.small) f.begins)
 
--- the C was put as a whole text
+-- the C was written as a whole text
 pub carried : (r : Ready) (g : Given) (text : List ℕ) (puts : Count) (result : Result End Early) (was now : Option Shown)
     → StandsFor r g → IsCOf (map pred_of r.compiled.table.preds) text → PutsText text Done puts result was now
     → CarriesOut (EmitSaid g) NoPart ⊥ ⊥ puts result was now

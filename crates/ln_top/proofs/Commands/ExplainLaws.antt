@@ -1,5 +1,5 @@
--- `explain`: what it owes is carried out by lines after the first one, and where it ends.
-use Rattle.std.proofs.Common.{◌≡◌, ◌≤◌, ◌<◌, ◌^◌, ℕ, zero, suc, ◌+◌, Bool, true, false, List, [], ◌∷◌, ◌++◌, length, take, refl, ap, sym}
+-- `explain`: what it requires is carried out by lines after the first one, and where it ends.
+use Rattle.std.proofs.Common.{◌≡◌, ◌<◌, ℕ, ◌+◌, Bool, List, [], ◌∷◌, ◌++◌, length, refl, ap, sym}
 use Rattle.std.proofs.Common.{◌∙◌, subst, arith, Option, Ok, Err, Result}
 use Rattle.std.proofs.lemmas.List.{append-nil}
 use Rattle.ln_base.specs.Outside.{Shown}
@@ -36,7 +36,7 @@ use Rattle.ln_top.specs.Explain as explain
 use Rattle.ln_top.specs.Explain.{ExplainPart, ExplainRest, ExplainRestPart, ExplainSaid, ExplainStep, SaysLines, subject_of}
 use Rattle.ln_top.proofs.Steps.Carry.{told_carried}
 use Rattle.ln_top.proofs.Gathering.HeadCarry.{IsHeaded}
-use Rattle.ln_top.proofs.Gathering.LinesLaws.{HasLines, both_nothing, lines_have, no_last, wrote_nothing}
+use Rattle.ln_top.proofs.Gathering.LinesLaws.{both_nothing, lines_have, no_last, wrote_nothing}
 use Rattle.ln_top.proofs.Gathering.LinesCarry.{IsByLines, early_carried, end_carried}
 use Rattle.ln_top.proofs.Commands.RunLaws as run_laws
 
@@ -107,7 +107,7 @@ module _ (t : TargetOf) (g : Given) (given : IsGivenBy g t) (told : AreTold (pre
       by_read (Ok row) e = let d = told s fields row e in by_lines d.0 d.1
       by_read (Err x) e = by_lines (traced.Refused (s + 1) ∷ []) (no_row x e)
 
-  -- after the header of the records stands what is owed
+  -- after the header of the records comes what is required
   whole : (records : Records) → HasRecords g (pred_in t) t.names (t.names ∷ records) → (out err : List ℕ) (z : ℕ)
       → Lines (ExplainStep (pred_in t)) 0 records out err z
       → ExplainRest g (record { end = end_of (all_good (is_row (pred_in t)) records); out = out ++ []; err = err ++ [] })
@@ -120,7 +120,7 @@ module _ (t : TargetOf) (g : Given) (given : IsGivenBy g t) (told : AreTold (pre
       (subst (λ (x : List ℕ). ExplainRest g (record { end = end; out = out; err = x })) (sym (append-nil err ∙ none))
       (explain.ran (pred_in t) t.names records out z h d1))
 
-  -- what it owes after the first line is by lines
+  -- what it requires after the first line is by lines
   pub by_lines : (records : Records) → HasRecords g (pred_in t) t.names (t.names ∷ records)
       → IsByLines (ExplainStep (pred_in t)) no_last no_last (end_of (all_good (is_row (pred_in t)) records)) 0 records
       (ExplainRest g) (ExplainRestPart g)
@@ -174,7 +174,7 @@ tells boxes g a (explain.ran p names records out seen h x) = run_laws.ends_by p 
 pub lawful : IsLawful (λ boxes. ExplainSaid) RunEnds
 lawful = record { tells = tells; one = run_laws.lawful.one; kind = run_laws.lawful.kind }
 
--- fewer records are left behind the first
+-- fewer records remain after the first
 pub fewer : (first : List (List ℕ)) (records rest : Records) → records ≡ first ∷ rest → length records < 4294967296
     → length rest < 4294967296
 fewer first records rest e h = omega (arith, ap length e, h)

@@ -1,5 +1,5 @@
 -- Each row of an accepted predicate has lines that explain it.
-use Rattle.std.proofs.Common.{◌≡◌, ◌<◌, ◌≤◌, ◌⊎◌, inl, inr, ℕ, zero, suc, ◌+◌, true, List, [], ◌∷◌, ◌++◌, length, map, get_or, refl, ap, sym}
+use Rattle.std.proofs.Common.{◌≡◌, ◌<◌, ◌≤◌, inl, inr, ℕ, zero, suc, ◌+◌, true, List, [], ◌∷◌, ◌++◌, length, map, get_or, refl, ap, sym}
 use Rattle.std.proofs.Common.{◌∙◌, subst, arith, Ok, Err, Bool, false, ◌&&◌, leb}
 use Rattle.std.specs.Prelude.{slice_get, Some}
 use Rattle.std.proofs.lemmas.Bool.{leb-true}
@@ -87,7 +87,7 @@ rising-from v (zero ∷ p) h = rising-from (suc v) p (λ w. h (suc w))
 rising-from v (suc e ∷ p) h = (omega arith, h 0, pairs-above v (suc v) p (omega arith), rising-from (suc v) p (λ w. h (suc w)))
 
 -- ---- lines
--- a vector stands in a line by these pairs
+-- a vector is in a line by these pairs
 abbrev IsPaired : ℕ → List ℕ → Type 0
 IsPaired n a = IsRising (pairs_of a) × IsAbove (pairs_of a) n × (vector n (pairs_of a) ≡ a)
 
@@ -217,7 +217,7 @@ blocks_say q part fields r n old new b read t =
       text_is = t.put;
     }
 
--- the line of a record that is no row
+-- the line of an invalid record
 pub refused_says : (q : Pred) (fields : List (List ℕ)) (x : RowStop) (n : ℕ) (old new : List ℕ)
     → read_row q.shape.sites q.shape.vars fields ≡ Err x → new ≡ old ++ text_of_line (line.Refused n) → SaysLines (pred_of q) n fields false old new
 refused_says q fields x n old new e t = record {

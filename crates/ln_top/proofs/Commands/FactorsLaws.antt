@@ -210,7 +210,7 @@ same_args_are (x ∷ xs) (y ∷ ys) h =
     let q = and_parts (same_arg x y) (same_args xs ys) h in
     ap (λ (z : ArgOf). z ∷ xs) (same_arg_is x y q.0) ∙ ap (λ (zs : List ArgOf). y ∷ zs) (same_args_are xs ys q.1)
 
--- a predicate is over so many sites and these variables
+-- a predicate is over this many sites and these variables
 abbrev pub IsOver : ℕ → List VarInfo → PredOf → Type 0
 IsOver sites vars q = (q.sites ≡ sites) × (q.vars ≡ vars)
 

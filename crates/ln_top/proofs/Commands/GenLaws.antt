@@ -1,4 +1,4 @@
--- `gen`: what it owes is carried out by lines, and one step is one.
+-- `gen`: what it requires is carried out by lines, and one step is one.
 use Rattle.std.proofs.Common.{◌≡◌, ◌≢◌, ℕ, suc, ◌+◌, ◌-◌, ◌<◌, ◌≤◌, Bool, true, false, List, []}
 use Rattle.std.proofs.Common.{◌∷◌, ◌++◌, length, refl, ap, sym, ◌∙◌, subst, arith, Option, Ok, Err}
 use Rattle.std.specs.Prelude.{Result}
@@ -38,7 +38,7 @@ use Rattle.ln_top.proofs.Gathering.LinesCarry.{IsByLines, early_carried, end_car
 use Rattle.ln_top.proofs.Gathering.MadeRangeLemmas.{words_in_range, words_length}
 use Rattle.ln_top.proofs.Gathering.WatchingLaws.{lines_alike, left_alike}
 
--- the rows that are left: the next one, and those behind it
+-- the remaining rows: the next one, and those after it
 pub draws_more : (k n m : ℕ) (vars : List VarInfo) (g : Lcg) → n < k → m ≡ n + 1
     → draws (k - n) n vars g ≡ draw m g ∷ draws (k - m) m vars (past (length (columns vars)) g)
 draws_more k n m vars g h e =
@@ -61,7 +61,7 @@ drawn_in_range p d =
     words_in_range d.number p.shape.sites p.shape.vars (words (length (columns p.shape.vars)) d.from) p.shape.kept
     (words_length (length (columns p.shape.vars)) d.from)
 
--- the verdict that it is owed was shown to the watchers
+-- the verdict that it requires was shown to the watchers
 pub row_put : (p : Pred) (n : ℕ) (g : Lcg) (r : code.Row) (v : Verdict) (boxes z : List State) (puts : Count) (all : Bool)
     (was now : Option Shown) → row_of p.shape.sites p.shape.vars r ≡ drawn p.shape.vars (draw n g)
     → IsDue (pred_of p) (row_of p.shape.sites p.shape.vars r) v → Wrote (lines_at n v boxes) [] puts all was now
@@ -81,7 +81,7 @@ silent_lines p s z [] out err (l.none _) = refl
 silent_lines p s z (d ∷ ds) out err (l.more {out = o2} {err = e2} _ o e m t k) =
     ap (λ x. x ++ e2) t.silent ∙ silent_lines p m z ds o2 e2 k
 
--- any part may be left: said where memory isn't wanted any more
+-- any part may be left: for use where memory can't run out any more
 abbrev pub AnyPart : List ℕ → List ℕ → Type 0
 AnyPart out err = Unit {0}
 
@@ -110,11 +110,11 @@ module _ (t : TargetOf) (rank : t.rank ≡ BySmallest) (belongs : Belongs t.rank
         subst (λ x. GenSaid seed count boxes g (record { end = Done; out = out ++ last_lines z; err = x }))
         (sym (ap (λ x. x ++ []) s)) (made (pred_in t) out z e (subst (λ x. Lines (GenStep (pred_in t)) boxes rows out x z) s d))
 
-    -- what it owes is by lines
+    -- what it requires is by lines
     by_lines : IsByLines (GenStep (pred_in t)) last_lines no_last Done boxes rows (GenSaid seed count boxes g) AnyPart
     by_lines = record { has = has; whole = said_whole; first = λ done left out err z q d. tt }
 
-    -- a put of a row's lines failed
+    -- a write of a row's lines failed
     pub rows_cut : (z : List State) (puts : Count) (was now : Option Shown)
         → PutsAll (GenStep (pred_in t)) boxes rows puts false was now z
         → CarriesOut (GenSaid seed count boxes g) NoPart ⊥ ⊥ puts (Err Write) was now

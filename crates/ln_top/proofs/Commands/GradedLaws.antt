@@ -1,7 +1,7 @@
--- `graded`: a predicate with few stages by total degree has a program in that order, which answers for it.
-use Rattle.std.proofs.Common.{◌≡◌, ◌≢◌, ◌⊎◌, inl, inr, ℕ, ◌≤◌, ◌<◌, List, [], ◌∷◌, length, map, option_map, refl, ap, sym, ◌∙◌, subst, arith}
-use Rattle.std.proofs.Common.{Some, None, Option}
-use Rattle.std.specs.Prelude.{IfSome, slice_get, slice_index_or, true}
+-- `graded`: a predicate with few stages by total degree has a program in that order, with its verdicts.
+use Rattle.std.proofs.Common.{◌≡◌, inl, inr, ℕ, ◌≤◌, ◌<◌, List, [], ◌∷◌, length, map, option_map, refl, ap, sym, ◌∙◌, subst, arith}
+use Rattle.std.proofs.Common.{Some, None}
+use Rattle.std.specs.Prelude.{IfSome, slice_get, slice_index_or}
 use Rattle.std.proofs.lemmas.Option.{none-some, same_Some, slice_get-map}
 use Rattle.ln_algebra.specs.Orders.{ByDegree}
 use Rattle.ln_algebra.specs.Terms.{IsNormalOf}
@@ -23,14 +23,13 @@ use Rattle.ln_compile.specs.Polynomial.{IsPolynomialAt, IsPolynomialOf}
 use Rattle.ln_graded.specs.Graded.{Begins, IsGradable, IsGraded}
 use Rattle.ln_graded.proofs.Joining.{all-at}
 use Rattle.ln_verify.proofs.Polynomials.SamePoly.{one-normal}
-use Rattle.ln_top.specs.declared.stop.Why.{Why}
 use Rattle.ln_top.specs.declared.stop.Why.TheVariants as why
 use Rattle.ln_top.specs.declared.words.Command.TheVariants.{Graded}
-use Rattle.ln_top.specs.Graded.{FirstHasFew, HasFewGraded, HasManyGraded}
+use Rattle.ln_top.specs.Graded.{FirstHasFew, HasFewGraded}
 use Rattle.ln_top.specs.Ready.{AreNumbered}
 use Rattle.ln_top.specs.Source.{place_at}
 use Rattle.ln_top.specs.Suits.{objection}
-use Rattle.ln_top.proofs.Steps.FindLaws.{same_at, there_at, within_at}
+use Rattle.ln_top.proofs.Steps.FindLaws.{same_at, there_at}
 
 -- ---- few stages
 -- lists within both limits pass none, and there are no others
@@ -165,7 +164,8 @@ module _ (p : PredOf) (f : Sparse) (part : Part) (poly : IsPolynomialOf p f) (o 
   }
 
 -- of a predicate by its number
-module _ (preds : List Pred) (i : ℕ) (l : i < length preds) (f : Sparse) (part : Part) (poly : IsPolynomialAt (map pred_of preds) i f) (o : IsProgramAt (map pred_of preds) i part) where
+module _ (preds : List Pred) (i : ℕ) (l : i < length preds) (f : Sparse) (part : Part) (poly : IsPolynomialAt (map pred_of preds) i f)
+    (o : IsProgramAt (map pred_of preds) i part) where
   some_pred : (p : PredOf) × (slice_get (map pred_of preds) i ≡ Some p)
   some_pred = let q = there_at preds i l in (pred_of q.0, slice_get-map pred_of preds i ∙ ap (option_map pred_of) q.1)
 

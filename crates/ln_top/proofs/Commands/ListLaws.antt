@@ -1,4 +1,4 @@
--- `list`: what it owes is carried out by a whole text, and where it ends.
+-- `list`: what it requires is carried out by a whole text, and where it ends.
 use Rattle.std.proofs.Common.{◌≡◌, ℕ, ◌+◌, ◌<◌, ◌≤◌, List, [], ◌∷◌, ◌++◌, length, take, map, refl, ap, sym, subst, arith, Option}
 use Rattle.std.proofs.lemmas.List.{length-map, take_all}
 use Rattle.std.specs.Prelude.{Result}
@@ -41,7 +41,7 @@ begun preds text t = record { programs = []; are_programs = none preds; kept = t
   none [] = tt
   none (p ∷ ps) = tt
 
--- one program behind others
+-- one program after others
 pub more : (preds : List Pred) (i : ℕ) (c : Part) (old new : List ℕ) → i < length preds → IsProgramAt (map pred_of preds) i c → IsProgram c → IsListable c
     → ((cs : List Part) → ListText old 2 (listing_of cs) → ListText new 2 (listing_of (cs ++ c ∷ [])))
     → IsListingOfFirst (map pred_of preds) i old → IsListingOfFirst (map pred_of preds) (i + 1) new
@@ -59,7 +59,7 @@ all preds i text h f =
     let e : take i (map pred_of preds) ≡ map pred_of preds = take_all i (map pred_of preds) (omega (arith, length-map preds pred_of)) in
     listing_is (map pred_of preds) f.programs text (subst (λ ps. AreProgramsOf ps f.programs) e f.are_programs) f.kept f.listable f.text
 
--- the listing was put as a whole text
+-- the listing was written as a whole text
 pub carried : (r : Ready) (g : Given) (text : List ℕ) (puts : Count) (result : Result End Early) (was now : Option Shown)
     → StandsFor r g → IsListingOf (map pred_of r.compiled.table.preds) text → PutsText text Done puts result was now
     → CarriesOut (ListSaid g) NoPart ⊥ ⊥ puts result was now

@@ -1,4 +1,4 @@
--- `product`: what it owes is carried out by lines, and where it ends.
+-- `product`: what it requires is carried out by lines, and where it ends.
 use Rattle.std.proofs.Common.{◌≡◌, ℕ, zero, suc, ◌<◌, Bool, List, [], ◌∷◌, ◌++◌, length, take, refl, ap, sym, ◌∙◌}
 use Rattle.std.proofs.Common.{subst, arith, Some, Result, Ok, Err, Option, All}
 use Rattle.std.specs.Prelude.{slice_get, ◌*ℤ◌}
@@ -45,7 +45,7 @@ use Rattle.ln_top.specs.Run.{HasRecords, IsWrongHeader, RunEnds, end_of}
 use Rattle.ln_top.specs.Factors.{AreFactors, AreGivenBy, AreProgramsAt, FactorsOf, IsInRangeOf}
 use Rattle.ln_top.specs.Product as product
 use Rattle.ln_top.specs.Product.{AreDue, Multiplied, ProductPart, ProductSaid, ProductStep, SaysProduct, StepOf, due, refused_}
-use Rattle.ln_top.specs.Product.{deciders_after, product_text, with_verdicts}
+use Rattle.ln_top.specs.Product.{product_text, with_verdicts}
 use Rattle.ln_top.proofs.Steps.Carry.{told_carried}
 use Rattle.ln_top.proofs.Steps.FindLaws.{there_at}
 use Rattle.ln_top.proofs.Gathering.LinesLaws.{no_last, both_nothing, wrote_nothing}
@@ -63,7 +63,7 @@ module _ (sites : ℕ) (vars : List VarInfo) (programs : List Part)
   later : (k : ℕ) (ks : List ℕ) (j : ℕ) (part : Part) → IsFactor programs ks j part → IsFactor programs (k ∷ ks) (suc j) part
   later k ks j part f = record { place = f.place; named = f.named; there = f.there }
 
-  -- the verdict of each factor's machine is the one that the row is owed
+  -- the verdict of each factor's machine is the one that the row requires
   pub due_all : (r : code.Row) (ks : List ℕ) (ps : List PredOf) (vs : List Verdict) → AreOver sites vars programs ks
       → AreVerdicts programs ks r vs → InRange sites vars (row_of sites vars r) → All (λ i. i < length programs) ks
       → AreProgramsAt programs ks ps → AreDue ps (row_of sites vars r) vs
@@ -86,7 +86,7 @@ module _ (sites : ℕ) (vars : List VarInfo) (programs : List Part)
             range (All-tail (λ (i : ℕ). i < length programs) k ks pl) a.1,
       )
 
-  -- each factor owes a row in range a verdict
+  -- each factor requires a verdict of a row in range
   pub owed_all : (row : Row) (ks : List ℕ) (ps : List PredOf) → AreOver sites vars programs ks → InRange sites vars row
       → All (λ i. i < length programs) ks → AreProgramsAt programs ks ps → (vs : List Verdict) × AreDue ps row vs
   owed_all row [] [] o range pl a = ([], tt)
@@ -104,13 +104,13 @@ module _ (sites : ℕ) (vars : List VarInfo) (programs : List Part)
       (All-tail (λ (i : ℕ). i < length programs) k ks pl) a.1 in
       (v.0 ∷ rest.0, (programs_answer p here.0 row v.0 (kept k here.0 here.1) carries within v.1, rest.1))
 
--- the row that arrays hold is one of factors, and their verdicts on it are due
+-- the row that arrays hold is one of factors, and their verdicts on it are those required
 pub row_of_factors : (t : FactorsOf) (programs : List Part) (which : List ℕ) (r : code.Row) → AreFactors t → programs ≡ t.programs
     → which ≡ t.which → IsInRangeOf t.pred r → IsRowOfFactors programs which r
 row_of_factors t programs which r f e w range =
     record { sites = t.pred.shape.sites; vars = t.pred.shape.vars; alike = rw (e, w) f.over; range = range }
 
--- a slice that was filled in stands in its vector
+-- a slice that was filled in is in its vector
 pub take_front : (n : ℕ) (xs ys : List Verdict) → n ≡ length xs → take n (xs ++ ys) ≡ xs
 take_front zero [] ys e = refl
 take_front zero (x ∷ xs) ys e = absurd (omega (arith, e))
@@ -211,7 +211,7 @@ module _ (t : FactorsOf) (fits : AreFactors t) (g : Given) (given : AreGivenBy g
         record { said = Err x; says = refused_ x e; line_is = refl; none = refl },
       )
 
-  -- what it owes is by lines
+  -- what it requires is by lines
   pub by_lines : (records : Records) → HasRecords g (pred_of t.pred) t.names (t.names ∷ records)
       → IsByLines (StepOf t g.preds) no_last no_last (end_of (all_good (is_row (pred_of t.pred)) records)) tt records
       (ProductSaid g) (ProductPart g)

@@ -1,4 +1,4 @@
--- `run`: what it owes is carried out by lines, and where it ends.
+-- `run`: what it requires is carried out by lines, and where it ends.
 use Rattle.std.proofs.Common.{◌≡◌, ℕ, ◌&&◌, Bool, true, false, true≢false, List, [], ◌∷◌, ◌++◌, refl, ap}
 use Rattle.std.proofs.Common.{sym, ◌∙◌, subst, Option, Result, Ok, Err, All}
 use Rattle.std.proofs.lemmas.List.{append-nil}
@@ -74,7 +74,7 @@ module _ (t : TargetOf) (belongs : Belongs t.rank t.pred t.program) where
   has : (s : Watching) (fields : List (List ℕ)) → (out : List ℕ) × (err : List ℕ) × (z : Watching) × StepOf t s fields out err z
   has s fields = let l = line_there fields in (l.0, next_lines l.1.said s, next l.1.said s, record { line = l.1; told = refl; left = refl })
 
-  -- what it owes is by lines
+  -- what it requires is by lines
   pub by_lines : (boxes : List State) (g : Given) (records : Records) → HasRecords g (pred_in t) t.names (t.names ∷ records)
       → IsByLines (StepOf t) no_last last_of (end_of (all_good (is_row (pred_in t)) records))
       (watching 0 boxes) records (RunSaid t.rank boxes g) (RunPart t.rank boxes g)
@@ -91,7 +91,7 @@ module _ (t : TargetOf) (belongs : Belongs t.rank t.pred t.program) where
         run.first (pred_in t) t.names done left z (subst (λ (rs : Records). HasRecords g (pred_in t) t.names (t.names ∷ rs)) e h) d;
   }
 
--- a record was taken, or a put was cut off, or its line took memory
+-- a record was taken, or a write was cut off, or its line allocated
 pub takes_all : (rank : Rank) (p : PredOf) (names fields : List (List ℕ)) (w z : Watching) (said : Result Verdict RowStop) (right : Bool)
     (held grown : List ℕ) (a b : ℕ) (was now : Option Shown)
     → of_record.Says rank p fields said → grown ≡ held ++ line (said_text names said)
@@ -157,7 +157,7 @@ all_is p (fields ∷ rest) h =
     ap (λ b. b && all_good (is_row p) rest) (row_is p fields (All-head (IsRow p) fields rest h)) ∙ all_is p rest
     (All-tail (IsRow p) fields rest h)
 
--- a record among records that is no row
+-- an invalid record among records
 record NoRowAmong (p : PredOf) (records : Records) : Type 0 where
   before : Records
   fields : List (List ℕ)
@@ -196,7 +196,7 @@ not_all p (f ∷ fs) after fields n = and_false (is_row p f) (all_good (is_row p
     and_false true b e = e
     and_false false b e = refl
 
--- records behind the right header end so
+-- records after the right header end so
 pub ends_by : (p : PredOf) (names : List (List ℕ)) (records : Records) (g : Given) → HasRecords g p names (names ∷ records)
     → RunEnds g (end_of (all_good (is_row p) records))
 ends_by p names records g h = by_good (all_good (is_row p) records) refl
@@ -237,7 +237,7 @@ wrong_right g p q names others rs rest h w k =
     (same_records g p q names others rs (others ∷ rest) h k) w in
     absurd (wrong (sym (same_names g p q names others rs (others ∷ rest) h k)))
 
--- the records behind the header are one, and are all rows or not
+-- the records after the header are one, and are all rows or not
 good_or_not : {P : Type 0} (g : Given) (p q : PredOf) (names others : List (List ℕ)) (xs ys : Records)
     → HasRecords g p names (names ∷ xs) → HasRecords g q others (others ∷ ys) → all_good (is_row p) xs ≡ true
     → all_good (is_row q) ys ≡ false → P
@@ -270,7 +270,7 @@ lawful = record { tells = tells BySmallest; one = one; kind = kind }
 pub lawful_graded : IsLawful (λ boxes. RunSaid ByDegree []) RunEnds
 lawful_graded = record { tells = λ boxes g a o. tells ByDegree [] g a o; one = one; kind = kind }
 
--- what is carried out for boxes that are none
+-- what is carried out for no watchers
 pub no_boxes : (rank : Rank) (boxes : List State) (g : Given) (puts : Count) (result : Result End Early) (was now : Option Shown) → boxes ≡ []
     → CarriesOut (RunSaid rank boxes g) (RunPart rank boxes g) ⊥ ⊥ puts result was now
     → CarriesOut (RunSaid rank [] g) (RunPart rank [] g) ⊥ ⊥ puts result was now

@@ -1,4 +1,4 @@
--- What the machine answers on a record's row is owed to the record.
+-- Proves that the verdict of the machine on a record's row is the one that the record requires.
 use Rattle.std.proofs.Common.{true≢false, ◌≡◌, ℕ, Bool, List, Result, Ok, Err, refl, ap, sym, ◌∙◌, subst}
 use Rattle.std.specs.Prelude.{IsOk}
 use Rattle.ln_algebra.specs.Orders.{Rank}

@@ -1,4 +1,5 @@
--- What a predicate that is run keeps: the verdict of its program is owed, on each row in range there is one, and it is what is given.
+-- Proves what a predicate that is run keeps: the verdict of its program is the one required, on each row in range there is one,
+-- and it is what is returned.
 use Rattle.std.proofs.Common.{◌≡◌, [], ◌∷◌, refl, ap, sym, ◌∙◌, subst}
 use Rattle.ln_algebra.specs.Orders.{Rank}
 use Rattle.ln_tree.specs.declared.pred.Pred.{Pred}
@@ -25,7 +26,7 @@ pub row_for : (rank : Rank) (p : Pred) (part : Part) (r : code.Row) → Belongs 
     → InRange part.shape.sites part.shape.vars (row_of part.shape.sites part.shape.vars r)
 row_for rank p part r b range = rw (b.answers.sites, b.answers.vars) range
 
--- what the program's machine answers on it is owed to it
+-- the verdict of the program's machine on it is the one that it requires
 pub answer_due : (rank : Rank) (p : Pred) (part : Part) (r : code.Row) (v : Verdict) → Belongs rank p part
     → InRange p.shape.sites p.shape.vars (row_of p.shape.sites p.shape.vars r)
     → IsVerdict part (row_of part.shape.sites part.shape.vars r) v → IsDueIn rank (pred_of p) (row_of p.shape.sites p.shape.vars r) v
@@ -35,7 +36,7 @@ answer_due rank p part r v b range verdict =
     let there = subst (λ (row : Row). IsVerdict part row v) same verdict in
     parts_answer rank (pred_of p) part (row_of p.shape.sites p.shape.vars r) v b.kept b.answers range there
 
--- each row in range is owed a verdict
+-- each row in range requires a verdict
 pub owed_there : (rank : Rank) (p : Pred) (part : Part) (row : Row) → Belongs rank p part → InRange p.shape.sites p.shape.vars row
     → (v : Verdict) × IsDueIn rank (pred_of p) row v
 owed_there rank p part row b range =

@@ -1,4 +1,4 @@
--- `verify`: what it owes is carried out by a whole text; a listing is valid or has one fault, and where it ends.
+-- `verify`: what it requires is carried out by a whole text; a listing is valid or has one fault, and where it ends.
 use Rattle.std.proofs.Common.{◌≡◌, ℕ, List, [], ◌∷◌, ◌++◌, refl, ap, sym, ◌∙◌, subst, Option, Some, None}
 use Rattle.std.specs.Prelude.{MatchOption, Result, codes, decimal}
 use Rattle.ln_base.specs.Outside.{Shown}
@@ -77,7 +77,7 @@ one_line g m n (form bytes e f) (rule l b k) = absurd (formed g bytes l m e f b)
 one_line g m n (rule l a h) (form bytes e f) = absurd (formed g bytes l n e f a)
 one_line g m n (rule l a h) (rule k b f) = let s = same_listed g l k a b in one_rule g.table.preds l k m n s.0 s.1 h f
 
--- what it says is one
+-- what it requires is one
 pub one_said : (g : Given) (a b : Said) → VerifySaid g a → VerifySaid g b → a ≡ b
 one_said g a b (valid h) (valid k) = refl
 one_said g a b (valid h) (invalid n k) = absurd (not_valid g n h k)

@@ -1,4 +1,4 @@
--- A list of boxes, one after the other.
+-- A list of watchers, one after the other.
 use Rattle.std.proofs.Common.{◌≡◌, ℕ, suc, ◌+◌, ◌<◌, ◌≤◌, List, [], ◌∷◌, ◌++◌, length, take, drop}
 use Rattle.std.proofs.Common.{refl, ap, sym, ◌∙◌, arith, Option, Result, Ok, Err, OnErr, get_or, set, append_assoc}
 use Rattle.std.proofs.Common.{length-append}
@@ -37,7 +37,7 @@ last-append [] ys = refl
 last-append (x ∷ xs) ys =
     let e = last-append xs ys in ap (λ q. line_of x ++ q) e ∙ sym (append_assoc (line_of x) (last_lines xs) (last_lines ys))
 
--- the boxes before place i have seen the verdict on a row, and their lines stand
+-- the watchers before place i have seen the verdict on a row, and their lines are written
 pub record Showing {B : Type 0} (kind : B → ℕ) (tally : B → List ℕ) (items first : List B) (i row : ℕ) (v : Verdict)
     (before count : ℕ) (port : Port) (was now : Option Shown) : Type 0 where
   pub seen : List State
@@ -47,7 +47,7 @@ pub record Showing {B : Type 0} (kind : B → ℕ) (tally : B → List ℕ) (ite
   pub fine : count ≡ before
   pub within : i ≤ length items
 
--- no box has
+-- no watcher has seen it
 pub starts : {B : Type 0} (kind : B → ℕ) (tally : B → List ℕ) (items : List B) (row : ℕ) (v : Verdict) (count : ℕ)
     (port : Port) (was : Option Shown) → Showing kind tally items items 0 row v count count port was was
 starts kind tally items row v count port was =
@@ -65,7 +65,7 @@ one-line row v s k e = append-nil _ ∙ rw e refl
 put-one : (seen : List State) (s : State) (rest : List State) → seen ++ s ∷ rest ≡ (seen ++ s ∷ []) ++ rest
 put-one seen s rest = sym (append_assoc seen (s ∷ []) rest)
 
--- a box that stays
+-- a watcher that stays
 pub stays : {B : Type 0} (kind : B → ℕ) (tally : B → List ℕ) (items first : List B) (i row : ℕ) (v : Verdict)
     (before count : ℕ) (port : Port) (was now : Option Shown) (old new : B)
     → Showing kind tally items first i row v before count port was now
@@ -91,7 +91,7 @@ stays kind tally items first i row v before count port was now old new s w o k t
       within = omega (arith, length-set items i new);
     }
 
--- what remains when the box at a place is taken out
+-- what remains when the watcher at a place is taken out
 taken : {B : Type 0} (items rest : List B) (i : ℕ) (new : B) → i < length items → rest ≡ remove (set items i new) i
     → rest ≡ take i items ++ drop (i + 1) items
 taken items rest i new w r =
@@ -99,7 +99,7 @@ taken items rest i new w r =
     let lt : i < suc i = omega arith in
     r ∙ rw (take-set, drop-set-lt, one) refl
 
--- a box that is done: its line stands and it is gone
+-- a watcher that is done: its line is written and it is gone
 pub leaves : {B : Type 0} (kind : B → ℕ) (tally : B → List ℕ) (items first rest : List B) (i row : ℕ) (v : Verdict)
     (before count later : ℕ) (port : Port) (was now then : Option Shown) (old new done : B)
     → Showing kind tally items first i row v before count port was now
@@ -130,7 +130,7 @@ leaves kind tally items first rest i row v before count later port was now then 
       within = omega (arith, ap length parts, length-append (take i items) (drop (i + 1) items), size);
     }
 
--- the put of its line fails
+-- the write of its line fails
 pub stopped : {B T E : Type 0} (kind : B → ℕ) (tally : B → List ℕ) (items first rest : List B) (i row : ℕ) (v : Verdict)
     (before count : ℕ) (port : Port) (was now then : Option Shown) (old new done : B) (r : Result T E)
     → Showing kind tally items first i row v before count port was now
@@ -158,7 +158,7 @@ stopped kind tally items first rest i row v before count port was now then old n
       puts = rw (said, s.puts) at p;
     }
 
--- all boxes have seen it
+-- all watchers have seen it
 pub shown_all : {B : Type 0} (kind : B → ℕ) (tally : B → List ℕ) (items first : List B) (i row : ℕ) (v : Verdict)
     (before count : ℕ) (port : Port) (was now : Option Shown)
     → Showing kind tally items first i row v before count port was now → length items ≤ i
@@ -171,7 +171,7 @@ shown_all kind tally items first i row v before count port was now s h =
     let same : states_of kind tally first ≡ s.seen = s.split ∙ rw none (append-nil s.seen) in
     (rw (same, ← s.left, all) refl, s.puts ∙ rw same refl)
 
--- the lines of the boxes before place i stand
+-- the lines of the watchers before place i are written
 pub record Closing {B : Type 0} (kind : B → ℕ) (tally : B → List ℕ) (items : List B) (i before count : ℕ) (port : Port)
     (was now : Option Shown) : Type 0 where
   pub seen : List State
@@ -179,7 +179,7 @@ pub record Closing {B : Type 0} (kind : B → ℕ) (tally : B → List ℕ) (ite
   pub puts : now ≡ appended port (last_lines seen) was
   pub fine : count ≡ before
 
--- the line of the box at a place, among all lines
+-- the line of the watcher at a place, among all lines
 with-one : {B : Type 0} (kind : B → ℕ) (tally : B → List ℕ) (items : List B) (i : ℕ) (seen : List State) (old : B)
     → states_of kind tally items ≡ seen ++ states_of kind tally (drop i items) → i < length items
     → old ≡ get_or items i old
@@ -209,7 +209,7 @@ closes kind tally items i before count later port was now then old s w o p c =
       fine = c ∙ s.fine;
     }
 
--- the put of the next line fails
+-- the write of the next line fails
 cut_lines : {B : Type 0} (kind : B → ℕ) (tally : B → List ℕ) (items : List B) (i before count : ℕ) (port : Port)
     (was now then : Option Shown) (old : B) → Closing kind tally items i before count port was now
     → i < length items → old ≡ get_or items i old → FailsAfter port (feed (watch_text (kind old) (tally old))) now then

@@ -30,7 +30,7 @@ use Rattle.ln_top.specs.Line.{sign_text, decider_text, stop_text, said_text}
 use Rattle.ln_top.specs.Headline.{NoFeed}
 use Rattle.ln_top.proofs.Steps.Likeness.{columns_like}
 
--- one text behind another
+-- one text after another
 pub behind : (xs ys : List ℕ) → NoFeed xs → NoFeed ys → NoFeed (xs ++ ys)
 behind [] ys f g = g
 behind (x ∷ xs) ys f g = (f.0, behind xs ys f.1 g)

@@ -1,21 +1,20 @@
--- What is carried out after a first text that was put.
-use Rattle.std.proofs.Common.{◌≡◌, ◌⊎◌, ℕ, true, false, List, [], ◌++◌, refl, ap, sym, ◌∙◌, inl, inr, Option, Ok, Err, Result}
-use Rattle.std.proofs.lemmas.List.{append-nil}
+-- Proves what is carried out after a first text that was written.
+use Rattle.std.proofs.Common.{◌≡◌, ◌⊎◌, ℕ, true, false, List, [], ◌++◌, refl, ap, ◌∙◌, inl, inr, Option, Err, Result}
 use Rattle.ln_base.specs.Outside.{Shown}
 use Rattle.ln_top.specs.declared.status.End.{End}
 use Rattle.ln_top.specs.declared.status.Early.{Early}
 use Rattle.ln_top.specs.declared.status.Early.TheVariants.{Write}
-use Rattle.ln_top.specs.Said.{IsFront, Said, count, put_both}
+use Rattle.ln_top.specs.Said.{Said, count, put_both}
 use Rattle.ln_top.specs.Carried as c
 use Rattle.ln_top.specs.Carried.{CarriesOut, LeavesFronts, LeavesPart, of_owed, of_part, of_read}
 use Rattle.ln_top.specs.Lines.{Wrote}
-use Rattle.ln_top.proofs.Gathering.LinesLaws.{both_twice, broke_off, front_behind, front_wider, fronts_wider, rises_from, wrote_all}
+use Rattle.ln_top.proofs.Gathering.LinesLaws.{both_twice, broke_off, front_behind, fronts_wider, rises_from, wrote_all}
 
 -- what is said after a first text on Out
 abbrev pub after_head : List ℕ → Said → Said
 after_head head said = record { end = said.end; out = head ++ said.out; err = said.err }
 
--- what a command has to give: what is owed after the first text is owed with it, parts too, and something is owed
+-- what a command has to show: what is required after the first text is required with it, parts too, and something is required
 pub record IsHeaded (head : List ℕ) (owes rest : Said → Type 0) (part more : List ℕ → List ℕ → Type 0) : Type 0 where
   pub whole : (said : Said) → rest said → owes (after_head head said)
   pub parts : (out err : List ℕ) → more out err → part (head ++ out) err
@@ -23,7 +22,7 @@ pub record IsHeaded (head : List ℕ) (owes rest : Said → Type 0) (part more :
   pub said : Said
   pub owed : rest said
 
--- first bytes that were put after the text
+-- prefixes that were written after the text
 fronts_after : (head : List ℕ) (owes rest : Said → Type 0) (part more : List ℕ → List ℕ → Type 0) (was mid now : Option Shown)
     → IsHeaded head owes rest part more → mid ≡ put_both head [] was → LeavesFronts rest (⊥ ⊎ ⊥) mid now
     → LeavesFronts owes (⊥ ⊎ ⊥) was now
@@ -43,7 +42,7 @@ part_after head owes rest part more was mid now h m (of_part said out err p o f 
     of_part (after_head head said) (head ++ out) err (h.parts out err p) (h.whole said o) (front_behind head said.out out f) g
     (e ∙ ap (put_both out err) m ∙ both_twice head [] out err was)
 
--- the text was put, and the rest was carried out after it
+-- the text was written, and the rest was carried out after it
 pub head_carried : (head : List ℕ) (owes rest : Said → Type 0) (part more : List ℕ → List ℕ → Type 0) (x y k : ℕ)
     (result : Result End Early) (was mid now : Option Shown) → IsHeaded head owes rest part more
     → Wrote head [] (count x y) true was mid → CarriesOut rest more ⊥ ⊥ (count y k) result mid now

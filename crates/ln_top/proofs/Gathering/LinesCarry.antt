@@ -1,4 +1,4 @@
--- What lines that came carry out: once for all commands that put lines as they come.
+-- Proves what lines that came carry out: once for all commands that write lines as they come.
 use Rattle.std.proofs.Common.{◌≡◌, ℕ, Bool, true, false, List, ◌++◌, refl, ap, sym, ◌∙◌, subst, Option, Ok, Err}
 use Rattle.std.proofs.Common.{append_assoc}
 use Rattle.std.specs.Prelude.{Result}
@@ -14,12 +14,12 @@ use Rattle.ln_top.specs.Lines.{Lines, Ran, Wrote, all_good, Closes, closed, uncl
 use Rattle.ln_top.proofs.Gathering.LinesLaws.{rises_from, lines_have, lines_join, HasLines, fronts_behind, fronts_wider, wrote_all, broke_off}
 use Rattle.ln_top.proofs.Gathering.LinesLaws.{both_twice, ok_err, ok_same, no_last}
 
--- lines with the last lines behind them, as those of watchers at the end
+-- lines with the last lines after them, as those of watchers at the end
 abbrev pub with_last : {S : Type 0} → End → (S → List ℕ) → (S → List ℕ) → List ℕ → List ℕ → S → Said
 with_last end lo le out err z = record { end = end; out = out ++ lo z; err = err ++ le z }
 
--- what a command has to give: each record has its lines, the lines of all records are owed, and those of the first ones are a part
--- that may be left
+-- what a command has to show: each record has its lines, the lines of all records are required, and those of the first ones
+-- are a part that may be left
 pub record IsByLines {S R : Type 0} (step : S → R → List ℕ → List ℕ → S → Type 0) (lo le : S → List ℕ) (end : End)
     (s : S) (records : List R) (owes : Said → Type 0) (part : List ℕ → List ℕ → Type 0) : Type 0 where
   pub has : (s : S) (r : R) → (o : List ℕ) × (e : List ℕ) × (z : S) × step s r o e z
@@ -27,7 +27,7 @@ pub record IsByLines {S R : Type 0} (step : S → R → List ℕ → List ℕ �
   pub first : (done left : List R) (out err : List ℕ) (z : S) → records ≡ done ++ left → Lines step s done out err z
       → part out err
 
--- the lines of all records, behind those of the first ones
+-- the lines of all records, after those of the first ones
 lines_behind : {S R : Type 0} (step : S → R → List ℕ → List ℕ → S → Type 0) (s m : S) (records done left : List R)
     (out err : List ℕ) (behind : HasLines step m left) → records ≡ done ++ left → Lines step s done out err m
     → Lines step s records (out ++ behind.out) (err ++ behind.err) behind.left
@@ -87,7 +87,7 @@ close_carried step good lo le end s z records owes part right x y k was mid now 
     let w = fronts_behind out err (lo z) (le z) was mid now f q.1 in
     c.cut (rises_from x y k u q.0) (of_owed (with_last end lo le out err z) w.o w.e (b.whole out err z d) w.of_out w.of_err w.shown) refl
 
--- the last lines for Err were put behind the records, or cut off
+-- the last lines for Err were written after the records, or cut off
 pub closes_carried : {S R : Type 0} (step : S → R → List ℕ → List ℕ → S → Type 0) (good : R → Bool)
     (le : S → List ℕ) (end : Bool → End) (s z : S) (records : List R) (owes : Said → Type 0)
     (part : List ℕ → List ℕ → Type 0) (right : Bool) (result : Result End Early) (x y k : ℕ) (was mid now : Option Shown)

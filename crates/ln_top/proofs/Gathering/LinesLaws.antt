@@ -1,4 +1,4 @@
--- Work on records, one behind the other: once for all commands that put lines as they come.
+-- Work on records, one after the other: once for all commands that write lines as they come.
 use Rattle.std.proofs.Common.{◌≡◌, ◌≢◌, ℕ, ◌≤◌, length, take, Bool, true, false, ◌&&◌, List, [], ◌∷◌}
 use Rattle.std.proofs.Common.{◌++◌, refl, ap, sym, ◌∙◌, subst, Option, Some, None, Ok, Err, append_assoc}
 use Rattle.std.specs.Prelude.{IfSome, Result}
@@ -21,7 +21,7 @@ use Rattle.ln_top.specs.Lines.{failed, Ran, all, cut, short}
 pub from_some : {X : Type 0} (o : Option X) (x : X) (P : X → Type 0) → IfSome o P → o ≡ Some x → P x
 from_some {X = X} o x P h e = subst (λ (q : Option X). IfSome q P) e h
 
--- both ports, twice
+-- both streams, twice
 pub both_twice : (o e out err : List ℕ) (was : Option Shown)
     → put_both out err (put_both o e was) ≡ put_both (o ++ out) (e ++ err) was
 both_twice o e out err None = refl
@@ -45,14 +45,14 @@ ok_err e = absurd (subst IsOkHere e tt)
 front_all : (text : List ℕ) → IsFront text text
 front_all text = record { rest = []; is = sym (append-nil text) }
 
--- more behind a text, and more in front of one
+-- more after a text, and more before one
 pub front_wider : (text next front : List ℕ) → IsFront text front → IsFront (text ++ next) front
 front_wider text next front f = record { rest = f.rest ++ next; is = ap (λ t. t ++ next) f.is ∙ append_assoc front f.rest next }
 
 pub front_behind : (before text front : List ℕ) → IsFront text front → IsFront (before ++ text) (before ++ front)
 front_behind before text front f = record { rest = f.rest; is = ap (λ t. before ++ t) f.is ∙ sym (append_assoc before front f.rest) }
 
--- first bytes behind what was put
+-- prefixes after what was written
 pub fronts_behind : (o e out err : List ℕ) (was mid now : Option Shown) → mid ≡ put_both o e was
     → PutsFronts out err mid now → PutsFronts (o ++ out) (e ++ err) was now
 fronts_behind o e out err was mid now m f = record {
@@ -72,7 +72,7 @@ fronts_wider o e out err was now f = record {
   shown = f.shown;
 }
 
--- lines behind lines
+-- lines after lines
 pub lines_join : {S R : Type 0} (step : S → R → List ℕ → List ℕ → S → Type 0) (s m z : S) (xs ys : List R)
     (o e out err : List ℕ) → Lines step s xs o e m → Lines step m ys out err z
     → Lines step s (xs ++ ys) (o ++ out) (e ++ err) z
@@ -100,14 +100,14 @@ good_join good (x ∷ xs) r = ap (λ b. good x && b) (good_join good xs r) ∙ a
     and_assoc true b c = refl
     and_assoc false b c = refl
 
--- a count that rose behind one that stood still rose
+-- a count that rose after one that stood still has risen
 pub rises_from : (a b d : ℕ) → b ≡ a → Rises (count b d) → Rises (count a d)
 rises_from a b d e h = subst (λ k. Rises (count k d)) e h
 
 pub ok_same : {T E : Type 0} {a b : T} → (let q : Result T E = Ok a in q ≡ Ok b) → a ≡ b
 ok_same {a = a} e = ap (λ q. elim q [ Ok x ↦ x | Err y ↦ a ]) e
 
--- what was held, behind what was put
+-- what was held, after what was written
 behind : (sent err held : List ℕ) (was mid now : Option Shown) → mid ≡ put_both sent err was → now ≡ put_both held [] mid
     → now ≡ put_both (sent ++ held) err was
 behind sent err held was mid now f g =
@@ -127,8 +127,8 @@ IsMemory (Err early.Read) = ⊥
 pub memory_write : {T : Type 0} {P : Type 0} → (let r : Result T Early = Err early.Memory in r ≡ Err early.Write) → P
 memory_write e = absurd (subst IsMemory e tt)
 
--- the lines of the first records stand, or the last of them are held, and the rest is left: what was put and what is held are the
--- lines so far
+-- the lines of the first records are written, or the last of them are held, and the rest remains:
+-- what was written and what is held are the lines so far
 pub record Running {S R : Type 0} (step : S → R → List ℕ → List ℕ → S → Type 0) (good : R → Bool) (s : S)
     (records left : List R) (so_far : Bool) (held : List ℕ) (was now : Option Shown) (z : S) (before after : ℕ) : Type 0 where
   pub done : List R
@@ -160,7 +160,7 @@ lines_more : {S R : Type 0} (step : S → R → List ℕ → List ℕ → S → 
     → Lines step s (done ++ r ∷ []) (out ++ o) (err ++ e) z
 lines_more step s m z done r o e out err k t = lines_join step s m z done (r ∷ []) out err o e k (lines_one step m z r o e t)
 
--- a record was taken: its bytes for Out were gathered, and those for Err were put
+-- a record was taken: its bytes for Out were gathered, and those for Err were written
 pub running_takes : {S R : Type 0} (step : S → R → List ℕ → List ℕ → S → Type 0) (good : R → Bool) (s m z : S)
     (records left rest : List R) (r : R) (so_far right next : Bool) (held grown : List ℕ) (was mid now : Option Shown)
     (a b d : ℕ)
@@ -185,7 +185,7 @@ running_takes step good s m z records left rest r so_far right next held grown w
 running_takes step good s m z records left rest r so_far right next held grown was mid now a b d k l (tore o e n t p x w) h = ok_err x
 running_takes step good s m z records left rest r so_far right next held grown was mid now a b d k l (left_off q x g f) h = ok_err x
 
--- it wasn't: a put was cut off, or it was given up
+-- it wasn't: a write was cut off, or it was given up
 pub running_stops : {S R : Type 0} (step : S → R → List ℕ → List ℕ → S → Type 0) (good : R → Bool) (s m z : S)
     (records left rest : List R) (r : R) (so_far : Bool) (early : Early) (held grown last : List ℕ) (was mid now : Option Shown)
     (a b d : ℕ)
@@ -204,7 +204,7 @@ running_stops step good s m z records left rest r so_far early held grown last w
     given_up k.done left k.sent k.err m (q ∙ k.calm) k.parts
     (subst (λ t. Lines step s k.done (k.sent ++ t) k.err m) (sym (h ∙ g)) k.lines) (f ∙ k.shown) x
 
--- what was held is held on, or it was put
+-- what was held is held on, or it was written
 pub running_empties : {S R : Type 0} (step : S → R → List ℕ → List ℕ → S → Type 0) (good : R → Bool) (s z : S)
     (records left : List R) (so_far : Bool) (held kept : List ℕ) (was mid now : Option Shown) (a b d : ℕ)
     → Running step good s records left so_far held was mid z a b → Empties held kept (count b d) true mid now
@@ -265,7 +265,7 @@ running_all step good s z records left so_far held was now a b k e =
     worked k.sent k.err k.calm (subst (λ rs. Lines step s rs (k.sent ++ held) k.err z) whole k.lines)
     (ap Ok (k.goods ∙ ap (all_good good) whole)) k.shown
 
--- what was held was put behind the records, and so all of it stands
+-- what was held was written after the records, and so all of it is written
 pub sends_ran : {S R : Type 0} (step : S → R → List ℕ → List ℕ → S → Type 0) (good : R → Bool) (s z : S)
     (records : List R) (held : List ℕ) (ran result : Result Bool Early) (was mid now : Option Shown) (a b d : ℕ)
     → Gathers step good s records (count a b) ran held was mid z → Sends held ran result (count b d) mid now
@@ -322,7 +322,7 @@ one_lines step one s (r ∷ rest) o e out err y z (more {out = o2} {err = e2} _ 
       lefts = next.lefts;
     }
 
--- a put failed
+-- a write failed
 pub out_broke : (text : List ℕ) (puts : Count) (was now : Option Shown)
     → ((n : ℕ) × (n ≤ length text) × (now ≡ appended Out (take n text) was)) → Rises puts
     → Wrote text [] puts false was now
@@ -335,7 +335,7 @@ out_broke text puts was now h p =
       shown = h.2 ∙ out_alone (take h.0 text) was;
     })
 
--- what a put that is told to be whole, or cut off, wrote
+-- what a write that was reported whole, or cut off, wrote
 pub wrote_all : (out err : List ℕ) (puts : Count) (was now : Option Shown) → Wrote out err puts true was now
     → IsCalm puts × (now ≡ put_both out err was)
 wrote_all out err puts was now (wrote q d e) = (q, e)
@@ -346,11 +346,11 @@ pub broke_off : (out err : List ℕ) (puts : Count) (was now : Option Shown) →
 broke_off out err puts was now (wrote q d e) = absurd (true_false (sym d))
 broke_off out err puts was now (broke d p f) = (p, f)
 
--- nothing comes last on a port
+-- nothing comes last on a stream
 abbrev pub no_last : {S : Type 0} → S → List ℕ
 no_last z = []
 
--- a text was put whole, or cut off: what is held
+-- a text was written whole, or cut off: what is held
 pub empties_all : (held : List ℕ) (puts : Count) (was now : Option Shown) → Wrote held [] puts true was now
     → Empties held [] puts true was now
 empties_all held puts was now w = let p = wrote_all held [] puts was now w in emptied p.0 refl refl p.1
@@ -362,7 +362,7 @@ empties_stuck held left puts was now w = let p = broke_off held [] puts was now 
 pub empties_none : (held : List ℕ) (k : ℕ) (was : Option Shown) → Empties held held (count k k) true was was
 empties_none held k was = held_on refl refl refl refl
 
--- the rest was put behind what isn't a failed put
+-- the rest was written after what isn't a failed write
 pub sends_all : (held : List ℕ) (ran : Result Bool Early) (puts : Count) (was now : Option Shown) → ran ≢ Err Write
     → Wrote held [] puts true was now → Sends held ran ran puts was now
 sends_all held ran puts was now n w = let p = wrote_all held [] puts was now w in l.sent n p.0 refl p.1
@@ -375,12 +375,12 @@ pub sends_none : (held : List ℕ) (ran : Result Bool Early) (k : ℕ) (was : Op
     → Sends held ran (Err Write) (count k k) was was
 sends_none held ran k was e = failed e refl (sym e) refl
 
--- ---- records that put their bytes at once: nothing is held
+-- ---- records whose bytes are written at once: nothing is held
 all_every : {R : Type 0} (xs : List R) → all_good every xs ≡ true
 all_every [] = refl
 all_every (x ∷ xs) = all_every xs
 
--- a record was put
+-- a record was written
 pub running_puts : {S R : Type 0} (step : S → R → List ℕ → List ℕ → S → Type 0) (s m z : S)
     (records left rest : List R) (r : R) (was mid now : Option Shown) (a b d : ℕ)
     → Running step every s records left true [] was mid m a b → left ≡ r ∷ rest
@@ -414,7 +414,7 @@ running_tears step s m z y records left rest r was mid now a b d k l p =
     (lines_more step s m p.left k.done r p.out p.err (k.sent ++ []) k.err k.lines p.stepped)) (rises_from a b d k.calm w.0)
     (fronts_behind k.sent k.err p.out p.err was mid now k.shown w.1) refl
 
--- all of them were put
+-- all of them were written
 pub running_done : {S R : Type 0} (step : S → R → List ℕ → List ℕ → S → Type 0) (s z : S) (records left : List R)
     (was now : Option Shown) (a b : ℕ) → Running step every s records left true [] was now z a b → left ≡ []
     → PutsAll step s records (count a b) true was now z

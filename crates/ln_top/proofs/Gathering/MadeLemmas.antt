@@ -122,7 +122,7 @@ filled_other {n = n} {vars = vars} {first = first} {v = v} {site = site} {g = g}
       value_size = length-set value v y ∙ f.value_size;
     }
 
--- behind the last variable
+-- after the last variable
 pub filled_all : {n : ℕ} {vars : List VarInfo} {first : Lcg} {v site : ℕ} {g : Lcg} {r : Row}
     → Filled n vars first v site g r.index r.values → length vars ≤ v
     → IsMade n vars first r × (g ≡ past (length (columns vars)) first)

@@ -109,7 +109,7 @@ pub words_length : (k : ℕ) (g : Lcg) → length (words k g) ≡ k
 words_length zero g = refl
 words_length (suc k) g = ap suc (words_length k (pcg64 g).1)
 
--- the values of variables are in their ranges, where those behind are
+-- the values of variables are in their ranges, where those after it are
 Within : ℕ → List VarInfo → Type 0
 Within n is = (ws : List ℕ) → length ws ≡ length (columns is) → AreWithin is (values_by n (columns is) ws)
 
@@ -148,7 +148,7 @@ within_length [] (z ∷ zs) h = absurd h
 within_length (i ∷ is) [] h = absurd h
 within_length (i ∷ is) (z ∷ zs) h = ap suc (within_length is zs h.2)
 
--- each column gives an index or a value
+-- each column has an index or a value
 all_made : (n j : ℕ) (cs : List Column) (ws : List ℕ) → length ws ≡ length cs
     → length (indices_by j cs ws) + length (values_by n cs ws) ≡ length cs
 all_made n j [] ws h = refl

@@ -1,4 +1,4 @@
--- A record is owed one line, and a predicate one stage count.
+-- A record requires one line, and a predicate one stage count.
 use Rattle.std.proofs.Common.{◌≡◌, ℕ, ◌<◌, List, [], ◌∷◌, ◌++◌, map, length, Result, Ok, Err, refl, ap, sym}
 use Rattle.std.proofs.Common.{◌∙◌, subst, get_or, true}
 use Rattle.std.specs.Prelude.{slice_index_or}
@@ -65,7 +65,7 @@ pub one_line : (rank : Rank) (p : Pred) (names fields : List (List ℕ)) (a b : 
     → IsLineOf rank (pred_of p) names fields b → a ≡ b
 one_line rank p names fields a b l k = l.is ∙ ap line (says_one rank p names fields l.says k.says) ∙ sym k.is
 
--- watchers put the same and are left the same
+-- watchers write the same and remain the same
 pub says_alike : (rank : Rank) (p : Pred) (fields : List (List ℕ)) {x y : Result Verdict RowStop} → Says rank (pred_of p) fields x
     → Says rank (pred_of p) fields y → (w : Watching) → (next_lines x w ≡ next_lines y w) × (next x w ≡ next y w)
 says_alike rank p fields (due r v e d) (due s u f g) w =
@@ -112,7 +112,7 @@ one_count : (p : Pred) (m n : ℕ) → IsStageCount (pred_of p) m → IsStageCou
 one_count p m n c d =
     c.count ∙ ap stage_count (lists_one p c.poly d.poly c.normal d.normal c.lists d.lists c.are_lists d.are_lists) ∙ sym d.count
 
--- the predicates of a table are owed one text
+-- the predicates of a table require one text
 pub one_counts : (ps : List Pred) {a b : List ℕ} → AreCounts (map pred_of ps) a → AreCounts (map pred_of ps) b → a ≡ b
 one_counts [] counts.none counts.none = refl
 one_counts (p ∷ ps) (counts.more q qs m xs c a) (counts.more r rs n ys d b) =

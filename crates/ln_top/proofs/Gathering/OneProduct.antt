@@ -1,4 +1,4 @@
--- A record of a product is owed one line.
+-- A record of a product requires one line.
 use Rattle.std.proofs.Common.{◌≡◌, ℕ, List, [], ◌∷◌, ◌++◌, Result, Ok, Err, refl, ap, sym, ◌∙◌, subst}
 use Rattle.ln_base.specs.declared.sign.Sign.{Sign}
 use Rattle.ln_base.specs.declared.sign.Sign.TheVariants.{Minus, Zero, Plus}

@@ -1,4 +1,4 @@
--- What watchers put for a verdict, and where a put of theirs is cut off.
+-- Proves what watchers write for a verdict, and where a write of theirs is cut off.
 use Rattle.std.proofs.Common.{◌≡◌, ℕ, ◌&&◌, List, [], ◌∷◌, ◌++◌, take, refl, ap, sym, ◌∙◌, subst, true}
 use Rattle.std.proofs.Common.{false, Bool, Option, Ok, Err, append_assoc}
 use Rattle.std.specs.Prelude.{Result, ◌==◌, if◌then◌else◌}
@@ -60,7 +60,7 @@ alike_lines v u w e f = lines_alike (counted w.seen) v u w.boxes e f
 pub alike_next : (v u : Verdict) (w : Watching) → v.sign ≡ u.sign → v.by ≡ u.by → next (Ok v) w ≡ next (Ok u) w
 alike_next v u w e f = ap (watching (counted w.seen)) (left_alike (counted w.seen) v u w.boxes e f)
 
--- ---- without boxes nothing is put and none is left
+-- ---- without watchers nothing is written and none remains
 pub none_told : (row : ℕ) (said : Result Verdict RowStop) (boxes : List State) → boxes ≡ [] → told_on row said boxes ≡ []
 none_told row (Ok v) boxes e = ap (lines_at row v) e
 none_told row (Err stop) boxes e = refl
@@ -69,8 +69,8 @@ pub none_left : (row : ℕ) (said : Result Verdict RowStop) (boxes : List State)
 none_left row (Ok v) boxes e = ap (left_after row v) e
 none_left row (Err stop) boxes e = e
 
--- ---- puts
--- a verdict was shown to all boxes, or a put failed: some first bytes of all their lines went out
+-- ---- writes
+-- a verdict was shown to all watchers, or a write failed: a prefix of all their lines was written
 stops_short : (row : ℕ) (v : Verdict) (boxes left : List State) (port : Port) (was now : Option Shown)
     → StopsAt row v boxes left port was now → FailsAfter port (lines_at row v boxes) was now
 stops_short row v boxes left port was now h =
@@ -83,7 +83,7 @@ stops_short row v boxes left port was now h =
     subst (λ t. FailsAfter port t was now) (sym e) (fails_first port (lines_at row v h.seen ++ line_of done)
     (lines_at row v h.later) was now behind)
 
--- a text was put on a port, or cut off
+-- a text was written to a stream, or cut off
 pub put_on : (port : Port) (text : List ℕ) (puts : Count) (was now : Option Shown) → IsCalm puts
     → now ≡ appended port text was → WroteOn port text puts true was now
 put_on Out text puts was now q e = wrote q refl (e ∙ out_alone text was)

@@ -25,7 +25,7 @@ args_apart (x ∷ xs) (y ∷ ys) e =
     and_none (same_arg (arg_of x) (arg_of y)) (same_args (map arg_of xs) (map arg_of ys))
     (sym (args_apart xs ys (λ l. e (ap (λ n. suc n) l))))
 
--- one pair is unlike, or like, or none is left
+-- one pair is unlike, or like, or none remains
 pub args_broken : (xs ys : List Arg) (i : ℕ) (x y : Arg) → i < length xs → i < length ys
     → x ≡ get_or xs i x → y ≡ get_or ys i y → same_arg (arg_of x) (arg_of y) ≡ false
     → same_args (map arg_of (drop i xs)) (map arg_of (drop i ys)) ≡ same_args (map arg_of xs) (map arg_of ys)

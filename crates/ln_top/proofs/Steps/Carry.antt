@@ -1,4 +1,4 @@
--- What one level has carried out, the next one has: once for all commands.
+-- Proves that the next level has carried out what one level has: once for all commands.
 use Rattle.std.proofs.lemmas.List.{take-append-drop}
 use Rattle.std.proofs.Common.{◌≡◌, ◌≢◌, ◌≤◌, ℕ, List, [], take, drop, length, refl, ap, sym, ◌∙◌, subst}
 use Rattle.std.proofs.Common.{Option, Err, inl, inr, ◌⊎◌}
@@ -37,7 +37,7 @@ lift_part : {owes more : Said → Type 0} {part wide : List ℕ → List ℕ →
 lift_part f g (c.nothing e) = c.nothing e
 lift_part f g (c.of_part s out err p o a b e) = c.of_part s out err (g out err p) (f s o) a b e
 
--- Whoever owes more has carried out what it owes.
+-- A wider requirement is carried out by what carries out a narrower one.
 pub lift : (owes more : Said → Type 0) (part wide : List ℕ → List ℕ → Type 0) (lacks gone reads seen : Type 0)
     (puts : Count) (result : Result End Early) (was now : Option Shown)
     → ((s : Said) → owes s → more s) → ((out err : List ℕ) → part out err → wide out err) → (lacks → gone)
@@ -48,7 +48,7 @@ lift owes more part wide lacks gone reads seen puts result was now f g h k (c.un
 lift owes more part wide lacks gone reads seen puts result was now f g h k (c.cut p l r) = c.cut p (lift_fronts f (both_ways k h) l) r
 lift owes more part wide lacks gone reads seen puts result was now f g h k (c.short q l r) = c.short q (lift_part f g l) r
 
--- A stop that was said is carried out where its steps are owed so.
+-- A stop that was written is carried out where its steps require it.
 pub says_carried : {A : Type 0} (step : Outcome A → Type 0) (s : Stop) (owes : Said → Type 0)
     (part : List ℕ → List ℕ → Type 0) (lacks reads : Type 0) (puts : Count) (result : Result End Early)
     (was now : Option Shown)
@@ -67,7 +67,7 @@ says_carried step s owes part lacks reads puts result was now f g c.short (c.all
 says_carried step s owes part lacks reads puts result was now f g c.short (c.cut front p n i e r) = absurd (n refl)
 says_carried step s owes part lacks reads puts result was now f g h (c.short q n r e) = c.short q (c.nothing e) r
 
--- A whole text that was put is carried out.
+-- A whole text that was written is carried out.
 pub text_carried : (owes : Said → Type 0) (part : List ℕ → List ℕ → Type 0) (lacks reads : Type 0) (puts : Count)
     (end : End) (text : List ℕ) (result : Result End Early) (was now : Option Shown)
     → owes (whole end text) → PutsText text end puts result was now → CarriesOut owes part lacks reads puts result was now
@@ -84,13 +84,13 @@ out_alone text was = sym (appended-nothing ErrPort (appended Out text was))
 pub err_alone : (text : List ℕ) (was : Option Shown) → appended ErrPort text was ≡ put_both [] text was
 err_alone text was = ap (λ s. appended ErrPort text s) (sym (appended-nothing Out was))
 
--- the put of a text failed
+-- the write of a text failed
 pub text_cut : (text : List ℕ) (end : End) (puts : Count) (was now : Option Shown)
     → ((n : ℕ) × (n ≤ length text) × (now ≡ appended Out (take n text) was)) → Rises puts
     → PutsText text end puts (Err Write) was now
 text_cut text end puts was now h p = c.cut (take h.0 text) p (front_of h.0 text) (h.2 ∙ out_alone (take h.0 text) was) refl
 
--- the put of a stop's line failed
+-- the write of a stop's line failed
 pub line_cut : (s : Stop) (text : List ℕ) (puts : Count) (was now : Option Shown) → text ≡ stop_line s → s ≢ stop.Memory
     → ((n : ℕ) × (n ≤ length text) × (now ≡ appended ErrPort (take n text) was)) → Rises puts
     → Says s puts (Err Write) was now
@@ -98,7 +98,7 @@ line_cut s text puts was now e m h p =
     c.cut (take h.0 text) p m (subst (λ t. IsFront t (take h.0 text)) e (front_of h.0 text))
     (h.2 ∙ err_alone (take h.0 text) was) refl
 
--- A line of a stop that is owed was put.
+-- The line of a stop that is required was written.
 pub told_carried : (owes : Said → Type 0) (part : List ℕ → List ℕ → Type 0) (lacks reads : Type 0) (puts : Count)
     (why : Why) (result : Result End Early) (was now : Option Shown) → owes (said_of why)
     → Says (stop.Tell why) puts result was now → CarriesOut owes part lacks reads puts result was now

@@ -22,7 +22,7 @@ use Rattle.ln_top.specs.Steps.{Compiles, accepted, refused, Finds, found, none, 
 abbrev pub One : {A : Type 0} → (Outcome A → Type 0) → Type 0
 One {A} step = (o p : Outcome A) → step o → step p → o ≡ p
 
--- what stands behind an outcome of its own kind
+-- the value of an outcome, or another one
 abbrev pub value_or : {A : Type 0} → A → Outcome A → A
 value_or a (gives b) = b
 value_or a missing = a
@@ -75,7 +75,7 @@ one_each step f (a ∷ rest) =
 pub some_same : {A : Type 0} (a b : A) → Some a ≡ Some b → a ≡ b
 some_same a b e = ap (λ o. elim o [ Some x ↦ x | None ↦ a ]) e
 
--- the told bytes of a file are one
+-- the known bytes of a file are one
 one_reads : (shelf : Shelf) (limit : ℕ) (name : List ℕ) → One (Reads (Some shelf) limit name)
 one_reads shelf limit name o p (there b e l) (there c f m) = ap gives (some_same b c (sym e ∙ f))
 one_reads shelf limit name o p (there b e l) (long h) =
@@ -118,7 +118,7 @@ one_suits c bytes preds o p (suited a) (unsuited n) = absurd (n a)
 one_suits c bytes preds o p (unsuited n) (suited a) = absurd (n a)
 one_suits c bytes preds o p (unsuited n) (unsuited m) = refl
 
--- the steps of a plan come to one thing over told files
+-- the steps of a plan come to one thing over files whose bytes are known
 pub one_prepares : (plan : Plan) (shelf : Shelf) → One (Prepares plan (Some shelf))
 one_prepares plan shelf =
     one_then _ _ (one_reads shelf most_source plan.source) (λ bytes.
@@ -128,13 +128,13 @@ one_prepares plan shelf =
     one_then _ _ (one_each (Reads (Some shelf) most_file) (one_reads shelf most_file) plan.files) (λ texts.
     one_gives (record { table = table; preds = preds; texts = texts }))))))
 
--- values in front of what a list comes to
+-- values before what a list comes to
 abbrev pub before : {B : Type 0} → List B → Outcome (List B) → Outcome (List B)
 before done (gives bs) = gives (done ++ bs)
 before done missing = missing
 before done (stops why) = stops why
 
--- the members before a place gave these values: what the rest comes to, the whole comes to
+-- the members before a place have these values: what the rest comes to, the whole comes to
 abbrev pub Behind : {A B : Type 0} → (A → Outcome B → Type 0) → List A → List A → List B → Type 0
 Behind {A} {B} step all left done = (o : Outcome (List B)) → Each step left o → Each step all (before done o)
 
@@ -162,7 +162,7 @@ behind_more step all left rest done more a b h l s m =
     λ o e. subst (λ p. Each step all p) (before_one done b o ∙ ap (λ d. before d o) (sym m))
     (h (before (b ∷ []) o) (subst (λ xs. Each step xs (before (b ∷ []) o)) (sym l) (each_one step a rest b s o e)))
 
--- nothing is left: the whole gave these values
+-- nothing remains: the whole has these values
 pub behind_all : {A B : Type 0} (step : A → Outcome B → Type 0) (all left : List A) (done : List B)
     → Behind step all left done → left ≡ [] → Each step all (gives done)
 behind_all step all left done h l =

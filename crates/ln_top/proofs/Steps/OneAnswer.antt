@@ -1,4 +1,4 @@
--- Words and told files are owed one answer.
+-- Words and files whose bytes are known require one output.
 use Rattle.std.proofs.Common.{◌≡◌, ℕ, ◌+◌, Bool, true, false, cond, find, bytes_eq, List, [], ◌∷◌, ◌++◌, map, Option, Some, None}
 use Rattle.std.proofs.Common.{option_map, refl, ap, sym}
 use Rattle.std.proofs.Common.{◌∙◌, subst}
@@ -82,7 +82,7 @@ grounded_as : (table : TableOf) (preds : List PredOf) (texts : List (List ℕ)) 
     → AreFound table.preds preds → IsGrounded (record { table = table; preds = preds; texts = texts })
 grounded_as table preds texts bytes a f = record { table = a.table; is = a.is; sound = a.accepted.sound; found = f }
 
--- what the steps give is grounded
+-- the result of the steps is grounded
 pub grounded : (plan : Plan) (shelf : Shelf) (g : Given) → Prepares plan (Some shelf) (gives g) → IsGrounded g
 grounded plan shelf g (step.goes bytes r (step.goes table c (step.goes preds n (step.goes _ y (step.goes texts t h))))) =
     subst IsGrounded (sym (ap (value_or g) h)) (grounded_as table preds texts bytes (accepted_of bytes table c)
@@ -120,7 +120,7 @@ all_over g i a p others e =
     alike_over t.sites t.params p others (subst (λ (ps : List PredOf). Every (PredParts t.sites t.params) ps) e found)
     (subst (λ (ps : List PredOf). are_alike ps ≡ true) e a)
 
--- a predicate of it stands in memory
+-- a predicate of it is in memory
 by_named : (ps : List Pred) (name : List ℕ) (p : PredOf) (o : Option Pred) → option_map pred_of o ≡ Some p
     → (q : Pred) × (pred_of q ≡ p)
 by_named ps name p None e = absurd (none-some p e)
@@ -134,7 +134,7 @@ in_memory g p rest h e =
     ∙ found.0.1 in
     by_named h.table.preds found.0.0 p (named_in found.0.0 h.table.preds) (named_like found.0.0 h.table.preds ∙ there)
 
--- `check` says one thing
+-- `check` requires one output
 check_one : (g : Given) → IsGrounded g → (a b : Said) → CheckSaid g a → CheckSaid g b → a ≡ b
 check_one g h a b (counted x c) (counted y d) =
     let preds : g.table.preds ≡ map pred_of h.table.preds = sym (ap (λ (t : TableOf). t.preds) h.is) in
@@ -230,7 +230,7 @@ product_one g i v a b (product.ran p names rs o h x) (product.ran r others ss ou
     (same_pred g p r names others (names ∷ rs) (others ∷ ss) h k) (same_names g p r names others (names ∷ rs) (others ∷ ss) h k)
     (tail_same (same_records g p r names others (names ∷ rs) (others ∷ ss) h k)) x y
 
--- `explain` puts one text
+-- `explain` writes one text
 explain_step : (q : Pred) (s : ℕ) (fields : List (List ℕ)) (o e out err : List ℕ) (y z : ℕ) → ExplainStep (pred_of q) s fields o e y
     → ExplainStep (pred_of q) s fields out err z → SameLines o e out err y z
 explain_step q s fields o e out err y z a b = record {
@@ -282,7 +282,7 @@ plan_one plan shelf boxes i a b (worked g p x) (worked h q y) =
     work_one plan.command boxes h (grounded plan shelf h q) (asked plan (Some shelf) h q) i a b
     (subst (λ k. WorkOwes plan.command boxes k a) (same_given (one_prepares plan shelf _ _ p q)) x) y
 
--- There is one answer.
+-- There is one output.
 pub one_answer : (words : List (List ℕ)) (shelf : Shelf) (boxes : List State) → AreOneValued words → (a b : Said)
     → Answer words (Some shelf) boxes a → Answer words (Some shelf) boxes b → a ≡ b
 one_answer words shelf boxes i a b (usage e) (usage h) = refl

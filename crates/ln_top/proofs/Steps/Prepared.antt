@@ -1,4 +1,4 @@
--- The steps of a plan, taken one behind the other.
+-- The steps of a plan, taken one after the other.
 use Rattle.std.proofs.Common.{◌≡◌, ◌⊎◌, inl, inr, ℕ, ◌+◌, ◌≤◌, ◌<◌, List, [], ◌∷◌, ◌++◌}
 use Rattle.std.proofs.Common.{length, map, drop, refl, ap, sym, ◌∙◌, subst, arith, Option, Some, None, get_or}
 use Rattle.std.specs.Prelude.{All, slice_get, slice_index_or, IfSome}
@@ -118,7 +118,7 @@ looking_stops ps names left rest numbers name s l n =
     halts_behind (Finds (map pred_of ps)) names left rest s.preds name ⊥ ⊥ (stop.Tell NoPredicate) s.behind l
     (tells NoPredicate (none (none_at name ps n))) (λ x. x)
 
--- what is left at a place, one step on
+-- what remains at a place, one step on
 pub left_more : {A : Type 0} (f : A → List ℕ) (xs : List A) (i : ℕ) (x : A) → i < length xs → x ≡ get_or xs i x
     → map f (drop i xs) ≡ f x ∷ map f (drop (i + 1) xs)
 left_more f xs i x l e = ap (map f) (drop_more xs i x l) ∙ ap (λ y. f y ∷ map f (drop (i + 1) xs)) (sym e)
@@ -126,7 +126,7 @@ left_more f xs i x l e = ap (map f) (drop_more xs i x l) ∙ ap (λ y. f y ∷ m
 pub left_none : {A : Type 0} (f : A → List ℕ) (xs : List A) (i : ℕ) → length xs ≤ i → map f (drop i xs) ≡ []
 left_none f xs i l = ap (map f) (drop_all i xs l)
 
--- a count that rose behind one that stood still rose
+-- a count that rose after one that stood still has risen
 pub rose_same : (a b c : ℕ) → b ≡ a → Rose b c → Rose a c
 rose_same a b c e r = subst (λ k. Rose k c) e r
 

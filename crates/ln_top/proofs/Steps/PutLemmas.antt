@@ -1,4 +1,4 @@
--- Puts one behind the other, and where one of them fails.
+-- Proves facts of writes, one after the other, and of where one of them fails.
 use Rattle.std.proofs.Common.{◌≡◌, ℕ, ◌+◌, ◌≤◌, List, [], ◌++◌, length, take, refl, ◌∙◌, arith, Option}
 use Rattle.std.proofs.Common.{Some, None, Result, Ok, Err, OnErr, OnOk, append_assoc, length-append}
 use Rattle.std.proofs.lemmas.List.{append-nil, take-append-le}
@@ -8,7 +8,7 @@ use Rattle.ln_base.specs.declared.outside.Port.{Port}
 use Rattle.ln_base.specs.declared.outside.Port.TheVariants.{Out, Err as ErrPort}
 use Rattle.ln_watch.specs.Panel.{FailsAfter}
 
--- two puts are one of all their bytes
+-- two writes are one of all their bytes
 pub appended_twice : (port : Port) (xs ys : List ℕ) (s : Option Shown)
     → appended port ys (appended port xs s) ≡ appended port (xs ++ ys) s
 appended_twice Out xs ys None = refl
@@ -16,20 +16,20 @@ appended_twice Out xs ys (Some s) = rw append_assoc refl
 appended_twice ErrPort xs ys None = refl
 appended_twice ErrPort xs ys (Some s) = rw append_assoc refl
 
--- a put of nothing
+-- a write of nothing
 pub appended_nothing : (port : Port) (s : Option Shown) → appended port [] s ≡ s
 appended_nothing Out None = refl
 appended_nothing Out (Some s) = rw append-nil refl
 appended_nothing ErrPort None = refl
 appended_nothing ErrPort (Some s) = rw append-nil refl
 
--- the first of two puts fails
+-- the first of two writes fails
 pub fails_first : (port : Port) (xs ys : List ℕ) (was now : Option Shown) → FailsAfter port xs was now
     → FailsAfter port (xs ++ ys) was now
 fails_first port xs ys was now f =
     record { n = f.n; within = omega (arith, length-append xs ys, f.within); shown = rw (take-append-le f.n xs ys f.within) f.shown }
 
--- the second of two puts fails
+-- the second of two writes fails
 pub fails_behind : (port : Port) (xs ys : List ℕ) (was between now : Option Shown) → between ≡ appended port xs was
     → FailsAfter port ys between now → FailsAfter port (xs ++ ys) was now
 fails_behind port xs ys was between now e f =
@@ -44,7 +44,7 @@ pub puts_second : {T E : Type 0} (r : Result T E) (port : Port) (xs ys : List �
 puts_second (Ok x) port xs ys was between now e f = f ∙ rw (e, appended_twice) refl
 puts_second (Err x) port xs ys was between now e f = tt
 
--- what a put says of its failing, as a fact of what went out
+-- what the contract of `put` says of a failure, as a fact of what was written
 pub fails_second : {T E : Type 0} (r : Result T E) (port : Port) (xs ys : List ℕ) (was between now : Option Shown)
     → between ≡ appended port xs was
     → OnErr r ((n : ℕ) × (n ≤ length ys) × (now ≡ appended port (take n ys) between))

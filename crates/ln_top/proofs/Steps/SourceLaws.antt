@@ -1,4 +1,4 @@
--- What a refused source stops with.
+-- Proves what a refused source stops with.
 use Rattle.std.proofs.Common.{◌≡◌, inl, inr, List, ℕ, Option, Some, None, refl}
 use Rattle.ln_base.specs.declared.span.Span.{Span}
 use Rattle.ln_tree.specs.declared.table.Table.{Table}

@@ -118,7 +118,7 @@ only_too_long told (n ∷ ns) why (step.stopped w (step.long h)) = refl
 only_too_long told (n ∷ ns) why (step.goes p f (step.stopped w h)) = only_too_long told ns w h
 only_too_long told (n ∷ ns) why (step.goes p f (step.goes ps g h)) = absurd (stops_gives_any h)
 
--- One plan is owed one end, and where its work is one-valued one answer.
+-- One plan requires one end, and where its work is one-valued one output.
 abbrev IsGives : Outcome Given → Type 0
 IsGives (stops why) = ⊥
 IsGives missing = ⊥
@@ -182,14 +182,14 @@ stop_cause words told p e why (step.goes bytes r (step.goes table c (step.goes p
 stop_cause words told p e why (step.goes bytes r (step.goes table c (step.goes preds n (step.goes _ y (step.goes texts t h))))) =
     stops_gives h
 
--- what is owed ends as the steps end
+-- what is required ends as the steps end
 pub ends_so : (words : List (List ℕ)) (told : Option Shelf) (boxes : List State) (a : Said) → Answer words told boxes a
     → Ends words told a.end
 ends_so words told boxes a (usage e) = cause.usage e refl
 ends_so words told boxes a (planned p e (worked g x o)) = cause.worked p g e x ((lawful p.command).tells boxes g a o)
 ends_so words told boxes a (planned p e (stopped why x)) = stop_cause words told p e why x
 
--- Words and told files end in one way.
+-- Words and files whose bytes are known end in one way.
 one_by : (words : List (List ℕ)) (shelf : Shelf) (a b : End) → EndsBy words (Some shelf) a → EndsBy words (Some shelf) b → a ≡ b
 one_by words shelf a b (usage_by e) (usage_by h) = refl
 one_by words shelf a b (usage_by e) (stopped_by q v h y) = absurd (none-some q (sym e ∙ h))
@@ -258,7 +258,7 @@ one_status r q e = sym (back_and_forth r) ∙ ap back e ∙ back_and_forth q
 pub counted_rose : (puts : Count) → Rises puts → Rose puts.before puts.after
 counted_rose puts p = subst (Rose puts.before) (sym p) (omega arith)
 
--- What the status of what was carried out says.
+-- The meaning of the status that was carried out.
 abbrev pub Carried : List (List ℕ) → Option Shelf → List State → Type 0 → Count → Result End Early → Option Shown
     → Option Shown → Type 0
 Carried words told boxes reads puts r was now =
@@ -269,7 +269,7 @@ settled {r = r} {e = early.Read} x s = absurd (s.read (ap status_of x))
 settled {r = r} {e = early.Write} x s = absurd (s.write (ap status_of x))
 settled {r = r} {e = early.Memory} x s = absurd (s.memory (ap status_of x))
 
--- it was answered to the byte
+-- what is required was written to the byte
 pub exact : (words : List (List ℕ)) (told : Option Shelf) (boxes : List State) (reads : Type 0) (puts : Count)
     (r : Result End Early) (result : Status) (was now : Option Shown) → result ≡ status_of r
     → Carried words told boxes reads puts r was now → IsSettled result → Answered (Answer words told boxes) result was now
@@ -369,7 +369,7 @@ memory_leaves words told boxes reads puts r result was now e h x = go h (one_sta
     go (c.cut p l x) y = clash is_write tt (λ z. z) x y
     go (c.short q l x) y = l
 
--- where no fault of writing is told, none was counted
+-- where no fault of writing is reported, none was counted
 pub calm : (words : List (List ℕ)) (told : Option Shelf) (boxes : List State) (reads : Type 0) (puts : Count)
     (r : Result End Early) (result : Status) (was now : Option Shown) → result ≡ status_of r
     → Carried words told boxes reads puts r was now → result ≢ status.Write → IsCalm puts
@@ -414,7 +414,7 @@ says_line words told boxes reads puts r result was now e h k x n = go h (one_sta
     go (c.cut p l y) z = ok_err (sym z ∙ y)
     go (c.short q l y) z = ok_err (sym z ∙ y)
 
--- What words are owed over told files that prepare their plan is what its work owes: the way to any clause on one command.
+-- Over files that prepare their plan, words require what its work requires: the way to any clause on one command.
 pub work_of_words : (words : List (List ℕ)) (shelf : Shelf) (boxes : List State) (plan : Plan) (g : Given) (a : Said)
     → plan_of words ≡ Some plan → Prepares plan (Some shelf) (gives g) → Answer words (Some shelf) boxes a
     → WorkOwes plan.command boxes g a

@@ -9,7 +9,7 @@ use Rattle.ln_base.specs.Decimal.{is_digits, decimal_value}
 use Rattle.ln_top.specs.Plan.{Plan, form, plan_for, plan_of, number_of}
 use Rattle.ln_base.proofs.DecimalLemmas.{value_within}
 
--- the further files are what is left
+-- the further files are the remaining words
 rest_whole : {A : Type 0} (xs : List A) (k : ℕ) → take (length xs - k) (drop k xs) ≡ drop k xs
 rest_whole xs k = ap (λ n. take n (drop k xs)) (sym (length-drop k xs)) ∙ take-length (drop k xs)
 

@@ -1,4 +1,4 @@
--- What is sound for the compiler is accepted by the judge; and what the steps give is sound and within its limits.
+-- Proves that the judge accepts what is sound for the compiler, and that the results of the steps are sound and within its limits.
 use Rattle.std.proofs.Common.{◌≡◌, ℕ, ◌≤◌, ◌<◌, List, [], ◌∷◌, length, ap, sym, ◌∙◌, subst, Option, arith}
 use Rattle.ln_base.specs.Outside.{Shelf}
 use Rattle.ln_algebra.specs.Weights.{weighted_sum}
@@ -44,7 +44,7 @@ short_each told [] texts h = subst AreShort (sym (ap (value_or texts) h)) tt
 short_each told (n ∷ ns) texts (step.goes t r (step.goes ts f h)) =
     subst AreShort (sym (ap (value_or texts) h)) (short_read told n t r, short_each told ns ts f)
 
--- what the steps give is sound and short
+-- the result of the steps is sound and short
 pub record IsFine (g : Given) : Type 0 where
   pub sound : AreSound g.table.preds
   pub short : AreShort g.texts

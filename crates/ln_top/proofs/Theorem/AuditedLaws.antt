@@ -1,5 +1,5 @@
--- What `agreed` means.
-use Rattle.std.proofs.Common.{◌≡◌, ℕ, List, [], ◌∷◌, length, Option, Some, None, sym, ◌∙◌, subst}
+-- Proves what `agreed` means: an agreed trace tells the perturbed sign of each record that is a row, and nothing of any other.
+use Rattle.std.proofs.Common.{◌≡◌, ℕ, List, ◌∷◌, length, Option, Some, None, sym, ◌∙◌, subst}
 use Rattle.std.specs.Prelude.{IfSome}
 use Rattle.ln_base.specs.Outside.{Shelf, Shown}
 use Rattle.ln_algebra.specs.Tree.{InputsBelow}
@@ -23,7 +23,7 @@ use Rattle.ln_top.specs.Steps.{Given}
 use Rattle.ln_top.specs.Work.{WorkOwes}
 use Rattle.ln_top.proofs.Commands.AuditLaws.{moved_right}
 use Rattle.ln_top.proofs.Commands.ExplainLaws.{rows_differ}
-use Rattle.ln_top.proofs.Steps.OneAnswer.{IsGrounded, grounded, in_memory}
+use Rattle.ln_top.proofs.Steps.OneAnswer.{grounded, in_memory}
 use Rattle.ln_top.proofs.Steps.TopLaws.{work_of_words}
 use Rattle.ln_top.proofs.Theorem.HeadlineLaws.{head_sound}
 use Rattle.ln_top.proofs.Theorem.Lightness.{light_of}

@@ -1,5 +1,5 @@
--- The lines of the edges that were put are those of the edges of the points that the words name.
-use Rattle.std.proofs.Common.{◌≡◌, List, ℕ, Option, Some, None, sym, subst}
+-- The lines of the edges that were written are those of the edges of the points that the words name.
+use Rattle.std.proofs.Common.{◌≡◌, List, ℕ, Option, Some, None, subst}
 use Rattle.std.specs.Prelude.{IfSome}
 use Rattle.ln_base.specs.Outside.{Shelf, Shown}
 use Rattle.ln_tree.specs.Table.{PredOf, SiteOf}
@@ -18,7 +18,7 @@ use Rattle.ln_top.specs.Work.{WorkOwes}
 use Rattle.ln_top.proofs.Commands.EdgesLaws.{never_both, one_read, same_pred}
 use Rattle.ln_top.proofs.Steps.TopLaws.{work_of_words}
 
--- what is owed to a points file that is points
+-- what is required for a points file that is points
 put_edges : (g : Given) (p : PredOf) (type : SiteOf) (records : Records) (ps : List PointOf) (a : Said) (was now : Option Shown)
     → EdgesSaid g a → HasPoints g p type records → ReadsPoints type records (gives ps) → now ≡ put_both a.out a.err was
     → PutEdges p ps was now
@@ -30,7 +30,7 @@ put_edges g p type records ps a was now (edges.listed q s rs qs text h x z) k y 
   shown = e;
 }
 
--- what is owed are the lines of the edges
+-- what is required are the lines of the edges
 pub edged : (words : List (List ℕ)) (told : Option Shelf) (boxes : List State) (result : Status) (was now : Option Shown)
     → Answered (Answer words told boxes) result was now → IfSome told (λ shelf. EdgesAreListed words shelf was now)
 edged words None boxes result was now h = tt

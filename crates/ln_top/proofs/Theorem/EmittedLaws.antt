@@ -1,4 +1,4 @@
--- The calls of the C that was put mean the perturbed signs, under the names of the source's predicates.
+-- The calls of the C that was written mean the perturbed signs, under the names of the source's predicates.
 use Rattle.std.proofs.Common.{◌≡◌, ℕ, List, [], ◌∷◌, ◌++◌, map, Option, Some, None, ap, sym, ◌∙◌, subst}
 use Rattle.std.specs.Prelude.{IfSome}
 use Rattle.ln_base.specs.Outside.{Shelf, Shown}
@@ -45,14 +45,14 @@ said_named bytes ts before t (PredItem n args ls root ∷ is) [] h = absurd h
 said_named bytes ts before t (PredItem n args ls root ∷ is) (p ∷ ps) h =
     (h.0.shape_is ∙ sym h.0.name_is, said_named bytes ts (before ++ (PredItem n args ls root ∷ [])) t is ps h.1)
 
--- so it is of what the steps give
+-- so it is of the result of the steps
 pub names_given : (plan : Plan) (shelf : Shelf) (g : Given) → Prepares plan (Some shelf) (gives g) → AreNamed g.table.preds
 names_given plan shelf g (step.goes bytes r (step.goes table c (step.goes preds n (step.goes _ y (step.goes texts t h))))) =
     let text = (accepted_of bytes table c).accepted.text in
     subst (λ (k : Given). AreNamed k.table.preds) (sym (ap (value_or g) h))
     (said_named bytes text.tokens [] table text.items table.preds text.says.preds_are)
 
--- where the filter decides, the verdict that a row is owed is the filter's
+-- where the filter decides, the verdict that a row requires is the filter's
 pub by_filter : (p : PredOf) (row : Row) (f : Filtering) (v : Verdict) → Does p row f → Due BySmallest f p.vars (root_of p) row v
     → FilterDecides p row → v.by ≡ Filter
 by_filter p row NoFilter v d o h = absurd (d h.has)
@@ -78,7 +78,7 @@ all_signed : (file : List Fun) (ps : List Pred) → AreSound (map pred_of ps) �
 all_signed file [] s d = tt
 all_signed file (p ∷ ps) s d = (λ row range. call_signed file p row s.0 range (d.0 row range), all_signed file ps s.1 d.1)
 
--- what is owed to a source's predicates
+-- what is required for a source's predicates
 put_c : (g : Given) (a : Said) (was now : Option Shown) → IsGrounded g → EmitSaid g a
     → now ≡ put_both a.out a.err was → PutC g.table.preds was now
 put_c g a was now i (e.emitted text c) q =
@@ -94,7 +94,7 @@ put_c g a was now i (e.emitted text c) q =
       shown = q;
     }
 
--- what is owed has the perturbed signs
+-- what is required has the perturbed signs
 pub emitted : (words : List (List ℕ)) (told : Option Shelf) (boxes : List State) (result : Status) (was now : Option Shown)
     → Answered (Answer words told boxes) result was now → IfSome told (λ shelf. CallsArePerturbed words shelf was now)
 emitted words None boxes result was now h = tt

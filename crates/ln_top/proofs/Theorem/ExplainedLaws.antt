@@ -1,30 +1,26 @@
--- The trace that was put explains the records, and a judge agrees to it.
-use Rattle.std.proofs.Common.{◌≡◌, ◌<◌, ◌⊎◌, inl, inr, List, [], ◌∷◌, ◌++◌, ℕ, zero, suc, ◌+◌, map, length, get_or, Option, Some, None}
-use Rattle.std.proofs.Common.{refl, ap, sym, ◌∙◌, subst, append_assoc, arith}
+-- The trace that was written explains the records, and a judge agrees to it.
+use Rattle.std.proofs.Common.{◌≡◌, ◌⊎◌, inl, inr, List, [], ◌∷◌, ◌++◌, ℕ, ◌+◌, length, Option, Some, None}
+use Rattle.std.proofs.Common.{refl, ap, sym, ◌∙◌, subst, append_assoc}
 use Rattle.std.proofs.Math.IntN.{pos}
 use Rattle.std.specs.Prelude.{IfSome}
 use Rattle.ln_base.specs.Outside.{Shelf, Shown}
-use Rattle.ln_base.specs.Lines.{joined}
 use Rattle.ln_algebra.proofs.Expanded.Expansion.{length-zeros}
 use Rattle.ln_algebra.proofs.Expanded.Normal.{zero_cases}
 use Rattle.ln_algebra.proofs.Vectors.Zeros.{covers-zeros}
 use Rattle.ln_algebra.specs.Coefficient.{normal_coefficient}
-use Rattle.ln_algebra.specs.Earlier.{Earlier}
 use Rattle.ln_algebra.specs.Orders.{BySmallest}
 use Rattle.ln_algebra.specs.Stage.{IsStage}
 use Rattle.ln_algebra.specs.Tree.{InputsBelow}
 use Rattle.ln_algebra.specs.Vector.{zeros}
 use Rattle.ln_compile.specs.Accepted.{IsSound, root_of}
-use Rattle.ln_order.specs.Rows.{RowStages}
 use Rattle.ln_order.specs.Sites.{row_sites}
 use Rattle.ln_stage.proofs.Sights.Members.{none-before, zeros-at}
 use Rattle.ln_tree.specs.declared.pred.Pred.{Pred}
-use Rattle.ln_tree.specs.Row.{Row}
 use Rattle.ln_tree.specs.Table.{PredOf, pred_of}
 use Rattle.ln_rows.specs.Left.{Records}
 use Rattle.ln_trace.specs.declared.line.TraceLine.{TraceLine}
 use Rattle.ln_trace.specs.Judge.{IsAgreed}
-use Rattle.ln_trace.specs.Signs.{AreExplained, AreRight, HaveStages, RowsDiffer, signs_in}
+use Rattle.ln_trace.specs.Signs.{AreExplained, HaveStages, RowsDiffer}
 use Rattle.ln_trace.proofs.Agreeing.{agreed-right, explained-agreed}
 use Rattle.ln_trace.specs.Text.{first_line, text_of_line, text_of_lines}
 use Rattle.ln_watch.specs.Panel.{State}
@@ -41,7 +37,7 @@ use Rattle.ln_top.specs.Said.{Said, put_both}
 use Rattle.ln_top.specs.Steps.{Given}
 use Rattle.ln_top.specs.Work.{WorkOwes}
 use Rattle.ln_top.proofs.Commands.ExplainLaws.{rows_differ}
-use Rattle.ln_top.proofs.Commands.RunLaws.{same_names, same_pred, same_records, tail_same, wrong_right}
+use Rattle.ln_top.proofs.Commands.RunLaws.{same_pred, same_records, tail_same, wrong_right}
 use Rattle.ln_top.proofs.Steps.OneAnswer.{IsGrounded, grounded, in_memory}
 use Rattle.ln_top.proofs.Steps.TopLaws.{work_of_words}
 use Rattle.ln_top.proofs.Theorem.HeadlineLaws.{head_sound}
@@ -88,7 +84,7 @@ have_stages q sound row list h e = sound.nonzero (λ m l k. none m l (zero_cases
     none m l (inl z) = z
     none m l (inr z) = absurd (rw e at (h.all (zeros (length q.shape.vars)) (stage m l z)))
 
--- what is put for records
+-- what is written for records
 trace_of : (q : Pred) (p : PredOf) (records : Records) (out : List ℕ) (seen : ℕ) (was now : Option Shown) → pred_of q ≡ p → IsSound p
     → Lines (ExplainStep p) 0 records out [] seen → now ≡ put_both (first_line ++ out) [] was → PutTrace p records was now
 trace_of q p records out seen was now i s x e =
@@ -106,7 +102,7 @@ trace_of q p records out seen was now i s x e =
       shown = e ∙ ap (λ (z : List ℕ). put_both (first_line ++ z) [] was) t.text;
     }
 
--- what is owed to records after the right header
+-- what is required for records after the right header
 put_trace : (g : Given) (p : PredOf) (names : List (List ℕ)) (records : Records) (a : Said) (was now : Option Shown) → IsGrounded g
     → ExplainSaid g a → HasRecords g p names (names ∷ records) → now ≡ put_both a.out a.err was → PutTrace p records was now
 put_trace g p names records a was now i (explain.header q others ss h x) k e = wrong_right g q p others names ss records h x k
@@ -118,7 +114,7 @@ put_trace g p names records a was now i (explain.ran r others ss out seen h x) k
     (tail_same (same_records g r p others names (others ∷ ss) (names ∷ records) h k)) x1 in
     trace_of q.0 p records out seen was now q.1 (head_sound g p k.others i k.pred) x2 e
 
--- what is owed explains the records
+-- what is required explains the records
 pub explained : (words : List (List ℕ)) (told : Option Shelf) (boxes : List State) (result : Status) (was now : Option Shown)
     → Answered (Answer words told boxes) result was now → IfSome told (λ shelf. TracesExplain words shelf was now)
 explained words None boxes result was now h = tt

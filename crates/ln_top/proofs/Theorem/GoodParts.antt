@@ -34,7 +34,7 @@ use Rattle.ln_verify.proofs.Judging.Put.{small-leads}
 use Rattle.ln_top.specs.Listing.{AreListableBlocks, IsListable, IsListableBlock}
 use Rattle.ln_top.proofs.Theorem.Room.{leaves, pushes-more, room-more, run-more}
 
--- ---- what a listing says of a program
+-- ---- what a listing states of a program
 abbrev pub piece_of : Code → Piece
 piece_of c = record { exps = c.exps; lines = lines_of c.ops c.pairs }
 

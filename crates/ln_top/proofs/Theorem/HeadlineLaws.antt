@@ -1,6 +1,6 @@
--- The lines that were put begin with the perturbed signs of their rows, and each is one line.
+-- The lines that were written begin with the perturbed signs of their rows, and each is one line.
 use Rattle.std.proofs.Common.{◌≡◌, ◌≢◌, ◌⊎◌, inl, inr, ℕ, zero, suc, ◌<◌, Bool, true, false, cond, List, []}
-use Rattle.std.proofs.Common.{◌∷◌, ◌++◌, map, find, length, is_some, Option, Some, None, Result, Ok, Err, refl, ap, sym}
+use Rattle.std.proofs.Common.{◌∷◌, ◌++◌, find, length, is_some, Option, Some, None, Result, Ok, Err, refl, ap, sym}
 use Rattle.std.proofs.Common.{◌∙◌, subst, arith, bytes_eq}
 use Rattle.std.specs.Prelude.{All, IfSome}
 use Rattle.std.proofs.Math.IntN.{ℤ, pos, negsuc}
@@ -144,7 +144,7 @@ module _ (rank : Rank) (p : Pred) (sound : IsSound (pred_of p)) (names : List (L
       more o o2 (record { body = said_text names t.line.said; is = t.line.is; none = said_no_feed names t.line.said n })
       (λ row f. line_sign fields o t.line.says t.line.is row f) (lines_signs n rest o2 e2 m z k)
 
-  -- where no box is handed in, none is left and nothing comes to Err
+  -- where no watcher is handed in, none remains and nothing comes to Err
   lines_err : (records : Records) (out err : List ℕ) (w z : Watching) → w.boxes ≡ []
       → Lines (RunStep rank (pred_of p) names) w records out err z → err ++ last_of z ≡ []
   lines_err [] out err w z b (l.none _) = ap last_lines b
@@ -183,7 +183,7 @@ signs_of rank boxes q p names records out err z was now i s n x e =
       shown = e;
     }
 
--- what is owed to records behind the right header
+-- what is required for records after the right header
 run_signs : (rank : Rank) (boxes : List State) (g : Given) (p : PredOf) (names : List (List ℕ)) (records : Records) (a : Said)
     (was now : Option Shown) → IsGrounded g → RunSaid rank boxes g a → HasRecords g p names (names ∷ records)
     → now ≡ put_both a.out a.err was → PutSigns rank p records boxes was now
@@ -199,7 +199,7 @@ run_signs rank boxes g p names records a was now i (run.ran r others ss out err 
     signs_of rank boxes q.0 p names records out err z was now q.1 (head_sound g p k.others i k.pred)
     (columns_no_feed g q.0 p names i.table i.is q.1 k.columns) x3 e
 
--- what is owed has the perturbed signs
+-- what is required has the perturbed signs
 pub headline : (words : List (List ℕ)) (told : Option Shelf) (boxes : List State) (result : Status) (was now : Option Shown)
     → Answered (Answer words told boxes) result was now → IfSome told (λ shelf. SignsArePerturbed words shelf boxes was now)
 headline words None boxes result was now h = tt

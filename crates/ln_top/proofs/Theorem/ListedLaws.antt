@@ -1,4 +1,4 @@
--- The listing that was put gives the perturbed signs, and is valid.
+-- The listing that was written has the perturbed signs, and is valid.
 use Rattle.std.proofs.Common.{◌≡◌, ℕ, List, [], ◌∷◌, length, map, Option, Some, None, ap, sym, ◌∙◌, subst}
 use Rattle.std.specs.Prelude.{IfSome, codes}
 use Rattle.ln_base.specs.Outside.{Shelf, Shown}
@@ -35,7 +35,7 @@ use Rattle.ln_top.proofs.Theorem.HeadlineLaws.{never_zero}
 use Rattle.ln_top.proofs.Steps.OneAnswer.{IsGrounded, grounded}
 use Rattle.ln_top.proofs.Steps.TopLaws.{work_of_words}
 
--- the machine of a part on a row gives the perturbed sign
+-- the machine of a part on a row returns the perturbed sign
 row_signed : (p : Pred) (part : Part) (row : Row) → IsSound (pred_of p) → InRange p.shape.sites p.shape.vars row
     → AnswersDue (pred_of p) part row → GivesPerturbedSign (pred_of p) part row
 row_signed p part row sound range d = record {
@@ -68,7 +68,7 @@ all_signed [] (w ∷ ws) s n d = absurd d
 all_signed (p ∷ ps) [] s n d = absurd d
 all_signed (p ∷ ps) (w ∷ ws) s n d = (part_signed p w s.0 n.0 d.0, all_signed ps ws s.1 n.1 d.1)
 
--- a file of a valid listing's text is owed `valid`
+-- a file of a valid listing's text requires `valid`
 verified : (g : Given) (text : List ℕ) (c : IsListingOf g.table.preds text) (h : Given) → h.table ≡ g.table
     → h.texts ≡ text ∷ [] → v.VerifySaid h (whole Done (line (codes "valid")))
 verified g text c h e f =
@@ -78,7 +78,7 @@ verified g text c h e f =
       valid = subst (λ (ps : List PredOf). IsValidFor ps c.listing) (sym (ap (λ (t : TableOf). t.preds) e)) c.valid;
     })
 
--- what is owed to a source's predicates
+-- what is required for a source's predicates
 put_listing : (g : Given) (a : Said) (was now : Option Shown) → IsGrounded g → AreNamed g.table.preds → ListSaid g a
     → now ≡ put_both a.out a.err was → PutListing g was now
 put_listing g a was now i n (l.listed text c) q =
@@ -95,7 +95,7 @@ put_listing g a was now i n (l.listed text c) q =
       shown = q;
     }
 
--- what is owed has the perturbed signs
+-- what is required has the perturbed signs
 pub listed : (words : List (List ℕ)) (told : Option Shelf) (boxes : List State) (result : Status) (was now : Option Shown)
     → Answered (Answer words told boxes) result was now → IfSome told (λ shelf. ListingGivesSigns words shelf was now)
 listed words None boxes result was now h = tt

@@ -1,4 +1,4 @@
--- The machine of a listed program answers what the program answers.
+-- The machine of a listed program has the verdicts of the program.
 use Rattle.std.proofs.Common.{◌≡◌, ℕ, ◌+◌, zero, suc, Bool, true, false, List, [], ◌∷◌, length, map, refl, sym}
 use Rattle.std.proofs.Common.{◌∙◌, ap, arith, subst, if◌then◌else◌}
 use Rattle.std.specs.Prelude.{All, Option, Some, None, IfSome, slice_get}
@@ -153,7 +153,7 @@ module _ (part : Part) (kept : IsProgram part) where
     answered = through_back row.values h.list ∙ h.answered;
   }
 
--- ---- what a row is owed
+-- ---- what a row requires
 -- the stages don't decide by the filter
 not_by_filter : (vars : List VarInfo) (e : Tree) (row : Row) (entered : ℕ) (v : Verdict)
     → IsOwedByStages BySmallest vars e row entered v → v.by ≡ Filter → ⊥

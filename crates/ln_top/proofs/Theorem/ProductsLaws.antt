@@ -1,4 +1,4 @@
--- The lines of products that were put begin with the perturbed signs of the products, and each is one line.
+-- The lines of products that were written begin with the perturbed signs of the products, and each is one line.
 use Rattle.std.proofs.Common.{◌≡◌, ◌≢◌, inl, inr, ℕ, zero, suc, true, List, [], ◌∷◌, map, length, Option, Some, None}
 use Rattle.std.proofs.Common.{Result, Ok, Err, refl, ap, sym, ◌∙◌, subst}
 use Rattle.std.specs.Prelude.{IfSome, slice_get}
@@ -201,7 +201,7 @@ signs_of q p others names records out was now i over n x e =
       shown = e;
     }
 
--- what is owed to records after the right header
+-- what is required for records after the right header
 product_signs : (g : Given) (p : PredOf) (others : List PredOf) (names : List (List ℕ)) (records : Records) (a : Said)
     (was now : Option Shown) → IsGrounded g → are_alike g.preds ≡ true → ProductSaid g a → g.preds ≡ p ∷ others
     → HasRecords g p names (names ∷ records) → now ≡ put_both a.out a.err was → PutProducts p others records was now
@@ -218,7 +218,7 @@ product_signs g p others names records a was now i v (product.ran r ns ss out h 
     signs_of q.0 p others names records out was now q.1 (all_over g i v p others f)
     (columns_no_feed g q.0 p names i.table i.is q.1 k.columns) x3 e
 
--- what is owed has the signs of the products
+-- what is required has the signs of the products
 pub products : (words : List (List ℕ)) (told : Option Shelf) (boxes : List State) (result : Status) (was now : Option Shown)
     → Answered (Answer words told boxes) result was now → IfSome told (λ shelf. ProductsArePerturbed words shelf was now)
 products words None boxes result was now h = tt

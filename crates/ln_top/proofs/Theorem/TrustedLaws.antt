@@ -1,4 +1,4 @@
--- What `valid` means.
+-- Proves what `valid` means: on each row in range the machine of a valid listing returns the perturbed sign of the predicate.
 use Rattle.std.proofs.Common.{◌≡◌, ℕ, List, map, Option, Some, None, ap, sym, ◌∙◌, subst}
 use Rattle.std.specs.Prelude.{IfSome}
 use Rattle.ln_base.specs.Outside.{Shelf, Shown}
@@ -23,7 +23,7 @@ use Rattle.ln_top.proofs.Steps.OneAnswer.{IsGrounded, grounded}
 use Rattle.ln_top.proofs.Theorem.Accepting.{accepted_all}
 use Rattle.ln_top.proofs.Steps.TopLaws.{work_of_words}
 
--- a listing that is valid gives the signs
+-- a listing that is valid has the signs
 told_signs : (g : Given) → IsGrounded g → HasValid g → TellsSigns g
 told_signs g i h =
     let over : (t : Table) → view t ≡ g.table → IsValidFor

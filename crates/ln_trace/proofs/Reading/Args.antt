@@ -18,14 +18,16 @@ no_true b e f a = let t = f a in absurd (cc)
 
 -- ---- the number of a record
 -- 0 is none
-pub zero_number : (ws : List (List ℕ)) (n : ℕ) (more : List (List ℕ)) → ws ≡ decimal n ∷ more → n ≤ 4294967295 → (1 ≤ n → ⊥) → (m : ℕ) → 1 ≤ m → m < 2 ^ 32 → ws ≡ decimal m ∷ [] → ⊥
+pub zero_number : (ws : List (List ℕ)) (n : ℕ) (more : List (List ℕ)) → ws ≡ decimal n ∷ more → n ≤ 4294967295 → (1 ≤ n → ⊥) → (m : ℕ)
+    → 1 ≤ m → m < 2 ^ 32 → ws ≡ decimal m ∷ [] → ⊥
 zero_number ws n more e b z m l h f =
     let d : decimal n ≡ decimal m = head (sym e ∙ f) in
     let q : n ≡ m = decimal_injective n m (omega arith) (omega arith) d in
     z (omega arith)
 
 -- a word follows
-pub more_words : (ws : List (List ℕ)) (n : ℕ) (more : List (List ℕ)) → ws ≡ decimal n ∷ more → (more ≡ [] → ⊥) → (m : ℕ) → 1 ≤ m → m < 2 ^ 32 → ws ≡ decimal m ∷ [] → ⊥
+pub more_words : (ws : List (List ℕ)) (n : ℕ) (more : List (List ℕ)) → ws ≡ decimal n ∷ more → (more ≡ [] → ⊥) → (m : ℕ) → 1 ≤ m
+    → m < 2 ^ 32 → ws ≡ decimal m ∷ [] → ⊥
 more_words ws n more e g m l h f = g (rest (sym e ∙ f))
 
 -- a `refused` or `row` line has a number
@@ -45,28 +47,33 @@ is_row ws n l h e = record { kind = refl; words = ap (λ (z : List (List ℕ)). 
 
 -- ---- an `at` line
 -- it has exponents and a colon
-pub no_exps : (ws : List (List ℕ)) → ((ps : List (ℕ × ℕ)) (more : List (List ℕ)) → Each IsExponent ps → ws ≡ map exponent_word ps ++ codes ":" ∷ more → ⊥) → NoArgs kind.At ws
+pub no_exps : (ws : List (List ℕ))
+    → ((ps : List (ℕ × ℕ)) (more : List (List ℕ)) → Each IsExponent ps → ws ≡ map exponent_word ps ++ codes ":" ∷ more → ⊥) → NoArgs kind.At ws
 no_exps ws f (line.At exps z) h = f exps (signed_decimal z ∷ []) h.range.0 (rest h.words)
 no_exps ws f l h = absurd (let k = h.kind in cc)
 
 -- after the colon a value
-pub no_value : (ws : List (List ℕ)) (ps : List (ℕ × ℕ)) (more : List (List ℕ)) → Each IsExponent ps → ws ≡ map exponent_word ps ++ codes ":" ∷ more → ((z : ℤ) (us : List (List ℕ)) → unsigned_abs z < 2 ^ 127 → more ≡ signed_decimal z ∷ us → ⊥) → NoArgs kind.At ws
+pub no_value : (ws : List (List ℕ)) (ps : List (ℕ × ℕ)) (more : List (List ℕ)) → Each IsExponent ps → ws ≡ map exponent_word ps ++ codes ":" ∷ more
+    → ((z : ℤ) (us : List (List ℕ)) → unsigned_abs z < 2 ^ 127 → more ≡ signed_decimal z ∷ us → ⊥) → NoArgs kind.At ws
 no_value ws ps more p e f (line.At exps z) h =
     let s = same_exponents ps exps more (signed_decimal z ∷ []) p h.range.0 (sym e ∙ rest h.words) in
     f z [] h.range.1 s.1
 no_value ws ps more p e f l h = absurd (let k = h.kind in cc)
 
 -- and nothing after it
-pub no_more : (ws : List (List ℕ)) (ps : List (ℕ × ℕ)) (more us : List (List ℕ)) (y : ℤ) → Each IsExponent ps → ws ≡ map exponent_word ps ++ codes ":" ∷ more → more ≡ signed_decimal y ∷ us → (us ≡ [] → ⊥) → NoArgs kind.At ws
+pub no_more : (ws : List (List ℕ)) (ps : List (ℕ × ℕ)) (more us : List (List ℕ)) (y : ℤ) → Each IsExponent ps
+    → ws ≡ map exponent_word ps ++ codes ":" ∷ more → more ≡ signed_decimal y ∷ us → (us ≡ [] → ⊥) → NoArgs kind.At ws
 no_more ws ps more us y p e g f (line.At exps z) h =
     let s = same_exponents ps exps more (signed_decimal z ∷ []) p h.range.0 (sym e ∙ rest h.words) in
     f (rest (sym g ∙ s.1))
 no_more ws ps more us y p e g f l h = absurd (let k = h.kind in cc)
 
-pub is_at : (ws : List (List ℕ)) (ps : List (ℕ × ℕ)) (more us : List (List ℕ)) (z : ℤ) → Each IsExponent ps → ws ≡ map exponent_word ps ++ codes ":" ∷ more → more ≡ signed_decimal z ∷ us → us ≡ [] → unsigned_abs z < 2 ^ 127 → HasArgs kind.At ws (line.At ps z)
+pub is_at : (ws : List (List ℕ)) (ps : List (ℕ × ℕ)) (more us : List (List ℕ)) (z : ℤ) → Each IsExponent ps → ws ≡ map exponent_word ps ++ codes ":" ∷ more
+    → more ≡ signed_decimal z ∷ us → us ≡ [] → unsigned_abs z < 2 ^ 127 → HasArgs kind.At ws (line.At ps z)
 is_at ws ps more us z p e g f r = record {
   kind = refl;
-  words = ap (λ (w : List (List ℕ)). codes "at" ∷ w) (e ∙ ap (λ (w : List (List ℕ)). map exponent_word ps ++ codes ":" ∷ w) (g ∙ ap (λ (w : List (List ℕ)). signed_decimal z ∷ w) f));
+  words = ap (λ (w : List (List ℕ)). codes "at" ∷ w)
+      (e ∙ ap (λ (w : List (List ℕ)). map exponent_word ps ++ codes ":" ∷ w) (g ∙ ap (λ (w : List (List ℕ)). signed_decimal z ∷ w) f));
   range = (p, r);
 }
 
@@ -83,5 +90,10 @@ pub no_end : (ws : List (List ℕ)) (w : List ℕ) (more : List (List ℕ)) → 
 no_end ws w more e f (line.Sign t) h = f (rest (sym e ∙ rest h.words))
 no_end ws w more e f l h = absurd (let k = h.kind in cc)
 
-pub is_sign : (ws : List (List ℕ)) (w : List ℕ) (more : List (List ℕ)) (t : Sign) → ws ≡ w ∷ more → w ≡ sign_word t → more ≡ [] → HasArgs kind.Sign ws (line.Sign t)
-is_sign ws w more t e f g = record { kind = refl; words = ap (λ (z : List (List ℕ)). codes "sign" ∷ z) (e ∙ ap (λ (z : List ℕ). z ∷ more) f ∙ ap (λ (z : List (List ℕ)). sign_word t ∷ z) g); range = tt }
+pub is_sign : (ws : List (List ℕ)) (w : List ℕ) (more : List (List ℕ)) (t : Sign) → ws ≡ w ∷ more → w ≡ sign_word t → more ≡ []
+    → HasArgs kind.Sign ws (line.Sign t)
+is_sign ws w more t e f g = record {
+  kind = refl;
+  words = ap (λ (z : List (List ℕ)). codes "sign" ∷ z) (e ∙ ap (λ (z : List ℕ). z ∷ more) f ∙ ap (λ (z : List (List ℕ)). sign_word t ∷ z) g);
+  range = tt;
+}

@@ -1,5 +1,6 @@
 -- Where the reader stops is the place of the fault.
-use Rattle.std.proofs.Common.{◌≡◌, ℕ, suc, ◌+◌, pos, false, List, [], ◌∷◌, ◌++◌, length, take, map, Option, Some, None, refl, sym, ap, ◌∙◌, subst, arith, append_assoc, append-nil}
+use Rattle.std.proofs.Common.{◌≡◌, ℕ, suc, ◌+◌, pos, false, List, [], ◌∷◌, ◌++◌, length, take, map, Option, Some, None, refl, sym, ap, ◌∙◌}
+use Rattle.std.proofs.Common.{subst, arith, append_assoc, append-nil}
 use Rattle.ln_base.specs.Exponents.{Each}
 use Rattle.ln_base.specs.Lines.{lines}
 use Rattle.ln_base.specs.declared.sign.Sign.TheVariants.{Zero}
@@ -64,8 +65,10 @@ pub some_next : (o : Option State) (ls : List TraceLine) (t : State) → goes o 
 some_next None ls t e = let n = goes_none ls in absurd (cc)
 some_next (Some u) ls t e = (u, refl)
 
-split : (done : List TraceLine) (s t : State) → Each IsLine done → goes (Some s) done ≡ Some t → (ts : List (List ℕ)) (ls : List TraceLine) → Each IsLine ls → goes (Some s) ls ≡ start → map text_of_line done ++ ts ≡ map text_of_line ls → Behind done t ts ls
-split [] s t p e ts ls q f g = record { rest = ls; same = g; whole = refl; ranges = q; ends = let r : s ≡ t = cc in subst (λ (w : State). goes (Some w) ls ≡ start) r f }
+split : (done : List TraceLine) (s t : State) → Each IsLine done → goes (Some s) done ≡ Some t → (ts : List (List ℕ)) (ls : List TraceLine)
+    → Each IsLine ls → goes (Some s) ls ≡ start → map text_of_line done ++ ts ≡ map text_of_line ls → Behind done t ts ls
+split [] s t p e ts ls q f g =
+    record { rest = ls; same = g; whole = refl; ranges = q; ends = let r : s ≡ t = cc in subst (λ (w : State). goes (Some w) ls ≡ start) r f }
 split (d ∷ done) s t p e ts [] q f g = absurd (cc)
 split (d ∷ done) s t p e ts (x ∷ ls) q f g =
     let u = some_next (next_of s d) done t e in
@@ -77,10 +80,12 @@ split (d ∷ done) s t p e ts (x ∷ ls) q f g =
     record { rest = b.rest; same = b.same; whole = (λ i. sym r i ∷ b.whole i); ranges = b.ranges; ends = b.ends }
 
 -- what is whole begins with these lines, and goes on after them
-goes_on : (done : List TraceLine) (s : State) (more : List (List ℕ)) → Each IsLine done → goes start done ≡ Some s → (w : IsWhole (texts_of done ++ more)) → Behind done s more w.read
+goes_on : (done : List TraceLine) (s : State) (more : List (List ℕ)) → Each IsLine done → goes start done ≡ Some s
+    → (w : IsWhole (texts_of done ++ more)) → Behind done s more w.read
 goes_on done s more p e w = split done Between s p e more w.read w.trace.ranges (whole w.trace.form) (rest w.same)
 
-refused : (done : List TraceLine) (s : State) (t : List ℕ) (more : List (List ℕ)) → Each IsLine done → goes start done ≡ Some s → RefusesText s t → IsWhole (texts_of done ++ (t ∷ more)) → ⊥
+refused : (done : List TraceLine) (s : State) (t : List ℕ) (more : List (List ℕ)) → Each IsLine done → goes start done ≡ Some s
+    → RefusesText s t → IsWhole (texts_of done ++ (t ∷ more)) → ⊥
 refused done s t more p e f w =
     let b = goes_on done s (t ∷ more) p e w in
     by b.rest b.same b.ranges b.ends
@@ -124,7 +129,8 @@ long done ts = ap suc (by done)
     by [] = omega arith
     by (d ∷ done) = let h = by done in omega arith
 
-pub fault_at : (bytes : List ℕ) (done : List TraceLine) (s : State) (t : List ℕ) (ts : List (List ℕ)) (at : ℕ) → lines bytes ≡ texts_of done ++ (t ∷ ts) → Each IsLine done → goes start done ≡ Some s → RefusesText s t → at ≡ length done + 2 → IsFormFault bytes at
+pub fault_at : (bytes : List ℕ) (done : List TraceLine) (s : State) (t : List ℕ) (ts : List (List ℕ)) (at : ℕ) → lines bytes ≡ texts_of done ++ (t ∷ ts)
+    → Each IsLine done → goes start done ≡ Some s → RefusesText s t → at ≡ length done + 2 → IsFormFault bytes at
 fault_at bytes done s t ts at w p e f n =
     let l : length (lines bytes) ≡ suc (length done + suc (length ts)) = ap length w ∙ long done (t ∷ ts) in
     let m : at ≡ suc (suc (length done)) = omega arith in
@@ -133,13 +139,15 @@ fault_at bytes done s t ts at w p e f n =
       number = omega arith;
       within = omega arith;
       front = subst (λ (x : List (List ℕ)). IsFront x) (sym (ap (take (suc (length done))) w ∙ take_texts done (t ∷ ts))) (front done s p e);
-      refused = λ h g. let r : take at (lines bytes) ≡ texts_of done ++ (t ∷ []) = ap (λ (k : ℕ). take k (lines bytes)) m ∙ ap (take (suc (suc (length done)))) w ∙ take_more done t ts in
+      refused = λ h g. let r : take at (lines bytes) ≡ texts_of done ++ (t ∷ []) =
+          ap (λ (k : ℕ). take k (lines bytes)) m ∙ ap (take (suc (suc (length done)))) w ∙ take_more done t ts in
           let q : IsWhole ((texts_of done ++ (t ∷ [])) ++ g.0) = subst (λ (x : List (List ℕ)). IsWhole (x ++ g.0)) r g.1 in
           refused done s t g.0 p e f (subst (λ (x : List (List ℕ)). IsWhole x) (append_assoc (texts_of done) (t ∷ []) g.0) q);
       unfinished = λ h. absurd (omega arith);
     }
 
-pub fault_end : (bytes : List ℕ) (done : List TraceLine) (s : State) (at : ℕ) → lines bytes ≡ texts_of done → Each IsLine done → goes start done ≡ Some s → is_end s ≡ false → at ≡ length done + 2 → IsFormFault bytes at
+pub fault_end : (bytes : List ℕ) (done : List TraceLine) (s : State) (at : ℕ) → lines bytes ≡ texts_of done → Each IsLine done
+    → goes start done ≡ Some s → is_end s ≡ false → at ≡ length done + 2 → IsFormFault bytes at
 fault_end bytes done s at w p e n a =
     let x : lines bytes ≡ texts_of done ++ [] = w ∙ sym (append-nil (texts_of done)) in
     let l : length (lines bytes) ≡ suc (length done + 0) = ap length x ∙ long done [] in

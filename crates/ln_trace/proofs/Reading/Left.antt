@@ -1,5 +1,6 @@
 -- The line at the start of a text, the loop over the lines, and what remains after some of them.
-use Rattle.std.proofs.Common.{◌≡◌, ℕ, ◌+◌, ◌-◌, ◌≤◌, ◌<◌, suc, true, false, List, [], ◌∷◌, ◌++◌, length, take, drop, map, Option, Some, refl, sym, ap, ◌∙◌, arith, append_assoc, append-nil, length-append, length-drop}
+use Rattle.std.proofs.Common.{◌≡◌, ℕ, ◌+◌, ◌-◌, ◌≤◌, ◌<◌, suc, true, false, List, [], ◌∷◌, ◌++◌, length, take, drop, map, Option, Some}
+use Rattle.std.proofs.Common.{refl, sym, ap, ◌∙◌, arith, append_assoc, append-nil, length-append, length-drop}
 use Rattle.ln_base.specs.Exponents.{Each}
 use Rattle.ln_base.specs.Lines.{joined, lines, span_to, words}
 use Rattle.ln_base.proofs.Texts.Lines.{joined_lines, line_at, with_feed}
@@ -17,7 +18,8 @@ use Rattle.ln_trace.proofs.Reading.Walk.{goes_append, is_form, start}
 use Rattle.ln_trace.proofs.Reading.Whole.{no_feed, refuses}
 
 -- ---- the start of a text
-pub begins : (s : State) (text : List ℕ) (end : ℕ) (body : List ℕ) (l : TraceLine) (t : State) → 0 < length text → end ≡ 0 + span_to 10 (drop 0 text) → end < length text → body ≡ take (end - 0) (drop 0 text) → IsRead s (words body) l t → Begins s text l t (end + 1)
+pub begins : (s : State) (text : List ℕ) (end : ℕ) (body : List ℕ) (l : TraceLine) (t : State) → 0 < length text → end ≡ 0 + span_to 10 (drop 0 text)
+    → end < length text → body ≡ take (end - 0) (drop 0 text) → IsRead s (words body) l t → Begins s text l t (end + 1)
 begins s text end body l t h e g q r = record {
   same = line_at text 0 end h e ∙ ap (λ x. x ∷ lines (drop (end + 1) text)) (with_feed text 0 end body e g q ∙ words_line body l r.spelled);
   range = r.range;
@@ -36,7 +38,8 @@ none_open s text end h e g = record {
 }
 
 -- the state refuses the line
-pub none_here : (s : State) (text : List ℕ) (end : ℕ) (body : List ℕ) → 0 < length text → end ≡ 0 + span_to 10 (drop 0 text) → end < length text → body ≡ take (end - 0) (drop 0 text) → Refuses s (words body) → NoneBegins s text
+pub none_here : (s : State) (text : List ℕ) (end : ℕ) (body : List ℕ) → 0 < length text → end ≡ 0 + span_to 10 (drop 0 text)
+    → end < length text → body ≡ take (end - 0) (drop 0 text) → Refuses s (words body) → NoneBegins s text
 none_here s text end body h e g q f = record {
   first = take (suc (end - 0)) (drop 0 text);
   behind = lines (drop (end + 1) text);
@@ -59,15 +62,18 @@ so_far_first bs behind text e q =
     let l : length text ≡ length bs - behind = ap length q ∙ length-drop behind bs in
     record { done = []; texts = e ∙ ap (λ x. first_line ∷ lines x) (sym q); ranges = tt; walked = refl; counted = refl; few = omega arith }
 
-texts_more : (bs : List ℕ) (done : List TraceLine) (l : TraceLine) (text more : List ℕ) → lines bs ≡ texts_of done ++ lines text → lines text ≡ text_of_line l ∷ lines more → lines bs ≡ texts_of (done ++ (l ∷ [])) ++ lines more
+texts_more : (bs : List ℕ) (done : List TraceLine) (l : TraceLine) (text more : List ℕ) → lines bs ≡ texts_of done ++ lines text
+    → lines text ≡ text_of_line l ∷ lines more → lines bs ≡ texts_of (done ++ (l ∷ [])) ++ lines more
 texts_more bs done l text more t b =
     t ∙ ap (λ x. texts_of done ++ x) b
-    ∙ ap (λ x. first_line ∷ x) (sym (append_assoc (map text_of_line done) (text_of_line l ∷ []) (lines more)) ∙ ap (λ x. x ++ lines more) (sym (map_append done (l ∷ []))))
+    ∙ ap (λ x. first_line ∷ x) (sym (append_assoc (map text_of_line done) (text_of_line l ∷ []) (lines more))
+    ∙ ap (λ x. x ++ lines more) (sym (map_append done (l ∷ []))))
 
 walked_more : (done : List TraceLine) (l : TraceLine) (s t : State) → goes start done ≡ Some s → next_of s l ≡ Some t → goes start (done ++ (l ∷ [])) ≡ Some t
 walked_more done l s t e f = goes_append start done (l ∷ []) ∙ ap (λ o. next_at o l) e ∙ f
 
-pub so_far_more : (bs : List ℕ) (s : State) (text : List ℕ) (n : ℕ) (l : TraceLine) (t : State) (k : ℕ) (more : List ℕ) → SoFar bs s text n → Begins s text l t k → more ≡ drop k text → SoFar bs t more (n + 1)
+pub so_far_more : (bs : List ℕ) (s : State) (text : List ℕ) (n : ℕ) (l : TraceLine) (t : State) (k : ℕ) (more : List ℕ) → SoFar bs s text n
+    → Begins s text l t k → more ≡ drop k text → SoFar bs t more (n + 1)
 so_far_more bs s text n l t k more h b e =
     let c : length more ≡ length text - k = ap length e ∙ length-drop k text in
     let m : length (h.done ++ (l ∷ [])) ≡ length h.done + 1 = length-append h.done (l ∷ []) in
@@ -95,7 +101,8 @@ is_between : (s : State) → is_end s ≡ true → Some s ≡ start
 is_between Between f = refl
 is_between s f = absurd (cc)
 
-pub so_far_whole : (bs : List ℕ) (behind : ℕ) (s : State) (text : List ℕ) (n : ℕ) → lines bs ≡ first_line ∷ lines (drop behind bs) → SoFar bs s text n → length text ≡ 0 → is_end s ≡ true → IsOpened bs (record { state = Between; line = 2; text = drop behind bs })
+pub so_far_whole : (bs : List ℕ) (behind : ℕ) (s : State) (text : List ℕ) (n : ℕ) → lines bs ≡ first_line ∷ lines (drop behind bs)
+    → SoFar bs s text n → length text ≡ 0 → is_end s ≡ true → IsOpened bs (record { state = Between; line = 2; text = drop behind bs })
 so_far_whole bs behind s text n e h l f =
     let a : lines bs ≡ texts_of h.done = all_read bs text h.done h.texts l in
     let w : goes start h.done ≡ start = h.walked ∙ is_between s f in
@@ -118,7 +125,8 @@ none_refused u (x ∷ xs) h l b =
     b.refused x n.0 h.ranges.0 n.1 (head (sym b.same ∙ h.texts))
 
 -- and it is the first of those that remain
-goes_on : (u w : Unread) (l : TraceLine) (t : State) (k : ℕ) → Begins u.state u.text l t k → w.state ≡ t → w.text ≡ drop k u.text → (ls : List TraceLine) → AreLeft u ls → GoesOn ls l w
+goes_on : (u w : Unread) (l : TraceLine) (t : State) (k : ℕ) → Begins u.state u.text l t k → w.state ≡ t → w.text ≡ drop k u.text
+    → (ls : List TraceLine) → AreLeft u ls → GoesOn ls l w
 goes_on u w l t k b c d [] h = absurd (let z = sym b.same ∙ h.texts in cc)
 goes_on u w l t k b c d (x ∷ xs) h =
     let m = some_next (next_of u.state x) xs Between h.ends in
@@ -135,7 +143,8 @@ goes_on u w l t k b c d (x ∷ xs) h =
       };
     }
 
-pub taken : (u w : Unread) (l : TraceLine) (t : State) (k : ℕ) → Begins u.state u.text l t k → w.line ≡ u.line + 1 → w.state ≡ t → w.text ≡ drop k u.text → IsTaken u l w
+pub taken : (u w : Unread) (l : TraceLine) (t : State) (k : ℕ) → Begins u.state u.text l t k → w.line ≡ u.line + 1 → w.state ≡ t
+    → w.text ≡ drop k u.text → IsTaken u l w
 taken u w l t k b m c d =
     let n : length w.text ≡ length u.text - k = ap length d ∙ length-drop k u.text in
     record { goes_on = goes_on u w l t k b c d; next = m; shorter = omega (arith, b.some, b.within) }
@@ -149,7 +158,8 @@ none_left u ls h e = by u.text ls e h.texts
     by [] (x ∷ ls) e q = absurd (cc)
 
 -- what remains after it remains of a trace
-pub still_unread : (u w : Unread) (l : TraceLine) (t : State) (k : ℕ) → IsUnread u → Begins u.state u.text l t k → w.line ≡ u.line + 1 → w.state ≡ t → w.text ≡ drop k u.text → IsUnread w
+pub still_unread : (u w : Unread) (l : TraceLine) (t : State) (k : ℕ) → IsUnread u → Begins u.state u.text l t k → w.line ≡ u.line + 1
+    → w.state ≡ t → w.text ≡ drop k u.text → IsUnread w
 still_unread u w l t k h b m c d =
     let r = goes_on u w l t k b c d h.rest h.left in
     let n : length w.text ≡ length u.text - k = ap length d ∙ length-drop k u.text in
@@ -163,13 +173,15 @@ opened_unread bs u l m h = record { rest = h.read; left = h.left; few = omega (a
 abbrev pub Gathered : Unread → Unread → List TraceLine → Type 0
 Gathered old now read = (ls : List TraceLine) → AreLeft old ls → (behind : List TraceLine) × (ls ≡ read ++ behind) × AreLeft now behind
 
-pub gathered_more : (old u w : Unread) (read more : List TraceLine) (l : TraceLine) → Gathered old u read → IsTaken u l w → more ≡ read ++ (l ∷ []) → Gathered old w more
+pub gathered_more : (old u w : Unread) (read more : List TraceLine) (l : TraceLine) → Gathered old u read → IsTaken u l w
+    → more ≡ read ++ (l ∷ []) → Gathered old w more
 gathered_more old u w read more l g t q ls h =
     let p = g ls h in
     let k = t.goes_on p.0 p.2 in
     (k.behind, p.1 ∙ ap (λ x. read ++ x) k.first ∙ sym (append_assoc read (l ∷ []) k.behind) ∙ ap (λ x. x ++ k.behind) (sym q), k.left)
 
-pub gathered_all : (old u : Unread) (read : List TraceLine) → Gathered old u read → ((ls : List TraceLine) → AreLeft u ls → ls ≡ []) → (ls : List TraceLine) → AreLeft old ls → read ≡ ls
+pub gathered_all : (old u : Unread) (read : List TraceLine) → Gathered old u read → ((ls : List TraceLine) → AreLeft u ls → ls ≡ [])
+    → (ls : List TraceLine) → AreLeft old ls → read ≡ ls
 gathered_all old u read g f ls h =
     let p = g ls h in
     sym (p.1 ∙ ap (λ x. read ++ x) (f p.0 p.2) ∙ append-nil read)

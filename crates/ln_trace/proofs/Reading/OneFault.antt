@@ -6,7 +6,10 @@ use Rattle.ln_trace.specs.Form.{IsFormFault, IsFront, IsWhole}
 
 -- fewer of the first lines of a trace are such
 fewer : (m n : ℕ) (ts : List (List ℕ)) → m ≤ n → IsFront (take n ts) → IsFront (take m ts)
-fewer m n ts h f = (drop m (take n ts) ++ f.0, subst (λ (z : List (List ℕ)). IsWhole z) (ap (λ z. z ++ f.0) (shorter m n ts h) ∙ append_assoc (take m ts) (drop m (take n ts)) f.0) f.1)
+fewer m n ts h f = (
+  drop m (take n ts) ++ f.0,
+  subst (λ (z : List (List ℕ)). IsWhole z) (ap (λ z. z ++ f.0) (shorter m n ts h) ∙ append_assoc (take m ts) (drop m (take n ts)) f.0) f.1,
+)
 
 -- the first isn't before the second
 no_earlier : (bytes : List ℕ) (m n : ℕ) → IsFormFault bytes m → IsFormFault bytes n → m < n → ⊥

@@ -30,7 +30,8 @@ some : {A : Type 0} {a b : A} → Some a ≡ Some b → a ≡ b
 some e = cc
 
 -- one word out of two
-pick : {A : Type 0} (P : A → Type 0) (t : Bool) (a b : Option A) (k : A) → (t ≡ true → a ≡ Some k → P k) → (b ≡ Some k → P k) → (if t then a else b) ≡ Some k → P k
+pick : {A : Type 0} (P : A → Type 0) (t : Bool) (a b : Option A) (k : A) → (t ≡ true → a ≡ Some k → P k) → (b ≡ Some k → P k)
+    → (if t then a else b) ≡ Some k → P k
 pick P true a b k f g e = f refl e
 pick P false a b k f g e = g e
 
@@ -42,11 +43,13 @@ is_word s w j k m t e = subst (λ x. Stands s w x) (some e) (record { word = equ
 
 pub sound : (s : State) (w : List ℕ) (k : Kind) → kind_in s w ≡ Some k → Stands s w k
 sound Between w k e =
-    pick (Stands Between w) (bytes_eq w (codes "refused")) (Some kind.Refused) (if bytes_eq w (codes "row") then Some kind.Row else None) k (is_word Between w kind.Refused k refl)
+    pick (Stands Between w) (bytes_eq w (codes "refused")) (Some kind.Refused) (if bytes_eq w (codes "row") then Some kind.Row else None) k
+    (is_word Between w kind.Refused k refl)
     (pick (Stands Between w) (bytes_eq w (codes "row")) (Some kind.Row) None k (is_word Between w kind.Row k refl) (none (Stands Between w) k)) e
 sound Opened w k e = pick (Stands Opened w) (bytes_eq w (codes "at")) (Some kind.At) None k (is_word Opened w kind.At k refl) (none (Stands Opened w) k) e
 sound Within w k e =
-    pick (Stands Within w) (bytes_eq w (codes "at")) (Some kind.At) (if bytes_eq w (codes "sign") then Some kind.Sign else None) k (is_word Within w kind.At k refl)
+    pick (Stands Within w) (bytes_eq w (codes "at")) (Some kind.At) (if bytes_eq w (codes "sign") then Some kind.Sign else None) k
+    (is_word Within w kind.At k refl)
     (pick (Stands Within w) (bytes_eq w (codes "sign")) (Some kind.Sign) None k (is_word Within w kind.Sign k refl) (none (Stands Within w) k)) e
 
 pub complete : (s : State) (k : Kind) → may s k ≡ true → kind_in s (word_of k) ≡ Some k
@@ -77,7 +80,8 @@ no_colon p q e =
     omega (arith, (no_byte p.0 58 r.0 (omega (arith, q.0)) r.1).1)
 
 -- the exponents before a colon, and what follows it, are known
-pub same_exponents : (ps qs : List (ℕ × ℕ)) (r s : List (List ℕ)) → Each IsExponent ps → Each IsExponent qs → map exponent_word ps ++ codes ":" ∷ r ≡ map exponent_word qs ++ codes ":" ∷ s → (ps ≡ qs) × (r ≡ s)
+pub same_exponents : (ps qs : List (ℕ × ℕ)) (r s : List (List ℕ)) → Each IsExponent ps → Each IsExponent qs
+    → map exponent_word ps ++ codes ":" ∷ r ≡ map exponent_word qs ++ codes ":" ∷ s → (ps ≡ qs) × (r ≡ s)
 same_exponents [] [] r s p q e = (refl, rest e)
 same_exponents [] (y ∷ ys) r s p q e = absurd (no_colon y q.0 (sym (head e)))
 same_exponents (x ∷ xs) [] r s p q e = absurd (no_colon x p.0 (head e))
@@ -87,24 +91,30 @@ same_exponents (x ∷ xs) (y ∷ ys) r s p q e =
     ((λ i. h i ∷ t.0 i), t.1)
 
 -- after some exponents there is a word that is neither an exponent nor a colon
-no_exponent : (done : List (ℕ × ℕ)) (w : List ℕ) (next : List (List ℕ)) (ps : List (ℕ × ℕ)) (r : List (List ℕ)) → Each IsExponent done → Each IsExponent ps → map exponent_word done ++ w ∷ next ≡ map exponent_word ps ++ codes ":" ∷ r → (w ≡ codes ":" → ⊥) → ((p : ℕ × ℕ) → IsExponent p → w ≡ exponent_word p → ⊥) → ⊥
+no_exponent : (done : List (ℕ × ℕ)) (w : List ℕ) (next : List (List ℕ)) (ps : List (ℕ × ℕ)) (r : List (List ℕ)) → Each IsExponent done
+    → Each IsExponent ps → map exponent_word done ++ w ∷ next ≡ map exponent_word ps ++ codes ":" ∷ r → (w ≡ codes ":" → ⊥)
+    → ((p : ℕ × ℕ) → IsExponent p → w ≡ exponent_word p → ⊥) → ⊥
 no_exponent [] w next [] r d p e f g = f (head e)
 no_exponent [] w next (x ∷ xs) r d p e f g = g x p.0 (head e)
 no_exponent (y ∷ ys) w next [] r d p e f g = no_colon y d.0 (head e)
 no_exponent (y ∷ ys) w next (x ∷ xs) r d p e f g = no_exponent ys w next xs r d.1 p.1 (rest e) f g
 
 -- exponents alone have no colon
-no_end : (done : List (ℕ × ℕ)) (ps : List (ℕ × ℕ)) (r : List (List ℕ)) → Each IsExponent done → map exponent_word done ≡ map exponent_word ps ++ codes ":" ∷ r → ⊥
+no_end : (done : List (ℕ × ℕ)) (ps : List (ℕ × ℕ)) (r : List (List ℕ)) → Each IsExponent done
+    → map exponent_word done ≡ map exponent_word ps ++ codes ":" ∷ r → ⊥
 no_end [] [] r d e = absurd (cc)
 no_end [] (x ∷ xs) r d e = absurd (cc)
 no_end (y ∷ ys) [] r d e = no_colon y d.0 (head e)
 no_end (y ∷ ys) (x ∷ xs) r d e = no_end ys xs r d.1 (rest e)
 
 -- what the loop over exponents has read
-pub no_exponent_here : (all : List (List ℕ)) (done : List (ℕ × ℕ)) (w : List ℕ) (here next : List (List ℕ)) → all ≡ map exponent_word done ++ here → here ≡ w ∷ next → Each IsExponent done → (w ≡ codes ":" → ⊥) → ((p : ℕ × ℕ) → IsExponent p → w ≡ exponent_word p → ⊥) → (ps : List (ℕ × ℕ)) (r : List (List ℕ)) → Each IsExponent ps → all ≡ map exponent_word ps ++ codes ":" ∷ r → ⊥
+pub no_exponent_here : (all : List (List ℕ)) (done : List (ℕ × ℕ)) (w : List ℕ) (here next : List (List ℕ)) → all ≡ map exponent_word done ++ here
+    → here ≡ w ∷ next → Each IsExponent done → (w ≡ codes ":" → ⊥) → ((p : ℕ × ℕ) → IsExponent p → w ≡ exponent_word p → ⊥)
+    → (ps : List (ℕ × ℕ)) (r : List (List ℕ)) → Each IsExponent ps → all ≡ map exponent_word ps ++ codes ":" ∷ r → ⊥
 no_exponent_here all done w here next e g d f k ps r p q = no_exponent done w next ps r d p (sym (e ∙ ap (λ z. map exponent_word done ++ z) g) ∙ q) f k
 
-pub no_colon_left : (all : List (List ℕ)) (done : List (ℕ × ℕ)) (here : List (List ℕ)) → all ≡ map exponent_word done ++ here → here ≡ [] → Each IsExponent done → (ps : List (ℕ × ℕ)) (r : List (List ℕ)) → Each IsExponent ps → all ≡ map exponent_word ps ++ codes ":" ∷ r → ⊥
+pub no_colon_left : (all : List (List ℕ)) (done : List (ℕ × ℕ)) (here : List (List ℕ)) → all ≡ map exponent_word done ++ here → here ≡ []
+    → Each IsExponent done → (ps : List (ℕ × ℕ)) (r : List (List ℕ)) → Each IsExponent ps → all ≡ map exponent_word ps ++ codes ":" ∷ r → ⊥
 no_colon_left all done here e g d ps r p q = no_end done ps r d (sym (e ∙ ap (λ z. map exponent_word done ++ z) g ∙ append-nil (map exponent_word done)) ∙ q)
 
 -- ---- one reading
@@ -147,7 +157,11 @@ sign_plain Plus = refl
 pub words_plain : (l : TraceLine) → IsLine l → ArePlain (words_of l)
 words_plain (line.Refused n) p = (refl, (decimal_plain n (omega (arith, p.1)), tt))
 words_plain (line.Row n) p = (refl, (decimal_plain n (omega (arith, p.1)), tt))
-words_plain (line.At exps z) p = (refl, plain_append (map exponent_word exps) (codes ":" ∷ signed_decimal z ∷ []) (plain_map exponent_word IsExponent exponent_plain exps p.0) (refl, (signed_plain z p.1, tt)))
+words_plain (line.At exps z) p = (
+  refl,
+  plain_append (map exponent_word exps) (codes ":" ∷ signed_decimal z ∷ []) (plain_map exponent_word IsExponent exponent_plain exps p.0)
+      (refl, (signed_plain z p.1, tt)),
+)
 words_plain (line.Sign t) p = (refl, (sign_plain t, tt))
 
 -- the words of a line are its kind's word and some more
@@ -164,7 +178,7 @@ read_words l p =
     subst (λ (ws : List (List ℕ)). words (parted ws) ≡ ws) (sym s.1) (words_parted (word_of (kind_of l)) s.0 (subst ArePlain s.1 (words_plain l p)))
 
 -- ---- one line
--- a line that leads on may stand in the state, and leads where its kind leads
+-- a line that leads on is allowed in the state, and leads where its kind leads
 pub live : (s : State) (l : TraceLine) (t : State) → next_of s l ≡ Some t → (may s (kind_of l) ≡ true) × (t ≡ after (kind_of l))
 live s l t e = by (may s (kind_of l)) e
   where
@@ -177,7 +191,8 @@ first_of l w ws e = head (e ∙ (words_split l).1)
 
 same_line : (s : State) (x y : TraceLine) (t u : State) → next_of s x ≡ Some t → next_of s y ≡ Some u → IsLine x → IsLine y → words_of x ≡ words_of y → x ≡ y
 same_line s x y t u a b p q e =
-    let k = one_kind s (kind_of x) (kind_of y) (live s x t a).0 (live s y u b).0 (first_of y (word_of (kind_of x)) (words_split x).0 (sym (words_split x).1 ∙ e)) in
+    let k = one_kind s (kind_of x) (kind_of y) (live s x t a).0 (live s y u b).0
+    (first_of y (word_of (kind_of x)) (words_split x).0 (sym (words_split x).1 ∙ e)) in
     same_words x y k p q e
 
 -- the bytes before a line feed are this line
@@ -187,11 +202,13 @@ line_words body l q e = ap words (snoc_same body (parted (words_of l)) e) ∙ re
 pub words_line : (body : List ℕ) (l : TraceLine) → words body ≡ words_of l → body ++ (10 ∷ []) ≡ text_of_line l
 words_line body l e = ap (λ (x : List ℕ). x ++ (10 ∷ [])) (sym (parted_words body) ∙ ap parted e)
 
-pub one_line : (s : State) (x y : TraceLine) (t u : State) → next_of s x ≡ Some t → next_of s y ≡ Some u → IsLine x → IsLine y → text_of_line x ≡ text_of_line y → x ≡ y
+pub one_line : (s : State) (x y : TraceLine) (t u : State) → next_of s x ≡ Some t → next_of s y ≡ Some u → IsLine x → IsLine y
+    → text_of_line x ≡ text_of_line y → x ≡ y
 one_line s x y t u a b p q e = same_line s x y t u a b p q (sym (read_words x p) ∙ line_words (parted (words_of x)) y q e)
 
 -- ---- what the reader of a line finds
-pub found : (s : State) (k : Kind) (w : List ℕ) (args ws : List (List ℕ)) (l : TraceLine) → ws ≡ w ∷ args → kind_in s w ≡ Some k → HasArgs k args l → IsRead s ws l (after k)
+pub found : (s : State) (k : Kind) (w : List ℕ) (args ws : List (List ℕ)) (l : TraceLine) → ws ≡ w ∷ args → kind_in s w ≡ Some k
+    → HasArgs k args l → IsRead s ws l (after k)
 found s k w args ws l e g h =
     let r = sound s w k g in
     record {

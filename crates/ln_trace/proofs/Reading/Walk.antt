@@ -37,7 +37,7 @@ record Ends (xs : List TraceLine) : Type 0 where
   ats : SomeAts xs (Sign sign ∷ rest)
   more : WholeRecords rest
 
--- the same behind an `at` line, where no more need come
+-- the same after an `at` line, where no more need come
 data Goes : List TraceLine → Type 0 where
   ended : {t : AnySign} {r : List TraceLine} → WholeRecords r → Goes (Sign t ∷ r)
   again : {xs : List TraceLine} → Ends xs → Goes xs

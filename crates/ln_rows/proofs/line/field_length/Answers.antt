@@ -1,4 +1,4 @@
-use Rattle.std.proofs.Common.{arith, rules, sym, ◌∙◌}
+use Rattle.std.proofs.Common.{arith, rules}
 use Rattle.ln_rows.specs.Line.{is_no_comma}
 use Rattle.ln_rows.proofs.Records.LineLemmas.{more_pass}
 use Rattle.ln_rows.proofs.line.field_length.Goals as goal

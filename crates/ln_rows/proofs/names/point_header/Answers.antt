@@ -1,4 +1,4 @@
-use Rattle.std.proofs.Common.{[], List, ℕ, Option, Some, None, sym, subst, ◌∙◌, true≢false, eq-eqb}
+use Rattle.std.proofs.Common.{[], List, ℕ, Option, Some, sym, subst, ◌∙◌, true≢false, eq-eqb}
 use Rattle.std.proofs.lemmas.Bool.{eqb-true}
 use Rattle.std.proofs.lemmas.List.{append-nil}
 use Rattle.csv.specs.Records.{fields_of}

@@ -5,4 +5,5 @@ use Rattle.ln_rows.proofs.Fields.NameLemmas.{none_past}
 use Rattle.ln_rows.proofs.names.site_column.Goals as goal
 
 pub returns-in-None : goal.returns-in-None
-returns-in-None c = rw c.in-Some.is (c.new-in-None.ensures.items ∙ sym (none_past (coord_column c.args.name.now) (name_bytes c.args.name.now) _ c.args.i c.if-i-eq0.false c.in-None.ensures.value))
+returns-in-None c = rw c.in-Some.is (c.new-in-None.ensures.items
+    ∙ sym (none_past (coord_column c.args.name.now) (name_bytes c.args.name.now) _ c.args.i c.if-i-eq0.false c.in-None.ensures.value))

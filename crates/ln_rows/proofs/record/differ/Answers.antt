@@ -15,5 +15,6 @@ returns-in-None c = λ fields size read.
 
 pub returns-in-Some : goal.returns-in-Some
 returns-in-Some c = λ fields size read.
-    let said = has_equal c.args.sites c.args.vars.now fields c.args.into.now c.in-Some.place c.requires size read (rw (← c.from.ensures) (sym c.in-Some.ensures.value)) in
+    let said = has_equal c.args.sites c.args.vars.now fields c.args.into.now c.in-Some.place c.requires size read
+    (rw (← c.from.ensures) (sym c.in-Some.ensures.value)) in
     record { ok = tt; err = rw c.index_column.ensures said; in_range = tt }

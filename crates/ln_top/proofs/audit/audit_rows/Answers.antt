@@ -1,4 +1,4 @@
-use Rattle.ln_top.proofs.Commands.AuditLaws.{agreed_carried, memory_carried, wrong_carried}
+use Rattle.ln_top.proofs.Commands.AuditLaws.{agreed_carried, wrong_carried}
 use Rattle.ln_top.proofs.audit.audit_rows.Goals as goal
 
 pub returns-in-Ok-Agreed : goal.returns-in-Ok-Agreed

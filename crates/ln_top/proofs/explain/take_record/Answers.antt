@@ -1,5 +1,4 @@
-use Rattle.std.proofs.Common.{rules}
-use Rattle.ln_top.proofs.Commands.ExplainLaws.{takes_all, takes_none}
+use Rattle.ln_top.proofs.Commands.ExplainLaws.{takes_all}
 use Rattle.ln_top.proofs.explain.take_record.Goals as goal
 
 pub returns-in-Ok-clause-takes : goal.returns-in-Ok-clause-takes

@@ -1,6 +1,6 @@
 use Rattle.std.proofs.Common.{map}
 use Rattle.ln_tree.specs.Table.{pred_of}
-use Rattle.ln_top.proofs.Commands.GradedLaws.{few_none, first_few, first_many}
+use Rattle.ln_top.proofs.Commands.GradedLaws.{first_few, first_many}
 use Rattle.ln_top.proofs.graded.few_first.Goals as goal
 
 pub returns-in-Some-clause-yes : goal.returns-in-Some-clause-yes

@@ -1,4 +1,3 @@
-use Rattle.std.proofs.Common.{arith}
 use Rattle.ln_top.proofs.Commands.GradedLaws.{within_none}
 use Rattle.ln_top.proofs.graded.is_within.Goals as goal
 

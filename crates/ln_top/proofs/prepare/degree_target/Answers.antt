@@ -13,7 +13,8 @@ graded-requires-clause-within c =
 
 pub graded-requires-clause-few : goal.graded-requires-clause-few
 graded-requires-clause-few c = λ p.
-    rw c.as_slice.ensures.value (few_named (map pred_of c.args.ready.now.compiled.table.preds) _ _ c.requires.stands.stands.numbered c.requires.fit.least c.requires.suited p)
+    rw c.as_slice.ensures.value
+    (few_named (map pred_of c.args.ready.now.compiled.table.preds) _ _ c.requires.stands.stands.numbered c.requires.fit.least c.requires.suited p)
 
 pub returns-clause-given : goal.returns-clause-given
 returns-clause-given c given = λ s.

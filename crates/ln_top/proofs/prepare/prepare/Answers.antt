@@ -1,4 +1,3 @@
-use Rattle.std.proofs.Common.{refl}
 use Rattle.ln_top.specs.Plan.{with_bytes}
 use Rattle.ln_top.proofs.Steps.Prepared.{file_stops, compiler_stops, names_stop, suits_stop, files_stop, is_ready, numbers_within, rose_same}
 use Rattle.ln_top.proofs.prepare.prepare.Goals as goal

@@ -4,7 +4,8 @@ use Rattle.ln_top.proofs.Commands.RunLaws.{takes_all, takes_cut, takes_none}
 use Rattle.ln_top.proofs.run.take_record.Goals as goal
 
 pub returns-in-Err-clause-takes : goal.returns-in-Err-clause-takes
-returns-in-Err-clause-takes g c fields r = takes_none c.args.target.now.rank (pred_in c.args.target.now) c.args.target.now.names _ _ _ _ _ _ _ c.in-Err.ensures.err
+returns-in-Err-clause-takes g c fields r =
+    takes_none c.args.target.now.rank (pred_in c.args.target.now) c.args.target.now.names _ _ _ _ _ _ _ c.in-Err.ensures.err
 
 pub returns-then-not-view-clause-takes : goal.returns-then-not-view-clause-takes
 returns-then-not-view-clause-takes g c fields r =

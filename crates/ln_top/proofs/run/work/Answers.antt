@@ -1,4 +1,3 @@
-use Rattle.ln_algebra.specs.Orders.{Rank}
 use Rattle.ln_top.proofs.run.work.Goals as goal
 
 pub returns : goal.returns

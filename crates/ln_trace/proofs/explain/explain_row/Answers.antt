@@ -7,4 +7,5 @@ pub returns-clause-ok : goal.returns-clause-ok
 returns-clause-ok c =
     let p = c.args.p.now in
     let old = c.args.out.now.items in
-    told-behind p (row_of p.shape.sites p.shape.vars c.args.r.now) c.args.n old _ c.extend_from_slice.new.self.items c.in_ok-text.ensures.told (c.in_ok-extend_from_slice.ensures.items ∙ ap (λ y. old ++ y) c.as_slice.ensures.value)
+    told-behind p (row_of p.shape.sites p.shape.vars c.args.r.now) c.args.n old _ c.extend_from_slice.new.self.items c.in_ok-text.ensures.told
+    (c.in_ok-extend_from_slice.ensures.items ∙ ap (λ y. old ++ y) c.as_slice.ensures.value)

@@ -27,7 +27,8 @@ returns-then-branch-clause-told c =
     let o = order_places c.args.order.now in
     let e : c.shape.result.now.sites ≡ p.shape.sites = ap (λ (s : Shape). s.sites) c.shape.ensures in
     let h : c.prefixes.j ≤ length o = omega (arith, e, c.requires.order, c.prefixes-test.true) in
-    list-told p (row_of p.shape.sites p.shape.vars c.args.r.now).values o c.segment.result.now (list_of p o) c.args.out.now.items c.prefixes.out.items c.tell_segment.new.out.items c.prefixes.j h c.segment.ensures.value c.prefixes.invariant.on (c.in_ok-tell_segment.ensures.all c.if-branch.true)
+    list-told p (row_of p.shape.sites p.shape.vars c.args.r.now).values o c.segment.result.now (list_of p o) c.args.out.now.items c.prefixes.out.items
+    c.tell_segment.new.out.items c.prefixes.j h c.segment.ensures.value c.prefixes.invariant.on (c.in_ok-tell_segment.ensures.all c.if-branch.true)
 
 pub prefixes-preserved : goal.prefixes-preserved
 prefixes-preserved c =
@@ -38,7 +39,8 @@ prefixes-preserved c =
     record {
       made = c.tell_segment.ensures.made;
       within = omega (arith, c.prefixes-test.true);
-      on = list-on p (row_of p.shape.sites p.shape.vars c.args.r.now).values o c.segment.result.now (list_of p o) c.args.out.now.items c.prefixes.out.items c.tell_segment.new.out.items c.prefixes.j h c.segment.ensures.value c.prefixes.invariant.on (c.in_ok-tell_segment.ensures.on c.if-branch.false);
+      on = list-on p (row_of p.shape.sites p.shape.vars c.args.r.now).values o c.segment.result.now (list_of p o) c.args.out.now.items c.prefixes.out.items
+          c.tell_segment.new.out.items c.prefixes.j h c.segment.ensures.value c.prefixes.invariant.on (c.in_ok-tell_segment.ensures.on c.if-branch.false);
     }
 
 pub returns-clause-told : goal.returns-clause-told
@@ -47,4 +49,5 @@ returns-clause-told c =
     let o = order_places c.args.order.now in
     let e : c.shape.result.now.sites ≡ p.shape.sites = ap (λ (s : Shape). s.sites) c.shape.ensures in
     let h : length o < c.prefixes.j = omega (arith, e, c.requires.order, c.prefixes-test.false) in
-    list-end p (row_of p.shape.sites p.shape.vars c.args.r.now).values o (list_of p o) c.args.out.now.items c.prefixes.out.items c.put_sign.new.out.items c.prefixes.j h c.prefixes.invariant.on c.in_ok-put_sign.ensures.ok
+    list-end p (row_of p.shape.sites p.shape.vars c.args.r.now).values o (list_of p o) c.args.out.now.items c.prefixes.out.items
+    c.put_sign.new.out.items c.prefixes.j h c.prefixes.invariant.on c.in_ok-put_sign.ensures.ok

@@ -10,5 +10,6 @@ abbrev pub invariant-prefixes : goal.invariant-prefixes
 invariant-prefixes l = record {
   made : MadeFor l.p l.s;
   within : l.j ≤ l.sites + 1;
-  on : TellOn l.p (row_of l.p.shape.sites l.p.shape.vars l.r).values (list_of l.p (order_places l.order)) (list_from l.p (order_places l.order) l.j) l.fn.out.items l.out.items;
+  on : TellOn l.p (row_of l.p.shape.sites l.p.shape.vars l.r).values (list_of l.p (order_places l.order))
+      (list_from l.p (order_places l.order) l.j) l.fn.out.items l.out.items;
 }

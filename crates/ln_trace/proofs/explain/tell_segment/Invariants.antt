@@ -7,5 +7,6 @@ use Rattle.ln_trace.proofs.explain.tell_segment.Given as goal
 abbrev pub invariant-numbers : goal.invariant-numbers
 invariant-numbers l = record {
   made : MadeFor l.p l.s;
-  on : (rest : List ℕ) → TellOn l.p (row_of l.p.shape.sites l.p.shape.vars l.r).values (l.segment ++ rest) (drop l.number-index l.segment ++ rest) l.fn.out.items l.out.items;
+  on : (rest : List ℕ)
+      → TellOn l.p (row_of l.p.shape.sites l.p.shape.vars l.r).values (l.segment ++ rest) (drop l.number-index l.segment ++ rest) l.fn.out.items l.out.items;
 }

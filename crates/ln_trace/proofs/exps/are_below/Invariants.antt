@@ -1,4 +1,4 @@
--- The loop of `are_below`.
+-- In the loop of `are_below` the remaining pairs decide whether the variables of all pairs are below `v`.
 use Rattle.ln_trace.proofs.Exponents.{BelowDecides}
 use Rattle.ln_trace.proofs.exps.are_below.Given as goal
 

@@ -1,4 +1,4 @@
--- What is left to show of `line`.
+-- Answers to the goals of `line` in src/judging.rt.
 use Rattle.std.proofs.Common.{FitsSigned, ◌≡◌, Bool, ap, rules, subst, sym, ◌∙◌}
 use Rattle.std.proofs.Math.IntN.{ℤ}
 use Rattle.std.proofs.lemmas.Int.{to_z-of_z}
@@ -15,24 +15,32 @@ use Rattle.ln_trace.proofs.judging.line.Goals as goal
 
 pub returns-in-Refused : goal.returns-in-Refused
 returns-in-Refused c =
-    IfOk-weaker c.refused.result (λ (ok : Bool). (f : Sparse) (st : Staged) → Led c.args.p.now.shape f st c.args.rows.now c.args.desk.now (line.Refused c.in-Refused.n) ok c.refused.new.rows c.refused.new.desk)
+    IfOk-weaker c.refused.result (λ (ok : Bool). (f : Sparse) (st : Staged)
+    → Led c.args.p.now.shape f st c.args.rows.now c.args.desk.now (line.Refused c.in-Refused.n) ok c.refused.new.rows c.refused.new.desk)
     (λ (ok : Bool). Led c.args.p.now.shape c.args.f.now c.args.st.now c.args.rows.now c.args.desk.now c.args.line.now ok c.refused.new.rows c.refused.new.desk)
-    (λ ok h. subst (λ (x : TraceLine). Led c.args.p.now.shape c.args.f.now c.args.st.now c.args.rows.now c.args.desk.now x ok c.refused.new.rows c.refused.new.desk) (sym c.in-Refused.is) (h c.args.f.now c.args.st.now)) c.refused.ensures
+    (λ ok h. subst (λ (x : TraceLine). Led c.args.p.now.shape c.args.f.now c.args.st.now c.args.rows.now c.args.desk.now x ok
+    c.refused.new.rows c.refused.new.desk) (sym c.in-Refused.is) (h c.args.f.now c.args.st.now)) c.refused.ensures
 
 pub returns-in-Row : goal.returns-in-Row
 returns-in-Row c =
-    IfOk-weaker c.row.result (λ (ok : Bool). (f : Sparse) (st : Staged) → IsCase c.args.p.now.shape f st → Led c.args.p.now.shape f st c.args.rows.now c.args.desk.now (line.Row c.in-Row.n) ok c.row.new.rows c.row.new.desk)
+    IfOk-weaker c.row.result (λ (ok : Bool). (f : Sparse) (st : Staged) → IsCase c.args.p.now.shape f st
+    → Led c.args.p.now.shape f st c.args.rows.now c.args.desk.now (line.Row c.in-Row.n) ok c.row.new.rows c.row.new.desk)
     (λ (ok : Bool). Led c.args.p.now.shape c.args.f.now c.args.st.now c.args.rows.now c.args.desk.now c.args.line.now ok c.row.new.rows c.row.new.desk)
-    (λ ok h. subst (λ (x : TraceLine). Led c.args.p.now.shape c.args.f.now c.args.st.now c.args.rows.now c.args.desk.now x ok c.row.new.rows c.row.new.desk) (sym c.in-Row.is) (h c.args.f.now c.args.st.now c.requires.case)) c.row.ensures
+    (λ ok h. subst (λ (x : TraceLine). Led c.args.p.now.shape c.args.f.now c.args.st.now c.args.rows.now c.args.desk.now x ok c.row.new.rows c.row.new.desk)
+    (sym c.in-Row.is) (h c.args.f.now c.args.st.now c.requires.case)) c.row.ensures
 
 pub returns-in-At : goal.returns-in-At
 returns-in-At c =
     let fits : FitsSigned w128 c.in-At.z = search rules in
     let e : c.args.line.now ≡ line.At c.as_slice.result.now (to_z w128 (of_z w128 c.in-At.z)) =
-    c.in-At.is ∙ ap (λ x. line.At x c.in-At.z) (sym c.as_slice.ensures) ∙ ap (λ (y : ℤ). line.At c.as_slice.result.now y) (sym (to_z-of_z w128 c.in-At.z fits)) in
-    IfOk-weaker c.at.result (λ (ok : Bool). (rows : Records) → Led c.args.p.now.shape c.args.f.now c.args.st.now rows c.args.desk.now (line.At c.as_slice.result.now (to_z w128 (of_z w128 c.in-At.z))) ok rows c.at.new.desk)
+    c.in-At.is ∙ ap (λ x. line.At x c.in-At.z) (sym c.as_slice.ensures)
+    ∙ ap (λ (y : ℤ). line.At c.as_slice.result.now y) (sym (to_z-of_z w128 c.in-At.z fits)) in
+    IfOk-weaker c.at.result (λ (ok : Bool). (rows : Records) → Led c.args.p.now.shape c.args.f.now c.args.st.now rows c.args.desk.now
+    (line.At c.as_slice.result.now (to_z w128 (of_z w128 c.in-At.z))) ok rows c.at.new.desk)
     (λ (ok : Bool). Led c.args.p.now.shape c.args.f.now c.args.st.now c.args.rows.now c.args.desk.now c.args.line.now ok c.args.rows.now c.at.new.desk)
-    (λ ok h. subst (λ (x : TraceLine). Led c.args.p.now.shape c.args.f.now c.args.st.now c.args.rows.now c.args.desk.now x ok c.args.rows.now c.at.new.desk) (sym e) (h c.args.rows.now)) c.at.ensures
+    (λ ok h. subst (λ (x : TraceLine). Led c.args.p.now.shape c.args.f.now c.args.st.now c.args.rows.now c.args.desk.now x ok c.args.rows.now c.at.new.desk)
+    (sym e) (h c.args.rows.now)) c.at.ensures
 
 pub returns-in-Sign : goal.returns-in-Sign
-returns-in-Sign c = subst (λ (x : TraceLine). Led c.args.p.now.shape c.args.f.now c.args.st.now c.args.rows.now c.args.desk.now x c.sign.result c.args.rows.now c.sign.new.desk) (sym c.in-Sign.is) (c.sign.ensures c.args.rows.now)
+returns-in-Sign c = subst (λ (x : TraceLine). Led c.args.p.now.shape c.args.f.now c.args.st.now c.args.rows.now c.args.desk.now x
+    c.sign.result c.args.rows.now c.sign.new.desk) (sym c.in-Sign.is) (c.sign.ensures c.args.rows.now)

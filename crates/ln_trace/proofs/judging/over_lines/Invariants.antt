@@ -1,4 +1,4 @@
--- The loop of `over_lines`.
+-- In the loop of `over_lines` the lines so far lead to the place that the desk stands for, and the other lines remain.
 use Rattle.std.proofs.Common.{List, length}
 use Rattle.ln_algebra.specs.Tree.{Tree}
 use Rattle.ln_trace.specs.declared.line.TraceLine.{TraceLine}
@@ -10,7 +10,8 @@ use Rattle.ln_trace.proofs.judging.over_lines.Given as goal
 abbrev pub invariant-lines : goal.invariant-lines
 invariant-lines l = record {
   holds : Holds l.p.shape l.st l.desk;
-  midway : (e : Tree) (ls : List TraceLine) → HasPoly l.p.shape e l.f → AreLeft l.initial.lines ls → Midway l.p.shape e l.st l.initial.rows ls l.rows l.desk l.lines;
+  midway : (e : Tree) (ls : List TraceLine) → HasPoly l.p.shape e l.f → AreLeft l.initial.lines ls
+      → Midway l.p.shape e l.st l.initial.rows ls l.rows l.desk l.lines;
 }
 
 abbrev pub decreases-lines : goal.decreases-lines

@@ -1,4 +1,4 @@
--- The loop of `over_trace`.
+-- In the loop of `over_trace` the first `i` lines lead to the place that the desk stands for.
 use Rattle.ln_algebra.specs.Tree.{Tree}
 use Rattle.ln_trace.specs.Here.{HasPoly, Holds}
 use Rattle.ln_trace.proofs.Midway.{Stands}

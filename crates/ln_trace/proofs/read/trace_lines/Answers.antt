@@ -15,7 +15,9 @@ pub returns-then-bytes-eq0-clause-err : goal.returns-then-bytes-eq0-clause-err
 returns-then-bytes-eq0-clause-err c = no_bytes c.args.bytes.now c.if-bytes-eq0.true
 
 pub returns-then-end-bytes-clause-err : goal.returns-then-end-bytes-clause-err
-returns-then-end-bytes-clause-err c = stops_at c.args.bytes.now 1 (no_first_feed c.args.bytes.now c.find-end.result (omega arith) c.find-end.ensures.place c.if-end-bytes.true)
+returns-then-end-bytes-clause-err c =
+    stops_at c.args.bytes.now 1 (no_first_feed c.args.bytes.now c.find-end.result (omega arith) c.find-end.ensures.place c.if-end-bytes.true)
 
 pub returns-then-not-is_first-clause-err : goal.returns-then-not-is_first-clause-err
-returns-then-not-is_first-clause-err c = stops_at c.args.bytes.now 1 (no_first c.args.bytes.now c.find-end.result c.between.result.now (omega arith) c.find-end.ensures.place c.between.ensures (no_true c.is_first.result c.if-not-is_first.true c.is_first.ensures.1))
+returns-then-not-is_first-clause-err c = stops_at c.args.bytes.now 1 (no_first c.args.bytes.now c.find-end.result c.between.result.now
+    (omega arith) c.find-end.ensures.place c.between.ensures (no_true c.is_first.result c.if-not-is_first.true c.is_first.ensures.1))

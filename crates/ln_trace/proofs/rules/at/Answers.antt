@@ -1,4 +1,4 @@
--- What is left to show of `at`.
+-- Answers to the goals of `at` in src/rules.rt.
 use Rattle.std.proofs.Common.{FitsSigned, List, rules, subst, sym}
 use Rattle.std.proofs.lemmas.Int.{to_z-of_z}
 use mir.Syntax.{w128}
@@ -14,18 +14,23 @@ returns-then-not-desk c = λ rows. at-outside c.args.s.now c.args.f.now c.args.s
 pub returns-in_default : goal.returns-in_default
 returns-in_default c =
     let none = rw c.in_default.is at c.in_ok-e.ensures in
-    λ rows. at-unread c.args.s.now c.args.f.now c.args.st.now rows c.args.desk.now c.args.a.now c.args.z rows _ (λ r o. none r (subst (λ (vs : List VarInfo). AreOfSites vs c.args.a.now) (sym c.as_slice.ensures) o))
+    λ rows. at-unread c.args.s.now c.args.f.now c.args.st.now rows c.args.desk.now c.args.a.now c.args.z rows _
+    (λ r o. none r (subst (λ (vs : List VarInfo). AreOfSites vs c.args.a.now) (sym c.as_slice.ensures) o))
 
 pub stands-ok-requires-clause-at : goal.stands-ok-requires-clause-at
 stands-ok-requires-clause-at c = c.requires.holds c.if-not-desk.false
 
 pub stands-ok-requires-clause-rising : goal.stands-ok-requires-clause-rising
-stands-ok-requires-clause-rising c = (was-read c.as_slice.result.now c.args.s.now.vars c.args.a.now c.in-Some.e _ c.as_slice.ensures c.in-Some.is c.in_ok-e.ensures).rising
+stands-ok-requires-clause-rising c =
+    (was-read c.as_slice.result.now c.args.s.now.vars c.args.a.now c.in-Some.e _ c.as_slice.ensures c.in-Some.is c.in_ok-e.ensures).rising
 
 pub stands-ok-requires-clause-of_sites : goal.stands-ok-requires-clause-of_sites
-stands-ok-requires-clause-of_sites c = (was-read c.as_slice.result.now c.args.s.now.vars c.args.a.now c.in-Some.e _ c.as_slice.ensures c.in-Some.is c.in_ok-e.ensures).sites
+stands-ok-requires-clause-of_sites c =
+    (was-read c.as_slice.result.now c.args.s.now.vars c.args.a.now c.in-Some.e _ c.as_slice.ensures c.in-Some.is c.in_ok-e.ensures).sites
 
 pub returns : goal.returns
 returns c =
     let fits : FitsSigned w128 c.args.z = search rules in
-    λ rows. at-of c.args.s.now c.args.f.now c.args.st.now rows c.args.desk.now c.args.a.now c.in-Some.e _ c.args.z c.stands-ok.result c.stands-ok.new.desk (was-read c.as_slice.result.now c.args.s.now.vars c.args.a.now c.in-Some.e _ c.as_slice.ensures c.in-Some.is c.in_ok-e.ensures).same (to_z-of_z w128 c.args.z fits) (c.stands-ok.ensures rows)
+    λ rows. at-of c.args.s.now c.args.f.now c.args.st.now rows c.args.desk.now c.args.a.now c.in-Some.e _ c.args.z c.stands-ok.result c.stands-ok.new.desk
+    (was-read c.as_slice.result.now c.args.s.now.vars c.args.a.now c.in-Some.e _ c.as_slice.ensures c.in-Some.is c.in_ok-e.ensures).same
+    (to_z-of_z w128 c.args.z fits) (c.stands-ok.ensures rows)

@@ -1,4 +1,4 @@
--- What is left to show of `stands`.
+-- Answers to the goals of `stands` in src/rules.rt.
 use Rattle.std.proofs.Common.{FitsSigned, ap, false, length, rules, subst, sym, take, true, ◌∙◌}
 use Rattle.std.proofs.lemmas.Int.{to_z-of_z}
 use mir.Syntax.{w128}
@@ -37,7 +37,8 @@ pub returns-then-not-goes : goal.returns-then-not-goes
 returns-then-not-goes c =
     let fits : FitsSigned w128 c.args.z = search rules in
     λ rows. at-refused c.args.s.now c.args.f.now c.args.st.now rows c.args.desk.now c.args.a c.args.z rows _ c.requires.at c.requires.of_sites
-    (tests-of c.args.s.now c.args.f.now c.args.st.now rows c.args.desk.now c.goes.result false c.args.a _ c.args.z c.values_of-row.result.now (take (length c.args.s.now.vars) c.args.desk.now.row.values) c.if-not-goes.true (to_z-of_z w128 c.args.z fits) c.values_of-row.ensures c.goes.ensures)
+    (tests-of c.args.s.now c.args.f.now c.args.st.now rows c.args.desk.now c.goes.result false c.args.a _ c.args.z c.values_of-row.result.now
+    (take (length c.args.s.now.vars) c.args.desk.now.row.values) c.if-not-goes.true (to_z-of_z w128 c.args.z fits) c.values_of-row.ensures c.goes.ensures)
 
 pub passed-spot-requires-clause-sites : goal.passed-spot-requires-clause-sites
 passed-spot-requires-clause-sites c = size-at c.args.s.now c.args.st.now c.args.desk.now c.requires.at
@@ -60,6 +61,9 @@ passed-spot-requires-clause-all c = case-above c.args.s.now c.args.f.now c.args.
 pub returns : goal.returns
 returns c =
     let fits : FitsSigned w128 c.args.z = search rules in
-    λ rows. at-goes c.args.s.now c.args.f.now c.args.st.now rows c.args.desk.now c.args.a c.args.z c.passed-spot.result c.stood.new.desk.last.zero c.stood.new.desk.sign c.stood.new.desk c.requires.at c.requires.rising c.requires.of_sites
-    (tests-of c.args.s.now c.args.f.now c.args.st.now rows c.args.desk.now c.goes.result true c.args.a _ c.args.z c.values_of-row.result.now (take (length c.args.s.now.vars) c.args.desk.now.row.values) c.if-not-goes.false (to_z-of_z w128 c.args.z fits) c.values_of-row.ensures c.goes.ensures)
-    c.passed-spot.ensures.spot c.passed-spot.ensures.left c.stood.ensures.zero (c.stood.ensures.sign ∙ ap sign_of (to_z-of_z w128 c.args.z fits)) c.requires.inside c.stood.ensures.held
+    λ rows. at-goes c.args.s.now c.args.f.now c.args.st.now rows c.args.desk.now c.args.a c.args.z c.passed-spot.result
+    c.stood.new.desk.last.zero c.stood.new.desk.sign c.stood.new.desk c.requires.at c.requires.rising c.requires.of_sites
+    (tests-of c.args.s.now c.args.f.now c.args.st.now rows c.args.desk.now c.goes.result true c.args.a _ c.args.z c.values_of-row.result.now
+    (take (length c.args.s.now.vars) c.args.desk.now.row.values) c.if-not-goes.false (to_z-of_z w128 c.args.z fits) c.values_of-row.ensures c.goes.ensures)
+    c.passed-spot.ensures.spot c.passed-spot.ensures.left c.stood.ensures.zero
+    (c.stood.ensures.sign ∙ ap sign_of (to_z-of_z w128 c.args.z fits)) c.requires.inside c.stood.ensures.held

@@ -5,4 +5,5 @@ use Rattle.ln_trace.proofs.Standing.{behind-some}
 use Rattle.ln_trace.proofs.stand.is_behind.Goals as goal
 
 pub returns-in-Some : goal.returns-in-Some
-returns-in-Some c = behind-some (length c.args.s.now.vars) (sites_of c.args.s.now.vars (order_places c.args.o.now)) c.args.last.now.exps c.args.a.now c.in-Some.b c.args.last.now.zero c.earlier.result c.in-Some.is c.earlier.ensures
+returns-in-Some c = behind-some (length c.args.s.now.vars) (sites_of c.args.s.now.vars (order_places c.args.o.now)) c.args.last.now.exps
+    c.args.a.now c.in-Some.b c.args.last.now.zero c.earlier.result c.in-Some.is c.earlier.ensures

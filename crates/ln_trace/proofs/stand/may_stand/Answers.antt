@@ -15,5 +15,7 @@ returns-else-earlier c =
     let f : c.earlier.result ≡ false = search rules in
     λ e stood differ last i.
     may n sites c.args.last.now.exps c.args.last.now.zero (vector (length c.args.s.now.vars) c.args.a.now) e stood differ last
-    (map (vector (length c.args.s.now.vars)) (left_at c.args.st.now (order_places c.args.o.now) c.args.spot)) z c.is_behind.result t (c.is_behind.ensures stood last)
-    (none-earlier sites _ (vector (length c.args.s.now.vars) c.args.a.now) (vector (length c.args.s.now.vars) c.in-Some.b.now) _ (ap (map (vector (length c.args.s.now.vars))) c.in-Some.ensures.0) (λ y. true-false c.earlier.result (c.earlier.ensures.1 y) f)) i
+    (map (vector (length c.args.s.now.vars)) (left_at c.args.st.now (order_places c.args.o.now) c.args.spot)) z c.is_behind.result t
+    (c.is_behind.ensures stood last)
+    (none-earlier sites _ (vector (length c.args.s.now.vars) c.args.a.now) (vector (length c.args.s.now.vars) c.in-Some.b.now) _
+    (ap (map (vector (length c.args.s.now.vars))) c.in-Some.ensures.0) (λ y. true-false c.earlier.result (c.earlier.ensures.1 y) f)) i

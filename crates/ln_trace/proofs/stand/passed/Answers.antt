@@ -16,7 +16,8 @@ returns-then-are_same-clause-left c =
     λ e stood z differ over m i.
     was-first n sites (vector (length c.args.s.now.vars) c.args.a.now) e stood z differ over m
     (map (vector (length c.args.s.now.vars)) (left_at c.args.st.now (order_places c.args.o.now) c.args.spot))
-    (vector (length c.args.s.now.vars) c.in-Some.b.now) _ (ap (map (vector (length c.args.s.now.vars))) c.in-Some.ensures.0) (ap (vector (length c.args.s.now.vars)) (same_pairs-is c.in-Some.b.now c.args.a.now t)) i
+    (vector (length c.args.s.now.vars) c.in-Some.b.now) _ (ap (map (vector (length c.args.s.now.vars))) c.in-Some.ensures.0)
+    (ap (vector (length c.args.s.now.vars)) (same_pairs-is c.in-Some.b.now c.args.a.now t)) i
 
 pub returns-else-are_same-clause-left : goal.returns-else-are_same-clause-left
 returns-else-are_same-clause-left c =
@@ -32,11 +33,13 @@ returns-else-are_same-clause-left c =
     equal : (x y : Pairs) → x ≡ y → same_pairs x y ≡ true
     equal x y e = ap (same_pairs x) (sym e) ∙ same_pairs-refl x
 
-    front : (xs : List Pairs) (x : Pairs) (rest : List Pairs) → xs ≡ x ∷ rest → All (λ b. IsAbove b (length c.args.s.now.vars)) xs → IsAbove x (length c.args.s.now.vars)
+    front : (xs : List Pairs) (x : Pairs) (rest : List Pairs) → xs ≡ x ∷ rest → All (λ b. IsAbove b (length c.args.s.now.vars)) xs
+        → IsAbove x (length c.args.s.now.vars)
     front [] x rest e h = cc
     front (y ∷ xs) x rest e h = subst (λ b. IsAbove b (length c.args.s.now.vars)) (heads y x xs rest e) (h 0 [] (omega arith)) where
       heads : (y x : Pairs) (xs rest : List Pairs) → y ∷ xs ≡ x ∷ rest → y ≡ x
       heads y x xs rest e = cc
 
     differ-not : vector (length c.args.s.now.vars) c.in-Some.b.now ≡ vector (length c.args.s.now.vars) c.args.a.now → c.in-Some.b.now ≡ c.args.a.now
-    differ-not q = same-pairs (length c.args.s.now.vars) c.in-Some.b.now c.args.a.now c.are_same.ensures.left c.are_same.ensures.right (front _ c.in-Some.b.now _ c.in-Some.ensures.0 (c.requires.all c.args.spot)) c.requires.above q
+    differ-not q = same-pairs (length c.args.s.now.vars) c.in-Some.b.now c.args.a.now c.are_same.ensures.left c.are_same.ensures.right
+        (front _ c.in-Some.b.now _ c.in-Some.ensures.0 (c.requires.all c.args.spot)) c.requires.above q

@@ -11,4 +11,6 @@ returns-in_default-signed_field c =
 pub returns-then-not-ended : goal.returns-then-not-ended
 returns-then-not-ended c =
     let f = rw c.in-Some.is at c.in_ok-exps.ensures in
-    no_more (words_from c.args.at c.args.bytes.now) c.in-Some.exps (words_from c.in-Some.next c.args.bytes.now) (words_from c.in-Some-signed_field.end c.args.bytes.now) _ f.0 f.1 c.in-Some-signed_field.ensures.some.1 (no_true c.ended.result c.if-not-ended.true c.ended.ensures.1)
+    no_more (words_from c.args.at c.args.bytes.now) c.in-Some.exps (words_from c.in-Some.next c.args.bytes.now)
+    (words_from c.in-Some-signed_field.end c.args.bytes.now) _ f.0 f.1 c.in-Some-signed_field.ensures.some.1
+    (no_true c.ended.result c.if-not-ended.true c.ended.ensures.1)

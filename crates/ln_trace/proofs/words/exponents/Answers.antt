@@ -7,7 +7,10 @@ use Rattle.ln_trace.proofs.Reading.OneLine.{no_colon_left, no_exponent_here}
 use Rattle.ln_trace.proofs.words.exponents.Goals as goal
 
 pub returns-in_default : goal.returns-in_default
-returns-in_default c = no_exponent_here (words_from c.args.at c.args.bytes.now) c.words.exps.items c.word-next.result.0.now (words_from c.words.here c.args.bytes.now) (words_from c.word-next.result.1 c.args.bytes.now) c.words.invariant.same c.word-next.ensures.word c.words.invariant.ranges (differs c.word-next.result.0.now c.as_slice.result.now c.if-eq.ensures c.as_slice.ensures) c.in_default.ensures.none
+returns-in_default c = no_exponent_here (words_from c.args.at c.args.bytes.now) c.words.exps.items c.word-next.result.0.now
+    (words_from c.words.here c.args.bytes.now) (words_from c.word-next.result.1 c.args.bytes.now) c.words.invariant.same c.word-next.ensures.word
+    c.words.invariant.ranges (differs c.word-next.result.0.now c.as_slice.result.now c.if-eq.ensures c.as_slice.ensures) c.in_default.ensures.none
 
 pub returns : goal.returns
-returns c = no_colon_left (words_from c.args.at c.args.bytes.now) c.words.exps.items (words_from c.words.here c.args.bytes.now) c.words.invariant.same (past_words c.args.bytes.now c.words.here (omega arith)) c.words.invariant.ranges
+returns c = no_colon_left (words_from c.args.at c.args.bytes.now) c.words.exps.items (words_from c.words.here c.args.bytes.now)
+    c.words.invariant.same (past_words c.args.bytes.now c.words.here (omega arith)) c.words.invariant.ranges

@@ -20,5 +20,6 @@ returns-clause-takes c =
     let more : length (columns c.args.p.now.shape.vars) < c.column_count-most.result + 1 = omega (arith, count) in (
       s.fields,
       sym c.self.view_is ∙ s.next,
-      read_cut c.args.p.now.shape.sites c.args.p.now.shape.vars s.fields _ _ _ _ s.first more (record { ok = c.fill_row.ensures.ok; err = c.fill_row.ensures.err; in_range = c.fill_row.ensures.in_range }),
+      read_cut c.args.p.now.shape.sites c.args.p.now.shape.vars s.fields _ _ _ _ s.first more
+          (record { ok = c.fill_row.ensures.ok; err = c.fill_row.ensures.err; in_range = c.fill_row.ensures.in_range }),
     )

@@ -20,7 +20,8 @@ pub invariant_of-self : goal.invariant_of-self
 invariant_of-self c =
     let u : Unread = record { state = c.self.inside.state; line = c.self.inside.line; text = c.self.inside.text.now } in
     let w : Unread = record { state = c.in-Some.state; line = c.self.inside.line + 1; text = c.after-self-inside.result.now } in
-    still_unread u w c.in-Some.found c.in-Some.state c.in-Some.count c.self.invariant (rw c.in-Some.is at c.in_ok-read.ensures) refl refl c.after-self-inside.ensures
+    still_unread u w c.in-Some.found c.in-Some.state c.in-Some.count c.self.invariant
+    (rw c.in-Some.is at c.in_ok-read.ensures) refl refl c.after-self-inside.ensures
 
 pub returns-clause-takes : goal.returns-clause-takes
 returns-clause-takes c =
