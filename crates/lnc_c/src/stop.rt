@@ -1,0 +1,98 @@
+//! Why the program stops before its end, with the exit statuses.
+
+use itoa::Buffer;
+use ln_base::{Console, Failed, NoMemory, Port, ReadStop, put_all};
+use ln_csyn::CStop;
+
+/// Why nothing, or not all, was written on standard output. A number that a command of `lnc` has too means the same there.
+#[derive(Clone, Copy)]
+pub enum Stop {
+    /// 1, `error subset`: FILE isn't of the C subset.
+    Subset,
+    /// 2, `error usage`: the command line isn't two words.
+    Usage,
+    /// 3, `error call N`: line N of CALLS, from 1, is the first that isn't a call.
+    Call(u64),
+    /// 6, `error read`: a file couldn't be read.
+    Read,
+    /// 7, without a line: standard output or standard error couldn't be written.
+    Write,
+    /// 8, `error long`: a file has more than 64 MiB.
+    Long,
+    /// 9, without a line: out of memory.
+    Memory,
+}
+
+impl Stop {
+    // The exit status.
+    fn code(self) -> u8 {
+        match self {
+            Stop::Subset => 1,
+            Stop::Usage => 2,
+            Stop::Call(_) => 3,
+            Stop::Read => 6,
+            Stop::Write => 7,
+            Stop::Long => 8,
+            Stop::Memory => 9,
+        }
+    }
+}
+
+// Writes the line of a stop.
+fn put_line<C: Console>(con: &mut C, stop: Stop) -> Result<(), Failed> {
+    match stop {
+        Stop::Subset => put_all(con, Port::Err, b"error subset\n"),
+        Stop::Usage => put_all(con, Port::Err, b"error usage\n"),
+        Stop::Call(n) => {
+            let mut digits = Buffer::new();
+            put_all(con, Port::Err, b"error call ")?;
+            put_all(con, Port::Err, digits.format(n).as_bytes())?;
+            put_all(con, Port::Err, b"\n")
+        }
+        Stop::Read => put_all(con, Port::Err, b"error read\n"),
+        Stop::Long => put_all(con, Port::Err, b"error long\n"),
+        Stop::Write | Stop::Memory => Ok(()),
+    }
+}
+
+/// Writes the line of a stop on standard error, if it has one, and returns the exit status: 0 where there is no stop.
+pub fn exit_code<C: Console>(con: &mut C, ended: Result<(), Stop>) -> u8 {
+    match ended {
+        Ok(()) => 0,
+        Err(stop) => match put_line(con, stop) {
+            Ok(()) => stop.code(),
+            Err(_) => Stop::Write.code(),
+        },
+    }
+}
+
+impl From<NoMemory> for Stop {
+    fn from(_e: NoMemory) -> Self {
+        Stop::Memory
+    }
+}
+
+impl From<Failed> for Stop {
+    fn from(_e: Failed) -> Self {
+        Stop::Write
+    }
+}
+
+impl From<ReadStop> for Stop {
+    fn from(e: ReadStop) -> Self {
+        match e {
+            ReadStop::Fault => Stop::Read,
+            ReadStop::TooLong => Stop::Long,
+            ReadStop::NoMemory => Stop::Memory,
+        }
+    }
+}
+
+impl From<CStop> for Stop {
+    fn from(e: CStop) -> Self {
+        match e {
+            CStop::NotSubset => Stop::Subset,
+            CStop::NoMemory => Stop::Memory,
+        }
+    }
+}
