@@ -1,4 +1,4 @@
-//! What the program says of words, sources and rows, over files and ports in memory.
+//! Tests of what the program writes for words, sources and rows, over files and streams in memory.
 use crate::spheres::CIRCLE;
 use crate::support::{Case, Faults, are_answered, is_answered, is_said, shelf};
 use ln_base::{MemFiles, NoMemory};
@@ -390,7 +390,7 @@ fn a_difference_of_squares_is_accepted_by_its_ranges(rt: HostRuntime) -> Result<
 // The range is 0 .. 0, the size 2^128.
 const LARGE_AT_ZERO: &str = "param c: 0 .. 0; predicate f(c: param) { sign (c^16)^8; }";
 
-// The range is 0 .. 2^81, and so is the size; 3^81 passes 2^127.
+// The range is 0 .. 2^81, and so is the size; 3^81 exceeds 2^127.
 const HEAVY_PRODUCT: &str = "param c: 0 .. 2; predicate f(c: param) { sign (c^16)^5*c; }";
 
 const LIGHT: &str = "param c: 0 .. 2; predicate f(c: param) { sign (c^16)^5; }";
@@ -457,7 +457,7 @@ fn words_and_names_that_are_none_are_told(rt: HostRuntime) -> Result<(), Fail> {
     Ok(())
 }
 
-// Is `check` of so many spaces answered with this status and this line?
+// Does `check` of this many spaces end with this status and this line?
 fn are_spaces_answered(
     alloc: Global,
     count: usize,
@@ -516,7 +516,7 @@ fn each_set_of_sixteen_coordinates_is_a_stage(rt: HostRuntime) -> Result<(), Fai
     Ok(())
 }
 
-// Words, the room of a port, the puts that fail, and what then stands on Out and on Err.
+// Words, the room of a stream, the writes that fail, and what is then on Out and on Err.
 const CUT: &[(&[&str], usize, &[u64], &str, &str)] = &[
     (RUN, 4096, &[1], "", ""),
     (RUN, 4096, &[2], "+ 3\n+ 4", ""),
@@ -528,7 +528,7 @@ const CUT: &[(&[&str], usize, &[u64], &str, &str)] = &[
     (CHECK_ABSENT, 7, &[], "", "error r"),
 ];
 
-// Have the ports the first bytes, where a put fails?
+// Do the streams hold a prefix, where a write fails?
 fn are_cut(alloc: Global) -> Result<bool, NoMemory> {
     for (words, room, puts, out, err) in CUT {
         let case = (*words, ORIENT, EQUAL, Status::Write, *out, *err);
@@ -555,7 +555,7 @@ fn asks(files: &MemFiles, file: usize) -> bool {
     files.asked().iter().any(|call| call.file == Some(file))
 }
 
-// Is this the answer, and were so many files asked for, the source first?
+// Is this the result, and were this many files asked for, the source first?
 fn stops(alloc: Global, case: &Case<'_>, asked: usize) -> Result<bool, NoMemory> {
     let (_, source, rows, ..) = *case;
     let mut files = shelf(alloc, source, rows, &[])?;
@@ -629,7 +629,7 @@ fn a_step_that_stops_asks_for_no_further_file(rt: HostRuntime) -> Result<(), Fai
     Ok(())
 }
 
-// So many times three records, and their lines.
+// Three records, this many times, and their lines.
 fn many(alloc: Global, times: usize) -> Result<(String, String), NoMemory> {
     let mut records = String::from_str(alloc, HEAD)?;
     let mut lines = String::new(alloc);

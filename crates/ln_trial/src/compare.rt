@@ -1,4 +1,5 @@
-//! What `run` and `graded` say of random predicates, compared with the definition of the perturbed sign in either order of infinitesimals.
+//! Tests that compare what `run` and `graded` write for random predicates with the definition of the perturbed sign in
+//! either order of infinitesimals.
 mod definition;
 mod draw;
 mod filter;
@@ -89,7 +90,7 @@ struct Drawn<'a> {
 }
 
 impl Tally {
-    // Puts the line of a sign that is decided at this place.
+    // Appends the line of a sign that is decided at this place.
     fn put_place(&mut self, out: &mut String, sign: &str, place: usize) -> Result<(), NoMemory> {
         if place > 0 {
             self.perturbed = self.perturbed.wrapping_add(1);
@@ -98,7 +99,7 @@ impl Tally {
         Ok(())
     }
 
-    // Puts the line that an expression is owed on a row in this order.
+    // Appends the line that an expression requires on a row in this order.
     fn put_line(
         &mut self,
         alloc: Global,
@@ -121,8 +122,8 @@ impl Tally {
         self.put_place(out, sign, row.place(order, drawn.covered, first))
     }
 
-    // Puts a rows file with a random row for each order of four sites, and the lines that the expression is owed on them in both orders
-    // of infinitesimals.
+    // Appends a rows file with a random row for each order of four sites, and the lines that the expression requires on them
+    // in both orders of infinitesimals.
     fn put_rows(
         &mut self,
         alloc: Global,
@@ -142,7 +143,16 @@ impl Tally {
         Ok(())
     }
 
-    // Has each of these rows the line that the expression is owed?
+    // Are there enough of each kind in 90 predicates?
+    fn has_enough(&self) -> bool {
+        self.predicates >= 80
+            && self.repeated >= 60
+            && self.perturbed >= 1000
+            && self.undecided >= 20
+            && self.differ >= 20
+    }
+
+    // Has each of these rows the line that the expression requires?
     fn are_owed(
         &mut self,
         alloc: Global,
@@ -214,9 +224,9 @@ impl Tally {
         self.is_owed(alloc, draw, drawn)
     }
 
-    // The same of so many of each shape.
-    fn compare_all(&mut self, alloc: Global, times: u32) -> Result<bool, NoMemory> {
-        let mut draw = Draw::new(1990);
+    // The same of this many of each shape, drawn from a seed.
+    fn compare_all(&mut self, alloc: Global, seed: u64, times: u32) -> Result<bool, NoMemory> {
+        let mut draw = Draw::new(seed);
         for _ in 0..times {
             for shape in [TWO_POINTS, FOUR_NUMBERS, MIXED] {
                 if !self.compare(alloc, &mut draw, &shape)? {
@@ -228,10 +238,8 @@ impl Tally {
     }
 }
 
-#[test]
-fn random_predicates_have_the_sign_and_place_of_the_definition(
-    rt: HostRuntime,
-) -> Result<(), Fail> {
+// Has each of 90 random predicates, drawn from a seed, the lines that it requires, and are enough of them of each kind?
+fn are_compared(alloc: Global, seed: u64) -> Result<bool, NoMemory> {
     let mut tally = Tally {
         predicates: 0,
         repeated: 0,
@@ -239,8 +247,22 @@ fn random_predicates_have_the_sign_and_place_of_the_definition(
         undecided: 0,
         differ: 0,
     };
-    assert!(rt; tally.compare_all(rt.alloc(), 40)?);
-    assert!(rt; tally.predicates >= 80 && tally.repeated >= 60);
-    assert!(rt; tally.perturbed >= 600 && tally.undecided >= 12 && tally.differ >= 12);
+    let same = tally.compare_all(alloc, seed, 30)?;
+    Ok(same && tally.has_enough())
+}
+
+#[test]
+fn random_predicates_have_the_sign_and_place_of_the_definition(
+    rt: HostRuntime,
+) -> Result<(), Fail> {
+    assert!(rt; are_compared(rt.alloc(), 1990)?);
+    Ok(())
+}
+
+#[test]
+fn further_random_predicates_have_the_sign_and_place_of_the_definition(
+    rt: HostRuntime,
+) -> Result<(), Fail> {
+    assert!(rt; are_compared(rt.alloc(), 2026)?);
     Ok(())
 }

@@ -1,4 +1,4 @@
-//! What `edges` says of points: the edges of hulls, worked out by hand, and the points files that it refuses.
+//! Tests of what `edges` writes for points: the edges of hulls, worked out by hand, and the points files that it refuses.
 use crate::support::{Case, NO_FAULTS, are_answered, is_answered};
 use ln_base::NoMemory;
 use ln_top::Status;

@@ -1,4 +1,4 @@
-//! What `emit` puts is read back, and its calls give the signs of rows.
+//! Tests that read back what `emit` writes: its calls return the signs of rows.
 use crate::spheres::CIRCLE;
 use crate::support::{Case, Faults, are_answered, is_answered, said_within, shelf};
 use ln_base::{MemConsole, NoMemory, Port};
@@ -41,7 +41,7 @@ fn file_of(alloc: Global, text: &[u8]) -> Result<Option<CFile>, NoMemory> {
     }
 }
 
-// What the call of a name gives on a row.
+// Returns what the call of a name returns on a row.
 fn called(
     alloc: Global,
     file: &CFile,
@@ -53,10 +53,10 @@ fn called(
     Ok(call(file, name, index, values, &mut s))
 }
 
-// The indices and the values of a row, the sign that its call gives, and how many functions that calls.
+// The indices and the values of a row, the sign that its call returns, and how many functions that calls.
 type CRow = (&'static [i64], &'static [i64], i32, u32);
 
-// The operations in 128 bits of the calls of a name on these rows; none where one of them gives another sign or calls otherwise.
+// The operations in 128 bits of the calls of a name on these rows; none where one of them returns another sign or calls otherwise.
 fn wide_in(
     alloc: Global,
     file: &CFile,

@@ -1,4 +1,4 @@
-//! Ports and files that fail at each of their calls, and input that is cut: what is out is the first bytes of what is owed.
+//! Streams and files that fail at each of their calls, and input that is cut short: what is written is a prefix of what is required.
 use crate::support::{
     Case, Faults, NO_FAULTS, answered, are_answered, is_answered, shelf, three_boxes,
 };
@@ -17,7 +17,7 @@ const ONE: &str = "p,p.x,p.y,q,q.x,q.y,r,r.x,r.y\n1,0,0,2,1,0,3,0,1\n";
 const THREE: &str =
     "p,p.x,p.y,q,q.x,q.y,r,r.x,r.y\n1,0,0,2,1,1,3,2,2\n1,0,0,2,1,0,3,0,1\n1,0,0,2,0,1,3,0,2\n";
 
-// The same behind a record with one index twice.
+// The same after a record with one index twice.
 const FOUR: &str =
     "p,p.x,p.y,q,q.x,q.y,r,r.x,r.y\n1,0,0,1,1,1,3,2,2\n1,0,0,2,1,1,3,2,2\n1,0,0,2,1,0,3,0,1\n1,0,0,2,0,1,3,0,2\n";
 
@@ -29,7 +29,7 @@ const RUN: &[&str] = &["run", "s.ln", "orient", "r.csv"];
 
 const CHECKED: &str = "orient sites 3 stages 30\n";
 
-// Does `check` leave the bytes before put number k, if that fails? A port takes one byte a put.
+// Does `check` leave the bytes before write number k, if that fails? A stream takes one byte at each write.
 fn is_cut_at(alloc: Global, k: u64) -> Result<bool, NoMemory> {
     let mut con = MemConsole::new(alloc, 100, 1, Vec::from_slice(alloc, &[k])?)?;
     let mut files = shelf(alloc, ORIENT, ONE, &[])?;
@@ -40,7 +40,7 @@ fn is_cut_at(alloc: Global, k: u64) -> Result<bool, NoMemory> {
     Ok(was == status && is_front)
 }
 
-// The same for each put, and for none.
+// The same for each write, and for none.
 fn are_cut(alloc: Global) -> Result<bool, NoMemory> {
     for k in 1..27 {
         if !is_cut_at(alloc, k)? {
@@ -56,13 +56,13 @@ fn a_put_that_fails_leaves_what_was_put_before(rt: HostRuntime) -> Result<(), Fa
     Ok(())
 }
 
-// Are the bytes on each port the first of these?
+// Are the bytes on each stream a prefix of these?
 fn begins(con: &MemConsole, out: &str, err: &str) -> bool {
     out.as_bytes().starts_with(con.bytes(Port::Out))
         && err.as_bytes().starts_with(con.bytes(Port::Err))
 }
 
-// What `run` with watchers comes to where put number k fails; none where the ports have other bytes than the first of what is owed.
+// Returns what `run` with watchers comes to where write number k fails; none where the streams hold anything but a prefix of what is required.
 fn watched(alloc: Global, k: u64) -> Result<Option<Status>, NoMemory> {
     let mut con = MemConsole::new(alloc, 4096, 7, Vec::from_slice(alloc, &[k])?)?;
     let mut files = shelf(alloc, ORIENT, THREE, &[])?;
@@ -75,7 +75,7 @@ fn watched(alloc: Global, k: u64) -> Result<Option<Status>, NoMemory> {
     }
 }
 
-// The first number of a put that `run` doesn't come to; 0 where one that fails isn't told.
+// Returns the number of the first write that `run` doesn't come to; 0 where a failed one isn't reported.
 fn first_unused(alloc: Global) -> Result<u64, NoMemory> {
     for k in 1..100 {
         match watched(alloc, k)? {
@@ -93,7 +93,7 @@ fn each_failing_put_of_a_run_leaves_first_bytes_on_both_ports(rt: HostRuntime) -
     Ok(())
 }
 
-// Is each of so many reads told that fails, and are the words answered where a later one would?
+// Is a failure reported of each of this many reads, and are the words carried out where a later one would fail?
 fn are_reads_told(alloc: Global, words: &[&str], reads: u64, out: &str) -> Result<bool, NoMemory> {
     for k in 1..=reads {
         let case = (words, ORIENT, ONE, Status::Read, "", "error read\n");

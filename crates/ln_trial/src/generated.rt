@@ -1,4 +1,4 @@
-//! What `gen` says of rows that it makes, by the watchers that main hands in.
+//! Tests of what `gen` writes for rows that it makes, by the watchers that main hands in.
 use crate::spheres::CIRCLE;
 use crate::support::{Faults, answered, is_answered, shelf, texts};
 use ln_base::{MemConsole, NoMemory, Port};
@@ -14,7 +14,7 @@ const FIVE: &[&str] = &["gen", "s.ln", "one", "7", "5"];
 const FIVE_LINES: &str =
     "first 1 2 3\nsigns + 5 0 0 - 0\ndeciders filter 0 plain 0 stages 5 none 0 deepest 1\n";
 
-// Words over a source, the put that fails, the status that they are owed, and the bytes on Out and on Err.
+// Words over a source, the write that fails, the status that they require, and the bytes on Out and on Err.
 type Made = (
     &'static [&'static str],
     &'static str,
@@ -33,7 +33,7 @@ fn boxes(alloc: Global) -> Result<Vec<Box<dyn Watch>>, NoMemory> {
     Ok(boxes)
 }
 
-// Have the words their status and their bytes? A put takes seven bytes at most.
+// Have the words their status and their bytes? A write takes seven bytes at most.
 fn is_made(alloc: Global, words: &[&str], made: &Made) -> Result<bool, NoMemory> {
     let (_, source, put, status, out, err) = *made;
     let faults = Faults {

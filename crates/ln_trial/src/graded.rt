@@ -1,4 +1,4 @@
-//! What `graded` says: rows on which it differs from `run` and rows on which it doesn't, its two limits, and its words.
+//! Tests of what `graded` writes: rows on which it differs from `run` and rows on which it doesn't, its two limits, and its words.
 use crate::spheres::SPHERE;
 use crate::support::{Case, are_answered};
 use ln_base::NoMemory;
@@ -63,6 +63,19 @@ fn have_lines(
     )
 }
 
+// Has `graded` these lines on records of the orientation?
+fn orients(alloc: Global, records: &str, lines: &str) -> Result<bool, NoMemory> {
+    has_lines(
+        alloc,
+        "graded",
+        ORIENT,
+        "orient",
+        ORIENT_HEAD,
+        records,
+        lines,
+    )
+}
+
 #[test]
 fn a_linear_correction_counts_before_any_other(rt: HostRuntime) -> Result<(), Fail> {
     let alloc = rt.alloc();
@@ -79,27 +92,18 @@ fn a_linear_correction_counts_before_any_other(rt: HostRuntime) -> Result<(), Fa
             "- 4\n"
         )?
     );
-    // One point: 1 and the six coordinates are behind, and one product decides.
-    let equal = "1,5,5,2,5,5,3,5,5\n2,5,5,1,5,5,3,5,5\n";
+    // One point: 1 and the six coordinates come first, and one product decides.
     assert!(rt;
-        has_lines(
+        orients(
             alloc,
-            "graded",
-            ORIENT,
-            "orient",
-            ORIENT_HEAD,
-            equal,
+            "1,5,5,2,5,5,3,5,5\n2,5,5,1,5,5,3,5,5\n",
             "+ 7\n- 7\n"
         )?
     );
     // Left and right turns are decided by the filter, as ever.
     assert!(rt;
-        has_lines(
+        orients(
             alloc,
-            "graded",
-            ORIENT,
-            "orient",
-            ORIENT_HEAD,
             "1,0,0,2,9,0,3,0,9\n1,0,0,2,0,9,3,9,0\n",
             "+ F\n- F\n"
         )?
@@ -140,7 +144,7 @@ fn the_list_is_cut_within_a_degree(rt: HostRuntime) -> Result<(), Fail> {
 #[test]
 fn params_alone_leave_a_row_undecided(rt: HostRuntime) -> Result<(), Fail> {
     let alloc = rt.alloc();
-    // Without a site the one list stands at the empty prefix.
+    // Without a site the one list is at the empty prefix.
     assert!(rt;
         have_lines(
             alloc,
@@ -185,64 +189,70 @@ fn insphere_has_a_program_by_total_degree(rt: HostRuntime) -> Result<(), Fail> {
     Ok(())
 }
 
+// By the smallest infinitesimal the list is 1, y, .. y^17. By total degree it has the 65,536 divisors of the product and the
+// powers of y up to y^16; the product is the last.
 #[test]
-fn stages_within_the_limits_decide_and_more_are_refused(rt: HostRuntime) -> Result<(), Fail> {
+fn stages_within_the_limits_decide(rt: HostRuntime) -> Result<(), Fail> {
     let alloc = rt.alloc();
     let zeros = "1,0,0,0,0,0,0,0,0,0,0,0,0,0,0,0,0,0,0\n";
-    // By the smallest infinitesimal the list is 1, y, .. y^17. By total degree it has the 65,536 divisors of the product and the powers of
-    // y up to y^16; the product is the last.
     assert!(rt; have_lines(alloc, WIDE, "few", CUBE_HEAD, zeros, "+ 17\n", "+ 65551\n")?);
-    let refused: &[Case<'_>] = &[
-        // 131,072 divisors, of which 1 is covered twice; the rows file isn't looked for.
-        (
-            &["graded", "s.ln", "many", "t.csv"],
-            WIDE,
-            "",
-            Status::Refused,
-            "",
-            "error stages 4:11\n",
-        ),
-        (
-            &["graded", "s.ln", "nosuch", "t.csv"],
-            WIDE,
-            "",
-            Status::NoPredicate,
-            "",
-            "error predicate\n",
-        ),
-        (
-            &["graded", "s.ln", "few", "t.csv"],
-            WIDE,
-            "",
-            Status::Read,
-            "",
-            "error read\n",
-        ),
-        (
-            &["graded", "s.ln", "few", "r.csv"],
-            WIDE,
-            "",
-            Status::Rows,
-            "",
-            "error header\n",
-        ),
-        (
-            &["graded", "s.ln", "few"],
-            WIDE,
-            "",
-            Status::Usage,
-            "",
-            "error usage\n",
-        ),
-        (
-            &["graded", "s.ln", "few", "few", "r.csv"],
-            WIDE,
-            "",
-            Status::Usage,
-            "",
-            "error usage\n",
-        ),
-    ];
-    assert!(rt; are_answered(alloc, refused)?);
+    Ok(())
+}
+
+const REFUSED: &[Case<'static>] = &[
+    // 131,072 divisors, of which 1 is covered twice; the rows file isn't looked for.
+    (
+        &["graded", "s.ln", "many", "t.csv"],
+        WIDE,
+        "",
+        Status::Refused,
+        "",
+        "error stages 4:11\n",
+    ),
+    (
+        &["graded", "s.ln", "nosuch", "t.csv"],
+        WIDE,
+        "",
+        Status::NoPredicate,
+        "",
+        "error predicate\n",
+    ),
+    (
+        &["graded", "s.ln", "few", "t.csv"],
+        WIDE,
+        "",
+        Status::Read,
+        "",
+        "error read\n",
+    ),
+    (
+        &["graded", "s.ln", "few", "r.csv"],
+        WIDE,
+        "",
+        Status::Rows,
+        "",
+        "error header\n",
+    ),
+    (
+        &["graded", "s.ln", "few"],
+        WIDE,
+        "",
+        Status::Usage,
+        "",
+        "error usage\n",
+    ),
+    (
+        &["graded", "s.ln", "few", "few", "r.csv"],
+        WIDE,
+        "",
+        Status::Usage,
+        "",
+        "error usage\n",
+    ),
+];
+
+#[test]
+fn more_stages_and_what_comes_before_the_rows_are_refused(rt: HostRuntime) -> Result<(), Fail> {
+    assert!(rt; are_answered(rt.alloc(), REFUSED)?);
     Ok(())
 }

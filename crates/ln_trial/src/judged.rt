@@ -442,7 +442,7 @@ pub const RULES: &[(u32, u32, &str, u128)] = &[
     (42, 1, "order 1 0 : 0 3", 42),
     // an order twice
     (42, 1, "order 0 1 : 0 1 2", 42),
-    // an order is left out
+    // an order is omitted
     (42, 1, "", 42),
     // one order too many
     (43, 0, "order 1 0 : 0 3 4", 43),
@@ -532,9 +532,9 @@ pub const RULES_OF_BOUNDS: &[(u32, u32, &str, u128)] = &[
     ),
     // a wide operand of neg
     (29, 0, "neg128 20\nneg64 20", 30),
-    // a wide operand behind
+    // a wide operand second
     (29, 0, "push 0 0\nneg128 0\nadd64 20", 31),
-    // a wide operand in front
+    // a wide operand first
     (29, 0, "neg128 20\nneg128 20\npush 0 0\nadd64 20", 32),
     // end over two values
     (29, 0, "push 0 0", 30),
@@ -722,9 +722,9 @@ pub const RULES_OF_RANGES: &[(u32, u32, &str, u128)] = &[
     ),
     // a wide operand of neg
     (29, 0, "neg128 -20 20\nneg64 -20 20", 30),
-    // a wide operand behind
+    // a wide operand second
     (29, 0, "push 0 0 0\nneg128 0 0\nadd64 -20 20", 31),
-    // a wide operand in front
+    // a wide operand first
     (
         29,
         0,
@@ -992,13 +992,13 @@ pub const NUMBERS_OF_TURNS: &[(u32, u32, &str, u128)] = &[
     (21, 1, "input 0 -1001 1000", 23),
 ];
 
-// The line that fails where line 1, 2, .. of either listing of the squares is left out.
+// The line that fails where line 1, 2, .. of either listing of the squares is omitted.
 pub const DELETED: &[u128] = &[
     1, 2, 3, 4, 5, 7, 7, 14, 10, 14, 12, 12, 14, 14, 15, 16, 18, 18, 23, 21, 21, 23, 23, 24, 25,
     27, 27, 28, 29, 30, 31, 32, 33, 35, 35, 36, 37, 38, 39, 40, 41, 42, 43,
 ];
 
-// Where it stands twice.
+// Where it is there twice.
 pub const DOUBLED: &[u128] = &[
     2, 3, 4, 16, 6, 16, 16, 9, 16, 12, 16, 16, 14, 15, 16, 17, 25, 25, 20, 25, 25, 23, 24, 25, 26,
     30, 29, 29, 30, 31, 33, 33, 34, 38, 37, 37, 38, 39, 41, 41, 42, 43, 44,
@@ -1336,7 +1336,7 @@ order 0 : 0 1
 done
 ";
 
-// Both predicates, one behind the other.
+// Both predicates, one after the other.
 pub const BOTH: &str = "site num { t: -10 .. 10; }
 predicate s(a: num, b: num) { sign a.t^2 - b.t^2; }
 predicate t(a: num, b: num) { sign b.t^2 - a.t^2; }

@@ -1,11 +1,12 @@
-//! Tests of the program as a whole: what `ln_top::lnc` says over files and ports in memory. There is nothing else in this crate.
+//! Tests of the program as a whole: what `ln_top::lnc` writes over files and streams in memory. There is nothing else in this crate.
 //!
-//! `commands` has sources, rows and words with the lines and statuses that they are owed, `failing` ports and files that fail at each
-//! of their calls, `watchers` what boxes that are handed in say of records, `panel` what they say of verdicts, `generated` what they
-//! say of rows that `gen` makes, `products` what `product` says of several predicates, `listings` what `list` puts, read back, `emitted` what `emit` puts, read back and called, `rules`
-//! what `verify` says of listings, most of them changed in one place, with their texts and lines in `judged`, `repeated` predicates
-//! whose equal parts are computed once, `spheres` rows of incircle and insphere whose lines geometry tells, `graded` the order by total degree, `compare` random
-//! predicates against the definition of the perturbed sign.
+//! `commands` has sources, rows and words with the lines and statuses that they require, `failing` streams and files that fail at each of their
+//! calls, `watchers` what watchers that are handed in say of records, `panel` what they say of verdicts, `generated` what they say of rows that `gen`
+//! makes, `products` what `product` writes for several predicates, `listings` what `list` writes, read back, `emitted` what `emit` writes, read back
+//! and called, `rules` what `verify` writes for listings, most of them changed in one place, with their texts and lines in `judged`, `repeated`
+//! predicates whose equal parts are computed once, `spheres` rows of incircle and insphere whose lines are known from geometry, `graded` the order by
+//! total degree, `edges` what `edges` writes for clouds, `traces` what `explain` and `audit` write, `compare` random predicates against the definition
+//! of the perturbed sign, `many` long runs, of which no clause speaks. `verdicts` and `verified` call `run_row` and `verify` themselves.
 //!
 //! One function of `support` calls `lnc`, and the others call that: each caller of `lnc` takes the check long.
 #![tactic(auto)]
@@ -29,6 +30,8 @@ mod judged;
 #[cfg(test)]
 mod listings;
 #[cfg(test)]
+mod many;
+#[cfg(test)]
 mod panel;
 #[cfg(test)]
 mod products;
@@ -42,5 +45,9 @@ mod spheres;
 mod support;
 #[cfg(test)]
 mod traces;
+#[cfg(test)]
+mod verdicts;
+#[cfg(test)]
+mod verified;
 #[cfg(test)]
 mod watchers;

@@ -1,4 +1,4 @@
-//! What `list` puts is read back, and is what its source says.
+//! Tests that read back what `list` writes: it is what its source says.
 use crate::judged::SQUARES;
 use crate::spheres::CIRCLE;
 use crate::support::{Case, Faults, NO_FAULTS, are_answered, is_answered, said_within, shelf};

@@ -1,4 +1,4 @@
-//! Boxes that leave, that stay and that are cut off, over ports in memory.
+//! Watchers that leave, that stay and that are cut off, over streams in memory.
 
 use ln_base::{MemConsole, NoMemory, Port, Sign};
 use ln_code::{By, Verdict};
@@ -34,7 +34,7 @@ impl Watch for HoldingWatch {
     }
 }
 
-// Shows a verdict, and says whether all was put.
+// Shows a verdict, and returns whether all was written.
 fn is_shown(panel: &mut Panel, con: &mut MemConsole, row: u64, sign: Sign, by: By) -> bool {
     let v = Verdict {
         sign,
@@ -45,7 +45,7 @@ fn is_shown(panel: &mut Panel, con: &mut MemConsole, row: u64, sign: Sign, by: B
     panel.show(row, &v, con, Port::Out).is_ok()
 }
 
-// Puts the last lines, and says whether all was put.
+// Writes the last lines, and returns whether all was written.
 fn is_closed(panel: Panel, con: &mut MemConsole, port: Port) -> bool {
     panel.close(con, port).is_ok()
 }
@@ -63,7 +63,7 @@ fn around(alloc: Global, held: &Rc<Cell<u64>>) -> Result<Vec<Box<dyn Watch>>, No
     Ok(boxes)
 }
 
-// Is the box between the others dropped at once with its line, and do the others see two verdicts?
+// Is the watcher between the others dropped at once with its line, and do the others see two verdicts?
 fn leaves(alloc: Global) -> Result<bool, NoMemory> {
     let mut con = MemConsole::new(alloc, 400, 100, Vec::new(alloc))?;
     let held = Rc::new(alloc, Cell::new(0u64))?;
@@ -97,7 +97,7 @@ fn five(alloc: Global) -> Result<Vec<Box<dyn Watch>>, NoMemory> {
     Ok(boxes)
 }
 
-// Does the put of the first line that comes third fail, and that of the last line, and are those before them there?
+// Does the write of the first line that comes third fail, and that of the last line, and are those before them there?
 fn are_cut(alloc: Global) -> Result<bool, NoMemory> {
     let mut con = MemConsole::new(alloc, 400, 100, Vec::from_slice(alloc, &[3, 8])?)?;
     let mut panel = Panel::new(five(alloc)?);

@@ -1,4 +1,4 @@
-//! What `product` says: the sign of a product of predicates on each row, what decides each of them, and when it is refused.
+//! Tests of what `product` writes: the sign of a product of predicates on each row, what decides each of them, and when it is refused.
 use crate::support::{Case, NO_FAULTS, are_answered, is_answered, three_boxes};
 use ln_base::NoMemory;
 use ln_top::Status;

@@ -15,7 +15,7 @@ const LIST: &[&str] = &["list", "s.ln"];
 
 const ROOM: usize = 1 << 20;
 
-/// How many operations a block has, how many of them are products, and how many put a value into a local.
+/// How many operations a block has, how many of them are products, and how many store a value in a local.
 #[derive(Drop)]
 struct Counts {
     all: u32,
@@ -64,7 +64,7 @@ fn counted(alloc: Global, text: &[u8]) -> Result<Option<Counts>, NoMemory> {
     }
 }
 
-/// Has block 0 of a source's one program so many operations, so many products and so many values that are put into locals?
+/// Has block 0 of a source's one program this many operations, this many products and this many values that are stored in locals?
 fn has_counts(
     alloc: Global,
     source: &str,
@@ -95,7 +95,7 @@ fn says(
     are_answered(alloc, &cases)
 }
 
-// A predicate whose sign is so many copies of a square, one added to the other.
+// A predicate whose sign is this many copies of a square, one added to the other.
 fn copies(alloc: Global, count: u32) -> Result<String, NoMemory> {
     let mut source = String::from_str(
         alloc,
@@ -121,7 +121,7 @@ fn a_hundred_copies_of_a_square_take_207_operations(rt: HostRuntime) -> Result<(
     Ok(())
 }
 
-// A predicate whose sign is the sum of so many different products, and of the same once more.
+// A predicate whose sign is the sum of this many different products, and of the same once more.
 fn products(alloc: Global, count: u32) -> Result<String, NoMemory> {
     let mut source = String::from_str(
         alloc,

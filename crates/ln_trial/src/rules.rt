@@ -1,4 +1,4 @@
-//! What `verify` says of listings that were written by hand and changed in one place: each rule broken alone, lines that move, numbers
+//! Tests of what `verify` writes for listings that were written by hand and changed in one place: each rule broken alone, lines that move, numbers
 //! that change, and the limits on polynomials and stacks.
 use crate::judged::{
     BOTH, BOUNDS, DELETED, DOUBLED, EXCHANGED, HIGH_POWER, HIGHER_POWER, MANY_TERMS, MORE_TERMS,
@@ -19,7 +19,7 @@ const VERIFY: &[&str] = &["verify", "s.ln", "listing"];
 
 const LIST: &[&str] = &["list", "s.ln"];
 
-/// From a line on so many lines of a listing, the text in their place, and the first line that fails then, 0 where none does.
+/// From a line on, this many lines of a listing, the text in their place, and the first line that fails then, 0 where none does.
 type Change<'a> = (u32, u32, &'a str, u128);
 
 /// A source file and a listing.
@@ -32,7 +32,7 @@ fn both_files(alloc: Global, source: &str, listing: &[u8]) -> Result<MemFiles, N
     Ok(MemFiles::new(files, Vec::new(alloc)))
 }
 
-/// What `verify` is to say where this is the first line that fails, 0 where none does.
+/// Returns what `verify` writes where this is the first line that fails, 0 where none does.
 fn verdict(alloc: Global, line: u128) -> Result<String, NoMemory> {
     if line == 0 {
         Ok(String::from_str(alloc, "valid\n")?)
@@ -54,7 +54,7 @@ fn fails_at(alloc: Global, source: &str, listing: &[u8], line: u128) -> Result<b
     is_said(alloc, &case, &mut files)
 }
 
-/// Puts a text and a line feed, where there is a text.
+/// Appends a text and a line feed, where there is a text.
 fn put_lines(out: &mut Vec<u8>, text: &[u8]) -> Result<(), NoMemory> {
     if !text.is_empty() {
         out.extend_from_slice(text)?;
@@ -63,8 +63,14 @@ fn put_lines(out: &mut Vec<u8>, text: &[u8]) -> Result<(), NoMemory> {
     Ok(())
 }
 
-/// The listing with another text in the place of so many lines from one on, which is counted from 1.
-fn changed(alloc: Global, base: &[u8], at: u32, cut: u32, new: &[u8]) -> Result<Vec<u8>, NoMemory> {
+/// The listing with another text in the place of this many lines from one on, which is counted from 1.
+pub fn changed(
+    alloc: Global,
+    base: &[u8],
+    at: u32,
+    cut: u32,
+    new: &[u8],
+) -> Result<Vec<u8>, NoMemory> {
     let mut out = Vec::new(alloc);
     let mut line = 1u32;
     let mut begins = true;
@@ -174,7 +180,7 @@ fn lines_double(alloc: Global, base: &[u8]) -> Result<bool, NoMemory> {
     Ok(true)
 }
 
-/// The listing with a line behind the next one.
+/// The listing with a line after the next one.
 fn exchanged(alloc: Global, base: &[u8], at: u32) -> Result<Vec<u8>, NoMemory> {
     let next = at.saturating_add(1);
     let second = line_at(alloc, base, next)?;
@@ -183,7 +189,7 @@ fn exchanged(alloc: Global, base: &[u8], at: u32) -> Result<Vec<u8>, NoMemory> {
     changed(alloc, &text, next, 1, &first)
 }
 
-/// Has the listing its line with each of its lines behind the next one?
+/// Has the listing its line with each of its lines after the next one?
 fn lines_change_places(alloc: Global, base: &[u8]) -> Result<bool, NoMemory> {
     let mut at = 0u32;
     for behind in EXCHANGED {
@@ -207,7 +213,7 @@ fn lines_that_move(rt: HostRuntime) -> Result<(), Fail> {
     Ok(())
 }
 
-/// Whether a listing is cut in a line or in front of it, this is the first that isn't there.
+/// Whether a listing is cut short in a line or before it, this is the first that isn't there.
 fn cuts_fail(alloc: Global, base: &[u8]) -> Result<bool, NoMemory> {
     let mut line = 1u128;
     let mut front = Vec::new(alloc);
@@ -230,7 +236,7 @@ fn listings_that_are_cut(rt: HostRuntime) -> Result<(), Fail> {
     Ok(())
 }
 
-/// A change behind another one, and the first line that fails then.
+/// A change after another one, and the first line that fails then.
 fn two_changes_fail(
     alloc: Global,
     base: &str,
@@ -253,7 +259,7 @@ fn two_lines_that_are_changed(rt: HostRuntime) -> Result<(), Fail> {
     Ok(())
 }
 
-/// Is what `list` puts for a source valid?
+/// Is what `list` writes for a source valid?
 fn is_listed_well(alloc: Global, source: &str) -> Result<bool, NoMemory> {
     let mut files = shelf(alloc, source, "", &[])?;
     let (status, con) = said_within(alloc, LIST, &mut files, 1 << 20, &[])?;
@@ -326,7 +332,7 @@ fn polynomials_have_their_limits(rt: HostRuntime) -> Result<(), Fail> {
     Ok(())
 }
 
-/// So many zeros put onto a stack and taken off.
+/// This many zeros pushed onto a stack and taken off.
 fn zeros(alloc: Global, count: usize) -> Result<Vec<u8>, NoMemory> {
     let mut text = Vec::new(alloc);
     for _ in 0..count {
@@ -340,7 +346,7 @@ fn zeros(alloc: Global, count: usize) -> Result<Vec<u8>, NoMemory> {
     Ok(text)
 }
 
-/// The listing with so many zeros put onto a stack and taken off.
+/// The listing with this many zeros pushed onto a stack and taken off.
 fn with_zeros(alloc: Global, count: usize) -> Result<Vec<u8>, NoMemory> {
     let new = zeros(alloc, count)?;
     changed(alloc, BOUNDS.as_bytes(), 29, 0, &new)
@@ -356,7 +362,7 @@ fn stacks_have_their_limit(rt: HostRuntime) -> Result<(), Fail> {
     Ok(())
 }
 
-/// Words over a source and a listing, with what they are owed.
+/// Words over a source and a listing, with what they require.
 const WORDS: &[Case<'_>] = &[
     (
         &["verify", "s.ln"],

@@ -45,9 +45,9 @@ const IN_CIRCLE: &[(&str, &str)] = &[
     ("1,0,0,2,4,0,3,0,4,4,4,5", "- 0\n"),
     // The same circle, a, b, c turning right: d is inside.
     ("1,0,0,2,0,4,3,4,0,4,3,3", "- 0\n"),
-    // Corners of a square: a moves up, into the circle of b, c, d. Three exchanges bring a behind them.
+    // Corners of a square: a moves up, into the circle of b, c, d. Three exchanges move a after them.
     ("1,0,0,2,1,0,3,1,1,4,0,1", "- 1\n"),
-    // The same corners, c first: it moves up, out of the circle of a, b, d. One exchange brings c behind them.
+    // The same corners, c first: it moves up, out of the circle of a, b, d. One exchange moves c after them.
     ("3,0,0,2,1,0,1,1,1,4,0,1", "+ 1\n"),
     // A circle with a at its left end: a moves up along the tangent, and the square of the way takes it out of the circle.
     ("1,-5,0,2,0,-5,3,5,0,4,0,5", "+ 2\n"),
@@ -78,9 +78,9 @@ const IN_SPHERE: &[(&str, &str)] = &[
     ("1,0,0,0,2,4,0,0,3,0,4,0,4,0,0,4,5,5,4,4", "+ 0\n"),
     // The same sphere, a, b, c, d left-handed: e is inside.
     ("1,0,0,0,2,0,4,0,3,4,0,0,4,0,0,4,5,3,3,3", "+ 0\n"),
-    // Corners of a cube: a moves up, into the sphere of the right-handed b, c, d, e. Four exchanges bring a behind them.
+    // Corners of a cube: a moves up, into the sphere of the right-handed b, c, d, e. Four exchanges move a after them.
     ("1,0,0,0,2,1,0,0,3,0,1,0,4,0,0,1,5,1,1,1", "- 1\n"),
-    // The same corners, b first: it moves up, into the sphere of the right-handed a, c, d, e. Three exchanges bring b behind them.
+    // The same corners, b first: it moves up, into the sphere of the right-handed a, c, d, e. Three exchanges move b after them.
     ("2,0,0,0,1,1,0,0,3,0,1,0,4,0,0,1,5,1,1,1", "+ 1\n"),
     // A sphere with a at its right end: a moves up along the tangent, and the square of the way takes it out of the sphere of the
     // left-handed b, c, d, e.

@@ -4,10 +4,10 @@ use ln_top::{Status, lnc};
 use ln_watch::{FirstWatch, SignWatch, Watch};
 use std::alloc::Global;
 
-/// Words over a source and rows; the status that they are owed, and the bytes on Out and on Err.
+/// Words over a source and rows; the status that they require, and the bytes on Out and on Err.
 pub type Case<'a> = (&'a [&'a str], &'a str, &'a str, Status, &'a str, &'a str);
 
-/// What fails: these calls of the files, these puts, and the puts past so many bytes of a port.
+/// The failures: these calls of the files, these writes, and the writes past this many bytes of a stream.
 #[derive(Clone, Copy)]
 pub struct Faults<'a> {
     pub reads: &'a [u64],
@@ -53,7 +53,7 @@ pub fn answered(
     Ok(lnc(alloc, &words, files, con, watchers))
 }
 
-/// The status, and the console with what was put, seven bytes at a time; the calls in `fails` fail.
+/// The status, and the console with what was written, seven bytes at a time; the calls in `fails` fail.
 pub fn said(
     alloc: Global,
     words: &[&str],
@@ -63,7 +63,7 @@ pub fn said(
     said_within(alloc, words, files, 4096, fails)
 }
 
-/// The same over ports with room for so many bytes each.
+/// The same over streams with room for this many bytes each.
 pub fn said_within(
     alloc: Global,
     words: &[&str],
@@ -76,7 +76,7 @@ pub fn said_within(
     Ok((status, con))
 }
 
-/// Do these bytes stand on the two ports?
+/// Are these bytes on the two streams?
 pub fn tells(con: &MemConsole, out: &str, err: &str) -> bool {
     con.bytes(Port::Out) == out.as_bytes() && con.bytes(Port::Err) == err.as_bytes()
 }

@@ -1,4 +1,4 @@
-//! What `explain` tells of rows, worked out by hand, and what `audit` says of traces that were changed in one place.
+//! Tests of what `explain` writes for rows, worked out by hand, and what `audit` writes for traces that were changed in one place.
 use crate::support::{Case, are_answered, is_said};
 use ln_base::{MemFiles, NoMemory};
 use ln_top::Status;
@@ -27,7 +27,7 @@ const TOLD: &[Case<'static>] = &[
         "trace 1\nrow 1\nat : 1\nsign +\nrow 2\nat : 0\nat 1^1 : 0\nat 0^1 : 0\nat 3^1 : 0\nat 0^1 3^1 : 1\nsign +\n",
         "",
     ),
-    // A record that is no row; none at all; a wrong header.
+    // An invalid record; none at all; a wrong header.
     (
         EXPLAIN,
         ORIENT,
@@ -74,7 +74,7 @@ fn three_files(alloc: Global, rows: &str, trace: &str) -> Result<MemFiles, NoMem
     Ok(MemFiles::new(files, Vec::new(alloc)))
 }
 
-/// A rows file, a trace, and what `audit` says of them.
+/// A rows file, a trace, and what `audit` writes for them.
 type Audit<'a> = (&'a str, &'a str, Status, &'a str, &'a str);
 
 // Does `audit` say so?

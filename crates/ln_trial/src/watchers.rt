@@ -1,9 +1,10 @@
-//! What watchers that are handed in say of the records, and what is left of them where a put fails.
+//! Tests of what watchers that are handed in say of the records, and of what remains of them where a write fails.
 ghost use Rattle.std.specs.Prelude.{[]};
 
 use crate::emitted::wide_of;
 use crate::spheres::CIRCLE;
 use crate::support::{Case, Faults, NO_FAULTS, is_answered, three_boxes};
+use crate::verdicts::wide_of_rows;
 use ln_base::NoMemory;
 use ln_code::Verdict;
 use ln_top::Status;
@@ -23,7 +24,7 @@ const HEAD: &str = "p,p.x,p.y,q,q.x,q.y,r,r.x,r.y\n";
 const THREE: &str =
     "p,p.x,p.y,q,q.x,q.y,r,r.x,r.y\n1,0,0,2,1,1,3,2,2\n1,0,0,2,1,0,3,0,1\n1,0,0,2,0,1,3,0,2\n";
 
-// A record that is no row, then one along a line.
+// An invalid record, then one along a line.
 const REFUSED: &str = "p,p.x,p.y,q,q.x,q.y,r,r.x,r.y\n1,0,0,2,1\n1,0,0,2,1,1,3,2,2\n";
 
 // Corners of a square; then a point within a wide circle.
@@ -128,7 +129,7 @@ const FIRST_PUT: Faults<'static> = Faults {
     room: 4096,
 };
 
-// The first put is of the line of the first box; the lines of records are put behind it.
+// The first write is of the line of the first watcher; the lines of records are written after it.
 #[test]
 fn a_failed_put_of_a_watcher_ends_the_run(rt: HostRuntime) -> Result<(), Fail> {
     let alloc = rt.alloc();
@@ -145,13 +146,19 @@ const CORNERS_SAID: Case<'static> = (
     "\n",
 );
 
-// The same rows, and what the calls of the C give on them.
+// The same rows, one by one.
+const EACH_CORNERS: &[&str] = &[
+    "1,0,0,2,1,0,3,1,1,4,0,1\n",
+    "1,0,0,2,1048576,0,3,0,1048576,4,5,5\n",
+];
+
+// The same rows, and what the calls of the C return on them.
 const CORNERS_CALLED: &[(&[i64], &[i64], i32, u32)] = &[
     (&[1, 2, 3, 4], &[0, 0, 1, 0, 1, 1, 0, 1], -1, 3),
     (&[1, 2, 3, 4], &[0, 0, 1048576, 0, 0, 1048576, 5, 5], 1, 1),
 ];
 
-// The wide operations that a watcher saw; none where the lines aren't those that are owed.
+// The wide operations that a watcher saw; none where the lines aren't those that are required.
 fn wide_seen(alloc: Global) -> Result<Option<u64>, NoMemory> {
     let sum = Rc::new(alloc, Cell::new(0u64))?;
     let mut boxes: Vec<Box<dyn Watch>> = Vec::new(alloc);
@@ -166,7 +173,8 @@ fn wide_seen(alloc: Global) -> Result<Option<u64>, NoMemory> {
 #[test]
 fn a_watcher_of_the_callers_own_adds_up_wide_operations(rt: HostRuntime) -> Result<(), Fail> {
     let alloc = rt.alloc();
-    let wide = wide_of(alloc, CIRCLE, "ln_incircle", CORNERS_CALLED)?;
+    let wide = wide_of_rows(alloc, CIRCLE, EACH_CORNERS)?;
     assert!(rt; wide.is_some_and(|n| n > 0) && wide_seen(alloc)? == wide);
+    assert!(rt; wide_of(alloc, CIRCLE, "ln_incircle", CORNERS_CALLED)? == wide);
     Ok(())
 }

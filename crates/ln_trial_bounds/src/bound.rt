@@ -1,4 +1,4 @@
-//! Predicates, weighed and sized.
+//! Tests the sizes, ranges and widths of predicates' nodes, and the refusal of a node that is too large.
 ghost use Rattle.std.specs.Prelude.{◌≤◌, unsigned_abs};
 ghost use Rattle.ln_interval.specs.Range.{most};
 
@@ -23,7 +23,7 @@ predicate cross(a: half, b: half) { sign (a.t + b.t)^2 - (a.t - b.t)^2; }
 predicate up(a: count, b: count) { sign (a.t + b.t)^2 - (a.t - b.t)^2; }
 ";
 
-/// What is known of a predicate's root: its size, its ends, and whether it is wide.
+/// The facts of a predicate's root: its size, its ends, and whether it is wide.
 struct Known {
     size: u128,
     low: i128,
@@ -132,7 +132,7 @@ fn lets_and_powers_carry_ranges_and_widths(rt: HostRuntime) -> Result<(), Fail> 
     Ok(())
 }
 
-/// Where the first node stands that is too large.
+/// Where the first node is that is too large.
 fn refused_at(alloc: Global, p: &Pred) -> Option<u32> {
     match weigh(alloc, p) {
         Err(BoundStop::Bound(at)) => Some(at.start),

@@ -46,7 +46,7 @@ fn counts(alloc: Global, p: &Pred, most: u64, heavy: u32) -> Result<(u64, usize)
     }
 }
 
-// The same of the first predicate of a source. A source without one counts as want of memory.
+// The same of the first predicate of a source. A source without one counts as out of memory.
 fn counted(alloc: Global, source: &str, most: u64, heavy: u32) -> Result<(u64, usize), StageStop> {
     let bytes = source.as_bytes();
     if bytes.len() > 1_048_576 {

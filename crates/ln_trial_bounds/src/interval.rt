@@ -1,4 +1,4 @@
-//! Pairs of ends, and what their operations answer.
+//! Pairs of ends, and what their operations return.
 use ln_interval::Pair;
 use ln_interval::pair::MOST;
 use std::process::Abort;

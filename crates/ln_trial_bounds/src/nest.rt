@@ -1,5 +1,4 @@
-//! Nested forms.
-ghost use Rattle.std.specs.Prelude.{◌≤◌};
+//! Tests the nested form of a predicate's polynomial.
 
 use crate::sources::table;
 use ln_bound::weigh::weigh;

@@ -1,4 +1,4 @@
-//! The order of a row's sites, all orders of so many sites with their prefixes, and which exponents are earlier in one.
+//! The order of a row's sites, all orders of this many sites with their prefixes, and which exponents are earlier in one.
 ghost use Rattle.std.specs.Prelude.{◌≡◌, IfOk};
 
 use ln_base::{NoMemory, Seq};

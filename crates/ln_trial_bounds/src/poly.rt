@@ -83,14 +83,14 @@ const TWO_X: &[Want] = &[(&[(0, 1)], 2)];
 
 const X_SQUARED: &[Want] = &[(&[(0, 2)], 1)];
 
-const SOURCE: &str = "site point { x: -1 .. 1; y: -1 .. 1; }
+const SOURCE: &str = "site point { x: -1000 .. 1000; y: -1000 .. 1000; }
 site num { t: -1000 .. 1000; }
 predicate orient(p: point, q: point, r: point) { sign (p.x - r.x)*(q.y - r.y) - (p.y - r.y)*(q.x - r.x); }
 predicate cube(a: num) { sign a.t^3; }
 predicate none(a: num) { sign a.t - a.t; }
 ";
 
-/// The terms of a predicate's normal polynomial, their weighted sums, and the terms of its derivative by the last variable, so many
+/// The terms of a predicate's normal polynomial, their weighted sums, and the terms of its derivative by the last variable, this many
 /// times.
 struct Case {
     terms: &'static [Want],
@@ -110,8 +110,9 @@ const CASES: &[Case] = &[
             (&[(0, 1), (5, 1)], -1),
             (&[(0, 1), (3, 1)], 1),
         ],
-        weight: 6,
-        heft: 24,
+        // Six products: 6 * 1000 * 1000, and 6 * 1001 * 1001.
+        weight: 6_000_000,
+        heft: 6_012_006,
         times: 1,
         derived: &[(&[(2, 1)], 1), (&[(0, 1)], -1)],
     },
@@ -208,10 +209,10 @@ predicate product(p: ten, q: ten, r: ten, s: ten) {
 predicate power(p: ten) { let s = p.a + p.b + p.c + p.d; sign s^15; }
 ";
 
-// How many terms each of them has; or where the first node stands that has too many: the sum with 1, and the product.
+// How many terms each of them has; or where the first node is that has too many: the sum with 1, and the product.
 const COUNTS: &[Result<usize, u32>] = &[Ok(1024), Err(499), Err(782), Ok(816)];
 
-/// How many terms a predicate has; or where the first node stands that has too many.
+/// How many terms a predicate has; or where the first node is that has too many.
 fn count(alloc: Global, p: &Pred) -> Result<usize, u32> {
     match poly_of(alloc, p) {
         Ok(f) => Ok(f.terms().len()),

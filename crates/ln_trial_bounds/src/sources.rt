@@ -1,4 +1,4 @@
-//! The tables of sources.
+//! Parses the sources of this crate's tests to their tables.
 ghost use Rattle.std.specs.Prelude.{◌<◌, IfOk, length};
 
 use ln_parse::parse;

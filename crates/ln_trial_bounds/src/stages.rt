@@ -21,7 +21,7 @@ const CUBE: &str =
 i: -1 .. 1; j: -1 .. 1; k: -1 .. 1; l: -1 .. 1; m: -1 .. 1; n: -1 .. 1; o: -1 .. 1; p: -1 .. 1; }
 predicate all(x: cube) { sign x.a*x.b*x.c*x.d*x.e*x.f*x.g*x.h*x.i*x.j*x.k*x.l*x.m*x.n*x.o*x.p; }";
 
-// The stages of a predicate over so many sites.
+// The stages of a predicate over this many sites.
 fn staged(alloc: Global, p: &Pred, sites: u8, most: u64, heavy: u32) -> Result<Stages, StageStop>
     ensures { IfOk result (λ st. st.sites ≡ sites) }
 {
@@ -49,8 +49,8 @@ fn staged_first(
     }
 }
 
-/// The stages of the first predicate of a source, which has so many sites, within these limits. A source without such a predicate
-/// counts as want of memory.
+/// The stages of the first predicate of a source, which has this many sites, within these limits. A source without such a predicate
+/// counts as out of memory.
 pub(crate) fn stages_of(
     alloc: Global,
     source: &str,
@@ -87,7 +87,7 @@ fn is_segment(st: &Stages, indices: &[i64], j: u8, numbers: &[u32]) -> bool
     }
 }
 
-// Each second segment stands behind the cut.
+// Each second segment comes after the cut.
 fn have_segments(st: &Stages) -> bool
     requires { st.now.sites ≡ 2 }
 {
@@ -98,7 +98,7 @@ fn have_segments(st: &Stages) -> bool
         && is_segment(st, &[8, 5], 2, &[])
 }
 
-// Are the blocks behind block 0 those of a.t, a.t^2, b.t and b.t^2?
+// Are the blocks after block 0 those of a.t, a.t^2, b.t and b.t^2?
 fn have_powers(st: &Stages) -> bool {
     st.blocks() == 5
         && is_power(st, 1, 0, 1)

@@ -1,4 +1,4 @@
-//! What fields, places and lists are, and what files and ports in memory say.
+//! Tests of what fields, places and lists are, and of what files and streams in memory hold.
 use ln_base::decimal::{integer, unsigned};
 use ln_base::{
     MemConsole, MemFiles, NoMemory, Port, ReadStop, Reading, Seq, line_col, put_all, read_whole,
@@ -139,7 +139,7 @@ fn many_bytes(alloc: Global) -> Result<Vec<u8>, NoMemory> {
     Ok(bytes)
 }
 
-/// An empty file, and behind it a file with these bytes.
+/// An empty file, and after it a file with these bytes.
 fn small_and_large(alloc: Global, bytes: &[u8]) -> Result<MemFiles, NoMemory> {
     let mut held = Vec::new(alloc);
     held.push(file(alloc, "small", b"")?)?;

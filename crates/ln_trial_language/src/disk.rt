@@ -1,4 +1,4 @@
-//! What no clause says of files, ports and words: which bytes they are.
+//! Tests of what no clause says of files, streams and words: which bytes they are.
 mod fakes;
 
 use self::fakes::{Habit, Line, Paper, Shelf, byte_at};
@@ -155,7 +155,7 @@ fn a_name_of_any_length_is_the_name_of_its_file(rt: HostRuntime) -> Result<(), F
     Ok(())
 }
 
-/// How many of three reads one behind the other are well.
+/// How many of three successive reads are well.
 fn well_read<F: Files>(files: &mut F, buf: &mut [u8]) -> usize {
     let mut well = 0usize;
     for at in [0, 100, 200] {
@@ -180,7 +180,7 @@ fn a_read_that_fails_is_a_fault(rt: HostRuntime) {
         };
         let mut files = DiskFiles::new(&shelf);
         assert!(rt; files.read_at("a", 8_100, &mut buf).is_err());
-        // reads one behind the other go through one file, whose read number `fails` fails
+        // successive reads go through one file, whose read number `fails` fails
         assert!(rt; well_read(&mut files, &mut buf) == fails - 1);
     }
 }
@@ -194,13 +194,13 @@ fn text(alloc: Global, len: usize) -> Result<Vec<u8>, Fail> {
     Ok(bytes)
 }
 
-/// Does a text go out whole on this port?
+/// Is a text written whole to this stream?
 fn is_put(out: &mut Paper, err: &mut Paper, port: Port, bytes: &[u8]) -> bool {
     let mut con = StdConsole::new(out, err);
     put_all(&mut con, port, bytes).is_ok()
 }
 
-/// Does a text go out whole, first on one port and then on the other?
+/// Is a text written whole, first to one stream and then to the other?
 fn goes_out(alloc: Global, bytes: &[u8], most: usize, interrupted: bool) -> bool {
     let habit = Habit {
         most,
@@ -240,14 +240,14 @@ fn a_write_that_fails_is_a_fault(rt: HostRuntime) -> Result<(), Fail> {
             interrupted: false,
         };
         let mut out = Paper::new(alloc, habit, 0);
-        // what stands before the write that fails is answered, and the rest is put again
+        // what is before the write that fails is returned, and the rest is written again
         assert!(rt; is_put(&mut out, &mut err, Port::Out, &bytes) == (fails > 1));
         assert!(rt; out.held.len() == if fails > 1 { 40 } else { 0 });
     }
     Ok(())
 }
 
-/// How many bytes one put takes; none at a fault.
+/// How many bytes one write takes; none at a fault.
 fn put_once(out: &mut Paper, err: &mut Paper, port: Port, bytes: &[u8]) -> Option<usize> {
     let mut con = StdConsole::new(out, err);
     con.put(port, bytes).ok()

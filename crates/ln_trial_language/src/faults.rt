@@ -107,8 +107,8 @@ const AT_A_TOKEN: &[(&str, &str, &str, Fault)] = &[
     ),
 ];
 
-/// Sources with one more than the limit allows: a head; what stands before each of the counted, its letter, which a
-/// number follows, how many there may be, and what stands behind; the tail; the limit.
+/// Sources with one more than the limit allows: a head; what comes before each of the counted, its letter, which a number follows, how many there
+/// may be, and what follows them; the tail; the limit.
 const ONE_TOO_MANY: &[(&str, &str, &str, u32, &str, &str, LimitWhat)] = &[
     (
         "",
@@ -174,7 +174,7 @@ const FIRST: &[(&str, ParseStop)] = &[
     ),
 ];
 
-/// The span of a token of so many bytes behind so many.
+/// The span of a token of `len` bytes from byte `start` on.
 fn span_of(start: usize, len: usize) -> Span {
     if start > 1 << 20 || len > 1 << 20 {
         return Span { start: 0, end: 0 };
@@ -185,7 +185,7 @@ fn span_of(start: usize, len: usize) -> Span {
     }
 }
 
-/// A fault at a span, as `parse` answers it.
+/// A fault at a span, as `parse` returns it.
 fn stop(fault: Fault, at: Span) -> ParseStop {
     match fault {
         Fault::Limit(what) => ParseStop::Limit(what, at),
@@ -193,7 +193,7 @@ fn stop(fault: Fault, at: Span) -> ParseStop {
     }
 }
 
-/// Is the source refused with this answer?
+/// Is the source refused with this result?
 fn is_refused(alloc: Global, source: &str, want: ParseStop) -> bool {
     if source.len() > 1 << 20 {
         return false;
@@ -225,7 +225,7 @@ fn named(alloc: Global, letter: &str, n: u32) -> Result<String, NoMemory> {
     Ok(name)
 }
 
-/// The head, and so many of the counted.
+/// The head, and this many of the counted.
 fn most_of(
     alloc: Global,
     head: &str,

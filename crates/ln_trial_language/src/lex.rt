@@ -1,4 +1,4 @@
-//! The tokens of sources.
+//! Tests the tokens of sources, their first faults and the limit of their number.
 use ln_lex::{Kind, LexStop, tokens};
 use std::alloc::Global;
 use std::test::Fail;
@@ -93,7 +93,7 @@ fn faults_and_their_places(rt: HostRuntime) {
     }
 }
 
-/// Has the source so many tokens?
+/// Has the source this many tokens?
 fn has_count(alloc: Global, source: &[u8], want: usize) -> bool {
     if source.len() > 1_048_576 {
         return false;

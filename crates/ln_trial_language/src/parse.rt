@@ -63,7 +63,7 @@ fn is_of_squares(e: &Expr) -> bool {
     }
 }
 
-/// Is it the square of argument 1 behind a minus sign?
+/// Is it the square of argument 1 after a minus sign?
 fn is_negated_square(e: &Expr) -> bool {
     match &e.node {
         Node::Neg(of) => is_square(of, 1),

@@ -88,7 +88,7 @@ fn is_byte(found: Option<usize>, ts: &[Token], source: &str, want: Option<usize>
     }
 }
 
-/// Whether the nesting fault and the syntax fault stand at these bytes.
+/// Returns whether the nesting fault and the syntax fault are at these bytes.
 fn has_faults(alloc: Global, source: &str, nesting: Option<usize>, syntax: Option<usize>) -> bool {
     if source.len() > 1_048_576 {
         return false;
@@ -114,7 +114,7 @@ fn files_have_no_fault(rt: HostRuntime) {
     }
 }
 
-/// What is the front of a file, and what no file goes on with there: nothing, where the source ends too early.
+/// The beginning of a file, and what no file goes on with there: nothing, where the source ends too early.
 const FRONTS: &[(&str, &str)] = &[
     ("site a { ", "}"),
     ("site a", ""),
@@ -160,7 +160,7 @@ fn a_fault_of_each_rule_stands_at_its_token(rt: HostRuntime) -> Result<(), Fail>
     Ok(())
 }
 
-/// A text, another so many times, and a last one.
+/// A text, another one n times, and a last one.
 fn repeated(
     alloc: Global,
     before: &str,
@@ -188,7 +188,7 @@ fn long_sources_are_files(rt: HostRuntime) -> Result<(), Fail> {
     Ok(())
 }
 
-/// What stands before so many parentheses, and the bytes of the two faults.
+/// The text before this many parentheses, and the bytes of the two faults.
 const NESTED: &[(&str, u32, Option<usize>, usize)] = &[
     (SIGN, 64, None, 29 + 64),
     (SIGN, 65, Some(29 + 64), 29 + 65),

@@ -57,7 +57,7 @@ fn file_of(rt: &impl Abort, alloc: Global, body: &str) -> Result<CFile, Fail> {
     read(rt, alloc, text.as_slice())
 }
 
-/// What its function g gives.
+/// Returns what its function g returns.
 fn called(rt: &impl Abort, alloc: Global, body: &str) -> Result<Result<CAnswer, CFault>, Fail> {
     let file = file_of(rt, alloc, body)?;
     let mut s = CScratch::new(alloc, &file)?;
@@ -80,7 +80,7 @@ fn all_give(rt: &impl Abort, alloc: Global, bodies: &[Body]) -> Result<(), Fail>
     Ok(())
 }
 
-/// A call of a function of `DOUBLE`: its name, the indices, the values, and what it gives.
+/// A call of a function of `DOUBLE`: its name, the indices, the values, and what it returns.
 type Call = (
     &'static str,
     [i64; 2],
@@ -113,7 +113,7 @@ const CALLS: &[Call] = &[
     ("f", [1, 2], &[5], Err(CFault::NoFunction)),
 ];
 
-/// Whether the call gives what it should, and gives it again with the same scratch.
+/// Returns whether the call returns what it should, and returns it again with the same scratch.
 fn answers(alloc: Global, file: &CFile, wanted: &Call) -> Result<bool, Fail> {
     let mut s = CScratch::new(alloc, file)?;
     let first = call(file, wanted.0, &wanted.1, wanted.2, &mut s);
@@ -226,7 +226,7 @@ fn operands_have_one_type(rt: HostRuntime) -> Result<(), Fail> {
 }
 
 const NAMES: &[Body] = &[
-    // A name before its declaration, within it, behind its braces; the innermost of two.
+    // A name before its declaration, within it, after its braces; the innermost of two.
     ("int a = ((int)b);\nint b = ((int)1);", Err(9)),
     ("int a = ((int)1);\n{\nint a = ((int)a); }", Err(11)),
     ("{ int a = ((int)1); }\nreturn ((int)a);", Err(10)),

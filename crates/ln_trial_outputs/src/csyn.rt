@@ -34,7 +34,7 @@ int g(const int64_t *x, const int64_t *v) {
 }
 ";
 
-/// What stands before a text of a table, and behind it.
+/// The texts before and after a text of a table.
 type Frame = (&'static str, &'static str);
 
 const WHOLE: Frame = ("", "");
@@ -197,7 +197,7 @@ const NO_FUNCTIONS: &[&str] = &[
     "int g(const int64_t*v){}\u{e9}",
     "int g(const int64_t*v){/**/}",
     "int g(const int64_t*v){}// g\n",
-    // Names of parameters, a name that comes twice, or is declared in a body before its function or behind it.
+    // Names of parameters, a name that comes twice, or is declared in a body before its function or after it.
     "int v(const int64_t*v){}",
     "int x(const int64_t*v){}",
     "int g(const int64_t*v){}int g(const int64_t*x,const int64_t*v){}",
@@ -260,7 +260,7 @@ const RESERVED: &[&str] = &[
     "sign",
 ];
 
-/// Places where a name may stand, and no reserved word.
+/// Places where a name is allowed, and no reserved word.
 const NAMES: &[Frame] = &[
     ("#include <stdint.h>\nint ", "(const int64_t*v){}"),
     (
@@ -401,7 +401,7 @@ fn calls_stand_in_functions_of_two_parameters(rt: HostRuntime) -> Result<(), Fai
     all_are(&rt, alloc, VALUE_OF_TWO, NO_CALLS, false)
 }
 
-/// A body: its front, what is repeated, how often it may be, the middle, what closes each, and the back.
+/// A body: its beginning, what is repeated, how often it may be, the middle, what closes each, and the back.
 type Nest = (
     &'static str,
     &'static str,
@@ -437,7 +437,7 @@ fn put_nest(out: &mut Vec<u8>, nest: &Nest, times: usize) -> Result<(), Fail> {
     put_times(out, BODY.1, 1)
 }
 
-/// Whether the body is a file's when what is repeated stands there so many times.
+/// Whether the body is a file's when what is repeated is there this many times.
 fn is_nested(rt: &impl Abort, alloc: Global, nest: &Nest, times: usize) -> Result<bool, Fail> {
     let mut all = Vec::new(alloc);
     put_nest(&mut all, nest, times)?;
@@ -460,7 +460,7 @@ const DEEP: &[Nest] = &[
     ("return", "1", 200_000, "", "", ""),
 ];
 
-// What is read recurses no deeper than the limits.
+// Reading recurses no deeper than the limits.
 #[test]
 fn two_hundred_thousand_parentheses(rt: HostRuntime) -> Result<(), Fail> {
     for nest in DEEP {

@@ -10,3 +10,5 @@ mod csyn;
 mod emitted;
 #[cfg(test)]
 mod listings;
+#[cfg(test)]
+mod sources;

@@ -1,4 +1,6 @@
-//! Texts that are listings, and texts that are none.
+//! Texts that are listings, and texts that are none; and what is written for programs.
+use crate::sources::compiled;
+use ln_base::NoMemory;
 use ln_bound::Width;
 use ln_cert::{Entry, ListStop, Listing, Part, read_listing, write_listing};
 use ln_code::{Op, Programs};
@@ -96,7 +98,7 @@ order 1 0 : 0 3 4
 done
 ";
 
-// Behind each front, lines and the line of the form fault.
+// After each prefix, lines and the line of the form fault.
 const FAULTS: &[(&str, &[(&str, u32)])] = &[
     (
         "",
@@ -194,7 +196,7 @@ const FAULTS: &[(&str, &[(&str, u32)])] = &[
     ("listing 3\n", &[("", 1)]),
 ];
 
-/// One text behind another.
+/// One text after another.
 fn joined(alloc: Global, front: &str, back: &str) -> Result<Vec<u8>, Fail> {
     let mut text = Vec::new(alloc);
     text.extend_from_slice(front.as_bytes())?;
@@ -202,7 +204,7 @@ fn joined(alloc: Global, front: &str, back: &str) -> Result<Vec<u8>, Fail> {
     Ok(text)
 }
 
-/// The line of the form fault of a text; none where it is a listing, and 0 for want of memory.
+/// The line of the form fault of a text; none where it is a listing, and 0 where memory ran out.
 fn fault(rt: &impl Abort, alloc: Global, text: &[u8]) -> Option<u32> {
     assert!(rt; text.len() <= 67_108_864);
     match read_listing(alloc, text) {
@@ -212,7 +214,7 @@ fn fault(rt: &impl Abort, alloc: Global, text: &[u8]) -> Option<u32> {
     }
 }
 
-/// Whether the lines behind a front have their faults.
+/// Returns whether the lines after a prefix have their faults.
 fn are_faulty(
     rt: &impl Abort,
     alloc: Global,
@@ -270,8 +272,8 @@ fn is_of_ranges(listing: &Listing) -> bool {
     }
 }
 
-/// The fault of a first part of `BLOCKS` behind `listing 1` that has so many line feeds: it is a listing itself where it is the first line
-/// or all; else the fault is at the line that isn't whole, or at the one behind the last.
+/// The fault of a prefix of `BLOCKS` after `listing 1` that has this many line feeds: it is a listing itself where it is the first line
+/// or all; else the fault is at the line that isn't whole, or at the one after the last.
 fn owed(part: &[u8], lines: u32) -> Option<u32> {
     match part {
         [.., b'\n'] if lines == 1 || lines == 43 => None,
@@ -286,6 +288,59 @@ fn listings_of_nothing(rt: HostRuntime) -> Result<(), Fail> {
     let text = write_listing(alloc, &none)?;
     assert!(rt; text.as_slice() == b"listing 2\n".as_slice());
     assert!(rt; fault(&rt, alloc, text.as_slice()).is_none());
+    Ok(())
+}
+
+// A difference of two sites, and a param alone.
+const DIFFERENCE: &str = "param c: 0 .. 5; site num { t: -10 .. 10; }
+predicate d(a: num, b: num) { sign a.t - b.t; }
+predicate k(c: param) { sign c; }
+";
+
+// By hand: the list of a before b is 1, a.t with the coefficient 1; that of b before a is 1, b.t with -1; without a site it is 1.
+const DIFFERENCE_LISTED: &str = "listing 2
+predicate d
+filter
+input 0 0 10 0
+input 1 0 10 0
+sub 0 20 0
+decide
+block 0
+input 0 -10 10
+input 1 -10 10
+sub64 -20 20
+end
+block 1 0^1
+push 1 1 1
+end
+block 2 1^1
+push -1 -1 -1
+end
+order 0 1 : 0 1
+order 1 0 : 0 2
+done
+predicate k
+filter
+input 0 0 5 0
+decide
+block 0
+input 0 0 5
+end
+order : 0
+done
+";
+
+/// Is this the listing of a source's programs?
+fn is_listed(alloc: Global, source: &str, listing: &str) -> Result<bool, NoMemory> {
+    match compiled(alloc, source)? {
+        Some(c) => Ok(write_listing(alloc, c.programs())?.as_slice() == listing.as_bytes()),
+        None => Ok(false),
+    }
+}
+
+#[test]
+fn programs_have_their_listing(rt: HostRuntime) -> Result<(), Fail> {
+    assert!(rt; is_listed(rt.alloc(), DIFFERENCE, DIFFERENCE_LISTED)?);
     Ok(())
 }
 

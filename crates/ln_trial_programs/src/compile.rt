@@ -1,4 +1,4 @@
-//! Sources compiled and refused.
+//! Tests that sources are compiled, or refused for the right reason at the right place.
 use ln_base::Span;
 use ln_compile::{Compiled, Refusal, compile};
 use std::alloc::Global;
@@ -21,7 +21,7 @@ predicate big(a: num, b: num, c: num, d: num) { sign a.t*b.t + c.t*d.t; }
 
 const NONE: &str = "site point { x: 0 .. 9; }\npredicate none(p: point) { sign p.x - p.x; }\n";
 
-/// Compiles a source. One that is too long counts as want of memory.
+/// Compiles a source. One that is too long counts as out of memory.
 pub(crate) fn compiled(alloc: Global, source: &str) -> Result<Compiled, Refusal> {
     let bytes = source.as_bytes();
     if bytes.len() > 1_048_576 {
@@ -78,7 +78,7 @@ fn a_predicate_is_refused_at_its_name_or_at_its_root(rt: HostRuntime) -> Result<
         end: 123,
     };
     assert!(rt; refused(rt.alloc(), NONE) == Some(("zero", name)));
-    // A sum of products that is just too heavy.
+    // A sum of products that is just too large.
     assert!(rt; refused(rt.alloc(), HEAVY) == Some(("bound", root)));
     Ok(())
 }

@@ -1,4 +1,4 @@
-//! Filters of compiled sources.
+//! Tests the operations and the last triple of the filters of compiled sources.
 use crate::compile::compiled;
 use ln_bound::Width;
 use ln_code::{FilterBlock, Op, Programs, Triple};

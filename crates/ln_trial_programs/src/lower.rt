@@ -1,4 +1,4 @@
-//! Blocks of compiled sources.
+//! Tests the blocks of compiled sources: equal subtrees are computed once, and a derivative has its own range.
 use crate::compile::{SQUARES, compiled};
 use ln_bound::Width;
 use ln_code::{Block, Op, Programs};

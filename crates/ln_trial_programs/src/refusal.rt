@@ -1,4 +1,4 @@
-//! What a refusal says.
+//! Tests the texts of refusals, and the places in a source that they name.
 use crate::compile::compiled;
 use ln_base::Span;
 use ln_compile::Refusal;

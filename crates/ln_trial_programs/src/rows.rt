@@ -42,7 +42,7 @@ fn is_none(field: &[u8]) -> bool {
     matches!(number(field, -9, 9), Err(NumberStop::Number))
 }
 
-/// Have the records that are left these numbers of fields, and are they all?
+/// Have the remaining records these numbers of fields, and are they all?
 fn have_fields(
     rows: &mut Rows<'_>,
     record: &mut ByteRecord,

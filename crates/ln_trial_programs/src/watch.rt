@@ -1,4 +1,4 @@
-//! What each watcher says of verdicts that it has seen.
+//! Tests of what each watcher says of verdicts that it has seen.
 use ln_base::Sign;
 use ln_code::{By, Verdict};
 use ln_watch::{DeciderWatch, FirstWatch, Keep, Line, SignWatch, Watch};

@@ -14,7 +14,7 @@ const OVER_SITES: usize = 625;
 /// The vector of each input alone.
 const UNITS: [usize; 5] = [1, 5, 25, 125, 625];
 
-/// A part of an expression, over parts that stand before it, by their places. The last part is the whole.
+/// A part of an expression, over parts before it, by their places. The last part is the whole.
 #[derive(Clone, Copy)]
 pub enum Part {
     Number(u8),

@@ -40,7 +40,7 @@ impl Truncated {
         }
     }
 
-    // So that 31 binary digits are left of the size.
+    // So that 31 binary digits remain of the size.
     fn trimmed(self) -> Truncated {
         self.cut(
             128u32

@@ -26,7 +26,7 @@ impl Shape {
     }
 }
 
-/// What a text is at its root, from the loosest to the tightest.
+/// The form of a text at its root, from the loosest to the tightest.
 #[derive(Clone, Copy, PartialEq, Eq, PartialOrd, Ord)]
 enum Binding {
     Sum,
@@ -42,7 +42,7 @@ struct Text {
     binding: Binding,
 }
 
-// Puts an operand, in parentheses where it binds more loosely than this.
+// Appends an operand, in parentheses where it binds more loosely than this.
 fn put_operand(
     out: &mut String,
     texts: &[Text],
@@ -62,7 +62,7 @@ fn put_operand(
     Ok(())
 }
 
-// Puts a sum or a difference.
+// Appends a sum or a difference.
 fn put_sum(
     out: &mut String,
     texts: &[Text],
@@ -169,7 +169,7 @@ pub fn source(alloc: Global, shape: &Shape, parts: &[Part]) -> Result<String, No
     Ok(source)
 }
 
-/// Puts the header of a rows file.
+/// Appends the header of a rows file.
 pub fn put_header(out: &mut String, shape: &Shape) -> Result<(), NoMemory> {
     let mut comma = "";
     for column in shape.columns {
@@ -184,7 +184,7 @@ pub fn put_header(out: &mut String, shape: &Shape) -> Result<(), NoMemory> {
     Ok(())
 }
 
-/// Puts the record of a row.
+/// Appends the record of a row.
 pub fn put_record(out: &mut String, shape: &Shape, row: &Row) -> Result<(), NoMemory> {
     let mut comma = "";
     for column in shape.columns {

@@ -1,4 +1,4 @@
-//! Writers, files and words that tests hand in, which give and take parts, fail and are interrupted where they are told.
+//! Writers, files and words that tests hand in, which return and take parts, and fail and are interrupted at calls that the test names.
 
 use std::alloc::{Allocator, Global};
 use std::env::{Env, FillError};
@@ -10,7 +10,7 @@ fn error(kind: ErrorKind) -> io::Error {
     io::Error::from(kind)
 }
 
-/// When a fake is slow or fails: what it takes or gives at once, and the numbers, from 1, of the calls that fail.
+/// When a fake is slow or fails: what it takes or returns at once, and the numbers, from 1, of the calls that fail.
 #[derive(Clone, Copy)]
 pub struct Habit {
     /// The most bytes at once.
