@@ -1,6 +1,7 @@
-"""What is said of the repository in its documents, by the repository: lines of docs/ are no longer than 200 letters; each link leads to a file
-and a heading that are there; each name `ln_crate::name` is in that crate, and of the pages on code each name in code font in some crate; each
-file of definitions or lemmas that is named is there. Prints what is wrong. Usage, at the top of the repository: docs.py"""
+"""What is said of the repository in its documents, by the repository: lines of docs/ have at most 200 letters, those of the sources of crates/
+at most 160; each link leads to a file and a heading that are there; each name `ln_crate::name` is in that crate, and of the pages on code
+each name in code font in some crate; each file of definitions or lemmas that is named is there. Prints what is wrong. Usage, at the top of
+the repository: docs.py"""
 import re
 from pathlib import Path
 
@@ -59,7 +60,11 @@ def identifiers(text):
 WORDS = set()
 for file in [*Path("crates").rglob("*.rt"), *Path("crates").rglob("*.antt")]:
     if "out" not in file.parts:
-        WORDS.update(re.findall(r"[A-Za-z_][A-Za-z0-9_]*", file.read_text()))
+        source = file.read_text()
+        WORDS.update(re.findall(r"[A-Za-z_][A-Za-z0-9_]*", source))
+        for n, line in enumerate(source.splitlines(), 1):
+            if len(line) > 160:
+                print(f"{file}: line {n} has {len(line)} letters")
 
 for page in PAGES:
     text = page.read_text()

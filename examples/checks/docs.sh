@@ -3,7 +3,7 @@
 # the documents beside the repository: tables that are made from crates.txt; links, names and files that the documents speak of; the table of
 # README.md's first run, which has the sample's rows with their lines; the version of the toolchain, where it is installed
 case_ 'the tables of crates are those of crates.txt' 0 '' '' 'python3 examples/checks/crates.py compare'
-case_ 'links, names and files of the documents are there' 0 '' '' 'python3 examples/checks/docs.py'
+case_ 'links, names and files of the documents are there, and no line is too long' 0 '' '' 'python3 examples/checks/docs.py'
 case_ 'the rows of the first run' 0 "$(sed 1d "$rows" | paste -d' ' - <("$lnc" run "$orient" orient "$rows"))" '' \
   "sed -n 's/^| .\\([0-9,-]*\\). | .\\([-+] [F0-9]*\\). | .*/\\1 \\2/p' README.md"
 kit=$(dirname "$(readlink -f "$(command -v rt || echo /nowhere/bin/rt)")")/../KIT-ID

@@ -6,7 +6,7 @@ case_ 'no memory for rows' 9 '' '' "ulimit -v 24000; $program run $orient orient
 case_ 'no memory for a listing' 9 '' '' "ulimit -v 5000; $program list $insphere"
 case_ 'no memory for C' 9 '' '' "ulimit -v 5000; $program emit $insphere"
 rm -f "$scratch/large.csv"
-case_ 'each of the first 50 allocations of each command refused' 0 '24 cases: each as owed' '' "LNC=$program bench/memory first 50 | tail -1"
+case_ 'each of the first 50 allocations of each command refused' 0 '24 cases: each as required' '' "LNC=$program bench/memory first 50 | tail -1"
 
 # signals: none is caught
 mkfifo "$scratch/pipe"
