@@ -10,3 +10,4 @@ pub mod Visit
 pub mod Sighted
 pub mod Degrees
 pub mod Graded
+pub mod Sound

@@ -33,6 +33,7 @@ does_both p part row r (Some f) e own = by_size (cases_lt (left_on p row).error 
     by_size (inl h) = (Decided, record { has = own.0; above = h }, (f, left_on p row, e, own.1 row.values r.values, h))
     by_size (inr h) = (Undecided, (own.0, λ d. absurd (omega (arith, h, d.above))), (f, left_on p row, e, own.1 row.values r.values, h))
 
+-- the verdict of a part that implements a predicate is the required one on a row in range
 pub parts_answer : PartsAnswerDue
 parts_answer rank p part row v k o range verdict =
     let there : InRange part.shape.sites part.shape.vars row = rw (o.sites, o.vars) range in
@@ -48,6 +49,7 @@ parts_answer rank p part row v k o range verdict =
 pub answers_for : (p : PredOf) (part : Part) → IsProgramOf p part → AnswersFor BySmallest p part
 answers_for p part o = record { sites = o.sites; vars = o.vars; filter = o.filter; poly = o.poly; carries = o.carries }
 
+-- the verdict of a predicate's program is the required one on a row in range
 pub programs_answer : ProgramsAnswerDue
 programs_answer p part row v k o range verdict = parts_answer BySmallest p part row v k (answers_for p part o) range verdict
 
@@ -63,6 +65,7 @@ one_does p row Undecided NoFilter h k = absurd (k h.0)
 one_does p row Undecided Decided h k = absurd (h.1 k)
 one_does p row Undecided Undecided h k = refl
 
+-- a row in range requires at most one verdict in an order of infinitesimals, but for the wide operations
 pub one_due_in : OneIsDueIn
 one_due_in rank s p row v w e f range a b =
     let same : a.filtering ≡ b.filtering = one_does p row a.filtering b.filtering a.does b.does in
@@ -71,5 +74,6 @@ one_due_in rank s p row v w e f range a b =
     (subst (λ (d : Filtering). Due rank d p.vars (root_of p) row v) same a.due) in
     due-unique rank s (root_of p) row b.filtering v w there left (subst (λ (vs : List VarInfo). Due rank b.filtering vs (root_of p) row w) e b.due)
 
+-- a row in range requires at most one verdict by the smallest infinitesimal, but for the wide operations
 pub one_due : OneIsDue
 one_due = one_due_in BySmallest

@@ -24,6 +24,7 @@ pub record Place (k : ℕ) (o : List ℕ) : Type 0 where
   pub within : number < length (orders_of k)
   pub here : get_or (orders_of k) number [] ≡ o
 
+-- an order of k sites has a place among all their orders
 pub place-of : (k : ℕ) (o : List ℕ) → IsOrderOf k o → Place k o
 place-of k o h =
     let m = is-member k o h in

@@ -142,10 +142,12 @@ within-limits p f ls h n a c w z =
       go (inr l) e =
           absurd (omega (arith, l, w, ap (stage_weight (length p.vars) z.poly) e, all-same (length p.vars) (root_of p) z.poly f z.normal n (first_seen ls)))
 
+-- a predicate whose normal polynomial isn't 0, and which has none of the other faults, has no fault
 pub sound_pred : (p : PredOf) (f : Sparse) → AreLight (loaded_of p) → HaveFewTerms (length p.vars) (expanded_of p) → (IsHeavyFault p → ⊥)
     → IsNormal (length p.vars) (root_of p) f → f ≢ [] → (IsStagesFault p → ⊥) → IsSound p
 sound_pred p f l t w n d s = record { light = l; few = t; whole = w; nonzero = λ z. d (zero-no-terms (length p.vars) (root_of p) f n z); staged = s }
 
+-- a predicate whose stage lists exceed a limit is refused for its stages, where it has none of the faults before
 pub stages_stops : (k : ℕ) (p : PredOf) (f : Sparse) → AreLight (loaded_of p) → HaveFewTerms (length p.vars) (expanded_of p)
     → (IsHeavyFault p → ⊥) → IsNormal (length p.vars) (root_of p) f → f ≢ []
     → ((ls : List (List (List ℕ))) × AreStageLists p.sites p.vars f ls × Passes (length p.vars) f 65536 131072 ls) → StopsPred k p (Stages k p.at)

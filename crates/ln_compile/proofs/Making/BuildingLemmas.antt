@@ -42,16 +42,19 @@ front-more : (preds : List Pred) (i : ℕ) (p : Pred) → i < length preds → p
     → map pred_of (take (i + 1) preds) ≡ map pred_of (take i preds) ++ pred_of p ∷ []
 front-more preds i p h e = ap (map pred_of) (take_more preds i p h ∙ ap (λ q. take i preds ++ q ∷ []) (sym e)) ∙ map-append pred_of (take i preds) (p ∷ [])
 
+-- the step of the loop in `programs`: one more program, of the next predicate
 pub compiled-more : (preds : List Pred) (i : ℕ) (p : Pred) (cs ds : List Part) (c : Part) → i < length preds → p ≡ get_or preds i p → ds ≡ cs ++ c ∷ []
     → IsProgramOf (pred_of p) c → AreProgramsOf (map pred_of (take i preds)) cs → AreProgramsOf (map pred_of (take (i + 1) preds)) ds
 compiled-more preds i p cs ds c h e q o b =
     let f : map pred_of (take i preds) ++ pred_of p ∷ [] ≡ map pred_of (take (i + 1) preds) = sym (front-more preds i p h e) in
     subst (λ (ps : List PredOf). AreProgramsOf ps ds) f (rw q (programs-more (map pred_of (take i preds)) cs (pred_of p) c b o))
 
+-- the end of the loop in `programs`: there is a program for each predicate
 pub compiled-end : (preds : List Pred) (i : ℕ) (cs : List Part) → length preds ≤ i → AreProgramsOf (map pred_of (take i preds)) cs
     → AreProgramsOf (map pred_of preds) cs
 compiled-end preds i cs h b = subst (λ (ps : List Pred). AreProgramsOf (map pred_of ps) cs) (take_all i preds h) b
 
+-- the step of the loop in `counts`: the next predicate has no fault, and its stage count is appended
 pub counted-more : (preds : List Pred) (i : ℕ) (p : Pred) (ns ms : List ℕ) (n : ℕ) → i < length preds → p ≡ get_or preds i p → ms ≡ ns ++ n ∷ []
     → IsSound (pred_of p) → IsStageCount (pred_of p) n → AreCounted (map pred_of (take i preds)) ns → AreCounted (map pred_of (take (i + 1) preds)) ms
 counted-more preds i p ns ms n h e r s k b =
@@ -61,6 +64,7 @@ counted-more preds i p ns ms n h e r s k b =
       counts = subst (λ (ps : List PredOf). AreStageCounts ps ms) f (rw r (counts-more (map pred_of (take i preds)) ns (pred_of p) n b.counts k));
     }
 
+-- the end of the loop in `counts`: no predicate has a fault, and there is a stage count for each
 pub counted-end : (preds : List Pred) (i : ℕ) (ns : List ℕ) → length preds ≤ i → AreCounted (map pred_of (take i preds)) ns → AreCounted (map pred_of preds) ns
 counted-end preds i ns h b = subst (λ (ps : List Pred). AreCounted (map pred_of ps) ns) (take_all i preds h) b
 
@@ -92,6 +96,7 @@ names-apart (p ∷ ps) [] n h a = absurd h
 names-apart (p ∷ ps) (c ∷ cs) n h a =
     All-cons (λ (d : Part). name_bytes d.shape.name ≢ name_bytes n) c cs (λ e. a.0 (sym h.0.name ∙ e)) (names-apart ps cs n h.1 a.1)
 
+-- the name of the next predicate differs from those of the programs before it
 pub name-new : (preds : List Pred) (i : ℕ) (p : Pred) (cs : List Part) (m : Name) → i < length preds → p ≡ get_or preds i p
     → differ (map (λ q. q.shape_name) (map pred_of preds)) ≡ true → m ≡ p.shape.name
     → AreProgramsOf (map pred_of (take i preds)) cs → All (λ c. name_bytes c.shape.name ≢ name_bytes m) cs
@@ -128,6 +133,7 @@ count-at (q ∷ ps) [] i h p e = absurd h
 count-at (q ∷ ps) (n ∷ ns) zero h p e = let d : q ≡ p = cc in subst (λ (r : PredOf). IsStageCount r n) d h.0
 count-at (q ∷ ps) (n ∷ ns) (suc i) h p e = count-at ps ns i h.1 p e
 
+-- there are as many stage counts as predicates
 pub as-many-counts : (ps : List PredOf) (ns : List ℕ) → AreStageCounts ps ns → length ns ≡ length ps
 as-many-counts [] [] h = refl
 as-many-counts [] (n ∷ ns) h = absurd h
@@ -139,6 +145,7 @@ differ-behind : (us vs : List (List ℕ)) → Differ (us ++ vs) → Differ vs
 differ-behind [] vs d = d
 differ-behind (u ∷ us) vs d = differ-behind us vs d.1
 
+-- the names of a table's predicates differ
 pub names-differ : (t : TableOf) → is_whole t ≡ true → differ (map (λ p. p.shape_name) t.preds) ≡ true
 names-differ t h =
     let w = table_parts t h in
@@ -161,6 +168,7 @@ more-by-number (p ∷ ps) zero (d ∷ cs) c h o a = absurd a
 more-by-number (p ∷ ps) (suc i) [] c h o a = absurd a
 more-by-number (p ∷ ps) (suc i) (d ∷ cs) c h o a = (a.0, more-by-number ps i cs c (omega (arith, h)) o a.1)
 
+-- the programs of the first i predicates and that of number i are those of the first i + 1
 pub program-more : (ps : List PredOf) (i : ℕ) (cs : List Part) (c : Part) → i < length ps → IsProgramAt ps i c
     → AreProgramsOf (take i ps) cs → AreProgramsOf (take (i + 1) ps) (cs ++ c ∷ [])
 program-more ps i cs c h o a =
@@ -185,6 +193,7 @@ names-of-programs (p ∷ ps) [] d a = absurd a
 names-of-programs (p ∷ ps) (c ∷ cs) d a = AllPairs-cons (λ (c d : Part). name_bytes c.shape.name ≢ name_bytes d.shape.name) c cs
     (names-behind p c ps cs a.0.name d.0 a.1) (names-of-programs ps cs d.1 a.1)
 
+-- the programs of a table's predicates, each with at most 65,536 blocks, are programs whose names differ
 pub programs-of-table : (t : Table) (cs : List Part) → AreProgramsOf (map pred_of t.preds) cs → All (λ (c : Part). length c.blocks ≤ 65536) cs → ArePrograms cs
 programs-of-table t cs a s = record {
   names = names-of-programs (map pred_of t.preds) cs

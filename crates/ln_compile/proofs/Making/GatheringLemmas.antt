@@ -71,6 +71,7 @@ blocks-more p f exps i old blocks c a l q e x b s h =
     } in
     subst (λ (ys : List Pairs). AreBlocksOf p f ys blocks) t (subst (λ (bs : List Code). AreBlocksOf p f (take i exps ++ a ∷ []) bs) (sym e) one)
 
+-- the end of the loop in `blocks`: there is a block for each of the exponents
 pub blocks-end : (p : PredOf) (f : Sparse) (exps : List Pairs) (i : ℕ) (blocks : List Code) → length exps ≤ i
     → AreBlocksOf p f (take i exps) blocks → AreBlocksOf p f exps blocks
 blocks-end p f exps i blocks l h = subst (λ (ys : List Pairs). AreBlocksOf p f ys blocks) (take_all i exps l) h

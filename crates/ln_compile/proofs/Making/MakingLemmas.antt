@@ -71,6 +71,7 @@ own-made p lets root c a z e l r x y n = record {
   code = n;
 }
 
+-- the source's own block is a block of the derivative by no exponents, made from an exact tree
 pub own-carries : (p : Pred) (lets : List Fitted) (root : Fitted) (c : Code) (a : Pairs) (f : Sparse) → a ≡ [] → c.exps ≡ a
     → map untyped (map typed lets) ≡ map (tree_of p.shape.vars) p.lets → untyped (typed root) ≡ tree_of p.shape.vars p.root
     → FollowsRules p.shape.vars c
@@ -126,6 +127,7 @@ filter-here : (p : PredOf) (o : Option FilterCode) → (IsSome o ↔ HasFilter p
 filter-here p None w v = λ h. absurd (true≢false (sym (w.1 h)))
 filter-here p (Some c) w v = (w.0 refl, v)
 
+-- the filter of a predicate's sized trees, where they have one, is the predicate's
 pub filter-of : (p : Pred) (lets : List Fitted) (root : Fitted) (o : Option FilterCode)
     → map untyped (map typed lets) ≡ map (tree_of p.shape.vars) p.lets → untyped (typed root) ≡ tree_of p.shape.vars p.root
     → (IsSome o ↔ HasFilter p.shape.vars (map untyped (map typed lets)) (untyped (typed root)))

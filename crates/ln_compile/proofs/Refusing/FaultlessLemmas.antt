@@ -66,5 +66,6 @@ sound-from done (p ∷ rest) s nay =
     here : IsSound p
     here = sound-one (length done) p (λ r f. nay r (record { before = done; pred = p; after = rest; stands = refl; sound = s; fault = f }))
 
+-- a source that has a table and is refused for nothing is accepted with that table
 pub faultless-accepted : FaultlessIsAccepted
 faultless-accepted bytes t text nay = record { text = text; sound = sound-from [] t.preds tt (λ r f. nay r (of_pred t text f)) }

@@ -1,7 +1,7 @@
 -- The predicates of a table, judged one after the other.
 use Rattle.std.proofs.Common.{◌≡◌, inl, inr, ℕ, ◌+◌, ◌<◌, ◌≤◌, zero, suc, List, [], ◌∷◌, ◌++◌, length, map, take, drop, get_or, refl, ap}
 use Rattle.std.proofs.Common.{sym, subst, ◌∙◌, arith}
-use Rattle.std.proofs.lemmas.List.{drop_more, map-append, take-append-drop, take_all, take_more}
+use Rattle.std.proofs.lemmas.List.{drop_more, map-append, take-append-drop, take_more}
 use Rattle.std.specs.Prelude.{nat_le, ◌&&◌, true}
 use Rattle.std.proofs.lemmas.Bool.{and_parts}
 use Rattle.ln_base.specs.declared.span.Span.{Span}
@@ -39,15 +39,13 @@ sound-more : (ps : List PredOf) (p : PredOf) → AreSound ps → IsSound p → A
 sound-more [] p h l = (l, tt)
 sound-more (q ∷ ps) p h l = (h.0, sound-more ps p h.1 l)
 
+-- the step of a loop over the predicates: the next one has no fault either
 pub judged_more : (preds : List Pred) (i : ℕ) (p : Pred) → i < length preds → p ≡ get_or preds i p → AreSound (map pred_of (take i preds))
     → IsSound (pred_of p) → AreSound (map pred_of (take (i + 1) preds))
 judged_more preds i p h e s l =
     let f : map pred_of (take (i + 1) preds) ≡ map pred_of (take i preds) ++ pred_of p ∷ [] =
     ap (map pred_of) (take_more preds i p h ∙ ap (λ q. take i preds ++ q ∷ []) (sym e)) ∙ map-append pred_of (take i preds) (p ∷ []) in
     subst AreSound (sym f) (sound-more (map pred_of (take i preds)) (pred_of p) s l)
-
-pub judged_all : (preds : List Pred) (i : ℕ) → length preds ≤ i → AreSound (map pred_of (take i preds)) → AreSound (map pred_of preds)
-judged_all preds i h s = subst (λ ps. AreSound (map pred_of ps)) (take_all i preds h) s
 
 length-front : (preds : List Pred) (i : ℕ) → i < length preds → length (map pred_of (take i preds)) ≡ i
 length-front [] i h = absurd (omega arith)
@@ -75,13 +73,16 @@ weigh-same w n e f g p q = weighted-least w (terms_of n f) (terms_of n g) (once 
 pub bound_stops : (k : ℕ) (p : PredOf) (at : Span) → IsBoundFault (loaded_of p) at → StopsPred k p (Bound k at)
 bound_stops k p at f = inl (bound f)
 
+-- a predicate with too many terms at a node is refused for it, where no range and no size is too large
 pub terms_stops : (k : ℕ) (p : PredOf) (at : Span) → AreLight (loaded_of p) → IsTermsFault (length p.vars) (expanded_of p) at → StopsPred k p (Terms k at)
 terms_stops k p at l f = inl (terms l f)
 
+-- a predicate that is too large as a whole is refused for it at the root's own token, where it has none of the faults before
 pub heavy_stops : (k : ℕ) (p : PredOf) (f : Sparse) (at : Span) → at ≡ token_of p.root → AreLight (loaded_of p) → HaveFewTerms (length p.vars) (expanded_of p)
     → IsNormal (length p.vars) (root_of p) f → most < weighted_sum (weights p.vars) (terms_of (length p.vars) f) → StopsPred k p (Bound k at)
 heavy_stops k p f at e l t n h = rw e (inl (heavy l t (record { poly = f; normal = n; heavy = h })))
 
+-- a predicate whose normal polynomial is 0 is refused for it, where it has none of the faults before
 pub zero_stops : (k : ℕ) (p : PredOf) (f : Sparse) → AreLight (loaded_of p) → HaveFewTerms (length p.vars) (expanded_of p)
     → (IsHeavyFault p → ⊥) → IsNormal (length p.vars) (root_of p) f → f ≡ [] → StopsPred k p (Zero k p.at)
 zero_stops k p f l t w n e = inl (zero_root l t w (no-terms-zero (length p.vars) (root_of p) f n e))
@@ -114,6 +115,7 @@ pub text_refusal : (bytes : List ℕ) (e : ParseStop) → IsParseRefusal bytes e
 text_refusal bytes e (inl f) = inl (of_text f)
 text_refusal bytes e (inr n) = inr (ap refusal_of n)
 
+-- the refusal of the predicates of a source's table is the refusal of the source
 pub pred_refusal : (bytes : List ℕ) (t : TableOf) (r : Refusal) → TextOf bytes t → StopsPreds t.preds r → IsRefusal bytes r
 pred_refusal bytes t r x (inl f) = inl (of_pred t x f)
 pred_refusal bytes t r x (inr n) = inr n

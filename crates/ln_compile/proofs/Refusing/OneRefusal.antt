@@ -134,10 +134,12 @@ accepted_alone bytes t r a (of_text {e} f) = no_fault bytes t a.text f
 accepted_alone bytes t r a (of_pred u {r = q} x f) =
     no_preds t.preds q a.sound (subst (λ (v : TableOf). IsFirstFault v.preds q) (one_table bytes u t x a.text) f)
 
+-- an accepted source is refused only when out of memory
 pub refusal_unaccepted : (bytes : List ℕ) (r : Refusal) → IsRefusal bytes r → IsUnaccepted bytes r
 refusal_unaccepted bytes r (inl f) t a = absurd (accepted_alone bytes t r a f)
 refusal_unaccepted bytes r (inr n) t a = n
 
+-- the refusal of a source is the one thing that it is refused for, or out of memory
 pub refusal_one : (bytes : List ℕ) (r : Refusal) → IsRefusal bytes r → IsTheOne bytes r
 refusal_one bytes r (inl f) s g = inl (refused_one bytes r s f g)
 refusal_one bytes r (inr n) s g = inr n

@@ -20,6 +20,7 @@ whole-light p f s h =
     let k = h.heavy in
     absurd (omega (arith, l, k))
 
+-- a predicate without a fault by weight has no fault
 pub stays-sound : (p : PredOf) → IsFitPred p → IsSoundByWeight p → IsSound p
 stays-sound p f s = record {
   light = old_nodes p.vars (length p.lets) p.lets p.root f.lets f.root s.light;
@@ -33,5 +34,6 @@ stay-sound : (ps : List PredOf) → AllByRecursion IsFitPred ps → AreSoundByWe
 stay-sound [] f s = tt
 stay-sound (p ∷ ps) f s = (stays-sound p f.0 s.0, stay-sound ps f.1 s.1)
 
+-- a source that is accepted by weight is accepted
 pub stays-accepted : (bytes : List ℕ) (t : TableOf) → AcceptedByWeight bytes t → Accepted bytes t
 stays-accepted bytes t a = record { text = a.text; sound = stay-sound t.preds (text-fits bytes t a.text) a.sound }

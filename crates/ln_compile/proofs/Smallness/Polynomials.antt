@@ -15,6 +15,7 @@ use Rattle.ln_compile.specs.Accepted.{IsSound, expanded_of, root_of}
 use Rattle.ln_compile.specs.Polynomial.{IsPolynomialOf}
 use Rattle.ln_compile.proofs.Smallness.SmallBlocks.{root-terms}
 
+-- the normal polynomial of a predicate without a fault isn't 0 and is within the limits of terms, degrees and weight
 pub is-polynomial : (p : Pred) (f : Sparse) → IsSound (pred_of p) → HaveFewTerms (length p.shape.vars) (expanded_of (pred_of p))
     → IsNormal (length p.shape.vars) (root_of (pred_of p)) f
     → All (λ t. total_degree (vector (length p.shape.vars) t.0) ≤ 126) f

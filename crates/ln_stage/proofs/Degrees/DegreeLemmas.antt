@@ -206,6 +206,7 @@ pub leaf-at : (f : Sparse) (kept p : List ℕ) → listed_degree f [] kept p 0 �
 unfolding listed listed_degree
 leaf-at f kept p = refl
 
+-- with an empty list of variables nothing is listed where some of the degree remains
 pub leaf-left : (f : Sparse) (kept p : List ℕ) (d : ℕ) → 0 < d → listed_degree f [] kept p d ≡ ([], false)
 unfolding listed_degree
 leaf-left f kept p zero h = absurd (omega (arith, h))
@@ -279,9 +280,11 @@ pub leaf-is : (f : Sparse) (vs kept p : List ℕ) (d : ℕ) → IsStep f vs kept
 unfolding listed listed_degree
 leaf-is f vs kept p d s e = ap (λ z. walk_at vs z (rows (length p) f kept) p) e ∙ walk-nothing vs (rows (length p) f kept) p s.none_yet
 
+-- where no variable remains and some of the degree does, nothing is listed
 pub leaf-none : (f : Sparse) (vs kept p : List ℕ) (d : ℕ) → length vs ≡ 0 → 0 < d → listed_degree f vs kept p d ≡ ([], false)
 leaf-none f vs kept p d h l = ap (λ x. listed_degree f x kept p d) (nil vs h) ∙ leaf-left f kept p d l
 
+-- a step of the listing is one also with no variables remaining
 pub leaf-step : (f : Sparse) (vs kept p : List ℕ) → IsStep f vs kept p → IsStep f [] kept p
 leaf-step f vs kept p s = record {
   below = s.below;
@@ -361,10 +364,12 @@ module _ (f : Sparse) (vs kept p : List ℕ) (limit d : ℕ) (within : d < limit
     unfolding listed_degree listed_layers
     layer-next c = goes-behind f vs kept p limit d within t T all t' stop seen stops c
 
+-- the end of the loop over the degrees: from the limit on nothing is listed
 pub layers-end : (f : Sparse) (vs kept p : List ℕ) (limit d : ℕ) → limit ≤ d → listed_layers f vs kept p (limit - d) d ≡ ([], false)
 unfolding listed_layers
 layers-end f vs kept p limit d h = let z : limit - d ≡ 0 = omega (arith, h) in rw z refl
 
+-- the beginning of the loop over the degrees: from degree 0 up to the largest, all is listed that there is
 pub layers-begin : (f : Sparse) (vs kept p : List ℕ) (limit : ℕ) → limit ≡ largest_degree f vs kept + 1
     → listed_layers f vs kept p (limit - 0) 0 ≡ listed_graded f vs kept p
 layers-begin f vs kept p limit e = let z : limit - 0 ≡ limit = omega arith in rw (z, e) refl

@@ -44,6 +44,7 @@ at-whole k vars f o e = go (eqb (length o) k) refl where
   go true q = refl
   go false q = let t : true ≡ false = sym (eq-eqb (length o) k e) ∙ q in cc
 
+-- nothing is at a prefix that isn't a whole order
 pub at-part : (k : ℕ) (vars : List VarInfo) (f : Sparse) (p : List ℕ) → (length p ≡ k → ⊥) → graded_at k vars f p ≡ []
 unfolding graded_at
 at-part k vars f p d = go (eqb (length p) k) refl where
@@ -149,6 +150,7 @@ graded-is : (vars : List VarInfo) (f : Sparse) (o vs kept p : List ℕ) → vs �
 unfolding graded_list
 graded-is vars f o vs kept p ev ek ep = rw (ev, ek, ep) refl
 
+-- what is kept of the listing that begins with all terms and the vector of zeros is what is kept of the order's list
 pub graded-seen : (vars : List VarInfo) (f : Sparse) (o vs kept p : List ℕ) (t : Tallied) → vs ≡ ranking_of vars o
     → kept ≡ range_with_len 0 (length f) → p ≡ zeros (length vars)
     → see_all (length p) f t (listed_graded f vs kept p).0 ≡ see_all (length vars) f t (graded_list vars f o)
@@ -187,5 +189,6 @@ ones-on : (n : ℕ) (vs : List ℕ) → AreFresh n vs → degree_on vs (ones n) 
 ones-on n [] f = refl
 ones-on n (v ∷ vs) f = omega (arith, ones-get n v f.0, ones-on n vs f.2)
 
+-- there are at most n variables below n of which none occurs twice
 pub fresh-few : (n : ℕ) (vs : List ℕ) → AreFresh n vs → length vs ≤ n
 fresh-few n vs f = omega (arith, ones-on n vs f, ones-degree n, degree-at-most vs (ones n) (rw ones-length f))

@@ -19,11 +19,13 @@ module _ (n : ℕ) (e : Tree) (f : Sparse) (h : IsNormalOf n e (terms_of n f)) w
   unfolding coefficient_at
   of_tree m k = record { size = k.size; nonzero = λ z. k.nonzero (sym (h.coefficients m k.size) ∙ z) }
 
+-- the stage lists of a polynomial are those of each expression whose normal polynomial it is
 pub lists-of-trees : ListsAreThoseOfTrees
 lists-of-trees n sites e f list h = (
   stage_list-to (Earlier sites) n sites (IsMonomialOf n f) (IsMonomial n e) (to_tree n e f h) (of_tree n e f h) list,
   stage_list-to (Earlier sites) n sites (IsMonomial n e) (IsMonomialOf n f) (of_tree n e f h) (to_tree n e f h) list,
 )
 
+-- a polynomial has at most one stage list in an order of its sites
 pub list-unique : ListIsUnique
 list-unique n sites f xs ys d = stage_list-unique-by n sites (Earlier sites) (earlier-admissible n sites d) (IsMonomialOf n f) xs ys

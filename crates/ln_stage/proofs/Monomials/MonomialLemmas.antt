@@ -69,11 +69,13 @@ others n x (t ∷ f) r a rs bs h (inl e) =
     less-differs x t.0 h.0 (same-pairs n x t.0 r (All-head (λ t. IsRising t.0) t f rs) a (All-head (λ t. IsAbove t.0 n) t f bs) e)
 others n x (t ∷ f) r a rs bs h (inr i) = others n x f r a (All-tail (λ t. IsRising t.0) t f rs) (All-tail (λ t. IsAbove t.0 n) t f bs) h.1 i
 
+-- terms strictly sorted by their monomials, each with rising variables and a coefficient that is a factor
 pub record IsTerms (f : Sparse) : Type 0 where
   pub sorted : IsStrictlySortedBy (on (λ t. t.0) pairs_cmp) f
   pub rising : AreRising f
   pub factors : All (λ t. IsFactor t.1) f
 
+-- the terms of a polynomial are sorted, have rising variables, and have factors as coefficients
 pub poly-terms : (f : Sparse) → IsPoly f → IsTerms f
 poly-terms f p = record { sorted = p.sorted; rising = p.rising; factors = p.factors }
 
@@ -105,6 +107,7 @@ row-size n [] m i = absurd i
 row-size n (t ∷ f) m (inl e) = rw e (vector-length n t.0)
 row-size n (t ∷ f) m (inr i) = row-size n f m i
 
+-- the exponent vectors of the terms are the monomials of the polynomial
 pub rows-monomials : (n : ℕ) (f : Sparse) → IsTerms f → AreBelow n f → AreMonomialsOf n f (all_rows n f)
 rows-monomials n f p b = record {
   monomials = λ m i. record { size = row-size n f m i; nonzero = row-nonzero n f p b m i };
@@ -118,6 +121,7 @@ vector-small n ps v r = elim (cases_lt v n) [
   | inr l ↦ omega (arith, get_or_past (vector n ps) v 0 (omega (arith, l, vector-length n ps)))
 ]
 
+-- the exponents of all terms are below 128
 pub rows-small : (n : ℕ) (f : Sparse) → AreRising f → AllBelow 128 (all_rows n f)
 rows-small n [] r m v i = absurd i
 rows-small n (t ∷ f) r m v (inl e) = rw e (vector-small n t.0 v (All-head (λ t. IsRising t.0) t f r))

@@ -82,6 +82,7 @@ pub record Extends (bs cs : List (List ℕ)) : Type 0 where
   pub longer : length bs ≤ length cs
   pub same : (k : ℕ) → k < length bs → get_or cs k [] ≡ get_or bs k []
 
+-- a list goes on with itself
 pub extends-refl : (bs : List (List ℕ)) → Extends bs bs
 extends-refl bs = record { longer = omega arith; same = λ k h. refl }
 
@@ -201,6 +202,7 @@ extends-all : (bs : List (List ℕ)) (ls : List (List (List ℕ))) → Extends b
 extends-all bs [] = extends-refl bs
 extends-all bs (l ∷ ls) = extends-trans bs (seen_behind bs l) (all_seen_behind (seen_behind bs l) ls) (extends-behind bs l) (extends-all (seen_behind bs l) ls)
 
+-- the vectors that are seen after several lists have n exponents where those before and those of the lists have
 pub all-sized : (n : ℕ) (bs : List (List ℕ)) (ls : List (List (List ℕ))) → Sized n bs → AllSized n ls → Sized n (all_seen_behind bs ls)
 all-sized n bs [] s t = s
 all-sized n bs (l ∷ ls) s t = all-sized n (seen_behind bs l) ls (behind-sized n bs l s t.0) t.1
@@ -218,6 +220,7 @@ pub record IsAllSeen (vars : List VarInfo) (f : Sparse) (bs : List (List ℕ)) (
   pub most : (tallied vars f t os).most ≡ t.most
   pub heavy : (tallied vars f t os).heavy ≡ t.heavy
 
+-- what is kept after the lists of several orders is what their vectors by first sight give
 pub orders-seen : (vars : List VarInfo) (f : Sparse) (bs : List (List ℕ)) (t : Tallied) (os : List (List ℕ)) → t.exps ≡ map pairs_of bs
     → t.list ≡ [] → Sized (length vars) bs → AllSized (length vars) (map (list_of vars f) os) → IsAllSeen vars f bs t os
 unfolding tallied numbers_of
@@ -267,25 +270,30 @@ over-lists vars f t [] h = h
 over-lists vars f t (o ∷ os) h =
     over-lists vars f (next_list (see_all (length vars) f t (list_of vars f o))) os (over-more (length vars) f t (list_of vars f o) h)
 
+-- where a limit is exceeded after the list of one order, it is exceeded after those of all orders from it on
 pub over-list : (vars : List VarInfo) (f : Sparse) (t : Tallied) (o : List ℕ) (os : List (List ℕ))
     → IsOver (see_all (length vars) f t (list_of vars f o)) → IsOver (tallied vars f t (o ∷ os))
 unfolding tallied
 over-list vars f t o os h = over-lists vars f (next_list (see_all (length vars) f t (list_of vars f o))) os h
 
+-- what is kept after the lists of several orders is what the later lists add to what is kept after the first
 pub tallied-cons : (vars : List VarInfo) (f : Sparse) (t : Tallied) (o : List ℕ) (os : List (List ℕ))
     → tallied vars f t (o ∷ os) ≡ tallied vars f (next_list (see_all (length vars) f t (list_of vars f o))) os
 unfolding tallied
 tallied-cons vars f t o os = refl
 
+-- the numbers in the lists of several orders are those in the first, and then those in the later ones after it
 pub numbers-cons : (vars : List VarInfo) (f : Sparse) (t : Tallied) (o : List ℕ) (os : List (List ℕ)) → numbers_of vars f t (o ∷ os)
     ≡ (see_all (length vars) f t (list_of vars f o)).list ∷ numbers_of vars f (next_list (see_all (length vars) f t (list_of vars f o))) os
 unfolding numbers_of
 numbers-cons vars f t o os = refl
 
+-- after the lists of no orders, what is kept is what was kept before
 pub tallied-nil : (vars : List VarInfo) (f : Sparse) (t : Tallied) → tallied vars f t [] ≡ t
 unfolding tallied
 tallied-nil vars f t = refl
 
+-- the lists of no orders have no numbers
 pub numbers-nil : (vars : List VarInfo) (f : Sparse) (t : Tallied) → numbers_of vars f t [] ≡ []
 unfolding numbers_of
 numbers-nil vars f t = refl

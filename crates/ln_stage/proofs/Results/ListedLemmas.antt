@@ -35,6 +35,7 @@ pub more-prefixes : (all : List Front) (i : ℕ) (p : Front) → i < length all 
     → map front_places (drop i all) ≡ front_places p ∷ map front_places (drop (i + 1) all)
 more-prefixes all i p h e = ap (map front_places) (drop_more all i p h) ∙ ap (λ z. front_places z ∷ map front_places (drop (i + 1) all)) (sym e)
 
+-- what is at a place in the list of all prefixes is a prefix
 pub at-prefix : (all : List Front) (k i : ℕ) (p : Front) → map front_places all ≡ prefixes_of k → i < length all → p ≡ get_or all i p
     → IsPrefixOf k (front_places p)
 at-prefix all k i p e h q = subst (λ z. IsPrefixOf k (front_places z)) (sym q) (front-is-prefix all k e i p h)
@@ -109,6 +110,7 @@ cuts-first : (vars : List VarInfo) (f : Sparse) (k : ℕ) (cuts : List Bool) →
 cuts-first vars f zero cuts = λ j l. absurd (omega (arith, l))
 cuts-first vars f (suc k) cuts = λ j l. absurd (omega (arith, l))
 
+-- the beginning of the loop over the prefixes: no prefix is before the first, so the cuts before it are known
 pub cuts-begin : (vars : List VarInfo) (f : Sparse) (ps : List (List ℕ)) (k : ℕ) (cuts : List Bool) → ps ≡ prefixes_of k → AreCutsFor vars f ps cuts
 cuts-begin vars f ps k cuts e = subst (λ z. AreCutsFor vars f z cuts) (sym e) (cuts-first vars f k cuts)
 

@@ -142,6 +142,7 @@ module _ (k : ℕ) (vars : List VarInfo) (f : Sparse) (few : k ≤ 5) (laid : is
 pub some-terms : (b : Bool) (f : Sparse) → b ≡ false → (IsTrue b ↔ (f ≡ [])) → f ≡ [] → ⊥
 some-terms b f e h z = let w : true ≡ false = sym (h.1 z) ∙ e in cc
 
+-- a polynomial that isn't 0 has a term
 pub some-count : (f : Sparse) → (f ≡ [] → ⊥) → 0 < length f
 some-count [] h = absurd (h refl)
 some-count (t ∷ f) h = omega arith

@@ -22,10 +22,12 @@ in-left [] ys a i = absurd i
 in-left (x ∷ xs) ys a (inl e) = inl e
 in-left (x ∷ xs) ys a (inr i) = inr (in-left xs ys a i)
 
+-- a member of the second of two lists is a member of the lists one after the other
 pub in-right : (xs ys : List (List ℕ)) (a : List ℕ) → In ys a → In (xs ++ ys) a
 in-right [] ys a i = i
 in-right (x ∷ xs) ys a i = inr (in-right xs ys a i)
 
+-- a member of two lists, one after the other, is a member of one of them
 pub in-cases : (xs ys : List (List ℕ)) (a : List ℕ) → In (xs ++ ys) a → In xs a ⊎ In ys a
 in-cases [] ys a i = inr i
 in-cases (x ∷ xs) ys a (inl e) = inl (inl e)
@@ -273,12 +275,15 @@ module _ (n : ℕ) (sites : Sites) (f : Sparse) (d : IndicesDiffer sites) where
               (λ a i. l.all a (w.stages a i)) (λ a i. w.all a (l.stages a i)),
         )
 
+-- the segments of all prefixes of an order, one after the other, are its stage list
 pub segments-make-the-list : SegmentsMakeTheList
 segments-make-the-list n k sites f lists d b size h = makes-list n sites f d k lists b size h
 
+-- the parts of a stage list by last site are its segments, and one after the other they are the list
 pub list-has-its-segments : ListHasItsSegments
 list-has-its-segments n k sites f list d b l = has-segments n sites f d k list b l
 
+-- there is at most one segment that ends with the j-th site
 pub segment-is-unique : SegmentIsUnique
 segment-is-unique n j sites f xs ys d s t =
     lists-same sites d xs ys s.in_order t.in_order (λ a i. (let r = s.stages a i in t.all a r.0 r.1)) (λ a i. (let r = t.stages a i in s.all a r.0 r.1))
@@ -390,5 +395,6 @@ fronts-agree j vars o u e = record { same_site = λ v. refl; near = λ x l. fron
   far x l (inl m) = absurd (omega (arith, l, m, fronts-near j u o x (sym e) m))
   far x l (inr m) = m
 
+-- two orders with the same first j sites have the same j-th segment
 pub segment-is-of-the-prefix : SegmentIsOfThePrefix
 segment-is-of-the-prefix n j vars f o u list e h = segment-there n j (sites_of vars o) (sites_of vars u) f list (fronts-agree j vars o u e) h

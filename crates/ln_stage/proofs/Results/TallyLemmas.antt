@@ -33,12 +33,14 @@ position-some bs a i e = go (nat_lt (number_in bs a) (length bs)) refl e where
   go true q h = ((cc), grind (arith, nat_tests))
   go false q h = cc
 
+-- exponents that are not found get the next number
 pub position-none : (bs : List Pairs) (a : Pairs) → position (same_pairs a) bs ≡ None → number_in bs a ≡ length bs
 position-none bs a e = go (nat_lt (number_in bs a) (length bs)) refl e where
   go : (t : Bool) → nat_lt (number_in bs a) (length bs) ≡ t → cond t (Some (number_in bs a)) None ≡ None → number_in bs a ≡ length bs
   go true q h = cc
   go false q h = let l = number-within bs a in grind (arith, nat_tests, l)
 
+-- inserting exponents into a map appends them to its keys, unless they are there already
 pub keys-insert : (es : List (Pairs × Unit {0})) (a : Pairs) (v : Unit {0}) → map (λ e. e.0) (insert_entry same_pairs es a v) ≡ put_exps (map (λ e. e.0) es) a
 keys-insert [] a v = refl
 keys-insert (e ∷ es) a v = go (same_pairs a e.0) (keys-insert es a v) where
@@ -63,18 +65,21 @@ numbered cover t a = record {
   heavy = t.heavy;
 }
 
+-- numbering exponents that have a number changes nothing
 pub numbered-known : (u t : Tallied) (cover : ℕ) (a : Pairs) (i : ℕ) → u ≡ t → position (same_pairs a) u.exps ≡ Some i → t ≡ numbered cover t a
 numbered-known u t cover a i e h =
     let p : position (same_pairs a) t.exps ≡ Some i = rw e at h in
     let q = position-some t.exps a i p in
     rw (put-known t.exps a q.1, eqb-less (number_in t.exps a) (length t.exps) q.1) refl
 
+-- numbering new exponents appends them and adds their weight
 pub numbered-new : (u t : Tallied) (cover : ℕ) (a : Pairs) (exps : List Pairs) → u ≡ t → exps ≡ put_exps u.exps a → position (same_pairs a) u.exps ≡ None
     → record { exps = exps; list = u.list; count = u.count; weight = u.weight + cover; most = u.most; heavy = u.heavy } ≡ numbered cover t a
 numbered-new u t cover a exps e k h =
     let n : number_in u.exps a ≡ length u.exps = position-none u.exps a h in
     rw (← e, k, eq-eqb (number_in u.exps a) (length u.exps) n) refl
 
+-- where the weight with new exponents exceeds its limit, so does the weight after they are numbered
 pub over-new : (u t : Tallied) (cover : ℕ) (a : Pairs) → u ≡ t → position (same_pairs a) u.exps ≡ None → u.heavy < u.weight + cover
     → t.heavy < (if number_in t.exps a == length t.exps then t.weight + cover else t.weight)
 over-new u t cover a e h l =

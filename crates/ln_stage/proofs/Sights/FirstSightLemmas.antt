@@ -267,6 +267,7 @@ count-claim (suc k) segment =
     let q : suc k - 0 ≡ suc k = omega arith in
     r ∙ ap (λ n. length (orders_of n) * length (segment []) + shared_count (suc k) segment (firsts (suc k) (prefixes_of k))) (sym q)
 
+-- through the lists of all orders and the segments of all prefixes the same vectors are first seen, and as many stages are counted
 pub first-sight-by-prefixes : FirstSightByPrefixes
 unfolding Claim CountClaim AllHas
 first-sight-by-prefixes k segment = (claim k [] segment [] tt, count-claim k segment)
@@ -277,6 +278,7 @@ walks-along : (b : ℕ) (vars : List VarInfo) (ms : List (List ℕ)) (q : List �
 walks-along b vars ms q s [] = sym (append-nil (site_walk b vars ms q s).0)
 walks-along b vars ms q s (t ∷ o) = ap (λ z. (site_walk b vars ms q s).0 ++ z) (walks-along b vars ms (q ++ s ∷ []) t o)
 
+-- the list of an order is what the walk lists at its prefixes, one after the other
 pub list-along : (vars : List VarInfo) (f : Sparse) (o : List ℕ) → list_of vars f o ≡ list_along (prefix_walk 127 vars (all_rows (length vars) f)) o
 list-along vars f [] = lists-are-walked-by-prefixes vars f [] ∙ append-nil (front_walk 127 vars (all_rows (length vars) f) []).0
 list-along vars f (s ∷ o) = lists-are-walked-by-prefixes vars f (s ∷ o)
@@ -286,6 +288,7 @@ maps-same : (F G : List ℕ → List (List ℕ)) (os : List (List ℕ)) → ((o 
 maps-same F G [] e = refl
 maps-same F G (o ∷ os) e = rw (e o, maps-same F G os e) refl
 
+-- the stages of a polynomial have the same order of first sight and the same count through prefixes as through orders
 pub stages-by-prefixes : StagesByPrefixes
 stages-by-prefixes k vars f =
     let q = maps-same (list_of vars f) (list_along (prefix_walk 127 vars (all_rows (length vars) f))) (orders_of k) (list-along vars f) in
@@ -305,5 +308,6 @@ fewer-in k segment [] = omega arith
 fewer-in k segment (p ∷ ps) =
     omega (arith, fewer-in k segment ps, times-one (length (orders_of (k - length p))) (length (segment p)) (orders-one (k - length p)))
 
+-- the stages at all prefixes, each counted once, are at most those in all lists
 pub segments-are-fewer : SegmentsAreFewer
 segments-are-fewer k segment = fewer-in k segment (prefixes_of k)

@@ -34,6 +34,7 @@ abbrev pub EachIs : (List ℕ → Type 0) → List (List ℕ) → Type 0
 EachIs P [] = Unit {0}
 EachIs P (a ∷ as') = P a × EachIs P as'
 
+-- it holds of each vector of each list
 abbrev pub AllAre : (List ℕ → Type 0) → List (List (List ℕ)) → Type 0
 AllAre P [] = Unit {0}
 AllAre P (l ∷ ls) = EachIs P l × AllAre P ls
@@ -96,6 +97,7 @@ zeros-degree : (n : ℕ) → total_degree (zeros n) ≡ 0
 zeros-degree zero = refl
 zeros-degree (suc n) = omega (arith, zeros-degree n)
 
+-- no vector is before the vector of zeros
 pub none-before : (rank : Rank) (n : ℕ) (sites : Sites) (b : List ℕ) → Before rank sites b (zeros n) → ⊥
 none-before BySmallest n sites b (v, s, o, l, r) = absurd (omega (arith, l, zeros-at n v))
 none-before ByDegree n sites b (inl l) = absurd (omega (arith, l, zeros-degree n))
@@ -147,6 +149,7 @@ begins-first ((y ∷ ys) ∷ ls) x l h = begins-seen (seen_behind (y ∷ []) ys)
 some-firsts : (n : ℕ) (os : List (List ℕ)) → 0 < length os → 0 < length (firsts (suc n) os)
 some-firsts n os h = omega (arith, h, length-append (firsts n os) (map (behind n) os), length-map os (behind n))
 
+-- any number of sites has an order
 pub some-orders : (k : ℕ) → 0 < length (orders_of k)
 some-orders zero = omega arith
 some-orders (suc k) = some-firsts k (orders_of k) (some-orders k)
@@ -269,9 +272,11 @@ same-places (x ∷ xs) (y ∷ ys) d l h =
     let r : xs ≡ ys = same-places xs ys d (omega arith) (λ j g. h (suc j) (omega arith)) in
     ap (λ z. z ∷ xs) (h 0 (omega arith)) ∙ ap (λ z. y ∷ z) r
 
+-- what is at a place in the list of all orders is an order
 pub order-at : (k j : ℕ) → j < length (orders_of k) → IsOrderOf k (get_or (orders_of k) j [])
 order-at k j h = member-is k (get_or (orders_of k) j []) (j, h, get_or_default (orders_of k) j (get_or (orders_of k) j []) [] h)
 
+-- a polynomial has at most one set of stage lists
 pub lists-one : (rank : Rank) (k : ℕ) (vars : List VarInfo) (f : Sparse) (ls ms : List (List (List ℕ))) → is_laid_out k vars ≡ true
     → AreStageListsIn rank k vars f ls → AreStageListsIn rank k vars f ms → ls ≡ ms
 lists-one rank k vars f ls ms h a b = same-places ls ms [] (a.size ∙ sym b.size) (λ j l.

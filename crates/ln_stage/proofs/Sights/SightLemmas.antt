@@ -80,6 +80,7 @@ found-all [] xs bs f = subst (λ q. Found q bs) (sym (append-nil xs)) f
 found-all (list ∷ lists) xs bs f = subst (λ q. Found q (all_seen_behind (seen_behind bs list) lists)) (append_assoc xs list (joined lists))
     (found-all lists (xs ++ list) (seen_behind bs list) (found-behind list xs bs f))
 
+-- the vectors that are first seen are the members of the lists, each once, in the order of first sight
 pub first-seen-sighted : FirstSeenAreSighted
 first-seen-sighted lists = record { members = λ a. (f.to a, f.from a); in_order = f.in_order } where
   f : Found (joined lists) (first_seen lists)

@@ -23,10 +23,12 @@ pub pairs-put : (p : List ℕ) (v : ℕ) (a : Pairs) → v < length p → 0 < ge
     → (a ++ (v, get_or p v 0) ∷ []) ++ pairs_from (v + 1) (drop (v + 1) p) ≡ a ++ pairs_from v (drop v p)
 pairs-put p v a h l = rw (drop-cons p v 0 h, add-one, append_assoc, pairs-cons v (get_or p v 0) (drop (suc v) p) l) refl
 
+-- where all variables are below v, they are below v + 1
 pub above-more : (a : Pairs) (v : ℕ) → IsAbove a v → IsAbove a (v + 1)
 above-more [] v h = tt
 above-more (p ∷ a) v h = (omega (arith, h.0), above-more a v h.1)
 
+-- where all variables are below v, they are below v + 1 with one more pair, that of v
 pub above-put : (a : Pairs) (v e : ℕ) → IsAbove a v → IsAbove (a ++ (v, e) ∷ []) (v + 1)
 above-put [] v e h = (omega arith, tt)
 above-put (p ∷ a) v e h = (omega (arith, h.0), above-put a v e h.1)
@@ -57,6 +59,7 @@ vector-pairs p =
     (λ k h. let l : k < length p = omega (arith, h, vector-length (length p) (pairs_of p)) in
     vector-get (length p) k (pairs_of p) l ∙ ap (λ z. exponent z (pairs_of p)) (omega arith) ∙ from-exponent p 0 k)
 
+-- a vector of n exponents is the vector of its pairs
 pub vector-pairs_of : (n : ℕ) (p : List ℕ) → length p ≡ n → vector n (pairs_of p) ≡ p
 vector-pairs_of n p e = rw (← e) (vector-pairs p)
 
@@ -150,5 +153,6 @@ above-of v [] n e = tt
 above-of v (zero ∷ p) n e = above-of (suc v) p n (omega (arith, e))
 above-of v (suc k ∷ p) n e = (omega (arith, e), above-of (suc v) p n (omega (arith, e)))
 
+-- the variables in the pairs of a vector of n exponents are below n
 pub above-pairs : (p : List ℕ) (n : ℕ) → length p ≡ n → IsAbove (pairs_of p) n
 above-pairs p n e = above-of 0 p n (omega (arith, e))

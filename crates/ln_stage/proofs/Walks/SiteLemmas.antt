@@ -21,6 +21,7 @@ member-behind vs zero v m = m
 member-behind [] (suc i) v m = m
 member-behind (u ∷ vs) (suc i) v m = inr (member-behind vs i v m)
 
+-- a step of the listing is one also with the later variables alone
 pub step-behind : (f : Sparse) (vs kept p : List ℕ) (i : ℕ) (r : List ℕ) → r ≡ drop i vs → IsStep f vs kept p → IsStep f r kept p
 step-behind f vs kept p i r e s = subst (λ z. IsStep f z kept p) (sym e) (record {
   below = s.below;

@@ -87,6 +87,7 @@ join-cases : (r t : Found) → before r t ≡ (r.0 ++ (unless_cut r t).0, (unles
 join-cases (l, true) t = ap (λ z. (z, true)) (sym (append-nil l))
 join-cases (l, false) t = refl
 
+-- with one more site the walk lists what it lists without the site, and then what needs the site
 pub walk-goes-site-by-site : WalkGoesSiteBySite
 walk-goes-site-by-site b vars ms p s =
     ap (λ vs. walk (suc b) vs ms (zeros (length vars))) (ranking-last vars p s)
@@ -110,6 +111,7 @@ list-walks vars f o =
     ap (λ z. rows z f (range_with_len 0 (length f))) (length-zeros (length vars)) ∙ rows-all (length vars) f in
     ap (λ z. (walk 128 (ranking_of vars o) z (zeros (length vars))).0) m
 
+-- the list of an order is what the walk lists at its prefixes, one after the other
 pub lists-are-walked-by-prefixes : ListsAreWalkedByPrefixes
 lists-are-walked-by-prefixes vars f o = list-walks vars f o ∙ sym (fronts-joined 127 vars (all_rows (length vars) f) [] o)
 
@@ -378,5 +380,6 @@ module _ (k : ℕ) (vars : List VarInfo) (f : Sparse) (o : List ℕ) (laid : is_
   segments = segments-from (length vars) (sites_of vars o) f 0 (prefix_walks 127 vars (all_rows (length vars) f) o) the-list.in_order
       the-list.stages (λ a i s e l. the-list.all a s) (first-ends, walks-end [] o refl)
 
+-- what the walk lists at a prefix is the prefix's segment
 pub walks-are-segments : WalksAreSegments
 walks-are-segments k vars f o laid full poly below = segments k vars f o laid full poly below

@@ -25,6 +25,7 @@ fresh-ranked : (n : ℕ) (sites : Sites) (vs : List ℕ) → IsRanked sites vs �
 fresh-ranked n sites [] r h = tt
 fresh-ranked n sites (v ∷ vs) r h = (h v (inl refl), (λ m. before-irreflexive sites v (r.2 v m)), fresh-ranked n sites vs r.3 (λ w m. h w (inr m)))
 
+-- a ranking has variables below n, and none twice
 pub fresh-ranking : (n : ℕ) (sites : Sites) (vs : List ℕ) → IsRanking n sites vs → AreFresh n vs
 fresh-ranking n sites vs r = fresh-ranked n sites vs r.ranked r.below
 
@@ -64,6 +65,7 @@ pub zeros-replicate : (n : ℕ) → replicate n 0 ≡ zeros n
 zeros-replicate zero = refl
 zeros-replicate (suc n) = ap (λ z. 0 ∷ z) (zeros-replicate n)
 
+-- the first step of a listing has all terms and the vector of zeros
 pub start-step : (f : Sparse) (n : ℕ) (vs kept p : List ℕ) → AreBelow n f → AreRising f → 0 < length f → AreFresh n vs
     → kept ≡ range_with_len 0 (length f) → p ≡ zeros n → IsStep f vs kept p
 start-step f n vs kept p below rising some r ek ep =
@@ -85,6 +87,7 @@ pub list-is : (vars : List VarInfo) (f : Sparse) (o vs kept p : List ℕ) → vs
 unfolding list_of
 list-is vars f o vs kept p ev ek ep = rw (ev, ek, ep) refl
 
+-- what is kept of the listing that begins with all terms and the vector of zeros is what is kept of the order's list
 pub list-seen : (vars : List VarInfo) (f : Sparse) (o vs kept p : List ℕ) (t : Tallied) → vs ≡ ranking_of vars o
     → kept ≡ range_with_len 0 (length f) → p ≡ zeros (length vars)
     → see_all (length p) f t (listed f vs kept p).0 ≡ see_all (length vars) f t (list_of vars f o)

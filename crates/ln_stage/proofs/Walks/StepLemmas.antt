@@ -29,6 +29,7 @@ high-more : (f : Sparse) (v e i : ℕ) (kept : List ℕ) → i < length kept
 high-more f v e i kept h =
     ap (high f v e) (take_more kept i 0 h) ∙ filter-append (λ k. nat_le e (exponent v (term_at f k).0)) (take i kept) (get_or kept i 0 ∷ [])
 
+-- the step of `with_exponent` at a term with an exponent of at least e: its place is kept
 pub high-takes : (f : Sparse) (v e i : ℕ) (kept now after : List ℕ) → i < length kept → now ≡ high f v e (take i kept)
     → e ≤ exponent v (term_at f (get_or kept i 0)).0 → after ≡ now ++ (get_or kept i 0 ∷ []) → after ≡ high f v e (take (i + 1) kept)
 high-takes f v e i kept now after h n l a =
@@ -36,6 +37,7 @@ high-takes f v e i kept now after h n l a =
     let one : high f v e (get_or kept i 0 ∷ []) ≡ get_or kept i 0 ∷ [] = rw s refl in
     a ∙ ap (λ z. z ++ (get_or kept i 0 ∷ [])) n ∙ ap (λ z. high f v e (take i kept) ++ z) (sym one) ∙ sym (high-more f v e i kept h)
 
+-- the step of `with_exponent` at a term with a smaller exponent: its place isn't kept
 pub high-leaves : (f : Sparse) (v e i : ℕ) (kept now : List ℕ) → i < length kept → now ≡ high f v e (take i kept)
     → exponent v (term_at f (get_or kept i 0)).0 < e → now ≡ high f v e (take (i + 1) kept)
 high-leaves f v e i kept now h n l =
@@ -144,6 +146,7 @@ covering-count n (t ∷ f) p = go (covers (vector n t.0) p) refl (covering-count
   go true q ih = omega (arith, ih, sum_by-cons (λ t. cond (covers (vector n t.0) p) 1 0) t f, ap ones q)
   go false q ih = omega (arith, ih, sum_by-cons (λ t. cond (covers (vector n t.0) p) 1 0) t f, ap ones q)
 
+-- as many terms remain as cover the vector
 pub kept-count : (f : Sparse) (vs kept p : List ℕ) → IsStep f vs kept p → length kept ≡ covering (length p) f p
 kept-count f vs kept p s = omega (arith, length-map kept (λ i. vector (length p) (term_at f i).0), ap length s.covering, covering-count (length p) f p)
 
@@ -152,11 +155,13 @@ pub leaf-walk : (f : Sparse) (kept p : List ℕ) → IsStep f [] kept p → walk
 leaf-walk f kept p s = rows-some (length p) f kept (p ∷ [], all_same (rows (length p) f kept) p) s.some
     ∙ ap (λ z. (p ∷ [], z)) (sym (all-have f p kept s.below s.rising s.inside))
 
+-- at the end of a branch the vector is the one stage that is seen
 pub leaf-sees : (f : Sparse) (kept p : List ℕ) (t : Tallied) (a : Pairs) → IsStep f [] kept p → a ≡ pairs_of p
     → see (length kept) t a ≡ see_all (length p) f t (listed f [] kept p).0
 unfolding listed
 leaf-sees f kept p t a s e = rw (leaf-walk f kept p s, e, kept-count f [] kept p s) refl
 
+-- at the end of a branch the cut is there where all remaining terms have the vector's exponents
 pub leaf-cut : (f : Sparse) (kept p : List ℕ) (a : Pairs) → IsStep f [] kept p → a ≡ pairs_of p → all_have f a kept ≡ (listed f [] kept p).1
 unfolding listed
 leaf-cut f kept p a s e = rw (leaf-walk f kept p s, e) refl

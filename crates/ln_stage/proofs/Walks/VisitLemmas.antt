@@ -38,6 +38,7 @@ last-walked b vars ms q s (u ∷ p) t =
       seam [] s r = refl
       seam (x ∷ q) s r = ap (λ z. x ∷ z) (seam q s r)
 
+-- what is listed at a prefix is what is listed where its last site is reached after the others
 pub walked-last : (b : ℕ) (vars : List VarInfo) (ms : List (List ℕ)) (q : List ℕ) (t : ℕ) → prefix_walk b vars ms (q ++ t ∷ []) ≡ (site_walk b vars ms q t).0
 walked-last b vars ms [] t = refl
 walked-last b vars ms (s ∷ q) t = last-walked b vars ms [] s q t

@@ -25,6 +25,7 @@ split : (vs : List ℕ) → 0 < length vs → vs ≡ get_or vs 0 0 ∷ drop 1 vs
 split [] h = absurd (omega arith)
 split (v ∷ vs) h = refl
 
+-- a walk takes the exponents of its first variable in turn, from 0 on
 pub walk-first : (vs : List ℕ) (ms : List (List ℕ)) (p : List ℕ) → 0 < length vs → walk 128 vs ms p ≡ steps (walk 128 (drop 1 vs)) (get_or vs 0 0) ms p 128 0
 walk-first [] ms p h = absurd (omega arith)
 walk-first (v ∷ vs) ms p h = refl
@@ -132,6 +133,7 @@ pub begins : (f : Sparse) (vs kept p : List ℕ) → 0 < length vs → listed_fr
 unfolding listed listed_from
 begins f vs kept p h = sym (walk-first vs (rows (length p) f kept) p h)
 
+-- the end of the loop in `walk`: past the largest exponent nothing is listed
 pub ends : (f : Sparse) (vs kept p : List ℕ) (e : ℕ) → 128 ≤ e → listed_from f vs kept p e ≡ ([], false)
 unfolding listed_from
 ends f vs kept p e h = let z : 128 - e ≡ 0 = omega arith in rw z refl
@@ -165,6 +167,7 @@ module _ (f : Sparse) (vs kept p : List ℕ) (s : IsStep f vs kept p) (more : 0 
 pub some-length : (n : ℕ) → false ≡ (n == 0) → 0 < n
 some-length n h = grind (arith, nat_tests)
 
+-- what the test finds equal to 0 is 0
 pub none-length : (n : ℕ) → true ≡ (n == 0) → n ≡ 0
 none-length n h = grind (arith, nat_tests)
 
@@ -174,11 +177,13 @@ unfolding listed_at
 at-some f [] kept p e h = absurd (omega arith)
 at-some f (v ∷ vs) kept p e h = refl
 
+-- where no variable remains, an exponent to begin from doesn't matter
 pub at-none : (f : Sparse) (vs kept p : List ℕ) (e : ℕ) → length vs ≡ 0 → listed_at f vs kept p e ≡ listed f [] kept p
 unfolding listed_at
 at-none f [] kept p e h = refl
 at-none f (v ∷ vs) kept p e h = absurd (omega (arith, h))
 
+-- beginning from the exponent 0, all is listed that there is
 pub at-zero : (f : Sparse) (vs kept p : List ℕ) → listed_at f vs kept p 0 ≡ listed f vs kept p
 unfolding listed_at
 at-zero f [] kept p = refl
