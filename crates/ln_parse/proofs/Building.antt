@@ -1,5 +1,6 @@
 -- The table as it is built from places.
 pub mod Places
+pub mod Predicates
 pub mod Lists
 pub mod Said
 pub mod Turns

@@ -38,6 +38,7 @@ use Rattle.ln_tree.specs.Variables.{is_laid_out}
 use Rattle.ln_tree.specs.Table.{CoordOf, SiteOf, ArgOf, TableOf, PredOf, arg_of, site_of, param_of, pred_of, pred_fits, is_table}
 use Rattle.ln_parse.specs.Says.{ranged, resolved, Says, LetsSay, PredsSay, arg_said, sites_said, params_said, vars_behind, is_site_said}
 use Rattle.ln_parse.specs.Ready.{ReadyValue, ReadyCoord, ReadyArg, ReadyLet, ReadyPred, ReadyItem, ReadyFile, is_ranged, is_good_site, is_known, Declares}
+use Rattle.ln_parse.proofs.Building.Predicates.{PredAt}
 use Rattle.ln_parse.proofs.Building.LaidOut.{Known, count_cons, laid_out}
 use Rattle.ln_parse.proofs.Building.Arguments.{all_are_of, all_fit}
 use Rattle.ln_parse.proofs.Expressions.Fitting.{Sees, said, all_known, fits}
@@ -71,6 +72,7 @@ sites_good bytes ts before (SiteItem n cs ∷ is) e =
 sites_good bytes ts before (ParamItem n r ∷ is) e = sites_good bytes ts (before ++ (ParamItem n r ∷ [])) is e.1
 sites_good bytes ts before (PredItem n as' ls p ∷ is) e = sites_good bytes ts (before ++ (PredItem n as' ls p ∷ [])) is e.1
 
+-- and so are the params
 pub params_good : (bytes : List ℕ) (ts : List Token) (before is : List Item) → Each (ReadyItem bytes ts) before is
     → list_all is_ranged (params_said bytes is) ≡ true
 params_good bytes ts before [] e = refl
@@ -79,6 +81,7 @@ params_good bytes ts before (ParamItem n r ∷ is) e =
     and_from _ _ (ranged_good bytes n r e.0.range) (params_good bytes ts (before ++ (ParamItem n r ∷ [])) is e.1)
 params_good bytes ts before (PredItem n as' ls p ∷ is) e = params_good bytes ts (before ++ (PredItem n as' ls p ∷ [])) is e.1
 
+-- the site types among items and more items are those among both, joined
 pub sites_append : (bytes : List ℕ) (xs ys : List Item) → sites_said bytes (xs ++ ys) ≡ sites_said bytes xs ++ sites_said bytes ys
 sites_append bytes [] ys = refl
 sites_append bytes (SiteItem n cs ∷ xs) ys =
@@ -86,6 +89,7 @@ sites_append bytes (SiteItem n cs ∷ xs) ys =
 sites_append bytes (ParamItem n r ∷ xs) ys = sites_append bytes xs ys
 sites_append bytes (PredItem n as' ls p ∷ xs) ys = sites_append bytes xs ys
 
+-- and so are the params
 pub params_append : (bytes : List ℕ) (xs ys : List Item) → params_said bytes (xs ++ ys) ≡ params_said bytes xs ++ params_said bytes ys
 params_append bytes [] ys = refl
 params_append bytes (SiteItem n cs ∷ xs) ys = params_append bytes xs ys
@@ -120,6 +124,7 @@ said_by : (bytes : List ℕ) (is : List Item) (a : RawArg) (b : Bool) → is_sit
 said_by bytes is a true = refl
 said_by bytes is a false = refl
 
+-- there are as many sites among the arguments that are said as site arguments
 pub sites_are : (bytes : List ℕ) (is : List Item) (args : List RawArg) → count_by is_site_said (said bytes is args) ≡ count_by is_site_arg args
 sites_are bytes is [] = refl
 sites_are bytes is (a ∷ args) =
@@ -131,6 +136,7 @@ either : (b : Bool) → cond (not b) 1 0 + cond b 1 0 ≡ 1
 either true = refl
 either false = refl
 
+-- each argument is a site argument or a param argument
 pub args_are : (args : List RawArg) → count_by is_site_arg args + count_by is_param_arg args ≡ length args
 args_are [] = refl
 args_are (a ∷ args) =
@@ -171,28 +177,38 @@ lets_kept bytes ts is args before (l ∷ ls) (x ∷ xs) S P g s e =
     let d = a.1 in let f = r.1 in
     (and_from _ _ a.0 b, omega arith, ap suc r.2)
 
+-- a predicate is ready after items that declare these site types and params, and these are its arguments
+pub record PredReady (r : PredAt) (S : List SiteOf) (P : List CoordOf) (args : List Arg) : Type 0 where
+  pub ready : ReadyPred r.bytes r.ts r.before r.name r.args r.lets r.root
+  pub declares : Declares r.bytes r.before S P
+  pub args_are : map arg_of args ≡ said r.bytes r.before r.args
+
+-- the lets and the root of a predicate say these expressions, and there are as many names as lets
+pub record BodySaid (r : PredAt) (lets : List Expr) (names : ℕ) (root : Expr) : Type 0 where
+  pub lets_are : LetsSay r.bytes r.ts r.before r.args [] r.lets (map formula lets)
+  pub root_is : Says r.bytes r.ts (scope r.before r.args r.lets) r.root (formula root)
+  pub as_many : names ≡ length r.lets
+
 -- a ready predicate keeps what predicates keep
-pub pred_kept : (bytes : List ℕ) (ts : List Token) (is : List Item) (name : Span) (raws : List RawArg) (ls : List RawLet) (p : Places)
-    (args : List Arg) (vars : List VarInfo) (xs : List Expr) (names : ℕ) (root : Expr) (S : List SiteOf) (P : List CoordOf)
-    → ReadyPred bytes ts is name raws ls p → Declares bytes is S P → map arg_of args ≡ said bytes is raws → vars ≡ vars_behind S P 0 0 (map arg_of args)
-    → LetsSay bytes ts is raws [] ls (map formula xs) → Says bytes ts (scope is raws ls) p (formula root)
-    → names ≡ length ls → keeps args vars xs names root ≡ true
-pred_kept bytes ts is name raws ls p args vars xs names root S P r d a v l s n =
-    let g = sees bytes is raws S P d r.args in
-    let k : Known S P = record { sites = d.good_sites; params = d.good_params } in
+pub pred_kept : {r : PredAt} {S : List SiteOf} {P : List CoordOf} {args : List Arg} → PredReady r S P args → (vars : List VarInfo) (xs : List Expr)
+    (names : ℕ) (root : Expr) → vars ≡ vars_behind S P 0 0 (map arg_of args) → BodySaid r xs names root → keeps args vars xs names root ≡ true
+pred_kept {r = r} {S = S} {P = P} {args = args} d vars xs names root v b =
+    let g = sees r.bytes r.before r.args S P d.declares d.ready.args in
+    let k : Known S P = record { sites = d.declares.good_sites; params = d.declares.good_params } in
     let h : list_all (is_known (length S) (length P)) (map arg_of args) ≡ true =
-    ap (list_all (is_known (length S) (length P))) a ∙ all_known bytes is raws S P g in
-    let w : vars_behind S P 0 0 (said bytes is raws) ≡ vars = ap (vars_behind S P 0 0) (sym a) ∙ sym v in
-    let m = lets_kept bytes ts is raws [] ls xs S P g l r.lets in
-    let f = value_fit bytes ts is raws ls p (formula root) S P g s r.root in
+    ap (list_all (is_known (length S) (length P))) d.args_are ∙ all_known r.bytes r.before r.args S P g in
+    let w : vars_behind S P 0 0 (said r.bytes r.before r.args) ≡ vars = ap (vars_behind S P 0 0) (sym d.args_are) ∙ sym v in
+    let m = lets_kept r.bytes r.ts r.before r.args [] r.lets xs S P g b.lets_are d.ready.lets in
+    let f = value_fit r.bytes r.ts r.before r.args r.lets r.root (formula root) S P g b.root_is d.ready.root in
     let m0 = subst (λ (u : List VarInfo). lets_fit (length u) 0 (map (tree_of u) xs) ≡ true) w m.0 in
     let m1 = m.1 in
     let m2 = m.2 in
-    let f0 = subst (λ (u : List VarInfo). is_fit (length u) (length ls) (formulas.tree u (formula root)) ≡ true) w f.0 in
+    let f0 = subst (λ (u : List VarInfo). is_fit (length u) (length r.lets) (formulas.tree u (formula root)) ≡ true) w f.0 in
     let f1 = subst (λ (u : ℕ). is_fit (length vars) u (formulas.tree vars (formula root)) ≡ true) (sym m2) f0 in
     let f2 = f.1 in
-    let c = r.let_count in
-    let z = r.nodes in
+    let n = b.as_many in
+    let c = d.ready.let_count in
+    let z = d.ready.nodes in
     let o : are args vars ≡ true = subst (λ (u : List VarInfo). are args u ≡ true) (sym v) (all_are_of S P k args h) in
     and_from _ _ (and_from _ _ (and_from _ _ (and_from _ _ (and_from _ _ o (le-leb (length xs) 64 (omega arith))) (eq-eqb names (length xs) (omega arith))) m0)
     f1) (le-leb (node_counts (map formula xs) + node_count (formula root)) 2048 (omega arith))
@@ -204,6 +220,7 @@ pub record FewArgs (raws : List RawArg) (xs : List Arg) : Type 0 where
   pub sites : count_by is_site_said (map arg_of xs) ≤ 5
   pub others : length xs ≤ count_by is_site_said (map arg_of xs) + 8
 
+-- at most 5 of sites and 8 of params are at most 13
 pub few_args : (bytes : List ℕ) (is : List Item) (raws : List RawArg) (xs : List Arg) → map arg_of xs ≡ said bytes is raws
     → count_by is_site_arg raws ≤ 5 → count_by is_param_arg raws ≤ 8 → FewArgs raws xs
 few_args bytes is raws xs a m n =
@@ -216,35 +233,29 @@ few_args bytes is raws xs a m n =
     record { raw = omega arith; all = omega arith; sites = omega arith; others = omega arith }
 
 -- the arguments of a ready predicate are of the table's site types and params
-pub args_known : (bytes : List ℕ) (ts : List Token) (is : List Item) (name : Span) (raws : List RawArg) (ls : List RawLet) (p : Places)
-    (xs : List Arg) (S : List SiteOf) (P : List CoordOf)
-    → ReadyPred bytes ts is name raws ls p → Declares bytes is S P → map arg_of xs ≡ said bytes is raws
+pub args_known : {r : PredAt} {S : List SiteOf} {P : List CoordOf} {xs : List Arg} → PredReady r S P xs
     → list_all (is_known (length S) (length P)) (map arg_of xs) ≡ true
-args_known bytes ts is name raws ls p xs S P r d a =
-    ap (list_all (is_known (length S) (length P))) a ∙ all_known bytes is raws S P (sees bytes is raws S P d r.args)
+args_known {r = r} {S = S} {P = P} d = ap (list_all (is_known (length S) (length P))) d.args_are
+    ∙ all_known r.bytes r.before r.args S P (sees r.bytes r.before r.args S P d.declares d.ready.args)
 
 -- the variables of a ready predicate are those of a shape
-pub shape_kept : (bytes : List ℕ) (ts : List Token) (is : List Item) (name : Span) (raws : List RawArg) (ls : List RawLet) (p : Places)
-    (xs : List Arg) (S : List SiteOf) (P : List CoordOf) (sites : ℕ) (vars : List VarInfo)
-    → ReadyPred bytes ts is name raws ls p → Declares bytes is S P → map arg_of xs ≡ said bytes is raws
+pub shape_kept : {r : PredAt} {S : List SiteOf} {P : List CoordOf} {xs : List Arg} → PredReady r S P xs → (sites : ℕ) (vars : List VarInfo)
     → sites ≡ count_by is_site_said (map arg_of xs) → vars ≡ vars_behind S P 0 0 (map arg_of xs) → is_laid_out sites vars ≡ true
-shape_kept bytes ts is name raws ls p xs S P sites vars r d a s v =
-    let k : Known S P = record { sites = d.good_sites; params = d.good_params } in
-    let h = args_known bytes ts is name raws ls p xs S P r d a in
-    let f = few_args bytes is raws xs a r.site_args r.param_args in
+shape_kept {r = r} {S = S} {P = P} {xs = xs} d sites vars s v =
+    let k : Known S P = record { sites = d.declares.good_sites; params = d.declares.good_params } in
+    let h = args_known d in
+    let f = few_args r.bytes r.before r.args xs d.args_are d.ready.site_args d.ready.param_args in
     let l = length-map xs arg_of in
     let g = f.sites in let o = f.others in
     let q = laid_out S P k (map arg_of xs) h (omega arith) (omega arith) in
     rw (s, v) q
 
 -- a ready predicate fits the table
-pub args_kept : (bytes : List ℕ) (ts : List Token) (is : List Item) (name : Span) (raws : List RawArg) (ls : List RawLet) (p : Places)
-    (xs : List Arg) (sites : List Site) (params : List Param) (vars : List VarInfo)
-    → ReadyPred bytes ts is name raws ls p → Declares bytes is (map site_of sites) (map param_of params)
-    → map arg_of xs ≡ said bytes is raws → vars ≡ vars_behind (map site_of sites) (map param_of params) 0 0 (map arg_of xs)
+pub args_kept : {r : PredAt} {xs : List Arg} (sites : List Site) (params : List Param) (vars : List VarInfo)
+    → PredReady r (map site_of sites) (map param_of params) xs → vars ≡ vars_behind (map site_of sites) (map param_of params) 0 0 (map arg_of xs)
     → args_fit sites params vars 0 xs ≡ true
-args_kept bytes ts is name raws ls p xs sites params vars r d a v =
-    let h = args_known bytes ts is name raws ls p xs (map site_of sites) (map param_of params) r d a in
+args_kept {xs = xs} sites params vars d v =
+    let h = args_known d in
     let m = length-map sites site_of in
     let n = length-map params param_of in
     let g : list_all (is_known (length sites) (length params)) (map arg_of xs) ≡ true =

@@ -23,6 +23,7 @@ get_all p (x ∷ xs) (suc k) h l = get_all p xs k (and_parts (p x) (list_all p x
 pub count_cons : {A : Type 0} (p : A → Bool) (x : A) (xs : List A) → count_by p (x ∷ xs) ≡ cond (p x) 1 0 + count_by p xs
 count_cons p x xs = sum_by-cons (λ y. cond (p y) 1 0) x xs
 
+-- how many pass, of two lists joined
 pub count_append : {A : Type 0} (p : A → Bool) (xs ys : List A) → count_by p (xs ++ ys) ≡ count_by p xs + count_by p ys
 count_append p xs ys = sum_by-append (λ y. cond (p y) 1 0) xs ys
 
@@ -84,6 +85,7 @@ coords_order : (a s : ℕ) (b : VarInfo) (xs : List CoordOf) (rest : List VarInf
 coords_order a s b [] rest p q r = absurd (omega arith)
 coords_order a s b (x ∷ xs) rest p q r = site_order a s b x xs rest (omega arith) r
 
+-- the variables of known arguments are in order
 pub all_order : (S : List SiteOf) (P : List CoordOf) → Known S P → (a s : ℕ) (b : VarInfo) (args : List ArgOf)
     → list_all (is_known (length S) (length P)) args ≡ true → in_order a s b (vars_behind S P a s args) ≡ true
 all_order S P g a s b [] h = refl
@@ -103,6 +105,7 @@ site_ranges : (k s c : ℕ) (xs : List CoordOf) → list_all is_ranged xs ≡ tr
 site_ranges k s c [] h = refl
 site_ranges k s c (x ∷ xs) h = let q = and_parts (is_ranged x) (list_all is_ranged xs) h in and_from _ _ q.0 (site_ranges k s (suc c) xs q.1)
 
+-- and each has a range
 pub all_ranges : (S : List SiteOf) (P : List CoordOf) → Known S P → (a s : ℕ) (args : List ArgOf)
     → list_all (is_known (length S) (length P)) args ≡ true → list_all has_range (vars_behind S P a s args) ≡ true
 all_ranges S P g a s [] h = refl
@@ -145,6 +148,7 @@ site_none p k s c (x ∷ xs) h =
     let r = site_none p k s (suc c) xs h in
     count_cons p (record { arg = k; site = Some s; coord = c; lo = x.lo; hi = x.hi }) (site_vars k s (suc c) xs) ∙ rw (e, r) refl
 
+-- a site has as many variables as coordinates
 pub site_length : (k s c : ℕ) (xs : List CoordOf) → length (site_vars k s c xs) ≡ length xs
 site_length k s c [] = refl
 site_length k s c (x ∷ xs) = ap suc (site_length k s (suc c) xs)
@@ -159,6 +163,7 @@ pub record Numbers (as' : List ArgOf) (vars : List VarInfo) : Type 0 where
 no_later : (n : ℕ) → (true && (suc n == 0)) ≡ false
 no_later n = not_first n
 
+-- the variables of known arguments have these numbers
 pub all_numbers : (S : List SiteOf) (P : List CoordOf) → Known S P → (a s : ℕ) (args : List ArgOf)
     → list_all (is_known (length S) (length P)) args ≡ true → Numbers args (vars_behind S P a s args)
 all_numbers S P g a s [] h = record { sites = refl; args = refl; params = refl; size = omega arith }

@@ -61,6 +61,7 @@ pub is_narrow : (bytes : List ℕ) (is : List Item) (args : List RawArg) (ls : L
 is_narrow bytes is args ls f a l =
     record { args = a; lets = l; coords = λ at. let h = few_of bytes is (find (λ a. is_site_arg a && same bytes a.name at) args) f in omega arith }
 
+-- the first elements of a list of fewer than n are fewer than n
 pub short_take : {A : Type 0} (i n : ℕ) (xs : List A) → length xs < n → length (take i xs) < n
 short_take i n xs h = let e = length-take i xs in omega arith
 

@@ -1,5 +1,5 @@
 -- Places in lists, as the calls that look for them have them.
-use Rattle.std.proofs.Common.{◌≡◌, ℕ, ◌+◌, ◌<◌, ◌&&◌, Bool, true, false, List, [], ◌∷◌, length, get_or, drop, Option, Some, None, refl, ap, sym, ◌∙◌}
+use Rattle.std.proofs.Common.{◌≡◌, ℕ, ◌+◌, ◌&&◌, Bool, true, false, List, [], ◌∷◌, drop, Option, Some, None, refl, ap, sym, ◌∙◌}
 use Rattle.ln_base.specs.declared.span.Span.{Span}
 use Rattle.ln_syntax.specs.declared.raw.RawItem.{RawItem}
 use Rattle.ln_syntax.specs.declared.raw.RawItem.TheVariants.{Site, Param, Pred}
@@ -10,7 +10,7 @@ use Rattle.ln_tree.specs.Formula.{FName, FInput}
 use Rattle.std.specs.Prelude.{position, unwrap_or}
 use Rattle.std.specs.List.{filter_map, position_from}
 use Rattle.std.proofs.lemmas.Iterator.Adapters.{position_from-zero}
-use Rattle.ln_parse.proofs.Building.Lists.{drop_item}
+use Rattle.ln_parse.proofs.Building.Lists.{SeenAt, drop_item}
 use Rattle.ln_parse.specs.Says.{place, resolved, site_names, param_names}
 use Rattle.ln_parse.specs.Reading.{site_name, param_name}
 
@@ -51,20 +51,25 @@ params_named (Param name r ∷ its) = ap (λ (w : List Span). name ∷ w) (param
 params_named (Pred name as' ls p ∷ its) = params_named its
 
 -- a loop that looks for a name's number among those that have a name: it has it, it goes on after another, it passes one without
-pub number_found : {X Y : Type 0} (p : Y → Bool) (f : X → Option Y) (xs : List X) (i n : ℕ) (x : X) (y : Y) {r : Option ℕ} → i < length xs
-    → x ≡ get_or xs i x → f x ≡ Some y → p y ≡ true → position_from p n (filter_map f (drop i xs)) ≡ r → Some n ≡ r
-number_found p f xs i n x y l e s h q =
-    let d : drop i xs ≡ x ∷ drop (i + 1) xs = drop_item xs i x l e in
-    sym (rw (d, s, h) refl) ∙ q
+pub number_found : {X Y : Type 0} (p : Y → Bool) (f : X → Option Y) (xs : List X) (i n : ℕ) (y : Y) {r : Option ℕ} → SeenAt f xs i (Some y)
+    → p y ≡ true → position_from p n (filter_map f (drop i xs)) ≡ r → Some n ≡ r
+number_found p f xs i n y s h q =
+    let d : drop i xs ≡ s.element ∷ drop (i + 1) xs = drop_item xs i s.element s.at in
+    let e = s.seen in
+    sym (rw (d, e, h) refl) ∙ q
 
-pub number_on : {X Y : Type 0} (p : Y → Bool) (f : X → Option Y) (xs : List X) (i n : ℕ) (x : X) (y : Y) {r : Option ℕ} → i < length xs → x ≡ get_or xs i x
-    → f x ≡ Some y → p y ≡ false → position_from p n (filter_map f (drop i xs)) ≡ r → position_from p (n + 1) (filter_map f (drop (i + 1) xs)) ≡ r
-number_on p f xs i n x y l e s h q =
-    let d : drop i xs ≡ x ∷ drop (i + 1) xs = drop_item xs i x l e in
-    sym (rw (d, s, h) refl) ∙ q
+-- it goes on after another name
+pub number_on : {X Y : Type 0} (p : Y → Bool) (f : X → Option Y) (xs : List X) (i n : ℕ) (y : Y) {r : Option ℕ} → SeenAt f xs i (Some y)
+    → p y ≡ false → position_from p n (filter_map f (drop i xs)) ≡ r → position_from p (n + 1) (filter_map f (drop (i + 1) xs)) ≡ r
+number_on p f xs i n y s h q =
+    let d : drop i xs ≡ s.element ∷ drop (i + 1) xs = drop_item xs i s.element s.at in
+    let e = s.seen in
+    sym (rw (d, e, h) refl) ∙ q
 
-pub number_skip : {X Y : Type 0} (p : Y → Bool) (f : X → Option Y) (xs : List X) (i n : ℕ) (x : X) {r : Option ℕ} → i < length xs
-    → x ≡ get_or xs i x → f x ≡ None → position_from p n (filter_map f (drop i xs)) ≡ r → position_from p n (filter_map f (drop (i + 1) xs)) ≡ r
-number_skip p f xs i n x l e s q =
-    let d : drop i xs ≡ x ∷ drop (i + 1) xs = drop_item xs i x l e in
-    sym (rw (d, s) refl) ∙ q
+-- it passes an element without a name
+pub number_skip : {X Y : Type 0} (p : Y → Bool) (f : X → Option Y) (xs : List X) (i n : ℕ) {r : Option ℕ} → SeenAt f xs i None
+    → position_from p n (filter_map f (drop i xs)) ≡ r → position_from p n (filter_map f (drop (i + 1) xs)) ≡ r
+number_skip p f xs i n s q =
+    let d : drop i xs ≡ s.element ∷ drop (i + 1) xs = drop_item xs i s.element s.at in
+    let e = s.seen in
+    sym (rw (d, e) refl) ∙ q

@@ -106,6 +106,7 @@ sites_counted (PredItem n as' ls r ∷ is) =
     let c : count_by is_site (PredItem n as' ls r ∷ is) ≡ 0 + count_by is_site is = count_cons is_site (PredItem n as' ls r) is in
     omega arith
 
+-- and as many names of params as params
 pub params_counted : (is : List Item) → length (param_names is) ≡ count_by is_param is
 params_counted [] = refl
 params_counted (SiteItem n cs ∷ is) =

@@ -2,21 +2,19 @@
 use Rattle.std.proofs.Common.{◌≡◌, ◌∙◌, ℕ, suc, ◌+◌, ◌<◌, ◌≤◌, List, [], ◌∷◌, ◌++◌, append_assoc, length, map, get_or, take, drop}
 use Rattle.std.proofs.Common.{drop-cons, add-one, Some, refl, ap, sym, arith}
 use Rattle.std.specs.Prelude.{slice_get, count_by}
-use Rattle.std.proofs.Math.Seq.{take-suc}
 use Rattle.std.proofs.lemmas.List.{append-nil, drop_all, map_push, take_all}
 use Rattle.ln_tree.specs.declared.items.Arg.{Arg}
 use Rattle.ln_tree.specs.declared.items.Coord.{Coord}
 use Rattle.ln_tree.specs.declared.shape.VarInfo.{VarInfo}
 use Rattle.ln_tree.specs.Table.{ArgOf, CoordOf, SiteOf, arg_of, coord_of}
+use Rattle.ln_parse.proofs.Building.Lists.{IsAt, SeenAt, drop_item, take_seen}
 use Rattle.ln_parse.specs.Says.{coords_or, is_site_said, param_vars, site_vars, vars_behind}
 
 -- ---- lists that are seen through a function
 -- one more element
-pub one_mapped : {A B C : Type 0} (f : A → C) (g : B → C) (xs : List B) (i : ℕ) (d : B) (y : A) (ys now : List A) → i < length xs
-    → f y ≡ g (get_or xs i d) → now ≡ ys ++ y ∷ []
-    → map f ys ≡ map g (take i xs) → map f now ≡ map g (take (i + 1) xs)
-one_mapped f g xs i d y ys now l e n inv =
-    rw (n, map_push f ys y, inv, e, add-one i, take-suc xs i d l, map_push g (take i xs) (get_or xs i d)) refl
+pub one_mapped : {A B C : Type 0} (f : A → C) (g : B → C) (xs : List B) (i : ℕ) (y : A) (ys : List A) → SeenAt g xs i (f y)
+    → map f ys ≡ map g (take i xs) → map f (ys ++ (y ∷ [])) ≡ map g (take (i + 1) xs)
+one_mapped f g xs i y ys s inv = map_push f ys y ∙ ap (λ w. w ++ (f y ∷ [])) inv ∙ sym (take_seen g xs i (f y) s)
 
 -- all elements
 pub all_mapped : {B C : Type 0} (g : B → C) (xs : List B) (i : ℕ) → length xs ≤ i → map g (take i xs) ≡ map g xs
@@ -26,6 +24,7 @@ all_mapped g xs i l = ap (λ z. map g z) (take_all i xs l)
 abbrev pub site_as : List ℕ → List CoordOf → SiteOf
 site_as n cs = record { name = n; coords = cs }
 
+-- site types with one name and the same coordinates are the same
 pub same_site_of : (n m : List ℕ) (cs ds : List CoordOf) → n ≡ m → cs ≡ ds → site_as n cs ≡ site_as m ds
 same_site_of n m cs ds p q = rw (p, q) refl
 
@@ -40,20 +39,19 @@ one_coord k s c coords x vars now all l q n inv =
     rw (n, add-one c, append_assoc vars (i ∷ []) (site_vars k s (suc c) (map coord_of (drop (suc c) coords)))) (rw e at inv)
 
 module _ (args : List Arg) (k : ℕ) where
-  here : (x : Arg) → k < length args → x ≡ get_or args k x → drop k args ≡ x ∷ drop (suc k) args
-  here x l q = drop-cons args k x l ∙ ap (λ w. w ∷ drop (suc k) args) (sym q)
-
   -- the variables of one more argument
-  pub one_arg : (sites : List SiteOf) (params : List CoordOf) (s n : ℕ) (x : Arg) (vars now all : List VarInfo) → k < length args → x ≡ get_or args k x
+  pub one_arg : (sites : List SiteOf) (params : List CoordOf) (s n : ℕ) (x : Arg) (vars now : List VarInfo) → IsAt args k x
       → ((rest : List ArgOf) → now ++ vars_behind sites params (suc k) n rest ≡ vars ++ vars_behind sites params k s (arg_of x ∷ rest))
-      → vars ++ vars_behind sites params k s (map arg_of (drop k args)) ≡ all → now ++ vars_behind sites params (k + 1) n (map arg_of (drop (k + 1) args)) ≡ all
-  one_arg sites params s n x vars now all l q h inv = rw (add-one k) (h (map arg_of (drop (suc k) args)) ∙ rw (here x l q) at inv)
+      → vars ++ vars_behind sites params k s (map arg_of (drop k args)) ≡ vars_behind sites params 0 0 (map arg_of args)
+      → now ++ vars_behind sites params (k + 1) n (map arg_of (drop (k + 1) args)) ≡ vars_behind sites params 0 0 (map arg_of args)
+  one_arg sites params s n x vars now q h inv =
+      rw (add-one k) (h (map arg_of (drop (suc k) args)) ∙ rw (drop_item args k x q, add-one k) at inv)
 
   -- and the sites after it
-  pub one_seen : (s n all : ℕ) (x : Arg) → k < length args → x ≡ get_or args k x
-      → ((rest : List ArgOf) → n + count_by is_site_said rest ≡ s + count_by is_site_said (arg_of x ∷ rest))
-      → s + count_by is_site_said (map arg_of (drop k args)) ≡ all → n + count_by is_site_said (map arg_of (drop (k + 1) args)) ≡ all
-  one_seen s n all x l q h inv = rw (add-one k) (h (map arg_of (drop (suc k) args)) ∙ rw (here x l q) at inv)
+  pub one_seen : (s n : ℕ) (x : Arg) → IsAt args k x → ((rest : List ArgOf) → n + count_by is_site_said rest ≡ s + count_by is_site_said (arg_of x ∷ rest))
+      → s + count_by is_site_said (map arg_of (drop k args)) ≡ count_by is_site_said (map arg_of args)
+      → n + count_by is_site_said (map arg_of (drop (k + 1) args)) ≡ count_by is_site_said (map arg_of args)
+  one_seen s n x q h inv = rw (add-one k) (h (map arg_of (drop (suc k) args)) ∙ rw (drop_item args k x q, add-one k) at inv)
 
   -- after the last argument
   pub all_args : (sites : List SiteOf) (params : List CoordOf) (s : ℕ) (vars all : List VarInfo) → length args ≤ k

@@ -40,6 +40,7 @@ pub record TypeFound (bytes : List ℕ) (is : List Item) (S : List SiteOf) (kind
   pub there : slice_get S (place (λ n. same bytes n kind) (site_names is)) ≡ Some site
   pub size : length site.coords ≡ length (coords_in (find (λ i. is_site i && same bytes (item_name i) kind) is))
 
+-- so it is for a name that an item declares as a site type
 pub type_found : (bytes : List ℕ) (is : List Item) (S : List SiteOf) (P : List CoordOf) (kind : Span) → Declares bytes is S P
     → list_any (λ i. is_site i && same bytes (item_name i) kind) is ≡ true → TypeFound bytes is S kind
 type_found bytes is S P kind d h =
@@ -54,6 +55,7 @@ type_found bytes is S P kind d h =
       size = f.size;
     }
 
+-- and the param of a name that an item declares is among those of the table
 pub value_found : (bytes : List ℕ) (is : List Item) (S : List SiteOf) (P : List CoordOf) (name : Span) → Declares bytes is S P
     → list_any (λ i. is_param i && same bytes (item_name i) name) is ≡ true
     → (x : CoordOf) × (slice_get P (place (λ n. same bytes n name) (param_names is)) ≡ Some x)
@@ -82,14 +84,17 @@ pub all_known : (bytes : List ℕ) (is : List Item) (raws : List RawArg) (S : Li
     → list_all (is_known (length S) (length P)) (said bytes is raws) ≡ true
 all_known bytes is raws S P s = known_from bytes is S P [] raws s.declares s.known
 
+-- an argument that is no param is said to be a site
 pub said_site : (bytes : List ℕ) (is : List Item) (a : RawArg) (b : Bool) → b ≡ false
     → arg_said bytes is a b ≡ SiteArg (text bytes a.name) (place (λ n. same bytes n a.kind) (site_names is))
 said_site bytes is a b h = ap (arg_said bytes is a) h
 
+-- and one that is a param to be a param
 pub said_param : (bytes : List ℕ) (is : List Item) (a : RawArg) (b : Bool) → b ≡ true
     → arg_said bytes is a b ≡ ParamArg (place (λ n. same bytes n a.name) (param_names is))
 said_param bytes is a b h = ap (arg_said bytes is a) h
 
+-- the argument that is said at a place is what the one at the place says
 pub said_at : (bytes : List ℕ) (is : List Item) (raws : List RawArg) (k : ℕ) (a : RawArg) → slice_get raws k ≡ Some a
     → slice_get (said bytes is raws) k ≡ Some (arg_said bytes is a a.is_param)
 said_at bytes is raws k a h = slice_get-map (λ a. arg_said bytes is a a.is_param) raws k ∙ ap (option_map (λ a. arg_said bytes is a a.is_param)) h
@@ -119,7 +124,14 @@ input_number bytes is raws ls S P at x s h g =
     let below = (found_at (λ (c : RawCoord). same bytes c.name x) cs g).below in
     let ts = t.size in
     number_from (vars_behind S P 0 0 (said bytes is raws)) k c
-    (coord_there S P 0 0 k c (place (λ n. same bytes n a.kind) (site_names is)) (text bytes a.name) t.site (said bytes is raws) here t.there (omega arith))
+    (coord_there S P 0 0 k c (said bytes is raws) (record {
+      name = text bytes a.name;
+      type = place (λ n. same bytes n a.kind) (site_names is);
+      site = t.site;
+      arg_is = here;
+      type_is = t.there;
+      below = omega arith;
+    }))
 
 -- a param argument is a variable
 pub param_number : (bytes : List ℕ) (is : List Item) (raws : List RawArg) (S : List SiteOf) (P : List CoordOf) (at : Span)

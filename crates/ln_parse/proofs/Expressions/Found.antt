@@ -56,6 +56,7 @@ position_by : (b : Bool) (n l j : ℕ) → nat_lt n l ≡ b → cond b (Some n) 
 position_by true n l j e h = let q : n ≡ j = cc in let r = ltb-true n l e in omega arith
 position_by false n l j e h = absurd (cc)
 
+-- and so the position of the first that passes is
 pub position_below : {A : Type 0} (p : A → Bool) (xs : List A) (j : ℕ) → position p xs ≡ Some j → j < length xs
 position_below p xs j h = position_by (nat_lt (position_or_len p xs) (length xs)) (position_or_len p xs) (length xs) j refl h
 
@@ -74,6 +75,7 @@ number_below vars k c h =
     let e = lt-ltb (position_or_len (is_var k c) vars) (length vars) l in
     rw e l
 
+-- the same with the number of the argument as it is counted from 0 on
 pub number_from : (vars : List VarInfo) (k c : ℕ) → list_any (is_var (0 + k) c) vars ≡ true → number_or_end vars k c < length vars
 number_from vars k c h = let e : 0 + k ≡ k = omega arith in number_below vars k c (subst (λ (w : ℕ). list_any (is_var w c) vars ≡ true) e h)
 
@@ -90,27 +92,41 @@ site_there k s n (suc c) (x ∷ xs) h =
     let e : suc n + c ≡ n + suc c = omega arith in
     or_right _ _ (subst (λ (w : ℕ). list_any (is_var k w) (site_vars k s (suc n) xs) ≡ true) e (site_there k s (suc n) c xs (omega arith)))
 
+-- argument d is a site of a type that has a coordinate c
+pub record HasCoord (S : List SiteOf) (args : List ArgOf) (d c : ℕ) : Type 0 where
+  pub name : List ℕ
+  pub type : ℕ
+  pub site : SiteOf
+  pub arg_is : slice_get args d ≡ Some (SiteArg name type)
+  pub type_is : slice_get S type ≡ Some site
+  pub below : c < length site.coords
+
 -- the coordinates of a site argument are variables
-pub coord_there : (S : List SiteOf) (P : List CoordOf) (a s d c t : ℕ) (nm : List ℕ) (x : SiteOf) (args : List ArgOf)
-    → slice_get args d ≡ Some (SiteArg nm t) → slice_get S t ≡ Some x → c < length x.coords
+pub coord_there : (S : List SiteOf) (P : List CoordOf) (a s d c : ℕ) (args : List ArgOf) → HasCoord S args d c
     → list_any (is_var (a + d) c) (vars_behind S P a s args) ≡ true
-coord_there S P a s d c t nm x [] h e l = absurd (cc)
-coord_there S P a s zero c t nm x (SiteArg m u ∷ args) h e l =
-    let q : u ≡ t = cc in
-    let f : slice_get S u ≡ Some x = ap (slice_get S) q ∙ e in
+coord_there S P a s d c [] h = let e = h.arg_is in absurd (cc)
+coord_there S P a s zero c (SiteArg m u ∷ args) h =
+    let e = h.arg_is in
+    let x = h.site in
+    let q : u ≡ h.type = cc in
+    let f : slice_get S u ≡ Some x = ap (slice_get S) q ∙ h.type_is in
     let z : a + 0 ≡ a = omega arith in
     let w : 0 + c ≡ c = omega arith in
     let r : list_any (is_var a c) (site_vars a s 0 x.coords) ≡ true =
-    subst (λ (v : ℕ). list_any (is_var a v) (site_vars a s 0 x.coords) ≡ true) w (site_there a s 0 c x.coords l) in
+    subst (λ (v : ℕ). list_any (is_var a v) (site_vars a s 0 x.coords) ≡ true) w (site_there a s 0 c x.coords h.below) in
     rw (z, f) (any_left (is_var a c) (site_vars a s 0 x.coords) (vars_behind S P (suc a) (suc s) args) r)
-coord_there S P a s zero c t nm x (ParamArg p ∷ args) h e l = absurd (cc)
-coord_there S P a s (suc d) c t nm x (SiteArg m u ∷ args) h e l =
+coord_there S P a s zero c (ParamArg p ∷ args) h = let e = h.arg_is in absurd (cc)
+coord_there S P a s (suc d) c (SiteArg m u ∷ args) h =
     let z : suc a + d ≡ a + suc d = omega arith in
-    let r = subst (λ (w : ℕ). list_any (is_var w c) (vars_behind S P (suc a) (suc s) args) ≡ true) z (coord_there S P (suc a) (suc s) d c t nm x args h e l) in
+    let later : HasCoord S args d c =
+    record { name = h.name; type = h.type; site = h.site; arg_is = h.arg_is; type_is = h.type_is; below = h.below } in
+    let r = subst (λ (w : ℕ). list_any (is_var w c) (vars_behind S P (suc a) (suc s) args) ≡ true) z (coord_there S P (suc a) (suc s) d c args later) in
     any_right (is_var (a + suc d) c) (site_vars a s 0 (coords_or (slice_get S u))) (vars_behind S P (suc a) (suc s) args) r
-coord_there S P a s (suc d) c t nm x (ParamArg p ∷ args) h e l =
+coord_there S P a s (suc d) c (ParamArg p ∷ args) h =
     let z : suc a + d ≡ a + suc d = omega arith in
-    let r = subst (λ (w : ℕ). list_any (is_var w c) (vars_behind S P (suc a) s args) ≡ true) z (coord_there S P (suc a) s d c t nm x args h e l) in
+    let later : HasCoord S args d c =
+    record { name = h.name; type = h.type; site = h.site; arg_is = h.arg_is; type_is = h.type_is; below = h.below } in
+    let r = subst (λ (w : ℕ). list_any (is_var w c) (vars_behind S P (suc a) s args) ≡ true) z (coord_there S P (suc a) s d c args later) in
     any_right (is_var (a + suc d) c) (param_vars a (slice_get P p)) (vars_behind S P (suc a) s args) r
 
 -- a param argument is a variable
@@ -160,6 +176,7 @@ site_by bytes q n cs is false e h on =
     let r = on h in
     record { site = r.site; there = rw l r.there; size = rw e r.size; named = or_right _ _ r.named }
 
+-- where some site type among items has a name that passes, the first such is found
 pub site_found : (bytes : List ℕ) (q : Span → Bool) (is : List Item) → list_any (λ i. is_site i && q (item_name i)) is ≡ true → SiteFound bytes q is
 site_found bytes q [] h = absurd (cc)
 site_found bytes q (SiteItem n cs ∷ is) h = site_by bytes q n cs is (q n) refl h (site_found bytes q is)
@@ -187,6 +204,7 @@ param_found_by bytes q (ParamItem n r ∷ is) h =
     param_by bytes q n (ranged bytes n r) is (params_said bytes is) (param_names is) (q n) refl h (param_found_by bytes q is)
 param_found_by bytes q (PredItem n as' ls r ∷ is) h = param_found_by bytes q is h
 
+-- where some param among items has a name that passes, the first such is found
 pub param_found : (bytes : List ℕ) (q : Span → Bool) (is : List Item) → list_any (λ i. is_param i && q (item_name i)) is ≡ true → ParamFound bytes q is
 param_found bytes q is h = let f = param_found_by bytes q is h in record { param = f.0; there = f.1; named = f.2 }
 

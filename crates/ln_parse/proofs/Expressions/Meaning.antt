@@ -17,6 +17,7 @@ use Rattle.ln_parse.specs.Spanless.{no_span, spanless}
 abbrev pub arg_called : List ℕ → (RawArg → Bool) → List ℕ → RawArg → Bool
 arg_called bytes p t a = p a && bytes_eq (text bytes a.name) t
 
+-- a bare name means the let at this position, or, where there is none, the param argument of the name
 abbrev pub name_meaning : List ℕ → Scope → List ℕ → Option ℕ → Formula
 name_meaning bytes s t (Some j) = FName no_span j
 name_meaning bytes s t None = FInput no_span (place (arg_called bytes is_param_arg t) s.args) 0

@@ -29,9 +29,11 @@ fresh_behind {ts = ts} {i = i} k h c d =
     let q : kind_at ts (suc i - 1) ≡ Some k = ap (λ (w : ℕ). kind_at ts w) e ∙ h in
     record { no_caret = ap is_caret q ∙ c; no_dot = ap is_dot q ∙ d }
 
+-- a number that follows neither a caret nor a dot is a literal
 pub number_role : {ts : List Token} {i : ℕ} → Is ts i Number → Fresh ts i → role_at ts i ≡ Some Value
 number_role {ts = ts} {i = i} h f = ap (role_of ts i) h ∙ rw f.no_caret refl
 
+-- a number after a caret is an exponent
 pub exponent_role : (ts : List Token) (j : ℕ) → Is ts j Caret → Is ts (suc j) Number → role_at ts (suc j) ≡ Some AfterCaret
 exponent_role ts j c n =
     let e : suc j - 1 ≡ j = omega arith in
@@ -39,10 +41,12 @@ exponent_role ts j c n =
     let r : is_caret (kind_at ts (suc j - 1)) ≡ true = ap is_caret q in
     ap (role_of ts (suc j)) n ∙ rw r refl
 
+-- a name that follows neither is the argument of an input where a dot follows, and else a bare name
 pub name_role : {ts : List Token} {i : ℕ} (b : Bool) → Is ts i Name → Fresh ts i → is_dot (kind_at ts (i + 1)) ≡ b
     → role_at ts i ≡ cond b (Some Input) (Some Bare)
 name_role {ts = ts} {i = i} b h f d = ap (role_of ts i) h ∙ rw (f.no_dot, d) refl
 
+-- a name after a dot is a coordinate
 pub coord_role : (ts : List Token) (j : ℕ) → Is ts j Dot → Is ts (suc j) Name → role_at ts (suc j) ≡ Some AfterDot
 coord_role ts j c n =
     let e : suc j - 1 ≡ j = omega arith in
@@ -56,6 +60,7 @@ no_dot_by None h = refl
 no_dot_by (Some Dot) h = absurd (omega arith)
 no_dot_by (Some k) h = refl
 
+-- and so none follows where an expression that is an atom stops
 pub no_dot_at : {ts : List Token} {j : ℕ} → Stops ts Atom j → is_dot (kind_at ts j) ≡ false
 no_dot_at {ts = ts} {j = j} st = no_dot_by (kind_at ts j) st.weak
 
@@ -79,57 +84,131 @@ FreshAt ts (Factors f) i = Unit {0}
 FreshAt ts (Terms f) i = Unit {0}
 FreshAt ts o i = Fresh ts i
 
+-- an expression of sort o from place i to j, among tokens from lo to hi within their limits: it begins and stops as one, after what is fit
+record Among (bytes : List ℕ) (ts : List Token) (s : Scope) (lo hi : ℕ) (o : Sort) (i j : ℕ) : Type 0 where
+  within : Within bytes ts s lo hi
+  stops : Stops ts o j
+  fresh : FreshAt ts o i
+  low : lo ≤ i
+  high : j ≤ hi
+  before : FitBefore bytes s o
+
 -- an expression whose tokens are within the limits is fit
-fit_by : {bytes : List ℕ} {ts : List Token} {s : Scope} {lo hi : ℕ} {o : Sort} {i j : ℕ} {e : Tree} → Within bytes ts s lo hi
-    → Derives ts o i j e → Stops ts o j → FreshAt ts o i → lo ≤ i → j ≤ hi → FitBefore bytes s o → Fit bytes s e
-fit_by {bytes = bytes} {ts = ts} {s = s} {lo = lo} {hi = hi} w (number {i = i} n) st f l h b =
-    at_role bytes ts s lo hi i (Some Value) w l (omega arith) (number_role n f)
-fit_by {bytes = bytes} {ts = ts} {s = s} {lo = lo} {hi = hi} w (name {i = i} n) st f l h b =
+fit_by : {bytes : List ℕ} {ts : List Token} {s : Scope} {lo hi : ℕ} {o : Sort} {i j : ℕ} {e : Tree} → Derives ts o i j e
+    → Among bytes ts s lo hi o i j → Fit bytes s e
+fit_by {bytes = bytes} {ts = ts} {s = s} {lo = lo} {hi = hi} (number {i = i} n) a =
+    let h = a.high in
+    at_role bytes ts s lo hi i (Some Value) a.within a.low (omega arith) (number_role n a.fresh)
+fit_by {bytes = bytes} {ts = ts} {s = s} {lo = lo} {hi = hi} (name {i = i} n) a =
+    let h = a.high in
     let e : suc i ≡ i + 1 = omega arith in
-    let d : is_dot (kind_at ts (i + 1)) ≡ false = subst (λ (x : ℕ). is_dot (kind_at ts x) ≡ false) e (no_dot_at st) in
-    at_role bytes ts s lo hi i (Some Bare) w l (omega arith) (name_role false n f d)
-fit_by {bytes = bytes} {ts = ts} {s = s} {lo = lo} {hi = hi} w (input {i = i} n d x) st f l h b =
+    let d : is_dot (kind_at ts (i + 1)) ≡ false = subst (λ (x : ℕ). is_dot (kind_at ts x) ≡ false) e (no_dot_at a.stops) in
+    at_role bytes ts s lo hi i (Some Bare) a.within a.low (omega arith) (name_role false n a.fresh d)
+fit_by {bytes = bytes} {ts = ts} {s = s} {lo = lo} {hi = hi} (input {i = i} n d x) a =
+    let l = a.low in
+    let h = a.high in
     let e : suc i ≡ i + 1 = omega arith in
     let q : is_dot (kind_at ts (i + 1)) ≡ true = subst (λ (y : ℕ). is_dot (kind_at ts y) ≡ true) e (ap is_dot d) in
-    let c = at_role bytes ts s lo hi (suc (suc i)) (Some AfterDot) w (omega arith) (omega arith) (coord_role ts (suc i) d x) in
+    let c = at_role bytes ts s lo hi (suc (suc i)) (Some AfterDot) a.within (omega arith) (omega arith) (coord_role ts (suc i) d x) in
     let g : suc (suc i) - 2 ≡ i = omega arith in (
-      at_role bytes ts s lo hi i (Some Input) w l (omega arith) (name_role true n f q),
+      at_role bytes ts s lo hi i (Some Input) a.within l (omega arith) (name_role true n a.fresh q),
       subst (λ (y : ℕ). list_any (λ k. same bytes k.name (span_at ts (suc (suc i)))) (coords_at bytes s (span_at ts y)) ≡ true) g c,
     )
-fit_by w (parens {j = j} n d c) st f l h b = fit_by w d (stops Sum ParR c (omega arith)) (fresh_behind ParL n refl refl) (omega arith) (omega arith) tt
-fit_by w (plain d) st f l h b = fit_by w d (tighter Atom st (λ x. omega arith)) f l h tt
-fit_by {bytes = bytes} {ts = ts} {s = s} {lo = lo} {hi = hi} w (power {j = j} d c n) st f l h b =
+fit_by (parens {j = j} n d c) a =
+    let l = a.low in let h = a.high in
+    fit_by d (record {
+      within = a.within;
+      stops = stops Sum ParR c (omega arith);
+      fresh = fresh_behind ParL n refl refl;
+      low = omega arith;
+      high = omega arith;
+      before = tt;
+    })
+fit_by (plain d) a =
+    fit_by d (record { within = a.within; stops = tighter Atom a.stops (λ x. omega arith); fresh = a.fresh; low = a.low; high = a.high; before = tt })
+fit_by {bytes = bytes} {ts = ts} {s = s} {lo = lo} {hi = hi} (power {j = j} d c n) a =
+    let l = a.low in let h = a.high in
     let r = within d in (
-      fit_by w d (stops Atom Caret c (omega arith)) f l (omega arith) tt,
-      at_role bytes ts s lo hi (suc j) (Some AfterCaret) w (omega arith) (omega arith) (exponent_role ts j c n),
+      fit_by d (record { within = a.within; stops = stops Atom Caret c (omega arith); fresh = a.fresh; low = l; high = omega arith; before = tt }),
+      at_role bytes ts s lo hi (suc j) (Some AfterCaret) a.within (omega arith) (omega arith) (exponent_role ts j c n),
     )
-fit_by w (base d) st f l h b = fit_by w d (tighter Power st (λ x. omega arith)) f l h tt
-fit_by w (minus m d) st f l h b = fit_by w d st (fresh_behind Minus m refl refl) (omega arith) h tt
-fit_by w (term {f = g} d r) st f l h b =
-    let a = within d in let z = within r in
-    fit_by w r (tighter (Factors g) st (λ x. omega arith)) tt (omega arith) h (fit_by w d (factors_stop r st) f l (omega arith) tt)
-fit_by w no_factor st f l h b = b
-fit_by w (times {f = g} {g = k} t d r) st f l h b =
-    let a = within d in let z = within r in
-    let u = tighter Term st (λ x. omega arith) in
-    fit_by w r (tighter (Factors (TMul _ g k)) st (λ x. omega arith)) tt (omega arith) h
-    (b, fit_by w d (factors_stop r u) (fresh_behind Star t refl refl) (omega arith) (omega arith) tt)
-fit_by w (sum {f = g} d r) st f l h b =
-    let a = within d in let z = within r in
-    fit_by w r (tighter (Terms g) st (λ x. omega arith)) tt (omega arith) h (fit_by w d (terms_stop r st) f l (omega arith) tt)
-fit_by w no_term st f l h b = b
-fit_by w (plus {f = g} {g = k} t d r) st f l h b =
-    let a = within d in let z = within r in
-    let u = tighter Sum st (λ x. omega arith) in
-    fit_by w r (tighter (Terms (TAdd _ g k)) st (λ x. omega arith)) tt (omega arith) h
-    (b, fit_by w d (terms_stop r u) (fresh_behind Plus t refl refl) (omega arith) (omega arith) tt)
-fit_by w (less {f = g} {g = k} t d r) st f l h b =
-    let a = within d in let z = within r in
-    let u = tighter Sum st (λ x. omega arith) in
-    fit_by w r (tighter (Terms (TSub _ g k)) st (λ x. omega arith)) tt (omega arith) h
-    (b, fit_by w d (terms_stop r u) (fresh_behind Minus t refl refl) (omega arith) (omega arith) tt)
+fit_by (base d) a =
+    fit_by d (record { within = a.within; stops = tighter Power a.stops (λ x. omega arith); fresh = a.fresh; low = a.low; high = a.high; before = tt })
+fit_by (minus m d) a =
+    let l = a.low in
+    fit_by d (record { within = a.within; stops = a.stops; fresh = fresh_behind Minus m refl refl; low = omega arith; high = a.high; before = tt })
+fit_by (term {f = g} d r) a =
+    let l = a.low in let h = a.high in
+    let u = within d in let z = within r in
+    let first = fit_by d (record { within = a.within; stops = factors_stop r a.stops; fresh = a.fresh; low = l; high = omega arith; before = tt }) in
+    fit_by r (record { within = a.within; stops = tighter (Factors g) a.stops (λ x. omega arith); fresh = tt; low = omega arith; high = h; before = first })
+fit_by no_factor a = a.before
+fit_by (times {f = g} {g = k} t d r) a =
+    let l = a.low in let h = a.high in
+    let x = within d in let z = within r in
+    let next = fit_by d (record {
+      within = a.within;
+      stops = factors_stop r (tighter Term a.stops (λ x. omega arith));
+      fresh = fresh_behind Star t refl refl;
+      low = omega arith;
+      high = omega arith;
+      before = tt;
+    }) in
+    fit_by r (record {
+      within = a.within;
+      stops = tighter (Factors (TMul _ g k)) a.stops (λ x. omega arith);
+      fresh = tt;
+      low = omega arith;
+      high = h;
+      before = (a.before, next);
+    })
+fit_by (sum {f = g} d r) a =
+    let l = a.low in let h = a.high in
+    let u = within d in let z = within r in
+    let first = fit_by d (record { within = a.within; stops = terms_stop r a.stops; fresh = a.fresh; low = l; high = omega arith; before = tt }) in
+    fit_by r (record { within = a.within; stops = tighter (Terms g) a.stops (λ x. omega arith); fresh = tt; low = omega arith; high = h; before = first })
+fit_by no_term a = a.before
+fit_by (plus {f = g} {g = k} t d r) a =
+    let l = a.low in let h = a.high in
+    let x = within d in let z = within r in
+    let next = fit_by d (record {
+      within = a.within;
+      stops = terms_stop r (tighter Sum a.stops (λ x. omega arith));
+      fresh = fresh_behind Plus t refl refl;
+      low = omega arith;
+      high = omega arith;
+      before = tt;
+    }) in
+    fit_by r (record {
+      within = a.within;
+      stops = tighter (Terms (TAdd _ g k)) a.stops (λ x. omega arith);
+      fresh = tt;
+      low = omega arith;
+      high = h;
+      before = (a.before, next);
+    })
+fit_by (less {f = g} {g = k} t d r) a =
+    let l = a.low in let h = a.high in
+    let x = within d in let z = within r in
+    let next = fit_by d (record {
+      within = a.within;
+      stops = terms_stop r (tighter Sum a.stops (λ x. omega arith));
+      fresh = fresh_behind Minus t refl refl;
+      low = omega arith;
+      high = omega arith;
+      before = tt;
+    }) in
+    fit_by r (record {
+      within = a.within;
+      stops = tighter (Terms (TSub _ g k)) a.stops (λ x. omega arith);
+      fresh = tt;
+      low = omega arith;
+      high = h;
+      before = (a.before, next);
+    })
 
 -- an expression before a semicolon whose tokens are within the limits is fit
 pub is_fit : {bytes : List ℕ} {ts : List Token} {s : Scope} {i j : ℕ} {e : Tree} → Within bytes ts s i j → Derives ts Sum i j e
     → Is ts j Semi → Fresh ts i → Fit bytes s e
-is_fit {i = i} {j = j} w d m f = fit_by w d (stops Sum Semi m (omega arith)) f (omega arith) (omega arith) tt
+is_fit w d m f =
+    fit_by d (record { within = w; stops = stops Sum Semi m (omega arith); fresh = f; low = omega arith; high = omega arith; before = tt })

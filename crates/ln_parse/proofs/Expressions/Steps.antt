@@ -79,6 +79,7 @@ number_same (name n) h = absurd (cc)
 number_same (input n d x) h = absurd (cc)
 number_same (parens n d c) h = absurd (cc)
 
+-- a number is read as a literal
 pub number_read : {bytes : List ℕ} {ts : List Token} {s : Scope} {i : ℕ} {sp : Span} {x : Formula}
     → Is ts i Number → sp ≡ span_at ts i → x ≡ FNum sp (pos (numbers.number bytes sp)) → Reads bytes ts s Atom i (i + 1) x
 number_read {bytes = bytes} {ts = ts} {s = s} {i = i} h p q =
@@ -92,38 +93,45 @@ name_same (name n) h c = (omega arith, refl)
 name_same {ts = ts} {i = i} (input n d x) h c = absurd (c (there ts (suc i) (i + 1) Dot d (omega arith)))
 name_same (parens n d c) h m = absurd (cc)
 
+-- a name that no dot follows is read as what it stands for
 pub name_read : {bytes : List ℕ} {ts : List Token} {s : Scope} {i : ℕ} {sp : Span} {x : Formula}
     → Is ts i Name → (Is ts (i + 1) Dot → ⊥) → sp ≡ span_at ts i → x ≡ resolved bytes s (TName sp) → Reads bytes ts s Atom i (i + 1) x
 name_read {bytes = bytes} {ts = ts} {s = s} {i = i} h n p q =
     let w = is_within ts i Name h in
     record { same = λ to e d st. let r = name_same d h n in (r.0, ap (resolved bytes s) r.1 ∙ rw (← p) (sym q)); within = omega arith; later = omega arith }
 
-input_same : {ts : List Token} {i to : ℕ} {e : Tree} → Derives ts Atom i to e → Stops ts Atom to → Is ts i Name → Is ts (i + 1) Dot
+-- a name at place i, and a dot after it
+pub record Dotted (ts : List Token) (i : ℕ) : Type 0 where
+  pub name : Is ts i Name
+  pub dot : Is ts (i + 1) Dot
+
+input_same : {ts : List Token} {i to : ℕ} {e : Tree} → Derives ts Atom i to e → Stops ts Atom to → Dotted ts i
     → (i + 3 ≡ to) × (e ≡ TInput (span_at ts i) (span_at ts (i + 2)))
-input_same (number n) st h d = absurd (cc)
-input_same {ts = ts} {i = i} (name n) st h d = absurd (never Dot (there ts (i + 1) (suc i) Dot d (omega arith)) st (λ h. omega arith))
-input_same {ts = ts} {i = i} (input n c x) st h d =
+input_same (number n) st d = let h = d.name in absurd (cc)
+input_same {ts = ts} {i = i} (name n) st d = absurd (never Dot (there ts (i + 1) (suc i) Dot d.dot (omega arith)) st (λ h. omega arith))
+input_same {ts = ts} {i = i} (input n c x) st d =
     let q : suc (suc i) ≡ i + 2 = omega arith in
     (omega arith, ap (λ (w : ℕ). TInput (span_at ts i) (span_at ts w)) q)
-input_same (parens n e c) st h d = absurd (cc)
+input_same (parens n e c) st d = let h = d.name in absurd (cc)
 
-input_within : {ts : List Token} {i to : ℕ} {e : Tree} → Derives ts Atom i to e → Stops ts Atom to → Is ts i Name → Is ts (i + 1) Dot → i + 2 < length ts
-input_within (number n) st h d = absurd (cc)
-input_within {ts = ts} {i = i} (name n) st h d = absurd (never Dot (there ts (i + 1) (suc i) Dot d (omega arith)) st (λ h. omega arith))
-input_within {ts = ts} {i = i} (input n c x) st h d = let w = is_within ts (suc (suc i)) Name x in omega arith
-input_within (parens n e c) st h d = absurd (cc)
+input_within : {ts : List Token} {i to : ℕ} {e : Tree} → Derives ts Atom i to e → Stops ts Atom to → Dotted ts i → i + 2 < length ts
+input_within (number n) st d = let h = d.name in absurd (cc)
+input_within {ts = ts} {i = i} (name n) st d = absurd (never Dot (there ts (i + 1) (suc i) Dot d.dot (omega arith)) st (λ h. omega arith))
+input_within {ts = ts} {i = i} (input n c x) st d = let w = is_within ts (suc (suc i)) Name x in omega arith
+input_within (parens n e c) st d = let h = d.name in absurd (cc)
 
 -- the coordinate of an input is within the tokens
-pub coord_within : {bytes : List ℕ} {ts : List Token} {s : Scope} {i : ℕ} → HasTree bytes ts s Atom i → Is ts i Name → Is ts (i + 1) Dot → i + 2 < length ts
-coord_within t h d = input_within t.derives t.stops h d
+pub coord_within : {bytes : List ℕ} {ts : List Token} {s : Scope} {i : ℕ} → HasTree bytes ts s Atom i → Dotted ts i → i + 2 < length ts
+coord_within t d = input_within t.derives t.stops d
 
+-- a name, a dot and a name are read as an input
 pub input_read : {bytes : List ℕ} {ts : List Token} {s : Scope} {i : ℕ} {sp sq : Span} {x : Formula}
-    → HasTree bytes ts s Atom i → Is ts i Name → Is ts (i + 1) Dot → sp ≡ span_at ts i → sq ≡ span_at ts (i + 2)
+    → HasTree bytes ts s Atom i → Dotted ts i → sp ≡ span_at ts i → sq ≡ span_at ts (i + 2)
     → x ≡ resolved bytes s (TInput sp sq) → Reads bytes ts s Atom i (i + 3) x
-input_read {bytes = bytes} {ts = ts} {s = s} {i = i} t h dot p p' q =
-    let w = coord_within t h dot in
+input_read {bytes = bytes} {ts = ts} {s = s} {i = i} t h p p' q =
+    let w = coord_within t h in
     record {
-      same = λ to e d st. let r = input_same d st h dot in (r.0, ap (resolved bytes s) r.1 ∙ rw (← p, ← p') (sym q));
+      same = λ to e d st. let r = input_same d st h in (r.0, ap (resolved bytes s) r.1 ∙ rw (← p, ← p') (sym q));
       within = omega arith;
       later = omega arith;
     }
@@ -159,6 +167,7 @@ parens_same {ts = ts} (parens {j = k} {e = e} n d c) p r =
     let w = is_within ts k ParR c in
     let q = m.0 in (omega arith, m.1, omega arith)
 
+-- a sum between parentheses is read as an atom
 pub parens_read : {bytes : List ℕ} {ts : List Token} {s : Scope} {i j : ℕ} {x : Formula} → HasTree bytes ts s Atom i → Is ts i ParL
     → Reads bytes ts s Sum (i + 1) j x → Reads bytes ts s Atom i (j + 1) x
 parens_read t p r =
@@ -184,6 +193,7 @@ plain_same {ts = ts} (power {j = k} {e = e} d c m) st r n =
     let q = (r.same k e d (stops Atom Caret c (omega arith))).0 in
     absurd (n (there ts k _ Caret c (sym q)))
 
+-- an atom that no caret follows is read as a power
 pub power_plain : {bytes : List ℕ} {ts : List Token} {s : Scope} {i j : ℕ} {x : Formula} → Reads bytes ts s Atom i j x → (Is ts j Caret → ⊥)
     → Reads bytes ts s Power i j x
 power_plain r n = record { same = λ to e d st. plain_same d st r n; within = r.within; later = r.later }
@@ -218,13 +228,13 @@ pub exponent_fit : {bytes : List ℕ} {ts : List Token} {s : Scope} {i j : ℕ} 
     → Reads bytes ts s Atom i j x → Is ts j Caret → numbers.number bytes (span_at ts (j + 1)) ≤ 16
 exponent_fit t r c = (raised t.derives t.stops r c).limit t.fit
 
-pub power_read : {bytes : List ℕ} {ts : List Token} {s : Scope} {i j n : ℕ} {x y : Formula} {sp sq : Span}
-    → HasTree bytes ts s Power i → Reads bytes ts s Atom i j x → Is ts j Caret → sp ≡ span_at ts j → sq ≡ span_at ts (j + 1)
-    → n ≡ numbers.number bytes sq → y ≡ FPow sp x n → Reads bytes ts s Power i (j + 2) y
-power_read t r c p p' v q =
+-- an atom, a caret and a number are read as a power
+pub power_read : {bytes : List ℕ} {ts : List Token} {s : Scope} {i j : ℕ} {x y : Formula} → HasTree bytes ts s Power i → Reads bytes ts s Atom i j x
+    → Is ts j Caret → y ≡ FPow (span_at ts j) x (numbers.number bytes (span_at ts (j + 1))) → Reads bytes ts s Power i (j + 2) y
+power_read t r c q =
     let w = exponent_within t r c in
     record {
-      same = λ to e d st. let m = raised d st r c in (m.ends, m.means ∙ rw (← p, ← p', ← v) (sym q));
+      same = λ to e d st. let m = raised d st r c in (m.ends, m.means ∙ sym q);
       within = omega arith;
       later = omega (arith, r.later);
     }
@@ -245,6 +255,7 @@ base_same : {bytes : List ℕ} {ts : List Token} {s : Scope} {i j to : ℕ} {e :
 base_same {to = to} {e = e} (base d) st r n = r.same to e d (tighter Power st (λ h. omega arith))
 base_same (minus m d) st r n = absurd (n m)
 
+-- where there is no minus, a power is read as it is
 pub unary_plain : {bytes : List ℕ} {ts : List Token} {s : Scope} {i j : ℕ} {x : Formula} → Reads bytes ts s Power i j x
     → (Is ts i Minus → ⊥) → Reads bytes ts s Unary i j x
 unary_plain r n = record { same = λ to e d st. base_same d st r n; within = r.within; later = r.later }
@@ -263,6 +274,7 @@ minus_same : {bytes : List ℕ} {ts : List Token} {s : Scope} {i j to : ℕ} {e 
 minus_same (base d) st m r = absurd (power_first d m)
 minus_same {ts = ts} {i = i} {to = to} (minus {e = e} n d) st m r = let q = r.same to e d st in (q.0, ap (λ (w : Formula). FNeg (span_at ts i) w) q.1)
 
+-- a minus and its operand are read as a negation
 pub unary_minus : {bytes : List ℕ} {ts : List Token} {s : Scope} {i j : ℕ} {x y : Formula} {sp : Span}
     → Is ts i Minus → Reads bytes ts s Unary (i + 1) j x → sp ≡ span_at ts i → y ≡ FNeg sp x → Reads bytes ts s Unary i j y
 unary_minus m r p q =
@@ -276,6 +288,7 @@ record Goes (bytes : List ℕ) (ts : List Token) (s : Scope) (i to : ℕ) (e : T
   on : Derives ts (Factors tree) i to e
   means : resolved bytes s tree ≡ x
 
+-- a product of this meaning was read up to place i
 pub record Products (bytes : List ℕ) (ts : List Token) (s : Scope) (at i : ℕ) (x : Formula) : Type 0 where
   goes : (to : ℕ) (e : Tree) → Derives ts Term at to e → Stops ts Term to → Goes bytes ts s i to e x
   pub within : i ≤ length ts
@@ -296,6 +309,7 @@ begin_product {ts = ts} {to = to} {e = e} (term {j = j} {f = f} d r) st x =
     let m = x.same j f d (factors_stop r st) in
     record { tree = f; on = subst (λ (w : ℕ). Derives ts (Factors f) w to e) (sym m.0) r; means = m.1 }
 
+-- a factor begins a product
 pub products_begin : {bytes : List ℕ} {ts : List Token} {s : Scope} {at i : ℕ} {x : Formula} → Reads bytes ts s Unary at i x → Products bytes ts s at i x
 products_begin r = record { goes = λ to e d st. begin_product d st r; within = r.within; later = r.later }
 
@@ -310,27 +324,31 @@ pub factor_tree : {bytes : List ℕ} {ts : List Token} {s : Scope} {at i : ℕ} 
     → Products bytes ts s at i x → Is ts i Star → HasTree bytes ts s Unary (i + 1)
 factor_tree t p m = let g = p.goes t.to t.tree t.derives t.stops in tree_at (factor_of g.on t.stops t.fit m)
 
-times_goes : {bytes : List ℕ} {ts : List Token} {s : Scope} {i j to : ℕ} {e f : Tree} {x y : Formula} → Derives ts (Factors f) i to e
-    → Stops ts Term to → Is ts i Star → resolved bytes s f ≡ x → Reads bytes ts s Unary (suc i) j y
-    → Goes bytes ts s j to e (FMul (span_at ts i) x y)
-times_goes no_factor st h q r = absurd (never Star h st (λ h. omega arith))
-times_goes {ts = ts} {i = i} {to = to} {e = e} {f = f} (times {j = k} {g = g} t d n) st h q r =
-    let m = r.same k g d (factors_stop n st) in
+-- an operator at place i, and after it an operand that is read up to place j
+pub record Operand (bytes : List ℕ) (ts : List Token) (s : Scope) (k : Kind) (o : Sort) (i j : ℕ) (x : Formula) : Type 0 where
+  pub sign : Is ts i k
+  pub read : Reads bytes ts s o (i + 1) j x
+
+times_goes : {bytes : List ℕ} {ts : List Token} {s : Scope} {i j to : ℕ} {e f : Tree} {y : Formula} → Derives ts (Factors f) i to e
+    → Stops ts Term to → Operand bytes ts s Star Unary i j y → Goes bytes ts s j to e (FMul (span_at ts i) (resolved bytes s f) y)
+times_goes no_factor st h = absurd (never Star h.sign st (λ h. omega arith))
+times_goes {ts = ts} {i = i} {to = to} {e = e} {f = f} (times {j = k} {g = g} t d n) st h =
+    let m = (from_next h.read).same k g d (factors_stop n st) in
     record {
       tree = TMul (span_at ts i) f g;
       on = subst (λ (w : ℕ). Derives ts (Factors (TMul (span_at ts i) f g)) w to e) (sym m.0) n;
-      means = rw (q, m.1) refl;
+      means = rw m.1 refl;
     }
 
 -- a product with one more factor
-pub products_times : {bytes : List ℕ} {ts : List Token} {s : Scope} {at i end : ℕ} {x y z : Formula} {sp : Span}
-    → Products bytes ts s at i x → Is ts i Star → Reads bytes ts s Unary (i + 1) end y → sp ≡ span_at ts i → z ≡ FMul sp x y → Products bytes ts s at end z
-products_times {bytes = bytes} {ts = ts} {s = s} {end = end} l h r p q =
+pub products_times : {bytes : List ℕ} {ts : List Token} {s : Scope} {at i end : ℕ} {x y z : Formula} → Products bytes ts s at i x
+    → Operand bytes ts s Star Unary i end y → z ≡ FMul (span_at ts i) x y → Products bytes ts s at end z
+products_times {bytes = bytes} {ts = ts} {s = s} {i = i} {end = end} {y = y} l h q =
     record {
       goes = λ to e d st. let g = l.goes to e d st in
-          subst (λ (w : Formula). Goes bytes ts s end to e w) (rw (← p) (sym q)) (times_goes g.on st h g.means (from_next r));
-      within = r.within;
-      later = omega (arith, l.later, r.later);
+          subst (λ (w : Formula). Goes bytes ts s end to e w) (ap (λ (w : Formula). FMul (span_at ts i) w y) g.means ∙ sym q) (times_goes g.on st h);
+      within = h.read.within;
+      later = omega (arith, l.later, h.read.later);
     }
 
 end_product : (bytes : List ℕ) (s : Scope) {ts : List Token} {i to : ℕ} {e f : Tree} {x : Formula} → Derives ts (Factors f) i to e
@@ -352,6 +370,7 @@ record Joins (bytes : List ℕ) (ts : List Token) (s : Scope) (i to : ℕ) (e : 
   on : Derives ts (Terms tree) i to e
   means : resolved bytes s tree ≡ x
 
+-- a sum of this meaning was read up to place i
 pub record Sums (bytes : List ℕ) (ts : List Token) (s : Scope) (at i : ℕ) (x : Formula) : Type 0 where
   goes : (to : ℕ) (e : Tree) → Derives ts Sum at to e → Stops ts Sum to → Joins bytes ts s i to e x
   pub within : i ≤ length ts
@@ -372,6 +391,7 @@ begin_sum {ts = ts} {to = to} {e = e} (sum {j = j} {f = f} d r) st x =
     let m = x.same j f d (terms_stop r st) in
     record { tree = f; on = subst (λ (w : ℕ). Derives ts (Terms f) w to e) (sym m.0) r; means = m.1 }
 
+-- a term begins a sum
 pub sums_begin : {bytes : List ℕ} {ts : List Token} {s : Scope} {at i : ℕ} {x : Formula} → Reads bytes ts s Term at i x → Sums bytes ts s at i x
 sums_begin r = record { goes = λ to e d st. begin_sum d st r; within = r.within; later = r.later }
 
@@ -399,44 +419,42 @@ pub less_tree : {bytes : List ℕ} {ts : List Token} {s : Scope} {at i : ℕ} {x
     → Is ts i Minus → HasTree bytes ts s Term (i + 1)
 less_tree t p m = let g = p.goes t.to t.tree t.derives t.stops in tree_at (less_of g.on t.stops t.fit m)
 
-plus_goes : {bytes : List ℕ} {ts : List Token} {s : Scope} {i j to : ℕ} {e f : Tree} {x y : Formula} → Derives ts (Terms f) i to e
-    → Stops ts Sum to → Is ts i Plus → resolved bytes s f ≡ x → Reads bytes ts s Term (suc i) j y
-    → Joins bytes ts s j to e (FAdd (span_at ts i) x y)
-plus_goes no_term st h q r = absurd (never Plus h st (λ h. omega arith))
-plus_goes {ts = ts} {i = i} {to = to} {e = e} {f = f} (plus {j = k} {g = g} t d n) st h q r =
-    let m = r.same k g d (terms_stop n st) in
-    record { tree = TAdd (span_at ts i) f g; on = subst (λ (w : ℕ). Derives ts (Terms (TAdd (span_at ts i) f g)) w to e) (sym m.0) n; means = rw (q, m.1) refl }
-plus_goes (less t d n) st h q r = absurd (cc)
+plus_goes : {bytes : List ℕ} {ts : List Token} {s : Scope} {i j to : ℕ} {e f : Tree} {y : Formula} → Derives ts (Terms f) i to e
+    → Stops ts Sum to → Operand bytes ts s Plus Term i j y → Joins bytes ts s j to e (FAdd (span_at ts i) (resolved bytes s f) y)
+plus_goes no_term st h = absurd (never Plus h.sign st (λ h. omega arith))
+plus_goes {ts = ts} {i = i} {to = to} {e = e} {f = f} (plus {j = k} {g = g} t d n) st h =
+    let m = (from_next h.read).same k g d (terms_stop n st) in
+    record { tree = TAdd (span_at ts i) f g; on = subst (λ (w : ℕ). Derives ts (Terms (TAdd (span_at ts i) f g)) w to e) (sym m.0) n; means = rw m.1 refl }
+plus_goes (less t d n) st h = let p = h.sign in absurd (cc)
 
-less_goes : {bytes : List ℕ} {ts : List Token} {s : Scope} {i j to : ℕ} {e f : Tree} {x y : Formula} → Derives ts (Terms f) i to e
-    → Stops ts Sum to → Is ts i Minus → resolved bytes s f ≡ x → Reads bytes ts s Term (suc i) j y
-    → Joins bytes ts s j to e (FSub (span_at ts i) x y)
-less_goes no_term st h q r = absurd (never Minus h st (λ h. omega arith))
-less_goes (plus t d n) st h q r = absurd (cc)
-less_goes {ts = ts} {i = i} {to = to} {e = e} {f = f} (less {j = k} {g = g} t d n) st h q r =
-    let m = r.same k g d (terms_stop n st) in
-    record { tree = TSub (span_at ts i) f g; on = subst (λ (w : ℕ). Derives ts (Terms (TSub (span_at ts i) f g)) w to e) (sym m.0) n; means = rw (q, m.1) refl }
+less_goes : {bytes : List ℕ} {ts : List Token} {s : Scope} {i j to : ℕ} {e f : Tree} {y : Formula} → Derives ts (Terms f) i to e
+    → Stops ts Sum to → Operand bytes ts s Minus Term i j y → Joins bytes ts s j to e (FSub (span_at ts i) (resolved bytes s f) y)
+less_goes no_term st h = absurd (never Minus h.sign st (λ h. omega arith))
+less_goes (plus t d n) st h = let p = h.sign in absurd (cc)
+less_goes {ts = ts} {i = i} {to = to} {e = e} {f = f} (less {j = k} {g = g} t d n) st h =
+    let m = (from_next h.read).same k g d (terms_stop n st) in
+    record { tree = TSub (span_at ts i) f g; on = subst (λ (w : ℕ). Derives ts (Terms (TSub (span_at ts i) f g)) w to e) (sym m.0) n; means = rw m.1 refl }
 
 -- a sum with one more term
-pub sums_plus : {bytes : List ℕ} {ts : List Token} {s : Scope} {at i end : ℕ} {x y z : Formula} {sp : Span}
-    → Sums bytes ts s at i x → Is ts i Plus → Reads bytes ts s Term (i + 1) end y → sp ≡ span_at ts i → z ≡ FAdd sp x y → Sums bytes ts s at end z
-sums_plus {bytes = bytes} {ts = ts} {s = s} {end = end} l h r p q =
+pub sums_plus : {bytes : List ℕ} {ts : List Token} {s : Scope} {at i end : ℕ} {x y : Formula} → Sums bytes ts s at i x
+    → Operand bytes ts s Plus Term i end y → Sums bytes ts s at end (FAdd (span_at ts i) x y)
+sums_plus {bytes = bytes} {ts = ts} {s = s} {i = i} {end = end} {y = y} l h =
     record {
       goes = λ to e d st. let g = l.goes to e d st in
-          subst (λ (w : Formula). Joins bytes ts s end to e w) (rw (← p) (sym q)) (plus_goes g.on st h g.means (from_next r));
-      within = r.within;
-      later = omega (arith, l.later, r.later);
+          subst (λ (w : Formula). Joins bytes ts s end to e w) (ap (λ (w : Formula). FAdd (span_at ts i) w y) g.means) (plus_goes g.on st h);
+      within = h.read.within;
+      later = omega (arith, l.later, h.read.later);
     }
 
 -- a sum with one term less
-pub sums_less : {bytes : List ℕ} {ts : List Token} {s : Scope} {at i end : ℕ} {x y z : Formula} {sp : Span}
-    → Sums bytes ts s at i x → Is ts i Minus → Reads bytes ts s Term (i + 1) end y → sp ≡ span_at ts i → z ≡ FSub sp x y → Sums bytes ts s at end z
-sums_less {bytes = bytes} {ts = ts} {s = s} {end = end} l h r p q =
+pub sums_less : {bytes : List ℕ} {ts : List Token} {s : Scope} {at i end : ℕ} {x y : Formula} → Sums bytes ts s at i x
+    → Operand bytes ts s Minus Term i end y → Sums bytes ts s at end (FSub (span_at ts i) x y)
+sums_less {bytes = bytes} {ts = ts} {s = s} {i = i} {end = end} {y = y} l h =
     record {
       goes = λ to e d st. let g = l.goes to e d st in
-          subst (λ (w : Formula). Joins bytes ts s end to e w) (rw (← p) (sym q)) (less_goes g.on st h g.means (from_next r));
-      within = r.within;
-      later = omega (arith, l.later, r.later);
+          subst (λ (w : Formula). Joins bytes ts s end to e w) (ap (λ (w : Formula). FSub (span_at ts i) w y) g.means) (less_goes g.on st h);
+      within = h.read.within;
+      later = omega (arith, l.later, h.read.later);
     }
 
 -- a place with a sign is within the tokens
@@ -453,12 +471,20 @@ sign_tree t p (inr h) = less_tree t p h
 not_both : (ts : List Token) (i : ℕ) → Is ts i Minus → Is ts i Plus → ⊥
 not_both ts i h p = absurd (cc)
 
+-- a sign at place i, after it a term that is read up to place j, and what they make of x
+pub record Signed (bytes : List ℕ) (ts : List Token) (s : Scope) (i j : ℕ) (x y z : Formula) : Type 0 where
+  pub sign : Is ts i Plus ⊎ Is ts i Minus
+  pub read : Reads bytes ts s Term (i + 1) j y
+  pub plus : Is ts i Plus → z ≡ FAdd (span_at ts i) x y
+  pub minus : (Is ts i Plus → ⊥) → z ≡ FSub (span_at ts i) x y
+
 -- a sum that goes on by a sign and a term
-pub sums_next : {bytes : List ℕ} {ts : List Token} {s : Scope} {at i end e : ℕ} {x y z : Formula}
-    → Sums bytes ts s at i x → Is ts i Plus ⊎ Is ts i Minus → Reads bytes ts s Term (i + 1) end y
-    → (Is ts i Plus → z ≡ FAdd (span_at ts i) x y) → ((Is ts i Plus → ⊥) → z ≡ FSub (span_at ts i) x y) → e ≡ end → Sums bytes ts s at e z
-sums_next l (inl h) r p m q = rw q (sums_plus l h r refl (p h))
-sums_next {ts = ts} {i = i} l (inr h) r p m q = rw q (sums_less l h r refl (m (not_both ts i h)))
+pub sums_next : {bytes : List ℕ} {ts : List Token} {s : Scope} {at i end : ℕ} {x y z : Formula} → Sums bytes ts s at i x
+    → Signed bytes ts s i end x y z → Sums bytes ts s at end z
+sums_next {bytes = bytes} {ts = ts} {s = s} {at = at} {i = i} {end = end} l g = elim g.sign [
+  | inl h ↦ subst (λ (w : Formula). Sums bytes ts s at end w) (sym (g.plus h)) (sums_plus l (record { sign = h; read = g.read }))
+  | inr h ↦ subst (λ (w : Formula). Sums bytes ts s at end w) (sym (g.minus (not_both ts i h))) (sums_less l (record { sign = h; read = g.read }))
+]
 
 end_sum : (bytes : List ℕ) (s : Scope) {ts : List Token} {i to : ℕ} {e f : Tree} {x : Formula} → Derives ts (Terms f) i to e
     → (Is ts i Plus → ⊥) → (Is ts i Minus → ⊥) → resolved bytes s f ≡ x → (i ≡ to) × (resolved bytes s e ≡ x)

@@ -41,25 +41,32 @@ Meant bytes s (WSub e f) = Meant bytes s e × Meant bytes s f
 Meant bytes s (WMul e f) = Meant bytes s e × Meant bytes s f
 Meant bytes s (WPow e n) = Meant bytes s e × (n ≤ 16)
 
+-- visits without a fault, and more of them, have none
 pub clean_join : (bytes : List ℕ) (vs ws : List Visit) → Clean bytes vs → Clean bytes ws → Clean bytes (vs ++ ws)
 clean_join bytes [] ws c d = d
 clean_join bytes (v ∷ vs) ws c d = (c.0, clean_join bytes vs ws c.1 d)
 
+-- where its test is false there is no fault
 pub none_one : (a : Bool) (f : Fault) → a ≡ false → cond a (Some f) None ≡ None
 none_one a f h = rw h refl
 
+-- nor is there one where two tests are
 pub none_two : (a b : Bool) (f g : Fault) → a ≡ false → b ≡ false → cond a (Some f) (cond b (Some g) None) ≡ None
 none_two a b f g h i = rw (h, i) refl
 
+-- nor where three are
 pub none_three : (a b c : Bool) (f g k : Fault) → a ≡ false → b ≡ false → c ≡ false → cond a (Some f) (cond b (Some g) (cond c (Some k) None)) ≡ None
 none_three a b c f g k h i j = rw (h, i, j) refl
 
+-- a number isn't below one that is at most it
 pub not_over : (a b : ℕ) → b ≤ a → nat_lt a b ≡ false
 not_over a b h = grind (arith, nat_tests)
 
+-- and doesn't equal one that is above it
 pub not_at : (n m : ℕ) → n < m → (n == m) ≡ false
 not_at n m h = grind (arith, nat_tests)
 
+-- the negation of a test that is true is false
 pub known_not : (a : Bool) → a ≡ true → not a ≡ false
 known_not a h = rw h refl
 

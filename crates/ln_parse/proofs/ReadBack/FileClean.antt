@@ -18,21 +18,24 @@ use Rattle.ln_names.specs.Rules.{SiteName, ParamName, PredName, fault_at}
 use Rattle.ln_names.specs.Visits.{visits_by, range_visits, coord_visits, item_visits}
 use Rattle.ln_names.specs.First.{Clean}
 use Rattle.ln_tree.specs.Table.{CoordOf, SiteOf, PredOf, TableOf}
+use Rattle.ln_tree.specs.Whole.{item_names}
 use Rattle.ln_parse.specs.Says.{ranged, sites_said, params_said, PredsSay}
 use Rattle.ln_parse.specs.ReadsBack.{Every}
 use Rattle.ln_parse.specs.Spanless.{pred_spanless}
-use Rattle.ln_parse.specs.WholeTable.{IsShortName, SiteNames, PredKept}
-use Rattle.ln_parse.proofs.Texts.ItemsBack.{PredsLike, ParamsLike, SitesLike}
+use Rattle.ln_parse.specs.WholeTable.{IsShortName, SiteNames, PredKept, IsWhole}
+use Rattle.ln_parse.proofs.Texts.ItemsBack.{SitesLike}
+use Rattle.ln_parse.proofs.Building.Predicates.{PredAt}
 use Rattle.ln_parse.proofs.Building.Kept.{sites_append, params_append}
 use Rattle.ln_parse.proofs.Building.LaidOut.{count_cons, count_append}
 use Rattle.ln_parse.proofs.Expressions.Roles.{fresh_behind}
 use Rattle.ln_parse.proofs.ReadBack.NamePlaces.{Differ}
 use Rattle.ln_parse.proofs.ReadBack.CleanValue.{clean_join, none_two, none_three, not_over, not_at}
+use Rattle.ln_parse.proofs.ReadBack.ScopeNames.{differ_left, differ_right}
 use Rattle.ln_parse.proofs.ReadBack.ValueBack.{any_map, new_behind}
-use Rattle.ln_parse.proofs.ReadBack.ArgsBack.{Declared}
+use Rattle.ln_parse.proofs.ReadBack.ArgsBack.{Facts, Declared}
 use Rattle.ln_parse.proofs.ReadBack.PredBack.{pred_back}
 use Rattle.ln_parse.proofs.Wholes.TestLemmas.{in_order, one_if}
-use Rattle.ln_parse.proofs.Wholes.WholeParts.{InRange, SiteParts, PredParts}
+use Rattle.ln_parse.proofs.Wholes.WholeParts.{InRange, SiteParts, PredParts, TableParts}
 
 in_end : (b : Bool) (n : ℕ) → unsigned_abs (signed b n) < 2 ^ 63 → n < 2 ^ 63
 in_end true n h = grind (arith, nat_tests, ints)
@@ -92,99 +95,139 @@ coords_clean bytes before (x ∷ raws) names (c ∷ cs) e r s bn df l =
 abbrev name_of : List ℕ → Item → List ℕ
 name_of bytes i = text bytes (item_name i)
 
--- an item's name is none of those before it
-item_new : (bytes : List ℕ) (before : List Item) (x : Item) (names more : List (List ℕ)) (n : List ℕ) → map (name_of bytes) before ≡ names
-    → name_of bytes x ≡ n → Differ (names ++ (n ∷ more)) → list_any (λ i. same bytes (item_name i) (item_name x)) before ≡ false
-item_new bytes before x names more n bn e df =
-    let k : list_any (λ (i : Item). bytes_eq (name_of bytes i) n) before ≡ false =
-    any_map (name_of bytes) n before ∙ ap (list_any (λ u. bytes_eq u n)) bn ∙ new_behind names more n df in
-    subst (λ (z : List ℕ). list_any (λ (i : Item). bytes_eq (name_of bytes i) z) before ≡ false) (sym e) k
+-- the table of these site types, params and predicates
+abbrev these : List SiteOf → List CoordOf → List PredOf → TableOf
+these ss cs ps = record { sites = ss; params = cs; preds = ps }
 
--- what the items before a place have, and what is still to come
-record Before (bytes : List ℕ) (t : TableOf) (before : List Item) (names more : List (List ℕ)) (ss : List SiteOf) (cs : List CoordOf)
-    (ps : List PredOf) : Type 0 where
-  named : map (name_of bytes) before ≡ names
-  differ : Differ (names ++ more)
-  few_sites : count_by is_site before + length ss ≤ 16
-  few_params : count_by is_param before + length cs ≤ 16
-  few_preds : count_by is_pred before + length ps ≤ 16
-  sites : sites_said bytes before ++ ss ≡ t.sites
-  params : params_said bytes before ++ cs ≡ t.params
+-- the items before a place are a whole table together with the rest of it
+record Before (bytes : List ℕ) (t : TableOf) (before : List Item) (rest : TableOf) : Type 0 where
+  differ : Differ (map (name_of bytes) before ++ item_names rest)
+  few_sites : count_by is_site before + length rest.sites ≤ 16
+  few_params : count_by is_param before + length rest.params ≤ 16
+  few_preds : count_by is_pred before + length rest.preds ≤ 16
+  sites : sites_said bytes before ++ rest.sites ≡ t.sites
+  params : params_said bytes before ++ rest.params ≡ t.params
 
--- the facts of a table's parts
-pub record Facts (t : TableOf) : Type 0 where
-  pub site_names : Differ (map (λ (x : SiteOf). x.name) t.sites)
-  pub param_names : Differ (map (λ (x : CoordOf). x.name) t.params)
-  pub short_sites : Every SiteNames t.sites
-  pub short_params : Every (λ c. IsShortName c.name) t.params
-  pub site_parts : Every SiteParts t.sites
+-- an item is the first of the rest of a table, and after it this remains
+record First (bytes : List ℕ) (x : Item) (rest after : TableOf) : Type 0 where
+  named : item_names rest ≡ name_of bytes x ∷ item_names after
+  sites : sites_said bytes (x ∷ []) ++ after.sites ≡ rest.sites
+  params : params_said bytes (x ∷ []) ++ after.params ≡ rest.params
+  site_count : one_if (is_site x) + length after.sites ≡ length rest.sites
+  param_count : one_if (is_param x) + length after.params ≡ length rest.params
+  pred_count : one_if (is_pred x) + length after.preds ≡ length rest.preds
+
+-- the parts in the rest of a table are whole, and their names short
+record Good (t rest : TableOf) : Type 0 where
+  facts : Facts t
+  sites : Every SiteParts rest.sites
+  site_names : Every SiteNames rest.sites
+  ranges : Every InRange rest.params
+  param_names : Every (λ c. IsShortName c.name) rest.params
+  kept : Every PredKept rest.preds
+  preds : Every (PredParts t.sites t.params) rest.preds
+
+-- a place among the items: those before it, and the remaining ones, which are written as the rest of the table
+record RemainingItems (bytes : List ℕ) (ts : List Token) (t : TableOf) (before is : List Item) (rest : TableOf) : Type 0 where
+  like : SitesLike bytes ts t is rest.sites rest.params rest.preds
+  good : Good t rest
+  so_far : Before bytes t before rest
 
 -- items say predicates that are the table's but for spans
-pub record ItemsDone (bytes : List ℕ) (ts : List Token) (t : TableOf) (before is : List Item) (ss : List SiteOf) (cs : List CoordOf)
-    (ps : List PredOf) : Type 0 where
+pub record ItemsDone (bytes : List ℕ) (ts : List Token) (t : TableOf) (before is : List Item) (ps : List PredOf) : Type 0 where
   pub preds : List PredOf
   pub say : (u : TableOf) → u.sites ≡ t.sites → u.params ≡ t.params → PredsSay bytes ts before u is preds
   pub same : map pred_spanless preds ≡ map pred_spanless ps
   pub clean : Clean bytes (visits_by (item_visits ts) before is)
 
-pushed : {A : Type 0} (p : A → Bool) (before : List A) (x : A) (b : Bool) → p x ≡ b → count_by p (before ++ (x ∷ [])) ≡ count_by p before + one_if b
-pushed p before x b h =
+-- an item's name is none of those before it
+item_new : (bytes : List ℕ) (t : TableOf) (before : List Item) (x : Item) (rest after : TableOf) → First bytes x rest after
+    → Before bytes t before rest → list_any (λ i. same bytes (item_name i) (item_name x)) before ≡ false
+item_new bytes t before x rest after f b =
+    let df : Differ (map (name_of bytes) before ++ (name_of bytes x ∷ item_names after)) =
+    subst (λ (w : List (List ℕ)). Differ (map (name_of bytes) before ++ w)) f.named b.differ in
+    any_map (name_of bytes) (name_of bytes x) before ∙ new_behind (map (name_of bytes) before) (item_names after) (name_of bytes x) df
+
+pushed : {A : Type 0} (p : A → Bool) (before : List A) (x : A) → count_by p (before ++ (x ∷ [])) ≡ count_by p before + one_if (p x)
+pushed p before x =
     let a1 = count_append p before (x ∷ []) in
     let a2 = count_cons p x [] in
-    let a3 : count_by p [] ≡ 0 = refl in
-    let a4 : one_if (p x) ≡ one_if b = ap one_if h in omega arith
+    let a3 : count_by p [] ≡ 0 = refl in omega arith
 
 -- one more item comes before
-push : (bytes : List ℕ) (t : TableOf) (before : List Item) (names more : List (List ℕ)) (n : List ℕ) (x : Item) (a b c : Bool)
-    (ss : List SiteOf) (cs : List CoordOf) (ps : List PredOf) (ss' : List SiteOf) (cs' : List CoordOf) (ps' : List PredOf)
-    → is_site x ≡ a → is_param x ≡ b → is_pred x ≡ c → one_if a + length ss' ≡ length ss → one_if b + length cs' ≡ length cs
-    → one_if c + length ps' ≡ length ps → sites_said bytes (x ∷ []) ++ ss' ≡ ss → params_said bytes (x ∷ []) ++ cs' ≡ cs
-    → name_of bytes x ≡ n → Before bytes t before names (n ∷ more) ss cs ps → Before bytes t (before ++ (x ∷ [])) (names ++ (n ∷ [])) more ss' cs' ps'
-push bytes t before names more n x a b c ss cs ps ss' cs' ps' e f g i j k s p m h =
-    let a1 = pushed is_site before x a e in let b1 = pushed is_param before x b f in let c1 = pushed is_pred before x c g in
-    let a2 = h.few_sites in let b2 = h.few_params in let c2 = h.few_preds in
+push : (bytes : List ℕ) (t : TableOf) (before : List Item) (x : Item) (rest after : TableOf) → First bytes x rest after
+    → Before bytes t before rest → Before bytes t (before ++ (x ∷ [])) after
+push bytes t before x rest after f b =
+    let a1 = pushed is_site before x in let b1 = pushed is_param before x in let c1 = pushed is_pred before x in
+    let a2 = b.few_sites in let b2 = b.few_params in let c2 = b.few_preds in
+    let a3 = f.site_count in let b3 = f.param_count in let c3 = f.pred_count in
+    let names = map (name_of bytes) before in
+    let q : names ++ item_names rest ≡ map (name_of bytes) (before ++ (x ∷ [])) ++ item_names after =
+    ap (λ (w : List (List ℕ)). names ++ w) f.named ∙ sym (append_assoc names (name_of bytes x ∷ []) (item_names after))
+    ∙ ap (λ (w : List (List ℕ)). w ++ item_names after) (sym (map-append (name_of bytes) before (x ∷ []))) in
     record {
-      named = map-append (name_of bytes) before (x ∷ []) ∙ (let nn = h.named in rw (nn, m) refl);
-      differ = subst (λ (w : List (List ℕ)). Differ w) (sym (append_assoc names (n ∷ []) more)) h.differ;
+      differ = subst (λ (w : List (List ℕ)). Differ w) q b.differ;
       few_sites = omega arith;
       few_params = omega arith;
       few_preds = omega arith;
-      sites = ap (λ (w : List SiteOf). w ++ ss') (sites_append bytes before (x ∷ []))
-          ∙ append_assoc (sites_said bytes before) (sites_said bytes (x ∷ [])) ss' ∙ ap (λ (w : List SiteOf). sites_said bytes before ++ w) s ∙ h.sites;
-      params = ap (λ (w : List CoordOf). w ++ cs') (params_append bytes before (x ∷ [])) ∙ append_assoc (params_said bytes before)
-          (params_said bytes (x ∷ [])) cs' ∙ ap (λ (w : List CoordOf). params_said bytes before ++ w) p ∙ h.params;
+      sites = ap (λ (w : List SiteOf). w ++ after.sites) (sites_append bytes before (x ∷ []))
+          ∙ append_assoc (sites_said bytes before) (sites_said bytes (x ∷ [])) after.sites
+          ∙ ap (λ (w : List SiteOf). sites_said bytes before ++ w) f.sites ∙ b.sites;
+      params = ap (λ (w : List CoordOf). w ++ after.params) (params_append bytes before (x ∷ []))
+          ∙ append_assoc (params_said bytes before) (params_said bytes (x ∷ [])) after.params
+          ∙ ap (λ (w : List CoordOf). params_said bytes before ++ w) f.params ∙ b.params;
     }
 
-preds_done : (bytes : List ℕ) (ts : List Token) (t : TableOf) → Facts t → (before : List Item) {i k : ℕ} {is : List Item}
-    → file.Items ts i k is → (names : List (List ℕ)) (ps : List PredOf) → PredsLike bytes ts t is ps → Every PredKept ps
-    → Every (PredParts t.sites t.params) ps → Before bytes t before names (map (λ (q : PredOf). q.name) ps) [] [] ps → ItemsDone bytes ts t before is [] [] ps
-preds_done bytes ts t fa before file.no_item names [] w k h b = record { preds = []; say = λ u s p. tt; same = refl; clean = tt }
-preds_done bytes ts t fa before file.no_item names (p ∷ ps) w k h b = absurd w
-preds_done bytes ts t fa before (file.an_item (file.site a c e f g) r) names [] w k h b = absurd w
-preds_done bytes ts t fa before (file.an_item (file.site a c e f g) r) names (p ∷ ps) w k h b = absurd w
-preds_done bytes ts t fa before (file.an_item (file.param a c e f g) r) names [] w k h b = absurd w
-preds_done bytes ts t fa before (file.an_item (file.param a c e f g) r) names (p ∷ ps) w k h b = absurd w
-preds_done bytes ts t fa before (file.an_item (file.predicate a1 a2 a3 a4 a5 a6 a7 a8 a9 b1 b2) r) names [] w k h b = absurd w
-preds_done bytes ts t fa before (file.an_item {x = x} {xs = xs}
-    (file.predicate {i = i} {k = kk} {l = l} {args = raws} {ls = ls} a1 a2 a3 a4 a5 a6 a7 a8 a9 b1 b2) r) names (p ∷ ps) w k h b =
+preds_done : (bytes : List ℕ) (ts : List Token) (t : TableOf) (before : List Item) {i k : ℕ} {is : List Item} → file.Items ts i k is
+    → (ps : List PredOf) → RemainingItems bytes ts t before is (these [] [] ps) → ItemsDone bytes ts t before is ps
+preds_done bytes ts t before file.no_item [] h = record { preds = []; say = λ u s p. tt; same = refl; clean = tt }
+preds_done bytes ts t before file.no_item (p ∷ ps) h = absurd h.like
+preds_done bytes ts t before (file.an_item (file.site a c e f g) r) [] h = absurd h.like
+preds_done bytes ts t before (file.an_item (file.site a c e f g) r) (p ∷ ps) h = absurd h.like
+preds_done bytes ts t before (file.an_item (file.param a c e f g) r) [] h = absurd h.like
+preds_done bytes ts t before (file.an_item (file.param a c e f g) r) (p ∷ ps) h = absurd h.like
+preds_done bytes ts t before (file.an_item (file.predicate a1 a2 a3 a4 a5 a6 a7 a8 a9 b1 b2) r) [] h = absurd h.like
+preds_done bytes ts t before (file.an_item {x = x} {xs = xs}
+    (file.predicate {i = i} {k = kk} {l = l} {args = raws} {ls = ls} a1 a2 a3 a4 a5 a6 a7 a8 a9 b1 b2) r) (p ∷ ps) h =
+    let w = h.like in
+    let g = h.good in
+    let b = h.so_far in
+    let k = g.kept in
+    let gp = g.preds in
     let d : Declared bytes before t = record {
       sites = sym (append-nil (sites_said bytes before)) ∙ b.sites;
       params = sym (append-nil (params_said bytes before)) ∙ b.params;
-      site_names = fa.site_names;
-      param_names = fa.param_names;
-      short_sites = fa.short_sites;
-      short_params = fa.short_params;
+      facts = g.facts;
     } in
-    let q = pred_back bytes ts before t d fa.site_parts _ raws ls (record { from = suc kk; to = l }) a7 (fresh_behind Sign a8 refl refl) p w.0 k.0 h.0 in
+    let here : PredAt = record {
+      bytes = bytes;
+      ts = ts;
+      before = before;
+      name = item_name x;
+      args = raws;
+      lets = ls;
+      root = record { from = suc kk; to = l };
+    } in
+    let q = pred_back here t p d a7 (fresh_behind Sign a8 refl refl) w.0 k.0 gp.0 in
     let n : name_of bytes x ≡ p.name = w.0.name_is in
-    let bb = push bytes t before names (map (λ (q : PredOf). q.name) ps) p.name x false false true [] []
-    (p ∷ ps) [] [] ps refl refl refl refl refl (omega arith) refl refl n b in
-    let y = preds_done bytes ts t fa (before ++ (x ∷ [])) r (names ++ (p.name ∷ [])) ps w.1 k.1 h.1 bb in
+    let first : First bytes x (these [] [] (p ∷ ps)) (these [] [] ps) = record {
+      named = ap (λ (z : List ℕ). z ∷ map (λ (q : PredOf). q.name) ps) (sym n);
+      sites = refl;
+      params = refl;
+      site_count = refl;
+      param_count = refl;
+      pred_count = omega arith;
+    } in
+    let y = preds_done bytes ts t (before ++ (x ∷ [])) r ps (record {
+      like = w.1;
+      good = record { facts = g.facts; sites = tt; site_names = tt; ranges = tt; param_names = tt; kept = k.1; preds = gp.1 };
+      so_far = push bytes t before x (these [] [] (p ∷ ps)) (these [] [] ps) first b;
+    }) in
     let few = b.few_preds in
     let sh : length (name_of bytes x) ≤ 32 = subst (λ (z : List ℕ). length z ≤ 32) (sym n) k.0.name.1 in
     let c : fault_at bytes (PredName before) (item_name x) ≡ None = none_three (nat_lt 32 (length (name_of bytes x))) (count_by is_pred before == 16)
     (list_any (λ i. same bytes (item_name i) (item_name x)) before) _ _ _ (not_over 32 _ sh) (not_at (count_by is_pred before) 16 (omega arith))
-    (item_new bytes before x names (map (λ (q : PredOf). q.name) ps) p.name b.named n b.differ) in
+    (item_new bytes t before x (these [] [] (p ∷ ps)) (these [] [] ps) first b) in
     record {
       preds = q.pred ∷ y.preds;
       say = λ u s m. (q.says u s m, y.say u s m);
@@ -192,27 +235,38 @@ preds_done bytes ts t fa before (file.an_item {x = x} {xs = xs}
       clean = (c, clean_join bytes _ _ q.clean y.clean);
     }
 
-params_done : (bytes : List ℕ) (ts : List Token) (t : TableOf) → Facts t → (before : List Item) {i k : ℕ} {is : List Item}
-    → file.Items ts i k is → (names : List (List ℕ)) (cs : List CoordOf) (ps : List PredOf) → ParamsLike bytes ts t is cs ps → Every InRange cs
-    → Every (λ c. IsShortName c.name) cs → Every PredKept ps → Every (PredParts t.sites t.params) ps
-    → Before bytes t before names (map (λ (c : CoordOf). c.name) cs ++ map (λ (q : PredOf). q.name) ps) [] cs ps → ItemsDone bytes ts t before is [] cs ps
-params_done bytes ts t fa before d names [] ps w r0 s0 k h b =
-    let y = preds_done bytes ts t fa before d names ps w k h b in
-    record { preds = y.preds; say = y.say; same = y.same; clean = y.clean }
-params_done bytes ts t fa before file.no_item names (c ∷ cs) ps w r0 s0 k h b = absurd w
-params_done bytes ts t fa before (file.an_item (file.site a1 a2 a3 a4 a5) r) names (c ∷ cs) ps w r0 s0 k h b = absurd w
-params_done bytes ts t fa before (file.an_item (file.predicate a1 a2 a3 a4 a5 a6 a7 a8 a9 b1 b2) r) names (c ∷ cs) ps w r0 s0 k h b = absurd w
-params_done bytes ts t fa before (file.an_item {x = x} {xs = xs} (file.param {r = rr} a1 a2 a3 a4 a5) r) names (c ∷ cs) ps w r0 s0 k h b =
+params_done : (bytes : List ℕ) (ts : List Token) (t : TableOf) (before : List Item) {i k : ℕ} {is : List Item} → file.Items ts i k is
+    → (cs : List CoordOf) (ps : List PredOf) → RemainingItems bytes ts t before is (these [] cs ps) → ItemsDone bytes ts t before is ps
+params_done bytes ts t before d [] ps h = preds_done bytes ts t before d ps h
+params_done bytes ts t before file.no_item (c ∷ cs) ps h = absurd h.like
+params_done bytes ts t before (file.an_item (file.site a1 a2 a3 a4 a5) r) (c ∷ cs) ps h = absurd h.like
+params_done bytes ts t before (file.an_item (file.predicate a1 a2 a3 a4 a5 a6 a7 a8 a9 b1 b2) r) (c ∷ cs) ps h = absurd h.like
+params_done bytes ts t before (file.an_item {x = x} {xs = xs} (file.param {r = rr} a1 a2 a3 a4 a5) r) (c ∷ cs) ps h =
+    let w = h.like in
+    let g = h.good in
+    let b = h.so_far in
+    let r0 = g.ranges in
+    let s0 = g.param_names in
     let n : name_of bytes x ≡ c.name = ap (λ (z : CoordOf). z.name) w.0 in
     let more = map (λ (c : CoordOf). c.name) cs ++ map (λ (q : PredOf). q.name) ps in
-    let bb = push bytes t before names more c.name x false true false [] (c ∷ cs) ps [] cs ps refl refl refl refl (omega arith)
-    (omega arith) refl (ap (λ (z : CoordOf). z ∷ cs) w.0) n b in
-    let y = params_done bytes ts t fa (before ++ (x ∷ [])) r (names ++ (c.name ∷ [])) cs ps w.1 r0.1 s0.1 k h bb in
+    let first : First bytes x (these [] (c ∷ cs) ps) (these [] cs ps) = record {
+      named = ap (λ (z : List ℕ). z ∷ more) (sym n);
+      sites = refl;
+      params = ap (λ (z : CoordOf). z ∷ cs) w.0;
+      site_count = refl;
+      param_count = omega arith;
+      pred_count = omega arith;
+    } in
+    let y = params_done bytes ts t (before ++ (x ∷ [])) r cs ps (record {
+      like = w.1;
+      good = record { facts = g.facts; sites = tt; site_names = tt; ranges = r0.1; param_names = s0.1; kept = g.kept; preds = g.preds };
+      so_far = push bytes t before x (these [] (c ∷ cs) ps) (these [] cs ps) first b;
+    }) in
     let few = b.few_params in
     let sh : length (name_of bytes x) ≤ 32 = subst (λ (z : List ℕ). length z ≤ 32) (sym n) s0.0.1 in
     let cl : fault_at bytes (ParamName before) (item_name x) ≡ None = none_three (nat_lt 32 (length (name_of bytes x))) (count_by is_param before == 16)
     (list_any (λ i. same bytes (item_name i) (item_name x)) before) _ _ _ (not_over 32 _ sh) (not_at (count_by is_param before) 16 (omega arith))
-    (item_new bytes before x names more c.name b.named n b.differ) in
+    (item_new bytes t before x (these [] (c ∷ cs) ps) (these [] cs ps) first b) in
     record {
       preds = y.preds;
       say = y.say;
@@ -220,45 +274,81 @@ params_done bytes ts t fa before (file.an_item {x = x} {xs = xs} (file.param {r 
       clean = (cl, clean_join bytes (range_visits rr) _ (range_clean bytes (item_name x) rr c w.0 r0.0) y.clean);
     }
 
-sites_done : (bytes : List ℕ) (ts : List Token) (t : TableOf) → Facts t → (before : List Item) {i k : ℕ} {is : List Item} → file.Items ts i k is
-    → (names : List (List ℕ)) (ss : List SiteOf) (cs : List CoordOf) (ps : List PredOf) → SitesLike bytes ts t is ss cs ps
-    → Every SiteParts ss → Every SiteNames ss → Every InRange cs → Every (λ c. IsShortName c.name) cs → Every PredKept ps
-    → Every (PredParts t.sites t.params) ps
-    → Before bytes t before names (map (λ (s : SiteOf). s.name) ss ++ (map (λ (c : CoordOf). c.name) cs ++ map (λ (q : PredOf). q.name) ps)) ss cs ps
-    → ItemsDone bytes ts t before is ss cs ps
-sites_done bytes ts t fa before d names [] cs ps w p0 n0 r0 s0 k h b =
-    let y = params_done bytes ts t fa before d names cs ps w r0 s0 k h b in
-    record { preds = y.preds; say = y.say; same = y.same; clean = y.clean }
-sites_done bytes ts t fa before file.no_item names (s ∷ ss) cs ps w p0 n0 r0 s0 k h b = absurd w
-sites_done bytes ts t fa before (file.an_item (file.param a1 a2 a3 a4 a5) r) names (s ∷ ss) cs ps w p0 n0 r0 s0 k h b = absurd w
-sites_done bytes ts t fa before (file.an_item (file.predicate a1 a2 a3 a4 a5 a6 a7 a8 a9 b1 b2) r) names (s ∷ ss) cs ps w p0 n0 r0 s0 k h b = absurd w
-sites_done bytes ts t fa before (file.an_item {x = x} {xs = xs} (file.site {c = rc} {cs = rcs} a1 a2 a3 a4 a5) r) names (s ∷ ss) cs ps w p0 n0 r0 s0 k h b =
+sites_done : (bytes : List ℕ) (ts : List Token) (t : TableOf) (before : List Item) {i k : ℕ} {is : List Item} → file.Items ts i k is
+    → (ss : List SiteOf) (cs : List CoordOf) (ps : List PredOf) → RemainingItems bytes ts t before is (these ss cs ps) → ItemsDone bytes ts t before is ps
+sites_done bytes ts t before d [] cs ps h = params_done bytes ts t before d cs ps h
+sites_done bytes ts t before file.no_item (s ∷ ss) cs ps h = absurd h.like
+sites_done bytes ts t before (file.an_item (file.param a1 a2 a3 a4 a5) r) (s ∷ ss) cs ps h = absurd h.like
+sites_done bytes ts t before (file.an_item (file.predicate a1 a2 a3 a4 a5 a6 a7 a8 a9 b1 b2) r) (s ∷ ss) cs ps h = absurd h.like
+sites_done bytes ts t before (file.an_item {x = x} {xs = xs} (file.site {c = rc} {cs = rcs} a1 a2 a3 a4 a5) r) (s ∷ ss) cs ps h =
+    let w = h.like in
+    let g = h.good in
+    let b = h.so_far in
+    let p0 = g.sites in
+    let n0 = g.site_names in
     let n : name_of bytes x ≡ s.name = w.0 in
     let more = map (λ (s : SiteOf). s.name) ss ++ (map (λ (c : CoordOf). c.name) cs ++ map (λ (q : PredOf). q.name) ps) in
-    let said : sites_said bytes (x ∷ []) ++ ss ≡ s ∷ ss = site_is (name_of bytes x) s.name (map (of_coord bytes) (rc ∷ rcs)) s.coords w.0 w.1 in
-    let bb = push bytes t before names more s.name x true false false (s ∷ ss) cs ps ss cs ps refl refl refl (omega arith) (omega arith)
-    (omega arith) said refl n b in
-    let y = sites_done bytes ts t fa (before ++ (x ∷ [])) r (names ++ (s.name ∷ [])) ss cs ps w.2 p0.1 n0.1 r0 s0 k h bb in
+    let first : First bytes x (these (s ∷ ss) cs ps) (these ss cs ps) = record {
+      named = ap (λ (z : List ℕ). z ∷ more) (sym n);
+      sites = site_is (name_of bytes x) s.name (map (of_coord bytes) (rc ∷ rcs)) s.coords w.0 w.1;
+      params = refl;
+      site_count = omega arith;
+      param_count = omega arith;
+      pred_count = omega arith;
+    } in
+    let y = sites_done bytes ts t (before ++ (x ∷ [])) r ss cs ps (record {
+      like = w.2;
+      good = record {
+        facts = g.facts;
+        sites = p0.1;
+        site_names = n0.1;
+        ranges = g.ranges;
+        param_names = g.param_names;
+        kept = g.kept;
+        preds = g.preds;
+      };
+      so_far = push bytes t before x (these (s ∷ ss) cs ps) (these ss cs ps) first b;
+    }) in
     let few = b.few_sites in
     let p1 = p0.0.few in
     let sh : length (name_of bytes x) ≤ 32 = subst (λ (z : List ℕ). length z ≤ 32) (sym n) n0.0.name.1 in
     let cl : fault_at bytes (SiteName before) (item_name x) ≡ None = none_three (nat_lt 32 (length (name_of bytes x))) (count_by is_site before == 16)
     (list_any (λ i. same bytes (item_name i) (item_name x)) before) _ _ _ (not_over 32 _ sh) (not_at (count_by is_site before) 16 (omega arith))
-    (item_new bytes before x names more s.name b.named n b.differ) in
+    (item_new bytes t before x (these (s ∷ ss) cs ps) (these ss cs ps) first b) in
     let co = coords_clean bytes [] (rc ∷ rcs) [] s.coords w.1 p0.0.ranges n0.0.coords refl p0.0.differ (omega arith) in
     record { preds = y.preds; say = y.say; same = y.same; clean = (cl, clean_join bytes (visits_by coord_visits [] (rc ∷ rcs)) _ co y.clean) }
   where
     site_is : (a b : List ℕ) (c d : List CoordOf) → a ≡ b → c ≡ d → record { name = a; coords = c } ∷ ss ≡ record { name = b; coords = d } ∷ ss
     site_is a b c d e f = rw (e, f) refl
 
--- the items of a canonical text are done from the first on
-pub file_done : (bytes : List ℕ) (ts : List Token) (t : TableOf) → Facts t → (is : List Item) {k : ℕ} → file.Items ts 0 k is
-    → SitesLike bytes ts t is t.sites t.params t.preds → Every InRange t.params → Every PredKept t.preds → Every (PredParts t.sites t.params) t.preds
-    → Differ (map (λ (s : SiteOf). s.name) t.sites ++ (map (λ (c : CoordOf). c.name) t.params ++ map (λ (q : PredOf). q.name) t.preds))
-    → length t.sites ≤ 16 → length t.params ≤ 16 → length t.preds ≤ 16 → ItemsDone bytes ts t [] is t.sites t.params t.preds
-file_done bytes ts t fa is d w r0 k h df l m n =
+-- the items of the canonical text of a whole table are done from the first on
+pub file_done : (bytes : List ℕ) (ts : List Token) (t : TableOf) → IsWhole t → TableParts t → (is : List Item) {k : ℕ} → file.Items ts 0 k is
+    → SitesLike bytes ts t is t.sites t.params t.preds → ItemsDone bytes ts t [] is t.preds
+file_done bytes ts t w p is d h =
     let z1 : count_by is_site [] ≡ 0 = refl in
     let z2 : count_by is_param [] ≡ 0 = refl in
     let z3 : count_by is_pred [] ≡ 0 = refl in
-    sites_done bytes ts t fa [] d [] t.sites t.params t.preds w fa.site_parts fa.short_sites r0 fa.short_params k h
-    (record { named = refl; differ = df; few_sites = omega arith; few_params = omega arith; few_preds = omega arith; sites = refl; params = refl })
+    let l = w.few_sites in let m = w.few_params in let n = w.few_preds in
+    let site_list = map (λ (s : SiteOf). s.name) t.sites in
+    let param_list = map (λ (c : CoordOf). c.name) t.params in
+    let pred_list = map (λ (q : PredOf). q.name) t.preds in
+    let f : Facts t = record {
+      site_names = differ_left site_list (param_list ++ pred_list) p.names;
+      param_names = differ_left param_list pred_list (differ_right site_list (param_list ++ pred_list) p.names);
+      short_sites = w.sites;
+      short_params = w.params;
+      site_parts = p.sites;
+    } in
+    sites_done bytes ts t [] d t.sites t.params t.preds (record {
+      like = h;
+      good = record {
+        facts = f;
+        sites = p.sites;
+        site_names = w.sites;
+        ranges = p.params;
+        param_names = w.params;
+        kept = w.preds;
+        preds = p.preds;
+      };
+      so_far = record { differ = p.names; few_sites = omega arith; few_params = omega arith; few_preds = omega arith; sites = refl; params = refl };
+    })

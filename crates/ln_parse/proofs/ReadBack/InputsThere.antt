@@ -25,6 +25,7 @@ pub data InputThere (S : List SiteOf) (P : List CoordOf) (args : List ArgOf) (d 
       → slice_get s.coords c ≡ Some x → InputThere S P args d c
   of_param : (p : ℕ) (x : CoordOf) → slice_get args d ≡ Some (ParamArg p) → slice_get P p ≡ Some x → c ≡ 0 → InputThere S P args d c
 
+-- at each place of a list there is an element
 pub at_place : {A : Type 0} (xs : List A) (j : ℕ) → j < length xs → (x : A) × (slice_get xs j ≡ Some x)
 at_place [] j h = absurd (omega arith)
 at_place (x ∷ xs) zero h = (x, refl)

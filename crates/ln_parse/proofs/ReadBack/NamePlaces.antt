@@ -15,11 +15,13 @@ abbrev pub Differ : List (List ℕ) → Type 0
 Differ [] = Unit {0}
 Differ (u ∷ us) = NoneIs u us × Differ us
 
+-- where none of the names is this one, it differs from each
 pub not_there : (u : List ℕ) (us : List (List ℕ)) (j : ℕ) (t : List ℕ) → NoneIs u us → slice_get us j ≡ Some t → bytes_eq u t ≡ false
 not_there u [] j t n e = absurd (cc)
 not_there u (x ∷ us) zero t n e = let q : x ≡ t = cc in rw (← q) n.0
 not_there u (x ∷ us) (suc j) t n e = not_there u us j t n.1 e
 
+-- a name is the same as itself
 pub same_bytes : (t : List ℕ) → bytes_eq t t ≡ true
 same_bytes t = (bytes_eq-Decides t t).1 refl
 

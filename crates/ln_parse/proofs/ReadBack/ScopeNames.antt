@@ -4,6 +4,7 @@ use Rattle.std.proofs.Common.{map, Some, None, refl, ap, sym, ◌∙◌, subst, 
 use Rattle.std.specs.Prelude.{slice_get, position, unwrap_or, bytes_eq, find, nat_le}
 use Rattle.std.specs.List.{list_any, position_from}
 use Rattle.std.proofs.lemmas.Bool.{and_parts, or_left, or_right, ltb-true}
+use Rattle.std.proofs.lemmas.List.{length-map}
 use Rattle.std.proofs.lemmas.Slice.Eq.{bytes_eq-Decides}
 use Rattle.std.proofs.lemmas.Iterator.Adapters.{position_from-zero}
 use Rattle.ln_base.specs.declared.span.Span.{Span}
@@ -16,13 +17,13 @@ use Rattle.ln_tree.specs.declared.shape.VarInfo.{VarInfo}
 use Rattle.ln_tree.specs.Variables.{number_or_end}
 use Rattle.ln_tree.specs.Formula.{Formula, FNum, FInput, FName, FNeg, FAdd, FSub, FMul, FPow, tree}
 use Rattle.ln_tree.specs.Fits.{is_fit}
-use Rattle.ln_tree.specs.Table.{CoordOf, SiteOf, ArgOf, SiteArg, ParamArg, TableOf}
+use Rattle.ln_tree.specs.Table.{CoordOf, SiteOf, ArgOf, SiteArg, ParamArg, PredOf, TableOf}
 use Rattle.ln_tree.specs.Whole.{vars_behind, range_name, arg_name}
 use Rattle.ln_parse.specs.Says.{ranged, site_names, param_names, sites_said, params_said}
 use Rattle.ln_parse.specs.ReadsBack.{Every, ArgWritten, ArgsWritten}
 use Rattle.ln_parse.specs.Spanless.{no_span, spanless}
 use Rattle.ln_parse.specs.WholeTable.{IsShortName, SiteNames, ArgNames}
-use Rattle.ln_parse.specs.Written.{Naming, Written, WName, input, written, site_name}
+use Rattle.ln_parse.specs.Written.{Written, WName, naming, input, written, site_name}
 use Rattle.ln_parse.proofs.ReadBack.NamePlaces.{NoneIs, Differ, not_there, same_bytes, place_of_name}
 use Rattle.ln_parse.proofs.Expressions.Meaning.{arg_called, meaning}
 use Rattle.ln_parse.proofs.ReadBack.CleanValue.{Meant}
@@ -40,10 +41,12 @@ none_right : (t : List ℕ) (us vs : List (List ℕ)) → NoneIs t (us ++ vs) �
 none_right t [] vs h = h
 none_right t (u ∷ us) vs h = none_right t us vs h.1
 
+-- of two lists of names whose names all differ, those of the first differ
 pub differ_left : (us vs : List (List ℕ)) → Differ (us ++ vs) → Differ us
 differ_left [] vs h = tt
 differ_left (u ∷ us) vs h = (none_left u us vs h.0, differ_left us vs h.1)
 
+-- and those of the second
 pub differ_right : (us vs : List (List ℕ)) → Differ (us ++ vs) → Differ vs
 differ_right [] vs h = h
 differ_right (u ∷ us) vs h = differ_right us vs h.1
@@ -75,6 +78,7 @@ found_by : {A : Type 0} (p : A → Bool) (y x : A) (xs : List A) (b : Bool) → 
 found_by p y x xs true e h on = or_left _ _ e
 found_by p y x xs false e h on = or_right _ _ (on h)
 
+-- where an element is found, some element passes
 pub any_found : {A : Type 0} (p : A → Bool) (xs : List A) (x : A) → find p xs ≡ Some x → list_any p xs ≡ true
 any_found p [] x h = absurd (cc)
 any_found p (y ∷ xs) x h = found_by p y x xs (p y) refl h (any_found p xs x)
@@ -84,6 +88,7 @@ place_by : {A : Type 0} (p : A → Bool) (y : A) (xs : List A) (k j : ℕ) (b : 
 place_by p y xs k j true e h on = or_left _ _ e
 place_by p y xs k j false e h on = or_right _ _ (on h)
 
+-- and where a position is found
 pub any_place : {A : Type 0} (p : A → Bool) (xs : List A) (k j : ℕ) → position_from p k xs ≡ Some j → list_any p xs ≡ true
 any_place p [] k j h = absurd (cc)
 any_place p (y ∷ xs) k j h = place_by p y xs k j (p y) refl h (any_place p xs (k + 1) j)
@@ -91,6 +96,17 @@ any_place p (y ∷ xs) k j h = place_by p y xs k j (p y) refl h (any_place p xs 
 written_name : (bytes : List ℕ) (t : TableOf) (r : RawArg) (a : ArgOf) → ArgWritten bytes t r a → text bytes r.name ≡ arg_name t.params a
 written_name bytes t r (SiteArg n k) h = h.1
 written_name bytes t r (ParamArg p) h = h.1
+
+-- the names of arguments that are written so
+pub written_names : (bytes : List ℕ) (t : TableOf) (raws : List RawArg) (args : List ArgOf) → ArgsWritten bytes t raws args
+    → map (λ (a : RawArg). text bytes a.name) raws ≡ map (arg_name t.params) args
+written_names bytes t [] [] w = refl
+written_names bytes t [] (a ∷ args) w = absurd w
+written_names bytes t (r ∷ raws) [] w = absurd w
+written_names bytes t (r ∷ raws) (a ∷ args) w =
+    let n = written_name bytes t r a w.0 in
+    let m = written_names bytes t raws args w.1 in
+    rw (n, m) refl
 
 and_false : (b c : Bool) → c ≡ false → (b && c) ≡ false
 and_false true c h = h
@@ -138,6 +154,7 @@ pub record TypeThere (bytes : List ℕ) (is : List Item) (k : ℕ) (s : SiteOf) 
   pub says : map (λ (c : RawCoord). ranged bytes c.name c.range) raws ≡ s.coords
   pub at : (j : ℕ) → position_from (λ n. same bytes n q) j (site_names is) ≡ Some (j + k)
 
+-- and so is each site type among the items, where their names differ
 pub type_there : (bytes : List ℕ) (is : List Item) (k : ℕ) (s : SiteOf) (q : Span) → Differ (map (λ (x : SiteOf). x.name) (sites_said bytes is))
     → slice_get (sites_said bytes is) k ≡ Some s → text bytes q ≡ s.name → TypeThere bytes is k s q
 type_there bytes [] k s q d e h = absurd (cc)
@@ -176,6 +193,7 @@ pub record ParamThere (bytes : List ℕ) (is : List Item) (k : ℕ) (q : Span) :
   pub known : list_any (λ i. is_param i && same bytes (item_name i) q) is ≡ true
   pub at : (j : ℕ) → position_from (λ n. same bytes n q) j (param_names is) ≡ Some (j + k)
 
+-- and so is each param among the items, where their names differ
 pub param_there : (bytes : List ℕ) (is : List Item) (k : ℕ) (c : CoordOf) (q : Span) → Differ (map (λ (x : CoordOf). x.name) (params_said bytes is))
     → slice_get (params_said bytes is) k ≡ Some c → text bytes q ≡ c.name → ParamThere bytes is k q
 param_there bytes [] k c q d e h = absurd (cc)
@@ -194,34 +212,41 @@ param_there bytes (ParamItem n r ∷ is) (suc k) c q d e h =
 param_there bytes (SiteItem n cs ∷ is) k c q d e h = let g = param_there bytes is k c q d e h in record { known = g.known; at = g.at }
 param_there bytes (PredItem n as' ls r ∷ is) k c q d e h = let g = param_there bytes is k c q d e h in record { known = g.known; at = g.at }
 
--- what an expression can speak of is what the table has
-pub record InScope (bytes : List ℕ) (s : Scope) (t : TableOf) (xs : List ArgOf) (names more : List (List ℕ)) : Type 0 where
-  pub args : ArgsWritten bytes t s.args xs
-  pub sites : sites_said bytes s.items ≡ t.sites
-  pub lets : map (λ (l : RawLet). text bytes l.name) s.lets ≡ names
-  pub differ : Differ (map (arg_name t.params) xs ++ (names ++ more))
+-- a predicate of the table in a text, after these items and with these arguments, whose names are the table's, short and all different
+pub record PredIn (bytes : List ℕ) (is : List Item) (raws : List RawArg) (t : TableOf) (p : PredOf) : Type 0 where
+  pub args : ArgsWritten bytes t raws p.args
+  pub sites : sites_said bytes is ≡ t.sites
   pub site_names : Differ (map (λ (x : SiteOf). x.name) t.sites)
   pub site_parts : Every SiteParts t.sites
+  pub differ : Differ (map (arg_name t.params) p.args ++ p.let_names)
+  pub good : NamesGood (naming t p)
+  pub vars : p.vars ≡ vars_behind t.sites t.params 0 0 p.args
+
+-- what an expression of the predicate can speak of is what the table has: its arguments, and the first of its lets
+pub record InScope (bytes : List ℕ) (s : Scope) (t : TableOf) (p : PredOf) : Type 0 where
+  pub pred : PredIn bytes s.items s.args t p
+  pub more : List (List ℕ)
+  pub lets : p.let_names ≡ map (λ (l : RawLet). text bytes l.name) s.lets ++ more
 
 -- an expression as it is written means this formula, and its names are short and known
 record Reads (bytes : List ℕ) (s : Scope) (w : Written) (f : Formula) : Type 0 where
   says : meaning bytes s w ≡ f
   meant : Meant bytes s w
 
-let_reads : (bytes : List ℕ) (s : Scope) (t : TableOf) (args : List ArgOf) (names more : List (List ℕ)) → InScope bytes s t args names more
-    → Every IsShortName names → (j : ℕ) → j < length names
-    → Reads bytes s (WName (unwrap_or (slice_get (names ++ more) j) [])) (FName no_span j)
-let_reads bytes s t args names more c g j l =
-    let e = at_place names j l in
-    let u = get_longer names more j e.0 e.1 in
-    let d : Differ (map (λ (l : RawLet). text bytes l.name) s.lets) = subst (λ (w : List (List ℕ)). Differ w) (sym c.lets)
-    (differ_left names more (differ_right (map (arg_name t.params) args) (names ++ more) c.differ)) in
-    let v : slice_get (map (λ (l : RawLet). text bytes l.name) s.lets) j ≡ Some e.0 = ap (λ (w : List (List ℕ)). slice_get w j) c.lets ∙ e.1 in
-    let p = place_of_name (λ (l : RawLet). text bytes l.name) s.lets j e.0 d v in
+let_reads : (bytes : List ℕ) (s : Scope) (t : TableOf) (p : PredOf) → InScope bytes s t p → (j : ℕ) → j < length s.lets
+    → Reads bytes s (WName (unwrap_or (slice_get p.let_names j) [])) (FName no_span j)
+let_reads bytes s t p c j l =
+    let names = map (λ (l : RawLet). text bytes l.name) s.lets in
+    let n : length names ≡ length s.lets = length-map s.lets (λ (l : RawLet). text bytes l.name) in
+    let e = at_place names j (omega arith) in
+    let u : slice_get p.let_names j ≡ Some e.0 = ap (λ (w : List (List ℕ)). slice_get w j) c.lets ∙ get_longer names c.more j e.0 e.1 in
+    let d : Differ names = differ_left names c.more
+    (subst (λ (w : List (List ℕ)). Differ w) c.lets (differ_right (map (arg_name t.params) p.args) p.let_names c.pred.differ)) in
+    let m = place_of_name (λ (l : RawLet). text bytes l.name) s.lets j e.0 d e.1 in
     let k : list_any (λ (l : RawLet). bytes_eq (text bytes l.name) e.0) s.lets ≡ true =
-    any_place _ s.lets 0 j (sym (position_from-zero (λ (l : RawLet). bytes_eq (text bytes l.name) e.0) s.lets) ∙ p) in
-    let q : IsShortName e.0 = every_at IsShortName names j e.0 g e.1 in
-    rw u (record { says = rw p refl; meant = (q.1, or_left _ _ k) })
+    any_place _ s.lets 0 j (sym (position_from-zero (λ (l : RawLet). bytes_eq (text bytes l.name) e.0) s.lets) ∙ m) in
+    let q : IsShortName e.0 = every_at IsShortName p.let_names j e.0 c.pred.good.lets u in
+    rw u (record { says = rw m refl; meant = (q.1, or_left _ _ k) })
 
 site_called : (bytes : List ℕ) (t : TableOf) (n : List ℕ) (k : ℕ) (r : RawArg) → ArgWritten bytes t r (SiteArg n k) → is_site_arg r ≡ true
 site_called bytes t n k r h = ap not h.0
@@ -235,18 +260,17 @@ pub coord_map : (bytes : List ℕ) (raws : List RawCoord)
 coord_map bytes [] = refl
 coord_map bytes (c ∷ raws) = ap (λ (w : List (List ℕ)). text bytes c.name ∷ w) (coord_map bytes raws)
 
-input_reads : (bytes : List ℕ) (s : Scope) (t : TableOf) (n : Naming) (names more : List (List ℕ)) → n.sites ≡ t.sites → n.params ≡ t.params
-    → InScope bytes s t n.args names more → NamesGood n → (d c : ℕ) → InputThere n.sites n.params n.args d c
-    → Reads bytes s (input n (slice_get n.args d) c) (FInput no_span d c)
-input_reads bytes s t n names more es ep v g d c (of_site m k x y e f h) =
-    let a = arg_found bytes t is_site_arg s.args n.args d (SiteArg m k) v.args
-    (differ_left (map (arg_name t.params) n.args) (names ++ more) v.differ) e (site_called bytes t m k) in
-    let f2 : slice_get t.sites k ≡ Some x = ap (λ (w : List SiteOf). slice_get w k) (sym es) ∙ f in
-    let kind : text bytes a.raw.kind ≡ x.name = a.writes.2 ∙ ap site_name f2 in
-    let here : slice_get (sites_said bytes s.items) k ≡ Some x = ap (λ (w : List SiteOf). slice_get w k) v.sites ∙ f2 in
-    let df = subst (λ (w : List SiteOf). Differ (map (λ (x : SiteOf). x.name) w)) (sym v.sites) v.site_names in
+input_reads : (bytes : List ℕ) (s : Scope) (t : TableOf) (p : PredOf) → InScope bytes s t p → (d c : ℕ) → InputThere t.sites t.params p.args d c
+    → Reads bytes s (input (naming t p) (slice_get p.args d) c) (FInput no_span d c)
+input_reads bytes s t p v d c (of_site m k x y e f h) =
+    let g = v.pred in
+    let a = arg_found bytes t is_site_arg s.args p.args d (SiteArg m k) g.args
+    (differ_left (map (arg_name t.params) p.args) p.let_names g.differ) e (site_called bytes t m k) in
+    let kind : text bytes a.raw.kind ≡ x.name = a.writes.2 ∙ ap site_name f in
+    let here : slice_get (sites_said bytes s.items) k ≡ Some x = ap (λ (w : List SiteOf). slice_get w k) g.sites ∙ f in
+    let df = subst (λ (w : List SiteOf). Differ (map (λ (x : SiteOf). x.name) w)) (sym g.sites) g.site_names in
     let b = type_there bytes s.items k x a.raw.kind df here kind in
-    let parts : SiteParts x = every_at SiteParts t.sites k x v.site_parts f2 in
+    let parts : SiteParts x = every_at SiteParts t.sites k x g.site_parts f in
     let nm : map (λ (c : RawCoord). text bytes c.name) b.raws ≡ map (λ (x : CoordOf). x.name) x.coords =
     sym (coord_map bytes b.raws) ∙ ap (map (λ (x : CoordOf). x.name)) b.says in
     let dc = subst (λ (w : List (List ℕ)). Differ w) (sym nm) parts.differ in
@@ -255,70 +279,66 @@ input_reads bytes s t n names more es ep v g d c (of_site m k x y e f h) =
     let pc = place_of_name (λ (c : RawCoord). text bytes c.name) b.raws c y.name dc there in
     let pa : position (arg_called bytes is_site_arg m) s.args ≡ Some d =
     position_from-zero (arg_called bytes is_site_arg m) s.args ∙ a.at 0 ∙ ap (λ (w : ℕ). Some w) (zero-add d) in
-    let cs : coords_of bytes s.items (find (arg_called bytes is_site_arg m) s.args) ≡ b.raws = rw a.found (rw b.found refl) in
+    let cs : coords_of bytes s.items (find (arg_called bytes is_site_arg m) s.args) ≡ b.raws = rw a.found (rw b.found (refl {a = b.raws})) in
     let ka : list_any (arg_called bytes is_site_arg m) s.args ≡ true = any_found (arg_called bytes is_site_arg m) s.args a.raw a.found in
     let kc : list_any (λ (c : RawCoord). bytes_eq (text bytes c.name) y.name) b.raws ≡ true =
     any_place _ b.raws 0 c (sym (position_from-zero (λ (c : RawCoord). bytes_eq (text bytes c.name) y.name) b.raws) ∙ pc) in
-    let i : IsShortName m = every_at ArgNames n.args d (SiteArg m k) g.args e in
-    let j : IsShortName y.name = every_at (λ (z : CoordOf). IsShortName z.name) x.coords c y (every_at SiteNames n.sites k x g.sites f).coords h in
+    let i : IsShortName m = every_at ArgNames p.args d (SiteArg m k) g.good.args e in
+    let j : IsShortName y.name = every_at (λ (z : CoordOf). IsShortName z.name) x.coords c y (every_at SiteNames t.sites k x g.good.sites f).coords h in
     rw (e, f, h) (record { says = rw (pa, cs, pc) refl; meant = (i.1, j.1, ka, rw cs kc) })
-input_reads bytes s t n names more es ep v g d c (of_param p x e f z) =
-    let a = arg_found bytes t is_param_arg s.args n.args d (ParamArg p) v.args
-    (differ_left (map (arg_name t.params) n.args) (names ++ more) v.differ) e (param_called bytes t p) in
-    let f2 : slice_get t.params p ≡ Some x = ap (λ (w : List CoordOf). slice_get w p) (sym ep) ∙ f in
-    let m : arg_name t.params (ParamArg p) ≡ x.name = ap range_name f2 in
-    let pa : position (arg_called bytes is_param_arg (arg_name t.params (ParamArg p))) s.args ≡ Some d =
+input_reads bytes s t p v d c (of_param k x e f z) =
+    let g = v.pred in
+    let names = map (λ (l : RawLet). text bytes l.name) s.lets in
+    let args = map (arg_name t.params) p.args in
+    let a = arg_found bytes t is_param_arg s.args p.args d (ParamArg k) g.args (differ_left args p.let_names g.differ) e (param_called bytes t k) in
+    let m : arg_name t.params (ParamArg k) ≡ x.name = ap range_name f in
+    let pa : position (arg_called bytes is_param_arg (arg_name t.params (ParamArg k))) s.args ≡ Some d =
     position_from-zero _ s.args ∙ a.at 0 ∙ ap (λ (w : ℕ). Some w) (zero-add d) in
     let pb : position (arg_called bytes is_param_arg x.name) s.args ≡ Some d =
     subst (λ (w : List ℕ). position (arg_called bytes is_param_arg w) s.args ≡ Some d) m pa in
-    let there : slice_get (map (arg_name t.params) n.args) d ≡ Some x.name =
-    get_map (arg_name t.params) n.args d (ParamArg p) e ∙ ap (λ (w : List ℕ). Some w) m in
-    let no : NoneIs x.name names = none_left x.name names more (apart (map (arg_name t.params) n.args) (names ++ more) d x.name v.differ there) in
-    let no2 : NoneIs x.name (map (λ (l : RawLet). text bytes l.name) s.lets) = subst (λ (w : List (List ℕ)). NoneIs x.name w) (sym v.lets) no in
-    let nl = none_called (λ (l : RawLet). text bytes l.name) s.lets x.name no2 in
+    let there : slice_get args d ≡ Some x.name = get_map (arg_name t.params) p.args d (ParamArg k) e ∙ ap (λ (w : List ℕ). Some w) m in
+    let no : NoneIs x.name names =
+    none_left x.name names v.more (subst (λ (w : List (List ℕ)). NoneIs x.name w) v.lets (apart args p.let_names d x.name g.differ there)) in
+    let nl = none_called (λ (l : RawLet). text bytes l.name) s.lets x.name no in
     let pl : position (λ (l : RawLet). bytes_eq (text bytes l.name) x.name) s.lets ≡ None = no_place _ s.lets nl in
     let ka : list_any (arg_called bytes is_param_arg x.name) s.args ≡ true = subst (λ (w : List ℕ). list_any (arg_called bytes is_param_arg w) s.args ≡ true) m
-    (any_found (arg_called bytes is_param_arg (arg_name t.params (ParamArg p))) s.args a.raw a.found) in
-    let i : IsShortName x.name = every_at (λ (y : CoordOf). IsShortName y.name) n.params p x g.params f in
+    (any_found (arg_called bytes is_param_arg (arg_name t.params (ParamArg k))) s.args a.raw a.found) in
+    let i : IsShortName x.name = every_at (λ (y : CoordOf). IsShortName y.name) t.params k x g.good.params f in
     rw (e, f, z) (record { says = rw (pl, pb) refl; meant = (i.1, or_right _ _ ka) })
 
 -- a fit formula, written with the table's names, means itself
-reads : (bytes : List ℕ) (s : Scope) (t : TableOf) (n : Naming) (names more : List (List ℕ)) → n.sites ≡ t.sites → n.params ≡ t.params
-    → n.lets ≡ names ++ more → InScope bytes s t n.args names more → NamesGood n → Every IsShortName names
-    → (vars : List VarInfo) → vars ≡ vars_behind n.sites n.params 0 0 n.args → (f : Formula)
-    → is_fit (length vars) (length names) (tree vars f) ≡ true → Reads bytes s (written n f) (spanless f)
-reads bytes s t n names more es ep el v g k vars q (FNum at c) h = let l = literal c h in record { says = ap (λ z. FNum no_span z) l.0; meant = l.1 }
-reads bytes s t n names more es ep el v g k vars q (FInput at a c) h =
-    input_reads bytes s t n names more es ep v g a c
-    (input_there n.sites n.params n.args a c (subst (λ (w : List VarInfo). nat_lt (number_or_end w a c) (length w) ≡ true) q h))
-reads bytes s t n names more es ep el v g k vars q (FName at j) h =
-    subst (λ (w : List (List ℕ)). Reads bytes s (WName (unwrap_or (slice_get w j) [])) (FName no_span j)) (sym el)
-    (let_reads bytes s t n.args names more v k j (ltb-true j (length names) h))
-reads bytes s t n names more es ep el v g k vars q (FNeg at e) h =
-    let a = reads bytes s t n names more es ep el v g k vars q e h in
+reads : (bytes : List ℕ) (s : Scope) (t : TableOf) (p : PredOf) → InScope bytes s t p → (f : Formula)
+    → is_fit (length p.vars) (length s.lets) (tree p.vars f) ≡ true → Reads bytes s (written (naming t p) f) (spanless f)
+reads bytes s t p v (FNum at c) h = let l = literal c h in record { says = ap (λ z. FNum no_span z) l.0; meant = l.1 }
+reads bytes s t p v (FInput at a c) h =
+    input_reads bytes s t p v a c
+    (input_there t.sites t.params p.args a c (subst (λ (w : List VarInfo). nat_lt (number_or_end w a c) (length w) ≡ true) v.pred.vars h))
+reads bytes s t p v (FName at j) h = let_reads bytes s t p v j (ltb-true j (length s.lets) h)
+reads bytes s t p v (FNeg at e) h =
+    let a = reads bytes s t p v e h in
     record { says = ap (λ (f : Formula). FNeg no_span f) a.says; meant = a.meant }
-reads bytes s t n names more es ep el v g k vars q (FAdd at e f) h =
-    let p = and_parts (is_fit (length vars) (length names) (tree vars e)) (is_fit (length vars) (length names) (tree vars f)) h in
-    let a = reads bytes s t n names more es ep el v g k vars q e p.0 in
-    let b = reads bytes s t n names more es ep el v g k vars q f p.1 in
+reads bytes s t p v (FAdd at e f) h =
+    let q = and_parts (is_fit (length p.vars) (length s.lets) (tree p.vars e)) (is_fit (length p.vars) (length s.lets) (tree p.vars f)) h in
+    let a = reads bytes s t p v e q.0 in
+    let b = reads bytes s t p v f q.1 in
     let x = a.says in let y = b.says in record { says = rw (x, y) refl; meant = (a.meant, b.meant) }
-reads bytes s t n names more es ep el v g k vars q (FSub at e f) h =
-    let p = and_parts (is_fit (length vars) (length names) (tree vars e)) (is_fit (length vars) (length names) (tree vars f)) h in
-    let a = reads bytes s t n names more es ep el v g k vars q e p.0 in
-    let b = reads bytes s t n names more es ep el v g k vars q f p.1 in
+reads bytes s t p v (FSub at e f) h =
+    let q = and_parts (is_fit (length p.vars) (length s.lets) (tree p.vars e)) (is_fit (length p.vars) (length s.lets) (tree p.vars f)) h in
+    let a = reads bytes s t p v e q.0 in
+    let b = reads bytes s t p v f q.1 in
     let x = a.says in let y = b.says in record { says = rw (x, y) refl; meant = (a.meant, b.meant) }
-reads bytes s t n names more es ep el v g k vars q (FMul at e f) h =
-    let p = and_parts (is_fit (length vars) (length names) (tree vars e)) (is_fit (length vars) (length names) (tree vars f)) h in
-    let a = reads bytes s t n names more es ep el v g k vars q e p.0 in
-    let b = reads bytes s t n names more es ep el v g k vars q f p.1 in
+reads bytes s t p v (FMul at e f) h =
+    let q = and_parts (is_fit (length p.vars) (length s.lets) (tree p.vars e)) (is_fit (length p.vars) (length s.lets) (tree p.vars f)) h in
+    let a = reads bytes s t p v e q.0 in
+    let b = reads bytes s t p v f q.1 in
     let x = a.says in let y = b.says in record { says = rw (x, y) refl; meant = (a.meant, b.meant) }
-reads bytes s t n names more es ep el v g k vars q (FPow at e m) h =
-    let p = and_parts (is_fit (length vars) (length names) (tree vars e)) (nat_le m 16) h in
-    let a = reads bytes s t n names more es ep el v g k vars q e p.0 in
-    let x = a.says in record { says = rw x refl; meant = (a.meant, at_most m 16 p.1) }
+reads bytes s t p v (FPow at e m) h =
+    let q = and_parts (is_fit (length p.vars) (length s.lets) (tree p.vars e)) (nat_le m 16) h in
+    let a = reads bytes s t p v e q.0 in
+    let x = a.says in record { says = rw x refl; meant = (a.meant, at_most m 16 q.1) }
 
-pub means : (bytes : List ℕ) (s : Scope) (t : TableOf) (n : Naming) (names more : List (List ℕ)) → n.sites ≡ t.sites → n.params ≡ t.params
-    → n.lets ≡ names ++ more → InScope bytes s t n.args names more → NamesGood n → Every IsShortName names
-    → (vars : List VarInfo) → vars ≡ vars_behind n.sites n.params 0 0 n.args → (f : Formula)
-    → is_fit (length vars) (length names) (tree vars f) ≡ true → (meaning bytes s (written n f) ≡ spanless f) × Meant bytes s (written n f)
-means bytes s t n names more es ep el v g k vars q f h = let r = reads bytes s t n names more es ep el v g k vars q f h in (r.says, r.meant)
+-- a fit formula that is written with the table's names means itself, and its names are short and known
+pub means : (bytes : List ℕ) (s : Scope) (t : TableOf) (p : PredOf) → InScope bytes s t p → (f : Formula)
+    → is_fit (length p.vars) (length s.lets) (tree p.vars f) ≡ true
+    → (meaning bytes s (written (naming t p) f) ≡ spanless f) × Meant bytes s (written (naming t p) f)
+means bytes s t p v f h = let r = reads bytes s t p v f h in (r.says, r.meant)

@@ -1,7 +1,6 @@
 -- All bytes have a table or a first fault.
-use Rattle.std.proofs.Common.{◌≡◌, ℕ, ◌≤◌, ◌⊎◌, inl, inr, List, [], ◌∷◌, ◌++◌, length, map, Option, Some, None, refl}
+use Rattle.std.proofs.Common.{◌≡◌, ℕ, suc, ◌≤◌, ◌⊎◌, inl, inr, List, [], ◌∷◌, ◌++◌, length, map, Option, Some, None, refl}
 use Rattle.std.specs.Prelude.{count_by}
-use Rattle.ln_base.specs.declared.span.Span.{Span}
 use Rattle.ln_lex.specs.declared.token.Token.{Token}
 use Rattle.ln_lex.specs.declared.token.Kind.TheVariants.{Semi}
 use Rattle.ln_lex.specs.Answers as lexed
@@ -9,8 +8,7 @@ use Rattle.ln_lex.specs.Tokens.{Lexed}
 use Rattle.ln_lex.proofs.HasAnswer.{has_answer}
 use Rattle.ln_syntax.specs.declared.raw.RawArg.{RawArg}
 use Rattle.ln_syntax.specs.declared.raw.RawLet.{RawLet}
-use Rattle.ln_syntax.specs.declared.raw.Places.{Places}
-use Rattle.ln_syntax.specs.Raw.{Item, Is, text}
+use Rattle.ln_syntax.specs.Raw.{Item, Is, item_name, text}
 use Rattle.ln_syntax.specs.Expression.{IsExpr}
 use Rattle.ln_syntax.specs.File.{Lets, Items, Spelt, no_let, a_let, site, param, predicate, no_item, an_item}
 use Rattle.ln_syntax.specs.Place.{IsShallow}
@@ -26,6 +24,7 @@ use Rattle.ln_parse.specs.Fault as fault
 use Rattle.ln_parse.specs.Fault.{TextFault}
 use Rattle.ln_parse.specs.Says.{Says, LetsSay, PredSays, PredsSay, ItemsSay, resolved, arg_said, sites_said, params_said, vars_behind, is_site_said}
 use Rattle.ln_parse.specs.Text.{TextOf}
+use Rattle.ln_parse.proofs.Building.Predicates.{PredAt}
 
 -- an expression before a semicolon says a formula
 value_said : (bytes : List ℕ) (ts : List Token) (s : Scope) (i j : ℕ) → IsExpr ts i j → Is ts j Semi
@@ -46,20 +45,20 @@ record Preds (bytes : List ℕ) (ts : List Token) (ss : List SiteOf) (cs : List 
   pub preds : List PredOf
   pub say : (t : TableOf) → t.sites ≡ ss → t.params ≡ cs → PredsSay bytes ts before t is preds
 
-one_pred : (bytes : List ℕ) (ts : List Token) (ss : List SiteOf) (cs : List CoordOf) (before : List Item) (name : Span) (args : List RawArg)
-    (ls : List RawLet) (root : Places) (xs : List Formula) (x : Formula)
-    → LetsSay bytes ts before args [] ls xs → Says bytes ts (scope before args ls) root x
-    → (p : PredOf) × ((t : TableOf) → t.sites ≡ ss → t.params ≡ cs → PredSays bytes ts before t name args ls root p)
-one_pred bytes ts ss cs before name args ls root xs x l r =
-    let as' = map (λ (a : RawArg). arg_said bytes before a a.is_param) args in (
+-- what a predicate says whose lets and root say formulas, with any table that has these site types and params
+one_pred : (r : PredAt) (ss : List SiteOf) (cs : List CoordOf) (xs : List Formula) (x : Formula)
+    → LetsSay r.bytes r.ts r.before r.args [] r.lets xs → Says r.bytes r.ts (scope r.before r.args r.lets) r.root x
+    → (p : PredOf) × ((t : TableOf) → t.sites ≡ ss → t.params ≡ cs → PredSays r.bytes r.ts r.before t r.name r.args r.lets r.root p)
+one_pred r ss cs xs x l v =
+    let as' = map (λ (a : RawArg). arg_said r.bytes r.before a a.is_param) r.args in (
       record {
-        name = text bytes name;
-        at = name;
+        name = text r.bytes r.name;
+        at = r.name;
         args = as';
-        shape_name = text bytes name;
+        shape_name = text r.bytes r.name;
         sites = count_by is_site_said as';
         vars = vars_behind ss cs 0 0 as';
-        let_names = map (λ (m : RawLet). text bytes m.name) ls;
+        let_names = map (λ (m : RawLet). text r.bytes m.name) r.lets;
         lets = xs;
         root = x;
       },
@@ -72,7 +71,7 @@ one_pred bytes ts ss cs before name args ls root xs x l r =
         vars_are = rw (p, q) refl;
         names_are = refl;
         lets_are = l;
-        root_is = r;
+        root_is = v;
       },
     )
 
@@ -85,10 +84,19 @@ preds_said bytes ts ss cs before {is = x ∷ xs} (an_item (site a b c d e) on) =
 preds_said bytes ts ss cs before {is = x ∷ xs} (an_item (param a b c d e) on) =
     let r = preds_said bytes ts ss cs (before ++ (x ∷ [])) on in
     record { preds = r.preds; say = r.say }
-preds_said bytes ts ss cs before {is = x ∷ xs} (an_item (predicate {args = args} {ls = ls} a b c d e f g h v s z) on) =
+preds_said bytes ts ss cs before {is = x ∷ xs} (an_item (predicate {k = k} {l = m} {args = args} {ls = ls} a b c d e f g h v s z) on) =
     let l = lets_said bytes ts before args [] g in
-    let y = value_said bytes ts (scope before args ls) _ _ v s in
-    let p = one_pred bytes ts ss cs before _ args ls _ l.0 y.0 l.1 y.1 in
+    let y = value_said bytes ts (scope before args ls) (suc k) m v s in
+    let here : PredAt = record {
+      bytes = bytes;
+      ts = ts;
+      before = before;
+      name = item_name x;
+      args = args;
+      lets = ls;
+      root = record { from = suc k; to = m };
+    } in
+    let p = one_pred here ss cs l.0 y.0 l.1 y.1 in
     let r = preds_said bytes ts ss cs (before ++ (x ∷ [])) on in
     record { preds = p.0 ∷ r.preds; say = λ t m n. (p.1 t m n, r.say t m n) }
 

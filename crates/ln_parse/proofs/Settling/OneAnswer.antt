@@ -1,7 +1,6 @@
 -- A text has one result: one table, or one fault, and not both.
 use Rattle.std.proofs.Common.{◌≡◌, inl, inr, ℕ, List, [], ◌∷◌, ◌++◌, refl, ap, sym, ◌∙◌, subst}
 use Rattle.std.specs.Prelude.{count_by}
-use Rattle.ln_base.specs.declared.span.Span.{Span}
 use Rattle.ln_lex.specs.declared.token.Token.{Token}
 use Rattle.ln_lex.proofs.OneAnswer.{one_list, one_fault as one_lex_fault, one_limit, list_or_fault, list_or_limit, fault_or_limit}
 use Rattle.ln_syntax.specs.declared.raw.RawArg.{RawArg}
@@ -20,20 +19,14 @@ use Rattle.ln_names.specs.declared.faults.LimitWhat.TheVariants.{Tokens, Nesting
 use Rattle.ln_names.specs.Visits.{file_visits}
 use Rattle.ln_names.specs.First.{FirstFault, NoFault}
 use Rattle.ln_names.proofs.FirstFault.{first_of, none_of_clean}
-use Rattle.ln_tree.specs.declared.shape.VarInfo.{VarInfo}
 use Rattle.ln_tree.specs.Formula.{Formula}
-use Rattle.ln_tree.specs.Table.{ArgOf, CoordOf, SiteOf, PredOf, TableOf}
+use Rattle.ln_tree.specs.Table.{CoordOf, SiteOf, PredOf, TableOf}
 use Rattle.ln_parse.specs.declared.source.ParseStop.{ParseStop}
 use Rattle.ln_parse.specs.declared.source.ParseStop.TheVariants.{Lexical, Limit, Syntax}
 use Rattle.ln_parse.specs.Says.{Says, LetsSay, PredSays, PredsSay, ItemsSay, resolved, vars_behind, is_site_said}
 use Rattle.ln_parse.specs.Text.{TextOf}
+use Rattle.ln_parse.proofs.Building.Predicates.{PredAt, same_pred}
 use Rattle.ln_parse.specs.Fault.{TextFault, IsRefusal, IsWithoutTable, lexical, tokens, nesting, syntax, names, one_byte, place_of, stop_of}
-
-made_pred : (n n2 : List ℕ) (w w2 : Span) (a a2 : List ArgOf) (h h2 : List ℕ) (s s2 : ℕ) (v v2 : List VarInfo) (m m2 : List (List ℕ))
-    (l l2 : List Formula) (r r2 : Formula) → n ≡ n2 → w ≡ w2 → a ≡ a2 → h ≡ h2 → s ≡ s2 → v ≡ v2 → m ≡ m2 → l ≡ l2 → r ≡ r2
-    → ◌≡◌ {A = PredOf} (record { name = n; at = w; args = a; shape_name = h; sites = s; vars = v; let_names = m; lets = l; root = r })
-    (record { name = n2; at = w2; args = a2; shape_name = h2; sites = s2; vars = v2; let_names = m2; lets = l2; root = r2 })
-made_pred n n2 w w2 a a2 h h2 s s2 v v2 m m2 l l2 r r2 e1 e2 e3 e4 e5 e6 e7 e8 e9 = rw (e1, e2, e3, e4, e5, e6, e7, e8, e9) refl
 
 made_table : (s s2 : List SiteOf) (p p2 : List CoordOf) (q q2 : List PredOf) → s ≡ s2 → p ≡ p2 → q ≡ q2
     → ◌≡◌ {A = TableOf} (record { sites = s; params = p; preds = q }) (record { sites = s2; params = p2; preds = q2 })
@@ -57,18 +50,22 @@ lets_one bytes ts is args before (l ∷ ls) (x ∷ xs) (y ∷ ys) a b =
     rw (e, f) refl
 
 -- the tokens of a predicate say one predicate of tables with the same site types and params
-pred_one : (bytes : List ℕ) (ts : List Token) (is : List Item) (t u : TableOf) (n : Span) (args : List RawArg) (ls : List RawLet)
-    (root : Places) (p q : PredOf) → t.sites ≡ u.sites → t.params ≡ u.params
-    → PredSays bytes ts is t n args ls root p → PredSays bytes ts is u n args ls root q → p ≡ q
-pred_one bytes ts is t u n args ls root p q s r a b =
-    let e = lets_one bytes ts is args [] ls p.lets q.lets a.lets_are b.lets_are in
-    let f = says_one bytes ts is args ls root p.root q.root a.root_is b.root_is in
+pred_one : (r : PredAt) (t u : TableOf) (p q : PredOf) → t.sites ≡ u.sites → t.params ≡ u.params
+    → PredSays r.bytes r.ts r.before t r.name r.args r.lets r.root p → PredSays r.bytes r.ts r.before u r.name r.args r.lets r.root q → p ≡ q
+pred_one r t u p q s e a b =
     let g : p.args ≡ q.args = a.args_are ∙ sym b.args_are in
-    let h : p.sites ≡ q.sites = a.sites_are ∙ ap (count_by is_site_said) g ∙ sym b.sites_are in
-    let v : p.vars ≡ q.vars = a.vars_are ∙ ap (λ (w : List SiteOf). vars_behind w t.params 0 0 p.args) s
-    ∙ ap (λ (w : List CoordOf). vars_behind u.sites w 0 0 p.args) r ∙ ap (vars_behind u.sites u.params 0 0) g ∙ sym b.vars_are in
-    made_pred p.name q.name p.at q.at p.args q.args p.shape_name q.shape_name p.sites q.sites p.vars q.vars p.let_names q.let_names p.lets q.lets p.root q.root
-    (a.name_is ∙ sym b.name_is) (a.at_is ∙ sym b.at_is) g (a.shape_is ∙ sym b.shape_is) h v (a.names_are ∙ sym b.names_are) e f
+    same_pred p q (record {
+      name = a.name_is ∙ sym b.name_is;
+      at = a.at_is ∙ sym b.at_is;
+      args = g;
+      shape_name = a.shape_is ∙ sym b.shape_is;
+      sites = a.sites_are ∙ ap (count_by is_site_said) g ∙ sym b.sites_are;
+      vars = a.vars_are ∙ ap (λ (w : List SiteOf). vars_behind w t.params 0 0 p.args) s
+          ∙ ap (λ (w : List CoordOf). vars_behind u.sites w 0 0 p.args) e ∙ ap (vars_behind u.sites u.params 0 0) g ∙ sym b.vars_are;
+      let_names = a.names_are ∙ sym b.names_are;
+      lets = lets_one r.bytes r.ts r.before r.args [] r.lets p.lets q.lets a.lets_are b.lets_are;
+      root = says_one r.bytes r.ts r.before r.args r.lets r.root p.root q.root a.root_is b.root_is;
+    })
 
 preds_one : (bytes : List ℕ) (ts : List Token) (before : List Item) (t u : TableOf) (is : List Item) (ps qs : List PredOf)
     → t.sites ≡ u.sites → t.params ≡ u.params → PredsSay bytes ts before t is ps → PredsSay bytes ts before u is qs → ps ≡ qs
@@ -80,7 +77,8 @@ preds_one bytes ts before t u (ParamItem n g ∷ is) ps qs s r a b = preds_one b
 preds_one bytes ts before t u (PredItem n as' ls root ∷ is) [] qs s r a b = absurd a
 preds_one bytes ts before t u (PredItem n as' ls root ∷ is) (p ∷ ps) [] s r a b = absurd b
 preds_one bytes ts before t u (PredItem n as' ls root ∷ is) (p ∷ ps) (q ∷ qs) s r a b =
-    let e = pred_one bytes ts before t u n as' ls root p q s r a.0 b.0 in
+    let here : PredAt = record { bytes = bytes; ts = ts; before = before; name = n; args = as'; lets = ls; root = root } in
+    let e = pred_one here t u p q s r a.0 b.0 in
     let f = preds_one bytes ts (before ++ (PredItem n as' ls root ∷ [])) t u is ps qs s r a.1 b.1 in
     rw (e, f) refl
 

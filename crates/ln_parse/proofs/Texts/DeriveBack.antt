@@ -41,6 +41,7 @@ from (x ∷ xs) zero t us e =
     record { first = ap (λ (w : Token). Some w.kind) q; span = ap (λ (w : Token). w.span) q; rest = cc; more = omega arith }
 from (x ∷ xs) (suc j) t us e = let r = from xs j t us e in record { first = r.first; span = r.span; rest = r.rest; more = omega (arith, r.more) }
 
+-- where bytes and tokens go on as these lexemes do, the words of the lexemes are the tokens
 pub sits : (bytes : List ℕ) (ts : List Token) (xs : List Lexeme) (i at : ℕ) → drop at bytes ≡ text_of xs → drop i ts ≡ toks at xs
     → i ≤ length ts → Sits bytes ts i xs
 sits bytes ts [] i at e f h =

@@ -1,9 +1,9 @@
 -- The tokens of a canonical text spell the table's items.
-use Rattle.std.proofs.Common.{◌≡◌, ℕ, suc, ◌<◌, ◌^◌, Bool, true, false, ℤ, pos, negsuc, List, [], ◌∷◌, length, map, refl, ap, ◌∙◌, subst, arith, codes}
+use Rattle.std.proofs.Common.{◌≡◌, ℕ, suc, ◌<◌, ◌^◌, Bool, true, false, ℤ, pos, negsuc, List, [], ◌∷◌, length, map, refl, ap, ◌∙◌, subst, arith, codes, sym}
 use Rattle.std.specs.Prelude.{int_lt, unsigned_abs}
 use Rattle.std.proofs.lemmas.Int.{ints}
 use Rattle.ln_lex.specs.declared.token.Token.{Token}
-use Rattle.ln_lex.specs.declared.token.Kind.TheVariants.{Name, Site, BraceL, BraceR, ParR, Colon, Semi, Comma, Dots}
+use Rattle.ln_lex.specs.declared.token.Kind.TheVariants.{Name, BraceL, BraceR, ParR, Colon, Semi, Comma, Dots}
 use Rattle.ln_syntax.specs.declared.raw.RawEnd.{RawEnd}
 use Rattle.ln_syntax.specs.declared.raw.RawRange.{RawRange}
 use Rattle.ln_syntax.specs.declared.raw.RawCoord.{RawCoord}
@@ -126,20 +126,31 @@ record SiteBack (bytes : List ℕ) (ts : List Token) (i : ℕ) (s : SiteOf) (res
   says : map (λ (c : RawCoord). said.ranged bytes c.name c.range) raws ≡ s.coords
   after : Sits bytes ts to rest
 
-site_by : {bytes : List ℕ} {ts : List Token} {i j : ℕ} {s : SiteOf} {rest : List Lexeme} (raws : List RawCoord) → 0 < length s.coords → Is ts i Site
-    → Is ts (suc i) Name → Is ts (suc (suc i)) BraceL → file.Coords ts (suc (suc (suc i))) j raws → Is ts j BraceR → text bytes (span_at ts (suc i)) ≡ s.name
-    → map (λ (c : RawCoord). said.ranged bytes c.name c.range) raws ≡ s.coords → Sits bytes ts (suc j) rest → SiteBack bytes ts i s rest
-site_by {s = s} [] n a b c d e f g h = let z : 0 ≡ length s.coords = ap length g in absurd (omega arith)
-site_by {j = j} (r ∷ rs) n a b c d e f g h = record { to = suc j; raws = r ∷ rs; derives = file.site a b c d e; name = f; says = g; after = h }
+site_by : (bytes : List ℕ) (ts : List Token) (i : ℕ) (s : SiteOf) (rest : List Lexeme) → 0 < length s.coords → Sits bytes ts i (site s rest)
+    → (m : CoordsBack bytes ts (suc (suc (suc i))) s.coords (word BraceR (codes "}") ∷ line ∷ rest)) (raws : List RawCoord) → m.raws ≡ raws
+    → SiteBack bytes ts i s rest
+site_by bytes ts i s rest n h m [] q =
+    let g : length s.coords ≡ 0 =
+    ap (λ (w : List CoordOf). length w) (sym m.says) ∙ ap (λ (w : List RawCoord). length (map (λ (c : RawCoord). said.ranged bytes c.name c.range) w)) q in
+    absurd (omega arith)
+site_by bytes ts i s rest n h m (r ∷ rs) q =
+    let a = h.2 in
+    let b = a.2 in
+    let e = m.after in
+    record {
+      to = suc m.to;
+      raws = r ∷ rs;
+      derives = file.site h.0 a.0 b.0 (subst (λ (w : List RawCoord). file.Coords ts (suc (suc (suc i))) m.to w) q m.derives) e.0;
+      name = a.1;
+      says = ap (λ (w : List RawCoord). map (λ (c : RawCoord). said.ranged bytes c.name c.range) w) (sym q) ∙ m.says;
+      after = e.2;
+    }
 
 site_back : (bytes : List ℕ) (ts : List Token) (s : SiteOf) → SiteNamed s → (i : ℕ) (rest : List Lexeme) → Sits bytes ts i (site s rest)
     → SiteBack bytes ts i s rest
 site_back bytes ts s n i rest h =
-    let a = h.2 in
-    let b = a.2 in
-    let m = coords_back bytes ts s.coords n.coords (suc (suc (suc i))) (word BraceR (codes "}") ∷ line ∷ rest) b.2 in
-    let e = m.after in
-    site_by m.raws n.some h.0 a.0 b.0 m.derives e.0 a.1 m.says e.2
+    let m = coords_back bytes ts s.coords n.coords (suc (suc (suc i))) (word BraceR (codes "}") ∷ line ∷ rest) h.2.2.2 in
+    site_by bytes ts i s rest n.some h m m.raws refl
 
 -- an argument
 record ArgBack (bytes : List ℕ) (ts : List Token) (t : TableOf) (i : ℕ) (a : ArgOf) (rest : List Lexeme) : Type 0 where
@@ -315,6 +326,7 @@ params_back bytes ts t ps n (c ∷ cs) m i h =
       like = (r.says, f.like);
     }
 
+-- the tokens of the site types, the params and the predicates spell items that are these
 pub sites_back : (bytes : List ℕ) (ts : List Token) (t : TableOf) (ps : List PredOf) → Every (PredNamed t) ps
     → (cs : List CoordOf) → Every CoordNamed cs → (ss : List SiteOf) → Every SiteNamed ss → (i : ℕ)
     → Sits bytes ts i (each site ss (each param cs (each (pred t) ps []))) → FileBack bytes ts t i ss cs ps

@@ -16,10 +16,12 @@ abbrev pub soft : List ℕ → Bool
 soft [] = true
 soft (b ∷ bs) = cond (is_name_byte b) false true
 
+-- the first bytes of a text and more bytes are the text
 pub front : (t rest : List ℕ) → take (length t) (t ++ rest) ≡ t
 front [] rest = refl
 front (b ∷ bs) rest = ap (λ (w : List ℕ). b ∷ w) (front bs rest)
 
+-- and after it come those other bytes
 pub behind : (t rest : List ℕ) → drop (length t) (t ++ rest) ≡ rest
 behind [] rest = refl
 behind (b ∷ bs) rest = behind bs rest
@@ -180,6 +182,7 @@ first_by b [] rest k false false l d h a = sign_first b rest k l d h a
 first_by b (c ∷ []) rest k false false l d h a = dots_first b c rest k l d h
 first_by b (c ∷ x ∷ cs) rest k false false l d h a = absurd (no_some h)
 
+-- a text that is a token is the first one of the bytes, where what follows doesn't make it longer
 pub word_first : (t rest : List ℕ) (k : Kind) → kind_of t ≡ Some k → Apart k rest → IsFirst (t ++ rest) (length t) k
 word_first [] rest k h a = absurd (cc)
 word_first (b ∷ bs) rest k h a = first_by b bs rest k (is_letter b) (is_digit b) refl refl h a
@@ -230,6 +233,7 @@ drop_one bytes xs b at e =
     let s : suc at ≡ at + 1 = omega arith in
     ap (λ (w : ℕ). drop w bytes) s ∙ sym (drop-drop 1 at bytes) ∙ ap (λ (w : List ℕ). drop 1 w) e
 
+-- the bytes after a word are those that follow it
 pub drop_word : (bytes t xs : List ℕ) (at : ℕ) → drop at bytes ≡ t ++ xs → drop (at + length t) bytes ≡ xs
 drop_word bytes t xs at e = sym (drop-drop (length t) at bytes) ∙ ap (λ (w : List ℕ). drop (length t) w) e ∙ behind t xs
 
@@ -257,6 +261,7 @@ stands bytes (word k t ∷ xs) from at e h f g c =
     let i2 : IsFirst (drop at bytes) ((at + length t) - at) k = subst (λ (m : ℕ). IsFirst (drop at bytes) m k) d i in
     record { to = r.to; tokens = (f, gap_all bytes from at g, omega arith, i2, r.tokens); within = r.within; rest = r.rest }
 
+-- the bytes of clear lexemes have just their tokens
 pub lexed : (xs : List Lexeme) → Clear xs → Lexed (text_of xs) (toks 0 xs)
 lexed xs c =
     let r = stands (text_of xs) xs 0 0 refl (omega arith) (omega arith) (gap_none (text_of xs) 0) c in

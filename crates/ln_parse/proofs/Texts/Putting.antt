@@ -1,12 +1,16 @@
 -- Proves that what the printer appends is the text of the lexemes of names, numbers, operators, elements and lets.
-use Rattle.std.proofs.Common.{drop, map, length, get_or, ◌<◌, ◌≤◌, ◌+◌, ◌≡◌, ℕ, Bool, true, false, List, [], ◌∷◌, ◌++◌, refl, ap, sym, ◌∙◌}
+use Rattle.std.proofs.Common.{drop, map, length, ◌≤◌, ◌+◌, ◌≡◌, ℕ, Bool, true, false, List, [], ◌∷◌, ◌++◌, refl, ap, sym, ◌∙◌}
 use Rattle.std.proofs.Common.{append_assoc, subst, codes, decimal, Some, None, ◌⊎◌, inl, inr, arith}
 use Rattle.std.specs.Prelude.{slice_get, option_map}
 use Rattle.std.proofs.lemmas.Option.{slice_get-map}
-use Rattle.std.proofs.lemmas.List.{append-nil, drop_all, drop_more}
+use Rattle.std.proofs.lemmas.List.{append-nil, drop_all}
 use Rattle.ln_lex.specs.declared.token.Kind.{Kind}
 use Rattle.ln_lex.specs.declared.token.Kind.TheVariants.{ParR}
-use Rattle.ln_tree.specs.Formula.{Formula}
+use Rattle.ln_tree.specs.declared.expr.Expr.{Expr}
+use Rattle.ln_tree.specs.declared.name.Name.{Name}
+use Rattle.ln_tree.specs.Names.{name_bytes}
+use Rattle.ln_tree.specs.Formula.{formula}
+use Rattle.ln_parse.proofs.Building.Lists.{IsAt, drop_item}
 use Rattle.ln_parse.specs.declared.printer.Room.{Room}
 use Rattle.ln_parse.specs.Lexemes.{Lexeme, gap, word, text_of, each, name, number, Puts, opening, closing}
 use Rattle.ln_parse.specs.Written.{Written, Naming}
@@ -70,31 +74,39 @@ puts_all {b = b} f e p = sym (append-nil b) ∙ p.on [] ∙ ap (λ (x : List ℕ
 pub record EachPut {A B : Type 0} (old new : List ℕ) (f : B → List Lexeme → List Lexeme) (g : A → B) (xs : List A) (i : ℕ) : Type 0 where
   pub on : (rest : List Lexeme) → new ++ text_of (each f (map g (drop i xs)) rest) ≡ old ++ text_of (each f (map g xs) rest)
 
+-- an operator: its kind of token and its character
+pub record Operator : Type 0 where
+  pub kind : Kind
+  pub char : ℕ
+
 -- an operator with a space on each side, between two operands
-pub spaced : {a b c d : List ℕ} (v w : Room) (k : Kind) (s : ℕ) (l r x y : Written) → x ≡ l → y ≡ r → Puts a b (wrap v x (inside x))
-    → c ≡ b ++ (32 ∷ s ∷ 32 ∷ []) → Puts c d (wrap w y (inside y))
-    → Puts a d (λ rest. wrap v l (inside l) (gap ∷ word k (s ∷ []) ∷ gap ∷ wrap w r (inside r) rest))
-spaced v w k s l r x y e f p q t = then (puts_equal v l x e p)
-    (then (puts_fixed (32 ∷ s ∷ 32 ∷ []) (λ (rest : List Lexeme). gap ∷ word k (s ∷ []) ∷ gap ∷ rest) (λ rest. refl) q) (puts_equal w r y f t))
+pub spaced : {a b c d : List ℕ} (v w : Room) (o : Operator) (l r : Written) → Puts a b (wrap v l (inside l)) → c ≡ b ++ (32 ∷ o.char ∷ 32 ∷ [])
+    → Puts c d (wrap w r (inside r)) → Puts a d (λ rest. wrap v l (inside l) (gap ∷ word o.kind (o.char ∷ []) ∷ gap ∷ wrap w r (inside r) rest))
+spaced v w o l r p q t = then p
+    (then (puts_fixed (32 ∷ o.char ∷ 32 ∷ []) (λ (rest : List Lexeme). gap ∷ word o.kind (o.char ∷ []) ∷ gap ∷ rest) (λ rest. refl) q) t)
 
 -- an operator without spaces, between two operands
-pub tight : {a b c d : List ℕ} (v w : Room) (k : Kind) (s : ℕ) (l r x y : Written) → x ≡ l → y ≡ r → Puts a b (wrap v x (inside x))
-    → c ≡ b ++ (s ∷ []) → Puts c d (wrap w y (inside y))
-    → Puts a d (λ rest. wrap v l (inside l) (word k (s ∷ []) ∷ wrap w r (inside r) rest))
-tight v w k s l r x y e f p q t =
-    then (puts_equal v l x e p) (then (puts_fixed (s ∷ []) (λ (rest : List Lexeme). word k (s ∷ []) ∷ rest) (λ rest. refl) q) (puts_equal w r y f t))
+pub tight : {a b c d : List ℕ} (v w : Room) (o : Operator) (l r : Written) → Puts a b (wrap v l (inside l)) → c ≡ b ++ (o.char ∷ [])
+    → Puts c d (wrap w r (inside r)) → Puts a d (λ rest. wrap v l (inside l) (word o.kind (o.char ∷ []) ∷ wrap w r (inside r) rest))
+tight v w o l r p q t = then p (then (puts_fixed (o.char ∷ []) (λ (rest : List Lexeme). word o.kind (o.char ∷ []) ∷ rest) (λ rest. refl) q) t)
 
 -- an element that was found at a place, seen through f
 pub found : {A B : Type 0} (f : A → B) (xs : List A) (i k : ℕ) {x : A} → k ≡ i → Some x ≡ slice_get xs k → slice_get (map f xs) i ≡ Some (f x)
 found f xs i k q e = slice_get-map f xs i ∙ ap (λ o. option_map f o) (sym (e ∙ ap (λ (j : ℕ). slice_get xs j) q))
 
+-- the element at place i is appended
+pub record ElementPut {A B : Type 0} (old new : List ℕ) (f : B → List Lexeme → List Lexeme) (g : A → B) (xs : List A) (i : ℕ) : Type 0 where
+  pub element : A
+  pub at : IsAt xs i element
+  pub puts : Puts old new (f (g element))
+
 -- one more element is appended
-pub each_more : {A B : Type 0} {a b c : List ℕ} (f : B → List Lexeme → List Lexeme) (g : A → B) (xs : List A) (i : ℕ) (x : A)
-    → i < length xs → x ≡ get_or xs i x → EachPut a b f g xs i → Puts b c (f (g x)) → EachPut a c f g xs (i + 1)
-each_more f g xs i x h q p s = record {
+pub each_more : {A B : Type 0} {a b c : List ℕ} (f : B → List Lexeme → List Lexeme) (g : A → B) (xs : List A) (i : ℕ) → EachPut a b f g xs i
+    → ElementPut b c f g xs i → EachPut a c f g xs (i + 1)
+each_more f g xs i p h = record {
   on = λ rest.
-      let e : drop i xs ≡ x ∷ drop (i + 1) xs = drop_more xs i x h ∙ ap (λ w. w ∷ drop (i + 1) xs) (sym q) in
-      s.on (each f (map g (drop (i + 1) xs)) rest) ∙ simp e at (p.on rest);
+      let e : drop i xs ≡ h.element ∷ drop (i + 1) xs = drop_item xs i h.element h.at in
+      h.puts.on (each f (map g (drop (i + 1) xs)) rest) ∙ simp e at (p.on rest);
 }
 
 -- all elements are appended
@@ -108,25 +120,41 @@ each_done {a = a} {b = b} f g xs ys i l q p =
 pub missing : {A B : Type 0} (f : A → B) (xs : List A) (i k : ℕ) → k ≡ i → None ≡ slice_get xs k → slice_get (map f xs) i ≡ None
 missing f xs i k q e = slice_get-map f xs i ∙ ap (λ o. option_map f o) (sym (e ∙ ap (λ (j : ℕ). slice_get xs j) q))
 
+-- the names and the expressions of lets, side by side
+pub record LetLists : Type 0 where
+  pub names : List Name
+  pub values : List Expr
+
 -- the lets but for these last ones are appended
-pub record LetsPut {A B : Type 0} (old new : List ℕ) (n : Naming) (f : A → List ℕ) (g : B → Formula) (ts us : List A) (es fs : List B) : Type 0 where
-  pub on : (rest : List Lexeme) → new ++ text_of (lets n (map f us) (map g fs) rest) ≡ old ++ text_of (lets n (map f ts) (map g es) rest)
+pub record LetsPut (old new : List ℕ) (n : Naming) (all last : LetLists) : Type 0 where
+  pub on : (rest : List Lexeme) → new ++ text_of (lets n (map name_bytes last.names) (map formula last.values) rest)
+      ≡ old ++ text_of (lets n (map name_bytes all.names) (map formula all.values) rest)
+
+-- the first of these lets, and the others
+pub record FirstLet (last after : LetLists) (t : Name) (e : Expr) : Type 0 where
+  pub name : last.names ≡ t ∷ after.names
+  pub value : last.values ≡ e ∷ after.values
 
 -- one more let is appended
-pub lets_more : {A B : Type 0} {a b c : List ℕ} {n : Naming} {f : A → List ℕ} {g : B → Formula} {ts us vs : List A} {es fs gs : List B} (t : A)
-    (e : B) → us ≡ t ∷ vs → fs ≡ e ∷ gs → LetsPut a b n f g ts us es fs → Puts b c (let_of n (f t) (g e)) → LetsPut a c n f g ts vs es gs
-lets_more {n = n} {f = f} {g = g} {vs = vs} {gs = gs} t e p q l s = record {
-  on = λ rest. s.on (lets n (map f vs) (map g gs) rest) ∙ simp (p, q) at (l.on rest);
+pub lets_more : {a b c : List ℕ} {n : Naming} {all last after : LetLists} (t : Name) (e : Expr) → FirstLet last after t e → LetsPut a b n all last
+    → Puts b c (let_of n (name_bytes t) (formula e)) → LetsPut a c n all after
+lets_more {n = n} {after = after} t e f l s = record {
+  on = λ rest. let p = f.name in let q = f.value in
+      s.on (lets n (map name_bytes after.names) (map formula after.values) rest) ∙ simp (p, q) at (l.on rest);
 }
 
 no_lets : (n : Naming) (ts : List (List ℕ)) (rest : List Lexeme) → lets n ts [] rest ≡ rest
 no_lets n [] rest = refl
 no_lets n (t ∷ ts) rest = refl
 
+none_last : (a b : List ℕ) (n : Naming) (all : LetLists) (us : List Name) (fs : List Expr) → (length us ≡ 0) ⊎ (length fs ≡ 0)
+    → LetsPut a b n all (record { names = us; values = fs }) → Puts a b (lets n (map name_bytes all.names) (map formula all.values))
+none_last a b n all [] fs (inl q) l = record { on = λ rest. l.on rest }
+none_last a b n all (u ∷ us) fs (inl q) l = absurd (omega arith)
+none_last a b n all us [] (inr q) l = record { on = λ rest. let p = l.on rest in simp (no_lets n (map name_bytes us) rest) at p }
+none_last a b n all us (e ∷ fs) (inr q) l = absurd (omega arith)
+
 -- where a name or an expression is missing, all lets are appended
-pub lets_end : {A B : Type 0} {a b : List ℕ} {n : Naming} {f : A → List ℕ} {g : B → Formula} {ts us : List A} {es fs : List B}
-    → (length us ≡ 0) ⊎ (length fs ≡ 0) → LetsPut a b n f g ts us es fs → Puts a b (lets n (map f ts) (map g es))
-lets_end {us = []} (inl q) l = record { on = λ rest. l.on rest }
-lets_end {us = u ∷ us} (inl q) l = absurd (omega arith)
-lets_end {n = n} {f = f} {us = us} {fs = []} (inr q) l = record { on = λ rest. let p = l.on rest in simp (no_lets n (map f us) rest) at p }
-lets_end {fs = e ∷ fs} (inr q) l = absurd (omega arith)
+pub lets_end : {a b : List ℕ} {n : Naming} {all last : LetLists} → (length last.names ≡ 0) ⊎ (length last.values ≡ 0) → LetsPut a b n all last
+    → Puts a b (lets n (map name_bytes all.names) (map formula all.values))
+lets_end {a = a} {b = b} {n = n} {all = all} {last = last} h l = none_last a b n all last.names last.values h l

@@ -190,57 +190,65 @@ name_flat : (bytes : List ℕ) (s : Scope) (at : Span) (o : Option ℕ) (r : ℕ
 name_flat bytes s at (Some j) r = refl
 name_flat bytes s at None r = refl
 
+-- the depth at place i is d, at most 64
+record DepthAt (ts : List Token) (i d : ℕ) : Type 0 where
+  is : depth_after 0 (take i ts) ≡ d
+  most : d ≤ 64
+
 nested : (bytes : List ℕ) (s : Scope) {ts : List Token} {o : Sort} {i j : ℕ} {e : Tree} → IsShallow ts → Derives ts o i j e → (d : ℕ)
-    → depth_after 0 (take i ts) ≡ d → d ≤ 64 → deep_before bytes s d o → Nests bytes s ts (want o) d j e
-nested bytes s {ts = ts} h (number {i = i} n) d e l b = record { back = depth_step ts i Number d n e; deep = omega arith }
-nested bytes s {ts = ts} h (name {i = i} n) d e l b = record {
-  back = depth_step ts i Name d n e;
-  deep = let q = name_flat bytes s (span_at ts i) (position (λ m. same bytes m.name (span_at ts i)) s.lets) 3 in omega arith;
+    → DepthAt ts i d → deep_before bytes s d o → Nests bytes s ts (want o) d j e
+nested bytes s {ts = ts} h (number {i = i} n) d e b = let l = e.most in record { back = depth_step ts i Number d n e.is; deep = omega arith }
+nested bytes s {ts = ts} h (name {i = i} n) d e b = record {
+  back = depth_step ts i Name d n e.is;
+  deep = let l = e.most in let q = name_flat bytes s (span_at ts i) (position (λ m. same bytes m.name (span_at ts i)) s.lets) 3 in omega arith;
 }
-nested bytes s {ts = ts} h (input {i = i} n p x) d e l b =
-    record { back = depth_step ts (suc (suc i)) Name d x (depth_step ts (suc i) Dot d p (depth_step ts i Name d n e)); deep = omega arith }
-nested bytes s {ts = ts} h (parens {i = i} {j = j} {e = t} n x c) d e l b =
+nested bytes s {ts = ts} h (input {i = i} n p x) d e b =
+    let l = e.most in
+    record { back = depth_step ts (suc (suc i)) Name d x (depth_step ts (suc i) Dot d p (depth_step ts i Name d n e.is)); deep = omega arith }
+nested bytes s {ts = ts} h (parens {i = i} {j = j} {e = t} n x c) d e b =
     let m = h i n in
-    let a = nested bytes s h x (suc d) (depth_step ts i ParL d n e) (omega arith) tt in
+    let l = e.most in
+    let f = e.is in
+    let a = nested bytes s h x (suc d) (record { is = depth_step ts i ParL d n f; most = omega arith }) tt in
     let q = a.deep in
     let g = looser (resolved bytes s t) in let u = g.most in
     let z : suc d - 1 ≡ d = omega arith in
     record { back = depth_step ts j ParR (suc d) c a.back ∙ z; deep = omega arith }
-nested bytes s h (plain {e = t} x) d e l b =
-    let a = nested bytes s h x d e l tt in
+nested bytes s h (plain {e = t} x) d e b =
+    let a = nested bytes s h x d e tt in
     let q = a.deep in
     let g = looser (resolved bytes s t) in
     let u = g.three in
     record { back = a.back; deep = omega arith }
-nested bytes s {ts = ts} h (power {j = j} x c n) d e l b =
-    let a = nested bytes s h x d e l tt in let q = a.deep in
+nested bytes s {ts = ts} h (power {j = j} x c n) d e b =
+    let a = nested bytes s h x d e tt in let q = a.deep in
     record { back = depth_step ts (suc j) Number d n (depth_step ts j Caret d c a.back); deep = omega arith }
-nested bytes s h (base x) d e l b = let a = nested bytes s h x d e l tt in record { back = a.back; deep = a.deep }
-nested bytes s {ts = ts} h (minus {i = i} k x) d e l b =
-    let a = nested bytes s h x d (depth_step ts i Minus d k e) l tt in
+nested bytes s h (base x) d e b = let a = nested bytes s h x d e tt in record { back = a.back; deep = a.deep }
+nested bytes s {ts = ts} h (minus {i = i} k x) d e b =
+    let a = nested bytes s h x d (record { is = depth_step ts i Minus d k e.is; most = e.most }) tt in
     let q = a.deep in
     record { back = a.back; deep = omega arith }
-nested bytes s h (term {f = f} x r) d e l b =
-    let a = nested bytes s h x d e l tt in let q = a.deep in
+nested bytes s h (term {f = f} x r) d e b =
+    let a = nested bytes s h x d e tt in let q = a.deep in
     let g = looser (resolved bytes s f) in let u = g.two in
-    let z = nested bytes s h r d a.back l (omega arith) in record { back = z.back; deep = z.deep }
-nested bytes s h no_factor d e l b = record { back = e; deep = b }
-nested bytes s {ts = ts} h (times {i = i} t x r) d e l b =
-    let a = nested bytes s h x d (depth_step ts i Star d t e) l tt in let q = a.deep in
-    let z = nested bytes s h r d a.back l (omega arith) in record { back = z.back; deep = z.deep }
-nested bytes s h (sum {f = f} x r) d e l b =
-    let a = nested bytes s h x d e l tt in let q = a.deep in
+    let z = nested bytes s h r d (record { is = a.back; most = e.most }) (omega arith) in record { back = z.back; deep = z.deep }
+nested bytes s h no_factor d e b = record { back = e.is; deep = b }
+nested bytes s {ts = ts} h (times {i = i} t x r) d e b =
+    let a = nested bytes s h x d (record { is = depth_step ts i Star d t e.is; most = e.most }) tt in let q = a.deep in
+    let z = nested bytes s h r d (record { is = a.back; most = e.most }) (omega arith) in record { back = z.back; deep = z.deep }
+nested bytes s h (sum {f = f} x r) d e b =
+    let a = nested bytes s h x d e tt in let q = a.deep in
     let g = looser (resolved bytes s f) in let u = g.one in
-    let z = nested bytes s h r d a.back l (omega arith) in record { back = z.back; deep = z.deep }
-nested bytes s h no_term d e l b = record { back = e; deep = b }
-nested bytes s {ts = ts} h (plus {i = i} t x r) d e l b =
-    let a = nested bytes s h x d (depth_step ts i Plus d t e) l tt in let q = a.deep in
-    let z = nested bytes s h r d a.back l (omega arith) in record { back = z.back; deep = z.deep }
-nested bytes s {ts = ts} h (less {i = i} t x r) d e l b =
-    let a = nested bytes s h x d (depth_step ts i Minus d t e) l tt in let q = a.deep in
-    let z = nested bytes s h r d a.back l (omega arith) in record { back = z.back; deep = z.deep }
+    let z = nested bytes s h r d (record { is = a.back; most = e.most }) (omega arith) in record { back = z.back; deep = z.deep }
+nested bytes s h no_term d e b = record { back = e.is; deep = b }
+nested bytes s {ts = ts} h (plus {i = i} t x r) d e b =
+    let a = nested bytes s h x d (record { is = depth_step ts i Plus d t e.is; most = e.most }) tt in let q = a.deep in
+    let z = nested bytes s h r d (record { is = a.back; most = e.most }) (omega arith) in record { back = z.back; deep = z.deep }
+nested bytes s {ts = ts} h (less {i = i} t x r) d e b =
+    let a = nested bytes s h x d (record { is = depth_step ts i Minus d t e.is; most = e.most }) tt in let q = a.deep in
+    let z = nested bytes s h r d (record { is = a.back; most = e.most }) (omega arith) in record { back = z.back; deep = z.deep }
 
 -- an expression outside parentheses leaves none open, and its canonical text is nested at most 64 deep
 pub expression_nests : (bytes : List ℕ) (s : Scope) {ts : List Token} {i j : ℕ} {e : Tree} → IsShallow ts → Derives ts Sum i j e
     → depth_after 0 (take i ts) ≡ 0 → (depth_after 0 (take j ts) ≡ 0) × (nesting 0 (resolved bytes s e) ≤ 64)
-expression_nests bytes s h x e = let a = nested bytes s h x 0 e (omega arith) tt in let q = a.deep in (a.back, omega arith)
+expression_nests bytes s h x e = let a = nested bytes s h x 0 (record { is = e; most = omega arith }) tt in let q = a.deep in (a.back, omega arith)

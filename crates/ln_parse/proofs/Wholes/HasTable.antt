@@ -1,5 +1,5 @@
 -- The canonical text of a whole table is a text of it.
-use Rattle.std.proofs.Common.{◌≡◌, ℕ, suc, ◌+◌, ◌≤◌, true, List, [], ◌∷◌, ◌++◌, length, map, refl, ap, sym, arith}
+use Rattle.std.proofs.Common.{◌≡◌, ℕ, suc, ◌+◌, ◌≤◌, true, List, [], ◌∷◌, length, map, refl, ap, sym, arith}
 use Rattle.std.specs.List.{list_all}
 use Rattle.std.proofs.lemmas.Bool.{and_parts, ltb-true}
 use Rattle.ln_tree.specs.declared.shape.VarInfo.{VarInfo}
@@ -13,11 +13,10 @@ use Rattle.ln_parse.specs.Spanless.{IsTextUpToSpans}
 use Rattle.ln_parse.specs.WholeTable.{IsShortName, SiteNames, ArgNames, PredKept, IsWhole}
 use Rattle.ln_parse.specs.Written.{Naming, naming}
 use Rattle.ln_parse.proofs.Texts.ClearText.{table_clear, table_back}
-use Rattle.ln_parse.proofs.ReadBack.FileClean.{Facts, file_done}
+use Rattle.ln_parse.proofs.ReadBack.FileClean.{file_done}
 use Rattle.ln_parse.proofs.ReadBack.InputsThere.{NamesGood, named, at_place, every_at}
 use Rattle.ln_parse.proofs.Texts.LexBack.{toks, lexed}
 use Rattle.ln_parse.proofs.Texts.Nested.{shallow, words_are}
-use Rattle.ln_parse.proofs.ReadBack.ScopeNames.{differ_left, differ_right}
 use Rattle.ln_parse.proofs.Wholes.TextTokens.{table_words, table_shallow}
 use Rattle.ln_parse.proofs.Wholes.WholeParts.{InRange, SiteParts, PredParts, table_parts}
 
@@ -90,17 +89,7 @@ has_table t w =
     let n = table_named t w in
     let xs = lexemes t [] in
     let b = table_back t n in
-    let site_list = map (λ (s : SiteOf). s.name) t.sites in
-    let param_list = map (λ (c : CoordOf). c.name) t.params in
-    let pred_list = map (λ (q : PredOf). q.name) t.preds in
-    let f : Facts t = record {
-      site_names = differ_left site_list (param_list ++ pred_list) p.names;
-      param_names = differ_left param_list pred_list (differ_right site_list (param_list ++ pred_list) p.names);
-      short_sites = w.sites;
-      short_params = w.params;
-      site_parts = p.sites;
-    } in
-    let d = file_done (canonical t) (toks 0 xs) t f b.items b.derives b.like p.params w.preds p.preds p.names w.few_sites w.few_params w.few_preds in
+    let d = file_done (canonical t) (toks 0 xs) t w p b.items b.derives b.like in
     let u : TableOf = record { sites = t.sites; params = t.params; preds = d.preds } in
     let a = words_are 0 xs in
     let c = table_words t w.preds p.preds in

@@ -4,29 +4,37 @@ use Rattle.std.specs.Prelude.{ℤ, int_lt, ◌≤ℤ◌, nat_le, slice_get}
 use Rattle.std.proofs.lemmas.Bool.Decides.{nat_tests}
 use Rattle.std.proofs.lemmas.Int.{ints}
 
+-- a number that tests as at most another is at most it
 pub at_most : (n m : ℕ) → nat_le n m ≡ true → n ≤ m
 at_most n m h = grind (arith, nat_tests)
 
+-- a number that tests as below another is below it
 pub below : (n m : ℕ) → nat_lt n m ≡ true → n < m
 below n m h = grind (arith, nat_tests)
 
+-- numbers that test as equal are equal
 pub equal : (n m : ℕ) → (n == m) ≡ true → n ≡ m
 equal n m h = grind (arith, nat_tests)
 
+-- of two integers in order, the second isn't below the first
 pub in_order : (x y : ℤ) → x ≤ℤ y → int_lt y x ≡ false
 in_order x y h = grind (arith, nat_tests, ints)
 
+-- where a disjunction is false, both tests are
 pub neither : (a b : Bool) → (a || b) ≡ false → (a ≡ false) × (b ≡ false)
 neither true b h = absurd (cc)
 neither false b h = (refl, h)
 
+-- and the other way
 pub or_false : (a b : Bool) → a ≡ false → b ≡ false → (a || b) ≡ false
 or_false a b h g = rw (h, g) refl
 
+-- a fact that follows from either of two tests follows where one of them is true
 pub or_cases : {C : Type 0} (a b : Bool) → (a || b) ≡ true → (a ≡ true → C) → (b ≡ true → C) → C
 or_cases true b h f g = f refl
 or_cases false b h f g = g h
 
+-- a test whose negation is true is false
 pub not_so : (a : Bool) → not a ≡ true → a ≡ false
 not_so true h = sym h
 not_so false h = refl

@@ -54,6 +54,7 @@ none_test : (t : List ℕ) (us : List (List ℕ)) → NoneIs t us → is_new t u
 none_test t [] h = refl
 none_test t (u ∷ us) h = let q = none_test t us h.1 in rw h.0 q
 
+-- names that differ pass the test that they do
 pub differ_test : (us : List (List ℕ)) → Differ us → differ us ≡ true
 differ_test [] h = refl
 differ_test (u ∷ us) h = and_from (is_new u us) (differ us) (none_test u us h.0) (differ_test us h.1)
@@ -240,16 +241,28 @@ record LetsWhole (ts : List Token) (i k : ℕ) (args : List ArgOf) (xs : List Fo
   deep : list_all (λ e. nat_le (nesting 0 e) 64) xs ≡ true
   tokens : i + total (λ e. 4 + tokens_of args 0 e) xs ≤ k
 
-lets_whole : (bytes : List ℕ) (ts : List Token) (is : List Item) (raws : List RawArg) → IsShallow ts → {i k : ℕ} {ls : List RawLet} → file.Lets ts i k ls
-    → (before : List RawLet) (xs : List Formula) → LetsSay bytes ts is raws before ls xs → Each (ReadyLet bytes ts is raws) before ls
-    → depth_after 0 (take i ts) ≡ 0 → LetsWhole ts i k (said bytes is raws) xs
-lets_whole bytes ts is raws h file.no_let before [] s r e = record { back = e; deep = refl; tokens = omega arith }
-lets_whole bytes ts is raws h file.no_let before (x ∷ xs) s r e = absurd s
-lets_whole bytes ts is raws h (file.a_let l n q d m g) before [] s r e = absurd s
-lets_whole bytes ts is raws h (file.a_let {i = i} {j = j} l n q d m g) before (x ∷ xs) s r e =
-    let v = value_whole bytes ts is raws before (record { from = suc (suc (suc i)); to = j }) x h s.0 r.0.value
-    (depth_step ts (suc (suc i)) Equals 0 q (depth_step ts (suc i) Name 0 n (depth_step ts i Let 0 l e))) in
-    let y = lets_whole bytes ts is raws h g _ xs s.1 r.1 (depth_step ts j Semi 0 m v.back) in
+-- lets say these formulas and are ready, each after the lets before it
+record LetsRead (bytes : List ℕ) (ts : List Token) (is : List Item) (raws : List RawArg) (before ls : List RawLet) (xs : List Formula) : Type 0 where
+  say : LetsSay bytes ts is raws before ls xs
+  ready : Each (ReadyLet bytes ts is raws) before ls
+
+-- the tokens are nested no deeper than the limit, and no parenthesis or brace is open at place i
+record Flat (ts : List Token) (i : ℕ) : Type 0 where
+  shallow : IsShallow ts
+  depth : depth_after 0 (take i ts) ≡ 0
+
+lets_whole : (bytes : List ℕ) (ts : List Token) (is : List Item) (raws : List RawArg) {i k : ℕ} {ls : List RawLet} → file.Lets ts i k ls
+    → (before : List RawLet) (xs : List Formula) → LetsRead bytes ts is raws before ls xs → Flat ts i → LetsWhole ts i k (said bytes is raws) xs
+lets_whole bytes ts is raws file.no_let before [] r e = record { back = e.depth; deep = refl; tokens = omega arith }
+lets_whole bytes ts is raws file.no_let before (x ∷ xs) r e = absurd r.say
+lets_whole bytes ts is raws (file.a_let l n q d m g) before [] r e = absurd r.say
+lets_whole bytes ts is raws (file.a_let {i = i} {j = j} l n q d m g) before (x ∷ xs) r e =
+    let s = r.say in
+    let u = r.ready in
+    let h = e.shallow in
+    let v = value_whole bytes ts is raws before (record { from = suc (suc (suc i)); to = j }) x h s.0 u.0.value
+    (depth_step ts (suc (suc i)) Equals 0 q (depth_step ts (suc i) Name 0 n (depth_step ts i Let 0 l e.depth))) in
+    let y = lets_whole bytes ts is raws g _ xs (record { say = s.1; ready = u.1 }) (record { shallow = h; depth = depth_step ts j Semi 0 m v.back }) in
     let a = v.tokens in let b = y.tokens in let c = v.deep in
     record { back = y.back; deep = and_from _ _ (le-leb (nesting 0 x) 64 c) y.deep; tokens = omega arith }
 
@@ -318,11 +331,33 @@ pred_tests S P shape name args sites vars names lets root =
     && (sites == count_by is_site_said args) && same_vars vars (vars_behind S P 0 0 args) && differ (map (arg_name P) args ++ names)
     && list_all (λ e. nat_le (nesting 0 e) 64) lets && nat_le (nesting 0 root) 64
 
-pred_from : (bytes : List ℕ) (ts : List Token) (is : List Item) (t : TableOf) → IsShallow ts → Declares bytes is t.sites t.params
-    → (p : PredOf) {i j : ℕ} {name : Span} {raws : List RawArg} {ls : List RawLet} {root : Places} → file.IsItem ts i j (PredItem name raws ls root)
-    → PredSays bytes ts is t name raws ls root p → ReadyPred bytes ts is name raws ls root → Each (ArgWithin bytes is) [] raws
-    → Each (LetWithin bytes ts is raws) [] ls → depth_after 0 (take i ts) ≡ 0 → PredWhole t.sites t.params ts i j p
-pred_from bytes ts is t h d p (file.predicate {i = i} {j = j} {k = k} {l = l} {args = raws} {ls = ls} a1 a2 a3 a4 a5 a6 a7 a8 a9 b1 b2) s r aw lw e =
+-- the tokens of a predicate say p of the table: it is ready and within the limits, after items that declare the table's site types and params
+record PredRead (bytes : List ℕ) (ts : List Token) (is : List Item) (t : TableOf) (name : Span) (raws : List RawArg) (ls : List RawLet)
+    (root : Places) (p : PredOf) : Type 0 where
+  says : PredSays bytes ts is t name raws ls root p
+  ready : ReadyPred bytes ts is name raws ls root
+  declares : Declares bytes is t.sites t.params
+  args : Each (ArgWithin bytes is) [] raws
+  lets : Each (LetWithin bytes ts is raws) [] ls
+
+-- an item is this predicate, and is read so
+abbrev ItemRead : List ℕ → List Token → List Item → TableOf → Item → PredOf → Type 0
+ItemRead bytes ts is t (SiteItem name coords) p = ⊥
+ItemRead bytes ts is t (ParamItem name range) p = ⊥
+ItemRead bytes ts is t (PredItem name raws ls root) p = PredRead bytes ts is t name raws ls root p
+
+pred_from : (bytes : List ℕ) (ts : List Token) (is : List Item) (t : TableOf) (p : PredOf) {i j : ℕ} {x : Item} → file.IsItem ts i j x
+    → ItemRead bytes ts is t x p → Flat ts i → PredWhole t.sites t.params ts i j p
+pred_from bytes ts is t p (file.site a1 a2 a3 a4 a5) m f = absurd m
+pred_from bytes ts is t p (file.param a1 a2 a3 a4 a5) m f = absurd m
+pred_from bytes ts is t p (file.predicate {i = i} {j = j} {k = k} {l = l} {args = raws} {ls = ls} a1 a2 a3 a4 a5 a6 a7 a8 a9 b1 b2) m f =
+    let s = m.says in
+    let r = m.ready in
+    let d = m.declares in
+    let aw = m.args in
+    let lw = m.lets in
+    let h = f.shallow in
+    let e = f.depth in
     let S = t.sites in
     let P = t.params in
     let xs = said bytes is raws in
@@ -330,7 +365,7 @@ pred_from bytes ts is t h d p (file.predicate {i = i} {j = j} {k = k} {l = l} {a
     let e1 = depth_step ts (suc (suc i)) ParL 0 a3 (depth_step ts (suc i) Name 0 a2 (depth_step ts i Predicate 0 a1 e)) in
     let e2 = args_depth 1 a4 e1 in
     let e3 = depth_step ts (suc j) BraceL 0 a6 (depth_step ts j ParR 1 a5 e2) in
-    let y = lets_whole bytes ts is raws h a7 [] p.lets s.lets_are r.lets e3 in
+    let y = lets_whole bytes ts is raws a7 [] p.lets (record { say = s.lets_are; ready = r.lets }) (record { shallow = h; depth = e3 }) in
     let v = value_whole bytes ts is raws ls (record { from = suc k; to = l }) p.root h s.root_is r.root (depth_step ts k Sign 0 a8 y.back) in
     let e4 = depth_step ts (suc l) BraceR 0 b2 (depth_step ts l Semi 0 b1 v.back) in
     let c = args_some a4 in
@@ -374,32 +409,56 @@ record ItemsWhole (bytes : List ℕ) (t : TableOf) (i k : ℕ) (is : List Item) 
   preds : list_all (pred_whole t.sites t.params) ps ≡ true
   tokens : i + (total site_tokens (sites_said bytes is) + (total param_tokens (params_said bytes is) + total pred_tokens ps)) ≤ k
 
-items_whole : (bytes : List ℕ) (ts : List Token) (t : TableOf) (all : List Item) → IsShallow ts → t.sites ≡ sites_said bytes all
-    → t.params ≡ params_said bytes all → Each (ReadyItem bytes ts) [] all → (before : List Item) {i k : ℕ} {is : List Item} → file.Items ts i k is
-    → before ++ is ≡ all → (ps : List PredOf) → PredsSay bytes ts before t is ps → Each (ReadyItem bytes ts) before is
-    → Each (ItemWithin bytes ts) before is → depth_after 0 (take i ts) ≡ 0 → ItemsWhole bytes t i k is ps
-items_whole bytes ts t all h es ep ra before file.no_item q [] s r w e = record { sites = refl; params = refl; preds = refl; tokens = omega arith }
-items_whole bytes ts t all h es ep ra before file.no_item q (p ∷ ps) s r w e = absurd s
-items_whole bytes ts t all h es ep ra before (file.an_item {x = x} {xs = xs} (file.site {i = i} {j = j} {c = rc} {cs = rcs} a1 a2 a3 a4 a5) y) q ps s r w e =
-    let e1 =
-    depth_step ts j BraceR 0 a5 (coords_depth 0 a4 (depth_step ts (suc (suc i)) BraceL 0 a3 (depth_step ts (suc i) Name 0 a2 (depth_step ts i Site 0 a1 e)))) in
-    let m = items_whole bytes ts t all h es ep ra (before ++ (x ∷ [])) y (append_assoc before (x ∷ []) xs ∙ q) ps s r.1 w.1 e1 in
+-- place i of a file without a fault: all its items, those before the place, and the remaining ones
+record ItemsRead (bytes : List ℕ) (ts : List Token) (t : TableOf) (all before is : List Item) (i : ℕ) : Type 0 where
+  sites : t.sites ≡ sites_said bytes all
+  params : t.params ≡ params_said bytes all
+  all_ready : Each (ReadyItem bytes ts) [] all
+  whole : before ++ is ≡ all
+  ready : Each (ReadyItem bytes ts) before is
+  within : Each (ItemWithin bytes ts) before is
+  flat : Flat ts i
+
+-- the place after one more item
+next_read : {bytes : List ℕ} {ts : List Token} {t : TableOf} {all before is : List Item} {x : Item} {i j : ℕ}
+    → ItemsRead bytes ts t all before (x ∷ is) i → depth_after 0 (take j ts) ≡ 0 → ItemsRead bytes ts t all (before ++ (x ∷ [])) is j
+next_read {before = before} {is = is} {x = x} r e = record {
+  sites = r.sites;
+  params = r.params;
+  all_ready = r.all_ready;
+  whole = append_assoc before (x ∷ []) is ∙ r.whole;
+  ready = r.ready.1;
+  within = r.within.1;
+  flat = record { shallow = r.flat.shallow; depth = e };
+}
+
+items_whole : (bytes : List ℕ) (ts : List Token) (t : TableOf) (all before : List Item) {i k : ℕ} {is : List Item} → file.Items ts i k is
+    → (ps : List PredOf) → PredsSay bytes ts before t is ps → ItemsRead bytes ts t all before is i → ItemsWhole bytes t i k is ps
+items_whole bytes ts t all before file.no_item [] s r = record { sites = refl; params = refl; preds = refl; tokens = omega arith }
+items_whole bytes ts t all before file.no_item (p ∷ ps) s r = absurd s
+items_whole bytes ts t all before (file.an_item {x = x} {xs = xs} (file.site {i = i} {j = j} {c = rc} {cs = rcs} a1 a2 a3 a4 a5) y) ps s r =
+    let e1 = depth_step ts j BraceR 0 a5
+    (coords_depth 0 a4 (depth_step ts (suc (suc i)) BraceL 0 a3 (depth_step ts (suc i) Name 0 a2 (depth_step ts i Site 0 a1 r.flat.depth)))) in
+    let m = items_whole bytes ts t all (before ++ (x ∷ [])) y ps s (next_read r e1) in
     let c = coords_count bytes a4 in
     let g = m.tokens in
-    let f = site_from bytes (span_at ts (suc i)) (rc ∷ rcs) r.0 w.0.parts.1 in
+    let f = site_from bytes (span_at ts (suc i)) (rc ∷ rcs) r.ready.0 r.within.0.parts.1 in
     record { sites = and_from _ _ f m.sites; params = m.params; preds = m.preds; tokens = omega arith }
-items_whole bytes ts t all h es ep ra before (file.an_item {x = x} {xs = xs} (file.param {i = i} {j = j} {r = rr} a1 a2 a3 a4 a5) y) q ps s r w e =
-    let e1 =
-    depth_step ts j Semi 0 a5 (range_depth 0 a4 (depth_step ts (suc (suc i)) Colon 0 a3 (depth_step ts (suc i) Name 0 a2 (depth_step ts i Param 0 a1 e)))) in
-    let m = items_whole bytes ts t all h es ep ra (before ++ (x ∷ [])) y (append_assoc before (x ∷ []) xs ∙ q) ps s r.1 w.1 e1 in
+items_whole bytes ts t all before (file.an_item {x = x} {xs = xs} (file.param {i = i} {j = j} {r = rr} a1 a2 a3 a4 a5) y) ps s r =
+    let e1 = depth_step ts j Semi 0 a5
+    (range_depth 0 a4 (depth_step ts (suc (suc i)) Colon 0 a3 (depth_step ts (suc i) Name 0 a2 (depth_step ts i Param 0 a1 r.flat.depth)))) in
+    let m = items_whole bytes ts t all (before ++ (x ∷ [])) y ps s (next_read r e1) in
     let c = range_count bytes a4 in
     let g = m.tokens in
-    record { sites = m.sites; params = and_from _ _ (range_whole bytes (span_at ts (suc i)) rr w.0.parts) m.params; preds = m.preds; tokens = omega arith }
-items_whole bytes ts t all h es ep ra before (file.an_item (file.predicate a1 a2 a3 a4 a5 a6 a7 a8 a9 b1 b2) y) q [] s r w e = absurd s
-items_whole bytes ts t all h es ep ra before (file.an_item {x = x} {xs = xs} (file.predicate a1 a2 a3 a4 a5 a6 a7 a8 a9 b1 b2) y) q (p ∷ ps) s r w e =
-    let d = declared bytes ts before (x ∷ xs) all t.sites t.params q es ep ra in
-    let v = pred_from bytes ts before t h d p (file.predicate a1 a2 a3 a4 a5 a6 a7 a8 a9 b1 b2) s.0 r.0 w.0.parts.args_each w.0.parts.lets_each e in
-    let m = items_whole bytes ts t all h es ep ra (before ++ (x ∷ [])) y (append_assoc before (x ∷ []) xs ∙ q) ps s.1 r.1 w.1 v.back in
+    let f = range_whole bytes (span_at ts (suc i)) rr r.within.0.parts in
+    record { sites = m.sites; params = and_from _ _ f m.params; preds = m.preds; tokens = omega arith }
+items_whole bytes ts t all before (file.an_item (file.predicate a1 a2 a3 a4 a5 a6 a7 a8 a9 b1 b2) y) [] s r = absurd s
+items_whole bytes ts t all before (file.an_item {x = x} {xs = xs} (file.predicate a1 a2 a3 a4 a5 a6 a7 a8 a9 b1 b2) y) (p ∷ ps) s r =
+    let w = r.within in
+    let d = declared bytes ts before (x ∷ xs) all t.sites t.params r.whole r.sites r.params r.all_ready in
+    let v = pred_from bytes ts before t p (file.predicate a1 a2 a3 a4 a5 a6 a7 a8 a9 b1 b2)
+    (record { says = s.0; ready = r.ready.0; declares = d; args = w.0.parts.args_each; lets = w.0.parts.lets_each }) r.flat in
+    let m = items_whole bytes ts t all (before ++ (x ∷ [])) y ps s.1 (next_read r v.back) in
     let a = v.tokens in let g = m.tokens in
     record { sites = m.sites; params = m.params; preds = and_from _ _ v.whole m.preds; tokens = omega arith }
 
@@ -521,7 +580,15 @@ preds_named bytes ts t before (PredItem n as' ls r ∷ is) (p ∷ ps) s =
 pub whole_from : (bytes : List ℕ) (ts : List Token) (is : List Item) → length ts ≤ 65536 → IsShallow ts → Spelt ts is
     → ReadyFile bytes ts is → FileWithin bytes ts is → (t : TableOf) → ItemsSay bytes ts is t → is_whole t ≡ true
 whole_from bytes ts is l h d r w t s =
-    let m = items_whole bytes ts t is h s.sites_are s.params_are r.each [] d refl t.preds s.preds_are r.each w.each refl in
+    let m = items_whole bytes ts t is [] d t.preds s.preds_are (record {
+      sites = s.sites_are;
+      params = s.params_are;
+      all_ready = r.each;
+      whole = refl;
+      ready = r.each;
+      within = w.each;
+      flat = record { shallow = h; depth = refl };
+    }) in
     let a : list_all site_whole t.sites ≡ true = ap (list_all site_whole) s.sites_are ∙ m.sites in
     let b : list_all is_range t.params ≡ true = ap (list_all is_range) s.params_are ∙ m.params in
     let n : item_names t ≡ all_texts bytes is = let x = s.sites_are in

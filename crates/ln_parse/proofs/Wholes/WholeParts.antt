@@ -56,6 +56,7 @@ abs_low x y h l u = grind (arith, nat_tests, ints)
 abs_high : (x y : ℤ) → not (int_lt y x) ≡ true → int_lt (neg_ℤ (pos (2 ^ 63))) x ≡ true → int_lt y (pos (2 ^ 63)) ≡ true → unsigned_abs y < 2 ^ 63
 abs_high x y h l u = grind (arith, nat_tests, ints)
 
+-- a coordinate or param that passes the test of ranges has such a range
 pub in_range : (c : CoordOf) → is_range c ≡ true → InRange c
 in_range c h =
     let p = and_parts (not (int_lt c.hi c.lo) && int_lt (neg_ℤ (pos (2 ^ 63))) c.lo) (int_lt c.hi (pos (2 ^ 63))) h in
@@ -69,6 +70,7 @@ pub record SiteParts (s : SiteOf) : Type 0 where
   pub ranges : Every InRange s.coords
   pub differ : Differ (map (λ c. c.name) s.coords)
 
+-- a site type that is whole is such
 pub site_parts : (s : SiteOf) → site_whole s ≡ true → SiteParts s
 site_parts s h =
     let a = and_parts (nat_lt 0 (length s.coords) && nat_le (length s.coords) 32 && list_all is_range s.coords) (differ (map (λ c. c.name) s.coords)) h in
@@ -87,11 +89,19 @@ same_site_is None (Some t) h = absurd (cc)
 same_site_is (Some s) None h = absurd (cc)
 same_site_is (Some s) (Some t) h = ap (λ (n : ℕ). Some n) (equal s t h)
 
-abbrev var : ℕ → Option ℕ → ℕ → ℤ → ℤ → VarInfo
-var a s c l h = record { arg = a; site = s; coord = c; lo = l; hi = h }
+-- two variables agree in each of their parts
+record SameVar (v w : VarInfo) : Type 0 where
+  arg : v.arg ≡ w.arg
+  site : v.site ≡ w.site
+  coord : v.coord ≡ w.coord
+  lo : v.lo ≡ w.lo
+  hi : v.hi ≡ w.hi
 
-var_is : (a b : ℕ) (s t : Option ℕ) (c d : ℕ) (k l x y : ℤ) → a ≡ b → s ≡ t → c ≡ d → k ≡ l → x ≡ y → var a s c k x ≡ var b t d l y
-var_is a b s t c d k l x y e f g h i = rw (e, f, g, h, i) refl
+var_is : (v w : VarInfo) → SameVar v w → v ≡ w
+var_is v w s =
+    let made : ◌≡◌ {A = VarInfo} (record { arg = v.arg; site = v.site; coord = v.coord; lo = v.lo; hi = v.hi }) w =
+    rw (s.arg, s.site, s.coord, s.lo, s.hi) refl in
+    made
 
 same_var_is : (i j : VarInfo) → same_var i j ≡ true → i ≡ j
 same_var_is i j h =
@@ -99,12 +109,13 @@ same_var_is i j h =
     let b = and_parts ((i.arg == j.arg) && same_site i.site j.site && (i.coord == j.coord)) (int_eq i.lo j.lo) a.0 in
     let c = and_parts ((i.arg == j.arg) && same_site i.site j.site) (i.coord == j.coord) b.0 in
     let d = and_parts (i.arg == j.arg) (same_site i.site j.site) c.0 in
-    let e = equal i.arg j.arg d.0 in
-    let f = same_site_is i.site j.site d.1 in
-    let g = equal i.coord j.coord c.1 in
-    let k = (signed_Decides i.lo j.lo).0 b.1 in
-    let l = (signed_Decides i.hi j.hi).0 a.1 in
-    var_is i.arg j.arg i.site j.site i.coord j.coord i.lo j.lo i.hi j.hi e f g k l
+    var_is i j (record {
+      arg = equal i.arg j.arg d.0;
+      site = same_site_is i.site j.site d.1;
+      coord = equal i.coord j.coord c.1;
+      lo = (signed_Decides i.lo j.lo).0 b.1;
+      hi = (signed_Decides i.hi j.hi).0 a.1;
+    })
 
 -- the same variables are equal
 pub same_vars_are : (is js : List VarInfo) → same_vars is js ≡ true → is ≡ js
@@ -130,6 +141,7 @@ pub record PredParts (S : List SiteOf) (P : List CoordOf) (p : PredOf) : Type 0 
   pub lets : Every (λ e. nesting 0 e ≤ 64) p.lets
   pub root : nesting 0 p.root ≤ 64
 
+-- a predicate that is whole is such
 pub pred_parts : (S : List SiteOf) (P : List CoordOf) (p : PredOf) → pred_whole S P p ≡ true → PredParts S P p
 pred_parts S P p h =
     let t1 = bytes_eq p.shape_name p.name in
@@ -172,6 +184,7 @@ pub record TableParts (t : TableOf) : Type 0 where
   pub names : Differ (item_names t)
   pub tokens : text_tokens t ≤ 65536
 
+-- a table that is whole is such
 pub table_parts : (t : TableOf) → is_whole t ≡ true → TableParts t
 table_parts t h =
     let t1 = list_all site_whole t.sites in

@@ -1,15 +1,16 @@
-use Rattle.std.proofs.Common.{List, take, drop, map, ◌∙◌, ap, sym, subst, refl, arith, take-append-drop}
+use Rattle.std.proofs.Common.{◌≡◌, ◌+◌, List, [], ◌∷◌, ◌++◌, take, drop, map, ◌∙◌, ap, sym, subst, refl, arith, take-append-drop}
 use Rattle.std.specs.List.{list_all}
 use Rattle.std.proofs.lemmas.Bool.{and_from}
 use Rattle.std.proofs.lemmas.List.{map_push, map-append}
 use Rattle.std.proofs.lemmas.List.Folds.{list_all-append}
 use Rattle.ln_syntax.specs.declared.raw.RawArg.{RawArg}
 use Rattle.ln_syntax.specs.declared.raw.RawLet.{RawLet}
-use Rattle.ln_syntax.specs.Raw.{Item, item, items}
+use Rattle.ln_syntax.specs.Raw.{Item, PredItem, item, items, is_pred}
 use Rattle.ln_tree.specs.declared.pred.Pred.{Pred}
-use Rattle.ln_tree.specs.Table.{site_of, param_of, pred_of, pred_fits}
+use Rattle.ln_tree.specs.Table.{PredOf, site_of, param_of, pred_of, pred_fits}
 use Rattle.ln_parse.specs.Ready.{ReadyItem, ReadyPred}
-use Rattle.ln_parse.proofs.Building.Said.{preds_end, preds_site, preds_param, preds_pred}
+use Rattle.ln_parse.proofs.Building.Lists.{IsAt, SeenAt}
+use Rattle.ln_parse.proofs.Building.Said.{PredsOn, preds_end, preds_skip, preds_pred}
 use Rattle.ln_parse.proofs.Building.Kept.{declared}
 use Rattle.ln_parse.proofs.Building.Loops.{item_index}
 use Rattle.ln_parse.proofs.build.preds.Goals as goal
@@ -44,28 +45,32 @@ items-preserved c =
     let bytes = c.args.bytes.now in
     let ts = c.args.ts.now in
     let i = c.items.i in
+    let x = c.index-its-i.result in
     let done = map pred_of c.items.preds in
     let fit = pred_fits c.args.sites.now c.args.params.now in
+    let at : IsAt its i x = record { below = omega arith; is = c.index-its-i.is } in
+    let here : SeenAt item its i (item x) = record { element = x; at = at; seen = refl } in
     elim c.match-it.branch [
       | in-Site w ↦ record {
-        says = λ t s p. rw w.preds-is (preds_site bytes ts t its i c.index-its-i.result w.in-Site.field-0 w.in-Site.field-1.items done
-            (omega arith) c.index-its-i.is (ap item w.in-Site.is) (c.items.invariant.says t s p));
+        says = λ t s p. rw w.preds-is (preds_skip bytes ts t its i (item x) done here (ap (λ x. is_pred (item x)) w.in-Site.is)
+            (c.items.invariant.says t s p));
         fits = rw w.preds-is c.items.invariant.fits;
       }
       | in-Param w ↦ record {
-        says = λ t s p. rw w.preds-is (preds_param bytes ts t its i c.index-its-i.result w.in-Param.field-0 w.in-Param.field-1 done
-            (omega arith) c.index-its-i.is (ap item w.in-Param.is) (c.items.invariant.says t s p));
+        says = λ t s p. rw w.preds-is (preds_skip bytes ts t its i (item x) done here (ap (λ x. is_pred (item x)) w.in-Param.is)
+            (c.items.invariant.says t s p));
         fits = rw w.preds-is c.items.invariant.fits;
       }
       | in-Pred+in_ok-predicate-in-Pred+in_ok-push-in-Pred w ↦
-          let x = w.in_ok-predicate-in-Pred.field-0 in
+          let y = w.in_ok-predicate-in-Pred.field-0 in
+          let e : map pred_of c.match-it.preds ≡ done ++ (pred_of y ∷ []) =
+          ap (λ (w : List Pred). map pred_of w) (w.preds-is ∙ w.in_ok-push-in-Pred.ensures.ok) ∙ map_push pred_of c.items.preds y in
+          let next : Item = PredItem w.in-Pred.name w.deref.result.now w.deref-in-Pred.result.now w.in-Pred.root in
+          let q : SeenAt item its i next =
+          record { element = x; at = at; seen = rw (w.deref.ensures.value, w.deref-in-Pred.ensures.value) (ap item w.in-Pred.is) } in
           record {
-            says = λ t s p. preds_pred bytes ts t its i c.index-its-i.result w.in-Pred.name w.deref.result.now w.deref-in-Pred.result.now
-                w.in-Pred.root done (map pred_of c.match-it.preds) (pred_of x)
-                (omega arith) c.index-its-i.is (rw (w.deref.ensures.value, w.deref-in-Pred.ensures.value) (ap item w.in-Pred.is))
-                (w.in_ok-predicate-in-Pred.ensures.says t s p)
-                (ap (λ (w : List Pred). map pred_of w) (w.preds-is ∙ w.in_ok-push-in-Pred.ensures.ok)
-                ∙ map_push pred_of c.items.preds x) (c.items.invariant.says t s p);
+            says = λ t s p. subst (λ (z : List PredOf). PredsOn bytes ts t its (i + 1) z) (sym e) (preds_pred bytes ts t its i next done (pred_of y) q
+                (w.in_ok-predicate-in-Pred.ensures.says t s p, tt) (c.items.invariant.says t s p));
             fits = ap (list_all fit) (w.preds-is ∙ w.in_ok-push-in-Pred.ensures.ok) ∙ list_all-append fit c.items.preds _
                 ∙ and_from _ _ c.items.invariant.fits (and_from _ _ w.in_ok-predicate-in-Pred.ensures.fits refl);
           }

@@ -1,7 +1,10 @@
-use Rattle.std.proofs.Common.{◌∙◌, arith}
+use Rattle.std.proofs.Common.{List, map, ap, ◌∙◌, arith}
+use Rattle.ln_syntax.specs.declared.raw.RawCoord.{RawCoord}
+use Rattle.ln_tree.specs.declared.items.Coord.{Coord}
 use Rattle.ln_tree.specs.Table.{coord_of}
 use Rattle.ln_parse.specs.Ready.{ReadyCoord}
 use Rattle.ln_parse.specs.Says.{ranged}
+use Rattle.ln_parse.proofs.Building.Lists.{seen_or}
 use Rattle.ln_parse.proofs.Building.Loops.{each_or}
 use Rattle.ln_parse.proofs.Building.Turns.{all_mapped, one_mapped, same_site_of}
 use Rattle.ln_parse.proofs.build.site.Goals as goal
@@ -11,8 +14,10 @@ coord-requires c = each_or (λ before k. ReadyCoord c.args.bytes.now k) c.args.r
 
 pub coords-preserved : goal.coords-preserved
 coords-preserved c =
-    one_mapped coord_of (λ k. ranged c.args.bytes.now k.name k.range) c.args.raw.now c.coords.c-index _ c.coord.result c.coords.coords
-    c.push.new.self c.coords-test.true c.coord.ensures c.in_ok-push.ensures.ok c.coords.invariant
+    let f = λ (k : RawCoord). ranged c.args.bytes.now k.name k.range in
+    ap (λ (w : List Coord). map coord_of w) c.in_ok-push.ensures.ok
+    ∙ one_mapped coord_of f c.args.raw.now c.coords.c-index c.coord.result c.coords.coords
+    (seen_or f c.args.raw.now c.coords.c-index _ (coord_of c.coord.result) c.coords-test.true c.coord.ensures) c.coords.invariant
 
 pub returns : goal.returns
 returns c =

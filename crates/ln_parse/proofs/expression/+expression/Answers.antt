@@ -25,7 +25,7 @@ power-returns-then-not-is t c = power_plain c.in_ok-base.ensures (λ h. true≢f
 
 pub power-returns : goal.power-returns
 power-returns t c =
-    rw c.in_ok-read.ensures.end (power_read c.requires.there c.in_ok-base.ensures (c.is.ensures.0 c.if-not-is.false) refl refl refl c.in_ok-read.ensures.value)
+    rw c.in_ok-read.ensures.end (power_read c.requires.there c.in_ok-base.ensures (c.is.ensures.0 c.if-not-is.false) c.in_ok-read.ensures.value)
 
 pub sum-terms-init : goal.sum-terms-init
 sum-terms-init t c = sums_begin c.in_ok-first.ensures
@@ -39,7 +39,8 @@ sum-term-requires-in-terms t c =
 pub sum-terms-preserved : goal.sum-terms-preserved
 sum-terms-preserved t c =
     let next = c.in_ok-next.ensures in
-    sums_next c.terms.invariant (c.is_sign.ensures.0 c.terms-test.true) c.in_ok-right.ensures next.plus next.minus next.end
+    rw next.end (sums_next c.terms.invariant
+    (record { sign = c.is_sign.ensures.0 c.terms-test.true; read = c.in_ok-right.ensures; plus = next.plus; minus = next.minus }))
 
 pub sum-returns : goal.sum-returns
 sum-returns t c =
@@ -57,7 +58,8 @@ term-unary-requires-in-factors t c =
 
 pub term-factors-preserved : goal.term-factors-preserved
 term-factors-preserved t c =
-    rw c.in_ok-next.ensures.end (products_times c.factors.invariant (c.is.ensures.0 c.factors-test.true) c.in_ok-right.ensures refl c.in_ok-next.ensures.value)
+    rw c.in_ok-next.ensures.end (products_times c.factors.invariant
+    (record { sign = c.is.ensures.0 c.factors-test.true; read = c.in_ok-right.ensures }) c.in_ok-next.ensures.value)
 
 pub term-returns : goal.term-returns
 term-returns t c = products_end c.factors.invariant (λ h. true≢false (sym (c.is.ensures.1 h) ∙ c.factors-test.false))

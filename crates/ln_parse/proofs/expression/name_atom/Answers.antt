@@ -6,4 +6,5 @@ pub returns-then-not-is : goal.returns-then-not-is
 returns-then-not-is c = name_read c.requires.kind (λ h. true≢false (sym (c.is.ensures.1 h) ∙ c.if-not-is.true)) c.span_of-name.ensures c.name_leaf.ensures
 
 pub returns : goal.returns
-returns c = input_read c.requires.there c.requires.kind (c.is.ensures.0 c.if-not-is.false) c.span_of-name.ensures c.span_of.ensures c.input_leaf.ensures
+returns c = input_read c.requires.there (record { name = c.requires.kind; dot = c.is.ensures.0 c.if-not-is.false }) c.span_of-name.ensures
+    c.span_of.ensures c.input_leaf.ensures

@@ -2,6 +2,7 @@ use Rattle.std.proofs.Common.{List, map, get_or, ap, ◌∙◌, arith}
 use Rattle.std.proofs.lemmas.List.{get_or_default, map_push}
 use Rattle.ln_syntax.specs.declared.raw.RawLet.{RawLet}
 use Rattle.ln_syntax.specs.Raw.{items}
+use Rattle.ln_names.specs.Rules.{scope}
 use Rattle.ln_tree.specs.declared.expr.Expr.{Expr}
 use Rattle.ln_tree.specs.Formula.{formula}
 use Rattle.ln_parse.specs.Ready.{ReadyLet}
@@ -29,7 +30,7 @@ lets-preserved c =
     let s = c.args.s.now in
     let none : RawLet = record { name = record { start = 0; end = 0 }; value = record { from = 0; to = 0 } } in
     let l = get_or s.lets.now c.lets.i none in
-    lets_more s.bytes.now s.ts.now (items s.items.now) s.args.now s.lets.now c.lets.i (map formula c.lets.values)
+    lets_more s.bytes.now s.ts.now (scope (items s.items.now) s.args.now s.lets.now) c.lets.i (map formula c.lets.values)
     (map formula c.push.new.self) l (formula c.in_ok-expression.field-0)
-    c.lets-test.true (get_or_default s.lets.now c.lets.i none l c.lets-test.true) c.in_ok-expression.ensures
+    (record { below = c.lets-test.true; is = get_or_default s.lets.now c.lets.i none l c.lets-test.true }) c.in_ok-expression.ensures
     (ap (λ (w : List Expr). map formula w) c.in_ok-push.ensures.ok ∙ map_push formula c.lets.values c.in_ok-expression.field-0) c.lets.invariant

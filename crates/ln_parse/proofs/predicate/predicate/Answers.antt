@@ -1,10 +1,14 @@
 use Rattle.std.proofs.Common.{List, map, refl, ◌∙◌, ap, arith}
 use Rattle.std.specs.Prelude.{count_by}
+use Rattle.ln_base.specs.declared.span.Span.{Span}
+use Rattle.ln_syntax.specs.declared.raw.Places.{Places}
 use Rattle.ln_syntax.specs.Raw.{items}
 use Rattle.ln_tree.specs.declared.items.Arg.{Arg}
 use Rattle.ln_tree.specs.Table.{arg_of, site_of, param_of}
+use Rattle.ln_parse.specs.declared.expression.Scene.{Scene}
 use Rattle.ln_parse.specs.Says.{vars_behind, is_site_said}
-use Rattle.ln_parse.proofs.Building.Kept.{few_args, shape_kept, pred_kept, args_kept, as_many}
+use Rattle.ln_parse.proofs.Building.Predicates.{PredAt}
+use Rattle.ln_parse.proofs.Building.Kept.{PredReady, few_args, shape_kept, pred_kept, args_kept, as_many}
 use Rattle.ln_parse.proofs.predicate.predicate.Goals as goal
 
 pub laid_out-requires-clause-few : goal.laid_out-requires-clause-few
@@ -28,32 +32,48 @@ body_of-requires-clause-args c =
     (few_args s.bytes.now (items s.items.now) s.args.now c.in_ok-args.args c.in_ok-args.ensures c.requires.ready.site_args c.requires.ready.param_args).raw in
     omega arith
 
+-- a predicate of this scene
+abbrev at : Scene → Span → Places → PredAt
+at s name root = record {
+  bytes = s.bytes.now;
+  ts = s.ts.now;
+  before = items s.items.now;
+  name = name;
+  args = s.args.now;
+  lets = s.lets.now;
+  root = root;
+}
+
 pub shape-shape-requires : goal.shape-shape-requires
 shape-shape-requires c =
-    let s = c.args.s.now in
-    shape_kept s.bytes.now s.ts.now (items s.items.now) c.args.name s.args.now s.lets.now c.args.root c.in_ok-args.args
-    (map site_of c.args.sites.now) (map param_of c.args.params.now) c.in_ok-layout.layout.sites c.in_ok-layout.layout.vars c.requires.ready
-    c.requires.declared c.in_ok-args.ensures (c.in_ok-layout.ensures.sites ∙ ap (λ (w : List Arg). count_by is_site_said (map arg_of w)) c.as_slice.ensures)
+    let d : PredReady (at c.args.s.now c.args.name c.args.root) (map site_of c.args.sites.now) (map param_of c.args.params.now) c.in_ok-args.args =
+    record { ready = c.requires.ready; declares = c.requires.declared; args_are = c.in_ok-args.ensures } in
+    shape_kept d c.in_ok-layout.layout.sites c.in_ok-layout.layout.vars
+    (c.in_ok-layout.ensures.sites ∙ ap (λ (w : List Arg). count_by is_site_said (map arg_of w)) c.as_slice.ensures)
     (c.in_ok-layout.ensures.vars
     ∙ ap (λ (w : List Arg). vars_behind (map site_of c.args.sites.now) (map param_of c.args.params.now) 0 0 (map arg_of w)) c.as_slice.ensures)
 
 pub invariant_of-result : goal.invariant_of-result
 invariant_of-result c =
     let s = c.args.s.now in
+    let d : PredReady (at s c.args.name c.args.root) (map site_of c.args.sites.now) (map param_of c.args.params.now) c.in_ok-args.args =
+    record { ready = c.requires.ready; declares = c.requires.declared; args_are = c.in_ok-args.ensures } in
     record {
-      kept = pred_kept s.bytes.now s.ts.now (items s.items.now) c.args.name s.args.now s.lets.now c.args.root c.in_ok-args.args
-          c.shape-shape.result.vars c.in_ok-body.body.lets _ c.in_ok-body.body.root (map site_of c.args.sites.now) (map param_of c.args.params.now)
-          c.requires.ready c.requires.declared c.in_ok-args.ensures
+      kept = pred_kept d c.shape-shape.result.vars c.in_ok-body.body.lets _ c.in_ok-body.body.root
           (c.shape-shape.ensures.same.1 ∙ c.in_ok-layout.ensures.vars
           ∙ ap (λ (w : List Arg). vars_behind (map site_of c.args.sites.now) (map param_of c.args.params.now) 0 0 (map arg_of w)) c.as_slice.ensures)
-          c.in_ok-body.ensures.lets c.in_ok-body.ensures.root (as_many s.bytes.now s.lets.now c.in_ok-body.body.let_names c.in_ok-body.ensures.names);
+          (record {
+            lets_are = c.in_ok-body.ensures.lets;
+            root_is = c.in_ok-body.ensures.root;
+            as_many = as_many s.bytes.now s.lets.now c.in_ok-body.body.let_names c.in_ok-body.ensures.names;
+          });
     }
 
 pub returns-clause-fits : goal.returns-clause-fits
 returns-clause-fits c =
-    let s = c.args.s.now in
-    args_kept s.bytes.now s.ts.now (items s.items.now) c.args.name s.args.now s.lets.now c.args.root c.in_ok-args.args c.args.sites.now
-    c.args.params.now c.shape-shape.result.vars c.requires.ready c.requires.declared c.in_ok-args.ensures
+    let d : PredReady (at c.args.s.now c.args.name c.args.root) (map site_of c.args.sites.now) (map param_of c.args.params.now) c.in_ok-args.args =
+    record { ready = c.requires.ready; declares = c.requires.declared; args_are = c.in_ok-args.ensures } in
+    args_kept c.args.sites.now c.args.params.now c.shape-shape.result.vars d
     (c.shape-shape.ensures.same.1 ∙ c.in_ok-layout.ensures.vars
     ∙ ap (λ (w : List Arg). vars_behind (map site_of c.args.sites.now) (map param_of c.args.params.now) 0 0 (map arg_of w)) c.as_slice.ensures)
 

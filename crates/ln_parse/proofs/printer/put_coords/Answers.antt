@@ -6,7 +6,8 @@ use Rattle.ln_parse.proofs.printer.put_coords.Goals as goal
 
 pub coords-preserved : goal.coords-preserved
 coords-preserved c =
-    each_more coord coord_of c.args.coords.now c.coords.c-index c.c-item.result (omega arith) c.c-item.is c.coords.invariant c.in_ok-put_coord.ensures
+    each_more coord coord_of c.args.coords.now c.coords.c-index c.coords.invariant
+    (record { element = c.c-item.result; at = record { below = omega arith; is = c.c-item.is }; puts = c.in_ok-put_coord.ensures })
 
 pub returns : goal.returns
 returns c = each_done coord coord_of c.args.coords.now c.args.coords.now c.coords.c-index c.coords-test.false refl c.coords.invariant

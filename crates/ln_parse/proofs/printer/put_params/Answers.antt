@@ -6,7 +6,8 @@ use Rattle.ln_parse.proofs.printer.put_params.Goals as goal
 
 pub params-preserved : goal.params-preserved
 params-preserved c =
-    each_more param param_of c.args.params.now c.params.p-index c.p-item.result (omega arith) c.p-item.is c.params.invariant c.in_ok-put_param.ensures
+    each_more param param_of c.args.params.now c.params.p-index c.params.invariant
+    (record { element = c.p-item.result; at = record { below = omega arith; is = c.p-item.is }; puts = c.in_ok-put_param.ensures })
 
 pub returns : goal.returns
 returns c = each_done param param_of c.args.params.now c.args.params.now c.params.p-index c.params-test.false refl c.params.invariant

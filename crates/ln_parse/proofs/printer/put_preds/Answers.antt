@@ -7,7 +7,8 @@ use Rattle.ln_parse.proofs.printer.put_preds.Goals as goal
 pub preds-preserved : goal.preds-preserved
 preds-preserved c =
     each_more (pred (table_of c.args.t.now.sites c.args.t.now.params c.args.t.now.preds)) pred_of c.as_slice-preds.result.now
-    c.preds.p-index c.p-item.result (omega arith) c.p-item.is c.preds.invariant c.in_ok-put_pred.ensures
+    c.preds.p-index c.preds.invariant
+    (record { element = c.p-item.result; at = record { below = omega arith; is = c.p-item.is }; puts = c.in_ok-put_pred.ensures })
 
 pub returns : goal.returns
 returns c = each_done (pred (table_of c.args.t.now.sites c.args.t.now.params c.args.t.now.preds)) pred_of c.as_slice-preds.result.now

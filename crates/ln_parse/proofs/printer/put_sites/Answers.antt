@@ -5,7 +5,8 @@ use Rattle.ln_parse.proofs.Texts.Putting.{each_more, each_done}
 use Rattle.ln_parse.proofs.printer.put_sites.Goals as goal
 
 pub sites-preserved : goal.sites-preserved
-sites-preserved c = each_more site site_of c.args.sites.now c.sites.s-index c.s-item.result (omega arith) c.s-item.is c.sites.invariant c.in_ok-put_site.ensures
+sites-preserved c = each_more site site_of c.args.sites.now c.sites.s-index c.sites.invariant
+    (record { element = c.s-item.result; at = record { below = omega arith; is = c.s-item.is }; puts = c.in_ok-put_site.ensures })
 
 pub returns : goal.returns
 returns c = each_done site site_of c.args.sites.now c.args.sites.now c.sites.s-index c.sites-test.false refl c.sites.invariant
