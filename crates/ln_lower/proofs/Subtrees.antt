@@ -1,6 +1,7 @@
 -- Equal subtrees, kept in locals.
 pub mod KeyLaws
 pub mod Bounding
+pub mod Roots
 pub mod Numbering
 pub mod Operands
 pub mod Sharing

@@ -10,6 +10,7 @@ use Rattle.ln_lower.specs.Written as written
 use Rattle.ln_lower.specs.Written.{Written, LetsWritten, keeping}
 use Rattle.ln_lower.specs.StackCode.{IsCode, AreCode, IsCodeOf, number, variable, name, again, opposite, two, zeroth, raised, keep, none, more}
 use Rattle.ln_lower.proofs.Subtrees.Numbering.{all_last, unique}
+use Rattle.ln_lower.proofs.Operations.Writes.{BlockWritten}
 
 abbrev is_computed : ℕ → Bool
 is_computed zero = false
@@ -82,9 +83,19 @@ lets_coded ks (written.more {kept = kept} {new = new} h w) =
     let y = coded ks x.trees x.are w in
     record { trees = x.trees ++ y.new; are = all_append ks kept new x.trees y.new x.are y.are; code = more x.code y.code }
 
-pub block_coded : (ks : List Key) (lets : List Typed) (t : Typed) (lines first last : List (Line Range)) (kept new : List ℕ) (spare : ℕ)
-    → LetsWritten ks lets first kept → Written ks kept t last new spare → lines ≡ first ++ last → IsCodeOf lets t lines
-block_coded ks lets t lines first last kept new spare h w e =
-    let x = lets_coded ks h in
-    let y = coded ks x.trees x.are w in
-    record { first = first; last = last; kept = x.trees; new = y.new; computed = is_computed spare; lets_code = x.code; root_code = y.code; all = e }
+-- the operations written for lets and then for a tree are their stack code
+pub block_coded : (ks : List Key) (lets : List Typed) (t : Typed) (lines : List (Line Range)) (w : BlockWritten ks lets t)
+    → lines ≡ w.first ++ w.last → IsCodeOf lets t lines
+block_coded ks lets t lines w e =
+    let x = lets_coded ks w.lets_lines in
+    let y = coded ks x.trees x.are w.root_lines in
+    record {
+      first = w.first;
+      last = w.last;
+      kept = x.trees;
+      new = y.new;
+      computed = is_computed w.spare;
+      lets_code = x.code;
+      root_code = y.code;
+      all = e;
+    }

@@ -75,6 +75,7 @@ lets_cost ks (more {ts = ts} {t = t} {lines = lines} {last = last} h x) =
 
 -- ---- what stores has the range 0 .. 0
 
+-- what stores has the range 0 .. 0 in two lists of operations, one after the other, where it has in each
 pub stores_append : (a b : List (Line Range)) → StoresHave nothing a → StoresHave nothing b → StoresHave nothing (a ++ b)
 stores_append [] b h k = k
 stores_append (x ∷ xs) b h k = (h.0, stores_append xs b h.1 k)
@@ -92,6 +93,7 @@ two_stores Plus w p = (λ e. cc, tt)
 two_stores Minus w p = (λ e. cc, tt)
 two_stores Times w p = (λ e. cc, tt)
 
+-- what stores has the range 0 .. 0 in the operations of a tree
 pub tree_stores : (ks : List Key) {kept : List ℕ} {t : Typed} {lines : List (Line Range)} {new : List ℕ} {spare : ℕ}
     → Written ks kept t lines new spare → StoresHave nothing lines
 tree_stores ks (number c p w) = (λ e. cc, tt)
@@ -105,6 +107,7 @@ tree_stores ks (zeroth t p w) = (λ e. cc, tt)
 tree_stores ks (raised {t = t} {lines = inner} n p w x) = stores_append inner _ (tree_stores ks x) (power_stores (pair t) w n)
 tree_stores ks (keep {lines = inner} k s x) = stores_append inner _ (tree_stores ks x) (λ e. refl, (λ e. cc, tt))
 
+-- what stores has the range 0 .. 0 in the operations of lets
 pub lets_store : (ks : List Key) {ts : List Typed} {lines : List (Line Range)} {kept : List ℕ} → LetsWritten ks ts lines kept → StoresHave nothing lines
 lets_store ks none = tt
 lets_store ks (more {lines = lines} {last = last} h x) = stores_append lines _ (lets_store ks h) (stores_append last _ (tree_stores ks x) (λ e. refl, tt))

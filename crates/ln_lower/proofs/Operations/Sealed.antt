@@ -1,17 +1,19 @@
 -- What the lowered block is.
 use Rattle.std.proofs.Common.{◌≡◌, ℕ, ℤ, ◌+◌, ◌*◌, ◌≤◌, ◌<◌, List, [], ◌∷◌, ◌++◌, length, map, refl, zero, suc, ap, arith, ◌∙◌, sym, subst}
 use Rattle.std.proofs.Common.{get_or, length-append}
-use Rattle.std.specs.Prelude.{Option, Some, All, pos, slice_index_or}
+use Rattle.std.specs.Prelude.{Option, Some, All, IfOk, Result, pos, slice_index_or}
+use Rattle.std.proofs.lemmas.Result.{IfOk-weaker}
 use Rattle.ln_algebra.specs.Coefficient.{Series}
-use Rattle.ln_algebra.specs.Tree.{Num, Tree, inlined, inlined_after}
+use Rattle.ln_algebra.specs.Tree.{Num}
 use Rattle.ln_tree.specs.declared.shape.VarInfo.{VarInfo}
+use Rattle.ln_tree.specs.Exps.{Pairs}
 use Rattle.ln_tree.specs.Row.{AreWithin}
 use Rattle.ln_bound.specs.declared.fitted.Fitted.{Fitted}
 use Rattle.ln_bound.specs.declared.fitted.Width.TheVariants.{W64}
 use Rattle.ln_bound.specs.Value.{value, values}
 use Rattle.ln_bound.specs.Light.{let_values}
-use Rattle.ln_bound.specs.Typed.{Typed, TNum, TInput, TLet, TNeg, TTwo, TPow, pair, cost, costs, untyped}
-use Rattle.ln_bound.specs.Sound.{Sound, SoundNodes, AreSound, running}
+use Rattle.ln_bound.specs.Typed.{Typed, TNum, TInput, TLet, TNeg, TTwo, TPow, pair, width, cost, costs, untyped}
+use Rattle.ln_bound.specs.Sound.{Sound, SoundNodes, AreSound}
 use Rattle.ln_bound.specs.View.{typed}
 use Rattle.ln_interval.specs.Range.{Range, Covers, power}
 use Rattle.ln_interval.specs.View.{range}
@@ -27,17 +29,17 @@ use Rattle.ln_code.specs.Nodes.{IsNodeOf}
 use Rattle.ln_lower.specs.Nodes.{PushNodes, pushed_by, HasPolynomial, KeepsLets}
 use Rattle.ln_lower.specs.declared.distinct.Key.{Key}
 use Rattle.ln_lower.specs.Lowered.{nothing, ops_in, pairs_in, PowersFit}
-use Rattle.ln_lower.specs.Written.{Written, LetsWritten}
 use Rattle.ln_lower.specs.StackCode.{IsCodeOf}
-use Rattle.ln_lower.specs.Wrote.{Puts, PutsLets}
+use Rattle.ln_lower.specs.Wrote.{Drafted}
 use Rattle.ln_code.proofs.Following.Same.{Same}
 use Rattle.ln_lower.proofs.Operations.Coding.{block_coded}
 use Rattle.ln_lower.proofs.Operations.Costs.{tree_cost, lets_cost, stores_append, tree_stores, lets_store}
-use Rattle.ln_lower.proofs.Operations.Lets.{block_lands}
-use Rattle.ln_lower.proofs.Operations.Lands.{LetKnown, LetsKnown}
+use Rattle.ln_lower.proofs.Operations.Landing.{Locals, ValueFor, IsKnown, closed, tree_in, wanted}
+use Rattle.ln_lower.proofs.Operations.Keeping.{LetsKnown}
+use Rattle.ln_lower.proofs.Operations.Lets.{SoundBlock, block_lands}
 use Rattle.ln_code.proofs.Verdicts.Calls.{there}
 use Rattle.ln_lower.proofs.Subtrees.Bounding.{limit_most}
-use Rattle.ln_lower.proofs.Operations.Writes.{ops_append, pairs_append}
+use Rattle.ln_lower.proofs.Operations.Writes.{BlockWritten, ops_append, pairs_append}
 
 lines_back : (lines : List (Line Range)) → lines_of (ops_in lines) (pairs_in lines) ≡ lines
 lines_back [] = refl
@@ -65,6 +67,7 @@ powers_fit vars lets (TPow t n p w) s =
     let i = s.2.1 in
     (powers_fit vars lets t s.0, omega (arith, h, c, i))
 
+-- the ranges of all powers in a sound tree are within 2^127 - 1
 pub root_fits : (vars : List VarInfo) (lets : List Typed) (t : Typed) → Sound vars lets t → PowersFit t
 root_fits vars lets t s = powers_fit vars lets t s.nodes
 
@@ -75,6 +78,7 @@ all_cons P u us p a = λ k d h. at k d h
     at zero d h = p
     at (suc k) d h = a k d (omega arith)
 
+-- the ranges of all powers in sound lets are within 2^127 - 1
 pub all_fit : (vars : List VarInfo) (done : List Typed) (lets : List Fitted) → AreSound vars done (map typed lets) → All (λ u. PowersFit (typed u)) lets
 all_fit vars done [] s = λ k d h. absurd (omega arith)
 all_fit vars done (u ∷ us) s = all_cons (λ u. PowersFit (typed u)) u us (root_fits vars done (typed u) s.0) (all_fit vars (done ++ (typed u ∷ [])) us s.1)
@@ -82,81 +86,103 @@ all_fit vars done (u ∷ us) s = all_cons (λ u. PowersFit (typed u)) u us (root
 -- ---- the block
 
 -- a let is in its local
-has_polynomial : (o : Option Known) (u : Typed) (s : ℕ) (e : Tree) → LetKnown o u s e → HasPolynomial o e
-has_polynomial o u s e k = rw k.there (λ m. ap (λ (f : Series). f m) k.same.series)
+has_polynomial : (o : Option Known) (want : Known) → IsKnown o want → HasPolynomial o want.tree
+has_polynomial o want k = rw k.there (λ m. ap (λ (f : Series). f m) k.what.same.series)
 
-lets_are_kept : (lets : List Typed) (trees : List Tree) (ss : List ℕ) (l : ℕ → Option Known) → LetsKnown lets trees ss l → (j : ℕ)
-    → j < length lets → HasPolynomial (l j) (slice_index_or trees j (Num (pos 0)))
-lets_are_kept lets trees ss l k j h =
+lets_are_kept : (lets : List Typed) (l : Locals) → LetsKnown lets l → (j : ℕ) → j < length lets
+    → HasPolynomial (l j) (slice_index_or (closed lets) j (Num (pos 0)))
+lets_are_kept lets l k j h =
     let d : Typed = TNum (pos 0) nothing W64 in
-    has_polynomial (l j) (get_or lets j d) (slice_index_or ss j 0) (slice_index_or trees j (Num (pos 0))) (k.each j (get_or lets j d) (there lets j d h))
+    let u : Typed = get_or lets j d in
+    has_polynomial (l j) (wanted lets (TLet j (pair u) (width u))) (k.each j u (there lets j d h))
 
+-- what is known of a lowered block: the rules that it follows, its value, what it pushes, its locals, and its operations
 pub record IsLowered (vars : List VarInfo) (code : Code) (t : Typed) (lets : List Typed) : Type 0 where
   pub block : IsBlock code
   pub rules : FollowsRules vars code
-  pub top : Known
-  pub known : known_of vars code ≡ Some top
-  pub covered : Covers (pair t) top.range
-  pub same : Same top.tree (inlined (inlined_after [] (map untyped lets)) (untyped t))
+  pub top : ValueFor (wanted lets t)
+  pub known : known_of vars code ≡ Some top.value
   pub each : PushNodes (IsNodeOf lets t) (pushed_by vars code)
   pub locals : KeepsLets vars code lets
   pub lines : IsCodeOf lets t (lines_of code.ops code.pairs)
   pub few : length code.ops ≤ 4 * (cost t + costs lets) + 64
 
-lowered_is : (vars : List VarInfo) (code : Code) (ks : List Key) (t : Typed) (lets : List Typed) (first last : List (Line Range))
-    (kept new : List ℕ) (spare : ℕ) → LetsWritten ks lets first kept → Written ks kept t last new spare → length lets ≤ 64 →
-    AreSound vars [] lets → Sound vars lets t → code.depth ≡ 2048 →
-    code.ops ≡ ops_in (first ++ last) → code.pairs ≡ pairs_in (first ++ last) → IsLowered vars code t lets
-lowered_is vars code ks t lets first last kept new spare h w few s r d o b =
-    let all : List (Line Range) = first ++ last in
-    let x = block_lands vars code.depth ks lets t first last kept new spare h w few (let i : 2048 ≤ code.depth = omega (arith, d) in i) s r in
-    let e : lines_of code.ops code.pairs ≡ first ++ last = rw (o, b) (lines_back (first ++ last)) in
-    let f : known_of vars code ≡ Some x.top = rw (e, x.ends) refl in
-    let g : FollowsRules vars code = record { bounded = rw (o, b) (same_length (first ++ last)); answers = rw f refl } in
-    let n : length code.ops ≡ length (first ++ last) = rw o (ops_length (first ++ last)) in
-    let la = length-append first last in
-    let tc = tree_cost ks w in
-    let lc = lets_cost ks h in
+-- the operations written for sound lets and a sound tree after them are a lowered block
+lowered_is : (vars : List VarInfo) (code : Code) (ks : List Key) (t : Typed) (lets : List Typed) (w : BlockWritten ks lets t)
+    → SoundBlock vars lets t → code.depth ≡ 2048 → code.ops ≡ ops_in (w.first ++ w.last) → code.pairs ≡ pairs_in (w.first ++ w.last)
+    → IsLowered vars code t lets
+lowered_is vars code ks t lets w s d o b =
+    let deep : 2048 ≤ code.depth = omega (arith, d) in
+    let x = block_lands (record { vars = vars; depth = code.depth; keys = ks }) lets t w deep s in
+    let e : lines_of code.ops code.pairs ≡ w.first ++ w.last = rw (o, b) (lines_back (w.first ++ w.last)) in
+    let f : known_of vars code ≡ Some x.top.value = rw (e, x.ends) refl in
+    let g : FollowsRules vars code = record { bounded = rw (o, b) (same_length (w.first ++ w.last)); answers = rw f refl } in
+    let n : length code.ops ≡ length (w.first ++ w.last) = rw o (ops_length (w.first ++ w.last)) in
+    let la = length-append w.first w.last in
+    let tc = tree_cost ks w.root_lines in
+    let lc = lets_cost ks w.lets_lines in
+    let few = s.few in
     record {
       block = record {
         shallow = let i : code.depth ≤ 2048 = omega (arith, d) in i;
-        stores_have = rw e (stores_append first last (lets_store ks h) (tree_stores ks w));
+        stores_have = rw e (stores_append w.first w.last (lets_store ks w.lets_lines) (tree_stores ks w.root_lines));
         vars = vars;
         rules = g;
       };
       rules = g;
       top = x.top;
       known = f;
-      covered = x.covered;
-      same = x.same;
       each = rw e x.each;
-      locals = rw (e, x.ends) (lets_are_kept lets (inlined_after [] (map untyped lets)) (running lets) x.locals x.known);
-      lines = block_coded ks lets t (lines_of code.ops code.pairs) first last kept new spare h w e;
+      locals = rw (e, x.ends) (lets_are_kept lets x.locals x.rest);
+      lines = block_coded ks lets t (lines_of code.ops code.pairs) w e;
       few = omega (arith, n, la, tc, lc, few);
     }
 
--- the block that is sealed from what was written
-pub sealed : (vars : List VarInfo) (code : Code) (ks : List Key) (t : Typed) (lets : List Typed) (b c : Draft) → length lets ≤ 64 →
-    AreSound vars [] lets → Sound vars lets t →
-    PutsLets ks b lets → Puts ks b c t → code.ops ≡ c.ops → code.pairs ≡ map range c.pairs → code.depth ≡ 2048 → IsLowered vars code t lets
-sealed vars code ks t lets b c few s r v w eo eb d =
-    let i : c.ops ≡ ops_in (v.lines ++ w.lines) = w.wrote.ops ∙ ap (λ l. l ++ ops_in w.lines) v.ops ∙ sym (ops_append v.lines w.lines) in
-    let j : map range c.pairs ≡ pairs_in (v.lines ++ w.lines) = w.wrote.pairs ∙ ap (λ l. l ++ pairs_in w.lines) v.pairs ∙ sym (pairs_append v.lines w.lines) in
-    lowered_is vars code ks t lets v.lines w.lines b.kept w.more w.spare v.written w.written few s r d (eo ∙ i) (eb ∙ j)
+-- the block that is sealed from what was written, with the derivative's exponents
+abbrev pub sealed_from : Pairs → Draft → Code
+sealed_from a d = record { exps = a; ops = d.ops; pairs = map range d.pairs; depth = 2048 }
+
+-- a block that is sealed from the operations of sound lets and a sound tree is a lowered one
+pub sealed : (vars : List VarInfo) (a : Pairs) (ks : List Key) (t : Typed) (lets : List Typed) (d : Draft) → SoundBlock vars lets t
+    → Drafted ks lets t d → IsLowered vars (sealed_from a d) t lets
+sealed vars a ks t lets d s x =
+    let v = x.lets in
+    let w = x.root in
+    let written : BlockWritten ks lets t = record {
+      first = v.lines;
+      last = w.lines;
+      kept = x.mid.kept;
+      new = w.more;
+      spare = w.spare;
+      lets_lines = v.written;
+      root_lines = w.written;
+    } in
+    let i : d.ops ≡ ops_in (v.lines ++ w.lines) = w.wrote.ops ∙ ap (λ l. l ++ ops_in w.lines) v.ops ∙ sym (ops_append v.lines w.lines) in
+    let j : map range d.pairs ≡ pairs_in (v.lines ++ w.lines) = w.wrote.pairs ∙ ap (λ l. l ++ pairs_in w.lines) v.pairs ∙ sym (pairs_append v.lines w.lines) in
+    lowered_is vars (sealed_from a d) ks t lets written s refl i j
+
+-- what is known of each lowered block is known of the one that is sealed
+pub if_sealed : {E : Type 0} (vars : List VarInfo) (a : Pairs) (t : Typed) (lets : List Typed) (d : Draft) (r : Result Code E) (P : Code → Type 0)
+    → SoundBlock vars lets t → ((ks : List Key) × Drafted ks lets t d) → IfOk r (λ b. b ≡ sealed_from a d)
+    → ((b : Code) → IsLowered vars b t lets → P b) → IfOk r P
+if_sealed vars a t lets d r P s x h f = IfOk-weaker r (λ b. b ≡ sealed_from a d) P
+    (λ b e. subst P (sym e) (f (sealed_from a d) (sealed vars a x.0 t lets d s x.1))) h
 
 top_is : (vars : List VarInfo) (code : Code) (t : Typed) (lets : List Typed) (x : IsLowered vars code t lets) (k : Known)
-    → known_of vars code ≡ Some k → x.top ≡ k
-top_is vars code t lets x k h = let e : Some x.top ≡ Some k = sym x.known ∙ h in cc
+    → known_of vars code ≡ Some k → x.top.value ≡ k
+top_is vars code t lets x k h = let e : Some x.top.value ≡ Some k = sym x.known ∙ h in cc
 
+-- the range that the rules find for the value of a lowered block is within the range of the tree
 pub lowered_range : (vars : List VarInfo) (code : Code) (t : Typed) (lets : List Typed) → IsLowered vars code t lets → (k : Known)
     → known_of vars code ≡ Some k → Covers (pair t) k.range
-lowered_range vars code t lets x k h = subst (λ (n : Known). Covers (pair t) n.range) (top_is vars code t lets x k h) x.covered
+lowered_range vars code t lets x k h = subst (λ (n : Known). Covers (pair t) n.range) (top_is vars code t lets x k h) x.top.covered
 
+-- the expression that the rules find for the value of a lowered block is, as a polynomial, the tree after its lets
 pub lowered_same : (vars : List VarInfo) (code : Code) (t : Typed) (lets : List Typed) → IsLowered vars code t lets → (k : Known)
-    → known_of vars code ≡ Some k → Same k.tree (inlined (inlined_after [] (map untyped lets)) (untyped t))
-lowered_same vars code t lets x k h =
-    subst (λ (n : Known). Same n.tree (inlined (inlined_after [] (map untyped lets)) (untyped t))) (top_is vars code t lets x k h) x.same
+    → known_of vars code ≡ Some k → Same k.tree (tree_in lets t)
+lowered_same vars code t lets x k h = subst (λ (n : Known). Same n.tree (tree_in lets t)) (top_is vars code t lets x k h) x.top.same
 
+-- on a row in range a lowered block has the value of the tree after its lets
 pub lowered_value : (vars : List VarInfo) (code : Code) (t : Typed) (lets : List Typed) → IsLowered vars code t lets → (zs : List ℤ)
     → AreWithin vars zs → block_value zs code ≡ Some (value (values zs) (let_values (values zs) [] (map untyped lets)) (untyped t))
 lowered_value vars code t lets x zs h =

@@ -1,9 +1,7 @@
-use Rattle.std.proofs.Common.{◌≡◌, ◌+◌, ◌-◌, [], ◌∷◌, arith, refl}
+use Rattle.std.proofs.Common.{◌≡◌, ◌+◌, ◌-◌, arith, refl}
 use Rattle.ln_interval.specs.Range.{power}
 use Rattle.ln_interval.specs.View.{range}
-use Rattle.ln_code.specs.declared.op.Op.TheVariants.{Get, Mul}
-use Rattle.ln_lower.specs.Lowered.{line}
-use Rattle.ln_lower.proofs.Operations.Writes.{factors_more, next_fits, next_power, power_below, wrote_plain}
+use Rattle.ln_lower.proofs.Operations.Writes.{factors_more, next_fits, next_power, power_below, wrote_more}
 use Rattle.ln_lower.proofs.blocks.+put_factors.Goals as goal
 
 pub put_factors-requires : goal.put_factors-requires
@@ -21,8 +19,7 @@ returns-clause-wrote t c =
     let q : range c.product_of-power.result ≡ power (range c.args.base) (c.args.n + 1) = next_power p (range c.in_ok-below.below)
     (range c.product_of-power.result) c.args.n c.if-n-eq0.false c.in_ok-below.ensures.pair c.product_of-power.ensures in
     let e = factors_more p (range c.product_of-power.result) (range c.args.base) c.args.width c.args.n c.if-n-eq0.false refl q in
-    wrote_plain _ _ _ _ _ _ e c.in_ok-below.ensures.wrote (wrote_plain _ _ _ (line (Get 64) (range c.args.base) ∷ [])
-    (line (Mul c.args.width) (range c.product_of-power.result) ∷ []) _ refl c.in_ok-push.ensures c.in_ok-push-2.ensures)
+    rw e (wrote_more c.in_ok-below.ensures.wrote (wrote_more c.in_ok-push.ensures c.in_ok-push-2.ensures))
 
 pub returns-clause-pair : goal.returns-clause-pair
 returns-clause-pair t c = next_power (range c.args.base) (range c.in_ok-below.below)

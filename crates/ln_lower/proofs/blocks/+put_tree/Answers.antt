@@ -27,8 +27,8 @@ put_power-requires t c =
 pub returns-in-Some : goal.returns-in-Some
 returns-in-Some t c =
     let i = c.in-Some.ensures in
-    ok_then c.push.result _ _ c.push.ensures (λ q. puts_again c.args.distinct.now.keys _ _ (typed c.args.t.now) i.0 c.in-Some.j c.args.k
-    (range c.args.t.now.pair) i.1 i.2 (sym (pair_typed c.args.t.now)) c.requires.stands q)
+    ok_then c.push.result _ _ c.push.ensures (λ q. puts_again c.args.distinct.now.keys _ _ (typed c.args.t.now) c.in-Some.j c.args.k
+    (range c.args.t.now.pair) i (sym (pair_typed c.args.t.now)) c.requires.stands q)
 
 pub returns-in-Num : goal.returns-in-Num
 returns-in-Num t c =
@@ -63,11 +63,11 @@ returns-in_ok-put_tree-in-Neg t c =
     let e : typed c.args.t.now ≡ TNeg (typed c.deref.result.now) (range c.args.t.now.pair) c.args.t.now.width = rw (c.in-Neg.is, c.deref.ensures) refl in
     ok_then c.put_done.result _ _ c.put_done.ensures
     (λ q. puts_kept c.args.distinct.now.keys _ _ _ (typed c.args.t.now) c.args.k p (sym (pair_typed c.args.t.now)) c.requires.stands
-    (done_neg c.args.distinct.now.keys _ _ _ (typed c.deref.result.now) (typed c.args.t.now) p w e c.in_ok-put_tree-in-Neg.ensures q.wrote) q.keeps)
+    (done_neg c.args.distinct.now.keys _ _ _ (typed c.deref.result.now) (typed c.args.t.now)
+    (record { range = p; width = w; is = e }) c.in_ok-put_tree-in-Neg.ensures q.wrote) q.keeps)
 
 pub put_tree-requires-in-Add : goal.put_tree-requires-in-Add
 put_tree-requires-in-Add t c =
-    let o = operation (typed c.args.t.now) in
     let p : Range = range c.args.t.now.pair in
     let w : Width = c.args.t.now.width in
     let x = typed c.deref-in-Add.result.now in
@@ -75,12 +75,12 @@ put_tree-requires-in-Add t c =
     let e : typed c.args.t.now ≡ TTwo (operation (typed c.args.t.now)) x y (range c.args.t.now.pair) c.args.t.now.width =
     rw c.deref-in-Add.ensures (two_typed c.args.t.now.op _ _ _ (typed c.in-Add.x.value) (typed c.in-Add.y.value)
     (range c.args.t.now.pair) c.args.t.now.width c.in-Add.is refl refl refl) in
-    let r = are_operands c.args.distinct.now.keys t c.args.k (typed c.args.t.now) o x y p w e c.decreases c.requires.powers c.requires.stands in
+    let r = are_operands c.args.distinct.now.keys t c.args.k (typed c.args.t.now) x y (record { range = p; width = w; is = e })
+    c.decreases c.requires.powers c.requires.stands in
     (r.first_falls, (r.first_powers, rw c.operand-in-Add.ensures r.first_stands))
 
 pub put_tree-requires-in-Add-2 : goal.put_tree-requires-in-Add-2
 put_tree-requires-in-Add-2 t c =
-    let o = operation (typed c.args.t.now) in
     let p : Range = range c.args.t.now.pair in
     let w : Width = c.args.t.now.width in
     let x = typed c.deref-in-Add.result.now in
@@ -88,12 +88,12 @@ put_tree-requires-in-Add-2 t c =
     let e : typed c.args.t.now ≡ TTwo (operation (typed c.args.t.now)) x y (range c.args.t.now.pair) c.args.t.now.width =
     rw (c.deref-in-Add.ensures, c.deref-in-Add-2.ensures) (two_typed c.args.t.now.op _ _ _ (typed c.in-Add.x.value) (typed c.in-Add.y.value)
     (range c.args.t.now.pair) c.args.t.now.width c.in-Add.is refl refl refl) in
-    let r = are_operands c.args.distinct.now.keys t c.args.k (typed c.args.t.now) o x y p w e c.decreases c.requires.powers c.requires.stands in
+    let r = are_operands c.args.distinct.now.keys t c.args.k (typed c.args.t.now) x y (record { range = p; width = w; is = e })
+    c.decreases c.requires.powers c.requires.stands in
     (r.second_falls, (r.second_powers, rw c.right.ensures r.second_stands))
 
 pub returns-in_ok-put_tree-in-Add-2 : goal.returns-in_ok-put_tree-in-Add-2
 returns-in_ok-put_tree-in-Add-2 t c =
-    let o = operation (typed c.args.t.now) in
     let p : Range = range c.args.t.now.pair in
     let w : Width = c.args.t.now.width in
     let x = typed c.deref-in-Add.result.now in
@@ -102,8 +102,9 @@ returns-in_ok-put_tree-in-Add-2 t c =
     rw (c.deref-in-Add.ensures, c.deref-in-Add-2.ensures) (two_typed c.args.t.now.op _ _ _ (typed c.in-Add.x.value) (typed c.in-Add.y.value)
     (range c.args.t.now.pair) c.args.t.now.width c.in-Add.is refl refl refl) in
     ok_then c.put_done-in-Add.result _ _ c.put_done-in-Add.ensures (λ q. puts_kept c.args.distinct.now.keys _ _ _
-    (typed c.args.t.now) c.args.k p (sym (pair_typed c.args.t.now)) c.requires.stands (done_two c.args.distinct.now.keys _ _ _ _ o x y
-    (typed c.args.t.now) p w e c.in_ok-put_tree-in-Add.ensures c.in_ok-put_tree-in-Add-2.ensures (rw c.op_of.ensures at q.wrote)) q.keeps)
+    (typed c.args.t.now) c.args.k p (sym (pair_typed c.args.t.now)) c.requires.stands (done_two c.args.distinct.now.keys _ _ _ _ x y
+    (typed c.args.t.now) (record { range = p; width = w; is = e }) c.in_ok-put_tree-in-Add.ensures c.in_ok-put_tree-in-Add-2.ensures
+    (rw c.op_of.ensures at q.wrote)) q.keeps)
 
 pub returns-then-n-eq0 : goal.returns-then-n-eq0
 returns-then-n-eq0 t c =
@@ -112,7 +113,8 @@ returns-then-n-eq0 t c =
     let e : typed c.args.t.now ≡ TPow (typed c.in-Pow.x.value) c.in-Pow.n (range c.args.t.now.pair) c.args.t.now.width = rw c.in-Pow.is refl in
     ok_then c.put_done-then-n-eq0.result _ _ c.put_done-then-n-eq0.ensures
     (λ q. puts_kept c.args.distinct.now.keys _ _ _ (typed c.args.t.now) c.args.k p (sym (pair_typed c.args.t.now)) c.requires.stands
-    (done_zeroth c.args.distinct.now.keys _ _ (typed c.in-Pow.x.value) (typed c.args.t.now) c.in-Pow.n p w e c.if-n-eq0.true q.wrote) q.keeps)
+    (done_zeroth c.args.distinct.now.keys _ _ (typed c.in-Pow.x.value) (typed c.args.t.now) c.in-Pow.n
+    (record { range = p; width = w; is = e }) c.if-n-eq0.true q.wrote) q.keeps)
 
 pub returns-in_ok-put_power-in-Pow : goal.returns-in_ok-put_power-in-Pow
 returns-in_ok-put_power-in-Pow t c =
@@ -124,5 +126,5 @@ returns-in_ok-put_power-in-Pow t c =
     rw (c.deref-else-n-eq0-2.ensures, c.deref-else-n-eq0.ensures) (sym (pair_typed c.in-Pow.x.value)) in
     ok_then c.put_kept.result _ _ c.put_kept.ensures
     (λ q. puts_kept c.args.distinct.now.keys _ _ _ (typed c.args.t.now) c.args.k p (sym (pair_typed c.args.t.now)) c.requires.stands
-    (done_power c.args.distinct.now.keys _ _ _ (typed c.deref-else-n-eq0.result.now) (typed c.args.t.now) c.in-Pow.n (c.in-Pow.n - 1) p
-    (range c.deref-else-n-eq0-2.result.now.pair) w e c.if-n-eq0.false refl f c.in_ok-put_tree-in-Pow.ensures c.in_ok-put_power-in-Pow.ensures) q)
+    (done_power c.args.distinct.now.keys _ _ _ (typed c.deref-else-n-eq0.result.now) (typed c.args.t.now) c.in-Pow.n
+    (record { range = p; width = w; is = e }) c.if-n-eq0.false c.in_ok-put_tree-in-Pow.ensures (rw f at c.in_ok-put_power-in-Pow.ensures)) q)

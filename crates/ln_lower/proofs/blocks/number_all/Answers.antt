@@ -7,5 +7,5 @@ use Rattle.ln_lower.proofs.blocks.number_all.Goals as goal
 pub trees-preserved : goal.trees-preserved
 trees-preserved c =
     let m = more_typed c.args.trees.now c.trees.t-index c.t-item.result c.trees-test.true c.t-item.is in
-    next_stands _ _ _ _ _ (map typed (take c.trees.t-index c.args.trees.now)) _ c.in_ok-k.k
-    (typed c.t-item.result) m c.in_ok-push.ensures.ok c.place.ensures c.in_ok-k.ensures c.trees.invariant
+    rw c.place.ensures (next_stands _ _ _ _ (map typed (take c.trees.t-index c.args.trees.now)) _ c.in_ok-k.k
+    (typed c.t-item.result) m c.in_ok-push.ensures.ok c.in_ok-k.ensures c.trees.invariant)

@@ -1,6 +1,5 @@
-use Rattle.std.proofs.Common.{refl, take, map, arith}
+use Rattle.std.proofs.Common.{take, map, arith}
 use Rattle.ln_bound.specs.View.{typed}
-use Rattle.ln_lower.specs.Lowered.{nothing}
 use Rattle.ln_lower.proofs.Subtrees.Numbering.{stand_length, stands_at}
 use Rattle.ln_lower.proofs.Operations.Writes.{next_let, no_lets_put, more_typed, typed_length}
 use Rattle.ln_lower.proofs.blocks.put_lets.Goals as goal
@@ -10,10 +9,9 @@ lets-init c = no_lets_put _ _ c.requires.ops c.requires.pairs c.requires.kept
 
 pub lets-preserved : goal.lets-preserved
 lets-preserved c =
-    let u = c.in_ok-put_let.ensures in
-    next_let _ _ u.mid _ (map typed (take c.lets.j c.args.lets.now)) _
-    (typed c.index-lets-j.result) c.lets.j nothing (typed_length c.args.lets.now c.lets.j c.lets-test.true) refl
-    (more_typed c.args.lets.now c.lets.j c.index-lets-j.result c.lets-test.true c.index-lets-j.is) c.lets.invariant u.puts u.stores
+    next_let _ _ _ (map typed (take c.lets.j c.args.lets.now)) _
+    (typed c.index-lets-j.result) c.lets.j (typed_length c.args.lets.now c.lets.j c.lets-test.true)
+    (more_typed c.args.lets.now c.lets.j c.index-lets-j.result c.lets-test.true c.index-lets-j.is) c.lets.invariant c.in_ok-put_let.ensures
 
 pub bounds-numbers-j : goal.bounds-numbers-j
 bounds-numbers-j c =
