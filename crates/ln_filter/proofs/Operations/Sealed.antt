@@ -1,5 +1,5 @@
 -- What the filter of a predicate is.
-use Rattle.std.proofs.Common.{◌≡◌, ℕ, ℤ, ◌≤◌, true, List, [], ◌∷◌, ◌++◌, length, map, refl, suc, ap, arith, ◌∙◌, sym, inl, inr}
+use Rattle.std.proofs.Common.{◌≡◌, ℕ, ℤ, ◌≤◌, ◌<◌, ◌^◌, true, List, [], ◌∷◌, length, map, refl, suc, ap, arith, ◌∙◌, sym, inl, inr}
 use Rattle.std.proofs.Common.{length-append, Bool, ◌&&◌, nat_le, count_by}
 use Rattle.std.specs.Prelude.{Option, Some, None, IsSome, IfSome, ◌↔◌, ◌==◌}
 use Rattle.std.proofs.lemmas.List.{length-map}
@@ -12,39 +12,36 @@ use Rattle.ln_tree.specs.declared.shape.VarInfo.{VarInfo}
 use Rattle.ln_tree.specs.Row.{AreWithin}
 use Rattle.ln_bound.specs.declared.fitted.Width.TheVariants.{W64}
 use Rattle.ln_bound.specs.Widths.{limit}
-use Rattle.ln_bound.specs.Value.{values}
-use Rattle.ln_bound.specs.Typed.{Typed, untyped}
-use Rattle.ln_bound.specs.Sound.{Sound, AreSound, is_sound, are_sound, running}
+use Rattle.ln_bound.specs.Typed.{Typed, need, untyped}
+use Rattle.ln_bound.specs.Sound.{Sound, AreSound, is_sound, are_sound}
 use Rattle.ln_bound.specs.View.{typed}
 use Rattle.ln_bound.specs.declared.fitted.Fitted.{Fitted}
 use Rattle.ln_bound.proofs.Soundness.SoundLaws.{is_sound_says, are_sound_say}
 use Rattle.ln_code.specs.declared.op.Triple.{Triple}
-use Rattle.ln_code.specs.Engine.{Line, run, answer}
+use Rattle.ln_code.specs.Engine.{Line, answer}
 use Rattle.ln_code.specs.Numbers.{no_locals}
 use Rattle.ln_code.specs.Exact.{Held, exact_filter}
-use Rattle.ln_code.specs.FilterRules.{FilterKnown, filter_rules}
-use Rattle.ln_code.specs.Pushes.{pushes}
-use Rattle.ln_code.specs.Nodes.{IsNode, IsLetNode, IsNodeOf}
+use Rattle.ln_code.specs.FilterRules.{FilterKnown}
+use Rattle.ln_code.specs.Nodes.{IsNodeOf}
 use Rattle.ln_code.specs.Part.{FilterCode, lines_of, filter_known_of, filter_value}
 use Rattle.ln_code.specs.Kept.{FollowsFilterRules, IsFilter, StoresHave, no_triple}
 use Rattle.ln_code.proofs.Engines.Runs.{answer_follows, same_lines, reached_some}
 use Rattle.ln_code.proofs.Following.Means.{filters_mean}
 use Rattle.ln_filter.specs.declared.draft.Draft.{Draft}
-use Rattle.ln_filter.specs.Triples.{triple, let_triples}
-use Rattle.ln_filter.specs.Truncated.{let_numbers, root_triple, root_number}
+use Rattle.ln_filter.specs.Triples.{let_triples}
+use Rattle.ln_filter.specs.Truncated.{root_triple, root_number}
 use Rattle.ln_filter.specs.Steady.{HasFilter}
-use Rattle.ln_filter.specs.Tried.{AreNarrow, AllNarrow, tried, lets_tried}
+use Rattle.ln_filter.specs.Tried.{AreNarrow, AllNarrow}
 use Rattle.ln_filter.specs.Lines.{all_lines, filter_lines, let_lines}
-use Rattle.ln_filter.specs.Wrote.{Wrote, ops_in, triples_in}
-use Rattle.ln_filter.specs.Nodes.{PushNodes}
+use Rattle.ln_filter.specs.Wrote.{LetsPut, SteadyPut, Wrote, ops_in, triples_in}
 use Rattle.ln_filter.specs.Planned.{IsPlanned, IsPlan}
 use Rattle.ln_code.proofs.Following.Same.{Same}
 use Rattle.ln_code.proofs.Engines.Behind.{then_run}
-use Rattle.ln_filter.proofs.Truncation.Steady.{AreSmall, lets_small, triple_small, has_filter, no_lets_filter, no_root_filter, lets_tried_steady}
-use Rattle.ln_filter.proofs.Operations.Lands.{at, lands}
-use Rattle.ln_filter.proofs.Operations.Leaves.{Same as SameNumber, SameLocals, loose, loose_follows, leaves}
-use Rattle.ln_filter.proofs.Operations.Lets.{lets_land, no_lets, lets_leave, none_there}
-use Rattle.ln_filter.proofs.Operations.Pushing.{push_wider, then_push, pushing, lets_pushing}
+use Rattle.ln_filter.proofs.Truncation.Steady.{has_filter, lets_tried_steady}
+use Rattle.ln_filter.proofs.Operations.Setting.{Setting, Locals, Runs, top, Lets, no_lets, with_lets}
+use Rattle.ln_filter.proofs.Operations.Lands.{then_runs, lands}
+use Rattle.ln_filter.proofs.Operations.Leaves.{Same as SameNumber, SameLocals, NumberLets, loose, loose_follows, leaves}
+use Rattle.ln_filter.proofs.Operations.Lets.{lets_land, no_lets_known, with_numbers, lets_leave, no_numbers, none_there}
 use Rattle.ln_filter.proofs.Operations.Costs.{tree_cost, lets_cost, stores_append, tree_stores, lets_store}
 use Rattle.ln_filter.proofs.Operations.Writes.{wrote_then}
 
@@ -75,58 +72,105 @@ ops_length : (lines : List (Line Triple)) → length (ops_in lines) ≡ length l
 ops_length [] = refl
 ops_length (x ∷ xs) = ap suc (ops_length xs)
 
--- by the rules
-record RootLands (vars : List VarInfo) (depth : ℕ) (lets : List Typed) (root : Typed) : Type 0 where
-  top : FilterKnown
-  locals : ℕ → Option FilterKnown
-  ends : run (filter_rules vars depth) (all_lines vars (map untyped lets) (untyped root)) (record { stack = []; locals = no_locals })
-      ≡ Some (record { stack = top ∷ []; locals = locals })
-  triple_is : top.triple ≡ root_triple vars (map untyped lets) (untyped root)
-  same : Same top.tree (inlined (inlined_after [] (map untyped lets)) (untyped root))
-  error : top.triple.e ≤ limit W64
-  each : PushNodes (IsNodeOf lets root)
-      (pushes (filter_rules vars depth) (all_lines vars (map untyped lets) (untyped root)) (record { stack = []; locals = no_locals }))
+-- ---- the predicate
 
-root_lands : (vars : List VarInfo) (depth : ℕ) (lets : List Typed) (root : Typed) → 2048 ≤ depth → length lets ≤ 64
-    → AreSound vars [] lets → Sound vars lets root → HasFilter vars (map untyped lets) (untyped root) → AllNarrow vars (map untyped lets)
-    → AreNarrow vars (untyped root) → RootLands vars depth lets root
-root_lands vars depth lets root d few s r f w n =
-    let ls : List Tree = map untyped lets in
-    let ts : List Triple = let_triples vars [] ls in
-    let trees : List Tree = inlined_after [] ls in
-    let x = lets_land vars depth 0 [] [] [] lets no_locals refl refl refl (omega arith) d s f.lets_steady w tt (no_lets no_locals) in
-    let g : AreSmall ts = lets_small vars [] ls tt f.lets_steady in
-    let y = lands vars depth lets trees ts (running lets) root x.locals [] r.nodes r.sizes f.root_steady n g x.known (let z = r.deep in omega arith) in
-    let i = triple_small vars ts (untyped root) g f.root_steady in
-    let e = i.error in
-    let p = lets_pushing vars depth 0 [] [] [] lets no_locals refl refl refl (omega arith) d s f.lets_steady w tt (no_lets no_locals) in
-    let q = pushing vars depth lets trees ts (running lets) root x.locals [] r.nodes r.sizes f.root_steady n g x.known (let z = r.deep in omega arith) in
-    let pw = push_wider (IsLetNode [] lets) (IsNodeOf lets root) (λ e v h. inl h)
-    (pushes (filter_rules vars depth) (let_lines vars 0 [] ls) (record { stack = []; locals = no_locals })) p in
-    let qw = push_wider (IsNode trees root) (IsNodeOf lets root) (λ e v h. inr h)
-    (pushes (filter_rules vars depth) (filter_lines vars ts (untyped root)) (record { stack = []; locals = x.locals })) q in
+-- a predicate over these variables: its lets and its sign expression
+pub record Predicate : Type 0 where
+  pub vars : List VarInfo
+  pub lets : List Typed
+  pub root : Typed
+
+-- it has at most 64 lets, and they and its sign expression are sound
+pub record SoundPredicate (p : Predicate) : Type 0 where
+  pub few : length p.lets ≤ 64
+  pub lets : AreSound p.vars [] p.lets
+  pub root : Sound p.vars p.lets p.root
+
+-- the predicate of these trees in memory
+abbrev pub predicate_of : List VarInfo → List Fitted → Fitted → Predicate
+predicate_of vars lets root = record { vars = vars; lets = map typed lets; root = typed root }
+
+-- it is sound where the tests say so
+pub sound_predicate : (vars : List VarInfo) (lets : List Fitted) (root : Fitted) → length lets ≤ 64 → are_sound vars [] (map typed lets) ≡ true
+    → is_sound vars (map typed lets) (typed root) ≡ true → SoundPredicate (predicate_of vars lets root)
+sound_predicate vars lets root few s r = record {
+  few = simp length-map few;
+  lets = are_sound_say vars [] (map typed lets) s;
+  root = is_sound_says vars (map typed lets) (typed root) r;
+}
+
+-- it has a filter too, and its variables are narrow
+pub record Filtered (p : Predicate) : Type 0 where
+  pub sound : SoundPredicate p
+  pub has : HasFilter p.vars (map untyped p.lets) (untyped p.root)
+  pub narrow_lets : AllNarrow p.vars (map untyped p.lets)
+  pub narrow_root : AreNarrow p.vars (untyped p.root)
+
+-- its operations
+abbrev lines_in : Predicate → List (Line Triple)
+lines_in p = all_lines p.vars (map untyped p.lets) (untyped p.root)
+
+-- the triple of its sign expression
+abbrev triple_in : Predicate → Triple
+triple_in p = root_triple p.vars (map untyped p.lets) (untyped p.root)
+
+-- the truncated number of its sign expression
+abbrev number_in : Predicate → List ℤ → ℤ
+number_in p zs = root_number p.vars zs (map untyped p.lets) (untyped p.root)
+
+-- where its filter runs: with a stack of this depth, and its nodes may be pushed
+abbrev setting_of : Predicate → ℕ → Setting
+setting_of p depth = record { vars = p.vars; depth = depth; is_node = IsNodeOf p.lets p.root }
+
+-- by the rules, its operations leave one value, with the triple and the polynomial of its sign expression
+record RootLands (p : Predicate) (depth : ℕ) : Type 0 where
+  top : FilterKnown
+  locals : Locals
+  runs : Runs (setting_of p depth) (lines_in p) (record { stack = []; locals = no_locals }) (record { stack = top ∷ []; locals = locals })
+  triple_is : top.triple ≡ triple_in p
+  same : Same top.tree (inlined (inlined_after [] (map untyped p.lets)) (untyped p.root))
+  error : top.triple.e ≤ limit W64
+
+root_lands : (p : Predicate) (depth : ℕ) → 2048 ≤ depth → Filtered p → RootLands p depth
+root_lands p depth d f =
+    let r : Setting = setting_of p depth in
+    let c : Lets = with_lets r no_lets p.lets in
+    let few : length p.lets ≤ 64 = f.sound.few in
+    let deep : need p.root ≤ 2048 = f.sound.root.deep in
+    let x = lets_land r 0 no_lets p.lets no_locals refl (omega (arith, few)) d (record {
+      sound = f.sound.lets;
+      steady = f.has.lets_steady;
+      narrow = f.narrow_lets;
+      nodes = λ e v h. inl h;
+    }) (no_lets_known no_locals) in
+    let y = lands r c p.root (record { stack = []; locals = x.locals }) (record {
+      sound = f.sound.root.nodes;
+      room = f.sound.root.sizes;
+      steady = f.has.root_steady;
+      narrow = f.narrow_root;
+      nodes = λ e v h. inr h;
+    }) x.known (omega (arith, deep, d)) in
+    let i : (triple_in p).e < 2 ^ 31 = y.allowed.small.error in
     record {
-      top = at (triple vars ts (untyped root)) y.tree y.size;
+      top = top y;
       locals = y.locals;
-      ends = then_run (filter_rules vars depth) (let_lines vars 0 [] ls) (filter_lines vars ts (untyped root)) _ _ _ x.ends y.ends;
+      runs = then_runs r (let_lines p.vars 0 [] (map untyped p.lets)) (filter_lines p.vars c.triples (untyped p.root))
+          (record { stack = []; locals = no_locals }) (record { stack = []; locals = x.locals })
+          (record { stack = top y ∷ []; locals = y.locals }) x.runs y.runs;
       triple_is = refl;
       same = y.same;
-      error = omega arith;
-      each = then_push vars depth (IsNodeOf lets root) (let_lines vars 0 [] ls) (filter_lines vars ts (untyped root))
-          (record { stack = []; locals = no_locals }) (record { stack = []; locals = x.locals }) x.ends pw qw;
+      error = omega (arith, i);
     }
 
--- without any test
-root_leaves : (vars : List VarInfo) (zs : List ℤ) (lets : List Typed) (root : Typed)
-    → AreWithin vars zs → length lets ≤ 64 → AreSound vars [] lets → Sound vars lets root
-    → answer (loose zs) no_locals (all_lines vars (map untyped lets) (untyped root)) ≡ Some (root_number vars zs (map untyped lets) (untyped root))
-root_leaves vars zs lets root h few s r =
-    let ls : List Tree = map untyped lets in
-    let ts : List Triple = let_triples vars [] ls in
-    let hs : List ℤ = let_numbers vars (values zs) [] [] ls in
-    let x = lets_leave vars zs 0 [] [] [] lets no_locals refl refl (omega arith) h s (none_there no_locals) in
-    let y = leaves vars zs lets ts hs root x.locals [] h r.nodes x.there in
-    let e = then_run (loose zs) (let_lines vars 0 [] ls) (filter_lines vars ts (untyped root)) _ _ _ x.ends y.ends in
+-- without any test, its operations leave its truncated number
+root_leaves : (p : Predicate) (zs : List ℤ) → AreWithin p.vars zs → SoundPredicate p → answer (loose zs) no_locals (lines_in p) ≡ Some (number_in p zs)
+root_leaves p zs h s =
+    let ls : List Tree = map untyped p.lets in
+    let c : NumberLets = with_numbers p.vars zs no_numbers p.lets in
+    let few : length p.lets ≤ 64 = s.few in
+    let x = lets_leave p.vars zs 0 no_numbers p.lets no_locals refl (omega (arith, few)) h s.lets (none_there no_locals) in
+    let y = leaves p.vars zs c p.root (record { stack = []; locals = x.locals }) h s.root.nodes x.there in
+    let e = then_run (loose zs) (let_lines p.vars 0 [] ls) (filter_lines p.vars c.triples (untyped p.root)) _ _ _ x.ends y.ends in
     rw e refl
 
 held_is : (y : Held) (h : ℤ) (e : ℕ) → y.number ≡ h → y.error ≡ e → y ≡ record { number = h; error = e }
@@ -145,113 +189,85 @@ number_is zs lines y h p q =
 same_top : (vars : List VarInfo) (code : FilterCode) (top m : FilterKnown) → filter_known_of vars code ≡ Some top → filter_known_of vars code ≡ Some m → m ≡ top
 same_top vars code top m p q = let e : Some m ≡ Some top = sym q ∙ p in cc
 
-value_is : (vars : List VarInfo) (zs : List ℤ) (code : FilterCode) (lets : List Typed) (root : Typed) → AreWithin vars zs → length lets ≤ 64 →
-    AreSound vars [] lets → Sound vars lets root → FollowsFilterRules vars code → (x : RootLands vars code.depth lets root) →
-    lines_of code.ops code.triples ≡ all_lines vars (map untyped lets) (untyped root) → filter_known_of vars code ≡ Some x.top → filter_value zs code
-    ≡ Some (record { number = root_number vars zs (map untyped lets) (untyped root); error = (root_triple vars (map untyped lets) (untyped root)).e })
-value_is vars zs code lets root h few s r g x e k =
-    let m = filters_mean vars zs code h g in
-    let t : m.what ≡ x.top = same_top vars code x.top m.what k m.known in
-    let err : m.left.error ≡ (root_triple vars (map untyped lets) (untyped root)).e =
-    m.error ∙ ap (λ (y : FilterKnown). y.triple.e) t ∙ ap (λ (z : Triple). z.e) x.triple_is in
-    let p : answer (exact_filter zs) no_locals (all_lines vars (map untyped lets) (untyped root)) ≡ Some m.left = rw e at m.answer in
-    let num : m.left.number ≡ root_number vars zs (map untyped lets) (untyped root) = number_is zs (all_lines vars (map untyped lets) (untyped root))
-    m.left (root_number vars zs (map untyped lets) (untyped root)) p (root_leaves vars zs lets root h few s r) in
-    m.answer ∙ ap Some (held_is m.left (root_number vars zs (map untyped lets) (untyped root)) (root_triple vars (map untyped lets) (untyped root)).e num err)
+value_is : (p : Predicate) (zs : List ℤ) (code : FilterCode) → AreWithin p.vars zs → SoundPredicate p → FollowsFilterRules p.vars code →
+    (x : RootLands p code.depth) → lines_of code.ops code.triples ≡ lines_in p → filter_known_of p.vars code ≡ Some x.top →
+    filter_value zs code ≡ Some (record { number = number_in p zs; error = (triple_in p).e })
+value_is p zs code h s g x e k =
+    let m = filters_mean p.vars zs code h g in
+    let t : m.what ≡ x.top = same_top p.vars code x.top m.what k m.known in
+    let err : m.left.error ≡ (triple_in p).e = m.error ∙ ap (λ (y : FilterKnown). y.triple.e) t ∙ ap (λ (z : Triple). z.e) x.triple_is in
+    let a : answer (exact_filter zs) no_locals (lines_in p) ≡ Some m.left = rw e at m.answer in
+    let num : m.left.number ≡ number_in p zs = number_is zs (lines_in p) m.left (number_in p zs) a (root_leaves p zs h s) in
+    m.answer ∙ ap Some (held_is m.left (number_in p zs) (triple_in p).e num err)
 
-pub record Sealed (vars : List VarInfo) (lets : List Typed) (root : Typed) (code : FilterCode) : Type 0 where
+-- the code is a filter, and the one that is planned for the predicate
+pub record Sealed (p : Predicate) (code : FilterCode) : Type 0 where
   pub filter : IsFilter code
-  pub planned : IsPlanned vars lets root code
+  pub planned : IsPlanned p.vars p.lets p.root code
 
-filter_is : (vars : List VarInfo) (code : FilterCode) (lets : List Typed) (root : Typed) → length lets ≤ 64 → AreSound vars [] lets →
-    Sound vars lets root → HasFilter vars (map untyped lets) (untyped root) → AllNarrow vars (map untyped lets) → AreNarrow vars (untyped root) →
-    code.depth ≡ 2048 → code.ops ≡ ops_in (all_lines vars (map untyped lets) (untyped root)) →
-    code.triples ≡ triples_in (all_lines vars (map untyped lets) (untyped root)) → Sealed vars lets root code
-filter_is vars code lets root few s r f w n d o b =
-    let all : List (Line Triple) = all_lines vars (map untyped lets) (untyped root) in
-    let ls : List Tree = map untyped lets in
-    let ts : List Triple = let_triples vars [] ls in
-    let x = root_lands vars code.depth lets root (let h : 2048 ≤ code.depth = omega arith in h) few s r f w n in
+filter_is : (p : Predicate) (code : FilterCode) → Filtered p → code.depth ≡ 2048 → code.ops ≡ ops_in (lines_in p)
+    → code.triples ≡ triples_in (lines_in p) → Sealed p code
+filter_is p code f d o b =
+    let all : List (Line Triple) = lines_in p in
+    let ls : List Tree = map untyped p.lets in
+    let ts : List Triple = let_triples p.vars [] ls in
+    let x = root_lands p code.depth (let h : 2048 ≤ code.depth = omega arith in h) f in
     let e : lines_of code.ops code.triples ≡ all = rw (o, b) (lines_back all) in
-    let k : filter_known_of vars code ≡ Some x.top = rw (e, x.ends) refl in
-    let g : FollowsFilterRules vars code = record { bounded = rw (o, b) (same_length all); what = x.top; known = k; narrow = x.error } in
+    let k : filter_known_of p.vars code ≡ Some x.top = rw (e, x.runs.ends) refl in
+    let g : FollowsFilterRules p.vars code = record { bounded = rw (o, b) (same_length all); what = x.top; known = k; narrow = x.error } in
     let l : length code.ops ≡ length all = rw o (ops_length all) in
-    let lc = lets_cost vars 0 [] lets in
-    let tc = tree_cost vars ts root in
-    let parts = length-append (let_lines vars 0 [] ls) (filter_lines vars ts (untyped root)) in
+    let lc = lets_cost p.vars 0 [] p.lets in
+    let tc = tree_cost p.vars ts p.root in
+    let few : length p.lets ≤ 64 = f.sound.few in
+    let parts = length-append (let_lines p.vars 0 [] ls) (filter_lines p.vars ts (untyped p.root)) in
     let st : StoresHave no_triple all =
-    stores_append (let_lines vars 0 [] ls) (filter_lines vars ts (untyped root)) (lets_store vars 0 [] lets) (tree_stores vars ts root) in
+    stores_append (let_lines p.vars 0 [] ls) (filter_lines p.vars ts (untyped p.root)) (lets_store p.vars 0 [] p.lets) (tree_stores p.vars ts p.root) in
     record {
-      filter = record { shallow = let h : code.depth ≤ 2048 = omega arith in h; stores_have = rw e st; vars = vars; rules = g };
+      filter = record { shallow = let h : code.depth ≤ 2048 = omega arith in h; stores_have = rw e st; vars = p.vars; rules = g };
       planned = record {
-        has = f;
+        has = f.has;
         rules = g;
-        triple = λ m h. ap (λ (y : FilterKnown). y.triple) (same_top vars code x.top m k h) ∙ x.triple_is;
-        whole = λ m h i. ap (λ (y : FilterKnown). normal_coefficient y.tree i) (same_top vars code x.top m k h) ∙ ap (λ (z : Series). z i) x.same.series;
+        triple = λ m h. ap (λ (y : FilterKnown). y.triple) (same_top p.vars code x.top m k h) ∙ x.triple_is;
+        whole = λ m h i. ap (λ (y : FilterKnown). normal_coefficient y.tree i) (same_top p.vars code x.top m k h) ∙ ap (λ (z : Series). z i) x.same.series;
         lines = e;
-        nodes = rw e x.each;
-        value = λ zs h. value_is vars zs code lets root h few s r g x e k;
-        small = omega (arith, l, lc, tc, parts);
+        nodes = rw e x.runs.nodes;
+        value = λ zs h. value_is p zs code h f.sound g x e k;
+        small = omega (arith, l, lc, tc, parts, few);
       };
     }
 
--- the filter that is sealed from what was written
-pub sealed : (vars : List VarInfo) (code : FilterCode) (lets : List Typed) (root : Typed) (ts : List Triple) (t : Triple) (a b c : Draft) →
-    length lets ≤ 64 → AreSound vars [] lets → Sound vars lets root →
-    Some ts ≡ lets_tried vars [] (map untyped lets) → Some t ≡ tried vars ts (untyped root) → AllNarrow vars (map untyped lets) →
-    AreNarrow vars (untyped root) →
-    a.ops ≡ [] → a.triples ≡ [] → Wrote a b (let_lines vars 0 [] (map untyped lets)) → Wrote b c (filter_lines vars ts (untyped root)) →
-    code.ops ≡ c.ops → code.triples ≡ c.triples → code.depth ≡ 2048 →
-    Sealed vars lets root code
-sealed vars code lets root ts t a b c few s r lt rt w n o p v y eo eb d =
-    let ls : List Tree = map untyped lets in
-    let z : let_triples vars [] ls ≡ ts = (lets_tried_steady vars [] ls ts (sym lt)).is in
-    let y' : Wrote b c (filter_lines vars (let_triples vars [] ls) (untyped root)) = rw z y in
-    let x : Wrote a c (all_lines vars (map untyped lets) (untyped root)) = wrote_then a b c _ _ _ refl v y' in
-    let i : c.ops ≡ ops_in (all_lines vars (map untyped lets) (untyped root)) =
-    x.ops ∙ ap (λ l. l ++ ops_in (all_lines vars (map untyped lets) (untyped root))) o in
-    let j : c.triples ≡ triples_in (all_lines vars (map untyped lets) (untyped root)) =
-    x.triples ∙ ap (λ l. l ++ triples_in (all_lines vars (map untyped lets) (untyped root))) p in
-    filter_is vars code lets root few s r (has_filter vars ls (untyped root) ts t lt rt) w n d (eo ∙ i) (eb ∙ j)
+-- a draft in which nothing was written
+abbrev pub blank : Draft
+blank = record { ops = []; triples = [] }
 
--- the same over what the code has
-pub written_is : (vars vs : List VarInfo) (lets ls : List Fitted) (root : Fitted) (code : FilterCode) (ts gs : List Triple) (t : Triple)
-    (o : Option (List Triple)) (p : Option Triple) (a b c : Draft) → vs ≡ vars → ls ≡ lets → gs ≡ ts → o ≡ Some ts → p ≡ Some t →
-    length lets ≤ 64 → are_sound vars [] (map typed lets) ≡ true → is_sound vars (map typed lets) (typed root) ≡ true →
-    o ≡ lets_tried vs [] (map untyped (map typed ls)) → p ≡ tried vs gs (untyped (typed root)) →
-    IfSome o (λ x. AllNarrow vs (map untyped (map typed ls))) → IfSome p (λ x. AreNarrow vs (untyped (typed root))) → a.ops ≡ [] → a.triples ≡ [] →
-    IfSome o (λ x. Wrote a b (let_lines vs 0 [] (map untyped (map typed ls)))) → IfSome p (λ x. Wrote b c (filter_lines vs gs (untyped (typed root)))) →
-    code.ops ≡ c.ops → code.triples ≡ c.triples → code.depth ≡ 2048 → Sealed vars (map typed lets) (typed root) code
-written_is vars vs lets ls root code ts gs t o p a b c e f g i j few s r lt rt w n x y u v eo eb d =
-    let few' : length (map typed lets) ≤ 64 = simp length-map few in
-    let lt' : Some ts ≡ lets_tried vars [] (map untyped (map typed lets)) = sym i ∙ (rw (e, f) at lt) in
-    let rt' : Some t ≡ tried vars ts (untyped (typed root)) = sym j ∙ (rw (e, g) at rt) in
-    let w' : AllNarrow vars (map untyped (map typed lets)) = rw (i, e, f) at w in
-    let n' : AreNarrow vars (untyped (typed root)) = rw (j, e) at n in
-    let u' : Wrote a b (let_lines vars 0 [] (map untyped (map typed lets))) = rw (i, e, f) at u in
-    let v' : Wrote b c (filter_lines vars ts (untyped (typed root))) = rw (j, e, g) at v in
-    sealed vars code (map typed lets) (typed root) ts t a b c few' (are_sound_say vars [] (map typed lets) s)
-    (is_sound_says vars (map typed lets) (typed root) r) lt' rt' w' n' x y u' v' eo eb d
+-- a draft as a filter
+abbrev pub code_of : Draft → FilterCode
+code_of d = record { ops = d.ops; triples = d.triples; depth = 2048 }
 
--- where a let isn't steady there is no filter
-pub none_by_lets : (vars vs : List VarInfo) (lets ls : List Fitted) (root : Tree) (o : Option (List Triple)) → vs ≡ vars → ls ≡ lets
-    → o ≡ None → o ≡ lets_tried vs [] (map untyped (map typed ls)) → HasFilter vars (map untyped (map typed lets)) root → ⊥
-none_by_lets vars vs lets ls root o e f i h = no_lets_filter vars (map untyped (map typed lets)) root (sym i ∙ (rw (e, f) at h))
-
--- nor where the sign expression isn't
-pub none_by_root : (vars vs : List VarInfo) (lets ls : List Fitted) (root : Tree) (ts gs : List Triple) (o : Option (List Triple))
-    (p : Option Triple) → vs ≡ vars → ls ≡ lets → gs ≡ ts → o ≡ Some ts → p ≡ None → o ≡ lets_tried vs [] (map untyped (map typed ls))
-    → p ≡ tried vs gs root → HasFilter vars (map untyped (map typed lets)) root → ⊥
-none_by_root vars vs lets ls root ts gs o p e f g i j h k =
-    no_root_filter vars (map untyped (map typed lets)) root ts (sym i ∙ (rw (e, f) at h)) (sym j ∙ (rw (e, g) at k))
+-- where the lets and then the sign expression were written into a blank draft, it has the filter of the predicate
+pub sealed : (p : Predicate) (b c : Draft) (ts : List Triple) (t : Triple) → SoundPredicate p → LetsPut p.vars blank b (map untyped p.lets) (Some ts)
+    → SteadyPut p.vars ts b c (untyped p.root) (Some t) → Sealed p (code_of c)
+sealed p b c ts t s l r =
+    let ls : List Tree = map untyped p.lets in
+    let z : let_triples p.vars [] ls ≡ ts = (lets_tried_steady p.vars [] ls ts (sym l.tried)).is in
+    let w : Wrote b c (filter_lines p.vars (let_triples p.vars [] ls) (untyped p.root)) = rw z r.wrote in
+    let x : Wrote blank c (lines_in p) = wrote_then blank b c _ _ _ refl l.wrote w in
+    filter_is p (code_of c) (record {
+      sound = s;
+      has = has_filter p.vars ls (untyped p.root) ts t l.tried r.tried;
+      narrow_lets = l.narrow;
+      narrow_root = r.narrow;
+    }) refl x.ops x.triples
 
 -- ---- the clauses of the public call
 
+-- a plan has a filter exactly where the predicate has one
 pub where_is : (vars : List VarInfo) (lets : List Typed) (root : Typed) (o : Option FilterCode) → IsPlan vars lets root o
     → IsSome o ↔ HasFilter vars (map untyped lets) (untyped root)
 where_is vars lets root None h = (λ e. cc, λ f. absurd (h f))
 where_is vars lets root (Some f) h = (λ e. h.has, λ g. refl)
 
+-- what holds of each filter as planned holds of that of a plan, if it has one
 pub gives : (vars : List VarInfo) (lets : List Typed) (root : Typed) (P : FilterCode → Type 0)
     → ((f : FilterCode) → IsPlanned vars lets root f → P f) → (o : Option FilterCode) → IsPlan vars lets root o → IfSome o P
 gives vars lets root P g None h = tt

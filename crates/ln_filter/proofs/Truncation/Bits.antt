@@ -26,6 +26,7 @@ digits_hold (suc most) n h =
     let ih = λ (k : n / 2 ≤ most). digits_hold most (n / 2) k in
     digits_step most n (eqb n 0) refl h ih
 
+-- a number with b binary digits is below 2^b
 pub bits_hold : (n : ℕ) → n < 2 ^ bits n
 unfolding bits
 bits_hold n = digits_hold n n (omega arith)
@@ -54,14 +55,17 @@ digits_tight (suc most) n p h =
     let ih = λ (k : n / 2 ≤ most) (q : 0 < n / 2). digits_tight most (n / 2) q k in
     tight_by most n (eqb n 0) refl p h ih
 
+-- a number with b binary digits is at least half of 2^b, where it isn't 0
 pub bits_tight : (n : ℕ) → 0 < n → 2 ^ bits n ≤ 2 * n
 unfolding bits
 bits_tight n p = digits_tight n n p (omega arith)
 
+-- 0 has no binary digits
 pub bits_nought : bits 0 ≡ 0
 unfolding bits
 bits_nought = refl
 
+-- a number of w bits has as many binary digits as there are bits after its leading zeros
 pub bits_by_zeros : (w n : ℕ) → n < 2 ^ w → w - count_leading_zeros w n ≡ bits n
 bits_by_zeros w n h = by_case (cases_lt 0 n)
   where
@@ -83,6 +87,7 @@ bits_by_zeros w n h = by_case (cases_lt 0 n)
         omega (arith, u, f)
     by_case (inr p) = let z : n ≡ 0 = omega arith in rw (z, bits_nought, leading_of_zero) (omega arith)
 
+-- a number divided by 2 to the power of its excess has at most 31 binary digits
 pub excess_leaves : (r : ℕ) → r / 2 ^ excess r < 2 ^ 31
 excess_leaves r = below_by r (bits r) (bits_hold r) (cases_lt (bits r) 31)
   where

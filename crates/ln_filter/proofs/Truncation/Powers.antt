@@ -4,6 +4,7 @@ use Rattle.std.proofs.lemmas.Nat.{mul-le}
 use Rattle.std.proofs.Math.Nat.{pow-suc, pow-zero}
 use Rattle.ln_code.proofs.Engines.Behind.{power_grows}
 
+-- a number is at most itself
 pub le_self : (n : ℕ) → n ≤ n
 le_self n = omega arith
 
@@ -12,6 +13,7 @@ abbrev pub power_size : ℕ → ℕ → ℕ
 power_size s zero = s
 power_size s (suc n) = power_size s n * s
 
+-- the power of a number up to b is at most that of b
 pub power_size_le : (s b n : ℕ) → s ≤ b → power_size s n ≤ b ^ suc n
 power_size_le s b zero h = rw (pow-suc b 0, pow-zero b) (omega arith)
 power_size_le s b (suc n) h =

@@ -91,6 +91,7 @@ size_stands (i ∷ is) [] v h = absurd h
 size_stands (i ∷ is) (z ∷ zs) zero h = let s = in_size (i ∷ is) (z ∷ zs) h 0 i refl in rw (← s.same) s.small
 size_stands (i ∷ is) (z ∷ zs) (suc v) h = size_stands is zs v h.2
 
+-- the truncated number of an expression stands for its value, where those of the lets do
 pub tree_stands : (vars : List VarInfo) (zs : List ℤ) (ts : List Triple) (hs vs : List ℤ) → AreWithin vars zs → AllStand ts hs vs
     → (t : Tree) → Stands (triple vars ts t) (number vars (values zs) ts hs t) (value (values zs) vs t)
 tree_stands vars zs ts hs vs r l (Num c) = leaf_stands (unsigned_abs c) c (omega arith)
@@ -109,6 +110,7 @@ lets_stand vars zs ts hs vs [] r l = l
 lets_stand vars zs ts hs vs (t ∷ lets) r l = lets_stand vars zs (ts ++ (triple vars ts t ∷ [])) (hs ++ (number vars (values zs) ts hs t ∷ []))
     (vs ++ (value (values zs) vs t ∷ [])) lets r (stand_snoc ts hs vs _ _ _ l (tree_stands vars zs ts hs vs r l t))
 
+-- the truncated number of a sign expression stands for its plain value
 pub numbers_stand : NumbersStand
 numbers_stand vars zs lets root r = tree_stands vars zs _ _ _ r (lets_stand vars zs [] [] [] lets r tt) root
 
@@ -132,6 +134,7 @@ one_sign a (pos zero) v d s = absurd (omega (arith, d))
 one_sign a (pos (suc n)) v d s = let p = decides_positive a (pos (suc n)) v d (omega (arith, ints)) s in (plus_sign v p, not_zero v (inl p))
 one_sign a (negsuc n) v d s = let p = decides_negative a (negsuc n) v d (omega (arith, ints)) s in (minus_sign v p, not_zero v (inr p))
 
+-- where the filter decides, the plain value isn't 0 and has the truncated number's sign
 pub never_wrong : NeverWrong
 never_wrong vars zs lets root r d =
     one_sign (root_triple vars lets root) (root_number vars zs lets root) (plain_value zs lets root) d.above (numbers_stand vars zs lets root r)

@@ -18,17 +18,21 @@ use Rattle.ln_filter.specs.Steady.{IsSteady, ArePowersSteady, AreSteady, AreLets
 use Rattle.ln_filter.specs.Tried.{is_steady, settled, power_tried, tried, lets_tried, AreNarrow, IsSmall, IsTried}
 use Rattle.ln_filter.proofs.Truncation.Bits.{excess_leaves}
 
+-- a steady triple passes the test
 pub test_of : (a : Triple) → IsSteady a → is_steady a ≡ true
 test_of a s = rw (le-leb a.e 2147483647 s.error, le-leb a.k 255 s.power) refl
 
+-- a triple that passes the test is steady
 pub steady_by : (a : Triple) → is_steady a ≡ true → IsSteady a
 steady_by a h =
     let p = and_parts (nat_le a.e 2147483647) (nat_le a.k 255) h in
     record { error = leb-true _ _ p.0; power = leb-true _ _ p.1 }
 
+-- `settled` of a steady triple is that triple
 pub settled_is : (a : Triple) → IsSteady a → settled a ≡ Some a
 settled_is a s = rw (test_of a s) refl
 
+-- what `settled` returns is steady, and is the triple that it was given
 pub settled_some : (a b : Triple) → settled a ≡ Some b → IsSteady a × (a ≡ b)
 settled_some a b h = let w = when_some (is_steady a) a b h in (steady_by a w.0, w.1)
 
@@ -39,6 +43,7 @@ one_steady = record { error = omega arith; power = omega arith }
 
 -- ---- powers
 
+-- where the products on the way to a power are steady, its triple is worked out
 pub powers_tried : (a : Triple) (n : ℕ) → ArePowersSteady a n → power_tried a n ≡ Some (powered a n)
 powers_tried a zero s = settled_is (leaf 1) one_steady
 powers_tried a (suc zero) s = refl
@@ -63,10 +68,12 @@ one_more a n j e h s m l k = by_case (cases_lt m j)
     by_case (inl p) = h m l (omega arith)
     by_case (inr p) = let q : m ≡ j = omega arith in rw q s
 
+-- the products on the way to the power are steady, and this is its triple
 pub record PowerTried (a p : Triple) (n : ℕ) : Type 0 where
   pub steady : ArePowersSteady a n
   pub is : powered a n ≡ p
 
+-- where a triple is worked out for a power, the products on the way are steady, and it is the power's
 pub tried_powers : (a p : Triple) (n : ℕ) → power_tried a n ≡ Some p → PowerTried a p n
 tried_powers a p zero h = let w = settled_some (leaf 1) p h in record { steady = λ m l k. absurd (omega arith); is = w.1 }
 tried_powers a p (suc zero) h = record { steady = λ m l k. absurd (omega arith); is = cc }
@@ -80,6 +87,7 @@ tried_powers a p (suc (suc n)) h =
 
 -- ---- trees
 
+-- where the nodes of an expression are steady, its triple is worked out
 pub steady_tried : (vars : List VarInfo) (lets : List Triple) (t : Tree) → AreSteady vars lets t → tried vars lets t ≡ Some (triple vars lets t)
 steady_tried vars lets (Num c) s = settled_is _ s
 steady_tried vars lets (Input v) s = settled_is _ s
@@ -90,6 +98,7 @@ steady_tried vars lets (Sub e f) s = rw (steady_tried vars lets e s.0, steady_tr
 steady_tried vars lets (Mul e f) s = rw (steady_tried vars lets e s.0, steady_tried vars lets f s.1) (settled_is _ s.2)
 steady_tried vars lets (Pow e n) s = rw (steady_tried vars lets e s.0) (powers_tried (triple vars lets e) n s.1)
 
+-- the nodes of the expression are steady, and this is its triple
 pub record Tried (vars : List VarInfo) (lets : List Triple) (t : Tree) (a : Triple) : Type 0 where
   pub steady : AreSteady vars lets t
   pub is : triple vars lets t ≡ a
@@ -109,6 +118,7 @@ two_tried (Some a) (Some b) join x h =
     let w = settled_some (join a b) x h in
     record { left = a; right = b; left_is = refl; right_is = refl; steady = w.0; is = w.1 }
 
+-- where a triple is worked out for an expression, its nodes are steady, and it is the expression's
 pub tried_steady : (vars : List VarInfo) (lets : List Triple) (t : Tree) (a : Triple) → tried vars lets t ≡ Some a → Tried vars lets t a
 tried_steady vars lets (Num c) a h = let w = settled_some _ a h in record { steady = w.0; is = w.1 }
 tried_steady vars lets (Input v) a h = let w = settled_some _ a h in record { steady = w.0; is = w.1 }
@@ -143,6 +153,7 @@ tried_steady vars lets (Pow e n) a h =
     let i : powered (triple vars lets e) n ≡ a = rw r.is p.is in
     record { steady = (r.steady, z); is = i }
 
+-- where some triple is worked out for an expression, the expression's own is
 pub tried_again : (vars : List VarInfo) (lets : List Triple) (t : Tree) (x a : Triple) → Some x ≡ tried vars lets t → a ≡ triple vars lets t
     → Some a ≡ tried vars lets t
 tried_again vars lets t x a h k =
@@ -152,15 +163,18 @@ tried_again vars lets t x a h k =
 
 -- ---- lets
 
+-- where the nodes of the lets are steady, their triples are worked out
 pub steady_lets_tried : (vars : List VarInfo) (done : List Triple) (ts : List Tree) → AreLetsSteady vars done ts
     → lets_tried vars done ts ≡ Some (let_triples vars done ts)
 steady_lets_tried vars done [] s = refl
 steady_lets_tried vars done (t ∷ ts) s = rw (steady_tried vars done t s.0) (steady_lets_tried vars (done ++ (triple vars done t ∷ [])) ts s.1)
 
+-- the nodes of the lets are steady, and these are their triples
 pub record LetsTried (vars : List VarInfo) (done : List Triple) (ts : List Tree) (xs : List Triple) : Type 0 where
   pub steady : AreLetsSteady vars done ts
   pub is : let_triples vars done ts ≡ xs
 
+-- where triples are worked out for the lets, their nodes are steady, and these are the triples of the lets
 pub lets_tried_steady : (vars : List VarInfo) (done : List Triple) (ts : List Tree) (xs : List Triple) → lets_tried vars done ts ≡ Some xs
     → LetsTried vars done ts xs
 lets_tried_steady vars done [] xs h = record { steady = tt; is = cc }
@@ -173,6 +187,7 @@ lets_tried_steady vars done (t ∷ ts) xs h =
 
 -- ---- which predicates have a filter
 
+-- a predicate has a filter where triples are worked out for its lets and its sign expression
 pub has_filter : (vars : List VarInfo) (lets : List Tree) (root : Tree) (ts : List Triple) (a : Triple) → Some ts ≡ lets_tried vars [] lets
     → Some a ≡ tried vars ts root → HasFilter vars lets root
 has_filter vars lets root ts a h k =
@@ -180,9 +195,11 @@ has_filter vars lets root ts a h k =
     let r = tried_steady vars ts root a (sym k) in
     record { lets_steady = l.steady; root_steady = rw l.is r.steady }
 
+-- a predicate has no filter where no triples are worked out for its lets
 pub no_lets_filter : (vars : List VarInfo) (lets : List Tree) (root : Tree) → None ≡ lets_tried vars [] lets → HasFilter vars lets root → ⊥
 no_lets_filter vars lets root h f = let e : None ≡ Some (let_triples vars [] lets) = h ∙ steady_lets_tried vars [] lets f.lets_steady in cc
 
+-- nor where no triple is worked out for its sign expression
 pub no_root_filter : (vars : List VarInfo) (lets : List Tree) (root : Tree) (ts : List Triple) → Some ts ≡ lets_tried vars [] lets
     → None ≡ tried vars ts root → HasFilter vars lets root → ⊥
 no_root_filter vars lets root ts h k f =
@@ -193,6 +210,7 @@ no_root_filter vars lets root ts h k f =
 
 -- ---- 31 bits
 
+-- a triple that is steady after its cut is small
 pub trimmed_small : (a : Triple) → IsSteady (trimmed a) → IsSmall (trimmed a)
 trimmed_small a s =
     let h = excess_leaves a.h in
@@ -200,6 +218,7 @@ trimmed_small a s =
     let k = s.power in
     record { power = k; size = h; error = omega arith }
 
+-- the power of what has a small triple has one, where the products on the way are steady
 pub powered_small : (a : Triple) (n : ℕ) → IsSmall a → ArePowersSteady a n → IsSmall (powered a n)
 powered_small a zero s p = trimmed_small (whole 1) one_steady
 powered_small a (suc zero) s p = s
@@ -210,15 +229,18 @@ abbrev pub AreSmall : List Triple → Type 0
 AreSmall [] = Unit {0}
 AreSmall (a ∷ as') = IsSmall a × AreSmall as'
 
+-- each of small triples is small, and so is the one that is read past the end
 pub small_at : (ts : List Triple) (j : ℕ) → AreSmall ts → IsSmall (slice_index_or ts j no_triple)
 small_at [] j s = record { power = omega arith; size = omega arith; error = omega arith }
 small_at (a ∷ ts) zero s = s.0
 small_at (a ∷ ts) (suc j) s = small_at ts j s.1
 
+-- small triples and one more are small
 pub small_snoc : (ts : List Triple) (a : Triple) → AreSmall ts → IsSmall a → AreSmall (ts ++ (a ∷ []))
 small_snoc [] a s p = (p, tt)
 small_snoc (b ∷ ts) a s p = (s.0, small_snoc ts a s.1 p)
 
+-- the triple of an expression with steady nodes is small, where those of the lets are
 pub triple_small : (vars : List VarInfo) (lets : List Triple) (t : Tree) → AreSmall lets → AreSteady vars lets t → IsSmall (triple vars lets t)
 triple_small vars lets (Num c) g s = trimmed_small _ s
 triple_small vars lets (Input v) g s = trimmed_small _ s
@@ -229,11 +251,7 @@ triple_small vars lets (Sub e f) g s = trimmed_small _ s.2
 triple_small vars lets (Mul e f) g s = trimmed_small _ s.2
 triple_small vars lets (Pow e n) g s = powered_small (triple vars lets e) n (triple_small vars lets e g s.0) s.1
 
-pub lets_small : (vars : List VarInfo) (done : List Triple) (ts : List Tree) → AreSmall done → AreLetsSteady vars done ts → AreSmall (let_triples vars done ts)
-lets_small vars done [] g s = g
-lets_small vars done (t ∷ ts) g s =
-    lets_small vars (done ++ (triple vars done t ∷ [])) ts (small_snoc done (triple vars done t) g (triple_small vars done t g s.0)) s.1
-
+-- small triples and one more are small, by `All`
 pub all_snoc : (ts : List Triple) (a : Triple) → All IsSmall ts → IsSmall a → All IsSmall (ts ++ (a ∷ []))
 all_snoc [] a s p zero d h = p
 all_snoc [] a s p (suc k) d h = absurd (omega arith)
@@ -242,24 +260,29 @@ all_snoc (b ∷ ts) a s p (suc k) d h = all_snoc ts a (λ i e l. s (suc i) e (om
 
 -- ---- a tree from its operands
 
+-- `settled` of a small triple is that triple
 pub settled_small : (a : Triple) → IsSmall a → settled a ≡ Some a
 settled_small a s =
     let e = s.error in
     let k = s.power in
     settled_is a (record { error = omega arith; power = omega arith })
 
+-- the result for a number
 pub tried_num : (vars : List VarInfo) (lets : List Triple) (t : Tree) (c : ℤ) (a : Triple) → t ≡ Num c → a ≡ leaf (unsigned_abs c)
     → IsSmall a → IsTried vars lets t (Some a)
 tried_num vars lets t c a e h s = record { value = sym (settled_small a s) ∙ ap settled h ∙ ap (tried vars lets) (sym e); small = s; narrow = rw e tt }
 
+-- the result for a variable
 pub tried_input : (vars : List VarInfo) (lets : List Triple) (t : Tree) (v : ℕ) (a : Triple) → t ≡ Input v → a ≡ leaf (sizes vars v)
     → IsSmall a → sizes vars v < 2 ^ 63 → IsTried vars lets t (Some a)
 tried_input vars lets t v a e h s n = record { value = sym (settled_small a s) ∙ ap settled h ∙ ap (tried vars lets) (sym e); small = s; narrow = rw e n }
 
+-- the result for the name of a let
 pub tried_let : (vars : List VarInfo) (lets : List Triple) (t : Tree) (j : ℕ) (a : Triple) → t ≡ Name j
     → a ≡ slice_index_or lets j no_triple → IsSmall a → IsTried vars lets t (Some a)
 tried_let vars lets t j a e h s = record { value = ap Some h ∙ ap (tried vars lets) (sym e); small = s; narrow = rw e tt }
 
+-- the result for a negation is that for its operand
 pub tried_neg : (vars : List VarInfo) (lets : List Triple) (t x : Tree) (o : Option Triple) → t ≡ Neg x → IsTried vars lets x o → IsTried vars lets t o
 tried_neg vars lets t x o e h = rw e (record { value = h.value; small = h.small; narrow = h.narrow })
 
@@ -284,14 +307,13 @@ both_narrow vars k x y None p r e m n = rw e tt
 both_narrow vars k x y (Some a) None r e m n = rw e tt
 both_narrow vars k x y (Some a) (Some b) r e m n = if_there r (AreNarrow vars (two_of k x y)) (two_narrow vars k x y m n)
 
-pub tried_both : (vars : List VarInfo) (lets : List Triple) (t : Tree) (k : Two) (x y : Tree) (o p r : Option Triple) → t ≡ two_of k x y →
-    IsTried vars lets x o → IsTried vars lets y p →
-    r ≡ next o (λ a. next p (λ b. settled (both k a b))) → IfSome r (λ a. IsSmall a) → IsTried vars lets t r
-tried_both vars lets t k x y o p r e u v i s = record {
-  value = i ∙ ap₂ (λ (m n : Option Triple). next m (λ a. next n (λ b. settled (both k a b)))) u.value v.value
-      ∙ sym (two_tries vars lets k x y) ∙ ap (tried vars lets) (sym e);
+-- the result for an operation on two, by those for its operands
+pub tried_both : (vars : List VarInfo) (lets : List Triple) (k : Two) (x y : Tree) (o p r : Option Triple) → IsTried vars lets x o
+    → IsTried vars lets y p → r ≡ next o (λ a. next p (λ b. settled (both k a b))) → IfSome r (λ a. IsSmall a) → IsTried vars lets (two_of k x y) r
+tried_both vars lets k x y o p r u v i s = record {
+  value = i ∙ ap₂ (λ (m n : Option Triple). next m (λ a. next n (λ b. settled (both k a b)))) u.value v.value ∙ sym (two_tries vars lets k x y);
   small = s;
-  narrow = subst (λ z. IfSome r (λ a. AreNarrow vars z)) (sym e) (both_narrow vars k x y o p r i u.narrow v.narrow);
+  narrow = both_narrow vars k x y o p r i u.narrow v.narrow;
 }
 
 raised_narrow : (vars : List VarInfo) (x : Tree) (n : ℕ) (o r : Option Triple) → r ≡ next o (λ a. power_tried a n)
@@ -299,6 +321,7 @@ raised_narrow : (vars : List VarInfo) (x : Tree) (n : ℕ) (o r : Option Triple)
 raised_narrow vars x n None r e m = rw e tt
 raised_narrow vars x n (Some a) r e m = if_there r (AreNarrow vars x) m
 
+-- the result for a power, by that for its base
 pub tried_raised : (vars : List VarInfo) (lets : List Triple) (t x : Tree) (n : ℕ) (o r : Option Triple) → t ≡ Pow x n
     → IsTried vars lets x o → r ≡ next o (λ a. power_tried a n) → IfSome r (λ a. IsSmall a) → IsTried vars lets t r
 tried_raised vars lets t x n o r e u i s = record {

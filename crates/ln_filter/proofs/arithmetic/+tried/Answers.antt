@@ -1,10 +1,10 @@
-use Rattle.std.proofs.Common.{◌≡◌, refl, rules, unsigned_abs}
+use Rattle.std.proofs.Common.{◌≡◌, refl, rules, subst, sym, unsigned_abs}
 use Rattle.ln_algebra.specs.Tree.{Neg, Pow}
-use Rattle.ln_interval.specs.View.{range}
 use Rattle.ln_bound.specs.Typed.{operation, untyped}
 use Rattle.ln_bound.specs.View.{typed}
+use Rattle.ln_filter.specs.Tried.{IsTried}
 use Rattle.ln_filter.specs.Triples.{leaf}
-use Rattle.ln_filter.proofs.Operations.Operands.{Operands, operands}
+use Rattle.ln_filter.proofs.Operations.Operands.{operands}
 use Rattle.ln_filter.proofs.Truncation.Steady.{tried_num, tried_input, tried_let, tried_neg, tried_both, tried_raised}
 use Rattle.ln_filter.proofs.arithmetic.+tried.Goals as goal
 
@@ -30,29 +30,24 @@ returns-in-Neg t c =
 
 pub tried-a-requires-in-Add : goal.tried-a-requires-in-Add
 tried-a-requires-in-Add t c =
-    let x = typed c.deref-in-Add.result.now in
-    let y = typed c.in-Add.y.value in
-    let o : Operands t (typed c.args.t.now) x y = rw c.deref-in-Add.ensures (operands t c.args.t.now.op _ _ _ (typed c.in-Add.x.value)
-    (typed c.in-Add.y.value) (range c.args.t.now.pair) c.args.t.now.width c.in-Add.is refl refl refl c.decreases) in
+    let o = operands t c.args.t.now c.in-Add.x c.in-Add.y c.deref-in-Add.result.now c.in-Add.y.value c.in-Add.is c.deref-in-Add.ensures refl c.decreases in
     (o.first_falls, (c.requires.ranges, c.requires.lets))
 
 pub tried-b-requires : goal.tried-b-requires
 tried-b-requires t c =
-    let x = typed c.deref-in-Add.result.now in
-    let y = typed c.deref-in-Add-2.result.now in
-    let o : Operands t (typed c.args.t.now) x y = rw (c.deref-in-Add.ensures, c.deref-in-Add-2.ensures) (operands t c.args.t.now.op _ _ _
-    (typed c.in-Add.x.value) (typed c.in-Add.y.value) (range c.args.t.now.pair) c.args.t.now.width c.in-Add.is refl refl refl c.decreases) in
+    let o = operands t c.args.t.now c.in-Add.x c.in-Add.y c.deref-in-Add.result.now c.deref-in-Add-2.result.now c.in-Add.is
+    c.deref-in-Add.ensures c.deref-in-Add-2.ensures c.decreases in
     (o.second_falls, (c.requires.ranges, c.requires.lets))
 
 pub returns-in-Add : goal.returns-in-Add
 returns-in-Add t c =
     let x = typed c.deref-in-Add.result.now in
     let y = typed c.deref-in-Add-2.result.now in
-    let o : Operands t (typed c.args.t.now) x y = rw (c.deref-in-Add.ensures, c.deref-in-Add-2.ensures) (operands t c.args.t.now.op _ _ _
-    (typed c.in-Add.x.value) (typed c.in-Add.y.value) (range c.args.t.now.pair) c.args.t.now.width c.in-Add.is refl refl refl c.decreases) in
-    tried_both c.args.vars.now c.args.lets.now (untyped (typed c.args.t.now)) (operation (typed c.args.t.now)) (untyped x)
-    (untyped y) c.tried-a-in-Add.result c.tried-b.result c.both.result o.form c.tried-a-in-Add.ensures c.tried-b.ensures
-    (rw c.operation.ensures at c.both.ensures.value) c.both.ensures.small
+    let o = operands t c.args.t.now c.in-Add.x c.in-Add.y c.deref-in-Add.result.now c.deref-in-Add-2.result.now c.in-Add.is
+    c.deref-in-Add.ensures c.deref-in-Add-2.ensures c.decreases in
+    subst (λ z. IsTried c.args.vars.now c.args.lets.now z c.both.result) (sym o.form) (tried_both c.args.vars.now c.args.lets.now
+    (operation (typed c.args.t.now)) (untyped x) (untyped y) c.tried-a-in-Add.result c.tried-b.result c.both.result c.tried-a-in-Add.ensures
+    c.tried-b.ensures (rw c.operation.ensures at c.both.ensures.value) c.both.ensures.small)
 
 pub returns-in-Pow : goal.returns-in-Pow
 returns-in-Pow t c =

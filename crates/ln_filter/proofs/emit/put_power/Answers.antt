@@ -7,5 +7,5 @@ returns-then-n-eq0 c = first_power c.args.a c.args.n c.args.draft.now c.if-n-eq0
 
 pub returns : goal.returns
 returns c =
-    IfOk-weaker c.put_factors.result _ _ (λ x g. later_power c.args.a c.no_triple.result x c.args.n _ _ _ _ c.if-n-eq0.false
-    c.no_triple.ensures c.in_ok-push.ensures c.in_ok-push-2.ensures g) c.put_factors.ensures
+    IfOk-weaker c.put_factors.result _ _ (λ x g. later_power c.args.a x c.args.n _ _ _ _ c.if-n-eq0.false
+    (rw c.no_triple.ensures at c.in_ok-push.ensures) c.in_ok-push-2.ensures g) c.put_factors.ensures
