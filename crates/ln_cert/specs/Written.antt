@@ -1,7 +1,8 @@
 -- The listing of compiled programs.
-use Rattle.std.specs.Prelude.{◌≡◌, ℕ, suc, pos, ◌<◌, ◌≤◌, ◌^◌, unsigned_abs, true, List, [], ◌∷◌, ◌++◌, length, map, Option, Some, None}
+use Rattle.std.specs.Prelude.{◌≡◌, ℕ, suc, pos, ◌<◌, ◌≤◌, ◌^◌, unsigned_abs, true, List, [], ◌∷◌, ◌++◌, length, map, Option, Some, None, IfSome}
 use Rattle.ln_interval.specs.Range.{Range}
 use Rattle.ln_tree.specs.declared.shape.VarInfo.{VarInfo}
+use Rattle.ln_tree.specs.Exps.{IsRising}
 use Rattle.ln_tree.specs.Names.{name_bytes}
 use Rattle.ln_order.specs.Orders.{orders_of}
 use Rattle.ln_code.specs.declared.op.Op.{Op}
@@ -94,3 +95,19 @@ pub record ForBlock (c : Code) : Type 0 where
   pub few : length vars ≤ 168
   pub rules : FollowsRules vars c
   pub of_sites : AreOfSites vars c.exps
+
+-- ---- what a listing can state
+-- the variables of a block's exponents rise, and its stack needs at most 2,048 places
+pub record IsListableBlock (c : Code) : Type 0 where
+  pub rising : IsRising c.exps
+  pub shallow : c.depth ≤ 2048
+
+-- each of these blocks can be listed
+abbrev pub AreListableBlocks : List Code → Type 0
+AreListableBlocks [] = Unit {0}
+AreListableBlocks (c ∷ cs) = IsListableBlock c × AreListableBlocks cs
+
+-- each block of a program, and the stack of its filter
+pub record IsListable (p : Program) : Type 0 where
+  pub blocks : AreListableBlocks p.blocks
+  pub filter : IfSome p.filter (λ f. f.depth ≤ 2048)

@@ -1,8 +1,9 @@
 //! Writing the listing of programs.
-ghost use Rattle.std.specs.Prelude.{◌≡◌, ◌<◌, ◌≤◌, ◌∷◌, ◌++◌, [], ℕ, List, Some, IfOk, OnErr, decimal, length, map};
+ghost use Rattle.std.specs.Prelude.{◌≡◌, ◌<◌, ◌≤◌, ◌∷◌, ◌++◌, [], ℕ, List, Some, IfOk, IfSome, OnErr, decimal, length, map};
 ghost use Rattle.ln_interval.specs.View.{range};
 ghost use Rattle.ln_order.specs.Orders.{IsOrderOf, orders_of};
 ghost use Rattle.ln_order.specs.Places.{order_places};
+ghost use Rattle.ln_tree.specs.Exps.{IsRising};
 ghost use Rattle.ln_tree.specs.Names.{name_bytes};
 ghost use Rattle.ln_code.specs.Kept.{IsList, IsProgram};
 ghost use Rattle.ln_code.specs.Lists.{list_from, list_of};
@@ -15,6 +16,7 @@ ghost use Rattle.ln_cert.specs.Text.{Each};
 ghost use Rattle.ln_cert.specs.Writing.{Puts};
 ghost use Rattle.ln_cert.specs.Written.{ForBlock, ForFilter, InBlock, InFilter, Wrote, block_lines, blocks_lines};
 ghost use Rattle.ln_cert.specs.Written.{filter_line, filter_lines, listing_of, order_lines, range_line};
+ghost use Rattle.ln_cert.specs.Written.{AreListableBlocks, IsListable, IsListableBlock};
 
 use crate::put::{
     put_bare, put_block, put_filter_op, put_numbers, put_places, put_predicate, put_range_op,
@@ -102,7 +104,8 @@ fn put_done(out: &mut Vec<u8>) -> Result<(), NoMemory>
 
 fn put_some_filter(out: &mut Vec<u8>, f: &FilterBlock) -> Result<(), NoMemory>
     requires { ForFilter f.now }
-    ensures { IfOk result (λ x. Wrote out.old.items out.new.items (filter_lines (Some f.now))) }
+    ensures wrote { IfOk result (λ x. Wrote out.old.items out.new.items (filter_lines (Some f.now))) }
+    ensures shallow { IfOk result (λ x. f.now.depth ≤ 2048) }
 {
     let triples = f.triples();
     put_filter_head(out)?;
@@ -112,7 +115,8 @@ fn put_some_filter(out: &mut Vec<u8>, f: &FilterBlock) -> Result<(), NoMemory>
 
 fn put_filter(out: &mut Vec<u8>, p: &Program) -> Result<(), NoMemory>
     requires { length p.now.shape.vars ≤ 168 }
-    ensures { IfOk result (λ x. Wrote out.old.items out.new.items (filter_lines p.now.filter)) }
+    ensures wrote { IfOk result (λ x. Wrote out.old.items out.new.items (filter_lines p.now.filter)) }
+    ensures shallow { IfOk result (λ x. IfSome p.now.filter (λ f. f.depth ≤ 2048)) }
 {
     match p.filter() {
         None => put_no_filter(out),
@@ -123,7 +127,8 @@ fn put_filter(out: &mut Vec<u8>, p: &Program) -> Result<(), NoMemory>
 fn put_block_head(out: &mut Vec<u8>, n: u32, exps: &Exps) -> Result<(), NoMemory>
     requires number { n ≤ 65535 }
     requires of_vars { Each (λ p. p.0 ≤ 167) exps.now }
-    ensures { IfOk result (λ x. Wrote out.old.items out.new.items (part.Block n exps.now ∷ [])) }
+    ensures wrote { IfOk result (λ x. Wrote out.old.items out.new.items (part.Block n exps.now ∷ [])) }
+    ensures rising { IfOk result (λ x. IsRising exps.now) }
 {
     put_block(out, n, exps.pairs())
 }
@@ -131,7 +136,8 @@ fn put_block_head(out: &mut Vec<u8>, n: u32, exps: &Exps) -> Result<(), NoMemory
 fn put_block_lines(out: &mut Vec<u8>, n: u32, b: &Block) -> Result<(), NoMemory>
     requires number { n ≤ 65535 }
     requires rules { ForBlock b.now }
-    ensures { IfOk result (λ x. Wrote out.old.items out.new.items (block_lines n b.now)) }
+    ensures wrote { IfOk result (λ x. Wrote out.old.items out.new.items (block_lines n b.now)) }
+    ensures listable { IfOk result (λ x. IsListableBlock b.now) }
 {
     let pairs = b.pairs();
     put_block_head(out, n, b.exps())?;
@@ -142,7 +148,8 @@ fn put_block_lines(out: &mut Vec<u8>, n: u32, b: &Block) -> Result<(), NoMemory>
 fn put_blocks(out: &mut Vec<u8>, blocks: &[Block]) -> Result<(), NoMemory>
     requires few { length blocks.now ≤ 65536 }
     requires rules { Each ForBlock blocks.now }
-    ensures { IfOk result (λ x. Wrote out.old.items out.new.items (blocks_lines 0 blocks.now)) }
+    ensures wrote { IfOk result (λ x. Wrote out.old.items out.new.items (blocks_lines 0 blocks.now)) }
+    ensures listable { IfOk result (λ x. AreListableBlocks blocks.now) }
 {
     'numbered: for (i, b) in blocks.iter().enumerate() {
         put_block_lines(out, i as u32, b)?;
@@ -210,7 +217,8 @@ pub fn begin_listing(alloc: Global) -> Result<Vec<u8>, NoMemory>
 // Appends the lines of a program.
 fn put_part(alloc: Global, out: &mut Vec<u8>, p: &Program) -> Result<(), NoMemory>
     requires few { length p.now.blocks ≤ 65536 }
-    ensures { IfOk result (λ x. (ps : List AnyProgram) → ListText out.old.items 2 (listing_of ps)
+    ensures listable { IfOk result (λ x. IsListable p.now) }
+    ensures listed { IfOk result (λ x. (ps : List AnyProgram) → ListText out.old.items 2 (listing_of ps)
         → ListText out.new.items 2 (listing_of (ps ++ p.now ∷ []))) }
 {
     let blocks = p.blocks();
@@ -221,13 +229,15 @@ fn put_part(alloc: Global, out: &mut Vec<u8>, p: &Program) -> Result<(), NoMemor
     put_done(out)
 }
 
-/// Appends a program of at most 65,536 blocks to the listing of programs: it is the listing of these and of this one. Where allocation
-/// fails, the text is dropped, and `out` is empty.
+/// Appends a program of at most 65,536 blocks to the listing of programs: it is the listing of these and of this one. A listing can state
+/// the program: the variables of each block's exponents rise, and no stack needs more than 2,048 places. Where allocation fails, the text is
+/// dropped, and `out` is empty.
 pub fn put_program(alloc: Global, out: &mut Vec<u8>, p: &Program) -> Result<(), NoMemory>
     requires few { length p.now.blocks ≤ 65536 }
     ensures ok { IfOk result (λ x. (ps : List AnyProgram) → ListText out.old.items 2 (listing_of ps)
         → ListText out.new.items 2 (listing_of (ps ++ p.now ∷ []))) }
     ensures err { OnErr result (out.new.items ≡ []) }
+    ensures listable { IfOk result (λ x. IsListable p.now) }
 {
     let mut text = replace(out, Vec::new(alloc));
     put_part(alloc, &mut text, p)?;

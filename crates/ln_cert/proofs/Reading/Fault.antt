@@ -48,17 +48,21 @@ fine InBlock = (tt, ordered)
 fine Blocks = ordered
 fine Orders = (tt, tt)
 
+-- the texts of appended lines are those of the first and then those of the others
 pub map_append : (xs ys : List Part) → map text_of (xs ++ ys) ≡ map text_of xs ++ map text_of ys
 map_append [] ys = refl
 map_append (x ∷ xs) ys = ap (λ (w : List (List ℕ)). text_of x ∷ w) (map_append xs ys)
 
+-- lines within the ranges stay so when they are appended
 pub each_append : (xs ys : List Part) → Each IsLine xs → Each IsLine ys → Each IsLine (xs ++ ys)
 each_append [] ys p q = q
 each_append (x ∷ xs) ys p q = (p.0, each_append xs ys p.1 q)
 
+-- a version that a listing may have
 abbrev pub Known : ℕ → Type 0
 Known v = (v ≡ 1) ⊎ (v ≡ 2)
 
+-- lines that lead from the start to some state are the first of a listing
 pub front : (v : ℕ) (ps : List Part) (s : State) → Known v → Each IsLine ps → goes v start ps ≡ Some s → IsFront (texts_of v ps)
 front v ps s k p e = (
   map text_of (finish s),
@@ -82,6 +86,7 @@ record Behind (v : ℕ) (done : List Part) (t : State) (ts : List (List ℕ)) (p
   ranges : Each IsLine rest
   ends : goes v (Some t) rest ≡ Some Top
 
+-- lines that lead to a state start in one
 pub some_next : (v : ℕ) (o : Option State) (ps : List Part) (t : State) → goes v o ps ≡ Some t → (u : State) × (o ≡ Some u)
 some_next v None ps t e = let n = goes_none v ps in absurd (cc)
 some_next v (Some u) ps t e = (u, refl)
@@ -157,24 +162,34 @@ long v done ts = ap suc (by done)
     by [] = omega arith
     by (d ∷ done) = let h = by done in omega arith
 
-pub fault_at : (bytes : List ℕ) (v : ℕ) (done : List Part) (s : State) (t : List ℕ) (ts : List (List ℕ)) (at : ℕ) → Known v
-    → lines bytes ≡ texts_of v done ++ (t ∷ ts) → Each IsLine done → goes v start done ≡ Some s → RefusesText v s t
-    → at ≡ length done + 2 → IsFormFault bytes at
-fault_at bytes v done s t ts at k w p e f n =
+-- these lines of a text were read, after the first one: they lead to a state, and these texts remain
+pub record HasRead (bytes : List ℕ) (v : ℕ) (done : List Part) (s : State) (left : List (List ℕ)) : Type 0 where
+  pub known : Known v
+  pub texts : lines bytes ≡ texts_of v done ++ left
+  pub ranges : Each IsLine done
+  pub walked : goes v start done ≡ Some s
+
+-- a line that is refused after those that were read is the form fault, with its number
+pub fault_at : (bytes : List ℕ) (v : ℕ) (done : List Part) (s : State) (t : List ℕ) (ts : List (List ℕ)) (at : ℕ)
+    → HasRead bytes v done s (t ∷ ts) → RefusesText v s t → at ≡ length done + 2 → IsFormFault bytes at
+fault_at bytes v done s t ts at h f n =
+    let w : lines bytes ≡ texts_of v done ++ (t ∷ ts) = h.texts in
     let l : length (lines bytes) ≡ suc (length done + suc (length ts)) = ap length w ∙ long v done (t ∷ ts) in
     let m : at ≡ suc (suc (length done)) = omega arith in
     record {
       before = suc (length done);
       number = omega arith;
       within = omega arith;
-      front = subst (λ (x : List (List ℕ)). IsFront x) (sym (ap (take (suc (length done))) w ∙ take_texts v done (t ∷ ts))) (front v done s k p e);
-      refused = λ h g. let r : take at (lines bytes) ≡ texts_of v done ++ (t ∷ []) =
+      front = subst (λ (x : List (List ℕ)). IsFront x) (sym (ap (take (suc (length done))) w ∙ take_texts v done (t ∷ ts)))
+          (front v done s h.known h.ranges h.walked);
+      refused = λ _ g. let r : take at (lines bytes) ≡ texts_of v done ++ (t ∷ []) =
           ap (λ (k : ℕ). take k (lines bytes)) m ∙ ap (take (suc (suc (length done)))) w ∙ take_more v done t ts in
           let q : IsWhole ((texts_of v done ++ (t ∷ [])) ++ g.0) = subst (λ (x : List (List ℕ)). IsWhole (x ++ g.0)) r g.1 in
-          refused v done s t g.0 p e f (subst (λ (x : List (List ℕ)). IsWhole x) (append_assoc (texts_of v done) (t ∷ []) g.0) q);
+          refused v done s t g.0 h.ranges h.walked f (subst (λ (x : List (List ℕ)). IsWhole x) (append_assoc (texts_of v done) (t ∷ []) g.0) q);
       unfinished = λ h. absurd (omega arith);
     }
 
+-- where the lines end in a state in which they may not, the form fault is one past the last
 pub fault_end : (bytes : List ℕ) (v : ℕ) (done : List Part) (s : State) (at : ℕ) → Known v → lines bytes ≡ texts_of v done
     → Each IsLine done → goes v start done ≡ Some s → is_end s ≡ false → at ≡ length done + 2 → IsFormFault bytes at
 fault_end bytes v done s at k w p e n a =

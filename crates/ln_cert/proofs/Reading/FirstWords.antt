@@ -65,6 +65,7 @@ block_kind_is v x g = by (v == 1) refl
     by true e = (refl, e, g)
     by false e = (refl, ap not e, g)
 
+-- a kind that `kind_in` finds has this word, and it is allowed in the state with its operation
 pub sound : (v : ℕ) (s : State) (w : List ℕ) (k : Kind) → kind_in v s w ≡ Some k → Stands v s w k
 sound v Top w k e = pick (Stands v Top w) (bytes_eq w (codes "predicate")) _ _ k (is_word v Top w kind.Predicate k refl refl) (none (Stands v Top w) k) e
 sound v Opened w k e =
@@ -137,6 +138,7 @@ is_false false e = refl
 in_two : (v : ℕ) (x : Verb) → not (v == 1) ≡ true → block_kind v x ≡ kind.RangeOp x
 in_two v x e = ap (λ (t : Bool). if t then kind.BlockOp x else kind.RangeOp x) (is_false (v == 1) e)
 
+-- a kind that is allowed in a state, with its operation, is found there by its word
 pub complete : (v : ℕ) (s : State) (k : Kind) → may v s k ≡ true → good k ≡ true → kind_in v s (word_of k) ≡ Some k
 complete v Top kind.Predicate m g = refl
 complete v Top k m g = absurd (cc)

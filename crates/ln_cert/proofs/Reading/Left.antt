@@ -11,7 +11,7 @@ use Rattle.ln_cert.specs.Reading.{IsRead, Refuses, goes, is_end, next_at, next_o
 use Rattle.ln_cert.specs.Text.{Each, IsLine, text_of}
 use Rattle.ln_cert.specs.Unread.{AreLeft, Begins, GoesOn, IsOpened, IsTaken, IsUnread, NoneBegins, Unread}
 use Rattle.ln_base.specs.Lines.{span_to, words}
-use Rattle.ln_cert.proofs.Reading.Fault.{Known, each_append, fault_at, fault_end, map_append, some_next}
+use Rattle.ln_cert.proofs.Reading.Fault.{HasRead, Known, each_append, fault_at, fault_end, map_append, some_next}
 use Rattle.ln_cert.proofs.Reading.OneLine.{one_line, words_line}
 use Rattle.ln_cert.proofs.Reading.Walk.{goes_append, is_form, start}
 use Rattle.ln_cert.proofs.Reading.Whole.{no_feed, numbered_more, parts_more, refuses}
@@ -58,6 +58,7 @@ pub record SoFar (bs : List ℕ) (v : ℕ) (s : State) (text : List ℕ) (n : �
   pub counted : n ≡ length done + 2
   pub few : n + length text ≤ length bs + 2
 
+-- the start of the loop in `check`: no line is read but the first
 pub so_far_first : (bs : List ℕ) (v behind : ℕ) (text : List ℕ) → lines bs ≡ first_line v ∷ lines (drop behind bs)
     → text ≡ drop behind bs → SoFar bs v Top text 2
 so_far_first bs v behind text e q =
@@ -75,6 +76,7 @@ walked_more : (v : ℕ) (done : List Part) (p : Part) (s t : State) → goes v s
     → goes v start (done ++ (p ∷ [])) ≡ Some t
 walked_more v done p s t e f = goes_append v start done (p ∷ []) ∙ ap (λ o. next_at v o p) e ∙ f
 
+-- the step of the loop in `check`: one more line is read
 pub so_far_more : (bs : List ℕ) (v : ℕ) (s : State) (text : List ℕ) (n : ℕ) (p : Part) (t : State) (k : ℕ) (more : List ℕ)
     → SoFar bs v s text n → Begins v s text p t k → more ≡ drop k text → SoFar bs v t more (n + 1)
 so_far_more bs v s text n p t k more h b e =
@@ -89,14 +91,18 @@ so_far_more bs v s text n p t k more h b e =
       few = omega (arith, h.few, b.some, b.within);
     }
 
+-- in `check`, a line that the state refuses is the form fault
 pub so_far_fault : (bs : List ℕ) (v : ℕ) (s : State) (text : List ℕ) (n : ℕ) → Known v → SoFar bs v s text n → NoneBegins v s text → IsFormFault bs n
 so_far_fault bs v s text n known h b =
-    fault_at bs v h.done s b.first b.behind n known (h.texts ∙ ap (λ x. texts_of v h.done ++ x) b.same) h.ranges h.walked b.refused h.counted
+    let read : HasRead bs v h.done s (b.first ∷ b.behind) =
+    record { known = known; texts = h.texts ∙ ap (λ x. texts_of v h.done ++ x) b.same; ranges = h.ranges; walked = h.walked } in
+    fault_at bs v h.done s b.first b.behind n read b.refused h.counted
 
 all_read : (bs : List ℕ) (v : ℕ) (text : List ℕ) (done : List Part) → lines bs ≡ texts_of v done ++ lines text → length text ≡ 0 → lines bs ≡ texts_of v done
 all_read bs v [] done t h = t ∙ append-nil (texts_of v done)
 all_read bs v (b ∷ text) done t h = absurd (omega arith)
 
+-- in `check`, the form fault of a text that ends where it may not is one past the last line
 pub so_far_short : (bs : List ℕ) (v : ℕ) (s : State) (text : List ℕ) (n : ℕ) → Known v → SoFar bs v s text n → length text ≡ 0
     → is_end s ≡ false → IsFormFault bs n
 so_far_short bs v s text n known h e f = fault_end bs v h.done s n known (all_read bs v text h.done h.texts e) h.ranges h.walked f h.counted
@@ -109,6 +115,7 @@ is_top s f = absurd (cc)
 tail_same : {A : Type 0} {x y : A} {xs ys : List A} → x ∷ xs ≡ y ∷ ys → xs ≡ ys
 tail_same e = cc
 
+-- the end of the loop in `check`: the bytes are a listing, of which all lines but the first remain
 pub so_far_whole : (bs : List ℕ) (v behind : ℕ) (s : State) (text : List ℕ) (n : ℕ) → Known v → lines bs ≡ first_line v ∷ lines (drop behind bs)
     → SoFar bs v s text n → length text ≡ 0 → is_end s ≡ true → IsOpened bs (record { version = v; state = Top; line = 2; text = drop behind bs })
 so_far_whole bs v behind s text n known e h l f =
@@ -132,11 +139,19 @@ none_refused u (x ∷ xs) h l b =
     let n = some_next u.version (next_of u.version u.state x) xs Top h.ends in
     b.refused x n.0 h.ranges.0 n.1 (head (sym b.same ∙ h.texts))
 
--- and it is the first of the remaining ones
-goes_on : (u w : Unread) (p : Part) (t : State) (k : ℕ) → Begins u.version u.state u.text p t k → w.version ≡ u.version → w.state ≡ t
-    → w.text ≡ drop k u.text → (ps : List Part) → AreLeft u ps → GoesOn ps p w
-goes_on u w p t k b a c d [] h = absurd (let z = sym b.same ∙ h.texts in cc)
-goes_on u w p t k b a c d (x ∷ xs) h =
+-- a reader moved past the first line of its text, which says this, leads to this state and has this many bytes
+pub record MovedPast (u w : Unread) (p : Part) (t : State) (k : ℕ) : Type 0 where
+  pub begins : Begins u.version u.state u.text p t k
+  pub line : w.line ≡ u.line + 1
+  pub version : w.version ≡ u.version
+  pub state : w.state ≡ t
+  pub text : w.text ≡ drop k u.text
+
+-- the line that it moved past is the first of the remaining ones
+goes_on : (u w : Unread) (p : Part) (t : State) (k : ℕ) → MovedPast u w p t k → (ps : List Part) → AreLeft u ps → GoesOn ps p w
+goes_on u w p t k n [] h = absurd (let z = sym n.begins.same ∙ h.texts in cc)
+goes_on u w p t k n (x ∷ xs) h =
+    let b = n.begins in
     let m = some_next u.version (next_of u.version u.state x) xs Top h.ends in
     let z : text_of p ∷ lines (drop k u.text) ≡ text_of x ∷ map text_of xs = sym b.same ∙ h.texts in
     let r : p ≡ x = one_line u.version u.state p x t m.0 b.leads m.1 b.range h.ranges.0 (head z) in
@@ -145,25 +160,26 @@ goes_on u w p t k b a c d (x ∷ xs) h =
       behind = xs;
       first = ap (λ y. y ∷ xs) (sym r);
       left = record {
-        texts = ap lines d ∙ tail_same z;
+        texts = ap lines n.text ∙ tail_same z;
         ranges = h.ranges.1;
-        ends = ap (λ (n : ℕ). goes n (Some w.state) xs) a ∙ ap (λ (s : State). goes u.version (Some s) xs) c
+        ends = ap (λ (v : ℕ). goes v (Some w.state) xs) n.version ∙ ap (λ (s : State). goes u.version (Some s) xs) n.state
             ∙ ap (λ (o : Option State). goes u.version o xs) (sym g) ∙ h.ends;
       };
     }
 
-pub taken : (u w : Unread) (p : Part) (t : State) (k : ℕ) (e : Entry) → Begins u.version u.state u.text p t k → e.part ≡ p → e.line ≡ u.line
-    → w.line ≡ u.line + 1 → w.version ≡ u.version → w.state ≡ t → w.text ≡ drop k u.text → IsTaken u e w
-taken u w p t k e b q n m a c d =
-    let l : length w.text ≡ length u.text - k = ap length d ∙ length-drop k u.text in
+-- a line that the text begins with is taken, with its number
+pub taken : (u w : Unread) (p : Part) (t : State) (k : ℕ) (e : Entry) → MovedPast u w p t k → e.part ≡ p → e.line ≡ u.line → IsTaken u e w
+taken u w p t k e n q l =
+    let s : length w.text ≡ length u.text - k = ap length n.text ∙ length-drop k u.text in
     record {
-      goes_on = λ ps h. subst (λ (x : Part). GoesOn ps x w) (sym q) (goes_on u w p t k b a c d ps h);
-      number = n;
-      next = m;
-      version = a;
-      shorter = omega (arith, b.some, b.within);
+      goes_on = λ ps h. subst (λ (x : Part). GoesOn ps x w) (sym q) (goes_on u w p t k n ps h);
+      number = l;
+      next = n.line;
+      version = n.version;
+      shorter = omega (arith, n.begins.some, n.begins.within);
     }
 
+-- in an empty text no line remains
 pub none_left : (u : Unread) (ps : List Part) → AreLeft u ps → length u.text ≡ 0 → ps ≡ []
 none_left u ps h e = by u.text ps e h.texts
   where
@@ -173,13 +189,13 @@ none_left u ps h e = by u.text ps e h.texts
     by [] (x ∷ ps) e q = absurd (cc)
 
 -- the rest after it is the rest of a listing
-pub still_unread : (u w : Unread) (p : Part) (t : State) (k : ℕ) → IsUnread u → Begins u.version u.state u.text p t k → w.line ≡ u.line + 1
-    → w.version ≡ u.version → w.state ≡ t → w.text ≡ drop k u.text → IsUnread w
-still_unread u w p t k h b m a c d =
-    let r = goes_on u w p t k b a c d h.parts h.left in
-    let l : length w.text ≡ length u.text - k = ap length d ∙ length-drop k u.text in
-    record { parts = r.behind; left = r.left; few = omega (arith, h.few, b.some, b.within) }
+pub still_unread : (u w : Unread) (p : Part) (t : State) (k : ℕ) → IsUnread u → MovedPast u w p t k → IsUnread w
+still_unread u w p t k h n =
+    let r = goes_on u w p t k n h.parts h.left in
+    let l : length w.text ≡ length u.text - k = ap length n.text ∙ length-drop k u.text in
+    record { parts = r.behind; left = r.left; few = omega (arith, h.few, n.line, n.begins.some, n.begins.within) }
 
+-- the remaining lines of an opened listing are few enough that each has a number
 pub opened_unread : (bs : List ℕ) (u : Unread) → length bs ≤ 67108864 → length u.text ≤ length bs → IsOpened bs u → IsUnread u
 opened_unread bs u l m h = record { parts = h.parts; left = h.left; few = omega (arith, h.second) }
 
@@ -190,6 +206,7 @@ pub record Gathered (old now : Unread) (es : List Entry) : Type 0 where
   pub numbered : AreNumbered old.line es
   pub counted : now.line ≡ old.line + length es
 
+-- the step of that loop: one more line is taken
 pub gathered_more : (old u w : Unread) (es ds : List Entry) (e : Entry) → Gathered old u es → IsTaken u e w → ds ≡ es ++ (e ∷ []) → Gathered old w ds
 gathered_more old u w es ds e g t q =
     let n : length ds ≡ length es + 1 = ap length q ∙ length-append es (e ∷ []) in

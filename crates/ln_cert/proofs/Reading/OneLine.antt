@@ -111,6 +111,7 @@ same_ranged o u l h k w v p q e =
 number : (m n : ℕ) → m ≤ 65535 → n ≤ 65535 → decimal m ≡ decimal n → m ≡ n
 number m n p q e = decimal_injective m n (omega arith) (omega arith) e
 
+-- lines of one kind with the same arguments are the same
 pub same_args : (x y : Part) → kind_of x ≡ kind_of y → IsLine x → IsLine y → args_of x ≡ args_of y → x ≡ y
 same_args (Predicate m) (Predicate n) k p q e = ap Predicate (head e)
 same_args NoFilter NoFilter k p q e = refl
@@ -153,6 +154,7 @@ live v s p t e = by (may v s (kind_of p)) e
     by true e = (refl, cc)
     by false e = absurd (cc)
 
+-- lines that are allowed in one state and have the same words are the same
 pub same_line : (v : ℕ) (s : State) (x y : Part) (t u : State) → next_of v s x ≡ Some t → next_of v s y ≡ Some u → IsLine x → IsLine y
     → words_of x ≡ words_of y → x ≡ y
 same_line v s x y t u a b p q e =
@@ -163,9 +165,11 @@ same_line v s x y t u a b p q e =
 pub line_words : (body : List ℕ) (p : Part) → IsLine p → body ++ (10 ∷ []) ≡ text_of p → words body ≡ words_of p
 line_words body p q e = ap words (snoc_same body (parted (words_of p)) e) ∙ read_words p q
 
+-- bytes with the words of a line are its text, up to the line feed
 pub words_line : (body : List ℕ) (p : Part) → words body ≡ words_of p → body ++ (10 ∷ []) ≡ text_of p
 words_line body p e = ap (λ (x : List ℕ). x ++ (10 ∷ [])) (sym (parted_words body) ∙ ap parted e)
 
+-- lines that are allowed in one state and have the same text are the same
 pub one_line : (v : ℕ) (s : State) (x y : Part) (t u : State) → next_of v s x ≡ Some t → next_of v s y ≡ Some u → IsLine x → IsLine y
     → text_of x ≡ text_of y → x ≡ y
 one_line v s x y t u a b p q e = same_line v s x y t u a b p q (sym (read_words x p) ∙ line_words (parted (words_of x)) y q e)
@@ -182,12 +186,14 @@ found v s k w args ws p e g h =
           ∙ ap (λ x. Some (after x)) h.kind;
     }
 
+-- words are refused where no line in the state begins with the first of them
 pub no_kind : (v : ℕ) (s : State) (w : List ℕ) (args ws : List (List ℕ)) → ws ≡ w ∷ args → kind_in v s w ≡ None → Refuses v s ws
 no_kind v s w args ws e g p t r =
     let a : w ≡ word_of (kind_of p) = head (sym e ∙ r.spelled) in
     let b = complete v s (kind_of p) (live v s p t r.goes).0 (good_line p r.range) in
     let c : None ≡ Some (kind_of p) = sym g ∙ ap (kind_in v s) a ∙ b in absurd (cc)
 
+-- words are refused where the first is that of a kind and the others are none of its arguments
 pub no_args : (v : ℕ) (s : State) (k : Kind) (w : List ℕ) (args ws : List (List ℕ)) → ws ≡ w ∷ args → kind_in v s w ≡ Some k → NoArgs k args → Refuses v s ws
 no_args v s k w args ws e g h p t r =
     let a : w ≡ word_of (kind_of p) = head (sym e ∙ r.spelled) in

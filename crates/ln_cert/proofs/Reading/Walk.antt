@@ -12,13 +12,16 @@ use Rattle.ln_cert.specs.Listing as form
 use Rattle.ln_cert.specs.Reading.{next_of}
 pub use Rattle.ln_cert.specs.Reading.{goes, next_at}
 
+-- the state in which the lines of a listing start
 abbrev pub start : Option State
 start = Some Top
 
+-- appended lines lead where the second list leads from the end of the first
 pub goes_append : (v : ℕ) (o : Option State) (xs ys : List Part) → goes v o (xs ++ ys) ≡ goes v (goes v o xs) ys
 goes_append v o [] ys = refl
 goes_append v o (x ∷ xs) ys = goes_append v (next_at v o x) xs ys
 
+-- from no state, lines lead to none
 pub goes_none : (v : ℕ) (ps : List Part) → goes v None ps ≡ None
 goes_none v [] = refl
 goes_none v (p ∷ ps) = goes_none v ps
@@ -57,6 +60,7 @@ orders : (v : ℕ) {xs r : List Part} → SomeOrders xs r → (goes v (Some Bloc
 orders v form.SomeOrders.last = (refl, refl)
 orders v (form.SomeOrders.more d) = let r = orders v d in (r.1, r.1)
 
+-- the lines of any number of predicates lead from the start back to it
 pub whole : (v : ℕ) {xs : List Part} → Predicates v xs → goes v start xs ≡ Some Top
 whole v form.Predicates.none = refl
 whole v (form.Predicates.more f b o p) = let q = blocks v b in let r = orders v o in a_filter v f ∙ q.0 ∙ r.0 ∙ whole v p
@@ -163,5 +167,6 @@ builds v Orders (Order places list ∷ xs) k e =
 builds v Orders (Done ∷ xs) k e = record { rest = xs; done = inl refl; more = builds v Top xs k e }
 builds v Orders (p ∷ xs) k e = dead v xs e
 
+-- lines of version 1 or 2 that lead from the start back to it are predicates
 pub is_form : (v : ℕ) (xs : List Part) → (v ≡ 1) ⊎ (v ≡ 2) → goes v start xs ≡ Some Top → Predicates v xs
 is_form v xs k e = builds v Top xs k e

@@ -7,6 +7,7 @@ use Rattle.ln_cert.specs.Text.{IsRange, certificate, range_words, takes_off}
 shown : (v : Verb) (ws : List (List ℕ)) → takes_off v ≡ false → certificate v ws ≡ ws
 shown v ws e = ap (λ (t : Bool). if t then [] else ws) e
 
+-- where no two ends were read of words, they are no certificate of an operation that takes nothing off
 pub no_ends : (v : Verb) (ws : List (List ℕ)) (o : Option (ℤ × ℤ)) → takes_off v ≡ false →
     IfNone o ((l u : ℤ) → unsigned_abs l < 2 ^ 127 → unsigned_abs u < 2 ^ 127 → ws ≡ range_words l u → ⊥) →
     IfNone o ((l u : ℤ) → IsRange v l u → ws ≡ certificate v (range_words l u) → ⊥)

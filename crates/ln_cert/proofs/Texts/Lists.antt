@@ -7,6 +7,7 @@ use Rattle.ln_base.proofs.Texts.Numbers.{decimal_injective, no_byte}
 
 -- ---- up to a colon
 
+-- a place isn't written as a colon
 pub no_colon : (n : ℕ) → n ≤ 4 → decimal n ≡ codes ":" → ⊥
 no_colon n h e = omega (arith, (no_byte n 58 [] (omega arith) e).1)
 
@@ -38,11 +39,23 @@ no_end (y ∷ ys) (x ∷ xs) r d e = no_end ys xs r d.1 (rest e)
 
 -- ---- what a loop over words has read
 
-pub no_place_here : (all : List (List ℕ)) (done : List ℕ) (w : List ℕ) (here next : List (List ℕ)) → all ≡ map decimal done ++ here
-    → here ≡ w ∷ next → Each IsPlace done → (w ≡ codes ":" → ⊥) → ((n : ℕ) → n ≤ 4 → w ≡ decimal n → ⊥) → (ps : List ℕ) (r : List (List ℕ))
-    → Each IsPlace ps → all ≡ map decimal ps ++ codes ":" ∷ r → ⊥
-no_place_here all done w here next e g d f k ps r p q = no_place done w next ps r d p (sym (e ∙ ap (λ z. map decimal done ++ z) g) ∙ q) f k
+-- places were read from words, and these words remain
+pub record ReadPlaces (all : List (List ℕ)) (done : List ℕ) (here : List (List ℕ)) : Type 0 where
+  pub ranges : Each IsPlace done
+  pub same : all ≡ map decimal done ++ here
 
-pub no_colon_left : (all : List (List ℕ)) (done : List ℕ) (here : List (List ℕ)) → all ≡ map decimal done ++ here → here ≡ []
-    → Each IsPlace done → (ps : List ℕ) (r : List (List ℕ)) → Each IsPlace ps → all ≡ map decimal ps ++ codes ":" ∷ r → ⊥
-no_colon_left all done here e g d ps r p q = no_end done ps r d (sym (words_all decimal all done here e g) ∙ q)
+-- a word is neither a place nor a colon
+pub record IsNoPlace (w : List ℕ) : Type 0 where
+  pub no_colon : w ≡ codes ":" → ⊥
+  pub no_number : (n : ℕ) → n ≤ 4 → w ≡ decimal n → ⊥
+
+-- a word that is neither a place nor a colon, after places: the words don't begin with places and a colon
+pub no_place_here : (all : List (List ℕ)) (done : List ℕ) (w : List ℕ) (here next : List (List ℕ)) → ReadPlaces all done here → here ≡ w ∷ next
+    → IsNoPlace w → (ps : List ℕ) (r : List (List ℕ)) → Each IsPlace ps → all ≡ map decimal ps ++ codes ":" ∷ r → ⊥
+no_place_here all done w here next h g n ps r p q =
+    no_place done w next ps r h.ranges p (sym (h.same ∙ ap (λ z. map decimal done ++ z) g) ∙ q) n.no_colon n.no_number
+
+-- no word remains after places: the words don't begin with places and a colon
+pub no_colon_left : (all : List (List ℕ)) (done : List ℕ) (here : List (List ℕ)) → ReadPlaces all done here → here ≡ []
+    → (ps : List ℕ) (r : List (List ℕ)) → Each IsPlace ps → all ≡ map decimal ps ++ codes ":" ∷ r → ⊥
+no_colon_left all done here h g ps r p q = no_end done ps r h.ranges (sym (words_all decimal all done here h.same g) ∙ q)

@@ -90,6 +90,7 @@ block_plain (verb.Mul W128) = refl
 block_plain (verb.Neg W128) = refl
 block_plain verb.Cut = refl
 
+-- the word of a kind has neither space nor line feed
 pub first_plain : (k : Kind) → is_plain (word_of k) ≡ true
 first_plain kind.Predicate = refl
 first_plain kind.NoFilter = refl
@@ -103,6 +104,7 @@ first_plain kind.End = refl
 first_plain kind.Order = refl
 first_plain kind.Done = refl
 
+-- the arguments of a line have neither space nor line feed
 pub args_plain : (p : Part) → IsLine p → ArePlain (args_of p)
 args_plain (Predicate n) p = (name_plain n p, tt)
 args_plain NoFilter p = tt

@@ -50,6 +50,7 @@ all_orders : (p : Program) (os : List (List ℕ)) → 0 < length os → goes 2 (
 all_orders p [] h = absurd (omega arith)
 all_orders p (o ∷ os) h = more_orders p os
 
+-- any number of sites has an order
 pub some_order : (k : ℕ) → 0 < length (orders_of k)
 some_order zero = omega arith
 some_order (suc k) =
@@ -58,6 +59,7 @@ some_order (suc k) =
     let b : length (map (behind k) (orders_of k)) ≡ length (orders_of k) = length-map (orders_of k) (behind k) in
     omega (arith, some_order k)
 
+-- the lines of a program with a block have the form of a predicate of version 2
 pub program_form : (p : Program) → 0 < length p.blocks → Predicates 2 (program_lines p)
 program_form p h =
     is_form 2 (program_lines p) (inr refl)
@@ -67,5 +69,6 @@ program_form p h =
     (join (Some Blocks) (Some Orders) (Some Top) (order_lines p (orders_of p.shape.sites)) (Done ∷ [])
     (all_orders p (orders_of p.shape.sites) (some_order p.shape.sites)) refl)))
 
+-- predicates of version 2 after others are predicates of it
 pub both_forms : (xs ys : List Part) → Predicates 2 xs → Predicates 2 ys → Predicates 2 (xs ++ ys)
 both_forms xs ys p q = is_form 2 (xs ++ ys) (inr refl) (join (Some Top) (Some Top) (Some Top) xs ys (whole 2 p) (whole 2 q))

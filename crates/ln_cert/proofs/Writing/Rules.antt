@@ -81,6 +81,7 @@ is_some : {A : Type 0} (o : Option A) → IsSome o → (a : A) × (o ≡ Some a)
 is_some None p = absurd (cc)
 is_some (Some a) p = (a, refl)
 
+-- each operation of a block that follows the rules is within the limits, no cut, and has no range where it stores
 pub obeys_block : (vars : List VarInfo) (c : Code) → length vars ≤ 168 → FollowsRules vars c → StoresHave nothing (lines_of c.ops c.pairs)
     → Each InBlock (lines_of c.ops c.pairs)
 obeys_block vars c few f q =
@@ -133,6 +134,7 @@ in_filter : (lines : List (Line Triple)) → Each FilterSays lines → StoresHav
 in_filter [] p q = tt
 in_filter (x ∷ xs) p q = (record { within = p.0.within; narrow = p.0.narrow; stores = λ e. q.0 (does_store x.op e) }, in_filter xs p.1 q.1)
 
+-- each operation of a filter that follows the rules is within the limits, 64 bits wide, and has no triple where it stores
 pub obeys_filter : (vars : List VarInfo) (f : FilterCode) → length vars ≤ 168 → FollowsFilterRules vars f
     → StoresHave no_triple (lines_of f.ops f.triples) → Each InFilter (lines_of f.ops f.triples)
 obeys_filter vars f few g q =

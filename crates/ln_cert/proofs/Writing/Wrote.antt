@@ -3,9 +3,7 @@ use Rattle.std.proofs.Common.{◌≡◌, ℕ, zero, suc, ◌+◌, ◌≤◌, ◌
 use Rattle.std.proofs.Common.{subst, arith, append_assoc, append-nil, drop-cons}
 use Rattle.std.proofs.lemmas.List.{drop_all}
 use Rattle.ln_interval.specs.declared.pair.Pair.{Pair}
-use Rattle.ln_interval.specs.Range.{Range}
 use Rattle.ln_interval.specs.View.{range}
-use Rattle.ln_tree.specs.Exps.{Pairs}
 use Rattle.ln_code.specs.declared.op.Op.{Op}
 use Rattle.ln_code.specs.declared.op.Triple.{Triple}
 use Rattle.ln_code.specs.Engine.{Line}
@@ -17,6 +15,7 @@ use Rattle.ln_cert.specs.Text.{Each, IsLine, text_of}
 use Rattle.ln_cert.specs.Writing.{PutsLine}
 use Rattle.ln_cert.specs.Written.{InBlock, Wrote, block_lines, filter_line, filter_lines, range_line}
 
+-- no lines were appended to a text that is the same
 pub nothing : (a : List ℕ) → Wrote a a []
 nothing a = record { text = sym (append-nil a); ranges = tt }
 
@@ -28,6 +27,7 @@ each_both : (ps qs : List Part) → Each IsLine ps → Each IsLine qs → Each I
 each_both [] qs p q = q
 each_both (x ∷ ps) qs p q = (p.0, each_both ps qs p.1 q)
 
+-- lines appended after others are appended with them
 pub after : (a b c : List ℕ) (ps qs : List Part) → Wrote a b ps → Wrote b c qs → Wrote a c (ps ++ qs)
 after a b c ps qs p q = record {
   text = q.text ∙ ap (λ z. z ++ joined (map text_of qs)) p.text ∙ append_assoc a (joined (map text_of ps)) (joined (map text_of qs))
@@ -35,6 +35,7 @@ after a b c ps qs p q = record {
   ranges = each_both ps qs p.ranges q.ranges;
 }
 
+-- one line was appended, and what it says is within the ranges
 pub one : (a b : List ℕ) (p : Part) → PutsLine a b p → IsLine p → Wrote a b (p ∷ [])
 one a b p e r = record { text = e ∙ ap (λ z. a ++ z) (sym (append-nil (text_of p))); ranges = (r, tt) }
 
@@ -42,9 +43,11 @@ one a b p e r = record { text = e ∙ ap (λ z. a ++ z) (sym (append-nil (text_o
 abbrev pub Left : List ℕ → List ℕ → List Part → List Part → Type 0
 Left start now rest all = (d : List ℕ) → Wrote now d rest → Wrote start d all
 
+-- the step of such a loop: the first of the remaining lines were appended
 pub go_on : (start now new : List ℕ) (p rest all : List Part) → Left start now (p ++ rest) all → Wrote now new p → Left start new rest all
 go_on start now new p rest all f w d q = f d (after now new d p rest w q)
 
+-- the end of such a loop: no line remains, so all were appended
 pub at_end : (start now : List ℕ) (rest all : List Part) → Left start now rest all → rest ≡ [] → Wrote start now all
 at_end start now rest all f e = f now (subst (λ ps. Wrote now now ps) (sym e) (nothing now))
 
@@ -53,6 +56,7 @@ lines_at : {B : Type 0} (os : List Op) (bs : List B) (i : ℕ) (o : Op) (b : B) 
     → lines_of (drop i os) (drop i bs) ≡ record { op = get_or os i o; bound = get_or bs i b } ∷ lines_of (drop (suc i) os) (drop (suc i) bs)
 lines_at os bs i o b h k = rw (drop-cons os i o h, drop-cons bs i b k) refl
 
+-- what holds of each operation with its bound holds of the one at a place
 pub each_at : {B : Type 0} (P : Line B → Type 0) (os : List Op) (bs : List B) (i : ℕ) (o : Op) (b : B) → i < length os → i < length bs
     → Each P (lines_of os bs) → P (record { op = get_or os i o; bound = get_or bs i b })
 each_at P [] bs i o b h k p = absurd (omega arith)
@@ -60,22 +64,34 @@ each_at P (x ∷ os) [] i o b h k p = absurd (omega arith)
 each_at P (x ∷ os) (y ∷ bs) zero o b h k p = p.0
 each_at P (x ∷ os) (y ∷ bs) (suc i) o b h k p = each_at P os bs i o b (omega arith) (omega arith) p.1
 
-pub more_lines : {B : Type 0} (f : Line B → Part) (start now new : List ℕ) (os : List Op) (bs : List B) (i : ℕ) (o : Op) (b : B)
-    (all : List Part) → i < length os → i < length bs →
-    Left start now (map f (lines_of (drop i os) (drop i bs))) all → Wrote now new (f (record { op = get_or os i o; bound = get_or bs i b }) ∷ []) →
-    Left start new (map f (lines_of (drop (i + 1) os) (drop (i + 1) bs))) all
-more_lines f start now new os bs i o b all h k left w =
-    let n : suc i ≡ i + 1 = omega arith in
-    let e : map f (lines_of (drop i os) (drop i bs))
-    ≡ f (record { op = get_or os i o; bound = get_or bs i b }) ∷ map f (lines_of (drop (i + 1) os) (drop (i + 1) bs)) =
-    ap (map f) (lines_at os bs i o b h k) ∙ ap (λ m. f (record { op = get_or os i o; bound = get_or bs i b }) ∷ map f (lines_of (drop m os) (drop m bs))) n in
-    go_on start now new (f (record { op = get_or os i o; bound = get_or bs i b }) ∷ [])
-    (map f (lines_of (drop (i + 1) os) (drop (i + 1) bs))) all (subst (λ z. Left start now z all) e left) w
+-- a loop over operations with their bounds has come to number i: with the lines of those from there on all lines are appended
+abbrev pub LinesLeft : {B : Type 0} → (Line B → Part) → List ℕ → List ℕ → List Op → List B → ℕ → Type 0
+LinesLeft f start now os bs i = Left start now (map f (lines_of (drop i os) (drop i bs))) (map f (lines_of os bs))
 
-pub no_lines : {B : Type 0} (f : Line B → Part) (start now : List ℕ) (os : List Op) (bs : List B) (i : ℕ) (all : List Part) → length os ≤ i
-    → Left start now (map f (lines_of (drop i os) (drop i bs))) all → Wrote start now all
-no_lines f start now os bs i all h left =
-    at_end start now (map f (lines_of (drop i os) (drop i bs))) all left (ap (λ z. map f (lines_of z (drop i bs))) (drop_all i os h))
+-- the line of operation number i with its bound was appended
+pub record WroteOp {B : Type 0} (f : Line B → Part) (now new : List ℕ) (os : List Op) (bs : List B) (i : ℕ) : Type 0 where
+  pub op : Op
+  pub bound : B
+  pub op_there : i < length os
+  pub bound_there : i < length bs
+  pub wrote : Wrote now new (f (record { op = get_or os i op; bound = get_or bs i bound }) ∷ [])
+
+-- the step of a loop over operations: the line of one more was appended
+pub more_lines : {B : Type 0} (f : Line B → Part) (start now new : List ℕ) (os : List Op) (bs : List B) (i : ℕ)
+    → LinesLeft f start now os bs i → WroteOp f now new os bs i → LinesLeft f start new os bs (i + 1)
+more_lines {B} f start now new os bs i left w =
+    let x : Line B = record { op = get_or os i w.op; bound = get_or bs i w.bound } in
+    let n : suc i ≡ i + 1 = omega arith in
+    let e : map f (lines_of (drop i os) (drop i bs)) ≡ f x ∷ map f (lines_of (drop (i + 1) os) (drop (i + 1) bs)) =
+    ap (map f) (lines_at os bs i w.op w.bound w.op_there w.bound_there) ∙ ap (λ m. f x ∷ map f (lines_of (drop m os) (drop m bs))) n in
+    go_on start now new (f x ∷ []) (map f (lines_of (drop (i + 1) os) (drop (i + 1) bs))) (map f (lines_of os bs))
+    (subst (λ z. Left start now z (map f (lines_of os bs))) e left) w.wrote
+
+-- the end of a loop over operations: the lines of all were appended
+pub no_lines : {B : Type 0} (f : Line B → Part) (start now : List ℕ) (os : List Op) (bs : List B) (i : ℕ) → length os ≤ i
+    → LinesLeft f start now os bs i → Wrote start now (map f (lines_of os bs))
+no_lines f start now os bs i h left =
+    at_end start now (map f (lines_of (drop i os) (drop i bs))) (map f (lines_of os bs)) left (ap (λ z. map f (lines_of z (drop i bs))) (drop_all i os h))
 
 -- the range of a pair that is read
 pub range_get : (ps : List Pair) (i : ℕ) (r : Pair) → i < length ps → r ≡ get_or ps i r → get_or (map range ps) i (range r) ≡ range r
@@ -83,24 +99,30 @@ range_get [] i r h e = absurd (omega arith)
 range_get (p ∷ ps) zero r h e = ap range (sym e)
 range_get (p ∷ ps) (suc i) r h e = range_get ps i r (omega arith) e
 
+-- there are as many ranges as pairs
 pub long_ranges : (ps : List Pair) → length (map range ps) ≡ length ps
 long_ranges [] = refl
 long_ranges (p ∷ ps) = let h = long_ranges ps in omega arith
 
+-- where each operation of a block is as `InBlock` has it, so is the one at a place, with its range
 pub range_at : (os : List Op) (ps : List Pair) (i : ℕ) (o : Op) (r : Pair) → i < length os → i < length ps → r ≡ get_or ps i r
     → Each InBlock (lines_of os (map range ps)) → InBlock (record { op = get_or os i o; bound = range r })
 range_at os ps i o r h k e p =
     let l = long_ranges ps in
     subst (λ z. InBlock (record { op = get_or os i o; bound = z })) (range_get ps i r k e) (each_at InBlock os (map range ps) i o (range r) h (omega arith) p)
 
-pub more_ranges : (start now new : List ℕ) (os : List Op) (ps : List Pair) (i : ℕ) (o : Op) (r : Pair) (all : List Part) → i < length os →
-    i < length ps → r ≡ get_or ps i r →
-    Left start now (map range_line (lines_of (drop i os) (drop i (map range ps)))) all → Wrote now new (RangeOp (get_or os i o) r.low r.high ∷ []) →
-    Left start new (map range_line (lines_of (drop (i + 1) os) (drop (i + 1) (map range ps)))) all
-more_ranges start now new os ps i o r all h k e left w =
+-- the line of an operation with a pair was appended, and so was that with the pair's range
+pub range_wrote : (now new : List ℕ) (os : List Op) (ps : List Pair) (i : ℕ) (o : Op) (r : Pair) → i < length os → i < length ps → r ≡ get_or ps i r
+    → Wrote now new (RangeOp (get_or os i o) r.low r.high ∷ []) → WroteOp range_line now new os (map range ps) i
+range_wrote now new os ps i o r h k e w =
     let l = long_ranges ps in
-    more_lines range_line start now new os (map range ps) i o (range r) all h (omega arith) left
-    (subst (λ z. Wrote now new (range_line (record { op = get_or os i o; bound = z }) ∷ [])) (sym (range_get ps i r k e)) w)
+    record {
+      op = o;
+      bound = range r;
+      op_there = h;
+      bound_there = omega arith;
+      wrote = subst (λ z. Wrote now new (range_line (record { op = get_or os i o; bound = z }) ∷ [])) (sym (range_get ps i r k e)) w;
+    }
 
 -- ---- filters and blocks
 pub some_filter : (a b c d : List ℕ) (f : FilterCode) (os : List Op) (ts : List Triple) → os ≡ f.ops → ts ≡ f.triples
@@ -109,8 +131,16 @@ some_filter a b c d f os ts p q x y z =
     after a b d (Filter ∷ []) (map filter_line (lines_of f.ops f.triples) ++ Decide ∷ []) x
     (after b c d (map filter_line (lines_of f.ops f.triples)) (Decide ∷ []) (subst (λ w. Wrote b c (map filter_line w)) (λ i. lines_of (p i) (q i)) y) z)
 
-pub block_wrote : (a b c d : List ℕ) (n : ℕ) (k : Code) (es : Pairs) (os : List Op) (rs : List Range) → es ≡ k.exps → os ≡ k.ops → rs ≡ k.pairs
-    → Wrote a b (Block n es ∷ []) → Wrote b c (map range_line (lines_of os rs)) → Wrote c d (End ∷ []) → Wrote a d (block_lines n k)
-block_wrote a b c d n k es os rs e p q x y z =
-    after a b d (Block n k.exps ∷ []) (map range_line (lines_of k.ops k.pairs) ++ End ∷ []) (subst (λ w. Wrote a b (Block n w ∷ [])) e x)
-    (after b c d (map range_line (lines_of k.ops k.pairs)) (End ∷ []) (subst (λ w. Wrote b c (map range_line w)) (λ i. lines_of (p i) (q i)) y) z)
+-- the parts of block number n were appended one after the other: its first line, its operations and `end`
+pub record WroteBlock (n : ℕ) (c : Code) (old new : List ℕ) : Type 0 where
+  pub after_head : List ℕ
+  pub after_lines : List ℕ
+  pub head : Wrote old after_head (Block n c.exps ∷ [])
+  pub lines : Wrote after_head after_lines (map range_line (lines_of c.ops c.pairs))
+  pub end : Wrote after_lines new (End ∷ [])
+
+-- the lines of a block's parts, one after the other, are those of the block
+pub block_wrote : (n : ℕ) (c : Code) (old new : List ℕ) → WroteBlock n c old new → Wrote old new (block_lines n c)
+block_wrote n c old new w =
+    let x : List Part = map range_line (lines_of c.ops c.pairs) in
+    after old w.after_head new (Block n c.exps ∷ []) (x ++ End ∷ []) w.head (after w.after_head w.after_lines new x (End ∷ []) w.lines w.end)

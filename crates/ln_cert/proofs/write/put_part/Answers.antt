@@ -1,6 +1,11 @@
 -- Answers to the goals of `put_part` in src/write.rt.
+use Rattle.std.proofs.Common.{[], ◌∷◌, subst}
 use Rattle.std.proofs.lemmas.Result.{IfOk-weaker}
+use Rattle.ln_tree.specs.declared.shape.Shape.{Shape}
+use Rattle.ln_tree.specs.Names.{name_bytes}
 use Rattle.ln_code.proofs.Verdicts.Differ.{few_vars}
+use Rattle.ln_cert.specs.declared.part.Part.TheVariants.{Predicate}
+use Rattle.ln_cert.specs.Written.{AreListableBlocks, Wrote, blocks_lines}
 use Rattle.ln_cert.proofs.Writing.Programmed.{for_blocks, one_behind, program_wrote}
 use Rattle.ln_cert.proofs.write.put_part.Goals as goal
 
@@ -20,8 +25,23 @@ put_all_orders-requires-clause-few c = c.requires.few
 pub put_all_orders-requires-clause-kept : goal.put_all_orders-requires-clause-kept
 put_all_orders-requires-clause-kept c = c.blocks-blocks.ensures.kept
 
-pub returns : goal.returns
-returns c = IfOk-weaker c.put_done.result _ _ (λ _ p. one_behind c.args.out.now.items c.put_done.new.out.items c.args.p.now (program_wrote c.args.p.now
-    c.args.out.now.items c.put_name.new.out.items c.put_filter.new.out.items c.put_blocks.new.out.items c.put_all_orders.new.out.items
-    c.put_done.new.out.items c.shape.result.now c.blocks-blocks.result.now c.blocks-blocks.ensures.kept c.shape.ensures c.blocks-blocks.ensures.value
-    c.in_ok-put_name.ensures c.in_ok-put_filter.ensures c.in_ok-put_blocks.ensures c.in_ok-put_all_orders.ensures p)) c.put_done.ensures
+pub returns-clause-listable : goal.returns-clause-listable
+returns-clause-listable c =
+    let blocks : AreListableBlocks c.args.p.now.blocks = rw c.blocks-blocks.ensures.value at c.in_ok-put_blocks.ensures.listable in
+    IfOk-weaker c.put_done.result _ _ (λ _ _. record { blocks = blocks; filter = c.in_ok-put_filter.ensures.shallow }) c.put_done.ensures
+
+pub returns-clause-listed : goal.returns-clause-listed
+returns-clause-listed c = IfOk-weaker c.put_done.result _ _ (λ _ p. one_behind c.args.out.now.items c.put_done.new.out.items c.args.p.now
+    (program_wrote c.args.p.now c.args.out.now.items c.put_done.new.out.items c.blocks-blocks.ensures.kept (record {
+      after_name = c.put_name.new.out.items;
+      after_filter = c.put_filter.new.out.items;
+      after_blocks = c.put_blocks.new.out.items;
+      after_orders = c.put_all_orders.new.out.items;
+      name = subst (λ (s : Shape). Wrote c.args.out.now.items c.put_name.new.out.items (Predicate (name_bytes s.name) ∷ []))
+          c.shape.ensures c.in_ok-put_name.ensures;
+      filter = c.in_ok-put_filter.ensures.wrote;
+      blocks = subst (λ cs. Wrote c.put_filter.new.out.items c.put_blocks.new.out.items (blocks_lines 0 cs))
+          c.blocks-blocks.ensures.value c.in_ok-put_blocks.ensures.wrote;
+      orders = c.in_ok-put_all_orders.ensures;
+      done = p;
+    }))) c.put_done.ensures
