@@ -6,4 +6,3 @@ pub mod Lines
 pub mod OnBounds
 pub mod Steps
 pub mod Versions
-pub mod Wide

@@ -1,5 +1,5 @@
 -- Values on the stack of the judge.
 pub mod Made
-pub mod MadeCuts
+pub mod Limits
 pub mod Ranges
 pub mod Ends

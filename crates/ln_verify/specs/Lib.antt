@@ -9,13 +9,12 @@ pub mod Products
 pub mod Joined
 pub mod Signed
 pub mod Versions
+pub mod Rules
 pub mod Values
-pub mod Cuts
 pub mod Works
 pub mod Orders
 pub mod Here
 pub mod Cases
 pub mod AsPart
-pub mod Accepted
 pub mod Verified
 pub mod Law

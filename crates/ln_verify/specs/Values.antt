@@ -1,23 +1,19 @@
 -- Values in code, against what is known of them.
 use Rattle.std.specs.Prelude.{◌≡◌, ℕ, ◌<◌, ◌≤◌, Bool, true, false, List, [], ◌∷◌, ◌++◌, length, reverse, get_or, Option, Some, None}
 use Rattle.ln_algebra.specs.Tree.{Tree}
-use Rattle.ln_interval.specs.View.{range}
 use Rattle.ln_poly.specs.Expansion.{IsNormal}
 use Rattle.ln_code.specs.declared.op.Op.{Op}
 use Rattle.ln_code.specs.Engine.{Engine, State}
-use Rattle.ln_code.specs.Rules.{Known}
 use Rattle.ln_due.specs.Small.{IsSmall}
 use Rattle.ln_verify.specs.Line.{Leads}
 use Rattle.ln_verify.specs.declared.value.Value.{Value}
 
--- the value in code is what is known: the same range, width and size, and the polynomial of the expression
-pub record IsFor (n : ℕ) (x : Value) (k : Known) : Type 0 where
-  pub range : k.range ≡ range x.pair
-  pub width : k.width ≡ x.width
-  pub size : k.size ≡ x.size
-  pub normal : IsNormal n k.tree x.poly
+-- the value in code is what is known: the same limits and size, and the polynomial of the expression
+pub record IsFor {L K : Type 0} (known : L → Tree → ℕ → K) (n : ℕ) (x : Value L) (k : K) : Type 0 where
+  pub tree : Tree
+  pub is : k ≡ known x.limits tree x.size
+  pub normal : IsNormal n tree x.poly
 
--- ---- for values of either kind, by what they are for
 -- what an operation makes: a value where its rule holds and what it would push is small, and else none
 abbrev pub IsMade : {X K : Type 0} → (X → K → Type 0) → (K → Tree) → ℕ → Option X → Option K → Type 0
 IsMade R tree n None None = Unit {0}

@@ -5,8 +5,9 @@ use Rattle.ln_tree.specs.Row.{InRange, Row}
 use Rattle.ln_tree.specs.Table.{PredOf, TableOf, pred_of}
 use Rattle.ln_tree.specs.Whole.{is_whole}
 use Rattle.ln_poly.specs.Expansion.{IsNormal}
+use Rattle.ln_poly.specs.OfPred.{root_of}
+use Rattle.ln_stage.specs.Sound.{AreSound}
 use Rattle.ln_cert.specs.Listing.{IsFormFault, ListText, Listed, parts_of}
-use Rattle.ln_verify.specs.Accepted.{AreAccepted, root_of}
 use Rattle.ln_verify.specs.AsPart.{GivesSign}
 use Rattle.ln_verify.specs.BlockRules.{Version, version_1, version_2}
 use Rattle.ln_verify.specs.Judge.{IsFirstFault, IsValid}
@@ -66,6 +67,6 @@ PartsAreNamed = (t : TableOf) (ss : List Subject) → is_whole t ≡ true → Ar
 -- the part has a verdict, whose sign is the perturbed sign of the predicate
 abbrev pub ValidListingsGiveSigns : Type 0
 ValidListingsGiveSigns =
-    (ps : List Pred) (l : Listed) → AreAccepted (map pred_of ps) → (h : IsValidFor (map pred_of ps) l) (k : ℕ) (p : Pred)
+    (ps : List Pred) (l : Listed) → AreSound (map pred_of ps) → (h : IsValidFor (map pred_of ps) l) (k : ℕ) (p : Pred)
     (row : Row) → slice_get ps k ≡ Some p → InRange p.shape.sites p.shape.vars row →
     (w : Written) × (slice_get h.valid.parts k ≡ Some w) × GivesSign p.shape (root_of (pred_of p)) w row

@@ -1,24 +1,24 @@
 -- Defines what one operation does to a stack in code.
 use Rattle.std.specs.Prelude.{ℕ, Bool, List, length, Option}
+use Rattle.ln_algebra.specs.Tree.{Tree}
 use Rattle.ln_interval.specs.Range.{Range}
 use Rattle.ln_tree.specs.declared.shape.VarInfo.{VarInfo}
 use Rattle.ln_bound.specs.declared.fitted.Two.{Two}
 use Rattle.ln_bound.specs.declared.fitted.Two.TheVariants.{Plus, Minus, Times}
 use Rattle.ln_bound.specs.declared.fitted.Width.{Width}
-use Rattle.ln_bound.specs.declared.fitted.Width.TheVariants.{W128}
-use Rattle.ln_bound.specs.Sound.{IsIn}
 use Rattle.ln_code.specs.declared.op.Op.{Op}
 use Rattle.ln_code.specs.declared.op.Op.TheVariants.{Add, Sub, Mul}
 use Rattle.ln_code.specs.declared.op.Triple.{Triple}
-use Rattle.ln_code.specs.Engine.{State}
+use Rattle.ln_code.specs.Engine.{Engine, State}
 use Rattle.ln_code.specs.FilterRules.{FilterKnown}
 use Rattle.ln_code.specs.Rules.{Known}
 use Rattle.ln_verify.specs.BlockRules.{Version, block_rules, triple_rules}
-use Rattle.ln_verify.specs.Cuts.{IsCut}
 use Rattle.ln_verify.specs.Line.{filter_tree_of, tree_of}
+use Rattle.ln_verify.specs.Rules.{in_range, in_triple}
 use Rattle.ln_verify.specs.Values.{Came, IsFor, IsState}
-use Rattle.ln_verify.specs.declared.stacks.Bench.{Bench}
-use Rattle.ln_verify.specs.declared.stacks.Tray.{Tray}
+use Rattle.ln_verify.specs.declared.ranged.Ranged.{Ranged}
+use Rattle.ln_verify.specs.declared.stacks.Stack.{Stack}
+use Rattle.ln_verify.specs.declared.value.Value.{Value}
 
 -- the operation of this kind
 abbrev pub op_of : Two → Width → Op
@@ -26,26 +26,31 @@ op_of Plus w = Add w
 op_of Minus w = Sub w
 op_of Times w = Mul w
 
--- the stack and the locals of a block are for a state
-abbrev pub IsBench : ℕ → Bench → State Known (ℕ → Option Known) → Type 0
-IsBench n b s = IsState (IsFor n) b.stack.items b.locals.items s
+-- an operation leads each state that the old stack is for to one that the new one is for, or nowhere
+abbrev pub Led : {L B K : Type 0} → (L → Tree → ℕ → K) → (K → Tree) → (Version → List VarInfo → Engine B K (ℕ → Option K)) → Version →
+    List VarInfo → Stack (Value L) → Op → B → Bool → Stack (Value L) → Type 0
+Led {K = K} known tree rules v vars old op b ok new =
+    (s : State K (ℕ → Option K)) → IsState (IsFor known (length vars)) old.values.items old.locals.items s →
+    Came (IsFor known (length vars)) tree (length vars) (rules v vars) s op b ok new.values.items new.locals.items
 
--- those of a filter
-abbrev pub IsTray : ℕ → Tray → State FilterKnown (ℕ → Option FilterKnown) → Type 0
-IsTray n b s = IsState (IsCut n) b.stack.items b.locals.items s
+-- ---- of a block
+abbrev pub BlockStack : Type 0
+BlockStack = Stack (Value Ranged)
 
--- an operation leads each state that the old ones are for to one that the new ones are for, or nowhere
-abbrev pub BenchLed : Version → List VarInfo → Bench → Op → Range → Bool → Bench → Type 0
-BenchLed v vars old op p ok new =
-    (s : State Known (ℕ → Option Known)) → IsBench (length vars) old s → Came (IsFor (length vars)) tree_of (length vars)
-    (block_rules v vars) s op p ok new.stack.items new.locals.items
+-- the stack and the locals are for a state
+abbrev pub IsBench : ℕ → BlockStack → State Known (ℕ → Option Known) → Type 0
+IsBench n b s = IsState (IsFor in_range n) b.values.items b.locals.items s
 
--- the same of an operation of a filter, with its triple
-abbrev pub TrayLed : Version → List VarInfo → Tray → Op → Triple → Bool → Tray → Type 0
-TrayLed v vars old op a ok new =
-    (s : State FilterKnown (ℕ → Option FilterKnown)) → IsTray (length vars) old s →
-    Came (IsCut (length vars)) filter_tree_of (length vars) (triple_rules v vars) s op a ok new.stack.items new.locals.items
+-- what an operation does to them
+abbrev pub BenchLed : Version → List VarInfo → BlockStack → Op → Range → Bool → BlockStack → Type 0
+BenchLed v vars old op p ok new = Led in_range tree_of block_rules v vars old op p ok new
 
--- the two ends aren't those of a pair that fits 128 bits
-abbrev pub FitsNot : Range → Type 0
-FitsNot p = IsIn p W128 → ⊥
+-- ---- of a filter
+abbrev pub FilterStack : Type 0
+FilterStack = Stack (Value Triple)
+
+abbrev pub IsTray : ℕ → FilterStack → State FilterKnown (ℕ → Option FilterKnown) → Type 0
+IsTray n b s = IsState (IsFor in_triple n) b.values.items b.locals.items s
+
+abbrev pub TrayLed : Version → List VarInfo → FilterStack → Op → Triple → Bool → FilterStack → Type 0
+TrayLed v vars old op a ok new = Led in_triple filter_tree_of triple_rules v vars old op a ok new

@@ -11,7 +11,6 @@ ghost use Rattle.ln_verify.specs.Versions.{Allows, version_of};
 use crate::form::Form;
 use ln_bound::{Two, Width};
 use ln_interval::Pair;
-use ln_interval::pair::MOST;
 use ln_tree::VarInfo;
 
 /// Does the pair cover that of an operation? None is past the limit, which no pair covers.
@@ -46,13 +45,11 @@ pub fn joined_size(t: Two, x: u128, y: u128) -> u128
     }
 }
 
-/// Does the rule on a range hold, where it is known whether it covers what it has to: does it fit the width, and is the running
-/// size at most `2^127 - 1`?
-pub fn is_allowed(covers: bool, b: Pair, width: Width, size: u128) -> bool
-    ensures value { (r : Range) → IsTrue covers ↔ Covers (range b) r → IsTrue result ↔ Allows r (range b) width size }
-    ensures small { IsTrue result → size ≤ most }
+/// Does the rule on a range hold, where it is known whether it covers what it has to: does it fit the width?
+pub fn is_allowed(covers: bool, b: Pair, width: Width) -> bool
+    ensures { (r : Range) → IsTrue covers ↔ Covers (range b) r → IsTrue result ↔ Allows r (range b) width }
 {
-    covers && b.magnitude() <= width.limit() && size <= MOST
+    covers && b.magnitude() <= width.limit()
 }
 
 /// Does the pair cover a number?

@@ -3,10 +3,11 @@ ghost use Rattle.std.specs.Prelude.{◌≡◌, ◌↔◌, [], ℕ, List, IfOk, l
 ghost use Rattle.ln_tree.specs.Table.{pred_of};
 ghost use Rattle.ln_bound.specs.Light.{AreLight};
 ghost use Rattle.ln_poly.specs.Expansion.{HaveFewTerms, IsNormal, IsZeroFault};
+ghost use Rattle.ln_poly.specs.OfPred.{expanded_of, loaded_of, root_of};
 ghost use Rattle.ln_poly.specs.Sparse.{AreBelow};
 ghost use Rattle.ln_stage.specs.Lists.{AreStageLists, Passes};
+ghost use Rattle.ln_stage.specs.Sound.{IsSound};
 ghost use Rattle.ln_stage.specs.Staged.{AreStagesOf};
-ghost use Rattle.ln_verify.specs.Accepted.{IsAccepted, expanded_of, loaded_of, root_of};
 ghost use Rattle.ln_verify.specs.Cases.{IsOf, IsOrderedOf};
 ghost use Rattle.ln_verify.specs.Here.{IsCase};
 
@@ -78,10 +79,10 @@ fn with_orders(alloc: Global, s: &Shape, poly: Poly, stages: Stages) -> Result<C
     Ok(case)
 }
 
-/// A predicate, with what its part is judged by. It is one that is accepted: no range and no size of a node exceeds `2^127 - 1`, no
+/// A predicate, with what its part is judged by. It is one without a fault: no range and no size of a node exceeds `2^127 - 1`, no
 /// node has too many terms, its normal polynomial isn't too large and isn't 0, and it hasn't too many stages.
 pub fn case_of(alloc: Global, p: &Pred) -> Result<Case, NoMemory>
-    requires { IsAccepted (pred_of p.now) }
+    requires { IsSound (pred_of p.now) }
     ensures shape { IfOk result (λ c. c.shape ≡ p.now.shape) }
     ensures normal { IfOk result (λ c. IsNormal (length p.now.shape.vars) (root_of (pred_of p.now)) c.poly) }
     ensures case { IfOk result IsCase }

@@ -2,7 +2,8 @@
 ghost use Rattle.std.specs.Prelude.{◌≡◌, ◌↔◌, IsTrue};
 ghost use Rattle.ln_verify.specs.Here.{before_of};
 
-use crate::stacks::{Bench, Tray};
+use crate::ranged::BlockStack;
+use crate::triple::FilterStack;
 use ln_base::Seq;
 use ln_tree::Exps;
 
@@ -24,8 +25,8 @@ pub struct Desk {
     pub at: At,
     pub parts: usize,
     pub exps: Seq<Exps>,
-    pub bench: Bench,
-    pub tray: Tray,
+    pub bench: BlockStack,
+    pub tray: FilterStack,
     pub lists: usize,
 }
 

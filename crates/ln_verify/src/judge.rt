@@ -16,7 +16,7 @@ use crate::case::Case;
 use crate::desk::{At, Desk, is_at};
 use crate::form::Form;
 use crate::kinds::{block, block_op, decide, end, filter, filter_op, no_filter, order, range_op};
-use crate::stacks::{empty_bench, empty_tray};
+use crate::stacks::empty;
 use ln_base::{NoMemory, Seq};
 use ln_cert::{Entry, Lines, Part};
 use std::alloc::Global;
@@ -149,8 +149,8 @@ fn line(
 fn fresh_desk(alloc: Global) -> Result<Desk, NoMemory>
     ensures { IfOk result (λ d. (d.at ≡ Away) × (d.parts ≡ 0)) }
 {
-    let bench = empty_bench(alloc)?;
-    let tray = empty_tray(alloc)?;
+    let bench = empty(alloc)?;
+    let tray = empty(alloc)?;
     Ok(Desk {
         at: At::Away,
         parts: 0,

@@ -11,15 +11,16 @@ ghost use Rattle.ln_verify.specs.Versions.{version_of};
 ghost use Rattle.ln_verify.specs.Works.{BenchLed, IsBench, IsTray, TrayLed};
 ghost use Rattle.ln_cert.specs.declared.part.Part.TheVariants.{NoFilter, Filter, FilterOp, Decide, Block, BlockOp, RangeOp, End, Order};
 
-use crate::bench::{bench_op, pair_of_bound, pair_of_ends};
 use crate::case::Case;
 use crate::derived::{is_derivative, is_whole};
 use crate::desk::{At, Desk, before, is_at};
 use crate::form::{Form, is_form};
 use crate::heads::{are_of_sites, exps_of};
 use crate::orders::is_next;
-use crate::stacks::{Bench, Tray, empty_bench, empty_tray};
-use crate::tray::tray_op;
+use crate::ranged::{BlockStack, pair_of_bound, pair_of_ends};
+use crate::stacks::empty;
+use crate::steps::operate;
+use crate::triple::FilterStack;
 use ln_base::{NoMemory, Seq};
 use ln_code::{Op, Triple};
 use ln_tree::Exps;
@@ -44,7 +45,7 @@ pub fn filter(alloc: Global, desk: &mut Desk) -> Result<bool, NoMemory>
     if !is_at(desk.at, At::AtName) {
         return Ok(false);
     }
-    desk.tray = empty_tray(alloc)?;
+    desk.tray = empty(alloc)?;
     desk.at = At::AtFilter;
     Ok(true)
 }
@@ -54,13 +55,13 @@ fn tray_line(
     alloc: Global,
     case: &Case,
     form: Form,
-    tray: &mut Tray,
+    tray: &mut FilterStack,
     op: Op,
     a: Triple,
 ) -> Result<bool, NoMemory>
     ensures { IfOk result (λ ok. TrayLed (version_of form) case.now.shape.vars tray.old op a ok tray.new) }
 {
-    let ok = tray_op(alloc, form, case.shape.vars.as_slice(), tray, op, a)?;
+    let ok = operate(alloc, form, case.shape.vars.as_slice(), tray, op, a)?;
     Ok(ok)
 }
 
@@ -87,14 +88,14 @@ fn bound_line(
     alloc: Global,
     case: &Case,
     form: Form,
-    bench: &mut Bench,
+    bench: &mut BlockStack,
     op: Op,
     b: u128,
 ) -> Result<bool, NoMemory>
     ensures { IfOk result (λ ok. BenchLed (version_of form) case.now.shape.vars bench.old op (balanced b) ok bench.new) }
 {
     let ends = pair_of_bound(b);
-    let ok = bench_op(alloc, form, case.shape.vars.as_slice(), bench, op, ends)?;
+    let ok = operate(alloc, form, case.shape.vars.as_slice(), bench, op, ends)?;
     Ok(ok)
 }
 
@@ -124,7 +125,7 @@ fn range_line(
     alloc: Global,
     case: &Case,
     form: Form,
-    bench: &mut Bench,
+    bench: &mut BlockStack,
     op: Op,
     low: i128,
     high: i128,
@@ -133,7 +134,7 @@ fn range_line(
         BenchLed (version_of form) case.now.shape.vars bench.old op (record { low = low; high = high }) ok bench.new) }
 {
     let ends = pair_of_ends(low, high);
-    let ok = bench_op(alloc, form, case.shape.vars.as_slice(), bench, op, ends)?;
+    let ok = operate(alloc, form, case.shape.vars.as_slice(), bench, op, ends)?;
     Ok(ok)
 }
 
@@ -185,16 +186,16 @@ pub fn order(
 }
 
 // Is there one value, whose polynomial is the predicate's, with an E that fits 64 bits?
-fn decides(alloc: Global, case: &Case, tray: &Tray) -> Result<bool, NoMemory>
+fn decides(alloc: Global, case: &Case, tray: &FilterStack) -> Result<bool, NoMemory>
     requires { IsCase case.now }
     ensures { IfOk result (λ ok. (s : State FilterKnown (ℕ → Option FilterKnown)) → IsTray (length case.now.shape.vars) tray.now s →
         IsTrue ok ↔ TrayDecides (subject_of case.now) s) }
 {
-    if tray.stack.len() != 1 {
+    if tray.values.len() != 1 {
         return Ok(false);
     }
-    let x = &tray.stack[0];
-    if x.triple.e > 9223372036854775807 {
+    let x = &tray.values[0];
+    if x.limits.e > 9223372036854775807 {
         return Ok(false);
     }
     let f = x.poly.settled(alloc)?;
@@ -218,7 +219,7 @@ pub fn decide(alloc: Global, case: &Case, desk: &mut Desk) -> Result<bool, NoMem
 }
 
 // Is there one value, whose polynomial is the scaled derivative by the last of the exponents?
-fn ends(alloc: Global, case: &Case, exps: &[Exps], bench: &Bench) -> Result<bool, NoMemory>
+fn ends(alloc: Global, case: &Case, exps: &[Exps], bench: &BlockStack) -> Result<bool, NoMemory>
     requires { IsCase case.now }
     ensures { IfOk result (λ ok. (es : List Pairs) (a : Pairs) (s : State Known (ℕ → Option Known)) → exps.now ≡ es ++ a ∷ [] →
         AreAbove (length case.now.shape.vars) exps.now →
@@ -227,10 +228,10 @@ fn ends(alloc: Global, case: &Case, exps: &[Exps], bench: &Bench) -> Result<bool
     if exps.is_empty() {
         return Ok(false);
     }
-    if bench.stack.len() != 1 {
+    if bench.values.len() != 1 {
         return Ok(false);
     }
-    let f = bench.stack[0].poly.settled(alloc)?;
+    let f = bench.values[0].poly.settled(alloc)?;
     let ok = is_derivative(alloc, case, &exps[exps.len() - 1], &f)?;
     Ok(ok)
 }
@@ -272,7 +273,7 @@ pub fn block(
     let Some(e) = exps_of(alloc, a)? else {
         return Ok(false);
     };
-    desk.bench = empty_bench(alloc)?;
+    desk.bench = empty(alloc)?;
     desk.exps.push(e)?;
     desk.at = At::AtBlock;
     Ok(true)

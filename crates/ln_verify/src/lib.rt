@@ -5,11 +5,8 @@
 #![tactic(auto)]
 
 pub mod allowed;
-pub mod bench;
 pub mod case;
 pub mod cases;
-pub mod cut;
-pub mod cutters;
 pub mod derived;
 pub mod desk;
 pub mod fits;
@@ -20,11 +17,13 @@ pub mod joined;
 pub mod judge;
 pub mod kinds;
 pub mod laws;
+pub mod limits;
 pub mod listings;
-pub mod makers;
+pub mod made;
 pub mod orders;
+pub mod ranged;
 pub mod stacks;
-pub mod tray;
+pub mod steps;
 pub mod triple;
 pub mod value;
 

@@ -1,8 +1,8 @@
 //! The exact judge of listings.
 ghost use Rattle.std.specs.Prelude.{◌≡◌, ◌↔◌, ◌<◌, ◌≤◌, ℕ, All, IfOk, length, map};
 ghost use Rattle.ln_tree.specs.Table.{pred_of};
+ghost use Rattle.ln_stage.specs.Sound.{AreSound};
 ghost use Rattle.ln_cert.specs.Listing.{AreNumbered};
-ghost use Rattle.ln_verify.specs.Accepted.{AreAccepted};
 ghost use Rattle.ln_verify.specs.Here.{IsCase, subjects_of};
 ghost use Rattle.ln_verify.specs.Verified.{AreSubjectsOf, IsFaultFor, IsTextFaultFor, IsValidFor, IsValidTextFor, rules_of};
 ghost use Rattle.ln_verify.specs.Versions.{version_of};
@@ -28,7 +28,7 @@ pub enum Judged {
 
 // Each predicate with what its part is judged by.
 fn cases_of(alloc: Global, preds: &[Pred]) -> Result<Vec<Case>, NoMemory>
-    requires { AreAccepted (map pred_of preds.now) }
+    requires { AreSound (map pred_of preds.now) }
     ensures cases { IfOk result (λ cs. All IsCase cs.items) }
     ensures subjects { IfOk result (λ cs. AreSubjectsOf (map pred_of preds.now) (subjects_of cs.items)) }
 {
@@ -65,7 +65,7 @@ fn lines_of(l: &Listing) -> &[Entry]
 /// A `get` copies no term. A sum takes time near linear in its terms, a product a product of terms for each pair of its operands'
 /// terms, of which there may be 1,048,576. Allocates for the polynomials of one stack, the exponents of one part and one product.
 pub fn verify(alloc: Global, t: &Table, l: &Listing) -> Result<Judged, NoMemory>
-    requires { AreAccepted (map pred_of t.now.preds) }
+    requires { AreSound (map pred_of t.now.preds) }
     ensures valid { IfOk result (λ j. (j ≡ Valid) ↔ IsValidFor (map pred_of t.now.preds) l.now) }
     ensures invalid { IfOk result (λ j. (line : ℕ) → (j ≡ Invalid line) ↔ IsFaultFor (map pred_of t.now.preds) l.now line) }
 {
@@ -83,7 +83,7 @@ pub fn verify(alloc: Global, t: &Table, l: &Listing) -> Result<Judged, NoMemory>
 /// The form of the whole text is checked first; then each line is read once more, judged and dropped. So it takes the memory of one line
 /// beside that of `verify`, and the time of `verify` and of two readings.
 pub fn verify_text(alloc: Global, t: &Table, bytes: &[u8]) -> Result<Judged, NoMemory>
-    requires accepted { AreAccepted (map pred_of t.now.preds) }
+    requires accepted { AreSound (map pred_of t.now.preds) }
     requires short { length bytes.now ≤ 67108864 }
     ensures valid { IfOk result (λ j. (j ≡ Valid) ↔ IsValidTextFor (map pred_of t.now.preds) bytes.now) }
     ensures invalid { IfOk result (λ j. (line : ℕ) → (j ≡ Invalid line) ↔ IsTextFaultFor (map pred_of t.now.preds) bytes.now line) }

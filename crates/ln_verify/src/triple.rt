@@ -1,12 +1,22 @@
-//! The tests of the rules on triples, in exact arithmetic.
-ghost use Rattle.std.specs.Prelude.{◌≡◌, ◌==◌, ◌&&◌, ◌≤◌, ◌<◌, ◌+◌, ◌*◌, ◌/◌, ◌^◌, MatchOption, unsigned_abs};
+//! Limits of values in a filter: triples. The rules on them are tested in exact arithmetic.
+ghost use Rattle.std.specs.Prelude.{◌≡◌, ◌==◌, ◌&&◌, ◌≤◌, ◌<◌, ◌+◌, ◌*◌, ◌/◌, ◌^◌, MatchOption, None, Some, unsigned_abs};
+ghost use Rattle.std.specs.Prelude.{if◌then◌else◌};
+ghost use Rattle.ln_bound.specs.declared.fitted.Width.TheVariants.{W64};
 ghost use Rattle.ln_bound.specs.Value.{size_of};
+ghost use Rattle.ln_bound.specs.Widths.{no_wider};
 ghost use Rattle.ln_code.specs.FilterRules.{covers, error_after, push_error};
 ghost use Rattle.ln_verify.specs.Joined.{two_covers};
 
-use ln_bound::Two;
+use crate::form::Form;
+use crate::limits::Limits;
+use crate::stacks::Stack;
+use crate::value::Value;
+use ln_bound::{Two, Width};
 use ln_code::{Triple, error_after, shifted};
 use ln_tree::VarInfo;
+
+/// The stack and the locals of a filter.
+pub type FilterStack = Stack<Value<Triple>>;
 
 // Has the triple this k, and are its H and E at least these, with an H that fits 64 bits?
 fn covered(k: u32, h: u128, e: u128, a: Triple) -> bool
@@ -25,24 +35,24 @@ fn push_error(k: u8) -> u128
     if k == 0 { 0 } else { 1 }
 }
 
-/// Does the triple cover a number?
-pub fn number_covered(c: i128, a: Triple) -> bool
+// Does the triple cover a number?
+fn number_covered(c: i128, a: Triple) -> bool
     ensures { result ≡ covers a.k (unsigned_abs c / 2 ^ a.k) (push_error a.k) a }
 {
     let k = u32::from(a.k);
     covered(k, shifted(c.unsigned_abs(), k), push_error(a.k), a)
 }
 
-/// Does the triple cover a variable?
-pub fn input_covered(i: VarInfo, a: Triple) -> bool
+// Does the triple cover a variable?
+fn input_covered(i: VarInfo, a: Triple) -> bool
     ensures { result ≡ covers 0 (size_of i) 0 a }
 {
     let m = i.lo.unsigned_abs().max(i.hi.unsigned_abs()).max(1);
     covered(0, u128::from(m), 0, a)
 }
 
-/// Does the triple cover another?
-pub fn same_covered(x: Triple, a: Triple) -> bool
+// Does the triple cover another?
+fn same_covered(x: Triple, a: Triple) -> bool
     ensures { result ≡ covers x.k x.h x.e a }
 {
     covered(u32::from(x.k), u128::from(x.h), u128::from(x.e), a)
@@ -91,8 +101,8 @@ fn product_covered(x: Triple, y: Triple, a: Triple) -> bool
     }
 }
 
-/// Does the triple cover a sum, a difference or a product of two?
-pub fn two_covered(t: Two, x: Triple, y: Triple, a: Triple) -> bool
+// Does the triple cover a sum, a difference or a product of two?
+fn two_covered(t: Two, x: Triple, y: Triple, a: Triple) -> bool
     ensures { result ≡ two_covers t x y a }
 {
     match t {
@@ -102,8 +112,8 @@ pub fn two_covered(t: Two, x: Triple, y: Triple, a: Triple) -> bool
     }
 }
 
-/// Does the triple cover another that is divided by 2^n?
-pub fn cut_covered(n: u8, x: Triple, a: Triple) -> bool
+// Does the triple cover another that is divided by 2^n?
+fn cut_covered(n: u8, x: Triple, a: Triple) -> bool
     ensures { result ≡ covers (x.k + n) (x.h / 2 ^ n) (error_after n x.e) a }
 {
     let m = u32::from(n);
@@ -113,4 +123,78 @@ pub fn cut_covered(n: u8, x: Triple, a: Triple) -> bool
         u128::from(error_after(m, x.e)),
         a,
     )
+}
+
+// Is it 64 bits?
+fn is_64(w: Width) -> bool
+    ensures { result ≡ no_wider w W64 }
+{
+    matches!(w, Width::W64)
+}
+
+// The triple, where it covers what it has to, which is known.
+fn covering(ok: bool, a: Triple) -> Option<Triple>
+    ensures { result ≡ (if ok then Some a else None) }
+{
+    if ok { Some(a) } else { None }
+}
+
+impl Limits for Triple {
+    /// The triple on a line.
+    type Said = Triple;
+
+    ghost use Rattle.std.specs.Prelude.{refl};
+    ghost use Rattle.ln_code.specs.declared.op.Triple.{Triple};
+    ghost use Rattle.ln_code.specs.FilterRules.{FilterKnown};
+    ghost use Rattle.ln_verify.specs.BlockRules.{triple_rules};
+    ghost use Rattle.ln_verify.specs.Line.{filter_tree_of};
+    ghost use Rattle.ln_verify.specs.Rules.{in_triple, no_number, triple_stack};
+
+    ghost Bound = { Triple };
+
+    ghost Known = { FilterKnown };
+
+    ghost known = { in_triple };
+
+    ghost tree = { filter_tree_of };
+
+    ghost rules = { triple_rules };
+
+    ghost tells = { λ a b. a ≡ b };
+
+    fn of_number(c: i128, a: Triple) -> Option<Triple> {
+        covering(number_covered(c, a), a)
+    }
+
+    fn of_input(_form: Form, i: VarInfo, a: Triple) -> Option<Triple> {
+        covering(input_covered(i, a), a)
+    }
+
+    fn of_local(x: Triple, a: Triple) -> Option<Triple> {
+        covering(same_covered(x, a), a)
+    }
+
+    fn of_two(t: Two, w: Width, a: Triple, x: Triple, y: Triple) -> Option<Triple> {
+        if !is_64(w) {
+            return None;
+        }
+        covering(two_covered(t, x, y, a), a)
+    }
+
+    fn of_minus(w: Width, a: Triple, x: Triple) -> Option<Triple> {
+        if !is_64(w) {
+            return None;
+        }
+        covering(same_covered(x, a), a)
+    }
+
+    fn of_cut(n: u8, a: Triple, x: Triple) -> Option<Triple> {
+        covering(cut_covered(n, x, a), a)
+    }
+
+    ghost tree_known = { λ x t n. refl };
+
+    ghost missing = { no_number };
+
+    ghost stacked = { triple_stack };
 }

@@ -20,24 +20,23 @@ use Rattle.ln_verify.specs.BlockRules.{Version, balanced}
 use Rattle.ln_verify.specs.Line.{Between, InBlock, InFilter, IsNextList, Named, Ordering, Piece, Subject, exps_of}
 use Rattle.ln_cert.specs.declared.part.Part.TheVariants.{Filter, FilterOp, Decide, Block, BlockOp, RangeOp, End, NoFilter, Order}
 use Rattle.ln_verify.specs.declared.desk.At.TheVariants.{AtName, AtFilter, AtGap, AtBlock, AtOrder}
-use Rattle.ln_verify.specs.declared.stacks.Bench.{Bench}
 use Rattle.ln_verify.specs.declared.desk.Desk.{Desk}
-use Rattle.ln_verify.specs.declared.stacks.Tray.{Tray}
 use Rattle.ln_verify.specs.Here.{AreAbove, BenchEnds, Leads, TrayDecides, before_of}
 use Rattle.ln_verify.specs.Versions.{version_of}
 use Rattle.ln_verify.specs.declared.form.Form.{Form}
 use Rattle.ln_verify.specs.declared.form.Form.TheVariants.{One, Two}
-use Rattle.ln_verify.specs.Works.{BenchLed, IsBench, IsTray, TrayLed}
+use Rattle.ln_verify.specs.Works.{BenchLed, BlockStack, FilterStack, IsBench, IsTray, TrayLed}
 
 -- the desk with another tray, or bench
-abbrev pub with_tray : Desk → Tray → Desk
+abbrev pub with_tray : Desk → FilterStack → Desk
 with_tray d t = record { at = d.at; parts = d.parts; exps = d.exps; bench = d.bench; tray = t; lists = d.lists }
 
-abbrev pub with_bench : Desk → Bench → Desk
+-- and with another bench
+abbrev pub with_bench : Desk → BlockStack → Desk
 with_bench d b = record { at = d.at; parts = d.parts; exps = d.exps; bench = b; tray = d.tray; lists = d.lists }
 
 module _ (v : Version) (p : Subject) (d : Desk) where
-  pub tray-led : (t : Tray) (op : Op) (a : Triple) (ok : Bool) → d.at ≡ AtFilter → TrayLed v p.vars d.tray op a ok t
+  pub tray-led : (t : FilterStack) (op : Op) (a : Triple) (ok : Bool) → d.at ≡ AtFilter → TrayLed v p.vars d.tray op a ok t
       → Leads v p d (FilterOp op a) ok (with_tray d t)
   tray-led t op a ok e h Named i = cc
   tray-led t op a true e h (InFilter lines s) i =
@@ -48,7 +47,7 @@ module _ (v : Version) (p : Subject) (d : Desk) where
   tray-led t op a ok e h (InBlock f bs x lines s) i = cc
   tray-led t op a ok e h (Ordering w) i = cc
 
-  pub bound-led : (t : Bench) (op : Op) (b : ℕ) (ok : Bool) → v.number ≡ 1 → d.at ≡ AtBlock → BenchLed v p.vars d.bench op (balanced b) ok t
+  pub bound-led : (t : BlockStack) (op : Op) (b : ℕ) (ok : Bool) → v.number ≡ 1 → d.at ≡ AtBlock → BenchLed v p.vars d.bench op (balanced b) ok t
       → Leads v p d (BlockOp op b) ok (with_bench d t)
   bound-led t op b ok o e h Named i = cc
   bound-led t op b ok o e h (InFilter lines s) i = cc
@@ -59,7 +58,7 @@ module _ (v : Version) (p : Subject) (d : Desk) where
   bound-led t op b false o e h (InBlock f bs x lines s) i = let r = h s i.3 in (refl, λ q k. r k.1.0 k.1.1)
   bound-led t op b ok o e h (Ordering w) i = cc
 
-  pub range-led : (t : Bench) (op : Op) (b : Range) (ok : Bool) → v.number ≡ 2 → d.at ≡ AtBlock → BenchLed v p.vars d.bench op b ok t
+  pub range-led : (t : BlockStack) (op : Op) (b : Range) (ok : Bool) → v.number ≡ 2 → d.at ≡ AtBlock → BenchLed v p.vars d.bench op b ok t
       → Leads v p d (RangeOp op b.low b.high) ok (with_bench d t)
   range-led t op b ok o e h Named i = cc
   range-led t op b ok o e h (InFilter lines s) i = cc
@@ -108,7 +107,7 @@ module _ (v : Version) (p : Subject) (d : Desk) where
   named-gap es e h (InBlock f bs x lines s) i = cc
   named-gap es e h (Ordering w) i = cc
 
-  pub named-filter : (t : Tray) → d.at ≡ AtName → ((n : ℕ) → IsTray n t fresh)
+  pub named-filter : (t : FilterStack) → d.at ≡ AtName → ((n : ℕ) → IsTray n t fresh)
       → Leads v p d Filter true (record { at = AtFilter; parts = d.parts; exps = d.exps; bench = d.bench; tray = t; lists = d.lists })
   named-filter t e h Named i = (refl, (InFilter [] fresh, refl, (refl, h (length p.vars))))
   named-filter t e h (InFilter lines s) i = cc
@@ -156,7 +155,7 @@ module _ (v : Version) (p : Subject) (d : Desk) where
       )
   ended e k (Ordering w) i = cc
 
-  pub opened : (k : ℕ) (a : Pairs) (es : List Pairs) (b : Bench) → d.at ≡ AtGap → k ≡ length d.exps → AreOfSites p.vars a → IsRising a →
+  pub opened : (k : ℕ) (a : Pairs) (es : List Pairs) (b : BlockStack) → d.at ≡ AtGap → k ≡ length d.exps → AreOfSites p.vars a → IsRising a →
       es ≡ d.exps ++ a ∷ [] → ((n : ℕ) → IsBench n b fresh) →
       Leads v p d (Block k a) true (record { at = AtBlock; parts = d.parts; exps = es; bench = b; tray = d.tray; lists = d.lists })
   opened k a es b e l o r h z Named i = cc
@@ -252,11 +251,14 @@ module _ (v : Version) (p : Subject) (d : Desk) (places list : List ℕ) where
             (subst (λ (m : ℕ). IsNextList p (exps_of w.blocks) m places list) (sym i.3 ∙ z) r.next)),
       )
 
+-- where a list is the next one after n lists, there is an order with the number n
 pub next-within : (p : Subject) (es : List Pairs) (n : ℕ) (places list : List ℕ) → IsNextList p es n places list → n < length (orders_of p.sites)
 next-within p es n places list h = slice_get_within (orders_of p.sites) n places h.order
 
+-- the form `One` stands for version 1
 pub one-number : (f : Form) → f ≡ One → (version_of f).number ≡ 1
 one-number f e = ap (λ x. (version_of x).number) e
 
+-- and the form `Two` for version 2
 pub two-number : (f : Form) → f ≡ Two → (version_of f).number ≡ 2
 two-number f e = ap (λ x. (version_of x).number) e

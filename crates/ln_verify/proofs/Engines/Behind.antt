@@ -6,6 +6,7 @@ use Rattle.ln_code.specs.declared.op.Op.TheVariants.{Push, Input, Get, Set, Add,
 use Rattle.ln_code.specs.Engine.{Engine, Line, State, answer, next, only, run, step}
 use Rattle.ln_code.proofs.Engines.Follow.{relined}
 
+-- the engine that does what e does, with the image of each bound
 abbrev pub behind_bounds : {A B V L : Type 0} → (A → B) → Engine B V L → Engine A V L
 behind_bounds g e = record {
   push = λ c a. e.push c (g a);
@@ -49,6 +50,7 @@ run-behind g e [] s = refl
 run-behind g e (x ∷ xs) s = ap (λ o. next o (λ t. run (behind_bounds g e) xs t)) (step-behind g e x.op x.bound s.locals s.stack)
     ∙ next-same (step e x.op (g x.bound) s.locals s.stack) (λ t. run (behind_bounds g e) xs t) (λ t. run e (relined g xs) t) (λ t. run-behind g e xs t)
 
+-- its result on lines is that of e on the lines with the images of their bounds
 pub answer-behind : {A B V L : Type 0} (g : A → B) (e : Engine B V L) (l : L) (lines : List (Line A))
     → answer (behind_bounds g e) l lines ≡ answer e l (relined g lines)
 answer-behind g e l lines = ap (λ o. next o (λ s. only s.stack)) (run-behind g e lines (record { stack = []; locals = l }))

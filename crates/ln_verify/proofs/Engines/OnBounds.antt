@@ -139,6 +139,7 @@ pub record Within (k : Bounded) (x : Known) : Type 0 where
   pub tree : x.tree ≡ k.tree
   pub size : x.size ≤ k.bound
 
+-- facts that hold where the rule of a bound held
 pub record BoundedSays (a b : ℕ) (w : Width) (t : Tree) (k : Bounded) : Type 0 where
   pub covers : a ≤ b
   pub fits : b ≤ limit w
@@ -281,6 +282,7 @@ on-ranges-is : (lines : List (Line ℕ)) → relined balanced lines ≡ on_range
 on-ranges-is [] = refl
 on-ranges-is (x ∷ xs) = ap (λ z. record { op = x.op; bound = balanced x.bound } ∷ z) (on-ranges-is xs)
 
+-- on ranges from -b to b the rules of version 1 know a value exactly where those on bounds do, and the same one
 pub is-on-bounds : (vars : List VarInfo) (lines : List (Line ℕ)) → IsOnBounds vars lines
 is-on-bounds vars lines = record { there = there; back = back }
   where

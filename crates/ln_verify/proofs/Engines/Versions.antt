@@ -42,6 +42,7 @@ same-less : (enough p : Range) (w : Width) (m n : ℕ) (t : Tree) (x : Known) �
     → Reaches IsNoLarger x (known enough p w n t)
 same-less enough p w m n t x s q = covers-less enough enough p w m n t x (λ h. h) s q
 
+-- the running size of a result is no larger where those of its operands are no larger
 pub sizes-mono : (t : Two) (m n k l : ℕ) → m ≤ k → n ≤ l → bound_of t m n ≤ bound_of t k l
 sizes-mono Plus m n k l h g = omega arith
 sizes-mono Minus m n k l h g = omega arith

@@ -1,6 +1,6 @@
 -- The stage list of an order, against the blocks that a line names.
-use Rattle.std.proofs.Common.{◌≡◌, ◌↔◌, ℕ, ◌+◌, ◌-◌, ◌<◌, ◌≤◌, zero, suc, Bool, true, false, List, [], ◌∷◌, ◌++◌, length, map, get_or, drop}
-use Rattle.std.proofs.Common.{take, refl, sym, ◌∙◌, ap, arith, subst}
+use Rattle.std.proofs.Common.{◌≡◌, ◌↔◌, ℕ, ◌+◌, ◌<◌, ◌≤◌, zero, suc, Bool, true, false, List, [], ◌∷◌, ◌++◌, length, map, get_or, drop}
+use Rattle.std.proofs.Common.{refl, sym, ◌∙◌, ap, arith, subst}
 use Rattle.std.specs.List.{range_with_len}
 use Rattle.std.specs.Prelude.{All, Some, nat_lt, slice_get, slice_index_or}
 use Rattle.std.proofs.lemmas.Bool.Decides.{nat_tests}
@@ -39,6 +39,7 @@ has-vector n exps k here a b all above r r' l e t =
     let i : IsAbove here n = subst (λ (x : Pairs). IsAbove x n) (sym e) (all k [] w) in
     (λ h. (w, ap (vector n) (sym e ∙ s.0 (sym t ∙ h))), λ h. t ∙ s.1 (same-pairs n here a r r' i above (ap (vector n) e ∙ h.1)))
 
+-- past the last block there is none that has the vector
 pub no-block : (n : ℕ) (exps : List Pairs) (k : ℕ) (a : Pairs) → length exps ≤ k → (false ≡ true) ↔ HasVector n exps k a
 no-block n exps k a h = (λ e. absurd (false-true e), λ v. absurd (omega (arith, h, v.0)))
   where
@@ -222,14 +223,9 @@ joined-more g a k = let e : k + 1 ≡ suc k = omega arith in ap (λ m. joined (m
         ap (λ xs. g a ++ xs) (more (a + 1) k ∙ ap (λ m. joined (map g (range_with_len (a + 1) k)) ++ g m) z)
         ∙ sym (append-assoc (g a) (joined (map g (range_with_len (a + 1) k))) (g (a + suc k)))
 
+-- the step of the loop in `stage_list`: one segment more
 pub list-more : (g : ℕ → List ℕ) (j : ℕ) (out new segment : List ℕ) → out ≡ joined (map g (range_with_len 0 j)) → new ≡ out ++ segment
     → segment ≡ g j → new ≡ joined (map g (range_with_len 0 (j + 1)))
 list-more g j out new segment e h s =
     let z : 0 + j ≡ j = omega arith in
     h ∙ ap (λ xs. xs ++ segment) e ∙ ap (λ ys. joined (map g (range_with_len 0 j)) ++ ys) (s ∙ ap g (sym z)) ∙ sym (joined-more g 0 j)
-
-pub list-end : (f : List ℕ → List ℕ) (places : List ℕ) (j : ℕ) (out : List ℕ) → j ≡ length places + 1
-    → out ≡ joined (map (λ i. f (take i places)) (range_with_len 0 j)) → out ≡ segments_from f places 0
-list-end f places j out e h =
-    let z : j ≡ suc (length places) - 0 = omega (arith, e) in
-    h ∙ ap (λ m. joined (map (λ i. f (take i places)) (range_with_len 0 m))) z

@@ -22,9 +22,11 @@ use Rattle.ln_verify.specs.Here.{Finished, Gone, IsHere, IsSpot, IsCase, Leads, 
 some-same : (x y : Subject) → Some x ≡ Some y → x ≡ y
 some-same x y e = cc
 
+-- the subject with the number of a case is that of the case
 pub subject-at : (cs : List Case) (i : ℕ) (c : Case) → slice_get cs i ≡ Some c → slice_get (subjects_of cs) i ≡ Some (subject_of c)
 subject-at cs i c e = slice_get-map subject_of cs i ∙ ap (option_map subject_of) e
 
+-- each case of a list keeps the invariant that all of them keep
 pub case-staged : (cs : List Case) (i : ℕ) (c : Case) → All IsCase cs → slice_get cs i ≡ Some c → IsCase c
 case-staged cs i c h e = subst IsCase (get_or_from_slice_get cs i c c e) (h i c (slice_get_within cs i c e))
 
@@ -36,6 +38,7 @@ away-none n d (Between f bs) e i = cc
 away-none n d (InBlock f bs x lines s) e i = cc
 away-none n d (Ordering w) e i = cc
 
+-- outside of parts, a line with the name of the next predicate leads into its part
 pub named-one : (v : Version) (cs : List Case) (d : Desk) (c : Case) (name : List ℕ) (here : Place) → d.at ≡ Away →
     slice_get cs d.parts ≡ Some c → name_bytes c.shape.name ≡ name → IsHere (subjects_of cs) d here →
     Gone v (subjects_of cs) here (Predicate name) true (record { at = AtName; parts = d.parts; exps = d.exps; bench = d.bench; tray = d.tray; lists = d.lists })
@@ -51,6 +54,7 @@ none-some x e = cc
 subject-none : (cs : List Case) (i : ℕ) → slice_get cs i ≡ None → slice_get (subjects_of cs) i ≡ None
 subject-none cs i e = slice_get-map subject_of cs i ∙ ap (option_map subject_of) e
 
+-- past the last predicate a line with a name leads nowhere
 pub named-none : (v : Version) (cs : List Case) (d new : Desk) (name : List ℕ) (here : Place) → d.at ≡ Away → slice_get cs d.parts ≡ None
     → IsHere (subjects_of cs) d here → Gone v (subjects_of cs) here (Predicate name) false new
 named-none v cs d new name (Outside parts) a g i =
@@ -58,6 +62,7 @@ named-none v cs d new name (Outside parts) a g i =
     λ q r. none-some r.subject (sym there ∙ r.there)
 named-none v cs d new name (Within parts s) a g i = absurd (away-none (length i.1.vars) d s a i.3)
 
+-- and so does a line with a name other than that of the next predicate
 pub named-other : (v : Version) (cs : List Case) (d new : Desk) (c : Case) (name : List ℕ) (here : Place) → d.at ≡ Away →
     slice_get cs d.parts ≡ Some c → (name_bytes c.shape.name ≡ name → ⊥) → IsHere (subjects_of cs) d here →
     Gone v (subjects_of cs) here (Predicate name) false new
@@ -71,6 +76,7 @@ named-other v cs d new c name (Within parts s) a g n i = absurd (away-none (leng
 pub case-orders : (c : Case) → IsCase c → length c.orders ≡ length (orders_of c.shape.sites)
 case-orders c k = sym (length-map c.orders order_places) ∙ ap length k.ordered
 
+-- where no list of an order has been read, `done` leads nowhere
 pub done-elsewhere : (p : Subject) (d : Desk) → (d.at ≡ AtOrder → ⊥) → Finished p d false d
 done-elsewhere p d h parts Named e i = tt
 done-elsewhere p d h parts (InFilter lines s) e i = tt
@@ -78,6 +84,7 @@ done-elsewhere p d h parts (Between f bs) e i = tt
 done-elsewhere p d h parts (InBlock f bs x lines s) e i = tt
 done-elsewhere p d h parts (Ordering w) e i = λ q. h i.0
 
+-- nor does it where an order lacks its list
 pub done-lacks : (p : Subject) (d : Desk) → (d.lists ≡ length (orders_of p.sites) → ⊥) → Finished p d false d
 done-lacks p d h parts Named e i = tt
 done-lacks p d h parts (InFilter lines s) e i = tt
@@ -97,6 +104,7 @@ apart-gap x e f = cc
 apart-block : (x : At) → x ≡ AtBlock → x ≡ AtOrder → ⊥
 apart-block x e f = cc
 
+-- after the lists of all orders, `done` ends the part
 pub done-over : (p : Subject) (d : Desk) (n : ℕ) → d.at ≡ AtOrder → d.lists ≡ length (orders_of p.sites) → n ≡ d.parts + 1 →
     Finished p d true (record { at = Away; parts = n; exps = d.exps; bench = d.bench; tray = d.tray; lists = d.lists })
 done-over p d n a h q parts Named e i = absurd (apart-at d.at i a)
@@ -146,6 +154,7 @@ part-no v p parts (Ordering w) (RangeOp op l u) q n h r = h r.0 r.1
 part-no v p parts (Ordering w) End q n h r = h r.0 r.1
 part-no v p parts (Ordering w) Done q n h r = absurd (n refl)
 
+-- a line other than `done` leads the listing where it leads the part of the predicate at hand
 pub within-part : (v : Version) (cs : List Case) (old new : Desk) (c : Case) (line : Part) (ok : Bool) (here : Place) → (old.at ≡ Away → ⊥) →
     slice_get cs old.parts ≡ Some c → (line ≡ Done → ⊥) → Leads v (subject_of c) old line ok new → IsHere (subjects_of cs) old here →
     Gone v (subjects_of cs) here line ok new
@@ -180,6 +189,7 @@ done-no v p new parts (Between f bs) q o r = r.1
 done-no v p new parts (InBlock f bs x lines s) q o r = r.1
 done-no v p new parts (Ordering w) q o r = o r.all
 
+-- and so does `done`
 pub done-part : (v : Version) (cs : List Case) (old new : Desk) (c : Case) (ok : Bool) (here : Place) → (old.at ≡ Away → ⊥)
     → slice_get cs old.parts ≡ Some c → Finished (subject_of c) old ok new → IsHere (subjects_of cs) old here → Gone v (subjects_of cs) here Done ok new
 done-part v cs old new c ok (Outside parts) a g h i = absurd (a i.0)

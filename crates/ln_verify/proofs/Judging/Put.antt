@@ -30,6 +30,7 @@ pushed-small tree n op true stack rest h = (tt, h)
 pushed-small tree n op false [] rest h = (tt, h)
 pushed-small tree n op false (x ∷ stack) rest h = (h.0, h.1)
 
+-- where a run ends in a state and each push on its way is small, its lines lead there one by one
 pub small-leads : {B K : Type 0} (tree : K → Tree) (n : ℕ) (e : Engine B K (ℕ → Option K)) (lines : List (Line B))
     (s t : State K (ℕ → Option K)) → run e lines s ≡ Some t → AreSmall tree n (pushes e lines s) → AllLead tree n e lines s t
 small-leads tree n e [] s t h k = let q : s ≡ t = cc in sym q
@@ -192,6 +193,7 @@ at-end : {A : Type 0} (xs : List A) (x : A) (ys : List A) → slice_get (xs ++ x
 at-end [] x ys = refl
 at-end (z ∷ xs) x ys = at-end xs x ys
 
+-- the lines of good parts lead from the parts before them to those parts with these
 pub parts-go : (before ps : List Subject) (parts ws : List Written) → length parts ≡ length before → AreGoodParts version_2 ps ws
     → Go version_2 (before ++ ps) (Outside parts) (all_lines ps ws) (Outside (parts ++ ws))
 parts-go before [] parts [] e h = let q = append-nil parts in λ i. Outside (q i)
@@ -207,11 +209,13 @@ parts-go before (p ∷ ps) parts (w ∷ ws) e (h, hs) =
     go-append version_2 (before ++ p ∷ ps) (part_lines p w) (all_lines ps ws) (Outside parts) (Outside (parts ++ w ∷ []))
     (Outside (parts ++ w ∷ ws)) (part-go (before ++ p ∷ ps) p parts there w h (some-orders p.sites)) b
 
+-- there are as many good parts as predicates
 pub same-size : (ps : List Subject) (ws : List Written) → AreGoodParts version_2 ps ws → length ws ≡ length ps
 same-size [] [] h = refl
 same-size [] (w ∷ ws) h = absurd h
 same-size (p ∷ ps) [] h = absurd h
 same-size (p ∷ ps) (w ∷ ws) h = ap suc (same-size ps ws h.1)
 
+-- good parts, written as lines, are a valid listing
 pub good-valid : GoodPartsAreValid
 good-valid ps ws h = record { parts = ws; good = parts-go [] ps [] ws refl h; all = same-size ps ws h }

@@ -10,9 +10,10 @@ use Rattle.ln_tree.specs.declared.shape.Shape.{Shape}
 use Rattle.ln_tree.specs.Names.{name_bytes}
 use Rattle.ln_tree.specs.Table.{PredOf, pred_of}
 use Rattle.ln_poly.specs.Expansion.{IsNormal}
+use Rattle.ln_poly.specs.OfPred.{root_of}
+use Rattle.ln_stage.specs.Sound.{AreSound, IsSound}
 use Rattle.ln_cert.specs.declared.part.Entry.{Entry}
 use Rattle.ln_cert.specs.Listing.{Listed, parts_of}
-use Rattle.ln_verify.specs.Accepted.{AreAccepted, IsAccepted, root_of}
 use Rattle.ln_verify.specs.BlockRules.{Version, version_1, version_2}
 use Rattle.ln_verify.specs.Here.{IsAnswer, IsCase, subject_of, subjects_of}
 use Rattle.ln_verify.specs.Judge.{IsFirstFault, IsValid}
@@ -32,6 +33,7 @@ subject-one p s t h k =
     let d : s.poly ≡ t.poly = one-normal (length p.vars) (root_of p) s.poly t.poly h.normal k.normal in
     λ i. record { name = a i; sites = b i; vars = c i; poly = d i }
 
+-- and so predicates have one list of subjects
 pub subjects-one : (ps : List PredOf) (ss ts : List Subject) → AreSubjectsOf ps ss → AreSubjectsOf ps ts → ss ≡ ts
 subjects-one [] [] [] h k = refl
 subjects-one [] [] (t ∷ ts) h k = absurd k
@@ -47,11 +49,13 @@ take-all [] (suc i) l = refl
 take-all (p ∷ ps) zero l = absurd (omega (arith, l))
 take-all (p ∷ ps) (suc i) l = ap (λ (xs : List Pred). p ∷ xs) (take-all ps i (omega (arith, l)))
 
-pub accepted-at : (ps : List Pred) (i : ℕ) (d : Pred) → AreAccepted (map pred_of ps) → i < length ps → IsAccepted (pred_of (get_or ps i d))
-accepted-at [] i d h l = absurd (omega (arith, l))
-accepted-at (p ∷ ps) zero d h l = h.0
-accepted-at (p ∷ ps) (suc i) d h l = accepted-at ps i d h.1 (omega (arith, l))
+-- of predicates without a fault each has none
+pub sound-at : (ps : List Pred) (i : ℕ) (d : Pred) → AreSound (map pred_of ps) → i < length ps → IsSound (pred_of (get_or ps i d))
+sound-at [] i d h l = absurd (omega (arith, l))
+sound-at (p ∷ ps) zero d h l = h.0
+sound-at (p ∷ ps) (suc i) d h l = sound-at ps i d h.1 (omega (arith, l))
 
+-- a case with the shape of a predicate and its normal polynomial has its subject
 pub case-subject : (p : Pred) (c : Case) → c.shape ≡ p.shape → IsNormal (length p.shape.vars) (root_of (pred_of p)) c.poly
     → IsSubjectOf (pred_of p) (subject_of c)
 case-subject p c e n =
@@ -81,13 +85,16 @@ cases-more (b ∷ cs) c h k (suc i) d l = cases-more cs c (λ j z m. h (suc j) z
 abbrev pub Made : List Pred → ℕ → List Case → Type 0
 Made ps i cs = All IsCase cs × AreSubjectsOf (map pred_of (take i ps)) (subjects_of cs)
 
+-- before the first predicate there is no case
 pub cases-first : (ps : List Pred) (cs : List Case) → cs ≡ [] → Made ps 0 cs
 cases-first ps cs e = subst (Made ps 0) (sym e) (All-nil IsCase, tt)
 
+-- the step of the loop in `cases_of`: one case more
 pub cases-next : (ps : List Pred) (i : ℕ) (p : Pred) (cs ds : List Case) (c : Case) → i < length ps → p ≡ get_or ps i p → ds ≡ cs ++ c ∷ []
     → Made ps i cs → IsCase c → IsSubjectOf (pred_of p) (subject_of c) → Made ps (i + 1) ds
 cases-next ps i p cs ds c l e q h k s = subst (Made ps (i + 1)) (sym q) (cases-more cs c h.0 k, subjects-next ps i p cs c l e h.1 s)
 
+-- at the end of the loop there is a case for each predicate
 pub cases-whole : (ps : List Pred) (i : ℕ) (cs : List Case) → length ps ≤ i → Made ps i cs → AreSubjectsOf (map pred_of ps) (subjects_of cs)
 cases-whole ps i cs l h = subst (λ (xs : List Pred). AreSubjectsOf (map pred_of xs) (subjects_of cs)) (take-all ps i l) h.1
 
@@ -95,6 +102,7 @@ cases-whole ps i cs l h = subst (λ (xs : List Pred). AreSubjectsOf (map pred_of
 pub rules-1 : (n : ℕ) → n ≡ 1 → version_1 ≡ rules_of n
 rules-1 n e = sym (ap rules_of e)
 
+-- the rules of a listing of any other version are those of version 2
 pub rules-2 : (n : ℕ) → (n ≡ 1 → ⊥) → version_2 ≡ rules_of n
 rules-2 n h = sym (ap (λ (b : Bool). if b then version_1 else version_2) (ne_eqb n 1 h))
 

@@ -101,12 +101,15 @@ parts-back : (ps : List Part) → parts_of (map (λ (p : Part). record { line = 
 parts-back [] = refl
 parts-back (p ∷ ps) = ap (λ (xs : List Part). p ∷ xs) (parts-back ps)
 
+-- bytes that are the text of lines are that of the lines of their entries
 pub listed-text : (bs : List ℕ) (v : ℕ) (ps : List Part) → ListText bs v ps → ListText bs v (parts_of (map (λ (p : Part). record { line = 0; part = p }) ps))
 listed-text bs v ps t = subst (ListText bs v) (sym (parts-back ps)) t
 
+-- where lines are valid, those of their entries are
 pub listed-valid : (w : Version) (ss : List Subject) (v : ℕ) (ps : List Part) → IsValid w ss ps → IsValid w ss (parts_of (listed v ps).entries)
 listed-valid w ss v ps h = subst (IsValid w ss) (sym (parts-back ps)) h
 
+-- and where lines have a first fault, those of their entries have the same
 pub listed-fault : (w : Version) (ss : List Subject) (v : ℕ) (ps : List Part) (n : ℕ) → IsFirstFault w ss ps n
     → IsFirstFault w ss (parts_of (listed v ps).entries) n
 listed-fault w ss v ps n h = subst (λ (xs : List Part). IsFirstFault w ss xs n) (sym (parts-back ps)) h

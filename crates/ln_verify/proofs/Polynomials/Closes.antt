@@ -15,12 +15,11 @@ use Rattle.ln_code.specs.Rules.{Known}
 use Rattle.ln_verify.specs.Line.{Subject}
 use Rattle.ln_verify.specs.Values.{AreFor, IsFor}
 use Rattle.ln_verify.specs.declared.value.Value.{Value}
-use Rattle.ln_verify.specs.declared.stacks.Bench.{Bench}
-use Rattle.ln_verify.specs.declared.cut.Cut.{Cut}
-use Rattle.ln_verify.specs.declared.stacks.Tray.{Tray}
 use Rattle.ln_verify.specs.Here.{AreAbove, BenchEnds, TrayDecides}
-use Rattle.ln_verify.specs.Works.{IsBench, IsTray}
-use Rattle.ln_verify.specs.Cuts.{IsCut}
+use Rattle.ln_verify.specs.Rules.{in_range, in_triple}
+use Rattle.ln_verify.specs.Works.{BlockStack, FilterStack, IsBench, IsTray}
+use Rattle.ln_verify.specs.declared.ranged.Ranged.{Ranged}
+use Rattle.ln_code.specs.declared.op.Triple.{Triple}
 use Rattle.ln_verify.proofs.Engines.Steps.{for-length}
 
 last-at : (es : List Pairs) (a d : Pairs) → get_or (es ++ a ∷ []) (length es) d ≡ a
@@ -31,12 +30,14 @@ length-last : (es : List Pairs) (a : Pairs) → length (es ++ a ∷ []) ≡ suc 
 length-last [] a = refl
 length-last (x ∷ es) a = ap suc (length-last es a)
 
+-- the last of a list with one more at the end is that one
 pub last-is : (xs es : List Pairs) (a d : Pairs) → xs ≡ es ++ a ∷ [] → get_or xs (length xs - 1) d ≡ a
 last-is xs es a d e =
     let l : length xs ≡ suc (length es) = ap length e ∙ length-last es a in
     let i : length xs - 1 ≡ length es = omega (arith, l) in
     ap (λ k. get_or xs k d) i ∙ ap (λ ys. get_or ys (length es) d) e ∙ last-at es a d
 
+-- and its variables are below n, where those of all are
 pub last-above : (n : ℕ) (xs es : List Pairs) (a : Pairs) → xs ≡ es ++ a ∷ [] → AreAbove n xs → IsAbove a n
 last-above n xs es a e h =
     let l : length xs ≡ suc (length es) = ap length e ∙ length-last es a in
@@ -59,47 +60,52 @@ one-value R (x ∷ []) (k ∷ (j ∷ ks)) d l h = absurd h.1
 one-value R (x ∷ (y ∷ xs)) ks d l h = absurd (omega (arith, l))
 
 -- ---- blocks
-pub bench-not-one : (p : Subject) (a : Pairs) (b : Bench) (s : State Known (ℕ → Option Known)) → (length b.stack.items ≡ 1 → ⊥)
+pub bench-not-one : (p : Subject) (a : Pairs) (b : BlockStack) (s : State Known (ℕ → Option Known)) → (length b.values.items ≡ 1 → ⊥)
     → IsBench (length p.vars) b s → BenchEnds p a s → ⊥
 bench-not-one p a b s l i q =
-    l (sym (length-reverse b.stack.items) ∙ for-length (IsFor (length p.vars)) (reverse b.stack.items) s.stack i.stack ∙ ap length q.one)
+    l (sym (length-reverse b.values.items) ∙ for-length (IsFor in_range (length p.vars)) (reverse b.values.items) s.stack i.stack ∙ ap length q.one)
 
-pub bench-ends : (p : Subject) (a : Pairs) (b : Bench) (s : State Known (ℕ → Option Known)) (d x : Value) (ok : Bool) →
-    length b.stack.items ≡ 1 → x ≡ get_or b.stack.items 0 d → IsBench (length p.vars) b s →
+-- with one value on the stack of a block, the test of its polynomial decides whether `end` holds
+pub bench-ends : (p : Subject) (a : Pairs) (b : BlockStack) (s : State Known (ℕ → Option Known)) (d x : Value Ranged) (ok : Bool) →
+    length b.values.items ≡ 1 → x ≡ get_or b.values.items 0 d → IsBench (length p.vars) b s →
     ((t : Tree) → IsNormal (length p.vars) t x.poly →
     IsTrue ok ↔ IsNormalOf (length p.vars) t (derived (vector (length p.vars) a) (terms_of (length p.vars) p.poly))) → IsTrue ok ↔ BenchEnds p a s
 bench-ends p a b s d x ok l e i h =
     let n : ℕ = length p.vars in
-    let o = one-value (IsFor n) b.stack.items s.stack d l i.stack in
-    let f : IsFor n x o.0 = subst (λ (y : Value). IsFor n y o.0) (sym e) o.2 in
-    let r = h o.0.tree f.normal in (
+    let o = one-value (IsFor in_range n) b.values.items s.stack d l i.stack in
+    let f : IsFor in_range n x o.0 = subst (λ (y : Value Ranged). IsFor in_range n y o.0) (sym e) o.2 in
+    let r = h o.0.tree (subst (λ (z : Tree). IsNormal n z x.poly) (sym (ap (λ (k : Known). k.tree) f.is)) f.normal) in (
       λ t. record { left = o.0; one = o.1; derivative = r.0 t },
       λ q. r.1 (subst (λ (k : Known). IsNormalOf n k.tree (derived (vector n a) (terms_of n p.poly))) (heads-same q.left o.0 s.stack q.one o.1) q.derivative),
     )
 
 -- ---- filters
-pub tray-not-one : (p : Subject) (b : Tray) (s : State FilterKnown (ℕ → Option FilterKnown)) → (length b.stack.items ≡ 1 → ⊥)
+pub tray-not-one : (p : Subject) (b : FilterStack) (s : State FilterKnown (ℕ → Option FilterKnown)) → (length b.values.items ≡ 1 → ⊥)
     → IsTray (length p.vars) b s → TrayDecides p s → ⊥
-tray-not-one p b s l i q = l (sym (length-reverse b.stack.items) ∙ for-length (IsCut (length p.vars)) (reverse b.stack.items) s.stack i.stack ∙ ap length q.one)
+tray-not-one p b s l i q =
+    l (sym (length-reverse b.values.items) ∙ for-length (IsFor in_triple (length p.vars)) (reverse b.values.items) s.stack i.stack ∙ ap length q.one)
 
-pub tray-wide : (p : Subject) (b : Tray) (s : State FilterKnown (ℕ → Option FilterKnown)) (d x : Cut) → length b.stack.items ≡ 1
-    → x ≡ get_or b.stack.items 0 d → IsTray (length p.vars) b s → limit W64 < x.triple.e → TrayDecides p s → ⊥
+-- where the error of the one number of a filter exceeds 64 bits, `decide` doesn't hold
+pub tray-wide : (p : Subject) (b : FilterStack) (s : State FilterKnown (ℕ → Option FilterKnown)) (d x : Value Triple) → length b.values.items ≡ 1
+    → x ≡ get_or b.values.items 0 d → IsTray (length p.vars) b s → limit W64 < x.limits.e → TrayDecides p s → ⊥
 tray-wide p b s d x l e i w q =
     let n : ℕ = length p.vars in
-    let o = one-value (IsCut n) b.stack.items s.stack d l i.stack in
-    let f : IsCut n x o.0 = subst (λ (y : Cut). IsCut n y o.0) (sym e) o.2 in
-    let z : q.left.triple.e ≡ x.triple.e = ap (λ (k : FilterKnown). k.triple.e) (cut-heads-same q.left o.0 s.stack q.one o.1) ∙ ap (λ t. t.e) f.triple in
+    let o = one-value (IsFor in_triple n) b.values.items s.stack d l i.stack in
+    let f : IsFor in_triple n x o.0 = subst (λ (y : Value Triple). IsFor in_triple n y o.0) (sym e) o.2 in
+    let z : q.left.triple.e ≡ x.limits.e =
+    ap (λ (k : FilterKnown). k.triple.e) (cut-heads-same q.left o.0 s.stack q.one o.1) ∙ ap (λ (k : FilterKnown). k.triple.e) f.is in
     omega (arith, q.narrow, w, z)
 
-pub tray-decides : (p : Subject) (b : Tray) (s : State FilterKnown (ℕ → Option FilterKnown)) (d x : Cut) (ok : Bool) →
-    length b.stack.items ≡ 1 → x ≡ get_or b.stack.items 0 d → IsTray (length p.vars) b s → x.triple.e ≤ limit W64 →
+-- with one number whose error fits 64 bits, the test of its polynomial decides whether `decide` holds
+pub tray-decides : (p : Subject) (b : FilterStack) (s : State FilterKnown (ℕ → Option FilterKnown)) (d x : Value Triple) (ok : Bool) →
+    length b.values.items ≡ 1 → x ≡ get_or b.values.items 0 d → IsTray (length p.vars) b s → x.limits.e ≤ limit W64 →
     ((t : Tree) → IsNormal (length p.vars) t x.poly → IsTrue ok ↔ IsNormalOf (length p.vars) t (terms_of (length p.vars) p.poly)) → IsTrue ok ↔ TrayDecides p s
 tray-decides p b s d x ok l e i w h =
     let n : ℕ = length p.vars in
-    let o = one-value (IsCut n) b.stack.items s.stack d l i.stack in
-    let f : IsCut n x o.0 = subst (λ (y : Cut). IsCut n y o.0) (sym e) o.2 in
-    let z : o.0.triple.e ≡ x.triple.e = ap (λ t. t.e) f.triple in
-    let r = h o.0.tree f.normal in (
+    let o = one-value (IsFor in_triple n) b.values.items s.stack d l i.stack in
+    let f : IsFor in_triple n x o.0 = subst (λ (y : Value Triple). IsFor in_triple n y o.0) (sym e) o.2 in
+    let z : o.0.triple.e ≡ x.limits.e = ap (λ (k : FilterKnown). k.triple.e) f.is in
+    let r = h o.0.tree (subst (λ (z : Tree). IsNormal n z x.poly) (sym (ap (λ (k : FilterKnown). k.tree) f.is)) f.normal) in (
       λ t. record { left = o.0; one = o.1; whole = r.0 t; narrow = omega (arith, z, w) },
       λ q. r.1 (subst (λ (k : FilterKnown). IsNormalOf n k.tree (terms_of n p.poly)) (cut-heads-same q.left o.0 s.stack q.one o.1) q.whole),
     )

@@ -60,6 +60,7 @@ small (p ∷ ps) v r = by_case (cases_eq p.0 v) (small ps v r.3)
     by_case (inl e) s = subst (λ (w : ℕ). exponent w (p ∷ ps) < 128) e (omega (arith, here p ps, AllAbove-none p.0 ps p.0 r.2 (omega arith), r.1))
     by_case (inr d) s = omega (arith, apart p ps v d, s)
 
+-- where the exponents of two monomials fit, both exponents of each variable are together below 128
 pub pairs-fit : (a b : Pairs) → IsRising a → IsRising b → PairsFit a b → (v : ℕ) → exponent v a + exponent v b < 128
 pairs-fit [] b r s h v = omega (arith, small b v s)
 pairs-fit (p ∷ ps) b r s h v = by_case (cases_eq p.0 v) (pairs-fit ps b r.3 s h.1 v)
@@ -75,6 +76,7 @@ row-powers s [] r q h = All-nil (λ t. (v : ℕ) → exponent v s.0 + exponent v
 row-powers s (t ∷ g) r q h = All-cons (λ t. (v : ℕ) → exponent v s.0 + exponent v t.0 < 128) t g
     (pairs-fit s.0 t.0 r (All-head (λ t. IsRising t.0) t g q) h.0) (row-powers s g r (All-tail (λ t. IsRising t.0) t g q) h.1)
 
+-- where those of two polynomials fit, so are they for each two of their monomials
 pub all-powers : (f g : Sparse) → AreRising f → AreRising g → AllFit f g → All (λ s. PowersFit s g) f
 all-powers [] g r q h = All-nil (λ s. PowersFit s g)
 all-powers (s ∷ f) g r q h = All-cons (λ s. PowersFit s g) s f (row-powers s g (All-head (λ t. IsRising t.0) s f r) q h.0)
@@ -152,6 +154,7 @@ pairs-at r x y a b t p q = (
   λ h. t.1 (subst (λ (z : Pairs). PairsFit z y) (sym p) (subst (PairsFit a) (sym q) h)),
 )
 
+-- and at the polynomials
 pub fits-at : (r : Bool) (x y f g : Sparse) → (r ≡ true) ↔ AllFit x y → x ≡ f → y ≡ g → (r ≡ true) ↔ AllFit f g
 fits-at r x y f g t p q =
     (λ e. subst (λ (z : Sparse). AllFit z g) p (subst (AllFit x) q (t.0 e)), λ h. t.1 (subst (λ (z : Sparse). AllFit z y) (sym p) (subst (AllFit f) (sym q) h)))

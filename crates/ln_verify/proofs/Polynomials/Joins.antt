@@ -12,13 +12,16 @@ use Rattle.ln_poly.proofs.TermLists.Negating.{size-negated}
 use Rattle.ln_verify.specs.Joined.{IsSum, Joined}
 use Rattle.ln_verify.proofs.Polynomials.Negations.{below-of, difference-normal}
 
+-- a sum of two polynomials is their sum in the other order too
 pub sum-turned : (f g h : Sparse) → IsSum g f h → IsSum f g h
 sum-turned f g h s =
     record { coefficients = λ n m. omega (arith, ints, s.coefficients n m); size = omega (arith, s.size); form = s.form; below = λ n p q. s.below n q p }
 
+-- the sum of two polynomials is the polynomial of the sum of the expressions
 pub plus-joined : (f g h : Sparse) → IsSum f g h → Joined Plus f g (Some h)
 plus-joined f g h s = (s.size, λ n d e p q. add-normal n d e f g h p q s.form (s.below n p.below q.below) (λ m. s.coefficients n m))
 
+-- a negated polynomial has the same size
 pub turned-size : (g k : Sparse) → k ≡ negated g → size_of k ≡ size_of g
 turned-size g k e = let a : size_of k ≡ size_of (negated g) = ap (λ (z : Sparse). size_of z) e in omega (arith, a, size-negated g)
 

@@ -11,26 +11,32 @@ use Rattle.ln_verify.specs.Signed.{signed}
 minus-twice : (z : ℤ) → neg_ℤ (neg_ℤ z) ≡ z
 minus-twice z = omega (arith, ints)
 
+-- a polynomial that is negated twice is itself
 pub negated-twice : (f : Sparse) → negated (negated f) ≡ f
 negated-twice [] = refl
 negated-twice (t ∷ f) = ap (λ (z : ℤ). (t.0, z) ∷ negated (negated f)) (minus-twice t.1) ∙ ap (λ (g : Sparse). t ∷ g) (negated-twice f)
 
+-- a sign doesn't change the size of a polynomial
 pub size-signed : (b : Bool) (f : Sparse) → size_of (signed b f) ≡ size_of f
 size-signed false f = refl
 size-signed true f = size-negated f
 
+-- a polynomial with a sign beside it is one
 pub poly-signed : (b : Bool) (f : Sparse) → IsPoly f → IsPoly (signed b f)
 poly-signed false f p = p
 poly-signed true f p = poly-negated f p
 
+-- and its variables are below n where those of the polynomial without the sign are
 pub below-signed : (n : ℕ) (b : Bool) (f : Sparse) → AreBelow n f → AreBelow n (signed b f)
 below-signed n false f h = h
 below-signed n true f h = below-negated n f h
 
+-- and the other way
 pub below-bare : (n : ℕ) (b : Bool) (f : Sparse) → AreBelow n (signed b f) → AreBelow n f
 below-bare n false f h = h
 below-bare n true f h = subst (AreBelow n) (negated-twice f) (below-negated n (negated f) h)
 
+-- the polynomial with the other sign is the negation of that with the sign
 pub opposite-signed : (b : Bool) (f : Sparse) → signed (not b) f ≡ negated (signed b f)
 opposite-signed false f = refl
 opposite-signed true f = sym (negated-twice f)

@@ -44,6 +44,7 @@ each-named S P (p ∷ ps) (s ∷ ss) h a =
     let rest = each-named S P ps ss q.1 a.1 in
     λ i. here i ∷ rest i
 
+-- in a table the name by which a part is judged is that of its predicate
 pub parts-named : PartsAreNamed
 parts-named t ss h a =
     let t1 = list_all site_whole t.sites in

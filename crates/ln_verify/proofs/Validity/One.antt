@@ -148,6 +148,7 @@ part-one v p parts (Ordering w) (Order places list) q q' r r' =
     r.2 ∙ ap (Within parts) (line-one v p (Ordering w) (Order places list) r.0 r'.0 r.1 r'.1) ∙ sym r'.2
 part-one v p parts (Ordering w) Done q q' r r' = r.to ∙ sym r'.to
 
+-- a line leads to one place at most
 pub rule-one : (v : Version) (ps : List Subject) (here : Place) (line : Part) (q q' : Place) → Rule v ps here line q → Rule v ps here line q' → q ≡ q'
 rule-one v ps (Outside parts) (Predicate name) q q' r r' = r.to ∙ sym r'.to
 rule-one v ps (Outside parts) NoFilter q q' r r' = absurd r
@@ -219,5 +220,6 @@ module _ (v : Version) (ps : List Subject) where
           (all-taken lines (Outside []) (Outside h.parts) h.good) l (omega arith)
       by_case (inr (inr l)) = omega (arith, l, f.within)
 
+-- a listing has one first fault at most, and none where it is valid
 pub one-answer : OneAnswer
 one-answer = record { one = λ v ps lines m n f g. same-fault v ps lines m n f g; not_both = λ v ps lines n h f. not-both v ps lines n h f }

@@ -202,6 +202,7 @@ module _ (v : Version) (z : Followed v) (s : Shape) (e : Tree) (name : List ℕ)
 as-subject : (s : Shape) (e : Tree) (p : Subject) → IsSubject s e p → p ≡ subject_of s p.name p.poly
 as-subject s e p h = let a = h.sites in let b = h.vars in λ i. record { name = p.name; sites = a i; vars = b i; poly = p.poly }
 
+-- the parts of a valid listing of either version return the perturbed sign, on each row in range
 pub signs-given : ValidPartsGiveSigns
 signs-given f ps lines h k p w s e row there here i r =
     let q = as-subject s e p i in

@@ -27,6 +27,7 @@ at-last [] x y (suc k) h = cc
 at-last (z ∷ xs) x y zero h = inl h
 at-last (z ∷ xs) x y (suc k) h = elim (at-last xs x y k h) [ inl q ↦ inl q | inr q ↦ inr (ap suc q.0, q.1) ]
 
+-- a fact that holds at each place of a list, and of one more at its end, holds at each place of both joined
 pub everywhere-more : {A : Type 0} {P : ℕ → A → Type 0} (xs : List A) (x : A) → Everywhere P xs → P (length xs) x → Everywhere P (xs ++ x ∷ [])
 everywhere-more {A} {P} xs x h here k y q = go (at-last xs x y k q)
   where
@@ -224,5 +225,6 @@ go-stands : (v : Version) (ps : List Subject) (here : Place) (lines : List Part)
 go-stands v ps here [] q h r = rw r h
 go-stands v ps here (line ∷ lines) q h (t, r, g) = go-stands v ps t lines q (rule-step v ps here line t h r) g
 
+-- in a valid listing each predicate's part is there
 pub valid-stands : ValidPartsStand
 valid-stands v ps lines h = go-stands v ps (Outside []) lines (Outside h.parts) (λ k x q. cc) h.good

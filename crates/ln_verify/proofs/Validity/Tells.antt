@@ -9,11 +9,12 @@ use Rattle.ln_tree.specs.Formula.{formula, tree}
 use Rattle.ln_tree.specs.Row.{InRange, Row}
 use Rattle.ln_tree.specs.Table.{pred_of}
 use Rattle.ln_poly.specs.Expansion.{closed_lets}
+use Rattle.ln_poly.specs.OfPred.{root_of}
 use Rattle.ln_poly.proofs.Expansions.Lets.{root-light}
 use Rattle.ln_poly.proofs.Loads.Sizing.{pred-expands}
+use Rattle.ln_stage.specs.Sound.{AreSound, IsSound}
 use Rattle.ln_cert.specs.declared.part.Part.{Part}
 use Rattle.ln_cert.specs.Listing.{parts_of}
-use Rattle.ln_verify.specs.Accepted.{AreAccepted, IsAccepted, root_of}
 use Rattle.ln_verify.specs.AsPart.{GivesSign, IsSubject}
 use Rattle.ln_verify.specs.BlockRules.{Version, version_1, version_2}
 use Rattle.ln_verify.specs.Judge.{Go, IsValid}
@@ -32,15 +33,15 @@ form-of n = by_case (n == 1) refl
     by_case true e = (One, sym (ap (λ (b : Bool). if b then version_1 else version_2) e))
     by_case false e = (Two, sym (ap (λ (b : Bool). if b then version_1 else version_2) e))
 
-inputs-below : (p : Pred) → IsAccepted (pred_of p) → InputsBelow (length p.shape.vars) (root_of (pred_of p))
+inputs-below : (p : Pred) → IsSound (pred_of p) → InputsBelow (length p.shape.vars) (root_of (pred_of p))
 inputs-below p a =
     (root-light (length p.shape.vars) two (closed_lets p.shape.vars (map formula p.lets)) (tree p.shape.vars (formula p.root))
     (pred-expands p.args p.shape.vars p.lets (length p.let_names) p.root p.kept a.light).1).inputs
 
-accepted-of : (ps : List Pred) (k : ℕ) (p : Pred) → AreAccepted (map pred_of ps) → slice_get ps k ≡ Some p → IsAccepted (pred_of p)
-accepted-of [] k p h e = cc
-accepted-of (q ∷ ps) zero p h e = let z : q ≡ p = cc in subst (λ (x : Pred). IsAccepted (pred_of x)) z h.0
-accepted-of (q ∷ ps) (suc k) p h e = accepted-of ps k p h.1 e
+sound-of : (ps : List Pred) (k : ℕ) (p : Pred) → AreSound (map pred_of ps) → slice_get ps k ≡ Some p → IsSound (pred_of p)
+sound-of [] k p h e = cc
+sound-of (q ∷ ps) zero p h e = let z : q ≡ p = cc in subst (λ (x : Pred). IsSound (pred_of x)) z h.0
+sound-of (q ∷ ps) (suc k) p h e = sound-of ps k p h.1 e
 
 -- the subject of a predicate, and that it has its part
 subject-there : (ps : List Pred) (ss : List Subject) (k : ℕ) (p : Pred) → AreSubjectsOf (map pred_of ps) ss → slice_get ps k ≡ Some p
@@ -66,11 +67,12 @@ told f v ss lines h k s w shape e row q there here i r =
       all = h.all;
     }) k s w shape e row there here i r
 
+-- a listing that is valid for accepted predicates has a part of each, whose verdict on each row in range is the perturbed sign
 pub signs-told : ValidListingsGiveSigns
 signs-told ps l a h k p row e r =
     let s = subject-there ps h.subjects k p h.those e in
     let w = part-there h.subjects h.valid.parts k s.0 h.valid.all s.1 in
     let f = form-of l.version in
     let i : IsSubject p.shape (root_of (pred_of p)) s.0 =
-    record { sites = s.2.sites; vars = s.2.vars; inputs = inputs-below p (accepted-of ps k p a e); normal = s.2.normal } in
+    record { sites = s.2.sites; vars = s.2.vars; inputs = inputs-below p (sound-of ps k p a e); normal = s.2.normal } in
     (w.0, w.1, told f.0 (rules_of l.version) h.subjects (parts_of l.entries) h.valid k s.0 w.0 p.shape (root_of (pred_of p)) row f.1 s.1 w.1 i r)

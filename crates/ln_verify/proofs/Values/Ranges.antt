@@ -17,9 +17,11 @@ use Rattle.ln_verify.specs.BlockRules.{balanced}
 use Rattle.ln_code.specs.Rules.{Known, known}
 use Rattle.ln_code.proofs.Engines.Follow.{when_some}
 
+-- a conjunction is true where both tests are
 pub both : (p q : Bool) → p ≡ true → q ≡ true → (p && q) ≡ true
 both p q h k = rw (h, k) refl
 
+-- the test of two integers is true where the first is at most the second
 pub le-test : (a b : ℤ) → a ≤ℤ b → int_le a b ≡ true
 le-test a b h = grind (arith, ints, h)
 
@@ -30,6 +32,7 @@ pub record KnownSays (enough p : Range) (w : Width) (s : ℕ) (t : Tree) (k : Kn
   pub small : s ≤ most
   pub is : record { range = p; width = w; tree = t; size = s } ≡ k
 
+-- where `known` has a result, its rule held
 pub known-says : (enough p : Range) (w : Width) (s : ℕ) (t : Tree) (k : Known) → known enough p w s t ≡ Some k → KnownSays enough p w s t k
 known-says enough p w s t k q =
     let r = when_some _ _ _ q in
@@ -50,9 +53,11 @@ known-is enough p w s t h i l =
 pub balanced-magnitude : (b : ℕ) → magnitude (balanced b) ≡ b
 balanced-magnitude b = omega (arith, ints)
 
+-- the least width of a bound's range is that of the bound
 pub least-balanced : (b : ℕ) → least (magnitude (balanced b)) ≡ least b
 least-balanced b = ap least (balanced-magnitude b)
 
+-- the range of a bound fits each width whose limit is at least the bound
 pub balanced-within : (b : ℕ) (w : Width) → b ≤ limit w → IsIn (balanced b) w
 balanced-within b w h = let e = balanced-magnitude b in (omega (arith, ints), omega (arith, e, h))
 
@@ -73,5 +78,6 @@ range-ordered Times p q h g = product_ordered p q
 pub under-most : (s b : ℕ) → s ≡ min b (2 ^ 128 - 1) → b ≤ most → s ≡ b
 under-most s b e h = omega (arith, e, h)
 
+-- and where it is at most 2^127 - 1 it is exact
 pub not-most : (s b : ℕ) → s ≡ min b (2 ^ 128 - 1) → s ≤ most → s ≡ b
 not-most s b e h = omega (arith, e, h)

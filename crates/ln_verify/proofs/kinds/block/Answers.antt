@@ -6,6 +6,7 @@ use Rattle.ln_tree.specs.Exps.{IsRising, Pairs}
 use Rattle.ln_code.specs.Kept.{AreOfSites}
 use Rattle.ln_verify.specs.Here.{subject_of}
 use Rattle.ln_verify.proofs.Engines.AtSpots.{block-refused, opened}
+use Rattle.ln_verify.proofs.Engines.Empty.{bench-empty}
 use Rattle.ln_verify.proofs.Values.Ranges.{not-true}
 use Rattle.ln_verify.proofs.kinds.block.Goals as goal
 
@@ -34,4 +35,5 @@ returns c v =
     opened v (subject_of c.args.case.now) c.args.desk.now c.args.k c.args.a.now c.push.new.self c.in_ok-desk.field-0
     (c.is_at.ensures.0 c.if-not-is_at.false) (c.if-k-len.false ∙ c.len.ensures)
     (subst (λ (vs : List VarInfo). AreOfSites vs c.args.a.now) c.as_slice.ensures (c.are_of_sites.ensures.0 c.if-not-are_of_sites.false)) m.1
-    (c.in_ok-push.ensures.ok ∙ ap (λ (e : Pairs). c.args.desk.now.exps ++ e ∷ []) m.0) c.in_ok-desk.ensures
+    (c.in_ok-push.ensures.ok ∙ ap (λ (e : Pairs). c.args.desk.now.exps ++ e ∷ []) m.0)
+    (λ n. bench-empty n c.in_ok-desk.field-0 c.in_ok-desk.ensures.values c.in_ok-desk.ensures.locals)

@@ -8,4 +8,4 @@ use Rattle.ln_verify.proofs.kinds.bound_line.Goals as goal
 
 pub returns : goal.returns
 returns c = subst (λ (vs : List VarInfo). BenchLed (version_of c.args.form) vs c.args.bench.now c.args.op (balanced c.args.b) c.in_ok-ok.ok
-    c.bench_op.new.bench) c.as_slice.ensures (c.in_ok-ok.ensures (balanced c.args.b) c.pair_of_bound-ends.ensures)
+    c.operate.new.on) c.as_slice.ensures (c.in_ok-ok.ensures (balanced c.args.b) c.pair_of_bound-ends.ensures)

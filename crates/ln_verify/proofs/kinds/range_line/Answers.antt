@@ -14,6 +14,6 @@ returns c =
     let p : Range = record { low = c.args.low; high = c.args.high } in
     let f : FitsSigned w128 c.args.low = search rules in
     let k : FitsSigned w128 c.args.high = search rules in
-    subst (λ (vs : List VarInfo). BenchLed (version_of c.args.form) vs c.args.bench.now c.args.op p c.in_ok-ok.ok c.bench_op.new.bench)
+    subst (λ (vs : List VarInfo). BenchLed (version_of c.args.form) vs c.args.bench.now c.args.op p c.in_ok-ok.ok c.operate.new.on)
     c.as_slice.ensures (c.in_ok-ok.ensures p (pair-said c.pair_of_ends-ends.result _ _ c.args.low c.args.high (to_z-of_z w128 c.args.low f)
     (to_z-of_z w128 c.args.high k) c.pair_of_ends-ends.ensures))

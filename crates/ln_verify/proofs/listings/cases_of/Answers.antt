@@ -2,16 +2,16 @@
 use Rattle.std.proofs.Common.{arith, sym, subst}
 use Rattle.ln_tree.specs.declared.pred.Pred.{Pred}
 use Rattle.ln_tree.specs.Table.{pred_of}
-use Rattle.ln_verify.specs.Accepted.{IsAccepted}
-use Rattle.ln_verify.proofs.Judging.Subjects.{accepted-at, case-subject, cases-first, cases-next, cases-whole}
+use Rattle.ln_stage.specs.Sound.{IsSound}
+use Rattle.ln_verify.proofs.Judging.Subjects.{case-subject, cases-first, cases-next, cases-whole, sound-at}
 use Rattle.ln_verify.proofs.listings.cases_of.Goals as goal
 
 pub each-init : goal.each-init
 each-init c = cases-first c.args.preds.now c.new-cases.result.items c.new-cases.ensures.items
 
 pub case_of-requires : goal.case_of-requires
-case_of-requires c = subst (λ (p : Pred). IsAccepted (pred_of p)) (sym c.index-preds-i.is)
-    (accepted-at c.args.preds.now c.each.i c.index-preds-i.result c.requires (omega (arith, c.each-test.true)))
+case_of-requires c = subst (λ (p : Pred). IsSound (pred_of p)) (sym c.index-preds-i.is)
+    (sound-at c.args.preds.now c.each.i c.index-preds-i.result c.requires (omega (arith, c.each-test.true)))
 
 pub each-preserved : goal.each-preserved
 each-preserved c =
